@@ -1,0 +1,75 @@
+-- Numbers and their bits, the first bit the highest.
+use mathlib.Core.Path.{_≡_, refl, _∙_, sym, ap, ap₂}
+use mathlib.Core.Bool.{Bool, true, false, cond}
+use mathlib.Core.List.{List, [], _∷_}
+use Prim.Native.Nat.{ℕ, zero, suc, _+_, _*_, _/_, _%_, _^_, _<_}
+use native.Mathlib.Nat.{zero-add, mod-one, add-suc, suc-add, mul-assoc, mul-add-div-right, two-pow-succ, two-mul}
+use native.Mathlib.Numerals.{one-add}
+use native.Mathlib.Omega.{arith}
+use lib.Dec.{eqb}
+use lib.Pow.{pow-pos, pow-add, mod-pow-add, high}
+use lib.ListN.{length}
+
+abbrev pub odd : ℕ → Bool
+odd n = eqb (n % 2) 1
+
+-- the lowest k bits of n
+abbrev pub bits : ℕ → ℕ → List Bool
+bits zero n = []
+bits (suc k) n = odd (n / 2 ^ k) ∷ bits k n
+
+-- the number that the bits spell
+abbrev pub number : List Bool → ℕ
+number [] = 0
+number (b ∷ l) = cond b 1 0 * 2 ^ length l + number l
+
+pub length-bits : (k n : ℕ) → length (bits k n) ≡ k
+length-bits zero n = refl
+length-bits (suc k) n = rw (length-bits k n)
+
+bit-number : (n : ℕ) → cond (odd n) 1 0 ≡ n % 2
+bit-number n = go (n % 2) refl
+  where
+    go : (m : ℕ) → n % 2 ≡ m → cond (eqb m 1) 1 0 ≡ m
+    go zero e = refl
+    go (suc zero) e = refl
+    go (suc (suc m)) e = absurd (omega arith)
+
+pub number-bits : (k n : ℕ) → number (bits k n) ≡ n % 2 ^ k
+number-bits zero n = sym (mod-one n)
+number-bits (suc k) n =
+    rw (length-bits k n, bit-number (n / 2 ^ k), number-bits k n, ← one-add k) (sym (mod-pow-add n 1 k))
+
+pub number-lt : (l : List Bool) → number l < 2 ^ length l
+number-lt [] = omega arith
+number-lt (true ∷ l) = let h = number-lt l in rw (two-pow-succ (length l)) (omega arith)
+number-lt (false ∷ l) = let h = number-lt l in rw (two-pow-succ (length l)) (omega arith)
+
+-- what stands above the lowest j bits does not show in them
+even-odd : (z y : ℕ) → odd (z * 2 + y) ≡ odd y
+even-odd z y = let e : (z * 2 + y) % 2 ≡ y % 2 = omega arith in rw e
+
+split-power : (c m j : ℕ) → c * 2 ^ (m + suc j) ≡ c * 2 ^ m * 2 * 2 ^ j
+split-power c m j = rw (pow-add 2 m (suc j), two-pow-succ j, mul-assoc c (2 ^ m) 2, mul-assoc c (2 ^ m * 2) (2 ^ j), mul-assoc (2 ^ m) 2 (2 ^ j), two-mul (2 ^ j))
+
+pub bits-above : (j m c r : ℕ) → bits j (c * 2 ^ (m + j) + r) ≡ bits j r
+bits-above zero m c r = refl
+bits-above (suc j) m c r =
+    ap₂ _∷_
+    (ap (λ (n : ℕ). odd ((n + r) / 2 ^ j)) (split-power c m j)
+    ∙ ap odd (mul-add-div-right (pow-pos j) (c * 2 ^ m * 2) r)
+    ∙ even-odd (c * 2 ^ m) (r / 2 ^ j))
+    (ap (λ (n : ℕ). bits j (c * 2 ^ n + r)) (add-suc m j ∙ sym (suc-add m j)) ∙ bits-above j (suc m) c r)
+
+pub bits-number : (l : List Bool) → bits (length l) (number l) ≡ l
+bits-number [] = refl
+bits-number (b ∷ l) =
+    ap₂ _∷_
+    (ap odd (high (cond b 1 0) (length l) (number-lt l)) ∙ odd-bit b)
+    (ap (λ (n : ℕ). bits (length l) (cond b 1 0 * 2 ^ n + number l)) (sym (zero-add (length l)))
+    ∙ bits-above (length l) 0 (cond b 1 0) (number l)
+    ∙ bits-number l)
+  where
+    odd-bit : (a : Bool) → odd (cond a 1 0) ≡ a
+    odd-bit true = refl
+    odd-bit false = refl
