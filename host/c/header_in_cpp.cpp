@@ -5,8 +5,8 @@
 
 int main()
 {
-    std::uint8_t h4[LEVELSPRUCE_PACKET_BYTES];
-    std::uint8_t fields[LEVELSPRUCE_FIELDS_BYTES];
+    uint8_t h4[LEVELSPRUCE_PACKET_BYTES];
+    uint8_t fields[LEVELSPRUCE_FIELDS_BYTES];
 
     check("a C++ program writes a packet",
           levelspruce_packet_write(0, LEVELSPRUCE_WORD_IDLE, 0, 255, 0, 255, h4, sizeof h4) == LEVELSPRUCE_ANSWER_DONE

@@ -1,0 +1,12 @@
+//! Holds the archive to the reference, call by call, over many made-up cases. Every run makes the same ones.
+
+mod card;
+mod count;
+mod packets;
+mod random;
+
+fn main() {
+    let mut count = count::Count::default();
+    packets::compare(&mut count);
+    std::process::exit(count.tally());
+}

@@ -1,0 +1,202 @@
+//! The archive's packet calls against the reference: answer and every byte of every buffer, those around it too.
+
+use crate::card;
+use crate::count::{Count, Test};
+use crate::random::Random;
+use reference::packet::{self, Fields, FIELDS_BYTES, PACKET_BYTES};
+
+/// A lent buffer stands in the middle of an area, so that bytes written beside it show.
+const MARGIN: usize = 16;
+const AREA: usize = MARGIN + 64 + MARGIN;
+
+type Area = [u8; AREA];
+
+fn lent(area: &Area, length: usize) -> &[u8] {
+    &area[MARGIN..MARGIN + length]
+}
+
+fn lent_mut(area: &mut Area, length: usize) -> &mut [u8] {
+    &mut area[MARGIN..MARGIN + length]
+}
+
+pub fn compare(count: &mut Count) {
+    writing_what_fits(count);
+    writing_anything(count);
+    reading_damaged(count);
+    reading_right_crc(count);
+    reading_anything(count);
+    reading_wrong_lengths(count);
+}
+
+// ---- one case
+
+/// Writes with both into equal areas. Gives the answer and the card's area.
+fn write_case(test: &mut Test, random: &mut Random, fields: &Fields, length: usize) -> (u8, Area) {
+    let mut by_reference = [0u8; AREA];
+    random.fill(&mut by_reference);
+    let mut by_card = by_reference;
+    let answer = packet::write(fields, lent_mut(&mut by_reference, length));
+    let card_answer = card::packet_write(fields, lent_mut(&mut by_card, length));
+    test.case(answer, &(answer, by_reference), &(card_answer, by_card), &(fields, length));
+    (card_answer, by_card)
+}
+
+/// Reads the area's packet with both into equal areas. Gives the card's area of fields.
+fn read_case(test: &mut Test, random: &mut Random, h4: &Area, h4_length: usize, fields_length: usize) -> Area {
+    let mut by_reference = [0u8; AREA];
+    random.fill(&mut by_reference);
+    let mut by_card = by_reference;
+    let answer = packet::read(lent(h4, h4_length), lent_mut(&mut by_reference, fields_length));
+    let card_answer = card::packet_read(lent(h4, h4_length), lent_mut(&mut by_card, fields_length));
+    test.case(answer, &(answer, by_reference), &(card_answer, by_card), &(h4, h4_length, fields_length));
+    by_card
+}
+
+// ---- what the cases are made of
+
+fn fitting_fields(random: &mut Random) -> Fields {
+    Fields {
+        epoch: random.below(256) as u32,
+        word: random.one_of(&packet::WORDS),
+        gid: random.below(2) as u32,
+        mst: random.below(256) as u32,
+        rs_ack: random.below(2) as u32,
+        sq: random.below(256) as u32,
+    }
+}
+
+/// A number that often lies at a limit, or has only high bits too many.
+fn any_number(random: &mut Random) -> u32 {
+    match random.below(6) {
+        0 => random.one_of(&[0, 1, 2, 3, 4, 5, 15, 16, 255, 256, 257, 65535, 65536, 1 << 31, u32::MAX]),
+        1 => random.below(256) as u32 | 1 << random.below(32),
+        2 => random.next() as u32,
+        _ => random.below(16) as u32,
+    }
+}
+
+/// Fields that fit but for one or more.
+fn any_fields(random: &mut Random) -> Fields {
+    let mut fields = fitting_fields(random);
+    for _ in 0..1 + random.below(3) {
+        let number = any_number(random);
+        match random.below(6) {
+            0 => fields.epoch = number,
+            1 => fields.word = number,
+            2 => fields.gid = number,
+            3 => fields.mst = number,
+            4 => fields.rs_ack = number,
+            _ => fields.sq = number,
+        }
+    }
+    fields
+}
+
+/// Most often the right length, else another up to 64.
+fn any_length(random: &mut Random, right: usize) -> usize {
+    match random.below(4) {
+        0 => random.below(65) as usize,
+        1 => random.one_of(&[0, right - 1, right + 1]),
+        _ => right,
+    }
+}
+
+fn any_area(random: &mut Random) -> Area {
+    let mut area = [0u8; AREA];
+    random.fill(&mut area);
+    area
+}
+
+/// An area with a packet that the reference wrote.
+fn written_area(random: &mut Random) -> Area {
+    let mut area = any_area(random);
+    packet::write(&fitting_fields(random), lent_mut(&mut area, PACKET_BYTES));
+    area
+}
+
+// ---- the tests
+
+fn writing_what_fits(count: &mut Count) {
+    let mut random = Random::new(1);
+    let mut writing = Test::new("packets written as by the reference");
+    let mut reading = Test::new("packets that the card wrote, read as by the reference");
+    let mut back = Test::new("packets that the card wrote, read back as given");
+    for _ in 0..1_000_000 {
+        let f = fitting_fields(&mut random);
+        let (answer, area) = write_case(&mut writing, &mut random, &f, PACKET_BYTES);
+        let fields = read_case(&mut reading, &mut random, &area, PACKET_BYTES, FIELDS_BYTES);
+        let given = [f.epoch, f.word, f.gid, f.mst, f.rs_ack, f.sq].map(|x| x as u8);
+        back.case(answer, &&given[..], &lent(&fields, FIELDS_BYTES), &f);
+    }
+    writing.end(count, &[packet::DONE]);
+    reading.end(count, &[packet::DONE]);
+    back.end(count, &[packet::DONE]);
+}
+
+fn writing_anything(count: &mut Count) {
+    let mut random = Random::new(2);
+    let mut test = Test::new("fields and lengths that may not fit, answered as by the reference");
+    for _ in 0..1_000_000 {
+        let fields = any_fields(&mut random);
+        let length = any_length(&mut random, PACKET_BYTES);
+        write_case(&mut test, &mut random, &fields, length);
+    }
+    test.end(count, &[packet::DONE, packet::FIELD_REFUSED, packet::LENGTH_WRONG]);
+}
+
+/// Up to five bits are flipped anywhere in the sixteen bytes, or in their high nibbles only.
+fn reading_damaged(count: &mut Count) {
+    let mut random = Random::new(3);
+    let mut test = Test::new("damaged packets read as by the reference");
+    for _ in 0..2_000_000 {
+        let mut area = written_area(&mut random);
+        let lowest = random.one_of(&[0, 4]);
+        for _ in 0..random.below(6) {
+            let bit = lowest + random.below(8 - lowest);
+            lent_mut(&mut area, PACKET_BYTES)[random.below(16) as usize] ^= 1 << bit;
+        }
+        read_case(&mut test, &mut random, &area, PACKET_BYTES, FIELDS_BYTES);
+    }
+    test.end(count, &[packet::DONE, packet::CRC_DIFFERS]);
+}
+
+/// Any 56 bits, with reserved bits and all words, under the CRC that belongs to them.
+fn reading_right_crc(count: &mut Count) {
+    let mut random = Random::new(4);
+    let mut test = Test::new("any bits under the right CRC read as by the reference");
+    for _ in 0..1_000_000 {
+        let mut area = any_area(&mut random);
+        let h4 = lent_mut(&mut area, PACKET_BYTES);
+        let mut nibbles = [0u8; 16];
+        for i in 0..16 {
+            nibbles[i] = h4[i] >> 4;
+        }
+        let crc = packet::crc(&nibbles);
+        h4[14] = crc & 0xF0 | h4[14] & 0x0F;
+        h4[15] = crc << 4 | h4[15] & 0x0F;
+        read_case(&mut test, &mut random, &area, PACKET_BYTES, FIELDS_BYTES);
+    }
+    test.end(count, &[packet::DONE, packet::WORD_UNASSIGNED, packet::WORD_FIXED]);
+}
+
+fn reading_anything(count: &mut Count) {
+    let mut random = Random::new(5);
+    let mut test = Test::new("random bytes read as by the reference");
+    for _ in 0..1_000_000 {
+        let area = any_area(&mut random);
+        read_case(&mut test, &mut random, &area, PACKET_BYTES, FIELDS_BYTES);
+    }
+    test.end(count, &[packet::DONE, packet::CRC_DIFFERS]);
+}
+
+fn reading_wrong_lengths(count: &mut Count) {
+    let mut random = Random::new(6);
+    let mut test = Test::new("packets and fields of any length read as by the reference");
+    for _ in 0..500_000 {
+        let area = if random.below(2) == 0 { any_area(&mut random) } else { written_area(&mut random) };
+        let h4_length = any_length(&mut random, PACKET_BYTES);
+        let fields_length = any_length(&mut random, FIELDS_BYTES);
+        read_case(&mut test, &mut random, &area, h4_length, fields_length);
+    }
+    test.end(count, &[packet::DONE, packet::CRC_DIFFERS, packet::LENGTH_WRONG]);
+}

@@ -1,0 +1,4 @@
+//! The rules of Levelspruce a second time, written from the paper that states them and not from the proved code, in
+//! the plainest way and with no thought for speed. Differential tests hold the archive to it.
+
+pub mod packet;

@@ -1,0 +1,119 @@
+//! The H4 control packet.
+
+pub const PACKET_BYTES: usize = 16;
+pub const FIELDS_BYTES: usize = 6;
+
+pub const DONE: u8 = 0;
+pub const CRC_DIFFERS: u8 = 5;
+pub const WORD_UNASSIGNED: u8 = 6;
+pub const WORD_FIXED: u8 = 7;
+pub const FIELD_REFUSED: u8 = 8;
+pub const LENGTH_WRONG: u8 = 9;
+
+pub const FIXED: u32 = 0;
+pub const ADD: u32 = 1;
+pub const NORM: u32 = 2;
+pub const EOS: u32 = 3;
+pub const IDLE: u32 = 5;
+pub const DNU: u32 = 15;
+
+/// The words that a packet may carry.
+pub const WORDS: [u32; 5] = [ADD, NORM, EOS, IDLE, DNU];
+
+/// What a caller asks to be written.
+#[derive(Clone, Copy, PartialEq, Eq, Debug)]
+pub struct Fields {
+    pub epoch: u32,
+    pub word: u32,
+    pub gid: u32,
+    pub mst: u32,
+    pub rs_ack: u32,
+    pub sq: u32,
+}
+
+/// The MFI1 of the frame that carries the i-th nibble: 8 to 15, then 0 to 7.
+fn mfi1_of_place(i: usize) -> usize {
+    (i + 8) % 16
+}
+
+/// The place in the packet of the nibble that the frame with this MFI1 carries.
+fn place_of_mfi1(mfi1: usize) -> usize {
+    (mfi1 + 8) % 16
+}
+
+/// The remainder of the first 56 of 64 bits, first bit highest, by x^8+x^2+x+1: long division, with the last eight
+/// bits taken as 0.
+pub fn crc(nibbles: &[u8; 16]) -> u8 {
+    let mut dividend: u64 = 0;
+    for i in 0..14 {
+        dividend = dividend << 4 | u64::from(nibbles[i]);
+    }
+    dividend <<= 8;
+    for degree in (8..64).rev() {
+        if dividend >> degree & 1 == 1 {
+            dividend ^= 0b1_0000_0111 << (degree - 8);
+        }
+    }
+    dividend as u8
+}
+
+/// The nibbles of a packet with these fields, in the order of sending.
+fn nibbles_of(f: &Fields) -> [u8; 16] {
+    let mut nibbles = [0u8; 16];
+    {
+        let mut put = |mfi1: usize, value: u32| nibbles[place_of_mfi1(mfi1)] = value as u8;
+        put(0, f.epoch / 16);
+        put(1, f.epoch % 16);
+        put(2, f.word);
+        put(3, f.gid);
+        put(8, f.mst / 16);
+        put(9, f.mst % 16);
+        put(10, f.rs_ack);
+        put(14, f.sq / 16);
+        put(15, f.sq % 16);
+    }
+    let check = crc(&nibbles);
+    nibbles[place_of_mfi1(6)] = check / 16;
+    nibbles[place_of_mfi1(7)] = check % 16;
+    nibbles
+}
+
+pub fn write(f: &Fields, h4: &mut [u8]) -> u8 {
+    if h4.len() != PACKET_BYTES {
+        return LENGTH_WRONG;
+    }
+    let too_large = f.epoch > 255 || f.mst > 255 || f.sq > 255 || f.gid > 1 || f.rs_ack > 1;
+    if too_large || !WORDS.contains(&f.word) {
+        return FIELD_REFUSED;
+    }
+    let nibbles = nibbles_of(f);
+    for i in 0..PACKET_BYTES {
+        h4[i] = nibbles[i] * 16 + mfi1_of_place(i) as u8;
+    }
+    DONE
+}
+
+/// Puts epoch, word, GID, MST, RS-Ack and SQ into six bytes.
+pub fn read(h4: &[u8], fields: &mut [u8]) -> u8 {
+    if h4.len() != PACKET_BYTES || fields.len() != FIELDS_BYTES {
+        return LENGTH_WRONG;
+    }
+    let mut nibbles = [0u8; 16];
+    for i in 0..16 {
+        nibbles[i] = h4[i] / 16;
+    }
+    let one = |mfi1: usize| nibbles[place_of_mfi1(mfi1)];
+    let two = |mfi1: usize| one(mfi1) * 16 + one(mfi1 + 1);
+    if two(6) != crc(&nibbles) {
+        return CRC_DIFFERS;
+    }
+    let word = one(2);
+    if u32::from(word) == FIXED {
+        return WORD_FIXED;
+    }
+    if !WORDS.contains(&u32::from(word)) {
+        return WORD_UNASSIGNED;
+    }
+    fields.copy_from_slice(&[two(0), word, one(3) % 2, two(8), one(10) % 2, two(14)]);
+    DONE
+}
