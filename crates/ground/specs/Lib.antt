@@ -2,5 +2,8 @@ pub mod Bits
 pub mod Circle
 pub mod Distance
 pub mod Division
+pub mod Drawn
 pub mod Finite
 pub mod Polynomial
+pub mod Table
+pub mod Truth
