@@ -6,11 +6,11 @@ use Prim.Native.Nat.{ℕ, zero, suc, _+_, _%_, _≤_, _<_}
 use native.Mathlib.Nat.{suc-inj}
 use native.Mathlib.Decide.{decLe}
 use native.Mathlib.Omega.{arith}
-use lib.Dec.{T, eqb}
+use lib.Dec.{eqb}
 use lib.ListN.{length, take, length-append, length-replicate}
 use lib.Seq.{take-at}
 use Rattle.ground.specs.Bits.{odd}
-use Rattle.ground.specs.Finite.{below, below-at, lists, lists-at, holds-true}
+use Rattle.ground.specs.Finite.{below, below-at, lists, lists-at}
 use Rattle.ground.specs.Polynomial.{plus, sum, zeros, bring, remainder, check, sealed, weight, apart}
 use Rattle.ground.specs.Division.{length-sum, length-bring, length-remainder, length-check, sum-zeros, sum-self, sum-append, sum-apart, remainder-sum, left, sound}
 
@@ -33,8 +33,8 @@ power g (suc k) = bring g (power g k) false
 pub record Strong (g : List Bool) (n : ℕ) : Type 0 where
   pub some : 0 < length g
   pub root : parity g ≡ true
-  pub powers : T (below n (λ k. nonzero (bring g (power g k) true)))
-  pub keeps : T (lists (length g) (λ r. not (nonzero r) || nonzero (bring g r false)))
+  pub powers : below n (λ k. nonzero (bring g (power g k) true)) ≡ true
+  pub keeps : lists (length g) (λ r. not (nonzero r) || nonzero (bring g r false)) ≡ true
 
 parity-zeros : (n : ℕ) → parity (zeros n) ≡ false
 parity-zeros zero = refl
@@ -116,8 +116,8 @@ module _ (g : List Bool) (n : ℕ) (s : Strong g n) where
   kept : (r : List Bool) → length r ≡ length g → nonzero r ≡ true → nonzero (bring g r false) ≡ true
   kept r e h = implied (nonzero r) (nonzero (bring g r false)) (lists-at (length g) (λ q. not (nonzero q) || nonzero (bring g q false)) (s .keeps) r e) h
     where
-      implied : (a b : Bool) → T (not a || b) → a ≡ true → b ≡ true
-      implied true b t h = holds-true b t
+      implied : (a b : Bool) → (not a || b) ≡ true → a ≡ true → b ≡ true
+      implied true b t h = t
       implied false b t h = absurd (false≢true h)
 
   stays : (r m : List Bool) → length r ≡ length g → weight m ≡ 0 → nonzero r ≡ true → nonzero (remainder g r m) ≡ true
@@ -134,7 +134,7 @@ module _ (g : List Bool) (n : ℕ) (s : Strong g n) where
   second (false ∷ m) k h w = second m (suc k) (omega arith) w
   second (true ∷ m) k h w =
       stays (bring g (power g k) true) m (length-bring g (power g k) true (sym (length-power k))) (suc-inj w)
-      (holds-true (nonzero (bring g (power g k) true)) (below-at n (λ j. nonzero (bring g (power g j) true)) (s .powers) k (omega arith)))
+      (below-at n (λ j. nonzero (bring g (power g j) true)) (s .powers) k (omega arith))
 
   bring-zero : (h : 0 < length g) → bring g (zeros (length g)) false ≡ zeros (length g)
   bring-zero h = go (length g) refl h
