@@ -1,0 +1,26 @@
+# Sourced: which compilers are at hand. What is missing is installed from Debian's packages, if that can be done.
+
+# at_hand PACKAGES CHECK..: whether CHECK succeeds, if need be once PACKAGES are installed.
+at_hand() {
+    packages=$1
+    shift
+    "$@" && return
+    # shellcheck disable=SC2086
+    host/tools/install $packages >"$room/installed" 2>&1 && "$@"
+}
+
+# builds_c COMPILER WORD..: whether it builds a C (or C++) program with the C library.
+builds_c() {
+    printf '#include <stdint.h>\n#include <stdio.h>\nint main(void) { return puts("") < 0; }\n' >"$room/try.c"
+    "$@" "$room/try.c" -o "$room/try" >/dev/null 2>&1
+}
+
+# builds_and_runs_c COMPILER WORD..: and whether the program runs here.
+builds_and_runs_c() { builds_c "$@" && "$room/try" >/dev/null 2>&1; }
+
+builds_rust() {
+    echo 'fn main() {}' >"$room/try.rs"
+    rustc "$room/try.rs" -o "$room/try" >/dev/null 2>&1
+}
+
+has_python() { python3 -c '' 2>/dev/null; }

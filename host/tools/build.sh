@@ -1,0 +1,27 @@
+# Sourced after platform.sh: builds programs over the proved code into target/host.
+
+strict='-Wall -Wextra -Werror -pedantic -Iinclude'
+
+# build_c NAME SOURCE: a C program over the archive.
+build_c() {
+    mkdir -p target/host
+    # shellcheck disable=SC2086
+    $archive_compiler -std=c99 $strict -O2 "$2" "$archive" -o "target/host/$1"
+}
+
+# build_own NAME SOURCE COMPILER WORD..: a C or C++ program for this machine's own processor.
+build_own() {
+    own_name=$1 own_source=$2
+    shift 2
+    mkdir -p target/host
+    # shellcheck disable=SC2086
+    "$@" $strict "$own_source" "$own_library" -o "target/host/$own_name"
+}
+
+# build_differential: the reference, and the program that holds the proved code to it.
+build_differential() {
+    mkdir -p target/host
+    rustc --edition 2021 -O --crate-type rlib --crate-name reference host/reference/lib.rs -o target/host/libreference.rlib &&
+        rustc --edition 2021 -O host/differential/main.rs --extern reference=target/host/libreference.rlib \
+            -C link-arg="$own_library" -o target/host/differential
+}

@@ -1,0 +1,26 @@
+# Sourced at the repository's top: how programs over the proved code are built and run on this machine. The only place
+# that knows one kind of machine from another.
+#
+# The archive holds x86-64 code. On x86-64 all programs link it. On Arm, C programs that link it are built by a cross
+# compiler and run under the toolchain's emulator; programs that are built for the machine itself (Rust, sanitizers,
+# C++) link an object of the same proved module.
+
+archive=target/staticlib/libcard.a
+case $(uname -m) in
+aarch64)
+    archive_compiler='x86_64-linux-gnu-gcc -static'
+    archive_packages='gcc-x86-64-linux-gnu libc6-dev-amd64-cross'
+    run_archive_program() { "$(dirname "$(dirname "$(rt doc)")")/on/aarch64/toolchain/bin/qemu-x86_64" "$@"; }
+    own_library=target/host/card.o
+    own_library_possible() { has_python; }
+    make_own_library() { mkdir -p target/host && python3 host/tools/native-object card "$own_library"; }
+    ;;
+*)
+    archive_compiler=gcc
+    archive_packages='gcc libc6-dev'
+    run_archive_program() { "$@"; }
+    own_library=$archive
+    own_library_possible() { :; }
+    make_own_library() { :; }
+    ;;
+esac

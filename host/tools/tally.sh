@@ -1,0 +1,30 @@
+# Sourced: adds up tests. Every test program ends with a line 'N passed, M failed'.
+
+passed=0 failed=0
+room=$(mktemp -d) || exit 2
+trap 'rm -rf "$room"' EXIT
+
+# counted COMMAND..: runs it, shows what it prints, and adds its tally. A command that prints no tally, or fails with
+# none failed, is itself one that failed.
+counted() {
+    {
+        "$@"
+        echo $? >"$room/status"
+    } 2>&1 | tee "$room/said"
+    tally=$(tail -n 1 "$room/said" | sed -n 's/^\([0-9]\{1,\}\) passed, \([0-9]\{1,\}\) failed$/\1 \2/p')
+    if [ -z "$tally" ]; then
+        printf 'failed\t%s\tended with status %s and no tally\n' "$1" "$(cat "$room/status")"
+        tally='0 1'
+    elif [ "$(cat "$room/status")" != 0 ] && [ "${tally#* }" = 0 ]; then
+        printf 'failed\t%s\tended with status %s\n' "$1" "$(cat "$room/status")"
+        tally="${tally% *} 1"
+    fi
+    passed=$((passed + ${tally% *})) failed=$((failed + ${tally#* }))
+}
+
+# Prints the tally of all and ends. No test at all is no success.
+finish() {
+    echo "$passed passed, $failed failed"
+    [ "$failed" -eq 0 ] && [ "$passed" -gt 0 ]
+    exit
+}
