@@ -1,0 +1,53 @@
+-- Each way out of reading and writing, as the definitions have it.
+use mathlib.Core.Path.{_≡_, refl, _∙_}
+use mathlib.Core.Bool.{true, false}
+use mathlib.Core.List.{List, [], _∷_, _++_}
+use Prim.Native.Nat.{ℕ, _/_, _%_}
+use borrow.Author.Tests.{eq-eqb, ne-eqb}
+use lib.ListN.{length, take, drop, set, drop-of-length-le}
+use native.Mathlib.Omega.{arith}
+use Rattle.packet.specs.declared.layout.Fields.{Fields}
+use Rattle.packet.specs.declared.reader.Reading.the-variants.{Packet, Crc, Fixed, Unassigned}
+use Rattle.packet.specs.declared.writer.Writing.the-variants.{Done, Length, Field}
+use Rattle.packet.specs.Crc.{crcOf}
+use Rattle.packet.specs.Layout.{carriedIn, dataOf, fieldsOf, h4Of, nibblesOf, sealedOf}
+use Rattle.packet.specs.Reading.{readNibbles}
+use Rattle.packet.specs.Words.{assigned}
+use Rattle.packet.specs.Writing.{fitting, writeAnswer, writeBytes}
+
+module _ (ns : List ℕ) (sum carried : ℕ) (e : sum ≡ crcOf (take 14 ns)) (h : carried ≡ carriedIn ns) where
+  pub read-crc : (sum ≡ carried → ⊥) → Crc ≡ readNibbles ns
+  unfolding readNibbles
+  read-crc d = rw (← e, ← h, ne-eqb sum carried d)
+
+  module _ (same : sum ≡ carried) (f : Fields) (is : f ≡ fieldsOf ns) where
+    pub read-fixed : f .word .0 ≡ 0 → Fixed ≡ readNibbles ns
+    unfolding readNibbles
+    read-fixed w = rw (← e, ← h, eq-eqb sum carried same, ← is, eq-eqb (f .word .0) 0 w)
+
+    pub read-unassigned : (f .word .0 ≡ 0 → ⊥) → assigned (f .word) ≡ false → Unassigned ≡ readNibbles ns
+    unfolding readNibbles
+    read-unassigned w a = rw (← e, ← h, eq-eqb sum carried same, ← is, ne-eqb (f .word .0) 0 w, a)
+
+    pub read-packet : (f .word .0 ≡ 0 → ⊥) → assigned (f .word) ≡ true → Packet f ≡ readNibbles ns
+    unfolding readNibbles
+    read-packet w a = rw (← e, ← h, eq-eqb sum carried same, ← is, ne-eqb (f .word .0) 0 w, a)
+
+-- the CRC in its two places
+pub sealed-nibbles : (f : Fields) (d : List ℕ) (c : ℕ) → d ≡ dataOf f 0 ++ (0 ∷ 0 ∷ []) → c ≡ crcOf (take 14 d) → set (set d 14 (c / 16)) 15 (c % 16) ≡ nibblesOf f 0
+unfolding nibblesOf sealedOf dataOf
+sealed-nibbles f d c e h = rw (h, e)
+
+module _ (f : Fields) (s : List ℕ) where
+  pub write-length : (length s ≡ 16 → ⊥) → (Length ≡ writeAnswer f s) × (s ≡ writeBytes f s)
+  unfolding writeAnswer writeBytes
+  write-length d = rw (ne-eqb (length s) 16 d) (refl, refl)
+
+  pub write-field : length s ≡ 16 → fitting f ≡ false → (Field ≡ writeAnswer f s) × (s ≡ writeBytes f s)
+  unfolding writeAnswer writeBytes
+  write-field h b = rw (eq-eqb (length s) 16 h, b) (refl, refl)
+
+  pub write-done : length s ≡ 16 → fitting f ≡ true → (ns image t : List ℕ) → ns ≡ nibblesOf f 0 → image ≡ h4Of ns → t ≡ take (length image) image ++ drop (length image) s
+      → (Done ≡ writeAnswer f s) × (t ≡ writeBytes f s)
+  unfolding writeAnswer writeBytes h4Of
+  write-done h b ns image t e g k = rw (eq-eqb (length s) 16 h, b) (refl, (k ∙ rw (g, e, drop-of-length-le s {i = 16} (omega arith)) refl))

@@ -1,0 +1,18 @@
+use native.Mathlib.Omega.{arith}
+use borrow.Author.Needs.{needs}
+use Rattle.packet.specs.Kinds.{placeOf, frames, lead}
+use Rattle.packet.proofs.kinds.place_of.Statement.{statement}
+use Rattle.packet.proofs.kinds.place_of.Tie as tie
+
+add-result : tie.Need-add-result
+add-result c = search needs
+
+cast-result : tie.Need-cast-result
+cast-result c = search needs
+
+returns : tie.Need-returns
+unfolding placeOf frames lead
+returns c = omega arith
+
+pub place-of-spec : {M : Type 1} → statement M
+place-of-spec = tie.close (tie.spec add-result cast-result returns)

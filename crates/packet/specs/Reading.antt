@@ -1,0 +1,38 @@
+-- A packet read (01, 'Answer numbers').
+use mathlib.Core.Bool.{cond}
+use mathlib.Core.List.{List, [], _∷_}
+use Prim.Native.Nat.{ℕ}
+use lib.Dec.{eqb}
+use lib.ListN.{length, take}
+use Rattle.packet.specs.declared.layout.Fields.{Fields}
+use Rattle.packet.specs.declared.reader.Reading.{Reading}
+use Rattle.packet.specs.declared.reader.Reading.the-variants.{Packet, Length, Crc, Fixed, Unassigned}
+use Rattle.packet.specs.Crc.{crcOf}
+use Rattle.packet.specs.Layout.{carriedIn, fieldsOf, highsOf}
+use Rattle.packet.specs.Words.{FIXED, assigned}
+
+-- 01's number for each answer
+abbrev pub readingNumber : Reading → ℕ
+readingNumber (Packet f) = 0
+readingNumber Length = 9
+readingNumber Crc = 5
+readingNumber Fixed = 7
+readingNumber Unassigned = 6
+
+-- and its values: 'no packet' under a refusal
+abbrev pub readingValues : Reading → List ℕ
+readingValues (Packet f) = f .epoch ∷ f .word .0 ∷ f .gid ∷ f .mst ∷ f .«rs_ack» ∷ f .sq ∷ []
+readingValues Length = []
+readingValues Crc = []
+readingValues Fixed = []
+readingValues Unassigned = []
+
+-- 'For reading a packet: 9, 5, 7, 6'
+unfoldable pub readNibbles : List ℕ → Reading
+readNibbles ns =
+    cond (eqb (crcOf (take 14 ns)) (carriedIn ns))
+    (cond (eqb (fieldsOf ns .word .0) FIXED) Fixed (cond (assigned (fieldsOf ns .word)) (Packet (fieldsOf ns)) Unassigned))
+    Crc
+
+unfoldable pub readAnswer : List ℕ → Reading
+readAnswer s = cond (eqb (length s) 16) (readNibbles (highsOf s)) Length

@@ -1,0 +1,64 @@
+// What goes by the kind of packet: epochs, tags and MST (01, 'The control packet'). There is one kind, H4; any other byte counts as it.
+ghost use mathlib.Core.Path.{_≡_};
+ghost use Rattle.packet.specs.Kinds.{epochAfter, tagAfter, distanceOf, placeOf, startsEpoch, epochOf, firstTag, mstFirst, mstFails};
+
+pub const H4: u8 = 0;
+
+pub fn next_epoch(kind: u8, epoch: u8) -> u8
+    ensures { λ r. ⌜ r ≡ epochAfter kind epoch ⌝ }
+{
+    std::num::wrapping_add_u8(epoch, 1)
+}
+
+pub fn next_tag(kind: u8, tag: u16) -> u16
+    ensures { λ r. ⌜ r ≡ tagAfter kind tag ⌝ }
+{
+    (tag % 4096 + 1) % 4096
+}
+
+// How many frames the tag `to` lies after the tag `from`.
+pub fn distance(kind: u8, to: u16, from: u16) -> u16
+    ensures { λ r. ⌜ r ≡ distanceOf kind to from ⌝ }
+{
+    std::num::wrapping_sub_u16(to, from) % 4096
+}
+
+// The place of a tag's frame in its epoch, and so of its nibble in the packet.
+pub fn place_of(kind: u8, tag: u16) -> u8
+    ensures { λ r. ⌜ r ≡ placeOf kind tag ⌝ }
+{
+    ((tag % 16 + 8) % 16) as u8
+}
+
+pub fn starts_epoch(kind: u8, tag: u16) -> bool
+    ensures { λ r. ⌜ r ≡ startsEpoch kind tag ⌝ }
+{
+    place_of(kind, tag) == 0
+}
+
+pub fn epoch_of(kind: u8, tag: u16) -> u8
+    ensures { λ r. ⌜ r ≡ epochOf kind tag ⌝ }
+{
+    ((tag % 4096 + 8) % 4096 / 16) as u8
+}
+
+// The tag with which an epoch starts.
+pub fn first_tag(kind: u8, epoch: u8) -> u16
+    ensures { λ r. ⌜ r ≡ firstTag kind epoch ⌝ }
+{
+    (epoch as u16 * 16 + 4088) % 4096
+}
+
+// The first of the eight numbers that MST speaks of in an epoch.
+pub fn mst_first(kind: u8, epoch: u8) -> u8
+    ensures { λ r. ⌜ r ≡ mstFirst kind epoch ⌝ }
+{
+    epoch % 32 * 8
+}
+
+// What MST says of a number of its block.
+pub fn mst_fails(mst: u8, number: u8) -> bool
+    ensures { λ r. ⌜ r ≡ mstFails mst number ⌝ }
+{
+    (mst >> (7 - number % 8)) % 2 == 1
+}

@@ -1,0 +1,122 @@
+// The layout of a packet (01, 'The control packet'): its fields, its sixteen nibbles, and the H4 bytes that carry them.
+use crate::crc::crc;
+use crate::words::Word;
+ghost use mathlib.Core.Path.{_≡_};
+ghost use mathlib.Core.List.{[], _∷_, _++_};
+ghost use lib.ListN.{length};
+ghost use Rattle.packet.specs.Layout.{byteOf, carriedIn, dataOf, fieldsOf, h4Of, highsOf, nibblesOf};
+
+pub struct Fields {
+    pub epoch: u8,
+    pub word: Word,
+    pub gid: u8,
+    pub mst: u8,
+    pub rs_ack: u8,
+    pub sq: u8,
+}
+
+fn byte_of(high: u8, low: u8) -> u8
+    ensures { λ r. ⌜ r ≡ byteOf high low ⌝ }
+{
+    high % 16 * 16 + low % 16
+}
+
+pub fn carried_in(nibbles: [u8; 16]) -> u8
+    ensures { λ r. ⌜ r ≡ carriedIn nibbles ⌝ }
+{
+    byte_of(nibbles[14], nibbles[15])
+}
+
+pub fn fields_of(nibbles: [u8; 16]) -> Fields
+    ensures { λ r. ⌜ r ≡ fieldsOf nibbles ⌝ }
+{
+    Fields {
+        epoch: byte_of(nibbles[8], nibbles[9]),
+        word: Word::from_nibble(nibbles[10]),
+        gid: nibbles[11] % 2,
+        mst: byte_of(nibbles[0], nibbles[1]),
+        rs_ack: nibbles[2] % 2,
+        sq: byte_of(nibbles[6], nibbles[7]),
+    }
+}
+
+// The fourteen data nibbles, and 0 in the two places of the CRC.
+fn data_of(fields: Fields) -> [u8; 16]
+    ensures { λ r. ⌜ r ≡ dataOf fields 0 ++ (0 ∷ 0 ∷ []) ⌝ }
+{
+    [
+        fields.mst / 16,
+        fields.mst % 16,
+        fields.rs_ack,
+        0,
+        0,
+        0,
+        fields.sq / 16,
+        fields.sq % 16,
+        fields.epoch / 16,
+        fields.epoch % 16,
+        fields.word.0,
+        fields.gid,
+        0,
+        0,
+        0,
+        0,
+    ]
+}
+
+pub fn nibbles_of(fields: Fields) -> [u8; 16]
+    ensures { λ r. ⌜ r ≡ nibblesOf fields 0 ⌝ }
+{
+    let mut nibbles = data_of(fields);
+    let sum = crc(nibbles);
+    nibbles[14] = sum / 16;
+    nibbles[15] = sum % 16;
+    nibbles
+}
+
+pub fn h4_of(nibbles: [u8; 16]) -> [u8; 16]
+    ensures { λ r. ⌜ r ≡ h4Of nibbles ⌝ }
+{
+    [
+        nibbles[0] % 16 * 16 + 8,
+        nibbles[1] % 16 * 16 + 9,
+        nibbles[2] % 16 * 16 + 10,
+        nibbles[3] % 16 * 16 + 11,
+        nibbles[4] % 16 * 16 + 12,
+        nibbles[5] % 16 * 16 + 13,
+        nibbles[6] % 16 * 16 + 14,
+        nibbles[7] % 16 * 16 + 15,
+        nibbles[8] % 16 * 16 + 0,
+        nibbles[9] % 16 * 16 + 1,
+        nibbles[10] % 16 * 16 + 2,
+        nibbles[11] % 16 * 16 + 3,
+        nibbles[12] % 16 * 16 + 4,
+        nibbles[13] % 16 * 16 + 5,
+        nibbles[14] % 16 * 16 + 6,
+        nibbles[15] % 16 * 16 + 7,
+    ]
+}
+
+pub fn highs_of(h4: &[u8]) -> [u8; 16]
+    requires { ⌜ length (now h4) ≡ 16 ⌝ }
+    ensures { λ r. ⌜ r ≡ highsOf (now (h4 .entry)) ⌝ }
+{
+    [
+        h4[0] / 16,
+        h4[1] / 16,
+        h4[2] / 16,
+        h4[3] / 16,
+        h4[4] / 16,
+        h4[5] / 16,
+        h4[6] / 16,
+        h4[7] / 16,
+        h4[8] / 16,
+        h4[9] / 16,
+        h4[10] / 16,
+        h4[11] / 16,
+        h4[12] / 16,
+        h4[13] / 16,
+        h4[14] / 16,
+        h4[15] / 16,
+    ]
+}

@@ -1,0 +1,15 @@
+// The H4 control packet of virtual concatenation with LCAS (01, 'The control packet'): control words, epochs and tags, the packet written and read.
+mod crc;
+pub mod kinds;
+mod layout;
+mod reader;
+mod words;
+mod writer;
+
+pub use layout::Fields;
+pub use reader::Reading;
+pub use reader::read;
+pub use reader::read_nibbles;
+pub use words::Word;
+pub use writer::Writing;
+pub use writer::write;

@@ -1,0 +1,46 @@
+// A packet read (01, 'Answer numbers': for reading 9, 5, 7, 6; only the high nibbles are looked at).
+use crate::crc::crc;
+use crate::layout;
+use crate::layout::Fields;
+use crate::words::Word;
+ghost use mathlib.Core.Path.{_≡_};
+ghost use Rattle.packet.specs.Reading.{readNibbles, readAnswer};
+
+pub enum Reading {
+    Packet(Fields),
+    Length,
+    Crc,
+    Fixed,
+    Unassigned,
+}
+
+// Sixteen nibbles read, each in the low four bits of its byte.
+pub fn read_nibbles(nibbles: [u8; 16]) -> Reading
+    ensures { λ r. ⌜ r ≡ readNibbles nibbles ⌝ }
+{
+    let carried = layout::carried_in(nibbles);
+    let sum = crc(nibbles);
+    if sum != carried {
+        return Reading::Crc;
+    }
+    let fields = layout::fields_of(nibbles);
+    let word = fields.word;
+    if word.0 == Word::FIXED.0 {
+        return Reading::Fixed;
+    }
+    if !word.is_assigned() {
+        return Reading::Unassigned;
+    }
+    Reading::Packet(fields)
+}
+
+// Sixteen H4 bytes read.
+pub fn read(h4: &[u8]) -> Reading
+    ensures { λ r. ⌜ r ≡ readAnswer (now (h4 .entry)) ⌝ }
+{
+    if h4.len() != 16 {
+        return Reading::Length;
+    }
+    let nibbles = layout::highs_of(h4);
+    read_nibbles(nibbles)
+}

@@ -1,0 +1,35 @@
+// A packet written (01, 'Answer numbers': for writing 9, then 8).
+use crate::layout;
+use crate::layout::Fields;
+use crate::words::Word;
+ghost use mathlib.Core.Path.{_≡_};
+ghost use Rattle.packet.specs.Writing.{fitting, writeAnswer, writeBytes};
+
+pub enum Writing {
+    Done,
+    Length,
+    Field,
+}
+
+fn fits(fields: Fields) -> bool
+    ensures { λ r. ⌜ r ≡ fitting fields ⌝ }
+{
+    let word = fields.word;
+    let assigned = word.is_assigned();
+    (fields.gid < 2) & (fields.rs_ack < 2) & (word.0 != Word::FIXED.0) & assigned
+}
+
+pub fn write(fields: Fields, h4: &mut [u8]) -> Writing
+    ensures { λ r. ⌜ (r ≡ writeAnswer fields (now (h4 .entry))) × (now (h4 .exit) ≡ writeBytes fields (now (h4 .entry))) ⌝ }
+{
+    if h4.len() != 16 {
+        return Writing::Length;
+    }
+    if !fits(fields) {
+        return Writing::Field;
+    }
+    let nibbles = layout::nibbles_of(fields);
+    let image = layout::h4_of(nibbles);
+    bytes::copy(&image, h4);
+    Writing::Done
+}
