@@ -4,7 +4,7 @@ use crate::layout;
 use crate::layout::Fields;
 use crate::words::Word;
 ghost use mathlib.Core.Path.{_≡_};
-ghost use Rattle.packet.specs.Reading.{readNibbles, readAnswer};
+ghost use Rattle.packet.specs.Reading.{readNibbles, readAnswer, readingNumber};
 
 pub enum Reading {
     Packet(Fields),
@@ -12,6 +12,20 @@ pub enum Reading {
     Crc,
     Fixed,
     Unassigned,
+}
+
+impl Reading {
+    pub fn number(self) -> u8
+        ensures { λ r. ⌜ r ≡ readingNumber self ⌝ }
+    {
+        match self {
+            Reading::Packet(_) => 0,
+            Reading::Length => 9,
+            Reading::Crc => 5,
+            Reading::Fixed => 7,
+            Reading::Unassigned => 6,
+        }
+    }
 }
 
 // Sixteen nibbles read, each in the low four bits of its byte.

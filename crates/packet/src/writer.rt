@@ -3,12 +3,24 @@ use crate::layout;
 use crate::layout::Fields;
 use crate::words::Word;
 ghost use mathlib.Core.Path.{_≡_};
-ghost use Rattle.packet.specs.Writing.{fitting, writeAnswer, writeBytes};
+ghost use Rattle.packet.specs.Writing.{fitting, writeAnswer, writeBytes, writingNumber};
 
 pub enum Writing {
     Done,
     Length,
     Field,
+}
+
+impl Writing {
+    pub fn number(self) -> u8
+        ensures { λ r. ⌜ r ≡ writingNumber self ⌝ }
+    {
+        match self {
+            Writing::Done => 0,
+            Writing::Length => 9,
+            Writing::Field => 8,
+        }
+    }
 }
 
 fn fits(fields: Fields) -> bool
