@@ -1,13 +1,13 @@
 -- Numbers and their bits, the first bit the highest.
 use mathlib.Core.Path.{_≡_, refl, _∙_, sym, ap, ap₂}
 use mathlib.Core.Bool.{Bool, true, false, cond}
-use mathlib.Core.List.{List, [], _∷_}
+use mathlib.Core.List.{List, [], _∷_, _++_}
 use Prim.Native.Nat.{ℕ, zero, suc, _+_, _*_, _/_, _%_, _^_, _<_}
-use native.Mathlib.Nat.{zero-add, mod-one, add-suc, suc-add, mul-assoc, mul-add-div-right, two-pow-succ, two-mul}
+use native.Mathlib.Nat.{zero-add, mod-one, add-comm, add-suc, suc-add, mul-assoc, mul-add-div-right, two-pow-succ, two-mul}
 use native.Mathlib.Numerals.{one-add}
 use native.Mathlib.Omega.{arith}
 use lib.Dec.{eqb}
-use lib.Pow.{pow-pos, pow-add, mod-pow-add, high}
+use lib.Pow.{pow-pos, pow-add, mod-pow-add, high, shr-shr, split}
 use lib.ListN.{length}
 
 abbrev pub odd : ℕ → Bool
@@ -73,3 +73,16 @@ bits-number (b ∷ l) =
     odd-bit : (a : Bool) → odd (cond a 1 0) ≡ a
     odd-bit true = refl
     odd-bit false = refl
+
+-- the bits of a number are its higher bits and then its lowest k
+pub bits-split : (j k n : ℕ) → bits (j + k) n ≡ bits j (n / 2 ^ k) ++ bits k n
+bits-split zero k n = rw (zero-add k)
+bits-split (suc j) k n =
+    ap (λ (m : ℕ). bits m n) (suc-add j k)
+    ∙ ap₂ _∷_ (ap odd (ap (λ (m : ℕ). n / 2 ^ m) (add-comm j k) ∙ sym (shr-shr n k j))) (bits-split j k n)
+
+pub bits-mod : (k n : ℕ) → bits k (n % 2 ^ k) ≡ bits k n
+bits-mod k n =
+    sym (bits-above k 0 (n / 2 ^ k) (n % 2 ^ k))
+    ∙ ap (λ (m : ℕ). bits k (n / 2 ^ k * 2 ^ m + n % 2 ^ k)) (zero-add k)
+    ∙ ap (λ (m : ℕ). bits k m) (split n k)

@@ -1,6 +1,8 @@
 pub mod Crc
 pub mod Kinds
+pub mod Laws
 pub mod Layout
 pub mod Reading
+pub mod Theorems
 pub mod Words
 pub mod Writing

@@ -1,0 +1,4 @@
+-- What 01 asks of packets, proved on the definitions.
+pub mod Damage
+pub mod Distance
+pub mod ReadBack

@@ -1,0 +1,93 @@
+-- What is written reads back as given; and so do the reserved and zero bits, which no field has.
+use mathlib.Core.Path.{_≡_, refl, _∙_, sym, ap}
+use mathlib.Core.Bool.{Bool, true, false, cond}
+use mathlib.Core.List.{List}
+use Prim.Native.Nat.{ℕ, _+_, _*_, _/_, _%_, _^_, _<_}
+use native.Mathlib.Omega.{arith}
+use borrow.Author.Tests.{eq-eqb}
+use lib.Dec.{eqb}
+use lib.ListN.{length, take}
+use Rattle.packet.specs.declared.layout.Fields.{Fields}
+use Rattle.packet.specs.declared.reader.Reading.the-variants.{Packet}
+use Rattle.packet.specs.declared.writer.Writing.{Writing}
+use Rattle.packet.specs.declared.writer.Writing.the-variants.{Done, Field, Length}
+use Rattle.packet.specs.Crc.{crcOf}
+use Rattle.packet.specs.Laws.Bounds.{Bounds, bounds}
+use Rattle.packet.specs.Laws.Bytes.{byte-back, crc-lt}
+use Rattle.packet.specs.Laws.Nibbles.{packet-nibbles, highs-back}
+use Rattle.packet.specs.Layout.{carriedIn, dataOf, fieldsOf, h4Of, highsOf, nibblesOf, sealedOf, spareOf}
+use Rattle.packet.specs.Reading.{readAnswer, readNibbles}
+use Rattle.packet.specs.Writing.{fitting, writeAnswer, writeBytes}
+
+pub fields-back : (f : Fields) (z : ℕ) → Bounds f → fieldsOf (nibblesOf f z) ≡ f
+unfolding fieldsOf nibblesOf sealedOf dataOf
+fields-back f z b =
+    λ i. record {
+      epoch = byte-back (f .epoch) (b .epoch) i;
+      word = record { 0 = word i };
+      gid = gid i;
+      mst = byte-back (f .mst) (b .mst) i;
+      «rs_ack» = ack i;
+      sq = byte-back (f .sq) (b .sq) i
+    }
+  where
+    word : f .word .0 % 16 ≡ f .word .0
+    word = omega arith
+    gid : (z / 2 ^ 8 % 8 * 2 + f .gid) % 2 ≡ f .gid
+    gid = omega arith
+    ack : (z / 2 ^ 23 % 8 * 2 + f .«rs_ack») % 2 ≡ f .«rs_ack»
+    ack = omega arith
+
+above-bit : (x a : ℕ) → x < 8 → a < 2 → (x * 2 + a) % 16 / 2 ≡ x
+above-bit x a h g = omega arith
+
+digits : (z : ℕ) → z < 2 ^ 26
+  → z / 2 ^ 23 % 8 * 2 ^ 23 + z / 2 ^ 19 % 16 % 16 * 2 ^ 19 + z / 2 ^ 15 % 16 % 16 * 2 ^ 15 + z / 2 ^ 11 % 16 % 16 * 2 ^ 11 + z / 2 ^ 8 % 8 * 2 ^ 8 + z / 2 ^ 4 % 16 % 16 * 2 ^ 4 + z % 16 % 16 ≡ z
+digits z h =
+    sum (z / 2 ^ 4) (z / 2 ^ 8) (z / 2 ^ 11) (z / 2 ^ 15) (z / 2 ^ 19) (z / 2 ^ 23) (z % 16 % 16) (z / 2 ^ 4 % 16 % 16) (z / 2 ^ 8 % 8) (z / 2 ^ 11 % 16 % 16) (z / 2 ^ 15 % 16 % 16) (z / 2 ^ 19 % 16 % 16) (z / 2 ^ 23 % 8)
+    (omega arith) (omega arith) (omega arith) (omega arith) (omega arith) (omega arith) (omega arith)
+  where
+    sum : (a b c d e f r s t u v w x : ℕ) → z ≡ a * 16 + r → a ≡ b * 16 + s → b ≡ c * 8 + t → c ≡ d * 16 + u → d ≡ e * 16 + v → e ≡ f * 16 + w → f ≡ x
+      → x * 2 ^ 23 + w * 2 ^ 19 + v * 2 ^ 15 + u * 2 ^ 11 + t * 2 ^ 8 + s * 2 ^ 4 + r ≡ z
+    sum a b c d e f r s t u v w x p q i j k l m = omega arith
+
+pub spare-back : (f : Fields) (z : ℕ) → Bounds f → z < 2 ^ 26 → spareOf (nibblesOf f z) ≡ z
+unfolding spareOf nibblesOf sealedOf dataOf
+spare-back f z b h =
+    rw (above-bit (z / 2 ^ 23 % 8) (f .«rs_ack») (omega arith) (b .ack), above-bit (z / 2 ^ 8 % 8) (f .gid) (omega arith) (b .gid)) (digits z h)
+
+pub carried-back : (f : Fields) (z : ℕ) → carriedIn (nibblesOf f z) ≡ crcOf (take 14 (nibblesOf f z))
+unfolding carriedIn nibblesOf sealedOf dataOf
+carried-back f z = byte-back (crcOf (dataOf f z)) (crc-lt (dataOf f z))
+
+pub nibbles-back : (f : Fields) (z : ℕ) → fitting f ≡ true → readNibbles (nibblesOf f z) ≡ Packet f
+unfolding readNibbles
+nibbles-back f z t =
+    let b = bounds f t in
+    rw (eq-eqb (crcOf (take 14 (nibblesOf f z))) (carriedIn (nibblesOf f z)) (sym (carried-back f z)), fields-back f z b, b .not-fixed, b .word) refl
+
+pub length-nibbles : (f : Fields) (z : ℕ) → length (nibblesOf f z) ≡ 16
+unfolding nibblesOf sealedOf dataOf
+length-nibbles f z = refl
+
+-- where a packet is written, the lent bytes are sixteen and its fields fit
+pub record WrittenAs (f : Fields) (s : List ℕ) : Type 0 where
+  pub fits : fitting f ≡ true
+  pub bytes : writeBytes f s ≡ h4Of (nibblesOf f 0)
+
+pub written-as : (f : Fields) (s : List ℕ) → writeAnswer f s ≡ Done → WrittenAs f s
+unfolding writeAnswer writeBytes
+written-as f s e = go (eqb (length s) 16) (fitting f) refl refl
+  where
+    go : (l t : Bool) → eqb (length s) 16 ≡ l → fitting f ≡ t → WrittenAs f s
+    go true true hl ht = record { fits = ht; bytes = rw (hl, ht) refl }
+    go true false hl ht = absurd (let z : _≡_ {A = ℕ} 0 1 = (let w : Field ≡ Done = rw (hl, ht) at e in cc) in omega arith)
+    go false t hl ht = absurd (let z : _≡_ {A = ℕ} 0 1 = (let w : Length ≡ Done = rw hl at e in cc) in omega arith)
+
+-- what is written reads back as given
+pub written-back : (f : Fields) (s : List ℕ) → writeAnswer f s ≡ Done → readAnswer (writeBytes f s) ≡ Packet f
+unfolding readAnswer h4Of
+written-back f s e =
+    let w = written-as f s e in
+    let b = bounds f (w .fits) in
+    rw (w .bytes, highs-back (nibblesOf f 0) (packet-nibbles f 0 b) (length-nibbles f 0)) (nibbles-back f 0 (w .fits))
