@@ -25,8 +25,14 @@ pub record Bounds (f : Fields) : Type 0 where
 large-unassigned : (w : Word) → 16 ≤ w .0 → assigned w ≡ false
 unfolding assigned
 large-unassigned w h =
-    rw (ne-eqb (w .0) 0 (omega arith), ne-eqb (w .0) 1 (omega arith), ne-eqb (w .0) 2 (omega arith), ne-eqb (w .0) 3 (omega arith),
-    ne-eqb (w .0) 5 (omega arith), ne-eqb (w .0) 15 (omega arith)) refl
+    rw (
+      ne-eqb (w .0) 0 (omega arith),
+      ne-eqb (w .0) 1 (omega arith),
+      ne-eqb (w .0) 2 (omega arith),
+      ne-eqb (w .0) 3 (omega arith),
+      ne-eqb (w .0) 5 (omega arith),
+      ne-eqb (w .0) 15 (omega arith),
+    ) refl
 
 -- a word that is assigned is a nibble
 pub small-word : (w : Word) → assigned w ≡ true → w .0 < 16
@@ -49,20 +55,26 @@ bounds f t =
       ack = ltb-true (f .«rs_ack») 2 (and-right (E && M && S && G) A t5);
       nibble = small-word (f .word) (and-right (E && M && S && G && A && N) W t);
       word = and-right (E && M && S && G && A && N) W t;
-      not-fixed = not-true (eqb (f .word .0) FIXED) (and-right (E && M && S && G && A) N t6)
+      not-fixed = not-true (eqb (f .word .0) FIXED) (and-right (E && M && S && G && A) N t6);
     }
   where
     E : Bool
     E = ltb (f .epoch) 256
+
     M : Bool
     M = ltb (f .mst) 256
+
     S : Bool
     S = ltb (f .sq) 256
+
     G : Bool
     G = ltb (f .gid) 2
+
     A : Bool
     A = ltb (f .«rs_ack») 2
+
     N : Bool
     N = not (eqb (f .word .0) FIXED)
+
     W : Bool
     W = assigned (f .word)

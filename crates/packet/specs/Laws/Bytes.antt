@@ -24,6 +24,7 @@ byte-bits a b =
   where
     high : byteOf a b / 16 ≡ a % 16
     high = omega arith
+
     low : byteOf a b % 16 ≡ b % 16
     low = omega arith
 

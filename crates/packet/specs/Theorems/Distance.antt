@@ -1,0 +1,53 @@
+-- 'Any two different packets by these rules differ in at least four of 64 bits' (01, 'CRC'), over all 56 data bits.
+use mathlib.Core.Path.{_≡_, refl, _∙_, sym, ap, ap₂}
+use mathlib.Core.List.{List, [], _∷_, _++_, append-nil}
+use Prim.Native.Nat.{ℕ, _+_, _*_, _/_, _%_, _^_, _≤_, _<_}
+use native.Mathlib.Omega.{arith}
+use lib.Dec.{lit<}
+use lib.ListN.{length}
+use Rattle.ground.specs.Bits.{bits}
+use Rattle.ground.specs.Distance.{Strong, far}
+use Rattle.ground.specs.Polynomial.{apart, check, sealed}
+use Rattle.packet.specs.declared.layout.Fields.{Fields}
+use Rattle.packet.specs.Crc.{bitsOf, crcOf, divisor, nibbleBits}
+use Rattle.packet.specs.Laws.Bounds.{Bounds}
+use Rattle.packet.specs.Laws.Bytes.{bits-append, byte-back, byte-bits, crc-bits, crc-lt, length-bits-of}
+use Rattle.packet.specs.Laws.Nibbles.{Nibbles, bits-tell, data-nibbles}
+use Rattle.packet.specs.Layout.{byteOf, dataOf, fieldsOf, nibblesOf, sealedOf, spareOf}
+use Rattle.packet.specs.Theorems.ReadBack.{fields-back, spare-back}
+
+-- x^8+x^2+x+1 catches up to three changed bits of 64
+pub strong : Strong divisor 64
+unfolding divisor
+strong = record { some = lit< tt; root = refl; powers = refl; keeps = refl }
+
+-- a packet's bits are its data bits with their check behind them
+pub packet-bits : (d : List ℕ) → bitsOf (sealedOf d) ≡ sealed divisor (bitsOf d)
+unfolding sealedOf
+packet-bits d =
+    bits-append d ((crcOf d / 16) ∷ (crcOf d % 16) ∷ [])
+    ∙ ap (λ l. bitsOf d ++ l)
+    (ap (λ l. nibbleBits (crcOf d / 16) ++ l) (append-nil (nibbleBits (crcOf d % 16)))
+    ∙ sym (byte-bits (crcOf d / 16) (crcOf d % 16))
+    ∙ ap (λ (n : ℕ). bits 8 n) (byte-back (crcOf d) (crc-lt d))
+    ∙ crc-bits d)
+
+pub data-apart : (d e : List ℕ) → Nibbles d → Nibbles e → length d ≡ 14 → length e ≡ 14 → (d ≡ e → ⊥) → 4 ≤ apart (bitsOf (sealedOf d)) (bitsOf (sealedOf e))
+unfolding divisor
+data-apart d e nd ne hd he differ =
+    rw (packet-bits d, packet-bits e)
+    (far divisor 64 strong (bitsOf d) (bitsOf e)
+    (length-bits-of d ∙ ap (λ (n : ℕ). n * 4) (hd ∙ sym he) ∙ sym (length-bits-of e))
+    (let h = length-bits-of d in omega arith)
+    (λ same. differ (bits-tell d e nd ne (hd ∙ sym he) same)))
+
+-- two packets whose fields or whose reserved and zero bits differ
+pub packets-apart : (f g : Fields) (y z : ℕ) → Bounds f → Bounds g → y < 2 ^ 26 → z < 2 ^ 26 → ((f ≡ g) × (y ≡ z) → ⊥)
+    → 4 ≤ apart (bitsOf (nibblesOf f y)) (bitsOf (nibblesOf g z))
+unfolding nibblesOf dataOf
+packets-apart f g y z bf bg hy hz differ =
+    data-apart (dataOf f y) (dataOf g z) (data-nibbles f y bf) (data-nibbles g z bg) refl refl
+    (λ same. differ (
+      sym (fields-back f y bf) ∙ ap (λ d. fieldsOf (sealedOf d)) same ∙ fields-back g z bg,
+      sym (spare-back f y bf hy) ∙ ap (λ d. spareOf (sealedOf d)) same ∙ spare-back g z bg hz,
+    ))

@@ -28,13 +28,15 @@ fields-back f z b =
       gid = gid i;
       mst = byte-back (f .mst) (b .mst) i;
       «rs_ack» = ack i;
-      sq = byte-back (f .sq) (b .sq) i
+      sq = byte-back (f .sq) (b .sq) i;
     }
   where
     word : f .word .0 % 16 ≡ f .word .0
     word = omega arith
+
     gid : (z / 2 ^ 8 % 8 * 2 + f .gid) % 2 ≡ f .gid
     gid = omega arith
+
     ack : (z / 2 ^ 23 % 8 * 2 + f .«rs_ack») % 2 ≡ f .«rs_ack»
     ack = omega arith
 
@@ -42,13 +44,13 @@ above-bit : (x a : ℕ) → x < 8 → a < 2 → (x * 2 + a) % 16 / 2 ≡ x
 above-bit x a h g = omega arith
 
 digits : (z : ℕ) → z < 2 ^ 26
-  → z / 2 ^ 23 % 8 * 2 ^ 23 + z / 2 ^ 19 % 16 % 16 * 2 ^ 19 + z / 2 ^ 15 % 16 % 16 * 2 ^ 15 + z / 2 ^ 11 % 16 % 16 * 2 ^ 11 + z / 2 ^ 8 % 8 * 2 ^ 8 + z / 2 ^ 4 % 16 % 16 * 2 ^ 4 + z % 16 % 16 ≡ z
+    → z / 2 ^ 23 % 8 * 2 ^ 23 + z / 2 ^ 19 % 16 % 16 * 2 ^ 19 + z / 2 ^ 15 % 16 % 16 * 2 ^ 15 + z / 2 ^ 11 % 16 % 16 * 2 ^ 11 + z / 2 ^ 8 % 8 * 2 ^ 8 + z / 2 ^ 4 % 16 % 16 * 2 ^ 4 + z % 16 % 16 ≡ z
 digits z h =
     sum (z / 2 ^ 4) (z / 2 ^ 8) (z / 2 ^ 11) (z / 2 ^ 15) (z / 2 ^ 19) (z / 2 ^ 23) (z % 16 % 16) (z / 2 ^ 4 % 16 % 16) (z / 2 ^ 8 % 8) (z / 2 ^ 11 % 16 % 16) (z / 2 ^ 15 % 16 % 16) (z / 2 ^ 19 % 16 % 16) (z / 2 ^ 23 % 8)
     (omega arith) (omega arith) (omega arith) (omega arith) (omega arith) (omega arith) (omega arith)
   where
     sum : (a b c d e f r s t u v w x : ℕ) → z ≡ a * 16 + r → a ≡ b * 16 + s → b ≡ c * 8 + t → c ≡ d * 16 + u → d ≡ e * 16 + v → e ≡ f * 16 + w → f ≡ x
-      → x * 2 ^ 23 + w * 2 ^ 19 + v * 2 ^ 15 + u * 2 ^ 11 + t * 2 ^ 8 + s * 2 ^ 4 + r ≡ z
+        → x * 2 ^ 23 + w * 2 ^ 19 + v * 2 ^ 15 + u * 2 ^ 11 + t * 2 ^ 8 + s * 2 ^ 4 + r ≡ z
     sum a b c d e f r s t u v w x p q i j k l m = omega arith
 
 pub spare-back : (f : Fields) (z : ℕ) → Bounds f → z < 2 ^ 26 → spareOf (nibblesOf f z) ≡ z
