@@ -1,0 +1,85 @@
+/*
+ * No call reads or writes outside the bytes that it is lent: each buffer stands at the very start or the very end of a
+ * page whose neighbours are shut, so that a touch beside it ends this program before its tally.
+ */
+#define _DEFAULT_SOURCE /* for mmap's MAP_ANONYMOUS */
+#include <levelspruce.h>
+
+#include <string.h>
+#include <sys/mman.h>
+#include <unistd.h>
+
+#include "check.h"
+
+static const uint8_t p1_h4[LEVELSPRUCE_PACKET_BYTES] = { 0xF8, 0xF9, 0x0A, 0x0B, 0x0C, 0x0D, 0xFE, 0xFF,
+                                                         0x00, 0x01, 0x52, 0x03, 0x04, 0x05, 0x96, 0x97 };
+static const size_t h4_lengths[] = { 0, 1, 15, 16, 17, 64 };
+static const size_t fields_lengths[] = { 0, 1, 5, 6, 7, 64 };
+static size_t page;
+
+#define COUNT(a) (sizeof(a) / sizeof(a)[0])
+
+/* The open one of three pages, or NULL. */
+static uint8_t *open_page(void)
+{
+    uint8_t *three = mmap(NULL, 3 * page, PROT_NONE, MAP_PRIVATE | MAP_ANONYMOUS, -1, 0);
+
+    if ((void *)three == MAP_FAILED || mprotect(three + page, page, PROT_READ | PROT_WRITE) != 0)
+        return NULL;
+    return three + page;
+}
+
+/* A buffer at the start of the open page, or at its end. */
+static uint8_t *buffer_in(uint8_t *open, size_t length, int at_end)
+{
+    return at_end ? open + page - length : open;
+}
+
+static int write_at_edges(uint8_t *open)
+{
+    size_t i;
+    int at_end, held = 1;
+
+    for (i = 0; i < COUNT(h4_lengths); i++)
+        for (at_end = 0; at_end < 2; at_end++) {
+            uint8_t expected = h4_lengths[i] == LEVELSPRUCE_PACKET_BYTES ? LEVELSPRUCE_ANSWER_DONE : LEVELSPRUCE_ANSWER_LENGTH;
+
+            held = held && levelspruce_packet_write(0, LEVELSPRUCE_WORD_IDLE, 0, 255, 0, 255,
+                                                    buffer_in(open, h4_lengths[i], at_end), h4_lengths[i]) == expected;
+        }
+    return held;
+}
+
+static int read_at_edges(uint8_t *open_h4, uint8_t *open_fields)
+{
+    size_t i, j;
+    int at_end, held = 1;
+
+    for (i = 0; i < COUNT(h4_lengths); i++)
+        for (j = 0; j < COUNT(fields_lengths); j++)
+            for (at_end = 0; at_end < 4; at_end++) {
+                uint8_t *h4 = buffer_in(open_h4, h4_lengths[i], at_end % 2);
+                uint8_t *fields = buffer_in(open_fields, fields_lengths[j], at_end / 2);
+                int right = h4_lengths[i] == LEVELSPRUCE_PACKET_BYTES && fields_lengths[j] == LEVELSPRUCE_FIELDS_BYTES;
+
+                memcpy(h4, p1_h4, h4_lengths[i] < sizeof p1_h4 ? h4_lengths[i] : sizeof p1_h4);
+                held = held && levelspruce_packet_read(h4, h4_lengths[i], fields, fields_lengths[j])
+                    == (right ? LEVELSPRUCE_ANSWER_DONE : LEVELSPRUCE_ANSWER_LENGTH);
+            }
+    return held;
+}
+
+int main(void)
+{
+    uint8_t *first, *second;
+
+    page = (size_t)sysconf(_SC_PAGESIZE);
+    first = open_page();
+    second = open_page();
+    check("pages with shut neighbours are to be had", first != NULL && second != NULL);
+    if (first != NULL && second != NULL) {
+        check("writing touches nothing beside its buffer", write_at_edges(first));
+        check("reading touches nothing beside its buffers", read_at_edges(first, second));
+    }
+    return tally();
+}
