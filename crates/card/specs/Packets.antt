@@ -1,0 +1,47 @@
+-- The packet's C calls in terms of the packet's own.
+use mathlib.Core.Bool.{Bool, cond, _&&_}
+use mathlib.Core.List.{List, [], _∷_}
+use Prim.Native.Nat.{ℕ}
+use lib.Dec.{eqb, ltb}
+use lib.ListN.{length}
+use Rattle.packet.specs.declared.layout.Fields.{Fields}
+use Rattle.packet.specs.declared.reader.Reading.{Reading}
+use Rattle.packet.specs.declared.reader.Reading.the-variants.{Packet, Length, Crc, Fixed, Unassigned}
+use Rattle.packet.specs.Reading.{readAnswer, readingNumber, readingValues}
+use Rattle.packet.specs.Writing.{writeAnswer, writeBytes, writingNumber}
+
+-- the fields that a C call gives, in its order
+abbrev pub given : ℕ → ℕ → ℕ → ℕ → ℕ → ℕ → Fields
+given epoch word gid mst ack sq = record { epoch = epoch; word = record { 0 = word }; gid = gid; mst = mst; «rs_ack» = ack; sq = sq }
+
+-- Writing for C: any 32 bits may come as a field.
+abbrev pub writeAnswerC : ℕ → ℕ → ℕ → ℕ → ℕ → ℕ → List ℕ → ℕ
+writeAnswerC epoch word gid mst ack sq h4 = writingNumber (writeAnswer (given epoch word gid mst ack sq) h4)
+
+abbrev pub writeBytesC : ℕ → ℕ → ℕ → ℕ → ℕ → ℕ → List ℕ → List ℕ
+writeBytesC epoch word gid mst ack sq h4 = writeBytes (given epoch word gid mst ack sq) h4
+
+-- Reading for C: the fields go into six lent bytes, of which another number is refused with 9 before all else.
+unfoldable pub readAnswerC : List ℕ → List ℕ → ℕ
+readAnswerC h4 fields = cond (eqb (length fields) 6) (readingNumber (readAnswer h4)) 9
+
+-- a packet's values, or the lent bytes as they were
+abbrev pub valuesOr : Reading → List ℕ → List ℕ
+valuesOr (Packet f) fields = readingValues (Packet f)
+valuesOr Length fields = fields
+valuesOr Crc fields = fields
+valuesOr Fixed fields = fields
+valuesOr Unassigned fields = fields
+
+unfoldable pub readFieldsC : List ℕ → List ℕ → List ℕ
+readFieldsC h4 fields = cond (eqb (length fields) 6) (valuesOr (readAnswer h4) fields) fields
+
+-- for the functions behind the calls
+abbrev pub areBytes : ℕ → ℕ → ℕ → ℕ → ℕ → ℕ → Bool
+areBytes epoch word gid mst ack sq = ltb epoch 256 && ltb word 256 && ltb gid 256 && ltb mst 256 && ltb ack 256 && ltb sq 256
+
+abbrev pub writeRefusal : ℕ → ℕ
+writeRefusal n = cond (eqb n 16) 8 9
+
+abbrev pub valuesIn : Fields → List ℕ
+valuesIn f = readingValues (Packet f)
