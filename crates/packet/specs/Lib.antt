@@ -6,3 +6,4 @@ pub mod Reading
 pub mod Theorems
 pub mod Words
 pub mod Writing
+mod Wrong

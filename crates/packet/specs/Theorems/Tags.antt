@@ -1,0 +1,46 @@
+-- Tags of positions in an endless count of frames, for every kind of packet. All above tags cites these laws, and not a kind's numbers.
+use mathlib.Core.Path.{_≡_, refl, _∙_, sym, ap}
+use mathlib.Core.Bool.{true}
+use Prim.Native.Nat.{ℕ, _+_, _-_, _*_, _/_, _%_, _≤_, _<_}
+use native.Mathlib.Omega.{arith}
+use Rattle.ground.specs.Circle.{after-of, after-lt}
+use Rattle.packet.specs.Kinds.{distanceOf, epochAfter, epochOf, epochs, firstTag, frames, lead, placeOf, tagAfter, tags}
+
+-- the tag of the x-th frame after one with tag 0
+abbrev pub tagOf : ℕ → ℕ → ℕ
+tagOf kind x = x % tags kind
+
+pub next-tag : (kind x : ℕ) → tagAfter kind (tagOf kind x) ≡ tagOf kind (x + 1)
+unfolding tagAfter tags
+next-tag kind x = omega arith
+
+pub distance-lt : (kind a b : ℕ) → distanceOf kind a b < tags kind
+unfolding distanceOf tags
+distance-lt kind a b = after-lt 4096 a b (omega arith)
+
+-- less than a round apart, the tags' distance is the positions'
+pub distance-of : (kind x y : ℕ) → y ≤ x → x < y + tags kind → distanceOf kind (tagOf kind x) (tagOf kind y) ≡ x - y
+unfolding distanceOf
+distance-of kind x y low high = after-of (tags kind) x y low high
+
+pub place-of : (kind x : ℕ) → placeOf kind (tagOf kind x) ≡ (x + lead kind) % frames kind
+unfolding placeOf lead frames tags
+place-of kind x = omega arith
+
+pub epoch-of : (kind x : ℕ) → epochOf kind (tagOf kind x) ≡ (x + lead kind) / frames kind % epochs kind
+unfolding epochOf lead frames tags epochs
+epoch-of kind x = omega arith
+
+-- an epoch's first tag is of that epoch and stands at its first place
+pub first-of : (kind e : ℕ) → e < epochs kind → (epochOf kind (firstTag kind e) ≡ e) × (placeOf kind (firstTag kind e) ≡ 0)
+unfolding epochOf placeOf firstTag lead frames tags epochs
+first-of kind e h = (omega arith, omega arith)
+
+-- after the last frame of an epoch comes the next epoch
+pub next-epoch : (kind x : ℕ) → epochOf kind (tagOf kind (x + frames kind)) ≡ epochAfter kind (epochOf kind (tagOf kind x))
+unfolding epochOf epochAfter lead frames tags epochs
+next-epoch kind x = omega arith
+
+pub tags-are : (kind : ℕ) → epochs kind * frames kind ≡ tags kind
+unfolding epochs frames tags
+tags-are kind = refl
