@@ -1,0 +1,41 @@
+-- Demand 1 for one entry point: for all arguments and states the answer is the first of 01's numbers, in 01's order, whose condition holds, and a refusal leaves the lent bytes as they were.
+use mathlib.Core.Path.{_≡_, refl, _∙_, sym}
+use mathlib.Core.Bool.{Bool, cond}
+use mathlib.Core.List.{List, [], _∷_}
+use Prim.Native.Nat.{ℕ}
+use Prim.Native.String.{String}
+
+pub record Refusal (Input : Type 0) : Type 0 where
+  pub number : ℕ
+  pub condition : Input → Bool
+
+-- the first number whose condition holds, 0 where none does
+abbrev pub first : {Input : Type 0} → List (Refusal Input) → Input → ℕ
+first [] x = 0
+first (r ∷ rs) x = cond (r .condition x) (r .number) (first rs x)
+
+-- An entry point: what comes in, 01's refusals in 01's order, and what its contract promises of the answer and of each lent slice.
+pub record Entry : Type 1 where
+  pub name : String
+  pub Input : Type 0
+  pub refusals : List (Refusal Input)
+  pub answer : Input → ℕ
+  pub lent : Input → List (List ℕ)
+  pub left : Input → List (List ℕ)
+
+pub record Copes (e : Entry) : Type 0 where
+  pub in-order : (x : e .Input) → e .answer x ≡ first (e .refusals) x
+  pub untouched : (x : e .Input) → (e .answer x ≡ 0 → ⊥) → e .left x ≡ e .lent x
+
+abbrev pub AllCope : List Entry → Type 0
+AllCope [] = Unit {0}
+AllCope (e ∷ es) = Copes e × AllCope es
+
+-- what meets an entry point's contract: an answer and what is left of the lent slices
+pub record Meets (e : Entry) (x : e .Input) (answer : ℕ) (left : List (List ℕ)) : Type 0 where
+  pub answers : answer ≡ e .answer x
+  pub leaves : left ≡ e .left x
+
+-- no second one does
+pub only : (e : Entry) (x : e .Input) (a b : ℕ) (l m : List (List ℕ)) → Meets e x a l → Meets e x b m → (a ≡ b) × (l ≡ m)
+only e x a b l m p q = (p .answers ∙ sym (q .answers), p .leaves ∙ sym (q .leaves))

@@ -1,0 +1,51 @@
+-- 01's examples, marked P1 to P11, in one table under one statement. Bytes stand in hexadecimal, as 01 has them.
+use mathlib.Core.Path.{refl}
+use mathlib.Core.List.{List, [], _∷_, _++_}
+use Prim.Native.Nat.{ℕ}
+use lib.ListN.{replicate}
+use Rattle.packet.specs.declared.layout.Fields.{Fields}
+use Rattle.packet.specs.Crc.{byteBits, crcOf, divisor, nibbleBits}
+use Rattle.packet.specs.Layout.{byteOf, carriedIn, dataOf, fieldsOf, h4Of, highsOf, nibblesOf, sealedOf}
+use Rattle.packet.specs.Reading.{readAnswer, readNibbles, readingNumber, readingValues}
+use Rattle.packet.specs.Words.{EOS, IDLE, assigned}
+use Rattle.packet.specs.Writing.{fitting, writeAnswer, writeBytes, writingNumber}
+use Rattle.paper.specs.Rows.{Row, Equal, equal-rows}
+
+-- nibbles two by two, as 01 writes a packet's data and CRC
+abbrev bytes : List ℕ → List ℕ
+bytes [] = []
+bytes (a ∷ []) = a ∷ []
+bytes (a ∷ b ∷ ns) = byteOf a b ∷ bytes ns
+
+-- IDLE, SQ 255, MST all FAIL, RS-Ack 0, epoch 0, GID 0
+abbrev p1 : Fields
+p1 = record { epoch = 0; word = record { 0 = IDLE }; gid = 0; mst = 0xFF; «rs_ack» = 0; sq = 255 }
+
+-- EOS, SQ 0, MST all FAIL, epoch 1, GID 1
+abbrev p2 : Fields
+p2 = record { epoch = 1; word = record { 0 = EOS }; gid = 1; mst = 0xFF; «rs_ack» = 0; sq = 0 }
+
+abbrev p1-h4 : List ℕ
+p1-h4 = 0xF8 ∷ 0xF9 ∷ 0x0A ∷ 0x0B ∷ 0x0C ∷ 0x0D ∷ 0xFE ∷ 0xFF ∷ 0x00 ∷ 0x01 ∷ 0x52 ∷ 0x03 ∷ 0x04 ∷ 0x05 ∷ 0x96 ∷ 0x97 ∷ []
+
+pub table : List Row
+table =
+    record {
+      name = "P1 data and CRC";
+      given = bytes (nibblesOf p1 0);
+      said = 0xFF ∷ 0x00 ∷ 0x00 ∷ 0xFF ∷ 0x00 ∷ 0x50 ∷ 0x00 ∷ 0x99 ∷ [];
+    }
+    ∷ record { name = "P1 written"; given = writingNumber (writeAnswer p1 (replicate 16 0)) ∷ writeBytes p1 (replicate 16 0); said = 0 ∷ p1-h4 }
+    ∷ record { name = "P1 read"; given = readingNumber (readAnswer p1-h4) ∷ readingValues (readAnswer p1-h4); said = 0 ∷ 0 ∷ IDLE ∷ 0 ∷ 0xFF ∷ 0 ∷ 255 ∷ [] }
+    ∷ record {
+      name = "P2 data and CRC";
+      given = bytes (nibblesOf p2 0);
+      said = 0xFF ∷ 0x00 ∷ 0x00 ∷ 0x00 ∷ 0x01 ∷ 0x31 ∷ 0x00 ∷ 0xC3 ∷ [];
+    }
+    ∷ record { name = "P3 CRC of 56 zero bits"; given = crcOf (replicate 14 0) ∷ []; said = 0x00 ∷ [] }
+    ∷ record { name = "P4 CRC of the last bit alone"; given = crcOf (replicate 13 0 ++ (1 ∷ [])) ∷ []; said = 0x07 ∷ [] }
+    ∷ []
+
+pub examples : Equal table
+unfolding table nibblesOf sealedOf dataOf crcOf divisor byteBits nibbleBits writeAnswer writeBytes fitting assigned h4Of readAnswer readNibbles fieldsOf carriedIn highsOf
+examples = equal-rows table refl
