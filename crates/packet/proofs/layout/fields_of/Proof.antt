@@ -1,3 +1,5 @@
+use Prim.Native.Nat.{_%_}
+use lib.ListN.{getD}
 use borrow.Author.Needs.{needs}
 use Rattle.packet.specs.Layout.{fieldsOf}
 use Rattle.packet.proofs.layout.fields_of.Statement.{statement}
@@ -44,7 +46,15 @@ byte-of-requires-3 c κs = search needs
 
 returns : tie.Need-returns
 unfolding fieldsOf
-returns c = cc
+returns c =
+    λ i. record {
+      epoch = c .before .before .before .byte-of .ensures i;
+      word = c .before .before .from-nibble .ensures i;
+      gid = getD (c .before .before .before .before .args .t1) 11 0 % 2;
+      mst = c .before .byte-of2 .ensures i;
+      «rs_ack» = getD (c .before .before .before .before .args .t1) 2 0 % 2;
+      sq = c .byte-of3 .ensures i;
+    }
 
 pub fields-of-spec : {M : Type 1} → statement M
 fields-of-spec =
