@@ -3,8 +3,7 @@ use crate::crc::crc;
 use crate::words::Word;
 ghost use mathlib.Core.Path.{_≡_};
 ghost use mathlib.Core.List.{[], _∷_, _++_};
-ghost use lib.ListN.{length};
-ghost use Rattle.packet.specs.Layout.{byteOf, carriedIn, dataOf, fieldsOf, h4Of, highsOf, nibblesOf};
+ghost use Rattle.packet.specs.Layout.{byteOf, carriedIn, dataOf, fieldsOf, h4Of, nibblesOf};
 
 pub struct Fields {
     pub epoch: u8,
@@ -94,29 +93,5 @@ pub fn h4_of(nibbles: [u8; 16]) -> [u8; 16]
         nibbles[13] % 16 * 16 + 5,
         nibbles[14] % 16 * 16 + 6,
         nibbles[15] % 16 * 16 + 7,
-    ]
-}
-
-pub fn highs_of(h4: &[u8]) -> [u8; 16]
-    requires { ⌜ length (now h4) ≡ 16 ⌝ }
-    ensures { λ r. ⌜ r ≡ highsOf (now (h4 .entry)) ⌝ }
-{
-    [
-        h4[0] / 16,
-        h4[1] / 16,
-        h4[2] / 16,
-        h4[3] / 16,
-        h4[4] / 16,
-        h4[5] / 16,
-        h4[6] / 16,
-        h4[7] / 16,
-        h4[8] / 16,
-        h4[9] / 16,
-        h4[10] / 16,
-        h4[11] / 16,
-        h4[12] / 16,
-        h4[13] / 16,
-        h4[14] / 16,
-        h4[15] / 16,
     ]
 }

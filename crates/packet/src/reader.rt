@@ -4,6 +4,8 @@ use crate::layout;
 use crate::layout::Fields;
 use crate::words::Word;
 ghost use mathlib.Core.Path.{_≡_};
+ghost use lib.ListN.{length};
+ghost use Rattle.packet.specs.Layout.{highsOf};
 ghost use Rattle.packet.specs.Reading.{readNibbles, readAnswer, readingNumber};
 
 pub enum Reading {
@@ -48,6 +50,30 @@ pub fn read_nibbles(nibbles: [u8; 16]) -> Reading
     Reading::Packet(fields)
 }
 
+fn highs_of(h4: &[u8]) -> [u8; 16]
+    requires { ⌜ length (now h4) ≡ 16 ⌝ }
+    ensures { λ r. ⌜ r ≡ highsOf (now (h4 .entry)) ⌝ }
+{
+    [
+        h4[0] / 16,
+        h4[1] / 16,
+        h4[2] / 16,
+        h4[3] / 16,
+        h4[4] / 16,
+        h4[5] / 16,
+        h4[6] / 16,
+        h4[7] / 16,
+        h4[8] / 16,
+        h4[9] / 16,
+        h4[10] / 16,
+        h4[11] / 16,
+        h4[12] / 16,
+        h4[13] / 16,
+        h4[14] / 16,
+        h4[15] / 16,
+    ]
+}
+
 // Sixteen H4 bytes read.
 pub fn read(h4: &[u8]) -> Reading
     ensures { λ r. ⌜ r ≡ readAnswer (now (h4 .entry)) ⌝ }
@@ -55,6 +81,6 @@ pub fn read(h4: &[u8]) -> Reading
     if h4.len() != 16 {
         return Reading::Length;
     }
-    let nibbles = layout::highs_of(h4);
+    let nibbles = highs_of(h4);
     read_nibbles(nibbles)
 }

@@ -1,8 +1,8 @@
 use mathlib.Core.Path.{refl}
 use borrow.Author.Needs.{needs}
 use Rattle.packet.specs.Layout.{highsOf}
-use Rattle.packet.proofs.layout.highs_of.Statement.{statement}
-use Rattle.packet.proofs.layout.highs_of.Tie as tie
+use Rattle.packet.proofs.reader.highs_of.Statement.{statement}
+use Rattle.packet.proofs.reader.highs_of.Tie as tie
 
 shared-slice-read-t3 : tie.Need-shared-slice-read-t3
 shared-slice-read-t3 c = search needs
