@@ -1,0 +1,33 @@
+// The CRC of sixteen nibbles as the reader shows it: of the 256 that they can carry it refuses all but one with 5.
+pub(crate) fn answer_at(nibbles: [u8; 16], sum: u8) -> u8 {
+    let mut carrying = nibbles;
+    carrying[14] = sum / 16;
+    carrying[15] = sum % 16;
+    let reading = packet::read_nibbles(carrying);
+    reading.number()
+}
+
+// The first CRC that is not refused with 5.
+pub(crate) fn sum_of(nibbles: [u8; 16]) -> u8 {
+    let mut sum = 0;
+    while sum < 255 {
+        if answer_at(nibbles, sum) != 5 {
+            return sum;
+        }
+        sum += 1;
+    }
+    255
+}
+
+// How many of the CRCs from 0 to 255 are refused with 5.
+pub(crate) fn refused(nibbles: [u8; 16]) -> u16 {
+    let mut count: u16 = 0;
+    let mut sum: u16 = 0;
+    while sum < 256 {
+        if answer_at(nibbles, (sum % 256) as u8) == 5 {
+            count += 1;
+        }
+        sum += 1;
+    }
+    count
+}
