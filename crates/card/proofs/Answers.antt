@@ -10,7 +10,7 @@ use lib.ListN.{length, drop, drop-of-length-le}
 use Rattle.ground.specs.Truth.{and-left, and-right, fails}
 use Rattle.packet.specs.declared.layout.Fields.{Fields}
 use Rattle.packet.specs.declared.reader.Reading.{Reading}
-use Rattle.packet.specs.Laws.Bounds.{Bounds, bounds}
+use Rattle.packet.specs.Laws.Bounds.{bounds}
 use Rattle.packet.specs.Reading.{readAnswer, readingNumber}
 use Rattle.packet.specs.Writing.{fitting, writeAnswer, writeBytes, writingNumber}
 use Rattle.card.specs.Packets.{areBytes, given, readAnswerC, readFieldsC, valuesIn, valuesOr, writeRefusal}

@@ -1,5 +1,5 @@
 -- Places on a circle of m places, counted from 0, and how far one lies after another.
-use mathlib.Core.Path.{_≡_, refl, _∙_, sym, ap}
+use mathlib.Core.Path.{_≡_, _∙_, sym, ap}
 use Prim.Native.Nat.{ℕ, _+_, _-_, _*_, _/_, _%_, _≤_, _<_}
 use native.Mathlib.Nat.{mod-lt, mod-mod, mod-add-mod, add-mod-mod, add-mod-right, mod-eq-of-lt, div-add-mod', add-mul-mod-self-right}
 use native.Mathlib.Omega.{arith}

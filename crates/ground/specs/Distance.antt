@@ -1,6 +1,6 @@
 -- Which divisors catch up to three changed bits, and that they do: sealed messages of at most n bits differ in at least four, or not at all.
-use mathlib.Core.Path.{_≡_, refl, _∙_, sym, ap, ap₂, subst}
-use mathlib.Core.Bool.{Bool, true, false, not, _&&_, _||_, false≢true, true≢false}
+use mathlib.Core.Path.{_≡_, refl, _∙_, sym, ap, ap₂}
+use mathlib.Core.Bool.{Bool, true, false, not, _||_, false≢true, true≢false}
 use mathlib.Core.List.{List, [], _∷_, _++_}
 use Prim.Native.Nat.{ℕ, zero, suc, _+_, _%_, _≤_, _<_}
 use native.Mathlib.Nat.{suc-inj}
@@ -12,7 +12,8 @@ use lib.Seq.{take-at}
 use Rattle.ground.specs.Bits.{odd}
 use Rattle.ground.specs.Finite.{below, below-at, lists, lists-at}
 use Rattle.ground.specs.Polynomial.{plus, sum, zeros, bring, remainder, check, sealed, weight, apart}
-use Rattle.ground.specs.Division.{length-sum, length-bring, length-remainder, length-check, sum-zeros, sum-self, sum-append, sum-apart, remainder-sum, left, sound}
+use Rattle.ground.specs.Division.{length-bring, length-check, remainder-sum, sound}
+use Rattle.ground.specs.Sums.{length-sum, plus-assoc, plus-cross, plus-swap, sum-apart, sum-self, sum-zeros}
 
 -- some bit is 1
 abbrev pub nonzero : List Bool → Bool
@@ -40,30 +41,15 @@ parity-zeros : (n : ℕ) → parity (zeros n) ≡ false
 parity-zeros zero = refl
 parity-zeros (suc n) = parity-zeros n
 
-plus-move : (a b c : Bool) → plus a (plus b c) ≡ plus (plus a b) c
-plus-move false b c = refl
-plus-move true false c = refl
-plus-move true true false = refl
-plus-move true true true = refl
-
-plus-swap : (a b c : Bool) → plus a (plus b c) ≡ plus b (plus a c)
-plus-swap false false c = refl
-plus-swap false true c = refl
-plus-swap true false c = refl
-plus-swap true true c = refl
-
 parity-more : (l : List Bool) (b : Bool) → parity (l ++ (b ∷ [])) ≡ plus b (parity l)
 parity-more [] b = refl
 parity-more (a ∷ l) b = ap (λ p. plus a p) (parity-more l b) ∙ plus-swap a b (parity l)
-
-plus-four : (a b c d : Bool) → plus (plus a b) (plus c d) ≡ plus (plus a c) (plus b d)
-plus-four a b c d = sym (plus-move a b (plus c d)) ∙ ap (λ p. plus a p) (plus-swap b c d) ∙ plus-move a c (plus b d)
 
 parity-sum : (l m : List Bool) → length l ≡ length m → parity (sum l m) ≡ plus (parity l) (parity m)
 parity-sum [] [] e = refl
 parity-sum [] (b ∷ m) e = absurd (omega arith)
 parity-sum (a ∷ l) [] e = absurd (omega arith)
-parity-sum (a ∷ l) (b ∷ m) e = ap (λ p. plus (plus a b) p) (parity-sum l m (suc-inj e)) ∙ plus-four a b (parity l) (parity m)
+parity-sum (a ∷ l) (b ∷ m) e = ap (λ p. plus (plus a b) p) (parity-sum l m (suc-inj e)) ∙ plus-cross a b (parity l) (parity m)
 
 parity-bring : (g r : List Bool) (b : Bool) → 0 < length g → parity g ≡ true → length g ≡ length r → parity (bring g r b) ≡ plus b (parity r)
 parity-bring g [] b h o e = absurd (omega arith)
@@ -71,7 +57,7 @@ parity-bring g (false ∷ r) b h o e = parity-more r b
 parity-bring g (true ∷ r) b h o e =
     parity-sum (r ++ (b ∷ [])) g (length-append r (b ∷ []) ∙ (omega arith))
     ∙ ap₂ plus (parity-more r b) o
-    ∙ sym (plus-move b (parity r) true)
+    ∙ plus-assoc b (parity r) true
     ∙ ap (λ p. plus b p) (last (parity r))
   where
     last : (p : Bool) → plus p true ≡ not p
@@ -85,7 +71,7 @@ parity-remainder g r (b ∷ m) h o e =
     parity-remainder g (bring g r b) m h o (sym (length-bring g r b e))
     ∙ ap (λ p. plus (parity m) p) (parity-bring g r b h o e)
     ∙ plus-swap (parity m) b (parity r)
-    ∙ plus-move b (parity m) (parity r)
+    ∙ sym (plus-assoc b (parity m) (parity r))
 
 odd-suc : (n : ℕ) → odd (suc n) ≡ not (odd n)
 odd-suc n = go (n % 2) (suc n % 2) refl refl

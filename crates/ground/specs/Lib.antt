@@ -5,5 +5,6 @@ pub mod Division
 pub mod Drawn
 pub mod Finite
 pub mod Polynomial
+pub mod Sums
 pub mod Table
 pub mod Truth

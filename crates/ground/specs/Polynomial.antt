@@ -1,7 +1,7 @@
 -- Polynomials over bits, the highest coefficient first, and the remainder of long division. The divisor is a parameter, written without its leading 1.
 use mathlib.Core.Bool.{Bool, true, false, not}
 use mathlib.Core.List.{List, [], _∷_, _++_}
-use Prim.Native.Nat.{ℕ, zero, suc, _+_}
+use Prim.Native.Nat.{ℕ, suc}
 use lib.ListN.{length, replicate}
 
 -- the sum of two bits modulo 2

@@ -2,18 +2,18 @@
 use mathlib.Core.Path.{_≡_, refl, _∙_, sym, ap}
 use mathlib.Core.Bool.{Bool, true, false, cond, _&&_}
 use mathlib.Core.List.{List, [], _∷_, _++_, append-assoc, append-nil}
-use Prim.Native.Nat.{ℕ, zero, suc, _+_, _*_, _/_, _%_, _≤_, _<_}
+use Prim.Native.Nat.{ℕ, zero, suc, _+_, _*_, _/_, _%_, _<_}
 use native.Mathlib.Nat.{div-one}
 use native.Mathlib.Omega.{arith}
 use lib.Bits.{bitXor}
 use lib.Dec.{eqb, ltb}
 use lib.ListN.{length, getD, take}
 use lib.Seq.{take-suc}
-use Rattle.ground.specs.Bits.{bits, number, odd, number-bits}
+use Rattle.ground.specs.Bits.{number, odd, number-bits}
 use Rattle.ground.specs.Division.{remainder-append}
 use Rattle.ground.specs.Finite.{below, below-at, sameBits, same-bits}
 use Rattle.ground.specs.Truth.{and-left, and-right}
-use Rattle.ground.specs.Polynomial.{bring, remainder, zeros}
+use Rattle.ground.specs.Polynomial.{remainder, zeros}
 use Rattle.packet.specs.Crc.{divisor, byteBits, nibbleBits, bitsOf, brought, crcOf}
 
 -- what the code makes of a byte and a bit

@@ -4,7 +4,6 @@ use mathlib.Core.List.{List, [], _∷_}
 use Prim.Native.Nat.{ℕ}
 use lib.Dec.{eqb}
 use lib.ListN.{length, take}
-use Rattle.packet.specs.declared.layout.Fields.{Fields}
 use Rattle.packet.specs.declared.reader.Reading.{Reading}
 use Rattle.packet.specs.declared.reader.Reading.the-variants.{Packet, Length, Crc, Fixed, Unassigned}
 use Rattle.packet.specs.Crc.{crcOf}

@@ -1,14 +1,14 @@
 -- Wrong readings of 01, each as a definition with a run on which it breaks what 01 says.
 use mathlib.Core.Path.{_≡_, refl}
 use mathlib.Core.Bool.{Bool, true, false, cond}
-use mathlib.Core.List.{List, [], _∷_}
-use Prim.Native.Nat.{ℕ, _+_, _*_, _/_, _%_, _^_, _-_}
+use mathlib.Core.List.{List, _∷_}
+use Prim.Native.Nat.{ℕ, _+_, _*_, _/_, _%_, _^_}
 use lib.Dec.{eqb}
 use lib.ListN.{take, replicate}
 use Rattle.ground.specs.Bits.{odd}
 use Rattle.packet.specs.declared.reader.Reading.{Reading}
 use Rattle.packet.specs.declared.reader.Reading.the-variants.{Packet, Crc, Fixed, Unassigned}
-use Rattle.packet.specs.Crc.{byteBits, crcOf, divisor, nibbleBits}
+use Rattle.packet.specs.Crc.{crcOf, divisor, nibbleBits}
 use Rattle.packet.specs.Kinds.{epochOf, frames, lead, mstFails, mstFirst, tags}
 use Rattle.packet.specs.Layout.{carriedIn, fieldsOf}
 use Rattle.packet.specs.Reading.{readNibbles}

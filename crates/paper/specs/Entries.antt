@@ -1,5 +1,5 @@
 -- Demand 1 for one entry point: for all arguments and states the answer is the first of 01's numbers, in 01's order, whose condition holds, and a refusal leaves the lent bytes as they were.
-use mathlib.Core.Path.{_≡_, refl, _∙_, sym}
+use mathlib.Core.Path.{_≡_, _∙_, sym}
 use mathlib.Core.Bool.{Bool, cond}
 use mathlib.Core.List.{List, [], _∷_}
 use Prim.Native.Nat.{ℕ}

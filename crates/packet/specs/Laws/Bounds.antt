@@ -1,10 +1,10 @@
 -- What it says that fields fit a packet.
 use mathlib.Core.Path.{_≡_, refl, _∙_, sym}
 use mathlib.Core.Logic.{⊎-elim}
-use mathlib.Core.Bool.{Bool, true, false, _&&_, _||_, not, false≢true}
-use Prim.Native.Nat.{ℕ, _≤_, _<_}
+use mathlib.Core.Bool.{Bool, true, false, _&&_, not, false≢true}
+use Prim.Native.Nat.{_≤_, _<_}
 use native.Mathlib.Omega.{arith}
-use borrow.Author.Tests.{ltb-true, eqb-true, ne-eqb, lt-ltb, eq-eqb, not-true, eqb-false}
+use borrow.Author.Tests.{ltb-true, ne-eqb, not-true}
 use lib.Dec.{eqb, ltb}
 use Rattle.ground.specs.Truth.{and-left, and-right, le-or-lt}
 use Rattle.packet.specs.declared.layout.Fields.{Fields}

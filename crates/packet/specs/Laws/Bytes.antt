@@ -1,11 +1,10 @@
 -- Bytes, nibbles and their bits.
 use mathlib.Core.Path.{_≡_, refl, _∙_, sym, ap, ap₂}
-use mathlib.Core.Bool.{Bool}
-use mathlib.Core.List.{List, [], _∷_, _++_, append-assoc, append-nil}
-use Prim.Native.Nat.{ℕ, zero, suc, _+_, _*_, _/_, _%_, _<_}
+use mathlib.Core.List.{List, [], _∷_, _++_, append-assoc}
+use Prim.Native.Nat.{ℕ, _*_, _/_, _%_, _<_}
 use native.Mathlib.Omega.{arith}
 use lib.ListN.{length, length-append}
-use Rattle.ground.specs.Bits.{bits, number, bits-split, bits-mod, bits-number, number-lt}
+use Rattle.ground.specs.Bits.{bits, bits-split, bits-mod, bits-number, number-lt}
 use Rattle.ground.specs.Division.{length-check}
 use Rattle.ground.specs.Polynomial.{check}
 use Rattle.packet.specs.Crc.{divisor, nibbleBits, bitsOf, crcOf}

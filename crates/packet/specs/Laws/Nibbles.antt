@@ -2,11 +2,11 @@
 use mathlib.Core.Path.{_≡_, refl, _∙_, sym, ap, ap₂}
 use mathlib.Core.Bool.{Bool}
 use mathlib.Core.List.{List, [], _∷_, _++_}
-use Prim.Native.Nat.{ℕ, zero, suc, _+_, _*_, _/_, _%_, _^_, _<_}
+use Prim.Native.Nat.{ℕ, zero, suc, _+_, _*_, _/_, _%_, _<_}
 use native.Mathlib.Nat.{le-of-suc-le-suc, not-suc-le-zero, suc-inj}
 use native.Mathlib.Omega.{arith}
 use lib.ListN.{length, getD, take, drop}
-use Rattle.ground.specs.Bits.{bits, number, number-bits}
+use Rattle.ground.specs.Bits.{number, number-bits}
 use Rattle.ground.specs.Table.{tabulate, tabulate-ext, tabulate-self, getD-tabulate}
 use Rattle.packet.specs.declared.layout.Fields.{Fields}
 use Rattle.packet.specs.Crc.{crcOf, nibbleBits, bitsOf}

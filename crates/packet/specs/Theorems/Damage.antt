@@ -1,14 +1,14 @@
 -- A written packet with one to three of its 64 bits changed is refused with 5. The low nibbles of the sixteen H4 bytes may be any.
-use mathlib.Core.Path.{_≡_, refl, _∙_, sym, ap, ap₂}
+use mathlib.Core.Path.{_≡_, refl, _∙_, sym, ap}
 use mathlib.Core.List.{List, [], _∷_, _++_, append-nil}
-use Prim.Native.Nat.{ℕ, _+_, _*_, _/_, _%_, _≤_, _<_}
+use Prim.Native.Nat.{ℕ, _*_, _≤_}
 use native.Mathlib.Omega.{arith}
 use borrow.Author.Tests.{eq-eqb, ne-eqb}
 use lib.ListN.{length, getD, take, take-append-drop, drop-of-length-le}
 use lib.Seq.{drop-cons, length-take-le}
 use Rattle.ground.specs.Bits.{bits}
 use Rattle.ground.specs.Distance.{caught}
-use Rattle.ground.specs.Polynomial.{apart, check, sealed}
+use Rattle.ground.specs.Polynomial.{apart, check}
 use Rattle.packet.specs.declared.layout.Fields.{Fields}
 use Rattle.packet.specs.declared.reader.Reading.the-variants.{Crc}
 use Rattle.packet.specs.declared.writer.Writing.the-variants.{Done}

@@ -1,19 +1,19 @@
 -- 'Any two different packets by these rules differ in at least four of 64 bits' (01, 'CRC'), over all 56 data bits.
-use mathlib.Core.Path.{_≡_, refl, _∙_, sym, ap, ap₂}
+use mathlib.Core.Path.{_≡_, refl, _∙_, sym, ap}
 use mathlib.Core.List.{List, [], _∷_, _++_, append-nil}
-use Prim.Native.Nat.{ℕ, _+_, _*_, _/_, _%_, _^_, _≤_, _<_}
+use Prim.Native.Nat.{ℕ, _*_, _/_, _%_, _^_, _≤_, _<_}
 use native.Mathlib.Omega.{arith}
 use lib.Dec.{lit<}
 use lib.ListN.{length}
 use Rattle.ground.specs.Bits.{bits}
 use Rattle.ground.specs.Distance.{Strong, far}
-use Rattle.ground.specs.Polynomial.{apart, check, sealed}
+use Rattle.ground.specs.Polynomial.{apart, sealed}
 use Rattle.packet.specs.declared.layout.Fields.{Fields}
 use Rattle.packet.specs.Crc.{bitsOf, crcOf, divisor, nibbleBits}
 use Rattle.packet.specs.Laws.Bounds.{Bounds}
 use Rattle.packet.specs.Laws.Bytes.{bits-append, byte-back, byte-bits, crc-bits, crc-lt, length-bits-of}
 use Rattle.packet.specs.Laws.Nibbles.{Nibbles, bits-tell, data-nibbles}
-use Rattle.packet.specs.Layout.{byteOf, dataOf, fieldsOf, nibblesOf, sealedOf, spareOf}
+use Rattle.packet.specs.Layout.{dataOf, fieldsOf, nibblesOf, sealedOf, spareOf}
 use Rattle.packet.specs.Theorems.ReadBack.{fields-back, spare-back}
 
 -- x^8+x^2+x+1 catches up to three changed bits of 64

@@ -1,6 +1,6 @@
 -- What is written reads back as given; and so do the reserved and zero bits, which no field has.
-use mathlib.Core.Path.{_≡_, refl, _∙_, sym, ap}
-use mathlib.Core.Bool.{Bool, true, false, cond}
+use mathlib.Core.Path.{_≡_, refl, sym}
+use mathlib.Core.Bool.{Bool, true, false}
 use mathlib.Core.List.{List}
 use Prim.Native.Nat.{ℕ, _+_, _*_, _/_, _%_, _^_, _<_}
 use native.Mathlib.Omega.{arith}
@@ -9,13 +9,12 @@ use lib.Dec.{eqb}
 use lib.ListN.{length, take}
 use Rattle.packet.specs.declared.layout.Fields.{Fields}
 use Rattle.packet.specs.declared.reader.Reading.the-variants.{Packet}
-use Rattle.packet.specs.declared.writer.Writing.{Writing}
 use Rattle.packet.specs.declared.writer.Writing.the-variants.{Done, Field, Length}
 use Rattle.packet.specs.Crc.{crcOf}
 use Rattle.packet.specs.Laws.Bounds.{Bounds, bounds}
 use Rattle.packet.specs.Laws.Bytes.{byte-back, crc-lt}
 use Rattle.packet.specs.Laws.Nibbles.{packet-nibbles, highs-back}
-use Rattle.packet.specs.Layout.{carriedIn, dataOf, fieldsOf, h4Of, highsOf, nibblesOf, sealedOf, spareOf}
+use Rattle.packet.specs.Layout.{carriedIn, dataOf, fieldsOf, h4Of, nibblesOf, sealedOf, spareOf}
 use Rattle.packet.specs.Reading.{readAnswer, readNibbles}
 use Rattle.packet.specs.Writing.{fitting, writeAnswer, writeBytes}
 

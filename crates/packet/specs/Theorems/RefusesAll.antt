@@ -1,5 +1,5 @@
 -- Shut out by name (01, 'What the promises have to say'): a reader that refuses all. It breaks on every packet that is written.
-use mathlib.Core.Path.{_≡_, refl, _∙_, sym, ap}
+use mathlib.Core.Path.{_≡_, refl, _∙_, ap}
 use mathlib.Core.List.{List}
 use Prim.Native.Nat.{ℕ}
 use lib.ListN.{replicate}

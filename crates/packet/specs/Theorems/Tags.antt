@@ -1,6 +1,5 @@
 -- Tags of positions in an endless count of frames, for every kind of packet. All above tags cites these laws, and not a kind's numbers.
-use mathlib.Core.Path.{_≡_, refl, _∙_, sym, ap}
-use mathlib.Core.Bool.{true}
+use mathlib.Core.Path.{_≡_, refl}
 use Prim.Native.Nat.{ℕ, _+_, _-_, _*_, _/_, _%_, _≤_, _<_}
 use native.Mathlib.Omega.{arith}
 use Rattle.ground.specs.Circle.{after-of, after-lt}

@@ -1,4 +1,3 @@
-use mathlib.Core.Path.{_∙_, sym}
 use borrow.Author.Needs.{needs}
 use Rattle.packet.proofs.Dividing.{four}
 use Rattle.packet.proofs.crc.bring_nibble.Statement.{statement}
