@@ -1,1 +1,59 @@
-// Plain loops.
+// Spreading and joining one byte after the other: for every size, and the whole of the work where no block of eight by eight fits.
+ghost use mathlib.Core.Path.{_≡_};
+ghost use Prim.Native.Nat.{ℕ, _+_, _-_, _*_, _/_, _%_, _≤_, _<_};
+ghost use lib.ListN.{length, getD};
+ghost use Rattle.ground.specs.Drawn.{drawn, fillAt};
+ghost use Rattle.payload.specs.Area.{area};
+ghost use Rattle.payload.specs.Order.{groupByte};
+ghost use Rattle.payload.specs.Joining.{startedByte};
+
+// A member out of its group frame: byte j is the frame's byte j X + r.
+pub(crate) fn member(x: usize, p: usize, frame: &[u8], r: usize, place: usize, to: &mut [u8])
+    requires { ⌜ (r < x) × (x * p ≤ length (now frame)) × (place + p ≤ length (now to)) ⌝ }
+    ensures { λ _. ⌜ now (to .exit) ≡ fillAt place p (λ j. getD (now (frame .entry)) (j * x + r) 0) (now (to .entry)) ⌝ }
+{
+    let mut j = 0;
+    while j < p {
+        to[place + j] = frame[j * x + r];
+        j += 1;
+    }
+}
+
+// A member into its column of the group frame that lies from a place on.
+fn column(
+    x: usize,
+    p: usize,
+    r: usize,
+    store: &[u8],
+    start: usize,
+    place: usize,
+    out: &mut [u8],
+)
+    requires { ⌜ (r < x) × (start + p ≤ length (now store)) × (place + x * p ≤ length (now out)) ⌝ }
+    ensures { λ _. ⌜ now (out .exit) ≡ drawn (area x place 0 p r 1) (λ k. getD (now (store .entry)) (start + (k - place) / x) 0) (now (out .entry)) ⌝ }
+{
+    let mut j = 0;
+    while j < p {
+        out[place + (j * x + r)] = store[start + j];
+        j += 1;
+    }
+}
+
+// Members that start anywhere in a store.
+pub(crate) fn join_from(
+    x: usize,
+    p: usize,
+    starts: &[usize],
+    store: &[u8],
+    place: usize,
+    out: &mut [u8],
+)
+    requires { ⌜ (x ≤ length (now starts)) × ((r : ℕ) → r < x → getD (now starts) r 0 + p ≤ length (now store)) × (place + x * p ≤ length (now out)) ⌝ }
+    ensures { λ _. ⌜ now (out .exit) ≡ fillAt place (x * p) (groupByte x (startedByte (now (starts .entry)) (now (store .entry)))) (now (out .entry)) ⌝ }
+{
+    let mut r = 0;
+    while r < x {
+        column(x, p, r, store, starts[r], place, out);
+        r += 1;
+    }
+}
