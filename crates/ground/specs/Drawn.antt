@@ -228,3 +228,6 @@ module _ {A : Type 0} where
   filling-piece {a} {n} m {f} g {d} {mid} out h e agree =
       filling a (n + m) f d out
       (e ∙ ap (λ (l : List A). fillAt (a + n) m g l) (h .is) ∙ fillAt-piece a n m f g f d (λ j b. refl) agree)
+
+  pub filling-all : {n : ℕ} {f : ℕ → A} {d out : List A} → Filling 0 n f d out → length d ≡ n → out ≡ tabulate n f
+  filling-all {n} {f} {d} h e = h .is ∙ fillAt-all n f d e

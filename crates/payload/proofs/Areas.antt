@@ -53,6 +53,7 @@ area-run X place l c m k h = same-test (area X place l 1 c m k) (within (place +
         let is : (k - place) / X ≡ l = omega arith in
         let whole = ap (λ (q : ℕ). q * X + (k - place) % X) (sym is) ∙ div-add-mod' (k - place) X in
         within-true (place + (l * X + c)) m k (omega arith) (omega arith)
+
     back : within (place + (l * X + c)) m k ≡ true → area X place l 1 c m k ≡ true
     back e =
         let w = within-said (place + (l * X + c)) m k e in
@@ -73,6 +74,7 @@ area-lines X place l n b i j c m k h₁ h₂ h₃ h₄ = same-test (area X place
         ⊎-elim (λ (g : area X place l n c m k ≡ true). let s = area-said X place l n c m k g in area-true X place l j c m k (omega arith))
         (λ (g : area X place b i c m k ≡ true). let s = area-said X place b i c m k g in area-true X place l j c m k (omega arith))
         (or-cases (area X place l n c m k) (area X place b i c m k) e)
+
     back : area X place l j c m k ≡ true → (area X place l n c m k || area X place b i c m k) ≡ true
     back e =
         let s = area-said X place l j c m k e in
@@ -90,6 +92,7 @@ area-columns X place l n c m b i j k h₁ h₂ h₃ h₄ = same-test (area X pla
         ⊎-elim (λ (g : area X place l n c m k ≡ true). let s = area-said X place l n c m k g in area-true X place l n c j k (omega arith))
         (λ (g : area X place l n b i k ≡ true). let s = area-said X place l n b i k g in area-true X place l n c j k (omega arith))
         (or-cases (area X place l n c m k) (area X place l n b i k) e)
+
     back : area X place l n c j k ≡ true → (area X place l n c m k || area X place l n b i k) ≡ true
     back e =
         let s = area-said X place l n c j k e in
@@ -108,14 +111,15 @@ area-all X P place k = same-test (area X place 0 P 0 X k) (within place (X * P) 
         let r : (k - place) % X < X = omega arith in
         let b : (k - place) / X * X + (k - place) % X < P * X = digits-lt q r in
         within-true place (X * P) k (s .above) (omega (arith, div-add-mod' (k - place) X, mul-comm X P))
+
     back : within place (X * P) k ≡ true → area X place 0 P 0 X k ≡ true
     back e =
         let w = within-said place (X * P) k e in
         ⊎-elim (λ (g : X ≡ 0). absurd (let z : X * P ≡ 0 = rw (g, zero-mul) in omega arith))
         (λ (g : 0 < X).
-            let q : (k - place) / X < P = div-lt-iff-lt-mul g .1 (omega (arith, mul-comm X P)) in
-            let r = mod-lt (k - place) g in
-            area-true X place 0 P 0 X k (omega arith))
+        let q : (k - place) / X < P = div-lt-iff-lt-mul g .1 (omega (arith, mul-comm X P)) in
+        let r = mod-lt (k - place) g in
+        area-true X place 0 P 0 X k (omega arith))
         (eq-zero-or-pos X)
 
 -- no line, no column

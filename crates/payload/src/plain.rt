@@ -4,8 +4,9 @@ ghost use Prim.Native.Nat.{ℕ, _+_, _-_, _*_, _/_, _%_, _≤_, _<_};
 ghost use lib.ListN.{length, getD};
 ghost use Rattle.ground.specs.Drawn.{drawn, fillAt};
 ghost use Rattle.payload.specs.Area.{area};
-ghost use Rattle.payload.specs.Order.{groupByte};
-ghost use Rattle.payload.specs.Joining.{startedByte};
+ghost use Rattle.payload.specs.Order.{groupByte, groupFrame};
+ghost use Rattle.payload.specs.Joining.{rankedByte, startedByte};
+ghost use Rattle.payload.specs.Spreading.{allMembers};
 
 // A member out of its group frame: byte j is the frame's byte j X + r.
 pub(crate) fn member(x: usize, p: usize, frame: &[u8], r: usize, place: usize, to: &mut [u8])
@@ -20,15 +21,7 @@ pub(crate) fn member(x: usize, p: usize, frame: &[u8], r: usize, place: usize, t
 }
 
 // A member into its column of the group frame that lies from a place on.
-fn column(
-    x: usize,
-    p: usize,
-    r: usize,
-    store: &[u8],
-    start: usize,
-    place: usize,
-    out: &mut [u8],
-)
+fn column(x: usize, p: usize, r: usize, store: &[u8], start: usize, place: usize, out: &mut [u8])
     requires { ⌜ (r < x) × (start + p ≤ length (now store)) × (place + x * p ≤ length (now out)) ⌝ }
     ensures { λ _. ⌜ now (out .exit) ≡ drawn (area x place 0 p r 1) (λ k. getD (now (store .entry)) (start + (k - place) / x) 0) (now (out .entry)) ⌝ }
 {
@@ -39,7 +32,7 @@ fn column(
     }
 }
 
-// Members that start anywhere in a store.
+// Members that start anywhere in a store, into a frame that lies from a place on.
 pub(crate) fn join_from(
     x: usize,
     p: usize,
@@ -53,7 +46,32 @@ pub(crate) fn join_from(
 {
     let mut r = 0;
     while r < x {
-        column(x, p, r, store, starts[r], place, out);
+        let start = starts[r];
+        column(x, p, r, store, start, place, out);
+        r += 1;
+    }
+}
+
+// Members one after the other, into a frame.
+pub(crate) fn join(x: usize, p: usize, members: &[u8], frame: &mut [u8])
+    requires { ⌜ (length (now members) ≡ x * p) × (length (now frame) ≡ x * p) ⌝ }
+    ensures { λ _. ⌜ now (frame .exit) ≡ groupFrame x p (rankedByte p (now (members .entry))) ⌝ }
+{
+    let mut r = 0;
+    while r < x {
+        column(x, p, r, members, r * p, 0, frame);
+        r += 1;
+    }
+}
+
+// A frame, into members one after the other.
+pub(crate) fn spread(x: usize, p: usize, frame: &[u8], members: &mut [u8])
+    requires { ⌜ (length (now frame) ≡ x * p) × (length (now members) ≡ x * p) ⌝ }
+    ensures { λ _. ⌜ now (members .exit) ≡ allMembers x p (now (frame .entry)) ⌝ }
+{
+    let mut r = 0;
+    while r < x {
+        member(x, p, frame, r, r * p, members);
         r += 1;
     }
 }

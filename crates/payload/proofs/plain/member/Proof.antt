@@ -1,5 +1,5 @@
 -- The invariant: the first j bytes are in place.
-use Prim.Native.Nat.{ℕ, _≤_, _-_, _+_, _*_}
+use Prim.Native.Nat.{ℕ, _≤_, _<_, _-_, _+_, _*_}
 use mathlib.Core.Path.{_≡_}
 use native.Mathlib.Omega.{arith}
 use lib.ListN.{length, getD}
@@ -15,17 +15,21 @@ Inv-loop x p frame r place to₀ j₀ to j = (j ≤ p) × Filling place j (λ i.
 abbrev μ-loop : tie.MeasureT-loop
 μ-loop x p frame r place to₀ j₀ to j = p - j
 
+inside : (c : tie.In-loop Inv-loop μ-loop)
+    → c .before .loop .j * c .before .before .args .x + c .before .before .args .r < c .before .before .args .x * c .before .before .args .p
+inside c = in-frame _ _ (c .before .loop .j) _ (omega arith) (omega arith)
+
 loop-holds : tie.Need-loop-holds Inv-loop μ-loop
 loop-holds c = (omega arith, filling-none _ _ _)
 
 mul-to : tie.Need-mul-to Inv-loop μ-loop
-mul-to c = let a = c .before .before .args in omega (arith, in-frame (a .x) (a .p) (c .before .loop .j) (a .r) (omega arith) (omega arith))
+mul-to c = omega (arith, inside c)
 
 add-to : tie.Need-add-to Inv-loop μ-loop
-add-to c = let a = c .before .before .args in omega (arith, in-frame (a .x) (a .p) (c .before .loop .j) (a .r) (omega arith) (omega arith))
+add-to c = omega (arith, inside c)
 
 shared-slice-read-to : tie.Need-shared-slice-read-to Inv-loop μ-loop
-shared-slice-read-to c = let a = c .before .before .before .args in omega (arith, in-frame (a .x) (a .p) (c .before .before .loop .j) (a .r) (omega arith) (omega arith))
+shared-slice-read-to c = omega (arith, inside (c .before))
 
 add-to-2 : tie.Need-add-to-2 Inv-loop μ-loop
 add-to-2 c = search needs
