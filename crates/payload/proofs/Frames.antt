@@ -7,11 +7,12 @@ use native.Mathlib.Nat.{mul-le-mul-right, suc-mul, zero-add}
 use native.Mathlib.Numerals.{add-one}
 use native.Mathlib.Omega.{arith}
 use lib.Arith.{digits-div, digits-mod}
-use lib.ListN.{getD}
-use borrow.Author.Tests.{lt-ltb}
-use Rattle.ground.specs.Drawn.{drawn, drawn-by, fillAt, Drawing, drawing-then, within, Filling, filling-piece}
+use lib.ListN.{length, getD}
+use borrow.Author.Tests.{lt-ltb, le-ltb}
+use Rattle.ground.specs.Drawn.{drawn, drawn-by, fillAt, Drawing, drawing-then, within, fillAt-all, Filling, filling-piece}
+use Rattle.ground.specs.Table.{tabulate, tabulate-ext}
 use Rattle.payload.specs.Area.{area}
-use Rattle.payload.specs.Order.{groupByte, memberByte}
+use Rattle.payload.specs.Order.{groupByte, memberByte, memberFrame}
 use Rattle.payload.proofs.Areas.{area-said, area-columns, area-all}
 
 module _ (X P place : ℕ) (m : ℕ → ℕ → ℕ) where
@@ -49,3 +50,11 @@ member-more X P r g {d} {mid} out h f e =
   where
     agree : (j : ℕ) → j < P → getD g (j * X + r) 0 ≡ memberByte X g ((r * P + j) / P) ((r * P + j) % P)
     agree j b = rw (digits-div r b, digits-mod r b, lt-ltb r X h)
+
+-- one member, ranked or not
+pub one-ranked : (X P r : ℕ) (g d out : List ℕ) → r < X → length d ≡ P → out ≡ fillAt 0 P (λ j. getD g (j * X + r) 0) d → out ≡ memberFrame X P g r
+one-ranked X P r g d out h l e =
+    e ∙ fillAt-all P (λ j. getD g (j * X + r) 0) d l ∙ tabulate-ext P (λ j. getD g (j * X + r) 0) (memberByte X g r) (λ j b. rw (lt-ltb r X h))
+
+pub one-rankless : (X P r n : ℕ) (g out : List ℕ) → X ≤ r → n ≡ P → out ≡ tabulate n (λ j. 0) → out ≡ memberFrame X P g r
+one-rankless X P r n g out h l e = e ∙ rw l (tabulate-ext P (λ j. 0) (memberByte X g r) (λ j b. rw (le-ltb r X h)))

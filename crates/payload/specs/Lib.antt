@@ -1,6 +1,6 @@
 pub mod Answers
 pub mod Area
+pub mod Fits
 pub mod Joining
 pub mod Order
-pub mod Sizes
 pub mod Spreading

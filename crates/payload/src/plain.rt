@@ -3,8 +3,9 @@ ghost use mathlib.Core.Path.{_≡_};
 ghost use Prim.Native.Nat.{ℕ, _+_, _-_, _*_, _/_, _%_, _≤_, _<_};
 ghost use lib.ListN.{length, getD};
 ghost use Rattle.ground.specs.Drawn.{drawn, fillAt};
+ghost use Rattle.ground.specs.Table.{tabulate};
 ghost use Rattle.payload.specs.Area.{area};
-ghost use Rattle.payload.specs.Order.{groupByte, groupFrame};
+ghost use Rattle.payload.specs.Order.{groupByte, groupFrame, memberFrame};
 ghost use Rattle.payload.specs.Joining.{rankedByte, startedByte};
 ghost use Rattle.payload.specs.Spreading.{allMembers};
 
@@ -73,5 +74,28 @@ pub(crate) fn spread(x: usize, p: usize, frame: &[u8], members: &mut [u8])
     while r < x {
         member(x, p, frame, r, r * p, members);
         r += 1;
+    }
+}
+
+// A member with no rank.
+fn clear(to: &mut [u8])
+    ensures { λ _. ⌜ now (to .exit) ≡ tabulate (length (now (to .entry))) (λ j. 0) ⌝ }
+{
+    let mut j = 0;
+    while j < to.len() {
+        to[j] = 0;
+        j += 1;
+    }
+}
+
+// A member of any rank.
+pub(crate) fn spread_one(x: usize, p: usize, r: usize, frame: &[u8], to: &mut [u8])
+    requires { ⌜ (length (now frame) ≡ x * p) × (length (now to) ≡ p) ⌝ }
+    ensures { λ _. ⌜ now (to .exit) ≡ memberFrame x p (now (frame .entry)) r ⌝ }
+{
+    if r < x {
+        member(x, p, frame, r, 0, to);
+    } else {
+        clear(to);
     }
 }

@@ -1,7 +1,7 @@
 use mathlib.Core.Path.{sym, _∙_}
 use native.Mathlib.Omega.{arith}
 use borrow.Author.Needs.{needs}
-use Rattle.payload.specs.Sizes.{sizes}
+use Rattle.payload.specs.Fits.{sizes, frame-most}
 use Rattle.payload.proofs.answer.from.Statement.{statement}
 use Rattle.payload.proofs.answer.from.Tie as tie
 
@@ -11,7 +11,7 @@ is-sized-requires c κs = search needs
 mul-ends-within : tie.Need-mul-ends-within
 mul-ends-within c =
     let a = c .before .before .before .args in
-    let s = sizes (a .x) (a .p) (sym (c .before .is-sized .ensures) ∙ c .if1 .taken) in
+    let s = frame-most (a .x) (a .p) (sizes (a .x) (a .p) (sym (c .before .is-sized .ensures) ∙ c .if1 .taken)) in
     omega arith
 
 ends-within-requires : tie.Need-ends-within-requires

@@ -1,7 +1,7 @@
 use mathlib.Core.Path.{sym, _∙_}
 use native.Mathlib.Omega.{arith}
 use borrow.Author.Needs.{needs}
-use Rattle.payload.specs.Sizes.{sizes}
+use Rattle.payload.specs.Fits.{sizes, frame-most}
 use Rattle.payload.proofs.answer.whole.Statement.{statement}
 use Rattle.payload.proofs.answer.whole.Tie as tie
 
@@ -9,7 +9,7 @@ is-sized-requires : tie.Need-is-sized-requires
 is-sized-requires c κs = search needs
 
 mul-n : tie.Need-mul-n
-mul-n c = let a = c .before .before .args in let s = sizes (a .x) (a .p) (sym (c .before .is-sized .ensures) ∙ c .if1 .taken) in omega arith
+mul-n c = let a = c .before .before .args in let s = frame-most (a .x) (a .p) (sizes (a .x) (a .p) (sym (c .before .is-sized .ensures) ∙ c .if1 .taken)) in omega arith
 
 by-lengths-requires : tie.Need-by-lengths-requires
 by-lengths-requires c κs = search needs
