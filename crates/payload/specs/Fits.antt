@@ -6,15 +6,17 @@ use Prim.Native.Nat.{ℕ, zero, suc, _+_, _*_, _≤_, _<_}
 use native.Mathlib.Nat.{mul-le-mul}
 use native.Mathlib.Omega.{arith}
 use lib.Dec.{eqb, leb}
-use lib.ListN.{getD}
+use lib.ListN.{length, getD}
 use borrow.Author.Tests.{eqb-true, eq-eqb, leb-true, le-leb}
+use Rattle.ground.specs.Drawn.{fillAt}
 use Rattle.ground.specs.Finite.{below-at}
 use Rattle.ground.specs.Truth.{and-true, and-left, and-right}
 use Rattle.payload.specs.declared.answer.Answer.{Answer}
 use Rattle.payload.specs.declared.answer.Answer.the-variants.{Done, Range, Length}
 use Rattle.payload.specs.Answers.{answerBy, numberOf, sized}
-use Rattle.payload.specs.Joining.{wholeAnswer, startsFit, fromAnswer}
-use Rattle.payload.specs.Spreading.{oneAnswer}
+use Rattle.payload.specs.Joining.{wholeAnswer, rankedByte, joined, startedByte, startsFit, fromAnswer, joinedFrom}
+use Rattle.payload.specs.Order.{groupByte, groupFrame, memberFrame}
+use Rattle.payload.specs.Spreading.{allMembers, spreadAll, oneAnswer, spreadOne}
 
 pub record Sizes (X P : ℕ) : Type 0 where
   pub ranks : X ≤ 64
@@ -119,3 +121,18 @@ module _ (X P : ℕ) (starts : List ℕ) (store place out : ℕ) where
   from-done f =
       by-both (sized X P) (leb (place + X * P) out && startsFit X P starts store) (are-sized X P (f .size))
       (and-true (leb (place + X * P) out) (startsFit X P starts store) (le-leb (place + X * P) out (f .frame-in)) (starts-fit X P starts store (f .members-in)))
+
+-- what is done under 0
+pub spread-done : (X P : ℕ) (frame members : List ℕ) → Sizes X P → length frame ≡ X * P → length members ≡ X * P → spreadAll X P frame members ≡ allMembers X P frame
+spread-done X P frame members s lf lm = rw (whole-done X P (length frame) (length members) (record { size = s; from-is = lf; to-is = lm })) refl
+
+pub joined-done : (X P : ℕ) (members frame : List ℕ) → Sizes X P → length members ≡ X * P → length frame ≡ X * P
+    → joined X P members frame ≡ groupFrame X P (rankedByte P members)
+joined-done X P members frame s lm lf = rw (whole-done X P (length members) (length frame) (record { size = s; from-is = lm; to-is = lf })) refl
+
+pub spread-one-done : (X P r : ℕ) (frame member : List ℕ) → Sizes X P → length frame ≡ X * P → length member ≡ P → spreadOne X P r frame member ≡ memberFrame X P frame r
+spread-one-done X P r frame member s lf lm = rw (one-done X P (length frame) (length member) (record { size = s; frame-is = lf; member-is = lm })) refl
+
+pub joined-from-done : (X P : ℕ) (starts store : List ℕ) (place : ℕ) (out : List ℕ) → FromFits X P starts (length store) place (length out)
+    → joinedFrom X P starts store place out ≡ fillAt place (X * P) (groupByte X (startedByte starts store)) out
+joined-from-done X P starts store place out f = rw (from-done X P starts (length store) place (length out) f) refl
