@@ -24,6 +24,14 @@ within-true a n k h b = and-true _ _ (le-leb a k h) (lt-ltb k (a + n) b)
 pub within-said : (a n k : ℕ) → within a n k ≡ true → (a ≤ k) × (k < a + n)
 within-said a n k e = (leb-true a k (and-left (leb a k) (ltb k (a + n)) e), ltb-true k (a + n) (and-right (leb a k) (ltb k (a + n)) e))
 
+pub within-one : (p k : ℕ) → eqb k p ≡ within p 1 k
+within-one p k =
+    same-test (eqb k p) (within p 1 k) (λ e. let i = eqb-true k p e in within-true p 1 k (omega arith) (omega arith))
+    (λ e. let w = within-said p 1 k e in eq-eqb k p (omega arith))
+
+pub within-none : (a k : ℕ) → within a 0 k ≡ false
+within-none a k = fails (within a 0 k) (λ e. let w = within-said a 0 k e in omega arith)
+
 module _ {A : Type 0} where
   abbrev pub drawn : (ℕ → Bool) → (ℕ → A) → List A → List A
   drawn t f [] = []
@@ -87,6 +95,33 @@ module _ {A : Type 0} where
       first false true = refl
       first false false = refl
 
+  -- What a loop's invariant says of its slice. The length stands beside the equation, for the arithmetic of indices.
+  pub record Drawing (t : ℕ → Bool) (f : ℕ → A) (d out : List A) : Type 0 where
+    pub len : length out ≡ length d
+    pub is : out ≡ drawn t f d
+
+  pub drawing : (t : ℕ → Bool) (f : ℕ → A) (d out : List A) → out ≡ drawn t f d → Drawing t f d out
+  drawing t f d out e = record { len = ap length e ∙ length-drawn t f d; is = e }
+
+  pub drawing-none : (t : ℕ → Bool) (f : ℕ → A) (d : List A) → ((k : ℕ) → t k ≡ false) → Drawing t f d d
+  drawing-none t f d h = drawing t f d d (sym (drawn-none t f d (λ k b. h k)))
+
+  -- a store at p
+  pub drawing-put : {t : ℕ → Bool} {f : ℕ → A} {d out : List A} (u : ℕ → Bool) (p : ℕ) (v : A) → Drawing t f d out
+      → v ≡ f p → ((k : ℕ) → (t k || eqb k p) ≡ u k) → Drawing u f d (set out p v)
+  drawing-put {t} {f} {d} {out} u p v h e same =
+      drawing u f d (set out p v)
+      (ap (λ (l : List A). set l p v) (h .is) ∙ ap (λ (w : A). set (drawn t f d) p w) e ∙ drawn-put t f d p
+      ∙ drawn-by (λ k. t k || eqb k p) u f f d (λ k b. same k) (λ k b w. refl))
+
+  -- the drawing of another loop
+  pub drawing-then : {t : ℕ → Bool} {f : ℕ → A} {d mid : List A} (v u : ℕ → Bool) (g : ℕ → A) (out : List A) → Drawing t f d mid
+      → out ≡ drawn u g mid → ((k : ℕ) → u k ≡ true → g k ≡ f k) → ((k : ℕ) → (t k || u k) ≡ v k) → Drawing v f d out
+  drawing-then {t} {f} {d} {mid} v u g out h e agree same =
+      drawing v f d out
+      (e ∙ ap (λ (l : List A). drawn u g l) (h .is) ∙ drawn-by u u g f (drawn t f d) (λ k b. refl) (λ k b. agree k) ∙ drawn-then t u f d
+      ∙ drawn-by (λ k. t k || u k) v f f d (λ k b. same k) (λ k b w. refl))
+
   -- the n places from a on
   abbrev pub fillAt : ℕ → ℕ → (ℕ → A) → List A → List A
   fillAt a n f d = drawn (within a n) (λ k. f (k - a)) d
@@ -111,7 +146,7 @@ module _ {A : Type 0} where
       drawn-by (within a n) (within a n) (λ k. f (k - a)) (λ k. g (k - a)) d (λ k b. refl) (λ k b e. let w = within-said a n k e in h (k - a) (omega arith))
 
   pub fillAt-none : (a : ℕ) (f : ℕ → A) (d : List A) → fillAt a 0 f d ≡ d
-  fillAt-none a f d = drawn-none (within a 0) (λ k. f (k - a)) d (λ k b. fails _ (λ e. let w = within-said a 0 k e in omega arith))
+  fillAt-none a f d = drawn-none (within a 0) (λ k. f (k - a)) d (λ k b. within-none a k)
 
   -- the whole list
   pub fillAt-all : (n : ℕ) (f : ℕ → A) (d : List A) → length d ≡ n → fillAt 0 n f d ≡ tabulate n f
@@ -172,3 +207,27 @@ module _ {A : Type 0} where
           ⊎-elim (λ (q : a + n ≤ k). or-right (within a n k) _ (within-true (a + n) m k q (omega arith)))
           (λ (q : k < a + n). or-left _ (within (a + n) m k) (within-true a n k (omega arith) q))
           (le-or-lt (a + n) k)
+
+  -- the same of a loop that stores f 0, f 1, .. from a on
+  pub record Filling (a n : ℕ) (f : ℕ → A) (d out : List A) : Type 0 where
+    pub len : length out ≡ length d
+    pub is : out ≡ fillAt a n f d
+
+  pub filling : (a n : ℕ) (f : ℕ → A) (d out : List A) → out ≡ fillAt a n f d → Filling a n f d out
+  filling a n f d out e = record { len = ap length e ∙ length-fillAt a n f d; is = e }
+
+  pub filling-none : (a : ℕ) (f : ℕ → A) (d : List A) → Filling a 0 f d d
+  filling-none a f d = filling a 0 f d d (sym (fillAt-none a f d))
+
+  pub filling-more : {a n : ℕ} {f : ℕ → A} {d out : List A} → Filling a n f d out → Filling a (n + 1) f d (set out (a + n) (f n))
+  filling-more {a} {n} {f} {d} {out} h =
+      filling a (n + 1) f d (set out (a + n) (f n)) (ap (λ (l : List A). set l (a + n) (f n)) (h .is) ∙ fillAt-put a n f d)
+
+  pub filling-piece : {a n : ℕ} (m : ℕ) {f : ℕ → A} (g : ℕ → A) {d mid : List A} (out : List A) → Filling a n f d mid
+      → out ≡ fillAt (a + n) m g mid → ((j : ℕ) → j < m → g j ≡ f (n + j)) → Filling a (n + m) f d out
+  filling-piece {a} {n} m {f} g {d} {mid} out h e agree =
+      filling a (n + m) f d out
+      (e ∙ ap (λ (l : List A). fillAt (a + n) m g l) (h .is) ∙ fillAt-piece a n m f g f d (λ j b. refl) agree)
+
+  pub filling-all : {n : ℕ} {f : ℕ → A} {d out : List A} → Filling 0 n f d out → length d ≡ n → out ≡ tabulate n f
+  filling-all {n} {f} {d} h e = h .is ∙ fillAt-all n f d e

@@ -1,0 +1,50 @@
+use mathlib.Core.Path.{refl, sym, _∙_}
+use lib.ListN.{length}
+use borrow.Author.Needs.{needs}
+use Rattle.payload.specs.Fits.{whole-fits}
+use Rattle.payload.proofs.join.Statement.{statement}
+use Rattle.payload.proofs.join.Tie as tie
+
+whole-requires : tie.Need-whole-requires
+whole-requires c κs = search needs
+
+enum-told : tie.Need-enum-told
+enum-told c = search needs
+
+join-requires : tie.Need-join-requires
+join-requires c κs =
+    let a = c .before .before .before .before .before .before .args in
+    let f = whole-fits (a .x) (a .p) (length (a .members .now)) (length (a .frame .now)) (sym (c .before .before .before .whole .ensures) ∙ c .before .enum-told .given .1) in
+    (f .from-is, f .to-is)
+
+enum-told-2 : tie.Need-enum-told-2
+enum-told-2 c = search needs
+
+enum-told-3 : tie.Need-enum-told-3
+enum-told-3 c = search needs
+
+same-length : tie.Need-same-length
+same-length c = search needs
+
+returns : tie.Need-returns
+returns c = rw (sym (c .before .before .before .before .before .before .whole .ensures) ∙ c .before .before .before .before .enum-told .given .1) (refl, c .before .before .join .ensures)
+
+returns-2 : tie.Need-returns-2
+returns-2 c = rw (sym (c .before .before .whole .ensures) ∙ c .enum-told2 .given .1) (refl, refl)
+
+returns-3 : tie.Need-returns-3
+returns-3 c = rw (sym (c .before .before .whole .ensures) ∙ c .enum-told3 .given .1) (refl, refl)
+
+pub join-spec : {M : Type 1} → statement M
+join-spec =
+    tie.close
+    (tie.spec
+    whole-requires
+    enum-told
+    join-requires
+    enum-told-2
+    enum-told-3
+    same-length
+    returns
+    returns-2
+    returns-3)

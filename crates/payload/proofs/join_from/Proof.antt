@@ -1,0 +1,59 @@
+use mathlib.Core.Path.{refl, sym, _∙_}
+use native.Mathlib.Omega.{arith}
+use lib.ListN.{length}
+use borrow.Author.Needs.{needs}
+use Rattle.payload.specs.Fits.{from-fits}
+use Rattle.payload.proofs.join_from.Statement.{statement}
+use Rattle.payload.proofs.join_from.Tie as tie
+
+slice-aggregate-from : tie.Need-slice-aggregate-from
+slice-aggregate-from c = search needs
+
+from-requires : tie.Need-from-requires
+from-requires c κs = search needs
+
+enum-told : tie.Need-enum-told
+enum-told c = search needs
+
+slice-aggregate-join-from : tie.Need-slice-aggregate-join-from
+slice-aggregate-join-from c = search needs
+
+join-from-requires : tie.Need-join-from-requires
+join-from-requires c κs =
+    let a = c .before .before .before .before .before .before .before .before .args in
+    let f = from-fits (a .x) (a .p) (a .t3) (length (a .store .now)) (a .place) (length (a .out .now)) (sym (c .before .before .before .before .from .ensures) ∙ c .before .before .enum-told .given .1) in
+    (omega arith, f .members-in, f .frame-in)
+
+enum-told-2 : tie.Need-enum-told-2
+enum-told-2 c = search needs
+
+enum-told-3 : tie.Need-enum-told-3
+enum-told-3 c = search needs
+
+same-length : tie.Need-same-length
+same-length c = search needs
+
+returns : tie.Need-returns
+returns c = rw (sym (c .before .before .before .before .before .before .before .from .ensures) ∙ c .before .before .before .before .before .enum-told .given .1) (refl, c .before .before .join-from .ensures)
+
+returns-2 : tie.Need-returns-2
+returns-2 c = rw (sym (c .before .before .from .ensures) ∙ c .enum-told2 .given .1) (refl, refl)
+
+returns-3 : tie.Need-returns-3
+returns-3 c = rw (sym (c .before .before .from .ensures) ∙ c .enum-told3 .given .1) (refl, refl)
+
+pub join-from-spec : {M : Type 1} → statement M
+join-from-spec =
+    tie.close
+    (tie.spec
+    slice-aggregate-from
+    from-requires
+    enum-told
+    slice-aggregate-join-from
+    join-from-requires
+    enum-told-2
+    enum-told-3
+    same-length
+    returns
+    returns-2
+    returns-3)

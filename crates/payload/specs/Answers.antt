@@ -1,0 +1,27 @@
+-- What spreading and joining answer (01, 'Answer numbers'): 4, then 9.
+use mathlib.Core.Bool.{Bool, cond, _&&_}
+use Prim.Native.Nat.{ℕ, _*_}
+use lib.Dec.{eqb, leb}
+use Rattle.payload.specs.declared.answer.Answer.{Answer}
+use Rattle.payload.specs.declared.answer.Answer.the-variants.{Done, Range, Length}
+
+-- 01's number for each answer
+abbrev pub numberOf : Answer → ℕ
+numberOf Done = 0
+numberOf Range = 4
+numberOf Length = 9
+
+-- 'Lent bytes change only under 0.'
+module _ {A : Type 0} where
+  abbrev pub underDone : Answer → A → A → A
+  underDone Done new old = new
+  underDone Range new old = old
+  underDone Length new old = old
+
+-- 4 is for 'X above 64, or P', and P goes 'from 1 to 2,340'.
+abbrev pub sized : ℕ → ℕ → Bool
+sized X P = leb X 64 && leb 1 P && leb P 2340
+
+-- The order of 01's numbers: first the sizes, then the lengths.
+abbrev pub answerBy : Bool → Bool → Answer
+answerBy sizes lengths = cond sizes (cond lengths Done Length) Range
