@@ -7,6 +7,10 @@ use lib.ListN.{length}
 use Rattle.packet.specs.declared.layout.Fields.{Fields}
 use Rattle.packet.specs.Reading.{readAnswer, readingNumber}
 use Rattle.packet.specs.Writing.{writeAnswer, writeBytes, writingNumber}
+use Rattle.payload.specs.Answers.{numberOf}
+use Rattle.payload.specs.Joining.{joined, wholeAnswer}
+use Rattle.payload.specs.Spreading.{spreadAll}
+use Rattle.card.specs.Payloads.{joinAnswerC, joinFrameC, spreadAnswerC, spreadMembersC}
 use Rattle.card.specs.Packets.{readAnswerC, readFieldsC, valuesOr, writeAnswerC, writeBytesC}
 
 -- levelspruce_packet_write is packet::write on fields that are bytes
@@ -20,3 +24,14 @@ pub read-own : (h4 fields : List ℕ) → length fields ≡ 6
     → (readAnswerC h4 fields ≡ readingNumber (readAnswer h4)) × (readFieldsC h4 fields ≡ valuesOr (readAnswer h4) fields)
 unfolding readAnswerC readFieldsC
 read-own h4 fields h = rw (eq-eqb (length fields) 6 h) (refl, refl)
+
+-- levelspruce_spread and levelspruce_join are payload::spread and payload::join
+pub spread-own : (x p : ℕ) (frame members : List ℕ)
+    → (spreadAnswerC x p frame members ≡ numberOf (wholeAnswer x p (length frame) (length members)))
+    × (spreadMembersC x p frame members ≡ spreadAll x p frame members)
+spread-own x p frame members = (refl, refl)
+
+pub join-own : (x p : ℕ) (members frame : List ℕ)
+    → (joinAnswerC x p members frame ≡ numberOf (wholeAnswer x p (length members) (length frame)))
+    × (joinFrameC x p members frame ≡ joined x p members frame)
+join-own x p members frame = (refl, refl)

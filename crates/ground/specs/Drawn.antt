@@ -1,7 +1,7 @@
 -- A list rewritten at some of its places, in any order: what stands in a lent slice after some of a loop's stores.
 -- `drawn t f d` is d with f k at each place k that the test t names. All laws are over the test; a run of places that
 -- starts anywhere (`fillAt`) is the instance that most loops want.
-use mathlib.Core.Path.{_≡_, refl, ap, _∙_}
+use mathlib.Core.Path.{_≡_, refl, sym, ap, _∙_}
 use mathlib.Core.Logic.{⊎-elim, _≢_}
 use mathlib.Core.Bool.{Bool, true, false, cond, _&&_, _||_, or-false, or-true}
 use mathlib.Core.List.{List, [], _∷_}

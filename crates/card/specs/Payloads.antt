@@ -1,0 +1,19 @@
+-- The payload's C calls in terms of the payload's own: any 32 bits may come as X or P.
+use mathlib.Core.List.{List}
+use Prim.Native.Nat.{ℕ}
+use lib.ListN.{length}
+use Rattle.payload.specs.Answers.{numberOf}
+use Rattle.payload.specs.Joining.{joined, wholeAnswer}
+use Rattle.payload.specs.Spreading.{spreadAll}
+
+abbrev pub spreadAnswerC : ℕ → ℕ → List ℕ → List ℕ → ℕ
+spreadAnswerC x p frame members = numberOf (wholeAnswer x p (length frame) (length members))
+
+abbrev pub spreadMembersC : ℕ → ℕ → List ℕ → List ℕ → List ℕ
+spreadMembersC x p frame members = spreadAll x p frame members
+
+abbrev pub joinAnswerC : ℕ → ℕ → List ℕ → List ℕ → ℕ
+joinAnswerC x p members frame = numberOf (wholeAnswer x p (length members) (length frame))
+
+abbrev pub joinFrameC : ℕ → ℕ → List ℕ → List ℕ → List ℕ
+joinFrameC x p members frame = joined x p members frame
