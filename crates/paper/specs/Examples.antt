@@ -9,6 +9,9 @@ use Rattle.packet.specs.Layout.{byteOf, carriedIn, dataOf, fieldsOf, h4Of, high
 use Rattle.packet.specs.Reading.{readAnswer, readNibbles, readingNumber, readingValues}
 use Rattle.packet.specs.Words.{EOS, IDLE, assigned}
 use Rattle.packet.specs.Writing.{fitting, writeAnswer, writeBytes, writingNumber}
+use Rattle.payload.specs.Answers.{numberOf}
+use Rattle.payload.specs.Joining.{joined, wholeAnswer}
+use Rattle.payload.specs.Spreading.{spreadAll}
 use Rattle.paper.specs.Rows.{Row, Equal, equal-rows}
 
 -- nibbles two by two, as 01 writes a packet's data and CRC
@@ -44,6 +47,22 @@ table =
     }
     ∷ record { name = "P3 CRC of 56 zero bits"; given = crcOf (replicate 14 0) ∷ []; said = 0x00 ∷ [] }
     ∷ record { name = "P4 CRC of the last bit alone"; given = crcOf (replicate 13 0 ++ (1 ∷ [])) ∷ []; said = 0x07 ∷ [] }
+    ∷ record {
+      name = "P6 spread: X 3, P 2, bytes 0 to 5";
+      given = numberOf (wholeAnswer 3 2 6 6) ∷ spreadAll 3 2 (0 ∷ 1 ∷ 2 ∷ 3 ∷ 4 ∷ 5 ∷ []) (replicate 6 0);
+      said = 0 ∷ 0 ∷ 3 ∷ 1 ∷ 4 ∷ 2 ∷ 5 ∷ [];
+    }
+    ∷ record {
+      name = "P6 joined";
+      given = numberOf (wholeAnswer 3 2 6 6) ∷ joined 3 2 (0 ∷ 3 ∷ 1 ∷ 4 ∷ 2 ∷ 5 ∷ []) (replicate 6 0);
+      said = 0 ∷ 0 ∷ 1 ∷ 2 ∷ 3 ∷ 4 ∷ 5 ∷ [];
+    }
+    ∷ record { name = "P7: X 0, nothing"; given = numberOf (wholeAnswer 0 2 0 0) ∷ spreadAll 0 2 [] []; said = 0 ∷ [] }
+    ∷ record { name = "64 members"; given = numberOf (wholeAnswer 64 1 64 64) ∷ []; said = 0 ∷ [] }
+    ∷ record { name = "65 members"; given = numberOf (wholeAnswer 65 1 65 65) ∷ []; said = 4 ∷ [] }
+    ∷ record { name = "P of 0"; given = numberOf (wholeAnswer 0 0 0 0) ∷ []; said = 4 ∷ [] }
+    ∷ record { name = "P of 2,340"; given = numberOf (wholeAnswer 1 2340 2340 2340) ∷ []; said = 0 ∷ [] }
+    ∷ record { name = "P of 2,341"; given = numberOf (wholeAnswer 1 2341 2341 2341) ∷ []; said = 4 ∷ [] }
     ∷ []
 
 pub examples : Equal table

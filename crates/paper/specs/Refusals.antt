@@ -1,12 +1,59 @@
 -- Every entry point's refusals (demand 1), in one table under one statement.
 pub mod Packets
+pub mod Payloads
 use mathlib.Core.List.{List, [], _∷_}
 use Rattle.paper.specs.Entries.{Entry, AllCope}
 use Packets.{write, write-copes, read, read-copes, readNibblesEntry, readNibbles-copes, writeC, writeC-copes, readC, readC-copes}
+use Payloads.{spread, spread-copes, join, join-copes, spreadOneMember, spreadOne-copes, joinFrom, joinFrom-copes, spreadC, spreadC-copes, joinC, joinC-copes}
 
 pub table : List Entry
-table = write ∷ read ∷ readNibblesEntry ∷ writeC ∷ readC ∷ []
+table =
+    write
+    ∷ read
+    ∷ readNibblesEntry
+    ∷ spread
+    ∷ join
+    ∷ spreadOneMember
+    ∷ joinFrom
+    ∷ writeC
+    ∷ readC
+    ∷ spreadC
+    ∷ joinC
+    ∷ []
 
 pub entries : AllCope table
 unfolding table
-entries = (write-copes, (read-copes, (readNibbles-copes, (writeC-copes, (readC-copes, tt)))))
+entries = (
+  write-copes,
+  (
+    read-copes,
+    (
+      readNibbles-copes,
+      (
+        spread-copes,
+        (
+          join-copes,
+          (
+            spreadOne-copes,
+            (
+              joinFrom-copes,
+              (
+                writeC-copes,
+                (
+                  readC-copes,
+                  (
+                    spreadC-copes,
+                    (
+                      joinC-copes,
+                      tt,
+                    ),
+                  ),
+                ),
+              ),
+            ),
+          ),
+        ),
+      ),
+    ),
+  ),
+)
