@@ -30,7 +30,7 @@ abbrev pub power : List Bool → ℕ → List Bool
 power g zero = bring g (zeros (length g)) true
 power g (suc k) = bring g (power g k) false
 
--- What a divisor must be to catch up to three changed bits of n: 1 is a root of it, no power of x below the n-th is 1, and times x keeps a remainder from being 0.
+-- What a divisor must be to catch up to three changed bits of n: 1 is a root of it, no power of x from the first to the n-th is 1, and times x keeps a remainder from being 0.
 pub record Strong (g : List Bool) (n : ℕ) : Type 0 where
   pub some : 0 < length g
   pub root : parity g ≡ true

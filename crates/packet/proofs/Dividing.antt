@@ -1,7 +1,7 @@
 -- The steps of the CRC on bytes are those of the division on bits.
 use mathlib.Core.Path.{_≡_, refl, _∙_, sym, ap}
 use mathlib.Core.Bool.{Bool, true, false, cond, _&&_}
-use mathlib.Core.List.{List, [], _∷_, _++_, append-assoc, append-nil}
+use mathlib.Core.List.{List, [], _∷_, _++_, append-nil}
 use Prim.Native.Nat.{ℕ, zero, suc, _+_, _*_, _/_, _%_, _<_}
 use native.Mathlib.Nat.{div-one}
 use native.Mathlib.Omega.{arith}
@@ -14,6 +14,7 @@ use Rattle.ground.specs.Division.{remainder-append}
 use Rattle.ground.specs.Finite.{below, below-at, sameBits, same-bits}
 use Rattle.ground.specs.Truth.{and-left, and-right}
 use Rattle.ground.specs.Polynomial.{remainder, zeros}
+use Rattle.packet.specs.Laws.Bytes.{bits-append}
 use Rattle.packet.specs.Crc.{divisor, byteBits, nibbleBits, bitsOf, brought, crcOf}
 
 -- what the code makes of a byte and a bit
@@ -45,8 +46,7 @@ unfolding nibbleBits
 four r n = ap (λ (m : ℕ). brought (brought (brought (brought (byteBits r) (odd (n / 8))) (odd (n / 4))) (odd (n / 2))) (odd m)) (div-one n)
 
 bits-more : (ns : List ℕ) (n : ℕ) → bitsOf (ns ++ (n ∷ [])) ≡ bitsOf ns ++ nibbleBits n
-bits-more [] n = append-nil (nibbleBits n)
-bits-more (m ∷ ns) n = ap (λ l. nibbleBits m ++ l) (bits-more ns n) ∙ sym (append-assoc (nibbleBits m) (bitsOf ns) (nibbleBits n))
+bits-more ns n = bits-append ns (n ∷ []) ∙ ap (λ l. bitsOf ns ++ l) (append-nil (nibbleBits n))
 
 -- one nibble more
 pub one-more : (ns : List ℕ) (i r s : ℕ) → i < length ns → byteBits r ≡ remainder divisor (zeros 8) (bitsOf (take i ns))

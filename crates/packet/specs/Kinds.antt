@@ -46,10 +46,10 @@ epochOf kind t = (t + lead kind) % tags kind / frames kind
 unfoldable pub firstTag : ℕ → ℕ → ℕ
 firstTag kind e = (e * frames kind + (tags kind - lead kind)) % tags kind
 
--- 'MST in epoch e speaks of numbers 8 x (e mod 32) to that plus 7'
+-- 'MST in epoch e speaks of numbers 8 x (e mod 32)': the first of them
 unfoldable pub mstFirst : ℕ → ℕ → ℕ
 mstFirst kind e = 8 * (e % 32)
 
--- 'first bit the lowest. 0 is OK, 1 is FAIL'
+-- 'first bit the lowest. 0 is OK, 1 is FAIL', of a number that the epoch speaks of
 unfoldable pub mstFails : ℕ → ℕ → Bool
 mstFails mst q = odd (mst / 2 ^ (7 - q % 8))

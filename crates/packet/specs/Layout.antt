@@ -62,8 +62,8 @@ fieldsOf ns =
     }
 
 -- the 26 bits that no field has
-unfoldable pub spareOf : List ℕ → ℕ
-spareOf ns =
+unfoldable pub reservedOf : List ℕ → ℕ
+reservedOf ns =
     getD ns 2 0 % 16 / 2 * 2 ^ 23
     + getD ns 3 0 % 16 * 2 ^ 19
     + getD ns 4 0 % 16 * 2 ^ 15

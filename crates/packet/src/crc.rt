@@ -22,7 +22,7 @@ fn bring_nibble(rest: u8, nibble: u8) -> u8
     bring(third, nibble)
 }
 
-pub fn crc(nibbles: [u8; 16]) -> u8
+pub(crate) fn crc(nibbles: [u8; 16]) -> u8
     ensures { λ r. ⌜ r ≡ crcOf (take 14 nibbles) ⌝ }
 {
     let mut rest = 0;

@@ -49,14 +49,14 @@ pub fn first_tag(kind: u8, epoch: u8) -> u16
     (epoch as u16 * 16 + 4088) % 4096
 }
 
-// The first of the eight numbers that MST speaks of in an epoch.
+// The first of the numbers that MST speaks of in an epoch.
 pub fn mst_first(kind: u8, epoch: u8) -> u8
     ensures { λ r. ⌜ r ≡ mstFirst kind epoch ⌝ }
 {
     epoch % 32 * 8
 }
 
-// What MST says of a number of its block.
+// What MST says of a number that it speaks of: one of the mst_numbers from mst_first on.
 pub fn mst_fails(mst: u8, number: u8) -> bool
     ensures { λ r. ⌜ r ≡ mstFails mst number ⌝ }
 {

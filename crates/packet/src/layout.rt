@@ -20,13 +20,13 @@ fn byte_of(high: u8, low: u8) -> u8
     high % 16 * 16 + low % 16
 }
 
-pub fn carried_in(nibbles: [u8; 16]) -> u8
+pub(crate) fn carried_in(nibbles: [u8; 16]) -> u8
     ensures { λ r. ⌜ r ≡ carriedIn nibbles ⌝ }
 {
     byte_of(nibbles[14], nibbles[15])
 }
 
-pub fn fields_of(nibbles: [u8; 16]) -> Fields
+pub(crate) fn fields_of(nibbles: [u8; 16]) -> Fields
     ensures { λ r. ⌜ r ≡ fieldsOf nibbles ⌝ }
 {
     Fields {
@@ -63,7 +63,7 @@ fn data_of(fields: Fields) -> [u8; 16]
     ]
 }
 
-pub fn nibbles_of(fields: Fields) -> [u8; 16]
+pub(crate) fn nibbles_of(fields: Fields) -> [u8; 16]
     ensures { λ r. ⌜ r ≡ nibblesOf fields 0 ⌝ }
 {
     let mut nibbles = data_of(fields);
@@ -73,7 +73,7 @@ pub fn nibbles_of(fields: Fields) -> [u8; 16]
     nibbles
 }
 
-pub fn h4_of(nibbles: [u8; 16]) -> [u8; 16]
+pub(crate) fn h4_of(nibbles: [u8; 16]) -> [u8; 16]
     ensures { λ r. ⌜ r ≡ h4Of nibbles ⌝ }
 {
     [

@@ -1,6 +1,7 @@
 // Control words (01, 'The control packet'), each known by name.
 ghost use mathlib.Core.Path.{_≡_};
-ghost use Rattle.packet.specs.Words.{wordOf, nibbleOf, assigned};
+ghost use mathlib.Core.List.{[], _∷_};
+ghost use Rattle.packet.specs.Words.{FIXED, ADD, NORM, EOS, IDLE, DNU, wordOf, nibbleOf, assigned};
 
 pub struct Word(pub u8);
 
@@ -16,6 +17,20 @@ impl Word {
     pub const IDLE: Word = Word(5);
 
     pub const DNU: Word = Word(15);
+
+    // The six codes, in 01's order.
+    pub fn codes() -> [u8; 6]
+        ensures { λ r. ⌜ r ≡ FIXED ∷ ADD ∷ NORM ∷ EOS ∷ IDLE ∷ DNU ∷ [] ⌝ }
+    {
+        [
+            Word::FIXED.0,
+            Word::ADD.0,
+            Word::NORM.0,
+            Word::EOS.0,
+            Word::IDLE.0,
+            Word::DNU.0,
+        ]
+    }
 
     // The word in the low four bits of any byte.
     pub fn from_nibble(nibble: u8) -> Word

@@ -7,7 +7,7 @@ use Rattle.packet.specs.declared.layout.Fields.{Fields}
 use Rattle.packet.specs.Crc.{byteBits, crcOf, divisor, nibbleBits}
 use Rattle.packet.specs.Layout.{byteOf, carriedIn, dataOf, fieldsOf, h4Of, highsOf, nibblesOf, sealedOf}
 use Rattle.packet.specs.Reading.{readAnswer, readNibbles, readingNumber, readingValues}
-use Rattle.packet.specs.Words.{EOS, IDLE, assigned}
+use Rattle.packet.specs.Words.{FIXED, ADD, NORM, EOS, IDLE, DNU, assigned}
 use Rattle.packet.specs.Writing.{fitting, writeAnswer, writeBytes, writingNumber}
 use Rattle.payload.specs.Answers.{numberOf}
 use Rattle.payload.specs.Joining.{joined, wholeAnswer}
@@ -34,12 +34,17 @@ p1-h4 = 0xF8 ∷ 0xF9 ∷ 0x0A ∷ 0x0B ∷ 0x0C ∷ 0x0D ∷ 0xFE ∷ 0xFF ∷ 
 pub table : List Row
 table =
     record {
+      name = "control words FIXED, ADD, NORM, EOS, IDLE, DNU";
+      given = FIXED ∷ ADD ∷ NORM ∷ EOS ∷ IDLE ∷ DNU ∷ [];
+      said = 0 ∷ 1 ∷ 2 ∷ 3 ∷ 5 ∷ 15 ∷ [];
+    }
+    ∷ record {
       name = "P1 data and CRC";
       given = bytes (nibblesOf p1 0);
       said = 0xFF ∷ 0x00 ∷ 0x00 ∷ 0xFF ∷ 0x00 ∷ 0x50 ∷ 0x00 ∷ 0x99 ∷ [];
     }
     ∷ record { name = "P1 written"; given = writingNumber (writeAnswer p1 (replicate 16 0)) ∷ writeBytes p1 (replicate 16 0); said = 0 ∷ p1-h4 }
-    ∷ record { name = "P1 read"; given = readingNumber (readAnswer p1-h4) ∷ readingValues (readAnswer p1-h4); said = 0 ∷ 0 ∷ IDLE ∷ 0 ∷ 0xFF ∷ 0 ∷ 255 ∷ [] }
+    ∷ record { name = "P1 read"; given = readingNumber (readAnswer p1-h4) ∷ readingValues (readAnswer p1-h4); said = 0 ∷ 0 ∷ 5 ∷ 0 ∷ 0xFF ∷ 0 ∷ 255 ∷ [] }
     ∷ record {
       name = "P2 data and CRC";
       given = bytes (nibblesOf p2 0);

@@ -1,16 +1,16 @@
--- Every entry point's refusals (demand 1), in one table under one statement.
+-- The refusals of every entry point that can refuse (demand 1), in one table under one statement.
 pub mod Packets
 pub mod Payloads
 use mathlib.Core.List.{List, [], _∷_}
 use Rattle.paper.specs.Entries.{Entry, AllCope}
-use Packets.{write, write-copes, read, read-copes, readNibblesEntry, readNibbles-copes, writeC, writeC-copes, readC, readC-copes}
+use Packets.{write, write-copes, read, read-copes, readSixteen, readSixteen-copes, writeC, writeC-copes, readC, readC-copes}
 use Payloads.{spread, spread-copes, join, join-copes, spreadOneMember, spreadOne-copes, joinFrom, joinFrom-copes, spreadC, spreadC-copes, joinC, joinC-copes}
 
 pub table : List Entry
 table =
     write
     ∷ read
-    ∷ readNibblesEntry
+    ∷ readSixteen
     ∷ spread
     ∷ join
     ∷ spreadOneMember
@@ -28,7 +28,7 @@ entries = (
   (
     read-copes,
     (
-      readNibbles-copes,
+      readSixteen-copes,
       (
         spread-copes,
         (

@@ -10,10 +10,6 @@ use Rattle.ground.specs.Polynomial.{check}
 use Rattle.packet.specs.Crc.{divisor, nibbleBits, bitsOf, crcOf}
 use Rattle.packet.specs.Layout.{byteOf}
 
-pub nibble-bits-mod : (n : ℕ) → nibbleBits (n % 16) ≡ nibbleBits n
-unfolding nibbleBits
-nibble-bits-mod n = bits-mod 4 n
-
 -- a byte's bits are its two nibbles'
 pub byte-bits : (a b : ℕ) → bits 8 (byteOf a b) ≡ nibbleBits a ++ nibbleBits b
 unfolding nibbleBits

@@ -13,8 +13,8 @@ use Rattle.packet.specs.Crc.{bitsOf, crcOf, divisor, nibbleBits}
 use Rattle.packet.specs.Laws.Bounds.{Bounds}
 use Rattle.packet.specs.Laws.Bytes.{bits-append, byte-back, byte-bits, crc-bits, crc-lt, length-bits-of}
 use Rattle.packet.specs.Laws.Nibbles.{Nibbles, bits-tell, data-nibbles}
-use Rattle.packet.specs.Layout.{dataOf, fieldsOf, nibblesOf, sealedOf, spareOf}
-use Rattle.packet.specs.Theorems.ReadBack.{fields-back, spare-back}
+use Rattle.packet.specs.Layout.{dataOf, fieldsOf, nibblesOf, sealedOf, reservedOf}
+use Rattle.packet.specs.Theorems.ReadBack.{fields-back, reserved-back}
 
 -- x^8+x^2+x+1 catches up to three changed bits of 64
 pub strong : Strong divisor 64
@@ -49,5 +49,5 @@ packets-apart f g y z bf bg hy hz differ =
     data-apart (dataOf f y) (dataOf g z) (data-nibbles f y bf) (data-nibbles g z bg) refl refl
     (λ same. differ (
       sym (fields-back f y bf) ∙ ap (λ d. fieldsOf (sealedOf d)) same ∙ fields-back g z bg,
-      sym (spare-back f y bf hy) ∙ ap (λ d. spareOf (sealedOf d)) same ∙ spare-back g z bg hz,
+      sym (reserved-back f y bf hy) ∙ ap (λ d. reservedOf (sealedOf d)) same ∙ reserved-back g z bg hz,
     ))

@@ -13,11 +13,11 @@ pub record Writes (f : Fields) (h4 : List ℕ) (r : Writing) (t : List ℕ) : Ty
   pub answer : r ≡ writeAnswer f h4
   pub bytes : t ≡ writeBytes f h4
 
-pub write-only : (f : Fields) (h4 : List ℕ) (r q : Writing) (t u : List ℕ) → Writes f h4 r t → Writes f h4 q u → (r ≡ q) × (t ≡ u)
-write-only f h4 r q t u a b = (a .answer ∙ sym (b .answer), a .bytes ∙ sym (b .bytes))
+pub one-writing : (f : Fields) (h4 : List ℕ) (r q : Writing) (t u : List ℕ) → Writes f h4 r t → Writes f h4 q u → (r ≡ q) × (t ≡ u)
+one-writing f h4 r q t u a b = (a .answer ∙ sym (b .answer), a .bytes ∙ sym (b .bytes))
 
-pub read-only : (h4 : List ℕ) (r q : Reading) → r ≡ readAnswer h4 → q ≡ readAnswer h4 → r ≡ q
-read-only h4 r q a b = a ∙ sym b
+pub one-reading : (h4 : List ℕ) (r q : Reading) → r ≡ readAnswer h4 → q ≡ readAnswer h4 → r ≡ q
+one-reading h4 r q a b = a ∙ sym b
 
-pub read-nibbles-only : (ns : List ℕ) (r q : Reading) → r ≡ readNibbles ns → q ≡ readNibbles ns → r ≡ q
-read-nibbles-only ns r q a b = a ∙ sym b
+pub one-reading-of-nibbles : (ns : List ℕ) (r q : Reading) → r ≡ readNibbles ns → q ≡ readNibbles ns → r ≡ q
+one-reading-of-nibbles ns r q a b = a ∙ sym b

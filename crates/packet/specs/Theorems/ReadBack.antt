@@ -14,7 +14,7 @@ use Rattle.packet.specs.Crc.{crcOf}
 use Rattle.packet.specs.Laws.Bounds.{Bounds, bounds}
 use Rattle.packet.specs.Laws.Bytes.{byte-back, crc-lt}
 use Rattle.packet.specs.Laws.Nibbles.{packet-nibbles, highs-back}
-use Rattle.packet.specs.Layout.{carriedIn, dataOf, fieldsOf, h4Of, nibblesOf, sealedOf, spareOf}
+use Rattle.packet.specs.Layout.{carriedIn, dataOf, fieldsOf, h4Of, nibblesOf, sealedOf, reservedOf}
 use Rattle.packet.specs.Reading.{readAnswer, readNibbles}
 use Rattle.packet.specs.Writing.{fitting, writeAnswer, writeBytes}
 
@@ -52,9 +52,9 @@ digits z h =
         → x * 2 ^ 23 + w * 2 ^ 19 + v * 2 ^ 15 + u * 2 ^ 11 + t * 2 ^ 8 + s * 2 ^ 4 + r ≡ z
     sum a b c d e f r s t u v w x p q i j k l m = omega arith
 
-pub spare-back : (f : Fields) (z : ℕ) → Bounds f → z < 2 ^ 26 → spareOf (nibblesOf f z) ≡ z
-unfolding spareOf nibblesOf sealedOf dataOf
-spare-back f z b h =
+pub reserved-back : (f : Fields) (z : ℕ) → Bounds f → z < 2 ^ 26 → reservedOf (nibblesOf f z) ≡ z
+unfolding reservedOf nibblesOf sealedOf dataOf
+reserved-back f z b h =
     rw (above-bit (z / 2 ^ 23 % 8) (f .«rs_ack») (omega arith) (b .ack), above-bit (z / 2 ^ 8 % 8) (f .gid) (omega arith) (b .gid)) (digits z h)
 
 pub carried-back : (f : Fields) (z : ℕ) → carriedIn (nibblesOf f z) ≡ crcOf (take 14 (nibblesOf f z))

@@ -1,8 +1,12 @@
--- Tags of positions in an endless count of frames, for every kind of packet. All above tags cites these laws, and not a kind's numbers.
+-- Tags of positions in an endless count of frames. What stands above cites these laws, and not a kind's numbers: they are stated over the kind, of which there is one today.
 use mathlib.Core.Path.{_≡_, refl}
 use Prim.Native.Nat.{ℕ, _+_, _-_, _*_, _/_, _%_, _≤_, _<_}
 use native.Mathlib.Omega.{arith}
+use mathlib.Core.List.{List}
+use lib.ListN.{getD}
 use Rattle.ground.specs.Circle.{after-of, after-lt}
+use Rattle.ground.specs.Table.{getD-tabulate}
+use Rattle.packet.specs.Layout.{h4Of}
 use Rattle.packet.specs.Kinds.{distanceOf, epochAfter, epochOf, epochs, firstTag, frames, lead, placeOf, tagAfter, tags}
 
 -- the tag of the x-th frame after one with tag 0
@@ -43,3 +47,14 @@ next-epoch kind x = omega arith
 pub tags-are : (kind : ℕ) → epochs kind * frames kind ≡ tags kind
 unfolding epochs frames tags
 tags-are kind = refl
+
+-- 'A frame's tag is 16 x MFI2 + MFI1': multiframe m begins with tag 16 m, in the epoch that m names
+pub multiframe : (kind m : ℕ) → m < epochs kind → epochOf kind (frames kind * m) ≡ m
+unfolding epochOf lead frames tags epochs
+multiframe kind m h = omega arith
+
+-- the nibble of a packet that stands at a tag's place is sent with that tag's MFI1
+pub place-sent : (ns : List ℕ) (kind t : ℕ) → getD (h4Of ns) (placeOf kind t) 0 % 16 ≡ t % 16
+unfolding placeOf lead frames h4Of
+place-sent ns kind t =
+    rw (getD-tabulate 16 (λ i. getD ns i 0 % 16 * 16 + (i + 8) % 16) ((t + 8) % 16) 0 (omega arith)) (omega arith)

@@ -124,8 +124,8 @@ reads-untouched true Crc s d = refl
 reads-untouched true Fixed s d = refl
 reads-untouched true Unassigned s d = refl
 
-abbrev pub readNibblesEntry : Entry
-readNibblesEntry =
+abbrev pub readSixteen : Entry
+readSixteen =
     record {
       name = "packet::read_nibbles";
       Input = List ℕ;
@@ -139,9 +139,9 @@ readNibblesEntry =
       left = λ ns. [];
     }
 
-pub readNibbles-copes : Copes readNibblesEntry
+pub readSixteen-copes : Copes readSixteen
 unfolding readNibbles
-readNibbles-copes =
+readSixteen-copes =
     record { in-order = λ ns. reads-in-order true true (crcRight ns) (fixed ns) (known ns) (fieldsOf ns); untouched = λ ns d. refl }
 
 abbrev pub read : Entry
