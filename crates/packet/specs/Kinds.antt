@@ -50,6 +50,14 @@ firstTag kind e = (e * frames kind + (tags kind - lead kind)) % tags kind
 unfoldable pub mstFirst : ℕ → ℕ → ℕ
 mstFirst kind e = 8 * (e % 32)
 
+-- 'to that plus 7': how many numbers these are
+unfoldable pub mstNumbers : ℕ → ℕ
+mstNumbers kind = 8
+
 -- 'first bit the lowest. 0 is OK, 1 is FAIL', of a number that the epoch speaks of
 unfoldable pub mstFails : ℕ → ℕ → Bool
 mstFails mst q = odd (mst / 2 ^ (7 - q % 8))
+
+-- 'IDLE (number 255)' (01, 'The sender's table')
+unfoldable pub idleNumber : ℕ → ℕ
+idleNumber kind = 255

@@ -1,6 +1,6 @@
 // What goes by the kind of packet: epochs, tags and MST (01, 'The control packet'). There is one kind, H4; any other byte counts as it.
 ghost use mathlib.Core.Path.{_≡_};
-ghost use Rattle.packet.specs.Kinds.{epochAfter, tagAfter, distanceOf, placeOf, startsEpoch, epochOf, firstTag, mstFirst, mstFails};
+ghost use Rattle.packet.specs.Kinds.{epochAfter, tagAfter, distanceOf, placeOf, startsEpoch, epochOf, firstTag, mstFirst, mstNumbers, mstFails, idleNumber};
 
 pub const H4: u8 = 0;
 
@@ -56,9 +56,23 @@ pub fn mst_first(kind: u8, epoch: u8) -> u8
     epoch % 32 * 8
 }
 
+// How many numbers MST speaks of in an epoch.
+pub fn mst_numbers(kind: u8) -> u8
+    ensures { λ r. ⌜ r ≡ mstNumbers kind ⌝ }
+{
+    8
+}
+
 // What MST says of a number that it speaks of: one of the mst_numbers from mst_first on.
 pub fn mst_fails(mst: u8, number: u8) -> bool
     ensures { λ r. ⌜ r ≡ mstFails mst number ⌝ }
 {
     (mst >> (7 - number % 8)) % 2 == 1
+}
+
+// The number of an IDLE slot.
+pub fn idle_number(kind: u8) -> u8
+    ensures { λ r. ⌜ r ≡ idleNumber kind ⌝ }
+{
+    255
 }

@@ -7,7 +7,7 @@ use lib.ListN.{getD}
 use Rattle.ground.specs.Circle.{after-of, after-lt}
 use Rattle.ground.specs.Table.{getD-tabulate}
 use Rattle.packet.specs.Layout.{h4Of}
-use Rattle.packet.specs.Kinds.{distanceOf, epochAfter, epochOf, epochs, firstTag, frames, lead, placeOf, tagAfter, tags}
+use Rattle.packet.specs.Kinds.{distanceOf, epochAfter, epochOf, epochs, firstTag, frames, lead, mstFirst, mstNumbers, placeOf, tagAfter, tags}
 
 -- the tag of the x-th frame after one with tag 0
 abbrev pub tagOf : ℕ → ℕ → ℕ
@@ -58,3 +58,8 @@ pub place-sent : (ns : List ℕ) (kind t : ℕ) → getD (h4Of ns) (placeOf kind
 unfolding placeOf lead frames h4Of
 place-sent ns kind t =
     rw (getD-tabulate 16 (λ i. getD ns i 0 % 16 * 16 + (i + 8) % 16) ((t + 8) % 16) 0 (omega arith)) (omega arith)
+
+-- the numbers that MST speaks of fit a byte
+pub mst-fits : (kind e : ℕ) → mstFirst kind e + mstNumbers kind ≤ 256
+unfolding mstFirst mstNumbers
+mst-fits kind e = omega arith
