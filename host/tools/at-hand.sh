@@ -1,4 +1,5 @@
-# Sourced: which compilers are at hand. What is missing is installed from Debian's packages, if that can be done.
+# Sourced: which compilers are at hand. What is missing is installed from Debian's packages, if that can be done. Tries
+# things out in the folder $room, which the sourcing script makes.
 
 # at_hand PACKAGES CHECK..: whether CHECK succeeds, if need be once PACKAGES are installed.
 at_hand() {
