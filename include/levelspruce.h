@@ -26,6 +26,7 @@ extern "C" {
 
 /* Answers. */
 #define LEVELSPRUCE_ANSWER_DONE 0       /* done */
+#define LEVELSPRUCE_ANSWER_RANGE 4      /* a count, P or X is out of range */
 #define LEVELSPRUCE_ANSWER_CRC 5        /* the packet's CRC differs */
 #define LEVELSPRUCE_ANSWER_UNASSIGNED 6 /* CRC right, control word unassigned */
 #define LEVELSPRUCE_ANSWER_FIXED 7      /* CRC right, control word FIXED */
@@ -43,6 +44,12 @@ extern "C" {
 /* Sizes of buffers, in bytes. */
 #define LEVELSPRUCE_PACKET_BYTES 16 /* the H4 bytes of one packet */
 #define LEVELSPRUCE_FIELDS_BYTES 6  /* the fields of one packet */
+
+/* Payload: members of a group, and bytes of a member frame. */
+#define LEVELSPRUCE_MEMBERS_MOST 64
+#define LEVELSPRUCE_PAYLOAD_MOST 2340
+#define LEVELSPRUCE_PAYLOAD_VC3 756
+#define LEVELSPRUCE_PAYLOAD_VC4 2340
 
 /* The place of each field among the six bytes that reading gives. */
 #define LEVELSPRUCE_FIELD_EPOCH 0
@@ -93,6 +100,40 @@ uint8_t levelspruce_packet_write(uint32_t epoch, uint32_t word, uint32_t gid,
  */
 uint8_t levelspruce_packet_read(const uint8_t *h4, size_t h4_length,
                                 uint8_t *fields, size_t fields_length);
+
+/*
+ * Spreads a group frame over its members: byte p of the frame becomes byte
+ * p / x of the member ranked p % x.
+ *
+ *   x         members that carry payload, 0 to 64
+ *   p         payload of a member frame in bytes, 1 to 2340
+ *   frame     the group frame, x * p bytes
+ *   members   x * p bytes for the members one after the other, the one
+ *             ranked r from byte r * p on
+ *
+ * Answers, the first that fits:
+ *   4  x or p is out of range (p also where x is 0)
+ *   9  frame_length or members_length is not x * p
+ *   0  all of members is written; nothing where x is 0
+ */
+uint8_t levelspruce_spread(uint32_t x, uint32_t p,
+                           const uint8_t *frame, size_t frame_length,
+                           uint8_t *members, size_t members_length);
+
+/*
+ * Joins members into their group frame, the other way round: joining what
+ * levelspruce_spread gave yields the frame again.
+ *
+ *   x, p, members, frame   as for levelspruce_spread
+ *
+ * Answers, the first that fits:
+ *   4  x or p is out of range (p also where x is 0)
+ *   9  members_length or frame_length is not x * p
+ *   0  all of frame is written; nothing where x is 0
+ */
+uint8_t levelspruce_join(uint32_t x, uint32_t p,
+                         const uint8_t *members, size_t members_length,
+                         uint8_t *frame, size_t frame_length);
 
 #ifdef __cplusplus
 }

@@ -1,3 +1,3 @@
-pub mod Own
 pub mod Packets
 pub mod Payloads
+pub mod Theorems
