@@ -3,10 +3,12 @@
 mod card;
 mod count;
 mod packets;
+mod payloads;
 mod random;
 
 fn main() {
     let mut count = count::Count::default();
     packets::compare(&mut count);
+    payloads::compare(&mut count);
     std::process::exit(count.tally());
 }

@@ -2,3 +2,4 @@
 //! the plainest way and with no thought for speed. Differential tests hold the archive to it.
 
 pub mod packet;
+pub mod payload;
