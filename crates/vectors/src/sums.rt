@@ -1,5 +1,7 @@
 // The CRC of sixteen nibbles as the reader shows it: of the 256 that they can carry it refuses all but one with 5.
-pub(crate) fn answer_at(nibbles: [u8; 16], sum: u8) -> u8 {
+use crate::show;
+
+fn answer_at(nibbles: [u8; 16], sum: u8) -> u8 {
     let mut carrying = nibbles;
     carrying[14] = sum / 16;
     carrying[15] = sum % 16;
@@ -20,7 +22,7 @@ pub(crate) fn sum_of(nibbles: [u8; 16]) -> u8 {
 }
 
 // How many of the CRCs from 0 to 255 are refused with 5.
-pub(crate) fn refused(nibbles: [u8; 16]) -> u16 {
+fn refused(nibbles: [u8; 16]) -> u16 {
     let mut count: u16 = 0;
     let mut sum: u16 = 0;
     while sum < 256 {
@@ -30,4 +32,13 @@ pub(crate) fn refused(nibbles: [u8; 16]) -> u16 {
         sum += 1;
     }
     count
+}
+
+// The rest of a line: the CRC, the answer with it, and how many of the other 255 are refused.
+pub(crate) fn show(nibbles: [u8; 16]) {
+    let sum = sum_of(nibbles);
+    show::byte(b"CRC ", sum);
+    show::named(b"\tanswer ", answer_at(nibbles, sum) as u16);
+    show::named(b"\tother CRCs refused 5\t", refused(nibbles));
+    show::text(b" of 255\n");
 }

@@ -4,10 +4,13 @@ use Rattle.vectors.proofs.damage.all_lows.Statement.{statement}
 use Rattle.vectors.proofs.damage.all_lows.Tie as tie
 
 abbrev Inv-loop : tie.InvT-loop
-Inv-loop fields i h4₀ place₀ h4 place = place ≤ 16
+Inv-loop i fields h4₀ place₀ h4 place = place ≤ 16
 
 abbrev μ-loop : tie.MeasureT-loop
-μ-loop fields i h4₀ place₀ h4 place = 16 - place
+μ-loop i fields h4₀ place₀ h4 place = 16 - place
+
+by-turns-requires : tie.Need-by-turns-requires Inv-loop μ-loop
+by-turns-requires c κs = search needs
 
 written-requires : tie.Need-written-requires Inv-loop μ-loop
 written-requires c κs = search needs
@@ -45,6 +48,7 @@ all-lows-spec =
     (tie.spec
     Inv-loop
     μ-loop
+    by-turns-requires
     written-requires
     loop-holds
     array-read-with-low
