@@ -7,28 +7,27 @@ use packet::Fields;
 pub(crate) fn run() {
     example(b"packet\tP1\t", given::p1());
     example(b"packet\tP2\t", given::p2());
-    let zeros = [0u8; 16];
-    show::text(b"packet\tP3\t");
-    sums::show(zeros);
-    let mut last_bit = [0u8; 16];
-    last_bit[13] = 1;
-    show::text(b"packet\tP4\t");
-    sums::show(last_bit);
+    data_bits();
 }
 
 fn example(name: &[u8], fields: Fields) {
-    let mut h4 = [0u8; 16];
-    let writing = packet::write(fields, &mut h4);
     show::text(name);
-    show::named(b"written ", writing.number() as u16);
-    show::text(b"\tH4");
-    show::bytes(&h4);
-    show::end_line();
+    let h4 = written(fields);
     show::text(name);
     show::named(b"read ", given::number_of(h4) as u16);
     show_fields(given::read(h4));
     show::text(name);
     sums::show(given::nibbles_in(h4));
+}
+
+fn written(fields: Fields) -> [u8; 16] {
+    let mut h4 = [0u8; 16];
+    let writing = packet::write(fields, &mut h4);
+    show::named(b"written ", writing.number() as u16);
+    show::text(b"\tH4");
+    show::bytes(&h4);
+    show::end_line();
+    h4
 }
 
 fn show_fields(fields: Fields) {
@@ -39,4 +38,11 @@ fn show_fields(fields: Fields) {
     show::named(b"\tRS-Ack ", fields.rs_ack as u16);
     show::named(b"\tSQ ", fields.sq as u16);
     show::end_line();
+}
+
+fn data_bits() {
+    show::text(b"packet\tP3\t");
+    sums::show([0; 16]);
+    show::text(b"packet\tP4\t");
+    sums::show([0, 0, 0, 0, 0, 0, 0, 0, 0, 0, 0, 0, 0, 1, 0, 0]);
 }

@@ -8,12 +8,7 @@ use crate::sums;
 use packet::Word;
 
 pub(crate) fn run() {
-    name(b"FIXED", Word::FIXED);
-    name(b"ADD", Word::ADD);
-    name(b"NORM", Word::NORM);
-    name(b"EOS", Word::EOS);
-    name(b"IDLE", Word::IDLE);
-    name(b"DNU", Word::DNU);
+    names();
     sixteen();
     groups::line(
         b"words\t16 to 255\twriting refused 8, no byte changed\t",
@@ -25,6 +20,15 @@ pub(crate) fn run() {
         Group::Nibble,
         256,
     );
+}
+
+fn names() {
+    name(b"FIXED", Word::FIXED);
+    name(b"ADD", Word::ADD);
+    name(b"NORM", Word::NORM);
+    name(b"EOS", Word::EOS);
+    name(b"IDLE", Word::IDLE);
+    name(b"DNU", Word::DNU);
 }
 
 fn name(name: &[u8], word: Word) {
@@ -42,7 +46,6 @@ fn sixteen() {
     }
 }
 
-// The word written, and read from P2 with it and the right CRC.
 fn one(word: u8) {
     show::named(b"word\t", word as u16);
     show::either(
@@ -50,15 +53,25 @@ fn one(word: u8) {
         b"\tassigned",
         b"\tunassigned",
     );
-    let mut h4 = [0u8; 16];
+    written(word);
+    read(word);
+}
+
+// P2 written with the word.
+fn written(word: u8) {
     let mut fields = given::p2();
     let own = Word(word);
     fields.word = own;
+    let mut h4 = [0u8; 16];
     let writing = packet::write(fields, &mut h4);
     show::named(b"\twriting ", writing.number() as u16);
-    show::text(b"\tread with ");
+}
+
+// P2 read with the word and the right CRC.
+fn read(word: u8) {
     let mut nibbles = given::nibbles_in(given::written(given::p2()));
     nibbles[10] = word;
+    show::text(b"\tread with ");
     sums::show(nibbles);
 }
 
