@@ -85,15 +85,19 @@ pub(crate) fn one_low(i: u16) -> bool {
     given::is_read_as(h4, fields)
 }
 
-pub(crate) fn all_lows(i: u16) -> bool {
-    let fields = given::by_turns(i);
-    let mut h4 = given::written(fields);
+fn with_lows(h4: [u8; 16], low: u16) -> [u8; 16] {
+    let mut changed = h4;
     let mut place = 0;
     while place < 16 {
-        h4[place] = with_low(h4[place], i / 3);
+        changed[place] = with_low(h4[place], low);
         place += 1;
     }
-    given::is_read_as(h4, fields)
+    changed
+}
+
+pub(crate) fn all_lows(i: u16) -> bool {
+    let fields = given::by_turns(i);
+    given::is_read_as(with_lows(given::written(fields), i / 3), fields)
 }
 
 // One of the 26 bits that are reserved or written 0: the three beside RS-Ack, the twelve behind it, the three beside GID, the eight behind it.
