@@ -116,9 +116,6 @@ fn spare_bit(i: u16) -> u16 {
 
 pub(crate) fn spare(i: u16) -> bool {
     let fields = given::by_turns(i);
-    let mut h4 = flipped(given::written(fields), spare_bit(i / 3));
-    let sum = sums::sum_of(given::nibbles_in(h4));
-    h4[14] = sum / 16 * 16 + 6;
-    h4[15] = sum % 16 * 16 + 7;
-    given::is_read_as(h4, fields)
+    let h4 = flipped(given::written(fields), spare_bit(i / 3));
+    given::is_read_as(sums::sealed(h4), fields)
 }

@@ -1,4 +1,5 @@
 // The CRC of sixteen nibbles as the reader shows it: of the 256 that they can carry it refuses all but one with 5.
+use crate::given;
 use crate::show;
 
 fn answer_at(nibbles: [u8; 16], sum: u8) -> u8 {
@@ -10,7 +11,7 @@ fn answer_at(nibbles: [u8; 16], sum: u8) -> u8 {
 }
 
 // The first CRC that is not refused with 5.
-pub(crate) fn sum_of(nibbles: [u8; 16]) -> u8 {
+fn sum_of(nibbles: [u8; 16]) -> u8 {
     let mut sum = 0;
     while sum < 255 {
         if answer_at(nibbles, sum) != 5 {
@@ -19,6 +20,15 @@ pub(crate) fn sum_of(nibbles: [u8; 16]) -> u8 {
         sum += 1;
     }
     255
+}
+
+// The H4 bytes with the CRC of their data.
+pub(crate) fn sealed(h4: [u8; 16]) -> [u8; 16] {
+    let sum = sum_of(given::nibbles_in(h4));
+    let mut changed = h4;
+    changed[14] = sum / 16 * 16 + 6;
+    changed[15] = sum % 16 * 16 + 7;
+    changed
 }
 
 // How many of the CRCs from 0 to 255 are refused with 5.

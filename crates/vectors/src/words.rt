@@ -16,7 +16,7 @@ pub(crate) fn run() {
         240,
     );
     groups::line(
-        b"words\tfrom any byte\tof its low four bits\t",
+        b"words\tfrom and to any byte\tby its low four bits\t",
         Group::Nibble,
         256,
     );
@@ -67,12 +67,13 @@ fn written(word: u8) {
     show::named(b"\twriting ", writing.number() as u16);
 }
 
-// P2 read with the word and the right CRC.
+// P2 read with the word and the right CRC, as H4 bytes and as nibbles.
 fn read(word: u8) {
-    let mut nibbles = given::nibbles_in(given::written(given::p2()));
-    nibbles[10] = word;
-    show::text(b"\tread with ");
-    sums::show(nibbles);
+    let mut h4 = given::written(given::p2());
+    h4[10] = word % 16 * 16 + 2;
+    show::named(b"\treading ", given::number_of(sums::sealed(h4)) as u16);
+    show::text(b"\tnibbles with ");
+    sums::show(given::nibbles_in(h4));
 }
 
 // The words above 15 are unassigned for writing.
@@ -85,5 +86,5 @@ pub(crate) fn wide(i: u16) -> bool {
 
 pub(crate) fn nibble(i: u16) -> bool {
     let byte = (i % 256) as u8;
-    Word::from_nibble(byte).to_nibble() == byte % 16
+    (Word::from_nibble(byte).0 == byte % 16) & (Word(byte).to_nibble() == byte % 16)
 }
