@@ -3,60 +3,46 @@ use crate::given;
 use crate::show;
 use crate::sums;
 use packet::Fields;
-use packet::Reading;
 
 pub(crate) fn run() {
     example(b"packet\tP1\t", given::p1());
     example(b"packet\tP2\t", given::p2());
-    let zeros = [0u8; 16];
-    checksum(b"packet\tP3\t", zeros);
-    let mut last_bit = [0u8; 16];
-    last_bit[13] = 1;
-    checksum(b"packet\tP4\t", last_bit);
+    data_bits();
 }
 
 fn example(name: &[u8], fields: Fields) {
+    show::text(name);
+    let h4 = written(fields);
+    show::text(name);
+    show::named(b"read ", given::number_of(h4) as u16);
+    show_fields(given::read(h4));
+    show::text(name);
+    sums::show(given::nibbles_in(h4));
+}
+
+fn written(fields: Fields) -> [u8; 16] {
     let mut h4 = [0u8; 16];
     let writing = packet::write(fields, &mut h4);
-    show::text(name);
     show::named(b"written ", writing.number() as u16);
-    show::text(b"\t");
+    show::text(b"\tH4");
     show::bytes(&h4);
-    show::text(b"\n");
-    read(name, h4);
-    checksum(name, given::nibbles_in(h4));
+    show::end_line();
+    h4
 }
 
-fn read(name: &[u8], h4: [u8; 16]) {
-    let reading = packet::read(&h4);
-    show::text(name);
-    show::named(b"read ", reading.number() as u16);
-    match reading {
-        Reading::Packet(found) => fields(found),
-        Reading::Length => show::text(b"\n"),
-        Reading::Crc => show::text(b"\n"),
-        Reading::Fixed => show::text(b"\n"),
-        Reading::Unassigned => show::text(b"\n"),
-    }
+fn show_fields(fields: Fields) {
+    show::named(b"\tepoch ", fields.epoch as u16);
+    show::named(b"\tword ", fields.word.to_nibble() as u16);
+    show::named(b"\tGID ", fields.gid as u16);
+    show::byte(b"\tMST ", fields.mst);
+    show::named(b"\tRS-Ack ", fields.rs_ack as u16);
+    show::named(b"\tSQ ", fields.sq as u16);
+    show::end_line();
 }
 
-fn fields(found: Fields) {
-    show::named(b"\tepoch ", found.epoch as u16);
-    show::named(b"\tword ", found.word.to_nibble() as u16);
-    show::named(b"\tGID ", found.gid as u16);
-    show::text(b"\tMST ");
-    show::byte(found.mst);
-    show::named(b"\tRS-Ack ", found.rs_ack as u16);
-    show::named(b"\tSQ ", found.sq as u16);
-    show::text(b"\n");
-}
-
-fn checksum(name: &[u8], nibbles: [u8; 16]) {
-    let sum = sums::sum_of(nibbles);
-    show::text(name);
-    show::text(b"CRC ");
-    show::byte(sum);
-    show::named(b"\tanswer ", sums::answer_at(nibbles, sum) as u16);
-    show::named(b"\tother CRCs refused 5\t", sums::refused(nibbles));
-    show::text(b" of 255\n");
+fn data_bits() {
+    show::text(b"packet\tP3\t");
+    sums::show([0; 16]);
+    show::text(b"packet\tP4\t");
+    sums::show([0, 0, 0, 0, 0, 0, 0, 0, 0, 0, 0, 0, 0, 1, 0, 0]);
 }

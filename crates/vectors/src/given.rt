@@ -39,6 +39,15 @@ pub(crate) fn mixed() -> Fields {
     }
 }
 
+// The three in turn.
+pub(crate) fn by_turns(i: u16) -> Fields {
+    match i % 3 {
+        0 => p1(),
+        1 => p2(),
+        _ => mixed(),
+    }
+}
+
 // The H4 bytes that a packet is written as; zeros where it is refused.
 pub(crate) fn written(fields: Fields) -> [u8; 16] {
     let mut h4 = [0u8; 16];
@@ -48,42 +57,42 @@ pub(crate) fn written(fields: Fields) -> [u8; 16] {
 
 // The nibbles that sixteen H4 bytes carry.
 pub(crate) fn nibbles_in(h4: [u8; 16]) -> [u8; 16] {
-    [
-        h4[0] / 16,
-        h4[1] / 16,
-        h4[2] / 16,
-        h4[3] / 16,
-        h4[4] / 16,
-        h4[5] / 16,
-        h4[6] / 16,
-        h4[7] / 16,
-        h4[8] / 16,
-        h4[9] / 16,
-        h4[10] / 16,
-        h4[11] / 16,
-        h4[12] / 16,
-        h4[13] / 16,
-        h4[14] / 16,
-        h4[15] / 16,
-    ]
+    let mut nibbles = [0u8; 16];
+    let mut i = 0;
+    while i < 16 {
+        nibbles[i] = h4[i] / 16;
+        i += 1;
+    }
+    nibbles
+}
+
+// The fields of a packet, or fields that none has where it is refused.
+pub(crate) fn read(h4: [u8; 16]) -> Fields {
+    let reading = packet::read(&h4);
+    let Reading::Packet(found) = reading else {
+        return Fields {
+            epoch: 0,
+            word: Word::FIXED,
+            gid: 0,
+            mst: 0,
+            rs_ack: 0,
+            sq: 0,
+        };
+    };
+    found
+}
+
+pub(crate) fn number_of(h4: [u8; 16]) -> u8 {
+    let reading = packet::read(&h4);
+    reading.number()
 }
 
 pub(crate) fn is_read_as(h4: [u8; 16], fields: Fields) -> bool {
-    let reading = packet::read(&h4);
-    match reading {
-        Reading::Packet(found) => is_same(found, fields),
-        Reading::Length => false,
-        Reading::Crc => false,
-        Reading::Fixed => false,
-        Reading::Unassigned => false,
-    }
-}
-
-fn is_same(a: Fields, b: Fields) -> bool {
-    (a.epoch == b.epoch)
-        & (a.word.0 == b.word.0)
-        & (a.gid == b.gid)
-        & (a.mst == b.mst)
-        & (a.rs_ack == b.rs_ack)
-        & (a.sq == b.sq)
+    let found = read(h4);
+    (found.epoch == fields.epoch)
+        & (found.word.0 == fields.word.0)
+        & (found.gid == fields.gid)
+        & (found.mst == fields.mst)
+        & (found.rs_ack == fields.rs_ack)
+        & (found.sq == fields.sq)
 }

@@ -1,71 +1,34 @@
 // Lengths and fields, in range and out of it (01, 'Answer numbers': for writing 9, then 8; for reading 9 first).
-ghost use Prim.Native.Nat.{_≤_};
 use crate::given;
 use crate::groups;
 use crate::groups::Group;
 use packet::Fields;
+ghost use Prim.Native.Nat.{_≤_};
 
 pub(crate) fn run() {
-    let p1 = given::p1();
     groups::line(
-        b"lengths\t0 to 40 but 16\twriting refused 9, no byte changed\t",
+        b"lengths\t0 to 40 but 16, GID 1 and 2\twriting refused 9, no byte changed\t",
         Group::LengthOfWriting,
-        p1,
-        40,
+        80,
     );
     groups::line(
-        b"lengths\t0 to 40 but 16\twriting GID 2 refused 9, no byte changed\t",
-        Group::LengthBeforeField,
-        p1,
-        40,
-    );
-    groups::line(
-        b"lengths\t0 to 40 but 16\treading refused 9\t",
+        b"lengths\t0 to 40 but 16, CRC right and wrong\treading refused 9\t",
         Group::LengthOfReading,
-        p1,
-        40,
+        80,
     );
     groups::line(
-        b"lengths\t0 to 40 but 16\treading a wrong CRC refused 9\t",
-        Group::LengthBeforeSum,
-        p1,
-        40,
-    );
-    let mixed = given::mixed();
-    groups::line(
-        b"fields\tGID 2 to 255\twriting refused 8, no byte changed\t",
-        Group::WideGid,
-        mixed,
-        254,
+        b"fields\tGID, RS-Ack 2 to 255\twriting refused 8, no byte changed\t",
+        Group::TooLarge,
+        508,
     );
     groups::line(
-        b"fields\tRS-Ack 2 to 255\twriting refused 8, no byte changed\t",
-        Group::WideAck,
-        mixed,
-        254,
-    );
-    groups::line(
-        b"fields\tepoch 0 to 255\tread as written\t",
-        Group::Epoch,
-        mixed,
-        256,
-    );
-    groups::line(
-        b"fields\tMST 0 to 255\tread as written\t",
-        Group::Mst,
-        mixed,
-        256,
-    );
-    groups::line(
-        b"fields\tSQ 0 to 255\tread as written\t",
-        Group::Sq,
-        mixed,
-        256,
+        b"fields\tepoch, MST, SQ 0 to 255\tread as written\t",
+        Group::InRange,
+        768,
     );
     groups::line(
         b"fields\tGID and RS-Ack 0 and 1\tread as written\t",
-        Group::Single,
-        mixed,
+        Group::SingleBits,
         4,
     );
 }
@@ -92,39 +55,30 @@ fn is_untouched(lent: [u8; 40]) -> bool {
     true
 }
 
-pub(crate) fn length_of_writing(fields: Fields, i: u16) -> bool {
+// A GID of 2 does not fit, and yet the length comes first.
+pub(crate) fn length_of_writing(i: u16) -> bool {
+    let mut fields = given::mixed();
+    fields.gid = (i % 2) as u8 + 1;
     let mut lent = [BEFORE; 40];
-    let n = length(i);
+    let n = length(i / 2);
     let writing = packet::write(fields, &mut lent[0..n]);
     (writing.number() == 9) & is_untouched(lent)
 }
 
-fn with_gid(fields: Fields, gid: u8) -> Fields {
-    let mut changed = fields;
-    changed.gid = gid;
-    changed
+// A packet's own bytes with others behind them, or none of its own.
+fn bytes_for_reading(i: u16) -> [u8; 40] {
+    let mut h4 = [255u8; 40];
+    if i % 2 == 0 {
+        packet::write(given::mixed(), &mut h4[0..16]);
+    }
+    h4
 }
 
-pub(crate) fn length_before_field(fields: Fields, i: u16) -> bool {
-    length_of_writing(with_gid(fields, 2), i)
-}
-
-fn number_at(h4: [u8; 40], i: u16) -> u8 {
-    let n = length(i);
+pub(crate) fn length_of_reading(i: u16) -> bool {
+    let h4 = bytes_for_reading(i);
+    let n = length(i / 2);
     let reading = packet::read(&h4[0..n]);
-    reading.number()
-}
-
-// The packet's own bytes, fewer of them or with zeros behind them.
-pub(crate) fn length_of_reading(fields: Fields, i: u16) -> bool {
-    let mut h4 = [0u8; 40];
-    packet::write(fields, &mut h4[0..16]);
-    number_at(h4, i) == 9
-}
-
-pub(crate) fn length_before_sum(i: u16) -> bool {
-    let h4 = [255u8; 40];
-    number_at(h4, i) == 9
+    reading.number() == 9
 }
 
 // Whether writing is refused with 8 and changes no byte.
@@ -134,43 +88,31 @@ pub(crate) fn is_refused(fields: Fields) -> bool {
     (writing.number() == 8) & is_untouched(lent)
 }
 
-pub(crate) fn wide_gid(fields: Fields, i: u16) -> bool {
-    is_refused(with_gid(fields, (i % 254 + 2) as u8))
+pub(crate) fn too_large(i: u16) -> bool {
+    let value = (i / 2 % 254 + 2) as u8;
+    let mut fields = given::mixed();
+    if i % 2 == 0 {
+        fields.gid = value;
+    } else {
+        fields.rs_ack = value;
+    }
+    is_refused(fields)
 }
 
-fn with_ack(fields: Fields, rs_ack: u8) -> Fields {
-    let mut changed = fields;
-    changed.rs_ack = rs_ack;
-    changed
-}
-
-pub(crate) fn wide_ack(fields: Fields, i: u16) -> bool {
-    is_refused(with_ack(fields, (i % 254 + 2) as u8))
-}
-
-fn is_read_back(fields: Fields) -> bool {
+pub(crate) fn in_range(i: u16) -> bool {
+    let value = (i / 3 % 256) as u8;
+    let mut fields = given::mixed();
+    match i % 3 {
+        0 => fields.epoch = value,
+        1 => fields.mst = value,
+        _ => fields.sq = value,
+    }
     given::is_read_as(given::written(fields), fields)
 }
 
-pub(crate) fn epoch(fields: Fields, i: u16) -> bool {
-    let mut changed = fields;
-    changed.epoch = (i % 256) as u8;
-    is_read_back(changed)
-}
-
-pub(crate) fn mst(fields: Fields, i: u16) -> bool {
-    let mut changed = fields;
-    changed.mst = (i % 256) as u8;
-    is_read_back(changed)
-}
-
-pub(crate) fn sq(fields: Fields, i: u16) -> bool {
-    let mut changed = fields;
-    changed.sq = (i % 256) as u8;
-    is_read_back(changed)
-}
-
-pub(crate) fn single(fields: Fields, i: u16) -> bool {
-    let changed = with_gid(fields, (i % 2) as u8);
-    is_read_back(with_ack(changed, (i / 2 % 2) as u8))
+pub(crate) fn single_bits(i: u16) -> bool {
+    let mut fields = given::mixed();
+    fields.gid = (i % 2) as u8;
+    fields.rs_ack = (i / 2 % 2) as u8;
+    given::is_read_as(given::written(fields), fields)
 }

@@ -1,5 +1,6 @@
-// Runs the packet library on 01's examples, on the rows of data/packets.txt, on damaged packets and on all words, lengths and fields that there
-// are, and prints one line for each group. The file `stdout` has what must be printed.
+// Runs the packet library on 01's examples, on the rows of data/packets.txt, on damaged packets and on all words, lengths and fields, and
+// prints one line for each group: words first, fields parted by tabs. The file `stdout` has what must be printed. It was worked out from 01
+// and the rows by other code than this, with the CRC as one division of whole numbers.
 mod damage;
 mod examples;
 mod given;

@@ -4,8 +4,7 @@ use crate::given;
 use crate::show;
 use packet::Fields;
 use packet::Word;
-ghost use Prim.Native.Nat.{_≤_, _<_};
-ghost use lib.ListN.{length};
+ghost use Prim.Native.Nat.{_<_};
 
 pub(crate) fn run() {
     let path = b"packets.txt";
@@ -14,61 +13,50 @@ pub(crate) fn run() {
         os::fail(path);
         return;
     }
-    all_in(fd);
-    libc::close(fd);
-}
-
-fn all_in(fd: i32) {
     let mut file = io::buffer();
     let n = io::read_full(fd, &mut file);
+    libc::close(fd);
     lines(&file[..n]);
 }
 
 fn lines(file: &[u8]) {
     let mut start = 0;
     while start < file.len() {
-        let end = end_of_line(file, start);
-        row(&file[start..end]);
+        let end = bytes::scan::find(file, start, file.len(), b'\n');
+        line(&file[start..end]);
         start = end + 1;
     }
 }
 
-fn end_of_line(file: &[u8], start: usize) -> usize
-    requires { ⌜ start ≤ length (now file) ⌝ }
-    ensures { λ r. ⌜ (start ≤ r) × (r ≤ length (now (file .entry))) ⌝ }
-{
-    bytes::scan::find(file, start, file.len(), b'\n')
-}
-
-// A line that does not start as a row does is passed over.
-fn row(line: &[u8]) {
-    if column(line, 0) != b'H' {
+// A line that is no whole row is passed over.
+fn line(line: &[u8]) {
+    if line.len() < 104 {
         return;
     }
-    let fields = fields_in(line);
-    let bytes = bytes_in(line);
-    let h4 = given::written(fields);
+    if line[0] != b'H' {
+        return;
+    }
     show::text(b"row\t");
-    label(line);
+    show::text(&line[0..54]);
+    row(fields_in(line), bytes_in(line));
+}
+
+fn row(fields: Fields, h4: [u8; 16]) {
     show::either(
-        check::same(&h4, &bytes),
+        is_written_as(fields, h4),
         b"\twritten as given",
         b"\tNOT written as given",
     );
     show::either(
-        given::is_read_as(bytes, fields),
+        given::is_read_as(h4, fields),
         b"\tread as given\n",
         b"\tNOT read as given\n",
     );
 }
 
-// What stands before the bytes.
-fn label(line: &[u8]) {
-    if line.len() < 54 {
-        show::text(b"too short");
-    } else {
-        show::text(&line[0..54]);
-    }
+fn is_written_as(fields: Fields, h4: [u8; 16]) -> bool {
+    let own = given::written(fields);
+    check::same(&own, &h4)
 }
 
 // The byte in a column; 0 behind the line's end.
@@ -81,7 +69,7 @@ fn fields_in(line: &[u8]) -> Fields {
     Fields {
         epoch: number_at(line, 26),
         word: word_at(line, 30),
-        gid: digit_at(line, 46),
+        gid: digit(column(line, 46)),
         mst: 255,
         rs_ack: 0,
         sq: number_at(line, 38),
@@ -100,7 +88,7 @@ fn word_at(line: &[u8], at: usize) -> Word {
     }
 }
 
-// Of a digit in either base, its value; of a space 0.
+// The value of a digit in either base; 0 of the spaces before a number.
 fn digit(byte: u8) -> u8
     ensures { λ r. ⌜ r < 16 ⌝ }
 {
@@ -111,19 +99,13 @@ fn digit(byte: u8) -> u8
     }
 }
 
-fn digit_at(line: &[u8], at: usize) -> u8
-    ensures { λ r. ⌜ r < 16 ⌝ }
-{
-    digit(column(line, at))
-}
-
 // Three columns of decimal digits, with spaces before them.
 fn number_at(line: &[u8], at: usize) -> u8
     requires { ⌜ at < 1000 ⌝ }
 {
-    let hundreds = digit_at(line, at) as u16;
-    let tens = digit_at(line, at + 1) as u16;
-    let ones = digit_at(line, at + 2) as u16;
+    let hundreds = digit(column(line, at)) as u16;
+    let tens = digit(column(line, at + 1)) as u16;
+    let ones = digit(column(line, at + 2)) as u16;
     ((hundreds * 100 + tens * 10 + ones) % 256) as u8
 }
 
@@ -140,7 +122,7 @@ fn bytes_in(line: &[u8]) -> [u8; 16] {
 fn byte_at(line: &[u8], at: usize) -> u8
     requires { ⌜ at < 1000 ⌝ }
 {
-    let high = digit_at(line, at);
-    let low = digit_at(line, at + 1);
+    let high = digit(column(line, at));
+    let low = digit(column(line, at + 1));
     high * 16 + low
 }

@@ -5,18 +5,26 @@ pub(crate) fn text(words: &[u8]) {
     io::write_all(STDOUT_FILENO, words);
 }
 
-pub(crate) fn decimal(number: u16) {
-    io::print_decimal(STDOUT_FILENO, number as u64);
+pub(crate) fn end_line() {
+    text(b"\n");
 }
 
 // Words, and a number after them.
 pub(crate) fn named(words: &[u8], number: u16) {
     text(words);
-    decimal(number);
+    io::print_decimal(STDOUT_FILENO, number as u64);
 }
 
-// Two digits in upper case, as 01 and the rows have them.
-pub(crate) fn byte(byte: u8) {
+// A whole line of two such pairs.
+pub(crate) fn pair(words: &[u8], number: u16, then: &[u8], other: u16) {
+    named(words, number);
+    named(then, other);
+    end_line();
+}
+
+// Words, and a byte after them in two digits, in upper case as 01 and the rows have them.
+pub(crate) fn byte(words: &[u8], byte: u8) {
+    text(words);
     let digits = [digit(byte / 16), digit(byte % 16)];
     io::write_all(STDOUT_FILENO, &digits);
 }
@@ -29,13 +37,11 @@ fn digit(nibble: u8) -> u8 {
     }
 }
 
+// Each byte with a space before it.
 pub(crate) fn bytes(all: &[u8]) {
     let mut i = 0;
     while i < all.len() {
-        if i > 0 {
-            text(b" ");
-        }
-        byte(all[i]);
+        byte(b" ", all[i]);
         i += 1;
     }
 }

@@ -6,10 +6,10 @@ use Rattle.vectors.proofs.groups.passing.Statement.{statement}
 use Rattle.vectors.proofs.groups.passing.Tie as tie
 
 abbrev Inv-loop : tie.InvT-loop
-Inv-loop group fields all count₀ i₀ count i = (i ≤ all) × (count ≤ i)
+Inv-loop group all count₀ i₀ count i = (i ≤ all) × (count ≤ i)
 
 abbrev μ-loop : tie.MeasureT-loop
-μ-loop group fields all count₀ i₀ count i = all - i
+μ-loop group all count₀ i₀ count i = all - i
 
 loop-holds : tie.Need-loop-holds Inv-loop μ-loop
 loop-holds c = search needs

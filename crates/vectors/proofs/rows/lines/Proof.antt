@@ -13,20 +13,20 @@ abbrev μ-loop : tie.MeasureT-loop
 loop-holds : tie.Need-loop-holds Inv-loop μ-loop
 loop-holds c = search needs
 
-end-of-line-requires : tie.Need-end-of-line-requires Inv-loop μ-loop
-end-of-line-requires c κs = search needs
+find-requires : tie.Need-find-requires Inv-loop μ-loop
+find-requires c κs = search needs
 
-sub-row : tie.Need-sub-row Inv-loop μ-loop
-sub-row c = search needs
+sub-line : tie.Need-sub-line Inv-loop μ-loop
+sub-line c = search needs
 
-part-row-start : tie.Need-part-row-start Inv-loop μ-loop
-part-row-start c = search needs
+part-line-start : tie.Need-part-line-start Inv-loop μ-loop
+part-line-start c = search needs
 
-part-row-end : tie.Need-part-row-end Inv-loop μ-loop
-part-row-end c = search needs
+part-line-end : tie.Need-part-line-end Inv-loop μ-loop
+part-line-end c = search needs
 
-row-requires : tie.Need-row-requires Inv-loop μ-loop
-row-requires c κs = search needs
+line-requires : tie.Need-line-requires Inv-loop μ-loop
+line-requires c κs = search needs
 
 add-start : tie.Need-add-start Inv-loop μ-loop
 add-start c = search needs
@@ -47,11 +47,11 @@ lines-spec =
     Inv-loop
     μ-loop
     loop-holds
-    end-of-line-requires
-    sub-row
-    part-row-start
-    part-row-end
-    row-requires
+    find-requires
+    sub-line
+    part-line-start
+    part-line-end
+    line-requires
     add-start
     loop-less
     loop-again

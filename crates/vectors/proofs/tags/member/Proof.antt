@@ -1,6 +1,5 @@
 use native.Mathlib.Omega.{arith}
 use borrow.Author.Needs.{needs}
-use borrow.Author.Needs.{needs}
 use Rattle.packet.specs.Kinds.{mstFirst}
 use Rattle.vectors.proofs.tags.member.Statement.{statement}
 use Rattle.vectors.proofs.tags.member.Tie as tie

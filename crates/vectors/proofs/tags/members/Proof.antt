@@ -4,10 +4,10 @@ use Rattle.vectors.proofs.tags.members.Statement.{statement}
 use Rattle.vectors.proofs.tags.members.Tie as tie
 
 abbrev Inv-loop : tie.InvT-loop
-Inv-loop epoch mst i₀ t6 i = i ≤ 8
+Inv-loop epoch mst i₀ i = i ≤ 8
 
 abbrev μ-loop : tie.MeasureT-loop
-μ-loop epoch mst i₀ t6 i = 8 - i
+μ-loop epoch mst i₀ i = 8 - i
 
 slice-aggregate-named : tie.Need-slice-aggregate-named Inv-loop μ-loop
 slice-aggregate-named c = search needs
@@ -15,11 +15,8 @@ slice-aggregate-named c = search needs
 named-requires : tie.Need-named-requires Inv-loop μ-loop
 named-requires c κs = search needs
 
-slice-aggregate-text : tie.Need-slice-aggregate-text Inv-loop μ-loop
-slice-aggregate-text c = search needs
-
-text-requires : tie.Need-text-requires Inv-loop μ-loop
-text-requires c κs = search needs
+slice-aggregate-byte : tie.Need-slice-aggregate-byte Inv-loop μ-loop
+slice-aggregate-byte c = search needs
 
 byte-requires : tie.Need-byte-requires Inv-loop μ-loop
 byte-requires c κs = search needs
@@ -39,11 +36,8 @@ loop-less c = search needs
 loop-again : tie.Need-loop-again Inv-loop μ-loop
 loop-again c = search needs
 
-slice-aggregate-text-2 : tie.Need-slice-aggregate-text-2 Inv-loop μ-loop
-slice-aggregate-text-2 c = search needs
-
-text-requires-2 : tie.Need-text-requires-2 Inv-loop μ-loop
-text-requires-2 c κs = search needs
+end-line-requires : tie.Need-end-line-requires Inv-loop μ-loop
+end-line-requires c κs = search needs
 
 returns : tie.Need-returns Inv-loop μ-loop
 returns c = search needs
@@ -56,14 +50,12 @@ members-spec =
     μ-loop
     slice-aggregate-named
     named-requires
-    slice-aggregate-text
-    text-requires
+    slice-aggregate-byte
     byte-requires
     loop-holds
     member-requires
     add-i
     loop-less
     loop-again
-    slice-aggregate-text-2
-    text-requires-2
+    end-line-requires
     returns)

@@ -1,16 +1,13 @@
 use Prim.Native.Nat.{_-_, _≤_}
 use borrow.Author.Needs.{needs}
-use Rattle.vectors.proofs.damage.all_lows.Statement.{statement}
-use Rattle.vectors.proofs.damage.all_lows.Tie as tie
+use Rattle.vectors.proofs.damage.with_lows.Statement.{statement}
+use Rattle.vectors.proofs.damage.with_lows.Tie as tie
 
 abbrev Inv-loop : tie.InvT-loop
-Inv-loop fields i h4₀ place₀ h4 place = place ≤ 16
+Inv-loop low h4 changed₀ place₀ changed place = place ≤ 16
 
 abbrev μ-loop : tie.MeasureT-loop
-μ-loop fields i h4₀ place₀ h4 place = 16 - place
-
-written-requires : tie.Need-written-requires Inv-loop μ-loop
-written-requires c κs = search needs
+μ-loop low h4 changed₀ place₀ changed place = 16 - place
 
 loop-holds : tie.Need-loop-holds Inv-loop μ-loop
 loop-holds c = search needs
@@ -21,8 +18,8 @@ array-read-with-low c = search needs
 with-low-requires : tie.Need-with-low-requires Inv-loop μ-loop
 with-low-requires c κs = search needs
 
-array-write-h4 : tie.Need-array-write-h4 Inv-loop μ-loop
-array-write-h4 c = search needs
+array-write-changed : tie.Need-array-write-changed Inv-loop μ-loop
+array-write-changed c = search needs
 
 add-place : tie.Need-add-place Inv-loop μ-loop
 add-place c = search needs
@@ -33,25 +30,20 @@ loop-less c = search needs
 loop-again : tie.Need-loop-again Inv-loop μ-loop
 loop-again c = search needs
 
-is-read-as-requires : tie.Need-is-read-as-requires Inv-loop μ-loop
-is-read-as-requires c κs = search needs
-
 returns : tie.Need-returns Inv-loop μ-loop
 returns c = search needs
 
-pub all-lows-spec : {M : Type 1} → statement M
-all-lows-spec =
+pub with-lows-spec : {M : Type 1} → statement M
+with-lows-spec =
     tie.close
     (tie.spec
     Inv-loop
     μ-loop
-    written-requires
     loop-holds
     array-read-with-low
     with-low-requires
-    array-write-h4
+    array-write-changed
     add-place
     loop-less
     loop-again
-    is-read-as-requires
     returns)
