@@ -1,0 +1,3 @@
+-- What some, every, how many, the one that and the greatest say.
+pub mod Tests
+pub mod Numbers
