@@ -4,6 +4,7 @@ use mathlib.Core.Logic.{⊎-elim, _≢_}
 use mathlib.Core.Bool.{Bool, true, false, cond, not, _&&_, true≢false}
 use Prim.Native.Nat.{ℕ, zero, suc, _+_, _≤_, _<_}
 use native.Mathlib.Nat.{not-suc-le-zero}
+use native.Mathlib.Numerals.{add-one}
 use native.Mathlib.Omega.{arith}
 use lib.Dec.{eqb, ltb}
 use borrow.Author.Tests.{eq-eqb, ne-eqb}
@@ -17,6 +18,14 @@ count-le (suc n) f = go (f n) (count-le n f)
     go : (b : Bool) → count n f ≤ n → count n f + cond b 1 0 ≤ suc n
     go true h = omega arith
     go false h = omega arith
+
+-- one more turn of a loop
+pub count-more : (f : ℕ → Bool) (i sum r : ℕ) → sum ≡ count i f → r ≡ cond (f i) 1 0 → sum + r ≡ count (i + 1) f
+count-more f i sum r e h = rw (add-one, e, h)
+
+pub count-fits : (f : ℕ → Bool) (b : Bool) (i sum r : ℕ) → sum ≡ count i f → r ≡ cond b 1 0 → sum + r ≤ i + 1
+count-fits f true i sum r e h = let m = count-le i f in omega arith
+count-fits f false i sum r e h = let m = count-le i f in omega arith
 
 -- the same test
 pub count-ext : (n : ℕ) (f g : ℕ → Bool) → ((k : ℕ) → k < n → f k ≡ g k) → count n f ≡ count n g

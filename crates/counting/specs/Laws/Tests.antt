@@ -4,9 +4,14 @@ use mathlib.Core.Logic.{⊎-elim, _≢_}
 use mathlib.Core.Bool.{Bool, true, false, _&&_, _||_, true≢false, false≢true}
 use Prim.Native.Nat.{ℕ, zero, suc, _+_, _<_}
 use native.Mathlib.Nat.{not-suc-le-zero}
+use native.Mathlib.Numerals.{add-one}
 use native.Mathlib.Omega.{arith}
 use Rattle.ground.specs.Truth.{and-true, and-left, and-right, or-left, or-right, or-cases, eq-or-ne}
 use Rattle.counting.specs.Words.{some, every}
+
+-- one more turn of a loop
+pub some-more : (f : ℕ → Bool) (i : ℕ) (r b : Bool) → r ≡ some i f → b ≡ f i → (r || b) ≡ some (i + 1) f
+some-more f i r b e h = rw (add-one, e, h)
 
 pub some-at : (n : ℕ) (f : ℕ → Bool) (k : ℕ) → k < n → f k ≡ true → some n f ≡ true
 some-at zero f k h t = absurd (not-suc-le-zero h)

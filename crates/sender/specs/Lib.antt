@@ -1,0 +1,6 @@
+pub mod Board
+pub mod Commands
+pub mod Laws
+pub mod Reports
+pub mod Steps
+pub mod Table
