@@ -1,6 +1,8 @@
 pub mod Board
 pub mod Commands
 pub mod Laws
+pub mod Numbering
 pub mod Reports
 pub mod Steps
 pub mod Table
+pub mod Theorems

@@ -1,14 +1,14 @@
 -- How many, and the greatest: bounds, comparisons, one more or less, and ranks.
 use mathlib.Core.Path.{_≡_, refl, _∙_, sym, ap}
 use mathlib.Core.Logic.{⊎-elim, _≢_}
-use mathlib.Core.Bool.{Bool, true, false, cond, not, _&&_, true≢false}
+use mathlib.Core.Bool.{Bool, true, false, cond, not, _&&_, and-true, and-false, true≢false}
 use Prim.Native.Nat.{ℕ, zero, suc, _+_, _≤_, _<_}
 use native.Mathlib.Nat.{not-suc-le-zero}
 use native.Mathlib.Numerals.{add-one}
 use native.Mathlib.Omega.{arith}
-use lib.Dec.{eqb, ltb}
+use lib.Dec.{eqb}
 use borrow.Author.Tests.{eq-eqb, ne-eqb}
-use Rattle.ground.specs.Truth.{eq-or-ne, fails, and-left}
+use Rattle.ground.specs.Truth.{eq-or-ne}
 use Rattle.counting.specs.Words.{count}
 
 pub count-le : (n : ℕ) (f : ℕ → Bool) → count n f ≤ n
@@ -63,19 +63,11 @@ pub count-lt : (n : ℕ) (f g : ℕ → Bool) (s : ℕ) → s < n → f s ≡ fa
     → count n f < count n g
 count-lt n f g s h u t more =
     let w : ℕ → Bool = λ k. g k && not (eqb k s) in
-    let same : (k : ℕ) → k < n → k ≢ s → g k ≡ w k = (λ k b d. rw (ne-eqb k s d) (sym (and-on (g k)))) in
-    let e : count n g ≡ suc (count n w) = count-without n g w s h t (rw (eq-eqb s s refl) (and-off (g s))) same in
+    let same : (k : ℕ) → k < n → k ≢ s → g k ≡ w k = (λ k b d. rw (ne-eqb k s d) (sym (and-true (g k)))) in
+    let e : count n g ≡ suc (count n w) = count-without n g w s h t (rw (eq-eqb s s refl) (and-false (g s))) same in
     let m : count n f ≤ count n w = count-mono n f w (λ k b v. without k b v) in
     omega arith
   where
-    and-on : (b : Bool) → (b && true) ≡ b
-    and-on true = refl
-    and-on false = refl
-
-    and-off : (b : Bool) → (b && false) ≡ false
-    and-off true = refl
-    and-off false = refl
-
     without : (k : ℕ) → k < n → f k ≡ true → (g k && not (eqb k s)) ≡ true
     without k b v =
         let d : k ≢ s = (λ (e : k ≡ s). true≢false (sym v ∙ ap f e ∙ u)) in

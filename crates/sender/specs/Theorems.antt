@@ -1,0 +1,3 @@
+-- What 01 and demand 2 ask of the sender's table, proved on the definitions.
+pub mod Demand2
+pub mod Examples
