@@ -3,6 +3,8 @@ pub mod Commands
 pub mod Laws
 pub mod Numbering
 pub mod Reports
+pub mod Shown
 pub mod Steps
 pub mod Table
 pub mod Theorems
+mod Wrong

@@ -1,45 +1,45 @@
--- P9, P10, P11 and the limits on the count (01, 'Examples'), on the definitions.
+-- P8 to P11 and the limits on the count (01, 'Examples'), on the definitions. MST in hexadecimal: the first bit is the lowest number's, 1 is FAIL.
 use mathlib.Core.Path.{_≡_, refl}
-use mathlib.Core.Bool.{Bool, true, false, cond}
 use mathlib.Core.List.{List, [], _∷_, _++_}
 use Prim.Native.Nat.{ℕ}
-use lib.ListN.{take, replicate}
 use Rattle.packet.specs.Kinds.{idleNumber, mstFails, mstFirst, mstNumbers}
-use Rattle.packet.specs.Words.{DNU, EOS, IDLE, NORM}
-use Rattle.sender.specs.declared.board.Board.{Board}
-use Rattle.sender.specs.declared.board.Row.{Row}
-use Rattle.sender.specs.declared.table.Slot.{Slot}
-use Rattle.sender.specs.declared.table.State.{State}
-use Rattle.sender.specs.declared.table.State.the-variants.{Idle, Add, Active, Dnu}
-use Rattle.sender.specs.declared.table.Table.{Table}
+use Rattle.packet.specs.Words.{ADD, DNU, EOS, IDLE, NORM}
 use Rattle.sender.specs.Board.{boardOf, highest, noRow, rowOf, rowsOf}
 use Rattle.sender.specs.Commands.{addOf, addedTo, fallen, fallenIn, freshOf, idleSlot, lapseOf, removeOf, removedFrom, startOf}
 use Rattle.sender.specs.Reports.{actedOn, comesBefore, heardIn, numberAfter, opensWait, renumbered, reportOf, slotAfter, toldIn, turnOf, waited}
-use Rattle.sender.specs.Steps.{Call, run, stepOf}
+use Rattle.sender.specs.Shown.{after, answersOf, shown, started}
+use Rattle.sender.specs.Steps.{Call}
 use Rattle.sender.specs.Steps.Call.{AddSlot, RemoveSlot, Report, Lapse}
-use Rattle.sender.specs.Table.{answerNumber, holderOf, membersOf, sizeOf}
+use Rattle.sender.specs.Table.{holderOf, membersOf, sizeOf}
 
--- a board as numbers: word and number of each slot, then the wait
-abbrev rowNumbers : List Row → List ℕ
-rowNumbers [] = []
-rowNumbers (r ∷ rs) = r .word .0 ∷ r .number ∷ rowNumbers rs
+-- the session's calls on two slots
+abbrev pub p8 : List Call
+p8 = AddSlot 0 ∷ AddSlot 1 ∷ Report 0 0xBF 0 ∷ RemoveSlot 0 ∷ []
 
-abbrev pub shown : Board → List ℕ
-shown b = rowNumbers (take (b .count) (b .rows)) ++ (cond (b .wait) 1 0 ∷ [])
+-- a member added and made active, its wait lapsed
+abbrev joined : ℕ → List Call
+joined slot = AddSlot slot ∷ Report 0 0x00 0 ∷ Lapse ∷ []
 
--- a table made by calls from a start of `count` slots
-abbrev pub after : ℕ → List Call → Table
-after count cs = run (startOf 0 count .table) cs
+-- 'NORM 0, NORM 1, EOS 2; the middle one removed'
+abbrev pub p9 : List Call
+p9 = joined 0 ++ (joined 1 ++ (joined 2 ++ (RemoveSlot 1 ∷ [])))
 
--- all of MST OK
-abbrev allOk : ℕ
-allOk = 0
+-- 'NORM 0, EOS 1; FAIL for 1'
+abbrev pub p10 : List Call
+p10 = joined 0 ++ (joined 1 ++ (Report 0 0x40 0 ∷ []))
 
--- three members made active one by one, each wait closed by a lapse: NORM 0, NORM 1, EOS 2
-abbrev three : List Call
-three =
-    AddSlot 0 ∷ Report 0 0 0 ∷ Lapse ∷ AddSlot 1 ∷ Report 0 0 0 ∷ Lapse ∷ AddSlot 2 ∷ Report 0 0 0 ∷ Lapse ∷ []
+-- 'then FAIL for 0 and 1'
+abbrev pub p11 : List Call
+p11 = p10 ++ (Report 0 0xC0 0 ∷ [])
 
-p9 : shown (boardOf (after 3 (three ++ (RemoveSlot 1 ∷ [])))) ≡ NORM ∷ 0 ∷ IDLE ∷ 255 ∷ EOS ∷ 1 ∷ 1 ∷ []
+pub examples :
+    (answersOf (after 2 []) p8 ≡ 0 ∷ 0 ∷ 0 ∷ 3 ∷ [])
+    × (shown (after 2 p8) ≡ ADD ∷ 1 ∷ EOS ∷ 0 ∷ 1 ∷ [])
+    × (shown (after 3 p9) ≡ NORM ∷ 0 ∷ IDLE ∷ 255 ∷ EOS ∷ 1 ∷ 1 ∷ [])
+    × (shown (after 2 p10) ≡ EOS ∷ 0 ∷ DNU ∷ 1 ∷ 0 ∷ [])
+    × (shown (after 2 p11) ≡ DNU ∷ 0 ∷ DNU ∷ 1 ∷ 0 ∷ [])
+    × (started 64 ≡ 0 ∷ 64 ∷ [])
+    × (started 0 ≡ 4 ∷ 0 ∷ [])
+    × (started 65 ≡ 4 ∷ 0 ∷ [])
 unfolding boardOf rowsOf rowOf noRow highest startOf freshOf idleSlot idleNumber addOf addedTo removeOf removedFrom fallen fallenIn lapseOf reportOf waited actedOn heardIn toldIn holderOf renumbered slotAfter numberAfter comesBefore turnOf opensWait sizeOf membersOf mstFails mstFirst mstNumbers
-p9 = refl
+examples = (refl, refl, refl, refl, refl, refl, refl, refl)
