@@ -17,7 +17,7 @@ fn is_holder(slot: Slot, number: u8) -> bool
     table::is_member(state) & (slot.number == number)
 }
 
-pub fn find(slots: [Slot; 64], n: usize, number: u8) -> Found
+pub(crate) fn find(slots: [Slot; 64], n: usize, number: u8) -> Found
     requires { ⌜ n ≤ 64 ⌝ }
     ensures { λ r. ⌜ r ≡ holderOf slots n number ⌝ }
 {

@@ -51,7 +51,7 @@ pub struct Step {
     pub answer: Answer,
 }
 
-pub fn is_member(state: State) -> bool
+pub(crate) fn is_member(state: State) -> bool
     ensures { λ r. ⌜ r ≡ isMember state ⌝ }
 {
     match state {
@@ -62,7 +62,7 @@ pub fn is_member(state: State) -> bool
     }
 }
 
-pub fn is_add(state: State) -> bool
+pub(crate) fn is_add(state: State) -> bool
     ensures { λ r. ⌜ r ≡ isAdd state ⌝ }
 {
     match state {
@@ -73,7 +73,7 @@ pub fn is_add(state: State) -> bool
     }
 }
 
-pub fn is_active(state: State) -> bool
+pub(crate) fn is_active(state: State) -> bool
     ensures { λ r. ⌜ r ≡ isActive state ⌝ }
 {
     match state {
@@ -84,21 +84,21 @@ pub fn is_active(state: State) -> bool
     }
 }
 
-pub fn one_if(test: bool) -> u8
+pub(crate) fn one_if(test: bool) -> u8
     ensures { λ r. ⌜ r ≡ one test ⌝ }
 {
     if test { 1 } else { 0 }
 }
 
 // How many slots there are: a count above 64, which no call returns, is taken as 64.
-pub fn size(count: u8) -> usize
+pub(crate) fn size(count: u8) -> usize
     ensures { λ r. ⌜ r ≡ sizeOf count ⌝ }
 {
     if count < 64 { count as usize } else { 64 }
 }
 
 // How many slots are not IDLE.
-pub fn members(slots: [Slot; 64], n: usize) -> u8
+pub(crate) fn members(slots: [Slot; 64], n: usize) -> u8
     requires { ⌜ n ≤ 64 ⌝ }
     ensures { λ r. ⌜ r ≡ membersOf slots n ⌝ }
 {
