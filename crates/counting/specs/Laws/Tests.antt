@@ -1,0 +1,54 @@
+-- Some and every as facts about single numbers.
+use mathlib.Core.Path.{_≡_, refl, _∙_, sym}
+use mathlib.Core.Logic.{⊎-elim, _≢_}
+use mathlib.Core.Bool.{Bool, true, false, _&&_, _||_, true≢false, false≢true}
+use Prim.Native.Nat.{ℕ, zero, suc, _+_, _<_}
+use native.Mathlib.Nat.{not-suc-le-zero}
+use native.Mathlib.Numerals.{add-one}
+use native.Mathlib.Omega.{arith}
+use Rattle.ground.specs.Truth.{and-true, and-left, and-right, or-left, or-right, or-cases, eq-or-ne}
+use Rattle.counting.specs.Words.{some, every}
+
+-- one more turn of a loop
+pub some-more : (f : ℕ → Bool) (i : ℕ) (r b : Bool) → r ≡ some i f → b ≡ f i → (r || b) ≡ some (i + 1) f
+some-more f i r b e h = rw (add-one, e, h)
+
+pub some-at : (n : ℕ) (f : ℕ → Bool) (k : ℕ) → k < n → f k ≡ true → some n f ≡ true
+some-at zero f k h t = absurd (not-suc-le-zero h)
+some-at (suc n) f k h t =
+    let rest = some-at n f k in
+    ⊎-elim (λ (e : k ≡ n). or-right (some n f) (f n) (rw (← e) t))
+    (λ (d : k ≢ n). or-left (some n f) (f n) (rest (omega arith) t))
+    (eq-or-ne k n)
+
+-- one at which the test holds
+pub record One (n : ℕ) (f : ℕ → Bool) : Type 0 where
+  pub at : ℕ
+  pub below : at < n
+  pub holds : f at ≡ true
+
+pub some-one : (n : ℕ) (f : ℕ → Bool) → some n f ≡ true → One n f
+some-one zero f t = absurd (false≢true t)
+some-one (suc n) f t =
+    let rest = some-one n f in
+    ⊎-elim (λ (e : some n f ≡ true). let o = rest e in record { at = o .at; below = (let b = o .below in omega arith); holds = o .holds })
+    (λ (e : f n ≡ true). record { at = n; below = omega arith; holds = e })
+    (or-cases (some n f) (f n) t)
+
+-- where some fails, each does
+pub none-at : (n : ℕ) (f : ℕ → Bool) → some n f ≡ false → (k : ℕ) → k < n → f k ≡ false
+none-at n f e k h = go (f k) refl
+  where
+    go : (b : Bool) → f k ≡ b → f k ≡ false
+    go true t = absurd (true≢false (sym (some-at n f k h t) ∙ e))
+    go false t = t
+
+pub every-at : (n : ℕ) (f : ℕ → Bool) → every n f ≡ true → (k : ℕ) → k < n → f k ≡ true
+every-at zero f t k h = absurd (not-suc-le-zero h)
+every-at (suc n) f t k h =
+    let rest = every-at n f (and-left (every n f) (f n) t) k in
+    ⊎-elim (λ (e : k ≡ n). rw e (and-right (every n f) (f n) t)) (λ (d : k ≢ n). rest (omega arith)) (eq-or-ne k n)
+
+pub every-all : (n : ℕ) (f : ℕ → Bool) → ((k : ℕ) → k < n → f k ≡ true) → every n f ≡ true
+every-all zero f h = refl
+every-all (suc n) f h = and-true (every n f) (f n) (every-all n f (λ k b. h k (omega arith))) (h n (omega arith))

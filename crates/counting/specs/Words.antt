@@ -1,0 +1,29 @@
+-- Some, every, how many, the one that, and the greatest, over the numbers below n. Each goes from the end, so that a loop from 0 up works out one more with each turn.
+use mathlib.Core.Bool.{Bool, true, false, cond, _&&_, _||_}
+use Prim.Native.Nat.{ℕ, zero, suc, _+_}
+use lib.Dec.{ltb}
+
+-- the test f holds at some number below n
+abbrev pub some : ℕ → (ℕ → Bool) → Bool
+some zero f = false
+some (suc n) f = some n f || f n
+
+-- the test f holds at every number below n
+abbrev pub every : ℕ → (ℕ → Bool) → Bool
+every zero f = true
+every (suc n) f = every n f && f n
+
+-- at how many numbers below n the test f holds
+abbrev pub count : ℕ → (ℕ → Bool) → ℕ
+count zero f = 0
+count (suc n) f = count n f + cond (f n) 1 0
+
+-- the last number below n at which the test f holds, 0 where it holds at none
+abbrev pub the : ℕ → (ℕ → Bool) → ℕ
+the zero f = 0
+the (suc n) f = cond (f n) n (the n f)
+
+-- the greatest m of a number below n at which the test f holds, 0 where it holds at none
+abbrev pub greatest : ℕ → (ℕ → Bool) → (ℕ → ℕ) → ℕ
+greatest zero f m = 0
+greatest (suc n) f m = cond (f n && ltb (greatest n f m) (m n)) (m n) (greatest n f m)

@@ -1,0 +1,50 @@
+use mathlib.Core.Path.{_≡_, _∙_, sym}
+use Prim.Native.Nat.{_<_, _≤_}
+use native.Mathlib.Omega.{arith}
+use lib.ListN.{length-map}
+use borrow.Author.Needs.{needs}
+use Rattle.sender.specs.Laws.Sizes.{size-le}
+use Rattle.sender.proofs.Answers.{add-no-slot, add-wait, add-not-allowed, add-done}
+use Rattle.sender.proofs.commands.add.Statement.{statement}
+use Rattle.sender.proofs.commands.add.Tie as tie
+
+size-requires : tie.Need-size-requires
+size-requires c κs = search needs
+
+returns : tie.Need-returns
+returns c = add-no-slot _ _ (c .before .size .ensures) (c .if1 .taken)
+
+returns-2 : tie.Need-returns-2
+returns-2 c = add-wait _ _ (c .before .before .size .ensures) (c .before .if1 .left) (c .if2 .taken)
+
+mul-given : tie.Need-mul-given
+mul-given c = search needs
+
+element-copy-out-given : tie.Need-element-copy-out-given
+element-copy-out-given c = omega (arith, size-le (c .before .before .before .args .t1 .count))
+
+is-member-requires : tie.Need-is-member-requires
+is-member-requires c κs = search needs
+
+returns-3 : tie.Need-returns-3
+returns-3 c = add-not-allowed _ _ (c .before .before .before .before .before .size .ensures) (c .before .before .before .before .if1 .left) (c .before .before .before .if2 .left) (sym (c .before .is-member .ensures) ∙ c .if3 .taken)
+
+added-to-requires : tie.Need-added-to-requires
+added-to-requires c κs = let h : c .before .before .before .before .before .before .args .slot < 64 = omega (arith, size-le (c .before .before .before .before .before .before .args .t1 .count)) in h
+
+returns-4 : tie.Need-returns-4
+returns-4 c = add-done _ _ (c .before .before .before .before .before .before .size .ensures) (c .before .before .before .before .before .if1 .left) (c .before .before .before .before .if2 .left) (sym (c .before .before .is-member .ensures) ∙ c .before .if3 .left) (c .added-to .ensures)
+
+pub add-spec : {M : Type 1} → statement M
+add-spec =
+    tie.close
+    (tie.spec
+    size-requires
+    returns
+    returns-2
+    mul-given
+    element-copy-out-given
+    is-member-requires
+    returns-3
+    added-to-requires
+    returns-4)

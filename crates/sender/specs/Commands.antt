@@ -1,0 +1,68 @@
+-- Start, add, remove and lapse (01, 'The sender's table').
+use mathlib.Core.Bool.{Bool, true, false, cond, not, _&&_, _||_}
+use mathlib.Core.List.{List}
+use Prim.Native.Nat.{ℕ, _-_}
+use lib.Dec.{eqb, ltb}
+use lib.ListN.{replicate, set}
+use Rattle.counting.specs.Each.{each}
+use Rattle.packet.specs.Kinds.{idleNumber}
+use Rattle.sender.specs.declared.table.Answer.{Answer}
+use Rattle.sender.specs.declared.table.Answer.the-variants.{Done, NoSlot, NotAllowed, WaitOpen, OutOfRange}
+use Rattle.sender.specs.declared.table.Slot.{Slot}
+use Rattle.sender.specs.declared.table.State.the-variants.{Idle, Add}
+use Rattle.sender.specs.declared.table.Step.{Step}
+use Rattle.sender.specs.declared.table.Table.{Table}
+use Rattle.sender.specs.Table.{isMember, membersOf, sizeOf, slotAt}
+
+abbrev pub answered : Table → Answer → Step
+answered t a = record { table = t; answer = a }
+
+-- the table with other slots and another wait
+abbrev pub withSlots : Table → List Slot → Bool → Table
+withSlots t slots wait = record { slots = slots; count = t .count; wait = wait; bit = t .bit; kind = t .kind }
+
+-- 'IDLE (number 255)'
+unfoldable pub idleSlot : ℕ → Slot
+idleSlot kind = record { state = Idle; number = idleNumber kind }
+
+-- all slots IDLE, no wait open, the remembered bit '0 at first'
+unfoldable pub freshOf : ℕ → ℕ → Table
+freshOf kind count = record { slots = replicate 64 (idleSlot kind); count = count; wait = false; bit = 0; kind = kind }
+
+-- '4: group count out of range: an empty group'
+unfoldable pub startOf : ℕ → ℕ → Step
+startOf kind count = cond (eqb count 0 || ltb 64 count) (answered (freshOf kind 0) OutOfRange) (answered (freshOf kind count) Done)
+
+-- 'For commands: 1, 3, 2.' What a command allowed makes of the table is given.
+abbrev pub inOrder : Table → ℕ → Bool → Table → Step
+inOrder t i allowed next =
+    cond (ltb i (sizeOf (t .count)))
+    (cond (t .wait) (answered t WaitOpen) (cond allowed (answered next Done) (answered t NotAllowed)))
+    (answered t NoSlot)
+
+-- 'state ADD, next free number. No wait opens.'
+unfoldable pub addedTo : Table → ℕ → Table
+addedTo t i = withSlots t (set (t .slots) i (record { state = Add; number = membersOf (t .slots) (sizeOf (t .count)) })) (t .wait)
+
+-- 'Add, from IDLE'
+unfoldable pub addOf : Table → ℕ → Step
+addOf t i = inOrder t i (not (isMember (slotAt (t .slots) i .state))) (addedTo t i)
+
+-- 'Higher numbers fall by one': those of members alone, an IDLE slot's 255 stays
+unfoldable pub fallen : ℕ → Slot → Slot
+fallen q s = record { state = s .state; number = cond (isMember (s .state) && ltb q (s .number)) (s .number - 1) (s .number) }
+
+unfoldable pub fallenIn : List Slot → ℕ → ℕ → List Slot
+fallenIn slots n q = each n (λ j. fallen q (slotAt slots j)) slots
+
+-- 'IDLE with 255. Higher numbers fall by one. A wait opens.'
+unfoldable pub removedFrom : Table → ℕ → Table
+removedFrom t i = withSlots t (set (fallenIn (t .slots) (sizeOf (t .count)) (slotAt (t .slots) i .number)) i (idleSlot (t .kind))) true
+
+-- 'Remove, from ADD, active or DNU'
+unfoldable pub removeOf : Table → ℕ → Step
+removeOf t i = inOrder t i (isMember (slotAt (t .slots) i .state)) (removedFrom t i)
+
+-- 'Lapse: closes an open wait'; '2: lapse with no wait open'
+unfoldable pub lapseOf : Table → Step
+lapseOf t = cond (t .wait) (answered (withSlots t (t .slots) false) Done) (answered t NotAllowed)

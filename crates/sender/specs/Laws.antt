@@ -1,0 +1,8 @@
+-- Laws on the definitions, for the proofs above them.
+pub mod Adding
+pub mod Finding
+pub mod Kept
+pub mod Numbered
+pub mod Removing
+pub mod Reporting
+pub mod Sizes

@@ -1,0 +1,54 @@
+-- The slot that holds a number, as a loop finds it.
+use mathlib.Core.Path.{_≡_, refl, _∙_, sym}
+use mathlib.Core.Logic.{⊎-elim, _≢_}
+use mathlib.Core.Bool.{Bool, true, false, cond}
+use mathlib.Core.List.{List}
+use Prim.Native.Nat.{ℕ, zero, suc, _+_, _≤_, _<_}
+use native.Mathlib.Nat.{not-suc-le-zero}
+use native.Mathlib.Numerals.{add-one}
+use native.Mathlib.Omega.{arith}
+use lib.Dec.{eqb}
+use Rattle.ground.specs.Truth.{eq-or-ne}
+use Rattle.sender.specs.declared.finding.Found.{Found}
+use Rattle.sender.specs.declared.finding.Found.the-variants.{At, Nothing}
+use Rattle.sender.specs.declared.table.Slot.{Slot}
+use Rattle.sender.specs.Table.{earlier, holderOf, holds, slotAt}
+
+module _ (slots : List Slot) (q : ℕ) where
+  pub holder-none : holderOf slots 0 q ≡ Nothing
+  unfolding holderOf
+  holder-none = refl
+
+  -- a slot that does not hold the number is passed over
+  pub holder-pass : (i : ℕ) → holderOf slots i q ≡ Nothing → holds (slotAt slots i) q ≡ false → holderOf slots (i + 1) q ≡ Nothing
+  unfolding holderOf
+  holder-pass i e h = rw (add-one, e, h)
+
+  -- the first that holds it is found
+  pub holder-here : (i n : ℕ) → i < n → holderOf slots i q ≡ Nothing → holds (slotAt slots i) q ≡ true → holderOf slots n q ≡ At i
+  unfolding holderOf
+  holder-here i zero b e h = absurd (not-suc-le-zero b)
+  holder-here i (suc n) b e h =
+      let rest = holder-here i n in
+      ⊎-elim (λ (g : i ≡ n). rw (← g, e, h)) (λ (g : i ≢ n). rw (rest (omega arith) e h)) (eq-or-ne i n)
+
+  -- what is found is one of the n slots, and holds the number
+  pub holder-said : (n i : ℕ) → holderOf slots n q ≡ At i → (i < n) × (holds (slotAt slots i) q ≡ true)
+  unfolding holderOf
+  holder-said zero i e = absurd (let z : _≡_ {A = ℕ} 0 1 = cc in omega arith)
+  holder-said (suc n) i e = go (holderOf slots n q) refl (holds (slotAt slots n) q) refl (holder-said n)
+    where
+      go : (f : Found) → holderOf slots n q ≡ f → (b : Bool) → holds (slotAt slots n) q ≡ b
+          → ((j : ℕ) → holderOf slots n q ≡ At j → (j < n) × (holds (slotAt slots j) q ≡ true)) → (i < suc n) × (holds (slotAt slots i) q ≡ true)
+      go (At j) g b h rest =
+          let same : At j ≡ At i = rw g at e in
+          let k : j ≡ i = cc in
+          let r = rest i (g ∙ same) in
+          (let l = r .0 in omega arith, r .1)
+      go Nothing g true h rest =
+          let same : At n ≡ At i = rw (g, h) at e in
+          let k : n ≡ i = cc in
+          (omega arith, rw (← k) h)
+      go Nothing g false h rest =
+          let same : Nothing ≡ At i = rw (g, h) at e in
+          absurd (let z : _≡_ {A = ℕ} 0 1 = cc in omega arith)

@@ -1,0 +1,10 @@
+pub mod Board
+pub mod Commands
+pub mod Laws
+pub mod Numbering
+pub mod Reports
+pub mod Shown
+pub mod Steps
+pub mod Table
+pub mod Theorems
+mod Wrong

@@ -1,0 +1,24 @@
+-- The sender's calls as one step, and runs of them.
+use mathlib.Core.List.{List, [], _∷_}
+use Prim.Native.Nat.{ℕ}
+use Rattle.sender.specs.declared.table.Step.{Step}
+use Rattle.sender.specs.declared.table.Table.{Table}
+use Rattle.sender.specs.Commands.{addOf, lapseOf, removeOf}
+use Rattle.sender.specs.Reports.{reportOf}
+
+pub data Call : Type 0 where
+  AddSlot : ℕ → Call
+  RemoveSlot : ℕ → Call
+  Report : ℕ → ℕ → ℕ → Call
+  Lapse : Call
+
+abbrev pub stepOf : Table → Call → Step
+stepOf t (AddSlot i) = addOf t i
+stepOf t (RemoveSlot i) = removeOf t i
+stepOf t (Report e mst ack) = reportOf t e mst ack
+stepOf t Lapse = lapseOf t
+
+-- each call on the table that the one before returned
+abbrev pub run : Table → List Call → Table
+run t [] = t
+run t (c ∷ cs) = run (stepOf t c .table) cs

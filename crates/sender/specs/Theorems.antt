@@ -1,0 +1,5 @@
+-- What 01 and demand 2 ask of the sender's table, proved on the definitions.
+pub mod Demand2
+pub mod Examples
+pub mod Only
+pub mod Reports

@@ -1,0 +1,50 @@
+-- Shut out by name (01, 'What the promises have to say'): a sender that does nothing on reports, and one that acts on the first report only.
+use mathlib.Core.Path.{_≡_, refl, _∙_, sym, ap}
+use mathlib.Core.Bool.{Bool, true, false, true≢false, false≢true}
+use mathlib.Core.List.{List, [], _∷_, _++_}
+use Prim.Native.Nat.{ℕ}
+use Rattle.packet.specs.Kinds.{idleNumber, mstFails, mstFirst, mstNumbers}
+use Rattle.sender.specs.declared.table.Step.{Step}
+use Rattle.sender.specs.declared.table.Table.{Table}
+use Rattle.sender.specs.Commands.{addOf, addedTo, freshOf, idleSlot, lapseOf, startOf}
+use Rattle.sender.specs.Numbering.{stateIn}
+use Rattle.sender.specs.Reports.{actedOn, comesBefore, heardIn, numberAfter, opensWait, renumbered, reportOf, slotAfter, toldIn, turnOf, waited}
+use Rattle.sender.specs.Shown.{after}
+use Rattle.sender.specs.Steps.{Call, stepOf}
+use Rattle.sender.specs.Steps.Call.{AddSlot, Report, Lapse}
+use Rattle.sender.specs.Table.{holderOf, isActive, membersOf, sizeOf}
+
+-- slot 0 is active
+abbrev carries : Table → Bool
+carries t = isActive (stateIn t 0)
+
+-- one slot added; then reported OK; then, its wait lapsed, reported FAIL
+abbrev asked : List Call
+asked = AddSlot 0 ∷ []
+
+abbrev answered : List Call
+answered = AddSlot 0 ∷ Report 0 0x00 0 ∷ Lapse ∷ []
+
+acts :
+    (carries (after 1 asked) ≡ false)
+    × (carries (stepOf (after 1 asked) (Report 0 0x00 0) .table) ≡ true)
+    × (carries (after 1 answered) ≡ true)
+    × (carries (stepOf (after 1 answered) (Report 0 0x80 0) .table) ≡ false)
+unfolding startOf freshOf idleSlot idleNumber addOf addedTo lapseOf reportOf waited actedOn heardIn toldIn holderOf renumbered slotAfter numberAfter comesBefore turnOf opensWait sizeOf membersOf mstFails mstFirst mstNumbers
+acts = (refl, refl, refl, refl)
+
+-- any sender that meets the contracts
+module _ (step : Table → Call → Step) (meets : (t : Table) (c : Call) → step t c ≡ stepOf t c) where
+  changes : (t : Table) (c : Call) → step t c .table ≡ t → carries (stepOf t c .table) ≡ carries t
+  changes t c same = ap (λ (s : Step). carries (s .table)) (sym (meets t c)) ∙ ap carries same
+
+  pub does-nothing : ((t : Table) (e mst ack : ℕ) → step t (Report e mst ack) .table ≡ t) → ⊥
+  does-nothing idle = true≢false (sym (acts .1) ∙ changes (after 1 asked) (Report 0 0x00 0) (idle (after 1 asked) 0 0x00 0) ∙ acts .0)
+
+  -- whatever calls came before a first report and after it
+  pub first-only :
+      ((count : ℕ) (before behind : List Call) (e mst ack f nst bck : ℕ)
+      → step (after count (before ++ (Report e mst ack ∷ behind))) (Report f nst bck) .table ≡ after count (before ++ (Report e mst ack ∷ behind)))
+      → ⊥
+  first-only idle =
+      false≢true (sym (acts .3) ∙ changes (after 1 answered) (Report 0 0x80 0) (idle 1 asked (Lapse ∷ []) 0 0x00 0 0 0x80 0) ∙ acts .2)

@@ -1,0 +1,114 @@
+// The table of slots by value, and what each call gives back.
+ghost use mathlib.Core.Path.{_≡_};
+ghost use Prim.Native.Nat.{_≤_};
+ghost use Rattle.sender.specs.Table.{answerNumber, isAdd, isActive, isMember, membersOf, one, sizeOf};
+
+pub enum State {
+    Idle,
+    Add,
+    Active,
+    Dnu,
+}
+
+pub struct Slot {
+    pub state: State,
+    pub number: u8,
+}
+
+// wait: a wait is open. bit: the remembered RS-Ack. kind: the kind of packet.
+pub struct Table {
+    pub slots: [Slot; 64],
+    pub count: u8,
+    pub wait: bool,
+    pub bit: u8,
+    pub kind: u8,
+}
+
+pub enum Answer {
+    Done,
+    NoSlot,
+    NotAllowed,
+    WaitOpen,
+    OutOfRange,
+}
+
+impl Answer {
+    pub fn number(self) -> u8
+        ensures { λ r. ⌜ r ≡ answerNumber self ⌝ }
+    {
+        match self {
+            Answer::Done => 0,
+            Answer::NoSlot => 1,
+            Answer::NotAllowed => 2,
+            Answer::WaitOpen => 3,
+            Answer::OutOfRange => 4,
+        }
+    }
+}
+
+pub struct Step {
+    pub table: Table,
+    pub answer: Answer,
+}
+
+pub(crate) fn is_member(state: State) -> bool
+    ensures { λ r. ⌜ r ≡ isMember state ⌝ }
+{
+    match state {
+        State::Idle => false,
+        State::Add => true,
+        State::Active => true,
+        State::Dnu => true,
+    }
+}
+
+pub(crate) fn is_add(state: State) -> bool
+    ensures { λ r. ⌜ r ≡ isAdd state ⌝ }
+{
+    match state {
+        State::Idle => false,
+        State::Add => true,
+        State::Active => false,
+        State::Dnu => false,
+    }
+}
+
+pub(crate) fn is_active(state: State) -> bool
+    ensures { λ r. ⌜ r ≡ isActive state ⌝ }
+{
+    match state {
+        State::Idle => false,
+        State::Add => false,
+        State::Active => true,
+        State::Dnu => false,
+    }
+}
+
+pub(crate) fn one_if(test: bool) -> u8
+    ensures { λ r. ⌜ r ≡ one test ⌝ }
+{
+    if test { 1 } else { 0 }
+}
+
+// How many slots there are: a count above 64, which no call returns, is taken as 64.
+pub(crate) fn size(count: u8) -> usize
+    ensures { λ r. ⌜ r ≡ sizeOf count ⌝ }
+{
+    if count < 64 { count as usize } else { 64 }
+}
+
+// How many slots are not IDLE.
+pub(crate) fn members(slots: [Slot; 64], n: usize) -> u8
+    requires { ⌜ n ≤ 64 ⌝ }
+    ensures { λ r. ⌜ r ≡ membersOf slots n ⌝ }
+{
+    let mut sum = 0;
+    let mut i = 0;
+    while i < n {
+        let slot = slots[i];
+        let state = slot.state;
+        sum += one_if(is_member(state));
+        i += 1;
+    }
+    sum
+}
