@@ -12,6 +12,14 @@ use Rattle.packet.specs.Writing.{fitting, writeAnswer, writeBytes, writingNumbe
 use Rattle.payload.specs.Answers.{numberOf}
 use Rattle.payload.specs.Joining.{joined, wholeAnswer}
 use Rattle.payload.specs.Spreading.{spreadAll}
+use Rattle.packet.specs.Kinds.{idleNumber, mstFails, mstFirst, mstNumbers}
+use Rattle.sender.specs.Board.{boardOf, highest, noRow, rowOf, rowsOf}
+use Rattle.sender.specs.Commands.{addOf, addedTo, fallen, fallenIn, freshOf, idleSlot, lapseOf, removeOf, removedFrom, startOf}
+use Rattle.sender.specs.Reports.{actedOn, comesBefore, heardIn, numberAfter, opensWait, renumbered, reportOf, slotAfter, toldIn, turnOf, waited}
+use Rattle.sender.specs.Shown.{after, answersOf, shown, started}
+use Rattle.sender.specs.Steps.{Call}
+use Rattle.sender.specs.Steps.Call.{AddSlot, Lapse, RemoveSlot, Report}
+use Rattle.sender.specs.Table.{holderOf, membersOf, sizeOf}
 use Rattle.paper.specs.Rows.{Row, Equal, equal-rows}
 
 -- nibbles two by two, as 01 writes a packet's data and CRC
@@ -30,6 +38,26 @@ p2 = record { epoch = 1; word = record { 0 = EOS }; gid = 1; mst = 0xFF; «rs_ac
 
 abbrev p1-h4 : List ℕ
 p1-h4 = 0xF8 ∷ 0xF9 ∷ 0x0A ∷ 0x0B ∷ 0x0C ∷ 0x0D ∷ 0xFE ∷ 0xFF ∷ 0x00 ∷ 0x01 ∷ 0x52 ∷ 0x03 ∷ 0x04 ∷ 0x05 ∷ 0x96 ∷ 0x97 ∷ []
+
+-- the session's calls on two slots
+abbrev p8 : List Call
+p8 = AddSlot 0 ∷ AddSlot 1 ∷ Report 0 0xBF 0 ∷ RemoveSlot 0 ∷ []
+
+-- a member added and made active, its wait lapsed
+abbrev active : ℕ → List Call
+active slot = AddSlot slot ∷ Report 0 0x00 0 ∷ Lapse ∷ []
+
+-- 'NORM 0, NORM 1, EOS 2; the middle one removed'
+abbrev p9 : List Call
+p9 = active 0 ++ (active 1 ++ (active 2 ++ (RemoveSlot 1 ∷ [])))
+
+-- 'NORM 0, EOS 1; FAIL for 1'
+abbrev p10 : List Call
+p10 = active 0 ++ (active 1 ++ (Report 0 0x40 0 ∷ []))
+
+-- 'then FAIL for 0 and 1'
+abbrev p11 : List Call
+p11 = p10 ++ (Report 0 0xC0 0 ∷ [])
 
 pub table : List Row
 table =
@@ -68,8 +96,16 @@ table =
     ∷ record { name = "P of 0"; given = numberOf (wholeAnswer 0 0 0 0) ∷ []; said = 4 ∷ [] }
     ∷ record { name = "P of 2,340"; given = numberOf (wholeAnswer 1 2340 2340 2340) ∷ []; said = 0 ∷ [] }
     ∷ record { name = "P of 2,341"; given = numberOf (wholeAnswer 1 2341 2341 2341) ∷ []; said = 4 ∷ [] }
+    ∷ record { name = "P8 answers"; given = answersOf (after 2 []) p8; said = 0 ∷ 0 ∷ 0 ∷ 3 ∷ [] }
+    ∷ record { name = "P8 board: ADD 1, EOS 0, wait 1"; given = shown (after 2 p8); said = 1 ∷ 1 ∷ 3 ∷ 0 ∷ 1 ∷ [] }
+    ∷ record { name = "P9: NORM 0, IDLE 255, EOS 1, wait open"; given = shown (after 3 p9); said = 2 ∷ 0 ∷ 5 ∷ 255 ∷ 3 ∷ 1 ∷ 1 ∷ [] }
+    ∷ record { name = "P10: EOS 0, DNU 1, no wait"; given = shown (after 2 p10); said = 3 ∷ 0 ∷ 15 ∷ 1 ∷ 0 ∷ [] }
+    ∷ record { name = "P11: two DNU, no EOS"; given = shown (after 2 p11); said = 15 ∷ 0 ∷ 15 ∷ 1 ∷ 0 ∷ [] }
+    ∷ record { name = "64 slots start"; given = started 64; said = 0 ∷ 64 ∷ [] }
+    ∷ record { name = "0 slots"; given = started 0; said = 4 ∷ 0 ∷ [] }
+    ∷ record { name = "65 slots"; given = started 65; said = 4 ∷ 0 ∷ [] }
     ∷ []
 
 pub examples : Equal table
-unfolding table nibblesOf sealedOf dataOf crcOf divisor byteBits nibbleBits writeAnswer writeBytes fitting assigned h4Of readAnswer readNibbles fieldsOf carriedIn highsOf
+unfolding table nibblesOf sealedOf dataOf crcOf divisor byteBits nibbleBits writeAnswer writeBytes fitting assigned h4Of readAnswer readNibbles fieldsOf carriedIn highsOf boardOf rowsOf rowOf noRow highest startOf freshOf idleSlot idleNumber addOf addedTo removeOf removedFrom fallen fallenIn lapseOf reportOf waited actedOn heardIn toldIn holderOf renumbered slotAfter numberAfter comesBefore turnOf opensWait sizeOf membersOf mstFails mstFirst mstNumbers
 examples = equal-rows table refl

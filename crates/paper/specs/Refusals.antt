@@ -1,10 +1,12 @@
 -- The refusals of every entry point that can refuse (demand 1), in one table under one statement.
 pub mod Packets
 pub mod Payloads
+pub mod Tables
 use mathlib.Core.List.{List, [], _∷_}
 use Rattle.paper.specs.Entries.{Entry, AllCope}
 use Packets.{write, write-copes, read, read-copes, readSixteen, readSixteen-copes, writeC, writeC-copes, readC, readC-copes}
 use Payloads.{spread, spread-copes, join, join-copes, spreadOneMember, spreadOne-copes, joinFrom, joinFrom-copes, spreadC, spreadC-copes, joinC, joinC-copes}
+use Tables.{start, start-copes, add, add-copes, remove, remove-copes, report, report-copes, lapse, lapse-copes}
 
 pub table : List Entry
 table =
@@ -15,6 +17,11 @@ table =
     ∷ join
     ∷ spreadOneMember
     ∷ joinFrom
+    ∷ start
+    ∷ add
+    ∷ remove
+    ∷ report
+    ∷ lapse
     ∷ writeC
     ∷ readC
     ∷ spreadC
@@ -38,14 +45,29 @@ entries = (
             (
               joinFrom-copes,
               (
-                writeC-copes,
+                start-copes,
                 (
-                  readC-copes,
+                  add-copes,
                   (
-                    spreadC-copes,
+                    remove-copes,
                     (
-                      joinC-copes,
-                      tt,
+                      report-copes,
+                      (
+                        lapse-copes,
+                        (
+                          writeC-copes,
+                          (
+                            readC-copes,
+                            (
+                              spreadC-copes,
+                              (
+                                joinC-copes,
+                                tt,
+                              ),
+                            ),
+                          ),
+                        ),
+                      ),
                     ),
                   ),
                 ),

@@ -59,6 +59,9 @@ write =
       answer = λ x. writingNumber (writeAnswer (x .fields) (x .h4));
       lent = λ x. x .h4 ∷ [];
       left = λ x. writeBytes (x .fields) (x .h4) ∷ [];
+      State = Unit {0};
+      given = λ i. tt;
+      returned = λ i. tt;
     }
 
 pub write-copes : Copes write
@@ -67,6 +70,7 @@ write-copes =
     record {
       in-order = λ x. writes-in-order (sized 16 (x .h4)) (fitting (x .fields));
       untouched = λ x d. ap (λ l. l ∷ []) (writes-untouched (sized 16 (x .h4)) (fitting (x .fields)) _ (x .h4) d);
+      as-given = λ i k. refl;
     }
 
 pub record WriteInputC : Type 0 where
@@ -93,6 +97,9 @@ writeC =
       answer = λ x. writeAnswerC (x .epoch) (x .word) (x .gid) (x .mst) (x .ack) (x .sq) (x .h4);
       lent = λ x. x .h4 ∷ [];
       left = λ x. writeBytesC (x .epoch) (x .word) (x .gid) (x .mst) (x .ack) (x .sq) (x .h4) ∷ [];
+      State = Unit {0};
+      given = λ i. tt;
+      returned = λ i. tt;
     }
 
 pub writeC-copes : Copes writeC
@@ -101,6 +108,7 @@ writeC-copes =
     record {
       in-order = λ x. writes-in-order (sized 16 (x .h4)) (fitting (inputFields x));
       untouched = λ x d. ap (λ l. l ∷ []) (writes-untouched (sized 16 (x .h4)) (fitting (inputFields x)) _ (x .h4) d);
+      as-given = λ i k. refl;
     }
 
 -- Reading a packet: 9, 5, 7, 6.
@@ -137,12 +145,15 @@ readSixteen =
       answer = λ ns. readingNumber (readNibbles ns);
       lent = λ ns. [];
       left = λ ns. [];
+      State = Unit {0};
+      given = λ i. tt;
+      returned = λ i. tt;
     }
 
 pub readSixteen-copes : Copes readSixteen
 unfolding readNibbles
 readSixteen-copes =
-    record { in-order = λ ns. reads-in-order true true (crcRight ns) (fixed ns) (known ns) (fieldsOf ns); untouched = λ ns d. refl }
+    record { in-order = λ ns. reads-in-order true true (crcRight ns) (fixed ns) (known ns) (fieldsOf ns); untouched = λ ns d. refl; as-given = λ i k. refl }
 
 abbrev pub read : Entry
 read =
@@ -158,6 +169,9 @@ read =
       answer = λ h4. readingNumber (readAnswer h4);
       lent = λ h4. [];
       left = λ h4. [];
+      State = Unit {0};
+      given = λ i. tt;
+      returned = λ i. tt;
     }
 
 pub read-copes : Copes read
@@ -166,6 +180,7 @@ read-copes =
     record {
       in-order = λ h4. let ns = highsOf h4 in reads-in-order true (sized 16 h4) (crcRight ns) (fixed ns) (known ns) (fieldsOf ns);
       untouched = λ h4 d. refl;
+      as-given = λ i k. refl;
     }
 
 pub record ReadInputC : Type 0 where
@@ -186,6 +201,9 @@ readC =
       answer = λ x. readAnswerC (x .h4) (x .fields);
       lent = λ x. x .fields ∷ [];
       left = λ x. readFieldsC (x .h4) (x .fields) ∷ [];
+      State = Unit {0};
+      given = λ i. tt;
+      returned = λ i. tt;
     }
 
 pub readC-copes : Copes readC
@@ -194,4 +212,5 @@ readC-copes =
     record {
       in-order = λ x. let ns = highsOf (x .h4) in reads-in-order (sized 6 (x .fields)) (sized 16 (x .h4)) (crcRight ns) (fixed ns) (known ns) (fieldsOf ns);
       untouched = λ x d. ap (λ l. l ∷ []) (reads-untouched (sized 6 (x .fields)) (readAnswer (x .h4)) (x .fields) d);
+      as-given = λ i k. refl;
     }

@@ -46,11 +46,15 @@ whole-copes : (name : String) (new : Whole → List ℕ) → Copes (record {
   answer = λ i. numberOf (wholeAnswer (i .x) (i .p) (length (i .from)) (length (i .to)));
   lent = λ i. i .to ∷ [];
   left = λ i. underDone (wholeAnswer (i .x) (i .p) (length (i .from)) (length (i .to))) (new i) (i .to) ∷ [];
+  State = Unit {0};
+  given = λ i. tt;
+  returned = λ i. tt;
 })
 whole-copes name new =
     record {
       in-order = λ i. in-order (sized (i .x) (i .p)) (wholeLengths i);
       untouched = λ i d. ap (λ l. l ∷ []) (untouched (sized (i .x) (i .p)) (wholeLengths i) (new i) (i .to) d);
+      as-given = λ i k. refl;
     }
 
 abbrev pub spread : Entry
@@ -62,6 +66,9 @@ spread =
       answer = λ i. numberOf (wholeAnswer (i .x) (i .p) (length (i .from)) (length (i .to)));
       lent = λ i. i .to ∷ [];
       left = λ i. spreadAll (i .x) (i .p) (i .from) (i .to) ∷ [];
+      State = Unit {0};
+      given = λ i. tt;
+      returned = λ i. tt;
     }
 
 pub spread-copes : Copes spread
@@ -76,6 +83,9 @@ join =
       answer = λ i. numberOf (wholeAnswer (i .x) (i .p) (length (i .from)) (length (i .to)));
       lent = λ i. i .to ∷ [];
       left = λ i. joined (i .x) (i .p) (i .from) (i .to) ∷ [];
+      State = Unit {0};
+      given = λ i. tt;
+      returned = λ i. tt;
     }
 
 pub join-copes : Copes join
@@ -90,6 +100,9 @@ spreadC =
       answer = λ i. spreadAnswerC (i .x) (i .p) (i .from) (i .to);
       lent = λ i. i .to ∷ [];
       left = λ i. spreadMembersC (i .x) (i .p) (i .from) (i .to) ∷ [];
+      State = Unit {0};
+      given = λ i. tt;
+      returned = λ i. tt;
     }
 
 pub spreadC-copes : Copes spreadC
@@ -104,6 +117,9 @@ joinC =
       answer = λ i. joinAnswerC (i .x) (i .p) (i .from) (i .to);
       lent = λ i. i .to ∷ [];
       left = λ i. joinFrameC (i .x) (i .p) (i .from) (i .to) ∷ [];
+      State = Unit {0};
+      given = λ i. tt;
+      returned = λ i. tt;
     }
 
 pub joinC-copes : Copes joinC
@@ -128,6 +144,9 @@ spreadOneMember =
       answer = λ i. numberOf (oneAnswer (i .x) (i .p) (length (i .frame)) (length (i .member)));
       lent = λ i. i .member ∷ [];
       left = λ i. spreadOne (i .x) (i .p) (i .rank) (i .frame) (i .member) ∷ [];
+      State = Unit {0};
+      given = λ i. tt;
+      returned = λ i. tt;
     }
 
 pub spreadOne-copes : Copes spreadOneMember
@@ -135,6 +154,7 @@ spreadOne-copes =
     record {
       in-order = λ i. in-order (sized (i .x) (i .p)) (oneLengths i);
       untouched = λ i d. ap (λ l. l ∷ []) (untouched (sized (i .x) (i .p)) (oneLengths i) (memberFrame (i .x) (i .p) (i .frame) (i .rank)) (i .member) d);
+      as-given = λ i k. refl;
     }
 
 pub record From : Type 0 where
@@ -157,6 +177,9 @@ joinFrom =
       answer = λ i. numberOf (fromAnswer (i .x) (i .p) (i .starts) (length (i .store)) (i .place) (length (i .out)));
       lent = λ i. i .out ∷ [];
       left = λ i. joinedFrom (i .x) (i .p) (i .starts) (i .store) (i .place) (i .out) ∷ [];
+      State = Unit {0};
+      given = λ i. tt;
+      returned = λ i. tt;
     }
 
 pub joinFrom-copes : Copes joinFrom
@@ -166,4 +189,5 @@ joinFrom-copes =
       untouched = λ i d.
           ap (λ l. l ∷ [])
           (untouched (sized (i .x) (i .p)) (fromLengths i) (fillAt (i .place) (i .x * i .p) (groupByte (i .x) (startedByte (i .starts) (i .store))) (i .out)) (i .out) d);
+      as-given = λ i k. refl;
     }

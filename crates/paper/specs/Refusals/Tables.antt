@@ -1,0 +1,199 @@
+-- The refusals of the sender's table: starting 4; for commands 1, 3, 2; lapse 2; a report has none.
+use mathlib.Core.Path.{_≡_, refl}
+use mathlib.Core.Bool.{Bool, true, false, cond, not, _||_, false≢true}
+use mathlib.Core.List.{List, [], _∷_}
+use Prim.Native.Nat.{ℕ}
+use lib.Dec.{eqb, ltb}
+use Rattle.paper.specs.Entries.{Entry, Copes, keepsState}
+use Rattle.sender.specs.declared.table.Answer.the-variants.{Done, NotAllowed, OutOfRange}
+use Rattle.sender.specs.declared.table.Table.{Table}
+use Rattle.sender.specs.Commands.{addOf, addedTo, answered, freshOf, inOrder, lapseOf, removeOf, removedFrom, startOf, withSlots}
+use Rattle.sender.specs.Reports.{reportOf}
+use Rattle.sender.specs.Steps.{Call, stepOf}
+use Rattle.sender.specs.Steps.Call.{AddSlot, Lapse, RemoveSlot, Report}
+use Rattle.sender.specs.Table.{answerNumber, isMember, sizeOf, slotAt}
+
+-- Starting: '4: group count out of range: an empty group'.
+
+pub record StartInput : Type 0 where
+  pub kind : ℕ
+  pub count : ℕ
+
+-- the state that starting is given is none, and what it returns under 4 is an empty group
+abbrev pub start : Entry
+start =
+    record {
+      name = "sender::start";
+      Input = StartInput;
+      refusals = record { number = 4; condition = λ i. eqb (i .count) 0 || ltb 64 (i .count) } ∷ [];
+      answer = λ i. answerNumber (startOf (i .kind) (i .count) .answer);
+      lent = λ i. [];
+      left = λ i. [];
+      State = Table;
+      given = λ i. freshOf (i .kind) 0;
+      returned = λ i. startOf (i .kind) (i .count) .table;
+    }
+
+starts-in-order : (out : Bool) (none some : Table) → answerNumber (cond out (answered none OutOfRange) (answered some Done) .answer) ≡ cond out 4 0
+starts-in-order true none some = refl
+starts-in-order false none some = refl
+
+starts-as-given : (out : Bool) (none some : Table) → keepsState (answerNumber (cond out (answered none OutOfRange) (answered some Done) .answer)) ≡ true
+    → cond out (answered none OutOfRange) (answered some Done) .table ≡ none
+starts-as-given true none some k = refl
+starts-as-given false none some k = absurd (false≢true k)
+
+pub start-copes : Copes start
+unfolding startOf
+start-copes =
+    record {
+      in-order = λ i. starts-in-order (eqb (i .count) 0 || ltb 64 (i .count)) (freshOf (i .kind) 0) (freshOf (i .kind) (i .count));
+      untouched = λ i d. refl;
+      as-given = λ i k. starts-as-given (eqb (i .count) 0 || ltb 64 (i .count)) (freshOf (i .kind) 0) (freshOf (i .kind) (i .count)) k;
+    }
+
+-- Commands: 1, 3, 2.
+
+pub record CommandInput : Type 0 where
+  pub table : Table
+  pub slot : ℕ
+
+abbrev below : CommandInput → Bool
+below i = ltb (i .slot) (sizeOf (i .table .count))
+
+abbrev member : CommandInput → Bool
+member i = isMember (slotAt (i .table .slots) (i .slot) .state)
+
+commands-in-order : (t next : Table) (i : ℕ) (allowed : Bool)
+    → answerNumber (inOrder t i allowed next .answer) ≡ cond (not (ltb i (sizeOf (t .count)))) 1 (cond (t .wait) 3 (cond (not allowed) 2 0))
+commands-in-order t next i allowed = go (ltb i (sizeOf (t .count))) (t .wait) allowed refl refl
+  where
+    go : (b w a : Bool) → ltb i (sizeOf (t .count)) ≡ b → t .wait ≡ w
+        → answerNumber (inOrder t i a next .answer) ≡ cond (not (ltb i (sizeOf (t .count)))) 1 (cond (t .wait) 3 (cond (not a) 2 0))
+    go true true a eb ew = rw (eb, ew) refl
+    go true false true eb ew = rw (eb, ew) refl
+    go true false false eb ew = rw (eb, ew) refl
+    go false w a eb ew = rw eb refl
+
+commands-as-given : (t next : Table) (i : ℕ) (allowed : Bool) → keepsState (answerNumber (inOrder t i allowed next .answer)) ≡ true → inOrder t i allowed next .table ≡ t
+commands-as-given t next i allowed k = go (ltb i (sizeOf (t .count))) (t .wait) allowed refl refl k
+  where
+    go : (b w a : Bool) → ltb i (sizeOf (t .count)) ≡ b → t .wait ≡ w → keepsState (answerNumber (inOrder t i a next .answer)) ≡ true → inOrder t i a next .table ≡ t
+    go true true a eb ew k = rw (eb, ew) refl
+    go true false true eb ew k = absurd (false≢true (rw (eb, ew) at k))
+    go true false false eb ew k = rw (eb, ew) refl
+    go false w a eb ew k = rw eb refl
+
+abbrev pub add : Entry
+add =
+    record {
+      name = "sender::add";
+      Input = CommandInput;
+      refusals =
+          record { number = 1; condition = λ i. not (below i) }
+          ∷ record { number = 3; condition = λ i. i .table .wait }
+          ∷ record { number = 2; condition = λ i. not (not (member i)) }
+          ∷ [];
+      answer = λ i. answerNumber (stepOf (i .table) (AddSlot (i .slot)) .answer);
+      lent = λ i. [];
+      left = λ i. [];
+      State = Table;
+      given = λ i. i .table;
+      returned = λ i. stepOf (i .table) (AddSlot (i .slot)) .table;
+    }
+
+pub add-copes : Copes add
+unfolding addOf
+add-copes =
+    record {
+      in-order = λ i. commands-in-order (i .table) (addedTo (i .table) (i .slot)) (i .slot) (not (member i));
+      untouched = λ i d. refl;
+      as-given = λ i k. commands-as-given (i .table) (addedTo (i .table) (i .slot)) (i .slot) (not (member i)) k;
+    }
+
+abbrev pub remove : Entry
+remove =
+    record {
+      name = "sender::remove";
+      Input = CommandInput;
+      refusals =
+          record { number = 1; condition = λ i. not (below i) }
+          ∷ record { number = 3; condition = λ i. i .table .wait }
+          ∷ record { number = 2; condition = λ i. not (member i) }
+          ∷ [];
+      answer = λ i. answerNumber (stepOf (i .table) (RemoveSlot (i .slot)) .answer);
+      lent = λ i. [];
+      left = λ i. [];
+      State = Table;
+      given = λ i. i .table;
+      returned = λ i. stepOf (i .table) (RemoveSlot (i .slot)) .table;
+    }
+
+pub remove-copes : Copes remove
+unfolding removeOf
+remove-copes =
+    record {
+      in-order = λ i. commands-in-order (i .table) (removedFrom (i .table) (i .slot)) (i .slot) (member i);
+      untouched = λ i d. refl;
+      as-given = λ i k. commands-as-given (i .table) (removedFrom (i .table) (i .slot)) (i .slot) (member i) k;
+    }
+
+-- Lapse: '2: lapse with no wait open'.
+
+abbrev pub lapse : Entry
+lapse =
+    record {
+      name = "sender::lapse";
+      Input = Table;
+      refusals = record { number = 2; condition = λ t. not (t .wait) } ∷ [];
+      answer = λ t. answerNumber (stepOf t Lapse .answer);
+      lent = λ t. [];
+      left = λ t. [];
+      State = Table;
+      given = λ t. t;
+      returned = λ t. stepOf t Lapse .table;
+    }
+
+lapses-in-order : (wait : Bool) (t closed : Table) → answerNumber (cond wait (answered closed Done) (answered t NotAllowed) .answer) ≡ cond (not wait) 2 0
+lapses-in-order true t closed = refl
+lapses-in-order false t closed = refl
+
+lapses-as-given : (wait : Bool) (t closed : Table) → keepsState (answerNumber (cond wait (answered closed Done) (answered t NotAllowed) .answer)) ≡ true
+    → cond wait (answered closed Done) (answered t NotAllowed) .table ≡ t
+lapses-as-given true t closed k = absurd (false≢true k)
+lapses-as-given false t closed k = refl
+
+pub lapse-copes : Copes lapse
+unfolding lapseOf
+lapse-copes =
+    record {
+      in-order = λ t. lapses-in-order (t .wait) t (withSlots t (t .slots) false);
+      untouched = λ t d. refl;
+      as-given = λ t k. lapses-as-given (t .wait) t (withSlots t (t .slots) false) k;
+    }
+
+-- A report is always done.
+
+pub record ReportInput : Type 0 where
+  pub table : Table
+  pub epoch : ℕ
+  pub mst : ℕ
+  pub ack : ℕ
+
+abbrev pub report : Entry
+report =
+    record {
+      name = "sender::report";
+      Input = ReportInput;
+      refusals = [];
+      answer = λ i. answerNumber (stepOf (i .table) (Report (i .epoch) (i .mst) (i .ack)) .answer);
+      lent = λ i. [];
+      left = λ i. [];
+      State = Table;
+      given = λ i. i .table;
+      returned = λ i. stepOf (i .table) (Report (i .epoch) (i .mst) (i .ack)) .table;
+    }
+
+pub report-copes : Copes report
+unfolding reportOf
+report-copes = record { in-order = λ i. refl; untouched = λ i d. refl; as-given = λ i k. absurd (false≢true k) }
