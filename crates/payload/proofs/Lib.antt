@@ -1,2 +1,3 @@
 pub mod Areas
 pub mod Frames
+pub mod Words

@@ -6,3 +6,4 @@ pub mod Only
 pub mod Order
 pub mod RoundTrip
 pub mod Spreading
+pub mod Words
