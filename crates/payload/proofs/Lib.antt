@@ -1,3 +1,4 @@
 pub mod Areas
 pub mod Frames
+pub mod Turning
 pub mod Words
