@@ -10,9 +10,9 @@ use lib.ListN.{length, getD, set}
 use lib.Seq.{getD-set-same, getD-set-other}
 use Rattle.ground.specs.Drawn.{drawn, drawn-by, fillAt, Drawing, drawing-then, within}
 use Rattle.ground.specs.Truth.{eq-or-ne}
-use Rattle.payload.specs.Area.{area}
+use Rattle.payload.specs.Inner.Area.{area}
 use Rattle.payload.specs.Order.{groupByte}
-use Rattle.payload.specs.Words.{byteOf}
+use Rattle.payload.specs.Inner.Words.{byteOf}
 use Rattle.payload.proofs.Areas.{Lies, area-said, area-run, area-lines, area-columns}
 use Rattle.payload.proofs.Frames.{member-in}
 

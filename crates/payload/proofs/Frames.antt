@@ -13,10 +13,10 @@ use borrow.Author.Tests.{lt-ltb, le-ltb, leb-true}
 use Rattle.ground.specs.Drawn.{drawn, drawn-by, fillAt, Drawing, drawing-then, within, fillAt-all, Filling, filling-piece}
 use Rattle.ground.specs.Table.{tabulate, tabulate-ext}
 use Rattle.ground.specs.Truth.{and-left, and-right}
-use Rattle.payload.specs.Area.{area}
+use Rattle.payload.specs.Inner.Area.{area}
 use Rattle.payload.specs.Order.{groupByte, groupFrame, memberByte, memberFrame}
 use Rattle.payload.specs.Joining.{rankedByte}
-use Rattle.payload.specs.RoundTrip.{Ranked, ranked}
+use Rattle.payload.specs.Laws.Ranks.{Ranked, ranked}
 use Rattle.payload.specs.Spreading.{allMembers}
 use Rattle.payload.proofs.Areas.{area-said, area-columns, area-all}
 

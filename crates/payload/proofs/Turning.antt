@@ -10,7 +10,7 @@ use lib.Dec.{eqb}
 use lib.ListN.{getD}
 use borrow.Author.Tests.{eqb-true}
 use Rattle.ground.specs.Table.{tabulate, getD-tabulate}
-use Rattle.payload.specs.Words.{byteOf, wordOf, evens, odds, step}
+use Rattle.payload.specs.Inner.Words.{byteOf, wordOf, evens, odds, step}
 use Rattle.payload.proofs.Words.{eight, byte-of-word}
 
 pub byte-lt : (w i : ℕ) → byteOf w i < 256

@@ -6,7 +6,7 @@ use native.Mathlib.Nat.{add-zero, div-one}
 use native.Mathlib.Omega.{arith}
 use lib.ListN.{set, getD}
 use Rattle.ground.specs.Drawn.{fillAt, fillAt-none, fillAt-put}
-use Rattle.payload.specs.Words.{byteOf, wordOf}
+use Rattle.payload.specs.Inner.Words.{byteOf, wordOf}
 
 pub eight : (Q : ℕ → Type 0) → Q 0 → Q 1 → Q 2 → Q 3 → Q 4 → Q 5 → Q 6 → Q 7 → (i : ℕ) → i < 8 → Q i
 eight Q a b c d e f g h zero l = a

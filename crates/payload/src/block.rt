@@ -5,10 +5,10 @@ ghost use mathlib.Core.Path.{_≡_};
 ghost use Prim.Native.Nat.{ℕ, _+_, _-_, _*_, _/_, _%_, _≤_, _<_, min};
 ghost use lib.ListN.{length, getD};
 ghost use Rattle.ground.specs.Drawn.{drawn, fillAt};
-ghost use Rattle.payload.specs.Area.{area};
+ghost use Rattle.payload.specs.Inner.Area.{area};
 ghost use Rattle.payload.specs.Joining.{rankedByte, startedByte};
 ghost use Rattle.payload.specs.Order.{groupByte, groupFrame};
-ghost use Rattle.payload.specs.Words.{byteOf};
+ghost use Rattle.payload.specs.Inner.Words.{byteOf};
 
 fn start(c: usize, n: usize) -> usize
     requires { ⌜ 8 ≤ n ⌝ }

@@ -3,7 +3,7 @@ ghost use mathlib.Core.Path.{_≡_};
 ghost use Prim.Native.Nat.{ℕ, _+_, _*_, _/_, _%_, _≤_, _<_};
 ghost use lib.ListN.{length, getD};
 ghost use Rattle.ground.specs.Drawn.{fillAt};
-ghost use Rattle.payload.specs.Words.{byteOf, wordOf, evens, odds, step};
+ghost use Rattle.payload.specs.Inner.Words.{byteOf, wordOf, evens, odds, step};
 
 fn wide(b: u8) -> u64
     ensures { λ r. ⌜ (r ≡ b) × (r < 256) ⌝ }

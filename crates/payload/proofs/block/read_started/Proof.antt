@@ -6,7 +6,7 @@ use native.Mathlib.Omega.{arith}
 use lib.ListN.{length, getD, length-set}
 use borrow.Author.Needs.{needs}
 use Rattle.payload.specs.Joining.{startedByte}
-use Rattle.payload.specs.Words.{byteOf}
+use Rattle.payload.specs.Inner.Words.{byteOf}
 use Rattle.payload.proofs.Blocks.{word-more}
 use Rattle.payload.proofs.block.read_started.Statement.{statement}
 use Rattle.payload.proofs.block.read_started.Tie as tie

@@ -6,8 +6,8 @@ use native.Mathlib.Omega.{arith}
 use lib.ListN.{length, getD}
 use borrow.Author.Needs.{needs}
 use Rattle.ground.specs.Drawn.{Drawing, drawing-none}
-use Rattle.payload.specs.Area.{area}
-use Rattle.payload.specs.Words.{byteOf}
+use Rattle.payload.specs.Inner.Area.{area}
+use Rattle.payload.specs.Inner.Words.{byteOf}
 use Rattle.payload.proofs.Areas.{area-no-line}
 use Rattle.payload.proofs.Blocks.{RunIn, run-in, line-more}
 use Rattle.payload.proofs.block.write.Statement.{statement}

@@ -1,6 +1,6 @@
 use lib.ListN.{getD}
 use borrow.Author.Needs.{needs}
-use Rattle.payload.specs.Words.{byteOf}
+use Rattle.payload.specs.Inner.Words.{byteOf}
 use Rattle.payload.proofs.Turning.{eight-words}
 use Rattle.payload.proofs.word.by_bytes.Statement.{statement}
 use Rattle.payload.proofs.word.by_bytes.Tie as tie

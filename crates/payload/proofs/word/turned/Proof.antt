@@ -2,7 +2,7 @@ use mathlib.Core.List.{List}
 use Prim.Native.Nat.{ℕ}
 use lib.ListN.{getD}
 use borrow.Author.Needs.{needs}
-use Rattle.payload.specs.Words.{byteOf}
+use Rattle.payload.specs.Inner.Words.{byteOf}
 use Rattle.payload.proofs.Turning.{three-steps}
 use Rattle.payload.proofs.word.turned.Statement.{statement}
 use Rattle.payload.proofs.word.turned.Tie as tie
