@@ -10,7 +10,7 @@ use lib.Dec.{leb, eqb}
 use borrow.Author.Tests.{leb-true, le-leb}
 use Rattle.ground.specs.Drawn.{within, within-true, within-said, within-one}
 use Rattle.ground.specs.Truth.{and-true, and-left, and-right, or-left, or-right, or-cases, same-test, fails, le-or-lt}
-use Rattle.payload.specs.Area.{area}
+use Rattle.payload.specs.Inner.Area.{area}
 
 -- k lies in the area: its line is (k - place) / X and its column (k - place) % X
 pub record Lies (X place l n c m k : ℕ) : Type 0 where

@@ -1,18 +1,23 @@
 -- A group frame drawn member by member, and members spread one after the other.
 use mathlib.Core.Path.{_≡_, refl, ap, _∙_}
 use mathlib.Core.List.{List}
-use mathlib.Core.Bool.{true, _||_}
+use mathlib.Core.Bool.{true, _&&_, _||_}
 use Prim.Native.Nat.{ℕ, _+_, _-_, _*_, _/_, _%_, _≤_, _<_}
-use native.Mathlib.Nat.{mul-le-mul-right, suc-mul, zero-add}
+use native.Mathlib.Nat.{mul-le-mul-right, mul-comm, suc-mul, zero-add}
 use native.Mathlib.Numerals.{add-one}
 use native.Mathlib.Omega.{arith}
 use lib.Arith.{digits-div, digits-mod}
+use lib.Dec.{leb}
 use lib.ListN.{length, getD}
-use borrow.Author.Tests.{lt-ltb, le-ltb}
+use borrow.Author.Tests.{lt-ltb, le-ltb, leb-true}
 use Rattle.ground.specs.Drawn.{drawn, drawn-by, fillAt, Drawing, drawing-then, within, fillAt-all, Filling, filling-piece}
 use Rattle.ground.specs.Table.{tabulate, tabulate-ext}
-use Rattle.payload.specs.Area.{area}
-use Rattle.payload.specs.Order.{groupByte, memberByte, memberFrame}
+use Rattle.ground.specs.Truth.{and-left, and-right}
+use Rattle.payload.specs.Inner.Area.{area}
+use Rattle.payload.specs.Order.{groupByte, groupFrame, memberByte, memberFrame}
+use Rattle.payload.specs.Joining.{rankedByte}
+use Rattle.payload.specs.Laws.Ranks.{Ranked, ranked}
+use Rattle.payload.specs.Spreading.{allMembers}
 use Rattle.payload.proofs.Areas.{area-said, area-columns, area-all}
 
 module _ (X P place : ℕ) (m : ℕ → ℕ → ℕ) where
@@ -58,3 +63,15 @@ one-ranked X P r g d out h l e =
 
 pub one-rankless : (X P r n : ℕ) (g out : List ℕ) → X ≤ r → n ≡ P → out ≡ tabulate n (λ j. 0) → out ≡ memberFrame X P g r
 one-rankless X P r n g out h l e = e ∙ rw l (tabulate-ext P (λ j. 0) (memberByte X g r) (λ j b. rw (le-ltb r X h)))
+
+-- a frame is spread as its lines are joined
+pub spread-by-lines : (X P : ℕ) (frame out : List ℕ) → out ≡ groupFrame P X (rankedByte X frame) → out ≡ allMembers X P frame
+spread-by-lines X P frame out e =
+    e ∙ rw (mul-comm P X)
+    (tabulate-ext (X * P) (groupByte P (rankedByte X frame)) (λ k. memberByte X frame (k / P) (k % P)) same)
+  where
+    same : (k : ℕ) → k < X * P → groupByte P (rankedByte X frame) k ≡ memberByte X frame (k / P) (k % P)
+    same k b = rw (lt-ltb (k / P) X (ranked P X k (rw (mul-comm X P) at b) .byte))
+
+pub eights : (X P : ℕ) → (leb 8 X && leb 8 P) ≡ true → (8 ≤ X) × (8 ≤ P)
+eights X P e = (leb-true 8 X (and-left (leb 8 X) (leb 8 P) e), leb-true 8 P (and-right (leb 8 X) (leb 8 P) e))

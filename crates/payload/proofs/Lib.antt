@@ -1,2 +1,5 @@
 pub mod Areas
+pub mod Blocks
 pub mod Frames
+pub mod Turning
+pub mod Words

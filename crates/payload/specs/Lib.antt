@@ -1,8 +1,7 @@
 pub mod Answers
-pub mod Area
-pub mod Fits
+pub mod Inner
 pub mod Joining
-pub mod Only
+pub mod Laws
 pub mod Order
-pub mod RoundTrip
 pub mod Spreading
+pub mod Theorems

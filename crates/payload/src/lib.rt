@@ -1,7 +1,10 @@
 // Payload order (01, 'Payload order'): a group frame spread over its members, and members joined into a group frame.
 // X members are ranked 0 to X-1, and P is the payload of a member frame in bytes.
 mod answer;
+mod block;
 mod plain;
+mod word;
+mod work;
 
 pub use answer::Answer;
 ghost use mathlib.Core.Path.{_≡_};
@@ -16,7 +19,7 @@ pub fn spread(x: usize, p: usize, frame: &[u8], members: &mut [u8]) -> Answer
 {
     match answer::whole(x, p, frame.len(), members.len()) {
         Answer::Done => {
-            plain::spread(x, p, frame, members);
+            work::spread(x, p, frame, members);
             Answer::Done
         }
         Answer::Range => Answer::Range,
@@ -31,7 +34,7 @@ pub fn join(x: usize, p: usize, members: &[u8], frame: &mut [u8]) -> Answer
 {
     match answer::whole(x, p, members.len(), frame.len()) {
         Answer::Done => {
-            plain::join(x, p, members, frame);
+            work::join(x, p, members, frame);
             Answer::Done
         }
         Answer::Range => Answer::Range,
@@ -68,7 +71,7 @@ pub fn join_from(
 {
     match answer::from(x, p, &starts, store.len(), place, out.len()) {
         Answer::Done => {
-            plain::join_from(x, p, &starts, store, place, out);
+            work::join_from(x, p, &starts, store, place, out);
             Answer::Done
         }
         Answer::Range => Answer::Range,

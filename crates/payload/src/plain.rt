@@ -4,7 +4,7 @@ ghost use Prim.Native.Nat.{ℕ, _+_, _-_, _*_, _/_, _%_, _≤_, _<_};
 ghost use lib.ListN.{length, getD};
 ghost use Rattle.ground.specs.Drawn.{drawn, fillAt};
 ghost use Rattle.ground.specs.Table.{tabulate};
-ghost use Rattle.payload.specs.Area.{area};
+ghost use Rattle.payload.specs.Inner.Area.{area};
 ghost use Rattle.payload.specs.Order.{groupByte, groupFrame, memberFrame};
 ghost use Rattle.payload.specs.Joining.{rankedByte, startedByte};
 ghost use Rattle.payload.specs.Spreading.{allMembers};

@@ -2,7 +2,7 @@ use mathlib.Core.Path.{refl, sym, _∙_}
 use native.Mathlib.Omega.{arith}
 use lib.ListN.{length}
 use borrow.Author.Needs.{needs}
-use Rattle.payload.specs.Fits.{from-fits}
+use Rattle.payload.specs.Laws.Fits.{from-fits}
 use Rattle.payload.proofs.join_from.Statement.{statement}
 use Rattle.payload.proofs.join_from.Tie as tie
 

@@ -1,7 +1,7 @@
 use mathlib.Core.Path.{refl, sym, _∙_}
 use lib.ListN.{length}
 use borrow.Author.Needs.{needs}
-use Rattle.payload.specs.Fits.{whole-fits}
+use Rattle.payload.specs.Laws.Fits.{whole-fits}
 use Rattle.payload.proofs.spread.Statement.{statement}
 use Rattle.payload.proofs.spread.Tie as tie
 

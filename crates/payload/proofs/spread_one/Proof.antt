@@ -1,7 +1,7 @@
 use mathlib.Core.Path.{refl, sym, _∙_}
 use lib.ListN.{length}
 use borrow.Author.Needs.{needs}
-use Rattle.payload.specs.Fits.{one-fits}
+use Rattle.payload.specs.Laws.Fits.{one-fits}
 use Rattle.payload.proofs.spread_one.Statement.{statement}
 use Rattle.payload.proofs.spread_one.Tie as tie
 

@@ -1,7 +1,7 @@
 use mathlib.Core.Path.{sym, _∙_}
 use native.Mathlib.Omega.{arith}
 use borrow.Author.Needs.{needs}
-use Rattle.payload.specs.Fits.{sizes, frame-most}
+use Rattle.payload.specs.Laws.Fits.{sizes, frame-most}
 use Rattle.payload.proofs.answer.whole.Statement.{statement}
 use Rattle.payload.proofs.answer.whole.Tie as tie
 

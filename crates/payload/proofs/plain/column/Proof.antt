@@ -5,7 +5,7 @@ use native.Mathlib.Omega.{arith}
 use lib.ListN.{length, getD}
 use borrow.Author.Needs.{needs}
 use Rattle.ground.specs.Drawn.{Drawing, drawing-none, drawing-put}
-use Rattle.payload.specs.Area.{area}
+use Rattle.payload.specs.Inner.Area.{area}
 use Rattle.payload.proofs.Areas.{in-frame, area-no-line, line-of, column-more}
 use Rattle.payload.proofs.plain.column.Statement.{statement}
 use Rattle.payload.proofs.plain.column.Tie as tie

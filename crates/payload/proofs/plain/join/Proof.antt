@@ -5,7 +5,7 @@ use native.Mathlib.Omega.{arith}
 use lib.ListN.{length, getD}
 use borrow.Author.Needs.{needs}
 use Rattle.ground.specs.Drawn.{Drawing, drawing-none, fillAt-all}
-use Rattle.payload.specs.Area.{area}
+use Rattle.payload.specs.Inner.Area.{area}
 use Rattle.payload.specs.Order.{groupByte}
 use Rattle.payload.specs.Joining.{rankedByte}
 use Rattle.payload.proofs.Areas.{area-no-column}

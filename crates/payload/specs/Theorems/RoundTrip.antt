@@ -1,30 +1,19 @@
 -- Joining undoes spreading and spreading undoes joining, for every X and P and wherever the members lie.
 use mathlib.Core.Path.{_≡_, refl, sym, ap, _∙_}
-use mathlib.Core.Logic.{⊎-elim}
 use mathlib.Core.List.{List}
 use Prim.Native.Nat.{ℕ, _+_, _-_, _*_, _/_, _%_, _<_}
-use native.Mathlib.Nat.{mod-lt, div-add-mod', div-lt-iff-lt-mul, mul-comm, zero-mul, eq-zero-or-pos}
+use native.Mathlib.Nat.{mul-comm}
 use native.Mathlib.Omega.{arith}
 use lib.Arith.{digits-lt, digits-div, digits-mod}
 use lib.ListN.{length, getD}
 use borrow.Author.Tests.{lt-ltb}
 use Rattle.ground.specs.Drawn.{fillAt, fillAt-ext, getD-fillAt}
 use Rattle.ground.specs.Table.{tabulate, length-tabulate, getD-tabulate, tabulate-ext, tabulate-self}
-use Rattle.payload.specs.Fits.{Sizes, FromFits, spread-done, joined-done, joined-from-done}
+use Rattle.payload.specs.Laws.Fits.{Sizes, FromFits, spread-done, joined-done, joined-from-done}
 use Rattle.payload.specs.Joining.{rankedByte, joined, startedByte, joinedFrom}
+use Rattle.payload.specs.Laws.Ranks.{Ranked, ranked}
 use Rattle.payload.specs.Order.{groupByte, groupFrame, memberByte, memberFrame}
 use Rattle.payload.specs.Spreading.{allMembers, spreadAll}
-
--- a byte of a group frame has a rank and a place in its member
-pub record Ranked (X P p : ℕ) : Type 0 where
-  pub rank : p % X < X
-  pub byte : p / X < P
-  pub whole : p / X * X + p % X ≡ p
-
-pub ranked : (X P p : ℕ) → p < X * P → Ranked X P p
-ranked X P p h =
-    ⊎-elim (λ (z : X ≡ 0). absurd (let n : X * P ≡ 0 = rw (z, zero-mul) in omega arith))
-    (λ (g : 0 < X). record { rank = mod-lt p g; byte = div-lt-iff-lt-mul g .1 (rw (mul-comm X P) at h); whole = div-add-mod' p X }) (eq-zero-or-pos X)
 
 -- the two sides of 01's sentence say the same of each byte
 pub same-byte : (X P : ℕ) (g : List ℕ) (p : ℕ) → p < X * P → groupByte X (memberByte X g) p ≡ getD g p 0

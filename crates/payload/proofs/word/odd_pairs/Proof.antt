@@ -1,0 +1,23 @@
+use borrow.Author.Needs.{needs}
+use Rattle.payload.proofs.Turning.{odd-pairs}
+use Rattle.payload.proofs.word.odd_pairs.Statement.{statement}
+use Rattle.payload.proofs.word.odd_pairs.Tie as tie
+
+apart-pairs-requires : tie.Need-apart-pairs-requires
+apart-pairs-requires c κs = search needs
+
+apart-pairs-requires-2 : tie.Need-apart-pairs-requires-2
+apart-pairs-requires-2 c κs = search needs
+
+mul-result : tie.Need-mul-result
+mul-result c = search needs
+
+add-result : tie.Need-add-result
+add-result c = search needs
+
+returns : tie.Need-returns
+returns c = odd-pairs (c .before .before .args .a) (c .before .before .args .b) _ _ (c .before .apart-pairs .ensures) (c .apart-pairs2 .ensures)
+
+pub odd-pairs-spec : {M : Type 1} → statement M
+odd-pairs-spec =
+    tie.close (tie.spec apart-pairs-requires apart-pairs-requires-2 mul-result add-result returns)

@@ -1,0 +1,28 @@
+use borrow.Author.Needs.{needs}
+use Rattle.payload.proofs.Frames.{eights}
+use Rattle.payload.proofs.work.join.Statement.{statement}
+use Rattle.payload.proofs.work.join.Tie as tie
+
+join-requires : tie.Need-join-requires
+join-requires c κs =
+    let e = eights (c .before .before .before .before .args .x) (c .before .before .before .before .args .p) (c .before .if1 .taken) in
+    (e .0, e .1, c .before .before .before .before .pre .0, c .before .before .before .before .pre .1)
+
+join-requires-2 : tie.Need-join-requires-2
+join-requires-2 c κs = search needs
+
+same-length : tie.Need-same-length
+same-length c = search needs
+
+returns : tie.Need-returns
+returns c = search needs
+
+same-length-2 : tie.Need-same-length-2
+same-length-2 c = search needs
+
+returns-2 : tie.Need-returns-2
+returns-2 c = search needs
+
+pub join-spec : {M : Type 1} → statement M
+join-spec =
+    tie.close (tie.spec join-requires join-requires-2 same-length returns same-length-2 returns-2)

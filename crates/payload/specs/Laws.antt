@@ -1,0 +1,3 @@
+-- Laws on the definitions, for callers and for the proofs of the code.
+pub mod Fits
+pub mod Ranks

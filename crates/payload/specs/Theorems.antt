@@ -1,0 +1,3 @@
+-- What 01 asks of payload order, proved on the definitions.
+pub mod Only
+pub mod RoundTrip

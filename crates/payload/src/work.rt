@@ -1,0 +1,51 @@
+// The work under 0: by blocks where a block of eight by eight fits, else by plain loops.
+use crate::block;
+use crate::plain;
+ghost use mathlib.Core.Path.{_≡_};
+ghost use Prim.Native.Nat.{ℕ, _+_, _*_, _≤_, _<_};
+ghost use lib.ListN.{length, getD};
+ghost use Rattle.ground.specs.Drawn.{fillAt};
+ghost use Rattle.payload.specs.Joining.{rankedByte, startedByte};
+ghost use Rattle.payload.specs.Order.{groupByte, groupFrame};
+ghost use Rattle.payload.specs.Spreading.{allMembers};
+
+pub(crate) fn join(x: usize, p: usize, members: &[u8], frame: &mut [u8])
+    requires { ⌜ (length (now members) ≡ x * p) × (length (now frame) ≡ x * p) ⌝ }
+    ensures { λ _. ⌜ now (frame .exit) ≡ groupFrame x p (rankedByte p (now (members .entry))) ⌝ }
+{
+    if (8 <= x) & (8 <= p) {
+        block::join(x, p, members, frame);
+    } else {
+        plain::join(x, p, members, frame);
+    }
+}
+
+// By blocks, a frame is spread as its P lines of X bytes are joined.
+pub(crate) fn spread(x: usize, p: usize, frame: &[u8], members: &mut [u8])
+    requires { ⌜ (length (now frame) ≡ x * p) × (length (now members) ≡ x * p) ⌝ }
+    ensures { λ _. ⌜ now (members .exit) ≡ allMembers x p (now (frame .entry)) ⌝ }
+{
+    if (8 <= x) & (8 <= p) {
+        block::join(p, x, frame, members);
+    } else {
+        plain::spread(x, p, frame, members);
+    }
+}
+
+pub(crate) fn join_from(
+    x: usize,
+    p: usize,
+    starts: &[usize],
+    store: &[u8],
+    place: usize,
+    out: &mut [u8],
+)
+    requires { ⌜ (x ≤ length (now starts)) × ((r : ℕ) → r < x → getD (now starts) r 0 + p ≤ length (now store)) × (place + x * p ≤ length (now out)) ⌝ }
+    ensures { λ _. ⌜ now (out .exit) ≡ fillAt place (x * p) (groupByte x (startedByte (now (starts .entry)) (now (store .entry)))) (now (out .entry)) ⌝ }
+{
+    if (8 <= x) & (8 <= p) {
+        block::join_from(x, p, starts, store, place, out);
+    } else {
+        plain::join_from(x, p, starts, store, place, out);
+    }
+}
