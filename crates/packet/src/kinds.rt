@@ -1,8 +1,15 @@
 // What goes by the kind of packet: epochs, tags and MST (01, 'The control packet'). There is one kind, H4; any other byte counts as it.
 ghost use mathlib.Core.Path.{_≡_};
-ghost use Rattle.packet.specs.Kinds.{epochAfter, tagAfter, distanceOf, placeOf, startsEpoch, epochOf, firstTag, mstFirst, mstNumbers, mstFails, idleNumber};
+ghost use Rattle.packet.specs.Kinds.{frames, epochAfter, tagAfter, distanceOf, placeOf, startsEpoch, epochOf, firstTag, mstFirst, mstNumbers, mstFails, idleNumber};
 
 pub const H4: u8 = 0;
+
+// How many frames an epoch has, and so how long a packet is.
+pub fn epoch_frames(kind: u8) -> u8
+    ensures { λ r. ⌜ r ≡ frames kind ⌝ }
+{
+    16
+}
 
 pub fn next_epoch(kind: u8, epoch: u8) -> u8
     ensures { λ r. ⌜ r ≡ epochAfter kind epoch ⌝ }

@@ -78,3 +78,10 @@ pub fn join_from(
         Answer::Length => Answer::Length,
     }
 }
+
+// What spread_one answers, from the lengths alone.
+pub fn one_answer(x: usize, p: usize, frame: usize, member: usize) -> Answer
+    ensures { λ r. ⌜ r ≡ oneAnswer x p frame member ⌝ }
+{
+    answer::one(x, p, frame, member)
+}

@@ -1,7 +1,10 @@
 pub mod Board
 pub mod Commands
+pub mod Epochs
 pub mod Laws
 pub mod Numbering
+pub mod Outcomes
+pub mod Ranks
 pub mod Reports
 pub mod Shown
 pub mod Steps

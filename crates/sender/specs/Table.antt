@@ -8,7 +8,7 @@ use Rattle.counting.specs.Words.{count}
 use Rattle.sender.specs.declared.finding.Found.{Found}
 use Rattle.sender.specs.declared.finding.Found.the-variants.{At, Nothing}
 use Rattle.sender.specs.declared.table.Answer.{Answer}
-use Rattle.sender.specs.declared.table.Answer.the-variants.{Done, NoSlot, NotAllowed, WaitOpen, OutOfRange}
+use Rattle.sender.specs.declared.table.Answer.the-variants.{Done, NoSlot, NotAllowed, WaitOpen, OutOfRange, Field, Length}
 use Rattle.sender.specs.declared.table.Slot.{Slot}
 use Rattle.sender.specs.declared.table.State.{State}
 use Rattle.sender.specs.declared.table.State.the-variants.{Idle, Add, Active, Dnu}
@@ -20,6 +20,8 @@ answerNumber NoSlot = 1
 answerNumber NotAllowed = 2
 answerNumber WaitOpen = 3
 answerNumber OutOfRange = 4
+answerNumber Field = 8
+answerNumber Length = 9
 
 -- a member is a slot that is not IDLE
 abbrev pub isMember : State → Bool

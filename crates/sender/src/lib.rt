@@ -1,7 +1,9 @@
-// The sender's table (01, 'The sender's table'): its commands and reports, and the board that shows it.
+// The sender: the table, its commands and reports (01, 'The sender's table'), the board that shows it, and the start of an epoch (01, 'Taking effect').
 mod board;
 mod commands;
+mod epochs;
 mod finding;
+mod ranks;
 mod reports;
 mod table;
 
@@ -12,6 +14,9 @@ pub use commands::add;
 pub use commands::lapse;
 pub use commands::remove;
 pub use commands::start;
+pub use epochs::Sender;
+pub use epochs::SenderStep;
+pub use ranks::Ranks;
 pub use reports::report;
 pub use table::Answer;
 pub use table::Slot;

@@ -30,6 +30,8 @@ pub enum Answer {
     NotAllowed,
     WaitOpen,
     OutOfRange,
+    Field,
+    Length,
 }
 
 impl Answer {
@@ -42,6 +44,8 @@ impl Answer {
             Answer::NotAllowed => 2,
             Answer::WaitOpen => 3,
             Answer::OutOfRange => 4,
+            Answer::Field => 8,
+            Answer::Length => 9,
         }
     }
 }

@@ -1,0 +1,16 @@
+use borrow.Author.Needs.{needs}
+use Rattle.sender.proofs.Sending.{stepped}
+use Rattle.sender.proofs.epochs.Sender.lapse.Statement.{statement}
+use Rattle.sender.proofs.epochs.Sender.lapse.Tie as tie
+
+lapse-requires : tie.Need-lapse-requires
+lapse-requires c κs = search needs
+
+with-step-requires : tie.Need-with-step-requires
+with-step-requires c κs = search needs
+
+returns : tie.Need-returns
+returns c = stepped (c .before .before .before .args .self) (c .before .lapse .ensures) (c .with-step .ensures)
+
+pub lapse-spec : {M : Type 1} → statement M
+lapse-spec = tie.close (tie.spec lapse-requires with-step-requires returns)

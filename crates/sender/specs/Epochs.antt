@@ -1,0 +1,105 @@
+-- The start of an epoch (01, 'Taking effect'), and what each slot sends in it.
+use mathlib.Core.Bool.{Bool, true, false, cond, _&&_}
+use mathlib.Core.List.{List, [], _∷_}
+use Prim.Native.Nat.{ℕ}
+use lib.Dec.{eqb, ltb}
+use lib.ListN.{length}
+use Rattle.packet.specs.declared.layout.Fields.{Fields}
+use Rattle.packet.specs.Kinds.{epochAfter, frames}
+use Rattle.packet.specs.Writing.{writeAnswer, writeBytes}
+use Rattle.payload.specs.Spreading.{oneAnswer, spreadOne}
+use Rattle.sender.specs.declared.epochs.Sender.{Sender}
+use Rattle.sender.specs.declared.epochs.SenderStep.{SenderStep}
+use Rattle.sender.specs.declared.ranks.Ranks.{Ranks}
+use Rattle.sender.specs.declared.table.Answer.{Answer}
+use Rattle.sender.specs.declared.table.Answer.the-variants.{Done, NoSlot, NotAllowed, Field, Length}
+use Rattle.sender.specs.declared.table.Step.{Step}
+use Rattle.sender.specs.declared.table.Table.{Table}
+use Rattle.sender.specs.Board.{boardOf}
+use Rattle.sender.specs.Commands.{startOf}
+use Rattle.sender.specs.Outcomes.{spreadEarly, spreadTold, written}
+use Rattle.sender.specs.Ranks.{carriersIn, rankAt, ranksIn, rowAt}
+use Rattle.sender.specs.Steps.{Call, stepOf}
+use Rattle.sender.specs.Table.{sizeOf}
+
+-- no epoch has started: nothing has gone out, so 'a sender's first epoch has X = 0'
+unfoldable pub freshSender : Table → ℕ → Sender
+freshSender t e = record { table = t; going = boardOf t; ruling = boardOf t; epoch = e; begun = false; gid = 0; mst = 0; «rs_ack» = 0 }
+
+unfoldable pub beginOf : ℕ → ℕ → ℕ → SenderStep
+beginOf kind count e = record { sender = freshSender (startOf kind count .table) e; answer = startOf kind count .answer }
+
+-- a call on the table leaves what the epoch's start fixed
+abbrev pub withStep : Sender → Step → SenderStep
+withStep s r =
+    record {
+      sender = record { table = r .table; going = s .going; ruling = s .ruling; epoch = s .epoch; begun = s .begun; gid = s .gid; mst = s .mst; «rs_ack» = s .«rs_ack» };
+      answer = r .answer;
+    }
+
+-- the number of the epoch that starts: the first one's is given, then each is one more
+unfoldable pub startedEpoch : Sender → ℕ
+startedEpoch s = cond (s .begun) (epochAfter (s .table .kind) (s .epoch)) (s .epoch)
+
+-- 'The packets of one epoch rule the payload of the next epoch'
+unfoldable pub startedSender : Sender → ℕ → ℕ → ℕ → Sender
+startedSender s gid mst ack =
+    record { table = s .table; going = boardOf (s .table); ruling = s .going; epoch = startedEpoch s; begun = true; gid = gid; mst = mst; «rs_ack» = ack }
+
+-- '8: a field given for writing is too large'
+unfoldable pub startEpochOf : Sender → ℕ → ℕ → ℕ → SenderStep
+startEpochOf s gid mst ack =
+    cond (ltb gid 2 && ltb ack 2) (record { sender = startedSender s gid mst ack; answer = Done }) (record { sender = s; answer = Field })
+
+pub data SenderCall : Type 0 where
+  OnTable : Call → SenderCall
+  StartEpoch : ℕ → ℕ → ℕ → SenderCall
+
+abbrev pub senderStepOf : Sender → SenderCall → SenderStep
+senderStepOf s (OnTable c) = withStep s (stepOf (s .table) c)
+senderStepOf s (StartEpoch gid mst ack) = startEpochOf s gid mst ack
+
+abbrev pub senderRun : Sender → List SenderCall → Sender
+senderRun s [] = s
+senderRun s (c ∷ cs) = senderRun (senderStepOf s c .sender) cs
+
+-- 'GID is lent by the caller and is equal in all packets of an epoch.'
+unfoldable pub packetFields : Sender → ℕ → Fields
+packetFields s i =
+    let row = rowAt (s .going .rows) i in
+    record { epoch = s .epoch; word = row .word; gid = s .gid; mst = s .mst; «rs_ack» = s .«rs_ack»; sq = row .number }
+
+-- The packet of a slot: 1, 9, 2.
+unfoldable pub packetAnswer : Sender → ℕ → List ℕ → Answer
+packetAnswer s i h4 =
+    cond (ltb i (sizeOf (s .table .count)))
+    (cond (eqb (length h4) (frames (s .table .kind))) (cond (s .begun) (written (writeAnswer (packetFields s i) h4)) NotAllowed) Length)
+    NoSlot
+
+unfoldable pub packetBytes : Sender → ℕ → List ℕ → List ℕ
+packetBytes s i h4 =
+    cond (ltb i (sizeOf (s .table .count)) && eqb (length h4) (frames (s .table .kind)) && s .begun) (writeBytes (packetFields s i) h4) h4
+
+-- X of this epoch, and the rank of a slot in it
+abbrev pub xOf : Sender → ℕ
+xOf s = carriersIn (s .ruling .rows) (sizeOf (s .ruling .count))
+
+abbrev pub rankIn : Sender → ℕ → ℕ
+rankIn s i = rankAt (s .ruling .rows) (sizeOf (s .ruling .count)) i
+
+-- The payload of a slot: 1, 4, 9, 2.
+unfoldable pub payloadAnswer : Sender → ℕ → ℕ → ℕ → ℕ → Answer
+payloadAnswer s i P frame member =
+    cond (ltb i (sizeOf (s .table .count)))
+    (cond (s .begun) (spreadTold (oneAnswer (xOf s) P frame member)) (spreadEarly (oneAnswer (xOf s) P frame member)))
+    NoSlot
+
+unfoldable pub payloadBytes : Sender → ℕ → ℕ → List ℕ → List ℕ → List ℕ
+payloadBytes s i P frame member =
+    cond (ltb i (sizeOf (s .table .count)) && s .begun) (spreadOne (xOf s) P (rankIn s i) frame member) member
+
+-- this epoch's number, X and each slot's rank
+unfoldable pub ranksOf : Sender → Ranks
+ranksOf s =
+    let n = sizeOf (s .ruling .count) in
+    record { ranks = ranksIn (s .ruling .rows) n; count = n; epoch = s .epoch; x = xOf s; begun = s .begun }
