@@ -37,7 +37,7 @@ active-eos Add last a e = absurd (false≢true a)
 active-eos Active last a e = rw e
 active-eos Dnu last a e = absurd (false≢true a)
 
-active-member : (s : State) → isActive s ≡ true → isMember s ≡ true
+pub active-member : (s : State) → isActive s ≡ true → isMember s ≡ true
 active-member Idle a = a
 active-member Add a = refl
 active-member Active a = refl

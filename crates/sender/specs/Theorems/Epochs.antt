@@ -1,0 +1,146 @@
+-- The sender over epochs (01, 'Taking effect', 'Payload order'), after any calls from a start.
+use mathlib.Core.Path.{_≡_, refl, _∙_, sym, ap}
+use mathlib.Core.Bool.{Bool, true, false, cond, _&&_, false≢true}
+use mathlib.Core.List.{List, [], _∷_}
+use Prim.Native.Nat.{ℕ, _<_}
+use native.Mathlib.Omega.{arith}
+use lib.Dec.{eqb, ltb}
+use lib.ListN.{getD-replicate}
+use borrow.Author.Tests.{eq-eqb, eqb-true}
+use Rattle.ground.specs.Truth.{and-true, and-left, and-right}
+use Rattle.counting.specs.Laws.Ranks.{rank, ranked}
+use Rattle.counting.specs.Laws.Tests.{One}
+use Rattle.counting.specs.Words.{count}
+use Rattle.sender.specs.declared.board.Board.{Board}
+use Rattle.sender.specs.declared.epochs.Sender.{Sender}
+use Rattle.sender.specs.declared.epochs.SenderStep.{SenderStep}
+use Rattle.sender.specs.declared.table.Answer.the-variants.{Done, Field}
+use Rattle.sender.specs.declared.table.Slot.{Slot}
+use Rattle.sender.specs.declared.table.State.the-variants.{Idle}
+use Rattle.sender.specs.declared.table.Table.{Table}
+use Rattle.sender.specs.Board.{boardOf}
+use Rattle.sender.specs.Commands.{freshOf, startOf}
+use Rattle.sender.specs.Epochs.{SenderCall, beginOf, freshSender, packetFields, rankIn, senderRun, senderStepOf, startEpochOf, startedEpoch, startedSender, xOf}
+use Rattle.sender.specs.Epochs.SenderCall.{OnTable, StartEpoch}
+use Rattle.sender.specs.Laws.Carrying.{board-size, carries-active, rank-active, x-active}
+use Rattle.sender.specs.Laws.Kept.{Sound, sound-start, sound-step}
+use Rattle.sender.specs.Numbering.{Demand2, numberIn, slotsIn, stateIn}
+use Rattle.sender.specs.Ranks.{carries, carriersIn, rankAt, rowAt}
+use Rattle.sender.specs.Steps.{Call, stepOf}
+use Rattle.sender.specs.Table.{isActive, isMember, sizeOf}
+use Rattle.sender.specs.Theorems.Demand2.{active-member, sound-demand2}
+
+-- a board that shows a table as demand 2 asks
+pub record Shows (b : Board) : Type 0 where
+  pub source : Table
+  pub sound : Sound source
+  pub is : b ≡ boardOf source
+
+pub record SoundSender (s : Sender) : Type 0 where
+  pub table : Sound (s .table)
+  pub going : Shows (s .going)
+  pub ruling : Shows (s .ruling)
+
+shows : (t : Table) → Sound t → Shows (boardOf t)
+shows t o = record { source = t; sound = o; is = refl }
+
+fresh-sound : (t : Table) (e : ℕ) → Sound t → SoundSender (freshSender t e)
+unfolding freshSender
+fresh-sound t e o = record { table = o; going = shows t o; ruling = shows t o }
+
+started-sound : (s : Sender) (gid mst ack : ℕ) → SoundSender s → SoundSender (startEpochOf s gid mst ack .sender)
+unfolding startEpochOf startedSender
+started-sound s gid mst ack o = go (ltb gid 2 && ltb ack 2)
+  where
+    go : (b : Bool) → SoundSender (cond {A = SenderStep} b (record { sender = startedSender s gid mst ack; answer = Done }) (record { sender = s; answer = Field }) .sender)
+    go true = record { table = o .table; going = shows (s .table) (o .table); ruling = o .going }
+    go false = o
+
+step-sound : (s : Sender) (c : SenderCall) → SoundSender s → SoundSender (senderStepOf s c .sender)
+step-sound s (OnTable c) o = record { table = sound-step (s .table) c (o .table); going = o .going; ruling = o .ruling }
+step-sound s (StartEpoch gid mst ack) o = started-sound s gid mst ack o
+
+run-sound : (s : Sender) (cs : List SenderCall) → SoundSender s → SoundSender (senderRun s cs)
+run-sound s [] o = o
+run-sound s (c ∷ cs) o = run-sound (senderStepOf s c .sender) cs (step-sound s c o)
+
+-- a sender made by calls from a start
+abbrev pub senderAfter : ℕ → ℕ → ℕ → List SenderCall → Sender
+senderAfter kind count e cs = senderRun (beginOf kind count e .sender) cs
+
+pub sender-sound : (kind count e : ℕ) (cs : List SenderCall) → SoundSender (senderAfter kind count e cs)
+unfolding beginOf
+sender-sound kind count e cs = run-sound (beginOf kind count e .sender) cs (fresh-sound (startOf kind count .table) e (sound-start kind count))
+
+-- Demand 2 of the table, and of the two tables that an epoch's start keeps: those whose boards go out now and went out before
+pub record Demand2Kept (s : Sender) : Type 0 where
+  pub table : Demand2 (s .table)
+  pub going-of : Table
+  pub going-is : s .going ≡ boardOf going-of
+  pub going : Demand2 going-of
+  pub ruling-of : Table
+  pub ruling-is : s .ruling ≡ boardOf ruling-of
+  pub ruling : Demand2 ruling-of
+
+pub demand2-kept : (kind count e : ℕ) (cs : List SenderCall) → Demand2Kept (senderAfter kind count e cs)
+demand2-kept kind count e cs =
+    let s = senderAfter kind count e cs in
+    let o = sender-sound kind count e cs in
+    record {
+      table = sound-demand2 (s .table) (o .table);
+      going-of = o .going .source;
+      going-is = o .going .is;
+      going = sound-demand2 (o .going .source) (o .going .sound);
+      ruling-of = o .ruling .source;
+      ruling-is = o .ruling .is;
+      ruling = sound-demand2 (o .ruling .source) (o .ruling .sound);
+    }
+
+-- all packets of an epoch carry one GID
+pub one-gid : (s : Sender) (i j : ℕ) → packetFields s i .gid ≡ packetFields s j .gid
+unfolding packetFields
+one-gid s i j = refl
+
+-- Packets, X and ranks of this epoch stay as its start fixed them, whatever calls on the table come in between.
+pub record Fixed (s r : Sender) : Type 0 where
+  pub fields : (i : ℕ) → packetFields r i ≡ packetFields s i
+  pub x : xOf r ≡ xOf s
+  pub ranks : (i : ℕ) → rankIn r i ≡ rankIn s i
+
+abbrev pub onTable : List Call → List SenderCall
+onTable [] = []
+onTable (c ∷ cs) = OnTable c ∷ onTable cs
+
+pub fixed : (s : Sender) (cs : List Call) → Fixed s (senderRun s (onTable cs))
+unfolding packetFields
+fixed s [] = record { fields = λ i. refl; x = refl; ranks = λ i. refl }
+fixed s (c ∷ cs) =
+    let o = fixed (senderStepOf s (OnTable c) .sender) cs in
+    record { fields = λ i. o .fields i; x = o .x; ranks = λ i. o .ranks i }
+
+-- each rank below X is one slot's
+module _ (s : Sender) (o : SoundSender s) where
+  abbrev t : Table
+  t = o .ruling .source
+
+  pub rank-held : (r : ℕ) → r < xOf s → One (sizeOf (s .ruling .count)) (λ i. carries (rowAt (s .ruling .rows) i) && eqb (rankIn s i) r)
+  rank-held r h = rw (o .ruling .is) (held r (rw (o .ruling .is) at h))
+    where
+      held : (r : ℕ) → r < carriersIn (boardOf t .rows) (sizeOf (boardOf t .count))
+          → One (sizeOf (boardOf t .count)) (λ i. carries (rowAt (boardOf t .rows) i) && eqb (rankAt (boardOf t .rows) (sizeOf (boardOf t .count)) i) r)
+      held r h =
+          let active : ℕ → Bool = λ i. isActive (stateIn t i) in
+          let w = ranked (slotsIn t) active (numberIn t)
+          (λ i j hi hj ai aj e. o .ruling .sound .numbered .once i j hi hj (active-member (stateIn t i) ai) (active-member (stateIn t j) aj) e)
+          r (rw (x-active t) at h) in
+          let i : ℕ = w .at in
+          let b : i < slotsIn t = w .below in
+          let a : isActive (stateIn t i) ≡ true = and-left (isActive (stateIn t i)) (eqb (rank (slotsIn t) active (numberIn t) i) r) (w .holds) in
+          let k : rank (slotsIn t) active (numberIn t) i ≡ r = eqb-true _ r (and-right (isActive (stateIn t i)) (eqb (rank (slotsIn t) active (numberIn t) i) r) (w .holds)) in
+          record {
+            at = i;
+            below = rw (board-size t) b;
+            holds =
+                and-true (carries (rowAt (boardOf t .rows) i)) _ (carries-active t i b ∙ a)
+                (eq-eqb (rankAt (boardOf t .rows) (sizeOf (boardOf t .count)) i) r (rank-active t i b a ∙ k));
+          }
