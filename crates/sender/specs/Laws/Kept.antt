@@ -288,3 +288,16 @@ sound-step t Lapse o = sound-lapse t o
 pub sound-run : (t : Table) (cs : List Call) → Sound t → Sound (run t cs)
 sound-run t [] o = o
 sound-run t (c ∷ cs) o = sound-run (stepOf t c .table) cs (sound-step t c o)
+
+fresh-idle : (kind count i : ℕ) → i < slotsIn (freshOf kind count) → stateIn (freshOf kind count) i ≡ Idle
+unfolding freshOf
+fresh-idle kind c i h = ap (λ (s : Slot). s .state) (fresh-slot kind i (let l = size-le c in omega arith)) ∙ idle-state kind
+
+-- a start leaves every slot IDLE
+pub start-idle : (kind count i : ℕ) → i < slotsIn (startOf kind count .table) → stateIn (startOf kind count .table) i ≡ Idle
+unfolding startOf
+start-idle kind c i = go (eqb c 0 || ltb 64 c)
+  where
+    go : (b : Bool) → let t = cond b (answered (freshOf kind 0) OutOfRange) (answered (freshOf kind c) Done) .table in i < slotsIn t → stateIn t i ≡ Idle
+    go true h = fresh-idle kind 0 i h
+    go false h = fresh-idle kind c i h

@@ -8,6 +8,7 @@ use lib.Dec.{eqb, ltb}
 use lib.ListN.{getD-replicate}
 use borrow.Author.Tests.{eq-eqb, eqb-true}
 use Rattle.ground.specs.Truth.{and-true, and-left, and-right}
+use Rattle.counting.specs.Laws.Numbers.{count-none}
 use Rattle.counting.specs.Laws.Ranks.{rank, ranked}
 use Rattle.counting.specs.Laws.Tests.{One}
 use Rattle.counting.specs.Words.{count}
@@ -23,7 +24,7 @@ use Rattle.sender.specs.Commands.{freshOf, startOf}
 use Rattle.sender.specs.Epochs.{SenderCall, beginOf, freshSender, packetFields, rankIn, senderRun, senderStepOf, startEpochOf, startedEpoch, startedSender, xOf}
 use Rattle.sender.specs.Epochs.SenderCall.{OnTable, StartEpoch}
 use Rattle.sender.specs.Laws.Carrying.{board-size, carries-active, rank-active, x-active}
-use Rattle.sender.specs.Laws.Kept.{Sound, sound-start, sound-step}
+use Rattle.sender.specs.Laws.Kept.{Sound, sound-start, sound-step, start-idle}
 use Rattle.sender.specs.Numbering.{Demand2, numberIn, slotsIn, stateIn}
 use Rattle.sender.specs.Ranks.{carries, carriersIn, rankAt, rowAt}
 use Rattle.sender.specs.Steps.{Call, stepOf}
@@ -63,6 +64,10 @@ step-sound s (StartEpoch gid mst ack) o = started-sound s gid mst ack o
 run-sound : (s : Sender) (cs : List SenderCall) → SoundSender s → SoundSender (senderRun s cs)
 run-sound s [] o = o
 run-sound s (c ∷ cs) o = run-sound (senderStepOf s c .sender) cs (step-sound s c o)
+
+begins : (kind count e : ℕ) → beginOf kind count e .sender .going ≡ boardOf (startOf kind count .table)
+unfolding beginOf freshSender
+begins kind count e = refl
 
 -- a sender made by calls from a start
 abbrev pub senderAfter : ℕ → ℕ → ℕ → List SenderCall → Sender
@@ -117,6 +122,24 @@ fixed s [] = record { fields = λ i. refl; x = refl; ranks = λ i. refl }
 fixed s (c ∷ cs) =
     let o = fixed (senderStepOf s (OnTable c) .sender) cs in
     record { fields = λ i. o .fields i; x = o .x; ranks = λ i. o .ranks i }
+
+-- 'The packets of one epoch rule the payload of the next epoch'
+pub rules-next : (s : Sender) (gid mst ack : ℕ) → (ltb gid 2 && ltb ack 2) ≡ true → startEpochOf s gid mst ack .sender .ruling ≡ s .going
+unfolding startEpochOf startedSender
+rules-next s gid mst ack h = ap (λ (b : Bool). cond {A = SenderStep} b (record { sender = startedSender s gid mst ack; answer = Done }) (record { sender = s; answer = Field }) .sender .ruling) h
+
+going-stays : (s : Sender) (cs : List Call) → senderRun s (onTable cs) .going ≡ s .going
+going-stays s [] = refl
+going-stays s (c ∷ cs) = going-stays (senderStepOf s (OnTable c) .sender) cs
+
+-- 'a sender's first epoch has X = 0'
+pub first-x : (kind count e : ℕ) (cs : List Call) (gid mst ack : ℕ) → (ltb gid 2 && ltb ack 2) ≡ true
+    → xOf (startEpochOf (senderAfter kind count e (onTable cs)) gid mst ack .sender) ≡ 0
+first-x kind c e cs gid mst ack h =
+    ap (λ (b : Board). carriersIn (b .rows) (sizeOf (b .count)))
+    (rules-next (senderAfter kind c e (onTable cs)) gid mst ack h ∙ going-stays (beginOf kind c e .sender) cs ∙ begins kind c e)
+    ∙ x-active (startOf kind c .table)
+    ∙ count-none (slotsIn (startOf kind c .table)) _ (λ i b. ap isActive (start-idle kind c i b))
 
 -- each rank below X is one slot's
 module _ (s : Sender) (o : SoundSender s) where
