@@ -3,4 +3,5 @@ pub mod Demand2
 pub mod Epochs
 pub mod Examples
 pub mod Only
+pub mod Packets
 pub mod Reports

@@ -301,3 +301,36 @@ start-idle kind c i = go (eqb c 0 || ltb 64 c)
     go : (b : Bool) → let t = cond b (answered (freshOf kind 0) OutOfRange) (answered (freshOf kind c) Done) .table in i < slotsIn t → stateIn t i ≡ Idle
     go true h = fresh-idle kind 0 i h
     go false h = fresh-idle kind c i h
+
+-- a call leaves the count and the kind of packet
+pub record Group (t u : Table) : Type 0 where
+  pub count : u .count ≡ t .count
+  pub kind : u .kind ≡ t .kind
+
+group-self : (t : Table) → Group t t
+group-self t = record { count = refl; kind = refl }
+
+group-in-order : (t next : Table) (i : ℕ) (allowed : Bool) → Group t next → Group t (inOrder t i allowed next .table)
+group-in-order t next i allowed d = go (ltb i (sizeOf (t .count))) (t .wait) allowed
+  where
+    go : (b w a : Bool) → Group t (cond b (cond w (answered t WaitOpen) (cond a (answered next Done) (answered t NotAllowed))) (answered t NoSlot) .table)
+    go false w a = group-self t
+    go true true a = group-self t
+    go true false false = group-self t
+    go true false true = d
+
+pub group-step : (t : Table) (c : Call) → Group t (stepOf t c .table)
+unfolding addOf addedTo removeOf removedFrom reportOf waited actedOn lapseOf
+group-step t (AddSlot i) = group-in-order t (addedTo t i) i (not (isMember (slotAt (t .slots) i .state))) (record { count = refl; kind = refl })
+group-step t (RemoveSlot i) = group-in-order t (removedFrom t i) i (isMember (slotAt (t .slots) i .state)) (record { count = refl; kind = refl })
+group-step t (Report e mst ack) = go (t .wait) (eqb (ack % 2) (t .bit))
+  where
+    go : (w b : Bool) → Group t (cond w (cond b t (record { slots = t .slots; count = t .count; wait = false; bit = ack % 2; kind = t .kind })) (actedOn t e mst (ack % 2)))
+    go true true = group-self t
+    go true false = record { count = refl; kind = refl }
+    go false b = record { count = refl; kind = refl }
+group-step t Lapse = go (t .wait)
+  where
+    go : (w : Bool) → Group t (cond w (answered (withSlots t (t .slots) false) Done) (answered t NotAllowed) .table)
+    go true = record { count = refl; kind = refl }
+    go false = group-self t

@@ -24,26 +24,30 @@ use Rattle.sender.specs.Commands.{freshOf, startOf}
 use Rattle.sender.specs.Epochs.{SenderCall, beginOf, freshSender, packetFields, rankIn, senderRun, senderStepOf, startEpochOf, startedEpoch, startedSender, xOf}
 use Rattle.sender.specs.Epochs.SenderCall.{OnTable, StartEpoch}
 use Rattle.sender.specs.Laws.Carrying.{board-size, carries-active, rank-active, x-active}
-use Rattle.sender.specs.Laws.Kept.{Sound, sound-start, sound-step, start-idle}
+use Rattle.sender.specs.Laws.Kept.{Sound, group-step, sound-start, sound-step, start-idle}
 use Rattle.sender.specs.Numbering.{Demand2, numberIn, slotsIn, stateIn}
 use Rattle.sender.specs.Ranks.{carries, carriersIn, rankAt, rowAt}
 use Rattle.sender.specs.Steps.{Call, stepOf}
 use Rattle.sender.specs.Table.{isActive, isMember, sizeOf}
 use Rattle.sender.specs.Theorems.Demand2.{active-member, sound-demand2}
 
--- a board that shows a table as demand 2 asks
-pub record Shows (b : Board) : Type 0 where
+-- a board that shows a table as demand 2 asks, of so many slots
+pub record Shows (b : Board) (count : ℕ) : Type 0 where
   pub source : Table
   pub sound : Sound source
   pub is : b ≡ boardOf source
+  pub slots : source .count ≡ count
 
 pub record SoundSender (s : Sender) : Type 0 where
   pub table : Sound (s .table)
-  pub going : Shows (s .going)
-  pub ruling : Shows (s .ruling)
+  pub going : Shows (s .going) (s .table .count)
+  pub ruling : Shows (s .ruling) (s .table .count)
 
-shows : (t : Table) → Sound t → Shows (boardOf t)
-shows t o = record { source = t; sound = o; is = refl }
+shows : (t : Table) → Sound t → Shows (boardOf t) (t .count)
+shows t o = record { source = t; sound = o; is = refl; slots = refl }
+
+shows-still : (b : Board) (c d : ℕ) → d ≡ c → Shows b c → Shows b d
+shows-still b c d e o = record { source = o .source; sound = o .sound; is = o .is; slots = o .slots ∙ sym e }
 
 fresh-sound : (t : Table) (e : ℕ) → Sound t → SoundSender (freshSender t e)
 unfolding freshSender
@@ -58,7 +62,13 @@ started-sound s gid mst ack o = go (ltb gid 2 && ltb ack 2)
     go false = o
 
 step-sound : (s : Sender) (c : SenderCall) → SoundSender s → SoundSender (senderStepOf s c .sender)
-step-sound s (OnTable c) o = record { table = sound-step (s .table) c (o .table); going = o .going; ruling = o .ruling }
+step-sound s (OnTable c) o =
+    let still = group-step (s .table) c .count in
+    record {
+      table = sound-step (s .table) c (o .table);
+      going = shows-still (s .going) (s .table .count) _ still (o .going);
+      ruling = shows-still (s .ruling) (s .table .count) _ still (o .ruling);
+    }
 step-sound s (StartEpoch gid mst ack) o = started-sound s gid mst ack o
 
 run-sound : (s : Sender) (cs : List SenderCall) → SoundSender s → SoundSender (senderRun s cs)
