@@ -1,12 +1,11 @@
 -- The board of a table: its rows, and who of them carries payload.
-use mathlib.Core.Path.{_≡_, refl, _∙_, sym, ap}
+use mathlib.Core.Path.{_≡_, refl, _∙_, ap}
 use mathlib.Core.Logic.{⊎-elim}
-use mathlib.Core.Bool.{Bool, true, false, cond, _&&_, _||_}
-use mathlib.Core.List.{List}
+use mathlib.Core.Bool.{Bool, true, false, _&&_, _||_}
 use Prim.Native.Nat.{ℕ, _≤_, _<_}
 use native.Mathlib.Omega.{arith}
 use lib.Dec.{eqb, ltb}
-use lib.ListN.{length, replicate, length-replicate}
+use lib.ListN.{replicate, length-replicate}
 use Rattle.ground.specs.Truth.{le-or-lt}
 use Rattle.counting.specs.Each.{getD-each}
 use Rattle.counting.specs.Laws.Numbers.{count-ext}
@@ -14,7 +13,6 @@ use Rattle.counting.specs.Laws.Ranks.{rank}
 use Rattle.counting.specs.Words.{count}
 use Rattle.packet.specs.Words.{EOS, NORM}
 use Rattle.sender.specs.declared.board.Row.{Row}
-use Rattle.sender.specs.declared.table.Slot.{Slot}
 use Rattle.sender.specs.declared.table.State.{State}
 use Rattle.sender.specs.declared.table.State.the-variants.{Idle, Add, Active, Dnu}
 use Rattle.sender.specs.declared.table.Table.{Table}
@@ -22,7 +20,7 @@ use Rattle.sender.specs.Board.{boardOf, highest, noRow, rowOf, rowsOf, w
 use Rattle.sender.specs.Laws.Sizes.{size-le, size-small, size-large}
 use Rattle.sender.specs.Numbering.{numberIn, slotsIn, stateIn}
 use Rattle.sender.specs.Ranks.{carries, carriersIn, rankAt, rankOf, rowAt}
-use Rattle.sender.specs.Table.{isActive, sizeOf, slotAt}
+use Rattle.sender.specs.Table.{isActive, sizeOf}
 
 pub size-size : (c : ℕ) → sizeOf (sizeOf c) ≡ sizeOf c
 size-size c = go (sizeOf c) (size-le c)

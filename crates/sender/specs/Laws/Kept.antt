@@ -1,12 +1,12 @@
 -- Each call keeps the numbering of the table.
-use mathlib.Core.Path.{_≡_, refl, _∙_, sym, ap}
+use mathlib.Core.Path.{_≡_, refl, _∙_, ap}
 use mathlib.Core.Logic.{⊎-elim, _≢_}
-use mathlib.Core.Bool.{Bool, true, false, cond, not, _&&_, _||_, true≢false, false≢true}
+use mathlib.Core.Bool.{Bool, true, false, cond, not, _||_}
 use mathlib.Core.List.{List, [], _∷_}
-use Prim.Native.Nat.{ℕ, zero, suc, _+_, _-_, _%_, _≤_, _<_}
+use Prim.Native.Nat.{ℕ, zero, suc, _+_, _%_, _≤_, _<_}
 use native.Mathlib.Omega.{arith}
 use lib.Dec.{eqb, ltb}
-use lib.ListN.{length, getD, set, replicate, length-set, length-replicate, getD-replicate}
+use lib.ListN.{length, set, replicate, length-set, length-replicate, getD-replicate}
 use lib.Seq.{getD-set-same, getD-set-other}
 use borrow.Author.Tests.{ltb-true, not-true}
 use Rattle.ground.specs.Truth.{eq-or-ne}
@@ -19,7 +19,6 @@ use Rattle.sender.specs.declared.table.Answer.the-variants.{Done, NoSlot
 use Rattle.sender.specs.declared.table.Slot.{Slot}
 use Rattle.sender.specs.declared.table.State.{State}
 use Rattle.sender.specs.declared.table.State.the-variants.{Idle, Add, Active, Dnu}
-use Rattle.sender.specs.declared.table.Step.{Step}
 use Rattle.sender.specs.declared.table.Table.{Table}
 use Rattle.sender.specs.Commands.{addOf, addedTo, answered, fallen, fallenIn, freshOf, idleSlot, inOrder, lapseOf, removeOf, removedFrom, startOf, withSlots}
 use Rattle.sender.specs.Laws.Adding.{numbered-add}
@@ -28,7 +27,7 @@ use Rattle.sender.specs.Laws.Numbered.{Numbered, numbered-fresh, numbere
 use Rattle.sender.specs.Laws.Removing.{lower, numbered-remove}
 use Rattle.sender.specs.Laws.Reporting.{Passes, numbered-report}
 use Rattle.sender.specs.Laws.Sizes.{size-le}
-use Rattle.sender.specs.Numbering.{members, numberIn, slotsIn, stateIn}
+use Rattle.sender.specs.Numbering.{numberIn, slotsIn, stateIn}
 use Rattle.sender.specs.Reports.{actedOn, comesBefore, heardIn, numberAfter, renumbered, reportOf, slotAfter, spoken, spokenTo, toldIn, turnOf, waited}
 use Rattle.sender.specs.Steps.{Call, run, stepOf}
 use Rattle.sender.specs.Steps.Call.{AddSlot, RemoveSlot, Report, Lapse}

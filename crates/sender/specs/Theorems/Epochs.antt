@@ -1,11 +1,9 @@
 -- The sender over epochs (01, 'Taking effect', 'Payload order'), after any calls from a start.
 use mathlib.Core.Path.{_≡_, refl, _∙_, sym, ap}
-use mathlib.Core.Bool.{Bool, true, false, cond, _&&_, false≢true}
+use mathlib.Core.Bool.{Bool, true, false, cond, _&&_}
 use mathlib.Core.List.{List, [], _∷_}
 use Prim.Native.Nat.{ℕ, _<_}
-use native.Mathlib.Omega.{arith}
 use lib.Dec.{eqb, ltb}
-use lib.ListN.{getD-replicate}
 use borrow.Author.Tests.{eq-eqb, eqb-true}
 use Rattle.ground.specs.Truth.{and-true, and-left, and-right}
 use Rattle.counting.specs.Laws.Numbers.{count-none}
@@ -16,19 +14,17 @@ use Rattle.sender.specs.declared.board.Board.{Board}
 use Rattle.sender.specs.declared.epochs.Sender.{Sender}
 use Rattle.sender.specs.declared.epochs.SenderStep.{SenderStep}
 use Rattle.sender.specs.declared.table.Answer.the-variants.{Done, Field}
-use Rattle.sender.specs.declared.table.Slot.{Slot}
-use Rattle.sender.specs.declared.table.State.the-variants.{Idle}
 use Rattle.sender.specs.declared.table.Table.{Table}
 use Rattle.sender.specs.Board.{boardOf}
-use Rattle.sender.specs.Commands.{freshOf, startOf}
-use Rattle.sender.specs.Epochs.{SenderCall, beginOf, freshSender, packetFields, rankIn, senderRun, senderStepOf, startEpochOf, startedEpoch, startedSender, xOf}
+use Rattle.sender.specs.Commands.{startOf}
+use Rattle.sender.specs.Epochs.{SenderCall, beginOf, freshSender, packetFields, rankIn, senderRun, senderStepOf, startEpochOf, startedSender, xOf}
 use Rattle.sender.specs.Epochs.SenderCall.{OnTable, StartEpoch}
 use Rattle.sender.specs.Laws.Carrying.{board-size, carries-active, rank-active, x-active}
 use Rattle.sender.specs.Laws.Kept.{Sound, group-step, sound-start, sound-step, start-idle}
 use Rattle.sender.specs.Numbering.{Demand2, numberIn, slotsIn, stateIn}
 use Rattle.sender.specs.Ranks.{carries, carriersIn, rankAt, rowAt}
-use Rattle.sender.specs.Steps.{Call, stepOf}
-use Rattle.sender.specs.Table.{isActive, isMember, sizeOf}
+use Rattle.sender.specs.Steps.{Call}
+use Rattle.sender.specs.Table.{isActive, sizeOf}
 use Rattle.sender.specs.Theorems.Demand2.{active-member, sound-demand2}
 
 -- a board that shows a table as demand 2 asks, of so many slots

@@ -1,25 +1,22 @@
 -- The packet of a slot is never refused for its fields: after any calls from a start, each given bytes, it is written once an epoch has started and the lent bytes are as many as a packet has.
-use mathlib.Core.Path.{_≡_, refl, _∙_, sym, ap}
+use mathlib.Core.Path.{_≡_, refl, _∙_, ap}
 use mathlib.Core.Bool.{Bool, true, false, cond, not, _&&_}
 use mathlib.Core.List.{List, [], _∷_}
-use Prim.Native.Nat.{ℕ, _≤_, _<_}
+use Prim.Native.Nat.{ℕ, _<_}
 use native.Mathlib.Omega.{arith}
 use lib.Dec.{eqb, ltb, lit<}
 use lib.ListN.{length}
 use borrow.Author.Tests.{eq-eqb, lt-ltb, ltb-true}
-use Rattle.ground.specs.Truth.{and-true, and-left, and-right}
+use Rattle.ground.specs.Truth.{and-left, and-right}
 use Rattle.counting.specs.Laws.Numbers.{count-le}
-use Rattle.packet.specs.declared.layout.Fields.{Fields}
-use Rattle.packet.specs.declared.words.Word.{Word}
-use Rattle.packet.specs.declared.writer.Writing.{Writing}
-use Rattle.packet.specs.Kinds.{epochAfter, frames, idleNumber}
+use Rattle.packet.specs.Kinds.{epochAfter, frames}
 use Rattle.packet.specs.Theorems.Tags.{epoch-fits, idle-fits}
 use Rattle.packet.specs.Words.{FIXED, assigned}
 use Rattle.packet.specs.Writing.{fitting, writeAnswer}
 use Rattle.sender.specs.declared.board.Row.{Row}
 use Rattle.sender.specs.declared.epochs.Sender.{Sender}
 use Rattle.sender.specs.declared.epochs.SenderStep.{SenderStep}
-use Rattle.sender.specs.declared.table.Answer.the-variants.{Done, Field, Length, NoSlot, NotAllowed}
+use Rattle.sender.specs.declared.table.Answer.the-variants.{Done, Field}
 use Rattle.sender.specs.declared.table.State.{State}
 use Rattle.sender.specs.declared.table.State.the-variants.{Idle, Add, Active, Dnu}
 use Rattle.sender.specs.declared.table.Table.{Table}
@@ -30,10 +27,9 @@ use Rattle.sender.specs.Laws.Carrying.{board-row, row-number}
 use Rattle.sender.specs.Laws.Kept.{Sound}
 use Rattle.sender.specs.Laws.Sizes.{size-le}
 use Rattle.sender.specs.Numbering.{numberIn, slotsIn, stateIn}
-use Rattle.sender.specs.Outcomes.{written}
 use Rattle.sender.specs.Ranks.{rowAt}
 use Rattle.sender.specs.Table.{isMember, sizeOf}
-use Rattle.sender.specs.Theorems.Epochs.{Shows, SoundSender, sender-sound, senderAfter}
+use Rattle.sender.specs.Theorems.Epochs.{SoundSender, sender-sound, senderAfter}
 
 -- a call that is given bytes
 abbrev pub Given : SenderCall → Type 0
