@@ -32,6 +32,10 @@ pub count-ext : (n : ℕ) (f g : ℕ → Bool) → ((k : ℕ) → k < n → f k 
 count-ext zero f g h = refl
 count-ext (suc n) f g h = rw (count-ext n f g (λ k b. h k (omega arith)), h n (omega arith))
 
+pub count-none : (n : ℕ) (f : ℕ → Bool) → ((k : ℕ) → k < n → f k ≡ false) → count n f ≡ 0
+count-none zero f h = refl
+count-none (suc n) f h = rw (count-none n f (λ k b. h k (omega arith)), h n (omega arith))
+
 -- where f holds g does
 pub count-mono : (n : ℕ) (f g : ℕ → Bool) → ((k : ℕ) → k < n → f k ≡ true → g k ≡ true) → count n f ≤ count n g
 count-mono zero f g h = omega arith
