@@ -1,9 +1,11 @@
 -- The refusals of every entry point that can refuse (demand 1), in one table under one statement.
+pub mod Epochs
 pub mod Packets
 pub mod Payloads
 pub mod Tables
 use mathlib.Core.List.{List, [], _∷_}
 use Rattle.paper.specs.Entries.{Entry, AllCope}
+use Epochs.{startEpoch, startEpoch-copes, packetEntry, packet-copes, payloadEntry, payload-copes}
 use Packets.{write, write-copes, read, read-copes, readSixteen, readSixteen-copes, writeC, writeC-copes, readC, readC-copes}
 use Payloads.{spread, spread-copes, join, join-copes, spreadOneMember, spreadOne-copes, joinFrom, joinFrom-copes, spreadC, spreadC-copes, joinC, joinC-copes}
 use Tables.{start, start-copes, add, add-copes, remove, remove-copes, report, report-copes, lapse, lapse-copes}
@@ -22,6 +24,9 @@ table =
     ∷ remove
     ∷ report
     ∷ lapse
+    ∷ startEpoch
+    ∷ packetEntry
+    ∷ payloadEntry
     ∷ writeC
     ∷ readC
     ∷ spreadC
@@ -55,14 +60,23 @@ entries = (
                       (
                         lapse-copes,
                         (
-                          writeC-copes,
+                          startEpoch-copes,
                           (
-                            readC-copes,
+                            packet-copes,
                             (
-                              spreadC-copes,
+                              payload-copes,
                               (
-                                joinC-copes,
-                                tt,
+                                writeC-copes,
+                                (
+                                  readC-copes,
+                                  (
+                                    spreadC-copes,
+                                    (
+                                      joinC-copes,
+                                      tt,
+                                    ),
+                                  ),
+                                ),
                               ),
                             ),
                           ),
