@@ -31,7 +31,7 @@ static const struct form forms[] = {
 
 enum { FORMS = sizeof forms / sizeof *forms, ROUNDS = 101, MOST = 64 * 2340, BYTES_A_ROUND = 400000 };
 
-static uint8_t from[MOST], to[MOST], first[MOST]; /* one output for all: where a buffer lies can change its speed */
+static uint8_t from[MOST], to[MOST], first[MOST]; /* one output for all forms: where it lies can change their speed */
 static double worst[FORMS];
 
 static double now(void)
