@@ -1,0 +1,4 @@
+pub mod Fields
+pub mod Laws
+pub mod Line
+pub mod Text
