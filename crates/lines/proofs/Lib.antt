@@ -1,3 +1,4 @@
 pub mod Parting
+pub mod Putting
 pub mod Reading
 pub mod Slices

@@ -1,6 +1,7 @@
 // The session's lines (01, 'Session') over the sender's table: what a line means.
 mod fields;
 mod line;
+mod output;
 
 pub use fields::Number;
 pub use fields::piece_end;
