@@ -1,2 +1,3 @@
 -- Laws on the definitions, for the proofs above them.
+pub mod Keeping
 pub mod Parted

@@ -1,5 +1,8 @@
 pub mod Fields
+pub mod Kept
 pub mod Laws
 pub mod Line
 pub mod Output
+pub mod Replies
+pub mod Session
 pub mod Text

@@ -2,11 +2,13 @@
 use mathlib.Core.Path.{_≡_}
 use mathlib.Core.Bool.{Bool, cond}
 use mathlib.Core.List.{List, [], _∷_, _++_}
-use Prim.Native.Nat.{ℕ, _+_, _/_, _%_}
+use Prim.Native.Nat.{ℕ, zero, suc, _+_, _/_, _%_}
 use lib.Dec.{eqb, ltb}
-use lib.ListN.{length}
+use lib.ListN.{getD, length}
 use lib.Seq.{sets}
 use Rattle.packet.specs.declared.words.Word.{Word}
+use Rattle.sender.specs.declared.board.Board.{Board}
+use Rattle.sender.specs.declared.board.Row.{Row}
 use Rattle.packet.specs.Words.{ADD, DNU, EOS, NORM}
 use Rattle.lines.specs.Text.{LINE-END, TAB}
 
@@ -39,12 +41,28 @@ ended field mark = field ++ (mark ∷ [])
 unfoldable pub answerText : ℕ → List ℕ
 answerText n = ended ANSWER TAB ++ ended (decimalText n) LINE-END
 
+abbrev pub rowAt : List Row → ℕ → Row
+rowAt rows i = getD rows i (record { word = record { 0 = 0 }; number = 0 })
+
 unfoldable pub slotText : ℕ → Word → ℕ → List ℕ
 slotText i w n = ended SLOT TAB ++ ended (decimalText i) TAB ++ ended (wordText w) TAB ++ ended (decimalText n) LINE-END
 
 -- 1 if a wait is open
 unfoldable pub waitText : Bool → List ℕ
 waitText b = ended WAIT TAB ++ ended (decimalText (cond b 1 0)) LINE-END
+
+-- the lines of the first n slots, in order
+abbrev pub slotsText : List Row → ℕ → List ℕ
+slotsText rows zero = []
+slotsText rows (suc n) = slotsText rows n ++ slotText n (rowAt rows n .word) (rowAt rows n .number)
+
+-- a board: each slot, then the wait
+unfoldable pub boardText : Board → List ℕ
+boardText b = slotsText (b .rows) (b .count) ++ waitText (b .wait)
+
+-- room for what any line is answered: 64 slots of at most 17 bytes (`slot 63 NORM 255`) and the wait
+abbrev pub ROOM : ℕ
+ROOM = 1095
 
 -- a text put at a place of a buffer, where the next one goes and the buffer afterwards
 pub record Put (text : List ℕ) (at : ℕ) (out : List ℕ) (next : ℕ) (new : List ℕ) : Type 0 where
