@@ -14,19 +14,11 @@ use Rattle.bytes.specs.Bytes.{indexOf, indexAfter}
 use Rattle.lines.specs.declared.fields.Number.{Number}
 use Rattle.lines.specs.declared.line.Line.the-variants.{Malformed}
 use Rattle.lines.specs.Fields.{hexOf, numberOf, sameBytes}
+use Rattle.lines.specs.Laws.Feeding.{index-le}
 use Rattle.lines.specs.Laws.Parted.{parted-more, parted-none}
 use Rattle.lines.specs.Line.{REPORT, lineOf, meaningOf, numberLine, reportLine, reportOf, wordLine}
 use Rattle.lines.specs.Text.{TAB, ahead, fieldsOf, parted}
 use Rattle.lines.proofs.Slices.{end-le, slice-end, slice-none}
-
-index-le : (m : ℕ) (l : List ℕ) → indexOf m l ≤ length l
-unfolding indexOf indexAfter
-index-le m [] = omega arith
-index-le m (b ∷ l) = go (eqb b m) (index-le m l)
-  where
-    go : (t : Bool) → indexOf m l ≤ length l → indexAfter t (indexOf m l) ≤ suc (length l)
-    go true h = omega arith
-    go false h = omega arith
 
 take-slice : (at i end : ℕ) (l : List ℕ) → at + i ≤ end → take i (slice at end l) ≡ slice at (at + i) l
 take-slice zero i end l h =
