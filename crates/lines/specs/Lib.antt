@@ -4,5 +4,7 @@ pub mod Laws
 pub mod Line
 pub mod Output
 pub mod Replies
+pub mod Runs
 pub mod Session
 pub mod Text
+pub mod Theorems
