@@ -31,20 +31,20 @@ holds-byte line k b h =
     let m = length-append line (b ∷ []) in
     ⊎-elim
     (λ (g : 81 ≤ length line).
-      let e : 81 ≤ k .count = omega arith in
-      rw (le-ltb (k .count) 81 e)
-      (record { room = h .room; count = h .count ∙ rw (take-append-le 81 line (b ∷ []) g); bytes = h .bytes ∙ rw (take-append-le 81 line (b ∷ []) g) }))
+    let e : 81 ≤ k .count = omega arith in
+    rw (le-ltb (k .count) 81 e)
+    (record { room = h .room; count = h .count ∙ rw (take-append-le 81 line (b ∷ []) g); bytes = h .bytes ∙ rw (take-append-le 81 line (b ∷ []) g) }))
     (λ (g : length line < 81).
-      let e : k .count < 81 = omega arith in
-      let i : k .count < length (k .bytes) = omega arith in
-      let a : take 81 (line ++ (b ∷ [])) ≡ line ++ (b ∷ []) = take-all 81 (line ++ (b ∷ [])) (omega arith) in
-      let d : take 81 line ≡ line = take-all 81 line (omega arith) in
-      rw (lt-ltb (k .count) 81 e)
-      (record {
-        room = length-set (k .bytes) (k .count) b ∙ h .room;
-        count = rw a (let q = ap length d in omega arith);
-        bytes = rw (add-one, take-suc-set (k .bytes) (k .count) b i, a, h .bytes, d);
-      }))
+    let e : k .count < 81 = omega arith in
+    let i : k .count < length (k .bytes) = omega arith in
+    let a : take 81 (line ++ (b ∷ [])) ≡ line ++ (b ∷ []) = take-all 81 (line ++ (b ∷ [])) (omega arith) in
+    let d : take 81 line ≡ line = take-all 81 line (omega arith) in
+    rw (lt-ltb (k .count) 81 e)
+    (record {
+      room = length-set (k .bytes) (k .count) b ∙ h .room;
+      count = rw a (let q = ap length d in omega arith);
+      bytes = rw (add-one, take-suc-set (k .bytes) (k .count) b i, a, h .bytes, d);
+    }))
     (le-or-lt 81 (length line))
 
 pub holds-more : (line : List ℕ) (k : Kept) (l : List ℕ) → Holds line k → Holds (line ++ l) (keepAll k l)
@@ -57,9 +57,9 @@ unfolding lineOf
 same-meaning line =
     ⊎-elim
     (λ (g : 81 ≤ length line).
-      let n : 80 < length (take 81 line) = rw (length-take-le 81 line g) (omega arith) in
-      let m : 80 < length line = omega arith in
-      rw (lt-leb (length (take 81 line)) 80 n, lt-leb (length line) 80 m))
+    let n : 80 < length (take 81 line) = rw (length-take-le 81 line g) (omega arith) in
+    let m : 80 < length line = omega arith in
+    rw (lt-leb (length (take 81 line)) 80 n, lt-leb (length line) 80 m))
     (λ (g : length line < 81). rw (take-all 81 line (omega arith)))
     (le-or-lt 81 (length line))
 

@@ -97,12 +97,12 @@ module _ (h : Host) (part : List ℕ) (whole : List ℕ → List ℕ) (o : Stand
       holds-nothing
       (over-room (saidTo T L) (h .buffer) (o .room))
       (λ rest.
-        let c : o .line ++ (take (i + 1) part ++ rest) ≡ L ++ (LINE-END ∷ rest) =
-          rw (with-end part (ltb-true i (length part) e)) (rw (append-assoc, append-assoc)) in
-        append-assoc (h .said) (saidTo T L) (answersTo (tableAfter T L) (linesOf rest))
-        ∙ ap (λ (ls : List (List ℕ)). h .said ++ answersTo T ls) (sym (free-line L rest f) ∙ ap linesOf (sym c))
-        ∙ o .same (take (i + 1) part ++ rest)
-        ∙ rw e)
+      let c : o .line ++ (take (i + 1) part ++ rest) ≡ L ++ (LINE-END ∷ rest) =
+      rw (with-end part (ltb-true i (length part) e)) (rw (append-assoc, append-assoc)) in
+      append-assoc (h .said) (saidTo T L) (answersTo (tableAfter T L) (linesOf rest))
+      ∙ ap (λ (ls : List (List ℕ)). h .said ++ answersTo T ls) (sym (free-line L rest f) ∙ ap linesOf (sym c))
+      ∙ o .same (take (i + 1) part ++ rest)
+      ∙ rw e)
 
   -- no line ends in it
   line-open : hasEnd part ≡ false → Stands (fedOnce h part) (λ rest. whole (take (usedOf part) part ++ rest))
