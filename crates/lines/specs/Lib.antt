@@ -1,3 +1,4 @@
+pub mod Ascii
 pub mod Fields
 pub mod Kept
 pub mod Laws
@@ -8,3 +9,4 @@ pub mod Runs
 pub mod Session
 pub mod Text
 pub mod Theorems
+mod Wrong

@@ -8,27 +8,27 @@ use Rattle.lines.specs.declared.fields.Number.{Number}
 use Rattle.lines.specs.declared.fields.Number.the-variants.{Value, Unreadable}
 use Rattle.lines.specs.declared.line.Line.{Line}
 use Rattle.lines.specs.declared.line.Line.the-variants.{Size, Add, Remove, Report, Lapse, Board, Malformed}
+use Rattle.lines.specs.Ascii.{ascii}
 use Rattle.lines.specs.Fields.{hexOf, numberOf, sameBytes}
 use Rattle.lines.specs.Text.{fieldsOf}
 
--- the six words in ASCII
 abbrev pub SIZE : List ℕ
-SIZE = 115 ∷ 105 ∷ 122 ∷ 101 ∷ []
+SIZE = ascii "size"
 
 abbrev pub ADD : List ℕ
-ADD = 97 ∷ 100 ∷ 100 ∷ []
+ADD = ascii "add"
 
 abbrev pub REMOVE : List ℕ
-REMOVE = 114 ∷ 101 ∷ 109 ∷ 111 ∷ 118 ∷ 101 ∷ []
+REMOVE = ascii "remove"
 
 abbrev pub REPORT : List ℕ
-REPORT = 114 ∷ 101 ∷ 112 ∷ 111 ∷ 114 ∷ 116 ∷ []
+REPORT = ascii "report"
 
 abbrev pub LAPSE : List ℕ
-LAPSE = 108 ∷ 97 ∷ 112 ∷ 115 ∷ 101 ∷ []
+LAPSE = ascii "lapse"
 
 abbrev pub BOARD : List ℕ
-BOARD = 98 ∷ 111 ∷ 97 ∷ 114 ∷ 100 ∷ []
+BOARD = ascii "board"
 
 -- a line of one field
 unfoldable pub wordLine : List ℕ → Line

@@ -1,4 +1,4 @@
--- The lines of the output: 'spaces standing for tabs, no header' (01, 'Session'), in ASCII.
+-- The lines of the output: 'spaces standing for tabs, no header' (01, 'Session').
 use mathlib.Core.Path.{_≡_}
 use mathlib.Core.Bool.{Bool, cond}
 use mathlib.Core.List.{List, [], _∷_, _++_}
@@ -10,6 +10,7 @@ use Rattle.packet.specs.declared.words.Word.{Word}
 use Rattle.sender.specs.declared.board.Board.{Board}
 use Rattle.sender.specs.declared.board.Row.{Row}
 use Rattle.packet.specs.Words.{ADD, DNU, EOS, NORM}
+use Rattle.lines.specs.Ascii.{ascii}
 use Rattle.lines.specs.Text.{LINE-END, TAB}
 
 -- a byte in decimal, with no zero before it
@@ -21,18 +22,18 @@ decimalText n =
 -- the five words that a board shows: ADD, NORM, EOS, DNU, IDLE
 unfoldable pub wordText : Word → List ℕ
 wordText w =
-    cond (eqb (w .0) ADD) (65 ∷ 68 ∷ 68 ∷ [])
-    (cond (eqb (w .0) NORM) (78 ∷ 79 ∷ 82 ∷ 77 ∷ [])
-    (cond (eqb (w .0) EOS) (69 ∷ 79 ∷ 83 ∷ []) (cond (eqb (w .0) DNU) (68 ∷ 78 ∷ 85 ∷ []) (73 ∷ 68 ∷ 76 ∷ 69 ∷ []))))
+    cond (eqb (w .0) ADD) (ascii "ADD")
+    (cond (eqb (w .0) NORM) (ascii "NORM")
+    (cond (eqb (w .0) EOS) (ascii "EOS") (cond (eqb (w .0) DNU) (ascii "DNU") (ascii "IDLE"))))
 
 abbrev pub ANSWER : List ℕ
-ANSWER = 97 ∷ 110 ∷ 115 ∷ 119 ∷ 101 ∷ 114 ∷ []
+ANSWER = ascii "answer"
 
 abbrev pub SLOT : List ℕ
-SLOT = 115 ∷ 108 ∷ 111 ∷ 116 ∷ []
+SLOT = ascii "slot"
 
 abbrev pub WAIT : List ℕ
-WAIT = 119 ∷ 97 ∷ 105 ∷ 116 ∷ []
+WAIT = ascii "wait"
 
 -- a field with the mark behind it
 abbrev pub ended : List ℕ → ℕ → List ℕ

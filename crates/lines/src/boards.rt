@@ -22,7 +22,7 @@ fn put_slots(rows: [Row; 64], n: u8, out: &mut [u8]) -> usize
     at
 }
 
-pub fn put_board(board: Board, out: &mut [u8]) -> usize
+pub(crate) fn put_board(board: Board, out: &mut [u8]) -> usize
     requires { ⌜ (board .count ≤ 64) × (ROOM ≤ length (now out)) ⌝ }
     ensures { λ r. ⌜ Put (boardText board) 0 (now (out .entry)) r (now (out .exit)) ⌝ }
 {

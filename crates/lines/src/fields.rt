@@ -12,7 +12,7 @@ pub enum Number {
 }
 
 // The limit, or the text's end if that comes first.
-pub fn end_of(text: &[u8], limit: usize) -> usize
+pub(crate) fn end_of(text: &[u8], limit: usize) -> usize
     ensures { λ r. ⌜ r ≡ length (take limit (now (text .entry))) ⌝ }
 {
     if limit < text.len() {

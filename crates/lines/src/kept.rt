@@ -9,7 +9,7 @@ pub struct Kept {
     pub count: usize,
 }
 
-pub fn nothing() -> Kept
+pub(crate) fn nothing() -> Kept
     ensures { λ r. ⌜ r ≡ nothingKept ⌝ }
 {
     Kept {
@@ -34,7 +34,7 @@ fn keep(kept: Kept, byte: u8) -> Kept
 }
 
 // The first n bytes of a part of the input.
-pub fn keep_all(kept: Kept, input: &[u8], n: usize) -> Kept
+pub(crate) fn keep_all(kept: Kept, input: &[u8], n: usize) -> Kept
     requires { ⌜ n ≤ length (now input) ⌝ }
     ensures { λ r. ⌜ r ≡ keepAll kept (take n (now (input .entry))) ⌝ }
 {

@@ -59,7 +59,7 @@ fn put_word(word: Word, out: &mut [u8], at: usize) -> usize
     put(b"IDLE\t", out, at)
 }
 
-pub fn put_answer(number: u8, out: &mut [u8]) -> usize
+pub(crate) fn put_answer(number: u8, out: &mut [u8]) -> usize
     requires { ⌜ 0 + length (answerText number) ≤ length (now out) ⌝ }
     ensures { λ r. ⌜ Put (answerText number) 0 (now (out .entry)) r (now (out .exit)) ⌝ }
 {
@@ -67,7 +67,7 @@ pub fn put_answer(number: u8, out: &mut [u8]) -> usize
     put_number(number, b'\n', out, next)
 }
 
-pub fn put_slot(slot: u8, word: Word, number: u8, out: &mut [u8], at: usize) -> usize
+pub(crate) fn put_slot(slot: u8, word: Word, number: u8, out: &mut [u8], at: usize) -> usize
     requires { ⌜ at + length (slotText slot word number) ≤ length (now out) ⌝ }
     ensures { λ r. ⌜ Put (slotText slot word number) at (now (out .entry)) r (now (out .exit)) ⌝ }
 {
@@ -83,7 +83,7 @@ fn bit_of(wait: bool) -> u8
     if wait { 1 } else { 0 }
 }
 
-pub fn put_wait(wait: bool, out: &mut [u8], at: usize) -> usize
+pub(crate) fn put_wait(wait: bool, out: &mut [u8], at: usize) -> usize
     requires { ⌜ at + length (waitText wait) ≤ length (now out) ⌝ }
     ensures { λ r. ⌜ Put (waitText wait) at (now (out .entry)) r (now (out .exit)) ⌝ }
 {
