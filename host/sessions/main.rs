@@ -108,7 +108,9 @@ fn main() {
 
     let sessions = given(&text);
     for (name, input, output) in &sessions {
+        let unended = input.strip_suffix('\n').unwrap_or(input);
         note(&format!("session {}", name), program(command, input.as_bytes()) == output.as_bytes());
+        note(&format!("session {} without its last line end", name), program(command, unended.as_bytes()) == output.as_bytes());
         note(&format!("session {} by the reference", name), reference::session::run(input.as_bytes()) == *output);
     }
     note("some sessions are given", sessions.len() > 3);

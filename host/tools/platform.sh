@@ -25,5 +25,13 @@ aarch64)
     ;;
 esac
 
-# runs a program of x86-64
+# runs a program of x86-64 that has its C library in it, or finds this machine's
 run_archive_program() { $emulator "$@"; }
+
+# The words that run a program that rt linked. It needs the toolchain's C library, of which an emulator has to be told.
+if [ -n "$emulator" ]; then
+    libraries=$(dirname "$(dirname "$(rt doc)")")/on/$(uname -m)/toolchain/lib
+    linked="$emulator $libraries/ld-linux-x86-64.so.2 --library-path $libraries"
+else
+    linked=''
+fi
