@@ -1,6 +1,6 @@
 -- Wrong readings of 01, each as a definition with a run on which it breaks what 01 says.
 use mathlib.Core.Path.{_≡_, refl}
-use mathlib.Core.Bool.{true}
+use mathlib.Core.Bool.{true, cond}
 use mathlib.Core.List.{List, [], _∷_}
 use Prim.Native.Nat.{ℕ, zero, suc}
 use lib.ListN.{set}
@@ -13,7 +13,7 @@ use Rattle.sender.specs.declared.table.Table.{Table}
 use Rattle.sender.specs.Board.{boardOf, highest, noRow, rowOf, rowsOf}
 use Rattle.sender.specs.Commands.{addOf, addedTo, fallen, fallenIn, freshOf, idleSlot, lapseOf, removeOf, removedFrom, startOf, withSlots}
 use Rattle.sender.specs.Epochs.{beginOf, freshSender, rankIn, senderRun, startEpochOf, startedEpoch, startedSender, xOf}
-use Rattle.sender.specs.Ranks.{carriersIn, rankAt, rankOf, rowAt}
+use Rattle.sender.specs.Ranks.{carriersIn, carries, noRank, rankAt, rankOf, rowAt}
 use Rattle.sender.specs.Reports.{actedOn, comesBefore, heardIn, numberAfter, opensWait, renumbered, reportOf, slotAfter, spoken, toldIn, turnOf, waited}
 use Rattle.sender.specs.Shown.{after, shown}
 use Rattle.sender.specs.Steps.{Call}
@@ -61,10 +61,10 @@ joined slot cs = AddSlot slot ∷ Report 0 0x00 0 ∷ Lapse ∷ cs
 
 -- Slip 1: 'Ranking by number and not by place among active members, so a DNU member leaves a hole.' The payload of an epoch is ruled by DNU 0, NORM 1, EOS 2: rank 2 is not below X.
 wrong-rank : Sender → ℕ → ℕ
-wrong-rank s i = rowAt (s .ruling .rows) i .number
+wrong-rank s i = cond (carries (rowAt (s .ruling .rows) i)) (rowAt (s .ruling .rows) i .number) noRank
 
 rank-breaks :
-    (told wrong-rank 3 (twice (joined 0 (joined 1 (joined 2 (Report 0 0x80 0 ∷ [])))) []) ≡ 2 ∷ 0 ∷ 1 ∷ 2 ∷ [])
+    (told wrong-rank 3 (twice (joined 0 (joined 1 (joined 2 (Report 0 0x80 0 ∷ [])))) []) ≡ 2 ∷ 255 ∷ 1 ∷ 2 ∷ [])
     × (told rankIn 3 (twice (joined 0 (joined 1 (joined 2 (Report 0 0x80 0 ∷ [])))) []) ≡ 2 ∷ 255 ∷ 0 ∷ 1 ∷ [])
 unfolding wrong-rank beginOf freshSender startEpochOf startedSender startedEpoch carriersIn rankAt rankOf boardOf rowsOf rowOf noRow highest startOf freshOf idleSlot idleNumber addOf addedTo lapseOf reportOf waited actedOn heardIn toldIn holderOf renumbered slotAfter numberAfter comesBefore turnOf opensWait sizeOf membersOf mstFails mstFirst mstNumbers
 rank-breaks = (refl, refl)

@@ -8,6 +8,12 @@ ghost use Rattle.lines.specs.Session.{usedOf};
 struct Turn {
     session: Session,
     used: usize,
+    wrote: bool,
+}
+
+// The session after some of the input, and whether to read on.
+struct Turned {
+    session: Session,
     goes_on: bool,
 }
 
@@ -19,44 +25,43 @@ fn feed_some(session: Session, input: &[u8]) -> Turn
     let fed = lines::feed(session, input, &mut out);
     let after = fed.session;
     let written = fed.written;
-    let goes_on = io::write_all(STDOUT_FILENO, &out[..written]);
+    let wrote = io::write_all(STDOUT_FILENO, &out[..written]);
     Turn {
         session: after,
         used: fed.used,
-        goes_on,
+        wrote,
     }
 }
 
-// A whole part of the input.
-fn feed_all(session: Session, input: &[u8]) -> Session {
+// A whole part of the input. Where an answer cannot be written there is nobody to read on for.
+fn feed_all(session: Session, input: &[u8]) -> Turned {
     let mut s = session;
+    let mut goes_on = true;
     let mut at = 0;
     while at < input.len() {
         let turn = feed_some(s, &input[at..]);
         let next = turn.session;
         s = next;
+        goes_on = goes_on & turn.wrote;
         at += turn.used;
     }
-    s
+    Turned {
+        session: s,
+        goes_on,
+    }
 }
 
-fn read_some(session: Session) -> Turn {
+fn read_some(session: Session) -> Turned {
     let mut buffer = io::buffer();
     let got = libc::read(STDIN_FILENO, &mut buffer);
     if got <= 0 {
-        return Turn {
+        return Turned {
             session,
-            used: 0,
             goes_on: false,
         };
     }
     let n = io::count(got, &buffer);
-    let after = feed_all(session, &buffer[..n]);
-    Turn {
-        session: after,
-        used: n,
-        goes_on: true,
-    }
+    feed_all(session, &buffer[..n])
 }
 
 // A proved loop has to end, and nothing says that the input does: the turns are counted down from a number that no run uses up.

@@ -10,6 +10,7 @@ use Rattle.counting.specs.Laws.Numbers.{count-none}
 use Rattle.counting.specs.Laws.Ranks.{rank, ranked}
 use Rattle.counting.specs.Laws.Tests.{One}
 use Rattle.counting.specs.Words.{count}
+use Rattle.packet.specs.declared.layout.Fields.{Fields}
 use Rattle.sender.specs.declared.board.Board.{Board}
 use Rattle.sender.specs.declared.epochs.Sender.{Sender}
 use Rattle.sender.specs.declared.epochs.SenderStep.{SenderStep}
@@ -17,7 +18,7 @@ use Rattle.sender.specs.declared.table.Answer.the-variants.{Done, Field}
 use Rattle.sender.specs.declared.table.Table.{Table}
 use Rattle.sender.specs.Board.{boardOf}
 use Rattle.sender.specs.Commands.{startOf}
-use Rattle.sender.specs.Epochs.{SenderCall, beginOf, freshSender, packetFields, rankIn, senderRun, senderStepOf, startEpochOf, startedSender, xOf}
+use Rattle.sender.specs.Epochs.{SenderCall, beginOf, freshSender, packetAnswer, packetBytes, packetFields, payloadAnswer, payloadBytes, rankIn, senderRun, senderStepOf, startEpochOf, startedSender, xOf}
 use Rattle.sender.specs.Epochs.SenderCall.{OnTable, StartEpoch}
 use Rattle.sender.specs.Laws.Carrying.{board-size, carries-active, rank-active, x-active}
 use Rattle.sender.specs.Laws.Kept.{Sound, group-step, sound-start, sound-step, start-idle}
@@ -107,27 +108,54 @@ demand2-kept kind count e cs =
       ruling = sound-demand2 (o .ruling .source) (o .ruling .sound);
     }
 
--- all packets of an epoch carry one GID
-pub one-gid : (s : Sender) (i j : ℕ) → packetFields s i .gid ≡ packetFields s j .gid
-unfolding packetFields
-one-gid s i j = refl
-
--- Packets, X and ranks of this epoch stay as its start fixed them, whatever calls on the table come in between.
+-- What every slot sends in this epoch stays as its start fixed it, whatever calls on the table come in between: packet, payload, X and ranks.
 pub record Fixed (s r : Sender) : Type 0 where
   pub fields : (i : ℕ) → packetFields r i ≡ packetFields s i
+  pub answer : (i : ℕ) (h4 : List ℕ) → packetAnswer r i h4 ≡ packetAnswer s i h4
+  pub bytes : (i : ℕ) (h4 : List ℕ) → packetBytes r i h4 ≡ packetBytes s i h4
   pub x : xOf r ≡ xOf s
   pub ranks : (i : ℕ) → rankIn r i ≡ rankIn s i
+  pub told : (i P frame member : ℕ) → payloadAnswer r i P frame member ≡ payloadAnswer s i P frame member
+  pub carried : (i P : ℕ) (frame member : List ℕ) → payloadBytes r i P frame member ≡ payloadBytes s i P frame member
 
 abbrev pub onTable : List Call → List SenderCall
 onTable [] = []
 onTable (c ∷ cs) = OnTable c ∷ onTable cs
 
 pub fixed : (s : Sender) (cs : List Call) → Fixed s (senderRun s (onTable cs))
-unfolding packetFields
-fixed s [] = record { fields = λ i. refl; x = refl; ranks = λ i. refl }
+unfolding packetFields packetAnswer packetBytes payloadAnswer payloadBytes
+fixed s [] =
+    record {
+      fields = λ i. refl;
+      answer = λ i h. refl;
+      bytes = λ i h. refl;
+      x = refl;
+      ranks = λ i. refl;
+      told = λ i P f m. refl;
+      carried = λ i P f m. refl;
+    }
 fixed s (c ∷ cs) =
     let o = fixed (senderStepOf s (OnTable c) .sender) cs in
-    record { fields = λ i. o .fields i; x = o .x; ranks = λ i. o .ranks i }
+    let g = group-step (s .table) c in
+    record {
+      fields = λ i. o .fields i;
+      answer = λ i h. o .answer i h ∙ rw (g .count, g .kind);
+      bytes = λ i h. o .bytes i h ∙ rw (g .count, g .kind);
+      x = o .x;
+      ranks = λ i. o .ranks i;
+      told = λ i P f m. o .told i P f m ∙ rw (g .count);
+      carried = λ i P f m. o .carried i P f m ∙ rw (g .count);
+    }
+
+-- a start of an epoch that is refused changes nothing, so it may stand among those calls
+pub refused-start : (s : Sender) (gid mst ack : ℕ) → (ltb gid 2 && ltb ack 2) ≡ false → startEpochOf s gid mst ack .sender ≡ s
+unfolding startEpochOf
+refused-start s gid mst ack h = rw h
+
+-- all packets of an epoch carry one GID, whatever calls on the table come in between
+pub one-gid : (s : Sender) (cs : List Call) (i j : ℕ) → packetFields (senderRun s (onTable cs)) i .gid ≡ packetFields s j .gid
+unfolding packetFields
+one-gid s cs i j = ap (λ (f : Fields). f .gid) (fixed s cs .fields i)
 
 -- 'The packets of one epoch rule the payload of the next epoch'
 pub rules-next : (s : Sender) (gid mst ack : ℕ) → (ltb gid 2 && ltb ack 2) ≡ true → startEpochOf s gid mst ack .sender .ruling ≡ s .going
@@ -147,7 +175,7 @@ first-x kind c e cs gid mst ack h =
     ∙ x-active (startOf kind c .table)
     ∙ count-none (slotsIn (startOf kind c .table)) _ (λ i b. ap isActive (start-idle kind c i b))
 
--- each rank below X is one slot's
+-- each rank below X is some slot's
 module _ (s : Sender) (o : SoundSender s) where
   abbrev t : Table
   t = o .ruling .source

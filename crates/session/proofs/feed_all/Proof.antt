@@ -7,10 +7,10 @@ use Rattle.session.proofs.feed_all.Statement.{statement}
 use Rattle.session.proofs.feed_all.Tie as tie
 
 abbrev Inv-loop : tie.InvT-loop
-Inv-loop input s₀ at₀ s at = at ≤ length input
+Inv-loop input s₀ goes-on₀ at₀ s goes-on at = at ≤ length input
 
 abbrev μ-loop : tie.MeasureT-loop
-μ-loop input s₀ at₀ s at = length input - at
+μ-loop input s₀ goes-on₀ at₀ s goes-on at = length input - at
 
 loop-holds : tie.Need-loop-holds Inv-loop μ-loop
 loop-holds c = search needs
@@ -28,13 +28,13 @@ feed-some-requires : tie.Need-feed-some-requires Inv-loop μ-loop
 feed-some-requires c κs = search needs
 
 add-at : tie.Need-add-at Inv-loop μ-loop
-add-at c = let p = fed-on (c .before .before .before .before .before .before .before .args .input .now) (c .before .before .before .before .before .loop .at) (c .before .before .feed-some .result .used) (c .before .before .before .before .loop-test .taken) (c .before .before .feed-some .ensures) in omega arith
+add-at c = let p = fed-on (c .before .before .before .before .before .before .before .before .args .input .now) (c .before .before .before .before .before .before .loop .at) (c .before .before .before .feed-some .result .used) (c .before .before .before .before .before .loop-test .taken) (c .before .before .before .feed-some .ensures) in omega arith
 
 loop-less : tie.Need-loop-less Inv-loop μ-loop
-loop-less c = let p = fed-on (c .before .before .before .before .before .before .before .args .input .now) (c .before .before .before .before .before .loop .at) (c .before .before .feed-some .result .used) (c .before .before .before .before .loop-test .taken) (c .before .before .feed-some .ensures) in omega arith
+loop-less c = let p = fed-on (c .before .before .before .before .before .before .before .before .args .input .now) (c .before .before .before .before .before .before .loop .at) (c .before .before .before .feed-some .result .used) (c .before .before .before .before .before .loop-test .taken) (c .before .before .before .feed-some .ensures) in omega arith
 
 loop-again : tie.Need-loop-again Inv-loop μ-loop
-loop-again c = let p = fed-on (c .before .before .before .before .before .before .before .args .input .now) (c .before .before .before .before .before .loop .at) (c .before .before .feed-some .result .used) (c .before .before .before .before .loop-test .taken) (c .before .before .feed-some .ensures) in omega arith
+loop-again c = let p = fed-on (c .before .before .before .before .before .before .before .before .args .input .now) (c .before .before .before .before .before .before .loop .at) (c .before .before .before .feed-some .result .used) (c .before .before .before .before .before .loop-test .taken) (c .before .before .before .feed-some .ensures) in omega arith
 
 returns : tie.Need-returns Inv-loop μ-loop
 returns c = search needs
