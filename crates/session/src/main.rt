@@ -5,25 +5,28 @@ use lines::Session;
 ghost use mathlib.Core.Path.{_≡_};
 ghost use Rattle.lines.specs.Session.{usedOf};
 
-struct Turn {
+struct Used {
     session: Session,
     used: usize,
+}
+
+struct Turn {
+    session: Session,
     goes_on: bool,
 }
 
 // A part of the input up to its first line end, and what that is answered.
-fn feed_some(session: Session, input: &[u8]) -> Turn
+fn feed_some(session: Session, input: &[u8]) -> Used
     ensures { λ r. ⌜ r .used ≡ usedOf (now (input .entry)) ⌝ }
 {
     let mut out = [0u8; 1095];
     let fed = lines::feed(session, input, &mut out);
     let after = fed.session;
     let written = fed.written;
-    let goes_on = io::write_all(STDOUT_FILENO, &out[..written]);
-    Turn {
+    io::write_all(STDOUT_FILENO, &out[..written]);
+    Used {
         session: after,
         used: fed.used,
-        goes_on,
     }
 }
 
@@ -46,7 +49,6 @@ fn read_some(session: Session) -> Turn {
     if got <= 0 {
         return Turn {
             session,
-            used: 0,
             goes_on: false,
         };
     }
@@ -54,7 +56,6 @@ fn read_some(session: Session) -> Turn {
     let after = feed_all(session, &buffer[..n]);
     Turn {
         session: after,
-        used: n,
         goes_on: true,
     }
 }
