@@ -1,10 +1,10 @@
 -- A line answered into a buffer, and each way out of a part of the input.
-use mathlib.Core.Path.{_≡_, refl, sym, ap, _∙_}
+use mathlib.Core.Path.{_≡_, refl, ap, _∙_}
 use mathlib.Core.Bool.{Bool, true, false}
-use mathlib.Core.List.{List, [], _∷_, _++_}
+use mathlib.Core.List.{List}
 use Prim.Native.Nat.{ℕ, _+_, _≤_, _<_}
 use native.Mathlib.Omega.{arith}
-use lib.ListN.{length, take, drop}
+use lib.ListN.{length, take}
 use lib.Seq.{sets-eq, take-length}
 use borrow.Author.Tests.{le-ltb, lt-ltb}
 use Rattle.bytes.specs.Bytes.{indexOf, slice}

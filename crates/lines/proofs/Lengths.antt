@@ -1,7 +1,7 @@
 -- How long the lines of the output are at most.
-use mathlib.Core.Path.{_≡_, refl, sym, ap, _∙_}
+use mathlib.Core.Path.{_≡_, refl}
 use mathlib.Core.Bool.{Bool, true, false, cond}
-use mathlib.Core.List.{List, [], _∷_, _++_}
+use mathlib.Core.List.{List}
 use Prim.Native.Nat.{ℕ, zero, suc, _+_, _*_, _≤_, _<_}
 use native.Mathlib.Omega.{arith}
 use lib.Dec.{eqb, ltb}
@@ -10,8 +10,7 @@ use borrow.Author.Tests.{lt-ltb}
 use Rattle.packet.specs.declared.words.Word.{Word}
 use Rattle.sender.specs.declared.board.Board.{Board}
 use Rattle.sender.specs.declared.board.Row.{Row}
-use Rattle.lines.specs.Output.{ANSWER, Put, ROOM, SLOT, WAIT, answerText, boardText, decimalText, ended, rowAt, slotText, slotsText, waitText, wordText}
-use Rattle.lines.specs.Text.{LINE-END, TAB}
+use Rattle.lines.specs.Output.{Put, ROOM, answerText, boardText, decimalText, rowAt, slotText, slotsText, waitText, wordText}
 
 either-le : (b : Bool) (x y : List ℕ) (n : ℕ) → length x ≤ n → length y ≤ n → length (cond b x y) ≤ n
 either-le true x y n h k = h
@@ -61,10 +60,6 @@ board-le b h =
     let d = slots-le (b .rows) (b .count) h in
     let e = wait-is (b .wait) in
     simp length-append (omega arith)
-
--- no slot yet
-pub put-none : (out : List ℕ) → Put [] 0 out 0 out
-put-none out = record { behind = refl; bytes = refl; kept = refl }
 
 module _ (rows : List Row) (i : ℕ) {at : ℕ} {out new : List ℕ} (room : ROOM ≤ length out) (p : Put (slotsText rows i) 0 out at new) where
   pub slot-room : i < 64 → (w : Word) (n : ℕ) → at + length (slotText i w n) ≤ length new

@@ -3,14 +3,12 @@ use mathlib.Core.Path.{_≡_, refl, sym, ap, _∙_}
 use mathlib.Core.Bool.{Bool, true, false, cond}
 use mathlib.Core.List.{List, [], _∷_}
 use Prim.Native.Nat.{ℕ, zero, suc, _+_, _-_, _≤_, _<_}
-use native.Mathlib.Nat.{le-of-suc-le-suc, not-suc-le-zero}
-use native.Mathlib.Numerals.{add-one}
 use native.Mathlib.Omega.{arith}
 use lib.Dec.{eqb}
-use lib.ListN.{length, take, drop}
+use lib.ListN.{length, take}
 use lib.Seq.{slice, drop-drop, length-slice, take-nil, take-take}
 use borrow.Author.Tests.{le-leb, lt-leb}
-use Rattle.bytes.specs.Bytes.{indexOf, indexAfter}
+use Rattle.bytes.specs.Bytes.{indexOf}
 use Rattle.lines.specs.declared.fields.Number.{Number}
 use Rattle.lines.specs.declared.line.Line.the-variants.{Malformed}
 use Rattle.lines.specs.Fields.{hexOf, numberOf, sameBytes}

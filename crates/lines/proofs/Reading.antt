@@ -2,13 +2,13 @@
 use mathlib.Core.Path.{_≡_, refl, sym, ap, _∙_}
 use mathlib.Core.Bool.{Bool, true, false, _&&_, and-assoc}
 use mathlib.Core.List.{List, [], _∷_, _++_}
-use Prim.Native.Nat.{ℕ, zero, suc, _+_, _-_, _≤_, _<_}
+use Prim.Native.Nat.{ℕ, _+_, _-_, _≤_, _<_}
 use native.Mathlib.Numerals.{add-one}
 use native.Mathlib.Omega.{arith}
 use lib.Dec.{eqb, ltb, eqb·suc-zero}
 use lib.ListN.{length, take, getD}
-use lib.Seq.{slice, length-slice, length-take-le, take-all, take-suc}
-use borrow.Author.Tests.{eqb-true, ltb-true, ne-eqb}
+use lib.Seq.{slice, length-slice, length-take-le, take-suc}
+use borrow.Author.Tests.{ltb-true}
 use Rattle.bytes.specs.Bytes.{indexOf}
 use Rattle.ground.specs.Truth.{and-left, and-right}
 use Rattle.lines.specs.declared.fields.Number.{Number}

@@ -1,10 +1,10 @@
 -- Parts of a text up to a limit, which may lie past its end.
-use mathlib.Core.Path.{_≡_, refl, sym, ap, _∙_}
+use mathlib.Core.Path.{_≡_, refl, sym, ap}
 use mathlib.Core.List.{List, [], _∷_, _++_}
-use Prim.Native.Nat.{ℕ, zero, suc, _+_, _-_, _≤_, _<_}
+use Prim.Native.Nat.{ℕ, zero, suc, _+_, _≤_, _<_}
 use native.Mathlib.Numerals.{add-one}
 use native.Mathlib.Omega.{arith}
-use lib.ListN.{length, take, drop, getD, length-take, drop-of-length-le}
+use lib.ListN.{length, take, getD, length-take, drop-of-length-le}
 use lib.Seq.{slice, drop-append-le, drop-cons, getD-take, length-take-le, take-all, take-suc}
 
 pub end-within : (l : List ℕ) (limit : ℕ) → limit < length l → limit ≡ length (take limit l)

@@ -1,8 +1,8 @@
 -- A session (01, 'Session'), fed in parts cut anywhere.
 use mathlib.Core.Bool.{Bool, cond}
-use mathlib.Core.List.{List, [], _∷_, _++_}
+use mathlib.Core.List.{List, [], _++_}
 use Prim.Native.Nat.{ℕ, _+_}
-use lib.Dec.{eqb, ltb}
+use lib.Dec.{ltb}
 use lib.ListN.{drop, length, take}
 use Rattle.bytes.specs.Bytes.{indexOf}
 use Rattle.sender.specs.declared.table.Table.{Table}

@@ -1,18 +1,18 @@
 -- A part of the input fed with room for the output: what a host's loop goes by.
-use mathlib.Core.Path.{_≡_, refl, sym, ap, _∙_}
+use mathlib.Core.Path.{_≡_, refl, ap, _∙_}
 use mathlib.Core.Bool.{Bool, true, false, cond}
-use mathlib.Core.List.{List, [], _∷_, _++_}
-use Prim.Native.Nat.{ℕ, zero, suc, _+_, _-_, _≤_, _<_}
+use mathlib.Core.List.{List, [], _∷_}
+use Prim.Native.Nat.{ℕ, suc, _+_, _-_, _≤_, _<_}
 use native.Mathlib.Omega.{arith}
 use lib.Dec.{eqb, ltb}
 use lib.ListN.{drop, length, take, length-append, length-drop}
 use lib.Seq.{length-take-le}
-use borrow.Author.Tests.{le-ltb, lt-ltb, ltb-false, ltb-true}
+use borrow.Author.Tests.{le-ltb, ltb-false, ltb-true}
 use Rattle.bytes.specs.Bytes.{indexAfter, indexOf}
 use Rattle.lines.specs.declared.session.Fed.{Fed}
 use Rattle.lines.specs.declared.session.Session.{Session}
 use Rattle.lines.specs.Output.{ROOM}
-use Rattle.lines.specs.Session.{fedSession, fedText, feedBytes, feedOf, finishBytes, finishOf, lastText, over, usedOf}
+use Rattle.lines.specs.Session.{fedText, feedBytes, feedOf, finishBytes, finishOf, lastText, over, usedOf}
 use Rattle.lines.specs.Text.{LINE-END}
 
 pub index-le : (m : ℕ) (l : List ℕ) → indexOf m l ≤ length l

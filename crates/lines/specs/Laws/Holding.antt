@@ -1,11 +1,11 @@
 -- What is kept of a line: its first 81 bytes, which mean what the line means.
-use mathlib.Core.Path.{_≡_, refl, sym, ap, _∙_}
+use mathlib.Core.Path.{_≡_, refl, ap, _∙_}
 use mathlib.Core.Logic.{⊎-elim}
 use mathlib.Core.List.{List, [], _∷_, _++_, append-assoc, append-nil}
-use Prim.Native.Nat.{ℕ, _+_, _≤_, _<_}
+use Prim.Native.Nat.{ℕ, _≤_, _<_}
 use native.Mathlib.Numerals.{add-one}
 use native.Mathlib.Omega.{arith}
-use lib.ListN.{length, set, take, length-append, length-set, length-take}
+use lib.ListN.{length, take, length-append, length-set, length-take}
 use lib.Seq.{length-take-le, take-all, take-append-le, take-suc-set}
 use borrow.Author.Tests.{le-ltb, lt-leb, lt-ltb}
 use Rattle.ground.specs.Truth.{le-or-lt}

@@ -1,16 +1,15 @@
 -- Bytes with no line end among them, and the lines of what follows them.
-use mathlib.Core.Path.{_≡_, refl, sym, ap, _∙_}
+use mathlib.Core.Path.{_≡_, refl, ap}
 use mathlib.Core.Bool.{Bool, true, false}
 use mathlib.Core.List.{List, [], _∷_, _++_}
-use Prim.Native.Nat.{ℕ, zero, suc, _+_, _≤_, _<_}
+use Prim.Native.Nat.{ℕ, suc, _+_, _<_}
 use native.Mathlib.Nat.{le-of-suc-le-suc, not-suc-le-zero}
-use native.Mathlib.Numerals.{add-one}
 use native.Mathlib.Omega.{arith}
 use lib.Dec.{eqb}
 use lib.ListN.{length, take}
 use borrow.Author.Tests.{eqb-true}
 use Rattle.bytes.specs.Bytes.{indexAfter, indexOf}
-use Rattle.lines.specs.Text.{LINE-END, ahead, linesOf, parted}
+use Rattle.lines.specs.Text.{LINE-END, ahead, linesOf}
 
 abbrev pub Free : List ℕ → Type 0
 Free [] = Unit {0}

@@ -1,14 +1,14 @@
 -- A text parted at its marks, piece by piece.
-use mathlib.Core.Path.{_≡_, refl, sym, ap}
+use mathlib.Core.Path.{_≡_, refl}
 use mathlib.Core.Bool.{Bool, true, false}
 use mathlib.Core.List.{List, [], _∷_}
-use Prim.Native.Nat.{ℕ, zero, suc, _<_}
+use Prim.Native.Nat.{ℕ, suc, _<_}
 use native.Mathlib.Nat.{le-of-suc-le-suc, not-suc-le-zero}
 use native.Mathlib.Omega.{arith}
 use lib.Dec.{eqb}
 use lib.ListN.{length, take, drop}
 use Rattle.bytes.specs.Bytes.{indexOf, indexAfter}
-use Rattle.lines.specs.Text.{ahead, parted}
+use Rattle.lines.specs.Text.{parted}
 
 -- up to the first mark, and behind it
 pub parted-more : (m : ℕ) (z : List (List ℕ)) (l : List ℕ) → indexOf m l < length l

@@ -2,9 +2,8 @@
 use mathlib.Core.Path.{_≡_, refl, sym, ap, _∙_}
 use mathlib.Core.Bool.{Bool, true, false}
 use mathlib.Core.List.{List, [], _∷_, _++_, append-assoc, append-nil}
-use Prim.Native.Nat.{ℕ, zero, suc, _+_, _-_, _≤_, _<_}
+use Prim.Native.Nat.{ℕ, zero, suc, _+_, _≤_, _<_}
 use native.Mathlib.Omega.{arith}
-use lib.Dec.{eqb, ltb}
 use lib.ListN.{drop, length, take, length-append, length-drop, take-append-drop}
 use lib.Seq.{take-all, take-append-seam}
 use borrow.Author.Tests.{le-ltb, lt-ltb, ltb-false, ltb-true}
@@ -13,7 +12,7 @@ use Rattle.sender.specs.declared.table.Table.{Table}
 use Rattle.lines.specs.declared.line.Line.{Line}
 use Rattle.lines.specs.declared.session.Session.{Session}
 use Rattle.lines.specs.Kept.{lineIn, nothingKept}
-use Rattle.lines.specs.Laws.Feeding.{index-le, used-le, used-some}
+use Rattle.lines.specs.Laws.Feeding.{used-some}
 use Rattle.lines.specs.Laws.Holding.{Holds, held-line, holds-more, holds-nothing}
 use Rattle.lines.specs.Laws.Lines.{Free, free-append, free-line, free-take, last-line, with-end}
 use Rattle.lines.specs.Line.{lineOf}

@@ -1,11 +1,11 @@
-use mathlib.Core.Path.{_≡_, refl, _∙_}
-use Prim.Native.Nat.{_-_, _≤_, _<_, _+_}
+use mathlib.Core.Path.{_≡_}
+use Prim.Native.Nat.{_-_, _≤_}
 use native.Mathlib.Numerals.{add-one}
 use native.Mathlib.Omega.{arith}
-use lib.ListN.{length, take}
+use lib.ListN.{length}
 use borrow.Author.Needs.{needs}
 use Rattle.lines.specs.Output.{Put, slotsText}
-use Rattle.lines.proofs.Lengths.{put-none, slot-room}
+use Rattle.lines.proofs.Lengths.{slot-room}
 use Rattle.lines.proofs.Putting.{put-then}
 use Rattle.lines.proofs.boards.put_slots.Statement.{statement}
 use Rattle.lines.proofs.boards.put_slots.Tie as tie

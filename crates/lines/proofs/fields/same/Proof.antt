@@ -1,5 +1,4 @@
 use native.Mathlib.Omega.{arith}
-use lib.ListN.{length}
 use borrow.Author.Needs.{needs}
 use Rattle.lines.proofs.Reading.{same-none, same-other, same-here}
 use Rattle.lines.proofs.Slices.{end-le}

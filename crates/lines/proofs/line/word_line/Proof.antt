@@ -1,4 +1,3 @@
-use mathlib.Core.Path.{sym, _∙_}
 use borrow.Author.Needs.{needs}
 use Rattle.lines.specs.Line.{wordLine}
 use Rattle.lines.proofs.line.word_line.Statement.{statement}

@@ -1,8 +1,8 @@
-use mathlib.Core.Path.{_≡_, refl}
-use Prim.Native.Nat.{_-_, _≤_, _<_, _+_}
+use mathlib.Core.Path.{_≡_}
+use Prim.Native.Nat.{_-_, _≤_, _<_}
 use native.Mathlib.Omega.{arith}
 use lib.ListN.{length, take, length-set}
-use lib.Seq.{sets, take-length, length-sets}
+use lib.Seq.{sets, take-length}
 use borrow.Author.Needs.{needs}
 use Rattle.lines.proofs.Putting.{put-turn, put-whole}
 use Rattle.lines.proofs.output.put.Statement.{statement}

@@ -1,5 +1,4 @@
 use mathlib.Core.List.{_++_}
-use Prim.Native.Nat.{_+_, _≤_}
 use lib.ListN.{length}
 use borrow.Author.Needs.{needs}
 use Rattle.lines.specs.Output.{SLOT, slotText, decimalText, ended, wordText}

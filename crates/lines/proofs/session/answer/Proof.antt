@@ -1,5 +1,4 @@
 use mathlib.Core.Path.{ap}
-use Prim.Native.Nat.{ℕ}
 use borrow.Author.Needs.{needs}
 use Rattle.lines.specs.declared.replies.Reply.{Reply}
 use Rattle.lines.proofs.Answering.{answered}
