@@ -1,4 +1,4 @@
--- Demand 1 for one entry point: for all arguments and states the answer is the first of 01's numbers, in 01's order, whose condition holds. A refusal leaves the lent bytes as they were, and the state too but under 4, 10 and 12.
+-- Demand 1 for one entry point: for all arguments and states the answer is the first of 01's numbers, in 01's order, whose condition holds. A refusal leaves the lent bytes as they were, and the state too but under 4, 10 and 12; under 4 an empty group is returned.
 use mathlib.Core.Path.{_≡_, _∙_, sym}
 use mathlib.Core.Bool.{Bool, true, cond, not, _||_}
 use mathlib.Core.List.{List, [], _∷_}
@@ -26,6 +26,7 @@ pub record Entry : Type 1 where
   pub State : Type 0
   pub given : Input → State
   pub returned : Input → State
+  pub empty : Input → State
 
 -- 'Returned: state as given' under every number but 0, 4, 10 and 12
 abbrev pub keepsState : ℕ → Bool
@@ -35,6 +36,7 @@ pub record Copes (e : Entry) : Type 0 where
   pub in-order : (x : e .Input) → e .answer x ≡ first (e .refusals) x
   pub untouched : (x : e .Input) → (e .answer x ≡ 0 → ⊥) → e .left x ≡ e .lent x
   pub as-given : (x : e .Input) → keepsState (e .answer x) ≡ true → e .returned x ≡ e .given x
+  pub emptied : (x : e .Input) → e .answer x ≡ 4 → e .returned x ≡ e .empty x
 
 abbrev pub AllCope : List Entry → Type 0
 AllCope [] = Unit {0}

@@ -3,6 +3,7 @@ use mathlib.Core.Path.{_≡_, refl, ap}
 use mathlib.Core.Bool.{Bool, true, false, cond, not, _&&_, false≢true}
 use mathlib.Core.List.{List, [], _∷_}
 use Prim.Native.Nat.{ℕ, _*_}
+use native.Mathlib.Omega.{arith}
 use lib.Dec.{eqb, ltb}
 use lib.ListN.{length}
 use Rattle.packet.specs.declared.writer.Writing.the-variants.{Done as WriteDone, Field as WriteField, Length as WriteLength}
@@ -41,6 +42,7 @@ startEpoch =
       State = Sender;
       given = λ i. i .sender;
       returned = λ i. senderStepOf (i .sender) (StartEpoch (i .gid) (i .mst) (i .ack)) .sender;
+      empty = λ i. i .sender;
     }
 
 pub startEpoch-copes : Copes startEpoch
@@ -50,8 +52,13 @@ startEpoch-copes =
       in-order = λ i. in-order (i .sender) (startedSender (i .sender) (i .gid) (i .mst) (i .ack)) (bits i);
       untouched = λ i d. refl;
       as-given = λ i k. as-given (i .sender) (startedSender (i .sender) (i .gid) (i .mst) (i .ack)) (bits i) k;
+      emptied = λ i e. absurd (never-4 (bits i) (in-order (i .sender) (startedSender (i .sender) (i .gid) (i .mst) (i .ack)) (bits i)) e);
     }
   where
+    never-4 : {n : ℕ} (b : Bool) → n ≡ cond (not b) 8 0 → n ≡ 4 → ⊥
+    never-4 true e f = omega arith
+    never-4 false e f = omega arith
+
     in-order : (s t : Sender) (b : Bool) → answerNumber (cond {A = SenderStep} b (record { sender = t; answer = Done }) (record { sender = s; answer = Field }) .answer) ≡ cond (not b) 8 0
     in-order s t true = refl
     in-order s t false = refl
@@ -88,6 +95,7 @@ packetEntry =
       State = Unit {0};
       given = λ i. tt;
       returned = λ i. tt;
+      empty = λ i. tt;
     }
 
 packets-in-order : (b l g f : Bool)
@@ -115,6 +123,7 @@ packet-copes =
       in-order = λ i. packets-in-order (below (i .sender) (i .slot)) (eqb (length (i .h4)) 16) (i .sender .begun) (fitting (packetFields (i .sender) (i .slot)));
       untouched = λ i d. ap (λ l. l ∷ []) (packets-untouched (below (i .sender) (i .slot)) (eqb (length (i .h4)) 16) (i .sender .begun) (fitting (packetFields (i .sender) (i .slot))) _ (i .h4) d);
       as-given = λ i k. refl;
+      emptied = λ i e. refl;
     }
 
 -- The payload of a slot.
@@ -146,6 +155,7 @@ payloadEntry =
       State = Unit {0};
       given = λ i. tt;
       returned = λ i. tt;
+      empty = λ i. tt;
     }
 
 payloads-in-order : (b s l g : Bool)
@@ -175,4 +185,5 @@ payload-copes =
       in-order = λ i. payloads-in-order (below (i .sender) (i .slot)) (sized (xOf (i .sender)) (i .p)) (lengths i) (i .sender .begun);
       untouched = λ i d. ap (λ l. l ∷ []) (payloads-untouched (below (i .sender) (i .slot)) (sized (xOf (i .sender)) (i .p)) (lengths i) (i .sender .begun) _ (i .member) d);
       as-given = λ i k. refl;
+      emptied = λ i e. refl;
     }

@@ -62,6 +62,7 @@ write =
       State = Unit {0};
       given = λ i. tt;
       returned = λ i. tt;
+      empty = λ i. tt;
     }
 
 pub write-copes : Copes write
@@ -71,6 +72,7 @@ write-copes =
       in-order = λ x. writes-in-order (sized 16 (x .h4)) (fitting (x .fields));
       untouched = λ x d. ap (λ l. l ∷ []) (writes-untouched (sized 16 (x .h4)) (fitting (x .fields)) _ (x .h4) d);
       as-given = λ i k. refl;
+      emptied = λ i e. refl;
     }
 
 pub record WriteInputC : Type 0 where
@@ -100,6 +102,7 @@ writeC =
       State = Unit {0};
       given = λ i. tt;
       returned = λ i. tt;
+      empty = λ i. tt;
     }
 
 pub writeC-copes : Copes writeC
@@ -109,6 +112,7 @@ writeC-copes =
       in-order = λ x. writes-in-order (sized 16 (x .h4)) (fitting (inputFields x));
       untouched = λ x d. ap (λ l. l ∷ []) (writes-untouched (sized 16 (x .h4)) (fitting (inputFields x)) _ (x .h4) d);
       as-given = λ i k. refl;
+      emptied = λ i e. refl;
     }
 
 -- Reading a packet: 9, 5, 7, 6.
@@ -148,12 +152,13 @@ readSixteen =
       State = Unit {0};
       given = λ i. tt;
       returned = λ i. tt;
+      empty = λ i. tt;
     }
 
 pub readSixteen-copes : Copes readSixteen
 unfolding readNibbles
 readSixteen-copes =
-    record { in-order = λ ns. reads-in-order true true (crcRight ns) (fixed ns) (known ns) (fieldsOf ns); untouched = λ ns d. refl; as-given = λ i k. refl }
+    record { in-order = λ ns. reads-in-order true true (crcRight ns) (fixed ns) (known ns) (fieldsOf ns); untouched = λ ns d. refl; as-given = λ i k. refl; emptied = λ i e. refl }
 
 abbrev pub read : Entry
 read =
@@ -172,6 +177,7 @@ read =
       State = Unit {0};
       given = λ i. tt;
       returned = λ i. tt;
+      empty = λ i. tt;
     }
 
 pub read-copes : Copes read
@@ -181,6 +187,7 @@ read-copes =
       in-order = λ h4. let ns = highsOf h4 in reads-in-order true (sized 16 h4) (crcRight ns) (fixed ns) (known ns) (fieldsOf ns);
       untouched = λ h4 d. refl;
       as-given = λ i k. refl;
+      emptied = λ i e. refl;
     }
 
 pub record ReadInputC : Type 0 where
@@ -204,6 +211,7 @@ readC =
       State = Unit {0};
       given = λ i. tt;
       returned = λ i. tt;
+      empty = λ i. tt;
     }
 
 pub readC-copes : Copes readC
@@ -213,4 +221,5 @@ readC-copes =
       in-order = λ x. let ns = highsOf (x .h4) in reads-in-order (sized 6 (x .fields)) (sized 16 (x .h4)) (crcRight ns) (fixed ns) (known ns) (fieldsOf ns);
       untouched = λ x d. ap (λ l. l ∷ []) (reads-untouched (sized 6 (x .fields)) (readAnswer (x .h4)) (x .fields) d);
       as-given = λ i k. refl;
+      emptied = λ i e. refl;
     }

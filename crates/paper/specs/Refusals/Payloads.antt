@@ -49,12 +49,14 @@ whole-copes : (name : String) (new : Whole → List ℕ) → Copes (record {
   State = Unit {0};
   given = λ i. tt;
   returned = λ i. tt;
+  empty = λ i. tt;
 })
 whole-copes name new =
     record {
       in-order = λ i. in-order (sized (i .x) (i .p)) (wholeLengths i);
       untouched = λ i d. ap (λ l. l ∷ []) (untouched (sized (i .x) (i .p)) (wholeLengths i) (new i) (i .to) d);
       as-given = λ i k. refl;
+      emptied = λ i e. refl;
     }
 
 abbrev pub spread : Entry
@@ -69,6 +71,7 @@ spread =
       State = Unit {0};
       given = λ i. tt;
       returned = λ i. tt;
+      empty = λ i. tt;
     }
 
 pub spread-copes : Copes spread
@@ -86,6 +89,7 @@ join =
       State = Unit {0};
       given = λ i. tt;
       returned = λ i. tt;
+      empty = λ i. tt;
     }
 
 pub join-copes : Copes join
@@ -103,6 +107,7 @@ spreadC =
       State = Unit {0};
       given = λ i. tt;
       returned = λ i. tt;
+      empty = λ i. tt;
     }
 
 pub spreadC-copes : Copes spreadC
@@ -120,6 +125,7 @@ joinC =
       State = Unit {0};
       given = λ i. tt;
       returned = λ i. tt;
+      empty = λ i. tt;
     }
 
 pub joinC-copes : Copes joinC
@@ -147,6 +153,7 @@ spreadOneMember =
       State = Unit {0};
       given = λ i. tt;
       returned = λ i. tt;
+      empty = λ i. tt;
     }
 
 pub spreadOne-copes : Copes spreadOneMember
@@ -155,6 +162,7 @@ spreadOne-copes =
       in-order = λ i. in-order (sized (i .x) (i .p)) (oneLengths i);
       untouched = λ i d. ap (λ l. l ∷ []) (untouched (sized (i .x) (i .p)) (oneLengths i) (memberFrame (i .x) (i .p) (i .frame) (i .rank)) (i .member) d);
       as-given = λ i k. refl;
+      emptied = λ i e. refl;
     }
 
 pub record From : Type 0 where
@@ -180,6 +188,7 @@ joinFrom =
       State = Unit {0};
       given = λ i. tt;
       returned = λ i. tt;
+      empty = λ i. tt;
     }
 
 pub joinFrom-copes : Copes joinFrom
@@ -190,4 +199,5 @@ joinFrom-copes =
           ap (λ l. l ∷ [])
           (untouched (sized (i .x) (i .p)) (fromLengths i) (fillAt (i .place) (i .x * i .p) (groupByte (i .x) (startedByte (i .starts) (i .store))) (i .out)) (i .out) d);
       as-given = λ i k. refl;
+      emptied = λ i e. refl;
     }

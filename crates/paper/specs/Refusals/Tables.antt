@@ -3,6 +3,7 @@ use mathlib.Core.Path.{_≡_, refl}
 use mathlib.Core.Bool.{Bool, true, false, cond, not, _||_, false≢true}
 use mathlib.Core.List.{[], _∷_}
 use Prim.Native.Nat.{ℕ}
+use native.Mathlib.Omega.{arith}
 use lib.Dec.{eqb, ltb}
 use Rattle.paper.specs.Entries.{Entry, Copes, keepsState}
 use Rattle.sender.specs.declared.table.Answer.the-variants.{Done, NotAllowed, OutOfRange}
@@ -19,7 +20,7 @@ pub record StartInput : Type 0 where
   pub kind : ℕ
   pub count : ℕ
 
--- the state that starting is given is none, and what it returns under 4 is an empty group
+-- '4: an empty group'; there is no state before a start, so the empty group stands for it
 abbrev pub start : Entry
 start =
     record {
@@ -32,6 +33,7 @@ start =
       State = Table;
       given = λ i. freshOf (i .kind) 0;
       returned = λ i. startOf (i .kind) (i .count) .table;
+      empty = λ i. freshOf (i .kind) 0;
     }
 
 starts-in-order : (out : Bool) (none some : Table) → answerNumber (cond out (answered none OutOfRange) (answered some Done) .answer) ≡ cond out 4 0
@@ -43,6 +45,11 @@ starts-as-given : (out : Bool) (none some : Table) → keepsState (answerNumber 
 starts-as-given true none some k = refl
 starts-as-given false none some k = absurd (false≢true k)
 
+starts-empty : (out : Bool) (none some : Table) → answerNumber (cond out (answered none OutOfRange) (answered some Done) .answer) ≡ 4
+    → cond out (answered none OutOfRange) (answered some Done) .table ≡ none
+starts-empty true none some e = refl
+starts-empty false none some e = absurd (omega arith)
+
 pub start-copes : Copes start
 unfolding startOf
 start-copes =
@@ -50,6 +57,7 @@ start-copes =
       in-order = λ i. starts-in-order (eqb (i .count) 0 || ltb 64 (i .count)) (freshOf (i .kind) 0) (freshOf (i .kind) (i .count));
       untouched = λ i d. refl;
       as-given = λ i k. starts-as-given (eqb (i .count) 0 || ltb 64 (i .count)) (freshOf (i .kind) 0) (freshOf (i .kind) (i .count)) k;
+      emptied = λ i e. starts-empty (eqb (i .count) 0 || ltb 64 (i .count)) (freshOf (i .kind) 0) (freshOf (i .kind) (i .count)) e;
     }
 
 -- Commands: 1, 3, 2.
@@ -63,6 +71,10 @@ below i = ltb (i .slot) (sizeOf (i .table .count))
 
 abbrev member : CommandInput → Bool
 member i = isMember (slotAt (i .table .slots) (i .slot) .state)
+
+-- 'Add, from IDLE'
+abbrev idle : CommandInput → Bool
+idle i = not (member i)
 
 commands-in-order : (t next : Table) (i : ℕ) (allowed : Bool)
     → answerNumber (inOrder t i allowed next .answer) ≡ cond (not (ltb i (sizeOf (t .count)))) 1 (cond (t .wait) 3 (cond (not allowed) 2 0))
@@ -84,6 +96,15 @@ commands-as-given t next i allowed k = go (ltb i (sizeOf (t .count))) (t .wait) 
     go true false false eb ew k = rw (eb, ew) refl
     go false w a eb ew k = rw eb refl
 
+commands-never-4 : (t next : Table) (i : ℕ) (allowed : Bool) → answerNumber (inOrder t i allowed next .answer) ≡ 4 → ⊥
+commands-never-4 t next i allowed e = go (ltb i (sizeOf (t .count))) (t .wait) allowed (commands-in-order t next i allowed)
+  where
+    go : (b w a : Bool) → answerNumber (inOrder t i allowed next .answer) ≡ cond (not b) 1 (cond w 3 (cond (not a) 2 0)) → ⊥
+    go true true a f = omega arith
+    go true false true f = omega arith
+    go true false false f = omega arith
+    go false w a f = omega arith
+
 abbrev pub add : Entry
 add =
     record {
@@ -92,7 +113,7 @@ add =
       refusals =
           record { number = 1; condition = λ i. not (below i) }
           ∷ record { number = 3; condition = λ i. i .table .wait }
-          ∷ record { number = 2; condition = λ i. not (not (member i)) }
+          ∷ record { number = 2; condition = λ i. not (idle i) }
           ∷ [];
       answer = λ i. answerNumber (stepOf (i .table) (AddSlot (i .slot)) .answer);
       lent = λ i. [];
@@ -100,15 +121,17 @@ add =
       State = Table;
       given = λ i. i .table;
       returned = λ i. stepOf (i .table) (AddSlot (i .slot)) .table;
+      empty = λ i. i .table;
     }
 
 pub add-copes : Copes add
 unfolding addOf
 add-copes =
     record {
-      in-order = λ i. commands-in-order (i .table) (addedTo (i .table) (i .slot)) (i .slot) (not (member i));
+      in-order = λ i. commands-in-order (i .table) (addedTo (i .table) (i .slot)) (i .slot) (idle i);
       untouched = λ i d. refl;
-      as-given = λ i k. commands-as-given (i .table) (addedTo (i .table) (i .slot)) (i .slot) (not (member i)) k;
+      as-given = λ i k. commands-as-given (i .table) (addedTo (i .table) (i .slot)) (i .slot) (idle i) k;
+      emptied = λ i e. absurd (commands-never-4 (i .table) (addedTo (i .table) (i .slot)) (i .slot) (idle i) e);
     }
 
 abbrev pub remove : Entry
@@ -127,6 +150,7 @@ remove =
       State = Table;
       given = λ i. i .table;
       returned = λ i. stepOf (i .table) (RemoveSlot (i .slot)) .table;
+      empty = λ i. i .table;
     }
 
 pub remove-copes : Copes remove
@@ -136,6 +160,7 @@ remove-copes =
       in-order = λ i. commands-in-order (i .table) (removedFrom (i .table) (i .slot)) (i .slot) (member i);
       untouched = λ i d. refl;
       as-given = λ i k. commands-as-given (i .table) (removedFrom (i .table) (i .slot)) (i .slot) (member i) k;
+      emptied = λ i e. absurd (commands-never-4 (i .table) (removedFrom (i .table) (i .slot)) (i .slot) (member i) e);
     }
 
 -- Lapse: '2: lapse with no wait open'.
@@ -152,6 +177,7 @@ lapse =
       State = Table;
       given = λ t. t;
       returned = λ t. stepOf t Lapse .table;
+      empty = λ t. t;
     }
 
 lapses-in-order : (wait : Bool) (t closed : Table) → answerNumber (cond wait (answered closed Done) (answered t NotAllowed) .answer) ≡ cond (not wait) 2 0
@@ -163,6 +189,10 @@ lapses-as-given : (wait : Bool) (t closed : Table) → keepsState (answerNumber 
 lapses-as-given true t closed k = absurd (false≢true k)
 lapses-as-given false t closed k = refl
 
+lapses-never-4 : (wait : Bool) (t closed : Table) → answerNumber (cond wait (answered closed Done) (answered t NotAllowed) .answer) ≡ 4 → ⊥
+lapses-never-4 true t closed e = omega arith
+lapses-never-4 false t closed e = omega arith
+
 pub lapse-copes : Copes lapse
 unfolding lapseOf
 lapse-copes =
@@ -170,6 +200,7 @@ lapse-copes =
       in-order = λ t. lapses-in-order (t .wait) t (withSlots t (t .slots) false);
       untouched = λ t d. refl;
       as-given = λ t k. lapses-as-given (t .wait) t (withSlots t (t .slots) false) k;
+      emptied = λ t e. absurd (lapses-never-4 (t .wait) t (withSlots t (t .slots) false) e);
     }
 
 -- A report is always done.
@@ -192,8 +223,9 @@ report =
       State = Table;
       given = λ i. i .table;
       returned = λ i. stepOf (i .table) (Report (i .epoch) (i .mst) (i .ack)) .table;
+      empty = λ i. i .table;
     }
 
 pub report-copes : Copes report
 unfolding reportOf
-report-copes = record { in-order = λ i. refl; untouched = λ i d. refl; as-given = λ i k. absurd (false≢true k) }
+report-copes = record { in-order = λ i. refl; untouched = λ i d. refl; as-given = λ i k. absurd (false≢true k); emptied = λ i e. absurd (omega arith) }
