@@ -1,13 +1,15 @@
 -- The refusals of every entry point that can refuse (demand 1), in one table under one statement.
 pub mod Epochs
+pub mod Lines
 pub mod Packets
 pub mod Payloads
 pub mod Tables
 use mathlib.Core.List.{List, [], _∷_}
 use Rattle.paper.specs.Entries.{Entry, AllCope}
-use Epochs.{startEpoch, startEpoch-copes, packetEntry, packet-copes, payloadEntry, payload-copes}
+use Lines.{feed, feed-copes, finish, finish-copes, reply, reply-copes}
+use Epochs.{senderStart, senderStart-copes, senderAdd, senderAdd-copes, senderRemove, senderRemove-copes, senderReport, senderReport-copes, senderLapse, senderLapse-copes, startEpoch, startEpoch-copes, packetEntry, packet-copes, payloadEntry, payload-copes}
 use Packets.{write, write-copes, read, read-copes, readSixteen, readSixteen-copes, writeC, writeC-copes, readC, readC-copes}
-use Payloads.{spread, spread-copes, join, join-copes, spreadOneMember, spreadOne-copes, joinFrom, joinFrom-copes, spreadC, spreadC-copes, joinC, joinC-copes}
+use Payloads.{spread, spread-copes, join, join-copes, spreadOneMember, spreadOne-copes, joinFrom, joinFrom-copes, oneAnswerEntry, oneAnswer-copes, spreadC, spreadC-copes, joinC, joinC-copes}
 use Tables.{start, start-copes, add, add-copes, remove, remove-copes, report, report-copes, lapse, lapse-copes}
 
 pub table : List Entry
@@ -19,14 +21,23 @@ table =
     ∷ join
     ∷ spreadOneMember
     ∷ joinFrom
+    ∷ oneAnswerEntry
     ∷ start
     ∷ add
     ∷ remove
     ∷ report
     ∷ lapse
+    ∷ senderStart
+    ∷ senderAdd
+    ∷ senderRemove
+    ∷ senderReport
+    ∷ senderLapse
     ∷ startEpoch
     ∷ packetEntry
     ∷ payloadEntry
+    ∷ feed
+    ∷ finish
+    ∷ reply
     ∷ writeC
     ∷ readC
     ∷ spreadC
@@ -50,30 +61,57 @@ entries = (
             (
               joinFrom-copes,
               (
-                start-copes,
+                oneAnswer-copes,
                 (
-                  add-copes,
+                  start-copes,
                   (
-                    remove-copes,
+                    add-copes,
                     (
-                      report-copes,
+                      remove-copes,
                       (
-                        lapse-copes,
+                        report-copes,
                         (
-                          startEpoch-copes,
+                          lapse-copes,
                           (
-                            packet-copes,
+                            senderStart-copes,
                             (
-                              payload-copes,
+                              senderAdd-copes,
                               (
-                                writeC-copes,
+                                senderRemove-copes,
                                 (
-                                  readC-copes,
+                                  senderReport-copes,
                                   (
-                                    spreadC-copes,
+                                    senderLapse-copes,
                                     (
-                                      joinC-copes,
-                                      tt,
+                                      startEpoch-copes,
+                                      (
+                                        packet-copes,
+                                        (
+                                          payload-copes,
+                                          (
+                                            feed-copes,
+                                            (
+                                              finish-copes,
+                                              (
+                                                reply-copes,
+                                                (
+                                                  writeC-copes,
+                                                  (
+                                                    readC-copes,
+                                                    (
+                                                      spreadC-copes,
+                                                      (
+                                                        joinC-copes,
+                                                        tt,
+                                                      ),
+                                                    ),
+                                                  ),
+                                                ),
+                                              ),
+                                            ),
+                                          ),
+                                        ),
+                                      ),
                                     ),
                                   ),
                                 ),

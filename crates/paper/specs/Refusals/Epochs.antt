@@ -1,6 +1,6 @@
 -- The refusals of a sender with its epochs: the table's calls as they are, the start of an epoch 8, the packet of a slot 1, 9, 2, the payload of a slot 1, 4, 9, 2.
 use mathlib.Core.Path.{_≡_, refl, ap}
-use mathlib.Core.Bool.{Bool, true, false, cond, not, _&&_, false≢true}
+use mathlib.Core.Bool.{Bool, true, false, cond, not, _&&_, _||_, false≢true}
 use mathlib.Core.List.{List, [], _∷_}
 use Prim.Native.Nat.{ℕ, _*_}
 use native.Mathlib.Omega.{arith}
@@ -15,9 +15,14 @@ use Rattle.sender.specs.declared.epochs.Sender.{Sender}
 use Rattle.sender.specs.declared.epochs.SenderStep.{SenderStep}
 use Rattle.sender.specs.declared.table.Answer.the-variants.{Done, Field, Length, NoSlot, NotAllowed}
 use Rattle.sender.specs.Epochs.{packetAnswer, packetBytes, packetFields, payloadAnswer, payloadBytes, senderStepOf, startEpochOf, startedSender, xOf}
-use Rattle.sender.specs.Epochs.SenderCall.{StartEpoch}
+use Rattle.sender.specs.declared.table.Table.{Table}
+use Rattle.sender.specs.Commands.{freshOf}
+use Rattle.sender.specs.Epochs.{beginOf, freshSender}
+use Rattle.sender.specs.Epochs.SenderCall.{OnTable, StartEpoch}
+use Rattle.sender.specs.Steps.Call.{AddSlot, Lapse, RemoveSlot, Report}
+use Rattle.paper.specs.Refusals.Tables.{add-copes, lapse-copes, remove-copes, report-copes, start-copes}
 use Rattle.sender.specs.Outcomes.{spreadEarly, spreadTold, written}
-use Rattle.sender.specs.Table.{answerNumber, sizeOf}
+use Rattle.sender.specs.Table.{answerNumber, isMember, sizeOf, slotAt}
 
 -- The start of an epoch.
 
@@ -186,4 +191,157 @@ payload-copes =
       untouched = λ i d. ap (λ l. l ∷ []) (payloads-untouched (below (i .sender) (i .slot)) (sized (xOf (i .sender)) (i .p)) (lengths i) (i .sender .begun) _ (i .member) d);
       as-given = λ i k. refl;
       emptied = λ i e. refl;
+    }
+
+-- The table's calls: their refusals are the table's, and what the epoch's start fixed stays.
+
+pub record SlotInput : Type 0 where
+  pub sender : Sender
+  pub slot : ℕ
+
+pub record ToldInput : Type 0 where
+  pub sender : Sender
+  pub epoch : ℕ
+  pub mst : ℕ
+  pub ack : ℕ
+
+pub record SenderInput : Type 0 where
+  pub sender : Sender
+
+-- the sender with another table
+abbrev over : Sender → Table → Sender
+over s t = record { table = t; going = s .going; ruling = s .ruling; epoch = s .epoch; begun = s .begun; gid = s .gid; mst = s .mst; «rs_ack» = s .«rs_ack» }
+
+abbrev pub senderAdd : Entry
+senderAdd =
+    record {
+      name = "sender::Sender::add";
+      Input = SlotInput;
+      refusals =
+          record { number = 1; condition = λ i. not (below (i .sender) (i .slot)) }
+          ∷ record { number = 3; condition = λ i. i .sender .table .wait }
+          ∷ record { number = 2; condition = λ i. not (not (isMember (slotAt (i .sender .table .slots) (i .slot) .state))) }
+          ∷ [];
+      answer = λ i. answerNumber (senderStepOf (i .sender) (OnTable (AddSlot (i .slot))) .answer);
+      lent = λ i. [];
+      left = λ i. [];
+      State = Sender;
+      given = λ i. i .sender;
+      returned = λ i. senderStepOf (i .sender) (OnTable (AddSlot (i .slot))) .sender;
+      empty = λ i. i .sender;
+    }
+
+pub senderAdd-copes : Copes senderAdd
+senderAdd-copes =
+    record {
+      in-order = λ i. add-copes .in-order (record { table = i .sender .table; slot = i .slot });
+      untouched = λ i d. refl;
+      as-given = λ i k. ap (over (i .sender)) (add-copes .as-given (record { table = i .sender .table; slot = i .slot }) k);
+      emptied = λ i e. ap (over (i .sender)) (add-copes .emptied (record { table = i .sender .table; slot = i .slot }) e);
+    }
+
+abbrev pub senderRemove : Entry
+senderRemove =
+    record {
+      name = "sender::Sender::remove";
+      Input = SlotInput;
+      refusals =
+          record { number = 1; condition = λ i. not (below (i .sender) (i .slot)) }
+          ∷ record { number = 3; condition = λ i. i .sender .table .wait }
+          ∷ record { number = 2; condition = λ i. not (isMember (slotAt (i .sender .table .slots) (i .slot) .state)) }
+          ∷ [];
+      answer = λ i. answerNumber (senderStepOf (i .sender) (OnTable (RemoveSlot (i .slot))) .answer);
+      lent = λ i. [];
+      left = λ i. [];
+      State = Sender;
+      given = λ i. i .sender;
+      returned = λ i. senderStepOf (i .sender) (OnTable (RemoveSlot (i .slot))) .sender;
+      empty = λ i. i .sender;
+    }
+
+pub senderRemove-copes : Copes senderRemove
+senderRemove-copes =
+    record {
+      in-order = λ i. remove-copes .in-order (record { table = i .sender .table; slot = i .slot });
+      untouched = λ i d. refl;
+      as-given = λ i k. ap (over (i .sender)) (remove-copes .as-given (record { table = i .sender .table; slot = i .slot }) k);
+      emptied = λ i e. ap (over (i .sender)) (remove-copes .emptied (record { table = i .sender .table; slot = i .slot }) e);
+    }
+
+abbrev pub senderReport : Entry
+senderReport =
+    record {
+      name = "sender::Sender::report";
+      Input = ToldInput;
+      refusals = [];
+      answer = λ i. answerNumber (senderStepOf (i .sender) (OnTable (Report (i .epoch) (i .mst) (i .ack))) .answer);
+      lent = λ i. [];
+      left = λ i. [];
+      State = Sender;
+      given = λ i. i .sender;
+      returned = λ i. senderStepOf (i .sender) (OnTable (Report (i .epoch) (i .mst) (i .ack))) .sender;
+      empty = λ i. i .sender;
+    }
+
+pub senderReport-copes : Copes senderReport
+senderReport-copes =
+    record {
+      in-order = λ i. report-copes .in-order (record { table = i .sender .table; epoch = i .epoch; mst = i .mst; ack = i .ack });
+      untouched = λ i d. refl;
+      as-given = λ i k. ap (over (i .sender)) (report-copes .as-given (record { table = i .sender .table; epoch = i .epoch; mst = i .mst; ack = i .ack }) k);
+      emptied = λ i e. ap (over (i .sender)) (report-copes .emptied (record { table = i .sender .table; epoch = i .epoch; mst = i .mst; ack = i .ack }) e);
+    }
+
+abbrev pub senderLapse : Entry
+senderLapse =
+    record {
+      name = "sender::Sender::lapse";
+      Input = SenderInput;
+      refusals = record { number = 2; condition = λ i. not (i .sender .table .wait) } ∷ [];
+      answer = λ i. answerNumber (senderStepOf (i .sender) (OnTable Lapse) .answer);
+      lent = λ i. [];
+      left = λ i. [];
+      State = Sender;
+      given = λ i. i .sender;
+      returned = λ i. senderStepOf (i .sender) (OnTable Lapse) .sender;
+      empty = λ i. i .sender;
+    }
+
+pub senderLapse-copes : Copes senderLapse
+senderLapse-copes =
+    record {
+      in-order = λ i. lapse-copes .in-order (i .sender .table);
+      untouched = λ i d. refl;
+      as-given = λ i k. ap (over (i .sender)) (lapse-copes .as-given (i .sender .table) k);
+      emptied = λ i e. ap (over (i .sender)) (lapse-copes .emptied (i .sender .table) e);
+    }
+
+pub record BeginInput : Type 0 where
+  pub kind : ℕ
+  pub count : ℕ
+  pub epoch : ℕ
+
+abbrev pub senderStart : Entry
+senderStart =
+    record {
+      name = "sender::Sender::start";
+      Input = BeginInput;
+      refusals = record { number = 4; condition = λ i. eqb (i .count) 0 || ltb 64 (i .count) } ∷ [];
+      answer = λ i. answerNumber (beginOf (i .kind) (i .count) (i .epoch) .answer);
+      lent = λ i. [];
+      left = λ i. [];
+      State = Sender;
+      given = λ i. freshSender (freshOf (i .kind) 0) (i .epoch);
+      returned = λ i. beginOf (i .kind) (i .count) (i .epoch) .sender;
+      empty = λ i. freshSender (freshOf (i .kind) 0) (i .epoch);
+    }
+
+pub senderStart-copes : Copes senderStart
+unfolding beginOf
+senderStart-copes =
+    record {
+      in-order = λ i. start-copes .in-order (record { kind = i .kind; count = i .count });
+      untouched = λ i d. refl;
+      as-given = λ i k. ap (λ t. freshSender t (i .epoch)) (start-copes .as-given (record { kind = i .kind; count = i .count }) k);
+      emptied = λ i e. ap (λ t. freshSender t (i .epoch)) (start-copes .emptied (record { kind = i .kind; count = i .count }) e);
     }

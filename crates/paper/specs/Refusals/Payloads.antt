@@ -201,3 +201,37 @@ joinFrom-copes =
       as-given = λ i k. refl;
       emptied = λ i e. refl;
     }
+
+-- payload::one_answer is what payload::spread_one answers, from the lengths alone
+pub record Lengths : Type 0 where
+  pub x : ℕ
+  pub p : ℕ
+  pub frame : ℕ
+  pub member : ℕ
+
+abbrev lengthsFit : Lengths → Bool
+lengthsFit i = eqb (i .frame) (i .x * i .p) && eqb (i .member) (i .p)
+
+abbrev pub oneAnswerEntry : Entry
+oneAnswerEntry =
+    record {
+      name = "payload::one_answer";
+      Input = Lengths;
+      refusals = refusals (λ i. i .x) (λ i. i .p) lengthsFit;
+      answer = λ i. numberOf (oneAnswer (i .x) (i .p) (i .frame) (i .member));
+      lent = λ i. [];
+      left = λ i. [];
+      State = Unit {0};
+      given = λ i. tt;
+      returned = λ i. tt;
+      empty = λ i. tt;
+    }
+
+pub oneAnswer-copes : Copes oneAnswerEntry
+oneAnswer-copes =
+    record {
+      in-order = λ i. in-order (sized (i .x) (i .p)) (lengthsFit i);
+      untouched = λ i d. refl;
+      as-given = λ i k. refl;
+      emptied = λ i e. refl;
+    }

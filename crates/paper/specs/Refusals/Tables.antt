@@ -36,16 +36,16 @@ start =
       empty = λ i. freshOf (i .kind) 0;
     }
 
-starts-in-order : (out : Bool) (none some : Table) → answerNumber (cond out (answered none OutOfRange) (answered some Done) .answer) ≡ cond out 4 0
+pub starts-in-order : (out : Bool) (none some : Table) → answerNumber (cond out (answered none OutOfRange) (answered some Done) .answer) ≡ cond out 4 0
 starts-in-order true none some = refl
 starts-in-order false none some = refl
 
-starts-as-given : (out : Bool) (none some : Table) → keepsState (answerNumber (cond out (answered none OutOfRange) (answered some Done) .answer)) ≡ true
+pub starts-as-given : (out : Bool) (none some : Table) → keepsState (answerNumber (cond out (answered none OutOfRange) (answered some Done) .answer)) ≡ true
     → cond out (answered none OutOfRange) (answered some Done) .table ≡ none
 starts-as-given true none some k = refl
 starts-as-given false none some k = absurd (false≢true k)
 
-starts-empty : (out : Bool) (none some : Table) → answerNumber (cond out (answered none OutOfRange) (answered some Done) .answer) ≡ 4
+pub starts-empty : (out : Bool) (none some : Table) → answerNumber (cond out (answered none OutOfRange) (answered some Done) .answer) ≡ 4
     → cond out (answered none OutOfRange) (answered some Done) .table ≡ none
 starts-empty true none some e = refl
 starts-empty false none some e = absurd (omega arith)
@@ -76,7 +76,7 @@ member i = isMember (slotAt (i .table .slots) (i .slot) .state)
 abbrev idle : CommandInput → Bool
 idle i = not (member i)
 
-commands-in-order : (t next : Table) (i : ℕ) (allowed : Bool)
+pub commands-in-order : (t next : Table) (i : ℕ) (allowed : Bool)
     → answerNumber (inOrder t i allowed next .answer) ≡ cond (not (ltb i (sizeOf (t .count)))) 1 (cond (t .wait) 3 (cond (not allowed) 2 0))
 commands-in-order t next i allowed = go (ltb i (sizeOf (t .count))) (t .wait) allowed refl refl
   where
@@ -87,7 +87,7 @@ commands-in-order t next i allowed = go (ltb i (sizeOf (t .count))) (t .wait) al
     go true false false eb ew = rw (eb, ew) refl
     go false w a eb ew = rw eb refl
 
-commands-as-given : (t next : Table) (i : ℕ) (allowed : Bool) → keepsState (answerNumber (inOrder t i allowed next .answer)) ≡ true → inOrder t i allowed next .table ≡ t
+pub commands-as-given : (t next : Table) (i : ℕ) (allowed : Bool) → keepsState (answerNumber (inOrder t i allowed next .answer)) ≡ true → inOrder t i allowed next .table ≡ t
 commands-as-given t next i allowed k = go (ltb i (sizeOf (t .count))) (t .wait) allowed refl refl k
   where
     go : (b w a : Bool) → ltb i (sizeOf (t .count)) ≡ b → t .wait ≡ w → keepsState (answerNumber (inOrder t i a next .answer)) ≡ true → inOrder t i a next .table ≡ t
@@ -96,7 +96,7 @@ commands-as-given t next i allowed k = go (ltb i (sizeOf (t .count))) (t .wait) 
     go true false false eb ew k = rw (eb, ew) refl
     go false w a eb ew k = rw eb refl
 
-commands-never-4 : (t next : Table) (i : ℕ) (allowed : Bool) → answerNumber (inOrder t i allowed next .answer) ≡ 4 → ⊥
+pub commands-never-4 : (t next : Table) (i : ℕ) (allowed : Bool) → answerNumber (inOrder t i allowed next .answer) ≡ 4 → ⊥
 commands-never-4 t next i allowed e = go (ltb i (sizeOf (t .count))) (t .wait) allowed (commands-in-order t next i allowed)
   where
     go : (b w a : Bool) → answerNumber (inOrder t i allowed next .answer) ≡ cond (not b) 1 (cond w 3 (cond (not a) 2 0)) → ⊥
@@ -180,7 +180,7 @@ lapse =
       empty = λ t. t;
     }
 
-lapses-in-order : (wait : Bool) (t closed : Table) → answerNumber (cond wait (answered closed Done) (answered t NotAllowed) .answer) ≡ cond (not wait) 2 0
+pub lapses-in-order : (wait : Bool) (t closed : Table) → answerNumber (cond wait (answered closed Done) (answered t NotAllowed) .answer) ≡ cond (not wait) 2 0
 lapses-in-order true t closed = refl
 lapses-in-order false t closed = refl
 
