@@ -1,2 +1,3 @@
 -- What the C calls are, proved on the definitions.
 pub mod Own
+pub mod Round
