@@ -1,14 +1,14 @@
 -- The refusals of the sender's C calls: a state of another length is 9, what is no byte 8, then the sender's own. The state is lent, so it stands as the state and not among the lent slices: under 4 starting leaves an empty group in it.
 use mathlib.Core.Path.{_≡_, refl, ap}
-use mathlib.Core.Bool.{Bool, true, false, cond, not, _&&_, _||_, false≢true}
+use mathlib.Core.Bool.{Bool, true, false, cond, not, _&&_, false≢true}
 use mathlib.Core.List.{List, [], _∷_}
 use Prim.Native.Nat.{ℕ, _*_}
 use Prim.Native.String.{String}
 use lib.Dec.{eqb, ltb}
 use lib.ListN.{length}
 use Rattle.card.specs.Boards.{bothSized, boardBytesC, boardBytesOf, goingBytesC, ranksBytesC, ranksBytesOf, shownAnswerC, shownBytes}
-use Rattle.card.specs.Keeping.{bytesOf, senderOf}
-use Rattle.card.specs.Senders.{areThree, isState, keptBytes, outside, packetAnswerC, packetBytesC, payloadAnswerC, payloadBytesC, startAnswerC, startStateC, stepAnswerC, stepStateC}
+use Rattle.card.specs.Keeping.{senderOf}
+use Rattle.card.specs.Senders.{areThree, isState, outside, packetAnswerC, packetBytesC, payloadAnswerC, payloadBytesC, startAnswerC, startStateC, stepAnswerC, stepStateC}
 use Rattle.packet.specs.declared.writer.Writing.the-variants as W
 use Rattle.packet.specs.Kinds.{frames}
 use Rattle.packet.specs.Writing.{fitting, writeAnswer, writeBytes}
@@ -52,7 +52,7 @@ startC =
       returned = λ i. startStateC (i .count) (i .first) (i .state);
     }
 
-starts-in-order : (o l f : Bool) → cond o 4 (cond l (cond f 8 0) 9) ≡ cond o 4 (cond (not l) 9 (cond f 8 0))
+starts-in-order : (o l f : Bool) → _≡_ {A = ℕ} (cond o 4 (cond l (cond f 8 0) 9)) (cond o 4 (cond (not l) 9 (cond f 8 0)))
 starts-in-order true l f = refl
 starts-in-order false true f = refl
 starts-in-order false false f = refl
@@ -209,7 +209,7 @@ pub record ThreeInputC : Type 0 where
 abbrev three : ThreeInputC → Bool
 three i = areThree (i .first) (i .mst) (i .ack)
 
-fits-in-order : (l f : Bool) → cond l (cond f 0 8) 9 ≡ cond (not l) 9 (cond (not f) 8 0)
+fits-in-order : (l f : Bool) → _≡_ {A = ℕ} (cond l (cond f 0 8) 9) (cond (not l) 9 (cond (not f) 8 0))
 fits-in-order false f = refl
 fits-in-order true false = refl
 fits-in-order true true = refl
@@ -289,11 +289,11 @@ pub record ShownInputC : Type 0 where
 abbrev sizedFor : ℕ → ShownInputC → Bool
 sizedFor n i = bothSized n (i .state) (i .out)
 
-shows-in-order : (b : Bool) → cond b 0 9 ≡ cond (not b) 9 0
+shows-in-order : (b : Bool) → _≡_ {A = ℕ} (cond b 0 9) (cond (not b) 9 0)
 shows-in-order true = refl
 shows-in-order false = refl
 
-shows-untouched : (b : Bool) (new old : List ℕ) → (cond b 0 9 ≡ 0 → ⊥) → cond b new old ≡ old
+shows-untouched : (b : Bool) (new old : List ℕ) → (_≡_ {A = ℕ} (cond b 0 9) 0 → ⊥) → cond b new old ≡ old
 shows-untouched true new old d = absurd (d refl)
 shows-untouched false new old d = refl
 
