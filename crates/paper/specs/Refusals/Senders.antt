@@ -387,27 +387,25 @@ packetSized i = eqb (length (i .h4)) (frames (table (i .state) .kind))
 abbrev packetFits : PacketInputC → Bool
 packetFits i = fitting (packetFields (senderOf (i .state)) (i .slot))
 
-packets-in-order : (l s n b w f : Bool)
-    → cond l (answerNumber (cond s (cond n (cond b (written (cond w (cond f W.Done W.Field) W.Length)) NotAllowed) Length) NoSlot)) 9
-    ≡ cond (not l) 9 (cond (not s) 1 (cond (not n) 9 (cond (not b) 2 (cond (not w) 9 (cond (not f) 8 0)))))
-packets-in-order false s n b w f = refl
-packets-in-order true false n b w f = refl
-packets-in-order true true false b w f = refl
-packets-in-order true true true false w f = refl
-packets-in-order true true true true false f = refl
-packets-in-order true true true true true false = refl
-packets-in-order true true true true true true = refl
+packets-in-order : (l s n b f : Bool)
+    → cond l (answerNumber (cond s (cond n (cond b (written (cond n (cond f W.Done W.Field) W.Length)) NotAllowed) Length) NoSlot)) 9
+    ≡ cond (not l) 9 (cond (not s) 1 (cond (not n) 9 (cond (not b) 2 (cond (not f) 8 0))))
+packets-in-order false s n b f = refl
+packets-in-order true false n b f = refl
+packets-in-order true true false b f = refl
+packets-in-order true true true false f = refl
+packets-in-order true true true true false = refl
+packets-in-order true true true true true = refl
 
-packets-untouched : (l s n b w f : Bool) (new old : List ℕ)
-    → (cond l (answerNumber (cond s (cond n (cond b (written (cond w (cond f W.Done W.Field) W.Length)) NotAllowed) Length) NoSlot)) 9 ≡ 0 → ⊥)
-    → cond l (cond (s && n && b) (cond w (cond f new old) old) old) old ≡ old
-packets-untouched false s n b w f new old d = refl
-packets-untouched true false n b w f new old d = refl
-packets-untouched true true false b w f new old d = refl
-packets-untouched true true true false w f new old d = refl
-packets-untouched true true true true false f new old d = refl
-packets-untouched true true true true true false new old d = refl
-packets-untouched true true true true true true new old d = absurd (d refl)
+packets-untouched : (l s n b f : Bool) (new old : List ℕ)
+    → (cond l (answerNumber (cond s (cond n (cond b (written (cond n (cond f W.Done W.Field) W.Length)) NotAllowed) Length) NoSlot)) 9 ≡ 0 → ⊥)
+    → cond l (cond (s && n && b) (cond n (cond f new old) old) old) old ≡ old
+packets-untouched false s n b f new old d = refl
+packets-untouched true false n b f new old d = refl
+packets-untouched true true false b f new old d = refl
+packets-untouched true true true false f new old d = refl
+packets-untouched true true true true false new old d = refl
+packets-untouched true true true true true new old d = absurd (d refl)
 
 abbrev pub packetC : Entry
 packetC =
@@ -419,7 +417,6 @@ packetC =
           ∷ record { number = 1; condition = λ i. not (packetBelow i) }
           ∷ record { number = 9; condition = λ i. not (packetSized i) }
           ∷ record { number = 2; condition = λ i. not (senderOf (i .state) .begun) }
-          ∷ record { number = 9; condition = λ i. not (eqb (length (i .h4)) 16) }
           ∷ record { number = 8; condition = λ i. not (packetFits i) }
           ∷ [];
       answer = λ i. packetAnswerC (i .state) (i .slot) (i .h4);
@@ -431,14 +428,14 @@ packetC =
     }
 
 pub packetC-copes : Copes packetC
-unfolding packetAnswerC packetBytesC packetAnswer packetBytes writeAnswer writeBytes
+unfolding packetAnswerC packetBytesC packetAnswer packetBytes writeAnswer writeBytes frames
 packetC-copes =
     record {
       in-order = λ i.
-          packets-in-order (isState (i .state)) (packetBelow i) (packetSized i) (senderOf (i .state) .begun) (eqb (length (i .h4)) 16) (packetFits i);
+          packets-in-order (isState (i .state)) (packetBelow i) (packetSized i) (senderOf (i .state) .begun) (packetFits i);
       untouched = λ i d.
           ap (λ l. l ∷ [])
-          (packets-untouched (isState (i .state)) (packetBelow i) (packetSized i) (senderOf (i .state) .begun) (eqb (length (i .h4)) 16) (packetFits i) _ (i .h4) d);
+          (packets-untouched (isState (i .state)) (packetBelow i) (packetSized i) (senderOf (i .state) .begun) (packetFits i) _ (i .h4) d);
       as-given = λ i k. refl;
     }
 
