@@ -5,7 +5,8 @@
  *
  * For every call:
  * - The result is the answer number. Any answer but 0 is a refusal.
- * - A refusal changes no byte of any buffer.
+ * - A refusal changes no byte of any buffer; only levelspruce_sender_start
+ *   says otherwise.
  * - Numbers pass as uint32_t, so a number that is too large is refused by its
  *   answer and never cut down to one that fits.
  * - A buffer is a pointer and its length in bytes, and the whole length must
@@ -26,6 +27,9 @@ extern "C" {
 
 /* Answers. */
 #define LEVELSPRUCE_ANSWER_DONE 0       /* done */
+#define LEVELSPRUCE_ANSWER_SLOT 1       /* the slot is not below the group's count */
+#define LEVELSPRUCE_ANSWER_STATE 2      /* not allowed now: by the slot's state, no wait open, or no epoch started */
+#define LEVELSPRUCE_ANSWER_WAIT 3       /* add or remove while a wait is open */
 #define LEVELSPRUCE_ANSWER_RANGE 4      /* a count, P or X is out of range */
 #define LEVELSPRUCE_ANSWER_CRC 5        /* the packet's CRC differs */
 #define LEVELSPRUCE_ANSWER_UNASSIGNED 6 /* CRC right, control word unassigned */
@@ -44,6 +48,9 @@ extern "C" {
 /* Sizes of buffers, in bytes. */
 #define LEVELSPRUCE_PACKET_BYTES 16 /* the H4 bytes of one packet */
 #define LEVELSPRUCE_FIELDS_BYTES 6  /* the fields of one packet */
+#define LEVELSPRUCE_SENDER_BYTES 397 /* a sender's state */
+#define LEVELSPRUCE_BOARD_BYTES 130 /* a sender's board */
+#define LEVELSPRUCE_RANKS_BYTES 68  /* the ranks of an epoch */
 
 /* Payload: members of a group, and bytes of a member frame. */
 #define LEVELSPRUCE_MEMBERS_MOST 64
@@ -58,6 +65,24 @@ extern "C" {
 #define LEVELSPRUCE_FIELD_MST 3
 #define LEVELSPRUCE_FIELD_RS_ACK 4
 #define LEVELSPRUCE_FIELD_SQ 5
+
+/* A sender's slots, and the number of a slot that is IDLE. */
+#define LEVELSPRUCE_SLOTS_MOST 64
+#define LEVELSPRUCE_NUMBER_IDLE 255
+
+/* The bytes of a board: slot s has its word at ROWS + 2 * s and its number
+ * right after it. */
+#define LEVELSPRUCE_BOARD_COUNT 0
+#define LEVELSPRUCE_BOARD_WAIT 1
+#define LEVELSPRUCE_BOARD_ROWS 2
+
+/* The bytes of an epoch's ranks: slot s has its rank at EACH + s. */
+#define LEVELSPRUCE_RANKS_COUNT 0
+#define LEVELSPRUCE_RANKS_BEGUN 1
+#define LEVELSPRUCE_RANKS_EPOCH 2
+#define LEVELSPRUCE_RANKS_X 3
+#define LEVELSPRUCE_RANKS_EACH 4
+#define LEVELSPRUCE_RANK_NONE 255
 
 /*
  * Writes one control packet as the sixteen H4 bytes that carry it.
@@ -134,6 +159,188 @@ uint8_t levelspruce_spread(uint32_t x, uint32_t p,
 uint8_t levelspruce_join(uint32_t x, uint32_t p,
                          const uint8_t *members, size_t members_length,
                          uint8_t *frame, size_t frame_length);
+
+/*
+ * The sender. Its whole state is one buffer of LEVELSPRUCE_SENDER_BYTES bytes
+ * that the host lends to each call and keeps between calls. Begin with
+ * levelspruce_sender_start. The state may be copied, stored and lent from
+ * another place; what its bytes mean is the library's own affair. Any bytes
+ * are coped with: a state that no call wrote is answered like any other.
+ *
+ * A state_length other than LEVELSPRUCE_SENDER_BYTES is answered 9 before all
+ * else (but 4 at starting).
+ */
+
+/*
+ * Starts a group: all slots IDLE, no wait open, no epoch started.
+ *
+ *   count         slots of the group, 1 to 64
+ *   first_epoch   the number of the first epoch, 0 to 255
+ *   state         LEVELSPRUCE_SENDER_BYTES bytes, of any content
+ *
+ * Answers, the first that fits:
+ *   4  count is 0 or above 64; where state_length is right, all of state is
+ *      written with an empty group, whose calls answer 1
+ *   9  state_length is wrong
+ *   8  first_epoch is above 255
+ *   0  all of state is written
+ */
+uint8_t levelspruce_sender_start(uint32_t count, uint32_t first_epoch,
+                                 uint8_t *state, size_t state_length);
+
+/*
+ * Adds an IDLE slot: it is ADD with the next free number.
+ *
+ * Answers, the first that fits:
+ *   9  state_length is wrong
+ *   1  slot is not below the group's count
+ *   3  a wait is open
+ *   2  the slot is not IDLE
+ *   0  done
+ */
+uint8_t levelspruce_sender_add(uint8_t *state, size_t state_length,
+                               uint32_t slot);
+
+/*
+ * Removes a slot that is ADD, active or DNU: it is IDLE, higher numbers fall
+ * by one, and a wait opens.
+ *
+ * Answers, the first that fits:
+ *   9  state_length is wrong
+ *   1  slot is not below the group's count
+ *   3  a wait is open
+ *   2  the slot is IDLE
+ *   0  done
+ */
+uint8_t levelspruce_sender_remove(uint8_t *state, size_t state_length,
+                                  uint32_t slot);
+
+/*
+ * Takes what the far end reports.
+ *
+ *   epoch    the epoch of the packet that reports, 0 to 255: the MST speaks of
+ *            the numbers 8 * (epoch % 32) to that plus 7
+ *   mst      the eight MST bits, first bit highest; 0 is OK, 1 is FAIL
+ *   rs_ack   0 or 1; of a larger number up to 255 the lowest bit counts
+ *
+ * With a wait open, an rs_ack other than the remembered one closes it and
+ * mst is ignored. With none open, mst is acted on, and a wait opens if a slot
+ * that was ADD became active.
+ *
+ * Answers, the first that fits:
+ *   9  state_length is wrong
+ *   8  epoch, mst or rs_ack is above 255
+ *   0  done
+ */
+uint8_t levelspruce_sender_report(uint8_t *state, size_t state_length,
+                                  uint32_t epoch, uint32_t mst,
+                                  uint32_t rs_ack);
+
+/*
+ * Closes an open wait.
+ *
+ * Answers, the first that fits:
+ *   9  state_length is wrong
+ *   2  no wait is open
+ *   0  done
+ */
+uint8_t levelspruce_sender_lapse(uint8_t *state, size_t state_length);
+
+/*
+ * Starts an epoch. From here to the next start, packets go out from the table
+ * as it stands now, and payload goes by the packets of the epoch before,
+ * whatever other calls come in between. The first epoch has the number given
+ * to levelspruce_sender_start, and each next one is one more, 0 after 255.
+ *
+ *   gid, rs_ack   0 or 1, for all packets of the epoch
+ *   mst           0 to 255, for all packets of the epoch
+ *
+ * Answers, the first that fits:
+ *   9  state_length is wrong
+ *   8  gid or rs_ack is above 1, or mst above 255
+ *   0  done
+ */
+uint8_t levelspruce_sender_start_epoch(uint8_t *state, size_t state_length,
+                                       uint32_t gid, uint32_t mst,
+                                       uint32_t rs_ack);
+
+/*
+ * Writes the packet of a slot in this epoch.
+ *
+ *   h4   LEVELSPRUCE_PACKET_BYTES bytes, in the order of sending
+ *
+ * Answers, the first that fits:
+ *   9  state_length is wrong
+ *   1  slot is not below the group's count
+ *   9  h4_length is not 16
+ *   2  no epoch has started
+ *   8  only with a state that no call wrote: what it keeps makes no packet
+ *   0  all sixteen bytes are written
+ */
+uint8_t levelspruce_sender_packet(const uint8_t *state, size_t state_length,
+                                  uint32_t slot,
+                                  uint8_t *h4, size_t h4_length);
+
+/*
+ * Writes the payload of a slot for one group frame of this epoch: the bytes
+ * of its rank, or zeros where it has none.
+ *
+ *   p        payload of a member frame in bytes, 1 to 2340
+ *   frame    the group frame, x * p bytes with the x of this epoch
+ *   member   p bytes for the slot's payload
+ *
+ * Answers, the first that fits:
+ *   9  state_length is wrong
+ *   1  slot is not below the group's count
+ *   4  p is out of range
+ *   9  frame_length is not x * p, or member_length is not p
+ *   2  no epoch has started
+ *   0  all of member is written
+ */
+uint8_t levelspruce_sender_payload(const uint8_t *state, size_t state_length,
+                                   uint32_t slot, uint32_t p,
+                                   const uint8_t *frame, size_t frame_length,
+                                   uint8_t *member, size_t member_length);
+
+/*
+ * Reads the board whole: the count, 1 for an open wait or 0, and the word and
+ * number of each slot, all of one table, as it stands now. Past the count
+ * slots are shown IDLE.
+ *
+ *   board   LEVELSPRUCE_BOARD_BYTES bytes, by the LEVELSPRUCE_BOARD_ places
+ *
+ * Answers, the first that fits:
+ *   9  state_length or board_length is wrong
+ *   0  all of board is written
+ */
+uint8_t levelspruce_sender_board(const uint8_t *state, size_t state_length,
+                                 uint8_t *board, size_t board_length);
+
+/*
+ * Reads the board whose packets go out in this epoch, in the same way. Before
+ * the first epoch it is the board of the start: all slots IDLE.
+ *
+ * Answers, the first that fits:
+ *   9  state_length or board_length is wrong
+ *   0  all of board is written
+ */
+uint8_t levelspruce_sender_board_going(const uint8_t *state,
+                                       size_t state_length,
+                                       uint8_t *board, size_t board_length);
+
+/*
+ * Reads what rules this epoch's payload whole: the count, 1 once an epoch has
+ * started or 0, this epoch's number (before the first, the one it will have),
+ * x, and the rank of each slot or LEVELSPRUCE_RANK_NONE.
+ *
+ *   ranks   LEVELSPRUCE_RANKS_BYTES bytes, by the LEVELSPRUCE_RANKS_ places
+ *
+ * Answers, the first that fits:
+ *   9  state_length or ranks_length is wrong
+ *   0  all of ranks is written
+ */
+uint8_t levelspruce_sender_ranks(const uint8_t *state, size_t state_length,
+                                 uint8_t *ranks, size_t ranks_length);
 
 #ifdef __cplusplus
 }

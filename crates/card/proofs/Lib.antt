@@ -1,1 +1,5 @@
 pub mod Answers
+pub mod Pieces
+pub mod Showing
+pub mod Stepping
+pub mod Wholes

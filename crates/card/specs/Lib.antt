@@ -1,3 +1,6 @@
+pub mod Boards
+pub mod Keeping
 pub mod Packets
 pub mod Payloads
+pub mod Senders
 pub mod Theorems

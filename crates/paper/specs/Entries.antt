@@ -38,9 +38,13 @@ pub record Copes (e : Entry) : Type 0 where
   pub as-given : (x : e .Input) → keepsState (e .answer x) ≡ true → e .returned x ≡ e .given x
   pub emptied : (x : e .Input) → e .answer x ≡ 4 → e .returned x ≡ e .empty x
 
-abbrev pub AllCope : List Entry → Type 0
-AllCope [] = Unit {0}
-AllCope (e ∷ es) = Copes e × AllCope es
+-- an entry point with the proof that it copes: what a row of the table is
+pub record Coping : Type 1 where
+  pub entry : Entry
+  pub copes : Copes entry
+
+abbrev pub row : (e : Entry) → Copes e → Coping
+row e c = record { entry = e; copes = c }
 
 -- what meets an entry point's contract: an answer, what is left of the lent slices, and a state
 pub record Meets (e : Entry) (x : e .Input) (answer : ℕ) (left : List (List ℕ)) (state : e .State) : Type 0 where

@@ -1,0 +1,115 @@
+-- The sender's state as 397 bytes. Bytes 0 to 127 are the slots' states and numbers in turn, 128 to 255 the words and numbers now going out,
+-- 256 to 383 those that rule, then the fields. Any bytes are a sender: what no call writes is read as said here.
+use mathlib.Core.Bool.{Bool, cond, not}
+use mathlib.Core.List.{List, [], _∷_}
+use Prim.Native.Nat.{ℕ, _+_, _-_, _*_, _/_, _%_}
+use lib.Dec.{eqb, ltb}
+use lib.ListN.{getD}
+use Rattle.ground.specs.Table.{tabulate}
+use Rattle.sender.specs.Board.{word}
+use Rattle.sender.specs.declared.board.Board.{Board}
+use Rattle.sender.specs.declared.board.Row.{Row}
+use Rattle.sender.specs.declared.epochs.Sender.{Sender}
+use Rattle.sender.specs.declared.table.Slot.{Slot}
+use Rattle.sender.specs.declared.table.State.{State}
+use Rattle.sender.specs.declared.table.State.the-variants.{Idle, Add, Active, Dnu}
+use Rattle.sender.specs.declared.table.Table.{Table}
+use Rattle.sender.specs.Ranks.{rowAt}
+use Rattle.sender.specs.Table.{slotAt}
+
+-- how many bytes a state has
+abbrev pub stateBytes : ℕ
+stateBytes = 397
+
+abbrev byteIn : List ℕ → ℕ → ℕ
+byteIn bytes k = getD bytes k 0
+
+-- a state byte other than 1, 2 and 3 counts as IDLE
+abbrev pub stateOf : ℕ → State
+stateOf code = cond (eqb code 1) Add (cond (eqb code 2) Active (cond (eqb code 3) Dnu Idle))
+
+abbrev pub codeOf : State → ℕ
+codeOf Idle = 0
+codeOf Add = 1
+codeOf Active = 2
+codeOf Dnu = 3
+
+-- a flag byte other than 0 counts as set
+abbrev pub flagOf : ℕ → Bool
+flagOf byte = not (eqb byte 0)
+
+abbrev pub flagByte : Bool → ℕ
+flagByte flag = cond flag 1 0
+
+-- Reading.
+
+abbrev pub slotIn : List ℕ → ℕ → Slot
+slotIn bytes i = record { state = stateOf (byteIn bytes (2 * i)); number = byteIn bytes (2 * i + 1) }
+
+unfoldable pub slotsIn : List ℕ → List Slot
+slotsIn bytes = tabulate 64 (slotIn bytes)
+
+abbrev pub rowIn : List ℕ → ℕ → ℕ → Row
+rowIn bytes at i = record { word = word (byteIn bytes (at + 2 * i)); number = byteIn bytes (at + 2 * i + 1) }
+
+unfoldable pub rowsIn : List ℕ → ℕ → List Row
+rowsIn bytes at = tabulate 64 (rowIn bytes at)
+
+abbrev pub tableIn : List ℕ → Table
+tableIn bytes =
+    record { slots = slotsIn bytes; count = byteIn bytes 384; wait = flagOf (byteIn bytes 385); bit = byteIn bytes 386; kind = byteIn bytes 387 }
+
+abbrev pub boardIn : List ℕ → ℕ → ℕ → ℕ → Board
+boardIn bytes at count wait = record { rows = rowsIn bytes at; count = count; wait = flagOf wait }
+
+unfoldable pub senderOf : List ℕ → Sender
+senderOf bytes =
+    record {
+      table = tableIn bytes;
+      going = boardIn bytes 128 (byteIn bytes 388) (byteIn bytes 389);
+      ruling = boardIn bytes 256 (byteIn bytes 390) (byteIn bytes 391);
+      epoch = byteIn bytes 392;
+      begun = flagOf (byteIn bytes 393);
+      gid = byteIn bytes 394;
+      mst = byteIn bytes 395;
+      «rs_ack» = byteIn bytes 396;
+    }
+
+-- Writing.
+
+abbrev pub slotByte : Slot → ℕ → ℕ
+slotByte s side = cond (eqb side 0) (codeOf (s .state)) (s .number)
+
+abbrev pub slotsByte : List Slot → ℕ → ℕ
+slotsByte slots k = slotByte (slotAt slots (k / 2)) (k % 2)
+
+abbrev pub rowByte : Row → ℕ → ℕ
+rowByte r side = cond (eqb side 0) (r .word .0) (r .number)
+
+abbrev pub rowsByte : List Row → ℕ → ℕ
+rowsByte rows k = rowByte (rowAt rows (k / 2)) (k % 2)
+
+abbrev pub fieldBytes : Sender → List ℕ
+fieldBytes s =
+    s .table .count
+    ∷ flagByte (s .table .wait)
+    ∷ s .table .bit
+    ∷ s .table .kind
+    ∷ s .going .count
+    ∷ flagByte (s .going .wait)
+    ∷ s .ruling .count
+    ∷ flagByte (s .ruling .wait)
+    ∷ s .epoch
+    ∷ flagByte (s .begun)
+    ∷ s .gid
+    ∷ s .mst
+    ∷ s .«rs_ack»
+    ∷ []
+
+unfoldable pub byteAt : Sender → ℕ → ℕ
+byteAt s k =
+    cond (ltb k 128) (slotsByte (s .table .slots) k)
+    (cond (ltb k 256) (rowsByte (s .going .rows) (k - 128)) (cond (ltb k 384) (rowsByte (s .ruling .rows) (k - 256)) (getD (fieldBytes s) (k - 384) 0)))
+
+unfoldable pub bytesOf : Sender → List ℕ
+bytesOf s = tabulate 397 (byteAt s)
