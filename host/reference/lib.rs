@@ -3,3 +3,5 @@
 
 pub mod packet;
 pub mod payload;
+pub mod sender;
+pub mod session;

@@ -18,10 +18,20 @@ build_own() {
     "$@" $strict "$own_source" "$own_library" -o "target/host/$own_name"
 }
 
-# build_differential: the reference, and the program that holds the proved code to it.
-build_differential() {
+# build_reference: the rules a second time.
+build_reference() {
     mkdir -p target/host
-    rustc --edition 2021 -O --crate-type rlib --crate-name reference host/reference/lib.rs -o target/host/libreference.rlib &&
+    rustc --edition 2021 -O --crate-type rlib --crate-name reference host/reference/lib.rs -o target/host/libreference.rlib
+}
+
+# build_sessions: the program that holds the session program to the reference.
+build_sessions() {
+    build_reference && rustc --edition 2021 -O host/sessions/main.rs --extern reference=target/host/libreference.rlib -o target/host/sessions
+}
+
+# build_differential: the program that holds the proved code to the reference.
+build_differential() {
+    build_reference &&
         rustc --edition 2021 -O host/differential/main.rs --extern reference=target/host/libreference.rlib \
             -C link-arg="$own_library" -o target/host/differential
 }

@@ -9,6 +9,16 @@ use Rattle.packet.specs.Layout.{byteOf, carriedIn, dataOf, fieldsOf, h4Of, high
 use Rattle.packet.specs.Reading.{readAnswer, readNibbles, readingNumber, readingValues}
 use Rattle.packet.specs.Words.{FIXED, ADD, NORM, EOS, IDLE, DNU, assigned}
 use Rattle.packet.specs.Writing.{fitting, writeAnswer, writeBytes, writingNumber}
+use Rattle.lines.specs.Ascii.{ascii}
+use Rattle.lines.specs.Fields.{decimalOf, digitOf, hexPair}
+use Rattle.lines.specs.Line.{lineOf, numberLine, reportLine, wordLine}
+use Rattle.lines.specs.Line.{reportOf as reportIn}
+use Rattle.lines.specs.Output.{answerText, boardText, decimalText, slotText, waitText, wordText}
+use Rattle.lines.specs.Replies.{outputOf, replyOf, sizeReply}
+use Rattle.lines.specs.Runs.{wholeOutput}
+use Rattle.lines.specs.Session.{beginning}
+use Rattle.lines.specs.Text.{linesOf}
+use Rattle.lines.specs.Text.{fieldsOf as fieldsIn}
 use Rattle.payload.specs.Answers.{numberOf}
 use Rattle.payload.specs.Joining.{joined, wholeAnswer}
 use Rattle.payload.specs.Spreading.{spreadAll}
@@ -16,7 +26,7 @@ use Rattle.packet.specs.Kinds.{idleNumber, mstFails, mstFirst, mstNumbers}
 use Rattle.sender.specs.Board.{boardOf, highest, noRow, rowOf, rowsOf}
 use Rattle.sender.specs.Commands.{addOf, addedTo, fallen, fallenIn, freshOf, idleSlot, lapseOf, removeOf, removedFrom, startOf}
 use Rattle.sender.specs.Reports.{actedOn, comesBefore, heardIn, numberAfter, opensWait, renumbered, reportOf, slotAfter, toldIn, turnOf, waited}
-use Rattle.sender.specs.Shown.{after, answersOf, shown, started}
+use Rattle.sender.specs.Shown.{after, shown, started}
 use Rattle.sender.specs.Steps.{Call}
 use Rattle.sender.specs.Steps.Call.{AddSlot, Lapse, RemoveSlot, Report}
 use Rattle.sender.specs.Table.{holderOf, membersOf, sizeOf}
@@ -38,10 +48,6 @@ p2 = record { epoch = 1; word = record { 0 = EOS }; gid = 1; mst = 0xFF; «rs_ac
 
 abbrev p1-h4 : List ℕ
 p1-h4 = 0xF8 ∷ 0xF9 ∷ 0x0A ∷ 0x0B ∷ 0x0C ∷ 0x0D ∷ 0xFE ∷ 0xFF ∷ 0x00 ∷ 0x01 ∷ 0x52 ∷ 0x03 ∷ 0x04 ∷ 0x05 ∷ 0x96 ∷ 0x97 ∷ []
-
--- the session's calls on two slots
-abbrev p8 : List Call
-p8 = AddSlot 0 ∷ AddSlot 1 ∷ Report 0 0xBF 0 ∷ RemoveSlot 0 ∷ []
 
 -- a member added and made active, its wait lapsed
 abbrev active : ℕ → List Call
@@ -96,8 +102,11 @@ table =
     ∷ record { name = "P of 0"; given = numberOf (wholeAnswer 0 0 0 0) ∷ []; said = 4 ∷ [] }
     ∷ record { name = "P of 2,340"; given = numberOf (wholeAnswer 1 2340 2340 2340) ∷ []; said = 0 ∷ [] }
     ∷ record { name = "P of 2,341"; given = numberOf (wholeAnswer 1 2341 2341 2341) ∷ []; said = 4 ∷ [] }
-    ∷ record { name = "P8 answers"; given = answersOf (after 2 []) p8; said = 0 ∷ 0 ∷ 0 ∷ 3 ∷ [] }
-    ∷ record { name = "P8 board: ADD 1, EOS 0, wait 1"; given = shown (after 2 p8); said = 1 ∷ 1 ∷ 3 ∷ 0 ∷ 1 ∷ [] }
+    ∷ record {
+      name = "P8 the session's whole output";
+      given = wholeOutput (ascii "size\t2\nadd\t0\nadd\t1\nreport\t0\tBF\t0\nremove\t0\nboard\n");
+      said = ascii "answer\t0\nanswer\t0\nanswer\t0\nanswer\t0\nanswer\t3\nslot\t0\tADD\t1\nslot\t1\tEOS\t0\nwait\t1\n";
+    }
     ∷ record { name = "P9: NORM 0, IDLE 255, EOS 1, wait open"; given = shown (after 3 p9); said = 2 ∷ 0 ∷ 5 ∷ 255 ∷ 3 ∷ 1 ∷ 1 ∷ [] }
     ∷ record { name = "P10: EOS 0, DNU 1, no wait"; given = shown (after 2 p10); said = 3 ∷ 0 ∷ 15 ∷ 1 ∷ 0 ∷ [] }
     ∷ record { name = "P11: two DNU, no EOS"; given = shown (after 2 p11); said = 15 ∷ 0 ∷ 15 ∷ 1 ∷ 0 ∷ [] }
@@ -107,5 +116,5 @@ table =
     ∷ []
 
 pub examples : Equal table
-unfolding table nibblesOf sealedOf dataOf crcOf divisor byteBits nibbleBits writeAnswer writeBytes fitting assigned h4Of readAnswer readNibbles fieldsOf carriedIn highsOf boardOf rowsOf rowOf noRow highest startOf freshOf idleSlot idleNumber addOf addedTo removeOf removedFrom fallen fallenIn lapseOf reportOf waited actedOn heardIn toldIn holderOf renumbered slotAfter numberAfter comesBefore turnOf opensWait sizeOf membersOf mstFails mstFirst mstNumbers
+unfolding table nibblesOf sealedOf dataOf crcOf divisor byteBits nibbleBits writeAnswer writeBytes fitting assigned h4Of readAnswer readNibbles fieldsOf carriedIn highsOf boardOf rowsOf rowOf noRow highest startOf freshOf idleSlot idleNumber addOf addedTo removeOf removedFrom fallen fallenIn lapseOf reportOf waited actedOn heardIn toldIn holderOf renumbered slotAfter numberAfter comesBefore turnOf opensWait sizeOf membersOf mstFails mstFirst mstNumbers wholeOutput beginning linesOf fieldsIn lineOf wordLine numberLine reportLine reportIn decimalOf digitOf hexPair replyOf sizeReply outputOf answerText boardText slotText waitText wordText decimalText
 examples = equal-rows table refl

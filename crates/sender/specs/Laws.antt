@@ -1,5 +1,6 @@
 -- Laws on the definitions, for the proofs above them.
 pub mod Adding
+pub mod Carrying
 pub mod Finding
 pub mod Kept
 pub mod Numbered

@@ -1,7 +1,6 @@
 -- Demand 2 of the sender's table: 'active and do-not-use members hold the numbers 0 to n-1, each once; end-of-sequence is on the highest active member and nowhere else.'
 use mathlib.Core.Path.{_≡_}
 use mathlib.Core.Bool.{Bool, true, false, _&&_}
-use mathlib.Core.List.{List}
 use Prim.Native.Nat.{ℕ, _≤_, _<_}
 use lib.Dec.{eqb}
 use Rattle.counting.specs.Laws.Ranks.{Apart}

@@ -1,8 +1,6 @@
 -- What the answers of writing a packet and of spreading mean to the sender's caller: the same numbers of 01.
 use Rattle.packet.specs.declared.writer.Writing.{Writing}
-use Rattle.packet.specs.declared.writer.Writing.the-variants as W
 use Rattle.payload.specs.declared.answer.Answer as P
-use Rattle.payload.specs.declared.answer.Answer.the-variants.{Range}
 use Rattle.sender.specs.declared.table.Answer.{Answer}
 use Rattle.sender.specs.declared.table.Answer.the-variants as A
 

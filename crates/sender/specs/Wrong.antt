@@ -1,20 +1,25 @@
 -- Wrong readings of 01, each as a definition with a run on which it breaks what 01 says.
 use mathlib.Core.Path.{_≡_, refl}
-use mathlib.Core.Bool.{Bool, true, false, cond}
+use mathlib.Core.Bool.{true, cond}
 use mathlib.Core.List.{List, [], _∷_}
-use Prim.Native.Nat.{ℕ, zero, suc, _≤_, _<_}
+use Prim.Native.Nat.{ℕ, zero, suc}
 use lib.ListN.{set}
+use Rattle.ground.specs.Table.{tabulate}
 use Rattle.packet.specs.Kinds.{idleNumber, mstFails, mstFirst, mstNumbers}
 use Rattle.packet.specs.Words.{ADD, EOS, NORM}
+use Rattle.sender.specs.declared.epochs.Sender.{Sender}
 use Rattle.sender.specs.declared.table.Slot.{Slot}
 use Rattle.sender.specs.declared.table.Table.{Table}
 use Rattle.sender.specs.Board.{boardOf, highest, noRow, rowOf, rowsOf}
-use Rattle.sender.specs.Commands.{addOf, addedTo, freshOf, idleSlot, startOf, withSlots}
+use Rattle.sender.specs.Commands.{addOf, addedTo, fallen, fallenIn, freshOf, idleSlot, lapseOf, removeOf, removedFrom, startOf, withSlots}
+use Rattle.sender.specs.Epochs.{beginOf, freshSender, rankIn, senderRun, startEpochOf, startedEpoch, startedSender, xOf}
+use Rattle.sender.specs.Ranks.{carriersIn, carries, noRank, rankAt, rankOf, rowAt}
 use Rattle.sender.specs.Reports.{actedOn, comesBefore, heardIn, numberAfter, opensWait, renumbered, reportOf, slotAfter, spoken, toldIn, turnOf, waited}
 use Rattle.sender.specs.Shown.{after, shown}
 use Rattle.sender.specs.Steps.{Call}
-use Rattle.sender.specs.Steps.Call.{AddSlot, Report}
+use Rattle.sender.specs.Steps.Call.{AddSlot, Lapse, RemoveSlot, Report}
 use Rattle.sender.specs.Table.{holderOf, membersOf, sizeOf, slotAt}
+use Rattle.sender.specs.Theorems.Epochs.{onTable}
 
 -- Slip 3: 'Giving the two members of P8 their asked numbers, so EOS lands on 1 and 0 is unused.' Nothing is numbered anew.
 wrong-numbers : Table → ℕ → ℕ → Table
@@ -40,3 +45,36 @@ reading-breaks :
     × (shown (after 2 (AddSlot 1 ∷ AddSlot 0 ∷ Report 0 0xBF 0 ∷ [])) ≡ EOS ∷ 0 ∷ ADD ∷ 1 ∷ 1 ∷ [])
 unfolding wrong-reading boardOf rowsOf rowOf noRow highest startOf freshOf idleSlot idleNumber addOf addedTo reportOf actedOn heardIn toldIn holderOf renumbered slotAfter numberAfter comesBefore turnOf opensWait sizeOf membersOf mstFails mstFirst mstNumbers
 reading-breaks = (refl, refl)
+
+-- this epoch's X, then the rank of each of n slots
+abbrev told : (Sender → ℕ → ℕ) → ℕ → Sender → List ℕ
+told rank n s = xOf s ∷ tabulate n (rank s)
+
+-- two epochs started, with calls on the table before each
+abbrev twice : List Call → List Call → Sender
+twice first second =
+    let one = startEpochOf (senderRun (beginOf 0 3 0 .sender) (onTable first)) 0 0xFF 0 .sender in
+    startEpochOf (senderRun one (onTable second)) 0 0xFF 0 .sender
+
+abbrev joined : ℕ → List Call → List Call
+joined slot cs = AddSlot slot ∷ Report 0 0x00 0 ∷ Lapse ∷ cs
+
+-- Slip 1: 'Ranking by number and not by place among active members, so a DNU member leaves a hole.' The payload of an epoch is ruled by DNU 0, NORM 1, EOS 2: rank 2 is not below X.
+wrong-rank : Sender → ℕ → ℕ
+wrong-rank s i = cond (carries (rowAt (s .ruling .rows) i)) (rowAt (s .ruling .rows) i .number) noRank
+
+rank-breaks :
+    (told wrong-rank 3 (twice (joined 0 (joined 1 (joined 2 (Report 0 0x80 0 ∷ [])))) []) ≡ 2 ∷ 255 ∷ 1 ∷ 2 ∷ [])
+    × (told rankIn 3 (twice (joined 0 (joined 1 (joined 2 (Report 0 0x80 0 ∷ [])))) []) ≡ 2 ∷ 255 ∷ 0 ∷ 1 ∷ [])
+unfolding wrong-rank beginOf freshSender startEpochOf startedSender startedEpoch carriersIn rankAt rankOf boardOf rowsOf rowOf noRow highest startOf freshOf idleSlot idleNumber addOf addedTo lapseOf reportOf waited actedOn heardIn toldIn holderOf renumbered slotAfter numberAfter comesBefore turnOf opensWait sizeOf membersOf mstFails mstFirst mstNumbers
+rank-breaks = (refl, refl)
+
+-- Slip 2: 'Using a new packet's numbers for its own epoch.' Three members carry by packets of the epoch before; the middle one is removed, which shows in this epoch's packets and rules the next.
+wrong-epoch : Sender → ℕ → ℕ
+wrong-epoch s i = rankAt (s .going .rows) (sizeOf (s .going .count)) i
+
+epoch-breaks :
+    (told wrong-epoch 3 (twice (joined 0 (joined 1 (joined 2 []))) (RemoveSlot 1 ∷ [])) ≡ 3 ∷ 0 ∷ 255 ∷ 1 ∷ [])
+    × (told rankIn 3 (twice (joined 0 (joined 1 (joined 2 []))) (RemoveSlot 1 ∷ [])) ≡ 3 ∷ 0 ∷ 1 ∷ 2 ∷ [])
+unfolding wrong-epoch beginOf freshSender startEpochOf startedSender startedEpoch carriersIn rankAt rankOf boardOf rowsOf rowOf noRow highest startOf freshOf idleSlot idleNumber addOf addedTo removeOf removedFrom fallen fallenIn lapseOf reportOf waited actedOn heardIn toldIn holderOf renumbered slotAfter numberAfter comesBefore turnOf opensWait sizeOf membersOf mstFails mstFirst mstNumbers
+epoch-breaks = (refl, refl)

@@ -6,10 +6,10 @@ use Prim.Native.Nat.{ℕ, zero, suc, _+_, _≤_, _<_}
 use native.Mathlib.Nat.{not-suc-le-zero}
 use native.Mathlib.Numerals.{add-one}
 use native.Mathlib.Omega.{arith}
-use lib.Dec.{eqb}
-use borrow.Author.Tests.{eq-eqb, ne-eqb}
-use Rattle.ground.specs.Truth.{eq-or-ne}
-use Rattle.counting.specs.Words.{count}
+use lib.Dec.{eqb, ltb}
+use borrow.Author.Tests.{eq-eqb, ne-eqb, ltb-true, ltb-false}
+use Rattle.ground.specs.Truth.{and-right, eq-or-ne}
+use Rattle.counting.specs.Words.{count, greatest}
 
 pub count-le : (n : ℕ) (f : ℕ → Bool) → count n f ≤ n
 count-le zero f = omega arith
@@ -31,6 +31,10 @@ count-fits f false i sum r e h = let m = count-le i f in omega arith
 pub count-ext : (n : ℕ) (f g : ℕ → Bool) → ((k : ℕ) → k < n → f k ≡ g k) → count n f ≡ count n g
 count-ext zero f g h = refl
 count-ext (suc n) f g h = rw (count-ext n f g (λ k b. h k (omega arith)), h n (omega arith))
+
+pub count-none : (n : ℕ) (f : ℕ → Bool) → ((k : ℕ) → k < n → f k ≡ false) → count n f ≡ 0
+count-none zero f h = refl
+count-none (suc n) f h = rw (count-none n f (λ k b. h k (omega arith)), h n (omega arith))
 
 -- where f holds g does
 pub count-mono : (n : ℕ) (f g : ℕ → Bool) → ((k : ℕ) → k < n → f k ≡ true → g k ≡ true) → count n f ≤ count n g
@@ -72,3 +76,22 @@ count-lt n f g s h u t more =
     without k b v =
         let d : k ≢ s = (λ (e : k ≡ s). true≢false (sym v ∙ ap f e ∙ u)) in
         rw (more k b v, ne-eqb k s d)
+
+-- one more turn of a loop
+pub greatest-more : (f : ℕ → Bool) (m : ℕ → ℕ) (i r : ℕ) → r ≡ greatest i f m → cond (f i && ltb r (m i)) (m i) r ≡ greatest (i + 1) f m
+greatest-more f m i r e = rw (add-one, e)
+
+-- no m of a number at which the test holds is above the greatest
+pub greatest-above : (n : ℕ) (f : ℕ → Bool) (m : ℕ → ℕ) (k : ℕ) → k < n → f k ≡ true → m k ≤ greatest n f m
+greatest-above zero f m k h t = absurd (not-suc-le-zero h)
+greatest-above (suc n) f m k h t =
+    let rest = greatest-above n f m k in
+    ⊎-elim (λ (e : k ≡ n). last e (ltb (greatest n f m) (m n)) refl) (λ (d : k ≢ n). older (rest (omega arith) t) (f n && ltb (greatest n f m) (m n)) refl) (eq-or-ne k n)
+  where
+    last : k ≡ n → (b : Bool) → ltb (greatest n f m) (m n) ≡ b → m k ≤ greatest (suc n) f m
+    last e true g = rw (e, rw e at t, g) (omega arith)
+    last e false g = let w = ltb-false (greatest n f m) (m n) g in rw (e, rw e at t, g) w
+
+    older : m k ≤ greatest n f m → (b : Bool) → (f n && ltb (greatest n f m) (m n)) ≡ b → m k ≤ cond b (m n) (greatest n f m)
+    older l true g = let w = ltb-true (greatest n f m) (m n) (and-right (f n) (ltb (greatest n f m) (m n)) g) in omega arith
+    older l false g = l

@@ -1,13 +1,13 @@
--- Some and every as facts about single numbers.
+-- Some, every and the one that, as facts about single numbers.
 use mathlib.Core.Path.{_≡_, refl, _∙_, sym}
 use mathlib.Core.Logic.{⊎-elim, _≢_}
-use mathlib.Core.Bool.{Bool, true, false, _&&_, _||_, true≢false, false≢true}
+use mathlib.Core.Bool.{Bool, true, false, cond, _&&_, _||_, true≢false, false≢true}
 use Prim.Native.Nat.{ℕ, zero, suc, _+_, _<_}
 use native.Mathlib.Nat.{not-suc-le-zero}
 use native.Mathlib.Numerals.{add-one}
 use native.Mathlib.Omega.{arith}
 use Rattle.ground.specs.Truth.{and-true, and-left, and-right, or-left, or-right, or-cases, eq-or-ne}
-use Rattle.counting.specs.Words.{some, every}
+use Rattle.counting.specs.Words.{some, every, the}
 
 -- one more turn of a loop
 pub some-more : (f : ℕ → Bool) (i : ℕ) (r b : Bool) → r ≡ some i f → b ≡ f i → (r || b) ≡ some (i + 1) f
@@ -52,3 +52,27 @@ every-at (suc n) f t k h =
 pub every-all : (n : ℕ) (f : ℕ → Bool) → ((k : ℕ) → k < n → f k ≡ true) → every n f ≡ true
 every-all zero f h = refl
 every-all (suc n) f h = and-true (every n f) (f n) (every-all n f (λ k b. h k (omega arith))) (h n (omega arith))
+
+-- one more turn of a loop
+pub every-more : (f : ℕ → Bool) (i : ℕ) (r b : Bool) → r ≡ every i f → b ≡ f i → (r && b) ≡ every (i + 1) f
+every-more f i r b e h = rw (add-one, e, h)
+
+pub the-more : (f : ℕ → Bool) (i r : ℕ) (b : Bool) → r ≡ the i f → b ≡ f i → cond b i r ≡ the (i + 1) f
+the-more f i r b e h = rw (add-one, e, h)
+
+-- where the test holds at some number, the one that is found is such a one
+pub the-one : (n : ℕ) (f : ℕ → Bool) → some n f ≡ true → (the n f < n) × (f (the n f) ≡ true)
+the-one zero f t = absurd (false≢true t)
+the-one (suc n) f t = go (f n) refl (the-one n f)
+  where
+    go : (b : Bool) → f n ≡ b → (some n f ≡ true → (the n f < n) × (f (the n f) ≡ true)) → (cond b n (the n f) < suc n) × (f (cond b n (the n f)) ≡ true)
+    go true e rest = (omega arith, e)
+    go false e rest =
+        let w : some n f ≡ true = ⊎-elim (λ (a : some n f ≡ true). a) (λ (a : f n ≡ true). absurd (true≢false (sym a ∙ e))) (or-cases (some n f) (f n) t) in
+        let r = rest w in
+        (let l = r .0 in omega arith, r .1)
+
+-- tests that agree below n find the same
+pub the-ext : (n : ℕ) (f g : ℕ → Bool) → ((k : ℕ) → k < n → f k ≡ g k) → the n f ≡ the n g
+the-ext zero f g h = refl
+the-ext (suc n) f g h = rw (the-ext n f g (λ k b. h k (omega arith)), h n (omega arith))

@@ -7,7 +7,7 @@ use lib.ListN.{getD}
 use Rattle.ground.specs.Circle.{after-of, after-lt}
 use Rattle.ground.specs.Table.{getD-tabulate}
 use Rattle.packet.specs.Layout.{h4Of}
-use Rattle.packet.specs.Kinds.{distanceOf, epochAfter, epochOf, epochs, firstTag, frames, lead, mstFirst, mstNumbers, placeOf, tagAfter, tags}
+use Rattle.packet.specs.Kinds.{distanceOf, epochAfter, epochOf, epochs, firstTag, frames, idleNumber, lead, mstFirst, mstNumbers, placeOf, tagAfter, tags}
 
 -- the tag of the x-th frame after one with tag 0
 abbrev pub tagOf : ℕ → ℕ → ℕ
@@ -63,3 +63,12 @@ place-sent ns kind t =
 pub mst-fits : (kind e : ℕ) → mstFirst kind e + mstNumbers kind ≤ 256
 unfolding mstFirst mstNumbers
 mst-fits kind e = omega arith
+
+-- and so do the idle number and every epoch that follows another
+pub idle-fits : (kind : ℕ) → idleNumber kind < 256
+unfolding idleNumber
+idle-fits kind = omega arith
+
+pub epoch-fits : (kind e : ℕ) → epochAfter kind e < 256
+unfolding epochAfter epochs
+epoch-fits kind e = omega arith

@@ -1,7 +1,7 @@
 -- The refusals of the sender's table: starting 4; for commands 1, 3, 2; lapse 2; a report has none.
 use mathlib.Core.Path.{_≡_, refl}
 use mathlib.Core.Bool.{Bool, true, false, cond, not, _||_, false≢true}
-use mathlib.Core.List.{List, [], _∷_}
+use mathlib.Core.List.{[], _∷_}
 use Prim.Native.Nat.{ℕ}
 use lib.Dec.{eqb, ltb}
 use Rattle.paper.specs.Entries.{Entry, Copes, keepsState}
@@ -9,7 +9,7 @@ use Rattle.sender.specs.declared.table.Answer.the-variants.{Done, NotAllowed, O
 use Rattle.sender.specs.declared.table.Table.{Table}
 use Rattle.sender.specs.Commands.{addOf, addedTo, answered, freshOf, inOrder, lapseOf, removeOf, removedFrom, startOf, withSlots}
 use Rattle.sender.specs.Reports.{reportOf}
-use Rattle.sender.specs.Steps.{Call, stepOf}
+use Rattle.sender.specs.Steps.{stepOf}
 use Rattle.sender.specs.Steps.Call.{AddSlot, Lapse, RemoveSlot, Report}
 use Rattle.sender.specs.Table.{answerNumber, isMember, sizeOf, slotAt}
 

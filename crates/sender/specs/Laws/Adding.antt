@@ -1,17 +1,14 @@
 -- Adding keeps the numbering.
-use mathlib.Core.Path.{_≡_, refl, _∙_, sym, ap}
-use mathlib.Core.Logic.{⊎-elim, _⊎_, inl, inr, _≢_}
-use mathlib.Core.Bool.{Bool, true, false, cond, not, _&&_, _||_, true≢false, false≢true}
-use Prim.Native.Nat.{ℕ, suc, _+_, _-_, _≤_, _<_}
+use mathlib.Core.Path.{_≡_, _∙_, sym, ap}
+use mathlib.Core.Logic.{⊎-elim, _≢_}
+use mathlib.Core.Bool.{true, false, true≢false, false≢true}
+use Prim.Native.Nat.{ℕ, suc, _≤_, _<_}
 use native.Mathlib.Omega.{arith}
-use lib.Dec.{eqb, ltb}
-use borrow.Author.Tests.{eq-eqb, ne-eqb, eqb-true, lt-ltb, le-ltb, ltb-true}
-use Rattle.ground.specs.Truth.{and-true, and-left, and-right, or-left, or-right, or-cases, fails, eq-or-ne, le-or-lt}
-use Rattle.counting.specs.Laws.Numbers.{count-ext, count-mono, count-lt, count-without}
+use Rattle.ground.specs.Truth.{eq-or-ne}
+use Rattle.counting.specs.Laws.Numbers.{count-ext, count-mono, count-without}
 use Rattle.counting.specs.Laws.Ranks.{Apart}
-use Rattle.counting.specs.Words.{count}
 use Rattle.sender.specs.declared.table.State.{State}
-use Rattle.sender.specs.declared.table.State.the-variants.{Idle, Add, Active, Dnu}
+use Rattle.sender.specs.declared.table.State.the-variants.{Add}
 use Rattle.sender.specs.Table.{isAdd, isMember}
 use Rattle.sender.specs.Laws.Numbered.{Numbered, placed-member, idle-placed}
 use Rattle.sender.specs.Numbering.{isPlaced, placed, members}

@@ -1,18 +1,17 @@
 -- The slot that holds a number, as a loop finds it.
-use mathlib.Core.Path.{_≡_, refl, _∙_, sym}
+use mathlib.Core.Path.{_≡_, refl, _∙_}
 use mathlib.Core.Logic.{⊎-elim, _≢_}
-use mathlib.Core.Bool.{Bool, true, false, cond}
+use mathlib.Core.Bool.{Bool, true, false}
 use mathlib.Core.List.{List}
-use Prim.Native.Nat.{ℕ, zero, suc, _+_, _≤_, _<_}
+use Prim.Native.Nat.{ℕ, zero, suc, _+_, _<_}
 use native.Mathlib.Nat.{not-suc-le-zero}
 use native.Mathlib.Numerals.{add-one}
 use native.Mathlib.Omega.{arith}
-use lib.Dec.{eqb}
 use Rattle.ground.specs.Truth.{eq-or-ne}
 use Rattle.sender.specs.declared.finding.Found.{Found}
 use Rattle.sender.specs.declared.finding.Found.the-variants.{At, Nothing}
 use Rattle.sender.specs.declared.table.Slot.{Slot}
-use Rattle.sender.specs.Table.{earlier, holderOf, holds, slotAt}
+use Rattle.sender.specs.Table.{holderOf, holds, slotAt}
 
 module _ (slots : List Slot) (q : ℕ) where
   pub holder-none : holderOf slots 0 q ≡ Nothing

@@ -1,12 +1,12 @@
 -- Each call keeps the numbering of the table.
-use mathlib.Core.Path.{_≡_, refl, _∙_, sym, ap}
+use mathlib.Core.Path.{_≡_, refl, _∙_, ap}
 use mathlib.Core.Logic.{⊎-elim, _≢_}
-use mathlib.Core.Bool.{Bool, true, false, cond, not, _&&_, _||_, true≢false, false≢true}
+use mathlib.Core.Bool.{Bool, true, false, cond, not, _||_}
 use mathlib.Core.List.{List, [], _∷_}
-use Prim.Native.Nat.{ℕ, zero, suc, _+_, _-_, _%_, _≤_, _<_}
+use Prim.Native.Nat.{ℕ, zero, suc, _+_, _%_, _≤_, _<_}
 use native.Mathlib.Omega.{arith}
 use lib.Dec.{eqb, ltb}
-use lib.ListN.{length, getD, set, replicate, length-set, length-replicate, getD-replicate}
+use lib.ListN.{length, set, replicate, length-set, length-replicate, getD-replicate}
 use lib.Seq.{getD-set-same, getD-set-other}
 use borrow.Author.Tests.{ltb-true, not-true}
 use Rattle.ground.specs.Truth.{eq-or-ne}
@@ -19,7 +19,6 @@ use Rattle.sender.specs.declared.table.Answer.the-variants.{Done, NoSlot
 use Rattle.sender.specs.declared.table.Slot.{Slot}
 use Rattle.sender.specs.declared.table.State.{State}
 use Rattle.sender.specs.declared.table.State.the-variants.{Idle, Add, Active, Dnu}
-use Rattle.sender.specs.declared.table.Step.{Step}
 use Rattle.sender.specs.declared.table.Table.{Table}
 use Rattle.sender.specs.Commands.{addOf, addedTo, answered, fallen, fallenIn, freshOf, idleSlot, inOrder, lapseOf, removeOf, removedFrom, startOf, withSlots}
 use Rattle.sender.specs.Laws.Adding.{numbered-add}
@@ -28,7 +27,7 @@ use Rattle.sender.specs.Laws.Numbered.{Numbered, numbered-fresh, numbere
 use Rattle.sender.specs.Laws.Removing.{lower, numbered-remove}
 use Rattle.sender.specs.Laws.Reporting.{Passes, numbered-report}
 use Rattle.sender.specs.Laws.Sizes.{size-le}
-use Rattle.sender.specs.Numbering.{members, numberIn, slotsIn, stateIn}
+use Rattle.sender.specs.Numbering.{numberIn, slotsIn, stateIn}
 use Rattle.sender.specs.Reports.{actedOn, comesBefore, heardIn, numberAfter, renumbered, reportOf, slotAfter, spoken, spokenTo, toldIn, turnOf, waited}
 use Rattle.sender.specs.Steps.{Call, run, stepOf}
 use Rattle.sender.specs.Steps.Call.{AddSlot, RemoveSlot, Report, Lapse}
@@ -288,3 +287,49 @@ sound-step t Lapse o = sound-lapse t o
 pub sound-run : (t : Table) (cs : List Call) → Sound t → Sound (run t cs)
 sound-run t [] o = o
 sound-run t (c ∷ cs) o = sound-run (stepOf t c .table) cs (sound-step t c o)
+
+fresh-idle : (kind count i : ℕ) → i < slotsIn (freshOf kind count) → stateIn (freshOf kind count) i ≡ Idle
+unfolding freshOf
+fresh-idle kind c i h = ap (λ (s : Slot). s .state) (fresh-slot kind i (let l = size-le c in omega arith)) ∙ idle-state kind
+
+-- a start leaves every slot IDLE
+pub start-idle : (kind count i : ℕ) → i < slotsIn (startOf kind count .table) → stateIn (startOf kind count .table) i ≡ Idle
+unfolding startOf
+start-idle kind c i = go (eqb c 0 || ltb 64 c)
+  where
+    go : (b : Bool) → let t = cond b (answered (freshOf kind 0) OutOfRange) (answered (freshOf kind c) Done) .table in i < slotsIn t → stateIn t i ≡ Idle
+    go true h = fresh-idle kind 0 i h
+    go false h = fresh-idle kind c i h
+
+-- a call leaves the count and the kind of packet
+pub record Group (t u : Table) : Type 0 where
+  pub count : u .count ≡ t .count
+  pub kind : u .kind ≡ t .kind
+
+group-self : (t : Table) → Group t t
+group-self t = record { count = refl; kind = refl }
+
+group-in-order : (t next : Table) (i : ℕ) (allowed : Bool) → Group t next → Group t (inOrder t i allowed next .table)
+group-in-order t next i allowed d = go (ltb i (sizeOf (t .count))) (t .wait) allowed
+  where
+    go : (b w a : Bool) → Group t (cond b (cond w (answered t WaitOpen) (cond a (answered next Done) (answered t NotAllowed))) (answered t NoSlot) .table)
+    go false w a = group-self t
+    go true true a = group-self t
+    go true false false = group-self t
+    go true false true = d
+
+pub group-step : (t : Table) (c : Call) → Group t (stepOf t c .table)
+unfolding addOf addedTo removeOf removedFrom reportOf waited actedOn lapseOf
+group-step t (AddSlot i) = group-in-order t (addedTo t i) i (not (isMember (slotAt (t .slots) i .state))) (record { count = refl; kind = refl })
+group-step t (RemoveSlot i) = group-in-order t (removedFrom t i) i (isMember (slotAt (t .slots) i .state)) (record { count = refl; kind = refl })
+group-step t (Report e mst ack) = go (t .wait) (eqb (ack % 2) (t .bit))
+  where
+    go : (w b : Bool) → Group t (cond w (cond b t (record { slots = t .slots; count = t .count; wait = false; bit = ack % 2; kind = t .kind })) (actedOn t e mst (ack % 2)))
+    go true true = group-self t
+    go true false = record { count = refl; kind = refl }
+    go false b = record { count = refl; kind = refl }
+group-step t Lapse = go (t .wait)
+  where
+    go : (w : Bool) → Group t (cond w (answered (withSlots t (t .slots) false) Done) (answered t NotAllowed) .table)
+    go true = record { count = refl; kind = refl }
+    go false = group-self t

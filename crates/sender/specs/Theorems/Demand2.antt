@@ -1,27 +1,27 @@
 -- Demand 2: after any calls from a start, each given the table that the last one returned.
 use mathlib.Core.Path.{_≡_, refl, _∙_, sym, ap}
-use mathlib.Core.Logic.{⊎-elim, _≢_}
-use mathlib.Core.Bool.{Bool, true, false, cond, not, _&&_, true≢false, false≢true}
+use mathlib.Core.Logic.{⊎-elim}
+use mathlib.Core.Bool.{Bool, true, false, not, _&&_, true≢false, false≢true}
 use mathlib.Core.List.{List}
 use Prim.Native.Nat.{ℕ, _≤_, _<_}
 use native.Mathlib.Omega.{arith}
 use lib.Dec.{eqb, ltb}
-use borrow.Author.Tests.{eq-eqb, eqb-true, lt-ltb, ltb-true, ltb-false, not-true}
+use borrow.Author.Tests.{eq-eqb, eqb-true, ltb-true, ltb-false, not-true}
 use Rattle.ground.specs.Truth.{and-true, and-left, and-right, fails}
-use Rattle.counting.specs.Laws.Ranks.{Apart, Top, all-taken, some-top}
+use Rattle.counting.specs.Laws.Ranks.{all-taken, some-top}
 use Rattle.counting.specs.Laws.Tests.{One, none-at, some-at, some-one}
 use Rattle.counting.specs.Words.{count, some}
-use Rattle.packet.specs.Words.{ADD, DNU, EOS, IDLE, NORM}
+use Rattle.packet.specs.Words.{EOS}
 use Rattle.sender.specs.declared.table.State.{State}
 use Rattle.sender.specs.declared.table.State.the-variants.{Idle, Add, Active, Dnu}
 use Rattle.sender.specs.declared.table.Table.{Table}
 use Rattle.sender.specs.Board.{highest, rowOf, wordOf}
 use Rattle.sender.specs.Commands.{startOf}
 use Rattle.sender.specs.Laws.Kept.{Sound, sound-run, sound-start}
-use Rattle.sender.specs.Laws.Numbered.{Numbered, placed-member, add-member, member-cases}
+use Rattle.sender.specs.Laws.Numbered.{placed-member, add-member, member-cases}
 use Rattle.sender.specs.Numbering.{Demand2, isPlaced, members, numberIn, placed, sends, slotsIn, stateIn}
 use Rattle.sender.specs.Steps.{Call, run}
-use Rattle.sender.specs.Table.{isActive, isAdd, isMember, slotAt}
+use Rattle.sender.specs.Table.{isActive, isAdd, isMember}
 
 -- the word of an active member is EOS or NORM, and that of any other neither
 word-eos : (s : State) (last : Bool) → wordOf s last .0 ≡ EOS → (isActive s ≡ true) × (last ≡ true)
@@ -37,7 +37,7 @@ active-eos Add last a e = absurd (false≢true a)
 active-eos Active last a e = rw e
 active-eos Dnu last a e = absurd (false≢true a)
 
-active-member : (s : State) → isActive s ≡ true → isMember s ≡ true
+pub active-member : (s : State) → isActive s ≡ true → isMember s ≡ true
 active-member Idle a = a
 active-member Add a = refl
 active-member Active a = refl

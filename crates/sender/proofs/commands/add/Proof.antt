@@ -1,7 +1,6 @@
-use mathlib.Core.Path.{_≡_, _∙_, sym}
-use Prim.Native.Nat.{_<_, _≤_}
+use mathlib.Core.Path.{_∙_, sym}
+use Prim.Native.Nat.{_<_}
 use native.Mathlib.Omega.{arith}
-use lib.ListN.{length-map}
 use borrow.Author.Needs.{needs}
 use Rattle.sender.specs.Laws.Sizes.{size-le}
 use Rattle.sender.proofs.Answers.{add-no-slot, add-wait, add-not-allowed, add-done}

@@ -1,5 +1,3 @@
-use native.Mathlib.Omega.{arith}
-use lib.ListN.{length-map}
 use borrow.Author.Needs.{needs}
 use Rattle.sender.specs.Commands.{removedFrom}
 use Rattle.sender.specs.Laws.Sizes.{size-le}

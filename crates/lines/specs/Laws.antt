@@ -1,0 +1,6 @@
+-- Laws on the definitions, for the proofs above them.
+pub mod Feeding
+pub mod Holding
+pub mod Keeping
+pub mod Lines
+pub mod Parted

@@ -1,0 +1,12 @@
+pub mod Ascii
+pub mod Fields
+pub mod Kept
+pub mod Laws
+pub mod Line
+pub mod Output
+pub mod Replies
+pub mod Runs
+pub mod Session
+pub mod Text
+pub mod Theorems
+mod Wrong

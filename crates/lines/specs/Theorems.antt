@@ -1,0 +1,2 @@
+-- What 01 asks of a session, proved on the definitions.
+pub mod Cuts

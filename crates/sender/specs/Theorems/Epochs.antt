@@ -1,0 +1,203 @@
+-- The sender over epochs (01, 'Taking effect', 'Payload order'), after any calls from a start.
+use mathlib.Core.Path.{_≡_, refl, _∙_, sym, ap}
+use mathlib.Core.Bool.{Bool, true, false, cond, _&&_}
+use mathlib.Core.List.{List, [], _∷_}
+use Prim.Native.Nat.{ℕ, _<_}
+use lib.Dec.{eqb, ltb}
+use borrow.Author.Tests.{eq-eqb, eqb-true}
+use Rattle.ground.specs.Truth.{and-true, and-left, and-right}
+use Rattle.counting.specs.Laws.Numbers.{count-none}
+use Rattle.counting.specs.Laws.Ranks.{rank, ranked}
+use Rattle.counting.specs.Laws.Tests.{One}
+use Rattle.counting.specs.Words.{count}
+use Rattle.packet.specs.declared.layout.Fields.{Fields}
+use Rattle.sender.specs.declared.board.Board.{Board}
+use Rattle.sender.specs.declared.epochs.Sender.{Sender}
+use Rattle.sender.specs.declared.epochs.SenderStep.{SenderStep}
+use Rattle.sender.specs.declared.table.Answer.the-variants.{Done, Field}
+use Rattle.sender.specs.declared.table.Table.{Table}
+use Rattle.sender.specs.Board.{boardOf}
+use Rattle.sender.specs.Commands.{startOf}
+use Rattle.sender.specs.Epochs.{SenderCall, beginOf, freshSender, packetAnswer, packetBytes, packetFields, payloadAnswer, payloadBytes, rankIn, senderRun, senderStepOf, startEpochOf, startedSender, xOf}
+use Rattle.sender.specs.Epochs.SenderCall.{OnTable, StartEpoch}
+use Rattle.sender.specs.Laws.Carrying.{board-size, carries-active, rank-active, x-active}
+use Rattle.sender.specs.Laws.Kept.{Sound, group-step, sound-start, sound-step, start-idle}
+use Rattle.sender.specs.Numbering.{Demand2, numberIn, slotsIn, stateIn}
+use Rattle.sender.specs.Ranks.{carries, carriersIn, rankAt, rowAt}
+use Rattle.sender.specs.Steps.{Call}
+use Rattle.sender.specs.Table.{isActive, sizeOf}
+use Rattle.sender.specs.Theorems.Demand2.{active-member, sound-demand2}
+
+-- a board that shows a table as demand 2 asks, of so many slots
+pub record Shows (b : Board) (count : ℕ) : Type 0 where
+  pub source : Table
+  pub sound : Sound source
+  pub is : b ≡ boardOf source
+  pub slots : source .count ≡ count
+
+pub record SoundSender (s : Sender) : Type 0 where
+  pub table : Sound (s .table)
+  pub going : Shows (s .going) (s .table .count)
+  pub ruling : Shows (s .ruling) (s .table .count)
+
+shows : (t : Table) → Sound t → Shows (boardOf t) (t .count)
+shows t o = record { source = t; sound = o; is = refl; slots = refl }
+
+shows-still : (b : Board) (c d : ℕ) → d ≡ c → Shows b c → Shows b d
+shows-still b c d e o = record { source = o .source; sound = o .sound; is = o .is; slots = o .slots ∙ sym e }
+
+fresh-sound : (t : Table) (e : ℕ) → Sound t → SoundSender (freshSender t e)
+unfolding freshSender
+fresh-sound t e o = record { table = o; going = shows t o; ruling = shows t o }
+
+started-sound : (s : Sender) (gid mst ack : ℕ) → SoundSender s → SoundSender (startEpochOf s gid mst ack .sender)
+unfolding startEpochOf startedSender
+started-sound s gid mst ack o = go (ltb gid 2 && ltb ack 2)
+  where
+    go : (b : Bool) → SoundSender (cond {A = SenderStep} b (record { sender = startedSender s gid mst ack; answer = Done }) (record { sender = s; answer = Field }) .sender)
+    go true = record { table = o .table; going = shows (s .table) (o .table); ruling = o .going }
+    go false = o
+
+step-sound : (s : Sender) (c : SenderCall) → SoundSender s → SoundSender (senderStepOf s c .sender)
+step-sound s (OnTable c) o =
+    let still = group-step (s .table) c .count in
+    record {
+      table = sound-step (s .table) c (o .table);
+      going = shows-still (s .going) (s .table .count) _ still (o .going);
+      ruling = shows-still (s .ruling) (s .table .count) _ still (o .ruling);
+    }
+step-sound s (StartEpoch gid mst ack) o = started-sound s gid mst ack o
+
+run-sound : (s : Sender) (cs : List SenderCall) → SoundSender s → SoundSender (senderRun s cs)
+run-sound s [] o = o
+run-sound s (c ∷ cs) o = run-sound (senderStepOf s c .sender) cs (step-sound s c o)
+
+begins : (kind count e : ℕ) → beginOf kind count e .sender .going ≡ boardOf (startOf kind count .table)
+unfolding beginOf freshSender
+begins kind count e = refl
+
+-- a sender made by calls from a start
+abbrev pub senderAfter : ℕ → ℕ → ℕ → List SenderCall → Sender
+senderAfter kind count e cs = senderRun (beginOf kind count e .sender) cs
+
+pub sender-sound : (kind count e : ℕ) (cs : List SenderCall) → SoundSender (senderAfter kind count e cs)
+unfolding beginOf
+sender-sound kind count e cs = run-sound (beginOf kind count e .sender) cs (fresh-sound (startOf kind count .table) e (sound-start kind count))
+
+-- Demand 2 of the table, and of the two tables that an epoch's start keeps: those whose boards go out now and went out before
+pub record Demand2Kept (s : Sender) : Type 0 where
+  pub table : Demand2 (s .table)
+  pub going-of : Table
+  pub going-is : s .going ≡ boardOf going-of
+  pub going : Demand2 going-of
+  pub ruling-of : Table
+  pub ruling-is : s .ruling ≡ boardOf ruling-of
+  pub ruling : Demand2 ruling-of
+
+pub demand2-kept : (kind count e : ℕ) (cs : List SenderCall) → Demand2Kept (senderAfter kind count e cs)
+demand2-kept kind count e cs =
+    let s = senderAfter kind count e cs in
+    let o = sender-sound kind count e cs in
+    record {
+      table = sound-demand2 (s .table) (o .table);
+      going-of = o .going .source;
+      going-is = o .going .is;
+      going = sound-demand2 (o .going .source) (o .going .sound);
+      ruling-of = o .ruling .source;
+      ruling-is = o .ruling .is;
+      ruling = sound-demand2 (o .ruling .source) (o .ruling .sound);
+    }
+
+-- What every slot sends in this epoch stays as its start fixed it, whatever calls on the table come in between: packet, payload, X and ranks.
+pub record Fixed (s r : Sender) : Type 0 where
+  pub fields : (i : ℕ) → packetFields r i ≡ packetFields s i
+  pub answer : (i : ℕ) (h4 : List ℕ) → packetAnswer r i h4 ≡ packetAnswer s i h4
+  pub bytes : (i : ℕ) (h4 : List ℕ) → packetBytes r i h4 ≡ packetBytes s i h4
+  pub x : xOf r ≡ xOf s
+  pub ranks : (i : ℕ) → rankIn r i ≡ rankIn s i
+  pub told : (i P frame member : ℕ) → payloadAnswer r i P frame member ≡ payloadAnswer s i P frame member
+  pub carried : (i P : ℕ) (frame member : List ℕ) → payloadBytes r i P frame member ≡ payloadBytes s i P frame member
+
+abbrev pub onTable : List Call → List SenderCall
+onTable [] = []
+onTable (c ∷ cs) = OnTable c ∷ onTable cs
+
+pub fixed : (s : Sender) (cs : List Call) → Fixed s (senderRun s (onTable cs))
+unfolding packetFields packetAnswer packetBytes payloadAnswer payloadBytes
+fixed s [] =
+    record {
+      fields = λ i. refl;
+      answer = λ i h. refl;
+      bytes = λ i h. refl;
+      x = refl;
+      ranks = λ i. refl;
+      told = λ i P f m. refl;
+      carried = λ i P f m. refl;
+    }
+fixed s (c ∷ cs) =
+    let o = fixed (senderStepOf s (OnTable c) .sender) cs in
+    let g = group-step (s .table) c in
+    record {
+      fields = λ i. o .fields i;
+      answer = λ i h. o .answer i h ∙ rw (g .count, g .kind);
+      bytes = λ i h. o .bytes i h ∙ rw (g .count, g .kind);
+      x = o .x;
+      ranks = λ i. o .ranks i;
+      told = λ i P f m. o .told i P f m ∙ rw (g .count);
+      carried = λ i P f m. o .carried i P f m ∙ rw (g .count);
+    }
+
+-- a start of an epoch that is refused changes nothing, so it may stand among those calls
+pub refused-start : (s : Sender) (gid mst ack : ℕ) → (ltb gid 2 && ltb ack 2) ≡ false → startEpochOf s gid mst ack .sender ≡ s
+unfolding startEpochOf
+refused-start s gid mst ack h = rw h
+
+-- all packets of an epoch carry one GID, whatever calls on the table come in between
+pub one-gid : (s : Sender) (cs : List Call) (i j : ℕ) → packetFields (senderRun s (onTable cs)) i .gid ≡ packetFields s j .gid
+unfolding packetFields
+one-gid s cs i j = ap (λ (f : Fields). f .gid) (fixed s cs .fields i)
+
+-- 'The packets of one epoch rule the payload of the next epoch'
+pub rules-next : (s : Sender) (gid mst ack : ℕ) → (ltb gid 2 && ltb ack 2) ≡ true → startEpochOf s gid mst ack .sender .ruling ≡ s .going
+unfolding startEpochOf startedSender
+rules-next s gid mst ack h = ap (λ (b : Bool). cond {A = SenderStep} b (record { sender = startedSender s gid mst ack; answer = Done }) (record { sender = s; answer = Field }) .sender .ruling) h
+
+going-stays : (s : Sender) (cs : List Call) → senderRun s (onTable cs) .going ≡ s .going
+going-stays s [] = refl
+going-stays s (c ∷ cs) = going-stays (senderStepOf s (OnTable c) .sender) cs
+
+-- 'a sender's first epoch has X = 0'
+pub first-x : (kind count e : ℕ) (cs : List Call) (gid mst ack : ℕ) → (ltb gid 2 && ltb ack 2) ≡ true
+    → xOf (startEpochOf (senderAfter kind count e (onTable cs)) gid mst ack .sender) ≡ 0
+first-x kind c e cs gid mst ack h =
+    ap (λ (b : Board). carriersIn (b .rows) (sizeOf (b .count)))
+    (rules-next (senderAfter kind c e (onTable cs)) gid mst ack h ∙ going-stays (beginOf kind c e .sender) cs ∙ begins kind c e)
+    ∙ x-active (startOf kind c .table)
+    ∙ count-none (slotsIn (startOf kind c .table)) _ (λ i b. ap isActive (start-idle kind c i b))
+
+-- each rank below X is some slot's
+module _ (s : Sender) (o : SoundSender s) where
+  abbrev t : Table
+  t = o .ruling .source
+
+  pub rank-held : (r : ℕ) → r < xOf s → One (sizeOf (s .ruling .count)) (λ i. carries (rowAt (s .ruling .rows) i) && eqb (rankIn s i) r)
+  rank-held r h = rw (o .ruling .is) (held r (rw (o .ruling .is) at h))
+    where
+      held : (r : ℕ) → r < carriersIn (boardOf t .rows) (sizeOf (boardOf t .count))
+          → One (sizeOf (boardOf t .count)) (λ i. carries (rowAt (boardOf t .rows) i) && eqb (rankAt (boardOf t .rows) (sizeOf (boardOf t .count)) i) r)
+      held r h =
+          let active : ℕ → Bool = λ i. isActive (stateIn t i) in
+          let w = ranked (slotsIn t) active (numberIn t)
+          (λ i j hi hj ai aj e. o .ruling .sound .numbered .once i j hi hj (active-member (stateIn t i) ai) (active-member (stateIn t j) aj) e)
+          r (rw (x-active t) at h) in
+          let i : ℕ = w .at in
+          let b : i < slotsIn t = w .below in
+          let a : isActive (stateIn t i) ≡ true = and-left (isActive (stateIn t i)) (eqb (rank (slotsIn t) active (numberIn t) i) r) (w .holds) in
+          let k : rank (slotsIn t) active (numberIn t) i ≡ r = eqb-true _ r (and-right (isActive (stateIn t i)) (eqb (rank (slotsIn t) active (numberIn t) i) r) (w .holds)) in
+          record {
+            at = i;
+            below = rw (board-size t) b;
+            holds =
+                and-true (carries (rowAt (boardOf t .rows) i)) _ (carries-active t i b ∙ a)
+                (eq-eqb (rankAt (boardOf t .rows) (sizeOf (boardOf t .count)) i) r (rank-active t i b a ∙ k));
+          }

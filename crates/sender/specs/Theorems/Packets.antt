@@ -1,0 +1,139 @@
+-- The packet of a slot is never refused for its fields: after any calls from a start, each given bytes, it is written once an epoch has started and the lent bytes are as many as a packet has.
+use mathlib.Core.Path.{_≡_, refl, _∙_, ap}
+use mathlib.Core.Bool.{Bool, true, false, cond, not, _&&_}
+use mathlib.Core.List.{List, [], _∷_}
+use Prim.Native.Nat.{ℕ, _<_}
+use native.Mathlib.Omega.{arith}
+use lib.Dec.{eqb, ltb, lit<}
+use lib.ListN.{length}
+use borrow.Author.Tests.{eq-eqb, lt-ltb, ltb-true}
+use Rattle.ground.specs.Truth.{and-left, and-right}
+use Rattle.counting.specs.Laws.Numbers.{count-le}
+use Rattle.packet.specs.Kinds.{epochAfter, frames}
+use Rattle.packet.specs.Theorems.Tags.{epoch-fits, idle-fits}
+use Rattle.packet.specs.Words.{FIXED, assigned}
+use Rattle.packet.specs.Writing.{fitting, writeAnswer}
+use Rattle.sender.specs.declared.board.Row.{Row}
+use Rattle.sender.specs.declared.epochs.Sender.{Sender}
+use Rattle.sender.specs.declared.epochs.SenderStep.{SenderStep}
+use Rattle.sender.specs.declared.table.Answer.the-variants.{Done, Field}
+use Rattle.sender.specs.declared.table.State.{State}
+use Rattle.sender.specs.declared.table.State.the-variants.{Idle, Add, Active, Dnu}
+use Rattle.sender.specs.declared.table.Table.{Table}
+use Rattle.sender.specs.Board.{boardOf, highest, rowOf, wordOf}
+use Rattle.sender.specs.Epochs.{SenderCall, beginOf, freshSender, packetAnswer, packetFields, senderRun, senderStepOf, startEpochOf, startedEpoch, startedSender}
+use Rattle.sender.specs.Epochs.SenderCall.{OnTable, StartEpoch}
+use Rattle.sender.specs.Laws.Carrying.{board-row, row-number}
+use Rattle.sender.specs.Laws.Kept.{Sound}
+use Rattle.sender.specs.Laws.Sizes.{size-le}
+use Rattle.sender.specs.Numbering.{numberIn, slotsIn, stateIn}
+use Rattle.sender.specs.Ranks.{rowAt}
+use Rattle.sender.specs.Table.{isMember, sizeOf}
+use Rattle.sender.specs.Theorems.Epochs.{SoundSender, sender-sound, senderAfter}
+
+-- a call that is given bytes
+abbrev pub Given : SenderCall → Type 0
+Given (OnTable c) = Unit {0}
+Given (StartEpoch gid mst ack) = mst < 256
+
+abbrev pub AllGiven : List SenderCall → Type 0
+AllGiven [] = Unit {0}
+AllGiven (c ∷ cs) = Given c × AllGiven cs
+
+-- what a packet's fields ask beside the row
+record Fit (s : Sender) : Type 0 where
+  epoch : s .epoch < 256
+  mst : s .mst < 256
+  gid : s .gid < 2
+  ack : s .«rs_ack» < 2
+
+fit-fresh : (kind count e : ℕ) → e < 256 → Fit (beginOf kind count e .sender)
+unfolding beginOf freshSender
+fit-fresh kind count e h = record { epoch = h; mst = lit< tt; gid = lit< tt; ack = lit< tt }
+
+fit-epoch : (s : Sender) → Fit s → startedEpoch s < 256
+unfolding startedEpoch
+fit-epoch s o = go (s .begun)
+  where
+    go : (b : Bool) → cond b (epochAfter (s .table .kind) (s .epoch)) (s .epoch) < 256
+    go true = epoch-fits (s .table .kind) (s .epoch)
+    go false = o .epoch
+
+fit-started : (s : Sender) (gid mst ack : ℕ) → mst < 256 → Fit s → Fit (startEpochOf s gid mst ack .sender)
+unfolding startEpochOf startedSender
+fit-started s gid mst ack h o = go (ltb gid 2 && ltb ack 2) refl
+  where
+    go : (b : Bool) → (ltb gid 2 && ltb ack 2) ≡ b
+        → Fit (cond {A = SenderStep} b (record { sender = startedSender s gid mst ack; answer = Done }) (record { sender = s; answer = Field }) .sender)
+    go true e =
+        record {
+          epoch = fit-epoch s o;
+          mst = h;
+          gid = ltb-true gid 2 (and-left (ltb gid 2) (ltb ack 2) e);
+          ack = ltb-true ack 2 (and-right (ltb gid 2) (ltb ack 2) e);
+        }
+    go false e = o
+
+fit-step : (s : Sender) (c : SenderCall) → Given c → Fit s → Fit (senderStepOf s c .sender)
+fit-step s (OnTable c) g o = record { epoch = o .epoch; mst = o .mst; gid = o .gid; ack = o .ack }
+fit-step s (StartEpoch gid mst ack) g o = fit-started s gid mst ack g o
+
+fit-run : (s : Sender) (cs : List SenderCall) → AllGiven cs → Fit s → Fit (senderRun s cs)
+fit-run s [] g o = o
+fit-run s (c ∷ cs) g o = fit-run (senderStepOf s c .sender) cs (g .1) (fit-step s c (g .0) o)
+
+-- a state's word is assigned and not FIXED
+word-fits : (s : State) (last : Bool) → (not (eqb (wordOf s last .0) FIXED) && assigned (wordOf s last)) ≡ true
+unfolding assigned
+word-fits Idle last = refl
+word-fits Add last = refl
+word-fits Active true = refl
+word-fits Active false = refl
+word-fits Dnu last = refl
+
+own-word : (t : Table) (i : ℕ) → (not (eqb (rowOf (t .slots) (slotsIn t) i .word .0) FIXED) && assigned (rowOf (t .slots) (slotsIn t) i .word)) ≡ true
+unfolding rowOf
+own-word t i = word-fits (stateIn t i) (highest (t .slots) (slotsIn t) (numberIn t i))
+
+row-fits : (t : Table) (i : ℕ) → i < slotsIn t → (not (eqb (rowAt (boardOf t .rows) i .word .0) FIXED) && assigned (rowAt (boardOf t .rows) i .word)) ≡ true
+row-fits t i h = ap (λ (r : Row). not (eqb (r .word .0) FIXED) && assigned (r .word)) (board-row t i h) ∙ own-word t i
+
+-- a number is below 64 or the idle number
+number-fits : (t : Table) → Sound t → (i : ℕ) → i < slotsIn t → numberIn t i < 256
+number-fits t o i h = go (isMember (stateIn t i)) refl
+  where
+    go : (b : Bool) → isMember (stateIn t i) ≡ b → numberIn t i < 256
+    go true e =
+        let l = o .numbered .top i h e in
+        let k = count-le (slotsIn t) (λ j. isMember (stateIn t j)) in
+        let z = size-le (t .count) in
+        omega arith
+    go false e = rw (o .numbered .idles i h e) (idle-fits (t .kind))
+
+-- the fields of a slot's packet fit
+fields-fit : (s : Sender) → Fit s → SoundSender s → (i : ℕ) → i < slotsIn (s .table) → fitting (packetFields s i) ≡ true
+unfolding fitting packetFields
+fields-fit s o w i h =
+    rw (lt-ltb (s .epoch) 256 (o .epoch), lt-ltb (s .mst) 256 (o .mst), lt-ltb (rowAt (s .going .rows) i .number) 256 number, lt-ltb (s .gid) 2 (o .gid), lt-ltb (s .«rs_ack») 2 (o .ack)) word
+  where
+    t : Table
+    t = w .going .source
+
+    below : i < slotsIn t
+    below = rw (w .going .slots) h
+
+    number : rowAt (s .going .rows) i .number < 256
+    number = rw (w .going .is, row-number t i below) (number-fits t (w .going .sound) i below)
+
+    word : (not (eqb (rowAt (s .going .rows) i .word .0) FIXED) && assigned (rowAt (s .going .rows) i .word)) ≡ true
+    word = rw (w .going .is) (row-fits t i below)
+
+all-right : (s : Sender) (i : ℕ) (h4 : List ℕ) → i < slotsIn (s .table) → length h4 ≡ 16 → s .begun ≡ true → fitting (packetFields s i) ≡ true → packetAnswer s i h4 ≡ Done
+unfolding packetAnswer writeAnswer frames
+all-right s i h4 l k b f = rw (lt-ltb i (sizeOf (s .table .count)) l, eq-eqb (length h4) 16 k, f, b)
+
+pub packet-done : (kind count e : ℕ) (cs : List SenderCall) → e < 256 → AllGiven cs → senderAfter kind count e cs .begun ≡ true
+    → (i : ℕ) → i < slotsIn (senderAfter kind count e cs .table) → (h4 : List ℕ) → length h4 ≡ 16 → packetAnswer (senderAfter kind count e cs) i h4 ≡ Done
+packet-done kind count e cs h g b i l h4 k =
+    let s = senderAfter kind count e cs in
+    all-right s i h4 l k b (fields-fit s (fit-run (beginOf kind count e .sender) cs g (fit-fresh kind count e h)) (sender-sound kind count e cs) i l)
