@@ -180,7 +180,7 @@ uint8_t levelspruce_join(uint32_t x, uint32_t p,
  *
  * Answers, the first that fits:
  *   4  count is 0 or above 64; where state_length is right, all of state is
- *      written with an empty group, whose calls answer 1
+ *      written with an empty group, in which every slot is answered 1
  *   9  state_length is wrong
  *   8  first_epoch is above 255
  *   0  all of state is written
