@@ -13,6 +13,20 @@ extern "C" {
     fn levelspruce_join(
         x: u32, p: u32, members: *const u8, members_length: usize, frame: *mut u8, frame_length: usize,
     ) -> u8;
+    fn levelspruce_sender_start(count: u32, first_epoch: u32, state: *mut u8, state_length: usize) -> u8;
+    fn levelspruce_sender_add(state: *mut u8, state_length: usize, slot: u32) -> u8;
+    fn levelspruce_sender_remove(state: *mut u8, state_length: usize, slot: u32) -> u8;
+    fn levelspruce_sender_report(state: *mut u8, state_length: usize, epoch: u32, mst: u32, rs_ack: u32) -> u8;
+    fn levelspruce_sender_lapse(state: *mut u8, state_length: usize) -> u8;
+    fn levelspruce_sender_start_epoch(state: *mut u8, state_length: usize, gid: u32, mst: u32, rs_ack: u32) -> u8;
+    fn levelspruce_sender_packet(state: *const u8, state_length: usize, slot: u32, h4: *mut u8, h4_length: usize) -> u8;
+    fn levelspruce_sender_payload(
+        state: *const u8, state_length: usize, slot: u32, p: u32, frame: *const u8, frame_length: usize, member: *mut u8,
+        member_length: usize,
+    ) -> u8;
+    fn levelspruce_sender_board(state: *const u8, state_length: usize, board: *mut u8, board_length: usize) -> u8;
+    fn levelspruce_sender_board_going(state: *const u8, state_length: usize, board: *mut u8, board_length: usize) -> u8;
+    fn levelspruce_sender_ranks(state: *const u8, state_length: usize, ranks: *mut u8, ranks_length: usize) -> u8;
 }
 
 pub fn packet_write(f: &Fields, h4: &mut [u8]) -> u8 {
@@ -29,4 +43,52 @@ pub fn spread(x: u32, p: u32, frame: &[u8], members: &mut [u8]) -> u8 {
 
 pub fn join(x: u32, p: u32, members: &[u8], frame: &mut [u8]) -> u8 {
     unsafe { levelspruce_join(x, p, members.as_ptr(), members.len(), frame.as_mut_ptr(), frame.len()) }
+}
+
+pub fn sender_start(count: u32, first_epoch: u32, state: &mut [u8]) -> u8 {
+    unsafe { levelspruce_sender_start(count, first_epoch, state.as_mut_ptr(), state.len()) }
+}
+
+pub fn sender_add(state: &mut [u8], slot: u32) -> u8 {
+    unsafe { levelspruce_sender_add(state.as_mut_ptr(), state.len(), slot) }
+}
+
+pub fn sender_remove(state: &mut [u8], slot: u32) -> u8 {
+    unsafe { levelspruce_sender_remove(state.as_mut_ptr(), state.len(), slot) }
+}
+
+pub fn sender_report(state: &mut [u8], epoch: u32, mst: u32, rs_ack: u32) -> u8 {
+    unsafe { levelspruce_sender_report(state.as_mut_ptr(), state.len(), epoch, mst, rs_ack) }
+}
+
+pub fn sender_lapse(state: &mut [u8]) -> u8 {
+    unsafe { levelspruce_sender_lapse(state.as_mut_ptr(), state.len()) }
+}
+
+pub fn sender_start_epoch(state: &mut [u8], gid: u32, mst: u32, rs_ack: u32) -> u8 {
+    unsafe { levelspruce_sender_start_epoch(state.as_mut_ptr(), state.len(), gid, mst, rs_ack) }
+}
+
+pub fn sender_packet(state: &[u8], slot: u32, h4: &mut [u8]) -> u8 {
+    unsafe { levelspruce_sender_packet(state.as_ptr(), state.len(), slot, h4.as_mut_ptr(), h4.len()) }
+}
+
+pub fn sender_payload(state: &[u8], slot: u32, p: u32, frame: &[u8], member: &mut [u8]) -> u8 {
+    unsafe {
+        levelspruce_sender_payload(
+            state.as_ptr(), state.len(), slot, p, frame.as_ptr(), frame.len(), member.as_mut_ptr(), member.len(),
+        )
+    }
+}
+
+pub fn sender_board(state: &[u8], board: &mut [u8]) -> u8 {
+    unsafe { levelspruce_sender_board(state.as_ptr(), state.len(), board.as_mut_ptr(), board.len()) }
+}
+
+pub fn sender_board_going(state: &[u8], board: &mut [u8]) -> u8 {
+    unsafe { levelspruce_sender_board_going(state.as_ptr(), state.len(), board.as_mut_ptr(), board.len()) }
+}
+
+pub fn sender_ranks(state: &[u8], ranks: &mut [u8]) -> u8 {
+    unsafe { levelspruce_sender_ranks(state.as_ptr(), state.len(), ranks.as_mut_ptr(), ranks.len()) }
 }

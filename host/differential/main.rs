@@ -5,10 +5,12 @@ mod count;
 mod packets;
 mod payloads;
 mod random;
+mod senders;
 
 fn main() {
     let mut count = count::Count::default();
     packets::compare(&mut count);
     payloads::compare(&mut count);
+    senders::compare(&mut count);
     std::process::exit(count.tally());
 }

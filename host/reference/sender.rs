@@ -120,3 +120,115 @@ impl Table {
         }
     }
 }
+
+/// A word's code in a packet.
+fn code(word: &str) -> u8 {
+    match word {
+        "ADD" => 1,
+        "NORM" => 2,
+        "EOS" => 3,
+        "IDLE" => 5,
+        _ => 15,
+    }
+}
+
+/// A sender over epochs: what goes out in packets is the table at the epoch's start, and payload goes by what went out
+/// in the epoch before.
+#[derive(Clone, Debug)]
+pub struct Sender {
+    pub table: Table,
+    pub going: Table,
+    pub ruling: Table,
+    pub epoch: u32,
+    pub begun: bool,
+    pub gid: u32,
+    pub mst: u32,
+    pub rs_ack: u32,
+}
+
+impl Sender {
+    pub fn start(count: u32, first_epoch: u32) -> Result<Sender, u8> {
+        let table = Table::start(count)?;
+        let (going, ruling) = (table.clone(), table.clone());
+        Ok(Sender { table, going, ruling, epoch: first_epoch, begun: false, gid: 0, mst: 0, rs_ack: 0 })
+    }
+
+    pub fn start_epoch(&mut self, gid: u32, mst: u32, rs_ack: u32) -> u8 {
+        if gid > 1 || mst > 255 || rs_ack > 1 {
+            return 8;
+        }
+        if self.begun {
+            self.epoch = (self.epoch + 1) % 256;
+        }
+        self.ruling = std::mem::replace(&mut self.going, self.table.clone());
+        self.begun = true;
+        (self.gid, self.mst, self.rs_ack) = (gid, mst, rs_ack);
+        0
+    }
+
+    /// The slots that carry payload in this epoch, in the order of their ranks.
+    pub fn ranked(&self) -> Vec<usize> {
+        let slots = &self.ruling.slots;
+        let mut carry: Vec<usize> = (0..slots.len()).filter(|i| slots[*i].state == State::Active).collect();
+        carry.sort_by_key(|i| slots[*i].number);
+        carry
+    }
+
+    pub fn packet(&self, slot: u32, h4: &mut [u8]) -> u8 {
+        if slot as usize >= self.table.slots.len() {
+            return 1;
+        }
+        if h4.len() != crate::packet::PACKET_BYTES {
+            return 9;
+        }
+        if !self.begun {
+            return 2;
+        }
+        let word = u32::from(code(self.going.word(slot as usize)));
+        let sq = self.going.slots[slot as usize].number;
+        let fields = crate::packet::Fields { epoch: self.epoch, word, gid: self.gid, mst: self.mst, rs_ack: self.rs_ack, sq };
+        crate::packet::write(&fields, h4)
+    }
+
+    pub fn payload(&self, slot: u32, p: u32, frame: &[u8], member: &mut [u8]) -> u8 {
+        let ranked = self.ranked();
+        if slot as usize >= self.table.slots.len() {
+            return 1;
+        }
+        if p < 1 || p > crate::payload::PAYLOAD_MOST {
+            return 4;
+        }
+        if frame.len() != ranked.len() * p as usize || member.len() != p as usize {
+            return 9;
+        }
+        if !self.begun {
+            return 2;
+        }
+        let rank = ranked.iter().position(|i| *i == slot as usize);
+        for (j, byte) in member.iter_mut().enumerate() {
+            *byte = rank.map_or(0, |r| frame[j * ranked.len() + r]);
+        }
+        0
+    }
+
+    /// A board as bytes: count, wait, then word and number of each of 64 slots.
+    pub fn board(table: &Table) -> Vec<u8> {
+        let mut bytes = vec![table.slots.len() as u8, u8::from(table.wait)];
+        for i in 0..SLOTS_MOST as usize {
+            let row = match table.slots.get(i) {
+                None => [5, 255],
+                Some(s) => [code(table.word(i)), s.number as u8],
+            };
+            bytes.extend(row);
+        }
+        bytes
+    }
+
+    /// Count, whether an epoch has started, its number, X, and each slot's rank or 255.
+    pub fn ranks(&self) -> Vec<u8> {
+        let ranked = self.ranked();
+        let mut bytes = vec![self.table.slots.len() as u8, u8::from(self.begun), self.epoch as u8, ranked.len() as u8];
+        bytes.extend((0..SLOTS_MOST as usize).map(|i| ranked.iter().position(|k| *k == i).map_or(255, |r| r as u8)));
+        bytes
+    }
+}

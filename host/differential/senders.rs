@@ -1,0 +1,109 @@
+//! The archive's sender against the reference on long made-up histories: answers, boards, ranks, packets and payload.
+
+use crate::card;
+use crate::count::{Count, Test};
+use crate::random::Random;
+use reference::sender::Sender;
+
+const STATE_BYTES: usize = 397;
+
+pub fn compare(count: &mut Count) {
+    let mut random = Random::new(9);
+    let mut calls = Test::new("histories of the sender's calls");
+    let mut sent = Test::new("what slots send over these histories");
+    for _ in 0..400 {
+        history(&mut random, &mut calls, &mut sent);
+    }
+    calls.end(count, &[0, 1, 2, 3, 8, 9]);
+    sent.end(count, &[0, 1, 2, 4, 9]);
+
+    let mut starts = Test::new("starts of a sender");
+    for count_given in (0..300).chain([65536, 65600, u32::MAX]) {
+        for first in [0, 1, 255, 256, 511, u32::MAX] {
+            for length in [0, STATE_BYTES - 1, STATE_BYTES, STATE_BYTES + 1] {
+                let mut state = vec![0xA5u8; length];
+                let answer = card::sender_start(count_given, first, &mut state);
+                let expected = match Sender::start(count_given, first) {
+                    Err(number) => number,
+                    Ok(_) if length != STATE_BYTES => 9,
+                    Ok(_) if first > 255 => 8,
+                    Ok(_) => 0,
+                };
+                starts.case(expected, &expected, &answer, &(count_given, first, length));
+            }
+        }
+    }
+    starts.end(count, &[4]);
+}
+
+fn any_slot(random: &mut Random, slots: u64) -> u32 {
+    match random.below(12) {
+        0 => random.one_of(&[64, 65, 255, 256, 1 << 16, u32::MAX]),
+        _ => random.below(slots + 1) as u32,
+    }
+}
+
+fn history(random: &mut Random, calls: &mut Test, sent: &mut Test) {
+    let slots = random.one_of(&[1u64, 2, 3, 5, 8, 20, 64]);
+    let first = random.below(256) as u32;
+    let mut state = vec![0u8; STATE_BYTES];
+    let mut sender = Sender::start(slots as u32, first).expect("the count fits");
+    assert_eq!(card::sender_start(slots as u32, first, &mut state), 0);
+    for turn in 0..300 {
+        let before = state.clone();
+        let (expected, answer) = match random.below(20) {
+            0..=5 => {
+                let slot = any_slot(random, slots);
+                (sender.table.add(slot), card::sender_add(&mut state, slot))
+            }
+            6..=7 => {
+                let slot = any_slot(random, slots);
+                (sender.table.remove(slot), card::sender_remove(&mut state, slot))
+            }
+            8..=12 => {
+                let epoch = 32 * random.below(8) as u32 + random.below(1 + slots / 8) as u32;
+                let mst = (random.next() & random.next() & 0xFF) as u32;
+                let ack = random.below(2) as u32;
+                match random.below(20) {
+                    0 => (8, card::sender_report(&mut state, 256, mst, ack)),
+                    1 => (8, card::sender_report(&mut state, epoch, mst + 256, ack)),
+                    2 => (8, card::sender_report(&mut state, epoch, mst, 1 << 8)),
+                    _ => (sender.table.report(epoch, mst, ack == 1), card::sender_report(&mut state, epoch, mst, ack)),
+                }
+            }
+            13..=14 => (sender.table.lapse(), card::sender_lapse(&mut state)),
+            15 => (9, card::sender_lapse(&mut state[..STATE_BYTES - 1])),
+            _ => {
+                let (gid, ack) = (random.below(2) as u32, random.below(2) as u32 + u32::from(random.below(20) == 0));
+                let mst = random.below(256) as u32 + if random.below(20) == 0 { 256 } else { 0 };
+                (sender.start_epoch(gid, mst, ack), card::sender_start_epoch(&mut state, gid, mst, ack))
+            }
+        };
+        let (mut board, mut going, mut ranks) = (vec![0u8; 130], vec![0u8; 130], vec![0u8; 68]);
+        let read = (card::sender_board(&state, &mut board), card::sender_board_going(&state, &mut going), card::sender_ranks(&state, &mut ranks));
+        let untouched = expected == 0 || state == before;
+        let wanted = (expected, (0, 0, 0), Sender::board(&sender.table), Sender::board(&sender.going), sender.ranks(), true);
+        calls.case(expected, &wanted, &(answer, read, board, going, ranks, untouched), &(slots, turn));
+        sends(random, sent, &sender, &state, slots);
+    }
+}
+
+fn sends(random: &mut Random, sent: &mut Test, sender: &Sender, state: &[u8], slots: u64) {
+    let slot = any_slot(random, slots);
+    let length = random.one_of(&[16, 16, 16, 15, 17, 0]);
+    let mut by_reference = vec![0x5A; length];
+    let mut by_card = by_reference.clone();
+    let expected = sender.packet(slot, &mut by_reference);
+    let answer = card::sender_packet(state, slot, &mut by_card);
+    sent.case(expected, &(expected, by_reference), &(answer, by_card), &("packet", slot, length));
+
+    let p = random.one_of(&[1, 2, 3, 8, 0, 2341]);
+    let right = sender.ranked().len() * p as usize;
+    let mut frame = vec![0u8; right + usize::from(random.below(10) == 0)];
+    random.fill(&mut frame);
+    let mut by_reference = vec![0x5A; p as usize + usize::from(random.below(10) == 0)];
+    let mut by_card = by_reference.clone();
+    let expected = sender.payload(slot, p, &frame, &mut by_reference);
+    let answer = card::sender_payload(state, slot, p, &frame, &mut by_card);
+    sent.case(expected, &(expected, by_reference), &(answer, by_card), &("payload", slot, p));
+}
