@@ -8,7 +8,8 @@
  * - A refusal changes no byte of any buffer; only levelspruce_sender_start
  *   says otherwise.
  * - Numbers pass as uint32_t, so a number that is too large is refused by its
- *   answer and never cut down to one that fits.
+ *   answer and never cut down to one that fits (but of rs_ack in
+ *   levelspruce_sender_report the lowest bit counts).
  * - A buffer is a pointer and its length in bytes, and the whole length must
  *   be the caller's to use. NULL with length 0 is an empty buffer.
  * - The buffers of one call must not overlap.
@@ -165,7 +166,9 @@ uint8_t levelspruce_join(uint32_t x, uint32_t p,
  * that the host lends to each call and keeps between calls. Begin with
  * levelspruce_sender_start. The state may be copied, stored and lent from
  * another place; what its bytes mean is the library's own affair. Any bytes
- * are coped with: a state that no call wrote is answered like any other.
+ * are coped with: a state that does not come from levelspruce_sender_start is
+ * answered like any other, and no call reads or writes outside its buffers;
+ * what boards, ranks and payload then show need not agree.
  *
  * A state_length other than LEVELSPRUCE_SENDER_BYTES is answered 9 before all
  * else (but 4 at starting).
@@ -223,9 +226,10 @@ uint8_t levelspruce_sender_remove(uint8_t *state, size_t state_length,
  *   mst      the eight MST bits, first bit highest; 0 is OK, 1 is FAIL
  *   rs_ack   0 or 1; of a larger number up to 255 the lowest bit counts
  *
- * With a wait open, an rs_ack other than the remembered one closes it and
- * mst is ignored. With none open, mst is acted on, and a wait opens if a slot
- * that was ADD became active.
+ * With a wait open mst is ignored, and an rs_ack other than the remembered one
+ * (0 at first) is remembered and closes the wait. With none open rs_ack is
+ * remembered, mst is acted on, and a wait opens if a slot that was ADD became
+ * active.
  *
  * Answers, the first that fits:
  *   9  state_length is wrong
@@ -274,7 +278,8 @@ uint8_t levelspruce_sender_start_epoch(uint8_t *state, size_t state_length,
  *   1  slot is not below the group's count
  *   9  h4_length is not 16
  *   2  no epoch has started
- *   8  only with a state that no call wrote: what it keeps makes no packet
+ *   8  only with a state that does not come from levelspruce_sender_start:
+ *      what it keeps makes no packet
  *   0  all sixteen bytes are written
  */
 uint8_t levelspruce_sender_packet(const uint8_t *state, size_t state_length,
@@ -304,8 +309,8 @@ uint8_t levelspruce_sender_payload(const uint8_t *state, size_t state_length,
 
 /*
  * Reads the board whole: the count, 1 for an open wait or 0, and the word and
- * number of each slot, all of one table, as it stands now. Past the count
- * slots are shown IDLE.
+ * number of each slot, all of one table, as it stands now. The count is at
+ * most 64. Past the count slots are shown IDLE.
  *
  *   board   LEVELSPRUCE_BOARD_BYTES bytes, by the LEVELSPRUCE_BOARD_ places
  *

@@ -300,6 +300,7 @@ static int copes(const uint8_t *junk)
                 held = held && done(RANKS, 0, 0, 0);
                 answer = say(which, number, 5 + (which == EPOCH), which == PAYLOAD ? out.now[GUARD + LEVELSPRUCE_RANKS_X] : number & 1);
                 held = held && answer >= 0 && (answers[which] >> answer & 1);
+                held = held && (which < BOARD || out.now[GUARD] <= LEVELSPRUCE_SLOTS_MOST); /* the count comes first */
             }
     return held;
 }
@@ -322,6 +323,8 @@ static void junk_states(void)
     check("a state of one byte value throughout is coped with", even);
     check("states of any bytes are coped with", mixed);
     check("states of small bytes are coped with", small);
+    memset(state.now + GUARD, 0xFF, STATE);
+    check("a state whose GID is no bit makes no packet", say(PACKET, 0, 0, 0) == LEVELSPRUCE_ANSWER_FIELD);
 }
 
 int main(void)

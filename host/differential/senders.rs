@@ -18,22 +18,48 @@ pub fn compare(count: &mut Count) {
     sent.end(count, &[0, 1, 2, 4, 9]);
 
     let mut starts = Test::new("starts of a sender");
-    for count_given in (0..300).chain([65536, 65600, u32::MAX]) {
-        for first in [0, 1, 255, 256, 511, u32::MAX] {
-            for length in [0, STATE_BYTES - 1, STATE_BYTES, STATE_BYTES + 1] {
-                let mut state = vec![0xA5u8; length];
-                let answer = card::sender_start(count_given, first, &mut state);
-                let expected = match Sender::start(count_given, first) {
-                    Err(number) => number,
-                    Ok(_) if length != STATE_BYTES => 9,
-                    Ok(_) if first > 255 => 8,
-                    Ok(_) => 0,
-                };
-                starts.case(expected, &expected, &answer, &(count_given, first, length));
+    for given in (0..300).chain([65536, 65600, u32::MAX]) {
+        for first in [0, 1, 7, 42, 128, 254, 255, 256, 511, u32::MAX] {
+            for length in [0, STATE_BYTES - 1, STATE_BYTES, STATE_BYTES, STATE_BYTES + 1] {
+                start(&mut starts, given, first, length);
             }
         }
     }
     starts.end(count, &[4]);
+}
+
+/// One start: its answer, and what stands in the state afterwards, by its boards and ranks.
+fn start(starts: &mut Test, given: u32, first: u32, length: usize) {
+    let mut state = vec![0xA5u8; length];
+    let answer = card::sender_start(given, first, &mut state);
+    let (expected, sender) = match Sender::start(given, first) {
+        Err(number) => (number, Some(Sender::empty())),
+        Ok(_) if length != STATE_BYTES => (9, None),
+        Ok(_) if first > 255 => (8, None),
+        Ok(sender) => (0, Some(sender)),
+    };
+    let shown = |state: &[u8]| {
+        let (mut board, mut going, mut ranks) = (vec![0u8; 130], vec![0u8; 130], vec![0u8; 68]);
+        card::sender_board(state, &mut board);
+        card::sender_board_going(state, &mut going);
+        card::sender_ranks(state, &mut ranks);
+        vec![board, going, ranks]
+    };
+    match sender {
+        Some(s) if length == STATE_BYTES => {
+            let wanted = vec![Sender::board(&s.table), Sender::board(&s.going), s.ranks()];
+            starts.case(expected, &(expected, wanted), &(answer, shown(&state)), &(given, first, length));
+        }
+        _ => starts.case(expected, &(expected, vec![vec![0xA5u8; length]]), &(answer, vec![state]), &(given, first, length)),
+    }
+}
+
+/// 0 or 1, and now and then a number that is no bit.
+fn bit(random: &mut Random) -> u32 {
+    match random.below(30) {
+        0 => random.one_of(&[2, 3, 255, 256, u32::MAX]),
+        _ => random.below(2) as u32,
+    }
 }
 
 fn any_slot(random: &mut Random, slots: u64) -> u32 {
@@ -63,18 +89,18 @@ fn history(random: &mut Random, calls: &mut Test, sent: &mut Test) {
             8..=12 => {
                 let epoch = 32 * random.below(8) as u32 + random.below(1 + slots / 8) as u32;
                 let mst = (random.next() & random.next() & 0xFF) as u32;
-                let ack = random.below(2) as u32;
+                let ack = random.one_of(&[0, 1, 0, 1, 0, 1, 2, 3, 254, 255]);
                 match random.below(20) {
                     0 => (8, card::sender_report(&mut state, 256, mst, ack)),
                     1 => (8, card::sender_report(&mut state, epoch, mst + 256, ack)),
                     2 => (8, card::sender_report(&mut state, epoch, mst, 1 << 8)),
-                    _ => (sender.table.report(epoch, mst, ack == 1), card::sender_report(&mut state, epoch, mst, ack)),
+                    _ => (sender.table.report(epoch, mst, ack % 2 == 1), card::sender_report(&mut state, epoch, mst, ack)),
                 }
             }
             13..=14 => (sender.table.lapse(), card::sender_lapse(&mut state)),
             15 => (9, card::sender_lapse(&mut state[..STATE_BYTES - 1])),
             _ => {
-                let (gid, ack) = (random.below(2) as u32, random.below(2) as u32 + u32::from(random.below(20) == 0));
+                let (gid, ack) = (bit(random), bit(random));
                 let mst = random.below(256) as u32 + if random.below(20) == 0 { 256 } else { 0 };
                 (sender.start_epoch(gid, mst, ack), card::sender_start_epoch(&mut state, gid, mst, ack))
             }

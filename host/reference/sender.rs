@@ -153,6 +153,12 @@ impl Sender {
         Ok(Sender { table, going, ruling, epoch: first_epoch, begun: false, gid: 0, mst: 0, rs_ack: 0 })
     }
 
+    /// What a refused start leaves: no slots.
+    pub fn empty() -> Sender {
+        let none = Table::default();
+        Sender { table: none.clone(), going: none.clone(), ruling: none, epoch: 0, begun: false, gid: 0, mst: 0, rs_ack: 0 }
+    }
+
     pub fn start_epoch(&mut self, gid: u32, mst: u32, rs_ack: u32) -> u8 {
         if gid > 1 || mst > 255 || rs_ack > 1 {
             return 8;

@@ -9,12 +9,13 @@ use Rattle.sender.specs.Board.{boardOf}
 use Rattle.sender.specs.declared.board.Board.{Board}
 use Rattle.sender.specs.declared.ranks.Ranks.{Ranks}
 use Rattle.sender.specs.Epochs.{ranksOf}
+use Rattle.sender.specs.Table.{sizeOf}
 use Rattle.card.specs.Keeping.{flagByte, rowsByte, senderOf}
 use Rattle.card.specs.Senders.{isState}
 
--- the count and the wait, then each slot's word and number
+-- the count, at most 64, and the wait, then each slot's word and number
 unfoldable pub boardByte : Board → ℕ → ℕ
-boardByte b k = cond (ltb k 2) (getD (b .count ∷ flagByte (b .wait) ∷ []) k 0) (rowsByte (b .rows) (k - 2))
+boardByte b k = cond (ltb k 2) (getD (sizeOf (b .count) ∷ flagByte (b .wait) ∷ []) k 0) (rowsByte (b .rows) (k - 2))
 
 unfoldable pub boardBytesOf : Board → List ℕ
 boardBytesOf b = tabulate 130 (boardByte b)

@@ -5,14 +5,23 @@ use sender::Ranks;
 use sender::Sender;
 ghost use mathlib.Core.Path.{_≡_};
 ghost use lib.ListN.{length};
+ghost use Rattle.sender.specs.Table.{sizeOf};
 ghost use Rattle.card.specs.Boards.{boardBytesC, boardBytesOf, goingBytesC, ranksBytesC, ranksBytesOf, shownAnswerC};
+
+// A count above 64 stands only in a state that does not come from a start: nobody is to read past the board by it.
+fn shown_count(count: u8) -> u8
+    ensures { λ r. ⌜ r ≡ sizeOf count ⌝ }
+{
+    if count < 64 { count } else { 64 }
+}
 
 fn put_board(board: Board, out: &mut [u8])
     requires { ⌜ length (now out) ≡ 130 ⌝ }
     ensures { λ r. ⌜ now (out .exit) ≡ boardBytesOf board ⌝ }
 {
     let wait = keeping::flag_byte(board.wait);
-    let head = [board.count, wait];
+    let count = shown_count(board.count);
+    let head = [count, wait];
     let rows = board.rows;
     keeping::put_bytes(&head, 0, out);
     keeping::put_rows(rows, 2, out);

@@ -25,6 +25,7 @@ use Rattle.sender.specs.Steps.{Call, stepOf}
 use Rattle.sender.specs.Steps.Call.{AddSlot, RemoveSlot, Report, Lapse}
 use Rattle.sender.specs.Table.{answerNumber, isMember, sizeOf, slotAt}
 use Rattle.sender.specs.Theorems.Demand2.{sound-demand2}
+use Rattle.sender.specs.Theorems.Epochs.{Demand2Kept, demand2-kept}
 use Rattle.card.specs.Keeping.{bytesOf, byteAt, senderOf}
 use Rattle.card.specs.Senders.{areThree, isState, keptBytes, outside, startAnswerC, startStateC, stepStateC}
 use Rattle.card.specs.Theorems.Round.{Whole, round}
@@ -173,3 +174,7 @@ module _ (count first : ℕ) (state : List ℕ) (cs : List SenderCall) (done : s
   pub runs-demand2 : Demand2 (senderOf (runC (startStateC count first state) cs) .table)
   runs-demand2 =
       rw runs-own (sound-demand2 (senderRun (beginOf 0 count first .sender) (meant cs) .table) (held-run (beginOf 0 count first .sender) (meant cs) (held-begin count first) .table))
+
+  -- and of both tables that an epoch's start keeps
+  pub runs-demand2-kept : Demand2Kept (senderOf (runC (startStateC count first state) cs))
+  runs-demand2-kept = rw runs-own (demand2-kept 0 count first (meant cs))

@@ -17,11 +17,11 @@ use Rattle.paper.specs.Entries.{Entry, Copes, keepsState}
 use Rattle.payload.specs.Answers.{answerBy, sized, underDone}
 use Rattle.payload.specs.Order.{memberFrame}
 use Rattle.sender.specs.Board.{boardOf}
-use Rattle.sender.specs.Commands.{addOf, addedTo, answered, inOrder, lapseOf, removeOf, removedFrom, withSlots}
+use Rattle.sender.specs.Commands.{addOf, addedTo, answered, freshOf, inOrder, lapseOf, removeOf, removedFrom, startOf, withSlots}
 use Rattle.sender.specs.declared.epochs.SenderStep.{SenderStep}
-use Rattle.sender.specs.declared.table.Answer.the-variants.{Done, Field, Length, NoSlot, NotAllowed}
+use Rattle.sender.specs.declared.table.Answer.the-variants.{Done, Field, Length, NoSlot, NotAllowed, OutOfRange}
 use Rattle.sender.specs.declared.table.Table.{Table}
-use Rattle.sender.specs.Epochs.{beginOf, packetAnswer, packetBytes, packetFields, payloadAnswer, payloadBytes, rankIn, ranksOf, startEpochOf, startedSender, xOf}
+use Rattle.sender.specs.Epochs.{beginOf, freshSender, packetAnswer, packetBytes, packetFields, payloadAnswer, payloadBytes, rankIn, ranksOf, startEpochOf, startedSender, xOf}
 use Rattle.sender.specs.Epochs.SenderCall.{OnTable, StartEpoch}
 use Rattle.sender.specs.Outcomes.{spreadEarly, spreadTold, written}
 use Rattle.sender.specs.Reports.{reportOf}
@@ -51,7 +51,7 @@ startC =
       State = List ℕ;
       given = λ i. i .state;
       returned = λ i. startStateC (i .count) (i .first) (i .state);
-      empty = λ i. cond (isState (i .state)) (bytesOf (beginOf 0 (i .count) 0 .sender)) (i .state);
+      empty = λ i. cond (isState (i .state)) (bytesOf (freshSender (freshOf 0 0) 0)) (i .state);
     }
 
 starts-in-order : (o l f : Bool) → _≡_ {A = ℕ} (cond o 4 (cond l (cond f 8 0) 9)) (cond o 4 (cond (not l) 9 (cond f 8 0)))
@@ -65,20 +65,22 @@ starts-as-given false false f none new s k = refl
 starts-as-given false true true none new s k = refl
 starts-as-given false true false none new s k = absurd (false≢true k)
 
-starts-emptied : (o l f : Bool) (none new s : List ℕ) → _≡_ {A = ℕ} (cond o 4 (cond l (cond f 8 0) 9)) 4 → cond l (cond o none (cond f s new)) s ≡ cond l none s
-starts-emptied true l f none new s e = refl
-starts-emptied false true true none new s e = absurd (omega arith)
-starts-emptied false true false none new s e = absurd (omega arith)
-starts-emptied false false f none new s e = absurd (omega arith)
+starts-emptied : (o l f : Bool) (some : Table) (new s : List ℕ) → _≡_ {A = ℕ} (cond o 4 (cond l (cond f 8 0) 9)) 4
+    → cond l (cond o (bytesOf (freshSender (cond o (answered (freshOf 0 0) OutOfRange) (answered some Done) .table) 0)) (cond f s new)) s
+    ≡ cond l (bytesOf (freshSender (freshOf 0 0) 0)) s
+starts-emptied true l f some new s e = refl
+starts-emptied false true true some new s e = absurd (omega arith)
+starts-emptied false true false some new s e = absurd (omega arith)
+starts-emptied false false f some new s e = absurd (omega arith)
 
 pub startC-copes : Copes startC
-unfolding startAnswerC startStateC
+unfolding startAnswerC startStateC beginOf startOf
 startC-copes =
     record {
       in-order = λ i. starts-in-order (outside (i .count)) (isState (i .state)) (ltb 255 (i .first));
       untouched = λ i d. refl;
       as-given = λ i k. starts-as-given (outside (i .count)) (isState (i .state)) (ltb 255 (i .first)) _ _ (i .state) k;
-      emptied = λ i e. starts-emptied (outside (i .count)) (isState (i .state)) (ltb 255 (i .first)) _ _ (i .state) e;
+      emptied = λ i e. starts-emptied (outside (i .count)) (isState (i .state)) (ltb 255 (i .first)) (freshOf 0 (i .count)) _ (i .state) e;
     }
 
 -- The commands: 9, 8 where numbers do not fit, then the call's own refusals, which are a list of numbers and conditions here as in the sender's rows.
