@@ -29,7 +29,8 @@ fn program(words: &[String], input: &[u8]) -> Vec<u8> {
 /// The sessions of the file: a comment names one, lines after '< ' go in and lines after '> ' come out.
 fn given(text: &str) -> Vec<(String, String, String)> {
     let mut sessions: Vec<(String, String, String)> = Vec::new();
-    for line in text.lines() {
+    for line in text.split('\n') {
+        // not text.lines(), which would take a carriage return for part of a line's end
         if let Some(name) = line.strip_prefix("# ") {
             sessions.push((name.to_string(), String::new(), String::new()));
         } else if let Some(session) = sessions.last_mut() {
