@@ -1,0 +1,5 @@
+pub mod Rows
+pub mod Group
+pub mod Step
+pub mod Member
+pub mod Packets

@@ -1,0 +1,17 @@
+-- The rows of a port's two packets, the one being gathered and the one that rules, and of its marks.
+use mathlib.Core.List.{List, [], _∷_}
+use Prim.Native.Nat.{ℕ, _+_, _*_}
+use lib.ListN.{getD}
+use Rattle.rows.specs.Rows.{rowIn, putRow}
+
+unfoldable pub packetsAt : List (List ℕ) → ℕ → List (List ℕ)
+packetsAt s i = rowIn s (i * 5 + 3) ∷ rowIn s (i * 5 + 4) ∷ []
+
+unfoldable pub putPackets : List (List ℕ) → ℕ → List (List ℕ) → List (List ℕ)
+putPackets s i pair = putRow (putRow s (i * 5 + 3) (getD pair 0 [])) (i * 5 + 4) (getD pair 1 [])
+
+unfoldable pub marksAt : List (List ℕ) → ℕ → List ℕ
+marksAt s i = rowIn s (i * 5 + 5)
+
+unfoldable pub putMarks : List (List ℕ) → ℕ → List ℕ → List (List ℕ)
+putMarks s i row = putRow s (i * 5 + 5) row

@@ -1,0 +1,20 @@
+-- The receiver's state as rows of sixteen bytes. Row 0 is the group's; port i has the five rows from 5 i + 1 on.
+use mathlib.Core.List.{List}
+use Prim.Native.Nat.{ℕ, _+_, _*_}
+use lib.ListN.{getD, replicate, set}
+
+-- a row that is not there reads as zeros
+unfoldable pub rowIn : List (List ℕ) → ℕ → List ℕ
+rowIn s k = getD s k (replicate 16 0)
+
+-- and what is put there is dropped
+unfoldable pub putRow : List (List ℕ) → ℕ → List ℕ → List (List ℕ)
+putRow s k row = set s k row
+
+-- how many rows a group of n ports has
+abbrev pub rowsFor : ℕ → ℕ
+rowsFor n = n * 5 + 1
+
+-- two bytes of a row as one number, the first one higher
+abbrev pub pairIn : List ℕ → ℕ → ℕ
+pairIn row k = getD row k 0 * 256 + getD row (k + 1) 0

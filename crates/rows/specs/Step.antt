@@ -1,0 +1,52 @@
+-- The row of a port's step.
+use mathlib.Core.List.{List, [], _∷_}
+use Prim.Native.Nat.{ℕ, _+_, _*_, _/_, _%_}
+use lib.ListN.{getD}
+use Rattle.rows.specs.declared.step.Step.{Step}
+use Rattle.rows.specs.Rows.{rowIn, putRow}
+
+unfoldable pub stepOf : List ℕ → Step
+stepOf row =
+    record {
+      had = getD row 0 0;
+      failed = getD row 1 0;
+      count = getD row 2 0;
+      next = getD row 3 0 * 256 + getD row 4 0;
+      joined = getD row 5 0;
+      since = getD row 6 0;
+      later = getD row 7 0;
+      whole = getD row 8 0;
+      «spare_9» = getD row 9 0;
+      «spare_10» = getD row 10 0;
+      «spare_11» = getD row 11 0;
+      «spare_12» = getD row 12 0;
+      «spare_13» = getD row 13 0;
+      «spare_14» = getD row 14 0;
+      «spare_15» = getD row 15 0;
+    }
+
+unfoldable pub stepRow : Step → List ℕ
+stepRow s =
+    (s .had)
+    ∷ (s .failed)
+    ∷ (s .count)
+    ∷ (s .next / 256)
+    ∷ (s .next % 256)
+    ∷ (s .joined)
+    ∷ (s .since)
+    ∷ (s .later)
+    ∷ (s .whole)
+    ∷ (s .«spare_9»)
+    ∷ (s .«spare_10»)
+    ∷ (s .«spare_11»)
+    ∷ (s .«spare_12»)
+    ∷ (s .«spare_13»)
+    ∷ (s .«spare_14»)
+    ∷ (s .«spare_15»)
+    ∷ []
+
+unfoldable pub stepAt : List (List ℕ) → ℕ → Step
+stepAt s i = stepOf (rowIn s (i * 5 + 1))
+
+unfoldable pub putStep : List (List ℕ) → ℕ → Step → List (List ℕ)
+putStep s i q = putRow s (i * 5 + 1) (stepRow q)

@@ -1,0 +1,110 @@
+// The group's row.
+ghost use mathlib.Core.Path.{_≡_};
+ghost use Rattle.rows.specs.Group.{groupAt, groupOf, groupRow, putGroup};
+ghost use Rattle.rows.specs.Rows.{rowIn, putRow, rowsFor};
+
+pub struct Group {
+    // the kind of packet
+    pub kind: u8,
+    // how many ports
+    pub count: u8,
+    // P
+    pub payload: u16,
+    // W
+    pub window: u16,
+    // 0 until receiving has begun
+    pub begun: u8,
+    // 0 until the first epoch is gathered
+    pub gathered: u8,
+    // the oldest epoch not yet reported or gathered
+    pub oldest: u8,
+    // the place of the window's first frame
+    pub origin: u16,
+    pub rs_ack: u8,
+    pub spare_12: u8,
+    pub spare_13: u8,
+    pub spare_14: u8,
+    pub spare_15: u8,
+}
+
+pub(crate) fn row_in(state: &[[u8; 16]], at: usize) -> [u8; 16]
+    ensures { λ r. ⌜ r ≡ rowIn (now (state .entry)) at ⌝ }
+{
+    if at < state.len() {
+        state[at]
+    } else {
+        [0; 16]
+    }
+}
+
+pub(crate) fn put_row(state: &mut [[u8; 16]], at: usize, row: [u8; 16])
+    ensures { λ _. ⌜ now (state .exit) ≡ putRow (now (state .entry)) at row ⌝ }
+{
+    if at < state.len() {
+        state[at] = row;
+    }
+}
+
+fn group_of(row: [u8; 16]) -> Group
+    ensures { λ r. ⌜ r ≡ groupOf row ⌝ }
+{
+    Group {
+        kind: row[0],
+        count: row[1],
+        payload: row[2] as u16 * 256 + row[3] as u16,
+        window: row[4] as u16 * 256 + row[5] as u16,
+        begun: row[6],
+        gathered: row[7],
+        oldest: row[8],
+        origin: row[9] as u16 * 256 + row[10] as u16,
+        rs_ack: row[11],
+        spare_12: row[12],
+        spare_13: row[13],
+        spare_14: row[14],
+        spare_15: row[15],
+    }
+}
+
+fn group_row(g: Group) -> [u8; 16]
+    ensures { λ r. ⌜ r ≡ groupRow g ⌝ }
+{
+    [
+        g.kind,
+        g.count,
+        (g.payload / 256) as u8,
+        (g.payload % 256) as u8,
+        (g.window / 256) as u8,
+        (g.window % 256) as u8,
+        g.begun,
+        g.gathered,
+        g.oldest,
+        (g.origin / 256) as u8,
+        (g.origin % 256) as u8,
+        g.rs_ack,
+        g.spare_12,
+        g.spare_13,
+        g.spare_14,
+        g.spare_15,
+    ]
+}
+
+pub fn get(state: &[[u8; 16]]) -> Group
+    ensures { λ r. ⌜ r ≡ groupAt (now (state .entry)) ⌝ }
+{
+    let row = row_in(state, 0);
+    group_of(row)
+}
+
+pub fn put(state: &mut [[u8; 16]], group: Group)
+    ensures { λ _. ⌜ now (state .exit) ≡ putGroup (now (state .entry)) group ⌝ }
+{
+    let row = group_row(group);
+    put_row(state, 0, row);
+}
+
+// How many rows a group of so many ports has.
+pub fn rows_for(count: u8) -> usize
+    ensures { λ r. ⌜ r ≡ rowsFor count ⌝ }
+{
+    count as usize * 5 + 1
+}

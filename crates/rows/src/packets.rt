@@ -1,0 +1,33 @@
+// The rows of a port's two packets, the one being gathered and the one that rules, and of its marks.
+use crate::group;
+ghost use mathlib.Core.Path.{_≡_};
+ghost use Rattle.rows.specs.Packets.{packetsAt, putPackets, marksAt, putMarks};
+
+pub fn get(state: &[[u8; 16]], port: u8) -> [[u8; 16]; 2]
+    ensures { λ r. ⌜ r ≡ packetsAt (now (state .entry)) port ⌝ }
+{
+    let gathering = group::row_in(state, port as usize * 5 + 3);
+    let ruling = group::row_in(state, port as usize * 5 + 4);
+    [gathering, ruling]
+}
+
+pub fn put(state: &mut [[u8; 16]], port: u8, packets: [[u8; 16]; 2])
+    ensures { λ _. ⌜ now (state .exit) ≡ putPackets (now (state .entry)) port packets ⌝ }
+{
+    let gathering = packets[0];
+    let ruling = packets[1];
+    group::put_row(state, port as usize * 5 + 3, gathering);
+    group::put_row(state, port as usize * 5 + 4, ruling);
+}
+
+pub fn marks(state: &[[u8; 16]], port: u8) -> [u8; 16]
+    ensures { λ r. ⌜ r ≡ marksAt (now (state .entry)) port ⌝ }
+{
+    group::row_in(state, port as usize * 5 + 5)
+}
+
+pub fn put_marks(state: &mut [[u8; 16]], port: u8, row: [u8; 16])
+    ensures { λ _. ⌜ now (state .exit) ≡ putMarks (now (state .entry)) port row ⌝ }
+{
+    group::put_row(state, port as usize * 5 + 5, row);
+}

@@ -1,0 +1,88 @@
+// The row of a port's step.
+use crate::group;
+ghost use mathlib.Core.Path.{_≡_};
+ghost use Rattle.rows.specs.Step.{stepAt, stepOf, stepRow, putStep};
+
+pub struct Step {
+    // 0 until the port has had a frame
+    pub had: u8,
+    // not 0 where its latest frame came flagged
+    pub failed: u8,
+    // the frames counted rightly in a row, as far as the step rule asks
+    pub count: u8,
+    // the tag that the next frame should have
+    pub next: u16,
+    pub joined: u8,
+    // not 0 where the port was in step at the beginning, and ever since
+    pub since: u8,
+    // the epochs from the oldest to the one joined at
+    pub later: u8,
+    // not 0 where the ruling packet arrived whole
+    pub whole: u8,
+    pub spare_9: u8,
+    pub spare_10: u8,
+    pub spare_11: u8,
+    pub spare_12: u8,
+    pub spare_13: u8,
+    pub spare_14: u8,
+    pub spare_15: u8,
+}
+
+fn step_of(row: [u8; 16]) -> Step
+    ensures { λ r. ⌜ r ≡ stepOf row ⌝ }
+{
+    Step {
+        had: row[0],
+        failed: row[1],
+        count: row[2],
+        next: row[3] as u16 * 256 + row[4] as u16,
+        joined: row[5],
+        since: row[6],
+        later: row[7],
+        whole: row[8],
+        spare_9: row[9],
+        spare_10: row[10],
+        spare_11: row[11],
+        spare_12: row[12],
+        spare_13: row[13],
+        spare_14: row[14],
+        spare_15: row[15],
+    }
+}
+
+fn step_row(s: Step) -> [u8; 16]
+    ensures { λ r. ⌜ r ≡ stepRow s ⌝ }
+{
+    [
+        s.had,
+        s.failed,
+        s.count,
+        (s.next / 256) as u8,
+        (s.next % 256) as u8,
+        s.joined,
+        s.since,
+        s.later,
+        s.whole,
+        s.spare_9,
+        s.spare_10,
+        s.spare_11,
+        s.spare_12,
+        s.spare_13,
+        s.spare_14,
+        s.spare_15,
+    ]
+}
+
+pub fn get(state: &[[u8; 16]], port: u8) -> Step
+    ensures { λ r. ⌜ r ≡ stepAt (now (state .entry)) port ⌝ }
+{
+    let row = group::row_in(state, port as usize * 5 + 1);
+    step_of(row)
+}
+
+pub fn put(state: &mut [[u8; 16]], port: u8, step: Step)
+    ensures { λ _. ⌜ now (state .exit) ≡ putStep (now (state .entry)) port step ⌝ }
+{
+    let row = step_row(step);
+    group::put_row(state, port as usize * 5 + 1, row);
+}
