@@ -28,6 +28,9 @@ epochAfter kind e = (e + 1) % epochs kind
 unfoldable pub tagAfter : ℕ → ℕ → ℕ
 tagAfter kind t = (t + 1) % tags kind
 
+unfoldable pub tagBefore : ℕ → ℕ → ℕ
+tagBefore kind t = (t + (tags kind - 1)) % tags kind
+
 -- how many frames the tag a lies after the tag b
 unfoldable pub distanceOf : ℕ → ℕ → ℕ → ℕ
 distanceOf kind a b = after (tags kind) a b

@@ -1,3 +1,4 @@
+pub mod Counts
 pub mod Crc
 pub mod Kinds
 pub mod Laws

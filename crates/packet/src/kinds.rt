@@ -1,6 +1,6 @@
 // What goes by the kind of packet: epochs, tags and MST (01, 'The control packet'). There is one kind, H4; any other byte counts as it.
 ghost use mathlib.Core.Path.{_≡_};
-ghost use Rattle.packet.specs.Kinds.{frames, epochAfter, tagAfter, distanceOf, placeOf, startsEpoch, epochOf, firstTag, mstFirst, mstNumbers, mstFails, idleNumber};
+ghost use Rattle.packet.specs.Kinds.{frames, epochAfter, tagAfter, tagBefore, tags, distanceOf, placeOf, startsEpoch, epochOf, firstTag, mstFirst, mstNumbers, mstFails, idleNumber};
 
 pub const H4: u8 = 0;
 
@@ -21,6 +21,18 @@ pub fn next_tag(kind: u8, tag: u16) -> u16
     ensures { λ r. ⌜ r ≡ tagAfter kind tag ⌝ }
 {
     (tag % 4096 + 1) % 4096
+}
+
+pub fn tag_count(kind: u8) -> u16
+    ensures { λ r. ⌜ r ≡ tags kind ⌝ }
+{
+    4096
+}
+
+pub fn previous_tag(kind: u8, tag: u16) -> u16
+    ensures { λ r. ⌜ r ≡ tagBefore kind tag ⌝ }
+{
+    (tag % 4096 + 4095) % 4096
 }
 
 // How many frames the tag `to` lies after the tag `from`.

@@ -1,4 +1,5 @@
 // The H4 control packet of virtual concatenation with LCAS (01, 'The control packet'): control words, epochs and tags, the packet written and read.
+pub mod counts;
 mod crc;
 pub mod kinds;
 mod layout;

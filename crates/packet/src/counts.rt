@@ -1,0 +1,56 @@
+// What one H4 byte says (01, 'The control packet'): its count, and the packet's nibble that it carries.
+ghost use mathlib.Core.Path.{_≡_};
+ghost use Rattle.packet.specs.Counts.{nibbleIn, nibblePlace, startsCount, afterFirst, goesSecond, afterSecond, counts};
+
+pub fn nibble_in(kind: u8, h4: u8) -> u8
+    ensures { λ r. ⌜ r ≡ nibbleIn kind h4 ⌝ }
+{
+    h4 / 16
+}
+
+// The place of that nibble in the packet.
+pub fn nibble_place(kind: u8, h4: u8) -> u8
+    ensures { λ r. ⌜ r ≡ nibblePlace kind h4 ⌝ }
+{
+    (h4 % 16 + 8) % 16
+}
+
+// Whether a multiframe starts with this frame.
+pub fn starts_count(kind: u8, h4: u8) -> bool
+    ensures { λ r. ⌜ r ≡ startsCount kind h4 ⌝ }
+{
+    h4 % 16 == 0
+}
+
+// The tag after such a frame, as far as it tells.
+pub fn after_first(kind: u8, h4: u8) -> u16
+    ensures { λ r. ⌜ r ≡ afterFirst kind h4 ⌝ }
+{
+    (h4 / 16 % 16) as u16 * 256 + 1
+}
+
+pub fn goes_second(kind: u8, h4: u8) -> bool
+    ensures { λ r. ⌜ r ≡ goesSecond kind h4 ⌝ }
+{
+    h4 % 16 == 1
+}
+
+// The tag after a second frame: `tag` is what the first one told.
+pub fn after_second(kind: u8, tag: u16, h4: u8) -> u16
+    ensures { λ r. ⌜ r ≡ afterSecond kind tag h4 ⌝ }
+{
+    tag / 256 % 16 * 256 + (h4 / 16 % 16) as u16 * 16 + 2
+}
+
+// Whether a frame counts as the tag says.
+pub fn is_counted(kind: u8, tag: u16, h4: u8) -> bool
+    ensures { λ r. ⌜ r ≡ counts kind tag h4 ⌝ }
+{
+    let count = (tag % 16) as u8;
+    let high = (tag / 256 % 16) as u8;
+    let low = (tag / 16 % 16) as u8;
+    let nibble = h4 / 16;
+    (h4 % 16 == count)
+        & (!(count == 0) | (nibble == high))
+        & (!(count == 1) | (nibble == low))
+}
