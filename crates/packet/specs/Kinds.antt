@@ -45,6 +45,13 @@ startsEpoch kind t = eqb (placeOf kind t) 0
 unfoldable pub epochOf : ℕ → ℕ → ℕ
 epochOf kind t = (t + lead kind) % tags kind / frames kind
 
+-- Of a frame by how far it lies after an epoch's first: how many epochs later it is, and whether it is the last one of its epoch.
+unfoldable pub epochsIn : ℕ → ℕ → ℕ
+epochsIn kind d = d / frames kind % epochs kind
+
+unfoldable pub endsEpoch : ℕ → ℕ → Bool
+endsEpoch kind d = eqb (d % frames kind) (frames kind - 1)
+
 -- the tag with which an epoch starts
 unfoldable pub firstTag : ℕ → ℕ → ℕ
 firstTag kind e = (e * frames kind + (tags kind - lead kind)) % tags kind

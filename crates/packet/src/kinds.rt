@@ -1,6 +1,6 @@
 // What goes by the kind of packet: epochs, tags and MST (01, 'The control packet'). There is one kind, H4; any other byte counts as it.
 ghost use mathlib.Core.Path.{_≡_};
-ghost use Rattle.packet.specs.Kinds.{frames, epochAfter, tagAfter, tagBefore, tags, distanceOf, placeOf, startsEpoch, epochOf, firstTag, mstFirst, mstNumbers, mstFails, idleNumber};
+ghost use Rattle.packet.specs.Kinds.{frames, epochAfter, tagAfter, tagBefore, tags, distanceOf, placeOf, startsEpoch, epochOf, epochsIn, endsEpoch, firstTag, mstFirst, mstNumbers, mstFails, idleNumber};
 
 pub const H4: u8 = 0;
 
@@ -59,6 +59,20 @@ pub fn epoch_of(kind: u8, tag: u16) -> u8
     ensures { λ r. ⌜ r ≡ epochOf kind tag ⌝ }
 {
     ((tag % 4096 + 8) % 4096 / 16) as u8
+}
+
+// How many epochs later than an epoch's first frame a frame is that lies so far after it.
+pub fn epochs_in(kind: u8, distance: u16) -> u8
+    ensures { λ r. ⌜ r ≡ epochsIn kind distance ⌝ }
+{
+    (distance / 16 % 256) as u8
+}
+
+// Whether it is the last frame of its epoch.
+pub fn ends_epoch(kind: u8, distance: u16) -> bool
+    ensures { λ r. ⌜ r ≡ endsEpoch kind distance ⌝ }
+{
+    distance % 16 == 15
 }
 
 // The tag with which an epoch starts.

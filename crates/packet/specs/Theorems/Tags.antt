@@ -2,12 +2,14 @@
 use mathlib.Core.Path.{_≡_, refl}
 use Prim.Native.Nat.{ℕ, _+_, _-_, _*_, _/_, _%_, _≤_, _<_}
 use native.Mathlib.Omega.{arith}
+use mathlib.Core.Bool.{true}
 use mathlib.Core.List.{List}
+use borrow.Author.Tests.{eq-eqb}
 use lib.ListN.{getD}
 use Rattle.ground.specs.Circle.{after-of, after-lt}
 use Rattle.ground.specs.Table.{getD-tabulate}
 use Rattle.packet.specs.Layout.{h4Of}
-use Rattle.packet.specs.Kinds.{distanceOf, epochAfter, epochOf, epochs, firstTag, frames, idleNumber, lead, mstFirst, mstNumbers, placeOf, tagAfter, tags}
+use Rattle.packet.specs.Kinds.{distanceOf, epochAfter, endsEpoch, epochOf, epochs, epochsIn, firstTag, frames, idleNumber, lead, mstFirst, mstNumbers, placeOf, tagAfter, tags}
 
 -- the tag of the x-th frame after one with tag 0
 abbrev pub tagOf : ℕ → ℕ → ℕ
@@ -72,3 +74,12 @@ idle-fits kind = omega arith
 pub epoch-fits : (kind e : ℕ) → epochAfter kind e < 256
 unfolding epochAfter epochs
 epoch-fits kind e = omega arith
+
+-- a distance is below a round, so it holds no more epochs than there are
+pub epochs-in : (kind d : ℕ) → d < tags kind → epochsIn kind d ≡ d / frames kind
+unfolding epochsIn tags frames epochs
+epochs-in kind d h = omega arith
+
+pub ends-epoch : (kind i : ℕ) → endsEpoch kind (i * frames kind + (frames kind - 1)) ≡ true
+unfolding endsEpoch frames
+ends-epoch kind i = eq-eqb ((i * 16 + 15) % 16) 15 (omega arith)

@@ -1,0 +1,118 @@
+-- What one frame of a port does (01, 'Step', 'Beginning', 'Window'), decided on the group's and the port's records.
+use mathlib.Core.Bool.{Bool, true, false, cond, not, _&&_, _||_}
+use Prim.Native.Nat.{ℕ, _+_, _-_, _*_, _/_, _%_}
+use lib.Dec.{eqb, ltb}
+use Rattle.packet.specs.Kinds.{distanceOf, firstTag, frames, startsEpoch}
+use Rattle.rows.specs.declared.group.Group.{Group}
+use Rattle.rows.specs.declared.step.Step.{Step}
+use Rattle.step.specs.declared.arrival.Taken.{Taken}
+use Rattle.step.specs.declared.run.Run.{Run}
+use Rattle.step.specs.Run.{inStepAt, runOn}
+
+-- a flag byte other than 0 counts as set
+abbrev pub flagOf : ℕ → Bool
+flagOf byte = not (eqb byte 0)
+
+abbrev pub runOf : Step → Run
+runOf s = record { count = s .count; next = s .next }
+
+unfoldable pub inStep : Group → Step → Bool
+inStep g s = inStepAt (g .kind) (s .count)
+
+-- 'It is readable while in step, if joined or in step ever since the beginning.'
+unfoldable pub readable : Group → Step → Bool
+readable g s = flagOf (g .begun) && inStep g s && (flagOf (s .joined) || flagOf (s .since))
+
+-- how far a tag lies after the first frame of the oldest epoch not yet reported or gathered
+unfoldable pub distanceIn : Group → ℕ → ℕ
+distanceIn g tag = distanceOf (g .kind) tag (firstTag (g .kind) (g .oldest))
+
+-- The step record afterwards. 'losing step undoes' joining; what was stored and what rules stay.
+
+abbrev pub stepTo : Step → ℕ → Run → ℕ → ℕ → ℕ → Step
+stepTo s failed run joined since later =
+    record {
+      had = 1;
+      failed = failed;
+      count = run .count;
+      next = run .next;
+      joined = joined;
+      since = since;
+      later = later;
+      whole = s .whole;
+      «spare_9» = s .«spare_9»;
+      «spare_10» = s .«spare_10»;
+      «spare_11» = s .«spare_11»;
+      «spare_12» = s .«spare_12»;
+      «spare_13» = s .«spare_13»;
+      «spare_14» = s .«spare_14»;
+      «spare_15» = s .«spare_15»;
+    }
+
+abbrev pub lost : Step → ℕ → Run → Step
+lost s failed run = stepTo s failed run 0 0 0
+
+abbrev pub advanced : Step → Run → Step
+advanced s run = stepTo s 0 run (s .joined) (s .since) (s .later)
+
+abbrev pub joinedAt : Step → Run → ℕ → Step
+joinedAt s run later = stepTo s 0 run 1 (s .since) later
+
+-- Stopping, beginning and gathering can follow only before the beginning, where a port that was in step no longer is, and where the last frame of the epoch that is gathered comes.
+abbrev pub settlesAt : Group → Step → Step → Bool
+settlesAt g before now = not (flagOf (g .begun)) || inStep g before && not (inStep g now)
+
+-- '10: signal-fail flag set on the frame: port recorded unreadable, its step lost'
+unfoldable pub flagged : Group → Step → Taken
+flagged g s =
+    let now = lost s 1 (record { count = 0; next = 0 }) in
+    record { step = now; answer = 10; counted = false; kept = false; at = 0; joins = false; settles = settlesAt g s now }
+
+-- '12: port not in step after this frame: step record advanced, frame not stored'
+unfoldable pub countsOn : Group → Step → Run → Taken
+countsOn g s run =
+    let now = lost s 0 run in
+    record { step = now; answer = 12; counted = not (eqb (run .count) 0); kept = false; at = 0; joins = false; settles = settlesAt g s now }
+
+-- 'A frame in step of a port that has not joined is answered 0 and dropped.'
+unfoldable pub aside : Group → Step → Run → Taken
+aside g s run = record { step = advanced s run; answer = 0; counted = true; kept = false; at = 0; joins = false; settles = not (flagOf (g .begun)) }
+
+-- '11: frame in step, but outside the window: state as given'
+unfoldable pub outside : Step → Taken
+outside s = record { step = s; answer = 11; counted = false; kept = false; at = 0; joins = false; settles = false }
+
+-- a frame of a joined port, d after the window's first
+unfoldable pub keeps : Group → Step → Run → ℕ → Taken
+keeps g s run d =
+    record {
+      step = advanced s run;
+      answer = 0;
+      counted = true;
+      kept = true;
+      at = d;
+      joins = false;
+      settles = not (flagOf (g .gathered)) && eqb (d + 1) (frames (g .kind));
+    }
+
+-- 'A port joins at its first epoch start in the window.'
+unfoldable pub joining : Group → Step → Run → ℕ → Taken
+joining g s run d =
+    record { step = joinedAt s run (d / frames (g .kind)); answer = 0; counted = true; kept = true; at = d; joins = true; settles = false }
+
+-- 'A frame lies in the window when its tag is 0 to W-1 after the first frame of the oldest epoch'; '11 goes only to a joined port'
+unfoldable pub arrives : Group → Step → Run → Taken
+arrives g s run =
+    let d = distanceIn g (s .next) in
+    cond (flagOf (g .begun))
+    (cond (flagOf (s .joined))
+    (cond (ltb d (g .window)) (keeps g s run d) (outside s))
+    (cond (startsEpoch (g .kind) (s .next) && ltb d (g .window)) (joining g s run d) (aside g s run)))
+    (aside g s run)
+
+-- 'For frames: .. 10, 12, 11.' The H4 byte of a flagged frame is not looked at.
+unfoldable pub takenOf : Group → Step → Bool → ℕ → Taken
+takenOf g s flag h =
+    cond flag (flagged g s)
+    (let run = runOn (g .kind) (runOf s) h in
+    cond (inStepAt (g .kind) (run .count)) (arrives g s run) (countsOn g s run))

@@ -1,0 +1,8 @@
+// One frame of one port (01, 'The receiver'): the step rule, and what the frame does by the window and joining. All on numbers; nothing is stored here.
+mod arrival;
+mod run;
+
+pub use arrival::Taken;
+pub use arrival::in_step;
+pub use arrival::is_readable;
+pub use arrival::taken;
