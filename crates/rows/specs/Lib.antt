@@ -3,3 +3,4 @@ pub mod Group
 pub mod Step
 pub mod Member
 pub mod Packets
+pub mod Laws

@@ -1,5 +1,6 @@
 // The group's row.
 ghost use mathlib.Core.Path.{_≡_};
+ghost use Prim.Native.Nat.{_+_, _*_};
 ghost use Rattle.rows.specs.Group.{groupAt, groupOf, groupRow, putGroup};
 ghost use Rattle.rows.specs.Rows.{rowIn, putRow, rowsFor};
 
@@ -30,11 +31,7 @@ pub struct Group {
 pub(crate) fn row_in(state: &[[u8; 16]], at: usize) -> [u8; 16]
     ensures { λ r. ⌜ r ≡ rowIn (now (state .entry)) at ⌝ }
 {
-    if at < state.len() {
-        state[at]
-    } else {
-        [0; 16]
-    }
+    if at < state.len() { state[at] } else { [0; 16] }
 }
 
 pub(crate) fn put_row(state: &mut [[u8; 16]], at: usize, row: [u8; 16])
@@ -45,18 +42,25 @@ pub(crate) fn put_row(state: &mut [[u8; 16]], at: usize, row: [u8; 16])
     }
 }
 
+// Two bytes of a row as one number, the first one higher.
+pub(crate) fn pair(high: u8, low: u8) -> u16
+    ensures { λ r. ⌜ r ≡ high * 256 + low ⌝ }
+{
+    high as u16 * 256 + low as u16
+}
+
 fn group_of(row: [u8; 16]) -> Group
     ensures { λ r. ⌜ r ≡ groupOf row ⌝ }
 {
     Group {
         kind: row[0],
         count: row[1],
-        payload: row[2] as u16 * 256 + row[3] as u16,
-        window: row[4] as u16 * 256 + row[5] as u16,
+        payload: pair(row[2], row[3]),
+        window: pair(row[4], row[5]),
         begun: row[6],
         gathered: row[7],
         oldest: row[8],
-        origin: row[9] as u16 * 256 + row[10] as u16,
+        origin: pair(row[9], row[10]),
         rs_ack: row[11],
         spare_12: row[12],
         spare_13: row[13],

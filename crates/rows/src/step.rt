@@ -35,7 +35,7 @@ fn step_of(row: [u8; 16]) -> Step
         had: row[0],
         failed: row[1],
         count: row[2],
-        next: row[3] as u16 * 256 + row[4] as u16,
+        next: group::pair(row[3], row[4]),
         joined: row[5],
         since: row[6],
         later: row[7],

@@ -1,0 +1,2 @@
+-- Laws on the rows, for the proofs above them.
+pub mod Rows
