@@ -1,8 +1,8 @@
 -- What one frame of a port does (01, 'Step', 'Beginning', 'Window'), decided on the group's and the port's records.
 use mathlib.Core.Bool.{Bool, true, false, cond, not, _&&_, _||_}
-use Prim.Native.Nat.{ℕ, _+_, _-_, _*_, _/_, _%_}
+use Prim.Native.Nat.{ℕ}
 use lib.Dec.{eqb, ltb}
-use Rattle.packet.specs.Kinds.{distanceOf, firstTag, frames, startsEpoch}
+use Rattle.packet.specs.Kinds.{distanceOf, endsEpoch, epochsIn, firstTag, startsEpoch}
 use Rattle.rows.specs.declared.group.Group.{Group}
 use Rattle.rows.specs.declared.step.Step.{Step}
 use Rattle.step.specs.declared.arrival.Taken.{Taken}
@@ -92,23 +92,26 @@ keeps g s run d =
       kept = true;
       at = d;
       joins = false;
-      settles = not (flagOf (g .gathered)) && eqb (d + 1) (frames (g .kind));
+      settles = not (flagOf (g .gathered)) && endsEpoch (g .kind) d && eqb (epochsIn (g .kind) d) 0;
     }
 
 -- 'A port joins at its first epoch start in the window.'
 unfoldable pub joining : Group → Step → Run → ℕ → Taken
 joining g s run d =
-    record { step = joinedAt s run (d / frames (g .kind)); answer = 0; counted = true; kept = true; at = d; joins = true; settles = false }
+    record { step = joinedAt s run (epochsIn (g .kind) d); answer = 0; counted = true; kept = true; at = d; joins = true; settles = false }
 
 -- 'A frame lies in the window when its tag is 0 to W-1 after the first frame of the oldest epoch'; '11 goes only to a joined port'
+unfoldable pub byWindow : Group → Step → Run → ℕ → Taken
+byWindow g s run d = cond (ltb d (g .window)) (keeps g s run d) (outside s)
+
+unfoldable pub byStart : Group → Step → Run → ℕ → Taken
+byStart g s run d = cond (startsEpoch (g .kind) (s .next) && ltb d (g .window)) (joining g s run d) (aside g s run)
+
+-- a frame in step, with the tag that was to come next
 unfoldable pub arrives : Group → Step → Run → Taken
 arrives g s run =
-    let d = distanceIn g (s .next) in
-    cond (flagOf (g .begun))
-    (cond (flagOf (s .joined))
-    (cond (ltb d (g .window)) (keeps g s run d) (outside s))
-    (cond (startsEpoch (g .kind) (s .next) && ltb d (g .window)) (joining g s run d) (aside g s run)))
-    (aside g s run)
+    cond (not (flagOf (g .begun))) (aside g s run)
+    (cond (flagOf (s .joined)) (byWindow g s run (distanceIn g (s .next))) (byStart g s run (distanceIn g (s .next))))
 
 -- 'For frames: .. 10, 12, 11.' The H4 byte of a flagged frame is not looked at.
 unfoldable pub takenOf : Group → Step → Bool → ℕ → Taken

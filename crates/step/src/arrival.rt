@@ -5,8 +5,7 @@ use packet::kinds;
 use rows::Group;
 use rows::Step;
 ghost use mathlib.Core.Path.{_≡_};
-ghost use mathlib.Core.Bool.{Bool, cond};
-ghost use Rattle.step.specs.Arrival.{advanced, arrives, aside, countsOn, distanceIn, flagged, flagOf, inStep, joins, keeps, lost, outside, readable, settles, takenOf, unjoined};
+ghost use Rattle.step.specs.Arrival.{arrives, aside, byStart, byWindow, countsOn, distanceIn, flagged, flagOf, inStep, joining, keeps, outside, readable, settlesAt, stepTo, takenOf};
 
 pub struct Taken {
     // the port's step afterwards
@@ -142,19 +141,13 @@ fn outside(step: Step) -> Taken
     }
 }
 
-fn ends_first(kind: u8, at: u16) -> bool
-    ensures { λ r. ⌜ r ≡ eqb (at + 1) (frames kind) ⌝ }
-{
-    let frames = kinds::epoch_frames(kind);
-    at as u32 + 1 == frames as u32
-}
-
 fn keeps(group: Group, step: Step, run: Run, at: u16) -> Taken
     ensures { λ r. ⌜ r ≡ keeps group step run at ⌝ }
 {
     let now = step_to(step, 0, run, step.joined, step.since, step.later);
-    let first = ends_first(group.kind, at);
-    let settles = !is_set(group.gathered) & first;
+    let ends = kinds::ends_epoch(group.kind, at);
+    let epoch = kinds::epochs_in(group.kind, at);
+    let settles = !is_set(group.gathered) & ends & (epoch == 0);
     Taken {
         step: now,
         answer: 0,
@@ -164,4 +157,72 @@ fn keeps(group: Group, step: Step, run: Run, at: u16) -> Taken
         joins: false,
         settles,
     }
+}
+
+fn joining(group: Group, step: Step, run: Run, at: u16) -> Taken
+    ensures { λ r. ⌜ r ≡ joining group step run at ⌝ }
+{
+    let later = kinds::epochs_in(group.kind, at);
+    let now = step_to(step, 0, run, 1, step.since, later);
+    Taken {
+        step: now,
+        answer: 0,
+        counted: true,
+        kept: true,
+        at,
+        joins: true,
+        settles: false,
+    }
+}
+
+// A frame in step of a joined port.
+fn by_window(group: Group, step: Step, run: Run, at: u16) -> Taken
+    ensures { λ r. ⌜ r ≡ byWindow group step run at ⌝ }
+{
+    if at < group.window {
+        return keeps(group, step, run, at);
+    }
+    outside(step)
+}
+
+// A frame in step of a port that has not joined.
+fn by_start(group: Group, step: Step, run: Run, at: u16) -> Taken
+    ensures { λ r. ⌜ r ≡ byStart group step run at ⌝ }
+{
+    let starts = kinds::starts_epoch(group.kind, step.next);
+    if starts & (at < group.window) {
+        return joining(group, step, run, at);
+    }
+    aside(group, step, run)
+}
+
+fn arrives(group: Group, step: Step, run: Run) -> Taken
+    ensures { λ r. ⌜ r ≡ arrives group step run ⌝ }
+{
+    if !is_set(group.begun) {
+        return aside(group, step, run);
+    }
+    let at = distance_in(group, step.next);
+    if is_set(step.joined) {
+        return by_window(group, step, run, at);
+    }
+    by_start(group, step, run, at)
+}
+
+// What a frame does: flagged, or with its H4 byte.
+pub fn decide(group: Group, step: Step, failed: bool, h4: u8) -> Taken
+    ensures { λ r. ⌜ r ≡ takenOf group step failed h4 ⌝ }
+{
+    if failed {
+        return flagged(group, step);
+    }
+    let before = Run {
+        count: step.count,
+        next: step.next,
+    };
+    let run = run::run_on(group.kind, before, h4);
+    if run::is_step(group.kind, run.count) {
+        return arrives(group, step, run);
+    }
+    counts_on(group, step, run)
 }

@@ -5,4 +5,4 @@ mod run;
 pub use arrival::Taken;
 pub use arrival::in_step;
 pub use arrival::is_readable;
-pub use arrival::taken;
+pub use arrival::decide;
