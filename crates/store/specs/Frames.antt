@@ -1,0 +1,33 @@
+-- Frames in the lent store (01, 'Numbers that bound the work': 'exactly ports x W x (P+1) bytes, a frame's payload and its H4').
+use mathlib.Core.Bool.{cond}
+use mathlib.Core.List.{List}
+use Prim.Native.Nat.{ℕ, _+_, _*_, _%_}
+use lib.Dec.{eqb, ltb}
+use lib.ListN.{length, getD}
+use Rattle.ground.specs.Drawn.{fillAt}
+use Rattle.ground.specs.Table.{tabulate}
+use Rattle.packet.specs.Counts.{nibbleIn}
+use Rattle.rows.specs.declared.group.Group.{Group}
+
+-- a port's W places go round; the window's first frame stands at the origin
+unfoldable pub ringOf : ℕ → ℕ → ℕ → ℕ
+ringOf origin d W = cond (eqb W 0) 0 ((origin + d) % W)
+
+-- where the frame of a port stands that lies d after the window's first
+unfoldable pub placeIn : Group → ℕ → ℕ → ℕ
+placeIn g port d = (port * g .window + ringOf (g .origin) d (g .window)) * (g .payload + 1)
+
+-- a frame's payload, then its H4, from a place on; one that would pass the end is dropped
+unfoldable pub storedAt : List ℕ → ℕ → List ℕ → ℕ → List ℕ
+storedAt s place payload h = cond (ltb (place + length payload) (length s)) (fillAt place (length payload + 1) (λ j. getD payload j h) s) s
+
+unfoldable pub byteAt : List ℕ → ℕ → ℕ
+byteAt s place = getD s place 0
+
+-- the H4 byte of the frame that lies d after the window's first
+unfoldable pub h4At : Group → ℕ → ℕ → List ℕ → ℕ
+h4At g port d s = byteAt s (placeIn g port d + g .payload)
+
+-- the packet that came with the sixteen frames of the oldest epoch
+unfoldable pub packetIn : Group → ℕ → List ℕ → List ℕ
+packetIn g port s = tabulate 16 (λ k. nibbleIn (g .kind) (h4At g port k s))

@@ -1,0 +1,70 @@
+// Frames in the lent store: each has its payload, then its H4 byte.
+use packet::counts;
+use rows::Group;
+ghost use mathlib.Core.Path.{_≡_};
+ghost use Prim.Native.Nat.{_+_, _≤_};
+ghost use lib.ListN.{length, getD};
+ghost use Rattle.ground.specs.Drawn.{fillAt};
+ghost use Rattle.store.specs.Frames.{byteAt, packetIn, placeIn, ringOf, storedAt};
+
+fn ring(origin: u16, at: u16, window: u16) -> usize
+    ensures { λ r. ⌜ r ≡ ringOf origin at window ⌝ }
+{
+    if window == 0 {
+        return 0;
+    }
+    (origin as usize + at as usize) % window as usize
+}
+
+// Where a port's frame stands that lies so far after the window's first.
+pub fn place(group: Group, port: u8, at: u16) -> usize
+    ensures { λ r. ⌜ r ≡ placeIn group port at ⌝ }
+{
+    let turn = ring(group.origin, at, group.window);
+    (port as usize * group.window as usize + turn) * (group.payload as usize + 1)
+}
+
+fn copy(store: &mut [u8], place: usize, payload: &[u8])
+    requires { ⌜ place + length (now payload) ≤ length (now store) ⌝ }
+    ensures { λ _. ⌜ now (store .exit) ≡ fillAt place (length (now (payload .entry))) (λ j. getD (now (payload .entry)) j 0) (now (store .entry)) ⌝ }
+{
+    let mut j = 0;
+    while j < payload.len() {
+        store[place + j] = payload[j];
+        j += 1;
+    }
+}
+
+// A frame into the store, from a place on. One that would pass the end is dropped.
+pub fn put(store: &mut [u8], place: usize, payload: &[u8], h4: u8)
+    ensures { λ _. ⌜ now (store .exit) ≡ storedAt (now (store .entry)) place (now (payload .entry)) h4 ⌝ }
+{
+    let n = payload.len();
+    if n < store.len() {
+        if place < store.len() - n {
+            copy(store, place, payload);
+            store[place + n] = h4;
+        }
+    }
+}
+
+fn byte_at(store: &[u8], place: usize) -> u8
+    ensures { λ r. ⌜ r ≡ byteAt (now (store .entry)) place ⌝ }
+{
+    if place < store.len() { store[place] } else { 0 }
+}
+
+// The packet that came with the sixteen frames of the oldest epoch, out of their H4 bytes.
+pub fn packet_in(group: Group, port: u8, store: &[u8]) -> [u8; 16]
+    ensures { λ r. ⌜ r ≡ packetIn group port (now (store .entry)) ⌝ }
+{
+    let mut nibbles = [0; 16];
+    let mut k = 0;
+    while k < 16 {
+        let at = place(group, port, k);
+        let h4 = byte_at(store, at + group.payload as usize);
+        nibbles[k as usize] = counts::nibble_in(group.kind, h4);
+        k += 1;
+    }
+    nibbles
+}
