@@ -1,0 +1,37 @@
+-- What is seen of a port (01, 'Report of an epoch'): all is judged on whole ruling packets.
+use mathlib.Core.Bool.{Bool, false, cond, not, _&&_, _||_}
+use mathlib.Core.List.{List}
+use Prim.Native.Nat.{ℕ}
+use lib.Dec.{eqb, ltb}
+use lib.ListN.{getD}
+use Rattle.packet.specs.Words.{NORM, EOS, IDLE, DNU}
+use Rattle.judge.specs.declared.seen.Seen.{Seen}
+
+-- 'A group has 1 to 64 .. ports.'
+abbrev pub sizeOf : ℕ → ℕ
+sizeOf count = cond (ltb count 64) count 64
+
+abbrev pub seenAt : List Seen → ℕ → Seen
+seenAt ports i = getD ports i (record { whole = false; good = false; word = 0; number = 0; gid = 0; here = false })
+
+-- 'a ruling packet that arrived whole was refused with 5, 6 or 7'
+abbrev pub refusedSeen : Seen → Bool
+refusedSeen p = p .whole && not (p .good)
+
+-- Of good packets: active members send NORM or EOS.
+
+abbrev pub activeSeen : Seen → Bool
+activeSeen p = p .whole && p .good && (eqb (p .word) NORM || eqb (p .word) EOS)
+
+abbrev pub numberedSeen : Seen → Bool
+numberedSeen p = p .whole && p .good && (eqb (p .word) NORM || eqb (p .word) EOS || eqb (p .word) DNU)
+
+abbrev pub eosSeen : Seen → Bool
+eosSeen p = p .whole && p .good && eqb (p .word) EOS
+
+abbrev pub unidleSeen : Seen → Bool
+unidleSeen p = p .whole && p .good && not (eqb (p .word) IDLE)
+
+-- 'a port ruled active lacks a frame'
+abbrev pub lackingSeen : Seen → Bool
+lackingSeen p = activeSeen p && not (p .here)

@@ -1,0 +1,9 @@
+// An epoch judged (01, 'Report of an epoch'): held, doubtful or sure, from the packets that rule it; and the order of its payload.
+mod order;
+mod seen;
+mod verdict;
+
+pub use order::Order;
+pub use order::order;
+pub use seen::Seen;
+pub use verdict::judge;
