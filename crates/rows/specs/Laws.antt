@@ -8,3 +8,4 @@ pub mod Step
 pub mod Member
 pub mod Packets
 pub mod Marks
+pub mod Port
