@@ -9,3 +9,4 @@ pub mod Member
 pub mod Packets
 pub mod Marks
 pub mod Port
+pub mod Same
