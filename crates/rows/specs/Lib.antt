@@ -3,4 +3,5 @@ pub mod Group
 pub mod Step
 pub mod Member
 pub mod Packets
+pub mod Port
 pub mod Laws

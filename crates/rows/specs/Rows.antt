@@ -1,7 +1,8 @@
 -- The receiver's state as rows of sixteen bytes. Row 0 is the group's; port i has the five rows from 5 i + 1 on.
+use mathlib.Core.Path.{_≡_}
 use mathlib.Core.List.{List}
-use Prim.Native.Nat.{ℕ, _+_, _*_}
-use lib.ListN.{getD, replicate, set}
+use Prim.Native.Nat.{ℕ, _+_, _*_, _<_}
+use lib.ListN.{length, getD, replicate, set}
 
 -- a row that is not there reads as zeros
 unfoldable pub rowIn : List (List ℕ) → ℕ → List ℕ
@@ -18,3 +19,8 @@ rowsFor n = n * 5 + 1
 -- two bytes of a row as one number, the first one higher
 abbrev pub pairIn : List ℕ → ℕ → ℕ
 pairIn row k = getD row k 0 * 256 + getD row (k + 1) 0
+
+-- rows of sixteen bytes, as a host lends them
+pub record Shaped (s : List (List ℕ)) : Type 0 where
+  pub whole : (k : ℕ) → k < length s → length (rowIn s k) ≡ 16
+  pub bytes : (k j : ℕ) → k < length s → j < 16 → getD (rowIn s k) j 0 < 256
