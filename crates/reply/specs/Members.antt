@@ -1,0 +1,42 @@
+-- A port as its member state is worked out (01, 'Member states and reply').
+use mathlib.Core.Bool.{Bool, false, cond, not, _&&_, _||_}
+use mathlib.Core.List.{List}
+use Prim.Native.Nat.{ℕ}
+use lib.Dec.{eqb, ltb}
+use lib.ListN.{getD}
+use Rattle.packet.specs.Words.{IDLE}
+use Rattle.reply.specs.declared.members.Port.{Port}
+
+-- 'A group has 1 to 64 .. ports.'
+abbrev pub sizeOf : ℕ → ℕ
+sizeOf count = cond (ltb count 64) count 64
+
+-- the word of a port with no good packet yet
+abbrev pub NO_WORD : ℕ
+NO_WORD = 255
+
+-- member states
+abbrev pub STATE_IDLE : ℕ
+STATE_IDLE = 0
+
+abbrev pub STATE_FAIL : ℕ
+STATE_FAIL = 1
+
+abbrev pub STATE_OK : ℕ
+STATE_OK = 2
+
+abbrev pub portAt : List Port → ℕ → Port
+portAt ports i =
+    getD ports i (record { word = 0; number = 0; state = 0; «state_number» = 0; «told_word» = 0; «told_number» = 0; readable = false })
+
+-- 'A port with no good packet yet, or whose last good word is IDLE, is IDLE.'
+abbrev pub isIdle : Port → Bool
+isIdle p = eqb (p .word) NO_WORD || eqb (p .word) IDLE
+
+-- 'Others are candidates when readable with a number below 64.'
+abbrev pub isCandidate : Port → Bool
+isCandidate p = not (isIdle p) && p .readable && ltb (p .number) 64
+
+-- 'were OK under the same number'
+abbrev pub wasOk : Port → Bool
+wasOk p = eqb (p .state) STATE_OK && eqb (p .«state_number») (p .number)

@@ -1,0 +1,54 @@
+-- What is told to the far end: MST and RS-Ack (01, 'Member states and reply').
+use mathlib.Core.Bool.{Bool, cond, not, _&&_, _||_, Bool·beq}
+use mathlib.Core.List.{List}
+use Prim.Native.Nat.{ℕ, _+_, _*_}
+use lib.Dec.{eqb}
+use Rattle.counting.specs.Words.{some}
+use Rattle.packet.specs.Kinds.{mstFirst}
+use Rattle.packet.specs.Words.{ADD, DNU, EOS, IDLE, NORM}
+use Rattle.reply.specs.declared.members.Port.{Port}
+use Rattle.reply.specs.Members.{STATE_OK, portAt}
+
+-- an OK port holds q
+unfoldable pub okHolds : List Port → ℕ → ℕ → Bool
+okHolds ports n q = some n (λ i. eqb (portAt ports i .state) STATE_OK && eqb (portAt ports i .«state_number») q)
+
+-- 'MST for q is 0 exactly if an OK port holds q.'
+abbrev pub failBit : List Port → ℕ → ℕ → ℕ
+failBit ports n q = cond (okHolds ports n q) 0 1
+
+-- eight numbers, 'first bit the lowest' (01, 'The control packet')
+unfoldable pub mstFrom : List Port → ℕ → ℕ → ℕ
+mstFrom ports n q =
+    failBit ports n q * 128
+    + failBit ports n (q + 1) * 64
+    + failBit ports n (q + 2) * 32
+    + failBit ports n (q + 3) * 16
+    + failBit ports n (q + 4) * 8
+    + failBit ports n (q + 5) * 4
+    + failBit ports n (q + 6) * 2
+    + failBit ports n (q + 7)
+
+unfoldable pub mstOf : ℕ → List Port → ℕ → ℕ → ℕ
+mstOf kind ports n e = mstFrom ports n (mstFirst kind e)
+
+-- 'the list of active and DNU ports'
+abbrev pub isListed : ℕ → Bool
+isListed word = eqb word NORM || eqb word EOS || eqb word DNU
+
+-- 'with their numbers changes'
+abbrev pub hasChanged : Port → Bool
+hasChanged p =
+    not (Bool·beq (isListed (p .word)) (isListed (p .«told_word»)))
+    || isListed (p .word) && not (eqb (p .number) (p .«told_number»))
+
+-- 'an ADD port becomes IDLE'
+abbrev pub hasLeft : Port → Bool
+hasLeft p = eqb (p .«told_word») ADD && eqb (p .word) IDLE
+
+unfoldable pub turns : List Port → ℕ → Bool
+turns ports n = some n (λ i. hasChanged (portAt ports i) || hasLeft (portAt ports i))
+
+-- 'RS-Ack, 0 at first, turns over'
+unfoldable pub ackOf : List Port → ℕ → ℕ → ℕ
+ackOf ports n bit = cond (turns ports n) (cond (eqb bit 0) 1 0) bit
