@@ -1,0 +1,42 @@
+-- When receiving begins (01, 'Beginning'). That this is 01's sentence is proved in Theorems/Arc.
+use mathlib.Core.Bool.{Bool, cond, not, _&&_, _||_}
+use mathlib.Core.List.{List}
+use Prim.Native.Nat.{ℕ, zero, suc, _+_, _/_}
+use lib.Dec.{eqb, leb, ltb}
+use Rattle.counting.specs.Words.{every}
+use Rattle.packet.specs.Kinds.{distanceOf, frames, tagBefore, tags}
+use Rattle.rows.specs.declared.group.Group.{Group}
+use Rattle.rows.specs.declared.step.Step.{Step}
+use Rattle.rows.specs.Step.{stepAt}
+use Rattle.step.specs.Arrival.{flagOf, inStep}
+
+-- 'every port has had a frame and is in step or flagged failed'
+unfoldable pub ready : Group → Step → Bool
+ready g step = flagOf (step .had) && (inStep g step || flagOf (step .failed))
+
+-- the latest tag of a port in step
+unfoldable pub latest : Group → Step → ℕ
+latest g step = tagBefore (g .kind) (step .next)
+
+-- no port in step so far
+unfoldable pub noTag : Group → ℕ
+noTag g = tags (g .kind)
+
+-- the foremost of the latest tags: a tag takes the place of one that it follows within half a round
+unfoldable pub further : Group → ℕ → Step → ℕ
+further g fore step =
+    cond (inStep g step && (eqb fore (noTag g) || ltb (distanceOf (g .kind) (latest g step) fore) (tags (g .kind) / 2))) (latest g step) fore
+
+unfoldable pub foremost : Group → List (List ℕ) → ℕ → ℕ
+foremost g s zero = noTag g
+foremost g s (suc n) = further g (foremost g s n) (stepAt s n)
+
+-- 'the latest tags of those in step lie within an arc of W-15 tags': none more than W - 16 behind the foremost
+unfoldable pub within : Group → ℕ → Step → Bool
+within g fore step = not (inStep g step) || leb (distanceOf (g .kind) fore (latest g step) + frames (g .kind)) (g .window)
+
+unfoldable pub begins : Group → List (List ℕ) → ℕ → Bool
+begins g s n =
+    every n (λ i. ready g (stepAt s i))
+    && not (eqb (foremost g s n) (noTag g))
+    && every n (λ i. within g (foremost g s n) (stepAt s i))

@@ -1,0 +1,6 @@
+pub mod Sizes
+pub mod Ruling
+pub mod Due
+pub mod Beginning
+pub mod Passing
+pub mod Settling

@@ -1,0 +1,102 @@
+-- The oldest epoch passed: gathered, or reported (01, 'Beginning', 'Report of an epoch'). Each port's packet of that epoch comes to rule, if it stands whole in the store.
+use mathlib.Core.Bool.{Bool, cond}
+use mathlib.Core.List.{List}
+use Prim.Native.Nat.{ℕ, zero, suc, _-_}
+use lib.ListN.{set}
+use Rattle.packet.specs.Kinds.{epochAfter, frames}
+use Rattle.phases.specs.declared.ruling.Ruling.{Ruling}
+use Rattle.phases.specs.Ruling.{rulingOf}
+use Rattle.rows.specs.declared.group.Group.{Group}
+use Rattle.rows.specs.declared.member.Member.{Member}
+use Rattle.rows.specs.declared.step.Step.{Step}
+use Rattle.rows.specs.Group.{putGroup}
+use Rattle.rows.specs.Member.{memberAt, putMember}
+use Rattle.rows.specs.Packets.{marksAt, packetsAt, putMarks, putPackets}
+use Rattle.rows.specs.Step.{putStep, stepAt}
+use Rattle.store.specs.Frames.{packetIn, ringOf}
+use Rattle.store.specs.Marks.{firstMark, passedMarks}
+
+-- 'Each port keeps sixteen nibbles of the packet being gathered beside those of the packet that rules': the second is the one that rules
+unfoldable pub ruledBy : List (List ℕ) → Bool → List ℕ → List (List ℕ)
+ruledBy pair whole nibbles = cond whole (set pair 1 nibbles) pair
+
+-- 'joined at a later epoch' comes nearer by one epoch
+unfoldable pub passedStep : Step → Bool → Step
+passedStep s whole =
+    record {
+      had = s .had;
+      failed = s .failed;
+      count = s .count;
+      next = s .next;
+      joined = s .joined;
+      since = s .since;
+      later = s .later - 1;
+      whole = cond whole 1 0;
+      «spare_9» = s .«spare_9»;
+      «spare_10» = s .«spare_10»;
+      «spare_11» = s .«spare_11»;
+      «spare_12» = s .«spare_12»;
+      «spare_13» = s .«spare_13»;
+      «spare_14» = s .«spare_14»;
+      «spare_15» = s .«spare_15»;
+    }
+
+-- 'the good packets up to that epoch's own'
+unfoldable pub notedBy : Member → Bool → Ruling → Member
+notedBy m whole r =
+    record {
+      word = cond whole (cond (r .good) (r .word) (m .word)) (m .word);
+      number = cond whole (cond (r .good) (r .number) (m .number)) (m .number);
+      state = m .state;
+      «state_number» = m .«state_number»;
+      «told_word» = m .«told_word»;
+      «told_number» = m .«told_number»;
+      «spare_6» = m .«spare_6»;
+      «spare_7» = m .«spare_7»;
+      «spare_8» = m .«spare_8»;
+      «spare_9» = m .«spare_9»;
+      «spare_10» = m .«spare_10»;
+      «spare_11» = m .«spare_11»;
+      «spare_12» = m .«spare_12»;
+      «spare_13» = m .«spare_13»;
+      «spare_14» = m .«spare_14»;
+      «spare_15» = m .«spare_15»;
+    }
+
+unfoldable pub passedPort : Group → List ℕ → ℕ → List (List ℕ) → List (List ℕ)
+passedPort g store i s =
+    let whole = firstMark (marksAt s i) in
+    let nibbles = packetIn g i store in
+    let a = putMember s i (notedBy (memberAt s i) whole (rulingOf (g .kind) (g .oldest) nibbles)) in
+    let b = putPackets a i (ruledBy (packetsAt s i) whole nibbles) in
+    let c = putStep b i (passedStep (stepAt s i) whole) in
+    putMarks c i (passedMarks (marksAt s i))
+
+unfoldable pub passedPorts : Group → List ℕ → ℕ → List (List ℕ) → List (List ℕ)
+passedPorts g store zero s = s
+passedPorts g store (suc n) s = passedPort g store n (passedPorts g store n s)
+
+abbrev pub groupTo : Group → ℕ → ℕ → ℕ → ℕ → ℕ → Group
+groupTo g begun gathered oldest origin ack =
+    record {
+      kind = g .kind;
+      count = g .count;
+      payload = g .payload;
+      window = g .window;
+      begun = begun;
+      gathered = gathered;
+      oldest = oldest;
+      origin = origin;
+      «rs_ack» = ack;
+      «spare_12» = g .«spare_12»;
+      «spare_13» = g .«spare_13»;
+      «spare_14» = g .«spare_14»;
+      «spare_15» = g .«spare_15»;
+    }
+
+-- the window moves on by one epoch, and its first frame's place with it
+unfoldable pub passedGroup : Group → Group
+passedGroup g = groupTo g (g .begun) 1 (epochAfter (g .kind) (g .oldest)) (ringOf (g .origin) (frames (g .kind)) (g .window)) (g .«rs_ack»)
+
+unfoldable pub passedOf : Group → List ℕ → ℕ → List (List ℕ) → List (List ℕ)
+passedOf g store n s = putGroup (passedPorts g store n s) (passedGroup g)

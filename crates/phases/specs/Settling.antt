@@ -1,0 +1,70 @@
+-- What follows from a frame for all ports (01, 'Beginning'): stopping comes first, then the beginning, then gathering.
+use mathlib.Core.Bool.{Bool, true, false, cond, not, _&&_}
+use mathlib.Core.List.{List}
+use Prim.Native.Nat.{ℕ, zero, suc}
+use lib.ListN.{replicate}
+use Rattle.packet.specs.Kinds.{epochAfter, epochOf}
+use Rattle.phases.specs.Beginning.{begins, foremost}
+use Rattle.phases.specs.Due.{brought, silent}
+use Rattle.phases.specs.Passing.{groupTo, passedOf}
+use Rattle.phases.specs.Sizes.{portsIn}
+use Rattle.rows.specs.declared.group.Group.{Group}
+use Rattle.rows.specs.declared.step.Step.{Step}
+use Rattle.rows.specs.Group.{groupAt, putGroup}
+use Rattle.rows.specs.Packets.{putMarks}
+use Rattle.rows.specs.Step.{putStep, stepAt}
+use Rattle.step.specs.Arrival.{flagOf, inStep}
+
+-- Nobody has joined and nothing is stored or rules. At a beginning those in step are 'in step ever since the beginning'.
+unfoldable pub clearedStep : Step → Bool → Step
+clearedStep s since =
+    record {
+      had = s .had;
+      failed = s .failed;
+      count = s .count;
+      next = s .next;
+      joined = 0;
+      since = cond since 1 0;
+      later = 0;
+      whole = 0;
+      «spare_9» = s .«spare_9»;
+      «spare_10» = s .«spare_10»;
+      «spare_11» = s .«spare_11»;
+      «spare_12» = s .«spare_12»;
+      «spare_13» = s .«spare_13»;
+      «spare_14» = s .«spare_14»;
+      «spare_15» = s .«spare_15»;
+    }
+
+unfoldable pub clearedPort : Group → Bool → ℕ → List (List ℕ) → List (List ℕ)
+clearedPort g beginning i s = putMarks (putStep s i (clearedStep (stepAt s i) (beginning && inStep g (stepAt s i)))) i (replicate 16 0)
+
+unfoldable pub clearedPorts : Group → Bool → ℕ → List (List ℕ) → List (List ℕ)
+clearedPorts g beginning zero s = s
+clearedPorts g beginning (suc n) s = clearedPort g beginning n (clearedPorts g beginning n s)
+
+-- 'When no port is readable any more, receiving stops, unreported epochs are dropped'; 'member states and RS-Ack stay'
+unfoldable pub stoppedOf : Group → ℕ → List (List ℕ) → List (List ℕ)
+stoppedOf g n s = putGroup (clearedPorts g false n s) (groupTo g 0 0 0 (g .origin) (g .«rs_ack»))
+
+unfoldable pub stopBy : Group → ℕ → List (List ℕ) → List (List ℕ)
+stopBy g n s = cond (flagOf (g .begun) && silent g s n) (stoppedOf g n s) s
+
+-- 'The next epoch to start after the foremost tag is gathered'
+unfoldable pub begunOf : Group → ℕ → List (List ℕ) → List (List ℕ)
+begunOf g n s =
+    putGroup (clearedPorts g true n s) (groupTo g 1 0 (epochAfter (g .kind) (epochOf (g .kind) (foremost g s n))) (g .origin) (g .«rs_ack»))
+
+unfoldable pub beginBy : Group → ℕ → List (List ℕ) → List (List ℕ)
+beginBy g n s = cond (not (flagOf (g .begun)) && begins g s n) (begunOf g n s) s
+
+-- 'gathered, in the call that makes it due, and not reported'
+unfoldable pub gatherBy : Group → List ℕ → ℕ → List (List ℕ) → List (List ℕ)
+gatherBy g store n s = cond (flagOf (g .begun) && not (flagOf (g .gathered)) && brought g s n) (passedOf g store n s) s
+
+-- each step on the state that the one before left
+unfoldable pub settledOf : ℕ → List ℕ → List (List ℕ) → List (List ℕ)
+settledOf n store s =
+    let a = stopBy (groupAt s) n s in
+    let b = beginBy (groupAt a) n a in
+    gatherBy (groupAt b) store n b

@@ -1,0 +1,18 @@
+-- How large a group may be (01, 'Numbers that bound the work').
+use mathlib.Core.Bool.{Bool, cond, _&&_}
+use Prim.Native.Nat.{ℕ, _+_, _*_, _/_}
+use lib.Dec.{leb}
+use Rattle.packet.specs.Kinds.{frames, tags}
+use Rattle.rows.specs.declared.group.Group.{Group}
+
+-- '1 to 64 ports', 'P from 1 to 2,340', 'The window W is 16 to 2,048 frames': from an epoch's frames to half the tags
+unfoldable pub sized : ℕ → ℕ → ℕ → ℕ → Bool
+sized kind count P W = leb 1 count && leb count 64 && leb 1 P && leb P 2340 && leb (frames kind) W && leb W (tags kind / 2)
+
+-- how many ports a group has; a group out of range is an empty one
+unfoldable pub portsIn : Group → ℕ
+portsIn g = cond (sized (g .kind) (g .count) (g .payload) (g .window)) (g .count) 0
+
+-- 'The lent store is exactly ports x W x (P+1) bytes'
+unfoldable pub storeFor : Group → ℕ → ℕ
+storeFor g n = n * g .window * (g .payload + 1)

@@ -1,0 +1,68 @@
+// When an epoch is due, and when no port is readable any more.
+use rows::Group;
+use rows::Step;
+use rows::packets;
+use rows::step;
+use store::marks;
+ghost use mathlib.Core.Path.{_≡_};
+ghost use mathlib.Core.Bool.{not, _&&_};
+ghost use Rattle.rows.specs.Packets.{marksAt};
+ghost use Rattle.rows.specs.Step.{stepAt};
+ghost use Rattle.step.specs.Arrival.{flagOf};
+ghost use Rattle.phases.specs.Due.{brought, lets, silent};
+
+fn is_set(flag: u8) -> bool
+    ensures { λ r. ⌜ r ≡ flagOf flag ⌝ }
+{
+    !(flag == 0)
+}
+
+fn lets_pass(group: Group, step: Step, row: [u8; 16]) -> bool
+    ensures { λ r. ⌜ r ≡ lets group step row ⌝ }
+{
+    let readable = step::is_readable(group, step);
+    let first = marks::first(row);
+    !readable | first | is_set(step.joined) & is_set(step.later)
+}
+
+fn port_lets(group: Group, state: &[[u8; 16]], port: u8) -> bool
+    ensures { λ r. ⌜ r ≡ lets group (stepAt (now (state .entry)) port) (marksAt (now (state .entry)) port) ⌝ }
+{
+    let step = rows::step::get(state, port);
+    let row = packets::marks(state, port);
+    lets_pass(group, step, row)
+}
+
+// Whether the oldest epoch lies whole in the store, as far as readable ports have joined. Ends at the first port that still owes a frame.
+pub fn is_brought(group: Group, state: &[[u8; 16]], ports: u8) -> bool
+    ensures { λ r. ⌜ r ≡ brought group (now (state .entry)) ports ⌝ }
+{
+    let mut i = 0;
+    while i < ports {
+        if !port_lets(group, state, i) {
+            return false;
+        }
+        i += 1;
+    }
+    true
+}
+
+fn is_unreadable(group: Group, state: &[[u8; 16]], port: u8) -> bool
+    ensures { λ r. ⌜ r ≡ not (readable group (stepAt (now (state .entry)) port)) ⌝ }
+{
+    let step = rows::step::get(state, port);
+    !step::is_readable(group, step)
+}
+
+pub(crate) fn is_silent(group: Group, state: &[[u8; 16]], ports: u8) -> bool
+    ensures { λ r. ⌜ r ≡ silent group (now (state .entry)) ports ⌝ }
+{
+    let mut i = 0;
+    while i < ports {
+        if !is_unreadable(group, state, i) {
+            return false;
+        }
+        i += 1;
+    }
+    true
+}

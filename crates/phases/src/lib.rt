@@ -1,0 +1,16 @@
+// What concerns all ports at once (01, 'Beginning', 'Report of an epoch'): when receiving begins and stops, when an epoch is due, and the passing of an epoch.
+mod due;
+mod passing;
+mod ruling;
+mod settling;
+mod sizes;
+mod starting;
+
+pub use due::is_brought;
+pub use passing::pass;
+pub use ruling::Ruling;
+pub use ruling::ruling_of;
+pub use settling::settle;
+pub use sizes::is_sized;
+pub use sizes::ports_in;
+pub use sizes::store_for;

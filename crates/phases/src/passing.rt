@@ -1,0 +1,155 @@
+// The oldest epoch passed: gathered, or reported. Each port's packet of that epoch comes to rule, if it stands whole in the store.
+use crate::ruling;
+use crate::ruling::Ruling;
+use packet::kinds;
+use rows::Group;
+use rows::Member;
+use rows::Step;
+use store::frames;
+use store::marks;
+ghost use mathlib.Core.Path.{_≡_};
+ghost use mathlib.Core.Bool.{cond};
+ghost use Prim.Native.Nat.{_-_};
+ghost use Rattle.phases.specs.Passing.{groupTo, notedBy, passedGroup, passedOf, passedPort, passedPorts, passedStep, ruledBy};
+
+// The two packets of a port, the second one of which rules.
+fn ruled_by(packets: [[u8; 16]; 2], whole: bool, nibbles: [u8; 16]) -> [[u8; 16]; 2]
+    ensures { λ r. ⌜ r ≡ ruledBy packets whole nibbles ⌝ }
+{
+    let mut pair = packets;
+    if whole {
+        pair[1] = nibbles;
+    }
+    pair
+}
+
+fn flag(test: bool) -> u8
+    ensures { λ r. ⌜ r ≡ cond test 1 0 ⌝ }
+{
+    if test { 1 } else { 0 }
+}
+
+fn one_less(later: u8) -> u8
+    ensures { λ r. ⌜ r ≡ later - 1 ⌝ }
+{
+    if later == 0 { 0 } else { later - 1 }
+}
+
+fn passed_step(s: Step, whole: bool) -> Step
+    ensures { λ r. ⌜ r ≡ passedStep s whole ⌝ }
+{
+    Step {
+        had: s.had,
+        failed: s.failed,
+        count: s.count,
+        next: s.next,
+        joined: s.joined,
+        since: s.since,
+        later: one_less(s.later),
+        whole: flag(whole),
+        spare_9: s.spare_9,
+        spare_10: s.spare_10,
+        spare_11: s.spare_11,
+        spare_12: s.spare_12,
+        spare_13: s.spare_13,
+        spare_14: s.spare_14,
+        spare_15: s.spare_15,
+    }
+}
+
+// A good packet's byte where the packet is whole and good.
+fn good_byte(whole: bool, good: bool, new: u8, old: u8) -> u8
+    ensures { λ r. ⌜ r ≡ cond whole (cond good new old) old ⌝ }
+{
+    if whole & good { new } else { old }
+}
+
+fn noted_by(m: Member, whole: bool, r: Ruling) -> Member
+    ensures { λ q. ⌜ q ≡ notedBy m whole r ⌝ }
+{
+    Member {
+        word: good_byte(whole, r.good, r.word, m.word),
+        number: good_byte(whole, r.good, r.number, m.number),
+        state: m.state,
+        state_number: m.state_number,
+        told_word: m.told_word,
+        told_number: m.told_number,
+        spare_6: m.spare_6,
+        spare_7: m.spare_7,
+        spare_8: m.spare_8,
+        spare_9: m.spare_9,
+        spare_10: m.spare_10,
+        spare_11: m.spare_11,
+        spare_12: m.spare_12,
+        spare_13: m.spare_13,
+        spare_14: m.spare_14,
+        spare_15: m.spare_15,
+    }
+}
+
+fn pass_port(group: Group, store: &[u8], port: u8, state: &mut [[u8; 16]])
+    ensures { λ _. ⌜ now (state .exit) ≡ passedPort group (now (store .entry)) port (now (state .entry)) ⌝ }
+{
+    let row = rows::packets::marks(state, port);
+    let whole = marks::first(row);
+    let nibbles = frames::packet_in(group, port, store);
+    let ruling = ruling::ruling_of(group.kind, group.oldest, nibbles);
+    let member = rows::member::get(state, port);
+    let packets = rows::packets::get(state, port);
+    let step = rows::step::get(state, port);
+    let noted = noted_by(member, whole, ruling);
+    let pair = ruled_by(packets, whole, nibbles);
+    let passed = passed_step(step, whole);
+    let left = marks::pass(row);
+    rows::member::put(state, port, noted);
+    rows::packets::put(state, port, pair);
+    rows::step::put(state, port, passed);
+    rows::packets::put_marks(state, port, left);
+}
+
+fn pass_ports(group: Group, store: &[u8], ports: u8, state: &mut [[u8; 16]])
+    ensures { λ _. ⌜ now (state .exit) ≡ passedPorts group (now (store .entry)) ports (now (state .entry)) ⌝ }
+{
+    let mut i = 0;
+    while i < ports {
+        pass_port(group, store, i, state);
+        i += 1;
+    }
+}
+
+pub(crate) fn group_to(g: Group, begun: u8, gathered: u8, oldest: u8, origin: u16, ack: u8) -> Group
+    ensures { λ r. ⌜ r ≡ groupTo g begun gathered oldest origin ack ⌝ }
+{
+    Group {
+        kind: g.kind,
+        count: g.count,
+        payload: g.payload,
+        window: g.window,
+        begun,
+        gathered,
+        oldest,
+        origin,
+        rs_ack: ack,
+        spare_12: g.spare_12,
+        spare_13: g.spare_13,
+        spare_14: g.spare_14,
+        spare_15: g.spare_15,
+    }
+}
+
+fn passed_group(g: Group) -> Group
+    ensures { λ r. ⌜ r ≡ passedGroup g ⌝ }
+{
+    let next = kinds::next_epoch(g.kind, g.oldest);
+    let frames = kinds::epoch_frames(g.kind);
+    let origin = frames::ring(g.origin, frames as u16, g.window);
+    group_to(g, g.begun, 1, next, origin, g.rs_ack)
+}
+
+pub fn pass(group: Group, store: &[u8], ports: u8, state: &mut [[u8; 16]])
+    ensures { λ _. ⌜ now (state .exit) ≡ passedOf group (now (store .entry)) ports (now (state .entry)) ⌝ }
+{
+    let next = passed_group(group);
+    pass_ports(group, store, ports, state);
+    rows::group::put(state, next);
+}

@@ -1,0 +1,35 @@
+// How large a group may be (01, 'Numbers that bound the work').
+use packet::kinds;
+use rows::Group;
+ghost use mathlib.Core.Path.{_≡_};
+ghost use Rattle.phases.specs.Sizes.{portsIn, sized, storeFor};
+
+pub fn is_sized(kind: u8, count: u32, payload: u32, window: u32) -> bool
+    ensures { λ r. ⌜ r ≡ sized kind count payload window ⌝ }
+{
+    let frames = kinds::epoch_frames(kind);
+    let tags = kinds::tag_count(kind);
+    (1 <= count)
+        & (count <= 64)
+        & (1 <= payload)
+        & (payload <= 2340)
+        & (frames as u32 <= window)
+        & (window <= (tags / 2) as u32)
+}
+
+// How many ports a group has; a group out of range is an empty one.
+pub fn ports_in(group: Group) -> u8
+    ensures { λ r. ⌜ r ≡ portsIn group ⌝ }
+{
+    if is_sized(group.kind, group.count as u32, group.payload as u32, group.window as u32) {
+        return group.count;
+    }
+    0
+}
+
+// How many bytes the store of a group has.
+pub fn store_for(group: Group, ports: u8) -> usize
+    ensures { λ r. ⌜ r ≡ storeFor group ports ⌝ }
+{
+    ports as usize * group.window as usize * (group.payload as usize + 1)
+}
