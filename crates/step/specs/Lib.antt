@@ -1,2 +1,3 @@
 pub mod Run
 pub mod Arrival
+pub mod Laws

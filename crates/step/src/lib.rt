@@ -3,6 +3,6 @@ mod arrival;
 mod run;
 
 pub use arrival::Taken;
+pub use arrival::decide;
 pub use arrival::in_step;
 pub use arrival::is_readable;
-pub use arrival::decide;
