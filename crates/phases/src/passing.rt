@@ -10,6 +10,7 @@ use store::marks;
 ghost use mathlib.Core.Path.{_≡_};
 ghost use mathlib.Core.Bool.{cond};
 ghost use Prim.Native.Nat.{_-_};
+ghost use Rattle.store.specs.Frames.{ringOf};
 ghost use Rattle.phases.specs.Passing.{groupTo, notedBy, passedGroup, passedOf, passedPort, passedPorts, passedStep, ruledBy};
 
 // The two packets of a port, the second one of which rules.
@@ -137,12 +138,21 @@ pub(crate) fn group_to(g: Group, begun: u8, gathered: u8, oldest: u8, origin: u1
     }
 }
 
+fn moved(origin: u16, by: u8, window: u16) -> u16
+    ensures { λ r. ⌜ r ≡ ringOf origin by window ⌝ }
+{
+    if window == 0 {
+        return 0;
+    }
+    ((origin as u32 + by as u32) % window as u32) as u16
+}
+
 fn passed_group(g: Group) -> Group
     ensures { λ r. ⌜ r ≡ passedGroup g ⌝ }
 {
     let next = kinds::next_epoch(g.kind, g.oldest);
     let frames = kinds::epoch_frames(g.kind);
-    let origin = frames::ring(g.origin, frames as u16, g.window);
+    let origin = moved(g.origin, frames, g.window);
     group_to(g, g.begun, 1, next, origin, g.rs_ack)
 }
 
