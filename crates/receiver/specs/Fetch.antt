@@ -1,0 +1,64 @@
+-- A report fetched (01, 'Report of an epoch'; 'For fetching: 9 first').
+use mathlib.Core.Bool.{Bool, cond, _&&_}
+use mathlib.Core.List.{List, [], _∷_}
+use Prim.Native.Nat.{ℕ, _/_, _%_}
+use lib.Dec.{ltb}
+use lib.ListN.{length}
+use Rattle.phases.specs.Due.{brought}
+use Rattle.phases.specs.Sizes.{portsIn}
+use Rattle.receiver.specs.declared.report.Report.{Report}
+use Rattle.receiver.specs.Lengths.{fetchFits}
+use Rattle.receiver.specs.Report.{outputOf, reportOf, reportedOf, seenAll}
+use Rattle.rows.specs.declared.group.Group.{Group}
+use Rattle.rows.specs.Group.{groupAt}
+use Rattle.step.specs.Arrival.{flagOf}
+
+-- a report is due
+unfoldable pub dueIn : Group → ℕ → List (List ℕ) → Bool
+dueIn g n s = ltb 0 n && flagOf (g .begun) && flagOf (g .gathered) && brought g s n
+
+abbrev pub noneDue : Report
+noneDue = record { mark = 0; epoch = 0; x = 0; bytes = 0 }
+
+-- the record's eight bytes: mark, epoch, X, a zero, and the byte count, highest byte first
+unfoldable pub recordOf : Report → List ℕ
+recordOf r =
+    (r .mark)
+    ∷ (r .epoch)
+    ∷ (r .x)
+    ∷ 0
+    ∷ (r .bytes / 16777216 % 256)
+    ∷ (r .bytes / 65536 % 256)
+    ∷ (r .bytes / 256 % 256)
+    ∷ (r .bytes % 256)
+    ∷ []
+
+module _ (s : List (List ℕ)) (store out report : List ℕ) where
+  abbrev group : Group
+  group = groupAt s
+
+  abbrev ports : ℕ
+  ports = portsIn (groupAt s)
+
+  unfoldable pub fits : Bool
+  fits = fetchFits (groupAt s) (portsIn (groupAt s)) (length s) (length store) (length out) (length report)
+
+  -- 'one at a time': the fetch gives a report
+  unfoldable pub gives : Bool
+  gives = fits && dueIn (groupAt s) (portsIn (groupAt s)) s
+
+  unfoldable pub fetchAnswer : ℕ
+  fetchAnswer = cond fits 0 9
+
+  -- 'A fetch with none due answers 0, says so, and changes nothing.'
+  unfoldable pub fetchRows : List (List ℕ)
+  fetchRows = cond gives (reportedOf (groupAt s) store (portsIn (groupAt s)) s) s
+
+  unfoldable pub fetchOut : List ℕ
+  fetchOut = cond gives (outputOf (groupAt s) (seenAll (groupAt s) s (portsIn (groupAt s))) (portsIn (groupAt s)) store out) out
+
+  unfoldable pub fetchRecord : List ℕ
+  fetchRecord =
+      cond fits
+      (recordOf (cond gives (reportOf (groupAt s) (seenAll (groupAt s) s (portsIn (groupAt s))) (portsIn (groupAt s))) noneDue))
+      report

@@ -1,0 +1,73 @@
+-- A frame's arrival (01, 'The receiver'; 'For frames: 1, 9, 10, 12, 11').
+use mathlib.Core.Bool.{Bool, true, false, cond}
+use mathlib.Core.List.{List, []}
+use Prim.Native.Nat.{ℕ}
+use lib.Dec.{eqb, ltb}
+use lib.ListN.{getD, length, set}
+use Rattle.packet.specs.Counts.{nibbleIn, nibblePlace}
+use Rattle.packet.specs.Kinds.{endsEpoch, epochsIn}
+use Rattle.phases.specs.Settling.{settledOf}
+use Rattle.phases.specs.Sizes.{portsIn}
+use Rattle.receiver.specs.Lengths.{frameFits}
+use Rattle.rows.specs.declared.group.Group.{Group}
+use Rattle.rows.specs.Group.{groupAt}
+use Rattle.rows.specs.Packets.{marksAt, packetsAt, putMarks, putPackets}
+use Rattle.rows.specs.Step.{putStep, stepAt}
+use Rattle.step.specs.declared.arrival.Taken.{Taken}
+use Rattle.step.specs.Arrival.{takenOf}
+use Rattle.store.specs.Frames.{placeIn, storedAt}
+use Rattle.store.specs.Marks.{cutFrom, markedAt}
+
+-- 'sixteen nibbles of the packet being gathered': a counted frame's nibble goes to its place there
+unfoldable pub gatheredBy : ℕ → List (List ℕ) → Bool → ℕ → List (List ℕ)
+gatheredBy kind pair counted h = cond counted (set pair 0 (set (getD pair 0 []) (nibblePlace kind h) (nibbleIn kind h))) pair
+
+-- joining at an epoch drops what the port had stored from that epoch on; the last frame of an epoch marks it
+unfoldable pub marksBy : ℕ → List ℕ → Taken → List ℕ
+marksBy kind marks t =
+    cond (t .joins) (cutFrom marks (t .step .later)) (cond (t .kept) (cond (endsEpoch kind (t .at)) (markedAt marks (epochsIn kind (t .at))) marks) marks)
+
+-- the port's rows after a frame
+unfoldable pub portRows : ℕ → List (List ℕ) → ℕ → Taken → ℕ → List (List ℕ)
+portRows kind s i t h =
+    putMarks (putPackets (putStep s i (t .step)) i (gatheredBy kind (packetsAt s i) (t .counted) h)) i (marksBy kind (marksAt s i) t)
+
+-- the store after a frame
+unfoldable pub storeBy : Group → ℕ → Taken → ℕ → List ℕ → List ℕ → List ℕ
+storeBy g i t h payload store = cond (t .kept) (storedAt store (placeIn g i (t .at)) payload h) store
+
+unfoldable pub settledBy : Bool → ℕ → List ℕ → List (List ℕ) → List (List ℕ)
+settledBy settles n store s = cond settles (settledOf n store s) s
+
+-- A frame in step outside the window leaves all as given.
+unfoldable pub takenRows : Group → ℕ → List (List ℕ) → ℕ → Taken → ℕ → List ℕ → List ℕ → List (List ℕ)
+takenRows g n s i t h payload store =
+    cond (eqb (t .answer) 11) s (settledBy (t .settles) n (storeBy g i t h payload store) (portRows (g .kind) s i t h))
+
+unfoldable pub takenStore : Group → ℕ → Taken → ℕ → List ℕ → List ℕ → List ℕ
+takenStore g i t h payload store = cond (eqb (t .answer) 11) store (storeBy g i t h payload store)
+
+-- what the frame does, where it is neither 1 nor 9
+abbrev pub takenIn : List (List ℕ) → ℕ → Bool → ℕ → Taken
+takenIn s i failed h = takenOf (groupAt s) (stepAt s i) failed h
+
+-- '1: .. port not below the group's count'; '9: payload, store .. length wrong'
+unfoldable pub refusalBy : Group → ℕ → ℕ → ℕ → ℕ → ℕ → ℕ
+refusalBy g n i rows payload store = cond (ltb i n) (cond (frameFits g n rows payload store) 0 9) 1
+
+abbrev pub frameRefusal : List (List ℕ) → ℕ → ℕ → ℕ → ℕ
+frameRefusal s i payload store = refusalBy (groupAt s) (portsIn (groupAt s)) i (length s) payload store
+
+unfoldable pub frameAnswer : List (List ℕ) → ℕ → Bool → ℕ → ℕ → ℕ → ℕ
+frameAnswer s i failed h payload store =
+    cond (eqb (frameRefusal s i payload store) 0) (takenIn s i failed h .answer) (frameRefusal s i payload store)
+
+unfoldable pub frameRows : List (List ℕ) → ℕ → Bool → ℕ → List ℕ → List ℕ → List (List ℕ)
+frameRows s i failed h payload store =
+    cond (eqb (frameRefusal s i (length payload) (length store)) 0)
+    (takenRows (groupAt s) (portsIn (groupAt s)) s i (takenIn s i failed h) h payload store)
+    s
+
+unfoldable pub frameStore : List (List ℕ) → ℕ → Bool → ℕ → List ℕ → List ℕ → List ℕ
+frameStore s i failed h payload store =
+    cond (eqb (frameRefusal s i (length payload) (length store)) 0) (takenStore (groupAt s) i (takenIn s i failed h) h payload store) store

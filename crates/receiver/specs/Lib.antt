@@ -1,0 +1,6 @@
+pub mod Lengths
+pub mod Starting
+pub mod Frame
+pub mod Report
+pub mod Fetch
+pub mod Shown

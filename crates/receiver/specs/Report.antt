@@ -1,0 +1,134 @@
+-- The report of an epoch (01, 'Report of an epoch', 'Member states and reply').
+use mathlib.Core.Bool.{Bool, false, cond}
+use mathlib.Core.List.{List, []}
+use Prim.Native.Nat.{ℕ, zero, suc, _*_}
+use lib.Dec.{eqb}
+use lib.ListN.{getD, replicate}
+use Rattle.counting.specs.Each.{each}
+use Rattle.ground.specs.Table.{tabulate}
+use Rattle.judge.specs.declared.order.Order.{Order}
+use Rattle.judge.specs.declared.seen.Seen.{Seen}
+use Rattle.judge.specs.Order.{orderOf}
+use Rattle.judge.specs.Seen.{sizeOf}
+use Rattle.judge.specs.Verdict.{HELD, judgeOf}
+use Rattle.packet.specs.Kinds.{epochOf, firstTag, frames, tagBefore}
+use Rattle.payload.specs.Joining.{joinedFrom}
+use Rattle.phases.specs.Passing.{groupTo, passedOf}
+use Rattle.phases.specs.Ruling.{rulingOf}
+use Rattle.receiver.specs.declared.report.Report.{Report}
+use Rattle.reply.specs.Choosing.{statesOf}
+use Rattle.reply.specs.Telling.{ackOf}
+use Rattle.reply.specs.declared.members.Port.{Port}
+use Rattle.rows.specs.declared.group.Group.{Group}
+use Rattle.rows.specs.declared.member.Member.{Member}
+use Rattle.rows.specs.Group.{groupAt, putGroup}
+use Rattle.rows.specs.Member.{memberAt, putMember}
+use Rattle.rows.specs.Packets.{marksAt, packetsAt}
+use Rattle.rows.specs.Step.{stepAt}
+use Rattle.step.specs.Arrival.{flagOf, readable}
+use Rattle.store.specs.Frames.{placeIn}
+use Rattle.store.specs.Marks.{firstMark}
+
+-- 'The packets of one epoch rule the payload of the next': the epoch before the oldest
+unfoldable pub rulingEpoch : Group → ℕ
+rulingEpoch g = epochOf (g .kind) (tagBefore (g .kind) (firstTag (g .kind) (g .oldest)))
+
+-- what is seen of port i
+unfoldable pub seenOf : Group → List (List ℕ) → ℕ → Seen
+seenOf g s i =
+    let r = rulingOf (g .kind) (rulingEpoch g) (getD (packetsAt s i) 1 []) in
+    record {
+      whole = flagOf (stepAt s i .whole);
+      good = r .good;
+      word = r .word;
+      number = r .number;
+      gid = r .gid;
+      here = firstMark (marksAt s i);
+    }
+
+abbrev pub noSeen : Seen
+noSeen = record { whole = false; good = false; word = 0; number = 0; gid = 0; here = false }
+
+unfoldable pub seenAll : Group → List (List ℕ) → ℕ → List Seen
+seenAll g s n = each (sizeOf n) (seenOf g s) (replicate 64 noSeen)
+
+-- the starts of the ranked ports' frames, k after the window's first
+unfoldable pub startsOf : Group → List ℕ → ℕ → List ℕ
+startsOf g order k = tabulate 64 (λ r. placeIn g (getD order r 0) k)
+
+-- the first k group frames, one after the other from the output's start on
+unfoldable pub framesInto : Group → Order → List ℕ → ℕ → List ℕ → List ℕ
+framesInto g o store zero out = out
+framesInto g o store (suc k) out =
+    joinedFrom (o .x) (g .payload) (startsOf g (o .ports) k) store (k * (o .x * g .payload)) (framesInto g o store k out)
+
+-- what the fetched report says
+unfoldable pub reportOf : Group → List Seen → ℕ → Report
+reportOf g seen n =
+    let mark = judgeOf seen (sizeOf n) in
+    let x = cond (eqb mark HELD) 0 (orderOf seen (sizeOf n) .x) in
+    record { mark = mark; epoch = g .oldest; x = x; bytes = x * frames (g .kind) * g .payload }
+
+-- held: 'No bytes.' Otherwise 'Sixteen group frames from the active ports seen.' 'Output beyond those bytes stays.'
+unfoldable pub outputOf : Group → List Seen → ℕ → List ℕ → List ℕ → List ℕ
+outputOf g seen n store out =
+    cond (eqb (judgeOf seen (sizeOf n)) HELD) out (framesInto g (orderOf seen (sizeOf n)) store (frames (g .kind)) out)
+
+-- a port as its member state is worked out; readable at the moment of the fetch
+unfoldable pub replyPort : Group → List (List ℕ) → ℕ → Port
+replyPort g s i =
+    let m = memberAt s i in
+    record {
+      word = m .word;
+      number = m .number;
+      state = m .state;
+      «state_number» = m .«state_number»;
+      «told_word» = m .«told_word»;
+      «told_number» = m .«told_number»;
+      readable = readable g (stepAt s i);
+    }
+
+abbrev pub noPort : Port
+noPort = record { word = 0; number = 0; state = 0; «state_number» = 0; «told_word» = 0; «told_number» = 0; readable = false }
+
+unfoldable pub replyPorts : Group → List (List ℕ) → ℕ → List Port
+replyPorts g s n = each (sizeOf n) (replyPort g s) (replicate 64 noPort)
+
+-- 'Worked out at each report'
+unfoldable pub toldBy : Member → ℕ → Member
+toldBy m state =
+    record {
+      word = m .word;
+      number = m .number;
+      state = state;
+      «state_number» = m .number;
+      «told_word» = m .word;
+      «told_number» = m .number;
+      «spare_6» = m .«spare_6»;
+      «spare_7» = m .«spare_7»;
+      «spare_8» = m .«spare_8»;
+      «spare_9» = m .«spare_9»;
+      «spare_10» = m .«spare_10»;
+      «spare_11» = m .«spare_11»;
+      «spare_12» = m .«spare_12»;
+      «spare_13» = m .«spare_13»;
+      «spare_14» = m .«spare_14»;
+      «spare_15» = m .«spare_15»;
+    }
+
+unfoldable pub toldPorts : List ℕ → ℕ → List (List ℕ) → List (List ℕ)
+toldPorts states zero s = s
+toldPorts states (suc n) s =
+    let t = toldPorts states n s in
+    putMember t n (toldBy (memberAt t n) (getD states n 0))
+
+unfoldable pub toldOf : Group → ℕ → List (List ℕ) → List (List ℕ)
+toldOf g n s =
+    let ports = replyPorts g s n in
+    putGroup (toldPorts (statesOf ports (sizeOf n)) n s) (groupTo g (g .begun) (g .gathered) (g .oldest) (g .origin) (ackOf ports (sizeOf n) (g .«rs_ack»)))
+
+-- the state after a report: the epoch is passed, then states and RS-Ack are worked out from the good packets up to its own
+unfoldable pub reportedOf : Group → List ℕ → ℕ → List (List ℕ) → List (List ℕ)
+reportedOf g store n s =
+    let a = passedOf g store n s in
+    toldOf (groupAt a) n a

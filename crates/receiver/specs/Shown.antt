@@ -1,0 +1,68 @@
+-- What the host reads out: the ports, and the reply (01, 'Member states and reply').
+use mathlib.Core.Bool.{Bool, cond, _&&_}
+use mathlib.Core.List.{List, [], _∷_}
+use Prim.Native.Nat.{ℕ}
+use lib.Dec.{eqb}
+use lib.ListN.{length}
+use Rattle.counting.specs.Each.{each}
+use Rattle.judge.specs.Seen.{sizeOf}
+use Rattle.packet.specs.Kinds.{idleNumber}
+use Rattle.phases.specs.Sizes.{portsIn}
+use Rattle.receiver.specs.Lengths.{rowsFit}
+use Rattle.receiver.specs.Report.{replyPorts}
+use Rattle.reply.specs.Members.{STATE_IDLE}
+use Rattle.reply.specs.Telling.{mstOf}
+use Rattle.rows.specs.declared.group.Group.{Group}
+use Rattle.rows.specs.declared.member.Member.{Member}
+use Rattle.rows.specs.declared.step.Step.{Step}
+use Rattle.rows.specs.Group.{groupAt}
+use Rattle.rows.specs.Member.{memberAt}
+use Rattle.rows.specs.Step.{stepAt}
+use Rattle.step.specs.Arrival.{flagOf, inStep, readable}
+
+abbrev pub flagByte : Bool → ℕ
+flagByte b = cond b 1 0
+
+-- the number that goes with a port's state; an IDLE port has none
+abbrev pub shownNumber : ℕ → Member → ℕ
+shownNumber kind m = cond (eqb (m .state) STATE_IDLE) (idleNumber kind) (m .«state_number»)
+
+-- eight bytes a port: state, number, in step, joined, readable, flagged failed, the last good word, a zero
+unfoldable pub portShown : Group → Step → Member → List ℕ
+portShown g step m =
+    (m .state)
+    ∷ shownNumber (g .kind) m
+    ∷ flagByte (inStep g step)
+    ∷ flagByte (flagOf (step .joined))
+    ∷ flagByte (readable g step)
+    ∷ flagByte (flagOf (step .failed))
+    ∷ (m .word)
+    ∷ 0
+    ∷ []
+
+unfoldable pub shownFit : ℕ → ℕ → ℕ → Bool
+shownFit n rows out = rowsFit n rows && eqb out n
+
+unfoldable pub portsAnswer : List (List ℕ) → ℕ → ℕ
+portsAnswer s out = cond (shownFit (portsIn (groupAt s)) (length s) out) 0 9
+
+unfoldable pub portsOut : List (List ℕ) → List (List ℕ) → List (List ℕ)
+portsOut s out =
+    cond (shownFit (portsIn (groupAt s)) (length s) (length out))
+    (each (portsIn (groupAt s)) (λ i. portShown (groupAt s) (stepAt s i) (memberAt s i)) out)
+    out
+
+-- 'MST for q is 0 exactly if an OK port holds q', of the numbers that the epoch speaks of; and RS-Ack beside it
+unfoldable pub replyOf : List (List ℕ) → ℕ → List ℕ
+replyOf s e =
+    let g = groupAt s in
+    mstOf (g .kind) (replyPorts g s (portsIn g)) (sizeOf (portsIn g)) e ∷ flagByte (flagOf (g .«rs_ack»)) ∷ []
+
+unfoldable pub replyFits : List (List ℕ) → ℕ → Bool
+replyFits s out = rowsFit (portsIn (groupAt s)) (length s) && eqb out 2
+
+unfoldable pub replyAnswer : List (List ℕ) → ℕ → ℕ
+replyAnswer s out = cond (replyFits s out) 0 9
+
+unfoldable pub replyOut : List (List ℕ) → ℕ → List ℕ → List ℕ
+replyOut s e out = cond (replyFits s (length out)) (replyOf s e) out

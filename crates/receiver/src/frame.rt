@@ -1,0 +1,128 @@
+// A frame's arrival (01, 'The receiver'; 'For frames: 1, 9, 10, 12, 11').
+use crate::lengths;
+use packet::counts;
+use packet::kinds;
+use rows::Group;
+use step::Taken;
+use store::frames;
+use store::marks;
+ghost use mathlib.Core.Path.{_≡_};
+ghost use lib.ListN.{length};
+ghost use Rattle.receiver.specs.Frame.{frameAnswer, frameRows, frameStore, gatheredBy, marksBy, portRows, refusalBy, settledBy, storeBy, takenRows, takenStore};
+
+// The two packets of a port, the first one of which is being gathered.
+fn gathered_by(kind: u8, packets: [[u8; 16]; 2], counted: bool, h4: u8) -> [[u8; 16]; 2]
+    ensures { λ r. ⌜ r ≡ gatheredBy kind packets counted h4 ⌝ }
+{
+    let mut pair = packets;
+    if counted {
+        let place = counts::nibble_place(kind, h4);
+        let nibble = counts::nibble_in(kind, h4);
+        pair[0][place as usize] = nibble;
+    }
+    pair
+}
+
+fn marks_by(kind: u8, row: [u8; 16], taken: Taken) -> [u8; 16]
+    ensures { λ r. ⌜ r ≡ marksBy kind row taken ⌝ }
+{
+    if taken.joins {
+        let step = taken.step;
+        return marks::cut(row, step.later);
+    }
+    if taken.kept {
+        if kinds::ends_epoch(kind, taken.at) {
+            let epoch = kinds::epochs_in(kind, taken.at);
+            return marks::mark(row, epoch);
+        }
+    }
+    row
+}
+
+fn put_port(kind: u8, state: &mut [[u8; 16]], port: u8, taken: Taken, h4: u8)
+    ensures { λ _. ⌜ now (state .exit) ≡ portRows kind (now (state .entry)) port taken h4 ⌝ }
+{
+    let packets = rows::packets::get(state, port);
+    let row = rows::packets::marks(state, port);
+    let pair = gathered_by(kind, packets, taken.counted, h4);
+    let left = marks_by(kind, row, taken);
+    rows::step::put(state, port, taken.step);
+    rows::packets::put(state, port, pair);
+    rows::packets::put_marks(state, port, left);
+}
+
+fn put_frame(group: Group, port: u8, taken: Taken, h4: u8, payload: &[u8], store: &mut [u8])
+    ensures { λ _. ⌜ now (store .exit) ≡ storeBy group port taken h4 (now (payload .entry)) (now (store .entry)) ⌝ }
+{
+    if taken.kept {
+        let place = frames::place(group, port, taken.at);
+        frames::put(store, place, payload, h4);
+    }
+}
+
+fn settle_by(settles: bool, ports: u8, store: &[u8], state: &mut [[u8; 16]])
+    ensures { λ _. ⌜ now (state .exit) ≡ settledBy settles ports (now (store .entry)) (now (state .entry)) ⌝ }
+{
+    if settles {
+        phases::settle(ports, store, state);
+    }
+}
+
+// A frame that is neither 1 nor 9.
+fn take(
+    group: Group,
+    ports: u8,
+    state: &mut [[u8; 16]],
+    port: u8,
+    taken: Taken,
+    h4: u8,
+    payload: &[u8],
+    store: &mut [u8],
+)
+    ensures { λ _. ⌜ (now (state .exit) ≡ takenRows group ports (now (state .entry)) port taken h4 (now (payload .entry)) (now (store .entry)))
+        × (now (store .exit) ≡ takenStore group port taken h4 (now (payload .entry)) (now (store .entry))) ⌝ }
+{
+    if taken.answer != 11 {
+        put_port(group.kind, state, port, taken, h4);
+        put_frame(group, port, taken, h4, payload, store);
+        settle_by(taken.settles, ports, store, state);
+    }
+}
+
+fn refusal(group: Group, ports: u8, port: u32, rows: usize, payload: usize, store: usize) -> u8
+    ensures { λ r. ⌜ r ≡ refusalBy group ports port rows payload store ⌝ }
+{
+    if ports as u32 <= port {
+        return 1;
+    }
+    if lengths::is_frame(group, ports, rows, payload, store) {
+        return 0;
+    }
+    9
+}
+
+// A frame of a port: flagged as failed or not, its H4 byte and its payload.
+pub fn frame(
+    state: &mut [[u8; 16]],
+    port: u32,
+    failed: bool,
+    h4: u8,
+    payload: &[u8],
+    store: &mut [u8],
+) -> u8
+    ensures { λ r. ⌜ (r ≡ frameAnswer (now (state .entry)) port failed h4 (length (now (payload .entry))) (length (now (store .entry))))
+        × (now (state .exit) ≡ frameRows (now (state .entry)) port failed h4 (now (payload .entry)) (now (store .entry)))
+        × (now (store .exit) ≡ frameStore (now (state .entry)) port failed h4 (now (payload .entry)) (now (store .entry))) ⌝ }
+{
+    let group = rows::group::get(state);
+    let ports = phases::ports_in(group);
+    let refusal = refusal(group, ports, port, state.len(), payload.len(), store.len());
+    if refusal != 0 {
+        return refusal;
+    }
+    let at = port as u8;
+    let step = rows::step::get(state, at);
+    let taken = step::decide(group, step, failed, h4);
+    take(group, ports, state, at, taken, h4, payload, store);
+    taken.answer
+}

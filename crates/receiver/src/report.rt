@@ -1,0 +1,87 @@
+// The report of an epoch (01, 'Report of an epoch').
+use judge::Order;
+use judge::Seen;
+use packet::kinds;
+use rows::Group;
+use store::frames;
+use store::marks;
+ghost use mathlib.Core.Path.{_≡_};
+ghost use Rattle.receiver.specs.Report.{framesInto, noSeen, outputOf, reportOf, rulingEpoch, seenAll, seenOf, startsOf};
+ghost use Rattle.step.specs.Arrival.{flagOf};
+
+pub struct Report {
+    // 0 none due, 1 held, 2 doubtful, 3 sure
+    pub mark: u8,
+    pub epoch: u8,
+    // how many members are joined
+    pub x: u8,
+    // how many bytes of the output
+    pub bytes: u32,
+}
+
+fn is_set(flag: u8) -> bool
+    ensures { λ r. ⌜ r ≡ flagOf flag ⌝ }
+{
+    !(flag == 0)
+}
+
+fn ruling_epoch(group: Group) -> u8
+    ensures { λ r. ⌜ r ≡ rulingEpoch group ⌝ }
+{
+    let first = kinds::first_tag(group.kind, group.oldest);
+    let before = kinds::previous_tag(group.kind, first);
+    kinds::epoch_of(group.kind, before)
+}
+
+fn seen_of(group: Group, state: &[[u8; 16]], port: u8) -> Seen
+    ensures { λ r. ⌜ r ≡ seenOf group (now (state .entry)) port ⌝ }
+{
+    let packets = rows::packets::get(state, port);
+    let step = rows::step::get(state, port);
+    let row = rows::packets::marks(state, port);
+    let epoch = ruling_epoch(group);
+    let nibbles = packets[1];
+    let ruling = phases::ruling_of(group.kind, epoch, nibbles);
+    Seen {
+        whole: is_set(step.whole),
+        good: ruling.good,
+        word: ruling.word,
+        number: ruling.number,
+        gid: ruling.gid,
+        here: marks::first(row),
+    }
+}
+
+fn no_seen() -> Seen
+    ensures { λ r. ⌜ r ≡ noSeen ⌝ }
+{
+    Seen {
+        whole: false,
+        good: false,
+        word: 0,
+        number: 0,
+        gid: 0,
+        here: false,
+    }
+}
+
+fn size_of(count: u8) -> u8
+    ensures { λ r. ⌜ r ≡ sizeOf count ⌝ }
+{
+    if count < 64 { count } else { 64 }
+}
+
+pub(crate) fn seen_all(group: Group, state: &[[u8; 16]], ports: u8) -> [Seen; 64]
+    ensures { λ r. ⌜ r ≡ seenAll group (now (state .entry)) ports ⌝ }
+{
+    let none = no_seen();
+    let mut seen = [none; 64];
+    let n = size_of(ports);
+    let mut i = 0;
+    while i < n {
+        let one = seen_of(group, state, i);
+        seen[i as usize] = one;
+        i += 1;
+    }
+    seen
+}
