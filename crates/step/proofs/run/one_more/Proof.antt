@@ -1,7 +1,7 @@
 use native.Mathlib.Omega.{arith}
 use mathlib.Core.Path.{refl}
 use Rattle.step.specs.Run.{oneMore}
-use Rattle.step.specs.Laws.Step.{count-fits}
+use Rattle.step.specs.Laws.Run.{count-fits}
 use borrow.Author.Needs.{needs}
 use Rattle.step.proofs.run.one_more.Statement.{statement}
 use Rattle.step.proofs.run.one_more.Tie as tie

@@ -1,0 +1,104 @@
+-- What a frame does, case by case: each way through takenOf with its tests, and all of them at once.
+use mathlib.Core.Path.{_≡_, refl}
+use mathlib.Core.Bool.{Bool, true, false, cond, not, _&&_}
+use Prim.Native.Nat.{ℕ}
+use lib.Dec.{ltb}
+use borrow.Author.Tests.{not-true, not-false}
+use Rattle.ground.specs.Truth.{and-left, and-right}
+use Rattle.packet.specs.Kinds.{startsEpoch}
+use Rattle.rows.specs.declared.group.Group.{Group}
+use Rattle.rows.specs.declared.step.Step.{Step}
+use Rattle.step.specs.declared.arrival.Taken.{Taken}
+use Rattle.step.specs.declared.run.Run.{Run}
+use Rattle.step.specs.Arrival.{arrives, aside, byStart, byWindow, countsOn, distanceIn, flagged, flagOf, joining, keeps, outside, runOf, takenOf}
+use Rattle.step.specs.Run.{inStepAt, runOn}
+
+-- a port's run after a frame that is not flagged
+abbrev pub ranOn : Group → Step → ℕ → Run
+ranOn g s h = runOn (g .kind) (runOf s) h
+
+-- whether it is then in step
+abbrev pub stepped : Group → Step → ℕ → Bool
+stepped g s h = inStepAt (g .kind) (ranOn g s h .count)
+
+-- whether the tag to come lies in the window
+abbrev pub inWindow : Group → Step → Bool
+inWindow g s = ltb (distanceIn g (s .next)) (g .window)
+
+module _ (g : Group) (s : Step) (flag : Bool) (h : ℕ) where
+  pub taken-flagged : flag ≡ true → takenOf g s flag h ≡ flagged g s
+  unfolding takenOf
+  taken-flagged f = rw f refl
+
+  -- not in step after this frame
+  pub taken-counts : flag ≡ false → stepped g s h ≡ false → takenOf g s flag h ≡ countsOn g s (ranOn g s h)
+  unfolding takenOf
+  taken-counts f e = rw (f, e) refl
+
+  -- in step before the beginning
+  pub taken-aside : flag ≡ false → stepped g s h ≡ true → flagOf (g .begun) ≡ false → takenOf g s flag h ≡ aside g s (ranOn g s h)
+  unfolding takenOf arrives
+  taken-aside f e b = rw (f, e, b) refl
+
+  -- joined, and in the window
+  pub taken-keeps : flag ≡ false → stepped g s h ≡ true → flagOf (g .begun) ≡ true → flagOf (s .joined) ≡ true → inWindow g s ≡ true → takenOf g s flag h ≡ keeps g s (ranOn g s h) (distanceIn g (s .next))
+  unfolding takenOf arrives byWindow
+  taken-keeps f e b j w = rw (f, e, b, j, w) refl
+
+  -- joined, and outside it
+  pub taken-outside : flag ≡ false → stepped g s h ≡ true → flagOf (g .begun) ≡ true → flagOf (s .joined) ≡ true → inWindow g s ≡ false → takenOf g s flag h ≡ outside s
+  unfolding takenOf arrives byWindow
+  taken-outside f e b j w = rw (f, e, b, j, w) refl
+
+  -- not joined, at an epoch start in the window
+  pub taken-joins : flag ≡ false → stepped g s h ≡ true → flagOf (g .begun) ≡ true → flagOf (s .joined) ≡ false → startsEpoch (g .kind) (s .next) ≡ true → inWindow g s ≡ true → takenOf g s flag h ≡ joining g s (ranOn g s h) (distanceIn g (s .next))
+  unfolding takenOf arrives byStart
+  taken-joins f e b j t w = rw (f, e, b, j, t, w) refl
+
+  -- not joined, at any other frame
+  pub taken-waits : flag ≡ false → stepped g s h ≡ true → flagOf (g .begun) ≡ true → flagOf (s .joined) ≡ false → (startsEpoch (g .kind) (s .next) && inWindow g s) ≡ false → takenOf g s flag h ≡ aside g s (ranOn g s h)
+  unfolding takenOf arrives byStart
+  taken-waits f e b j w = rw (f, e, b, j, w) refl
+
+by : {A : Type 0} (P : A → Type 0) (b : Bool) (x y : A) → (b ≡ true → P x) → (b ≡ false → P y) → P (cond b x y)
+by P true x y p q = p refl
+by P false x y p q = q refl
+
+-- what holds of each case holds of what a frame does
+pub taken-by :
+    (P : Taken → Type 0)
+    (g : Group)
+    (s : Step)
+    (flag : Bool)
+    (h : ℕ) →
+    (flag ≡ true → P (flagged g s)) →
+    (flag ≡ false → stepped g s h ≡ false → P (countsOn g s (ranOn g s h))) →
+    (flag ≡ false → stepped g s h ≡ true → flagOf (g .begun) ≡ false → P (aside g s (ranOn g s h))) →
+    (flag ≡ false → stepped g s h ≡ true → flagOf (g .begun) ≡ true → flagOf (s .joined) ≡ true → inWindow g s ≡ true → P (keeps g s (ranOn g s h) (distanceIn g (s .next)))) →
+    (flag ≡ false → stepped g s h ≡ true → flagOf (g .begun) ≡ true → flagOf (s .joined) ≡ true → inWindow g s ≡ false → P (outside s)) →
+    (flag ≡ false → stepped g s h ≡ true → flagOf (g .begun) ≡ true → flagOf (s .joined) ≡ false → startsEpoch (g .kind) (s .next) ≡ true → inWindow g s ≡ true → P (joining g s (ranOn g s h) (distanceIn g (s .next)))) →
+    (flag ≡ false → stepped g s h ≡ true → flagOf (g .begun) ≡ true → flagOf (s .joined) ≡ false → (startsEpoch (g .kind) (s .next) && inWindow g s) ≡ false → P (aside g s (ranOn g s h))) →
+    P (takenOf g s flag h)
+unfolding takenOf arrives byWindow byStart
+taken-by P g s flag h whenFlagged whenCounts whenAside whenKeeps whenOutside whenJoins whenWaits =
+    let run : Run = ranOn g s h in
+    let d : ℕ = distanceIn g (s .next) in
+    let start : Bool = startsEpoch (g .kind) (s .next) in
+    let window : Taken = cond (inWindow g s) (keeps g s run d) (outside s) in
+    let epoch : Taken = cond (start && inWindow g s) (joining g s run d) (aside g s run) in
+    let begun : Taken = cond (flagOf (s .joined)) window epoch in
+    let arrived : Taken = cond (not (flagOf (g .begun))) (aside g s run) begun in
+    by P flag (flagged g s) (cond (stepped g s h) arrived (countsOn g s run)) whenFlagged
+    (λ (f : flag ≡ false).
+    by P (stepped g s h) arrived (countsOn g s run)
+    (λ (e : stepped g s h ≡ true).
+    by P (not (flagOf (g .begun))) (aside g s run) begun (λ b. whenAside f e (not-true (flagOf (g .begun)) b))
+    (λ b.
+    let b : flagOf (g .begun) ≡ true = not-false (flagOf (g .begun)) b in
+    by P (flagOf (s .joined)) window epoch
+    (λ j. by P (inWindow g s) (keeps g s run d) (outside s) (whenKeeps f e b j) (whenOutside f e b j))
+    (λ j.
+    by P (start && inWindow g s) (joining g s run d) (aside g s run)
+    (λ w. whenJoins f e b j (and-left start (inWindow g s) w) (and-right start (inWindow g s) w))
+    (whenWaits f e b j))))
+    (whenCounts f))
