@@ -1,3 +1,5 @@
-pub mod Seen
-pub mod Verdict
+pub mod Laws
 pub mod Order
+pub mod Seen
+pub mod Tally
+pub mod Verdict

@@ -4,6 +4,6 @@ mod seen;
 mod verdict;
 
 pub use order::Order;
-pub use order::order;
+pub use order::ordered;
 pub use seen::Seen;
 pub use verdict::judge;
