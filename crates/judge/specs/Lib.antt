@@ -2,4 +2,6 @@ pub mod Laws
 pub mod Order
 pub mod Seen
 pub mod Tally
+pub mod Theorems
 pub mod Verdict
+mod Wrong

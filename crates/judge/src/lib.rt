@@ -6,4 +6,7 @@ mod verdict;
 pub use order::Order;
 pub use order::ordered;
 pub use seen::Seen;
+pub use verdict::DOUBTFUL;
+pub use verdict::HELD;
+pub use verdict::SURE;
 pub use verdict::judge;
