@@ -2,3 +2,5 @@
 pub mod Bytes
 pub mod Marks
 pub mod Places
+pub mod Stands
+pub mod Stored
