@@ -31,17 +31,21 @@ stands-put g n i d payload h s w b l p =
       last = ap (λ (m : ℕ). getD (storedAt s (placeIn g i d) payload h) (placeIn g i d + m) 0) (sym p) ∙ stored-h4 s (placeIn g i d) payload h room;
     }
 
+-- each byte of a frame reads as before, where a frame is put elsewhere
+pub stored-elsewhere : (g : Group) (i j d e : ℕ) (payload : List ℕ) (h : ℕ) (s : List ℕ) → d < g .window → e < g .window → (i ≡ j → d ≡ e → ⊥)
+    → length payload ≡ g .payload → (k : ℕ) → k ≤ g .payload
+    → getD (storedAt s (placeIn g j e) payload h) (placeIn g i d + k) 0 ≡ getD s (placeIn g i d + k) 0
+stored-elsewhere g i j d e payload h s hd he differ p k m =
+    ⊎-elim (λ (q : placeIn g i d + g .payload < placeIn g j e). stored-before s (placeIn g j e) payload h (placeIn g i d + k) (omega arith))
+    (λ (q : placeIn g j e + g .payload < placeIn g i d). stored-after s (placeIn g j e) payload h (placeIn g i d + k) (omega arith))
+    (place-apart g i j d e hd he differ)
+
 -- a frame put elsewhere leaves it
 pub stands-kept : (g : Group) (i j d e : ℕ) (payload other : List ℕ) (h o : ℕ) (s : List ℕ) → d < g .window → e < g .window → (i ≡ j → d ≡ e → ⊥)
     → length other ≡ g .payload → Stands g i d payload h s → Stands g i d payload h (storedAt s (placeIn g j e) other o)
 stands-kept g i j d e payload other h o s hd he differ p f =
+    let same = stored-elsewhere g i j d e other o s hd he differ p in
     record { bytes = λ k m. same k (omega arith) ∙ f .bytes k m; last = same (g .payload) (omega arith) ∙ f .last }
-  where
-    same : (k : ℕ) → k ≤ g .payload → getD (storedAt s (placeIn g j e) other o) (placeIn g i d + k) 0 ≡ getD s (placeIn g i d + k) 0
-    same k m =
-        ⊎-elim (λ (q : placeIn g i d + g .payload < placeIn g j e). stored-before s (placeIn g j e) other o (placeIn g i d + k) (omega arith))
-        (λ (q : placeIn g j e + g .payload < placeIn g i d). stored-after s (placeIn g j e) other o (placeIn g i d + k) (omega arith))
-        (place-apart g i j d e hd he differ)
 
 -- P, W and the origin as they were
 pub stands-same : (g g′ : Group) (i d : ℕ) (payload : List ℕ) (h : ℕ) (s : List ℕ) → g′ .payload ≡ g .payload → g′ .window ≡ g .window → g′ .origin ≡ g .origin
