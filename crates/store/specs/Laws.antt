@@ -1,3 +1,6 @@
 -- Laws on the definitions, for the proofs above them.
 pub mod Bytes
+pub mod Marks
 pub mod Places
+pub mod Stands
+pub mod Stored

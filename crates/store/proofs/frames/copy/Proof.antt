@@ -1,3 +1,4 @@
+-- The invariant: the first j bytes are in place.
 use mathlib.Core.Path.{_≡_}
 use Prim.Native.Nat.{_≤_, _-_}
 use native.Mathlib.Omega.{arith}

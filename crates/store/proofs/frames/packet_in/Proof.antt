@@ -1,3 +1,4 @@
+-- The invariant: the first k nibbles are read.
 use Rattle.packet.specs.Counts.{nibbleIn}
 use mathlib.Core.Path.{_≡_, refl}
 use Prim.Native.Nat.{_≤_, _-_}

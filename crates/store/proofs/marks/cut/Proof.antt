@@ -1,3 +1,4 @@
+-- The invariant: the first k bytes are cut.
 use mathlib.Core.Path.{_≡_, refl}
 use Prim.Native.Nat.{_≤_, _-_}
 use native.Mathlib.Omega.{arith}
