@@ -1,3 +1,4 @@
-pub mod Members
 pub mod Choosing
+pub mod Laws
+pub mod Members
 pub mod Telling
