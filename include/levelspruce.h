@@ -5,8 +5,10 @@
  *
  * For every call:
  * - The result is the answer number. Any answer but 0 is a refusal.
- * - A refusal changes no byte of any buffer; only levelspruce_sender_start
- *   says otherwise.
+ * - A refusal changes no byte of any buffer, but for these: 4 at
+ *   levelspruce_sender_start and levelspruce_receiver_start leaves an empty
+ *   group, and 10 and 12 of levelspruce_receiver_frame record in the state
+ *   what they say.
  * - Numbers pass as uint32_t, so a number that is too large is refused by its
  *   answer and never cut down to one that fits (but of rs_ack in
  *   levelspruce_sender_report the lowest bit counts).
@@ -28,15 +30,18 @@ extern "C" {
 
 /* Answers. */
 #define LEVELSPRUCE_ANSWER_DONE 0       /* done */
-#define LEVELSPRUCE_ANSWER_SLOT 1       /* the slot is not below the group's count */
+#define LEVELSPRUCE_ANSWER_SLOT 1       /* the slot or port is not below the group's count */
 #define LEVELSPRUCE_ANSWER_STATE 2      /* not allowed now: by the slot's state, no wait open, or no epoch started */
 #define LEVELSPRUCE_ANSWER_WAIT 3       /* add or remove while a wait is open */
-#define LEVELSPRUCE_ANSWER_RANGE 4      /* a count, P or X is out of range */
+#define LEVELSPRUCE_ANSWER_RANGE 4      /* a count, P, W or X is out of range */
 #define LEVELSPRUCE_ANSWER_CRC 5        /* the packet's CRC differs */
 #define LEVELSPRUCE_ANSWER_UNASSIGNED 6 /* CRC right, control word unassigned */
 #define LEVELSPRUCE_ANSWER_FIXED 7      /* CRC right, control word FIXED */
 #define LEVELSPRUCE_ANSWER_FIELD 8      /* a field is too large, or its word is FIXED or unassigned */
 #define LEVELSPRUCE_ANSWER_LENGTH 9     /* a buffer has the wrong length */
+#define LEVELSPRUCE_ANSWER_FAILED 10    /* the frame came flagged as failed */
+#define LEVELSPRUCE_ANSWER_OUTSIDE 11   /* the frame is in step, but outside the window: hand it again after a report */
+#define LEVELSPRUCE_ANSWER_STEP 12      /* the port is not in step after this frame */
 
 /* Control words. All other numbers are unassigned. */
 #define LEVELSPRUCE_WORD_FIXED 0 /* neither written nor read: the group has no LCAS */
@@ -52,6 +57,18 @@ extern "C" {
 #define LEVELSPRUCE_SENDER_BYTES 397 /* a sender's state */
 #define LEVELSPRUCE_BOARD_BYTES 130 /* a sender's board */
 #define LEVELSPRUCE_RANKS_BYTES 68  /* the ranks of an epoch */
+#define LEVELSPRUCE_ROW_BYTES 16    /* a row of a receiver's state */
+#define LEVELSPRUCE_REPORT_BYTES 8  /* the record of a report */
+#define LEVELSPRUCE_PORT_BYTES 8    /* what is shown of a port */
+#define LEVELSPRUCE_REPLY_BYTES 2   /* a reply */
+
+/* Of a receiver: the rows of its state, and the bytes of its store and of the
+ * least output. */
+#define LEVELSPRUCE_RECEIVER_ROWS(ports) ((size_t)(ports) * 5 + 1)
+#define LEVELSPRUCE_STORE_BYTES(ports, payload, window) \
+    ((size_t)(ports) * (size_t)(window) * ((size_t)(payload) + 1))
+#define LEVELSPRUCE_OUTPUT_BYTES(ports, payload) \
+    ((size_t)(ports) * 16 * (size_t)(payload))
 
 /* Payload: members of a group, and bytes of a member frame. */
 #define LEVELSPRUCE_MEMBERS_MOST 64
@@ -346,6 +363,147 @@ uint8_t levelspruce_sender_board_going(const uint8_t *state,
  */
 uint8_t levelspruce_sender_ranks(const uint8_t *state, size_t state_length,
                                  uint8_t *ranks, size_t ranks_length);
+
+/*
+ * The receiver. The host lends each call
+ * - the state: LEVELSPRUCE_RECEIVER_ROWS(ports) rows of sixteen bytes, with the
+ *   length given in rows;
+ * - the store: LEVELSPRUCE_STORE_BYTES(ports, payload, window) bytes, in which
+ *   frames wait for the frames of slower ports.
+ * Both are kept by the host between calls and changed by nobody else. They may
+ * be copied and lent from another place. Begin with levelspruce_receiver_start.
+ * Any bytes are coped with: a state that does not come from there is answered
+ * like any other, and no call reads or writes outside its buffers. A state
+ * whose count, P or W is out of range is that of an empty group.
+ */
+
+/* Ports and windows, in frames. */
+#define LEVELSPRUCE_PORTS_MOST 64
+#define LEVELSPRUCE_WINDOW_LEAST 16
+#define LEVELSPRUCE_WINDOW_MOST 2048
+
+/* The marks of a report. */
+#define LEVELSPRUCE_MARK_NONE 0     /* none is due */
+#define LEVELSPRUCE_MARK_HELD 1     /* held back whole: no bytes */
+#define LEVELSPRUCE_MARK_DOUBTFUL 2 /* bytes, but some port has no whole ruling packet or a number is lacking */
+#define LEVELSPRUCE_MARK_SURE 3     /* the client's bytes */
+
+/* The bytes of a report's record. The byte count takes four, highest first. */
+#define LEVELSPRUCE_REPORT_MARK 0
+#define LEVELSPRUCE_REPORT_EPOCH 1
+#define LEVELSPRUCE_REPORT_X 2
+#define LEVELSPRUCE_REPORT_COUNT 4
+
+/* Member states of a port. */
+#define LEVELSPRUCE_PORT_IDLE 0
+#define LEVELSPRUCE_PORT_FAIL 1
+#define LEVELSPRUCE_PORT_OK 2
+
+/* The bytes of what is shown of a port; the eighth is 0. */
+#define LEVELSPRUCE_PORT_STATE 0    /* at the last report */
+#define LEVELSPRUCE_PORT_NUMBER 1   /* 255 where the state is IDLE */
+#define LEVELSPRUCE_PORT_STEP 2     /* 1 while in step */
+#define LEVELSPRUCE_PORT_JOINED 3   /* 1 while joined */
+#define LEVELSPRUCE_PORT_READABLE 4 /* 1 while readable */
+#define LEVELSPRUCE_PORT_FAILED 5   /* 1 where the latest frame came flagged */
+#define LEVELSPRUCE_PORT_WORD 6     /* of the last good packet; 255 where there was none */
+
+/* The bytes of a reply. */
+#define LEVELSPRUCE_REPLY_MST 0
+#define LEVELSPRUCE_REPLY_RS_ACK 1
+
+/*
+ * Starts a receiver: no port has had a frame.
+ *
+ *   ports         1 to 64
+ *   payload       P, bytes of a member frame, 1 to 2340
+ *   window        W, frames, 16 to 2048: delays may differ by W - 16 frames
+ *   store_bytes   the length of the store that will be lent
+ *   state         LEVELSPRUCE_RECEIVER_ROWS(ports) rows, of any content
+ *
+ * Answers, the first that fits:
+ *   4  ports, payload or window is out of range; the first row, if there is
+ *      one, is written with an empty group, in which every port is answered 1
+ *   9  store_bytes or state_length is wrong
+ *   0  all of state is written
+ */
+uint8_t levelspruce_receiver_start(uint32_t ports, uint32_t payload,
+                                   uint32_t window, size_t store_bytes,
+                                   uint8_t (*state)[16], size_t state_length);
+
+/*
+ * Takes a frame of a port. Hand over each frame of each port once, in the
+ * order in which that port got them; fetch reports after each frame until none
+ * is due.
+ *
+ *   port      the port
+ *   failed    not 0 where the line has failed (a flagged frame): neither its
+ *             H4 byte nor its payload is looked at, but P bytes must be there
+ *   h4        its H4 byte
+ *   payload   its P bytes
+ *   store     the store
+ *
+ * Answers, the first that fits:
+ *   1  port is not below the group's count
+ *   9  a length is wrong
+ *  10  the frame is flagged: the port is unreadable and out of step
+ *  12  the port is not in step after this frame, which is not stored
+ *  11  the frame is in step, but lies outside the window: nothing changes;
+ *      hand the same frame again after a report
+ *   0  taken: stored, or dropped where the port has not joined yet
+ */
+uint8_t levelspruce_receiver_frame(uint8_t (*state)[16], size_t state_length,
+                                   uint32_t port, uint32_t failed, uint8_t h4,
+                                   const uint8_t *payload,
+                                   size_t payload_length, uint8_t *store,
+                                   size_t store_length);
+
+/*
+ * Fetches the next report, if one is due.
+ *
+ *   store    the store, which is only read
+ *   out      at least LEVELSPRUCE_OUTPUT_BYTES(ports, payload) bytes
+ *   report   LEVELSPRUCE_REPORT_BYTES bytes
+ *
+ * Answers, the first that fits:
+ *   9  a length is wrong
+ *   0  report is written: its mark, the epoch, X and how many bytes of out
+ *      belong to it; out holds sixteen group frames of X * P bytes where the
+ *      mark is DOUBTFUL or SURE, and stays as it was beyond them. With the
+ *      mark NONE nothing but report changes, and with HELD no byte of out.
+ */
+uint8_t levelspruce_receiver_fetch(uint8_t (*state)[16], size_t state_length,
+                                   const uint8_t *store, size_t store_length,
+                                   uint8_t *out, size_t out_length,
+                                   uint8_t *report, size_t report_length);
+
+/*
+ * Shows all ports at once: LEVELSPRUCE_PORT_BYTES bytes of each.
+ *
+ *   ports   as many as the group has; ports_length counts ports
+ *
+ * Answers, the first that fits:
+ *   9  a length is wrong
+ *   0  all of ports is written
+ */
+uint8_t levelspruce_receiver_ports(const uint8_t (*state)[16],
+                                   size_t state_length, uint8_t (*ports)[8],
+                                   size_t ports_length);
+
+/*
+ * The reply to send back with the packets of an epoch: the MST byte for the
+ * numbers that this epoch speaks of, and RS-Ack.
+ *
+ *   epoch   the epoch of the packets that will carry it
+ *   reply   LEVELSPRUCE_REPLY_BYTES bytes
+ *
+ * Answers, the first that fits:
+ *   9  a length is wrong
+ *   0  both bytes are written
+ */
+uint8_t levelspruce_receiver_reply(const uint8_t (*state)[16],
+                                   size_t state_length, uint8_t epoch,
+                                   uint8_t *reply, size_t reply_length);
 
 #ifdef __cplusplus
 }
