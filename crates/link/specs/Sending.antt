@@ -1,0 +1,3 @@
+-- The sending side's laws, for the proof of demand 3. Nothing here knows the receiver.
+pub mod Pairing
+pub mod Senders
