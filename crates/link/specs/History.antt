@@ -3,10 +3,11 @@ use mathlib.Core.Path.{_≡_}
 use mathlib.Core.List.{List}
 use Prim.Native.Nat.{ℕ, zero, suc, _+_, _*_, _/_, _%_, _≤_, _<_}
 use lib.ListN.{getD, length, replicate}
+use Rattle.packet.specs.declared.layout.Fields.{Fields}
 use Rattle.packet.specs.Kinds.{epochs, firstTag, frames, lead}
 use Rattle.packet.specs.Theorems.Tags.{tagOf}
 use Rattle.sender.specs.declared.epochs.Sender.{Sender}
-use Rattle.sender.specs.Epochs.{beginOf, packetBytes, payloadBytes, senderRun, senderStepOf, xOf}
+use Rattle.sender.specs.Epochs.{beginOf, packetBytes, packetFields, payloadBytes, senderRun, senderStepOf, xOf}
 use Rattle.sender.specs.Epochs.SenderCall.{StartEpoch}
 use Rattle.sender.specs.Steps.{Call}
 use Rattle.sender.specs.Theorems.Epochs.{onTable}
@@ -63,7 +64,17 @@ tagAt h x = tagOf (h .kind) (firstTagOf h + x)
 abbrev pub xAt : History → ℕ → ℕ
 xAt h i = xOf (senderAt h i)
 
--- the H4 bytes of a slot's packet in the i-th epoch
+-- A slot's packet in the i-th epoch: its fields, the word and number among them, and its H4 bytes.
+
+abbrev pub fieldsSent : History → ℕ → ℕ → Fields
+fieldsSent h i slot = packetFields (senderAt h i) slot
+
+abbrev pub wordSent : History → ℕ → ℕ → ℕ
+wordSent h i slot = fieldsSent h i slot .word .0
+
+abbrev pub numberSent : History → ℕ → ℕ → ℕ
+numberSent h i slot = fieldsSent h i slot .sq
+
 unfoldable pub packetSent : History → ℕ → ℕ → List ℕ
 packetSent h i slot = packetBytes (senderAt h i) slot (replicate (frames (h .kind)) 0)
 
