@@ -4,6 +4,7 @@ use mathlib.Core.List.{List}
 use Prim.Native.Nat.{ℕ, zero, suc, _+_, _*_, _/_, _%_, _≤_, _<_}
 use lib.ListN.{getD, length, replicate}
 use Rattle.packet.specs.declared.layout.Fields.{Fields}
+use Rattle.packet.specs.Counts.{nibbleIn, nibblePlace}
 use Rattle.packet.specs.Kinds.{epochs, firstTag, frames, lead}
 use Rattle.packet.specs.Theorems.Tags.{tagOf}
 use Rattle.sender.specs.declared.epochs.Sender.{Sender}
@@ -22,7 +23,7 @@ pub record History : Type 0 where
   pub mst : ℕ → ℕ
   pub ack : ℕ → ℕ
 
--- 'A group has 1 to 64 slots'; the numbers lent are a byte's or a bit's. Which commands and reports come is free: one that is refused changes nothing.
+-- 'A group has 1 to 64 slots at the sender'; the numbers lent are a byte's or a bit's. Which commands and reports come is free: one that is refused changes nothing.
 pub record Allowed (h : History) : Type 0 where
   pub some : 1 ≤ h .slots
   pub most : h .slots ≤ 64
@@ -46,8 +47,8 @@ epochNumber h i = (h .first + i) % epochs (h .kind)
 -- Frames are counted on without end from the first frame of the first epoch, each by its position: 0, 1, 2 and on.
 
 -- the position of the i-th epoch's first frame
-abbrev pub startOf : History → ℕ → ℕ
-startOf h i = i * frames (h .kind)
+abbrev pub epochStart : History → ℕ → ℕ
+epochStart h i = i * frames (h .kind)
 
 -- the epoch of the frame at x
 abbrev pub epochAt : History → ℕ → ℕ
@@ -82,7 +83,7 @@ packetSent h i slot = packetBytes (senderAt h i) slot (replicate (frames (h .kin
 abbrev pub Client : Type 0
 Client = ℕ → List ℕ
 
--- 'P goes from 1 to 2,340', and a group frame has X x P bytes
+-- 'Payload of P bytes per member frame, P from 1 to 2,340', and a group frame has X x P bytes
 pub record Handed (h : History) (P : ℕ) (client : Client) : Type 0 where
   pub least : 1 ≤ P
   pub most : P ≤ 2340
@@ -99,8 +100,8 @@ pub record Pairing (n : ℕ) (slotOf : ℕ → ℕ) : Type 0 where
   pub below : (p : ℕ) → p < n → slotOf p < n
   pub once : (p q : ℕ) → p < n → q < n → slotOf p ≡ slotOf q → p ≡ q
 
--- 'none in its multiframe numbers': a packet's H4 bytes came with the MFI1 of each frame as sent, and with both nibbles of MFI2, in the frames with MFI1 0 and 1
+-- 'none in its multiframe numbers': a packet's H4 bytes came with the MFI1 of each frame as sent, which tells its place, and with both nibbles of MFI2, in the frames with MFI1 0 and 1
 pub record CountKept (kind : ℕ) (sent came : List ℕ) : Type 0 where
-  pub first : (k : ℕ) → k < frames kind → getD came k 0 % 16 ≡ getD sent k 0 % 16
-  pub high : getD came (lead kind) 0 / 16 ≡ getD sent (lead kind) 0 / 16
-  pub low : getD came (lead kind + 1) 0 / 16 ≡ getD sent (lead kind + 1) 0 / 16
+  pub first : (k : ℕ) → k < frames kind → nibblePlace kind (getD came k 0) ≡ nibblePlace kind (getD sent k 0)
+  pub high : nibbleIn kind (getD came (lead kind) 0) ≡ nibbleIn kind (getD sent (lead kind) 0)
+  pub low : nibbleIn kind (getD came (lead kind + 1) 0) ≡ nibbleIn kind (getD sent (lead kind + 1) 0)

@@ -5,5 +5,6 @@ pub mod Numbering
 pub mod Packets
 pub mod Pairing
 pub mod Payloads
+pub mod Ports
 pub mod Ruling
 pub mod Senders

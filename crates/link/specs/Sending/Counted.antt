@@ -3,20 +3,19 @@ use mathlib.Core.Path.{_≡_, refl, _∙_, sym, ap}
 use mathlib.Core.Logic.{⊎-elim, _≢_}
 use mathlib.Core.Bool.{true, not, _&&_, _||_}
 use mathlib.Core.List.{List}
-use Prim.Native.Nat.{ℕ, _+_, _*_, _/_, _%_, _<_}
+use Prim.Native.Nat.{ℕ, _+_, _/_, _%_, _<_}
 use native.Mathlib.Omega.{arith}
 use lib.Dec.{eqb}
 use lib.ListN.{getD}
 use borrow.Author.Tests.{eq-eqb, ne-eqb}
 use Rattle.ground.specs.Truth.{and-true, or-left, or-right, eq-or-ne}
 use Rattle.packet.specs.declared.layout.Fields.{Fields}
-use Rattle.packet.specs.Counts.{counts}
+use Rattle.packet.specs.Counts.{counts, nibbleIn, nibblePlace}
 use Rattle.packet.specs.Kinds.{epochOf, epochs, firstTag, frames, lead, placeOf, tags}
-use Rattle.packet.specs.Laws.Bounds.{Bounds}
 use Rattle.packet.specs.Layout.{dataOf, h4Of, nibblesOf, sealedOf}
 use Rattle.packet.specs.Theorems.Tags.{place-sent, tagOf}
 use Rattle.step.specs.Laws.Sent.{SentWith}
-use Rattle.link.specs.History.{Allowed, CountKept, History, epochAt, epochNumber, fieldsSent, firstTagOf, packetSent, startOf, tagAt}
+use Rattle.link.specs.History.{Allowed, CountKept, History, epochAt, epochNumber, epochStart, fieldsSent, firstTagOf, packetSent, tagAt}
 use Rattle.link.specs.Sending.Packets.{fields-bounds, packet-epoch, packet-is}
 
 -- a test that is asked only where m is n
@@ -63,13 +62,19 @@ epoch-low : (kind x : ℕ) → tagOf kind x % 16 ≡ 1 → epochOf kind (tagOf k
 unfolding epochOf lead frames tags
 epoch-low kind x z = omega arith
 
+same-place : (kind a b : ℕ) → nibblePlace kind a ≡ nibblePlace kind b → a % 16 ≡ b % 16
+unfolding nibblePlace
+same-place kind a b e = omega arith
+
 -- a packet whose epoch is that of the tag of x: its H4 byte at the tag's place, with its multiframe numbers as sent
 pub counted-as-sent : (kind x : ℕ) (f : Fields) (z : ℕ) (came : List ℕ) → f .epoch < 256 → f .epoch ≡ epochOf kind (tagOf kind x) → CountKept kind (h4Of (nibblesOf f z)) came
     → SentWith kind x (getD came (placeOf kind (tagOf kind x)) 0)
+unfolding nibbleIn
 counted-as-sent kind x f z came b e o =
     let t : ℕ = tagOf kind x in
-    counts-by kind t (getD came (placeOf kind t) 0)
-    (o .first (placeOf kind t) (place-lt kind t) ∙ place-sent (nibblesOf f z) kind t)
+    let place : ℕ = placeOf kind t in
+    counts-by kind t (getD came place 0)
+    (same-place kind (getD came place 0) (getD (h4Of (nibblesOf f z)) place 0) (o .first place (place-lt kind t)) ∙ place-sent (nibblesOf f z) kind t)
     (λ (q : t % 16 ≡ 0).
     ap (λ (k : ℕ). getD came k 0 / 16) (place-high kind t q) ∙ o .high ∙ high-sent kind f z b ∙ ap (λ (n : ℕ). n / 16) e ∙ epoch-high kind x q)
     (λ (q : t % 16 ≡ 1).
@@ -80,31 +85,31 @@ kept-self kind sent = record { first = λ k b. refl; high = refl; low = refl }
 
 -- Positions and tags of a history: the frame at place k of the i-th epoch.
 
-pub epoch-at : (h : History) (i k : ℕ) → k < frames (h .kind) → epochAt h (startOf h i + k) ≡ i
+pub epoch-at : (h : History) (i k : ℕ) → k < frames (h .kind) → epochAt h (epochStart h i + k) ≡ i
 unfolding frames
 epoch-at h i k b = omega arith
 
-pub tag-place : (h : History) (i k : ℕ) → k < frames (h .kind) → placeOf (h .kind) (tagAt h (startOf h i + k)) ≡ k
+pub tag-place : (h : History) (i k : ℕ) → k < frames (h .kind) → placeOf (h .kind) (tagAt h (epochStart h i + k)) ≡ k
 unfolding firstTagOf firstTag placeOf lead frames tags
 tag-place h i k b = omega arith
 
-pub tag-epoch : (h : History) (i k : ℕ) → k < frames (h .kind) → epochOf (h .kind) (tagAt h (startOf h i + k)) ≡ epochNumber h i
+pub tag-epoch : (h : History) (i k : ℕ) → k < frames (h .kind) → epochOf (h .kind) (tagAt h (epochStart h i + k)) ≡ epochNumber h i
 unfolding firstTagOf firstTag epochNumber epochOf lead frames tags epochs
 tag-epoch h i k b = omega arith
 
 -- an epoch's first frame has the first tag of its number
-pub tag-first : (h : History) (i : ℕ) → tagAt h (startOf h i) ≡ firstTag (h .kind) (epochNumber h i)
+pub tag-first : (h : History) (i : ℕ) → tagAt h (epochStart h i) ≡ firstTag (h .kind) (epochNumber h i)
 unfolding firstTagOf firstTag epochNumber lead frames tags epochs
 tag-first h i = omega arith
 
 module _ (h : History) (a : Allowed h) (i slot k : ℕ) (b : slot < h .slots) (l : k < frames (h .kind)) where
   -- as it came
-  pub came-counts : (came : List ℕ) → CountKept (h .kind) (packetSent h i slot) came → SentWith (h .kind) (firstTagOf h + (startOf h i + k)) (getD came k 0)
+  pub came-counts : (came : List ℕ) → CountKept (h .kind) (packetSent h i slot) came → SentWith (h .kind) (firstTagOf h + (epochStart h i + k)) (getD came k 0)
   came-counts came o =
-      ap (λ (p : ℕ). counts (h .kind) (tagAt h (startOf h i + k)) (getD came p 0)) (sym (tag-place h i k l))
-      ∙ counted-as-sent (h .kind) (firstTagOf h + (startOf h i + k)) (fieldsSent h i slot) 0 came (fields-bounds h a i slot b .epoch)
+      ap (λ (p : ℕ). counts (h .kind) (tagAt h (epochStart h i + k)) (getD came p 0)) (sym (tag-place h i k l))
+      ∙ counted-as-sent (h .kind) (firstTagOf h + (epochStart h i + k)) (fieldsSent h i slot) 0 came (fields-bounds h a i slot b .epoch)
       (packet-epoch h a i slot ∙ sym (tag-epoch h i k l)) (rw (packet-is h a i slot b) at o)
 
   -- as it was sent
-  pub sent-counts : SentWith (h .kind) (firstTagOf h + (startOf h i + k)) (getD (packetSent h i slot) k 0)
+  pub sent-counts : SentWith (h .kind) (firstTagOf h + (epochStart h i + k)) (getD (packetSent h i slot) k 0)
   sent-counts = came-counts (packetSent h i slot) (kept-self (h .kind) (packetSent h i slot))

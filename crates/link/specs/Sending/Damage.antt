@@ -1,12 +1,10 @@
 -- A packet that came with one to three of its 64 bits changed is refused with 5.
-use mathlib.Core.Path.{_≡_, refl, _∙_, ap}
+use mathlib.Core.Path.{_≡_, refl}
 use mathlib.Core.List.{List}
 use Prim.Native.Nat.{ℕ, _≤_, _<_}
 use lib.ListN.{length}
-use Rattle.ground.specs.Polynomial.{apart}
 use Rattle.packet.specs.declared.layout.Fields.{Fields}
 use Rattle.packet.specs.declared.reader.Reading.the-variants.{Crc}
-use Rattle.packet.specs.Crc.{bitsOf}
 use Rattle.packet.specs.Layout.{dataOf, highsOf, nibblesOf, sealedOf}
 use Rattle.packet.specs.Reading.{readNibbles}
 use Rattle.packet.specs.Theorems.Damage.{changed, nibbles-damaged}

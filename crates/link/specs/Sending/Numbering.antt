@@ -2,7 +2,6 @@
 use mathlib.Core.Path.{_≡_, refl, _∙_, sym, ap}
 use mathlib.Core.Bool.{Bool, true, false, _&&_, _||_}
 use Prim.Native.Nat.{ℕ, _≤_, _<_}
-use native.Mathlib.Omega.{arith}
 use lib.Dec.{eqb}
 use borrow.Author.Tests.{eq-eqb, eqb-true}
 use Rattle.ground.specs.Truth.{and-true, and-left, and-right, or-left}
@@ -16,7 +15,7 @@ use Rattle.sender.specs.declared.board.Row.{Row}
 use Rattle.sender.specs.declared.table.State.{State}
 use Rattle.sender.specs.declared.table.State.the-variants.{Idle, Add, Active, Dnu}
 use Rattle.sender.specs.declared.table.Table.{Table}
-use Rattle.sender.specs.Board.{boardOf, highest, rowOf, wordOf}
+use Rattle.sender.specs.Board.{highest, rowOf, wordOf}
 use Rattle.sender.specs.Epochs.{packetFields}
 use Rattle.sender.specs.Laws.Carrying.{board-row, row-number}
 use Rattle.sender.specs.Laws.Numbered.{placed-member}
@@ -24,7 +23,7 @@ use Rattle.sender.specs.Numbering.{Demand2, isPlaced, numberIn, placed, sends, 
 use Rattle.sender.specs.Ranks.{rowAt}
 use Rattle.sender.specs.Table.{isActive, sizeOf}
 use Rattle.sender.specs.Theorems.Demand2.{sound-demand2}
-use Rattle.link.specs.History.{Allowed, History, numberSent, senderAt, wordSent}
+use Rattle.link.specs.History.{Allowed, History, numberSent, wordSent}
 use Rattle.link.specs.Sending.Ruling.{activeWord, rankBy, xBy}
 use Rattle.link.specs.Sending.Senders.{sender-at-sound, size-at}
 

@@ -4,7 +4,6 @@ use mathlib.Core.Bool.{true}
 use mathlib.Core.List.{List}
 use Prim.Native.Nat.{ℕ, _<_}
 use native.Mathlib.Omega.{arith}
-use lib.Dec.{eqb, ltb}
 use lib.ListN.{length, length-replicate, replicate}
 use borrow.Author.Tests.{eq-eqb, lt-ltb}
 use Rattle.packet.specs.declared.layout.Fields.{Fields}
@@ -19,12 +18,10 @@ use Rattle.packet.specs.Reading.{readNibbles}
 use Rattle.packet.specs.Theorems.ReadBack.{WrittenAs, length-nibbles, nibbles-back, written-as}
 use Rattle.packet.specs.Writing.{fitting, writeAnswer, writeBytes}
 use Rattle.sender.specs.declared.epochs.Sender.{Sender}
-use Rattle.sender.specs.declared.table.Answer.{Answer}
 use Rattle.sender.specs.declared.table.Answer.the-variants.{Done}
 use Rattle.sender.specs.Epochs.{packetAnswer, packetBytes, packetFields}
 use Rattle.sender.specs.Outcomes.{written}
 use Rattle.sender.specs.Table.{answerNumber, sizeOf}
-use Rattle.sender.specs.Theorems.Epochs.{senderAfter}
 use Rattle.sender.specs.Theorems.Packets.{packet-done}
 use Rattle.link.specs.History.{Allowed, History, epochNumber, fieldsSent, packetSent, senderAt}
 use Rattle.link.specs.Sending.Senders.{callsTo, given-to, sender-in, sender-run, size-at}

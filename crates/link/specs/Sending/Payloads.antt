@@ -1,12 +1,12 @@
 -- The payload of every slot: the bytes of its rank in the client's group frame, and zeros without a rank.
 use mathlib.Core.Path.{_≡_, refl, _∙_, sym, ap}
-use mathlib.Core.Bool.{true, _&&_}
+use mathlib.Core.Bool.{true}
 use mathlib.Core.List.{List}
-use Prim.Native.Nat.{ℕ, _*_, _≤_, _<_}
+use Prim.Native.Nat.{ℕ, _≤_, _<_}
 use native.Mathlib.Omega.{arith}
 use lib.ListN.{getD, getD-replicate, length, length-replicate, replicate}
 use borrow.Author.Tests.{le-ltb, lt-ltb}
-use Rattle.ground.specs.Table.{getD-tabulate, length-tabulate, tabulate, tabulate-ext, tabulate-is}
+use Rattle.ground.specs.Table.{getD-tabulate, length-tabulate, tabulate-ext, tabulate-is}
 use Rattle.payload.specs.Laws.Fits.{Sizes, spread-one-done}
 use Rattle.payload.specs.Order.{groupFrame, memberByte, memberFrame}
 use Rattle.payload.specs.Spreading.{spreadOne}
