@@ -54,7 +54,7 @@ epochStart h i = i * frames (h .kind)
 abbrev pub epochAt : History → ℕ → ℕ
 epochAt h x = x / frames (h .kind)
 
--- its tag
+-- the tag of the first frame, and that of the frame at x
 unfoldable pub firstTagOf : History → ℕ
 firstTagOf h = firstTag (h .kind) (h .first)
 
