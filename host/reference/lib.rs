@@ -3,5 +3,6 @@
 
 pub mod packet;
 pub mod payload;
+pub mod receiver;
 pub mod sender;
 pub mod session;
