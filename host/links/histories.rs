@@ -314,7 +314,7 @@ pub fn check(count: &mut Count) {
             break;
         }
     }
-    println!("{:?}", seen);
+    println!("seen\t{:?}", seen);
     let answers = [0, 1, 9, 10, 11, 12].iter().all(|a| seen.answers[*a] > 300);
     let marks = seen.marks.iter().all(|times| *times > 1000);
     let events = [seen.begins, seen.stops, seen.joins_later, seen.turns].iter().all(|times| *times > 100) && seen.old_marks > 30;

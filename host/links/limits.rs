@@ -20,6 +20,9 @@ pub fn check(count: &mut Count) {
     count.note("receiving stops and begins anew in one call", stops_and_begins());
     count.note("frames stored before a loss of step stay brought", stay_brought());
     count.note("joining drops what was stored from there on", joining_drops());
+    count.note("who joined later is not waited for", later_is_not_waited_for());
+    count.note("who joins at the very epoch takes back that it is due", joins_at_the_very_epoch());
+    count.note("who comes back late joins only while its epochs are not yet fetched", comes_back_late());
 }
 
 fn starts() -> bool {
@@ -282,4 +285,85 @@ fn joining_drops() -> bool {
     lent.hand_run(0, first + 8, 9, SAYS_IDLE);
     let port = &lent.receiver.ports[0];
     waits && all && port.joined.is_set() && port.later == 1 && port.marks == 0b1
+}
+
+/// Three ports, of which the third is failed, when the first epoch was gathered; and the tag of the window's first frame.
+fn gathered_by_two() -> (Lent, usize) {
+    let (mut lent, first) = begun_at(100, 2, 64, 3);
+    for port in 0..2 {
+        lent.hand_run(port, 101, first + 16 - 101, SAYS_IDLE);
+    }
+    assert!(lent.receiver.gathered.is_set());
+    (lent, first + 16)
+}
+
+fn marks(lent: &mut Lent) -> Vec<u8> {
+    lent.fetch_all().iter().map(|r| r.mark).collect()
+}
+
+fn later_is_not_waited_for() -> bool {
+    let (mut lent, first) = gathered_by_two();
+    // in step within the second epoch, so it joins at the third
+    lent.hand_run(2, first - 8, 48, SAYS_IDLE);
+    let joined = lent.receiver.ports[2].joined.is_set() && lent.receiver.ports[2].later == 2 && marks(&mut lent).is_empty();
+    for port in 0..2 {
+        lent.hand_run(port, first, 48, SAYS_IDLE);
+    }
+    let two = marks(&mut lent) == [DOUBTFUL, DOUBTFUL];
+    lent.hand_run(2, first + 40, 7, SAYS_IDLE);
+    let third = marks(&mut lent).is_empty() && lent.hand_tag(2, first + 47, SAYS_IDLE) == 0 && marks(&mut lent) == [DOUBTFUL];
+
+    // where all that are readable joined later, the epochs before are due at once
+    let (mut lent, first) = gathered_by_two();
+    lent.hand_flag(0);
+    lent.hand_run(0, first - 8, 48, SAYS_IDLE);
+    let waits = lent.receiver.ports[0].later == 2 && marks(&mut lent).is_empty();
+    lent.hand_flag(1);
+    let reports = lent.fetch_all();
+    let epochs: Vec<u8> = reports.iter().map(|r| r.epoch).collect();
+    let at_once = epochs == [epoch_of(first), epoch_of(first + 16)];
+    joined && two && third && waits && at_once
+}
+
+fn joins_at_the_very_epoch() -> bool {
+    let (mut lent, first) = gathered_by_two();
+    for port in 0..2 {
+        lent.hand_run(port, first, 16, SAYS_IDLE);
+    }
+    let due = lent.receiver.is_due();
+    lent.hand_run(2, first - 40, 55, SAYS_IDLE);
+    let taken_back = lent.receiver.ports[2].joined.is_set() && marks(&mut lent).is_empty();
+    due && taken_back && lent.hand_tag(2, first + 15, SAYS_IDLE) == 0 && marks(&mut lent) == [DOUBTFUL]
+}
+
+/// Whether a port that lags behind the other so far, fails and comes back, joins again. The host fetches as soon as it
+/// can, or only to make room.
+fn comes_back(window: usize, lag: usize, late_one_first: bool, fetch_at_once: bool) -> bool {
+    let mut lent = Lent::start(2, 1, window);
+    for time in window..4 * window + 400 {
+        let failed = (2 * window + 100..2 * window + 200).contains(&time);
+        for port in if late_one_first { [1, 0] } else { [0, 1] } {
+            if port == 1 && failed {
+                lent.hand_flag(1);
+            } else {
+                while lent.hand_tag(port, time - lag * port, SAYS_IDLE) == 11 {
+                    assert_ne!(lent.fetch(), Report::NONE);
+                }
+            }
+            if fetch_at_once {
+                lent.fetch_all();
+            }
+        }
+    }
+    lent.receiver.ports[1].joined.is_set()
+}
+
+fn comes_back_late() -> bool {
+    [64, 77, 256].iter().all(|window| {
+        (0..window - 15).all(|lag| {
+            let at_once = comes_back(*window, lag, true, true) == (lag <= 15) && comes_back(*window, lag, false, true) == (lag <= 14);
+            // right before the foremost port it would meet every epoch's start outside of a full window
+            at_once && comes_back(*window, lag, false, false) && (lag == 0 || comes_back(*window, lag, true, false))
+        })
+    })
 }
