@@ -7,7 +7,7 @@ use crate::invariant;
 use crate::random::Random;
 use crate::source::{packet, Says};
 use reference::receiver::rows::{self, Row};
-use reference::receiver::{epoch_of, fast, first_tag, Flag, Receiver, Report, STATE_FAIL, STATE_IDLE, STATE_OK, TAGS};
+use reference::receiver::{epoch_of, fast, first_tag, Flag, Receiver, Report, STATE_FAIL, STATE_IDLE, STATE_OK, SURE, TAGS};
 use std::collections::HashMap;
 
 /// One frame: flagged or not, its H4 and its payload.
@@ -320,8 +320,39 @@ pub fn check(count: &mut Count) {
     let events = [seen.begins, seen.stops, seen.joins_later, seen.turns].iter().all(|times| *times > 100) && seen.old_marks > 30;
     count.note(&format!("plain, rows and fast alike and sound over {} calls", seen.calls), right);
     count.note("all that can happen happens in these histories", answers && marks && events);
+    count.note("group frames of many widths, plain, rows and fast alike", widths());
     count.note("rows that no call returned", any_rows());
     count.note("rows that do not fit", misfits());
+}
+
+/// All ports active and in no order: blocks of eight by eight bytes, and what is left beside and below them.
+fn widths() -> bool {
+    let mut random = Random::new(28);
+    let mut seen = Seen::default();
+    let mut sure = 0;
+    for x in [1, 2, 3, 7, 8, 9, 15, 16, 17, 24, 40, 63, 64] {
+        for payload in [1, 8, 9, 15] {
+            let mut three = Three::start(x, payload, 17);
+            for tag in 0..90 {
+                for port in 0..x {
+                    // 5 has no divisor in common with any x but 15 and 40, which 7 serves
+                    let number = port * if x % 5 == 0 { 7 } else { 5 } % x;
+                    let says = Says { word: if number + 1 == x { 3 } else { 2 }, sq: number as u32, gid: 1 };
+                    let mut bytes = vec![0; payload];
+                    random.fill(&mut bytes);
+                    let h4 = packet(epoch_of(tag), says)[(tag + 8) % 16];
+                    if three.frame(port, &(false, h4, bytes), &mut seen).is_err() {
+                        return false;
+                    }
+                }
+                match three.fetch(&mut seen) {
+                    Ok(report) => sure += usize::from(report.x == x && report.mark == SURE),
+                    Err(_) => return false,
+                }
+            }
+        }
+    }
+    sure == 2 * 13 * 4
 }
 
 /// Rows with odd numbers in all places, of a group that is in range.
