@@ -283,7 +283,8 @@ pub fn check(count: &mut Count) {
         })
     };
     let right = runs(&mut random, 400, 0, &mut seen);
-    count.note(&format!("every epoch is sure and has the client's bytes ({} epochs, {} bytes)", seen.sure, seen.bytes), right && seen.held == 0 && seen.sure > 5000 && seen.bytes > 500_000 && seen.widest >= 5);
+    let many = seen.held == 0 && seen.sure > 5000 && seen.bytes > 500_000 && seen.widest >= 5;
+    count.note(&format!("every epoch is sure and has the client's bytes ({} epochs, {} bytes)", seen.sure, seen.bytes), right && many);
     count.note(&format!("receiving begins within 47 frames (most: {})", seen.frames_to_begin), right && seen.frames_to_begin == 47);
 
     let mut seen = Seen::default();
