@@ -1,0 +1,2 @@
+-- What follows from the definitions for all ports.
+pub mod Arc
