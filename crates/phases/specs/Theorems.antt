@@ -1,2 +1,3 @@
 -- What follows from the definitions for all ports.
 pub mod Arc
+pub mod Settled

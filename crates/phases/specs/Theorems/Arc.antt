@@ -10,8 +10,8 @@ use borrow.Author.Tests.{eq-eqb, ne-eqb, eqb-false, leb-true, le-leb, lt-ltb, le
 use lib.Dec.{eqb, leb, ltb}
 use Rattle.counting.specs.Laws.Tests.{every-all, every-at}
 use Rattle.counting.specs.Words.{every}
-use Rattle.ground.specs.Circle.{after-leads, after-lt, after-only}
-use Rattle.ground.specs.Truth.{and-left, and-right, and-true, eq-or-ne, le-or-lt, or-left, or-right}
+use Rattle.ground.specs.Circle.{after-leads, after-only}
+use Rattle.ground.specs.Truth.{and-left, and-right, and-true, eq-or-ne, le-or-lt, or-right}
 use Rattle.packet.specs.Kinds.{distanceOf, frames, tagBefore, tags}
 use Rattle.phases.specs.Beginning.{begins, foremost, further, latest, noTag, ready, within}
 use Rattle.rows.specs.declared.group.Group.{Group}
