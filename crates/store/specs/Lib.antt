@@ -1,2 +1,3 @@
 pub mod Marks
 pub mod Frames
+pub mod Laws

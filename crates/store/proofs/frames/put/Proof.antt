@@ -1,0 +1,42 @@
+use native.Mathlib.Omega.{arith}
+use borrow.Author.Needs.{needs}
+use Rattle.store.proofs.Putting.{put-frame, put-none}
+use Rattle.store.proofs.frames.put.Statement.{statement}
+use Rattle.store.proofs.frames.put.Tie as tie
+
+sub-if2 : tie.Need-sub-if2
+sub-if2 c = search needs
+
+copy-requires : tie.Need-copy-requires
+copy-requires c κs = search needs
+
+add-store : tie.Need-add-store
+add-store c = search needs
+
+slice-write-store : tie.Need-slice-write-store
+slice-write-store c = search needs
+
+same-length : tie.Need-same-length
+same-length c = search needs
+
+returns : tie.Need-returns
+returns c = let a = c .before .before .before .before .before .before .before .before .args in put-frame (a .store .now) (a .payload .now) _ (a .place) (a .h4) (omega arith) (c .before .before .copy .ensures)
+
+returns-2 : tie.Need-returns-2
+returns-2 c = let a = c .before .before .before .before .args in put-none (a .store .now) (a .payload .now) (a .place) (a .h4) (omega arith)
+
+returns-3 : tie.Need-returns-3
+returns-3 c = let a = c .before .before .before .args in put-none (a .store .now) (a .payload .now) (a .place) (a .h4) (omega arith)
+
+pub put-spec : {M : Type 1} → statement M
+put-spec =
+    tie.close
+    (tie.spec
+    sub-if2
+    copy-requires
+    add-store
+    slice-write-store
+    same-length
+    returns
+    returns-2
+    returns-3)

@@ -1,0 +1,3 @@
+-- Laws on the definitions, for the proofs above them.
+pub mod Bytes
+pub mod Places
