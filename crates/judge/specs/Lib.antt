@@ -1,3 +1,7 @@
-pub mod Seen
-pub mod Verdict
+pub mod Laws
 pub mod Order
+pub mod Seen
+pub mod Tally
+pub mod Theorems
+pub mod Verdict
+mod Wrong

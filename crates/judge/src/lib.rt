@@ -4,6 +4,9 @@ mod seen;
 mod verdict;
 
 pub use order::Order;
-pub use order::order;
+pub use order::ordered;
 pub use seen::Seen;
+pub use verdict::DOUBTFUL;
+pub use verdict::HELD;
+pub use verdict::SURE;
 pub use verdict::judge;

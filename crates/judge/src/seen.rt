@@ -1,6 +1,7 @@
 // What is seen of a port: the packet that rules it, and whether its frames stand in the store.
 use packet::Word;
 ghost use mathlib.Core.Path.{_≡_};
+ghost use mathlib.Core.Bool.{cond};
 ghost use Rattle.judge.specs.Seen.{activeSeen, eosSeen, lackingSeen, numberedSeen, refusedSeen, unidleSeen, sizeOf};
 
 pub struct Seen {
@@ -20,6 +21,12 @@ pub(crate) fn size_of(count: u8) -> usize
     ensures { λ r. ⌜ r ≡ sizeOf count ⌝ }
 {
     if count < 64 { count as usize } else { 64 }
+}
+
+pub(crate) fn one_if(test: bool) -> u8
+    ensures { λ r. ⌜ r ≡ cond test 1 0 ⌝ }
+{
+    if test { 1 } else { 0 }
 }
 
 pub(crate) fn is_refused(port: Seen) -> bool

@@ -2,9 +2,11 @@
 use crate::seen;
 use crate::seen::Seen;
 ghost use mathlib.Core.Path.{_≡_};
-ghost use Prim.Native.Nat.{_≤_};
+ghost use mathlib.Core.Bool.{cond};
+ghost use Prim.Native.Nat.{_≤_, _<_};
 ghost use Rattle.judge.specs.Seen.{sizeOf};
-ghost use Rattle.judge.specs.Verdict.{judgeOf, takes};
+ghost use Rattle.judge.specs.Tally.{eosAloneBy, exactTo, heldWith, tallyOf, tallyWith};
+ghost use Rattle.judge.specs.Verdict.{judgeOf, repeats, takes};
 
 // The marks of a report. 0 says that none is due.
 pub const HELD: u8 = 1;
@@ -12,3 +14,156 @@ pub const HELD: u8 = 1;
 pub const DOUBTFUL: u8 = 2;
 
 pub const SURE: u8 = 3;
+
+// What one pass over the ports finds.
+struct Tally {
+    refused: bool,
+    lacking: bool,
+    // a GID of 0 and another, of ports that are not IDLE
+    zero: bool,
+    other: bool,
+    active: bool,
+    eos: bool,
+    missing: bool,
+    // the highest number of an active port
+    highest: u8,
+    // how many are active or DNU
+    numbered: u8,
+}
+
+fn choose(test: bool, one: u8, other: u8) -> u8
+    ensures { λ r. ⌜ r ≡ cond test one other ⌝ }
+{
+    if test { one } else { other }
+}
+
+fn with_port(tally: Tally, port: Seen) -> Tally
+    requires { ⌜ tally .numbered < 64 ⌝ }
+    ensures { λ r. ⌜ r ≡ tallyWith tally port ⌝ }
+{
+    let active = seen::is_active(port);
+    let unidle = seen::is_unidle(port);
+    let higher = active & (tally.highest < port.number);
+    Tally {
+        refused: tally.refused | seen::is_refused(port),
+        lacking: tally.lacking | seen::is_lacking(port),
+        zero: tally.zero | (unidle & (port.gid == 0)),
+        other: tally.other | (unidle & !(port.gid == 0)),
+        active: tally.active | active,
+        eos: tally.eos | seen::is_eos(port),
+        missing: tally.missing | !port.whole,
+        highest: choose(higher, port.number, tally.highest),
+        numbered: tally.numbered + seen::one_if(seen::is_numbered(port)),
+    }
+}
+
+fn tallied(ports: [Seen; 64], n: usize) -> Tally
+    requires { ⌜ n ≤ 64 ⌝ }
+    ensures { λ r. ⌜ r ≡ tallyOf ports n ⌝ }
+{
+    let mut sum = Tally {
+        refused: false,
+        lacking: false,
+        zero: false,
+        other: false,
+        active: false,
+        eos: false,
+        missing: false,
+        highest: 0,
+        numbered: 0,
+    };
+    let mut i = 0;
+    while i < n {
+        let port = ports[i];
+        let next = with_port(sum, port);
+        sum = next;
+        i += 1;
+    }
+    sum
+}
+
+// One of the first n active and DNU ports has the number.
+fn is_taken(ports: [Seen; 64], n: usize, number: u8) -> bool
+    requires { ⌜ n ≤ 64 ⌝ }
+    ensures { λ r. ⌜ r ≡ takes ports n number ⌝ }
+{
+    let mut found = false;
+    let mut i = 0;
+    while i < n {
+        let port = ports[i];
+        found = found | (seen::is_numbered(port) & (port.number == number));
+        i += 1;
+    }
+    found
+}
+
+// 'numbers of active and DNU ports repeat'
+fn has_repeats(ports: [Seen; 64], n: usize) -> bool
+    requires { ⌜ n ≤ 64 ⌝ }
+    ensures { λ r. ⌜ r ≡ repeats ports n ⌝ }
+{
+    let mut found = false;
+    let mut i = 0;
+    while i < n {
+        let port = ports[i];
+        found = found | (seen::is_numbered(port) & is_taken(ports, i, port.number));
+        i += 1;
+    }
+    found
+}
+
+fn is_eos_alone(ports: [Seen; 64], n: usize, highest: u8) -> bool
+    requires { ⌜ n ≤ 64 ⌝ }
+    ensures { λ r. ⌜ r ≡ eosAloneBy ports n highest ⌝ }
+{
+    let mut all = true;
+    let mut i = 0;
+    while i < n {
+        let port = ports[i];
+        let last = seen::is_active(port) & (port.number == highest);
+        all = all & (seen::is_eos(port) == last);
+        i += 1;
+    }
+    all
+}
+
+// Each of the numbers below the limit is taken.
+fn is_exact(ports: [Seen; 64], n: usize, limit: u8) -> bool
+    requires { ⌜ n ≤ 64 ⌝ }
+    ensures { λ r. ⌜ r ≡ exactTo ports n limit ⌝ }
+{
+    let mut all = true;
+    let mut number = 0;
+    while number < limit {
+        all = all & is_taken(ports, n, number);
+        number += 1;
+    }
+    all
+}
+
+fn is_held(tally: Tally, repeated: bool, alone: bool) -> bool
+    ensures { λ r. ⌜ r ≡ heldWith tally repeated alone ⌝ }
+{
+    tally.refused
+        | tally.lacking
+        | repeated
+        | (tally.zero & tally.other)
+        | (tally.active & !alone & !(!tally.eos & tally.missing))
+}
+
+pub fn judge(ports: [Seen; 64], count: u8) -> u8
+    ensures { λ r. ⌜ r ≡ judgeOf ports (sizeOf count) ⌝ }
+{
+    let n = seen::size_of(count);
+    let tally = tallied(ports, n);
+    let repeated = has_repeats(ports, n);
+    let alone = is_eos_alone(ports, n, tally.highest);
+    if is_held(tally, repeated, alone) {
+        return HELD;
+    }
+    let exact = is_exact(ports, n, tally.numbered);
+    if tally.missing | !exact {
+        return DOUBTFUL;
+    }
+    SURE
+}

@@ -1,0 +1,3 @@
+pub mod Counts
+pub mod Judging
+pub mod Placing

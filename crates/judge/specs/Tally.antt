@@ -1,0 +1,53 @@
+-- What the code finds on its way to the verdict: one pass over the ports, then the verdict by it.
+use mathlib.Core.Bool.{Bool, cond, not, _&&_, _||_, Bool·beq}
+use mathlib.Core.List.{List}
+use Prim.Native.Nat.{ℕ, _+_}
+use lib.Dec.{eqb, ltb}
+use Rattle.counting.specs.Words.{some, every, count, greatest}
+use Rattle.judge.specs.declared.seen.Seen.{Seen}
+use Rattle.judge.specs.declared.verdict.Tally.{Tally}
+use Rattle.judge.specs.Seen.{activeSeen, eosSeen, lackingSeen, numberedSeen, refusedSeen, seenAt, unidleSeen}
+use Rattle.judge.specs.Verdict.{takes}
+
+abbrev pub tallyOf : List Seen → ℕ → Tally
+tallyOf ports n =
+    record {
+      refused = some n (λ i. refusedSeen (seenAt ports i));
+      lacking = some n (λ i. lackingSeen (seenAt ports i));
+      zero = some n (λ i. unidleSeen (seenAt ports i) && eqb (seenAt ports i .gid) 0);
+      other = some n (λ i. unidleSeen (seenAt ports i) && not (eqb (seenAt ports i .gid) 0));
+      active = some n (λ i. activeSeen (seenAt ports i));
+      eos = some n (λ i. eosSeen (seenAt ports i));
+      missing = some n (λ i. not (seenAt ports i .whole));
+      highest = greatest n (λ i. activeSeen (seenAt ports i)) (λ i. seenAt ports i .number);
+      numbered = count n (λ i. numberedSeen (seenAt ports i));
+    }
+
+-- one port more
+abbrev pub tallyWith : Tally → Seen → Tally
+tallyWith t p =
+    record {
+      refused = t .refused || refusedSeen p;
+      lacking = t .lacking || lackingSeen p;
+      zero = t .zero || (unidleSeen p && eqb (p .gid) 0);
+      other = t .other || (unidleSeen p && not (eqb (p .gid) 0));
+      active = t .active || activeSeen p;
+      eos = t .eos || eosSeen p;
+      missing = t .missing || not (p .whole);
+      highest = cond (activeSeen p && ltb (t .highest) (p .number)) (p .number) (t .highest);
+      numbered = t .numbered + cond (numberedSeen p) 1 0;
+    }
+
+unfoldable pub eosAloneBy : List Seen → ℕ → ℕ → Bool
+eosAloneBy ports n top = every n (λ i. Bool·beq (eosSeen (seenAt ports i)) (activeSeen (seenAt ports i) && eqb (seenAt ports i .number) top))
+
+unfoldable pub exactTo : List Seen → ℕ → ℕ → Bool
+exactTo ports n limit = every limit (λ q. takes ports n q)
+
+abbrev pub heldWith : Tally → Bool → Bool → Bool
+heldWith t repeated alone =
+    t .refused
+    || t .lacking
+    || repeated
+    || (t .zero && t .other)
+    || (t .active && not alone && not (not (t .eos) && t .missing))

@@ -1,0 +1,5 @@
+-- What 01 asks of a report and of the payload's order, proved on the definitions.
+pub mod Exact
+pub mod Held
+pub mod Ranks
+pub mod Sure
