@@ -6,7 +6,7 @@ use lib.Dec.{eqb}
 use lib.ListN.{getD, set, replicate}
 use Rattle.counting.specs.Each.{each}
 use Rattle.reply.specs.declared.members.Port.{Port}
-use Rattle.reply.specs.Members.{STATE_FAIL, STATE_IDLE, STATE_OK, isCandidate, isIdle, portAt, wasOk}
+use Rattle.reply.specs.Members.{failState, idleState, okState, isCandidate, isIdle, portAt, wasOk}
 
 -- The port that has chosen each number, 255 where none has.
 abbrev pub FREE : ℕ
@@ -32,7 +32,7 @@ holders ports n = claims false ports n (claims true ports n (replicate 64 FREE))
 -- 'One whose number is still free becomes OK; all else are FAIL.'
 unfoldable pub stateBy : List ℕ → ℕ → Port → ℕ
 stateBy chosen i p =
-    cond (isIdle p) STATE_IDLE (cond (isCandidate p && eqb (holderOf chosen (p .number)) i) STATE_OK STATE_FAIL)
+    cond (isIdle p) idleState (cond (isCandidate p && eqb (holderOf chosen (p .number)) i) okState failState)
 
 unfoldable pub statesOf : List Port → ℕ → List ℕ
-statesOf ports n = each n (λ i. stateBy (holders ports n) i (portAt ports i)) (replicate 64 STATE_IDLE)
+statesOf ports n = each n (λ i. stateBy (holders ports n) i (portAt ports i)) (replicate 64 idleState)

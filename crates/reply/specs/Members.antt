@@ -12,18 +12,18 @@ abbrev pub sizeOf : ℕ → ℕ
 sizeOf count = cond (ltb count 64) count 64
 
 -- the word of a port with no good packet yet
-abbrev pub NO_WORD : ℕ
-NO_WORD = 255
+abbrev pub noWord : ℕ
+noWord = 255
 
 -- member states
-abbrev pub STATE_IDLE : ℕ
-STATE_IDLE = 0
+abbrev pub idleState : ℕ
+idleState = 0
 
-abbrev pub STATE_FAIL : ℕ
-STATE_FAIL = 1
+abbrev pub failState : ℕ
+failState = 1
 
-abbrev pub STATE_OK : ℕ
-STATE_OK = 2
+abbrev pub okState : ℕ
+okState = 2
 
 abbrev pub portAt : List Port → ℕ → Port
 portAt ports i =
@@ -31,7 +31,7 @@ portAt ports i =
 
 -- 'A port with no good packet yet, or whose last good word is IDLE, is IDLE.'
 abbrev pub isIdle : Port → Bool
-isIdle p = eqb (p .word) NO_WORD || eqb (p .word) IDLE
+isIdle p = eqb (p .word) noWord || eqb (p .word) IDLE
 
 -- 'Others are candidates when readable with a number below 64.'
 abbrev pub isCandidate : Port → Bool
@@ -39,4 +39,4 @@ isCandidate p = not (isIdle p) && p .readable && ltb (p .number) 64
 
 -- 'were OK under the same number'
 abbrev pub wasOk : Port → Bool
-wasOk p = eqb (p .state) STATE_OK && eqb (p .«state_number») (p .number)
+wasOk p = eqb (p .state) okState && eqb (p .«state_number») (p .number)

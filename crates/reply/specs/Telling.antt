@@ -7,11 +7,11 @@ use Rattle.counting.specs.Words.{some}
 use Rattle.packet.specs.Kinds.{mstFirst}
 use Rattle.packet.specs.Words.{ADD, DNU, EOS, IDLE, NORM}
 use Rattle.reply.specs.declared.members.Port.{Port}
-use Rattle.reply.specs.Members.{STATE_OK, portAt}
+use Rattle.reply.specs.Members.{okState, portAt}
 
 -- an OK port holds q
 unfoldable pub okHolds : List Port → ℕ → ℕ → Bool
-okHolds ports n q = some n (λ i. eqb (portAt ports i .state) STATE_OK && eqb (portAt ports i .«state_number») q)
+okHolds ports n q = some n (λ i. eqb (portAt ports i .state) okState && eqb (portAt ports i .«state_number») q)
 
 -- 'MST for q is 0 exactly if an OK port holds q.'
 abbrev pub failBit : List Port → ℕ → ℕ → ℕ

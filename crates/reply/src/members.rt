@@ -26,3 +26,30 @@ impl Port {
 
     pub const OK: u8 = 2;
 }
+
+// A group has at most 64 ports.
+pub(crate) fn size_of(count: u8) -> usize
+    ensures { λ r. ⌜ r ≡ sizeOf count ⌝ }
+{
+    if count < 64 { count as usize } else { 64 }
+}
+
+pub(crate) fn is_idle(port: Port) -> bool
+    ensures { λ r. ⌜ r ≡ isIdle port ⌝ }
+{
+    (port.word == Port::NO_WORD) | (port.word == Word::IDLE.0)
+}
+
+pub(crate) fn is_candidate(port: Port) -> bool
+    ensures { λ r. ⌜ r ≡ isCandidate port ⌝ }
+{
+    !((port.word == Port::NO_WORD) | (port.word == Word::IDLE.0))
+        & port.readable
+        & (port.number < 64)
+}
+
+pub(crate) fn was_ok(port: Port) -> bool
+    ensures { λ r. ⌜ r ≡ wasOk port ⌝ }
+{
+    (port.state == Port::OK) & (port.state_number == port.number)
+}
