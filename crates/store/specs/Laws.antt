@@ -1,3 +1,4 @@
 -- Laws on the definitions, for the proofs above them.
 pub mod Bytes
+pub mod Marks
 pub mod Places
