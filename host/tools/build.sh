@@ -9,6 +9,13 @@ build_c() {
     $archive_compiler -std=c99 $strict -O2 "$2" "$archive" -o "target/host/$1"
 }
 
+# build_link: the example link.
+build_link() {
+    mkdir -p target/host
+    # shellcheck disable=SC2086
+    $archive_compiler -std=c99 $strict -O2 host/link/*.c "$archive" -o target/host/link
+}
+
 # build_own NAME SOURCE COMPILER WORD..: a C or C++ program for this machine's own processor.
 build_own() {
     own_name=$1 own_source=$2
