@@ -10,7 +10,7 @@ enum { FRAME_MOST = 1000000000, EPOCH_MOST = FRAME_MOST / 16, EPOCHS_USUAL = 160
 
 enum choice {
     SLOTS, PAYLOAD, WINDOW, PORTS, DELAYS, FIRST, BACK, NUMBER,
-    ADD, REMOVE, DAMAGE, FAIL, LAPSE, HOLD, AT_ONCE, SEED, EPOCHS,
+    ADD, REMOVE, DAMAGE, FAIL, LAPSE, LATE, AT_ONCE, SEED, EPOCHS,
     FILE_IN, FILE_OUT, DOUBTFUL, QUIET, HELP, CHOICES
 };
 
@@ -21,7 +21,7 @@ static const struct {
 } known[CHOICES] = {
     { "--slots", 1 }, { "--payload", 1 }, { "--window", 1 }, { "--ports", 1 }, { "--delays", 1 }, { "--first", 1 },
     { "--back", 1 }, { "--number", 1 }, { "--add", 1 }, { "--remove", 1 }, { "--damage", 1 }, { "--fail", 1 },
-    { "--lapse", 1 }, { "--hold", 1 }, { "--at-once", 0 }, { "--seed", 1 }, { "--epochs", 1 }, { "--file", 1 }, { "--out", 1 }, { "--doubtful", 0 },
+    { "--lapse", 1 }, { "--late", 1 }, { "--at-once", 0 }, { "--seed", 1 }, { "--epochs", 1 }, { "--file", 1 }, { "--out", 1 }, { "--doubtful", 0 },
     { "--quiet", 0 }, { "--help", 0 }
 };
 
@@ -279,6 +279,8 @@ static int shape(struct choices *c, const struct given *g)
         return -1;
     shape_plainly(c);
     if (drawn) {
+        if (g->word[EPOCHS] == NULL)
+            c->epochs += c->window / 4; /* each answer is on its way for longer */
         draw_lines(c, &random);
         draw_events(c, &random, c->epochs);
     }
@@ -300,7 +302,6 @@ int choices_read(struct choices *c, int count, char **words)
     c->file = g.word[FILE_IN];
     c->whole_file = c->file != NULL && g.word[EPOCHS] == NULL;
     c->out = g.word[FILE_OUT];
-    c->at_once = g.word[AT_ONCE] != NULL;
     c->doubtful = g.word[DOUBTFUL] != NULL;
     c->quiet = g.word[QUIET] != NULL;
     c->help = g.word[HELP] != NULL;
@@ -313,7 +314,9 @@ int choices_read(struct choices *c, int count, char **words)
         || read_events(&g, ADD, c->slots, &c->adds) != 0 || read_events(&g, REMOVE, c->slots, &c->removes) != 0
         || read_events(&g, DAMAGE, c->slots, &c->damages) != 0 || read_failures(&g, c->slots, &c->failures) != 0
         || read_size(&g, LAPSE, 1, FRAME_MOST, &c->lapse) != 0
-        || read_size(&g, HOLD, 0, LEVELSPRUCE_WINDOW_MOST, &c->hold) != 0)
+        || read_size(&g, LATE, 0, LEVELSPRUCE_WINDOW_MOST, &c->late) != 0)
         return -1;
+    if (g.word[AT_ONCE] != NULL)
+        c->at_once = 1;
     return 0;
 }

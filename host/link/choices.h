@@ -31,7 +31,7 @@ struct failures {
 struct choices {
     uint32_t slots, payload, window;
     uint32_t port[LINES_MOST], delay[LINES_MOST], first[LINES_MOST]; /* of each slot's line */
-    uint32_t back, number, lapse, hold;
+    uint32_t back, number, lapse, late;
     struct events adds, removes, damages;
     struct failures failures;
     uint64_t epochs;

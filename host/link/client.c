@@ -70,20 +70,29 @@ int client_is_sent(const struct client *c)
     return c->sent >= c->length;
 }
 
-static uint8_t byte_at(const struct client *c, uint64_t place)
+/* How many of the bytes from a place on, count at most, lie one behind the other; *bytes is NULL where they are zeros. */
+static size_t run_from(const struct client *c, uint64_t place, size_t count, const uint8_t **bytes)
 {
-    if (c->repeats)
-        return c->bytes[place % c->length];
-    return place < c->length ? c->bytes[place] : 0;
+    uint64_t at = c->repeats ? place % c->length : place;
+
+    *bytes = at < c->length ? c->bytes + at : NULL;
+    return *bytes != NULL && c->length - at < count ? (size_t)(c->length - at) : count;
 }
 
 void client_take(struct client *c, uint8_t *bytes, size_t count)
 {
-    size_t i;
+    while (count > 0) {
+        const uint8_t *from;
+        size_t run = run_from(c, c->sent, count, &from);
 
-    for (i = 0; i < count; i++)
-        bytes[i] = byte_at(c, c->sent + i);
-    c->sent += count;
+        if (from != NULL)
+            memcpy(bytes, from, run);
+        else
+            memset(bytes, 0, run);
+        bytes += run;
+        count -= run;
+        c->sent += run;
+    }
 }
 
 size_t client_own(const struct client *c, uint64_t from, size_t count)
@@ -93,20 +102,36 @@ size_t client_own(const struct client *c, uint64_t from, size_t count)
     return from < c->length ? (size_t)(c->length - from) : 0;
 }
 
-size_t client_differs(const struct client *c, uint64_t from, const uint8_t *bytes, size_t count)
+static int all_zero(const uint8_t *bytes, size_t count)
 {
     size_t i;
 
-    for (i = 0; i < count && bytes[i] == byte_at(c, from + i); i++)
+    for (i = 0; i < count && bytes[i] == 0; i++)
         ;
-    return i;
+    return i == count;
+}
+
+int client_sent(const struct client *c, uint64_t from, const uint8_t *bytes, size_t count)
+{
+    while (count > 0) {
+        const uint8_t *sent;
+        size_t run = run_from(c, from, count, &sent);
+
+        if (sent != NULL ? memcmp(bytes, sent, run) != 0 : !all_zero(bytes, run))
+            return 0;
+        bytes += run;
+        count -= run;
+        from += run;
+    }
+    return 1;
 }
 
 void client_came(struct client *c, uint64_t from, const uint8_t *bytes, size_t count)
 {
     size_t i, own = client_own(c, from, count);
 
-    for (i = 0; i < own; i++) {
+    /* of a text that repeats, once is enough */
+    for (i = 0; i < own && i < c->length; i++) {
         c->came[(from + i) % c->length] = bytes[i];
         c->has_come[(from + i) % c->length] = 1;
     }

@@ -25,8 +25,8 @@ void client_take(struct client *c, uint8_t *bytes, size_t count);
 /* How many of the bytes from there are the client's own, and not the zeros behind a file. */
 size_t client_own(const struct client *c, uint64_t from, size_t count);
 
-/* Where bytes first differ from those sent from there on; their count if nowhere. */
-size_t client_differs(const struct client *c, uint64_t from, const uint8_t *bytes, size_t count);
+/* Whether these bytes are those that were sent from there on. */
+int client_sent(const struct client *c, uint64_t from, const uint8_t *bytes, size_t count);
 
 /* These bytes came out sure, from there on. */
 void client_came(struct client *c, uint64_t from, const uint8_t *bytes, size_t count);

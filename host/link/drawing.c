@@ -40,6 +40,8 @@ void draw_lines(struct choices *c, struct random *r)
     }
     c->back = number_below(r, 100);
     c->number = number_below(r, 256);
+    c->late = random_below(r, 2) == 0 ? 0 : number_below(r, c->window);
+    c->at_once = random_below(r, 4) == 0;
 }
 
 static void put_event(struct events *events, uint64_t epoch, uint32_t slot)

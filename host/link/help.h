@@ -20,7 +20,7 @@
 "  --damage EPOCH:SLOT,..  packets of which one to three bits are changed on the way\n"
 "  --fail PORT:FROM-TO,..  ports whose frames come flagged, from one frame time of the receiver to another\n"
 "  --lapse N               closes a wait that has stood open at N starts of epochs (64)\n"
-"  --hold N                all reports but the first come N frames later, so that ports that come later\n"
+"  --late N                all reports but the first come N frames later, so that ports that come later\n"
 "                          may be slower by N (0)\n"
 "  --at-once               reports are fetched as soon as they are due, and not one in sixteen frames:\n"
 "                          then the slowest port, if it fails, does not come back\n"

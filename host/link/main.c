@@ -31,7 +31,7 @@ struct link {
     uint64_t least_delay;
     struct receiving receiving;
     uint64_t next_fetch; /* the frame time before which no report is fetched */
-    int fetched; /* some report has been */
+    uint64_t next_epoch; /* the epoch after the one reported last */
     struct back back;
     struct says says;
     struct tally tally;
@@ -88,12 +88,15 @@ static uint64_t epoch_of(const struct link *l, uint8_t number, uint64_t time)
 static int fetch(struct link *l, uint64_t time)
 {
     struct report report;
+    uint64_t epoch;
 
     if (!receiving_fetch(&l->receiving, &report))
         return 0;
-    tally_report(&l->tally, epoch_of(l, report.number, time), &report, l->receiving.out, &l->sending, &l->client, &l->says);
-    l->next_fetch = time + EPOCH_FRAMES + (l->fetched ? 0 : l->choices.hold);
-    l->fetched = 1;
+    epoch = epoch_of(l, report.number, time);
+    tally_report(&l->tally, epoch, &report, l->receiving.out, &l->sending, &l->client, &l->says);
+    /* epochs are left out where receiving began anew */
+    l->next_fetch = time + EPOCH_FRAMES + (epoch == l->next_epoch ? 0 : l->choices.late);
+    l->next_epoch = epoch + 1;
     return 1;
 }
 
@@ -205,6 +208,8 @@ static void run(struct link *l)
     /* what is still on its way; lines that the receiver no longer takes from are left */
     for (last = time + DELAY_MOST + LEVELSPRUCE_WINDOW_MOST; time < last && !all_empty(l); time++)
         receive(l, time);
+    while (fetch(l, time))
+        ;
 }
 
 int main(int count, char **words)

@@ -57,6 +57,10 @@ void says_link(struct says *s, const struct choices *c)
         return;
     printf("link\tslots\t%" PRIu32 "\tpayload\t%" PRIu32 "\twindow\t%" PRIu32 "\tfirst epoch\t%" PRIu32 "\tback\t%" PRIu32 "\n", c->slots,
            c->payload, c->window, c->number, c->back);
+    if (c->at_once)
+        printf("reports\tat once\n");
+    else
+        printf("reports\tone in sixteen frames\tlate\t%" PRIu32 "\n", c->late);
     for (slot = 0; slot < c->slots; slot++)
         printf("line\tslot\t%" PRIu32 "\tport\t%" PRIu32 "\tdelay\t%" PRIu32 "\tfirst frame\t%" PRIu32 "\n", slot, c->port[slot],
                c->delay[slot], c->first[slot]);

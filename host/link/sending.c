@@ -64,17 +64,27 @@ static void lapse_if_late(struct sending *s)
     }
 }
 
-static void write_packets(struct sending *s, uint64_t epoch)
+static int is_damaged(const struct events *damages, uint64_t epoch, uint32_t slot)
 {
-    const struct events *damages = &s->choices->damages;
-    uint32_t slot;
     size_t i;
 
-    for (slot = 0; slot < s->choices->slots; slot++)
-        must(levelspruce_sender_packet(s->state, sizeof s->state, slot, s->packets[slot], LEVELSPRUCE_PACKET_BYTES), "levelspruce_sender_packet");
     for (i = 0; i < damages->count; i++)
-        if (damages->each[i].epoch == epoch)
-            damage(s->packets[damages->each[i].slot], epoch);
+        if (damages->each[i].epoch == epoch && damages->each[i].slot == slot)
+            return 1;
+    return 0;
+}
+
+static void write_packets(struct sending *s, uint64_t epoch)
+{
+    uint32_t slot;
+
+    for (slot = 0; slot < s->choices->slots; slot++) {
+        uint8_t *packet = s->packets[slot];
+
+        must(levelspruce_sender_packet(s->state, sizeof s->state, slot, packet, LEVELSPRUCE_PACKET_BYTES), "levelspruce_sender_packet");
+        if (is_damaged(&s->choices->damages, epoch, slot))
+            damage(packet, epoch);
+    }
 }
 
 void sending_start_epoch(struct sending *s, uint64_t epoch, const struct client *client, struct says *says)

@@ -21,7 +21,7 @@ void tally_report(struct tally *t, uint64_t epoch, const struct report *report, 
     const struct carried *carried = sending_carried(sending, epoch);
     int sure = report->mark == LEVELSPRUCE_MARK_SURE;
     int right = carried != NULL && carried->bytes == report->bytes
-        && client_differs(client, carried->from, bytes, report->bytes) == report->bytes;
+        && client_sent(client, carried->from, bytes, report->bytes);
 
     says_report(says, epoch, report->mark, report->bytes, right);
     t->epochs[report->mark]++;

@@ -25,6 +25,15 @@ build_own() {
     "$@" $strict "$own_source" "$own_library" -o "target/host/$own_name"
 }
 
+# build_own_link NAME COMPILER WORD..: the example link for this machine's own processor.
+build_own_link() {
+    own_name=$1
+    shift
+    mkdir -p target/host
+    # shellcheck disable=SC2086
+    "$@" $strict host/link/*.c "$own_library" -o "target/host/$own_name"
+}
+
 # build_reference: the rules a second time.
 build_reference() {
     mkdir -p target/host
@@ -41,4 +50,9 @@ build_differential() {
     build_reference &&
         rustc --edition 2021 -O host/differential/main.rs --extern reference=target/host/libreference.rlib \
             -C link-arg="$own_library" -o target/host/differential
+}
+
+# build_crossings: the program that runs the example link over made-up links.
+build_crossings() {
+    rustc --edition 2021 -O host/crossings/main.rs -o target/host/crossings
 }
