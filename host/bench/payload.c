@@ -16,13 +16,13 @@ call gcc_spread, gcc_join;
 call clang_spread, clang_join;
 #endif
 
+/* bounds no length, or the compiler makes its own loop of memcpy and does not call the library's */
 static uint8_t by_memcpy(uint32_t x, uint32_t p, const uint8_t *from, size_t from_length, uint8_t *to, size_t to_length)
 {
-    if (x != 1 || p < 1 || p > 2340)
-        return 4;
-    if (from_length != p || to_length != p)
+    size_t n = (size_t)x * p;
+    if (from_length != n || to_length != n)
         return 9;
-    memcpy(to, from, p);
+    memcpy(to, from, n);
     return 0;
 }
 
