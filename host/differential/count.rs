@@ -9,7 +9,7 @@ pub struct Count {
 }
 
 impl Count {
-    fn note(&mut self, name: &str, held: bool) {
+    pub fn note(&mut self, name: &str, held: bool) {
         if held {
             self.passed += 1;
         } else {

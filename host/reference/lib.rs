@@ -1,7 +1,8 @@
 //! The rules of Levelspruce a second time, written from the paper that states them and not from the proved code, in
-//! the plainest way and with no thought for speed. Differential tests hold the archive to it.
+//! the plainest way and with no thought for speed (but for receiver/fast.rs). Differential tests hold the archive to it.
 
 pub mod packet;
 pub mod payload;
+pub mod receiver;
 pub mod sender;
 pub mod session;

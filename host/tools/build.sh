@@ -40,6 +40,11 @@ build_reference() {
     rustc --edition 2021 -O --crate-type rlib --crate-name reference host/reference/lib.rs -o target/host/libreference.rlib
 }
 
+# build_links: the program that checks the reference's receiver.
+build_links() {
+    build_reference && rustc --edition 2021 -O host/links/main.rs --extern reference=target/host/libreference.rlib -o target/host/links
+}
+
 # build_sessions: the program that holds the session program to the reference.
 build_sessions() {
     build_reference && rustc --edition 2021 -O host/sessions/main.rs --extern reference=target/host/libreference.rlib -o target/host/sessions

@@ -1,0 +1,60 @@
+-- What comes together of an epoch, judged: a pure function of the frames' contents (01, 'Report of an epoch').
+use mathlib.Core.Bool.{true, false, cond}
+use mathlib.Core.List.{List, [], _++_}
+use Prim.Native.Nat.{ℕ, zero, suc, _+_, _-_, _*_}
+use lib.Dec.{eqb}
+use lib.ListN.{getD, replicate}
+use Rattle.counting.specs.Each.{each}
+use Rattle.ground.specs.Table.{tabulate}
+use Rattle.judge.specs.declared.seen.Seen.{Seen}
+use Rattle.judge.specs.Order.{activeIn, portOf}
+use Rattle.judge.specs.Verdict.{HELD, judgeOf}
+use Rattle.packet.specs.Counts.{nibbleIn}
+use Rattle.packet.specs.Kinds.{epochOf, frames}
+use Rattle.packet.specs.Theorems.Tags.{tagOf}
+use Rattle.payload.specs.Order.{groupFrame}
+use Rattle.phases.specs.Ruling.{rulingOf}
+use Rattle.link.specs.Road.{Road}
+use Rattle.link.specs.Told.{Told}
+
+module _ (r : Road) where
+  -- the number of the epoch that starts at position i L
+  unfoldable pub numberOf : ℕ → ℕ
+  numberOf i = epochOf (r .kind) (tagOf (r .kind) (r .offset + i * frames (r .kind)))
+
+  -- the packet that came to port p in epoch i
+  unfoldable pub packetOf : ℕ → ℕ → List ℕ
+  packetOf i p = tabulate 16 (λ k. nibbleIn (r .kind) (r .h4 p (i * frames (r .kind) + k)))
+
+  -- what is seen of port p in the epoch after epoch i, which the packets of epoch i rule
+  unfoldable pub seenAfter : ℕ → ℕ → Seen
+  seenAfter i p =
+      let q = rulingOf (r .kind) (numberOf i) (packetOf i p) in
+      record { whole = true; good = q .good; word = q .word; number = q .number; gid = q .gid; here = true }
+
+  abbrev pub noSeen : Seen
+  noSeen = record { whole = false; good = false; word = 0; number = 0; gid = 0; here = false }
+
+  unfoldable pub allSeenAfter : ℕ → List Seen
+  allSeenAfter i = each (r .ports) (seenAfter i) (replicate 64 noSeen)
+
+  -- the group frame at position x under an order
+  unfoldable pub frameAt : List Seen → ℕ → List ℕ
+  frameAt seen x =
+      groupFrame (activeIn seen (r .ports)) (r .payload) (λ rank j. getD (r .bytes (portOf seen (r .ports) rank) x) j 0)
+
+  -- k group frames from position x on
+  unfoldable pub framesFrom : List Seen → ℕ → ℕ → List ℕ
+  framesFrom seen x zero = []
+  framesFrom seen x (suc k) = framesFrom seen x k ++ frameAt seen (x + k)
+
+  -- the report of epoch i + 1
+  unfoldable pub reportAfter : ℕ → Told
+  reportAfter i =
+      let seen = allSeenAfter i in
+      let mark = judgeOf seen (r .ports) in
+      record {
+        epoch = numberOf (suc i);
+        mark = mark;
+        bytes = cond (eqb mark HELD) [] (framesFrom seen (suc i * frames (r .kind)) (frames (r .kind)));
+      }

@@ -1,0 +1,25 @@
+//! Checks the reference's receiver by itself: 01's limits, links from the reference's sender, and long histories of
+//! unruly hosts. Every run makes the same ones.
+
+#[path = "../differential/count.rs"]
+#[allow(dead_code)] // not all of it is used here
+mod count;
+mod histories;
+mod invariant;
+mod judgements;
+mod limits;
+mod link;
+mod source;
+
+#[path = "../differential/random.rs"]
+#[allow(dead_code)] // nor of this
+mod random;
+
+fn main() {
+    let mut count = count::Count::default();
+    limits::check(&mut count);
+    judgements::check(&mut count);
+    link::check(&mut count);
+    histories::check(&mut count);
+    std::process::exit(count.tally());
+}

@@ -1,0 +1,542 @@
+//! The receiver: step, beginning, window, reports, member states and reply.
+
+pub mod fast;
+pub mod rows;
+
+use crate::packet;
+use crate::payload::PAYLOAD_MOST;
+
+pub const PORTS_MOST: u32 = 64;
+pub const WINDOW_LEAST: u32 = 16;
+pub const WINDOW_MOST: u32 = 2048;
+
+/// Tags and epochs go round.
+pub const TAGS: usize = 4096;
+pub const EPOCHS: usize = 256;
+/// The frames of an epoch.
+pub const EPOCH_FRAMES: usize = 16;
+/// The frames counted rightly in a row that bring a port into step.
+pub const STEP_FRAMES: u8 = 32;
+/// No number; and, as a word, no good packet yet.
+pub const NONE: u8 = 255;
+
+/// Member states.
+pub const STATE_IDLE: u8 = 0;
+pub const STATE_FAIL: u8 = 1;
+pub const STATE_OK: u8 = 2;
+
+/// What a fetch says of an epoch.
+pub const NONE_DUE: u8 = 0;
+pub const HELD: u8 = 1;
+pub const DOUBTFUL: u8 = 2;
+pub const SURE: u8 = 3;
+
+const ADD: u8 = packet::ADD as u8;
+const NORM: u8 = packet::NORM as u8;
+const EOS: u8 = packet::EOS as u8;
+const IDLE: u8 = packet::IDLE as u8;
+const DNU: u8 = packet::DNU as u8;
+
+/// A flag in a byte: set where it is not 0. Bytes that no call returned stay as they are until a rule sets the flag.
+#[derive(Clone, Copy, PartialEq, Eq, Debug, Default)]
+pub struct Flag(pub u8);
+
+impl Flag {
+    pub fn is_set(self) -> bool {
+        self.0 != 0
+    }
+}
+
+impl From<bool> for Flag {
+    fn from(set: bool) -> Flag {
+        Flag(u8::from(set))
+    }
+}
+
+/// How far a tag lies after another, on the circle.
+pub fn after(tag: usize, other: usize) -> usize {
+    (tag + TAGS - other) % TAGS
+}
+
+/// The tag of an epoch's first frame, which has MFI1 8 of the multiframe before.
+pub fn first_tag(epoch: u8) -> usize {
+    (usize::from(epoch) * EPOCH_FRAMES + TAGS - 8) % TAGS
+}
+
+/// The epoch of a tag.
+pub fn epoch_of(tag: usize) -> u8 {
+    ((tag + 8) % TAGS / EPOCH_FRAMES) as u8
+}
+
+#[derive(Clone, PartialEq, Eq, Debug)]
+pub struct Port {
+    /// Had a frame, and the latest came flagged.
+    pub had: Flag,
+    pub failed: Flag,
+    /// Frames counted rightly in a row, up to 32, and the tag that the next one should have.
+    pub count: u8,
+    pub next: u16,
+    /// Joined; in step ever since the beginning; the epochs from the oldest to the one joined at.
+    pub joined: Flag,
+    pub since: Flag,
+    pub later: u8,
+    /// Mark i: the sixteen frames of the i-th epoch, counted from the oldest, stand in the store.
+    pub marks: u128,
+    /// The packet now arriving; the packet that rules, and whether it arrived whole. Nibbles in the order of sending.
+    pub gathering: [u8; 16],
+    pub ruling: [u8; 16],
+    pub whole: Flag,
+    /// Word and number of the last good packet.
+    pub word: u8,
+    pub number: u8,
+    /// The state worked out at the last report, and under which number.
+    pub state: u8,
+    pub state_number: u8,
+    /// The last good word and number at the last report.
+    pub told_word: u8,
+    pub told_number: u8,
+}
+
+impl Port {
+    fn new() -> Port {
+        Port {
+            had: Flag(0),
+            failed: Flag(0),
+            count: 0,
+            next: 0,
+            joined: Flag(0),
+            since: Flag(0),
+            later: 0,
+            marks: 0,
+            gathering: [0; 16],
+            ruling: [0; 16],
+            whole: Flag(0),
+            word: NONE,
+            number: NONE,
+            state: STATE_IDLE,
+            state_number: NONE,
+            told_word: NONE,
+            told_number: NONE,
+        }
+    }
+
+    pub fn in_step(&self) -> bool {
+        self.count >= STEP_FRAMES
+    }
+
+    pub fn next_tag(&self) -> usize {
+        usize::from(self.next) % TAGS
+    }
+
+    /// The tag of the frame counted last.
+    pub fn latest_tag(&self) -> usize {
+        after(self.next_tag(), 1)
+    }
+
+    /// Step is lost, and with it that the port has joined. What it stored stays brought.
+    fn lose_step(&mut self) {
+        self.count = 0;
+        self.next = 0;
+        self.joined = Flag(0);
+        self.since = Flag(0);
+        self.later = 0;
+    }
+
+    /// "Port recorded unreadable, its step lost"
+    fn flag(&mut self) {
+        self.had = Flag(1);
+        self.failed = Flag(1);
+        self.lose_step();
+    }
+
+    /// Whether a frame counts on from those before. MFI2 is checked nibble by nibble as it comes, but for the low
+    /// nibble of a run's first MFI2, which is news.
+    fn counts_on(&self, mfi1: usize, nibble: usize) -> bool {
+        let next = self.next_tag();
+        let mfi2_right = match mfi1 {
+            0 => nibble == next / 256,
+            1 => self.count == 1 || nibble == next / 16 % 16,
+            _ => true,
+        };
+        self.count > 0 && mfi1 == next % 16 && mfi2_right
+    }
+
+    /// The step record over a frame that is not flagged.
+    fn count(&mut self, h4: u8) {
+        let (nibble, mfi1) = (usize::from(h4 / 16), usize::from(h4 % 16));
+        self.had = Flag(1);
+        self.failed = Flag(0);
+        if self.counts_on(mfi1, nibble) {
+            let tag = if self.count == 1 && mfi1 == 1 { self.next_tag() / 256 * 256 + nibble * 16 + 1 } else { self.next_tag() };
+            self.next = ((tag + 1) % TAGS) as u16;
+            if !self.in_step() {
+                self.count += 1;
+            }
+        } else {
+            self.lose_step();
+            if mfi1 == 0 {
+                self.count = 1;
+                self.next = (nibble * 256 + 1) as u16;
+            }
+        }
+        if self.count > 0 {
+            self.gathering[(mfi1 + 8) % 16] = nibble as u8;
+        }
+    }
+
+    fn drop_all_but_step(&mut self) {
+        self.joined = Flag(0);
+        self.since = Flag(0);
+        self.later = 0;
+        self.marks = 0;
+        self.whole = Flag(0);
+    }
+
+    /// Joins at the i-th epoch from the oldest. What the port had stored from there on is dropped.
+    fn join(&mut self, i: usize) {
+        self.joined = Flag(1);
+        self.later = i as u8;
+        self.marks &= (1 << i) - 1;
+    }
+
+    /// Brought the sixteen frames of the oldest epoch.
+    fn brought(&self) -> bool {
+        self.marks & 1 == 1
+    }
+
+    fn is_idle(&self) -> bool {
+        self.word == NONE || self.word == IDLE
+    }
+}
+
+/// Whether a word is that of an active or DNU member, which has a number in the group's order.
+fn is_numbered(word: u8) -> bool {
+    is_active(word) || word == DNU
+}
+
+fn is_active(word: u8) -> bool {
+    word == NORM || word == EOS
+}
+
+/// Word, GID and number of a packet, if it is read with 0.
+fn read(nibbles: &[u8; 16]) -> Option<(u8, u8, u8)> {
+    let h4 = nibbles.map(|n| n % 16 * 16);
+    let mut fields = [0u8; packet::FIELDS_BYTES];
+    let answer = packet::read(&h4, &mut fields);
+    let [_, word, gid, _, _, number] = fields;
+    (answer == packet::DONE).then_some((word, gid, number))
+}
+
+/// What a fetch reports.
+#[derive(Clone, Copy, PartialEq, Eq, Debug)]
+pub struct Report {
+    /// None due, held, doubtful or sure.
+    pub mark: u8,
+    pub epoch: u8,
+    /// The active ports joined, and the bytes written.
+    pub x: usize,
+    pub bytes: usize,
+}
+
+impl Report {
+    pub const NONE: Report = Report { mark: NONE_DUE, epoch: 0, x: 0, bytes: 0 };
+}
+
+/// What is shown of a port.
+#[derive(Clone, Copy, PartialEq, Eq, Debug)]
+pub struct Shown {
+    pub state: u8,
+    pub number: u8,
+    pub in_step: bool,
+    pub joined: bool,
+    pub readable: bool,
+}
+
+#[derive(Clone, PartialEq, Eq, Debug, Default)]
+pub struct Receiver {
+    pub ports: Vec<Port>,
+    /// P and W.
+    pub payload: usize,
+    pub window: usize,
+    pub begun: Flag,
+    /// The first epoch is gathered.
+    pub gathered: Flag,
+    /// The oldest epoch not yet reported or gathered; 0 while receiving has not begun.
+    pub oldest: u8,
+    /// The place of the window's first frame.
+    pub origin: u16,
+    pub rs_ack: Flag,
+}
+
+impl Receiver {
+    /// What a refused start leaves: no ports.
+    pub fn empty() -> Receiver {
+        Receiver::default()
+    }
+
+    pub fn fits(ports: u32, payload: u32, window: u32) -> bool {
+        (1..=PORTS_MOST).contains(&ports) && (1..=PAYLOAD_MOST).contains(&payload) && (WINDOW_LEAST..=WINDOW_MOST).contains(&window)
+    }
+
+    pub fn start(&mut self, ports: u32, payload: u32, window: u32, store_length: usize) -> u8 {
+        if !Receiver::fits(ports, payload, window) {
+            *self = Receiver::empty();
+            return 4;
+        }
+        let started = Receiver {
+            ports: vec![Port::new(); ports as usize],
+            payload: payload as usize,
+            window: window as usize,
+            ..Receiver::empty()
+        };
+        if store_length != started.store_length() {
+            return 9;
+        }
+        *self = started;
+        0
+    }
+
+    pub fn store_length(&self) -> usize {
+        self.ports.len() * self.window * (self.payload + 1)
+    }
+
+    /// The output holds at least this.
+    pub fn output_least(&self) -> usize {
+        self.ports.len() * EPOCH_FRAMES * self.payload
+    }
+
+    /// Where a port's frame so far after the window's first stands in the store.
+    pub fn place(&self, port: usize, distance: usize) -> usize {
+        (port * self.window + (usize::from(self.origin) + distance) % self.window) * (self.payload + 1)
+    }
+
+    /// "In step, if joined or in step ever since the beginning"
+    pub fn is_readable(&self, port: &Port) -> bool {
+        self.begun.is_set() && port.in_step() && (port.joined.is_set() || port.since.is_set())
+    }
+
+    /// "Every readable port has brought its sixteen frames or joined at a later epoch"
+    pub fn is_due(&self) -> bool {
+        let mut readable = self.ports.iter().filter(|p| self.is_readable(p));
+        self.begun.is_set() && readable.all(|p| p.brought() || p.joined.is_set() && p.later > 0)
+    }
+
+    pub fn frame(&mut self, port: u32, flagged: bool, h4: u8, payload: &[u8], store: &mut [u8]) -> u8 {
+        let port = port as usize;
+        if port >= self.ports.len() {
+            return 1;
+        }
+        if payload.len() != self.payload || store.len() != self.store_length() {
+            return 9;
+        }
+        let mut advanced = self.ports[port].clone();
+        let answer = if flagged {
+            advanced.flag();
+            10
+        } else {
+            advanced.count(h4);
+            if advanced.in_step() { 0 } else { 12 }
+        };
+        if answer == 0 && self.begun.is_set() {
+            let tag = advanced.latest_tag();
+            let distance = after(tag, first_tag(self.oldest));
+            let in_window = distance < self.window;
+            if advanced.joined.is_set() && !in_window {
+                return 11;
+            }
+            if !advanced.joined.is_set() && in_window && tag % EPOCH_FRAMES == 8 {
+                advanced.join(distance / EPOCH_FRAMES);
+            }
+            if advanced.joined.is_set() {
+                let at = self.place(port, distance);
+                store[at..at + self.payload].copy_from_slice(payload);
+                store[at + self.payload] = h4;
+                if distance % EPOCH_FRAMES == EPOCH_FRAMES - 1 {
+                    advanced.marks |= 1 << (distance / EPOCH_FRAMES);
+                }
+            }
+        }
+        self.ports[port] = advanced;
+        self.follow(store);
+        answer
+    }
+
+    /// All that follows from a frame by the receiver's rules. Stopping comes before the beginning, both before gathering.
+    fn follow(&mut self, store: &[u8]) {
+        if self.begun.is_set() && !self.ports.iter().any(|p| self.is_readable(p)) {
+            self.stop();
+        }
+        if !self.begun.is_set() {
+            if let Some(foremost) = self.foremost_to_begin() {
+                self.begin(foremost);
+            }
+        }
+        if self.begun.is_set() && !self.gathered.is_set() && self.is_due() {
+            self.take_packets(store);
+            self.pass();
+            self.gathered = Flag(1);
+        }
+    }
+
+    fn stop(&mut self) {
+        for p in &mut self.ports {
+            p.drop_all_but_step();
+        }
+        self.begun = Flag(0);
+        self.gathered = Flag(0);
+        self.oldest = 0;
+    }
+
+    /// The foremost of the latest tags, if receiving is to begin: the one that all others lie within W-16 behind.
+    pub fn foremost_to_begin(&self) -> Option<usize> {
+        if !self.ports.iter().all(|p| p.had.is_set() && (p.in_step() || p.failed.is_set())) {
+            return None;
+        }
+        let tags: Vec<usize> = self.ports.iter().filter(|p| p.in_step()).map(Port::latest_tag).collect();
+        let behind = self.window - WINDOW_LEAST as usize;
+        tags.iter().copied().find(|foremost| tags.iter().all(|t| after(*foremost, *t) <= behind))
+    }
+
+    fn begin(&mut self, foremost: usize) {
+        for p in &mut self.ports {
+            p.drop_all_but_step();
+            p.since = Flag::from(p.in_step());
+        }
+        self.begun = Flag(1);
+        self.gathered = Flag(0);
+        // an epoch that starts at the foremost tag has started
+        self.oldest = epoch_of(foremost).wrapping_add(1);
+    }
+
+    /// The packets of the oldest epoch come to rule, read back from the store where they arrived whole.
+    fn take_packets(&mut self, store: &[u8]) {
+        for i in 0..self.ports.len() {
+            let brought = self.ports[i].brought();
+            self.ports[i].whole = Flag::from(brought);
+            if brought {
+                let nibble = |k: usize| store[self.place(i, k) + self.payload] / 16;
+                let ruling: [u8; 16] = std::array::from_fn(nibble);
+                let p = &mut self.ports[i];
+                p.ruling = ruling;
+                if let Some((word, _, number)) = read(&ruling) {
+                    p.word = word;
+                    p.number = number;
+                }
+            }
+        }
+    }
+
+    /// The window moves to the next epoch.
+    fn pass(&mut self) {
+        for p in &mut self.ports {
+            p.marks >>= 1;
+            p.later = p.later.saturating_sub(1);
+        }
+        self.oldest = self.oldest.wrapping_add(1);
+        self.origin = ((usize::from(self.origin) + EPOCH_FRAMES) % self.window) as u16;
+    }
+
+    pub fn fetch(&mut self, store: &[u8], output: &mut [u8]) -> (u8, Report) {
+        if store.len() != self.store_length() || output.len() < self.output_least() {
+            return (9, Report::NONE);
+        }
+        if !self.gathered.is_set() || !self.is_due() {
+            return (0, Report::NONE);
+        }
+        let (mark, ranked) = self.judge();
+        let x = ranked.len();
+        for k in 0..EPOCH_FRAMES {
+            for p in 0..x * self.payload {
+                output[k * x * self.payload + p] = store[self.place(ranked[p % x], k) + p / x];
+            }
+        }
+        let report = Report { mark, epoch: self.oldest, x, bytes: EPOCH_FRAMES * x * self.payload };
+        self.take_packets(store);
+        self.work_out_states();
+        self.pass();
+        (0, report)
+    }
+
+    /// Held, doubtful or sure, and the ports to join in the order of their ranks (none if held).
+    fn judge(&self) -> (u8, Vec<usize>) {
+        let whole: Vec<(usize, Option<(u8, u8, u8)>)> =
+            (0..self.ports.len()).filter(|i| self.ports[*i].whole.is_set()).map(|i| (i, read(&self.ports[i].ruling))).collect();
+        let some_missing = whole.len() < self.ports.len();
+        let some_refused = whole.iter().any(|(_, packet)| packet.is_none());
+        let good: Vec<(usize, u8, u8, u8)> =
+            whole.iter().filter_map(|(i, packet)| packet.map(|(word, gid, number)| (*i, word, gid, number))).collect();
+
+        let mut active: Vec<(u8, usize, u8)> = good.iter().filter(|g| is_active(g.1)).map(|g| (g.3, g.0, g.1)).collect();
+        active.sort();
+        let lacks_frame = active.iter().any(|(_, i, _)| !self.ports[*i].brought());
+
+        let mut numbers: Vec<u8> = good.iter().filter(|g| is_numbered(g.1)).map(|g| g.3).collect();
+        numbers.sort();
+        let repeats = numbers.windows(2).any(|pair| pair[0] == pair[1]);
+
+        let gids: Vec<u8> = good.iter().filter(|g| g.1 != IDLE).map(|g| g.2).collect();
+        let gid_differs = gids.contains(&0) && gids.contains(&1);
+
+        let ends: Vec<u8> = active.iter().filter(|a| a.2 == EOS).map(|a| a.0).collect();
+        let end_right = ends.len() == 1 && ends[0] == active[active.len() - 1].0;
+        let end_wrong = !active.is_empty() && !end_right && !(ends.is_empty() && some_missing);
+
+        if some_refused || lacks_frame || repeats || gid_differs || end_wrong {
+            return (HELD, Vec::new());
+        }
+        let in_order = numbers.iter().enumerate().all(|(i, number)| usize::from(*number) == i);
+        let mark = if some_missing || !in_order { DOUBTFUL } else { SURE };
+        (mark, active.iter().map(|a| a.1).collect())
+    }
+
+    fn work_out_states(&mut self) {
+        let listed = |word: u8, number: u8| is_numbered(word).then_some(number);
+        let turns = self.ports.iter().any(|p| {
+            listed(p.word, p.number) != listed(p.told_word, p.told_number) || p.told_word == ADD && p.word == IDLE
+        });
+        if turns {
+            self.rs_ack = Flag::from(!self.rs_ack.is_set());
+        }
+
+        let candidates: Vec<usize> = (0..self.ports.len())
+            .filter(|i| !self.ports[*i].is_idle() && self.is_readable(&self.ports[*i]) && self.ports[*i].number < 64)
+            .collect();
+        let (first, then): (Vec<usize>, Vec<usize>) = candidates.into_iter().partition(|i| {
+            let p = &self.ports[*i];
+            p.state == STATE_OK && p.state_number == p.number
+        });
+        let mut chosen: Vec<usize> = Vec::new();
+        for i in first.into_iter().chain(then) {
+            if chosen.iter().all(|c| self.ports[*c].number != self.ports[i].number) {
+                chosen.push(i);
+            }
+        }
+
+        for (i, p) in self.ports.iter_mut().enumerate() {
+            (p.state, p.state_number) = match (p.is_idle(), chosen.contains(&i)) {
+                (true, _) => (STATE_IDLE, NONE),
+                (false, true) => (STATE_OK, p.number),
+                (false, false) => (STATE_FAIL, p.number),
+            };
+            (p.told_word, p.told_number) = (p.word, p.number);
+        }
+    }
+
+    pub fn ports(&self) -> Vec<Shown> {
+        let shown = |p: &Port| Shown {
+            state: p.state,
+            number: if p.state == STATE_IDLE { NONE } else { p.state_number },
+            in_step: p.in_step(),
+            joined: p.joined.is_set(),
+            readable: self.is_readable(p),
+        };
+        self.ports.iter().map(shown).collect()
+    }
+
+    /// MST and RS-Ack for the packets of an epoch.
+    pub fn reply(&self, epoch: u8) -> (u8, u8) {
+        let is_ok = |q: u8| q < 64 && self.ports.iter().any(|p| p.state == STATE_OK && p.state_number == q);
+        let mst = (0..8).filter(|bit| !is_ok(8 * (epoch % 32) + bit)).map(|bit| 0x80 >> bit).sum();
+        (mst, u8::from(self.rs_ack.is_set()))
+    }
+}
