@@ -78,8 +78,11 @@ impl Lines {
         self.lines.iter().map(|l| l.first + l.delay).max().unwrap_or(0)
     }
 
+    pub fn least_delay(&self) -> u64 {
+        self.lines.iter().map(|l| l.delay).min().unwrap_or(0)
+    }
+
     pub fn spread(&self) -> u64 {
-        let delays = || self.lines.iter().map(|l| l.delay);
-        delays().max().unwrap_or(0) - delays().min().unwrap_or(0)
+        self.lines.iter().map(|l| l.delay).max().unwrap_or(0) - self.least_delay()
     }
 }
