@@ -1,0 +1,3 @@
+-- What holds after any calls, of a port and of the whole.
+pub mod Port
+pub mod Taken
