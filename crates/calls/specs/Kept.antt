@@ -1,3 +1,5 @@
 -- What holds after any calls, of a port and of the whole.
 pub mod Port
 pub mod Taken
+pub mod Passing
+pub mod Clearing

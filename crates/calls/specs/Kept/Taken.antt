@@ -12,7 +12,7 @@ use Rattle.calls.specs.Kept.Port.{Idle, Joined, NoMark, PortKept, Waitin
 use Rattle.calls.specs.Laws.Flags.{both, flag-off, flag-on}
 use Rattle.calls.specs.Laws.Runs.{RunKept, none-kept, run-kept, run-goes-on}
 use Rattle.calls.specs.Laws.Window.{at-base, distance-next, ends-inside, ends-more, ends-same, epochs-none, far, frames-some, meet, none-ended, short-next, start-place, whole-epochs}
-use Rattle.calls.specs.Marking.{marksBy}
+use Rattle.receiver.specs.Frame.{marksBy}
 use Rattle.packet.specs.Kinds.{distanceOf, endsEpoch, epochsIn, firstTag, frames, startsEpoch, tagAfter, tags}
 use Rattle.packet.specs.Theorems.Tags.{distance-lt}
 use Rattle.rows.specs.declared.group.Group.{Group}

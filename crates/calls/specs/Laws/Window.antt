@@ -1,14 +1,15 @@
 -- Tags about the window's first frame.
 use mathlib.Core.Path.{_≡_, refl, sym, ap, _∙_}
-use mathlib.Core.Logic.{⊎-elim, _≢_}
+use mathlib.Core.Logic.{_⊎_, inl, inr, ⊎-elim, _≢_}
 use mathlib.Core.Bool.{Bool, true, false, _||_, _&&_}
 use Prim.Native.Nat.{ℕ, _+_, _-_, _*_, _/_, _%_, _≤_, _<_}
+use native.Mathlib.Nat.{mod-mod, mod-add-mod, add-mod-right}
 use native.Mathlib.Omega.{arith}
 use lib.Dec.{eqb, leb, ltb}
 use borrow.Author.Tests.{eqb-true, eqb-false, eq-eqb, ne-eqb, leb-true, leb-false, le-leb, lt-leb}
-use Rattle.ground.specs.Circle.{after}
+use Rattle.ground.specs.Circle.{after, after-leads, after-only}
 use Rattle.ground.specs.Truth.{eq-or-ne, le-or-lt}
-use Rattle.packet.specs.Kinds.{distanceOf, endsEpoch, epochs, epochsIn, firstTag, frames, lead, placeOf, startsEpoch, tagAfter, tags}
+use Rattle.packet.specs.Kinds.{distanceOf, endsEpoch, epochAfter, epochOf, epochs, epochsIn, firstTag, frames, lead, placeOf, startsEpoch, tagAfter, tagBefore, tags}
 use Rattle.rows.specs.declared.group.Group.{Group}
 use Rattle.step.specs.Arrival.{distanceIn}
 
@@ -137,3 +138,93 @@ frames-some kind = omega arith
 pub epochs-none : (kind : ℕ) → epochsIn kind 0 ≡ 0
 unfolding epochsIn frames epochs
 epochs-none kind = omega arith
+
+-- As the window passes an epoch, each tag that lies an epoch or more after its first frame comes nearer by an epoch's frames.
+
+base-passed : (o : ℕ) → ((o + 1) % 256 * 16 + 4088) % 4096 ≡ ((o * 16 + 4088) % 4096 + 16) % 4096
+base-passed o = omega arith
+
+nearer : (b t : ℕ) → b < 4096 → 16 ≤ (t + (4096 - b)) % 4096 → (t + (4096 - (b + 16) % 4096)) % 4096 ≡ (t + (4096 - b)) % 4096 - 16
+nearer b t hb h =
+    ⊎-elim (λ (l : b + 16 < 4096). let e : (b + 16) % 4096 ≡ b + 16 = omega arith in rw e (omega arith))
+    (λ (l : 4096 ≤ b + 16). let e : (b + 16) % 4096 ≡ b + 16 - 4096 = omega arith in rw e (omega arith))
+    (lt-or-le (b + 16) 4096)
+  where
+    lt-or-le : (m n : ℕ) → (m < n) ⊎ (n ≤ m)
+    lt-or-le m n = ⊎-elim (λ (a : n ≤ m). inr a) (λ (a : m < n). inl a) (le-or-lt n m)
+
+passed-by : (o t : ℕ) → 16 ≤ (t + (4096 - (o * 16 + 4088) % 4096 % 4096)) % 4096
+    → (t + (4096 - ((o + 1) % 256 * 16 + 4088) % 4096 % 4096)) % 4096 + 16 ≡ (t + (4096 - (o * 16 + 4088) % 4096 % 4096)) % 4096
+passed-by o t h =
+    let b : ℕ = (o * 16 + 4088) % 4096 in
+    let e : b % 4096 ≡ b = omega arith in
+    let f : ((o + 1) % 256 * 16 + 4088) % 4096 % 4096 ≡ (b + 16) % 4096 = omega arith in
+    let h : 16 ≤ (t + (4096 - b)) % 4096 = rw e at h in
+    rw (e, f) (let n = nearer b t (omega arith) h in omega arith)
+
+pub distance-passed : (g g′ : Group) (t : ℕ) → g′ .kind ≡ g .kind → g′ .oldest ≡ epochAfter (g .kind) (g .oldest) → frames (g .kind) ≤ distanceIn g t
+    → distanceIn g′ t + frames (g .kind) ≡ distanceIn g t
+unfolding distanceIn distanceOf after firstTag epochAfter epochs tags lead frames
+distance-passed g g′ t k o h = rw o (passed-by (g .oldest) t h)
+
+-- The next epoch to start after the foremost tag starts less than W frames after the tag to come of each port that lies at most W less an epoch's frames behind.
+
+-- the start of the next epoch lies r frames after the tag f; u is the tag counted from an epoch's start
+start-from : (u : ℕ) → u < 4096 → ((u / 16 + 1) % 256 * 16 + 4088) % 4096 ≡ (u + 4088 + (16 - u % 16)) % 4096
+start-from u h = let e : u + 4088 + (16 - u % 16) ≡ u / 16 * 16 + 4104 = omega arith in rw e (omega arith)
+
+next-start : (f : ℕ) → (((f + 8) % 4096 / 16 + 1) % 256 * 16 + 4088) % 4096 ≡ (f % 4096 + (16 - (f + 8) % 16)) % 4096
+next-start f =
+    let u : ℕ = (f + 8) % 4096 in
+    let a : (f + 8) % 16 ≡ u % 16 = omega arith in
+    let b : f % 4096 ≡ (u + 4088) % 4096 = omega arith in
+    rw (a, b, mod-add-mod (u + 4088) 4096 (16 - u % 16)) (start-from u (omega arith))
+
+meets : (f t δ r : ℕ) → ((t + 4095) % 4096 + δ) % 4096 ≡ f % 4096 → 1 ≤ r → (t + (δ + (r - 1))) % 4096 ≡ (f % 4096 + r) % 4096 % 4096
+meets f t δ r h l =
+    let e : (t + 4095) % 4096 + δ + r ≡ (t + 4095) % 4096 + (δ + r) = omega arith in
+    rw (← h, mod-mod, mod-add-mod ((t + 4095) % 4096 + δ) 4096 r, e, mod-add-mod (t + 4095) 4096 (δ + r))
+    (let q : t + 4095 + (δ + r) ≡ t + (δ + (r - 1)) + 4096 = omega arith in rw (q, add-mod-right (t + (δ + (r - 1))) 4096))
+
+pub arc-short : (kind fore next W : ℕ) → W + W ≤ tags kind → distanceOf kind fore (tagBefore kind next) + frames kind ≤ W
+    → distanceOf kind (firstTag kind (epochAfter kind (epochOf kind fore))) next < W
+unfolding distanceOf firstTag tagBefore epochAfter epochOf epochs tags lead frames
+arc-short kind fore next W w h =
+    let δ : ℕ = after 4096 fore ((next + 4095) % 4096) in
+    let r : ℕ = 16 - (fore + 8) % 16 in
+    let h : δ + 16 ≤ W = h in
+    let near : 1 ≤ r = omega arith in
+    let e : after 4096 ((((fore + 8) % 4096 / 16 + 1) % 256 * 16 + 4088) % 4096) next ≡ δ + (r - 1) =
+    rw (next-start fore)
+    (after-only 4096 ((fore % 4096 + r) % 4096) next (δ + (r - 1)) (omega arith)
+    (meets fore next δ r (after-leads 4096 fore ((next + 4095) % 4096) (omega arith)) near)) in
+    rw e (omega arith)
+
+-- Counting epochs by their frames.
+
+pub one-ahead : (kind later d : ℕ) → later ≢ 0 → frames kind * later < d → frames kind ≤ d
+unfolding frames
+one-ahead kind later d n l = omega arith
+
+pub first-ended : (kind d : ℕ) → leb (frames kind * 0 + frames kind) d ≡ true → frames kind ≤ d
+unfolding frames
+first-ended kind d e = let l = leb-true 16 d e in omega arith
+
+pub less-later : (kind later W : ℕ) → frames kind * later < W → frames kind * (later - 1) < W
+unfolding frames
+less-later kind later W l = omega arith
+
+pub later-nearer : (kind later d e : ℕ) → later - 1 ≢ 0 → frames kind * later < d → e + frames kind ≡ d → frames kind * (later - 1) < e
+unfolding frames
+later-nearer kind later d e n l q = omega arith
+
+pub end-nearer : (kind i d e : ℕ) → e + frames kind ≡ d → leb (frames kind * (i + 1) + frames kind) d ≡ leb (frames kind * i + frames kind) e
+unfolding frames
+end-nearer kind i d e q =
+    ⊎-elim (λ (l : 16 * i + 16 ≤ e). le-leb (16 * (i + 1) + 16) d (omega arith) ∙ sym (le-leb (16 * i + 16) e l))
+    (λ (l : e < 16 * i + 16). lt-leb (16 * (i + 1) + 16) d (omega arith) ∙ sym (lt-leb (16 * i + 16) e l))
+    (le-or-lt (16 * i + 16) e)
+
+pub end-before : (kind i W : ℕ) → frames kind * (i + 1) + frames kind ≤ W → frames kind * i + frames kind ≤ W
+unfolding frames
+end-before kind i W l = omega arith
