@@ -4,3 +4,4 @@ pub mod Due
 pub mod Beginning
 pub mod Passing
 pub mod Settling
+pub mod Laws

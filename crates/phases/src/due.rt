@@ -1,21 +1,15 @@
 // When an epoch is due, and when no port is readable any more.
+use crate::flags::is_set;
 use rows::Group;
 use rows::Step;
 use rows::packets;
-use rows::step;
 use store::marks;
 ghost use mathlib.Core.Path.{_≡_};
-ghost use mathlib.Core.Bool.{not, _&&_};
+ghost use mathlib.Core.Bool.{not};
 ghost use Rattle.rows.specs.Packets.{marksAt};
 ghost use Rattle.rows.specs.Step.{stepAt};
-ghost use Rattle.step.specs.Arrival.{flagOf};
+ghost use Rattle.step.specs.Arrival.{readable};
 ghost use Rattle.phases.specs.Due.{brought, lets, silent};
-
-fn is_set(flag: u8) -> bool
-    ensures { λ r. ⌜ r ≡ flagOf flag ⌝ }
-{
-    !(flag == 0)
-}
 
 fn lets_pass(group: Group, step: Step, row: [u8; 16]) -> bool
     ensures { λ r. ⌜ r ≡ lets group step row ⌝ }

@@ -1,5 +1,6 @@
 // What concerns all ports at once (01, 'Beginning', 'Report of an epoch'): when receiving begins and stops, when an epoch is due, and the passing of an epoch.
 mod due;
+mod flags;
 mod passing;
 mod ruling;
 mod settling;

@@ -1,4 +1,5 @@
 // The oldest epoch passed: gathered, or reported. Each port's packet of that epoch comes to rule, if it stands whole in the store.
+use crate::flags::flag_for;
 use crate::ruling;
 use crate::ruling::Ruling;
 use packet::kinds;
@@ -24,12 +25,6 @@ fn ruled_by(packets: [[u8; 16]; 2], whole: bool, nibbles: [u8; 16]) -> [[u8; 16]
     pair
 }
 
-fn flag(test: bool) -> u8
-    ensures { λ r. ⌜ r ≡ cond test 1 0 ⌝ }
-{
-    if test { 1 } else { 0 }
-}
-
 fn one_less(later: u8) -> u8
     ensures { λ r. ⌜ r ≡ later - 1 ⌝ }
 {
@@ -47,7 +42,7 @@ fn passed_step(s: Step, whole: bool) -> Step
         joined: s.joined,
         since: s.since,
         later: one_less(s.later),
-        whole: flag(whole),
+        whole: flag_for(whole),
         spare_9: s.spare_9,
         spare_10: s.spare_10,
         spare_11: s.spare_11,

@@ -1,26 +1,14 @@
 // What follows from a frame for all ports (01, 'Beginning'): stopping comes first, then the beginning, then gathering.
 use crate::due;
+use crate::flags::flag_for;
+use crate::flags::is_set;
 use crate::passing;
 use crate::starting;
 use packet::kinds;
 use rows::Group;
 use rows::Step;
 ghost use mathlib.Core.Path.{_≡_};
-ghost use mathlib.Core.Bool.{cond};
-ghost use Rattle.step.specs.Arrival.{flagOf};
 ghost use Rattle.phases.specs.Settling.{beginBy, begunOf, clearedPort, clearedPorts, clearedStep, gatherBy, settledOf, stopBy, stoppedOf};
-
-fn is_set(flag: u8) -> bool
-    ensures { λ r. ⌜ r ≡ flagOf flag ⌝ }
-{
-    !(flag == 0)
-}
-
-fn flag(test: bool) -> u8
-    ensures { λ r. ⌜ r ≡ cond test 1 0 ⌝ }
-{
-    if test { 1 } else { 0 }
-}
 
 fn cleared_step(s: Step, since: bool) -> Step
     ensures { λ r. ⌜ r ≡ clearedStep s since ⌝ }
@@ -31,7 +19,7 @@ fn cleared_step(s: Step, since: bool) -> Step
         count: s.count,
         next: s.next,
         joined: 0,
-        since: flag(since),
+        since: flag_for(since),
         later: 0,
         whole: 0,
         spare_9: s.spare_9,

@@ -21,7 +21,12 @@ pub fn is_sized(kind: u8, count: u32, payload: u32, window: u32) -> bool
 pub fn ports_in(group: Group) -> u8
     ensures { λ r. ⌜ r ≡ portsIn group ⌝ }
 {
-    if is_sized(group.kind, group.count as u32, group.payload as u32, group.window as u32) {
+    if is_sized(
+        group.kind,
+        group.count as u32,
+        group.payload as u32,
+        group.window as u32,
+    ) {
         return group.count;
     }
     0

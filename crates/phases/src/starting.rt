@@ -1,17 +1,17 @@
 // When receiving begins (01, 'Beginning').
+use crate::flags::is_set;
 use packet::kinds;
 use rows::Group;
 use rows::Step;
 ghost use mathlib.Core.Path.{_≡_};
+ghost use mathlib.Core.Bool.{_&&_, _||_};
+ghost use Prim.Native.Nat.{_/_};
+ghost use lib.Dec.{eqb, ltb};
+ghost use Rattle.counting.specs.Words.{every};
+ghost use Rattle.packet.specs.Kinds.{distanceOf, tags};
 ghost use Rattle.rows.specs.Step.{stepAt};
-ghost use Rattle.step.specs.Arrival.{flagOf};
-ghost use Rattle.phases.specs.Beginning.{begins, foremost, further, latest, ready, within};
-
-fn is_set(flag: u8) -> bool
-    ensures { λ r. ⌜ r ≡ flagOf flag ⌝ }
-{
-    !(flag == 0)
-}
+ghost use Rattle.step.specs.Arrival.{inStep};
+ghost use Rattle.phases.specs.Beginning.{begins, foremost, further, latest, noTag, ready, within};
 
 fn is_ready(group: Group, step: Step) -> bool
     ensures { λ r. ⌜ r ≡ ready group step ⌝ }

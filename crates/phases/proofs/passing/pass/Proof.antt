@@ -1,0 +1,25 @@
+use mathlib.Core.Path.{refl}
+use Rattle.phases.specs.Passing.{passedOf}
+use borrow.Author.Needs.{needs}
+use Rattle.phases.proofs.passing.pass.Statement.{statement}
+use Rattle.phases.proofs.passing.pass.Tie as tie
+
+passed-group-requires : tie.Need-passed-group-requires
+passed-group-requires c κs = search needs
+
+pass-ports-requires : tie.Need-pass-ports-requires
+pass-ports-requires c κs = search needs
+
+put-requires : tie.Need-put-requires
+put-requires c κs = search needs
+
+same-length : tie.Need-same-length
+same-length c = search needs
+
+returns : tie.Need-returns
+unfolding passedOf
+returns c = rw (c .before .put .ensures, c .before .before .before .before .pass-ports .ensures, c .before .before .before .before .before .before .passed-group .ensures) refl
+
+pub pass-spec : {M : Type 1} → statement M
+pass-spec =
+    tie.close (tie.spec passed-group-requires pass-ports-requires put-requires same-length returns)

@@ -1,0 +1,15 @@
+use mathlib.Core.Path.{refl}
+use Rattle.phases.specs.Settling.{clearedStep}
+use borrow.Author.Needs.{needs}
+use Rattle.phases.proofs.settling.cleared_step.Statement.{statement}
+use Rattle.phases.proofs.settling.cleared_step.Tie as tie
+
+flag-for-requires : tie.Need-flag-for-requires
+flag-for-requires c κs = search needs
+
+returns : tie.Need-returns
+unfolding clearedStep
+returns c = rw (c .flag-for .ensures) refl
+
+pub cleared-step-spec : {M : Type 1} → statement M
+cleared-step-spec = tie.close (tie.spec flag-for-requires returns)

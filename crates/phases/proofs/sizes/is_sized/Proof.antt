@@ -1,0 +1,25 @@
+use mathlib.Core.Path.{refl}
+use Rattle.phases.specs.Sizes.{sized}
+use borrow.Author.Needs.{needs}
+use Rattle.phases.proofs.sizes.is_sized.Statement.{statement}
+use Rattle.phases.proofs.sizes.is_sized.Tie as tie
+
+epoch-frames-requires : tie.Need-epoch-frames-requires
+epoch-frames-requires c κs = search needs
+
+tag-count-requires : tie.Need-tag-count-requires
+tag-count-requires c κs = search needs
+
+cast-result : tie.Need-cast-result
+cast-result c = search needs
+
+cast-result-2 : tie.Need-cast-result-2
+cast-result-2 c = search needs
+
+returns : tie.Need-returns
+unfolding sized
+returns c = rw (← c .before .epoch-frames .ensures, ← c .tag-count .ensures) refl
+
+pub is-sized-spec : {M : Type 1} → statement M
+is-sized-spec =
+    tie.close (tie.spec epoch-frames-requires tag-count-requires cast-result cast-result-2 returns)

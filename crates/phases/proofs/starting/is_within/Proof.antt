@@ -1,0 +1,47 @@
+use mathlib.Core.Path.{refl}
+use Rattle.phases.specs.Beginning.{within}
+use borrow.Author.Needs.{needs}
+use Rattle.phases.proofs.starting.is_within.Statement.{statement}
+use Rattle.phases.proofs.starting.is_within.Tie as tie
+
+in-step-requires : tie.Need-in-step-requires
+in-step-requires c κs = search needs
+
+latest-requires : tie.Need-latest-requires
+latest-requires c κs = search needs
+
+distance-requires : tie.Need-distance-requires
+distance-requires c κs = search needs
+
+epoch-frames-requires : tie.Need-epoch-frames-requires
+epoch-frames-requires c κs = search needs
+
+cast-result : tie.Need-cast-result
+cast-result c = search needs
+
+cast-result-2 : tie.Need-cast-result-2
+cast-result-2 c = search needs
+
+add-result : tie.Need-add-result
+add-result c = search needs
+
+cast-result-3 : tie.Need-cast-result-3
+cast-result-3 c = search needs
+
+returns : tie.Need-returns
+unfolding within
+returns c = rw (c .before .epoch-frames .ensures, c .before .before .distance .ensures, c .before .before .before .latest .ensures, c .before .before .before .before .in-step .ensures) refl
+
+pub is-within-spec : {M : Type 1} → statement M
+is-within-spec =
+    tie.close
+    (tie.spec
+    in-step-requires
+    latest-requires
+    distance-requires
+    epoch-frames-requires
+    cast-result
+    cast-result-2
+    add-result
+    cast-result-3
+    returns)

@@ -1,0 +1,3 @@
+-- Laws on what concerns all ports, for the proofs above them.
+pub mod Every
+pub mod Lengths

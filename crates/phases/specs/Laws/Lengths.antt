@@ -1,0 +1,32 @@
+-- Nothing that concerns all ports changes how many rows there are.
+use mathlib.Core.Path.{_≡_, refl, _∙_}
+use mathlib.Core.Bool.{Bool}
+use mathlib.Core.List.{List}
+use Prim.Native.Nat.{ℕ, zero, suc}
+use lib.ListN.{length}
+use Rattle.phases.specs.Passing.{passedGroup, passedOf, passedPort, passedPorts}
+use Rattle.phases.specs.Settling.{clearedPort, clearedPorts}
+use Rattle.rows.specs.declared.group.Group.{Group}
+use Rattle.rows.specs.Laws.Lengths.{length-put-group, length-put-marks, length-put-member, length-put-packets, length-put-step}
+
+pub length-passed-port : (g : Group) (store : List ℕ) (i : ℕ) (s : List (List ℕ)) → length (passedPort g store i s) ≡ length s
+unfolding passedPort
+length-passed-port g store i s = rw (length-put-marks, length-put-step, length-put-packets, length-put-member) refl
+
+pub length-passed-ports : (g : Group) (store : List ℕ) (n : ℕ) (s : List (List ℕ)) → length (passedPorts g store n s) ≡ length s
+unfolding passedPorts
+length-passed-ports g store zero s = refl
+length-passed-ports g store (suc n) s = length-passed-port g store n (passedPorts g store n s) ∙ length-passed-ports g store n s
+
+pub length-passed : (g : Group) (store : List ℕ) (n : ℕ) (s : List (List ℕ)) → length (passedOf g store n s) ≡ length s
+unfolding passedOf
+length-passed g store n s = length-put-group (passedPorts g store n s) (passedGroup g) ∙ length-passed-ports g store n s
+
+pub length-cleared-port : (g : Group) (beginning : Bool) (i : ℕ) (s : List (List ℕ)) → length (clearedPort g beginning i s) ≡ length s
+unfolding clearedPort
+length-cleared-port g beginning i s = rw (length-put-marks, length-put-step) refl
+
+pub length-cleared : (g : Group) (beginning : Bool) (n : ℕ) (s : List (List ℕ)) → length (clearedPorts g beginning n s) ≡ length s
+unfolding clearedPorts
+length-cleared g beginning zero s = refl
+length-cleared g beginning (suc n) s = length-cleared-port g beginning n (clearedPorts g beginning n s) ∙ length-cleared g beginning n s
