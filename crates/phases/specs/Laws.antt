@@ -1,3 +1,6 @@
 -- Laws on what concerns all ports, for the proofs above them.
 pub mod Every
 pub mod Lengths
+pub mod Ports
+pub mod Passed
+pub mod Cleared
