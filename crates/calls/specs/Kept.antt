@@ -3,3 +3,5 @@ pub mod Port
 pub mod Taken
 pub mod Passing
 pub mod Clearing
+pub mod Group
+pub mod Steps

@@ -1,4 +1,6 @@
--- Laws of single runs, tags and marks. The numbers of a kind of packet are opened here and not above.
+-- Laws of single runs, tags and marks, where the numbers of a kind of packet are opened, and of what each call leaves of the rows.
 pub mod Flags
 pub mod Runs
 pub mod Window
+pub mod Frames
+pub mod Told

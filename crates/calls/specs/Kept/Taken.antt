@@ -262,3 +262,10 @@ taken-kept g s marks failed h W k =
     (λ f e b j w. outside-keeps g s marks W k)
     (λ f e b j t w. joins-keeps g s marks W k h e w b j t)
     (λ f e b j w. waits-keeps g s marks W k h e j w)
+
+-- and what rules stays
+pub taken-whole : (g : Group) (s : Step) (failed : Bool) (h : ℕ) → takenOf g s failed h .step .whole ≡ s .whole
+unfolding flagged countsOn aside keeps outside joining
+taken-whole g s failed h =
+    taken-by (λ (t : Taken). t .step .whole ≡ s .whole) g s failed h (λ f. refl) (λ f e. refl) (λ f e b. refl) (λ f e b j w. refl) (λ f e b j w. refl)
+    (λ f e b j t w. refl) (λ f e b j w. refl)
