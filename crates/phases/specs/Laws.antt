@@ -4,3 +4,4 @@ pub mod Lengths
 pub mod Ports
 pub mod Passed
 pub mod Cleared
+pub mod Sizes

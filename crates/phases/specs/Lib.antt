@@ -5,3 +5,4 @@ pub mod Beginning
 pub mod Passing
 pub mod Settling
 pub mod Laws
+pub mod Theorems

@@ -7,7 +7,6 @@ use Rattle.packet.specs.Kinds.{epochAfter, epochOf}
 use Rattle.phases.specs.Beginning.{begins, foremost}
 use Rattle.phases.specs.Due.{brought, silent}
 use Rattle.phases.specs.Passing.{groupTo, passedOf}
-use Rattle.phases.specs.Sizes.{portsIn}
 use Rattle.rows.specs.declared.group.Group.{Group}
 use Rattle.rows.specs.declared.step.Step.{Step}
 use Rattle.rows.specs.Group.{groupAt, putGroup}

@@ -15,7 +15,6 @@ use Rattle.phases.specs.Laws.Ports.{group-put-two, port-put-two, port-pu
 use Rattle.phases.specs.Passing.{groupTo}
 use Rattle.phases.specs.Settling.{begunOf, clearedPort, clearedPorts, clearedStep, stoppedOf}
 use Rattle.rows.specs.declared.group.Group.{Group}
-use Rattle.rows.specs.declared.step.Step.{Step}
 use Rattle.rows.specs.Group.{groupAt}
 use Rattle.rows.specs.Laws.Group.{group-put-same}
 use Rattle.rows.specs.Laws.Port.{port-put-group}

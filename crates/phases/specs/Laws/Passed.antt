@@ -6,15 +6,13 @@ use mathlib.Core.List.{List, [], _∷_}
 use Prim.Native.Nat.{ℕ, zero, suc, _≤_, _<_}
 use native.Mathlib.Nat.{not-suc-le-zero}
 use native.Mathlib.Omega.{arith}
-use lib.ListN.{getD, length, set}
+use lib.ListN.{getD, length}
 use Rattle.ground.specs.Truth.{eq-or-ne}
 use Rattle.phases.specs.Laws.Lengths.{length-passed-ports}
 use Rattle.phases.specs.Laws.Ports.{group-put-all, port-put-all, port-put-all-other}
 use Rattle.phases.specs.Passing.{notedBy, passedGroup, passedOf, passedPort, passedPorts, passedStep, ruledBy}
 use Rattle.phases.specs.Ruling.{rulingOf}
 use Rattle.rows.specs.declared.group.Group.{Group}
-use Rattle.rows.specs.declared.member.Member.{Member}
-use Rattle.rows.specs.declared.step.Step.{Step}
 use Rattle.rows.specs.Group.{groupAt}
 use Rattle.rows.specs.Laws.Group.{group-put-same}
 use Rattle.rows.specs.Laws.Port.{port-put-group}

@@ -1,5 +1,5 @@
 -- A port and the group after all of a port's rows, or its step and its marks, were put.
-use mathlib.Core.Path.{_≡_, refl, _∙_, ap}
+use mathlib.Core.Path.{_≡_, _∙_, ap}
 use mathlib.Core.Logic.{_≢_}
 use mathlib.Core.List.{List, []}
 use Prim.Native.Nat.{ℕ, _≤_, _<_}
@@ -12,7 +12,7 @@ use Rattle.rows.specs.Laws.Lengths.{length-put-member, length-put-packets, leng
 use Rattle.rows.specs.Laws.Port.{port-put-marks, port-put-marks-other, port-put-member, port-put-member-other, port-put-packets, port-put-packets-other, port-put-step, port-put-step-other}
 use Rattle.rows.specs.Member.{putMember}
 use Rattle.rows.specs.Packets.{putMarks, putPackets}
-use Rattle.rows.specs.Port.{Port, portAt, withMarks, withMember, withPackets, withStep}
+use Rattle.rows.specs.Port.{Port, portAt, withMarks, withPackets, withStep}
 use Rattle.rows.specs.Rows.{rowsFor}
 use Rattle.rows.specs.Step.{putStep}
 

@@ -1,0 +1,3 @@
+-- What follows from the definitions for all ports.
+pub mod Arc
+pub mod Settled

@@ -1,0 +1,289 @@
+-- Beginning is 01's sentence: 'every port has had a frame and is in step or flagged failed, at least one is in step, and the latest tags of those in step lie within an arc of W-15 tags'.
+use mathlib.Core.Path.{_≡_, refl, _∙_, sym, ap}
+use mathlib.Core.Logic.{_⊎_, inl, inr, ⊎-elim, _≢_}
+use mathlib.Core.Bool.{Bool, true, false, cond, not, _&&_, _||_, true≢false}
+use mathlib.Core.List.{List}
+use Prim.Native.Nat.{ℕ, zero, suc, _+_, _-_, _/_, _%_, _≤_, _<_}
+use native.Mathlib.Omega.{arith}
+use native.Mathlib.Nat.{not-suc-le-zero}
+use borrow.Author.Tests.{eq-eqb, ne-eqb, eqb-false, leb-true, le-leb, lt-ltb, le-ltb, not-true}
+use lib.Dec.{eqb, leb, ltb}
+use Rattle.counting.specs.Laws.Tests.{every-all, every-at}
+use Rattle.counting.specs.Words.{every}
+use Rattle.ground.specs.Circle.{after-leads, after-only}
+use Rattle.ground.specs.Truth.{and-left, and-right, and-true, eq-or-ne, le-or-lt, or-right}
+use Rattle.packet.specs.Kinds.{distanceOf, frames, tagBefore, tags}
+use Rattle.phases.specs.Beginning.{begins, foremost, further, latest, noTag, ready, within}
+use Rattle.rows.specs.declared.group.Group.{Group}
+use Rattle.rows.specs.declared.step.Step.{Step}
+use Rattle.rows.specs.Step.{stepAt}
+use Rattle.step.specs.Arrival.{inStep}
+
+-- some port in step has the tag `fore`, and none in step lies more than W - 16 tags behind it
+pub record Arc (g : Group) (s : List (List ℕ)) (n fore : ℕ) : Type 0 where
+  pub all-ready : (i : ℕ) → i < n → ready g (stepAt s i) ≡ true
+  pub port : ℕ
+  pub below : port < n
+  pub stepped : inStep g (stepAt s port) ≡ true
+  pub fore-is : latest g (stepAt s port) ≡ fore
+  pub behind : (j : ℕ) → j < n → inStep g (stepAt s j) ≡ true → distanceOf (g .kind) fore (latest g (stepAt s j)) + frames (g .kind) ≤ g .window
+
+-- a port in step whose latest tag it is
+record Held (g : Group) (s : List (List ℕ)) (n fore : ℕ) : Type 0 where
+  port : ℕ
+  below : port < n
+  stepped : inStep g (stepAt s port) ≡ true
+  is : latest g (stepAt s port) ≡ fore
+
+further-by : (g : Group) (fore : ℕ) (step : Step) (P : ℕ → Type 0) → (inStep g step ≡ true → P (latest g step)) → P fore → P (further g fore step)
+unfolding further
+further-by g fore step P new old = go _ refl
+  where
+    test : Bool
+    test = inStep g step && (eqb fore (noTag g) || ltb (distanceOf (g .kind) (latest g step) fore) (tags (g .kind) / 2))
+
+    go : (b : Bool) → test ≡ b → P (cond b (latest g step) fore)
+    go true e = new (and-left (inStep g step) _ e)
+    go false e = old
+
+held : (g : Group) (s : List (List ℕ)) (n : ℕ) → foremost g s n ≢ noTag g → Held g s n (foremost g s n)
+unfolding foremost
+held g s zero d = absurd (d refl)
+held g s (suc n) d =
+    let rest = held g s n in
+    further-by g (foremost g s n) (stepAt s n) (λ f. f ≢ noTag g → Held g s (suc n) f)
+    (λ e x. record { port = n; below = omega arith; stepped = e; is = refl })
+    (λ x. let r = rest x in record { port = r .port; below = (let b = r .below in omega arith); stepped = r .stepped; is = r .is })
+    d
+
+near : (g : Group) (fore : ℕ) (step : Step) → within g fore step ≡ true → inStep g step ≡ true → distanceOf (g .kind) fore (latest g step) + frames (g .kind) ≤ g .window
+unfolding within
+near g fore step e t = leb-true (distanceOf (g .kind) fore (latest g step) + frames (g .kind)) (g .window) (rw t at e)
+
+pub sound : (g : Group) (s : List (List ℕ)) (n : ℕ) → begins g s n ≡ true → Arc g s n (foremost g s n)
+unfolding begins
+sound g s n e =
+    let fore = foremost g s n in
+    let readies : Bool = every n (λ i. ready g (stepAt s i)) in
+    let found : Bool = not (eqb fore (noTag g)) in
+    let closes : Bool = every n (λ i. within g fore (stepAt s i)) in
+    let first = and-left (readies && found) closes e in
+    let h = held g s n (eqb-false fore (noTag g) (not-true (eqb fore (noTag g)) (and-right readies found first))) in
+    record {
+      all-ready = every-at n (λ i. ready g (stepAt s i)) (and-left readies found first);
+      port = h .port;
+      below = h .below;
+      stepped = h .stepped;
+      fore-is = h .is;
+      behind = λ j b t. near g fore (stepAt s j) (every-at n (λ i. within g fore (stepAt s i)) (and-right (readies && found) closes e) j b) t;
+    }
+
+-- Of two tags less than half a round behind a third: the one nearer to it lies less than half a round after the other.
+
+tag-lt : (kind t : ℕ) → tagBefore kind t < tags kind
+unfolding tagBefore tags
+tag-lt kind t = omega arith
+
+distance-same : (kind a : ℕ) → distanceOf kind a a ≡ 0
+unfolding distanceOf tags
+distance-same kind a = after-only 4096 a a 0 (omega arith) (ap (λ (n : ℕ). n % 4096) (omega arith))
+
+distance-none : (kind a b : ℕ) → a < tags kind → b < tags kind → distanceOf kind a b ≡ 0 → a ≡ b
+unfolding distanceOf tags
+distance-none kind a b ha hb e =
+    let l = after-leads 4096 a b (omega arith) in
+    let m : (b + 0) % 4096 ≡ a % 4096 = rw e at l in
+    omega arith
+
+-- a place and a distance add up to a place, or to one a round further on
+whole : (x d f : ℕ) → x < 4096 → d < 4096 → f < 4096 → (x + d) % 4096 ≡ f % 4096 → (x + d ≡ f) ⊎ (x + d ≡ f + 4096)
+whole x d f hx hd hf e = ⊎-elim (λ (h : 4096 ≤ x + d). inr (omega arith)) (λ (h : x + d < 4096). inl (omega arith)) (le-or-lt 4096 (x + d))
+
+between : (a t da dt f : ℕ) → a < 4096 → t < 4096 → dt ≤ da → (a + da ≡ f) ⊎ (a + da ≡ f + 4096) → (t + dt ≡ f) ⊎ (t + dt ≡ f + 4096) → (a + (da - dt)) % 4096 ≡ t % 4096
+between a t da dt f ha ht h (inl ea) (inl et) = let e : a + (da - dt) ≡ t = omega arith in rw e refl
+between a t da dt f ha ht h (inl ea) (inr et) = absurd (omega arith)
+between a t da dt f ha ht h (inr ea) (inl et) = let e : a + (da - dt) ≡ t + 4096 = omega arith in rw e (omega arith)
+between a t da dt f ha ht h (inr ea) (inr et) = let e : a + (da - dt) ≡ t = omega arith in rw e refl
+
+beyond : (a t da dt f : ℕ) → a < 4096 → t < 4096 → da < dt → dt < 4096 → (a + da ≡ f) ⊎ (a + da ≡ f + 4096) → (t + dt ≡ f) ⊎ (t + dt ≡ f + 4096) → (a + (4096 - (dt - da))) % 4096 ≡ t % 4096
+beyond a t da dt f ha ht h l (inl ea) (inl et) = let e : a + (4096 - (dt - da)) ≡ t + 4096 = omega arith in rw e (omega arith)
+beyond a t da dt f ha ht h l (inl ea) (inr et) = let e : a + (4096 - (dt - da)) ≡ t = omega arith in rw e refl
+beyond a t da dt f ha ht h l (inr ea) (inl et) = absurd (omega arith)
+beyond a t da dt f ha ht h l (inr ea) (inr et) = let e : a + (4096 - (dt - da)) ≡ t + 4096 = omega arith in rw e (omega arith)
+
+module _ (kind far a t : ℕ) (h-far : far < tags kind) (h-a : a < tags kind) (h-t : t < tags kind)
+    (near-a : distanceOf kind far a < tags kind / 2) (near-t : distanceOf kind far t < tags kind / 2) where
+  sum-a : (a + distanceOf kind far a ≡ far) ⊎ (a + distanceOf kind far a ≡ far + tags kind)
+  unfolding distanceOf tags
+  sum-a = whole a (distanceOf kind far a) far h-a (omega arith) h-far (after-leads 4096 far a (omega arith))
+
+  sum-t : (t + distanceOf kind far t ≡ far) ⊎ (t + distanceOf kind far t ≡ far + tags kind)
+  unfolding distanceOf tags
+  sum-t = whole t (distanceOf kind far t) far h-t (omega arith) h-far (after-leads 4096 far t (omega arith))
+
+  nearer : distanceOf kind far t ≤ distanceOf kind far a → distanceOf kind t a < tags kind / 2
+  unfolding distanceOf tags
+  nearer h =
+      let da = distanceOf kind far a in
+      let dt = distanceOf kind far t in
+      let e : distanceOf kind t a ≡ da - dt = after-only 4096 t a (da - dt) (omega arith) (between a t da dt far h-a h-t h sum-a sum-t) in
+      omega arith
+
+  farther : distanceOf kind far a < distanceOf kind far t → tags kind / 2 ≤ distanceOf kind t a
+  unfolding distanceOf tags
+  farther h =
+      let da = distanceOf kind far a in
+      let dt = distanceOf kind far t in
+      let e : distanceOf kind t a ≡ 4096 - (dt - da) = after-only 4096 t a (4096 - (dt - da)) (omega arith) (beyond a t da dt far h-a h-t h (omega arith) sum-a sum-t) in
+      omega arith
+
+-- The foremost of the first k ports' tags, seen from a tag `far` that none in step is half a round behind: of them all it is the least far behind.
+
+module _ (g : Group) (s : List (List ℕ)) (far : ℕ) where
+  record Least (k a : ℕ) : Type 0 where
+    low : a < tags (g .kind)
+    half : distanceOf (g .kind) far a < tags (g .kind) / 2
+    least : (j : ℕ) → j < k → inStep g (stepAt s j) ≡ true → distanceOf (g .kind) far a ≤ distanceOf (g .kind) far (latest g (stepAt s j))
+
+  record Nobody (k a : ℕ) : Type 0 where
+    is : a ≡ noTag g
+    none : (j : ℕ) → j < k → inStep g (stepAt s j) ≡ true → ⊥
+
+further-out : (g : Group) (a : ℕ) (step : Step) → inStep g step ≡ false → further g a step ≡ a
+unfolding further
+further-out g a step e = rw e refl
+
+further-first : (g : Group) (a : ℕ) (step : Step) → inStep g step ≡ true → a ≡ noTag g → further g a step ≡ latest g step
+unfolding further
+further-first g a step e h = rw (e, eq-eqb a (noTag g) h) refl
+
+further-new : (g : Group) (a : ℕ) (step : Step) → inStep g step ≡ true → distanceOf (g .kind) (latest g step) a < tags (g .kind) / 2 → further g a step ≡ latest g step
+unfolding further
+further-new g a step e h =
+    rw (e, or-right (eqb a (noTag g)) (ltb (distanceOf (g .kind) (latest g step) a) (tags (g .kind) / 2)) (lt-ltb (distanceOf (g .kind) (latest g step) a) (tags (g .kind) / 2) h))
+    refl
+
+further-old : (g : Group) (a : ℕ) (step : Step) → inStep g step ≡ true → a ≢ noTag g → tags (g .kind) / 2 ≤ distanceOf (g .kind) (latest g step) a → further g a step ≡ a
+unfolding further
+further-old g a step e d h =
+    rw (e, ne-eqb a (noTag g) d, le-ltb (distanceOf (g .kind) (latest g step) a) (tags (g .kind) / 2) h) refl
+
+latest-lt : (g : Group) (step : Step) → latest g step < tags (g .kind)
+unfolding latest
+latest-lt g step = tag-lt (g .kind) (step .next)
+
+not-none : (g : Group) (a : ℕ) → a < tags (g .kind) → a ≢ noTag g
+unfolding noTag
+not-none g a h e = absurd (omega arith)
+
+module _ (g : Group) (s : List (List ℕ)) (far : ℕ) (h-far : far < tags (g .kind)) where
+  -- one more port
+  next : (k a : ℕ) → (inStep g (stepAt s k) ≡ true → distanceOf (g .kind) far (latest g (stepAt s k)) < tags (g .kind) / 2)
+      → Nobody g s far k a ⊎ Least g s far k a
+      → Nobody g s far (suc k) (further g a (stepAt s k)) ⊎ Least g s far (suc k) (further g a (stepAt s k))
+  next k a half before = go (inStep g (stepAt s k)) refl before
+    where
+      tag : ℕ
+      tag = latest g (stepAt s k)
+
+      go : (b : Bool) → inStep g (stepAt s k) ≡ b → Nobody g s far k a ⊎ Least g s far k a
+          → Nobody g s far (suc k) (further g a (stepAt s k)) ⊎ Least g s far (suc k) (further g a (stepAt s k))
+      go false e (inl o) =
+          rw (further-out g a (stepAt s k) e)
+          (inl
+          (record {
+            is = o .is;
+            none =
+                λ j b t.
+                ⊎-elim (λ (q : j ≡ k). true≢false (sym t ∙ ap (λ (i : ℕ). inStep g (stepAt s i)) q ∙ e)) (λ (d : j ≢ k). o .none j (omega arith) t) (eq-or-ne j k);
+          }))
+      go false e (inr o) =
+          rw (further-out g a (stepAt s k) e)
+          (inr
+          (record {
+            low = o .low;
+            half = o .half;
+            least =
+                λ j b t.
+                ⊎-elim (λ (q : j ≡ k). absurd (true≢false (sym t ∙ ap (λ (i : ℕ). inStep g (stepAt s i)) q ∙ e))) (λ (d : j ≢ k). o .least j (omega arith) t) (eq-or-ne j k);
+          }))
+      go true e (inl o) =
+          rw (further-first g a (stepAt s k) e (o .is))
+          (inr
+          (record {
+            low = latest-lt g (stepAt s k);
+            half = half e;
+            least =
+                λ j b t.
+                ⊎-elim (λ (q : j ≡ k). rw q (omega arith)) (λ (d : j ≢ k). absurd (o .none j (omega arith) t)) (eq-or-ne j k);
+          }))
+      go true e (inr o) =
+          ⊎-elim
+          (λ (h : distanceOf (g .kind) far tag ≤ distanceOf (g .kind) far a).
+          rw (further-new g a (stepAt s k) e (nearer (g .kind) far a tag h-far (o .low) (latest-lt g (stepAt s k)) (o .half) (half e) h))
+          (inr
+          (record {
+            low = latest-lt g (stepAt s k);
+            half = half e;
+            least =
+                λ j b t.
+                ⊎-elim (λ (q : j ≡ k). rw q (omega arith)) (λ (d : j ≢ k). let l = o .least j (omega arith) t in omega arith) (eq-or-ne j k);
+          })))
+          (λ (h : distanceOf (g .kind) far a < distanceOf (g .kind) far tag).
+          rw (further-old g a (stepAt s k) e (not-none g a (o .low)) (farther (g .kind) far a tag h-far (o .low) (latest-lt g (stepAt s k)) (o .half) (half e) h))
+          (inr
+          (record {
+            low = o .low;
+            half = o .half;
+            least =
+                λ j b t.
+                ⊎-elim (λ (q : j ≡ k). rw q (omega arith)) (λ (d : j ≢ k). o .least j (omega arith) t) (eq-or-ne j k);
+          })))
+          (le-or-lt (distanceOf (g .kind) far tag) (distanceOf (g .kind) far a))
+
+  least-of : (k : ℕ) → ((j : ℕ) → j < k → inStep g (stepAt s j) ≡ true → distanceOf (g .kind) far (latest g (stepAt s j)) < tags (g .kind) / 2)
+      → Nobody g s far k (foremost g s k) ⊎ Least g s far k (foremost g s k)
+  unfolding foremost
+  least-of zero half = inl (record { is = refl; none = λ j b t. not-suc-le-zero b })
+  least-of (suc k) half = next k (foremost g s k) (half k (omega arith)) (least-of k (λ j b. half j (omega arith)))
+
+frames-some : (kind : ℕ) → 0 < frames kind
+unfolding frames
+frames-some kind = omega arith
+
+close : (g : Group) (fore : ℕ) (step : Step) → (inStep g step ≡ true → distanceOf (g .kind) fore (latest g step) + frames (g .kind) ≤ g .window) → within g fore step ≡ true
+unfolding within
+close g fore step h = go (inStep g step) refl
+  where
+    go : (b : Bool) → inStep g step ≡ b → (not b || leb (distanceOf (g .kind) fore (latest g step) + frames (g .kind)) (g .window)) ≡ true
+    go true e = le-leb (distanceOf (g .kind) fore (latest g step) + frames (g .kind)) (g .window) (h e)
+    go false e = refl
+
+-- The foremost tag is the one that all others lie within the arc behind, and receiving begins.
+pub complete : (g : Group) (s : List (List ℕ)) (n fore : ℕ) → Arc g s n fore → g .window ≤ tags (g .kind) / 2 → (begins g s n ≡ true) × (foremost g s n ≡ fore)
+unfolding begins
+complete g s n fore o h = (rw is begun, is)
+  where
+    low : fore < tags (g .kind)
+    low = rw (← o .fore-is) (latest-lt g (stepAt s (o .port)))
+
+    half : (j : ℕ) → j < n → inStep g (stepAt s j) ≡ true → distanceOf (g .kind) fore (latest g (stepAt s j)) < tags (g .kind) / 2
+    half j b t = let d = o .behind j b t in let f = frames-some (g .kind) in omega arith
+
+    at-port : distanceOf (g .kind) fore (latest g (stepAt s (o .port))) ≡ 0
+    at-port = rw (o .fore-is) (distance-same (g .kind) fore)
+
+    is : foremost g s n ≡ fore
+    is =
+        ⊎-elim (λ (x : Nobody g s fore n (foremost g s n)). absurd (x .none (o .port) (o .below) (o .stepped)))
+        (λ (x : Least g s fore n (foremost g s n)).
+        let l = x .least (o .port) (o .below) (o .stepped) in
+        sym (distance-none (g .kind) fore (foremost g s n) low (x .low) (omega (arith, at-port))))
+        (least-of g s fore low n half)
+
+    begun : (every n (λ i. ready g (stepAt s i)) && not (eqb fore (noTag g)) && every n (λ i. within g fore (stepAt s i))) ≡ true
+    begun =
+        and-true (every n (λ i. ready g (stepAt s i)) && not (eqb fore (noTag g))) (every n (λ i. within g fore (stepAt s i)))
+        (and-true (every n (λ i. ready g (stepAt s i))) (not (eqb fore (noTag g))) (every-all n (λ i. ready g (stepAt s i)) (o .all-ready))
+        (rw (ne-eqb fore (noTag g) (not-none g fore low)) refl))
+        (every-all n (λ i. within g fore (stepAt s i)) (λ j b. close g fore (stepAt s j) (o .behind j b)))
