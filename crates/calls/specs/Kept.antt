@@ -5,3 +5,6 @@ pub mod Passing
 pub mod Clearing
 pub mod Group
 pub mod Steps
+pub mod Told
+pub mod Settling
+pub mod Quiet

@@ -4,3 +4,5 @@ pub mod Runs
 pub mod Window
 pub mod Frames
 pub mod Told
+pub mod Fresh
+pub mod Answers

@@ -1,2 +1,4 @@
 pub mod Kept
 pub mod Laws
+pub mod Settles
+pub mod Calls

@@ -9,6 +9,7 @@ use Rattle.calls.specs.Kept.Port.{PortKept}
 use Rattle.packet.specs.Kinds.{epochs}
 use Rattle.packet.specs.Words.{ADD, DNU, EOS, IDLE, NORM}
 use Rattle.phases.specs.Sizes.{sized}
+use Rattle.phases.specs.Theorems.Settled.{Settled}
 use Rattle.reply.specs.Members.{noWord, okState}
 use Rattle.rows.specs.declared.group.Group.{Group}
 use Rattle.rows.specs.declared.member.Member.{Member}
@@ -51,3 +52,8 @@ pub record Steady (s : List (List ℕ)) : Type 0 where
   pub group : GroupKept (groupAt s)
   pub ports : (i : ℕ) → i < groupAt s .count → PortIn (groupAt s) (portAt s i)
   pub members : OkApart (groupAt s .count) (λ i. portAt s i .member)
+
+-- After every call, stopping, beginning and gathering have followed: they wait for no other call.
+pub record Kept (s : List (List ℕ)) : Type 0 where
+  pub steady : Steady s
+  pub settled : Settled (groupAt s .count) s

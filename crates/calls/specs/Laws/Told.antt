@@ -1,18 +1,24 @@
 -- Ports and the group after a report's states and RS-Ack were worked out.
 use mathlib.Core.Path.{_≡_, refl, sym, ap, _∙_}
 use mathlib.Core.Logic.{⊎-elim, _≢_}
+use mathlib.Core.Bool.{Bool, true, false, cond}
 use mathlib.Core.List.{List}
 use Prim.Native.Nat.{ℕ, zero, suc, _≤_, _<_}
 use native.Mathlib.Nat.{not-suc-le-zero}
 use native.Mathlib.Omega.{arith}
-use lib.ListN.{getD, length}
-use Rattle.ground.specs.Truth.{eq-or-ne}
+use lib.Dec.{eqb}
+use lib.ListN.{getD, length, replicate, length-replicate}
+use borrow.Author.Tests.{le-ltb, lt-ltb}
+use Rattle.counting.specs.Each.{getD-each}
+use Rattle.ground.specs.Truth.{eq-or-ne, le-or-lt}
 use Rattle.judge.specs.Seen.{sizeOf}
 use Rattle.phases.specs.Passing.{groupTo}
 use Rattle.receiver.specs.Laws.Lengths.{length-told-port, length-told-ports}
-use Rattle.receiver.specs.Report.{replyPorts, toldBy, toldOf, toldPort, toldPorts}
+use Rattle.receiver.specs.Report.{noPort, replyPort, replyPorts, toldBy, toldOf, toldPort, toldPorts}
 use Rattle.reply.specs.Choosing.{statesOf}
-use Rattle.reply.specs.Telling.{ackOf}
+use Rattle.reply.specs.declared.members.Port.{Port as ReplyPort}
+use Rattle.reply.specs.Members as R
+use Rattle.reply.specs.Telling.{ackOf, turns}
 use Rattle.rows.specs.declared.group.Group.{Group}
 use Rattle.rows.specs.Group.{groupAt}
 use Rattle.rows.specs.Laws.Group.{group-put-member, group-put-same}
@@ -75,3 +81,29 @@ module _ (g : Group) (n : ℕ) (s : List (List ℕ)) where
   told-group h =
       let l : length (toldPorts statesIn n s) ≡ length s = length-told-ports statesIn n s in
       group-put-same (toldPorts statesIn n s) (groupTo g (g .begun) (g .gathered) (g .oldest) (g .origin) (ackOf (replyPorts g s n) (sizeOf n) (g .«rs_ack»))) 0 (omega arith)
+
+-- the size of a group within its bounds
+pub size-is : (n : ℕ) → n ≤ 64 → sizeOf n ≡ n
+size-is n h = ⊎-elim (λ (g : 64 ≤ n). rw (le-ltb n 64 g) (omega arith)) (λ (g : n < 64). rw (lt-ltb n 64 g) refl) (le-or-lt 64 n)
+
+-- the ports as their states are worked out
+pub reply-port : (g : Group) (s : List (List ℕ)) (n i : ℕ) → n ≤ 64 → i < n → R.portAt (replyPorts g s n) i ≡ replyPort g s i
+unfolding replyPorts
+reply-port g s n i h b =
+    getD-each (sizeOf n) (replyPort g s) (replicate 64 noPort) i noPort (rw (size-is n h) b) (rw (length-replicate {A = ReplyPort} 64 noPort) (omega arith))
+
+reply-number : (g : Group) (s : List (List ℕ)) (i : ℕ) → replyPort g s i .number ≡ portAt s i .member .number
+unfolding replyPort
+reply-number g s i = rw (port-member s i) refl
+
+pub told-number : (g : Group) (s : List (List ℕ)) (n i : ℕ) → n ≤ 64 → i < n → R.portAt (replyPorts g s n) i .number ≡ portAt s i .member .number
+told-number g s n i h b = rw (reply-port g s n i h b) (reply-number g s i)
+
+pub ack-le : (ports : List ReplyPort) (n bit : ℕ) → bit ≤ 1 → ackOf ports n bit ≤ 1
+unfolding ackOf
+ack-le ports n bit h = go (turns ports n) (eqb bit 0)
+  where
+    go : (a b : Bool) → cond a (cond b 1 0) bit ≤ 1
+    go true true = omega arith
+    go true false = omega arith
+    go false b = h
