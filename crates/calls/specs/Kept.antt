@@ -8,3 +8,5 @@ pub mod Steps
 pub mod Told
 pub mod Settling
 pub mod Quiet
+pub mod Start
+pub mod Calls
