@@ -6,3 +6,4 @@ pub mod Frames
 pub mod Told
 pub mod Fresh
 pub mod Answers
+pub mod Settling
