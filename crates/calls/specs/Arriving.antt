@@ -32,6 +32,7 @@ storeAfter s i failed h payload store = storeBy (groupAt s) i (takenIn s i faile
 
 -- of a frame that is answered 0, 10 or 12
 pub record Counts (s : List (List ℕ)) (i : ℕ) (failed : Bool) (h : ℕ) (payload store : List ℕ) : Type 0 where
+  pub unrefused : frameRefusal s i (length payload) (length store) ≡ 0
   pub port : i < groupAt s .count
   pub bytes : length payload ≡ groupAt s .payload
   pub stored : length store ≡ storeFor (groupAt s) (groupAt s .count)
@@ -64,8 +65,8 @@ frame-by P s k i failed h payload store stays goes =
     taken : eqb (frameRefusal s i (length payload) (length store)) 0 ≡ true → eqb (takenIn s i failed h .answer) 11 ≡ false
         → P (settledBy (takenIn s i failed h .settles) (portsIn (groupAt s)) (storeAfter s i failed h payload store) (portAfter s i failed h)) (storeAfter s i failed h payload store)
     taken e f =
-        let o : Fitting (groupAt s) (portsIn (groupAt s)) i (length s) (length payload) (length store) =
-        unrefused (groupAt s) (portsIn (groupAt s)) i (length s) (length payload) (length store) (eqb-true (frameRefusal s i (length payload) (length store)) 0 e) in
+        let none : frameRefusal s i (length payload) (length store) ≡ 0 = eqb-true (frameRefusal s i (length payload) (length store)) 0 e in
+        let o : Fitting (groupAt s) (portsIn (groupAt s)) i (length s) (length payload) (length store) = unrefused (groupAt s) (portsIn (groupAt s)) i (length s) (length payload) (length store) none in
         let b : i < groupAt s .count = rw ports at (o .port) in
         rw (ports, settles-always s k i failed h b (storeAfter s i failed h payload store))
-        (goes (record { port = b; bytes = o .bytes; stored = rw ports at (o .stored); answer = eqb-false (takenIn s i failed h .answer) 11 f }))
+        (goes (record { unrefused = none; port = b; bytes = o .bytes; stored = rw ports at (o .stored); answer = eqb-false (takenIn s i failed h .answer) 11 f }))

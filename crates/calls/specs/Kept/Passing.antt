@@ -34,7 +34,7 @@ module _ (g : Group) (s : Step) (marks : List ℕ) (k : PortKept g s marks) (beg
   has-brought e = rw (is-readable e) at due
 
   -- a joined port is an epoch ahead
-  ahead : flagOf (s .joined) ≡ true → frames (g .kind) ≤ offset g s
+  pub ahead : flagOf (s .joined) ≡ true → frames (g .kind) ≤ offset g s
   ahead j =
       let o : Joined g s marks = k .goes j in
       let far : s .later ≢ 0 → frames (g .kind) ≤ offset g s = λ n. one-ahead (g .kind) (s .later) (offset g s) n (o .passed n) in

@@ -133,3 +133,14 @@ started-kept kind count P W store s z = go (sized kind count P W) (startFits cou
     go true true e f z = kept-start kind count P W s e (fits-rows count P W store (length s) f)
     go true false e f z = absurd (omega arith)
     go false b e f z = absurd (omega arith)
+
+pub started-with : (kind count P W store : ℕ) (s : List (List ℕ)) → startAnswer kind count P W store (length s) ≡ 0
+    → groupAt (startRows kind count P W store s) ≡ groupWith kind count P W
+unfolding startAnswer startRows sizedAnswer sizedRows
+started-with kind count P W store s z = go (sized kind count P W) (startFits count P W store (length s)) refl refl z
+  where
+    go : (a b : Bool) → sized kind count P W ≡ a → startFits count P W store (length s) ≡ b → _≡_ {A = ℕ} (cond a (cond b 0 9) 4) 0
+        → groupAt (cond a (cond b (putGroup (freshPorts kind count s) (groupWith kind count P W)) s) (putGroup s (groupWith kind 0 0 0))) ≡ groupWith kind count P W
+    go true true e f z = group kind count P W s e (fits-rows count P W store (length s) f)
+    go true false e f z = absurd (omega arith)
+    go false b e f z = absurd (omega arith)

@@ -134,3 +134,19 @@ run-goes-on kind run h =
     (λ d.
     run-by (GoesOn kind run) (counts kind (run .next) h) (record { count = oneMore kind (run .count); next = tagAfter kind (run .next) }) (begunRun kind h)
     (λ c t. refl) (λ c t. absurd (short kind (begunRun kind h .count) (few kind h) t))))
+
+abbrev Counted : ℕ → Run → ℕ → Run → Type 0
+Counted kind run h r = inStepAt kind (r .count) ≡ true → counts kind (run .next) h ≡ true
+
+-- it counts as that tag says
+pub run-counts : (kind : ℕ) (run : Run) (h : ℕ) → inStepAt kind (runOn kind run h .count) ≡ true → counts kind (run .next) h ≡ true
+unfolding runOn furtherRun
+run-counts kind run h =
+    run-by (Counted kind run h) (eqb (run .count) 0) (begunRun kind h) (cond (eqb (run .count) 1) (secondRun kind run h) (furtherRun kind run h))
+    (λ e t. absurd (short kind (begunRun kind h .count) (few kind h) t))
+    (λ e.
+    run-by (Counted kind run h) (eqb (run .count) 1) (secondRun kind run h) (furtherRun kind run h)
+    (λ d t. absurd (short kind (secondRun kind run h .count) (few-second kind run h) t))
+    (λ d.
+    run-by (Counted kind run h) (counts kind (run .next) h) (record { count = oneMore kind (run .count); next = tagAfter kind (run .next) }) (begunRun kind h)
+    (λ c t. c) (λ c t. absurd (short kind (begunRun kind h .count) (few kind h) t))))

@@ -3,7 +3,7 @@ use mathlib.Core.Path.{_≡_, refl, sym, ap, _∙_}
 use mathlib.Core.Logic.{_⊎_, inl, inr, ⊎-elim, _≢_}
 use mathlib.Core.Bool.{Bool, true, false, _||_, _&&_}
 use Prim.Native.Nat.{ℕ, _+_, _-_, _*_, _/_, _%_, _≤_, _<_}
-use native.Mathlib.Nat.{mod-mod, mod-add-mod, add-mod-right}
+use native.Mathlib.Nat.{mod-mod, mod-add-mod, add-mod-right, mod-eq-of-lt}
 use native.Mathlib.Omega.{arith}
 use lib.Dec.{eqb, leb, ltb}
 use borrow.Author.Tests.{eqb-true, eqb-false, eq-eqb, ne-eqb, leb-true, leb-false, le-leb, lt-leb}
@@ -228,3 +228,57 @@ end-nearer kind i d e q =
 pub end-before : (kind i W : ℕ) → frames kind * (i + 1) + frames kind ≤ W → frames kind * i + frames kind ≤ W
 unfolding frames
 end-before kind i W l = omega arith
+
+-- Frames of the window by their distance from its first.
+
+-- the tag of the frame that lies d after the window's first
+unfoldable pub tagIn : Group → ℕ → ℕ
+tagIn g d = (firstTag (g .kind) (g .oldest) + d) % tags (g .kind)
+
+pub tag-next : (g : Group) (t : ℕ) → t < tags (g .kind) → tagIn g (distanceIn g t) ≡ t
+unfolding tagIn distanceIn distanceOf tags
+tag-next g t h = after-leads 4096 t (firstTag (g .kind) (g .oldest)) (omega arith) ∙ mod-eq-of-lt h
+
+tag-moved : (o d : ℕ) → (((o + 1) % 256 * 16 + 4088) % 4096 + d) % 4096 ≡ ((o * 16 + 4088) % 4096 + (d + 16)) % 4096
+tag-moved o d =
+    let e : (o * 16 + 4088) % 4096 + (d + 16) ≡ (o * 16 + 4088) % 4096 + 16 + d = omega arith in
+    rw (base-passed o, mod-add-mod ((o * 16 + 4088) % 4096 + 16) 4096 d, e)
+
+pub tag-passed : (g g′ : Group) (d : ℕ) → g′ .kind ≡ g .kind → g′ .oldest ≡ epochAfter (g .kind) (g .oldest) → tagIn g′ d ≡ tagIn g (d + frames (g .kind))
+unfolding tagIn firstTag epochAfter epochs tags lead frames
+tag-passed g g′ d k o = rw o (tag-moved (g .oldest) d)
+
+-- epochs of frames
+pub epoch-more : (kind d : ℕ) → (d + frames kind) / frames kind ≡ d / frames kind + 1
+unfolding frames
+epoch-more kind d = omega arith
+
+pub in-epoch : (kind d W : ℕ) → frames kind * (d / frames kind) + frames kind ≤ W → d < W
+unfolding frames
+in-epoch kind d W h = omega arith
+
+pub later-back : (kind later d : ℕ) → frames kind * (later - 1) ≤ d → frames kind * later ≤ d + frames kind
+unfolding frames
+later-back kind later d h = omega arith
+
+pub part-back : (kind d e f : ℕ) → f + frames kind ≡ e → frames kind * (f / frames kind) ≤ d → frames kind * (e / frames kind) ≤ d + frames kind
+unfolding frames
+part-back kind d e f q h = omega arith
+
+pub part-before : (kind d e : ℕ) → frames kind * ((e + 1) / frames kind) ≤ d → frames kind * (e / frames kind) ≤ d
+unfolding frames
+part-before kind d e h = omega arith
+
+-- an epoch that a frame ends: every other frame of it comes before
+pub epoch-ended : (kind d e : ℕ) → e + e < tags kind → endsEpoch kind e ≡ true → d ≢ e → d / frames kind ≡ epochsIn kind e → (frames kind * (e / frames kind) ≤ d) × (d < e)
+unfolding endsEpoch epochsIn tags frames epochs
+epoch-ended kind d e h t n q = let last = eqb-true (e % 16) 15 t in (omega arith, omega arith)
+
+pub later-part : (kind later d e : ℕ) → (later ≢ 0 → frames kind * later < e) → frames kind * (e / frames kind) ≤ d → frames kind * later ≤ d
+unfolding frames
+later-part kind later d e h p =
+    ⊎-elim (λ (z : later ≡ 0). omega arith) (λ (n : later ≢ 0). let l = h n in omega arith) (eq-or-ne later 0)
+
+pub epoch-cut : (kind d e : ℕ) → e + e < tags kind → d / frames kind < epochsIn kind e → d ≢ e
+unfolding epochsIn tags frames epochs
+epoch-cut kind d e h l q = omega arith
