@@ -33,32 +33,29 @@ recordOf r =
     ∷ (r .bytes % 256)
     ∷ []
 
+-- 'A fetch with none due answers 0, says so, and changes nothing.'
+
+unfoldable pub givenReport : Group → ℕ → List (List ℕ) → Report
+givenReport g n s = cond (dueIn g n s) (reportOf g (seenAll g s n) n) noneDue
+
+unfoldable pub givenRows : Group → ℕ → List (List ℕ) → List ℕ → List (List ℕ)
+givenRows g n s store = cond (dueIn g n s) (reportedOf g store n s) s
+
+unfoldable pub givenOut : Group → ℕ → List (List ℕ) → List ℕ → List ℕ → List ℕ
+givenOut g n s store out = cond (dueIn g n s) (outputOf g (seenAll g s n) n store out) out
+
 module _ (s : List (List ℕ)) (store out report : List ℕ) where
-  abbrev group : Group
-  group = groupAt s
-
-  abbrev ports : ℕ
-  ports = portsIn (groupAt s)
-
   unfoldable pub fits : Bool
   fits = fetchFits (groupAt s) (portsIn (groupAt s)) (length s) (length store) (length out) (length report)
-
-  -- 'one at a time': the fetch gives a report
-  unfoldable pub gives : Bool
-  gives = fits && dueIn (groupAt s) (portsIn (groupAt s)) s
 
   unfoldable pub fetchAnswer : ℕ
   fetchAnswer = cond fits 0 9
 
-  -- 'A fetch with none due answers 0, says so, and changes nothing.'
   unfoldable pub fetchRows : List (List ℕ)
-  fetchRows = cond gives (reportedOf (groupAt s) store (portsIn (groupAt s)) s) s
+  fetchRows = cond fits (givenRows (groupAt s) (portsIn (groupAt s)) s store) s
 
   unfoldable pub fetchOut : List ℕ
-  fetchOut = cond gives (outputOf (groupAt s) (seenAll (groupAt s) s (portsIn (groupAt s))) (portsIn (groupAt s)) store out) out
+  fetchOut = cond fits (givenOut (groupAt s) (portsIn (groupAt s)) s store out) out
 
   unfoldable pub fetchRecord : List ℕ
-  fetchRecord =
-      cond fits
-      (recordOf (cond gives (reportOf (groupAt s) (seenAll (groupAt s) s (portsIn (groupAt s))) (portsIn (groupAt s))) noneDue))
-      report
+  fetchRecord = cond fits (recordOf (givenReport (groupAt s) (portsIn (groupAt s)) s)) report

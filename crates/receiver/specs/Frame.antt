@@ -1,5 +1,5 @@
 -- A frame's arrival (01, 'The receiver'; 'For frames: 1, 9, 10, 12, 11').
-use mathlib.Core.Bool.{Bool, true, false, cond}
+use mathlib.Core.Bool.{Bool, cond}
 use mathlib.Core.List.{List, []}
 use Prim.Native.Nat.{ℕ}
 use lib.Dec.{eqb, ltb}

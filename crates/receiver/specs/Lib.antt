@@ -1,3 +1,4 @@
+pub mod Laws
 pub mod Lengths
 pub mod Starting
 pub mod Frame

@@ -1,5 +1,5 @@
 -- The report of an epoch (01, 'Report of an epoch', 'Member states and reply').
-use mathlib.Core.Bool.{Bool, false, cond}
+use mathlib.Core.Bool.{false, cond}
 use mathlib.Core.List.{List, []}
 use Prim.Native.Nat.{ℕ, zero, suc, _*_}
 use lib.Dec.{eqb}
@@ -56,23 +56,30 @@ seenAll g s n = each (sizeOf n) (seenOf g s) (replicate 64 noSeen)
 unfoldable pub startsOf : Group → List ℕ → ℕ → List ℕ
 startsOf g order k = tabulate 64 (λ r. placeIn g (getD order r 0) k)
 
+-- group frame k at its place in the output
+unfoldable pub frameInto : Group → Order → List ℕ → ℕ → List ℕ → List ℕ
+frameInto g o store k out = joinedFrom (o .x) (g .payload) (startsOf g (o .ports) k) store (k * (o .x * g .payload)) out
+
 -- the first k group frames, one after the other from the output's start on
 unfoldable pub framesInto : Group → Order → List ℕ → ℕ → List ℕ → List ℕ
 framesInto g o store zero out = out
-framesInto g o store (suc k) out =
-    joinedFrom (o .x) (g .payload) (startsOf g (o .ports) k) store (k * (o .x * g .payload)) (framesInto g o store k out)
+framesInto g o store (suc k) out = frameInto g o store k (framesInto g o store k out)
 
 -- what the fetched report says
-unfoldable pub reportOf : Group → List Seen → ℕ → Report
-reportOf g seen n =
-    let mark = judgeOf seen (sizeOf n) in
-    let x = cond (eqb mark HELD) 0 (orderOf seen (sizeOf n) .x) in
+unfoldable pub reportBy : Group → ℕ → Order → Report
+reportBy g mark o =
+    let x = cond (eqb mark HELD) 0 (o .x) in
     record { mark = mark; epoch = g .oldest; x = x; bytes = x * frames (g .kind) * g .payload }
 
+unfoldable pub reportOf : Group → List Seen → ℕ → Report
+reportOf g seen n = reportBy g (judgeOf seen (sizeOf n)) (orderOf seen (sizeOf n))
+
 -- held: 'No bytes.' Otherwise 'Sixteen group frames from the active ports seen.' 'Output beyond those bytes stays.'
+unfoldable pub outputBy : Group → ℕ → Order → List ℕ → List ℕ → List ℕ
+outputBy g mark o store out = cond (eqb mark HELD) out (framesInto g o store (frames (g .kind)) out)
+
 unfoldable pub outputOf : Group → List Seen → ℕ → List ℕ → List ℕ → List ℕ
-outputOf g seen n store out =
-    cond (eqb (judgeOf seen (sizeOf n)) HELD) out (framesInto g (orderOf seen (sizeOf n)) store (frames (g .kind)) out)
+outputOf g seen n store out = outputBy g (judgeOf seen (sizeOf n)) (orderOf seen (sizeOf n)) store out
 
 -- a port as its member state is worked out; readable at the moment of the fetch
 unfoldable pub replyPort : Group → List (List ℕ) → ℕ → Port
@@ -116,11 +123,12 @@ toldBy m state =
       «spare_15» = m .«spare_15»;
     }
 
+unfoldable pub toldPort : List ℕ → ℕ → List (List ℕ) → List (List ℕ)
+toldPort states i s = putMember s i (toldBy (memberAt s i) (getD states i 0))
+
 unfoldable pub toldPorts : List ℕ → ℕ → List (List ℕ) → List (List ℕ)
 toldPorts states zero s = s
-toldPorts states (suc n) s =
-    let t = toldPorts states n s in
-    putMember t n (toldBy (memberAt t n) (getD states n 0))
+toldPorts states (suc n) s = toldPort states n (toldPorts states n s)
 
 unfoldable pub toldOf : Group → ℕ → List (List ℕ) → List (List ℕ)
 toldOf g n s =

@@ -10,7 +10,7 @@ use Rattle.packet.specs.Kinds.{idleNumber}
 use Rattle.phases.specs.Sizes.{portsIn}
 use Rattle.receiver.specs.Lengths.{rowsFit}
 use Rattle.receiver.specs.Report.{replyPorts}
-use Rattle.reply.specs.Members.{STATE_IDLE}
+use Rattle.reply.specs.Members.{idleState}
 use Rattle.reply.specs.Telling.{mstOf}
 use Rattle.rows.specs.declared.group.Group.{Group}
 use Rattle.rows.specs.declared.member.Member.{Member}
@@ -25,7 +25,7 @@ flagByte b = cond b 1 0
 
 -- the number that goes with a port's state; an IDLE port has none
 abbrev pub shownNumber : ℕ → Member → ℕ
-shownNumber kind m = cond (eqb (m .state) STATE_IDLE) (idleNumber kind) (m .«state_number»)
+shownNumber kind m = cond (eqb (m .state) idleState) (idleNumber kind) (m .«state_number»)
 
 -- eight bytes a port: state, number, in step, joined, readable, flagged failed, the last good word, a zero
 unfoldable pub portShown : Group → Step → Member → List ℕ
@@ -40,6 +40,9 @@ portShown g step m =
     ∷ 0
     ∷ []
 
+unfoldable pub portIn : Group → List (List ℕ) → ℕ → List ℕ
+portIn g s i = portShown g (stepAt s i) (memberAt s i)
+
 unfoldable pub shownFit : ℕ → ℕ → ℕ → Bool
 shownFit n rows out = rowsFit n rows && eqb out n
 
@@ -49,7 +52,7 @@ portsAnswer s out = cond (shownFit (portsIn (groupAt s)) (length s) out) 0 9
 unfoldable pub portsOut : List (List ℕ) → List (List ℕ) → List (List ℕ)
 portsOut s out =
     cond (shownFit (portsIn (groupAt s)) (length s) (length out))
-    (each (portsIn (groupAt s)) (λ i. portShown (groupAt s) (stepAt s i) (memberAt s i)) out)
+    (each (portsIn (groupAt s)) (portIn (groupAt s) s) out)
     out
 
 -- 'MST for q is 0 exactly if an OK port holds q', of the numbers that the epoch speaks of; and RS-Ack beside it
@@ -58,11 +61,11 @@ replyOf s e =
     let g = groupAt s in
     mstOf (g .kind) (replyPorts g s (portsIn g)) (sizeOf (portsIn g)) e ∷ flagByte (flagOf (g .«rs_ack»)) ∷ []
 
-unfoldable pub replyFits : List (List ℕ) → ℕ → Bool
-replyFits s out = rowsFit (portsIn (groupAt s)) (length s) && eqb out 2
+unfoldable pub replyFit : ℕ → ℕ → ℕ → Bool
+replyFit n rows out = rowsFit n rows && eqb out 2
 
 unfoldable pub replyAnswer : List (List ℕ) → ℕ → ℕ
-replyAnswer s out = cond (replyFits s out) 0 9
+replyAnswer s out = cond (replyFit (portsIn (groupAt s)) (length s) out) 0 9
 
 unfoldable pub replyOut : List (List ℕ) → ℕ → List ℕ → List ℕ
-replyOut s e out = cond (replyFits s (length out)) (replyOf s e) out
+replyOut s e out = cond (replyFit (portsIn (groupAt s)) (length s) (length out)) (replyOf s e) out

@@ -14,7 +14,7 @@ use Rattle.rows.specs.Member.{putMember}
 use Rattle.rows.specs.Packets.{putMarks, putPackets}
 use Rattle.rows.specs.Rows.{rowsFor}
 use Rattle.rows.specs.Step.{putStep}
-use Rattle.reply.specs.Members.{NO_WORD, STATE_IDLE}
+use Rattle.reply.specs.Members.{idleState, noWord}
 
 abbrev pub groupWith : ℕ → ℕ → ℕ → ℕ → Group
 groupWith kind count P W =
@@ -63,11 +63,11 @@ freshStep =
 abbrev pub freshMember : ℕ → Member
 freshMember kind =
     record {
-      word = NO_WORD;
+      word = noWord;
       number = idleNumber kind;
-      state = STATE_IDLE;
+      state = idleState;
       «state_number» = idleNumber kind;
-      «told_word» = NO_WORD;
+      «told_word» = noWord;
       «told_number» = idleNumber kind;
       «spare_6» = 0;
       «spare_7» = 0;

@@ -2,7 +2,15 @@
 use packet::kinds;
 use rows::Group;
 ghost use mathlib.Core.Path.{_≡_};
+ghost use Rattle.judge.specs.Seen.{sizeOf};
 ghost use Rattle.receiver.specs.Lengths.{fetchFits, frameFits, outputFor, rowsFit};
+
+// A group has at most 64 ports.
+pub(crate) fn size_of(count: u8) -> u8
+    ensures { λ r. ⌜ r ≡ sizeOf count ⌝ }
+{
+    if count < 64 { count } else { 64 }
+}
 
 pub(crate) fn is_rows(ports: u8, rows: usize) -> bool
     ensures { λ r. ⌜ r ≡ rowsFit ports rows ⌝ }
@@ -25,7 +33,14 @@ fn output_for(group: Group, ports: u8) -> usize
     ports as usize * frames as usize * group.payload as usize
 }
 
-pub(crate) fn is_fetch(group: Group, ports: u8, rows: usize, store: usize, out: usize, report: usize) -> bool
+pub(crate) fn is_fetch(
+    group: Group,
+    ports: u8,
+    rows: usize,
+    store: usize,
+    out: usize,
+    report: usize,
+) -> bool
     ensures { λ r. ⌜ r ≡ fetchFits group ports rows store out report ⌝ }
 {
     let fit = is_rows(ports, rows);

@@ -1,13 +1,12 @@
 // The report of an epoch (01, 'Report of an epoch').
-use judge::Order;
+use crate::flags;
+use crate::lengths;
 use judge::Seen;
 use packet::kinds;
 use rows::Group;
-use store::frames;
 use store::marks;
 ghost use mathlib.Core.Path.{_≡_};
-ghost use Rattle.receiver.specs.Report.{framesInto, noSeen, outputOf, reportOf, rulingEpoch, seenAll, seenOf, startsOf};
-ghost use Rattle.step.specs.Arrival.{flagOf};
+ghost use Rattle.receiver.specs.Report.{noSeen, rulingEpoch, seenAll, seenOf};
 
 pub struct Report {
     // 0 none due, 1 held, 2 doubtful, 3 sure
@@ -17,12 +16,6 @@ pub struct Report {
     pub x: u8,
     // how many bytes of the output
     pub bytes: u32,
-}
-
-fn is_set(flag: u8) -> bool
-    ensures { λ r. ⌜ r ≡ flagOf flag ⌝ }
-{
-    !(flag == 0)
 }
 
 fn ruling_epoch(group: Group) -> u8
@@ -43,7 +36,7 @@ fn seen_of(group: Group, state: &[[u8; 16]], port: u8) -> Seen
     let nibbles = packets[1];
     let ruling = phases::ruling_of(group.kind, epoch, nibbles);
     Seen {
-        whole: is_set(step.whole),
+        whole: flags::is_set(step.whole),
         good: ruling.good,
         word: ruling.word,
         number: ruling.number,
@@ -65,18 +58,12 @@ fn no_seen() -> Seen
     }
 }
 
-fn size_of(count: u8) -> u8
-    ensures { λ r. ⌜ r ≡ sizeOf count ⌝ }
-{
-    if count < 64 { count } else { 64 }
-}
-
 pub(crate) fn seen_all(group: Group, state: &[[u8; 16]], ports: u8) -> [Seen; 64]
     ensures { λ r. ⌜ r ≡ seenAll group (now (state .entry)) ports ⌝ }
 {
     let none = no_seen();
     let mut seen = [none; 64];
-    let n = size_of(ports);
+    let n = lengths::size_of(ports);
     let mut i = 0;
     while i < n {
         let one = seen_of(group, state, i);

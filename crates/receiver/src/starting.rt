@@ -6,7 +6,7 @@ use rows::Member;
 use rows::Step;
 ghost use mathlib.Core.Path.{_≡_};
 ghost use lib.ListN.{length};
-ghost use Rattle.receiver.specs.Starting.{freshMember, freshPort, freshPorts, freshStep, groupWith, startAnswer, startFits, startRows};
+ghost use Rattle.receiver.specs.Starting.{freshMember, freshPort, freshPorts, freshStep, groupWith, sizedAnswer, sizedRows, startAnswer, startFits, startRows};
 
 fn group_with(kind: u8, count: u8, payload: u16, window: u16) -> Group
     ensures { λ r. ⌜ r ≡ groupWith kind count payload window ⌝ }
@@ -104,7 +104,14 @@ fn is_fitting(count: u8, payload: u16, window: u16, store: usize, rows: usize) -
 }
 
 // A start with ranges already right.
-fn start_sized(kind: u8, count: u8, payload: u16, window: u16, store: usize, state: &mut [[u8; 16]]) -> u8
+fn start_sized(
+    kind: u8,
+    count: u8,
+    payload: u16,
+    window: u16,
+    store: usize,
+    state: &mut [[u8; 16]],
+) -> u8
     ensures { λ r. ⌜ (r ≡ sizedAnswer count payload window store (length (now (state .entry))))
         × (now (state .exit) ≡ sizedRows kind count payload window store (now (state .entry))) ⌝ }
 {
@@ -118,12 +125,26 @@ fn start_sized(kind: u8, count: u8, payload: u16, window: u16, store: usize, sta
 }
 
 // A fresh receiver with so many ports, P, W and bytes of store.
-pub fn start(kind: u8, count: u32, payload: u32, window: u32, store: usize, state: &mut [[u8; 16]]) -> u8
+pub fn start(
+    kind: u8,
+    count: u32,
+    payload: u32,
+    window: u32,
+    store: usize,
+    state: &mut [[u8; 16]],
+) -> u8
     ensures { λ r. ⌜ (r ≡ startAnswer kind count payload window store (length (now (state .entry))))
         × (now (state .exit) ≡ startRows kind count payload window store (now (state .entry))) ⌝ }
 {
     if phases::is_sized(kind, count, payload, window) {
-        return start_sized(kind, count as u8, payload as u16, window as u16, store, state);
+        return start_sized(
+            kind,
+            count as u8,
+            payload as u16,
+            window as u16,
+            store,
+            state,
+        );
     }
     let empty = group_with(kind, 0, 0, 0);
     rows::group::put(state, empty);

@@ -1,0 +1,55 @@
+-- What a fetch leaves, by what the parts of the code leave.
+use mathlib.Core.Path.{_≡_, refl, _∙_}
+use mathlib.Core.Bool.{Bool, true, false}
+use mathlib.Core.List.{List}
+use Prim.Native.Nat.{ℕ}
+use lib.ListN.{length}
+use Rattle.judge.specs.declared.order.Order.{Order}
+use Rattle.judge.specs.declared.seen.Seen.{Seen}
+use Rattle.judge.specs.Order.{orderOf}
+use Rattle.judge.specs.Seen.{sizeOf}
+use Rattle.judge.specs.Verdict.{judgeOf}
+use Rattle.phases.specs.Sizes.{portsIn}
+use Rattle.receiver.specs.declared.report.Report.{Report}
+use Rattle.receiver.specs.Fetch.{dueIn, fetchAnswer, fetchOut, fetchRecord, fetchRows, fits, givenOut, givenReport, givenRows, noneDue, recordOf}
+use Rattle.receiver.specs.Lengths.{fetchFits}
+use Rattle.receiver.specs.Report.{outputBy, outputOf, reportBy, reportOf, reportedOf, seenAll}
+use Rattle.rows.specs.declared.group.Group.{Group}
+use Rattle.rows.specs.Group.{groupAt}
+
+module _ (g : Group) (n : ℕ) (s : List (List ℕ)) (store out : List ℕ) where
+  pub given-is : (seen : List Seen) (mark : ℕ) (order : Order) (left : List ℕ) (rows : List (List ℕ)) (report : Report)
+      → seen ≡ seenAll g s n → mark ≡ judgeOf seen (sizeOf n) → order ≡ orderOf seen (sizeOf n) → left ≡ outputBy g mark order store out
+      → rows ≡ reportedOf g store n s → report ≡ reportBy g mark order
+      → (report ≡ reportOf g (seenAll g s n) n) × (rows ≡ reportedOf g store n s) × (left ≡ outputOf g (seenAll g s n) n store out)
+  unfolding reportOf outputOf
+  given-is seen mark order left rows report es em eo el er ep = rw (← es, ← em, ← eo) (ep, er, el)
+
+  module _ (due : Bool) (ed : due ≡ dueIn g n s) where
+    pub given-due : (report : Report) (rows : List (List ℕ)) (left : List ℕ) → due ≡ true
+        → (report ≡ reportOf g (seenAll g s n) n) × (rows ≡ reportedOf g store n s) × (left ≡ outputOf g (seenAll g s n) n store out)
+        → (report ≡ givenReport g n s) × (rows ≡ givenRows g n s store) × (left ≡ givenOut g n s store out)
+    unfolding givenReport givenRows givenOut
+    given-due report rows left e h = rw (← ed, e) h
+
+    pub given-none : (report : Report) → due ≡ false → report ≡ noneDue
+        → (report ≡ givenReport g n s) × (s ≡ givenRows g n s store) × (out ≡ givenOut g n s store out)
+    unfolding givenReport givenRows givenOut
+    given-none report e h = rw (← ed, e) (h, refl, refl)
+
+module _ (s : List (List ℕ)) (store out lent : List ℕ) (g : Group) (n : ℕ) (fit : Bool) (eg : g ≡ groupAt s) (en : n ≡ portsIn g)
+    (ef : fit ≡ fetchFits g n (length s) (length store) (length out) (length lent)) where
+  same-fits : fit ≡ fits s store out lent
+  unfolding fits
+  same-fits = ef ∙ rw (en, eg) refl
+
+  pub fetch-unfit : fit ≡ false
+      → (9 ≡ fetchAnswer s store out lent) × (s ≡ fetchRows s store out lent) × (out ≡ fetchOut s store out lent) × (lent ≡ fetchRecord s store out lent)
+  unfolding fetchAnswer fetchRows fetchOut fetchRecord
+  fetch-unfit e = rw (← same-fits, e) (refl, refl, refl, refl)
+
+  pub fetch-fit : (report : Report) (rows : List (List ℕ)) (left told : List ℕ) → fit ≡ true
+      → report ≡ givenReport g n s → rows ≡ givenRows g n s store → left ≡ givenOut g n s store out → told ≡ recordOf report
+      → (0 ≡ fetchAnswer s store out lent) × (rows ≡ fetchRows s store out lent) × (left ≡ fetchOut s store out lent) × (told ≡ fetchRecord s store out lent)
+  unfolding fetchAnswer fetchRows fetchOut fetchRecord
+  fetch-fit report rows left told e er es el et = rw (← same-fits, e, ← eg, ← en, ← er) (refl, es, el, et)

@@ -1,0 +1,6 @@
+pub mod Arriving
+pub mod Fetched
+pub mod Lists
+pub mod Numbers
+pub mod Showing
+pub mod Sizes

@@ -1,0 +1,22 @@
+use mathlib.Core.Path.{refl}
+use Rattle.receiver.specs.Frame.{settledBy}
+use borrow.Author.Needs.{needs}
+use Rattle.receiver.proofs.arrival.settle_by.Statement.{statement}
+use Rattle.receiver.proofs.arrival.settle_by.Tie as tie
+
+settle-requires : tie.Need-settle-requires
+settle-requires c κs = search needs
+
+same-length : tie.Need-same-length
+same-length c = search needs
+
+returns : tie.Need-returns
+unfolding settledBy
+returns c = rw (c .before .before .before .if1 .taken) (c .before .settle .ensures)
+
+returns-2 : tie.Need-returns-2
+unfolding settledBy
+returns-2 c = rw (c .if1 .left) refl
+
+pub settle-by-spec : {M : Type 1} → statement M
+settle-by-spec = tie.close (tie.spec settle-requires same-length returns returns-2)

@@ -1,0 +1,41 @@
+use mathlib.Core.Path.{refl}
+use borrow.Author.Tests.{eq-eqb}
+use Rattle.receiver.specs.Frame.{takenRows, takenStore}
+use Rattle.receiver.proofs.Arriving.{taken-rows, taken-store}
+use borrow.Author.Needs.{needs}
+use Rattle.receiver.proofs.arrival.take.Statement.{statement}
+use Rattle.receiver.proofs.arrival.take.Tie as tie
+
+put-port-requires : tie.Need-put-port-requires
+put-port-requires c κs = search needs
+
+put-frame-requires : tie.Need-put-frame-requires
+put-frame-requires c κs = search needs
+
+settle-by-requires : tie.Need-settle-by-requires
+settle-by-requires c κs = search needs
+
+same-length : tie.Need-same-length
+same-length c = search needs
+
+same-length-2 : tie.Need-same-length-2
+same-length-2 c = search needs
+
+returns : tie.Need-returns
+returns c = (taken-rows _ _ _ _ _ _ _ _ _ _ _ (c .before .before .before .before .before .before .before .before .before .before .before .if1 .taken) (c .before .before .before .before .before .before .before .before .before .put-port .ensures) (c .before .before .before .before .before .before .put-frame .ensures) (c .before .settle-by .ensures), taken-store _ _ _ _ _ _ _ (c .before .before .before .before .before .before .before .before .before .before .before .if1 .taken) (c .before .before .before .before .before .before .put-frame .ensures))
+
+returns-2 : tie.Need-returns-2
+unfolding takenRows takenStore
+returns-2 c = rw (eq-eqb _ 11 (c .if1 .left)) (refl, refl)
+
+pub take-spec : {M : Type 1} → statement M
+take-spec =
+    tie.close
+    (tie.spec
+    put-port-requires
+    put-frame-requires
+    settle-by-requires
+    same-length
+    same-length-2
+    returns
+    returns-2)

@@ -1,0 +1,51 @@
+use mathlib.Core.Path.{refl}
+use Rattle.receiver.specs.Shown.{portShown}
+use borrow.Author.Needs.{needs}
+use Rattle.receiver.proofs.shown.port_shown.Statement.{statement}
+use Rattle.receiver.proofs.shown.port_shown.Tie as tie
+
+in-step-requires : tie.Need-in-step-requires
+in-step-requires c κs = search needs
+
+is-readable-requires : tie.Need-is-readable-requires
+is-readable-requires c κs = search needs
+
+shown-number-requires : tie.Need-shown-number-requires
+shown-number-requires c κs = search needs
+
+flag-byte-requires : tie.Need-flag-byte-requires
+flag-byte-requires c κs = search needs
+
+is-set-requires : tie.Need-is-set-requires
+is-set-requires c κs = search needs
+
+flag-byte-requires-2 : tie.Need-flag-byte-requires-2
+flag-byte-requires-2 c κs = search needs
+
+flag-byte-requires-3 : tie.Need-flag-byte-requires-3
+flag-byte-requires-3 c κs = search needs
+
+is-set-requires-2 : tie.Need-is-set-requires-2
+is-set-requires-2 c κs = search needs
+
+flag-byte-requires-4 : tie.Need-flag-byte-requires-4
+flag-byte-requires-4 c κs = search needs
+
+returns : tie.Need-returns
+unfolding portShown
+returns c = rw (c .flag-byte4 .ensures, c .before .is-set2 .ensures, c .before .before .flag-byte3 .ensures, c .before .before .before .flag-byte2 .ensures, c .before .before .before .before .is-set .ensures, c .before .before .before .before .before .flag-byte .ensures, c .before .before .before .before .before .before .shown-number .ensures, c .before .before .before .before .before .before .before .is-readable .ensures, c .before .before .before .before .before .before .before .before .in-step .ensures) refl
+
+pub port-shown-spec : {M : Type 1} → statement M
+port-shown-spec =
+    tie.close
+    (tie.spec
+    in-step-requires
+    is-readable-requires
+    shown-number-requires
+    flag-byte-requires
+    is-set-requires
+    flag-byte-requires-2
+    flag-byte-requires-3
+    is-set-requires-2
+    flag-byte-requires-4
+    returns)

@@ -1,0 +1,56 @@
+use mathlib.Core.Path.{sym, _∙_}
+use borrow.Author.Tests.{not-true, not-false}
+use Rattle.receiver.proofs.Showing.{reply-unfit, reply-shown}
+use Rattle.receiver.proofs.Sizes.{reply-length}
+use borrow.Author.Needs.{needs}
+use Rattle.receiver.proofs.shown.reply.Statement.{statement}
+use Rattle.receiver.proofs.shown.reply.Tie as tie
+
+get-requires : tie.Need-get-requires
+get-requires c κs = search needs
+
+ports-in-requires : tie.Need-ports-in-requires
+ports-in-requires c κs = search needs
+
+is-reply-requires : tie.Need-is-reply-requires
+is-reply-requires c κs = search needs
+
+returns : tie.Need-returns
+returns c = reply-unfit _ _ _ _ (c .before .before .before .get .ensures) (c .before .before .ports-in .ensures) _ _ (c .before .is-reply .ensures) (not-true _ (c .if1 .taken))
+
+reply-ports-requires : tie.Need-reply-ports-requires
+reply-ports-requires c κs = search needs
+
+mst-requires : tie.Need-mst-requires
+mst-requires c κs = search needs
+
+is-set-requires : tie.Need-is-set-requires
+is-set-requires c κs = search needs
+
+flag-byte-requires : tie.Need-flag-byte-requires
+flag-byte-requires c κs = search needs
+
+put-reply-requires : tie.Need-put-reply-requires
+put-reply-requires c κs = reply-length _ _ _ (sym (c .before .before .before .before .before .before .is-reply .ensures) ∙ not-false _ (c .before .before .before .before .before .if1 .left))
+
+same-length : tie.Need-same-length
+same-length c = search needs
+
+returns-2 : tie.Need-returns-2
+returns-2 c = reply-shown _ _ _ _ (c .before .before .before .before .before .before .before .before .before .before .before .get .ensures) (c .before .before .before .before .before .before .before .before .before .before .ports-in .ensures) _ _ (c .before .before .before .before .before .before .before .before .before .is-reply .ensures) _ _ _ _ _ (not-false _ (c .before .before .before .before .before .before .before .before .if1 .left)) (c .before .before .before .before .before .before .before .reply-ports .ensures) (c .before .before .before .before .before .before .mst .ensures) (c .before .before .before .before .before .is-set .ensures) (c .before .before .before .before .flag-byte .ensures) (c .before .before .put-reply .ensures)
+
+pub reply-spec : {M : Type 1} → statement M
+reply-spec =
+    tie.close
+    (tie.spec
+    get-requires
+    ports-in-requires
+    is-reply-requires
+    returns
+    reply-ports-requires
+    mst-requires
+    is-set-requires
+    flag-byte-requires
+    put-reply-requires
+    same-length
+    returns-2)

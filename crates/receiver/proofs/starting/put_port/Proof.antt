@@ -1,0 +1,43 @@
+use mathlib.Core.Path.{refl}
+use Rattle.receiver.specs.Starting.{freshPort}
+use borrow.Author.Needs.{needs}
+use Rattle.receiver.proofs.starting.put_port.Statement.{statement}
+use Rattle.receiver.proofs.starting.put_port.Tie as tie
+
+fresh-step-requires : tie.Need-fresh-step-requires
+fresh-step-requires c κs = search needs
+
+fresh-member-requires : tie.Need-fresh-member-requires
+fresh-member-requires c κs = search needs
+
+put-requires : tie.Need-put-requires
+put-requires c κs = search needs
+
+put-requires-2 : tie.Need-put-requires-2
+put-requires-2 c κs = search needs
+
+put-requires-3 : tie.Need-put-requires-3
+put-requires-3 c κs = search needs
+
+put-marks-requires : tie.Need-put-marks-requires
+put-marks-requires c κs = search needs
+
+same-length : tie.Need-same-length
+same-length c = search needs
+
+returns : tie.Need-returns
+unfolding freshPort
+returns c = rw (c .before .put-marks .ensures, c .before .before .before .before .put3 .ensures, c .before .before .before .before .before .before .before .put2 .ensures, c .before .before .before .before .before .before .before .before .before .before .put .ensures, c .before .before .before .before .before .before .before .before .before .before .before .before .fresh-member .ensures, c .before .before .before .before .before .before .before .before .before .before .before .before .before .fresh-step .ensures) refl
+
+pub put-port-spec : {M : Type 1} → statement M
+put-port-spec =
+    tie.close
+    (tie.spec
+    fresh-step-requires
+    fresh-member-requires
+    put-requires
+    put-requires-2
+    put-requires-3
+    put-marks-requires
+    same-length
+    returns)

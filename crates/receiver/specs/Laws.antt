@@ -1,0 +1,2 @@
+-- Laws on the definitions, for callers and for the proofs of the code.
+pub mod Lengths

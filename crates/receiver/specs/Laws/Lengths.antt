@@ -1,0 +1,49 @@
+-- Neither a start nor a report changes how many rows there are, and no group frame how long the output is.
+use mathlib.Core.Path.{_≡_, refl, _∙_}
+use mathlib.Core.List.{List}
+use Prim.Native.Nat.{ℕ, zero, suc, _*_}
+use lib.ListN.{length}
+use Rattle.ground.specs.Drawn.{fillAt, length-fillAt}
+use Rattle.judge.specs.declared.order.Order.{Order}
+use Rattle.payload.specs.declared.answer.Answer.{Answer}
+use Rattle.payload.specs.declared.answer.Answer.the-variants.{Done, Range, Length}
+use Rattle.payload.specs.Answers.{underDone}
+use Rattle.payload.specs.Joining.{fromAnswer, startedByte}
+use Rattle.payload.specs.Order.{groupByte}
+use Rattle.receiver.specs.Report.{frameInto, framesInto, startsOf, toldPort, toldPorts}
+use Rattle.receiver.specs.Starting.{freshPort, freshPorts}
+use Rattle.rows.specs.declared.group.Group.{Group}
+use Rattle.rows.specs.Laws.Lengths.{length-put-marks, length-put-member, length-put-packets, length-put-step}
+
+pub length-fresh-port : (kind i : ℕ) (s : List (List ℕ)) → length (freshPort kind i s) ≡ length s
+unfolding freshPort
+length-fresh-port kind i s = length-put-marks _ i _ ∙ length-put-packets _ i _ ∙ length-put-member _ i _ ∙ length-put-step s i _
+
+pub length-fresh-ports : (kind n : ℕ) (s : List (List ℕ)) → length (freshPorts kind n s) ≡ length s
+unfolding freshPorts
+length-fresh-ports kind zero s = refl
+length-fresh-ports kind (suc n) s = length-fresh-port kind n (freshPorts kind n s) ∙ length-fresh-ports kind n s
+
+pub length-told-port : (states : List ℕ) (i : ℕ) (s : List (List ℕ)) → length (toldPort states i s) ≡ length s
+unfolding toldPort
+length-told-port states i s = length-put-member s i _
+
+pub length-told-ports : (states : List ℕ) (n : ℕ) (s : List (List ℕ)) → length (toldPorts states n s) ≡ length s
+unfolding toldPorts
+length-told-ports states zero s = refl
+length-told-ports states (suc n) s = length-told-port states n (toldPorts states n s) ∙ length-told-ports states n s
+
+pub length-frame-into : (g : Group) (o : Order) (store : List ℕ) (k : ℕ) (out : List ℕ) → length (frameInto g o store k out) ≡ length out
+unfolding frameInto
+length-frame-into g o store k out = go (fromAnswer (o .x) (g .payload) (startsOf g (o .ports) k) (length store) (k * (o .x * g .payload)) (length out))
+  where
+    go : (a : Answer)
+        → length (underDone a (fillAt (k * (o .x * g .payload)) (o .x * g .payload) (groupByte (o .x) (startedByte (startsOf g (o .ports) k) store)) out) out) ≡ length out
+    go Done = length-fillAt (k * (o .x * g .payload)) (o .x * g .payload) (groupByte (o .x) (startedByte (startsOf g (o .ports) k) store)) out
+    go Range = refl
+    go Length = refl
+
+pub length-frames-into : (g : Group) (o : Order) (store : List ℕ) (k : ℕ) (out : List ℕ) → length (framesInto g o store k out) ≡ length out
+unfolding framesInto
+length-frames-into g o store zero out = refl
+length-frames-into g o store (suc k) out = length-frame-into g o store k (framesInto g o store k out) ∙ length-frames-into g o store k out

@@ -1,0 +1,105 @@
+// A report fetched (01, 'Report of an epoch'; 'For fetching: 9 first').
+use crate::flags;
+use crate::joining;
+use crate::lengths;
+use crate::report;
+use crate::report::Report;
+use crate::telling;
+use rows::Group;
+ghost use mathlib.Core.Path.{_≡_};
+ghost use lib.ListN.{length};
+ghost use Rattle.receiver.specs.Fetch.{dueIn, fetchAnswer, fetchOut, fetchRecord, fetchRows, givenOut, givenReport, givenRows, noneDue, recordOf};
+ghost use Rattle.receiver.specs.Report.{outputOf, reportOf, reportedOf, seenAll};
+
+// A host fetches after every frame: the two flags come first, and the ports end at the first one that still owes a frame.
+fn is_due(group: Group, ports: u8, state: &[[u8; 16]]) -> bool
+    ensures { λ r. ⌜ r ≡ dueIn group ports (now (state .entry)) ⌝ }
+{
+    if (0 < ports) & flags::is_set(group.begun) & flags::is_set(group.gathered) {
+        return phases::is_brought(group, state, ports);
+    }
+    false
+}
+
+fn none_due() -> Report
+    ensures { λ r. ⌜ r ≡ noneDue ⌝ }
+{
+    Report {
+        mark: 0,
+        epoch: 0,
+        x: 0,
+        bytes: 0,
+    }
+}
+
+// The report of the oldest epoch, which is due.
+fn give(group: Group, ports: u8, state: &mut [[u8; 16]], store: &[u8], out: &mut [u8]) -> Report
+    ensures { λ r. ⌜ (r ≡ reportOf group (seenAll group (now (state .entry)) ports) ports)
+        × (now (state .exit) ≡ reportedOf group (now (store .entry)) ports (now (state .entry)))
+        × (now (out .exit) ≡ outputOf group (seenAll group (now (state .entry)) ports) ports (now (store .entry)) (now (out .entry))) ⌝ }
+{
+    let seen = report::seen_all(group, state, ports);
+    let mark = judge::judge(seen, ports);
+    let order = judge::ordered(seen, ports);
+    joining::output_by(group, mark, order, store, out);
+    telling::pass(group, store, ports, state);
+    joining::report_by(group, mark, order)
+}
+
+fn give_due(group: Group, ports: u8, state: &mut [[u8; 16]], store: &[u8], out: &mut [u8]) -> Report
+    ensures { λ r. ⌜ (r ≡ givenReport group ports (now (state .entry)))
+        × (now (state .exit) ≡ givenRows group ports (now (state .entry)) (now (store .entry)))
+        × (now (out .exit) ≡ givenOut group ports (now (state .entry)) (now (store .entry)) (now (out .entry))) ⌝ }
+{
+    if is_due(group, ports, state) {
+        return give(group, ports, state, store, out);
+    }
+    none_due()
+}
+
+fn record_of(r: Report) -> [u8; 8]
+    ensures { λ q. ⌜ q ≡ recordOf r ⌝ }
+{
+    [
+        r.mark,
+        r.epoch,
+        r.x,
+        0,
+        (r.bytes / 16777216 % 256) as u8,
+        (r.bytes / 65536 % 256) as u8,
+        (r.bytes / 256 % 256) as u8,
+        (r.bytes % 256) as u8,
+    ]
+}
+
+fn put_record(given: Report, to: &mut [u8])
+    requires { ⌜ length (now to) ≡ 8 ⌝ }
+    ensures { λ _. ⌜ now (to .exit) ≡ recordOf given ⌝ }
+{
+    let bytes = record_of(given);
+    bytes::copy(&bytes, to);
+}
+
+// The report of the oldest epoch not yet reported, if it is due: its frames into the output, and what it says into the record.
+pub fn fetch(state: &mut [[u8; 16]], store: &[u8], out: &mut [u8], report: &mut [u8]) -> u8
+    ensures { λ r. ⌜ (r ≡ fetchAnswer (now (state .entry)) (now (store .entry)) (now (out .entry)) (now (report .entry)))
+        × (now (state .exit) ≡ fetchRows (now (state .entry)) (now (store .entry)) (now (out .entry)) (now (report .entry)))
+        × (now (out .exit) ≡ fetchOut (now (state .entry)) (now (store .entry)) (now (out .entry)) (now (report .entry)))
+        × (now (report .exit) ≡ fetchRecord (now (state .entry)) (now (store .entry)) (now (out .entry)) (now (report .entry))) ⌝ }
+{
+    let group = rows::group::get(state);
+    let ports = phases::ports_in(group);
+    if !lengths::is_fetch(
+        group,
+        ports,
+        state.len(),
+        store.len(),
+        out.len(),
+        report.len(),
+    ) {
+        return 9;
+    }
+    let given = give_due(group, ports, state, store, out);
+    put_record(given, report);
+    0
+}

@@ -1,0 +1,87 @@
+// The sixteen group frames of a report, and what the report says (01, 'Report of an epoch', 'Payload order').
+use crate::report::Report;
+use judge::Order;
+use packet::kinds;
+use rows::Group;
+use store::frames;
+ghost use mathlib.Core.Path.{_≡_};
+ghost use mathlib.Core.Bool.{cond};
+ghost use Prim.Native.Nat.{_*_};
+ghost use lib.Dec.{eqb};
+ghost use Rattle.judge.specs.Verdict.{HELD};
+ghost use Rattle.receiver.specs.Report.{frameInto, framesInto, outputBy, reportBy, startsOf};
+
+fn starts_of(group: Group, ports: [u8; 64], k: u16) -> [usize; 64]
+    ensures { λ r. ⌜ r ≡ startsOf group ports k ⌝ }
+{
+    let mut starts = [0; 64];
+    let mut rank = 0;
+    while rank < 64 {
+        let port = ports[rank];
+        starts[rank] = frames::place(group, port, k);
+        rank += 1;
+    }
+    starts
+}
+
+fn frame_into(group: Group, order: Order, store: &[u8], k: u8, out: &mut [u8])
+    ensures { λ _. ⌜ now (out .exit) ≡ frameInto group order (now (store .entry)) k (now (out .entry)) ⌝ }
+{
+    let ports = order.ports;
+    let starts = starts_of(group, ports, k as u16);
+    let x = order.x as usize;
+    let p = group.payload as usize;
+    payload::join_from(x, p, starts, store, k as usize * (x * p), out);
+}
+
+fn frames_into(group: Group, order: Order, store: &[u8], count: u8, out: &mut [u8])
+    ensures { λ _. ⌜ now (out .exit) ≡ framesInto group order (now (store .entry)) count (now (out .entry)) ⌝ }
+{
+    let mut k = 0;
+    while k < count {
+        frame_into(group, order, store, k, out);
+        k += 1;
+    }
+}
+
+fn is_held(mark: u8) -> bool
+    ensures { λ r. ⌜ r ≡ eqb mark HELD ⌝ }
+{
+    mark == 1
+}
+
+// The group frames of an epoch that is not held.
+pub(crate) fn output_by(group: Group, mark: u8, order: Order, store: &[u8], out: &mut [u8])
+    ensures { λ _. ⌜ now (out .exit) ≡ outputBy group mark order (now (store .entry)) (now (out .entry)) ⌝ }
+{
+    if !is_held(mark) {
+        let count = kinds::epoch_frames(group.kind);
+        frames_into(group, order, store, count, out);
+    }
+}
+
+fn joined_members(mark: u8, x: u8) -> u8
+    ensures { λ r. ⌜ r ≡ cond (eqb mark HELD) 0 x ⌝ }
+{
+    if is_held(mark) { 0 } else { x }
+}
+
+fn byte_count(x: u8, frames: u8, payload: u16) -> u32
+    ensures { λ r. ⌜ r ≡ x * frames * payload ⌝ }
+{
+    x as u32 * frames as u32 * payload as u32
+}
+
+pub(crate) fn report_by(group: Group, mark: u8, order: Order) -> Report
+    ensures { λ r. ⌜ r ≡ reportBy group mark order ⌝ }
+{
+    let x = joined_members(mark, order.x);
+    let count = kinds::epoch_frames(group.kind);
+    let bytes = byte_count(x, count, group.payload);
+    Report {
+        mark,
+        epoch: group.oldest,
+        x,
+        bytes,
+    }
+}
