@@ -1,0 +1,4 @@
+-- What 01 and the minutes ask of reports, proved on the definitions.
+pub mod Seen
+pub mod Bytes
+pub mod Held
