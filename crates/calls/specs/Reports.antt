@@ -2,3 +2,7 @@
 pub mod Seen
 pub mod Bytes
 pub mod Held
+pub mod Groups
+pub mod Order
+pub mod Ack
+pub mod Again
