@@ -10,6 +10,7 @@ use lib.ListN.{length}
 use borrow.Author.Tests.{eqb-true, eqb-false}
 use Rattle.calls.specs.Kept.Group.{Kept}
 use Rattle.calls.specs.Laws.Answers.{Fitting, ports-are, unrefused}
+use Rattle.calls.specs.Laws.Settling.{rows-by}
 use Rattle.calls.specs.Settles.{settles-always}
 use Rattle.phases.specs.Settling.{settledOf}
 use Rattle.phases.specs.Sizes.{portsIn, storeFor}
@@ -70,3 +71,30 @@ frame-by P s k i failed h payload store stays goes =
         let b : i < groupAt s .count = rw ports at (o .port) in
         rw (ports, settles-always s k i failed h b (storeAfter s i failed h payload store))
         (goes (record { unrefused = none; port = b; bytes = o .bytes; stored = rw ports at (o .stored); answer = eqb-false (takenIn s i failed h .answer) 11 f }))
+
+-- The same on every state: what follows may or may not be looked at.
+pub frame-any : (P : List (List ℕ) → Type 0) (s : List (List ℕ)) (i : ℕ) (failed : Bool) (h : ℕ) (payload store : List ℕ)
+    → P s
+    → (frameRefusal s i (length payload) (length store) ≡ 0 → takenIn s i failed h .answer ≢ 11 → P (portAfter s i failed h))
+    → (frameRefusal s i (length payload) (length store) ≡ 0 → takenIn s i failed h .answer ≢ 11
+    → P (settledOf (portsIn (groupAt s)) (storeAfter s i failed h payload store) (portAfter s i failed h)))
+    → P (frameRows s i failed h payload store)
+unfolding frameRows takenRows settledBy
+frame-any P s i failed h payload store stays alone goes =
+    rows-by P (eqb (frameRefusal s i (length payload) (length store)) 0) (cond (eqb (t .answer) 11) s (cond (t .settles) after a)) s
+    (λ e.
+    let none : frameRefusal s i (length payload) (length store) ≡ 0 = eqb-true (frameRefusal s i (length payload) (length store)) 0 e in
+    rows-by P (eqb (t .answer) 11) s (cond (t .settles) after a) (λ f. stays)
+    (λ f.
+    let other : takenIn s i failed h .answer ≢ 11 = eqb-false (t .answer) 11 f in
+    rows-by P (t .settles) after a (λ q. goes none other) (λ q. alone none other)))
+    (λ e. stays)
+  where
+    t : Taken
+    t = takenIn s i failed h
+
+    a : List (List ℕ)
+    a = portAfter s i failed h
+
+    after : List (List ℕ)
+    after = settledOf (portsIn (groupAt s)) (storeAfter s i failed h payload store) (portAfter s i failed h)

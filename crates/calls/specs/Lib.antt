@@ -7,3 +7,4 @@ pub mod Same
 pub mod Ruled
 pub mod Claims
 pub mod Claimed
+pub mod Reports
