@@ -4,16 +4,16 @@ use mathlib.Core.Path.{_≡_}
 use mathlib.Core.Logic.{_⊎_, _≢_}
 use mathlib.Core.List.{List, [], _∷_, _++_}
 use Prim.Native.Nat.{ℕ, suc, _+_, _-_, _*_, _/_, _≤_, _<_}
-use lib.ListN.{length}
+use lib.ListN.{getD, length, replicate}
 use Rattle.ground.specs.Table.{tabulate}
 use Rattle.judge.specs.Verdict.{SURE}
 use Rattle.packet.specs.Kinds.{frames}
+use Rattle.receiver.specs.Fetch.{fetchAnswer}
 use Rattle.rows.specs.Group.{groupAt}
 use Rattle.rows.specs.Rows.{rowsFor}
-use Rattle.link.specs.Link.{Link, SameIn, expected, roadOf}
-use Rattle.link.specs.Running.{Moment, fresh, through}
-use Rattle.link.specs.Transport.Answers.{says, saysThrough}
-use Rattle.link.specs.Transport.Times.{Beginning, nx, reached}
+use Rattle.link.specs.Link.{Alike, Assumed, Link, SameIn, expected, roadOf}
+use Rattle.link.specs.Running.{Moment, fresh, recordAt, through}
+use Rattle.link.specs.Moments.{Beginning, Unready, nx, reached, says, saysThrough}
 
 -- frames that an epoch has
 abbrev pub L : Link → ℕ
@@ -49,7 +49,7 @@ module _ (k : Link) (m₀ : Moment) where
     pub not-yet : FullyArrived k at (suc (suc (F / L k) + many)) → ⊥
 
   pub data Stands (at : Time k) : Type 0 where
-    none-yet : begun (standing at) ≡ 0 → standing at .told ≡ [] → Stands at
+    none-yet : begun (standing at) ≡ 0 → Unready (roadOf k) (at .t) (at .done) → standing at .told ≡ [] → Stands at
     reports : begun (standing at) ≡ 1 → Reported at → Stands at
 
 -- a receiver started over any rows and any store of the right lengths
@@ -60,6 +60,15 @@ pub record Started (k : Link) (m : Moment) : Type 0 where
   pub store-long : length store ≡ k .history .slots * k .window * (k .payload + 1)
   pub is : m ≡ fresh (roadOf k) rows store
 
+-- 'So, over the same tags, delays, first frames and port orders, client streams that differ in an epoch reported sure never come out alike': of two such runs at the same moment, where an epoch that
+-- either reports sure (the m-th reported) has different client bytes, the lists of reports differ.
+pub record NeverAlike (k j : Link) : Type 0 where
+  pub never : (mk mj : Moment) → Started k mk → Started j mj → (at : Time k) (bt : Time j) → at .t ≡ bt .t → at .rest ≡ bt .rest
+      → (ok : Reported k mk at) (m : ℕ) → m < ok .many
+      → (expected k (suc (ok .F / L k) + m) .mark ≡ SURE) ⊎ (expected j (suc (ok .F / L k) + m) .mark ≡ SURE)
+      → (SameIn (suc (suc (ok .F / L k) + m)) k j → ⊥)
+      → standing k mk at .told ≢ standing j mj bt .told
+
 pub record Demand3 (k : Link) : Type 0 where
   -- 'A fresh receiver begins within 48 frames of the last port's first': T is the frame time of the last port's first frame, and before frame time T + 47 it has had 47 frames
   pub begins-within : (m₀ : Moment) → Started k m₀ → (T : ℕ) → ((p : ℕ) → p < k .history .slots → k .delay p + k .first p ≤ T)
@@ -68,12 +77,7 @@ pub record Demand3 (k : Link) : Type 0 where
   pub always : (m₀ : Moment) → Started k m₀ → (at : Time k) → Stands k m₀ at
   -- every frame is answered 0 or 12, 12 only before its port is in step
   pub answered : (m₀ : Moment) → Started k m₀ → (at : Time k) → standing k m₀ at .answers ≡ saysThrough (roadOf k) (at .t) ++ says (roadOf k) (at .t) (at .done)
-
--- 'So, over the same tags, delays, first frames and port orders, client streams that differ in an epoch reported sure never come out alike': of two such runs at the same moment, where an epoch that
--- either reports sure (the m-th reported) has different client bytes, the lists of reports differ.
-pub record NeverAlike (k j : Link) : Type 0 where
-  pub never : (mk mj : Moment) → Started k mk → Started j mj → (at : Time k) (bt : Time j) → at .t ≡ bt .t → at .rest ≡ bt .rest
-      → (ok : Reported k mk at) (oj : Reported j mj bt) (m : ℕ) → m < ok .many
-      → (expected k (suc (ok .F / L k) + m) .mark ≡ SURE) ⊎ (expected j (suc (ok .F / L k) + m) .mark ≡ SURE)
-      → (SameIn (suc (suc (ok .F / L k) + m)) k j → ⊥)
-      → standing k mk at .told ≢ standing j mj bt .told
+  -- the fetches of every turn have ended by themselves: the next one is answered 0 and says that none is due
+  pub fetched-out : (m₀ : Moment) → Started k m₀ → (at : Time k) → (fetchAnswer (standing k m₀ at .rows) (standing k m₀ at .store) (k .output (length (standing k m₀ at .told))) (replicate 8 0) ≡ 0)
+      × (getD (recordAt (roadOf k) (standing k m₀ at)) 0 0 ≡ 0)
+  pub never-alike : (j : Link) → Assumed j → Alike k j → NeverAlike k j

@@ -4,11 +4,13 @@ pub mod Told
 pub mod Road
 pub mod Running
 pub mod Contents
+pub mod Moments
+pub mod Demand3
 pub mod Standing
 pub mod Laws
 pub mod Sending
 pub mod Judged
 pub mod Transport
-pub mod Demand3
 pub mod Alike
 pub mod Proved
+pub mod Samples

@@ -32,12 +32,13 @@ use Rattle.step.specs.Run.{inStepAt}
 use Rattle.store.specs.Laws.Marks.{mark-none, sixteen-none}
 use Rattle.link.specs.Laws.Epochs.{behind-far}
 use Rattle.link.specs.Laws.Numbers.{epoch-after-le, epoch-after-lt, epoch-after-tag, frames-many, frames-run, frames-some, frames-two, Ranges, ranges, tag-before}
+use Rattle.link.specs.Moments.{Foremost}
 use Rattle.link.specs.Road.{Fair, Road}
 use Rattle.link.specs.Running.{Moment, framed}
 use Rattle.link.specs.Standing.{Before, First, Heard, Lined, Open}
 use Rattle.link.specs.Transport.Call.{framed-is, group-port-rows, length-port-rows, step-port-other, step-port-rows}
 use Rattle.link.specs.Transport.Heard.{from-first, heard-aside, heard-counts, heard-in-step, heard-next, heard-short, heard-test, runFrom}
-use Rattle.link.specs.Transport.Steps.{Apart, Begun?, Foremost, Served}
+use Rattle.link.specs.Transport.Steps.{Apart, Begun?, Served}
 use Rattle.link.specs.Transport.Steps.Begun?.{stays, comes}
 
 -- one of the first n numbers at which f is greatest

@@ -21,7 +21,7 @@ use Rattle.phases.specs.Due.{brought}
 use Rattle.phases.specs.Laws.Lengths.{length-passed}
 use Rattle.phases.specs.Passing.{passedOf}
 use Rattle.phases.specs.Sizes.{storeFor}
-use Rattle.receiver.specs.Fetch.{dueIn, fetchOut, fetchRecord, fetchRows, fits, givenOut, givenReport, givenRows, recordOf}
+use Rattle.receiver.specs.Fetch.{dueIn, fetchOut, fetchRecord, fetchRows, fits, givenOut, givenReport, givenRows, recordOf, fetchAnswer}
 use Rattle.receiver.specs.Lengths.{fetchFits, outputFor, rowsFit}
 use Rattle.receiver.specs.Report.{framesInto, outputBy, outputOf, reportBy, reportOf, reportedOf, rulingEpoch, seenAll, seenOf, toldOf}
 use Rattle.rows.specs.declared.group.Group.{Group}
@@ -87,7 +87,7 @@ fetched-answers r m = refl
 module _ (r : Road) (fair : Fair r) where
   -- A fetch is not refused.
   module _ (m : Moment) (nx : ℕ → ℕ) (l : Lined r m nx) where
-    abbrev outOf : List ℕ
+    abbrev pub outOf : List ℕ
     outOf = r .output (length (m .told))
 
     fits-now : fits (m .rows) (m .store) outOf (replicate 8 0) ≡ true
@@ -104,6 +104,10 @@ module _ (r : Road) (fair : Fair r) where
           or-true (eqb (r .ports) 0),
         )
         refl
+
+    pub fetch-answered : fetchAnswer (m .rows) (m .store) outOf (replicate 8 0) ≡ 0
+    unfolding fetchAnswer
+    fetch-answered = rw fits-now refl
 
     -- none due
     mark-none : dueIn (groupAt (m .rows)) (r .ports) (m .rows) ≡ false → getD (recordAt r m) 0 0 ≡ 0

@@ -8,14 +8,11 @@ use native.Mathlib.Omega.{arith}
 use lib.Dec.{eqb}
 use borrow.Author.Tests.{eq-eqb, ne-eqb, eqb-true}
 use Rattle.packet.specs.Kinds.{frames}
+use Rattle.link.specs.Moments.{nextAt}
 use Rattle.link.specs.Road.{Below, Fair, Road, times}
 use Rattle.link.specs.Transport.Steps.{Apart, Reach, Served}
 
 module _ (r : Road) where
-  -- the position of port p's next frame
-  unfoldable pub nextAt : ℕ → List ℕ → ℕ → ℕ
-  nextAt t rest p = r .first p + (t + 1 - times p rest - (r .delay p + r .first p))
-
   -- ports still to be served: each at most once
   pub record Rest (rest : List ℕ) : Type 0 where
     pub all-below : Below (r .ports) rest
@@ -38,7 +35,7 @@ module _ (r : Road) where
   other-same p q ps d = rw (ne-eqb q p d) (omega arith)
 
   -- a port's turn with a frame
-  pub served : (t p : ℕ) (ps : List ℕ) → Rest (p ∷ ps) → r .delay p + r .first p ≤ t → Served r p (nextAt t (p ∷ ps)) (nextAt t ps)
+  pub served : (t p : ℕ) (ps : List ℕ) → Rest (p ∷ ps) → r .delay p + r .first p ≤ t → Served r p (nextAt r t (p ∷ ps)) (nextAt r t ps)
   unfolding nextAt
   served t p ps o late =
       let a = gone p ps o in
@@ -48,12 +45,12 @@ module _ (r : Road) where
         others = λ q d. rw (ne-eqb q p d) (omega arith);
       }
 
-  pub served-at : (t p : ℕ) (ps : List ℕ) → Rest (p ∷ ps) → r .delay p + r .first p ≤ t → nextAt t (p ∷ ps) p ≡ t - r .delay p
+  pub served-at : (t p : ℕ) (ps : List ℕ) → Rest (p ∷ ps) → r .delay p + r .first p ≤ t → nextAt r t (p ∷ ps) p ≡ t - r .delay p
   unfolding nextAt
   served-at t p ps o late = rw (eq-eqb p p refl, gone p ps o) (omega arith)
 
   -- a port's turn before its first frame
-  pub unserved : (t p : ℕ) (ps : List ℕ) → Rest (p ∷ ps) → t < r .delay p + r .first p → (q : ℕ) → nextAt t (p ∷ ps) q ≡ nextAt t ps q
+  pub unserved : (t p : ℕ) (ps : List ℕ) → Rest (p ∷ ps) → t < r .delay p + r .first p → (q : ℕ) → nextAt r t (p ∷ ps) q ≡ nextAt r t ps q
   unfolding nextAt
   unserved t p ps o early q = go (eqb q p) refl
     where
@@ -65,12 +62,12 @@ module _ (r : Road) where
       go false e = omega arith
 
   -- the end of a frame time is the start of the next
-  pub next-time : (f : Fair r) (t q : ℕ) → q < r .ports → nextAt t [] q ≡ nextAt (suc t) (r .order (suc t)) q
+  pub next-time : (f : Fair r) (t q : ℕ) → q < r .ports → nextAt r t [] q ≡ nextAt r (suc t) (r .order (suc t)) q
   unfolding nextAt
   next-time f t q b = rw (f .once (suc t) q b) (omega arith)
 
   -- E2: the port that is served has all others within reach
-  pub reach : (f : Fair r) (t p : ℕ) (ps : List ℕ) → Rest (p ∷ ps) → r .delay p + r .first p ≤ t → Reach r p (nextAt t (p ∷ ps))
+  pub reach : (f : Fair r) (t p : ℕ) (ps : List ℕ) → Rest (p ∷ ps) → r .delay p + r .first p ≤ t → Reach r p (nextAt r t (p ∷ ps))
   unfolding nextAt
   reach f t p ps o late q b =
       let s = f .spread q p b (o .all-below .0) in
@@ -79,7 +76,7 @@ module _ (r : Road) where
       rw (eq-eqb p p refl) (omega arith)
 
   -- E1
-  pub apart : (f : Fair r) (t : ℕ) (rest : List ℕ) → Rest rest → Apart r (nextAt t rest)
+  pub apart : (f : Fair r) (t : ℕ) (rest : List ℕ) → Rest rest → Apart r (nextAt r t rest)
   unfolding nextAt
   apart f t rest o p q hp hq sp sq =
       let s = f .spread q p hq hp in

@@ -1,0 +1,78 @@
+-- What the runs of a link come to. Everything that they are made of is opened here, for the checker to compute.
+use mathlib.Core.Bool.{cond, _||_}
+use mathlib.Core.List.{List, [], _∷_}
+use Prim.Native.Nat.{ℕ, _+_, _*_}
+use lib.Dec.{eqb}
+use lib.ListN.{replicate}
+use Rattle.ground.specs.Circle.{after}
+use Rattle.judge.specs.Order.{activeIn, orderOf, portOf}
+use Rattle.judge.specs.Order.{rankOf as rankSeen}
+use Rattle.judge.specs.Verdict.{doubtfulBy, eosAlone, eosWrong, exact, gidDiffers, heldBy, judgeOf, missing, repeats, takes}
+use Rattle.judge.specs.Verdict.{highest as highestSeen}
+use Rattle.packet.specs.Counts.{afterFirst, afterSecond, counts, goesSecond, nibbleIn, nibblePlace, startsCount}
+use Rattle.packet.specs.Crc.{crcOf, divisor, nibbleBits}
+use Rattle.packet.specs.Kinds.{distanceOf, endsEpoch, epochAfter, epochOf, epochs, epochsIn, firstTag, frames, idleNumber, lead, mstFails, mstFirst, mstNumbers, placeOf, startsEpoch, tagAfter, tagBefore, tags}
+use Rattle.packet.specs.Layout.{carriedIn, dataOf, fieldsOf, h4Of, nibblesOf, sealedOf}
+use Rattle.packet.specs.Reading.{readNibbles}
+use Rattle.packet.specs.Words.{assigned}
+use Rattle.packet.specs.Writing.{fitting, writeBytes}
+use Rattle.phases.specs.Beginning.{begins, foremost, further, latest, noTag, ready, within}
+use Rattle.phases.specs.Due.{brought, lets, silent}
+use Rattle.phases.specs.Passing.{notedBy, passedGroup, passedOf, passedPort, passedPorts, passedStep, ruledBy}
+use Rattle.phases.specs.Ruling.{rulingOf}
+use Rattle.phases.specs.Settling.{beginBy, begunOf, clearedPort, clearedPorts, clearedStep, gatherBy, settledOf, stopBy, stoppedOf}
+use Rattle.phases.specs.Sizes.{portsIn, sized, storeFor}
+use Rattle.receiver.specs.Fetch.{dueIn, fetchOut, fetchRecord, fetchRows, fits, givenOut, givenReport, givenRows, recordOf}
+use Rattle.receiver.specs.Frame.{frameAnswer, frameRows, frameStore, gatheredBy, marksBy, portRows, refusalBy, settledBy, storeBy, takenRows, takenStore}
+use Rattle.receiver.specs.Lengths.{fetchFits, frameFits, outputFor, rowsFit}
+use Rattle.receiver.specs.Report.{frameInto, framesInto, outputBy, outputOf, replyPort, replyPorts, reportBy, reportedOf, rulingEpoch, seenAll, seenOf, startsOf, toldBy, toldOf, toldPort, toldPorts}
+use Rattle.receiver.specs.Report.{reportOf as reportSeen}
+use Rattle.receiver.specs.Starting.{freshPort, freshPorts, sizedRows, startFits, startRows}
+use Rattle.reply.specs.Choosing.{claim, claims, holders, stateBy, statesOf}
+use Rattle.reply.specs.Telling.{ackOf}
+use Rattle.reply.specs.Telling.{turns as turnsAck}
+use Rattle.rows.specs.Group.{groupAt, groupOf, groupRow, putGroup}
+use Rattle.rows.specs.Member.{memberAt, memberOf, memberRow, putMember}
+use Rattle.rows.specs.Packets.{marksAt, packetsAt, putMarks, putPackets}
+use Rattle.rows.specs.Rows.{putRow, rowIn, rowsFor}
+use Rattle.rows.specs.Step.{putStep, stepAt, stepOf, stepRow}
+use Rattle.sender.specs.Board.{boardOf, noRow, rowOf, rowsOf}
+use Rattle.sender.specs.Board.{highest as highestSent}
+use Rattle.sender.specs.Commands.{addOf, addedTo, fallen, fallenIn, freshOf, idleSlot, lapseOf, removeOf, removedFrom, startOf}
+use Rattle.sender.specs.Epochs.{beginOf, freshSender, packetBytes, packetFields, payloadBytes, startEpochOf, startedEpoch, startedSender}
+use Rattle.sender.specs.Ranks.{carriersIn, rankAt}
+use Rattle.sender.specs.Ranks.{rankOf as rankSent}
+use Rattle.sender.specs.Reports.{actedOn, comesBefore, heardIn, numberAfter, opensWait, renumbered, slotAfter, toldIn, turnOf, waited}
+use Rattle.sender.specs.Reports.{reportOf as reportHeard}
+use Rattle.sender.specs.Table.{holderOf, membersOf, sizeOf}
+use Rattle.step.specs.Arrival.{arrives, aside, byStart, byWindow, countsOn, distanceIn, flagged, inStep, joining, keeps, outside, readable, takenOf}
+use Rattle.step.specs.Run.{begunRun, furtherRun, inStepAt, oneMore, runOn, secondRun}
+use Rattle.store.specs.Frames.{byteAt, h4At, packetIn, placeIn, ringOf, storedAt}
+use Rattle.store.specs.Marks.{cutByte, cutFrom, firstMark, markIn, markedAt, markedByte, passedByte, passedMarks}
+use Rattle.link.specs.History.{epochNumber, firstTagOf, packetSent, payloadSent, senderAt}
+use Rattle.link.specs.Link.{Link, allAsSent, expected, framesOf, roadOf}
+use Rattle.link.specs.Running.{Moment, drained, fetched, framed, fresh, through, turn, turns}
+use Rattle.link.specs.Told.{Told}
+
+-- started over rows and a store that hold anything but zeros
+abbrev pub started : Link → Moment
+started k = fresh (roadOf k) (replicate (rowsFor (k .history .slots)) (replicate 16 0xFF)) (replicate (k .history .slots * k .window * (k .payload + 1)) 0xFF)
+
+-- of some answers those that are neither 0 nor 12
+abbrev pub strange : List ℕ → List ℕ
+strange [] = []
+strange (n ∷ ns) = cond (eqb n 0 || eqb n 12) (strange ns) (n ∷ strange ns)
+
+-- what is to be seen of a moment
+pub record Outcome : Type 0 where
+  pub begun : ℕ
+  pub told : List Told
+  pub strange : List ℕ
+
+abbrev pub outcomeOf : Moment → Outcome
+outcomeOf m = record { begun = groupAt (m .rows) .begun; told = m .told; strange = strange (m .answers) }
+
+-- after all frame times before t
+unfoldable pub outcome : Link → ℕ → Outcome
+unfolding after afterFirst afterSecond counts goesSecond nibbleIn nibblePlace startsCount crcOf divisor nibbleBits distanceOf endsEpoch epochAfter epochOf epochs epochsIn firstTag frames idleNumber lead mstFails mstFirst mstNumbers placeOf startsEpoch tagAfter tagBefore tags carriedIn dataOf fieldsOf h4Of nibblesOf sealedOf readNibbles assigned fitting writeBytes activeIn orderOf portOf rankSeen doubtfulBy eosAlone eosWrong exact gidDiffers heldBy highestSeen judgeOf missing repeats takes begins foremost further latest noTag ready within brought lets silent notedBy passedGroup passedOf passedPort passedPorts passedStep ruledBy rulingOf beginBy begunOf clearedPort clearedPorts clearedStep gatherBy settledOf stopBy stoppedOf portsIn sized storeFor dueIn fetchOut fetchRecord fetchRows fits givenOut givenReport givenRows recordOf frameAnswer frameRows frameStore gatheredBy marksBy portRows refusalBy settledBy storeBy takenRows takenStore fetchFits frameFits outputFor rowsFit frameInto framesInto outputBy outputOf replyPort replyPorts reportBy reportSeen reportedOf rulingEpoch seenAll seenOf startsOf toldBy toldOf toldPort toldPorts freshPort freshPorts sizedRows startFits startRows claim claims holders stateBy statesOf ackOf turnsAck groupAt groupOf groupRow putGroup memberAt memberOf memberRow putMember marksAt packetsAt putMarks putPackets putRow rowIn putStep stepAt stepOf stepRow boardOf highestSent noRow rowOf rowsOf addOf addedTo fallen fallenIn freshOf idleSlot lapseOf removeOf removedFrom startOf beginOf freshSender packetBytes packetFields payloadBytes startEpochOf startedEpoch startedSender carriersIn rankAt rankSent actedOn comesBefore heardIn numberAfter opensWait renumbered reportHeard slotAfter toldIn turnOf waited holderOf membersOf sizeOf arrives aside byStart byWindow countsOn distanceIn flagged inStep joining keeps outside readable takenOf begunRun furtherRun inStepAt oneMore runOn secondRun byteAt h4At packetIn placeIn ringOf storedAt cutByte cutFrom firstMark markIn markedAt markedByte passedByte passedMarks epochNumber firstTagOf packetSent payloadSent senderAt allAsSent expected framesOf roadOf drained fetched framed fresh through turn turns
+outcome k t = outcomeOf (through (roadOf k) t (started k))

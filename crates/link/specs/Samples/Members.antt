@@ -1,0 +1,75 @@
+-- A link with two members: they are added one after the other, one fails, is restored and is removed.
+use mathlib.Core.Bool.{Bool, cond, _&&_}
+use mathlib.Core.List.{List, [], _∷_}
+use Prim.Native.Nat.{ℕ, _+_, _-_, _*_, _%_}
+use lib.Dec.{eqb}
+use lib.ListN.{getD, replicate}
+use Rattle.ground.specs.Table.{tabulate}
+use Rattle.sender.specs.Steps.{Call}
+use Rattle.sender.specs.Steps.Call.{AddSlot, Lapse, RemoveSlot, Report}
+use Rattle.link.specs.History.{Client, History, epochAt, packetSent, xAt}
+use Rattle.link.specs.Link.{Link}
+
+-- the commands and reports before each epoch's start
+abbrev pub calls : List (List Call)
+calls =
+    []
+    -- slot 0 is to be added
+    ∷ (AddSlot 0 ∷ [])
+    -- it is active: a wait opens
+    ∷ (Report 0 0x00 0 ∷ [])
+    -- the wait lapses; slot 1 is to be added
+    ∷ (Lapse ∷ AddSlot 1 ∷ [])
+    ∷ []
+    -- it is active: a wait opens
+    ∷ (Report 0 0x00 0 ∷ [])
+    -- RS-Ack turns over and closes the wait; then number 0 fails
+    ∷ (Report 0 0x00 1 ∷ Report 0 0x80 1 ∷ [])
+    -- it is restored
+    ∷ (Report 0 0x00 1 ∷ [])
+    ∷ []
+    -- slot 0 is removed, and slot 1 falls to number 0
+    ∷ (RemoveSlot 0 ∷ [])
+    ∷ []
+
+-- The first epoch is 249, so that epochs and tags go round while reports are made.
+abbrev pub history : History
+history = record { kind = 0; slots = 2; first = 249; before = λ i. getD calls i []; gid = λ i. 1; mst = λ i. 255; ack = λ i. 0 }
+
+-- P is 1: X bytes to a group frame
+abbrev pub client : Client
+client x = tabulate (xAt history (epochAt history x) * 1) (λ j. (x * 2 + j) % 256)
+
+-- slot 1 reaches port 0, and slot 0 port 1
+abbrev pub pairing : ℕ → ℕ
+pairing p = 1 - p
+
+abbrev pub sent : ℕ → ℕ → List ℕ
+sent i p = packetSent history i (pairing p)
+
+-- Of the packet EOS 1 of the eighth epoch three bits came otherwise: it says NORM 0, and a reserved bit is set.
+abbrev pub damaged : List ℕ
+damaged = 0xF8 ∷ 0xF9 ∷ 0x0A ∷ 0x1B ∷ 0x0C ∷ 0x0D ∷ 0x0E ∷ 0x0F ∷ 0x00 ∷ 0x11 ∷ 0x22 ∷ 0x13 ∷ 0x04 ∷ 0x05 ∷ 0xD6 ∷ 0x57 ∷ []
+
+abbrev pub came : ℕ → ℕ → List ℕ
+came i p = cond (eqb i 8 && eqb p 0) damaged (sent i p)
+
+-- Port 0 is late by some frames, and comes first in the frame times that are named.
+abbrev pub linkWith : ℕ → (ℕ → Bool) → Link
+linkWith late lateFirst =
+    record {
+      history = history;
+      payload = 1;
+      window = 20;
+      client = client;
+      pairing = pairing;
+      came = came;
+      delay = λ p. cond (eqb p 0) late 0;
+      first = λ p. cond (eqb p 0) 3 21;
+      order = λ t. cond (lateFirst t) (0 ∷ 1 ∷ []) (1 ∷ 0 ∷ []);
+      output = λ j. replicate 32 0xEE;
+    }
+
+-- W is 20, so port 0 is as late as demand 3 lets it be.
+abbrev pub link : Link
+link = linkWith 4 (λ t. eqb (t % 2) 0)
