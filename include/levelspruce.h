@@ -5,15 +5,19 @@
  *
  * For every call:
  * - The result is the answer number. Any answer but 0 is a refusal.
- * - A refusal changes no byte of any buffer, but for these: 4 at
- *   levelspruce_sender_start and levelspruce_receiver_start leaves an empty
- *   group, and 10 and 12 of levelspruce_receiver_frame record in the state
- *   what they say.
+ * - A refusal changes no byte of any buffer, but for these, which change the
+ *   state and nothing else: 4 of levelspruce_sender_start and of
+ *   levelspruce_receiver_start writes an empty group, and 10 and 12 of
+ *   levelspruce_receiver_frame record that the port is not in step, with all
+ *   that follows from it.
  * - Numbers pass as uint32_t, so a number that is too large is refused by its
  *   answer and never cut down to one that fits (but of rs_ack in
- *   levelspruce_sender_report the lowest bit counts).
- * - A buffer is a pointer and its length in bytes, and the whole length must
- *   be the caller's to use. NULL with length 0 is an empty buffer.
+ *   levelspruce_sender_report the lowest bit counts). Bytes pass as uint8_t:
+ *   h4 of levelspruce_receiver_frame and epoch of levelspruce_receiver_reply.
+ * - A buffer is a pointer and its length in bytes; where the pointer is to rows
+ *   (a receiver's state, its ports), the length counts rows. The whole length
+ *   must be the caller's to use. NULL with length 0 is an empty buffer.
+ * - A buffer is lent for the time of the call.
  * - The buffers of one call must not overlap.
  * - Nothing is kept between calls, so different threads may call at once with
  *   buffers of their own.
@@ -365,16 +369,24 @@ uint8_t levelspruce_sender_ranks(const uint8_t *state, size_t state_length,
                                  uint8_t *ranks, size_t ranks_length);
 
 /*
- * The receiver. The host lends each call
- * - the state: LEVELSPRUCE_RECEIVER_ROWS(ports) rows of sixteen bytes, with the
- *   length given in rows;
+ * The receiver. The host lends the calls
+ * - the state: LEVELSPRUCE_RECEIVER_ROWS(ports) rows of sixteen bytes;
  * - the store: LEVELSPRUCE_STORE_BYTES(ports, payload, window) bytes, in which
- *   frames wait for the frames of slower ports.
- * Both are kept by the host between calls and changed by nobody else. They may
- * be copied and lent from another place. Begin with levelspruce_receiver_start.
- * Any bytes are coped with: a state that does not come from there is answered
- * like any other, and no call reads or writes outside its buffers. A state
- * whose count, P or W is out of range is that of an empty group.
+ *   frames wait for those of slower ports.
+ * The host keeps both between calls, from levelspruce_receiver_start to the
+ * last fetch, and lends each call the bytes that the call before left; what
+ * they mean is the library's own affair. They may be copied and lent from
+ * another place. levelspruce_receiver_start writes all of the state; the store
+ * may have any content then.
+ *
+ * Any bytes are coped with: a state that does not come from
+ * levelspruce_receiver_start is answered like any other, and no call reads or
+ * writes outside its buffers. A state with no row, or whose count, P or W is
+ * out of range, is that of an empty group: it has 0 ports, a store of 0 bytes
+ * and any number of rows, and none of its reports is ever due.
+ *
+ * The calls that only read the state take rows of const bytes. A strict C
+ * compiler (before C23) wants a cast there: (const uint8_t (*)[16])state.
  */
 
 /* Ports and windows, in frames. */
@@ -385,23 +397,24 @@ uint8_t levelspruce_sender_ranks(const uint8_t *state, size_t state_length,
 /* The marks of a report. */
 #define LEVELSPRUCE_MARK_NONE 0     /* none is due */
 #define LEVELSPRUCE_MARK_HELD 1     /* held back whole: no bytes */
-#define LEVELSPRUCE_MARK_DOUBTFUL 2 /* bytes, but some port has no whole ruling packet or a number is lacking */
+#define LEVELSPRUCE_MARK_DOUBTFUL 2 /* bytes, but some port has no whole ruling packet, or the numbers are not 0 to n - 1 */
 #define LEVELSPRUCE_MARK_SURE 3     /* the client's bytes */
 
-/* The bytes of a report's record. The byte count takes four, highest first. */
+/* The bytes of a report's record. COUNT is the first of four, highest first:
+ * how many bytes of the output belong to the report. Byte 3 is 0. */
 #define LEVELSPRUCE_REPORT_MARK 0
 #define LEVELSPRUCE_REPORT_EPOCH 1
 #define LEVELSPRUCE_REPORT_X 2
 #define LEVELSPRUCE_REPORT_COUNT 4
 
-/* Member states of a port. */
+/* Member states of a port, worked out at each report. */
 #define LEVELSPRUCE_PORT_IDLE 0
 #define LEVELSPRUCE_PORT_FAIL 1
 #define LEVELSPRUCE_PORT_OK 2
 
 /* The bytes of what is shown of a port; the eighth is 0. */
-#define LEVELSPRUCE_PORT_STATE 0    /* at the last report */
-#define LEVELSPRUCE_PORT_NUMBER 1   /* 255 where the state is IDLE */
+#define LEVELSPRUCE_PORT_STATE 0    /* at the last report; IDLE before the first */
+#define LEVELSPRUCE_PORT_NUMBER 1   /* with that state; LEVELSPRUCE_NUMBER_IDLE where it is IDLE */
 #define LEVELSPRUCE_PORT_STEP 2     /* 1 while in step */
 #define LEVELSPRUCE_PORT_JOINED 3   /* 1 while joined */
 #define LEVELSPRUCE_PORT_READABLE 4 /* 1 while readable */
@@ -413,7 +426,7 @@ uint8_t levelspruce_sender_ranks(const uint8_t *state, size_t state_length,
 #define LEVELSPRUCE_REPLY_RS_ACK 1
 
 /*
- * Starts a receiver: no port has had a frame.
+ * Starts a receiver: no port has had a frame, all are IDLE, RS-Ack is 0.
  *
  *   ports         1 to 64
  *   payload       P, bytes of a member frame, 1 to 2340
@@ -422,9 +435,10 @@ uint8_t levelspruce_sender_ranks(const uint8_t *state, size_t state_length,
  *   state         LEVELSPRUCE_RECEIVER_ROWS(ports) rows, of any content
  *
  * Answers, the first that fits:
- *   4  ports, payload or window is out of range; the first row, if there is
- *      one, is written with an empty group, in which every port is answered 1
- *   9  store_bytes or state_length is wrong
+ *   4  ports, payload or window is out of range; the first row of state, if it
+ *      has one, is written with an empty group, in which every port is
+ *      answered 1
+ *   9  state_length or store_bytes is wrong
  *   0  all of state is written
  */
 uint8_t levelspruce_receiver_start(uint32_t ports, uint32_t payload,
@@ -436,7 +450,7 @@ uint8_t levelspruce_receiver_start(uint32_t ports, uint32_t payload,
  * order in which that port got them; fetch reports after each frame until none
  * is due.
  *
- *   port      the port
+ *   port      the port, below the group's count
  *   failed    not 0 where the line has failed (a flagged frame): neither its
  *             H4 byte nor its payload is looked at, but P bytes must be there
  *   h4        its H4 byte
@@ -445,12 +459,20 @@ uint8_t levelspruce_receiver_start(uint32_t ports, uint32_t payload,
  *
  * Answers, the first that fits:
  *   1  port is not below the group's count
- *   9  a length is wrong
- *  10  the frame is flagged: the port is unreadable and out of step
- *  12  the port is not in step after this frame, which is not stored
- *  11  the frame is in step, but lies outside the window: nothing changes;
- *      hand the same frame again after a report
- *   0  taken: stored, or dropped where the port has not joined yet
+ *   9  state_length, payload_length or store_length is wrong
+ *  10  the frame is flagged: the port is unreadable, and its step is lost
+ *  12  the port is not in step after this frame: its count of frames goes on
+ *      or starts anew
+ *  11  the frame is in step, but lies outside the window, and the port has
+ *      joined: nothing changes; hand the same frame again after a report
+ *   0  taken: its payload and H4 are stored, or dropped where the port has not
+ *      joined yet
+ *
+ * Under 10 and 12 no byte of store changes, but state does. What follows from a
+ * frame by the rules of beginning is done in the same call, whether the answer
+ * is 0, 10 or 12: receiving stops where no port is readable any more, it begins
+ * (anew), and the epoch before the first reported one is gathered. Epochs that
+ * were not fetched before receiving stops are lost.
  */
 uint8_t levelspruce_receiver_frame(uint8_t (*state)[16], size_t state_length,
                                    uint32_t port, uint32_t failed, uint8_t h4,
@@ -459,18 +481,25 @@ uint8_t levelspruce_receiver_frame(uint8_t (*state)[16], size_t state_length,
                                    size_t store_length);
 
 /*
- * Fetches the next report, if one is due.
+ * Fetches the next report, if one is due. Each report is given once, in the
+ * order of epochs.
  *
  *   store    the store, which is only read
  *   out      at least LEVELSPRUCE_OUTPUT_BYTES(ports, payload) bytes
- *   report   LEVELSPRUCE_REPORT_BYTES bytes
+ *   report   LEVELSPRUCE_REPORT_BYTES bytes, by the LEVELSPRUCE_REPORT_ places
  *
  * Answers, the first that fits:
- *   9  a length is wrong
- *   0  report is written: its mark, the epoch, X and how many bytes of out
- *      belong to it; out holds sixteen group frames of X * P bytes where the
- *      mark is DOUBTFUL or SURE, and stays as it was beyond them. With the
- *      mark NONE nothing but report changes, and with HELD no byte of out.
+ *   9  state_length, store_length or report_length is wrong, or out_length is
+ *      too small, also where no report is due
+ *   0  all of report is written
+ *
+ * Under 0, by the mark of the report:
+ *   NONE       none is due: the other bytes of report are 0, and neither state
+ *              nor out changes
+ *   HELD       X and the count are 0, and no byte of out changes; the window
+ *              moves on, and member states and RS-Ack are worked out
+ *   DOUBTFUL,  the first 16 * X * P bytes of out are sixteen group frames of
+ *   SURE       X * P bytes, and the rest of out stays; for the state as HELD
  */
 uint8_t levelspruce_receiver_fetch(uint8_t (*state)[16], size_t state_length,
                                    const uint8_t *store, size_t store_length,
@@ -478,12 +507,13 @@ uint8_t levelspruce_receiver_fetch(uint8_t (*state)[16], size_t state_length,
                                    uint8_t *report, size_t report_length);
 
 /*
- * Shows all ports at once: LEVELSPRUCE_PORT_BYTES bytes of each.
+ * Reads all ports at once, from one state: eight bytes of each.
  *
- *   ports   as many as the group has; ports_length counts ports
+ *   ports   as many as the group has, each LEVELSPRUCE_PORT_BYTES bytes by the
+ *           LEVELSPRUCE_PORT_ places; ports_length counts ports
  *
  * Answers, the first that fits:
- *   9  a length is wrong
+ *   9  state_length is wrong, or ports_length is not the group's count
  *   0  all of ports is written
  */
 uint8_t levelspruce_receiver_ports(const uint8_t (*state)[16],
@@ -491,14 +521,16 @@ uint8_t levelspruce_receiver_ports(const uint8_t (*state)[16],
                                    size_t ports_length);
 
 /*
- * The reply to send back with the packets of an epoch: the MST byte for the
- * numbers that this epoch speaks of, and RS-Ack.
+ * Reads the reply to send back with the packets of an epoch: MST for the
+ * numbers 8 * (epoch % 32) to that plus 7, the lowest number in the highest
+ * bit, 0 for OK and 1 for FAIL; and RS-Ack, 0 or 1. Both are as the last report
+ * left them.
  *
  *   epoch   the epoch of the packets that will carry it
- *   reply   LEVELSPRUCE_REPLY_BYTES bytes
+ *   reply   LEVELSPRUCE_REPLY_BYTES bytes, by the LEVELSPRUCE_REPLY_ places
  *
  * Answers, the first that fits:
- *   9  a length is wrong
+ *   9  state_length or reply_length is wrong
  *   0  both bytes are written
  */
 uint8_t levelspruce_receiver_reply(const uint8_t (*state)[16],
