@@ -2,5 +2,6 @@ pub mod Boards
 pub mod Keeping
 pub mod Packets
 pub mod Payloads
+pub mod Receivers
 pub mod Senders
 pub mod Theorems

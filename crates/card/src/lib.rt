@@ -3,4 +3,5 @@ mod boards;
 mod keeping;
 mod packets;
 mod payloads;
+mod receivers;
 mod senders;

@@ -4,13 +4,14 @@ use mathlib.Core.Bool.{Bool, true, false, cond}
 use mathlib.Core.List.{List}
 use Prim.Native.Nat.{ℕ, _≤_}
 use lib.ListN.{length}
-use borrow.Author.Tests.{eq-eqb, le-ltb}
+use borrow.Author.Tests.{eq-eqb, le-ltb, ne-eqb}
 use Rattle.packet.specs.declared.layout.Fields.{Fields}
 use Rattle.packet.specs.Reading.{readAnswer, readingNumber}
 use Rattle.packet.specs.Writing.{writeAnswer, writeBytes, writingNumber}
 use Rattle.payload.specs.Answers.{numberOf}
 use Rattle.payload.specs.Joining.{joined, wholeAnswer}
 use Rattle.payload.specs.Spreading.{spreadAll}
+use Rattle.receiver.specs.Frame.{frameAnswer, frameRows, frameStore}
 use Rattle.sender.specs.Board.{boardOf}
 use Rattle.sender.specs.Commands.{answered, freshOf, startOf}
 use Rattle.sender.specs.declared.table.Answer.the-variants.{Done, OutOfRange}
@@ -21,6 +22,7 @@ use Rattle.card.specs.Boards.{boardBytesC, boardBytesOf, goingBytesC, ra
 use Rattle.card.specs.Keeping.{bytesOf, senderOf}
 use Rattle.card.specs.Payloads.{joinAnswerC, joinFrameC, spreadAnswerC, spreadMembersC}
 use Rattle.card.specs.Packets.{readAnswerC, readFieldsC, valuesOr, writeAnswerC, writeBytesC}
+use Rattle.card.specs.Receivers.{failedC}
 use Rattle.card.specs.Senders.{keptBytes, outside, packetAnswerC, packetBytesC, payloadAnswerC, payloadBytesC, startAnswerC, startStateC, stepAnswerC, stepStateC}
 
 -- levelspruce_packet_write is packet::write on fields that are bytes
@@ -92,3 +94,15 @@ pub ranks-own : (state ranks : List ℕ) → length state ≡ 397 → length ran
     → (shownAnswerC 68 state ranks ≡ 0) × (ranksBytesC state ranks ≡ ranksBytesOf (ranksOf (senderOf state)))
 unfolding shownAnswerC shownBytes
 ranks-own state ranks h l = rw (eq-eqb (length state) 397 h, eq-eqb (length ranks) 68 l) (refl, refl)
+
+-- levelspruce_receiver_start (for the kind H4), _fetch, _ports and _reply promise the receiver's own definitions as they stand, so that no law is needed; levelspruce_receiver_frame is receiver::frame, told of the flag by 1 or 0
+pub frame-own : (s : List (List ℕ)) (i : ℕ) (failed : Bool) (h : ℕ) (payload store : List ℕ)
+    → (frameAnswer s i (failedC (cond failed 1 0)) h (length payload) (length store) ≡ frameAnswer s i failed h (length payload) (length store))
+    × (frameRows s i (failedC (cond failed 1 0)) h payload store ≡ frameRows s i failed h payload store)
+    × (frameStore s i (failedC (cond failed 1 0)) h payload store ≡ frameStore s i failed h payload store)
+frame-own s i true h payload store = (refl, refl, refl)
+frame-own s i false h payload store = (refl, refl, refl)
+
+-- or by any other number for 1
+pub any-failed : (failed : ℕ) → (failed ≡ 0 → ⊥) → failedC failed ≡ true
+any-failed failed d = rw (ne-eqb failed 0 d) refl
