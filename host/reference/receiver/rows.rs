@@ -182,7 +182,12 @@ pub fn ports(rows: &[Row]) -> Result<Vec<Shown>, u8> {
     if fit(&receiver, rows) { Ok(receiver.ports()) } else { Err(9) }
 }
 
+/// RS-Ack is read from the group's row, also where the group is an empty one.
 pub fn reply(rows: &[Row], epoch: u8) -> Result<(u8, u8), u8> {
     let receiver = Receiver::from_rows(rows);
-    if fit(&receiver, rows) { Ok(receiver.reply(epoch)) } else { Err(9) }
+    if !fit(&receiver, rows) {
+        return Err(9);
+    }
+    let (mst, _) = receiver.reply(epoch);
+    Ok((mst, rows.first().map_or(0, |group| u8::from(group[11] != 0))))
 }
