@@ -1,6 +1,7 @@
 //! The calls of the proved code, as include/levelspruce.h declares them, on slices.
 
 use reference::packet::Fields;
+use reference::receiver::rows::Row;
 
 extern "C" {
     fn levelspruce_packet_write(
@@ -27,6 +28,19 @@ extern "C" {
     fn levelspruce_sender_board(state: *const u8, state_length: usize, board: *mut u8, board_length: usize) -> u8;
     fn levelspruce_sender_board_going(state: *const u8, state_length: usize, board: *mut u8, board_length: usize) -> u8;
     fn levelspruce_sender_ranks(state: *const u8, state_length: usize, ranks: *mut u8, ranks_length: usize) -> u8;
+    fn levelspruce_receiver_start(
+        ports: u32, payload: u32, window: u32, store_bytes: usize, state: *mut Row, state_length: usize,
+    ) -> u8;
+    fn levelspruce_receiver_frame(
+        state: *mut Row, state_length: usize, port: u32, failed: u32, h4: u8, payload: *const u8, payload_length: usize,
+        store: *mut u8, store_length: usize,
+    ) -> u8;
+    fn levelspruce_receiver_fetch(
+        state: *mut Row, state_length: usize, store: *const u8, store_length: usize, out: *mut u8, out_length: usize,
+        report: *mut u8, report_length: usize,
+    ) -> u8;
+    fn levelspruce_receiver_ports(state: *const Row, state_length: usize, ports: *mut [u8; 8], ports_length: usize) -> u8;
+    fn levelspruce_receiver_reply(state: *const Row, state_length: usize, epoch: u8, reply: *mut u8, reply_length: usize) -> u8;
 }
 
 pub fn packet_write(f: &Fields, h4: &mut [u8]) -> u8 {
@@ -91,4 +105,32 @@ pub fn sender_board_going(state: &[u8], board: &mut [u8]) -> u8 {
 
 pub fn sender_ranks(state: &[u8], ranks: &mut [u8]) -> u8 {
     unsafe { levelspruce_sender_ranks(state.as_ptr(), state.len(), ranks.as_mut_ptr(), ranks.len()) }
+}
+
+pub fn receiver_start(ports: u32, payload: u32, window: u32, store_bytes: usize, state: &mut [Row]) -> u8 {
+    unsafe { levelspruce_receiver_start(ports, payload, window, store_bytes, state.as_mut_ptr(), state.len()) }
+}
+
+pub fn receiver_frame(state: &mut [Row], port: u32, failed: u32, h4: u8, payload: &[u8], store: &mut [u8]) -> u8 {
+    unsafe {
+        levelspruce_receiver_frame(
+            state.as_mut_ptr(), state.len(), port, failed, h4, payload.as_ptr(), payload.len(), store.as_mut_ptr(), store.len(),
+        )
+    }
+}
+
+pub fn receiver_fetch(state: &mut [Row], store: &[u8], out: &mut [u8], report: &mut [u8]) -> u8 {
+    unsafe {
+        levelspruce_receiver_fetch(
+            state.as_mut_ptr(), state.len(), store.as_ptr(), store.len(), out.as_mut_ptr(), out.len(), report.as_mut_ptr(), report.len(),
+        )
+    }
+}
+
+pub fn receiver_ports(state: &[Row], ports: &mut [[u8; 8]]) -> u8 {
+    unsafe { levelspruce_receiver_ports(state.as_ptr(), state.len(), ports.as_mut_ptr(), ports.len()) }
+}
+
+pub fn receiver_reply(state: &[Row], epoch: u8, reply: &mut [u8]) -> u8 {
+    unsafe { levelspruce_receiver_reply(state.as_ptr(), state.len(), epoch, reply.as_mut_ptr(), reply.len()) }
 }

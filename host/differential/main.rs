@@ -5,6 +5,7 @@ mod count;
 mod packets;
 mod payloads;
 mod random;
+mod receivers;
 mod senders;
 
 fn main() {
@@ -12,5 +13,6 @@ fn main() {
     packets::compare(&mut count);
     payloads::compare(&mut count);
     senders::compare(&mut count);
+    receivers::compare(&mut count);
     std::process::exit(count.tally());
 }

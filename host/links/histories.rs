@@ -176,7 +176,7 @@ fn states_follow(before: &Receiver, now: &Receiver) -> bool {
     (0..n).all(|i| {
         let p = &now.ports[i];
         let state = if idle(i) { STATE_IDLE } else if ok(i) { STATE_OK } else { STATE_FAIL };
-        (p.state, p.state_number) == (state, if idle(i) { 255 } else { p.number })
+        (p.state, p.state_number) == (state, p.number)
     })
 }
 
@@ -405,7 +405,8 @@ fn any_rows() -> bool {
         let mut lent = odd_rows(&mut random);
         let given = lent.clone();
         let before = Receiver::from_rows(&lent);
-        let mut tame = tamed(&before);
+        let mut tame = vec![[0; 16]; lent.len()];
+        tamed(&before).to_rows(&mut tame);
         let mut store = vec![0; before.store_length()];
         random.fill(&mut store);
         let mut output = vec![0; before.output_least()];
@@ -414,7 +415,7 @@ fn any_rows() -> bool {
         let same = if random.below(3) == 0 {
             let by_rows = rows::fetch(&mut lent, &store, &mut output);
             reports += usize::from(by_rows.1 != Report::NONE);
-            by_rows == tame.fetch(&other_store, &mut other_output) && output == other_output && (by_rows.1 != Report::NONE || lent == given)
+            by_rows == rows::fetch(&mut tame, &other_store, &mut other_output) && output == other_output && (by_rows.1 != Report::NONE || lent == given)
         } else {
             let port = random.below(before.ports.len() as u64) as usize;
             let next = before.ports[port].next_tag();
@@ -429,12 +430,12 @@ fn any_rows() -> bool {
             random.fill(&mut payload);
             let answer = rows::frame(&mut lent, port as u32, flagged, h4, &payload, &mut store);
             answers[usize::from(answer)] += 1;
-            let other = tame.frame(port as u32, flagged, h4, &payload, &mut other_store);
+            let other = rows::frame(&mut tame, port as u32, flagged, h4, &payload, &mut other_store);
             answer == other && store == other_store && (answer != 11 || lent == given) && (answer == 0 || store == kept)
         };
         let mut old = given.clone();
         let spares_stay = spares(&mut lent.clone()).iter().map(|b| **b).eq(spares(&mut old).iter().map(|b| **b));
-        same && spares_stay && tamed(&Receiver::from_rows(&lent)) == tamed(&tame)
+        same && spares_stay && tamed(&Receiver::from_rows(&lent)) == tamed(&Receiver::from_rows(&tame))
     });
     right && reports > 3000 && [0, 10, 11, 12].iter().all(|a| answers[*a] > 3000)
 }

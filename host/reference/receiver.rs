@@ -89,7 +89,7 @@ pub struct Port {
     /// Word and number of the last good packet.
     pub word: u8,
     pub number: u8,
-    /// The state worked out at the last report, and under which number.
+    /// The state worked out at the last report, and the last good number then, which is shown unless the state is IDLE.
     pub state: u8,
     pub state_number: u8,
     /// The last good word and number at the last report.
@@ -137,6 +137,10 @@ impl Port {
     fn lose_step(&mut self) {
         self.count = 0;
         self.next = 0;
+        self.leave();
+    }
+
+    fn leave(&mut self) {
         self.joined = Flag(0);
         self.since = Flag(0);
         self.later = 0;
@@ -185,9 +189,7 @@ impl Port {
     }
 
     fn drop_all_but_step(&mut self) {
-        self.joined = Flag(0);
-        self.since = Flag(0);
-        self.later = 0;
+        self.leave();
         self.marks = 0;
         self.whole = Flag(0);
     }
@@ -250,6 +252,9 @@ pub struct Shown {
     pub in_step: bool,
     pub joined: bool,
     pub readable: bool,
+    pub failed: bool,
+    /// The last good word.
+    pub word: u8,
 }
 
 #[derive(Clone, PartialEq, Eq, Debug, Default)]
@@ -322,6 +327,15 @@ impl Receiver {
     }
 
     pub fn frame(&mut self, port: u32, flagged: bool, h4: u8, payload: &[u8], store: &mut [u8]) -> u8 {
+        let answer = self.take(port, flagged, h4, payload, store);
+        if matches!(answer, 0 | 10 | 12) {
+            self.follow(store);
+        }
+        answer
+    }
+
+    /// What a frame does to its own port.
+    fn take(&mut self, port: u32, flagged: bool, h4: u8, payload: &[u8], store: &mut [u8]) -> u8 {
         let port = port as usize;
         if port >= self.ports.len() {
             return 1;
@@ -357,7 +371,6 @@ impl Receiver {
             }
         }
         self.ports[port] = advanced;
-        self.follow(store);
         answer
     }
 
@@ -374,7 +387,6 @@ impl Receiver {
         if self.begun.is_set() && !self.gathered.is_set() && self.is_due() {
             self.take_packets(store);
             self.pass();
-            self.gathered = Flag(1);
         }
     }
 
@@ -426,8 +438,9 @@ impl Receiver {
         }
     }
 
-    /// The window moves to the next epoch.
+    /// The window moves to the next epoch: the oldest is gathered or reported.
     fn pass(&mut self) {
+        self.gathered = Flag(1);
         for p in &mut self.ports {
             p.marks >>= 1;
             p.later = p.later.saturating_sub(1);
@@ -514,7 +527,7 @@ impl Receiver {
 
         for (i, p) in self.ports.iter_mut().enumerate() {
             (p.state, p.state_number) = match (p.is_idle(), chosen.contains(&i)) {
-                (true, _) => (STATE_IDLE, NONE),
+                (true, _) => (STATE_IDLE, p.number),
                 (false, true) => (STATE_OK, p.number),
                 (false, false) => (STATE_FAIL, p.number),
             };
@@ -529,13 +542,15 @@ impl Receiver {
             in_step: p.in_step(),
             joined: p.joined.is_set(),
             readable: self.is_readable(p),
+            failed: p.failed.is_set(),
+            word: p.word,
         };
         self.ports.iter().map(shown).collect()
     }
 
     /// MST and RS-Ack for the packets of an epoch.
     pub fn reply(&self, epoch: u8) -> (u8, u8) {
-        let is_ok = |q: u8| q < 64 && self.ports.iter().any(|p| p.state == STATE_OK && p.state_number == q);
+        let is_ok = |q: u8| self.ports.iter().any(|p| p.state == STATE_OK && p.state_number == q);
         let mst = (0..8).filter(|bit| !is_ok(8 * (epoch % 32) + bit)).map(|bit| 0x80 >> bit).sum();
         (mst, u8::from(self.rs_ack.is_set()))
     }

@@ -1,8 +1,13 @@
 //! The receiver's state as lent rows of sixteen bytes: row 0 the group's, then five a port: step, member, the packet being
 //! gathered, the packet that rules, marks. Numbers of two bytes have the higher one first. Any rows are a state, and
 //! bytes that have no meaning stay as they are.
+//!
+//! On rows that calls returned, a frame does what it does in the plain form. On rows that no call returned 01 says nothing,
+//! and the proved definitions do (crates/step/specs): the second frame of a run has MFI1 1, whatever tag stands there
+//! as the next; a port that is not in step has not joined, whatever stands there; and only some frames are looked at for
+//! what follows for all ports.
 
-use super::{Flag, Port, Receiver, Report, Shown};
+use super::{after, first_tag, Flag, Port, Receiver, Report, Shown, EPOCH_FRAMES};
 
 pub type Row = [u8; 16];
 
@@ -120,15 +125,43 @@ pub fn start(rows: &mut [Row], ports: u32, payload: u32, window: u32, store_leng
     answer
 }
 
+/// A port one frame into a run, of whose next tag nothing is known but MFI2's high nibble.
+fn after_first_frame(port: &mut Port) {
+    if port.count == 1 {
+        port.next = (port.next_tag() / 256 * 256 + 1) as u16;
+    }
+}
+
+/// Whether something may follow for all ports from a frame that was not refused: where receiving has not begun, where a
+/// port that was in step no longer is, and where the first epoch's last frame is stored.
+fn concerns_all(before: &Receiver, now: &Receiver, port: usize) -> bool {
+    let (was, is) = (&before.ports[port], &now.ports[port]);
+    let ends_oldest = after(is.latest_tag(), first_tag(now.oldest)) == EPOCH_FRAMES - 1;
+    let loses_step = was.in_step() && !is.in_step();
+    !before.begun.is_set() || loses_step || is.in_step() && is.joined.is_set() && ends_oldest && !before.gathered.is_set()
+}
+
 pub fn frame(rows: &mut [Row], port: u32, flagged: bool, h4: u8, payload: &[u8], store: &mut [u8]) -> u8 {
     let mut receiver = Receiver::from_rows(rows);
     if (port as usize) < receiver.ports.len() && !fit(&receiver, rows) {
         return 9;
     }
-    let answer = receiver.frame(port, flagged, h4, payload, store);
-    if matches!(answer, 0 | 10 | 12) {
-        receiver.to_rows(rows);
+    if let Some(port) = receiver.ports.get_mut(port as usize) {
+        after_first_frame(port);
     }
+    let before = receiver.clone();
+    let answer = receiver.take(port, flagged, h4, payload, store);
+    if !matches!(answer, 0 | 10 | 12) {
+        return answer;
+    }
+    let port = port as usize;
+    if !receiver.ports[port].in_step() {
+        receiver.ports[port].leave();
+    }
+    if concerns_all(&before, &receiver, port) {
+        receiver.follow(store);
+    }
+    receiver.to_rows(rows);
     answer
 }
 
@@ -149,7 +182,12 @@ pub fn ports(rows: &[Row]) -> Result<Vec<Shown>, u8> {
     if fit(&receiver, rows) { Ok(receiver.ports()) } else { Err(9) }
 }
 
+/// RS-Ack is read from the group's row, also where the group is an empty one.
 pub fn reply(rows: &[Row], epoch: u8) -> Result<(u8, u8), u8> {
     let receiver = Receiver::from_rows(rows);
-    if fit(&receiver, rows) { Ok(receiver.reply(epoch)) } else { Err(9) }
+    if !fit(&receiver, rows) {
+        return Err(9);
+    }
+    let (mst, _) = receiver.reply(epoch);
+    Ok((mst, rows.first().map_or(0, |group| u8::from(group[11] != 0))))
 }

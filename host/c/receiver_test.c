@@ -1,0 +1,584 @@
+/*
+ * Tests of the receiver's calls over the archive: every answer number, the order of the refusals, that a call changes
+ * only what it may, 01's limits, a link of three ports with delays, damage, a failed port and a new beginning, what is
+ * read out, and states that no call wrote.
+ */
+#include <levelspruce.h>
+
+#include <string.h>
+
+#include "check.h"
+
+enum { GUARD = 32, MOST = 5248, AREA = GUARD + MOST + GUARD };
+enum { START, FRAME, FETCH, PORTS, REPLY, CALLS };
+enum { TAGS = 4096, EPOCH = 16, INTO_STEP = 32 };
+enum { A = LEVELSPRUCE_WORD_ADD, N = LEVELSPRUCE_WORD_NORM, E = LEVELSPRUCE_WORD_EOS, I = LEVELSPRUCE_WORD_IDLE, D = LEVELSPRUCE_WORD_DNU };
+enum { NONE = LEVELSPRUCE_MARK_NONE, HELD = LEVELSPRUCE_MARK_HELD, DOUBTFUL = LEVELSPRUCE_MARK_DOUBTFUL, SURE = LEVELSPRUCE_MARK_SURE };
+enum { OK = LEVELSPRUCE_PORT_OK, FAIL = LEVELSPRUCE_PORT_FAIL };
+
+static const uint32_t wide[] = { 256, 257, 65537, UINT32_MAX };
+
+static struct area {
+    uint8_t now[AREA], before[AREA];
+} state, store, payload, out, result; /* lent from byte GUARD on; the result is a record, ports or a reply */
+
+/* The group of the test: its ports, P and W. */
+static uint32_t count, p, w;
+
+/* The numbers of a call, and the lengths of what it is lent. */
+struct given {
+    uint32_t a, b, c;
+    size_t rows, store, payload, out, result;
+};
+
+#define COUNT(a) (sizeof(a) / sizeof(a)[0])
+#define RECORD (result.now + GUARD)
+
+static void noise(uint8_t *bytes, size_t n, uint32_t seed)
+{
+    size_t i;
+
+    for (i = 0, seed *= 2654435761u; i < n; i++, seed = seed * 1664525u + 1013904223u)
+        bytes[i] = (uint8_t)(seed >> 24);
+}
+
+/* No byte outside the first n lent ones changed; with n of 0, none at all. */
+static int stands(const struct area *a, size_t n)
+{
+    return memcmp(a->now, a->before, GUARD) == 0 && memcmp(a->now + GUARD + n, a->before + GUARD + n, AREA - GUARD - n) == 0;
+}
+
+static uint8_t *lent(struct area *a, size_t n)
+{
+    return n ? a->now + GUARD : NULL;
+}
+
+/* The call itself; a length of 0 goes with NULL. */
+static uint8_t call(int which, struct given g)
+{
+    uint8_t (*rows)[16] = g.rows ? (uint8_t (*)[16])lent(&state, g.rows) : NULL;
+    uint8_t *s = lent(&store, g.store), *y = lent(&payload, g.payload), *o = lent(&out, g.out), *r = lent(&result, g.result);
+
+    switch (which) {
+    case START: return levelspruce_receiver_start(g.a, g.b, g.c, g.store, rows, g.rows);
+    case FRAME: return levelspruce_receiver_frame(rows, g.rows, g.a, g.b, (uint8_t)g.c, y, g.payload, s, g.store);
+    case FETCH: return levelspruce_receiver_fetch(rows, g.rows, s, g.store, o, g.out, r, g.result);
+    case PORTS: return levelspruce_receiver_ports((const uint8_t (*)[16])rows, g.rows, (uint8_t (*)[8])r, g.result);
+    default: return levelspruce_receiver_reply((const uint8_t (*)[16])rows, g.rows, (uint8_t)g.a, r, g.result);
+    }
+}
+
+static size_t report_bytes(void)
+{
+    const uint8_t *b = RECORD + LEVELSPRUCE_REPORT_COUNT;
+
+    return (size_t)b[0] << 24 | (size_t)b[1] << 16 | (size_t)b[2] << 8 | b[3];
+}
+
+/* The bytes of the state that this answer may change. */
+static size_t state_may(int which, int answer, struct given g)
+{
+    if (which == START && answer == 4)
+        return g.rows ? LEVELSPRUCE_ROW_BYTES : 0;
+    if ((which == START && answer == 0) || (which == FRAME && (answer == 0 || answer == 10 || answer == 12)))
+        return g.rows * LEVELSPRUCE_ROW_BYTES;
+    return which == FETCH && answer == 0 && RECORD[LEVELSPRUCE_REPORT_MARK] != NONE ? g.rows * LEVELSPRUCE_ROW_BYTES : 0;
+}
+
+/* The answer, or -1 where a byte changed that this answer must leave. */
+static int ask(int which, struct given g)
+{
+    int answer;
+
+    noise(out.now, AREA, 5);
+    noise(result.now, AREA, 6);
+    memcpy(state.before, state.now, AREA);
+    memcpy(store.before, store.now, AREA);
+    memcpy(payload.before, payload.now, AREA);
+    memcpy(out.before, out.now, AREA);
+    memcpy(result.before, result.now, AREA);
+    answer = call(which, g);
+    return stands(&payload, 0) && stands(&state, state_may(which, answer, g)) && stands(&store, which == FRAME && answer == 0 ? g.store : 0)
+        && stands(&out, which == FETCH && answer == 0 ? report_bytes() : 0)
+        && stands(&result, which >= FETCH && answer == 0 ? g.result * (which == PORTS ? LEVELSPRUCE_PORT_BYTES : 1) : 0) ? answer : -1;
+}
+
+/* Right lengths for the group of the test. */
+static struct given right(int which, uint32_t a, uint32_t b, uint32_t c)
+{
+    struct given g = { a, b, c, LEVELSPRUCE_RECEIVER_ROWS(count), LEVELSPRUCE_STORE_BYTES(count, p, w), p, LEVELSPRUCE_OUTPUT_BYTES(count, p), 0 };
+
+    g.result = which == FETCH ? LEVELSPRUCE_REPORT_BYTES : which == PORTS ? count : LEVELSPRUCE_REPLY_BYTES;
+    return g;
+}
+
+static int say(int which, uint32_t a, uint32_t b, uint32_t c)
+{
+    return ask(which, right(which, a, b, c));
+}
+
+/* A group of the test starts. */
+static int started(uint32_t ports, uint32_t payload_bytes, uint32_t window)
+{
+    count = ports;
+    p = payload_bytes;
+    w = window;
+    return say(START, ports, payload_bytes, window) == 0;
+}
+
+/* What ports send. */
+struct source {
+    uint32_t word, number;
+};
+
+static const struct source quiet = { I, 255 };
+
+static uint32_t epoch_of(uint32_t tag)
+{
+    return (tag + 8) % TAGS / EPOCH;
+}
+
+/* Byte i of the client's group frame that is sent with a tag. */
+static uint8_t client(uint32_t tag, uint32_t i)
+{
+    return (uint8_t)((tag * 37 + tag / 256 * 11 + i * 101 + 5) ^ i >> 3);
+}
+
+static uint8_t h4_of(uint32_t tag, struct source s)
+{
+    uint8_t h4[LEVELSPRUCE_PACKET_BYTES];
+
+    levelspruce_packet_write(epoch_of(tag % TAGS), s.word, 1, 255, 0, s.number, h4, sizeof h4);
+    return h4[(tag + 8) % EPOCH];
+}
+
+/* Hands a port's frame with this tag, its H4 damaged by these bits: of x active members, the port's number is its rank. */
+static int hand_damaged(uint32_t port, uint32_t tag, struct source s, uint32_t x, uint8_t bits)
+{
+    uint32_t j;
+
+    for (j = 0; j < p; j++)
+        payload.now[GUARD + j] = client(tag % TAGS, j * x + s.number);
+    return say(FRAME, port, 0, h4_of(tag, s) ^ bits);
+}
+
+static int hand(uint32_t port, uint32_t tag, struct source s, uint32_t x)
+{
+    return hand_damaged(port, tag, s, x, 0);
+}
+
+/* Hands frames with the tags from first on until before last; whether all get this answer. */
+static int hands(uint32_t port, uint32_t first, uint32_t last, int answer)
+{
+    int held = 1;
+
+    for (; first < last; first++)
+        held = held && hand(port, first, quiet, 1) == answer;
+    return held;
+}
+
+/* A port not in step comes into it, by frames from this tag (of MFI1 0) on. */
+static int into_step(uint32_t port, uint32_t first)
+{
+    return hands(port, first, first + INTO_STEP - 1, 12) && hands(port, first + INTO_STEP - 1, first + INTO_STEP, 0);
+}
+
+/* Fetches; whether the report has this mark and epoch and, if not held, this X and a byte count to go with it. */
+static int fetched(int mark, uint32_t epoch, uint32_t x)
+{
+    return say(FETCH, 0, 0, 0) == 0 && RECORD[LEVELSPRUCE_REPORT_MARK] == mark && RECORD[LEVELSPRUCE_REPORT_EPOCH] == epoch
+        && RECORD[LEVELSPRUCE_REPORT_X] == x && RECORD[3] == 0 && report_bytes() == EPOCH * x * p;
+}
+
+static int none_due(void)
+{
+    return fetched(NONE, 0, 0);
+}
+
+/* Byte 'which' of what is shown of a port; -1 where the call was refused. */
+static int shown(uint32_t port, int which)
+{
+    return say(PORTS, 0, 0, 0) == 0 ? RECORD[port * LEVELSPRUCE_PORT_BYTES + (uint32_t)which] : -1;
+}
+
+static int readable(uint32_t port)
+{
+    return shown(port, LEVELSPRUCE_PORT_READABLE);
+}
+
+static int port_is(uint32_t port, int member_state, int number, int in_step, int joined, int is_readable, int failed, int word)
+{
+    const int expected[LEVELSPRUCE_PORT_BYTES] = { member_state, number, in_step, joined, is_readable, failed, word, 0 };
+    int i, held = 1;
+
+    for (i = 0; i < LEVELSPRUCE_PORT_BYTES; i++)
+        held = held && shown(port, i) == expected[i];
+    return held;
+}
+
+static int reply_is(uint32_t epoch, int mst, int rs_ack)
+{
+    return say(REPLY, epoch, 0, 0) == 0 && RECORD[LEVELSPRUCE_REPLY_MST] == mst && RECORD[LEVELSPRUCE_REPLY_RS_ACK] == rs_ack;
+}
+
+/* A start with these numbers is answered 4 with any lengths, and leaves an empty group if there is a row. */
+static int empties(uint32_t ports, uint32_t payload_bytes, uint32_t window)
+{
+    struct given g = { ports, payload_bytes, window, 0, 0, 0, 0, 0 };
+    int held = started(2, 3, 16) && ask(START, g) == 4 && into_step(0, 0);
+
+    g.rows = 1;
+    held = held && ask(START, g) == 4 && say(FRAME, 0, 0, 0) == 1;
+    held = held && started(2, 3, 16) && say(START, ports, payload_bytes, window) == 4 && say(FRAME, 0, 0, 0) == 1 && say(FRAME, 0, 1, 0) == 1;
+    count = 0;
+    return held && none_due() && say(PORTS, 0, 0, 0) == 0 && reply_is(0, 255, 0);
+}
+
+/* A start in range, of state rows and a store that fit by this much. */
+static int starts_by(long rows, long store_bytes)
+{
+    struct given g = right(START, count, p, w);
+
+    g.rows = (size_t)((long)g.rows + rows);
+    g.store = (size_t)((long)g.store + store_bytes);
+    return ask(START, g);
+}
+
+static void starting(void)
+{
+    static uint8_t first[MOST];
+    size_t i;
+    int held = empties(0, 3, 16) && empties(65, 3, 16) && empties(2, 0, 16) && empties(2, 2341, 16) && empties(2, 3, 15) && empties(2, 3, 2049);
+
+    for (i = 0; i < COUNT(wide); i++)
+        held = held && empties(wide[i], 3, 16) && empties(2, wide[i] | 1 << 12, 16) && empties(2, 3, wide[i] | 1 << 12);
+    check("start answers 4 for ports, P or W out of range, and leaves an empty group", held);
+    held = started(2, 3, 16) && starts_by(-1, 0) == 9 && starts_by(1, 0) == 9 && starts_by(-11, 0) == 9 && starts_by(0, -1) == 9 && starts_by(0, 1) == 9
+        && starts_by(-1, 1) == 9 && into_step(0, 0);
+    check("start answers 9 for wrong rows or a wrong store, after 4, and leaves the state", held);
+    check("1 and 64 ports, P of 1 and 2340, W of 16 and 2048 start", started(1, 1, 16) && started(64, 1, 16) && started(1, 2340, 16)
+          && started(1, 1, 2048) && started(64, 2340, 2048));
+    held = started(3, 2, 40);
+    memcpy(first, state.now + GUARD, LEVELSPRUCE_RECEIVER_ROWS(3) * LEVELSPRUCE_ROW_BYTES);
+    noise(state.now + GUARD, MOST, 77);
+    check("start writes all of state, whatever was there", held && started(3, 2, 40)
+          && memcmp(first, state.now + GUARD, LEVELSPRUCE_RECEIVER_ROWS(3) * LEVELSPRUCE_ROW_BYTES) == 0);
+    check("after a start all ports are IDLE and nothing is due", port_is(0, 0, 255, 0, 0, 0, 0, 255) && port_is(2, 0, 255, 0, 0, 0, 0, 255)
+          && reply_is(0, 255, 0) && reply_is(255, 255, 0) && none_due());
+}
+
+/* The answer to a call that is right but for one length, which is off by this much. */
+static int off(int which, uint32_t a, uint32_t b, uint32_t c, size_t where, long by)
+{
+    struct given g = right(which, a, b, c);
+    size_t *length = (size_t *)(void *)((char *)&g + where);
+
+    *length = (size_t)((long)*length + by);
+    return ask(which, g);
+}
+
+/* Each length too small and too large in its turn, of a call that is else right; a larger output is right. */
+static int lengths_are_9(int which, uint32_t a, uint32_t b, uint32_t c)
+{
+    static const long by[] = { -1, 1, 7 };
+    int held = 1;
+    size_t i;
+
+    for (i = 0; i < COUNT(by); i++)
+        held = held && off(which, a, b, c, offsetof(struct given, rows), by[i]) == 9
+            && (which == FRAME || off(which, a, b, c, offsetof(struct given, result), by[i]) == 9)
+            && (which > FETCH || off(which, a, b, c, offsetof(struct given, store), by[i]) == 9)
+            && (which != FRAME || off(which, a, b, c, offsetof(struct given, payload), by[i]) == 9)
+            && (which != FETCH || by[i] > 0 || off(which, a, b, c, offsetof(struct given, out), by[i]) == 9);
+    return held;
+}
+
+/* One port with W of 16 whose window is full: its next frame, tag 72, is outside. An epoch is due. */
+static int full(void)
+{
+    return started(1, 3, 16) && into_step(0, 0) && hands(0, 32, 72, 0);
+}
+
+static void refusals(void)
+{
+    struct given far;
+    size_t i;
+    int held = full();
+
+    far = right(FRAME, 1, 1, 0);
+    far.rows = far.store = far.payload = 1;
+    held = held && ask(FRAME, far) == 1 && say(FRAME, 1, 0, h4_of(72, quiet)) == 1;
+    for (i = 0; i < COUNT(wide); i++)
+        held = held && say(FRAME, wide[i], 0, h4_of(72, quiet)) == 1 && say(FRAME, wide[i], 1, 0) == 1;
+    check("a frame of a port not below the count is answered 1, before 9 and 10", held);
+    check("a frame with wrong lengths is answered 9, before 10, 12 and 11", lengths_are_9(FRAME, 0, 1, 0) && lengths_are_9(FRAME, 0, 0, 0)
+          && lengths_are_9(FRAME, 0, 0, h4_of(72, quiet)) && hand(0, 72, quiet, 1) == 11);
+    check("fetch, ports and reply answer 9 for wrong lengths, fetch whether a report is due or not", lengths_are_9(FETCH, 0, 0, 0)
+          && lengths_are_9(PORTS, 0, 0, 0) && lengths_are_9(REPLY, 0, 0, 0) && fetched(SURE, 4, 0) && lengths_are_9(FETCH, 0, 0, 0) && none_due());
+    check("a flagged frame is answered 10, before 12 and 11", full() && say(FRAME, 0, 1, h4_of(72, quiet)) == 10 && full() && say(FRAME, 0, 1, 0) == 10
+          && full() && say(FRAME, 0, UINT32_MAX, 0) == 10 && full() && say(FRAME, 0, 256, 0) == 10);
+    check("a frame that breaks the count is answered 12, before 11", full() && hand(0, 73, quiet, 1) == 12);
+}
+
+static void stepping(void)
+{
+    int held = started(1, 2, 16) && hands(0, 5, 16, 12) && into_step(0, 16), i;
+
+    check("the 32nd right frame from MFI1 0 on is in step", held);
+    check("P5: tag 4095 then 0 keeps step", started(1, 2, 16) && into_step(0, 4064) && hand(0, 4096, quiet, 1) == 0 && port_is(0, 0, 255, 1, 0, 1, 0, 255));
+    check("P5: tag 4095 then 1 loses step", started(1, 2, 16) && into_step(0, 4064) && hand(0, 4097, quiet, 1) == 12 && port_is(0, 0, 255, 0, 0, 0, 0, 255));
+    held = 1;
+    for (i = 0; i < 16; i++) /* another MFI2 shows in its two nibbles alone */
+        held = held && started(1, 2, 16) && into_step(0, 0) && hands(0, 32, 32 + (uint32_t)i, 0)
+            && say(FRAME, 0, 0, h4_of(32 + (uint32_t)i, quiet) ^ 0x10) == (i == 0 || i == 1 ? 12 : 0);
+    check("one frame that breaks the count of MFI2 loses step", held);
+    check("a frame that breaks the count can be the first of a new 32", started(1, 2, 16) && hands(0, 0, 20, 12) && into_step(0, 160));
+    check("a flagged frame ends a run", started(1, 2, 16) && hands(0, 0, 31, 12) && say(FRAME, 0, 1, h4_of(31, quiet)) == 10
+          && port_is(0, 0, 255, 0, 0, 0, 1, 255) && hand(0, 31, quiet, 1) == 12 && port_is(0, 0, 255, 0, 0, 0, 0, 255));
+}
+
+/* Two ports, of which the first is handed the tags from 0 on, the second those from 16 on. */
+static void beginning(void)
+{
+    check("latest tags W-16 apart begin", started(2, 2, 32) && into_step(1, 16) && !readable(1) && into_step(0, 0) && readable(0) && readable(1));
+    check("latest tags W-15 apart do not begin", started(2, 2, 32) && into_step(1, 16) && hands(1, 48, 49, 0) && into_step(0, 0) && !readable(0) && !readable(1));
+    check("until they are nearer", hand(0, 32, quiet, 1) == 0 && readable(0) && readable(1));
+    check("receiving begins beside a flagged port, not beside a silent one", started(2, 2, 32) && into_step(0, 0) && !readable(0)
+          && say(FRAME, 1, 1, 0) == 10 && readable(0) && !readable(1));
+}
+
+/* Whether exactly the P + 1 bytes of one frame stand anew in the store, somewhere, with this H4 byte. */
+static int stored(uint8_t h4)
+{
+    size_t from = 0, at, whole = (size_t)p + 1, end = LEVELSPRUCE_STORE_BYTES(count, p, w);
+    const uint8_t *s = store.now + GUARD;
+
+    for (at = 0; at < end; at += whole)
+        if (memcmp(s + at, store.before + GUARD + at, whole) != 0)
+            from = at + 1;
+    if (from == 0)
+        return 0;
+    at = from - 1;
+    return memcmp(s, store.before + GUARD, at) == 0 && memcmp(s + at + whole, store.before + GUARD + at + whole, end - at - whole) == 0
+        && memcmp(s + at, payload.now + GUARD, p) == 0 && s[at + p] == h4;
+}
+
+static void window(void)
+{
+    uint32_t tag;
+    int held = started(1, 3, 16) && into_step(0, 0), kept = 1;
+
+    for (tag = 32; tag < 40; tag++)
+        held = held && hand(0, tag, quiet, 1) == 0 && stands(&store, 0) && shown(0, LEVELSPRUCE_PORT_JOINED) == 0;
+    check("a frame in step of a port that has not joined is answered 0 and dropped", held);
+    for (; tag < 72; tag++) {
+        memset(store.now + GUARD, 0xEE, LEVELSPRUCE_STORE_BYTES(count, p, w)); /* so that each frame shows */
+        kept = kept && hand(0, tag, quiet, 1) == 0 && stored(h4_of(tag, quiet)) && shown(0, LEVELSPRUCE_PORT_JOINED) == 1;
+    }
+    check("a port joins at its first epoch start, and its frames are stored up to W-1 after the window's first", kept);
+    check("a joined port's tag W after the window's first gives 11", full() && hand(0, 72, quiet, 1) == 11 && hand(0, 72, quiet, 1) == 11);
+    check("and is stored when it is handed again after a report", fetched(SURE, 4, 0) && hand(0, 72, quiet, 1) == 0 && stored(h4_of(72, quiet)));
+    check("an output longer than need be is right", full() && off(FETCH, 0, 0, 0, offsetof(struct given, out), 100) == 0 && RECORD[LEVELSPRUCE_REPORT_MARK] == SURE);
+}
+
+/* Three ports behind delays that differ by W-16. */
+enum { DELAYS = 3, P3 = 5, W3 = 64 };
+/* Frame times to the first report at the latest: the slowest port's delay, 47 frames to its step, the next epoch's start
+ * after the foremost tag, which the slowest port reaches a delay later, the epoch gathered and the one reported. */
+enum { FIRST_REPORT = W3 - EPOCH + 47 + EPOCH + W3 - EPOCH + 2 * EPOCH };
+static const uint32_t delay[DELAYS] = { 20, 0, W3 - EPOCH };
+static const struct source sends[DELAYS] = { { N, 1 }, { E, 2 }, { N, 0 } };
+
+static struct line {
+    uint32_t first;      /* tag of the first frame */
+    uint32_t time;       /* frame times so far */
+    uint32_t failed;     /* frame times for which port 1 still comes flagged */
+    uint32_t damaged;    /* the epoch whose packet of port 0 comes damaged */
+    uint32_t next;       /* the epoch that the next report must have, or 256 before the first */
+    uint32_t marks[4];   /* reports by mark */
+    int held;            /* all was as it should be so far */
+} line;
+
+/* Whether the output is the sixteen group frames of an epoch, or of two of its three members alone. */
+static int output_is(uint32_t epoch, uint32_t x)
+{
+    uint32_t k, j, from = (epoch * EPOCH + TAGS - 8) % TAGS;
+    const uint8_t *o = out.now + GUARD;
+    int held = 1;
+
+    for (k = 0; k < EPOCH; k++)
+        for (j = 0; j < x * P3; j++)
+            held = held && o[k * x * P3 + j] == client((from + k) % TAGS, j / x * DELAYS + j % x);
+    return held;
+}
+
+/* All due reports; every one must be of the next epoch. */
+static void take_reports(void)
+{
+    for (;;) {
+        uint32_t epoch, mark, x;
+
+        line.held = line.held && say(FETCH, 0, 0, 0) == 0;
+        mark = RECORD[LEVELSPRUCE_REPORT_MARK];
+        epoch = RECORD[LEVELSPRUCE_REPORT_EPOCH];
+        x = RECORD[LEVELSPRUCE_REPORT_X];
+        if (!line.held || mark == NONE)
+            return;
+        line.marks[mark & 3]++;
+        line.held = mark <= SURE && (line.next == 256 || line.next == epoch) && report_bytes() == EPOCH * x * P3
+            && x == (mark == SURE ? 3 : mark == HELD ? 0 : 2) && output_is(epoch, x) && (mark != HELD || stands(&out, 0))
+            && (line.damaged > 255 || (mark == HELD) == (epoch == (line.damaged + 1) % 256));
+        line.next = (epoch + 1) % 256;
+    }
+}
+
+/* A frame time: each port's frame, if it has one yet, and all reports due after each. */
+static void frame_time(void)
+{
+    uint32_t port, tag;
+    int answer;
+
+    for (port = 0; port < DELAYS && line.held; port++) {
+        if (line.time < delay[port])
+            continue;
+        tag = (line.first + line.time - delay[port]) % TAGS;
+        if (port == 1 && line.failed > 0) {
+            line.failed--;
+            line.held = say(FRAME, port, 1, 0) == 10;
+        } else if (port == 0 && epoch_of(tag) == line.damaged && (tag + 8) % EPOCH == 3) {
+            line.held = hand_damaged(port, tag, sends[port], DELAYS, 0x40) == 0;
+        } else {
+            answer = hand(port, tag, sends[port], DELAYS);
+            line.held = answer == 0 || answer == 12;
+        }
+        take_reports();
+    }
+    line.time++;
+}
+
+/* So many frame times; whether all was as it should be, with at least so many reports of each mark. */
+static int runs(uint32_t times, uint32_t held, uint32_t doubtful, uint32_t sure)
+{
+    memset(line.marks, 0, sizeof line.marks);
+    while (times-- > 0 && line.held)
+        frame_time();
+    return line.held && line.marks[HELD] >= held && line.marks[DOUBTFUL] >= doubtful && line.marks[SURE] >= sure
+        && (held || line.marks[HELD] == 0) && (doubtful || line.marks[DOUBTFUL] == 0) && (sure || line.marks[SURE] == 0);
+}
+
+static void lines_from(uint32_t first)
+{
+    memset(&line, 0, sizeof line);
+    line.first = first;
+    line.damaged = line.next = 256;
+    line.held = 1;
+}
+
+static void link_of_three(void)
+{
+    uint32_t port;
+    int held = started(DELAYS, P3, W3);
+
+    lines_from(4000);
+    check("a link of three ports with delays W-16 apart gives sure epochs, each once and in order", held && runs(FIRST_REPORT, 0, 0, 1)
+          && runs(10 * EPOCH, 0, 0, 10));
+    check("its ports are OK under their numbers", port_is(0, OK, 1, 1, 1, 1, 0, N) && port_is(1, OK, 2, 1, 1, 1, 0, E) && port_is(2, OK, 0, 1, 1, 1, 0, N));
+    check("the reply says so, and RS-Ack has turned once", reply_is(0, 0x1F, 1) && reply_is(32, 0x1F, 1) && reply_is(1, 255, 1) && reply_is(8, 255, 1)
+          && reply_is(255, 255, 1));
+    line.damaged = (line.next + 6) % 256;
+    check("a damaged packet holds the epoch after it alone, with no byte of output", runs(12 * EPOCH, 1, 0, 11) && line.marks[HELD] == 1);
+    check("and changes no state and no reply", port_is(0, OK, 1, 1, 1, 1, 0, N) && reply_is(0, 0x1F, 1));
+    line.damaged = 256;
+    line.failed = 10 * EPOCH;
+    /* what waits is still sure; the epoch of which the port, ruled active, lacks frames is held; those after it are doubtful */
+    check("beside a flagged port an epoch is held, and the next are doubtful with the bytes of the others", runs(10 * EPOCH, 1, 3, 1) && line.marks[HELD] == 1
+          && port_is(1, FAIL, 2, 0, 0, 0, 1, E) && reply_is(0, 0x3F, 1));
+    check("which comes back into step and joins", runs(12 * EPOCH, 0, 1, 3) && port_is(1, OK, 2, 1, 1, 1, 0, E) && reply_is(0, 0x1F, 1));
+    check("sure epochs follow without end, over tag 4095", runs(260 * EPOCH, 0, 0, 260));
+    for (port = 0; port < DELAYS; port++)
+        held = held && say(FRAME, port, 1, 0) == 10;
+    check("when no port is readable receiving stops", held && none_due() && !readable(0) && !readable(1) && !readable(2));
+    check("and member states and RS-Ack stay", port_is(0, OK, 1, 0, 0, 0, 1, N) && reply_is(0, 0x1F, 1));
+    lines_from(1234);
+    check("receiving begins anew, and gives sure epochs", runs(FIRST_REPORT + 10 * EPOCH, 0, 0, 10) && reply_is(0, 0x1F, 1));
+}
+
+/* An empty group, and rows that do not fit. */
+static void odd_states(void)
+{
+    static const uint8_t bytes[][2] = { { 1, 0 }, { 1, 65 }, { 2, 10 }, { 4, 9 }, { 5, 15 } };
+    struct given none = { 0, 0, 0, 0, 0, 3, 0, LEVELSPRUCE_REPORT_BYTES };
+    size_t i;
+    int held = ask(FRAME, none) == 1 && ask(FETCH, none) == 0;
+
+    none.result = LEVELSPRUCE_REPLY_BYTES;
+    held = held && ask(REPLY, none) == 0 && RECORD[0] == 255 && RECORD[1] == 0 && ask(FETCH, none) == 9;
+    none.result = 0;
+    check("no rows are an empty group", held && ask(PORTS, none) == 0 && ask(REPLY, none) == 9);
+    held = 1;
+    for (i = 0; i < COUNT(bytes); i++) { /* count, P or W out of range */
+        held = held && started(2, 3, 16);
+        state.now[GUARD + bytes[i][0]] = bytes[i][1];
+        held = held && say(FRAME, 0, 0, 0) == 1 && say(FETCH, 0, 0, 0) == 9 && say(PORTS, 0, 0, 0) == 9 && reply_is(0, 255, 0);
+        none = right(FETCH, 0, 0, 0);
+        none.store = 0;
+        held = held && ask(FETCH, none) == 0 && RECORD[0] == NONE;
+    }
+    check("rows whose count, P or W is out of range are an empty group", held);
+}
+
+/* Each call on these rows, with right lengths, gives one of its answers, and changes only what it may. */
+static int copes(const uint8_t *junk)
+{
+    static const unsigned answers[CALLS] = { 0x1, 0x1C01, 0x1, 0x1, 0x1 };
+    static const uint8_t h4[] = { 0x00, 0x01, 0x10, 0x11, 0x08, 0xF7, 0xFF };
+    size_t bytes = LEVELSPRUCE_RECEIVER_ROWS(count) * LEVELSPRUCE_ROW_BYTES, i;
+    int which, afresh, answer, held = 1;
+
+    for (afresh = 1; afresh >= 0; afresh--) /* each call on the junk itself, and then one after the other */
+        for (i = 0; i < COUNT(h4); i++)
+            for (which = CALLS - 1; which > START; which--) {
+                if (afresh || (i == 0 && which == CALLS - 1))
+                    memcpy(state.now + GUARD + 6, junk + 6, bytes - 6); /* all but kind, count, P and W */
+                answer = say(which, which == FRAME ? (uint32_t)i % count : 31, i == 5, h4[i]);
+                held = held && answer >= 0 && (answers[which] >> answer & 1);
+                held = held && (which != FETCH || (RECORD[LEVELSPRUCE_REPORT_MARK] <= SURE && report_bytes() <= LEVELSPRUCE_OUTPUT_BYTES(count, p)));
+            }
+    return held;
+}
+
+static void junk_states(void)
+{
+    static uint8_t junk[MOST];
+    unsigned seed, j;
+    int even = started(3, 2, 17), mixed = even, small = even;
+
+    for (seed = 0; seed < 256; seed++) {
+        memset(junk, (int)seed, MOST);
+        even = even && copes(junk);
+        noise(junk, MOST, seed + 1);
+        mixed = mixed && copes(junk);
+        for (j = 0; j < MOST; j++)
+            junk[j] &= 33; /* 0 and 1 often, and counts in step */
+        small = small && copes(junk);
+    }
+    check("a state of one byte value throughout is coped with", even);
+    check("states of any bytes are coped with", mixed);
+    check("states of flags and counts in step are coped with", small);
+}
+
+int main(void)
+{
+    noise(state.now, AREA, 1);
+    noise(store.now, AREA, 2);
+    noise(payload.now, AREA, 3);
+    starting();
+    refusals();
+    stepping();
+    beginning();
+    window();
+    link_of_three();
+    odd_states();
+    junk_states();
+    return tally();
+}

@@ -1,0 +1,300 @@
+//! The archive's receiver against the reference on long made-up histories. After each call the answers, all rows of the
+//! state, the store, the output, the record, the ports and the reply are compared. On states that calls returned the
+//! reference is the plain form; where state bytes are damaged between calls it is the one on rows.
+
+mod damage;
+mod host;
+
+use crate::card;
+use crate::count::{Count, Test};
+use crate::random::Random;
+use host::{Frame, Host};
+use reference::receiver::rows::{self, rows_for, Row};
+use reference::receiver::{Receiver, Report, Shown};
+
+enum Reference {
+    Plain(Receiver),
+    Rows,
+}
+
+/// Both, with lent bytes of their own.
+struct Both {
+    reference: Reference,
+    ports: usize,
+    payload: usize,
+    window: usize,
+    rows: [Vec<Row>; 2],
+    stores: [Vec<u8>; 2],
+    outputs: [Vec<u8>; 2],
+}
+
+/// How often things came to pass.
+#[derive(Default, Debug)]
+struct Seen {
+    calls: u64,
+    marks: [u64; 4],
+    begins: u64,
+    stops: u64,
+    joins: u64,
+    joins_later: u64,
+    turns: u64,
+    damages: u64,
+}
+
+/// What a call gave: the answer, the record, the ports, the reply, and what else differs.
+type Given = (u8, Vec<u8>, Vec<[u8; 8]>, Vec<u8>, Option<(&'static str, usize)>);
+
+/// Stores above this are looked at now and then only.
+const SMALL: usize = 1 << 14;
+
+fn record(report: Report) -> Vec<u8> {
+    let mut bytes = vec![report.mark, report.epoch, report.x as u8, 0];
+    bytes.extend((report.bytes as u32).to_be_bytes());
+    bytes
+}
+
+fn shown(p: &Shown) -> [u8; 8] {
+    [p.state, p.number, p.in_step.into(), p.joined.into(), p.readable.into(), p.failed.into(), p.word, 0]
+}
+
+fn first_difference<T: PartialEq>(a: &[T], b: &[T]) -> usize {
+    a.iter().zip(b).position(|(x, y)| x != y).unwrap_or(usize::MAX)
+}
+
+impl Both {
+    fn start(random: &mut Random, ports: usize, payload: usize, window: usize, damaged: bool) -> Both {
+        let length = ports * window * (payload + 1);
+        let (n, p, w) = (ports as u32, payload as u32, window as u32);
+        let mut plain = Receiver::empty();
+        assert_eq!(plain.start(n, p, w, length), 0);
+        let mut by_rows = vec![[0xEE; 16]; rows_for(ports)];
+        let mut by_card = by_rows.clone();
+        assert_eq!((rows::start(&mut by_rows, n, p, w, length), card::receiver_start(n, p, w, length, &mut by_card)), (0, 0));
+        let mut store = vec![0; length];
+        random.fill(&mut store);
+        let output = vec![0x5A; ports * 16 * payload + random.below(4) as usize];
+        let reference = if damaged { Reference::Rows } else { Reference::Plain(plain) };
+        Both { reference, ports, payload, window, rows: [by_rows, by_card], stores: [store.clone(), store], outputs: [output.clone(), output] }
+    }
+
+    /// What both give after a call: ports and reply are read out, and all that is lent is compared.
+    fn both(&mut self, random: &mut Random, calls: u64, answers: [u8; 2], records: [Vec<u8>; 2]) -> [Given; 2] {
+        let any = random.next() as u8;
+        let epoch = random.one_of(&[0, 0, 1, 7, 8, 32, 255, any]);
+        let (expected_ports, expected_reply) = match &self.reference {
+            Reference::Plain(plain) => {
+                plain.to_rows(&mut self.rows[0]);
+                (Ok(plain.ports()), Ok(plain.reply(epoch)))
+            }
+            Reference::Rows => (rows::ports(&self.rows[0]), rows::reply(&self.rows[0], epoch)),
+        };
+        let count = expected_ports.as_ref().map_or(self.ports, Vec::len);
+        let (mut ports, mut reply) = (vec![[0xA5; 8]; count], vec![0xA5; 2]);
+        let (mut wanted_ports, mut wanted_reply) = (ports.clone(), reply.clone());
+        let ports_answer = card::receiver_ports(&self.rows[1], &mut ports);
+        let reply_answer = card::receiver_reply(&self.rows[1], epoch, &mut reply);
+        if let Ok(expected) = &expected_ports {
+            wanted_ports = expected.iter().map(shown).collect();
+        }
+        if let Ok((mst, rs_ack)) = &expected_reply {
+            wanted_reply = vec![*mst, *rs_ack];
+        }
+        let refused = (expected_ports.is_err(), expected_reply.is_err());
+        let what = if refused != (ports_answer != 0, reply_answer != 0) {
+            Some(("answers of ports and reply", 0))
+        } else if self.rows[0] != self.rows[1] {
+            Some(("row", first_difference(&self.rows[0], &self.rows[1])))
+        } else if (self.stores[0].len() <= SMALL || calls % 128 == 0) && self.stores[0] != self.stores[1] {
+            Some(("store at", first_difference(&self.stores[0], &self.stores[1])))
+        } else if self.outputs[0] != self.outputs[1] {
+            Some(("output at", first_difference(&self.outputs[0], &self.outputs[1])))
+        } else {
+            None
+        };
+        let [by_reference, by_card] = records;
+        [(answers[0], by_reference, wanted_ports, wanted_reply, None), (answers[1], by_card, ports, reply, what)]
+    }
+
+    fn frame(&mut self, test: &mut Test, random: &mut Random, seen: &mut Seen, port: usize, frame: &Frame, rows: usize, store: usize) -> u8 {
+        let (flagged, h4, payload) = frame;
+        let before = (self.rows[0][0], self.rows[0].get(rows_for(port)).map_or((0, 0), |step| (step[5], step[7])));
+        let given = self.rows[0].get(rows_for(port)).copied();
+        let [a, b] = &mut self.stores;
+        let (a, b) = (&mut a[..store], &mut b[..store]);
+        let answer = match &mut self.reference {
+            Reference::Plain(plain) => plain.frame(port as u32, *flagged, *h4, payload, a),
+            Reference::Rows => rows::frame(&mut self.rows[0][..rows], port as u32, *flagged, *h4, payload, a),
+        };
+        let failed = if *flagged { random.one_of(&[1, 2, 256, u32::MAX]) } else { 0 };
+        let by_card = card::receiver_frame(&mut self.rows[1][..rows], port as u32, failed, *h4, payload, b);
+        seen.calls += 1;
+        let [reference, card] = self.both(random, seen.calls, [answer, by_card], [vec![], vec![]]);
+        let input = ("frame", (self.ports, self.payload, self.window), port, flagged, h4, payload.len(), rows, store, (before.0, given));
+        test.case(answer, &reference, &card, &input);
+        let group = &self.rows[0][0];
+        if !matches!(self.reference, Reference::Rows) {
+            seen.begins += u64::from(group[6] > before.0[6] || before.0[7] > group[7] && group[6] == 1);
+            seen.stops += u64::from(before.0[6] > group[6]);
+            if let Some(step) = self.rows[0].get(rows_for(port)).filter(|step| step[5] > before.1 .0) {
+                seen.joins += 1;
+                seen.joins_later += u64::from(step[7] > 0);
+            }
+        }
+        answer
+    }
+
+    fn fetch(&mut self, test: &mut Test, random: &mut Random, seen: &mut Seen) -> Report {
+        let ack = self.rows[0][0][11];
+        let least = self.ports * 16 * self.payload;
+        let (mut rows, mut store, mut out) = (self.rows[0].len(), self.stores[0].len(), self.outputs[0].len());
+        let mut record_length = 8;
+        match random.below(160) {
+            0 => rows -= usize::from(matches!(self.reference, Reference::Rows)),
+            1 => store -= 1,
+            2 => out = least - 1,
+            3 => record_length = random.one_of(&[0, 7, 9]),
+            4 => out = least,
+            _ => {}
+        }
+        let [a, b] = &mut self.outputs;
+        let (answer, report) = match &mut self.reference {
+            Reference::Plain(plain) if record_length == 8 => plain.fetch(&self.stores[0][..store], &mut a[..out]),
+            Reference::Rows if record_length == 8 => rows::fetch(&mut self.rows[0][..rows], &self.stores[0][..store], &mut a[..out]),
+            _ => (9, Report::NONE),
+        };
+        let mut by_card = vec![0xA5; record_length];
+        let by_reference = if answer == 0 { record(report) } else { by_card.clone() };
+        let card_answer = card::receiver_fetch(&mut self.rows[1][..rows], &self.stores[1][..store], &mut b[..out], &mut by_card);
+        seen.calls += 1;
+        seen.marks[usize::from(report.mark)] += 1;
+        let [reference, card] = self.both(random, seen.calls, [answer, card_answer], [by_reference, by_card]);
+        seen.turns += u64::from(ack != self.rows[0][0][11]);
+        test.case(answer, &reference, &card, &("fetch", (self.ports, self.payload, self.window), rows, store, out, record_length));
+        report
+    }
+
+    /// All that is due. From states that no call wrote this can go on for ever.
+    fn fetch_all(&mut self, test: &mut Test, random: &mut Random, seen: &mut Seen) {
+        let mut left = if matches!(self.reference, Reference::Rows) { 3 } else { usize::MAX };
+        while left > 0 && self.fetch(test, random, seen) != Report::NONE {
+            left -= 1;
+        }
+    }
+
+    /// The same bytes in both are no longer what calls wrote.
+    fn damage(&mut self, random: &mut Random, seen: &mut Seen) {
+        damage::rows(random, &mut self.rows[0], self.window);
+        self.rows[1] = self.rows[0].clone();
+        seen.damages += 1;
+    }
+
+    /// Another count, P or W in both. Gives the group's row as it was.
+    fn resize(&mut self, random: &mut Random) -> Row {
+        let was = self.rows[0][0];
+        damage::sizes(random, &mut self.rows[0][0]);
+        self.rows[1][0] = self.rows[0][0];
+        was
+    }
+}
+
+struct Tests {
+    frames: Test,
+    fetches: Test,
+}
+
+fn history(tests: &mut Tests, random: &mut Random, seen: &mut Seen, damaged: bool, calls: u64) {
+    let window = random.one_of(&[16, 16, 17, 31, 32, 64, 64, 160, 2048]);
+    let wide = window == 2048;
+    let ports = if wide { random.one_of(&[1, 2]) } else { random.one_of(&[1, 2, 2, 3, 4, 5, 9, 64]) };
+    let payload = if ports < 5 && random.below(12) == 0 { 756 } else { 1 + random.below(5) as usize };
+    let mut both = Both::start(random, ports, payload, window, damaged);
+    let mut host = Host::new(random, ports, window);
+    let fetches = random.one_of(&[1, 4, 20, 1000]);
+    // one frame in so many finds state bytes damaged before it, and one goes on from what the state says
+    let (damages, follows) = (random.one_of(&[40, 400, 2000]), random.one_of(&[2, 50, 2000]));
+    let end = seen.calls + calls * if wide { 4 } else { 1 };
+    while seen.calls < end {
+        host.frame_time(random);
+        for port in 0..ports {
+            let Some(mut frame) = host.frame(random, port, payload) else { continue };
+            if damaged && random.below(damages) == 0 {
+                both.damage(random, seen);
+            }
+            if damaged && random.below(follows) == 0 {
+                frame.1 = damage::h4(random, &both.rows[0], port);
+            }
+            let (mut rows, mut store, mut to) = (both.rows[0].len(), both.stores[0].len(), port);
+            match random.below(300) {
+                0 => to = ports + random.one_of(&[0, 1, 192, 256 - ports, 65536 - ports, u32::MAX as usize - ports]),
+                1 => store -= 1,
+                2 if damaged => rows = random.one_of(&[0, 1, rows - 1, rows - 5]),
+                _ => {}
+            }
+            let was = (damaged && random.below(200) == 0).then(|| both.resize(random));
+            let mut answer = both.frame(&mut tests.frames, random, seen, to, &frame, rows, store);
+            if let Some(group) = was {
+                both.fetch(&mut tests.fetches, random, seen);
+                (both.rows[0][0], both.rows[1][0]) = (group, group);
+            }
+            if answer == 11 && random.below(3) == 0 && both.fetch(&mut tests.fetches, random, seen) != Report::NONE {
+                answer = both.frame(&mut tests.frames, random, seen, port, &frame, both.rows[0].len(), both.stores[0].len());
+            }
+            if !frame.0 && (answer != 11 || random.below(60) == 0) {
+                host.go_on(port);
+            }
+        }
+        if random.below(fetches) == 0 {
+            both.fetch_all(&mut tests.fetches, random, seen);
+        }
+    }
+}
+
+pub fn compare(count: &mut Count) {
+    let mut seen = Seen::default();
+    let mut random = Random::new(10);
+    let mut tests = Tests { frames: Test::new("frames of made-up hosts"), fetches: Test::new("fetches beside them") };
+    for _ in 0..500 {
+        history(&mut tests, &mut random, &mut seen, false, 1500);
+    }
+    println!("seen\t{:?}", seen);
+    tests.frames.end(count, &[0, 9, 10, 11, 12]);
+    tests.fetches.end(count, &[0]);
+    let events = [seen.begins, seen.stops, seen.joins_later, seen.turns].iter().all(|times| *times > 100);
+    count.note("all that can happen to a receiver happens there", events && seen.marks.iter().all(|times| *times > 200));
+
+    let mut seen = Seen::default();
+    let mut tests = Tests { frames: Test::new("frames on states that no call wrote"), fetches: Test::new("fetches from such states") };
+    for _ in 0..500 {
+        history(&mut tests, &mut random, &mut seen, true, 1500);
+    }
+    println!("seen\t{:?}", seen);
+    tests.frames.end(count, &[0, 9, 10, 11, 12]);
+    tests.fetches.end(count, &[0]);
+    count.note("reports of each mark come from such states", seen.marks.iter().all(|times| *times > 200) && seen.damages > 1000);
+
+    starts(count, &mut random);
+}
+
+/// Starts with any numbers and lengths.
+fn starts(count: &mut Count, random: &mut Random) {
+    let mut test = Test::new("starts of a receiver");
+    for _ in 0..60_000 {
+        let number = |random: &mut Random, around: &[u32]| match random.below(12) {
+            0 => random.one_of(&[0, 256, 65536, 1 << 31, u32::MAX]),
+            1 => random.below(4096) as u32,
+            _ => random.one_of(around),
+        };
+        let ports = number(random, &[1, 2, 5, 63, 64, 65]);
+        let payload = number(random, &[1, 2, 756, 2339, 2340, 2341]);
+        let window = number(random, &[15, 16, 17, 2047, 2048, 2049]);
+        let right = rows_for((ports % 66) as usize);
+        let mut by_reference = vec![[random.next() as u8; 16]; random.one_of(&[right, right, right, right + 1, right - 1, 0])];
+        let mut by_card = by_reference.clone();
+        let store = (ports as usize).wrapping_mul(window as usize).wrapping_mul(payload as usize + 1);
+        let store = random.one_of(&[store, store, store, store.wrapping_add(1), store.wrapping_sub(1), 0]);
+        let expected = rows::start(&mut by_reference, ports, payload, window, store);
+        let answer = card::receiver_start(ports, payload, window, store, &mut by_card);
+        test.case(expected, &(expected, by_reference), &(answer, by_card), &(ports, payload, window, store, right));
+    }
+    test.end(count, &[0, 4, 9]);
+}

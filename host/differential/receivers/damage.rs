@@ -1,0 +1,64 @@
+//! State bytes that no call wrote.
+
+use crate::random::Random;
+use reference::receiver::rows::{rows_for, Row, ROWS_A_PORT};
+use reference::receiver::{first_tag, Receiver};
+
+fn flag(random: &mut Random) -> u8 {
+    random.one_of(&[0, 0, 1, 1, 7, 255])
+}
+
+/// Damages rows, but for kind, count, P and W, so that frames and reports still come to something.
+pub fn rows(random: &mut Random, rows: &mut [Row], window: usize) {
+    let ports = (rows.len() - 1) / ROWS_A_PORT;
+    let first = rows_for(random.below(ports as u64) as usize);
+    let any = random.next() as u8;
+    match random.below(12) {
+        0 => rows[0][6] = flag(random),
+        1 => rows[0][7] = flag(random),
+        2 => rows[0][8] = any,
+        3 => rows[0][9 + random.below(7) as usize] = any,
+        4 | 5 => {
+            let byte = random.one_of(&[0, 1, 5, 6, 8]);
+            rows[first][byte] = flag(random);
+        }
+        6 => rows[first][2] = random.one_of(&[0, 1, 2, 17, 30, 31, 31, 32, 33, 255]),
+        7 => rows[first][7] = random.one_of(&[0, 1, 2, 127, 128, 255]),
+        8 => {
+            // near the window, or a number that is no tag
+            let tag = first_tag(rows[0][8]) + random.below(window as u64 + 2) as usize + 4096 * random.below(16) as usize;
+            rows[first][3..5].copy_from_slice(&(tag as u16).to_be_bytes());
+        }
+        9 => {
+            let byte = random.below(16) as usize;
+            rows[first + 1][byte] = random.one_of(&[0, 1, 2, 3, 5, 15, 63, 64, 200, 255]);
+        }
+        10 => {
+            let (row, byte) = (first + 2 + random.below(3) as usize, random.below(16) as usize);
+            rows[row][byte] = any;
+        }
+        _ => {
+            let row = first + random.below(ROWS_A_PORT as u64) as usize;
+            random.fill(&mut rows[row]);
+        }
+    }
+}
+
+/// Another count, P or W in the group's row.
+pub fn sizes(random: &mut Random, group: &mut Row) {
+    let byte = 1 + random.below(5) as usize;
+    group[byte] = random.one_of(&[0, 1, 2, 9, 16, 64, 65, 255]);
+}
+
+/// An H4 byte that goes on from what the rows say of a port, most often.
+pub fn h4(random: &mut Random, rows: &[Row], port: usize) -> u8 {
+    let next = Receiver::from_rows(rows).ports.get(port).map_or(0, |p| p.next_tag());
+    let count = rows.get(rows_for(port)).map_or(0, |step| step[2]);
+    match (random.below(10), next % 16) {
+        (0, _) => random.next() as u8,
+        (1, _) if count == 1 => random.below(16) as u8 * 16 + 1,
+        (_, 0) => (next / 256 * 16) as u8,
+        (_, 1) => (next / 16 % 16 * 16 + 1) as u8,
+        (_, mfi1) => random.below(16) as u8 * 16 + mfi1 as u8,
+    }
+}

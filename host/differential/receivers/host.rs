@@ -1,0 +1,146 @@
+//! Unruly hosts: what frames each port brings. Delays differ, ports lose step and come back, are flagged, fall silent or
+//! change to another path, all of them fail at once and come back, and packets are odd now and then.
+
+use crate::random::Random;
+use reference::packet::{self, Fields};
+use reference::receiver::{epoch_of, EPOCH_FRAMES, TAGS};
+
+/// One frame: flagged or not, its H4 and its payload.
+pub type Frame = (bool, u8, Vec<u8>);
+
+pub struct Source {
+    pub tag: usize,
+    delay: usize,
+    /// Frames for which it comes flagged, or does not come at all.
+    flagged: u64,
+    away: u64,
+    /// The packet of the epoch now going out.
+    epoch: Option<u8>,
+    h4: [u8; 16],
+}
+
+pub struct Host {
+    pub sources: Vec<Source>,
+    window: u64,
+    /// One event in so many frames, and one odd packet in so many.
+    calm: u64,
+    packets_calm: u64,
+}
+
+impl Host {
+    pub fn new(random: &mut Random, ports: usize, window: usize) -> Host {
+        let source = || Source { tag: 0, delay: 0, flagged: 0, away: 0, epoch: None, h4: [0; 16] };
+        let mut host = Host {
+            sources: (0..ports).map(|_| source()).collect(),
+            window: window as u64,
+            calm: random.one_of(&[80, 600, 3000, 20_000]),
+            packets_calm: random.one_of(&[6, 40, 400]),
+        };
+        host.line_up(random);
+        host
+    }
+
+    /// All ports bring what was sent at one time, each behind a delay of its own. Often the tags are soon to go round.
+    pub fn line_up(&mut self, random: &mut Random) {
+        let any = random.below(TAGS as u64) as usize;
+        let now = random.one_of(&[4090, 4090, 0, any]);
+        for s in &mut self.sources {
+            // a delay of W-15 now and then, which keeps receiving from beginning but in the midst of a frame time
+            let more = random.below(8) / 7;
+            s.delay = random.below(self.window - 15 + more) as usize;
+            s.tag = (now + TAGS - s.delay) % TAGS;
+            (s.flagged, s.away) = (0, 0);
+        }
+    }
+
+    /// The word, number and GID of a port in an epoch. The order changes with time.
+    fn says(&self, random: &mut Random, port: usize, epoch: u8) -> (u32, u32, u32) {
+        let ports = self.sources.len();
+        let era = usize::from(epoch / 16);
+        let active = 1 + era * 5 % ports;
+        let number = (port + era * 3) % ports;
+        let (mut word, mut sq, mut gid) = match number {
+            k if k + 1 < active => (packet::NORM, k, 1),
+            k if k + 1 == active => (packet::EOS, k, 1),
+            k if (k + era) % 3 == 0 => (packet::ADD, k, 1),
+            k if k == active && era % 2 == 0 => (packet::DNU, k, 1),
+            k if (k + era) % 5 == 0 => (packet::IDLE, k, 0),
+            _ => (packet::IDLE, 255, 0),
+        };
+        match random.below(self.packets_calm) {
+            0 => word = random.one_of(&packet::WORDS),
+            1 => sq = random.one_of(&[0, 1, 2, 3, 63, 64, 255]),
+            2 => gid = 1 - gid,
+            _ => {}
+        }
+        (word, sq as u32, gid)
+    }
+
+    fn h4(&mut self, random: &mut Random, port: usize) -> u8 {
+        let tag = self.sources[port].tag;
+        let epoch = epoch_of(tag);
+        if self.sources[port].epoch != Some(epoch) {
+            let (word, sq, gid) = self.says(random, port, epoch);
+            let fields = Fields { epoch: epoch.into(), word, gid, mst: random.below(256) as u32, rs_ack: 0, sq };
+            let s = &mut self.sources[port];
+            s.epoch = Some(epoch);
+            packet::write(&fields, &mut s.h4);
+            if random.below(self.packets_calm) == 0 {
+                // the nibbles at 8 and 9 count
+                s.h4[random.one_of(&[0, 1, 2, 3, 4, 5, 6, 7, 10, 11, 12, 13, 14, 15])] ^= 0x10 << random.below(4);
+            }
+        }
+        self.sources[port].h4[(tag + 8) % EPOCH_FRAMES]
+    }
+
+    /// Whether the frame time starts with all ports failing at once, or lined up anew.
+    pub fn frame_time(&mut self, random: &mut Random) {
+        match random.below(8 * self.calm) {
+            0 => self.line_up(random),
+            1 => {
+                self.line_up(random);
+                let long = 1 + random.below(30);
+                self.sources.iter_mut().for_each(|s| s.flagged = long);
+            }
+            _ => {}
+        }
+    }
+
+    /// The next frame of a port, if one comes.
+    pub fn frame(&mut self, random: &mut Random, port: usize, payload: usize) -> Option<Frame> {
+        let w = self.window;
+        let event = if random.below(self.calm) == 0 { random.below(13) } else { 99 };
+        let s = &mut self.sources[port];
+        match event {
+            0..=1 => s.flagged = 1 + random.below(60),
+            2..=4 => s.away = 1 + random.below(2 * w),
+            5 => s.tag += random.below(TAGS as u64) as usize,
+            6..=7 => s.tag += TAGS + random.below(w) as usize - random.below(w) as usize,
+            8 => s.tag += TAGS - random.below(w + 60) as usize,
+            9 => s.tag += 1,
+            10 => return Some((false, random.next() as u8, vec![0; payload])),
+            11 => return Some((random.below(2) == 0, 0, vec![0; payload + 1])),
+            12 => return Some((false, 0, vec![0; payload.saturating_sub(1)])),
+            _ => {}
+        }
+        s.tag %= TAGS;
+        if s.away > 0 {
+            s.away -= 1;
+            return None;
+        }
+        let mut bytes = vec![0; payload];
+        random.fill(&mut bytes);
+        if s.flagged > 0 {
+            s.flagged -= 1;
+            s.tag = (s.tag + 1) % TAGS;
+            return Some((true, random.next() as u8, bytes));
+        }
+        Some((false, self.h4(random, port), bytes))
+    }
+
+    /// The frame was taken, or given up.
+    pub fn go_on(&mut self, port: usize) {
+        let s = &mut self.sources[port];
+        s.tag = (s.tag + 1) % TAGS;
+    }
+}

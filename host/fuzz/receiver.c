@@ -1,0 +1,320 @@
+/*
+ * Any calls of the receiver, by libFuzzer: the input is a program of calls, with any numbers, lengths and state bytes.
+ * Every buffer has just the length that is lent. The archive has no sanitizer inside it, so a buffer is lent at the very
+ * start or the very end of pages whose neighbours are shut: a touch beside it ends the run, and on its other side stand
+ * guard bytes. What a call may change, and by which answer, is checked after each.
+ */
+#define _DEFAULT_SOURCE /* for mmap's MAP_ANONYMOUS */
+#include <levelspruce.h>
+
+#include <stdio.h>
+#include <stdlib.h>
+#include <string.h>
+#include <sys/mman.h>
+
+int LLVMFuzzerTestOneInput(const uint8_t *data, size_t size);
+
+/* The program: what is left of the input. Past its end all bytes are 0. */
+struct program {
+    const uint8_t *at, *end;
+};
+
+static uint32_t byte_of(struct program *g)
+{
+    return g->at < g->end ? *g->at++ : 0;
+}
+
+/* Any number, more often a small one. */
+static uint32_t number_of(struct program *g)
+{
+    uint32_t first = byte_of(g);
+
+    if (first < 250)
+        return first;
+    return first < 254 ? byte_of(g) << 8 | byte_of(g) : 0xFFFFFF00u | byte_of(g);
+}
+
+/* What libFuzzer takes for new, since it cannot see into the archive: answers and marks in each phase of receiving. */
+__attribute__((section("__libfuzzer_extra_counters"))) static uint8_t counters[4 * 64];
+
+static void fail(const char *what)
+{
+    fprintf(stderr, "%s\n", what);
+    abort();
+}
+
+enum { STATE, STORE, PAYLOAD, OUT, RESULT, ROOMS };
+enum { GUARD = 16, GUARD_BYTE = 0xA7, OPEN = 1 << 16 };
+
+static uint8_t *rooms[ROOMS], before[ROOMS][OPEN];
+static unsigned turn; /* a buffer stands at the start and at the end of its room by turns */
+
+static void open_rooms(void)
+{
+    int i;
+
+    for (i = 0; i < ROOMS && rooms[i] == NULL; i++) {
+        rooms[i] = mmap(NULL, 3 * OPEN, PROT_NONE, MAP_PRIVATE | MAP_ANONYMOUS, -1, 0);
+        if ((void *)rooms[i] == MAP_FAILED || mprotect(rooms[i] + OPEN, OPEN, PROT_READ | PROT_WRITE) != 0)
+            fail("no pages with shut neighbours");
+        rooms[i] += OPEN;
+    }
+}
+
+/* Bytes that the host keeps between calls. */
+struct kept {
+    uint8_t *bytes;
+    size_t length;
+};
+
+static struct kept keep(size_t length)
+{
+    struct kept k = { calloc(length ? length : 1, 1), length };
+
+    if (k.bytes == NULL)
+        fail("no memory");
+    return k;
+}
+
+/* A buffer in its room. */
+struct block {
+    uint8_t *bytes;
+    size_t length;
+    int room, at_end;
+};
+
+/* Lends the first bytes of what is kept, with zeros after them if it is too short. */
+static struct block lend(int room, struct kept from, size_t length)
+{
+    struct block b = { rooms[room], length, room, (int)(turn++ % 2) };
+    size_t some = length < from.length ? length : from.length;
+
+    if (length > OPEN - GUARD)
+        fail("too long to lend");
+    if (b.at_end)
+        b.bytes += OPEN - length;
+    memset(b.at_end ? b.bytes - GUARD : b.bytes + length, GUARD_BYTE, GUARD);
+    if (some)
+        memcpy(b.bytes, from.bytes, some);
+    memset(b.bytes + some, 0, length - some);
+    memcpy(before[room], b.bytes, length);
+    return b;
+}
+
+/* Only the first 'may' bytes changed, and none beside the buffer. */
+static void stands(struct block b, size_t may, const char *what)
+{
+    const uint8_t *guard = b.at_end ? b.bytes - GUARD : b.bytes + b.length;
+    int i;
+
+    for (i = 0; i < GUARD; i++)
+        if (guard[i] != GUARD_BYTE)
+            fail("a byte beside a buffer changed");
+    if (memcmp(b.bytes + may, before[b.room] + may, b.length - may) != 0)
+        fail(what);
+}
+
+/* What is kept takes the bytes back. */
+static void put_back(struct kept k, struct block b)
+{
+    size_t some = k.length < b.length ? k.length : b.length;
+
+    if (some)
+        memcpy(k.bytes, b.bytes, some);
+}
+
+static void fill(uint8_t *bytes, size_t length, uint32_t seed)
+{
+    size_t i;
+
+    for (i = 0; i < length; i++, seed = seed * 1664525u + 1013904223u)
+        bytes[i] = (uint8_t)(seed >> 24);
+}
+
+/* All that is lent, for the group of the latest start. */
+struct lent {
+    uint32_t ports, payload, window;
+    struct kept state, store;
+    uint32_t tag[LEVELSPRUCE_PORTS_MOST];
+};
+
+/* A length that is right, or off by a little. */
+static size_t about(struct program *g, size_t right)
+{
+    uint32_t off = byte_of(g);
+
+    if (off < 240)
+        return right;
+    return off < 248 ? right + (off - 239) : right > off - 247 ? right - (off - 247) : 0;
+}
+
+static uint8_t (*rows_of(struct block b))[16]
+{
+    return (uint8_t (*)[16])b.bytes;
+}
+
+static struct block lend_state(struct lent *l, struct program *g)
+{
+    return lend(STATE, l->state, about(g, l->state.length / 16) * 16);
+}
+
+/* Notes an answer or a mark, by call and by phase: not begun, begun, gathered. */
+static void note(const struct lent *l, int call, uint32_t what)
+{
+    uint32_t phase = l->state.length < 8 ? 3 : l->state.bytes[6] == 0 ? 0 : l->state.bytes[7] == 0 ? 1 : 2;
+
+    counters[phase * 64 + (uint32_t)call * 16 + what % 16] = 1;
+}
+
+static void start(struct lent *l, struct program *g)
+{
+    uint32_t ports = number_of(g), payload = number_of(g), window = number_of(g);
+    int fits = ports >= 1 && ports <= 64 && payload >= 1 && payload <= 2340 && window >= 16 && window <= 2048;
+    /* small enough for many calls a second */
+    int small = fits && ports <= 8 && payload <= 40 && window <= 80;
+    size_t right = small ? LEVELSPRUCE_RECEIVER_ROWS(ports) : 6;
+    size_t store = fits ? LEVELSPRUCE_STORE_BYTES(ports, payload, window) : number_of(g);
+    struct kept fresh = keep(about(g, right) * 16);
+    struct block state;
+    uint8_t answer;
+
+    fill(fresh.bytes, fresh.length, byte_of(g));
+    state = lend(STATE, fresh, fresh.length);
+    store = about(g, store);
+    answer = levelspruce_receiver_start(ports, payload, window, store, rows_of(state), state.length / 16);
+    if (answer != 0 && answer != 4 && answer != 9)
+        fail("an answer that start does not have");
+    if ((answer == 4) == fits)
+        fail("start answers 4 where it should not, or not where it should");
+    stands(state, answer == 0 ? state.length : answer == 4 && state.length ? 16 : 0, "start changed what it must leave");
+    put_back(fresh, state);
+    if (answer != 0 || !small) {
+        free(fresh.bytes);
+        return;
+    }
+    free(l->state.bytes);
+    free(l->store.bytes);
+    l->state = fresh;
+    l->store = keep(store);
+    fill(l->store.bytes, store, byte_of(g));
+    l->ports = ports;
+    l->payload = payload;
+    l->window = window;
+    memset(l->tag, 0, sizeof l->tag);
+}
+
+static void frame(struct lent *l, struct program *g, uint32_t port, uint32_t failed, uint8_t h4)
+{
+    static const struct kept nothing;
+    struct block state = lend_state(l, g), store = lend(STORE, l->store, about(g, l->store.length));
+    struct block payload = lend(PAYLOAD, nothing, about(g, l->payload));
+    uint8_t answer;
+
+    fill(payload.bytes, payload.length, byte_of(g));
+    memcpy(before[PAYLOAD], payload.bytes, payload.length);
+    answer = levelspruce_receiver_frame(rows_of(state), state.length / 16, port, failed, h4, payload.bytes, payload.length, store.bytes, store.length);
+    if (answer != 0 && answer != 1 && answer != 9 && answer != 10 && answer != 11 && answer != 12)
+        fail("an answer that a frame does not have");
+    if (failed && (answer == 0 || answer == 11 || answer == 12))
+        fail("a flagged frame was taken");
+    stands(payload, 0, "a frame's payload changed");
+    stands(store, answer == 0 ? store.length : 0, "a refused frame changed the store");
+    stands(state, answer == 0 || answer == 10 || answer == 12 ? state.length : 0, "a refused frame changed the state");
+    put_back(l->state, state);
+    put_back(l->store, store);
+    note(l, 0, answer);
+    if (port < l->ports && answer != 11)
+        l->tag[port] = (l->tag[port] + 1) % 4096;
+}
+
+/* Frames as a sender sends them, of all ports, each behind the tag it has come to. */
+static void frames(struct lent *l, struct program *g)
+{
+    uint32_t times = byte_of(g), word = byte_of(g), port;
+    uint8_t h4[LEVELSPRUCE_PACKET_BYTES];
+    static const uint32_t words[] = { LEVELSPRUCE_WORD_NORM, LEVELSPRUCE_WORD_EOS, LEVELSPRUCE_WORD_ADD, LEVELSPRUCE_WORD_IDLE, LEVELSPRUCE_WORD_DNU };
+    struct program right = { NULL, NULL };
+
+    while (times-- > 0)
+        for (port = 0; port < l->ports; port++) {
+            uint32_t tag = l->tag[port], last = port + 1 == l->ports;
+
+            levelspruce_packet_write((tag + 8) % 4096 / 16, word < 200 ? words[last] : words[word % 5], 0, 0, 0, port, h4, sizeof h4);
+            frame(l, &right, port, 0, h4[(tag + 8) % 16]);
+        }
+}
+
+static void fetch(struct lent *l, struct program *g)
+{
+    static const struct kept nothing;
+    struct block state = lend_state(l, g), store = lend(STORE, l->store, about(g, l->store.length));
+    struct block out = lend(OUT, nothing, about(g, LEVELSPRUCE_OUTPUT_BYTES(l->ports, l->payload)));
+    struct block report = lend(RESULT, nothing, about(g, LEVELSPRUCE_REPORT_BYTES));
+    uint8_t answer, mark;
+    size_t bytes;
+
+    answer = levelspruce_receiver_fetch(rows_of(state), state.length / 16, store.bytes, store.length, out.bytes, out.length, report.bytes, report.length);
+    if (answer != 0 && answer != 9)
+        fail("an answer that a fetch does not have");
+    mark = answer == 0 ? report.bytes[LEVELSPRUCE_REPORT_MARK] : 0;
+    bytes = answer == 0 ? (size_t)report.bytes[4] << 24 | (size_t)report.bytes[5] << 16 | (size_t)report.bytes[6] << 8 | report.bytes[7] : 0;
+    if (mark > LEVELSPRUCE_MARK_SURE || bytes > out.length || (mark < LEVELSPRUCE_MARK_DOUBTFUL && bytes != 0))
+        fail("a report that cannot be");
+    stands(store, 0, "a fetch changed the store");
+    stands(out, bytes, "a fetch changed output beyond its bytes");
+    stands(report, answer == 0 ? report.length : 0, "a refused fetch changed the record");
+    stands(state, mark != LEVELSPRUCE_MARK_NONE ? state.length : 0, "a fetch with no report changed the state");
+    put_back(l->state, state);
+    note(l, 1, answer ? answer : mark);
+    note(l, 2, (uint32_t)(bytes / (1 + 16 * l->payload)));
+}
+
+static void read_out(struct lent *l, struct program *g)
+{
+    static const struct kept nothing;
+    struct block state = lend_state(l, g), result = lend(RESULT, nothing, about(g, l->ports) * LEVELSPRUCE_PORT_BYTES);
+    const uint8_t (*rows)[16] = (const uint8_t (*)[16])rows_of(state);
+    uint8_t answer = levelspruce_receiver_ports(rows, state.length / 16, (uint8_t (*)[8])result.bytes, result.length / 8);
+
+    if (answer != 0 && answer != 9)
+        fail("an answer that reading the ports does not have");
+    stands(result, answer == 0 ? result.length : 0, "refused ports were written");
+    result = lend(RESULT, nothing, about(g, LEVELSPRUCE_REPLY_BYTES));
+    answer = levelspruce_receiver_reply(rows, state.length / 16, (uint8_t)byte_of(g), result.bytes, result.length);
+    if (answer != 0 && answer != 9)
+        fail("an answer that a reply does not have");
+    stands(result, answer == 0 ? result.length : 0, "a refused reply was written");
+    stands(state, 0, "reading out changed the state");
+}
+
+/* Some bytes of the state become any. */
+static void damage(struct lent *l, struct program *g)
+{
+    uint32_t at = number_of(g), i, n = byte_of(g) % 16;
+
+    for (i = 0; i <= n && l->state.length; i++)
+        l->state.bytes[(at + i) % l->state.length] = (uint8_t)byte_of(g);
+}
+
+int LLVMFuzzerTestOneInput(const uint8_t *data, size_t size)
+{
+    struct program g = { data, data + size };
+    struct lent l = { 0, 0, 0, { NULL, 0 }, { NULL, 0 }, { 0 } };
+
+    open_rooms();
+    turn = 0;
+    while (g.at < g.end)
+        switch (byte_of(&g) % 8) {
+        case 0: start(&l, &g); break;
+        case 1: { uint32_t port = number_of(&g), failed = byte_of(&g) < 16; frame(&l, &g, port, failed, (uint8_t)byte_of(&g)); break; }
+        case 2: frames(&l, &g); break;
+        case 3: fetch(&l, &g); break;
+        case 4: read_out(&l, &g); break;
+        case 5: damage(&l, &g); break;
+        case 6: l.tag[byte_of(&g) % LEVELSPRUCE_PORTS_MOST] = number_of(&g) % 4096; break;
+        default: fetch(&l, &g); fetch(&l, &g); break;
+        }
+    free(l.state.bytes);
+    free(l.store.bytes);
+    return 0;
+}
