@@ -1,7 +1,9 @@
 /*
  * levelspruce.h: the calls of Levelspruce for a C or C++ host.
  *
- * Link target/staticlib/libcard.a, which 'rt staticlib card' writes.
+ * Link target/staticlib/libcard.a, which 'rt staticlib card' writes, or what
+ * ./install puts below a prefix: pkg-config --cflags --libs levelspruce.
+ * docs/MANUAL.md says how a host uses the calls.
  *
  * For every call:
  * - The result is the answer number. Any answer but 0 is a refusal.
@@ -31,6 +33,12 @@
 #ifdef __cplusplus
 extern "C" {
 #endif
+
+/* The version of this header and of the archive that comes with it. */
+#define LEVELSPRUCE_VERSION "0.1.0"
+#define LEVELSPRUCE_VERSION_MAJOR 0
+#define LEVELSPRUCE_VERSION_MINOR 1
+#define LEVELSPRUCE_VERSION_PATCH 0
 
 /* Answers. */
 #define LEVELSPRUCE_ANSWER_DONE 0       /* done */
@@ -448,7 +456,9 @@ uint8_t levelspruce_receiver_start(uint32_t ports, uint32_t payload,
 /*
  * Takes a frame of a port. Hand over each frame of each port once, in the
  * order in which that port got them; fetch reports after each frame until none
- * is due.
+ * is due, or at an even pace. (Each report fetched moves the window on. A host
+ * that fetches at once moves with the slowest port that is readable, and a
+ * slower one that failed comes back behind the window and cannot join.)
  *
  *   port      the port, below the group's count
  *   failed    not 0 where the line has failed (a flagged frame): neither its

@@ -1,6 +1,6 @@
 /* Times spreading and joining of the proved code beside the same form in C, one after the other in one process, round by
  * round. A line for each size: the median of the rounds in nanoseconds a call, and the ratio to each compiler's. The last
- * lines are the greatest ratios.
+ * lines are the greatest ratios. With X of 1 the C library's memcpy, which is not of that form, stands beside them.
  */
 #define _POSIX_C_SOURCE 199309L
 #include "levelspruce.h"
@@ -16,6 +16,16 @@ call gcc_spread, gcc_join;
 call clang_spread, clang_join;
 #endif
 
+/* bounds no length, or the compiler makes its own loop of memcpy and does not call the library's */
+static uint8_t by_memcpy(uint32_t x, uint32_t p, const uint8_t *from, size_t from_length, uint8_t *to, size_t to_length)
+{
+    size_t n = (size_t)x * p;
+    if (from_length != n || to_length != n)
+        return 9;
+    memcpy(to, from, n);
+    return 0;
+}
+
 struct form {
     const char *name;
     call *spread, *join;
@@ -27,6 +37,7 @@ static const struct form forms[] = {
 #ifdef CLANG
     {"clang", clang_spread, clang_join},
 #endif
+    {"memcpy", by_memcpy, by_memcpy}, /* the last: for X of 1 alone */
 };
 
 enum { FORMS = sizeof forms / sizeof *forms, ROUNDS = 101, MOST = 64 * 2340, BYTES_A_ROUND = 400000 };
@@ -62,7 +73,8 @@ static void measure(const char *name, int join, uint32_t x, uint32_t p)
 {
     static double times[FORMS][ROUNDS];
     size_t n = (size_t)x * p;
-    for (int i = 0; i < FORMS; i++) {
+    int count = x == 1 ? FORMS : FORMS - 1;
+    for (int i = 0; i < count; i++) {
         memset(to, 0, n);
         round_of(join ? forms[i].join : forms[i].spread, x, p);
         if (i == 0)
@@ -73,14 +85,14 @@ static void measure(const char *name, int join, uint32_t x, uint32_t p)
         }
     }
     for (int k = 0; k < ROUNDS; k++)
-        for (int i = 0; i < FORMS; i++)
+        for (int i = 0; i < count; i++)
             times[i][k] = round_of(join ? forms[i].join : forms[i].spread, x, p);
     printf("%s\tX %u\tP %u", name, (unsigned)x, (unsigned)p);
-    for (int i = 0; i < FORMS; i++) {
+    for (int i = 0; i < count; i++) {
         qsort(times[i], ROUNDS, sizeof times[i][0], order);
         printf("\t%s %.0f ns", forms[i].name, times[i][ROUNDS / 2]);
     }
-    for (int i = 1; i < FORMS; i++) {
+    for (int i = 1; i < count; i++) {
         double ratio = times[0][ROUNDS / 2] / times[i][ROUNDS / 2];
         printf("\tto %s %.2f", forms[i].name, ratio);
         if (ratio > worst[i])
@@ -102,7 +114,7 @@ int main(void)
         for (int j = 0; j < 2; j++)
             for (int i = 0; i < 6; i++)
                 measure(join ? "join" : "spread", join, counts[i], payloads[j]);
-    for (int i = 1; i < FORMS; i++)
+    for (int i = 1; i < FORMS - 1; i++)
         printf("greatest ratio\tto %s %.2f\n", forms[i].name, worst[i]);
     return 0;
 }

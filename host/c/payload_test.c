@@ -94,7 +94,7 @@ static void refusals(void)
 
 static void frames(void)
 {
-    static const uint32_t sizes[] = { 1, 2, 7, 8, 9, 15, 16, 17, 63, 756, 757, 2339, 2340 };
+    static const uint32_t sizes[] = { 1, 2, 7, 8, 9, 15, 16, 17, 63, 64, 65, 127, 128, 129, 756, 757, 2339, 2340 };
     uint32_t x;
     size_t i;
     int held = 1;

@@ -9,6 +9,13 @@ build_c() {
     $archive_compiler -std=c99 $strict -O2 "$2" "$archive" -o "target/host/$1"
 }
 
+# build_link: the example link.
+build_link() {
+    mkdir -p target/host
+    # shellcheck disable=SC2086
+    $archive_compiler -std=c99 $strict -O2 host/link/*.c "$archive" -o target/host/link
+}
+
 # build_own NAME SOURCE COMPILER WORD..: a C or C++ program for this machine's own processor.
 build_own() {
     own_name=$1 own_source=$2
@@ -16,6 +23,15 @@ build_own() {
     mkdir -p target/host
     # shellcheck disable=SC2086
     "$@" $strict "$own_source" "$own_library" -o "target/host/$own_name"
+}
+
+# build_own_link NAME COMPILER WORD..: the example link for this machine's own processor.
+build_own_link() {
+    own_name=$1
+    shift
+    mkdir -p target/host
+    # shellcheck disable=SC2086
+    "$@" $strict host/link/*.c "$own_library" -o "target/host/$own_name"
 }
 
 # build_reference: the rules a second time.
@@ -39,4 +55,9 @@ build_differential() {
     build_reference &&
         rustc --edition 2021 -O host/differential/main.rs --extern reference=target/host/libreference.rlib \
             -C link-arg="$own_library" -o target/host/differential
+}
+
+# build_crossings: the program that runs the example link over made-up links.
+build_crossings() {
+    rustc --edition 2021 -O host/crossings/main.rs -o target/host/crossings
 }

@@ -2,6 +2,7 @@
 // X members are ranked 0 to X-1, and P is the payload of a member frame in bytes.
 mod answer;
 mod block;
+mod copy;
 mod plain;
 mod word;
 mod work;

@@ -1,5 +1,6 @@
-// The work under 0: by blocks where a block of eight by eight fits, else by plain loops.
+// The work under 0: a copy where there is one member, by blocks where a block of eight by eight fits, else by plain loops.
 use crate::block;
+use crate::copy;
 use crate::plain;
 ghost use mathlib.Core.Path.{_≡_};
 ghost use Prim.Native.Nat.{ℕ, _+_, _*_, _≤_, _<_};
@@ -13,7 +14,9 @@ pub(crate) fn join(x: usize, p: usize, members: &[u8], frame: &mut [u8])
     requires { ⌜ (length (now members) ≡ x * p) × (length (now frame) ≡ x * p) ⌝ }
     ensures { λ _. ⌜ now (frame .exit) ≡ groupFrame x p (rankedByte p (now (members .entry))) ⌝ }
 {
-    if (8 <= x) & (8 <= p) {
+    if x == 1 {
+        copy::run(members, 0, p, 0, frame);
+    } else if (8 <= x) & (8 <= p) {
         block::join(x, p, members, frame);
     } else {
         plain::join(x, p, members, frame);
@@ -25,7 +28,9 @@ pub(crate) fn spread(x: usize, p: usize, frame: &[u8], members: &mut [u8])
     requires { ⌜ (length (now frame) ≡ x * p) × (length (now members) ≡ x * p) ⌝ }
     ensures { λ _. ⌜ now (members .exit) ≡ allMembers x p (now (frame .entry)) ⌝ }
 {
-    if (8 <= x) & (8 <= p) {
+    if x == 1 {
+        copy::run(frame, 0, p, 0, members);
+    } else if (8 <= x) & (8 <= p) {
         block::join(p, x, frame, members);
     } else {
         plain::spread(x, p, frame, members);
@@ -43,7 +48,10 @@ pub(crate) fn join_from(
     requires { ⌜ (x ≤ length (now starts)) × ((r : ℕ) → r < x → getD (now starts) r 0 + p ≤ length (now store)) × (place + x * p ≤ length (now out)) ⌝ }
     ensures { λ _. ⌜ now (out .exit) ≡ fillAt place (x * p) (groupByte x (startedByte (now (starts .entry)) (now (store .entry)))) (now (out .entry)) ⌝ }
 {
-    if (8 <= x) & (8 <= p) {
+    if x == 1 {
+        let start = starts[0];
+        copy::run(store, start, p, place, out);
+    } else if (8 <= x) & (8 <= p) {
         block::join_from(x, p, starts, store, place, out);
     } else {
         plain::join_from(x, p, starts, store, place, out);

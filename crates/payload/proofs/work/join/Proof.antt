@@ -1,12 +1,17 @@
+use native.Mathlib.Omega.{arith}
 use borrow.Author.Needs.{needs}
+use Rattle.payload.proofs.Copies.{one-times, one-joined}
 use Rattle.payload.proofs.Frames.{eights}
 use Rattle.payload.proofs.work.join.Statement.{statement}
 use Rattle.payload.proofs.work.join.Tie as tie
 
+run-requires : tie.Need-run-requires
+run-requires c κs = omega (arith, one-times (c .before .before .before .before .args .x) (c .before .before .before .before .args .p) (c .before .if1 .taken))
+
 join-requires : tie.Need-join-requires
 join-requires c κs =
-    let e = eights (c .before .before .before .before .args .x) (c .before .before .before .before .args .p) (c .before .if1 .taken) in
-    (e .0, e .1, c .before .before .before .before .pre .0, c .before .before .before .before .pre .1)
+    let e = eights (c .before .before .before .before .before .args .x) (c .before .before .before .before .before .args .p) (c .before .if2 .taken) in
+    (e .0, e .1, c .before .before .before .before .before .pre .0, c .before .before .before .before .before .pre .1)
 
 join-requires-2 : tie.Need-join-requires-2
 join-requires-2 c κs = search needs
@@ -15,7 +20,9 @@ same-length : tie.Need-same-length
 same-length c = search needs
 
 returns : tie.Need-returns
-returns c = search needs
+returns c =
+    let a = c .before .before .before .before .before .before .before .args in
+    one-joined (a .x) (a .p) (c .before .before .before .before .if1 .taken) (a .members .now) (a .frame .now) _ (c .before .before .before .before .before .before .before .pre .1) (c .before .before .run .ensures)
 
 same-length-2 : tie.Need-same-length-2
 same-length-2 c = search needs
@@ -23,6 +30,22 @@ same-length-2 c = search needs
 returns-2 : tie.Need-returns-2
 returns-2 c = search needs
 
+same-length-3 : tie.Need-same-length-3
+same-length-3 c = search needs
+
+returns-3 : tie.Need-returns-3
+returns-3 c = search needs
+
 pub join-spec : {M : Type 1} → statement M
 join-spec =
-    tie.close (tie.spec join-requires join-requires-2 same-length returns same-length-2 returns-2)
+    tie.close
+    (tie.spec
+    run-requires
+    join-requires
+    join-requires-2
+    same-length
+    returns
+    same-length-2
+    returns-2
+    same-length-3
+    returns-3)

@@ -1,12 +1,24 @@
+use Prim.Native.Nat.{_<_}
+use native.Mathlib.Omega.{arith}
 use borrow.Author.Needs.{needs}
+use Rattle.payload.proofs.Copies.{one-times, one-from}
 use Rattle.payload.proofs.Frames.{eights}
 use Rattle.payload.proofs.work.join_from.Statement.{statement}
 use Rattle.payload.proofs.work.join_from.Tie as tie
 
+shared-slice-read-start : tie.Need-shared-slice-read-start
+shared-slice-read-start c = search needs
+
+run-requires : tie.Need-run-requires
+run-requires c κs =
+    let a = c .before .before .before .before .before .before .args in
+    let h : 0 < a .x = omega arith in
+    omega (arith, c .before .before .before .before .before .before .pre .1 0 h, one-times (a .x) (a .p) (c .before .before .if1 .taken))
+
 join-from-requires : tie.Need-join-from-requires
 join-from-requires c κs =
-    let e = eights (c .before .before .before .before .before .args .x) (c .before .before .before .before .before .args .p) (c .before .if1 .taken) in
-    (e .0, e .1, c .before .before .before .before .before .pre .0, c .before .before .before .before .before .pre .1, c .before .before .before .before .before .pre .2)
+    let e = eights (c .before .before .before .before .before .before .args .x) (c .before .before .before .before .before .before .args .p) (c .before .if2 .taken) in
+    (e .0, e .1, c .before .before .before .before .before .before .pre .0, c .before .before .before .before .before .before .pre .1, c .before .before .before .before .before .before .pre .2)
 
 join-from-requires-2 : tie.Need-join-from-requires-2
 join-from-requires-2 c κs = search needs
@@ -15,7 +27,9 @@ same-length : tie.Need-same-length
 same-length c = search needs
 
 returns : tie.Need-returns
-returns c = search needs
+returns c =
+    let a = c .before .before .before .before .before .before .before .before .before .args in
+    one-from (a .x) (a .p) (c .before .before .before .before .before .if1 .taken) (a .starts .now) (a .store .now) (a .place) (a .out .now) _ (c .before .before .run .ensures)
 
 same-length-2 : tie.Need-same-length-2
 same-length-2 c = search needs
@@ -23,7 +37,23 @@ same-length-2 c = search needs
 returns-2 : tie.Need-returns-2
 returns-2 c = search needs
 
+same-length-3 : tie.Need-same-length-3
+same-length-3 c = search needs
+
+returns-3 : tie.Need-returns-3
+returns-3 c = search needs
+
 pub join-from-spec : {M : Type 1} → statement M
 join-from-spec =
     tie.close
-    (tie.spec join-from-requires join-from-requires-2 same-length returns same-length-2 returns-2)
+    (tie.spec
+    shared-slice-read-start
+    run-requires
+    join-from-requires
+    join-from-requires-2
+    same-length
+    returns
+    same-length-2
+    returns-2
+    same-length-3
+    returns-3)

@@ -1,0 +1,150 @@
+//! Runs the example link over many made-up links, a file through each, and holds what it prints and writes to what went
+//! in, byte for byte. Every run makes the same ones.
+//!
+//! Usage: crossings FOLDER COMMAND WORD.., where FOLDER takes files and COMMAND runs the example link.
+
+#[path = "../differential/random.rs"]
+#[allow(dead_code)] // not all of it is used here
+mod random;
+
+mod lines;
+mod manners;
+
+use lines::Lines;
+use random::Random;
+use std::process::{Command, Output};
+
+const LINKS: u64 = 300;
+const EPOCHS: u64 = 160;
+
+pub struct Program {
+    words: Vec<String>,
+    folder: String,
+}
+
+impl Program {
+    pub fn run(&self, choices: &[String]) -> Output {
+        Command::new(&self.words[0]).args(&self.words[1..]).args(choices).output().expect("the example link starts")
+    }
+
+    pub fn path(&self, name: &str) -> String {
+        format!("{}/{}", self.folder, name)
+    }
+}
+
+pub struct Count {
+    passed: u32,
+    failed: u32,
+}
+
+impl Count {
+    pub fn note(&mut self, name: &str, held: bool) {
+        if held {
+            self.passed += 1;
+        } else {
+            self.failed += 1;
+        }
+        println!("{}\t{}", if held { "ok" } else { "failed" }, name);
+    }
+}
+
+/// What should have been written: of each sure report the bytes of the file that its epoch carried.
+fn sure_bytes(lines: &Lines, epochs: u64, file: &[u8]) -> Vec<u8> {
+    let mut starts = vec![0u64];
+    for epoch in 0..epochs {
+        starts.push(starts[epoch as usize] + lines.carried(epoch));
+    }
+    let mut bytes = Vec::new();
+    for report in lines.reports.iter().filter(|r| r.mark == "sure") {
+        let epoch = report.epoch as usize;
+        let cut = |place: u64| (place as usize).min(file.len());
+        bytes.extend(&file[cut(starts[epoch])..cut(starts[epoch + 1])]);
+    }
+    bytes
+}
+
+/// In order, with no gap but where receiving began anew.
+fn in_order(lines: &Lines) -> bool {
+    let anew = |i: usize| lines.begun.iter().any(|(_, reports)| *reports == i);
+    lines.reports.windows(2).enumerate().all(|(i, pair)| pair[1].epoch == pair[0].epoch + 1 || pair[1].epoch > pair[0].epoch && anew(i + 1))
+}
+
+/// The first epoch reported is the second to start after the foremost frame at the beginning, which came in that frame
+/// time or, where the beginning came before it, in the one before.
+fn first_right(lines: &Lines, time: u64) -> bool {
+    let second = |foremost: u64| foremost / 16 + 2;
+    let newest = time - lines.least_delay();
+    lines.reports.first().is_some_and(|r| r.epoch == second(newest) || r.epoch == second(newest - 1))
+}
+
+/// Where no port failed: begun within 47 frames, every epoch from the first reported on is reported, and all are sure but
+/// those that a damaged packet rules, which are held.
+fn whole(lines: &Lines, epochs: u64) -> bool {
+    let begun = lines.begun.len() == 1 && lines.begun[0].0 <= lines.last_first_frame() + 46 && first_right(lines, lines.begun[0].0);
+    let to_the_end = lines.reports.last().is_some_and(|r| r.epoch == epochs - 1);
+    let marked = |r: &lines::Report| {
+        let damaged = lines.damaged.iter().any(|e| e + 1 == r.epoch);
+        r.mark == if damaged { "held" } else { "sure" } && r.bytes == if damaged { 0 } else { lines.carried(r.epoch) }
+    };
+    begun && to_the_end && lines.reports.iter().all(marked)
+}
+
+struct Crossed {
+    held: bool,
+    failures: usize,
+    sure: usize,
+    bytes: usize,
+}
+
+fn cross(program: &Program, seed: u64) -> Crossed {
+    let mut random = Random::new(seed);
+    let mut file = vec![0; random.below(400_000) as usize];
+    random.fill(&mut file);
+    let (from, to) = (program.path("crossing.in"), program.path("crossing.out"));
+    std::fs::write(&from, &file).expect("the file is written");
+    let mut choices: Vec<String> = vec!["--seed".into(), seed.to_string(), "--file".into(), from, "--out".into(), to.clone()];
+    if random.below(3) == 0 {
+        choices.extend(["--fail".into(), "none".into()]);
+    }
+    // enough for the slowest answers
+    let epochs = EPOCHS + random.below(4) * 64;
+    choices.extend(["--epochs".into(), epochs.to_string()]);
+
+    let output = program.run(&choices);
+    let text = String::from_utf8(output.stdout).expect("the lines are text");
+    let lines = lines::read(&text);
+    let came = std::fs::read(&to).expect("what came out is read");
+    let sure = lines.reports.iter().filter(|r| r.mark == "sure").count();
+    let right = came == sure_bytes(&lines, epochs, &file);
+    let ended = output.status.success() && ["each sure byte was right", "no byte was sure"].contains(&lines.last.as_str());
+    let bears = lines.failures > 0 || lines.spread() + 16 > lines.window || whole(&lines, epochs);
+    let held = right && ended && in_order(&lines) && bears;
+    if !held {
+        println!("differs\tseed {seed}\tbytes right {right}\tended {ended}\tin order {}\twhole {bears}\t{}", in_order(&lines), choices.join(" "));
+    }
+    Crossed { held, failures: lines.failures, sure, bytes: came.len() }
+}
+
+fn main() {
+    let words: Vec<String> = std::env::args().skip(1).collect();
+    let program = Program { folder: words[0].clone(), words: words[1..].to_vec() };
+    let mut count = Count { passed: 0, failed: 0 };
+
+    manners::check(&program, &mut count);
+
+    let crossed: Vec<Crossed> = (1..=LINKS).map(|seed| cross(&program, seed)).collect();
+    let total = |f: fn(&Crossed) -> usize| crossed.iter().map(f).sum::<usize>();
+    println!(
+        "crossed\tlinks {}\twith failures {}\tsure epochs {}\tbytes {}",
+        crossed.len(),
+        total(|c| usize::from(c.failures > 0)),
+        total(|c| c.sure),
+        total(|c| c.bytes)
+    );
+    count.note("files cross made-up links byte for byte", crossed.iter().all(|c| c.held));
+    count.note("most made-up links carry bytes", 4 * total(|c| usize::from(c.bytes > 0)) > 3 * crossed.len());
+    count.note("many have failures, many have none", (60..=240).contains(&total(|c| usize::from(c.failures > 0))));
+
+    println!("{} passed, {} failed", count.passed, count.failed);
+    std::process::exit(i32::from(count.failed != 0));
+}

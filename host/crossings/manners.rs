@@ -1,0 +1,85 @@
+//! How the example link answers on the command line.
+
+use crate::{lines, Count, Program};
+
+/// Wrong choices, and a word that the answer must have.
+const WRONG: [(&[&str], &str); 22] = [
+    (&["--slot", "3"], "no choice '--slot'"),
+    (&["file"], "no choice 'file'"),
+    (&["--slots"], "--slots wants a value"),
+    (&["--slots", "0"], "from 1 to 64"),
+    (&["--slots", "65"], "from 1 to 64"),
+    (&["--slots", "3", "--slots", "3"], "twice"),
+    (&["--payload", "2341"], "from 1 to 2340"),
+    (&["--window", "15"], "from 16 to 2048"),
+    (&["--window", "-1"], "from 16 to 2048"),
+    (&["--window", "1e2"], "from 16 to 2048"),
+    (&["--slots", "3", "--delays", "1,2"], "each of 3 slots"),
+    (&["--slots", "2", "--delays", "1,2,3"], "each of 2 slots"),
+    (&["--delays", "1,,2"], "each of 3 slots"),
+    (&["--delays", "1,2,"], "each of 3 slots"),
+    (&["--ports", "0,0"], "each port once"),
+    (&["--ports", "0,2"], "up to 1"),
+    (&["--damage", "3"], "EPOCH:SLOT"),
+    (&["--damage", "3:4"], "EPOCH:SLOT"),
+    (&["--fail", "1:9-8"], "FROM not above TO"),
+    (&["--seed", "99999999999999999999999"], "--seed"),
+    (&["--file", "/no/such/file"], "cannot read"),
+    (&["--out", "/no/such/folder/file"], "cannot write"),
+];
+
+fn refused(program: &Program, choices: &[&str], wanted: &str) -> bool {
+    let output = program.run(&choices.iter().map(|c| c.to_string()).collect::<Vec<_>>());
+    let said = String::from_utf8_lossy(&output.stderr).into_owned();
+    let held = output.status.code() == Some(2) && output.stdout.is_empty() && said.lines().count() == 1 && said.contains(wanted);
+    if !held {
+        println!("differs\t{choices:?}\tstatus {:?}\tsaid {said:?}", output.status.code());
+    }
+    held
+}
+
+fn said(program: &Program, choices: &[&str]) -> (Option<i32>, String) {
+    let output = program.run(&choices.iter().map(|c| c.to_string()).collect::<Vec<_>>());
+    (output.status.code(), String::from_utf8_lossy(&output.stdout).into_owned())
+}
+
+pub fn check(program: &Program, count: &mut Count) {
+    let held = WRONG.iter().filter(|(choices, wanted)| refused(program, choices, wanted)).count();
+    count.note("wrong choices get one clear line and status 2", held == WRONG.len());
+
+    let (status, help) = said(program, &["--help"]);
+    let named = ["--slots", "--payload", "--window", "--delays", "--first", "--seed", "--epochs", "--damage", "--fail", "--file", "--out", "--quiet"];
+    count.note("--help names the choices", status == Some(0) && named.iter().all(|n| help.contains(n)));
+
+    let (status, text) = said(program, &[]);
+    let read = lines::read(&text);
+    let marked = |mark: &str| read.reports.iter().filter(|r| r.mark == mark).count();
+    let told = |line: &str| text.lines().any(|l| l == line);
+    count.note("the default run ends well", status == Some(0) && read.last == "each sure byte was right");
+    count.note("a damaged packet holds the epoch that it rules", read.reports.iter().any(|r| r.epoch == read.damaged[0] + 1 && r.mark == "held"));
+    count.note(
+        "a member fails, is set aside and comes back",
+        told("port\t5\tFAIL\t2") && told("slot\t2\tDNU\t2") && told("port\t5\tOK\t2") && told("slot\t2\tNORM\t2"),
+    );
+    count.note("a member is added and one removed", told("slot\t5\tEOS\t5") && told("slot\t0\tIDLE\t255") && told("port\t3\tIDLE\t255"));
+    let counted = ["held", "doubtful", "sure"].iter().all(|m| text.contains(&format!("\n{m}\tepochs\t{}", marked(m))));
+    count.note("the end counts the epochs by their marks", counted && marked("sure") > 80);
+
+    let (status, quiet) = said(program, &["--quiet"]);
+    count.note("--quiet prints the end alone", status == Some(0) && text.ends_with(&quiet) && quiet.lines().count() < 15);
+
+    let (_, at_once) = said(program, &["--slots", "2", "--delays", "0,40", "--fail", "1:400-500", "--at-once"]);
+    let (_, in_time) = said(program, &["--slots", "2", "--delays", "0,40", "--fail", "1:400-500"]);
+    let readable = |text: &str| text.matches("port\t1\treadable").count();
+    count.note("the slowest port comes back at an even pace of reports, and not where they are fetched at once", readable(&at_once) == 1 && readable(&in_time) == 2);
+
+    let (_, early) = said(program, &["--slots", "2", "--window", "128", "--delays", "0,40", "--fail", "1:0-200"]);
+    let (_, late) = said(program, &["--slots", "2", "--window", "128", "--delays", "0,40", "--fail", "1:0-200", "--late", "40"]);
+    count.note("a port that comes later may be slower where reports are late", readable(&early) == 0 && readable(&late) == 1);
+
+    let (_, waiting) = said(program, &["--slots", "2", "--remove", "40:0,40:1", "--add", "0:0,0:1"]);
+    count.note("a command under an open wait is answered 3 and given again", waiting.contains("remove\tslot\t1\tanswer\t3\n") && waiting.contains("remove\tslot\t1\tanswer\t0\n"));
+
+    let (_, unheard) = said(program, &["--slots", "2", "--back", "8000", "--lapse", "3", "--epochs", "40", "--remove", "9:0,9:1"]);
+    count.note("a wait that nobody answers lapses", unheard.contains("wait\tclosed") && unheard.contains("remove\tslot\t1\tanswer\t0\n"));
+}

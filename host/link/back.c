@@ -1,0 +1,32 @@
+#include "back.h"
+
+#include <string.h>
+
+#include "says.h"
+
+void back_open(struct back *b, const struct choices *c)
+{
+    memset(b, 0, sizeof *b);
+    b->delay = c->back;
+    must(levelspruce_sender_start(1, c->number, b->state, sizeof b->state), "levelspruce_sender_start");
+}
+
+void back_start_epoch(struct back *b, const uint8_t *reply)
+{
+    must(levelspruce_sender_start_epoch(b->state, sizeof b->state, 0, reply[LEVELSPRUCE_REPLY_MST], reply[LEVELSPRUCE_REPLY_RS_ACK]),
+         "levelspruce_sender_start_epoch");
+    must(levelspruce_sender_packet(b->state, sizeof b->state, 0, b->packets[b->end % BACK_MOST], LEVELSPRUCE_PACKET_BYTES),
+         "levelspruce_sender_packet");
+    b->end++;
+}
+
+int back_next(struct back *b, uint64_t time, uint8_t *fields)
+{
+    const uint8_t *packet = b->packets[b->next % BACK_MOST];
+
+    /* the packet's last frame is the sixteenth of its epoch */
+    if (b->next == b->end || b->next * 16 + 15 + b->delay > time)
+        return 0;
+    b->next++;
+    return levelspruce_packet_read(packet, LEVELSPRUCE_PACKET_BYTES, fields, LEVELSPRUCE_FIELDS_BYTES) == LEVELSPRUCE_ANSWER_DONE;
+}

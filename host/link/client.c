@@ -1,0 +1,150 @@
+#include "client.h"
+
+#include <stdio.h>
+#include <stdlib.h>
+#include <string.h>
+
+#include "text.h"
+
+static int no_memory(void)
+{
+    fprintf(stderr, "link: there is not enough memory for the file\n");
+    return -1;
+}
+
+static int open_text(struct client *c)
+{
+    c->length = sizeof built_in_text - 1;
+    c->repeats = 1;
+    c->bytes = malloc(c->length);
+    if (c->bytes == NULL)
+        return no_memory();
+    memcpy(c->bytes, built_in_text, c->length);
+    return 0;
+}
+
+/* Reads a file to its end, of whatever length it is. */
+static int open_file(struct client *c, const char *file)
+{
+    FILE *from = fopen(file, "rb");
+    size_t room = 0, got = 1;
+
+    if (from == NULL) {
+        fprintf(stderr, "link: cannot read the file '%s'\n", file);
+        return -1;
+    }
+    while (got > 0) {
+        if (c->length == room) {
+            uint8_t *more = realloc(c->bytes, room = 2 * room + 65536);
+
+            if (more == NULL) {
+                fclose(from);
+                return no_memory();
+            }
+            c->bytes = more;
+        }
+        got = fread(c->bytes + c->length, 1, room - c->length, from);
+        c->length += got;
+    }
+    if (ferror(from)) {
+        fprintf(stderr, "link: cannot read the file '%s'\n", file);
+        fclose(from);
+        return -1;
+    }
+    fclose(from);
+    return 0;
+}
+
+int client_open(struct client *c, const char *file)
+{
+    memset(c, 0, sizeof *c);
+    if ((file == NULL ? open_text(c) : open_file(c, file)) != 0)
+        return -1;
+    c->came = malloc(c->length + 1);
+    c->has_come = calloc(c->length + 1, 1);
+    return c->came == NULL || c->has_come == NULL ? no_memory() : 0;
+}
+
+int client_is_sent(const struct client *c)
+{
+    return c->sent >= c->length;
+}
+
+/* How many of the bytes from a place on, count at most, lie one behind the other; *bytes is NULL where they are zeros. */
+static size_t run_from(const struct client *c, uint64_t place, size_t count, const uint8_t **bytes)
+{
+    uint64_t at = c->repeats ? place % c->length : place;
+
+    *bytes = at < c->length ? c->bytes + at : NULL;
+    return *bytes != NULL && c->length - at < count ? (size_t)(c->length - at) : count;
+}
+
+void client_take(struct client *c, uint8_t *bytes, size_t count)
+{
+    while (count > 0) {
+        const uint8_t *from;
+        size_t run = run_from(c, c->sent, count, &from);
+
+        if (from != NULL)
+            memcpy(bytes, from, run);
+        else
+            memset(bytes, 0, run);
+        bytes += run;
+        count -= run;
+        c->sent += run;
+    }
+}
+
+size_t client_own(const struct client *c, uint64_t from, size_t count)
+{
+    if (c->repeats || from + count <= c->length)
+        return count;
+    return from < c->length ? (size_t)(c->length - from) : 0;
+}
+
+static int all_zero(const uint8_t *bytes, size_t count)
+{
+    size_t i;
+
+    for (i = 0; i < count && bytes[i] == 0; i++)
+        ;
+    return i == count;
+}
+
+int client_sent(const struct client *c, uint64_t from, const uint8_t *bytes, size_t count)
+{
+    while (count > 0) {
+        const uint8_t *sent;
+        size_t run = run_from(c, from, count, &sent);
+
+        if (sent != NULL ? memcmp(bytes, sent, run) != 0 : !all_zero(bytes, run))
+            return 0;
+        bytes += run;
+        count -= run;
+        from += run;
+    }
+    return 1;
+}
+
+void client_came(struct client *c, uint64_t from, const uint8_t *bytes, size_t count)
+{
+    size_t i, own = client_own(c, from, count);
+
+    /* of a text that repeats, once is enough */
+    for (i = 0; i < own && i < c->length; i++) {
+        c->came[(from + i) % c->length] = bytes[i];
+        c->has_come[(from + i) % c->length] = 1;
+    }
+}
+
+int client_all_came(const struct client *c)
+{
+    return memchr(c->has_come, 0, c->length) == NULL;
+}
+
+void client_close(struct client *c)
+{
+    free(c->bytes);
+    free(c->came);
+    free(c->has_come);
+}

@@ -1,0 +1,236 @@
+/*
+ * An example host: a file or a text crosses a link of one to sixty-four lines.
+ *
+ * Time is counted in frames, 125 microseconds each on a real card. In each frame time every slot sends a frame, every line
+ * brings one to its port, the receiver is asked for reports, and what the far end replied comes back to the sender.
+ */
+#include <stdio.h>
+#include <string.h>
+
+#include "back.h"
+#include "choices.h"
+#include "client.h"
+#include "line.h"
+#include "receiving.h"
+#include "says.h"
+#include "sending.h"
+#include "tally.h"
+
+enum { EPOCH_FRAMES = 16, EPOCHS_WITH_NOTHING_MOST = 4096 };
+
+static const char help[] =
+#include "help.h"
+    ;
+
+struct link {
+    struct choices choices;
+    struct client client;
+    struct sending sending;
+    struct line lines[LINES_MOST];
+    uint32_t slot_of[LINES_MOST]; /* of each port */
+    uint64_t least_delay;
+    struct receiving receiving;
+    uint64_t next_fetch; /* the frame time before which no report is fetched */
+    uint64_t next_epoch; /* the epoch after the one reported last */
+    struct back back;
+    struct says says;
+    struct tally tally;
+};
+
+static int link_open(struct link *l)
+{
+    struct choices *c = &l->choices;
+    uint32_t slot, most_delay = 0;
+
+    if (client_open(&l->client, c->file) != 0 || tally_open(&l->tally, c->out, c->doubtful) != 0)
+        return -1;
+    l->least_delay = c->delay[0];
+    for (slot = 0; slot < c->slots; slot++) {
+        l->slot_of[c->port[slot]] = slot;
+        if (c->delay[slot] < l->least_delay)
+            l->least_delay = c->delay[slot];
+        if (c->delay[slot] > most_delay)
+            most_delay = c->delay[slot];
+        if (line_open(&l->lines[slot], c->delay[slot], c->first[slot], c->payload) != 0)
+            break;
+    }
+    if (slot < c->slots || sending_open(&l->sending, c) != 0 || receiving_open(&l->receiving, c) != 0) {
+        fprintf(stderr, "link: there is not enough memory for a link of this size\n");
+        return -1;
+    }
+    if (most_delay - l->least_delay > c->window - LEVELSPRUCE_WINDOW_LEAST)
+        fprintf(stderr, "link: the delays differ by more than the window less %d frames, so receiving may not begin\n", LEVELSPRUCE_WINDOW_LEAST);
+    back_open(&l->back, c);
+    says_link(&l->says, c);
+    return 0;
+}
+
+static void link_close(struct link *l)
+{
+    uint32_t slot;
+
+    for (slot = 0; slot < l->choices.slots; slot++)
+        line_close(&l->lines[slot]);
+    receiving_close(&l->receiving);
+    sending_close(&l->sending);
+    client_close(&l->client);
+}
+
+/* The epoch that a report's number means: the last one of that number that can have come by now. */
+static uint64_t epoch_of(const struct link *l, uint8_t number, uint64_t time)
+{
+    uint64_t latest = (time - l->least_delay) / EPOCH_FRAMES;
+
+    return latest - (latest + l->choices.number + 256 - number) % 256;
+}
+
+/* Fetches a report if one is due. */
+static int fetch(struct link *l, uint64_t time)
+{
+    struct report report;
+    uint64_t epoch;
+
+    if (!receiving_fetch(&l->receiving, &report))
+        return 0;
+    epoch = epoch_of(l, report.number, time);
+    tally_report(&l->tally, epoch, &report, l->receiving.out, &l->sending, &l->client, &l->says);
+    /* epochs are left out where receiving began anew */
+    l->next_fetch = time + EPOCH_FRAMES + (epoch == l->next_epoch ? 0 : l->choices.late);
+    l->next_epoch = epoch + 1;
+    return 1;
+}
+
+/*
+ * Fetches what is due, at an even pace of one report in sixteen frames, as a client is clocked out. Each report fetched
+ * moves the window on, so a host that fetches as soon as it can moves with the slowest port that it hears: then a slower
+ * one that failed comes back behind the window and cannot join any more.
+ */
+static void fetch_in_time(struct link *l, uint64_t time)
+{
+    while ((l->choices.at_once || time >= l->next_fetch) && fetch(l, time))
+        ;
+}
+
+static int has_failed(const struct choices *c, uint32_t port, uint64_t time)
+{
+    size_t i;
+
+    for (i = 0; i < c->failures.count; i++)
+        if (c->failures.each[i].port == port && c->failures.each[i].from <= time && time <= c->failures.each[i].to)
+            return 1;
+    return 0;
+}
+
+/* Hands a frame over. Where it lies outside the window, a report makes room for it: 0 if none is due. */
+static int hand(struct link *l, uint32_t port, const uint8_t *frame, uint64_t time)
+{
+    while (!receiving_frame(&l->receiving, port, frame))
+        if (!fetch(l, time))
+            return 0;
+    return 1;
+}
+
+/* What a line brings to its port in a frame time. A frame that could not be handed over stays, and those behind it wait. */
+static void bring(struct link *l, uint32_t port, uint64_t time)
+{
+    struct line *line = &l->lines[l->slot_of[port]];
+    int failed = has_failed(&l->choices, port, time);
+    const uint8_t *frame;
+
+    if (failed) {
+        receiving_failed(&l->receiving, port);
+        fetch_in_time(l, time);
+    }
+    while ((frame = line_next(line, time)) != NULL && (failed || hand(l, port, frame, time))) {
+        line_take(line);
+        if (!failed)
+            fetch_in_time(l, time);
+    }
+}
+
+/* Both ends start an epoch: the near end's goes out on all lines, the far end's has the reply in it. */
+static void start_epoch(struct link *l, uint64_t epoch)
+{
+    uint8_t reply[LEVELSPRUCE_REPLY_BYTES];
+
+    sending_start_epoch(&l->sending, epoch, &l->client, &l->says);
+    receiving_reply(&l->receiving, (uint8_t)(l->choices.number + epoch), reply);
+    back_start_epoch(&l->back, reply);
+    says_progress(epoch, l->client.sent);
+}
+
+static void receive(struct link *l, uint64_t time)
+{
+    uint8_t ports[LINES_MOST][LEVELSPRUCE_PORT_BYTES], fields[LEVELSPRUCE_FIELDS_BYTES], reply[LEVELSPRUCE_REPLY_BYTES];
+    uint32_t port;
+
+    for (port = 0; port < l->choices.slots; port++)
+        bring(l, port, time);
+    if (!l->choices.quiet) {
+        receiving_ports(&l->receiving, ports);
+        receiving_reply(&l->receiving, 0, reply);
+        says_ports(&l->says, (const uint8_t(*)[LEVELSPRUCE_PORT_BYTES])ports, reply[LEVELSPRUCE_REPLY_RS_ACK], time);
+    }
+    while (back_next(&l->back, time, fields))
+        sending_told(&l->sending, fields, &l->says);
+}
+
+/* Whether another epoch is to be sent. A file that no member carries for long is given up. */
+static int goes_on(const struct link *l, uint64_t epoch)
+{
+    const struct choices *c = &l->choices;
+
+    if (epoch < c->epochs)
+        return 1;
+    return c->whole_file && !client_is_sent(&l->client) && (l->client.sent > 0 || epoch < c->epochs + EPOCHS_WITH_NOTHING_MOST);
+}
+
+static int all_empty(const struct link *l)
+{
+    uint32_t slot;
+
+    for (slot = 0; slot < l->choices.slots; slot++)
+        if (!line_is_empty(&l->lines[slot]))
+            return 0;
+    return 1;
+}
+
+static void run(struct link *l)
+{
+    uint64_t time, last;
+
+    for (time = 0; time % EPOCH_FRAMES != 0 || goes_on(l, time / EPOCH_FRAMES); time++) {
+        if (time % EPOCH_FRAMES == 0)
+            start_epoch(l, time / EPOCH_FRAMES);
+        sending_frame(&l->sending, time, &l->client, l->lines);
+        receive(l, time);
+    }
+    /* what is still on its way; lines that the receiver no longer takes from are left */
+    for (last = time + DELAY_MOST + LEVELSPRUCE_WINDOW_MOST; time < last && !all_empty(l); time++)
+        receive(l, time);
+    while (fetch(l, time))
+        ;
+}
+
+int main(int count, char **words)
+{
+    static struct link l;
+    int status;
+
+    if (choices_read(&l.choices, count - 1, words + 1) != 0)
+        return 2;
+    if (l.choices.help) {
+        fputs(help, stdout);
+        return 0;
+    }
+    if (link_open(&l) != 0)
+        return 2;
+    run(&l);
+    status = tally_close(&l.tally, &l.client);
+    link_close(&l);
+    if (fflush(stdout) != 0 || ferror(stdout)) {
+        fprintf(stderr, "link: the lines could not be written\n");
+        return 2;
+    }
+    return status;
+}

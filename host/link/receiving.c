@@ -1,0 +1,77 @@
+#include "receiving.h"
+
+#include <stdlib.h>
+#include <string.h>
+
+#include "says.h"
+
+int receiving_open(struct receiving *r, const struct choices *c)
+{
+    memset(r, 0, sizeof *r);
+    r->ports = c->slots;
+    r->payload = c->payload;
+    r->rows = LEVELSPRUCE_RECEIVER_ROWS(c->slots);
+    r->store_bytes = LEVELSPRUCE_STORE_BYTES(c->slots, c->payload, c->window);
+    r->out_bytes = LEVELSPRUCE_OUTPUT_BYTES(c->slots, c->payload);
+    r->state = malloc(r->rows * sizeof r->state[0]);
+    r->store = malloc(r->store_bytes);
+    r->out = malloc(r->out_bytes);
+    r->nothing = calloc(r->payload, 1);
+    if (r->state == NULL || r->store == NULL || r->out == NULL || r->nothing == NULL)
+        return -1;
+    must(levelspruce_receiver_start(c->slots, c->payload, c->window, r->store_bytes, r->state, r->rows), "levelspruce_receiver_start");
+    return 0;
+}
+
+int receiving_frame(struct receiving *r, uint32_t port, const uint8_t *frame)
+{
+    uint8_t answer = levelspruce_receiver_frame(r->state, r->rows, port, 0, frame[r->payload], frame, r->payload, r->store, r->store_bytes);
+
+    if (answer == LEVELSPRUCE_ANSWER_OUTSIDE)
+        return 0;
+    /* A port that is not in step yet, or no more, is nothing to stop for: the next frames bring it back. */
+    if (answer != LEVELSPRUCE_ANSWER_STEP)
+        must(answer, "levelspruce_receiver_frame");
+    return 1;
+}
+
+void receiving_failed(struct receiving *r, uint32_t port)
+{
+    uint8_t answer = levelspruce_receiver_frame(r->state, r->rows, port, 1, 0, r->nothing, r->payload, r->store, r->store_bytes);
+
+    if (answer != LEVELSPRUCE_ANSWER_FAILED)
+        must(answer, "levelspruce_receiver_frame");
+}
+
+int receiving_fetch(struct receiving *r, struct report *report)
+{
+    uint8_t record[LEVELSPRUCE_REPORT_BYTES];
+    const uint8_t *count = record + LEVELSPRUCE_REPORT_COUNT;
+
+    must(levelspruce_receiver_fetch(r->state, r->rows, r->store, r->store_bytes, r->out, r->out_bytes, record, sizeof record),
+         "levelspruce_receiver_fetch");
+    report->mark = record[LEVELSPRUCE_REPORT_MARK];
+    report->number = record[LEVELSPRUCE_REPORT_EPOCH];
+    report->x = record[LEVELSPRUCE_REPORT_X];
+    report->bytes = (size_t)count[0] << 24 | (size_t)count[1] << 16 | (size_t)count[2] << 8 | count[3];
+    return report->mark != LEVELSPRUCE_MARK_NONE;
+}
+
+void receiving_ports(const struct receiving *r, uint8_t (*ports)[LEVELSPRUCE_PORT_BYTES])
+{
+    must(levelspruce_receiver_ports((const uint8_t(*)[LEVELSPRUCE_ROW_BYTES])r->state, r->rows, ports, r->ports), "levelspruce_receiver_ports");
+}
+
+void receiving_reply(const struct receiving *r, uint8_t number, uint8_t *reply)
+{
+    must(levelspruce_receiver_reply((const uint8_t(*)[LEVELSPRUCE_ROW_BYTES])r->state, r->rows, number, reply, LEVELSPRUCE_REPLY_BYTES),
+         "levelspruce_receiver_reply");
+}
+
+void receiving_close(struct receiving *r)
+{
+    free(r->state);
+    free(r->store);
+    free(r->out);
+    free(r->nothing);
+}

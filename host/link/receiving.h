@@ -1,0 +1,45 @@
+/* The receiving end: the receiver, and what is lent to it. */
+#ifndef RECEIVING_H
+#define RECEIVING_H
+
+#include <levelspruce.h>
+
+#include "choices.h"
+
+struct receiving {
+    uint32_t ports;
+    size_t payload;
+    uint8_t (*state)[LEVELSPRUCE_ROW_BYTES];
+    size_t rows;
+    uint8_t *store;
+    size_t store_bytes;
+    uint8_t *out;
+    size_t out_bytes;
+    uint8_t *nothing; /* the payload of a frame that came flagged */
+};
+
+struct report {
+    uint8_t mark, number, x;
+    size_t bytes; /* of out */
+};
+
+/* 0, or -1 where there is no memory. */
+int receiving_open(struct receiving *r, const struct choices *c);
+
+/* Hands a frame over: its payload, and its H4 byte behind it. 0 where it has to be handed again after a report. */
+int receiving_frame(struct receiving *r, uint32_t port, const uint8_t *frame);
+
+/* A frame that came flagged. */
+void receiving_failed(struct receiving *r, uint32_t port);
+
+/* Fetches a report. 0 where none is due. */
+int receiving_fetch(struct receiving *r, struct report *report);
+
+void receiving_ports(const struct receiving *r, uint8_t (*ports)[LEVELSPRUCE_PORT_BYTES]);
+
+/* The reply for the packets of an epoch. */
+void receiving_reply(const struct receiving *r, uint8_t number, uint8_t *reply);
+
+void receiving_close(struct receiving *r);
+
+#endif

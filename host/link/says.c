@@ -1,0 +1,187 @@
+#include "says.h"
+
+#include <inttypes.h>
+#include <stdio.h>
+#include <stdlib.h>
+#include <string.h>
+#include <time.h>
+
+void must(uint8_t answer, const char *call)
+{
+    if (answer == LEVELSPRUCE_ANSWER_DONE)
+        return;
+    fflush(stdout);
+    fprintf(stderr, "link: %s was answered %d\n", call, answer);
+    exit(2);
+}
+
+static const char *word_name(uint8_t word)
+{
+    switch (word) {
+    case LEVELSPRUCE_WORD_ADD:
+        return "ADD";
+    case LEVELSPRUCE_WORD_NORM:
+        return "NORM";
+    case LEVELSPRUCE_WORD_EOS:
+        return "EOS";
+    case LEVELSPRUCE_WORD_DNU:
+        return "DNU";
+    default:
+        return "IDLE";
+    }
+}
+
+static void says_events(const char *what, const struct events *events)
+{
+    size_t i;
+
+    for (i = 0; i < events->count; i++)
+        printf("plan\t%s\tepoch\t%" PRIu64 "\tslot\t%" PRIu32 "\n", what, events->each[i].epoch, events->each[i].slot);
+}
+
+void says_link(struct says *s, const struct choices *c)
+{
+    uint32_t slot;
+    size_t i;
+
+    memset(s, 0, sizeof *s);
+    s->quiet = c->quiet;
+    s->slots = c->slots;
+    s->x = LEVELSPRUCE_MEMBERS_MOST + 1;
+    for (slot = 0; slot < LINES_MOST; slot++) {
+        s->board[LEVELSPRUCE_BOARD_ROWS + 2 * slot] = LEVELSPRUCE_WORD_IDLE;
+        s->board[LEVELSPRUCE_BOARD_ROWS + 2 * slot + 1] = LEVELSPRUCE_NUMBER_IDLE;
+        s->ports[slot][LEVELSPRUCE_PORT_NUMBER] = LEVELSPRUCE_NUMBER_IDLE;
+    }
+    if (s->quiet)
+        return;
+    printf("link\tslots\t%" PRIu32 "\tpayload\t%" PRIu32 "\twindow\t%" PRIu32 "\tfirst epoch\t%" PRIu32 "\tback\t%" PRIu32 "\n", c->slots,
+           c->payload, c->window, c->number, c->back);
+    if (c->at_once)
+        printf("reports\tat once\n");
+    else
+        printf("reports\tone in sixteen frames\tlate\t%" PRIu32 "\n", c->late);
+    for (slot = 0; slot < c->slots; slot++)
+        printf("line\tslot\t%" PRIu32 "\tport\t%" PRIu32 "\tdelay\t%" PRIu32 "\tfirst frame\t%" PRIu32 "\n", slot, c->port[slot],
+               c->delay[slot], c->first[slot]);
+    says_events("add", &c->adds);
+    says_events("remove", &c->removes);
+    says_events("damage", &c->damages);
+    for (i = 0; i < c->failures.count; i++)
+        printf("plan\tfail\tport\t%" PRIu32 "\tframes\t%" PRIu64 "\t%" PRIu64 "\n", c->failures.each[i].port, c->failures.each[i].from,
+               c->failures.each[i].to);
+}
+
+void says_command(const struct says *s, const char *command, uint32_t slot, uint8_t answer)
+{
+    if (!s->quiet)
+        printf("%s\tslot\t%" PRIu32 "\tanswer\t%d\n", command, slot, answer);
+}
+
+void says_board(struct says *s, const uint8_t *board)
+{
+    uint32_t slot;
+
+    for (slot = 0; slot < s->slots && !s->quiet; slot++) {
+        const uint8_t *row = board + LEVELSPRUCE_BOARD_ROWS + 2 * slot;
+
+        if (memcmp(row, s->board + LEVELSPRUCE_BOARD_ROWS + 2 * slot, 2) != 0)
+            printf("slot\t%" PRIu32 "\t%s\t%d\n", slot, word_name(row[0]), row[1]);
+    }
+    if (board[LEVELSPRUCE_BOARD_WAIT] != s->board[LEVELSPRUCE_BOARD_WAIT] && !s->quiet)
+        printf("wait\t%s\n", board[LEVELSPRUCE_BOARD_WAIT] ? "open" : "closed");
+    memcpy(s->board, board, sizeof s->board);
+}
+
+void says_start(struct says *s, uint64_t epoch, uint32_t x, size_t bytes, const uint8_t *going)
+{
+    size_t rows = 2 * (size_t)s->slots;
+    int moved = memcmp(s->going + LEVELSPRUCE_BOARD_ROWS, going + LEVELSPRUCE_BOARD_ROWS, rows) != 0;
+    uint32_t slot;
+
+    if (s->quiet || (s->x == x && !moved))
+        return;
+    printf("start\tepoch\t%" PRIu64 "\tmembers\t%" PRIu32 "\tbytes\t%lu\n", epoch, x, (unsigned long)bytes);
+    if (moved) {
+        printf("board");
+        for (slot = 0; slot < s->slots; slot++) {
+            const uint8_t *row = going + LEVELSPRUCE_BOARD_ROWS + 2 * slot;
+
+            printf("\t%s %d", word_name(row[0]), row[1]);
+        }
+        printf("\n");
+    }
+    s->x = x;
+    memcpy(s->going, going, sizeof s->going);
+}
+
+void says_told(const struct says *s, uint32_t number, uint32_t mst, uint32_t rs_ack)
+{
+    if (!s->quiet)
+        printf("told\tepoch number\t%" PRIu32 "\tMST\t%02" PRIX32 "\tRS-Ack\t%" PRIu32 "\n", number, mst, rs_ack);
+}
+
+/* How a port does, in a word. */
+static const char *condition(const uint8_t *port)
+{
+    if (port[LEVELSPRUCE_PORT_FAILED])
+        return "failed";
+    if (port[LEVELSPRUCE_PORT_READABLE])
+        return "readable";
+    return port[LEVELSPRUCE_PORT_STEP] ? "in step" : "out of step";
+}
+
+static int some_readable(const struct says *s, const uint8_t (*ports)[LEVELSPRUCE_PORT_BYTES])
+{
+    uint32_t i;
+
+    for (i = 0; i < s->slots; i++)
+        if (ports[i][LEVELSPRUCE_PORT_READABLE])
+            return 1;
+    return 0;
+}
+
+void says_ports(struct says *s, const uint8_t (*ports)[LEVELSPRUCE_PORT_BYTES], uint8_t rs_ack, uint64_t time)
+{
+    static const char *const states[] = { "IDLE", "FAIL", "OK" };
+    int reads = some_readable(s, ports);
+    uint32_t i;
+
+    if (!s->quiet && reads != some_readable(s, (const uint8_t(*)[LEVELSPRUCE_PORT_BYTES])s->ports))
+        printf("receiving\t%s\tframe\t%" PRIu64 "\n", reads ? "begins" : "stops", time);
+    for (i = 0; i < s->slots && !s->quiet; i++) {
+        const uint8_t *now = ports[i], *before = s->ports[i];
+
+        if (strcmp(condition(now), condition(before)) != 0)
+            printf("port\t%" PRIu32 "\t%s\tframe\t%" PRIu64 "\n", i, condition(now), time);
+        if (now[LEVELSPRUCE_PORT_STATE] != before[LEVELSPRUCE_PORT_STATE] || now[LEVELSPRUCE_PORT_NUMBER] != before[LEVELSPRUCE_PORT_NUMBER])
+            printf("port\t%" PRIu32 "\t%s\t%d\n", i, states[now[LEVELSPRUCE_PORT_STATE]], now[LEVELSPRUCE_PORT_NUMBER]);
+    }
+    if (!s->quiet && rs_ack != s->rs_ack)
+        printf("reply\tRS-Ack\t%d\n", rs_ack);
+    memcpy(s->ports, ports, s->slots * sizeof s->ports[0]);
+    s->rs_ack = rs_ack;
+}
+
+void says_report(const struct says *s, uint64_t epoch, uint8_t mark, size_t bytes, int right)
+{
+    static const char *const marks[] = { "none", "held", "doubtful", "sure" };
+
+    if (s->quiet)
+        return;
+    printf("epoch\t%" PRIu64 "\t%s\tbytes\t%lu", epoch, marks[mark], (unsigned long)bytes);
+    printf("%s\n", mark == LEVELSPRUCE_MARK_HELD ? "" : right ? "\tas sent" : "\tnot as sent");
+}
+
+void says_progress(uint64_t epoch, uint64_t sent)
+{
+    static time_t last;
+    time_t now = time(NULL);
+
+    if (last == 0)
+        last = now;
+    if (now - last < 2)
+        return;
+    last = now;
+    fprintf(stderr, "epoch %" PRIu64 ", %" PRIu64 " bytes sent\n", epoch, sent);
+}

@@ -1,0 +1,155 @@
+#include "sending.h"
+
+#include <stdlib.h>
+#include <string.h>
+
+#include "damage.h"
+
+enum { EPOCH_FRAMES = 16 };
+
+int sending_open(struct sending *s, const struct choices *c)
+{
+    memset(s, 0, sizeof *s);
+    s->choices = c;
+    s->gid = 1;
+    s->frame = malloc((size_t)c->slots * c->payload);
+    if (s->frame == NULL)
+        return -1;
+    must(levelspruce_sender_start(c->slots, c->number, s->state, sizeof s->state), "levelspruce_sender_start");
+    return 0;
+}
+
+/* The GID of an epoch, from the sequence of 2^15 - 1 bits by x^15 + x^14 + 1. */
+static uint32_t next_gid(struct sending *s)
+{
+    uint32_t bit = ((s->gid >> 14) ^ (s->gid >> 13)) & 1;
+
+    s->gid = ((s->gid << 1) | bit) & 0x7FFF;
+    return bit;
+}
+
+typedef uint8_t command(uint8_t *state, size_t state_length, uint32_t slot);
+
+/* Gives each command that is due. One that meets an open wait is given again at the next start. */
+static void give(struct sending *s, const char *name, command *call, const struct events *events, uint8_t *done, uint64_t epoch,
+                 const struct says *says)
+{
+    size_t i;
+
+    for (i = 0; i < events->count; i++)
+        if (!done[i] && events->each[i].epoch <= epoch) {
+            uint8_t answer = call(s->state, sizeof s->state, events->each[i].slot);
+
+            done[i] = answer != LEVELSPRUCE_ANSWER_WAIT;
+            if (done[i] || events->each[i].epoch == epoch)
+                says_command(says, name, events->each[i].slot, answer);
+        }
+}
+
+static void read_board(const struct sending *s, uint8_t *board)
+{
+    must(levelspruce_sender_board(s->state, sizeof s->state, board, LEVELSPRUCE_BOARD_BYTES), "levelspruce_sender_board");
+}
+
+/* A far end that never answers must not keep a wait open for ever. */
+static void lapse_if_late(struct sending *s)
+{
+    uint8_t board[LEVELSPRUCE_BOARD_BYTES];
+
+    read_board(s, board);
+    s->waited = board[LEVELSPRUCE_BOARD_WAIT] ? s->waited + 1 : 0;
+    if (s->waited > s->choices->lapse) {
+        must(levelspruce_sender_lapse(s->state, sizeof s->state), "levelspruce_sender_lapse");
+        s->waited = 0;
+    }
+}
+
+static int is_damaged(const struct events *damages, uint64_t epoch, uint32_t slot)
+{
+    size_t i;
+
+    for (i = 0; i < damages->count; i++)
+        if (damages->each[i].epoch == epoch && damages->each[i].slot == slot)
+            return 1;
+    return 0;
+}
+
+static void write_packets(struct sending *s, uint64_t epoch)
+{
+    uint32_t slot;
+
+    for (slot = 0; slot < s->choices->slots; slot++) {
+        uint8_t *packet = s->packets[slot];
+
+        must(levelspruce_sender_packet(s->state, sizeof s->state, slot, packet, LEVELSPRUCE_PACKET_BYTES), "levelspruce_sender_packet");
+        if (is_damaged(&s->choices->damages, epoch, slot))
+            damage(packet, epoch);
+    }
+}
+
+void sending_start_epoch(struct sending *s, uint64_t epoch, const struct client *client, struct says *says)
+{
+    const struct choices *c = s->choices;
+    struct carried *carried = &s->carried[epoch % CARRIED_MOST];
+    uint8_t board[LEVELSPRUCE_BOARD_BYTES], ranks[LEVELSPRUCE_RANKS_BYTES];
+
+    lapse_if_late(s);
+    give(s, "add", levelspruce_sender_add, &c->adds, s->added, epoch, says);
+    give(s, "remove", levelspruce_sender_remove, &c->removes, s->removed, epoch, says);
+    read_board(s, board);
+    says_board(says, board);
+
+    /* This end receives nothing, so it has no member to call OK: MST is all ones, RS-Ack stays 0. */
+    must(levelspruce_sender_start_epoch(s->state, sizeof s->state, next_gid(s), 0xFF, 0), "levelspruce_sender_start_epoch");
+    write_packets(s, epoch);
+    must(levelspruce_sender_ranks(s->state, sizeof s->state, ranks, sizeof ranks), "levelspruce_sender_ranks");
+    s->frame_bytes = (size_t)ranks[LEVELSPRUCE_RANKS_X] * c->payload;
+    carried->epoch = epoch;
+    carried->from = client->sent;
+    carried->bytes = EPOCH_FRAMES * s->frame_bytes;
+
+    must(levelspruce_sender_board_going(s->state, sizeof s->state, board, sizeof board), "levelspruce_sender_board_going");
+    says_start(says, epoch, ranks[LEVELSPRUCE_RANKS_X], carried->bytes, board);
+}
+
+void sending_frame(struct sending *s, uint64_t n, struct client *client, struct line *lines)
+{
+    const struct choices *c = s->choices;
+    uint32_t slot;
+
+    client_take(client, s->frame, s->frame_bytes);
+    for (slot = 0; slot < c->slots; slot++) {
+        uint8_t *place = line_put(&lines[slot], n);
+
+        if (place != NULL) {
+            must(levelspruce_sender_payload(s->state, sizeof s->state, slot, c->payload, s->frame, s->frame_bytes, place, c->payload),
+                 "levelspruce_sender_payload");
+            place[c->payload] = s->packets[slot][n % EPOCH_FRAMES];
+        }
+    }
+}
+
+void sending_told(struct sending *s, const uint8_t *fields, struct says *says)
+{
+    uint8_t before[LEVELSPRUCE_BOARD_BYTES], after[LEVELSPRUCE_BOARD_BYTES];
+    uint32_t number = fields[LEVELSPRUCE_FIELD_EPOCH], mst = fields[LEVELSPRUCE_FIELD_MST], rs_ack = fields[LEVELSPRUCE_FIELD_RS_ACK];
+
+    read_board(s, before);
+    must(levelspruce_sender_report(s->state, sizeof s->state, number, mst, rs_ack), "levelspruce_sender_report");
+    read_board(s, after);
+    if (memcmp(before, after, sizeof before) != 0)
+        says_told(says, number, mst, rs_ack);
+    says_board(says, after);
+}
+
+const struct carried *sending_carried(const struct sending *s, uint64_t epoch)
+{
+    const struct carried *carried = &s->carried[epoch % CARRIED_MOST];
+
+    return carried->epoch == epoch ? carried : NULL;
+}
+
+void sending_close(struct sending *s)
+{
+    free(s->frame);
+}
