@@ -1,4 +1,5 @@
 pub mod Entries
 pub mod Examples
+pub mod Hosts
 pub mod Refusals
 pub mod Rows

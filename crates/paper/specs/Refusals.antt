@@ -3,6 +3,7 @@ pub mod Epochs
 pub mod Lines
 pub mod Packets
 pub mod Payloads
+pub mod Receivers
 pub mod Senders
 pub mod Tables
 use mathlib.Core.List.{List, [], _∷_}
@@ -11,6 +12,7 @@ use Epochs.{senderStart, senderStart-copes, senderAdd, senderAdd-copes, senderRe
 use Lines.{feed, feed-copes, finish, finish-copes, reply, reply-copes}
 use Packets.{write, write-copes, read, read-copes, readSixteen, readSixteen-copes, writeC, writeC-copes, readC, readC-copes}
 use Payloads.{spread, spread-copes, join, join-copes, spreadOneMember, spreadOne-copes, joinFrom, joinFrom-copes, oneAnswerEntry, oneAnswer-copes, spreadC, spreadC-copes, joinC, joinC-copes}
+use Receivers as receiver
 use Senders.{startC, startC-copes, addC, addC-copes, removeC, removeC-copes, reportC, reportC-copes, lapseC, lapseC-copes, startEpochC, startEpochC-copes, packetC, packetC-copes, payloadC, payloadC-copes, boardC, boardC-copes, goingC, goingC-copes, ranksC, ranksC-copes}
 use Tables.{start, start-copes, add, add-copes, remove, remove-copes, report, report-copes, lapse, lapse-copes}
 
@@ -55,4 +57,15 @@ entries =
     ∷ row boardC boardC-copes
     ∷ row goingC goingC-copes
     ∷ row ranksC ranksC-copes
+    ∷ row receiver.decide receiver.decide-copes
+    ∷ row receiver.start receiver.start-copes
+    ∷ row receiver.frame receiver.frame-copes
+    ∷ row receiver.fetch receiver.fetch-copes
+    ∷ row receiver.ports receiver.ports-copes
+    ∷ row receiver.reply receiver.reply-copes
+    ∷ row receiver.startC receiver.startC-copes
+    ∷ row receiver.frameC receiver.frameC-copes
+    ∷ row receiver.fetchC receiver.fetchC-copes
+    ∷ row receiver.portsC receiver.portsC-copes
+    ∷ row receiver.replyC receiver.replyC-copes
     ∷ []

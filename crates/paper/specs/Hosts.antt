@@ -1,0 +1,60 @@
+-- Short runs of a receiver from its start, for the examples: P is 1, and frames carry their count and no good packet.
+use mathlib.Core.Bool.{false, cond}
+use mathlib.Core.List.{List, [], _∷_}
+use Prim.Native.Nat.{ℕ, zero, suc, _+_, _*_, _/_, _%_}
+use lib.Dec.{eqb}
+use lib.ListN.{getD, length, replicate}
+use Rattle.phases.specs.Sizes.{portsIn}
+use Rattle.receiver.specs.Frame.{frameAnswer, frameRows, frameStore}
+use Rattle.receiver.specs.Starting.{startAnswer, startRows}
+use Rattle.rows.specs.Group.{groupAt}
+use Rattle.rows.specs.Rows.{rowsFor}
+
+-- what the host keeps between calls, and the last call's answer
+pub record Host : Type 0 where
+  pub answer : ℕ
+  pub rows : List (List ℕ)
+  pub store : List ℕ
+
+-- a start with n ports and a window of W
+abbrev pub opened : ℕ → ℕ → Host
+opened n W =
+    record {
+      answer = startAnswer 0 n 1 W (n * W * 2) (rowsFor n);
+      rows = startRows 0 n 1 W (n * W * 2) (replicate (rowsFor n) (replicate 16 0));
+      store = replicate (n * W * 2) 0;
+    }
+
+-- the H4 byte of the frame with tag t: MFI1, and MFI2's nibbles at MFI1 0 and 1
+abbrev h4With : ℕ → ℕ
+h4With t = cond (eqb (t % 16) 0) (t / 256) (cond (eqb (t % 16) 1) (t / 16 % 16) 0) * 16 + t % 16
+
+-- its payload
+abbrev payloadWith : ℕ → List ℕ
+payloadWith t = t % 256 ∷ []
+
+-- the frame of a port with tag t
+abbrev pub handed : ℕ → ℕ → Host → Host
+handed port t h =
+    record {
+      answer = frameAnswer (h .rows) port false (h4With t) (length (payloadWith t)) (length (h .store));
+      rows = frameRows (h .rows) port false (h4With t) (payloadWith t) (h .store);
+      store = frameStore (h .rows) port false (h4With t) (payloadWith t) (h .store);
+    }
+
+-- n frames of a port, the first with tag t
+abbrev pub fed : ℕ → ℕ → ℕ → Host → Host
+fed port zero t h = h
+fed port (suc n) t h = fed port n ((t + 1) % 4096) (handed port t h)
+
+-- the answer, and how many ports there are
+abbrev pub openedWith : ℕ → List ℕ
+openedWith n = let h = opened n 16 in h .answer ∷ portsIn (groupAt (h .rows)) ∷ []
+
+-- the answer, and whether receiving has begun
+abbrev pub begun : Host → List ℕ
+begun h = h .answer ∷ groupAt (h .rows) .begun ∷ []
+
+-- the answer, and the payload and H4 at a place in the store
+abbrev pub stored : ℕ → Host → List ℕ
+stored place h = h .answer ∷ getD (h .store) (place * 2) 0 ∷ getD (h .store) (place * 2 + 1) 0 ∷ []
