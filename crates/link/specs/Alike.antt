@@ -40,14 +40,14 @@ module _ (k j : Link) (l : Alike k j) (n : k .history .slots ≡ j .history .slo
   ready-too t rest y =
       record {
         stepped = λ q b.
-        (let c : q < k .history .slots = rw (sym n) at b in
-        stepped-too (k .history .kind) (j .history .kind) (k .history .first) (j .history .first) (k .first q) (j .first q) (nx (roadOf k) t rest q) (nx (roadOf j) t rest q)
-        (l .kind) (l .epoch) (l .first q c) (position t rest q c) (y .stepped q c));
+            (let c : q < k .history .slots = rw (sym n) at b in
+            stepped-too (k .history .kind) (j .history .kind) (k .history .first) (j .history .first) (k .first q) (j .first q) (nx (roadOf k) t rest q) (nx (roadOf j) t rest q)
+            (l .kind) (l .epoch) (l .first q c) (position t rest q c) (y .stepped q c));
         near = λ p q hp hq.
-        (let cp : p < k .history .slots = rw (sym n) at hp in
-        let cq : q < k .history .slots = rw (sym n) at hq in
-        near-too (k .history .kind) (j .history .kind) (k .window) (j .window) (nx (roadOf k) t rest p) (nx (roadOf j) t rest p) (nx (roadOf k) t rest q) (nx (roadOf j) t rest q)
-        (l .kind) (l .window) (position t rest p cp) (position t rest q cq) (y .near p q cp cq));
+            (let cp : p < k .history .slots = rw (sym n) at hp in
+            let cq : q < k .history .slots = rw (sym n) at hq in
+            near-too (k .history .kind) (j .history .kind) (k .window) (j .window) (nx (roadOf k) t rest p) (nx (roadOf j) t rest p) (nx (roadOf k) t rest q) (nx (roadOf j) t rest q)
+            (l .kind) (l .window) (position t rest p cp) (position t rest q cq) (y .near p q cp cq));
       }
 
 back : (k j : Link) → Alike k j → k .history .slots ≡ j .history .slots → Alike j k
@@ -72,9 +72,10 @@ module _ (k j : Link) (l : Alike k j) (n : k .history .slots ≡ j .history .slo
       (ready-too k j l n (bk .time) (bk .rest) (bk .ready))
 
   no-sooner : (bk .time < bj .time → ⊥) × (bk .time ≡ bj .time → length (bk .done) < length (bj .done) → ⊥)
-  no-sooner =
-      (λ h. not-earlier (inl h),
-      λ e h. (let long : length (bk .done ++ (bk .port ∷ [])) ≡ length (bk .done) + 1 = length-append (bk .done) (bk .port ∷ []) in not-earlier (inr (e, omega arith))))
+  no-sooner = (
+    λ h. not-earlier (inl h),
+    λ e h. (let long : length (bk .done ++ (bk .port ∷ [])) ≡ length (bk .done) + 1 = length-append (bk .done) (bk .port ∷ []) in not-earlier (inr (e, omega arith))),
+  )
 
 -- The two began at the same moment, with the same foremost position.
 module _ (k j : Link) (l : Alike k j) (n : k .history .slots ≡ j .history .slots) (mk mj : Moment) (F G : ℕ) (bk : Beginning (roadOf k) mk F) (bj : Beginning (roadOf j) mj G) where

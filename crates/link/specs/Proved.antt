@@ -49,12 +49,12 @@ module _ (k : Link) (a : Assumed k) where
         go (first F b c) =
             reports (c .open-at .begun)
             (record {
-            F = F;
-            beginning = b;
-            many = 0;
-            are = c .told;
-            arrived = λ j h. absurd (omega arith);
-            not-yet = λ all. (let w = all (c .owes .port) (c .owes .below) in let v = c .owes .owes in absurd (earlier (F / L k) (nx (roadOf k) (at .t) (at .rest) (c .owes .port)) w v));
+              F = F;
+              beginning = b;
+              many = 0;
+              are = c .told;
+              arrived = λ j h. absurd (omega arith);
+              not-yet = λ all. (let w = all (c .owes .port) (c .owes .below) in let v = c .owes .owes in absurd (earlier (F / L k) (nx (roadOf k) (at .t) (at .rest) (c .owes .port)) w v));
             })
           where
             earlier : (e x : ℕ) → suc (suc (suc e + 0)) * L k ≤ x → x < suc e * L k + L k → ⊥
@@ -66,12 +66,12 @@ module _ (k : Link) (a : Assumed k) where
         go (later F i b c o) =
             reports (c .open-at .begun)
             (record {
-            F = F;
-            beginning = b;
-            many = i - suc (F / L k);
-            are = told-as (suc (F / L k)) i (standing k m₀ at .told) (c .told);
-            arrived = λ j h p hp. (let w = c .within p hp in come j (nx (roadOf k) (at .t) (at .rest) p) h w);
-            not-yet = λ all. (let w = all (o .port) (o .below) in let v = o .owes in absurd (next (nx (roadOf k) (at .t) (at .rest) (o .port)) w v));
+              F = F;
+              beginning = b;
+              many = i - suc (F / L k);
+              are = told-as (suc (F / L k)) i (standing k m₀ at .told) (c .told);
+              arrived = λ j h p hp. (let w = c .within p hp in come j (nx (roadOf k) (at .t) (at .rest) p) h w);
+              not-yet = λ all. (let w = all (o .port) (o .below) in let v = o .owes in absurd (next (nx (roadOf k) (at .t) (at .rest) (o .port)) w v));
             })
           where
             come : (j x : ℕ) → j < i - suc (F / L k) → suc i * L k ≤ x → suc (suc (suc (F / L k) + j)) * L k ≤ x

@@ -95,10 +95,11 @@ given-goes x out report e =
     let a : Bool = fits s (x .store) out report in
     let d : dueIn (groupAt (x .rows)) (portsIn (groupAt (x .rows))) (x .rows) ≡ true = and-right a (dueIn g (portsIn g) s) e in
     let o = due-says g (portsIn g) s d in
-    let f = passed-flags g in
-    (given-epoch g (portsIn g) s d ∙ rw (o .gathered) refl,
-    rw (fetch-group s (x .store) out report (record { fitting = and-left a (dueIn g (portsIn g) s) e; due = d }))
-    (record { kind = f .0; begun = rw (f .1) (o .begun); report = rw (f .2, f .3, o .gathered) refl }))
+    let f = passed-flags g in (
+      given-epoch g (portsIn g) s d ∙ rw (o .gathered) refl,
+      rw (fetch-group s (x .store) out report (record { fitting = and-left a (dueIn g (portsIn g) s) e; due = d }))
+          (record { kind = f .0; begun = rw (f .1) (o .begun); report = rw (f .2, f .3, o .gathered) refl }),
+    )
 
 successive-same : (k l d e n : ℕ) → k ≡ l → d ≡ e → successive k d n ≡ successive l e n
 successive-same k l d e n p q = rw (p, q) refl

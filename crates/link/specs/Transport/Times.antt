@@ -42,7 +42,6 @@ module _ (r : Road) where
     pub first-none : (m : Moment) (i : ℕ) (nx : ℕ → ℕ) → First r m nx i → markNext m ≡ 0
     pub later-none : (m : Moment) (g i : ℕ) (nx : ℕ → ℕ) → Later r m nx g i → Owes r nx (suc i) → markNext m ≡ 0
     pub later-one : (m : Moment) (g i : ℕ) (nx : ℕ → ℕ) → Later r m nx g i → NoneOwes nx (suc i) → (markNext m ≢ 0) × Later r (fetched r m) nx g (suc i)
-
     pub must-begin : (m : Moment) (nx : ℕ → ℕ) → Lined r m nx → Ready r nx → begins (groupAt (m .rows)) (m .rows) (r .ports) ≡ true
 
   -- fetching ends where none is due
@@ -246,16 +245,16 @@ module _ (r : Road) where
                 let e = quiet (s .first-none there (suc (F / frames (r .kind))) (nx r t ps) c) in
                 as-phase there e
                 (first F (record {
-                time = t;
-                done = done;
-                port = p;
-                rest = ps;
-                is-order = is-order;
-                not-yet = b .begun;
-                begun = now-begun there e (c .open-at .begun);
-                foremost = fore;
-                ready = y;
-                unready = un;
+                  time = t;
+                  done = done;
+                  port = p;
+                  rest = ps;
+                  is-order = is-order;
+                  not-yet = b .begun;
+                  begun = now-begun there e (c .open-at .begun);
+                  foremost = fore;
+                  ready = y;
+                  unready = un;
                 }) c)
 
         from-first : (F : ℕ) → Beginning r m₀ F → First r here (nx r t (p ∷ ps)) (suc (F / frames (r .kind))) → Next
