@@ -1,13 +1,13 @@
 -- Where the packet that rules a port comes from (R-12): it is read from the store when its epoch is passed, and stays until the next one is.
-use mathlib.Core.Path.{_≡_, refl, sym, ap, _∙_}
+use mathlib.Core.Path.{_≡_, refl, sym, ap, subst, _∙_}
 use mathlib.Core.Logic.{_⊎_, inl, inr, ⊎-elim, _≢_}
 use mathlib.Core.Bool.{Bool, true, false, cond, false≢true}
-use mathlib.Core.List.{List, [], _∷_}
+use mathlib.Core.List.{List, [], _∷_, _++_, append-assoc, append-nil}
 use Prim.Native.Nat.{ℕ, _≤_, _<_}
 use native.Mathlib.Omega.{arith}
 use lib.ListN.{length}
 use Rattle.calls.specs.Arriving.{Counts, frame-by, portAfter, storeAfter}
-use Rattle.calls.specs.Calls.{Fetch, Frame, Receiver, ReceiverCall, receiverRun, receiverStep, startedWith, step-kept}
+use Rattle.calls.specs.Calls.{Fetch, Frame, Receiver, ReceiverCall, receiverRun, receiverStep, run-kept, startedWith}
 use Rattle.calls.specs.Kept.Group.{Kept}
 use Rattle.calls.specs.Kept.Start.{started-kept, started-with}
 use Rattle.calls.specs.Kept.Taken.{taken-whole}
@@ -179,67 +179,83 @@ pub step-ruled : (x : Receiver) (c : ReceiverCall) → Kept (x .rows) → Ruled 
 step-ruled x (Frame i failed h payload) k = frame-ruled (x .rows) k i failed h payload (x .store)
 step-ruled x (Fetch out report) k = fetch-ruled (x .rows) k (x .store) out report
 
--- All packets that rule are of one epoch, the one before the oldest: they were read from one store, when that epoch was passed.
-pub record OneEpoch (s : List (List ℕ)) : Type 0 where
-  pub group : Group
-  pub store : List ℕ
-  pub packets : (j : ℕ) → j < groupAt s .count → flagOf (portAt s j .step .whole) ≡ true
-      → (portAt s j .ruling ≡ packetIn group j store) × (groupAt s .oldest ≡ epochAfter (group .kind) (group .oldest))
+-- All packets that rule after some calls are of one epoch, the one before the oldest: none rules, or they were read from one store, in the call that passed that epoch.
+pub data OneEpoch (x : Receiver) (calls : List ReceiverCall) : Type 0 where
+  none-rules : ((j : ℕ) → j < groupAt (receiverRun x calls .rows) .count → flagOf (portAt (receiverRun x calls .rows) j .step .whole) ≡ false) → OneEpoch x calls
+  passed-in : (earlier : List ReceiverCall) (call : ReceiverCall) (later : List ReceiverCall) → calls ≡ earlier ++ (call ∷ later)
+      → ((j : ℕ) → j < groupAt (receiverRun x calls .rows) .count → flagOf (portAt (receiverRun x calls .rows) j .step .whole) ≡ true
+      → portAt (receiverRun x calls .rows) j .ruling ≡ packetIn (groupAt (receiverRun x earlier .rows)) j (receiverStep (receiverRun x earlier) call .store))
+      → groupAt (receiverRun x calls .rows) .oldest ≡ epochAfter (groupAt (receiverRun x earlier .rows) .kind) (groupAt (receiverRun x earlier .rows) .oldest)
+      → OneEpoch x calls
 
-none-whole : (b : ℕ) → b ≡ 0 → flagOf b ≡ true → ⊥
-none-whole b z e = false≢true (rw z at e)
+run-more : (x : Receiver) (calls : List ReceiverCall) (c : ReceiverCall) → receiverRun x (calls ++ (c ∷ [])) ≡ receiverStep (receiverRun x calls) c
+run-more x [] c = refl
+run-more x (d ∷ calls) c = run-more (receiverStep x d) calls c
 
-step-one : (x : Receiver) (c : ReceiverCall) → Kept (x .rows) → OneEpoch (x .rows) → OneEpoch (receiverStep x c .rows)
-step-one x c k o =
-    ⊎-elim
-    (λ (a : AllStay (x .rows) (receiverStep x c .rows)).
-    record {
-      group = o .group;
-      store = o .store;
-      packets = λ j b w.
-          let b : j < groupAt (x .rows) .count = rw (← count) b in
-          let q = o .packets j b (rw (a .ports j b .whole) at w) in
-          (a .ports j b .ruling ∙ q .0, a .oldest ∙ q .1);
-    })
-    (λ (u : AllUnruled (x .rows) (receiverStep x c .rows) ⊎ AllPassed (x .rows) (receiverStep x c .store) (receiverStep x c .rows)).
-    ⊎-elim
-    (λ (a : AllUnruled (x .rows) (receiverStep x c .rows)).
-    record {
-      group = o .group;
-      store = o .store;
-      packets = λ j b w. absurd (none-whole (portAt (receiverStep x c .rows) j .step .whole) (a .ports j (rw (← count) b) .whole) w);
-    })
-    (λ (a : AllPassed (x .rows) (receiverStep x c .store) (receiverStep x c .rows)).
-    record {
-      group = groupAt (x .rows);
-      store = receiverStep x c .store;
-      packets = λ j b w.
+not-whole : (b : ℕ) → b ≡ 0 → flagOf b ≡ false
+not-whole b z = rw z refl
+
+module _ (x : Receiver) (k₀ : Kept (x .rows)) where
+  now-kept : (calls : List ReceiverCall) → Kept (receiverRun x calls .rows)
+  now-kept calls = run-kept x calls k₀
+
+  step-one : (calls : List ReceiverCall) (c : ReceiverCall) → OneEpoch x calls → OneEpoch x (calls ++ (c ∷ []))
+  step-one calls c o = ⊎-elim stay (λ (u : AllUnruled (now .rows) (next .rows) ⊎ AllPassed (now .rows) (next .store) (next .rows)). ⊎-elim unruled passed u) (step-ruled now c (now-kept calls))
+    where
+      now : Receiver
+      now = receiverRun x calls
+
+      next : Receiver
+      next = receiverStep now c
+
+      then-is : receiverRun x (calls ++ (c ∷ [])) ≡ next
+      then-is = run-more x calls c
+
+      count : groupAt (next .rows) .count ≡ groupAt (now .rows) .count
+      count = step-sizes now c (now-kept calls) .count
+
+      stands-is : (b : Bool) (old : List ℕ) (j : ℕ) → flagOf (cond b 1 0) ≡ true → cond b (packetIn (groupAt (now .rows)) j (next .store)) old ≡ packetIn (groupAt (now .rows)) j (next .store)
+      stands-is true old j e = refl
+      stands-is false old j e = absurd (false≢true e)
+
+      stay : AllStay (now .rows) (next .rows) → OneEpoch x (calls ++ (c ∷ []))
+      stay a = go o
+        where
+          go : OneEpoch x calls → OneEpoch x (calls ++ (c ∷ []))
+          go (none-rules none) =
+              none-rules
+              (rw then-is (λ j b.
+              let b : j < groupAt (now .rows) .count = rw (← count) b in
+              rw (a .ports j b .whole) (none j b)))
+          go (passed-in earlier call later split packets oldest) =
+              passed-in earlier call (later ++ (c ∷ []))
+              (ap (λ (l : List ReceiverCall). l ++ (c ∷ [])) split ∙ append-assoc earlier (call ∷ later) (c ∷ []))
+              (rw then-is (λ j b w.
+              let b : j < groupAt (now .rows) .count = rw (← count) b in
+              a .ports j b .ruling ∙ packets j b (rw (a .ports j b .whole) at w)))
+              (rw then-is (a .oldest ∙ oldest))
+
+      unruled : AllUnruled (now .rows) (next .rows) → OneEpoch x (calls ++ (c ∷ []))
+      unruled a =
+          none-rules
+          (rw then-is (λ j b. not-whole (portAt (next .rows) j .step .whole) (a .ports j (rw (← count) b) .whole)))
+
+      passed : AllPassed (now .rows) (next .store) (next .rows) → OneEpoch x (calls ++ (c ∷ []))
+      passed a =
+          passed-in calls c [] refl
+          (rw then-is (λ j b w.
           let p = a .ports j (rw (← count) b) in
-          (p .ruling ∙ stands-is (p .stands) (portAt (x .rows) j .ruling) j (rw (p .whole) at w), a .oldest);
-    })
-    u)
-    (step-ruled x c k)
-  where
-    count : groupAt (receiverStep x c .rows) .count ≡ groupAt (x .rows) .count
-    count = step-sizes x c k .count
+          p .ruling ∙ stands-is (p .stands) (portAt (now .rows) j .ruling) j (rw (p .whole) at w)))
+          (rw then-is (a .oldest))
 
-    stands-is : (b : Bool) (old : List ℕ) (j : ℕ) → flagOf (cond b 1 0) ≡ true → cond b (packetIn (groupAt (x .rows)) j (receiverStep x c .store)) old ≡ packetIn (groupAt (x .rows)) j (receiverStep x c .store)
-    stands-is true old j e = refl
-    stands-is false old j e = absurd (false≢true e)
-
-run-one : (x : Receiver) (calls : List ReceiverCall) → Kept (x .rows) → OneEpoch (x .rows) → OneEpoch (receiverRun x calls .rows)
-run-one x [] k o = o
-run-one x (c ∷ calls) k o = run-one (receiverStep x c) calls (step-kept x c k) (step-one x c k o)
+  run-one : (done calls : List ReceiverCall) → OneEpoch x done → OneEpoch x (done ++ calls)
+  run-one done [] o = rw (append-nil done) o
+  run-one done (c ∷ calls) o = subst (λ (l : List ReceiverCall). OneEpoch x l) (append-assoc done (c ∷ []) calls) (run-one (done ++ (c ∷ [])) calls (step-one done c o))
 
 pub one-epoch : (kind count P W : ℕ) (rows : List (List ℕ)) (store : List ℕ) → startAnswer kind count P W (length store) (length rows) ≡ 0 → (calls : List ReceiverCall)
-    → OneEpoch (receiverRun (startedWith kind count P W rows store) calls .rows)
+    → OneEpoch (startedWith kind count P W rows store) calls
 one-epoch kind count P W rows store e calls =
     let x : Receiver = startedWith kind count P W rows store in
     let k : Kept (x .rows) = started-kept kind count P W (length store) rows e in
     let group : groupAt (startRows kind count P W (length store) rows) ≡ groupWith kind count P W = started-with kind count P W (length store) rows e in
-    run-one x calls k
-    (record {
-      group = groupAt (x .rows);
-      store = store;
-      packets = λ j b w. absurd (none-whole (portAt (x .rows) j .step .whole) (k .steady .ports j b .unruled (rw group refl)) w);
-    })
+    run-one x k [] calls (none-rules (λ j b. not-whole (portAt (x .rows) j .step .whole) (k .steady .ports j b .unruled (rw group refl))))
