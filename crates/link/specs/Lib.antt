@@ -1,5 +1,14 @@
 pub mod History
-pub mod Sending
-pub mod Road
+pub mod Link
 pub mod Told
+pub mod Road
+pub mod Running
 pub mod Contents
+pub mod Standing
+pub mod Laws
+pub mod Sending
+pub mod Judged
+pub mod Transport
+pub mod Demand3
+pub mod Alike
+pub mod Proved

@@ -1,0 +1,59 @@
+-- Ports and the group after a port's rows were changed by a frame.
+use mathlib.Core.Path.{_≡_, refl, sym, ap, _∙_}
+use mathlib.Core.Logic.{_≢_}
+use mathlib.Core.Bool.{Bool, true, false}
+use mathlib.Core.List.{List, [], _∷_}
+use Prim.Native.Nat.{ℕ, _≤_, _<_}
+use lib.ListN.{getD, length}
+use Rattle.receiver.specs.Frame.{gatheredBy, marksBy, portRows}
+use Rattle.rows.specs.Group.{groupAt}
+use Rattle.rows.specs.Laws.Group.{group-put-marks, group-put-packets, group-put-step}
+use Rattle.rows.specs.Laws.Lengths.{length-put-marks, length-put-packets, length-put-step}
+use Rattle.rows.specs.Laws.Port.{port-put-marks, port-put-marks-other, port-put-packets, port-put-packets-other, port-put-step, port-put-step-other}
+use Rattle.rows.specs.Packets.{marksAt, packetsAt, putMarks, putPackets}
+use Rattle.rows.specs.Port.{Port, portAt, withMarks, withPackets, withStep}
+use Rattle.rows.specs.Rows.{rowsFor}
+use Rattle.rows.specs.Step.{putStep}
+use Rattle.step.specs.declared.arrival.Taken.{Taken}
+
+-- a port after a frame of its own
+abbrev pub frameOn : ℕ → Port → Taken → ℕ → Port
+frameOn kind p t h =
+    record {
+      step = t .step;
+      member = p .member;
+      gathering = getD (gatheredBy kind (p .gathering ∷ p .ruling ∷ []) (t .counted) h) 0 [];
+      ruling = p .ruling;
+      marks = marksBy kind (p .marks) t;
+    }
+
+ruling-stays : (kind : ℕ) (a b : List ℕ) (counted : Bool) (h : ℕ) → getD (gatheredBy kind (a ∷ b ∷ []) counted h) 1 [] ≡ b
+unfolding gatheredBy
+ruling-stays kind a b true h = refl
+ruling-stays kind a b false h = refl
+
+module _ (kind : ℕ) (s : List (List ℕ)) (i : ℕ) (t : Taken) (h : ℕ) where
+  pub length-frame : length (portRows kind s i t h) ≡ length s
+  unfolding portRows
+  length-frame = length-put-marks _ i _ ∙ length-put-packets _ i _ ∙ length-put-step s i (t .step)
+
+  pub frame-group : groupAt (portRows kind s i t h) ≡ groupAt s
+  unfolding portRows
+  frame-group = group-put-marks _ i _ ∙ group-put-packets _ i _ ∙ group-put-step s i (t .step)
+
+  pub frame-port : (n : ℕ) → i < n → rowsFor n ≤ length s → portAt (portRows kind s i t h) i ≡ frameOn kind (portAt s i) t h
+  unfolding portRows portAt packetsAt
+  frame-port n b l =
+      let pair : List (List ℕ) = gatheredBy kind (packetsAt s i) (t .counted) h in
+      let a : List (List ℕ) = putStep s i (t .step) in
+      let la : length a ≡ length s = length-put-step s i (t .step) in
+      let c : List (List ℕ) = putPackets a i pair in
+      let lc : length c ≡ length s = length-put-packets a i pair ∙ la in
+      port-put-marks c i (marksBy kind (marksAt s i) t) n b (rw lc l)
+      ∙ ap (λ (p : Port). withMarks p (marksBy kind (marksAt s i) t)) (port-put-packets a i pair n b (rw la l))
+      ∙ ap (λ (p : Port). withMarks (withPackets p pair) (marksBy kind (marksAt s i) t)) (port-put-step s i (t .step) n b l)
+      ∙ rw (ruling-stays kind _ _ (t .counted) h) refl
+
+  pub frame-other : (j : ℕ) → j ≢ i → portAt (portRows kind s i t h) j ≡ portAt s j
+  unfolding portRows
+  frame-other j d = port-put-marks-other _ i _ j d ∙ port-put-packets-other _ i _ j d ∙ port-put-step-other s i (t .step) j d

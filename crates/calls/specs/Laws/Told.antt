@@ -1,0 +1,109 @@
+-- Ports and the group after a report's states and RS-Ack were worked out.
+use mathlib.Core.Path.{_≡_, refl, sym, ap, _∙_}
+use mathlib.Core.Logic.{⊎-elim, _≢_}
+use mathlib.Core.Bool.{Bool, true, false, cond}
+use mathlib.Core.List.{List}
+use Prim.Native.Nat.{ℕ, zero, suc, _≤_, _<_}
+use native.Mathlib.Nat.{not-suc-le-zero}
+use native.Mathlib.Omega.{arith}
+use lib.Dec.{eqb}
+use lib.ListN.{getD, length, replicate, length-replicate}
+use borrow.Author.Tests.{le-ltb, lt-ltb}
+use Rattle.counting.specs.Each.{getD-each}
+use Rattle.ground.specs.Truth.{eq-or-ne, le-or-lt}
+use Rattle.judge.specs.Seen.{sizeOf}
+use Rattle.phases.specs.Passing.{groupTo}
+use Rattle.receiver.specs.Laws.Lengths.{length-told-port, length-told-ports}
+use Rattle.receiver.specs.Report.{noPort, replyPort, replyPorts, toldBy, toldOf, toldPort, toldPorts}
+use Rattle.reply.specs.Choosing.{statesOf}
+use Rattle.reply.specs.declared.members.Port.{Port as ReplyPort}
+use Rattle.reply.specs.Members as R
+use Rattle.reply.specs.Telling.{ackOf, turns}
+use Rattle.rows.specs.declared.group.Group.{Group}
+use Rattle.rows.specs.Group.{groupAt}
+use Rattle.rows.specs.Laws.Group.{group-put-member, group-put-same}
+use Rattle.rows.specs.Laws.Lengths.{length-put-group}
+use Rattle.rows.specs.Laws.Port.{port-member, port-put-group, port-put-member, port-put-member-other}
+use Rattle.rows.specs.Member.{memberAt}
+use Rattle.rows.specs.Port.{Port, portAt, withMember}
+use Rattle.rows.specs.Rows.{rowsFor}
+
+-- a port with its state worked out
+abbrev pub toldOn : Port → ℕ → Port
+toldOn p state = withMember p (toldBy (p .member) state)
+
+module _ (states : List ℕ) where
+  told-one : (i : ℕ) (s : List (List ℕ)) (n : ℕ) → i < n → rowsFor n ≤ length s → portAt (toldPort states i s) i ≡ toldOn (portAt s i) (getD states i 0)
+  unfolding toldPort
+  told-one i s n b h = port-put-member s i (toldBy (memberAt s i) (getD states i 0)) n b h ∙ rw (port-member s i) refl
+
+  told-one-other : (i : ℕ) (s : List (List ℕ)) (j : ℕ) → j ≢ i → portAt (toldPort states i s) j ≡ portAt s j
+  unfolding toldPort
+  told-one-other i s j d = port-put-member-other s i _ j d
+
+  told-beyond : (n : ℕ) (s : List (List ℕ)) (i : ℕ) → n ≤ i → portAt (toldPorts states n s) i ≡ portAt s i
+  unfolding toldPorts
+  told-beyond zero s i h = refl
+  told-beyond (suc n) s i h = told-one-other n (toldPorts states n s) i (omega arith) ∙ told-beyond n s i (omega arith)
+
+  told-port : (n : ℕ) (s : List (List ℕ)) (i : ℕ) → i < n → rowsFor n ≤ length s → portAt (toldPorts states n s) i ≡ toldOn (portAt s i) (getD states i 0)
+  unfolding toldPorts
+  told-port zero s i b h = absurd (not-suc-le-zero b)
+  told-port (suc n) s i b h =
+      let t = toldPorts states n s in
+      let l : length t ≡ length s = length-told-ports states n s in
+      let rest = told-port n s i in
+      ⊎-elim
+      (λ (e : i ≡ n). rw e (told-one n t (suc n) (omega arith) (rw l h) ∙ ap (λ (p : Port). toldOn p (getD states n 0)) (told-beyond n s n (omega arith))))
+      (λ (d : i ≢ n). told-one-other n t i d ∙ rest (omega arith) (omega arith))
+      (eq-or-ne i n)
+
+  told-ports-group : (n : ℕ) (s : List (List ℕ)) → groupAt (toldPorts states n s) ≡ groupAt s
+  unfolding toldPorts toldPort
+  told-ports-group zero s = refl
+  told-ports-group (suc n) s = group-put-member (toldPorts states n s) n _ ∙ told-ports-group n s
+
+module _ (g : Group) (n : ℕ) (s : List (List ℕ)) where
+  -- the states that come of it
+  abbrev pub statesIn : List ℕ
+  statesIn = statesOf (replyPorts g s n) (sizeOf n)
+
+  pub length-told : length (toldOf g n s) ≡ length s
+  unfolding toldOf
+  length-told = length-put-group _ _ ∙ length-told-ports statesIn n s
+
+  pub told-of-port : (i : ℕ) → i < n → rowsFor n ≤ length s → portAt (toldOf g n s) i ≡ toldOn (portAt s i) (getD statesIn i 0)
+  unfolding toldOf
+  told-of-port i b h = port-put-group (toldPorts statesIn n s) _ i ∙ told-port statesIn n s i b h
+
+  pub told-group : 0 < length s → groupAt (toldOf g n s) ≡ groupTo g (g .begun) (g .gathered) (g .oldest) (g .origin) (ackOf (replyPorts g s n) (sizeOf n) (g .«rs_ack»))
+  unfolding toldOf
+  told-group h =
+      let l : length (toldPorts statesIn n s) ≡ length s = length-told-ports statesIn n s in
+      group-put-same (toldPorts statesIn n s) (groupTo g (g .begun) (g .gathered) (g .oldest) (g .origin) (ackOf (replyPorts g s n) (sizeOf n) (g .«rs_ack»))) 0 (omega arith)
+
+-- the size of a group within its bounds
+pub size-is : (n : ℕ) → n ≤ 64 → sizeOf n ≡ n
+size-is n h = ⊎-elim (λ (g : 64 ≤ n). rw (le-ltb n 64 g) (omega arith)) (λ (g : n < 64). rw (lt-ltb n 64 g) refl) (le-or-lt 64 n)
+
+-- the ports as their states are worked out
+pub reply-port : (g : Group) (s : List (List ℕ)) (n i : ℕ) → n ≤ 64 → i < n → R.portAt (replyPorts g s n) i ≡ replyPort g s i
+unfolding replyPorts
+reply-port g s n i h b =
+    getD-each (sizeOf n) (replyPort g s) (replicate 64 noPort) i noPort (rw (size-is n h) b) (rw (length-replicate {A = ReplyPort} 64 noPort) (omega arith))
+
+reply-number : (g : Group) (s : List (List ℕ)) (i : ℕ) → replyPort g s i .number ≡ portAt s i .member .number
+unfolding replyPort
+reply-number g s i = rw (port-member s i) refl
+
+pub told-number : (g : Group) (s : List (List ℕ)) (n i : ℕ) → n ≤ 64 → i < n → R.portAt (replyPorts g s n) i .number ≡ portAt s i .member .number
+told-number g s n i h b = rw (reply-port g s n i h b) (reply-number g s i)
+
+pub ack-le : (ports : List ReplyPort) (n bit : ℕ) → bit ≤ 1 → ackOf ports n bit ≤ 1
+unfolding ackOf
+ack-le ports n bit h = go (turns ports n) (eqb bit 0)
+  where
+    go : (a b : Bool) → cond a (cond b 1 0) bit ≤ 1
+    go true true = omega arith
+    go true false = omega arith
+    go false b = h

@@ -1,0 +1,9 @@
+pub mod Kept
+pub mod Laws
+pub mod Settles
+pub mod Calls
+pub mod Arriving
+pub mod Same
+pub mod Ruled
+pub mod Claims
+pub mod Claimed

@@ -1,0 +1,125 @@
+-- 'Client streams that differ in an epoch reported sure never come out alike': the bytes of a sure report determine the client's group frames.
+use mathlib.Core.Path.{_≡_, refl, _∙_, sym, ap}
+use mathlib.Core.Logic.{⊎-elim, _⊎_, _≢_}
+use mathlib.Core.Bool.{Bool, true, false, cond}
+use mathlib.Core.List.{List, [], _∷_, _++_, head-eq-of-cons-eq, tail-eq-of-cons-eq}
+use Prim.Native.Nat.{ℕ, zero, suc, _+_, _*_, _≤_, _<_}
+use native.Mathlib.Nat.{suc-mul, zero-mul}
+use native.Mathlib.Omega.{arith}
+use lib.ListN.{getD, length, length-append}
+use borrow.Author.Tests.{ne-eqb}
+use Rattle.ground.specs.Table.{getD-tabulate, tabulate}
+use Rattle.ground.specs.Truth.{eq-or-ne, le-or-lt}
+use Rattle.judge.specs.Verdict.{HELD, SURE}
+use Rattle.packet.specs.Kinds.{frames}
+use Rattle.link.specs.History.{Client, xAt}
+use Rattle.link.specs.Judged.Places.{epoch-in, frames-cancel}
+use Rattle.link.specs.Link.{Alike, Assumed, Link, SameIn, allAsSent, clientBytes, expected, framesOf}
+use Rattle.link.specs.Road.{Below, times}
+use Rattle.link.specs.Told.{Told}
+
+-- two lists of parts, the first parts as long
+append-apart : (a b c d : List ℕ) → length a ≡ length b → a ++ c ≡ b ++ d → (a ≡ b) × (c ≡ d)
+append-apart [] [] c d l e = (refl, e)
+append-apart [] (y ∷ b) c d l e = absurd (omega arith)
+append-apart (x ∷ a) [] c d l e = absurd (omega arith)
+append-apart (x ∷ a) (y ∷ b) c d l e =
+    let r = append-apart a b c d (omega arith) (tail-eq-of-cons-eq e) in
+    (λ i. head-eq-of-cons-eq e i ∷ r .0 i, r .1)
+
+-- every one of n group frames from position x on has w bytes
+abbrev Wide : Client → ℕ → ℕ → ℕ → Type 0
+Wide client x n w = (m : ℕ) → m < n → length (client (x + m)) ≡ w
+
+length-frames : (client : Client) (x n w : ℕ) → Wide client x n w → length (framesOf client x n) ≡ n * w
+unfolding framesOf
+length-frames client x zero w l = sym (zero-mul w)
+length-frames client x (suc n) w l =
+    let front = length-frames client x n w (λ m b. l m (omega arith)) in
+    let last = l n (omega arith) in
+    let sum : suc n * w ≡ n * w + w = suc-mul n w in
+    length-append (framesOf client x n) (client (x + n)) ∙ (omega arith)
+
+frames-apart : (c d : Client) (x n w : ℕ) → Wide c x n w → Wide d x n w → framesOf c x n ≡ framesOf d x n → (m : ℕ) → m < n → c (x + m) ≡ d (x + m)
+unfolding framesOf
+frames-apart c d x zero w lc ld e m b = absurd (omega arith)
+frames-apart c d x (suc n) w lc ld e m b =
+    let rest = frames-apart c d x n w (λ q l. lc q (omega arith)) (λ q l. ld q (omega arith)) in
+    let same =
+    append-apart (framesOf c x n) (framesOf d x n) (c (x + n)) (d (x + n))
+    (length-frames c x n w (λ q l. lc q (omega arith)) ∙ sym (length-frames d x n w (λ q l. ld q (omega arith)))) e in
+    ⊎-elim (λ (z : m ≡ n). rw z (same .1)) (λ (z : m ≢ n). rest (same .0) m (omega arith)) (eq-or-ne m n)
+
+sure-sent : (b : Bool) → _≡_ {A = ℕ} (cond b SURE HELD) SURE → b ≡ true
+sure-sent true e = refl
+sure-sent false e = absurd (omega arith)
+
+-- what a sure report to come brings
+sure-bytes : (k : Link) (i : ℕ) → expected k i .mark ≡ SURE → expected k i .bytes ≡ clientBytes k (suc i)
+unfolding expected
+sure-bytes k i e = rw (sure-sent (allAsSent k i) e) refl
+
+-- a group frame's bytes, at the places of an epoch
+wide-in : (k : Link) → Assumed k → (i kind : ℕ) → k .history .kind ≡ kind → Wide (k .client) (i * frames kind) (frames kind) (xAt (k .history) i * k .payload)
+wide-in k a i kind e m b =
+    a .client (i * frames kind + m)
+    ∙ ap (λ (q : ℕ). xAt (k .history) q * k .payload) (rw e (epoch-in kind i m b))
+
+module _ (k j : Link) (ak : Assumed k) (aj : Assumed j) (l : Alike k j) where
+  abbrev L : ℕ
+  L = frames (k .history .kind)
+
+  bytes-apart : (i : ℕ) → clientBytes k i ≡ clientBytes j i → SameIn i k j
+  bytes-apart i e =
+      let kind : ℕ = k .history .kind in
+      let there : clientBytes j i ≡ framesOf (j .client) (i * L) L = ap (λ (q : ℕ). framesOf (j .client) (i * frames q) (frames q)) (sym (l .kind)) in
+      let wk = wide-in k ak i kind refl in
+      let wj = wide-in j aj i kind (sym (l .kind)) in
+      let lk = length-frames (k .client) (i * L) L (xAt (k .history) i * k .payload) wk in
+      let lj = length-frames (j .client) (i * L) L (xAt (j .history) i * j .payload) wj in
+      let w : xAt (k .history) i * k .payload ≡ xAt (j .history) i * j .payload = frames-cancel kind _ _ (sym lk ∙ ap length (e ∙ there) ∙ lj) in
+      frames-apart (k .client) (j .client) (i * L) L (xAt (k .history) i * k .payload) wk (λ m b. wj m b ∙ sym w) (e ∙ there)
+
+  -- the report of epoch i + 1 is to be sure, on one link or on the other
+  abbrev pub EitherSure : ℕ → Type 0
+  EitherSure i = (expected k i .mark ≡ SURE) ⊎ (expected j i .mark ≡ SURE)
+
+  -- where the reports are the same, so are the client's frames of that epoch
+  pub apart : (i : ℕ) → EitherSure i → expected k i ≡ expected j i → SameIn (suc i) k j
+  apart i s e =
+      let mark : expected k i .mark ≡ expected j i .mark = ap (λ (t : Told). t .mark) e in
+      let sure : expected k i .mark ≡ SURE = ⊎-elim (λ (o : expected k i .mark ≡ SURE). o) (λ (o : expected j i .mark ≡ SURE). mark ∙ o) s in
+      bytes-apart (suc i) (sym (sure-bytes k i sure) ∙ ap (λ (t : Told). t .bytes) e ∙ sure-bytes j i (sym mark ∙ sure))
+
+  -- and where streams differ, so do the lists of reports, from the report of epoch g + 1 on, that hold this one
+  pub never-alike : (g n m : ℕ) → m < n → EitherSure (g + m) → (SameIn (suc (g + m)) k j → ⊥)
+      → tabulate n (λ q. expected k (g + q)) ≢ tabulate n (λ q. expected j (g + q))
+  never-alike g n m b s differ e =
+      let none : Told = record { epoch = 0; mark = 0; bytes = [] } in
+      differ
+      (apart (g + m) s
+      (sym (getD-tabulate n (λ q. expected k (g + q)) m none b)
+      ∙ ap (λ (t : List Told). getD t m none) e
+      ∙ getD-tabulate n (λ q. expected j (g + q)) m none b))
+
+-- Port orders tell how many ports there are.
+times-none : (n p : ℕ) (ps : List ℕ) → n ≤ p → Below n ps → times p ps ≡ 0
+times-none n p [] h b = refl
+times-none n p (q ∷ ps) h b = let l = b .0 in rw (ne-eqb p q (λ (e : p ≡ q). omega arith), times-none n p ps h (b .1)) refl
+
+fewer-not : (k j : Link) → Assumed k → Assumed j → k .order 0 ≡ j .order 0 → k .history .slots < j .history .slots → ⊥
+fewer-not k j ak aj e h =
+    let none = times-none (k .history .slots) (k .history .slots) (k .order 0) (omega arith) (ak .only 0) in
+    let one = aj .once 0 (k .history .slots) h in
+    let same : times (k .history .slots) (k .order 0) ≡ times (k .history .slots) (j .order 0) = ap (times (k .history .slots)) e in
+    omega arith
+
+pub same-ports : (k j : Link) → Assumed k → Assumed j → Alike k j → k .history .slots ≡ j .history .slots
+same-ports k j ak aj l =
+    ⊎-elim
+    (λ (h : k .history .slots ≤ j .history .slots).
+    ⊎-elim (λ (e : k .history .slots ≡ j .history .slots). e)
+    (λ (d : k .history .slots ≢ j .history .slots). absurd (fewer-not k j ak aj (l .order 0) (omega arith)))
+    (eq-or-ne (k .history .slots) (j .history .slots)))
+    (λ (h : j .history .slots < k .history .slots). absurd (fewer-not j k aj ak (sym (l .order 0)) h))
+    (le-or-lt (k .history .slots) (j .history .slots))

@@ -1,0 +1,85 @@
+-- Each report of a link is the one to come: sure with the client's bytes where all ruling packets came as sent, and otherwise held, with none.
+use mathlib.Core.Path.{_≡_, refl, _∙_, sym, ap, ap₂}
+use mathlib.Core.Logic.{⊎-elim}
+use mathlib.Core.Bool.{Bool, true, false, cond, not, false≢true, true≢false}
+use mathlib.Core.List.{List, [], _∷_}
+use Prim.Native.Nat.{ℕ, suc, _<_}
+use native.Mathlib.Omega.{arith}
+use lib.Dec.{eqb}
+use borrow.Author.Tests.{eq-eqb, eqb-true}
+use Rattle.counting.specs.Laws.Tests.{One, every-all, every-at, none-at, some-one}
+use Rattle.counting.specs.Words.{every, some}
+use Rattle.ground.specs.Truth.{and-left, and-right, and-true}
+use Rattle.judge.specs.declared.seen.Seen.{Seen}
+use Rattle.judge.specs.Laws.Ports.{not-false, not-true}
+use Rattle.judge.specs.Theorems.Held.{refused}
+use Rattle.judge.specs.Verdict.{HELD, SURE, judgeOf}
+use Rattle.packet.specs.Kinds.{frames}
+use Rattle.link.specs.Contents.{allSeenAfter, framesFrom, numberOf, reportAfter}
+use Rattle.link.specs.History.{History, epochNumber, epochStart}
+use Rattle.link.specs.Judged.Seen.{number-of, seen-damaged}
+use Rattle.link.specs.Judged.Sure.{frames-are, sure}
+use Rattle.link.specs.Link.{Assumed, Damaged, Link, allAsSent, clientBytes, expected, roadOf, sameBytes, sentTo}
+use Rattle.link.specs.Told.{Told}
+
+pub same-lists : (l m : List ℕ) → sameBytes l m ≡ true → l ≡ m
+same-lists [] [] t = refl
+same-lists [] (n ∷ m) t = absurd (false≢true t)
+same-lists (k ∷ l) [] t = absurd (false≢true t)
+same-lists (k ∷ l) (n ∷ m) t =
+    ap₂ _∷_ (eqb-true k n (and-left (eqb k n) (sameBytes l m) t)) (same-lists l m (and-right (eqb k n) (sameBytes l m) t))
+
+pub same-self : (l : List ℕ) → sameBytes l l ≡ true
+same-self [] = refl
+same-self (k ∷ l) = and-true (eqb k k) (sameBytes l l) (eq-eqb k k refl) (same-self l)
+
+-- where not every one does, one fails
+failing : (n : ℕ) (f : ℕ → Bool) → every n f ≡ false → One n (λ p. not (f p))
+failing n f e = go (some n (λ p. not (f p))) refl
+  where
+    go : (b : Bool) → some n (λ p. not (f p)) ≡ b → One n (λ p. not (f p))
+    go true t = some-one n (λ p. not (f p)) t
+    go false t = absurd (true≢false (sym (every-all n f (λ p b. not-false (f p) (none-at n (λ q. not (f q)) t p b))) ∙ e))
+
+told-is : (e d m o : ℕ) (b c : List ℕ) → e ≡ d → m ≡ o → b ≡ c → _≡_ {A = Told} (record { epoch = e; mark = m; bytes = b }) (record { epoch = d; mark = o; bytes = c })
+told-is e d m o b c pe pm pb = rw (pe, pm, pb) refl
+
+module _ (k : Link) (a : Assumed k) (i : ℕ) where
+  abbrev h : History
+  h = k .history
+
+  abbrev ports : List Seen
+  ports = allSeenAfter (roadOf k) i
+
+  -- the report of an epoch by its mark and its bytes
+  report-is : (mark : ℕ) (bytes : List ℕ) → judgeOf ports (h .slots) ≡ mark
+      → cond (eqb mark HELD) [] (framesFrom (roadOf k) ports (epochStart h (suc i)) (frames (h .kind))) ≡ bytes
+      → reportAfter (roadOf k) i ≡ record { epoch = epochNumber h (suc i); mark = mark; bytes = bytes }
+  unfolding reportAfter roadOf
+  report-is mark bytes j e =
+      told-is (numberOf (roadOf k) (suc i)) (epochNumber h (suc i)) (judgeOf ports (h .slots)) mark
+      (cond (eqb (judgeOf ports (h .slots)) HELD) [] (framesFrom (roadOf k) ports (epochStart h (suc i)) (frames (h .kind)))) bytes
+      (number-of k (suc i)) j
+      (ap (λ (m : ℕ). cond (eqb m HELD) [] (framesFrom (roadOf k) ports (epochStart h (suc i)) (frames (h .kind)))) j ∙ e)
+
+  -- one packet damaged
+  held : (p : ℕ) → p < h .slots → sameBytes (k .came i p) (sentTo k i p) ≡ false → judgeOf ports (h .slots) ≡ HELD
+  held p b e =
+      ⊎-elim (λ (w : k .came i p ≡ sentTo k i p). absurd (true≢false (sym (rw w (same-self (sentTo k i p))) ∙ e)))
+      (λ (d : Damaged (h .kind) (sentTo k i p) (k .came i p)). refused ports (h .slots) p b (seen-damaged k a i p b d))
+      (a .arrived i p b)
+
+  by-test : (b : Bool) → allAsSent k i ≡ b
+      → reportAfter (roadOf k) i ≡ record { epoch = epochNumber h (suc i); mark = cond b SURE HELD; bytes = cond b (clientBytes k (suc i)) [] }
+  unfolding allAsSent
+  by-test true e =
+      let sent : (p : ℕ) → p < h .slots → k .came i p ≡ sentTo k i p =
+      (λ p b. same-lists (k .came i p) (sentTo k i p) (every-at (h .slots) (λ q. sameBytes (k .came i q) (sentTo k i q)) e p b)) in
+      report-is SURE (clientBytes k (suc i)) (sure k a i sent) (frames-are k a i sent (frames (h .kind)) (omega arith))
+  by-test false e =
+      let o = failing (h .slots) (λ q. sameBytes (k .came i q) (sentTo k i q)) e in
+      report-is HELD [] (held (o .at) (o .below) (not-true (sameBytes (k .came i (o .at)) (sentTo k i (o .at))) (o .holds))) refl
+
+  pub judged : reportAfter (roadOf k) i ≡ expected k i
+  unfolding expected
+  judged = by-test (allAsSent k i) refl

@@ -1,0 +1,5 @@
+-- Laws on the definitions below, as the proof of demand 3 wants them.
+pub mod Numbers
+pub mod Epochs
+pub mod Lists
+pub mod Ring

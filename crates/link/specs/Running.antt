@@ -1,0 +1,75 @@
+-- The receiver on a road: its own definitions, called frame by frame, each with the state and the store that the last call left.
+use mathlib.Core.Bool.{Bool, false, cond, _&&_}
+use mathlib.Core.List.{List, [], _∷_, _++_}
+use Prim.Native.Nat.{ℕ, zero, suc, _+_, _-_, _*_}
+use lib.Dec.{eqb, leb}
+use lib.ListN.{getD, length, replicate, take}
+use Rattle.receiver.specs.Fetch.{fetchOut, fetchRecord, fetchRows}
+use Rattle.receiver.specs.Frame.{frameAnswer, frameRows, frameStore}
+use Rattle.receiver.specs.Starting.{startRows}
+use Rattle.link.specs.Road.{Road}
+use Rattle.link.specs.Told.{Told}
+
+-- what stands after some calls: the lent rows and store, the answers of all frames, and all reports so far
+pub record Moment : Type 0 where
+  pub rows : List (List ℕ)
+  pub store : List ℕ
+  pub answers : List ℕ
+  pub told : List Told
+
+module _ (r : Road) where
+  -- 'A fresh receiver', started over any rows and any store
+  unfoldable pub fresh : List (List ℕ) → List ℕ → Moment
+  fresh rows store =
+      record { rows = startRows (r .kind) (r .ports) (r .payload) (r .window) (length store) rows; store = store; answers = []; told = [] }
+
+  -- a frame handed over
+  unfoldable pub framed : ℕ → ℕ → Moment → Moment
+  framed p x m =
+      record {
+        rows = frameRows (m .rows) p false (r .h4 p x) (r .bytes p x) (m .store);
+        store = frameStore (m .rows) p false (r .h4 p x) (r .bytes p x) (m .store);
+        answers = m .answers ++ (frameAnswer (m .rows) p false (r .h4 p x) (length (r .bytes p x)) (length (m .store)) ∷ []);
+        told = m .told;
+      }
+
+  -- the record that a fetch writes
+  abbrev pub recordAt : Moment → List ℕ
+  recordAt m = fetchRecord (m .rows) (m .store) (r .output (length (m .told))) (replicate 8 0)
+
+  abbrev pub toldBy : List ℕ → List ℕ → Told
+  toldBy rec out =
+      record {
+        epoch = getD rec 1 0;
+        mark = getD rec 0 0;
+        bytes = take (getD rec 4 0 * 16777216 + getD rec 5 0 * 65536 + getD rec 6 0 * 256 + getD rec 7 0) out;
+      }
+
+  -- one fetch that gives a report
+  unfoldable pub fetched : Moment → Moment
+  fetched m =
+      let out = r .output (length (m .told)) in
+      record {
+        rows = fetchRows (m .rows) (m .store) out (replicate 8 0);
+        store = m .store;
+        answers = m .answers;
+        told = m .told ++ (toldBy (recordAt m) (fetchOut (m .rows) (m .store) out (replicate 8 0)) ∷ []);
+      }
+
+  -- 'reports fetched after each frame until none is due': at most k of them (the theorem says that none is due then)
+  unfoldable pub drained : ℕ → Moment → Moment
+  drained zero m = m
+  drained (suc k) m = cond (eqb (getD (recordAt m) 0 0) 0) m (drained k (fetched m))
+
+  -- port p's turn in frame time t: its frame, if its first one is not still to come, and then the reports
+  unfoldable pub turn : ℕ → ℕ → Moment → Moment
+  turn t p m = cond (leb (r .delay p + r .first p) t) (drained (r .window) (framed p (t - r .delay p) m)) m
+
+  unfoldable pub turns : ℕ → List ℕ → Moment → Moment
+  turns t [] m = m
+  turns t (p ∷ ps) m = turns t ps (turn t p m)
+
+  -- all frame times before t
+  unfoldable pub through : ℕ → Moment → Moment
+  through zero m = m
+  through (suc t) m = turns t (r .order t) (through t m)

@@ -1,0 +1,39 @@
+-- Fetches that find none due: before the beginning, and while the first epoch is gathered.
+use mathlib.Core.Path.{_≡_, refl, _∙_, ap}
+use mathlib.Core.Bool.{Bool, true, false, cond, not, _&&_, and-false}
+use mathlib.Core.List.{List}
+use Prim.Native.Nat.{ℕ, suc}
+use lib.Dec.{eqb, ltb}
+use lib.ListN.{getD, length, replicate}
+use borrow.Author.Tests.{eq-eqb}
+use Rattle.phases.specs.Due.{brought}
+use Rattle.phases.specs.Sizes.{portsIn}
+use Rattle.receiver.specs.Fetch.{dueIn, fetchRecord, fits, givenReport, noneDue, recordOf}
+use Rattle.rows.specs.Group.{groupAt}
+use Rattle.rows.specs.declared.group.Group.{Group}
+use Rattle.link.specs.Road.{Road}
+use Rattle.link.specs.Running.{Moment, recordAt}
+use Rattle.link.specs.Standing.{Before, First}
+
+not-begun : (g : Group) (n : ℕ) (s : List (List ℕ)) → g .begun ≡ 0 → dueIn g n s ≡ false
+unfolding dueIn
+not-begun g n s e = rw (eq-eqb (g .begun) 0 e, and-false (ltb 0 n)) refl
+
+not-gathered : (g : Group) (n : ℕ) (s : List (List ℕ)) → g .gathered ≡ 0 → dueIn g n s ≡ false
+unfolding dueIn
+not-gathered g n s e = rw (eq-eqb (g .gathered) 0 e, and-false (ltb 0 n && not (eqb (g .begun) 0))) refl
+
+none-due : (s : List (List ℕ)) (store out : List ℕ) → dueIn (groupAt s) (portsIn (groupAt s)) s ≡ false → getD (fetchRecord s store out (replicate 8 0)) 0 0 ≡ 0
+unfolding fetchRecord givenReport recordOf
+none-due s store out e = go (fits s store out (replicate 8 0))
+  where
+    go : (b : Bool) → getD (cond b (recordOf (givenReport (groupAt s) (portsIn (groupAt s)) s)) (replicate 8 0)) 0 0 ≡ 0
+    go true = rw e refl
+    go false = refl
+
+module _ (r : Road) where
+  pub before-none : (m : Moment) (nx : ℕ → ℕ) → Before r m nx → getD (recordAt r m) 0 0 ≡ 0
+  before-none m nx b = none-due (m .rows) (m .store) (r .output (length (m .told))) (not-begun (groupAt (m .rows)) (portsIn (groupAt (m .rows))) (m .rows) (b .begun))
+
+  pub first-none : (m : Moment) (i : ℕ) (nx : ℕ → ℕ) → First r m nx i → getD (recordAt r m) 0 0 ≡ 0
+  first-none m i nx b = none-due (m .rows) (m .store) (r .output (length (m .told))) (not-gathered (groupAt (m .rows)) (portsIn (groupAt (m .rows))) (m .rows) (b .gathered))
