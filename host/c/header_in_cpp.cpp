@@ -1,6 +1,9 @@
 // The header serves C++ too: this compiles, links and gets P1's first and last byte.
 #include <levelspruce.h>
 
+#include <cstdio>
+#include <cstring>
+
 #include "check.h"
 
 int main()
@@ -14,5 +17,14 @@ int main()
     check("a C++ program reads a packet",
           levelspruce_packet_read(h4, sizeof h4, fields, sizeof fields) == LEVELSPRUCE_ANSWER_DONE
               && fields[LEVELSPRUCE_FIELD_SQ] == 255);
+    uint8_t receiver[LEVELSPRUCE_RECEIVER_ROWS(1)][LEVELSPRUCE_ROW_BYTES];
+    uint8_t ports[1][LEVELSPRUCE_PORT_BYTES];
+    check("a C++ program starts a receiver and sees its port",
+          levelspruce_receiver_start(1, 2, 16, LEVELSPRUCE_STORE_BYTES(1, 2, 16), receiver, LEVELSPRUCE_RECEIVER_ROWS(1)) == LEVELSPRUCE_ANSWER_DONE
+              && levelspruce_receiver_ports(receiver, LEVELSPRUCE_RECEIVER_ROWS(1), ports, 1) == LEVELSPRUCE_ANSWER_DONE
+              && ports[0][LEVELSPRUCE_PORT_STATE] == LEVELSPRUCE_PORT_IDLE);
+    char version[32];
+    std::snprintf(version, sizeof version, "%d.%d.%d", LEVELSPRUCE_VERSION_MAJOR, LEVELSPRUCE_VERSION_MINOR, LEVELSPRUCE_VERSION_PATCH);
+    check("the version's text has its numbers", std::strcmp(version, LEVELSPRUCE_VERSION) == 0);
     return tally();
 }
