@@ -1,13 +1,13 @@
 -- What the answers say of ports and lengths.
 use mathlib.Core.Path.{_≡_, refl, sym, ap, _∙_}
 use mathlib.Core.Logic.{⊎-elim}
-use mathlib.Core.Bool.{Bool, true, false, cond, _&&_}
+use mathlib.Core.Bool.{Bool, true, false, cond, _&&_, _||_, or-true}
 use mathlib.Core.List.{List}
 use Prim.Native.Nat.{ℕ, _+_, _*_, _≤_, _<_}
 use native.Mathlib.Omega.{arith}
 use lib.Dec.{eqb, leb, ltb}
 use lib.ListN.{length}
-use borrow.Author.Tests.{eqb-true, leb-true, ltb-true}
+use borrow.Author.Tests.{eq-eqb, eqb-true, leb-true, lt-ltb, ltb-true}
 use Rattle.ground.specs.Truth.{and-left, and-right, or-cases}
 use Rattle.phases.specs.Sizes.{portsIn, sized, storeFor}
 use Rattle.receiver.specs.Frame.{refusalBy}
@@ -48,3 +48,8 @@ unrefused g n i rows payload store e = go (ltb i n) (frameFits g n rows payload 
         }
     go true false ea eb z = absurd (omega arith)
     go false b ea eb z = absurd (omega arith)
+
+pub fitting-none : (g : Group) (n i rows payload store : ℕ) → Fitting g n i rows payload store → refusalBy g n i rows payload store ≡ 0
+unfolding refusalBy frameFits rowsFit
+fitting-none g n i rows payload store f =
+    rw (lt-ltb i n (f .port), eq-eqb rows (rowsFor n) (f .whole), eq-eqb payload (g .payload) (f .bytes), eq-eqb store (storeFor g n) (f .stored), or-true (eqb n 0)) refl
