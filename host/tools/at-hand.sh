@@ -19,6 +19,14 @@ builds_c() {
 # builds_and_runs_c COMPILER WORD..: and whether the program runs here.
 builds_and_runs_c() { builds_c "$@" && "$room/try" >/dev/null 2>&1; }
 
+has_clang() { command -v clang >/dev/null; }
+
+# builds_fuzzer COMPILER WORD..: whether it builds a program of libFuzzer that runs here.
+builds_fuzzer() {
+    printf '#include <stddef.h>\n#include <stdint.h>\nint LLVMFuzzerTestOneInput(const uint8_t *d, size_t n) { return d == NULL && n > 0; }\n' >"$room/try.c"
+    "$@" "$room/try.c" -o "$room/try" >/dev/null 2>&1 && "$room/try" -runs=1 >/dev/null 2>&1
+}
+
 builds_rust() {
     echo 'fn main() {}' >"$room/try.rs"
     rustc "$room/try.rs" -o "$room/try" >/dev/null 2>&1
