@@ -8,3 +8,4 @@ pub mod Ruled
 pub mod Claims
 pub mod Claimed
 pub mod Reports
+mod Wrong

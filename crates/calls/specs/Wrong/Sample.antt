@@ -1,0 +1,38 @@
+-- Small groups and ports, and H4 bytes as sent.
+use mathlib.Core.Bool.{cond}
+use mathlib.Core.List.{List, [], _∷_}
+use Prim.Native.Nat.{ℕ, _+_, _*_, _/_, _%_}
+use lib.Dec.{eqb}
+use lib.ListN.{replicate}
+use Rattle.receiver.specs.Starting.{groupWith}
+use Rattle.rows.specs.declared.group.Group.{Group}
+use Rattle.rows.specs.declared.step.Step.{Step}
+use Rattle.phases.specs.Passing.{groupTo}
+
+-- n ports with P = 1 and a window W, begun, with an oldest epoch
+abbrev pub sampleGroup : ℕ → ℕ → ℕ → ℕ → ℕ → Group
+sampleGroup n W begun gathered oldest = groupTo (groupWith 0 n 1 W) begun gathered oldest 0 0
+
+abbrev pub sampleStep : ℕ → ℕ → ℕ → ℕ → ℕ → ℕ → Step
+sampleStep count next joined since later whole =
+    record {
+      had = 1;
+      failed = 0;
+      count = count;
+      next = next;
+      joined = joined;
+      since = since;
+      later = later;
+      whole = whole;
+      «spare_9» = 0;
+      «spare_10» = 0;
+      «spare_11» = 0;
+      «spare_12» = 0;
+      «spare_13» = 0;
+      «spare_14» = 0;
+      «spare_15» = 0;
+    }
+
+-- the H4 byte of a frame with this tag, with a packet's nibble where MFI2 does not stand
+abbrev pub sentH4 : ℕ → ℕ
+sentH4 t = cond (eqb (t % 16) 0) (t / 256 * 16) (cond (eqb (t % 16) 1) (t / 16 % 16 * 16 + 1) (t % 16))
