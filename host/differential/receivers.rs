@@ -37,6 +37,7 @@ struct Seen {
     stops: u64,
     joins: u64,
     joins_later: u64,
+    old_marks: u64,
     turns: u64,
     damages: u64,
 }
@@ -119,6 +120,7 @@ impl Both {
         let (flagged, h4, payload) = frame;
         let before = (self.rows[0][0], self.rows[0].get(rows_for(port)).map_or((0, 0), |step| (step[5], step[7])));
         let given = self.rows[0].get(rows_for(port)).copied();
+        let marks = self.rows[0].get(rows_for(port) + 4).copied();
         let [a, b] = &mut self.stores;
         let (a, b) = (&mut a[..store], &mut b[..store]);
         let answer = match &mut self.reference {
@@ -138,6 +140,7 @@ impl Both {
             if let Some(step) = self.rows[0].get(rows_for(port)).filter(|step| step[5] > before.1 .0) {
                 seen.joins += 1;
                 seen.joins_later += u64::from(step[7] > 0);
+                seen.old_marks += u64::from(marks != self.rows[0].get(rows_for(port) + 4).copied());
             }
         }
         answer
@@ -209,7 +212,8 @@ fn history(tests: &mut Tests, random: &mut Random, seen: &mut Seen, damaged: boo
     let payload = if ports < 5 && random.below(12) == 0 { 756 } else { 1 + random.below(5) as usize };
     let mut both = Both::start(random, ports, payload, window, damaged);
     let mut host = Host::new(random, ports, window);
-    let fetches = random.one_of(&[1, 4, 20, 1000]);
+    // one frame time in so many is followed by fetches, and one frame answered 11 in so many
+    let (fetches, full_fetches) = (random.one_of(&[1, 4, 20, 1000]), random.one_of(&[2, 3, 60]));
     // one frame in so many finds state bytes damaged before it, and one goes on from what the state says
     let (damages, follows) = (random.one_of(&[40, 400, 2000]), random.one_of(&[2, 50, 2000]));
     let end = seen.calls + calls * if wide { 4 } else { 1 };
@@ -236,11 +240,14 @@ fn history(tests: &mut Tests, random: &mut Random, seen: &mut Seen, damaged: boo
                 both.fetch(&mut tests.fetches, random, seen);
                 (both.rows[0][0], both.rows[1][0]) = (group, group);
             }
-            if answer == 11 && random.below(3) == 0 && both.fetch(&mut tests.fetches, random, seen) != Report::NONE {
+            if answer == 11 && random.below(full_fetches) == 0 && both.fetch(&mut tests.fetches, random, seen) != Report::NONE {
                 answer = both.frame(&mut tests.frames, random, seen, port, &frame, both.rows[0].len(), both.stores[0].len());
             }
             if !frame.0 && (answer != 11 || random.below(60) == 0) {
                 host.go_on(port);
+            }
+            if answer == 11 && random.below(15) == 0 {
+                host.switch(random, port);
             }
         }
         if random.below(fetches) == 0 {
@@ -259,7 +266,7 @@ pub fn compare(count: &mut Count) {
     println!("seen\t{:?}", seen);
     tests.frames.end(count, &[0, 9, 10, 11, 12]);
     tests.fetches.end(count, &[0]);
-    let events = [seen.begins, seen.stops, seen.joins_later, seen.turns].iter().all(|times| *times > 100);
+    let events = [seen.begins, seen.stops, seen.joins_later, seen.turns].iter().all(|times| *times > 100) && seen.old_marks > 5;
     count.note("all that can happen to a receiver happens there", events && seen.marks.iter().all(|times| *times > 200));
 
     let mut seen = Seen::default();

@@ -138,6 +138,12 @@ impl Host {
         Some((false, self.h4(random, port), bytes))
     }
 
+    /// The port's path is switched to a longer one, on which its tags go back.
+    pub fn switch(&mut self, random: &mut Random, port: usize) {
+        let back = 32 + random.below(self.window + 28) as usize;
+        self.sources[port].tag = (self.sources[port].tag + TAGS - back) % TAGS;
+    }
+
     /// The frame was taken, or given up.
     pub fn go_on(&mut self, port: usize) {
         let s = &mut self.sources[port];
