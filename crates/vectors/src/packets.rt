@@ -2,20 +2,13 @@
 // bytes, and the bytes are read and held to the fields.
 use crate::given;
 use crate::show;
+use crate::text;
 use packet::Fields;
-use packet::Word;
 ghost use Prim.Native.Nat.{_<_};
 
 pub(crate) fn run() {
-    let path = b"packets.txt";
-    let fd = os::open_read(path);
-    if fd < 0 {
-        os::fail(path);
-        return;
-    }
     let mut file = io::buffer();
-    let n = io::read_full(fd, &mut file);
-    libc::close(fd);
+    let n = text::read(b"packets.txt", &mut file);
     lines(&file[..n]);
 }
 
@@ -59,54 +52,16 @@ fn is_written_as(fields: Fields, h4: [u8; 16]) -> bool {
     check::same(&own, &h4)
 }
 
-// The byte in a column; 0 behind the line's end.
-fn column(line: &[u8], at: usize) -> u8 {
-    if at < line.len() { line[at] } else { 0 }
-}
-
 // MST is FF and RS-Ack 0 in every row.
 fn fields_in(line: &[u8]) -> Fields {
     Fields {
-        epoch: number_at(line, 26),
-        word: word_at(line, 30),
-        gid: digit(column(line, 46)),
+        epoch: text::number_at(line, 26),
+        word: text::word_at(line, 30),
+        gid: text::digit(text::column(line, 46)),
         mst: 255,
         rs_ack: 0,
-        sq: number_at(line, 38),
+        sq: text::number_at(line, 38),
     }
-}
-
-// No two of the words begin alike.
-fn word_at(line: &[u8], at: usize) -> Word {
-    match column(line, at) {
-        b'A' => Word::ADD,
-        b'N' => Word::NORM,
-        b'E' => Word::EOS,
-        b'I' => Word::IDLE,
-        b'D' => Word::DNU,
-        _ => Word::FIXED,
-    }
-}
-
-// The value of a digit in either base; 0 of the spaces before a number.
-fn digit(byte: u8) -> u8
-    ensures { λ r. ⌜ r < 16 ⌝ }
-{
-    match byte {
-        b'0'..=b'9' => byte - b'0',
-        b'A'..=b'F' => byte - b'A' + 10,
-        _ => 0,
-    }
-}
-
-// Three columns of decimal digits, with spaces before them.
-fn number_at(line: &[u8], at: usize) -> u8
-    requires { ⌜ at < 1000 ⌝ }
-{
-    let hundreds = digit(column(line, at)) as u16;
-    let tens = digit(column(line, at + 1)) as u16;
-    let ones = digit(column(line, at + 2)) as u16;
-    ((hundreds * 100 + tens * 10 + ones) % 256) as u8
 }
 
 fn bytes_in(line: &[u8]) -> [u8; 16] {
@@ -122,7 +77,7 @@ fn bytes_in(line: &[u8]) -> [u8; 16] {
 fn byte_at(line: &[u8], at: usize) -> u8
     requires { ⌜ at < 1000 ⌝ }
 {
-    let high = digit(column(line, at));
-    let low = digit(column(line, at + 1));
+    let high = text::digit(text::column(line, at));
+    let low = text::digit(text::column(line, at + 1));
     high * 16 + low
 }

@@ -1,7 +1,7 @@
 use Prim.Native.Nat.{_-_, _≤_}
 use borrow.Author.Needs.{needs}
-use Rattle.vectors.proofs.rows.bytes_in.Statement.{statement}
-use Rattle.vectors.proofs.rows.bytes_in.Tie as tie
+use Rattle.vectors.proofs.packets.bytes_in.Statement.{statement}
+use Rattle.vectors.proofs.packets.bytes_in.Tie as tie
 
 abbrev Inv-loop : tie.InvT-loop
 Inv-loop line bytes₀ i₀ bytes i = i ≤ 16

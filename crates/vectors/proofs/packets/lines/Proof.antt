@@ -1,8 +1,8 @@
 use Prim.Native.Nat.{_-_}
 use lib.ListN.{length}
 use borrow.Author.Needs.{needs}
-use Rattle.vectors.proofs.rows.lines.Statement.{statement}
-use Rattle.vectors.proofs.rows.lines.Tie as tie
+use Rattle.vectors.proofs.packets.lines.Statement.{statement}
+use Rattle.vectors.proofs.packets.lines.Tie as tie
 
 abbrev Inv-loop : tie.InvT-loop
 Inv-loop file start₀ start = Unit
