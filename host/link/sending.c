@@ -13,7 +13,8 @@ int sending_open(struct sending *s, const struct choices *c)
     s->choices = c;
     s->gid = 1;
     s->frame = malloc((size_t)c->slots * c->payload);
-    if (s->frame == NULL)
+    s->members = malloc((size_t)c->slots * c->payload);
+    if (s->frame == NULL || s->members == NULL)
         return -1;
     must(levelspruce_sender_start(c->slots, c->number, s->state, sizeof s->state), "levelspruce_sender_start");
     return 0;
@@ -91,7 +92,7 @@ void sending_start_epoch(struct sending *s, uint64_t epoch, const struct client 
 {
     const struct choices *c = s->choices;
     struct carried *carried = &s->carried[epoch % CARRIED_MOST];
-    uint8_t board[LEVELSPRUCE_BOARD_BYTES], ranks[LEVELSPRUCE_RANKS_BYTES];
+    uint8_t board[LEVELSPRUCE_BOARD_BYTES];
 
     lapse_if_late(s);
     give(s, "add", levelspruce_sender_add, &c->adds, s->added, epoch, says);
@@ -102,29 +103,46 @@ void sending_start_epoch(struct sending *s, uint64_t epoch, const struct client 
     /* This end receives nothing, so it has no member to call OK: MST is all ones, RS-Ack stays 0. */
     must(levelspruce_sender_start_epoch(s->state, sizeof s->state, next_gid(s), 0xFF, 0), "levelspruce_sender_start_epoch");
     write_packets(s, epoch);
-    must(levelspruce_sender_ranks(s->state, sizeof s->state, ranks, sizeof ranks), "levelspruce_sender_ranks");
-    s->frame_bytes = (size_t)ranks[LEVELSPRUCE_RANKS_X] * c->payload;
+    must(levelspruce_sender_ranks(s->state, sizeof s->state, s->ranks, sizeof s->ranks), "levelspruce_sender_ranks");
+    s->frame_bytes = (size_t)s->ranks[LEVELSPRUCE_RANKS_X] * c->payload;
     carried->epoch = epoch;
     carried->from = client->sent;
     carried->bytes = EPOCH_FRAMES * s->frame_bytes;
 
     must(levelspruce_sender_board_going(s->state, sizeof s->state, board, sizeof board), "levelspruce_sender_board_going");
-    says_start(says, epoch, ranks[LEVELSPRUCE_RANKS_X], carried->bytes, board);
+    says_start(says, epoch, s->ranks[LEVELSPRUCE_RANKS_X], carried->bytes, board);
+}
+
+/* Spreads the group frame once for all members. levelspruce_sender_payload gives the same bytes slot by slot, more slowly. */
+static void spread(struct sending *s)
+{
+    must(levelspruce_spread(s->ranks[LEVELSPRUCE_RANKS_X], s->choices->payload, s->frame, s->frame_bytes, s->members, s->frame_bytes),
+         "levelspruce_spread");
+}
+
+/* The payload of a slot: the bytes of its rank, or zeros where it has none. */
+static void write_payload(const struct sending *s, uint32_t slot, uint8_t *payload)
+{
+    size_t bytes = s->choices->payload, rank = s->ranks[LEVELSPRUCE_RANKS_EACH + slot];
+
+    if (rank == LEVELSPRUCE_RANK_NONE)
+        memset(payload, 0, bytes);
+    else
+        memcpy(payload, s->members + rank * bytes, bytes);
 }
 
 void sending_frame(struct sending *s, uint64_t n, struct client *client, struct line *lines)
 {
-    const struct choices *c = s->choices;
     uint32_t slot;
 
     client_take(client, s->frame, s->frame_bytes);
-    for (slot = 0; slot < c->slots; slot++) {
+    spread(s);
+    for (slot = 0; slot < s->choices->slots; slot++) {
         uint8_t *place = line_put(&lines[slot], n);
 
         if (place != NULL) {
-            must(levelspruce_sender_payload(s->state, sizeof s->state, slot, c->payload, s->frame, s->frame_bytes, place, c->payload),
-                 "levelspruce_sender_payload");
-            place[c->payload] = s->packets[slot][n % EPOCH_FRAMES];
+            write_payload(s, slot, place);
+            place[s->choices->payload] = s->packets[slot][n % EPOCH_FRAMES];
         }
     }
 }
@@ -152,4 +170,5 @@ const struct carried *sending_carried(const struct sending *s, uint64_t epoch)
 void sending_close(struct sending *s)
 {
     free(s->frame);
+    free(s->members);
 }
