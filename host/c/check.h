@@ -4,6 +4,9 @@
 
 #include <stdio.h>
 
+/* How many entries an array has. */
+#define COUNT(a) (sizeof(a) / sizeof(a)[0])
+
 static int checks_passed;
 static int checks_failed;
 

@@ -17,8 +17,6 @@ static const size_t h4_lengths[] = { 0, 1, 15, 16, 17, 64 };
 static const size_t fields_lengths[] = { 0, 1, 5, 6, 7, 64 };
 static size_t page;
 
-#define COUNT(a) (sizeof(a) / sizeof(a)[0])
-
 /* The open one of three pages, or NULL. */
 static uint8_t *open_page(void)
 {

@@ -7,6 +7,8 @@
 #include <levelspruce.h>
 
 #include "check.h"
+
+enum { LENT_MOST = 64 };
 #include "lent.h"
 
 enum { PACKET = LEVELSPRUCE_PACKET_BYTES, FIELDS = LEVELSPRUCE_FIELDS_BYTES, CRC_PLACE = 14, WORD_PLACE = 10 };
@@ -28,8 +30,6 @@ static const uint8_t p2_h4[PACKET] = { 0xF8, 0xF9, 0x0A, 0x0B, 0x0C, 0x0D, 0x0E,
 
 static const uint32_t assigned[] = { LEVELSPRUCE_WORD_ADD, LEVELSPRUCE_WORD_NORM, LEVELSPRUCE_WORD_EOS,
                                      LEVELSPRUCE_WORD_IDLE, LEVELSPRUCE_WORD_DNU };
-
-#define COUNT(a) (sizeof(a) / sizeof(a)[0])
 
 static int is_assigned(uint32_t word)
 {
@@ -54,7 +54,7 @@ static int writes(const struct packet *p, const uint8_t *expected)
 {
     struct lent h4;
 
-    return write_into(&h4, PACKET, p) == LEVELSPRUCE_ANSWER_DONE && guards_stand(&h4, PACKET)
+    return write_into(&h4, PACKET, p) == LEVELSPRUCE_ANSWER_DONE && stands(&h4, PACKET)
         && memcmp(lent_bytes(&h4), expected, PACKET) == 0;
 }
 
@@ -74,7 +74,7 @@ static int reads(const uint8_t *bytes, const struct packet *p)
     lend(&h4, bytes, PACKET);
     lend(&fields, NULL, 0);
     held = levelspruce_packet_read(lent_bytes(&h4), PACKET, lent_bytes(&fields), FIELDS) == LEVELSPRUCE_ANSWER_DONE
-        && untouched(&h4) && guards_stand(&fields, FIELDS);
+        && untouched(&h4) && stands(&fields, FIELDS);
     for (i = 0; i < FIELDS; i++)
         held = held && lent_bytes(&fields)[i] == p->field[i];
     return held;
@@ -159,7 +159,7 @@ static void test_write_takes_all_that_fits(void)
             p.field[f] = value;
             if (f == LEVELSPRUCE_FIELD_WORD && !is_assigned(value))
                 continue;
-            held = held && write_into(&h4, PACKET, &p) == LEVELSPRUCE_ANSWER_DONE && guards_stand(&h4, PACKET)
+            held = held && write_into(&h4, PACKET, &p) == LEVELSPRUCE_ANSWER_DONE && stands(&h4, PACKET)
                 && reads(lent_bytes(&h4), &p);
         }
         sprintf(name, "writing answers 0 for every %s that fits, and it reads back", field_name[f]);

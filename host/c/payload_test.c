@@ -8,38 +8,28 @@
 
 #include "check.h"
 
-enum { GUARD = 32, MOST = LEVELSPRUCE_MEMBERS_MOST * LEVELSPRUCE_PAYLOAD_MOST, AREA = GUARD + MOST + GUARD };
+enum { LENT_MOST = LEVELSPRUCE_MEMBERS_MOST * LEVELSPRUCE_PAYLOAD_MOST };
+#include "lent.h"
 
-static uint8_t frame[AREA], members[AREA], back[AREA], before[AREA];
+static struct lent frame, members, back;
 
-#define COUNT(a) (sizeof(a) / sizeof(a)[0])
-
-static void pattern(uint8_t *area, unsigned seed)
+/* Quicker than noise: these buffers are large. */
+static void fill(struct lent *l, unsigned seed)
 {
     size_t i;
 
-    for (i = 0; i < AREA; i++)
-        area[i] = (uint8_t)((i * 2654435761u + seed) >> 13);
-}
-
-/* No byte outside the n lent ones changed since 'before' was taken. */
-static int guards_stand(const uint8_t *area, size_t n)
-{
-    return memcmp(area, before, GUARD) == 0 && memcmp(area + GUARD + n, before + GUARD + n, AREA - GUARD - n) == 0;
+    for (i = 0; i < sizeof l->now; i++)
+        l->now[i] = (uint8_t)((i * 2654435761u + seed) >> 13);
+    remember(l);
 }
 
 /* Both calls refuse, and leave what they would write. */
 static int refused(uint32_t x, uint32_t p, size_t from, size_t to, uint8_t answer)
 {
-    int held;
-
-    pattern(frame, 1);
-    pattern(members, 2);
-    memcpy(before, members, AREA);
-    held = levelspruce_spread(x, p, frame + GUARD, from, members + GUARD, to) == answer && memcmp(members, before, AREA) == 0;
-    memcpy(before, frame, AREA);
-    return held && levelspruce_join(x, p, members + GUARD, from, frame + GUARD, to) == answer
-        && memcmp(frame, before, AREA) == 0;
+    fill(&frame, 1);
+    fill(&members, 2);
+    return levelspruce_spread(x, p, lent_bytes(&frame), from, lent_bytes(&members), to) == answer && untouched(&members)
+        && levelspruce_join(x, p, lent_bytes(&members), from, lent_bytes(&frame), to) == answer && untouched(&frame);
 }
 
 /* A frame is spread byte by byte as it should be, nothing beside the members is written, and joining gives it back. */
@@ -48,16 +38,14 @@ static int spread_and_joined(uint32_t x, uint32_t p)
     size_t n = (size_t)x * p, i;
     int held;
 
-    pattern(frame, x + 3 * p);
-    pattern(members, 2);
-    memcpy(before, members, AREA);
-    held = levelspruce_spread(x, p, frame + GUARD, n, members + GUARD, n) == LEVELSPRUCE_ANSWER_DONE && guards_stand(members, n);
+    fill(&frame, x + 3 * p);
+    fill(&members, 2);
+    held = levelspruce_spread(x, p, lent_bytes(&frame), n, lent_bytes(&members), n) == LEVELSPRUCE_ANSWER_DONE && stands(&members, n);
     for (i = 0; i < n; i++)
-        held = held && members[GUARD + (i % x) * p + i / x] == frame[GUARD + i];
-    pattern(back, 3);
-    memcpy(before, back, AREA);
-    held = held && levelspruce_join(x, p, members + GUARD, n, back + GUARD, n) == LEVELSPRUCE_ANSWER_DONE && guards_stand(back, n);
-    return held && memcmp(back + GUARD, frame + GUARD, n) == 0;
+        held = held && lent_bytes(&members)[(i % x) * p + i / x] == lent_bytes(&frame)[i];
+    fill(&back, 3);
+    held = held && levelspruce_join(x, p, lent_bytes(&members), n, lent_bytes(&back), n) == LEVELSPRUCE_ANSWER_DONE && stands(&back, n);
+    return held && memcmp(lent_bytes(&back), lent_bytes(&frame), n) == 0;
 }
 
 static void examples(void)

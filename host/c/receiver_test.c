@@ -9,7 +9,9 @@
 
 #include "check.h"
 
-enum { GUARD = 32, MOST = 5248, AREA = GUARD + MOST + GUARD };
+enum { LENT_MOST = 5248 };
+#include "lent.h"
+
 enum { START, FRAME, FETCH, PORTS, REPLY, CALLS };
 enum { TAGS = 4096, EPOCH = 16, INTO_STEP = 32 };
 enum { A = LEVELSPRUCE_WORD_ADD, N = LEVELSPRUCE_WORD_NORM, E = LEVELSPRUCE_WORD_EOS, I = LEVELSPRUCE_WORD_IDLE, D = LEVELSPRUCE_WORD_DNU };
@@ -18,9 +20,7 @@ enum { OK = LEVELSPRUCE_PORT_OK, FAIL = LEVELSPRUCE_PORT_FAIL };
 
 static const uint32_t wide[] = { 256, 257, 65537, UINT32_MAX };
 
-static struct area {
-    uint8_t now[AREA], before[AREA];
-} state, store, payload, out, result; /* lent from byte GUARD on; the result is a record, ports or a reply */
+static struct lent state, store, payload, out, result; /* the result is a record, ports or a reply */
 
 /* The group of the test: its ports, P and W. */
 static uint32_t count, p, w;
@@ -31,26 +31,11 @@ struct given {
     size_t rows, store, payload, out, result;
 };
 
-#define COUNT(a) (sizeof(a) / sizeof(a)[0])
-#define RECORD (result.now + GUARD)
+#define RECORD (lent_bytes(&result))
 
-static void noise(uint8_t *bytes, size_t n, uint32_t seed)
+static uint8_t *lent(struct lent *l, size_t n)
 {
-    size_t i;
-
-    for (i = 0, seed *= 2654435761u; i < n; i++, seed = seed * 1664525u + 1013904223u)
-        bytes[i] = (uint8_t)(seed >> 24);
-}
-
-/* No byte outside the first n lent ones changed; with n of 0, none at all. */
-static int stands(const struct area *a, size_t n)
-{
-    return memcmp(a->now, a->before, GUARD) == 0 && memcmp(a->now + GUARD + n, a->before + GUARD + n, AREA - GUARD - n) == 0;
-}
-
-static uint8_t *lent(struct area *a, size_t n)
-{
-    return n ? a->now + GUARD : NULL;
+    return n ? lent_bytes(l) : NULL;
 }
 
 /* The call itself; a length of 0 goes with NULL. */
@@ -90,15 +75,15 @@ static int ask(int which, struct given g)
 {
     int answer;
 
-    noise(out.now, AREA, 5);
-    noise(result.now, AREA, 6);
-    memcpy(state.before, state.now, AREA);
-    memcpy(store.before, store.now, AREA);
-    memcpy(payload.before, payload.now, AREA);
-    memcpy(out.before, out.now, AREA);
-    memcpy(result.before, result.now, AREA);
+    noise(out.now, sizeof out.now, 5);
+    noise(result.now, sizeof result.now, 6);
+    remember(&state);
+    remember(&store);
+    remember(&payload);
+    remember(&out);
+    remember(&result);
     answer = call(which, g);
-    return stands(&payload, 0) && stands(&state, state_may(which, answer, g)) && stands(&store, which == FRAME && answer == 0 ? g.store : 0)
+    return untouched(&payload) && stands(&state, state_may(which, answer, g)) && stands(&store, which == FRAME && answer == 0 ? g.store : 0)
         && stands(&out, which == FETCH && answer == 0 ? report_bytes() : 0)
         && stands(&result, which >= FETCH && answer == 0 ? g.result * (which == PORTS ? LEVELSPRUCE_PORT_BYTES : 1) : 0) ? answer : -1;
 }
@@ -246,7 +231,7 @@ static int starts_by(long rows, long store_bytes)
 
 static void starting(void)
 {
-    static uint8_t first[MOST];
+    static uint8_t first[LENT_MOST];
     size_t i;
     int held = empties(0, 3, 16) && empties(65, 3, 16) && empties(2, 0, 16) && empties(2, 2341, 16) && empties(2, 3, 15) && empties(2, 3, 2049);
 
@@ -259,10 +244,10 @@ static void starting(void)
     check("1 and 64 ports, P of 1 and 2340, W of 16 and 2048 start", started(1, 1, 16) && started(64, 1, 16) && started(1, 2340, 16)
           && started(1, 1, 2048) && started(64, 2340, 2048));
     held = started(3, 2, 40);
-    memcpy(first, state.now + GUARD, LEVELSPRUCE_RECEIVER_ROWS(3) * LEVELSPRUCE_ROW_BYTES);
-    noise(state.now + GUARD, MOST, 77);
+    memcpy(first, lent_bytes(&state), LEVELSPRUCE_RECEIVER_ROWS(3) * LEVELSPRUCE_ROW_BYTES);
+    noise(lent_bytes(&state), LENT_MOST, 77);
     check("start writes all of state, whatever was there", held && started(3, 2, 40)
-          && memcmp(first, state.now + GUARD, LEVELSPRUCE_RECEIVER_ROWS(3) * LEVELSPRUCE_ROW_BYTES) == 0);
+          && memcmp(first, lent_bytes(&state), LEVELSPRUCE_RECEIVER_ROWS(3) * LEVELSPRUCE_ROW_BYTES) == 0);
     check("after a start all ports are IDLE and nothing is due", port_is(0, 0, 255, 0, 0, 0, 0, 255) && port_is(2, 0, 255, 0, 0, 0, 0, 255)
           && reply_is(0, 255, 0) && reply_is(255, 255, 0) && none_due());
 }
@@ -351,7 +336,7 @@ static void beginning(void)
 static int stored(uint8_t h4)
 {
     size_t from = 0, at, whole = (size_t)p + 1, end = LEVELSPRUCE_STORE_BYTES(count, p, w);
-    const uint8_t *s = store.now + GUARD;
+    const uint8_t *s = lent_bytes(&store);
 
     for (at = 0; at < end; at += whole)
         if (memcmp(s + at, store.before + GUARD + at, whole) != 0)
@@ -360,7 +345,7 @@ static int stored(uint8_t h4)
         return 0;
     at = from - 1;
     return memcmp(s, store.before + GUARD, at) == 0 && memcmp(s + at + whole, store.before + GUARD + at + whole, end - at - whole) == 0
-        && memcmp(s + at, payload.now + GUARD, p) == 0 && s[at + p] == h4;
+        && memcmp(s + at, lent_bytes(&payload), p) == 0 && s[at + p] == h4;
 }
 
 static void window(void)
@@ -369,10 +354,10 @@ static void window(void)
     int held = started(1, 3, 16) && into_step(0, 0), kept = 1;
 
     for (tag = 32; tag < 40; tag++)
-        held = held && hand(0, tag, quiet, 1) == 0 && stands(&store, 0) && shown(0, LEVELSPRUCE_PORT_JOINED) == 0;
+        held = held && hand(0, tag, quiet, 1) == 0 && untouched(&store) && shown(0, LEVELSPRUCE_PORT_JOINED) == 0;
     check("a frame in step of a port that has not joined is answered 0 and dropped", held);
     for (; tag < 72; tag++) {
-        memset(store.now + GUARD, 0xEE, LEVELSPRUCE_STORE_BYTES(count, p, w)); /* so that each frame shows */
+        memset(lent_bytes(&store), 0xEE, LEVELSPRUCE_STORE_BYTES(count, p, w)); /* so that each frame shows */
         kept = kept && hand(0, tag, quiet, 1) == 0 && stored(h4_of(tag, quiet)) && shown(0, LEVELSPRUCE_PORT_JOINED) == 1;
     }
     check("a port joins at its first epoch start, and its frames are stored up to W-1 after the window's first", kept);
@@ -403,7 +388,7 @@ static struct line {
 static int output_is(uint32_t epoch, uint32_t x)
 {
     uint32_t k, j, from = (epoch * EPOCH + TAGS - 8) % TAGS;
-    const uint8_t *o = out.now + GUARD;
+    const uint8_t *o = lent_bytes(&out);
     int held = 1;
 
     for (k = 0; k < EPOCH; k++)
@@ -426,7 +411,7 @@ static void take_reports(void)
             return;
         line.marks[mark & 3]++;
         line.held = mark <= SURE && (line.next == 256 || line.next == epoch) && report_bytes() == EPOCH * x * P3
-            && x == (mark == SURE ? 3 : mark == HELD ? 0 : 2) && output_is(epoch, x) && (mark != HELD || stands(&out, 0))
+            && x == (mark == SURE ? 3 : mark == HELD ? 0 : 2) && output_is(epoch, x) && (mark != HELD || untouched(&out))
             && (line.damaged > 255 || (mark == HELD) == (epoch == (line.damaged + 1) % 256));
         line.next = (epoch + 1) % 256;
     }
@@ -549,16 +534,16 @@ static int copes(const uint8_t *junk)
 
 static void junk_states(void)
 {
-    static uint8_t junk[MOST];
+    static uint8_t junk[LENT_MOST];
     unsigned seed, j;
     int even = started(3, 2, 17), mixed = even, small = even;
 
     for (seed = 0; seed < 256; seed++) {
-        memset(junk, (int)seed, MOST);
+        memset(junk, (int)seed, LENT_MOST);
         even = even && copes(junk);
-        noise(junk, MOST, seed + 1);
+        noise(junk, LENT_MOST, seed + 1);
         mixed = mixed && copes(junk);
-        for (j = 0; j < MOST; j++)
+        for (j = 0; j < LENT_MOST; j++)
             junk[j] &= 33; /* 0 and 1 often, and counts in step */
         small = small && copes(junk);
     }
@@ -569,9 +554,9 @@ static void junk_states(void)
 
 int main(void)
 {
-    noise(state.now, AREA, 1);
-    noise(store.now, AREA, 2);
-    noise(payload.now, AREA, 3);
+    noise(state.now, sizeof state.now, 1);
+    noise(store.now, sizeof store.now, 2);
+    noise(payload.now, sizeof payload.now, 3);
     starting();
     refusals();
     stepping();

@@ -8,7 +8,9 @@
 
 #include "check.h"
 
-enum { GUARD = 32, MOST = 2 * LEVELSPRUCE_PAYLOAD_MOST, AREA = GUARD + MOST + GUARD };
+enum { LENT_MOST = 2 * LEVELSPRUCE_PAYLOAD_MOST };
+#include "lent.h"
+
 enum { STATE = LEVELSPRUCE_SENDER_BYTES, NONE = LEVELSPRUCE_RANK_NONE };
 enum { A = LEVELSPRUCE_WORD_ADD, N = LEVELSPRUCE_WORD_NORM, E = LEVELSPRUCE_WORD_EOS, I = LEVELSPRUCE_WORD_IDLE, D = LEVELSPRUCE_WORD_DNU };
 enum { START, ADD, REMOVE, REPORT, LAPSE, EPOCH, PACKET, PAYLOAD, BOARD, GOING, RANKS, CALLS };
@@ -21,32 +23,15 @@ static const size_t result_bytes[CALLS] = { [PACKET] = LEVELSPRUCE_PACKET_BYTES,
 static const size_t wrong[] = { 0, 1, STATE - 1, STATE + 1 };
 static const uint32_t wide[] = { 256, 257, 65537, UINT32_MAX };
 
-static struct area {
-    uint8_t now[AREA], before[AREA];
-} state, frame, out; /* lent from byte GUARD on */
+static struct lent state, frame, out;
 
-#define COUNT(a) (sizeof(a) / sizeof(a)[0])
 #define done(...) (say(__VA_ARGS__) == LEVELSPRUCE_ANSWER_DONE)
 #define BYTES(...) ((const uint8_t[]){ __VA_ARGS__ })
-
-static void noise(uint8_t *bytes, size_t n, uint32_t seed)
-{
-    size_t i;
-
-    for (i = 0, seed *= 2654435761u; i < n; i++, seed = seed * 1664525u + 1013904223u)
-        bytes[i] = (uint8_t)(seed >> 24);
-}
-
-/* No byte outside the first n lent ones changed; with n of 0, none at all. */
-static int stands(const struct area *a, size_t n)
-{
-    return memcmp(a->now, a->before, GUARD) == 0 && memcmp(a->now + GUARD + n, a->before + GUARD + n, AREA - GUARD - n) == 0;
-}
 
 /* The call itself; a length of 0 goes with NULL. */
 static uint8_t call(int which, uint32_t a, uint32_t b, uint32_t c, size_t sl, size_t fl, size_t ol)
 {
-    uint8_t *s = sl ? state.now + GUARD : NULL, *f = fl ? frame.now + GUARD : NULL, *o = ol ? out.now + GUARD : NULL;
+    uint8_t *s = sl ? lent_bytes(&state) : NULL, *f = fl ? lent_bytes(&frame) : NULL, *o = ol ? lent_bytes(&out) : NULL;
 
     switch (which) {
     case START: return levelspruce_sender_start(a, b, s, sl);
@@ -68,12 +53,12 @@ static int ask(int which, uint32_t a, uint32_t b, uint32_t c, size_t sl, size_t 
 {
     int answer;
 
-    noise(out.now, AREA, 5);
-    memcpy(state.before, state.now, AREA);
-    memcpy(frame.before, frame.now, AREA);
-    memcpy(out.before, out.now, AREA);
+    noise(out.now, sizeof out.now, 5);
+    remember(&state);
+    remember(&frame);
+    remember(&out);
     answer = call(which, a, b, c, sl, fl, ol);
-    return stands(&frame, 0) && stands(&out, which > EPOCH && answer == 0 ? ol : 0)
+    return untouched(&frame) && stands(&out, which > EPOCH && answer == 0 ? ol : 0)
         && stands(&state, which <= EPOCH && (answer == 0 || (which == START && answer == 4 && sl == STATE)) ? STATE : 0) ? answer : -1;
 }
 
@@ -102,7 +87,7 @@ static int active(uint32_t count, uint32_t first_epoch)
 
 static int board_is(int which, int count, int wait, const uint8_t *rows)
 {
-    const uint8_t *b = out.now + GUARD;
+    const uint8_t *b = lent_bytes(&out);
     int i, held = done(which, 0, 0, 0) && b[LEVELSPRUCE_BOARD_COUNT] == count && b[LEVELSPRUCE_BOARD_WAIT] == wait;
 
     for (i = 0; i < LEVELSPRUCE_SLOTS_MOST; i++)
@@ -113,7 +98,7 @@ static int board_is(int which, int count, int wait, const uint8_t *rows)
 
 static int ranks_are(int count, int begun, int epoch, int x, const uint8_t *each)
 {
-    const uint8_t *r = out.now + GUARD;
+    const uint8_t *r = lent_bytes(&out);
     int i, held = done(RANKS, 0, 0, 0) && r[LEVELSPRUCE_RANKS_COUNT] == count && r[LEVELSPRUCE_RANKS_BEGUN] == begun
         && r[LEVELSPRUCE_RANKS_EPOCH] == epoch && r[LEVELSPRUCE_RANKS_X] == x;
 
@@ -128,7 +113,7 @@ static int packet_is(uint32_t slot, uint32_t epoch, uint32_t word, uint32_t numb
     uint8_t h4[LEVELSPRUCE_PACKET_BYTES];
 
     return levelspruce_packet_write(epoch, word, 1, 0xAB, 0, number, h4, sizeof h4) == LEVELSPRUCE_ANSWER_DONE
-        && done(PACKET, slot, 0, 0) && memcmp(out.now + GUARD, h4, sizeof h4) == 0;
+        && done(PACKET, slot, 0, 0) && memcmp(lent_bytes(&out), h4, sizeof h4) == 0;
 }
 
 static int payload_is(uint32_t slot, uint32_t p, uint32_t x, uint32_t rank)
@@ -165,9 +150,9 @@ static void starting(void)
     check("1 and 64 slots start, with all slots IDLE, no wait and no epoch", done(START, 1, 255, 0) && board_is(BOARD, 1, 0, BYTES(I, 255))
           && board_is(GOING, 1, 0, BYTES(I, 255)) && ranks_are(1, 0, 255, 0, BYTES(NONE)) && done(START, 64, 0, 0) && done(ADD, 63, 0, 0));
     empty = done(START, 3, 9, 0);
-    memcpy(first, state.now + GUARD, STATE);
-    noise(state.now + GUARD, STATE, 77);
-    check("start writes all of state, whatever was there", empty && done(START, 3, 9, 0) && memcmp(first, state.now + GUARD, STATE) == 0);
+    memcpy(first, lent_bytes(&state), STATE);
+    noise(lent_bytes(&state), STATE, 77);
+    check("start writes all of state, whatever was there", empty && done(START, 3, 9, 0) && memcmp(first, lent_bytes(&state), STATE) == 0);
 }
 
 /* Every call but start: a wrong state length is 9, beside right arguments and beside wrong ones. */
@@ -296,7 +281,7 @@ static int copes(const uint8_t *junk)
                 uint32_t number = which == REPORT ? slots[i] & 255 : which == EPOCH ? slots[i] & 1 : slots[i];
 
                 if (afresh || (i == 0 && which == CALLS - 1))
-                    memcpy(state.now + GUARD, junk, STATE);
+                    memcpy(lent_bytes(&state), junk, STATE);
                 held = held && done(RANKS, 0, 0, 0);
                 answer = say(which, number, 5 + (which == EPOCH), which == PAYLOAD ? out.now[GUARD + LEVELSPRUCE_RANKS_X] : number & 1);
                 held = held && answer >= 0 && (answers[which] >> answer & 1);
@@ -323,14 +308,14 @@ static void junk_states(void)
     check("a state of one byte value throughout is coped with", even);
     check("states of any bytes are coped with", mixed);
     check("states of small bytes are coped with", small);
-    memset(state.now + GUARD, 0xFF, STATE);
+    memset(lent_bytes(&state), 0xFF, STATE);
     check("a state whose GID is no bit makes no packet", say(PACKET, 0, 0, 0) == LEVELSPRUCE_ANSWER_FIELD);
 }
 
 int main(void)
 {
-    noise(state.now, AREA, 1);
-    noise(frame.now, AREA, 2);
+    noise(state.now, sizeof state.now, 1);
+    noise(frame.now, sizeof frame.now, 2);
     starting();
     state_lengths();
     commands();

@@ -3,13 +3,17 @@
 //!
 //! Usage: crossings FOLDER COMMAND WORD.., where FOLDER takes files and COMMAND runs the example link.
 
-#[path = "../differential/random.rs"]
+#[path = "../differential/count.rs"]
 #[allow(dead_code)] // not all of it is used here
+mod count;
+#[path = "../differential/random.rs"]
+#[allow(dead_code)] // nor of this
 mod random;
 
 mod lines;
 mod manners;
 
+use count::Count;
 use lines::Lines;
 use random::Random;
 use std::process::{Command, Output};
@@ -29,22 +33,6 @@ impl Program {
 
     pub fn path(&self, name: &str) -> String {
         format!("{}/{}", self.folder, name)
-    }
-}
-
-pub struct Count {
-    passed: u32,
-    failed: u32,
-}
-
-impl Count {
-    pub fn note(&mut self, name: &str, held: bool) {
-        if held {
-            self.passed += 1;
-        } else {
-            self.failed += 1;
-        }
-        println!("{}\t{}", if held { "ok" } else { "failed" }, name);
     }
 }
 
@@ -128,7 +116,7 @@ fn cross(program: &Program, seed: u64) -> Crossed {
 fn main() {
     let words: Vec<String> = std::env::args().skip(1).collect();
     let program = Program { folder: words[0].clone(), words: words[1..].to_vec() };
-    let mut count = Count { passed: 0, failed: 0 };
+    let mut count = Count::default();
 
     manners::check(&program, &mut count);
 
@@ -145,6 +133,5 @@ fn main() {
     count.note("most made-up links carry bytes", 4 * total(|c| usize::from(c.bytes > 0)) > 3 * crossed.len());
     count.note("many have failures, many have none", (60..=240).contains(&total(|c| usize::from(c.failures > 0))));
 
-    println!("{} passed, {} failed", count.passed, count.failed);
-    std::process::exit(i32::from(count.failed != 0));
+    std::process::exit(count.tally());
 }

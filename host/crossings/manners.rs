@@ -1,6 +1,7 @@
 //! How the example link answers on the command line.
 
-use crate::{lines, Count, Program};
+use crate::count::Count;
+use crate::{lines, Program};
 
 /// Wrong choices, and a word that the answer must have.
 const WRONG: [(&[&str], &str); 22] = [

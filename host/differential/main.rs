@@ -3,6 +3,7 @@
 mod card;
 mod count;
 mod packets;
+mod path;
 mod payloads;
 mod random;
 mod receivers;

@@ -7,8 +7,9 @@ mod host;
 
 use crate::card;
 use crate::count::{Count, Test};
+use crate::path::Frame;
 use crate::random::Random;
-use host::{Frame, Host};
+use host::Host;
 use reference::receiver::rows::{self, rows_for, Row};
 use reference::receiver::{Receiver, Report, Shown};
 

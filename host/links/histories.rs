@@ -4,14 +4,12 @@
 
 use crate::count::Count;
 use crate::invariant;
+use crate::path::{Frame, Path, BEFALLS};
 use crate::random::Random;
 use crate::source::{packet, Says};
 use reference::receiver::rows::{self, Row};
 use reference::receiver::{epoch_of, fast, first_tag, Flag, Receiver, Report, STATE_FAIL, STATE_IDLE, STATE_OK, SURE, TAGS};
 use std::collections::HashMap;
-
-/// One frame: flagged or not, its H4 and its payload.
-type Frame = (bool, u8, Vec<u8>);
 
 /// The receiver three times, with lent bytes of its own each.
 struct Three {
@@ -180,17 +178,9 @@ fn states_follow(before: &Receiver, now: &Receiver) -> bool {
     })
 }
 
-/// A host's own notion of what a port brings.
-struct Source {
-    tag: usize,
-    /// Frame times for which it comes flagged, or does not come at all.
-    flagged: u64,
-    away: u64,
-}
-
 struct Host {
     seed: u64,
-    sources: Vec<Source>,
+    paths: Vec<Path>,
     /// How unruly: one event in so many frames, and one odd packet in so many.
     calm: u64,
     packets_calm: u64,
@@ -199,16 +189,16 @@ struct Host {
 impl Host {
     fn new(random: &mut Random, ports: usize, window: usize) -> Host {
         let base = random.below(TAGS as u64) as usize;
-        let sources = (0..ports)
-            .map(|_| Source { tag: base + random.below(window as u64 - 15) as usize, flagged: 0, away: 0 })
+        let paths = (0..ports)
+            .map(|_| Path { tag: base + random.below(window as u64 - 15) as usize, ..Path::default() })
             .collect();
         let calm = random.one_of(&[30, 100, 300, 1000, 1000, 3000]);
-        Host { seed: random.next(), sources, calm, packets_calm: random.one_of(&[10, 20, 50, 200]) }
+        Host { seed: random.next(), paths, calm, packets_calm: random.one_of(&[10, 20, 50, 200]) }
     }
 
     /// The packet of a port's epoch: mostly what makes a group, and the same however often it is asked for.
     fn packet(&self, port: usize, epoch: u8) -> [u8; 16] {
-        let n = self.sources.len();
+        let n = self.paths.len();
         let mut whole = Random::new(self.seed ^ (u64::from(epoch) / 8) << 20);
         let (shift, active) = (whole.below(n as u64) as usize, whole.below(n as u64 + 1) as usize);
         let number = (port + shift) % n;
@@ -236,34 +226,17 @@ impl Host {
 
     /// The next frame of a port, if it comes.
     fn frame(&mut self, random: &mut Random, port: usize, payload: usize, window: usize) -> Option<Frame> {
-        let s = &mut self.sources[port];
+        let path = &mut self.paths[port];
         if random.below(self.calm) == 0 {
-            let w = window as u64;
-            match random.below(12) {
-                0..=1 => s.flagged = 1 + random.below(60),
-                2..=4 => s.away = 1 + random.below(2 * w),
-                5 => s.tag += random.below(TAGS as u64) as usize,
-                6..=7 => s.tag += TAGS + random.below(w) as usize - random.below(w) as usize,
-                8 => s.tag += TAGS - random.below(w + 60) as usize,
-                9 => s.tag += 1,
-                10 => return Some((false, random.next() as u8, vec![0; payload])),
+            match random.below(BEFALLS + 2) {
+                event if event < BEFALLS => path.befall(event, random, window as u64),
+                BEFALLS => return Some((false, random.next() as u8, vec![0; payload])),
                 _ => return Some((random.below(2) == 0, 0, vec![0; payload + 1])),
             }
         }
-        s.tag %= TAGS;
-        if s.away > 0 {
-            s.away -= 1;
-            return None;
-        }
-        let mut bytes = vec![0; payload];
-        random.fill(&mut bytes);
-        if s.flagged > 0 {
-            s.flagged -= 1;
-            s.tag += 1;
-            return Some((true, random.next() as u8, bytes));
-        }
-        let tag = s.tag;
-        Some((false, self.packet(port, epoch_of(tag))[(tag + 8) % 16], bytes))
+        let (flagged, bytes) = path.next(random, payload)?;
+        let tag = path.tag;
+        Some((flagged, if flagged { random.next() as u8 } else { self.packet(port, epoch_of(tag))[(tag + 8) % 16] }, bytes))
     }
 }
 
@@ -286,11 +259,11 @@ fn history(random: &mut Random, seen: &mut Seen, times: usize) -> Result<(), Str
                 }
             }
             if !frame.0 && (answer != 11 || random.below(20) == 0) {
-                host.sources[port].tag += 1;
+                host.paths[port].go_on();
             }
             if answer == 11 && random.below(4) == 0 {
                 // a path is switched to a longer one
-                host.sources[port].tag += TAGS - random.below(window as u64 + 60) as usize;
+                host.paths[port].tag += TAGS - random.below(window as u64 + 60) as usize;
             }
             if random.below(400) == 0 {
                 three.frame(ports + random.below(3) as usize, &frame, seen).map_err(|e| at(e))?;

@@ -11,8 +11,9 @@ mod limits;
 mod link;
 mod source;
 
+#[path = "../differential/path.rs"]
+mod path;
 #[path = "../differential/random.rs"]
-#[allow(dead_code)] // nor of this
 mod random;
 
 fn main() {

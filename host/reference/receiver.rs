@@ -220,6 +220,15 @@ fn is_active(word: u8) -> bool {
     word == NORM || word == EOS
 }
 
+/// The member state of a port that is IDLE or was chosen, or neither.
+fn state_of(idle: bool, chosen: bool) -> u8 {
+    match (idle, chosen) {
+        (true, _) => STATE_IDLE,
+        (false, true) => STATE_OK,
+        (false, false) => STATE_FAIL,
+    }
+}
+
 /// Word, GID and number of a packet, if it is read with 0.
 fn read(nibbles: &[u8; 16]) -> Option<(u8, u8, u8)> {
     let h4 = nibbles.map(|n| n % 16 * 16);
@@ -526,11 +535,8 @@ impl Receiver {
         }
 
         for (i, p) in self.ports.iter_mut().enumerate() {
-            (p.state, p.state_number) = match (p.is_idle(), chosen.contains(&i)) {
-                (true, _) => (STATE_IDLE, p.number),
-                (false, true) => (STATE_OK, p.number),
-                (false, false) => (STATE_FAIL, p.number),
-            };
+            p.state = state_of(p.is_idle(), chosen.contains(&i));
+            p.state_number = p.number;
             (p.told_word, p.told_number) = (p.word, p.number);
         }
     }

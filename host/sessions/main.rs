@@ -3,10 +3,14 @@
 //!
 //! Usage: sessions FILE COMMAND WORD.., where FILE has the given sessions and COMMAND runs the program.
 
-#[path = "../differential/random.rs"]
+#[path = "../differential/count.rs"]
 #[allow(dead_code)] // not all of it is used here
+mod count;
+#[path = "../differential/random.rs"]
+#[allow(dead_code)] // nor of this
 mod random;
 
+use count::Count;
 use random::Random;
 use std::io::Write;
 use std::process::{Command, Stdio};
@@ -97,24 +101,16 @@ fn main() {
     let words: Vec<String> = std::env::args().skip(1).collect();
     let text = std::fs::read_to_string(&words[0]).expect("the file of sessions is read");
     let command = &words[1..];
-    let (mut passed, mut failed) = (0, 0);
-    let mut note = |name: &str, held: bool| {
-        if held {
-            passed += 1;
-        } else {
-            failed += 1;
-        }
-        println!("{}\t{}", if held { "ok" } else { "failed" }, name);
-    };
+    let mut count = Count::default();
 
     let sessions = given(&text);
     for (name, input, output) in &sessions {
         let unended = input.strip_suffix('\n').unwrap_or(input);
-        note(&format!("session {}", name), program(command, input.as_bytes()) == output.as_bytes());
-        note(&format!("session {} without its last line end", name), program(command, unended.as_bytes()) == output.as_bytes());
-        note(&format!("session {} by the reference", name), reference::session::run(input.as_bytes()) == *output);
+        count.note(&format!("session {}", name), program(command, input.as_bytes()) == output.as_bytes());
+        count.note(&format!("session {} without its last line end", name), program(command, unended.as_bytes()) == output.as_bytes());
+        count.note(&format!("session {} by the reference", name), reference::session::run(input.as_bytes()) == *output);
     }
-    note("some sessions are given", sessions.len() > 3);
+    count.note("some sessions are given", sessions.len() > 3);
 
     let mut random = Random::new(8);
     let (mut lines, mut differing) = (0, 0);
@@ -127,8 +123,7 @@ fn main() {
             println!("differs\trun {}\tinput {}", run, String::from_utf8_lossy(&input).escape_debug());
         }
     }
-    note(&format!("200 made-up sessions, {} lines of output", lines), differing == 0);
+    count.note(&format!("200 made-up sessions, {} lines of output", lines), differing == 0);
 
-    println!("{} passed, {} failed", passed, failed);
-    std::process::exit(i32::from(failed != 0));
+    std::process::exit(count.tally());
 }

@@ -1,26 +1,21 @@
 //! Unruly hosts: what frames each port brings. Delays differ, ports lose step and come back, are flagged, fall silent or
 //! change to another path, all of them fail at once and come back, and packets are odd now and then.
 
+use crate::path::{Frame, Path, BEFALLS};
 use crate::random::Random;
 use reference::packet::{self, Fields};
 use reference::receiver::{epoch_of, EPOCH_FRAMES, TAGS};
 
-/// One frame: flagged or not, its H4 and its payload.
-pub type Frame = (bool, u8, Vec<u8>);
-
-pub struct Source {
-    pub tag: usize,
-    delay: usize,
-    /// Frames for which it comes flagged, or does not come at all.
-    flagged: u64,
-    away: u64,
+#[derive(Default)]
+struct Source {
+    path: Path,
     /// The packet of the epoch now going out.
     epoch: Option<u8>,
     h4: [u8; 16],
 }
 
 pub struct Host {
-    pub sources: Vec<Source>,
+    sources: Vec<Source>,
     window: u64,
     /// One event in so many frames, and one odd packet in so many.
     calm: u64,
@@ -29,9 +24,8 @@ pub struct Host {
 
 impl Host {
     pub fn new(random: &mut Random, ports: usize, window: usize) -> Host {
-        let source = || Source { tag: 0, delay: 0, flagged: 0, away: 0, epoch: None, h4: [0; 16] };
         let mut host = Host {
-            sources: (0..ports).map(|_| source()).collect(),
+            sources: (0..ports).map(|_| Source::default()).collect(),
             window: window as u64,
             calm: random.one_of(&[80, 600, 3000, 20_000]),
             packets_calm: random.one_of(&[6, 40, 400]),
@@ -47,9 +41,8 @@ impl Host {
         for s in &mut self.sources {
             // a delay of W-15 now and then, which keeps receiving from beginning but in the midst of a frame time
             let more = random.below(8) / 7;
-            s.delay = random.below(self.window - 15 + more) as usize;
-            s.tag = (now + TAGS - s.delay) % TAGS;
-            (s.flagged, s.away) = (0, 0);
+            let delay = random.below(self.window - 15 + more) as usize;
+            s.path = Path { tag: (now + TAGS - delay) % TAGS, ..Path::default() };
         }
     }
 
@@ -77,7 +70,7 @@ impl Host {
     }
 
     fn h4(&mut self, random: &mut Random, port: usize) -> u8 {
-        let tag = self.sources[port].tag;
+        let tag = self.sources[port].path.tag;
         let epoch = epoch_of(tag);
         if self.sources[port].epoch != Some(epoch) {
             let (word, sq, gid) = self.says(random, port, epoch);
@@ -100,7 +93,7 @@ impl Host {
             1 => {
                 self.line_up(random);
                 let long = 1 + random.below(30);
-                self.sources.iter_mut().for_each(|s| s.flagged = long);
+                self.sources.iter_mut().for_each(|s| s.path.flagged = long);
             }
             _ => {}
         }
@@ -108,45 +101,27 @@ impl Host {
 
     /// The next frame of a port, if one comes.
     pub fn frame(&mut self, random: &mut Random, port: usize, payload: usize) -> Option<Frame> {
-        let w = self.window;
-        let event = if random.below(self.calm) == 0 { random.below(13) } else { 99 };
-        let s = &mut self.sources[port];
-        match event {
-            0..=1 => s.flagged = 1 + random.below(60),
-            2..=4 => s.away = 1 + random.below(2 * w),
-            5 => s.tag += random.below(TAGS as u64) as usize,
-            6..=7 => s.tag += TAGS + random.below(w) as usize - random.below(w) as usize,
-            8 => s.tag += TAGS - random.below(w + 60) as usize,
-            9 => s.tag += 1,
-            10 => return Some((false, random.next() as u8, vec![0; payload])),
-            11 => return Some((random.below(2) == 0, 0, vec![0; payload + 1])),
-            12 => return Some((false, 0, vec![0; payload.saturating_sub(1)])),
-            _ => {}
+        let path = &mut self.sources[port].path;
+        if random.below(self.calm) == 0 {
+            match random.below(BEFALLS + 3) {
+                event if event < BEFALLS => path.befall(event, random, self.window),
+                BEFALLS => return Some((false, random.next() as u8, vec![0; payload])),
+                event if event == BEFALLS + 1 => return Some((random.below(2) == 0, 0, vec![0; payload + 1])),
+                _ => return Some((false, 0, vec![0; payload.saturating_sub(1)])),
+            }
         }
-        s.tag %= TAGS;
-        if s.away > 0 {
-            s.away -= 1;
-            return None;
-        }
-        let mut bytes = vec![0; payload];
-        random.fill(&mut bytes);
-        if s.flagged > 0 {
-            s.flagged -= 1;
-            s.tag = (s.tag + 1) % TAGS;
-            return Some((true, random.next() as u8, bytes));
-        }
-        Some((false, self.h4(random, port), bytes))
+        let (flagged, bytes) = path.next(random, payload)?;
+        Some((flagged, if flagged { random.next() as u8 } else { self.h4(random, port) }, bytes))
     }
 
     /// The port's path is switched to a longer one, on which its tags go back.
     pub fn switch(&mut self, random: &mut Random, port: usize) {
         let back = 32 + random.below(self.window + 28) as usize;
-        self.sources[port].tag = (self.sources[port].tag + TAGS - back) % TAGS;
+        self.sources[port].path.tag += TAGS - back;
     }
 
     /// The frame was taken, or given up.
     pub fn go_on(&mut self, port: usize) {
-        let s = &mut self.sources[port];
-        s.tag = (s.tag + 1) % TAGS;
+        self.sources[port].path.go_on();
     }
 }

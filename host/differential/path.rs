@@ -1,0 +1,53 @@
+//! The path that a port's frames take: tags that jump, times of flags and of silence.
+
+use crate::random::Random;
+use reference::receiver::TAGS;
+
+/// One frame: flagged or not, its H4 and its payload.
+pub type Frame = (bool, u8, Vec<u8>);
+
+/// How many different things can befall a path.
+pub const BEFALLS: u64 = 10;
+
+#[derive(Default)]
+pub struct Path {
+    pub tag: usize,
+    /// Frames for which it comes flagged, or does not come at all.
+    pub flagged: u64,
+    pub away: u64,
+}
+
+impl Path {
+    /// What befalls it, by a number below BEFALLS.
+    pub fn befall(&mut self, event: u64, random: &mut Random, window: u64) {
+        match event {
+            0..=1 => self.flagged = 1 + random.below(60),
+            2..=4 => self.away = 1 + random.below(2 * window),
+            5 => self.tag += random.below(TAGS as u64) as usize,
+            6..=7 => self.tag += TAGS + random.below(window) as usize - random.below(window) as usize,
+            8 => self.tag += TAGS - random.below(window + 60) as usize,
+            _ => self.tag += 1,
+        }
+    }
+
+    /// The next frame, if one comes: whether it is flagged, and its payload.
+    pub fn next(&mut self, random: &mut Random, payload: usize) -> Option<(bool, Vec<u8>)> {
+        self.tag %= TAGS;
+        if self.away > 0 {
+            self.away -= 1;
+            return None;
+        }
+        let mut bytes = vec![0; payload];
+        random.fill(&mut bytes);
+        let flagged = self.flagged > 0;
+        if flagged {
+            self.flagged -= 1;
+            self.go_on();
+        }
+        Some((flagged, bytes))
+    }
+
+    pub fn go_on(&mut self) {
+        self.tag = (self.tag + 1) % TAGS;
+    }
+}
