@@ -42,10 +42,8 @@ pub fn read(text: &str) -> Lines {
     for line in text.lines() {
         let fields: Vec<&str> = line.split('\t').collect();
         match (fields[0], fields.get(1).copied().unwrap_or("")) {
-            ("link", _) => {
-                read.payload = number(&fields, "payload");
-                read.window = number(&fields, "window");
-            }
+            ("link", "payload") => read.payload = number(&fields, "payload"),
+            ("link", "window") => read.window = number(&fields, "window"),
             ("line", _) => read.lines.push(Line { delay: number(&fields, "delay"), first: number(&fields, "first frame") }),
             ("plan", "damage") => read.damaged.push(number(&fields, "epoch")),
             ("plan", "fail") => read.failures += 1,

@@ -67,7 +67,7 @@ pub fn check(program: &Program, count: &mut Count) {
     count.note("the end counts the epochs by their marks", counted && marked("sure") > 80);
 
     let (status, quiet) = said(program, &["--quiet"]);
-    count.note("--quiet prints the end alone", status == Some(0) && text.ends_with(&quiet) && quiet.lines().count() < 15);
+    count.note("--quiet prints the end alone", status == Some(0) && text.ends_with(&quiet) && quiet.lines().count() < 20);
 
     let (_, at_once) = said(program, &["--slots", "2", "--delays", "0,40", "--fail", "1:400-500", "--at-once"]);
     let (_, in_time) = said(program, &["--slots", "2", "--delays", "0,40", "--fail", "1:400-500"]);

@@ -287,6 +287,17 @@ static int shape(struct choices *c, const struct given *g)
     return 0;
 }
 
+/* The epochs for which the slowest line and the way back keep the first answer. */
+static uint64_t epochs_on_the_way(const struct choices *c)
+{
+    uint32_t slot, most = 0;
+
+    for (slot = 0; slot < c->slots; slot++)
+        if (c->delay[slot] > most)
+            most = c->delay[slot];
+    return (most + c->back) / 16;
+}
+
 int choices_read(struct choices *c, int count, char **words)
 {
     struct given g;
@@ -318,5 +329,7 @@ int choices_read(struct choices *c, int count, char **words)
         return -1;
     if (g.word[AT_ONCE] != NULL)
         c->at_once = 1;
+    if (g.word[EPOCHS] == NULL && (g.word[DELAYS] != NULL || g.word[BACK] != NULL))
+        c->epochs += epochs_on_the_way(c);
     return 0;
 }

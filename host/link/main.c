@@ -156,7 +156,6 @@ static void start_epoch(struct link *l, uint64_t epoch)
     sending_start_epoch(&l->sending, epoch, &l->client, &l->says);
     receiving_reply(&l->receiving, (uint8_t)(l->choices.number + epoch), reply);
     back_start_epoch(&l->back, reply);
-    says_progress(epoch, l->client.sent);
 }
 
 static void receive(struct link *l, uint64_t time)
@@ -195,13 +194,24 @@ static int all_empty(const struct link *l)
     return 1;
 }
 
+/* A file is sent to its end, else so many epochs are. */
+static void tell_progress(const struct link *l, uint64_t epoch)
+{
+    if (l->choices.whole_file)
+        says_progress("bytes", client_is_sent(&l->client) ? l->client.length : l->client.sent, l->client.length);
+    else
+        says_progress("epoch", epoch, l->choices.epochs);
+}
+
 static void run(struct link *l)
 {
     uint64_t time, last;
 
     for (time = 0; time % EPOCH_FRAMES != 0 || goes_on(l, time / EPOCH_FRAMES); time++) {
-        if (time % EPOCH_FRAMES == 0)
+        if (time % EPOCH_FRAMES == 0) {
             start_epoch(l, time / EPOCH_FRAMES);
+            tell_progress(l, time / EPOCH_FRAMES);
+        }
         sending_frame(&l->sending, time, &l->client, l->lines);
         receive(l, time);
     }

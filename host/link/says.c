@@ -55,8 +55,11 @@ void says_link(struct says *s, const struct choices *c)
     }
     if (s->quiet)
         return;
-    printf("link\tslots\t%" PRIu32 "\tpayload\t%" PRIu32 "\twindow\t%" PRIu32 "\tfirst epoch\t%" PRIu32 "\tback\t%" PRIu32 "\n", c->slots,
-           c->payload, c->window, c->number, c->back);
+    printf("link\tslots\t%" PRIu32 "\n", c->slots);
+    printf("link\tpayload\t%" PRIu32 "\n", c->payload);
+    printf("link\twindow\t%" PRIu32 "\n", c->window);
+    printf("link\tfirst epoch\t%" PRIu32 "\n", c->number);
+    printf("link\tback\t%" PRIu32 "\n", c->back);
     if (c->at_once)
         printf("reports\tat once\n");
     else
@@ -173,7 +176,7 @@ void says_report(const struct says *s, uint64_t epoch, uint8_t mark, size_t byte
     printf("%s\n", mark == LEVELSPRUCE_MARK_HELD ? "" : right ? "\tas sent" : "\tnot as sent");
 }
 
-void says_progress(uint64_t epoch, uint64_t sent)
+void says_progress(const char *what, uint64_t done, uint64_t all)
 {
     static time_t last;
     time_t now = time(NULL);
@@ -183,5 +186,5 @@ void says_progress(uint64_t epoch, uint64_t sent)
     if (now - last < 2)
         return;
     last = now;
-    fprintf(stderr, "epoch %" PRIu64 ", %" PRIu64 " bytes sent\n", epoch, sent);
+    fprintf(stderr, "progress\t%s\t%" PRIu64 "\tof\t%" PRIu64 "\n", what, done, all);
 }

@@ -40,7 +40,7 @@ void says_ports(struct says *s, const uint8_t (*ports)[LEVELSPRUCE_PORT_BYTES], 
 /* The report of an epoch. */
 void says_report(const struct says *s, uint64_t epoch, uint8_t mark, size_t bytes, int right);
 
-/* How far a long run has come, on standard error. */
-void says_progress(uint64_t epoch, uint64_t sent);
+/* How far a long run has come, on standard error: how many of all such there are. */
+void says_progress(const char *what, uint64_t done, uint64_t all);
 
 #endif

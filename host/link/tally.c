@@ -60,9 +60,11 @@ int tally_close(struct tally *t, const struct client *client)
     if (!client->repeats)
         printf("file\tbytes\t%lu\t%s\n", (unsigned long)client->length, client_all_came(client) ? "all came out sure" : "not all came out sure");
     printf("held\tepochs\t%" PRIu64 "\n", t->epochs[LEVELSPRUCE_MARK_HELD]);
-    printf("doubtful\tepochs\t%" PRIu64 "\tbytes\t%" PRIu64 "\tas sent\t%" PRIu64 "\n", t->epochs[LEVELSPRUCE_MARK_DOUBTFUL],
-           t->bytes[LEVELSPRUCE_MARK_DOUBTFUL], t->doubtful_right);
-    printf("sure\tepochs\t%" PRIu64 "\tbytes\t%" PRIu64 "\n", t->epochs[LEVELSPRUCE_MARK_SURE], t->bytes[LEVELSPRUCE_MARK_SURE]);
+    printf("doubtful\tepochs\t%" PRIu64 "\n", t->epochs[LEVELSPRUCE_MARK_DOUBTFUL]);
+    printf("doubtful\tbytes\t%" PRIu64 "\n", t->bytes[LEVELSPRUCE_MARK_DOUBTFUL]);
+    printf("doubtful\tepochs as sent\t%" PRIu64 "\n", t->doubtful_right);
+    printf("sure\tepochs\t%" PRIu64 "\n", t->epochs[LEVELSPRUCE_MARK_SURE]);
+    printf("sure\tbytes\t%" PRIu64 "\n", t->bytes[LEVELSPRUCE_MARK_SURE]);
     if (t->wrong > 0)
         printf("a sure byte was wrong\tepochs\t%" PRIu64 "\n", t->wrong);
     else if (t->bytes[LEVELSPRUCE_MARK_SURE] == 0)
