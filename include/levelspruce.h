@@ -317,7 +317,8 @@ uint8_t levelspruce_sender_packet(const uint8_t *state, size_t state_length,
 
 /*
  * Writes the payload of a slot for one group frame of this epoch: the bytes
- * of its rank, or zeros where it has none.
+ * of its rank, or zeros where it has none. For many slots it is faster to
+ * spread the frame once (levelspruce_sender_ranks, levelspruce_spread).
  *
  *   p        payload of a member frame in bytes, 1 to 2340
  *   frame    the group frame, x * p bytes with the x of this epoch

@@ -104,11 +104,8 @@ size_t client_own(const struct client *c, uint64_t from, size_t count)
 
 static int all_zero(const uint8_t *bytes, size_t count)
 {
-    size_t i;
-
-    for (i = 0; i < count && bytes[i] == 0; i++)
-        ;
-    return i == count;
+    /* the first is 0, and each is like the one before it */
+    return count == 0 || (bytes[0] == 0 && memcmp(bytes, bytes + 1, count - 1) == 0);
 }
 
 int client_sent(const struct client *c, uint64_t from, const uint8_t *bytes, size_t count)
@@ -128,12 +125,20 @@ int client_sent(const struct client *c, uint64_t from, const uint8_t *bytes, siz
 
 void client_came(struct client *c, uint64_t from, const uint8_t *bytes, size_t count)
 {
-    size_t i, own = client_own(c, from, count);
+    size_t own = client_own(c, from, count);
 
     /* of a text that repeats, once is enough */
-    for (i = 0; i < own && i < c->length; i++) {
-        c->came[(from + i) % c->length] = bytes[i];
-        c->has_come[(from + i) % c->length] = 1;
+    if (own > c->length)
+        own = c->length;
+    while (own > 0) {
+        const uint8_t *sent;
+        size_t run = run_from(c, from, own, &sent), at = (size_t)(sent - c->bytes);
+
+        memcpy(c->came + at, bytes, run);
+        memset(c->has_come + at, 1, run);
+        bytes += run;
+        own -= run;
+        from += run;
     }
 }
 
