@@ -63,6 +63,9 @@ extern "C" {
 #define LEVELSPRUCE_WORD_IDLE 5
 #define LEVELSPRUCE_WORD_DNU 15
 
+/* The frames of an epoch, and so of a packet. */
+#define LEVELSPRUCE_EPOCH_FRAMES 16
+
 /* Sizes of buffers, in bytes. */
 #define LEVELSPRUCE_PACKET_BYTES 16 /* the H4 bytes of one packet */
 #define LEVELSPRUCE_FIELDS_BYTES 6  /* the fields of one packet */
@@ -80,7 +83,7 @@ extern "C" {
 #define LEVELSPRUCE_STORE_BYTES(ports, payload, window) \
     ((size_t)(ports) * (size_t)(window) * ((size_t)(payload) + 1))
 #define LEVELSPRUCE_OUTPUT_BYTES(ports, payload) \
-    ((size_t)(ports) * 16 * (size_t)(payload))
+    ((size_t)(ports) * LEVELSPRUCE_EPOCH_FRAMES * (size_t)(payload))
 
 /* Payload: members of a group, and bytes of a member frame. */
 #define LEVELSPRUCE_MEMBERS_MOST 64

@@ -78,6 +78,14 @@ pub fn check(program: &Program, count: &mut Count) {
     let (_, late) = said(program, &["--slots", "2", "--window", "128", "--delays", "0,40", "--fail", "1:0-200", "--late", "40"]);
     count.note("a port that comes later may be slower where reports are late", readable(&early) == 0 && readable(&late) == 1);
 
+    let (_, behind) = said(program, &["--slots", "2", "--delays", "0,5000", "--fail", "0:0-99999", "--epochs", "600"]);
+    count.note("epochs are told rightly behind a line that failed and would be far ahead", lines::read(&behind).reports.first().is_some_and(|r| r.epoch < 10));
+
+    let file = program.path("gone.in");
+    std::fs::write(&file, vec![7; 1_000_000]).expect("the file is written");
+    let (status, gone) = said(program, &["--slots", "2", "--payload", "9", "--remove", "40:0,40:1", "--quiet", "--file", &file]);
+    count.note("a file that no member carries any more is given up", status == Some(0) && gone.contains("not all came out sure"));
+
     let (_, waiting) = said(program, &["--slots", "2", "--remove", "40:0,40:1", "--add", "0:0,0:1"]);
     count.note("a command under an open wait is answered 3 and given again", waiting.contains("remove\tslot\t1\tanswer\t3\n") && waiting.contains("remove\tslot\t1\tanswer\t0\n"));
 

@@ -24,8 +24,8 @@ int back_next(struct back *b, uint64_t time, uint8_t *fields)
 {
     const uint8_t *packet = b->packets[b->next % BACK_MOST];
 
-    /* the packet's last frame is the sixteenth of its epoch */
-    if (b->next == b->end || b->next * 16 + 15 + b->delay > time)
+    /* the packet is whole with the last frame of its epoch */
+    if (b->next == b->end || (b->next + 1) * LEVELSPRUCE_EPOCH_FRAMES - 1 + b->delay > time)
         return 0;
     b->next++;
     return levelspruce_packet_read(packet, LEVELSPRUCE_PACKET_BYTES, fields, LEVELSPRUCE_FIELDS_BYTES) == LEVELSPRUCE_ANSWER_DONE;

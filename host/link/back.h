@@ -6,7 +6,7 @@
 
 #include "choices.h"
 
-enum { BACK_MOST = DELAY_MOST / 16 + 2 };
+enum { BACK_MOST = DELAY_MOST / LEVELSPRUCE_EPOCH_FRAMES + 2 };
 
 struct back {
     uint8_t state[LEVELSPRUCE_SENDER_BYTES]; /* the far end's sender: one slot, which stays IDLE */

@@ -6,7 +6,7 @@
 #include "drawing.h"
 #include "random.h"
 
-enum { FRAME_MOST = 1000000000, EPOCH_MOST = FRAME_MOST / 16, EPOCHS_USUAL = 160 };
+enum { FRAME_MOST = 1000000000, EPOCH_MOST = FRAME_MOST / LEVELSPRUCE_EPOCH_FRAMES, EPOCHS_USUAL = 160 };
 
 enum choice {
     SLOTS, PAYLOAD, WINDOW, PORTS, DELAYS, FIRST, BACK, NUMBER,
@@ -295,7 +295,7 @@ static uint64_t epochs_on_the_way(const struct choices *c)
     for (slot = 0; slot < c->slots; slot++)
         if (c->delay[slot] > most)
             most = c->delay[slot];
-    return (most + c->back) / 16;
+    return (most + c->back) / LEVELSPRUCE_EPOCH_FRAMES;
 }
 
 int choices_read(struct choices *c, int count, char **words)

@@ -13,7 +13,7 @@ void draw_sizes(struct choices *c, struct random *r)
     uint32_t payload_most;
 
     c->slots = 1 + number_below(r, random_below(r, 4) == 0 ? LEVELSPRUCE_SLOTS_MOST : 8);
-    c->window = random_below(r, 2) == 0 ? windows[random_below(r, 6)] : 16 + number_below(r, 500);
+    c->window = random_below(r, 2) == 0 ? windows[random_below(r, 6)] : LEVELSPRUCE_WINDOW_LEAST + number_below(r, 500);
     payload_most = STORE_MOST / (c->slots * c->window) - 1;
     if (payload_most > LEVELSPRUCE_PAYLOAD_MOST)
         payload_most = LEVELSPRUCE_PAYLOAD_MOST;
@@ -69,7 +69,7 @@ void draw_events(struct choices *c, struct random *r, uint64_t epochs)
         struct failure *failure = &c->failures.each[c->failures.count++];
 
         failure->port = number_below(r, c->slots);
-        failure->from = random_below(r, epochs * 16);
+        failure->from = random_below(r, epochs * LEVELSPRUCE_EPOCH_FRAMES);
         failure->to = failure->from + random_below(r, 1000);
     }
 }

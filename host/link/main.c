@@ -16,7 +16,7 @@
 #include "sending.h"
 #include "tally.h"
 
-enum { EPOCH_FRAMES = 16, EPOCHS_WITH_NOTHING_MOST = 4096 };
+enum { EPOCH_FRAMES = LEVELSPRUCE_EPOCH_FRAMES, WITH_NOTHING_MOST = 4096 };
 
 static const char help[] =
 #include "help.h"
@@ -28,10 +28,10 @@ struct link {
     struct sending sending;
     struct line lines[LINES_MOST];
     uint32_t slot_of[LINES_MOST]; /* of each port */
-    uint64_t least_delay;
     struct receiving receiving;
     uint64_t next_fetch; /* the frame time before which no report is fetched */
     uint64_t next_epoch; /* the epoch after the one reported last */
+    uint32_t with_nothing; /* the last epochs in a row that carried no byte */
     struct back back;
     struct says says;
     struct tally tally;
@@ -40,15 +40,14 @@ struct link {
 static int link_open(struct link *l)
 {
     struct choices *c = &l->choices;
-    uint32_t slot, most_delay = 0;
+    uint32_t slot, least_delay = c->delay[0], most_delay = 0;
 
     if (client_open(&l->client, c->file) != 0 || tally_open(&l->tally, c->out, c->doubtful) != 0)
         return -1;
-    l->least_delay = c->delay[0];
     for (slot = 0; slot < c->slots; slot++) {
         l->slot_of[c->port[slot]] = slot;
-        if (c->delay[slot] < l->least_delay)
-            l->least_delay = c->delay[slot];
+        if (c->delay[slot] < least_delay)
+            least_delay = c->delay[slot];
         if (c->delay[slot] > most_delay)
             most_delay = c->delay[slot];
         if (line_open(&l->lines[slot], c->delay[slot], c->first[slot], c->payload) != 0)
@@ -58,8 +57,9 @@ static int link_open(struct link *l)
         fprintf(stderr, "link: there is not enough memory for a link of this size\n");
         return -1;
     }
-    if (most_delay - l->least_delay > c->window - LEVELSPRUCE_WINDOW_LEAST)
-        fprintf(stderr, "link: the delays differ by more than the window less %d frames, so receiving may not begin\n", LEVELSPRUCE_WINDOW_LEAST);
+    if (most_delay - least_delay > c->window - LEVELSPRUCE_WINDOW_LEAST)
+        fprintf(stderr, "link: the delays differ by more than the window less %d frames, so receiving may not begin, or bytes may be wrong\n",
+                LEVELSPRUCE_WINDOW_LEAST);
     back_open(&l->back, c);
     says_link(&l->says, c);
     return 0;
@@ -76,11 +76,18 @@ static void link_close(struct link *l)
     client_close(&l->client);
 }
 
-/* The epoch that a report's number means: the last one of that number that can have come by now. */
-static uint64_t epoch_of(const struct link *l, uint8_t number, uint64_t time)
+/* The epoch that a report's number means: the last one of that number of which a readable port has brought a frame. Every
+ * readable port has, and none is as far ahead of a report as the 256 epochs in which numbers go round. */
+static uint64_t epoch_of(const struct link *l, uint8_t number)
 {
-    uint64_t latest = (time - l->least_delay) / EPOCH_FRAMES;
+    uint8_t ports[LINES_MOST][LEVELSPRUCE_PORT_BYTES];
+    uint32_t port = 0;
+    uint64_t latest;
 
+    receiving_ports(&l->receiving, ports);
+    while (port + 1 < l->choices.slots && !ports[port][LEVELSPRUCE_PORT_READABLE])
+        port++;
+    latest = line_last(&l->lines[l->slot_of[port]]) / EPOCH_FRAMES;
     return latest - (latest + l->choices.number + 256 - number) % 256;
 }
 
@@ -92,7 +99,7 @@ static int fetch(struct link *l, uint64_t time)
 
     if (!receiving_fetch(&l->receiving, &report))
         return 0;
-    epoch = epoch_of(l, report.number, time);
+    epoch = epoch_of(l, report.number);
     tally_report(&l->tally, epoch, &report, l->receiving.out, &l->sending, &l->client, &l->says);
     /* epochs are left out where receiving began anew */
     l->next_fetch = time + EPOCH_FRAMES + (epoch == l->next_epoch ? 0 : l->choices.late);
@@ -154,6 +161,7 @@ static void start_epoch(struct link *l, uint64_t epoch)
     uint8_t reply[LEVELSPRUCE_REPLY_BYTES];
 
     sending_start_epoch(&l->sending, epoch, &l->client, &l->says);
+    l->with_nothing = l->sending.frame_bytes == 0 ? l->with_nothing + 1 : 0;
     receiving_reply(&l->receiving, (uint8_t)(l->choices.number + epoch), reply);
     back_start_epoch(&l->back, reply);
 }
@@ -181,7 +189,12 @@ static int goes_on(const struct link *l, uint64_t epoch)
 
     if (epoch < c->epochs)
         return 1;
-    return c->whole_file && !client_is_sent(&l->client) && (l->client.sent > 0 || epoch < c->epochs + EPOCHS_WITH_NOTHING_MOST);
+    if (!c->whole_file || client_is_sent(&l->client))
+        return 0;
+    if (l->with_nothing < WITH_NOTHING_MOST)
+        return 1;
+    fprintf(stderr, "link: for %d epochs no member has carried bytes, so the file is given up\n", WITH_NOTHING_MOST);
+    return 0;
 }
 
 static int all_empty(const struct link *l)

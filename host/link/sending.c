@@ -5,8 +5,6 @@
 
 #include "damage.h"
 
-enum { EPOCH_FRAMES = 16 };
-
 int sending_open(struct sending *s, const struct choices *c)
 {
     memset(s, 0, sizeof *s);
@@ -107,7 +105,7 @@ void sending_start_epoch(struct sending *s, uint64_t epoch, const struct client 
     s->frame_bytes = (size_t)s->ranks[LEVELSPRUCE_RANKS_X] * c->payload;
     carried->epoch = epoch;
     carried->from = client->sent;
-    carried->bytes = EPOCH_FRAMES * s->frame_bytes;
+    carried->bytes = LEVELSPRUCE_EPOCH_FRAMES * s->frame_bytes;
 
     must(levelspruce_sender_board_going(s->state, sizeof s->state, board, sizeof board), "levelspruce_sender_board_going");
     says_start(says, epoch, s->ranks[LEVELSPRUCE_RANKS_X], carried->bytes, board);
@@ -142,7 +140,7 @@ void sending_frame(struct sending *s, uint64_t n, struct client *client, struct 
 
         if (place != NULL) {
             write_payload(s, slot, place);
-            place[s->choices->payload] = s->packets[slot][n % EPOCH_FRAMES];
+            place[s->choices->payload] = s->packets[slot][n % LEVELSPRUCE_EPOCH_FRAMES];
         }
     }
 }
