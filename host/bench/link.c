@@ -6,8 +6,7 @@
  * counted then; before and after, it is compared with what was sent. Time is that for which the process had a processor.
  */
 #define _POSIX_C_SOURCE 199309L
-#include <stdlib.h>
-#include <time.h>
+#include "times.h"
 
 #define main link_main
 #include "../link/main.c"
@@ -41,21 +40,6 @@ int tally_close(struct tally *t, const struct client *client)
 {
     (void)client;
     return t->wrong > 0;
-}
-
-static double now(void)
-{
-    struct timespec t;
-
-    clock_gettime(CLOCK_PROCESS_CPUTIME_ID, &t);
-    return (double)t.tv_sec + (double)t.tv_nsec / 1e9;
-}
-
-static int order(const void *a, const void *b)
-{
-    double x = *(const double *)a, y = *(const double *)b;
-
-    return (x > y) - (x < y);
 }
 
 /* So many more epochs, as run does them. */
@@ -92,6 +76,7 @@ static void measure(const char *name, char *slots, char *payload)
 {
     static struct link l;
     static double times[ROUNDS];
+    double each; /* the milliseconds of an epoch */
     char *words[] = {"--slots", slots, "--payload", payload, "--quiet"};
     uint64_t time = 0, epochs;
     uint32_t slot;
@@ -115,10 +100,10 @@ static void measure(const char *name, char *slots, char *payload)
     comparing = 0;
     before = l.tally;
     for (k = 0; k < ROUNDS; k++) {
-        double begun = now();
+        double begun = now(CLOCK_PROCESS_CPUTIME_ID);
 
         go_on(&l, &time, epochs);
-        times[k] = (now() - begun) / (double)epochs;
+        times[k] = (now(CLOCK_PROCESS_CPUTIME_ID) - begun) / (double)epochs;
     }
     check(all_sure(&l, &before, ROUNDS * epochs), "all sure");
     comparing = 1;
@@ -127,9 +112,9 @@ static void measure(const char *name, char *slots, char *payload)
     check(all_sure(&l, &before, 8) && l.tally.wrong == 0, "the bytes that were sent");
     link_close(&l);
 
-    qsort(times, ROUNDS, sizeof times[0], order);
+    each = median(times, ROUNDS) / 1e6;
     printf("link\t%s\tW %d\tepochs %lu\tepoch %.3f ms\ttimes real time %.2f\n", name, WINDOW, (unsigned long)(ROUNDS * epochs),
-           times[ROUNDS / 2] * 1e3, 0.002 / times[ROUNDS / 2]);
+           each, 2 / each);
     fflush(stdout);
 }
 

@@ -5,9 +5,9 @@
 #define _POSIX_C_SOURCE 199309L
 #include "levelspruce.h"
 #include <stdio.h>
-#include <stdlib.h>
 #include <string.h>
-#include <time.h>
+
+#include "times.h"
 
 typedef uint8_t call(const uint8_t *h4, size_t h4_length, uint8_t *fields, size_t fields_length);
 
@@ -30,34 +30,22 @@ enum { FORMS = sizeof forms / sizeof *forms, ROUNDS = 101, PACKETS = 4096 };
 static uint8_t packets[PACKETS][LEVELSPRUCE_PACKET_BYTES], fields[PACKETS][LEVELSPRUCE_FIELDS_BYTES];
 static uint8_t first[PACKETS][LEVELSPRUCE_FIELDS_BYTES];
 
-static double now(void)
-{
-    struct timespec t;
-    clock_gettime(CLOCK_PROCESS_CPUTIME_ID, &t);
-    return (double)t.tv_sec * 1e9 + (double)t.tv_nsec;
-}
-
-static int order(const void *a, const void *b)
-{
-    double x = *(const double *)a, y = *(const double *)b;
-    return (x > y) - (x < y);
-}
-
 /* nanoseconds a packet, one round over all packets */
 static double round_of(call *f, uint8_t answer)
 {
-    double begun = now();
+    double begun = now(CLOCK_PROCESS_CPUTIME_ID);
     for (int i = 0; i < PACKETS; i++)
         if (f(packets[i], sizeof packets[i], fields[i], sizeof fields[i]) != answer) {
             printf("failed\tpacket %d is not answered %d\n", i, answer);
             exit(1);
         }
-    return (now() - begun) / PACKETS;
+    return (now(CLOCK_PROCESS_CPUTIME_ID) - begun) / PACKETS;
 }
 
 static void measure(const char *which, uint8_t answer)
 {
     static double times[FORMS][ROUNDS];
+    double medians[FORMS];
     for (int i = 0; i < FORMS; i++) {
         memset(fields, 0, sizeof fields);
         round_of(forms[i].read, answer);
@@ -73,11 +61,11 @@ static void measure(const char *which, uint8_t answer)
             times[i][k] = round_of(forms[i].read, answer);
     printf("packet\t%s", which);
     for (int i = 0; i < FORMS; i++) {
-        qsort(times[i], ROUNDS, sizeof times[i][0], order);
-        printf("\t%s %.1f ns", forms[i].name, times[i][ROUNDS / 2]);
+        medians[i] = median(times[i], ROUNDS);
+        printf("\t%s %.1f ns", forms[i].name, medians[i]);
     }
     for (int i = 1; i < FORMS; i++)
-        printf("\tto %s %.2f", forms[i].name, times[0][ROUNDS / 2] / times[i][ROUNDS / 2]);
+        printf("\tto %s %.2f", forms[i].name, medians[0] / medians[i]);
     putchar('\n');
     fflush(stdout);
 }

@@ -5,9 +5,9 @@
 #define _POSIX_C_SOURCE 199309L
 #include "levelspruce.h"
 #include <stdio.h>
-#include <stdlib.h>
 #include <string.h>
-#include <time.h>
+
+#include "times.h"
 
 typedef uint8_t call(uint32_t x, uint32_t p, const uint8_t *from, size_t from_length, uint8_t *to, size_t to_length);
 
@@ -45,33 +45,21 @@ enum { FORMS = sizeof forms / sizeof *forms, ROUNDS = 101, MOST = 64 * 2340, BYT
 static uint8_t from[MOST], to[MOST], first[MOST]; /* one output for all forms: where it lies can change their speed */
 static double worst[FORMS];
 
-static double now(void)
-{
-    struct timespec t;
-    clock_gettime(CLOCK_MONOTONIC, &t);
-    return (double)t.tv_sec * 1e9 + (double)t.tv_nsec;
-}
-
-static int order(const void *a, const void *b)
-{
-    double x = *(const double *)a, y = *(const double *)b;
-    return (x > y) - (x < y);
-}
-
 /* nanoseconds a call, one round of calls */
 static double round_of(call *f, uint32_t x, uint32_t p)
 {
     size_t n = (size_t)x * p, calls = BYTES_A_ROUND / n + 1;
-    double begun = now();
+    double begun = now(CLOCK_MONOTONIC);
     for (size_t i = 0; i < calls; i++)
         if (f(x, p, from, n, to, n) != 0)
             exit(1);
-    return (now() - begun) / (double)calls;
+    return (now(CLOCK_MONOTONIC) - begun) / (double)calls;
 }
 
 static void measure(const char *name, int join, uint32_t x, uint32_t p)
 {
     static double times[FORMS][ROUNDS];
+    double medians[FORMS];
     size_t n = (size_t)x * p;
     int count = x == 1 ? FORMS : FORMS - 1;
     for (int i = 0; i < count; i++) {
@@ -89,11 +77,11 @@ static void measure(const char *name, int join, uint32_t x, uint32_t p)
             times[i][k] = round_of(join ? forms[i].join : forms[i].spread, x, p);
     printf("%s\tX %u\tP %u", name, (unsigned)x, (unsigned)p);
     for (int i = 0; i < count; i++) {
-        qsort(times[i], ROUNDS, sizeof times[i][0], order);
-        printf("\t%s %.0f ns", forms[i].name, times[i][ROUNDS / 2]);
+        medians[i] = median(times[i], ROUNDS);
+        printf("\t%s %.0f ns", forms[i].name, medians[i]);
     }
     for (int i = 1; i < count; i++) {
-        double ratio = times[0][ROUNDS / 2] / times[i][ROUNDS / 2];
+        double ratio = medians[0] / medians[i];
         printf("\tto %s %.2f", forms[i].name, ratio);
         if (ratio > worst[i])
             worst[i] = ratio;
