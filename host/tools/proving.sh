@@ -12,18 +12,24 @@ is_current() {
     [ -f "$1" ] && [ -z "$(find crates crates.txt "$(dirname "$(rt doc)")/../KIT-ID" -newer "$1" | head -n 1)" ]
 }
 
-# proving WHAT COMMAND..: runs it, and says every half minute that the work goes on. All that is printed is progress.
+# proving WHAT COMMAND..: runs a command of rt. On standard error it says how long that takes, a line for each crate that is
+# done, and every half minute that the work goes on. All that rt prints goes to target/proving.out; its end is shown if it fails.
 proving() {
     echo "proving and building $1: this takes some minutes the first time" >&2
     shift
+    mkdir -p target && rm -f target/proving.status
     seconds=0
     while sleep 30 >/dev/null 2>&1 && kill -0 $$ 2>/dev/null; do
         seconds=$((seconds + 30))
         echo "proving, $seconds seconds so far" >&2
     done &
     says=$!
-    "$@" >&2
-    status=$?
+    {
+        "$@" 2>&1
+        echo $? >target/proving.status
+    } | tee target/proving.out | grep --line-buffered '^rt: ' >&2
     kill "$says" 2>/dev/null
+    status=$(cat target/proving.status 2>/dev/null || echo 1)
+    [ "$status" = 0 ] || tail -n 40 target/proving.out >&2
     return "$status"
 }
