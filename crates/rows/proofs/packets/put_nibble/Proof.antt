@@ -2,7 +2,6 @@ use Rattle.rows.specs.Laws.Parts.{nibble-put, nibble-past, nibble-beyond
 use borrow.Author.Needs.{needs}
 use Rattle.rows.proofs.packets.put_nibble.Statement.{statement}
 use Rattle.rows.proofs.packets.put_nibble.Tie as tie
-use Rattle.rows.proofs.group.is_whole.Reads as is-whole-reads
 
 mul-at : tie.Need-mul-at
 mul-at c = search needs

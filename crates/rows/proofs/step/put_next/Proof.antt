@@ -3,7 +3,6 @@ use Rattle.rows.specs.Laws.Parts.{next-put, next-beyond}
 use borrow.Author.Needs.{needs}
 use Rattle.rows.proofs.step.put_next.Statement.{statement}
 use Rattle.rows.proofs.step.put_next.Tie as tie
-use Rattle.rows.proofs.group.is_whole.Reads as is-whole-reads
 
 mul-at : tie.Need-mul-at
 mul-at c = search needs
