@@ -190,5 +190,6 @@ pub fn frame(
     if refusal != 0 {
         return refusal;
     }
-    arrive(group, state, port as u8, failed, h4, payload, store)
+    let at = port as u8;
+    arrive(group, state, at, failed, h4, payload, store)
 }
