@@ -11,11 +11,10 @@ use Rattle.calls.specs.Kept.Quiet.{Quiet, taken-quiet}
 use Rattle.calls.specs.Kept.Steps.{windowed}
 use Rattle.calls.specs.Laws.Flags.{both}
 use Rattle.calls.specs.Laws.Frames.{frame-group, frame-other, frame-port, frameOn}
-use Rattle.counting.specs.Laws.Tests.{every-all, every-at}
+use Rattle.counting.specs.Laws.Tests.{every-all, every-at, every-fails}
 use Rattle.counting.specs.Words.{every}
 use Rattle.ground.specs.Truth.{eq-or-ne, fails}
 use Rattle.phases.specs.Due.{brought, lets, silent}
-use Rattle.phases.specs.Laws.Every.{every-fails}
 use Rattle.phases.specs.Settling.{settledOf}
 use Rattle.phases.specs.Theorems.Settled.{Settled, heard-port, settled-stays}
 use Rattle.receiver.specs.Frame.{marksBy, portRows, settledBy, takenIn}

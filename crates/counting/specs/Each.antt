@@ -8,7 +8,8 @@ use native.Mathlib.Omega.{arith}
 use lib.Dec.{eqb, ltb}
 use lib.ListN.{length, getD, set}
 use borrow.Author.Tests.{lt-ltb, le-ltb, ltb-true, eqb-true, eq-eqb}
-use Rattle.ground.specs.Drawn.{drawn, length-drawn, getD-drawn, getD-kept, drawn-by, drawn-none, drawn-put}
+use Rattle.ground.specs.Drawn.{drawn, length-drawn, getD-drawn, getD-kept, drawn-all, drawn-by, drawn-none, drawn-put}
+use Rattle.ground.specs.Table.{tabulate}
 use Rattle.ground.specs.Truth.{or-left, or-right, or-cases, same-test, eq-or-ne}
 
 one-more : (k n : ℕ) → (ltb k n || eqb k n) ≡ ltb k (n + 1)
@@ -67,3 +68,10 @@ module _ {A : Type 0} where
   -- the end of a loop to n
   pub done-all : {i n : ℕ} {f : ℕ → A} {d out : List A} → Done i f d out → i ≡ n → out ≡ each n f d
   done-all {i} {n} {f} {d} h e = h .is ∙ ap (λ (k : ℕ). each k f d) e
+
+  -- and of one over the whole list
+  pub done-table : {i n : ℕ} {f : ℕ → A} {d out : List A} → Done i f d out → i ≡ n → length d ≡ n → out ≡ tabulate n f
+  done-table {i} {n} {f} {d} h e l =
+      done-all h e
+      ∙ drawn-all (λ k. ltb k n) f d (λ k b. lt-ltb k n (rw l at b))
+      ∙ ap (λ (m : ℕ). tabulate m f) l

@@ -58,7 +58,7 @@ sameBits [] (b ∷ m) = false
 sameBits (a ∷ l) [] = false
 sameBits (a ∷ l) (b ∷ m) = Bool·beq a b && sameBits l m
 
-same-bit : (a b : Bool) → Bool·beq a b ≡ true → a ≡ b
+pub same-bit : (a b : Bool) → Bool·beq a b ≡ true → a ≡ b
 same-bit true true t = refl
 same-bit true false t = sym t
 same-bit false true t = t

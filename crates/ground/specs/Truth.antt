@@ -1,10 +1,11 @@
 -- Tests as facts: what it says that a test made by && and || is true, when two tests are one, and cases on numbers.
-use mathlib.Core.Path.{_≡_, refl, sym}
+use mathlib.Core.Path.{_≡_, refl, sym, _∙_}
 use mathlib.Core.Logic.{_⊎_, inl, inr, _≢_}
-use mathlib.Core.Bool.{Bool, true, false, _&&_, _||_, true≢false}
+use mathlib.Core.Bool.{Bool, true, false, cond, _&&_, _||_, true≢false}
 use Prim.Native.Nat.{ℕ, _≤_, _<_}
-use lib.Dec.{leb, eqb}
-use borrow.Author.Tests.{leb-true, leb-false, eqb-true, eqb-false}
+use native.Mathlib.Omega.{arith}
+use lib.Dec.{leb, ltb, eqb}
+use borrow.Author.Tests.{leb-true, leb-false, ltb-true, eqb-true, eqb-false}
 
 pub and-true : (b c : Bool) → b ≡ true → c ≡ true → (b && c) ≡ true
 and-true b c hb hc = rw (hb, hc)
@@ -28,6 +29,10 @@ pub or-cases : (b c : Bool) → (b || c) ≡ true → (b ≡ true) ⊎ (c ≡ tr
 or-cases true c h = inl refl
 or-cases false c h = inr h
 
+pub neither : (b c : Bool) → (b || c) ≡ false → (b ≡ false) × (c ≡ false)
+neither true c h = absurd (true≢false h)
+neither false c h = (refl, h)
+
 -- each holds where the other does
 pub same-test : (b c : Bool) → (b ≡ true → c ≡ true) → (c ≡ true → b ≡ true) → b ≡ c
 same-test true c to back = sym (to refl)
@@ -37,6 +42,18 @@ same-test false false to back = refl
 pub fails : (b : Bool) → (b ≡ true → ⊥) → b ≡ false
 fails true h = absurd (h refl)
 fails false h = refl
+
+pub clash : {A : Type 0} (b : Bool) → b ≡ true → b ≡ false → A
+clash b t f = absurd (true≢false (sym t ∙ f))
+
+-- what holds of either side of a choice, where the test picks it, holds of the choice
+pub cond-by : {A : Type 0} (P : A → Type 0) (b : Bool) (x y : A) → (b ≡ true → P x) → (b ≡ false → P y) → P (cond b x y)
+cond-by P true x y t f = t refl
+cond-by P false x y t f = f refl
+
+-- the smaller of two numbers is at most the second
+pub smaller-le : (m n : ℕ) → cond (ltb m n) m n ≤ n
+smaller-le m n = cond-by (λ r. r ≤ n) (ltb m n) m n (λ e. let h = ltb-true m n e in omega arith) (λ e. omega arith)
 
 pub le-or-lt : (m n : ℕ) → (m ≤ n) ⊎ (n < m)
 le-or-lt m n = go (leb m n) refl

@@ -13,7 +13,7 @@ use Rattle.ground.specs.Truth.{eq-or-ne}
 use Rattle.payload.specs.Inner.Area.{area}
 use Rattle.payload.specs.Order.{groupByte}
 use Rattle.payload.specs.Inner.Words.{byteOf}
-use Rattle.payload.proofs.Areas.{Lies, area-said, area-run, area-lines, area-columns}
+use Rattle.payload.proofs.Areas.{area-said, area-run, area-lines, area-columns}
 use Rattle.payload.proofs.Frames.{member-in}
 
 -- a run of eight in one of eight lines

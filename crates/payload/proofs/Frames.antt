@@ -1,7 +1,7 @@
 -- A group frame drawn member by member, and members spread one after the other.
-use mathlib.Core.Path.{_≡_, refl, ap, _∙_}
+use mathlib.Core.Path.{_≡_, refl, _∙_}
 use mathlib.Core.List.{List}
-use mathlib.Core.Bool.{true, _&&_, _||_}
+use mathlib.Core.Bool.{true, _&&_}
 use Prim.Native.Nat.{ℕ, _+_, _-_, _*_, _/_, _%_, _≤_, _<_}
 use native.Mathlib.Nat.{mul-le-mul-right, mul-comm, suc-mul, zero-add}
 use native.Mathlib.Numerals.{add-one}
@@ -16,7 +16,7 @@ use Rattle.ground.specs.Truth.{and-left, and-right}
 use Rattle.payload.specs.Inner.Area.{area}
 use Rattle.payload.specs.Order.{groupByte, groupFrame, memberByte, memberFrame}
 use Rattle.payload.specs.Joining.{rankedByte}
-use Rattle.payload.specs.Laws.Ranks.{Ranked, ranked}
+use Rattle.payload.specs.Laws.Ranks.{ranked}
 use Rattle.payload.specs.Spreading.{allMembers}
 use Rattle.payload.proofs.Areas.{area-said, area-columns, area-all}
 

@@ -138,9 +138,6 @@ eight-words k q a b c d e f g h ea eb ec ed ee ef eg eh l i hl hi =
 record Inside (k : ℕ) : Type 0 where
   up : (l : ℕ) → l < 8 → l / k % 2 ≡ 0 → l + k < 8
 
-inside-4 : Inside 4
-inside-4 = record { up = λ l h e. omega arith }
-
 inside-2 : Inside 2
 inside-2 = record { up = λ l h e. omega arith }
 

@@ -1,21 +1,30 @@
 -- What a frame leaves, by what the parts of the code leave.
-use mathlib.Core.Path.{_≡_, refl, _∙_}
+use mathlib.Core.Path.{_≡_, refl, sym, subst, _∙_}
 use mathlib.Core.Bool.{Bool, true, false, cond}
 use mathlib.Core.List.{List}
-use Prim.Native.Nat.{ℕ, _<_}
+use Prim.Native.Nat.{ℕ, _+_, _*_, _<_}
 use native.Mathlib.Omega.{arith}
 use lib.Dec.{ltb}
-use lib.ListN.{length}
+use lib.ListN.{length, replicate}
+use lib.Seq.{set-getD}
 use borrow.Author.Tests.{eq-eqb, ltb-true, ne-eqb}
+use Rattle.packet.specs.Counts.{nibbleIn, nibblePlace}
+use Rattle.packet.specs.Kinds.{endsEpoch, tagAfter}
 use Rattle.phases.specs.Sizes.{portsIn}
-use Rattle.receiver.specs.Frame.{frameAnswer, frameRefusal, frameRows, frameStore, portRows, refusalBy, settledBy, storeBy, takenRows, takenStore}
+use Rattle.receiver.specs.Frame.{decidedAnswer, decidedRows, decidedStore, frameAnswer, frameRefusal, frameRows, frameStore, gatheredBy, marksBy, portRows, refusalBy, settledBy, steadyRows, storeBy, takenRows, takenStore}
 use Rattle.receiver.specs.Lengths.{frameFits}
 use Rattle.rows.specs.declared.group.Group.{Group}
 use Rattle.rows.specs.declared.step.Step.{Step}
 use Rattle.rows.specs.Group.{groupAt}
-use Rattle.rows.specs.Step.{stepAt}
+use Rattle.rows.specs.Laws.Marks.{marks-put-packets, marks-put-step}
+use Rattle.rows.specs.Packets.{marksAt, packetsAt, putMarks, withNibble}
+use Rattle.rows.specs.Rows.{putRow, rowIn}
+use Rattle.rows.specs.Step.{putStep, stepAt, withNext}
 use Rattle.step.specs.declared.arrival.Taken.{Taken}
-use Rattle.step.specs.Arrival.{takenOf}
+use Rattle.step.specs.Arrival.{distanceIn, takenOf}
+use Rattle.step.specs.Laws.Steady.{amid-goes-on, steady-taken}
+use Rattle.step.specs.Steady.{amid, steady, steadyTaken}
+use Rattle.store.specs.Frames.{placeIn, storedAt}
 
 pub taken-rows : (g : Group) (n : ℕ) (s : List (List ℕ)) (i : ℕ) (t : Taken) (h : ℕ) (payload store : List ℕ) (ported settled : List (List ℕ)) (kept : List ℕ)
     → (t .answer ≡ 11 → ⊥) → ported ≡ portRows (g .kind) s i t h → kept ≡ storeBy g i t h payload store → settled ≡ settledBy (t .settles) n kept ported
@@ -47,10 +56,58 @@ module _ (s : List (List ℕ)) (i : ℕ) (failed : Bool) (h : ℕ) (payload stor
   unfolding frameAnswer frameRows frameStore
   frame-refused eg en er ne = rw (← same-refusal eg en er, ne-eqb r 0 ne) (refl, refl, refl)
 
-  pub frame-taken : (step : Step) (t : Taken) (rows : List (List ℕ)) (kept : List ℕ)
+  pub frame-decided : (a : ℕ) (rows : List (List ℕ)) (kept : List ℕ)
       → g ≡ groupAt s → n ≡ portsIn g → r ≡ refusalBy g n i (length s) (length payload) (length store) → r ≡ 0
-      → step ≡ stepAt s i → t ≡ takenOf g step failed h → rows ≡ takenRows g n s i t h payload store → kept ≡ takenStore g i t h payload store
-      → (t .answer ≡ frameAnswer s i failed h (length payload) (length store)) × (rows ≡ frameRows s i failed h payload store) × (kept ≡ frameStore s i failed h payload store)
+      → a ≡ decidedAnswer s i failed h → rows ≡ decidedRows s i failed h payload store → kept ≡ decidedStore s i failed h payload store
+      → (a ≡ frameAnswer s i failed h (length payload) (length store)) × (rows ≡ frameRows s i failed h payload store) × (kept ≡ frameStore s i failed h payload store)
   unfolding frameAnswer frameRows frameStore
-  frame-taken step t rows kept eg en er z es et erows ek =
-      rw (← same-refusal eg en er, eq-eqb r 0 z, ← eg, ← en, ← es, ← et) (refl, erows, ek)
+  frame-decided a rows kept eg en er z ea erows ek = rw (← same-refusal eg en er, eq-eqb r 0 z) (ea, erows, ek)
+
+module _ (s : List (List ℕ)) (i : ℕ) (failed : Bool) (h : ℕ) (payload store : List ℕ) (g : Group) (step : Step) (eg : g ≡ groupAt s) (es : step ≡ stepAt s i) where
+  pub decided-by : (n : ℕ) (t : Taken) (rows : List (List ℕ)) (kept : List ℕ) → n ≡ portsIn g → t ≡ takenOf g step failed h
+      → rows ≡ takenRows g n s i t h payload store → kept ≡ takenStore g i t h payload store
+      → (t .answer ≡ takenOf (groupAt s) (stepAt s i) failed h .answer)
+      × (rows ≡ takenRows (groupAt s) (portsIn (groupAt s)) s i (takenOf (groupAt s) (stepAt s i) failed h) h payload store)
+      × (kept ≡ takenStore (groupAt s) i (takenOf (groupAt s) (stepAt s i) failed h) h payload store)
+  decided-by n t rows kept en et erows ek = rw (← eg, ← en, ← es, ← et) (refl, erows, ek)
+
+-- A steady frame amid the window: the marks are put back as they were.
+module _ (s : List (List ℕ)) (i h : ℕ) (g : Group) where
+  same-marks : (rows : List (List ℕ)) → marksAt rows i ≡ marksAt s i → putMarks rows i (marksAt s i) ≡ rows
+  unfolding putMarks putRow marksAt rowIn
+  same-marks rows e = rw (← e) (set-getD rows (i * 5 + 5) (replicate 16 0))
+
+  steady-marks : marksAt (steadyRows (g .kind) (stepAt s i .next) h i s) i ≡ marksAt s i
+  unfolding steadyRows
+  steady-marks =
+      let low : List (List ℕ) = putStep s i (withNext (stepAt s i) (tagAfter (g .kind) (stepAt s i .next))) in
+      marks-put-packets low i (withNibble (packetsAt s i) (nibblePlace (g .kind) h) (nibbleIn (g .kind) h)) i
+      ∙ marks-put-step s i (withNext (stepAt s i) (tagAfter (g .kind) (stepAt s i .next))) i
+
+  steady-parts : endsEpoch (g .kind) (distanceIn g (stepAt s i .next)) ≡ false
+      → portRows (g .kind) s i (steadyTaken g (stepAt s i)) h ≡ putMarks (steadyRows (g .kind) (stepAt s i .next) h i s) i (marksAt s i)
+  unfolding portRows steadyTaken marksBy gatheredBy withNibble steadyRows
+  steady-parts e = rw e refl
+
+  pub steady-rows : amid g (distanceIn g (stepAt s i .next)) ≡ true → portRows (g .kind) s i (steadyTaken g (stepAt s i)) h ≡ steadyRows (g .kind) (stepAt s i .next) h i s
+  steady-rows w = steady-parts (amid-goes-on g (distanceIn g (stepAt s i .next)) w) ∙ same-marks (steadyRows (g .kind) (stepAt s i .next) h i s) steady-marks
+
+module _ (s : List (List ℕ)) (i : ℕ) (failed : Bool) (h : ℕ) (payload store : List ℕ) (g : Group) (eg : g ≡ groupAt s) where
+  steady-arrives : (rows : List (List ℕ)) (kept : List ℕ) → steady g (stepAt s i) failed h ≡ true → amid g (distanceIn g (stepAt s i .next)) ≡ true
+      → rows ≡ steadyRows (g .kind) (stepAt s i .next) h i s → kept ≡ storedAt store (placeIn g i (distanceIn g (stepAt s i .next))) payload h
+      → (0 ≡ takenOf (groupAt s) (stepAt s i) failed h .answer)
+      × (rows ≡ takenRows (groupAt s) (portsIn (groupAt s)) s i (takenOf (groupAt s) (stepAt s i) failed h) h payload store)
+      × (kept ≡ takenStore (groupAt s) i (takenOf (groupAt s) (stepAt s i) failed h) h payload store)
+  unfolding takenRows takenStore storeBy settledBy steadyTaken
+  steady-arrives rows kept st w er ek =
+      rw (← eg, steady-taken g (stepAt s i) failed h st w) (refl, er ∙ sym (steady-rows s i h g w), ek)
+
+  pub arrive-steady : (step : Step) (at : ℕ) (rows : List (List ℕ)) (kept : List ℕ) → step ≡ stepAt s i → steady g step failed h ≡ true → at ≡ distanceIn g (step .next) → amid g at ≡ true
+      → rows ≡ steadyRows (g .kind) (step .next) h i s → kept ≡ storedAt store (placeIn g i at) payload h
+      → (0 ≡ takenOf (groupAt s) (stepAt s i) failed h .answer)
+      × (rows ≡ takenRows (groupAt s) (portsIn (groupAt s)) s i (takenOf (groupAt s) (stepAt s i) failed h) h payload store)
+      × (kept ≡ takenStore (groupAt s) i (takenOf (groupAt s) (stepAt s i) failed h) h payload store)
+  arrive-steady step at rows kept es st ea w er ek =
+      steady-arrives rows kept (subst (λ q. steady g q failed h ≡ true) es st) (subst (λ q. amid g (distanceIn g (q .next)) ≡ true) es (subst (λ d. amid g d ≡ true) ea w))
+      (subst (λ q. rows ≡ steadyRows (g .kind) (q .next) h i s) es er)
+      (subst (λ q. kept ≡ storedAt store (placeIn g i (distanceIn g (q .next))) payload h) es (subst (λ d. kept ≡ storedAt store (placeIn g i d) payload h) ea ek))

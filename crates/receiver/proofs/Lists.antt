@@ -1,21 +1,11 @@
--- Loops that make a table or a list of ports anew, and short slices that are written whole.
-use mathlib.Core.Path.{_≡_, refl, ap, _∙_}
+-- Loops that make a list of ports anew, and short slices that are written whole.
+use mathlib.Core.Path.{_≡_, refl, _∙_}
 use mathlib.Core.List.{List, [], _∷_, _++_, append-nil}
 use Prim.Native.Nat.{ℕ}
 use native.Mathlib.Omega.{arith}
-use lib.Dec.{ltb}
 use lib.ListN.{length, replicate, set, take, drop, drop-of-length-le}
 use lib.Seq.{take-length}
-use borrow.Author.Tests.{lt-ltb}
-use Rattle.ground.specs.Drawn.{drawn-all}
-use Rattle.ground.specs.Table.{tabulate}
-use Rattle.counting.specs.Each.{Done, done-all, each}
-
-pub done-table : {i n : ℕ} {f : ℕ → ℕ} {d out : List ℕ} → Done i f d out → i ≡ n → length d ≡ n → out ≡ tabulate n f
-done-table {i} {n} {f} {d} h e l =
-    done-all h e
-    ∙ drawn-all (λ k. ltb k n) f d (λ k b. lt-ltb k n (rw l at b))
-    ∙ ap (λ (m : ℕ). tabulate m f) l
+use Rattle.counting.specs.Each.{each}
 
 module _ {A : Type 0} where
   pub each-both : (n m : ℕ) (f : ℕ → A) (a b : A) → n ≡ m → a ≡ b → each n f (replicate 64 a) ≡ each m f (replicate 64 b)

@@ -5,14 +5,14 @@ use Prim.Native.Nat.{ℕ}
 use lib.Dec.{eqb, ltb}
 use lib.ListN.{getD, length, set}
 use Rattle.packet.specs.Counts.{nibbleIn, nibblePlace}
-use Rattle.packet.specs.Kinds.{endsEpoch, epochsIn}
+use Rattle.packet.specs.Kinds.{endsEpoch, epochsIn, tagAfter}
 use Rattle.phases.specs.Settling.{settledOf}
 use Rattle.phases.specs.Sizes.{portsIn}
 use Rattle.receiver.specs.Lengths.{frameFits}
 use Rattle.rows.specs.declared.group.Group.{Group}
 use Rattle.rows.specs.Group.{groupAt}
-use Rattle.rows.specs.Packets.{marksAt, packetsAt, putMarks, putPackets}
-use Rattle.rows.specs.Step.{putStep, stepAt}
+use Rattle.rows.specs.Packets.{marksAt, packetsAt, putMarks, putPackets, withNibble}
+use Rattle.rows.specs.Step.{putStep, stepAt, withNext}
 use Rattle.step.specs.declared.arrival.Taken.{Taken}
 use Rattle.step.specs.Arrival.{takenOf}
 use Rattle.store.specs.Frames.{placeIn, storedAt}
@@ -31,6 +31,11 @@ marksBy kind marks t =
 unfoldable pub portRows : ℕ → List (List ℕ) → ℕ → Taken → ℕ → List (List ℕ)
 portRows kind s i t h =
     putMarks (putPackets (putStep s i (t .step)) i (gatheredBy kind (packetsAt s i) (t .counted) h)) i (marksBy kind (marksAt s i) t)
+
+-- the port's rows after a frame that changes its next tag and one nibble alone
+unfoldable pub steadyRows : ℕ → ℕ → ℕ → ℕ → List (List ℕ) → List (List ℕ)
+steadyRows kind next h i s =
+    putPackets (putStep s i (withNext (stepAt s i) (tagAfter kind next))) i (withNibble (packetsAt s i) (nibblePlace kind h) (nibbleIn kind h))
 
 -- the store after a frame
 unfoldable pub storeBy : Group → ℕ → Taken → ℕ → List ℕ → List ℕ → List ℕ
@@ -51,6 +56,15 @@ takenStore g i t h payload store = cond (eqb (t .answer) 11) store (storeBy g i 
 abbrev pub takenIn : List (List ℕ) → ℕ → Bool → ℕ → Taken
 takenIn s i failed h = takenOf (groupAt s) (stepAt s i) failed h
 
+abbrev pub decidedAnswer : List (List ℕ) → ℕ → Bool → ℕ → ℕ
+decidedAnswer s i failed h = takenIn s i failed h .answer
+
+abbrev pub decidedRows : List (List ℕ) → ℕ → Bool → ℕ → List ℕ → List ℕ → List (List ℕ)
+decidedRows s i failed h payload store = takenRows (groupAt s) (portsIn (groupAt s)) s i (takenIn s i failed h) h payload store
+
+abbrev pub decidedStore : List (List ℕ) → ℕ → Bool → ℕ → List ℕ → List ℕ → List ℕ
+decidedStore s i failed h payload store = takenStore (groupAt s) i (takenIn s i failed h) h payload store
+
 -- '1: .. port not below the group's count'; '9: payload, store .. length wrong'
 unfoldable pub refusalBy : Group → ℕ → ℕ → ℕ → ℕ → ℕ → ℕ
 refusalBy g n i rows payload store = cond (ltb i n) (cond (frameFits g n rows payload store) 0 9) 1
@@ -60,14 +74,14 @@ frameRefusal s i payload store = refusalBy (groupAt s) (portsIn (groupAt s)) i (
 
 unfoldable pub frameAnswer : List (List ℕ) → ℕ → Bool → ℕ → ℕ → ℕ → ℕ
 frameAnswer s i failed h payload store =
-    cond (eqb (frameRefusal s i payload store) 0) (takenIn s i failed h .answer) (frameRefusal s i payload store)
+    cond (eqb (frameRefusal s i payload store) 0) (decidedAnswer s i failed h) (frameRefusal s i payload store)
 
 unfoldable pub frameRows : List (List ℕ) → ℕ → Bool → ℕ → List ℕ → List ℕ → List (List ℕ)
 frameRows s i failed h payload store =
     cond (eqb (frameRefusal s i (length payload) (length store)) 0)
-    (takenRows (groupAt s) (portsIn (groupAt s)) s i (takenIn s i failed h) h payload store)
+    (decidedRows s i failed h payload store)
     s
 
 unfoldable pub frameStore : List (List ℕ) → ℕ → Bool → ℕ → List ℕ → List ℕ → List ℕ
 frameStore s i failed h payload store =
-    cond (eqb (frameRefusal s i (length payload) (length store)) 0) (takenStore (groupAt s) i (takenIn s i failed h) h payload store) store
+    cond (eqb (frameRefusal s i (length payload) (length store)) 0) (decidedStore s i failed h payload store) store

@@ -8,7 +8,9 @@ use store::frames;
 use store::marks;
 ghost use mathlib.Core.Path.{_≡_};
 ghost use lib.ListN.{length};
-ghost use Rattle.receiver.specs.Frame.{frameAnswer, frameRows, frameStore, gatheredBy, marksBy, portRows, refusalBy, settledBy, storeBy, takenRows, takenStore};
+ghost use Rattle.receiver.specs.Frame.{decidedAnswer, decidedRows, decidedStore, frameAnswer, frameRows, frameStore, gatheredBy, marksBy, portRows, refusalBy, settledBy, steadyRows, storeBy, takenRows, takenStore};
+ghost use Rattle.rows.specs.Group.{groupAt};
+ghost use Rattle.store.specs.Frames.{placeIn, storedAt};
 
 // The two packets of a port, the first one of which is being gathered.
 fn gathered_by(kind: u8, packets: [[u8; 16]; 2], counted: bool, h4: u8) -> [[u8; 16]; 2]
@@ -51,12 +53,19 @@ fn put_port(kind: u8, state: &mut [[u8; 16]], port: u8, taken: Taken, h4: u8)
     rows::packets::put_marks(state, port, left);
 }
 
+// A frame that lies so far after the window's first, into the store.
+fn keep(group: Group, port: u8, at: u16, h4: u8, payload: &[u8], store: &mut [u8])
+    ensures { λ _. ⌜ now (store .exit) ≡ storedAt (now (store .entry)) (placeIn group port at) (now (payload .entry)) h4 ⌝ }
+{
+    let place = frames::place(group, port, at);
+    frames::put(store, place, payload, h4);
+}
+
 fn put_frame(group: Group, port: u8, taken: Taken, h4: u8, payload: &[u8], store: &mut [u8])
     ensures { λ _. ⌜ now (store .exit) ≡ storeBy group port taken h4 (now (payload .entry)) (now (store .entry)) ⌝ }
 {
     if taken.kept {
-        let place = frames::place(group, port, taken.at);
-        frames::put(store, place, payload, h4);
+        keep(group, port, taken.at, h4, payload, store);
     }
 }
 
@@ -87,6 +96,67 @@ fn take(
         put_frame(group, port, taken, h4, payload, store);
         settle_by(taken.settles, ports, store, state);
     }
+}
+
+// A frame that is neither 1 nor 9, decided on what stands in the rows.
+fn decided(
+    state: &mut [[u8; 16]],
+    port: u8,
+    failed: bool,
+    h4: u8,
+    payload: &[u8],
+    store: &mut [u8],
+) -> u8
+    ensures { λ r. ⌜ (r ≡ decidedAnswer (now (state .entry)) port failed h4)
+        × (now (state .exit) ≡ decidedRows (now (state .entry)) port failed h4 (now (payload .entry)) (now (store .entry)))
+        × (now (store .exit) ≡ decidedStore (now (state .entry)) port failed h4 (now (payload .entry)) (now (store .entry))) ⌝ }
+{
+    let group = rows::group::get(state);
+    let ports = phases::ports_in(group);
+    let step = rows::step::get(state, port);
+    let taken = step::decide(group, step, failed, h4);
+    take(group, ports, state, port, taken, h4, payload, store);
+    taken.answer
+}
+
+// The rows after a steady frame amid the window.
+fn go_on(kind: u8, next: u16, h4: u8, port: u8, state: &mut [[u8; 16]])
+    ensures { λ _. ⌜ now (state .exit) ≡ steadyRows kind next h4 port (now (state .entry)) ⌝ }
+{
+    let after = kinds::next_tag(kind, next);
+    let place = counts::nibble_place(kind, h4);
+    let nibble = counts::nibble_in(kind, h4);
+    rows::step::put_next(state, port, after);
+    rows::packets::put_nibble(state, port, place, nibble);
+}
+
+// A frame that is neither 1 nor 9. The one that comes most often goes the short way, which touches three bytes of the rows; two calls of
+// the long way keep the compiler from joining it to the short one.
+fn arrive(
+    group: Group,
+    state: &mut [[u8; 16]],
+    port: u8,
+    failed: bool,
+    h4: u8,
+    payload: &[u8],
+    store: &mut [u8],
+) -> u8
+    requires { ⌜ group ≡ groupAt (now state) ⌝ }
+    ensures { λ r. ⌜ (r ≡ decidedAnswer (now (state .entry)) port failed h4)
+        × (now (state .exit) ≡ decidedRows (now (state .entry)) port failed h4 (now (payload .entry)) (now (store .entry)))
+        × (now (store .exit) ≡ decidedStore (now (state .entry)) port failed h4 (now (payload .entry)) (now (store .entry))) ⌝ }
+{
+    let step = rows::step::get(state, port);
+    if step::is_steady(group, step, failed, h4) {
+        let at = step::distance_in(group, step.next);
+        if step::is_amid(group, at) {
+            go_on(group.kind, step.next, h4, port, state);
+            keep(group, port, at, h4, payload, store);
+            return 0;
+        }
+        return decided(state, port, failed, h4, payload, store);
+    }
+    decided(state, port, failed, h4, payload, store)
 }
 
 fn refusal(group: Group, ports: u8, port: u32, rows: usize, payload: usize, store: usize) -> u8
@@ -121,8 +191,5 @@ pub fn frame(
         return refusal;
     }
     let at = port as u8;
-    let step = rows::step::get(state, at);
-    let taken = step::decide(group, step, failed, h4);
-    take(group, ports, state, at, taken, h4, payload, store);
-    taken.answer
+    arrive(group, state, at, failed, h4, payload, store)
 }

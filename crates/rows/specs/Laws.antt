@@ -10,3 +10,4 @@ pub mod Packets
 pub mod Marks
 pub mod Port
 pub mod Same
+pub mod Parts

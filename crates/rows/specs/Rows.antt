@@ -16,10 +16,6 @@ putRow s k row = set s k row
 abbrev pub rowsFor : ℕ → ℕ
 rowsFor n = n * 5 + 1
 
--- two bytes of a row as one number, the first one higher
-abbrev pub pairIn : List ℕ → ℕ → ℕ
-pairIn row k = getD row k 0 * 256 + getD row (k + 1) 0
-
 -- rows of sixteen bytes, as a host lends them
 pub record Shaped (s : List (List ℕ)) : Type 0 where
   pub whole : (k : ℕ) → k < length s → length (rowIn s k) ≡ 16

@@ -48,5 +48,26 @@ stepRow s =
 unfoldable pub stepAt : List (List ℕ) → ℕ → Step
 stepAt s i = stepOf (rowIn s (i * 5 + 1))
 
+-- a step that waits for another tag
+unfoldable pub withNext : Step → ℕ → Step
+withNext q n =
+    record {
+      had = q .had;
+      failed = q .failed;
+      count = q .count;
+      next = n;
+      joined = q .joined;
+      since = q .since;
+      later = q .later;
+      whole = q .whole;
+      «spare_9» = q .«spare_9»;
+      «spare_10» = q .«spare_10»;
+      «spare_11» = q .«spare_11»;
+      «spare_12» = q .«spare_12»;
+      «spare_13» = q .«spare_13»;
+      «spare_14» = q .«spare_14»;
+      «spare_15» = q .«spare_15»;
+    }
+
 unfoldable pub putStep : List (List ℕ) → ℕ → Step → List (List ℕ)
 putStep s i q = putRow s (i * 5 + 1) (stepRow q)

@@ -1,6 +1,7 @@
 // The group's row.
 ghost use mathlib.Core.Path.{_≡_};
 ghost use Prim.Native.Nat.{_+_, _*_};
+ghost use lib.ListN.{length};
 ghost use Rattle.rows.specs.Group.{groupAt, groupOf, groupRow, putGroup};
 ghost use Rattle.rows.specs.Rows.{rowIn, putRow, rowsFor};
 
@@ -41,6 +42,11 @@ pub(crate) fn put_row(state: &mut [[u8; 16]], at: usize, row: [u8; 16])
         state[at] = row;
     }
 }
+
+// A row has sixteen bytes: what its type says, said where a proof can cite it.
+pub(crate) fn is_whole(row: [u8; 16])
+    ensures { λ _. ⌜ length row ≡ 16 ⌝ }
+{}
 
 // Two bytes of a row as one number, the first one higher.
 pub(crate) fn pair(high: u8, low: u8) -> u16

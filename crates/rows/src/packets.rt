@@ -1,7 +1,7 @@
 // The rows of a port's two packets, the one being gathered and the one that rules, and of its marks.
 use crate::group;
 ghost use mathlib.Core.Path.{_≡_};
-ghost use Rattle.rows.specs.Packets.{packetsAt, putPackets, marksAt, putMarks};
+ghost use Rattle.rows.specs.Packets.{packetsAt, putPackets, marksAt, putMarks, withNibble};
 
 pub fn get(state: &[[u8; 16]], port: u8) -> [[u8; 16]; 2]
     ensures { λ r. ⌜ r ≡ packetsAt (now (state .entry)) port ⌝ }
@@ -30,4 +30,18 @@ pub fn put_marks(state: &mut [[u8; 16]], port: u8, row: [u8; 16])
     ensures { λ _. ⌜ now (state .exit) ≡ putMarks (now (state .entry)) port row ⌝ }
 {
     group::put_row(state, port as usize * 5 + 5, row);
+}
+
+// One nibble of the packet being gathered.
+pub fn put_nibble(state: &mut [[u8; 16]], port: u8, place: u8, nibble: u8)
+    ensures { λ _. ⌜ now (state .exit) ≡ putPackets (now (state .entry)) port (withNibble (packetsAt (now (state .entry)) port) place nibble) ⌝ }
+{
+    let at = port as usize * 5 + 3;
+    if at < state.len() {
+        let row = state[at];
+        group::is_whole(row);
+        if place < 16 {
+            state[at][place as usize] = nibble;
+        }
+    }
 }

@@ -1,7 +1,7 @@
 // The row of a port's step.
 use crate::group;
 ghost use mathlib.Core.Path.{_≡_};
-ghost use Rattle.rows.specs.Step.{stepAt, stepOf, stepRow, putStep};
+ghost use Rattle.rows.specs.Step.{stepAt, stepOf, stepRow, putStep, withNext};
 
 pub struct Step {
     // 0 until the port has had a frame
@@ -85,4 +85,17 @@ pub fn put(state: &mut [[u8; 16]], port: u8, step: Step)
 {
     let row = step_row(step);
     group::put_row(state, port as usize * 5 + 1, row);
+}
+
+// The next tag alone: two bytes of the row.
+pub fn put_next(state: &mut [[u8; 16]], port: u8, next: u16)
+    ensures { λ _. ⌜ now (state .exit) ≡ putStep (now (state .entry)) port (withNext (stepAt (now (state .entry)) port) next) ⌝ }
+{
+    let at = port as usize * 5 + 1;
+    if at < state.len() {
+        let row = state[at];
+        group::is_whole(row);
+        state[at][3] = (next / 256) as u8;
+        state[at][4] = (next % 256) as u8;
+    }
 }

@@ -8,7 +8,7 @@ use Rattle.sender.specs.declared.board.Row.{Row}
 use Rattle.sender.specs.declared.table.Table.{Table}
 use Rattle.sender.specs.Board.{boardOf}
 use Rattle.sender.specs.Commands.{startOf}
-use Rattle.sender.specs.Steps.{Call, run, stepOf}
+use Rattle.sender.specs.Steps.{Call, run}
 use Rattle.sender.specs.Table.{answerNumber}
 
 -- the table after calls from a start of so many slots
@@ -25,11 +25,6 @@ numbers b = rowNumbers (take (b .count) (b .rows)) ++ (cond (b .wait) 1 0 ∷ []
 
 abbrev pub shown : Table → List ℕ
 shown t = numbers (boardOf t)
-
--- the answer to each call
-abbrev pub answersOf : Table → List Call → List ℕ
-answersOf t [] = []
-answersOf t (c ∷ cs) = answerNumber (stepOf t c .answer) ∷ answersOf (stepOf t c .table) cs
 
 -- a start: its answer and the count it leaves
 abbrev pub started : ℕ → List ℕ

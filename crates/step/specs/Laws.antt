@@ -2,3 +2,4 @@
 pub mod Arrival
 pub mod Run
 pub mod Sent
+pub mod Steady

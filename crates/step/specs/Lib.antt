@@ -1,3 +1,4 @@
 pub mod Run
 pub mod Arrival
+pub mod Steady
 pub mod Laws

@@ -22,7 +22,7 @@ pub struct Taken {
     pub settles: bool,
 }
 
-fn is_set(flag: u8) -> bool
+pub(crate) fn is_set(flag: u8) -> bool
     ensures { λ r. ⌜ r ≡ flagOf flag ⌝ }
 {
     !(flag == 0)
@@ -41,7 +41,8 @@ pub fn is_readable(group: Group, step: Step) -> bool
     is_set(group.begun) & in_step & (is_set(step.joined) | is_set(step.since))
 }
 
-fn distance_in(group: Group, tag: u16) -> u16
+// How far a tag lies after the window's first.
+pub fn distance_in(group: Group, tag: u16) -> u16
     ensures { λ r. ⌜ r ≡ distanceIn group tag ⌝ }
 {
     let first = kinds::first_tag(group.kind, group.oldest);

@@ -1,8 +1,12 @@
 // One frame of one port (01, 'The receiver'): the step rule, and what the frame does by the window and joining. All on numbers; nothing is stored here.
 mod arrival;
 mod run;
+mod steady;
 
 pub use arrival::Taken;
 pub use arrival::decide;
+pub use arrival::distance_in;
 pub use arrival::in_step;
 pub use arrival::is_readable;
+pub use steady::is_amid;
+pub use steady::is_steady;

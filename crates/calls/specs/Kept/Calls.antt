@@ -16,10 +16,10 @@ use Rattle.calls.specs.Laws.Flags.{both}
 use Rattle.calls.specs.Laws.Frames.{frame-group}
 use Rattle.calls.specs.Laws.Told.{statesIn, told-group, told-of-port, toldOn}
 use Rattle.calls.specs.Settles.{settles-always}
+use Rattle.counting.specs.Laws.Tests.{every-ext}
 use Rattle.ground.specs.Truth.{and-left, and-right}
 use Rattle.judge.specs.Seen.{sizeOf}
 use Rattle.phases.specs.Due.{brought, silent}
-use Rattle.phases.specs.Laws.Every.{every-ext}
 use Rattle.phases.specs.Laws.Lengths.{length-passed}
 use Rattle.phases.specs.Laws.Passed.{passed-group}
 use Rattle.phases.specs.Passing.{groupTo, passedGroup, passedOf}

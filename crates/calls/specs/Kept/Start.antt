@@ -13,11 +13,11 @@ use Rattle.calls.specs.Kept.Steps.{Sizes, sizes-of}
 use Rattle.calls.specs.Laws.Fresh.{freshOn, length-started, started-group, started-port}
 use Rattle.calls.specs.Laws.Runs.{none-kept}
 use Rattle.calls.specs.Laws.Window.{frames-some}
+use Rattle.counting.specs.Laws.Tests.{every-fails}
 use Rattle.counting.specs.Words.{every}
 use Rattle.ground.specs.Truth.{and-left, and-right}
 use Rattle.packet.specs.Kinds.{epochs}
 use Rattle.phases.specs.Beginning.{begins, foremost, noTag, ready, within}
-use Rattle.phases.specs.Laws.Every.{every-fails}
 use Rattle.phases.specs.Sizes.{sized}
 use Rattle.phases.specs.Theorems.Settled.{Settled}
 use Rattle.receiver.specs.Starting.{freshMember, freshPorts, freshStep, groupWith, sizedAnswer, sizedRows, startAnswer, startFits, startRows, zeroRow}

@@ -77,10 +77,6 @@ count-lt n f g s h u t more =
         let d : k ≢ s = (λ (e : k ≡ s). true≢false (sym v ∙ ap f e ∙ u)) in
         rw (more k b v, ne-eqb k s d)
 
--- one more turn of a loop
-pub greatest-more : (f : ℕ → Bool) (m : ℕ → ℕ) (i r : ℕ) → r ≡ greatest i f m → cond (f i && ltb r (m i)) (m i) r ≡ greatest (i + 1) f m
-greatest-more f m i r e = rw (add-one, e)
-
 -- no m of a number at which the test holds is above the greatest
 pub greatest-above : (n : ℕ) (f : ℕ → Bool) (m : ℕ → ℕ) (k : ℕ) → k < n → f k ≡ true → m k ≤ greatest n f m
 greatest-above zero f m k h t = absurd (not-suc-le-zero h)

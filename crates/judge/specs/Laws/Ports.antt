@@ -1,7 +1,8 @@
 -- What is seen of one port, as facts.
 use mathlib.Core.Path.{_≡_, refl}
-use mathlib.Core.Bool.{Bool, true, false, not, _&&_, _||_, Bool·beq, and-false, true≢false, false≢true}
+use mathlib.Core.Bool.{Bool, true, false, not, _&&_, _||_, Bool·beq, and-false}
 use lib.Dec.{eqb}
+use borrow.Author.Tests.{not-false}
 use Rattle.ground.specs.Truth.{and-true, and-left, and-right, or-left, or-right}
 use Rattle.packet.specs.Words.{NORM, EOS, DNU}
 use Rattle.judge.specs.declared.seen.Seen.{Seen}
@@ -16,14 +17,6 @@ pub eos-active : (p : Seen) → eosSeen p ≡ true → activeSeen p ≡ true
 eos-active p e =
     and-true (p .whole && p .good) _ (and-left (p .whole && p .good) (eqb (p .word) EOS) e)
     (or-right (eqb (p .word) NORM) (eqb (p .word) EOS) (and-right (p .whole && p .good) (eqb (p .word) EOS) e))
-
-pub not-false : (b : Bool) → not b ≡ false → b ≡ true
-not-false true e = refl
-not-false false e = absurd (true≢false e)
-
-pub not-true : (b : Bool) → not b ≡ true → b ≡ false
-not-true true e = absurd (false≢true e)
-not-true false e = refl
 
 pub good-accepted : (p : Seen) → p .good ≡ true → refusedSeen p ≡ false
 good-accepted p e = rw e (and-false (p .whole))
@@ -44,9 +37,3 @@ lacks-here p e a = not-false (p .here) (rw a at e)
 pub same-true : (b c : Bool) → b ≡ c → Bool·beq b c ≡ true
 same-true true c e = rw (← e)
 same-true false c e = rw (← e)
-
-pub true-same : (b c : Bool) → Bool·beq b c ≡ true → b ≡ c
-true-same true true e = refl
-true-same true false e = absurd (false≢true e)
-true-same false true e = absurd (false≢true e)
-true-same false false e = refl

@@ -5,12 +5,13 @@ use mathlib.Core.Bool.{Bool, true, false, not, _&&_, _||_, true≢false}
 use mathlib.Core.List.{List}
 use Prim.Native.Nat.{ℕ, _<_}
 use lib.Dec.{eqb}
+use borrow.Author.Tests.{not-false}
 use Rattle.counting.specs.Words.{some}
 use Rattle.counting.specs.Laws.Tests.{none-at, some-at}
 use Rattle.ground.specs.Truth.{and-true, or-right, fails, same-test}
 use Rattle.judge.specs.declared.seen.Seen.{Seen}
 use Rattle.judge.specs.Laws.Numbers.{AllApart, repeats-apart}
-use Rattle.judge.specs.Laws.Ports.{lacks-here, not-false}
+use Rattle.judge.specs.Laws.Ports.{lacks-here}
 use Rattle.judge.specs.Seen.{activeSeen, lackingSeen, refusedSeen, seenAt, unidleSeen}
 use Rattle.judge.specs.Verdict.{HELD, eosWrong, gidDiffers, heldBy, judgeOf, repeats}
 

@@ -1,20 +1,20 @@
 -- Sure epochs: where all is as a sender makes it the epoch is sure, and a sure epoch is such a one.
 use mathlib.Core.Path.{_≡_, refl, sym, _∙_}
 use mathlib.Core.Logic.{⊎-elim, _≢_}
-use mathlib.Core.Bool.{Bool, true, false, not, _&&_, _||_, Bool·beq, and-false, true≢false}
+use mathlib.Core.Bool.{Bool, true, false, not, _&&_, Bool·beq, and-false, true≢false}
 use mathlib.Core.List.{List, [], _∷_}
 use Prim.Native.Nat.{ℕ, _<_}
 use native.Mathlib.Omega.{arith}
 use lib.Dec.{eqb, ltb}
-use borrow.Author.Tests.{eq-eqb, eqb-false, eqb-true, ltb-true, ne-eqb}
+use borrow.Author.Tests.{eq-eqb, eqb-false, eqb-true, ltb-true, ne-eqb, not-false, not-true}
 use Rattle.counting.specs.Words.{some}
-use Rattle.counting.specs.Laws.Tests.{every-all, every-at, none-at, some-at, some-one}
-use Rattle.ground.specs.Finite.{below, below-at}
-use Rattle.ground.specs.Truth.{and-true, and-left, and-right, fails, same-test, eq-or-ne}
+use Rattle.counting.specs.Laws.Tests.{every-all, every-at, none-at, some-at, some-none, some-one}
+use Rattle.ground.specs.Finite.{below, below-at, same-bit}
+use Rattle.ground.specs.Truth.{and-true, and-left, and-right, neither, fails, same-test, eq-or-ne}
 use Rattle.packet.specs.Words.{DNU, EOS, NORM}
 use Rattle.judge.specs.declared.seen.Seen.{Seen}
 use Rattle.judge.specs.Laws.Numbers.{AllApart, Highest, activeAt, apart-repeats, highest-is, is-highest, numberAt, numberedAt}
-use Rattle.judge.specs.Laws.Ports.{accepted-good, eos-active, good-accepted, here-lacks, not-false, not-true, same-true, true-same}
+use Rattle.judge.specs.Laws.Ports.{accepted-good, eos-active, good-accepted, here-lacks, same-true}
 use Rattle.judge.specs.Seen.{eosSeen, lackingSeen, refusedSeen, seenAt, unidleSeen}
 use Rattle.judge.specs.Theorems.Exact.{below-exact, exact-below, numbersIn}
 use Rattle.judge.specs.Theorems.Held.{not-held, unheld}
@@ -34,9 +34,6 @@ pub record Tidy (ports : List Seen) (n : ℕ) : Type 0 where
   -- EOS is on the highest active port, and on no other
   pub last : (i : ℕ) → i < n → activeAt ports i ≡ true → Highest ports n i → eosAt ports i ≡ true
   pub alone : (i : ℕ) → i < n → eosAt ports i ≡ true → Highest ports n i
-
-none-false : (n : ℕ) (f : ℕ → Bool) → ((i : ℕ) → i < n → f i ≡ false) → some n f ≡ false
-none-false n f h = fails (some n f) (λ (e : some n f ≡ true). let o = some-one n f e in true≢false (sym (o .holds) ∙ h (o .at) (o .below)))
 
 both-kinds : (ports : List Seen) (n : ℕ)
     → ((i j : ℕ) → i < n → j < n → unidleSeen (seenAt ports i) ≡ true → unidleSeen (seenAt ports j) ≡ true → seenAt ports i .gid ≡ seenAt ports j .gid)
@@ -86,12 +83,12 @@ pub tidy-sure : (ports : List Seen) (n : ℕ) → Tidy ports n → judgeOf ports
 unfolding judgeOf heldBy doubtfulBy missing
 tidy-sure ports n o =
     rw (
-      none-false n (λ i. refusedSeen (seenAt ports i)) (λ i b. good-accepted (seenAt ports i) (o .good i b)),
-      none-false n (λ i. lackingSeen (seenAt ports i)) (λ i b. here-lacks (seenAt ports i) (o .here i b)),
+      some-none n (λ i. refusedSeen (seenAt ports i)) (λ i b. good-accepted (seenAt ports i) (o .good i b)),
+      some-none n (λ i. lackingSeen (seenAt ports i)) (λ i b. here-lacks (seenAt ports i) (o .here i b)),
       apart-repeats ports n (o .apart),
       both-kinds ports n (o .gid),
       eos-right ports n (eos-alone ports n o),
-      none-false n (λ i. not (seenAt ports i .whole)) (λ i b. rw (o .whole i b)),
+      some-none n (λ i. not (seenAt ports i .whole)) (λ i b. rw (o .whole i b)),
       below-exact ports n (o .apart) (o .dense),
     )
 
@@ -114,7 +111,7 @@ stands-alone ports n m e i b t = go (eosAlone ports n) refl
 eos-at : (ports : List Seen) (n : ℕ) → eosAlone ports n ≡ true → (i : ℕ) → i < n → eosAt ports i ≡ (activeAt ports i && eqb (numberAt ports i) (highest ports n))
 unfolding eosAlone
 eos-at ports n e i b =
-    true-same _ _ (every-at n (λ k. Bool·beq (eosAt ports k) (activeAt ports k && eqb (numberAt ports k) (highest ports n))) e i b)
+    same-bit _ _ (every-at n (λ k. Bool·beq (eosAt ports k) (activeAt ports k && eqb (numberAt ports k) (highest ports n))) e i b)
 
 one-bit : (a b : ℕ) → a < 2 → b < 2 → eqb a 0 ≡ eqb b 0 → a ≡ b
 one-bit a b ha hb e =
@@ -147,10 +144,6 @@ sure-tidy ports n bit s =
           is-highest ports n i
           (eqb-true (numberAt ports i) (highest ports n) (and-right (activeAt ports i) (eqb (numberAt ports i) (highest ports n)) w));
     }
-  where
-    neither : (b c : Bool) → (b || c) ≡ false → (b ≡ false) × (c ≡ false)
-    neither true c e = absurd (true≢false e)
-    neither false c e = (refl, e)
 
 -- Three ports that meet it: EOS 2, NORM 0, DNU 1.
 abbrev sent : ℕ → ℕ → Seen

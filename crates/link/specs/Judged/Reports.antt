@@ -6,12 +6,11 @@ use mathlib.Core.List.{List, [], _∷_}
 use Prim.Native.Nat.{ℕ, suc, _<_}
 use native.Mathlib.Omega.{arith}
 use lib.Dec.{eqb}
-use borrow.Author.Tests.{eq-eqb, eqb-true}
+use borrow.Author.Tests.{eq-eqb, eqb-true, not-false, not-true}
 use Rattle.counting.specs.Laws.Tests.{One, every-all, every-at, none-at, some-one}
 use Rattle.counting.specs.Words.{every, some}
 use Rattle.ground.specs.Truth.{and-left, and-right, and-true}
 use Rattle.judge.specs.declared.seen.Seen.{Seen}
-use Rattle.judge.specs.Laws.Ports.{not-false, not-true}
 use Rattle.judge.specs.Theorems.Held.{refused}
 use Rattle.judge.specs.Verdict.{HELD, SURE, judgeOf}
 use Rattle.packet.specs.Kinds.{frames}

@@ -6,11 +6,10 @@ use Prim.Native.Nat.{ℕ, _+_, _*_, _≤_, _<_}
 use native.Mathlib.Omega.{arith}
 use lib.Dec.{leb}
 use borrow.Author.Tests.{le-leb, leb-false, leb-true, lt-leb}
-use Rattle.counting.specs.Laws.Tests.{every-all, every-at}
+use Rattle.counting.specs.Laws.Tests.{every-all, every-at, every-ext, every-fails}
 use Rattle.counting.specs.Words.{every}
 use Rattle.ground.specs.Truth.{or-right}
 use Rattle.phases.specs.Due.{brought, lets, silent}
-use Rattle.phases.specs.Laws.Every.{every-ext, every-fails}
 use Rattle.rows.specs.Group.{groupAt}
 use Rattle.rows.specs.Packets.{marksAt}
 use Rattle.rows.specs.Step.{stepAt}

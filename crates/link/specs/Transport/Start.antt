@@ -9,9 +9,9 @@ use native.Mathlib.Omega.{arith}
 use lib.Dec.{ltb}
 use lib.ListN.{length}
 use borrow.Author.Tests.{eq-eqb, le-ltb}
+use Rattle.counting.specs.Laws.Tests.{every-fails}
 use Rattle.ground.specs.Truth.{eq-or-ne}
 use Rattle.phases.specs.Beginning.{begins, ready}
-use Rattle.phases.specs.Laws.Every.{every-fails}
 use Rattle.receiver.specs.Starting.{freshMember, freshPort, freshPorts, freshStep, groupWith, sizedRows, startFits, startRows, zeroRow}
 use Rattle.rows.specs.declared.group.Group.{Group}
 use Rattle.rows.specs.declared.step.Step.{Step}

@@ -71,11 +71,11 @@ sent f s e =
     let w = written-as f s e in
     ap highsOf (w .bytes) ∙ highs-back (nibblesOf f 0) (packet-nibbles f 0 (bounds f (w .fits))) (length-nibbles f 0)
 
-length-highs : (s : List ℕ) → length (highsOf s) ≡ 16
+pub length-highs : (s : List ℕ) → length (highsOf s) ≡ 16
 unfolding highsOf
 length-highs s = refl
 
-length-data : (f : Fields) → length (dataOf f 0) ≡ 14
+pub length-data : (f : Fields) → length (dataOf f 0) ≡ 14
 unfolding dataOf
 length-data f = refl
 

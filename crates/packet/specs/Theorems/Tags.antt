@@ -15,6 +15,15 @@ use Rattle.packet.specs.Kinds.{distanceOf, epochAfter, endsEpoch, epochO
 abbrev pub tagOf : ℕ → ℕ → ℕ
 tagOf kind x = x % tags kind
 
+-- an epoch has frames, and more than one
+pub frames-some : (kind : ℕ) → 0 < frames kind
+unfolding frames
+frames-some kind = omega arith
+
+pub frames-two : (kind : ℕ) → 2 ≤ frames kind
+unfolding frames
+frames-two kind = omega arith
+
 pub next-tag : (kind x : ℕ) → tagAfter kind (tagOf kind x) ≡ tagOf kind (x + 1)
 unfolding tagAfter tags
 next-tag kind x = omega arith

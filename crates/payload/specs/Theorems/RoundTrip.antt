@@ -1,7 +1,7 @@
 -- Joining undoes spreading and spreading undoes joining, for every X and P and wherever the members lie.
-use mathlib.Core.Path.{_≡_, refl, sym, ap, _∙_}
+use mathlib.Core.Path.{_≡_, ap, _∙_}
 use mathlib.Core.List.{List}
-use Prim.Native.Nat.{ℕ, _+_, _-_, _*_, _/_, _%_, _<_}
+use Prim.Native.Nat.{ℕ, _+_, _*_, _/_, _%_, _<_}
 use native.Mathlib.Nat.{mul-comm}
 use native.Mathlib.Omega.{arith}
 use lib.Arith.{digits-lt, digits-div, digits-mod}
@@ -11,7 +11,7 @@ use Rattle.ground.specs.Drawn.{fillAt, fillAt-ext, getD-fillAt}
 use Rattle.ground.specs.Table.{tabulate, length-tabulate, getD-tabulate, tabulate-ext, tabulate-self}
 use Rattle.payload.specs.Laws.Fits.{Sizes, FromFits, spread-done, joined-done, joined-from-done}
 use Rattle.payload.specs.Joining.{rankedByte, joined, startedByte, joinedFrom}
-use Rattle.payload.specs.Laws.Ranks.{Ranked, ranked}
+use Rattle.payload.specs.Laws.Ranks.{ranked}
 use Rattle.payload.specs.Order.{groupByte, groupFrame, memberByte, memberFrame}
 use Rattle.payload.specs.Spreading.{allMembers, spreadAll}
 

@@ -11,7 +11,7 @@ use Rattle.ground.specs.Truth.{eq-or-ne}
 use Rattle.packet.specs.Kinds.{epochAfter, epochOf}
 use Rattle.phases.specs.Beginning.{foremost}
 use Rattle.phases.specs.Laws.Lengths.{length-cleared}
-use Rattle.phases.specs.Laws.Ports.{group-put-two, port-put-two, port-put-two-other}
+use Rattle.phases.specs.Laws.Ports.{port-put-two, port-put-two-other}
 use Rattle.phases.specs.Passing.{groupTo}
 use Rattle.phases.specs.Settling.{begunOf, clearedPort, clearedPorts, clearedStep, stoppedOf}
 use Rattle.rows.specs.declared.group.Group.{Group}
@@ -44,10 +44,6 @@ module _ (g : Group) (beginning : Bool) where
   unfolding clearedPort
   cleared-one-other i s j d = port-put-two-other s i _ _ j d
 
-  cleared-one-group : (i : ℕ) (s : List (List ℕ)) → groupAt (clearedPort g beginning i s) ≡ groupAt s
-  unfolding clearedPort
-  cleared-one-group i s = group-put-two s i _ _
-
   -- ports beyond n stay
   pub cleared-beyond : (n : ℕ) (s : List (List ℕ)) (i : ℕ) → n ≤ i → portAt (clearedPorts g beginning n s) i ≡ portAt s i
   unfolding clearedPorts
@@ -65,12 +61,6 @@ module _ (g : Group) (beginning : Bool) where
       (λ (e : i ≡ n). rw e (cleared-one n t (suc n) (omega arith) (rw l h) ∙ ap (λ (p : Port). clearedOn g beginning p) (cleared-beyond n s n (omega arith))))
       (λ (d : i ≢ n). cleared-one-other n t i d ∙ rest (omega arith) (omega arith))
       (eq-or-ne i n)
-
-  -- the ports' rows alone change
-  pub cleared-ports-group : (n : ℕ) (s : List (List ℕ)) → groupAt (clearedPorts g beginning n s) ≡ groupAt s
-  unfolding clearedPorts
-  cleared-ports-group zero s = refl
-  cleared-ports-group (suc n) s = cleared-one-group n (clearedPorts g beginning n s) ∙ cleared-ports-group n s
 
 module _ (g : Group) where
   pub stopped-group : (n : ℕ) (s : List (List ℕ)) → 0 < length s → groupAt (stoppedOf g n s) ≡ groupTo g 0 0 0 (g .origin) (g .«rs_ack»)
@@ -101,7 +91,3 @@ module _ (g : Group) where
   pub begun-marks-at : (n : ℕ) (s : List (List ℕ)) (i : ℕ) → i < n → rowsFor n ≤ length s → marksAt (begunOf g n s) i ≡ replicate 16 0
   unfolding portAt
   begun-marks-at n s i b h = ap (λ (p : Port). p .marks) (begun-port n s i b h)
-
-  pub stopped-step-at : (n : ℕ) (s : List (List ℕ)) (i : ℕ) → i < n → rowsFor n ≤ length s → stepAt (stoppedOf g n s) i ≡ clearedStep (stepAt s i) false
-  unfolding portAt
-  stopped-step-at n s i b h = ap (λ (p : Port). p .step) (stopped-port n s i b h)

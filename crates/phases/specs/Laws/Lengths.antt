@@ -1,15 +1,15 @@
 -- Nothing that concerns all ports changes how many rows there are.
 use mathlib.Core.Path.{_≡_, refl, _∙_}
-use mathlib.Core.Bool.{Bool, true, false, cond, not, _&&_}
+use mathlib.Core.Bool.{Bool, true, false, not, _&&_}
 use mathlib.Core.List.{List}
 use Prim.Native.Nat.{ℕ, zero, suc}
 use lib.ListN.{length}
+use Rattle.ground.specs.Truth.{cond-by}
 use Rattle.phases.specs.Beginning.{begins}
-use Rattle.phases.specs.Due.{brought, silent}
+use Rattle.phases.specs.Due.{silent}
 use Rattle.phases.specs.Passing.{passedGroup, passedOf, passedPort, passedPorts}
-use Rattle.phases.specs.Settling.{beginBy, begunOf, clearedPort, clearedPorts, gatherBy, settledOf, stopBy, stoppedOf}
+use Rattle.phases.specs.Settling.{beginBy, begunOf, clearedPort, clearedPorts, stopBy, stoppedOf}
 use Rattle.rows.specs.declared.group.Group.{Group}
-use Rattle.rows.specs.Group.{groupAt}
 use Rattle.rows.specs.Laws.Lengths.{length-put-group, length-put-marks, length-put-member, length-put-packets, length-put-step}
 use Rattle.step.specs.Arrival.{flagOf}
 
@@ -43,25 +43,12 @@ pub length-begun : (g : Group) (n : ℕ) (s : List (List ℕ)) → length (begun
 unfolding begunOf
 length-begun g n s = length-put-group (clearedPorts g true n s) _ ∙ length-cleared g true n s
 
-either : (b : Bool) (s t : List (List ℕ)) → length t ≡ length s → length (cond b t s) ≡ length s
-either true s t e = e
-either false s t e = refl
-
 pub length-stop : (g : Group) (n : ℕ) (s : List (List ℕ)) → length (stopBy g n s) ≡ length s
 unfolding stopBy
-length-stop g n s = either (flagOf (g .begun) && silent g s n) s (stoppedOf g n s) (length-stopped g n s)
+length-stop g n s =
+    cond-by (λ t. length t ≡ length s) (flagOf (g .begun) && silent g s n) (stoppedOf g n s) s (λ e. length-stopped g n s) (λ e. refl)
 
 pub length-begin : (g : Group) (n : ℕ) (s : List (List ℕ)) → length (beginBy g n s) ≡ length s
 unfolding beginBy
-length-begin g n s = either (not (flagOf (g .begun)) && begins g s n) s (begunOf g n s) (length-begun g n s)
-
-pub length-gather : (g : Group) (store : List ℕ) (n : ℕ) (s : List (List ℕ)) → length (gatherBy g store n s) ≡ length s
-unfolding gatherBy
-length-gather g store n s = either (flagOf (g .begun) && not (flagOf (g .gathered)) && brought g s n) s (passedOf g store n s) (length-passed g store n s)
-
-pub length-settled : (n : ℕ) (store : List ℕ) (s : List (List ℕ)) → length (settledOf n store s) ≡ length s
-unfolding settledOf
-length-settled n store s =
-    let a = stopBy (groupAt s) n s in
-    let b = beginBy (groupAt a) n a in
-    length-gather (groupAt b) store n b ∙ length-begin (groupAt a) n a ∙ length-stop (groupAt s) n s
+length-begin g n s =
+    cond-by (λ t. length t ≡ length s) (not (flagOf (g .begun)) && begins g s n) (begunOf g n s) s (λ e. length-begun g n s) (λ e. refl)

@@ -9,7 +9,7 @@ use native.Mathlib.Omega.{arith}
 use lib.ListN.{getD, length}
 use Rattle.ground.specs.Truth.{eq-or-ne}
 use Rattle.phases.specs.Laws.Lengths.{length-passed-ports}
-use Rattle.phases.specs.Laws.Ports.{group-put-all, port-put-all, port-put-all-other}
+use Rattle.phases.specs.Laws.Ports.{port-put-all, port-put-all-other}
 use Rattle.phases.specs.Passing.{notedBy, passedGroup, passedOf, passedPort, passedPorts, passedStep, ruledBy}
 use Rattle.phases.specs.Ruling.{rulingOf}
 use Rattle.rows.specs.declared.group.Group.{Group}
@@ -61,10 +61,6 @@ module _ (g : Group) (store : List ℕ) where
   unfolding passedPort
   passed-one-other i s j d = port-put-all-other s i _ _ _ _ j d
 
-  passed-one-group : (i : ℕ) (s : List (List ℕ)) → groupAt (passedPort g store i s) ≡ groupAt s
-  unfolding passedPort
-  passed-one-group i s = group-put-all s i _ _ _ _
-
   -- ports beyond n stay
   pub passed-beyond : (n : ℕ) (s : List (List ℕ)) (i : ℕ) → n ≤ i → portAt (passedPorts g store n s) i ≡ portAt s i
   unfolding passedPorts
@@ -83,12 +79,6 @@ module _ (g : Group) (store : List ℕ) where
       (λ (d : i ≢ n). passed-one-other n t i d ∙ rest (omega arith) (omega arith))
       (eq-or-ne i n)
 
-  -- the ports' rows alone change
-  pub passed-ports-group : (n : ℕ) (s : List (List ℕ)) → groupAt (passedPorts g store n s) ≡ groupAt s
-  unfolding passedPorts
-  passed-ports-group zero s = refl
-  passed-ports-group (suc n) s = passed-one-group n (passedPorts g store n s) ∙ passed-ports-group n s
-
   pub passed-group : (n : ℕ) (s : List (List ℕ)) → 0 < length s → groupAt (passedOf g store n s) ≡ passedGroup g
   unfolding passedOf
   passed-group n s h =
@@ -98,10 +88,6 @@ module _ (g : Group) (store : List ℕ) where
   pub passed-of-port : (n : ℕ) (s : List (List ℕ)) (i : ℕ) → i < n → rowsFor n ≤ length s → portAt (passedOf g store n s) i ≡ passedOn g store i (portAt s i)
   unfolding passedOf
   passed-of-port n s i b h = port-put-group (passedPorts g store n s) (passedGroup g) i ∙ passed-port n s i b h
-
-  pub passed-of-beyond : (n : ℕ) (s : List (List ℕ)) (i : ℕ) → n ≤ i → portAt (passedOf g store n s) i ≡ portAt s i
-  unfolding passedOf
-  passed-of-beyond n s i h = port-put-group (passedPorts g store n s) (passedGroup g) i ∙ passed-beyond n s i h
 
   pub passed-step-at : (n : ℕ) (s : List (List ℕ)) (i : ℕ) → i < n → rowsFor n ≤ length s → stepAt (passedOf g store n s) i ≡ passedStep (stepAt s i) (firstMark (marksAt s i))
   unfolding portAt

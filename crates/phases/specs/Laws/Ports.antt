@@ -1,4 +1,4 @@
--- A port and the group after all of a port's rows, or its step and its marks, were put.
+-- A port after all of its rows, or its step and its marks, were put.
 use mathlib.Core.Path.{_≡_, _∙_, ap}
 use mathlib.Core.Logic.{_≢_}
 use mathlib.Core.List.{List, []}
@@ -6,8 +6,6 @@ use Prim.Native.Nat.{ℕ, _≤_, _<_}
 use lib.ListN.{getD, length}
 use Rattle.rows.specs.declared.member.Member.{Member}
 use Rattle.rows.specs.declared.step.Step.{Step}
-use Rattle.rows.specs.Group.{groupAt}
-use Rattle.rows.specs.Laws.Group.{group-put-marks, group-put-member, group-put-packets, group-put-step}
 use Rattle.rows.specs.Laws.Lengths.{length-put-member, length-put-packets, length-put-step}
 use Rattle.rows.specs.Laws.Port.{port-put-marks, port-put-marks-other, port-put-member, port-put-member-other, port-put-packets, port-put-packets-other, port-put-step, port-put-step-other}
 use Rattle.rows.specs.Member.{putMember}
@@ -41,13 +39,6 @@ module _ (s : List (List ℕ)) (i : ℕ) (m : Member) (pair : List (List ℕ)) (
       ∙ port-put-packets-other (putMember s i m) i pair j d
       ∙ port-put-member-other s i m j d
 
-  pub group-put-all : groupAt putAll ≡ groupAt s
-  group-put-all =
-      group-put-marks (putStep (putPackets (putMember s i m) i pair) i q) i row
-      ∙ group-put-step (putPackets (putMember s i m) i pair) i q
-      ∙ group-put-packets (putMember s i m) i pair
-      ∙ group-put-member s i m
-
 module _ (s : List (List ℕ)) (i : ℕ) (q : Step) (row : List ℕ) where
   abbrev pub putTwo : List (List ℕ)
   putTwo = putMarks (putStep s i q) i row
@@ -58,6 +49,3 @@ module _ (s : List (List ℕ)) (i : ℕ) (q : Step) (row : List ℕ) where
 
   pub port-put-two-other : (j : ℕ) → j ≢ i → portAt putTwo j ≡ portAt s j
   port-put-two-other j d = port-put-marks-other (putStep s i q) i row j d ∙ port-put-step-other s i q j d
-
-  pub group-put-two : groupAt putTwo ≡ groupAt s
-  group-put-two = group-put-marks (putStep s i q) i row ∙ group-put-step s i q

@@ -1,9 +1,10 @@
 -- Stopping, beginning and gathering leave a group's sizes.
 use mathlib.Core.Path.{_≡_, refl, _∙_}
-use mathlib.Core.Bool.{Bool, true, false, cond, not, _&&_}
+use mathlib.Core.Bool.{not, _&&_}
 use mathlib.Core.List.{List}
 use Prim.Native.Nat.{ℕ, _<_}
 use lib.ListN.{length}
+use Rattle.ground.specs.Truth.{cond-by}
 use Rattle.phases.specs.Beginning.{begins}
 use Rattle.phases.specs.Due.{brought, silent}
 use Rattle.phases.specs.Laws.Cleared.{begun-group, stopped-group}
@@ -11,7 +12,6 @@ use Rattle.phases.specs.Laws.Lengths.{length-begin, length-stop}
 use Rattle.phases.specs.Laws.Passed.{passed-group}
 use Rattle.phases.specs.Passing.{passedGroup, passedOf}
 use Rattle.phases.specs.Settling.{beginBy, begunOf, gatherBy, settledOf, stopBy, stoppedOf}
-use Rattle.phases.specs.Sizes.{portsIn, storeFor}
 use Rattle.rows.specs.declared.group.Group.{Group}
 use Rattle.rows.specs.Group.{groupAt}
 use Rattle.step.specs.Arrival.{flagOf}
@@ -22,15 +22,11 @@ pub record SameSizes (g h : Group) : Type 0 where
   pub payload : g .payload ≡ h .payload
   pub window : g .window ≡ h .window
 
-then : (f g h : Group) → SameSizes f g → SameSizes g h → SameSizes f h
-then f g h a b = record { kind = a .kind ∙ b .kind; count = a .count ∙ b .count; payload = a .payload ∙ b .payload; window = a .window ∙ b .window }
+pub sizes-then : (f g h : Group) → SameSizes f g → SameSizes g h → SameSizes f h
+sizes-then f g h a b = record { kind = a .kind ∙ b .kind; count = a .count ∙ b .count; payload = a .payload ∙ b .payload; window = a .window ∙ b .window }
 
-same : (g : Group) → SameSizes g g
-same g = record { kind = refl; count = refl; payload = refl; window = refl }
-
-by-test : (g : Group) (b : Bool) (x y : List (List ℕ)) → SameSizes (groupAt x) g → SameSizes (groupAt y) g → SameSizes (groupAt (cond b x y)) g
-by-test g true x y a c = a
-by-test g false x y a c = c
+pub sizes-stay : (g : Group) → SameSizes g g
+sizes-stay g = record { kind = refl; count = refl; payload = refl; window = refl }
 
 passed-sizes : (g : Group) → SameSizes (passedGroup g) g
 unfolding passedGroup
@@ -40,23 +36,23 @@ module _ (n : ℕ) (s : List (List ℕ)) (h : 0 < length s) where
   stop-sizes : SameSizes (groupAt (stopBy (groupAt s) n s)) (groupAt s)
   unfolding stopBy
   stop-sizes =
-      by-test (groupAt s) (flagOf (groupAt s .begun) && silent (groupAt s) s n) (stoppedOf (groupAt s) n s) s
-      (rw (stopped-group (groupAt s) n s h) (record { kind = refl; count = refl; payload = refl; window = refl }))
-      (same (groupAt s))
+      cond-by (λ t. SameSizes (groupAt t) (groupAt s)) (flagOf (groupAt s .begun) && silent (groupAt s) s n) (stoppedOf (groupAt s) n s) s
+      (λ e. rw (stopped-group (groupAt s) n s h) (record { kind = refl; count = refl; payload = refl; window = refl }))
+      (λ e. sizes-stay (groupAt s))
 
   begin-sizes : SameSizes (groupAt (beginBy (groupAt s) n s)) (groupAt s)
   unfolding beginBy
   begin-sizes =
-      by-test (groupAt s) (not (flagOf (groupAt s .begun)) && begins (groupAt s) s n) (begunOf (groupAt s) n s) s
-      (rw (begun-group (groupAt s) n s h) (record { kind = refl; count = refl; payload = refl; window = refl }))
-      (same (groupAt s))
+      cond-by (λ t. SameSizes (groupAt t) (groupAt s)) (not (flagOf (groupAt s .begun)) && begins (groupAt s) s n) (begunOf (groupAt s) n s) s
+      (λ e. rw (begun-group (groupAt s) n s h) (record { kind = refl; count = refl; payload = refl; window = refl }))
+      (λ e. sizes-stay (groupAt s))
 
   gather-sizes : (store : List ℕ) → SameSizes (groupAt (gatherBy (groupAt s) store n s)) (groupAt s)
   unfolding gatherBy
   gather-sizes store =
-      by-test (groupAt s) (flagOf (groupAt s .begun) && not (flagOf (groupAt s .gathered)) && brought (groupAt s) s n) (passedOf (groupAt s) store n s) s
-      (rw (passed-group (groupAt s) store n s h) (passed-sizes (groupAt s)))
-      (same (groupAt s))
+      cond-by (λ t. SameSizes (groupAt t) (groupAt s)) (flagOf (groupAt s .begun) && not (flagOf (groupAt s .gathered)) && brought (groupAt s) s n) (passedOf (groupAt s) store n s) s
+      (λ e. rw (passed-group (groupAt s) store n s h) (passed-sizes (groupAt s)))
+      (λ e. sizes-stay (groupAt s))
 
 pub settled-sizes : (n : ℕ) (store : List ℕ) (s : List (List ℕ)) → 0 < length s → SameSizes (groupAt (settledOf n store s)) (groupAt s)
 unfolding settledOf
@@ -65,13 +61,5 @@ settled-sizes n store s h =
     let la : length a ≡ length s = length-stop (groupAt s) n s in
     let b = beginBy (groupAt a) n a in
     let lb : length b ≡ length s = length-begin (groupAt a) n a ∙ la in
-    then (groupAt (gatherBy (groupAt b) store n b)) (groupAt b) (groupAt s) (gather-sizes n b (rw lb h) store)
-    (then (groupAt b) (groupAt a) (groupAt s) (begin-sizes n a (rw la h)) (stop-sizes n s h))
-
-pub same-ports : (g h : Group) → SameSizes g h → portsIn g ≡ portsIn h
-unfolding portsIn
-same-ports g h o = rw (o .kind, o .count, o .payload, o .window) refl
-
-pub same-store : (g h : Group) (n : ℕ) → SameSizes g h → storeFor g n ≡ storeFor h n
-unfolding storeFor
-same-store g h n o = rw (o .payload, o .window) refl
+    sizes-then (groupAt (gatherBy (groupAt b) store n b)) (groupAt b) (groupAt s) (gather-sizes n b (rw lb h) store)
+    (sizes-then (groupAt b) (groupAt a) (groupAt s) (begin-sizes n a (rw la h)) (stop-sizes n s h))

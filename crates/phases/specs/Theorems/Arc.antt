@@ -13,6 +13,7 @@ use Rattle.counting.specs.Words.{every}
 use Rattle.ground.specs.Circle.{after-leads, after-only}
 use Rattle.ground.specs.Truth.{and-left, and-right, and-true, eq-or-ne, le-or-lt, or-right}
 use Rattle.packet.specs.Kinds.{distanceOf, frames, tagBefore, tags}
+use Rattle.packet.specs.Theorems.Tags.{frames-some}
 use Rattle.phases.specs.Beginning.{begins, foremost, further, latest, noTag, ready, within}
 use Rattle.rows.specs.declared.group.Group.{Group}
 use Rattle.rows.specs.declared.step.Step.{Step}
@@ -246,10 +247,6 @@ module _ (g : Group) (s : List (List ℕ)) (far : ℕ) (h-far : far < tags (g .k
   unfolding foremost
   least-of zero half = inl (record { is = refl; none = λ j b t. not-suc-le-zero b })
   least-of (suc k) half = next k (foremost g s k) (half k (omega arith)) (least-of k (λ j b. half j (omega arith)))
-
-frames-some : (kind : ℕ) → 0 < frames kind
-unfolding frames
-frames-some kind = omega arith
 
 close : (g : Group) (fore : ℕ) (step : Step) → (inStep g step ≡ true → distanceOf (g .kind) fore (latest g step) + frames (g .kind) ≤ g .window) → within g fore step ≡ true
 unfolding within

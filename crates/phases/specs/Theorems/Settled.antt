@@ -1,17 +1,16 @@
 -- What holds of every state that stopping, beginning and gathering have left, whatever state they found: a group that has begun has a readable port, its first epoch is gathered as soon as it is due, and a group that has not begun could not begin.
-use mathlib.Core.Path.{_≡_, refl, _∙_, sym, ap}
-use mathlib.Core.Bool.{Bool, true, false, cond, not, _&&_, true≢false}
+use mathlib.Core.Path.{_≡_, refl, _∙_, ap}
+use mathlib.Core.Bool.{Bool, true, false, not, _&&_}
 use mathlib.Core.List.{List}
 use Prim.Native.Nat.{ℕ, _≤_}
 use native.Mathlib.Omega.{arith}
 use borrow.Author.Tests.{not-true}
 use lib.ListN.{length, replicate}
-use Rattle.counting.specs.Laws.Tests.{One, some-one}
-use Rattle.ground.specs.Truth.{and-left, and-right, and-true}
+use Rattle.counting.specs.Laws.Tests.{One, every-ext, every-fails, some-one, some-passes}
+use Rattle.ground.specs.Truth.{and-left, and-right, and-true, clash, cond-by}
 use Rattle.phases.specs.Beginning.{begins}
 use Rattle.phases.specs.Due.{brought, lets, silent}
 use Rattle.phases.specs.Laws.Cleared.{begun-group, begun-marks-at, begun-step-at, stopped-group}
-use Rattle.phases.specs.Laws.Every.{every-ext, every-fails, some-passes}
 use Rattle.phases.specs.Laws.Lengths.{length-begin, length-stop}
 use Rattle.phases.specs.Laws.Passed.{passed-group, passed-step-at}
 use Rattle.phases.specs.Passing.{groupTo, passedGroup, passedOf, passedStep}
@@ -40,15 +39,8 @@ pub record Settled (n : ℕ) (s : List (List ℕ)) : Type 0 where
   -- 'Receiving begins when ..'
   pub waits : begunAt s ≡ false → begins (groupAt s) s n ≡ false
 
-by : {A : Type 0} (P : A → Type 0) (b : Bool) (x y : A) → (b ≡ true → P x) → (b ≡ false → P y) → P (cond b x y)
-by P true x y t f = t refl
-by P false x y t f = f refl
-
 other : (b c : Bool) → (b && c) ≡ false → b ≡ true → c ≡ false
 other b c e t = rw t at e
-
-clash : {A : Type 0} (b : Bool) → b ≡ true → b ≡ false → A
-clash b t f = absurd (true≢false (sym t ∙ f))
 
 -- stopping
 
@@ -56,7 +48,7 @@ stop-heard : (n : ℕ) (s : List (List ℕ)) → rowsFor n ≤ length s → begu
     → silent (groupAt (stopBy (groupAt s) n s)) (stopBy (groupAt s) n s) n ≡ false
 unfolding stopBy
 stop-heard n s h =
-    by (λ t. begunAt t ≡ true → silent (groupAt t) t n ≡ false) (begunAt s && silent (groupAt s) s n) (stoppedOf (groupAt s) n s) s
+    cond-by (λ t. begunAt t ≡ true → silent (groupAt t) t n ≡ false) (begunAt s && silent (groupAt s) s n) (stoppedOf (groupAt s) n s) s
     (λ e t. clash (begunAt (stoppedOf (groupAt s) n s)) t (ap (λ (g : Group). flagOf (g .begun)) (stopped-group (groupAt s) n s (omega arith))))
     (λ e t. other (begunAt s) (silent (groupAt s) s n) e t)
 
@@ -97,7 +89,7 @@ record Begun (n : ℕ) (s : List (List ℕ)) : Type 0 where
 begin-begun : (n : ℕ) (s : List (List ℕ)) → rowsFor n ≤ length s → (begunAt s ≡ true → silent (groupAt s) s n ≡ false) → Begun n (beginBy (groupAt s) n s)
 unfolding beginBy
 begin-begun n s h heard =
-    by (λ t. Begun n t) (not (begunAt s) && begins (groupAt s) s n) (begunOf (groupAt s) n s) s
+    cond-by (λ t. Begun n t) (not (begunAt s) && begins (groupAt s) s n) (begunOf (groupAt s) n s) s
     (λ e.
     record {
       heard = λ t. begun-heard (groupAt s) n s h (and-right (not (begunAt s)) (begins (groupAt s) s n) e);
@@ -125,14 +117,14 @@ passed-begun : (g : Group) → passedGroup g .begun ≡ g .begun
 unfolding passedGroup
 passed-begun g = refl
 
-passed-gathered : (g : Group) → flagOf (passedGroup g .gathered) ≡ true
+pub passed-gathered : (g : Group) → flagOf (passedGroup g .gathered) ≡ true
 unfolding passedGroup
 passed-gathered g = refl
 
 gather-settled : (store : List ℕ) (n : ℕ) (s : List (List ℕ)) → rowsFor n ≤ length s → Begun n s → Settled n (gatherBy (groupAt s) store n s)
 unfolding gatherBy
 gather-settled store n s h o =
-    by (λ t. Settled n t) (begunAt s && not (gatheredAt s) && brought (groupAt s) s n) (passedOf (groupAt s) store n s) s
+    cond-by (λ t. Settled n t) (begunAt s && not (gatheredAt s) && brought (groupAt s) s n) (passedOf (groupAt s) store n s) s
     (λ e.
     let r = passedOf (groupAt s) store n s in
     let first = and-left (begunAt s && not (gatheredAt s)) (brought (groupAt s) s n) e in
@@ -164,11 +156,6 @@ settled n store s h =
 pub heard-port : (g : Group) (s : List (List ℕ)) (n : ℕ) → silent g s n ≡ false → One n (λ i. readable g (stepAt s i))
 unfolding silent
 heard-port g s n e = some-one n (λ i. readable g (stepAt s i)) (some-passes n (λ i. readable g (stepAt s i)) e)
-
--- some port of a group that has begun is readable
-pub readable-port : (n : ℕ) (store : List ℕ) (s : List (List ℕ)) → rowsFor n ≤ length s → begunAt (settledOf n store s) ≡ true
-    → One n (λ i. readable (groupAt (settledOf n store s)) (stepAt (settledOf n store s) i))
-readable-port n store s h t = heard-port (groupAt (settledOf n store s)) (settledOf n store s) n (settled n store s h .heard t)
 
 -- Which of the three follows. On a settled state nothing does.
 

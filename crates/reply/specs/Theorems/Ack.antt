@@ -8,9 +8,9 @@ use native.Mathlib.Omega.{arith}
 use lib.Dec.{eqb}
 use lib.ListN.{getD}
 use borrow.Author.Tests.{eq-eqb, eqb-true, eqb-false}
-use Rattle.counting.specs.Laws.Tests.{none-at, some-one}
+use Rattle.counting.specs.Laws.Tests.{none-at, some-none}
 use Rattle.ground.specs.Table.{tabulate, tabulate-ext, getD-tabulate}
-use Rattle.ground.specs.Truth.{fails}
+use Rattle.ground.specs.Truth.{neither}
 use Rattle.reply.specs.declared.members.Port.{Port}
 use Rattle.reply.specs.Members.{noWord, portAt}
 use Rattle.reply.specs.Telling.{ackOf, hasChanged, hasLeft, isListed, turns}
@@ -31,10 +31,7 @@ ack-turned ports n bit e h = rw e (go (eqb bit 0) refl)
 -- no port, no turn
 none-turns : (ports : List Port) (n : ℕ) → ((i : ℕ) → i < n → (hasChanged (portAt ports i) || hasLeft (portAt ports i)) ≡ false) → turns ports n ≡ false
 unfolding turns
-none-turns ports n each =
-    fails (turns ports n) (λ (e : turns ports n ≡ true).
-    let o = some-one n (λ i. hasChanged (portAt ports i) || hasLeft (portAt ports i)) e in
-    true≢false (sym (o .holds) ∙ each (o .at) (o .below)))
+none-turns ports n each = some-none n (λ i. hasChanged (portAt ports i) || hasLeft (portAt ports i)) each
 
 -- a fresh group, with no good packet yet and none at the last report, does not turn it
 pub fresh-kept : (ports : List Port) (n : ℕ) → ((i : ℕ) → i < n → (portAt ports i .word ≡ noWord) × (portAt ports i .«told_word» ≡ noWord)) → turns ports n ≡ false
@@ -84,10 +81,6 @@ kept-says ports n e = (
   where
     each : (i : ℕ) → i < n → (hasChanged (portAt ports i) || hasLeft (portAt ports i)) ≡ false
     each i b = none-at n (λ k. hasChanged (portAt ports k) || hasLeft (portAt ports k)) e i b
-
-    neither : (a b : Bool) → (a || b) ≡ false → (a ≡ false) × (b ≡ false)
-    neither true b h = absurd (true≢false h)
-    neither false b h = (refl, h)
 
 pub says-kept : (ports : List Port) (n : ℕ) → listNow ports n ≡ listTold ports n → ((i : ℕ) → i < n → hasLeft (portAt ports i) ≡ false) → turns ports n ≡ false
 says-kept ports n same left = none-turns ports n (λ i b. rw (changed (portAt ports i) (at i b)) (left i b))

@@ -9,6 +9,7 @@ use lib.Dec.{eqb}
 use lib.ListN.{length, getD, replicate, getD-replicate, length-replicate}
 use borrow.Author.Tests.{eq-eqb, eqb-true}
 use Rattle.counting.specs.Each.{getD-each}
+use Rattle.ground.specs.Finite.{same-bit}
 use Rattle.ground.specs.Truth.{and-true, and-left, and-right}
 use Rattle.reply.specs.declared.members.Port.{Port}
 use Rattle.reply.specs.Choosing.{FREE, claims, holderOf, holders, stateBy, statesOf}
@@ -75,11 +76,7 @@ choosing p true c e = and-true (isCandidate p) _ c (rw e)
 choosing p false c e = and-true (isCandidate p) _ c (rw e)
 
 was-ok : (p : Port) → chooses true p ≡ true → wasOk p ≡ true
-was-ok p e = go (wasOk p) (and-right (isCandidate p) (Bool·beq (wasOk p) true) e)
-  where
-    go : (b : Bool) → Bool·beq b true ≡ true → b ≡ true
-    go true z = refl
-    go false z = z
+was-ok p e = same-bit (wasOk p) true (and-right (isCandidate p) (Bool·beq (wasOk p) true) e)
 
 -- 'Candidates that were OK under the same number choose first .. each in port order': no port before this one does so, then it stays OK
 pub first-stays : (ports : List Port) (n i : ℕ) → n ≤ 64 → i < n → isCandidate (portAt ports i) ≡ true → wasOk (portAt ports i) ≡ true

@@ -1,11 +1,10 @@
 -- A port's packets after something was put.
-use mathlib.Core.Path.{_≡_, refl, sym, _∙_}
+use mathlib.Core.Path.{_≡_, _∙_}
 use mathlib.Core.Logic.{_≢_}
 use mathlib.Core.List.{List, [], _∷_}
 use Prim.Native.Nat.{ℕ, _+_, _*_, _≤_, _<_}
 use native.Mathlib.Omega.{arith}
 use lib.ListN.{length, getD}
-use Rattle.ground.specs.Table.{tabulate-is}
 use Rattle.rows.specs.declared.group.Group.{Group}
 use Rattle.rows.specs.declared.member.Member.{Member}
 use Rattle.rows.specs.declared.step.Step.{Step}
@@ -19,9 +18,6 @@ use Rattle.rows.specs.Step.{putStep}
 
 two-rows : {a b x y : List ℕ} → a ≡ x → b ≡ y → _≡_ {A = List (List ℕ)} (a ∷ b ∷ []) (x ∷ y ∷ [])
 two-rows p q = rw (p, q)
-
-two-of : (pair : List (List ℕ)) → length pair ≡ 2 → getD pair 0 [] ∷ getD pair 1 [] ∷ [] ≡ pair
-two-of pair e = sym (tabulate-is pair 2 (λ k. getD pair k []) [] e (λ k h. refl))
 
 module _ (s : List (List ℕ)) where
   pub packets-put-group : (g : Group) (j : ℕ) → packetsAt (putGroup s g) j ≡ packetsAt s j
@@ -38,10 +34,6 @@ module _ (s : List (List ℕ)) (i : ℕ) where
       two-rows
       (row-other low (i * 5 + 4) (getD pair 1 []) (i * 5 + 3) (omega arith) ∙ row-same s (i * 5 + 3) (getD pair 0 []) (omega arith))
       (row-same low (i * 5 + 4) (getD pair 1 []) (omega arith))
-
-  pub packets-put-same : (pair : List (List ℕ)) (n : ℕ) → length pair ≡ 2 → i < n → rowsFor n ≤ length s
-      → packetsAt (putPackets s i pair) i ≡ pair
-  packets-put-same pair n e b h = packets-put-rows pair n b h ∙ two-of pair e
 
   pub packets-put-other : (pair : List (List ℕ)) (j : ℕ) → j ≢ i → packetsAt (putPackets s i pair) j ≡ packetsAt s j
   unfolding packetsAt

@@ -1,7 +1,7 @@
 -- A port after something was put: only that part of it changes.
 use mathlib.Core.Path.{_≡_, refl}
 use mathlib.Core.Logic.{_≢_}
-use mathlib.Core.List.{List, [], _∷_}
+use mathlib.Core.List.{List}
 use Prim.Native.Nat.{ℕ, _≤_, _<_}
 use lib.ListN.{length}
 use Rattle.rows.specs.declared.group.Group.{Group}
@@ -13,7 +13,7 @@ use Rattle.rows.specs.Laws.Member.{member-put-group, member-put-same, me
 use Rattle.rows.specs.Laws.Packets.{packets-put-group, packets-put-rows, packets-put-other, packets-put-step, packets-put-member, packets-put-marks}
 use Rattle.rows.specs.Laws.Step.{step-put-group, step-put-same, step-put-other, step-put-member, step-put-packets, step-put-marks}
 use Rattle.rows.specs.Member.{memberAt, putMember}
-use Rattle.rows.specs.Packets.{packetsAt, putPackets, marksAt, putMarks}
+use Rattle.rows.specs.Packets.{putPackets, marksAt, putMarks}
 use Rattle.rows.specs.Port.{portAt, withStep, withMember, withPackets, withMarks}
 use Rattle.rows.specs.Rows.{rowsFor}
 use Rattle.rows.specs.Step.{stepAt, putStep}
@@ -26,10 +26,6 @@ module _ (s : List (List ℕ)) where
   pub port-member : (i : ℕ) → portAt s i .member ≡ memberAt s i
   unfolding portAt
   port-member i = refl
-
-  pub port-packets : (i : ℕ) → portAt s i .gathering ∷ portAt s i .ruling ∷ [] ≡ packetsAt s i
-  unfolding portAt packetsAt
-  port-packets i = refl
 
   pub port-marks : (i : ℕ) → portAt s i .marks ≡ marksAt s i
   unfolding portAt

@@ -1,19 +1,13 @@
 -- How many slots and members there are.
-use mathlib.Core.Path.{_≡_, refl}
-use mathlib.Core.Bool.{Bool, true, false, cond}
+use mathlib.Core.Path.{_≡_}
 use Prim.Native.Nat.{ℕ, _≤_, _<_}
-use native.Mathlib.Omega.{arith}
-use lib.Dec.{ltb}
-use borrow.Author.Tests.{lt-ltb, le-ltb, ltb-true}
+use borrow.Author.Tests.{lt-ltb, le-ltb}
+use Rattle.ground.specs.Truth.{smaller-le}
 use Rattle.sender.specs.Table.{sizeOf}
 
 pub size-le : (c : ℕ) → sizeOf c ≤ 64
 unfolding sizeOf
-size-le c = go (ltb c 64) refl
-  where
-    go : (b : Bool) → ltb c 64 ≡ b → cond b c 64 ≤ 64
-    go true e = let h = ltb-true c 64 e in omega arith
-    go false e = omega arith
+size-le c = smaller-le c 64
 
 pub size-small : (c : ℕ) → c < 64 → sizeOf c ≡ c
 unfolding sizeOf

@@ -4,7 +4,7 @@ use mathlib.Core.Bool.{Bool, true, false, cond, not, _&&_}
 use Prim.Native.Nat.{ℕ}
 use lib.Dec.{ltb}
 use borrow.Author.Tests.{not-true, not-false}
-use Rattle.ground.specs.Truth.{and-left, and-right}
+use Rattle.ground.specs.Truth.{and-left, and-right, cond-by}
 use Rattle.packet.specs.Kinds.{startsEpoch}
 use Rattle.rows.specs.declared.group.Group.{Group}
 use Rattle.rows.specs.declared.step.Step.{Step}
@@ -60,10 +60,6 @@ module _ (g : Group) (s : Step) (flag : Bool) (h : ℕ) where
   unfolding takenOf arrives byStart
   taken-waits f e b j w = rw (f, e, b, j, w) refl
 
-by : {A : Type 0} (P : A → Type 0) (b : Bool) (x y : A) → (b ≡ true → P x) → (b ≡ false → P y) → P (cond b x y)
-by P true x y p q = p refl
-by P false x y p q = q refl
-
 -- what holds of each case holds of what a frame does
 pub taken-by :
     (P : Taken → Type 0)
@@ -88,17 +84,17 @@ taken-by P g s flag h whenFlagged whenCounts whenAside whenKeeps whenOutside whe
     let epoch : Taken = cond (start && inWindow g s) (joining g s run d) (aside g s run) in
     let begun : Taken = cond (flagOf (s .joined)) window epoch in
     let arrived : Taken = cond (not (flagOf (g .begun))) (aside g s run) begun in
-    by P flag (flagged g s) (cond (stepped g s h) arrived (countsOn g s run)) whenFlagged
+    cond-by P flag (flagged g s) (cond (stepped g s h) arrived (countsOn g s run)) whenFlagged
     (λ (f : flag ≡ false).
-    by P (stepped g s h) arrived (countsOn g s run)
+    cond-by P (stepped g s h) arrived (countsOn g s run)
     (λ (e : stepped g s h ≡ true).
-    by P (not (flagOf (g .begun))) (aside g s run) begun (λ b. whenAside f e (not-true (flagOf (g .begun)) b))
+    cond-by P (not (flagOf (g .begun))) (aside g s run) begun (λ b. whenAside f e (not-true (flagOf (g .begun)) b))
     (λ b.
     let b : flagOf (g .begun) ≡ true = not-false (flagOf (g .begun)) b in
-    by P (flagOf (s .joined)) window epoch
-    (λ j. by P (inWindow g s) (keeps g s run d) (outside s) (whenKeeps f e b j) (whenOutside f e b j))
+    cond-by P (flagOf (s .joined)) window epoch
+    (λ j. cond-by P (inWindow g s) (keeps g s run d) (outside s) (whenKeeps f e b j) (whenOutside f e b j))
     (λ j.
-    by P (start && inWindow g s) (joining g s run d) (aside g s run)
+    cond-by P (start && inWindow g s) (joining g s run d) (aside g s run)
     (λ w. whenJoins f e b j (and-left start (inWindow g s) w) (and-right start (inWindow g s) w))
     (whenWaits f e b j))))
     (whenCounts f))

@@ -5,10 +5,9 @@ use mathlib.Core.Bool.{true, false, cond}
 use Prim.Native.Nat.{ℕ, _+_, _-_, _*_, _%_, _≤_, _<_, min}
 use native.Mathlib.Omega.{arith}
 use lib.Dec.{eqb, ltb}
-use borrow.Author.Tests.{eq-eqb, ne-eqb, lt-ltb, le-ltb, le-leb, lt-leb, leb-true, leb-false}
+use borrow.Author.Tests.{eq-eqb, ne-eqb, lt-ltb, le-ltb, le-leb, lt-leb, leb-false}
 use Rattle.ground.specs.Truth.{eq-or-ne, le-or-lt}
-use Rattle.packet.specs.Counts.{counts}
-use Rattle.packet.specs.Kinds.{frames, tagAfter}
+use Rattle.packet.specs.Kinds.{frames}
 use Rattle.packet.specs.Theorems.Tags.{tagOf, next-tag}
 use Rattle.step.specs.declared.run.Run.{Run}
 use Rattle.step.specs.Laws.Sent.{SentWith, toldFirst, sent-starts, sent-first, sent-starts-not, sent-second, sent-told}
@@ -19,19 +18,7 @@ pub count-fits : (kind count : ℕ) → inStepAt kind count ≡ false → count 
 unfolding inStepAt frames
 count-fits kind count e = let short = leb-false 32 count e in omega arith
 
--- Kept: a port in step stays so through every frame that has the tag to come.
-
-step-many : (kind count : ℕ) → inStepAt kind count ≡ true → 2 ≤ count
-unfolding inStepAt frames
-step-many kind count e = let long = leb-true 32 count e in omega arith
-
-pub kept : (kind : ℕ) (run : Run) (h : ℕ) → inStepAt kind (run .count) ≡ true → counts kind (run .next) h ≡ true → runOn kind run h ≡ record { count = run .count; next = tagAfter kind (run .next) }
-unfolding runOn furtherRun oneMore
-kept kind run h e sent =
-    let many : 2 ≤ run .count = step-many kind (run .count) e in
-    rw (ne-eqb (run .count) 0 (λ (z : run .count ≡ 0). omega arith), ne-eqb (run .count) 1 (λ (z : run .count ≡ 1). omega arith), sent, e) refl
-
--- Fresh: frames as sent from position f on. Position x has the tag of the (c0 + x)-th frame after one with tag 0.
+-- Frames as sent from position f on. Position x has the tag of the (c0 + x)-th frame after one with tag 0.
 
 -- a is the first position from f on that has MFI1 0
 pub record Starts (kind c0 f a : ℕ) : Type 0 where

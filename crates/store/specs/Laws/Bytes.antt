@@ -1,5 +1,5 @@
 -- The eight bits of a byte: each fact is one test that the checker computes at every byte and every bit.
-use mathlib.Core.Path.{_≡_, refl, sym}
+use mathlib.Core.Path.{_≡_, refl}
 use mathlib.Core.Bool.{Bool, true, false, cond, _&&_, _||_, Bool·beq}
 use mathlib.Core.List.{List, [], _∷_}
 use Prim.Native.Nat.{ℕ, _+_, _*_, _/_, _%_, _^_, _<_}
@@ -7,7 +7,7 @@ use lib.Dec.{eqb, ltb}
 use lib.ListN.{getD}
 use borrow.Author.Tests.{eqb-true, ltb-true}
 use Rattle.ground.specs.Bits.{odd}
-use Rattle.ground.specs.Finite.{below, below-at}
+use Rattle.ground.specs.Finite.{below, below-at, same-bit}
 
 -- the powers of two below 256
 abbrev pub powers : List ℕ
@@ -15,12 +15,6 @@ powers = 1 ∷ 2 ∷ 4 ∷ 8 ∷ 16 ∷ 32 ∷ 64 ∷ 128 ∷ []
 
 pub power-is : (k : ℕ) → k < 8 → getD powers k 0 ≡ 2 ^ k
 power-is k h = eqb-true (getD powers k 0) (2 ^ k) (below-at 8 (λ j. eqb (getD powers j 0) (2 ^ j)) refl k h)
-
-same-bit : (a b : Bool) → Bool·beq a b ≡ true → a ≡ b
-same-bit true true t = refl
-same-bit true false t = sym t
-same-bit false true t = t
-same-bit false false t = refl
 
 -- a test at every two of the eight bits, and every byte
 everywhere : (ℕ → ℕ → ℕ → Bool) → Bool

@@ -35,11 +35,11 @@ place-fits g port d hp hw ho hd hl =
     let r = ring-le (g .origin) d (g .window) in
     product-fits _ (g .payload) (row-fits port (g .window) (ringOf (g .origin) d (g .window)) hp hw (omega arith)) hl
 
-ring-is : (origin d W : ℕ) → 0 < W → ringOf origin d W ≡ (origin + d) % W
+pub ring-is : (origin d W : ℕ) → 0 < W → ringOf origin d W ≡ (origin + d) % W
 unfolding ringOf
 ring-is origin d W h = rw (ne-eqb W 0 (λ (e : W ≡ 0). omega arith))
 
-ring-lt : (origin d W : ℕ) → 0 < W → ringOf origin d W < W
+pub ring-lt : (origin d W : ℕ) → 0 < W → ringOf origin d W < W
 ring-lt origin d W h = rw (ring-is origin d W h) (mod-lt (origin + d) h)
 
 -- less than a round apart, two distances have one place only where they are one

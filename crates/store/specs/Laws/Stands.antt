@@ -5,7 +5,7 @@ use mathlib.Core.List.{List}
 use Prim.Native.Nat.{ℕ, _+_, _*_, _%_, _≤_, _<_}
 use native.Mathlib.Omega.{arith}
 use lib.ListN.{length, getD}
-use Rattle.ground.specs.Table.{tabulate, tabulate-ext, getD-tabulate}
+use Rattle.ground.specs.Table.{tabulate, tabulate-ext}
 use Rattle.packet.specs.Counts.{nibbleIn}
 use Rattle.rows.specs.declared.group.Group.{Group}
 use Rattle.store.specs.Frames.{byteAt, h4At, packetIn, placeIn, storedAt}
@@ -67,7 +67,3 @@ pub packet-stands : (g : Group) (i : ℕ) (payload : ℕ → List ℕ) (h : ℕ 
 unfolding packetIn
 packet-stands g i payload h s f =
     tabulate-ext 16 (λ k. nibbleIn (g .kind) (h4At g i k s)) (λ k. nibbleIn (g .kind) (h k)) (λ k b. rw (stands-h4 g i k (payload k) (h k) s (f k b)))
-
-pub nibble-stands : (g : Group) (i : ℕ) (payload : ℕ → List ℕ) (h : ℕ → ℕ) (s : List ℕ) → ((k : ℕ) → k < 16 → Stands g i k (payload k) (h k) s)
-    → (k : ℕ) → k < 16 → getD (packetIn g i s) k 0 ≡ nibbleIn (g .kind) (h k)
-nibble-stands g i payload h s f k b = rw (packet-stands g i payload h s f) (getD-tabulate 16 (λ j. nibbleIn (g .kind) (h j)) k 0 b)

@@ -1,9 +1,8 @@
 -- The invariant: the lines below c are drawn.
-use Prim.Native.Nat.{ℕ, _≤_, _<_, _-_, _+_, _*_, min}
+use Prim.Native.Nat.{ℕ, _≤_, _-_, _+_, _*_, min}
 use mathlib.Core.Path.{_≡_, _∙_}
 use native.Mathlib.Nat.{mul-le-mul-right, one-mul}
 use native.Mathlib.Omega.{arith}
-use lib.ListN.{length, getD}
 use borrow.Author.Needs.{needs}
 use Rattle.ground.specs.Drawn.{Drawing, drawing-none, fillAt-all}
 use Rattle.payload.specs.Inner.Area.{area}

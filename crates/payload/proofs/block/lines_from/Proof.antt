@@ -1,8 +1,7 @@
 -- The invariant: the ranks below c are in their columns of the eight lines.
-use Prim.Native.Nat.{ℕ, _≤_, _<_, _-_, _+_, _*_, min}
+use Prim.Native.Nat.{_≤_, _-_, _+_, min}
 use mathlib.Core.Path.{_≡_}
 use native.Mathlib.Omega.{arith}
-use lib.ListN.{length, getD}
 use borrow.Author.Needs.{needs}
 use Rattle.ground.specs.Drawn.{Drawing, drawing-none}
 use Rattle.payload.specs.Inner.Area.{area}

@@ -1,8 +1,8 @@
 -- The invariant: the first l words are in place.
-use Prim.Native.Nat.{ℕ, _≤_, _-_, _+_, _*_, _/_, _%_}
+use Prim.Native.Nat.{_≤_, _-_, _*_, _/_, _%_}
 use mathlib.Core.Path.{_≡_}
 use native.Mathlib.Omega.{arith}
-use lib.ListN.{length, getD}
+use lib.ListN.{getD}
 use borrow.Author.Needs.{needs}
 use Rattle.ground.specs.Drawn.{Filling, filling-none}
 use Rattle.payload.specs.Inner.Words.{byteOf}

@@ -1,8 +1,7 @@
 -- The invariant: the members of the ranks below r are in their columns.
-use Prim.Native.Nat.{ℕ, _≤_, _<_, _-_, _+_, _*_, _/_}
+use Prim.Native.Nat.{ℕ, _≤_, _-_, _+_, _*_}
 use mathlib.Core.Path.{_≡_, refl, _∙_}
 use native.Mathlib.Omega.{arith}
-use lib.ListN.{length, getD}
 use borrow.Author.Needs.{needs}
 use Rattle.ground.specs.Drawn.{Drawing, drawing-none, fillAt-all}
 use Rattle.payload.specs.Inner.Area.{area}

@@ -1,9 +1,8 @@
 -- The invariant: the members of the ranks below r are in place.
-use Prim.Native.Nat.{ℕ, _≤_, _<_, _-_, _+_, _*_, _/_, _%_}
-use mathlib.Core.Path.{_≡_, refl, _∙_}
+use Prim.Native.Nat.{_≤_, _-_, _+_, _*_, _/_, _%_}
+use mathlib.Core.Path.{_≡_}
 use native.Mathlib.Nat.{zero-mul}
 use native.Mathlib.Omega.{arith}
-use lib.ListN.{length, getD}
 use borrow.Author.Needs.{needs}
 use Rattle.ground.specs.Drawn.{Filling, filling-none, filling-all}
 use Rattle.payload.specs.Order.{memberByte}

@@ -4,11 +4,11 @@ use mathlib.Core.Bool.{Bool, true, false, not}
 use native.Mathlib.Omega.{arith}
 use borrow.Author.Needs.{needs}
 use borrow.Author.Tests.{not-true, not-false}
+use Rattle.counting.specs.Laws.Tests.{every-fails, every-on}
 use Rattle.counting.specs.Words.{every}
 use Rattle.rows.specs.Step.{stepAt}
 use Rattle.step.specs.Arrival.{readable}
 use Rattle.phases.specs.Due.{silent}
-use Rattle.phases.specs.Laws.Every.{every-fails, every-on}
 use Rattle.phases.proofs.due.is_silent.Statement.{statement}
 use Rattle.phases.proofs.due.is_silent.Tie as tie
 

@@ -4,10 +4,10 @@ use mathlib.Core.Bool.{Bool, true, false}
 use native.Mathlib.Omega.{arith}
 use borrow.Author.Needs.{needs}
 use borrow.Author.Tests.{not-true, not-false}
+use Rattle.counting.specs.Laws.Tests.{every-fails, every-on}
 use Rattle.counting.specs.Words.{every}
 use Rattle.rows.specs.Step.{stepAt}
 use Rattle.phases.specs.Beginning.{ready}
-use Rattle.phases.specs.Laws.Every.{every-fails, every-on}
 use Rattle.phases.proofs.starting.all_ready.Statement.{statement}
 use Rattle.phases.proofs.starting.all_ready.Tie as tie
 

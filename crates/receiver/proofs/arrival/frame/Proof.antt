@@ -1,6 +1,6 @@
 use mathlib.Core.Path.{sym, _∙_}
 use native.Mathlib.Omega.{arith}
-use Rattle.receiver.proofs.Arriving.{refused-below, frame-refused, frame-taken}
+use Rattle.receiver.proofs.Arriving.{refused-below, frame-refused, frame-decided}
 use borrow.Author.Needs.{needs}
 use Rattle.receiver.proofs.arrival.frame.Statement.{statement}
 use Rattle.receiver.proofs.arrival.frame.Tie as tie
@@ -23,14 +23,8 @@ returns c = frame-refused _ _ _ _ _ _ _ _ _ (c .before .before .before .get .ens
 cast-at : tie.Need-cast-at
 cast-at c = let w = refused-below _ _ _ _ _ _ (sym (c .before .refusal .ensures) ∙ c .if1 .left) in omega arith
 
-get-requires-2 : tie.Need-get-requires-2
-get-requires-2 c κs = search needs
-
-decide-requires : tie.Need-decide-requires
-decide-requires c κs = search needs
-
-take-requires : tie.Need-take-requires
-take-requires c κs = search needs
+arrive-requires : tie.Need-arrive-requires
+arrive-requires c κs = search needs
 
 same-length-2 : tie.Need-same-length-2
 same-length-2 c = search needs
@@ -39,7 +33,7 @@ same-length-3 : tie.Need-same-length-3
 same-length-3 c = search needs
 
 returns-2 : tie.Need-returns-2
-returns-2 c = frame-taken _ _ _ _ _ _ _ _ _ _ _ _ _ (c .before .before .before .before .before .before .before .before .before .before .before .before .get .ensures) (c .before .before .before .before .before .before .before .before .before .before .before .ports-in .ensures) (c .before .before .before .before .before .before .before .before .before .before .refusal .ensures) (c .before .before .before .before .before .before .before .before .before .if1 .left) (c .before .before .before .before .before .before .before .get2 .ensures) (c .before .before .before .before .before .before .decide .ensures) (c .before .before .before .take .ensures .0) (c .before .before .before .take .ensures .1)
+returns-2 c = frame-decided _ _ _ _ _ _ _ _ _ _ _ _ (c .before .before .before .before .before .before .before .before .before .get .ensures) (c .before .before .before .before .before .before .before .before .ports-in .ensures) (c .before .before .before .before .before .before .before .refusal .ensures) (c .before .before .before .before .before .before .if1 .left) (c .before .before .before .arrive .ensures .0) (c .before .before .before .arrive .ensures .1) (c .before .before .before .arrive .ensures .2)
 
 pub frame-spec : {M : Type 1} → statement M
 frame-spec =
@@ -51,9 +45,7 @@ frame-spec =
     same-length
     returns
     cast-at
-    get-requires-2
-    decide-requires
-    take-requires
+    arrive-requires
     same-length-2
     same-length-3
     returns-2)

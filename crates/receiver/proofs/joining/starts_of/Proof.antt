@@ -3,10 +3,9 @@ use Prim.Native.Nat.{_≤_, _-_}
 use native.Mathlib.Omega.{arith}
 use lib.ListN.{length, getD}
 use borrow.Author.Needs.{needs}
-use Rattle.counting.specs.Each.{Done, done-none, done-more}
+use Rattle.counting.specs.Each.{Done, done-none, done-more, done-table}
 use Rattle.store.specs.Frames.{placeIn}
 use Rattle.receiver.specs.Report.{startsOf}
-use Rattle.receiver.proofs.Lists.{done-table}
 use Rattle.receiver.proofs.joining.starts_of.Statement.{statement}
 use Rattle.receiver.proofs.joining.starts_of.Tie as tie
 

@@ -5,10 +5,9 @@ use Prim.Native.Nat.{_≤_, _-_}
 use native.Mathlib.Omega.{arith}
 use lib.ListN.{length}
 use borrow.Author.Needs.{needs}
-use Rattle.counting.specs.Each.{Done, done-none, done-more}
+use Rattle.counting.specs.Each.{Done, done-none, done-more, done-table}
 use Rattle.store.specs.Frames.{h4At, packetIn}
 use Rattle.store.specs.Laws.Places.{place-fits}
-use Rattle.store.proofs.Rows.{done-row}
 use Rattle.store.proofs.Packets.{nibble-at}
 use Rattle.store.proofs.frames.packet_in.Statement.{statement}
 use Rattle.store.proofs.frames.packet_in.Tie as tie
@@ -64,7 +63,7 @@ loop-again c =
 
 returns : tie.Need-returns Inv-loop μ-loop
 unfolding packetIn
-returns c = done-row (c .before .loop .inv .2) (omega arith) refl
+returns c = done-table (c .before .loop .inv .2) (omega arith) refl
 
 pub packet-in-spec : {M : Type 1} → statement M
 packet-in-spec =

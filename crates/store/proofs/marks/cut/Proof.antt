@@ -4,9 +4,8 @@ use Prim.Native.Nat.{_≤_, _-_}
 use native.Mathlib.Omega.{arith}
 use lib.ListN.{length, getD}
 use borrow.Author.Needs.{needs}
-use Rattle.counting.specs.Each.{Done, done-none, done-more}
+use Rattle.counting.specs.Each.{Done, done-none, done-more, done-table}
 use Rattle.store.specs.Marks.{cutByte, cutFrom}
-use Rattle.store.proofs.Rows.{done-row}
 use Rattle.store.proofs.marks.cut.Statement.{statement}
 use Rattle.store.proofs.marks.cut.Tie as tie
 
@@ -45,7 +44,7 @@ loop-again c = (c .before .before .loop .inv .0, omega arith, done-more _ (c .be
 
 returns : tie.Need-returns Inv-loop μ-loop
 unfolding cutFrom
-returns c = done-row (c .before .loop .inv .2) (omega arith) refl
+returns c = done-table (c .before .loop .inv .2) (omega arith) refl
 
 pub cut-spec : {M : Type 1} → statement M
 cut-spec =

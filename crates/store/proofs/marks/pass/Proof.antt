@@ -4,9 +4,9 @@ use Prim.Native.Nat.{_≤_, _-_}
 use native.Mathlib.Omega.{arith}
 use lib.ListN.{length}
 use borrow.Author.Needs.{needs}
-use Rattle.counting.specs.Each.{Done, done-none, done-more}
+use Rattle.counting.specs.Each.{Done, done-none, done-more, done-table}
 use Rattle.store.specs.Marks.{passedMarks}
-use Rattle.store.proofs.Rows.{done-row, passedAt, passed-in, passed-last}
+use Rattle.store.proofs.Rows.{passedAt, passed-in, passed-last}
 use Rattle.store.proofs.marks.pass.Statement.{statement}
 use Rattle.store.proofs.marks.pass.Tie as tie
 
@@ -53,7 +53,7 @@ returns : tie.Need-returns Inv-loop μ-loop
 unfolding passedMarks
 returns c =
     let e : c .before .loop .k ≡ 15 = omega arith in
-    done-row (done-more _ (rw e at (c .before .loop .inv .2)) (passed-last (c .before .before .args .t1))) refl refl
+    done-table (done-more _ (rw e at (c .before .loop .inv .2)) (passed-last (c .before .before .args .t1))) refl refl
 
 pub pass-spec : {M : Type 1} → statement M
 pass-spec =

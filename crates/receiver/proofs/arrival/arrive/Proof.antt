@@ -1,0 +1,78 @@
+use mathlib.Core.Path.{sym, _∙_}
+use Rattle.receiver.proofs.Arriving.{arrive-steady}
+use borrow.Author.Needs.{needs}
+use Rattle.receiver.proofs.arrival.arrive.Statement.{statement}
+use Rattle.receiver.proofs.arrival.arrive.Tie as tie
+
+get-requires : tie.Need-get-requires
+get-requires c κs = search needs
+
+is-steady-requires : tie.Need-is-steady-requires
+is-steady-requires c κs = search needs
+
+distance-in-requires : tie.Need-distance-in-requires
+distance-in-requires c κs = search needs
+
+is-amid-requires : tie.Need-is-amid-requires
+is-amid-requires c κs = search needs
+
+go-on-requires : tie.Need-go-on-requires
+go-on-requires c κs = search needs
+
+keep-requires : tie.Need-keep-requires
+keep-requires c κs = search needs
+
+same-length : tie.Need-same-length
+same-length c = search needs
+
+same-length-2 : tie.Need-same-length-2
+same-length-2 c = search needs
+
+returns : tie.Need-returns
+returns c = arrive-steady _ _ _ _ _ _ _ (c .before .before .before .before .before .before .before .before .before .before .before .before .before .before .before .before .pre) _ _ _ _ (c .before .before .before .before .before .before .before .before .before .before .before .before .get .ensures) (sym (c .before .before .before .before .before .before .before .before .before .before .before .is-steady .ensures) ∙ c .before .before .before .before .before .before .before .before .before .before .if1 .taken) (c .before .before .before .before .before .before .before .before .before .distance-in .ensures) (sym (c .before .before .before .before .before .before .before .before .is-amid .ensures) ∙ c .before .before .before .before .before .before .before .if2 .taken) (c .before .before .before .before .before .go-on .ensures) (c .before .before .keep .ensures)
+
+decided-requires : tie.Need-decided-requires
+decided-requires c κs = search needs
+
+same-length-3 : tie.Need-same-length-3
+same-length-3 c = search needs
+
+same-length-4 : tie.Need-same-length-4
+same-length-4 c = search needs
+
+returns-2 : tie.Need-returns-2
+returns-2 c = search needs
+
+decided-requires-2 : tie.Need-decided-requires-2
+decided-requires-2 c κs = search needs
+
+same-length-5 : tie.Need-same-length-5
+same-length-5 c = search needs
+
+same-length-6 : tie.Need-same-length-6
+same-length-6 c = search needs
+
+returns-3 : tie.Need-returns-3
+returns-3 c = search needs
+
+pub arrive-spec : {M : Type 1} → statement M
+arrive-spec =
+    tie.close
+    (tie.spec
+    get-requires
+    is-steady-requires
+    distance-in-requires
+    is-amid-requires
+    go-on-requires
+    keep-requires
+    same-length
+    same-length-2
+    returns
+    decided-requires
+    same-length-3
+    same-length-4
+    returns-2
+    decided-requires-2
+    same-length-5
+    same-length-6
+    returns-3)

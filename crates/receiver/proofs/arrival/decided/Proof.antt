@@ -1,0 +1,41 @@
+use Rattle.receiver.proofs.Arriving.{decided-by}
+use borrow.Author.Needs.{needs}
+use Rattle.receiver.proofs.arrival.decided.Statement.{statement}
+use Rattle.receiver.proofs.arrival.decided.Tie as tie
+
+get-requires : tie.Need-get-requires
+get-requires c κs = search needs
+
+ports-in-requires : tie.Need-ports-in-requires
+ports-in-requires c κs = search needs
+
+get-requires-2 : tie.Need-get-requires-2
+get-requires-2 c κs = search needs
+
+decide-requires : tie.Need-decide-requires
+decide-requires c κs = search needs
+
+take-requires : tie.Need-take-requires
+take-requires c κs = search needs
+
+same-length : tie.Need-same-length
+same-length c = search needs
+
+same-length-2 : tie.Need-same-length-2
+same-length-2 c = search needs
+
+returns : tie.Need-returns
+returns c = decided-by _ _ _ _ _ _ _ _ (c .before .before .before .before .before .before .before .before .before .before .get .ensures) (c .before .before .before .before .before .before .before .get2 .ensures) _ _ _ _ (c .before .before .before .before .before .before .before .before .before .ports-in .ensures) (c .before .before .before .before .before .before .decide .ensures) (c .before .before .before .take .ensures .0) (c .before .before .before .take .ensures .1)
+
+pub decided-spec : {M : Type 1} → statement M
+decided-spec =
+    tie.close
+    (tie.spec
+    get-requires
+    ports-in-requires
+    get-requires-2
+    decide-requires
+    take-requires
+    same-length
+    same-length-2
+    returns)

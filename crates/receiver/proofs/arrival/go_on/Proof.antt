@@ -1,0 +1,40 @@
+use mathlib.Core.Path.{refl}
+use Rattle.receiver.specs.Frame.{steadyRows}
+use Rattle.rows.specs.Laws.Packets.{packets-put-step}
+use borrow.Author.Needs.{needs}
+use Rattle.receiver.proofs.arrival.go_on.Statement.{statement}
+use Rattle.receiver.proofs.arrival.go_on.Tie as tie
+
+next-tag-requires : tie.Need-next-tag-requires
+next-tag-requires c κs = search needs
+
+nibble-place-requires : tie.Need-nibble-place-requires
+nibble-place-requires c κs = search needs
+
+nibble-in-requires : tie.Need-nibble-in-requires
+nibble-in-requires c κs = search needs
+
+put-next-requires : tie.Need-put-next-requires
+put-next-requires c κs = search needs
+
+put-nibble-requires : tie.Need-put-nibble-requires
+put-nibble-requires c κs = search needs
+
+same-length : tie.Need-same-length
+same-length c = search needs
+
+returns : tie.Need-returns
+unfolding steadyRows
+returns c = rw (c .before .put-nibble .ensures, c .before .before .before .before .put-next .ensures, c .before .before .before .before .before .before .nibble-in .ensures, c .before .before .before .before .before .before .before .nibble-place .ensures, c .before .before .before .before .before .before .before .before .next-tag .ensures) (rw (packets-put-step _ _ _ _) refl)
+
+pub go-on-spec : {M : Type 1} → statement M
+go-on-spec =
+    tie.close
+    (tie.spec
+    next-tag-requires
+    nibble-place-requires
+    nibble-in-requires
+    put-next-requires
+    put-nibble-requires
+    same-length
+    returns)

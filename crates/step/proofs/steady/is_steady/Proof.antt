@@ -1,0 +1,26 @@
+use mathlib.Core.Path.{refl}
+use Rattle.step.specs.Steady.{steady}
+use borrow.Author.Needs.{needs}
+use Rattle.step.proofs.steady.is_steady.Statement.{statement}
+use Rattle.step.proofs.steady.is_steady.Tie as tie
+
+in-step-requires : tie.Need-in-step-requires
+in-step-requires c κs = search needs
+
+is-counted-requires : tie.Need-is-counted-requires
+is-counted-requires c κs = search needs
+
+is-set-requires : tie.Need-is-set-requires
+is-set-requires c κs = search needs
+
+is-set-requires-2 : tie.Need-is-set-requires-2
+is-set-requires-2 c κs = search needs
+
+returns : tie.Need-returns
+unfolding steady
+returns c = rw (c .is-set2 .ensures, c .before .is-set .ensures, c .before .before .before .before .is-counted .ensures, c .before .before .before .before .before .in-step .ensures) refl
+
+pub is-steady-spec : {M : Type 1} → statement M
+is-steady-spec =
+    tie.close
+    (tie.spec in-step-requires is-counted-requires is-set-requires is-set-requires-2 returns)

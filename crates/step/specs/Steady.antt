@@ -1,0 +1,38 @@
+-- The frame that comes most often: steady, with the tag that was to come, of a joined port in step; and amid the window, so not the last of its epoch.
+-- Of the port's records it changes the next tag and one nibble alone.
+use mathlib.Core.Bool.{Bool, true, false, not, _&&_}
+use Prim.Native.Nat.{ℕ}
+use lib.Dec.{eqb, ltb}
+use Rattle.packet.specs.Counts.{counts}
+use Rattle.packet.specs.Kinds.{endsEpoch, tagAfter}
+use Rattle.rows.specs.declared.group.Group.{Group}
+use Rattle.rows.specs.declared.step.Step.{Step}
+use Rattle.rows.specs.Step.{withNext}
+use Rattle.step.specs.Arrival.{distanceIn, flagOf, inStep}
+use Rattle.step.specs.declared.arrival.Taken.{Taken}
+
+unfoldable pub steady : Group → Step → Bool → ℕ → Bool
+steady g s flag h =
+    not flag
+    && eqb (s .had) 1
+    && eqb (s .failed) 0
+    && inStep g s
+    && counts (g .kind) (s .next) h
+    && flagOf (g .begun)
+    && flagOf (s .joined)
+
+-- of a frame d after the window's first
+unfoldable pub amid : Group → ℕ → Bool
+amid g d = ltb d (g .window) && not (endsEpoch (g .kind) d)
+
+unfoldable pub steadyTaken : Group → Step → Taken
+steadyTaken g s =
+    record {
+      step = withNext s (tagAfter (g .kind) (s .next));
+      answer = 0;
+      counted = true;
+      kept = true;
+      at = distanceIn g (s .next);
+      joins = false;
+      settles = false;
+    }

@@ -1,0 +1,31 @@
+// The frame that comes most often: it changes a port's next tag and one nibble alone.
+use crate::arrival;
+use packet::counts;
+use packet::kinds;
+use rows::Group;
+use rows::Step;
+ghost use mathlib.Core.Path.{_≡_};
+ghost use Rattle.step.specs.Steady.{amid, steady};
+
+// Of a joined port in step, with the tag that was to come.
+pub fn is_steady(group: Group, step: Step, failed: bool, h4: u8) -> bool
+    ensures { λ r. ⌜ r ≡ steady group step failed h4 ⌝ }
+{
+    let in_step = arrival::in_step(group, step);
+    let counted = counts::is_counted(group.kind, step.next, h4);
+    !failed
+        & (step.had == 1)
+        & (step.failed == 0)
+        & in_step
+        & counted
+        & arrival::is_set(group.begun)
+        & arrival::is_set(step.joined)
+}
+
+// In the window and not the last frame of its epoch.
+pub fn is_amid(group: Group, at: u16) -> bool
+    ensures { λ r. ⌜ r ≡ amid group at ⌝ }
+{
+    let ends = kinds::ends_epoch(group.kind, at);
+    (at < group.window) & !ends
+}
