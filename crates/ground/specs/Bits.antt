@@ -46,7 +46,7 @@ number-lt (true ∷ l) = let h = number-lt l in rw (two-pow-succ (length l)) (om
 number-lt (false ∷ l) = let h = number-lt l in rw (two-pow-succ (length l)) (omega arith)
 
 -- what stands above the lowest j bits does not show in them
-even-odd : (z y : ℕ) → odd (z * 2 + y) ≡ odd y
+pub even-odd : (z y : ℕ) → odd (z * 2 + y) ≡ odd y
 even-odd z y = let e : (z * 2 + y) % 2 ≡ y % 2 = omega arith in rw e
 
 split-power : (c m j : ℕ) → c * 2 ^ (m + suc j) ≡ c * 2 ^ m * 2 * 2 ^ j

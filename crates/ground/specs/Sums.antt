@@ -2,10 +2,13 @@
 use mathlib.Core.Path.{_≡_, refl, _∙_, sym, ap, ap₂}
 use mathlib.Core.Bool.{Bool, true, false}
 use mathlib.Core.List.{List, [], _∷_, _++_}
-use Prim.Native.Nat.{suc}
+use Prim.Native.Nat.{ℕ, zero, suc, _+_, _*_, _/_, _%_, _^_, _<_}
 use native.Mathlib.Nat.{suc-inj}
 use native.Mathlib.Omega.{arith}
+use lib.Bits.{bitXor, differ, xor-step, xor-shr}
+use lib.Dec.{eqb}
 use lib.ListN.{length}
+use Rattle.ground.specs.Bits.{odd, bits, even-odd}
 use Rattle.ground.specs.Polynomial.{plus, sum, zeros}
 
 plus-comm : (a b : Bool) → plus a b ≡ plus b a
@@ -98,3 +101,20 @@ sum-apart [] [] e z = refl
 sum-apart [] (b ∷ m) e z = absurd (omega arith)
 sum-apart (a ∷ l) [] e z = absurd (omega arith)
 sum-apart (a ∷ l) (b ∷ m) e z = ap₂ _∷_ (plus-apart a b (cc)) (sum-apart l m (suc-inj e) (cc))
+
+odd-xor : (a b : ℕ) → odd (bitXor a b) ≡ plus (odd a) (odd b)
+odd-xor a b = ap odd (xor-step a b) ∙ go (a % 2) (b % 2) (omega arith) (omega arith)
+  where
+    go : (x y : ℕ) → x < 2 → y < 2 → odd (bitXor (a / 2) (b / 2) * 2 + differ x y) ≡ plus (eqb x 1) (eqb y 1)
+    go zero zero hx hy = even-odd (bitXor (a / 2) (b / 2)) 0
+    go zero (suc zero) hx hy = even-odd (bitXor (a / 2) (b / 2)) 1
+    go (suc zero) zero hx hy = even-odd (bitXor (a / 2) (b / 2)) 1
+    go (suc zero) (suc zero) hx hy = even-odd (bitXor (a / 2) (b / 2)) 0
+    go zero (suc (suc y)) hx hy = absurd (omega arith)
+    go (suc zero) (suc (suc y)) hx hy = absurd (omega arith)
+    go (suc (suc x)) y hx hy = absurd (omega arith)
+
+-- `^` on numbers is the sum of their bits
+pub bits-xor : (k a b : ℕ) → bits k (bitXor a b) ≡ sum (bits k a) (bits k b)
+bits-xor zero a b = refl
+bits-xor (suc k) a b = ap₂ _∷_ (ap odd (xor-shr a b k) ∙ odd-xor (a / 2 ^ k) (b / 2 ^ k)) (bits-xor k a b)

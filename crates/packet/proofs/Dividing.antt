@@ -1,49 +1,52 @@
 -- The steps of the CRC on bytes are those of the division on bits.
-use mathlib.Core.Path.{_≡_, refl, _∙_, sym, ap}
-use mathlib.Core.Bool.{Bool, true, false, cond, _&&_}
+use mathlib.Core.Path.{_≡_, refl, _∙_, sym, ap, ap₂}
+use mathlib.Core.Bool.{Bool, true}
 use mathlib.Core.List.{List, [], _∷_, _++_, append-nil}
-use Prim.Native.Nat.{ℕ, zero, suc, _+_, _*_, _/_, _%_, _<_}
-use native.Mathlib.Nat.{div-one}
+use Prim.Native.Nat.{ℕ, suc, _+_, _*_, _/_, _%_, _<_}
 use native.Mathlib.Omega.{arith}
 use lib.Bits.{bitXor}
-use lib.Dec.{eqb, ltb}
 use lib.ListN.{length, getD, take}
 use lib.Seq.{take-suc}
-use Rattle.ground.specs.Bits.{number, odd, number-bits}
-use Rattle.ground.specs.Division.{remainder-append}
+use Rattle.ground.specs.Bits.{number, number-bits, bits-split}
+use Rattle.ground.specs.Division.{remainder-append, remainder-sum}
 use Rattle.ground.specs.Finite.{below, below-at, sameBits, same-bits}
-use Rattle.ground.specs.Truth.{and-left, and-right}
-use Rattle.ground.specs.Polynomial.{remainder, zeros}
-use Rattle.packet.specs.Laws.Bytes.{bits-append}
-use Rattle.packet.specs.Crc.{divisor, byteBits, nibbleBits, bitsOf, brought, crcOf}
+use Rattle.ground.specs.Polynomial.{sum, remainder, zeros}
+use Rattle.ground.specs.Sums.{sum-zeros, bits-xor}
+use Rattle.packet.specs.Laws.Bytes.{bits-append, byte-bits}
+use Rattle.packet.specs.Crc.{divisor, byteBits, nibbleBits, bitsOf, crcOf}
+use Rattle.packet.specs.Layout.{byteOf}
 
--- what the code makes of a byte and a bit
-abbrev fed : ℕ → ℕ → ℕ
-fed r b = cond (ltb r 128) (r % 128 * 2 + b) (bitXor (r % 128 * 2 + b) 7)
+-- what the code makes of the four bits that leave at the top
+abbrev folded : ℕ → ℕ
+folded h = bitXor (bitXor h (h * 2)) (h * 4)
 
-rightly : ℕ → ℕ → Bool
-rightly r b = sameBits (byteBits (fed r b)) (brought (byteBits r) (eqb b 1))
+rightly : ℕ → Bool
+rightly h = sameBits (byteBits (folded h)) (remainder divisor (nibbleBits h ++ zeros 4) (zeros 4))
 
-steps : below 256 (λ r. rightly r 0 && rightly r 1) ≡ true
-unfolding rightly byteBits divisor
-steps = refl
+all-rightly : below 16 rightly ≡ true
+unfolding rightly byteBits nibbleBits divisor
+all-rightly = refl
 
-pub step : (r bit : ℕ) → r < 256 → byteBits (fed r (bit % 2)) ≡ brought (byteBits r) (odd bit)
+folds : (h : ℕ) → h < 16 → byteBits (folded h) ≡ remainder divisor (nibbleBits h ++ zeros 4) (zeros 4)
 unfolding rightly
-step r bit h = go (bit % 2) refl
-  where
-    both : (rightly r 0 && rightly r 1) ≡ true
-    both = below-at 256 (λ k. rightly k 0 && rightly k 1) steps r h
+folds h b = same-bits (byteBits (folded h)) (remainder divisor (nibbleBits h ++ zeros 4) (zeros 4)) (below-at 16 rightly all-rightly h b)
 
-    go : (b : ℕ) → bit % 2 ≡ b → byteBits (fed r b) ≡ brought (byteBits r) (eqb b 1)
-    go zero e = same-bits (byteBits (fed r 0)) (brought (byteBits r) false) (and-left (rightly r 0) (rightly r 1) both)
-    go (suc zero) e = same-bits (byteBits (fed r 1)) (brought (byteBits r) true) (and-right (rightly r 0) (rightly r 1) both)
-    go (suc (suc b)) e = absurd (omega arith)
+-- the low nibble moves up, the next one comes behind it, and what the high nibble leaves is added
+shares : (h l n : ℕ) → remainder divisor (nibbleBits h ++ nibbleBits l) (nibbleBits n)
+    ≡ sum (nibbleBits l ++ nibbleBits n) (remainder divisor (nibbleBits h ++ zeros 4) (zeros 4))
+unfolding nibbleBits divisor
+shares h l n =
+    ap₂ (λ q m. remainder divisor (nibbleBits h ++ q) m) (sym (sum-zeros (nibbleBits l))) (sym (sum-zeros (nibbleBits n)))
+    ∙ remainder-sum divisor (zeros 4 ++ nibbleBits l) (nibbleBits h ++ zeros 4) (nibbleBits n) (zeros 4) refl refl refl
 
--- four bits are a nibble's
-pub four : (r n : ℕ) → remainder divisor (byteBits r) (nibbleBits n) ≡ brought (brought (brought (brought (byteBits r) (odd (n / 8))) (odd (n / 4))) (odd (n / 2))) (odd n)
-unfolding nibbleBits
-four r n = ap (λ (m : ℕ). brought (brought (brought (brought (byteBits r) (odd (n / 8))) (odd (n / 4))) (odd (n / 2))) (odd m)) (div-one n)
+-- one nibble brought down, as the code does it
+pub nibble : (r n : ℕ) → r < 256 → byteBits (bitXor (r % 16 * 16 + n % 16) (folded (r / 16))) ≡ remainder divisor (byteBits r) (nibbleBits n)
+unfolding byteBits nibbleBits
+nibble r n h =
+    bits-xor 8 (byteOf r n) (folded (r / 16))
+    ∙ ap₂ sum (byte-bits r n) (folds (r / 16) (omega arith))
+    ∙ sym (shares (r / 16) r n)
+    ∙ ap (λ q. remainder divisor q (nibbleBits n)) (sym (bits-split 4 4 r))
 
 bits-more : (ns : List ℕ) (n : ℕ) → bitsOf (ns ++ (n ∷ [])) ≡ bitsOf ns ++ nibbleBits n
 bits-more ns n = bits-append ns (n ∷ []) ∙ ap (λ l. bitsOf ns ++ l) (append-nil (nibbleBits n))

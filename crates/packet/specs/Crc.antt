@@ -3,7 +3,7 @@ use mathlib.Core.Bool.{Bool, true, false}
 use mathlib.Core.List.{List, [], _∷_, _++_}
 use Prim.Native.Nat.{ℕ}
 use Rattle.ground.specs.Bits.{bits, number}
-use Rattle.ground.specs.Polynomial.{bring, check}
+use Rattle.ground.specs.Polynomial.{check}
 
 -- x^8+x^2+x+1 without its leading 1
 unfoldable pub divisor : List Bool
@@ -19,9 +19,6 @@ nibbleBits n = bits 4 n
 abbrev pub bitsOf : List ℕ → List Bool
 bitsOf [] = []
 bitsOf (n ∷ ns) = nibbleBits n ++ bitsOf ns
-
-abbrev pub brought : List Bool → Bool → List Bool
-brought r b = bring divisor r b
 
 unfoldable pub crcOf : List ℕ → ℕ
 crcOf nibbles = number (check divisor (bitsOf nibbles))

@@ -1,25 +1,15 @@
-// The CRC of a packet (01, 'CRC'), bit by bit.
+// The CRC of a packet (01, 'CRC'), nibble by nibble.
 ghost use mathlib.Core.Path.{_≡_};
 ghost use lib.ListN.{take};
-ghost use Rattle.ground.specs.Bits.{odd};
 ghost use Rattle.ground.specs.Polynomial.{remainder};
-ghost use Rattle.packet.specs.Crc.{divisor, byteBits, nibbleBits, brought, crcOf};
+ghost use Rattle.packet.specs.Crc.{divisor, byteBits, nibbleBits, crcOf};
 
-// One bit, the lowest of `bit`, brought down behind the remainder.
-fn bring(rest: u8, bit: u8) -> u8
-    ensures { λ r. ⌜ byteBits r ≡ brought (byteBits rest) (odd bit) ⌝ }
-{
-    let next = rest % 128 * 2 + bit % 2;
-    if rest < 128 { next } else { next ^ 7 }
-}
-
+// By the divisor x^8 is x^2+x+1: the four bits that leave at the top come back as themselves, doubled and quadrupled.
 fn bring_nibble(rest: u8, nibble: u8) -> u8
     ensures { λ r. ⌜ byteBits r ≡ remainder divisor (byteBits rest) (nibbleBits nibble) ⌝ }
 {
-    let first = bring(rest, nibble / 8);
-    let second = bring(first, nibble / 4);
-    let third = bring(second, nibble / 2);
-    bring(third, nibble)
+    let high = rest / 16;
+    (rest % 16 * 16 + nibble % 16) ^ (high ^ (high * 2) ^ (high * 4))
 }
 
 pub(crate) fn crc(nibbles: [u8; 16]) -> u8

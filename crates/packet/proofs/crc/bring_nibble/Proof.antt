@@ -1,23 +1,23 @@
+use native.Mathlib.Omega.{arith}
 use borrow.Author.Needs.{needs}
-use Rattle.packet.proofs.Dividing.{four}
+use Rattle.packet.proofs.Dividing.{nibble}
 use Rattle.packet.proofs.crc.bring_nibble.Statement.{statement}
 use Rattle.packet.proofs.crc.bring_nibble.Tie as tie
 
-bring-requires : tie.Need-bring-requires
-bring-requires c κs = search needs
+mul-result : tie.Need-mul-result
+mul-result c = search needs
 
-bring-requires-2 : tie.Need-bring-requires-2
-bring-requires-2 c κs = search needs
+add-result : tie.Need-add-result
+add-result c = search needs
 
-bring-requires-3 : tie.Need-bring-requires-3
-bring-requires-3 c κs = search needs
+mul-result-2 : tie.Need-mul-result-2
+mul-result-2 c = search needs
 
-bring-requires-4 : tie.Need-bring-requires-4
-bring-requires-4 c κs = search needs
+mul-result-3 : tie.Need-mul-result-3
+mul-result-3 c = search needs
 
 returns : tie.Need-returns
-returns c = rw (four _ _, ← c .before .before .before .bring .ensures, ← c .before .before .bring2 .ensures, ← c .before .bring3 .ensures) (c .bring4 .ensures)
+returns c = nibble (c .args .rest) (c .args .nibble) (omega arith)
 
 pub bring-nibble-spec : {M : Type 1} → statement M
-bring-nibble-spec =
-    tie.close (tie.spec bring-requires bring-requires-2 bring-requires-3 bring-requires-4 returns)
+bring-nibble-spec = tie.close (tie.spec mul-result add-result mul-result-2 mul-result-3 returns)
