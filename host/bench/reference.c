@@ -1,6 +1,7 @@
-/* Spreading and joining in C, in the same form as the proved code: a member alone copied by 64 bytes as eight words;
- * blocks of eight by eight bytes as eight words where they fit; the last 64 bytes and the last blocks starting earlier;
- * else plain loops. It is compiled by each C compiler at hand, with the names SPREAD and JOIN given on the command line.
+/* Spreading and joining in C, in the same form as the proved code: a member alone by one copy of the C library, memcpy
+ * here, since the buffers of a call lie apart; blocks of eight by eight bytes as eight words where they fit, the last
+ * ones starting earlier; else plain loops. It is compiled by each C compiler at hand, with the names SPREAD and JOIN
+ * given on the command line.
  */
 #include <stddef.h>
 #include <stdint.h>
@@ -77,23 +78,6 @@ static void spread_plain(size_t x, size_t p, const uint8_t *frame, uint8_t *memb
             members[r * p + j] = frame[j * x + r];
 }
 
-static void copy(size_t n, const uint8_t *from, uint8_t *to)
-{
-    if (n < 64) {
-        for (size_t j = 0; j < n; j++)
-            to[j] = from[j];
-        return;
-    }
-    for (size_t c = 0; c < n; c += 64) {
-        size_t j = c <= n - 64 ? c : n - 64;
-        uint64_t q[8];
-        for (size_t l = 0; l < 8; l++)
-            q[l] = read_word(from + j + l * 8);
-        for (size_t l = 0; l < 8; l++)
-            write_word(q[l], to + j + l * 8);
-    }
-}
-
 static uint8_t answer(size_t x, size_t p, size_t from, size_t to)
 {
     if (x > 64 || p < 1 || p > 2340)
@@ -107,7 +91,7 @@ uint8_t SPREAD(uint32_t x, uint32_t p, const uint8_t *frame, size_t frame_length
     if (a != 0)
         return a;
     if (x == 1)
-        copy(p, frame, members);
+        memcpy(members, frame, p);
     else if (x >= 8 && p >= 8)
         join_blocks(p, x, frame, members);
     else
@@ -121,7 +105,7 @@ uint8_t JOIN(uint32_t x, uint32_t p, const uint8_t *members, size_t members_leng
     if (a != 0)
         return a;
     if (x == 1)
-        copy(p, members, frame);
+        memcpy(frame, members, p);
     else if (x >= 8 && p >= 8)
         join_blocks(x, p, members, frame);
     else

@@ -3,8 +3,8 @@ use mathlib.Core.Path.{_≡_, refl, sym, ap, ap₂, _∙_}
 use mathlib.Core.Logic.{⊎-elim, _≢_}
 use mathlib.Core.List.{List}
 use mathlib.Core.Bool.{true, _||_}
-use Prim.Native.Nat.{ℕ, _+_, _-_, _*_, _/_, _%_, _≤_, _<_, min}
-use native.Mathlib.Nat.{div-add-mod', mul-le-mul-left, mul-le-mul-right, mul-one, mul-comm}
+use Prim.Native.Nat.{ℕ, _+_, _-_, _*_, _/_, _%_, _≤_, _<_}
+use native.Mathlib.Nat.{div-add-mod', mul-le-mul-left, mul-le-mul-right, mul-one, one-mul, mul-comm}
 use native.Mathlib.Omega.{arith}
 use lib.ListN.{length, getD, set}
 use lib.Seq.{getD-set-same, getD-set-other}
@@ -28,22 +28,22 @@ run-in P r j l n h hj hl =
       line = let one : 1 ≤ P = omega arith in omega (arith, member-in (r + 8) P (r + l) (omega arith), mul-le-mul-left (r + l) one, mul-one (r + l));
     }
 
--- a block of eight ranks from e on and eight bytes from j on, where e is what `start` gives
-pub record BlockIn (X P e j : ℕ) : Type 0 where
-  pub ranks : e + 8 ≤ X
-  pub members : (e + 8) * P ≤ X * P
+-- a block of eight ranks from r on and eight bytes from j on
+pub record BlockIn (X P r j : ℕ) : Type 0 where
+  pub members : (r + 8) * P ≤ X * P
   pub lines : (j + 8) * X ≤ X * P
-  pub count : X ≤ X * P
+  pub ranks : X ≤ X * P
+  pub bytes : P ≤ X * P
 
-pub block-in : (X P c e j : ℕ) → 8 ≤ X → e ≡ min c (X - 8) → j + 8 ≤ P → BlockIn X P e j
-block-in X P c e j hX is hj =
-    let r : e + 8 ≤ X = omega arith in
+pub block-in : (X P r j : ℕ) → r + 8 ≤ X → j + 8 ≤ P → BlockIn X P r j
+block-in X P r j hr hj =
     let one : 1 ≤ P = omega arith in
+    let rank : 1 ≤ X = omega arith in
     record {
-      ranks = r;
-      members = mul-le-mul-right P r;
+      members = mul-le-mul-right P hr;
       lines = omega (arith, mul-le-mul-right X hj, mul-comm X P);
-      count = omega (arith, mul-le-mul-left X one, mul-one X);
+      ranks = omega (arith, mul-le-mul-left X one, mul-one X);
+      bytes = omega (arith, mul-le-mul-right P rank, one-mul P);
     }
 
 -- one word more
@@ -88,27 +88,34 @@ block-turned X place j r q t d out h e =
     (λ k b w. let s = area-said X place j 8 r 8 k w in h ((k - place) / X - j) ((k - place) % X - r) (omega arith) (omega arith))
 
 module _ (X place : ℕ) (m : ℕ → ℕ → ℕ) where
-  -- one block more of eight lines
-  pub block-more : (j c e : ℕ) (q : List ℕ) {d mid : List ℕ} (out : List ℕ) → e ≡ min c (X - 8) → 8 ≤ X → c < X
-      → ((l i : ℕ) → l < 8 → i < 8 → byteOf (getD q l 0) i ≡ m (e + l) (j + i))
-      → Drawing (area X place j 8 0 (min c X)) (λ k. groupByte X m (k - place)) d mid
-      → out ≡ drawn (area X place j 8 e 8) (λ k. byteOf (getD q ((k - place) % X - e) 0) ((k - place) / X - j)) mid
-      → Drawing (area X place j 8 0 (min (c + 8) X)) (λ k. groupByte X m (k - place)) d out
-  block-more j c e q out is hX hc bytes old new =
-      drawing-then (area X place j 8 0 (min (c + 8) X)) (area X place j 8 e 8) (λ k. byteOf (getD q ((k - place) % X - e) 0) ((k - place) / X - j)) out old new
-      agree (λ k. area-columns X place j 8 0 (min c X) e 8 (min (c + 8) X) k (omega arith) (omega arith) (omega arith) (omega arith))
+  -- eight bytes from j on of eight ranks from r on, laid into the frame, are the frame's own
+  pub block-is : (j r : ℕ) (q mid out : List ℕ) → ((l i : ℕ) → l < 8 → i < 8 → byteOf (getD q l 0) i ≡ m (r + l) (j + i))
+      → out ≡ drawn (area X place j 8 r 8) (λ k. byteOf (getD q ((k - place) % X - r) 0) ((k - place) / X - j)) mid
+      → out ≡ drawn (area X place j 8 r 8) (λ k. groupByte X m (k - place)) mid
+  block-is j r q mid out bytes e =
+      e
+      ∙ drawn-by (area X place j 8 r 8) (area X place j 8 r 8) (λ k. byteOf (getD q ((k - place) % X - r) 0) ((k - place) / X - j)) (λ k. groupByte X m (k - place)) mid
+      (λ k b. refl) (λ k b w. same k w)
     where
-      agree : (k : ℕ) → area X place j 8 e 8 k ≡ true → byteOf (getD q ((k - place) % X - e) 0) ((k - place) / X - j) ≡ m ((k - place) % X) ((k - place) / X)
-      agree k w =
-          let s = area-said X place j 8 e 8 k w in
-          let column : e + ((k - place) % X - e) ≡ (k - place) % X = omega arith in
+      same : (k : ℕ) → area X place j 8 r 8 k ≡ true → byteOf (getD q ((k - place) % X - r) 0) ((k - place) / X - j) ≡ m ((k - place) % X) ((k - place) / X)
+      same k w =
+          let s = area-said X place j 8 r 8 k w in
+          let column : r + ((k - place) % X - r) ≡ (k - place) % X = omega arith in
           let line : j + ((k - place) / X - j) ≡ (k - place) / X = omega arith in
-          bytes ((k - place) % X - e) ((k - place) / X - j) (omega arith) (omega arith) ∙ ap₂ m column line
+          bytes ((k - place) % X - r) ((k - place) / X - j) (omega arith) (omega arith) ∙ ap₂ m column line
 
-  -- eight lines more
-  pub lines-more : (P c e : ℕ) {d mid : List ℕ} (out : List ℕ) → e ≡ min c (P - 8) → 8 ≤ P → c < P
-      → Drawing (area X place 0 (min c P) 0 X) (λ k. groupByte X m (k - place)) d mid → out ≡ drawn (area X place e 8 0 X) (λ k. groupByte X m (k - place)) mid
-      → Drawing (area X place 0 (min (c + 8) P) 0 X) (λ k. groupByte X m (k - place)) d out
-  lines-more P c e out is hP hc old new =
-      drawing-then (area X place 0 (min (c + 8) P) 0 X) (area X place e 8 0 X) (λ k. groupByte X m (k - place)) out old new (λ k w. refl)
-      (λ k. area-lines X place 0 (min c P) e 8 (min (c + 8) P) 0 X k (omega arith) (omega arith) (omega arith) (omega arith))
+  -- more columns of some lines, from b on
+  pub columns-more : (l n a b i j : ℕ) {d mid : List ℕ} (out : List ℕ) → b ≤ a → a ≤ b + i → b + i ≡ j
+      → Drawing (area X place l n 0 a) (λ k. groupByte X m (k - place)) d mid → out ≡ drawn (area X place l n b i) (λ k. groupByte X m (k - place)) mid
+      → Drawing (area X place l n 0 j) (λ k. groupByte X m (k - place)) d out
+  columns-more l n a b i j out h₁ h₂ h₃ old new =
+      drawing-then (area X place l n 0 j) (area X place l n b i) (λ k. groupByte X m (k - place)) out old new (λ k w. refl)
+      (λ k. area-columns X place l n 0 a b i j k (omega arith) (omega arith) (omega arith) (omega arith))
+
+  -- more lines of some columns, from b on
+  pub lines-more : (l n b i j c s : ℕ) {d mid : List ℕ} (out : List ℕ) → l ≤ b → b ≤ l + n → l + n ≤ b + i → b + i ≡ l + j
+      → Drawing (area X place l n c s) (λ k. groupByte X m (k - place)) d mid → out ≡ drawn (area X place b i c s) (λ k. groupByte X m (k - place)) mid
+      → Drawing (area X place l j c s) (λ k. groupByte X m (k - place)) d out
+  lines-more l n b i j c s out h₁ h₂ h₃ h₄ old new =
+      drawing-then (area X place l j c s) (area X place b i c s) (λ k. groupByte X m (k - place)) out old new (λ k w. refl)
+      (λ k. area-lines X place l n b i j c s k h₁ h₂ h₃ h₄)

@@ -1,3 +1,4 @@
 -- What 01 asks of payload order, proved on the definitions.
+pub mod Laid
 pub mod Only
 pub mod RoundTrip

@@ -11,6 +11,7 @@ pub use answer::Answer;
 ghost use mathlib.Core.Path.{_≡_};
 ghost use lib.ListN.{length};
 ghost use Rattle.payload.specs.Joining.{wholeAnswer, joined, fromAnswer, joinedFrom};
+ghost use Rattle.payload.specs.Laying.{laid};
 ghost use Rattle.payload.specs.Spreading.{spreadAll, oneAnswer, spreadOne};
 
 // The frame spread over all members, which lie one after the other, rank r at r P.
@@ -77,6 +78,18 @@ pub fn join_from(
         }
         Answer::Range => Answer::Range,
         Answer::Length => Answer::Length,
+    }
+}
+
+// Bytes into a slice, from a place on; those that would pass its end leave it as it was.
+pub fn lay(from: &[u8], place: usize, to: &mut [u8])
+    ensures { λ _. ⌜ now (to .exit) ≡ laid place (now (from .entry)) (now (to .entry)) ⌝ }
+{
+    let n = from.len();
+    if n <= to.len() {
+        if place <= to.len() - n {
+            copy::run(from, 0, n, place, to);
+        }
     }
 }
 

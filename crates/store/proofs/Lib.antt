@@ -1,3 +1,4 @@
 pub mod Packets
 pub mod Putting
+pub mod Rings
 pub mod Rows

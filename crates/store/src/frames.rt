@@ -2,18 +2,24 @@
 use packet::counts;
 use rows::Group;
 ghost use mathlib.Core.Path.{_≡_};
-ghost use Prim.Native.Nat.{_+_, _≤_};
-ghost use lib.ListN.{length, getD};
-ghost use Rattle.ground.specs.Drawn.{fillAt};
 ghost use Rattle.store.specs.Frames.{byteAt, packetIn, placeIn, ringOf, storedAt};
 
+// With origin and distance below the window, as a running receiver has them, it takes no division.
 fn ring(origin: u16, at: u16, window: u16) -> usize
     ensures { λ r. ⌜ r ≡ ringOf origin at window ⌝ }
 {
     if window == 0 {
         return 0;
     }
-    (origin as usize + at as usize) % window as usize
+    let sum = origin as usize + at as usize;
+    if sum < window as usize {
+        return sum;
+    }
+    let over = sum - window as usize;
+    if over < window as usize {
+        return over;
+    }
+    over % window as usize
 }
 
 // Where a port's frame stands that lies so far after the window's first.
@@ -24,17 +30,6 @@ pub fn place(group: Group, port: u8, at: u16) -> usize
     (port as usize * group.window as usize + turn) * (group.payload as usize + 1)
 }
 
-fn copy(store: &mut [u8], place: usize, payload: &[u8])
-    requires { ⌜ place + length (now payload) ≤ length (now store) ⌝ }
-    ensures { λ _. ⌜ now (store .exit) ≡ fillAt place (length (now (payload .entry))) (λ j. getD (now (payload .entry)) j 0) (now (store .entry)) ⌝ }
-{
-    let mut j = 0;
-    while j < payload.len() {
-        store[place + j] = payload[j];
-        j += 1;
-    }
-}
-
 // A frame into the store, from a place on. One that would pass the end is dropped.
 pub fn put(store: &mut [u8], place: usize, payload: &[u8], h4: u8)
     ensures { λ _. ⌜ now (store .exit) ≡ storedAt (now (store .entry)) place (now (payload .entry)) h4 ⌝ }
@@ -42,7 +37,7 @@ pub fn put(store: &mut [u8], place: usize, payload: &[u8], h4: u8)
     let n = payload.len();
     if n < store.len() {
         if place < store.len() - n {
-            copy(store, place, payload);
+            payload::lay(payload, place, store);
             store[place + n] = h4;
         }
     }

@@ -9,6 +9,7 @@ use Rattle.payload.specs.declared.answer.Answer.{Answer}
 use Rattle.payload.specs.declared.answer.Answer.the-variants.{Done, Range, Length}
 use Rattle.payload.specs.Answers.{numberOf, answerBy}
 use Rattle.payload.specs.Joining.{wholeAnswer, joined, fromAnswer, joinedFrom}
+use Rattle.payload.specs.Laying.{laid}
 use Rattle.payload.specs.Spreading.{spreadAll, oneAnswer, spreadOne}
 
 -- 01's numbers tell the answers apart
@@ -58,6 +59,9 @@ module _ (X P : ℕ) where
         → JoinFromKept starts store place out b m → (a ≡ b) × (l ≡ m)
     join-from-only starts store place out p q = (p .0 ∙ sym (q .0), p .1 ∙ sym (q .1))
 
+pub lay-only : (place : ℕ) (from to l m : List ℕ) → l ≡ laid place from to → m ≡ laid place from to → l ≡ m
+lay-only place from to l m p q = p ∙ sym q
+
 -- Constant bytes: three members of two bytes each, all zero or as in P6. What comes out differs at its place 1.
 abbrev zeros : List ℕ
 zeros = 0 ∷ 0 ∷ 0 ∷ 0 ∷ 0 ∷ 0 ∷ []
@@ -85,3 +89,6 @@ module _ (k : List ℕ) (answer : List ℕ → Answer) where
   pub constant-join-from : ((store : List ℕ) → JoinFromKept 3 2 (0 ∷ 2 ∷ 4 ∷ []) store 0 zeros (answer store) k) → ⊥
   constant-join-from h =
       differ k (joinedFrom 3 2 (0 ∷ 2 ∷ 4 ∷ []) zeros 0 zeros) (joinedFrom 3 2 (0 ∷ 2 ∷ 4 ∷ []) members6 0 zeros) (h zeros .1) (h members6 .1) (λ e. omega arith)
+
+pub constant-lay : (k : List ℕ) → ((from : List ℕ) → k ≡ laid 0 from zeros) → ⊥
+constant-lay k h = differ k (laid 0 zeros zeros) (laid 0 frame6 zeros) (h zeros) (h frame6) (λ e. omega arith)

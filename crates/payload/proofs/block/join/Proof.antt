@@ -42,10 +42,12 @@ loop-less c = search needs
 
 loop-again : tie.Need-loop-again Inv-loop μ-loop
 loop-again c =
-    let a = c .before .before .before .before .before .before .before .before .before .args in (
+    let a = c .before .before .before .before .before .before .before .before .before .args in
+    let j = c .before .before .before .before .start .result in
+    let i = c .before .before .before .before .before .before .loop .c in
+    let e = c .before .before .before .before .start .ensures in (
       omega arith,
-      lines-more (a .x) 0 (rankedByte (a .p) (a .members .now)) (a .p) (c .before .before .before .before .before .before .loop .c) (c .before .before .before .before .start .result) _ (c .before .before .before .before .start .ensures) (c .before .before .before .before .before .before .before .before .before .pre .1) (c .before .before .before .before .before .loop-test .taken)
-          (c .before .before .before .before .before .before .loop .inv .1) (c .before .before .lines .ensures),
+      lines-more (a .x) 0 (rankedByte (a .p) (a .members .now)) 0 (min i (a .p)) j 8 (min (i + 8) (a .p)) 0 (a .x) _ (omega arith) (omega arith) (omega arith) (omega arith) (c .before .before .before .before .before .before .loop .inv .1) (c .before .before .lines .ensures),
     )
 
 same-length : tie.Need-same-length Inv-loop μ-loop

@@ -1,7 +1,6 @@
 -- The invariant: the lines below c are drawn.
-use Prim.Native.Nat.{_≤_, _-_, _+_, min}
+use Prim.Native.Nat.{ℕ, _≤_, _-_, _+_, min}
 use mathlib.Core.Path.{_≡_}
-use native.Mathlib.Nat.{mul-le-mul-right, one-mul}
 use native.Mathlib.Omega.{arith}
 use borrow.Author.Needs.{needs}
 use Rattle.ground.specs.Drawn.{Drawing, drawing-none}
@@ -9,13 +8,13 @@ use Rattle.payload.specs.Inner.Area.{area}
 use Rattle.payload.specs.Joining.{startedByte}
 use Rattle.payload.specs.Order.{groupByte}
 use Rattle.payload.proofs.Areas.{area-no-line}
-use Rattle.payload.proofs.Blocks.{lines-more}
+use Rattle.payload.proofs.Blocks.{block-in, lines-more}
 use Rattle.payload.proofs.Frames.{ranks-all}
 use Rattle.payload.proofs.block.join_from.Statement.{statement}
 use Rattle.payload.proofs.block.join_from.Tie as tie
 
 abbrev Inv-loop : tie.InvT-loop
-Inv-loop x p starts store place out₀ c₀ out c = (c ≤ p + 7) × Drawing (area x place 0 (min c p) 0 x) (λ k. groupByte x (startedByte starts store) (k - place)) out₀ out
+Inv-loop x p starts store place out₀ c₀ out c = (c ≤ p + 63) × Drawing (area x place 0 (min c p) 0 x) (λ k. groupByte x (startedByte starts store) (k - place)) out₀ out
 
 abbrev μ-loop : tie.MeasureT-loop
 μ-loop x p starts store place out₀ c₀ out c = p - c
@@ -25,27 +24,32 @@ loop-holds c =
     let e : min 0 (c .before .before .before .args .p) ≡ 0 = omega arith in
     (omega arith, rw e (drawing-none _ _ _ (area-no-line _ _ 0 0 _)))
 
-start-requires : tie.Need-start-requires Inv-loop μ-loop
-start-requires c κs = search needs
+add-least : tie.Need-add-least Inv-loop μ-loop
+add-least c = let b = block-in (c .before .before .before .before .before .args .x) (c .before .before .before .before .before .args .p) 0 0 (c .before .before .before .before .before .pre .0) (c .before .before .before .before .before .pre .1) in omega arith
 
-lines-from-requires : tie.Need-lines-from-requires Inv-loop μ-loop
-lines-from-requires c κs = (omega arith, omega arith, omega arith, c .before .before .before .before .before .before .before .pre .3, omega arith)
+least-requires : tie.Need-least-requires Inv-loop μ-loop
+least-requires c κs = search needs
+
+tile-from-requires : tie.Need-tile-from-requires Inv-loop μ-loop
+tile-from-requires c κs =
+    let h = c .before .before .before .before .before .before .before .pre in
+    (h .0, h .1, omega arith, c .before .least .ensures, h .2, h .3, omega arith)
 
 add-c : tie.Need-add-c Inv-loop μ-loop
-add-c c =
-    let a = c .before .before .before .before .before .before .before .before .before .before .args in
-    let one : 1 ≤ a .x = omega arith in
-    omega (arith, mul-le-mul-right (a .p) one, one-mul (a .p))
+add-c c = let b = block-in (c .before .before .before .before .before .before .before .before .before .before .args .x) (c .before .before .before .before .before .before .before .before .before .before .args .p) 0 0 (c .before .before .before .before .before .before .before .before .before .before .pre .0) (c .before .before .before .before .before .before .before .before .before .before .pre .1) in omega arith
 
 loop-less : tie.Need-loop-less Inv-loop μ-loop
 loop-less c = search needs
 
 loop-again : tie.Need-loop-again Inv-loop μ-loop
 loop-again c =
-    let a = c .before .before .before .before .before .before .before .before .before .before .args in (
+    let a = c .before .before .before .before .before .before .before .before .before .before .args in
+    let to = c .before .before .before .before .least .result in
+    let i = c .before .before .before .before .before .before .loop .c in
+    let l : ℕ = min i (a .p - 8) in
+    let e = c .before .before .before .before .least .ensures in (
       omega arith,
-      lines-more (a .x) (a .place) (startedByte (a .starts .now) (a .store .now)) (a .p) (c .before .before .before .before .before .before .loop .c) (c .before .before .before .before .start .result) _ (c .before .before .before .before .start .ensures) (c .before .before .before .before .before .before .before .before .before .before .pre .1) (c .before .before .before .before .before .loop-test .taken)
-          (c .before .before .before .before .before .before .loop .inv .1) (c .before .before .lines-from .ensures),
+      lines-more (a .x) (a .place) (startedByte (a .starts .now) (a .store .now)) 0 (min i (a .p)) l (to - l) (min (i + 64) (a .p)) 0 (a .x) _ (omega arith) (omega arith) (omega arith) (omega arith) (c .before .before .before .before .before .before .loop .inv .1) (c .before .before .tile-from .ensures),
     )
 
 same-length : tie.Need-same-length Inv-loop μ-loop
@@ -64,8 +68,9 @@ join-from-spec =
     Inv-loop
     μ-loop
     loop-holds
-    start-requires
-    lines-from-requires
+    add-least
+    least-requires
+    tile-from-requires
     add-c
     loop-less
     loop-again

@@ -8,7 +8,7 @@ use Rattle.payload.specs.Inner.Area.{area}
 use Rattle.payload.specs.Joining.{rankedByte}
 use Rattle.payload.specs.Order.{groupByte}
 use Rattle.payload.proofs.Areas.{area-no-column}
-use Rattle.payload.proofs.Blocks.{BlockIn, block-in, block-more}
+use Rattle.payload.proofs.Blocks.{BlockIn, block-in, block-is, columns-more}
 use Rattle.payload.proofs.block.lines.Statement.{statement}
 use Rattle.payload.proofs.block.lines.Tie as tie
 
@@ -19,7 +19,7 @@ abbrev μ-loop : tie.MeasureT-loop
 μ-loop x p members j frame₀ c₀ frame c = x - c
 
 inside : (c : tie.After-start Inv-loop μ-loop) → BlockIn (c .before .before .before .before .before .args .x) (c .before .before .before .before .before .args .p) (c .start .result) (c .before .before .before .before .before .args .j)
-inside c = block-in _ _ (c .before .before .loop .c) _ _ (c .before .before .before .before .before .pre .0) (c .start .ensures) (c .before .before .before .before .before .pre .1)
+inside c = block-in _ _ _ _ (omega (arith, c .start .ensures)) (c .before .before .before .before .before .pre .1)
 
 loop-holds : tie.Need-loop-holds Inv-loop μ-loop
 loop-holds c =
@@ -33,7 +33,7 @@ read-ranked-requires : tie.Need-read-ranked-requires Inv-loop μ-loop
 read-ranked-requires c κs = let b = inside c in omega arith
 
 lay-requires : tie.Need-lay-requires Inv-loop μ-loop
-lay-requires c κs = let b = inside (c .before .before) in omega arith
+lay-requires c κs = let b = inside (c .before .before) in omega (arith, c .before .before .start .ensures)
 
 add-c : tie.Need-add-c Inv-loop μ-loop
 add-c c = let b = inside (c .before .before .before .before .before) in omega arith
@@ -43,10 +43,14 @@ loop-less c = search needs
 
 loop-again : tie.Need-loop-again Inv-loop μ-loop
 loop-again c =
-    let a = c .before .before .before .before .before .before .before .before .before .before .args in (
+    let a = c .before .before .before .before .before .before .before .before .before .before .args in
+    let m : ℕ → ℕ → ℕ = rankedByte (a .p) (a .members .now) in
+    let r = c .before .before .before .before .before .start .result in
+    let i = c .before .before .before .before .before .before .before .loop .c in
+    let e = c .before .before .before .before .before .start .ensures in (
       omega arith,
-      block-more (a .x) 0 (rankedByte (a .p) (a .members .now)) (a .j) (c .before .before .before .before .before .before .before .loop .c) (c .before .before .before .before .before .start .result) (c .before .before .before .before .read-ranked .result) _ (c .before .before .before .before .before .start .ensures)
-          (c .before .before .before .before .before .before .before .before .before .before .pre .0) (c .before .before .before .before .before .before .loop-test .taken) (c .before .before .before .before .read-ranked .ensures) (c .before .before .before .before .before .before .before .loop .inv .1) (c .before .before .lay .ensures),
+      columns-more (a .x) 0 m (a .j) 8 (min i (a .x)) r 8 (min (i + 8) (a .x)) _ (omega arith) (omega arith) (omega arith) (c .before .before .before .before .before .before .before .loop .inv .1)
+          (block-is (a .x) 0 m (a .j) r (c .before .before .before .before .read-ranked .result) (c .before .before .before .before .before .before .before .loop .frame) _ (c .before .before .before .before .read-ranked .ensures) (c .before .before .lay .ensures)),
     )
 
 same-length : tie.Need-same-length Inv-loop μ-loop

@@ -7,8 +7,8 @@ use Rattle.store.proofs.frames.put.Tie as tie
 sub-if2 : tie.Need-sub-if2
 sub-if2 c = search needs
 
-copy-requires : tie.Need-copy-requires
-copy-requires c κs = search needs
+lay-requires : tie.Need-lay-requires
+lay-requires c κs = search needs
 
 add-store : tie.Need-add-store
 add-store c = search needs
@@ -20,7 +20,7 @@ same-length : tie.Need-same-length
 same-length c = search needs
 
 returns : tie.Need-returns
-returns c = let a = c .before .before .before .before .before .before .before .before .args in put-frame (a .store .now) (a .payload .now) _ (a .place) (a .h4) (omega arith) (c .before .before .copy .ensures)
+returns c = let a = c .before .before .before .before .before .before .before .before .args in put-frame (a .store .now) (a .payload .now) _ (a .place) (a .h4) (omega arith) (c .before .before .lay .ensures)
 
 returns-2 : tie.Need-returns-2
 returns-2 c = let a = c .before .before .before .before .args in put-none (a .store .now) (a .payload .now) (a .place) (a .h4) (omega arith)
@@ -33,7 +33,7 @@ put-spec =
     tie.close
     (tie.spec
     sub-if2
-    copy-requires
+    lay-requires
     add-store
     slice-write-store
     same-length

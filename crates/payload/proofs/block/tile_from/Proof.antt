@@ -1,0 +1,75 @@
+-- The invariant: the ranks below c are in their columns of the tile.
+use Prim.Native.Nat.{ℕ, _≤_, _-_, _+_, min}
+use mathlib.Core.Path.{_≡_}
+use native.Mathlib.Omega.{arith}
+use borrow.Author.Needs.{needs}
+use Rattle.ground.specs.Drawn.{Drawing, drawing-none}
+use Rattle.payload.specs.Inner.Area.{tile}
+use Rattle.payload.specs.Joining.{startedByte}
+use Rattle.payload.specs.Order.{groupByte}
+use Rattle.payload.proofs.Areas.{area-no-column}
+use Rattle.payload.proofs.Blocks.{block-in, columns-more}
+use Rattle.payload.proofs.block.tile_from.Statement.{statement}
+use Rattle.payload.proofs.block.tile_from.Tie as tie
+
+abbrev Inv-loop : tie.InvT-loop
+Inv-loop x p starts store from to place out₀ c₀ out c = (c ≤ x + 7) × Drawing (tile x p place from to 0 (min c x)) (λ k. groupByte x (startedByte starts store) (k - place)) out₀ out
+
+abbrev μ-loop : tie.MeasureT-loop
+μ-loop x p starts store from to place out₀ c₀ out c = x - c
+
+loop-holds : tie.Need-loop-holds Inv-loop μ-loop
+loop-holds c =
+    let e : min 0 (c .before .before .before .args .x) ≡ 0 = omega arith in
+    (omega arith, rw e (drawing-none _ _ _ (area-no-column _ _ _ _ 0)))
+
+start-requires : tie.Need-start-requires Inv-loop μ-loop
+start-requires c κs = search needs
+
+columns-from-requires : tie.Need-columns-from-requires Inv-loop μ-loop
+columns-from-requires c κs =
+    let h = c .before .before .before .before .before .before .before .pre in
+    (omega (arith, c .before .start .ensures), h .1, h .2, h .3, omega arith, h .5, omega arith)
+
+add-c : tie.Need-add-c Inv-loop μ-loop
+add-c c =
+    let a = c .before .before .before .before .before .before .before .before .before .before .args in
+    let b = block-in (a .x) (a .p) 0 0 (c .before .before .before .before .before .before .before .before .before .before .pre .0) (c .before .before .before .before .before .before .before .before .before .before .pre .1) in
+    omega arith
+
+loop-less : tie.Need-loop-less Inv-loop μ-loop
+loop-less c = search needs
+
+loop-again : tie.Need-loop-again Inv-loop μ-loop
+loop-again c =
+    let a = c .before .before .before .before .before .before .before .before .before .before .args in
+    let l : ℕ = min (a .from) (a .p - 8) in
+    let r = c .before .before .before .before .start .result in
+    let i = c .before .before .before .before .before .before .loop .c in
+    let e = c .before .before .before .before .start .ensures in (
+      omega arith,
+      columns-more (a .x) (a .place) (startedByte (a .starts .now) (a .store .now)) l (a .to - l) (min i (a .x)) r 8 (min (i + 8) (a .x)) _ (omega arith) (omega arith) (omega arith) (c .before .before .before .before .before .before .loop .inv .1) (c .before .before .columns-from .ensures),
+    )
+
+same-length : tie.Need-same-length Inv-loop μ-loop
+same-length c = c .before .loop .inv .1 .len
+
+returns : tie.Need-returns Inv-loop μ-loop
+returns c =
+    let e : min (c .before .loop .c) (c .before .before .before .before .before .args .x) ≡ c .before .before .before .before .before .args .x = omega arith in
+    (rw e at (c .before .loop .inv .1)) .is
+
+pub tile-from-spec : {M : Type 1} → statement M
+tile-from-spec =
+    tie.close
+    (tie.spec
+    Inv-loop
+    μ-loop
+    loop-holds
+    start-requires
+    columns-from-requires
+    add-c
+    loop-less
+    loop-again
+    same-length
+    returns)

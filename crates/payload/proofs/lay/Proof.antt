@@ -1,0 +1,26 @@
+use native.Mathlib.Omega.{arith}
+use borrow.Author.Needs.{needs}
+use Rattle.payload.proofs.Copies.{laid-in, laid-none}
+use Rattle.payload.proofs.lay.Statement.{statement}
+use Rattle.payload.proofs.lay.Tie as tie
+
+sub-if2 : tie.Need-sub-if2
+sub-if2 c = search needs
+
+run-requires : tie.Need-run-requires
+run-requires c κs = search needs
+
+same-length : tie.Need-same-length
+same-length c = search needs
+
+returns : tie.Need-returns
+returns c = let a = c .before .before .before .before .before .before .before .before .args in laid-in (a .from .now) (a .place) (a .to .now) _ (omega arith) (c .before .before .run .ensures)
+
+returns-2 : tie.Need-returns-2
+returns-2 c = let a = c .before .before .before .before .args in laid-none (a .from .now) (a .place) (a .to .now) (omega arith)
+
+returns-3 : tie.Need-returns-3
+returns-3 c = let a = c .before .before .before .args in laid-none (a .from .now) (a .place) (a .to .now) (omega arith)
+
+pub lay-spec : {M : Type 1} → statement M
+lay-spec = tie.close (tie.spec sub-if2 run-requires same-length returns returns-2 returns-3)
