@@ -1,10 +1,11 @@
 -- A flag byte, set or not.
-use mathlib.Core.Path.{_≡_, refl, sym, ap, _∙_}
+use mathlib.Core.Path.{_≡_, refl, sym, _∙_}
 use mathlib.Core.Logic.{_≢_, _⊎_, inl, inr}
-use mathlib.Core.Bool.{Bool, true, false, cond, not, true≢false, false≢true}
-use Prim.Native.Nat.{ℕ}
+use mathlib.Core.Bool.{Bool, true, false, cond, false≢true, true≢false}
+use Prim.Native.Nat.{ℕ, _≤_}
+use native.Mathlib.Omega.{arith}
 use lib.Dec.{eqb}
-use borrow.Author.Tests.{eq-eqb, ne-eqb, eqb-true, eqb-false, not-true, not-false}
+use borrow.Author.Tests.{ne-eqb, eqb-true, eqb-false, not-true, not-false}
 use Rattle.step.specs.Arrival.{flagOf}
 
 pub flag-off : (b : ℕ) → flagOf b ≡ false → b ≡ 0
@@ -18,6 +19,13 @@ off-flag b e = rw e
 
 pub on-flag : (b : ℕ) → b ≢ 0 → flagOf b ≡ true
 on-flag b e = rw (ne-eqb b 0 e)
+
+pub flag-le : (b : Bool) → cond b 1 0 ≤ 1
+flag-le true = omega arith
+flag-le false = omega arith
+
+pub never : {A : Type 0} → false ≡ true → A
+never e = absurd (false≢true e)
 
 -- a test, true or false
 pub true-or-false : (b : Bool) → (b ≡ true) ⊎ (b ≡ false)

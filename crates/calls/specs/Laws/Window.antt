@@ -1,12 +1,12 @@
 -- Tags about the window's first frame.
-use mathlib.Core.Path.{_≡_, refl, sym, ap, _∙_}
+use mathlib.Core.Path.{_≡_, sym, _∙_}
 use mathlib.Core.Logic.{_⊎_, inl, inr, ⊎-elim, _≢_}
-use mathlib.Core.Bool.{Bool, true, false, _||_, _&&_}
+use mathlib.Core.Bool.{true, false, _||_}
 use Prim.Native.Nat.{ℕ, _+_, _-_, _*_, _/_, _%_, _≤_, _<_}
 use native.Mathlib.Nat.{mod-mod, mod-add-mod, add-mod-right, mod-eq-of-lt}
 use native.Mathlib.Omega.{arith}
-use lib.Dec.{eqb, leb, ltb}
-use borrow.Author.Tests.{eqb-true, eqb-false, eq-eqb, ne-eqb, leb-true, leb-false, le-leb, lt-leb}
+use lib.Dec.{eqb, leb}
+use borrow.Author.Tests.{eqb-true, eqb-false, eq-eqb, ne-eqb, leb-true, le-leb, lt-leb}
 use Rattle.ground.specs.Circle.{after, after-leads, after-only}
 use Rattle.ground.specs.Truth.{eq-or-ne, le-or-lt}
 use Rattle.packet.specs.Kinds.{distanceOf, endsEpoch, epochAfter, epochOf, epochs, epochsIn, firstTag, frames, lead, placeOf, startsEpoch, tagAfter, tagBefore, tags}
@@ -134,6 +134,14 @@ none-ended kind i d h z l = lt-leb (16 * i + 16) (d + 1) (omega arith)
 pub frames-some : (kind : ℕ) → 1 < frames kind
 unfolding frames
 frames-some kind = omega arith
+
+pub some-epochs : (kind : ℕ) → 0 < epochs kind
+unfolding epochs
+some-epochs kind = omega arith
+
+pub epoch-after-lt : (kind e : ℕ) → epochAfter kind e < epochs kind
+unfolding epochAfter epochs
+epoch-after-lt kind e = omega arith
 
 pub epochs-none : (kind : ℕ) → epochsIn kind 0 ≡ 0
 unfolding epochsIn frames epochs
