@@ -1,22 +1,19 @@
 -- The last sentence of demand 3: 'over the same tags, delays, first frames and port orders, client streams that differ in an epoch reported sure never come out alike'.
-use mathlib.Core.Path.{_≡_, refl, sym, ap, _∙_, subst}
-use mathlib.Core.Logic.{_⊎_, inl, inr, ⊎-elim, _≢_}
-use mathlib.Core.Bool.{Bool, true, false, cond}
+use mathlib.Core.Path.{_≡_, sym, ap, _∙_, subst}
+use mathlib.Core.Logic.{inl, inr, ⊎-elim, _≢_}
 use mathlib.Core.List.{List, [], _∷_, _++_, append-assoc}
-use Prim.Native.Nat.{ℕ, zero, suc, _+_, _-_, _*_, _/_, _≤_, _<_}
+use Prim.Native.Nat.{ℕ, suc, _+_, _*_, _/_, _≤_, _<_}
 use native.Mathlib.Omega.{arith}
 use lib.ListN.{length, length-append}
 use Rattle.ground.specs.Table.{tabulate}
 use Rattle.ground.specs.Truth.{eq-or-ne, le-or-lt}
 use Rattle.packet.specs.Kinds.{firstTag, frames}
 use Rattle.step.specs.Laws.Run.{startFrom}
-use Rattle.link.specs.Demand3.{FullyArrived, L, Reported, Stands, Time, begun, standing}
-use Rattle.link.specs.Demand3.Stands.{none-yet, reports}
+use Rattle.link.specs.Demand3.{FullyArrived, L, Reported, standing, Time}
 use Rattle.link.specs.History.{firstTagOf}
-use Rattle.link.specs.Judged.Apart.{EitherSure, never-alike, same-ports}
-use Rattle.link.specs.Link.{Alike, Assumed, Link, SameIn, expected, roadOf}
-use Rattle.link.specs.Moments.{Beginning, Foremost, NotAfter, Ready, nextAt, nx}
-use Rattle.link.specs.Road.{times}
+use Rattle.link.specs.Judged.Apart.{EitherSure, never-alike}
+use Rattle.link.specs.Link.{Alike, Assumed, expected, Link, roadOf, SameIn}
+use Rattle.link.specs.Moments.{Beginning, nextAt, NotAfter, nx, Ready}
 use Rattle.link.specs.Running.{Moment}
 use Rattle.link.specs.Transport.Times.{nx-is, rest-of}
 

@@ -1,7 +1,7 @@
 -- What comes together of an epoch, judged: a pure function of the frames' contents (01, 'Report of an epoch').
-use mathlib.Core.Bool.{true, false, cond}
+use mathlib.Core.Bool.{true, cond}
 use mathlib.Core.List.{List, [], _++_}
-use Prim.Native.Nat.{ℕ, zero, suc, _+_, _-_, _*_}
+use Prim.Native.Nat.{ℕ, zero, suc, _+_, _*_}
 use lib.Dec.{eqb}
 use lib.ListN.{getD, replicate}
 use Rattle.counting.specs.Each.{each}
@@ -14,6 +14,7 @@ use Rattle.packet.specs.Kinds.{epochOf, frames}
 use Rattle.packet.specs.Theorems.Tags.{tagOf}
 use Rattle.payload.specs.Order.{groupFrame}
 use Rattle.phases.specs.Ruling.{rulingOf}
+use Rattle.receiver.specs.Report.{noSeen}
 use Rattle.link.specs.Road.{Road}
 use Rattle.link.specs.Told.{Told}
 
@@ -31,9 +32,6 @@ module _ (r : Road) where
   seenAfter i p =
       let q = rulingOf (r .kind) (numberOf i) (packetOf i p) in
       record { whole = true; good = q .good; word = q .word; number = q .number; gid = q .gid; here = true }
-
-  abbrev pub noSeen : Seen
-  noSeen = record { whole = false; good = false; word = 0; number = 0; gid = 0; here = false }
 
   unfoldable pub allSeenAfter : ℕ → List Seen
   allSeenAfter i = each (r .ports) (seenAfter i) (replicate 64 noSeen)

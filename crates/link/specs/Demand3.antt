@@ -2,7 +2,7 @@
 -- definitions frame by frame and fetches reports after each frame.
 use mathlib.Core.Path.{_≡_}
 use mathlib.Core.Logic.{_⊎_, _≢_}
-use mathlib.Core.List.{List, [], _∷_, _++_}
+use mathlib.Core.List.{List, [], _++_}
 use Prim.Native.Nat.{ℕ, suc, _+_, _-_, _*_, _/_, _≤_, _<_}
 use lib.ListN.{getD, length, replicate}
 use Rattle.ground.specs.Table.{tabulate}
@@ -11,9 +11,9 @@ use Rattle.packet.specs.Kinds.{frames}
 use Rattle.receiver.specs.Fetch.{fetchAnswer}
 use Rattle.rows.specs.Group.{groupAt}
 use Rattle.rows.specs.Rows.{rowsFor}
-use Rattle.link.specs.Link.{Alike, Assumed, Link, SameIn, expected, roadOf}
-use Rattle.link.specs.Running.{Moment, fresh, recordAt, through}
-use Rattle.link.specs.Moments.{Beginning, Unready, nx, reached, says, saysThrough}
+use Rattle.link.specs.Link.{Alike, Assumed, expected, Link, roadOf, SameIn}
+use Rattle.link.specs.Moments.{Beginning, nx, reached, says, saysThrough, Unready}
+use Rattle.link.specs.Running.{fresh, Moment, recordAt, through}
 
 -- frames that an epoch has
 abbrev pub L : Link → ℕ

@@ -1,35 +1,32 @@
 -- Demand 3 holds of every link with what the minutes let be so.
-use mathlib.Core.Path.{_≡_, refl, sym, ap, subst, _∙_}
+use mathlib.Core.Path.{_≡_, sym, ap, subst, _∙_}
 use mathlib.Core.Logic.{_⊎_, _≢_}
-use mathlib.Core.List.{List, [], _∷_, _++_}
-use Prim.Native.Nat.{ℕ, zero, suc, _+_, _-_, _*_, _/_, _≤_, _<_}
+use mathlib.Core.List.{List, []}
+use Prim.Native.Nat.{ℕ, suc, _+_, _-_, _*_, _/_, _≤_, _<_}
 use native.Mathlib.Nat.{mul-le-mul-right}
 use native.Mathlib.Omega.{arith}
 use lib.ListN.{getD, length, replicate}
 use Rattle.ground.specs.Table.{length-tabulate, tabulate, tabulate-ext}
 use Rattle.judge.specs.Verdict.{SURE}
-use Rattle.packet.specs.Kinds.{frames}
 use Rattle.receiver.specs.Fetch.{fetchAnswer}
-use Rattle.rows.specs.Rows.{rowsFor}
-use Rattle.link.specs.Contents.{reportAfter}
-use Rattle.link.specs.Demand3.{Demand3, FullyArrived, L, NeverAlike, Reported, Stands, Started, Time, standing}
-use Rattle.link.specs.Demand3.Stands.{none-yet, reports}
 use Rattle.link.specs.Alike.{never}
+use Rattle.link.specs.Contents.{reportAfter}
+use Rattle.link.specs.Demand3.{Demand3, L, NeverAlike, Reported, standing, Stands, Started, Time}
+use Rattle.link.specs.Demand3.Stands.{none-yet, reports}
 use Rattle.link.specs.Judged.Apart.{same-ports}
 use Rattle.link.specs.Judged.Fairness.{fair}
 use Rattle.link.specs.Judged.Reports.{judged}
 use Rattle.link.specs.Laws.Numbers.{one-epoch}
-use Rattle.link.specs.Link.{Alike, Assumed, Link, SameIn, expected, roadOf}
-use Rattle.link.specs.Moments.{Unready, nx, reached}
-use Rattle.link.specs.Road.{Fair, Road}
-use Rattle.link.specs.Running.{Moment, fresh, recordAt, through}
-use Rattle.link.specs.Standing.{Before, First, Later, Owes}
+use Rattle.link.specs.Link.{Alike, Assumed, expected, Link, roadOf, SameIn}
+use Rattle.link.specs.Moments.{nx}
+use Rattle.link.specs.Running.{fresh, Moment, recordAt}
+use Rattle.link.specs.Standing.{Before}
 use Rattle.link.specs.Told.{Told}
 use Rattle.link.specs.Transport.Answers.{answers-are}
+use Rattle.link.specs.Transport.EachStep.{says, steps}
 use Rattle.link.specs.Transport.Fetches.{fetch-answered}
-use Rattle.link.specs.Transport.Proved.{says, steps}
 use Rattle.link.specs.Transport.Start.{start}
-use Rattle.link.specs.Transport.Times.{Phase, Steps, begun-by, phase}
+use Rattle.link.specs.Transport.Times.{begun-by, Phase, phase, Steps}
 use Rattle.link.specs.Transport.Times.Phase.{before, first, later}
 
 module _ (k : Link) (a : Assumed k) where

@@ -3,11 +3,12 @@
 use mathlib.Core.Path.{_≡_}
 use mathlib.Core.Bool.{true, cond}
 use mathlib.Core.List.{List, [], _∷_}
-use Prim.Native.Nat.{ℕ, _+_, _-_, _*_, _≤_, _<_}
+use Prim.Native.Nat.{ℕ, _+_, _*_, _≤_, _<_}
 use lib.Dec.{eqb}
 use lib.ListN.{length}
 use Rattle.packet.specs.Kinds.{frames, startsEpoch}
 use Rattle.phases.specs.Sizes.{sized}
+use Rattle.receiver.specs.Laws.Sizes.{Sizes, sizes-of}
 use Rattle.step.specs.Laws.Sent.{SentWith}
 
 pub record Road : Type 0 where
@@ -54,3 +55,6 @@ pub record Fair (r : Road) : Type 0 where
   pub room : (k : ℕ) → r .ports * frames (r .kind) * r .payload ≤ length (r .output k)
   -- position 0 starts an epoch
   pub starts : startsEpoch (r .kind) (r .offset) ≡ true
+
+pub sizes-in : (r : Road) → Fair r → Sizes (r .kind) (r .ports) (r .payload) (r .window)
+sizes-in r f = sizes-of (r .kind) (r .ports) (r .payload) (r .window) (f .sizes)

@@ -1,8 +1,8 @@
 -- What stands at each moment of a run (the invariant of demand 3). Everything of the receiver that matters is a function of how far each port has come and of the window's first position.
 use mathlib.Core.Path.{_≡_}
-use mathlib.Core.Bool.{Bool, true, false, cond}
-use mathlib.Core.List.{List, []}
-use Prim.Native.Nat.{ℕ, zero, suc, _+_, _-_, _*_, _≤_, _<_}
+use mathlib.Core.Bool.{false, cond}
+use mathlib.Core.List.{[]}
+use Prim.Native.Nat.{ℕ, suc, _+_, _-_, _*_, _≤_, _<_}
 use lib.Dec.{leb, ltb}
 use lib.ListN.{getD, length}
 use Rattle.ground.specs.Table.{tabulate}
@@ -14,8 +14,8 @@ use Rattle.rows.specs.Group.{groupAt}
 use Rattle.rows.specs.Packets.{marksAt, packetsAt}
 use Rattle.rows.specs.Rows.{rowsFor}
 use Rattle.rows.specs.Step.{stepAt}
-use Rattle.step.specs.declared.run.Run.{Run}
 use Rattle.step.specs.Arrival.{runOf}
+use Rattle.step.specs.declared.run.Run.{Run}
 use Rattle.step.specs.Laws.Run.{runAt, startFrom}
 use Rattle.store.specs.Laws.Marks.{Sixteen}
 use Rattle.store.specs.Laws.Stands.{Stands}

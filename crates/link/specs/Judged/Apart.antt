@@ -13,8 +13,8 @@ use Rattle.ground.specs.Truth.{eq-or-ne, le-or-lt}
 use Rattle.judge.specs.Verdict.{HELD, SURE}
 use Rattle.packet.specs.Kinds.{frames}
 use Rattle.link.specs.History.{Client, xAt}
-use Rattle.link.specs.Judged.Places.{epoch-in, frames-cancel}
-use Rattle.link.specs.Link.{Alike, Assumed, Link, SameIn, allAsSent, clientBytes, expected, framesOf}
+use Rattle.link.specs.Laws.Numbers.{epoch-in, frames-cancel}
+use Rattle.link.specs.Link.{Alike, allAsSent, Assumed, clientBytes, expected, framesOf, Link, SameIn}
 use Rattle.link.specs.Road.{Below, times}
 use Rattle.link.specs.Told.{Told}
 

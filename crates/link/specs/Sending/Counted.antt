@@ -8,14 +8,14 @@ use native.Mathlib.Omega.{arith}
 use lib.Dec.{eqb}
 use lib.ListN.{getD}
 use borrow.Author.Tests.{eq-eqb, ne-eqb}
-use Rattle.ground.specs.Truth.{and-true, or-left, or-right, eq-or-ne}
-use Rattle.packet.specs.declared.layout.Fields.{Fields}
+use Rattle.ground.specs.Truth.{and-true, eq-or-ne, or-left, or-right}
 use Rattle.packet.specs.Counts.{counts, nibbleIn, nibblePlace}
+use Rattle.packet.specs.declared.layout.Fields.{Fields}
 use Rattle.packet.specs.Kinds.{epochOf, epochs, firstTag, frames, lead, placeOf, tags}
 use Rattle.packet.specs.Layout.{dataOf, h4Of, nibblesOf, sealedOf}
 use Rattle.packet.specs.Theorems.Tags.{place-sent, tagOf}
 use Rattle.step.specs.Laws.Sent.{SentWith}
-use Rattle.link.specs.History.{Allowed, CountKept, History, epochAt, epochNumber, epochStart, fieldsSent, firstTagOf, packetSent, tagAt}
+use Rattle.link.specs.History.{Allowed, CountKept, epochAt, epochNumber, epochStart, fieldsSent, firstTagOf, History, packetSent, tagAt}
 use Rattle.link.specs.Sending.Packets.{fields-bounds, packet-epoch, packet-is}
 
 -- a test that is asked only where m is n

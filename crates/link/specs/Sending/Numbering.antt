@@ -4,18 +4,18 @@ use mathlib.Core.Bool.{Bool, true, false, _&&_, _||_}
 use Prim.Native.Nat.{ℕ, _≤_, _<_}
 use lib.Dec.{eqb}
 use borrow.Author.Tests.{eq-eqb, eqb-true}
-use Rattle.ground.specs.Truth.{and-true, and-left, and-right, or-left}
 use Rattle.counting.specs.Laws.Numbers.{count-ext}
 use Rattle.counting.specs.Laws.Ranks.{Apart, rank, rank-lt, ranked}
 use Rattle.counting.specs.Laws.Tests.{One}
 use Rattle.counting.specs.Words.{count}
+use Rattle.ground.specs.Truth.{and-left, and-right, and-true, or-left}
 use Rattle.packet.specs.Words.{DNU, EOS, NORM}
+use Rattle.sender.specs.Board.{highest, rowOf, wordOf}
 use Rattle.sender.specs.declared.board.Board.{Board}
 use Rattle.sender.specs.declared.board.Row.{Row}
 use Rattle.sender.specs.declared.table.State.{State}
-use Rattle.sender.specs.declared.table.State.the-variants.{Idle, Add, Active, Dnu}
+use Rattle.sender.specs.declared.table.State.the-variants.{Active, Add, Dnu, Idle}
 use Rattle.sender.specs.declared.table.Table.{Table}
-use Rattle.sender.specs.Board.{highest, rowOf, wordOf}
 use Rattle.sender.specs.Epochs.{packetFields}
 use Rattle.sender.specs.Laws.Carrying.{board-row, row-number}
 use Rattle.sender.specs.Laws.Numbered.{placed-member}

@@ -5,11 +5,11 @@ use Prim.Native.Nat.{ℕ, zero, suc, _<_}
 use native.Mathlib.Omega.{arith}
 use lib.Dec.{eqb, ltb}
 use borrow.Author.Tests.{eq-eqb, eqb-true}
-use Rattle.ground.specs.Truth.{and-true, and-left, and-right, same-test}
 use Rattle.counting.specs.Laws.Numbers.{count-ext}
 use Rattle.counting.specs.Laws.Ranks.{all-taken, count-taken, taken}
 use Rattle.counting.specs.Laws.Tests.{every-all, every-at, some-at, some-one}
 use Rattle.counting.specs.Words.{count, every, some}
+use Rattle.ground.specs.Truth.{and-left, and-right, and-true, same-test}
 use Rattle.link.specs.History.{Pairing}
 
 -- the port that a slot reaches

@@ -5,17 +5,17 @@ use Prim.Native.Nat.{ℕ, zero, suc, _≤_}
 use native.Mathlib.Omega.{arith}
 use lib.Dec.{eqb, ltb}
 use borrow.Author.Tests.{lt-ltb}
-use Rattle.ground.specs.Truth.{and-true}
 use Rattle.counting.specs.Laws.Numbers.{count-le}
 use Rattle.counting.specs.Laws.Ranks.{rank}
 use Rattle.counting.specs.Words.{count}
+use Rattle.ground.specs.Truth.{and-true}
 use Rattle.packet.specs.Words.{EOS, NORM}
 use Rattle.sender.specs.declared.board.Board.{Board}
 use Rattle.sender.specs.Epochs.{packetFields, rankIn, senderRun}
 use Rattle.sender.specs.Laws.Carrying.{board-size}
 use Rattle.sender.specs.Ranks.{carriersIn, carries, noRank, rankAt, rankOf, rowAt}
 use Rattle.sender.specs.Table.{sizeOf}
-use Rattle.sender.specs.Theorems.Epochs.{Shows, first-x, onTable, rules-next}
+use Rattle.sender.specs.Theorems.Epochs.{first-x, onTable, rules-next, Shows}
 use Rattle.link.specs.History.{Allowed, History, numberSent, senderAt, wordSent, xAt}
 use Rattle.link.specs.Sending.Senders.{left, sender-at-sound, size-at}
 

@@ -1,23 +1,21 @@
 -- The answers of all frames: 'every frame answered 0 or 12, 12 only before step'.
 use mathlib.Core.Path.{_≡_, refl, sym, ap, _∙_}
 use mathlib.Core.Logic.{⊎-elim}
-use mathlib.Core.Bool.{Bool, true, false, cond}
 use mathlib.Core.List.{List, [], _∷_, _++_, append-nil, append-assoc}
 use Prim.Native.Nat.{ℕ, zero, suc, _+_, _-_, _*_, _/_, _≤_, _<_}
 use native.Mathlib.Omega.{arith}
-use lib.Dec.{leb}
 use borrow.Author.Tests.{le-leb, lt-leb}
 use Rattle.ground.specs.Truth.{le-or-lt}
 use Rattle.packet.specs.Kinds.{frames}
 use Rattle.step.specs.Laws.Run.{startFrom}
 use Rattle.link.specs.Moments.{nx, reached, said, says, saysOne, saysThrough}
 use Rattle.link.specs.Road.{Fair, Road}
-use Rattle.link.specs.Running.{Moment, drained, framed, through, turn, turns}
+use Rattle.link.specs.Running.{framed, Moment, through, turn, turns}
 use Rattle.link.specs.Standing.{Before, First, Later, Owes}
 use Rattle.link.specs.Transport.Fetches.{drained-answers}
 use Rattle.link.specs.Transport.Moments.{Rest, rest-all, rest-tail, served-at}
 use Rattle.link.specs.Transport.Steps.{Reach, Served}
-use Rattle.link.specs.Transport.Times.{Phase, Steps, nx-is, phase, reach-nx, served-nx, turns-more, no-frame}
+use Rattle.link.specs.Transport.Times.{nx-is, Phase, phase, reach-nx, served-nx, Steps, turns-more}
 use Rattle.link.specs.Transport.Times.Phase.{before, first, later}
 
 module _ (r : Road) where

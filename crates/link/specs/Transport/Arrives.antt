@@ -16,16 +16,15 @@ use Rattle.rows.specs.declared.step.Step.{Step}
 use Rattle.rows.specs.Group.{groupAt}
 use Rattle.rows.specs.Packets.{marksAt}
 use Rattle.rows.specs.Step.{stepAt}
+use Rattle.step.specs.Arrival.{aside, distanceIn, flagOf, joining, keeps, takenOf}
 use Rattle.step.specs.declared.arrival.Taken.{Taken}
 use Rattle.step.specs.declared.run.Run.{Run}
-use Rattle.step.specs.Arrival.{aside, distanceIn, flagOf, joining, keeps, takenOf}
 use Rattle.step.specs.Laws.Arrival.{inWindow, ranOn, stepped, taken-joins, taken-keeps, taken-waits}
 use Rattle.step.specs.Run.{inStepAt}
-use Rattle.store.specs.Laws.Marks.{Sixteen, mark-cut, mark-marked, sixteen-cut, sixteen-marked}
-use Rattle.store.specs.Marks.{cutFrom, markIn, markedAt}
-use Rattle.link.specs.Laws.Epochs.{behind-far, ends-else, ends-first, ends-last, first-in, none-in, same-epoch, starts-each}
-use Rattle.link.specs.Laws.Numbers.{frames-many, frames-two, ranges}
-use Rattle.link.specs.Road.{Fair, Road}
+use Rattle.store.specs.Laws.Marks.{mark-cut, mark-marked, Sixteen, sixteen-cut, sixteen-marked}
+use Rattle.store.specs.Marks.{cutFrom, markedAt, markIn}
+use Rattle.link.specs.Laws.Numbers.{behind-far, ends-else, ends-first, ends-last, first-in, frames-many, frames-two, none-in, same-epoch, starts-each}
+use Rattle.link.specs.Road.{Fair, Road, sizes-in}
 use Rattle.link.specs.Running.{Moment}
 use Rattle.link.specs.Standing.{Heard, L, Open}
 use Rattle.link.specs.Transport.Heard.{heard-aside, heard-in-step, heard-joining, heard-keeps, heard-next}
@@ -102,7 +101,7 @@ module _ (r : Road) (fair : Fair r) (m : Moment) (nx : ℕ → ℕ) (i : ℕ) (o
 
   near-tag : i * L r ≤ nx p → nx p - i * L r < tags (r .kind)
   near-tag low =
-      let q = ranges (r .kind) (r .ports) (r .payload) (r .window) (fair .sizes) in
+      let q = sizes-in r fair in
       let half = q .round in
       omega arith
 
@@ -218,7 +217,7 @@ module _ (r : Road) (fair : Fair r) (m : Moment) (nx : ℕ → ℕ) (i : ℕ) (o
 
   window-out : nx p < i * L r → inWindow g s ≡ false
   window-out early =
-      let q = ranges (r .kind) (r .ports) (r .payload) (r .window) (fair .sizes) in
+      let q = sizes-in r fair in
       let w = o .behind p b in
       rw (distance-now, o .lined .window-is)
       (le-ltb _ (r .window) (behind-far (r .kind) (r .offset + nx p) (r .offset + i * L r) (r .window) (omega arith) (omega arith) (q .round)))

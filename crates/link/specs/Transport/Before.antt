@@ -1,7 +1,7 @@
 -- Frames before the beginning, and the beginning itself.
 use mathlib.Core.Path.{_≡_, refl, _∙_, sym, ap}
 use mathlib.Core.Logic.{⊎-elim, _≢_}
-use mathlib.Core.Bool.{Bool, true, false, cond, not, _||_, true≢false}
+use mathlib.Core.Bool.{Bool, true, false, cond, _||_, true≢false}
 use mathlib.Core.List.{List, [], _∷_, _++_}
 use Prim.Native.Nat.{ℕ, zero, suc, _+_, _-_, _*_, _/_, _≤_, _<_}
 use native.Mathlib.Omega.{arith}
@@ -19,27 +19,28 @@ use Rattle.phases.specs.Settling.{begunOf, clearedStep, settledOf}
 use Rattle.phases.specs.Theorems.Arc.{Arc, complete, sound}
 use Rattle.phases.specs.Theorems.Settled.{settled-begins, settled-stays}
 use Rattle.receiver.specs.Frame.{portRows, settledBy, storeBy, takenIn}
+use Rattle.receiver.specs.Laws.Frames.{frame-group, frame-step, frame-step-other, length-frame}
+use Rattle.receiver.specs.Laws.Sizes.{Sizes}
 use Rattle.rows.specs.declared.group.Group.{Group}
 use Rattle.rows.specs.declared.step.Step.{Step}
 use Rattle.rows.specs.Group.{groupAt}
 use Rattle.rows.specs.Packets.{marksAt}
 use Rattle.rows.specs.Rows.{rowsFor}
 use Rattle.rows.specs.Step.{stepAt}
-use Rattle.step.specs.declared.arrival.Taken.{Taken}
 use Rattle.step.specs.Arrival.{aside, countsOn, flagOf, inStep, takenOf}
+use Rattle.step.specs.declared.arrival.Taken.{Taken}
 use Rattle.step.specs.Laws.Arrival.{ranOn, stepped, taken-aside, taken-counts}
 use Rattle.step.specs.Run.{inStepAt}
 use Rattle.store.specs.Laws.Marks.{mark-none, sixteen-none}
-use Rattle.link.specs.Laws.Epochs.{behind-far}
-use Rattle.link.specs.Laws.Numbers.{epoch-after-le, epoch-after-lt, epoch-after-tag, frames-many, frames-run, frames-some, frames-two, Ranges, ranges, tag-before}
+use Rattle.link.specs.Laws.Numbers.{behind-far, epoch-after-le, epoch-after-lt, epoch-after-tag, frames-many, frames-run, frames-some, frames-two, tag-before}
 use Rattle.link.specs.Moments.{Foremost}
-use Rattle.link.specs.Road.{Fair, Road}
-use Rattle.link.specs.Running.{Moment, framed}
+use Rattle.link.specs.Road.{Fair, Road, sizes-in}
+use Rattle.link.specs.Running.{framed, Moment}
 use Rattle.link.specs.Standing.{Before, First, Heard, Lined, Open}
-use Rattle.link.specs.Transport.Call.{framed-is, group-port-rows, length-port-rows, step-port-other, step-port-rows}
+use Rattle.link.specs.Transport.Call.{framed-is}
 use Rattle.link.specs.Transport.Heard.{from-first, heard-aside, heard-counts, heard-in-step, heard-next, heard-short, heard-test, runFrom}
 use Rattle.link.specs.Transport.Steps.{Apart, Begun?, Served}
-use Rattle.link.specs.Transport.Steps.Begun?.{stays, comes}
+use Rattle.link.specs.Transport.Steps.Begun?.{comes, stays}
 
 -- one of the first n numbers at which f is greatest
 record Greatest (f : ℕ → ℕ) (n : ℕ) : Type 0 where
@@ -109,8 +110,8 @@ module _ (r : Road) where
   InStep p x = runFrom r p + frames (r .kind) * 2 ≤ x
 
 module _ (r : Road) (f : Fair r) where
-  sizes : Ranges (r .kind) (r .ports) (r .payload) (r .window)
-  sizes = ranges (r .kind) (r .ports) (r .payload) (r .window) (f .sizes)
+  sizes : Sizes (r .kind) (r .ports) (r .payload) (r .window)
+  sizes = sizes-in r f
 
   -- Ports in step, as the receiver's own tests see them.
   module _ (m : Moment) (nx : ℕ → ℕ) (o : Lined r m nx) where
@@ -411,11 +412,11 @@ module _ (r : Road) (f : Fair r) where
 
     then-long : length rows-then ≡ rowsFor (r .ports)
     unfolding rows-then
-    then-long = length-port-rows (r .kind) (m .rows) p taken (r .h4 p (nx p)) ∙ o .lined .rows-long
+    then-long = length-frame (r .kind) (m .rows) p taken (r .h4 p (nx p)) ∙ o .lined .rows-long
 
     then-group : groupAt rows-then ≡ groupAt (m .rows)
     unfolding rows-then
-    then-group = group-port-rows (r .kind) (m .rows) p taken (r .h4 p (nx p))
+    then-group = frame-group (r .kind) (m .rows) p taken (r .h4 p (nx p))
 
     module _ (nx′ : ℕ → ℕ) (next : nx′ p ≡ nx p + 1) (others : (q : ℕ) → q ≢ p → nx′ q ≡ nx q) where
       then-heard : (q : ℕ) → q < r .ports → Heard r q (nx′ q) (stepAt rows-then q)
@@ -423,8 +424,8 @@ module _ (r : Road) (f : Fair r) where
       then-heard q c =
           ⊎-elim
           (λ (e : q ≡ p).
-          rw (e, next, step-port-rows (r .kind) (m .rows) p taken (r .h4 p (nx p)) (r .ports) b (rw (o .lined .rows-long) (omega arith))) (is-counted .heard))
-          (λ (d : q ≢ p). rw (others q d, step-port-other (r .kind) (m .rows) p taken (r .h4 p (nx p)) q d) (o .lined .heard q c))
+          rw (e, next, frame-step (r .kind) (m .rows) p taken (r .h4 p (nx p)) (r .ports) b (rw (o .lined .rows-long) (omega arith))) (is-counted .heard))
+          (λ (d : q ≢ p). rw (others q d, frame-step-other (r .kind) (m .rows) p taken (r .h4 p (nx p)) q d) (o .lined .heard q c))
           (eq-or-ne q p)
 
       module _ (answers : List ℕ) where

@@ -18,8 +18,7 @@ use Rattle.step.specs.Arrival.{flagOf, inStep, readable}
 use Rattle.store.specs.Laws.Marks.{first-mark}
 use Rattle.store.specs.Marks.{firstMark}
 use Rattle.link.specs.Laws.Lists.{every-lacks}
-use Rattle.link.specs.Laws.Numbers.{ranges}
-use Rattle.link.specs.Road.{Fair, Road}
+use Rattle.link.specs.Road.{Fair, Road, sizes-in}
 use Rattle.link.specs.Running.{Moment}
 use Rattle.link.specs.Standing.{L, Open, Owes}
 use Rattle.link.specs.Transport.Heard.{heard-in-step}
@@ -73,5 +72,5 @@ module _ (r : Road) (fair : Fair r) (m : Moment) (nx : ℕ → ℕ) (i : ℕ) (o
   pub not-silent : silent (groupAt (m .rows)) (m .rows) (r .ports) ≡ false
   unfolding silent
   not-silent =
-      let s = ranges (r .kind) (r .ports) (r .payload) (r .window) (fair .sizes) in
+      let s = sizes-in r fair in
       every-fails (r .ports) _ 0 (s .some-ports) (rw (all-read 0 (s .some-ports)) refl)

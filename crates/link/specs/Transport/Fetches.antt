@@ -7,49 +7,40 @@ use Prim.Native.Nat.{ℕ, zero, suc, _+_, _-_, _*_, _/_, _%_, _≤_, _<_}
 use native.Mathlib.Omega.{arith}
 use lib.Dec.{eqb, ltb}
 use lib.ListN.{getD, length, replicate, take}
-use borrow.Author.Tests.{eq-eqb, le-leb, lt-ltb, ltb-false, ltb-true, ne-eqb}
+use borrow.Author.Tests.{eq-eqb, le-leb, lt-ltb, ltb-true, ne-eqb}
 use Rattle.ground.specs.Drawn.{drawn-by}
 use Rattle.ground.specs.Table.{tabulate, tabulate-suc}
 use Rattle.judge.specs.declared.order.Order.{Order}
 use Rattle.judge.specs.declared.seen.Seen.{Seen}
 use Rattle.judge.specs.Order.{orderOf}
-use Rattle.judge.specs.Seen.{sizeOf}
 use Rattle.judge.specs.Theorems.Ranks.{active-le}
-use Rattle.judge.specs.Verdict.{HELD, doubtfulBy, heldBy, judgeOf}
+use Rattle.judge.specs.Verdict.{doubtfulBy, HELD, heldBy, judgeOf}
 use Rattle.packet.specs.Kinds.{frames}
 use Rattle.phases.specs.Due.{brought}
 use Rattle.phases.specs.Laws.Lengths.{length-passed}
 use Rattle.phases.specs.Passing.{passedOf}
 use Rattle.phases.specs.Sizes.{storeFor}
-use Rattle.receiver.specs.Fetch.{dueIn, fetchOut, fetchRecord, fetchRows, fits, givenOut, givenReport, givenRows, recordOf, fetchAnswer}
+use Rattle.receiver.specs.Fetch.{dueIn, fetchAnswer, fetchOut, fetchRecord, fetchRows, fits, givenOut, givenReport, givenRows, recordOf}
+use Rattle.receiver.specs.Laws.Sizes.{size-is}
 use Rattle.receiver.specs.Lengths.{fetchFits, outputFor, rowsFit}
-use Rattle.receiver.specs.Report.{framesInto, outputBy, outputOf, reportBy, reportOf, reportedOf, rulingEpoch, seenAll, seenOf, toldOf}
+use Rattle.receiver.specs.Report.{framesInto, noSeen, outputBy, outputOf, reportBy, reportedOf, reportOf, rulingEpoch, seenAll, seenOf, toldOf}
 use Rattle.rows.specs.declared.group.Group.{Group}
 use Rattle.rows.specs.Group.{groupAt}
 use Rattle.rows.specs.Rows.{rowsFor}
 use Rattle.store.specs.Laws.Stands.{Stands}
-use Rattle.link.specs.Contents.{allSeenAfter, framesFrom, noSeen, numberOf, reportAfter, seenAfter}
-use Rattle.link.specs.Laws.Epochs.{count-fits, epoch-before, epoch-first}
-use Rattle.link.specs.Laws.Numbers.{ranges}
-use Rattle.link.specs.Road.{Fair, Road}
-use Rattle.link.specs.Running.{Moment, drained, fetched, recordAt, toldBy}
+use Rattle.link.specs.Contents.{allSeenAfter, framesFrom, numberOf, reportAfter, seenAfter}
+use Rattle.link.specs.Laws.Numbers.{count-fits, epoch-before, epoch-first}
+use Rattle.link.specs.Road.{Fair, Road, sizes-in}
+use Rattle.link.specs.Running.{drained, fetched, Moment, recordAt, toldBy}
 use Rattle.link.specs.Standing.{L, Later, Lined, Owes}
 use Rattle.link.specs.Told.{Told}
-use Rattle.link.specs.Transport.Alike.{alike-told, gathered-told, open-alike, packets-told}
 use Rattle.link.specs.Transport.Bytes.{frames-taken}
 use Rattle.link.specs.Transport.Call.{ports-are}
 use Rattle.link.specs.Transport.Due.{AllCome, brought-all, brought-not, first-all, owes-or-come}
 use Rattle.link.specs.Transport.Passed.{gathered-now, joined-kept, open-passed, passed-to, ruling-now, whole-now}
+use Rattle.link.specs.Transport.StaysOpen.{gathered-told, open-stays, ruling-told, window-told}
 
 -- The numbers of a report.
-
--- of 64 ports at most
-size-is : (n : ℕ) → n ≤ 64 → sizeOf n ≡ n
-size-is n h = go (ltb n 64) refl
-  where
-    go : (b : Bool) → ltb n 64 ≡ b → cond b n 64 ≡ n
-    go true e = refl
-    go false e = let w = ltb-false n 64 e in omega arith
 
 by-bytes : (a b c d m q n : ℕ) → n ≡ m * 256 + d → m ≡ q * 256 + c → q ≡ a * 256 + b → a * 16777216 + b * 65536 + c * 256 + d ≡ n
 by-bytes a b c d m q n x y z = omega arith
@@ -121,7 +112,7 @@ module _ (r : Road) (fair : Fair r) where
 
   some-due : ltb 0 (r .ports) ≡ true
   some-due =
-      let s = ranges (r .kind) (r .ports) (r .payload) (r .window) (fair .sizes) in
+      let s = sizes-in r fair in
       lt-ltb 0 (r .ports) (s .some-ports)
 
   module _ (m : Moment) (nx : ℕ → ℕ) (j i : ℕ) (o : Later r m nx j i) where
@@ -156,13 +147,13 @@ module _ (r : Road) (fair : Fair r) where
       seen-one p b = rw (ruled-by, lined .kind-is, o .ruling p b, o .whole p b, first-all r fair m nx (suc i) (o .open-at) all p b) refl
 
       few : r .ports ≤ 64
-      few = ranges (r .kind) (r .ports) (r .payload) (r .window) (fair .sizes) .few-ports
+      few = sizes-in r fair .few-ports
 
       seen-is : seenAll g (m .rows) (r .ports) ≡ allSeenAfter r i
       unfolding seenAll allSeenAfter
       seen-is =
           rw (size-is (r .ports) few)
-          (drawn-by (λ k. ltb k (r .ports)) (λ k. ltb k (r .ports)) (seenOf g (m .rows)) (seenAfter r i) (replicate 64 (noSeen r)) (λ k b. refl)
+          (drawn-by (λ k. ltb k (r .ports)) (λ k. ltb k (r .ports)) (seenOf g (m .rows)) (seenAfter r i) (replicate 64 noSeen) (λ k b. refl)
           (λ k b t. seen-one k (ltb-true k (r .ports) t)))
 
       abbrev seen : List Seen
@@ -211,7 +202,7 @@ module _ (r : Road) (fair : Fair r) where
           go false = x-few
 
           most : g .payload ≤ 2340
-          most = rw (lined .payload-is) (ranges (r .kind) (r .ports) (r .payload) (r .window) (fair .sizes) .few-bytes)
+          most = rw (lined .payload-is) (sizes-in r fair .few-bytes)
 
       bytes-told : take (X * frames (g .kind) * g .payload) (outputBy g mark order (m .store) (outOf m nx lined)) ≡ reportAfter r i .bytes
       unfolding outputBy reportAfter
@@ -231,8 +222,8 @@ module _ (r : Road) (fair : Fair r) where
               let e : order .x * frames (g .kind) * g .payload ≡ frames (g .kind) * (order .x * g .payload) = omega arith in
               let same : frames (g .kind) ≡ L r = ap frames (lined .kind-is) in
               rw (e, same)
-              (frames-taken r fair g (lined .payload-is) (lined .window-is) (m .store) (lined .store-long) (suc i * L r) all-stand seen (outOf m nx lined)
-              (fair .room (length (m .told))) (L r) (omega arith))
+              (frames-taken r fair g (lined .kind-is) (lined .payload-is) (lined .window-is) (m .store) (lined .store-long) (suc i * L r) all-stand seen (outOf m nx lined)
+              (fair .room (length (m .told))))
 
       -- exactly the report that the contents give
       told-is : toldBy r (recordAt r m) (fetchOut (m .rows) (m .store) (outOf m nx lined) (replicate 8 0)) ≡ reportAfter r i
@@ -262,19 +253,19 @@ module _ (r : Road) (fair : Fair r) where
       pub later-fetched : Later r (fetched r m) nx j (suc i)
       later-fetched =
           let long : length (m .rows) ≡ rowsFor (r .ports) = lined .rows-long in
-          let some : 0 < length (mid .rows) = rw (length-passed g (m .store) (r .ports) (m .rows)) (omega arith) in
+          let enough : rowsFor (r .ports) ≤ length (mid .rows) = rw (length-passed g (m .store) (r .ports) (m .rows)) (omega arith) in
           let t = passed-to r m mid long refl refl in
           let here = o .open-at in
           let c = o .come in
-          let a = alike-told r mid (fetched r m) some rows-now store-now in
+          let a = window-told r mid (fetched r m) enough rows-now store-now in
           record {
-            open-at = open-alike r mid (fetched r m) nx (suc (suc i)) a (open-passed r fair m mid nx (suc i) here t all);
-            gathered = gathered-told r mid (fetched r m) some rows-now store-now ∙ gathered-now r fair m mid nx (suc i) here t all;
+            open-at = open-stays r mid (fetched r m) nx (suc (suc i)) a (open-passed r fair m mid nx (suc i) here t all);
+            gathered = gathered-told r mid (fetched r m) enough rows-now store-now ∙ gathered-now r fair m mid nx (suc i) here t all;
             come = omega arith;
             within = λ p b. let h = all p b in omega arith;
-            joined = λ p b. rw (a .steps p) (joined-kept r fair m mid nx (suc i) here t all p b ∙ o .joined p b);
-            whole = λ p b. rw (a .steps p) (whole-now r fair m mid nx (suc i) here t all p b);
-            ruling = λ p b. rw (packets-told r mid (fetched r m) some rows-now store-now p) (ruling-now r fair m mid nx (suc i) here t all p b);
+            joined = λ p b. rw (a .steps p b) (joined-kept r fair m mid nx (suc i) here t all p b ∙ o .joined p b);
+            whole = λ p b. rw (a .steps p b) (whole-now r fair m mid nx (suc i) here t all p b);
+            ruling = λ p b. rw (ruling-told r mid (fetched r m) enough rows-now store-now p b) (ruling-now r fair m mid nx (suc i) here t all p b);
             told = told-now;
           }
 

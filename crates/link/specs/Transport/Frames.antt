@@ -2,30 +2,27 @@
 use mathlib.Core.Path.{_≡_, refl, sym, ap, _∙_}
 use mathlib.Core.Logic.{_⊎_, inl, inr, ⊎-elim, _≢_}
 use mathlib.Core.Bool.{Bool, true, false, cond, false≢true}
-use mathlib.Core.List.{List, [], _∷_, _++_}
+use mathlib.Core.List.{[], _∷_, _++_}
 use Prim.Native.Nat.{ℕ, suc, _+_, _-_, _*_, _≤_, _<_}
 use native.Mathlib.Omega.{arith}
 use lib.Dec.{leb, ltb}
-use lib.ListN.{getD, length, set}
-use lib.Seq.{getD-set-other}
+use lib.ListN.{getD, length}
 use borrow.Author.Tests.{le-ltb, lt-ltb}
 use Rattle.ground.specs.Truth.{eq-or-ne, le-or-lt}
-use Rattle.packet.specs.Counts.{nibbleIn, nibblePlace}
 use Rattle.phases.specs.Passing.{passedOf}
 use Rattle.phases.specs.Settling.{settledOf}
 use Rattle.phases.specs.Theorems.Settled.{settled-gathers, settled-stays}
-use Rattle.receiver.specs.Frame.{gatheredBy, marksBy, portRows, settledBy, storeBy}
+use Rattle.receiver.specs.Frame.{marksBy, portRows, settledBy, storeBy}
+use Rattle.receiver.specs.Laws.Frames.{frame-group, frame-marks, frame-marks-other, frame-ruling, frame-step, frame-step-other, length-frame}
 use Rattle.rows.specs.declared.group.Group.{Group}
 use Rattle.rows.specs.declared.step.Step.{Step}
 use Rattle.rows.specs.Group.{groupAt}
-use Rattle.rows.specs.Laws.Lengths.{length-put-packets, length-put-step}
-use Rattle.rows.specs.Laws.Marks.{marks-put-other, marks-put-packets, marks-put-same, marks-put-step}
-use Rattle.rows.specs.Laws.Packets.{packets-put-marks, packets-put-other, packets-put-rows, packets-put-step}
-use Rattle.rows.specs.Packets.{marksAt, packetsAt, putPackets}
+use Rattle.rows.specs.Packets.{marksAt, packetsAt}
+use Rattle.rows.specs.Port.{portAt}
 use Rattle.rows.specs.Rows.{rowsFor}
-use Rattle.rows.specs.Step.{putStep, stepAt}
-use Rattle.step.specs.declared.arrival.Taken.{Taken}
+use Rattle.rows.specs.Step.{stepAt}
 use Rattle.step.specs.Arrival.{flagOf, takenOf}
+use Rattle.step.specs.declared.arrival.Taken.{Taken}
 use Rattle.step.specs.Laws.Run.{startFrom}
 use Rattle.store.specs.Frames.{placeIn, storedAt}
 use Rattle.store.specs.Laws.Marks.{Sixteen}
@@ -34,57 +31,15 @@ use Rattle.store.specs.Laws.Stored.{length-stored}
 use Rattle.store.specs.Marks.{markIn}
 use Rattle.link.specs.Laws.Numbers.{frames-two}
 use Rattle.link.specs.Road.{Fair, Road}
-use Rattle.link.specs.Running.{Moment, drained, framed}
+use Rattle.link.specs.Running.{drained, framed, Moment}
 use Rattle.link.specs.Standing.{First, Heard, L, Later, Open, Owes}
-use Rattle.link.specs.Transport.Arrives.{Goes, Joins, goes}
-use Rattle.link.specs.Transport.Call.{framed-is, group-port-rows, length-port-rows, step-port-other, step-port-rows}
+use Rattle.link.specs.Transport.Arrives.{Goes, goes, Joins}
+use Rattle.link.specs.Transport.Call.{framed-is}
 use Rattle.link.specs.Transport.Due.{AllCome, brought-all, brought-not, not-silent, owes-or-come}
 use Rattle.link.specs.Transport.Fetches.{later-drained}
-use Rattle.link.specs.Transport.Passed.{PassedTo, gathered-now, joined-kept, open-passed, passed-to, ruling-now, whole-now}
+use Rattle.link.specs.Transport.Passed.{gathered-now, joined-kept, open-passed, passed-to, PassedTo, ruling-now, whole-now}
 use Rattle.link.specs.Transport.Steps.{Gathered?, Reach, Served}
 use Rattle.link.specs.Transport.Steps.Gathered?.{gathers, waits}
-
--- The marks and the ruling packet in the rows of the port that had the frame.
-
-module _ (kind : ℕ) (s : List (List ℕ)) (i : ℕ) (t : Taken) (h : ℕ) where
-  abbrev stepPut : List (List ℕ)
-  stepPut = putStep s i (t .step)
-
-  abbrev pair : List (List ℕ)
-  pair = gatheredBy kind (packetsAt s i) (t .counted) h
-
-  marks-of-port : (n : ℕ) → i < n → rowsFor n ≤ length s → marksAt (portRows kind s i t h) i ≡ marksBy kind (marksAt s i) t
-  unfolding portRows
-  marks-of-port n b l =
-      marks-put-same (putPackets stepPut i pair) i (marksBy kind (marksAt s i) t) n b (rw (length-put-packets stepPut i pair, length-put-step s i (t .step)) l)
-
-  marks-of-other : (j : ℕ) → j ≢ i → marksAt (portRows kind s i t h) j ≡ marksAt s j
-  unfolding portRows
-  marks-of-other j d =
-      marks-put-other (putPackets stepPut i pair) i (marksBy kind (marksAt s i) t) j d ∙ marks-put-packets stepPut i pair j ∙ marks-put-step s i (t .step) j
-
-  pair-rules : getD pair 1 [] ≡ getD (packetsAt s i) 1 []
-  unfolding gatheredBy
-  pair-rules = go (t .counted)
-    where
-      new : List ℕ
-      new = set (getD (packetsAt s i) 0 []) (nibblePlace kind h) (nibbleIn kind h)
-
-      go : (b : Bool) → getD (cond b (set (packetsAt s i) 0 new) (packetsAt s i)) 1 [] ≡ getD (packetsAt s i) 1 []
-      go true = getD-set-other (packetsAt s i) 0 1 new [] (λ (e : 1 ≡ 0). omega arith)
-      go false = refl
-
-  packets-of : (j : ℕ) → packetsAt (portRows kind s i t h) j ≡ packetsAt (putPackets stepPut i pair) j
-  unfolding portRows
-  packets-of j = packets-put-marks (putPackets stepPut i pair) i (marksBy kind (marksAt s i) t) j
-
-  ruling-of : (n : ℕ) → i < n → rowsFor n ≤ length s → (j : ℕ) → getD (packetsAt (portRows kind s i t h) j) 1 [] ≡ getD (packetsAt s j) 1 []
-  ruling-of n b l j =
-      ⊎-elim
-      (λ (e : j ≡ i).
-      rw (e, packets-of i, packets-put-rows stepPut i pair n b (rw (length-put-step s i (t .step)) l)) pair-rules)
-      (λ (d : j ≢ i). rw (packets-of j, packets-put-other stepPut i pair j d, packets-put-step s i (t .step) j) refl)
-      (eq-or-ne j i)
 
 module _ (r : Road) (fair : Fair r) (m : Moment) (nx nx′ : ℕ → ℕ) (i : ℕ) (o : Open r m nx i) (p : ℕ) (f : Served r p nx nx′) (near : nx p < i * L r + r .window)
     (joins : Joins r m nx i p) where
@@ -120,22 +75,23 @@ module _ (r : Road) (fair : Fair r) (m : Moment) (nx nx′ : ℕ → ℕ) (i : �
   long = let e = o .lined .rows-long in omega arith
 
   pub group-after : groupAt (after .rows) ≡ g
-  group-after = group-port-rows (r .kind) (m .rows) p t h
+  group-after = frame-group (r .kind) (m .rows) p t h
 
   pub step-after : stepAt (after .rows) p ≡ t .step
-  step-after = step-port-rows (r .kind) (m .rows) p t h (r .ports) b long
+  step-after = frame-step (r .kind) (m .rows) p t h (r .ports) b long
 
   pub step-others : (q : ℕ) → q ≢ p → stepAt (after .rows) q ≡ stepAt (m .rows) q
-  step-others q d = step-port-other (r .kind) (m .rows) p t h q d
+  step-others q d = frame-step-other (r .kind) (m .rows) p t h q d
 
   marks-after : marksAt (after .rows) p ≡ marksBy (r .kind) (marksAt (m .rows) p) t
-  marks-after = marks-of-port (r .kind) (m .rows) p t h (r .ports) b long
+  marks-after = frame-marks (r .kind) (m .rows) p t h (r .ports) b long
 
   marks-others : (q : ℕ) → q ≢ p → marksAt (after .rows) q ≡ marksAt (m .rows) q
-  marks-others q d = marks-of-other (r .kind) (m .rows) p t h q d
+  marks-others q d = frame-marks-other (r .kind) (m .rows) p t h q d
 
   pub ruling-after : (q : ℕ) → getD (packetsAt (after .rows) q) 1 [] ≡ getD (packetsAt (m .rows) q) 1 []
-  ruling-after q = ruling-of (r .kind) (m .rows) p t h (r .ports) b long q
+  unfolding portAt
+  ruling-after q = frame-ruling (r .kind) (m .rows) p t h (r .ports) b long q
 
   -- of port p and of each other
   module _ (P : ℕ → Type 0) (here : P p) (there : (q : ℕ) → q < r .ports → q ≢ p → P q) where
@@ -210,7 +166,7 @@ module _ (r : Road) (fair : Fair r) (m : Moment) (nx nx′ : ℕ → ℕ) (i : �
   open-frame =
       record {
         lined = record {
-          rows-long = length-port-rows (r .kind) (m .rows) p t h ∙ o .lined .rows-long;
+          rows-long = length-frame (r .kind) (m .rows) p t h ∙ o .lined .rows-long;
           store-long = store-after ∙ o .lined .store-long;
           kind-is = rw group-after (o .lined .kind-is);
           count-is = rw group-after (o .lined .count-is);

@@ -11,9 +11,9 @@ use Rattle.packet.specs.Kinds.{epochsIn, frames}
 use Rattle.packet.specs.Theorems.Tags.{tagOf}
 use Rattle.rows.specs.declared.group.Group.{Group}
 use Rattle.rows.specs.declared.step.Step.{Step}
+use Rattle.step.specs.Arrival.{advanced, aside, countsOn, distanceIn, joinedAt, joining, keeps, lost, outside, runOf, takenOf}
 use Rattle.step.specs.declared.arrival.Taken.{Taken}
 use Rattle.step.specs.declared.run.Run.{Run}
-use Rattle.step.specs.Arrival.{advanced, aside, countsOn, distanceIn, joinedAt, joining, keeps, lost, outside, runOf, takenOf}
 use Rattle.step.specs.Laws.Arrival.{ranOn, taken-by}
 use Rattle.step.specs.Laws.Run.{run-goes, run-in-step, run-next, run-short, run-starts, runAt, start-from, startFrom}
 use Rattle.step.specs.Laws.Sent.{SentWith}

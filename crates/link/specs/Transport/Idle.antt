@@ -1,16 +1,15 @@
 -- Fetches that find none due: before the beginning, and while the first epoch is gathered.
-use mathlib.Core.Path.{_≡_, refl, _∙_, ap}
+use mathlib.Core.Path.{_≡_, refl}
 use mathlib.Core.Bool.{Bool, true, false, cond, not, _&&_, and-false}
 use mathlib.Core.List.{List}
-use Prim.Native.Nat.{ℕ, suc}
+use Prim.Native.Nat.{ℕ}
 use lib.Dec.{eqb, ltb}
 use lib.ListN.{getD, length, replicate}
 use borrow.Author.Tests.{eq-eqb}
-use Rattle.phases.specs.Due.{brought}
 use Rattle.phases.specs.Sizes.{portsIn}
-use Rattle.receiver.specs.Fetch.{dueIn, fetchRecord, fits, givenReport, noneDue, recordOf}
-use Rattle.rows.specs.Group.{groupAt}
+use Rattle.receiver.specs.Fetch.{dueIn, fetchRecord, fits, givenReport, recordOf}
 use Rattle.rows.specs.declared.group.Group.{Group}
+use Rattle.rows.specs.Group.{groupAt}
 use Rattle.link.specs.Road.{Road}
 use Rattle.link.specs.Running.{Moment, recordAt}
 use Rattle.link.specs.Standing.{Before, First}

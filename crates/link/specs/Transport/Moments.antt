@@ -1,5 +1,5 @@
 -- How far each port has come at a moment: in frame time t, with the ports of `rest` still to be served.
-use mathlib.Core.Path.{_≡_, refl, sym}
+use mathlib.Core.Path.{_≡_, refl}
 use mathlib.Core.Logic.{_≢_}
 use mathlib.Core.Bool.{Bool, true, false, cond}
 use mathlib.Core.List.{List, [], _∷_}
@@ -7,7 +7,6 @@ use Prim.Native.Nat.{ℕ, suc, _+_, _-_, _≤_, _<_}
 use native.Mathlib.Omega.{arith}
 use lib.Dec.{eqb}
 use borrow.Author.Tests.{eq-eqb, ne-eqb, eqb-true}
-use Rattle.packet.specs.Kinds.{frames}
 use Rattle.link.specs.Moments.{nextAt}
 use Rattle.link.specs.Road.{Below, Fair, Road, times}
 use Rattle.link.specs.Transport.Steps.{Apart, Reach, Served}

@@ -1,7 +1,7 @@
 -- What one frame and one fetch do to what stands.
 use mathlib.Core.Path.{_≡_}
 use mathlib.Core.Logic.{_≢_}
-use Prim.Native.Nat.{ℕ, suc, _+_, _*_, _/_, _≤_, _<_}
+use Prim.Native.Nat.{ℕ, suc, _+_, _/_, _≤_, _<_}
 use Rattle.packet.specs.Kinds.{frames}
 use Rattle.link.specs.Moments.{Foremost, Ready}
 use Rattle.link.specs.Road.{Road}

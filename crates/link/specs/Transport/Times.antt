@@ -6,24 +6,24 @@ use mathlib.Core.List.{List, [], _∷_, _++_, append-nil, append-assoc, tail}
 use Prim.Native.Nat.{ℕ, zero, suc, _+_, _-_, _*_, _/_, _≤_, _<_}
 use native.Mathlib.Nat.{not-suc-le-zero}
 use native.Mathlib.Omega.{arith}
-use lib.Dec.{eqb, leb, ltb}
+use lib.Dec.{ltb}
 use lib.ListN.{getD, length, length-append}
-use borrow.Author.Tests.{lt-ltb, le-ltb, eq-eqb, ne-eqb, le-leb, lt-leb, leb-true, leb-false, ltb-true, ltb-false}
+use borrow.Author.Tests.{lt-ltb, eq-eqb, ne-eqb, le-leb, lt-leb, ltb-true}
 use Rattle.ground.specs.Truth.{eq-or-ne, le-or-lt}
 use Rattle.packet.specs.Kinds.{frames}
 use Rattle.phases.specs.Beginning.{begins}
+use Rattle.receiver.specs.Laws.Sizes.{window-some}
 use Rattle.rows.specs.Group.{groupAt}
 use Rattle.step.specs.Laws.Run.{start-from, startFrom}
-use Rattle.rows.specs.Rows.{rowsFor}
-use Rattle.link.specs.Laws.Numbers.{frames-some, one-epoch, ranges, window-positive}
-use Rattle.link.specs.Moments.{Beginning, Foremost, NotAfter, Ready, Unready, nextAt, nx, reached}
-use Rattle.link.specs.Road.{Below, Fair, Road, times}
-use Rattle.link.specs.Running.{Moment, drained, fetched, framed, fresh, recordAt, through, turn, turns}
+use Rattle.link.specs.Laws.Numbers.{frames-some, one-epoch}
+use Rattle.link.specs.Moments.{Beginning, nextAt, nx, reached, Ready, Unready}
+use Rattle.link.specs.Road.{Fair, Road, sizes-in}
+use Rattle.link.specs.Running.{drained, fetched, framed, Moment, recordAt, through, turn, turns}
 use Rattle.link.specs.Standing.{Before, First, Later, Lined, Owes}
-use Rattle.link.specs.Transport.Moments.{Rest, apart, next-time, reach, rest-all, rest-tail, served, served-at, unserved}
+use Rattle.link.specs.Transport.Moments.{apart, next-time, reach, Rest, rest-all, rest-tail, served, served-at, unserved}
 use Rattle.link.specs.Transport.Steps.{Apart, Begun?, Gathered?, Reach, Served}
-use Rattle.link.specs.Transport.Steps.Begun?.{stays, comes}
-use Rattle.link.specs.Transport.Steps.Gathered?.{waits, gathers}
+use Rattle.link.specs.Transport.Steps.Begun?.{comes, stays}
+use Rattle.link.specs.Transport.Steps.Gathered?.{gathers, waits}
 
 module _ (r : Road) where
   abbrev markNext : Moment → ℕ
@@ -145,7 +145,7 @@ module _ (r : Road) where
   unready-first f u earlier rest e na y =
       ⊎-elim (λ (h : u < zero). absurd (not-suc-le-zero h))
       (λ (h : (u ≡ zero) × (length earlier ≤ zero)).
-      let n : 1 ≤ r .ports = ranges (r .kind) (r .ports) (r .payload) (r .window) (f .sizes) .some-ports in
+      let n : 1 ≤ r .ports = sizes-in r f .some-ports in
       let l = frames-some (r .kind) in
       let from = start-from (r .kind) (r .offset) (r .first zero) .from in
       let i : rest ≡ r .order u = rest-of [] rest [] (r .order u) (sym (starts-with earlier rest (r .order u) (sym e) (h .1))) refl in
@@ -282,7 +282,7 @@ module _ (r : Road) where
                     as-phase (fetched r there) (one-turn ∙ drained-wide (r .window) there wide (l .0) e) (later F (suc i) b (l .1) v)
 
       wide : 0 < r .window
-      wide = window-positive (r .kind) (r .ports) (r .payload) (r .window) (f .sizes)
+      wide = window-some (r .kind) (r .ports) (r .payload) (r .window) (sizes-in r f)
 
       -- one port's turn, with or without a frame
       turned : (t p : ℕ) (done ps : List ℕ) → r .order t ≡ done ++ (p ∷ ps) → Rest r (p ∷ ps) → Phase t done (reached r m₀ t done) (nx r t (p ∷ ps))
