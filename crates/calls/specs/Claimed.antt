@@ -6,9 +6,9 @@ use mathlib.Core.List.{List, [], _∷_}
 use Prim.Native.Nat.{ℕ, _+_, _/_, _%_, _≤_, _<_}
 use native.Mathlib.Omega.{arith}
 use lib.ListN.{getD, length, replicate}
-use Rattle.calls.specs.Arriving.{after-group, Counts, frame-by, portAfter, storeAfter}
+use Rattle.calls.specs.Arriving.{Counts, after-group, frame-by, portAfter, storeAfter}
 use Rattle.calls.specs.Calls.{Fetch, Frame, Receiver, ReceiverCall, receiverRun, receiverStep, startedWith, step-kept}
-use Rattle.calls.specs.Claims.{Claims, claims-inside, New, Old, Part, passed-claims, taken-claims, taken-inside}
+use Rattle.calls.specs.Claims.{Claims, New, Old, Part, claims-inside, passed-claims, taken-claims, taken-inside}
 use Rattle.calls.specs.Kept.Calls.{Due, due-says}
 use Rattle.calls.specs.Kept.Group.{Kept, Steady}
 use Rattle.calls.specs.Kept.Port.{PortKept, Windowed}

@@ -8,7 +8,7 @@ use native.Mathlib.Omega.{arith}
 use lib.Dec.{eqb, ltb}
 use borrow.Author.Tests.{eqb-true, ltb-true}
 use Rattle.calls.specs.Kept.Passing.{ahead}
-use Rattle.calls.specs.Kept.Port.{Joined, offset, PortKept, Windowed}
+use Rattle.calls.specs.Kept.Port.{Joined, PortKept, Windowed, offset}
 use Rattle.calls.specs.Laws.Flags.{both, never}
 use Rattle.calls.specs.Laws.Runs.{run-counts, run-goes-on}
 use Rattle.calls.specs.Laws.Window.{distance-next, distance-passed, epoch-cut, epoch-ended, epoch-more, frames-some, in-epoch, later-back, later-part, part-back, part-before, start-place, whole-epochs}
@@ -20,12 +20,12 @@ use Rattle.phases.specs.Passing.{passedGroup, passedStep}
 use Rattle.receiver.specs.Frame.{marksBy}
 use Rattle.rows.specs.declared.group.Group.{Group}
 use Rattle.rows.specs.declared.step.Step.{Step}
-use Rattle.step.specs.Arrival.{aside, countsOn, distanceIn, flagged, flagOf, joining, keeps, outside, runOf, takenOf}
+use Rattle.step.specs.Arrival.{aside, countsOn, distanceIn, flagOf, flagged, joining, keeps, outside, runOf, takenOf}
 use Rattle.step.specs.declared.arrival.Taken.{Taken}
 use Rattle.step.specs.declared.run.Run.{Run}
 use Rattle.step.specs.Laws.Arrival.{inWindow, ranOn, stepped, taken-by}
 use Rattle.store.specs.Laws.Marks.{mark-beyond, mark-cut, mark-marked, mark-passed, sixteen-marked}
-use Rattle.store.specs.Marks.{cutFrom, firstMark, markedAt, markIn, passedMarks}
+use Rattle.store.specs.Marks.{cutFrom, firstMark, markIn, markedAt, passedMarks}
 
 -- of the epoch that a joined port is in the midst of: from its first frame, or the epoch joined at, up to the tag to come
 pub record Part (g : Group) (s : Step) (d : ℕ) : Type 0 where

@@ -6,7 +6,7 @@ use mathlib.Core.List.{List, [], _∷_, _++_, append-assoc, append-nil}
 use Prim.Native.Nat.{ℕ, _≤_, _<_}
 use native.Mathlib.Omega.{arith}
 use lib.ListN.{length}
-use Rattle.calls.specs.Arriving.{after-group, Counts, frame-by, portAfter, storeAfter}
+use Rattle.calls.specs.Arriving.{Counts, after-group, frame-by, portAfter, storeAfter}
 use Rattle.calls.specs.Calls.{Fetch, Frame, Receiver, ReceiverCall, receiverRun, receiverStep, run-kept, startedWith}
 use Rattle.calls.specs.Kept.Group.{Kept}
 use Rattle.calls.specs.Kept.Start.{started-kept, started-with}

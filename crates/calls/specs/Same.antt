@@ -5,7 +5,7 @@ use mathlib.Core.List.{List, [], _∷_}
 use Prim.Native.Nat.{ℕ, _<_}
 use native.Mathlib.Omega.{arith}
 use lib.ListN.{length}
-use Rattle.calls.specs.Arriving.{after-group, Counts, frame-by, portAfter, storeAfter}
+use Rattle.calls.specs.Arriving.{Counts, after-group, frame-by, portAfter, storeAfter}
 use Rattle.calls.specs.Calls.{Fetch, Frame, Receiver, ReceiverCall, receiverRun, receiverStep, step-kept}
 use Rattle.calls.specs.Kept.Group.{Kept}
 use Rattle.calls.specs.Laws.Settling.{rows-by}

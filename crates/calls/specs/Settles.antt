@@ -16,7 +16,7 @@ use Rattle.ground.specs.Truth.{eq-or-ne, fails}
 use Rattle.phases.specs.Due.{brought, lets, silent}
 use Rattle.phases.specs.Laws.Every.{every-fails}
 use Rattle.phases.specs.Settling.{settledOf}
-use Rattle.phases.specs.Theorems.Settled.{heard-port, Settled, settled-stays}
+use Rattle.phases.specs.Theorems.Settled.{Settled, heard-port, settled-stays}
 use Rattle.receiver.specs.Frame.{marksBy, portRows, settledBy, takenIn}
 use Rattle.receiver.specs.Laws.Frames.{frame-group, frame-marks, frame-marks-other, frame-step, frame-step-other}
 use Rattle.rows.specs.declared.group.Group.{Group}

@@ -30,6 +30,10 @@ pub record Road : Type 0 where
   -- the output lent for the k-th report: 'the output may be anything'
   pub output : ℕ → List ℕ
 
+-- frames that an epoch has
+abbrev pub L : Road → ℕ
+L r = frames (r .kind)
+
 -- how often a port stands in a list
 abbrev pub times : ℕ → List ℕ → ℕ
 times p [] = 0

@@ -8,7 +8,7 @@ use lib.Dec.{eqb, ltb}
 use lib.ListN.{length}
 use borrow.Author.Tests.{eqb-true, ltb-true}
 use Rattle.calls.specs.Kept.Group.{Kept, Steady}
-use Rattle.calls.specs.Kept.Settling.{steady-settled, SteadyOf}
+use Rattle.calls.specs.Kept.Settling.{SteadyOf, steady-settled}
 use Rattle.calls.specs.Kept.Steps.{steady-frame, steady-passed}
 use Rattle.calls.specs.Kept.Told.{steady-told}
 use Rattle.calls.specs.Laws.Flags.{both}
@@ -23,7 +23,7 @@ use Rattle.phases.specs.Laws.Passed.{passed-group}
 use Rattle.phases.specs.Passing.{passedGroup, passedOf}
 use Rattle.phases.specs.Settling.{settledOf}
 use Rattle.phases.specs.Sizes.{portsIn}
-use Rattle.phases.specs.Theorems.Settled.{passed-silent, Settled, settled}
+use Rattle.phases.specs.Theorems.Settled.{Settled, passed-silent, settled}
 use Rattle.receiver.specs.Fetch.{dueIn, fetchRows, fits, givenRows}
 use Rattle.receiver.specs.Frame.{frameRefusal, frameRows, portRows, settledBy, storeBy, takenIn, takenRows}
 use Rattle.receiver.specs.Laws.Answers.{unrefused}

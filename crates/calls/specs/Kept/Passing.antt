@@ -5,7 +5,7 @@ use mathlib.Core.Bool.{true, false, _&&_, _||_, true≢false, false≢true}
 use mathlib.Core.List.{List}
 use Prim.Native.Nat.{ℕ, _+_, _≤_}
 use native.Mathlib.Omega.{arith}
-use Rattle.calls.specs.Kept.Port.{Joined, offset, PortKept}
+use Rattle.calls.specs.Kept.Port.{Joined, PortKept, offset}
 use Rattle.calls.specs.Laws.Flags.{both, flag-le, flag-on, true-or-false}
 use Rattle.calls.specs.Laws.Window.{distance-passed, end-before, end-nearer, first-ended, later-nearer, less-later, one-ahead}
 use Rattle.ground.specs.Truth.{and-left, and-right, eq-or-ne, or-cases}

@@ -7,7 +7,7 @@ use Prim.Native.Nat.{ℕ}
 use native.Mathlib.Omega.{arith}
 use lib.Dec.{eqb}
 use borrow.Author.Tests.{eqb-false, ne-eqb, ltb-true, not-false}
-use Rattle.calls.specs.Kept.Port.{offset, PortKept, Windowed}
+use Rattle.calls.specs.Kept.Port.{PortKept, Windowed, offset}
 use Rattle.calls.specs.Laws.Flags.{both, true-or-false}
 use Rattle.calls.specs.Laws.Window.{epochs-none, meet}
 use Rattle.ground.specs.Truth.{or-cases}
@@ -16,13 +16,13 @@ use Rattle.phases.specs.Due.{lets}
 use Rattle.receiver.specs.Frame.{marksBy}
 use Rattle.rows.specs.declared.group.Group.{Group}
 use Rattle.rows.specs.declared.step.Step.{Step}
-use Rattle.step.specs.Arrival.{advanced, aside, countsOn, flagged, flagOf, inStep, joinedAt, joining, keeps, outside, readable, takenOf}
+use Rattle.step.specs.Arrival.{advanced, aside, countsOn, flagOf, flagged, inStep, joinedAt, joining, keeps, outside, readable, takenOf}
 use Rattle.step.specs.declared.arrival.Taken.{Taken}
 use Rattle.step.specs.declared.run.Run.{Run}
 use Rattle.step.specs.Laws.Arrival.{inWindow, ranOn, stepped, taken-by}
 use Rattle.step.specs.Run.{inStepAt}
 use Rattle.store.specs.Laws.Marks.{first-mark, mark-cut, mark-marked}
-use Rattle.store.specs.Marks.{cutFrom, firstMark, markedAt, markIn}
+use Rattle.store.specs.Marks.{cutFrom, firstMark, markIn, markedAt}
 
 none-step : (kind : ℕ) → inStepAt kind 0 ≡ false
 unfolding inStepAt frames

@@ -8,7 +8,7 @@ use native.Mathlib.Omega.{arith}
 use lib.Dec.{eqb}
 use lib.ListN.{length, take}
 use Rattle.calls.specs.Kept.Clearing.{begun-kept, stopped-kept}
-use Rattle.calls.specs.Kept.Group.{GroupKept, knownWord, OkApart, PortIn, Steady}
+use Rattle.calls.specs.Kept.Group.{GroupKept, OkApart, PortIn, Steady, knownWord}
 use Rattle.calls.specs.Kept.Passing.{passed-kept}
 use Rattle.calls.specs.Kept.Port.{Windowed}
 use Rattle.calls.specs.Kept.Taken.{taken-kept, taken-whole}
@@ -23,7 +23,7 @@ use Rattle.packet.specs.declared.reader.Reading.the-variants.{Crc, Fixed, Packe
 use Rattle.packet.specs.Kinds.{epochAfter, epochOf}
 use Rattle.packet.specs.Layout.{carriedIn, fieldsOf}
 use Rattle.packet.specs.Reading.{readNibbles}
-use Rattle.packet.specs.Words.{ADD, assigned, DNU, EOS, FIXED, IDLE, NORM}
+use Rattle.packet.specs.Words.{ADD, DNU, EOS, FIXED, IDLE, NORM, assigned}
 use Rattle.phases.specs.Beginning.{begins, foremost, noTag, ready, within}
 use Rattle.phases.specs.declared.ruling.Ruling.{Ruling}
 use Rattle.phases.specs.Due.{brought, lets}

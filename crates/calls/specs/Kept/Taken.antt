@@ -7,21 +7,21 @@ use Prim.Native.Nat.{ℕ, _+_, _*_, _%_, _≤_, _<_}
 use native.Mathlib.Omega.{arith}
 use lib.Dec.{eqb, leb, ltb}
 use borrow.Author.Tests.{ltb-true, lt-ltb, le-ltb, eqb-true}
-use Rattle.calls.specs.Kept.Port.{endOf, Joined, offset, PortKept, shortOf, Waiting, Windowed}
+use Rattle.calls.specs.Kept.Port.{Joined, PortKept, Waiting, Windowed, endOf, offset, shortOf}
 use Rattle.calls.specs.Laws.Flags.{both, flag-on, never}
-use Rattle.calls.specs.Laws.Runs.{none-kept, run-goes-on, run-kept, RunKept}
+use Rattle.calls.specs.Laws.Runs.{RunKept, none-kept, run-goes-on, run-kept}
 use Rattle.calls.specs.Laws.Window.{at-base, distance-next, ends-inside, ends-more, ends-same, epochs-none, far, frames-some, meet, none-ended, short-next, start-place, whole-epochs}
 use Rattle.ground.specs.Truth.{and-left, and-true, le-or-lt, or-cases}
 use Rattle.packet.specs.Kinds.{endsEpoch, epochsIn, frames, startsEpoch, tagAfter, tags}
 use Rattle.receiver.specs.Frame.{marksBy}
 use Rattle.rows.specs.declared.group.Group.{Group}
 use Rattle.rows.specs.declared.step.Step.{Step}
-use Rattle.step.specs.Arrival.{advanced, aside, countsOn, distanceIn, flagged, flagOf, inStep, joining, keeps, lost, outside, runOf, takenOf}
+use Rattle.step.specs.Arrival.{advanced, aside, countsOn, distanceIn, flagOf, flagged, inStep, joining, keeps, lost, outside, runOf, takenOf}
 use Rattle.step.specs.declared.arrival.Taken.{Taken}
 use Rattle.step.specs.declared.run.Run.{Run}
 use Rattle.step.specs.Laws.Arrival.{inWindow, ranOn, stepped, taken-by}
-use Rattle.store.specs.Laws.Marks.{mark-beyond, mark-cut, mark-marked, Sixteen, sixteen-cut, sixteen-marked}
-use Rattle.store.specs.Marks.{markedAt, markIn}
+use Rattle.store.specs.Laws.Marks.{Sixteen, mark-beyond, mark-cut, mark-marked, sixteen-cut, sixteen-marked}
+use Rattle.store.specs.Marks.{markIn, markedAt}
 
 -- a port without step
 lost-kept : (g : Group) (s : Step) (marks : List ℕ) (failed : ℕ) (run : Run) → failed ≤ 1 → RunKept (g .kind) run → (failed ≢ 0 → run .count ≡ 0)

@@ -8,7 +8,7 @@ use native.Mathlib.Omega.{arith}
 use Rattle.calls.specs.Arriving.{after-group, frame-any, portAfter, storeAfter}
 use Rattle.calls.specs.Laws.Flags.{true-or-false}
 use Rattle.calls.specs.Laws.Settling.{settled-by}
-use Rattle.calls.specs.Reports.Groups.{ackAfter, fetch-group, fetch-none, Given, passedRows}
+use Rattle.calls.specs.Reports.Groups.{Given, ackAfter, fetch-group, fetch-none, passedRows}
 use Rattle.judge.specs.Seen.{sizeOf}
 use Rattle.phases.specs.Laws.Cleared.{begun-group, stopped-group}
 use Rattle.phases.specs.Laws.Lengths.{length-stopped}

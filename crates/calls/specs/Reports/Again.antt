@@ -8,18 +8,18 @@ use native.Mathlib.Omega.{arith}
 use lib.Dec.{eqb, ltb}
 use lib.ListN.{length}
 use borrow.Author.Tests.{eq-eqb, ne-eqb, lt-ltb}
-use Rattle.calls.specs.Arriving.{after-group, Counts, frame-by, portAfter, storeAfter}
+use Rattle.calls.specs.Arriving.{Counts, after-group, frame-by, portAfter, storeAfter}
 use Rattle.calls.specs.Calls.{Fetch, Frame, Receiver, ReceiverCall, receiverRun, receiverStep, run-kept, step-kept}
 use Rattle.calls.specs.Kept.Calls.{Due, due-says}
 use Rattle.calls.specs.Kept.Group.{Kept, Steady}
 use Rattle.calls.specs.Kept.Passing.{ahead}
-use Rattle.calls.specs.Kept.Port.{offset, Windowed}
+use Rattle.calls.specs.Kept.Port.{Windowed, offset}
 use Rattle.calls.specs.Kept.Steps.{brought-lets, steady-frame, windowed}
 use Rattle.calls.specs.Laws.Flags.{both, true-or-false}
 use Rattle.calls.specs.Laws.Settling.{settled-by}
 use Rattle.calls.specs.Laws.Window.{distance-passed, frames-some, tag-next, tagIn}
-use Rattle.calls.specs.Reports.Groups.{fetch-none, Given, stopsWith}
-use Rattle.calls.specs.Reports.Order.{epochGiven, gives, reportsOf, Unstopped}
+use Rattle.calls.specs.Reports.Groups.{Given, fetch-none, stopsWith}
+use Rattle.calls.specs.Reports.Order.{Unstopped, epochGiven, gives, reportsOf}
 use Rattle.calls.specs.Same.{run-sizes, step-sizes}
 use Rattle.ground.specs.Truth.{and-left, and-right}
 use Rattle.judge.specs.Seen.{sizeOf}
@@ -47,7 +47,7 @@ use Rattle.rows.specs.Laws.Port.{port-step}
 use Rattle.rows.specs.Port.{portAt}
 use Rattle.rows.specs.Rows.{rowsFor}
 use Rattle.rows.specs.Step.{stepAt}
-use Rattle.step.specs.Arrival.{aside, countsOn, distanceIn, flagged, flagOf, joining, keeps, outside, takenOf}
+use Rattle.step.specs.Arrival.{aside, countsOn, distanceIn, flagOf, flagged, joining, keeps, outside, takenOf}
 use Rattle.step.specs.declared.arrival.Taken.{Taken}
 use Rattle.step.specs.declared.run.Run.{Run}
 use Rattle.step.specs.Laws.Arrival.{ranOn, stepped, taken-by, taken-keeps}

@@ -15,7 +15,7 @@ use Rattle.phases.specs.Sizes.{portsIn, sized}
 use Rattle.receiver.specs.Fetch.{dueIn, fetchOut, fits, givenOut}
 use Rattle.receiver.specs.Laws.Answers.{lent}
 use Rattle.receiver.specs.Laws.Bytes.{frameBytes, frames-into, reportByte}
-use Rattle.receiver.specs.Laws.Sizes.{size-is, Sizes, sizes-of, some-sized}
+use Rattle.receiver.specs.Laws.Sizes.{Sizes, size-is, sizes-of, some-sized}
 use Rattle.receiver.specs.Report.{outputBy, outputOf, seenAll}
 use Rattle.rows.specs.declared.group.Group.{Group}
 use Rattle.rows.specs.Group.{groupAt}

@@ -11,7 +11,7 @@ use Rattle.calls.specs.Calls.{Fetch, Frame, Receiver, ReceiverCall, rece
 use Rattle.calls.specs.Kept.Calls.{due-says}
 use Rattle.calls.specs.Laws.Flags.{both}
 use Rattle.calls.specs.Laws.Settling.{settled-by}
-use Rattle.calls.specs.Reports.Groups.{fetch-group, fetch-none, frame-holds, Gathers, stopsWith}
+use Rattle.calls.specs.Reports.Groups.{Gathers, fetch-group, fetch-none, frame-holds, stopsWith}
 use Rattle.ground.specs.Truth.{and-left, and-right}
 use Rattle.packet.specs.Kinds.{epochAfter, epochOf}
 use Rattle.phases.specs.Beginning.{foremost}

@@ -11,6 +11,7 @@ use Rattle.ground.specs.Table.{tabulate}
 use Rattle.packet.specs.Counts.{counts}
 use Rattle.packet.specs.Kinds.{distanceOf, firstTag, frames, lead, tagAfter, tags}
 use Rattle.rows.specs.declared.group.Group.{Group}
+use Rattle.rows.specs.declared.step.Step.{Step}
 use Rattle.step.specs.Arrival.{arrives, byWindow, distanceIn, keeps, takenOf}
 use Rattle.step.specs.Run.{furtherRun, inStepAt, oneMore, runOn}
 use Rattle.store.specs.Frames.{placeIn, ringOf, storedAt}

@@ -14,7 +14,7 @@ use Rattle.judge.specs.Verdict.{HELD, SURE}
 use Rattle.packet.specs.Kinds.{frames}
 use Rattle.link.specs.History.{Client, xAt}
 use Rattle.link.specs.Laws.Numbers.{epoch-in, frames-cancel}
-use Rattle.link.specs.Link.{Alike, allAsSent, Assumed, clientBytes, expected, framesOf, Link, SameIn}
+use Rattle.link.specs.Link.{Alike, Assumed, Link, SameIn, allAsSent, clientBytes, epochFrames, expected, framesOf}
 use Rattle.link.specs.Road.{Below, times}
 use Rattle.link.specs.Told.{Told}
 
@@ -66,19 +66,16 @@ wide-in k a i kind e m b =
     ∙ ap (λ (q : ℕ). xAt (k .history) q * k .payload) (rw e (epoch-in kind i m b))
 
 module _ (k j : Link) (ak : Assumed k) (aj : Assumed j) (l : Alike k j) where
-  abbrev L : ℕ
-  L = frames (k .history .kind)
-
   bytes-apart : (i : ℕ) → clientBytes k i ≡ clientBytes j i → SameIn i k j
   bytes-apart i e =
       let kind : ℕ = k .history .kind in
-      let there : clientBytes j i ≡ framesOf (j .client) (i * L) L = ap (λ (q : ℕ). framesOf (j .client) (i * frames q) (frames q)) (sym (l .kind)) in
+      let there : clientBytes j i ≡ framesOf (j .client) (i * epochFrames k) (epochFrames k) = ap (λ (q : ℕ). framesOf (j .client) (i * frames q) (frames q)) (sym (l .kind)) in
       let wk = wide-in k ak i kind refl in
       let wj = wide-in j aj i kind (sym (l .kind)) in
-      let lk = length-frames (k .client) (i * L) L (xAt (k .history) i * k .payload) wk in
-      let lj = length-frames (j .client) (i * L) L (xAt (j .history) i * j .payload) wj in
+      let lk = length-frames (k .client) (i * epochFrames k) (epochFrames k) (xAt (k .history) i * k .payload) wk in
+      let lj = length-frames (j .client) (i * epochFrames k) (epochFrames k) (xAt (j .history) i * j .payload) wj in
       let w : xAt (k .history) i * k .payload ≡ xAt (j .history) i * j .payload = frames-cancel kind _ _ (sym lk ∙ ap length (e ∙ there) ∙ lj) in
-      frames-apart (k .client) (j .client) (i * L) L (xAt (k .history) i * k .payload) wk (λ m b. wj m b ∙ sym w) (e ∙ there)
+      frames-apart (k .client) (j .client) (i * epochFrames k) (epochFrames k) (xAt (k .history) i * k .payload) wk (λ m b. wj m b ∙ sym w) (e ∙ there)
 
   -- the report of epoch i + 1 is to be sure, on one link or on the other
   abbrev pub EitherSure : ℕ → Type 0

@@ -10,7 +10,7 @@ use Rattle.packet.specs.Kinds.{firstTag, frames, placeOf, startsEpoch}
 use Rattle.packet.specs.Theorems.Tags.{first-of}
 use Rattle.receiver.specs.Laws.Sizes.{sizes-of}
 use Rattle.step.specs.Laws.Sent.{SentWith}
-use Rattle.link.specs.History.{CountKept, firstTagOf, Handed, History}
+use Rattle.link.specs.History.{CountKept, Handed, History, firstTagOf}
 use Rattle.link.specs.Laws.Numbers.{place-lt, position-is}
 use Rattle.link.specs.Link.{Arrived, Assumed, Damaged, Link, roadOf, sentTo}
 use Rattle.link.specs.Road.{Fair}

@@ -7,19 +7,19 @@ use Prim.Native.Nat.{ℕ, suc, _<_}
 use native.Mathlib.Omega.{arith}
 use lib.Dec.{eqb}
 use borrow.Author.Tests.{eq-eqb, eqb-true}
-use Rattle.counting.specs.Laws.Tests.{every-all, every-at, none-at, One, some-one}
+use Rattle.counting.specs.Laws.Tests.{One, every-all, every-at, none-at, some-one}
 use Rattle.counting.specs.Words.{every, some}
 use Rattle.ground.specs.Truth.{and-left, and-right, and-true}
 use Rattle.judge.specs.declared.seen.Seen.{Seen}
 use Rattle.judge.specs.Laws.Ports.{not-false, not-true}
 use Rattle.judge.specs.Theorems.Held.{refused}
-use Rattle.judge.specs.Verdict.{HELD, judgeOf, SURE}
+use Rattle.judge.specs.Verdict.{HELD, SURE, judgeOf}
 use Rattle.packet.specs.Kinds.{frames}
 use Rattle.link.specs.Contents.{allSeenAfter, framesFrom, numberOf, reportAfter}
-use Rattle.link.specs.History.{epochNumber, epochStart, History}
+use Rattle.link.specs.History.{History, epochNumber, epochStart}
 use Rattle.link.specs.Judged.Seen.{number-of, seen-damaged}
 use Rattle.link.specs.Judged.Sure.{frames-are, sure}
-use Rattle.link.specs.Link.{allAsSent, Assumed, clientBytes, Damaged, expected, Link, roadOf, sameBytes, sentTo}
+use Rattle.link.specs.Link.{Assumed, Damaged, Link, allAsSent, clientBytes, expected, roadOf, sameBytes, sentTo}
 use Rattle.link.specs.Told.{Told}
 
 pub same-lists : (l m : List ℕ) → sameBytes l m ≡ true → l ≡ m

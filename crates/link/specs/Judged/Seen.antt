@@ -18,7 +18,7 @@ use Rattle.phases.specs.declared.ruling.Ruling.{Ruling}
 use Rattle.phases.specs.Ruling.{rulingBy, rulingOf}
 use Rattle.receiver.specs.Laws.Seen.{seen-each}
 use Rattle.link.specs.Contents.{allSeenAfter, numberOf, packetOf, seenAfter}
-use Rattle.link.specs.History.{epochNumber, epochStart, fieldsSent, History, numberSent, wordSent}
+use Rattle.link.specs.History.{History, epochNumber, epochStart, fieldsSent, numberSent, wordSent}
 use Rattle.link.specs.Laws.Numbers.{epoch-in, frames-some, nibbles-in, place-in}
 use Rattle.link.specs.Link.{Assumed, Damaged, Link, roadOf, sentTo}
 use Rattle.link.specs.Sending.Counted.{tag-epoch}

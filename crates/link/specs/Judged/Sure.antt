@@ -11,24 +11,24 @@ use Rattle.counting.specs.Laws.Numbers.{count-ext}
 use Rattle.counting.specs.Laws.Ranks.{rank}
 use Rattle.counting.specs.Words.{count}
 use Rattle.judge.specs.declared.seen.Seen.{Seen}
-use Rattle.judge.specs.Laws.Numbers.{activeAt, all-active, AllApart, Highest, numberAt, numberedAt}
+use Rattle.judge.specs.Laws.Numbers.{AllApart, Highest, activeAt, all-active, numberAt, numberedAt}
 use Rattle.judge.specs.Order.{activeIn, portOf, rankOf}
 use Rattle.judge.specs.Seen.{activeSeen, eosSeen, numberedSeen, seenAt}
 use Rattle.judge.specs.Theorems.Exact.{numbersIn}
-use Rattle.judge.specs.Theorems.Ranks.{port-ranked, Ranked}
-use Rattle.judge.specs.Theorems.Sure.{eosAt, Tidy, tidy-sure}
-use Rattle.judge.specs.Verdict.{judgeOf, SURE}
+use Rattle.judge.specs.Theorems.Ranks.{Ranked, port-ranked}
+use Rattle.judge.specs.Theorems.Sure.{Tidy, eosAt, tidy-sure}
+use Rattle.judge.specs.Verdict.{SURE, judgeOf}
 use Rattle.packet.specs.Kinds.{frames}
 use Rattle.packet.specs.Words.{EOS}
 use Rattle.payload.specs.Order.{groupFrame}
 use Rattle.sender.specs.Epochs.{rankIn}
 use Rattle.sender.specs.Ranks.{noRank}
 use Rattle.link.specs.Contents.{allSeenAfter, frameAt, framesFrom}
-use Rattle.link.specs.History.{epochAt, epochStart, History, numberSent, payloadSent, senderAt, wordSent, xAt}
+use Rattle.link.specs.History.{History, epochAt, epochStart, numberSent, payloadSent, senderAt, wordSent, xAt}
 use Rattle.link.specs.Judged.Fairness.{handed}
 use Rattle.link.specs.Judged.Seen.{seen-sent, seenSent}
 use Rattle.link.specs.Laws.Numbers.{epoch-in}
-use Rattle.link.specs.Link.{Assumed, framesOf, Link, roadOf, sentTo}
+use Rattle.link.specs.Link.{Assumed, Link, framesOf, roadOf, sentTo}
 use Rattle.link.specs.Sending.Numbering.{Numbered, numbered, numberedWord}
 use Rattle.link.specs.Sending.Payloads.{joined-back}
 use Rattle.link.specs.Sending.Ports.{numbered-ports, rank-ports, x-ports}

@@ -8,6 +8,7 @@ use native.Mathlib.Omega.{arith}
 use borrow.Author.Tests.{eq-eqb, eqb-false, eqb-true}
 use Rattle.packet.specs.Kinds.{distanceOf, endsEpoch, epochAfter, epochOf, epochs, epochsIn, firstTag, frames, lead, placeOf, startsEpoch, tagBefore, tags}
 use Rattle.packet.specs.Theorems.Tags.{distance-of, tagOf}
+use Rattle.link.specs.Road.{L}
 
 -- How many frames.
 

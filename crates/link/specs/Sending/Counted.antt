@@ -15,7 +15,7 @@ use Rattle.packet.specs.Kinds.{epochOf, epochs, firstTag, frames, lead, placeOf
 use Rattle.packet.specs.Layout.{dataOf, h4Of, nibblesOf, sealedOf}
 use Rattle.packet.specs.Theorems.Tags.{place-sent, tagOf}
 use Rattle.step.specs.Laws.Sent.{SentWith}
-use Rattle.link.specs.History.{Allowed, CountKept, epochAt, epochNumber, epochStart, fieldsSent, firstTagOf, History, packetSent, tagAt}
+use Rattle.link.specs.History.{Allowed, CountKept, History, epochAt, epochNumber, epochStart, fieldsSent, firstTagOf, packetSent, tagAt}
 use Rattle.link.specs.Sending.Packets.{fields-bounds, packet-epoch, packet-is}
 
 -- a test that is asked only where m is n

@@ -15,7 +15,7 @@ use Rattle.packet.specs.Laws.Bounds.{Bounds, bounds}
 use Rattle.packet.specs.Laws.Nibbles.{highs-back, packet-nibbles}
 use Rattle.packet.specs.Layout.{h4Of, highsOf, nibblesOf}
 use Rattle.packet.specs.Reading.{readNibbles}
-use Rattle.packet.specs.Theorems.ReadBack.{length-nibbles, nibbles-back, written-as, WrittenAs}
+use Rattle.packet.specs.Theorems.ReadBack.{WrittenAs, length-nibbles, nibbles-back, written-as}
 use Rattle.packet.specs.Writing.{fitting, writeAnswer, writeBytes}
 use Rattle.sender.specs.declared.epochs.Sender.{Sender}
 use Rattle.sender.specs.declared.table.Answer.the-variants.{Done}
@@ -23,7 +23,7 @@ use Rattle.sender.specs.Epochs.{packetAnswer, packetBytes, packetFields}
 use Rattle.sender.specs.Outcomes.{written}
 use Rattle.sender.specs.Table.{answerNumber, sizeOf}
 use Rattle.sender.specs.Theorems.Packets.{packet-done}
-use Rattle.link.specs.History.{Allowed, epochNumber, fieldsSent, History, packetSent, senderAt}
+use Rattle.link.specs.History.{Allowed, History, epochNumber, fieldsSent, packetSent, senderAt}
 use Rattle.link.specs.Sending.Senders.{callsTo, given-to, sender-in, sender-run, size-at}
 
 written-done : (w : Writing) → written w ≡ Done → w ≡ W.Done

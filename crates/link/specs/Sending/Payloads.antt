@@ -14,7 +14,7 @@ use Rattle.payload.specs.Theorems.RoundTrip.{join-spreads}
 use Rattle.sender.specs.declared.epochs.Sender.{Sender}
 use Rattle.sender.specs.Epochs.{payloadBytes, rankIn, xOf}
 use Rattle.sender.specs.Table.{sizeOf}
-use Rattle.link.specs.History.{Allowed, Client, epochAt, Handed, History, payloadSent, senderAt, xAt}
+use Rattle.link.specs.History.{Allowed, Client, Handed, History, epochAt, payloadSent, senderAt, xAt}
 use Rattle.link.specs.Sending.Ruling.{x-le}
 use Rattle.link.specs.Sending.Senders.{sender-in, size-at}
 

@@ -15,7 +15,7 @@ use Rattle.sender.specs.Epochs.{packetFields, rankIn, senderRun}
 use Rattle.sender.specs.Laws.Carrying.{board-size}
 use Rattle.sender.specs.Ranks.{carriersIn, carries, noRank, rankAt, rankOf, rowAt}
 use Rattle.sender.specs.Table.{sizeOf}
-use Rattle.sender.specs.Theorems.Epochs.{first-x, onTable, rules-next, Shows}
+use Rattle.sender.specs.Theorems.Epochs.{Shows, first-x, onTable, rules-next}
 use Rattle.link.specs.History.{Allowed, History, numberSent, senderAt, wordSent, xAt}
 use Rattle.link.specs.Sending.Senders.{left, sender-at-sound, size-at}
 

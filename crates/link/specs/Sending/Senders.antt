@@ -14,15 +14,15 @@ use Rattle.sender.specs.declared.epochs.Sender.{Sender}
 use Rattle.sender.specs.declared.epochs.SenderStep.{SenderStep}
 use Rattle.sender.specs.declared.table.Answer.the-variants.{Done, Field}
 use Rattle.sender.specs.declared.table.Table.{Table}
-use Rattle.sender.specs.Epochs.{beginOf, freshSender, SenderCall, senderRun, senderStepOf, startedEpoch, startedSender, startEpochOf}
+use Rattle.sender.specs.Epochs.{SenderCall, beginOf, freshSender, senderRun, senderStepOf, startEpochOf, startedEpoch, startedSender}
 use Rattle.sender.specs.Epochs.SenderCall.{OnTable, StartEpoch}
 use Rattle.sender.specs.Laws.Kept.{group-step}
 use Rattle.sender.specs.Laws.Sizes.{size-large, size-small}
 use Rattle.sender.specs.Steps.{Call}
 use Rattle.sender.specs.Table.{sizeOf}
-use Rattle.sender.specs.Theorems.Epochs.{onTable, sender-sound, senderAfter, SoundSender}
+use Rattle.sender.specs.Theorems.Epochs.{SoundSender, onTable, sender-sound, senderAfter}
 use Rattle.sender.specs.Theorems.Packets.{AllGiven}
-use Rattle.link.specs.History.{Allowed, epochNumber, History, senderAt, startedOn}
+use Rattle.link.specs.History.{Allowed, History, epochNumber, senderAt, startedOn}
 
 -- all calls up to and with the start of the i-th epoch
 

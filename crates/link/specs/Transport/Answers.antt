@@ -8,14 +8,14 @@ use borrow.Author.Tests.{le-leb, lt-leb}
 use Rattle.ground.specs.Truth.{le-or-lt}
 use Rattle.packet.specs.Kinds.{frames}
 use Rattle.step.specs.Laws.Run.{startFrom}
-use Rattle.link.specs.Moments.{nx, reached, said, says, saysOne, saysThrough}
+use Rattle.link.specs.Moments.{coming, reached, said, says, saysOne, saysThrough}
 use Rattle.link.specs.Road.{Fair, Road}
-use Rattle.link.specs.Running.{framed, Moment, through, turn, turns}
+use Rattle.link.specs.Running.{Moment, framed, through, turn, turns}
 use Rattle.link.specs.Standing.{Before, First, Later, Owes}
 use Rattle.link.specs.Transport.Fetches.{drained-answers}
 use Rattle.link.specs.Transport.Moments.{Rest, rest-all, rest-tail, served-at}
 use Rattle.link.specs.Transport.Steps.{Reach, Served}
-use Rattle.link.specs.Transport.Times.{nx-is, Phase, phase, reach-nx, served-nx, Steps, turns-more}
+use Rattle.link.specs.Transport.Times.{Phase, Steps, coming-is, phase, reach-coming, served-coming, turns-more}
 use Rattle.link.specs.Transport.Times.Phase.{before, first, later}
 
 module _ (r : Road) where
@@ -37,16 +37,16 @@ module _ (r : Road) where
       with-frame : r .delay p + r .first p ≤ t → framed r p (t - r .delay p) here .answers ≡ here .answers ++ (said r p (t - r .delay p) ∷ [])
       with-frame late = go (phase r m₀ f s start t done (p ∷ ps) is-order)
         where
-          position : nx r t (p ∷ ps) p ≡ t - r .delay p
-          position = nx-is r t (p ∷ ps) p (o .all-below .0) ∙ served-at r t p ps o late
+          position : coming r t (p ∷ ps) p ≡ t - r .delay p
+          position = coming-is r t (p ∷ ps) p (o .all-below .0) ∙ served-at r t p ps o late
 
-          go : Phase r m₀ t done here (nx r t (p ∷ ps)) → framed r p (t - r .delay p) here .answers ≡ here .answers ++ (said r p (t - r .delay p) ∷ [])
-          go (before b un) = rw position at (a .before-says here p (nx r t (p ∷ ps)) (nx r t ps) (served-nx r t p ps o late) b)
+          go : Phase r m₀ t done here (coming r t (p ∷ ps)) → framed r p (t - r .delay p) here .answers ≡ here .answers ++ (said r p (t - r .delay p) ∷ [])
+          go (before b un) = rw position at (a .before-says here p (coming r t (p ∷ ps)) (coming r t ps) (served-coming r t p ps o late) b)
           go (first F b c) =
-              rw position at (a .first-says here p (suc (F / frames (r .kind))) (nx r t (p ∷ ps)) (nx r t ps) (served-nx r t p ps o late) (reach-nx r f t p ps o late) c)
+              rw position at (a .first-says here p (suc (F / frames (r .kind))) (coming r t (p ∷ ps)) (coming r t ps) (served-coming r t p ps o late) (reach-coming r f t p ps o late) c)
               ∙ ap (λ (n : ℕ). here .answers ++ (n ∷ [])) (sym (said-in p (t - r .delay p) (rw position at (c .open-at .in-step p (o .all-below .0)))))
           go (later F i b c w) =
-              rw position at (a .later-says here p (suc (F / frames (r .kind))) i (nx r t (p ∷ ps)) (nx r t ps) (served-nx r t p ps o late) (reach-nx r f t p ps o late) c w)
+              rw position at (a .later-says here p (suc (F / frames (r .kind))) i (coming r t (p ∷ ps)) (coming r t ps) (served-coming r t p ps o late) (reach-coming r f t p ps o late) c w)
               ∙ ap (λ (n : ℕ). here .answers ++ (n ∷ [])) (sym (said-in p (t - r .delay p) (rw position at (c .open-at .in-step p (o .all-below .0)))))
 
       turn-says : turn r t p here .answers ≡ here .answers ++ saysOne r t p

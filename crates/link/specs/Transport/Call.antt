@@ -12,11 +12,11 @@ use Rattle.receiver.specs.Laws.Answers.{fitting-none}
 use Rattle.rows.specs.Group.{groupAt}
 use Rattle.step.specs.declared.arrival.Taken.{Taken}
 use Rattle.link.specs.Road.{Fair, Road}
-use Rattle.link.specs.Running.{framed, Moment}
+use Rattle.link.specs.Running.{Moment, framed}
 use Rattle.link.specs.Standing.{Lined}
 
 module _ (r : Road) (f : Fair r) where
-  module _ (m : Moment) (nx : ℕ → ℕ) (o : Lined r m nx) where
+  module _ (m : Moment) (coming : ℕ → ℕ) (o : Lined r m coming) where
     pub ports-are : portsIn (groupAt (m .rows)) ≡ r .ports
     unfolding portsIn
     ports-are = rw (o .kind-is, o .count-is, o .payload-is, o .window-is, f .sizes) refl

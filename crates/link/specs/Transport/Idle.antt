@@ -31,8 +31,8 @@ none-due s store out e = go (fits s store out (replicate 8 0))
     go false = refl
 
 module _ (r : Road) where
-  pub before-none : (m : Moment) (nx : ℕ → ℕ) → Before r m nx → getD (recordAt r m) 0 0 ≡ 0
-  before-none m nx b = none-due (m .rows) (m .store) (r .output (length (m .told))) (not-begun (groupAt (m .rows)) (portsIn (groupAt (m .rows))) (m .rows) (b .begun))
+  pub before-none : (m : Moment) (coming : ℕ → ℕ) → Before r m coming → getD (recordAt r m) 0 0 ≡ 0
+  before-none m coming b = none-due (m .rows) (m .store) (r .output (length (m .told))) (not-begun (groupAt (m .rows)) (portsIn (groupAt (m .rows))) (m .rows) (b .begun))
 
-  pub first-none : (m : Moment) (i : ℕ) (nx : ℕ → ℕ) → First r m nx i → getD (recordAt r m) 0 0 ≡ 0
-  first-none m i nx b = none-due (m .rows) (m .store) (r .output (length (m .told))) (not-gathered (groupAt (m .rows)) (portsIn (groupAt (m .rows))) (m .rows) (b .gathered))
+  pub first-none : (m : Moment) (i : ℕ) (coming : ℕ → ℕ) → First r m coming i → getD (recordAt r m) 0 0 ≡ 0
+  first-none m i coming b = none-due (m .rows) (m .store) (r .output (length (m .told))) (not-gathered (groupAt (m .rows)) (portsIn (groupAt (m .rows))) (m .rows) (b .gathered))

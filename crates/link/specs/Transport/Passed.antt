@@ -24,13 +24,13 @@ use Rattle.rows.specs.Rows.{rowsFor}
 use Rattle.rows.specs.Step.{stepAt}
 use Rattle.store.specs.Frames.{packetIn}
 use Rattle.store.specs.Laws.Marks.{mark-beyond, mark-passed, sixteen-passed}
-use Rattle.store.specs.Laws.Stands.{packet-stands, Stands, stands-moved}
+use Rattle.store.specs.Laws.Stands.{Stands, packet-stands, stands-moved}
 use Rattle.store.specs.Marks.{firstMark, markIn, passedMarks}
 use Rattle.link.specs.Contents.{packetOf}
 use Rattle.link.specs.Laws.Numbers.{first-after, frames-some, marks-enough, nibbles-in}
-use Rattle.link.specs.Road.{Fair, Road, sizes-in}
+use Rattle.link.specs.Road.{Fair, L, Road, sizes-in}
 use Rattle.link.specs.Running.{Moment}
-use Rattle.link.specs.Standing.{Heard, L, Lined, Open}
+use Rattle.link.specs.Standing.{Heard, Lined, Open}
 use Rattle.link.specs.Transport.Due.{AllCome, first-all}
 
 -- of a step that passes
@@ -62,7 +62,7 @@ module _ (r : Road) (m m′ : Moment) (long : length (m .rows) ≡ rowsFor (r .p
         ruling = λ p b. rw is (ap (λ (q : Port). q .ruling) (passed-of-port g (m .store) (r .ports) (m .rows) p b (omega arith)));
       }
 
-module _ (r : Road) (fair : Fair r) (m m′ : Moment) (nx : ℕ → ℕ) (i : ℕ) (o : Open r m nx i) (t : PassedTo r m m′) (all : AllCome r nx i) where
+module _ (r : Road) (fair : Fair r) (m m′ : Moment) (coming : ℕ → ℕ) (i : ℕ) (o : Open r m coming i) (t : PassedTo r m m′) (all : AllCome r coming i) where
   abbrev g : Group
   g = groupAt (m .rows)
 
@@ -74,9 +74,9 @@ module _ (r : Road) (fair : Fair r) (m m′ : Moment) (nx : ℕ → ℕ) (i : �
 
   -- every port has brought the epoch
   first-brought : (p : ℕ) → p < r .ports → firstMark (marksAt (m .rows) p) ≡ true
-  first-brought = first-all r fair m nx i o all
+  first-brought = first-all r fair m coming i o all
 
-  marks-moved : (p k : ℕ) → p < r .ports → k < 128 → markIn (passedMarks (marksAt (m .rows) p)) k ≡ leb (suc i * L r + (k + 1) * L r) (nx p)
+  marks-moved : (p k : ℕ) → p < r .ports → k < 128 → markIn (passedMarks (marksAt (m .rows) p)) k ≡ leb (suc i * L r + (k + 1) * L r) (coming p)
   marks-moved p k b c =
       let e : i * L r + (k + 1 + 1) * L r ≡ suc i * L r + (k + 1) * L r = omega arith in
       mark-passed (marksAt (m .rows) p) (o .marks-row p b) k
@@ -87,14 +87,14 @@ module _ (r : Road) (fair : Fair r) (m m′ : Moment) (nx : ℕ → ℕ) (i : �
       let w = marks-enough (r .kind) (r .window) (s .round) in
       let h = o .ahead p b in
       let k-is : k ≡ 127 = omega arith in
-      mark-beyond (marksAt (m .rows) p) (k + 1) (o .marks-row p b .len) far ∙ rw k-is (sym (lt-leb (suc i * L r + 128 * L r) (nx p) (omega arith))))
+      mark-beyond (marksAt (m .rows) p) (k + 1) (o .marks-row p b .len) far ∙ rw k-is (sym (lt-leb (suc i * L r + 128 * L r) (coming p) (omega arith))))
       (λ (near : k + 1 < 128). o .marks p (k + 1) b near ∙ rw e refl)
       (le-or-lt 128 (k + 1))
 
   frames-same : frames (g .kind) ≡ L r
   frames-same = rw (o .lined .kind-is) refl
 
-  stands-nearer : (p x : ℕ) → p < r .ports → suc i * L r ≤ x → x < nx p → Stands (groupAt (m′ .rows)) p (x - suc i * L r) (r .bytes p x) (r .h4 p x) (m′ .store)
+  stands-nearer : (p x : ℕ) → p < r .ports → suc i * L r ≤ x → x < coming p → Stands (groupAt (m′ .rows)) p (x - suc i * L r) (r .bytes p x) (r .h4 p x) (m′ .store)
   stands-nearer p x b low high =
       let e : x - suc i * L r + L r ≡ x - i * L r = omega arith in
       let f : Stands g p (x - suc i * L r + L r) (r .bytes p x) (r .h4 p x) (m .store) = rw e (o .stands p x b (omega arith) high) in
@@ -102,7 +102,7 @@ module _ (r : Road) (fair : Fair r) (m m′ : Moment) (nx : ℕ → ℕ) (i : �
       (stands-moved g (groupAt (m′ .rows)) (L r) p (x - suc i * L r) (r .bytes p x) (r .h4 p x) (m .store) (rw (t .group-is) (passed-payload g))
       (rw (t .group-is) (passed-window g)) (rw (t .group-is, ← frames-same) (passed-origin g wide)) f)
 
-  lined-passed : Lined r m′ nx
+  lined-passed : Lined r m′ coming
   lined-passed =
       let l = o .lined in
       record {
@@ -113,7 +113,7 @@ module _ (r : Road) (fair : Fair r) (m m′ : Moment) (nx : ℕ → ℕ) (i : �
         payload-is = rw (t .group-is) (passed-payload g ∙ l .payload-is);
         window-is = rw (t .group-is) (passed-window g ∙ l .window-is);
         origin-in = rw (t .group-is, ← l .window-is) (origin-within g wide);
-        heard = λ p b. rw (t .steps p b) (heard-passed r p (nx p) (stepAt (m .rows) p) (firstMark (marksAt (m .rows) p)) (l .heard p b));
+        heard = λ p b. rw (t .steps p b) (heard-passed r p (coming p) (stepAt (m .rows) p) (firstMark (marksAt (m .rows) p)) (l .heard p b));
       }
 
   oldest-now : firstTag (r .kind) (groupAt (m′ .rows) .oldest) ≡ tagOf (r .kind) (r .offset + suc i * L r)
@@ -121,7 +121,7 @@ module _ (r : Road) (fair : Fair r) (m m′ : Moment) (nx : ℕ → ℕ) (i : �
       let e : r .offset + i * L r + L r ≡ r .offset + suc i * L r = omega arith in
       rw (t .group-is, passed-oldest g, o .lined .kind-is, ← e) (first-after (r .kind) (g .oldest) (r .offset + i * L r) (o .oldest-small) (o .oldest))
 
-  pub open-passed : Open r m′ nx (suc i)
+  pub open-passed : Open r m′ coming (suc i)
   open-passed =
       record {
         lined = lined-passed;

@@ -33,8 +33,8 @@ module _ (r : Road) where
     pub steps : (p : ℕ) → p < r .ports → stepAt (m′ .rows) p ≡ stepAt (m .rows) p
     pub marks : (p : ℕ) → p < r .ports → marksAt (m′ .rows) p ≡ marksAt (m .rows) p
 
-  pub open-stays : (m m′ : Moment) (nx : ℕ → ℕ) (i : ℕ) → SameWindow m m′ → Open r m nx i → Open r m′ nx i
-  open-stays m m′ nx i a o =
+  pub open-stays : (m m′ : Moment) (coming : ℕ → ℕ) (i : ℕ) → SameWindow m m′ → Open r m coming i → Open r m′ coming i
+  open-stays m m′ coming i a o =
       let l = o .lined in
       record {
         lined = record {

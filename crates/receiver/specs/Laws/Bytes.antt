@@ -9,7 +9,7 @@ use native.Mathlib.Omega.{arith}
 use lib.Arith.{digits-div, digits-mod}
 use lib.ListN.{getD, length}
 use Rattle.counting.specs.Words.{the}
-use Rattle.ground.specs.Drawn.{fillAt, Filling, filling-none, filling-piece}
+use Rattle.ground.specs.Drawn.{Filling, fillAt, filling-none, filling-piece}
 use Rattle.ground.specs.Table.{getD-tabulate}
 use Rattle.judge.specs.declared.seen.Seen.{Seen}
 use Rattle.judge.specs.Order.{activeIn, hasRank, orderOf, portOf}
