@@ -15,8 +15,9 @@ use Rattle.calls.specs.Kept.Port.{PortKept, Windowed}
 use Rattle.calls.specs.Kept.Start.{started-kept, started-with}
 use Rattle.calls.specs.Kept.Steps.{brought-lets, steady-frame, windowed}
 use Rattle.calls.specs.Laws.Settling.{rows-by, settled-by}
-use Rattle.calls.specs.Laws.Window.{frames-some, tag-next, tag-passed, tagIn}
+use Rattle.calls.specs.Laws.Window.{first-epoch, frames-some, tag-next, tag-passed, tagIn}
 use Rattle.calls.specs.Same.{step-sizes}
+use Rattle.ground.specs.Table.{getD-tabulate, tabulate}
 use Rattle.ground.specs.Truth.{eq-or-ne}
 use Rattle.judge.specs.Seen.{sizeOf}
 use Rattle.packet.specs.Counts.{counts}
@@ -47,8 +48,8 @@ use Rattle.rows.specs.Rows.{rowsFor}
 use Rattle.rows.specs.Step.{stepAt}
 use Rattle.step.specs.Arrival.{distanceIn, flagOf, inStep, takenOf}
 use Rattle.step.specs.declared.arrival.Taken.{Taken}
-use Rattle.store.specs.Frames.{placeIn, storedAt}
-use Rattle.store.specs.Laws.Marks.{mark-none}
+use Rattle.store.specs.Frames.{byteAt, h4At, placeIn, storedAt}
+use Rattle.store.specs.Laws.Marks.{first-mark, mark-none}
 use Rattle.store.specs.Laws.Places.{place-moved}
 use Rattle.store.specs.Laws.Stands.{Stands, stands-put, stands-same, stored-elsewhere}
 use Rattle.store.specs.Marks.{firstMark, markIn, passedMarks}
@@ -248,7 +249,7 @@ module _ (tag : ℕ) (bytes : List ℕ) (h4 : ℕ) where
         }))
         found
 
-    taken-claimed : (j : ℕ) → j < n → Claimed a st j tag bytes h4 → Claimed s store j tag bytes h4 ⊎ Handed s i failed h payload store j tag bytes h4
+    pub taken-claimed : (j : ℕ) → j < n → Claimed a st j tag bytes h4 → Claimed s store j tag bytes h4 ⊎ Handed s i failed h payload store j tag bytes h4
     taken-claimed j b c =
         ⊎-elim (λ (e : j ≡ i). rw e (own-claimed (rw e at c))) (λ (d : j ≢ i). inl (other-claimed j d b c)) (eq-or-ne j i)
 
@@ -336,3 +337,16 @@ module _ (tag : ℕ) (bytes : List ℕ) (h4 : ℕ) where
       let group : groupAt (startRows kind count P W (length store) rows) ≡ groupWith kind count P W = started-with kind count P W (length store) rows e in
       ⊎-elim (λ (p : Claimed (x .rows) (x .store) j tag bytes h4). absurd (let w : flagOf (groupAt (startRows kind count P W (length store) rows) .begun) ≡ true = p .claims .begun in false≢true (rw group at w)))
       (λ (p : HandedIn x calls j). p) (run-claimed x calls k j (rw group b) c)
+
+-- What the first mark of a port says: all frames of the oldest epoch stand in the store.
+pub mark-claimed : (s : List (List ℕ)) (store : List ℕ) (j : ℕ) → flagOf (groupAt s .begun) ≡ true → firstMark (portAt s j .marks) ≡ true → (d : ℕ) → d < frames (groupAt s .kind)
+    → Claimed s store j (tagIn (groupAt s) d) (tabulate (groupAt s .payload) (λ k. getD store (placeIn (groupAt s) j d + k) 0)) (h4At (groupAt s) j d store)
+unfolding h4At byteAt
+mark-claimed s store j on first d b =
+    let g : Group = groupAt s in
+    record {
+      at = d;
+      claims = record { begun = on; has = inl (rw (first-epoch (g .kind) d b) (sym (first-mark (portAt s j .marks)) ∙ first)) };
+      tag-is = refl;
+      stands = record { bytes = λ k m. sym (getD-tabulate (g .payload) (λ k. getD store (placeIn g j d + k) 0) k 0 m); last = refl };
+    }

@@ -8,6 +8,8 @@ use native.Mathlib.Omega.{arith}
 use lib.ListN.{length}
 use Rattle.calls.specs.Arriving.{Counts, after-group, frame-by, portAfter, storeAfter}
 use Rattle.calls.specs.Calls.{Fetch, Frame, Receiver, ReceiverCall, receiverRun, receiverStep, run-kept, startedWith}
+use Rattle.calls.specs.Claimed.{Claimed, HandedBy, taken-claimed}
+use Rattle.calls.specs.Kept.Calls.{due-says}
 use Rattle.calls.specs.Kept.Group.{Kept}
 use Rattle.calls.specs.Kept.Start.{started-kept, started-with}
 use Rattle.calls.specs.Kept.Taken.{taken-whole}
@@ -66,15 +68,29 @@ pub record AllStay (s r : List (List ℕ)) : Type 0 where
 pub record AllUnruled (s r : List (List ℕ)) : Type 0 where
   pub ports : (j : ℕ) → j < groupAt s .count → Unruled (portAt r j)
 
--- a are the rows as the epoch is passed: a frame comes to its port first
-pub record AllPassed (s a : List (List ℕ)) (store : List ℕ) (r : List (List ℕ)) : Type 0 where
-  pub ports : (j : ℕ) → j < groupAt s .count → Passed (groupAt s) store j (portAt a j) (portAt r j)
-  pub oldest : groupAt r .oldest ≡ epochAfter (groupAt s .kind) (groupAt s .oldest)
+-- the rows in which a call passes an epoch, if it does: a frame comes to its port first
+abbrev pub rowsPassed : Receiver → ReceiverCall → List (List ℕ)
+rowsPassed x (Frame i failed h payload) = portAfter (x .rows) i failed h
+rowsPassed x (Fetch out report) = x .rows
 
-abbrev pub Ruled : List (List ℕ) → List (List ℕ) → List ℕ → List (List ℕ) → Type 0
-Ruled s a store r = AllStay s r ⊎ (AllUnruled s r ⊎ AllPassed s a store r)
+pub record AllPassed (x : Receiver) (c : ReceiverCall) (store : List ℕ) (r : List (List ℕ)) : Type 0 where
+  pub begun : flagOf (groupAt (rowsPassed x c) .begun) ≡ true
+  pub ports : (j : ℕ) → j < groupAt (x .rows) .count → Passed (groupAt (x .rows)) store j (portAt (rowsPassed x c) j) (portAt r j)
+  pub oldest : groupAt r .oldest ≡ epochAfter (groupAt (x .rows) .kind) (groupAt (x .rows) .oldest)
+  -- what a port claims then it claimed before the call, or it is the frame just handed
+  pub claimed : (tag : ℕ) (bytes : List ℕ) (h4 j : ℕ) → j < groupAt (x .rows) .count → Claimed (rowsPassed x c) store j tag bytes h4
+      → Claimed (x .rows) (x .store) j tag bytes h4 ⊎ HandedBy tag bytes h4 x c j
+
+abbrev pub Ruled : Receiver → ReceiverCall → List ℕ → List (List ℕ) → Type 0
+Ruled x c store r = AllStay (x .rows) r ⊎ (AllUnruled (x .rows) r ⊎ AllPassed x c store r)
 
 module _ (s : List (List ℕ)) (k : Kept s) (i : ℕ) (failed : Bool) (h : ℕ) (payload store : List ℕ) where
+  abbrev x : Receiver
+  x = record { rows = s; store = store }
+
+  abbrev call : ReceiverCall
+  call = Frame i failed h payload
+
   abbrev n : ℕ
   n = groupAt s .count
 
@@ -97,19 +113,21 @@ module _ (s : List (List ℕ)) (k : Kept s) (i : ℕ) (failed : Bool) (h : ℕ) 
       (λ (d : j ≢ i). rw (frame-other (groupAt s .kind) s i (takenIn s i failed h) h j d) (record { ruling = refl; whole = refl }))
       (eq-or-ne j i)
 
-  pub frame-ruled : Ruled s a (frameStore s i failed h payload store) (frameRows s i failed h payload store)
+  pub frame-ruled : Ruled x call (frameStore s i failed h payload store) (frameRows s i failed h payload store)
   frame-ruled =
-      frame-by (λ (r : List (List ℕ)) (m : List ℕ). Ruled s a m r) s k i failed h payload store
+      frame-by (λ (r : List (List ℕ)) (m : List ℕ). Ruled x call m r) s k i failed h payload store
       (inl (record { ports = λ j c. record { ruling = refl; whole = refl }; oldest = refl }))
       (λ (o : Counts s i failed h payload store).
-      settled-by (λ (r : List (List ℕ)). Ruled s a st r) n st a (o .long)
+      settled-by (λ (r : List (List ℕ)). Ruled x call st r) n st a (o .long)
       (inl (record { ports = λ j c. before (o .port) j; oldest = ap (λ (g : Group). g .oldest) same }))
       (λ b q f w.
       inr (inr (record {
+        begun = b;
         ports = λ j c.
             rw (passed-of-port (groupAt a) st n a j c (o .long))
             (record { ruling = rw same refl; whole = step-whole (portAt a j .step) (firstMark (portAt a j .marks)) });
         oldest = ap (λ (g : Group). g .oldest) (passed-group (groupAt a) st n a (let l = o .long in omega arith)) ∙ passed-oldest (groupAt a) ∙ rw same refl;
+        claimed = λ tag bytes h4 j c w. taken-claimed tag bytes h4 s k i failed h payload store o j c w;
       })))
       (λ b w. inr (inl (record { ports = λ j c. rw (begun-port (groupAt a) n a j c (o .long)) (record { whole = cleared-whole (portAt a j .step) _ }) })))
       (λ b q. inr (inl (record { ports = λ j c. rw (stopped-port (groupAt a) n a j c (o .long)) (record { whole = cleared-whole (portAt a j .step) _ }) })))
@@ -119,10 +137,15 @@ module _ (s : List (List ℕ)) (k : Kept s) (i : ℕ) (failed : Bool) (h : ℕ) 
       inr (inl (record { ports = λ j c. rw (begun-port (groupAt z) n z j c l) (record { whole = cleared-whole (portAt z j .step) _ }) }))))
 
 module _ (s : List (List ℕ)) (k : Kept s) (store out report : List ℕ) where
-  reported : AllPassed s s store (reportedOf (groupAt s) store (groupAt s .count) s)
+  abbrev y : Receiver
+  y = record { rows = s; store = store }
+
+  reported : flagOf (groupAt s .begun) ≡ true → AllPassed y (Fetch out report) store (reportedOf (groupAt s) store (groupAt s .count) s)
   unfolding reportedOf
-  reported =
+  reported on =
       record {
+        begun = on;
+        claimed = λ tag bytes h4 j c w. inl w;
         ports = λ j c.
             rw (told-of-port (groupAt p) (groupAt s .count) p j c l, passed-of-port (groupAt s) store (groupAt s .count) s j c enough)
             (record { ruling = refl; whole = step-whole (portAt s j .step) (firstMark (portAt s j .marks)) });
@@ -141,11 +164,11 @@ module _ (s : List (List ℕ)) (k : Kept s) (store out report : List ℕ) where
       l : rowsFor (groupAt s .count) ≤ length (passedOf (groupAt s) store (groupAt s .count) s)
       l = rw (length-passed (groupAt s) store (groupAt s .count) s) enough
 
-  pub fetch-ruled : Ruled s s store (fetchRows s store out report)
+  pub fetch-ruled : Ruled y (Fetch out report) store (fetchRows s store out report)
   unfolding fetchRows givenRows
   fetch-ruled =
-      rows-by (Ruled s s store) (fits s store out report) (cond (dueIn g (portsIn g) s) (reportedOf g store (portsIn g) s) s) s
-      (λ e. rows-by (Ruled s s store) (dueIn g (portsIn g) s) (reportedOf g store (portsIn g) s) s (λ d. inr (inr (rw ports reported))) (λ d. stays)) (λ e. stays)
+      rows-by (Ruled y (Fetch out report) store) (fits s store out report) (cond (dueIn g (portsIn g) s) (reportedOf g store (portsIn g) s) s) s
+      (λ e. rows-by (Ruled y (Fetch out report) store) (dueIn g (portsIn g) s) (reportedOf g store (portsIn g) s) s (λ d. inr (inr (rw ports (reported (due-says g (portsIn g) s d .begun))))) (λ d. stays)) (λ e. stays)
     where
       g : Group
       g = groupAt s
@@ -153,16 +176,11 @@ module _ (s : List (List ℕ)) (k : Kept s) (store out report : List ℕ) where
       ports : portsIn (groupAt s) ≡ groupAt s .count
       ports = ports-are (groupAt s) (k .steady .group .sizes)
 
-      stays : Ruled s s store s
+      stays : Ruled y (Fetch out report) store s
       stays = inl (record { ports = λ j c. record { ruling = refl; whole = refl }; oldest = refl })
 
--- the rows in which a call passes an epoch, if it does
-abbrev pub rowsPassed : Receiver → ReceiverCall → List (List ℕ)
-rowsPassed x (Frame i failed h payload) = portAfter (x .rows) i failed h
-rowsPassed x (Fetch out report) = x .rows
-
 -- A12, of every call
-pub step-ruled : (x : Receiver) (c : ReceiverCall) → Kept (x .rows) → Ruled (x .rows) (rowsPassed x c) (receiverStep x c .store) (receiverStep x c .rows)
+pub step-ruled : (x : Receiver) (c : ReceiverCall) → Kept (x .rows) → Ruled x c (receiverStep x c .store) (receiverStep x c .rows)
 step-ruled x (Frame i failed h payload) k = frame-ruled (x .rows) k i failed h payload (x .store)
 step-ruled x (Fetch out report) k = fetch-ruled (x .rows) k (x .store) out report
 
@@ -184,7 +202,7 @@ module _ (x : Receiver) (k₀ : Kept (x .rows)) where
   now-kept calls = run-kept x calls k₀
 
   step-one : (calls : List ReceiverCall) (c : ReceiverCall) → OneEpoch x calls → OneEpoch x (calls ++ (c ∷ []))
-  step-one calls c o = ⊎-elim stay (λ (u : AllUnruled (now .rows) (next .rows) ⊎ AllPassed (now .rows) (rowsPassed now c) (next .store) (next .rows)). ⊎-elim unruled passed u) (step-ruled now c (now-kept calls))
+  step-one calls c o = ⊎-elim stay (λ (u : AllUnruled (now .rows) (next .rows) ⊎ AllPassed now c (next .store) (next .rows)). ⊎-elim unruled passed u) (step-ruled now c (now-kept calls))
     where
       now : Receiver
       now = receiverRun x calls
@@ -224,7 +242,7 @@ module _ (x : Receiver) (k₀ : Kept (x .rows)) where
           none-rules
           (rw then-is (λ j b. off-flag (portAt (next .rows) j .step .whole) (a .ports j (rw (← count) b) .whole)))
 
-      passed : AllPassed (now .rows) (rowsPassed now c) (next .store) (next .rows) → OneEpoch x (calls ++ (c ∷ []))
+      passed : AllPassed now c (next .store) (next .rows) → OneEpoch x (calls ++ (c ∷ []))
       passed a =
           passed-in calls c [] refl
           (rw then-is (λ j b w.
