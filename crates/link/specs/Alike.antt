@@ -1,17 +1,17 @@
 -- The last sentence of demand 3: 'over the same tags, delays, first frames and port orders, client streams that differ in an epoch reported sure never come out alike'.
 use mathlib.Core.Path.{_≡_, sym, ap, _∙_, subst}
-use mathlib.Core.Logic.{inl, inr, ⊎-elim, _≢_}
+use mathlib.Core.Logic.{inl, inr, _≢_}
 use mathlib.Core.List.{List, [], _∷_, _++_, append-assoc}
 use Prim.Native.Nat.{ℕ, suc, _+_, _*_, _/_, _≤_, _<_}
 use native.Mathlib.Omega.{arith}
 use lib.ListN.{length, length-append}
 use Rattle.ground.specs.Table.{tabulate}
-use Rattle.ground.specs.Truth.{eq-or-ne, le-or-lt}
 use Rattle.packet.specs.Kinds.{firstTag, frames}
 use Rattle.step.specs.Laws.Run.{startFrom}
 use Rattle.link.specs.Demand3.{FullyArrived, Reported, Time, standing}
 use Rattle.link.specs.History.{firstTagOf}
 use Rattle.link.specs.Judged.Apart.{EitherSure, never-alike}
+use Rattle.link.specs.Laws.Lists.{not-apart}
 use Rattle.link.specs.Link.{Alike, Assumed, Link, SameIn, epochFrames, expected, roadOf}
 use Rattle.link.specs.Moments.{Beginning, NotAfter, Ready, Run, coming, nextAt}
 use Rattle.link.specs.Transport.Times.{coming-is, rest-of}
@@ -89,20 +89,10 @@ module _ (k j : Link) (l : Alike k j) (n : k .history .slots ≡ j .history .slo
   other-way = no-sooner j k (back k j l n) (sym n) rj rk G F bj bk
 
   same-time : bk .time ≡ bj .time
-  same-time =
-      ⊎-elim
-      (λ (h : bk .time ≤ bj .time).
-      ⊎-elim (λ (e : bk .time ≡ bj .time). e) (λ (d : bk .time ≢ bj .time). absurd (one-way .0 (omega arith))) (eq-or-ne (bk .time) (bj .time)))
-      (λ (h : bj .time < bk .time). absurd (other-way .0 h))
-      (le-or-lt (bk .time) (bj .time))
+  same-time = not-apart (bk .time) (bj .time) (one-way .0) (other-way .0)
 
   same-done : length (bk .done) ≡ length (bj .done)
-  same-done =
-      ⊎-elim
-      (λ (h : length (bk .done) ≤ length (bj .done)).
-      ⊎-elim (λ (e : length (bk .done) ≡ length (bj .done)). e) (λ (d : length (bk .done) ≢ length (bj .done)). absurd (one-way .1 same-time (omega arith))) (eq-or-ne (length (bk .done)) (length (bj .done))))
-      (λ (h : length (bj .done) < length (bk .done)). absurd (other-way .1 (sym same-time) h))
-      (le-or-lt (length (bk .done)) (length (bj .done)))
+  same-done = not-apart (length (bk .done)) (length (bj .done)) (one-way .1 same-time) (other-way .1 (sym same-time))
 
   same-rest : bk .rest ≡ bj .rest
   unfolding roadOf
@@ -163,12 +153,7 @@ module _ (k j : Link) (l : Alike k j) (n : k .history .slots ≡ j .history .slo
       (arrived-too k j l n at bt same-t same-rest (suc (suc (ok .F / epochFrames k) + oj .many)) (ok .arrived (oj .many) h)))
 
   many-same : ok .many ≡ oj .many
-  many-same =
-      ⊎-elim
-      (λ (h : ok .many ≤ oj .many).
-      ⊎-elim (λ (e : ok .many ≡ oj .many). e) (λ (d : ok .many ≢ oj .many). absurd (not-fewer (omega arith))) (eq-or-ne (ok .many) (oj .many)))
-      (λ (h : oj .many < ok .many). absurd (not-more h))
-      (le-or-lt (ok .many) (oj .many))
+  many-same = not-apart (ok .many) (oj .many) not-fewer not-more
 
   -- client streams that differ in an epoch that either run reports sure: the lists of reports differ
   pub never : (ak : Assumed k) (aj : Assumed j) (m : ℕ) → m < ok .many → EitherSure k j ak aj l (suc (ok .F / epochFrames k) + m)

@@ -6,9 +6,8 @@ use mathlib.Core.List.{List, [], _∷_, _++_}
 use Prim.Native.Nat.{ℕ, zero, suc, _+_, _-_, _*_, _≤_, _<_}
 use lib.Dec.{leb, ltb}
 use lib.ListN.{length}
-use Rattle.packet.specs.Kinds.{frames}
 use Rattle.step.specs.Laws.Run.{startFrom}
-use Rattle.link.specs.Road.{Road, times}
+use Rattle.link.specs.Road.{L, Road, times}
 use Rattle.link.specs.Running.{Moment, hasBegun, through, turns}
 
 -- a run: what stands in a frame time after the ports of a list have been served
@@ -36,8 +35,8 @@ module _ (r : Road) where
 
   -- every port has had two multiframes, the first of which starts at MFI1 0, and no two are further apart than the spread
   pub record Ready (coming : ℕ → ℕ) : Type 0 where
-    pub stepped : (q : ℕ) → q < r .ports → startFrom (r .kind) (r .offset) (r .first q) + frames (r .kind) * 2 ≤ coming q
-    pub near : (p q : ℕ) → p < r .ports → q < r .ports → coming p + frames (r .kind) ≤ coming q + r .window
+    pub stepped : (q : ℕ) → q < r .ports → startFrom (r .kind) (r .offset) (r .first q) + L r * 2 ≤ coming q
+    pub near : (p q : ℕ) → p < r .ports → q < r .ports → coming p + L r ≤ coming q + r .window
 
   -- a moment that is not after another: by frame time, and by how many ports have been served in it
   abbrev pub NotAfter : ℕ → List ℕ → ℕ → List ℕ → Type 0
@@ -62,7 +61,7 @@ module _ (r : Road) where
 
   -- the answer to port p's frame at position x: 12 until the port has had two multiframes, the first of which starts at MFI1 0
   abbrev pub said : ℕ → ℕ → ℕ
-  said p x = cond (leb (startFrom (r .kind) (r .offset) (r .first p) + frames (r .kind) * 2) (x + 1)) 0 12
+  said p x = cond (leb (startFrom (r .kind) (r .offset) (r .first p) + L r * 2) (x + 1)) 0 12
 
   -- of a port's turn in frame time t
   abbrev pub saysOne : ℕ → ℕ → List ℕ

@@ -52,11 +52,11 @@ pub record Fair (r : Road) : Type 0 where
   pub counted : (p x : ℕ) → p < r .ports → r .first p ≤ x → SentWith (r .kind) (r .offset + x) (r .h4 p x)
   pub long : (p x : ℕ) → p < r .ports → length (r .bytes p x) ≡ r .payload
   -- 'spread at most the window less 16 frames'
-  pub spread : (p q : ℕ) → p < r .ports → q < r .ports → r .delay p + frames (r .kind) ≤ r .delay q + r .window
+  pub spread : (p q : ℕ) → p < r .ports → q < r .ports → r .delay p + L r ≤ r .delay q + r .window
   -- every port once in each frame time
   pub once : (t p : ℕ) → p < r .ports → times p (r .order t) ≡ 1
   pub only : (t : ℕ) → Below (r .ports) (r .order t)
-  pub room : (k : ℕ) → r .ports * frames (r .kind) * r .payload ≤ length (r .output k)
+  pub room : (k : ℕ) → r .ports * L r * r .payload ≤ length (r .output k)
   -- position 0 starts an epoch
   pub starts : startsEpoch (r .kind) (r .offset) ≡ true
 

@@ -86,11 +86,6 @@ module _ (g : Group) (t : ℕ) where
   unfolding distanceIn distanceOf after firstTag startsEpoch placeOf tags lead frames
   at-base z = (eq-eqb ((t + 8) % 16) 0 (omega arith), omega arith)
 
--- the epoch of a distance in the window
-pub epochs-at : (kind d : ℕ) → d + d < tags kind → epochsIn kind d * frames kind + d % frames kind ≡ d
-unfolding epochsIn tags frames epochs
-epochs-at kind d h = omega arith
-
 -- an epoch ends within d + 1 frames exactly if it did within d, or the frame at d is its last one
 pub ends-more : (kind i d : ℕ) → d + d < tags kind → endsEpoch kind d ≡ true
     → leb (frames kind * i + frames kind) (d + 1) ≡ (leb (frames kind * i + frames kind) d || eqb i (epochsIn kind d))

@@ -9,10 +9,11 @@ use native.Mathlib.Omega.{arith}
 use lib.ListN.{getD, length, length-append}
 use borrow.Author.Tests.{ne-eqb}
 use Rattle.ground.specs.Table.{getD-tabulate, tabulate}
-use Rattle.ground.specs.Truth.{eq-or-ne, le-or-lt}
+use Rattle.ground.specs.Truth.{eq-or-ne}
 use Rattle.judge.specs.Verdict.{HELD, SURE}
 use Rattle.packet.specs.Kinds.{frames}
 use Rattle.link.specs.History.{Client, xAt}
+use Rattle.link.specs.Laws.Lists.{not-apart}
 use Rattle.link.specs.Laws.Numbers.{epoch-in, frames-cancel}
 use Rattle.link.specs.Link.{Alike, Assumed, Link, SameIn, allAsSent, clientBytes, epochFrames, expected, framesOf}
 use Rattle.link.specs.Road.{Below, times}
@@ -113,10 +114,4 @@ fewer-not k j ak aj e h =
 
 pub same-ports : (k j : Link) → Assumed k → Assumed j → Alike k j → k .history .slots ≡ j .history .slots
 same-ports k j ak aj l =
-    ⊎-elim
-    (λ (h : k .history .slots ≤ j .history .slots).
-    ⊎-elim (λ (e : k .history .slots ≡ j .history .slots). e)
-    (λ (d : k .history .slots ≢ j .history .slots). absurd (fewer-not k j ak aj (l .order 0) (omega arith)))
-    (eq-or-ne (k .history .slots) (j .history .slots)))
-    (λ (h : j .history .slots < k .history .slots). absurd (fewer-not j k aj ak (sym (l .order 0)) h))
-    (le-or-lt (k .history .slots) (j .history .slots))
+    not-apart (k .history .slots) (j .history .slots) (fewer-not k j ak aj (l .order 0)) (fewer-not j k aj ak (sym (l .order 0)))

@@ -1,5 +1,6 @@
--- Lists and tests of all, as the reports' bytes and the owing port want them.
+-- Lists, numbers and tests of all, as the reports' bytes, the last sentence and the owing port want them.
 use mathlib.Core.Path.{_≡_, refl, ap, _∙_}
+use mathlib.Core.Logic.{⊎-elim, _≢_}
 use mathlib.Core.Bool.{Bool, true, false, _&&_, true≢false}
 use mathlib.Core.List.{List, _∷_, _++_}
 use Prim.Native.Nat.{ℕ, zero, suc, _+_, _≤_, _<_}
@@ -9,6 +10,12 @@ use lib.Seq.{getD-take, length-take-le}
 use Rattle.counting.specs.Words.{every}
 use Rattle.ground.specs.Drawn.{fillAt, getD-fillAt, length-fillAt}
 use Rattle.ground.specs.Table.{tabulate, tabulate-ext, tabulate-is}
+use Rattle.ground.specs.Truth.{eq-or-ne, le-or-lt}
+
+-- two numbers of which neither is less
+pub not-apart : (m n : ℕ) → (m < n → ⊥) → (n < m → ⊥) → m ≡ n
+not-apart m n less more =
+    ⊎-elim (λ (h : m ≤ n). ⊎-elim (λ (e : m ≡ n). e) (λ (d : m ≢ n). absurd (less (omega arith))) (eq-or-ne m n)) (λ (h : n < m). absurd (more h)) (le-or-lt m n)
 
 -- one at which a test of all fails
 pub record Lacks (n : ℕ) (f : ℕ → Bool) : Type 0 where

@@ -99,11 +99,3 @@ packet-epoch h a i slot = sender-in h a i .epoch
 pub packet-gid : (h : History) → Allowed h → (i slot : ℕ) → fieldsSent h i slot .gid ≡ h .gid i
 unfolding packetFields
 packet-gid h a i slot = sender-in h a i .gid
-
-pub packet-mst : (h : History) → Allowed h → (i slot : ℕ) → fieldsSent h i slot .mst ≡ h .mst i
-unfolding packetFields
-packet-mst h a i slot = sender-in h a i .mst
-
-pub packet-ack : (h : History) → Allowed h → (i slot : ℕ) → fieldsSent h i slot .«rs_ack» ≡ h .ack i
-unfolding packetFields
-packet-ack h a i slot = sender-in h a i .ack

@@ -6,10 +6,9 @@ use Prim.Native.Nat.{ℕ, zero, suc, _+_, _-_, _*_, _/_, _≤_, _<_}
 use native.Mathlib.Omega.{arith}
 use borrow.Author.Tests.{le-leb, lt-leb}
 use Rattle.ground.specs.Truth.{le-or-lt}
-use Rattle.packet.specs.Kinds.{frames}
 use Rattle.step.specs.Laws.Run.{startFrom}
 use Rattle.link.specs.Moments.{coming, reached, said, says, saysOne, saysThrough}
-use Rattle.link.specs.Road.{Fair, Road}
+use Rattle.link.specs.Road.{Fair, L, Road}
 use Rattle.link.specs.Running.{Moment, framed, through, turn, turns}
 use Rattle.link.specs.Standing.{Before, First, Later, Owes}
 use Rattle.link.specs.Transport.Fetches.{drained-answers}
@@ -26,8 +25,8 @@ module _ (r : Road) where
     pub later-says : (m : Moment) (p g i : ℕ) (n n′ : ℕ → ℕ) → Served r p n n′ → Reach r p n → Later r m n g i → Owes r n (suc i) → framed r p (n p) m .answers ≡ m .answers ++ (0 ∷ [])
 
   -- in step, the answer is 0
-  said-in : (p x : ℕ) → startFrom (r .kind) (r .offset) (r .first p) + frames (r .kind) * 2 ≤ x → said r p x ≡ 0
-  said-in p x h = rw (le-leb (startFrom (r .kind) (r .offset) (r .first p) + frames (r .kind) * 2) (x + 1) (omega arith)) refl
+  said-in : (p x : ℕ) → startFrom (r .kind) (r .offset) (r .first p) + L r * 2 ≤ x → said r p x ≡ 0
+  said-in p x h = rw (le-leb (startFrom (r .kind) (r .offset) (r .first p) + L r * 2) (x + 1) (omega arith)) refl
 
   module _ (m₀ : Moment) (f : Fair r) (s : Steps r) (a : Says) (start : Before r m₀ (r .first)) where
     module _ (t p : ℕ) (done ps : List ℕ) (is-order : r .order t ≡ done ++ (p ∷ ps)) (o : Rest r (p ∷ ps)) where
@@ -43,10 +42,10 @@ module _ (r : Road) where
           go : Phase r m₀ t done here (coming r t (p ∷ ps)) → framed r p (t - r .delay p) here .answers ≡ here .answers ++ (said r p (t - r .delay p) ∷ [])
           go (before b un) = rw position at (a .before-says here p (coming r t (p ∷ ps)) (coming r t ps) (served-coming r t p ps o late) b)
           go (first F b c) =
-              rw position at (a .first-says here p (suc (F / frames (r .kind))) (coming r t (p ∷ ps)) (coming r t ps) (served-coming r t p ps o late) (reach-coming r f t p ps o late) c)
+              rw position at (a .first-says here p (suc (F / L r)) (coming r t (p ∷ ps)) (coming r t ps) (served-coming r t p ps o late) (reach-coming r f t p ps o late) c)
               ∙ ap (λ (n : ℕ). here .answers ++ (n ∷ [])) (sym (said-in p (t - r .delay p) (rw position at (c .open-at .in-step p (o .all-below .0)))))
           go (later F i b c w) =
-              rw position at (a .later-says here p (suc (F / frames (r .kind))) i (coming r t (p ∷ ps)) (coming r t ps) (served-coming r t p ps o late) (reach-coming r f t p ps o late) c w)
+              rw position at (a .later-says here p (suc (F / L r)) i (coming r t (p ∷ ps)) (coming r t ps) (served-coming r t p ps o late) (reach-coming r f t p ps o late) c w)
               ∙ ap (λ (n : ℕ). here .answers ++ (n ∷ [])) (sym (said-in p (t - r .delay p) (rw position at (c .open-at .in-step p (o .all-below .0)))))
 
       turn-says : turn r t p here .answers ≡ here .answers ++ saysOne r t p

@@ -34,7 +34,7 @@ use Rattle.step.specs.Run.{inStepAt}
 use Rattle.store.specs.Laws.Marks.{mark-none, sixteen-none}
 use Rattle.link.specs.Laws.Numbers.{behind-far, epoch-after-le, epoch-after-lt, epoch-after-tag, frames-many, frames-run, frames-some, frames-two, tag-before}
 use Rattle.link.specs.Moments.{Foremost}
-use Rattle.link.specs.Road.{Fair, Road, sizes-in}
+use Rattle.link.specs.Road.{Fair, L, Road, sizes-in}
 use Rattle.link.specs.Running.{Moment, framed}
 use Rattle.link.specs.Standing.{Before, First, Heard, Lined, Open}
 use Rattle.link.specs.Transport.Call.{framed-is}
@@ -107,7 +107,7 @@ ready-back g s e t =
 module _ (r : Road) where
   -- the port whose next frame is the one at x is in step
   abbrev pub InStep : ℕ → ℕ → Type 0
-  InStep p x = runFrom r p + frames (r .kind) * 2 ≤ x
+  InStep p x = runFrom r p + L r * 2 ≤ x
 
 module _ (r : Road) (f : Fair r) where
   sizes : Sizes (r .kind) (r .ports) (r .payload) (r .window)
@@ -119,15 +119,15 @@ module _ (r : Road) (f : Fair r) where
     unfolding inStep
     steps q b far = rw (o .kind-is) (heard-in-step r q (coming q) (stepAt (m .rows) q) (o .heard q b) far)
 
-    steps-not : (q : ℕ) → q < r .ports → coming q < runFrom r q + frames (r .kind) * 2 → inStep (groupAt (m .rows)) (stepAt (m .rows) q) ≡ false
+    steps-not : (q : ℕ) → q < r .ports → coming q < runFrom r q + L r * 2 → inStep (groupAt (m .rows)) (stepAt (m .rows) q) ≡ false
     unfolding inStep
     steps-not q b near = rw (o .kind-is) (heard-short r q (coming q) (stepAt (m .rows) q) (o .heard q b) near)
 
     steps-back : (q : ℕ) → q < r .ports → inStep (groupAt (m .rows)) (stepAt (m .rows) q) ≡ true → InStep r q (coming q)
     steps-back q b e =
         ⊎-elim (λ (far : InStep r q (coming q)). far)
-        (λ (near : coming q < runFrom r q + frames (r .kind) * 2). absurd (true≢false (sym e ∙ steps-not q b near)))
-        (le-or-lt (runFrom r q + frames (r .kind) * 2) (coming q))
+        (λ (near : coming q < runFrom r q + L r * 2). absurd (true≢false (sym e ∙ steps-not q b near)))
+        (le-or-lt (runFrom r q + L r * 2) (coming q))
 
     -- the latest tag of a port in step is that of its latest position
     latest-is : (q : ℕ) → q < r .ports → InStep r q (coming q) → latest (groupAt (m .rows)) (stepAt (m .rows) q) ≡ tagOf (r .kind) (r .offset + (coming q - 1))
@@ -141,7 +141,7 @@ module _ (r : Road) (f : Fair r) where
     had-is q b late = o .heard q b .had ∙ rw (lt-ltb (r .first q) (coming q) late) refl
 
     -- 'A fresh receiver begins' where all ports are in step and none is further behind than the spread.
-    pub must-begin : ((q : ℕ) → q < r .ports → InStep r q (coming q)) → ((p q : ℕ) → p < r .ports → q < r .ports → coming p + frames (r .kind) ≤ coming q + r .window)
+    pub must-begin : ((q : ℕ) → q < r .ports → InStep r q (coming q)) → ((p q : ℕ) → p < r .ports → q < r .ports → coming p + L r ≤ coming q + r .window)
         → begins (groupAt (m .rows)) (m .rows) (r .ports) ≡ true
     must-begin far near =
         let z = sizes in
@@ -163,10 +163,6 @@ module _ (r : Road) (f : Fair r) where
               (near-of (r .kind) (r .offset) (coming k) (coming j) (r .window) (let w = far j b in omega arith) (top .most j b) (near k j (top .below) b) (z .round));
         } in
         complete (groupAt (m .rows)) (m .rows) (r .ports) (tagOf (r .kind) (r .offset + (coming k - 1))) arc (rw (o .kind-is, o .window-is) (z .narrow)) .0
-
-    pub not-before : ((q : ℕ) → q < r .ports → InStep r q (coming q)) → ((p q : ℕ) → p < r .ports → q < r .ports → coming p + frames (r .kind) ≤ coming q + r .window)
-        → Before r m coming → ⊥
-    not-before far near before = true≢false (sym (must-begin far near) ∙ before .unfit)
 
     -- The beginning: all ports are in step, the foremost tag is that of the foremost position, and none is further behind it than the spread.
 
@@ -200,11 +196,11 @@ module _ (r : Road) (f : Fair r) where
       unfolding top fore
       fore-tag = sym (arc .fore-is) ∙ latest-is top top-in (all-in top top-in)
 
-      none-behind : (q : ℕ) → q < r .ports → (coming q ≤ coming top) × (coming top + frames (r .kind) ≤ coming q + r .window)
+      none-behind : (q : ℕ) → q < r .ports → (coming q ≤ coming top) × (coming top + L r ≤ coming q + r .window)
       unfolding fore
       none-behind q b =
           let near = arc .behind q b (steps q b (all-in q b)) in
-          let near : distanceOf (r .kind) (tagOf (r .kind) (r .offset + (coming top - 1))) (tagOf (r .kind) (r .offset + (coming q - 1))) + frames (r .kind) ≤ r .window =
+          let near : distanceOf (r .kind) (tagOf (r .kind) (r .offset + (coming top - 1))) (tagOf (r .kind) (r .offset + (coming q - 1))) + L r ≤ r .window =
           rw (fore-tag, latest-is q b (all-in q b), o .kind-is, o .window-is) at near in
           let late = all-late q b in
           let late-top = all-late top top-in in
@@ -224,17 +220,17 @@ module _ (r : Road) (f : Fair r) where
 
       -- the first epoch to start after it
       epoch : ℕ
-      epoch = suc (fore / frames (r .kind))
+      epoch = suc (fore / L r)
 
-      next-after : fore < epoch * frames (r .kind)
+      next-after : fore < epoch * L r
       unfolding epoch
       next-after = epoch-after-lt (r .kind) fore
 
-      next-soon : epoch * frames (r .kind) ≤ fore + frames (r .kind)
+      next-soon : epoch * L r ≤ fore + L r
       unfolding epoch
       next-soon = epoch-after-le (r .kind) fore
 
-      nobody-there : (q : ℕ) → q < r .ports → coming q ≤ epoch * frames (r .kind)
+      nobody-there : (q : ℕ) → q < r .ports → coming q ≤ epoch * L r
       nobody-there q b =
           let w = none-behind q b .0 in
           let v = top-is in
@@ -269,16 +265,16 @@ module _ (r : Road) (f : Fair r) where
       oldest-begun : groupAt rows-begun .oldest ≡ epochAfter (r .kind) (epochOf (r .kind) (tagOf (r .kind) (r .offset + fore)))
       oldest-begun = ap (λ (g : Group). g .oldest) group-begun ∙ rw (fore-tag, o .kind-is) refl
 
-      tag-begun : firstTag (r .kind) (groupAt rows-begun .oldest) ≡ tagOf (r .kind) (r .offset + epoch * frames (r .kind))
+      tag-begun : firstTag (r .kind) (groupAt rows-begun .oldest) ≡ tagOf (r .kind) (r .offset + epoch * L r)
       unfolding epoch
       tag-begun = ap (firstTag (r .kind)) oldest-begun ∙ epoch-after-tag (r .kind) (r .offset) fore (f .starts)
 
-      no-epoch : (q k : ℕ) → q < r .ports → leb (epoch * frames (r .kind) + (k + 1) * frames (r .kind)) (coming q) ≡ false
+      no-epoch : (q k : ℕ) → q < r .ports → leb (epoch * L r + (k + 1) * L r) (coming q) ≡ false
       no-epoch q k b =
           let w = nobody-there q b in
           let some = frames-some (r .kind) in
           let many = frames-many (r .kind) k in
-          lt-leb (epoch * frames (r .kind) + (k + 1) * frames (r .kind)) (coming q) (omega arith)
+          lt-leb (epoch * L r + (k + 1) * L r) (coming q) (omega arith)
 
       module _ (answers : List ℕ) where
         moment-begun : Moment
@@ -322,7 +318,7 @@ module _ (r : Road) (f : Fair r) where
             record {
               open-at = open-begun;
               gathered = ap (λ (g : Group). g .gathered) group-begun;
-              joined = λ q b. rw (step-begun q b, le-ltb (epoch * frames (r .kind)) (coming q) (nobody-there q b)) refl;
+              joined = λ q b. rw (step-begun q b, le-ltb (epoch * L r) (coming q) (nobody-there q b)) refl;
               owes = record { port = top; below = top-in; owes = (let w = nobody-there top top-in in let some = frames-some (r .kind) in omega arith) };
               told = none;
             }
@@ -338,13 +334,13 @@ module _ (r : Road) (f : Fair r) where
 
   pub record Counted (p x : ℕ) (t : Taken) : Type 0 where
     -- '12: port not in step after this frame'
-    pub answer : t .answer ≡ cond (leb (runFrom r p + frames (r .kind) * 2) (x + 1)) 0 12
+    pub answer : t .answer ≡ cond (leb (runFrom r p + L r * 2) (x + 1)) 0 12
     pub settles : t .settles ≡ true
     pub kept : t .kept ≡ false
     pub heard : Heard r p (x + 1) (t .step)
 
   module _ (g : Group) (p x : ℕ) (s : Step) (k : g .kind ≡ r .kind) (b : p < r .ports) (o : Heard r p x s) (unbegun : g .begun ≡ 0) where
-    in-step-now : (q : Step) → q .count ≡ ranOn g s (r .h4 p x) .count → Heard r p (x + 1) q → stepped g s (r .h4 p x) ≡ leb (runFrom r p + frames (r .kind) * 2) (x + 1)
+    in-step-now : (q : Step) → q .count ≡ ranOn g s (r .h4 p x) .count → Heard r p (x + 1) q → stepped g s (r .h4 p x) ≡ leb (runFrom r p + L r * 2) (x + 1)
     in-step-now q e h =
         ap (λ (n : ℕ). inStepAt n (ranOn g s (r .h4 p x) .count)) k
         ∙ ap (λ (n : ℕ). inStepAt (r .kind) n) (sym e)
@@ -388,7 +384,7 @@ module _ (r : Road) (f : Fair r) where
     is-counted = counted (groupAt (m .rows)) p (coming p) (stepAt (m .rows) p) (o .lined .kind-is) b (o .lined .heard p b) (o .begun)
 
     not-outside : taken .answer ≢ 11
-    not-outside = go (leb (runFrom r p + frames (r .kind) * 2) (coming p + 1)) (is-counted .answer)
+    not-outside = go (leb (runFrom r p + L r * 2) (coming p + 1)) (is-counted .answer)
       where
         go : (c : Bool) → taken .answer ≡ cond c 0 12 → taken .answer ≢ 11
         go true e d = omega arith
@@ -404,11 +400,8 @@ module _ (r : Road) (f : Fair r) where
     then-is = framed-is r f m coming (o .lined) p (coming p) b not-outside ∙ rw (is-counted .settles, is-counted .kept) refl
 
     -- the answer: 0 if the port is in step after the frame, 12 if not
-    pub before-answer : framed r p (coming p) m .answers ≡ m .answers ++ (cond (leb (runFrom r p + frames (r .kind) * 2) (coming p + 1)) 0 12 ∷ [])
+    pub before-answer : framed r p (coming p) m .answers ≡ m .answers ++ (cond (leb (runFrom r p + L r * 2) (coming p + 1)) 0 12 ∷ [])
     before-answer = ap (λ (w : Moment). w .answers) then-is ∙ ap (λ (a : ℕ). m .answers ++ (a ∷ [])) (is-counted .answer)
-
-    pub before-told : framed r p (coming p) m .told ≡ m .told
-    before-told = ap (λ (w : Moment). w .told) then-is
 
     then-long : length rows-then ≡ rowsFor (r .ports)
     unfolding rows-then

@@ -1,13 +1,13 @@
 -- Fetches after the beginning: none is due while a port owes a frame of the oldest epoch, and otherwise the epoch is told as its contents say.
 use mathlib.Core.Path.{_≡_, refl, sym, ap, _∙_}
-use mathlib.Core.Logic.{_⊎_, inl, inr, ⊎-elim, _≢_}
+use mathlib.Core.Logic.{_≢_}
 use mathlib.Core.Bool.{Bool, true, false, cond, or-true}
 use mathlib.Core.List.{List, []}
 use Prim.Native.Nat.{ℕ, zero, suc, _+_, _-_, _*_, _/_, _%_, _≤_, _<_}
 use native.Mathlib.Omega.{arith}
 use lib.Dec.{eqb, ltb}
 use lib.ListN.{getD, length, replicate, take}
-use borrow.Author.Tests.{eq-eqb, le-leb, lt-ltb, ltb-true, ne-eqb}
+use borrow.Author.Tests.{eq-eqb, le-leb, lt-ltb, ltb-true}
 use Rattle.ground.specs.Drawn.{drawn-by}
 use Rattle.ground.specs.Table.{tabulate, tabulate-suc}
 use Rattle.judge.specs.declared.order.Order.{Order}
@@ -36,7 +36,7 @@ use Rattle.link.specs.Standing.{Later, Lined, Owes}
 use Rattle.link.specs.Told.{Told}
 use Rattle.link.specs.Transport.Bytes.{frames-taken}
 use Rattle.link.specs.Transport.Call.{ports-are}
-use Rattle.link.specs.Transport.Due.{AllCome, brought-all, brought-not, first-all, owes-or-come}
+use Rattle.link.specs.Transport.Due.{AllCome, brought-all, brought-not, first-all}
 use Rattle.link.specs.Transport.Passed.{gathered-now, joined-kept, open-passed, passed-to, ruling-now, whole-now}
 use Rattle.link.specs.Transport.StaysOpen.{gathered-told, open-stays, ruling-told, window-told}
 
@@ -129,9 +129,6 @@ module _ (r : Road) (fair : Fair r) where
     -- a port owes a frame of the oldest epoch
     pub owed-mark : Owes r coming (suc i) → getD (recordAt r m) 0 0 ≡ 0
     owed-mark w = mark-none m coming lined (due-is ∙ brought-not r fair m coming (suc i) (o .open-at) w)
-
-    pub owed-drained : Owes r coming (suc i) → (k : ℕ) → drained r k m ≡ m
-    owed-drained w k = drained-none m coming lined (due-is ∙ brought-not r fair m coming (suc i) (o .open-at) w) k
 
     -- none does
     module _ (all : AllCome r coming (suc i)) where
@@ -271,24 +268,6 @@ module _ (r : Road) (fair : Fair r) where
 
       pub due-mark : getD (recordAt r m) 0 0 ≢ 0
       due-mark e = mark-some seen (r .ports) (sym mark-told ∙ e)
-
-      pub due-drained : (k : ℕ) → drained r (suc k) m ≡ drained r k (fetched r m)
-      unfolding drained
-      due-drained k = rw (ne-eqb (getD (recordAt r m) 0 0) 0 due-mark) refl
-
-  -- Where no port is two epochs ahead of all that is told, at most one report is due, and then none.
-
-  pub later-drained : (m : Moment) (coming : ℕ → ℕ) (j i : ℕ) → Later r m coming j i → Owes r coming (suc (suc i)) → (k : ℕ) → 2 ≤ k
-      → (Later r (drained r k m) coming j i × Owes r coming (suc i)) ⊎ (Later r (drained r k m) coming j (suc i) × Owes r coming (suc (suc i)))
-  later-drained m coming j i o w zero h = absurd (omega arith)
-  later-drained m coming j i o w (suc zero) h = absurd (omega arith)
-  later-drained m coming j i o w (suc (suc k)) h =
-      ⊎-elim
-      (λ (v : Owes r coming (suc i)). inl (rw (owed-drained m coming j i o v (suc (suc k))) (o, v)))
-      (λ (all : AllCome r coming (suc i)).
-      let n = later-fetched m coming j i o all in
-      inr (rw (due-drained m coming j i o all (suc k), owed-drained (fetched r m) coming j (suc i) n w (suc k)) (n, w)))
-      (owes-or-come r coming (suc i))
 
   -- fetches answer no frame
   pub drained-answers : (k : ℕ) (m : Moment) → drained r k m .answers ≡ m .answers

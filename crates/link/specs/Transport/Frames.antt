@@ -31,12 +31,11 @@ use Rattle.store.specs.Laws.Stored.{length-stored}
 use Rattle.store.specs.Marks.{markIn}
 use Rattle.link.specs.Laws.Numbers.{frames-two}
 use Rattle.link.specs.Road.{Fair, L, Road}
-use Rattle.link.specs.Running.{Moment, drained, framed}
+use Rattle.link.specs.Running.{Moment, framed}
 use Rattle.link.specs.Standing.{First, Heard, Later, Open, Owes}
 use Rattle.link.specs.Transport.Arrives.{Goes, Joins, goes}
 use Rattle.link.specs.Transport.Call.{framed-is}
 use Rattle.link.specs.Transport.Due.{AllCome, brought-all, brought-not, not-silent, owes-or-come}
-use Rattle.link.specs.Transport.Fetches.{later-drained}
 use Rattle.link.specs.Transport.Passed.{PassedTo, gathered-now, joined-kept, open-passed, passed-to, ruling-now, whole-now}
 use Rattle.link.specs.Transport.Steps.{Gathered?, Reach, Served}
 use Rattle.link.specs.Transport.Steps.Gathered?.{gathers, waits}
@@ -374,19 +373,3 @@ module _ (r : Road) (fair : Fair r) (m : Moment) (p j i : ℕ) (coming coming′
 
   pub later-frame : Later r (framed r p (coming p) m) coming′ j i
   later-frame = rw (framed-stays r fair m coming coming′ (suc i) (o .open-at) p f near-later joins-later (inr (rw (o .gathered) refl))) later-on
-
-  -- it still owes of the epoch after next
-  owes-after : Owes r coming′ (suc (suc i))
-  owes-after =
-      let n = frames-two (r .kind) in
-      let short = w .owes in
-      let e = f .next in
-      ⊎-elim
-      (λ (s : w .port ≡ p). let u : coming (w .port) ≡ coming p = ap coming s in let v : coming′ (w .port) ≡ coming′ p = ap coming′ s in record { port = w .port; below = w .below; owes = omega arith })
-      (λ (d : w .port ≢ p). let v = f .others (w .port) d in record { port = w .port; below = w .below; owes = omega arith })
-      (eq-or-ne (w .port) p)
-
-  -- a frame and its fetches: at most one report more, and then some port owes again
-  pub later-turned : (k : ℕ) → 2 ≤ k
-      → (Later r (drained r k (framed r p (coming p) m)) coming′ j i × Owes r coming′ (suc i)) ⊎ (Later r (drained r k (framed r p (coming p) m)) coming′ j (suc i) × Owes r coming′ (suc (suc i)))
-  later-turned k many = later-drained r fair (framed r p (coming p) m) coming′ j i later-frame owes-after k many

@@ -1,6 +1,6 @@
 -- All frame times: what stands at every moment of a run.
 use mathlib.Core.Path.{_≡_, refl, sym, ap, _∙_, subst}
-use mathlib.Core.Logic.{_⊎_, inl, inr, ⊎-elim, _≢_}
+use mathlib.Core.Logic.{inl, inr, ⊎-elim, _≢_}
 use mathlib.Core.Bool.{Bool, true, false, cond, true≢false}
 use mathlib.Core.List.{List, [], _∷_, _++_, append-nil, append-assoc, tail}
 use Prim.Native.Nat.{ℕ, zero, suc, _+_, _-_, _*_, _/_, _≤_, _<_}
@@ -10,16 +10,16 @@ use lib.Dec.{ltb}
 use lib.ListN.{getD, length, length-append}
 use borrow.Author.Tests.{lt-ltb, eq-eqb, ne-eqb, le-leb, lt-leb, ltb-true}
 use Rattle.ground.specs.Truth.{eq-or-ne, le-or-lt}
-use Rattle.packet.specs.Kinds.{frames}
 use Rattle.phases.specs.Beginning.{begins}
 use Rattle.receiver.specs.Laws.Sizes.{window-some}
 use Rattle.rows.specs.Group.{groupAt}
 use Rattle.step.specs.Laws.Run.{start-from, startFrom}
 use Rattle.link.specs.Laws.Numbers.{frames-some, one-epoch}
 use Rattle.link.specs.Moments.{Beginning, Ready, Unready, coming, nextAt, reached}
-use Rattle.link.specs.Road.{Fair, Road, sizes-in}
+use Rattle.link.specs.Road.{Fair, L, Road, sizes-in}
 use Rattle.link.specs.Running.{Moment, drained, fetched, framed, hasBegun, recordAt, through, turn, turns}
 use Rattle.link.specs.Standing.{Before, First, Later, Lined, Owes}
+use Rattle.link.specs.Transport.Due.{AllCome, owes-or-come}
 use Rattle.link.specs.Transport.Moments.{Rest, apart, next-time, reach, rest-all, rest-tail, served, served-at, unserved}
 use Rattle.link.specs.Transport.Steps.{Apart, Begun?, Gathered?, Reach, Served}
 use Rattle.link.specs.Transport.Steps.Begun?.{comes, stays}
@@ -29,10 +29,6 @@ module _ (r : Road) where
   abbrev markNext : Moment → ℕ
   markNext m = getD (recordAt r m) 0 0
 
-  -- no port owes a frame of epoch i
-  abbrev pub NoneOwes : (ℕ → ℕ) → ℕ → Type 0
-  NoneOwes coming i = (q : ℕ) → q < r .ports → i * frames (r .kind) + frames (r .kind) ≤ coming q
-
   -- what the single steps are proved to do
   pub record Steps : Type 0 where
     pub on-before : (m : Moment) (p : ℕ) (coming coming′ : ℕ → ℕ) → Served r p coming coming′ → Apart r coming′ → Before r m coming → Begun? r (framed r p (coming p) m) coming′
@@ -41,7 +37,7 @@ module _ (r : Road) where
     pub before-none : (m : Moment) (coming : ℕ → ℕ) → Before r m coming → markNext m ≡ 0
     pub first-none : (m : Moment) (i : ℕ) (coming : ℕ → ℕ) → First r m coming i → markNext m ≡ 0
     pub later-none : (m : Moment) (g i : ℕ) (coming : ℕ → ℕ) → Later r m coming g i → Owes r coming (suc i) → markNext m ≡ 0
-    pub later-one : (m : Moment) (g i : ℕ) (coming : ℕ → ℕ) → Later r m coming g i → NoneOwes coming (suc i) → (markNext m ≢ 0) × Later r (fetched r m) coming g (suc i)
+    pub later-one : (m : Moment) (g i : ℕ) (coming : ℕ → ℕ) → Later r m coming g i → AllCome r coming (suc i) → (markNext m ≢ 0) × Later r (fetched r m) coming g (suc i)
     pub must-begin : (m : Moment) (coming : ℕ → ℕ) → Lined r m coming → Ready r coming → begins (groupAt (m .rows)) (m .rows) (r .ports) ≡ true
 
   -- fetching ends where none is due
@@ -53,23 +49,6 @@ module _ (r : Road) where
   drained-one : (k : ℕ) (m : Moment) → markNext m ≢ 0 → markNext (fetched r m) ≡ 0 → drained r (suc k) m ≡ fetched r m
   unfolding drained
   drained-one k m d e = rw (ne-eqb (getD (recordAt r m) 0 0) 0 d) (drained-none k (fetched r m) e)
-
-  -- some port owes, or none does
-  look : (coming : ℕ → ℕ) (i n : ℕ) → n ≤ r .ports → Owes r coming i ⊎ ((q : ℕ) → q < n → i * frames (r .kind) + frames (r .kind) ≤ coming q)
-  look coming i zero b = inr (λ q h. absurd (not-suc-le-zero h))
-  look coming i (suc n) b =
-      let rest = look coming i n (omega arith) in
-      ⊎-elim (λ (o : Owes r coming i). inl o)
-      (λ (all : (q : ℕ) → q < n → i * frames (r .kind) + frames (r .kind) ≤ coming q).
-      ⊎-elim
-      (λ (w : i * frames (r .kind) + frames (r .kind) ≤ coming n).
-      inr (λ q h. ⊎-elim (λ (e : q ≡ n). rw e w) (λ (d : q ≢ n). all q (omega arith)) (eq-or-ne q n)))
-      (λ (w : coming n < i * frames (r .kind) + frames (r .kind)). inl (record { port = n; below = b; owes = w }))
-      (le-or-lt (i * frames (r .kind) + frames (r .kind)) (coming n)))
-      rest
-
-  owing : (coming : ℕ → ℕ) (i : ℕ) → Owes r coming i ⊎ NoneOwes coming i
-  owing coming i = look coming i (r .ports) (omega arith)
 
   pub coming-is : (t : ℕ) (rest : List ℕ) (p : ℕ) → p < r .ports → coming r t rest p ≡ nextAt r t rest p
   unfolding coming
@@ -151,7 +130,7 @@ module _ (r : Road) where
       let i : rest ≡ r .order u = rest-of [] rest [] (r .order u) (sym (starts-with earlier rest (r .order u) (sym e) (h .1))) refl in
       let z : coming r u rest ≡ r .first = ap (λ (l : List ℕ). coming r u l) i ∙ ap (λ (v : ℕ). coming r v (r .order v)) (h .0) ∙ sym (coming-first f) in
       let w = y .stepped zero n in
-      let v : startFrom (r .kind) (r .offset) (r .first zero) + frames (r .kind) * 2 ≤ r .first zero = subst (λ (k : ℕ → ℕ). startFrom (r .kind) (r .offset) (r .first zero) + frames (r .kind) * 2 ≤ k zero) z w in
+      let v : startFrom (r .kind) (r .offset) (r .first zero) + L r * 2 ≤ r .first zero = subst (λ (k : ℕ → ℕ). startFrom (r .kind) (r .offset) (r .first zero) + L r * 2 ≤ k zero) z w in
       absurd (omega arith))
       na
 
@@ -178,8 +157,8 @@ module _ (r : Road) where
     -- what stands at a moment
     pub data Phase (t : ℕ) (done : List ℕ) (m : Moment) (coming : ℕ → ℕ) : Type 0 where
       before : Before r m coming → Unready r t done → Phase t done m coming
-      first : (F : ℕ) → Beginning r (reached r m₀) F → First r m coming (suc (F / frames (r .kind))) → Phase t done m coming
-      later : (F i : ℕ) → Beginning r (reached r m₀) F → Later r m coming (suc (F / frames (r .kind))) i → Owes r coming (suc i) → Phase t done m coming
+      first : (F : ℕ) → Beginning r (reached r m₀) F → First r m coming (suc (F / L r)) → Phase t done m coming
+      later : (F i : ℕ) → Beginning r (reached r m₀) F → Later r m coming (suc (F / L r)) i → Owes r coming (suc i) → Phase t done m coming
 
     module _ (f : Fair r) (s : Steps) where
       drained-wide : (w : ℕ) (m : Moment) → 0 < w → markNext m ≢ 0 → markNext (fetched r m) ≡ 0 → drained r w m ≡ fetched r m
@@ -187,15 +166,15 @@ module _ (r : Road) where
       drained-wide (suc k) m h d e = drained-one k m d e
 
       -- the port that owed last owes of the next epoch
-      owes-next : (p i : ℕ) (n n′ : ℕ → ℕ) → Served r p n n′ → Owes r n i → NoneOwes n′ i → Owes r n′ (suc i)
+      owes-next : (p i : ℕ) (n n′ : ℕ → ℕ) → Served r p n n′ → Owes r n i → AllCome r n′ i → Owes r n′ (suc i)
       owes-next p i n n′ sv o all =
           ⊎-elim
           (λ (e : o .port ≡ p).
-          let a : n (o .port) < i * frames (r .kind) + frames (r .kind) = o .owes in
-          let b : n p < i * frames (r .kind) + frames (r .kind) = rw e at a in
+          let a : n (o .port) < i * L r + L r = o .owes in
+          let b : n p < i * L r + L r = rw e at a in
           let c : n′ p ≡ n p + 1 = sv .next in
           let l = frames-some (r .kind) in
-          let one = one-epoch i (frames (r .kind)) in
+          let one = one-epoch i (L r) in
           record { port = p; below = sv .below; owes = rw one (omega arith) })
           (λ (d : o .port ≢ p).
           let a = o .owes in
@@ -242,7 +221,7 @@ module _ (r : Road) where
                 as-phase there (quiet (s .before-none there (coming r t ps) c))
                 (before c (unready-more t p done ps is-order un (λ y. true≢false (sym (s .must-begin there (coming r t ps) (c .lined) y) ∙ c .unfit))))
             go (comes F fore y c) =
-                let e = quiet (s .first-none there (suc (F / frames (r .kind))) (coming r t ps) c) in
+                let e = quiet (s .first-none there (suc (F / L r)) (coming r t ps) c) in
                 as-phase there e
                 (first F (record {
                   time = t;
@@ -257,28 +236,28 @@ module _ (r : Road) where
                   unready = un;
                 }) c)
 
-        from-first : (F : ℕ) → Beginning r (reached r m₀) F → First r here (coming r t (p ∷ ps)) (suc (F / frames (r .kind))) → Next
-        from-first F b c = go (rw position at (s .on-first here p (suc (F / frames (r .kind))) (coming r t (p ∷ ps)) (coming r t ps) moved (reach-coming f t p ps o late) c))
+        from-first : (F : ℕ) → Beginning r (reached r m₀) F → First r here (coming r t (p ∷ ps)) (suc (F / L r)) → Next
+        from-first F b c = go (rw position at (s .on-first here p (suc (F / L r)) (coming r t (p ∷ ps)) (coming r t ps) moved (reach-coming f t p ps o late) c))
           where
-            go : Gathered? r there (coming r t ps) (suc (F / frames (r .kind))) → Next
-            go (waits d) = as-phase there (quiet (s .first-none there (suc (F / frames (r .kind))) (coming r t ps) d)) (first F b d)
+            go : Gathered? r there (coming r t ps) (suc (F / L r)) → Next
+            go (waits d) = as-phase there (quiet (s .first-none there (suc (F / L r)) (coming r t ps) d)) (first F b d)
             go (gathers d w) =
-                as-phase there (quiet (s .later-none there (suc (F / frames (r .kind))) (suc (F / frames (r .kind))) (coming r t ps) d w)) (later F (suc (F / frames (r .kind))) b d w)
+                as-phase there (quiet (s .later-none there (suc (F / L r)) (suc (F / L r)) (coming r t ps) d w)) (later F (suc (F / L r)) b d w)
 
-        from-later : (F i : ℕ) → 0 < r .window → Beginning r (reached r m₀) F → Later r here (coming r t (p ∷ ps)) (suc (F / frames (r .kind))) i → Owes r (coming r t (p ∷ ps)) (suc i) → Next
-        from-later F i wide b c w = go (rw position at (s .on-later here p (suc (F / frames (r .kind))) i (coming r t (p ∷ ps)) (coming r t ps) moved (reach-coming f t p ps o late) c w))
+        from-later : (F i : ℕ) → 0 < r .window → Beginning r (reached r m₀) F → Later r here (coming r t (p ∷ ps)) (suc (F / L r)) i → Owes r (coming r t (p ∷ ps)) (suc i) → Next
+        from-later F i wide b c w = go (rw position at (s .on-later here p (suc (F / L r)) i (coming r t (p ∷ ps)) (coming r t ps) moved (reach-coming f t p ps o late) c w))
           where
-            go : Later r there (coming r t ps) (suc (F / frames (r .kind))) i → Next
-            go d = ⊎-elim some-owe none-owe (owing (coming r t ps) (suc i))
+            go : Later r there (coming r t ps) (suc (F / L r)) i → Next
+            go d = ⊎-elim some-owe none-owe (owes-or-come r (coming r t ps) (suc i))
               where
                 some-owe : Owes r (coming r t ps) (suc i) → Next
-                some-owe v = as-phase there (quiet (s .later-none there (suc (F / frames (r .kind))) i (coming r t ps) d v)) (later F i b d v)
+                some-owe v = as-phase there (quiet (s .later-none there (suc (F / L r)) i (coming r t ps) d v)) (later F i b d v)
 
-                none-owe : NoneOwes (coming r t ps) (suc i) → Next
+                none-owe : AllCome r (coming r t ps) (suc i) → Next
                 none-owe all =
-                    let l = s .later-one there (suc (F / frames (r .kind))) i (coming r t ps) d all in
+                    let l = s .later-one there (suc (F / L r)) i (coming r t ps) d all in
                     let v : Owes r (coming r t ps) (suc (suc i)) = owes-next p (suc i) (coming r t (p ∷ ps)) (coming r t ps) moved w all in
-                    let e = s .later-none (fetched r there) (suc (F / frames (r .kind))) (suc i) (coming r t ps) (l .1) v in
+                    let e = s .later-none (fetched r there) (suc (F / L r)) (suc i) (coming r t ps) (l .1) v in
                     as-phase (fetched r there) (one-turn ∙ drained-wide (r .window) there wide (l .0) e) (later F (suc i) b (l .1) v)
 
       wide : 0 < r .window
@@ -308,9 +287,9 @@ module _ (r : Road) where
               go (before b un) =
                   before (subst (λ (n : ℕ → ℕ). Before r (reached r m₀ t done) n) same b)
                   (unready-more t p done ps is-order un (λ y. un t done (p ∷ ps) is-order (inr (refl, omega arith)) (subst (λ (n : ℕ → ℕ). Ready r n) (sym same) y)))
-              go (first F b c) = first F b (subst (λ (n : ℕ → ℕ). First r (reached r m₀ t done) n (suc (F / frames (r .kind)))) same c)
+              go (first F b c) = first F b (subst (λ (n : ℕ → ℕ). First r (reached r m₀ t done) n (suc (F / L r))) same c)
               go (later F i b c w) =
-                  later F i b (subst (λ (n : ℕ → ℕ). Later r (reached r m₀ t done) n (suc (F / frames (r .kind))) i) same c) (subst (λ (n : ℕ → ℕ). Owes r n (suc i)) same w)
+                  later F i b (subst (λ (n : ℕ → ℕ). Later r (reached r m₀ t done) n (suc (F / L r)) i) same c) (subst (λ (n : ℕ → ℕ). Owes r n (suc i)) same w)
 
       -- the ports of a frame time, one after the other
       served-all : (t : ℕ) (done ps rest : List ℕ) → r .order t ≡ done ++ (ps ++ rest) → Rest r (ps ++ rest) → Phase t done (reached r m₀ t done) (coming r t (ps ++ rest))
@@ -335,9 +314,9 @@ module _ (r : Road) where
 
           go : Phase t (r .order t) (reached r m₀ t (r .order t)) (coming r t []) → Phase (suc t) [] (reached r m₀ t (r .order t)) (coming r (suc t) (r .order (suc t)))
           go (before c un) = before (subst (λ (n : ℕ → ℕ). Before r (reached r m₀ t (r .order t)) n) same c) (unready-next f t un)
-          go (first F c d) = first F c (subst (λ (n : ℕ → ℕ). First r (reached r m₀ t (r .order t)) n (suc (F / frames (r .kind)))) same d)
+          go (first F c d) = first F c (subst (λ (n : ℕ → ℕ). First r (reached r m₀ t (r .order t)) n (suc (F / L r))) same d)
           go (later F i c d w) =
-              later F i c (subst (λ (n : ℕ → ℕ). Later r (reached r m₀ t (r .order t)) n (suc (F / frames (r .kind))) i) same d) (subst (λ (n : ℕ → ℕ). Owes r n (suc i)) same w)
+              later F i c (subst (λ (n : ℕ → ℕ). Later r (reached r m₀ t (r .order t)) n (suc (F / L r)) i) same d) (subst (λ (n : ℕ → ℕ). Owes r n (suc i)) same w)
 
       -- every moment
       pub phase : Before r m₀ (r .first) → (t : ℕ) (done rest : List ℕ) → r .order t ≡ done ++ rest → Phase t done (reached r m₀ t done) (coming r t rest)
@@ -347,7 +326,7 @@ module _ (r : Road) where
       -- 'A fresh receiver begins within 48 frames of the last port's first': after 47, the first counted as 1.
       module _ (fresh-start : Before r m₀ (r .first)) (T : ℕ) (all-come : (p : ℕ) → p < r .ports → r .delay p + r .first p ≤ T) where
         abbrev by : ℕ
-        by = T + (frames (r .kind) * 3 - 1)
+        by = T + (L r * 3 - 1)
 
         position-by : (q : ℕ) → q < r .ports → coming r by (r .order by) q ≡ by - r .delay q
         unfolding nextAt
@@ -356,14 +335,14 @@ module _ (r : Road) where
             let c = all-come q b in
             coming-is by (r .order by) q b ∙ rw (f .once by q b) (omega arith)
 
-        stepped : (q : ℕ) → q < r .ports → startFrom (r .kind) (r .offset) (r .first q) + frames (r .kind) * 2 ≤ coming r by (r .order by) q
+        stepped : (q : ℕ) → q < r .ports → startFrom (r .kind) (r .offset) (r .first q) + L r * 2 ≤ coming r by (r .order by) q
         stepped q b =
             let soon = start-from (r .kind) (r .offset) (r .first q) .soon in
             let c = all-come q b in
             let l = frames-some (r .kind) in
             rw (position-by q b) (omega arith)
 
-        near : (p q : ℕ) → p < r .ports → q < r .ports → coming r by (r .order by) p + frames (r .kind) ≤ coming r by (r .order by) q + r .window
+        near : (p q : ℕ) → p < r .ports → q < r .ports → coming r by (r .order by) p + L r ≤ coming r by (r .order by) q + r .window
         near p q hp hq =
             let c = all-come p hp in
             let d = all-come q hq in
