@@ -17,7 +17,6 @@ use Rattle.receiver.specs.Frame.{frameRefusal, frameRows, frameStore, portRows,
 use Rattle.receiver.specs.Laws.Answers.{Fitting, unrefused}
 use Rattle.receiver.specs.Laws.Frames.{frame-group, length-frame}
 use Rattle.receiver.specs.Laws.Sizes.{ports-are}
-use Rattle.rows.specs.declared.group.Group.{Group}
 use Rattle.rows.specs.Group.{groupAt}
 use Rattle.rows.specs.Rows.{rowsFor}
 use Rattle.step.specs.declared.arrival.Taken.{Taken}
@@ -60,9 +59,6 @@ frame-by P s k i failed h payload store stays goes =
     by-both P (eqb (frameRefusal s i (length payload) (length store)) 0) (cond (eqb (t .answer) 11) s after) s (cond (eqb (t .answer) 11) store left) store
     (λ e. by-both P (eqb (t .answer) 11) s after store left (λ f. stays) (λ f. taken e f)) (λ e. stays)
   where
-    g : Group
-    g = groupAt s
-
     t : Taken
     t = takenIn s i failed h
 

@@ -11,10 +11,10 @@ use Rattle.step.specs.Laws.Run.{startFrom}
 use Rattle.link.specs.Demand3.{FullyArrived, Reported, Time, standing}
 use Rattle.link.specs.History.{firstTagOf}
 use Rattle.link.specs.Judged.Apart.{EitherSure, never-alike}
-use Rattle.link.specs.Laws.Lists.{not-apart}
+use Rattle.link.specs.Laws.Lists.{append-apart, not-apart}
 use Rattle.link.specs.Link.{Alike, Assumed, Link, SameIn, epochFrames, expected, roadOf}
 use Rattle.link.specs.Moments.{Beginning, NotAfter, Ready, Run, coming, nextAt}
-use Rattle.link.specs.Transport.Times.{coming-is, rest-of}
+use Rattle.link.specs.Transport.Times.{coming-is}
 
 stepped-too : (kind kind′ e e′ f f′ x x′ : ℕ) → kind ≡ kind′ → e ≡ e′ → f ≡ f′ → x ≡ x′
     → startFrom kind (firstTag kind e) f + frames kind * 2 ≤ x → startFrom kind′ (firstTag kind′ e′) f′ + frames kind′ * 2 ≤ x′
@@ -100,9 +100,9 @@ module _ (k j : Link) (l : Alike k j) (n : k .history .slots ≡ j .history .slo
       let lk : length (bk .done ++ (bk .port ∷ [])) ≡ length (bk .done) + 1 = length-append (bk .done) (bk .port ∷ []) in
       let lj : length (bj .done ++ (bj .port ∷ [])) ≡ length (bj .done) + 1 = length-append (bj .done) (bj .port ∷ []) in
       let d = same-done in
-      rest-of (roadOf k) (bk .done ++ (bk .port ∷ [])) (bk .rest) (bj .done ++ (bj .port ∷ [])) (bj .rest)
+      append-apart (bk .done ++ (bk .port ∷ [])) (bj .done ++ (bj .port ∷ [])) (bk .rest) (bj .rest) (omega arith)
       (append-assoc (bk .done) (bk .port ∷ []) (bk .rest) ∙ sym (bk .is-order) ∙ l .order (bk .time) ∙ ap (j .order) same-time ∙ bj .is-order ∙ sym (append-assoc (bj .done) (bj .port ∷ []) (bj .rest)))
-      (omega arith)
+      .1
 
   there : (p : ℕ) → p < k .history .slots → coming (roadOf k) (bk .time) (bk .rest) p ≡ coming (roadOf j) (bj .time) (bj .rest) p
   there p b = position k j l n (bk .time) (bk .rest) p b ∙ ap (λ (t : ℕ). coming (roadOf j) t (bk .rest) p) same-time ∙ ap (λ (q : List ℕ). coming (roadOf j) (bj .time) q p) same-rest

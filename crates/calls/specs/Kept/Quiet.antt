@@ -120,9 +120,6 @@ module _ (g : Group) (s : Step) (marks : List ℕ) (W : Windowed g) (k : PortKep
             lets = λ f l. sym (same-lets marked (first (rw f at q))) ∙ l;
           }
         where
-          d : ℕ
-          d = offset g s
-
           marked : List ℕ
           marked = cond (endsEpoch (g .kind) (offset g s)) (markedAt marks (epochsIn (g .kind) (offset g s))) marks
 

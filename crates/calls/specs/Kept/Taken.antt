@@ -182,9 +182,6 @@ module _ (g : Group) (s : Step) (marks : List ℕ) (W : Windowed g) (k : PortKep
             go : (t : Bool) → endsEpoch (g .kind) d ≡ t → PortKept g (advanced s run) (cond t (markedAt marks (epochsIn (g .kind) d)) marks)
             go true e = with-marks (markedAt marks (epochsIn (g .kind) d)) (sixteen-marked marks (k .row) (epochsIn (g .kind) d)) marked inside
               where
-                last : ℕ
-                last = epochsIn (g .kind) d
-
                 marked : (i : ℕ) → s .later ≤ i → markIn (markedAt marks (epochsIn (g .kind) d)) i ≡ leb (endOf g i) (d + 1)
                 marked i l =
                     ⊎-elim

@@ -2,7 +2,7 @@
 use mathlib.Core.Path.{_≡_, refl, _∙_, sym, ap}
 use mathlib.Core.Logic.{⊎-elim, _⊎_, _≢_}
 use mathlib.Core.Bool.{Bool, true, false, cond}
-use mathlib.Core.List.{List, [], _∷_, _++_, head-eq-of-cons-eq, tail-eq-of-cons-eq}
+use mathlib.Core.List.{List, [], _∷_}
 use Prim.Native.Nat.{ℕ, zero, suc, _+_, _*_, _≤_, _<_}
 use native.Mathlib.Nat.{suc-mul, zero-mul}
 use native.Mathlib.Omega.{arith}
@@ -13,20 +13,11 @@ use Rattle.ground.specs.Truth.{eq-or-ne}
 use Rattle.judge.specs.Verdict.{HELD, SURE}
 use Rattle.packet.specs.Kinds.{frames}
 use Rattle.link.specs.History.{Client, xAt}
-use Rattle.link.specs.Laws.Lists.{not-apart}
+use Rattle.link.specs.Laws.Lists.{append-apart, not-apart}
 use Rattle.link.specs.Laws.Numbers.{epoch-in, frames-cancel}
 use Rattle.link.specs.Link.{Alike, Assumed, Link, SameIn, allAsSent, clientBytes, epochFrames, expected, framesOf}
 use Rattle.link.specs.Road.{Below, times}
 use Rattle.link.specs.Told.{Told}
-
--- two lists of parts, the first parts as long
-append-apart : (a b c d : List ℕ) → length a ≡ length b → a ++ c ≡ b ++ d → (a ≡ b) × (c ≡ d)
-append-apart [] [] c d l e = (refl, e)
-append-apart [] (y ∷ b) c d l e = absurd (omega arith)
-append-apart (x ∷ a) [] c d l e = absurd (omega arith)
-append-apart (x ∷ a) (y ∷ b) c d l e =
-    let r = append-apart a b c d (omega arith) (tail-eq-of-cons-eq e) in
-    (λ i. head-eq-of-cons-eq e i ∷ r .0 i, r .1)
 
 -- every one of n group frames from position x on has w bytes
 abbrev Wide : Client → ℕ → ℕ → ℕ → Type 0

@@ -2,7 +2,7 @@
 use mathlib.Core.Path.{_≡_, refl, ap, _∙_}
 use mathlib.Core.Logic.{⊎-elim, _≢_}
 use mathlib.Core.Bool.{Bool, true, false, _&&_, true≢false}
-use mathlib.Core.List.{List, _∷_, _++_}
+use mathlib.Core.List.{List, [], _∷_, _++_, head-eq-of-cons-eq, tail-eq-of-cons-eq}
 use Prim.Native.Nat.{ℕ, zero, suc, _+_, _≤_, _<_}
 use native.Mathlib.Omega.{arith}
 use lib.ListN.{length, take}
@@ -40,6 +40,15 @@ every-lacks (suc n) f e = go (f n) refl (every-lacks n f)
     go false t rest = record { at = n; below = omega arith; fails = t }
 
 module _ {A : Type 0} where
+  -- two lists of parts, the first parts as long
+  pub append-apart : (a b c d : List A) → length a ≡ length b → a ++ c ≡ b ++ d → (a ≡ b) × (c ≡ d)
+  append-apart [] [] c d l e = (refl, e)
+  append-apart [] (y ∷ b) c d l e = absurd (omega arith)
+  append-apart (x ∷ a) [] c d l e = absurd (omega arith)
+  append-apart (x ∷ a) (y ∷ b) c d l e =
+      let r = append-apart a b c d (omega arith) (tail-eq-of-cons-eq e) in
+      (λ i. head-eq-of-cons-eq e i ∷ r .0 i, r .1)
+
   -- a table filled in at the front
   pub take-fill : (n : ℕ) (f : ℕ → A) (d : List A) (z : A) → n ≤ length d → take n (fillAt 0 n f d) ≡ tabulate n f
   take-fill n f d z h =

@@ -1,4 +1,4 @@
--- The numbers of a kind of packet, as the proof of demand 3 wants them. This file alone opens them; what stands above cites these laws.
+-- The numbers of a kind of packet, as the proof of demand 3 wants them. Besides Sending/Counted and Sending/Packets, which meet the layout of a packet, this file alone opens them; what stands above cites these laws.
 use mathlib.Core.Path.{_≡_, refl}
 use mathlib.Core.Logic.{_≢_}
 use mathlib.Core.Bool.{true, false}
@@ -8,7 +8,6 @@ use native.Mathlib.Omega.{arith}
 use borrow.Author.Tests.{eq-eqb, eqb-false, eqb-true}
 use Rattle.packet.specs.Kinds.{distanceOf, endsEpoch, epochAfter, epochOf, epochs, epochsIn, firstTag, frames, lead, placeOf, startsEpoch, tagBefore, tags}
 use Rattle.packet.specs.Theorems.Tags.{distance-of, tagOf}
-use Rattle.link.specs.Road.{L}
 
 -- How many frames.
 

@@ -8,7 +8,7 @@ use Rattle.counting.specs.Laws.Numbers.{count-ext}
 use Rattle.counting.specs.Laws.Ranks.{Apart}
 use Rattle.counting.specs.Laws.Tests.{One}
 use Rattle.counting.specs.Words.{count}
-use Rattle.ground.specs.Truth.{and-left, and-right, and-true, or-left}
+use Rattle.ground.specs.Truth.{and-left, and-right, and-true}
 use Rattle.packet.specs.Words.{DNU, EOS, NORM}
 use Rattle.sender.specs.Board.{highest, rowOf, wordOf}
 use Rattle.sender.specs.declared.board.Board.{Board}
@@ -123,8 +123,3 @@ module _ (h : History) (a : Allowed h) (i : ℕ) where
 
   pub numbered : Numbered (h .slots) (wordSent h i) (numberSent h i)
   numbered = rw source-size at (table-numbered source (sound-demand2 source (sender-at-sound h i .going .sound)) (wordSent h i) (numberSent h i) word-shown number-shown)
-
--- of numbers as demand 2 has them: active slots have different ranks below X, and each rank below X is some slot's
-module _ (n : ℕ) (word number : ℕ → ℕ) (o : Numbered n word number) where
-  active-numbered : (w : ℕ) → activeWord w ≡ true → numberedWord w ≡ true
-  active-numbered w e = or-left (activeWord w) (eqb w DNU) e

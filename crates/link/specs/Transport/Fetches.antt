@@ -105,11 +105,6 @@ module _ (r : Road) (fair : Fair r) where
     unfolding fetchRecord givenReport recordOf
     mark-none e = rw (fits-now, ports-are r fair m coming l, e) refl
 
-    drained-none : dueIn (groupAt (m .rows)) (r .ports) (m .rows) ≡ false → (k : ℕ) → drained r k m ≡ m
-    unfolding drained
-    drained-none e zero = refl
-    drained-none e (suc k) = rw (mark-none e) refl
-
   some-due : ltb 0 (r .ports) ≡ true
   some-due =
       let s = sizes-in r fair in

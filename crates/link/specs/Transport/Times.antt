@@ -2,7 +2,7 @@
 use mathlib.Core.Path.{_≡_, refl, sym, ap, _∙_, subst}
 use mathlib.Core.Logic.{inl, inr, ⊎-elim, _≢_}
 use mathlib.Core.Bool.{Bool, true, false, cond, true≢false}
-use mathlib.Core.List.{List, [], _∷_, _++_, append-nil, append-assoc, tail}
+use mathlib.Core.List.{List, [], _∷_, _++_, append-nil, append-assoc}
 use Prim.Native.Nat.{ℕ, zero, suc, _+_, _-_, _*_, _/_, _≤_, _<_}
 use native.Mathlib.Nat.{not-suc-le-zero}
 use native.Mathlib.Omega.{arith}
@@ -14,6 +14,7 @@ use Rattle.phases.specs.Beginning.{begins}
 use Rattle.receiver.specs.Laws.Sizes.{window-some}
 use Rattle.rows.specs.Group.{groupAt}
 use Rattle.step.specs.Laws.Run.{start-from, startFrom}
+use Rattle.link.specs.Laws.Lists.{append-apart}
 use Rattle.link.specs.Laws.Numbers.{frames-some, one-epoch}
 use Rattle.link.specs.Moments.{Beginning, Ready, Unready, coming, nextAt, reached}
 use Rattle.link.specs.Road.{Fair, L, Road, sizes-in}
@@ -92,17 +93,6 @@ module _ (r : Road) where
   unfolding turn
   no-frame t p m early = rw (lt-leb (r .delay p + r .first p) t early) refl
 
-  -- nothing stands before the rest
-  starts-with : (a b whole : List ℕ) → a ++ b ≡ whole → length a ≤ zero → whole ≡ b
-  starts-with [] b whole e l = sym e
-  starts-with (x ∷ a) b whole e l = absurd (omega arith)
-
-  pub rest-of : (a b c d : List ℕ) → a ++ b ≡ c ++ d → length a ≡ length c → b ≡ d
-  rest-of [] b [] d e l = e
-  rest-of [] b (y ∷ c) d e l = absurd (omega arith)
-  rest-of (x ∷ a) b [] d e l = absurd (omega arith)
-  rest-of (x ∷ a) b (y ∷ c) d e l = rest-of a b c d (ap tail e) (omega arith)
-
   -- one port more, at which they are not ready either
   unready-more : (t p : ℕ) (done ps : List ℕ) → r .order t ≡ done ++ (p ∷ ps) → Unready r t done → (Ready r (coming r t ps) → ⊥) → Unready r t (done ++ (p ∷ []))
   unready-more t p done ps is-order un now u earlier rest e na y = ⊎-elim (λ (h : u < t). un u earlier rest e (inl h) y) same na
@@ -115,7 +105,7 @@ module _ (r : Road) where
           (λ (w : length done < length earlier).
           let eq : length (done ++ (p ∷ [])) ≡ length earlier = omega arith in
           let whole : done ++ (p ∷ []) ++ ps ≡ earlier ++ rest = append-assoc done (p ∷ []) ps ∙ sym is-order ∙ ap (r .order) (sym (h .0)) ∙ e in
-          let ends : ps ≡ rest = rest-of (done ++ (p ∷ [])) ps earlier rest whole eq in
+          let ends : ps ≡ rest = append-apart (done ++ (p ∷ [])) earlier ps rest eq whole .1 in
           now (subst (λ (l : List ℕ). Ready r (coming r t l)) (sym ends) (subst (λ (v : ℕ). Ready r (coming r v rest)) (h .0) y)))
           (le-or-lt (length earlier) (length done))
 
@@ -127,7 +117,7 @@ module _ (r : Road) where
       let n : 1 ≤ r .ports = sizes-in r f .some-ports in
       let l = frames-some (r .kind) in
       let from = start-from (r .kind) (r .offset) (r .first zero) .from in
-      let i : rest ≡ r .order u = rest-of [] rest [] (r .order u) (sym (starts-with earlier rest (r .order u) (sym e) (h .1))) refl in
+      let i : rest ≡ r .order u = (let none = h .1 in append-apart earlier [] rest (r .order u) (omega arith) (sym e) .1) in
       let z : coming r u rest ≡ r .first = ap (λ (l : List ℕ). coming r u l) i ∙ ap (λ (v : ℕ). coming r v (r .order v)) (h .0) ∙ sym (coming-first f) in
       let w = y .stepped zero n in
       let v : startFrom (r .kind) (r .offset) (r .first zero) + L r * 2 ≤ r .first zero = subst (λ (k : ℕ → ℕ). startFrom (r .kind) (r .offset) (r .first zero) + L r * 2 ≤ k zero) z w in
@@ -149,7 +139,7 @@ module _ (r : Road) where
 
       at-it : (u ≡ suc t) × (length earlier ≤ zero) → ⊥
       at-it h =
-          let i : rest ≡ r .order u = rest-of [] rest [] (r .order u) (sym (starts-with earlier rest (r .order u) (sym e) (h .1))) refl in
+          let i : rest ≡ r .order u = (let none = h .1 in append-apart earlier [] rest (r .order u) (omega arith) (sym e) .1) in
           let z : coming r u rest ≡ coming r t [] = ap (λ (l : List ℕ). coming r u l) i ∙ ap (λ (v : ℕ). coming r v (r .order v)) (h .0) ∙ sym (coming-by t (suc t) [] (r .order (suc t)) (λ k b. next-time r f t k b)) in
           un t (r .order t) [] (sym (append-nil (r .order t))) (inr (refl, omega arith)) (subst (λ (k : ℕ → ℕ). Ready r k) z y)
 

@@ -21,7 +21,7 @@ use Rattle.reply.specs.Members as R
 use Rattle.reply.specs.Telling.{ackOf, turns}
 use Rattle.rows.specs.declared.group.Group.{Group}
 use Rattle.rows.specs.Group.{groupAt}
-use Rattle.rows.specs.Laws.Group.{group-put-member, group-put-same}
+use Rattle.rows.specs.Laws.Group.{group-put-same}
 use Rattle.rows.specs.Laws.Lengths.{length-put-group}
 use Rattle.rows.specs.Laws.Port.{port-member, port-put-group, port-put-member, port-put-member-other}
 use Rattle.rows.specs.Member.{memberAt}
@@ -63,11 +63,6 @@ module _ (states : List ℕ) where
       (λ (e : i ≡ n). rw e (told-one n t (suc n) (omega arith) (rw l h) ∙ ap (λ (p : Port). toldOn p (getD states n 0)) (told-beyond n s n (omega arith))))
       (λ (d : i ≢ n). told-one-other n t i d ∙ rest (omega arith) (omega arith))
       (eq-or-ne i n)
-
-  told-ports-group : (n : ℕ) (s : List (List ℕ)) → groupAt (toldPorts states n s) ≡ groupAt s
-  unfolding toldPorts toldPort
-  told-ports-group zero s = refl
-  told-ports-group (suc n) s = group-put-member (toldPorts states n s) n _ ∙ told-ports-group n s
 
 module _ (g : Group) (n : ℕ) (s : List (List ℕ)) where
   -- the states that come of it
