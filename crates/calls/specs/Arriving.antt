@@ -1,22 +1,24 @@
 -- A frame's call, case by case: all stays, or the port's rows and the store change and then what follows for all ports.
-use mathlib.Core.Path.{_≡_, refl, sym, ap, _∙_}
+use mathlib.Core.Path.{_≡_, refl}
 use mathlib.Core.Logic.{_≢_}
 use mathlib.Core.Bool.{Bool, true, false, cond}
 use mathlib.Core.List.{List}
-use Prim.Native.Nat.{ℕ, _+_, _*_, _≤_, _<_}
+use Prim.Native.Nat.{ℕ, _≤_, _<_}
 use native.Mathlib.Omega.{arith}
 use lib.Dec.{eqb}
 use lib.ListN.{length}
 use borrow.Author.Tests.{eqb-true, eqb-false}
 use Rattle.calls.specs.Kept.Group.{Kept}
-use Rattle.calls.specs.Laws.Answers.{Fitting, ports-are, unrefused}
 use Rattle.calls.specs.Laws.Settling.{rows-by}
 use Rattle.calls.specs.Settles.{settles-always}
 use Rattle.phases.specs.Settling.{settledOf}
 use Rattle.phases.specs.Sizes.{portsIn, storeFor}
 use Rattle.receiver.specs.Frame.{frameRefusal, frameRows, frameStore, portRows, settledBy, storeBy, takenIn, takenRows, takenStore}
-use Rattle.rows.specs.declared.group.Group.{Group}
+use Rattle.receiver.specs.Laws.Answers.{Fitting, unrefused}
+use Rattle.receiver.specs.Laws.Frames.{frame-group, length-frame}
+use Rattle.receiver.specs.Laws.Sizes.{ports-are}
 use Rattle.rows.specs.Group.{groupAt}
+use Rattle.rows.specs.Rows.{rowsFor}
 use Rattle.step.specs.declared.arrival.Taken.{Taken}
 
 by-both : (P : List (List ℕ) → List ℕ → Type 0) (b : Bool) (x y : List (List ℕ)) (v w : List ℕ) → (b ≡ true → P x v) → (b ≡ false → P y w) → P (cond b x y) (cond b v w)
@@ -31,6 +33,13 @@ portAfter s i failed h = portRows (groupAt s .kind) s i (takenIn s i failed h) h
 abbrev pub storeAfter : List (List ℕ) → ℕ → Bool → ℕ → List ℕ → List ℕ → List ℕ
 storeAfter s i failed h payload store = storeBy (groupAt s) i (takenIn s i failed h) h payload store
 
+-- they leave the group
+pub after-group : (s : List (List ℕ)) (i : ℕ) (failed : Bool) (h : ℕ) → groupAt (portAfter s i failed h) ≡ groupAt s
+after-group s i failed h = frame-group (groupAt s .kind) s i (takenIn s i failed h) h
+
+after-long : (s : List (List ℕ)) (i : ℕ) (failed : Bool) (h n : ℕ) → length s ≡ rowsFor n → rowsFor n ≤ length (portAfter s i failed h)
+after-long s i failed h n e = rw (length-frame (groupAt s .kind) s i (takenIn s i failed h) h) (omega arith)
+
 -- of a frame that is answered 0, 10 or 12
 pub record Counts (s : List (List ℕ)) (i : ℕ) (failed : Bool) (h : ℕ) (payload store : List ℕ) : Type 0 where
   pub unrefused : frameRefusal s i (length payload) (length store) ≡ 0
@@ -38,6 +47,8 @@ pub record Counts (s : List (List ℕ)) (i : ℕ) (failed : Bool) (h : ℕ) (pay
   pub bytes : length payload ≡ groupAt s .payload
   pub stored : length store ≡ storeFor (groupAt s) (groupAt s .count)
   pub answer : takenIn s i failed h .answer ≢ 11
+  -- there are rows for all ports
+  pub long : rowsFor (groupAt s .count) ≤ length (portAfter s i failed h)
 
 pub frame-by : (P : List (List ℕ) → List ℕ → Type 0) (s : List (List ℕ)) → Kept s → (i : ℕ) (failed : Bool) (h : ℕ) (payload store : List ℕ)
     → P s store
@@ -48,9 +59,6 @@ frame-by P s k i failed h payload store stays goes =
     by-both P (eqb (frameRefusal s i (length payload) (length store)) 0) (cond (eqb (t .answer) 11) s after) s (cond (eqb (t .answer) 11) store left) store
     (λ e. by-both P (eqb (t .answer) 11) s after store left (λ f. stays) (λ f. taken e f)) (λ e. stays)
   where
-    g : Group
-    g = groupAt s
-
     t : Taken
     t = takenIn s i failed h
 
@@ -70,13 +78,20 @@ frame-by P s k i failed h payload store stays goes =
         let o : Fitting (groupAt s) (portsIn (groupAt s)) i (length s) (length payload) (length store) = unrefused (groupAt s) (portsIn (groupAt s)) i (length s) (length payload) (length store) none in
         let b : i < groupAt s .count = rw ports at (o .port) in
         rw (ports, settles-always s k i failed h b (storeAfter s i failed h payload store))
-        (goes (record { unrefused = none; port = b; bytes = o .bytes; stored = rw ports at (o .stored); answer = eqb-false (takenIn s i failed h .answer) 11 f }))
+        (goes (record {
+          unrefused = none;
+          port = b;
+          bytes = o .bytes;
+          stored = rw ports at (o .stored);
+          answer = eqb-false (takenIn s i failed h .answer) 11 f;
+          long = after-long s i failed h (groupAt s .count) (k .steady .rows);
+        }))
 
 -- The same on every state: what follows may or may not be looked at.
 pub frame-any : (P : List (List ℕ) → Type 0) (s : List (List ℕ)) (i : ℕ) (failed : Bool) (h : ℕ) (payload store : List ℕ)
     → P s
     → (frameRefusal s i (length payload) (length store) ≡ 0 → takenIn s i failed h .answer ≢ 11 → P (portAfter s i failed h))
-    → (frameRefusal s i (length payload) (length store) ≡ 0 → takenIn s i failed h .answer ≢ 11
+    → (frameRefusal s i (length payload) (length store) ≡ 0 → takenIn s i failed h .answer ≢ 11 → rowsFor (portsIn (groupAt s)) ≤ length (portAfter s i failed h)
     → P (settledOf (portsIn (groupAt s)) (storeAfter s i failed h payload store) (portAfter s i failed h)))
     → P (frameRows s i failed h payload store)
 unfolding frameRows takenRows settledBy
@@ -87,7 +102,9 @@ frame-any P s i failed h payload store stays alone goes =
     rows-by P (eqb (t .answer) 11) s (cond (t .settles) after a) (λ f. stays)
     (λ f.
     let other : takenIn s i failed h .answer ≢ 11 = eqb-false (t .answer) 11 f in
-    rows-by P (t .settles) after a (λ q. goes none other) (λ q. alone none other)))
+    let o = unrefused (groupAt s) (portsIn (groupAt s)) i (length s) (length payload) (length store) none in
+    let long = after-long s i failed h (portsIn (groupAt s)) (o .whole) in
+    rows-by P (t .settles) after a (λ q. goes none other long) (λ q. alone none other)))
     (λ e. stays)
   where
     t : Taken

@@ -1,59 +1,56 @@
 -- What stands in the store where a port claims a frame: it is the frame that was handed with that tag. A11, as a relation between two calls: after a call a frame is claimed only if it was claimed before, or is the one just handed.
 use mathlib.Core.Path.{_≡_, refl, sym, ap, _∙_}
 use mathlib.Core.Logic.{_⊎_, inl, inr, ⊎-elim, _≢_}
-use mathlib.Core.Bool.{Bool, true, false, cond, true≢false, false≢true}
+use mathlib.Core.Bool.{Bool, true, false, cond, false≢true}
 use mathlib.Core.List.{List, [], _∷_}
-use Prim.Native.Nat.{ℕ, _+_, _*_, _/_, _%_, _≤_, _<_}
+use Prim.Native.Nat.{ℕ, _+_, _/_, _%_, _≤_, _<_}
 use native.Mathlib.Omega.{arith}
-use lib.Dec.{eqb}
 use lib.ListN.{getD, length, replicate}
-use borrow.Author.Tests.{eq-eqb, ne-eqb}
-use Rattle.calls.specs.Arriving.{Counts, frame-by, portAfter, storeAfter}
+use Rattle.calls.specs.Arriving.{Counts, after-group, frame-by, portAfter, storeAfter}
 use Rattle.calls.specs.Calls.{Fetch, Frame, Receiver, ReceiverCall, receiverRun, receiverStep, startedWith, step-kept}
 use Rattle.calls.specs.Claims.{Claims, New, Old, Part, claims-inside, passed-claims, taken-claims, taken-inside}
 use Rattle.calls.specs.Kept.Calls.{Due, due-says}
-use Rattle.calls.specs.Kept.Group.{Kept, PortIn, Steady}
-use Rattle.calls.specs.Kept.Port.{PortKept, Windowed, offset}
+use Rattle.calls.specs.Kept.Group.{Kept, Steady}
+use Rattle.calls.specs.Kept.Port.{PortKept, Windowed}
 use Rattle.calls.specs.Kept.Start.{started-kept, started-with}
-use Rattle.calls.specs.Kept.Steps.{steady-frame, windowed}
-use Rattle.calls.specs.Kept.Told.{withAck}
-use Rattle.calls.specs.Same.{SameSizes, step-sizes}
-use Rattle.calls.specs.Laws.Answers.{ports-are}
-use Rattle.calls.specs.Laws.Flags.{both, true-or-false}
-use Rattle.calls.specs.Laws.Frames.{frame-group, frame-other, frame-port, frameOn, length-frame}
+use Rattle.calls.specs.Kept.Steps.{brought-lets, steady-frame, windowed}
 use Rattle.calls.specs.Laws.Settling.{rows-by, settled-by}
-use Rattle.calls.specs.Laws.Told.{statesIn, told-group, told-of-port, toldOn}
-use Rattle.calls.specs.Laws.Window.{frames-some, tag-next, tag-passed, tagIn}
-use Rattle.counting.specs.Laws.Tests.{every-at}
+use Rattle.calls.specs.Laws.Window.{first-epoch, frames-some, tag-next, tag-passed, tagIn}
+use Rattle.calls.specs.Same.{step-sizes}
+use Rattle.ground.specs.Table.{getD-tabulate, tabulate}
 use Rattle.ground.specs.Truth.{eq-or-ne}
-use Rattle.packet.specs.Counts.{counts}
 use Rattle.judge.specs.Seen.{sizeOf}
-use Rattle.packet.specs.Kinds.{epochAfter, frames}
-use Rattle.phases.specs.Due.{brought, lets}
-use Rattle.phases.specs.Laws.Cleared.{begun-group, begun-port, clearedOn, stopped-group, stopped-port}
+use Rattle.packet.specs.Counts.{counts}
+use Rattle.packet.specs.Kinds.{frames}
+use Rattle.phases.specs.Due.{brought}
+use Rattle.phases.specs.Laws.Cleared.{begun-port, clearedOn, stopped-group}
 use Rattle.phases.specs.Laws.Lengths.{length-passed, length-stopped}
 use Rattle.phases.specs.Laws.Passed.{passed-group, passed-of-port, passedOn}
-use Rattle.phases.specs.Passing.{groupTo, passedGroup, passedOf, passedStep}
+use Rattle.phases.specs.Passing.{passedGroup, passedOf, passedStep}
 use Rattle.phases.specs.Settling.{begunOf, clearedStep, settledOf, stoppedOf}
 use Rattle.phases.specs.Sizes.{portsIn, storeFor}
 use Rattle.receiver.specs.Fetch.{dueIn, fetchRows, fits, givenRows}
-use Rattle.receiver.specs.Frame.{frameAnswer, frameRefusal, frameRows, frameStore, marksBy, portRows, storeBy, takenIn}
+use Rattle.receiver.specs.Frame.{frameAnswer, frameRows, frameStore, marksBy, storeBy, takenIn}
+use Rattle.receiver.specs.Laws.Answers.{taken-answer, unrefused}
+use Rattle.receiver.specs.Laws.Frames.{frame-other, frame-port, frameOn}
+use Rattle.receiver.specs.Laws.Passed.{cleared-joined, passed-kind, passed-oldest, passed-origin, passed-payload, passed-window}
+use Rattle.receiver.specs.Laws.Sizes.{ports-are}
+use Rattle.receiver.specs.Laws.Told.{statesIn, told-group, told-of-port, toldOn, withAck}
 use Rattle.receiver.specs.Report.{replyPorts, reportedOf, toldBy, toldOf}
 use Rattle.receiver.specs.Starting.{groupWith, startAnswer, startRows}
 use Rattle.reply.specs.Telling.{ackOf}
 use Rattle.rows.specs.declared.group.Group.{Group}
 use Rattle.rows.specs.declared.step.Step.{Step}
 use Rattle.rows.specs.Group.{groupAt}
-use Rattle.rows.specs.Laws.Port.{port-marks, port-step}
-use Rattle.rows.specs.Packets.{marksAt}
-use Rattle.rows.specs.Port.{Port, portAt}
+use Rattle.rows.specs.Laws.Port.{port-step}
+use Rattle.rows.specs.Port.{portAt}
 use Rattle.rows.specs.Rows.{rowsFor}
 use Rattle.rows.specs.Step.{stepAt}
-use Rattle.step.specs.declared.arrival.Taken.{Taken}
 use Rattle.step.specs.Arrival.{distanceIn, flagOf, inStep, takenOf}
-use Rattle.store.specs.Frames.{placeIn, ringOf, storedAt}
+use Rattle.step.specs.declared.arrival.Taken.{Taken}
+use Rattle.store.specs.Frames.{byteAt, h4At, placeIn, storedAt}
+use Rattle.store.specs.Laws.Marks.{first-mark, mark-none}
 use Rattle.store.specs.Laws.Places.{place-moved}
-use Rattle.store.specs.Laws.Marks.{mark-none}
 use Rattle.store.specs.Laws.Stands.{Stands, stands-put, stands-same, stored-elsewhere}
 use Rattle.store.specs.Marks.{firstMark, markIn, passedMarks}
 
@@ -76,23 +73,6 @@ pub record Handed (s : List (List ℕ)) (i : ℕ) (failed : Bool) (h : ℕ) (pay
 
 -- The same content in two states: what is claimed in the second was claimed in the first.
 
-ring-is : (origin L W : ℕ) → 0 < W → ringOf origin L W ≡ (origin + L) % W
-unfolding ringOf
-ring-is origin L W h = rw (ne-eqb W 0 (λ (e : W ≡ 0). omega arith))
-
-passed-parts : (g : Group) → (passedGroup g .kind ≡ g .kind) × (passedGroup g .payload ≡ g .payload) × (passedGroup g .window ≡ g .window)
-    × (passedGroup g .oldest ≡ epochAfter (g .kind) (g .oldest)) × (passedGroup g .origin ≡ ringOf (g .origin) (frames (g .kind)) (g .window))
-unfolding passedGroup
-passed-parts g = (refl, refl, refl, refl, refl)
-
-brought-lets : (g : Group) (s : List (List ℕ)) (n : ℕ) → brought g s n ≡ true → (i : ℕ) → i < n → lets g (portAt s i .step) (portAt s i .marks) ≡ true
-unfolding brought
-brought-lets g s n e i b = rw (port-step s i, port-marks s i) (every-at n (λ j. lets g (stepAt s j) (marksAt s j)) e i b)
-
-cleared-joined : (q : Step) (since : Bool) → clearedStep q since .joined ≡ 0
-unfolding clearedStep
-cleared-joined q since = refl
-
 ack-tag : (g : Group) (ack d : ℕ) → tagIn (withAck g ack) d ≡ tagIn g d
 unfolding tagIn
 ack-tag g ack d = refl
@@ -106,10 +86,6 @@ ack-claims g ack s marks d c =
           ⊎-elim (λ (m : markIn marks (d / frames (g .kind)) ≡ true). inl m)
           (λ (p : Part (withAck g ack) s d). inr (record { joined = p .joined; later = p .later; from = p .from; upto = p .upto })) (c .has);
     }
-
-taken-answer : (s : List (List ℕ)) (i : ℕ) (failed : Bool) (h payload store : ℕ) → frameRefusal s i payload store ≡ 0 → frameAnswer s i failed h payload store ≡ takenIn s i failed h .answer
-unfolding frameAnswer
-taken-answer s i failed h payload store e = rw (eq-eqb (frameRefusal s i payload store) 0 e) refl
 
 module _ (tag : ℕ) (bytes : List ℕ) (h4 : ℕ) where
   stands-back : (g g′ : Group) (L i d : ℕ) (s : List ℕ) → g′ .payload ≡ g .payload → g′ .window ≡ g .window → g′ .origin ≡ (g .origin + L) % g .window
@@ -128,16 +104,15 @@ module _ (tag : ℕ) (bytes : List ℕ) (h4 : ℕ) where
       let port : portAt (passedOf (groupAt s) other n s) j ≡ passedOn (groupAt s) other j (portAt s j) = passed-of-port g other n s j b enough in
       let W = windowed g (k .group) in
       let some : 0 < g .window = (let least = W .least in let more = frames-some (g .kind) in omega arith) in
-      let parts = passed-parts g in
       let claims : Claims (passedGroup (groupAt s)) (passedStep (portAt s j .step) (firstMark (portAt s j .marks))) (passedMarks (portAt s j .marks)) (c .at) = rw (group, port) at (c .claims) in
       let tag-is : tag ≡ tagIn (passedGroup (groupAt s)) (c .at) = rw group at (c .tag-is) in
       let stands : Stands (passedGroup (groupAt s)) j (c .at) bytes h4 store = rw group at (c .stands) in
       record {
         at = c .at + frames (g .kind);
         claims = passed-claims g (portAt s j .step) (portAt s j .marks) (k .ports j (let e = count in omega arith) .kept) begun (brought-lets g s n due j b) (c .at) claims;
-        tag-is = tag-is ∙ tag-passed g (passedGroup g) (c .at) (parts .0) (parts .3);
+        tag-is = tag-is ∙ tag-passed g (passedGroup g) (c .at) (passed-kind g) (passed-oldest g);
         stands =
-            stands-back g (passedGroup g) (frames (g .kind)) j (c .at) store (parts .1) (parts .2) (parts .4 ∙ ring-is (g .origin) (frames (g .kind)) (g .window) some) stands;
+            stands-back g (passedGroup g) (frames (g .kind)) j (c .at) store (passed-payload g) (passed-window g) (passed-origin g some) stands;
       }
 
   -- nothing is claimed after a stop
@@ -200,7 +175,7 @@ module _ (tag : ℕ) (bytes : List ℕ) (h4 : ℕ) where
     W = windowed g (k .steady .group)
 
     same : groupAt a ≡ g
-    same = frame-group (g .kind) s i t h
+    same = after-group s i failed h
 
     in-step : stepAt s i ≡ portAt s i .step
     in-step = sym (port-step s i)
@@ -274,7 +249,7 @@ module _ (tag : ℕ) (bytes : List ℕ) (h4 : ℕ) where
         }))
         found
 
-    taken-claimed : (j : ℕ) → j < n → Claimed a st j tag bytes h4 → Claimed s store j tag bytes h4 ⊎ Handed s i failed h payload store j tag bytes h4
+    pub taken-claimed : (j : ℕ) → j < n → Claimed a st j tag bytes h4 → Claimed s store j tag bytes h4 ⊎ Handed s i failed h payload store j tag bytes h4
     taken-claimed j b c =
         ⊎-elim (λ (e : j ≡ i). rw e (own-claimed (rw e at c))) (λ (d : j ≢ i). inl (other-claimed j d b c)) (eq-or-ne j i)
 
@@ -287,17 +262,14 @@ module _ (tag : ℕ) (bytes : List ℕ) (h4 : ℕ) where
     -- and what follows from it
     settled-claimed : (j : ℕ) → j < n → Claimed (settledOf n st a) st j tag bytes h4 → Claimed a st j tag bytes h4
     settled-claimed j b =
-        settled-by (λ (r : List (List ℕ)). Claimed r st j tag bytes h4 → Claimed a st j tag bytes h4) n st a long
+        settled-by (λ (r : List (List ℕ)). Claimed r st j tag bytes h4 → Claimed a st j tag bytes h4) n st a (o .long)
         (λ c. c)
         (λ on q f w c. passed-claimed n a steady count st st on w j b c)
-        (λ off w c. absurd (begun-none (groupAt a) n a long st j b c))
-        (λ on q c. absurd (stopped-none (groupAt a) n a long st j c))
+        (λ off w c. absurd (begun-none (groupAt a) n a (o .long) st j b c))
+        (λ on q c. absurd (stopped-none (groupAt a) n a (o .long) st j c))
         (λ on q c.
         let z : List (List ℕ) = stoppedOf (groupAt a) n a in
-        absurd (begun-none (groupAt z) n z (rw (length-stopped (groupAt a) n a) long) st j b c))
-      where
-        long : rowsFor n ≤ length a
-        long = rw (length-frame (g .kind) s i t h) enough
+        absurd (begun-none (groupAt z) n z (rw (length-stopped (groupAt a) n a) (o .long)) st j b c))
 
   pub frame-claimed : (s : List (List ℕ)) → Kept s → (i : ℕ) (failed : Bool) (h : ℕ) (payload store : List ℕ) (j : ℕ) → j < groupAt s .count
       → Claimed (frameRows s i failed h payload store) (frameStore s i failed h payload store) j tag bytes h4
@@ -365,3 +337,16 @@ module _ (tag : ℕ) (bytes : List ℕ) (h4 : ℕ) where
       let group : groupAt (startRows kind count P W (length store) rows) ≡ groupWith kind count P W = started-with kind count P W (length store) rows e in
       ⊎-elim (λ (p : Claimed (x .rows) (x .store) j tag bytes h4). absurd (let w : flagOf (groupAt (startRows kind count P W (length store) rows) .begun) ≡ true = p .claims .begun in false≢true (rw group at w)))
       (λ (p : HandedIn x calls j). p) (run-claimed x calls k j (rw group b) c)
+
+-- What the first mark of a port says: all frames of the oldest epoch stand in the store.
+pub mark-claimed : (s : List (List ℕ)) (store : List ℕ) (j : ℕ) → flagOf (groupAt s .begun) ≡ true → firstMark (portAt s j .marks) ≡ true → (d : ℕ) → d < frames (groupAt s .kind)
+    → Claimed s store j (tagIn (groupAt s) d) (tabulate (groupAt s .payload) (λ k. getD store (placeIn (groupAt s) j d + k) 0)) (h4At (groupAt s) j d store)
+unfolding h4At byteAt
+mark-claimed s store j on first d b =
+    let g : Group = groupAt s in
+    record {
+      at = d;
+      claims = record { begun = on; has = inl (rw (first-epoch (g .kind) d b) (sym (first-mark (portAt s j .marks)) ∙ first)) };
+      tag-is = refl;
+      stands = record { bytes = λ k m. sym (getD-tabulate (g .payload) (λ k. getD store (placeIn g j d + k) 0) k 0 m); last = refl };
+    }

@@ -1,28 +1,28 @@
 -- What a port says of the store: which frames of the window stand there.
-use mathlib.Core.Path.{_≡_, refl, sym, ap, _∙_}
+use mathlib.Core.Path.{_≡_, refl, sym, _∙_}
 use mathlib.Core.Logic.{_⊎_, inl, inr, ⊎-elim, _≢_}
-use mathlib.Core.Bool.{Bool, true, false, cond, _&&_, _||_, true≢false, false≢true}
+use mathlib.Core.Bool.{Bool, true, false, cond, _&&_, false≢true}
 use mathlib.Core.List.{List}
-use Prim.Native.Nat.{ℕ, _+_, _-_, _*_, _/_, _≤_, _<_}
+use Prim.Native.Nat.{ℕ, _+_, _*_, _/_, _≤_, _<_}
 use native.Mathlib.Omega.{arith}
 use lib.Dec.{eqb, ltb}
 use borrow.Author.Tests.{eqb-true, ltb-true}
 use Rattle.calls.specs.Kept.Passing.{ahead}
 use Rattle.calls.specs.Kept.Port.{Joined, PortKept, Windowed, offset}
-use Rattle.calls.specs.Laws.Flags.{both}
+use Rattle.calls.specs.Laws.Flags.{both, never}
 use Rattle.calls.specs.Laws.Runs.{run-counts, run-goes-on}
 use Rattle.calls.specs.Laws.Window.{distance-next, distance-passed, epoch-cut, epoch-ended, epoch-more, frames-some, in-epoch, later-back, later-part, part-back, part-before, start-place, whole-epochs}
 use Rattle.ground.specs.Truth.{and-left, and-right, eq-or-ne, le-or-lt, or-cases}
 use Rattle.packet.specs.Counts.{counts}
-use Rattle.packet.specs.Kinds.{endsEpoch, epochsIn, frames, startsEpoch, tagAfter, tags}
+use Rattle.packet.specs.Kinds.{endsEpoch, epochsIn, frames, startsEpoch, tags}
 use Rattle.phases.specs.Due.{lets}
 use Rattle.phases.specs.Passing.{passedGroup, passedStep}
 use Rattle.receiver.specs.Frame.{marksBy}
 use Rattle.rows.specs.declared.group.Group.{Group}
 use Rattle.rows.specs.declared.step.Step.{Step}
+use Rattle.step.specs.Arrival.{aside, countsOn, distanceIn, flagOf, flagged, joining, keeps, outside, runOf, takenOf}
 use Rattle.step.specs.declared.arrival.Taken.{Taken}
 use Rattle.step.specs.declared.run.Run.{Run}
-use Rattle.step.specs.Arrival.{advanced, aside, countsOn, distanceIn, flagged, flagOf, inStep, joining, keeps, outside, runOf, takenOf}
 use Rattle.step.specs.Laws.Arrival.{inWindow, ranOn, stepped, taken-by}
 use Rattle.store.specs.Laws.Marks.{mark-beyond, mark-cut, mark-marked, mark-passed, sixteen-marked}
 use Rattle.store.specs.Marks.{cutFrom, firstMark, markIn, markedAt, passedMarks}
@@ -86,9 +86,6 @@ pub record Old (g : Group) (s : Step) (marks : List ℕ) (t : Taken) (d : ℕ) :
 module _ (g : Group) (s : Step) (marks : List ℕ) (failed : Bool) (h : ℕ) (W : Windowed g) (k : PortKept g s marks) (d : ℕ) where
   abbrev Stays : Taken → Type 0
   Stays t = Claims g (t .step) (marksBy (g .kind) marks t) d → New g s failed h t d ⊎ Old g s marks t d
-
-  never : {A : Type 0} → false ≡ true → A
-  never e = absurd (false≢true e)
 
   flagged-stays : Stays (flagged g s)
   unfolding flagged marksBy

@@ -4,8 +4,9 @@ pub mod Settles
 pub mod Calls
 pub mod Arriving
 pub mod Same
-pub mod Ruled
 pub mod Claims
 pub mod Claimed
+pub mod Ruled
+pub mod Numbered
 pub mod Reports
 mod Wrong

@@ -6,27 +6,31 @@ use mathlib.Core.List.{List, [], _∷_, _++_, append-assoc, append-nil}
 use Prim.Native.Nat.{ℕ, _≤_, _<_}
 use native.Mathlib.Omega.{arith}
 use lib.ListN.{length}
-use Rattle.calls.specs.Arriving.{Counts, frame-by, portAfter, storeAfter}
+use Rattle.calls.specs.Arriving.{Counts, after-group, frame-by, portAfter, storeAfter}
 use Rattle.calls.specs.Calls.{Fetch, Frame, Receiver, ReceiverCall, receiverRun, receiverStep, run-kept, startedWith}
+use Rattle.calls.specs.Claimed.{Claimed, HandedBy, taken-claimed}
+use Rattle.calls.specs.Kept.Calls.{due-says}
 use Rattle.calls.specs.Kept.Group.{Kept}
 use Rattle.calls.specs.Kept.Start.{started-kept, started-with}
 use Rattle.calls.specs.Kept.Taken.{taken-whole}
-use Rattle.calls.specs.Laws.Answers.{ports-are}
-use Rattle.calls.specs.Laws.Frames.{frame-group, frame-other, frame-port, length-frame}
+use Rattle.calls.specs.Laws.Flags.{off-flag}
 use Rattle.calls.specs.Laws.Settling.{rows-by, settled-by}
-use Rattle.calls.specs.Laws.Told.{told-group, told-of-port}
 use Rattle.calls.specs.Same.{step-sizes}
 use Rattle.ground.specs.Truth.{eq-or-ne}
 use Rattle.packet.specs.Kinds.{epochAfter}
 use Rattle.phases.specs.Laws.Cleared.{begun-port, stopped-port}
 use Rattle.phases.specs.Laws.Lengths.{length-passed, length-stopped}
 use Rattle.phases.specs.Laws.Passed.{passed-group, passed-of-port}
-use Rattle.phases.specs.Passing.{passedGroup, passedOf, passedStep}
-use Rattle.phases.specs.Settling.{begunOf, clearedStep, settledOf, stoppedOf}
+use Rattle.phases.specs.Passing.{passedOf}
+use Rattle.phases.specs.Settling.{stoppedOf}
 use Rattle.phases.specs.Sizes.{portsIn}
 use Rattle.receiver.specs.Fetch.{dueIn, fetchRows, fits, givenRows}
 use Rattle.receiver.specs.Frame.{frameRows, frameStore, takenIn}
-use Rattle.receiver.specs.Report.{reportedOf, toldOf}
+use Rattle.receiver.specs.Laws.Frames.{frame-other, frame-port}
+use Rattle.receiver.specs.Laws.Passed.{cleared-whole, passed-oldest, step-whole}
+use Rattle.receiver.specs.Laws.Sizes.{ports-are}
+use Rattle.receiver.specs.Laws.Told.{told-group, told-of-port}
+use Rattle.receiver.specs.Report.{reportedOf}
 use Rattle.receiver.specs.Starting.{groupWith, startAnswer, startRows}
 use Rattle.rows.specs.declared.group.Group.{Group}
 use Rattle.rows.specs.declared.step.Step.{Step}
@@ -50,11 +54,10 @@ pub record RulesOn (p q : Port) : Type 0 where
 pub record Unruled (q : Port) : Type 0 where
   pub whole : q .step .whole ≡ 0
 
--- the oldest epoch is passed: the packet that came with its frames rules, if they all stand in the store
+-- the oldest epoch is passed: the packet that came with its frames rules, if they all stand in the store, which is what the first mark says
 pub record Passed (g : Group) (store : List ℕ) (i : ℕ) (p q : Port) : Type 0 where
-  pub stands : Bool
-  pub ruling : q .ruling ≡ cond stands (packetIn g i store) (p .ruling)
-  pub whole : q .step .whole ≡ cond stands 1 0
+  pub ruling : q .ruling ≡ cond (firstMark (p .marks)) (packetIn g i store) (p .ruling)
+  pub whole : q .step .whole ≡ cond (firstMark (p .marks)) 1 0
 
 -- Of all ports at once: all stays, or receiving stops or begins, or the oldest epoch is passed.
 
@@ -65,26 +68,29 @@ pub record AllStay (s r : List (List ℕ)) : Type 0 where
 pub record AllUnruled (s r : List (List ℕ)) : Type 0 where
   pub ports : (j : ℕ) → j < groupAt s .count → Unruled (portAt r j)
 
-pub record AllPassed (s : List (List ℕ)) (store : List ℕ) (r : List (List ℕ)) : Type 0 where
-  pub ports : (j : ℕ) → j < groupAt s .count → Passed (groupAt s) store j (portAt s j) (portAt r j)
-  pub oldest : groupAt r .oldest ≡ epochAfter (groupAt s .kind) (groupAt s .oldest)
+-- the rows in which a call passes an epoch, if it does: a frame comes to its port first
+abbrev pub rowsPassed : Receiver → ReceiverCall → List (List ℕ)
+rowsPassed x (Frame i failed h payload) = portAfter (x .rows) i failed h
+rowsPassed x (Fetch out report) = x .rows
 
-abbrev pub Ruled : List (List ℕ) → List ℕ → List (List ℕ) → Type 0
-Ruled s store r = AllStay s r ⊎ (AllUnruled s r ⊎ AllPassed s store r)
+pub record AllPassed (x : Receiver) (c : ReceiverCall) (store : List ℕ) (r : List (List ℕ)) : Type 0 where
+  pub begun : flagOf (groupAt (rowsPassed x c) .begun) ≡ true
+  pub ports : (j : ℕ) → j < groupAt (x .rows) .count → Passed (groupAt (x .rows)) store j (portAt (rowsPassed x c) j) (portAt r j)
+  pub oldest : groupAt r .oldest ≡ epochAfter (groupAt (x .rows) .kind) (groupAt (x .rows) .oldest)
+  -- what a port claims then it claimed before the call, or it is the frame just handed
+  pub claimed : (tag : ℕ) (bytes : List ℕ) (h4 j : ℕ) → j < groupAt (x .rows) .count → Claimed (rowsPassed x c) store j tag bytes h4
+      → Claimed (x .rows) (x .store) j tag bytes h4 ⊎ HandedBy tag bytes h4 x c j
 
-passed-oldest : (g : Group) → passedGroup g .oldest ≡ epochAfter (g .kind) (g .oldest)
-unfolding passedGroup
-passed-oldest g = refl
-
-cleared-whole : (q : Step) (since : Bool) → clearedStep q since .whole ≡ 0
-unfolding clearedStep
-cleared-whole q since = refl
-
-passed-whole : (q : Step) (whole : Bool) → passedStep q whole .whole ≡ cond whole 1 0
-unfolding passedStep
-passed-whole q whole = refl
+abbrev pub Ruled : Receiver → ReceiverCall → List ℕ → List (List ℕ) → Type 0
+Ruled x c store r = AllStay (x .rows) r ⊎ (AllUnruled (x .rows) r ⊎ AllPassed x c store r)
 
 module _ (s : List (List ℕ)) (k : Kept s) (i : ℕ) (failed : Bool) (h : ℕ) (payload store : List ℕ) where
+  abbrev x : Receiver
+  x = record { rows = s; store = store }
+
+  abbrev call : ReceiverCall
+  call = Frame i failed h payload
+
   abbrev n : ℕ
   n = groupAt s .count
 
@@ -95,7 +101,7 @@ module _ (s : List (List ℕ)) (k : Kept s) (i : ℕ) (failed : Bool) (h : ℕ) 
   st = storeAfter s i failed h payload store
 
   same : groupAt a ≡ groupAt s
-  same = frame-group (groupAt s .kind) s i (takenIn s i failed h) h
+  same = after-group s i failed h
 
   -- a frame leaves what rules
   before : i < n → (j : ℕ) → RulesOn (portAt s j) (portAt a j)
@@ -107,43 +113,42 @@ module _ (s : List (List ℕ)) (k : Kept s) (i : ℕ) (failed : Bool) (h : ℕ) 
       (λ (d : j ≢ i). rw (frame-other (groupAt s .kind) s i (takenIn s i failed h) h j d) (record { ruling = refl; whole = refl }))
       (eq-or-ne j i)
 
-  pub frame-ruled : Ruled s (frameStore s i failed h payload store) (frameRows s i failed h payload store)
+  pub frame-ruled : Ruled x call (frameStore s i failed h payload store) (frameRows s i failed h payload store)
   frame-ruled =
-      frame-by (λ (r : List (List ℕ)) (m : List ℕ). Ruled s m r) s k i failed h payload store
+      frame-by (λ (r : List (List ℕ)) (m : List ℕ). Ruled x call m r) s k i failed h payload store
       (inl (record { ports = λ j c. record { ruling = refl; whole = refl }; oldest = refl }))
       (λ (o : Counts s i failed h payload store).
-      settled-by (λ (r : List (List ℕ)). Ruled s st r) n st a enough
+      settled-by (λ (r : List (List ℕ)). Ruled x call st r) n st a (o .long)
       (inl (record { ports = λ j c. before (o .port) j; oldest = ap (λ (g : Group). g .oldest) same }))
       (λ b q f w.
       inr (inr (record {
+        begun = b;
         ports = λ j c.
-            let rules : RulesOn (portAt s j) (portAt (portAfter s i failed h) j) = before (o .port) j in
-            rw (passed-of-port (groupAt a) st n a j c enough)
-            (record {
-              stands = firstMark (portAt a j .marks);
-              ruling = rw (same, rules .ruling) refl;
-              whole = passed-whole (portAt a j .step) (firstMark (portAt a j .marks));
-            });
-        oldest = ap (λ (g : Group). g .oldest) (passed-group (groupAt a) st n a (let l = enough in omega arith)) ∙ passed-oldest (groupAt a) ∙ rw same refl;
+            rw (passed-of-port (groupAt a) st n a j c (o .long))
+            (record { ruling = rw same refl; whole = step-whole (portAt a j .step) (firstMark (portAt a j .marks)) });
+        oldest = ap (λ (g : Group). g .oldest) (passed-group (groupAt a) st n a (let l = o .long in omega arith)) ∙ passed-oldest (groupAt a) ∙ rw same refl;
+        claimed = λ tag bytes h4 j c w. taken-claimed tag bytes h4 s k i failed h payload store o j c w;
       })))
-      (λ b w. inr (inl (record { ports = λ j c. rw (begun-port (groupAt a) n a j c enough) (record { whole = cleared-whole (portAt a j .step) _ }) })))
-      (λ b q. inr (inl (record { ports = λ j c. rw (stopped-port (groupAt a) n a j c enough) (record { whole = cleared-whole (portAt a j .step) _ }) })))
+      (λ b w. inr (inl (record { ports = λ j c. rw (begun-port (groupAt a) n a j c (o .long)) (record { whole = cleared-whole (portAt a j .step) _ }) })))
+      (λ b q. inr (inl (record { ports = λ j c. rw (stopped-port (groupAt a) n a j c (o .long)) (record { whole = cleared-whole (portAt a j .step) _ }) })))
       (λ b q.
       let z : List (List ℕ) = stoppedOf (groupAt a) n a in
-      let l : rowsFor n ≤ length z = rw (length-stopped (groupAt a) n a) enough in
+      let l : rowsFor n ≤ length z = rw (length-stopped (groupAt a) n a) (o .long) in
       inr (inl (record { ports = λ j c. rw (begun-port (groupAt z) n z j c l) (record { whole = cleared-whole (portAt z j .step) _ }) }))))
-    where
-      enough : rowsFor (groupAt s .count) ≤ length (portAfter s i failed h)
-      enough = rw (length-frame (groupAt s .kind) s i (takenIn s i failed h) h) (let r = k .steady .rows in omega arith)
 
 module _ (s : List (List ℕ)) (k : Kept s) (store out report : List ℕ) where
-  reported : AllPassed s store (reportedOf (groupAt s) store (groupAt s .count) s)
+  abbrev y : Receiver
+  y = record { rows = s; store = store }
+
+  reported : flagOf (groupAt s .begun) ≡ true → AllPassed y (Fetch out report) store (reportedOf (groupAt s) store (groupAt s .count) s)
   unfolding reportedOf
-  reported =
+  reported on =
       record {
+        begun = on;
+        claimed = λ tag bytes h4 j c w. inl w;
         ports = λ j c.
             rw (told-of-port (groupAt p) (groupAt s .count) p j c l, passed-of-port (groupAt s) store (groupAt s .count) s j c enough)
-            (record { stands = firstMark (portAt s j .marks); ruling = refl; whole = passed-whole (portAt s j .step) (firstMark (portAt s j .marks)) });
+            (record { ruling = refl; whole = step-whole (portAt s j .step) (firstMark (portAt s j .marks)) });
         oldest =
             ap (λ (g : Group). g .oldest) (told-group (groupAt p) (groupAt s .count) p (let q = l in omega arith))
             ∙ ap (λ (g : Group). g .oldest) (passed-group (groupAt s) store (groupAt s .count) s (let q = enough in omega arith))
@@ -159,11 +164,11 @@ module _ (s : List (List ℕ)) (k : Kept s) (store out report : List ℕ) where
       l : rowsFor (groupAt s .count) ≤ length (passedOf (groupAt s) store (groupAt s .count) s)
       l = rw (length-passed (groupAt s) store (groupAt s .count) s) enough
 
-  pub fetch-ruled : Ruled s store (fetchRows s store out report)
+  pub fetch-ruled : Ruled y (Fetch out report) store (fetchRows s store out report)
   unfolding fetchRows givenRows
   fetch-ruled =
-      rows-by (Ruled s store) (fits s store out report) (cond (dueIn g (portsIn g) s) (reportedOf g store (portsIn g) s) s) s
-      (λ e. rows-by (Ruled s store) (dueIn g (portsIn g) s) (reportedOf g store (portsIn g) s) s (λ d. inr (inr (rw ports reported))) (λ d. stays)) (λ e. stays)
+      rows-by (Ruled y (Fetch out report) store) (fits s store out report) (cond (dueIn g (portsIn g) s) (reportedOf g store (portsIn g) s) s) s
+      (λ e. rows-by (Ruled y (Fetch out report) store) (dueIn g (portsIn g) s) (reportedOf g store (portsIn g) s) s (λ d. inr (inr (rw ports (reported (due-says g (portsIn g) s d .begun))))) (λ d. stays)) (λ e. stays)
     where
       g : Group
       g = groupAt s
@@ -171,11 +176,11 @@ module _ (s : List (List ℕ)) (k : Kept s) (store out report : List ℕ) where
       ports : portsIn (groupAt s) ≡ groupAt s .count
       ports = ports-are (groupAt s) (k .steady .group .sizes)
 
-      stays : Ruled s store s
+      stays : Ruled y (Fetch out report) store s
       stays = inl (record { ports = λ j c. record { ruling = refl; whole = refl }; oldest = refl })
 
 -- A12, of every call
-pub step-ruled : (x : Receiver) (c : ReceiverCall) → Kept (x .rows) → Ruled (x .rows) (receiverStep x c .store) (receiverStep x c .rows)
+pub step-ruled : (x : Receiver) (c : ReceiverCall) → Kept (x .rows) → Ruled x c (receiverStep x c .store) (receiverStep x c .rows)
 step-ruled x (Frame i failed h payload) k = frame-ruled (x .rows) k i failed h payload (x .store)
 step-ruled x (Fetch out report) k = fetch-ruled (x .rows) k (x .store) out report
 
@@ -192,15 +197,12 @@ run-more : (x : Receiver) (calls : List ReceiverCall) (c : ReceiverCall) → rec
 run-more x [] c = refl
 run-more x (d ∷ calls) c = run-more (receiverStep x d) calls c
 
-not-whole : (b : ℕ) → b ≡ 0 → flagOf b ≡ false
-not-whole b z = rw z refl
-
 module _ (x : Receiver) (k₀ : Kept (x .rows)) where
   now-kept : (calls : List ReceiverCall) → Kept (receiverRun x calls .rows)
   now-kept calls = run-kept x calls k₀
 
   step-one : (calls : List ReceiverCall) (c : ReceiverCall) → OneEpoch x calls → OneEpoch x (calls ++ (c ∷ []))
-  step-one calls c o = ⊎-elim stay (λ (u : AllUnruled (now .rows) (next .rows) ⊎ AllPassed (now .rows) (next .store) (next .rows)). ⊎-elim unruled passed u) (step-ruled now c (now-kept calls))
+  step-one calls c o = ⊎-elim stay (λ (u : AllUnruled (now .rows) (next .rows) ⊎ AllPassed now c (next .store) (next .rows)). ⊎-elim unruled passed u) (step-ruled now c (now-kept calls))
     where
       now : Receiver
       now = receiverRun x calls
@@ -238,14 +240,14 @@ module _ (x : Receiver) (k₀ : Kept (x .rows)) where
       unruled : AllUnruled (now .rows) (next .rows) → OneEpoch x (calls ++ (c ∷ []))
       unruled a =
           none-rules
-          (rw then-is (λ j b. not-whole (portAt (next .rows) j .step .whole) (a .ports j (rw (← count) b) .whole)))
+          (rw then-is (λ j b. off-flag (portAt (next .rows) j .step .whole) (a .ports j (rw (← count) b) .whole)))
 
-      passed : AllPassed (now .rows) (next .store) (next .rows) → OneEpoch x (calls ++ (c ∷ []))
+      passed : AllPassed now c (next .store) (next .rows) → OneEpoch x (calls ++ (c ∷ []))
       passed a =
           passed-in calls c [] refl
           (rw then-is (λ j b w.
           let p = a .ports j (rw (← count) b) in
-          p .ruling ∙ stands-is (p .stands) (portAt (now .rows) j .ruling) j (rw (p .whole) at w)))
+          p .ruling ∙ stands-is (firstMark (portAt (rowsPassed now c) j .marks)) (portAt (rowsPassed now c) j .ruling) j (rw (p .whole) at w)))
           (rw then-is (a .oldest))
 
   run-one : (done calls : List ReceiverCall) → OneEpoch x done → OneEpoch x (done ++ calls)
@@ -258,4 +260,4 @@ one-epoch kind count P W rows store e calls =
     let x : Receiver = startedWith kind count P W rows store in
     let k : Kept (x .rows) = started-kept kind count P W (length store) rows e in
     let group : groupAt (startRows kind count P W (length store) rows) ≡ groupWith kind count P W = started-with kind count P W (length store) rows e in
-    run-one x k [] calls (none-rules (λ j b. not-whole (portAt (x .rows) j .step .whole) (k .steady .ports j b .unruled (rw group refl))))
+    run-one x k [] calls (none-rules (λ j b. off-flag (portAt (x .rows) j .step .whole) (k .steady .ports j b .unruled (rw group refl))))

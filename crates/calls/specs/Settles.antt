@@ -1,31 +1,31 @@
 -- R-7: after a frame, stopping, beginning and gathering may be tested always or only where takenOf says so: on what any calls leave it is the same.
 use mathlib.Core.Path.{_≡_, refl, sym, ap, _∙_}
 use mathlib.Core.Logic.{⊎-elim, _≢_}
-use mathlib.Core.Bool.{Bool, true, false, cond, not, _&&_, _||_, true≢false, false≢true}
+use mathlib.Core.Bool.{Bool, true, false, cond, not, true≢false}
 use mathlib.Core.List.{List}
 use Prim.Native.Nat.{ℕ, _≤_, _<_}
 use native.Mathlib.Omega.{arith}
 use lib.ListN.{length}
-use Rattle.calls.specs.Kept.Group.{Kept, PortIn, Steady}
+use Rattle.calls.specs.Kept.Group.{Kept, PortIn}
 use Rattle.calls.specs.Kept.Quiet.{Quiet, taken-quiet}
 use Rattle.calls.specs.Kept.Steps.{windowed}
 use Rattle.calls.specs.Laws.Flags.{both}
-use Rattle.calls.specs.Laws.Frames.{frame-group, frame-other, frame-port, frameOn}
-use Rattle.counting.specs.Laws.Tests.{every-all, every-at, every-fails}
+use Rattle.counting.specs.Laws.Tests.{every-all, every-at}
 use Rattle.counting.specs.Words.{every}
 use Rattle.ground.specs.Truth.{eq-or-ne, fails}
 use Rattle.phases.specs.Due.{brought, lets, silent}
 use Rattle.phases.specs.Settling.{settledOf}
 use Rattle.phases.specs.Theorems.Settled.{Settled, heard-port, settled-stays}
 use Rattle.receiver.specs.Frame.{marksBy, portRows, settledBy, takenIn}
+use Rattle.receiver.specs.Laws.Frames.{frame-group, frame-marks, frame-marks-other, frame-step, frame-step-other}
 use Rattle.rows.specs.declared.group.Group.{Group}
 use Rattle.rows.specs.Group.{groupAt}
 use Rattle.rows.specs.Laws.Port.{port-marks, port-step}
 use Rattle.rows.specs.Packets.{marksAt}
-use Rattle.rows.specs.Port.{Port, portAt}
+use Rattle.rows.specs.Port.{portAt}
 use Rattle.rows.specs.Rows.{rowsFor}
 use Rattle.rows.specs.Step.{stepAt}
-use Rattle.step.specs.Arrival.{flagOf, readable, takenOf}
+use Rattle.step.specs.Arrival.{flagOf, readable}
 use Rattle.step.specs.declared.arrival.Taken.{Taken}
 
 module _ (s : List (List ℕ)) (k : Kept s) (i : ℕ) (failed : Bool) (h : ℕ) (b : i < groupAt s .count) where
@@ -41,20 +41,20 @@ module _ (s : List (List ℕ)) (k : Kept s) (i : ℕ) (failed : Bool) (h : ℕ) 
   abbrev after : List (List ℕ)
   after = portRows (g .kind) s i taken h
 
-  port-now : portAt after i ≡ frameOn (g .kind) (portAt s i) taken h
-  port-now = frame-port (g .kind) s i taken h n b (let e = k .steady .rows in omega arith)
+  enough : rowsFor n ≤ length s
+  enough = let e = k .steady .rows in omega arith
 
   step-now : stepAt after i ≡ taken .step
-  step-now = sym (port-step after i) ∙ ap (λ (p : Port). p .step) port-now
+  step-now = frame-step (g .kind) s i taken h n b enough
 
   marks-now : marksAt after i ≡ marksBy (g .kind) (marksAt s i) taken
-  marks-now = sym (port-marks after i) ∙ ap (λ (p : Port). p .marks) port-now ∙ rw (port-marks s i) refl
+  marks-now = frame-marks (g .kind) s i taken h n b enough
 
   step-other : (j : ℕ) → j ≢ i → stepAt after j ≡ stepAt s j
-  step-other j d = sym (port-step after j) ∙ ap (λ (p : Port). p .step) (frame-other (g .kind) s i taken h j d) ∙ port-step s j
+  step-other = frame-step-other (g .kind) s i taken h
 
   marks-other : (j : ℕ) → j ≢ i → marksAt after j ≡ marksAt s j
-  marks-other j d = sym (port-marks after j) ∙ ap (λ (p : Port). p .marks) (frame-other (g .kind) s i taken h j d) ∙ port-marks s j
+  marks-other = frame-marks-other (g .kind) s i taken h
 
   module _ (quiet : taken .settles ≡ false) where
     q : Quiet g (stepAt s i) (marksAt s i) taken

@@ -1,7 +1,7 @@
 -- What comes together of an epoch, judged: a pure function of the frames' contents (01, 'Report of an epoch').
-use mathlib.Core.Bool.{true, false, cond}
+use mathlib.Core.Bool.{true, cond}
 use mathlib.Core.List.{List, [], _++_}
-use Prim.Native.Nat.{ℕ, zero, suc, _+_, _-_, _*_}
+use Prim.Native.Nat.{ℕ, zero, suc, _+_, _*_}
 use lib.Dec.{eqb}
 use lib.ListN.{getD, replicate}
 use Rattle.counting.specs.Each.{each}
@@ -10,30 +10,28 @@ use Rattle.judge.specs.declared.seen.Seen.{Seen}
 use Rattle.judge.specs.Order.{activeIn, portOf}
 use Rattle.judge.specs.Verdict.{HELD, judgeOf}
 use Rattle.packet.specs.Counts.{nibbleIn}
-use Rattle.packet.specs.Kinds.{epochOf, frames}
+use Rattle.packet.specs.Kinds.{epochOf}
 use Rattle.packet.specs.Theorems.Tags.{tagOf}
 use Rattle.payload.specs.Order.{groupFrame}
 use Rattle.phases.specs.Ruling.{rulingOf}
-use Rattle.link.specs.Road.{Road}
+use Rattle.receiver.specs.Report.{noSeen}
+use Rattle.link.specs.Road.{L, Road}
 use Rattle.link.specs.Told.{Told}
 
 module _ (r : Road) where
   -- the number of the epoch that starts at position i L
   unfoldable pub numberOf : ℕ → ℕ
-  numberOf i = epochOf (r .kind) (tagOf (r .kind) (r .offset + i * frames (r .kind)))
+  numberOf i = epochOf (r .kind) (tagOf (r .kind) (r .offset + i * L r))
 
   -- the packet that came to port p in epoch i
   unfoldable pub packetOf : ℕ → ℕ → List ℕ
-  packetOf i p = tabulate 16 (λ k. nibbleIn (r .kind) (r .h4 p (i * frames (r .kind) + k)))
+  packetOf i p = tabulate 16 (λ k. nibbleIn (r .kind) (r .h4 p (i * L r + k)))
 
   -- what is seen of port p in the epoch after epoch i, which the packets of epoch i rule
   unfoldable pub seenAfter : ℕ → ℕ → Seen
   seenAfter i p =
       let q = rulingOf (r .kind) (numberOf i) (packetOf i p) in
       record { whole = true; good = q .good; word = q .word; number = q .number; gid = q .gid; here = true }
-
-  abbrev pub noSeen : Seen
-  noSeen = record { whole = false; good = false; word = 0; number = 0; gid = 0; here = false }
 
   unfoldable pub allSeenAfter : ℕ → List Seen
   allSeenAfter i = each (r .ports) (seenAfter i) (replicate 64 noSeen)
@@ -56,5 +54,5 @@ module _ (r : Road) where
       record {
         epoch = numberOf (suc i);
         mark = mark;
-        bytes = cond (eqb mark HELD) [] (framesFrom seen (suc i * frames (r .kind)) (frames (r .kind)));
+        bytes = cond (eqb mark HELD) [] (framesFrom seen (suc i * L r) (L r));
       }

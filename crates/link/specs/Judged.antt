@@ -1,5 +1,4 @@
 -- What a link's reports say: the road it makes is fair, and each epoch's contents are judged as demand 3 has it.
-pub mod Places
 pub mod Fairness
 pub mod Seen
 pub mod Sure

@@ -1,5 +1,3 @@
 -- Laws on the definitions below, as the proof of demand 3 wants them.
 pub mod Numbers
-pub mod Epochs
 pub mod Lists
-pub mod Ring

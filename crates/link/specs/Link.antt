@@ -35,6 +35,10 @@ pub record Link : Type 0 where
   -- the output lent for each report
   pub output : ℕ → List ℕ
 
+-- frames that an epoch has
+abbrev pub epochFrames : Link → ℕ
+epochFrames k = frames (k .history .kind)
+
 -- the packet of an epoch as it was sent to a port
 abbrev pub sentTo : Link → ℕ → ℕ → List ℕ
 sentTo k i p = packetSent (k .history) i (k .pairing p)

@@ -6,35 +6,37 @@ use mathlib.Core.List.{List, [], _∷_, _++_}
 use Prim.Native.Nat.{ℕ, zero, suc, _+_, _-_, _*_, _≤_, _<_}
 use lib.Dec.{leb, ltb}
 use lib.ListN.{length}
-use Rattle.packet.specs.Kinds.{frames}
-use Rattle.rows.specs.Group.{groupAt}
 use Rattle.step.specs.Laws.Run.{startFrom}
-use Rattle.link.specs.Road.{Road, times}
-use Rattle.link.specs.Running.{Moment, through, turns}
+use Rattle.link.specs.Road.{L, Road, times}
+use Rattle.link.specs.Running.{Moment, hasBegun, through, turns}
+
+-- a run: what stands in a frame time after the ports of a list have been served
+abbrev pub Run : Type 0
+Run = ℕ → List ℕ → Moment
 
 module _ (r : Road) where
-  -- what stands in frame time t after the ports of `done` have been served
-  abbrev pub reached : Moment → ℕ → List ℕ → Moment
+  -- the receiver's own
+  abbrev pub reached : Moment → Run
   reached m t done = turns r t done (through r t m)
 
   -- the position of port p's next frame: its first one, or the one of this frame time, or where it has been served the one after
   unfoldable pub nextAt : ℕ → List ℕ → ℕ → ℕ
   nextAt t rest p = r .first p + (t + 1 - times p rest - (r .delay p + r .first p))
 
-  unfoldable pub nx : ℕ → List ℕ → ℕ → ℕ
-  nx t rest p = cond (ltb p (r .ports)) (nextAt t rest p) (r .first p)
+  unfoldable pub coming : ℕ → List ℕ → ℕ → ℕ
+  coming t rest p = cond (ltb p (r .ports)) (nextAt t rest p) (r .first p)
 
   -- the foremost position that has come
-  pub record Foremost (nx : ℕ → ℕ) (F : ℕ) : Type 0 where
+  pub record Foremost (coming : ℕ → ℕ) (F : ℕ) : Type 0 where
     pub port : ℕ
     pub below : port < r .ports
-    pub is : nx port ≡ F + 1
-    pub most : (q : ℕ) → q < r .ports → nx q ≤ F + 1
+    pub is : coming port ≡ F + 1
+    pub most : (q : ℕ) → q < r .ports → coming q ≤ F + 1
 
   -- every port has had two multiframes, the first of which starts at MFI1 0, and no two are further apart than the spread
-  pub record Ready (nx : ℕ → ℕ) : Type 0 where
-    pub stepped : (q : ℕ) → q < r .ports → startFrom (r .kind) (r .offset) (r .first q) + frames (r .kind) * 2 ≤ nx q
-    pub near : (p q : ℕ) → p < r .ports → q < r .ports → nx p + frames (r .kind) ≤ nx q + r .window
+  pub record Ready (coming : ℕ → ℕ) : Type 0 where
+    pub stepped : (q : ℕ) → q < r .ports → startFrom (r .kind) (r .offset) (r .first q) + L r * 2 ≤ coming q
+    pub near : (p q : ℕ) → p < r .ports → q < r .ports → coming p + L r ≤ coming q + r .window
 
   -- a moment that is not after another: by frame time, and by how many ports have been served in it
   abbrev pub NotAfter : ℕ → List ℕ → ℕ → List ℕ → Type 0
@@ -42,24 +44,24 @@ module _ (r : Road) where
 
   -- at no moment up to this one were all ports ready
   abbrev pub Unready : ℕ → List ℕ → Type 0
-  Unready t done = (u : ℕ) (earlier rest : List ℕ) → r .order u ≡ earlier ++ rest → NotAfter u earlier t done → Ready (nx u rest) → ⊥
+  Unready t done = (u : ℕ) (earlier rest : List ℕ) → r .order u ≡ earlier ++ rest → NotAfter u earlier t done → Ready (coming u rest) → ⊥
 
-  -- the moment at which receiving began, the first at which all ports were ready: F was the foremost position
-  pub record Beginning (m₀ : Moment) (F : ℕ) : Type 0 where
+  -- the moment at which receiving began in a run, the first at which all ports were ready: F was the foremost position
+  pub record Beginning (run : Run) (F : ℕ) : Type 0 where
     pub time : ℕ
     pub done : List ℕ
     pub port : ℕ
     pub rest : List ℕ
     pub is-order : r .order time ≡ done ++ (port ∷ rest)
-    pub not-yet : groupAt (reached m₀ time done .rows) .begun ≡ 0
-    pub begun : groupAt (reached m₀ time (done ++ (port ∷ [])) .rows) .begun ≡ 1
-    pub foremost : Foremost (nx time rest) F
-    pub ready : Ready (nx time rest)
+    pub not-yet : hasBegun (run time done) ≡ 0
+    pub begun : hasBegun (run time (done ++ (port ∷ []))) ≡ 1
+    pub foremost : Foremost (coming time rest) F
+    pub ready : Ready (coming time rest)
     pub unready : Unready time done
 
   -- the answer to port p's frame at position x: 12 until the port has had two multiframes, the first of which starts at MFI1 0
   abbrev pub said : ℕ → ℕ → ℕ
-  said p x = cond (leb (startFrom (r .kind) (r .offset) (r .first p) + frames (r .kind) * 2) (x + 1)) 0 12
+  said p x = cond (leb (startFrom (r .kind) (r .offset) (r .first p) + L r * 2) (x + 1)) 0 12
 
   -- of a port's turn in frame time t
   abbrev pub saysOne : ℕ → ℕ → List ℕ

@@ -3,11 +3,12 @@
 use mathlib.Core.Path.{_≡_}
 use mathlib.Core.Bool.{true, cond}
 use mathlib.Core.List.{List, [], _∷_}
-use Prim.Native.Nat.{ℕ, _+_, _-_, _*_, _≤_, _<_}
+use Prim.Native.Nat.{ℕ, _+_, _*_, _≤_, _<_}
 use lib.Dec.{eqb}
 use lib.ListN.{length}
 use Rattle.packet.specs.Kinds.{frames, startsEpoch}
 use Rattle.phases.specs.Sizes.{sized}
+use Rattle.receiver.specs.Laws.Sizes.{Sizes, sizes-of}
 use Rattle.step.specs.Laws.Sent.{SentWith}
 
 pub record Road : Type 0 where
@@ -29,6 +30,10 @@ pub record Road : Type 0 where
   -- the output lent for the k-th report: 'the output may be anything'
   pub output : ℕ → List ℕ
 
+-- frames that an epoch has
+abbrev pub L : Road → ℕ
+L r = frames (r .kind)
+
 -- how often a port stands in a list
 abbrev pub times : ℕ → List ℕ → ℕ
 times p [] = 0
@@ -47,10 +52,13 @@ pub record Fair (r : Road) : Type 0 where
   pub counted : (p x : ℕ) → p < r .ports → r .first p ≤ x → SentWith (r .kind) (r .offset + x) (r .h4 p x)
   pub long : (p x : ℕ) → p < r .ports → length (r .bytes p x) ≡ r .payload
   -- 'spread at most the window less 16 frames'
-  pub spread : (p q : ℕ) → p < r .ports → q < r .ports → r .delay p + frames (r .kind) ≤ r .delay q + r .window
+  pub spread : (p q : ℕ) → p < r .ports → q < r .ports → r .delay p + L r ≤ r .delay q + r .window
   -- every port once in each frame time
   pub once : (t p : ℕ) → p < r .ports → times p (r .order t) ≡ 1
   pub only : (t : ℕ) → Below (r .ports) (r .order t)
-  pub room : (k : ℕ) → r .ports * frames (r .kind) * r .payload ≤ length (r .output k)
+  pub room : (k : ℕ) → r .ports * L r * r .payload ≤ length (r .output k)
   -- position 0 starts an epoch
   pub starts : startsEpoch (r .kind) (r .offset) ≡ true
+
+pub sizes-in : (r : Road) → Fair r → Sizes (r .kind) (r .ports) (r .payload) (r .window)
+sizes-in r f = sizes-of (r .kind) (r .ports) (r .payload) (r .window) (f .sizes)

@@ -1,5 +1,5 @@
 -- The receiver on a road: its own definitions, called frame by frame, each with the state and the store that the last call left.
-use mathlib.Core.Bool.{Bool, false, cond, _&&_}
+use mathlib.Core.Bool.{false, cond}
 use mathlib.Core.List.{List, [], _∷_, _++_}
 use Prim.Native.Nat.{ℕ, zero, suc, _+_, _-_, _*_}
 use lib.Dec.{eqb, leb}
@@ -7,6 +7,7 @@ use lib.ListN.{getD, length, replicate, take}
 use Rattle.receiver.specs.Fetch.{fetchOut, fetchRecord, fetchRows}
 use Rattle.receiver.specs.Frame.{frameAnswer, frameRows, frameStore}
 use Rattle.receiver.specs.Starting.{startRows}
+use Rattle.rows.specs.Group.{groupAt}
 use Rattle.link.specs.Road.{Road}
 use Rattle.link.specs.Told.{Told}
 
@@ -16,6 +17,10 @@ pub record Moment : Type 0 where
   pub store : List ℕ
   pub answers : List ℕ
   pub told : List Told
+
+-- 1 where receiving has begun
+abbrev pub hasBegun : Moment → ℕ
+hasBegun m = groupAt (m .rows) .begun
 
 module _ (r : Road) where
   -- 'A fresh receiver', started over any rows and any store

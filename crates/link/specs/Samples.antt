@@ -4,5 +4,4 @@ mod Met
 mod Computing
 mod Reports
 mod TooWide
-mod Promised
 mod ShutOut

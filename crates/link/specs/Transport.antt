@@ -2,7 +2,7 @@
 pub mod Heard
 pub mod Call
 pub mod Start
-pub mod Alike
+pub mod StaysOpen
 pub mod Idle
 pub mod Steps
 pub mod Moments
@@ -15,4 +15,4 @@ pub mod Fetches
 pub mod Arrives
 pub mod Frames
 pub mod Answers
-pub mod Proved
+pub mod EachStep

@@ -7,6 +7,7 @@ use Prim.Native.String.{String}
 use borrow.Author.Tests.{eqb-true}
 use lib.Dec.{eqb}
 use Rattle.ground.specs.Truth.{and-left, and-right}
+use Rattle.lines.specs.Fields.{sameBytes}
 
 pub record Row : Type 0 where
   pub name : String
@@ -18,25 +19,19 @@ abbrev pub Equal : List Row → Type 0
 Equal [] = Unit {0}
 Equal (r ∷ rs) = (r .given ≡ r .said) × Equal rs
 
-abbrev same : List ℕ → List ℕ → Bool
-same [] [] = true
-same [] (n ∷ m) = false
-same (k ∷ l) [] = false
-same (k ∷ l) (n ∷ m) = eqb k n && same l m
-
-same-lists : (l m : List ℕ) → same l m ≡ true → l ≡ m
+same-lists : (l m : List ℕ) → sameBytes l m ≡ true → l ≡ m
 same-lists [] [] t = refl
 same-lists [] (n ∷ m) t = absurd (false≢true t)
 same-lists (k ∷ l) [] t = absurd (false≢true t)
 same-lists (k ∷ l) (n ∷ m) t =
-    ap₂ _∷_ (eqb-true k n (and-left (eqb k n) (same l m) t)) (same-lists l m (and-right (eqb k n) (same l m) t))
+    ap₂ _∷_ (eqb-true k n (and-left (eqb k n) (sameBytes l m) t)) (same-lists l m (and-right (eqb k n) (sameBytes l m) t))
 
 -- the test that computes it
 abbrev pub equal : List Row → Bool
 equal [] = true
-equal (r ∷ rs) = same (r .given) (r .said) && equal rs
+equal (r ∷ rs) = sameBytes (r .given) (r .said) && equal rs
 
 pub equal-rows : (rs : List Row) → equal rs ≡ true → Equal rs
 equal-rows [] t = tt
 equal-rows (r ∷ rs) t =
-    (same-lists (r .given) (r .said) (and-left (same (r .given) (r .said)) (equal rs) t), equal-rows rs (and-right (same (r .given) (r .said)) (equal rs) t))
+    (same-lists (r .given) (r .said) (and-left (sameBytes (r .given) (r .said)) (equal rs) t), equal-rows rs (and-right (sameBytes (r .given) (r .said)) (equal rs) t))

@@ -1,2 +1,10 @@
 -- Laws on the definitions, for callers and for the proofs of the code.
 pub mod Lengths
+pub mod Sizes
+pub mod Answers
+pub mod Fresh
+pub mod Frames
+pub mod Passed
+pub mod Seen
+pub mod Told
+pub mod Bytes

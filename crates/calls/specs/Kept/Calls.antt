@@ -1,20 +1,18 @@
 -- What holds after a frame, and after a fetch.
-use mathlib.Core.Path.{_≡_, refl, sym, ap, _∙_}
-use mathlib.Core.Bool.{Bool, true, false, cond, not, _&&_, _||_, true≢false, false≢true}
+use mathlib.Core.Path.{_≡_, refl, ap, _∙_}
+use mathlib.Core.Bool.{Bool, true, cond, not, _&&_}
 use mathlib.Core.List.{List}
 use Prim.Native.Nat.{ℕ, _≤_, _<_}
 use native.Mathlib.Omega.{arith}
 use lib.Dec.{eqb, ltb}
-use lib.ListN.{getD, length}
+use lib.ListN.{length}
 use borrow.Author.Tests.{eqb-true, ltb-true}
 use Rattle.calls.specs.Kept.Group.{Kept, Steady}
-use Rattle.calls.specs.Kept.Settling.{SteadyOf, steady-by, steady-settled}
+use Rattle.calls.specs.Kept.Settling.{SteadyOf, steady-settled}
 use Rattle.calls.specs.Kept.Steps.{steady-frame, steady-passed}
-use Rattle.calls.specs.Kept.Told.{steady-told, withAck}
-use Rattle.calls.specs.Laws.Answers.{ports-are, unrefused}
+use Rattle.calls.specs.Kept.Told.{steady-told}
 use Rattle.calls.specs.Laws.Flags.{both}
-use Rattle.calls.specs.Laws.Frames.{frame-group}
-use Rattle.calls.specs.Laws.Told.{statesIn, told-group, told-of-port, toldOn}
+use Rattle.calls.specs.Laws.Settling.{rows-by}
 use Rattle.calls.specs.Settles.{settles-always}
 use Rattle.counting.specs.Laws.Tests.{every-ext}
 use Rattle.ground.specs.Truth.{and-left, and-right}
@@ -22,19 +20,22 @@ use Rattle.judge.specs.Seen.{sizeOf}
 use Rattle.phases.specs.Due.{brought, silent}
 use Rattle.phases.specs.Laws.Lengths.{length-passed}
 use Rattle.phases.specs.Laws.Passed.{passed-group}
-use Rattle.phases.specs.Passing.{groupTo, passedGroup, passedOf}
+use Rattle.phases.specs.Passing.{passedGroup, passedOf}
 use Rattle.phases.specs.Settling.{settledOf}
 use Rattle.phases.specs.Sizes.{portsIn}
 use Rattle.phases.specs.Theorems.Settled.{Settled, passed-silent, settled}
 use Rattle.receiver.specs.Fetch.{dueIn, fetchRows, fits, givenRows}
 use Rattle.receiver.specs.Frame.{frameRefusal, frameRows, portRows, settledBy, storeBy, takenIn, takenRows}
+use Rattle.receiver.specs.Laws.Answers.{unrefused}
+use Rattle.receiver.specs.Laws.Frames.{frame-group}
+use Rattle.receiver.specs.Laws.Passed.{passed-begun, passed-count, passed-gathered}
+use Rattle.receiver.specs.Laws.Sizes.{ports-are}
+use Rattle.receiver.specs.Laws.Told.{told-group, told-step, withAck}
 use Rattle.receiver.specs.Report.{replyPorts, reportedOf, toldOf}
 use Rattle.reply.specs.Telling.{ackOf}
 use Rattle.rows.specs.declared.group.Group.{Group}
 use Rattle.rows.specs.declared.step.Step.{Step}
 use Rattle.rows.specs.Group.{groupAt}
-use Rattle.rows.specs.Laws.Port.{port-step}
-use Rattle.rows.specs.Port.{Port, portAt}
 use Rattle.rows.specs.Rows.{rowsFor}
 use Rattle.rows.specs.Step.{stepAt}
 use Rattle.step.specs.Arrival.{flagOf, inStep, readable}
@@ -68,9 +69,9 @@ module _ (s : List (List ℕ)) (k : Kept s) where
   frame-kept i failed h payload store =
       let t : Taken = takenIn s i failed h in
       let after : List (List ℕ) = settledBy (t .settles) (portsIn g) (storeBy g i t h payload store) (portRows (g .kind) s i t h) in
-      steady-by Kept (eqb (frameRefusal s i (length payload) (length store)) 0) (cond (eqb (t .answer) 11) s after) s
+      rows-by Kept (eqb (frameRefusal s i (length payload) (length store)) 0) (cond (eqb (t .answer) 11) s after) s
       (λ e.
-      steady-by Kept (eqb (t .answer) 11) s after (λ f. k)
+      rows-by Kept (eqb (t .answer) 11) s after (λ f. k)
       (λ f.
       let o = unrefused g (portsIn g) i (length s) (length payload) (length store) (eqb-true (frameRefusal s i (length payload) (length store)) 0 e) in
       rw ports (taken-kept i failed h (storeBy g i t h payload store) (rw ports at (o .port)))))
@@ -80,10 +81,6 @@ ack-readable : (g : Group) (ack : ℕ) (q : Step) → readable (withAck g ack) q
 unfolding readable inStep
 ack-readable g ack q = refl
 
-passed-flags : (g : Group) → (passedGroup g .begun ≡ g .begun) × (flagOf (passedGroup g .gathered) ≡ true) × (passedGroup g .count ≡ g .count)
-unfolding passedGroup
-passed-flags g = (refl, refl, refl)
-
 -- working out the states makes no port silent
 told-silent : (g : Group) (s : List (List ℕ)) → g ≡ groupAt s → (n : ℕ) → rowsFor n ≤ length s → silent (groupAt (toldOf g n s)) (toldOf g n s) n ≡ silent (groupAt s) s n
 unfolding silent
@@ -91,12 +88,9 @@ told-silent g s same n l =
     every-ext n (λ i. not (readable (groupAt (toldOf g n s)) (stepAt (toldOf g n s) i))) (λ i. not (readable (groupAt s) (stepAt s i)))
     (λ i b. ap not (one i b))
   where
-    step : (i : ℕ) → i < n → stepAt (toldOf g n s) i ≡ stepAt s i
-    step i b = sym (port-step (toldOf g n s) i) ∙ ap (λ (p : Port). p .step) (told-of-port g n s i b l) ∙ port-step s i
-
     one : (i : ℕ) → i < n → readable (groupAt (toldOf g n s)) (stepAt (toldOf g n s) i) ≡ readable (groupAt s) (stepAt s i)
     one i b =
-        rw (told-group g n s (omega arith), step i b)
+        rw (told-group g n s (omega arith), told-step g n s i b l)
         (ack-readable g (ackOf (replyPorts g s n) (sizeOf n) (g .«rs_ack»)) (stepAt s i) ∙ ap (λ (x : Group). readable x (stepAt s i)) same)
 
 -- by a count that is the group's
@@ -140,13 +134,13 @@ reported-kept s k store on due =
     told = told-group (groupAt a) (groupAt s .count) a (let l = la in omega arith)
 
     count : groupAt a .count ≡ groupAt s .count
-    count = ap (λ (x : Group). x .count) group ∙ passed-flags (groupAt s) .2
+    count = ap (λ (x : Group). x .count) group ∙ passed-count (groupAt s)
 
     begun : flagOf (groupAt r .begun) ≡ true
-    begun = ap (λ (x : Group). flagOf (x .begun)) told ∙ ap (λ (x : Group). flagOf (x .begun)) group ∙ ap (λ (b : ℕ). flagOf b) (passed-flags (groupAt s) .0) ∙ on
+    begun = ap (λ (x : Group). flagOf (x .begun)) told ∙ ap (λ (x : Group). flagOf (x .begun)) group ∙ ap (λ (b : ℕ). flagOf b) (passed-begun (groupAt s)) ∙ on
 
     gathered : flagOf (groupAt r .gathered) ≡ true
-    gathered = ap (λ (x : Group). flagOf (x .gathered)) told ∙ ap (λ (x : Group). flagOf (x .gathered)) group ∙ passed-flags (groupAt s) .1
+    gathered = ap (λ (x : Group). flagOf (x .gathered)) told ∙ ap (λ (x : Group). flagOf (x .gathered)) group ∙ ap (λ (b : ℕ). flagOf b) (passed-gathered (groupAt s))
 
 -- what dueIn says
 pub record Due (g : Group) (n : ℕ) (s : List (List ℕ)) : Type 0 where
@@ -172,9 +166,9 @@ due-says g n s e =
 pub fetch-kept : (s : List (List ℕ)) → Kept s → (store out report : List ℕ) → Kept (fetchRows s store out report)
 unfolding fetchRows givenRows
 fetch-kept s k store out report =
-    steady-by Kept (fits s store out report) (cond (dueIn g (portsIn g) s) (reportedOf g store (portsIn g) s) s) s
+    rows-by Kept (fits s store out report) (cond (dueIn g (portsIn g) s) (reportedOf g store (portsIn g) s) s) s
     (λ e.
-    steady-by Kept (dueIn g (portsIn g) s) (reportedOf g store (portsIn g) s) s
+    rows-by Kept (dueIn g (portsIn g) s) (reportedOf g store (portsIn g) s) s
     (λ d. rw ports (let o = due-says g (groupAt s .count) s (rw ports at d) in reported-kept s k store (o .begun) (o .brought))) (λ d. k))
     (λ e. k)
   where

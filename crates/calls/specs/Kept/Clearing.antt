@@ -1,13 +1,13 @@
 -- A port as receiving stops, and as it begins.
-use mathlib.Core.Path.{_≡_, refl, sym, ap, _∙_}
-use mathlib.Core.Bool.{Bool, true, false, cond, not, _&&_, _||_, true≢false, false≢true}
+use mathlib.Core.Path.{_≡_, refl, sym, _∙_}
+use mathlib.Core.Bool.{Bool, true, false, cond, true≢false, false≢true}
 use mathlib.Core.List.{List}
-use Prim.Native.Nat.{ℕ, _+_, _≤_, _<_}
+use Prim.Native.Nat.{ℕ, _+_}
 use native.Mathlib.Omega.{arith}
-use lib.Dec.{leb}
 use lib.ListN.{replicate}
 use borrow.Author.Tests.{leb-true}
 use Rattle.calls.specs.Kept.Port.{PortKept, Waiting, Windowed}
+use Rattle.calls.specs.Laws.Flags.{flag-le}
 use Rattle.calls.specs.Laws.Window.{arc-short}
 use Rattle.packet.specs.Kinds.{distanceOf, epochAfter, epochOf, frames, tagBefore}
 use Rattle.phases.specs.Beginning.{latest, within}
@@ -33,7 +33,7 @@ module _ (g : Group) (s : Step) (marks : List ℕ) (k : PortKept g s marks) (beg
         had = k .had;
         failed = k .failed;
         joined = omega arith;
-        since = one since;
+        since = flag-le since;
         whole = omega arith;
         joined-step = λ e. absurd (false≢true e);
         since-step = λ e. on (set since e);
@@ -48,10 +48,6 @@ module _ (g : Group) (s : Step) (marks : List ℕ) (k : PortKept g s marks) (beg
         early = λ e. refl;
       }
     where
-      one : (b : Bool) → cond b 1 0 ≤ 1
-      one true = omega arith
-      one false = omega arith
-
       set : (b : Bool) → flagOf (cond b 1 0) ≡ true → b ≡ true
       set true e = refl
       set false e = e

@@ -1,16 +1,14 @@
 -- A port as the window passes an epoch that is due.
-use mathlib.Core.Path.{_≡_, refl, sym, ap, _∙_}
+use mathlib.Core.Path.{_≡_, refl, sym, _∙_}
 use mathlib.Core.Logic.{⊎-elim, _≢_}
-use mathlib.Core.Bool.{Bool, true, false, cond, not, _&&_, _||_, true≢false, false≢true}
+use mathlib.Core.Bool.{true, false, _&&_, _||_, true≢false, false≢true}
 use mathlib.Core.List.{List}
-use Prim.Native.Nat.{ℕ, _+_, _-_, _*_, _≤_, _<_}
+use Prim.Native.Nat.{ℕ, _+_, _≤_}
 use native.Mathlib.Omega.{arith}
-use lib.Dec.{leb}
-use borrow.Author.Tests.{leb-true, le-leb, lt-leb, not-true}
-use Rattle.ground.specs.Truth.{and-left, and-right, eq-or-ne, or-cases}
-use Rattle.calls.specs.Kept.Port.{Joined, PortKept, Windowed, endOf, offset}
-use Rattle.calls.specs.Laws.Flags.{both, flag-on, true-or-false}
+use Rattle.calls.specs.Kept.Port.{Joined, PortKept, offset}
+use Rattle.calls.specs.Laws.Flags.{both, flag-le, flag-on, true-or-false}
 use Rattle.calls.specs.Laws.Window.{distance-passed, end-before, end-nearer, first-ended, later-nearer, less-later, one-ahead}
+use Rattle.ground.specs.Truth.{and-left, and-right, eq-or-ne, or-cases}
 use Rattle.packet.specs.Kinds.{frames}
 use Rattle.phases.specs.Due.{lets}
 use Rattle.phases.specs.Passing.{passedGroup, passedStep}
@@ -18,7 +16,7 @@ use Rattle.rows.specs.declared.group.Group.{Group}
 use Rattle.rows.specs.declared.step.Step.{Step}
 use Rattle.step.specs.Arrival.{distanceIn, flagOf, inStep, readable}
 use Rattle.store.specs.Laws.Marks.{first-mark, mark-passed, sixteen-passed}
-use Rattle.store.specs.Marks.{firstMark, markIn, passedMarks}
+use Rattle.store.specs.Marks.{firstMark, passedMarks}
 
 module _ (g : Group) (s : Step) (marks : List ℕ) (k : PortKept g s marks) (begun : flagOf (g .begun) ≡ true) (due : lets g s marks ≡ true) where
   -- a port that has joined, or waits to, is readable
@@ -66,7 +64,7 @@ module _ (g : Group) (s : Step) (marks : List ℕ) (k : PortKept g s marks) (beg
         failed = k .failed;
         joined = k .joined;
         since = k .since;
-        whole = one (firstMark marks);
+        whole = flag-le (firstMark marks);
         joined-step = k .joined-step;
         since-step = k .since-step;
         failed-none = k .failed-none;
@@ -80,10 +78,6 @@ module _ (g : Group) (s : Step) (marks : List ℕ) (k : PortKept g s marks) (beg
         early = λ e. let z = k .early e in omega arith;
       }
     where
-      one : (b : Bool) → cond b 1 0 ≤ 1
-      one true = omega arith
-      one false = omega arith
-
       joined : flagOf (s .joined) ≡ true → Joined (passedGroup g) (passedStep s (firstMark marks)) (passedMarks marks)
       joined j =
           let o : Joined g s marks = k .goes j in

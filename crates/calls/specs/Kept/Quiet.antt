@@ -1,27 +1,27 @@
 -- A frame after which nothing is settled leaves nothing to settle (R-7): it makes no port silent and lets no epoch pass that was not let pass before.
-use mathlib.Core.Path.{_≡_, refl, sym, ap, _∙_}
+use mathlib.Core.Path.{_≡_, refl, sym, _∙_}
 use mathlib.Core.Logic.{⊎-elim, _≢_}
-use mathlib.Core.Bool.{Bool, true, false, cond, not, _&&_, _||_, true≢false, false≢true, and-false, or-false}
+use mathlib.Core.Bool.{Bool, true, false, cond, not, _&&_, _||_, true≢false, and-false, or-false}
 use mathlib.Core.List.{List}
-use Prim.Native.Nat.{ℕ, _+_, _*_, _≤_, _<_}
+use Prim.Native.Nat.{ℕ}
 use native.Mathlib.Omega.{arith}
-use lib.Dec.{eqb, ltb}
-use borrow.Author.Tests.{eqb-true, eqb-false, ne-eqb, ltb-true, not-true, not-false}
+use lib.Dec.{eqb}
+use borrow.Author.Tests.{eqb-false, ne-eqb, ltb-true, not-false}
 use Rattle.calls.specs.Kept.Port.{PortKept, Windowed, offset}
-use Rattle.calls.specs.Laws.Flags.{both, flag-off, flag-on, true-or-false}
+use Rattle.calls.specs.Laws.Flags.{both, true-or-false}
 use Rattle.calls.specs.Laws.Window.{epochs-none, meet}
-use Rattle.ground.specs.Truth.{and-left, and-right, and-true, or-cases}
-use Rattle.packet.specs.Kinds.{endsEpoch, frames, epochsIn, startsEpoch}
+use Rattle.ground.specs.Truth.{or-cases}
+use Rattle.packet.specs.Kinds.{endsEpoch, epochsIn, frames}
 use Rattle.phases.specs.Due.{lets}
 use Rattle.receiver.specs.Frame.{marksBy}
 use Rattle.rows.specs.declared.group.Group.{Group}
 use Rattle.rows.specs.declared.step.Step.{Step}
+use Rattle.step.specs.Arrival.{advanced, aside, countsOn, flagOf, flagged, inStep, joinedAt, joining, keeps, outside, readable, takenOf}
 use Rattle.step.specs.declared.arrival.Taken.{Taken}
 use Rattle.step.specs.declared.run.Run.{Run}
-use Rattle.step.specs.Arrival.{advanced, aside, countsOn, distanceIn, flagged, flagOf, inStep, joinedAt, joining, keeps, outside, readable, takenOf}
 use Rattle.step.specs.Laws.Arrival.{inWindow, ranOn, stepped, taken-by}
 use Rattle.step.specs.Run.{inStepAt}
-use Rattle.store.specs.Laws.Marks.{Sixteen, first-mark, mark-cut, mark-marked}
+use Rattle.store.specs.Laws.Marks.{first-mark, mark-cut, mark-marked}
 use Rattle.store.specs.Marks.{cutFrom, firstMark, markIn, markedAt}
 
 none-step : (kind : ℕ) → inStepAt kind 0 ≡ false
@@ -120,9 +120,6 @@ module _ (g : Group) (s : Step) (marks : List ℕ) (W : Windowed g) (k : PortKep
             lets = λ f l. sym (same-lets marked (first (rw f at q))) ∙ l;
           }
         where
-          d : ℕ
-          d = offset g s
-
           marked : List ℕ
           marked = cond (endsEpoch (g .kind) (offset g s)) (markedAt marks (epochsIn (g .kind) (offset g s))) marks
 

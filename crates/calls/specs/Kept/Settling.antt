@@ -1,36 +1,29 @@
 -- What is kept as stopping, beginning and gathering follow from a frame.
-use mathlib.Core.Path.{_≡_, refl, sym, ap, _∙_}
-use mathlib.Core.Bool.{Bool, true, false, cond, not, _&&_}
+use mathlib.Core.Path.{_≡_, refl, ap, _∙_}
+use mathlib.Core.Bool.{not, _&&_}
 use mathlib.Core.List.{List}
-use Prim.Native.Nat.{ℕ, _≤_, _<_}
+use Prim.Native.Nat.{ℕ, _<_}
 use native.Mathlib.Omega.{arith}
 use lib.ListN.{length}
 use Rattle.calls.specs.Kept.Group.{Steady}
 use Rattle.calls.specs.Kept.Steps.{steady-begun, steady-passed, steady-stopped}
+use Rattle.calls.specs.Laws.Settling.{rows-by}
 use Rattle.ground.specs.Truth.{and-left, and-right}
 use Rattle.phases.specs.Beginning.{begins}
 use Rattle.phases.specs.Due.{brought, silent}
 use Rattle.phases.specs.Laws.Cleared.{begun-group, stopped-group}
 use Rattle.phases.specs.Laws.Passed.{passed-group}
-use Rattle.phases.specs.Passing.{passedGroup, passedOf}
+use Rattle.phases.specs.Passing.{passedOf}
 use Rattle.phases.specs.Settling.{beginBy, begunOf, gatherBy, settledOf, stopBy, stoppedOf}
+use Rattle.receiver.specs.Laws.Passed.{passed-count}
 use Rattle.rows.specs.declared.group.Group.{Group}
 use Rattle.rows.specs.Group.{groupAt}
-use Rattle.rows.specs.Rows.{rowsFor}
 use Rattle.step.specs.Arrival.{flagOf}
 
 -- steady, with the same ports
 pub record SteadyOf (n : ℕ) (s : List (List ℕ)) : Type 0 where
   pub steady : Steady s
   pub count : groupAt s .count ≡ n
-
-pub steady-by : (P : List (List ℕ) → Type 0) (b : Bool) (x y : List (List ℕ)) → (b ≡ true → P x) → (b ≡ false → P y) → P (cond b x y)
-steady-by P true x y p q = p refl
-steady-by P false x y p q = q refl
-
-passed-count : (g : Group) → passedGroup g .count ≡ g .count
-unfolding passedGroup
-passed-count g = refl
 
 module _ (s : List (List ℕ)) (k : Steady s) where
   abbrev g : Group
@@ -45,14 +38,14 @@ module _ (s : List (List ℕ)) (k : Steady s) where
   stop-steady : SteadyOf n (stopBy g n s)
   unfolding stopBy
   stop-steady =
-      steady-by (SteadyOf n) (flagOf (g .begun) && silent g s n) (stoppedOf g n s) s
+      rows-by (SteadyOf n) (flagOf (g .begun) && silent g s n) (stoppedOf g n s) s
       (λ e. record { steady = steady-stopped s k; count = ap (λ (h : Group). h .count) (stopped-group g n s some) })
       (λ e. record { steady = k; count = refl })
 
   begin-steady : SteadyOf n (beginBy g n s)
   unfolding beginBy
   begin-steady =
-      steady-by (SteadyOf n) (not (flagOf (g .begun)) && begins g s n) (begunOf g n s) s
+      rows-by (SteadyOf n) (not (flagOf (g .begun)) && begins g s n) (begunOf g n s) s
       (λ e.
       record {
         steady = steady-begun s k (and-right (not (flagOf (g .begun))) (begins g s n) e);
@@ -63,7 +56,7 @@ module _ (s : List (List ℕ)) (k : Steady s) where
   gather-steady : (store : List ℕ) → SteadyOf n (gatherBy g store n s)
   unfolding gatherBy
   gather-steady store =
-      steady-by (SteadyOf n) (flagOf (g .begun) && not (flagOf (g .gathered)) && brought g s n) (passedOf g store n s) s
+      rows-by (SteadyOf n) (flagOf (g .begun) && not (flagOf (g .gathered)) && brought g s n) (passedOf g store n s) s
       (λ e.
       record {
         steady =

@@ -1,34 +1,26 @@
 -- What holds after a start.
-use mathlib.Core.Path.{_≡_, refl, sym, ap, _∙_}
-use mathlib.Core.Bool.{Bool, true, false, cond, not, _&&_, _||_, true≢false, false≢true}
+use mathlib.Core.Path.{_≡_, refl, sym, _∙_}
+use mathlib.Core.Bool.{Bool, true, false, cond, false≢true}
 use mathlib.Core.List.{List}
-use Prim.Native.Nat.{ℕ, _+_, _*_, _≤_, _<_}
+use Prim.Native.Nat.{ℕ, _+_, _*_, _<_}
 use native.Mathlib.Omega.{arith}
 use lib.Dec.{eqb}
 use lib.ListN.{length}
 use borrow.Author.Tests.{eqb-true}
-use Rattle.calls.specs.Kept.Group.{GroupKept, Kept, OkApart, PortIn, Steady, knownWord}
+use Rattle.calls.specs.Kept.Group.{Kept, Steady}
 use Rattle.calls.specs.Kept.Port.{PortKept}
-use Rattle.calls.specs.Kept.Steps.{Sizes, sizes-of}
-use Rattle.calls.specs.Laws.Fresh.{freshOn, length-started, started-group, started-port}
 use Rattle.calls.specs.Laws.Runs.{none-kept}
-use Rattle.calls.specs.Laws.Window.{frames-some}
-use Rattle.counting.specs.Laws.Tests.{every-fails}
-use Rattle.counting.specs.Words.{every}
-use Rattle.ground.specs.Truth.{and-left, and-right}
-use Rattle.packet.specs.Kinds.{epochs}
-use Rattle.phases.specs.Beginning.{begins, foremost, noTag, ready, within}
+use Rattle.calls.specs.Laws.Window.{frames-some, some-epochs}
+use Rattle.ground.specs.Truth.{and-left}
 use Rattle.phases.specs.Sizes.{sized}
-use Rattle.phases.specs.Theorems.Settled.{Settled}
-use Rattle.receiver.specs.Starting.{freshMember, freshPorts, freshStep, groupWith, sizedAnswer, sizedRows, startAnswer, startFits, startRows, zeroRow}
-use Rattle.reply.specs.Members.{idleState, noWord, okState}
+use Rattle.receiver.specs.Laws.Fresh.{freshOn, length-started, started-group, started-port, started-step, waits-for}
+use Rattle.receiver.specs.Laws.Sizes.{Sizes, sizes-of}
+use Rattle.receiver.specs.Starting.{freshPorts, freshStep, groupWith, sizedAnswer, sizedRows, startAnswer, startFits, startRows, zeroRow}
+use Rattle.reply.specs.Members.{idleState, okState}
 use Rattle.rows.specs.declared.group.Group.{Group}
 use Rattle.rows.specs.Group.{groupAt, putGroup}
-use Rattle.rows.specs.Laws.Port.{port-step}
-use Rattle.rows.specs.Port.{Port, portAt}
+use Rattle.rows.specs.Port.{portAt}
 use Rattle.rows.specs.Rows.{rowsFor}
-use Rattle.rows.specs.Step.{stepAt}
-use Rattle.step.specs.Arrival.{flagOf, inStep}
 use Rattle.store.specs.Laws.Marks.{mark-none, sixteen-none}
 
 fresh-kept : (g : Group) → PortKept g freshStep zeroRow
@@ -54,16 +46,6 @@ fresh-kept g =
       early = λ e. refl;
     }
 
-some-epochs : (kind : ℕ) → 0 < epochs kind
-unfolding epochs
-some-epochs kind = omega arith
-
--- no port has had a frame
-unready : (g : Group) (s : List (List ℕ)) (n i : ℕ) → i < n → stepAt s i ≡ freshStep → begins g s n ≡ false
-unfolding begins ready
-unready g s n i b e =
-    rw (every-fails n (λ j. ready g (stepAt s j)) i b (rw e refl)) refl
-
 module _ (kind count P W : ℕ) (s : List (List ℕ)) (right : sized kind count P W ≡ true) (rows : length s ≡ rowsFor count) where
   abbrev started : List (List ℕ)
   started = putGroup (freshPorts kind count s) (groupWith kind count P W)
@@ -85,7 +67,7 @@ module _ (kind count P W : ℕ) (s : List (List ℕ)) (right : sized kind count 
             rw group
             (record {
               sizes = right;
-              origin = let w = sizes .window in let some = frames-some kind in omega arith;
+              origin = let w = sizes .wide in let some = frames-some kind in omega arith;
               oldest = some-epochs kind;
               begun = omega arith;
               gathered = omega arith;
@@ -114,8 +96,8 @@ module _ (kind count P W : ℕ) (s : List (List ℕ)) (right : sized kind count 
               heard = λ e. absurd (false≢true (rw group at e));
               gathers = λ e f. absurd (false≢true (rw group at e));
               waits = λ e.
-                  unready (groupAt started) started count 0 (let w = sizes .some in omega arith)
-                  (sym (port-step started 0) ∙ ap (λ (p : Port). p .step) (port 0 (let w = sizes .some in omega arith)));
+                  waits-for (groupAt started) started count 0 (sizes .some-ports)
+                  (rw (started-step kind count s (groupWith kind count P W) 0 (sizes .some-ports) (omega arith)) refl);
             });
       }
 

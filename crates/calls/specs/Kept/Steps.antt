@@ -1,96 +1,60 @@
 -- What is kept by each thing that a call does.
-use mathlib.Core.Path.{_≡_, refl, sym, ap, _∙_}
+use mathlib.Core.Path.{_≡_, refl, sym, _∙_}
 use mathlib.Core.Logic.{⊎-elim, _≢_}
 use mathlib.Core.Bool.{Bool, true, false, cond, not, _&&_, _||_, true≢false, false≢true}
 use mathlib.Core.List.{List}
-use Prim.Native.Nat.{ℕ, _+_, _*_, _/_, _≤_, _<_}
-use native.Mathlib.Nat.{mod-lt}
+use Prim.Native.Nat.{ℕ, _≤_, _<_}
 use native.Mathlib.Omega.{arith}
-use lib.Dec.{eqb, leb}
+use lib.Dec.{eqb}
 use lib.ListN.{length, take}
-use borrow.Author.Tests.{leb-true, ne-eqb}
 use Rattle.calls.specs.Kept.Clearing.{begun-kept, stopped-kept}
 use Rattle.calls.specs.Kept.Group.{GroupKept, OkApart, PortIn, Steady, knownWord}
 use Rattle.calls.specs.Kept.Passing.{passed-kept}
-use Rattle.calls.specs.Kept.Port.{PortKept, Windowed}
+use Rattle.calls.specs.Kept.Port.{Windowed}
 use Rattle.calls.specs.Kept.Taken.{taken-kept, taken-whole}
 use Rattle.calls.specs.Laws.Flags.{both}
-use Rattle.calls.specs.Laws.Window.{frames-some}
-use Rattle.calls.specs.Laws.Frames.{frame-group, frame-other, frame-port, frameOn, length-frame}
+use Rattle.calls.specs.Laws.Window.{epoch-after-lt, frames-some, some-epochs}
 use Rattle.counting.specs.Laws.Tests.{every-at}
 use Rattle.counting.specs.Words.{every}
-use Rattle.ground.specs.Truth.{and-left, and-right, eq-or-ne}
+use Rattle.ground.specs.Truth.{and-right, eq-or-ne}
 use Rattle.packet.specs.Crc.{crcOf}
 use Rattle.packet.specs.declared.reader.Reading.{Reading}
-use Rattle.packet.specs.declared.reader.Reading.the-variants.{Packet, Crc, Fixed, Unassigned}
-use Rattle.packet.specs.Kinds.{epochAfter, epochOf, epochs, frames, tags}
+use Rattle.packet.specs.declared.reader.Reading.the-variants.{Crc, Fixed, Packet, Unassigned}
+use Rattle.packet.specs.Kinds.{epochAfter, epochOf}
 use Rattle.packet.specs.Layout.{carriedIn, fieldsOf}
 use Rattle.packet.specs.Reading.{readNibbles}
 use Rattle.packet.specs.Words.{ADD, DNU, EOS, FIXED, IDLE, NORM, assigned}
 use Rattle.phases.specs.Beginning.{begins, foremost, noTag, ready, within}
-use Rattle.phases.specs.Due.{brought, lets}
-use Rattle.phases.specs.Laws.Cleared.{begun-group, begun-port, clearedOn, stopped-group, stopped-port}
-use Rattle.phases.specs.Laws.Lengths.{length-begun, length-passed, length-stopped}
-use Rattle.phases.specs.Laws.Passed.{passed-group, passed-of-port, passedOn}
 use Rattle.phases.specs.declared.ruling.Ruling.{Ruling}
+use Rattle.phases.specs.Due.{brought, lets}
+use Rattle.phases.specs.Laws.Cleared.{begun-group, begun-port, stopped-group, stopped-port}
+use Rattle.phases.specs.Laws.Lengths.{length-begun, length-passed, length-stopped}
+use Rattle.phases.specs.Laws.Passed.{passed-group, passed-of-port}
 use Rattle.phases.specs.Passing.{groupTo, notedBy, passedGroup, passedOf}
 use Rattle.phases.specs.Ruling.{rulingBy, rulingOf}
-use Rattle.phases.specs.Settling.{begunOf, clearedStep, stoppedOf}
-use Rattle.phases.specs.Sizes.{sized}
+use Rattle.phases.specs.Settling.{begunOf, stoppedOf}
 use Rattle.receiver.specs.Frame.{portRows, takenIn}
+use Rattle.receiver.specs.Laws.Frames.{frame-group, frame-other, frame-port, frameOn, length-frame}
+use Rattle.receiver.specs.Laws.Passed.{cleared-whole, origin-within, passed-count, passed-gathered}
+use Rattle.receiver.specs.Laws.Sizes.{sizes-of}
 use Rattle.reply.specs.Members.{noWord}
 use Rattle.rows.specs.declared.group.Group.{Group}
 use Rattle.rows.specs.declared.member.Member.{Member}
-use Rattle.rows.specs.declared.step.Step.{Step}
 use Rattle.rows.specs.Group.{groupAt}
 use Rattle.rows.specs.Laws.Port.{port-marks, port-step}
 use Rattle.rows.specs.Packets.{marksAt}
-use Rattle.rows.specs.Port.{Port, portAt}
+use Rattle.rows.specs.Port.{portAt}
 use Rattle.rows.specs.Rows.{rowsFor}
 use Rattle.rows.specs.Step.{stepAt}
 use Rattle.step.specs.Arrival.{flagOf, inStep, takenOf}
-use Rattle.store.specs.Frames.{packetIn, ringOf}
-use Rattle.store.specs.Marks.{firstMark}
 use Rattle.step.specs.declared.arrival.Taken.{Taken}
-
--- What a group's sizes say.
-pub record Sizes (kind count P W : ℕ) : Type 0 where
-  pub some : 1 ≤ count
-  pub few : count ≤ 64
-  pub least : 1 ≤ P
-  pub most : P ≤ 2340
-  pub window : frames kind ≤ W
-  pub half : W + W ≤ tags kind
-
-pub sizes-of : (kind count P W : ℕ) → sized kind count P W ≡ true → Sizes kind count P W
-unfolding sized tags
-sizes-of kind count P W e =
-    let a : Bool = leb 1 count in
-    let b : Bool = leb count 64 in
-    let c : Bool = leb 1 P in
-    let d : Bool = leb P 2340 in
-    let f : Bool = leb (frames kind) W in
-    let t = leb-true W 2048 (and-right (a && b && c && d && f) (leb W 2048) e) in
-    let e = and-left (a && b && c && d && f) (leb W 2048) e in
-    let u = and-right (a && b && c && d) f e in
-    let e = and-left (a && b && c && d) f e in
-    let v = and-right (a && b && c) d e in
-    let e = and-left (a && b && c) d e in
-    let w = and-right (a && b) c e in
-    let e = and-left (a && b) c e in
-    record {
-      some = leb-true 1 count (and-left a b e);
-      few = leb-true count 64 (and-right a b e);
-      least = leb-true 1 P w;
-      most = leb-true P 2340 v;
-      window = leb-true (frames kind) W u;
-      half = omega arith;
-    }
+use Rattle.store.specs.Frames.{packetIn}
+use Rattle.store.specs.Marks.{firstMark}
 
 pub windowed : (g : Group) → GroupKept g → Windowed g
 windowed g k =
     let z = sizes-of (g .kind) (g .count) (g .payload) (g .window) (k .sizes) in
-    record { least = z .window; most = z .half }
+    record { least = z .wide; most = (let r = z .round in omega arith) }
 
 -- members whose states stay
 ok-same : (n : ℕ) (m m′ : ℕ → Member) → ((i : ℕ) → i < n → (m′ i .state ≡ m i .state) × (m′ i .«state_number» ≡ m i .«state_number»)) → OkApart n m → OkApart n m′
@@ -101,35 +65,16 @@ ok-same n m m′ same k =
           k .apart i j bi bj (sym (same i bi .0) ∙ oi) (sym (same j bj .0) ∙ oj) (sym (same i bi .1) ∙ e ∙ same j bj .1);
     }
 
-cleared-whole : (q : Step) (since : Bool) → clearedStep q since .whole ≡ 0
-unfolding clearedStep
-cleared-whole q since = refl
-
-some-epochs : (kind : ℕ) → 0 < epochs kind
-unfolding epochs
-some-epochs kind = omega arith
-
-epoch-after-lt : (kind e : ℕ) → epochAfter kind e < epochs kind
-unfolding epochAfter epochs
-epoch-after-lt kind e = omega arith
-
 begins-within : (g : Group) (s : List (List ℕ)) (n : ℕ) → begins g s n ≡ true → (i : ℕ) → i < n → within g (foremost g s n) (stepAt s i) ≡ true
 unfolding begins
 begins-within g s n e i b =
     every-at n (λ j. within g (foremost g s n) (stepAt s j))
     (and-right (every n (λ j. ready g (stepAt s j)) && not (eqb (foremost g s n) (noTag g))) (every n (λ j. within g (foremost g s n) (stepAt s j))) e) i b
 
-brought-lets : (g : Group) (s : List (List ℕ)) (n : ℕ) → brought g s n ≡ true → (i : ℕ) → i < n → lets g (stepAt s i) (marksAt s i) ≡ true
+-- what it says of each port that an epoch is due
+pub brought-lets : (g : Group) (s : List (List ℕ)) (n : ℕ) → brought g s n ≡ true → (i : ℕ) → i < n → lets g (portAt s i .step) (portAt s i .marks) ≡ true
 unfolding brought
-brought-lets g s n e i b = every-at n (λ j. lets g (stepAt s j) (marksAt s j)) e i b
-
-passed-count : (g : Group) → passedGroup g .count ≡ g .count
-unfolding passedGroup
-passed-count g = refl
-
-passed-gathered : (g : Group) → flagOf (passedGroup g .gathered) ≡ true
-unfolding passedGroup
-passed-gathered g = refl
+brought-lets g s n e i b = rw (port-step s i, port-marks s i) (every-at n (λ j. lets g (stepAt s j) (marksAt s j)) e i b)
 
 noted-state : (m : Member) (whole : Bool) (r : Ruling) → (notedBy m whole r .state ≡ m .state) × (notedBy m whole r .«state_number» ≡ m .«state_number»)
 unfolding notedBy
@@ -176,17 +121,13 @@ noted-word m true kind epoch nibbles k = go (rulingOf kind epoch nibbles .good) 
     go false e = k
 noted-word m false kind epoch nibbles k = k
 
-ring-lt : (origin d W : ℕ) → 0 < W → ringOf origin d W < W
-unfolding ringOf
-ring-lt origin d W h = rw (ne-eqb W 0 (λ (e : W ≡ 0). omega arith)) (mod-lt (origin + d) h)
-
 passed-in : (g : Group) → flagOf (g .begun) ≡ true → GroupKept g → GroupKept (passedGroup g)
 unfolding passedGroup
 passed-in g on k =
     let W = windowed g k in
     record {
       sizes = k .sizes;
-      origin = ring-lt (g .origin) (frames (g .kind)) (g .window) (let least = W .least in let some = frames-some (g .kind) in omega arith);
+      origin = origin-within g (let least = W .least in let some = frames-some (g .kind) in omega arith);
       oldest = epoch-after-lt (g .kind) (g .oldest);
       begun = k .begun;
       gathered = omega arith;
@@ -327,8 +268,8 @@ module _ (s : List (List ℕ)) (k : Steady s) where
             let o = k .ports i b in
             rw (group, passed-of-port g store n s i b enough)
             (record {
-              kept = passed-kept g (portAt s i .step) (portAt s i .marks) (o .kept) on (has-let i b);
-              unruled = λ f. both (flagOf (passedGroup g .gathered)) (passed-gathered g) f;
+              kept = passed-kept g (portAt s i .step) (portAt s i .marks) (o .kept) on (brought-lets g s n due i b);
+              unruled = λ f. both (flagOf (passedGroup g .gathered)) (rw (passed-gathered g) refl) f;
               word = noted-word (portAt s i .member) (firstMark (portAt s i .marks)) (g .kind) (g .oldest) (packetIn g i store) (o .word);
             });
         members =
@@ -342,9 +283,6 @@ module _ (s : List (List ℕ)) (k : Steady s) where
 
       same-count : passedGroup g .count ≡ n
       same-count = passed-count g
-
-      has-let : (i : ℕ) → i < n → lets g (portAt s i .step) (portAt s i .marks) ≡ true
-      has-let i b = rw (port-step s i, port-marks s i) (brought-lets g s n due i b)
 
       passed : GroupKept (passedGroup g)
       passed = passed-in g on (k .group)

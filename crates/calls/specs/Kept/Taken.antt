@@ -1,32 +1,27 @@
 -- What a frame leaves of its port: each case of takenOf.
-use mathlib.Core.Path.{_≡_, refl, sym, ap, _∙_}
+use mathlib.Core.Path.{_≡_, refl, sym, _∙_}
 use mathlib.Core.Logic.{⊎-elim, _≢_}
-use mathlib.Core.Bool.{Bool, true, false, cond, _&&_, _||_, true≢false, false≢true, and-false}
+use mathlib.Core.Bool.{Bool, true, false, cond, _&&_, true≢false, and-false}
 use mathlib.Core.List.{List}
 use Prim.Native.Nat.{ℕ, _+_, _*_, _%_, _≤_, _<_}
 use native.Mathlib.Omega.{arith}
 use lib.Dec.{eqb, leb, ltb}
-use borrow.Author.Tests.{leb-true, ltb-true, lt-ltb, le-ltb, eqb-true}
-use Rattle.ground.specs.Truth.{and-left, and-right, and-true, eq-or-ne, le-or-lt, or-cases}
-use Rattle.calls.specs.Kept.Port.{Idle, Joined, NoMark, PortKept, Waiting, Windowed, endOf, offset, shortOf}
-use Rattle.calls.specs.Laws.Flags.{both, flag-off, flag-on}
-use Rattle.calls.specs.Laws.Runs.{RunKept, none-kept, run-kept, run-goes-on}
+use borrow.Author.Tests.{ltb-true, lt-ltb, le-ltb, eqb-true}
+use Rattle.calls.specs.Kept.Port.{Joined, PortKept, Waiting, Windowed, endOf, offset, shortOf}
+use Rattle.calls.specs.Laws.Flags.{both, flag-on, never}
+use Rattle.calls.specs.Laws.Runs.{RunKept, none-kept, run-goes-on, run-kept}
 use Rattle.calls.specs.Laws.Window.{at-base, distance-next, ends-inside, ends-more, ends-same, epochs-none, far, frames-some, meet, none-ended, short-next, start-place, whole-epochs}
+use Rattle.ground.specs.Truth.{and-left, and-true, le-or-lt, or-cases}
+use Rattle.packet.specs.Kinds.{endsEpoch, epochsIn, frames, startsEpoch, tagAfter, tags}
 use Rattle.receiver.specs.Frame.{marksBy}
-use Rattle.packet.specs.Kinds.{distanceOf, endsEpoch, epochsIn, firstTag, frames, startsEpoch, tagAfter, tags}
-use Rattle.packet.specs.Theorems.Tags.{distance-lt}
 use Rattle.rows.specs.declared.group.Group.{Group}
 use Rattle.rows.specs.declared.step.Step.{Step}
+use Rattle.step.specs.Arrival.{advanced, aside, countsOn, distanceIn, flagOf, flagged, inStep, joining, keeps, lost, outside, runOf, takenOf}
 use Rattle.step.specs.declared.arrival.Taken.{Taken}
 use Rattle.step.specs.declared.run.Run.{Run}
-use Rattle.step.specs.Arrival.{advanced, aside, countsOn, distanceIn, flagged, flagOf, inStep, joinedAt, joining, keeps, lost, outside, runOf, takenOf}
 use Rattle.step.specs.Laws.Arrival.{inWindow, ranOn, stepped, taken-by}
-use Rattle.step.specs.Run.{inStepAt}
 use Rattle.store.specs.Laws.Marks.{Sixteen, mark-beyond, mark-cut, mark-marked, sixteen-cut, sixteen-marked}
-use Rattle.store.specs.Marks.{cutFrom, markIn, markedAt}
-
-never : {A : Type 0} → false ≡ true → A
-never e = absurd (false≢true e)
+use Rattle.store.specs.Marks.{markIn, markedAt}
 
 -- a port without step
 lost-kept : (g : Group) (s : Step) (marks : List ℕ) (failed : ℕ) (run : Run) → failed ≤ 1 → RunKept (g .kind) run → (failed ≢ 0 → run .count ≡ 0)
@@ -187,9 +182,6 @@ module _ (g : Group) (s : Step) (marks : List ℕ) (W : Windowed g) (k : PortKep
             go : (t : Bool) → endsEpoch (g .kind) d ≡ t → PortKept g (advanced s run) (cond t (markedAt marks (epochsIn (g .kind) d)) marks)
             go true e = with-marks (markedAt marks (epochsIn (g .kind) d)) (sixteen-marked marks (k .row) (epochsIn (g .kind) d)) marked inside
               where
-                last : ℕ
-                last = epochsIn (g .kind) d
-
                 marked : (i : ℕ) → s .later ≤ i → markIn (markedAt marks (epochsIn (g .kind) d)) i ≡ leb (endOf g i) (d + 1)
                 marked i l =
                     ⊎-elim

@@ -1,31 +1,24 @@
 -- What is kept as a report's states and RS-Ack are worked out.
-use mathlib.Core.Path.{_≡_, refl, sym, ap, _∙_}
-use mathlib.Core.Bool.{true, false}
+use mathlib.Core.Path.{_≡_, refl, sym, _∙_}
 use mathlib.Core.List.{List}
 use Prim.Native.Nat.{ℕ, _≤_, _<_}
 use native.Mathlib.Omega.{arith}
 use lib.ListN.{getD, length}
 use Rattle.calls.specs.Kept.Group.{GroupKept, OkApart, PortIn, Steady}
-use Rattle.calls.specs.Kept.Port.{Idle, Joined, PortKept, Waiting}
-use Rattle.calls.specs.Kept.Steps.{sizes-of}
-use Rattle.calls.specs.Laws.Told.{ack-le, length-told, size-is, statesIn, told-group, told-number, told-of-port, toldOn}
+use Rattle.calls.specs.Kept.Port.{PortKept}
 use Rattle.judge.specs.Seen.{sizeOf}
-use Rattle.phases.specs.Passing.{groupTo}
+use Rattle.receiver.specs.Laws.Sizes.{size-is, sizes-of}
+use Rattle.receiver.specs.Laws.Told.{ack-le, length-told, statesIn, told-group, told-number, told-of-port, toldOn, withAck}
 use Rattle.receiver.specs.Report.{replyPorts, toldBy, toldOf}
-use Rattle.reply.specs.Members.{okState}
 use Rattle.reply.specs.Telling.{ackOf}
 use Rattle.reply.specs.Theorems.States.{ok-apart, ok-below, stateAt}
 use Rattle.rows.specs.declared.group.Group.{Group}
-use Rattle.rows.specs.declared.step.Step.{Step}
 use Rattle.rows.specs.declared.member.Member.{Member}
+use Rattle.rows.specs.declared.step.Step.{Step}
 use Rattle.rows.specs.Group.{groupAt}
 use Rattle.rows.specs.Port.{Port, portAt}
 use Rattle.rows.specs.Rows.{rowsFor}
-use Rattle.step.specs.Arrival.{distanceIn, flagOf, inStep}
-
--- the group with another RS-Ack
-abbrev pub withAck : Group → ℕ → Group
-withAck g ack = groupTo g (g .begun) (g .gathered) (g .oldest) (g .origin) ack
+use Rattle.step.specs.Arrival.{distanceIn, inStep}
 
 -- no port looks at it
 ack-kept : (g : Group) (ack : ℕ) (s : Step) (marks : List ℕ) → PortKept g s marks → PortKept (withAck g ack) s marks
@@ -68,7 +61,7 @@ module _ (s : List (List ℕ)) (k : Steady s) where
   n = groupAt s .count
 
   few : n ≤ 64
-  few = sizes-of (g .kind) n (g .payload) (g .window) (k .group .sizes) .few
+  few = sizes-of (g .kind) n (g .payload) (g .window) (k .group .sizes) .few-ports
 
   pub steady-told : Steady (toldOf g n s)
   steady-told =

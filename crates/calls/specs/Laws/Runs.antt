@@ -1,12 +1,10 @@
 -- A port's run of frames, kept through every frame.
-use mathlib.Core.Path.{_≡_, refl, sym, _∙_}
-use mathlib.Core.Logic.{⊎-elim, _≢_}
+use mathlib.Core.Path.{_≡_, refl}
 use mathlib.Core.Bool.{Bool, true, false, cond}
-use Prim.Native.Nat.{ℕ, _+_, _*_, _/_, _%_, _≤_, _<_}
+use Prim.Native.Nat.{ℕ, _+_, _*_, _%_, _≤_, _<_}
 use native.Mathlib.Omega.{arith}
 use lib.Dec.{eqb, leb}
-use borrow.Author.Tests.{eqb-true, eqb-false, eq-eqb, ne-eqb, leb-true, leb-false, le-leb}
-use Rattle.ground.specs.Truth.{eq-or-ne}
+use borrow.Author.Tests.{eqb-false, leb-true, leb-false}
 use Rattle.packet.specs.Counts.{afterFirst, afterSecond, counts, goesSecond, startsCount}
 use Rattle.packet.specs.Kinds.{frames, tagAfter, tags}
 use Rattle.step.specs.declared.run.Run.{Run}

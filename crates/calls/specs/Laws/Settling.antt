@@ -1,16 +1,16 @@
 -- What follows from a frame for all ports, case by case.
-use mathlib.Core.Path.{_≡_, refl, sym, ap, _∙_}
-use mathlib.Core.Bool.{Bool, true, false, cond, not, _&&_, true≢false}
+use mathlib.Core.Path.{_≡_, refl, ap}
+use mathlib.Core.Bool.{Bool, true, false, cond, not, _&&_}
 use mathlib.Core.List.{List}
-use Prim.Native.Nat.{ℕ, _≤_, _<_}
+use Prim.Native.Nat.{ℕ, _≤_}
 use native.Mathlib.Omega.{arith}
 use lib.ListN.{length}
 use borrow.Author.Tests.{not-true}
-use Rattle.calls.specs.Laws.Flags.{both, true-or-false}
+use Rattle.calls.specs.Laws.Flags.{both}
 use Rattle.ground.specs.Truth.{and-left, and-right}
 use Rattle.phases.specs.Beginning.{begins}
 use Rattle.phases.specs.Due.{brought, silent}
-use Rattle.phases.specs.Laws.Cleared.{begun-group, stopped-group}
+use Rattle.phases.specs.Laws.Cleared.{stopped-group}
 use Rattle.phases.specs.Laws.Lengths.{length-stopped}
 use Rattle.phases.specs.Passing.{passedOf}
 use Rattle.phases.specs.Settling.{beginBy, begunOf, gatherBy, settledOf, stopBy, stoppedOf}

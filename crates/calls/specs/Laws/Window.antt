@@ -1,17 +1,22 @@
 -- Tags about the window's first frame.
-use mathlib.Core.Path.{_≡_, refl, sym, ap, _∙_}
+use mathlib.Core.Path.{_≡_, sym, _∙_}
 use mathlib.Core.Logic.{_⊎_, inl, inr, ⊎-elim, _≢_}
-use mathlib.Core.Bool.{Bool, true, false, _||_, _&&_}
+use mathlib.Core.Bool.{Bool, true, false, not, _&&_, _||_}
+use mathlib.Core.List.{List}
 use Prim.Native.Nat.{ℕ, _+_, _-_, _*_, _/_, _%_, _≤_, _<_}
 use native.Mathlib.Nat.{mod-mod, mod-add-mod, add-mod-right, mod-eq-of-lt}
 use native.Mathlib.Omega.{arith}
-use lib.Dec.{eqb, leb, ltb}
-use borrow.Author.Tests.{eqb-true, eqb-false, eq-eqb, ne-eqb, leb-true, leb-false, le-leb, lt-leb}
+use lib.Dec.{eqb, leb}
+use borrow.Author.Tests.{eqb-true, eqb-false, eq-eqb, ne-eqb, leb-true, le-leb, lt-leb}
 use Rattle.ground.specs.Circle.{after, after-leads, after-only}
-use Rattle.ground.specs.Truth.{eq-or-ne, le-or-lt}
+use Rattle.ground.specs.Truth.{and-left, and-right, eq-or-ne, le-or-lt}
+use Rattle.packet.specs.Counts.{counts, nibbleIn}
 use Rattle.packet.specs.Kinds.{distanceOf, endsEpoch, epochAfter, epochOf, epochs, epochsIn, firstTag, frames, lead, placeOf, startsEpoch, tagAfter, tagBefore, tags}
+use Rattle.packet.specs.Layout.{fieldsOf}
+use Rattle.receiver.specs.Report.{rulingEpoch}
 use Rattle.rows.specs.declared.group.Group.{Group}
 use Rattle.step.specs.Arrival.{distanceIn}
+use Rattle.store.specs.Frames.{h4At, packetIn}
 
 -- on plain numbers: back from b to t
 back-low : (b t : ℕ) → b < 4096 → t < 4095 → 0 < (b + (4096 - t)) % 4096 → (b + (4096 - (t + 1))) % 4096 + 1 ≡ (b + (4096 - t)) % 4096
@@ -81,11 +86,6 @@ module _ (g : Group) (t : ℕ) where
   unfolding distanceIn distanceOf after firstTag startsEpoch placeOf tags lead frames
   at-base z = (eq-eqb ((t + 8) % 16) 0 (omega arith), omega arith)
 
--- the epoch of a distance in the window
-pub epochs-at : (kind d : ℕ) → d + d < tags kind → epochsIn kind d * frames kind + d % frames kind ≡ d
-unfolding epochsIn tags frames epochs
-epochs-at kind d h = omega arith
-
 -- an epoch ends within d + 1 frames exactly if it did within d, or the frame at d is its last one
 pub ends-more : (kind i d : ℕ) → d + d < tags kind → endsEpoch kind d ≡ true
     → leb (frames kind * i + frames kind) (d + 1) ≡ (leb (frames kind * i + frames kind) d || eqb i (epochsIn kind d))
@@ -134,6 +134,14 @@ none-ended kind i d h z l = lt-leb (16 * i + 16) (d + 1) (omega arith)
 pub frames-some : (kind : ℕ) → 1 < frames kind
 unfolding frames
 frames-some kind = omega arith
+
+pub some-epochs : (kind : ℕ) → 0 < epochs kind
+unfolding epochs
+some-epochs kind = omega arith
+
+pub epoch-after-lt : (kind e : ℕ) → epochAfter kind e < epochs kind
+unfolding epochAfter epochs
+epoch-after-lt kind e = omega arith
 
 pub epochs-none : (kind : ℕ) → epochsIn kind 0 ≡ 0
 unfolding epochsIn frames epochs
@@ -282,3 +290,57 @@ later-part kind later d e h p =
 pub epoch-cut : (kind d e : ℕ) → e + e < tags kind → d / frames kind < epochsIn kind e → d ≢ e
 unfolding epochsIn tags frames epochs
 epoch-cut kind d e h l q = omega arith
+
+-- The frames that bring MFI2 (01, 'The control packet'): the first two of a multiframe, in the midst of an epoch.
+
+pub first-epoch : (kind d : ℕ) → d < frames kind → d / frames kind ≡ 0
+unfolding frames
+first-epoch kind d h = omega arith
+
+pub mfi2-within : (kind : ℕ) → lead kind + 1 < frames kind
+unfolding lead frames
+mfi2-within kind = omega arith
+
+high-counted : (kind t h : ℕ) → t % 16 ≡ 0 → counts kind t h ≡ true → h / 16 ≡ t / 256 % 16
+unfolding counts
+high-counted kind t h z c =
+    let a : Bool = eqb (h % 16) (t % 16) in
+    let b : Bool = not (eqb (t % 16) 0) || eqb (h / 16) (t / 256 % 16) in
+    let m = and-right a b (and-left (a && b) (not (eqb (t % 16) 1) || eqb (h / 16) (t / 16 % 16)) c) in
+    eqb-true (h / 16) (t / 256 % 16) (rw (eq-eqb (t % 16) 0 z) at m)
+
+low-counted : (kind t h : ℕ) → t % 16 ≡ 1 → counts kind t h ≡ true → h / 16 ≡ t / 16 % 16
+unfolding counts
+low-counted kind t h z c =
+    let a : Bool = eqb (h % 16) (t % 16) in
+    let b : Bool = not (eqb (t % 16) 0) || eqb (h / 16) (t / 256 % 16) in
+    let m = and-right (a && b) (not (eqb (t % 16) 1) || eqb (h / 16) (t / 16 % 16)) c in
+    eqb-true (h / 16) (t / 16 % 16) (rw (eq-eqb (t % 16) 1 z) at m)
+
+-- on plain numbers: their tags, and the number that their nibbles make
+high-tag : (e : ℕ) → e < 256 → ((e * 16 + 4088) % 4096 + 8) % 4096 ≡ e * 16
+high-tag e h = omega arith
+
+low-tag : (e : ℕ) → e < 256 → ((e * 16 + 4088) % 4096 + 9) % 4096 ≡ e * 16 + 1
+low-tag e h = omega arith
+
+number-by : (e a b : ℕ) → e < 256 → a ≡ e * 16 / 256 % 16 → b ≡ (e * 16 + 1) / 16 % 16 → a % 16 * 16 + b % 16 ≡ e
+number-by e a b h p q =
+    let c : a ≡ e / 16 = omega arith in
+    let d : b ≡ e % 16 = omega arith in
+    rw (c, d) (omega arith)
+
+-- where they count as their tags say, the packet carries the number of its epoch
+pub packet-numbered : (g : Group) (i : ℕ) (store : List ℕ) → g .oldest < epochs (g .kind)
+    → counts (g .kind) (tagIn g (lead (g .kind))) (h4At g i (lead (g .kind)) store) ≡ true
+    → counts (g .kind) (tagIn g (lead (g .kind) + 1)) (h4At g i (lead (g .kind) + 1) store) ≡ true → fieldsOf (packetIn g i store) .epoch ≡ g .oldest
+unfolding fieldsOf packetIn nibbleIn tagIn firstTag epochs tags lead frames
+packet-numbered g i store few first second =
+    let e : ℕ = g .oldest in
+    number-by e (h4At g i 8 store / 16) (h4At g i 9 store / 16) few (high-counted (g .kind) (e * 16) (h4At g i 8 store) (omega arith) (rw (high-tag e few) at first))
+    (low-counted (g .kind) (e * 16 + 1) (h4At g i 9 store) (omega arith) (rw (low-tag e few) at second))
+
+-- the epoch before the oldest, as the window passes an epoch
+pub ruling-passed : (g g′ : Group) → g′ .kind ≡ g .kind → g′ .oldest ≡ epochAfter (g .kind) (g .oldest) → g .oldest < epochs (g .kind) → rulingEpoch g′ ≡ g .oldest
+unfolding rulingEpoch epochOf tagBefore firstTag epochAfter epochs tags lead frames
+ruling-passed g g′ k o h = omega arith

@@ -1,17 +1,14 @@
 -- RS-Ack turns over at most once a report, and at no other call. On every state.
-use mathlib.Core.Path.{_≡_, refl, sym, ap, _∙_}
+use mathlib.Core.Path.{_≡_, refl, ap, _∙_}
 use mathlib.Core.Logic.{_⊎_, inl, inr, ⊎-elim}
-use mathlib.Core.Bool.{Bool, true, false, cond, _&&_}
-use mathlib.Core.List.{List, [], _∷_}
+use mathlib.Core.Bool.{Bool, true, false, _&&_}
+use mathlib.Core.List.{List}
 use Prim.Native.Nat.{ℕ, _-_, _≤_}
 use native.Mathlib.Omega.{arith}
-use lib.ListN.{length}
-use Rattle.calls.specs.Arriving.{frame-any, portAfter, storeAfter}
-use Rattle.calls.specs.Laws.Answers.{unrefused}
+use Rattle.calls.specs.Arriving.{after-group, frame-any, portAfter, storeAfter}
 use Rattle.calls.specs.Laws.Flags.{true-or-false}
-use Rattle.calls.specs.Laws.Frames.{frame-group, length-frame}
 use Rattle.calls.specs.Laws.Settling.{settled-by}
-use Rattle.calls.specs.Reports.Groups.{Given, ackAfter, fetch-group, fetch-none, passed-ack, passedRows}
+use Rattle.calls.specs.Reports.Groups.{Given, ackAfter, fetch-group, fetch-none, passedRows}
 use Rattle.judge.specs.Seen.{sizeOf}
 use Rattle.phases.specs.Laws.Cleared.{begun-group, stopped-group}
 use Rattle.phases.specs.Laws.Lengths.{length-stopped}
@@ -19,14 +16,14 @@ use Rattle.phases.specs.Laws.Passed.{passed-group}
 use Rattle.phases.specs.Settling.{stoppedOf}
 use Rattle.phases.specs.Sizes.{portsIn}
 use Rattle.receiver.specs.Fetch.{dueIn, fetchRows, fits}
-use Rattle.receiver.specs.Frame.{frameRows, takenIn}
+use Rattle.receiver.specs.Frame.{frameRows}
+use Rattle.receiver.specs.Laws.Passed.{passed-ack}
 use Rattle.receiver.specs.Report.{replyPorts}
 use Rattle.reply.specs.declared.members.Port.{Port as ReplyPort}
 use Rattle.reply.specs.Telling.{turns}
 use Rattle.reply.specs.Theorems.Ack.{ack-kept, ack-turned}
 use Rattle.rows.specs.declared.group.Group.{Group}
 use Rattle.rows.specs.Group.{groupAt}
-use Rattle.rows.specs.Rows.{rowsFor}
 
 abbrev pub ackIn : List (List ℕ) → ℕ
 ackIn s = groupAt s .«rs_ack»
@@ -36,9 +33,7 @@ pub frame-ack : (s : List (List ℕ)) (i : ℕ) (failed : Bool) (h : ℕ) (paylo
 frame-ack s i failed h payload store =
     frame-any (λ (r : List (List ℕ)). ackIn r ≡ ackIn s) s i failed h payload store refl
     (λ e f. ap (λ (g : Group). g .«rs_ack») same)
-    (λ e f.
-    let o = unrefused (groupAt s) n i (length s) (length payload) (length store) e in
-    let long : rowsFor n ≤ length (portAfter s i failed h) = rw (length-frame (groupAt s .kind) s i (takenIn s i failed h) h) (let w = o .whole in omega arith) in
+    (λ e f long.
     settled-by (λ (r : List (List ℕ)). ackIn r ≡ ackIn s) n st a long
     (ap (λ (g : Group). g .«rs_ack») same)
     (λ b q z w. ap ack (passed-group (groupAt a) st n a (omega arith)) ∙ passed-ack (groupAt a) ∙ ap ack same)
@@ -61,7 +56,7 @@ frame-ack s i failed h payload store =
     st = storeAfter s i failed h payload store
 
     same : groupAt (portAfter s i failed h) ≡ groupAt s
-    same = frame-group (groupAt s .kind) s i (takenIn s i failed h) h
+    same = after-group s i failed h
 
 -- nor does a fetch with none due
 pub none-ack : (s : List (List ℕ)) (store out report : List ℕ) → (fits s store out report && dueIn (groupAt s) (portsIn (groupAt s)) s) ≡ false

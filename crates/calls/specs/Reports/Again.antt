@@ -1,57 +1,56 @@
 -- 'the host may hand the frame again after a report': a frame answered 11, handed again after a report, with no other frame of that port and no stop in between, is answered 0 and stored.
 use mathlib.Core.Path.{_≡_, refl, sym, ap, _∙_}
-use mathlib.Core.Logic.{_⊎_, inl, inr, ⊎-elim, _≢_}
-use mathlib.Core.Bool.{Bool, true, false, cond, not, _&&_, _||_, true≢false, false≢true}
+use mathlib.Core.Logic.{⊎-elim, _≢_}
+use mathlib.Core.Bool.{Bool, true, false, cond, _&&_, true≢false}
 use mathlib.Core.List.{List, [], _∷_}
 use Prim.Native.Nat.{ℕ, _+_, _-_, _*_, _≤_, _<_}
 use native.Mathlib.Omega.{arith}
 use lib.Dec.{eqb, ltb}
 use lib.ListN.{length}
-use borrow.Author.Tests.{eq-eqb, eqb-true, eqb-false, ne-eqb, lt-ltb, ltb-false}
-use Rattle.calls.specs.Arriving.{Counts, frame-by, portAfter, storeAfter}
+use borrow.Author.Tests.{eq-eqb, ne-eqb, lt-ltb}
+use Rattle.calls.specs.Arriving.{Counts, after-group, frame-by, portAfter, storeAfter}
 use Rattle.calls.specs.Calls.{Fetch, Frame, Receiver, ReceiverCall, receiverRun, receiverStep, run-kept, step-kept}
 use Rattle.calls.specs.Kept.Calls.{Due, due-says}
 use Rattle.calls.specs.Kept.Group.{Kept, Steady}
 use Rattle.calls.specs.Kept.Passing.{ahead}
-use Rattle.calls.specs.Kept.Port.{PortKept, Windowed, offset}
-use Rattle.calls.specs.Kept.Steps.{steady-frame, windowed}
-use Rattle.calls.specs.Kept.Told.{withAck}
-use Rattle.calls.specs.Laws.Answers.{Fitting, fitting-none, ports-are, unrefused}
+use Rattle.calls.specs.Kept.Port.{Windowed, offset}
+use Rattle.calls.specs.Kept.Steps.{brought-lets, steady-frame, windowed}
 use Rattle.calls.specs.Laws.Flags.{both, true-or-false}
-use Rattle.calls.specs.Laws.Frames.{frame-group, frame-other, length-frame}
 use Rattle.calls.specs.Laws.Settling.{settled-by}
-use Rattle.calls.specs.Laws.Told.{told-group, told-of-port}
 use Rattle.calls.specs.Laws.Window.{distance-passed, frames-some, tag-next, tagIn}
 use Rattle.calls.specs.Reports.Groups.{Given, fetch-none, stopsWith}
 use Rattle.calls.specs.Reports.Order.{Unstopped, epochGiven, gives, reportsOf}
-use Rattle.calls.specs.Same.{SameSizes, sizes-then, step-sizes, run-sizes}
-use Rattle.counting.specs.Laws.Tests.{every-at}
+use Rattle.calls.specs.Same.{run-sizes, step-sizes}
 use Rattle.ground.specs.Truth.{and-left, and-right}
 use Rattle.judge.specs.Seen.{sizeOf}
 use Rattle.packet.specs.Kinds.{frames}
-use Rattle.phases.specs.Due.{brought, lets, silent}
+use Rattle.phases.specs.Due.{brought, silent}
 use Rattle.phases.specs.Laws.Lengths.{length-passed}
-use Rattle.phases.specs.Laws.Passed.{passed-group, passed-of-port, passedOn}
+use Rattle.phases.specs.Laws.Passed.{passed-group, passed-of-port}
+use Rattle.phases.specs.Laws.Sizes.{SameSizes}
 use Rattle.phases.specs.Passing.{passedGroup, passedOf, passedStep}
 use Rattle.phases.specs.Sizes.{portsIn, storeFor}
 use Rattle.receiver.specs.Fetch.{dueIn, fetchRows, fits, givenRows}
 use Rattle.receiver.specs.Frame.{frameAnswer, frameRefusal, frameRows, frameStore, refusalBy, storeBy, takenIn, takenStore}
+use Rattle.receiver.specs.Laws.Answers.{Fitting, fitting-none, taken-answer, unrefused}
+use Rattle.receiver.specs.Laws.Frames.{frame-other}
+use Rattle.receiver.specs.Laws.Passed.{passed-begun, step-count, step-joined, step-next}
+use Rattle.receiver.specs.Laws.Sizes.{ports-are}
+use Rattle.receiver.specs.Laws.Told.{told-group, told-of-port, withAck}
 use Rattle.receiver.specs.Lengths.{frameFits}
-use Rattle.receiver.specs.Report.{replyPorts, reportedOf, toldOf}
+use Rattle.receiver.specs.Report.{replyPorts, reportedOf}
 use Rattle.reply.specs.Telling.{ackOf}
 use Rattle.rows.specs.declared.group.Group.{Group}
 use Rattle.rows.specs.declared.step.Step.{Step}
 use Rattle.rows.specs.Group.{groupAt}
-use Rattle.rows.specs.Laws.Port.{port-marks, port-step}
-use Rattle.rows.specs.Packets.{marksAt}
-use Rattle.rows.specs.Port.{Port, portAt}
+use Rattle.rows.specs.Laws.Port.{port-step}
+use Rattle.rows.specs.Port.{portAt}
 use Rattle.rows.specs.Rows.{rowsFor}
 use Rattle.rows.specs.Step.{stepAt}
+use Rattle.step.specs.Arrival.{aside, countsOn, distanceIn, flagOf, flagged, joining, keeps, outside, takenOf}
 use Rattle.step.specs.declared.arrival.Taken.{Taken}
 use Rattle.step.specs.declared.run.Run.{Run}
-use Rattle.step.specs.Arrival.{aside, countsOn, distanceIn, flagged, flagOf, joining, keeps, outside, runOf, takenOf}
-use Rattle.step.specs.Laws.Arrival.{inWindow, ranOn, stepped, taken-by, taken-keeps}
-use Rattle.step.specs.Run.{inStepAt, runOn}
+use Rattle.step.specs.Laws.Arrival.{ranOn, stepped, taken-by, taken-keeps}
 use Rattle.store.specs.Frames.{placeIn, storedAt}
 use Rattle.store.specs.Laws.Stands.{Stands, stands-put}
 use Rattle.store.specs.Laws.Stored.{length-stored}
@@ -90,15 +89,6 @@ record Still (count next joined far : ℕ) (g : Group) (q : Step) : Type 0 where
   begun : flagOf (g .begun) ≡ true
   within : offset g q ≤ far
 
-brought-lets : (g : Group) (s : List (List ℕ)) (n : ℕ) → brought g s n ≡ true → (i : ℕ) → i < n → lets g (portAt s i .step) (portAt s i .marks) ≡ true
-unfolding brought
-brought-lets g s n e i b = rw (port-step s i, port-marks s i) (every-at n (λ j. lets g (stepAt s j) (marksAt s j)) e i b)
-
-passed-parts : (g : Group) (q : Step) (w : Bool) → (passedStep q w .count ≡ q .count) × (passedStep q w .next ≡ q .next) × (passedStep q w .joined ≡ q .joined)
-    × (passedGroup g .begun ≡ g .begun) × (passedGroup g .kind ≡ g .kind)
-unfolding passedStep passedGroup
-passed-parts g q w = (refl, refl, refl, refl, refl)
-
 nearer : (g : Group) (q : Step) (w : Bool) → frames (g .kind) ≤ offset g q → offset (passedGroup g) (passedStep q w) + frames (g .kind) ≡ offset g q
 unfolding passedGroup passedStep
 nearer g q w h = distance-passed g (passedGroup g) (q .next) refl refl h
@@ -118,7 +108,7 @@ module _ (i count next joined : ℕ) (on : flagOf joined ≡ true) where
       let g : Group = groupAt s in
       let q : Step = portAt s i .step in
       let enough : rowsFor n ≤ length s = (let r = k .rows in let e = c in omega arith) in
-      let parts = passed-parts g q (firstMark (portAt s i .marks)) in
+      let first : Bool = firstMark (portAt s i .marks) in
       let j : flagOf (portAt s i .step .joined) ≡ true = rw (o .joined-is) on in
       let far-on : frames (g .kind) ≤ offset g q =
       ahead g q (portAt s i .marks) (k .ports i (let e = c in omega arith) .kept) (o .begun) (brought-lets g s n due i b) j in
@@ -126,10 +116,10 @@ module _ (i count next joined : ℕ) (on : flagOf joined ≡ true) where
       let w = o .within in
       rw (passed-group g store n s (omega arith), passed-of-port g store n s i b enough)
       (record {
-        count-is = parts .0 ∙ o .count-is;
-        next-is = parts .1 ∙ o .next-is;
-        joined-is = parts .2 ∙ o .joined-is;
-        begun = rw (parts .3) (o .begun);
+        count-is = step-count q first ∙ o .count-is;
+        next-is = step-next q first ∙ o .next-is;
+        joined-is = step-joined q first ∙ o .joined-is;
+        begun = rw (passed-begun g) (o .begun);
         within = omega arith;
       })
 
@@ -141,7 +131,7 @@ module _ (i count next joined : ℕ) (on : flagOf joined ≡ true) where
       (λ (c : Counts s j failed h payload store).
       let heard : silent (groupAt s) (portAfter s j failed h) (groupAt s .count) ≡ true → ⊥ =
       (λ q. true≢false (sym (stops (eq-eqb (frameRefusal s j (length payload) (length store)) 0 (c .unrefused)) (ne-eqb (takenIn s j failed h .answer) 11 (c .answer)) q) ∙ goes)) in
-      settled-by (StillIn far) n st a long
+      settled-by (StillIn far) n st a (c .long)
       there
       (λ e q z w.
       passed-still far far n a (steady-frame s (k .steady) j failed h (c .port)) (ap (λ (x : Group). x .count) same) st w b there (omega arith))
@@ -159,10 +149,7 @@ module _ (i count next joined : ℕ) (on : flagOf joined ≡ true) where
       st = storeAfter s j failed h payload store
 
       same : groupAt (portAfter s j failed h) ≡ groupAt s
-      same = frame-group (groupAt s .kind) s j (takenIn s j failed h) h
-
-      long : rowsFor (groupAt s .count) ≤ length (portAfter s j failed h)
-      long = rw (length-frame (groupAt s .kind) s j (takenIn s j failed h) h) (let r = k .steady .rows in omega arith)
+      same = after-group s j failed h
 
       there : Still count next joined far (groupAt (portAfter s j failed h)) (portAt (portAfter s j failed h) i .step)
       there = rw (same, frame-other (groupAt s .kind) s j (takenIn s j failed h) h i (λ e. d (sym e))) o
@@ -280,10 +267,6 @@ answered s i failed h payload store e = go (ltb i (portsIn (groupAt s))) (frameF
     go true false e = absurd (omega arith)
     go false b e = absurd (omega arith)
 
-taken-answer : (s : List (List ℕ)) (i : ℕ) (failed : Bool) (h payload store : ℕ) → frameRefusal s i payload store ≡ 0 → frameAnswer s i failed h payload store ≡ takenIn s i failed h .answer
-unfolding frameAnswer
-taken-answer s i failed h payload store e = rw (eq-eqb (frameRefusal s i payload store) 0 e) refl
-
 -- a frame that is answered 0 and stored
 pub record Stored (y : Receiver) (i : ℕ) (failed : Bool) (h : ℕ) (payload : List ℕ) : Type 0 where
   pub answer : frameAnswer (y .rows) i failed h (length payload) (length (y .store)) ≡ 0
@@ -353,7 +336,7 @@ again x k i failed h payload e calls others goes some =
     ky : Kept (receiverRun x calls .rows)
     ky = run-kept x calls k
 
-    sizes : SameSizes (groupAt (x .rows)) (groupAt (receiverRun x calls .rows))
+    sizes : SameSizes (groupAt (receiverRun x calls .rows)) (groupAt (x .rows))
     sizes = run-sizes x calls k
 
     still : Still (portAt (x .rows) i .step .count) (portAt (x .rows) i .step .next) (portAt (x .rows) i .step .joined) (groupAt (x .rows) .window - frames (groupAt (x .rows) .kind))

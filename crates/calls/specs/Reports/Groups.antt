@@ -1,34 +1,29 @@
 -- The group's record after a frame and after a fetch, on every state.
 use mathlib.Core.Path.{_≡_, refl, sym, ap, _∙_}
-use mathlib.Core.Logic.{_⊎_, inl, inr, ⊎-elim, _≢_}
-use mathlib.Core.Bool.{Bool, true, false, cond, not, _&&_, _||_, true≢false, false≢true}
-use mathlib.Core.List.{List, [], _∷_}
-use Prim.Native.Nat.{ℕ, _≤_, _<_}
+use mathlib.Core.Logic.{_⊎_, inl, inr}
+use mathlib.Core.Bool.{Bool, true, false, cond, not, _&&_, true≢false}
+use mathlib.Core.List.{List}
+use Prim.Native.Nat.{ℕ, _<_}
 use native.Mathlib.Omega.{arith}
-use lib.Dec.{eqb, leb}
+use lib.Dec.{eqb}
 use lib.ListN.{length}
-use borrow.Author.Tests.{eq-eqb, eqb-true, ne-eqb}
-use Rattle.calls.specs.Arriving.{frame-any, portAfter, storeAfter}
+use borrow.Author.Tests.{eq-eqb, ne-eqb}
+use Rattle.calls.specs.Arriving.{after-group, frame-any, portAfter, storeAfter}
 use Rattle.calls.specs.Kept.Calls.{Due, due-says}
-use Rattle.calls.specs.Kept.Told.{withAck}
-use Rattle.calls.specs.Laws.Answers.{Fitting, unrefused}
-use Rattle.calls.specs.Laws.Flags.{both, true-or-false}
-use Rattle.calls.specs.Laws.Frames.{frame-group, length-frame}
-use Rattle.calls.specs.Laws.Settling.{rows-by, settled-by}
-use Rattle.calls.specs.Laws.Told.{told-group}
-use Rattle.ground.specs.Truth.{and-left, and-right, and-true, or-cases}
+use Rattle.calls.specs.Laws.Flags.{both}
+use Rattle.calls.specs.Laws.Settling.{settled-by}
 use Rattle.judge.specs.Seen.{sizeOf}
 use Rattle.phases.specs.Due.{silent}
-use Rattle.phases.specs.Laws.Cleared.{begun-group, stopped-group}
-use Rattle.phases.specs.Laws.Lengths.{length-passed, length-stopped}
+use Rattle.phases.specs.Laws.Lengths.{length-passed}
 use Rattle.phases.specs.Laws.Passed.{passed-group}
 use Rattle.phases.specs.Passing.{passedGroup, passedOf}
-use Rattle.phases.specs.Settling.{settledOf, stoppedOf}
-use Rattle.phases.specs.Sizes.{portsIn, storeFor}
+use Rattle.phases.specs.Sizes.{portsIn}
 use Rattle.receiver.specs.Fetch.{dueIn, fetchRows, fits, givenRows}
 use Rattle.receiver.specs.Frame.{frameRefusal, frameRows, takenIn}
-use Rattle.receiver.specs.Lengths.{fetchFits, outputFor, reportBytes, rowsFit}
-use Rattle.receiver.specs.Report.{replyPorts, reportedOf, toldOf}
+use Rattle.receiver.specs.Laws.Answers.{lent}
+use Rattle.receiver.specs.Laws.Passed.{passed-ack}
+use Rattle.receiver.specs.Laws.Told.{told-group, withAck}
+use Rattle.receiver.specs.Report.{replyPorts, reportedOf}
 use Rattle.reply.specs.Telling.{ackOf}
 use Rattle.rows.specs.declared.group.Group.{Group}
 use Rattle.rows.specs.Group.{groupAt}
@@ -54,9 +49,7 @@ frame-holds s i failed h payload store begun goes =
     frame-any (λ (r : List (List ℕ)). (groupAt r ≡ groupAt s) ⊎ Gathers (groupAt s) (groupAt r)) s i failed h payload store
     (inl refl)
     (λ e f. inl same)
-    (λ e f.
-    let o : Fitting (groupAt s) n i (length s) (length payload) (length store) = unrefused (groupAt s) n i (length s) (length payload) (length store) e in
-    let long : rowsFor n ≤ length (portAfter s i failed h) = rw (length-frame (groupAt s .kind) s i (takenIn s i failed h) h) (let w = o .whole in omega arith) in
+    (λ e f long.
     let heard : silent (groupAt s) (portAfter s i failed h) n ≡ true → ⊥ =
     (λ q. true≢false (sym (stops (eq-eqb (frameRefusal s i (length payload) (length store)) 0 e) (ne-eqb (takenIn s i failed h .answer) 11 f) q) ∙ goes)) in
     settled-by (λ (r : List (List ℕ)). (groupAt r ≡ groupAt s) ⊎ Gathers (groupAt s) (groupAt r)) n st a long
@@ -76,7 +69,7 @@ frame-holds s i failed h payload store begun goes =
     st = storeAfter s i failed h payload store
 
     same : groupAt (portAfter s i failed h) ≡ groupAt s
-    same = frame-group (groupAt s .kind) s i (takenIn s i failed h) h
+    same = after-group s i failed h
 
     stops : eqb (frameRefusal s i (length payload) (length store)) 0 ≡ true → eqb (takenIn s i failed h .answer) 11 ≡ false
         → silent (groupAt s) (portAfter s i failed h) (portsIn (groupAt s)) ≡ true → stopsWith s i failed h payload store ≡ true
@@ -86,19 +79,6 @@ frame-holds s i failed h payload store begun goes =
 pub record Given (s : List (List ℕ)) (store out report : List ℕ) : Type 0 where
   pub fitting : fits s store out report ≡ true
   pub due : dueIn (groupAt s) (portsIn (groupAt s)) s ≡ true
-
-fetch-rows : (g : Group) (n rows store out report : ℕ) → 0 < n → fetchFits g n rows store out report ≡ true → rows ≡ rowsFor n
-unfolding fetchFits rowsFit
-fetch-rows g n rows store out report some e =
-    let a : Bool = eqb n 0 || eqb rows (rowsFor n) in
-    let b : Bool = eqb store (storeFor g n) in
-    let c : Bool = leb (outputFor g n) out in
-    ⊎-elim (λ (z : eqb n 0 ≡ true). absurd (let w = eqb-true n 0 z in omega arith)) (λ (z : eqb rows (rowsFor n) ≡ true). eqb-true rows (rowsFor n) z)
-    (or-cases (eqb n 0) (eqb rows (rowsFor n)) (and-left a b (and-left (a && b) c (and-left (a && b && c) (eqb report reportBytes) e))))
-
-pub passed-ack : (g : Group) → passedGroup g .«rs_ack» ≡ g .«rs_ack»
-unfolding passedGroup
-passed-ack g = refl
 
 -- the ports as the report's states are worked out from them
 abbrev pub passedRows : List (List ℕ) → List ℕ → List (List ℕ)
@@ -115,7 +95,7 @@ fetch-group s store out report o =
     let n : ℕ = portsIn (groupAt s) in
     let p : List (List ℕ) = passedRows s store in
     let d : Due (groupAt s) n s = due-says (groupAt s) n s (o .due) in
-    let rows : length s ≡ rowsFor n = fetch-rows (groupAt s) n (length s) (length store) (length out) (length report) (d .some) (o .fitting) in
+    let rows : length s ≡ rowsFor n = lent (groupAt s) n (length s) (length store) (length out) (length report) (o .fitting) .whole (d .some) in
     let some : 0 < length s = omega arith in
     let passed : groupAt (passedRows s store) ≡ passedGroup (groupAt s) = passed-group (groupAt s) store n s some in
     rw (o .fitting, o .due)

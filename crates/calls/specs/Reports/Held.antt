@@ -1,31 +1,25 @@
 -- The minutes' item 2: on every state, a report one of whose whole ruling packets is refused is held, and no output byte changes.
-use mathlib.Core.Path.{_≡_, refl, sym, ap, _∙_}
-use mathlib.Core.Bool.{Bool, true, false, cond, not, _&&_}
+use mathlib.Core.Path.{_≡_, refl}
+use mathlib.Core.Bool.{Bool, true, false, cond}
 use mathlib.Core.List.{List}
 use Prim.Native.Nat.{ℕ, _*_, _≤_, _<_}
 use native.Mathlib.Nat.{zero-mul}
 use native.Mathlib.Omega.{arith}
-use lib.Dec.{eqb}
-use lib.ListN.{length}
-use Rattle.calls.specs.Kept.Calls.{due-says}
-use Rattle.calls.specs.Kept.Steps.{Sizes, sizes-of}
-use Rattle.calls.specs.Laws.Told.{size-is}
-use Rattle.calls.specs.Reports.Bytes.{some-sized}
-use Rattle.calls.specs.Reports.Seen.{ruledBy, seen-at, seen-good, seen-whole}
-use Rattle.judge.specs.declared.order.Order.{Order}
+use Rattle.calls.specs.Reports.Seen.{ruledBy, seen-good, seen-whole}
 use Rattle.judge.specs.declared.seen.Seen.{Seen}
-use Rattle.judge.specs.Order.{orderOf}
-use Rattle.judge.specs.Seen.{refusedSeen, seenAt, sizeOf}
+use Rattle.judge.specs.Seen.{sizeOf}
 use Rattle.judge.specs.Theorems.Held.{refused}
 use Rattle.judge.specs.Verdict.{HELD, judgeOf}
 use Rattle.packet.specs.Kinds.{frames}
 use Rattle.phases.specs.Sizes.{portsIn}
 use Rattle.receiver.specs.declared.report.Report.{Report}
 use Rattle.receiver.specs.Fetch.{dueIn, fetchOut, fits, givenOut, givenReport}
-use Rattle.receiver.specs.Report.{framesInto, outputBy, outputOf, reportBy, reportOf, seenAll}
+use Rattle.receiver.specs.Laws.Seen.{seen-at}
+use Rattle.receiver.specs.Laws.Sizes.{size-is, sizes-of, some-sized}
+use Rattle.receiver.specs.Report.{outputBy, outputOf, reportBy, reportOf, seenAll}
 use Rattle.rows.specs.declared.group.Group.{Group}
 use Rattle.rows.specs.Group.{groupAt}
-use Rattle.rows.specs.Port.{Port, portAt}
+use Rattle.rows.specs.Port.{portAt}
 use Rattle.step.specs.Arrival.{flagOf}
 
 -- a whole ruling packet that was refused with 5, 6 or 7
@@ -54,7 +48,7 @@ module _ (s : List (List ℕ)) (i : ℕ) (o : Refused s i) where
   few : n ≤ 64
   few =
       let z = some-sized g (let p = o .port in omega arith) in
-      let size = sizes-of (g .kind) (g .count) (g .payload) (g .window) (z .0) .few in
+      let size = sizes-of (g .kind) (g .count) (g .payload) (g .window) (z .0) .few-ports in
       rw (z .1) size
 
   judged : judgeOf seen (sizeOf n) ≡ HELD

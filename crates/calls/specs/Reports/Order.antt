@@ -1,33 +1,28 @@
 -- Reports come in order, with no gap, from the first one after a beginning until receiving stops. On every state.
-use mathlib.Core.Path.{_≡_, refl, sym, ap, _∙_}
-use mathlib.Core.Logic.{_⊎_, inl, inr, ⊎-elim}
-use mathlib.Core.Bool.{Bool, true, false, cond, _&&_, true≢false}
+use mathlib.Core.Path.{_≡_, refl, ap, _∙_}
+use mathlib.Core.Logic.{⊎-elim}
+use mathlib.Core.Bool.{Bool, true, false, cond, _&&_}
 use mathlib.Core.List.{List, [], _∷_}
-use Prim.Native.Nat.{ℕ, zero, suc, _≤_}
+use Prim.Native.Nat.{ℕ, zero, suc}
 use native.Mathlib.Omega.{arith}
 use lib.ListN.{length}
-use Rattle.calls.specs.Arriving.{frame-any, portAfter, storeAfter}
+use Rattle.calls.specs.Arriving.{after-group, frame-any, portAfter, storeAfter}
 use Rattle.calls.specs.Calls.{Fetch, Frame, Receiver, ReceiverCall, receiverStep}
 use Rattle.calls.specs.Kept.Calls.{due-says}
-use Rattle.calls.specs.Kept.Told.{withAck}
-use Rattle.calls.specs.Laws.Answers.{unrefused}
 use Rattle.calls.specs.Laws.Flags.{both}
-use Rattle.calls.specs.Laws.Frames.{frame-group, length-frame}
 use Rattle.calls.specs.Laws.Settling.{settled-by}
-use Rattle.calls.specs.Reports.Groups.{Gathers, Given, ackAfter, fetch-group, fetch-none, frame-holds, stopsWith}
+use Rattle.calls.specs.Reports.Groups.{Gathers, fetch-group, fetch-none, frame-holds, stopsWith}
 use Rattle.ground.specs.Truth.{and-left, and-right}
 use Rattle.packet.specs.Kinds.{epochAfter, epochOf}
 use Rattle.phases.specs.Beginning.{foremost}
 use Rattle.phases.specs.Laws.Cleared.{begun-group}
-use Rattle.phases.specs.Passing.{passedGroup}
 use Rattle.phases.specs.Sizes.{portsIn}
-use Rattle.receiver.specs.declared.report.Report.{Report}
 use Rattle.receiver.specs.Fetch.{dueIn, fetchRows, fits, givenReport}
-use Rattle.receiver.specs.Frame.{frameRows, takenIn}
+use Rattle.receiver.specs.Frame.{frameRows}
+use Rattle.receiver.specs.Laws.Passed.{passed-begun, passed-gathered, passed-kind, passed-oldest}
 use Rattle.receiver.specs.Report.{reportBy, reportOf}
 use Rattle.rows.specs.declared.group.Group.{Group}
 use Rattle.rows.specs.Group.{groupAt}
-use Rattle.rows.specs.Rows.{rowsFor}
 use Rattle.step.specs.Arrival.{flagOf}
 
 -- a fetch gives a report
@@ -66,10 +61,6 @@ given-epoch : (g : Group) (n : ℕ) (s : List (List ℕ)) → dueIn g n s ≡ tr
 unfolding givenReport reportOf reportBy
 given-epoch g n s d = rw d refl
 
-passed-flags : (g : Group) → (passedGroup g .kind ≡ g .kind) × (passedGroup g .begun ≡ g .begun) × (flagOf (passedGroup g .gathered) ≡ true) × (passedGroup g .oldest ≡ epochAfter (g .kind) (g .oldest))
-unfolding passedGroup
-passed-flags g = (refl, refl, refl, refl)
-
 -- what a call leaves of it
 pub record Goes (g h : Group) (next : ℕ) : Type 0 where
   pub kind : h .kind ≡ g .kind
@@ -81,8 +72,8 @@ frame-goes : (x : Receiver) (i : ℕ) (failed : Bool) (h : ℕ) (payload : List 
 frame-goes x i failed h payload b u =
     ⊎-elim (λ (e : groupAt (frameRows (x .rows) i failed h payload (x .store)) ≡ groupAt (x .rows)). rw e (record { kind = refl; begun = b; report = refl }))
     (λ (o : Gathers (groupAt (x .rows)) (groupAt (frameRows (x .rows) i failed h payload (x .store)))).
-    let f = passed-flags (groupAt (x .rows)) in
-    rw (o .passed) (record { kind = f .0; begun = rw (f .1) b; report = rw (f .2, f .3, o .first) refl }))
+    let g : Group = groupAt (x .rows) in
+    rw (o .passed) (record { kind = passed-kind g; begun = rw (passed-begun g) b; report = rw (passed-gathered g, passed-oldest g, o .first) refl }))
     (frame-holds (x .rows) i failed h payload (x .store) b u)
 
 -- a fetch that gives a report says the oldest epoch, and moves on by one
@@ -94,11 +85,10 @@ given-goes x out report e =
     let g : Group = groupAt (x .rows) in
     let a : Bool = fits s (x .store) out report in
     let d : dueIn (groupAt (x .rows)) (portsIn (groupAt (x .rows))) (x .rows) ≡ true = and-right a (dueIn g (portsIn g) s) e in
-    let o = due-says g (portsIn g) s d in
-    let f = passed-flags g in (
+    let o = due-says g (portsIn g) s d in (
       given-epoch g (portsIn g) s d ∙ rw (o .gathered) refl,
       rw (fetch-group s (x .store) out report (record { fitting = and-left a (dueIn g (portsIn g) s) e; due = d }))
-          (record { kind = f .0; begun = rw (f .1) (o .begun); report = rw (f .2, f .3, o .gathered) refl }),
+          (record { kind = passed-kind g; begun = rw (passed-begun g) (o .begun); report = rw (passed-gathered g, passed-oldest g, o .gathered) refl }),
     )
 
 successive-same : (k l d e n : ℕ) → k ≡ l → d ≡ e → successive k d n ≡ successive l e n
@@ -158,9 +148,7 @@ first-reported s i failed h payload store off =
     frame-any First s i failed h payload store
     (λ b. both (flagOf (groupAt s .begun)) b off)
     (λ e f b. both (flagOf (groupAt s .begun)) (rw same at b) off)
-    (λ e f.
-    let o = unrefused (groupAt s) n i (length s) (length payload) (length store) e in
-    let long : rowsFor n ≤ length (portAfter s i failed h) = rw (length-frame (groupAt s .kind) s i (takenIn s i failed h) h) (let w = o .whole in omega arith) in
+    (λ e f long.
     settled-by First n st a long
     (λ b. both (flagOf (groupAt s .begun)) (rw same at b) off)
     (λ b q z w c. both (flagOf (groupAt s .begun)) (rw same at b) off)
@@ -178,7 +166,7 @@ first-reported s i failed h payload store off =
     st = storeAfter s i failed h payload store
 
     same : groupAt (portAfter s i failed h) ≡ groupAt s
-    same = frame-group (groupAt s .kind) s i (takenIn s i failed h) h
+    same = after-group s i failed h
 
     First : List (List ℕ) → Type 0
     First r =

@@ -1,35 +1,24 @@
 -- What a report sees of each port, and that the order of its payload is read from the packets that rule and from nothing else.
-use mathlib.Core.Path.{_≡_, refl, sym, ap, _∙_}
-use mathlib.Core.Bool.{Bool, true, false, cond, _&&_, _||_}
-use mathlib.Core.List.{List, []}
+use mathlib.Core.Path.{_≡_, refl, sym, _∙_}
+use mathlib.Core.Bool.{Bool, _&&_, _||_}
+use mathlib.Core.List.{List}
 use Prim.Native.Nat.{ℕ, _≤_, _<_}
-use native.Mathlib.Omega.{arith}
 use lib.Dec.{eqb, ltb}
-use lib.ListN.{getD, length, replicate, length-replicate}
-use Rattle.calls.specs.Laws.Told.{size-is}
-use Rattle.counting.specs.Each.{getD-each}
 use Rattle.counting.specs.Laws.Numbers.{count-ext}
 use Rattle.counting.specs.Laws.Tests.{the-ext}
-use Rattle.ground.specs.Table.{tabulate, tabulate-ext}
-use Rattle.judge.specs.declared.order.Order.{Order}
+use Rattle.ground.specs.Table.{tabulate-ext}
 use Rattle.judge.specs.declared.seen.Seen.{Seen}
 use Rattle.judge.specs.Order.{activeIn, hasRank, orderOf, portOf, rankOf}
-use Rattle.judge.specs.Seen.{activeSeen, seenAt, sizeOf}
+use Rattle.judge.specs.Seen.{activeSeen, seenAt}
 use Rattle.packet.specs.Words.{EOS, NORM}
 use Rattle.phases.specs.declared.ruling.Ruling.{Ruling}
 use Rattle.phases.specs.Ruling.{rulingOf}
-use Rattle.receiver.specs.Report.{noSeen, rulingEpoch, seenAll, seenOf}
+use Rattle.receiver.specs.Laws.Seen.{seen-at}
+use Rattle.receiver.specs.Report.{rulingEpoch, seenAll, seenOf}
 use Rattle.rows.specs.declared.group.Group.{Group}
 use Rattle.rows.specs.Laws.Port.{port-step}
-use Rattle.rows.specs.Packets.{packetsAt}
 use Rattle.rows.specs.Port.{Port, portAt}
-use Rattle.rows.specs.Step.{stepAt}
 use Rattle.step.specs.Arrival.{flagOf}
-
-pub seen-at : (g : Group) (s : List (List ℕ)) (n i : ℕ) → n ≤ 64 → i < n → seenAt (seenAll g s n) i ≡ seenOf g s i
-unfolding seenAll
-seen-at g s n i h b =
-    getD-each (sizeOf n) (seenOf g s) (replicate 64 noSeen) i noSeen (rw (size-is n h) b) (rw (length-replicate {A = Seen} 64 noSeen) (omega arith))
 
 -- the packet that rules a port, read
 abbrev pub ruledBy : Group → Port → Ruling

@@ -2,30 +2,22 @@
 use mathlib.Core.Path.{_≡_, refl, _∙_, sym, ap}
 use mathlib.Core.Logic.{⊎-elim, _⊎_, _≢_}
 use mathlib.Core.Bool.{Bool, true, false, cond}
-use mathlib.Core.List.{List, [], _∷_, _++_, head-eq-of-cons-eq, tail-eq-of-cons-eq}
+use mathlib.Core.List.{List, [], _∷_}
 use Prim.Native.Nat.{ℕ, zero, suc, _+_, _*_, _≤_, _<_}
 use native.Mathlib.Nat.{suc-mul, zero-mul}
 use native.Mathlib.Omega.{arith}
 use lib.ListN.{getD, length, length-append}
 use borrow.Author.Tests.{ne-eqb}
 use Rattle.ground.specs.Table.{getD-tabulate, tabulate}
-use Rattle.ground.specs.Truth.{eq-or-ne, le-or-lt}
+use Rattle.ground.specs.Truth.{eq-or-ne}
 use Rattle.judge.specs.Verdict.{HELD, SURE}
 use Rattle.packet.specs.Kinds.{frames}
 use Rattle.link.specs.History.{Client, xAt}
-use Rattle.link.specs.Judged.Places.{epoch-in, frames-cancel}
-use Rattle.link.specs.Link.{Alike, Assumed, Link, SameIn, allAsSent, clientBytes, expected, framesOf}
+use Rattle.link.specs.Laws.Lists.{append-apart, not-apart}
+use Rattle.link.specs.Laws.Numbers.{epoch-in, frames-cancel}
+use Rattle.link.specs.Link.{Alike, Assumed, Link, SameIn, allAsSent, clientBytes, epochFrames, expected, framesOf}
 use Rattle.link.specs.Road.{Below, times}
 use Rattle.link.specs.Told.{Told}
-
--- two lists of parts, the first parts as long
-append-apart : (a b c d : List ℕ) → length a ≡ length b → a ++ c ≡ b ++ d → (a ≡ b) × (c ≡ d)
-append-apart [] [] c d l e = (refl, e)
-append-apart [] (y ∷ b) c d l e = absurd (omega arith)
-append-apart (x ∷ a) [] c d l e = absurd (omega arith)
-append-apart (x ∷ a) (y ∷ b) c d l e =
-    let r = append-apart a b c d (omega arith) (tail-eq-of-cons-eq e) in
-    (λ i. head-eq-of-cons-eq e i ∷ r .0 i, r .1)
 
 -- every one of n group frames from position x on has w bytes
 abbrev Wide : Client → ℕ → ℕ → ℕ → Type 0
@@ -66,19 +58,16 @@ wide-in k a i kind e m b =
     ∙ ap (λ (q : ℕ). xAt (k .history) q * k .payload) (rw e (epoch-in kind i m b))
 
 module _ (k j : Link) (ak : Assumed k) (aj : Assumed j) (l : Alike k j) where
-  abbrev L : ℕ
-  L = frames (k .history .kind)
-
   bytes-apart : (i : ℕ) → clientBytes k i ≡ clientBytes j i → SameIn i k j
   bytes-apart i e =
       let kind : ℕ = k .history .kind in
-      let there : clientBytes j i ≡ framesOf (j .client) (i * L) L = ap (λ (q : ℕ). framesOf (j .client) (i * frames q) (frames q)) (sym (l .kind)) in
+      let there : clientBytes j i ≡ framesOf (j .client) (i * epochFrames k) (epochFrames k) = ap (λ (q : ℕ). framesOf (j .client) (i * frames q) (frames q)) (sym (l .kind)) in
       let wk = wide-in k ak i kind refl in
       let wj = wide-in j aj i kind (sym (l .kind)) in
-      let lk = length-frames (k .client) (i * L) L (xAt (k .history) i * k .payload) wk in
-      let lj = length-frames (j .client) (i * L) L (xAt (j .history) i * j .payload) wj in
+      let lk = length-frames (k .client) (i * epochFrames k) (epochFrames k) (xAt (k .history) i * k .payload) wk in
+      let lj = length-frames (j .client) (i * epochFrames k) (epochFrames k) (xAt (j .history) i * j .payload) wj in
       let w : xAt (k .history) i * k .payload ≡ xAt (j .history) i * j .payload = frames-cancel kind _ _ (sym lk ∙ ap length (e ∙ there) ∙ lj) in
-      frames-apart (k .client) (j .client) (i * L) L (xAt (k .history) i * k .payload) wk (λ m b. wj m b ∙ sym w) (e ∙ there)
+      frames-apart (k .client) (j .client) (i * epochFrames k) (epochFrames k) (xAt (k .history) i * k .payload) wk (λ m b. wj m b ∙ sym w) (e ∙ there)
 
   -- the report of epoch i + 1 is to be sure, on one link or on the other
   abbrev pub EitherSure : ℕ → Type 0
@@ -116,10 +105,4 @@ fewer-not k j ak aj e h =
 
 pub same-ports : (k j : Link) → Assumed k → Assumed j → Alike k j → k .history .slots ≡ j .history .slots
 same-ports k j ak aj l =
-    ⊎-elim
-    (λ (h : k .history .slots ≤ j .history .slots).
-    ⊎-elim (λ (e : k .history .slots ≡ j .history .slots). e)
-    (λ (d : k .history .slots ≢ j .history .slots). absurd (fewer-not k j ak aj (l .order 0) (omega arith)))
-    (eq-or-ne (k .history .slots) (j .history .slots)))
-    (λ (h : j .history .slots < k .history .slots). absurd (fewer-not j k aj ak (sym (l .order 0)) h))
-    (le-or-lt (k .history .slots) (j .history .slots))
+    not-apart (k .history .slots) (j .history .slots) (fewer-not k j ak aj (l .order 0)) (fewer-not j k aj ak (sym (l .order 0)))

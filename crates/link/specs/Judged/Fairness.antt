@@ -1,38 +1,21 @@
 -- The road of a link meets all that the transport asks for.
 use mathlib.Core.Path.{_≡_}
 use mathlib.Core.Logic.{⊎-elim}
-use mathlib.Core.Bool.{true, _&&_}
+use mathlib.Core.Bool.{true}
 use mathlib.Core.List.{List}
-use Prim.Native.Nat.{ℕ, _+_, _/_, _%_, _≤_, _<_}
-use lib.Dec.{leb}
+use Prim.Native.Nat.{ℕ, _+_, _/_, _%_, _<_}
 use lib.ListN.{getD}
-use borrow.Author.Tests.{eq-eqb, leb-true}
-use Rattle.ground.specs.Truth.{and-left, and-right}
-use Rattle.packet.specs.Kinds.{firstTag, frames, placeOf, startsEpoch, tags}
+use borrow.Author.Tests.{eq-eqb}
+use Rattle.packet.specs.Kinds.{firstTag, frames, placeOf, startsEpoch}
 use Rattle.packet.specs.Theorems.Tags.{first-of}
-use Rattle.phases.specs.Sizes.{sized}
+use Rattle.receiver.specs.Laws.Sizes.{sizes-of}
 use Rattle.step.specs.Laws.Sent.{SentWith}
 use Rattle.link.specs.History.{CountKept, Handed, History, firstTagOf}
-use Rattle.link.specs.Judged.Places.{place-lt, position-is}
+use Rattle.link.specs.Laws.Numbers.{place-lt, position-is}
 use Rattle.link.specs.Link.{Arrived, Assumed, Damaged, Link, roadOf, sentTo}
 use Rattle.link.specs.Road.{Fair}
 use Rattle.link.specs.Sending.Counted.{came-counts, kept-self}
 use Rattle.link.specs.Sending.Payloads.{payload-length}
-
--- 'P from 1 to 2,340'
-pub record PayloadSize (P : ℕ) : Type 0 where
-  pub least : 1 ≤ P
-  pub most : P ≤ 2340
-
-pub payload-size : (kind n P W : ℕ) → sized kind n P W ≡ true → PayloadSize P
-unfolding sized
-payload-size kind n P W e =
-    let front = and-left (leb 1 n && leb n 64 && leb 1 P && leb P 2340 && leb (frames kind) W) (leb W (tags kind / 2)) e in
-    let before = and-left (leb 1 n && leb n 64 && leb 1 P && leb P 2340) (leb (frames kind) W) front in
-    record {
-      least = leb-true 1 P (and-right (leb 1 n && leb n 64) (leb 1 P) (and-left (leb 1 n && leb n 64 && leb 1 P) (leb P 2340) before));
-      most = leb-true P 2340 (and-right (leb 1 n && leb n 64 && leb 1 P) (leb P 2340) before);
-    }
 
 pub kept : (kind : ℕ) (sent came : List ℕ) → Arrived kind sent came → CountKept kind sent came
 kept kind sent came a = ⊎-elim (λ (e : came ≡ sent). rw e (kept-self kind sent)) (λ (d : Damaged kind sent came). d .counted) a
@@ -43,8 +26,8 @@ module _ (k : Link) (a : Assumed k) where
 
   pub handed : Handed h (k .payload) (k .client)
   handed =
-      let s = payload-size (h .kind) (h .slots) (k .payload) (k .window) (a .sizes) in
-      record { least = s .least; most = s .most; whole = a .client }
+      let s = sizes-of (h .kind) (h .slots) (k .payload) (k .window) (a .sizes) in
+      record { least = s .some-bytes; most = s .few-bytes; whole = a .client }
 
   counted : (p x : ℕ) → p < h .slots → SentWith (h .kind) (firstTagOf h + x) (getD (k .came (x / frames (h .kind)) p) (x % frames (h .kind)) 0)
   counted p x b =

@@ -4,22 +4,22 @@ use mathlib.Core.Bool.{true}
 use mathlib.Core.List.{List}
 use Prim.Native.Nat.{ℕ, _+_, _*_, _/_, _%_, _<_}
 use native.Mathlib.Omega.{arith}
-use lib.ListN.{getD, length, length-replicate, replicate}
-use Rattle.counting.specs.Each.{getD-each}
+use lib.ListN.{getD}
 use Rattle.ground.specs.Table.{tabulate-ext}
 use Rattle.judge.specs.declared.seen.Seen.{Seen}
 use Rattle.judge.specs.Seen.{refusedSeen, seenAt}
+use Rattle.packet.specs.Counts.{nibbleIn}
 use Rattle.packet.specs.declared.reader.Reading.{Reading}
 use Rattle.packet.specs.declared.reader.Reading.the-variants.{Crc, Packet}
-use Rattle.packet.specs.Counts.{nibbleIn}
 use Rattle.packet.specs.Kinds.{frames}
 use Rattle.packet.specs.Layout.{highsOf}
 use Rattle.packet.specs.Reading.{readNibbles}
 use Rattle.phases.specs.declared.ruling.Ruling.{Ruling}
 use Rattle.phases.specs.Ruling.{rulingBy, rulingOf}
-use Rattle.link.specs.Contents.{allSeenAfter, noSeen, numberOf, packetOf, seenAfter}
+use Rattle.receiver.specs.Laws.Seen.{seen-each}
+use Rattle.link.specs.Contents.{allSeenAfter, numberOf, packetOf, seenAfter}
 use Rattle.link.specs.History.{History, epochNumber, epochStart, fieldsSent, numberSent, wordSent}
-use Rattle.link.specs.Judged.Places.{epoch-in, nibbles-frames, place-in, some-frames}
+use Rattle.link.specs.Laws.Numbers.{epoch-in, frames-some, nibbles-in, place-in}
 use Rattle.link.specs.Link.{Assumed, Damaged, Link, roadOf, sentTo}
 use Rattle.link.specs.Sending.Counted.{tag-epoch}
 use Rattle.link.specs.Sending.Damage.{packet-damaged}
@@ -40,7 +40,7 @@ module _ (k : Link) where
   number-of i =
       let h : History = k .history in
       let z : epochStart h i + 0 ≡ epochStart h i = omega arith in
-      rw z at (tag-epoch h i 0 (some-frames (h .kind)))
+      rw z at (tag-epoch h i 0 (frames-some (h .kind)))
 
   -- the packet that came, as its frames bring it
   pub packet-of : (i p : ℕ) → packetOf (roadOf k) i p ≡ highsOf (k .came i p)
@@ -48,7 +48,7 @@ module _ (k : Link) where
   packet-of i p =
       let kind : ℕ = k .history .kind in
       tabulate-ext 16 (λ j. getD (k .came ((i * frames kind + j) / frames kind) p) ((i * frames kind + j) % frames kind) 0 / 16) (λ j. getD (k .came i p) j 0 / 16)
-      (λ j b. let l = nibbles-frames kind j b in rw (epoch-in kind i j l, place-in kind i j l) refl)
+      (λ j b. let l = nibbles-in kind j b in rw (epoch-in kind i j l, place-in kind i j l) refl)
 
   seen-is : (i p : ℕ) (q : Reading) → readNibbles (highsOf (k .came i p)) ≡ q → seenAfter (roadOf k) i p ≡ seenBy (rulingBy q)
   unfolding seenAfter rulingOf
@@ -57,10 +57,7 @@ module _ (k : Link) where
 module _ (k : Link) (a : Assumed k) (i p : ℕ) (b : p < k .history .slots) where
   pub seen-at : seenAt (allSeenAfter (roadOf k) i) p ≡ seenAfter (roadOf k) i p
   unfolding allSeenAfter roadOf
-  seen-at =
-      let most = a .allowed .most in
-      let room : p < length (replicate 64 (noSeen (roadOf k))) = rw (length-replicate 64 (noSeen (roadOf k))) (omega arith) in
-      getD-each (k .history .slots) (seenAfter (roadOf k) i) (replicate 64 (noSeen (roadOf k))) p (noSeen (roadOf k)) b room
+  seen-at = seen-each (k .history .slots) (seenAfter (roadOf k) i) p (a .allowed .most) b
 
   pub seen-sent : k .came i p ≡ sentTo k i p → seenAt (allSeenAfter (roadOf k) i) p ≡ seenSent (k .history) i (k .pairing p)
   seen-sent e =

@@ -26,8 +26,8 @@ use Rattle.sender.specs.Ranks.{noRank}
 use Rattle.link.specs.Contents.{allSeenAfter, frameAt, framesFrom}
 use Rattle.link.specs.History.{History, epochAt, epochStart, numberSent, payloadSent, senderAt, wordSent, xAt}
 use Rattle.link.specs.Judged.Fairness.{handed}
-use Rattle.link.specs.Judged.Places.{epoch-in}
 use Rattle.link.specs.Judged.Seen.{seen-sent, seenSent}
+use Rattle.link.specs.Laws.Numbers.{epoch-in}
 use Rattle.link.specs.Link.{Assumed, Link, framesOf, roadOf, sentTo}
 use Rattle.link.specs.Sending.Numbering.{Numbered, numbered, numberedWord}
 use Rattle.link.specs.Sending.Payloads.{joined-back}

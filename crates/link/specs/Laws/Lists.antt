@@ -1,28 +1,21 @@
--- Lists and tests of all, as the reports' bytes and the owing port want them.
-use mathlib.Core.Path.{_≡_, refl, sym, ap, _∙_}
-use mathlib.Core.Bool.{Bool, true, false, cond, _&&_, true≢false}
-use mathlib.Core.List.{List, _++_}
-use Prim.Native.Nat.{ℕ, zero, suc, _+_, _-_, _≤_, _<_}
+-- Lists, numbers and tests of all, as the reports' bytes, the last sentence and the owing port want them.
+use mathlib.Core.Path.{_≡_, refl, ap, _∙_}
+use mathlib.Core.Logic.{⊎-elim, _≢_}
+use mathlib.Core.Bool.{Bool, true, false, _&&_, true≢false}
+use mathlib.Core.List.{List, [], _∷_, _++_, head-eq-of-cons-eq, tail-eq-of-cons-eq}
+use Prim.Native.Nat.{ℕ, zero, suc, _+_, _≤_, _<_}
 use native.Mathlib.Omega.{arith}
-use lib.ListN.{drop, length, length-drop, take}
-use lib.Seq.{ext-getD, getD-drop, getD-take, length-take-le, take-add}
-use Rattle.counting.specs.Words.{every, the}
-use Rattle.ground.specs.Drawn.{fillAt, getD-before, getD-fillAt, length-fillAt}
-use Rattle.ground.specs.Table.{tabulate, tabulate-is}
+use lib.ListN.{length, take}
+use lib.Seq.{getD-take, length-take-le}
+use Rattle.counting.specs.Words.{every}
+use Rattle.ground.specs.Drawn.{fillAt, getD-fillAt, length-fillAt}
+use Rattle.ground.specs.Table.{tabulate, tabulate-ext, tabulate-is}
+use Rattle.ground.specs.Truth.{eq-or-ne, le-or-lt}
 
--- the one that is found lies below n
-pub the-below : (n : ℕ) (f : ℕ → Bool) → 0 < n → the n f < n
-the-below zero f h = absurd (omega arith)
-the-below (suc zero) f h = go (f 0)
-  where
-    go : (b : Bool) → cond b 0 0 < 1
-    go true = omega arith
-    go false = omega arith
-the-below (suc (suc n)) f h = go (f (suc n)) (the-below (suc n) f (omega arith))
-  where
-    go : (b : Bool) → the (suc n) f < suc n → cond b (suc n) (the (suc n) f) < suc (suc n)
-    go true l = omega arith
-    go false l = omega arith
+-- two numbers of which neither is less
+pub not-apart : (m n : ℕ) → (m < n → ⊥) → (n < m → ⊥) → m ≡ n
+not-apart m n less more =
+    ⊎-elim (λ (h : m ≤ n). ⊎-elim (λ (e : m ≡ n). e) (λ (d : m ≢ n). absurd (less (omega arith))) (eq-or-ne m n)) (λ (h : n < m). absurd (more h)) (le-or-lt m n)
 
 -- one at which a test of all fails
 pub record Lacks (n : ℕ) (f : ℕ → Bool) : Type 0 where
@@ -47,21 +40,30 @@ every-lacks (suc n) f e = go (f n) refl (every-lacks n f)
     go false t rest = record { at = n; below = omega arith; fails = t }
 
 module _ {A : Type 0} where
-  -- a piece put at the end of what is taken
-  pub take-fill : (a n : ℕ) (f : ℕ → A) (d : List A) (z : A) → a + n ≤ length d → take (a + n) (fillAt a n f d) ≡ take a d ++ tabulate n f
-  take-fill a n f d z h =
-      let l : length (fillAt a n f d) ≡ length d = length-fillAt a n f d in
-      take-add a n (fillAt a n f d) ∙ (λ i. front l i ++ back l i)
-    where
-      front : length (fillAt a n f d) ≡ length d → take a (fillAt a n f d) ≡ take a d
-      front l =
-          ext-getD z (take a (fillAt a n f d)) (take a d) (length-take-le a (fillAt a n f d) (omega arith) ∙ sym (length-take-le a d (omega arith)))
-          (λ k b.
-          let c : k < a = rw (length-take-le a (fillAt a n f d) (omega arith)) at b in
-          getD-take a (fillAt a n f d) k z c ∙ getD-before a n f d k z c ∙ sym (getD-take a d k z c))
+  -- two lists of parts, the first parts as long
+  pub append-apart : (a b c d : List A) → length a ≡ length b → a ++ c ≡ b ++ d → (a ≡ b) × (c ≡ d)
+  append-apart [] [] c d l e = (refl, e)
+  append-apart [] (y ∷ b) c d l e = absurd (omega arith)
+  append-apart (x ∷ a) [] c d l e = absurd (omega arith)
+  append-apart (x ∷ a) (y ∷ b) c d l e =
+      let r = append-apart a b c d (omega arith) (tail-eq-of-cons-eq e) in
+      (λ i. head-eq-of-cons-eq e i ∷ r .0 i, r .1)
 
-      back : length (fillAt a n f d) ≡ length d → take n (drop a (fillAt a n f d)) ≡ tabulate n f
-      back l =
-          let m : length (drop a (fillAt a n f d)) ≡ length d - a = length-drop a (fillAt a n f d) ∙ ap (λ (k : ℕ). k - a) l in
-          tabulate-is (take n (drop a (fillAt a n f d))) n f z (length-take-le n (drop a (fillAt a n f d)) (omega arith))
-          (λ k b. getD-take n (drop a (fillAt a n f d)) k z b ∙ getD-drop a (fillAt a n f d) k z ∙ getD-fillAt a n f d k z b (omega arith))
+  -- a table filled in at the front
+  pub take-fill : (n : ℕ) (f : ℕ → A) (d : List A) (z : A) → n ≤ length d → take n (fillAt 0 n f d) ≡ tabulate n f
+  take-fill n f d z h =
+      let l : length (fillAt 0 n f d) ≡ length d = length-fillAt 0 n f d in
+      tabulate-is (take n (fillAt 0 n f d)) n f z (length-take-le n (fillAt 0 n f d) (omega arith))
+      (λ k b. let e : 0 + k ≡ k = omega arith in getD-take n (fillAt 0 n f d) k z b ∙ rw e at (getD-fillAt 0 n f d k z b (omega arith)))
+
+  -- one table behind another
+  pub tabulate-append : (a b : ℕ) (f : ℕ → A) → tabulate (a + b) f ≡ tabulate a f ++ tabulate b (λ k. f (a + k))
+  tabulate-append zero b f =
+      let e : 0 + b ≡ b = omega arith in
+      ap (λ (n : ℕ). tabulate n f) e ∙ tabulate-ext b f (λ k. f (0 + k)) (λ k h. let q : k ≡ 0 + k = omega arith in ap f q)
+  tabulate-append (suc a) b f =
+      let e : suc a + b ≡ suc (a + b) = omega arith in
+      ap (λ (n : ℕ). tabulate n f) e
+      ∙ ap (λ (l : List A). f zero ∷ l) (tabulate-append a b (λ k. f (suc k)))
+      ∙ ap (λ (l : List A). tabulate (suc a) f ++ l)
+      (tabulate-ext b (λ k. f (suc (a + k))) (λ k. f (suc a + k)) (λ k h. let q : suc (a + k) ≡ suc a + k = omega arith in ap f q))

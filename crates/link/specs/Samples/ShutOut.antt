@@ -9,30 +9,30 @@ use Rattle.ground.specs.Truth.{eq-or-ne, le-or-lt}
 use Rattle.judge.specs.Verdict.{HELD, SURE}
 use Rattle.packet.specs.Kinds.{firstTag, frames, lead, tags}
 use Rattle.step.specs.Laws.Run.{startFrom}
-use Rattle.link.specs.Demand3.{FullyArrived, Time}
+use Rattle.link.specs.Demand3.{FullyArrived, Promised, Reported, Stands, Time}
+use Rattle.link.specs.Demand3.Stands.{none-yet, reporting}
 use Rattle.link.specs.History.{firstTagOf}
-use Rattle.link.specs.Moments.{NotAfter, Ready, nextAt, nx, reached}
+use Rattle.link.specs.Moments.{Beginning, NotAfter, Ready, Run, nextAt, coming, reached}
 use Rattle.link.specs.Link.{roadOf}
 use Rattle.link.specs.Proved.{demand3}
+use Rattle.link.specs.Running.{hasBegun}
 use Rattle.link.specs.Told.{Told}
 use Rattle.link.specs.Road.{times}
-use Rattle.link.specs.Transport.Times.{nx-is}
+use Rattle.link.specs.Transport.Times.{coming-is}
 use Rattle.link.specs.Samples.Computing.{started}
 use Rattle.link.specs.Samples.Members.{link}
 use Rattle.link.specs.Samples.Met.{met}
-use Rattle.link.specs.Samples.Promised.{BeginningOf, Promised, ReportedOf, Run, StandsOf, begunAt, held-to}
-use Rattle.link.specs.Samples.Promised.StandsOf.{none-so-far, some-reports}
 use Rattle.link.specs.Samples.Reports.{as-expected, reports}
 
 -- how far each port has come
 
-next-0 : (t : ℕ) (rest : List ℕ) → nx (roadOf link) t rest 0 ≡ 3 + (t + 1 - times 0 rest - 7)
+next-0 : (t : ℕ) (rest : List ℕ) → coming (roadOf link) t rest 0 ≡ 3 + (t + 1 - times 0 rest - 7)
 unfolding roadOf nextAt
-next-0 t rest = nx-is (roadOf link) t rest 0 (omega arith)
+next-0 t rest = coming-is (roadOf link) t rest 0 (omega arith)
 
-next-1 : (t : ℕ) (rest : List ℕ) → nx (roadOf link) t rest 1 ≡ 21 + (t + 1 - times 1 rest - 21)
+next-1 : (t : ℕ) (rest : List ℕ) → coming (roadOf link) t rest 1 ≡ 21 + (t + 1 - times 1 rest - 21)
 unfolding roadOf nextAt
-next-1 t rest = nx-is (roadOf link) t rest 1 (omega arith)
+next-1 t rest = coming-is (roadOf link) t rest 1 (omega arith)
 
 -- the positions from which the ports count: the first ones with MFI1 0
 
@@ -45,22 +45,22 @@ unfolding startFrom firstTagOf firstTag frames lead tags
 counts-1 = refl
 
 -- after frame time 55 all are in step and near enough
-ready-then : Ready (roadOf link) (nx (roadOf link) 56 (link .order 56))
+ready-then : Ready (roadOf link) (coming (roadOf link) 56 (link .order 56))
 unfolding roadOf frames
 ready-then = record { stepped = stepped; near = near }
   where
-    at-0 : nx (roadOf link) 56 (link .order 56) 0 ≡ 52
+    at-0 : coming (roadOf link) 56 (link .order 56) 0 ≡ 52
     at-0 = next-0 56 (link .order 56)
 
-    at-1 : nx (roadOf link) 56 (link .order 56) 1 ≡ 56
+    at-1 : coming (roadOf link) 56 (link .order 56) 1 ≡ 56
     at-1 = next-1 56 (link .order 56)
 
-    stepped : (q : ℕ) → q < 2 → startFrom 0 (firstTagOf (link .history)) (link .first q) + 16 * 2 ≤ nx (roadOf link) 56 (link .order 56) q
+    stepped : (q : ℕ) → q < 2 → startFrom 0 (firstTagOf (link .history)) (link .first q) + 16 * 2 ≤ coming (roadOf link) 56 (link .order 56) q
     stepped zero h = rw (counts-0, at-0) (omega arith)
     stepped (suc zero) h = rw (counts-1, at-1) (omega arith)
     stepped (suc (suc q)) h = absurd (omega arith)
 
-    near : (p q : ℕ) → p < 2 → q < 2 → nx (roadOf link) 56 (link .order 56) p + 16 ≤ nx (roadOf link) 56 (link .order 56) q + 20
+    near : (p q : ℕ) → p < 2 → q < 2 → coming (roadOf link) 56 (link .order 56) p + 16 ≤ coming (roadOf link) 56 (link .order 56) q + 20
     near zero zero hp hq = omega arith
     near zero (suc zero) hp hq = rw (at-0, at-1) (omega arith)
     near (suc zero) zero hp hq = rw (at-0, at-1) (omega arith)
@@ -74,10 +74,10 @@ ready-then = record { stepped = stepped; near = near }
 abbrev then : Time link
 then = record { t = 180; done = []; rest = link .order 180; is-order = refl }
 
-come-0 : nx (roadOf link) 180 (link .order 180) 0 ≡ 176
+come-0 : coming (roadOf link) 180 (link .order 180) 0 ≡ 176
 come-0 = next-0 180 (link .order 180)
 
-come-1 : nx (roadOf link) 180 (link .order 180) 1 ≡ 180
+come-1 : coming (roadOf link) 180 (link .order 180) 1 ≡ 180
 come-1 = next-1 180 (link .order 180)
 
 all-first : (p : ℕ) → p < 2 → link .delay p + link .first p ≤ 133
@@ -93,7 +93,7 @@ Each P (r ∷ rs) = P r × Each P rs
 -- Any run of which demand 3's words hold on the sample.
 module _ (run : Run) (d : Promised link run) where
   -- It began when all ports were in step for the first time: the foremost position was 55.
-  began : (F : ℕ) → BeginningOf link run F → F ≡ 55
+  began : (F : ℕ) → Beginning (roadOf link) run F → F ≡ 55
   unfolding roadOf frames
   began F b = omega (arith, front, low)
     where
@@ -106,19 +106,19 @@ module _ (run : Run) (d : Promised link run) where
       low : 55 ≤ F
       low =
           let w = b .ready .stepped 1 (omega arith) in
-          let v : 24 + 32 ≤ nx (roadOf link) (b .time) (b .rest) 1 = rw counts-1 at w in
+          let v : 24 + 32 ≤ coming (roadOf link) (b .time) (b .rest) 1 = rw counts-1 at w in
           let m = b .foremost .most 1 (omega arith) in
           omega arith
 
       front : F ≤ 55
       front = go (b .foremost .port) (b .foremost .below) (b .foremost .is)
         where
-          go : (p : ℕ) → p < 2 → nx (roadOf link) (b .time) (b .rest) p ≡ F + 1 → F ≤ 55
+          go : (p : ℕ) → p < 2 → coming (roadOf link) (b .time) (b .rest) p ≡ F + 1 → F ≤ 55
           go zero h e = let n = next-0 (b .time) (b .rest) in omega (arith, soon)
           go (suc zero) h e = let n = next-1 (b .time) (b .rest) in omega (arith, soon)
           go (suc (suc p)) h e = absurd (omega arith)
 
-  reported : ReportedOf link run then → run 180 [] .told ≡ reports
+  reported : Reported link run then → run 180 [] .told ≡ reports
   unfolding frames
   reported r = rw (six, fore) at (r .are) ∙ as-expected
     where
@@ -138,7 +138,7 @@ module _ (run : Run) (d : Promised link run) where
       six : r .many ≡ 6
       six = ⊎-elim (λ (h : 6 ≤ r .many). omega (arith, few)) (λ (h : r .many < 6). absurd (r .not-yet (all h))) (le-or-lt 6 (r .many))
 
-  has-begun : begunAt (run 180 []) ≡ 1
+  has-begun : hasBegun (run 180 []) ≡ 1
   unfolding frames
   has-begun = d .begins-within 133 all-first
 
@@ -146,12 +146,12 @@ module _ (run : Run) (d : Promised link run) where
   pub told-then : run 180 [] .told ≡ reports
   told-then = go (d .always then)
     where
-      go : StandsOf link run then → run 180 [] .told ≡ reports
-      go (none-so-far e t) = absurd (omega (arith, has-begun))
-      go (some-reports e r) = reported r
+      go : Stands link run then → run 180 [] .told ≡ reports
+      go (none-yet e un t) = absurd (omega (arith, has-begun))
+      go (reporting e r) = reported r
 
   -- 'a receiver that never begins'
-  pub never-begins : ((t : ℕ) (done : List ℕ) → begunAt (run t done) ≡ 0) → ⊥
+  pub never-begins : ((t : ℕ) (done : List ℕ) → hasBegun (run t done) ≡ 0) → ⊥
   never-begins h = let e = h 180 [] in absurd (omega (arith, has-begun))
 
   pub never-reports : ((t : ℕ) (done : List ℕ) → run t done .told ≡ []) → ⊥
@@ -182,7 +182,7 @@ module _ (run : Run) (d : Promised link run) where
 -- The receiver itself is held to it, and by the theorem alone its reports are the six that its run was computed to.
 itself : Promised link (reached (roadOf link) (started link))
 itself =
-    held-to link (demand3 link met) (started link)
+    demand3 link met .promised (started link)
     (record {
       rows = replicate 11 (replicate 16 0xFF);
       store = replicate 80 0xFF;

@@ -8,14 +8,14 @@ use native.Mathlib.Omega.{arith}
 use lib.Dec.{eqb}
 use lib.ListN.{getD}
 use borrow.Author.Tests.{eq-eqb, ne-eqb}
-use Rattle.ground.specs.Truth.{and-true, or-left, or-right, eq-or-ne}
-use Rattle.packet.specs.declared.layout.Fields.{Fields}
+use Rattle.ground.specs.Truth.{and-true, eq-or-ne, or-left, or-right}
 use Rattle.packet.specs.Counts.{counts, nibbleIn, nibblePlace}
+use Rattle.packet.specs.declared.layout.Fields.{Fields}
 use Rattle.packet.specs.Kinds.{epochOf, epochs, firstTag, frames, lead, placeOf, tags}
 use Rattle.packet.specs.Layout.{dataOf, h4Of, nibblesOf, sealedOf}
 use Rattle.packet.specs.Theorems.Tags.{place-sent, tagOf}
 use Rattle.step.specs.Laws.Sent.{SentWith}
-use Rattle.link.specs.History.{Allowed, CountKept, History, epochAt, epochNumber, epochStart, fieldsSent, firstTagOf, packetSent, tagAt}
+use Rattle.link.specs.History.{Allowed, CountKept, History, epochNumber, epochStart, fieldsSent, firstTagOf, packetSent, tagAt}
 use Rattle.link.specs.Sending.Packets.{fields-bounds, packet-epoch, packet-is}
 
 -- a test that is asked only where m is n
@@ -85,10 +85,6 @@ kept-self kind sent = record { first = λ k b. refl; high = refl; low = refl }
 
 -- Positions and tags of a history: the frame at place k of the i-th epoch.
 
-pub epoch-at : (h : History) (i k : ℕ) → k < frames (h .kind) → epochAt h (epochStart h i + k) ≡ i
-unfolding frames
-epoch-at h i k b = omega arith
-
 pub tag-place : (h : History) (i k : ℕ) → k < frames (h .kind) → placeOf (h .kind) (tagAt h (epochStart h i + k)) ≡ k
 unfolding firstTagOf firstTag placeOf lead frames tags
 tag-place h i k b = omega arith
@@ -97,11 +93,6 @@ pub tag-epoch : (h : History) (i k : ℕ) → k < frames (h .kind) → epochOf (
 unfolding firstTagOf firstTag epochNumber epochOf lead frames tags epochs
 tag-epoch h i k b = omega arith
 
--- an epoch's first frame has the first tag of its number
-pub tag-first : (h : History) (i : ℕ) → tagAt h (epochStart h i) ≡ firstTag (h .kind) (epochNumber h i)
-unfolding firstTagOf firstTag epochNumber lead frames tags epochs
-tag-first h i = omega arith
-
 module _ (h : History) (a : Allowed h) (i slot k : ℕ) (b : slot < h .slots) (l : k < frames (h .kind)) where
   -- as it came
   pub came-counts : (came : List ℕ) → CountKept (h .kind) (packetSent h i slot) came → SentWith (h .kind) (firstTagOf h + (epochStart h i + k)) (getD came k 0)
@@ -109,7 +100,3 @@ module _ (h : History) (a : Allowed h) (i slot k : ℕ) (b : slot < h .slots) (l
       ap (λ (p : ℕ). counts (h .kind) (tagAt h (epochStart h i + k)) (getD came p 0)) (sym (tag-place h i k l))
       ∙ counted-as-sent (h .kind) (firstTagOf h + (epochStart h i + k)) (fieldsSent h i slot) 0 came (fields-bounds h a i slot b .epoch)
       (packet-epoch h a i slot ∙ sym (tag-epoch h i k l)) (rw (packet-is h a i slot b) at o)
-
-  -- as it was sent
-  pub sent-counts : SentWith (h .kind) (firstTagOf h + (epochStart h i + k)) (getD (packetSent h i slot) k 0)
-  sent-counts = came-counts (packetSent h i slot) (kept-self (h .kind) (packetSent h i slot))

@@ -4,18 +4,18 @@ use mathlib.Core.Bool.{Bool, true, false, _&&_, _||_}
 use Prim.Native.Nat.{ℕ, _≤_, _<_}
 use lib.Dec.{eqb}
 use borrow.Author.Tests.{eq-eqb, eqb-true}
-use Rattle.ground.specs.Truth.{and-true, and-left, and-right, or-left}
 use Rattle.counting.specs.Laws.Numbers.{count-ext}
-use Rattle.counting.specs.Laws.Ranks.{Apart, rank, rank-lt, ranked}
+use Rattle.counting.specs.Laws.Ranks.{Apart}
 use Rattle.counting.specs.Laws.Tests.{One}
 use Rattle.counting.specs.Words.{count}
+use Rattle.ground.specs.Truth.{and-left, and-right, and-true}
 use Rattle.packet.specs.Words.{DNU, EOS, NORM}
+use Rattle.sender.specs.Board.{highest, rowOf, wordOf}
 use Rattle.sender.specs.declared.board.Board.{Board}
 use Rattle.sender.specs.declared.board.Row.{Row}
 use Rattle.sender.specs.declared.table.State.{State}
-use Rattle.sender.specs.declared.table.State.the-variants.{Idle, Add, Active, Dnu}
+use Rattle.sender.specs.declared.table.State.the-variants.{Active, Add, Dnu, Idle}
 use Rattle.sender.specs.declared.table.Table.{Table}
-use Rattle.sender.specs.Board.{highest, rowOf, wordOf}
 use Rattle.sender.specs.Epochs.{packetFields}
 use Rattle.sender.specs.Laws.Carrying.{board-row, row-number}
 use Rattle.sender.specs.Laws.Numbered.{placed-member}
@@ -24,7 +24,7 @@ use Rattle.sender.specs.Ranks.{rowAt}
 use Rattle.sender.specs.Table.{isActive, sizeOf}
 use Rattle.sender.specs.Theorems.Demand2.{sound-demand2}
 use Rattle.link.specs.History.{Allowed, History, numberSent, wordSent}
-use Rattle.link.specs.Sending.Ruling.{activeWord, rankBy, xBy}
+use Rattle.link.specs.Sending.Ruling.{activeWord}
 use Rattle.link.specs.Sending.Senders.{sender-at-sound, size-at}
 
 -- active or DNU
@@ -123,17 +123,3 @@ module _ (h : History) (a : Allowed h) (i : ℕ) where
 
   pub numbered : Numbered (h .slots) (wordSent h i) (numberSent h i)
   numbered = rw source-size at (table-numbered source (sound-demand2 source (sender-at-sound h i .going .sound)) (wordSent h i) (numberSent h i) word-shown number-shown)
-
--- of numbers as demand 2 has them: active slots have different ranks below X, and each rank below X is some slot's
-module _ (n : ℕ) (word number : ℕ → ℕ) (o : Numbered n word number) where
-  active-numbered : (w : ℕ) → activeWord w ≡ true → numberedWord w ≡ true
-  active-numbered w e = or-left (activeWord w) (eqb w DNU) e
-
-  pub active-once : Apart n (λ s. activeWord (word s)) number
-  active-once i j hi hj ti tj e = o .once i j hi hj (active-numbered (word i) ti) (active-numbered (word j) tj) e
-
-  pub rank-lt-x : (s : ℕ) → s < n → activeWord (word s) ≡ true → rankBy n word number s < xBy n word
-  rank-lt-x s b t = rw t (rank-lt n (λ j. activeWord (word j)) number s b t)
-
-  pub rank-taken : (r : ℕ) → r < xBy n word → One n (λ s. activeWord (word s) && eqb (rank n (λ j. activeWord (word j)) number s) r)
-  rank-taken r b = ranked n (λ j. activeWord (word j)) number active-once r b

@@ -1,4 +1,4 @@
--- Every packet of a history is written, of sixteen H4 bytes, and reads back as its fields.
+-- Every packet of a history is written, and reads back as its fields.
 use mathlib.Core.Path.{_≡_, refl, _∙_, sym, ap}
 use mathlib.Core.Bool.{true}
 use mathlib.Core.List.{List}
@@ -45,10 +45,6 @@ module _ (s : Sender) (slot : ℕ) (h4 : List ℕ) (below : slot < sizeOf (s .ta
 highs-sent : (f : Fields) → fitting f ≡ true → highsOf (h4Of (nibblesOf f 0)) ≡ nibblesOf f 0
 highs-sent f t = highs-back (nibblesOf f 0) (packet-nibbles f 0 (bounds f t)) (length-nibbles f 0)
 
-length-h4 : (kind : ℕ) (ns : List ℕ) → length (h4Of ns) ≡ frames kind
-unfolding h4Of frames
-length-h4 kind ns = refl
-
 module _ (h : History) (a : Allowed h) (i slot : ℕ) (b : slot < h .slots) where
   abbrev blank : List ℕ
   blank = replicate (frames (h .kind)) 0
@@ -81,9 +77,6 @@ module _ (h : History) (a : Allowed h) (i slot : ℕ) (b : slot < h .slots) wher
   unfolding packetSent
   packet-is = bytes-are (senderAt h i) slot blank below room (sender-in h a i .begun) ∙ wrote .bytes
 
-  pub packet-length : length (packetSent h i slot) ≡ frames (h .kind)
-  packet-length = ap length packet-is ∙ length-h4 (h .kind) (nibblesOf (fieldsSent h i slot) 0)
-
   pub packet-highs : highsOf (packetSent h i slot) ≡ nibblesOf (fieldsSent h i slot) 0
   packet-highs = ap highsOf packet-is ∙ highs-sent (fieldsSent h i slot) fields-fit
 
@@ -99,11 +92,3 @@ packet-epoch h a i slot = sender-in h a i .epoch
 pub packet-gid : (h : History) → Allowed h → (i slot : ℕ) → fieldsSent h i slot .gid ≡ h .gid i
 unfolding packetFields
 packet-gid h a i slot = sender-in h a i .gid
-
-pub packet-mst : (h : History) → Allowed h → (i slot : ℕ) → fieldsSent h i slot .mst ≡ h .mst i
-unfolding packetFields
-packet-mst h a i slot = sender-in h a i .mst
-
-pub packet-ack : (h : History) → Allowed h → (i slot : ℕ) → fieldsSent h i slot .«rs_ack» ≡ h .ack i
-unfolding packetFields
-packet-ack h a i slot = sender-in h a i .ack

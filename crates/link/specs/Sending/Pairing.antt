@@ -5,11 +5,11 @@ use Prim.Native.Nat.{ℕ, zero, suc, _<_}
 use native.Mathlib.Omega.{arith}
 use lib.Dec.{eqb, ltb}
 use borrow.Author.Tests.{eq-eqb, eqb-true}
-use Rattle.ground.specs.Truth.{and-true, and-left, and-right, same-test}
 use Rattle.counting.specs.Laws.Numbers.{count-ext}
 use Rattle.counting.specs.Laws.Ranks.{all-taken, count-taken, taken}
-use Rattle.counting.specs.Laws.Tests.{every-all, every-at, some-at, some-one}
-use Rattle.counting.specs.Words.{count, every, some}
+use Rattle.counting.specs.Laws.Tests.{some-at, some-one}
+use Rattle.counting.specs.Words.{count}
+use Rattle.ground.specs.Truth.{and-left, and-right, and-true, same-test}
 use Rattle.link.specs.History.{Pairing}
 
 -- the port that a slot reaches
@@ -48,30 +48,6 @@ module _ (n : ℕ) (slotOf : ℕ → ℕ) (o : Pairing n slotOf) where
   count-paired f =
       sym (count-taken n n (λ p. f (slotOf p)) slotOf (λ p q hp hq tp tq e. o .once p q hp hq e) (λ p hp tp. o .below p hp))
       ∙ count-ext n (taken n (λ p. f (slotOf p)) slotOf) f (taken-slot f)
-
-  pub some-paired : (f : ℕ → Bool) → some n (λ p. f (slotOf p)) ≡ some n f
-  some-paired f = same-test (some n (λ p. f (slotOf p))) (some n f) to back
-    where
-      to : some n (λ p. f (slotOf p)) ≡ true → some n f ≡ true
-      to e = let w = some-one n (λ p. f (slotOf p)) e in some-at n f (slotOf (w .at)) (o .below (w .at) (w .below)) (w .holds)
-
-      back : some n f ≡ true → some n (λ p. f (slotOf p)) ≡ true
-      back e =
-          let w = some-one n f e in
-          let r = reached (w .at) (w .below) in
-          some-at n (λ p. f (slotOf p)) (r .port) (r .below) (ap f (r .is) ∙ w .holds)
-
-  pub every-paired : (f : ℕ → Bool) → every n (λ p. f (slotOf p)) ≡ every n f
-  every-paired f = same-test (every n (λ p. f (slotOf p))) (every n f) to back
-    where
-      to : every n (λ p. f (slotOf p)) ≡ true → every n f ≡ true
-      to e =
-          every-all n f (λ k h.
-          let r = reached k h in
-          ap f (sym (r .is)) ∙ every-at n (λ p. f (slotOf p)) e (r .port) (r .below))
-
-      back : every n f ≡ true → every n (λ p. f (slotOf p)) ≡ true
-      back e = every-all n (λ p. f (slotOf p)) (λ p h. every-at n f e (slotOf p) (o .below p h))
 
   -- how many ports whose test holds have a number below q, as among slots: ranks
   pub rank-paired : (f : ℕ → Bool) (m : ℕ → ℕ) (q : ℕ) → count n (λ p. f (slotOf p) && ltb (m (slotOf p)) q) ≡ count n (λ s. f s && ltb (m s) q)

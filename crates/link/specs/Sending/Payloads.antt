@@ -1,12 +1,12 @@
 -- The payload of every slot: the bytes of its rank in the client's group frame, and zeros without a rank.
-use mathlib.Core.Path.{_≡_, refl, _∙_, sym, ap}
+use mathlib.Core.Path.{_≡_, refl, _∙_, ap}
 use mathlib.Core.Bool.{true}
 use mathlib.Core.List.{List}
-use Prim.Native.Nat.{ℕ, _≤_, _<_}
+use Prim.Native.Nat.{ℕ, _<_}
 use native.Mathlib.Omega.{arith}
-use lib.ListN.{getD, getD-replicate, length, length-replicate, replicate}
-use borrow.Author.Tests.{le-ltb, lt-ltb}
-use Rattle.ground.specs.Table.{getD-tabulate, length-tabulate, tabulate-ext, tabulate-is}
+use lib.ListN.{getD, length, length-replicate, replicate}
+use borrow.Author.Tests.{lt-ltb}
+use Rattle.ground.specs.Table.{getD-tabulate, length-tabulate}
 use Rattle.payload.specs.Laws.Fits.{Sizes, spread-one-done}
 use Rattle.payload.specs.Order.{groupFrame, memberByte, memberFrame}
 use Rattle.payload.specs.Spreading.{spreadOne}
@@ -21,12 +21,6 @@ use Rattle.link.specs.Sending.Senders.{sender-in, size-at}
 bytes-are : (s : Sender) (slot P : ℕ) (frame member : List ℕ) → slot < sizeOf (s .table .count) → s .begun ≡ true → payloadBytes s slot P frame member ≡ spreadOne (xOf s) P (rankIn s slot) frame member
 unfolding payloadBytes
 bytes-are s slot P frame member below begun = rw (lt-ltb slot (sizeOf (s .table .count)) below, begun) refl
-
--- a member with no rank below X
-member-blank : (X P : ℕ) (frame : List ℕ) (r : ℕ) → X ≤ r → memberFrame X P frame r ≡ replicate P 0
-member-blank X P frame r b =
-    tabulate-ext P (memberByte X frame r) (λ j. 0) (λ j l. rw (le-ltb r X b))
-    ∙ sym (tabulate-is (replicate P 0) P (λ j. 0) 0 (length-replicate P 0) (λ k l. getD-replicate P k 0 0 l))
 
 module _ (h : History) (a : Allowed h) (P : ℕ) (client : Client) (c : Handed h P client) (x : ℕ) where
   abbrev X : ℕ
@@ -50,10 +44,6 @@ module _ (h : History) (a : Allowed h) (P : ℕ) (client : Client) (c : Handed h
 
   pub payload-length : (slot : ℕ) → slot < h .slots → length (payloadSent h P client x slot) ≡ P
   payload-length slot b = ap length (payload-is slot b) ∙ length-tabulate P (memberByte X (client x) (rankOf slot))
-
-  -- without a rank
-  pub payload-blank : (slot : ℕ) → slot < h .slots → X ≤ rankOf slot → payloadSent h P client x slot ≡ replicate P 0
-  payload-blank slot b l = payload-is slot b ∙ member-blank X P (client x) (rankOf slot) l
 
   -- Joined in the order of their ranks, wherever the slots are found, they are the client's frame.
   pub joined-back : (slotOf : ℕ → ℕ) → ((r : ℕ) → r < X → slotOf r < h .slots) → ((r : ℕ) → r < X → rankOf (slotOf r) ≡ r)

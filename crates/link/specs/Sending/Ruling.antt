@@ -1,21 +1,20 @@
 -- 'The packets of one epoch rule the payload of the next epoch': X and every slot's rank, read off the packets of the epoch before.
-use mathlib.Core.Path.{_≡_, refl, _∙_, sym, ap}
-use mathlib.Core.Bool.{Bool, true, false, cond, _&&_, _||_}
-use Prim.Native.Nat.{ℕ, zero, suc, _≤_}
-use native.Mathlib.Omega.{arith}
+use mathlib.Core.Path.{_≡_, _∙_, ap}
+use mathlib.Core.Bool.{Bool, true, cond, _&&_, _||_}
+use Prim.Native.Nat.{ℕ, suc, _≤_}
 use lib.Dec.{eqb, ltb}
 use borrow.Author.Tests.{lt-ltb}
-use Rattle.ground.specs.Truth.{and-true}
 use Rattle.counting.specs.Laws.Numbers.{count-le}
 use Rattle.counting.specs.Laws.Ranks.{rank}
 use Rattle.counting.specs.Words.{count}
+use Rattle.ground.specs.Truth.{and-true}
 use Rattle.packet.specs.Words.{EOS, NORM}
 use Rattle.sender.specs.declared.board.Board.{Board}
 use Rattle.sender.specs.Epochs.{packetFields, rankIn, senderRun}
 use Rattle.sender.specs.Laws.Carrying.{board-size}
 use Rattle.sender.specs.Ranks.{carriersIn, carries, noRank, rankAt, rankOf, rowAt}
 use Rattle.sender.specs.Table.{sizeOf}
-use Rattle.sender.specs.Theorems.Epochs.{Shows, first-x, onTable, rules-next}
+use Rattle.sender.specs.Theorems.Epochs.{Shows, onTable, rules-next}
 use Rattle.link.specs.History.{Allowed, History, numberSent, senderAt, wordSent, xAt}
 use Rattle.link.specs.Sending.Senders.{left, sender-at-sound, size-at}
 
@@ -41,15 +40,6 @@ module _ (h : History) (a : Allowed h) where
       rules-next (senderRun (senderAt h i) (onTable (h .before (suc i)))) (h .gid (suc i)) (h .mst (suc i)) (h .ack (suc i)) (lent (suc i))
       ∙ left (senderAt h i) (h .before (suc i)) .going
 
-  -- whose rows the packets' words and numbers are
-  pub word-rules : (i slot : ℕ) → wordSent h i slot ≡ rowAt (senderAt h (suc i) .ruling .rows) slot .word .0
-  unfolding packetFields
-  word-rules i slot = ap (λ (b : Board). rowAt (b .rows) slot .word .0) (sym (rules i))
-
-  pub number-rules : (i slot : ℕ) → numberSent h i slot ≡ rowAt (senderAt h (suc i) .ruling .rows) slot .number
-  unfolding packetFields
-  number-rules i slot = ap (λ (b : Board). rowAt (b .rows) slot .number) (sym (rules i))
-
   shown-size : (i : ℕ) (b : Board) → Shows b (senderAt h i .table .count) → sizeOf (b .count) ≡ h .slots
   shown-size i b o = ap (λ (c : Board). sizeOf (c .count)) (o .is) ∙ board-size (o .source) ∙ ap sizeOf (o .slots) ∙ size-at h a i
 
@@ -58,11 +48,6 @@ module _ (h : History) (a : Allowed h) where
 
   pub ruling-size : (i : ℕ) → sizeOf (senderAt h i .ruling .count) ≡ h .slots
   ruling-size i = shown-size i (senderAt h i .ruling) (sender-at-sound h i .ruling)
-
-  -- 'a sender's first epoch has X = 0'
-  pub x-first : xAt h zero ≡ 0
-  unfolding senderAt
-  x-first = first-x (h .kind) (h .slots) (h .first) (h .before zero) (h .gid zero) (h .mst zero) (h .ack zero) (lent zero)
 
   pub x-le : (i : ℕ) → xAt h i ≤ h .slots
   unfolding carriersIn
@@ -79,11 +64,3 @@ module _ (h : History) (a : Allowed h) where
   rank-next i slot =
       ap (λ (b : Board). rankAt (b .rows) (sizeOf (b .count)) slot) (rules i)
       ∙ ap (λ (n : ℕ). rankAt (senderAt h i .going .rows) n slot) (going-size i)
-
-  -- 'DNU members keep their numbers and have no rank', and neither have ADD and IDLE: none below X
-  pub unranked : (i slot : ℕ) → activeWord (wordSent h i slot) ≡ false → xAt h (suc i) ≤ rankIn (senderAt h (suc i)) slot
-  unranked i slot e =
-      let l = x-le (suc i) in
-      let m = a .most in
-      let r : rankIn (senderAt h (suc i)) slot ≡ 255 = rank-next i slot ∙ rw e refl in
-      omega arith

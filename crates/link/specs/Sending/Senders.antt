@@ -3,21 +3,21 @@ use mathlib.Core.Path.{_≡_, refl, _∙_, sym, ap, ap₂}
 use mathlib.Core.Logic.{⊎-elim}
 use mathlib.Core.Bool.{Bool, true, cond}
 use mathlib.Core.List.{List, [], _∷_, _++_}
-use Prim.Native.Nat.{ℕ, zero, suc, _+_, _≤_, _<_}
+use Prim.Native.Nat.{ℕ, zero, suc, _≤_, _<_}
 use native.Mathlib.Omega.{arith}
 use lib.Dec.{ltb}
 use borrow.Author.Tests.{lt-ltb, le-ltb, ne-eqb}
 use Rattle.ground.specs.Truth.{and-true, le-or-lt}
 use Rattle.packet.specs.Kinds.{epochAfter, epochs}
+use Rattle.sender.specs.Commands.{freshOf, startOf}
 use Rattle.sender.specs.declared.epochs.Sender.{Sender}
 use Rattle.sender.specs.declared.epochs.SenderStep.{SenderStep}
 use Rattle.sender.specs.declared.table.Answer.the-variants.{Done, Field}
 use Rattle.sender.specs.declared.table.Table.{Table}
-use Rattle.sender.specs.Commands.{freshOf, startOf}
 use Rattle.sender.specs.Epochs.{SenderCall, beginOf, freshSender, senderRun, senderStepOf, startEpochOf, startedEpoch, startedSender}
 use Rattle.sender.specs.Epochs.SenderCall.{OnTable, StartEpoch}
 use Rattle.sender.specs.Laws.Kept.{group-step}
-use Rattle.sender.specs.Laws.Sizes.{size-small, size-large}
+use Rattle.sender.specs.Laws.Sizes.{size-large, size-small}
 use Rattle.sender.specs.Steps.{Call}
 use Rattle.sender.specs.Table.{sizeOf}
 use Rattle.sender.specs.Theorems.Epochs.{SoundSender, onTable, sender-sound, senderAfter}

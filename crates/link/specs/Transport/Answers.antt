@@ -1,23 +1,20 @@
 -- The answers of all frames: 'every frame answered 0 or 12, 12 only before step'.
 use mathlib.Core.Path.{_≡_, refl, sym, ap, _∙_}
 use mathlib.Core.Logic.{⊎-elim}
-use mathlib.Core.Bool.{Bool, true, false, cond}
 use mathlib.Core.List.{List, [], _∷_, _++_, append-nil, append-assoc}
 use Prim.Native.Nat.{ℕ, zero, suc, _+_, _-_, _*_, _/_, _≤_, _<_}
 use native.Mathlib.Omega.{arith}
-use lib.Dec.{leb}
 use borrow.Author.Tests.{le-leb, lt-leb}
 use Rattle.ground.specs.Truth.{le-or-lt}
-use Rattle.packet.specs.Kinds.{frames}
 use Rattle.step.specs.Laws.Run.{startFrom}
-use Rattle.link.specs.Moments.{nx, reached, said, says, saysOne, saysThrough}
-use Rattle.link.specs.Road.{Fair, Road}
-use Rattle.link.specs.Running.{Moment, drained, framed, through, turn, turns}
+use Rattle.link.specs.Moments.{coming, reached, said, says, saysOne, saysThrough}
+use Rattle.link.specs.Road.{Fair, L, Road}
+use Rattle.link.specs.Running.{Moment, framed, through, turn, turns}
 use Rattle.link.specs.Standing.{Before, First, Later, Owes}
 use Rattle.link.specs.Transport.Fetches.{drained-answers}
 use Rattle.link.specs.Transport.Moments.{Rest, rest-all, rest-tail, served-at}
 use Rattle.link.specs.Transport.Steps.{Reach, Served}
-use Rattle.link.specs.Transport.Times.{Phase, Steps, nx-is, phase, reach-nx, served-nx, turns-more, no-frame}
+use Rattle.link.specs.Transport.Times.{Phase, Steps, coming-is, phase, reach-coming, served-coming, turns-more}
 use Rattle.link.specs.Transport.Times.Phase.{before, first, later}
 
 module _ (r : Road) where
@@ -28,8 +25,8 @@ module _ (r : Road) where
     pub later-says : (m : Moment) (p g i : ℕ) (n n′ : ℕ → ℕ) → Served r p n n′ → Reach r p n → Later r m n g i → Owes r n (suc i) → framed r p (n p) m .answers ≡ m .answers ++ (0 ∷ [])
 
   -- in step, the answer is 0
-  said-in : (p x : ℕ) → startFrom (r .kind) (r .offset) (r .first p) + frames (r .kind) * 2 ≤ x → said r p x ≡ 0
-  said-in p x h = rw (le-leb (startFrom (r .kind) (r .offset) (r .first p) + frames (r .kind) * 2) (x + 1) (omega arith)) refl
+  said-in : (p x : ℕ) → startFrom (r .kind) (r .offset) (r .first p) + L r * 2 ≤ x → said r p x ≡ 0
+  said-in p x h = rw (le-leb (startFrom (r .kind) (r .offset) (r .first p) + L r * 2) (x + 1) (omega arith)) refl
 
   module _ (m₀ : Moment) (f : Fair r) (s : Steps r) (a : Says) (start : Before r m₀ (r .first)) where
     module _ (t p : ℕ) (done ps : List ℕ) (is-order : r .order t ≡ done ++ (p ∷ ps)) (o : Rest r (p ∷ ps)) where
@@ -39,16 +36,16 @@ module _ (r : Road) where
       with-frame : r .delay p + r .first p ≤ t → framed r p (t - r .delay p) here .answers ≡ here .answers ++ (said r p (t - r .delay p) ∷ [])
       with-frame late = go (phase r m₀ f s start t done (p ∷ ps) is-order)
         where
-          position : nx r t (p ∷ ps) p ≡ t - r .delay p
-          position = nx-is r t (p ∷ ps) p (o .all-below .0) ∙ served-at r t p ps o late
+          position : coming r t (p ∷ ps) p ≡ t - r .delay p
+          position = coming-is r t (p ∷ ps) p (o .all-below .0) ∙ served-at r t p ps o late
 
-          go : Phase r m₀ t done here (nx r t (p ∷ ps)) → framed r p (t - r .delay p) here .answers ≡ here .answers ++ (said r p (t - r .delay p) ∷ [])
-          go (before b un) = rw position at (a .before-says here p (nx r t (p ∷ ps)) (nx r t ps) (served-nx r t p ps o late) b)
+          go : Phase r m₀ t done here (coming r t (p ∷ ps)) → framed r p (t - r .delay p) here .answers ≡ here .answers ++ (said r p (t - r .delay p) ∷ [])
+          go (before b un) = rw position at (a .before-says here p (coming r t (p ∷ ps)) (coming r t ps) (served-coming r t p ps o late) b)
           go (first F b c) =
-              rw position at (a .first-says here p (suc (F / frames (r .kind))) (nx r t (p ∷ ps)) (nx r t ps) (served-nx r t p ps o late) (reach-nx r f t p ps o late) c)
+              rw position at (a .first-says here p (suc (F / L r)) (coming r t (p ∷ ps)) (coming r t ps) (served-coming r t p ps o late) (reach-coming r f t p ps o late) c)
               ∙ ap (λ (n : ℕ). here .answers ++ (n ∷ [])) (sym (said-in p (t - r .delay p) (rw position at (c .open-at .in-step p (o .all-below .0)))))
           go (later F i b c w) =
-              rw position at (a .later-says here p (suc (F / frames (r .kind))) i (nx r t (p ∷ ps)) (nx r t ps) (served-nx r t p ps o late) (reach-nx r f t p ps o late) c w)
+              rw position at (a .later-says here p (suc (F / L r)) i (coming r t (p ∷ ps)) (coming r t ps) (served-coming r t p ps o late) (reach-coming r f t p ps o late) c w)
               ∙ ap (λ (n : ℕ). here .answers ++ (n ∷ [])) (sym (said-in p (t - r .delay p) (rw position at (c .open-at .in-step p (o .all-below .0)))))
 
       turn-says : turn r t p here .answers ≡ here .answers ++ saysOne r t p

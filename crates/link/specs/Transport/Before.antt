@@ -1,7 +1,7 @@
 -- Frames before the beginning, and the beginning itself.
 use mathlib.Core.Path.{_≡_, refl, _∙_, sym, ap}
 use mathlib.Core.Logic.{⊎-elim, _≢_}
-use mathlib.Core.Bool.{Bool, true, false, cond, not, _||_, true≢false}
+use mathlib.Core.Bool.{Bool, true, false, cond, _||_, true≢false}
 use mathlib.Core.List.{List, [], _∷_, _++_}
 use Prim.Native.Nat.{ℕ, zero, suc, _+_, _-_, _*_, _/_, _≤_, _<_}
 use native.Mathlib.Omega.{arith}
@@ -19,27 +19,28 @@ use Rattle.phases.specs.Settling.{begunOf, clearedStep, settledOf}
 use Rattle.phases.specs.Theorems.Arc.{Arc, complete, sound}
 use Rattle.phases.specs.Theorems.Settled.{settled-begins, settled-stays}
 use Rattle.receiver.specs.Frame.{portRows, settledBy, storeBy, takenIn}
+use Rattle.receiver.specs.Laws.Frames.{frame-group, frame-step, frame-step-other, length-frame}
+use Rattle.receiver.specs.Laws.Sizes.{Sizes}
 use Rattle.rows.specs.declared.group.Group.{Group}
 use Rattle.rows.specs.declared.step.Step.{Step}
 use Rattle.rows.specs.Group.{groupAt}
 use Rattle.rows.specs.Packets.{marksAt}
 use Rattle.rows.specs.Rows.{rowsFor}
 use Rattle.rows.specs.Step.{stepAt}
-use Rattle.step.specs.declared.arrival.Taken.{Taken}
 use Rattle.step.specs.Arrival.{aside, countsOn, flagOf, inStep, takenOf}
+use Rattle.step.specs.declared.arrival.Taken.{Taken}
 use Rattle.step.specs.Laws.Arrival.{ranOn, stepped, taken-aside, taken-counts}
 use Rattle.step.specs.Run.{inStepAt}
 use Rattle.store.specs.Laws.Marks.{mark-none, sixteen-none}
-use Rattle.link.specs.Laws.Epochs.{behind-far}
-use Rattle.link.specs.Laws.Numbers.{epoch-after-le, epoch-after-lt, epoch-after-tag, frames-many, frames-run, frames-some, frames-two, Ranges, ranges, tag-before}
+use Rattle.link.specs.Laws.Numbers.{behind-far, epoch-after-le, epoch-after-lt, epoch-after-tag, frames-many, frames-run, frames-some, frames-two, tag-before}
 use Rattle.link.specs.Moments.{Foremost}
-use Rattle.link.specs.Road.{Fair, Road}
+use Rattle.link.specs.Road.{Fair, L, Road, sizes-in}
 use Rattle.link.specs.Running.{Moment, framed}
 use Rattle.link.specs.Standing.{Before, First, Heard, Lined, Open}
-use Rattle.link.specs.Transport.Call.{framed-is, group-port-rows, length-port-rows, step-port-other, step-port-rows}
+use Rattle.link.specs.Transport.Call.{framed-is}
 use Rattle.link.specs.Transport.Heard.{from-first, heard-aside, heard-counts, heard-in-step, heard-next, heard-short, heard-test, runFrom}
 use Rattle.link.specs.Transport.Steps.{Apart, Begun?, Served}
-use Rattle.link.specs.Transport.Steps.Begun?.{stays, comes}
+use Rattle.link.specs.Transport.Steps.Begun?.{comes, stays}
 
 -- one of the first n numbers at which f is greatest
 record Greatest (f : ℕ → ℕ) (n : ℕ) : Type 0 where
@@ -106,50 +107,50 @@ ready-back g s e t =
 module _ (r : Road) where
   -- the port whose next frame is the one at x is in step
   abbrev pub InStep : ℕ → ℕ → Type 0
-  InStep p x = runFrom r p + frames (r .kind) * 2 ≤ x
+  InStep p x = runFrom r p + L r * 2 ≤ x
 
 module _ (r : Road) (f : Fair r) where
-  sizes : Ranges (r .kind) (r .ports) (r .payload) (r .window)
-  sizes = ranges (r .kind) (r .ports) (r .payload) (r .window) (f .sizes)
+  sizes : Sizes (r .kind) (r .ports) (r .payload) (r .window)
+  sizes = sizes-in r f
 
   -- Ports in step, as the receiver's own tests see them.
-  module _ (m : Moment) (nx : ℕ → ℕ) (o : Lined r m nx) where
-    steps : (q : ℕ) → q < r .ports → InStep r q (nx q) → inStep (groupAt (m .rows)) (stepAt (m .rows) q) ≡ true
+  module _ (m : Moment) (coming : ℕ → ℕ) (o : Lined r m coming) where
+    steps : (q : ℕ) → q < r .ports → InStep r q (coming q) → inStep (groupAt (m .rows)) (stepAt (m .rows) q) ≡ true
     unfolding inStep
-    steps q b far = rw (o .kind-is) (heard-in-step r q (nx q) (stepAt (m .rows) q) (o .heard q b) far)
+    steps q b far = rw (o .kind-is) (heard-in-step r q (coming q) (stepAt (m .rows) q) (o .heard q b) far)
 
-    steps-not : (q : ℕ) → q < r .ports → nx q < runFrom r q + frames (r .kind) * 2 → inStep (groupAt (m .rows)) (stepAt (m .rows) q) ≡ false
+    steps-not : (q : ℕ) → q < r .ports → coming q < runFrom r q + L r * 2 → inStep (groupAt (m .rows)) (stepAt (m .rows) q) ≡ false
     unfolding inStep
-    steps-not q b near = rw (o .kind-is) (heard-short r q (nx q) (stepAt (m .rows) q) (o .heard q b) near)
+    steps-not q b near = rw (o .kind-is) (heard-short r q (coming q) (stepAt (m .rows) q) (o .heard q b) near)
 
-    steps-back : (q : ℕ) → q < r .ports → inStep (groupAt (m .rows)) (stepAt (m .rows) q) ≡ true → InStep r q (nx q)
+    steps-back : (q : ℕ) → q < r .ports → inStep (groupAt (m .rows)) (stepAt (m .rows) q) ≡ true → InStep r q (coming q)
     steps-back q b e =
-        ⊎-elim (λ (far : InStep r q (nx q)). far)
-        (λ (near : nx q < runFrom r q + frames (r .kind) * 2). absurd (true≢false (sym e ∙ steps-not q b near)))
-        (le-or-lt (runFrom r q + frames (r .kind) * 2) (nx q))
+        ⊎-elim (λ (far : InStep r q (coming q)). far)
+        (λ (near : coming q < runFrom r q + L r * 2). absurd (true≢false (sym e ∙ steps-not q b near)))
+        (le-or-lt (runFrom r q + L r * 2) (coming q))
 
     -- the latest tag of a port in step is that of its latest position
-    latest-is : (q : ℕ) → q < r .ports → InStep r q (nx q) → latest (groupAt (m .rows)) (stepAt (m .rows) q) ≡ tagOf (r .kind) (r .offset + (nx q - 1))
+    latest-is : (q : ℕ) → q < r .ports → InStep r q (coming q) → latest (groupAt (m .rows)) (stepAt (m .rows) q) ≡ tagOf (r .kind) (r .offset + (coming q - 1))
     unfolding latest
     latest-is q b far =
         let n = frames-run (r .kind) in
-        let e : r .offset + nx q ≡ r .offset + (nx q - 1) + 1 = omega arith in
-        rw (o .kind-is, heard-next r q (nx q) (stepAt (m .rows) q) (o .heard q b) far, e) (tag-before (r .kind) (r .offset + (nx q - 1)))
+        let e : r .offset + coming q ≡ r .offset + (coming q - 1) + 1 = omega arith in
+        rw (o .kind-is, heard-next r q (coming q) (stepAt (m .rows) q) (o .heard q b) far, e) (tag-before (r .kind) (r .offset + (coming q - 1)))
 
-    had-is : (q : ℕ) → q < r .ports → r .first q < nx q → stepAt (m .rows) q .had ≡ 1
-    had-is q b late = o .heard q b .had ∙ rw (lt-ltb (r .first q) (nx q) late) refl
+    had-is : (q : ℕ) → q < r .ports → r .first q < coming q → stepAt (m .rows) q .had ≡ 1
+    had-is q b late = o .heard q b .had ∙ rw (lt-ltb (r .first q) (coming q) late) refl
 
     -- 'A fresh receiver begins' where all ports are in step and none is further behind than the spread.
-    pub must-begin : ((q : ℕ) → q < r .ports → InStep r q (nx q)) → ((p q : ℕ) → p < r .ports → q < r .ports → nx p + frames (r .kind) ≤ nx q + r .window)
+    pub must-begin : ((q : ℕ) → q < r .ports → InStep r q (coming q)) → ((p q : ℕ) → p < r .ports → q < r .ports → coming p + L r ≤ coming q + r .window)
         → begins (groupAt (m .rows)) (m .rows) (r .ports) ≡ true
     must-begin far near =
         let z = sizes in
         let some = z .some-ports in
         let e : suc (r .ports - 1) ≡ r .ports = omega arith in
-        let top : Greatest nx (r .ports) = rw e at (greatest-of nx (r .ports - 1)) in
+        let top : Greatest coming (r .ports) = rw e at (greatest-of coming (r .ports - 1)) in
         let k = top .at in
         let run = frames-run (r .kind) in
-        let arc : Arc (groupAt (m .rows)) (m .rows) (r .ports) (tagOf (r .kind) (r .offset + (nx k - 1))) =
+        let arc : Arc (groupAt (m .rows)) (m .rows) (r .ports) (tagOf (r .kind) (r .offset + (coming k - 1))) =
         record {
           all-ready = λ q b. ready-is (groupAt (m .rows)) (stepAt (m .rows) q) (had-is q b (let w = far q b in let v = from-first r q in omega arith)) (steps q b (far q b));
           port = k;
@@ -159,25 +160,21 @@ module _ (r : Road) (f : Fair r) where
           behind =
               λ j b t.
               rw (latest-is j b (far j b), o .kind-is, o .window-is)
-              (near-of (r .kind) (r .offset) (nx k) (nx j) (r .window) (let w = far j b in omega arith) (top .most j b) (near k j (top .below) b) (z .round));
+              (near-of (r .kind) (r .offset) (coming k) (coming j) (r .window) (let w = far j b in omega arith) (top .most j b) (near k j (top .below) b) (z .round));
         } in
-        complete (groupAt (m .rows)) (m .rows) (r .ports) (tagOf (r .kind) (r .offset + (nx k - 1))) arc (rw (o .kind-is, o .window-is) (z .narrow)) .0
-
-    pub not-before : ((q : ℕ) → q < r .ports → InStep r q (nx q)) → ((p q : ℕ) → p < r .ports → q < r .ports → nx p + frames (r .kind) ≤ nx q + r .window)
-        → Before r m nx → ⊥
-    not-before far near before = true≢false (sym (must-begin far near) ∙ before .unfit)
+        complete (groupAt (m .rows)) (m .rows) (r .ports) (tagOf (r .kind) (r .offset + (coming k - 1))) arc (rw (o .kind-is, o .window-is) (z .narrow)) .0
 
     -- The beginning: all ports are in step, the foremost tag is that of the foremost position, and none is further behind it than the spread.
 
-    module _ (apart : Apart r nx) (e : begins (groupAt (m .rows)) (m .rows) (r .ports) ≡ true) where
+    module _ (apart : Apart r coming) (e : begins (groupAt (m .rows)) (m .rows) (r .ports) ≡ true) where
       arc : Arc (groupAt (m .rows)) (m .rows) (r .ports) (foremost (groupAt (m .rows)) (m .rows) (r .ports))
       arc = sound (groupAt (m .rows)) (m .rows) (r .ports) e
 
-      all-in : (q : ℕ) → q < r .ports → InStep r q (nx q)
+      all-in : (q : ℕ) → q < r .ports → InStep r q (coming q)
       all-in q b =
           steps-back q b (ready-back (groupAt (m .rows)) (stepAt (m .rows) q) (o .heard q b .failed) (arc .all-ready q b))
 
-      all-late : (q : ℕ) → q < r .ports → r .first q < nx q
+      all-late : (q : ℕ) → q < r .ports → r .first q < coming q
       all-late q b =
           let w = all-in q b in
           let v = from-first r q in
@@ -193,47 +190,47 @@ module _ (r : Road) (f : Fair r) where
 
       -- the foremost position
       fore : ℕ
-      fore = nx top - 1
+      fore = coming top - 1
 
       fore-tag : foremost (groupAt (m .rows)) (m .rows) (r .ports) ≡ tagOf (r .kind) (r .offset + fore)
       unfolding top fore
       fore-tag = sym (arc .fore-is) ∙ latest-is top top-in (all-in top top-in)
 
-      none-behind : (q : ℕ) → q < r .ports → (nx q ≤ nx top) × (nx top + frames (r .kind) ≤ nx q + r .window)
+      none-behind : (q : ℕ) → q < r .ports → (coming q ≤ coming top) × (coming top + L r ≤ coming q + r .window)
       unfolding fore
       none-behind q b =
           let near = arc .behind q b (steps q b (all-in q b)) in
-          let near : distanceOf (r .kind) (tagOf (r .kind) (r .offset + (nx top - 1))) (tagOf (r .kind) (r .offset + (nx q - 1))) + frames (r .kind) ≤ r .window =
+          let near : distanceOf (r .kind) (tagOf (r .kind) (r .offset + (coming top - 1))) (tagOf (r .kind) (r .offset + (coming q - 1))) + L r ≤ r .window =
           rw (fore-tag, latest-is q b (all-in q b), o .kind-is, o .window-is) at near in
           let late = all-late q b in
           let late-top = all-late top top-in in
-          near-back (r .kind) (r .offset) (nx top) (nx q) (r .window) (omega arith) (omega arith)
+          near-back (r .kind) (r .offset) (coming top) (coming q) (r .window) (omega arith) (omega arith)
           (apart top q top-in b late-top late)
           (apart q top b top-in late late-top)
           (sizes .round)
           near
 
-      top-is : nx top ≡ fore + 1
+      top-is : coming top ≡ fore + 1
       unfolding fore
       top-is = let late = all-late top top-in in omega arith
 
-      foremost-is : Foremost r nx fore
+      foremost-is : Foremost r coming fore
       foremost-is =
           record { port = top; below = top-in; is = top-is; most = λ q b. (let w = none-behind q b .0 in let v = top-is in omega arith) }
 
       -- the first epoch to start after it
       epoch : ℕ
-      epoch = suc (fore / frames (r .kind))
+      epoch = suc (fore / L r)
 
-      next-after : fore < epoch * frames (r .kind)
+      next-after : fore < epoch * L r
       unfolding epoch
       next-after = epoch-after-lt (r .kind) fore
 
-      next-soon : epoch * frames (r .kind) ≤ fore + frames (r .kind)
+      next-soon : epoch * L r ≤ fore + L r
       unfolding epoch
       next-soon = epoch-after-le (r .kind) fore
 
-      nobody-there : (q : ℕ) → q < r .ports → nx q ≤ epoch * frames (r .kind)
+      nobody-there : (q : ℕ) → q < r .ports → coming q ≤ epoch * L r
       nobody-there q b =
           let w = none-behind q b .0 in
           let v = top-is in
@@ -261,29 +258,29 @@ module _ (r : Road) (f : Fair r) where
       unfolding rows-begun
       marks-begun q b = begun-marks-at (groupAt (m .rows)) (r .ports) (m .rows) q b (rw (o .rows-long) (omega arith))
 
-      heard-begun : (q : ℕ) → q < r .ports → Heard r q (nx q) (clearedStep (stepAt (m .rows) q) true)
+      heard-begun : (q : ℕ) → q < r .ports → Heard r q (coming q) (clearedStep (stepAt (m .rows) q) true)
       unfolding clearedStep
       heard-begun q b = let h = o .heard q b in record { from = h .from; had = h .had; failed = h .failed; run = h .run }
 
       oldest-begun : groupAt rows-begun .oldest ≡ epochAfter (r .kind) (epochOf (r .kind) (tagOf (r .kind) (r .offset + fore)))
       oldest-begun = ap (λ (g : Group). g .oldest) group-begun ∙ rw (fore-tag, o .kind-is) refl
 
-      tag-begun : firstTag (r .kind) (groupAt rows-begun .oldest) ≡ tagOf (r .kind) (r .offset + epoch * frames (r .kind))
+      tag-begun : firstTag (r .kind) (groupAt rows-begun .oldest) ≡ tagOf (r .kind) (r .offset + epoch * L r)
       unfolding epoch
       tag-begun = ap (firstTag (r .kind)) oldest-begun ∙ epoch-after-tag (r .kind) (r .offset) fore (f .starts)
 
-      no-epoch : (q k : ℕ) → q < r .ports → leb (epoch * frames (r .kind) + (k + 1) * frames (r .kind)) (nx q) ≡ false
+      no-epoch : (q k : ℕ) → q < r .ports → leb (epoch * L r + (k + 1) * L r) (coming q) ≡ false
       no-epoch q k b =
           let w = nobody-there q b in
           let some = frames-some (r .kind) in
           let many = frames-many (r .kind) k in
-          lt-leb (epoch * frames (r .kind) + (k + 1) * frames (r .kind)) (nx q) (omega arith)
+          lt-leb (epoch * L r + (k + 1) * L r) (coming q) (omega arith)
 
       module _ (answers : List ℕ) where
         moment-begun : Moment
         moment-begun = record { rows = rows-begun; store = m .store; answers = answers; told = m .told }
 
-        lined-begun : Lined r moment-begun nx
+        lined-begun : Lined r moment-begun coming
         unfolding moment-begun
         lined-begun =
             record {
@@ -297,7 +294,7 @@ module _ (r : Road) (f : Fair r) where
               heard = λ q b. rw (step-begun q b) (heard-begun q b);
             }
 
-        open-begun : Open r moment-begun nx epoch
+        open-begun : Open r moment-begun coming epoch
         unfolding moment-begun clearedStep
         open-begun =
             record {
@@ -315,18 +312,18 @@ module _ (r : Road) (f : Fair r) where
               stands = λ q x b low high. absurd (let w = nobody-there q b in omega arith);
             }
 
-        first-begun : m .told ≡ [] → First r moment-begun nx epoch
+        first-begun : m .told ≡ [] → First r moment-begun coming epoch
         unfolding moment-begun clearedStep
         first-begun none =
             record {
               open-at = open-begun;
               gathered = ap (λ (g : Group). g .gathered) group-begun;
-              joined = λ q b. rw (step-begun q b, le-ltb (epoch * frames (r .kind)) (nx q) (nobody-there q b)) refl;
+              joined = λ q b. rw (step-begun q b, le-ltb (epoch * L r) (coming q) (nobody-there q b)) refl;
               owes = record { port = top; below = top-in; owes = (let w = nobody-there top top-in in let some = frames-some (r .kind) in omega arith) };
               told = none;
             }
 
-        begun-comes : m .told ≡ [] → Begun? r (record { rows = begunOf (groupAt (m .rows)) (r .ports) (m .rows); store = m .store; answers = answers; told = m .told }) nx
+        begun-comes : m .told ≡ [] → Begun? r (record { rows = begunOf (groupAt (m .rows)) (r .ports) (m .rows); store = m .store; answers = answers; told = m .told }) coming
         unfolding moment-begun rows-begun epoch
         begun-comes none =
             comes fore foremost-is
@@ -337,13 +334,13 @@ module _ (r : Road) (f : Fair r) where
 
   pub record Counted (p x : ℕ) (t : Taken) : Type 0 where
     -- '12: port not in step after this frame'
-    pub answer : t .answer ≡ cond (leb (runFrom r p + frames (r .kind) * 2) (x + 1)) 0 12
+    pub answer : t .answer ≡ cond (leb (runFrom r p + L r * 2) (x + 1)) 0 12
     pub settles : t .settles ≡ true
     pub kept : t .kept ≡ false
     pub heard : Heard r p (x + 1) (t .step)
 
   module _ (g : Group) (p x : ℕ) (s : Step) (k : g .kind ≡ r .kind) (b : p < r .ports) (o : Heard r p x s) (unbegun : g .begun ≡ 0) where
-    in-step-now : (q : Step) → q .count ≡ ranOn g s (r .h4 p x) .count → Heard r p (x + 1) q → stepped g s (r .h4 p x) ≡ leb (runFrom r p + frames (r .kind) * 2) (x + 1)
+    in-step-now : (q : Step) → q .count ≡ ranOn g s (r .h4 p x) .count → Heard r p (x + 1) q → stepped g s (r .h4 p x) ≡ leb (runFrom r p + L r * 2) (x + 1)
     in-step-now q e h =
         ap (λ (n : ℕ). inStepAt n (ranOn g s (r .h4 p x) .count)) k
         ∙ ap (λ (n : ℕ). inStepAt (r .kind) n) (sym e)
@@ -378,16 +375,16 @@ module _ (r : Road) (f : Fair r) where
         go true e = rw (taken-aside g s false (r .h4 p x) refl e (rw unbegun refl)) (counted-in e)
         go false e = rw (taken-counts g s false (r .h4 p x) refl e) (counted-out e)
 
-  module _ (m : Moment) (nx : ℕ → ℕ) (o : Before r m nx) (p : ℕ) (b : p < r .ports) where
+  module _ (m : Moment) (coming : ℕ → ℕ) (o : Before r m coming) (p : ℕ) (b : p < r .ports) where
     taken : Taken
-    taken = takenIn (m .rows) p false (r .h4 p (nx p))
+    taken = takenIn (m .rows) p false (r .h4 p (coming p))
 
-    is-counted : Counted p (nx p) taken
+    is-counted : Counted p (coming p) taken
     unfolding taken
-    is-counted = counted (groupAt (m .rows)) p (nx p) (stepAt (m .rows) p) (o .lined .kind-is) b (o .lined .heard p b) (o .begun)
+    is-counted = counted (groupAt (m .rows)) p (coming p) (stepAt (m .rows) p) (o .lined .kind-is) b (o .lined .heard p b) (o .begun)
 
     not-outside : taken .answer ≢ 11
-    not-outside = go (leb (runFrom r p + frames (r .kind) * 2) (nx p + 1)) (is-counted .answer)
+    not-outside = go (leb (runFrom r p + L r * 2) (coming p + 1)) (is-counted .answer)
       where
         go : (c : Bool) → taken .answer ≡ cond c 0 12 → taken .answer ≢ 11
         go true e d = omega arith
@@ -395,40 +392,37 @@ module _ (r : Road) (f : Fair r) where
 
     -- the port's rows, before all ports are looked at
     rows-then : List (List ℕ)
-    rows-then = portRows (r .kind) (m .rows) p taken (r .h4 p (nx p))
+    rows-then = portRows (r .kind) (m .rows) p taken (r .h4 p (coming p))
 
-    then-is : framed r p (nx p) m
+    then-is : framed r p (coming p) m
         ≡ record { rows = settledOf (r .ports) (m .store) rows-then; store = m .store; answers = m .answers ++ (taken .answer ∷ []); told = m .told }
     unfolding taken rows-then settledBy storeBy
-    then-is = framed-is r f m nx (o .lined) p (nx p) b not-outside ∙ rw (is-counted .settles, is-counted .kept) refl
+    then-is = framed-is r f m coming (o .lined) p (coming p) b not-outside ∙ rw (is-counted .settles, is-counted .kept) refl
 
     -- the answer: 0 if the port is in step after the frame, 12 if not
-    pub before-answer : framed r p (nx p) m .answers ≡ m .answers ++ (cond (leb (runFrom r p + frames (r .kind) * 2) (nx p + 1)) 0 12 ∷ [])
+    pub before-answer : framed r p (coming p) m .answers ≡ m .answers ++ (cond (leb (runFrom r p + L r * 2) (coming p + 1)) 0 12 ∷ [])
     before-answer = ap (λ (w : Moment). w .answers) then-is ∙ ap (λ (a : ℕ). m .answers ++ (a ∷ [])) (is-counted .answer)
-
-    pub before-told : framed r p (nx p) m .told ≡ m .told
-    before-told = ap (λ (w : Moment). w .told) then-is
 
     then-long : length rows-then ≡ rowsFor (r .ports)
     unfolding rows-then
-    then-long = length-port-rows (r .kind) (m .rows) p taken (r .h4 p (nx p)) ∙ o .lined .rows-long
+    then-long = length-frame (r .kind) (m .rows) p taken (r .h4 p (coming p)) ∙ o .lined .rows-long
 
     then-group : groupAt rows-then ≡ groupAt (m .rows)
     unfolding rows-then
-    then-group = group-port-rows (r .kind) (m .rows) p taken (r .h4 p (nx p))
+    then-group = frame-group (r .kind) (m .rows) p taken (r .h4 p (coming p))
 
-    module _ (nx′ : ℕ → ℕ) (next : nx′ p ≡ nx p + 1) (others : (q : ℕ) → q ≢ p → nx′ q ≡ nx q) where
-      then-heard : (q : ℕ) → q < r .ports → Heard r q (nx′ q) (stepAt rows-then q)
+    module _ (coming′ : ℕ → ℕ) (next : coming′ p ≡ coming p + 1) (others : (q : ℕ) → q ≢ p → coming′ q ≡ coming q) where
+      then-heard : (q : ℕ) → q < r .ports → Heard r q (coming′ q) (stepAt rows-then q)
       unfolding rows-then
       then-heard q c =
           ⊎-elim
           (λ (e : q ≡ p).
-          rw (e, next, step-port-rows (r .kind) (m .rows) p taken (r .h4 p (nx p)) (r .ports) b (rw (o .lined .rows-long) (omega arith))) (is-counted .heard))
-          (λ (d : q ≢ p). rw (others q d, step-port-other (r .kind) (m .rows) p taken (r .h4 p (nx p)) q d) (o .lined .heard q c))
+          rw (e, next, frame-step (r .kind) (m .rows) p taken (r .h4 p (coming p)) (r .ports) b (rw (o .lined .rows-long) (omega arith))) (is-counted .heard))
+          (λ (d : q ≢ p). rw (others q d, frame-step-other (r .kind) (m .rows) p taken (r .h4 p (coming p)) q d) (o .lined .heard q c))
           (eq-or-ne q p)
 
       module _ (answers : List ℕ) where
-        then-lined : Lined r (record { rows = rows-then; store = m .store; answers = answers; told = m .told }) nx′
+        then-lined : Lined r (record { rows = rows-then; store = m .store; answers = answers; told = m .told }) coming′
         then-lined =
             let l = o .lined in
             record {
@@ -445,11 +439,11 @@ module _ (r : Road) (f : Fair r) where
         then-begun : groupAt rows-then .begun ≡ 0
         then-begun = ap (λ (g : Group). g .begun) then-group ∙ o .begun
 
-        look : Apart r nx′ → (c : Bool) → begins (groupAt rows-then) rows-then (r .ports) ≡ c
-            → Begun? r (record { rows = settledOf (r .ports) (m .store) rows-then; store = m .store; answers = answers; told = m .told }) nx′
+        look : Apart r coming′ → (c : Bool) → begins (groupAt rows-then) rows-then (r .ports) ≡ c
+            → Begun? r (record { rows = settledOf (r .ports) (m .store) rows-then; store = m .store; answers = answers; told = m .told }) coming′
         look apart true e =
             rw (settled-begins (r .ports) (m .store) rows-then (rw then-long (omega arith)) (rw then-begun refl) e)
-            (begun-comes (record { rows = rows-then; store = m .store; answers = answers; told = m .told }) nx′ then-lined apart e answers (o .told))
+            (begun-comes (record { rows = rows-then; store = m .store; answers = answers; told = m .told }) coming′ then-lined apart e answers (o .told))
         look apart false e =
             let none : flagOf (groupAt rows-then .begun) ≡ false = rw then-begun refl in
             rw (settled-stays (r .ports) (m .store) rows-then (record {
@@ -460,8 +454,8 @@ module _ (r : Road) (f : Fair r) where
             (stays (record { lined = then-lined; begun = then-begun; unfit = e; told = o .told }))
 
   -- Receiving has still not begun, or the first epoch to start after the foremost position is being gathered.
-  pub before-frame : (m : Moment) (p : ℕ) (nx nx′ : ℕ → ℕ) → Served r p nx nx′ → Apart r nx′ → Before r m nx → Begun? r (framed r p (nx p) m) nx′
-  before-frame m p nx nx′ s apart o =
-      rw (then-is m nx o p (s .below))
-      (look m nx o p (s .below) nx′ (s .next) (s .others) (m .answers ++ (taken m nx o p (s .below) .answer ∷ [])) apart
-      (begins (groupAt (rows-then m nx o p (s .below))) (rows-then m nx o p (s .below)) (r .ports)) refl)
+  pub before-frame : (m : Moment) (p : ℕ) (coming coming′ : ℕ → ℕ) → Served r p coming coming′ → Apart r coming′ → Before r m coming → Begun? r (framed r p (coming p) m) coming′
+  before-frame m p coming coming′ s apart o =
+      rw (then-is m coming o p (s .below))
+      (look m coming o p (s .below) coming′ (s .next) (s .others) (m .answers ++ (taken m coming o p (s .below) .answer ∷ [])) apart
+      (begins (groupAt (rows-then m coming o p (s .below))) (rows-then m coming o p (s .below)) (r .ports)) refl)

@@ -17,60 +17,59 @@ use Rattle.step.specs.Arrival.{flagOf, inStep, readable}
 use Rattle.store.specs.Laws.Marks.{first-mark}
 use Rattle.store.specs.Marks.{firstMark}
 use Rattle.link.specs.Laws.Lists.{every-lacks}
-use Rattle.link.specs.Laws.Numbers.{ranges}
-use Rattle.link.specs.Road.{Fair, Road}
+use Rattle.link.specs.Road.{Fair, L, Road, sizes-in}
 use Rattle.link.specs.Running.{Moment}
-use Rattle.link.specs.Standing.{L, Open, Owes}
+use Rattle.link.specs.Standing.{Open, Owes}
 use Rattle.link.specs.Transport.Heard.{heard-in-step}
 
 -- no port owes a frame of epoch i
-abbrev pub AllCome : (r : Road) (nx : ℕ → ℕ) (i : ℕ) → Type 0
-AllCome r nx i = (p : ℕ) → p < r .ports → i * L r + L r ≤ nx p
+abbrev pub AllCome : (r : Road) (coming : ℕ → ℕ) (i : ℕ) → Type 0
+AllCome r coming i = (p : ℕ) → p < r .ports → i * L r + L r ≤ coming p
 
-pub owes-or-come : (r : Road) (nx : ℕ → ℕ) (i : ℕ) → Owes r nx i ⊎ AllCome r nx i
-owes-or-come r nx i = go (every (r .ports) (λ p. leb (i * L r + L r) (nx p))) refl
+pub owes-or-come : (r : Road) (coming : ℕ → ℕ) (i : ℕ) → Owes r coming i ⊎ AllCome r coming i
+owes-or-come r coming i = go (every (r .ports) (λ p. leb (i * L r + L r) (coming p))) refl
   where
-    go : (b : Bool) → every (r .ports) (λ p. leb (i * L r + L r) (nx p)) ≡ b → Owes r nx i ⊎ AllCome r nx i
-    go true e = inr (λ p b. leb-true (i * L r + L r) (nx p) (every-at (r .ports) (λ q. leb (i * L r + L r) (nx q)) e p b))
+    go : (b : Bool) → every (r .ports) (λ p. leb (i * L r + L r) (coming p)) ≡ b → Owes r coming i ⊎ AllCome r coming i
+    go true e = inr (λ p b. leb-true (i * L r + L r) (coming p) (every-at (r .ports) (λ q. leb (i * L r + L r) (coming q)) e p b))
     go false e =
-        let o = every-lacks (r .ports) (λ p. leb (i * L r + L r) (nx p)) e in
-        inl (record { port = o .at; below = o .below; owes = leb-false (i * L r + L r) (nx (o .at)) (o .fails) })
+        let o = every-lacks (r .ports) (λ p. leb (i * L r + L r) (coming p)) e in
+        inl (record { port = o .at; below = o .below; owes = leb-false (i * L r + L r) (coming (o .at)) (o .fails) })
 
-module _ (r : Road) (fair : Fair r) (m : Moment) (nx : ℕ → ℕ) (i : ℕ) (o : Open r m nx i) where
+module _ (r : Road) (fair : Fair r) (m : Moment) (coming : ℕ → ℕ) (i : ℕ) (o : Open r m coming i) where
   pub all-read : (p : ℕ) → p < r .ports → readable (groupAt (m .rows)) (stepAt (m .rows) p) ≡ true
   unfolding readable inStep
   all-read p b =
-      rw (o .begun, o .lined .kind-is, heard-in-step r p (nx p) (stepAt (m .rows) p) (o .lined .heard p b) (o .in-step p b), o .since p b)
+      rw (o .begun, o .lined .kind-is, heard-in-step r p (coming p) (stepAt (m .rows) p) (o .lined .heard p b) (o .in-step p b), o .since p b)
       (or-right (flagOf (stepAt (m .rows) p .joined)) true refl)
 
-  first-come : (p : ℕ) → p < r .ports → firstMark (marksAt (m .rows) p) ≡ leb (i * L r + L r) (nx p)
+  first-come : (p : ℕ) → p < r .ports → firstMark (marksAt (m .rows) p) ≡ leb (i * L r + L r) (coming p)
   first-come p b =
       let e : i * L r + (0 + 1) * L r ≡ i * L r + L r = omega arith in
       first-mark (marksAt (m .rows) p) ∙ o .marks p 0 b (omega arith) ∙ rw e refl
 
-  pub first-all : AllCome r nx i → (p : ℕ) → p < r .ports → firstMark (marksAt (m .rows) p) ≡ true
-  first-all all p b = first-come p b ∙ le-leb (i * L r + L r) (nx p) (all p b)
+  pub first-all : AllCome r coming i → (p : ℕ) → p < r .ports → firstMark (marksAt (m .rows) p) ≡ true
+  first-all all p b = first-come p b ∙ le-leb (i * L r + L r) (coming p) (all p b)
 
-  lets-is : (p : ℕ) → p < r .ports → lets (groupAt (m .rows)) (stepAt (m .rows) p) (marksAt (m .rows) p) ≡ leb (i * L r + L r) (nx p)
+  lets-is : (p : ℕ) → p < r .ports → lets (groupAt (m .rows)) (stepAt (m .rows) p) (marksAt (m .rows) p) ≡ leb (i * L r + L r) (coming p)
   unfolding lets
   lets-is p b =
-      rw (all-read p b, o .later p b, first-come p b, and-false (flagOf (stepAt (m .rows) p .joined)), or-false (leb (i * L r + L r) (nx p))) refl
+      rw (all-read p b, o .later p b, first-come p b, and-false (flagOf (stepAt (m .rows) p .joined)), or-false (leb (i * L r + L r) (coming p))) refl
 
-  brought-is : brought (groupAt (m .rows)) (m .rows) (r .ports) ≡ every (r .ports) (λ p. leb (i * L r + L r) (nx p))
+  brought-is : brought (groupAt (m .rows)) (m .rows) (r .ports) ≡ every (r .ports) (λ p. leb (i * L r + L r) (coming p))
   unfolding brought
   brought-is =
-      every-ext (r .ports) (λ p. lets (groupAt (m .rows)) (stepAt (m .rows) p) (marksAt (m .rows) p)) (λ p. leb (i * L r + L r) (nx p)) lets-is
+      every-ext (r .ports) (λ p. lets (groupAt (m .rows)) (stepAt (m .rows) p) (marksAt (m .rows) p)) (λ p. leb (i * L r + L r) (coming p)) lets-is
 
-  pub brought-not : Owes r nx i → brought (groupAt (m .rows)) (m .rows) (r .ports) ≡ false
+  pub brought-not : Owes r coming i → brought (groupAt (m .rows)) (m .rows) (r .ports) ≡ false
   brought-not w =
-      brought-is ∙ every-fails (r .ports) (λ p. leb (i * L r + L r) (nx p)) (w .port) (w .below) (lt-leb (i * L r + L r) (nx (w .port)) (w .owes))
+      brought-is ∙ every-fails (r .ports) (λ p. leb (i * L r + L r) (coming p)) (w .port) (w .below) (lt-leb (i * L r + L r) (coming (w .port)) (w .owes))
 
-  pub brought-all : AllCome r nx i → brought (groupAt (m .rows)) (m .rows) (r .ports) ≡ true
+  pub brought-all : AllCome r coming i → brought (groupAt (m .rows)) (m .rows) (r .ports) ≡ true
   brought-all all =
-      brought-is ∙ every-all (r .ports) (λ p. leb (i * L r + L r) (nx p)) (λ p b. le-leb (i * L r + L r) (nx p) (all p b))
+      brought-is ∙ every-all (r .ports) (λ p. leb (i * L r + L r) (coming p)) (λ p b. le-leb (i * L r + L r) (coming p) (all p b))
 
   pub not-silent : silent (groupAt (m .rows)) (m .rows) (r .ports) ≡ false
   unfolding silent
   not-silent =
-      let s = ranges (r .kind) (r .ports) (r .payload) (r .window) (fair .sizes) in
+      let s = sizes-in r fair in
       every-fails (r .ports) _ 0 (s .some-ports) (rw (all-read 0 (s .some-ports)) refl)

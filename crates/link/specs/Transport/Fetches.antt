@@ -1,19 +1,18 @@
 -- Fetches after the beginning: none is due while a port owes a frame of the oldest epoch, and otherwise the epoch is told as its contents say.
 use mathlib.Core.Path.{_≡_, refl, sym, ap, _∙_}
-use mathlib.Core.Logic.{_⊎_, inl, inr, ⊎-elim, _≢_}
+use mathlib.Core.Logic.{_≢_}
 use mathlib.Core.Bool.{Bool, true, false, cond, or-true}
 use mathlib.Core.List.{List, []}
 use Prim.Native.Nat.{ℕ, zero, suc, _+_, _-_, _*_, _/_, _%_, _≤_, _<_}
 use native.Mathlib.Omega.{arith}
 use lib.Dec.{eqb, ltb}
 use lib.ListN.{getD, length, replicate, take}
-use borrow.Author.Tests.{eq-eqb, le-leb, lt-ltb, ltb-false, ltb-true, ne-eqb}
+use borrow.Author.Tests.{eq-eqb, le-leb, lt-ltb, ltb-true}
 use Rattle.ground.specs.Drawn.{drawn-by}
 use Rattle.ground.specs.Table.{tabulate, tabulate-suc}
 use Rattle.judge.specs.declared.order.Order.{Order}
 use Rattle.judge.specs.declared.seen.Seen.{Seen}
 use Rattle.judge.specs.Order.{orderOf}
-use Rattle.judge.specs.Seen.{sizeOf}
 use Rattle.judge.specs.Theorems.Ranks.{active-le}
 use Rattle.judge.specs.Verdict.{HELD, doubtfulBy, heldBy, judgeOf}
 use Rattle.packet.specs.Kinds.{frames}
@@ -21,35 +20,27 @@ use Rattle.phases.specs.Due.{brought}
 use Rattle.phases.specs.Laws.Lengths.{length-passed}
 use Rattle.phases.specs.Passing.{passedOf}
 use Rattle.phases.specs.Sizes.{storeFor}
-use Rattle.receiver.specs.Fetch.{dueIn, fetchOut, fetchRecord, fetchRows, fits, givenOut, givenReport, givenRows, recordOf, fetchAnswer}
+use Rattle.receiver.specs.Fetch.{dueIn, fetchAnswer, fetchOut, fetchRecord, fetchRows, fits, givenOut, givenReport, givenRows, recordOf}
+use Rattle.receiver.specs.Laws.Sizes.{size-is}
 use Rattle.receiver.specs.Lengths.{fetchFits, outputFor, rowsFit}
-use Rattle.receiver.specs.Report.{framesInto, outputBy, outputOf, reportBy, reportOf, reportedOf, rulingEpoch, seenAll, seenOf, toldOf}
+use Rattle.receiver.specs.Report.{framesInto, noSeen, outputBy, outputOf, reportBy, reportOf, reportedOf, rulingEpoch, seenAll, seenOf, toldOf}
 use Rattle.rows.specs.declared.group.Group.{Group}
 use Rattle.rows.specs.Group.{groupAt}
 use Rattle.rows.specs.Rows.{rowsFor}
 use Rattle.store.specs.Laws.Stands.{Stands}
-use Rattle.link.specs.Contents.{allSeenAfter, framesFrom, noSeen, numberOf, reportAfter, seenAfter}
-use Rattle.link.specs.Laws.Epochs.{count-fits, epoch-before, epoch-first}
-use Rattle.link.specs.Laws.Numbers.{ranges}
-use Rattle.link.specs.Road.{Fair, Road}
+use Rattle.link.specs.Contents.{allSeenAfter, framesFrom, numberOf, reportAfter, seenAfter}
+use Rattle.link.specs.Laws.Numbers.{count-fits, epoch-before, epoch-first}
+use Rattle.link.specs.Road.{Fair, L, Road, sizes-in}
 use Rattle.link.specs.Running.{Moment, drained, fetched, recordAt, toldBy}
-use Rattle.link.specs.Standing.{L, Later, Lined, Owes}
+use Rattle.link.specs.Standing.{Later, Lined, Owes}
 use Rattle.link.specs.Told.{Told}
-use Rattle.link.specs.Transport.Alike.{alike-told, gathered-told, open-alike, packets-told}
 use Rattle.link.specs.Transport.Bytes.{frames-taken}
 use Rattle.link.specs.Transport.Call.{ports-are}
-use Rattle.link.specs.Transport.Due.{AllCome, brought-all, brought-not, first-all, owes-or-come}
+use Rattle.link.specs.Transport.Due.{AllCome, brought-all, brought-not, first-all}
 use Rattle.link.specs.Transport.Passed.{gathered-now, joined-kept, open-passed, passed-to, ruling-now, whole-now}
+use Rattle.link.specs.Transport.StaysOpen.{gathered-told, open-stays, ruling-told, window-told}
 
 -- The numbers of a report.
-
--- of 64 ports at most
-size-is : (n : ℕ) → n ≤ 64 → sizeOf n ≡ n
-size-is n h = go (ltb n 64) refl
-  where
-    go : (b : Bool) → ltb n 64 ≡ b → cond b n 64 ≡ n
-    go true e = refl
-    go false e = let w = ltb-false n 64 e in omega arith
 
 by-bytes : (a b c d m q n : ℕ) → n ≡ m * 256 + d → m ≡ q * 256 + c → q ≡ a * 256 + b → a * 16777216 + b * 65536 + c * 256 + d ≡ n
 by-bytes a b c d m q n x y z = omega arith
@@ -86,7 +77,7 @@ fetched-answers r m = refl
 
 module _ (r : Road) (fair : Fair r) where
   -- A fetch is not refused.
-  module _ (m : Moment) (nx : ℕ → ℕ) (l : Lined r m nx) where
+  module _ (m : Moment) (coming : ℕ → ℕ) (l : Lined r m coming) where
     abbrev pub outOf : List ℕ
     outOf = r .output (length (m .told))
 
@@ -94,7 +85,7 @@ module _ (r : Road) (fair : Fair r) where
     unfolding fits fetchFits rowsFit storeFor outputFor
     fits-now =
         rw (
-          ports-are r fair m nx l,
+          ports-are r fair m coming l,
           eq-eqb (length (m .rows)) (rowsFor (r .ports)) (l .rows-long),
           l .payload-is,
           l .window-is,
@@ -112,23 +103,18 @@ module _ (r : Road) (fair : Fair r) where
     -- none due
     mark-none : dueIn (groupAt (m .rows)) (r .ports) (m .rows) ≡ false → getD (recordAt r m) 0 0 ≡ 0
     unfolding fetchRecord givenReport recordOf
-    mark-none e = rw (fits-now, ports-are r fair m nx l, e) refl
-
-    drained-none : dueIn (groupAt (m .rows)) (r .ports) (m .rows) ≡ false → (k : ℕ) → drained r k m ≡ m
-    unfolding drained
-    drained-none e zero = refl
-    drained-none e (suc k) = rw (mark-none e) refl
+    mark-none e = rw (fits-now, ports-are r fair m coming l, e) refl
 
   some-due : ltb 0 (r .ports) ≡ true
   some-due =
-      let s = ranges (r .kind) (r .ports) (r .payload) (r .window) (fair .sizes) in
+      let s = sizes-in r fair in
       lt-ltb 0 (r .ports) (s .some-ports)
 
-  module _ (m : Moment) (nx : ℕ → ℕ) (j i : ℕ) (o : Later r m nx j i) where
+  module _ (m : Moment) (coming : ℕ → ℕ) (j i : ℕ) (o : Later r m coming j i) where
     abbrev g : Group
     g = groupAt (m .rows)
 
-    abbrev lined : Lined r m nx
+    abbrev lined : Lined r m coming
     lined = o .open-at .lined
 
     due-is : dueIn g (r .ports) (m .rows) ≡ brought g (m .rows) (r .ports)
@@ -136,16 +122,13 @@ module _ (r : Road) (fair : Fair r) where
     due-is = rw (some-due, o .open-at .begun, o .gathered) refl
 
     -- a port owes a frame of the oldest epoch
-    pub owed-mark : Owes r nx (suc i) → getD (recordAt r m) 0 0 ≡ 0
-    owed-mark w = mark-none m nx lined (due-is ∙ brought-not r fair m nx (suc i) (o .open-at) w)
-
-    pub owed-drained : Owes r nx (suc i) → (k : ℕ) → drained r k m ≡ m
-    owed-drained w k = drained-none m nx lined (due-is ∙ brought-not r fair m nx (suc i) (o .open-at) w) k
+    pub owed-mark : Owes r coming (suc i) → getD (recordAt r m) 0 0 ≡ 0
+    owed-mark w = mark-none m coming lined (due-is ∙ brought-not r fair m coming (suc i) (o .open-at) w)
 
     -- none does
-    module _ (all : AllCome r nx (suc i)) where
+    module _ (all : AllCome r coming (suc i)) where
       due-now : dueIn g (r .ports) (m .rows) ≡ true
-      due-now = due-is ∙ brought-all r fair m nx (suc i) (o .open-at) all
+      due-now = due-is ∙ brought-all r fair m coming (suc i) (o .open-at) all
 
       ruled-by : rulingEpoch g ≡ numberOf r i
       unfolding rulingEpoch numberOf
@@ -153,16 +136,16 @@ module _ (r : Road) (fair : Fair r) where
 
       seen-one : (p : ℕ) → p < r .ports → seenOf g (m .rows) p ≡ seenAfter r i p
       unfolding seenOf seenAfter
-      seen-one p b = rw (ruled-by, lined .kind-is, o .ruling p b, o .whole p b, first-all r fair m nx (suc i) (o .open-at) all p b) refl
+      seen-one p b = rw (ruled-by, lined .kind-is, o .ruling p b, o .whole p b, first-all r fair m coming (suc i) (o .open-at) all p b) refl
 
       few : r .ports ≤ 64
-      few = ranges (r .kind) (r .ports) (r .payload) (r .window) (fair .sizes) .few-ports
+      few = sizes-in r fair .few-ports
 
       seen-is : seenAll g (m .rows) (r .ports) ≡ allSeenAfter r i
       unfolding seenAll allSeenAfter
       seen-is =
           rw (size-is (r .ports) few)
-          (drawn-by (λ k. ltb k (r .ports)) (λ k. ltb k (r .ports)) (seenOf g (m .rows)) (seenAfter r i) (replicate 64 (noSeen r)) (λ k b. refl)
+          (drawn-by (λ k. ltb k (r .ports)) (λ k. ltb k (r .ports)) (seenOf g (m .rows)) (seenAfter r i) (replicate 64 noSeen) (λ k b. refl)
           (λ k b t. seen-one k (ltb-true k (r .ports) t)))
 
       abbrev seen : List Seen
@@ -176,15 +159,15 @@ module _ (r : Road) (fair : Fair r) where
 
       record-is : recordAt r m ≡ recordOf (reportBy g mark order)
       unfolding fetchRecord givenReport reportOf
-      record-is = rw (fits-now m nx lined, ports-are r fair m nx lined, due-now, seen-is, size-is (r .ports) few) refl
+      record-is = rw (fits-now m coming lined, ports-are r fair m coming lined, due-now, seen-is, size-is (r .ports) few) refl
 
-      out-is : fetchOut (m .rows) (m .store) (outOf m nx lined) (replicate 8 0) ≡ outputBy g mark order (m .store) (outOf m nx lined)
+      out-is : fetchOut (m .rows) (m .store) (outOf m coming lined) (replicate 8 0) ≡ outputBy g mark order (m .store) (outOf m coming lined)
       unfolding fetchOut givenOut outputOf
-      out-is = rw (fits-now m nx lined, ports-are r fair m nx lined, due-now, seen-is, size-is (r .ports) few) refl
+      out-is = rw (fits-now m coming lined, ports-are r fair m coming lined, due-now, seen-is, size-is (r .ports) few) refl
 
-      rows-are : fetchRows (m .rows) (m .store) (outOf m nx lined) (replicate 8 0) ≡ reportedOf g (m .store) (r .ports) (m .rows)
+      rows-are : fetchRows (m .rows) (m .store) (outOf m coming lined) (replicate 8 0) ≡ reportedOf g (m .store) (r .ports) (m .rows)
       unfolding fetchRows givenRows
-      rows-are = rw (fits-now m nx lined, ports-are r fair m nx lined, due-now) refl
+      rows-are = rw (fits-now m coming lined, ports-are r fair m coming lined, due-now) refl
 
       mark-told : getD (recordAt r m) 0 0 ≡ mark
       unfolding recordOf reportBy
@@ -211,9 +194,9 @@ module _ (r : Road) (fair : Fair r) where
           go false = x-few
 
           most : g .payload ≤ 2340
-          most = rw (lined .payload-is) (ranges (r .kind) (r .ports) (r .payload) (r .window) (fair .sizes) .few-bytes)
+          most = rw (lined .payload-is) (sizes-in r fair .few-bytes)
 
-      bytes-told : take (X * frames (g .kind) * g .payload) (outputBy g mark order (m .store) (outOf m nx lined)) ≡ reportAfter r i .bytes
+      bytes-told : take (X * frames (g .kind) * g .payload) (outputBy g mark order (m .store) (outOf m coming lined)) ≡ reportAfter r i .bytes
       unfolding outputBy reportAfter
       bytes-told = go (eqb mark HELD)
         where
@@ -224,18 +207,18 @@ module _ (r : Road) (fair : Fair r) where
               rw e at (o .open-at .stands p (suc i * L r + k) b (omega arith) (omega arith))
 
           go : (b : Bool)
-              → take (cond b 0 (order .x) * frames (g .kind) * g .payload) (cond b (outOf m nx lined) (framesInto g order (m .store) (frames (g .kind)) (outOf m nx lined)))
+              → take (cond b 0 (order .x) * frames (g .kind) * g .payload) (cond b (outOf m coming lined) (framesInto g order (m .store) (frames (g .kind)) (outOf m coming lined)))
               ≡ cond b [] (framesFrom r seen (suc i * L r) (L r))
           go true = let z : 0 * frames (g .kind) * g .payload ≡ 0 = omega arith in rw z refl
           go false =
               let e : order .x * frames (g .kind) * g .payload ≡ frames (g .kind) * (order .x * g .payload) = omega arith in
               let same : frames (g .kind) ≡ L r = ap frames (lined .kind-is) in
               rw (e, same)
-              (frames-taken r fair g (lined .payload-is) (lined .window-is) (m .store) (lined .store-long) (suc i * L r) all-stand seen (outOf m nx lined)
-              (fair .room (length (m .told))) (L r) (omega arith))
+              (frames-taken r fair g (lined .kind-is) (lined .payload-is) (lined .window-is) (m .store) (lined .store-long) (suc i * L r) all-stand seen (outOf m coming lined)
+              (fair .room (length (m .told))))
 
       -- exactly the report that the contents give
-      told-is : toldBy r (recordAt r m) (fetchOut (m .rows) (m .store) (outOf m nx lined) (replicate 8 0)) ≡ reportAfter r i
+      told-is : toldBy r (recordAt r m) (fetchOut (m .rows) (m .store) (outOf m coming lined) (replicate 8 0)) ≡ reportAfter r i
       unfolding reportAfter
       told-is = told-same _ (reportAfter r i) epoch-told mark-told (rw (count-told, out-is) bytes-told)
 
@@ -259,45 +242,27 @@ module _ (r : Road) (fair : Fair r) where
       unfolding fetched
       store-now = refl
 
-      pub later-fetched : Later r (fetched r m) nx j (suc i)
+      pub later-fetched : Later r (fetched r m) coming j (suc i)
       later-fetched =
           let long : length (m .rows) ≡ rowsFor (r .ports) = lined .rows-long in
-          let some : 0 < length (mid .rows) = rw (length-passed g (m .store) (r .ports) (m .rows)) (omega arith) in
+          let enough : rowsFor (r .ports) ≤ length (mid .rows) = rw (length-passed g (m .store) (r .ports) (m .rows)) (omega arith) in
           let t = passed-to r m mid long refl refl in
           let here = o .open-at in
           let c = o .come in
-          let a = alike-told r mid (fetched r m) some rows-now store-now in
+          let a = window-told r mid (fetched r m) enough rows-now store-now in
           record {
-            open-at = open-alike r mid (fetched r m) nx (suc (suc i)) a (open-passed r fair m mid nx (suc i) here t all);
-            gathered = gathered-told r mid (fetched r m) some rows-now store-now ∙ gathered-now r fair m mid nx (suc i) here t all;
+            open-at = open-stays r mid (fetched r m) coming (suc (suc i)) a (open-passed r fair m mid coming (suc i) here t all);
+            gathered = gathered-told r mid (fetched r m) enough rows-now store-now ∙ gathered-now r fair m mid coming (suc i) here t all;
             come = omega arith;
             within = λ p b. let h = all p b in omega arith;
-            joined = λ p b. rw (a .steps p) (joined-kept r fair m mid nx (suc i) here t all p b ∙ o .joined p b);
-            whole = λ p b. rw (a .steps p) (whole-now r fair m mid nx (suc i) here t all p b);
-            ruling = λ p b. rw (packets-told r mid (fetched r m) some rows-now store-now p) (ruling-now r fair m mid nx (suc i) here t all p b);
+            joined = λ p b. rw (a .steps p b) (joined-kept r fair m mid coming (suc i) here t all p b ∙ o .joined p b);
+            whole = λ p b. rw (a .steps p b) (whole-now r fair m mid coming (suc i) here t all p b);
+            ruling = λ p b. rw (ruling-told r mid (fetched r m) enough rows-now store-now p b) (ruling-now r fair m mid coming (suc i) here t all p b);
             told = told-now;
           }
 
       pub due-mark : getD (recordAt r m) 0 0 ≢ 0
       due-mark e = mark-some seen (r .ports) (sym mark-told ∙ e)
-
-      pub due-drained : (k : ℕ) → drained r (suc k) m ≡ drained r k (fetched r m)
-      unfolding drained
-      due-drained k = rw (ne-eqb (getD (recordAt r m) 0 0) 0 due-mark) refl
-
-  -- Where no port is two epochs ahead of all that is told, at most one report is due, and then none.
-
-  pub later-drained : (m : Moment) (nx : ℕ → ℕ) (j i : ℕ) → Later r m nx j i → Owes r nx (suc (suc i)) → (k : ℕ) → 2 ≤ k
-      → (Later r (drained r k m) nx j i × Owes r nx (suc i)) ⊎ (Later r (drained r k m) nx j (suc i) × Owes r nx (suc (suc i)))
-  later-drained m nx j i o w zero h = absurd (omega arith)
-  later-drained m nx j i o w (suc zero) h = absurd (omega arith)
-  later-drained m nx j i o w (suc (suc k)) h =
-      ⊎-elim
-      (λ (v : Owes r nx (suc i)). inl (rw (owed-drained m nx j i o v (suc (suc k))) (o, v)))
-      (λ (all : AllCome r nx (suc i)).
-      let n = later-fetched m nx j i o all in
-      inr (rw (due-drained m nx j i o all (suc k), owed-drained (fetched r m) nx j (suc i) n w (suc k)) (n, w)))
-      (owes-or-come r nx (suc i))
 
   -- fetches answer no frame
   pub drained-answers : (k : ℕ) (m : Moment) → drained r k m .answers ≡ m .answers

@@ -1,25 +1,24 @@
 -- What the step rule knows of a port, frame by frame.
 use mathlib.Core.Path.{_≡_, refl, _∙_, sym, ap}
-use mathlib.Core.Logic.{⊎-elim, _≢_}
-use mathlib.Core.Bool.{true, false, false≢true}
+use mathlib.Core.Logic.{⊎-elim}
+use mathlib.Core.Bool.{true, false}
 use Prim.Native.Nat.{ℕ, _+_, _-_, _*_, _≤_, _<_}
 use native.Mathlib.Omega.{arith}
 use lib.Dec.{leb}
 use borrow.Author.Tests.{le-leb, le-ltb, lt-leb, lt-ltb}
 use Rattle.ground.specs.Truth.{le-or-lt}
-use Rattle.packet.specs.Kinds.{epochsIn, frames}
+use Rattle.packet.specs.Kinds.{epochsIn}
 use Rattle.packet.specs.Theorems.Tags.{tagOf}
 use Rattle.rows.specs.declared.group.Group.{Group}
 use Rattle.rows.specs.declared.step.Step.{Step}
-use Rattle.step.specs.declared.arrival.Taken.{Taken}
+use Rattle.step.specs.Arrival.{advanced, aside, countsOn, joinedAt, joining, keeps, lost, runOf}
 use Rattle.step.specs.declared.run.Run.{Run}
-use Rattle.step.specs.Arrival.{advanced, aside, countsOn, distanceIn, joinedAt, joining, keeps, lost, outside, runOf, takenOf}
-use Rattle.step.specs.Laws.Arrival.{ranOn, taken-by}
+use Rattle.step.specs.Laws.Arrival.{ranOn}
 use Rattle.step.specs.Laws.Run.{run-goes, run-in-step, run-next, run-short, run-starts, runAt, start-from, startFrom}
 use Rattle.step.specs.Laws.Sent.{SentWith}
 use Rattle.step.specs.Run.{inStepAt, runOn}
 use Rattle.link.specs.Laws.Numbers.{frames-run}
-use Rattle.link.specs.Road.{Fair, Road}
+use Rattle.link.specs.Road.{Fair, L, Road}
 use Rattle.link.specs.Standing.{Heard, heardRun}
 
 module _ (r : Road) where
@@ -48,33 +47,33 @@ module _ (r : Road) where
 
   -- In step from the second multiframe on, and then with the tag of the position.
 
-  pub heard-in-step : (p x : ℕ) (s : Step) → Heard r p x s → runFrom p + frames (r .kind) * 2 ≤ x → inStepAt (r .kind) (s .count) ≡ true
+  pub heard-in-step : (p x : ℕ) (s : Step) → Heard r p x s → runFrom p + L r * 2 ≤ x → inStepAt (r .kind) (s .count) ≡ true
   heard-in-step p x s o far =
       let a = from-first p in
       let n = frames-run (r .kind) in
       run-in-step (r .kind) (r .offset) (runFrom p) (x - 1) (runOf s) (heard-run p x s o (omega arith)) (omega arith)
 
-  pub heard-short : (p x : ℕ) (s : Step) → Heard r p x s → x < runFrom p + frames (r .kind) * 2 → inStepAt (r .kind) (s .count) ≡ false
+  pub heard-short : (p x : ℕ) (s : Step) → Heard r p x s → x < runFrom p + L r * 2 → inStepAt (r .kind) (s .count) ≡ false
   unfolding inStepAt
   heard-short p x s o near =
       ⊎-elim
       (λ (e : x ≤ r .first p).
       let none : s .count ≡ 0 = ap (λ (q : Run). q .count) (o .run ∙ heard-none p x e) in
       let n = frames-run (r .kind) in
-      rw none (lt-leb (frames (r .kind) * 2) 0 (omega arith)))
+      rw none (lt-leb (L r * 2) 0 (omega arith)))
       (λ (late : r .first p < x).
       run-short (r .kind) (r .offset) (runFrom p) (x - 1) (runOf s) (heard-run p x s o late) (omega arith))
       (le-or-lt x (r .first p))
 
-  pub heard-test : (p x : ℕ) (s : Step) → Heard r p x s → inStepAt (r .kind) (s .count) ≡ leb (runFrom p + frames (r .kind) * 2) x
+  pub heard-test : (p x : ℕ) (s : Step) → Heard r p x s → inStepAt (r .kind) (s .count) ≡ leb (runFrom p + L r * 2) x
   heard-test p x s o =
       ⊎-elim
-      (λ (far : runFrom p + frames (r .kind) * 2 ≤ x).
-      heard-in-step p x s o far ∙ sym (le-leb (runFrom p + frames (r .kind) * 2) x far))
-      (λ (near : x < runFrom p + frames (r .kind) * 2). heard-short p x s o near ∙ sym (lt-leb (runFrom p + frames (r .kind) * 2) x near))
-      (le-or-lt (runFrom p + frames (r .kind) * 2) x)
+      (λ (far : runFrom p + L r * 2 ≤ x).
+      heard-in-step p x s o far ∙ sym (le-leb (runFrom p + L r * 2) x far))
+      (λ (near : x < runFrom p + L r * 2). heard-short p x s o near ∙ sym (lt-leb (runFrom p + L r * 2) x near))
+      (le-or-lt (runFrom p + L r * 2) x)
 
-  pub heard-next : (p x : ℕ) (s : Step) → Heard r p x s → runFrom p + frames (r .kind) * 2 ≤ x → s .next ≡ tagOf (r .kind) (r .offset + x)
+  pub heard-next : (p x : ℕ) (s : Step) → Heard r p x s → runFrom p + L r * 2 ≤ x → s .next ≡ tagOf (r .kind) (r .offset + x)
   heard-next p x s o far =
       let a = from-first p in
       let n = frames-run (r .kind) in
@@ -137,16 +136,3 @@ module _ (r : Road) where
       pub heard-joining : (d : ℕ) → Heard r p (x + 1) (joining g s (ranOn g s (r .h4 p x)) d .step)
       unfolding joining run
       heard-joining d = heard-on p x s (joinedAt s run (epochsIn (g .kind) d)) b o refl refl run-is
-
-      -- and so by every frame that is not outside the window
-      pub heard-taken : takenOf g s false (r .h4 p x) .answer ≢ 11 → Heard r p (x + 1) (takenOf g s false (r .h4 p x) .step)
-      unfolding outside
-      heard-taken =
-          taken-by (λ (t : Taken). t .answer ≢ 11 → Heard r p (x + 1) (t .step)) g s false (r .h4 p x)
-          (λ e n. absurd (false≢true e))
-          (λ e a n. heard-counts)
-          (λ e a c n. heard-aside)
-          (λ e a c j w n. heard-keeps (distanceIn g (s .next)))
-          (λ e a c j w n. absurd (n refl))
-          (λ e a c j w d n. heard-joining (distanceIn g (s .next)))
-          (λ e a c j w n. heard-aside)

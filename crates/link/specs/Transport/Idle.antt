@@ -1,16 +1,15 @@
 -- Fetches that find none due: before the beginning, and while the first epoch is gathered.
-use mathlib.Core.Path.{_≡_, refl, _∙_, ap}
+use mathlib.Core.Path.{_≡_, refl}
 use mathlib.Core.Bool.{Bool, true, false, cond, not, _&&_, and-false}
 use mathlib.Core.List.{List}
-use Prim.Native.Nat.{ℕ, suc}
+use Prim.Native.Nat.{ℕ}
 use lib.Dec.{eqb, ltb}
 use lib.ListN.{getD, length, replicate}
 use borrow.Author.Tests.{eq-eqb}
-use Rattle.phases.specs.Due.{brought}
 use Rattle.phases.specs.Sizes.{portsIn}
-use Rattle.receiver.specs.Fetch.{dueIn, fetchRecord, fits, givenReport, noneDue, recordOf}
-use Rattle.rows.specs.Group.{groupAt}
+use Rattle.receiver.specs.Fetch.{dueIn, fetchRecord, fits, givenReport, recordOf}
 use Rattle.rows.specs.declared.group.Group.{Group}
+use Rattle.rows.specs.Group.{groupAt}
 use Rattle.link.specs.Road.{Road}
 use Rattle.link.specs.Running.{Moment, recordAt}
 use Rattle.link.specs.Standing.{Before, First}
@@ -32,8 +31,8 @@ none-due s store out e = go (fits s store out (replicate 8 0))
     go false = refl
 
 module _ (r : Road) where
-  pub before-none : (m : Moment) (nx : ℕ → ℕ) → Before r m nx → getD (recordAt r m) 0 0 ≡ 0
-  before-none m nx b = none-due (m .rows) (m .store) (r .output (length (m .told))) (not-begun (groupAt (m .rows)) (portsIn (groupAt (m .rows))) (m .rows) (b .begun))
+  pub before-none : (m : Moment) (coming : ℕ → ℕ) → Before r m coming → getD (recordAt r m) 0 0 ≡ 0
+  before-none m coming b = none-due (m .rows) (m .store) (r .output (length (m .told))) (not-begun (groupAt (m .rows)) (portsIn (groupAt (m .rows))) (m .rows) (b .begun))
 
-  pub first-none : (m : Moment) (i : ℕ) (nx : ℕ → ℕ) → First r m nx i → getD (recordAt r m) 0 0 ≡ 0
-  first-none m i nx b = none-due (m .rows) (m .store) (r .output (length (m .told))) (not-gathered (groupAt (m .rows)) (portsIn (groupAt (m .rows))) (m .rows) (b .gathered))
+  pub first-none : (m : Moment) (i : ℕ) (coming : ℕ → ℕ) → First r m coming i → getD (recordAt r m) 0 0 ≡ 0
+  first-none m i coming b = none-due (m .rows) (m .store) (r .output (length (m .told))) (not-gathered (groupAt (m .rows)) (portsIn (groupAt (m .rows))) (m .rows) (b .gathered))

@@ -1,13 +1,11 @@
 -- How far each port has come at a moment: in frame time t, with the ports of `rest` still to be served.
-use mathlib.Core.Path.{_≡_, refl, sym}
-use mathlib.Core.Logic.{_≢_}
+use mathlib.Core.Path.{_≡_, refl}
 use mathlib.Core.Bool.{Bool, true, false, cond}
 use mathlib.Core.List.{List, [], _∷_}
 use Prim.Native.Nat.{ℕ, suc, _+_, _-_, _≤_, _<_}
 use native.Mathlib.Omega.{arith}
 use lib.Dec.{eqb}
 use borrow.Author.Tests.{eq-eqb, ne-eqb, eqb-true}
-use Rattle.packet.specs.Kinds.{frames}
 use Rattle.link.specs.Moments.{nextAt}
 use Rattle.link.specs.Road.{Below, Fair, Road, times}
 use Rattle.link.specs.Transport.Steps.{Apart, Reach, Served}
@@ -27,12 +25,6 @@ module _ (r : Road) where
   -- the port that is served stands no second time in the list
   gone : (p : ℕ) (ps : List ℕ) → Rest (p ∷ ps) → times p ps ≡ 0
   gone p ps o = let w : cond (eqb p p) 1 0 + times p ps ≤ 1 = o .once p (o .all-below .0) in let v : 1 + times p ps ≤ 1 = rw (eq-eqb p p refl) at w in omega arith
-
-  here-one : (p : ℕ) (ps : List ℕ) → Rest (p ∷ ps) → times p (p ∷ ps) ≡ 1
-  here-one p ps o = rw (eq-eqb p p refl, gone p ps o) (omega arith)
-
-  other-same : (p q : ℕ) (ps : List ℕ) → q ≢ p → times q (p ∷ ps) ≡ times q ps
-  other-same p q ps d = rw (ne-eqb q p d) (omega arith)
 
   -- a port's turn with a frame
   pub served : (t p : ℕ) (ps : List ℕ) → Rest (p ∷ ps) → r .delay p + r .first p ≤ t → Served r p (nextAt r t (p ∷ ps)) (nextAt r t ps)

@@ -3,17 +3,18 @@ use mathlib.Core.Path.{_≡_, refl, sym, ap, _∙_}
 use mathlib.Core.Logic.{⊎-elim}
 use mathlib.Core.Bool.{Bool, true, cond}
 use mathlib.Core.List.{[]}
-use Prim.Native.Nat.{ℕ, suc, _+_, _-_, _*_, _%_, _≤_, _<_}
+use Prim.Native.Nat.{ℕ, suc, _+_, _-_, _*_, _≤_, _<_}
 use native.Mathlib.Omega.{arith}
 use lib.Dec.{leb}
 use lib.ListN.{getD, length}
 use borrow.Author.Tests.{lt-leb}
 use Rattle.ground.specs.Truth.{le-or-lt}
-use Rattle.packet.specs.Kinds.{epochAfter, firstTag, frames}
+use Rattle.packet.specs.Kinds.{firstTag, frames}
 use Rattle.packet.specs.Theorems.Tags.{epoch-fits, tagOf}
 use Rattle.phases.specs.Laws.Lengths.{length-passed}
 use Rattle.phases.specs.Laws.Passed.{passed-group, passed-marks-at, passed-of-port, passed-step-at}
 use Rattle.phases.specs.Passing.{passedGroup, passedOf, passedStep}
+use Rattle.receiver.specs.Laws.Passed.{origin-within, passed-begun, passed-count, passed-gathered, passed-kind, passed-oldest, passed-origin, passed-payload, passed-window, step-joined, step-later, step-since, step-whole}
 use Rattle.rows.specs.declared.group.Group.{Group}
 use Rattle.rows.specs.declared.step.Step.{Step}
 use Rattle.rows.specs.Group.{groupAt}
@@ -26,71 +27,16 @@ use Rattle.store.specs.Laws.Marks.{mark-beyond, mark-passed, sixteen-passed}
 use Rattle.store.specs.Laws.Stands.{Stands, packet-stands, stands-moved}
 use Rattle.store.specs.Marks.{firstMark, markIn, passedMarks}
 use Rattle.link.specs.Contents.{packetOf}
-use Rattle.link.specs.Laws.Epochs.{first-after, marks-enough, nibbles-in}
-use Rattle.link.specs.Laws.Numbers.{frames-some, ranges}
-use Rattle.link.specs.Laws.Ring.{ring-is, ring-lt}
-use Rattle.link.specs.Road.{Fair, Road}
+use Rattle.link.specs.Laws.Numbers.{first-after, frames-some, marks-enough, nibbles-in}
+use Rattle.link.specs.Road.{Fair, L, Road, sizes-in}
 use Rattle.link.specs.Running.{Moment}
-use Rattle.link.specs.Standing.{Heard, L, Lined, Open}
+use Rattle.link.specs.Standing.{Heard, Lined, Open}
 use Rattle.link.specs.Transport.Due.{AllCome, first-all}
 
 -- of a step that passes
 heard-passed : (r : Road) (p x : ℕ) (s : Step) (whole : Bool) → Heard r p x s → Heard r p x (passedStep s whole)
 unfolding passedStep
 heard-passed r p x s whole h = record { from = h .from; had = h .had; failed = h .failed; run = h .run }
-
-since-passed : (s : Step) (whole : Bool) → passedStep s whole .since ≡ s .since
-unfolding passedStep
-since-passed s whole = refl
-
-later-passed : (s : Step) (whole : Bool) → s .later ≡ 0 → passedStep s whole .later ≡ 0
-unfolding passedStep
-later-passed s whole e = rw e refl
-
-whole-passed : (s : Step) → passedStep s true .whole ≡ 1
-unfolding passedStep
-whole-passed s = refl
-
-joined-passed : (s : Step) (whole : Bool) → passedStep s whole .joined ≡ s .joined
-unfolding passedStep
-joined-passed s whole = refl
-
-module _ (g : Group) where
-  kind-passed : passedGroup g .kind ≡ g .kind
-  unfolding passedGroup
-  kind-passed = refl
-
-  count-passed : passedGroup g .count ≡ g .count
-  unfolding passedGroup
-  count-passed = refl
-
-  payload-passed : passedGroup g .payload ≡ g .payload
-  unfolding passedGroup
-  payload-passed = refl
-
-  window-passed : passedGroup g .window ≡ g .window
-  unfolding passedGroup
-  window-passed = refl
-
-  begun-passed : passedGroup g .begun ≡ g .begun
-  unfolding passedGroup
-  begun-passed = refl
-
-  gathered-passed : passedGroup g .gathered ≡ 1
-  unfolding passedGroup
-  gathered-passed = refl
-
-  oldest-passed : passedGroup g .oldest ≡ epochAfter (g .kind) (g .oldest)
-  unfolding passedGroup
-  oldest-passed = refl
-
-  origin-passed : 0 < g .window → passedGroup g .origin ≡ (g .origin + frames (g .kind)) % g .window
-  unfolding passedGroup
-  origin-passed w = ring-is (g .origin) (frames (g .kind)) (g .window) w
-
-  origin-within : 0 < g .window → passedGroup g .origin < g .window
-  unfolding passedGroup
-  origin-within w = ring-lt (g .origin) (frames (g .kind)) (g .window) w
 
 -- what passing the oldest epoch does to the rows that an open window looks at
 pub record PassedTo (r : Road) (m m′ : Moment) : Type 0 where
@@ -116,75 +62,75 @@ module _ (r : Road) (m m′ : Moment) (long : length (m .rows) ≡ rowsFor (r .p
         ruling = λ p b. rw is (ap (λ (q : Port). q .ruling) (passed-of-port g (m .store) (r .ports) (m .rows) p b (omega arith)));
       }
 
-module _ (r : Road) (fair : Fair r) (m m′ : Moment) (nx : ℕ → ℕ) (i : ℕ) (o : Open r m nx i) (t : PassedTo r m m′) (all : AllCome r nx i) where
+module _ (r : Road) (fair : Fair r) (m m′ : Moment) (coming : ℕ → ℕ) (i : ℕ) (o : Open r m coming i) (t : PassedTo r m m′) (all : AllCome r coming i) where
   abbrev g : Group
   g = groupAt (m .rows)
 
   wide : 0 < g .window
   wide =
-      let s = ranges (r .kind) (r .ports) (r .payload) (r .window) (fair .sizes) in
+      let s = sizes-in r fair in
       let n = frames-some (r .kind) in
       rw (o .lined .window-is) (omega arith)
 
   -- every port has brought the epoch
   first-brought : (p : ℕ) → p < r .ports → firstMark (marksAt (m .rows) p) ≡ true
-  first-brought = first-all r fair m nx i o all
+  first-brought = first-all r fair m coming i o all
 
-  marks-moved : (p k : ℕ) → p < r .ports → k < 128 → markIn (passedMarks (marksAt (m .rows) p)) k ≡ leb (suc i * L r + (k + 1) * L r) (nx p)
+  marks-moved : (p k : ℕ) → p < r .ports → k < 128 → markIn (passedMarks (marksAt (m .rows) p)) k ≡ leb (suc i * L r + (k + 1) * L r) (coming p)
   marks-moved p k b c =
       let e : i * L r + (k + 1 + 1) * L r ≡ suc i * L r + (k + 1) * L r = omega arith in
       mark-passed (marksAt (m .rows) p) (o .marks-row p b) k
       ∙ ⊎-elim
       (λ (far : 128 ≤ k + 1).
-      let s = ranges (r .kind) (r .ports) (r .payload) (r .window) (fair .sizes) in
+      let s = sizes-in r fair in
       let n = frames-some (r .kind) in
       let w = marks-enough (r .kind) (r .window) (s .round) in
       let h = o .ahead p b in
       let k-is : k ≡ 127 = omega arith in
-      mark-beyond (marksAt (m .rows) p) (k + 1) (o .marks-row p b .len) far ∙ rw k-is (sym (lt-leb (suc i * L r + 128 * L r) (nx p) (omega arith))))
+      mark-beyond (marksAt (m .rows) p) (k + 1) (o .marks-row p b .len) far ∙ rw k-is (sym (lt-leb (suc i * L r + 128 * L r) (coming p) (omega arith))))
       (λ (near : k + 1 < 128). o .marks p (k + 1) b near ∙ rw e refl)
       (le-or-lt 128 (k + 1))
 
   frames-same : frames (g .kind) ≡ L r
   frames-same = rw (o .lined .kind-is) refl
 
-  stands-nearer : (p x : ℕ) → p < r .ports → suc i * L r ≤ x → x < nx p → Stands (groupAt (m′ .rows)) p (x - suc i * L r) (r .bytes p x) (r .h4 p x) (m′ .store)
+  stands-nearer : (p x : ℕ) → p < r .ports → suc i * L r ≤ x → x < coming p → Stands (groupAt (m′ .rows)) p (x - suc i * L r) (r .bytes p x) (r .h4 p x) (m′ .store)
   stands-nearer p x b low high =
       let e : x - suc i * L r + L r ≡ x - i * L r = omega arith in
       let f : Stands g p (x - suc i * L r + L r) (r .bytes p x) (r .h4 p x) (m .store) = rw e (o .stands p x b (omega arith) high) in
       rw (t .stores)
-      (stands-moved g (groupAt (m′ .rows)) (L r) p (x - suc i * L r) (r .bytes p x) (r .h4 p x) (m .store) (rw (t .group-is) (payload-passed g))
-      (rw (t .group-is) (window-passed g)) (rw (t .group-is, ← frames-same) (origin-passed g wide)) f)
+      (stands-moved g (groupAt (m′ .rows)) (L r) p (x - suc i * L r) (r .bytes p x) (r .h4 p x) (m .store) (rw (t .group-is) (passed-payload g))
+      (rw (t .group-is) (passed-window g)) (rw (t .group-is, ← frames-same) (passed-origin g wide)) f)
 
-  lined-passed : Lined r m′ nx
+  lined-passed : Lined r m′ coming
   lined-passed =
       let l = o .lined in
       record {
         rows-long = t .rows-long ∙ l .rows-long;
         store-long = rw (t .stores) (l .store-long);
-        kind-is = rw (t .group-is) (kind-passed g ∙ l .kind-is);
-        count-is = rw (t .group-is) (count-passed g ∙ l .count-is);
-        payload-is = rw (t .group-is) (payload-passed g ∙ l .payload-is);
-        window-is = rw (t .group-is) (window-passed g ∙ l .window-is);
+        kind-is = rw (t .group-is) (passed-kind g ∙ l .kind-is);
+        count-is = rw (t .group-is) (passed-count g ∙ l .count-is);
+        payload-is = rw (t .group-is) (passed-payload g ∙ l .payload-is);
+        window-is = rw (t .group-is) (passed-window g ∙ l .window-is);
         origin-in = rw (t .group-is, ← l .window-is) (origin-within g wide);
-        heard = λ p b. rw (t .steps p b) (heard-passed r p (nx p) (stepAt (m .rows) p) (firstMark (marksAt (m .rows) p)) (l .heard p b));
+        heard = λ p b. rw (t .steps p b) (heard-passed r p (coming p) (stepAt (m .rows) p) (firstMark (marksAt (m .rows) p)) (l .heard p b));
       }
 
   oldest-now : firstTag (r .kind) (groupAt (m′ .rows) .oldest) ≡ tagOf (r .kind) (r .offset + suc i * L r)
   oldest-now =
       let e : r .offset + i * L r + L r ≡ r .offset + suc i * L r = omega arith in
-      rw (t .group-is, oldest-passed g, o .lined .kind-is, ← e) (first-after (r .kind) (g .oldest) (r .offset + i * L r) (o .oldest-small) (o .oldest))
+      rw (t .group-is, passed-oldest g, o .lined .kind-is, ← e) (first-after (r .kind) (g .oldest) (r .offset + i * L r) (o .oldest-small) (o .oldest))
 
-  pub open-passed : Open r m′ nx (suc i)
+  pub open-passed : Open r m′ coming (suc i)
   open-passed =
       record {
         lined = lined-passed;
-        begun = rw (t .group-is) (begun-passed g ∙ o .begun);
+        begun = rw (t .group-is) (passed-begun g ∙ o .begun);
         oldest = oldest-now;
-        oldest-small = rw (t .group-is, oldest-passed g) (epoch-fits (g .kind) (g .oldest));
+        oldest-small = rw (t .group-is, passed-oldest g) (epoch-fits (g .kind) (g .oldest));
         in-step = o .in-step;
-        since = λ p b. rw (t .steps p b) (since-passed (stepAt (m .rows) p) (firstMark (marksAt (m .rows) p)) ∙ o .since p b);
-        later = λ p b. rw (t .steps p b) (later-passed (stepAt (m .rows) p) (firstMark (marksAt (m .rows) p)) (o .later p b));
+        since = λ p b. rw (t .steps p b) (step-since (stepAt (m .rows) p) (firstMark (marksAt (m .rows) p)) ∙ o .since p b);
+        later = λ p b. rw (t .steps p b) (step-later (stepAt (m .rows) p) (firstMark (marksAt (m .rows) p)) ∙ rw (o .later p b) refl);
         behind = λ p b.
             let h = all p b in
             let w : 0 < r .window = rw (o .lined .window-is) at wide in
@@ -196,13 +142,13 @@ module _ (r : Road) (fair : Fair r) (m m′ : Moment) (nx : ℕ → ℕ) (i : �
       }
 
   pub joined-kept : (p : ℕ) → p < r .ports → stepAt (m′ .rows) p .joined ≡ stepAt (m .rows) p .joined
-  joined-kept p b = rw (t .steps p b) (joined-passed (stepAt (m .rows) p) (firstMark (marksAt (m .rows) p)))
+  joined-kept p b = rw (t .steps p b) (step-joined (stepAt (m .rows) p) (firstMark (marksAt (m .rows) p)))
 
   pub whole-now : (p : ℕ) → p < r .ports → stepAt (m′ .rows) p .whole ≡ 1
-  whole-now p b = rw (t .steps p b, first-brought p b) (whole-passed (stepAt (m .rows) p))
+  whole-now p b = rw (t .steps p b, first-brought p b) (step-whole (stepAt (m .rows) p) true)
 
   pub gathered-now : groupAt (m′ .rows) .gathered ≡ 1
-  gathered-now = rw (t .group-is) (gathered-passed g)
+  gathered-now = rw (t .group-is) (passed-gathered g)
 
   -- the packet of the epoch rules from now on
   pub ruling-now : (p : ℕ) → p < r .ports → getD (packetsAt (m′ .rows) p) 1 [] ≡ packetOf r i p

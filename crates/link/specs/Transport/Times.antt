@@ -1,48 +1,45 @@
 -- All frame times: what stands at every moment of a run.
 use mathlib.Core.Path.{_≡_, refl, sym, ap, _∙_, subst}
-use mathlib.Core.Logic.{_⊎_, inl, inr, ⊎-elim, _≢_}
+use mathlib.Core.Logic.{inl, inr, ⊎-elim, _≢_}
 use mathlib.Core.Bool.{Bool, true, false, cond, true≢false}
-use mathlib.Core.List.{List, [], _∷_, _++_, append-nil, append-assoc, tail}
+use mathlib.Core.List.{List, [], _∷_, _++_, append-nil, append-assoc}
 use Prim.Native.Nat.{ℕ, zero, suc, _+_, _-_, _*_, _/_, _≤_, _<_}
 use native.Mathlib.Nat.{not-suc-le-zero}
 use native.Mathlib.Omega.{arith}
-use lib.Dec.{eqb, leb, ltb}
+use lib.Dec.{ltb}
 use lib.ListN.{getD, length, length-append}
-use borrow.Author.Tests.{lt-ltb, le-ltb, eq-eqb, ne-eqb, le-leb, lt-leb, leb-true, leb-false, ltb-true, ltb-false}
+use borrow.Author.Tests.{lt-ltb, eq-eqb, ne-eqb, le-leb, lt-leb, ltb-true}
 use Rattle.ground.specs.Truth.{eq-or-ne, le-or-lt}
-use Rattle.packet.specs.Kinds.{frames}
 use Rattle.phases.specs.Beginning.{begins}
+use Rattle.receiver.specs.Laws.Sizes.{window-some}
 use Rattle.rows.specs.Group.{groupAt}
 use Rattle.step.specs.Laws.Run.{start-from, startFrom}
-use Rattle.rows.specs.Rows.{rowsFor}
-use Rattle.link.specs.Laws.Numbers.{frames-some, one-epoch, ranges, window-positive}
-use Rattle.link.specs.Moments.{Beginning, Foremost, NotAfter, Ready, Unready, nextAt, nx, reached}
-use Rattle.link.specs.Road.{Below, Fair, Road, times}
-use Rattle.link.specs.Running.{Moment, drained, fetched, framed, fresh, recordAt, through, turn, turns}
+use Rattle.link.specs.Laws.Lists.{append-apart}
+use Rattle.link.specs.Laws.Numbers.{frames-some, one-epoch}
+use Rattle.link.specs.Moments.{Beginning, Ready, Unready, coming, nextAt, reached}
+use Rattle.link.specs.Road.{Fair, L, Road, sizes-in}
+use Rattle.link.specs.Running.{Moment, drained, fetched, framed, hasBegun, recordAt, through, turn, turns}
 use Rattle.link.specs.Standing.{Before, First, Later, Lined, Owes}
+use Rattle.link.specs.Transport.Due.{AllCome, owes-or-come}
 use Rattle.link.specs.Transport.Moments.{Rest, apart, next-time, reach, rest-all, rest-tail, served, served-at, unserved}
 use Rattle.link.specs.Transport.Steps.{Apart, Begun?, Gathered?, Reach, Served}
-use Rattle.link.specs.Transport.Steps.Begun?.{stays, comes}
-use Rattle.link.specs.Transport.Steps.Gathered?.{waits, gathers}
+use Rattle.link.specs.Transport.Steps.Begun?.{comes, stays}
+use Rattle.link.specs.Transport.Steps.Gathered?.{gathers, waits}
 
 module _ (r : Road) where
   abbrev markNext : Moment → ℕ
   markNext m = getD (recordAt r m) 0 0
 
-  -- no port owes a frame of epoch i
-  abbrev pub NoneOwes : (ℕ → ℕ) → ℕ → Type 0
-  NoneOwes nx i = (q : ℕ) → q < r .ports → i * frames (r .kind) + frames (r .kind) ≤ nx q
-
   -- what the single steps are proved to do
   pub record Steps : Type 0 where
-    pub on-before : (m : Moment) (p : ℕ) (nx nx′ : ℕ → ℕ) → Served r p nx nx′ → Apart r nx′ → Before r m nx → Begun? r (framed r p (nx p) m) nx′
-    pub on-first : (m : Moment) (p i : ℕ) (nx nx′ : ℕ → ℕ) → Served r p nx nx′ → Reach r p nx → First r m nx i → Gathered? r (framed r p (nx p) m) nx′ i
-    pub on-later : (m : Moment) (p g i : ℕ) (nx nx′ : ℕ → ℕ) → Served r p nx nx′ → Reach r p nx → Later r m nx g i → Owes r nx (suc i) → Later r (framed r p (nx p) m) nx′ g i
-    pub before-none : (m : Moment) (nx : ℕ → ℕ) → Before r m nx → markNext m ≡ 0
-    pub first-none : (m : Moment) (i : ℕ) (nx : ℕ → ℕ) → First r m nx i → markNext m ≡ 0
-    pub later-none : (m : Moment) (g i : ℕ) (nx : ℕ → ℕ) → Later r m nx g i → Owes r nx (suc i) → markNext m ≡ 0
-    pub later-one : (m : Moment) (g i : ℕ) (nx : ℕ → ℕ) → Later r m nx g i → NoneOwes nx (suc i) → (markNext m ≢ 0) × Later r (fetched r m) nx g (suc i)
-    pub must-begin : (m : Moment) (nx : ℕ → ℕ) → Lined r m nx → Ready r nx → begins (groupAt (m .rows)) (m .rows) (r .ports) ≡ true
+    pub on-before : (m : Moment) (p : ℕ) (coming coming′ : ℕ → ℕ) → Served r p coming coming′ → Apart r coming′ → Before r m coming → Begun? r (framed r p (coming p) m) coming′
+    pub on-first : (m : Moment) (p i : ℕ) (coming coming′ : ℕ → ℕ) → Served r p coming coming′ → Reach r p coming → First r m coming i → Gathered? r (framed r p (coming p) m) coming′ i
+    pub on-later : (m : Moment) (p g i : ℕ) (coming coming′ : ℕ → ℕ) → Served r p coming coming′ → Reach r p coming → Later r m coming g i → Owes r coming (suc i) → Later r (framed r p (coming p) m) coming′ g i
+    pub before-none : (m : Moment) (coming : ℕ → ℕ) → Before r m coming → markNext m ≡ 0
+    pub first-none : (m : Moment) (i : ℕ) (coming : ℕ → ℕ) → First r m coming i → markNext m ≡ 0
+    pub later-none : (m : Moment) (g i : ℕ) (coming : ℕ → ℕ) → Later r m coming g i → Owes r coming (suc i) → markNext m ≡ 0
+    pub later-one : (m : Moment) (g i : ℕ) (coming : ℕ → ℕ) → Later r m coming g i → AllCome r coming (suc i) → (markNext m ≢ 0) × Later r (fetched r m) coming g (suc i)
+    pub must-begin : (m : Moment) (coming : ℕ → ℕ) → Lined r m coming → Ready r coming → begins (groupAt (m .rows)) (m .rows) (r .ports) ≡ true
 
   -- fetching ends where none is due
   pub drained-none : (k : ℕ) (m : Moment) → markNext m ≡ 0 → drained r k m ≡ m
@@ -54,55 +51,38 @@ module _ (r : Road) where
   unfolding drained
   drained-one k m d e = rw (ne-eqb (getD (recordAt r m) 0 0) 0 d) (drained-none k (fetched r m) e)
 
-  -- some port owes, or none does
-  look : (nx : ℕ → ℕ) (i n : ℕ) → n ≤ r .ports → Owes r nx i ⊎ ((q : ℕ) → q < n → i * frames (r .kind) + frames (r .kind) ≤ nx q)
-  look nx i zero b = inr (λ q h. absurd (not-suc-le-zero h))
-  look nx i (suc n) b =
-      let rest = look nx i n (omega arith) in
-      ⊎-elim (λ (o : Owes r nx i). inl o)
-      (λ (all : (q : ℕ) → q < n → i * frames (r .kind) + frames (r .kind) ≤ nx q).
-      ⊎-elim
-      (λ (w : i * frames (r .kind) + frames (r .kind) ≤ nx n).
-      inr (λ q h. ⊎-elim (λ (e : q ≡ n). rw e w) (λ (d : q ≢ n). all q (omega arith)) (eq-or-ne q n)))
-      (λ (w : nx n < i * frames (r .kind) + frames (r .kind)). inl (record { port = n; below = b; owes = w }))
-      (le-or-lt (i * frames (r .kind) + frames (r .kind)) (nx n)))
-      rest
+  pub coming-is : (t : ℕ) (rest : List ℕ) (p : ℕ) → p < r .ports → coming r t rest p ≡ nextAt r t rest p
+  unfolding coming
+  coming-is t rest p b = rw (lt-ltb p (r .ports) b) refl
 
-  owing : (nx : ℕ → ℕ) (i : ℕ) → Owes r nx i ⊎ NoneOwes nx i
-  owing nx i = look nx i (r .ports) (omega arith)
-
-  pub nx-is : (t : ℕ) (rest : List ℕ) (p : ℕ) → p < r .ports → nx r t rest p ≡ nextAt r t rest p
-  unfolding nx
-  nx-is t rest p b = rw (lt-ltb p (r .ports) b) refl
-
-  nx-by : (t u : ℕ) (rest next : List ℕ) → ((p : ℕ) → p < r .ports → nextAt r t rest p ≡ nextAt r u next p) → nx r t rest ≡ nx r u next
-  unfolding nx
-  nx-by t u rest next h = λ i p. go p (ltb p (r .ports)) refl i
+  coming-by : (t u : ℕ) (rest next : List ℕ) → ((p : ℕ) → p < r .ports → nextAt r t rest p ≡ nextAt r u next p) → coming r t rest ≡ coming r u next
+  unfolding coming
+  coming-by t u rest next h = λ i p. go p (ltb p (r .ports)) refl i
     where
       go : (p : ℕ) (b : Bool) → ltb p (r .ports) ≡ b → cond (ltb p (r .ports)) (nextAt r t rest p) (r .first p) ≡ cond (ltb p (r .ports)) (nextAt r u next p) (r .first p)
       go p true e = rw e (h p (ltb-true p (r .ports) e))
       go p false e = rw e refl
 
-  nx-first : (f : Fair r) → r .first ≡ nx r zero (r .order zero)
-  unfolding nx nextAt
-  nx-first f = λ i p. go p (ltb p (r .ports)) refl i
+  coming-first : (f : Fair r) → r .first ≡ coming r zero (r .order zero)
+  unfolding coming nextAt
+  coming-first f = λ i p. go p (ltb p (r .ports)) refl i
     where
       go : (p : ℕ) (b : Bool) → ltb p (r .ports) ≡ b → r .first p ≡ cond (ltb p (r .ports)) (nextAt r zero (r .order zero) p) (r .first p)
       go p true e = let w = f .once zero p (ltb-true p (r .ports) e) in rw (e, w) (omega arith)
       go p false e = rw e refl
 
-  pub served-nx : (t p : ℕ) (ps : List ℕ) → Rest r (p ∷ ps) → r .delay p + r .first p ≤ t → Served r p (nx r t (p ∷ ps)) (nx r t ps)
-  unfolding nx
-  served-nx t p ps o late =
+  pub served-coming : (t p : ℕ) (ps : List ℕ) → Rest r (p ∷ ps) → r .delay p + r .first p ≤ t → Served r p (coming r t (p ∷ ps)) (coming r t ps)
+  unfolding coming
+  served-coming t p ps o late =
       let s = served r t p ps o late in
       record { below = s .below; next = rw (lt-ltb p (r .ports) (s .below)) (s .next); others = λ q d. rw (s .others q d) refl }
 
-  apart-nx : (f : Fair r) (t : ℕ) (rest : List ℕ) → Rest r rest → Apart r (nx r t rest)
-  apart-nx f t rest o p q hp hq sp sq =
-      rw (nx-is t rest p hp, nx-is t rest q hq) (apart r f t rest o p q hp hq (rw (nx-is t rest p hp) at sp) (rw (nx-is t rest q hq) at sq))
+  apart-coming : (f : Fair r) (t : ℕ) (rest : List ℕ) → Rest r rest → Apart r (coming r t rest)
+  apart-coming f t rest o p q hp hq sp sq =
+      rw (coming-is t rest p hp, coming-is t rest q hq) (apart r f t rest o p q hp hq (rw (coming-is t rest p hp) at sp) (rw (coming-is t rest q hq) at sq))
 
-  pub reach-nx : (f : Fair r) (t p : ℕ) (ps : List ℕ) → Rest r (p ∷ ps) → r .delay p + r .first p ≤ t → Reach r p (nx r t (p ∷ ps))
-  reach-nx f t p ps o late q b = rw (nx-is t (p ∷ ps) p (o .all-below .0), nx-is t (p ∷ ps) q b) (reach r f t p ps o late q b)
+  pub reach-coming : (f : Fair r) (t p : ℕ) (ps : List ℕ) → Rest r (p ∷ ps) → r .delay p + r .first p ≤ t → Reach r p (coming r t (p ∷ ps))
+  reach-coming f t p ps o late q b = rw (coming-is t (p ∷ ps) p (o .all-below .0), coming-is t (p ∷ ps) q b) (reach r f t p ps o late q b)
 
   pub turns-more : (t p : ℕ) (done : List ℕ) (m : Moment) → turns r t (done ++ (p ∷ [])) m ≡ turn r t p (turns r t done m)
   unfolding turns
@@ -113,19 +93,8 @@ module _ (r : Road) where
   unfolding turn
   no-frame t p m early = rw (lt-leb (r .delay p + r .first p) t early) refl
 
-  -- nothing stands before the rest
-  starts-with : (a b whole : List ℕ) → a ++ b ≡ whole → length a ≤ zero → whole ≡ b
-  starts-with [] b whole e l = sym e
-  starts-with (x ∷ a) b whole e l = absurd (omega arith)
-
-  pub rest-of : (a b c d : List ℕ) → a ++ b ≡ c ++ d → length a ≡ length c → b ≡ d
-  rest-of [] b [] d e l = e
-  rest-of [] b (y ∷ c) d e l = absurd (omega arith)
-  rest-of (x ∷ a) b [] d e l = absurd (omega arith)
-  rest-of (x ∷ a) b (y ∷ c) d e l = rest-of a b c d (ap tail e) (omega arith)
-
   -- one port more, at which they are not ready either
-  unready-more : (t p : ℕ) (done ps : List ℕ) → r .order t ≡ done ++ (p ∷ ps) → Unready r t done → (Ready r (nx r t ps) → ⊥) → Unready r t (done ++ (p ∷ []))
+  unready-more : (t p : ℕ) (done ps : List ℕ) → r .order t ≡ done ++ (p ∷ ps) → Unready r t done → (Ready r (coming r t ps) → ⊥) → Unready r t (done ++ (p ∷ []))
   unready-more t p done ps is-order un now u earlier rest e na y = ⊎-elim (λ (h : u < t). un u earlier rest e (inl h) y) same na
     where
       same : (u ≡ t) × (length earlier ≤ length (done ++ (p ∷ []))) → ⊥
@@ -136,8 +105,8 @@ module _ (r : Road) where
           (λ (w : length done < length earlier).
           let eq : length (done ++ (p ∷ [])) ≡ length earlier = omega arith in
           let whole : done ++ (p ∷ []) ++ ps ≡ earlier ++ rest = append-assoc done (p ∷ []) ps ∙ sym is-order ∙ ap (r .order) (sym (h .0)) ∙ e in
-          let ends : ps ≡ rest = rest-of (done ++ (p ∷ [])) ps earlier rest whole eq in
-          now (subst (λ (l : List ℕ). Ready r (nx r t l)) (sym ends) (subst (λ (v : ℕ). Ready r (nx r v rest)) (h .0) y)))
+          let ends : ps ≡ rest = append-apart (done ++ (p ∷ [])) earlier ps rest eq whole .1 in
+          now (subst (λ (l : List ℕ). Ready r (coming r t l)) (sym ends) (subst (λ (v : ℕ). Ready r (coming r v rest)) (h .0) y)))
           (le-or-lt (length earlier) (length done))
 
   -- the first frame time
@@ -145,13 +114,13 @@ module _ (r : Road) where
   unready-first f u earlier rest e na y =
       ⊎-elim (λ (h : u < zero). absurd (not-suc-le-zero h))
       (λ (h : (u ≡ zero) × (length earlier ≤ zero)).
-      let n : 1 ≤ r .ports = ranges (r .kind) (r .ports) (r .payload) (r .window) (f .sizes) .some-ports in
+      let n : 1 ≤ r .ports = sizes-in r f .some-ports in
       let l = frames-some (r .kind) in
       let from = start-from (r .kind) (r .offset) (r .first zero) .from in
-      let i : rest ≡ r .order u = rest-of [] rest [] (r .order u) (sym (starts-with earlier rest (r .order u) (sym e) (h .1))) refl in
-      let z : nx r u rest ≡ r .first = ap (λ (l : List ℕ). nx r u l) i ∙ ap (λ (v : ℕ). nx r v (r .order v)) (h .0) ∙ sym (nx-first f) in
+      let i : rest ≡ r .order u = (let none = h .1 in append-apart earlier [] rest (r .order u) (omega arith) (sym e) .1) in
+      let z : coming r u rest ≡ r .first = ap (λ (l : List ℕ). coming r u l) i ∙ ap (λ (v : ℕ). coming r v (r .order v)) (h .0) ∙ sym (coming-first f) in
       let w = y .stepped zero n in
-      let v : startFrom (r .kind) (r .offset) (r .first zero) + frames (r .kind) * 2 ≤ r .first zero = subst (λ (k : ℕ → ℕ). startFrom (r .kind) (r .offset) (r .first zero) + frames (r .kind) * 2 ≤ k zero) z w in
+      let v : startFrom (r .kind) (r .offset) (r .first zero) + L r * 2 ≤ r .first zero = subst (λ (k : ℕ → ℕ). startFrom (r .kind) (r .offset) (r .first zero) + L r * 2 ≤ k zero) z w in
       absurd (omega arith))
       na
 
@@ -170,16 +139,16 @@ module _ (r : Road) where
 
       at-it : (u ≡ suc t) × (length earlier ≤ zero) → ⊥
       at-it h =
-          let i : rest ≡ r .order u = rest-of [] rest [] (r .order u) (sym (starts-with earlier rest (r .order u) (sym e) (h .1))) refl in
-          let z : nx r u rest ≡ nx r t [] = ap (λ (l : List ℕ). nx r u l) i ∙ ap (λ (v : ℕ). nx r v (r .order v)) (h .0) ∙ sym (nx-by t (suc t) [] (r .order (suc t)) (λ k b. next-time r f t k b)) in
+          let i : rest ≡ r .order u = (let none = h .1 in append-apart earlier [] rest (r .order u) (omega arith) (sym e) .1) in
+          let z : coming r u rest ≡ coming r t [] = ap (λ (l : List ℕ). coming r u l) i ∙ ap (λ (v : ℕ). coming r v (r .order v)) (h .0) ∙ sym (coming-by t (suc t) [] (r .order (suc t)) (λ k b. next-time r f t k b)) in
           un t (r .order t) [] (sym (append-nil (r .order t))) (inr (refl, omega arith)) (subst (λ (k : ℕ → ℕ). Ready r k) z y)
 
   module _ (m₀ : Moment) where
     -- what stands at a moment
-    pub data Phase (t : ℕ) (done : List ℕ) (m : Moment) (nx : ℕ → ℕ) : Type 0 where
-      before : Before r m nx → Unready r t done → Phase t done m nx
-      first : (F : ℕ) → Beginning r m₀ F → First r m nx (suc (F / frames (r .kind))) → Phase t done m nx
-      later : (F i : ℕ) → Beginning r m₀ F → Later r m nx (suc (F / frames (r .kind))) i → Owes r nx (suc i) → Phase t done m nx
+    pub data Phase (t : ℕ) (done : List ℕ) (m : Moment) (coming : ℕ → ℕ) : Type 0 where
+      before : Before r m coming → Unready r t done → Phase t done m coming
+      first : (F : ℕ) → Beginning r (reached r m₀) F → First r m coming (suc (F / L r)) → Phase t done m coming
+      later : (F i : ℕ) → Beginning r (reached r m₀) F → Later r m coming (suc (F / L r)) i → Owes r coming (suc i) → Phase t done m coming
 
     module _ (f : Fair r) (s : Steps) where
       drained-wide : (w : ℕ) (m : Moment) → 0 < w → markNext m ≢ 0 → markNext (fetched r m) ≡ 0 → drained r w m ≡ fetched r m
@@ -187,15 +156,15 @@ module _ (r : Road) where
       drained-wide (suc k) m h d e = drained-one k m d e
 
       -- the port that owed last owes of the next epoch
-      owes-next : (p i : ℕ) (n n′ : ℕ → ℕ) → Served r p n n′ → Owes r n i → NoneOwes n′ i → Owes r n′ (suc i)
+      owes-next : (p i : ℕ) (n n′ : ℕ → ℕ) → Served r p n n′ → Owes r n i → AllCome r n′ i → Owes r n′ (suc i)
       owes-next p i n n′ sv o all =
           ⊎-elim
           (λ (e : o .port ≡ p).
-          let a : n (o .port) < i * frames (r .kind) + frames (r .kind) = o .owes in
-          let b : n p < i * frames (r .kind) + frames (r .kind) = rw e at a in
+          let a : n (o .port) < i * L r + L r = o .owes in
+          let b : n p < i * L r + L r = rw e at a in
           let c : n′ p ≡ n p + 1 = sv .next in
           let l = frames-some (r .kind) in
-          let one = one-epoch i (frames (r .kind)) in
+          let one = one-epoch i (L r) in
           record { port = p; below = sv .below; owes = rw one (omega arith) })
           (λ (d : o .port ≢ p).
           let a = o .owes in
@@ -212,11 +181,11 @@ module _ (r : Road) where
         abbrev there : Moment
         there = framed r p (t - r .delay p) here
 
-        position : nx r t (p ∷ ps) p ≡ t - r .delay p
-        position = nx-is t (p ∷ ps) p (o .all-below .0) ∙ served-at r t p ps o late
+        position : coming r t (p ∷ ps) p ≡ t - r .delay p
+        position = coming-is t (p ∷ ps) p (o .all-below .0) ∙ served-at r t p ps o late
 
-        moved : Served r p (nx r t (p ∷ ps)) (nx r t ps)
-        moved = served-nx t p ps o late
+        moved : Served r p (coming r t (p ∷ ps)) (coming r t ps)
+        moved = served-coming t p ps o late
 
         one-turn : turn r t p here ≡ drained r (r .window) there
         unfolding turn
@@ -225,24 +194,24 @@ module _ (r : Road) where
         quiet : markNext there ≡ 0 → turn r t p here ≡ there
         quiet e = one-turn ∙ drained-none (r .window) there e
 
-        now-begun : (m : Moment) → turn r t p here ≡ m → groupAt (m .rows) .begun ≡ 1 → groupAt (reached r m₀ t (done ++ (p ∷ [])) .rows) .begun ≡ 1
-        now-begun m e b = ap (λ (n : Moment). groupAt (n .rows) .begun) (turns-more t p done (through r t m₀) ∙ e) ∙ b
+        now-begun : (m : Moment) → turn r t p here ≡ m → hasBegun m ≡ 1 → hasBegun (reached r m₀ t (done ++ (p ∷ []))) ≡ 1
+        now-begun m e b = ap hasBegun (turns-more t p done (through r t m₀) ∙ e) ∙ b
 
         abbrev Next : Type 0
-        Next = Phase t (done ++ (p ∷ [])) (turn r t p here) (nx r t ps)
+        Next = Phase t (done ++ (p ∷ [])) (turn r t p here) (coming r t ps)
 
-        as-phase : (m : Moment) → turn r t p here ≡ m → Phase t (done ++ (p ∷ [])) m (nx r t ps) → Next
-        as-phase m e q = subst (λ (n : Moment). Phase t (done ++ (p ∷ [])) n (nx r t ps)) (sym e) q
+        as-phase : (m : Moment) → turn r t p here ≡ m → Phase t (done ++ (p ∷ [])) m (coming r t ps) → Next
+        as-phase m e q = subst (λ (n : Moment). Phase t (done ++ (p ∷ [])) n (coming r t ps)) (sym e) q
 
-        from-before : Before r here (nx r t (p ∷ ps)) → Unready r t done → Next
-        from-before b un = go (rw position at (s .on-before here p (nx r t (p ∷ ps)) (nx r t ps) moved (apart-nx f t ps (rest-tail r p ps o)) b))
+        from-before : Before r here (coming r t (p ∷ ps)) → Unready r t done → Next
+        from-before b un = go (rw position at (s .on-before here p (coming r t (p ∷ ps)) (coming r t ps) moved (apart-coming f t ps (rest-tail r p ps o)) b))
           where
-            go : Begun? r there (nx r t ps) → Next
+            go : Begun? r there (coming r t ps) → Next
             go (stays c) =
-                as-phase there (quiet (s .before-none there (nx r t ps) c))
-                (before c (unready-more t p done ps is-order un (λ y. true≢false (sym (s .must-begin there (nx r t ps) (c .lined) y) ∙ c .unfit))))
+                as-phase there (quiet (s .before-none there (coming r t ps) c))
+                (before c (unready-more t p done ps is-order un (λ y. true≢false (sym (s .must-begin there (coming r t ps) (c .lined) y) ∙ c .unfit))))
             go (comes F fore y c) =
-                let e = quiet (s .first-none there (suc (F / frames (r .kind))) (nx r t ps) c) in
+                let e = quiet (s .first-none there (suc (F / L r)) (coming r t ps) c) in
                 as-phase there e
                 (first F (record {
                   time = t;
@@ -257,113 +226,113 @@ module _ (r : Road) where
                   unready = un;
                 }) c)
 
-        from-first : (F : ℕ) → Beginning r m₀ F → First r here (nx r t (p ∷ ps)) (suc (F / frames (r .kind))) → Next
-        from-first F b c = go (rw position at (s .on-first here p (suc (F / frames (r .kind))) (nx r t (p ∷ ps)) (nx r t ps) moved (reach-nx f t p ps o late) c))
+        from-first : (F : ℕ) → Beginning r (reached r m₀) F → First r here (coming r t (p ∷ ps)) (suc (F / L r)) → Next
+        from-first F b c = go (rw position at (s .on-first here p (suc (F / L r)) (coming r t (p ∷ ps)) (coming r t ps) moved (reach-coming f t p ps o late) c))
           where
-            go : Gathered? r there (nx r t ps) (suc (F / frames (r .kind))) → Next
-            go (waits d) = as-phase there (quiet (s .first-none there (suc (F / frames (r .kind))) (nx r t ps) d)) (first F b d)
+            go : Gathered? r there (coming r t ps) (suc (F / L r)) → Next
+            go (waits d) = as-phase there (quiet (s .first-none there (suc (F / L r)) (coming r t ps) d)) (first F b d)
             go (gathers d w) =
-                as-phase there (quiet (s .later-none there (suc (F / frames (r .kind))) (suc (F / frames (r .kind))) (nx r t ps) d w)) (later F (suc (F / frames (r .kind))) b d w)
+                as-phase there (quiet (s .later-none there (suc (F / L r)) (suc (F / L r)) (coming r t ps) d w)) (later F (suc (F / L r)) b d w)
 
-        from-later : (F i : ℕ) → 0 < r .window → Beginning r m₀ F → Later r here (nx r t (p ∷ ps)) (suc (F / frames (r .kind))) i → Owes r (nx r t (p ∷ ps)) (suc i) → Next
-        from-later F i wide b c w = go (rw position at (s .on-later here p (suc (F / frames (r .kind))) i (nx r t (p ∷ ps)) (nx r t ps) moved (reach-nx f t p ps o late) c w))
+        from-later : (F i : ℕ) → 0 < r .window → Beginning r (reached r m₀) F → Later r here (coming r t (p ∷ ps)) (suc (F / L r)) i → Owes r (coming r t (p ∷ ps)) (suc i) → Next
+        from-later F i wide b c w = go (rw position at (s .on-later here p (suc (F / L r)) i (coming r t (p ∷ ps)) (coming r t ps) moved (reach-coming f t p ps o late) c w))
           where
-            go : Later r there (nx r t ps) (suc (F / frames (r .kind))) i → Next
-            go d = ⊎-elim some-owe none-owe (owing (nx r t ps) (suc i))
+            go : Later r there (coming r t ps) (suc (F / L r)) i → Next
+            go d = ⊎-elim some-owe none-owe (owes-or-come r (coming r t ps) (suc i))
               where
-                some-owe : Owes r (nx r t ps) (suc i) → Next
-                some-owe v = as-phase there (quiet (s .later-none there (suc (F / frames (r .kind))) i (nx r t ps) d v)) (later F i b d v)
+                some-owe : Owes r (coming r t ps) (suc i) → Next
+                some-owe v = as-phase there (quiet (s .later-none there (suc (F / L r)) i (coming r t ps) d v)) (later F i b d v)
 
-                none-owe : NoneOwes (nx r t ps) (suc i) → Next
+                none-owe : AllCome r (coming r t ps) (suc i) → Next
                 none-owe all =
-                    let l = s .later-one there (suc (F / frames (r .kind))) i (nx r t ps) d all in
-                    let v : Owes r (nx r t ps) (suc (suc i)) = owes-next p (suc i) (nx r t (p ∷ ps)) (nx r t ps) moved w all in
-                    let e = s .later-none (fetched r there) (suc (F / frames (r .kind))) (suc i) (nx r t ps) (l .1) v in
+                    let l = s .later-one there (suc (F / L r)) i (coming r t ps) d all in
+                    let v : Owes r (coming r t ps) (suc (suc i)) = owes-next p (suc i) (coming r t (p ∷ ps)) (coming r t ps) moved w all in
+                    let e = s .later-none (fetched r there) (suc (F / L r)) (suc i) (coming r t ps) (l .1) v in
                     as-phase (fetched r there) (one-turn ∙ drained-wide (r .window) there wide (l .0) e) (later F (suc i) b (l .1) v)
 
       wide : 0 < r .window
-      wide = window-positive (r .kind) (r .ports) (r .payload) (r .window) (f .sizes)
+      wide = window-some (r .kind) (r .ports) (r .payload) (r .window) (sizes-in r f)
 
       -- one port's turn, with or without a frame
-      turned : (t p : ℕ) (done ps : List ℕ) → r .order t ≡ done ++ (p ∷ ps) → Rest r (p ∷ ps) → Phase t done (reached r m₀ t done) (nx r t (p ∷ ps))
-          → Phase t (done ++ (p ∷ [])) (reached r m₀ t (done ++ (p ∷ []))) (nx r t ps)
+      turned : (t p : ℕ) (done ps : List ℕ) → r .order t ≡ done ++ (p ∷ ps) → Rest r (p ∷ ps) → Phase t done (reached r m₀ t done) (coming r t (p ∷ ps))
+          → Phase t (done ++ (p ∷ [])) (reached r m₀ t (done ++ (p ∷ []))) (coming r t ps)
       turned t p done ps is-order o q =
-          subst (λ (m : Moment). Phase t (done ++ (p ∷ [])) m (nx r t ps)) (sym (turns-more t p done (through r t m₀)))
+          subst (λ (m : Moment). Phase t (done ++ (p ∷ [])) m (coming r t ps)) (sym (turns-more t p done (through r t m₀)))
           (⊎-elim (λ (late : r .delay p + r .first p ≤ t). with-frame late q) (λ (early : t < r .delay p + r .first p). without early q) (le-or-lt (r .delay p + r .first p) t))
         where
-          with-frame : r .delay p + r .first p ≤ t → Phase t done (reached r m₀ t done) (nx r t (p ∷ ps)) → Phase t (done ++ (p ∷ [])) (turn r t p (reached r m₀ t done)) (nx r t ps)
+          with-frame : r .delay p + r .first p ≤ t → Phase t done (reached r m₀ t done) (coming r t (p ∷ ps)) → Phase t (done ++ (p ∷ [])) (turn r t p (reached r m₀ t done)) (coming r t ps)
           with-frame late (before b un) = from-before t p done ps is-order o late b un
           with-frame late (first F b c) = from-first t p done ps is-order o late F b c
           with-frame late (later F i b c w) = from-later t p done ps is-order o late F i wide b c w
 
-          without : t < r .delay p + r .first p → Phase t done (reached r m₀ t done) (nx r t (p ∷ ps)) → Phase t (done ++ (p ∷ [])) (turn r t p (reached r m₀ t done)) (nx r t ps)
+          without : t < r .delay p + r .first p → Phase t done (reached r m₀ t done) (coming r t (p ∷ ps)) → Phase t (done ++ (p ∷ [])) (turn r t p (reached r m₀ t done)) (coming r t ps)
           without early q =
-              subst (λ (m : Moment). Phase t (done ++ (p ∷ [])) m (nx r t ps)) (sym (no-frame t p (reached r m₀ t done) early))
+              subst (λ (m : Moment). Phase t (done ++ (p ∷ [])) m (coming r t ps)) (sym (no-frame t p (reached r m₀ t done) early))
               (go q)
             where
-              same : nx r t (p ∷ ps) ≡ nx r t ps
-              same = nx-by t t (p ∷ ps) ps (λ k b. unserved r t p ps o early k)
+              same : coming r t (p ∷ ps) ≡ coming r t ps
+              same = coming-by t t (p ∷ ps) ps (λ k b. unserved r t p ps o early k)
 
-              go : Phase t done (reached r m₀ t done) (nx r t (p ∷ ps)) → Phase t (done ++ (p ∷ [])) (reached r m₀ t done) (nx r t ps)
+              go : Phase t done (reached r m₀ t done) (coming r t (p ∷ ps)) → Phase t (done ++ (p ∷ [])) (reached r m₀ t done) (coming r t ps)
               go (before b un) =
                   before (subst (λ (n : ℕ → ℕ). Before r (reached r m₀ t done) n) same b)
                   (unready-more t p done ps is-order un (λ y. un t done (p ∷ ps) is-order (inr (refl, omega arith)) (subst (λ (n : ℕ → ℕ). Ready r n) (sym same) y)))
-              go (first F b c) = first F b (subst (λ (n : ℕ → ℕ). First r (reached r m₀ t done) n (suc (F / frames (r .kind)))) same c)
+              go (first F b c) = first F b (subst (λ (n : ℕ → ℕ). First r (reached r m₀ t done) n (suc (F / L r))) same c)
               go (later F i b c w) =
-                  later F i b (subst (λ (n : ℕ → ℕ). Later r (reached r m₀ t done) n (suc (F / frames (r .kind))) i) same c) (subst (λ (n : ℕ → ℕ). Owes r n (suc i)) same w)
+                  later F i b (subst (λ (n : ℕ → ℕ). Later r (reached r m₀ t done) n (suc (F / L r)) i) same c) (subst (λ (n : ℕ → ℕ). Owes r n (suc i)) same w)
 
       -- the ports of a frame time, one after the other
-      served-all : (t : ℕ) (done ps rest : List ℕ) → r .order t ≡ done ++ (ps ++ rest) → Rest r (ps ++ rest) → Phase t done (reached r m₀ t done) (nx r t (ps ++ rest))
-          → Phase t (done ++ ps) (reached r m₀ t (done ++ ps)) (nx r t rest)
+      served-all : (t : ℕ) (done ps rest : List ℕ) → r .order t ≡ done ++ (ps ++ rest) → Rest r (ps ++ rest) → Phase t done (reached r m₀ t done) (coming r t (ps ++ rest))
+          → Phase t (done ++ ps) (reached r m₀ t (done ++ ps)) (coming r t rest)
       served-all t done [] rest is-order o q = rw (append-nil done) q
       served-all t done (p ∷ ps) rest is-order o q =
           let next = turned t p done (ps ++ rest) is-order o q in
           let e : r .order t ≡ done ++ (p ∷ []) ++ (ps ++ rest) = is-order ∙ sym (append-assoc done (p ∷ []) (ps ++ rest)) in
           let all = served-all t (done ++ (p ∷ [])) ps rest e (rest-tail r p (ps ++ rest) o) next in
-          subst (λ (l : List ℕ). Phase t l (reached r m₀ t l) (nx r t rest)) (append-assoc done (p ∷ []) ps) all
+          subst (λ (l : List ℕ). Phase t l (reached r m₀ t l) (coming r t rest)) (append-assoc done (p ∷ []) ps) all
 
       -- every frame time from its start
-      at-start : Before r m₀ (r .first) → (t : ℕ) → Phase t [] (reached r m₀ t []) (nx r t (r .order t))
+      at-start : Before r m₀ (r .first) → (t : ℕ) → Phase t [] (reached r m₀ t []) (coming r t (r .order t))
       unfolding turns through
-      at-start b zero = before (subst (λ (n : ℕ → ℕ). Before r m₀ n) (nx-first f) b) (unready-first f)
+      at-start b zero = before (subst (λ (n : ℕ → ℕ). Before r m₀ n) (coming-first f) b) (unready-first f)
       at-start b (suc t) =
           let all = served-all t [] (r .order t) [] (sym (append-nil (r .order t))) (rw (append-nil (r .order t)) (rest-all r f t)) (rw (append-nil (r .order t)) (at-start b t)) in
           go all
         where
-          same : nx r t [] ≡ nx r (suc t) (r .order (suc t))
-          same = nx-by t (suc t) [] (r .order (suc t)) (λ k h. next-time r f t k h)
+          same : coming r t [] ≡ coming r (suc t) (r .order (suc t))
+          same = coming-by t (suc t) [] (r .order (suc t)) (λ k h. next-time r f t k h)
 
-          go : Phase t (r .order t) (reached r m₀ t (r .order t)) (nx r t []) → Phase (suc t) [] (reached r m₀ t (r .order t)) (nx r (suc t) (r .order (suc t)))
+          go : Phase t (r .order t) (reached r m₀ t (r .order t)) (coming r t []) → Phase (suc t) [] (reached r m₀ t (r .order t)) (coming r (suc t) (r .order (suc t)))
           go (before c un) = before (subst (λ (n : ℕ → ℕ). Before r (reached r m₀ t (r .order t)) n) same c) (unready-next f t un)
-          go (first F c d) = first F c (subst (λ (n : ℕ → ℕ). First r (reached r m₀ t (r .order t)) n (suc (F / frames (r .kind)))) same d)
+          go (first F c d) = first F c (subst (λ (n : ℕ → ℕ). First r (reached r m₀ t (r .order t)) n (suc (F / L r))) same d)
           go (later F i c d w) =
-              later F i c (subst (λ (n : ℕ → ℕ). Later r (reached r m₀ t (r .order t)) n (suc (F / frames (r .kind))) i) same d) (subst (λ (n : ℕ → ℕ). Owes r n (suc i)) same w)
+              later F i c (subst (λ (n : ℕ → ℕ). Later r (reached r m₀ t (r .order t)) n (suc (F / L r)) i) same d) (subst (λ (n : ℕ → ℕ). Owes r n (suc i)) same w)
 
       -- every moment
-      pub phase : Before r m₀ (r .first) → (t : ℕ) (done rest : List ℕ) → r .order t ≡ done ++ rest → Phase t done (reached r m₀ t done) (nx r t rest)
+      pub phase : Before r m₀ (r .first) → (t : ℕ) (done rest : List ℕ) → r .order t ≡ done ++ rest → Phase t done (reached r m₀ t done) (coming r t rest)
       phase b t done rest e =
           served-all t [] done rest e (rw e at (rest-all r f t)) (rw e at (at-start b t))
 
       -- 'A fresh receiver begins within 48 frames of the last port's first': after 47, the first counted as 1.
       module _ (fresh-start : Before r m₀ (r .first)) (T : ℕ) (all-come : (p : ℕ) → p < r .ports → r .delay p + r .first p ≤ T) where
         abbrev by : ℕ
-        by = T + (frames (r .kind) * 3 - 1)
+        by = T + (L r * 3 - 1)
 
-        position-by : (q : ℕ) → q < r .ports → nx r by (r .order by) q ≡ by - r .delay q
+        position-by : (q : ℕ) → q < r .ports → coming r by (r .order by) q ≡ by - r .delay q
         unfolding nextAt
         position-by q b =
             let l = frames-some (r .kind) in
             let c = all-come q b in
-            nx-is by (r .order by) q b ∙ rw (f .once by q b) (omega arith)
+            coming-is by (r .order by) q b ∙ rw (f .once by q b) (omega arith)
 
-        stepped : (q : ℕ) → q < r .ports → startFrom (r .kind) (r .offset) (r .first q) + frames (r .kind) * 2 ≤ nx r by (r .order by) q
+        stepped : (q : ℕ) → q < r .ports → startFrom (r .kind) (r .offset) (r .first q) + L r * 2 ≤ coming r by (r .order by) q
         stepped q b =
             let soon = start-from (r .kind) (r .offset) (r .first q) .soon in
             let c = all-come q b in
             let l = frames-some (r .kind) in
             rw (position-by q b) (omega arith)
 
-        near : (p q : ℕ) → p < r .ports → q < r .ports → nx r by (r .order by) p + frames (r .kind) ≤ nx r by (r .order by) q + r .window
+        near : (p q : ℕ) → p < r .ports → q < r .ports → coming r by (r .order by) p + L r ≤ coming r by (r .order by) q + r .window
         near p q hp hq =
             let c = all-come p hp in
             let d = all-come q hq in
@@ -371,11 +340,10 @@ module _ (r : Road) where
             let w = f .spread q p hq hp in
             rw (position-by p hp, position-by q hq) (omega arith)
 
-        pub begun-by : groupAt (through r by m₀ .rows) .begun ≡ 1
-        unfolding turns
+        pub begun-by : hasBegun (reached r m₀ by []) ≡ 1
         begun-by = go (phase fresh-start by [] (r .order by) refl)
           where
-            go : Phase by [] (through r by m₀) (nx r by (r .order by)) → groupAt (through r by m₀ .rows) .begun ≡ 1
-            go (before b un) = absurd (true≢false (sym (s .must-begin (through r by m₀) (nx r by (r .order by)) (b .lined) (record { stepped = stepped; near = near })) ∙ b .unfit))
+            go : Phase by [] (reached r m₀ by []) (coming r by (r .order by)) → hasBegun (reached r m₀ by []) ≡ 1
+            go (before b un) = absurd (true≢false (sym (s .must-begin (reached r m₀ by []) (coming r by (r .order by)) (b .lined) (record { stepped = stepped; near = near })) ∙ b .unfit))
             go (first F b c) = c .open-at .begun
             go (later F i b c w) = c .open-at .begun

@@ -1,5 +1,5 @@
 -- Ports and the group after a report's states and RS-Ack were worked out.
-use mathlib.Core.Path.{_≡_, refl, sym, ap, _∙_}
+use mathlib.Core.Path.{_≡_, refl, ap, _∙_}
 use mathlib.Core.Logic.{⊎-elim, _≢_}
 use mathlib.Core.Bool.{Bool, true, false, cond}
 use mathlib.Core.List.{List}
@@ -8,25 +8,31 @@ use native.Mathlib.Nat.{not-suc-le-zero}
 use native.Mathlib.Omega.{arith}
 use lib.Dec.{eqb}
 use lib.ListN.{getD, length, replicate, length-replicate}
-use borrow.Author.Tests.{le-ltb, lt-ltb}
 use Rattle.counting.specs.Each.{getD-each}
-use Rattle.ground.specs.Truth.{eq-or-ne, le-or-lt}
+use Rattle.ground.specs.Truth.{eq-or-ne}
 use Rattle.judge.specs.Seen.{sizeOf}
 use Rattle.phases.specs.Passing.{groupTo}
-use Rattle.receiver.specs.Laws.Lengths.{length-told-port, length-told-ports}
+use Rattle.receiver.specs.Laws.Lengths.{length-told-ports}
+use Rattle.receiver.specs.Laws.Sizes.{size-is}
 use Rattle.receiver.specs.Report.{noPort, replyPort, replyPorts, toldBy, toldOf, toldPort, toldPorts}
 use Rattle.reply.specs.Choosing.{statesOf}
 use Rattle.reply.specs.declared.members.Port.{Port as ReplyPort}
 use Rattle.reply.specs.Members as R
 use Rattle.reply.specs.Telling.{ackOf, turns}
 use Rattle.rows.specs.declared.group.Group.{Group}
 use Rattle.rows.specs.Group.{groupAt}
-use Rattle.rows.specs.Laws.Group.{group-put-member, group-put-same}
+use Rattle.rows.specs.Laws.Group.{group-put-same}
 use Rattle.rows.specs.Laws.Lengths.{length-put-group}
 use Rattle.rows.specs.Laws.Port.{port-member, port-put-group, port-put-member, port-put-member-other}
 use Rattle.rows.specs.Member.{memberAt}
+use Rattle.rows.specs.Packets.{marksAt}
 use Rattle.rows.specs.Port.{Port, portAt, withMember}
 use Rattle.rows.specs.Rows.{rowsFor}
+use Rattle.rows.specs.Step.{stepAt}
+
+-- the group with another RS-Ack
+abbrev pub withAck : Group → ℕ → Group
+withAck g ack = groupTo g (g .begun) (g .gathered) (g .oldest) (g .origin) ack
 
 -- a port with its state worked out
 abbrev pub toldOn : Port → ℕ → Port
@@ -58,11 +64,6 @@ module _ (states : List ℕ) where
       (λ (d : i ≢ n). told-one-other n t i d ∙ rest (omega arith) (omega arith))
       (eq-or-ne i n)
 
-  told-ports-group : (n : ℕ) (s : List (List ℕ)) → groupAt (toldPorts states n s) ≡ groupAt s
-  unfolding toldPorts toldPort
-  told-ports-group zero s = refl
-  told-ports-group (suc n) s = group-put-member (toldPorts states n s) n _ ∙ told-ports-group n s
-
 module _ (g : Group) (n : ℕ) (s : List (List ℕ)) where
   -- the states that come of it
   abbrev pub statesIn : List ℕ
@@ -76,15 +77,19 @@ module _ (g : Group) (n : ℕ) (s : List (List ℕ)) where
   unfolding toldOf
   told-of-port i b h = port-put-group (toldPorts statesIn n s) _ i ∙ told-port statesIn n s i b h
 
-  pub told-group : 0 < length s → groupAt (toldOf g n s) ≡ groupTo g (g .begun) (g .gathered) (g .oldest) (g .origin) (ackOf (replyPorts g s n) (sizeOf n) (g .«rs_ack»))
+  pub told-step : (i : ℕ) → i < n → rowsFor n ≤ length s → stepAt (toldOf g n s) i ≡ stepAt s i
+  unfolding portAt
+  told-step i b h = ap (λ (p : Port). p .step) (told-of-port i b h)
+
+  pub told-marks : (i : ℕ) → i < n → rowsFor n ≤ length s → marksAt (toldOf g n s) i ≡ marksAt s i
+  unfolding portAt
+  told-marks i b h = ap (λ (p : Port). p .marks) (told-of-port i b h)
+
+  pub told-group : 0 < length s → groupAt (toldOf g n s) ≡ withAck g (ackOf (replyPorts g s n) (sizeOf n) (g .«rs_ack»))
   unfolding toldOf
   told-group h =
       let l : length (toldPorts statesIn n s) ≡ length s = length-told-ports statesIn n s in
-      group-put-same (toldPorts statesIn n s) (groupTo g (g .begun) (g .gathered) (g .oldest) (g .origin) (ackOf (replyPorts g s n) (sizeOf n) (g .«rs_ack»))) 0 (omega arith)
-
--- the size of a group within its bounds
-pub size-is : (n : ℕ) → n ≤ 64 → sizeOf n ≡ n
-size-is n h = ⊎-elim (λ (g : 64 ≤ n). rw (le-ltb n 64 g) (omega arith)) (λ (g : n < 64). rw (lt-ltb n 64 g) refl) (le-or-lt 64 n)
+      group-put-same (toldPorts statesIn n s) (withAck g (ackOf (replyPorts g s n) (sizeOf n) (g .«rs_ack»))) 0 (omega arith)
 
 -- the ports as their states are worked out
 pub reply-port : (g : Group) (s : List (List ℕ)) (n i : ℕ) → n ≤ 64 → i < n → R.portAt (replyPorts g s n) i ≡ replyPort g s i

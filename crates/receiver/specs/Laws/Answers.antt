@@ -1,24 +1,18 @@
--- What the answers say of ports and lengths.
-use mathlib.Core.Path.{_≡_, refl, sym, ap, _∙_}
+-- What the answers of a frame and of a fetch say of ports and lengths.
+use mathlib.Core.Path.{_≡_, refl}
 use mathlib.Core.Logic.{⊎-elim}
-use mathlib.Core.Bool.{Bool, true, false, cond, _&&_, _||_, or-true}
+use mathlib.Core.Bool.{Bool, true, false, cond, _&&_, or-true}
 use mathlib.Core.List.{List}
-use Prim.Native.Nat.{ℕ, _+_, _*_, _≤_, _<_}
+use Prim.Native.Nat.{ℕ, _≤_, _<_}
 use native.Mathlib.Omega.{arith}
 use lib.Dec.{eqb, leb, ltb}
-use lib.ListN.{length}
 use borrow.Author.Tests.{eq-eqb, eqb-true, leb-true, lt-ltb, ltb-true}
 use Rattle.ground.specs.Truth.{and-left, and-right, or-cases}
-use Rattle.phases.specs.Sizes.{portsIn, sized, storeFor}
-use Rattle.receiver.specs.Frame.{refusalBy}
-use Rattle.receiver.specs.Lengths.{frameFits, rowsFit}
+use Rattle.phases.specs.Sizes.{storeFor}
+use Rattle.receiver.specs.Frame.{frameAnswer, frameRefusal, refusalBy, takenIn}
+use Rattle.receiver.specs.Lengths.{fetchFits, frameFits, outputFor, reportBytes, rowsFit}
 use Rattle.rows.specs.declared.group.Group.{Group}
 use Rattle.rows.specs.Rows.{rowsFor}
-
--- a group within its sizes has its count of ports
-pub ports-are : (g : Group) → sized (g .kind) (g .count) (g .payload) (g .window) ≡ true → portsIn g ≡ g .count
-unfolding portsIn
-ports-are g e = rw e refl
 
 -- a frame that is neither 1 nor 9
 pub record Fitting (g : Group) (n i rows payload store : ℕ) : Type 0 where
@@ -27,9 +21,9 @@ pub record Fitting (g : Group) (n i rows payload store : ℕ) : Type 0 where
   pub bytes : payload ≡ g .payload
   pub stored : store ≡ storeFor g n
 
-fit-rows : (n rows i : ℕ) → i < n → rowsFit n rows ≡ true → rows ≡ rowsFor n
+fit-rows : (n rows : ℕ) → 0 < n → rowsFit n rows ≡ true → rows ≡ rowsFor n
 unfolding rowsFit
-fit-rows n rows i b e =
+fit-rows n rows b e =
     ⊎-elim (λ (z : eqb n 0 ≡ true). absurd (let w = eqb-true n 0 z in omega arith)) (λ (z : eqb rows (rowsFor n) ≡ true). eqb-true rows (rowsFor n) z)
     (or-cases (eqb n 0) (eqb rows (rowsFor n)) e)
 
@@ -42,7 +36,7 @@ unrefused g n i rows payload store e = go (ltb i n) (frameFits g n rows payload 
         let f = and-left (rowsFit n rows && eqb payload (g .payload)) (eqb store (storeFor g n)) eb in
         record {
           port = ltb-true i n ea;
-          whole = fit-rows n rows i (ltb-true i n ea) (and-left (rowsFit n rows) (eqb payload (g .payload)) f);
+          whole = fit-rows n rows (let b = ltb-true i n ea in omega arith) (and-left (rowsFit n rows) (eqb payload (g .payload)) f);
           bytes = eqb-true payload (g .payload) (and-right (rowsFit n rows) (eqb payload (g .payload)) f);
           stored = eqb-true store (storeFor g n) (and-right (rowsFit n rows && eqb payload (g .payload)) (eqb store (storeFor g n)) eb);
         }
@@ -53,3 +47,27 @@ pub fitting-none : (g : Group) (n i rows payload store : ℕ) → Fitting g n i 
 unfolding refusalBy frameFits rowsFit
 fitting-none g n i rows payload store f =
     rw (lt-ltb i n (f .port), eq-eqb rows (rowsFor n) (f .whole), eq-eqb payload (g .payload) (f .bytes), eq-eqb store (storeFor g n) (f .stored), or-true (eqb n 0)) refl
+
+-- it is answered as the step rule says
+pub taken-answer : (s : List (List ℕ)) (i : ℕ) (failed : Bool) (h payload store : ℕ) → frameRefusal s i payload store ≡ 0 → frameAnswer s i failed h payload store ≡ takenIn s i failed h .answer
+unfolding frameAnswer
+taken-answer s i failed h payload store e = rw (eq-eqb (frameRefusal s i payload store) 0 e) refl
+
+-- a fetch that is not 9
+pub record Lent (g : Group) (n rows store out : ℕ) : Type 0 where
+  pub whole : 0 < n → rows ≡ rowsFor n
+  pub stored : store ≡ storeFor g n
+  pub room : outputFor g n ≤ out
+
+pub lent : (g : Group) (n rows store out report : ℕ) → fetchFits g n rows store out report ≡ true → Lent g n rows store out
+unfolding fetchFits
+lent g n rows store out report e =
+    let a : Bool = rowsFit n rows in
+    let b : Bool = eqb store (storeFor g n) in
+    let c : Bool = leb (outputFor g n) out in
+    let f = and-left (a && b && c) (eqb report reportBytes) e in
+    record {
+      whole = λ some. fit-rows n rows some (and-left a b (and-left (a && b) c f));
+      stored = eqb-true store (storeFor g n) (and-right a b (and-left (a && b) c f));
+      room = leb-true (outputFor g n) out (and-right (a && b) c f);
+    }

@@ -1,6 +1,4 @@
 -- The single steps, gathered from where each is proved.
-use mathlib.Core.Path.{_≡_}
-use Prim.Native.Nat.{ℕ, _*_}
 use Rattle.link.specs.Road.{Fair, Road}
 use Rattle.link.specs.Transport.Answers.{Says}
 use Rattle.link.specs.Transport.Before.{before-answer, before-frame, must-begin}

@@ -1,19 +1,20 @@
 -- Ports and the group after a port's rows were changed by a frame.
-use mathlib.Core.Path.{_≡_, refl, sym, ap, _∙_}
-use mathlib.Core.Logic.{_≢_}
+use mathlib.Core.Path.{_≡_, refl, ap, _∙_}
+use mathlib.Core.Logic.{⊎-elim, _≢_}
 use mathlib.Core.Bool.{Bool, true, false}
 use mathlib.Core.List.{List, [], _∷_}
 use Prim.Native.Nat.{ℕ, _≤_, _<_}
 use lib.ListN.{getD, length}
+use Rattle.ground.specs.Truth.{eq-or-ne}
 use Rattle.receiver.specs.Frame.{gatheredBy, marksBy, portRows}
 use Rattle.rows.specs.Group.{groupAt}
 use Rattle.rows.specs.Laws.Group.{group-put-marks, group-put-packets, group-put-step}
 use Rattle.rows.specs.Laws.Lengths.{length-put-marks, length-put-packets, length-put-step}
 use Rattle.rows.specs.Laws.Port.{port-put-marks, port-put-marks-other, port-put-packets, port-put-packets-other, port-put-step, port-put-step-other}
-use Rattle.rows.specs.Packets.{marksAt, packetsAt, putMarks, putPackets}
-use Rattle.rows.specs.Port.{Port, portAt, withMarks, withPackets, withStep}
+use Rattle.rows.specs.Packets.{marksAt, packetsAt, putPackets}
+use Rattle.rows.specs.Port.{Port, portAt, withMarks, withPackets}
 use Rattle.rows.specs.Rows.{rowsFor}
-use Rattle.rows.specs.Step.{putStep}
+use Rattle.rows.specs.Step.{putStep, stepAt}
 use Rattle.step.specs.declared.arrival.Taken.{Taken}
 
 -- a port after a frame of its own
@@ -57,3 +58,25 @@ module _ (kind : ℕ) (s : List (List ℕ)) (i : ℕ) (t : Taken) (h : ℕ) wher
   pub frame-other : (j : ℕ) → j ≢ i → portAt (portRows kind s i t h) j ≡ portAt s j
   unfolding portRows
   frame-other j d = port-put-marks-other _ i _ j d ∙ port-put-packets-other _ i _ j d ∙ port-put-step-other s i (t .step) j d
+
+  -- the same of single rows
+  pub frame-step : (n : ℕ) → i < n → rowsFor n ≤ length s → stepAt (portRows kind s i t h) i ≡ t .step
+  unfolding portAt
+  frame-step n b l = ap (λ (p : Port). p .step) (frame-port n b l)
+
+  pub frame-step-other : (j : ℕ) → j ≢ i → stepAt (portRows kind s i t h) j ≡ stepAt s j
+  unfolding portAt
+  frame-step-other j d = ap (λ (p : Port). p .step) (frame-other j d)
+
+  pub frame-marks : (n : ℕ) → i < n → rowsFor n ≤ length s → marksAt (portRows kind s i t h) i ≡ marksBy kind (marksAt s i) t
+  unfolding portAt
+  frame-marks n b l = ap (λ (p : Port). p .marks) (frame-port n b l)
+
+  pub frame-marks-other : (j : ℕ) → j ≢ i → marksAt (portRows kind s i t h) j ≡ marksAt s j
+  unfolding portAt
+  frame-marks-other j d = ap (λ (p : Port). p .marks) (frame-other j d)
+
+  -- no frame changes which packet rules
+  pub frame-ruling : (n : ℕ) → i < n → rowsFor n ≤ length s → (j : ℕ) → portAt (portRows kind s i t h) j .ruling ≡ portAt s j .ruling
+  frame-ruling n b l j =
+      ⊎-elim (λ (e : j ≡ i). rw (e, frame-port n b l) refl) (λ (d : j ≢ i). rw (frame-other j d) refl) (eq-or-ne j i)

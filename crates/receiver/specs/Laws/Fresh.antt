@@ -1,14 +1,17 @@
 -- Ports and the group after a start.
-use mathlib.Core.Path.{_≡_, refl, sym, ap, _∙_}
+use mathlib.Core.Path.{_≡_, refl, ap, _∙_}
 use mathlib.Core.Logic.{⊎-elim, _≢_}
+use mathlib.Core.Bool.{false}
 use mathlib.Core.List.{List, [], _∷_}
 use Prim.Native.Nat.{ℕ, zero, suc, _≤_, _<_}
 use native.Mathlib.Nat.{not-suc-le-zero}
 use native.Mathlib.Omega.{arith}
 use lib.ListN.{length}
+use Rattle.counting.specs.Laws.Tests.{every-fails}
 use Rattle.ground.specs.Truth.{eq-or-ne}
+use Rattle.phases.specs.Beginning.{begins, ready}
 use Rattle.receiver.specs.Laws.Lengths.{length-fresh-ports}
 use Rattle.receiver.specs.Starting.{freshMember, freshPort, freshPorts, freshStep, zeroRow}
 use Rattle.rows.specs.declared.group.Group.{Group}
 use Rattle.rows.specs.Group.{groupAt, putGroup}
 use Rattle.rows.specs.Laws.Group.{group-put-same}
@@ -18,7 +21,7 @@ use Rattle.rows.specs.Member.{putMember}
 use Rattle.rows.specs.Packets.{putPackets}
 use Rattle.rows.specs.Port.{Port, portAt, withMarks, withMember, withPackets}
 use Rattle.rows.specs.Rows.{rowsFor}
-use Rattle.rows.specs.Step.{putStep}
+use Rattle.rows.specs.Step.{putStep, stepAt}
 
 abbrev pub freshOn : ℕ → Port
 freshOn kind = record { step = freshStep; member = freshMember kind; gathering = zeroRow; ruling = zeroRow; marks = zeroRow }
@@ -61,3 +64,12 @@ module _ (kind n : ℕ) (s : List (List ℕ)) (g : Group) where
 
   pub started-port : (i : ℕ) → i < n → rowsFor n ≤ length s → portAt (putGroup (freshPorts kind n s) g) i ≡ freshOn kind
   started-port i b h = port-put-group (freshPorts kind n s) g i ∙ fresh-port kind n s i b h
+
+  pub started-step : (i : ℕ) → i < n → rowsFor n ≤ length s → stepAt (putGroup (freshPorts kind n s) g) i ≡ freshStep
+  unfolding portAt
+  started-step i b h = ap (λ (p : Port). p .step) (started-port i b h)
+
+-- 'every port has had a frame': while one has not, receiving does not begin
+pub waits-for : (g : Group) (s : List (List ℕ)) (n i : ℕ) → i < n → stepAt s i .had ≡ 0 → begins g s n ≡ false
+unfolding begins ready
+waits-for g s n i b e = rw (every-fails n (λ j. ready g (stepAt s j)) i b (rw e refl)) refl
