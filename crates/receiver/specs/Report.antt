@@ -5,7 +5,6 @@ use Prim.Native.Nat.{ℕ, zero, suc, _*_}
 use lib.Dec.{eqb}
 use lib.ListN.{getD, replicate}
 use Rattle.counting.specs.Each.{each}
-use Rattle.ground.specs.Table.{tabulate}
 use Rattle.judge.specs.declared.order.Order.{Order}
 use Rattle.judge.specs.declared.seen.Seen.{Seen}
 use Rattle.judge.specs.Order.{orderOf}
@@ -53,12 +52,12 @@ unfoldable pub seenAll : Group → List (List ℕ) → ℕ → List Seen
 seenAll g s n = each (sizeOf n) (seenOf g s) (replicate 64 noSeen)
 
 -- the starts of the ranked ports' frames, k after the window's first
-unfoldable pub startsOf : Group → List ℕ → ℕ → List ℕ
-startsOf g order k = tabulate 64 (λ r. placeIn g (getD order r 0) k)
+unfoldable pub startsOf : Group → Order → ℕ → List ℕ
+startsOf g o k = each (sizeOf (o .x)) (λ r. placeIn g (getD (o .ports) r 0) k) (replicate 64 0)
 
 -- group frame k at its place in the output
 unfoldable pub frameInto : Group → Order → List ℕ → ℕ → List ℕ → List ℕ
-frameInto g o store k out = joinedFrom (o .x) (g .payload) (startsOf g (o .ports) k) store (k * (o .x * g .payload)) out
+frameInto g o store k out = joinedFrom (o .x) (g .payload) (startsOf g o k) store (k * (o .x * g .payload)) out
 
 -- the first k group frames, one after the other from the output's start on
 unfoldable pub framesInto : Group → Order → List ℕ → ℕ → List ℕ → List ℕ

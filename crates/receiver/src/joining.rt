@@ -1,4 +1,5 @@
 // The sixteen group frames of a report, and what the report says (01, 'Report of an epoch', 'Payload order').
+use crate::lengths;
 use crate::report::Report;
 use judge::Order;
 use packet::kinds;
@@ -11,14 +12,16 @@ ghost use lib.Dec.{eqb};
 ghost use Rattle.judge.specs.Verdict.{HELD};
 ghost use Rattle.receiver.specs.Report.{frameInto, framesInto, outputBy, reportBy, startsOf};
 
-fn starts_of(group: Group, ports: [u8; 64], k: u16) -> [usize; 64]
-    ensures { λ r. ⌜ r ≡ startsOf group ports k ⌝ }
+fn starts_of(group: Group, order: Order, k: u16) -> [usize; 64]
+    ensures { λ r. ⌜ r ≡ startsOf group order k ⌝ }
 {
+    let ports = order.ports;
+    let n = lengths::size_of(order.x);
     let mut starts = [0; 64];
     let mut rank = 0;
-    while rank < 64 {
-        let port = ports[rank];
-        starts[rank] = frames::place(group, port, k);
+    while rank < n {
+        let port = ports[rank as usize];
+        starts[rank as usize] = frames::place(group, port, k);
         rank += 1;
     }
     starts
@@ -27,8 +30,7 @@ fn starts_of(group: Group, ports: [u8; 64], k: u16) -> [usize; 64]
 fn frame_into(group: Group, order: Order, store: &[u8], k: u8, out: &mut [u8])
     ensures { λ _. ⌜ now (out .exit) ≡ frameInto group order (now (store .entry)) k (now (out .entry)) ⌝ }
 {
-    let ports = order.ports;
-    let starts = starts_of(group, ports, k as u16);
+    let starts = starts_of(group, order, k as u16);
     let x = order.x as usize;
     let p = group.payload as usize;
     payload::join_from(x, p, starts, store, k as usize * (x * p), out);
