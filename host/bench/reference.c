@@ -1,7 +1,7 @@
-/* Spreading and joining in C, in the same form as the proved code: a member alone by one copy of the C library, memcpy
- * here, since the buffers of a call lie apart; blocks of eight by eight bytes as eight words where they fit, the last
- * ones starting earlier; else plain loops. It is compiled by each C compiler at hand, with the names SPREAD and JOIN
- * given on the command line.
+/* Spreading and joining in C, in the same form as the proved code: a member alone by memcpy, since the buffers of a call
+ * lie apart; blocks of eight by eight bytes as eight words where they fit, the last ones starting earlier; else plain
+ * loops. It is compiled by each C compiler at hand, with the names SPREAD and JOIN given on the command line. A compiler
+ * that sees P bounded may make moves of its own of the memcpy and no call: gcc does, on x86-64.
  */
 #include <stddef.h>
 #include <stdint.h>
