@@ -52,12 +52,12 @@ unfoldable pub seenAll : Group → List (List ℕ) → ℕ → List Seen
 seenAll g s n = each (sizeOf n) (seenOf g s) (replicate 64 noSeen)
 
 -- the starts of the ranked ports' frames, k after the window's first
-unfoldable pub startsOf : Group → Order → ℕ → List ℕ
-startsOf g o k = each (sizeOf (o .x)) (λ r. placeIn g (getD (o .ports) r 0) k) (replicate 64 0)
+unfoldable pub startsOf : Group → List ℕ → ℕ → ℕ → List ℕ
+startsOf g order x k = each (sizeOf x) (λ r. placeIn g (getD order r 0) k) (replicate 64 0)
 
 -- group frame k at its place in the output
 unfoldable pub frameInto : Group → Order → List ℕ → ℕ → List ℕ → List ℕ
-frameInto g o store k out = joinedFrom (o .x) (g .payload) (startsOf g o k) store (k * (o .x * g .payload)) out
+frameInto g o store k out = joinedFrom (o .x) (g .payload) (startsOf g (o .ports) (o .x) k) store (k * (o .x * g .payload)) out
 
 -- the first k group frames, one after the other from the output's start on
 unfoldable pub framesInto : Group → Order → List ℕ → ℕ → List ℕ → List ℕ

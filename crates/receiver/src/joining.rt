@@ -12,11 +12,10 @@ ghost use lib.Dec.{eqb};
 ghost use Rattle.judge.specs.Verdict.{HELD};
 ghost use Rattle.receiver.specs.Report.{frameInto, framesInto, outputBy, reportBy, startsOf};
 
-fn starts_of(group: Group, order: Order, k: u16) -> [usize; 64]
-    ensures { λ r. ⌜ r ≡ startsOf group order k ⌝ }
+fn starts_of(group: Group, ports: [u8; 64], x: u8, k: u16) -> [usize; 64]
+    ensures { λ r. ⌜ r ≡ startsOf group ports x k ⌝ }
 {
-    let ports = order.ports;
-    let n = lengths::size_of(order.x);
+    let n = lengths::size_of(x);
     let mut starts = [0; 64];
     let mut rank = 0;
     while rank < n {
@@ -30,7 +29,8 @@ fn starts_of(group: Group, order: Order, k: u16) -> [usize; 64]
 fn frame_into(group: Group, order: Order, store: &[u8], k: u8, out: &mut [u8])
     ensures { λ _. ⌜ now (out .exit) ≡ frameInto group order (now (store .entry)) k (now (out .entry)) ⌝ }
 {
-    let starts = starts_of(group, order, k as u16);
+    let ports = order.ports;
+    let starts = starts_of(group, ports, order.x, k as u16);
     let x = order.x as usize;
     let p = group.payload as usize;
     payload::join_from(x, p, starts, store, k as usize * (x * p), out);

@@ -74,14 +74,14 @@ module _ (g : Group) (seen : List Seen) (n : ℕ) (store out : List ℕ) (size :
   unfolding outputFor
   ends-in k h = room-for k (frames (g .kind)) X n P (length out) h few room
 
-  starts : (k r : ℕ) → r < X → getD (startsOf g (orderOf seen n) k) r 0 ≡ placeIn g (portOf seen n r) k
+  starts : (k r : ℕ) → r < X → getD (startsOf g (orderOf seen n .ports) (orderOf seen n .x) k) r 0 ≡ placeIn g (portOf seen n r) k
   unfolding startsOf orderOf
   starts k r h =
       let b : r < 64 = (let w = few in let s = size .few-ports in omega arith) in
       getD-each (sizeOf X) (λ i. placeIn g (getD (orderOf seen n .ports) i 0) k) (replicate 64 0) r 0 (size-over X r h b) b
       ∙ ap (λ (p : ℕ). placeIn g p k) (order-port seen n r b)
 
-  fitting : (k : ℕ) → k < frames (g .kind) → (o : List ℕ) → length o ≡ length out → FromFits X P (startsOf g (orderOf seen n) k) (length store) (k * (X * P)) (length o)
+  fitting : (k : ℕ) → k < frames (g .kind) → (o : List ℕ) → length o ≡ length out → FromFits X P (startsOf g (orderOf seen n .ports) (orderOf seen n .x) k) (length store) (k * (X * P)) (length o)
   unfolding storeFor
   fitting k h o e =
       record {
@@ -93,7 +93,7 @@ module _ (g : Group) (seen : List Seen) (n : ℕ) (store out : List ℕ) (size :
       }
 
   -- byte q of group frame k is byte k X P + q of the report
-  byte-is : (k q : ℕ) → q < X * P → groupByte X (startedByte (startsOf g (orderOf seen n) k) store) q ≡ reportByte g seen n store (k * (X * P) + q)
+  byte-is : (k q : ℕ) → q < X * P → groupByte X (startedByte (startsOf g (orderOf seen n .ports) (orderOf seen n .x) k) store) q ≡ reportByte g seen n store (k * (X * P) + q)
   byte-is k q b =
       rw (digits-div k b, digits-mod k b) (ap (λ (a : ℕ). getD store (a + q / X) 0) (starts k (q % X) (mod-lt q (members-some q b))))
     where
@@ -101,11 +101,11 @@ module _ (g : Group) (seen : List Seen) (n : ℕ) (store out : List ℕ) (size :
       members-some q b = ⊎-elim (λ (z : X ≡ 0). absurd (let e : X * P ≡ 0 = rw (z, zero-mul P) in omega arith)) (λ (p : 0 < X). p) (eq-zero-or-pos X)
 
   framed : (k : ℕ) → k < frames (g .kind) → (mid : List ℕ) → length mid ≡ length out
-      → frameInto g (orderOf seen n) store k mid ≡ fillAt (0 + k * (X * P)) (X * P) (groupByte X (startedByte (startsOf g (orderOf seen n) k) store)) mid
+      → frameInto g (orderOf seen n) store k mid ≡ fillAt (0 + k * (X * P)) (X * P) (groupByte X (startedByte (startsOf g (orderOf seen n .ports) (orderOf seen n .x) k) store)) mid
   unfolding frameInto orderOf
   framed k h mid e =
       let z : 0 + k * (X * P) ≡ k * (X * P) = omega arith in
-      rw z (joined-from-done X P (startsOf g (orderOf seen n) k) store (k * (X * P)) mid (fitting k h mid e))
+      rw z (joined-from-done X P (startsOf g (orderOf seen n .ports) (orderOf seen n .x) k) store (k * (X * P)) mid (fitting k h mid e))
 
   filled : (k : ℕ) → k ≤ frames (g .kind) → Filling 0 (k * (X * P)) (reportByte g seen n store) out (framesInto g (orderOf seen n) store k out)
   unfolding framesInto
@@ -114,7 +114,7 @@ module _ (g : Group) (seen : List Seen) (n : ℕ) (store out : List ℕ) (size :
       let e : suc k * (X * P) ≡ k * (X * P) + X * P = omega arith in
       let mid : List ℕ = framesInto g (orderOf seen n) store k out in
       rw e
-      (filling-piece (X * P) (groupByte X (startedByte (startsOf g (orderOf seen n) k) store)) (frameInto g (orderOf seen n) store k mid) (filled k (omega arith))
+      (filling-piece (X * P) (groupByte X (startedByte (startsOf g (orderOf seen n .ports) (orderOf seen n .x) k) store)) (frameInto g (orderOf seen n) store k mid) (filled k (omega arith))
       (framed k (omega arith) mid (length-frames-into g (orderOf seen n) store k out)) (λ q b. byte-is k q b))
 
   -- all group frames of an epoch

@@ -35,11 +35,11 @@ length-told-ports states (suc n) s = length-told-port states n (toldPorts states
 
 pub length-frame-into : (g : Group) (o : Order) (store : List ℕ) (k : ℕ) (out : List ℕ) → length (frameInto g o store k out) ≡ length out
 unfolding frameInto
-length-frame-into g o store k out = go (fromAnswer (o .x) (g .payload) (startsOf g o k) (length store) (k * (o .x * g .payload)) (length out))
+length-frame-into g o store k out = go (fromAnswer (o .x) (g .payload) (startsOf g (o .ports) (o .x) k) (length store) (k * (o .x * g .payload)) (length out))
   where
     go : (a : Answer)
-        → length (underDone a (fillAt (k * (o .x * g .payload)) (o .x * g .payload) (groupByte (o .x) (startedByte (startsOf g o k) store)) out) out) ≡ length out
-    go Done = length-fillAt (k * (o .x * g .payload)) (o .x * g .payload) (groupByte (o .x) (startedByte (startsOf g o k) store)) out
+        → length (underDone a (fillAt (k * (o .x * g .payload)) (o .x * g .payload) (groupByte (o .x) (startedByte (startsOf g (o .ports) (o .x) k) store)) out) out) ≡ length out
+    go Done = length-fillAt (k * (o .x * g .payload)) (o .x * g .payload) (groupByte (o .x) (startedByte (startsOf g (o .ports) (o .x) k) store)) out
     go Range = refl
     go Length = refl
 
