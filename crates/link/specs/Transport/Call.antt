@@ -48,4 +48,4 @@ module _ (r : Road) (f : Fair r) where
         }
     unfolding framed frameRows frameStore frameAnswer takenRows takenStore
     framed-is p x b d =
-        rw (unrefused p x b, ports-are, ne-eqb (takenAt p x .answer) 11 d, o .kind-is) refl
+        rw (unrefused p x b, ports-are, ne-eqb (takenAt p x .answer) 11 d, ← o .kind-is) refl
