@@ -9,8 +9,8 @@ use lib.Dec.{eqb}
 use lib.ListN.{length}
 use borrow.Author.Tests.{eqb-true, eqb-false}
 use Rattle.calls.specs.Kept.Group.{Kept}
-use Rattle.calls.specs.Laws.Settling.{rows-by}
 use Rattle.calls.specs.Settles.{settles-always}
+use Rattle.ground.specs.Truth.{cond-by}
 use Rattle.phases.specs.Settling.{settledOf}
 use Rattle.phases.specs.Sizes.{portsIn, storeFor}
 use Rattle.receiver.specs.Frame.{frameRefusal, frameRows, frameStore, portRows, settledBy, storeBy, takenIn, takenRows, takenStore}
@@ -96,15 +96,15 @@ pub frame-any : (P : List (List ℕ) → Type 0) (s : List (List ℕ)) (i : ℕ)
     → P (frameRows s i failed h payload store)
 unfolding frameRows takenRows settledBy
 frame-any P s i failed h payload store stays alone goes =
-    rows-by P (eqb (frameRefusal s i (length payload) (length store)) 0) (cond (eqb (t .answer) 11) s (cond (t .settles) after a)) s
+    cond-by P (eqb (frameRefusal s i (length payload) (length store)) 0) (cond (eqb (t .answer) 11) s (cond (t .settles) after a)) s
     (λ e.
     let none : frameRefusal s i (length payload) (length store) ≡ 0 = eqb-true (frameRefusal s i (length payload) (length store)) 0 e in
-    rows-by P (eqb (t .answer) 11) s (cond (t .settles) after a) (λ f. stays)
+    cond-by P (eqb (t .answer) 11) s (cond (t .settles) after a) (λ f. stays)
     (λ f.
     let other : takenIn s i failed h .answer ≢ 11 = eqb-false (t .answer) 11 f in
     let o = unrefused (groupAt s) (portsIn (groupAt s)) i (length s) (length payload) (length store) none in
     let long = after-long s i failed h (portsIn (groupAt s)) (o .whole) in
-    rows-by P (t .settles) after a (λ q. goes none other long) (λ q. alone none other)))
+    cond-by P (t .settles) after a (λ q. goes none other long) (λ q. alone none other)))
     (λ e. stays)
   where
     t : Taken

@@ -14,14 +14,15 @@ use Rattle.calls.specs.Kept.Group.{Kept, Steady}
 use Rattle.calls.specs.Kept.Port.{PortKept, Windowed}
 use Rattle.calls.specs.Kept.Start.{started-kept, started-with}
 use Rattle.calls.specs.Kept.Steps.{brought-lets, steady-frame, windowed}
-use Rattle.calls.specs.Laws.Settling.{rows-by, settled-by}
-use Rattle.calls.specs.Laws.Window.{first-epoch, frames-some, tag-next, tag-passed, tagIn}
+use Rattle.calls.specs.Laws.Settling.{settled-by}
+use Rattle.calls.specs.Laws.Window.{first-epoch, tag-next, tag-passed, tagIn}
 use Rattle.calls.specs.Same.{step-sizes}
 use Rattle.ground.specs.Table.{getD-tabulate, tabulate}
-use Rattle.ground.specs.Truth.{eq-or-ne}
+use Rattle.ground.specs.Truth.{cond-by, eq-or-ne}
 use Rattle.judge.specs.Seen.{sizeOf}
 use Rattle.packet.specs.Counts.{counts}
 use Rattle.packet.specs.Kinds.{frames}
+use Rattle.packet.specs.Theorems.Tags.{frames-two}
 use Rattle.phases.specs.Due.{brought}
 use Rattle.phases.specs.Laws.Cleared.{begun-port, clearedOn, stopped-group}
 use Rattle.phases.specs.Laws.Lengths.{length-passed, length-stopped}
@@ -103,7 +104,7 @@ module _ (tag : ℕ) (bytes : List ℕ) (h4 : ℕ) where
       let group : groupAt (passedOf (groupAt s) other n s) ≡ passedGroup (groupAt s) = passed-group g other n s (omega arith) in
       let port : portAt (passedOf (groupAt s) other n s) j ≡ passedOn (groupAt s) other j (portAt s j) = passed-of-port g other n s j b enough in
       let W = windowed g (k .group) in
-      let some : 0 < g .window = (let least = W .least in let more = frames-some (g .kind) in omega arith) in
+      let some : 0 < g .window = (let least = W .least in let more = frames-two (g .kind) in omega arith) in
       let claims : Claims (passedGroup (groupAt s)) (passedStep (portAt s j .step) (firstMark (portAt s j .marks))) (passedMarks (portAt s j .marks)) (c .at) = rw (group, port) at (c .claims) in
       let tag-is : tag ≡ tagIn (passedGroup (groupAt s)) (c .at) = rw group at (c .tag-is) in
       let stands : Stands (passedGroup (groupAt s)) j (c .at) bytes h4 store = rw group at (c .stands) in
@@ -199,7 +200,7 @@ module _ (tag : ℕ) (bytes : List ℕ) (h4 : ℕ) where
     put : (d : ℕ) → t .kept ≡ true → d ≡ t .at → Stands g i d bytes h4 st → (h4 ≡ h) × ((m : ℕ) → m < g .payload → getD bytes m 0 ≡ getD payload m 0)
     unfolding storeBy storeFor
     put d e q f =
-        let some : 0 < g .window = (let least = W .least in let more = frames-some (g .kind) in omega arith) in
+        let some : 0 < g .window = (let least = W .least in let more = frames-two (g .kind) in omega arith) in
         let f : Stands g i (t .at) bytes h4 (storedAt store (placeIn g i (t .at)) payload h) = rw (e, q) at f in
         let p : Stands g i (t .at) payload h (storedAt store (placeIn g i (t .at)) payload h) = stands-put g n i (t .at) payload h store some (o .port) (o .stored) (o .bytes) in
         (sym (f .last) ∙ p .last, λ m c. sym (f .bytes m c) ∙ p .bytes m c)
@@ -283,9 +284,9 @@ module _ (tag : ℕ) (bytes : List ℕ) (h4 : ℕ) where
       → Claimed s store j tag bytes h4
   unfolding fetchRows givenRows reportedOf
   fetch-claimed s k store out report j b =
-      rows-by On (fits s store out report) (cond (dueIn (groupAt s) (portsIn (groupAt s)) s) (reportedOf (groupAt s) store (portsIn (groupAt s)) s) s) s
+      cond-by On (fits s store out report) (cond (dueIn (groupAt s) (portsIn (groupAt s)) s) (reportedOf (groupAt s) store (portsIn (groupAt s)) s) s) s
       (λ e.
-      rows-by On (dueIn (groupAt s) (portsIn (groupAt s)) s) (reportedOf (groupAt s) store (portsIn (groupAt s)) s) s
+      cond-by On (dueIn (groupAt s) (portsIn (groupAt s)) s) (reportedOf (groupAt s) store (portsIn (groupAt s)) s) s
       (λ d c.
       let q : Due (groupAt s) (groupAt s .count) s = due-says (groupAt s) (groupAt s .count) s (rw ports at d) in
       let p : List (List ℕ) = passedOf (groupAt s) store (groupAt s .count) s in

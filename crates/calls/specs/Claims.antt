@@ -9,12 +9,13 @@ use lib.Dec.{eqb, ltb}
 use borrow.Author.Tests.{eqb-true, ltb-true}
 use Rattle.calls.specs.Kept.Passing.{ahead}
 use Rattle.calls.specs.Kept.Port.{Joined, PortKept, Windowed, offset}
-use Rattle.calls.specs.Laws.Flags.{both, never}
+use Rattle.calls.specs.Laws.Flags.{never}
 use Rattle.calls.specs.Laws.Runs.{run-counts, run-goes-on}
-use Rattle.calls.specs.Laws.Window.{distance-next, distance-passed, epoch-cut, epoch-ended, epoch-more, frames-some, in-epoch, later-back, later-part, part-back, part-before, start-place, whole-epochs}
-use Rattle.ground.specs.Truth.{and-left, and-right, eq-or-ne, le-or-lt, or-cases}
+use Rattle.calls.specs.Laws.Window.{distance-next, distance-passed, epoch-cut, epoch-ended, epoch-more, in-epoch, later-back, later-part, part-back, part-before, start-place, whole-epochs}
+use Rattle.ground.specs.Truth.{and-left, and-right, clash, eq-or-ne, le-or-lt, or-cases}
 use Rattle.packet.specs.Counts.{counts}
 use Rattle.packet.specs.Kinds.{endsEpoch, epochsIn, frames, startsEpoch, tags}
+use Rattle.packet.specs.Theorems.Tags.{frames-two}
 use Rattle.phases.specs.Due.{lets}
 use Rattle.phases.specs.Passing.{passedGroup, passedStep}
 use Rattle.receiver.specs.Frame.{marksBy}
@@ -112,7 +113,7 @@ module _ (g : Group) (s : Step) (marks : List ℕ) (failed : Bool) (h : ℕ) (W 
               begun = c .begun;
               has =
                   ⊎-elim (λ (m : markIn marks (d / frames (g .kind)) ≡ true). inl m)
-                  (λ (p : Part g (aside g s run .step) d). both (flagOf (s .joined)) (p .joined) (off (c .begun))) (c .has);
+                  (λ (p : Part g (aside g s run .step) d). clash (flagOf (s .joined)) (p .joined) (off (c .begun))) (c .has);
             };
         apart = λ e. never e;
       })
@@ -137,7 +138,7 @@ module _ (g : Group) (s : Step) (marks : List ℕ) (failed : Bool) (h : ℕ) (W 
     next-offset : distanceIn g (run .next) ≡ e + 1
     next-offset =
         rw (run-goes-on (g .kind) (runOf s) h on)
-        (distance-next g (s .next) (let most = W .most in let l = low in let some = W .least in let more = frames-some (g .kind) in omega arith))
+        (distance-next g (s .next) (let most = W .most in let l = low in let some = W .least in let more = frames-two (g .kind) in omega arith))
 
     sent : counts (g .kind) (s .next) h ≡ true
     sent = run-counts (g .kind) (runOf s) h on
@@ -204,7 +205,7 @@ module _ (g : Group) (s : Step) (marks : List ℕ) (failed : Bool) (h : ℕ) (W 
       taken-by Stays g s failed h
       (λ f. flagged-stays)
       (λ f e. counts-stays (ranOn g s h))
-      (λ f e b. aside-stays (ranOn g s h) (λ t. both (flagOf (g .begun)) t b))
+      (λ f e b. aside-stays (ranOn g s h) (λ t. clash (flagOf (g .begun)) t b))
       (λ f e b j w. keeps-stays f e w j)
       (λ f e b j w. outside-stays)
       (λ f e b j t w. joins-stays f e w t)

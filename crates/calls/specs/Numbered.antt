@@ -1,20 +1,21 @@
 -- A12, of the packet itself: each packet that rules carries, as its MFI2, the number of the epoch before the oldest.
-use mathlib.Core.Path.{_≡_, refl, sym, ap, _∙_}
+use mathlib.Core.Path.{_≡_, refl, sym, _∙_}
 use mathlib.Core.Logic.{_⊎_, ⊎-elim}
-use mathlib.Core.Bool.{Bool, true, false, cond, false≢true}
+use mathlib.Core.Bool.{Bool, true, false}
 use mathlib.Core.List.{List, [], _∷_}
-use Prim.Native.Nat.{ℕ, _+_, _≤_, _<_}
+use Prim.Native.Nat.{ℕ, _+_, _<_}
 use native.Mathlib.Omega.{arith}
 use lib.ListN.{length}
 use Rattle.calls.specs.Arriving.{after-group}
 use Rattle.calls.specs.Calls.{Fetch, Frame, Receiver, ReceiverCall, receiverRun, receiverStep, startedWith, step-kept}
-use Rattle.calls.specs.Claimed.{Claimed, Handed, HandedBy, mark-claimed, step-claimed}
+use Rattle.calls.specs.Claimed.{Claimed, HandedBy, mark-claimed, step-claimed}
 use Rattle.calls.specs.Kept.Group.{Kept}
 use Rattle.calls.specs.Kept.Start.{started-kept, started-with}
-use Rattle.calls.specs.Laws.Flags.{both, never, off-flag}
+use Rattle.calls.specs.Laws.Flags.{never, off-flag}
 use Rattle.calls.specs.Laws.Window.{mfi2-within, packet-numbered, ruling-passed, tagIn}
 use Rattle.calls.specs.Ruled.{AllPassed, AllStay, AllUnruled, rowsPassed, step-ruled}
 use Rattle.calls.specs.Same.{step-sizes}
+use Rattle.ground.specs.Truth.{clash}
 use Rattle.packet.specs.Counts.{counts}
 use Rattle.packet.specs.Kinds.{frames, lead}
 use Rattle.packet.specs.Layout.{fieldsOf}
@@ -22,7 +23,7 @@ use Rattle.receiver.specs.Report.{rulingEpoch}
 use Rattle.receiver.specs.Starting.{groupWith, startAnswer, startRows}
 use Rattle.rows.specs.declared.group.Group.{Group}
 use Rattle.rows.specs.Group.{groupAt}
-use Rattle.rows.specs.Port.{Port, portAt}
+use Rattle.rows.specs.Port.{portAt}
 use Rattle.step.specs.Arrival.{flagOf}
 use Rattle.store.specs.Frames.{h4At, packetIn}
 use Rattle.store.specs.Marks.{firstMark}
@@ -90,7 +91,7 @@ module _ (x : Receiver) (c : ReceiverCall) (k : Kept (x .rows)) (counted : Count
       rw (a .ports j b .ruling) (o j b (rw (a .ports j b .whole) at whole)) ∙ sym (same-epoch g (groupAt (y .rows)) kind (a .oldest)))
       (λ (u : AllUnruled (x .rows) (y .rows) ⊎ AllPassed x c (y .store) (y .rows)).
       ⊎-elim
-      (λ (a : AllUnruled (x .rows) (y .rows)). both (flagOf (portAt (y .rows) j .step .whole)) whole (off-flag (portAt (y .rows) j .step .whole) (a .ports j b .whole)))
+      (λ (a : AllUnruled (x .rows) (y .rows)). clash (flagOf (portAt (y .rows) j .step .whole)) whole (off-flag (portAt (y .rows) j .step .whole) (a .ports j b .whole)))
       (λ (a : AllPassed x c (y .store) (y .rows)). passed a b (firstMark (portAt (rowsPassed x c) j .marks)) refl)
       u)
       (step-ruled x c k)
@@ -114,4 +115,4 @@ ruling-numbered kind count P W rows store e calls =
     let group : groupAt (startRows kind count P W (length store) rows) ≡ groupWith kind count P W = started-with kind count P W (length store) rows e in
     run-numbered x calls k
     (λ tag bytes h4 j b c. let w : flagOf (groupAt (startRows kind count P W (length store) rows) .begun) ≡ true = c .claims .begun in never (rw group at w))
-    (λ j b whole. both (flagOf (portAt (x .rows) j .step .whole)) whole (off-flag (portAt (x .rows) j .step .whole) (k .steady .ports j b .unruled (rw group refl))))
+    (λ j b whole. clash (flagOf (portAt (x .rows) j .step .whole)) whole (off-flag (portAt (x .rows) j .step .whole) (k .steady .ports j b .unruled (rw group refl))))

@@ -14,9 +14,9 @@ use Rattle.calls.specs.Kept.Group.{Kept}
 use Rattle.calls.specs.Kept.Start.{started-kept, started-with}
 use Rattle.calls.specs.Kept.Taken.{taken-whole}
 use Rattle.calls.specs.Laws.Flags.{off-flag}
-use Rattle.calls.specs.Laws.Settling.{rows-by, settled-by}
+use Rattle.calls.specs.Laws.Settling.{settled-by}
 use Rattle.calls.specs.Same.{step-sizes}
-use Rattle.ground.specs.Truth.{eq-or-ne}
+use Rattle.ground.specs.Truth.{cond-by, eq-or-ne}
 use Rattle.packet.specs.Kinds.{epochAfter}
 use Rattle.phases.specs.Laws.Cleared.{begun-port, stopped-port}
 use Rattle.phases.specs.Laws.Lengths.{length-passed, length-stopped}
@@ -167,8 +167,8 @@ module _ (s : List (List ℕ)) (k : Kept s) (store out report : List ℕ) where
   pub fetch-ruled : Ruled y (Fetch out report) store (fetchRows s store out report)
   unfolding fetchRows givenRows
   fetch-ruled =
-      rows-by (Ruled y (Fetch out report) store) (fits s store out report) (cond (dueIn g (portsIn g) s) (reportedOf g store (portsIn g) s) s) s
-      (λ e. rows-by (Ruled y (Fetch out report) store) (dueIn g (portsIn g) s) (reportedOf g store (portsIn g) s) s (λ d. inr (inr (rw ports (reported (due-says g (portsIn g) s d .begun))))) (λ d. stays)) (λ e. stays)
+      cond-by (Ruled y (Fetch out report) store) (fits s store out report) (cond (dueIn g (portsIn g) s) (reportedOf g store (portsIn g) s) s) s
+      (λ e. cond-by (Ruled y (Fetch out report) store) (dueIn g (portsIn g) s) (reportedOf g store (portsIn g) s) s (λ d. inr (inr (rw ports (reported (due-says g (portsIn g) s d .begun))))) (λ d. stays)) (λ e. stays)
     where
       g : Group
       g = groupAt s

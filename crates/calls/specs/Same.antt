@@ -1,5 +1,4 @@
 -- What no call changes: the kind of packet, the count of ports, P and W.
-use mathlib.Core.Path.{refl, _∙_}
 use mathlib.Core.Bool.{Bool, cond}
 use mathlib.Core.List.{List, [], _∷_}
 use Prim.Native.Nat.{ℕ, _<_}
@@ -8,10 +7,10 @@ use lib.ListN.{length}
 use Rattle.calls.specs.Arriving.{Counts, after-group, frame-by, portAfter, storeAfter}
 use Rattle.calls.specs.Calls.{Fetch, Frame, Receiver, ReceiverCall, receiverRun, receiverStep, step-kept}
 use Rattle.calls.specs.Kept.Group.{Kept}
-use Rattle.calls.specs.Laws.Settling.{rows-by}
+use Rattle.ground.specs.Truth.{cond-by}
 use Rattle.phases.specs.Laws.Lengths.{length-passed}
 use Rattle.phases.specs.Laws.Passed.{passed-group}
-use Rattle.phases.specs.Laws.Sizes.{SameSizes, settled-sizes}
+use Rattle.phases.specs.Laws.Sizes.{SameSizes, settled-sizes, sizes-stay, sizes-then}
 use Rattle.phases.specs.Passing.{passedOf}
 use Rattle.phases.specs.Sizes.{portsIn}
 use Rattle.receiver.specs.Fetch.{dueIn, fetchRows, fits, givenRows}
@@ -22,13 +21,6 @@ use Rattle.receiver.specs.Report.{reportedOf, toldOf}
 use Rattle.rows.specs.declared.group.Group.{Group}
 use Rattle.rows.specs.Group.{groupAt}
 
-sizes-stay : (g : Group) → SameSizes g g
-sizes-stay g = record { kind = refl; count = refl; payload = refl; window = refl }
-
-sizes-then : (f g h : Group) → SameSizes g f → SameSizes h g → SameSizes h f
-sizes-then f g h p q =
-    record { kind = q .kind ∙ p .kind; count = q .count ∙ p .count; payload = q .payload ∙ p .payload; window = q .window ∙ p .window }
-
 pub frame-sizes : (s : List (List ℕ)) → Kept s → (i : ℕ) (failed : Bool) (h : ℕ) (payload store : List ℕ) → SameSizes (groupAt (frameRows s i failed h payload store)) (groupAt s)
 frame-sizes s k i failed h payload store =
     frame-by (λ (r : List (List ℕ)) (m : List ℕ). SameSizes (groupAt r) (groupAt s)) s k i failed h payload store (sizes-stay (groupAt s))
@@ -38,8 +30,8 @@ frame-sizes s k i failed h payload store =
 pub fetch-sizes : (s : List (List ℕ)) → Kept s → (store out report : List ℕ) → SameSizes (groupAt (fetchRows s store out report)) (groupAt s)
 unfolding fetchRows givenRows reportedOf
 fetch-sizes s k store out report =
-    rows-by On (fits s store out report) (cond (dueIn g (portsIn g) s) (reportedOf g store (portsIn g) s) s) s
-    (λ e. rows-by On (dueIn g (portsIn g) s) (reportedOf g store (portsIn g) s) s (λ d. reported) (λ d. sizes-stay (groupAt s))) (λ e. sizes-stay (groupAt s))
+    cond-by On (fits s store out report) (cond (dueIn g (portsIn g) s) (reportedOf g store (portsIn g) s) s) s
+    (λ e. cond-by On (dueIn g (portsIn g) s) (reportedOf g store (portsIn g) s) s (λ d. reported) (λ d. sizes-stay (groupAt s))) (λ e. sizes-stay (groupAt s))
   where
     g : Group
     g = groupAt s
@@ -68,5 +60,5 @@ step-sizes x (Fetch out report) k = fetch-sizes (x .rows) k (x .store) out repor
 pub run-sizes : (x : Receiver) (calls : List ReceiverCall) → Kept (x .rows) → SameSizes (groupAt (receiverRun x calls .rows)) (groupAt (x .rows))
 run-sizes x [] k = sizes-stay (groupAt (x .rows))
 run-sizes x (c ∷ calls) k =
-    sizes-then (groupAt (x .rows)) (groupAt (receiverStep x c .rows)) (groupAt (receiverRun (receiverStep x c) calls .rows)) (step-sizes x c k)
-    (run-sizes (receiverStep x c) calls (step-kept x c k))
+    sizes-then (groupAt (receiverRun (receiverStep x c) calls .rows)) (groupAt (receiverStep x c .rows)) (groupAt (x .rows))
+    (run-sizes (receiverStep x c) calls (step-kept x c k)) (step-sizes x c k)

@@ -9,10 +9,9 @@ use lib.ListN.{length}
 use Rattle.calls.specs.Kept.Group.{Kept, PortIn}
 use Rattle.calls.specs.Kept.Quiet.{Quiet, taken-quiet}
 use Rattle.calls.specs.Kept.Steps.{windowed}
-use Rattle.calls.specs.Laws.Flags.{both}
 use Rattle.counting.specs.Laws.Tests.{every-all, every-at, every-fails}
 use Rattle.counting.specs.Words.{every}
-use Rattle.ground.specs.Truth.{eq-or-ne, fails}
+use Rattle.ground.specs.Truth.{clash, eq-or-ne, fails}
 use Rattle.phases.specs.Due.{brought, lets, silent}
 use Rattle.phases.specs.Settling.{settledOf}
 use Rattle.phases.specs.Theorems.Settled.{Settled, heard-port, settled-stays}
@@ -88,7 +87,7 @@ module _ (s : List (List ℕ)) (k : Kept s) (i : ℕ) (failed : Bool) (h : ℕ) 
         record {
           heard = λ e. rw same (still-heard (k .settled .heard (q .begun)));
           gathers = λ e f. let f : flagOf (g .gathered) ≡ false = rw same at f in rw same (still-waits f (k .settled .gathers (q .begun) f));
-          waits = λ e. both (flagOf (g .begun)) (q .begun) (rw same at e);
+          waits = λ e. clash (flagOf (g .begun)) (q .begun) (rw same at e);
         }
 
   -- whatever settles says

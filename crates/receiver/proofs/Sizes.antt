@@ -1,40 +1,20 @@
 -- What the tests of ranges and lengths say.
 use mathlib.Core.Path.{_≡_}
 use mathlib.Core.Bool.{true, _&&_}
-use Prim.Native.Nat.{ℕ, _/_, _≤_}
+use Prim.Native.Nat.{ℕ, _≤_}
 use lib.Dec.{eqb, leb}
-use borrow.Author.Tests.{eqb-true, leb-true}
-use Rattle.ground.specs.Truth.{and-left, and-right}
-use Rattle.packet.specs.Kinds.{frames, tags}
-use Rattle.phases.specs.Sizes.{sized, storeFor}
+use borrow.Author.Tests.{eqb-true}
+use Rattle.ground.specs.Truth.{and-right}
+use Rattle.packet.specs.Kinds.{tags}
+use Rattle.phases.specs.Sizes.{storeFor}
+use Rattle.receiver.specs.Laws.Sizes.{Sizes}
 use Rattle.receiver.specs.Lengths.{fetchFits, outputFor, rowsFit}
 use Rattle.receiver.specs.Shown.{replyFit, shownFit}
 use Rattle.rows.specs.declared.group.Group.{Group}
 
-module _ (kind count P W : ℕ) (t : sized kind count P W ≡ true) where
-  pub count-most : count ≤ 64
-  unfolding sized
-  count-most =
-      leb-true count 64
-      (and-right (leb 1 count) (leb count 64)
-      (and-left (leb 1 count && leb count 64) (leb 1 P)
-      (and-left (leb 1 count && leb count 64 && leb 1 P) (leb P 2340)
-      (and-left (leb 1 count && leb count 64 && leb 1 P && leb P 2340) (leb (frames kind) W)
-      (and-left (leb 1 count && leb count 64 && leb 1 P && leb P 2340 && leb (frames kind) W) (leb W (tags kind / 2)) t)))))
-
-  pub payload-most : P ≤ 2340
-  unfolding sized
-  payload-most =
-      leb-true P 2340
-      (and-right (leb 1 count && leb count 64 && leb 1 P) (leb P 2340)
-      (and-left (leb 1 count && leb count 64 && leb 1 P && leb P 2340) (leb (frames kind) W)
-      (and-left (leb 1 count && leb count 64 && leb 1 P && leb P 2340 && leb (frames kind) W) (leb W (tags kind / 2)) t)))
-
-  pub window-most : W ≤ 2048
-  unfolding sized tags
-  window-most =
-      leb-true W 2048
-      (and-right (leb 1 count && leb count 64 && leb 1 P && leb P 2340 && leb (frames kind) W) (leb W (tags kind / 2)) t)
+pub window-most : (kind count P W : ℕ) → Sizes kind count P W → W ≤ 2048
+unfolding tags
+window-most kind count P W z = z .narrow
 
 pub shown-length : (n rows out : ℕ) → shownFit n rows out ≡ true → out ≡ n
 unfolding shownFit

@@ -11,11 +11,9 @@ use Rattle.calls.specs.Kept.Group.{Kept, Steady}
 use Rattle.calls.specs.Kept.Settling.{SteadyOf, steady-settled}
 use Rattle.calls.specs.Kept.Steps.{steady-frame, steady-passed}
 use Rattle.calls.specs.Kept.Told.{steady-told}
-use Rattle.calls.specs.Laws.Flags.{both}
-use Rattle.calls.specs.Laws.Settling.{rows-by}
 use Rattle.calls.specs.Settles.{settles-always}
 use Rattle.counting.specs.Laws.Tests.{every-ext}
-use Rattle.ground.specs.Truth.{and-left, and-right}
+use Rattle.ground.specs.Truth.{and-left, and-right, clash, cond-by}
 use Rattle.judge.specs.Seen.{sizeOf}
 use Rattle.phases.specs.Due.{brought, silent}
 use Rattle.phases.specs.Laws.Lengths.{length-passed}
@@ -69,9 +67,9 @@ module _ (s : List (List ℕ)) (k : Kept s) where
   frame-kept i failed h payload store =
       let t : Taken = takenIn s i failed h in
       let after : List (List ℕ) = settledBy (t .settles) (portsIn g) (storeBy g i t h payload store) (portRows (g .kind) s i t h) in
-      rows-by Kept (eqb (frameRefusal s i (length payload) (length store)) 0) (cond (eqb (t .answer) 11) s after) s
+      cond-by Kept (eqb (frameRefusal s i (length payload) (length store)) 0) (cond (eqb (t .answer) 11) s after) s
       (λ e.
-      rows-by Kept (eqb (t .answer) 11) s after (λ f. k)
+      cond-by Kept (eqb (t .answer) 11) s after (λ f. k)
       (λ f.
       let o = unrefused g (portsIn g) i (length s) (length payload) (length store) (eqb-true (frameRefusal s i (length payload) (length store)) 0 e) in
       rw ports (taken-kept i failed h (storeBy g i t h payload store) (rw ports at (o .port)))))
@@ -105,8 +103,8 @@ reported-kept s k store on due =
     kept-of n r (record { steady = told-count (groupAt a) a (groupAt a .count) n count (steady-told a ka); count = ap (λ (x : Group). x .count) told ∙ count })
     (record {
       heard = λ e. told-silent (groupAt a) a refl n la ∙ passed-silent (groupAt s) store n s enough ∙ k .settled .heard on;
-      gathers = λ e f. both (flagOf (groupAt r .gathered)) gathered f;
-      waits = λ f. both (flagOf (groupAt r .begun)) begun f;
+      gathers = λ e f. clash (flagOf (groupAt r .gathered)) gathered f;
+      waits = λ f. clash (flagOf (groupAt r .begun)) begun f;
     })
   where
     n : ℕ
@@ -166,9 +164,9 @@ due-says g n s e =
 pub fetch-kept : (s : List (List ℕ)) → Kept s → (store out report : List ℕ) → Kept (fetchRows s store out report)
 unfolding fetchRows givenRows
 fetch-kept s k store out report =
-    rows-by Kept (fits s store out report) (cond (dueIn g (portsIn g) s) (reportedOf g store (portsIn g) s) s) s
+    cond-by Kept (fits s store out report) (cond (dueIn g (portsIn g) s) (reportedOf g store (portsIn g) s) s) s
     (λ e.
-    rows-by Kept (dueIn g (portsIn g) s) (reportedOf g store (portsIn g) s) s
+    cond-by Kept (dueIn g (portsIn g) s) (reportedOf g store (portsIn g) s) s
     (λ d. rw ports (let o = due-says g (groupAt s .count) s (rw ports at d) in reported-kept s k store (o .begun) (o .brought))) (λ d. k))
     (λ e. k)
   where

@@ -6,9 +6,9 @@ use mathlib.Core.List.{List}
 use Prim.Native.Nat.{ℕ, _+_, _≤_}
 use native.Mathlib.Omega.{arith}
 use Rattle.calls.specs.Kept.Port.{Joined, PortKept, offset}
-use Rattle.calls.specs.Laws.Flags.{both, flag-le, flag-on, true-or-false}
+use Rattle.calls.specs.Laws.Flags.{flag-le, flag-on, true-or-false}
 use Rattle.calls.specs.Laws.Window.{distance-passed, end-before, end-nearer, first-ended, later-nearer, less-later, one-ahead}
-use Rattle.ground.specs.Truth.{and-left, and-right, eq-or-ne, or-cases}
+use Rattle.ground.specs.Truth.{and-left, and-right, clash, eq-or-ne, or-cases}
 use Rattle.packet.specs.Kinds.{frames}
 use Rattle.phases.specs.Due.{lets}
 use Rattle.phases.specs.Passing.{passedGroup, passedStep}
@@ -70,11 +70,11 @@ module _ (g : Group) (s : Step) (marks : List ℕ) (k : PortKept g s marks) (beg
         failed-none = k .failed-none;
         failed-had = k .failed-had;
         count-had = k .count-had;
-        idle = λ b. both (flagOf (g .begun)) begun b;
+        idle = λ b. clash (flagOf (g .begun)) begun b;
         goes = joined;
         inside = λ i m. end-before (g .kind) i (g .window) (k .inside (i + 1) (sym (mark-passed marks (k .row) i) ∙ m));
         at-once = λ j. let z = k .at-once j in omega arith;
-        waits = λ e j. both (flagOf (s .joined)) (has-joined e) j;
+        waits = λ e j. clash (flagOf (s .joined)) (has-joined e) j;
         early = λ e. let z = k .early e in omega arith;
       }
     where

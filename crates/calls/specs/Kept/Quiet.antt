@@ -8,9 +8,9 @@ use native.Mathlib.Omega.{arith}
 use lib.Dec.{eqb}
 use borrow.Author.Tests.{eqb-false, ne-eqb, ltb-true, not-false}
 use Rattle.calls.specs.Kept.Port.{PortKept, Windowed, offset}
-use Rattle.calls.specs.Laws.Flags.{both, true-or-false}
+use Rattle.calls.specs.Laws.Flags.{true-or-false}
 use Rattle.calls.specs.Laws.Window.{epochs-none, meet}
-use Rattle.ground.specs.Truth.{or-cases}
+use Rattle.ground.specs.Truth.{clash, neither, or-cases}
 use Rattle.packet.specs.Kinds.{endsEpoch, epochsIn, frames}
 use Rattle.phases.specs.Due.{lets}
 use Rattle.receiver.specs.Frame.{marksBy}
@@ -34,10 +34,6 @@ pub record Quiet (g : Group) (s : Step) (marks : List ℕ) (t : Taken) : Type 0 
   pub heard : readable g s ≡ true → readable g (t .step) ≡ true
   pub lets : flagOf (g .gathered) ≡ false → lets g (t .step) (marksBy (g .kind) marks t) ≡ true → lets g s marks ≡ true
 
-nor : (a b : Bool) → (a || b) ≡ false → (a ≡ false) × (b ≡ false)
-nor true b e = absurd (true≢false e)
-nor false b e = (refl, e)
-
 module _ (g : Group) (s : Step) (marks : List ℕ) (W : Windowed g) (k : PortKept g s marks) where
   -- a port out of step has not joined and does not wait to
   unreadable : inStep g s ≡ false → readable g s ≡ false
@@ -55,10 +51,10 @@ module _ (g : Group) (s : Step) (marks : List ℕ) (W : Windowed g) (k : PortKep
   -- lost without having been in step
   module _ (now : Bool) (off : now ≡ false) (quiet : (not (flagOf (g .begun)) || inStep g s && not now) ≡ false) where
     quiet-begun : flagOf (g .begun) ≡ true
-    quiet-begun = not-false (flagOf (g .begun)) (nor (not (flagOf (g .begun))) (inStep g s && not now) quiet .0)
+    quiet-begun = not-false (flagOf (g .begun)) (neither (not (flagOf (g .begun))) (inStep g s && not now) quiet .0)
 
     quiet-out : inStep g s ≡ false
-    quiet-out = go (inStep g s) (nor (not (flagOf (g .begun))) (inStep g s && not now) quiet .1)
+    quiet-out = go (inStep g s) (neither (not (flagOf (g .begun))) (inStep g s && not now) quiet .1)
       where
         go : (b : Bool) → (b && not now) ≡ false → b ≡ false
         go true e = absurd (true≢false (sym (rw off refl) ∙ e))
@@ -68,7 +64,7 @@ module _ (g : Group) (s : Step) (marks : List ℕ) (W : Windowed g) (k : PortKep
   out t b e =
       record {
         begun = b;
-        heard = λ r. both (readable g s) r (unreadable e);
+        heard = λ r. clash (readable g s) r (unreadable e);
         lets = λ f l. lets-out (unreadable e);
       }
 
@@ -180,7 +176,7 @@ taken-quiet g s marks failed h W k =
     taken-by (λ (t : Taken). t .settles ≡ false → Quiet g s marks t) g s failed h
     (λ f. flagged-quiet g s marks W k)
     (λ f e. counts-quiet g s marks W k h e)
-    (λ f e b q. both (flagOf (g .begun)) (aside-begun g s (ranOn g s h) q) b)
+    (λ f e b q. clash (flagOf (g .begun)) (aside-begun g s (ranOn g s h) q) b)
     (λ f e b j w. keeps-quiet g s marks W k h e b)
     (λ f e b j w q. outside-quiet g s marks b)
     (λ f e b j t w q. joins-quiet g s marks W k h e b j w)

@@ -7,8 +7,7 @@ use native.Mathlib.Omega.{arith}
 use lib.ListN.{length}
 use Rattle.calls.specs.Kept.Group.{Steady}
 use Rattle.calls.specs.Kept.Steps.{steady-begun, steady-passed, steady-stopped}
-use Rattle.calls.specs.Laws.Settling.{rows-by}
-use Rattle.ground.specs.Truth.{and-left, and-right}
+use Rattle.ground.specs.Truth.{and-left, and-right, cond-by}
 use Rattle.phases.specs.Beginning.{begins}
 use Rattle.phases.specs.Due.{brought, silent}
 use Rattle.phases.specs.Laws.Cleared.{begun-group, stopped-group}
@@ -38,14 +37,14 @@ module _ (s : List (List ℕ)) (k : Steady s) where
   stop-steady : SteadyOf n (stopBy g n s)
   unfolding stopBy
   stop-steady =
-      rows-by (SteadyOf n) (flagOf (g .begun) && silent g s n) (stoppedOf g n s) s
+      cond-by (SteadyOf n) (flagOf (g .begun) && silent g s n) (stoppedOf g n s) s
       (λ e. record { steady = steady-stopped s k; count = ap (λ (h : Group). h .count) (stopped-group g n s some) })
       (λ e. record { steady = k; count = refl })
 
   begin-steady : SteadyOf n (beginBy g n s)
   unfolding beginBy
   begin-steady =
-      rows-by (SteadyOf n) (not (flagOf (g .begun)) && begins g s n) (begunOf g n s) s
+      cond-by (SteadyOf n) (not (flagOf (g .begun)) && begins g s n) (begunOf g n s) s
       (λ e.
       record {
         steady = steady-begun s k (and-right (not (flagOf (g .begun))) (begins g s n) e);
@@ -56,7 +55,7 @@ module _ (s : List (List ℕ)) (k : Steady s) where
   gather-steady : (store : List ℕ) → SteadyOf n (gatherBy g store n s)
   unfolding gatherBy
   gather-steady store =
-      rows-by (SteadyOf n) (flagOf (g .begun) && not (flagOf (g .gathered)) && brought g s n) (passedOf g store n s) s
+      cond-by (SteadyOf n) (flagOf (g .begun) && not (flagOf (g .gathered)) && brought g s n) (passedOf g store n s) s
       (λ e.
       record {
         steady =

@@ -10,8 +10,9 @@ use borrow.Author.Tests.{eqb-true}
 use Rattle.calls.specs.Kept.Group.{Kept, Steady}
 use Rattle.calls.specs.Kept.Port.{PortKept}
 use Rattle.calls.specs.Laws.Runs.{none-kept}
-use Rattle.calls.specs.Laws.Window.{frames-some, some-epochs}
+use Rattle.calls.specs.Laws.Window.{some-epochs}
 use Rattle.ground.specs.Truth.{and-left}
+use Rattle.packet.specs.Theorems.Tags.{frames-two}
 use Rattle.phases.specs.Sizes.{sized}
 use Rattle.receiver.specs.Laws.Fresh.{freshOn, length-started, started-group, started-port, started-step, waits-for}
 use Rattle.receiver.specs.Laws.Sizes.{Sizes, sizes-of}
@@ -67,7 +68,7 @@ module _ (kind count P W : ℕ) (s : List (List ℕ)) (right : sized kind count 
             rw group
             (record {
               sizes = right;
-              origin = let w = sizes .wide in let some = frames-some kind in omega arith;
+              origin = let w = sizes .wide in let some = frames-two kind in omega arith;
               oldest = some-epochs kind;
               begun = omega arith;
               gathered = omega arith;

@@ -12,17 +12,17 @@ use Rattle.calls.specs.Kept.Group.{GroupKept, OkApart, PortIn, Steady, k
 use Rattle.calls.specs.Kept.Passing.{passed-kept}
 use Rattle.calls.specs.Kept.Port.{Windowed}
 use Rattle.calls.specs.Kept.Taken.{taken-kept, taken-whole}
-use Rattle.calls.specs.Laws.Flags.{both}
-use Rattle.calls.specs.Laws.Window.{epoch-after-lt, frames-some, some-epochs}
+use Rattle.calls.specs.Laws.Window.{epoch-after-lt, some-epochs}
 use Rattle.counting.specs.Laws.Tests.{every-at}
 use Rattle.counting.specs.Words.{every}
-use Rattle.ground.specs.Truth.{and-right, eq-or-ne}
+use Rattle.ground.specs.Truth.{and-right, clash, cond-by, eq-or-ne}
 use Rattle.packet.specs.Crc.{crcOf}
 use Rattle.packet.specs.declared.reader.Reading.{Reading}
 use Rattle.packet.specs.declared.reader.Reading.the-variants.{Crc, Fixed, Packet, Unassigned}
 use Rattle.packet.specs.Kinds.{epochAfter, epochOf}
 use Rattle.packet.specs.Layout.{carriedIn, fieldsOf}
 use Rattle.packet.specs.Reading.{readNibbles}
+use Rattle.packet.specs.Theorems.Tags.{frames-two}
 use Rattle.packet.specs.Words.{ADD, DNU, EOS, FIXED, IDLE, NORM, assigned}
 use Rattle.phases.specs.Beginning.{begins, foremost, noTag, ready, within}
 use Rattle.phases.specs.declared.ruling.Ruling.{Ruling}
@@ -86,22 +86,18 @@ one-of : (x a b c d e none : Bool) → x ≡ false → (x || a || b || c || d ||
 one-of x a b c d e true f h = refl
 one-of x a b c d e false f h = rw f at h
 
-read-by : (P : Reading → Type 0) (b : Bool) (x y : Reading) → (b ≡ true → P x) → (b ≡ false → P y) → P (cond b x y)
-read-by P true x y p q = p refl
-read-by P false x y p q = q refl
-
 abbrev Known : Reading → Type 0
 Known r = rulingBy r .good ≡ true → knownWord (rulingBy r .word) ≡ true
 
 read-known : (ns : List ℕ) → Known (readNibbles ns)
 unfolding readNibbles assigned
 read-known ns =
-    read-by Known (eqb (crcOf (take 14 ns)) (carriedIn ns))
+    cond-by Known (eqb (crcOf (take 14 ns)) (carriedIn ns))
     (cond (eqb (fieldsOf ns .word .0) FIXED) Fixed (cond (assigned (fieldsOf ns .word)) (Packet (fieldsOf ns)) Unassigned)) Crc
     (λ c.
-    read-by Known (eqb (fieldsOf ns .word .0) FIXED) Fixed (cond (assigned (fieldsOf ns .word)) (Packet (fieldsOf ns)) Unassigned) (λ f e. absurd (false≢true e))
+    cond-by Known (eqb (fieldsOf ns .word .0) FIXED) Fixed (cond (assigned (fieldsOf ns .word)) (Packet (fieldsOf ns)) Unassigned) (λ f e. absurd (false≢true e))
     (λ f.
-    read-by Known (assigned (fieldsOf ns .word)) (Packet (fieldsOf ns)) Unassigned
+    cond-by Known (assigned (fieldsOf ns .word)) (Packet (fieldsOf ns)) Unassigned
     (λ a e.
     let w : ℕ = fieldsOf ns .word .0 in
     one-of (eqb w FIXED) (eqb w ADD) (eqb w NORM) (eqb w EOS) (eqb w IDLE) (eqb w DNU) (eqb w noWord) f a)
@@ -127,13 +123,13 @@ passed-in g on k =
     let W = windowed g k in
     record {
       sizes = k .sizes;
-      origin = origin-within g (let least = W .least in let some = frames-some (g .kind) in omega arith);
+      origin = origin-within g (let least = W .least in let some = frames-two (g .kind) in omega arith);
       oldest = epoch-after-lt (g .kind) (g .oldest);
       begun = k .begun;
       gathered = omega arith;
       ack = k .ack;
-      idle-gathered = λ b. both (flagOf (g .begun)) on b;
-      idle-oldest = λ b. both (flagOf (g .begun)) on b;
+      idle-gathered = λ b. clash (flagOf (g .begun)) on b;
+      idle-oldest = λ b. clash (flagOf (g .begun)) on b;
     }
 
 module _ (s : List (List ℕ)) (k : Steady s) where
@@ -269,7 +265,7 @@ module _ (s : List (List ℕ)) (k : Steady s) where
             rw (group, passed-of-port g store n s i b enough)
             (record {
               kept = passed-kept g (portAt s i .step) (portAt s i .marks) (o .kept) on (brought-lets g s n due i b);
-              unruled = λ f. both (flagOf (passedGroup g .gathered)) (rw (passed-gathered g) refl) f;
+              unruled = λ f. clash (flagOf (passedGroup g .gathered)) (rw (passed-gathered g) refl) f;
               word = noted-word (portAt s i .member) (firstMark (portAt s i .marks)) (g .kind) (g .oldest) (packetIn g i store) (o .word);
             });
         members =

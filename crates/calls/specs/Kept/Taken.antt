@@ -8,11 +8,12 @@ use native.Mathlib.Omega.{arith}
 use lib.Dec.{eqb, leb, ltb}
 use borrow.Author.Tests.{ltb-true, lt-ltb, le-ltb, eqb-true}
 use Rattle.calls.specs.Kept.Port.{Joined, PortKept, Waiting, Windowed, endOf, offset, shortOf}
-use Rattle.calls.specs.Laws.Flags.{both, flag-on, never}
+use Rattle.calls.specs.Laws.Flags.{flag-on, never}
 use Rattle.calls.specs.Laws.Runs.{RunKept, none-kept, run-goes-on, run-kept}
-use Rattle.calls.specs.Laws.Window.{at-base, distance-next, ends-inside, ends-more, ends-same, epochs-none, far, frames-some, meet, none-ended, short-next, start-place, whole-epochs}
-use Rattle.ground.specs.Truth.{and-left, and-true, le-or-lt, or-cases}
+use Rattle.calls.specs.Laws.Window.{at-base, distance-next, ends-inside, ends-more, ends-same, epochs-none, far, meet, none-ended, short-next, start-place, whole-epochs}
+use Rattle.ground.specs.Truth.{and-left, and-true, clash, le-or-lt, or-cases}
 use Rattle.packet.specs.Kinds.{endsEpoch, epochsIn, frames, startsEpoch, tagAfter, tags}
+use Rattle.packet.specs.Theorems.Tags.{frames-two}
 use Rattle.receiver.specs.Frame.{marksBy}
 use Rattle.rows.specs.declared.group.Group.{Group}
 use Rattle.rows.specs.declared.step.Step.{Step}
@@ -96,7 +97,7 @@ module _ (g : Group) (s : Step) (marks : List ℕ) (W : Windowed g) (k : PortKep
             failed-had = λ e. refl;
             count-had = λ l. refl;
             idle = λ b. let i = k .idle b in record { joined = i .joined; since = i .since; later = i .later; whole = i .whole; empty = i .empty };
-            goes = λ e. both (flagOf (s .joined)) e j;
+            goes = λ e. clash (flagOf (s .joined)) e j;
             inside = k .inside;
             at-once = k .at-once;
             waits = w;
@@ -107,7 +108,7 @@ module _ (g : Group) (s : Step) (marks : List ℕ) (W : Windowed g) (k : PortKep
       before-keeps : flagOf (g .begun) ≡ false → Keeps (aside g s run)
       before-keeps b =
           let i = k .idle b in
-          aside-keeps (λ e n. both (flagOf (s .since)) e (rw (i .since))) (rw (i .joined))
+          aside-keeps (λ e n. clash (flagOf (s .since)) e (rw (i .since))) (rw (i .joined))
 
       -- not joined, at a frame that is no epoch start in the window
       waits-keeps : flagOf (s .joined) ≡ false → (startsEpoch (g .kind) (s .next) && inWindow g s) ≡ false → Keeps (aside g s run)
@@ -119,8 +120,8 @@ module _ (g : Group) (s : Step) (marks : List ℕ) (W : Windowed g) (k : PortKep
           ahead : shortOf g s ≢ 0
           ahead z =
               let a = at-base g (s .next) z in
-              let room : 0 < g .window = (let least = W .least in let some = frames-some (g .kind) in omega arith) in
-              both (startsEpoch (g .kind) (s .next) && inWindow g s)
+              let room : 0 < g .window = (let least = W .least in let some = frames-two (g .kind) in omega arith) in
+              clash (startsEpoch (g .kind) (s .next) && inWindow g s)
               (and-true (startsEpoch (g .kind) (s .next)) (inWindow g s) (a .0) (lt-ltb d (g .window) (rw (a .1) room))) w
 
           waiting : flagOf (s .since) ≡ true → flagOf (s .joined) ≡ false → Waiting g (advanced s run) marks
@@ -139,7 +140,7 @@ module _ (g : Group) (s : Step) (marks : List ℕ) (W : Windowed g) (k : PortKep
         half = let most = W .most in let l = low in omega arith
 
         next-offset : distanceIn g (run .next) ≡ d + 1
-        next-offset = rw after (distance-next g (s .next) (let most = W .most in let l = low in let some = W .least in let more = frames-some (g .kind) in omega arith))
+        next-offset = rw after (distance-next g (s .next) (let most = W .most in let l = low in let some = W .least in let more = frames-two (g .kind) in omega arith))
 
         -- a frame of a joined port
         keeps-keeps : flagOf (g .begun) ≡ true → flagOf (s .joined) ≡ true → Keeps (keeps g s run d)
@@ -165,7 +166,7 @@ module _ (g : Group) (s : Step) (marks : List ℕ) (W : Windowed g) (k : PortKep
                   failed-none = never;
                   failed-had = λ e. refl;
                   count-had = λ l. refl;
-                  idle = λ n. both (flagOf (g .begun)) b n;
+                  idle = λ n. clash (flagOf (g .begun)) b n;
                   goes = λ e.
                       record {
                         reach = rw next-offset (let l = low in omega arith);
@@ -175,7 +176,7 @@ module _ (g : Group) (s : Step) (marks : List ℕ) (W : Windowed g) (k : PortKep
                       };
                   inside = inside;
                   at-once = k .at-once;
-                  waits = λ e n. both (flagOf (s .joined)) j n;
+                  waits = λ e n. clash (flagOf (s .joined)) j n;
                   early = k .early;
                 }
 
@@ -224,7 +225,7 @@ module _ (g : Group) (s : Step) (marks : List ℕ) (W : Windowed g) (k : PortKep
               failed-none = never;
               failed-had = λ e. refl;
               count-had = λ l. refl;
-              idle = λ n. both (flagOf (g .begun)) b n;
+              idle = λ n. clash (flagOf (g .begun)) b n;
               goes = λ e.
                   record {
                     reach = rw next-offset (let l = low in omega arith);

@@ -5,6 +5,7 @@ use Prim.Native.Nat.{ℕ, _+_, _*_, _%_, _≤_, _<_}
 use native.Mathlib.Omega.{arith}
 use lib.Dec.{eqb, leb}
 use borrow.Author.Tests.{eqb-false, leb-true, leb-false}
+use Rattle.ground.specs.Truth.{cond-by}
 use Rattle.packet.specs.Counts.{afterFirst, afterSecond, counts, goesSecond, startsCount}
 use Rattle.packet.specs.Kinds.{frames, tagAfter, tags}
 use Rattle.step.specs.declared.run.Run.{Run}
@@ -70,34 +71,29 @@ further-kept kind count next many k = go (leb 32 count) refl
           goes = λ (l : 0 < count + 1) (m : count + 1 < 32). omega arith;
         }
 
--- a choice of two runs
-run-by : (P : Run → Type 0) (b : Bool) (x y : Run) → (b ≡ true → P x) → (b ≡ false → P y) → P (cond b x y)
-run-by P true x y p q = p refl
-run-by P false x y p q = q refl
-
 begun-kept : (kind h : ℕ) → RunKept kind (begunRun kind h)
 unfolding begunRun
 begun-kept kind h =
-    run-by (RunKept kind) (startsCount kind h) (record { count = 1; next = afterFirst kind h }) (record { count = 0; next = 0 }) (λ e. one-kept kind h)
+    cond-by (RunKept kind) (startsCount kind h) (record { count = 1; next = afterFirst kind h }) (record { count = 0; next = 0 }) (λ e. one-kept kind h)
     (λ e. none-kept kind)
 
 second-kept : (kind : ℕ) (run : Run) (h : ℕ) → RunKept kind (secondRun kind run h)
 unfolding secondRun
 second-kept kind run h =
-    run-by (RunKept kind) (goesSecond kind h) (record { count = 2; next = afterSecond kind (run .next) h }) (begunRun kind h)
+    cond-by (RunKept kind) (goesSecond kind h) (record { count = 2; next = afterSecond kind (run .next) h }) (begunRun kind h)
     (λ e. two-kept kind (run .next) h) (λ e. begun-kept kind h)
 
 -- a frame more
 pub run-kept : (kind : ℕ) (run : Run) (h : ℕ) → RunKept kind run → RunKept kind (runOn kind run h)
 unfolding runOn furtherRun
 run-kept kind run h k =
-    run-by (RunKept kind) (eqb (run .count) 0) (begunRun kind h) (cond (eqb (run .count) 1) (secondRun kind run h) (furtherRun kind run h)) (λ e. begun-kept kind h)
+    cond-by (RunKept kind) (eqb (run .count) 0) (begunRun kind h) (cond (eqb (run .count) 1) (secondRun kind run h) (furtherRun kind run h)) (λ e. begun-kept kind h)
     (λ e.
     let some = eqb-false (run .count) 0 e in
-    run-by (RunKept kind) (eqb (run .count) 1) (secondRun kind run h) (furtherRun kind run h) (λ d. second-kept kind run h)
+    cond-by (RunKept kind) (eqb (run .count) 1) (secondRun kind run h) (furtherRun kind run h) (λ d. second-kept kind run h)
     (λ d.
     let more = eqb-false (run .count) 1 d in
-    run-by (RunKept kind) (counts kind (run .next) h) (record { count = oneMore kind (run .count); next = tagAfter kind (run .next) }) (begunRun kind h)
+    cond-by (RunKept kind) (counts kind (run .next) h) (record { count = oneMore kind (run .count); next = tagAfter kind (run .next) }) (begunRun kind h)
     (λ c. further-kept kind (run .count) (run .next) (omega arith) k) (λ c. begun-kept kind h)))
 
 -- A frame after which the port is in step has the tag that was to come: the next one is the tag after it.
@@ -109,13 +105,13 @@ short kind count l e = let w = leb-true 32 count e in omega arith
 few : (kind h : ℕ) → begunRun kind h .count ≤ 2
 unfolding begunRun
 few kind h =
-    run-by (λ (r : Run). r .count ≤ 2) (startsCount kind h) (record { count = 1; next = afterFirst kind h }) (record { count = 0; next = 0 }) (λ e. omega arith)
+    cond-by (λ (r : Run). r .count ≤ 2) (startsCount kind h) (record { count = 1; next = afterFirst kind h }) (record { count = 0; next = 0 }) (λ e. omega arith)
     (λ e. omega arith)
 
 few-second : (kind : ℕ) (run : Run) (h : ℕ) → secondRun kind run h .count ≤ 2
 unfolding secondRun
 few-second kind run h =
-    run-by (λ (r : Run). r .count ≤ 2) (goesSecond kind h) (record { count = 2; next = afterSecond kind (run .next) h }) (begunRun kind h) (λ e. omega arith)
+    cond-by (λ (r : Run). r .count ≤ 2) (goesSecond kind h) (record { count = 2; next = afterSecond kind (run .next) h }) (begunRun kind h) (λ e. omega arith)
     (λ e. few kind h)
 
 abbrev GoesOn : ℕ → Run → Run → Type 0
@@ -124,13 +120,13 @@ GoesOn kind run r = inStepAt kind (r .count) ≡ true → r .next ≡ tagAfter k
 pub run-goes-on : (kind : ℕ) (run : Run) (h : ℕ) → inStepAt kind (runOn kind run h .count) ≡ true → runOn kind run h .next ≡ tagAfter kind (run .next)
 unfolding runOn furtherRun
 run-goes-on kind run h =
-    run-by (GoesOn kind run) (eqb (run .count) 0) (begunRun kind h) (cond (eqb (run .count) 1) (secondRun kind run h) (furtherRun kind run h))
+    cond-by (GoesOn kind run) (eqb (run .count) 0) (begunRun kind h) (cond (eqb (run .count) 1) (secondRun kind run h) (furtherRun kind run h))
     (λ e t. absurd (short kind (begunRun kind h .count) (few kind h) t))
     (λ e.
-    run-by (GoesOn kind run) (eqb (run .count) 1) (secondRun kind run h) (furtherRun kind run h)
+    cond-by (GoesOn kind run) (eqb (run .count) 1) (secondRun kind run h) (furtherRun kind run h)
     (λ d t. absurd (short kind (secondRun kind run h .count) (few-second kind run h) t))
     (λ d.
-    run-by (GoesOn kind run) (counts kind (run .next) h) (record { count = oneMore kind (run .count); next = tagAfter kind (run .next) }) (begunRun kind h)
+    cond-by (GoesOn kind run) (counts kind (run .next) h) (record { count = oneMore kind (run .count); next = tagAfter kind (run .next) }) (begunRun kind h)
     (λ c t. refl) (λ c t. absurd (short kind (begunRun kind h .count) (few kind h) t))))
 
 abbrev Counted : ℕ → Run → ℕ → Run → Type 0
@@ -140,11 +136,11 @@ Counted kind run h r = inStepAt kind (r .count) ≡ true → counts kind (run .n
 pub run-counts : (kind : ℕ) (run : Run) (h : ℕ) → inStepAt kind (runOn kind run h .count) ≡ true → counts kind (run .next) h ≡ true
 unfolding runOn furtherRun
 run-counts kind run h =
-    run-by (Counted kind run h) (eqb (run .count) 0) (begunRun kind h) (cond (eqb (run .count) 1) (secondRun kind run h) (furtherRun kind run h))
+    cond-by (Counted kind run h) (eqb (run .count) 0) (begunRun kind h) (cond (eqb (run .count) 1) (secondRun kind run h) (furtherRun kind run h))
     (λ e t. absurd (short kind (begunRun kind h .count) (few kind h) t))
     (λ e.
-    run-by (Counted kind run h) (eqb (run .count) 1) (secondRun kind run h) (furtherRun kind run h)
+    cond-by (Counted kind run h) (eqb (run .count) 1) (secondRun kind run h) (furtherRun kind run h)
     (λ d t. absurd (short kind (secondRun kind run h .count) (few-second kind run h) t))
     (λ d.
-    run-by (Counted kind run h) (counts kind (run .next) h) (record { count = oneMore kind (run .count); next = tagAfter kind (run .next) }) (begunRun kind h)
+    cond-by (Counted kind run h) (counts kind (run .next) h) (record { count = oneMore kind (run .count); next = tagAfter kind (run .next) }) (begunRun kind h)
     (λ c t. c) (λ c t. absurd (short kind (begunRun kind h .count) (few kind h) t))))

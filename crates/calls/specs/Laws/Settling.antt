@@ -1,13 +1,12 @@
 -- What follows from a frame for all ports, case by case.
-use mathlib.Core.Path.{_≡_, refl, ap}
-use mathlib.Core.Bool.{Bool, true, false, cond, not, _&&_}
+use mathlib.Core.Path.{_≡_, ap}
+use mathlib.Core.Bool.{Bool, true, false, not, _&&_}
 use mathlib.Core.List.{List}
 use Prim.Native.Nat.{ℕ, _≤_}
 use native.Mathlib.Omega.{arith}
 use lib.ListN.{length}
 use borrow.Author.Tests.{not-true}
-use Rattle.calls.specs.Laws.Flags.{both}
-use Rattle.ground.specs.Truth.{and-left, and-right}
+use Rattle.ground.specs.Truth.{and-left, and-right, clash, cond-by}
 use Rattle.phases.specs.Beginning.{begins}
 use Rattle.phases.specs.Due.{brought, silent}
 use Rattle.phases.specs.Laws.Cleared.{stopped-group}
@@ -19,10 +18,6 @@ use Rattle.rows.specs.declared.group.Group.{Group}
 use Rattle.rows.specs.Group.{groupAt}
 use Rattle.rows.specs.Rows.{rowsFor}
 use Rattle.step.specs.Arrival.{flagOf}
-
-pub rows-by : (P : List (List ℕ) → Type 0) (b : Bool) (x y : List (List ℕ)) → (b ≡ true → P x) → (b ≡ false → P y) → P (cond b x y)
-rows-by P true x y p q = p refl
-rows-by P false x y p q = q refl
 
 abbrev begunIn : List (List ℕ) → Bool
 begunIn s = flagOf (groupAt s .begun)
@@ -36,7 +31,7 @@ module _ (P : List (List ℕ) → Type 0) (n : ℕ) (store : List ℕ) where
       → P (gatherBy (groupAt s) store n s)
   unfolding gatherBy
   gather-by s stays gathers =
-      rows-by P (begunIn s && not (gatheredIn s) && brought (groupAt s) s n) (passedOf (groupAt s) store n s) s
+      cond-by P (begunIn s && not (gatheredIn s) && brought (groupAt s) s n) (passedOf (groupAt s) store n s) s
       (λ e.
       let f = and-left (begunIn s && not (gatheredIn s)) (brought (groupAt s) s n) e in
       gathers (and-left (begunIn s) (not (gatheredIn s)) f) (not-true (gatheredIn s) (and-right (begunIn s) (not (gatheredIn s)) f))
@@ -48,7 +43,7 @@ module _ (P : List (List ℕ) → Type 0) (n : ℕ) (store : List ℕ) where
       → P (gatherBy (groupAt (begunOf (groupAt s) n s)) store n (begunOf (groupAt s) n s))
   begun-by s l e p =
       let t : List (List ℕ) = begunOf (groupAt s) n s in
-      gather-by t p (λ b f w. both (brought (groupAt t) t n) w (begun-owes (groupAt s) n s l e))
+      gather-by t p (λ b f w. clash (brought (groupAt t) t n) w (begun-owes (groupAt s) n s l e))
 
   abbrev settledFrom : List (List ℕ) → List (List ℕ)
   settledFrom a = gatherBy (groupAt (beginBy (groupAt a) n a)) store n (beginBy (groupAt a) n a)
@@ -61,7 +56,7 @@ module _ (P : List (List ℕ) → Type 0) (n : ℕ) (store : List ℕ) where
       → P (gatherBy (groupAt a) store n a) → P (settledFrom a)
   unfolding beginBy
   begin-by a l starts stays =
-      rows-by After (not (begunIn a) && begins (groupAt a) a n) (begunOf (groupAt a) n a) a
+      cond-by After (not (begunIn a) && begins (groupAt a) a n) (begunOf (groupAt a) n a) a
       (λ e.
       let w : begins (groupAt a) a n ≡ true = and-right (not (begunIn a)) (begins (groupAt a) a n) e in
       begun-by a l w (starts (not-true (begunIn a) (and-left (not (begunIn a)) (begins (groupAt a) a n) e)) w))
@@ -79,14 +74,14 @@ module _ (P : List (List ℕ) → Type 0) (n : ℕ) (store : List ℕ) where
       → P (settledOf n store s)
   unfolding settledOf stopBy
   settled-by s l stays gathers starts stops anew =
-      rows-by From (begunIn s && silent (groupAt s) s n) (stoppedOf (groupAt s) n s) s
+      cond-by From (begunIn s && silent (groupAt s) s n) (stoppedOf (groupAt s) n s) s
       (λ e.
       let b : begunIn s ≡ true = and-left (begunIn s) (silent (groupAt s) s n) e in
       let q : silent (groupAt s) s n ≡ true = and-right (begunIn s) (silent (groupAt s) s n) e in
       let z : List (List ℕ) = stoppedOf (groupAt s) n s in
       let off : begunIn z ≡ false = ap (λ (g : Group). flagOf (g .begun)) (stopped-group (groupAt s) n s (omega arith)) in
       begin-by z (rw (length-stopped (groupAt s) n s) l) (λ f w. anew b q)
-      (gather-by z (stops b q) (λ f x w. both (begunIn z) f off)))
+      (gather-by z (stops b q) (λ f x w. clash (begunIn z) f off)))
       (λ e.
       begin-by s l starts
       (gather-by s stays (λ b f w. gathers b (heard b e) f w)))

@@ -130,11 +130,6 @@ pub none-ended : (kind i d : ℕ) → d + d < tags kind → d % frames kind ≡ 
 unfolding epochsIn tags frames epochs
 none-ended kind i d h z l = lt-leb (16 * i + 16) (d + 1) (omega arith)
 
--- an epoch has frames
-pub frames-some : (kind : ℕ) → 1 < frames kind
-unfolding frames
-frames-some kind = omega arith
-
 pub some-epochs : (kind : ℕ) → 0 < epochs kind
 unfolding epochs
 some-epochs kind = omega arith

@@ -15,15 +15,16 @@ use Rattle.calls.specs.Kept.Group.{Kept, Steady}
 use Rattle.calls.specs.Kept.Passing.{ahead}
 use Rattle.calls.specs.Kept.Port.{Windowed, offset}
 use Rattle.calls.specs.Kept.Steps.{brought-lets, steady-frame, windowed}
-use Rattle.calls.specs.Laws.Flags.{both, true-or-false}
+use Rattle.calls.specs.Laws.Flags.{true-or-false}
 use Rattle.calls.specs.Laws.Settling.{settled-by}
-use Rattle.calls.specs.Laws.Window.{distance-passed, frames-some, tag-next, tagIn}
+use Rattle.calls.specs.Laws.Window.{distance-passed, tag-next, tagIn}
 use Rattle.calls.specs.Reports.Groups.{Given, fetch-none, stopsWith}
 use Rattle.calls.specs.Reports.Order.{Unstopped, epochGiven, gives, reportsOf}
 use Rattle.calls.specs.Same.{run-sizes, step-sizes}
-use Rattle.ground.specs.Truth.{and-left, and-right}
+use Rattle.ground.specs.Truth.{and-left, and-right, clash}
 use Rattle.judge.specs.Seen.{sizeOf}
 use Rattle.packet.specs.Kinds.{frames}
+use Rattle.packet.specs.Theorems.Tags.{frames-two}
 use Rattle.phases.specs.Due.{brought, silent}
 use Rattle.phases.specs.Laws.Lengths.{length-passed}
 use Rattle.phases.specs.Laws.Passed.{passed-group, passed-of-port}
@@ -135,7 +136,7 @@ module _ (i count next joined : ℕ) (on : flagOf joined ≡ true) where
       there
       (λ e q z w.
       passed-still far far n a (steady-frame s (k .steady) j failed h (c .port)) (ap (λ (x : Group). x .count) same) st w b there (omega arith))
-      (λ e w. both (flagOf (groupAt s .begun)) (o .begun) (rw same at e))
+      (λ e w. clash (flagOf (groupAt s .begun)) (o .begun) (rw same at e))
       (λ e q. absurd (heard (rw same at q)))
       (λ e q. absurd (heard (rw same at q))))
     where
@@ -347,7 +348,7 @@ again x k i failed h payload e calls others goes some =
         (let least = W .least in omega arith) some
 
     inside : offset (groupAt (receiverRun x calls .rows)) (portAt (receiverRun x calls .rows) i .step) < groupAt (receiverRun x calls .rows) .window
-    inside = let w = still .within in let least = W .least in let more = frames-some (groupAt s .kind) in let q = sizes .window in omega arith
+    inside = let w = still .within in let least = W .least in let more = frames-two (groupAt s .kind) in let q = sizes .window in omega arith
 
     taken : takenIn (receiverRun x calls .rows) i failed h ≡ keeps (groupAt r) (stepAt r i) (ranOn (groupAt r) (stepAt r i) h) d
     taken =

@@ -10,8 +10,8 @@ use lib.ListN.{length}
 use borrow.Author.Tests.{eq-eqb, ne-eqb}
 use Rattle.calls.specs.Arriving.{after-group, frame-any, portAfter, storeAfter}
 use Rattle.calls.specs.Kept.Calls.{Due, due-says}
-use Rattle.calls.specs.Laws.Flags.{both}
 use Rattle.calls.specs.Laws.Settling.{settled-by}
+use Rattle.ground.specs.Truth.{clash}
 use Rattle.judge.specs.Seen.{sizeOf}
 use Rattle.phases.specs.Due.{silent}
 use Rattle.phases.specs.Laws.Lengths.{length-passed}
@@ -55,7 +55,7 @@ frame-holds s i failed h payload store begun goes =
     settled-by (λ (r : List (List ℕ)). (groupAt r ≡ groupAt s) ⊎ Gathers (groupAt s) (groupAt r)) n st a long
     (inl same)
     (λ b q z w. inr (record { first = rw same at z; passed = passed-group (groupAt a) st n a (omega arith) ∙ ap passedGroup same }))
-    (λ b w. both (flagOf (groupAt s .begun)) begun (rw same at b))
+    (λ b w. clash (flagOf (groupAt s .begun)) begun (rw same at b))
     (λ b q. absurd (heard (rw same at q)))
     (λ b q. absurd (heard (rw same at q))))
   where

@@ -9,10 +9,9 @@ use lib.ListN.{length}
 use Rattle.calls.specs.Arriving.{after-group, frame-any, portAfter, storeAfter}
 use Rattle.calls.specs.Calls.{Fetch, Frame, Receiver, ReceiverCall, receiverStep}
 use Rattle.calls.specs.Kept.Calls.{due-says}
-use Rattle.calls.specs.Laws.Flags.{both}
 use Rattle.calls.specs.Laws.Settling.{settled-by}
 use Rattle.calls.specs.Reports.Groups.{Gathers, fetch-group, fetch-none, frame-holds, stopsWith}
-use Rattle.ground.specs.Truth.{and-left, and-right}
+use Rattle.ground.specs.Truth.{and-left, and-right, clash}
 use Rattle.packet.specs.Kinds.{epochAfter, epochOf}
 use Rattle.phases.specs.Beginning.{foremost}
 use Rattle.phases.specs.Laws.Cleared.{begun-group}
@@ -146,15 +145,15 @@ pub first-reported : (s : List (List ℕ)) (i : ℕ) (failed : Bool) (h : ℕ) (
     ≡ epochAfter (groupAt s .kind) (epochAfter (groupAt s .kind) (epochOf (groupAt s .kind) (foremost (groupAt s) (portAfter s i failed h) (portsIn (groupAt s)))))
 first-reported s i failed h payload store off =
     frame-any First s i failed h payload store
-    (λ b. both (flagOf (groupAt s .begun)) b off)
-    (λ e f b. both (flagOf (groupAt s .begun)) (rw same at b) off)
+    (λ b. clash (flagOf (groupAt s .begun)) b off)
+    (λ e f b. clash (flagOf (groupAt s .begun)) (rw same at b) off)
     (λ e f long.
     settled-by First n st a long
-    (λ b. both (flagOf (groupAt s .begun)) (rw same at b) off)
-    (λ b q z w c. both (flagOf (groupAt s .begun)) (rw same at b) off)
+    (λ b. clash (flagOf (groupAt s .begun)) (rw same at b) off)
+    (λ b q z w c. clash (flagOf (groupAt s .begun)) (rw same at b) off)
     (λ b w c. rw (begun-group (groupAt a) n a (omega arith), same) refl)
-    (λ b q c. both (flagOf (groupAt s .begun)) (rw same at b) off)
-    (λ b q c. both (flagOf (groupAt s .begun)) (rw same at b) off))
+    (λ b q c. clash (flagOf (groupAt s .begun)) (rw same at b) off)
+    (λ b q c. clash (flagOf (groupAt s .begun)) (rw same at b) off))
   where
     n : ℕ
     n = portsIn (groupAt s)

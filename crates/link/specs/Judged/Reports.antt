@@ -1,14 +1,13 @@
 -- Each report of a link is the one to come: sure with the client's bytes where all ruling packets came as sent, and otherwise held, with none.
 use mathlib.Core.Path.{_≡_, refl, _∙_, sym, ap, ap₂}
 use mathlib.Core.Logic.{⊎-elim}
-use mathlib.Core.Bool.{Bool, true, false, cond, not, false≢true, true≢false}
+use mathlib.Core.Bool.{Bool, true, false, cond, false≢true, true≢false}
 use mathlib.Core.List.{List, [], _∷_}
 use Prim.Native.Nat.{ℕ, suc, _<_}
 use native.Mathlib.Omega.{arith}
 use lib.Dec.{eqb}
-use borrow.Author.Tests.{eq-eqb, eqb-true, not-false, not-true}
-use Rattle.counting.specs.Laws.Tests.{One, every-all, every-at, none-at, some-one}
-use Rattle.counting.specs.Words.{every, some}
+use borrow.Author.Tests.{eq-eqb, eqb-true}
+use Rattle.counting.specs.Laws.Tests.{every-at, every-lacks}
 use Rattle.ground.specs.Truth.{and-left, and-right, and-true}
 use Rattle.judge.specs.declared.seen.Seen.{Seen}
 use Rattle.judge.specs.Theorems.Held.{refused}
@@ -31,14 +30,6 @@ same-lists (k ∷ l) (n ∷ m) t =
 pub same-self : (l : List ℕ) → sameBytes l l ≡ true
 same-self [] = refl
 same-self (k ∷ l) = and-true (eqb k k) (sameBytes l l) (eq-eqb k k refl) (same-self l)
-
--- where not every one does, one fails
-failing : (n : ℕ) (f : ℕ → Bool) → every n f ≡ false → One n (λ p. not (f p))
-failing n f e = go (some n (λ p. not (f p))) refl
-  where
-    go : (b : Bool) → some n (λ p. not (f p)) ≡ b → One n (λ p. not (f p))
-    go true t = some-one n (λ p. not (f p)) t
-    go false t = absurd (true≢false (sym (every-all n f (λ p b. not-false (f p) (none-at n (λ q. not (f q)) t p b))) ∙ e))
 
 told-is : (e d m o : ℕ) (b c : List ℕ) → e ≡ d → m ≡ o → b ≡ c → _≡_ {A = Told} (record { epoch = e; mark = m; bytes = b }) (record { epoch = d; mark = o; bytes = c })
 told-is e d m o b c pe pm pb = rw (pe, pm, pb) refl
@@ -76,8 +67,8 @@ module _ (k : Link) (a : Assumed k) (i : ℕ) where
       (λ p b. same-lists (k .came i p) (sentTo k i p) (every-at (h .slots) (λ q. sameBytes (k .came i q) (sentTo k i q)) e p b)) in
       report-is SURE (clientBytes k (suc i)) (sure k a i sent) (frames-are k a i sent (frames (h .kind)) (omega arith))
   by-test false e =
-      let o = failing (h .slots) (λ q. sameBytes (k .came i q) (sentTo k i q)) e in
-      report-is HELD [] (held (o .at) (o .below) (not-true (sameBytes (k .came i (o .at)) (sentTo k i (o .at))) (o .holds))) refl
+      let o = every-lacks (h .slots) (λ q. sameBytes (k .came i q) (sentTo k i q)) e in
+      report-is HELD [] (held (o .at) (o .below) (o .fails)) refl
 
   pub judged : reportAfter (roadOf k) i ≡ expected k i
   unfolding expected

@@ -14,12 +14,13 @@ use Rattle.packet.specs.declared.reader.Reading.the-variants.{Crc, Packet}
 use Rattle.packet.specs.Kinds.{frames}
 use Rattle.packet.specs.Layout.{highsOf}
 use Rattle.packet.specs.Reading.{readNibbles}
+use Rattle.packet.specs.Theorems.Tags.{frames-some}
 use Rattle.phases.specs.declared.ruling.Ruling.{Ruling}
 use Rattle.phases.specs.Ruling.{rulingBy, rulingOf}
 use Rattle.receiver.specs.Laws.Seen.{seen-each}
 use Rattle.link.specs.Contents.{allSeenAfter, numberOf, packetOf, seenAfter}
 use Rattle.link.specs.History.{History, epochNumber, epochStart, fieldsSent, numberSent, wordSent}
-use Rattle.link.specs.Laws.Numbers.{epoch-in, frames-some, nibbles-in, place-in}
+use Rattle.link.specs.Laws.Numbers.{epoch-in, nibbles-in, place-in}
 use Rattle.link.specs.Link.{Assumed, Damaged, Link, roadOf, sentTo}
 use Rattle.link.specs.Sending.Counted.{tag-epoch}
 use Rattle.link.specs.Sending.Damage.{packet-damaged}

@@ -1,13 +1,11 @@
 -- Lists, numbers and tests of all, as the reports' bytes, the last sentence and the owing port want them.
 use mathlib.Core.Path.{_≡_, refl, ap, _∙_}
 use mathlib.Core.Logic.{⊎-elim, _≢_}
-use mathlib.Core.Bool.{Bool, true, false, _&&_, true≢false}
 use mathlib.Core.List.{List, [], _∷_, _++_, head-eq-of-cons-eq, tail-eq-of-cons-eq}
 use Prim.Native.Nat.{ℕ, zero, suc, _+_, _≤_, _<_}
 use native.Mathlib.Omega.{arith}
 use lib.ListN.{length, take}
 use lib.Seq.{getD-take, length-take-le}
-use Rattle.counting.specs.Words.{every}
 use Rattle.ground.specs.Drawn.{fillAt, getD-fillAt, length-fillAt}
 use Rattle.ground.specs.Table.{tabulate, tabulate-ext, tabulate-is}
 use Rattle.ground.specs.Truth.{eq-or-ne, le-or-lt}
@@ -16,28 +14,6 @@ use Rattle.ground.specs.Truth.{eq-or-ne, le-or-lt}
 pub not-apart : (m n : ℕ) → (m < n → ⊥) → (n < m → ⊥) → m ≡ n
 not-apart m n less more =
     ⊎-elim (λ (h : m ≤ n). ⊎-elim (λ (e : m ≡ n). e) (λ (d : m ≢ n). absurd (less (omega arith))) (eq-or-ne m n)) (λ (h : n < m). absurd (more h)) (le-or-lt m n)
-
--- one at which a test of all fails
-pub record Lacks (n : ℕ) (f : ℕ → Bool) : Type 0 where
-  pub at : ℕ
-  pub below : at < n
-  pub fails : f at ≡ false
-
-pub every-lacks : (n : ℕ) (f : ℕ → Bool) → every n f ≡ false → Lacks n f
-every-lacks zero f e = absurd (true≢false e)
-every-lacks (suc n) f e = go (f n) refl (every-lacks n f)
-  where
-    go : (b : Bool) → f n ≡ b → (every n f ≡ false → Lacks n f) → Lacks (suc n) f
-    go true t rest =
-        let e′ : (every n f && true) ≡ false = rw t at e in
-        let o = rest (front (every n f) e′) in
-        let b = o .below in
-        record { at = o .at; below = omega arith; fails = o .fails }
-      where
-        front : (b : Bool) → (b && true) ≡ false → b ≡ false
-        front true q = q
-        front false q = refl
-    go false t rest = record { at = n; below = omega arith; fails = t }
 
 module _ {A : Type 0} where
   -- two lists of parts, the first parts as long

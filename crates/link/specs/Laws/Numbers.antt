@@ -11,14 +11,6 @@ use Rattle.packet.specs.Theorems.Tags.{distance-of, tagOf}
 
 -- How many frames.
 
-pub frames-some : (kind : ℕ) → 0 < frames kind
-unfolding frames
-frames-some kind = omega arith
-
-pub frames-two : (kind : ℕ) → 2 ≤ frames kind
-unfolding frames
-frames-two kind = omega arith
-
 -- so many epochs have at least one epoch's frames
 pub frames-many : (kind k : ℕ) → frames kind ≤ (k + 1) * frames kind
 unfolding frames

@@ -1,23 +1,13 @@
 -- A packet that came with one to three of its 64 bits changed is refused with 5.
-use mathlib.Core.Path.{_≡_, refl}
+use mathlib.Core.Path.{_≡_}
 use mathlib.Core.List.{List}
 use Prim.Native.Nat.{ℕ, _≤_, _<_}
-use lib.ListN.{length}
-use Rattle.packet.specs.declared.layout.Fields.{Fields}
 use Rattle.packet.specs.declared.reader.Reading.the-variants.{Crc}
 use Rattle.packet.specs.Layout.{dataOf, highsOf, nibblesOf, sealedOf}
 use Rattle.packet.specs.Reading.{readNibbles}
-use Rattle.packet.specs.Theorems.Damage.{changed, nibbles-damaged}
+use Rattle.packet.specs.Theorems.Damage.{changed, length-data, length-highs, nibbles-damaged}
 use Rattle.link.specs.History.{Allowed, History, fieldsSent, packetSent}
 use Rattle.link.specs.Sending.Packets.{packet-highs}
-
-length-data : (f : Fields) → length (dataOf f 0) ≡ 14
-unfolding dataOf
-length-data f = refl
-
-length-highs : (s : List ℕ) → length (highsOf s) ≡ 16
-unfolding highsOf
-length-highs s = refl
 
 pub packet-damaged : (h : History) → Allowed h → (i slot : ℕ) → slot < h .slots → (came : List ℕ)
     → 1 ≤ changed (packetSent h i slot) came → changed (packetSent h i slot) came ≤ 3 → readNibbles (highsOf came) ≡ Crc

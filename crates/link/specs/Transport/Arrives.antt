@@ -9,7 +9,7 @@ use lib.Dec.{eqb, leb, ltb}
 use borrow.Author.Tests.{eq-eqb, le-leb, le-ltb, lt-leb, lt-ltb, ne-eqb}
 use Rattle.ground.specs.Truth.{eq-or-ne, le-or-lt}
 use Rattle.packet.specs.Kinds.{distanceOf, endsEpoch, epochsIn, frames, startsEpoch, tags}
-use Rattle.packet.specs.Theorems.Tags.{distance-of, tagOf}
+use Rattle.packet.specs.Theorems.Tags.{distance-of, frames-two, tagOf}
 use Rattle.receiver.specs.Frame.{marksBy}
 use Rattle.rows.specs.declared.group.Group.{Group}
 use Rattle.rows.specs.declared.step.Step.{Step}
@@ -23,7 +23,7 @@ use Rattle.step.specs.Laws.Arrival.{inWindow, ranOn, stepped, taken-joins, take
 use Rattle.step.specs.Run.{inStepAt}
 use Rattle.store.specs.Laws.Marks.{Sixteen, mark-cut, mark-marked, sixteen-cut, sixteen-marked}
 use Rattle.store.specs.Marks.{cutFrom, markIn, markedAt}
-use Rattle.link.specs.Laws.Numbers.{behind-far, ends-else, ends-first, ends-last, first-in, frames-many, frames-two, none-in, same-epoch, starts-each}
+use Rattle.link.specs.Laws.Numbers.{behind-far, ends-else, ends-first, ends-last, first-in, frames-many, none-in, same-epoch, starts-each}
 use Rattle.link.specs.Road.{Fair, L, Road, sizes-in}
 use Rattle.link.specs.Running.{Moment}
 use Rattle.link.specs.Standing.{Heard, Open}

@@ -10,7 +10,7 @@ use lib.ListN.{length, replicate}
 use borrow.Author.Tests.{le-ltb, lt-leb, lt-ltb}
 use Rattle.ground.specs.Truth.{and-right, eq-or-ne, le-or-lt, or-cases}
 use Rattle.packet.specs.Kinds.{distanceOf, epochAfter, epochOf, firstTag, frames, tags}
-use Rattle.packet.specs.Theorems.Tags.{distance-of, epoch-fits, tagOf}
+use Rattle.packet.specs.Theorems.Tags.{distance-of, epoch-fits, frames-some, frames-two, tagOf}
 use Rattle.phases.specs.Beginning.{begins, foremost, latest, ready}
 use Rattle.phases.specs.Laws.Cleared.{begun-group, begun-marks-at, begun-step-at}
 use Rattle.phases.specs.Laws.Lengths.{length-begun}
@@ -32,7 +32,7 @@ use Rattle.step.specs.declared.arrival.Taken.{Taken}
 use Rattle.step.specs.Laws.Arrival.{ranOn, stepped, taken-aside, taken-counts}
 use Rattle.step.specs.Run.{inStepAt}
 use Rattle.store.specs.Laws.Marks.{mark-none, sixteen-none}
-use Rattle.link.specs.Laws.Numbers.{behind-far, epoch-after-le, epoch-after-lt, epoch-after-tag, frames-many, frames-run, frames-some, frames-two, tag-before}
+use Rattle.link.specs.Laws.Numbers.{behind-far, epoch-after-le, epoch-after-lt, epoch-after-tag, frames-many, frames-run, tag-before}
 use Rattle.link.specs.Moments.{Foremost}
 use Rattle.link.specs.Road.{Fair, L, Road, sizes-in}
 use Rattle.link.specs.Running.{Moment, framed}

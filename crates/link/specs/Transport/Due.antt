@@ -6,7 +6,7 @@ use Prim.Native.Nat.{ℕ, _+_, _*_, _≤_, _<_}
 use native.Mathlib.Omega.{arith}
 use lib.Dec.{leb}
 use borrow.Author.Tests.{le-leb, leb-false, leb-true, lt-leb}
-use Rattle.counting.specs.Laws.Tests.{every-all, every-at, every-ext, every-fails}
+use Rattle.counting.specs.Laws.Tests.{every-all, every-at, every-ext, every-fails, every-lacks}
 use Rattle.counting.specs.Words.{every}
 use Rattle.ground.specs.Truth.{or-right}
 use Rattle.phases.specs.Due.{brought, lets, silent}
@@ -16,7 +16,6 @@ use Rattle.rows.specs.Step.{stepAt}
 use Rattle.step.specs.Arrival.{flagOf, inStep, readable}
 use Rattle.store.specs.Laws.Marks.{first-mark}
 use Rattle.store.specs.Marks.{firstMark}
-use Rattle.link.specs.Laws.Lists.{every-lacks}
 use Rattle.link.specs.Road.{Fair, L, Road, sizes-in}
 use Rattle.link.specs.Running.{Moment}
 use Rattle.link.specs.Standing.{Open, Owes}

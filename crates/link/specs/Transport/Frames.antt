@@ -9,6 +9,7 @@ use lib.Dec.{leb, ltb}
 use lib.ListN.{getD, length}
 use borrow.Author.Tests.{le-ltb, lt-ltb}
 use Rattle.ground.specs.Truth.{eq-or-ne, le-or-lt}
+use Rattle.packet.specs.Theorems.Tags.{frames-two}
 use Rattle.phases.specs.Passing.{passedOf}
 use Rattle.phases.specs.Settling.{settledOf}
 use Rattle.phases.specs.Theorems.Settled.{settled-gathers, settled-stays}
@@ -29,7 +30,6 @@ use Rattle.store.specs.Laws.Marks.{Sixteen}
 use Rattle.store.specs.Laws.Stands.{Stands, stands-kept, stands-put}
 use Rattle.store.specs.Laws.Stored.{length-stored}
 use Rattle.store.specs.Marks.{markIn}
-use Rattle.link.specs.Laws.Numbers.{frames-two}
 use Rattle.link.specs.Road.{Fair, L, Road}
 use Rattle.link.specs.Running.{Moment, framed}
 use Rattle.link.specs.Standing.{First, Heard, Later, Open, Owes}

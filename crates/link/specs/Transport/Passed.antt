@@ -10,7 +10,7 @@ use lib.ListN.{getD, length}
 use borrow.Author.Tests.{lt-leb}
 use Rattle.ground.specs.Truth.{le-or-lt}
 use Rattle.packet.specs.Kinds.{firstTag, frames}
-use Rattle.packet.specs.Theorems.Tags.{epoch-fits, tagOf}
+use Rattle.packet.specs.Theorems.Tags.{epoch-fits, frames-some, tagOf}
 use Rattle.phases.specs.Laws.Lengths.{length-passed}
 use Rattle.phases.specs.Laws.Passed.{passed-group, passed-marks-at, passed-of-port, passed-step-at}
 use Rattle.phases.specs.Passing.{passedGroup, passedOf, passedStep}
@@ -27,7 +27,7 @@ use Rattle.store.specs.Laws.Marks.{mark-beyond, mark-passed, sixteen-passed}
 use Rattle.store.specs.Laws.Stands.{Stands, packet-stands, stands-moved}
 use Rattle.store.specs.Marks.{firstMark, markIn, passedMarks}
 use Rattle.link.specs.Contents.{packetOf}
-use Rattle.link.specs.Laws.Numbers.{first-after, frames-some, marks-enough, nibbles-in}
+use Rattle.link.specs.Laws.Numbers.{first-after, marks-enough, nibbles-in}
 use Rattle.link.specs.Road.{Fair, L, Road, sizes-in}
 use Rattle.link.specs.Running.{Moment}
 use Rattle.link.specs.Standing.{Heard, Lined, Open}

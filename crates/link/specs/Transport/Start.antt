@@ -7,13 +7,13 @@ use native.Mathlib.Omega.{arith}
 use lib.Dec.{ltb}
 use lib.ListN.{length}
 use borrow.Author.Tests.{eq-eqb, le-ltb}
+use Rattle.packet.specs.Theorems.Tags.{frames-some}
 use Rattle.receiver.specs.Laws.Fresh.{length-started, started-group, started-step, waits-for}
 use Rattle.receiver.specs.Starting.{freshPorts, freshStep, groupWith, sizedRows, startFits, startRows}
 use Rattle.rows.specs.declared.group.Group.{Group}
 use Rattle.rows.specs.Group.{groupAt, putGroup}
 use Rattle.rows.specs.Rows.{rowsFor}
 use Rattle.rows.specs.Step.{stepAt}
-use Rattle.link.specs.Laws.Numbers.{frames-some}
 use Rattle.link.specs.Road.{Fair, Road, sizes-in}
 use Rattle.link.specs.Running.{fresh}
 use Rattle.link.specs.Standing.{Before, Heard, heardRun}

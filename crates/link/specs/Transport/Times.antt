@@ -10,12 +10,13 @@ use lib.Dec.{ltb}
 use lib.ListN.{getD, length, length-append}
 use borrow.Author.Tests.{lt-ltb, eq-eqb, ne-eqb, le-leb, lt-leb, ltb-true}
 use Rattle.ground.specs.Truth.{eq-or-ne, le-or-lt}
+use Rattle.packet.specs.Theorems.Tags.{frames-some}
 use Rattle.phases.specs.Beginning.{begins}
 use Rattle.receiver.specs.Laws.Sizes.{window-some}
 use Rattle.rows.specs.Group.{groupAt}
 use Rattle.step.specs.Laws.Run.{start-from, startFrom}
 use Rattle.link.specs.Laws.Lists.{append-apart}
-use Rattle.link.specs.Laws.Numbers.{frames-some, one-epoch}
+use Rattle.link.specs.Laws.Numbers.{one-epoch}
 use Rattle.link.specs.Moments.{Beginning, Ready, Unready, coming, nextAt, reached}
 use Rattle.link.specs.Road.{Fair, L, Road, sizes-in}
 use Rattle.link.specs.Running.{Moment, drained, fetched, framed, hasBegun, recordAt, through, turn, turns}

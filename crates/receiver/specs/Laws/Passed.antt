@@ -1,20 +1,14 @@
 -- What passing the oldest epoch leaves of the group's record and of a port's step, and what clearing leaves of a step, field by field.
 use mathlib.Core.Path.{_≡_, refl}
 use mathlib.Core.Bool.{Bool, cond}
-use Prim.Native.Nat.{ℕ, _+_, _-_, _%_, _<_}
+use Prim.Native.Nat.{_+_, _-_, _%_, _<_}
 use native.Mathlib.Nat.{mod-lt}
-use native.Mathlib.Omega.{arith}
-use borrow.Author.Tests.{ne-eqb}
 use Rattle.packet.specs.Kinds.{epochAfter, frames}
 use Rattle.phases.specs.Passing.{passedGroup, passedStep}
 use Rattle.phases.specs.Settling.{clearedStep}
 use Rattle.rows.specs.declared.group.Group.{Group}
 use Rattle.rows.specs.declared.step.Step.{Step}
-use Rattle.store.specs.Frames.{ringOf}
-
-ring-is : (origin d W : ℕ) → 0 < W → ringOf origin d W ≡ (origin + d) % W
-unfolding ringOf
-ring-is origin d W h = rw (ne-eqb W 0 (λ (e : W ≡ 0). omega arith))
+use Rattle.store.specs.Laws.Places.{ring-is}
 
 module _ (g : Group) where
   pub passed-kind : passedGroup g .kind ≡ g .kind

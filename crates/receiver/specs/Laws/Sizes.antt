@@ -9,6 +9,7 @@ use borrow.Author.Tests.{le-ltb, leb-true, lt-ltb}
 use Rattle.ground.specs.Truth.{and-left, and-right, le-or-lt}
 use Rattle.judge.specs.Seen.{sizeOf}
 use Rattle.packet.specs.Kinds.{frames, tags}
+use Rattle.packet.specs.Theorems.Tags.{frames-some}
 use Rattle.phases.specs.Sizes.{portsIn, sized}
 use Rattle.rows.specs.declared.group.Group.{Group}
 
@@ -50,10 +51,6 @@ sizes-of kind count P W e =
     }
 
 -- a window has frames
-frames-some : (kind : ℕ) → 0 < frames kind
-unfolding frames
-frames-some kind = omega arith
-
 pub window-some : (kind count P W : ℕ) → Sizes kind count P W → 0 < W
 window-some kind count P W z = let w = z .wide in let n = frames-some kind in omega arith
 

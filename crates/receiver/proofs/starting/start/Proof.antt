@@ -1,7 +1,8 @@
 use mathlib.Core.Path.{refl, sym, _∙_}
 use native.Mathlib.Omega.{arith}
 use Rattle.receiver.specs.Starting.{startAnswer, startRows}
-use Rattle.receiver.proofs.Sizes.{count-most, payload-most, window-most}
+use Rattle.receiver.specs.Laws.Sizes.{sizes-of}
+use Rattle.receiver.proofs.Sizes.{window-most}
 use borrow.Author.Needs.{needs}
 use Rattle.receiver.proofs.starting.start.Statement.{statement}
 use Rattle.receiver.proofs.starting.start.Tie as tie
@@ -10,13 +11,13 @@ is-sized-requires : tie.Need-is-sized-requires
 is-sized-requires c κs = search needs
 
 cast-start-sized : tie.Need-cast-start-sized
-cast-start-sized c = omega (arith, count-most (c .before .before .args .kind) (c .before .before .args .count) (c .before .before .args .payload) (c .before .before .args .window) (sym (c .before .is-sized .ensures) ∙ c .if1 .taken))
+cast-start-sized c = omega (arith, sizes-of (c .before .before .args .kind) (c .before .before .args .count) (c .before .before .args .payload) (c .before .before .args .window) (sym (c .before .is-sized .ensures) ∙ c .if1 .taken) .few-ports)
 
 cast-start-sized-2 : tie.Need-cast-start-sized-2
-cast-start-sized-2 c = omega (arith, payload-most (c .before .before .args .kind) (c .before .before .args .count) (c .before .before .args .payload) (c .before .before .args .window) (sym (c .before .is-sized .ensures) ∙ c .if1 .taken))
+cast-start-sized-2 c = omega (arith, sizes-of (c .before .before .args .kind) (c .before .before .args .count) (c .before .before .args .payload) (c .before .before .args .window) (sym (c .before .is-sized .ensures) ∙ c .if1 .taken) .few-bytes)
 
 cast-start-sized-3 : tie.Need-cast-start-sized-3
-cast-start-sized-3 c = omega (arith, window-most (c .before .before .args .kind) (c .before .before .args .count) (c .before .before .args .payload) (c .before .before .args .window) (sym (c .before .is-sized .ensures) ∙ c .if1 .taken))
+cast-start-sized-3 c = omega (arith, window-most (c .before .before .args .kind) (c .before .before .args .count) (c .before .before .args .payload) (c .before .before .args .window) (sizes-of (c .before .before .args .kind) (c .before .before .args .count) (c .before .before .args .payload) (c .before .before .args .window) (sym (c .before .is-sized .ensures) ∙ c .if1 .taken)))
 
 start-sized-requires : tie.Need-start-sized-requires
 start-sized-requires c κs = search needs
