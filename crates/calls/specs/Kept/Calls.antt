@@ -21,12 +21,12 @@ use Rattle.phases.specs.Laws.Passed.{passed-group}
 use Rattle.phases.specs.Passing.{passedGroup, passedOf}
 use Rattle.phases.specs.Settling.{settledOf}
 use Rattle.phases.specs.Sizes.{portsIn}
-use Rattle.phases.specs.Theorems.Settled.{Settled, passed-silent, settled}
+use Rattle.phases.specs.Theorems.Settled.{Settled, passed-begun, passed-silent, settled}
 use Rattle.receiver.specs.Fetch.{dueIn, fetchRows, fits, givenRows}
 use Rattle.receiver.specs.Frame.{frameRefusal, frameRows, portRows, settledBy, storeBy, takenIn, takenRows}
 use Rattle.receiver.specs.Laws.Answers.{unrefused}
 use Rattle.receiver.specs.Laws.Frames.{frame-group}
-use Rattle.receiver.specs.Laws.Passed.{passed-begun, passed-count, passed-gathered}
+use Rattle.receiver.specs.Laws.Passed.{passed-count, passed-gathered}
 use Rattle.receiver.specs.Laws.Sizes.{ports-are}
 use Rattle.receiver.specs.Laws.Told.{told-group, told-step, withAck}
 use Rattle.receiver.specs.Report.{replyPorts, reportedOf, toldOf}

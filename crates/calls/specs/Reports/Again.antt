@@ -31,11 +31,12 @@ use Rattle.phases.specs.Laws.Passed.{passed-group, passed-of-port}
 use Rattle.phases.specs.Laws.Sizes.{SameSizes}
 use Rattle.phases.specs.Passing.{passedGroup, passedOf, passedStep}
 use Rattle.phases.specs.Sizes.{portsIn, storeFor}
+use Rattle.phases.specs.Theorems.Settled.{passed-begun}
 use Rattle.receiver.specs.Fetch.{dueIn, fetchRows, fits, givenRows}
 use Rattle.receiver.specs.Frame.{frameAnswer, frameRefusal, frameRows, frameStore, refusalBy, storeBy, takenIn, takenStore}
 use Rattle.receiver.specs.Laws.Answers.{Fitting, fitting-none, taken-answer, unrefused}
 use Rattle.receiver.specs.Laws.Frames.{frame-other}
-use Rattle.receiver.specs.Laws.Passed.{passed-begun, step-count, step-joined, step-next}
+use Rattle.receiver.specs.Laws.Passed.{step-count, step-joined, step-next}
 use Rattle.receiver.specs.Laws.Sizes.{ports-are}
 use Rattle.receiver.specs.Laws.Told.{told-group, told-of-port, withAck}
 use Rattle.receiver.specs.Lengths.{frameFits}

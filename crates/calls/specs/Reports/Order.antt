@@ -16,9 +16,10 @@ use Rattle.packet.specs.Kinds.{epochAfter, epochOf}
 use Rattle.phases.specs.Beginning.{foremost}
 use Rattle.phases.specs.Laws.Cleared.{begun-group}
 use Rattle.phases.specs.Sizes.{portsIn}
+use Rattle.phases.specs.Theorems.Settled.{passed-begun}
 use Rattle.receiver.specs.Fetch.{dueIn, fetchRows, fits, givenReport}
 use Rattle.receiver.specs.Frame.{frameRows}
-use Rattle.receiver.specs.Laws.Passed.{passed-begun, passed-gathered, passed-kind, passed-oldest}
+use Rattle.receiver.specs.Laws.Passed.{passed-gathered, passed-kind, passed-oldest}
 use Rattle.receiver.specs.Report.{reportBy, reportOf}
 use Rattle.rows.specs.declared.group.Group.{Group}
 use Rattle.rows.specs.Group.{groupAt}

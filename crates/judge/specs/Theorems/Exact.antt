@@ -16,7 +16,7 @@ use Rattle.judge.specs.declared.seen.Seen.{Seen}
 use Rattle.judge.specs.Laws.Numbers.{AllApart, numberAt, numberedAt}
 use Rattle.judge.specs.Verdict.{exact, takes}
 
-count-all : (n : ℕ) (g : ℕ → Bool) → ((k : ℕ) → k < n → g k ≡ true) → count n g ≡ n
+pub count-all : (n : ℕ) (g : ℕ → Bool) → ((k : ℕ) → k < n → g k ≡ true) → count n g ≡ n
 count-all zero g h = refl
 count-all (suc n) g h = rw (count-all n g (λ k b. h k (omega arith)), h n (omega arith)) (omega arith)
 

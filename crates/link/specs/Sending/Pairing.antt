@@ -1,8 +1,7 @@
 -- 'Let each slot reach one port and each port one slot': some, every, how many and ranks are the same over ports as over slots.
 use mathlib.Core.Path.{_≡_, refl, _∙_, sym, ap}
 use mathlib.Core.Bool.{Bool, true, _&&_}
-use Prim.Native.Nat.{ℕ, zero, suc, _<_}
-use native.Mathlib.Omega.{arith}
+use Prim.Native.Nat.{ℕ, _<_}
 use lib.Dec.{eqb, ltb}
 use borrow.Author.Tests.{eq-eqb, eqb-true}
 use Rattle.counting.specs.Laws.Numbers.{count-ext}
@@ -10,6 +9,7 @@ use Rattle.counting.specs.Laws.Ranks.{all-taken, count-taken, taken}
 use Rattle.counting.specs.Laws.Tests.{some-at, some-one}
 use Rattle.counting.specs.Words.{count}
 use Rattle.ground.specs.Truth.{and-left, and-right, and-true, same-test}
+use Rattle.judge.specs.Theorems.Exact.{count-all}
 use Rattle.link.specs.History.{Pairing}
 
 -- the port that a slot reaches
@@ -18,14 +18,10 @@ pub record Reached (n : ℕ) (slotOf : ℕ → ℕ) (slot : ℕ) : Type 0 where
   pub below : port < n
   pub is : slotOf port ≡ slot
 
-count-all : (n : ℕ) → count n (λ k. true) ≡ n
-count-all zero = refl
-count-all (suc n) = let h = count-all n in omega arith
-
 module _ (n : ℕ) (slotOf : ℕ → ℕ) (o : Pairing n slotOf) where
   pub reached : (slot : ℕ) → slot < n → Reached n slotOf slot
   reached slot h =
-      let w = all-taken n n (λ p. true) slotOf (λ p q hp hq tp tq e. o .once p q hp hq e) (λ p hp tp. o .below p hp) (count-all n) slot h in
+      let w = all-taken n n (λ p. true) slotOf (λ p q hp hq tp tq e. o .once p q hp hq e) (λ p hp tp. o .below p hp) (count-all n (λ p. true) (λ p hp. refl)) slot h in
       record { port = w .at; below = w .below; is = eqb-true (slotOf (w .at)) slot (w .holds) }
 
   taken-slot : (f : ℕ → Bool) (slot : ℕ) → slot < n → taken n (λ p. f (slotOf p)) slotOf slot ≡ f slot

@@ -14,7 +14,8 @@ use Rattle.packet.specs.Theorems.Tags.{epoch-fits, frames-some, tagOf}
 use Rattle.phases.specs.Laws.Lengths.{length-passed}
 use Rattle.phases.specs.Laws.Passed.{passed-group, passed-marks-at, passed-of-port, passed-step-at}
 use Rattle.phases.specs.Passing.{passedGroup, passedOf, passedStep}
-use Rattle.receiver.specs.Laws.Passed.{origin-within, passed-begun, passed-count, passed-gathered, passed-kind, passed-oldest, passed-origin, passed-payload, passed-window, step-joined, step-later, step-since, step-whole}
+use Rattle.phases.specs.Theorems.Settled.{passed-begun}
+use Rattle.receiver.specs.Laws.Passed.{origin-within, passed-count, passed-gathered, passed-kind, passed-oldest, passed-origin, passed-payload, passed-window, step-joined, step-later, step-since, step-whole}
 use Rattle.rows.specs.declared.group.Group.{Group}
 use Rattle.rows.specs.declared.step.Step.{Step}
 use Rattle.rows.specs.Group.{groupAt}

@@ -113,7 +113,7 @@ passed-silent g store n s h =
     rw (passed-group g store n s (omega arith), passed-step-at g store n s i b h) (passed-readable g (stepAt s i) (firstMark (marksAt s i))) in
     ap not e)
 
-passed-begun : (g : Group) → passedGroup g .begun ≡ g .begun
+pub passed-begun : (g : Group) → passedGroup g .begun ≡ g .begun
 unfolding passedGroup
 passed-begun g = refl
 

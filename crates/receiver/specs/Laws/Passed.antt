@@ -27,10 +27,6 @@ module _ (g : Group) where
   unfolding passedGroup
   passed-window = refl
 
-  pub passed-begun : passedGroup g .begun ≡ g .begun
-  unfolding passedGroup
-  passed-begun = refl
-
   pub passed-gathered : passedGroup g .gathered ≡ 1
   unfolding passedGroup
   passed-gathered = refl
