@@ -10,7 +10,7 @@ use Rattle.calls.specs.Kept.Group.{Kept, PortIn}
 use Rattle.calls.specs.Kept.Quiet.{Quiet, taken-quiet}
 use Rattle.calls.specs.Kept.Steps.{windowed}
 use Rattle.calls.specs.Laws.Flags.{both}
-use Rattle.counting.specs.Laws.Tests.{every-all, every-at}
+use Rattle.counting.specs.Laws.Tests.{every-all, every-at, every-fails}
 use Rattle.counting.specs.Words.{every}
 use Rattle.ground.specs.Truth.{eq-or-ne, fails}
 use Rattle.phases.specs.Due.{brought, lets, silent}
