@@ -1,6 +1,6 @@
 -- What a frame leaves, by what the parts of the code leave.
 use mathlib.Core.Path.{_≡_, refl, sym, subst, _∙_}
-use mathlib.Core.Bool.{Bool, true, false, cond}
+use mathlib.Core.Bool.{Bool, true, false, cond, _&&_, _||_, true≢false}
 use mathlib.Core.List.{List}
 use Prim.Native.Nat.{ℕ, _+_, _*_, _<_}
 use native.Mathlib.Omega.{arith}
@@ -9,7 +9,7 @@ use lib.ListN.{length, replicate}
 use lib.Seq.{set-getD}
 use borrow.Author.Tests.{eq-eqb, ltb-true, ne-eqb}
 use Rattle.packet.specs.Counts.{nibbleIn, nibblePlace}
-use Rattle.packet.specs.Kinds.{endsEpoch, tagAfter}
+use Rattle.packet.specs.Kinds.{endsEpoch, epochsIn, tagAfter}
 use Rattle.phases.specs.Sizes.{portsIn}
 use Rattle.receiver.specs.Frame.{decidedAnswer, decidedRows, decidedStore, frameAnswer, frameRefusal, frameRows, frameStore, gatheredBy, marksBy, portRows, refusalBy, settledBy, steadyRows, storeBy, takenRows, takenStore}
 use Rattle.receiver.specs.Lengths.{frameFits}
@@ -17,7 +17,8 @@ use Rattle.rows.specs.declared.group.Group.{Group}
 use Rattle.rows.specs.declared.step.Step.{Step}
 use Rattle.rows.specs.Group.{groupAt}
 use Rattle.rows.specs.Laws.Marks.{marks-put-packets, marks-put-step}
-use Rattle.rows.specs.Packets.{marksAt, packetsAt, putMarks, withNibble}
+use Rattle.rows.specs.Laws.Packets.{packets-put-step}
+use Rattle.rows.specs.Packets.{marksAt, packetsAt, putMarks, putPackets, withNibble}
 use Rattle.rows.specs.Rows.{putRow, rowIn}
 use Rattle.rows.specs.Step.{putStep, stepAt, withNext}
 use Rattle.step.specs.declared.arrival.Taken.{Taken}
@@ -25,6 +26,7 @@ use Rattle.step.specs.Arrival.{distanceIn, takenOf}
 use Rattle.step.specs.Laws.Steady.{amid-goes-on, steady-taken}
 use Rattle.step.specs.Steady.{amid, steady, steadyTaken}
 use Rattle.store.specs.Frames.{placeIn, storedAt}
+use Rattle.store.specs.Marks.{cutFrom, markedAt}
 
 pub taken-rows : (g : Group) (n : ℕ) (s : List (List ℕ)) (i : ℕ) (t : Taken) (h : ℕ) (payload store : List ℕ) (ported settled : List (List ℕ)) (kept : List ℕ)
     → (t .answer ≡ 11 → ⊥) → ported ≡ portRows (g .kind) s i t h → kept ≡ storeBy g i t h payload store → settled ≡ settledBy (t .settles) n kept ported
@@ -71,12 +73,54 @@ module _ (s : List (List ℕ)) (i : ℕ) (failed : Bool) (h : ℕ) (payload stor
       × (kept ≡ takenStore (groupAt s) i (takenOf (groupAt s) (stepAt s i) failed h) h payload store)
   decided-by n t rows kept en et erows ek = rw (← eg, ← en, ← es, ← et) (refl, erows, ek)
 
--- A steady frame amid the window: the marks are put back as they were.
-module _ (s : List (List ℕ)) (i h : ℕ) (g : Group) where
-  same-marks : (rows : List (List ℕ)) → marksAt rows i ≡ marksAt s i → putMarks rows i (marksAt s i) ≡ rows
+-- What is put back as it was changes nothing.
+module _ (s : List (List ℕ)) (i : ℕ) where
+  pub same-marks : (rows : List (List ℕ)) → marksAt rows i ≡ marksAt s i → putMarks rows i (marksAt s i) ≡ rows
   unfolding putMarks putRow marksAt rowIn
   same-marks rows e = rw (← e) (set-getD rows (i * 5 + 5) (replicate 16 0))
 
+  pub same-packets : s ≡ putPackets s i (packetsAt s i)
+  unfolding putPackets putRow packetsAt rowIn
+  same-packets = sym (rw (set-getD s (i * 5 + 3) (replicate 16 0)) (set-getD s (i * 5 + 4) (replicate 16 0)))
+
+-- Gathering: a frame that is not counted leaves the packets.
+pub gather-counted : (kind : ℕ) (s : List (List ℕ)) (i : ℕ) (counted : Bool) (h place nibble : ℕ) (rows : List (List ℕ)) → counted ≡ true
+    → place ≡ nibblePlace kind h → nibble ≡ nibbleIn kind h → rows ≡ putPackets s i (withNibble (packetsAt s i) place nibble)
+    → rows ≡ putPackets s i (gatheredBy kind (packetsAt s i) counted h)
+unfolding gatheredBy withNibble
+gather-counted kind s i counted h place nibble rows e ep en er = er ∙ rw (e, ep, en) refl
+
+pub gather-none : (kind : ℕ) (s : List (List ℕ)) (i : ℕ) (counted : Bool) (h : ℕ) → counted ≡ false → s ≡ putPackets s i (gatheredBy kind (packetsAt s i) counted h)
+unfolding gatheredBy
+gather-none kind s i counted h e = rw e (same-packets s i)
+
+-- Marking: a frame that neither joins nor ends an epoch leaves the marks.
+marks-stay : (kind : ℕ) (row : List ℕ) (t : Taken) → (t .joins || t .kept && endsEpoch kind (t .at)) ≡ false → marksBy kind row t ≡ row
+unfolding marksBy
+marks-stay kind row t e = go (t .joins) (t .kept) (endsEpoch kind (t .at)) e
+  where
+    go : (a b c : Bool) → (a || b && c) ≡ false → cond a (cutFrom row (t .step .later)) (cond b (cond c (markedAt row (epochsIn kind (t .at))) row) row) ≡ row
+    go true b c e = absurd (true≢false e)
+    go false true true e = absurd (true≢false e)
+    go false true false e = refl
+    go false false c e = refl
+
+pub mark-none : (kind : ℕ) (s : List (List ℕ)) (i : ℕ) (t : Taken) (ends : Bool) → ends ≡ endsEpoch kind (t .at) → (t .joins || t .kept && ends) ≡ false
+    → s ≡ putMarks s i (marksBy kind (marksAt s i) t)
+mark-none kind s i t ends ee e = rw (marks-stay kind (marksAt s i) t (rw (← ee) e)) (sym (same-marks s i s refl))
+
+pub port-rows : (kind : ℕ) (s : List (List ℕ)) (i : ℕ) (t : Taken) (h : ℕ) (stepped gathered marked : List (List ℕ))
+    → stepped ≡ putStep s i (t .step) → gathered ≡ putPackets stepped i (gatheredBy kind (packetsAt stepped i) (t .counted) h)
+    → marked ≡ putMarks gathered i (marksBy kind (marksAt gathered i) t) → marked ≡ portRows kind s i t h
+unfolding portRows
+port-rows kind s i t h stepped gathered marked e1 e2 e3 =
+    let p : packetsAt stepped i ≡ packetsAt s i = rw e1 (packets-put-step s i (t .step) i) in
+    let same : marksAt stepped i ≡ marksAt s i = rw e1 (marks-put-step s i (t .step) i) in
+    let m : marksAt gathered i ≡ marksAt s i = rw e2 (marks-put-packets stepped i (gatheredBy kind (packetsAt stepped i) (t .counted) h) i ∙ same) in
+    e3 ∙ rw (m, e2, p, e1) refl
+
+-- A steady frame amid the window: the marks are put back as they were.
+module _ (s : List (List ℕ)) (i h : ℕ) (g : Group) where
   steady-marks : marksAt (steadyRows (g .kind) (stepAt s i .next) h i s) i ≡ marksAt s i
   unfolding steadyRows
   steady-marks =
@@ -90,7 +134,7 @@ module _ (s : List (List ℕ)) (i h : ℕ) (g : Group) where
   steady-parts e = rw e refl
 
   pub steady-rows : amid g (distanceIn g (stepAt s i .next)) ≡ true → portRows (g .kind) s i (steadyTaken g (stepAt s i)) h ≡ steadyRows (g .kind) (stepAt s i .next) h i s
-  steady-rows w = steady-parts (amid-goes-on g (distanceIn g (stepAt s i .next)) w) ∙ same-marks (steadyRows (g .kind) (stepAt s i .next) h i s) steady-marks
+  steady-rows w = steady-parts (amid-goes-on g (distanceIn g (stepAt s i .next)) w) ∙ same-marks s i (steadyRows (g .kind) (stepAt s i .next) h i s) steady-marks
 
 module _ (s : List (List ℕ)) (i : ℕ) (failed : Bool) (h : ℕ) (payload store : List ℕ) (g : Group) (eg : g ≡ groupAt s) where
   steady-arrives : (rows : List (List ℕ)) (kept : List ℕ) → steady g (stepAt s i) failed h ≡ true → amid g (distanceIn g (stepAt s i .next)) ≡ true

@@ -74,14 +74,14 @@ frameRefusal s i payload store = refusalBy (groupAt s) (portsIn (groupAt s)) i (
 
 unfoldable pub frameAnswer : List (List ℕ) → ℕ → Bool → ℕ → ℕ → ℕ → ℕ
 frameAnswer s i failed h payload store =
-    cond (eqb (frameRefusal s i payload store) 0) (decidedAnswer s i failed h) (frameRefusal s i payload store)
+    cond (eqb (frameRefusal s i payload store) 0) (takenIn s i failed h .answer) (frameRefusal s i payload store)
 
 unfoldable pub frameRows : List (List ℕ) → ℕ → Bool → ℕ → List ℕ → List ℕ → List (List ℕ)
 frameRows s i failed h payload store =
     cond (eqb (frameRefusal s i (length payload) (length store)) 0)
-    (decidedRows s i failed h payload store)
+    (takenRows (groupAt s) (portsIn (groupAt s)) s i (takenIn s i failed h) h payload store)
     s
 
 unfoldable pub frameStore : List (List ℕ) → ℕ → Bool → ℕ → List ℕ → List ℕ → List ℕ
 frameStore s i failed h payload store =
-    cond (eqb (frameRefusal s i (length payload) (length store)) 0) (decidedStore s i failed h payload store) store
+    cond (eqb (frameRefusal s i (length payload) (length store)) 0) (takenStore (groupAt s) i (takenIn s i failed h) h payload store) store

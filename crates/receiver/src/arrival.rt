@@ -10,19 +10,18 @@ ghost use mathlib.Core.Path.{_≡_};
 ghost use lib.ListN.{length};
 ghost use Rattle.receiver.specs.Frame.{decidedAnswer, decidedRows, decidedStore, frameAnswer, frameRows, frameStore, gatheredBy, marksBy, portRows, refusalBy, settledBy, steadyRows, storeBy, takenRows, takenStore};
 ghost use Rattle.rows.specs.Group.{groupAt};
+ghost use Rattle.rows.specs.Packets.{marksAt, packetsAt, putMarks, putPackets};
 ghost use Rattle.store.specs.Frames.{placeIn, storedAt};
 
-// The two packets of a port, the first one of which is being gathered.
-fn gathered_by(kind: u8, packets: [[u8; 16]; 2], counted: bool, h4: u8) -> [[u8; 16]; 2]
-    ensures { λ r. ⌜ r ≡ gatheredBy kind packets counted h4 ⌝ }
+// A counted frame's nibble into the packet being gathered.
+fn gather(kind: u8, state: &mut [[u8; 16]], port: u8, counted: bool, h4: u8)
+    ensures { λ _. ⌜ now (state .exit) ≡ putPackets (now (state .entry)) port (gatheredBy kind (packetsAt (now (state .entry)) port) counted h4) ⌝ }
 {
-    let mut pair = packets;
     if counted {
         let place = counts::nibble_place(kind, h4);
         let nibble = counts::nibble_in(kind, h4);
-        pair[0][place as usize] = nibble;
+        rows::packets::put_nibble(state, port, place, nibble);
     }
-    pair
 }
 
 fn marks_by(kind: u8, row: [u8; 16], taken: Taken) -> [u8; 16]
@@ -41,16 +40,24 @@ fn marks_by(kind: u8, row: [u8; 16], taken: Taken) -> [u8; 16]
     row
 }
 
+// Only where the marks change.
+fn mark(kind: u8, state: &mut [[u8; 16]], port: u8, taken: Taken)
+    ensures { λ _. ⌜ now (state .exit) ≡ putMarks (now (state .entry)) port (marksBy kind (marksAt (now (state .entry)) port) taken) ⌝ }
+{
+    let ends = kinds::ends_epoch(kind, taken.at);
+    if taken.joins | taken.kept & ends {
+        let row = rows::packets::marks(state, port);
+        let left = marks_by(kind, row, taken);
+        rows::packets::put_marks(state, port, left);
+    }
+}
+
 fn put_port(kind: u8, state: &mut [[u8; 16]], port: u8, taken: Taken, h4: u8)
     ensures { λ _. ⌜ now (state .exit) ≡ portRows kind (now (state .entry)) port taken h4 ⌝ }
 {
-    let packets = rows::packets::get(state, port);
-    let row = rows::packets::marks(state, port);
-    let pair = gathered_by(kind, packets, taken.counted, h4);
-    let left = marks_by(kind, row, taken);
     rows::step::put(state, port, taken.step);
-    rows::packets::put(state, port, pair);
-    rows::packets::put_marks(state, port, left);
+    gather(kind, state, port, taken.counted, h4);
+    mark(kind, state, port, taken);
 }
 
 // A frame that lies so far after the window's first, into the store.
