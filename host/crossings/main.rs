@@ -62,14 +62,14 @@ fn in_order(lines: &Lines) -> bool {
 fn first_right(lines: &Lines, time: u64) -> bool {
     let second = |foremost: u64| foremost / 16 + 2;
     let newest = time - lines.least_delay();
-    lines.reports.first().is_some_and(|r| r.epoch == second(newest) || r.epoch == second(newest - 1))
+    lines.reports.first().map_or(false, |r| r.epoch == second(newest) || r.epoch == second(newest - 1))
 }
 
 /// Where no port failed: begun within 47 frames, every epoch from the first reported on is reported, and all are sure but
 /// those that a damaged packet rules, which are held.
 fn whole(lines: &Lines, epochs: u64) -> bool {
     let begun = lines.begun.len() == 1 && lines.begun[0].0 <= lines.last_first_frame() + 46 && first_right(lines, lines.begun[0].0);
-    let to_the_end = lines.reports.last().is_some_and(|r| r.epoch == epochs - 1);
+    let to_the_end = lines.reports.last().map_or(false, |r| r.epoch == epochs - 1);
     let marked = |r: &lines::Report| {
         let damaged = lines.damaged.iter().any(|e| e + 1 == r.epoch);
         r.mark == if damaged { "held" } else { "sure" } && r.bytes == if damaged { 0 } else { lines.carried(r.epoch) }

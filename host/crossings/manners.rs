@@ -79,7 +79,7 @@ pub fn check(program: &Program, count: &mut Count) {
     count.note("a port that comes later may be slower where reports are late", readable(&early) == 0 && readable(&late) == 1);
 
     let (_, behind) = said(program, &["--slots", "2", "--delays", "0,5000", "--fail", "0:0-99999", "--epochs", "600"]);
-    count.note("epochs are told rightly behind a line that failed and would be far ahead", lines::read(&behind).reports.first().is_some_and(|r| r.epoch < 10));
+    count.note("epochs are told rightly behind a line that failed and would be far ahead", lines::read(&behind).reports.first().map_or(false, |r| r.epoch < 10));
 
     let file = program.path("gone.in");
     std::fs::write(&file, vec![7; 1_000_000]).expect("the file is written");

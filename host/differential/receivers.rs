@@ -221,7 +221,10 @@ fn history(tests: &mut Tests, random: &mut Random, seen: &mut Seen, damaged: boo
     while seen.calls < end {
         host.frame_time(random);
         for port in 0..ports {
-            let Some(mut frame) = host.frame(random, port, payload) else { continue };
+            let mut frame = match host.frame(random, port, payload) {
+                Some(frame) => frame,
+                None => continue,
+            };
             if damaged && random.below(damages) == 0 {
                 both.damage(random, seen);
             }

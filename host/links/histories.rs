@@ -105,7 +105,7 @@ impl Three {
             invariant::stored(&self.plain, port).into_iter().all(|o| {
                 let tag = (first_tag(self.plain.oldest) + o) % TAGS;
                 let at = self.plain.place(i, o);
-                self.handed.get(&(i, tag)).is_some_and(|bytes| *bytes == self.stores[0][at..at + p + 1])
+                self.handed.get(&(i, tag)).map_or(false, |bytes| *bytes == self.stores[0][at..at + p + 1])
             })
         })
     }
@@ -249,7 +249,10 @@ fn history(random: &mut Random, seen: &mut Seen, times: usize) -> Result<(), Str
     let fetches = random.one_of(&[1, 4, 20, 60]);
     for time in 0..times {
         for port in 0..ports {
-            let Some(frame) = host.frame(random, port, payload, window) else { continue };
+            let frame = match host.frame(random, port, payload, window) {
+                Some(frame) => frame,
+                None => continue,
+            };
             let at = |what: &str| format!("{} at {} of port {}, W {}", what, time, port, window);
             let mut answer = three.frame(port, &frame, seen).map_err(|e| at(e))?;
             if answer == 11 && random.below(4) > 0 {

@@ -150,9 +150,9 @@ fn expected(brings: &[Brings]) -> u8 {
         Packet(says) | Lacks(says) => Some(says),
         _ => None,
     };
-    let active = |i: usize| good(i).is_some_and(|s| s.word == NORM || s.word == EOS);
-    let end = |i: usize| good(i).is_some_and(|s| s.word == EOS);
-    let counted = |i: usize| active(i) || good(i).is_some_and(|s| s.word == DNU);
+    let active = |i: usize| good(i).map_or(false, |s| s.word == NORM || s.word == EOS);
+    let end = |i: usize| good(i).map_or(false, |s| s.word == EOS);
+    let counted = |i: usize| active(i) || good(i).map_or(false, |s| s.word == DNU);
     let sq = |i: usize| good(i).map_or(999, |s| s.sq);
     let missing = brings.iter().any(|b| matches!(b, Nothing));
     let mut held = brings.iter().any(|b| matches!(b, Word(_) | Damaged(..)));

@@ -28,7 +28,7 @@ pub fn check(count: &mut Count) {
 fn starts() -> bool {
     let answer = |ports: u32, payload: u32, window: u32, off: isize| {
         let length = (u64::from(ports) * u64::from(payload + 1) * u64::from(window)) as usize;
-        Receiver::empty().start(ports, payload, window, length.wrapping_add_signed(off))
+        Receiver::empty().start(ports, payload, window, length.wrapping_add(off as usize))
     };
     let right = (1..=64).all(|ports| answer(ports, 2340, 2048, 0) == 0) && answer(1, 1, 16, 0) == 0;
     let wrong = [(0, 1, 16), (65, 1, 16), (1, 0, 16), (1, 2341, 16), (1, 1, 15), (1, 1, 0), (1, 1, 2049), (256, 1, 16)];

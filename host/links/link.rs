@@ -176,7 +176,7 @@ impl Link {
     }
 
     fn in_step(&self, port: usize) -> bool {
-        self.got[port].is_some_and(|x| x >= self.first_counted(port) + 31)
+        self.got[port].map_or(false, |x| x >= self.first_counted(port) + 31)
     }
 
     /// Hands a port its frame of this frame time, if it has one; false if anything is not as foretold.
@@ -263,7 +263,7 @@ impl Link {
                 seen.frames_to_begin = seen.frames_to_begin.max(time + 1 - last_starts);
             }
         }
-        begun_at.is_some_and(|time| time <= last_starts + 46) && self.gathered
+        begun_at.map_or(false, |time| time <= last_starts + 46) && self.gathered
     }
 }
 

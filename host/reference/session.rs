@@ -55,7 +55,7 @@ pub fn run(input: &[u8]) -> String {
     let mut table = Table::default();
     let mut output = String::new();
     let mut lines: Vec<&[u8]> = input.split(|b| *b == b'\n').collect();
-    if lines.last().is_some_and(|last| last.is_empty()) {
+    if lines.last().map_or(false, |last| last.is_empty()) {
         lines.pop(); // what follows the last line's end is no line
     }
     for line in lines {
