@@ -17,8 +17,8 @@ builds_c() {
 }
 
 # sanitized_run PROGRAM WORD..: runs a program that may have sanitizers in it. Older ones fail now and then where addresses
-# are random, so these are switched off where that is allowed. The search for leaks is not for all machines, and nothing here
-# is allocated.
+# are random, so these are switched off where that is allowed. The search for leaks does not work on all machines, and the
+# proved code allocates nothing; so it is left out.
 sanitized_run() {
     ! setarch "$(uname -m)" -R true 2>/dev/null || set -- setarch "$(uname -m)" -R "$@"
     ASAN_OPTIONS=detect_leaks=0 "$@"

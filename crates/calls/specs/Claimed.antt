@@ -1,4 +1,4 @@
--- What stands in the store where a port claims a frame: it is the frame that was handed with that tag. A11, as a relation between two calls: after a call a frame is claimed only if it was claimed before, or is the one just handed.
+-- What stands in the store where a port claims a frame: it is the frame that was handed with that tag. As a relation between two calls: after a call a frame is claimed only if it was claimed before, or is the one just handed.
 use mathlib.Core.Path.{_≡_, refl, sym, ap, _∙_}
 use mathlib.Core.Logic.{_⊎_, inl, inr, ⊎-elim, _≢_}
 use mathlib.Core.Bool.{Bool, true, false, cond, false≢true}
@@ -306,7 +306,7 @@ module _ (tag : ℕ) (bytes : List ℕ) (h4 : ℕ) where
   HandedBy x (Frame i failed h payload) j = Handed (x .rows) i failed h payload (x .store) j tag bytes h4
   HandedBy x (Fetch out report) j = ⊥
 
-  -- A11, of every call
+  -- of every call
   pub step-claimed : (x : Receiver) (c : ReceiverCall) → Kept (x .rows) → (j : ℕ) → j < groupAt (x .rows) .count
       → Claimed (receiverStep x c .rows) (receiverStep x c .store) j tag bytes h4 → Claimed (x .rows) (x .store) j tag bytes h4 ⊎ HandedBy x c j
   step-claimed x (Frame i failed h payload) k j b c = frame-claimed (x .rows) k i failed h payload (x .store) j b c

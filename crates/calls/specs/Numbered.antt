@@ -1,4 +1,4 @@
--- A12, of the packet itself: each packet that rules carries, as its MFI2, the number of the epoch before the oldest.
+-- Of the packet itself: each packet that rules carries, as its MFI2, the number of the epoch before the oldest.
 use mathlib.Core.Path.{_≡_, refl, sym, _∙_}
 use mathlib.Core.Logic.{_⊎_, ⊎-elim}
 use mathlib.Core.Bool.{Bool, true, false}

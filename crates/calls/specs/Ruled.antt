@@ -179,7 +179,7 @@ module _ (s : List (List ℕ)) (k : Kept s) (store out report : List ℕ) where
       stays : Ruled y (Fetch out report) store s
       stays = inl (record { ports = λ j c. record { ruling = refl; whole = refl }; oldest = refl })
 
--- A12, of every call
+-- of every call
 pub step-ruled : (x : Receiver) (c : ReceiverCall) → Kept (x .rows) → Ruled x c (receiverStep x c .store) (receiverStep x c .rows)
 step-ruled x (Frame i failed h payload) k = frame-ruled (x .rows) k i failed h payload (x .store)
 step-ruled x (Fetch out report) k = fetch-ruled (x .rows) k (x .store) out report

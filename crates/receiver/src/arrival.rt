@@ -40,7 +40,7 @@ fn marks_by(kind: u8, row: [u8; 16], taken: Taken) -> [u8; 16]
     row
 }
 
-// Only where the marks change.
+// The marks, written only where they change.
 fn mark(kind: u8, state: &mut [[u8; 16]], port: u8, taken: Taken)
     ensures { λ _. ⌜ now (state .exit) ≡ putMarks (now (state .entry)) port (marksBy kind (marksAt (now (state .entry)) port) taken) ⌝ }
 {

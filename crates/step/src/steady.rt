@@ -7,7 +7,7 @@ use rows::Step;
 ghost use mathlib.Core.Path.{_≡_};
 ghost use Rattle.step.specs.Steady.{amid, steady};
 
-// Of a joined port in step, with the tag that was to come.
+// Of a joined port in step, with the tag that was to come. Had and failed stand as the rule writes them, so that nothing else changes.
 pub fn is_steady(group: Group, step: Step, failed: bool, h4: u8) -> bool
     ensures { λ r. ⌜ r ≡ steady group step failed h4 ⌝ }
 {

@@ -16,7 +16,7 @@ pub record FirstTold (kind next : ℕ) : Type 0 where
   pub byte : ℕ
   pub told : next ≡ afterFirst kind byte
 
--- A1, and what A2 says of a run
+-- what holds of every run
 pub record RunKept (kind : ℕ) (run : Run) : Type 0 where
   pub most : run .count ≤ frames kind * 2
   pub tag : run .next < tags kind
