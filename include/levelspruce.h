@@ -1,7 +1,7 @@
 /*
  * levelspruce.h: the calls of Levelspruce for a C or C++ host.
  *
- * Link target/staticlib/libcard.a, which 'rt staticlib card' writes, or what
+ * Link target/staticlib/libc_face.a, which 'rt staticlib c_face' writes, or what
  * ./install puts below a prefix: pkg-config --cflags --libs levelspruce.
  * docs/MANUAL.md says how a host uses the calls.
  *

@@ -5,15 +5,15 @@
 # compiler and run under the toolchain's emulator; programs that are built for the machine itself (Rust, sanitizers,
 # C++) link an object of the same proved module.
 
-archive=target/staticlib/libcard.a
+archive=target/staticlib/libc_face.a
 case $(uname -m) in
 aarch64)
     archive_compiler='x86_64-linux-gnu-gcc -static'
     archive_packages='gcc-x86-64-linux-gnu libc6-dev-amd64-cross'
     emulator="$(dirname "$(dirname "$(rt doc)")")/on/aarch64/toolchain/bin/qemu-x86_64"
-    own_library=target/host/card.o
+    own_library=target/host/c_face.o
     own_library_possible() { has_python; }
-    make_own_library() { mkdir -p target/host && python3 host/tools/native-object card "$own_library"; }
+    make_own_library() { mkdir -p target/host && python3 host/tools/native-object c_face "$own_library"; }
     ;;
 *)
     archive_compiler=gcc

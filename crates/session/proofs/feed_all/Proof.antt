@@ -2,7 +2,7 @@ use Prim.Native.Nat.{ℕ, _≤_, _-_}
 use native.Mathlib.Omega.{arith}
 use lib.ListN.{length}
 use borrow.Author.Needs.{needs}
-use Rattle.lines.specs.Laws.Feeding.{fed-on}
+use Rattle.console.specs.Laws.Feeding.{fed-on}
 use Rattle.session.proofs.feed_all.Statement.{statement}
 use Rattle.session.proofs.feed_all.Tie as tie
 

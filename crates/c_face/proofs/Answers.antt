@@ -1,0 +1,88 @@
+-- Each way out of the packet's C calls, as the definitions have it.
+use mathlib.Core.Path.{_≡_, refl, _∙_, sym}
+use mathlib.Core.Bool.{Bool, true, false, _&&_, false≢true}
+use mathlib.Core.List.{List, _++_}
+use Prim.Native.Nat.{ℕ, _<_}
+use native.Mathlib.Omega.{arith}
+use borrow.Author.Tests.{eq-eqb, ne-eqb, lt-ltb, ltb-true}
+use lib.Dec.{eqb, ltb}
+use lib.ListN.{length, drop, drop-of-length-le}
+use Rattle.ground.specs.Truth.{and-left, and-right, fails}
+use Rattle.packet.specs.declared.layout.Fields.{Fields}
+use Rattle.packet.specs.declared.reader.Reading.{Reading}
+use Rattle.packet.specs.Laws.Bounds.{bounds}
+use Rattle.packet.specs.Reading.{readAnswer, readingNumber}
+use Rattle.packet.specs.Writing.{fitting, writeAnswer, writeBytes, writingNumber}
+use Rattle.c_face.specs.Packets.{areBytes, given, readAnswerC, readFieldsC, valuesIn, valuesOr, writeRefusal}
+
+module _ (epoch word gid mst ack sq : ℕ) where
+  pub record Bytes : Type 0 where
+    pub epoch-fits : epoch < 256
+    pub word-fits : word < 256
+    pub gid-fits : gid < 256
+    pub mst-fits : mst < 256
+    pub ack-fits : ack < 256
+    pub sq-fits : sq < 256
+
+  pub bytes-said : areBytes epoch word gid mst ack sq ≡ true → Bytes
+  bytes-said t =
+      let t5 = and-left (E && W && G && M && A) S t in
+      let t4 = and-left (E && W && G && M) A t5 in
+      let t3 = and-left (E && W && G) M t4 in
+      let t2 = and-left (E && W) G t3 in
+      record {
+        epoch-fits = ltb-true epoch 256 (and-left E W t2);
+        word-fits = ltb-true word 256 (and-right E W t2);
+        gid-fits = ltb-true gid 256 (and-right (E && W) G t3);
+        mst-fits = ltb-true mst 256 (and-right (E && W && G) M t4);
+        ack-fits = ltb-true ack 256 (and-right (E && W && G && M) A t5);
+        sq-fits = ltb-true sq 256 (and-right (E && W && G && M && A) S t);
+      }
+    where
+      E : Bool
+      E = ltb epoch 256
+
+      W : Bool
+      W = ltb word 256
+
+      G : Bool
+      G = ltb gid 256
+
+      M : Bool
+      M = ltb mst 256
+
+      A : Bool
+      A = ltb ack 256
+
+      S : Bool
+      S = ltb sq 256
+
+  -- where a field is no byte, the fields do not fit
+  pub unfit : areBytes epoch word gid mst ack sq ≡ false → fitting (given epoch word gid mst ack sq) ≡ false
+  unfit e =
+      fails (fitting (given epoch word gid mst ack sq))
+      (λ t. let b = bounds (given epoch word gid mst ack sq) t in
+      false≢true (sym e ∙ rw (lt-ltb epoch 256 (omega arith), lt-ltb word 256 (omega arith), lt-ltb gid 256 (omega arith), lt-ltb mst 256 (omega arith), lt-ltb ack 256 (omega arith), lt-ltb sq 256 (omega arith)) refl))
+
+  pub write-unfit : (s : List ℕ) (r : ℕ) → areBytes epoch word gid mst ack sq ≡ false → r ≡ writeRefusal (length s)
+      → (r ≡ writingNumber (writeAnswer (given epoch word gid mst ack sq) s)) × (s ≡ writeBytes (given epoch word gid mst ack sq) s)
+  unfolding writeAnswer writeBytes
+  write-unfit s r e h = go (eqb (length s) 16) refl
+    where
+      go : (b : Bool) → eqb (length s) 16 ≡ b → (r ≡ writingNumber (writeAnswer (given epoch word gid mst ack sq) s)) × (s ≡ writeBytes (given epoch word gid mst ack sq) s)
+      go true q = (h ∙ rw (q, unfit e) refl, rw (q, unfit e) refl)
+      go false q = (h ∙ rw q refl, rw q refl)
+
+module _ (h4 s : List ℕ) where
+  pub read-wrong : (length s ≡ 6 → ⊥) → (9 ≡ readAnswerC h4 s) × (s ≡ readFieldsC h4 s)
+  unfolding readAnswerC readFieldsC
+  read-wrong d = rw (ne-eqb (length s) 6 d) (refl, refl)
+
+  pub read-right : (r t : Reading) (v : List ℕ) → length s ≡ 6 → t ≡ readAnswer h4 → t ≡ r → v ≡ valuesOr r s
+      → (readingNumber r ≡ readAnswerC h4 s) × (v ≡ readFieldsC h4 s)
+  unfolding readAnswerC readFieldsC
+  read-right r t v h e q k = rw (eq-eqb (length s) 6 h, ← e, q) (refl, k)
+
+-- six bytes copied over six
+pub put : (f : Fields) (s t : List ℕ) → length s ≡ 6 → t ≡ valuesIn f ++ drop 6 s → t ≡ valuesIn f
+put f s t h e = e ∙ rw (drop-of-length-le s {i = 6} (omega arith)) refl

@@ -1,0 +1,97 @@
+-- Each way out of the sender's C calls, as the definitions have it.
+use mathlib.Core.Path.{_≡_, refl, _∙_, sym, ap}
+use mathlib.Core.Bool.{Bool, true, false, _&&_}
+use mathlib.Core.List.{List}
+use Prim.Native.Nat.{ℕ, _≤_, _<_}
+use lib.Dec.{ltb}
+use lib.ListN.{length}
+use borrow.Author.Tests.{eq-eqb, ne-eqb, lt-ltb, le-ltb, ltb-true}
+use Rattle.ground.specs.Truth.{and-left, and-right}
+use Rattle.sender.specs.declared.epochs.Sender.{Sender}
+use Rattle.sender.specs.declared.epochs.SenderStep.{SenderStep}
+use Rattle.sender.specs.declared.table.Answer.{Answer}
+use Rattle.sender.specs.Epochs.{SenderCall, beginOf, packetAnswer, packetBytes, payloadAnswer, payloadBytes, senderStepOf}
+use Rattle.sender.specs.Table.{answerNumber}
+use Rattle.c_face.specs.Keeping.{bytesOf, senderOf}
+use Rattle.c_face.specs.Senders.{areThree, keptBytes, outside, packetAnswerC, packetBytesC, payloadAnswerC, payloadBytesC, startAnswerC, startStateC, stepAnswerC, stepStateC}
+
+pub record Three (a b c : ℕ) : Type 0 where
+  pub first : a < 256
+  pub second : b < 256
+  pub third : c < 256
+
+pub three-said : (a b c : ℕ) → areThree a b c ≡ true → Three a b c
+three-said a b c t =
+    let u = and-left (ltb a 256 && ltb b 256) (ltb c 256) t in
+    record {
+      first = ltb-true a 256 (and-left (ltb a 256) (ltb b 256) u);
+      second = ltb-true b 256 (and-right (ltb a 256) (ltb b 256) u);
+      third = ltb-true c 256 (and-right (ltb a 256 && ltb b 256) (ltb c 256) t);
+    }
+
+module _ (step : SenderStep) (old : List ℕ) (n : ℕ) (e : n ≡ answerNumber (step .answer)) where
+  pub keep-refused : (n ≡ 0 → ⊥) → (n ≡ answerNumber (step .answer)) × (old ≡ keptBytes step old)
+  keep-refused d = (e, rw (ne-eqb (answerNumber (step .answer)) 0 (λ z. d (e ∙ z))) refl)
+
+  pub keep-done : (out : List ℕ) → n ≡ 0 → out ≡ bytesOf (step .sender) → (0 ≡ answerNumber (step .answer)) × (out ≡ keptBytes step old)
+  keep-done out z h = (sym z ∙ e, rw (eq-eqb (answerNumber (step .answer)) 0 (sym e ∙ z)) h)
+
+module _ (state : List ℕ) (fits : Bool) (call : SenderCall) where
+  pub step-length : (length state ≡ 397 → ⊥) → (9 ≡ stepAnswerC fits call state) × (state ≡ stepStateC fits call state)
+  unfolding stepAnswerC stepStateC
+  step-length d = rw (ne-eqb (length state) 397 d) (refl, refl)
+
+  pub step-unfit : length state ≡ 397 → fits ≡ false → (8 ≡ stepAnswerC fits call state) × (state ≡ stepStateC fits call state)
+  unfolding stepAnswerC stepStateC
+  step-unfit l f = rw (eq-eqb (length state) 397 l, f) (refl, refl)
+
+  pub step-kept : (s : Sender) (step : SenderStep) (r : ℕ) (out : List ℕ) → length state ≡ 397 → fits ≡ true → s ≡ senderOf state
+      → step ≡ senderStepOf s call → (r ≡ answerNumber (step .answer)) × (out ≡ keptBytes step state)
+      → (r ≡ stepAnswerC fits call state) × (out ≡ stepStateC fits call state)
+  unfolding stepAnswerC stepStateC
+  step-kept s step r out l f es e k = rw (eq-eqb (length state) 397 l, f, ← es, ← e) k
+
+module _ (count first : ℕ) (state : List ℕ) where
+  pub start-none : (length state ≡ 397 → ⊥) → outside count ≡ true → (4 ≡ startAnswerC count first state) × (state ≡ startStateC count first state)
+  unfolding startAnswerC startStateC
+  start-none d o = rw (ne-eqb (length state) 397 d, o) (refl, refl)
+
+  pub start-length : (length state ≡ 397 → ⊥) → outside count ≡ false → (9 ≡ startAnswerC count first state) × (state ≡ startStateC count first state)
+  unfolding startAnswerC startStateC
+  start-length d o = rw (ne-eqb (length state) 397 d, o) (refl, refl)
+
+  pub start-outside : (out : List ℕ) → length state ≡ 397 → outside count ≡ true → out ≡ bytesOf (beginOf 0 count 0 .sender)
+      → (4 ≡ startAnswerC count first state) × (out ≡ startStateC count first state)
+  unfolding startAnswerC startStateC
+  start-outside out l o h = rw (eq-eqb (length state) 397 l, o) (refl, h)
+
+  pub start-unfit : length state ≡ 397 → outside count ≡ false → 255 < first → (8 ≡ startAnswerC count first state) × (state ≡ startStateC count first state)
+  unfolding startAnswerC startStateC
+  start-unfit l o b = rw (eq-eqb (length state) 397 l, o, lt-ltb 255 first b) (refl, refl)
+
+  pub start-done : (out : List ℕ) → length state ≡ 397 → outside count ≡ false → first ≤ 255 → out ≡ bytesOf (beginOf 0 count first .sender)
+      → (0 ≡ startAnswerC count first state) × (out ≡ startStateC count first state)
+  unfolding startAnswerC startStateC
+  start-done out l o b h = rw (eq-eqb (length state) 397 l, o, le-ltb 255 first b) (refl, h)
+
+module _ (state : List ℕ) (slot : ℕ) (h4 : List ℕ) where
+  pub packet-length : (length state ≡ 397 → ⊥) → (9 ≡ packetAnswerC state slot h4) × (h4 ≡ packetBytesC state slot h4)
+  unfolding packetAnswerC packetBytesC
+  packet-length d = rw (ne-eqb (length state) 397 d) (refl, refl)
+
+  pub packet-own : (s : Sender) (a : Answer) (r : ℕ) (out : List ℕ) → length state ≡ 397 → s ≡ senderOf state
+      → a ≡ packetAnswer s slot h4 → out ≡ packetBytes s slot h4 → r ≡ answerNumber a
+      → (r ≡ packetAnswerC state slot h4) × (out ≡ packetBytesC state slot h4)
+  unfolding packetAnswerC packetBytesC
+  packet-own s a r out l es ea eo er = rw (eq-eqb (length state) 397 l, ← es) (er ∙ ap answerNumber ea, eo)
+
+module _ (state : List ℕ) (slot P : ℕ) (frame member : List ℕ) where
+  pub payload-length : (length state ≡ 397 → ⊥) → (9 ≡ payloadAnswerC state slot P frame member) × (member ≡ payloadBytesC state slot P frame member)
+  unfolding payloadAnswerC payloadBytesC
+  payload-length d = rw (ne-eqb (length state) 397 d) (refl, refl)
+
+  pub payload-own : (s : Sender) (a : Answer) (r : ℕ) (out : List ℕ) → length state ≡ 397 → s ≡ senderOf state
+      → a ≡ payloadAnswer s slot P (length frame) (length member) → out ≡ payloadBytes s slot P frame member → r ≡ answerNumber a
+      → (r ≡ payloadAnswerC state slot P frame member) × (out ≡ payloadBytesC state slot P frame member)
+  unfolding payloadAnswerC payloadBytesC
+  payload-own s a r out l es ea eo er = rw (eq-eqb (length state) 397 l, ← es) (er ∙ ap answerNumber ea, eo)

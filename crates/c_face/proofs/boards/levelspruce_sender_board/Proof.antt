@@ -1,0 +1,41 @@
+use mathlib.Core.Path.{_∙_, ap}
+use borrow.Author.Needs.{needs}
+use Rattle.c_face.specs.Boards.{boardBytesOf}
+use Rattle.c_face.proofs.Showing.{shown-state, shown-room, shown-done}
+use Rattle.c_face.proofs.boards.levelspruce_sender_board.Statement.{statement}
+use Rattle.sender.specs.Board.{boardOf}
+use Rattle.sender.specs.declared.epochs.Sender.{Sender}
+use Rattle.c_face.proofs.boards.levelspruce_sender_board.Tie as tie
+
+returns : tie.Need-returns
+returns c = shown-state 130 _ _ _ (c .if1 .taken)
+
+returns-2 : tie.Need-returns-2
+returns-2 c = shown-room 130 _ _ _ (c .before .if1 .left) (c .if2 .taken)
+
+sender-of-requires : tie.Need-sender-of-requires
+sender-of-requires c κs = search needs
+
+board-of-requires : tie.Need-board-of-requires
+board-of-requires c κs = search needs
+
+put-board-requires : tie.Need-put-board-requires
+put-board-requires c κs = search needs
+
+same-length : tie.Need-same-length
+same-length c = search needs
+
+returns-3 : tie.Need-returns-3
+returns-3 c = shown-done 130 _ _ _ _ (c .before .before .before .before .before .before .before .before .if1 .left) (c .before .before .before .before .before .before .before .if2 .left) (c .before .before .put-board .ensures ∙ ap boardBytesOf (c .before .before .before .before .board-of .ensures ∙ ap (λ (s : Sender). boardOf (s .table)) (c .before .before .before .before .before .before .sender-of .ensures)))
+
+pub levelspruce-sender-board-spec : {M : Type 1} → statement M
+levelspruce-sender-board-spec =
+    tie.close
+    (tie.spec
+    returns
+    returns-2
+    sender-of-requires
+    board-of-requires
+    put-board-requires
+    same-length
+    returns-3)

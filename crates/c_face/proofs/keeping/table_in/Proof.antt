@@ -1,0 +1,37 @@
+use mathlib.Core.Path.{refl}
+use borrow.Author.Needs.{needs}
+use Rattle.c_face.proofs.keeping.table_in.Statement.{statement}
+use Rattle.c_face.proofs.keeping.table_in.Tie as tie
+
+shared-slice-read-count : tie.Need-shared-slice-read-count
+shared-slice-read-count c = search needs
+
+shared-slice-read-wait : tie.Need-shared-slice-read-wait
+shared-slice-read-wait c = search needs
+
+shared-slice-read-bit : tie.Need-shared-slice-read-bit
+shared-slice-read-bit c = search needs
+
+shared-slice-read-kind : tie.Need-shared-slice-read-kind
+shared-slice-read-kind c = search needs
+
+slots-in-requires : tie.Need-slots-in-requires
+slots-in-requires c κs = search needs
+
+flag-of-requires : tie.Need-flag-of-requires
+flag-of-requires c κs = search needs
+
+returns : tie.Need-returns
+returns c = rw (c .flag-of .ensures, c .before .slots-in .ensures) refl
+
+pub table-in-spec : {M : Type 1} → statement M
+table-in-spec =
+    tie.close
+    (tie.spec
+    shared-slice-read-count
+    shared-slice-read-wait
+    shared-slice-read-bit
+    shared-slice-read-kind
+    slots-in-requires
+    flag-of-requires
+    returns)

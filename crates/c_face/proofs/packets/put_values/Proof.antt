@@ -1,0 +1,20 @@
+use borrow.Author.Needs.{needs}
+use Rattle.c_face.proofs.Answers.{put}
+use Rattle.c_face.proofs.packets.put_values.Statement.{statement}
+use denote.Ref.{now}
+use Rattle.c_face.proofs.packets.put_values.Tie as tie
+
+slice-aggregate-copy : tie.Need-slice-aggregate-copy
+slice-aggregate-copy c = search needs
+
+copy-requires : tie.Need-copy-requires
+copy-requires c κs = search needs
+
+same-length : tie.Need-same-length
+same-length c = search needs
+
+returns : tie.Need-returns
+returns c = put (c .before .before .before .before .before .before .before .args .values) (now (c .before .before .before .before .before .before .before .args .fields)) _ (c .before .before .before .before .before .before .before .pre) (c .before .before .copy .ensures .1)
+
+pub put-values-spec : {M : Type 1} → statement M
+put-values-spec = tie.close (tie.spec slice-aggregate-copy copy-requires same-length returns)

@@ -1,0 +1,59 @@
+use mathlib.Core.Path.{_∙_, sym}
+use native.Mathlib.Omega.{arith}
+use borrow.Author.Needs.{needs}
+use Rattle.c_face.proofs.Stepping.{start-none, start-length, start-outside, start-unfit, start-done}
+use Rattle.c_face.proofs.senders.levelspruce_sender_start.Statement.{statement}
+use Rattle.c_face.proofs.senders.levelspruce_sender_start.Tie as tie
+
+is-outside-requires : tie.Need-is-outside-requires
+is-outside-requires c κs = search needs
+
+returns : tie.Need-returns
+returns c = start-none _ (c .before .before .before .before .args .«first-epoch») _ (c .before .before .if1 .taken) (sym (c .before .is-outside .ensures) ∙ c .if2 .taken)
+
+returns-2 : tie.Need-returns-2
+returns-2 c = start-length _ (c .before .before .before .before .args .«first-epoch») _ (c .before .before .if1 .taken) (sym (c .before .is-outside .ensures) ∙ c .if2 .left)
+
+is-outside-requires-2 : tie.Need-is-outside-requires-2
+is-outside-requires-2 c κs = search needs
+
+put-start-requires : tie.Need-put-start-requires
+put-start-requires c κs = search needs
+
+same-length : tie.Need-same-length
+same-length c = search needs
+
+returns-3 : tie.Need-returns-3
+returns-3 c = start-outside _ (c .before .before .before .before .before .before .before .before .args .«first-epoch») _ _ (c .before .before .before .before .before .before .if1 .left) (sym (c .before .before .before .before .before .is-outside2 .ensures) ∙ c .before .before .before .before .if3 .taken) (c .before .before .put-start .ensures)
+
+returns-4 : tie.Need-returns-4
+returns-4 c = start-unfit _ _ _ (c .before .before .before .if1 .left) (sym (c .before .before .is-outside2 .ensures) ∙ c .before .if3 .left) (c .if4 .taken)
+
+cast-put-start : tie.Need-cast-put-start
+cast-put-start c = omega arith
+
+put-start-requires-2 : tie.Need-put-start-requires-2
+put-start-requires-2 c κs = search needs
+
+same-length-2 : tie.Need-same-length-2
+same-length-2 c = search needs
+
+returns-5 : tie.Need-returns-5
+returns-5 c = start-done _ _ _ _ (c .before .before .before .before .before .before .before .if1 .left) (sym (c .before .before .before .before .before .before .is-outside2 .ensures) ∙ c .before .before .before .before .before .if3 .left) (c .before .before .before .before .if4 .left) (c .before .before .put-start2 .ensures)
+
+pub levelspruce-sender-start-spec : {M : Type 1} → statement M
+levelspruce-sender-start-spec =
+    tie.close
+    (tie.spec
+    is-outside-requires
+    returns
+    returns-2
+    is-outside-requires-2
+    put-start-requires
+    same-length
+    returns-3
+    returns-4
+    cast-put-start
+    put-start-requires-2
+    same-length-2
+    returns-5)

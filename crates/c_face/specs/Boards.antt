@@ -1,0 +1,47 @@
+-- The board and the ranks for C, each from one table and whole. A state or a buffer of another length is refused with 9.
+use mathlib.Core.Bool.{Bool, cond, _&&_}
+use mathlib.Core.List.{List, [], _∷_}
+use Prim.Native.Nat.{ℕ, _-_}
+use lib.Dec.{eqb, ltb}
+use lib.ListN.{getD, length}
+use Rattle.ground.specs.Table.{tabulate}
+use Rattle.sender.specs.Board.{boardOf}
+use Rattle.sender.specs.declared.board.Board.{Board}
+use Rattle.sender.specs.declared.ranks.Ranks.{Ranks}
+use Rattle.sender.specs.Epochs.{ranksOf}
+use Rattle.sender.specs.Table.{sizeOf}
+use Rattle.c_face.specs.Keeping.{flagByte, rowsByte, senderOf}
+use Rattle.c_face.specs.Senders.{isState}
+
+-- the count, at most 64, and the wait, then each slot's word and number
+unfoldable pub boardByte : Board → ℕ → ℕ
+boardByte b k = cond (ltb k 2) (getD (sizeOf (b .count) ∷ flagByte (b .wait) ∷ []) k 0) (rowsByte (b .rows) (k - 2))
+
+unfoldable pub boardBytesOf : Board → List ℕ
+boardBytesOf b = tabulate 130 (boardByte b)
+
+-- the count, whether an epoch has started, its number and X, then each slot's rank
+unfoldable pub rankByte : Ranks → ℕ → ℕ
+rankByte r k = cond (ltb k 4) (getD (r .count ∷ flagByte (r .begun) ∷ r .epoch ∷ r .x ∷ []) k 0) (getD (r .ranks) (k - 4) 0)
+
+unfoldable pub ranksBytesOf : Ranks → List ℕ
+ranksBytesOf r = tabulate 68 (rankByte r)
+
+abbrev pub bothSized : ℕ → List ℕ → List ℕ → Bool
+bothSized n state out = isState state && eqb (length out) n
+
+unfoldable pub shownAnswerC : ℕ → List ℕ → List ℕ → ℕ
+shownAnswerC n state out = cond (bothSized n state out) 0 9
+
+-- under 9 the buffer stays
+unfoldable pub shownBytes : ℕ → List ℕ → List ℕ → List ℕ → List ℕ
+shownBytes n state new out = cond (bothSized n state out) new out
+
+abbrev pub boardBytesC : List ℕ → List ℕ → List ℕ
+boardBytesC state out = shownBytes 130 state (boardBytesOf (boardOf (senderOf state .table))) out
+
+abbrev pub goingBytesC : List ℕ → List ℕ → List ℕ
+goingBytesC state out = shownBytes 130 state (boardBytesOf (senderOf state .going)) out
+
+abbrev pub ranksBytesC : List ℕ → List ℕ → List ℕ
+ranksBytesC state out = shownBytes 68 state (ranksBytesOf (ranksOf (senderOf state))) out

@@ -1,0 +1,91 @@
+// The sender's board and ranks for C, each read whole into one lent buffer.
+use crate::keeping;
+use sender::Board;
+use sender::Ranks;
+use sender::Sender;
+ghost use mathlib.Core.Path.{_≡_};
+ghost use lib.ListN.{length};
+ghost use Rattle.sender.specs.Table.{sizeOf};
+ghost use Rattle.c_face.specs.Boards.{boardBytesC, boardBytesOf, goingBytesC, ranksBytesC, ranksBytesOf, shownAnswerC};
+
+// A count above 64 stands only in a state that does not come from a start: nobody is to read past the board by it.
+fn shown_count(count: u8) -> u8
+    ensures { λ r. ⌜ r ≡ sizeOf count ⌝ }
+{
+    if count < 64 { count } else { 64 }
+}
+
+fn put_board(board: Board, out: &mut [u8])
+    requires { ⌜ length (now out) ≡ 130 ⌝ }
+    ensures { λ r. ⌜ now (out .exit) ≡ boardBytesOf board ⌝ }
+{
+    let wait = keeping::flag_byte(board.wait);
+    let count = shown_count(board.count);
+    let head = [count, wait];
+    let rows = board.rows;
+    keeping::put_bytes(&head, 0, out);
+    keeping::put_rows(rows, 2, out);
+}
+
+fn put_ranks(ranks: Ranks, out: &mut [u8])
+    requires { ⌜ length (now out) ≡ 68 ⌝ }
+    ensures { λ r. ⌜ now (out .exit) ≡ ranksBytesOf ranks ⌝ }
+{
+    let begun = keeping::flag_byte(ranks.begun);
+    let head = [ranks.count, begun, ranks.epoch, ranks.x];
+    let each = ranks.ranks;
+    keeping::put_bytes(&head, 0, out);
+    keeping::put_bytes(&each, 4, out);
+}
+
+#[no_mangle]
+pub extern "C" fn levelspruce_sender_board(state: &[u8], board: &mut [u8]) -> u8
+    ensures { λ r. ⌜ (r ≡ shownAnswerC 130 (now (state .entry)) (now (board .entry)))
+        × (now (board .exit) ≡ boardBytesC (now (state .entry)) (now (board .entry))) ⌝ }
+{
+    if state.len() != 397 {
+        return 9;
+    }
+    if board.len() != 130 {
+        return 9;
+    }
+    let sender = keeping::sender_of(state);
+    let table = sender.table;
+    let shown = sender::board_of(table);
+    put_board(shown, board);
+    0
+}
+
+#[no_mangle]
+pub extern "C" fn levelspruce_sender_board_going(state: &[u8], board: &mut [u8]) -> u8
+    ensures { λ r. ⌜ (r ≡ shownAnswerC 130 (now (state .entry)) (now (board .entry)))
+        × (now (board .exit) ≡ goingBytesC (now (state .entry)) (now (board .entry))) ⌝ }
+{
+    if state.len() != 397 {
+        return 9;
+    }
+    if board.len() != 130 {
+        return 9;
+    }
+    let sender = keeping::sender_of(state);
+    let going = sender.going;
+    put_board(going, board);
+    0
+}
+
+#[no_mangle]
+pub extern "C" fn levelspruce_sender_ranks(state: &[u8], ranks: &mut [u8]) -> u8
+    ensures { λ r. ⌜ (r ≡ shownAnswerC 68 (now (state .entry)) (now (ranks .entry)))
+        × (now (ranks .exit) ≡ ranksBytesC (now (state .entry)) (now (ranks .entry))) ⌝ }
+{
+    if state.len() != 397 {
+        return 9;
+    }
+    if ranks.len() != 68 {
+        return 9;
+    }
+    let sender = keeping::sender_of(state);
+    let told = sender.ranks();
+    put_ranks(told, ranks);
+    0
+}

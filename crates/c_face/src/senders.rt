@@ -1,0 +1,183 @@
+// The sender for C. The whole state is a lent buffer; a refusal changes no byte of it, but for the empty group of a refused start.
+use crate::keeping;
+use packet::kinds;
+use sender::Answer;
+use sender::Sender;
+use sender::SenderStep;
+ghost use mathlib.Core.Path.{_≡_};
+ghost use mathlib.Core.Bool.{true};
+ghost use lib.ListN.{length};
+ghost use Rattle.sender.specs.Epochs.{beginOf};
+ghost use Rattle.sender.specs.Epochs.SenderCall.{OnTable, StartEpoch};
+ghost use Rattle.sender.specs.Steps.Call.{AddSlot, RemoveSlot, Report, Lapse};
+ghost use Rattle.sender.specs.Table.{answerNumber};
+ghost use Rattle.c_face.specs.Keeping.{bytesOf};
+ghost use Rattle.c_face.specs.Senders.{areThree, keptBytes, outside, packetAnswerC, packetBytesC, payloadAnswerC, payloadBytesC, startAnswerC, startStateC, stepAnswerC, stepStateC};
+
+fn is_outside(count: u32) -> bool
+    ensures { λ r. ⌜ r ≡ outside count ⌝ }
+{
+    (count == 0) | (64 < count)
+}
+
+fn are_three(a: u32, b: u32, c: u32) -> bool
+    ensures { λ r. ⌜ r ≡ areThree a b c ⌝ }
+{
+    (a < 256) & (b < 256) & (c < 256)
+}
+
+fn put_start(count: u32, epoch: u8, state: &mut [u8])
+    requires { ⌜ length (now state) ≡ 397 ⌝ }
+    ensures { λ r. ⌜ now (state .exit) ≡ bytesOf (beginOf 0 count epoch .sender) ⌝ }
+{
+    let step = Sender::start(kinds::H4, count, epoch);
+    let sender = step.sender;
+    keeping::put_sender(sender, state);
+}
+
+// What a step leaves: under 0 its sender's bytes, and under a refusal the bytes as they were.
+fn keep(step: SenderStep, state: &mut [u8]) -> u8
+    requires { ⌜ length (now state) ≡ 397 ⌝ }
+    ensures { λ r. ⌜ (r ≡ answerNumber (step .answer)) × (now (state .exit) ≡ keptBytes step (now (state .entry))) ⌝ }
+{
+    let answer = step.answer;
+    let number = answer.number();
+    if number != 0 {
+        return number;
+    }
+    let sender = step.sender;
+    keeping::put_sender(sender, state);
+    0
+}
+
+#[no_mangle]
+pub extern "C" fn levelspruce_sender_start(count: u32, first_epoch: u32, state: &mut [u8]) -> u8
+    ensures { λ r. ⌜ (r ≡ startAnswerC count «first_epoch» (now (state .entry)))
+        × (now (state .exit) ≡ startStateC count «first_epoch» (now (state .entry))) ⌝ }
+{
+    if state.len() != 397 {
+        return if is_outside(count) { 4 } else { 9 };
+    }
+    if is_outside(count) {
+        put_start(count, 0, state);
+        return 4;
+    }
+    if first_epoch > 255 {
+        return 8;
+    }
+    put_start(count, first_epoch as u8, state);
+    0
+}
+
+#[no_mangle]
+pub extern "C" fn levelspruce_sender_add(state: &mut [u8], slot: u32) -> u8
+    ensures { λ r. ⌜ (r ≡ stepAnswerC true (OnTable (AddSlot slot)) (now (state .entry)))
+        × (now (state .exit) ≡ stepStateC true (OnTable (AddSlot slot)) (now (state .entry))) ⌝ }
+{
+    if state.len() != 397 {
+        return 9;
+    }
+    let sender = keeping::sender_of(state);
+    let step = sender.add(slot);
+    keep(step, state)
+}
+
+#[no_mangle]
+pub extern "C" fn levelspruce_sender_remove(state: &mut [u8], slot: u32) -> u8
+    ensures { λ r. ⌜ (r ≡ stepAnswerC true (OnTable (RemoveSlot slot)) (now (state .entry)))
+        × (now (state .exit) ≡ stepStateC true (OnTable (RemoveSlot slot)) (now (state .entry))) ⌝ }
+{
+    if state.len() != 397 {
+        return 9;
+    }
+    let sender = keeping::sender_of(state);
+    let step = sender.remove(slot);
+    keep(step, state)
+}
+
+#[no_mangle]
+pub extern "C" fn levelspruce_sender_report(
+    state: &mut [u8],
+    epoch: u32,
+    mst: u32,
+    rs_ack: u32,
+) -> u8
+    ensures { λ r. ⌜ (r ≡ stepAnswerC (areThree epoch mst «rs_ack») (OnTable (Report epoch mst «rs_ack»)) (now (state .entry)))
+        × (now (state .exit) ≡ stepStateC (areThree epoch mst «rs_ack») (OnTable (Report epoch mst «rs_ack»)) (now (state .entry))) ⌝ }
+{
+    if state.len() != 397 {
+        return 9;
+    }
+    if !are_three(epoch, mst, rs_ack) {
+        return 8;
+    }
+    let sender = keeping::sender_of(state);
+    let step = sender.report(epoch as u8, mst as u8, rs_ack as u8);
+    keep(step, state)
+}
+
+#[no_mangle]
+pub extern "C" fn levelspruce_sender_lapse(state: &mut [u8]) -> u8
+    ensures { λ r. ⌜ (r ≡ stepAnswerC true (OnTable Lapse) (now (state .entry)))
+        × (now (state .exit) ≡ stepStateC true (OnTable Lapse) (now (state .entry))) ⌝ }
+{
+    if state.len() != 397 {
+        return 9;
+    }
+    let sender = keeping::sender_of(state);
+    let step = sender.lapse();
+    keep(step, state)
+}
+
+#[no_mangle]
+pub extern "C" fn levelspruce_sender_start_epoch(
+    state: &mut [u8],
+    gid: u32,
+    mst: u32,
+    rs_ack: u32,
+) -> u8
+    ensures { λ r. ⌜ (r ≡ stepAnswerC (areThree gid mst «rs_ack») (StartEpoch gid mst «rs_ack») (now (state .entry)))
+        × (now (state .exit) ≡ stepStateC (areThree gid mst «rs_ack») (StartEpoch gid mst «rs_ack») (now (state .entry))) ⌝ }
+{
+    if state.len() != 397 {
+        return 9;
+    }
+    if !are_three(gid, mst, rs_ack) {
+        return 8;
+    }
+    let sender = keeping::sender_of(state);
+    let step = sender.start_epoch(gid as u8, mst as u8, rs_ack as u8);
+    keep(step, state)
+}
+
+#[no_mangle]
+pub extern "C" fn levelspruce_sender_packet(state: &[u8], slot: u32, h4: &mut [u8]) -> u8
+    ensures { λ r. ⌜ (r ≡ packetAnswerC (now (state .entry)) slot (now (h4 .entry)))
+        × (now (h4 .exit) ≡ packetBytesC (now (state .entry)) slot (now (h4 .entry))) ⌝ }
+{
+    if state.len() != 397 {
+        return 9;
+    }
+    let sender = keeping::sender_of(state);
+    let answer = sender.packet(slot, h4);
+    answer.number()
+}
+
+#[no_mangle]
+pub extern "C" fn levelspruce_sender_payload(
+    state: &[u8],
+    slot: u32,
+    p: u32,
+    frame: &[u8],
+    member: &mut [u8],
+) -> u8
+    ensures { λ r. ⌜ (r ≡ payloadAnswerC (now (state .entry)) slot p (now (frame .entry)) (now (member .entry)))
+        × (now (member .exit) ≡ payloadBytesC (now (state .entry)) slot p (now (frame .entry)) (now (member .entry))) ⌝ }
+{
+    if state.len() != 397 {
+        return 9;
+    }
+    let sender = keeping::sender_of(state);
+    let answer = sender.payload(slot, p, frame, member);
+    answer.number()
+}

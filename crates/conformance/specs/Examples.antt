@@ -1,0 +1,184 @@
+-- 01's examples, marked P1 to P11, and its limits, in one table under one statement. Bytes stand in hexadecimal, as 01 has them.
+use mathlib.Core.Path.{refl}
+use mathlib.Core.List.{List, [], _∷_, _++_}
+use Prim.Native.Nat.{ℕ, _+_}
+use lib.ListN.{replicate}
+use Rattle.packet.specs.declared.layout.Fields.{Fields}
+use Rattle.packet.specs.Crc.{byteBits, crcOf, divisor, nibbleBits}
+use Rattle.packet.specs.Layout.{byteOf, carriedIn, dataOf, fieldsOf, h4Of, highsOf, nibblesOf, sealedOf}
+use Rattle.packet.specs.Reading.{readAnswer, readNibbles, readingNumber, readingValues}
+use Rattle.packet.specs.Words.{FIXED, ADD, NORM, EOS, IDLE, DNU, assigned}
+use Rattle.packet.specs.Writing.{fitting, writeAnswer, writeBytes, writingNumber}
+use Rattle.console.specs.Ascii.{ascii}
+use Rattle.console.specs.Fields.{decimalOf, digitOf, hexPair}
+use Rattle.console.specs.Line.{lineOf, numberLine, reportLine, wordLine}
+use Rattle.console.specs.Line.{reportOf as reportIn}
+use Rattle.console.specs.Output.{answerText, boardText, decimalText, slotText, waitText, wordText}
+use Rattle.console.specs.Replies.{outputOf, replyOf, sizeReply}
+use Rattle.console.specs.Runs.{wholeOutput}
+use Rattle.console.specs.Session.{beginning}
+use Rattle.console.specs.Text.{linesOf}
+use Rattle.console.specs.Text.{fieldsOf as fieldsIn}
+use Rattle.payload.specs.Answers.{numberOf}
+use Rattle.payload.specs.Joining.{joined, wholeAnswer}
+use Rattle.payload.specs.Spreading.{spreadAll}
+use Rattle.ground.specs.Circle.{after as afterOn}
+use Rattle.packet.specs.Counts.{afterFirst, afterSecond, counts, goesSecond, nibbleIn, nibblePlace, startsCount}
+use Rattle.packet.specs.Kinds.{distanceOf, endsEpoch, epochAfter, epochOf, epochs, epochsIn, firstTag, frames, idleNumber, lead, mstFails, mstFirst, mstNumbers, placeOf, startsEpoch, tagAfter, tagBefore, tags}
+use Rattle.phases.specs.Beginning.{begins, foremost, further, latest, noTag, ready, within}
+use Rattle.phases.specs.Due.{brought, lets, silent}
+use Rattle.phases.specs.Passing.{notedBy, passedGroup, passedOf, passedPort, passedPorts, passedStep, ruledBy}
+use Rattle.phases.specs.Settling.{beginBy, begunOf, clearedPort, clearedPorts, clearedStep, gatherBy, settledOf, stopBy, stoppedOf}
+use Rattle.phases.specs.Sizes.{portsIn, storeFor}
+use Rattle.phases.specs.Sizes.{sized as sizedGroup}
+use Rattle.receiver.specs.Frame.{frameAnswer, frameRows, frameStore, gatheredBy, marksBy, portRows, refusalBy, settledBy, storeBy, takenRows, takenStore}
+use Rattle.receiver.specs.Lengths.{frameFits, rowsFit}
+use Rattle.receiver.specs.Starting.{freshPort, freshPorts, sizedAnswer, sizedRows, startAnswer, startFits, startRows}
+use Rattle.rows.specs.Group.{groupAt, groupOf, groupRow, putGroup}
+use Rattle.rows.specs.Member.{memberAt, memberOf, memberRow, putMember}
+use Rattle.rows.specs.Packets.{marksAt, packetsAt, putMarks, putPackets}
+use Rattle.rows.specs.Rows.{putRow, rowIn}
+use Rattle.rows.specs.Step.{putStep, stepAt, stepRow}
+use Rattle.rows.specs.Step.{stepOf as stepIn}
+use Rattle.sender.specs.Board.{boardOf, highest, noRow, rowOf, rowsOf}
+use Rattle.sender.specs.Commands.{addOf, addedTo, fallen, fallenIn, freshOf, idleSlot, lapseOf, removeOf, removedFrom, startOf}
+use Rattle.sender.specs.Reports.{actedOn, comesBefore, heardIn, numberAfter, opensWait, renumbered, reportOf, slotAfter, toldIn, turnOf, waited}
+use Rattle.sender.specs.Shown.{after, shown, started}
+use Rattle.sender.specs.Steps.{Call}
+use Rattle.sender.specs.Steps.Call.{AddSlot, Lapse, RemoveSlot, Report}
+use Rattle.sender.specs.Table.{holderOf, membersOf, sizeOf}
+use Rattle.step.specs.Arrival.{arrives, aside, byStart, byWindow, countsOn, distanceIn, flagged, inStep, joining, keeps, outside, readable, takenOf}
+use Rattle.step.specs.Run.{begunRun, furtherRun, inStepAt, oneMore, runOn, secondRun}
+use Rattle.store.specs.Frames.{byteAt, h4At, packetIn, placeIn, ringOf, storedAt}
+use Rattle.store.specs.Marks.{cutByte, cutFrom, firstMark, markedAt, markedByte, passedByte, passedMarks}
+use Rattle.conformance.specs.Hosts.{Host, begun, fed, handed, opened, openedWith, stored}
+use Rattle.conformance.specs.Rows.{Row, Equal, equal-rows}
+
+-- nibbles two by two, as 01 writes a packet's data and CRC
+abbrev bytes : List ℕ → List ℕ
+bytes [] = []
+bytes (a ∷ []) = a ∷ []
+bytes (a ∷ b ∷ ns) = byteOf a b ∷ bytes ns
+
+-- IDLE, SQ 255, MST all FAIL, RS-Ack 0, epoch 0, GID 0
+abbrev p1 : Fields
+p1 = record { epoch = 0; word = record { 0 = IDLE }; gid = 0; mst = 0xFF; «rs_ack» = 0; sq = 255 }
+
+-- EOS, SQ 0, MST all FAIL, epoch 1, GID 1
+abbrev p2 : Fields
+p2 = record { epoch = 1; word = record { 0 = EOS }; gid = 1; mst = 0xFF; «rs_ack» = 0; sq = 0 }
+
+abbrev p1-h4 : List ℕ
+p1-h4 = 0xF8 ∷ 0xF9 ∷ 0x0A ∷ 0x0B ∷ 0x0C ∷ 0x0D ∷ 0xFE ∷ 0xFF ∷ 0x00 ∷ 0x01 ∷ 0x52 ∷ 0x03 ∷ 0x04 ∷ 0x05 ∷ 0x96 ∷ 0x97 ∷ []
+
+-- a member added and made active, its wait lapsed
+abbrev active : ℕ → List Call
+active slot = AddSlot slot ∷ Report 0 0x00 0 ∷ Lapse ∷ []
+
+-- 'NORM 0, NORM 1, EOS 2; the middle one removed'
+abbrev p9 : List Call
+p9 = active 0 ++ (active 1 ++ (active 2 ++ (RemoveSlot 1 ∷ [])))
+
+-- 'NORM 0, EOS 1; FAIL for 1'
+abbrev p10 : List Call
+p10 = active 0 ++ (active 1 ++ (Report 0 0x40 0 ∷ []))
+
+-- 'then FAIL for 0 and 1'
+abbrev p11 : List Call
+p11 = p10 ++ (Report 0 0xC0 0 ∷ [])
+
+-- one port in step, its latest tag 4,095
+abbrev p5 : Host
+p5 = fed 0 32 4064 (opened 1 16)
+
+-- W is 32. Both ports in step, the latest tag of port 0 is 31, that of port 1 is apart frames more; port 0 comes into step last.
+abbrev apart : ℕ → Host
+apart frames = fed 0 32 0 (fed 1 (frames + 16) 16 (opened 2 32))
+
+-- W is 16. The port joined at tag 40, and the epoch from there on is gathered; so the window's first frame has the tag 56.
+abbrev joined56 : ℕ → Host
+joined56 frames = fed 0 (56 + frames) 0 (opened 1 16)
+
+pub table : List Row
+table =
+    record {
+      name = "control words FIXED, ADD, NORM, EOS, IDLE, DNU";
+      given = FIXED ∷ ADD ∷ NORM ∷ EOS ∷ IDLE ∷ DNU ∷ [];
+      said = 0 ∷ 1 ∷ 2 ∷ 3 ∷ 5 ∷ 15 ∷ [];
+    }
+    ∷ record {
+      name = "P1 data and CRC";
+      given = bytes (nibblesOf p1 0);
+      said = 0xFF ∷ 0x00 ∷ 0x00 ∷ 0xFF ∷ 0x00 ∷ 0x50 ∷ 0x00 ∷ 0x99 ∷ [];
+    }
+    ∷ record { name = "P1 written"; given = writingNumber (writeAnswer p1 (replicate 16 0)) ∷ writeBytes p1 (replicate 16 0); said = 0 ∷ p1-h4 }
+    ∷ record { name = "P1 read"; given = readingNumber (readAnswer p1-h4) ∷ readingValues (readAnswer p1-h4); said = 0 ∷ 0 ∷ 5 ∷ 0 ∷ 0xFF ∷ 0 ∷ 255 ∷ [] }
+    ∷ record {
+      name = "P2 data and CRC";
+      given = bytes (nibblesOf p2 0);
+      said = 0xFF ∷ 0x00 ∷ 0x00 ∷ 0x00 ∷ 0x01 ∷ 0x31 ∷ 0x00 ∷ 0xC3 ∷ [];
+    }
+    ∷ record { name = "P3 CRC of 56 zero bits"; given = crcOf (replicate 14 0) ∷ []; said = 0x00 ∷ [] }
+    ∷ record { name = "P4 CRC of the last bit alone"; given = crcOf (replicate 13 0 ++ (1 ∷ [])) ∷ []; said = 0x07 ∷ [] }
+    ∷ record { name = "P5: tag 4,095 then 0 keeps step"; given = p5 .answer ∷ handed 0 0 p5 .answer ∷ []; said = 0 ∷ 0 ∷ [] }
+    ∷ record { name = "P5: 4,095 then 1 loses it"; given = p5 .answer ∷ handed 0 1 p5 .answer ∷ []; said = 0 ∷ 12 ∷ [] }
+    ∷ record {
+      name = "P6 spread: X 3, P 2, bytes 0 to 5";
+      given = numberOf (wholeAnswer 3 2 6 6) ∷ spreadAll 3 2 (0 ∷ 1 ∷ 2 ∷ 3 ∷ 4 ∷ 5 ∷ []) (replicate 6 0);
+      said = 0 ∷ 0 ∷ 3 ∷ 1 ∷ 4 ∷ 2 ∷ 5 ∷ [];
+    }
+    ∷ record {
+      name = "P6 joined";
+      given = numberOf (wholeAnswer 3 2 6 6) ∷ joined 3 2 (0 ∷ 3 ∷ 1 ∷ 4 ∷ 2 ∷ 5 ∷ []) (replicate 6 0);
+      said = 0 ∷ 0 ∷ 1 ∷ 2 ∷ 3 ∷ 4 ∷ 5 ∷ [];
+    }
+    ∷ record { name = "P7: X 0, nothing"; given = numberOf (wholeAnswer 0 2 0 0) ∷ spreadAll 0 2 [] []; said = 0 ∷ [] }
+    ∷ record { name = "64 members"; given = numberOf (wholeAnswer 64 1 64 64) ∷ []; said = 0 ∷ [] }
+    ∷ record { name = "65 members"; given = numberOf (wholeAnswer 65 1 65 65) ∷ []; said = 4 ∷ [] }
+    ∷ record { name = "P of 0"; given = numberOf (wholeAnswer 0 0 0 0) ∷ []; said = 4 ∷ [] }
+    ∷ record { name = "P of 2,340"; given = numberOf (wholeAnswer 1 2340 2340 2340) ∷ []; said = 0 ∷ [] }
+    ∷ record { name = "P of 2,341"; given = numberOf (wholeAnswer 1 2341 2341 2341) ∷ []; said = 4 ∷ [] }
+    ∷ record {
+      name = "P8 the session's whole output";
+      given = wholeOutput (ascii "size\t2\nadd\t0\nadd\t1\nreport\t0\tBF\t0\nremove\t0\nboard\n");
+      said = ascii "answer\t0\nanswer\t0\nanswer\t0\nanswer\t0\nanswer\t3\nslot\t0\tADD\t1\nslot\t1\tEOS\t0\nwait\t1\n";
+    }
+    ∷ record { name = "P9: NORM 0, IDLE 255, EOS 1, wait open"; given = shown (after 3 p9); said = 2 ∷ 0 ∷ 5 ∷ 255 ∷ 3 ∷ 1 ∷ 1 ∷ [] }
+    ∷ record { name = "P10: EOS 0, DNU 1, no wait"; given = shown (after 2 p10); said = 3 ∷ 0 ∷ 15 ∷ 1 ∷ 0 ∷ [] }
+    ∷ record { name = "P11: two DNU, no EOS"; given = shown (after 2 p11); said = 15 ∷ 0 ∷ 15 ∷ 1 ∷ 0 ∷ [] }
+    ∷ record { name = "64 slots start"; given = started 64; said = 0 ∷ 64 ∷ [] }
+    ∷ record { name = "0 slots"; given = started 0; said = 4 ∷ 0 ∷ [] }
+    ∷ record { name = "65 slots"; given = started 65; said = 4 ∷ 0 ∷ [] }
+    ∷ record { name = "64 ports start"; given = openedWith 64; said = 0 ∷ 64 ∷ [] }
+    ∷ record { name = "0 ports"; given = openedWith 0; said = 4 ∷ 0 ∷ [] }
+    ∷ record { name = "65 ports"; given = openedWith 65; said = 4 ∷ 0 ∷ [] }
+    ∷ record {
+      name = "P of 0, 1, 2,340 and 2,341 at a receiver's start";
+      given =
+          startAnswer 0 1 0 16 16 6
+          ∷ startAnswer 0 1 1 16 32 6
+          ∷ startAnswer 0 1 2340 16 37456 6
+          ∷ startAnswer 0 1 2341 16 37472 6
+          ∷ [];
+      said = 4 ∷ 0 ∷ 0 ∷ 4 ∷ [];
+    }
+    ∷ record {
+      name = "W of 15, 16, 2,048 and 2,049";
+      given =
+          startAnswer 0 1 1 15 30 6
+          ∷ startAnswer 0 1 1 16 32 6
+          ∷ startAnswer 0 1 1 2048 4096 6
+          ∷ startAnswer 0 1 1 2049 4098 6
+          ∷ [];
+      said = 4 ∷ 0 ∷ 0 ∷ 4 ∷ [];
+    }
+    ∷ record { name = "latest tags W-16 apart begin"; given = begun (apart 16); said = 0 ∷ 1 ∷ [] }
+    ∷ record { name = "latest tags W-15 apart don't"; given = begun (apart 17); said = 0 ∷ 0 ∷ [] }
+    ∷ record { name = "and begin with the frame that brings them W-16 apart"; given = begun (handed 0 32 (apart 17)); said = 0 ∷ 1 ∷ [] }
+    ∷ record { name = "a joined port's tag W-1 after the window's first is stored"; given = stored 15 (joined56 16); said = 0 ∷ 71 ∷ 0x07 ∷ [] }
+    ∷ record { name = "W gives 11"; given = stored 0 (joined56 17); said = 11 ∷ 56 ∷ 0x08 ∷ [] }
+    ∷ []
+
+pub examples : Equal table
+unfolding table nibblesOf sealedOf dataOf crcOf divisor byteBits nibbleBits writeAnswer writeBytes fitting assigned h4Of readAnswer readNibbles fieldsOf carriedIn highsOf boardOf rowsOf rowOf noRow highest startOf freshOf idleSlot idleNumber addOf addedTo removeOf removedFrom fallen fallenIn lapseOf reportOf waited actedOn heardIn toldIn holderOf renumbered slotAfter numberAfter comesBefore turnOf opensWait sizeOf membersOf mstFails mstFirst mstNumbers wholeOutput beginning linesOf fieldsIn lineOf wordLine numberLine reportLine reportIn decimalOf digitOf hexPair replyOf sizeReply outputOf answerText boardText slotText waitText wordText decimalText afterOn nibbleIn nibblePlace startsCount afterFirst goesSecond afterSecond counts endsEpoch epochsIn frames tagAfter tagBefore tags lead epochs epochAfter epochOf distanceOf placeOf startsEpoch firstTag settledOf clearedStep clearedPort clearedPorts stoppedOf stopBy begunOf beginBy gatherBy portsIn sizedGroup storeFor ready latest noTag further foremost within begins lets brought silent ruledBy passedStep notedBy passedPort passedPorts passedGroup passedOf frameFits rowsFit frameAnswer frameRows frameStore gatheredBy marksBy portRows storeBy settledBy takenRows takenStore refusalBy startAnswer startRows startFits sizedAnswer sizedRows freshPort freshPorts groupAt groupOf groupRow putGroup rowIn putRow marksAt packetsAt putMarks putPackets memberAt putMember memberOf memberRow putStep stepAt stepIn stepRow takenOf inStep readable distanceIn flagged countsOn aside outside keeps joining byWindow byStart arrives inStepAt begunRun secondRun oneMore furtherRun runOn placeIn storedAt ringOf byteAt h4At packetIn cutFrom markedAt firstMark markedByte cutByte passedByte passedMarks
+examples = equal-rows table refl

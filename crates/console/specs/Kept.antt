@@ -1,0 +1,22 @@
+-- The line that the input has begun and not ended.
+use mathlib.Core.Bool.{cond}
+use mathlib.Core.List.{List, [], _∷_}
+use Prim.Native.Nat.{ℕ, _+_}
+use lib.Dec.{ltb}
+use lib.ListN.{replicate, set, take}
+use Rattle.console.specs.declared.kept.Kept.{Kept}
+
+unfoldable pub nothingKept : Kept
+nothingKept = record { bytes = replicate 81 0; count = 0 }
+
+-- a byte more, as long as there is room
+unfoldable pub keepOf : Kept → ℕ → Kept
+keepOf k b = cond (ltb (k .count) 81) (record { bytes = set (k .bytes) (k .count) b; count = k .count + 1 }) k
+
+abbrev pub keepAll : Kept → List ℕ → Kept
+keepAll k [] = k
+keepAll k (b ∷ l) = keepAll (keepOf k b) l
+
+-- the bytes of the line so far, at most 81 of them
+unfoldable pub lineIn : Kept → List ℕ
+lineIn k = take (k .count) (k .bytes)

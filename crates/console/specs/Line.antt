@@ -1,0 +1,63 @@
+-- What a line means (01, 'Session').
+use mathlib.Core.Bool.{cond, _&&_}
+use mathlib.Core.List.{List, [], _∷_}
+use Prim.Native.Nat.{ℕ}
+use lib.Dec.{leb, ltb}
+use lib.ListN.{length}
+use Rattle.console.specs.declared.fields.Number.{Number}
+use Rattle.console.specs.declared.fields.Number.the-variants.{Value, Unreadable}
+use Rattle.console.specs.declared.line.Line.{Line}
+use Rattle.console.specs.declared.line.Line.the-variants.{Size, Add, Remove, Report, Lapse, Board, Malformed}
+use Rattle.console.specs.Ascii.{ascii}
+use Rattle.console.specs.Fields.{hexOf, numberOf, sameBytes}
+use Rattle.console.specs.Text.{fieldsOf}
+
+abbrev pub SIZE : List ℕ
+SIZE = ascii "size"
+
+abbrev pub ADD : List ℕ
+ADD = ascii "add"
+
+abbrev pub REMOVE : List ℕ
+REMOVE = ascii "remove"
+
+abbrev pub REPORT : List ℕ
+REPORT = ascii "report"
+
+abbrev pub LAPSE : List ℕ
+LAPSE = ascii "lapse"
+
+abbrev pub BOARD : List ℕ
+BOARD = ascii "board"
+
+-- a line of one field
+unfoldable pub wordLine : List ℕ → Line
+wordLine word = cond (sameBytes word LAPSE) Lapse (cond (sameBytes word BOARD) Board Malformed)
+
+-- a line of a word and a number
+unfoldable pub numberLine : List ℕ → Number → Line
+numberLine word (Value n) = cond (sameBytes word SIZE) (Size n) (cond (sameBytes word ADD) (Add n) (cond (sameBytes word REMOVE) (Remove n) Malformed))
+numberLine word Unreadable = Malformed
+
+-- 'an epoch above 255 or an RS-Ack other than 0 or 1 is malformed'
+unfoldable pub reportOf : Number → Number → Number → Line
+reportOf (Value epoch) (Value mst) (Value ack) = cond (ltb epoch 256 && ltb mst 256 && ltb ack 2) (Report epoch mst ack) Malformed
+reportOf (Value epoch) (Value mst) Unreadable = Malformed
+reportOf (Value epoch) Unreadable ack = Malformed
+reportOf Unreadable mst ack = Malformed
+
+unfoldable pub reportLine : List ℕ → Number → Number → Number → Line
+reportLine word epoch mst ack = cond (sameBytes word REPORT) (reportOf epoch mst ack) Malformed
+
+-- by the number of fields
+abbrev pub meaningOf : List (List ℕ) → Line
+meaningOf [] = Malformed
+meaningOf (word ∷ []) = wordLine word
+meaningOf (word ∷ n ∷ []) = numberLine word (numberOf n)
+meaningOf (word ∷ a ∷ b ∷ []) = Malformed
+meaningOf (word ∷ epoch ∷ mst ∷ ack ∷ []) = reportLine word (numberOf epoch) (hexOf mst) (numberOf ack)
+meaningOf (word ∷ a ∷ b ∷ c ∷ d ∷ rest) = Malformed
+
+-- 'Input lines are at most 80 bytes; a longer one is malformed.'
+unfoldable pub lineOf : List ℕ → Line
+lineOf line = cond (leb (length line) 80) (meaningOf (fieldsOf line)) Malformed

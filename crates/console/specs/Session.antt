@@ -1,0 +1,79 @@
+-- A session (01, 'Session'), fed in parts cut anywhere.
+use mathlib.Core.Bool.{Bool, cond}
+use mathlib.Core.List.{List, [], _++_}
+use Prim.Native.Nat.{ℕ, _+_}
+use lib.Dec.{ltb}
+use lib.ListN.{drop, length, take}
+use Rattle.bytes.specs.Bytes.{indexOf}
+use Rattle.sender.specs.declared.table.Table.{Table}
+use Rattle.sender.specs.Commands.{startOf}
+use Rattle.console.specs.declared.kept.Kept.{Kept}
+use Rattle.console.specs.declared.session.Fed.{Fed}
+use Rattle.console.specs.declared.session.Session.{Session}
+use Rattle.console.specs.Kept.{keepAll, lineIn, nothingKept}
+use Rattle.console.specs.Line.{lineOf}
+use Rattle.console.specs.Output.{ROOM}
+use Rattle.console.specs.Replies.{outputOf, replyOf}
+use Rattle.console.specs.Text.{LINE-END}
+
+-- 'Before any size, the count is 0.'
+unfoldable pub beginning : Session
+beginning = record { table = startOf 0 0 .table; kept = nothingKept }
+
+-- a text at a buffer's front; the bytes behind it stay
+abbrev pub over : List ℕ → List ℕ → List ℕ
+over text out = text ++ drop (length text) out
+
+-- a line's bytes answered: the table afterwards, and the output
+abbrev pub tableAfter : Table → List ℕ → Table
+tableAfter t line = replyOf t (lineOf line) .table
+
+abbrev pub saidTo : Table → List ℕ → List ℕ
+saidTo t line = outputOf t (lineOf line)
+
+-- a part of the input up to its first line end, kept behind what is kept already
+abbrev pub keptWith : Session → List ℕ → Kept
+keptWith s input = keepAll (s .kept) (take (indexOf LINE-END input) input)
+
+abbrev pub hasEnd : List ℕ → Bool
+hasEnd input = ltb (indexOf LINE-END input) (length input)
+
+-- used is the line and its end, or all
+unfoldable pub usedOf : List ℕ → ℕ
+usedOf input = cond (hasEnd input) (indexOf LINE-END input + 1) (indexOf LINE-END input)
+
+unfoldable pub fedSession : Session → List ℕ → Session
+fedSession s input =
+    cond (hasEnd input) (record { table = tableAfter (s .table) (lineIn (keptWith s input)); kept = nothingKept }) (record { table = s .table; kept = keptWith s input })
+
+unfoldable pub fedText : Session → List ℕ → List ℕ
+fedText s input = cond (hasEnd input) (saidTo (s .table) (lineIn (keptWith s input))) []
+
+-- '9: output length wrong: state as given'
+abbrev pub refused : Session → Fed
+refused s = record { session = s; answer = 9; used = 0; written = 0 }
+
+unfoldable pub feedOf : Session → List ℕ → List ℕ → Fed
+feedOf s input out =
+    cond (ltb (length out) ROOM) (refused s)
+    (record { session = fedSession s input; answer = 0; used = usedOf input; written = length (fedText s input) })
+
+unfoldable pub feedBytes : Session → List ℕ → List ℕ → List ℕ
+feedBytes s input out = cond (ltb (length out) ROOM) out (over (fedText s input) out)
+
+-- the end of the input: the last line may lack its end
+abbrev pub hasLine : Session → Bool
+hasLine s = ltb 0 (s .kept .count)
+
+unfoldable pub lastSession : Session → Session
+lastSession s = cond (hasLine s) (record { table = tableAfter (s .table) (lineIn (s .kept)); kept = nothingKept }) s
+
+unfoldable pub lastText : Session → List ℕ
+lastText s = cond (hasLine s) (saidTo (s .table) (lineIn (s .kept))) []
+
+unfoldable pub finishOf : Session → List ℕ → Fed
+finishOf s out =
+    cond (ltb (length out) ROOM) (refused s) (record { session = lastSession s; answer = 0; used = 0; written = length (lastText s) })
+
+unfoldable pub finishBytes : Session → List ℕ → List ℕ
+finishBytes s out = cond (ltb (length out) ROOM) out (over (lastText s) out)

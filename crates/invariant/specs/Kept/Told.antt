@@ -1,0 +1,112 @@
+-- What is kept as a report's states and RS-Ack are worked out.
+use mathlib.Core.Path.{_≡_, refl, sym, _∙_}
+use mathlib.Core.List.{List}
+use Prim.Native.Nat.{ℕ, _≤_, _<_}
+use native.Mathlib.Omega.{arith}
+use lib.ListN.{getD, length}
+use Rattle.invariant.specs.Kept.Group.{GroupKept, OkApart, PortIn, Steady}
+use Rattle.invariant.specs.Kept.Port.{PortKept}
+use Rattle.judge.specs.Seen.{sizeOf}
+use Rattle.receiver.specs.Laws.Sizes.{size-is, sizes-of}
+use Rattle.receiver.specs.Laws.Told.{ack-le, length-told, statesIn, told-group, told-number, told-of-port, toldOn, withAck}
+use Rattle.receiver.specs.Report.{replyPorts, toldBy, toldOf}
+use Rattle.reply.specs.Telling.{ackOf}
+use Rattle.reply.specs.Theorems.States.{ok-apart, ok-below, stateAt}
+use Rattle.rows.specs.declared.group.Group.{Group}
+use Rattle.rows.specs.declared.member.Member.{Member}
+use Rattle.rows.specs.declared.step.Step.{Step}
+use Rattle.rows.specs.Group.{groupAt}
+use Rattle.rows.specs.Port.{Port, portAt}
+use Rattle.rows.specs.Rows.{rowsFor}
+use Rattle.step.specs.Arrival.{distanceIn, inStep}
+
+-- no port looks at it
+ack-kept : (g : Group) (ack : ℕ) (s : Step) (marks : List ℕ) → PortKept g s marks → PortKept (withAck g ack) s marks
+unfolding distanceIn inStep
+ack-kept g ack s marks k =
+    record {
+      row = k .row;
+      run = k .run;
+      had = k .had;
+      failed = k .failed;
+      joined = k .joined;
+      since = k .since;
+      whole = k .whole;
+      joined-step = k .joined-step;
+      since-step = k .since-step;
+      failed-none = k .failed-none;
+      failed-had = k .failed-had;
+      count-had = k .count-had;
+      idle = k .idle;
+      goes = λ e. let o = k .goes e in record { reach = o .reach; within = o .within; passed = o .passed; marked = o .marked };
+      inside = k .inside;
+      at-once = k .at-once;
+      waits = λ e j. let o = k .waits e j in record { gathered = o .gathered; short = o .short; empty = o .empty };
+      early = k .early;
+    }
+
+told-in : (g : Group) (ack : ℕ) (p : Port) (state : ℕ) → PortIn g p → PortIn (withAck g ack) (toldOn p state)
+unfolding toldBy
+told-in g ack p state o = record { kept = ack-kept g ack (p .step) (p .marks) (o .kept); unruled = o .unruled; word = o .word }
+
+told-state : (m : Member) (state : ℕ) → (toldBy m state .state ≡ state) × (toldBy m state .«state_number» ≡ m .number)
+unfolding toldBy
+told-state m state = (refl, refl)
+
+module _ (s : List (List ℕ)) (k : Steady s) where
+  abbrev g : Group
+  g = groupAt s
+
+  abbrev n : ℕ
+  n = groupAt s .count
+
+  few : n ≤ 64
+  few = sizes-of (g .kind) n (g .payload) (g .window) (k .group .sizes) .few-ports
+
+  pub steady-told : Steady (toldOf g n s)
+  steady-told =
+      record {
+        rows = rw group (length-told g n s ∙ k .rows);
+        group = rw group with-ack;
+        ports = λ i c.
+            let b : i < n = rw group at c in
+            rw (group, told-of-port g n s i b enough) (told-in g ack (portAt s i) (getD (statesIn g n s) i 0) (k .ports i b));
+        members = rw group apart;
+      }
+    where
+      enough : rowsFor n ≤ length s
+      enough = let e = k .rows in omega arith
+
+      ack : ℕ
+      ack = ackOf (replyPorts g s n) (sizeOf n) (g .«rs_ack»)
+
+      group : groupAt (toldOf g n s) ≡ withAck g ack
+      group = told-group g n s (let e = k .rows in omega arith)
+
+      with-ack : GroupKept (withAck g ack)
+      with-ack =
+          record {
+            sizes = k .group .sizes;
+            origin = k .group .origin;
+            oldest = k .group .oldest;
+            begun = k .group .begun;
+            gathered = k .group .gathered;
+            ack = ack-le (replyPorts g s n) (sizeOf n) (g .«rs_ack») (k .group .ack);
+            idle-gathered = k .group .idle-gathered;
+            idle-oldest = k .group .idle-oldest;
+          }
+
+      state : (i : ℕ) → i < n → (portAt (toldOf g n s) i .member .state ≡ stateAt (replyPorts g s n) n i) × (portAt (toldOf g n s) i .member .«state_number» ≡ portAt s i .member .number)
+      state i b =
+          rw (told-of-port g n s i b enough)
+          (let t = told-state (portAt s i .member) (getD (statesIn g n s) i 0) in (t .0 ∙ rw (size-is n few) refl, t .1))
+
+      apart : OkApart n (λ i. portAt (toldOf g n s) i .member)
+      apart =
+          record {
+            below = λ i b o.
+                rw (state i b .1, ← told-number g s n i few b) (ok-below (replyPorts g s n) n i few b (sym (state i b .0) ∙ o));
+            apart = λ i j bi bj oi oj e.
+                ok-apart (replyPorts g s n) n i j few bi bj (sym (state i bi .0) ∙ oi) (sym (state j bj .0) ∙ oj)
+                (told-number g s n i few bi ∙ sym (state i bi .1) ∙ e ∙ state j bj .1 ∙ sym (told-number g s n j few bj));
+          }

@@ -1,0 +1,51 @@
+-- 'Joined at a later epoch' remembered as the tag joined at (R-15): the same tag comes round after 4,096 frames.
+use mathlib.Core.Path.{_≡_, refl}
+use mathlib.Core.Bool.{Bool, true, false, not, _&&_, _||_}
+use mathlib.Core.List.{List}
+use Prim.Native.Nat.{ℕ, zero, suc}
+use lib.Dec.{ltb}
+use lib.ListN.{replicate}
+use Rattle.invariant.specs.Wrong.Sample.{sampleGroup, sampleStep}
+use Rattle.ground.specs.Circle.{after}
+use Rattle.packet.specs.Kinds.{distanceOf, epochAfter, epochs, firstTag, frames, lead, tags}
+use Rattle.phases.specs.Due.{lets}
+use Rattle.phases.specs.Passing.{passedGroup, passedStep}
+use Rattle.rows.specs.declared.group.Group.{Group}
+use Rattle.rows.specs.declared.step.Step.{Step}
+use Rattle.step.specs.Arrival.{distanceIn, flagOf, inStep, readable}
+use Rattle.step.specs.Run.{inStepAt}
+use Rattle.store.specs.Frames.{ringOf}
+use Rattle.store.specs.Marks.{firstMark}
+
+-- the tag joined at lies in the window, after its first frame
+wrong-later : Group → ℕ → Bool
+wrong-later g tag = ltb 0 (distanceIn g tag) && ltb (distanceIn g tag) (g .window)
+
+wrong-lets : Group → Step → ℕ → List ℕ → Bool
+wrong-lets g s tag marks = not (readable g s) || firstMark marks || flagOf (s .joined) && wrong-later g tag
+
+-- The oldest epoch is 0. A port has joined at tag 8, the start of epoch 1: both rules let epoch 0 pass without it.
+start : Group
+start = sampleGroup 1 32 1 1 0
+
+joiner : ℕ → Step
+joiner next = sampleStep 32 next 1 0 1 0
+
+-- n epochs are passed
+passes : ℕ → Group
+passes zero = start
+passes (suc n) = passedGroup (passes n)
+
+steps : ℕ → ℕ → Step
+steps next zero = joiner next
+steps next (suc n) = passedStep (steps next n) true
+
+-- 256 epochs later epoch 0 is the oldest again, and the port has brought none of its frames. By the wrong rule it is reported without them.
+later-breaks :
+    (wrong-lets start (joiner 9) 8 (replicate 16 0) ≡ true)
+    × (lets start (joiner 9) (replicate 16 0) ≡ true)
+    × (passes 256 .oldest ≡ 0)
+    × (wrong-lets (passes 256) (steps 4088 256) 8 (replicate 16 0) ≡ true)
+    × (lets (passes 256) (steps 4088 256) (replicate 16 0) ≡ false)
+unfolding wrong-later wrong-lets start joiner passes steps lets readable inStep inStepAt firstMark distanceIn distanceOf after firstTag tags lead frames epochs epochAfter passedGroup passedStep ringOf
+later-breaks = (refl, refl, refl, refl, refl)
