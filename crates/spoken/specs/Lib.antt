@@ -1,0 +1,8 @@
+pub mod Applying
+pub mod Changes
+pub mod Fitting
+pub mod Laws
+pub mod Listening
+pub mod Taking
+pub mod Theorems
+mod Wrong

@@ -1,0 +1,4 @@
+pub mod Applied
+pub mod Exactly
+pub mod Listener
+pub mod Only
