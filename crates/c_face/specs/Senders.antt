@@ -5,7 +5,7 @@ use mathlib.Core.List.{List}
 use Prim.Native.Nat.{ℕ}
 use lib.Dec.{eqb, ltb}
 use lib.ListN.{length}
-use Rattle.sender.specs.declared.epochs.SenderStep.{SenderStep}
+use Rattle.sender.specs.declared.epochs.SenderOutcome.{SenderOutcome}
 use Rattle.sender.specs.Epochs.{SenderCall, beginOf, packetAnswer, packetBytes, payloadAnswer, payloadBytes, senderStepOf}
 use Rattle.sender.specs.Table.{answerNumber}
 use Rattle.c_face.specs.Keeping.{bytesOf, senderOf, stateBytes}
@@ -31,14 +31,14 @@ unfoldable pub stepAnswerC : Bool → SenderCall → List ℕ → ℕ
 stepAnswerC fits call state = cond (isState state) (cond fits (answerNumber (senderStepOf (senderOf state) call .answer)) 8) 9
 
 -- a refusal encodes nothing anew
-abbrev pub keptBytes : SenderStep → List ℕ → List ℕ
+abbrev pub keptBytes : SenderOutcome → List ℕ → List ℕ
 keptBytes step state = cond (eqb (answerNumber (step .answer)) 0) (bytesOf (step .sender)) state
 
 unfoldable pub stepStateC : Bool → SenderCall → List ℕ → List ℕ
 stepStateC fits call state = cond (isState state) (cond fits (keptBytes (senderStepOf (senderOf state) call) state) state) state
 
-abbrev pub areThree : ℕ → ℕ → ℕ → Bool
-areThree a b c = ltb a 256 && ltb b 256 && ltb c 256
+abbrev pub areBytes : ℕ → ℕ → ℕ → Bool
+areBytes a b c = ltb a 256 && ltb b 256 && ltb c 256
 
 -- What a slot sends.
 unfoldable pub packetAnswerC : List ℕ → ℕ → List ℕ → ℕ

@@ -16,16 +16,16 @@ unfoldable pub startsCount : ℕ → ℕ → Bool
 startsCount kind h = eqb (h % 16) 0
 
 -- the tag after it, as far as it tells: MFI2's high nibble
-unfoldable pub afterFirst : ℕ → ℕ → ℕ
-afterFirst kind h = h / 16 % 16 * 256 + 1
+unfoldable pub tagByHigh : ℕ → ℕ → ℕ
+tagByHigh kind h = h / 16 % 16 * 256 + 1
 
 -- the second frame of a multiframe: MFI1 is 1
-unfoldable pub goesSecond : ℕ → ℕ → Bool
-goesSecond kind h = eqb (h % 16) 1
+unfoldable pub carriesLow : ℕ → ℕ → Bool
+carriesLow kind h = eqb (h % 16) 1
 
 -- the tag after it, with MFI2's low nibble from this frame and its high one from the frame before
-unfoldable pub afterSecond : ℕ → ℕ → ℕ → ℕ
-afterSecond kind t h = t / 256 % 16 * 256 + h / 16 % 16 * 16 + 2
+unfoldable pub tagByLow : ℕ → ℕ → ℕ → ℕ
+tagByLow kind t h = t / 256 % 16 * 256 + h / 16 % 16 * 16 + 2
 
 -- a frame that counts as the tag t says: MFI1 in every frame, MFI2's high nibble at MFI1 0, its low one at MFI1 1
 unfoldable pub counts : ℕ → ℕ → ℕ → Bool

@@ -14,7 +14,7 @@ use Rattle.console.specs.Output.{ROOM}
 use Rattle.console.specs.declared.replies.Reply.{Reply}
 use Rattle.console.specs.Replies.{repliedOf, replied, replyOf, sizeReply}
 use Rattle.sender.specs.declared.table.Answer.the-variants.{Done, OutOfRange}
-use Rattle.sender.specs.declared.table.Step.{Step}
+use Rattle.sender.specs.declared.table.Outcome.{Outcome}
 use Rattle.sender.specs.declared.table.Table.{Table}
 use Rattle.sender.specs.Commands.{answered, freshOf, startOf}
 use Rattle.sender.specs.Table.{answerNumber, isMember, sizeOf, slotAt}
@@ -176,7 +176,7 @@ reply =
     }
 
 -- what a size is answered, by what starting gives
-abbrev sizedBy : Table → Step → Reply
+abbrev sizedBy : Table → Outcome → Reply
 sizedBy t r = cond (eqb (answerNumber (r .answer)) 0) (repliedOf r) (replied t (answerNumber (r .answer)))
 
 sized-in-order : (out : Bool) (t none some : Table)
