@@ -3,6 +3,7 @@ pub mod Changes
 pub mod Fitting
 pub mod Laws
 pub mod Listening
+pub mod Shown
 pub mod Taking
 pub mod Theorems
 mod Wrong

@@ -4,4 +4,4 @@ use Rattle.sender.specs.declared.epochs.Sender.{Sender}
 
 -- the board going out, which the start of the epoch fixed; not the table now
 abbrev pub takenOf : Sender → Board
-takenOf s = s .going
+takenOf s = s .outgoing

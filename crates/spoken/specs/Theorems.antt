@@ -1,4 +1,5 @@
 pub mod Applied
 pub mod Exactly
 pub mod Listener
+pub mod NoSecondAnswer
 pub mod Only

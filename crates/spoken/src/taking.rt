@@ -7,5 +7,5 @@ ghost use Rattle.spoken.specs.Taking.{takenOf};
 pub fn taken(sender: Sender) -> Board
     ensures { λ r. ⌜ r ≡ takenOf sender ⌝ }
 {
-    sender.going
+    sender.outgoing
 }

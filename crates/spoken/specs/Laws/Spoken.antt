@@ -28,6 +28,12 @@ last-before l c k h = List·getD-append l (c ∷ []) noChange k h
 last-is : (l : List Change) (c : Change) → changeIn (l ++ (c ∷ [])) (length l) ≡ c
 last-is l c = getD-append-seam l c [] noChange
 
+slot-before : (l : List Change) (c : Change) (k : ℕ) → k < length l → slotIn (l ++ (c ∷ [])) k ≡ slotIn l k
+slot-before l c k h = ap (λ (d : Change). d .slot) (last-before l c k h)
+
+slot-last : (l : List Change) (c : Change) → slotIn (l ++ (c ∷ [])) (length l) ≡ c .slot
+slot-last l c = ap (λ (d : Change). d .slot) (last-is l c)
+
 append-none : (l : List Change) → l ++ [] ≡ l
 append-none [] = refl
 append-none (c ∷ l) = ap (λ (r : List Change). c ∷ r) (append-none l)
@@ -94,9 +100,15 @@ module _ (old new : List Row) where
       (λ n l i e p k h.
       let m = last-length l (changeAt old new n) in
       let low : slotIn l k < n = rw (← i) at (spoken-told n) k (omega arith) .below in
+      let one : slotIn (l ++ (changeAt old new n ∷ [])) k ≡ slotIn l k = slot-before l (changeAt old new n) k (omega arith) in
       ⊎-elim
-      (λ (q : suc k ≡ length l). rw (q, last-is l (changeAt old new n), last-before l (changeAt old new n) k (omega arith)) low)
-      (λ (q : suc k ≢ length l). rw (last-before l (changeAt old new n) k (omega arith), last-before l (changeAt old new n) (suc k) (omega arith)) (p k (omega arith)))
+      (λ (q : suc k ≡ length l).
+      let two : slotIn (l ++ (changeAt old new n ∷ [])) (suc k) ≡ n = ap (λ (j : ℕ). slotIn (l ++ (changeAt old new n ∷ [])) j) q ∙ slot-last l (changeAt old new n) in
+      omega arith)
+      (λ (q : suc k ≢ length l).
+      let two : slotIn (l ++ (changeAt old new n ∷ [])) (suc k) ≡ slotIn l (suc k) = slot-before l (changeAt old new n) (suc k) (omega arith) in
+      let w = p k (omega arith) in
+      omega arith)
       (eq-or-ne (suc k) (length l)))
       (λ n l i e p. p)
 
@@ -106,8 +118,10 @@ module _ (old new : List Row) where
 
   times-last : (i : ℕ) (l : List Change) (c : Change) → times i (l ++ (c ∷ [])) ≡ times i l + cond (eqb (c .slot) i) 1 0
   times-last i l c =
-      ap (λ (n : ℕ). count n (λ k. eqb (slotIn (l ++ (c ∷ [])) k) i)) (last-length l c)
-      ∙ rw (count-ext (length l) (λ k. eqb (slotIn (l ++ (c ∷ [])) k) i) (λ k. eqb (slotIn l k) i) (λ k h. rw (last-before l c k h)), last-is l c)
+      let f : ℕ → Bool = λ k. eqb (slotIn (l ++ (c ∷ [])) k) i in
+      ap (λ (n : ℕ). count n f) (last-length l c)
+      ∙ ap (λ (x : ℕ). x + cond (f (length l)) 1 0) (count-ext (length l) f (λ k. eqb (slotIn l k) i) (λ k h. ap (λ (s : ℕ). eqb s i) (slot-before l c k h)))
+      ∙ ap (λ (s : ℕ). times i l + cond (eqb s i) 1 0) (slot-last l c)
 
   pub spoken-times : (i n : ℕ) → count (length (spokenTo old new n)) (λ k. eqb (slotIn (spokenTo old new n) k) i) ≡ cond (ltb i n && changed old new i) 1 0
   spoken-times i =

@@ -8,14 +8,10 @@ use Rattle.spoken.specs.declared.lists.WaitChange.{WaitChange}
 use Rattle.spoken.specs.declared.lists.WaitChange.the-variants.{Same, Opened, Closed}
 use Rattle.spoken.specs.Applying.{waitAfter, waitFits}
 use Rattle.spoken.specs.Changes.{waitChange}
+use Rattle.spoken.specs.Shown.{waitCode}
 
-abbrev code : WaitChange → ℕ
-code Same = 0
-code Opened = 1
-code Closed = 2
-
-pub apart : (v w : WaitChange) → (code v ≡ code w → ⊥) → v ≡ w → ⊥
-apart v w d e = d (ap code e)
+apart : (v w : WaitChange) → (waitCode v ≡ waitCode w → ⊥) → v ≡ w → ⊥
+apart v w d e = d (ap waitCode e)
 
 pub same-opened : Same ≡ Opened → ⊥
 same-opened e = apart Same Opened (λ d. omega arith) e

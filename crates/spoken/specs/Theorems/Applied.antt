@@ -77,8 +77,8 @@ module _ (old new : List Row) (n : ℕ) where
             still : (b : Bool) → changed old new i ≡ b → sameRow (rowAt old i) (rowAt new i) ≡ true
             still false d = not-false (sameRow (rowAt old i) (rowAt new i)) d
             still true d =
-                let none = count-none m (λ k. eqb (slotIn l k) i) (λ k b. none-at m (λ j. eqb (slotIn l j) i) e k b) in
-                let one = listed-times old new n i h ∙ rw d in
+                let none : count m (λ k. eqb (slotIn l k) i) ≡ 0 = count-none m (λ k. eqb (slotIn l k) i) (λ k b. none-at m (λ j. eqb (slotIn l j) i) e k b) in
+                let one : count m (λ k. eqb (slotIn l k) i) ≡ 1 = listed-times old new n i h ∙ rw d in
                 absurd (omega arith)
 
     pub laid-past : (i : ℕ) → n ≤ i → rowAt (laidTo old l m) i ≡ rowAt old i

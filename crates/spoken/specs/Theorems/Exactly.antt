@@ -2,7 +2,7 @@
 use mathlib.Core.Path.{_≡_, refl, sym, _∙_, ap}
 use mathlib.Core.Bool.{Bool, true, false, cond, _&&_, Bool·beq, true≢false, false≢true}
 use mathlib.Core.List.{List}
-use Prim.Native.Nat.{ℕ, suc, _≤_, _<_}
+use Prim.Native.Nat.{ℕ, zero, suc, _≤_, _<_}
 use native.Mathlib.Omega.{arith}
 use lib.Dec.{eqb, leb}
 use borrow.Author.Tests.{eqb-true, leb-true, lt-ltb}
@@ -99,12 +99,14 @@ module _ (old new : List Row) (n : ℕ) where
       go : (k : ℕ) → k < length (spokenTo old new n) → risesAt in-list k ≡ true
       go zero h = refl
       go (suc k) h =
-          lt-ltb (slotIn in-list k) (slotIn in-list (suc k))
-          (rw (list-at (spokenTo old new n) k (omega arith), list-at (spokenTo old new n) (suc k) h) (spoken-ordered old new n k h))
+          let one : slotIn in-list k ≡ slotIn (spokenTo old new n) k = ap (λ (c : Change). c .slot) (list-at (spokenTo old new n) k (omega arith)) in
+          let two : slotIn in-list (suc k) ≡ slotIn (spokenTo old new n) (suc k) = ap (λ (c : Change). c .slot) (list-at (spokenTo old new n) (suc k) h) in
+          let w = spoken-ordered old new n k h in
+          lt-ltb (slotIn in-list k) (slotIn in-list (suc k)) (omega arith)
 
   pub listed-times : (i : ℕ) → i < n → count (length (spokenTo old new n)) (λ k. eqb (slotIn in-list k) i) ≡ cond (changed old new i) 1 0
   listed-times i h =
-      count-ext (length (spokenTo old new n)) (λ k. eqb (slotIn in-list k) i) (λ k. eqb (slotIn (spokenTo old new n) k) i) (λ k b. rw (list-at (spokenTo old new n) k b))
+      count-ext (length (spokenTo old new n)) (λ k. eqb (slotIn in-list k) i) (λ k. eqb (slotIn (spokenTo old new n) k) i) (λ k b. ap (λ (c : Change). eqb (c .slot) i) (list-at (spokenTo old new n) k b))
       ∙ spoken-times old new i n
       ∙ rw (lt-ltb i n h)
 

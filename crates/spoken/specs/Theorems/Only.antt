@@ -14,10 +14,8 @@ use Rattle.counting.specs.Laws.Tests.{One, every-all, every-at, none-at, some-o
 use Rattle.counting.specs.Words.{some}
 use Rattle.sender.specs.declared.board.Board.{Board}
 use Rattle.sender.specs.declared.board.Row.{Row}
-use Rattle.sender.specs.declared.epochs.Sender.{Sender}
 use Rattle.sender.specs.Ranks.{rowAt}
 use Rattle.spoken.specs.declared.applying.Applied.{Applied}
-use Rattle.spoken.specs.declared.comparing.Compared.{Compared}
 use Rattle.spoken.specs.declared.lists.Answer.{Answer}
 use Rattle.spoken.specs.declared.lists.Answer.the-variants.{Done, Unfit}
 use Rattle.spoken.specs.declared.lists.Change.{Change}
@@ -32,7 +30,6 @@ use Rattle.spoken.specs.Laws.Rising.{Rising, rising-lt, slotIn}
 use Rattle.spoken.specs.Laws.Rows.{row-same, same-row}
 use Rattle.spoken.specs.Laws.Spoken.{Told, spoken-changed, spoken-same, take-list}
 use Rattle.spoken.specs.Laws.Waits.{wait-fits, wait-only, wait-said}
-use Rattle.spoken.specs.Taking.{takenOf}
 use Rattle.spoken.specs.Theorems.Applied.{Agrees}
 use Rattle.spoken.specs.Theorems.Exactly.{comparable-said}
 
@@ -247,13 +244,3 @@ unfolding comparedOf
 only old new cs e whole long done gives =
     let f = done-fits old cs done in
     rw e (fitting old new cs f (rw (fits-done old cs f) at gives) whole long)
-
--- No second answer, board or list meets what the calls promise.
-pub compared-only : (old new : Board) (r q : Compared) → r ≡ comparedOf old new → q ≡ comparedOf old new → r ≡ q
-compared-only old new r q a b = a ∙ sym b
-
-pub applied-only : (b : Board) (cs : Changes) (r q : Applied) → r ≡ appliedOf b cs → q ≡ appliedOf b cs → r ≡ q
-applied-only b cs r q a b′ = a ∙ sym b′
-
-pub taken-only : (s : Sender) (r q : Board) → r ≡ takenOf s → q ≡ takenOf s → r ≡ q
-taken-only s r q a b = a ∙ sym b
