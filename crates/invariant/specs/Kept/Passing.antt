@@ -42,7 +42,7 @@ module _ (g : Group) (s : Step) (marks : List ℕ) (k : PortKept g s marks) (beg
       (λ (m : (flagOf (s .joined) && flagOf (s .later)) ≡ true). far (flag-on (s .later) (and-right (flagOf (s .joined)) (flagOf (s .later)) m)))
       (or-cases (firstMark marks) (flagOf (s .joined) && flagOf (s .later)) (has-brought (rw j)))
 
-  -- and one that waits to join owesNothing no epoch pass
+  -- and one that waits to join lets no epoch pass
   has-joined : flagOf (s .since) ≡ true → flagOf (s .joined) ≡ true
   has-joined e =
       ⊎-elim (λ (j : flagOf (s .joined) ≡ true). j)

@@ -1,4 +1,4 @@
--- A frame after which nothing is settled leaves nothing to settle (R-7): it makes no port silent and owesNothing no epoch pass that was not let pass before.
+-- A frame after which nothing is settled leaves nothing to settle (R-7): it makes no port silent and lets no epoch pass that was not let pass before.
 use mathlib.Core.Path.{_≡_, refl, sym, _∙_}
 use mathlib.Core.Logic.{⊎-elim, _≢_}
 use mathlib.Core.Bool.{Bool, true, false, cond, not, _&&_, _||_, true≢false, and-false, or-false}
