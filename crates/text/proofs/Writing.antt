@@ -5,8 +5,8 @@ use mathlib.Core.List.{List, [], _∷_, _++_}
 use Prim.Native.Nat.{ℕ, zero, suc, _+_, _-_, _/_, _%_, _≤_, _<_}
 use native.Mathlib.Omega.{arith}
 use lib.Dec.{ltb}
-use lib.ListN.{length, drop, getD, set}
-use lib.Seq.{drop-cons, drop-set-lt, getD-set-same, lt-length-set}
+use lib.ListN.{length, drop, getD, set, take, length-drop}
+use lib.Seq.{drop-cons, drop-set-lt, getD-set-same, lt-length-set, take-all}
 use borrow.Author.Tests.{eq-eqb, le-ltb, lt-ltb, ltb-true, ne-eqb}
 use Rattle.ground.specs.Truth.{and-left, and-right}
 use Rattle.packet.specs.declared.words.Word.{Word}
@@ -78,3 +78,7 @@ digits-done (suc start) rest text t = go (ltb 0 rest) t
 pub number-ended : (n mark : ℕ) → digitsBefore 19 (n / 10) ((48 + n % 10) ∷ mark ∷ []) ≡ ended (numberText n) mark
 unfolding numberText
 number-ended n mark = before-append 19 (n / 10) ((48 + n % 10) ∷ []) (mark ∷ [])
+
+-- a part from a place to the end
+pub rest-all : (l : List ℕ) (n start : ℕ) → length l ≡ n → take (n - start) (drop start l) ≡ drop start l
+rest-all l n start h = let d = length-drop start l in take-all (n - start) (drop start l) (omega arith)

@@ -2,7 +2,7 @@
 // fit nothing is written and that place is its own.
 use packet::Word;
 ghost use mathlib.Core.Path.{_≡_};
-ghost use Prim.Native.Nat.{_+_, _≤_};
+ghost use Prim.Native.Nat.{_+_, _%_, _≤_};
 ghost use lib.ListN.{drop, length};
 ghost use Rattle.text.specs.Output.{Put, decimalText, ended, numberText, putBytes, putNext, wordText};
 ghost use Rattle.text.specs.Text.{TAB};

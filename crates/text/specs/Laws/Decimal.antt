@@ -23,11 +23,12 @@ same-bytes (k ∷ l) (n ∷ m) t =
 -- what stands behind the digits
 pub before-append : (most n : ℕ) (x y : List ℕ) → digitsBefore most n (x ++ y) ≡ digitsBefore most n x ++ y
 before-append zero n x y = refl
-before-append (suc most) n x y = go (ltb 0 n)
+before-append (suc most) n x y = go (ltb 0 n) (before-append most (n / 10) ((48 + n % 10) ∷ x) y)
   where
-    go : (b : Bool) → cond b (digitsBefore most (n / 10) ((48 + n % 10) ∷ (x ++ y))) (x ++ y) ≡ cond b (digitsBefore most (n / 10) ((48 + n % 10) ∷ x)) x ++ y
-    go true = before-append most (n / 10) ((48 + n % 10) ∷ x) y
-    go false = refl
+    go : (b : Bool) → digitsBefore most (n / 10) ((48 + n % 10) ∷ (x ++ y)) ≡ digitsBefore most (n / 10) ((48 + n % 10) ∷ x) ++ y
+        → cond b (digitsBefore most (n / 10) ((48 + n % 10) ∷ (x ++ y))) (x ++ y) ≡ cond b (digitsBefore most (n / 10) ((48 + n % 10) ∷ x)) x ++ y
+    go true e = e
+    go false e = refl
 
 digit-test : ℕ → Bool
 digit-test d = eqb (digitOf (48 + d)) d
@@ -43,17 +44,18 @@ digit-is d h = eqb-true (digitOf (48 + d)) d (below-at 10 digit-test digit-tests
 -- the value of the digits, and of what stands behind them
 before-value : (most n : ℕ) (text : List ℕ) → n < 10 ^ most → valueOf 10 0 (digitsBefore most n text) ≡ valueOf 10 n text
 before-value zero n text h = let z : n ≡ 0 = omega arith in rw z
-before-value (suc most) n text h = go (ltb 0 n) refl
+before-value (suc most) n text h =
+    let p = pow-suc 10 most in
+    let l : n / 10 < 10 ^ most = omega arith in
+    go (ltb 0 n) refl (before-value most (n / 10) ((48 + n % 10) ∷ text) l)
   where
-    less : n / 10 < 10 ^ most
-    less = let p = pow-suc 10 most in omega arith
-
-    go : (b : Bool) → ltb 0 n ≡ b → valueOf 10 0 (cond b (digitsBefore most (n / 10) ((48 + n % 10) ∷ text)) text) ≡ valueOf 10 n text
-    go true e =
+    go : (b : Bool) → ltb 0 n ≡ b → valueOf 10 0 (digitsBefore most (n / 10) ((48 + n % 10) ∷ text)) ≡ valueOf 10 (n / 10 * 10 + digitOf (48 + n % 10)) text
+        → valueOf 10 0 (cond b (digitsBefore most (n / 10) ((48 + n % 10) ∷ text)) text) ≡ valueOf 10 n text
+    go true e k =
         let d : n % 10 < 10 = omega arith in
         let s : n / 10 * 10 + n % 10 ≡ n = omega arith in
-        before-value most (n / 10) ((48 + n % 10) ∷ text) less ∙ rw (digit-is (n % 10) d, s)
-    go false e = let k = ltb-false 0 n e in let z : n ≡ 0 = omega arith in rw z
+        k ∙ rw (digit-is (n % 10) d, s)
+    go false e k = let l = ltb-false 0 n e in let z : n ≡ 0 = omega arith in rw z
 
 -- a number that is written reads back
 pub number-value : (n : ℕ) → n < 10 ^ 20 → valueOf 10 0 (numberText n) ≡ n
