@@ -2,4 +2,5 @@ pub mod Answers
 pub mod Pieces
 pub mod Showing
 pub mod Stepping
+pub mod Telling
 pub mod Wholes

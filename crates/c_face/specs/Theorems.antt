@@ -2,3 +2,4 @@
 pub mod CratesOwn
 pub mod Round
 pub mod Runs
+pub mod Told

@@ -4,6 +4,7 @@ pub mod Fitting
 pub mod Laws
 pub mod Listening
 pub mod Shown
+pub mod Speaking
 pub mod Taking
 pub mod Theorems
 mod Wrong

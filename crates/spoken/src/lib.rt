@@ -2,6 +2,7 @@
 mod applying;
 mod comparing;
 mod lists;
+mod speaking;
 mod taking;
 
 pub use applying::Applied;
@@ -12,4 +13,7 @@ pub use lists::Answer;
 pub use lists::Change;
 pub use lists::Changes;
 pub use lists::WaitChange;
+pub use speaking::SPEECH_ROOM;
+pub use speaking::Speech;
+pub use speaking::speak;
 pub use taking::taken;

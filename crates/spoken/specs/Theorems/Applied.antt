@@ -22,15 +22,16 @@ use Rattle.sender.specs.Laws.Sizes.{size-le}
 use Rattle.sender.specs.Ranks.{rowAt}
 use Rattle.sender.specs.Table.{sizeOf}
 use Rattle.spoken.specs.declared.applying.Applied.{Applied}
-use Rattle.spoken.specs.declared.lists.Answer.the-variants.{Done}
+use Rattle.spoken.specs.declared.comparing.Compared.{Compared}
+use Rattle.spoken.specs.declared.lists.Answer.the-variants.{Done, Counts}
 use Rattle.spoken.specs.declared.lists.Change.{Change}
 use Rattle.spoken.specs.declared.lists.Changes.{Changes}
 use Rattle.spoken.specs.Applying.{appliedOf, changeIn, changesFit, fits, fitsBy, laidTo, risesAt, waitAfter, waitFits, withChanges}
-use Rattle.spoken.specs.Changes.{changeAt, changed, changesIn, changesOf, comparable, comparedOf, listOf, sameRow, spokenTo, waitChange}
+use Rattle.spoken.specs.Changes.{changeAt, changed, changesIn, changesOf, comparable, comparedOf, listOf, noChange, noChanges, sameRow, spokenTo, waitChange}
 use Rattle.spoken.specs.Laws.Laying.{laid-at, laid-other, length-laid}
 use Rattle.spoken.specs.Laws.Rising.{slotIn}
 use Rattle.spoken.specs.Laws.Rows.{row-same, same-row}
-use Rattle.spoken.specs.Laws.Spoken.{Told, spoken-le}
+use Rattle.spoken.specs.Laws.Spoken.{Told, length-list, spoken-le}
 use Rattle.spoken.specs.Laws.Waits.{wait-right}
 use Rattle.spoken.specs.Theorems.Exactly.{comparable-said, listed-rising, listed-times, listed-told}
 
@@ -120,12 +121,25 @@ module _ (old new : Board) (e : comparable old new ≡ true) where
     unfolding withChanges changesOf changesIn
     applied-past i h = rw applied-is (laid-past (old .rows) (new .rows) (old .count) room i h)
 
+-- the list of changes always has its 64 places
+pub compared-whole : (old new : Board) → length (comparedOf old new .changes .list) ≡ 64
+unfolding comparedOf changesOf changesIn noChanges
+compared-whole old new = go (comparable old new) refl
+  where
+    go : (b : Bool) → comparable old new ≡ b
+        → length (cond {A = Compared} b (record { changes = changesOf old new; answer = Done }) (record { changes = noChanges; answer = Counts }) .changes .list) ≡ 64
+    go true e =
+        let l = spoken-le (old .rows) (new .rows) (old .count) in
+        let c = comparable-said old new e .1 in
+        length-list (spokenTo (old .rows) (new .rows) (old .count)) (omega arith)
+    go false e = length-replicate 64 noChange
+
 -- it is the new board outright where both show tables of one kind: past the count both have the idle row
 count-is : (t : Table) → boardOf t .count ≡ sizeOf (t .count)
 unfolding boardOf
 count-is t = refl
 
-board-whole : (t : Table) → length (boardOf t .rows) ≡ 64
+pub board-whole : (t : Table) → length (boardOf t .rows) ≡ 64
 unfolding boardOf rowsOf
 board-whole t =
     length-each (sizeOf (t .count)) (λ i. rowOf (t .slots) (sizeOf (t .count)) i) (replicate 64 (noRow (t .kind))) ∙ length-replicate 64 (noRow (t .kind))
@@ -136,6 +150,10 @@ module _ (t u : Table) (k : t .kind ≡ u .kind) (c : t .count ≡ u .count) whe
   one-count =
       and-true (eqb (sizeOf (t .count)) (sizeOf (u .count))) _ (eq-eqb (sizeOf (t .count)) (sizeOf (u .count)) (ap sizeOf c))
       (le-leb (sizeOf (t .count)) 64 (size-le (t .count)))
+
+  pub compared-done : comparedOf (boardOf t) (boardOf u) .answer ≡ Done
+  unfolding comparedOf
+  compared-done = rw one-count
 
   past : (i : ℕ) → sizeOf (t .count) ≤ i → rowAt (boardOf t .rows) i ≡ rowAt (boardOf u .rows) i
   unfolding boardOf rowsOf
