@@ -30,7 +30,7 @@ returns : tie.Need-returns
 unfolding slotText
 returns c =
     let first = c .before .before .before .before .before .before .before .before .before .before .before .before .before .before in
-    let s = first .before .before .before in
+    let s = first .before .before .before .before in
     let a = ended SLOT TAB in
     let b = ended (decimalText (s .args .slot)) TAB in
     let d = ended (wordText (s .args .word)) TAB in
