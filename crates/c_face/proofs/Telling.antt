@@ -127,7 +127,7 @@ module _ (changes text : List ℕ) (written : ℕ) where
     spoken-wait w = rw (eq-eqb (length changes) 322 l, le-ltb (length text) SPEECH-ROOM h, le-ltb (getD changes 1 0) 3 w) (refl, refl, refl)
 
     module _ (w : getD changes 1 0 < 3) (speech : Speech) (n : ℕ) (left : List ℕ) (s : speech ≡ speechOf (changesFrom changes) text) (e : n ≡ answerNumber (speech .answer))
-      (b : left ≡ speechBytes (changesFrom changes) text) where
+        (b : left ≡ speechBytes (changesFrom changes) text) where
       pub spoken-refusal : (n ≡ 0 → ⊥) → Speaks n left written
       unfolding spokenAnswerC spokenBytesC writtenC
       spoken-refusal d =

@@ -182,7 +182,11 @@ pub extern "C" fn levelspruce_board_apply(board: &mut [u8], changes: &[u8]) -> u
 }
 
 #[no_mangle]
-pub extern "C" fn levelspruce_board_speak(changes: &[u8], text: &mut [u8], written: &mut usize) -> u8
+pub extern "C" fn levelspruce_board_speak(
+    changes: &[u8],
+    text: &mut [u8],
+    written: &mut usize,
+) -> u8
     ensures { λ r. ⌜ (r ≡ spokenAnswerC (now (changes .entry)) (now (text .entry)))
         × (now (text .exit) ≡ spokenBytesC (now (changes .entry)) (now (text .entry)))
         × (now (written .exit) ≡ writtenC (now (changes .entry)) (now (text .entry)) (now (written .entry))) ⌝ }

@@ -93,7 +93,7 @@ within-epoch = StartEpoch 0 0xFF 0 ∷ OnTable (AddSlot 0) ∷ OnTable (RemoveSl
 
 taken-breaks :
     (told wrong-taken (beginOf 0 1 0 .sender) within-epoch
-        ≡ (0 ∷ 0 ∷ []) ∷ (0 ∷ 0 ∷ IDLE ∷ 255 ∷ ADD ∷ 0 ∷ 0 ∷ []) ∷ (0 ∷ 0 ∷ ADD ∷ 0 ∷ IDLE ∷ 255 ∷ 1 ∷ []) ∷ (0 ∷ 2 ∷ []) ∷ [])
+    ≡ (0 ∷ 0 ∷ []) ∷ (0 ∷ 0 ∷ IDLE ∷ 255 ∷ ADD ∷ 0 ∷ 0 ∷ []) ∷ (0 ∷ 0 ∷ ADD ∷ 0 ∷ IDLE ∷ 255 ∷ 1 ∷ []) ∷ (0 ∷ 2 ∷ []) ∷ [])
     × (told takenOf (beginOf 0 1 0 .sender) within-epoch ≡ (0 ∷ 0 ∷ []) ∷ (0 ∷ 0 ∷ []) ∷ (0 ∷ 0 ∷ []) ∷ (0 ∷ 0 ∷ []) ∷ [])
 unfolding wrong-taken comparedOf changesOf changesIn listOf beginOf freshSender startEpochOf startedSender startedEpoch removeOf removedFrom fallen fallenIn boardOf rowsOf rowOf noRow highest startOf freshOf idleSlot idleNumber addOf addedTo lapseOf reportOf waited actedOn mstApplied numberApplied holderOf renumbered slotAfter numberAfter comesBefore turnOf opensWait sizeOf membersOf mstFails mstFirst mstNumbers
 taken-breaks = (refl, refl)

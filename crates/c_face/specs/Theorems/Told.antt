@@ -101,9 +101,13 @@ module _ (cs : Changes) where
 
   change-back : (i : ℕ) → i < 64 → changeFrom (changesBytesOf cs) i ≡ changeIn (cs .list) i
   change-back i h =
-      rw (byte-back i 0 (2 + 5 * i) h (omega arith) (omega arith), byte-back i 1 (2 + 5 * i + 1) h (omega arith) (omega arith),
-      byte-back i 2 (2 + 5 * i + 1 + 1) h (omega arith) (omega arith), byte-back i 3 (2 + 5 * i + 3) h (omega arith) (omega arith),
-      byte-back i 4 (2 + 5 * i + 3 + 1) h (omega arith) (omega arith)) refl
+      rw (
+        byte-back i 0 (2 + 5 * i) h (omega arith) (omega arith),
+        byte-back i 1 (2 + 5 * i + 1) h (omega arith) (omega arith),
+        byte-back i 2 (2 + 5 * i + 1 + 1) h (omega arith) (omega arith),
+        byte-back i 3 (2 + 5 * i + 3) h (omega arith) (omega arith),
+        byte-back i 4 (2 + 5 * i + 3 + 1) h (omega arith) (omega arith),
+      ) refl
 
   list-back : length (cs .list) ≡ 64 → listFrom (changesBytesOf cs) ≡ cs .list
   unfolding listFrom

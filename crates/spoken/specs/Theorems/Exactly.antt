@@ -81,9 +81,10 @@ wait-told true false =
     }
 
 pub comparable-said : (old new : Board) → comparable old new ≡ true → (old .count ≡ new .count) × (old .count ≤ 64)
-comparable-said old new e =
-    (eqb-true (old .count) (new .count) (and-left (eqb (old .count) (new .count)) (leb (old .count) 64) e),
-    leb-true (old .count) 64 (and-right (eqb (old .count) (new .count)) (leb (old .count) 64) e))
+comparable-said old new e = (
+  eqb-true (old .count) (new .count) (and-left (eqb (old .count) (new .count)) (leb (old .count) 64) e),
+  leb-true (old .count) 64 (and-right (eqb (old .count) (new .count)) (leb (old .count) 64) e),
+)
 
 -- the list as it stands in the struct
 module _ (old new : List Row) (n : ℕ) where
@@ -114,13 +115,15 @@ module _ (old new : List Row) (n : ℕ) where
 pub exactly : (old new : Board) → comparable old new ≡ true → (comparedOf old new .answer ≡ Done) × Exactly old new (comparedOf old new .changes)
 unfolding comparedOf changesOf changesIn
 exactly old new e =
-    rw e (refl,
-    record {
-      once = λ i h. listed-times (old .rows) (new .rows) (old .count) i h;
-      told = λ k h. listed-told (old .rows) (new .rows) (old .count) k h;
-      rising = λ i j h b. rising-lt (listOf (spokenTo (old .rows) (new .rows) (old .count))) (length (spokenTo (old .rows) (new .rows) (old .count))) (listed-rising (old .rows) (new .rows) (old .count)) i j h b;
-      wait = wait-told (old .wait) (new .wait);
-    })
+    rw e (
+      refl,
+      record {
+        once = λ i h. listed-times (old .rows) (new .rows) (old .count) i h;
+        told = λ k h. listed-told (old .rows) (new .rows) (old .count) k h;
+        rising = λ i j h b. rising-lt (listOf (spokenTo (old .rows) (new .rows) (old .count))) (length (spokenTo (old .rows) (new .rows) (old .count))) (listed-rising (old .rows) (new .rows) (old .count)) i j h b;
+        wait = wait-told (old .wait) (new .wait);
+      },
+    )
 
 -- 'different counts is 4', with no changes
 pub refused : (old new : Board) → comparable old new ≡ false → comparedOf old new ≡ record { changes = noChanges; answer = Counts }
