@@ -114,6 +114,15 @@ fn lines(changes: &[u8]) -> Option<String> {
     Some(text)
 }
 
+/// The lines from one board to the next, if these are boards of one group.
+pub fn told(old: &[u8], new: &[u8]) -> Option<String> {
+    let mut list = [0; CHANGES_BYTES];
+    if changes(old, new, &mut list) != 0 {
+        return None;
+    }
+    lines(&list)
+}
+
 pub fn speak(changes: &[u8], text: &mut [u8], written: &mut usize) -> u8 {
     if changes.len() != CHANGES_BYTES || text.len() < TEXT_ROOM {
         return 9;

@@ -2,7 +2,7 @@
 use mathlib.Core.Path.{_≡_, refl, sym, _∙_, ap}
 use mathlib.Core.Bool.{Bool, true, false, cond, _&&_, Bool·beq, true≢false, false≢true}
 use mathlib.Core.List.{List}
-use Prim.Native.Nat.{ℕ, zero, suc, _≤_, _<_}
+use Prim.Native.Nat.{ℕ, suc, _≤_, _<_}
 use native.Mathlib.Omega.{arith}
 use lib.Dec.{eqb, leb}
 use borrow.Author.Tests.{eqb-true, leb-true, lt-ltb}
@@ -18,10 +18,10 @@ use Rattle.spoken.specs.declared.lists.Change.{Change}
 use Rattle.spoken.specs.declared.lists.Changes.{Changes}
 use Rattle.spoken.specs.declared.lists.WaitChange.{WaitChange}
 use Rattle.spoken.specs.declared.lists.WaitChange.the-variants.{Same, Opened, Closed}
-use Rattle.spoken.specs.Applying.{changeIn, risesAt}
+use Rattle.spoken.specs.Applying.{changeIn}
 use Rattle.spoken.specs.Changes.{changed, changesIn, changesOf, comparable, comparedOf, listOf, noChanges, spokenTo, waitChange}
 use Rattle.spoken.specs.Fitting.{spoken}
-use Rattle.spoken.specs.Laws.Rising.{Rising, rising-lt, slotIn}
+use Rattle.spoken.specs.Laws.Rising.{Rising, rising-lt, rising-next, slotIn}
 use Rattle.spoken.specs.Laws.Waits.{opened-closed, same-closed, same-opened}
 use Rattle.spoken.specs.Laws.Spoken.{Told, list-at, spoken-le, spoken-ordered, spoken-times, spoken-told}
 
@@ -95,15 +95,14 @@ module _ (old new : List Row) (n : ℕ) where
   listed-told k h = rw (list-at (spokenTo old new n) k h) (spoken-told old new n k h)
 
   pub listed-rising : Rising in-list (length (spokenTo old new n))
-  listed-rising k h = go k h
+  listed-rising = rising-next in-list (length (spokenTo old new n)) next
     where
-      go : (k : ℕ) → k < length (spokenTo old new n) → risesAt in-list k ≡ true
-      go zero h = refl
-      go (suc k) h =
+      next : (k : ℕ) → suc k < length (spokenTo old new n) → slotIn in-list k < slotIn in-list (suc k)
+      next k h =
           let one : slotIn in-list k ≡ slotIn (spokenTo old new n) k = ap (λ (c : Change). c .slot) (list-at (spokenTo old new n) k (omega arith)) in
           let two : slotIn in-list (suc k) ≡ slotIn (spokenTo old new n) (suc k) = ap (λ (c : Change). c .slot) (list-at (spokenTo old new n) (suc k) h) in
           let w = spoken-ordered old new n k h in
-          lt-ltb (slotIn in-list k) (slotIn in-list (suc k)) (omega arith)
+          omega arith
 
   pub listed-times : (i : ℕ) → i < n → count (length (spokenTo old new n)) (λ k. eqb (slotIn in-list k) i) ≡ cond (changed old new i) 1 0
   listed-times i h =

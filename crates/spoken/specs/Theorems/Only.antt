@@ -26,7 +26,7 @@ use Rattle.spoken.specs.Applying.{appliedOf, changeIn, changesFit, fits,
 use Rattle.spoken.specs.Changes.{answerNumber, changeAt, changed, changesIn, changesOf, comparable, comparedOf, noChange, sameRow, spokenTo, waitChange}
 use Rattle.spoken.specs.Fitting.{Fits, spoken}
 use Rattle.spoken.specs.Laws.Laying.{laid-at, laid-other}
-use Rattle.spoken.specs.Laws.Rising.{Rising, rising-lt, slotIn}
+use Rattle.spoken.specs.Laws.Rising.{Rising, rising-by, rising-lt, slotIn}
 use Rattle.spoken.specs.Laws.Rows.{row-same, same-row}
 use Rattle.spoken.specs.Laws.Spoken.{Told, spoken-changed, spoken-same, take-list}
 use Rattle.spoken.specs.Laws.Waits.{wait-fits, wait-only, wait-said}
@@ -94,9 +94,8 @@ module _ (b : Board) (cs : Changes) where
         closed = w .1;
       }
 
-  rises-by : Fits b cs → (k : ℕ) → k < cs .count → risesAt (cs .list) k ≡ true
-  rises-by f zero h = refl
-  rises-by f (suc k) h = lt-ltb (slotIn (cs .list) k) (slotIn (cs .list) (suc k)) (f .rising k (suc k) (omega arith) h)
+  rises-by : Fits b cs → Rising (cs .list) (cs .count)
+  rises-by f = rising-by (cs .list) (cs .count) (f .rising)
 
   pub fits-true : Fits b cs → fits b cs ≡ true
   unfolding fits changesFit
