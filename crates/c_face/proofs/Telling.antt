@@ -8,8 +8,11 @@ use lib.Dec.{eqb, ltb}
 use lib.ListN.{length, getD}
 use borrow.Author.Tests.{eq-eqb, ne-eqb, le-ltb, lt-ltb}
 use Rattle.ground.specs.Drawn.{Filling, fillAt, fillAt-ext, filling, filling-all, filling-piece}
+use Rattle.sender.specs.declared.board.Board.{Board}
 use Rattle.spoken.specs.Applying.{appliedOf, changeIn}
 use Rattle.spoken.specs.Changes.{answerNumber, comparedOf}
+use Rattle.spoken.specs.declared.applying.Applied.{Applied}
+use Rattle.spoken.specs.declared.comparing.Compared.{Compared}
 use Rattle.spoken.specs.declared.lists.Change.{Change}
 use Rattle.spoken.specs.declared.lists.Changes.{Changes}
 use Rattle.spoken.specs.declared.speaking.Speech.{Speech}
@@ -49,6 +52,20 @@ module _ (cs : Changes) where
       let A : Filling 0 2 (changesByte cs) d a = filling 0 2 (changesByte cs) d a (e ∙ fillAt-ext 0 2 (λ k. getD (cs .count ∷ waitCode (cs .wait) ∷ []) k 0) (changesByte cs) d head-bytes) in
       let B : Filling 0 322 (changesByte cs) d out = filling-piece 320 (listByte (cs .list)) out A eo list-bytes in
       filling-all B l
+
+-- what the crate's own calls say, on the boards and changes that the bytes are
+pub compared-both : (old new : List ℕ) (a b : Board) (r : Compared) → a ≡ boardFrom old → b ≡ boardFrom new → r ≡ comparedOf a b → r ≡ comparedOf (boardFrom old) (boardFrom new)
+compared-both old new a b r ea eb e = e ∙ rw (ea, eb)
+
+pub applied-both : (board changes : List ℕ) (b : Board) (cs : Changes) (r : Applied) → b ≡ boardFrom board → cs ≡ changesFrom changes → r ≡ appliedOf b cs
+    → r ≡ appliedOf (boardFrom board) (changesFrom changes)
+applied-both board changes b cs r eb ec e = e ∙ rw (eb, ec)
+
+pub speech-is : (changes text : List ℕ) (cs : Changes) (r : Speech) → cs ≡ changesFrom changes → r ≡ speechOf cs text → r ≡ speechOf (changesFrom changes) text
+speech-is changes text cs r ec e = e ∙ rw ec
+
+pub speech-bytes : (changes text : List ℕ) (cs : Changes) (left : List ℕ) → cs ≡ changesFrom changes → left ≡ speechBytes cs text → left ≡ speechBytes (changesFrom changes) text
+speech-bytes changes text cs left ec e = e ∙ rw ec
 
 module _ (old new out : List ℕ) where
   compared-kept : (n : ℕ) → comparedAnswerC old new out ≡ n → (n ≡ 0 → ⊥) → (n ≡ comparedAnswerC old new out) × (out ≡ comparedBytesC old new out)
