@@ -19,7 +19,7 @@ pub fn compare(count: &mut Count) {
         if told.len() != CHANGES_BYTES {
             continue;
         }
-        let held = if random.below(4) == 0 { another(&mut random, &old) } else { old };
+        let held = if random.below(4) == 0 { another(&mut random, &old) } else { old.clone() };
         let list = bent(&mut random, &told);
         applied(&mut random, &mut applies, &held, &list);
         said(&mut random, &mut speaks, &list);
