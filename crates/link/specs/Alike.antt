@@ -9,10 +9,9 @@ use Rattle.ground.specs.Table.{tabulate}
 use Rattle.packet.specs.Kinds.{firstTag, frames}
 use Rattle.step.specs.Laws.Run.{startFrom}
 use Rattle.link.specs.Demand3.{FullyArrived, Reported, Time, standing}
-use Rattle.link.specs.History.{firstTagOf}
 use Rattle.link.specs.Judged.Apart.{EitherSure, never-alike}
 use Rattle.link.specs.Laws.Lists.{append-apart, not-apart}
-use Rattle.link.specs.Link.{Alike, Assumed, Link, SameIn, epochFrames, expected, roadOf}
+use Rattle.link.specs.Link.{Alike, AssumedOver, Link, SameIn, epochFrames, expected, kindOf, roadOf}
 use Rattle.link.specs.Moments.{Beginning, NotAfter, Ready, Run, coming, nextAt}
 use Rattle.link.specs.Transport.Times.{coming-is}
 
@@ -26,30 +25,30 @@ near-too kind kind′ W W′ x x′ y y′ hk hw hx hy w = rw (← hk, ← hw, �
 come-too : (kind kind′ i x x′ : ℕ) → kind ≡ kind′ → x ≡ x′ → suc i * frames kind ≤ x → suc i * frames kind′ ≤ x′
 come-too kind kind′ i x x′ hk hx w = rw (← hk, ← hx) w
 
-module _ (k j : Link) (l : Alike k j) (n : k .history .slots ≡ j .history .slots) where
-  position : (t : ℕ) (rest : List ℕ) (p : ℕ) → p < k .history .slots → coming (roadOf k) t rest p ≡ coming (roadOf j) t rest p
+module _ (k j : Link) (l : Alike k j) (n : k .ports ≡ j .ports) where
+  position : (t : ℕ) (rest : List ℕ) (p : ℕ) → p < k .ports → coming (roadOf k) t rest p ≡ coming (roadOf j) t rest p
   unfolding roadOf nextAt
   position t rest p b =
-      let c : p < j .history .slots = rw n at b in
+      let c : p < j .ports = rw n at b in
       coming-is (roadOf k) t rest p b ∙ rw (l .delay p b, l .first p b) (sym (coming-is (roadOf j) t rest p c))
 
   -- what is ready on one link is on the other
   ready-too : (t : ℕ) (rest : List ℕ) → Ready (roadOf k) (coming (roadOf k) t rest) → Ready (roadOf j) (coming (roadOf j) t rest)
-  unfolding roadOf firstTagOf
+  unfolding roadOf
   ready-too t rest y =
       record {
         stepped = λ q b.
-            (let c : q < k .history .slots = rw (sym n) at b in
-            stepped-too (k .history .kind) (j .history .kind) (k .history .first) (j .history .first) (k .first q) (j .first q) (coming (roadOf k) t rest q) (coming (roadOf j) t rest q)
+            (let c : q < k .ports = rw (sym n) at b in
+            stepped-too (kindOf k) (kindOf j) (k .sending .first) (j .sending .first) (k .first q) (j .first q) (coming (roadOf k) t rest q) (coming (roadOf j) t rest q)
             (l .kind) (l .epoch) (l .first q c) (position t rest q c) (y .stepped q c));
         near = λ p q hp hq.
-            (let cp : p < k .history .slots = rw (sym n) at hp in
-            let cq : q < k .history .slots = rw (sym n) at hq in
-            near-too (k .history .kind) (j .history .kind) (k .window) (j .window) (coming (roadOf k) t rest p) (coming (roadOf j) t rest p) (coming (roadOf k) t rest q) (coming (roadOf j) t rest q)
+            (let cp : p < k .ports = rw (sym n) at hp in
+            let cq : q < k .ports = rw (sym n) at hq in
+            near-too (kindOf k) (kindOf j) (k .window) (j .window) (coming (roadOf k) t rest p) (coming (roadOf j) t rest p) (coming (roadOf k) t rest q) (coming (roadOf j) t rest q)
             (l .kind) (l .window) (position t rest p cp) (position t rest q cq) (y .near p q cp cq));
       }
 
-back : (k j : Link) → Alike k j → k .history .slots ≡ j .history .slots → Alike j k
+back : (k j : Link) → Alike k j → k .ports ≡ j .ports → Alike j k
 back k j l n =
     record {
       kind = sym (l .kind);
@@ -66,7 +65,7 @@ abbrev NotSooner : ℕ → List ℕ → ℕ → List ℕ → Type 0
 NotSooner t done u other = (t < u → ⊥) × (t ≡ u → length done < length other → ⊥)
 
 -- A link's beginning is not before the other's.
-module _ (k j : Link) (l : Alike k j) (n : k .history .slots ≡ j .history .slots) (rk rj : Run) (F G : ℕ) (bk : Beginning (roadOf k) rk F) (bj : Beginning (roadOf j) rj G) where
+module _ (k j : Link) (l : Alike k j) (n : k .ports ≡ j .ports) (rk rj : Run) (F G : ℕ) (bk : Beginning (roadOf k) rk F) (bj : Beginning (roadOf j) rj G) where
   not-earlier : NotAfter (roadOf j) (bk .time) (bk .done ++ (bk .port ∷ [])) (bj .time) (bj .done) → ⊥
   unfolding roadOf
   not-earlier na =
@@ -81,7 +80,7 @@ module _ (k j : Link) (l : Alike k j) (n : k .history .slots ≡ j .history .slo
   )
 
 -- The two began at the same moment, with the same foremost position.
-module _ (k j : Link) (l : Alike k j) (n : k .history .slots ≡ j .history .slots) (rk rj : Run) (F G : ℕ) (bk : Beginning (roadOf k) rk F) (bj : Beginning (roadOf j) rj G) where
+module _ (k j : Link) (l : Alike k j) (n : k .ports ≡ j .ports) (rk rj : Run) (F G : ℕ) (bk : Beginning (roadOf k) rk F) (bj : Beginning (roadOf j) rj G) where
   one-way : NotSooner (bk .time) (bk .done) (bj .time) (bj .done)
   one-way = no-sooner k j l n rk rj F G bk bj
 
@@ -104,7 +103,7 @@ module _ (k j : Link) (l : Alike k j) (n : k .history .slots ≡ j .history .slo
       (append-assoc (bk .done) (bk .port ∷ []) (bk .rest) ∙ sym (bk .is-order) ∙ l .order (bk .time) ∙ ap (j .order) same-time ∙ bj .is-order ∙ sym (append-assoc (bj .done) (bj .port ∷ []) (bj .rest)))
       .1
 
-  there : (p : ℕ) → p < k .history .slots → coming (roadOf k) (bk .time) (bk .rest) p ≡ coming (roadOf j) (bj .time) (bj .rest) p
+  there : (p : ℕ) → p < k .ports → coming (roadOf k) (bk .time) (bk .rest) p ≡ coming (roadOf j) (bj .time) (bj .rest) p
   there p b = position k j l n (bk .time) (bk .rest) p b ∙ ap (λ (t : ℕ). coming (roadOf j) t (bk .rest) p) same-time ∙ ap (λ (q : List ℕ). coming (roadOf j) (bj .time) q p) same-rest
 
   same-foremost : F ≡ G
@@ -112,8 +111,8 @@ module _ (k j : Link) (l : Alike k j) (n : k .history .slots ≡ j .history .slo
   same-foremost =
       let fk = bk .foremost in
       let fj = bj .foremost in
-      let bp : fj .port < k .history .slots = rw (sym n) at (fj .below) in
-      let cp : fk .port < j .history .slots = rw n at (fk .below) in
+      let bp : fj .port < k .ports = rw (sym n) at (fj .below) in
+      let cp : fk .port < j .ports = rw n at (fk .below) in
       let a : coming (roadOf k) (bk .time) (bk .rest) (fk .port) ≡ F + 1 = fk .is in
       let b : coming (roadOf j) (bj .time) (bj .rest) (fj .port) ≡ G + 1 = fj .is in
       let c : coming (roadOf k) (bk .time) (bk .rest) (fj .port) ≤ F + 1 = fk .most (fj .port) bp in
@@ -123,17 +122,17 @@ module _ (k j : Link) (l : Alike k j) (n : k .history .slots ≡ j .history .slo
       omega arith
 
 -- At the same moment as many frames have come.
-module _ (k j : Link) (l : Alike k j) (n : k .history .slots ≡ j .history .slots) (at : Time k) (bt : Time j) (same-t : at .t ≡ bt .t) (same-rest : at .rest ≡ bt .rest) where
-  place : (p : ℕ) → p < k .history .slots → coming (roadOf k) (at .t) (at .rest) p ≡ coming (roadOf j) (bt .t) (bt .rest) p
+module _ (k j : Link) (l : Alike k j) (n : k .ports ≡ j .ports) (at : Time k) (bt : Time j) (same-t : at .t ≡ bt .t) (same-rest : at .rest ≡ bt .rest) where
+  place : (p : ℕ) → p < k .ports → coming (roadOf k) (at .t) (at .rest) p ≡ coming (roadOf j) (bt .t) (bt .rest) p
   place p b = position k j l n (at .t) (at .rest) p b ∙ ap (λ (t : ℕ). coming (roadOf j) t (at .rest) p) same-t ∙ ap (λ (q : List ℕ). coming (roadOf j) (bt .t) q p) same-rest
 
   arrived-too : (i : ℕ) → FullyArrived k at i → FullyArrived j bt i
   arrived-too i all p b =
-      let c : p < k .history .slots = rw (sym n) at b in
-      come-too (k .history .kind) (j .history .kind) i (coming (roadOf k) (at .t) (at .rest) p) (coming (roadOf j) (bt .t) (bt .rest) p) (l .kind) (place p c) (all p c)
+      let c : p < k .ports = rw (sym n) at b in
+      come-too (kindOf k) (kindOf j) i (coming (roadOf k) (at .t) (at .rest) p) (coming (roadOf j) (bt .t) (bt .rest) p) (l .kind) (place p c) (all p c)
 
 -- So as many reports have been made on both.
-module _ (k j : Link) (l : Alike k j) (n : k .history .slots ≡ j .history .slots) (rk rj : Run) (at : Time k) (bt : Time j) (same-t : at .t ≡ bt .t) (same-rest : at .rest ≡ bt .rest) (ok : Reported k rk at) (oj : Reported j rj bt) where
+module _ (k j : Link) (l : Alike k j) (n : k .ports ≡ j .ports) (rk rj : Run) (at : Time k) (bt : Time j) (same-t : at .t ≡ bt .t) (same-rest : at .rest ≡ bt .rest) (ok : Reported k rk at) (oj : Reported j rj bt) where
   F-same : ok .F ≡ oj .F
   F-same = same-foremost k j l n rk rj (ok .F) (oj .F) (ok .beginning) (oj .beginning)
 
@@ -156,7 +155,7 @@ module _ (k j : Link) (l : Alike k j) (n : k .history .slots ≡ j .history .slo
   many-same = not-apart (ok .many) (oj .many) not-fewer not-more
 
   -- client streams that differ in an epoch that either run reports sure: the lists of reports differ
-  pub never : (ak : Assumed k) (aj : Assumed j) (m : ℕ) → m < ok .many → EitherSure k j ak aj l (suc (ok .F / epochFrames k) + m)
+  pub never : (ak : AssumedOver k) (aj : AssumedOver j) (m : ℕ) → m < ok .many → EitherSure k j ak aj l (suc (ok .F / epochFrames k) + m)
       → (SameIn (suc (suc (ok .F / epochFrames k) + m)) k j → ⊥) → standing k rk at .told ≢ standing j rj bt .told
   never ak aj m b sure differ e =
       never-alike k j ak aj l (suc (ok .F / epochFrames k)) (ok .many) m b sure differ

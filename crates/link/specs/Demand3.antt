@@ -1,5 +1,5 @@
--- Demand 3 (the minutes, item 3), as one statement. A link (Link) with what the minutes let be so (Assumed) and a receiver started over any rows and any store; its run (Running) calls the receiver's own
--- definitions frame by frame and fetches reports after each frame.
+-- Demand 3 (the minutes, item 3), as one statement. A link (Link) with what the minutes let be so (Assumed; over any sending side, AssumedOver) and a receiver started over any rows and any store; its run (Running)
+-- calls the receiver's own definitions frame by frame and fetches reports after each frame.
 use mathlib.Core.Path.{_≡_}
 use mathlib.Core.Logic.{_⊎_, _≢_}
 use mathlib.Core.List.{List, [], _++_}
@@ -9,7 +9,7 @@ use Rattle.ground.specs.Table.{tabulate}
 use Rattle.judge.specs.Verdict.{SURE}
 use Rattle.receiver.specs.Fetch.{fetchAnswer}
 use Rattle.rows.specs.Rows.{rowsFor}
-use Rattle.link.specs.Link.{Alike, Assumed, Link, SameIn, epochFrames, expected, roadOf}
+use Rattle.link.specs.Link.{Alike, AssumedOver, Link, SameIn, epochFrames, expected, roadOf}
 use Rattle.link.specs.Moments.{Beginning, Run, Unready, coming, reached, says, saysThrough}
 use Rattle.link.specs.Running.{Moment, fresh, hasBegun, recordAt}
 
@@ -22,7 +22,7 @@ pub record Time (k : Link) : Type 0 where
 
 -- all frames of the i-th epoch have come to every port
 abbrev pub FullyArrived : (k : Link) → Time k → ℕ → Type 0
-FullyArrived k at i = (p : ℕ) → p < k .history .slots → suc i * epochFrames k ≤ coming (roadOf k) (at .t) (at .rest) p
+FullyArrived k at i = (p : ℕ) → p < k .ports → suc i * epochFrames k ≤ coming (roadOf k) (at .t) (at .rest) p
 
 -- Of any run, so that other receivers can be held to it.
 module _ (k : Link) (run : Run) where
@@ -46,7 +46,7 @@ module _ (k : Link) (run : Run) where
 
   pub record Promised : Type 0 where
     -- 'A fresh receiver begins within 48 frames of the last port's first': T is the frame time of the last port's first frame, and before frame time T + 47 it has had 47 frames
-    pub begins-within : (T : ℕ) → ((p : ℕ) → p < k .history .slots → k .delay p + k .first p ≤ T) → hasBegun (run (T + (epochFrames k * 3 - 1)) []) ≡ 1
+    pub begins-within : (T : ℕ) → ((p : ℕ) → p < k .ports → k .delay p + k .first p ≤ T) → hasBegun (run (T + (epochFrames k * 3 - 1)) []) ≡ 1
     -- at every moment of the run, for ever: nothing is reported before the beginning, and then each epoch as it has fully arrived
     pub always : (at : Time k) → Stands at
     -- every frame is answered 0 or 12, 12 only before its port is in step
@@ -60,8 +60,8 @@ ownRun k m₀ = reached (roadOf k) m₀
 pub record Started (k : Link) (m : Moment) : Type 0 where
   pub rows : List (List ℕ)
   pub store : List ℕ
-  pub rows-long : length rows ≡ rowsFor (k .history .slots)
-  pub store-long : length store ≡ k .history .slots * k .window * (k .payload + 1)
+  pub rows-long : length rows ≡ rowsFor (k .ports)
+  pub store-long : length store ≡ k .ports * k .window * (k .payload + 1)
   pub is : m ≡ fresh (roadOf k) rows store
 
 -- a fetch is answered 0 and says that none is due
@@ -81,4 +81,4 @@ pub record Demand3 (k : Link) : Type 0 where
   pub promised : (m₀ : Moment) → Started k m₀ → Promised k (ownRun k m₀)
   -- the fetches of every turn have ended by themselves
   pub fetched-out : (m₀ : Moment) → Started k m₀ → (at : Time k) → NoneDue k (standing k (ownRun k m₀) at)
-  pub never-alike : (j : Link) → Assumed j → Alike k j → NeverAlike k j
+  pub never-alike : (j : Link) → AssumedOver j → Alike k j → NeverAlike k j

@@ -7,8 +7,9 @@ use lib.ListN.{getD, replicate}
 use Rattle.ground.specs.Table.{tabulate}
 use Rattle.sender.specs.Steps.{Call}
 use Rattle.sender.specs.Steps.Call.{AddSlot, Lapse, RemoveSlot, Report}
-use Rattle.link.specs.History.{Client, History, epochAt, packetSent, xAt}
+use Rattle.link.specs.History.{History, packetSent, sendingOf, xAt}
 use Rattle.link.specs.Link.{Link}
+use Rattle.link.specs.Sending.{Client, epochAt}
 
 -- the commands and reports before each epoch's start
 abbrev pub calls : List (List Call)
@@ -38,7 +39,11 @@ history = record { kind = 0; slots = 2; first = 249; before = λ i. getD calls i
 
 -- P is 1: X bytes to a group frame
 abbrev pub client : Client
-client x = tabulate (xAt history (epochAt history x) * 1) (λ j. (x * 2 + j) % 256)
+client x = tabulate (xAt history (epochAt (history .kind) x) * 1) (λ j. (x * 2 + j) % 256)
+
+-- what a slot carries that has no rank
+abbrev pub unranked : ℕ → ℕ → List ℕ
+unranked x slot = 0xDD ∷ []
 
 -- slot 1 reaches port 0, and slot 0 port 1
 abbrev pub pairing : ℕ → ℕ
@@ -58,7 +63,8 @@ came i p = cond (eqb i 8 && eqb p 0) damaged (sent i p)
 abbrev pub linkWith : ℕ → (ℕ → Bool) → Link
 linkWith late lateFirst =
     record {
-      history = history;
+      sending = sendingOf history 1 client unranked;
+      ports = 2;
       payload = 1;
       window = 20;
       client = client;

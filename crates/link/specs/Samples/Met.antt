@@ -16,11 +16,13 @@ use Rattle.packet.specs.Kinds.{epochs, frames, lead, tags}
 use Rattle.packet.specs.Layout.{highsOf}
 use Rattle.packet.specs.Theorems.Damage.{changed}
 use Rattle.phases.specs.Sizes.{sized}
-use Rattle.link.specs.History.{Allowed, epochAt, xAt}
-use Rattle.link.specs.Link.{Arrived, Assumed, Damaged}
+use Rattle.link.specs.Assumed.{Assumed}
+use Rattle.link.specs.History.{Allowed, xAt}
+use Rattle.link.specs.Link.{Arrived, Damaged}
 use Rattle.link.specs.Road.{Below, times}
 use Rattle.link.specs.Samples.Computing.{outcome}
-use Rattle.link.specs.Samples.Members.{came, damaged, history, link, linkWith, sent}
+use Rattle.link.specs.Samples.Members.{came, damaged, history, link, linkWith, sent, unranked}
+use Rattle.link.specs.Sending.{epochAt}
 
 allowed : Allowed history
 unfolding epochs
@@ -38,7 +40,7 @@ three : changed whole damaged ≡ 3
 unfolding outcome highsOf
 three = refl
 
-damage : Damaged 0 whole damaged
+damage : Damaged 0 3 whole damaged
 unfolding frames lead nibbleIn nibblePlace
 damage =
     record {
@@ -49,10 +51,10 @@ damage =
       counted = record { first = λ k b. eqb-true (nibblePlace 0 (getD damaged k 0)) (nibblePlace 0 (getD whole k 0)) (below-at 16 (λ i. eqb (nibblePlace 0 (getD damaged i 0)) (nibblePlace 0 (getD whole i 0))) refl k b); high = refl; low = refl };
     }
 
-arrived : (i p : ℕ) → Arrived 0 (sent i p) (came i p)
+arrived : (i p : ℕ) → Arrived 0 3 (sent i p) (came i p)
 arrived i p = go (eqb i 8 && eqb p 0) refl
   where
-    go : (b : Bool) → (eqb i 8 && eqb p 0) ≡ b → Arrived 0 (sent i p) (cond b damaged (sent i p))
+    go : (b : Bool) → (eqb i 8 && eqb p 0) ≡ b → Arrived 0 3 (sent i p) (cond b damaged (sent i p))
     go true e = let hi = eqb-true i 8 (and-left (eqb i 8) (eqb p 0) e) in let hp = eqb-true p 0 (and-right (eqb i 8) (eqb p 0) e) in inr (rw (hi, hp, was-sent) damage)
     go false e = inl refl
 
@@ -74,15 +76,22 @@ pub met-but : (late : ℕ) (lateFirst : ℕ → Bool) → ((p q : ℕ) → p < 2
 unfolding sized frames tags
 met-but late lateFirst spread =
     record {
+      history = history;
       allowed = allowed;
-      sizes = refl;
-      client = λ x. length-tabulate (xAt history (epochAt history x) * 1) (λ j. (x * 2 + j) % 256);
+      unranked = unranked;
+      unranked-long = λ x slot b. refl;
+      sends = refl;
+      all = refl;
       paired = record { below = λ p h. omega arith; once = λ p q hp hq e. omega arith };
-      spread = spread;
-      once = λ t p h. once (lateFirst t) p h;
-      only = λ t. only (lateFirst t);
-      arrived = λ i p h. arrived i p;
-      room = λ j. omega (arith, length-replicate {A = ℕ} 32 0xEE);
+      lines = record {
+        sizes = refl;
+        client = λ x. length-tabulate (xAt history (epochAt 0 x) * 1) (λ j. (x * 2 + j) % 256);
+        spread = spread;
+        once = λ t p h. once (lateFirst t) p h;
+        only = λ t. only (lateFirst t);
+        arrived = λ i p h. arrived i p;
+        room = λ j. omega (arith, length-replicate {A = ℕ} 32 0xEE);
+      };
     }
 
 late : (b : Bool) → cond b 4 0 ≤ 4

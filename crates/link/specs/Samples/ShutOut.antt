@@ -11,10 +11,9 @@ use Rattle.packet.specs.Kinds.{firstTag, frames, lead, tags}
 use Rattle.step.specs.Laws.Run.{startFrom}
 use Rattle.link.specs.Demand3.{FullyArrived, Promised, Reported, Stands, Time}
 use Rattle.link.specs.Demand3.Stands.{none-yet, reporting}
-use Rattle.link.specs.History.{firstTagOf}
 use Rattle.link.specs.Moments.{Beginning, NotAfter, Ready, Run, nextAt, coming, reached}
 use Rattle.link.specs.Link.{roadOf}
-use Rattle.link.specs.Proved.{demand3}
+use Rattle.link.specs.Theorems.{demand3}
 use Rattle.link.specs.Running.{hasBegun}
 use Rattle.link.specs.Told.{Told}
 use Rattle.link.specs.Road.{times}
@@ -36,12 +35,12 @@ next-1 t rest = coming-is (roadOf link) t rest 1 (omega arith)
 
 -- the positions from which the ports count: the first ones with MFI1 0
 
-counts-0 : startFrom 0 (firstTagOf (link .history)) 3 ≡ 8
-unfolding startFrom firstTagOf firstTag frames lead tags
+counts-0 : startFrom 0 (firstTag 0 249) 3 ≡ 8
+unfolding startFrom firstTag frames lead tags
 counts-0 = refl
 
-counts-1 : startFrom 0 (firstTagOf (link .history)) 21 ≡ 24
-unfolding startFrom firstTagOf firstTag frames lead tags
+counts-1 : startFrom 0 (firstTag 0 249) 21 ≡ 24
+unfolding startFrom firstTag frames lead tags
 counts-1 = refl
 
 -- after frame time 55 all are in step and near enough
@@ -55,7 +54,7 @@ ready-then = record { stepped = stepped; near = near }
     at-1 : coming (roadOf link) 56 (link .order 56) 1 ≡ 56
     at-1 = next-1 56 (link .order 56)
 
-    stepped : (q : ℕ) → q < 2 → startFrom 0 (firstTagOf (link .history)) (link .first q) + 16 * 2 ≤ coming (roadOf link) 56 (link .order 56) q
+    stepped : (q : ℕ) → q < 2 → startFrom 0 (firstTag 0 249) (link .first q) + 16 * 2 ≤ coming (roadOf link) 56 (link .order 56) q
     stepped zero h = rw (counts-0, at-0) (omega arith)
     stepped (suc zero) h = rw (counts-1, at-1) (omega arith)
     stepped (suc (suc q)) h = absurd (omega arith)

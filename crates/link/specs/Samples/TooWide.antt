@@ -7,7 +7,8 @@ use native.Mathlib.Omega.{arith}
 use lib.Dec.{eqb}
 use Rattle.judge.specs.Verdict.{DOUBTFUL}
 use Rattle.packet.specs.Kinds.{frames}
-use Rattle.link.specs.Link.{Assumed, Link}
+use Rattle.link.specs.Assumed.{Assumed}
+use Rattle.link.specs.Link.{Link}
 use Rattle.link.specs.Told.{Told}
 use Rattle.link.specs.Samples.Computing.{outcome}
 use Rattle.link.specs.Samples.Members.{linkWith}
@@ -16,7 +17,7 @@ use Rattle.link.specs.Samples.Reports.{held}
 -- Of what demand 3 lets be so the spread alone lacks: Met's `met-but` has all else.
 too-wide : (lateFirst : ℕ → Bool) → Assumed (linkWith 5 lateFirst) → ⊥
 unfolding frames
-too-wide lateFirst a = let h = a .spread 0 1 (omega arith) (omega arith) in absurd (omega arith)
+too-wide lateFirst a = let h = a .lines .spread 0 1 (omega arith) (omega arith) in absurd (omega arith)
 
 -- Where the late port always comes last, the latest tags are W - 15 or W - 14 apart after every frame. Receiving does not begin, though 69 frames have come since the last port's first.
 abbrev late-last : Link
