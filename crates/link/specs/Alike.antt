@@ -1,18 +1,25 @@
 -- The last sentence of demand 3: 'over the same tags, delays, first frames and port orders, client streams that differ in an epoch reported sure never come out alike'.
 use mathlib.Core.Path.{_≡_, sym, ap, _∙_, subst}
-use mathlib.Core.Logic.{inl, inr, _≢_}
-use mathlib.Core.List.{List, [], _∷_, _++_, append-assoc}
+use mathlib.Core.Logic.{_⊎_, ⊎-elim, inl, inr, _≢_}
+use mathlib.Core.List.{List, [], _∷_, _++_, append-assoc, tail-eq-of-cons-eq}
 use Prim.Native.Nat.{ℕ, suc, _+_, _*_, _/_, _≤_, _<_}
+use native.Mathlib.Nat.{mul-le-mul-right}
 use native.Mathlib.Omega.{arith}
-use lib.ListN.{length, length-append}
-use Rattle.ground.specs.Table.{tabulate}
+use lib.ListN.{getD, length, length-append}
+use Rattle.ground.specs.Table.{getD-tabulate, length-tabulate, tabulate}
+use Rattle.ground.specs.Truth.{eq-or-ne, le-or-lt}
+use Rattle.judge.specs.Verdict.{SURE}
 use Rattle.packet.specs.Kinds.{firstTag, frames}
+use Rattle.packet.specs.Theorems.Tags.{frames-some}
 use Rattle.step.specs.Laws.Run.{startFrom}
-use Rattle.link.specs.Demand3.{FullyArrived, Reported, Time, standing}
-use Rattle.link.specs.Judged.Apart.{EitherSure, never-alike}
+use Rattle.link.specs.Demand3.{FullyArrived, Reported, Time, ToldApart, noReport, reportAt, standing}
+use Rattle.link.specs.Judged.Apart.{apart}
 use Rattle.link.specs.Laws.Lists.{append-apart, not-apart}
+use Rattle.link.specs.Laws.Numbers.{epoch-after-lt, one-epoch}
 use Rattle.link.specs.Link.{Alike, AssumedOver, Link, SameIn, epochFrames, expected, kindOf, roadOf}
-use Rattle.link.specs.Moments.{Beginning, NotAfter, Ready, Run, coming, nextAt}
+use Rattle.link.specs.Moments.{Beginning, NotAfter, Ready, Run, Unready, coming, nextAt}
+use Rattle.link.specs.Road.{times}
+use Rattle.link.specs.Told.{Told}
 use Rattle.link.specs.Transport.Times.{coming-is}
 
 stepped-too : (kind kind′ e e′ f f′ x x′ : ℕ) → kind ≡ kind′ → e ≡ e′ → f ≡ f′ → x ≡ x′
@@ -154,9 +161,115 @@ module _ (k j : Link) (l : Alike k j) (n : k .ports ≡ j .ports) (rk rj : Run) 
   many-same : ok .many ≡ oj .many
   many-same = not-apart (ok .many) (oj .many) not-fewer not-more
 
-  -- client streams that differ in an epoch that either run reports sure: the lists of reports differ
-  pub never : (ak : AssumedOver k) (aj : AssumedOver j) (m : ℕ) → m < ok .many → EitherSure k j ak aj l (suc (ok .F / epochFrames k) + m)
-      → (SameIn (suc (suc (ok .F / epochFrames k) + m)) k j → ⊥) → standing k rk at .told ≢ standing j rj bt .told
-  never ak aj m b sure differ e =
-      never-alike k j ak aj l (suc (ok .F / epochFrames k)) (ok .many) m b sure differ
-      (sym (ok .are) ∙ e ∙ oj .are ∙ ap (λ (g : ℕ). tabulate (oj .many) (λ q. expected j (g + q))) (sym g-same) ∙ ap (λ (c : ℕ). tabulate c (λ q. expected j (suc (ok .F / epochFrames k) + q))) (sym many-same))
+  -- client streams that differ in an epoch that either run reports sure: both have made that report, and the two differ
+  pub never : (ak : AssumedOver k) (aj : AssumedOver j) (m : ℕ) → m < ok .many
+      → (reportAt (standing k rk at) m .mark ≡ SURE) ⊎ (reportAt (standing j rj bt) m .mark ≡ SURE)
+      → (SameIn (suc (suc (ok .F / epochFrames k) + m)) k j → ⊥) → ToldApart (standing k rk at) (standing j rj bt) m
+  never ak aj m b sure other =
+      record {
+        here = rw (ap length (ok .are) ∙ length-tabulate (ok .many) (λ q. expected k (suc (ok .F / epochFrames k) + q) (k .output q))) b;
+        there = rw (ap length (oj .are) ∙ length-tabulate (oj .many) (λ q. expected j (suc (oj .F / epochFrames j) + q) (j .output q))) c;
+        differ = λ same. other (apart k j ak aj l (suc (ok .F / epochFrames k) + m) (k .output m) (j .output m) (rw (one, two) at sure) (rw (one, two) at same));
+      }
+    where
+      c : m < oj .many
+      c = rw many-same at b
+
+      one : reportAt (standing k rk at) m ≡ expected k (suc (ok .F / epochFrames k) + m) (k .output m)
+      one =
+          ap (λ (t : List Told). getD t m noReport) (ok .are)
+          ∙ getD-tabulate (ok .many) (λ q. expected k (suc (ok .F / epochFrames k) + q) (k .output q)) m noReport b
+
+      two : reportAt (standing j rj bt) m ≡ expected j (suc (ok .F / epochFrames k) + m) (j .output m)
+      two =
+          ap (λ (t : List Told). getD t m noReport) (oj .are)
+          ∙ getD-tabulate (oj .many) (λ q. expected j (suc (oj .F / epochFrames j) + q) (j .output q)) m noReport c
+          ∙ ap (λ (g : ℕ). expected j (g + m) (j .output m)) (sym g-same)
+
+-- Of two parts of one order, the ports that are still to be served after the longer one.
+
+more : (q : ℕ) (b d : List ℕ) → times q d ≤ times q (b ++ d)
+more q [] d = omega arith
+more q (y ∷ b) d = let w = more q b d in omega arith
+
+fewer : (q : ℕ) (a c b d : List ℕ) → length a ≤ length b → a ++ c ≡ b ++ d → times q d ≤ times q c
+fewer q [] c b d h e = rw e (more q b d)
+fewer q (x ∷ a) c [] d h e = absurd (omega arith)
+fewer q (x ∷ a) c (y ∷ b) d h e = fewer q a c b d (omega arith) (tail-eq-of-cons-eq e)
+
+-- A link has begun by the moment at which its first report's epoch has fully arrived.
+module _ (k : Link) (ak : AssumedOver k) (rk : Run) (at : Time k) (ok : Reported k rk at) (m : ℕ) (some : m < ok .many) where
+  abbrev b : Beginning (roadOf k) rk (ok .F)
+  b = ok .beginning
+
+  -- the ports served by then
+  abbrev served : List ℕ
+  served = b .done ++ (b .port ∷ [])
+
+  abbrev front : ℕ
+  front = b .foremost .port
+
+  in-order : k .order (b .time) ≡ served ++ b .rest
+  unfolding roadOf
+  in-order = b .is-order ∙ sym (append-assoc (b .done) (b .port ∷ []) (b .rest))
+
+  -- it has come further since
+  further : nextAt (roadOf k) (b .time) (b .rest) front < nextAt (roadOf k) (at .t) (at .rest) front
+  unfolding roadOf
+  further =
+      let is : coming (roadOf k) (b .time) (b .rest) front ≡ ok .F + 1 = b .foremost .is in
+      let come = ok .arrived m some front (b .foremost .below) in
+      let after = epoch-after-lt (kindOf k) (ok .F) in
+      let l = frames-some (kindOf k) in
+      let w = coming-is (roadOf k) (b .time) (b .rest) front (b .foremost .below) in
+      let v = coming-is (roadOf k) (at .t) (at .rest) front (b .foremost .below) in
+      let e = one-epoch (suc (suc (ok .F / epochFrames k) + m)) (epochFrames k) in
+      let f = mul-le-mul-right (epochFrames k) (reach (ok .F / epochFrames k)) in
+      omega arith
+    where
+      reach : (e : ℕ) → suc e ≤ suc (suc e + m)
+      reach e = omega arith
+
+  pub begun-before : NotAfter (roadOf k) (b .time) served (at .t) (at .done)
+  unfolding nextAt roadOf
+  begun-before = ⊎-elim same-or-sooner (λ (h : b .time < at .t). inl h) (le-or-lt (at .t) (b .time))
+    where
+      same-or-sooner : at .t ≤ b .time → NotAfter (roadOf k) (b .time) served (at .t) (at .done)
+      same-or-sooner h = ⊎-elim same sooner (eq-or-ne (at .t) (b .time))
+        where
+          sooner : at .t ≢ b .time → NotAfter (roadOf k) (b .time) served (at .t) (at .done)
+          sooner d =
+              let one : times front (b .rest) ≤ times front (k .order (b .time)) = rw in-order (more front served (b .rest)) in
+              let all = ak .lines .once (b .time) front (b .foremost .below) in
+              let w = further in
+              absurd (omega arith)
+
+          same : at .t ≡ b .time → NotAfter (roadOf k) (b .time) served (at .t) (at .done)
+          same e = ⊎-elim (λ (n : length served ≤ length (at .done)). inr (sym e, n)) (λ (n : length (at .done) < length served). absurd (late n)) (le-or-lt (length served) (length (at .done)))
+            where
+              late : length (at .done) < length served → ⊥
+              late n =
+                  let one = fewer front (at .done) (at .rest) served (b .rest) (omega arith) (sym (at .is-order) ∙ ap (k .order) e ∙ in-order) in
+                  let w = further in
+                  omega arith
+
+-- So has the other link.
+module _ (k j : Link) (l : Alike k j) (n : k .ports ≡ j .ports) (ak : AssumedOver k) (rk : Run) (at : Time k) (bt : Time j) (same-t : at .t ≡ bt .t) (same-rest : at .rest ≡ bt .rest)
+    (ok : Reported k rk at) (m : ℕ) (some : m < ok .many) where
+  done-long : length (at .done) ≡ length (bt .done)
+  done-long =
+      let a : length (k .order (at .t)) ≡ length (at .done) + length (at .rest) = ap length (at .is-order) ∙ length-append (at .done) (at .rest) in
+      let b : length (j .order (bt .t)) ≡ length (bt .done) + length (bt .rest) = ap length (bt .is-order) ∙ length-append (bt .done) (bt .rest) in
+      let c : length (k .order (at .t)) ≡ length (j .order (bt .t)) = ap length (l .order (at .t) ∙ ap (j .order) same-t) in
+      let d : length (at .rest) ≡ length (bt .rest) = ap length same-rest in
+      omega arith
+
+  pub ready-by : Unready (roadOf j) (bt .t) (bt .done) → ⊥
+  unfolding roadOf
+  ready-by un =
+      let b = ok .beginning in
+      let done : List ℕ = b .done ++ (b .port ∷ []) in
+      un (b .time) done (b .rest) (sym (l .order (b .time)) ∙ b .is-order ∙ sym (append-assoc (b .done) (b .port ∷ []) (b .rest)))
+      (⊎-elim (λ (h : b .time < at .t). inl (rw (← same-t) h)) (λ (h : (b .time ≡ at .t) × (length done ≤ length (at .done))). inr (h .0 ∙ same-t, rw (← done-long) (h .1)))
+      (begun-before k ak rk at ok m some))
+      (ready-too k j l n (b .time) (b .rest) (b .ready))

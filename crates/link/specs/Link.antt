@@ -5,7 +5,7 @@ use mathlib.Core.Bool.{Bool, true, false, cond, _&&_}
 use mathlib.Core.List.{List, [], _∷_, _++_}
 use Prim.Native.Nat.{ℕ, zero, suc, _+_, _*_, _/_, _%_, _≤_, _<_}
 use lib.Dec.{eqb}
-use lib.ListN.{getD, length}
+use lib.ListN.{drop, getD, length}
 use Rattle.counting.specs.Words.{every}
 use Rattle.judge.specs.Verdict.{HELD, SURE}
 use Rattle.packet.specs.Counts.{nibbleIn, nibblePlace}
@@ -34,8 +34,9 @@ pub record Link : Type 0 where
   pub first : ℕ → ℕ
   -- the ports in the order of their frames, in each frame time
   pub order : ℕ → List ℕ
-  -- the output lent for each report
+  -- the output lent for each report, and the record lent to each fetch, by how many frames and how many reports there have been
   pub output : ℕ → List ℕ
+  pub lent : ℕ → ℕ → List ℕ
 
 -- the kind of packets, and the frames that an epoch has
 abbrev pub kindOf : Link → ℕ
@@ -82,6 +83,8 @@ pub record Lines (k : Link) : Type 0 where
   pub arrived : (i p : ℕ) → p < k .ports → Arrived (kindOf k) (k .sending .changes) (sentTo k i p) (k .came i p)
   -- 'The lent output holds at least ports x 16 x P bytes'
   pub room : (j : ℕ) → k .ports * epochFrames k * k .payload ≤ length (k .output j)
+  -- and the record any eight
+  pub eight : (a j : ℕ) → length (k .lent a j) ≡ 8
 
 -- What demand 3 over any sending side lets be so.
 pub record AssumedOver (k : Link) : Type 0 where
@@ -109,6 +112,7 @@ roadOf k =
       first = k .first;
       order = k .order;
       output = k .output;
+      lent = k .lent;
     }
 
 -- two lists byte for byte
@@ -131,13 +135,16 @@ framesOf client x (suc n) = framesOf client x n ++ client (x + n)
 abbrev pub clientBytes : Link → ℕ → List ℕ
 clientBytes k i = framesOf (k .client) (epochStart (kindOf k) i) (epochFrames k)
 
--- The report of epoch i + 1, ruled by the packets of epoch i: 'exactly the client's bytes, marked sure, if all its ruling packets came as sent; otherwise held, with no bytes'.
-unfoldable pub expected : Link → ℕ → Told
-expected k i =
+-- The report of epoch i + 1, ruled by the packets of epoch i, into an output: 'exactly the client's bytes, marked sure, if all its ruling packets came as sent; otherwise held, with no bytes'. What is beyond its bytes
+-- stands as it was lent: where it is held, the whole output.
+unfoldable pub expected : Link → ℕ → List ℕ → Told
+expected k i out =
+    let bytes = cond (allAsSent k i) (clientBytes k (suc i)) [] in
     record {
       epoch = epochNumber (kindOf k) (k .sending .first) (suc i);
       mark = cond (allAsSent k i) SURE HELD;
-      bytes = cond (allAsSent k i) (clientBytes k (suc i)) [];
+      bytes = bytes;
+      rest = drop (length bytes) out;
     }
 
 -- 'over the same tags, delays, first frames and port orders', at receivers of one size

@@ -1,19 +1,18 @@
 -- Demand 3 over any sending side: it holds of every link with what is let be so.
 use mathlib.Core.Path.{_≡_, sym, ap, subst, _∙_}
-use mathlib.Core.Logic.{_⊎_, _≢_}
+use mathlib.Core.Logic.{_⊎_}
 use mathlib.Core.List.{List, []}
 use Prim.Native.Nat.{ℕ, suc, _+_, _-_, _*_, _/_, _≤_, _<_}
 use native.Mathlib.Nat.{mul-le-mul-right}
 use native.Mathlib.Omega.{arith}
-use lib.ListN.{length}
 use Rattle.packet.specs.Kinds.{firstTag}
 use Rattle.packet.specs.Theorems.Tags.{frames-some}
 use Rattle.step.specs.Laws.Run.{start-from}
-use Rattle.ground.specs.Table.{length-tabulate, tabulate, tabulate-ext}
+use Rattle.ground.specs.Table.{tabulate, tabulate-ext}
 use Rattle.judge.specs.Verdict.{SURE}
-use Rattle.link.specs.Alike.{never}
+use Rattle.link.specs.Alike.{never, ready-by}
 use Rattle.link.specs.Contents.{reportAfter}
-use Rattle.link.specs.Demand3.{Demand3, NeverAlike, NoneDue, Reported, Stands, Started, Time, ownRun, standing}
+use Rattle.link.specs.Demand3.{Demand3, NeverAlike, NoneDue, Reported, Stands, Started, Time, ToldApart, ownRun, reportAt, standing}
 use Rattle.link.specs.Demand3.Stands.{none-yet, reporting}
 use Rattle.link.specs.Judged.Apart.{same-ports}
 use Rattle.link.specs.Judged.Fairness.{fair}
@@ -59,12 +58,12 @@ module _ (k : Link) (a : AssumedOver k) where
             plus : (e : ℕ) → suc e ≤ suc e + j
             plus e = omega arith
 
-    told-as : (F i : ℕ) (told : List Told) → Beginning (roadOf k) (ownRun k m₀) F → told ≡ tabulate (i - suc (F / epochFrames k)) (λ j. reportAfter (roadOf k) (suc (F / epochFrames k) + j))
-        → told ≡ tabulate (i - suc (F / epochFrames k)) (λ j. expected k (suc (F / epochFrames k) + j))
+    told-as : (F i : ℕ) (told : List Told) → Beginning (roadOf k) (ownRun k m₀) F → told ≡ tabulate (i - suc (F / epochFrames k)) (λ j. reportAfter (roadOf k) (suc (F / epochFrames k) + j) (k .output j))
+        → told ≡ tabulate (i - suc (F / epochFrames k)) (λ j. expected k (suc (F / epochFrames k) + j) (k .output j))
     told-as F i told b e =
         e
-        ∙ tabulate-ext (i - suc (F / epochFrames k)) (λ j. reportAfter (roadOf k) (suc (F / epochFrames k) + j)) (λ j. expected k (suc (F / epochFrames k) + j))
-        (λ j l. judged k a (suc (F / epochFrames k) + j) (from-then F b j))
+        ∙ tabulate-ext (i - suc (F / epochFrames k)) (λ j. reportAfter (roadOf k) (suc (F / epochFrames k) + j) (k .output j)) (λ j. expected k (suc (F / epochFrames k) + j) (k .output j))
+        (λ j l. judged k a (suc (F / epochFrames k) + j) (from-then F b j) (k .output j))
 
     stands : (at : Time k) → Stands k (ownRun k m₀) at
     unfolding roadOf
@@ -143,19 +142,16 @@ module _ (k : Link) (a : AssumedOver k) where
 differ-too : (k j : Link) → AssumedOver k → AssumedOver j → Alike k j → NeverAlike k j
 differ-too k j ak aj l = record { never = differ }
   where
-    more-than-none : (n : ℕ) (f : ℕ → Told) → 0 < n → tabulate n f ≢ []
-    more-than-none n f h e = let l = sym (length-tabulate n f) ∙ ap length e in omega arith
-
     differ : (mk mj : Moment) → Started k mk → Started j mj → (at : Time k) (bt : Time j) → at .t ≡ bt .t → at .rest ≡ bt .rest
         → (ok : Reported k (ownRun k mk) at) (m : ℕ) → m < ok .many
-        → (expected k (suc (ok .F / epochFrames k) + m) .mark ≡ SURE) ⊎ (expected j (suc (ok .F / epochFrames k) + m) .mark ≡ SURE)
+        → (reportAt (standing k (ownRun k mk) at) m .mark ≡ SURE) ⊎ (reportAt (standing j (ownRun j mj) bt) m .mark ≡ SURE)
         → (SameIn (suc (suc (ok .F / epochFrames k) + m)) k j → ⊥)
-        → standing k (ownRun k mk) at .told ≢ standing j (ownRun j mj) bt .told
-    differ mk mj sk sj at bt t rest ok m b sure other e = go (always-stands j aj mj sj bt)
+        → ToldApart (standing k (ownRun k mk) at) (standing j (ownRun j mj) bt) m
+    differ mk mj sk sj at bt t rest ok m b sure other = go (always-stands j aj mj sj bt)
       where
-        go : Stands j (ownRun j mj) bt → ⊥
-        go (none-yet n un told) = more-than-none (ok .many) (λ q. expected k (suc (ok .F / epochFrames k) + q)) (omega arith) (sym (ok .are) ∙ e ∙ told)
-        go (reporting n oj) = never k j l (same-ports k j ak aj l) (ownRun k mk) (ownRun j mj) at bt t rest ok oj ak aj m b sure other e
+        go : Stands j (ownRun j mj) bt → ToldApart (standing k (ownRun k mk) at) (standing j (ownRun j mj) bt) m
+        go (none-yet n un told) = absurd (ready-by k j l (same-ports k j ak aj l) ak (ownRun k mk) at bt t rest ok m b un)
+        go (reporting n oj) = never k j l (same-ports k j ak aj l) (ownRun k mk) (ownRun j mj) at bt t rest ok oj ak aj m b sure other
 
 pub over : (k : Link) → AssumedOver k → Demand3 k
 unfolding roadOf

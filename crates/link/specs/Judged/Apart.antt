@@ -6,9 +6,8 @@ use mathlib.Core.List.{List, [], _∷_}
 use Prim.Native.Nat.{ℕ, zero, suc, _+_, _*_, _≤_, _<_}
 use native.Mathlib.Nat.{suc-mul, zero-mul}
 use native.Mathlib.Omega.{arith}
-use lib.ListN.{getD, length, length-append}
+use lib.ListN.{length, length-append}
 use borrow.Author.Tests.{ne-eqb}
-use Rattle.ground.specs.Table.{getD-tabulate, tabulate}
 use Rattle.ground.specs.Truth.{eq-or-ne}
 use Rattle.judge.specs.Verdict.{HELD, SURE}
 use Rattle.packet.specs.Kinds.{frames}
@@ -17,7 +16,7 @@ use Rattle.link.specs.Laws.Numbers.{epoch-in, frames-cancel}
 use Rattle.link.specs.Link.{Alike, AssumedOver, Link, SameIn, allAsSent, clientBytes, epochFrames, expected, framesOf, kindOf}
 use Rattle.link.specs.Road.{Below, times}
 use Rattle.link.specs.Sending.{Client}
-use Rattle.link.specs.Told.{Told}
+use Rattle.link.specs.Told.{SaySame}
 
 -- every one of n group frames from position x on has w bytes
 abbrev Wide : Client → ℕ → ℕ → ℕ → Type 0
@@ -47,9 +46,9 @@ sure-sent true e = refl
 sure-sent false e = absurd (omega arith)
 
 -- what a sure report to come brings
-sure-bytes : (k : Link) (i : ℕ) → expected k i .mark ≡ SURE → expected k i .bytes ≡ clientBytes k (suc i)
+sure-bytes : (k : Link) (i : ℕ) (out : List ℕ) → expected k i out .mark ≡ SURE → expected k i out .bytes ≡ clientBytes k (suc i)
 unfolding expected
-sure-bytes k i e = rw (sure-sent (allAsSent k i) e) refl
+sure-bytes k i out e = rw (sure-sent (allAsSent k i) e) refl
 
 -- a group frame's bytes, at the places of an epoch
 wide-in : (k : Link) → AssumedOver k → (i kind : ℕ) → kindOf k ≡ kind → Wide (k .client) (i * frames kind) (frames kind) (k .sending .x i * k .payload)
@@ -69,27 +68,11 @@ module _ (k j : Link) (ak : AssumedOver k) (aj : AssumedOver j) (l : Alike k j) 
       let w : k .sending .x i * k .payload ≡ j .sending .x i * j .payload = frames-cancel kind _ _ (sym lk ∙ ap length (e ∙ there) ∙ lj) in
       frames-apart (k .client) (j .client) (i * epochFrames k) (epochFrames k) (k .sending .x i * k .payload) wk (λ m b. wj m b ∙ sym w) (e ∙ there)
 
-  -- the report of epoch i + 1 is to be sure, on one link or on the other
-  abbrev pub EitherSure : ℕ → Type 0
-  EitherSure i = (expected k i .mark ≡ SURE) ⊎ (expected j i .mark ≡ SURE)
-
-  -- where the reports are the same, so are the client's frames of that epoch
-  pub apart : (i : ℕ) → EitherSure i → expected k i ≡ expected j i → SameIn (suc i) k j
-  apart i s e =
-      let mark : expected k i .mark ≡ expected j i .mark = ap (λ (t : Told). t .mark) e in
-      let sure : expected k i .mark ≡ SURE = ⊎-elim (λ (o : expected k i .mark ≡ SURE). o) (λ (o : expected j i .mark ≡ SURE). mark ∙ o) s in
-      bytes-apart (suc i) (sym (sure-bytes k i sure) ∙ ap (λ (t : Told). t .bytes) e ∙ sure-bytes j i (sym mark ∙ sure))
-
-  -- and where streams differ, so do the lists of reports, from the report of epoch g + 1 on, that hold this one
-  pub never-alike : (g n m : ℕ) → m < n → EitherSure (g + m) → (SameIn (suc (g + m)) k j → ⊥)
-      → tabulate n (λ q. expected k (g + q)) ≢ tabulate n (λ q. expected j (g + q))
-  never-alike g n m b s differ e =
-      let none : Told = record { epoch = 0; mark = 0; bytes = [] } in
-      differ
-      (apart (g + m) s
-      (sym (getD-tabulate n (λ q. expected k (g + q)) m none b)
-      ∙ ap (λ (t : List Told). getD t m none) e
-      ∙ getD-tabulate n (λ q. expected j (g + q)) m none b))
+  -- where the report of epoch i + 1 is sure on one link or on the other and both say the same, the client's frames of that epoch are the same
+  pub apart : (i : ℕ) (out other : List ℕ) → (expected k i out .mark ≡ SURE) ⊎ (expected j i other .mark ≡ SURE) → SaySame (expected k i out) (expected j i other) → SameIn (suc i) k j
+  apart i out other s same =
+      let sure : expected k i out .mark ≡ SURE = ⊎-elim (λ (o : expected k i out .mark ≡ SURE). o) (λ (o : expected j i other .mark ≡ SURE). same .0 ∙ o) s in
+      bytes-apart (suc i) (sym (sure-bytes k i out sure) ∙ same .1 ∙ sure-bytes j i other (sym (same .0) ∙ sure))
 
 -- Port orders tell how many ports there are.
 times-none : (n p : ℕ) (ps : List ℕ) → n ≤ p → Below n ps → times p ps ≡ 0

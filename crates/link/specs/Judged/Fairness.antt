@@ -47,5 +47,6 @@ module _ (k : Link) (a : AssumedOver k) where
         once = a .lines .once;
         only = a .lines .only;
         room = a .lines .room;
+        eight = a .lines .eight;
         starts = starts;
       }

@@ -6,6 +6,7 @@ use mathlib.Core.List.{List, [], _∷_}
 use Prim.Native.Nat.{ℕ, suc, _<_}
 use native.Mathlib.Omega.{arith}
 use lib.Dec.{eqb}
+use lib.ListN.{drop, length}
 use borrow.Author.Tests.{eq-eqb, eqb-true}
 use Rattle.counting.specs.Laws.Tests.{every-at, every-lacks}
 use Rattle.ground.specs.Truth.{and-left, and-right, and-true}
@@ -30,10 +31,11 @@ pub same-self : (l : List ℕ) → sameBytes l l ≡ true
 same-self [] = refl
 same-self (k ∷ l) = and-true (eqb k k) (sameBytes l l) (eq-eqb k k refl) (same-self l)
 
-told-is : (e d m o : ℕ) (b c : List ℕ) → e ≡ d → m ≡ o → b ≡ c → _≡_ {A = Told} (record { epoch = e; mark = m; bytes = b }) (record { epoch = d; mark = o; bytes = c })
-told-is e d m o b c pe pm pb = rw (pe, pm, pb) refl
+told-is : (e d m o : ℕ) (b c out : List ℕ) → e ≡ d → m ≡ o → b ≡ c
+    → _≡_ {A = Told} (record { epoch = e; mark = m; bytes = b; rest = drop (length b) out }) (record { epoch = d; mark = o; bytes = c; rest = drop (length c) out })
+told-is e d m o b c out pe pm pb = rw (pe, pm, pb) refl
 
-module _ (k : Link) (a : AssumedOver k) (i : ℕ) (covered : Covered (k .sending) i (k .ports) (k .pairing)) where
+module _ (k : Link) (a : AssumedOver k) (i : ℕ) (covered : Covered (k .sending) i (k .ports) (k .pairing)) (out : List ℕ) where
   abbrev number : ℕ
   number = epochNumber (kindOf k) (k .sending .first) (suc i)
 
@@ -43,11 +45,11 @@ module _ (k : Link) (a : AssumedOver k) (i : ℕ) (covered : Covered (k .sending
   -- the report of an epoch by its mark and its bytes
   report-is : (mark : ℕ) (bytes : List ℕ) → judgeOf ports (k .ports) ≡ mark
       → cond (eqb mark HELD) [] (framesFrom (roadOf k) ports (epochStart (kindOf k) (suc i)) (epochFrames k)) ≡ bytes
-      → reportAfter (roadOf k) i ≡ record { epoch = number; mark = mark; bytes = bytes }
+      → reportAfter (roadOf k) i out ≡ record { epoch = number; mark = mark; bytes = bytes; rest = drop (length bytes) out }
   unfolding reportAfter roadOf
   report-is mark bytes j e =
       told-is (numberOf (roadOf k) (suc i)) number (judgeOf ports (k .ports)) mark
-      (cond (eqb (judgeOf ports (k .ports)) HELD) [] (framesFrom (roadOf k) ports (epochStart (kindOf k) (suc i)) (epochFrames k))) bytes
+      (cond (eqb (judgeOf ports (k .ports)) HELD) [] (framesFrom (roadOf k) ports (epochStart (kindOf k) (suc i)) (epochFrames k))) bytes out
       (number-of k (suc i)) j
       (ap (λ (m : ℕ). cond (eqb m HELD) [] (framesFrom (roadOf k) ports (epochStart (kindOf k) (suc i)) (epochFrames k))) j ∙ e)
 
@@ -59,7 +61,7 @@ module _ (k : Link) (a : AssumedOver k) (i : ℕ) (covered : Covered (k .sending
       (a .lines .arrived i p b)
 
   by-test : (b : Bool) → allAsSent k i ≡ b
-      → reportAfter (roadOf k) i ≡ record { epoch = number; mark = cond b SURE HELD; bytes = cond b (clientBytes k (suc i)) [] }
+      → reportAfter (roadOf k) i out ≡ record { epoch = number; mark = cond b SURE HELD; bytes = cond b (clientBytes k (suc i)) []; rest = drop (length (cond b (clientBytes k (suc i)) [])) out }
   unfolding allAsSent
   by-test true e =
       let sent : (p : ℕ) → p < k .ports → k .came i p ≡ sentTo k i p =
@@ -69,6 +71,6 @@ module _ (k : Link) (a : AssumedOver k) (i : ℕ) (covered : Covered (k .sending
       let o = every-lacks (k .ports) (λ q. sameBytes (k .came i q) (sentTo k i q)) e in
       report-is HELD [] (held (o .at) (o .below) (o .fails)) refl
 
-  pub judged : reportAfter (roadOf k) i ≡ expected k i
+  pub judged : reportAfter (roadOf k) i out ≡ expected k i out
   unfolding expected
   judged = by-test (allAsSent k i) refl

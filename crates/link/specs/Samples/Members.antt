@@ -59,9 +59,16 @@ damaged = 0xF8 ∷ 0xF9 ∷ 0x0A ∷ 0x1B ∷ 0x0C ∷ 0x0D ∷ 0x0E ∷ 0x0F �
 abbrev pub came : ℕ → ℕ → List ℕ
 came i p = cond (eqb i 8 && eqb p 0) damaged (sent i p)
 
--- Port 0 is late by some frames, and comes first in the frame times that are named.
-abbrev pub linkWith : ℕ → (ℕ → Bool) → Link
-linkWith late lateFirst =
+-- the output lent for a report, a byte longer than need be, and the record lent to a fetch
+abbrev pub output : List ℕ
+output = replicate 33 0xEE
+
+abbrev pub lent : List ℕ
+lent = replicate 8 0xAA
+
+-- A client's group frames. Port 0 is late by some frames, and comes first in the frame times that are named.
+abbrev pub linkBy : Client → ℕ → (ℕ → Bool) → Link
+linkBy client late lateFirst =
     record {
       sending = sendingOf history 1 client unranked;
       ports = 2;
@@ -73,8 +80,12 @@ linkWith late lateFirst =
       delay = λ p. cond (eqb p 0) late 0;
       first = λ p. cond (eqb p 0) 3 21;
       order = λ t. cond (lateFirst t) (0 ∷ 1 ∷ []) (1 ∷ 0 ∷ []);
-      output = λ j. replicate 32 0xEE;
+      output = λ j. output;
+      lent = λ a j. lent;
     }
+
+abbrev pub linkWith : ℕ → (ℕ → Bool) → Link
+linkWith late lateFirst = linkBy client late lateFirst
 
 -- W is 20, so port 0 is as late as demand 3 lets it be.
 abbrev pub link : Link

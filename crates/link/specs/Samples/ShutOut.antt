@@ -70,7 +70,7 @@ ready-then = record { stepped = stepped; near = near }
     near (suc (suc p)) (suc q) hp hq = absurd (omega arith)
 
 -- the moment after frame time 179
-abbrev then : Time link
+abbrev pub then : Time link
 then = record { t = 180; done = []; rest = link .order 180; is-order = refl }
 
 come-0 : coming (roadOf link) 180 (link .order 180) 0 ≡ 176
@@ -92,7 +92,7 @@ Each P (r ∷ rs) = P r × Each P rs
 -- Any run of which demand 3's words hold on the sample.
 module _ (run : Run) (d : Promised link run) where
   -- It began when all ports were in step for the first time: the foremost position was 55.
-  began : (F : ℕ) → Beginning (roadOf link) run F → F ≡ 55
+  pub began : (F : ℕ) → Beginning (roadOf link) run F → F ≡ 55
   unfolding roadOf frames
   began F b = omega (arith, front, low)
     where
@@ -137,7 +137,7 @@ module _ (run : Run) (d : Promised link run) where
       six : r .many ≡ 6
       six = ⊎-elim (λ (h : 6 ≤ r .many). omega (arith, few)) (λ (h : r .many < 6). absurd (r .not-yet (all h))) (le-or-lt 6 (r .many))
 
-  has-begun : hasBegun (run 180 []) ≡ 1
+  pub has-begun : hasBegun (run 180 []) ≡ 1
   unfolding frames
   has-begun = d .begins-within 133 all-first
 
@@ -179,7 +179,7 @@ module _ (run : Run) (d : Promised link run) where
       absurd (omega arith)
 
 -- The receiver itself is held to it, and by the theorem alone its reports are the six that its run was computed to.
-itself : Promised link (reached (roadOf link) (started link))
+pub itself : Promised link (reached (roadOf link) (started link))
 itself =
     demand3 link met .promised (started link)
     (record {
@@ -190,5 +190,5 @@ itself =
       is = refl;
     })
 
-by-theorem : reached (roadOf link) (started link) 180 [] .told ≡ reports
+pub by-theorem : reached (roadOf link) (started link) 180 [] .told ≡ reports
 by-theorem = told-then (reached (roadOf link) (started link)) itself
