@@ -28,6 +28,11 @@ static const struct packet p2 = { { 1, LEVELSPRUCE_WORD_EOS, 1, 255, 0, 0 } };
 static const uint8_t p2_h4[PACKET] = { 0xF8, 0xF9, 0x0A, 0x0B, 0x0C, 0x0D, 0x0E, 0x0F,
                                        0x00, 0x11, 0x32, 0x13, 0x04, 0x05, 0xC6, 0x37 };
 
+/* One whose fields all differ. */
+static const struct packet mixed = { { 200, LEVELSPRUCE_WORD_DNU, 1, 0xA5, 1, 77 } };
+static const uint8_t mixed_h4[PACKET] = { 0xA8, 0x59, 0x1A, 0x0B, 0x0C, 0x0D, 0x4E, 0xDF,
+                                          0xC0, 0x81, 0xF2, 0x13, 0x04, 0x05, 0xA6, 0x77 };
+
 static const uint32_t assigned[] = { LEVELSPRUCE_WORD_ADD, LEVELSPRUCE_WORD_NORM, LEVELSPRUCE_WORD_EOS,
                                      LEVELSPRUCE_WORD_IDLE, LEVELSPRUCE_WORD_DNU };
 
@@ -123,6 +128,23 @@ static void put_crc(uint8_t *h4, unsigned crc)
     put_nibble(h4, CRC_PLACE + 1, crc & 15u);
 }
 
+/* The packet as the rules lay it out, written by hand: each field in the nibbles of its frames, then the CRC. */
+static void by_hand(uint8_t *h4, const struct packet *p)
+{
+    static const struct { int field, place, times; } nibbles[] = {
+        { LEVELSPRUCE_FIELD_MST, 0, 16 },   { LEVELSPRUCE_FIELD_MST, 1, 1 },   { LEVELSPRUCE_FIELD_RS_ACK, 2, 1 },
+        { LEVELSPRUCE_FIELD_SQ, 6, 16 },    { LEVELSPRUCE_FIELD_SQ, 7, 1 },    { LEVELSPRUCE_FIELD_EPOCH, 8, 16 },
+        { LEVELSPRUCE_FIELD_EPOCH, 9, 1 },  { LEVELSPRUCE_FIELD_WORD, 10, 1 }, { LEVELSPRUCE_FIELD_GID, 11, 1 },
+    };
+    size_t i;
+
+    for (i = 0; i < PACKET; i++)
+        h4[i] = (uint8_t)((i + 8) % 16);
+    for (i = 0; i < COUNT(nibbles); i++)
+        put_nibble(h4, nibbles[i].place, p->field[nibbles[i].field] / (unsigned)nibbles[i].times % 16);
+    put_crc(h4, remainder_of(h4));
+}
+
 /* P2 with another control word, and the CRC that belongs to it changed by the given bits. */
 static void with_word(uint8_t *h4, unsigned word, unsigned changed)
 {
@@ -139,9 +161,11 @@ static void test_examples(void)
     check("P1 is read", reads(p1_h4, &p1));
     check("P2 is written", writes(&p2, p2_h4));
     check("P2 is read", reads(p2_h4, &p2));
+    check("the packet whose fields all differ is written", writes(&mixed, mixed_h4));
+    check("the packet whose fields all differ is read", reads(mixed_h4, &mixed));
 }
 
-/* Every value of every field, beside those of P2, is written and reads back. */
+/* Every value of every field, beside those of P2, is written at its place and reads back. */
 static void test_write_takes_all_that_fits(void)
 {
     static const uint32_t most[FIELDS] = { 255, 15, 1, 255, 1, 255 };
@@ -154,17 +178,37 @@ static void test_write_takes_all_that_fits(void)
 
         held = 1;
         for (value = 0; value <= most[f]; value++) {
-            struct lent h4;
+            uint8_t h4[PACKET];
 
             p.field[f] = value;
             if (f == LEVELSPRUCE_FIELD_WORD && !is_assigned(value))
                 continue;
-            held = held && write_into(&h4, PACKET, &p) == LEVELSPRUCE_ANSWER_DONE && stands(&h4, PACKET)
-                && reads(lent_bytes(&h4), &p);
+            by_hand(h4, &p);
+            held = held && writes(&p, h4) && reads(h4, &p);
         }
-        sprintf(name, "writing answers 0 for every %s that fits, and it reads back", field_name[f]);
+        sprintf(name, "every %s that fits is written at its place and read there", field_name[f]);
         check(name, held);
     }
+}
+
+/* MST of all shapes, with both RS-Acks and in other packets than P2. */
+static void test_mst_of_all_shapes(void)
+{
+    struct packet p = { { 200, LEVELSPRUCE_WORD_DNU, 1, 0, 1, 77 } };
+    uint8_t h4[PACKET];
+    uint32_t mst, ack;
+    int held = 1;
+
+    for (mst = 0; mst < 256; mst++)
+        for (ack = 0; ack < 2; ack++) {
+            p.field[LEVELSPRUCE_FIELD_EPOCH] = mst * 7 % 256;
+            p.field[LEVELSPRUCE_FIELD_WORD] = assigned[mst % COUNT(assigned)];
+            p.field[LEVELSPRUCE_FIELD_MST] = mst;
+            p.field[LEVELSPRUCE_FIELD_RS_ACK] = ack;
+            by_hand(h4, &p);
+            held = held && writes(&p, h4) && reads(h4, &p);
+        }
+    check("MST of all shapes is written and read, with both RS-Acks", held);
 }
 
 /* A value that is too large is refused, also where its low bits alone would fit. */
@@ -396,14 +440,14 @@ static uint32_t word_named(const char *name)
     return UINT32_MAX;
 }
 
-/* Reads 'epoch 0 EOS sq 0 gid 0 crc BD : F8 F9 ..'. MST is FF and RS-Ack 0 in every row. */
+/* Reads 'epoch 0 EOS sq 0 gid 0 mst FF ack 0 crc BD : F8 F9 ..'. */
 static int parse_row(const char *row, struct packet *p, uint8_t *h4)
 {
-    unsigned epoch, sq, gid, crc, byte;
+    unsigned epoch, sq, gid, mst, ack, crc, byte;
     char word[8];
     int i, at = 0, step;
 
-    if (sscanf(row, "epoch %u %7s sq %u gid %u crc %x :%n", &epoch, word, &sq, &gid, &crc, &at) != 5 || at == 0)
+    if (sscanf(row, "epoch %u %7s sq %u gid %u mst %x ack %u crc %x :%n", &epoch, word, &sq, &gid, &mst, &ack, &crc, &at) != 7 || at == 0)
         return 0;
     for (i = 0; i < PACKET; i++, at += step) {
         if (sscanf(row + at, "%x%n", &byte, &step) != 1 || byte > 255)
@@ -413,8 +457,8 @@ static int parse_row(const char *row, struct packet *p, uint8_t *h4)
     p->field[LEVELSPRUCE_FIELD_EPOCH] = epoch;
     p->field[LEVELSPRUCE_FIELD_WORD] = word_named(word);
     p->field[LEVELSPRUCE_FIELD_GID] = gid;
-    p->field[LEVELSPRUCE_FIELD_MST] = 255;
-    p->field[LEVELSPRUCE_FIELD_RS_ACK] = 0;
+    p->field[LEVELSPRUCE_FIELD_MST] = mst;
+    p->field[LEVELSPRUCE_FIELD_RS_ACK] = ack;
     p->field[LEVELSPRUCE_FIELD_SQ] = sq;
     return remainder_of(h4) == crc;
 }
@@ -442,8 +486,8 @@ static void test_rows(const char *path)
     }
     if (file)
         fclose(file);
-    sprintf(name, "the file of packets has 14 rows, and %d were found", rows);
-    check(name, rows == 14 && understood);
+    sprintf(name, "the file of packets has 30 rows, and %d were found", rows);
+    check(name, rows == 30 && understood);
     check("every row of the file is written", rows > 0 && written);
     check("every row of the file is read", rows > 0 && read);
 }
@@ -456,6 +500,7 @@ int main(int count, char **words)
     }
     test_examples();
     test_write_takes_all_that_fits();
+    test_mst_of_all_shapes();
     test_write_refuses_too_large();
     test_write_refuses_words();
     test_write_refuses_lengths();

@@ -1,4 +1,4 @@
--- 01's examples, marked P1 to P11, and its limits, in one table under one statement. Bytes stand in hexadecimal, as 01 has them.
+-- 01's examples, marked P1 to P11, its limits, and examples worked out apart for what those leave open, in one table under one statement. Bytes stand in hexadecimal, as 01 has them.
 use mathlib.Core.Path.{refl}
 use mathlib.Core.List.{List, [], _∷_, _++_}
 use Prim.Native.Nat.{ℕ, _+_}
@@ -68,6 +68,13 @@ p1 = record { epoch = 0; word = record { 0 = IDLE }; gid = 0; mst = 0xFF; «rs_a
 abbrev p2 : Fields
 p2 = record { epoch = 1; word = record { 0 = EOS }; gid = 1; mst = 0xFF; «rs_ack» = 0; sq = 0 }
 
+-- a packet whose fields all differ: DNU, SQ 77, MST A5, RS-Ack 1, epoch 200, GID 1
+abbrev mixed : Fields
+mixed = record { epoch = 200; word = record { 0 = DNU }; gid = 1; mst = 0xA5; «rs_ack» = 1; sq = 77 }
+
+abbrev mixed-h4 : List ℕ
+mixed-h4 = 0xA8 ∷ 0x59 ∷ 0x1A ∷ 0x0B ∷ 0x0C ∷ 0x0D ∷ 0x4E ∷ 0xDF ∷ 0xC0 ∷ 0x81 ∷ 0xF2 ∷ 0x13 ∷ 0x04 ∷ 0x05 ∷ 0xA6 ∷ 0x77 ∷ []
+
 abbrev p1-h4 : List ℕ
 p1-h4 = 0xF8 ∷ 0xF9 ∷ 0x0A ∷ 0x0B ∷ 0x0C ∷ 0x0D ∷ 0xFE ∷ 0xFF ∷ 0x00 ∷ 0x01 ∷ 0x52 ∷ 0x03 ∷ 0x04 ∷ 0x05 ∷ 0x96 ∷ 0x97 ∷ []
 
@@ -117,6 +124,16 @@ table =
       name = "P2 data and CRC";
       given = bytes (nibblesOf p2 0);
       said = 0xFF ∷ 0x00 ∷ 0x00 ∷ 0x00 ∷ 0x01 ∷ 0x31 ∷ 0x00 ∷ 0xC3 ∷ [];
+    }
+    ∷ record {
+      name = "each field at its place, written";
+      given = writingNumber (writeAnswer mixed (replicate 16 0)) ∷ writeBytes mixed (replicate 16 0);
+      said = 0 ∷ mixed-h4;
+    }
+    ∷ record {
+      name = "each field at its place, read";
+      given = readingNumber (readAnswer mixed-h4) ∷ readingValues (readAnswer mixed-h4);
+      said = 0 ∷ 200 ∷ 15 ∷ 1 ∷ 0xA5 ∷ 1 ∷ 77 ∷ [];
     }
     ∷ record { name = "P3 CRC of 56 zero bits"; given = crcOf (replicate 14 0) ∷ []; said = 0x00 ∷ [] }
     ∷ record { name = "P4 CRC of the last bit alone"; given = crcOf (replicate 13 0 ++ (1 ∷ [])) ∷ []; said = 0x07 ∷ [] }

@@ -1,4 +1,4 @@
-// 01's P1 to P4. P3 and P4 speak of data bits and their CRC alone: their word is FIXED, so that with the right CRC the answer is 7.
+// 01's P1 to P4, and one packet whose fields all differ. P3 and P4 speak of data bits and their CRC alone: their word is FIXED, so that with the right CRC the answer is 7.
 use crate::given;
 use crate::show;
 use crate::sums;
@@ -7,6 +7,7 @@ use packet::Fields;
 pub(crate) fn run() {
     example(b"packet\tP1\t", given::p1());
     example(b"packet\tP2\t", given::p2());
+    example(b"packet\tmixed\t", given::mixed());
     data_bits();
 }
 

@@ -23,14 +23,14 @@ fn lines(file: &[u8]) {
 
 // A line that is no whole row is passed over.
 fn line(line: &[u8]) {
-    if line.len() < 104 {
+    if line.len() < 117 {
         return;
     }
     if line[0] != b'H' {
         return;
     }
     show::text(b"row\t");
-    show::text(&line[0..54]);
+    show::text(&line[0..67]);
     row(fields_in(line), bytes_in(line));
 }
 
@@ -52,14 +52,13 @@ fn is_written_as(fields: Fields, h4: [u8; 16]) -> bool {
     check::same(&own, &h4)
 }
 
-// MST is FF and RS-Ack 0 in every row.
 fn fields_in(line: &[u8]) -> Fields {
     Fields {
         epoch: text::number_at(line, 26),
         word: text::word_at(line, 30),
         gid: text::digit(text::column(line, 46)),
-        mst: 255,
-        rs_ack: 0,
+        mst: byte_at(line, 52),
+        rs_ack: text::digit(text::column(line, 59)),
         sq: text::number_at(line, 38),
     }
 }
@@ -68,7 +67,7 @@ fn bytes_in(line: &[u8]) -> [u8; 16] {
     let mut bytes = [0u8; 16];
     let mut i = 0;
     while i < 16 {
-        bytes[i] = byte_at(line, 57 + 3 * i);
+        bytes[i] = byte_at(line, 70 + 3 * i);
         i += 1;
     }
     bytes
