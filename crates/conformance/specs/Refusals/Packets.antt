@@ -82,10 +82,11 @@ pub record WriteInputC : Type 0 where
   pub mst : ℕ
   pub ack : ℕ
   pub sq : ℕ
+  pub reserved : ℕ
   pub h4 : List ℕ
 
 abbrev pub inputFields : WriteInputC → Fields
-inputFields x = given (x .epoch) (x .word) (x .gid) (x .mst) (x .ack) (x .sq)
+inputFields x = given (x .epoch) (x .word) (x .gid) (x .mst) (x .ack) (x .sq) (x .reserved)
 
 abbrev pub writeC : Entry
 writeC =
@@ -96,9 +97,9 @@ writeC =
           record { number = 9; condition = λ x. not (sized 16 (x .h4)) }
           ∷ record { number = 8; condition = λ x. not (fitting (inputFields x)) }
           ∷ [];
-      answer = λ x. writeAnswerC (x .epoch) (x .word) (x .gid) (x .mst) (x .ack) (x .sq) (x .h4);
+      answer = λ x. writeAnswerC (x .epoch) (x .word) (x .gid) (x .mst) (x .ack) (x .sq) (x .reserved) (x .h4);
       lent = λ x. x .h4 ∷ [];
-      left = λ x. writeBytesC (x .epoch) (x .word) (x .gid) (x .mst) (x .ack) (x .sq) (x .h4) ∷ [];
+      left = λ x. writeBytesC (x .epoch) (x .word) (x .gid) (x .mst) (x .ack) (x .sq) (x .reserved) (x .h4) ∷ [];
       State = Unit {0};
       given = λ i. tt;
       returned = λ i. tt;
@@ -200,7 +201,7 @@ readC =
       name = "levelspruce_packet_read";
       Input = ReadInputC;
       refusals =
-          record { number = 9; condition = λ x. not (sized 6 (x .fields) && sized 16 (x .h4)) }
+          record { number = 9; condition = λ x. not (sized 10 (x .fields) && sized 16 (x .h4)) }
           ∷ record { number = 5; condition = λ x. not (crcRight (highsOf (x .h4))) }
           ∷ record { number = 7; condition = λ x. crcRight (highsOf (x .h4)) && fixed (highsOf (x .h4)) }
           ∷ record { number = 6; condition = λ x. crcRight (highsOf (x .h4)) && not (known (highsOf (x .h4))) }
@@ -218,8 +219,8 @@ pub readC-copes : Copes readC
 unfolding readAnswerC readFieldsC readAnswer readNibbles
 readC-copes =
     record {
-      in-order = λ x. let ns = highsOf (x .h4) in reads-in-order (sized 6 (x .fields)) (sized 16 (x .h4)) (crcRight ns) (fixed ns) (known ns) (fieldsOf ns);
-      untouched = λ x d. ap (λ l. l ∷ []) (reads-untouched (sized 6 (x .fields)) (readAnswer (x .h4)) (x .fields) d);
+      in-order = λ x. let ns = highsOf (x .h4) in reads-in-order (sized 10 (x .fields)) (sized 16 (x .h4)) (crcRight ns) (fixed ns) (known ns) (fieldsOf ns);
+      untouched = λ x d. ap (λ l. l ∷ []) (reads-untouched (sized 10 (x .fields)) (readAnswer (x .h4)) (x .fields) d);
       as-given = λ i k. refl;
       emptied = λ i e. refl;
     }

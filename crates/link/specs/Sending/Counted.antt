@@ -33,13 +33,13 @@ counts-by kind t h first high low =
     (implied (t % 16) 1 (h / 16) (t / 16 % 16) low)
 
 -- the two nibbles of MFI2 in a packet's H4 bytes
-high-sent : (kind : ℕ) (f : Fields) (z : ℕ) → f .epoch < 256 → getD (h4Of (nibblesOf f z)) (lead kind) 0 / 16 ≡ f .epoch / 16
+high-sent : (kind : ℕ) (f : Fields) → f .epoch < 256 → getD (h4Of (nibblesOf f)) (lead kind) 0 / 16 ≡ f .epoch / 16
 unfolding h4Of nibblesOf sealedOf dataOf lead
-high-sent kind f z b = omega arith
+high-sent kind f b = omega arith
 
-low-sent : (kind : ℕ) (f : Fields) (z : ℕ) → f .epoch < 256 → getD (h4Of (nibblesOf f z)) (lead kind + 1) 0 / 16 ≡ f .epoch % 16
+low-sent : (kind : ℕ) (f : Fields) → f .epoch < 256 → getD (h4Of (nibblesOf f)) (lead kind + 1) 0 / 16 ≡ f .epoch % 16
 unfolding h4Of nibblesOf sealedOf dataOf lead
-low-sent kind f z b = omega arith
+low-sent kind f b = omega arith
 
 place-lt : (kind t : ℕ) → placeOf kind t < frames kind
 unfolding placeOf lead frames
@@ -67,18 +67,18 @@ unfolding nibblePlace
 same-place kind a b e = omega arith
 
 -- a packet whose epoch is that of the tag of x: its H4 byte at the tag's place, with its multiframe numbers as sent
-pub counted-as-sent : (kind x : ℕ) (f : Fields) (z : ℕ) (came : List ℕ) → f .epoch < 256 → f .epoch ≡ epochOf kind (tagOf kind x) → CountKept kind (h4Of (nibblesOf f z)) came
+pub counted-as-sent : (kind x : ℕ) (f : Fields) (came : List ℕ) → f .epoch < 256 → f .epoch ≡ epochOf kind (tagOf kind x) → CountKept kind (h4Of (nibblesOf f)) came
     → SentWith kind x (getD came (placeOf kind (tagOf kind x)) 0)
 unfolding nibbleIn
-counted-as-sent kind x f z came b e o =
+counted-as-sent kind x f came b e o =
     let t : ℕ = tagOf kind x in
     let place : ℕ = placeOf kind t in
     counts-by kind t (getD came place 0)
-    (same-place kind (getD came place 0) (getD (h4Of (nibblesOf f z)) place 0) (o .first place (place-lt kind t)) ∙ place-sent (nibblesOf f z) kind t)
+    (same-place kind (getD came place 0) (getD (h4Of (nibblesOf f)) place 0) (o .first place (place-lt kind t)) ∙ place-sent (nibblesOf f) kind t)
     (λ (q : t % 16 ≡ 0).
-    ap (λ (k : ℕ). getD came k 0 / 16) (place-high kind t q) ∙ o .high ∙ high-sent kind f z b ∙ ap (λ (n : ℕ). n / 16) e ∙ epoch-high kind x q)
+    ap (λ (k : ℕ). getD came k 0 / 16) (place-high kind t q) ∙ o .high ∙ high-sent kind f b ∙ ap (λ (n : ℕ). n / 16) e ∙ epoch-high kind x q)
     (λ (q : t % 16 ≡ 1).
-    ap (λ (k : ℕ). getD came k 0 / 16) (place-low kind t q) ∙ o .low ∙ low-sent kind f z b ∙ ap (λ (n : ℕ). n % 16) e ∙ epoch-low kind x q)
+    ap (λ (k : ℕ). getD came k 0 / 16) (place-low kind t q) ∙ o .low ∙ low-sent kind f b ∙ ap (λ (n : ℕ). n % 16) e ∙ epoch-low kind x q)
 
 pub kept-self : (kind : ℕ) (sent : List ℕ) → CountKept kind sent sent
 kept-self kind sent = record { first = λ k b. refl; high = refl; low = refl }
@@ -98,5 +98,5 @@ module _ (h : History) (a : Allowed h) (i slot k : ℕ) (b : slot < h .slots) (l
   pub came-counts : (came : List ℕ) → CountKept (h .kind) (packetSent h i slot) came → SentWith (h .kind) (firstTagOf h + (epochStart h i + k)) (getD came k 0)
   came-counts came o =
       ap (λ (p : ℕ). counts (h .kind) (tagAt h (epochStart h i + k)) (getD came p 0)) (sym (tag-place h i k l))
-      ∙ counted-as-sent (h .kind) (firstTagOf h + (epochStart h i + k)) (fieldsSent h i slot) 0 came (fields-bounds h a i slot b .epoch)
+      ∙ counted-as-sent (h .kind) (firstTagOf h + (epochStart h i + k)) (fieldsSent h i slot) came (fields-bounds h a i slot b .epoch)
       (packet-epoch h a i slot ∙ sym (tag-epoch h i k l)) (rw (packet-is h a i slot b) at o)

@@ -14,7 +14,7 @@ write-refusal-requires : tie.Need-write-refusal-requires
 write-refusal-requires c κs = search needs
 
 returns : tie.Need-returns
-returns c = write-unfit _ _ _ _ _ _ _ _ (sym (c .before .before .are-bytes .ensures) ∙ not-true _ (c .before .if1 .taken)) (c .write-refusal .ensures)
+returns c = write-unfit _ _ _ _ _ _ _ _ _ (sym (c .before .before .are-bytes .ensures) ∙ not-true _ (c .before .if1 .taken)) (c .write-refusal .ensures)
 
 fit : (c : tie.Else1)
     → Bytes (c .before .before .before .args .epoch) (c .before .before .before .args .word) (c .before .before .before .args .gid) (c .before .before .before .args .mst) (c .before .before .before .args .rs-ack) (c .before .before .before .args .sq)
