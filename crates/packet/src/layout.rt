@@ -37,11 +37,7 @@ fn reserved_of(nibbles: [u8; 16]) -> u32
     let mfi1_13 = (nibbles[5] % 16) as u32;
     let beside_gid = (nibbles[11] % 16 / 2) as u32;
     let mfi1_4_and_5 = byte_of(nibbles[12], nibbles[13]) as u32;
-    beside_ack * 8388608
-        + mfi1_11_and_12 * 32768
-        + mfi1_13 * 2048
-        + beside_gid * 256
-        + mfi1_4_and_5
+    beside_ack * 8388608 + mfi1_11_and_12 * 32768 + mfi1_13 * 2048 + beside_gid * 256 + mfi1_4_and_5
 }
 
 pub(crate) fn fields_of(nibbles: [u8; 16]) -> Fields

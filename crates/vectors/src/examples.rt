@@ -46,12 +46,14 @@ fn show_fields(fields: Fields) {
 
 // As four bytes, the highest first.
 fn show_reserved(reserved: u32) {
-    show::bytes(&[
-        (reserved / 16777216) as u8,
-        (reserved / 65536 % 256) as u8,
-        (reserved / 256 % 256) as u8,
-        (reserved % 256) as u8,
-    ]);
+    show::bytes(
+        &[
+            (reserved / 16777216) as u8,
+            (reserved / 65536 % 256) as u8,
+            (reserved / 256 % 256) as u8,
+            (reserved % 256) as u8,
+        ],
+    );
 }
 
 fn data_bits() {

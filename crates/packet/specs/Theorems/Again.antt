@@ -135,7 +135,7 @@ fieldsIn g Fixed = g
 fieldsIn g Unassigned = g
 
 reads : (s : List ℕ) (f : Fields) → readAnswer s ≡ Packet f → Reads s f
-unfolding readAnswer readNibbles
+unfolding readAnswer readNibbles fieldsIn
 reads s f e = go (eqb (length s) 16) (eqb (crcOf (take 14 (highsOf s))) (carriedIn (highsOf s))) (eqb (fieldsOf (highsOf s) .word .0) FIXED) (assigned (fieldsOf (highsOf s) .word)) refl refl refl refl
   where
     go : (l c x a : Bool) → eqb (length s) 16 ≡ l → eqb (crcOf (take 14 (highsOf s))) (carriedIn (highsOf s)) ≡ c → eqb (fieldsOf (highsOf s) .word .0) FIXED ≡ x → assigned (fieldsOf (highsOf s) .word) ≡ a → Reads s f
@@ -143,7 +143,7 @@ reads s f e = go (eqb (length s) 16) (eqb (crcOf (take 14 (highsOf s))) (carried
         record {
           sized = eqb-true (length s) 16 hl;
           right = eqb-true (crcOf (take 14 (highsOf s))) (carriedIn (highsOf s)) hc;
-          is = ap (fieldsIn f) (rw (hl, hc, hx, ha) at e);
+          is = let w : Packet (fieldsOf (highsOf s)) ≡ Packet f = rw (hl, hc, hx, ha) at e in ap (fieldsIn f) w;
           not-fixed = hx;
           known = ha;
         }
