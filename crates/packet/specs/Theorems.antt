@@ -2,7 +2,7 @@
 pub mod Again
 pub mod Damage
 pub mod Distance
-pub mod Only
+pub mod NoSecondAnswer
 pub mod ReadBack
 pub mod RefusesAll
 pub mod Reserved
