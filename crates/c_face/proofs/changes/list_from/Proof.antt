@@ -10,10 +10,10 @@ use Rattle.c_face.proofs.changes.list_from.Statement.{statement}
 use Rattle.c_face.proofs.changes.list_from.Tie as tie
 
 abbrev Inv-loop : tie.InvT-loop
-Inv-loop bytes blank list₀ i₀ list i = (length list₀ ≡ 64) × (i ≤ 64) × Done i (changeFrom bytes) list₀ list
+Inv-loop bytes list₀ i₀ list i = (length list₀ ≡ 64) × (i ≤ 64) × Done i (changeFrom bytes) list₀ list
 
 abbrev μ-loop : tie.MeasureT-loop
-μ-loop bytes blank list₀ i₀ list i = 64 - i
+μ-loop bytes list₀ i₀ list i = 64 - i
 
 change-from-requires : tie.Need-change-from-requires Inv-loop μ-loop
 change-from-requires c κs = search needs
