@@ -12,7 +12,7 @@ use Rattle.packet.specs.Writing.{fitting, writeAnswer, writeBytes}
 use Rattle.conformance.specs.Entries.{Copes, Entry, keepsState}
 use Rattle.payload.specs.Answers.{answerBy, sized, underDone}
 use Rattle.sender.specs.declared.epochs.Sender.{Sender}
-use Rattle.sender.specs.declared.epochs.SenderStep.{SenderStep}
+use Rattle.sender.specs.declared.epochs.SenderOutcome.{SenderOutcome}
 use Rattle.sender.specs.declared.table.Answer.the-variants.{Done, Field, Length, NoSlot, NotAllowed}
 use Rattle.sender.specs.Epochs.{packetAnswer, packetBytes, packetFields, payloadAnswer, payloadBytes, senderStepOf, startEpochOf, startedSender, xOf}
 use Rattle.sender.specs.declared.table.Table.{Table}
@@ -64,12 +64,12 @@ startEpoch-copes =
     never-4 true e f = omega arith
     never-4 false e f = omega arith
 
-    in-order : (s t : Sender) (b : Bool) → answerNumber (cond {A = SenderStep} b (record { sender = t; answer = Done }) (record { sender = s; answer = Field }) .answer) ≡ cond (not b) 8 0
+    in-order : (s t : Sender) (b : Bool) → answerNumber (cond {A = SenderOutcome} b (record { sender = t; answer = Done }) (record { sender = s; answer = Field }) .answer) ≡ cond (not b) 8 0
     in-order s t true = refl
     in-order s t false = refl
 
-    as-given : (s t : Sender) (b : Bool) → keepsState (answerNumber (cond {A = SenderStep} b (record { sender = t; answer = Done }) (record { sender = s; answer = Field }) .answer)) ≡ true
-        → cond {A = SenderStep} b (record { sender = t; answer = Done }) (record { sender = s; answer = Field }) .sender ≡ s
+    as-given : (s t : Sender) (b : Bool) → keepsState (answerNumber (cond {A = SenderOutcome} b (record { sender = t; answer = Done }) (record { sender = s; answer = Field }) .answer)) ≡ true
+        → cond {A = SenderOutcome} b (record { sender = t; answer = Done }) (record { sender = s; answer = Field }) .sender ≡ s
     as-given s t true k = absurd (false≢true k)
     as-given s t false k = refl
 
@@ -210,7 +210,7 @@ pub record SenderInput : Type 0 where
 
 -- the sender with another table
 abbrev over : Sender → Table → Sender
-over s t = record { table = t; going = s .going; ruling = s .ruling; epoch = s .epoch; begun = s .begun; gid = s .gid; mst = s .mst; «rs_ack» = s .«rs_ack» }
+over s t = record { table = t; outgoing = s .outgoing; ruling = s .ruling; epoch = s .epoch; begun = s .begun; gid = s .gid; mst = s .mst; «rs_ack» = s .«rs_ack» }
 
 abbrev pub senderAdd : Entry
 senderAdd =

@@ -14,7 +14,7 @@ use Rattle.console.specs.Output.{ROOM}
 use Rattle.console.specs.declared.replies.Reply.{Reply}
 use Rattle.console.specs.Replies.{repliedOf, replied, replyOf, sizeReply}
 use Rattle.sender.specs.declared.table.Answer.the-variants.{Done, OutOfRange}
-use Rattle.sender.specs.declared.table.Step.{Step}
+use Rattle.sender.specs.declared.table.Outcome.{Outcome}
 use Rattle.sender.specs.declared.table.Table.{Table}
 use Rattle.sender.specs.Commands.{answered, freshOf, startOf}
 use Rattle.sender.specs.Table.{answerNumber, isMember, sizeOf, slotAt}
@@ -102,7 +102,7 @@ finish-copes =
       emptied = λ i e. absurd (fed-never-4 (short (i .out)) _ _ refl refl e);
     }
 
--- A line: 13, then what its command is answered. 'A refused size leaves the board as it stood.'
+-- A line: 13, then what its command is answered. 'A second size starts afresh; a refused one leaves the board as it stood.'
 
 pub record LineInput : Type 0 where
   pub table : Table
@@ -176,7 +176,7 @@ reply =
     }
 
 -- what a size is answered, by what starting gives
-abbrev sizedBy : Table → Step → Reply
+abbrev sizedBy : Table → Outcome → Reply
 sizedBy t r = cond (eqb (answerNumber (r .answer)) 0) (repliedOf r) (replied t (answerNumber (r .answer)))
 
 sized-in-order : (out : Bool) (t none some : Table)

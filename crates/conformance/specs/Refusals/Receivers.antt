@@ -20,7 +20,7 @@ use Rattle.rows.specs.Group.{groupAt, groupOf, groupRow, putGroup}
 use Rattle.rows.specs.Rows.{putRow, rowIn}
 use Rattle.rows.specs.Step.{stepAt}
 use Rattle.step.specs.declared.arrival.Taken.{Taken}
-use Rattle.step.specs.Arrival.{aside, countsOn, flagOf, flagged, joining, keeps, outside, takenOf}
+use Rattle.step.specs.Arrival.{frameDropped, countsOn, flagOf, flagged, joining, keeps, outside, takenOf}
 use Rattle.step.specs.Laws.Arrival.{inWindow, stepped, taken-by}
 
 -- Starting: 4, 9.
@@ -172,7 +172,7 @@ record Answered (i : DecideInput) (t : Taken) : Type 0 where
   full : t .answer ≡ 4 → ⊥
 
 answered : (i : DecideInput) → Answered i (decided i)
-unfolding flagged countsOn aside keeps outside joining
+unfolding flagged countsOn frameDropped keeps outside joining
 answered i =
     taken-by (Answered i) (i .group) (i .step) (i .failed) (i .h4)
     (λ f. record { number = rw f refl; dropped = λ d. refl; stays = λ k. absurd (false≢true k); full = λ e. omega arith })

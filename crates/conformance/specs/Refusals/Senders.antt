@@ -9,7 +9,7 @@ use lib.Dec.{eqb, ltb}
 use lib.ListN.{length}
 use Rattle.c_face.specs.Boards.{bothSized, boardBytesC, boardBytesOf, goingBytesC, ranksBytesC, ranksBytesOf, shownAnswerC, shownBytes}
 use Rattle.c_face.specs.Keeping.{bytesOf, senderOf}
-use Rattle.c_face.specs.Senders.{areThree, isState, outside, packetAnswerC, packetBytesC, payloadAnswerC, payloadBytesC, startAnswerC, startStateC, stepAnswerC, stepStateC}
+use Rattle.c_face.specs.Senders.{areBytes, isState, outside, packetAnswerC, packetBytesC, payloadAnswerC, payloadBytesC, startAnswerC, startStateC, stepAnswerC, stepStateC}
 use Rattle.packet.specs.declared.writer.Writing.the-variants as W
 use Rattle.packet.specs.Kinds.{frames}
 use Rattle.packet.specs.Writing.{fitting, writeAnswer, writeBytes}
@@ -18,7 +18,7 @@ use Rattle.payload.specs.Answers.{answerBy, sized, underDone}
 use Rattle.payload.specs.Order.{memberFrame}
 use Rattle.sender.specs.Board.{boardOf}
 use Rattle.sender.specs.Commands.{addOf, addedTo, answered, freshOf, inOrder, lapseOf, removeOf, removedFrom, startOf, withSlots}
-use Rattle.sender.specs.declared.epochs.SenderStep.{SenderStep}
+use Rattle.sender.specs.declared.epochs.SenderOutcome.{SenderOutcome}
 use Rattle.sender.specs.declared.table.Answer.the-variants.{Done, Field, Length, NoSlot, NotAllowed, OutOfRange}
 use Rattle.sender.specs.declared.table.Table.{Table}
 use Rattle.sender.specs.Epochs.{beginOf, freshSender, packetAnswer, packetBytes, packetFields, payloadAnswer, payloadBytes, rankIn, ranksOf, startEpochOf, startedSender, xOf}
@@ -229,7 +229,7 @@ pub record ThreeInputC : Type 0 where
   pub ack : ℕ
 
 abbrev three : ThreeInputC → Bool
-three i = areThree (i .first) (i .mst) (i .ack)
+three i = areBytes (i .first) (i .mst) (i .ack)
 
 fits-in-order : (l f : Bool) → _≡_ {A = ℕ} (cond l (cond f 0 8) 9) (cond (not l) 9 (cond (not f) 8 0))
 fits-in-order false f = refl
@@ -269,7 +269,7 @@ reportC-copes =
 abbrev fields : ThreeInputC → Bool
 fields i = ltb (i .first) 2 && ltb (i .ack) 2
 
-begins-in-order : (l t f : Bool) (a b : SenderStep) → a .answer ≡ Done → b .answer ≡ Field
+begins-in-order : (l t f : Bool) (a b : SenderOutcome) → a .answer ≡ Done → b .answer ≡ Field
     → cond l (cond t (answerNumber (cond f a b .answer)) 8) 9 ≡ cond (not l) 9 (cond (not (t && f)) 8 0)
 begins-in-order false t f a b p q = refl
 begins-in-order true false f a b p q = refl
@@ -382,7 +382,7 @@ goingC =
     }
 
 pub goingC-copes : Copes goingC
-goingC-copes = shown-copes "levelspruce_sender_board_going" 130 (λ i. boardBytesOf (senderOf (i .state) .going))
+goingC-copes = shown-copes "levelspruce_sender_board_going" 130 (λ i. boardBytesOf (senderOf (i .state) .outgoing))
 
 abbrev pub ranksC : Entry
 ranksC =
