@@ -1,39 +1,39 @@
--- A plan that takes in one candidate more.
+-- The list of chosen candidates that takes in one more.
 use mathlib.Core.Path.{_≡_, refl, sym, ap, _∙_}
-use mathlib.Core.Bool.{Bool, true, false, cond}
+use mathlib.Core.Bool.{Bool, true, false, cond, _&&_}
 use mathlib.Core.List.{List, [], _∷_, _++_, append-nil}
 use Prim.Native.Nat.{ℕ, suc, _+_, _-_, _<_}
 use native.Mathlib.Numerals.{add-one}
 use native.Mathlib.Omega.{arith}
+use lib.Dec.{ltb}
 use lib.ListN.{length, length-append, replicate, set}
 use lib.Seq.{append-snoc, set-append-seam}
 use borrow.Author.Tests.{lt-ltb}
 use Rattle.counting.specs.Laws.Numbers.{count-le}
-use Rattle.paths.specs.declared.answers.Answer.the-variants.{Done}
-use Rattle.paths.specs.declared.planning.Proposal.{Proposal}
+use Rattle.counting.specs.Words.{count}
 use Rattle.paths.specs.Laws.Listing.{length-listed}
-use Rattle.paths.specs.Planning.{inStretch, listed, padded, planWith, withPath}
+use Rattle.paths.specs.Planning.{listed, padded}
 
-count-more : (l : List ℕ) (i : ℕ) → length l + 1 ≡ length (l ++ (i ∷ []))
-count-more l i = sym (length-append l (i ∷ []))
-
-padded-more : (l : List ℕ) (i : ℕ) → length l < 64 → set (padded l) (length l) i ≡ padded (l ++ (i ∷ []))
-padded-more l i h =
+set-more : (l : List ℕ) (i : ℕ) → length l < 64 → set (padded l) (length l) i ≡ padded (l ++ (i ∷ []))
+set-more l i h =
     let m : ℕ = 64 - length (l ++ (i ∷ [])) in
-    let c = count-more l i in
+    let c : length (l ++ (i ∷ [])) ≡ length l + 1 = length-append l (i ∷ []) in
     let e : 64 - length l ≡ suc m = omega arith in
     ap (λ (r : ℕ). set (l ++ replicate r 255) (length l) i) e
     ∙ set-append-seam l 255 (replicate m 255) i
     ∙ sym (append-snoc l i (replicate m 255))
 
-pub plan-more : (l : List ℕ) (chosen : Bool) (i : ℕ) → length l < 64 → withPath (planWith Done l) chosen i ≡ planWith Done (l ++ cond chosen (i ∷ []) [])
-plan-more l true i h = rw (lt-ltb (length l) 64 h) (λ j. record { paths = padded-more l i h j; count = count-more l i j; answer = Done })
-plan-more l false i h = ap (planWith Done) (sym (append-nil l))
+put-more : (l : List ℕ) (chosen : Bool) (at i : ℕ) → length l ≡ at → at < 64
+    → cond (chosen && ltb at 64) (set (padded l) at i) (padded l) ≡ padded (l ++ cond chosen (i ∷ []) [])
+put-more l true at i e h = rw (lt-ltb at 64 h, ← e) (set-more l i (rw e h))
+put-more l false at i e h = ap padded (sym (append-nil l))
 
--- one more turn of the loop that lists the candidates of a stretch
-pub listed-more : (ranks : List ℕ) (first k i : ℕ) (plan next : Proposal) (chosen : Bool) → i < 64 → plan ≡ planWith Done (listed i (inStretch ranks first k))
-    → chosen ≡ inStretch ranks first k i → next ≡ withPath plan chosen i → next ≡ planWith Done (listed (i + 1) (inStretch ranks first k))
-listed-more ranks first k i plan next chosen h p c e =
-    let f : ℕ → Bool = inStretch ranks first k in
-    let few : length (listed i f) < 64 = (let l = count-le i f in let m = length-listed i f in omega arith) in
-    e ∙ rw (p, c, add-one) (plan-more (listed i f) (f i) i few)
+-- one more turn of the loop
+pub listed-more : (f : ℕ → Bool) (i at : ℕ) (paths next : List ℕ) (chosen : Bool) → i < 64 → at ≡ count i f → paths ≡ padded (listed i f)
+    → chosen ≡ f i → next ≡ cond (chosen && ltb at 64) (set paths at i) paths → next ≡ padded (listed (i + 1) f)
+listed-more f i at paths next chosen h c p t e =
+    let few : at < 64 = (let l = count-le i f in omega arith) in
+    let turn : cond (f i && ltb at 64) (set (padded (listed i f)) at i) (padded (listed i f)) ≡ padded (listed (suc i) f) =
+    put-more (listed i f) (f i) at i (length-listed i f ∙ sym c) few in
+    let one : i + 1 ≡ suc i = add-one i in
+    e ∙ rw (p, t) turn ∙ ap (λ (n : ℕ). padded (listed n f)) (sym one)

@@ -1,13 +1,13 @@
 -- The planner: of the candidates in order, the k in a row with the least spread, of several such the first.
 -- So it is always the same set, of the tightest the one with the least delays, and the receiver's window may be smallest.
-use mathlib.Core.Bool.{Bool, cond, _&&_}
+use mathlib.Core.Bool.{Bool, cond}
 use mathlib.Core.List.{List, [], _∷_, _++_}
 use Prim.Native.Nat.{ℕ, zero, suc, _+_, _-_}
 use lib.Dec.{leb, ltb}
-use lib.ListN.{length, getD, replicate, set}
+use lib.ListN.{length, getD, replicate}
 use Rattle.ground.specs.Drawn.{within}
 use Rattle.paths.specs.declared.answers.Answer.{Answer}
-use Rattle.paths.specs.declared.answers.Answer.the-variants.{Done, Range}
+use Rattle.paths.specs.declared.answers.Answer.the-variants.{Done}
 use Rattle.paths.specs.declared.planning.Proposal.{Proposal}
 use Rattle.paths.specs.declared.planning.Stretch.{Stretch}
 use Rattle.paths.specs.Answers.{answerOf, inRange}
@@ -58,10 +58,6 @@ planOf delays k W = planWith (answerOf delays k W) (setOf delays k W)
 -- for the functions behind it
 abbrev pub nothing : Answer → Proposal
 nothing answer = planWith answer []
-
-abbrev pub withPath : Proposal → Bool → ℕ → Proposal
-withPath p chosen i =
-    cond (chosen && ltb (p .count) 64) (record { paths = set (p .paths) (p .count) i; count = p .count + 1; answer = p .answer }) p
 
 unfoldable pub listedPlan : List ℕ → ℕ → ℕ → ℕ → Proposal
 listedPlan ranks n first k = planWith Done (listed n (inStretch ranks first k))

@@ -4,6 +4,7 @@ use crate::answers::Answer;
 use crate::order;
 ghost use mathlib.Core.Path.{_≡_};
 ghost use Prim.Native.Nat.{_≤_, _<_};
+ghost use lib.Dec.{ltb};
 ghost use lib.ListN.{length};
 ghost use Rattle.paths.specs.Checking.{accepts, agree, agreesWith, apart, checkedOf};
 
@@ -17,6 +18,12 @@ fn apart(x: u32, y: u32) -> u32
     ensures { λ r. ⌜ r ≡ apart x y ⌝ }
 {
     if x < y { y - x } else { x - y }
+}
+
+fn is_named(delays: &[u32], path: u8) -> bool
+    ensures { λ r. ⌜ r ≡ ltb path (length (now (delays .entry))) ⌝ }
+{
+    (path as usize) < delays.len()
 }
 
 // Two entries name different candidates, no further apart than the room.
@@ -52,7 +59,7 @@ fn is_accepted(delays: &[u32], k: usize, room: u32, set: &[u8]) -> bool
     let mut all = true;
     let mut a = 0;
     while a < set.len() {
-        all = all & (((set[a] as usize) < delays.len()) & agrees(delays, set, a, room));
+        all = all & (is_named(delays, set[a]) & agrees(delays, set, a, room));
         a += 1;
     }
     all

@@ -3,10 +3,12 @@ use crate::answers;
 use crate::answers::Answer;
 use crate::order;
 ghost use mathlib.Core.Path.{_≡_};
+ghost use mathlib.Core.Bool.{cond, _&&_};
 ghost use Prim.Native.Nat.{_+_, _-_, _≤_, _<_};
-ghost use lib.ListN.{length};
+ghost use lib.Dec.{ltb};
+ghost use lib.ListN.{length, set};
 ghost use Rattle.ground.specs.Drawn.{within};
-ghost use Rattle.paths.specs.Planning.{listedPlan, nothing, planOf, proposedPlan, stretchFrom, tighter, tightest, withPath};
+ghost use Rattle.paths.specs.Planning.{listedPlan, nothing, planOf, proposedPlan, stretchFrom, tighter, tightest};
 
 pub struct Proposal {
     // the chosen candidates' numbers, rising, then 255
@@ -75,20 +77,14 @@ fn is_within(rank: u8, first: usize, k: usize) -> bool
     (first <= rank as usize) & ((rank as usize) < first + k)
 }
 
-fn with_path(plan: Proposal, chosen: bool, path: u8) -> Proposal
-    ensures { λ r. ⌜ r ≡ withPath plan chosen path ⌝ }
+fn put_path(paths: [u8; 64], at: u8, chosen: bool, path: u8) -> [u8; 64]
+    ensures { λ r. ⌜ r ≡ cond (chosen && ltb at 64) (set paths at path) paths ⌝ }
 {
-    if chosen & (plan.count < 64) {
-        let mut paths = plan.paths;
-        paths[plan.count as usize] = path;
-        Proposal {
-            paths,
-            count: plan.count + 1,
-            answer: plan.answer,
-        }
-    } else {
-        plan
+    let mut next = paths;
+    if chosen & (at < 64) {
+        next[at as usize] = path;
     }
+    next
 }
 
 // The candidates whose ranks are the k from the first on.
@@ -96,15 +92,21 @@ fn listed(ranks: [u8; 64], n: usize, first: usize, k: usize) -> Proposal
     requires { ⌜ (n ≤ 64) × (first + k ≤ 128) ⌝ }
     ensures { λ r. ⌜ r ≡ listedPlan ranks n first k ⌝ }
 {
-    let mut plan = none_with(Answer::Done);
+    let mut paths = [255; 64];
+    let mut count = 0;
     let mut i = 0;
     while i < n {
         let chosen = is_within(ranks[i], first, k);
-        let next = with_path(plan, chosen, i as u8);
-        plan = next;
+        let next = put_path(paths, count, chosen, i as u8);
+        paths = next;
+        count += order::one_if(chosen);
         i += 1;
     }
-    plan
+    Proposal {
+        paths,
+        count,
+        answer: Answer::Done,
+    }
 }
 
 fn proposed(delays: &[u32], k: usize, room: u32) -> Proposal

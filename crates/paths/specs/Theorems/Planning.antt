@@ -251,7 +251,7 @@ module _ (delays : List ℕ) (k W : ℕ) (done : numberOf (answerOf delays k W) 
       let l : spread ≤ own + 16 - 16 = least-good delays k (z .few) (z .one) (z .enough) (own + 16) set closer in
       let w : spread ≤ W - 16 = least-good delays k (z .few) (z .one) (z .enough) W set g in
       let m : spreadOf delays (setOf delays k W) ≤ spread =
-      rw (set-is w) (spread-least delays _ spread (tight-within delays k (z .few) (z .one) (z .enough))) in
+      rw (set-is w) (spread-least delays (listed (length delays) (inStretch (ranksOf delays) (tightestOf delays k .first) k)) spread (tight-within delays k (z .few) (z .one) (z .enough))) in
       omega arith
 
   -- A plan's bytes: k of them, or none; they are the set, and they rise.
