@@ -1,5 +1,6 @@
 pub mod Entries
 pub mod Examples
 pub mod Hosts
+pub mod Joining
 pub mod Refusals
 pub mod Rows
