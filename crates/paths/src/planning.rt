@@ -42,7 +42,11 @@ fn stretch_from(sorted: [u32; 64], far: usize, first: usize) -> Stretch
 fn tighter(one: Stretch, other: Stretch) -> Stretch
     ensures { λ r. ⌜ r ≡ tighter one other ⌝ }
 {
-    if other.spread < one.spread { other } else { one }
+    if other.spread < one.spread {
+        other
+    } else {
+        one
+    }
 }
 
 fn tightest(sorted: [u32; 64], far: usize, starts: usize) -> Stretch
