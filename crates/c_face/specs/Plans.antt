@@ -1,5 +1,5 @@
 -- The planner and the check for C: their own answer, then 9 where the result's buffer has another length. Under a refusal the buffer stays.
-use mathlib.Core.Bool.{Bool, cond}
+use mathlib.Core.Bool.{cond}
 use mathlib.Core.List.{List, [], _∷_}
 use Prim.Native.Nat.{ℕ}
 use lib.Dec.{eqb}

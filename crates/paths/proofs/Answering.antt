@@ -1,10 +1,9 @@
 -- Each way out of the planner and of the check.
 use mathlib.Core.Path.{_≡_, refl, ap, sym, _∙_}
 use mathlib.Core.Bool.{Bool, true, false, cond}
-use mathlib.Core.List.{List, []}
-use Prim.Native.Nat.{ℕ, suc, _+_, _-_, _≤_, _<_}
+use mathlib.Core.List.{List}
+use Prim.Native.Nat.{ℕ, _+_, _-_, _≤_, _<_}
 use native.Mathlib.Omega.{arith}
-use lib.Dec.{leb}
 use lib.ListN.{length}
 use borrow.Author.Tests.{le-leb, lt-leb}
 use Rattle.paths.specs.declared.answers.Answer.{Answer}
@@ -17,7 +16,7 @@ use Rattle.paths.specs.Checking.{accepts, checkedOf}
 use Rattle.paths.specs.Laws.Answers.{Sized, done-in, in-sizes}
 use Rattle.paths.specs.Laws.Stretches.{tightest-first}
 use Rattle.paths.specs.Order.{ranksOf, sortedBy}
-use Rattle.paths.specs.Planning.{inStretch, listed, listedPlan, nothing, planOf, planWith, proposed, proposedPlan, setOf, tightest, tightestOf}
+use Rattle.paths.specs.Planning.{listedPlan, nothing, planOf, proposed, proposedPlan, setOf, tightest, tightestOf}
 
 range-out : (delays : List ℕ) (k W : ℕ) → answerOf delays k W ≡ Range → inRange delays k W ≡ false
 unfolding answerOf

@@ -7,11 +7,10 @@ use lib.Dec.{eqb, leb, ltb}
 use lib.ListN.{length}
 use Rattle.counting.specs.Words.{every}
 use Rattle.ground.specs.Circle.{after}
-use Rattle.paths.specs.Answers.{areShort}
 use Rattle.paths.specs.Checking.{accepts, agree, agreesWith, apart}
 use Rattle.paths.specs.Order.{candidateAt, rankOf, ranksOf, sortedBy}
 use Rattle.paths.specs.Paths.{delayAt, pathAt}
-use Rattle.paths.specs.Planning.{proposed, setOf, stretchFrom, tightestOf}
+use Rattle.paths.specs.Planning.{proposed, stretchFrom, tightestOf}
 
 -- A spread of W in place of W-16: with W 16, delays 0 and 16 are accepted.
 wrong-room : List ℕ → ℕ → ℕ → List ℕ → Bool

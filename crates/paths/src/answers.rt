@@ -1,7 +1,6 @@
 // What the planner and the check refuse, both alike: 4, 'before any search'.
 ghost use mathlib.Core.Path.{_≡_};
 ghost use mathlib.Core.Bool.{cond};
-ghost use lib.ListN.{length};
 ghost use Rattle.paths.specs.Answers.{answerOf, areShort, numberOf, sized};
 
 pub enum Answer {

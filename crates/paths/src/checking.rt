@@ -3,7 +3,7 @@ use crate::answers;
 use crate::answers::Answer;
 use crate::order;
 ghost use mathlib.Core.Path.{_≡_};
-ghost use Prim.Native.Nat.{_≤_, _<_};
+ghost use Prim.Native.Nat.{_<_};
 ghost use lib.Dec.{ltb};
 ghost use lib.ListN.{length};
 ghost use Rattle.paths.specs.Checking.{accepts, agree, agreesWith, apart, checkedOf};

@@ -2,17 +2,14 @@
 use mathlib.Core.Path.{_≡_, refl}
 use mathlib.Core.Bool.{Bool, true, false, cond, _&&_}
 use mathlib.Core.List.{List}
-use Prim.Native.Nat.{ℕ, _≤_, _<_}
+use Prim.Native.Nat.{ℕ, _≤_}
 use native.Mathlib.Omega.{arith}
 use lib.Dec.{leb}
 use lib.ListN.{length}
-use borrow.Author.Tests.{le-leb, leb-true}
-use Rattle.counting.specs.Laws.Tests.{every-all, every-at}
-use Rattle.ground.specs.Truth.{and-true, and-left, and-right}
-use Rattle.paths.specs.declared.answers.Answer.{Answer}
+use borrow.Author.Tests.{leb-true}
+use Rattle.ground.specs.Truth.{and-left, and-right}
 use Rattle.paths.specs.declared.answers.Answer.the-variants.{Done, Range}
 use Rattle.paths.specs.Answers.{answerOf, areShort, inRange, numberOf, sized}
-use Rattle.paths.specs.Paths.{delayAt}
 
 pub record Sized (n k W : ℕ) : Type 0 where
   pub few : n ≤ 64
@@ -21,7 +18,7 @@ pub record Sized (n k W : ℕ) : Type 0 where
   pub low : 16 ≤ W
   pub high : W ≤ 2048
 
-pub sizes : (n k W : ℕ) → sized n k W ≡ true → Sized n k W
+sizes : (n k W : ℕ) → sized n k W ≡ true → Sized n k W
 sizes n k W e =
     let d = and-left (leb n 64 && leb 1 k && leb k n && leb 16 W) (leb W 2048) e in
     let c = and-left (leb n 64 && leb 1 k && leb k n) (leb 16 W) d in
@@ -34,26 +31,9 @@ sizes n k W e =
       high = leb-true W 2048 (and-right (leb n 64 && leb 1 k && leb k n && leb 16 W) (leb W 2048) e);
     }
 
-pub sizes-in : (n k W : ℕ) → Sized n k W → sized n k W ≡ true
-sizes-in n k W s = rw (le-leb n 64 (s .few), le-leb 1 k (s .one), le-leb k n (s .enough), le-leb 16 W (s .low), le-leb W 2048 (s .high))
-
--- nothing is out of range exactly where the sizes are right and no delay is above 4,095
 pub in-sizes : (delays : List ℕ) (k W : ℕ) → inRange delays k W ≡ true → Sized (length delays) k W
 in-sizes delays k W e = sizes (length delays) k W (and-left (sized (length delays) k W) (areShort delays) e)
 
-pub in-short : (delays : List ℕ) (k W : ℕ) → inRange delays k W ≡ true → (i : ℕ) → i < length delays → delayAt delays i ≤ 4095
-unfolding areShort
-in-short delays k W e i h =
-    leb-true (delayAt delays i) 4095
-    (every-at (length delays) (λ j. leb (delayAt delays j) 4095) (and-right (sized (length delays) k W) (areShort delays) e) i h)
-
-pub in-range : (delays : List ℕ) (k W : ℕ) → Sized (length delays) k W → ((i : ℕ) → i < length delays → delayAt delays i ≤ 4095) → inRange delays k W ≡ true
-unfolding areShort
-in-range delays k W s short =
-    and-true _ _ (sizes-in (length delays) k W s)
-    (every-all (length delays) (λ j. leb (delayAt delays j) 4095) (λ i h. le-leb (delayAt delays i) 4095 (short i h)))
-
--- the answer is 0 exactly there
 pub done-in : (delays : List ℕ) (k W : ℕ) → numberOf (answerOf delays k W) ≡ 0 → inRange delays k W ≡ true
 unfolding answerOf
 done-in delays k W = go (inRange delays k W)
@@ -61,7 +41,3 @@ done-in delays k W = go (inRange delays k W)
     go : (b : Bool) → numberOf (cond b Done Range) ≡ 0 → b ≡ true
     go true e = refl
     go false e = absurd (omega arith)
-
-pub in-done : (delays : List ℕ) (k W : ℕ) → inRange delays k W ≡ true → answerOf delays k W ≡ Done
-unfolding answerOf
-in-done delays k W e = rw e

@@ -1,8 +1,8 @@
 -- The check accepts exactly the good sets: 'only if it names k different candidates within that spread, and .. every such set'.
 -- Of every list: long, short, with repeats and with numbers of no candidate.
-use mathlib.Core.Path.{_≡_, refl, sym, _∙_}
+use mathlib.Core.Path.{_≡_, refl, sym}
 use mathlib.Core.Logic.{⊎-elim, _≢_}
-use mathlib.Core.Bool.{Bool, true, false, cond, not, _&&_}
+use mathlib.Core.Bool.{Bool, true, false, cond, not}
 use mathlib.Core.List.{List}
 use Prim.Native.Nat.{ℕ, _+_, _-_, _≤_, _<_}
 use native.Mathlib.Omega.{arith}
@@ -11,7 +11,7 @@ use lib.ListN.{length}
 use borrow.Author.Tests.{eq-eqb, eqb-true, eqb-false, ne-eqb, le-leb, leb-true, lt-ltb, ltb-true, ltb-false, not-true}
 use Rattle.counting.specs.Laws.Tests.{every-all, every-at}
 use Rattle.counting.specs.Words.{every}
-use Rattle.ground.specs.Truth.{and-true, and-left, and-right, cond-by, eq-or-ne, le-or-lt}
+use Rattle.ground.specs.Truth.{and-true, and-left, and-right, cond-by, le-or-lt}
 use Rattle.paths.specs.Checking.{accepts, agree, agreesWith, apart, fits}
 use Rattle.paths.specs.Paths.{Good, delayAt, pathAt}
 

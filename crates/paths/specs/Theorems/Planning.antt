@@ -8,15 +8,15 @@ use native.Mathlib.Omega.{arith}
 use lib.Dec.{eqb, leb}
 use lib.ListN.{length, getD, take}
 use lib.Seq.{take-append-seam}
-use borrow.Author.Tests.{eq-eqb, le-leb, lt-leb, leb-true, leb-false}
+use borrow.Author.Tests.{eq-eqb, le-leb, lt-leb}
 use Rattle.counting.specs.Laws.Numbers.{count-le}
 use Rattle.counting.specs.Laws.Ranks.{Apart, Top, count-taken, some-top, taken}
 use Rattle.counting.specs.Laws.Tests.{some-at}
 use Rattle.counting.specs.Words.{count}
-use Rattle.ground.specs.Drawn.{within, within-said, within-true}
-use Rattle.ground.specs.Truth.{and-true, and-left, and-right, clash, le-or-lt}
+use Rattle.ground.specs.Drawn.{within-said, within-true}
+use Rattle.ground.specs.Truth.{and-true, le-or-lt}
 use Rattle.paths.specs.Answers.{answerOf, inRange, numberOf}
-use Rattle.paths.specs.Checking.{accepts, checkedOf}
+use Rattle.paths.specs.Checking.{checkedOf}
 use Rattle.paths.specs.Laws.Answers.{Sized, done-in, in-sizes}
 use Rattle.paths.specs.Laws.Listing.{length-listed, listed-apart, listed-at, listed-rises}
 use Rattle.paths.specs.Laws.Ranks.{candidate, candidate-below, candidate-rank, count-every, rank-apart, rank-below, rank-order, ranks-at, sorted-at}
@@ -227,8 +227,9 @@ module _ (delays : List ℕ) (k W : ℕ) (done : numberOf (answerOf delays k W) 
   sound some = ⊎-elim (λ (l : spread ≤ W - 16). some-good l) (λ (l : W - 16 < spread). absurd (some (set-none l))) (le-or-lt spread (W - 16))
 
   -- so the check accepts it
-  pub accepted : (setOf delays k W ≡ [] → ⊥) → accepts delays k (W - 16) (setOf delays k W) ≡ true
-  accepted some = good-accepts delays k W (setOf delays k W) (sound some)
+  pub accepted : (setOf delays k W ≡ [] → ⊥) → checkedOf delays k W (setOf delays k W) .accepted ≡ true
+  unfolding checkedOf
+  accepted some = rw ranged (good-accepts delays k W (setOf delays k W) (sound some))
 
   -- 'The planner says none exactly if no such set exists.'
   pub none-says : setOf delays k W ≡ [] → (set : List ℕ) → Good delays k W set → ⊥

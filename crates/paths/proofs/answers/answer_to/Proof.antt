@@ -1,4 +1,3 @@
-use mathlib.Core.Path.{_∙_}
 use Rattle.paths.specs.Answers.{answerOf}
 use borrow.Author.Needs.{needs}
 use Rattle.paths.proofs.answers.answer_to.Statement.{statement}

@@ -1,7 +1,5 @@
-use mathlib.Core.Path.{_≡_}
-use Prim.Native.Nat.{_+_, _≤_, _-_}
+use Prim.Native.Nat.{_-_}
 use native.Mathlib.Omega.{arith}
-use lib.ListN.{length}
 use Rattle.paths.proofs.Answering.{proposed-none, proposed-some, stretch-fits}
 use borrow.Author.Needs.{needs}
 use Rattle.paths.proofs.planning.proposed.Statement.{statement}
