@@ -7,7 +7,11 @@ use lib.ListN.{length, getD, set}
 use borrow.Author.Tests.{eq-eqb, ne-eqb}
 use Rattle.ground.specs.Drawn.{Filling, fillAt, fillAt-ext, filling, filling-all, filling-piece}
 use Rattle.ground.specs.Table.{tabulate, tabulate-self}
+use Rattle.paths.specs.Answers.{answerOf, numberOf}
+use Rattle.paths.specs.Checking.{checkedOf}
+use Rattle.paths.specs.declared.checking.Checked.{Checked}
 use Rattle.paths.specs.declared.planning.Proposal.{Proposal}
+use Rattle.paths.specs.Planning.{planOf}
 use Rattle.c_face.specs.Plans.{lentAnswer, lentBytes, planBytesOf}
 
 module _ (p : Proposal) where
@@ -30,18 +34,28 @@ module _ (p : Proposal) where
       let n : length (planBytesOf p) ≡ 65 = ap suc m in
       filling-all B l ∙ ap (λ (n : ℕ). tabulate n byte) (sym n) ∙ tabulate-self (planBytesOf p) 0
 
-module _ (number size : ℕ) (new out : List ℕ) where
-  pub lent-refused : (number ≡ 0 → ⊥) → (number ≡ lentAnswer number size out) × (out ≡ lentBytes number size new out)
-  unfolding lentAnswer lentBytes
-  lent-refused d = rw (ne-eqb number 0 d) (refl, refl)
+-- the answer's number, by way of what the library's call returns
+pub plan-number : (delays : List ℕ) (k W : ℕ) (p : Proposal) (m : ℕ) → m ≡ numberOf (p .answer) → p ≡ planOf delays k W → m ≡ numberOf (answerOf delays k W)
+unfolding planOf
+plan-number delays k W p m e is = e ∙ ap (λ (q : Proposal). numberOf (q .answer)) is
 
-  pub lent-short : number ≡ 0 → (length out ≡ size → ⊥) → (9 ≡ lentAnswer number size out) × (out ≡ lentBytes number size new out)
-  unfolding lentAnswer lentBytes
-  lent-short z d = rw (eq-eqb number 0 z, ne-eqb (length out) size d) (refl, refl)
+pub check-number : (delays : List ℕ) (k W : ℕ) (set : List ℕ) (r : Checked) (m : ℕ) → m ≡ numberOf (r .answer) → r ≡ checkedOf delays k W set
+    → m ≡ numberOf (answerOf delays k W)
+unfolding checkedOf
+check-number delays k W set r m e is = e ∙ ap (λ (q : Checked). numberOf (q .answer)) is
 
-  pub lent-done : number ≡ 0 → length out ≡ size → (left : List ℕ) → left ≡ new → (0 ≡ lentAnswer number size out) × (left ≡ lentBytes number size new out)
+module _ (m number size : ℕ) (new out : List ℕ) (e : m ≡ number) where
+  pub lent-refused : (m ≡ 0 → ⊥) → (m ≡ lentAnswer number size out) × (out ≡ lentBytes number size new out)
   unfolding lentAnswer lentBytes
-  lent-done z l left e = rw (eq-eqb number 0 z, eq-eqb (length out) size l) (refl, e)
+  lent-refused d = rw (← e, ne-eqb m 0 d) (refl, refl)
+
+  pub lent-short : m ≡ 0 → (length out ≡ size → ⊥) → (9 ≡ lentAnswer number size out) × (out ≡ lentBytes number size new out)
+  unfolding lentAnswer lentBytes
+  lent-short z d = rw (← e, eq-eqb m 0 z, ne-eqb (length out) size d) (refl, refl)
+
+  pub lent-done : m ≡ 0 → length out ≡ size → (left : List ℕ) → left ≡ new → (0 ≡ lentAnswer number size out) × (left ≡ lentBytes number size new out)
+  unfolding lentAnswer lentBytes
+  lent-done z l left f = rw (← e, eq-eqb m 0 z, eq-eqb (length out) size l) (refl, f)
 
 -- a buffer of one byte, written
 pub one-byte : (out : List ℕ) (v w : ℕ) → length out ≡ 1 → v ≡ w → set out 0 v ≡ w ∷ []
