@@ -4,3 +4,4 @@ pub mod Hosts
 pub mod Joining
 pub mod Refusals
 pub mod Rows
+pub mod Wrong
