@@ -9,19 +9,16 @@ const MARGIN: usize = 16;
 
 pub fn compare(count: &mut Count) {
     let mut random = Random::new(9);
-    let mut test = Test::new("plans of up to 12 paths, every set tried");
-    for _ in 0..20000 {
-        let case = drawn(&mut random, 12);
-        plan(&mut test, &mut random, &case, PLAN_BYTES);
+    for (name, most) in [("plans of up to 12 paths, every set tried", 12), ("plans of up to 64 paths, by a sliding window", 64)] {
+        let mut test = Test::new(name);
+        let mut times = [0u64; 2];
+        for _ in 0..20000 {
+            let case = drawn(&mut random, most);
+            times[usize::from(plan(&mut test, &mut random, &case, PLAN_BYTES))] += 1;
+        }
+        test.end(count, &[0]);
+        both(count, "proposed", &times);
     }
-    test.end(count, &[0]);
-
-    let mut test = Test::new("plans of up to 64 paths, by a sliding window");
-    for _ in 0..20000 {
-        let case = drawn(&mut random, 64);
-        plan(&mut test, &mut random, &case, PLAN_BYTES);
-    }
-    test.end(count, &[0]);
 
     let mut test = Test::new("plans and checks with any numbers and lengths");
     for _ in 0..40000 {
@@ -51,10 +48,15 @@ pub fn compare(count: &mut Count) {
             times[usize::from(check(&mut test, &mut random, &case, &near, 1))] += 1;
         }
     }
-    println!("accepted\ttimes\t{}", times[1]);
-    println!("not accepted\ttimes\t{}", times[0]);
     test.end(count, &[0]);
-    count.note("sets are accepted a thousand times, and not accepted a thousand times", times.iter().all(|n| *n >= 1000));
+    both(count, "accepted", &times);
+}
+
+/// A test shows little where nearly all sets come out alike.
+fn both(count: &mut Count, what: &str, times: &[u64; 2]) {
+    println!("{}\ttimes\t{}", what, times[1]);
+    println!("not {}\ttimes\t{}", what, times[0]);
+    count.note(&format!("{} a thousand times, and not a thousand times", what), times.iter().all(|n| *n >= 1000));
 }
 
 #[derive(Debug)]
@@ -114,13 +116,16 @@ fn steps_from(random: &mut Random, set: &[u8], n: usize) -> Vec<Vec<u8>> {
     sets
 }
 
-fn plan(test: &mut Test, random: &mut Random, case: &Case, length: usize) {
+/// Whether a set is proposed.
+fn plan(test: &mut Test, random: &mut Random, case: &Case, length: usize) -> bool {
     let mut expected = vec![0u8; MARGIN + length + MARGIN];
     random.fill(&mut expected);
     let mut by_card = expected.clone();
     let answer = paths::plan(&case.delays, case.k, case.window, &mut expected[MARGIN..MARGIN + length]);
     let card_answer = card::paths_plan(&case.delays, case.k, case.window, &mut by_card[MARGIN..MARGIN + length]);
+    let proposed = answer == 0 && expected[MARGIN] > 0;
     test.case(answer, &(answer, expected), &(card_answer, by_card), case);
+    proposed
 }
 
 /// Whether the set is accepted.
