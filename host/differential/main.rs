@@ -6,6 +6,7 @@ mod count;
 mod packets;
 mod path;
 mod payloads;
+mod plans;
 mod random;
 mod receivers;
 mod senders;
@@ -14,6 +15,7 @@ fn main() {
     let mut count = count::Count::default();
     packets::compare(&mut count);
     payloads::compare(&mut count);
+    plans::compare(&mut count);
     senders::compare(&mut count);
     boards::compare(&mut count);
     receivers::compare(&mut count);

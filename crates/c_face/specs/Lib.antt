@@ -3,6 +3,7 @@ pub mod Changes
 pub mod Keeping
 pub mod Packets
 pub mod Payloads
+pub mod Plans
 pub mod Receivers
 pub mod Senders
 pub mod Theorems

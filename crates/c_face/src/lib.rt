@@ -4,5 +4,6 @@ mod changes;
 mod keeping;
 mod packets;
 mod payloads;
+mod plans;
 mod receivers;
 mod senders;
