@@ -73,6 +73,8 @@ extern "C" {
 #define LEVELSPRUCE_SENDER_BYTES 397 /* a sender's state */
 #define LEVELSPRUCE_BOARD_BYTES 130 /* a sender's board */
 #define LEVELSPRUCE_RANKS_BYTES 68  /* the ranks of an epoch */
+#define LEVELSPRUCE_CHANGES_BYTES 322 /* the changes between two boards */
+#define LEVELSPRUCE_SPEECH_BYTES 2188 /* the lines of any changes, at most */
 #define LEVELSPRUCE_ROW_BYTES 16    /* a row of a receiver's state */
 #define LEVELSPRUCE_REPORT_BYTES 8  /* the record of a report */
 #define LEVELSPRUCE_PORT_BYTES 8    /* what is shown of a port */
@@ -113,6 +115,20 @@ extern "C" {
 #define LEVELSPRUCE_BOARD_COUNT 0
 #define LEVELSPRUCE_BOARD_WAIT 1
 #define LEVELSPRUCE_BOARD_ROWS 2
+
+/* The bytes of changes: how many there are, what the wait does, and from
+ * ROWS + 5 * k on change k, whose bytes have these places. */
+#define LEVELSPRUCE_CHANGES_COUNT 0
+#define LEVELSPRUCE_CHANGES_WAIT 1
+#define LEVELSPRUCE_CHANGES_ROWS 2
+#define LEVELSPRUCE_CHANGE_SLOT 0
+#define LEVELSPRUCE_CHANGE_OLD_WORD 1
+#define LEVELSPRUCE_CHANGE_OLD_NUMBER 2
+#define LEVELSPRUCE_CHANGE_NEW_WORD 3
+#define LEVELSPRUCE_CHANGE_NEW_NUMBER 4
+#define LEVELSPRUCE_WAIT_SAME 0
+#define LEVELSPRUCE_WAIT_OPENED 1
+#define LEVELSPRUCE_WAIT_CLOSED 2
 
 /* The bytes of an epoch's ranks: slot s has its rank at EACH + s. */
 #define LEVELSPRUCE_RANKS_COUNT 0
@@ -393,6 +409,73 @@ uint8_t levelspruce_sender_board_going(const uint8_t *state,
  */
 uint8_t levelspruce_sender_ranks(const uint8_t *state, size_t state_length,
                                  uint8_t *ranks, size_t ranks_length);
+
+/*
+ * The spoken board: for a console that tells what changes. A board to be told
+ * is one going out, read whole by levelspruce_sender_board_going after the
+ * start of an epoch: it stays as it is until the next start, so no list of
+ * changes mixes two orders. The board as it stands now may come and go in
+ * between.
+ */
+
+/*
+ * Lists what has changed from one board to another: each slot whose word or
+ * number differs, once, in slot order, with its old and its new word and
+ * number, and whether a wait has opened or closed. Slots past the count are
+ * not looked at. Any byte but 0 is an open wait.
+ *
+ *   before, after   two boards, LEVELSPRUCE_BOARD_BYTES bytes each
+ *   changes         LEVELSPRUCE_CHANGES_BYTES bytes, by the
+ *                   LEVELSPRUCE_CHANGES_ and LEVELSPRUCE_CHANGE_ places
+ *
+ * Answers, the first that fits:
+ *   9  a length is wrong
+ *   4  the boards' counts differ, or are above 64
+ *   0  all of changes is written, 0 behind the last change
+ */
+uint8_t levelspruce_board_changes(const uint8_t *before, size_t before_length,
+                                  const uint8_t *after, size_t after_length,
+                                  uint8_t *changes, size_t changes_length);
+
+/*
+ * Applies changes to a board: those of levelspruce_board_changes(before,
+ * after) make the board before the board after. Every change is held to the
+ * board as it stood before the first, and none is applied where one does not
+ * fit. Bytes behind the last change are not looked at.
+ *
+ *   board     LEVELSPRUCE_BOARD_BYTES bytes
+ *   changes   LEVELSPRUCE_CHANGES_BYTES bytes
+ *
+ * Answers, the first that fits:
+ *   9  a length is wrong
+ *   2  the changes do not fit the board: more than 64, a slot not below the
+ *      count or not above the slot before it, an old word or number that is
+ *      not the board's, a change to the same, a wait that opens though it is
+ *      open or closes though none is, a wait above 2, or a count above 64
+ *   0  the board is the new one
+ */
+uint8_t levelspruce_board_apply(uint8_t *board, size_t board_length,
+                                const uint8_t *changes, size_t changes_length);
+
+/*
+ * Writes changes as lines, for speech and braille: one change a line, fields
+ * parted by tabs, as 'slot 3 was NORM 2 now EOS 2' (spaces standing for tabs),
+ * then 'wait open' or 'wait closed'. Where nothing has changed there is no
+ * line. Each line has its end; no byte 0 is written.
+ *
+ *   changes   LEVELSPRUCE_CHANGES_BYTES bytes
+ *   text      LEVELSPRUCE_SPEECH_BYTES bytes or more; the lines stand at its
+ *             front, and the rest stays
+ *   written   how many bytes the lines take
+ *
+ * Answers, the first that fits:
+ *   9  changes_length is wrong, or text_length below LEVELSPRUCE_SPEECH_BYTES
+ *   2  the changes fit no board at all, or have a word that no board shows
+ *   0  the lines and written are written
+ */
+uint8_t levelspruce_board_speak(const uint8_t *changes, size_t changes_length,
+                                uint8_t *text, size_t text_length,
+                                size_t *written);
 
 /*
  * The receiver. The host lends the calls

@@ -35,6 +35,13 @@ extern "C" {
     fn levelspruce_sender_board(state: *const u8, state_length: usize, board: *mut u8, board_length: usize) -> u8;
     fn levelspruce_sender_board_going(state: *const u8, state_length: usize, board: *mut u8, board_length: usize) -> u8;
     fn levelspruce_sender_ranks(state: *const u8, state_length: usize, ranks: *mut u8, ranks_length: usize) -> u8;
+    fn levelspruce_board_changes(
+        before: *const u8, before_length: usize, after: *const u8, after_length: usize, changes: *mut u8, changes_length: usize,
+    ) -> u8;
+    fn levelspruce_board_apply(board: *mut u8, board_length: usize, changes: *const u8, changes_length: usize) -> u8;
+    fn levelspruce_board_speak(
+        changes: *const u8, changes_length: usize, text: *mut u8, text_length: usize, written: *mut usize,
+    ) -> u8;
     fn levelspruce_receiver_start(
         ports: u32, payload: u32, window: u32, store_bytes: usize, state: *mut Row, state_length: usize,
     ) -> u8;
@@ -124,6 +131,20 @@ pub fn sender_board_going(state: &[u8], board: &mut [u8]) -> u8 {
 
 pub fn sender_ranks(state: &[u8], ranks: &mut [u8]) -> u8 {
     unsafe { levelspruce_sender_ranks(state.as_ptr(), state.len(), ranks.as_mut_ptr(), ranks.len()) }
+}
+
+pub fn board_changes(before: &[u8], after: &[u8], changes: &mut [u8]) -> u8 {
+    unsafe {
+        levelspruce_board_changes(before.as_ptr(), before.len(), after.as_ptr(), after.len(), changes.as_mut_ptr(), changes.len())
+    }
+}
+
+pub fn board_apply(board: &mut [u8], changes: &[u8]) -> u8 {
+    unsafe { levelspruce_board_apply(board.as_mut_ptr(), board.len(), changes.as_ptr(), changes.len()) }
+}
+
+pub fn board_speak(changes: &[u8], text: &mut [u8], written: &mut usize) -> u8 {
+    unsafe { levelspruce_board_speak(changes.as_ptr(), changes.len(), text.as_mut_ptr(), text.len(), written) }
 }
 
 pub fn receiver_start(ports: u32, payload: u32, window: u32, store_bytes: usize, state: &mut [Row]) -> u8 {

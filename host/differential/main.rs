@@ -1,5 +1,6 @@
 //! Holds the archive to the reference, call by call, over many made-up cases. Every run makes the same ones.
 
+mod boards;
 mod card;
 mod count;
 mod packets;
@@ -16,6 +17,7 @@ fn main() {
     payloads::compare(&mut count);
     plans::compare(&mut count);
     senders::compare(&mut count);
+    boards::compare(&mut count);
     receivers::compare(&mut count);
     std::process::exit(count.tally());
 }

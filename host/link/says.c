@@ -15,22 +15,6 @@ void must(uint8_t answer, const char *call)
     exit(2);
 }
 
-static const char *word_name(uint8_t word)
-{
-    switch (word) {
-    case LEVELSPRUCE_WORD_ADD:
-        return "ADD";
-    case LEVELSPRUCE_WORD_NORM:
-        return "NORM";
-    case LEVELSPRUCE_WORD_EOS:
-        return "EOS";
-    case LEVELSPRUCE_WORD_DNU:
-        return "DNU";
-    default:
-        return "IDLE";
-    }
-}
-
 static void says_events(const char *what, const struct events *events)
 {
     size_t i;
@@ -48,9 +32,10 @@ void says_link(struct says *s, const struct choices *c)
     s->quiet = c->quiet;
     s->slots = c->slots;
     s->x = LEVELSPRUCE_MEMBERS_MOST + 1;
+    s->going[LEVELSPRUCE_BOARD_COUNT] = (uint8_t)c->slots;
     for (slot = 0; slot < LINES_MOST; slot++) {
-        s->board[LEVELSPRUCE_BOARD_ROWS + 2 * slot] = LEVELSPRUCE_WORD_IDLE;
-        s->board[LEVELSPRUCE_BOARD_ROWS + 2 * slot + 1] = LEVELSPRUCE_NUMBER_IDLE;
+        s->going[LEVELSPRUCE_BOARD_ROWS + 2 * slot] = LEVELSPRUCE_WORD_IDLE;
+        s->going[LEVELSPRUCE_BOARD_ROWS + 2 * slot + 1] = LEVELSPRUCE_NUMBER_IDLE;
         s->ports[slot][LEVELSPRUCE_PORT_NUMBER] = LEVELSPRUCE_NUMBER_IDLE;
     }
     if (s->quiet)
@@ -81,39 +66,33 @@ void says_command(const struct says *s, const char *command, uint32_t slot, uint
         printf("%s\tslot\t%" PRIu32 "\tanswer\t%d\n", command, slot, answer);
 }
 
-void says_board(struct says *s, const uint8_t *board)
+void says_wait(struct says *s, const uint8_t *board)
 {
-    uint32_t slot;
-
-    for (slot = 0; slot < s->slots && !s->quiet; slot++) {
-        const uint8_t *row = board + LEVELSPRUCE_BOARD_ROWS + 2 * slot;
-
-        if (memcmp(row, s->board + LEVELSPRUCE_BOARD_ROWS + 2 * slot, 2) != 0)
-            printf("slot\t%" PRIu32 "\t%s\t%d\n", slot, word_name(row[0]), row[1]);
-    }
-    if (board[LEVELSPRUCE_BOARD_WAIT] != s->board[LEVELSPRUCE_BOARD_WAIT] && !s->quiet)
+    if (board[LEVELSPRUCE_BOARD_WAIT] != s->wait && !s->quiet)
         printf("wait\t%s\n", board[LEVELSPRUCE_BOARD_WAIT] ? "open" : "closed");
-    memcpy(s->board, board, sizeof s->board);
+    s->wait = board[LEVELSPRUCE_BOARD_WAIT];
+}
+
+/* The slots' changes, as lines. The wait has been told when it opened or closed. */
+static void says_changes(uint8_t *changes)
+{
+    static uint8_t text[LEVELSPRUCE_SPEECH_BYTES];
+    size_t written;
+
+    changes[LEVELSPRUCE_CHANGES_WAIT] = LEVELSPRUCE_WAIT_SAME;
+    must(levelspruce_board_speak(changes, LEVELSPRUCE_CHANGES_BYTES, text, sizeof text, &written), "the lines of changes");
+    fwrite(text, 1, written, stdout);
 }
 
 void says_start(struct says *s, uint64_t epoch, uint32_t x, size_t bytes, const uint8_t *going)
 {
-    size_t rows = 2 * (size_t)s->slots;
-    int moved = memcmp(s->going + LEVELSPRUCE_BOARD_ROWS, going + LEVELSPRUCE_BOARD_ROWS, rows) != 0;
-    uint32_t slot;
+    uint8_t changes[LEVELSPRUCE_CHANGES_BYTES];
 
-    if (s->quiet || (s->x == x && !moved))
+    must(levelspruce_board_changes(s->going, sizeof s->going, going, sizeof s->going, changes, sizeof changes), "the changes of the board going out");
+    if (s->quiet || (s->x == x && changes[LEVELSPRUCE_CHANGES_COUNT] == 0))
         return;
     printf("start\tepoch\t%" PRIu64 "\tmembers\t%" PRIu32 "\tbytes\t%lu\n", epoch, x, (unsigned long)bytes);
-    if (moved) {
-        printf("board");
-        for (slot = 0; slot < s->slots; slot++) {
-            const uint8_t *row = going + LEVELSPRUCE_BOARD_ROWS + 2 * slot;
-
-            printf("\t%s %d", word_name(row[0]), row[1]);
-        }
-        printf("\n");
-    }
+    says_changes(changes);
     s->x = x;
     memcpy(s->going, going, sizeof s->going);
 }

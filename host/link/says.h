@@ -9,7 +9,7 @@
 struct says {
     int quiet;
     uint32_t slots;
-    uint8_t board[LEVELSPRUCE_BOARD_BYTES]; /* as last said */
+    uint8_t wait; /* as last said */
     uint8_t going[LEVELSPRUCE_BOARD_BYTES];
     uint32_t x;
     uint8_t ports[LINES_MOST][LEVELSPRUCE_PORT_BYTES];
@@ -25,10 +25,11 @@ void says_link(struct says *s, const struct choices *c);
 /* A command at the sender, and its answer. */
 void says_command(const struct says *s, const char *command, uint32_t slot, uint8_t answer);
 
-/* What the sender's board has that it had not when this was last called. */
-void says_board(struct says *s, const uint8_t *board);
+/* That the wait has opened or closed, on the sender's board, since this was last called. */
+void says_wait(struct says *s, const uint8_t *board);
 
-/* An epoch starts at the sender: its members, the bytes it carries, and the board that goes out, where one is new. */
+/* An epoch starts at the sender: its members, the bytes it carries, and what has changed on the board that goes out, where
+ * something has. */
 void says_start(struct says *s, uint64_t epoch, uint32_t x, size_t bytes, const uint8_t *going);
 
 /* What came back from the far end. */

@@ -96,7 +96,7 @@ void sending_start_epoch(struct sending *s, uint64_t epoch, const struct client 
     give(s, "add", levelspruce_sender_add, &c->adds, s->added, epoch, says);
     give(s, "remove", levelspruce_sender_remove, &c->removes, s->removed, epoch, says);
     read_board(s, board);
-    says_board(says, board);
+    says_wait(says, board);
 
     /* This end receives nothing, so it has no member to call OK: MST is all ones, RS-Ack stays 0. */
     must(levelspruce_sender_start_epoch(s->state, sizeof s->state, next_gid(s), 0xFF, 0), "levelspruce_sender_start_epoch");
@@ -155,7 +155,7 @@ void sending_told(struct sending *s, const uint8_t *fields, struct says *says)
     read_board(s, after);
     if (memcmp(before, after, sizeof before) != 0)
         says_told(says, number, mst, rs_ack);
-    says_board(says, after);
+    says_wait(says, after);
 }
 
 const struct carried *sending_carried(const struct sending *s, uint64_t epoch)

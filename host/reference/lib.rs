@@ -7,3 +7,4 @@ pub mod payload;
 pub mod receiver;
 pub mod sender;
 pub mod session;
+pub mod spoken;

@@ -1,6 +1,7 @@
 //! The session: lines of text over the sender's table, and what they are answered.
 
-use crate::sender::Table;
+use crate::sender::{Sender, Table};
+use crate::spoken;
 
 const LINE_MOST: usize = 80;
 
@@ -50,23 +51,57 @@ fn done(table: &mut Table, line: &[u8]) -> Option<u8> {
     }
 }
 
+/// The lines of an input. What follows the last line's end is no line.
+fn lines(input: &[u8]) -> Vec<&[u8]> {
+    let mut lines: Vec<&[u8]> = input.split(|b| *b == b'\n').collect();
+    if lines.last().map_or(false, |last| last.is_empty()) {
+        lines.pop();
+    }
+    lines
+}
+
+fn board(table: &Table) -> String {
+    let mut text = String::new();
+    for (i, slot) in table.slots.iter().enumerate() {
+        text += &format!("slot\t{}\t{}\t{}\n", i, table.word(i), slot.number);
+    }
+    text + &format!("wait\t{}\n", u8::from(table.wait))
+}
+
 /// The whole output for a whole input.
 pub fn run(input: &[u8]) -> String {
     let mut table = Table::default();
     let mut output = String::new();
-    let mut lines: Vec<&[u8]> = input.split(|b| *b == b'\n').collect();
-    if lines.last().map_or(false, |last| last.is_empty()) {
-        lines.pop(); // what follows the last line's end is no line
+    for line in lines(input) {
+        output += &match done(&mut table, line) {
+            Some(answer) => format!("answer\t{}\n", answer),
+            None => board(&table),
+        };
     }
-    for line in lines {
+    output
+}
+
+/// The whole output for a listener: `epoch` tells what has changed since the one before, a size that she begins anew, and
+/// of other lines only the refused ones are answered.
+pub fn told(input: &[u8]) -> String {
+    let mut table = Table::default();
+    let mut heard = Sender::board(&table);
+    let mut output = String::new();
+    for line in lines(input) {
+        if line == b"epoch" {
+            let now = Sender::board(&table);
+            output += &spoken::told(&heard, &now).expect("boards of one group");
+            heard = now;
+            continue;
+        }
         match done(&mut table, line) {
-            Some(answer) => output += &format!("answer\t{}\n", answer),
-            None => {
-                for (i, slot) in table.slots.iter().enumerate() {
-                    output += &format!("slot\t{}\t{}\t{}\n", i, table.word(i), slot.number);
-                }
-                output += &format!("wait\t{}\n", u8::from(table.wait));
+            None => output += &board(&table),
+            Some(0) if line.starts_with(b"size") => {
+                heard = Sender::board(&table);
+                output += &format!("size\t{}\n", table.slots.len());
             }
+            Some(0) => (),
+            Some(answer) => output += &format!("answer\t{}\n", answer),
         }
     }
     output

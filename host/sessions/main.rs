@@ -1,7 +1,7 @@
-//! Holds the built session program to the reference: given sessions with their whole output, and many made-up ones,
-//! each a run of the program on standard input. Every run makes the same ones.
+//! Holds the built session program, or the one that tells a listener, to the reference: given sessions with their whole
+//! output, and many made-up ones, each a run of the program on standard input. Every run makes the same ones.
 //!
-//! Usage: sessions FILE COMMAND WORD.., where FILE has the given sessions and COMMAND runs the program.
+//! Usage: sessions session|speak FILE COMMAND WORD.., where FILE has the given sessions and COMMAND runs the program.
 
 #[path = "../differential/count.rs"]
 #[allow(dead_code)] // not all of it is used here
@@ -84,11 +84,16 @@ fn line(random: &mut Random, size: u64) -> Vec<u8> {
     line
 }
 
-fn made_up(random: &mut Random) -> Vec<u8> {
+/// With epochs, if they are to be told.
+fn made_up(random: &mut Random, told: bool) -> Vec<u8> {
     let size = random.one_of(&[1, 2, 3, 5, 9, 17, 64]);
     let mut input = if random.below(8) == 0 { Vec::new() } else { format!("size\t{}\n", size).into_bytes() };
     for _ in 0..random.below(600) {
-        input.extend(line(random, size));
+        if told && random.below(4) == 0 {
+            input.extend(b"epoch");
+        } else {
+            input.extend(line(random, size));
+        }
         input.push(b'\n');
     }
     if random.below(2) == 0 {
@@ -99,24 +104,26 @@ fn made_up(random: &mut Random) -> Vec<u8> {
 
 fn main() {
     let words: Vec<String> = std::env::args().skip(1).collect();
-    let text = std::fs::read_to_string(&words[0]).expect("the file of sessions is read");
-    let command = &words[1..];
+    let told = words[0] == "speak";
+    let by_reference = |input: &[u8]| if told { reference::session::told(input) } else { reference::session::run(input) };
+    let text = std::fs::read_to_string(&words[1]).expect("the file of sessions is read");
+    let command = &words[2..];
     let mut count = Count::default();
 
     let sessions = given(&text);
     for (name, input, output) in &sessions {
         let unended = input.strip_suffix('\n').unwrap_or(input);
-        count.note(&format!("session {}", name), program(command, input.as_bytes()) == output.as_bytes());
-        count.note(&format!("session {} without its last line end", name), program(command, unended.as_bytes()) == output.as_bytes());
-        count.note(&format!("session {} by the reference", name), reference::session::run(input.as_bytes()) == *output);
+        count.note(&format!("{} {}", words[0], name), program(command, input.as_bytes()) == output.as_bytes());
+        count.note(&format!("{} {} without its last line end", words[0], name), program(command, unended.as_bytes()) == output.as_bytes());
+        count.note(&format!("{} {} by the reference", words[0], name), by_reference(input.as_bytes()) == *output);
     }
     count.note("some sessions are given", sessions.len() > 3);
 
     let mut random = Random::new(8);
     let (mut lines, mut differing) = (0, 0);
     for run in 0..200 {
-        let input = made_up(&mut random);
-        let expected = reference::session::run(&input).into_bytes();
+        let input = made_up(&mut random, told);
+        let expected = by_reference(&input).into_bytes();
         lines += expected.iter().filter(|b| **b == b'\n').count();
         if program(command, &input) != expected {
             differing += 1;

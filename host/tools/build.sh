@@ -16,6 +16,13 @@ build_link() {
     $archive_compiler -std=c99 $strict -O2 host/link/*.c "$archive" -o target/host/link
 }
 
+# build_speak: the session told to a listener.
+build_speak() {
+    mkdir -p target/host
+    # shellcheck disable=SC2086
+    $archive_compiler -std=c99 $strict -O2 host/speak/*.c "$archive" -o target/host/speak
+}
+
 # build_own NAME SOURCE COMPILER WORD..: a C or C++ program for this machine's own processor.
 build_own() {
     own_name=$1 own_source=$2

@@ -3,4 +3,5 @@ pub mod Pieces
 pub mod Planning
 pub mod Showing
 pub mod Stepping
+pub mod Telling
 pub mod Wholes

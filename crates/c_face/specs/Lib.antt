@@ -1,4 +1,5 @@
 pub mod Boards
+pub mod Changes
 pub mod Keeping
 pub mod Packets
 pub mod Payloads

@@ -3,3 +3,4 @@ pub mod CratesOwn
 pub mod Relay
 pub mod Round
 pub mod Runs
+pub mod Told

@@ -15,7 +15,7 @@ fn shown_count(count: u8) -> u8
     if count < 64 { count } else { 64 }
 }
 
-fn put_board(board: Board, out: &mut [u8])
+pub(crate) fn put_board(board: Board, out: &mut [u8])
     requires { ⌜ length (now out) ≡ 130 ⌝ }
     ensures { λ r. ⌜ now (out .exit) ≡ boardBytesOf board ⌝ }
 {

@@ -77,7 +77,7 @@ fn slots_in(state: &[u8]) -> [Slot; 64]
 }
 
 fn row_in(state: &[u8], at: usize, i: usize) -> Row
-    requires { ⌜ (length (now state) ≡ 397) × (at ≤ 256) × (i < 64) ⌝ }
+    requires { ⌜ (at + 128 ≤ length (now state)) × (i < 64) ⌝ }
     ensures { λ r. ⌜ r ≡ rowIn (now (state .entry)) at i ⌝ }
 {
     let word = state[at + 2 * i];
@@ -89,7 +89,7 @@ fn row_in(state: &[u8], at: usize, i: usize) -> Row
 }
 
 fn rows_in(state: &[u8], at: usize) -> [Row; 64]
-    requires { ⌜ (length (now state) ≡ 397) × (at ≤ 256) ⌝ }
+    requires { ⌜ at + 128 ≤ length (now state) ⌝ }
     ensures { λ r. ⌜ r ≡ rowsIn (now (state .entry)) at ⌝ }
 {
     let blank = Row {
@@ -123,8 +123,9 @@ fn table_in(state: &[u8]) -> Table
     }
 }
 
-fn board_in(state: &[u8], at: usize, count: u8, wait: u8) -> Board
-    requires { ⌜ (length (now state) ≡ 397) × (at ≤ 256) ⌝ }
+// A board whose rows begin at a place of any bytes.
+pub(crate) fn board_in(state: &[u8], at: usize, count: u8, wait: u8) -> Board
+    requires { ⌜ at + 128 ≤ length (now state) ⌝ }
     ensures { λ r. ⌜ r ≡ boardIn (now (state .entry)) at count wait ⌝ }
 {
     Board {

@@ -50,11 +50,21 @@ use Rattle.rows.specs.Step.{putStep, stepAt, stepRow}
 use Rattle.rows.specs.Step.{stepOf as stepIn}
 use Rattle.sender.specs.Board.{boardOf, highest, noRow, rowOf, rowsOf}
 use Rattle.sender.specs.Commands.{addOf, addedTo, fallen, fallenIn, freshOf, idleSlot, lapseOf, removeOf, removedFrom, startOf}
+use Rattle.sender.specs.declared.epochs.Sender.{Sender}
+use Rattle.sender.specs.Epochs.{beginOf, freshSender, senderRun, startEpochOf, startedEpoch, startedSender}
+use Rattle.sender.specs.Epochs.SenderCall.{OnTable, StartEpoch}
 use Rattle.sender.specs.Reports.{actedOn, comesBefore, mstApplied, numberAfter, opensWait, renumbered, reportOf, slotAfter, numberApplied, turnOf, waited}
 use Rattle.sender.specs.Shown.{after, shown, started}
 use Rattle.sender.specs.Steps.{Call}
 use Rattle.sender.specs.Steps.Call.{AddSlot, Lapse, RemoveSlot, Report}
 use Rattle.sender.specs.Table.{holderOf, membersOf, sizeOf}
+use Rattle.spoken.specs.Applying.{appliedOf, changesFit, fits, withChanges}
+use Rattle.spoken.specs.Changes.{changesIn, changesOf, comparedOf, listOf, noChanges}
+use Rattle.spoken.specs.declared.lists.Changes.{Changes}
+use Rattle.spoken.specs.Shown.{appliedNumbers, comparedNumbers}
+use Rattle.spoken.specs.Speaking.{changeText, nowText, rowText, spokenText, waitLine, wasText}
+use Rattle.spoken.specs.Speaking.{slotText as spokenSlot}
+use Rattle.spoken.specs.Taking.{takenOf as boardTaken}
 use Rattle.step.specs.Arrival.{arrives, frameDropped, byStart, byWindow, countsOn, distanceIn, flagged, inStep, joining, keeps, outside, readable, takenOf}
 use Rattle.step.specs.Run.{begunRun, furtherRun, inStepAt, oneMore, runOn, secondRun}
 use Rattle.store.specs.Frames.{byteAt, h4At, packetIn, placeIn, ringOf, storedAt}
@@ -117,6 +127,13 @@ active slot = AddSlot slot ∷ Report 0 0x00 0 ∷ Lapse ∷ []
 abbrev p9 : List Call
 p9 = active 0 ++ (active 1 ++ (active 2 ++ (RemoveSlot 1 ∷ [])))
 
+-- before that
+abbrev p9-before : List Call
+p9-before = active 0 ++ (active 1 ++ active 2)
+
+abbrev p9-changes : Changes
+p9-changes = comparedOf (boardOf (after 3 p9-before)) (boardOf (after 3 p9)) .changes
+
 -- 'NORM 0, EOS 1; FAIL for 1'
 abbrev p10 : List Call
 p10 = active 0 ++ (active 1 ++ (Report 0 0x40 0 ∷ []))
@@ -124,6 +141,17 @@ p10 = active 0 ++ (active 1 ++ (Report 0 0x40 0 ∷ []))
 -- 'then FAIL for 0 and 1'
 abbrev p11 : List Call
 p11 = p10 ++ (Report 0 0xC0 0 ∷ [])
+
+-- the calls of P8, with an epoch started before the report and one at the end
+abbrev p8-first : Sender
+p8-first = senderRun (beginOf 0 2 0 .sender) (OnTable (AddSlot 0) ∷ OnTable (AddSlot 1) ∷ StartEpoch 0 0xFF 0 ∷ [])
+
+abbrev p8-second : Sender
+p8-second = senderRun p8-first (OnTable (Report 0 0xBF 0) ∷ OnTable (RemoveSlot 0) ∷ StartEpoch 0 0xFF 0 ∷ [])
+
+-- the lines from one board that went out to the next
+abbrev spokenLines : Sender → Sender → List ℕ
+spokenLines old new = spokenText (comparedOf (boardTaken old) (boardTaken new) .changes)
 
 -- one port in step, its latest tag 4,095
 abbrev p5 : Host
@@ -224,6 +252,27 @@ table =
     ∷ record { name = "P9: NORM 0, IDLE 255, EOS 1, wait open"; given = shown (after 3 p9); said = 2 ∷ 0 ∷ 5 ∷ 255 ∷ 3 ∷ 1 ∷ 1 ∷ [] }
     ∷ record { name = "P10: EOS 0, DNU 1, no wait"; given = shown (after 2 p10); said = 3 ∷ 0 ∷ 15 ∷ 1 ∷ 0 ∷ [] }
     ∷ record { name = "P11: two DNU, no EOS"; given = shown (after 2 p11); said = 15 ∷ 0 ∷ 15 ∷ 1 ∷ 0 ∷ [] }
+    ∷ record {
+      name = "P9 spoken: slot 1 NORM 1 to IDLE 255, slot 2 EOS 2 to EOS 1, wait opened";
+      given = comparedNumbers (boardOf (after 3 p9-before)) (boardOf (after 3 p9));
+      said = 0 ∷ 1 ∷ 2 ∷ 1 ∷ 5 ∷ 255 ∷ 2 ∷ 3 ∷ 2 ∷ 3 ∷ 1 ∷ 1 ∷ [];
+    }
+    ∷ record { name = "P9's changes applied"; given = appliedNumbers (boardOf (after 3 p9-before)) p9-changes; said = 0 ∷ 2 ∷ 0 ∷ 5 ∷ 255 ∷ 3 ∷ 1 ∷ 1 ∷ [] }
+    ∷ record { name = "P9's changes applied a second time"; given = appliedNumbers (boardOf (after 3 p9)) p9-changes; said = 2 ∷ 2 ∷ 0 ∷ 5 ∷ 255 ∷ 3 ∷ 1 ∷ 1 ∷ [] }
+    ∷ record {
+      name = "P10 spoken: slot 0 NORM 0 to EOS 0, slot 1 EOS 1 to DNU 1, no wait";
+      given = comparedNumbers (boardOf (after 2 (active 0 ++ active 1))) (boardOf (after 2 p10));
+      said = 0 ∷ 0 ∷ 2 ∷ 0 ∷ 3 ∷ 0 ∷ 1 ∷ 3 ∷ 1 ∷ 15 ∷ 1 ∷ 0 ∷ [];
+    }
+    ∷ record {
+      name = "P8 spoken in two epochs";
+      given = spokenLines (beginOf 0 2 0 .sender) p8-first ++ spokenLines p8-first p8-second;
+      said =
+          ascii "slot\t0\twas\tIDLE\t255\tnow\tADD\t0\nslot\t1\twas\tIDLE\t255\tnow\tADD\t1\n"
+          ++ ascii "slot\t0\twas\tADD\t0\tnow\tADD\t1\nslot\t1\twas\tADD\t1\tnow\tEOS\t0\nwait\topen\n";
+    }
+    ∷ record { name = "equal boards are silent"; given = comparedNumbers (boardOf (after 3 p9)) (boardOf (after 3 p9)); said = 0 ∷ 0 ∷ [] }
+    ∷ record { name = "boards of 2 and of 3 slots"; given = comparedNumbers (boardOf (after 2 p10)) (boardOf (after 3 p9)); said = 4 ∷ 0 ∷ [] }
     ∷ record { name = "64 slots start"; given = started 64; said = 0 ∷ 64 ∷ [] }
     ∷ record { name = "0 slots"; given = started 0; said = 4 ∷ 0 ∷ [] }
     ∷ record { name = "65 slots"; given = started 65; said = 4 ∷ 0 ∷ [] }
@@ -284,5 +333,5 @@ table =
     ∷ []
 
 pub examples : Equal table
-unfolding table answerOf areShort setOf proposed tightestOf ranksOf rankOf candidateAt sortedBy checkedOf accepts agreesWith agree nibblesOf sealedOf dataOf crcOf divisor byteBits nibbleBits writeAnswer writeBytes fitting assigned h4Of readAnswer readNibbles fieldsOf carriedIn highsOf boardOf rowsOf rowOf noRow highest startOf freshOf idleSlot idleNumber addOf addedTo removeOf removedFrom fallen fallenIn lapseOf reportOf waited actedOn mstApplied numberApplied holderOf renumbered slotAfter numberAfter comesBefore turnOf opensWait sizeOf membersOf mstFails mstFirst mstNumbers wholeOutput beginning linesOf fieldsIn lineOf wordLine numberLine reportLine reportIn numberIn digitOf hexOf replyOf sizeReply outputOf answerText boardText slotText waitText wordText decimalText afterOn nibbleIn nibblePlace startsCount tagByHigh carriesLow tagByLow counts endsEpoch epochsIn frames tagAfter tagBefore tags lead epochs epochAfter epochOf distanceOf placeOf startsEpoch firstTag settledOf clearedStep clearedPort clearedPorts stoppedOf stopBy begunOf beginBy gatherBy portsIn sizedGroup storeFor ready latest noTag further foremost within begins owesNothing brought silent ruledBy passedStep notedBy passedPort passedPorts passedGroup passedOf frameFits rowsFit frameAnswer frameRows frameStore gatheredBy marksBy portRows storeBy settledBy takenRows takenStore refusalBy startAnswer startRows startFits sizedAnswer sizedRows freshPort freshPorts groupAt groupOf groupRow putGroup rowIn putRow marksAt packetsAt putMarks putPackets memberAt putMember memberOf memberRow putStep stepAt stepIn stepRow takenOf inStep readable distanceIn flagged countsOn frameDropped outside keeps joining byWindow byStart arrives inStepAt begunRun secondRun oneMore furtherRun runOn placeIn storedAt ringOf byteAt h4At packetIn cutFrom markedAt firstMark markedByte cutByte passedByte passedMarks
+unfolding table comparedOf changesOf changesIn listOf noChanges appliedOf fits changesFit withChanges spokenText changeText wasText nowText rowText spokenSlot waitLine beginOf freshSender startEpochOf startedSender startedEpoch nibblesOf sealedOf dataOf crcOf divisor byteBits nibbleBits writeAnswer writeBytes fitting assigned h4Of readAnswer readNibbles fieldsOf carriedIn highsOf boardOf rowsOf rowOf noRow highest startOf freshOf idleSlot idleNumber addOf addedTo removeOf removedFrom fallen fallenIn lapseOf reportOf waited actedOn mstApplied numberApplied holderOf renumbered slotAfter numberAfter comesBefore turnOf opensWait sizeOf membersOf mstFails mstFirst mstNumbers wholeOutput beginning linesOf fieldsIn lineOf wordLine numberLine reportLine reportIn numberIn digitOf hexOf replyOf sizeReply outputOf answerText boardText slotText waitText wordText decimalText afterOn nibbleIn nibblePlace startsCount tagByHigh carriesLow tagByLow counts endsEpoch epochsIn frames tagAfter tagBefore tags lead epochs epochAfter epochOf distanceOf placeOf startsEpoch firstTag settledOf clearedStep clearedPort clearedPorts stoppedOf stopBy begunOf beginBy gatherBy portsIn sizedGroup storeFor ready latest noTag further foremost within begins owesNothing brought silent ruledBy passedStep notedBy passedPort passedPorts passedGroup passedOf frameFits rowsFit frameAnswer frameRows frameStore gatheredBy marksBy portRows storeBy settledBy takenRows takenStore refusalBy startAnswer startRows startFits sizedAnswer sizedRows freshPort freshPorts groupAt groupOf groupRow putGroup rowIn putRow marksAt packetsAt putMarks putPackets memberAt putMember memberOf memberRow putStep stepAt stepIn stepRow takenOf inStep readable distanceIn flagged countsOn frameDropped outside keeps joining byWindow byStart arrives inStepAt begunRun secondRun oneMore furtherRun runOn placeIn storedAt ringOf byteAt h4At packetIn cutFrom markedAt firstMark markedByte cutByte passedByte passedMarks answerOf areShort setOf proposed tightestOf ranksOf rankOf candidateAt sortedBy checkedOf accepts agreesWith agree
 examples = equal-rows table refl

@@ -6,6 +6,7 @@ pub mod Paths
 pub mod Payloads
 pub mod Receivers
 pub mod Senders
+pub mod Spoken
 pub mod Tables
 use mathlib.Core.List.{List, [], _∷_}
 use Rattle.conformance.specs.Entries.{Coping, row}
@@ -16,6 +17,7 @@ use Paths as paths
 use Payloads as payload
 use Receivers as receiver
 use Senders as state
+use Spoken as spoken
 use Tables as table
 
 pub entries : List Coping
@@ -43,6 +45,9 @@ entries =
     ∷ row "sender::Sender::start_epoch" sender.startEpoch sender.startEpoch-copes
     ∷ row "sender::Sender::packet" sender.packet sender.packet-copes
     ∷ row "sender::Sender::payload" sender.payload sender.payload-copes
+    ∷ row "spoken::changes_between" spoken.changes spoken.changes-copes
+    ∷ row "spoken::apply" spoken.apply spoken.apply-copes
+    ∷ row "spoken::speak" spoken.speak spoken.speak-copes
     ∷ row "console::feed" console.feed console.feed-copes
     ∷ row "console::finish" console.finish console.finish-copes
     ∷ row "console::reply_to" console.reply console.reply-copes
@@ -69,6 +74,9 @@ entries =
     ∷ row "levelspruce_sender_board" state.shown state.shown-copes
     ∷ row "levelspruce_sender_board_going" state.outgoing state.outgoing-copes
     ∷ row "levelspruce_sender_ranks" state.ranked state.ranked-copes
+    ∷ row "levelspruce_board_changes" spoken.changesC spoken.changesC-copes
+    ∷ row "levelspruce_board_apply" spoken.applyC spoken.applyC-copes
+    ∷ row "levelspruce_board_speak" spoken.speakC spoken.speakC-copes
     ∷ row "levelspruce_receiver_start" receiver.startC receiver.startC-copes
     ∷ row "levelspruce_receiver_frame" receiver.frameC receiver.frameC-copes
     ∷ row "levelspruce_receiver_fetch" receiver.fetch receiver.fetch-copes

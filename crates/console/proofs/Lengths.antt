@@ -1,35 +1,16 @@
 -- How long the lines of the output are at most.
 use mathlib.Core.Path.{_≡_, refl}
-use mathlib.Core.Bool.{Bool, true, false, cond}
+use mathlib.Core.Bool.{Bool, true, false}
 use mathlib.Core.List.{List}
 use Prim.Native.Nat.{ℕ, zero, suc, _+_, _*_, _≤_, _<_}
 use native.Mathlib.Omega.{arith}
-use lib.Dec.{eqb, ltb}
 use lib.ListN.{length, length-append}
-use borrow.Author.Tests.{lt-ltb}
 use Rattle.packet.specs.declared.words.Word.{Word}
 use Rattle.sender.specs.declared.board.Board.{Board}
 use Rattle.sender.specs.declared.board.Row.{Row}
 use Rattle.console.specs.Output.{ROOM, answerText, boardText, rowAt, slotText, slotsText, waitText}
-use Rattle.text.specs.Output.{Put, decimalText, wordText}
-
-either-le : (b : Bool) (x y : List ℕ) (n : ℕ) → length x ≤ n → length y ≤ n → length (cond b x y) ≤ n
-either-le true x y n h k = h
-either-le false x y n h k = k
-
-decimal-le : (n : ℕ) → length (decimalText n) ≤ 3
-unfolding decimalText
-decimal-le n = either-le (ltb n 10) _ _ 3 (omega arith) (either-le (ltb n 100) _ _ 3 (omega arith) (omega arith))
-
-small-le : (n : ℕ) → n < 100 → length (decimalText n) ≤ 2
-unfolding decimalText
-small-le n h = rw (lt-ltb n 100 h) (either-le (ltb n 10) _ _ 2 (omega arith) (omega arith))
-
-word-le : (w : Word) → length (wordText w) ≤ 4
-unfolding wordText
-word-le w =
-    either-le (eqb (w .0) 1) _ _ 4 (omega arith)
-    (either-le (eqb (w .0) 2) _ _ 4 (omega arith) (either-le (eqb (w .0) 3) _ _ 4 (omega arith) (either-le (eqb (w .0) 15) _ _ 4 (omega arith) (omega arith))))
+use Rattle.text.specs.Laws.Lengths.{decimal-le, small-le, word-le}
+use Rattle.text.specs.Output.{Put, decimalText}
 
 slot-le : (i : ℕ) (w : Word) (n : ℕ) → i < 100 → length (slotText i w n) ≤ 17
 unfolding slotText

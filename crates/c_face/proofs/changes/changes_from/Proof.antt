@@ -1,0 +1,24 @@
+use mathlib.Core.Path.{refl}
+use Rattle.c_face.specs.Changes.{changesFrom}
+use borrow.Author.Needs.{needs}
+use Rattle.c_face.proofs.changes.changes_from.Statement.{statement}
+use Rattle.c_face.proofs.changes.changes_from.Tie as tie
+
+shared-slice-read-count : tie.Need-shared-slice-read-count
+shared-slice-read-count c = search needs
+
+shared-slice-read-wait : tie.Need-shared-slice-read-wait
+shared-slice-read-wait c = search needs
+
+list-from-requires : tie.Need-list-from-requires
+list-from-requires c κs = search needs
+
+wait-from-requires : tie.Need-wait-from-requires
+wait-from-requires c κs = search needs
+
+returns : tie.Need-returns
+unfolding changesFrom
+returns c = rw (c .wait-from .ensures, c .before .list-from .ensures) refl
+
+pub changes-from-spec : {M : Type 1} → statement M
+changes-from-spec = tie.close (tie.spec shared-slice-read-count shared-slice-read-wait list-from-requires wait-from-requires returns)

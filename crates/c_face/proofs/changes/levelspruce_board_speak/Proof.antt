@@ -1,0 +1,40 @@
+use Rattle.c_face.proofs.Telling.{speech-bytes, speech-is, spoken-first, spoken-refusal, spoken-second, spoken-told, spoken-wait}
+use borrow.Author.Needs.{needs}
+use Rattle.c_face.proofs.changes.levelspruce_board_speak.Statement.{statement}
+use Rattle.c_face.proofs.changes.levelspruce_board_speak.Tie as tie
+
+returns : tie.Need-returns
+returns c = spoken-first _ _ _ (c .if1 .taken)
+
+returns-2 : tie.Need-returns-2
+returns-2 c = spoken-second _ _ _ (c .before .if1 .left) (c .if2 .taken)
+
+shared-slice-read-if3 : tie.Need-shared-slice-read-if3
+shared-slice-read-if3 c = search needs
+
+returns-3 : tie.Need-returns-3
+returns-3 c = spoken-wait _ _ _ (c .before .before .before .if1 .left) (c .before .before .if2 .left) (c .if3 .taken)
+
+changes-from-requires : tie.Need-changes-from-requires
+changes-from-requires c κs = search needs
+
+speak-requires : tie.Need-speak-requires
+speak-requires c κs = search needs
+
+number-requires : tie.Need-number-requires
+number-requires c κs = search needs
+
+same-length : tie.Need-same-length
+same-length c = search needs
+
+returns-4 : tie.Need-returns-4
+returns-4 c = spoken-refusal _ _ _ (c .before .before .before .before .before .before .before .before .before .before .if1 .left) (c .before .before .before .before .before .before .before .before .before .if2 .left) (c .before .before .before .before .before .before .before .if3 .left) _ _ _ (speech-is _ _ _ _ (c .before .before .before .before .before .before .changes-from .ensures) (c .before .before .before .before .speak .ensures .0)) (c .before .number .ensures) (speech-bytes _ _ _ _ (c .before .before .before .before .before .before .changes-from .ensures) (c .before .before .before .before .speak .ensures .1)) (c .if4 .taken)
+
+same-length-2 : tie.Need-same-length-2
+same-length-2 c = search needs
+
+returns-5 : tie.Need-returns-5
+returns-5 c = spoken-told _ _ _ (c .before .before .before .before .before .before .before .before .before .before .if1 .left) (c .before .before .before .before .before .before .before .before .before .if2 .left) (c .before .before .before .before .before .before .before .if3 .left) _ _ _ (speech-is _ _ _ _ (c .before .before .before .before .before .before .changes-from .ensures) (c .before .before .before .before .speak .ensures .0)) (c .before .number .ensures) (speech-bytes _ _ _ _ (c .before .before .before .before .before .before .changes-from .ensures) (c .before .before .before .before .speak .ensures .1)) (c .if4 .left)
+
+pub levelspruce-board-speak-spec : {M : Type 1} → statement M
+levelspruce-board-speak-spec = tie.close (tie.spec returns returns-2 shared-slice-read-if3 returns-3 changes-from-requires speak-requires number-requires same-length returns-4 same-length-2 returns-5)

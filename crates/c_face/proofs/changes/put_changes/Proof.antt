@@ -1,0 +1,26 @@
+use denote.Ref.{now}
+use Rattle.c_face.proofs.Telling.{changes-whole}
+use borrow.Author.Needs.{needs}
+use Rattle.c_face.proofs.changes.put_changes.Statement.{statement}
+use Rattle.c_face.proofs.changes.put_changes.Tie as tie
+
+wait-code-requires : tie.Need-wait-code-requires
+wait-code-requires c κs = search needs
+
+slice-aggregate-put-bytes : tie.Need-slice-aggregate-put-bytes
+slice-aggregate-put-bytes c = search needs
+
+put-bytes-requires : tie.Need-put-bytes-requires
+put-bytes-requires c κs = search needs
+
+put-list-requires : tie.Need-put-list-requires
+put-list-requires c κs = search needs
+
+same-length : tie.Need-same-length
+same-length c = search needs
+
+returns : tie.Need-returns
+returns c = changes-whole (c .before .before .before .before .before .before .before .before .before .before .before .before .args .changes) _ (now (c .before .before .before .before .before .before .before .before .before .before .before .before .args .out)) _ _ (c .before .before .before .before .before .before .before .before .before .before .before .before .pre) (c .before .before .before .before .before .before .before .before .before .before .wait-code .ensures) (c .before .before .before .before .before .before .put-bytes .ensures) (c .before .before .put-list .ensures)
+
+pub put-changes-spec : {M : Type 1} → statement M
+put-changes-spec = tie.close (tie.spec wait-code-requires slice-aggregate-put-bytes put-bytes-requires put-list-requires same-length returns)

@@ -1,0 +1,97 @@
+-- The spoken board for C: boards compared, changes applied and spoken. A board is 130 bytes, as the sender's calls show it; changes are 322:
+-- how many there are, the wait (0 same, 1 opened, 2 closed), then slot, old word, old number, new word, new number of each of 64.
+use mathlib.Core.Bool.{Bool, cond, not, _&&_}
+use mathlib.Core.List.{List, [], _∷_}
+use Prim.Native.Nat.{ℕ, _+_, _-_, _*_, _/_, _%_}
+use lib.Dec.{eqb, ltb}
+use lib.ListN.{getD, length}
+use Rattle.ground.specs.Table.{tabulate}
+use Rattle.sender.specs.Board.{word}
+use Rattle.sender.specs.declared.board.Board.{Board}
+use Rattle.sender.specs.declared.board.Row.{Row}
+use Rattle.spoken.specs.Applying.{appliedOf, changeIn}
+use Rattle.spoken.specs.Changes.{answerNumber, comparedOf}
+use Rattle.spoken.specs.declared.lists.Change.{Change}
+use Rattle.spoken.specs.declared.lists.Changes.{Changes}
+use Rattle.spoken.specs.declared.lists.WaitChange.{WaitChange}
+use Rattle.spoken.specs.declared.lists.WaitChange.the-variants.{Same, Opened, Closed}
+use Rattle.spoken.specs.Shown.{waitCode}
+use Rattle.spoken.specs.Speaking.{SPEECH-ROOM, speakAnswer, speechBytes, speechOf}
+use Rattle.c_face.specs.Boards.{boardBytesOf}
+use Rattle.c_face.specs.Keeping.{boardIn}
+
+abbrev pub isBoard : List ℕ → Bool
+isBoard bytes = eqb (length bytes) 130
+
+abbrev pub areChanges : List ℕ → Bool
+areChanges bytes = eqb (length bytes) 322
+
+-- Reading. Any bytes are a board.
+
+abbrev pub boardFrom : List ℕ → Board
+boardFrom bytes = boardIn bytes 2 (getD bytes 0 0) (getD bytes 1 0)
+
+abbrev rowFrom : List ℕ → ℕ → Row
+rowFrom bytes k = record { word = word (getD bytes k 0); number = getD bytes (k + 1) 0 }
+
+abbrev pub changeFrom : List ℕ → ℕ → Change
+changeFrom bytes i = record { slot = getD bytes (2 + 5 * i) 0; old = rowFrom bytes (2 + 5 * i + 1); new = rowFrom bytes (2 + 5 * i + 3) }
+
+unfoldable pub listFrom : List ℕ → List Change
+listFrom bytes = tabulate 64 (changeFrom bytes)
+
+abbrev pub waitFrom : ℕ → WaitChange
+waitFrom byte = cond (eqb byte 1) Opened (cond (eqb byte 2) Closed Same)
+
+-- a wait byte above 2 says nothing that a board could be told
+abbrev pub isWait : List ℕ → Bool
+isWait bytes = ltb (getD bytes 1 0) 3
+
+unfoldable pub changesFrom : List ℕ → Changes
+changesFrom bytes = record { list = listFrom bytes; count = getD bytes 0 0; wait = waitFrom (getD bytes 1 0) }
+
+-- Writing.
+
+abbrev pub changeBytes : Change → List ℕ
+changeBytes c = c .slot ∷ c .old .word .0 ∷ c .old .number ∷ c .new .word .0 ∷ c .new .number ∷ []
+
+abbrev pub listByte : List Change → ℕ → ℕ
+listByte list k = getD (changeBytes (changeIn list (k / 5))) (k % 5) 0
+
+unfoldable pub changesByte : Changes → ℕ → ℕ
+changesByte cs k = cond (ltb k 2) (getD (cs .count ∷ waitCode (cs .wait) ∷ []) k 0) (listByte (cs .list) (k - 2))
+
+unfoldable pub changesBytesOf : Changes → List ℕ
+changesBytesOf cs = tabulate 322 (changesByte cs)
+
+-- The calls: 9 and then the crate's own answer; under a refusal every lent byte stays.
+
+unfoldable pub comparedAnswerC : List ℕ → List ℕ → List ℕ → ℕ
+comparedAnswerC old new out =
+    cond (isBoard old && isBoard new && areChanges out) (answerNumber (comparedOf (boardFrom old) (boardFrom new) .answer)) 9
+
+unfoldable pub comparedBytesC : List ℕ → List ℕ → List ℕ → List ℕ
+comparedBytesC old new out =
+    cond (eqb (comparedAnswerC old new out) 0) (changesBytesOf (comparedOf (boardFrom old) (boardFrom new) .changes)) out
+
+unfoldable pub appliedAnswerC : List ℕ → List ℕ → ℕ
+appliedAnswerC board changes =
+    cond (isBoard board && areChanges changes) (cond (isWait changes) (answerNumber (appliedOf (boardFrom board) (changesFrom changes) .answer)) 2) 9
+
+unfoldable pub appliedBytesC : List ℕ → List ℕ → List ℕ
+appliedBytesC board changes =
+    cond (eqb (appliedAnswerC board changes) 0) (boardBytesOf (appliedOf (boardFrom board) (changesFrom changes) .board)) board
+
+abbrev pub roomy : List ℕ → List ℕ → Bool
+roomy changes text = areChanges changes && not (ltb (length text) SPEECH-ROOM)
+
+unfoldable pub spokenAnswerC : List ℕ → List ℕ → ℕ
+spokenAnswerC changes text =
+    cond (roomy changes text) (cond (isWait changes) (answerNumber (speechOf (changesFrom changes) text .answer)) 2) 9
+
+unfoldable pub spokenBytesC : List ℕ → List ℕ → List ℕ
+spokenBytesC changes text = cond (roomy changes text && isWait changes) (speechBytes (changesFrom changes) text) text
+
+-- how many bytes were written; under a refusal the number stays
+unfoldable pub writtenC : List ℕ → List ℕ → ℕ → ℕ
+writtenC changes text written = cond (eqb (spokenAnswerC changes text) 0) (speechOf (changesFrom changes) text .written) written

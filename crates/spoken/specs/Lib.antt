@@ -1,0 +1,10 @@
+pub mod Applying
+pub mod Changes
+pub mod Fitting
+pub mod Laws
+pub mod Listening
+pub mod Shown
+pub mod Speaking
+pub mod Taking
+pub mod Theorems
+mod Wrong

@@ -1,0 +1,23 @@
+/* The session's lines, and `epoch`. */
+#ifndef LINES_H
+#define LINES_H
+
+#include <stdint.h>
+#include <stdio.h>
+
+enum { ANSWER_MALFORMED = 13 };
+
+enum line_kind { LINE_MALFORMED, LINE_SIZE, LINE_ADD, LINE_REMOVE, LINE_REPORT, LINE_LAPSE, LINE_EPOCH, LINE_BOARD };
+
+struct line {
+    enum line_kind kind;
+    uint32_t a, b, c;
+};
+
+/* The next line of a file, which may lack its end. 0 where there is none. */
+int next_line(FILE *file, struct line *line);
+
+/* A word that a board shows, by its code. */
+const char *word_name(uint8_t word);
+
+#endif

@@ -1,0 +1,105 @@
+/*
+ * speak: the session over a sender, told to someone who listens. Reads lines on standard input. At each `epoch` it prints
+ * the changes of the board going out, and nothing where nothing has changed.
+ */
+#include <levelspruce.h>
+
+#include <stdio.h>
+#include <stdlib.h>
+#include <string.h>
+
+#include "lines.h"
+
+static uint8_t sender[LEVELSPRUCE_SENDER_BYTES];
+static uint8_t heard[LEVELSPRUCE_BOARD_BYTES]; /* the board that the listener holds */
+
+/* Ends the program where a call is refused that cannot be. */
+static void must(uint8_t answer, const char *call)
+{
+    if (answer == LEVELSPRUCE_ANSWER_DONE)
+        return;
+    fflush(stdout);
+    fprintf(stderr, "speak: %s was answered %d\n", call, answer);
+    exit(2);
+}
+
+/* The board going out, which the last start of an epoch has fixed. */
+static void take(uint8_t *board)
+{
+    must(levelspruce_sender_board_going(sender, sizeof sender, board, LEVELSPRUCE_BOARD_BYTES), "the board going out");
+}
+
+static uint8_t size(uint32_t count)
+{
+    uint8_t started[LEVELSPRUCE_SENDER_BYTES];
+    uint8_t answer = levelspruce_sender_start(count, 0, started, sizeof started);
+
+    if (answer != LEVELSPRUCE_ANSWER_DONE)
+        return answer;
+    memcpy(sender, started, sizeof sender);
+    take(heard);
+    printf("size\t%lu\n", (unsigned long)count);
+    return answer;
+}
+
+/* Starts an epoch, and tells what goes out in it that did not before. */
+static void epoch(void)
+{
+    static uint8_t text[LEVELSPRUCE_SPEECH_BYTES];
+    uint8_t now[LEVELSPRUCE_BOARD_BYTES], changes[LEVELSPRUCE_CHANGES_BYTES];
+    size_t written;
+
+    must(levelspruce_sender_start_epoch(sender, sizeof sender, 0, 0xFF, 0), "the start of an epoch");
+    take(now);
+    must(levelspruce_board_changes(heard, sizeof heard, now, sizeof now, changes, sizeof changes), "the changes of a board");
+    must(levelspruce_board_speak(changes, sizeof changes, text, sizeof text, &written), "the lines of changes");
+    must(levelspruce_board_apply(heard, sizeof heard, changes, sizeof changes), "applying changes");
+    fwrite(text, 1, written, stdout);
+}
+
+/* The table as it stands now, which may be ahead of what goes out. */
+static void board(void)
+{
+    uint8_t now[LEVELSPRUCE_BOARD_BYTES];
+    uint32_t slot;
+
+    must(levelspruce_sender_board(sender, sizeof sender, now, sizeof now), "the board");
+    for (slot = 0; slot < now[LEVELSPRUCE_BOARD_COUNT]; slot++) {
+        const uint8_t *row = now + LEVELSPRUCE_BOARD_ROWS + 2 * slot;
+
+        printf("slot\t%lu\t%s\t%d\n", (unsigned long)slot, word_name(row[0]), row[1]);
+    }
+    printf("wait\t%d\n", now[LEVELSPRUCE_BOARD_WAIT]);
+}
+
+/* Does what a line says. The answer; a line that is done says nothing by itself. */
+static uint8_t done(const struct line *l)
+{
+    switch (l->kind) {
+    case LINE_SIZE: return size(l->a);
+    case LINE_ADD: return levelspruce_sender_add(sender, sizeof sender, l->a);
+    case LINE_REMOVE: return levelspruce_sender_remove(sender, sizeof sender, l->a);
+    case LINE_REPORT: return levelspruce_sender_report(sender, sizeof sender, l->a, l->b, l->c);
+    case LINE_LAPSE: return levelspruce_sender_lapse(sender, sizeof sender);
+    case LINE_EPOCH: epoch(); return LEVELSPRUCE_ANSWER_DONE;
+    case LINE_BOARD: board(); return LEVELSPRUCE_ANSWER_DONE;
+    default: return ANSWER_MALFORMED;
+    }
+}
+
+int main(void)
+{
+    struct line line;
+    uint8_t answer;
+
+    levelspruce_sender_start(0, 0, sender, sizeof sender); /* before any size there are no slots */
+    take(heard);
+    while (next_line(stdin, &line)) {
+        answer = done(&line);
+        if (answer != LEVELSPRUCE_ANSWER_DONE)
+            printf("answer\t%d\n", answer);
+        if (fflush(stdout) != 0)
+            return 2;
+    }
+    return ferror(stdin) ? 2 : 0;
+}
