@@ -6,21 +6,20 @@ use mathlib.Core.List.{List, [], _∷_}
 use Prim.Native.Nat.{ℕ, _+_, _/_, _%_, _≤_, _<_}
 use native.Mathlib.Omega.{arith}
 use lib.ListN.{getD, length, replicate}
-use Rattle.invariant.specs.Arriving.{Counts, after-group, frame-by, portAfter, storeAfter}
-use Rattle.invariant.specs.Calls.{Fetch, Frame, Receiver, ReceiverCall, receiverRun, receiverStep, startedWith, step-kept}
-use Rattle.invariant.specs.Claims.{Claims, New, Old, Part, claims-inside, passed-claims, taken-claims, taken-inside}
-use Rattle.invariant.specs.Kept.Calls.{Due, due-says}
+use Rattle.invariant.specs.Proofs.Arriving.{Counts, after-group, frame-by}
+use Rattle.invariant.specs.Proofs.Calls.{step-kept}
+use Rattle.invariant.specs.Proofs.Claims.{New, Old, claims-inside, passed-claims, taken-claims, taken-inside}
+use Rattle.invariant.specs.Proofs.Kept.Calls.{Due, due-says}
 use Rattle.invariant.specs.Kept.Group.{Kept, Lasting}
 use Rattle.invariant.specs.Kept.Port.{PortKept, Windowed}
-use Rattle.invariant.specs.Kept.Start.{started-kept, started-with}
-use Rattle.invariant.specs.Kept.Steps.{brought-owes-nothing, lasting-frame, windowed}
-use Rattle.invariant.specs.Laws.Settling.{settled-by}
-use Rattle.invariant.specs.Laws.Window.{first-epoch, tag-next, tag-passed, tagIn}
-use Rattle.invariant.specs.Sizes.{step-sizes}
+use Rattle.invariant.specs.Proofs.Kept.Start.{started-kept, started-with}
+use Rattle.invariant.specs.Proofs.Kept.Steps.{brought-owes-nothing, lasting-frame, windowed}
+use Rattle.invariant.specs.Proofs.Laws.Settling.{settled-by}
+use Rattle.invariant.specs.Proofs.Laws.Window.{first-epoch, tag-next, tag-passed}
+use Rattle.invariant.specs.Proofs.Sizes.{step-sizes}
 use Rattle.ground.specs.Table.{getD-tabulate, tabulate}
 use Rattle.ground.specs.Truth.{cond-by, eq-or-ne}
 use Rattle.judge.specs.Seen.{sizeOf}
-use Rattle.packet.specs.Counts.{counts}
 use Rattle.packet.specs.Kinds.{frames}
 use Rattle.packet.specs.Theorems.Tags.{frames-two}
 use Rattle.phases.specs.Due.{brought}
@@ -31,7 +30,7 @@ use Rattle.phases.specs.Passing.{passedGroup, passedOf, passedStep}
 use Rattle.phases.specs.Settling.{begunOf, clearedStep, settledOf, stoppedOf}
 use Rattle.phases.specs.Sizes.{portsIn, storeFor}
 use Rattle.receiver.specs.Fetch.{dueIn, fetchRows, fits, rowsIfDue}
-use Rattle.receiver.specs.Frame.{frameAnswer, frameRows, frameStore, marksBy, storeBy, takenIn}
+use Rattle.receiver.specs.Frame.{frameRows, frameStore, marksBy, storeBy, takenIn}
 use Rattle.receiver.specs.Laws.Answers.{taken-answer, unrefused}
 use Rattle.receiver.specs.Laws.Frames.{frame-other, frame-port, frameOn}
 use Rattle.receiver.specs.Laws.Passed.{cleared-joined, passed-kind, passed-oldest, passed-origin, passed-payload, passed-window}
@@ -54,23 +53,8 @@ use Rattle.store.specs.Laws.Marks.{first-mark, mark-none}
 use Rattle.store.specs.Laws.Places.{place-moved}
 use Rattle.store.specs.Laws.Stands.{Stands, stands-put, stands-same, stored-elsewhere}
 use Rattle.store.specs.Marks.{firstMark, markIn, passedMarks}
-
--- port i claims a frame with this tag, and there stand this payload and this H4
-pub record Claimed (s : List (List ℕ)) (store : List ℕ) (i tag : ℕ) (payload : List ℕ) (h : ℕ) : Type 0 where
-  pub at : ℕ
-  pub claims : Claims (groupAt s) (portAt s i .step) (portAt s i .marks) at
-  pub tag-is : tag ≡ tagIn (groupAt s) at
-  pub stands : Stands (groupAt s) i at payload h store
-
--- it is the frame just handed: answered 0, with the tag to come and an H4 that counts as that tag says
-pub record Handed (s : List (List ℕ)) (i : ℕ) (failed : Bool) (h : ℕ) (payload store : List ℕ) (j tag : ℕ) (bytes : List ℕ) (h4 : ℕ) : Type 0 where
-  pub port : j ≡ i
-  pub unflagged : failed ≡ false
-  pub answer : frameAnswer s i failed h (length payload) (length store) ≡ 0
-  pub tag-is : tag ≡ portAt s i .step .next
-  pub counted : counts (groupAt s .kind) tag h ≡ true
-  pub h4-is : h4 ≡ h
-  pub bytes-are : (k : ℕ) → k < groupAt s .payload → getD bytes k 0 ≡ getD payload k 0
+use Rattle.invariant.specs.Calls.{Fetch, Frame, Receiver, ReceiverCall, portAfter, receiverRun, receiverStep, startedWith, storeAfter}
+use Rattle.invariant.specs.Claims.{Claimed, Claims, Handed, HandedBy, HandedIn, Part, tagIn}
 
 -- The same content in two states: what is claimed in the second was claimed in the first.
 
@@ -302,42 +286,33 @@ module _ (tag : ℕ) (bytes : List ℕ) (h4 : ℕ) where
       ports : portsIn (groupAt s) ≡ groupAt s .count
       ports = ports-are (groupAt s) (k .steady .group .sizes)
 
-  abbrev pub HandedBy : Receiver → ReceiverCall → ℕ → Type 0
-  HandedBy x (Frame i failed h payload) j = Handed (x .rows) i failed h payload (x .store) j tag bytes h4
-  HandedBy x (Fetch out report) j = ⊥
-
   -- of every call
   pub step-claimed : (x : Receiver) (c : ReceiverCall) → Kept (x .rows) → (j : ℕ) → j < groupAt (x .rows) .count
-      → Claimed (receiverStep x c .rows) (receiverStep x c .store) j tag bytes h4 → Claimed (x .rows) (x .store) j tag bytes h4 ⊎ HandedBy x c j
+      → Claimed (receiverStep x c .rows) (receiverStep x c .store) j tag bytes h4 → Claimed (x .rows) (x .store) j tag bytes h4 ⊎ HandedBy tag bytes h4 x c j
   step-claimed x (Frame i failed h payload) k j b c = frame-claimed (x .rows) k i failed h payload (x .store) j b c
   step-claimed x (Fetch out report) k j b c = inl (fetch-claimed (x .rows) k (x .store) out report j b c)
 
-  -- one of the calls handed it
-  abbrev pub HandedIn : Receiver → List ReceiverCall → ℕ → Type 0
-  HandedIn x [] j = ⊥
-  HandedIn x (c ∷ calls) j = HandedBy x c j ⊎ HandedIn (receiverStep x c) calls j
-
   pub run-claimed : (x : Receiver) (calls : List ReceiverCall) → Kept (x .rows) → (j : ℕ) → j < groupAt (x .rows) .count
-      → Claimed (receiverRun x calls .rows) (receiverRun x calls .store) j tag bytes h4 → Claimed (x .rows) (x .store) j tag bytes h4 ⊎ HandedIn x calls j
+      → Claimed (receiverRun x calls .rows) (receiverRun x calls .store) j tag bytes h4 → Claimed (x .rows) (x .store) j tag bytes h4 ⊎ HandedIn tag bytes h4 x calls j
   run-claimed x [] k j b c = inl c
   run-claimed x (call ∷ calls) k j b c =
       let y : Receiver = receiverStep x call in
-      let rest : Claimed (y .rows) (y .store) j tag bytes h4 ⊎ HandedIn y calls j = run-claimed y calls (step-kept x call k) j (rw (step-sizes x call k .count) b) c in
+      let rest : Claimed (y .rows) (y .store) j tag bytes h4 ⊎ HandedIn tag bytes h4 y calls j = run-claimed y calls (step-kept x call k) j (rw (step-sizes x call k .count) b) c in
       ⊎-elim
       (λ (p : Claimed (y .rows) (y .store) j tag bytes h4).
-      ⊎-elim (λ (q : Claimed (x .rows) (x .store) j tag bytes h4). inl q) (λ (q : HandedBy x call j). inr (inl q)) (step-claimed x call k j b p))
-      (λ (p : HandedIn y calls j). inr (inr p)) rest
+      ⊎-elim (λ (q : Claimed (x .rows) (x .store) j tag bytes h4). inl q) (λ (q : HandedBy tag bytes h4 x call j). inr (inl q)) (step-claimed x call k j b p))
+      (λ (p : HandedIn tag bytes h4 y calls j). inr (inr p)) rest
 
   -- after a start and any calls, every frame that a port claims was handed in one of them
   pub claimed-handed : (kind count P W : ℕ) (rows : List (List ℕ)) (store : List ℕ) → startAnswer kind count P W (length store) (length rows) ≡ 0 → (calls : List ReceiverCall) (j : ℕ) → j < count
       → Claimed (receiverRun (startedWith kind count P W rows store) calls .rows) (receiverRun (startedWith kind count P W rows store) calls .store) j tag bytes h4
-      → HandedIn (startedWith kind count P W rows store) calls j
+      → HandedIn tag bytes h4 (startedWith kind count P W rows store) calls j
   claimed-handed kind count P W rows store e calls j b c =
       let x : Receiver = startedWith kind count P W rows store in
       let k : Kept (x .rows) = started-kept kind count P W (length store) rows e in
       let group : groupAt (startRows kind count P W (length store) rows) ≡ groupWith kind count P W = started-with kind count P W (length store) rows e in
       ⊎-elim (λ (p : Claimed (x .rows) (x .store) j tag bytes h4). absurd (let w : flagOf (groupAt (startRows kind count P W (length store) rows) .begun) ≡ true = p .claims .begun in false≢true (rw group at w)))
-      (λ (p : HandedIn x calls j). p) (run-claimed x calls k j (rw group b) c)
+      (λ (p : HandedIn tag bytes h4 x calls j). p) (run-claimed x calls k j (rw group b) c)
 
 -- What the first mark of a port says: all frames of the oldest epoch stand in the store.
 pub mark-claimed : (s : List (List ℕ)) (store : List ℕ) (j : ℕ) → flagOf (groupAt s .begun) ≡ true → firstMark (portAt s j .marks) ≡ true → (d : ℕ) → d < frames (groupAt s .kind)

@@ -17,6 +17,7 @@ use Rattle.receiver.specs.Report.{rulingEpoch}
 use Rattle.rows.specs.declared.group.Group.{Group}
 use Rattle.step.specs.Arrival.{distanceIn}
 use Rattle.store.specs.Frames.{h4At, packetIn}
+use Rattle.invariant.specs.Claims.{tagIn}
 
 -- on plain numbers: back from b to t
 back-low : (b t : ℕ) → b < 4096 → t < 4095 → 0 < (b + (4096 - t)) % 4096 → (b + (4096 - (t + 1))) % 4096 + 1 ≡ (b + (4096 - t)) % 4096
@@ -233,10 +234,6 @@ unfolding frames
 end-before kind i W l = omega arith
 
 -- Frames of the window by their distance from its first.
-
--- the tag of the frame that lies d after the window's first
-unfoldable pub tagIn : Group → ℕ → ℕ
-tagIn g d = (firstTag (g .kind) (g .oldest) + d) % tags (g .kind)
 
 pub tag-next : (g : Group) (t : ℕ) → t < tags (g .kind) → tagIn g (distanceIn g t) ≡ t
 unfolding tagIn distanceIn distanceOf tags

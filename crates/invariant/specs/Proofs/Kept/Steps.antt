@@ -7,12 +7,12 @@ use Prim.Native.Nat.{ℕ, _≤_, _<_}
 use native.Mathlib.Omega.{arith}
 use lib.Dec.{eqb}
 use lib.ListN.{length, take}
-use Rattle.invariant.specs.Kept.Clearing.{begun-kept, stopped-kept}
+use Rattle.invariant.specs.Proofs.Kept.Clearing.{begun-kept, stopped-kept}
 use Rattle.invariant.specs.Kept.Group.{GroupKept, OkApart, PortIn, Lasting, knownWord}
-use Rattle.invariant.specs.Kept.Passing.{passed-kept}
+use Rattle.invariant.specs.Proofs.Kept.Passing.{passed-kept}
 use Rattle.invariant.specs.Kept.Port.{Windowed}
-use Rattle.invariant.specs.Kept.Taken.{taken-kept, taken-whole}
-use Rattle.invariant.specs.Laws.Window.{epoch-after-lt, some-epochs}
+use Rattle.invariant.specs.Proofs.Kept.Taken.{taken-kept, taken-whole}
+use Rattle.invariant.specs.Proofs.Laws.Window.{epoch-after-lt, some-epochs}
 use Rattle.counting.specs.Laws.Tests.{every-at}
 use Rattle.counting.specs.Words.{every}
 use Rattle.ground.specs.Truth.{and-right, clash, cond-by, eq-or-ne}

@@ -2,38 +2,23 @@
 use mathlib.Core.Path.{_≡_, refl}
 use mathlib.Core.Bool.{Bool, true, false, cond}
 use mathlib.Core.List.{List}
-use Prim.Native.Nat.{ℕ, _*_, _≤_, _<_}
+use Prim.Native.Nat.{ℕ, _*_, _≤_}
 use native.Mathlib.Nat.{zero-mul}
 use native.Mathlib.Omega.{arith}
-use Rattle.invariant.specs.Reports.Seen.{ruledBy, seen-good, seen-whole}
+use Rattle.invariant.specs.Proofs.Reports.Seen.{seen-good, seen-whole}
 use Rattle.judge.specs.declared.seen.Seen.{Seen}
 use Rattle.judge.specs.Seen.{sizeOf}
 use Rattle.judge.specs.Theorems.Held.{refused}
 use Rattle.judge.specs.Verdict.{HELD, judgeOf}
 use Rattle.packet.specs.Kinds.{frames}
 use Rattle.phases.specs.Sizes.{portsIn}
-use Rattle.receiver.specs.declared.report.Report.{Report}
 use Rattle.receiver.specs.Fetch.{dueIn, fetchOut, fits, outIfDue, reportIfDue}
 use Rattle.receiver.specs.Laws.Seen.{seen-at}
 use Rattle.receiver.specs.Laws.Sizes.{size-is, sizes-of, some-sized}
 use Rattle.receiver.specs.Report.{outputBy, outputOf, reportBy, reportOf, seenAll}
 use Rattle.rows.specs.declared.group.Group.{Group}
 use Rattle.rows.specs.Group.{groupAt}
-use Rattle.rows.specs.Port.{portAt}
-use Rattle.step.specs.Arrival.{flagOf}
-
--- a whole ruling packet that was refused with 5, 6 or 7
-pub record Refused (s : List (List ℕ)) (i : ℕ) : Type 0 where
-  pub port : i < portsIn (groupAt s)
-  pub whole : flagOf (portAt s i .step .whole) ≡ true
-  pub refused : ruledBy (groupAt s) (portAt s i) .good ≡ false
-
--- held, with no bytes
-pub record HeldReport (r : Report) (epoch : ℕ) : Type 0 where
-  pub mark : r .mark ≡ HELD
-  pub epoch-is : r .epoch ≡ epoch
-  pub none : r .x ≡ 0
-  pub empty : r .bytes ≡ 0
+use Rattle.invariant.specs.Reports.{HeldReport, Refused}
 
 module _ (s : List (List ℕ)) (i : ℕ) (o : Refused s i) where
   abbrev g : Group

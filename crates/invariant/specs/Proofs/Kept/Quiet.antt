@@ -8,8 +8,8 @@ use native.Mathlib.Omega.{arith}
 use lib.Dec.{eqb}
 use borrow.Author.Tests.{eqb-false, ne-eqb, ltb-true, not-false}
 use Rattle.invariant.specs.Kept.Port.{PortKept, Windowed, offset}
-use Rattle.invariant.specs.Laws.Flags.{true-or-false}
-use Rattle.invariant.specs.Laws.Window.{epochs-none, meet}
+use Rattle.invariant.specs.Proofs.Laws.Flags.{true-or-false}
+use Rattle.invariant.specs.Proofs.Laws.Window.{epochs-none, meet}
 use Rattle.ground.specs.Truth.{clash, neither, or-cases}
 use Rattle.packet.specs.Kinds.{endsEpoch, epochsIn, frames}
 use Rattle.phases.specs.Due.{owesNothing}

@@ -9,29 +9,22 @@ use lib.Dec.{eqb}
 use lib.ListN.{length}
 use borrow.Author.Tests.{eqb-true, eqb-false}
 use Rattle.invariant.specs.Kept.Group.{Kept}
-use Rattle.invariant.specs.Settles.{settles-always}
+use Rattle.invariant.specs.Proofs.Settles.{settles-always}
 use Rattle.ground.specs.Truth.{cond-by}
 use Rattle.phases.specs.Settling.{settledOf}
 use Rattle.phases.specs.Sizes.{portsIn, storeFor}
-use Rattle.receiver.specs.Frame.{frameRefusal, frameRows, frameStore, portRows, settledBy, storeBy, takenIn, takenRows, takenStore}
+use Rattle.receiver.specs.Frame.{frameRefusal, frameRows, frameStore, settledBy, takenIn, takenRows, takenStore}
 use Rattle.receiver.specs.Laws.Answers.{Fitting, unrefused}
 use Rattle.receiver.specs.Laws.Frames.{frame-group, length-frame}
 use Rattle.receiver.specs.Laws.Sizes.{ports-are}
 use Rattle.rows.specs.Group.{groupAt}
 use Rattle.rows.specs.Rows.{rowsFor}
 use Rattle.step.specs.declared.arrival.Taken.{Taken}
+use Rattle.invariant.specs.Calls.{portAfter, storeAfter}
 
 by-both : (P : List (List ℕ) → List ℕ → Type 0) (b : Bool) (x y : List (List ℕ)) (v w : List ℕ) → (b ≡ true → P x v) → (b ≡ false → P y w) → P (cond b x y) (cond b v w)
 by-both P true x y v w p q = p refl
 by-both P false x y v w p q = q refl
-
--- the port's rows changed by its frame
-abbrev pub portAfter : List (List ℕ) → ℕ → Bool → ℕ → List (List ℕ)
-portAfter s i failed h = portRows (groupAt s .kind) s i (takenIn s i failed h) h
-
--- and the store
-abbrev pub storeAfter : List (List ℕ) → ℕ → Bool → ℕ → List ℕ → List ℕ → List ℕ
-storeAfter s i failed h payload store = storeBy (groupAt s) i (takenIn s i failed h) h payload store
 
 -- they leave the group
 pub after-group : (s : List (List ℕ)) (i : ℕ) (failed : Bool) (h : ℕ) → groupAt (portAfter s i failed h) ≡ groupAt s

@@ -1,7 +1,7 @@
 -- A port's run of frames, kept through every frame.
 use mathlib.Core.Path.{_≡_, refl}
 use mathlib.Core.Bool.{Bool, true, false, cond}
-use Prim.Native.Nat.{ℕ, _+_, _*_, _%_, _≤_, _<_}
+use Prim.Native.Nat.{ℕ, _+_, _%_, _≤_, _<_}
 use native.Mathlib.Omega.{arith}
 use lib.Dec.{eqb, leb}
 use borrow.Author.Tests.{eqb-false, leb-true, leb-false}
@@ -10,19 +10,7 @@ use Rattle.packet.specs.Counts.{tagByHigh, tagByLow, counts, carriesLow, starts
 use Rattle.packet.specs.Kinds.{frames, tagAfter, tags}
 use Rattle.step.specs.declared.run.Run.{Run}
 use Rattle.step.specs.Run.{begunRun, furtherRun, inStepAt, oneMore, runOn, secondRun}
-
--- the tag to come is what the first frame of a run told of it
-pub record FirstTold (kind next : ℕ) : Type 0 where
-  pub byte : ℕ
-  pub told : next ≡ tagByHigh kind byte
-
--- what holds of every run
-pub record RunKept (kind : ℕ) (run : Run) : Type 0 where
-  pub most : run .count ≤ frames kind * 2
-  pub tag : run .next < tags kind
-  pub none : run .count ≡ 0 → run .next ≡ 0
-  pub first : run .count ≡ 1 → FirstTold kind (run .next)
-  pub goes : 0 < run .count → run .count < frames kind * 2 → run .next % frames kind ≡ run .count % frames kind
+use Rattle.invariant.specs.Kept.Run.{RunKept}
 
 pub none-kept : (kind : ℕ) → RunKept kind (record { count = 0; next = 0 })
 unfolding tags

@@ -6,15 +6,15 @@ use mathlib.Core.List.{List, [], _∷_}
 use Prim.Native.Nat.{ℕ, _+_, _<_}
 use native.Mathlib.Omega.{arith}
 use lib.ListN.{length}
-use Rattle.invariant.specs.Arriving.{after-group}
-use Rattle.invariant.specs.Calls.{Fetch, Frame, Receiver, ReceiverCall, receiverRun, receiverStep, startedWith, step-kept}
-use Rattle.invariant.specs.Claimed.{Claimed, HandedBy, mark-claimed, step-claimed}
+use Rattle.invariant.specs.Proofs.Arriving.{after-group}
+use Rattle.invariant.specs.Proofs.Calls.{step-kept}
+use Rattle.invariant.specs.Proofs.Claimed.{mark-claimed, step-claimed}
 use Rattle.invariant.specs.Kept.Group.{Kept}
-use Rattle.invariant.specs.Kept.Start.{started-kept, started-with}
-use Rattle.invariant.specs.Laws.Flags.{never, off-flag}
-use Rattle.invariant.specs.Laws.Window.{mfi2-within, packet-numbered, ruling-passed, tagIn}
-use Rattle.invariant.specs.Ruled.{AllPassed, AllStay, AllUnruled, rowsPassed, step-ruled}
-use Rattle.invariant.specs.Sizes.{step-sizes}
+use Rattle.invariant.specs.Proofs.Kept.Start.{started-kept, started-with}
+use Rattle.invariant.specs.Proofs.Laws.Flags.{never, off-flag}
+use Rattle.invariant.specs.Proofs.Laws.Window.{mfi2-within, packet-numbered, ruling-passed}
+use Rattle.invariant.specs.Proofs.Ruled.{step-ruled}
+use Rattle.invariant.specs.Proofs.Sizes.{step-sizes}
 use Rattle.ground.specs.Truth.{clash}
 use Rattle.packet.specs.Counts.{counts}
 use Rattle.packet.specs.Kinds.{frames, lead}
@@ -27,16 +27,14 @@ use Rattle.rows.specs.Port.{portAt}
 use Rattle.step.specs.Arrival.{flagOf}
 use Rattle.store.specs.Frames.{h4At, packetIn}
 use Rattle.store.specs.Marks.{firstMark}
+use Rattle.invariant.specs.Calls.{Fetch, Frame, Receiver, ReceiverCall, receiverRun, receiverStep, startedWith}
+use Rattle.invariant.specs.Claims.{Claimed, HandedBy, tagIn}
+use Rattle.invariant.specs.Ruled.{AllPassed, AllStay, AllUnruled, NumberedIn, rowsPassed}
 
 -- each frame that a port claims has an H4 that counts as its tag says
 abbrev pub CountedIn : Receiver → Type 0
 CountedIn x =
     (tag : ℕ) (bytes : List ℕ) (h4 j : ℕ) → j < groupAt (x .rows) .count → Claimed (x .rows) (x .store) j tag bytes h4 → counts (groupAt (x .rows) .kind) tag h4 ≡ true
-
--- each packet that rules carries the number of the epoch before the oldest
-abbrev pub NumberedIn : Receiver → Type 0
-NumberedIn x =
-    (j : ℕ) → j < groupAt (x .rows) .count → flagOf (portAt (x .rows) j .step .whole) ≡ true → fieldsOf (portAt (x .rows) j .ruling) .epoch ≡ rulingEpoch (groupAt (x .rows))
 
 handed-counts : (x : Receiver) (c : ReceiverCall) (tag : ℕ) (bytes : List ℕ) (h4 j : ℕ) → HandedBy tag bytes h4 x c j → counts (groupAt (x .rows) .kind) tag h4 ≡ true
 handed-counts x (Frame i failed h payload) tag bytes h4 j o = rw (o .h4-is) (o .counted)

@@ -6,8 +6,8 @@ use mathlib.Core.List.{List}
 use Prim.Native.Nat.{ℕ, _+_, _≤_}
 use native.Mathlib.Omega.{arith}
 use Rattle.invariant.specs.Kept.Port.{Joined, PortKept, offset}
-use Rattle.invariant.specs.Laws.Flags.{flag-le, flag-on, true-or-false}
-use Rattle.invariant.specs.Laws.Window.{distance-passed, end-before, end-nearer, first-ended, later-nearer, less-later, one-ahead}
+use Rattle.invariant.specs.Proofs.Laws.Flags.{flag-le, flag-on, true-or-false}
+use Rattle.invariant.specs.Proofs.Laws.Window.{distance-passed, end-before, end-nearer, first-ended, later-nearer, less-later, one-ahead}
 use Rattle.ground.specs.Truth.{and-left, and-right, clash, eq-or-ne, or-cases}
 use Rattle.packet.specs.Kinds.{frames}
 use Rattle.phases.specs.Due.{owesNothing}

@@ -6,7 +6,7 @@ use mathlib.Core.List.{List}
 use Prim.Native.Nat.{ℕ, _*_}
 use lib.ListN.{length}
 use borrow.Author.Tests.{ne-eqb}
-use Rattle.invariant.specs.Kept.Calls.{due-says}
+use Rattle.invariant.specs.Proofs.Kept.Calls.{due-says}
 use Rattle.ground.specs.Drawn.{fillAt}
 use Rattle.judge.specs.declared.seen.Seen.{Seen}
 use Rattle.judge.specs.Verdict.{HELD, judgeOf}

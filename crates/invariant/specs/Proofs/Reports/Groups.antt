@@ -1,22 +1,22 @@
 -- The group's record after a frame and after a fetch, on every state.
 use mathlib.Core.Path.{_≡_, refl, sym, ap, _∙_}
 use mathlib.Core.Logic.{_⊎_, inl, inr}
-use mathlib.Core.Bool.{Bool, true, false, cond, not, _&&_, true≢false}
+use mathlib.Core.Bool.{Bool, true, false, cond, _&&_, true≢false}
 use mathlib.Core.List.{List}
 use Prim.Native.Nat.{ℕ, _<_}
 use native.Mathlib.Omega.{arith}
 use lib.Dec.{eqb}
 use lib.ListN.{length}
 use borrow.Author.Tests.{eq-eqb, ne-eqb}
-use Rattle.invariant.specs.Arriving.{after-group, frame-any, portAfter, storeAfter}
-use Rattle.invariant.specs.Kept.Calls.{Due, due-says}
-use Rattle.invariant.specs.Laws.Settling.{settled-by}
+use Rattle.invariant.specs.Proofs.Arriving.{after-group, frame-any}
+use Rattle.invariant.specs.Proofs.Kept.Calls.{Due, due-says}
+use Rattle.invariant.specs.Proofs.Laws.Settling.{settled-by}
 use Rattle.ground.specs.Truth.{clash}
 use Rattle.judge.specs.Seen.{sizeOf}
 use Rattle.phases.specs.Due.{silent}
 use Rattle.phases.specs.Laws.Lengths.{length-passed}
 use Rattle.phases.specs.Laws.Passed.{passed-group}
-use Rattle.phases.specs.Passing.{passedGroup, passedOf}
+use Rattle.phases.specs.Passing.{passedGroup}
 use Rattle.phases.specs.Sizes.{portsIn}
 use Rattle.receiver.specs.Fetch.{dueIn, fetchRows, fits, rowsIfDue}
 use Rattle.receiver.specs.Frame.{frameRefusal, frameRows, takenIn}
@@ -29,19 +29,8 @@ use Rattle.rows.specs.declared.group.Group.{Group}
 use Rattle.rows.specs.Group.{groupAt}
 use Rattle.rows.specs.Rows.{rowsFor}
 use Rattle.step.specs.Arrival.{flagOf}
-
--- receiving stops in this call: the frame counts, and after it no port is readable
-abbrev pub stopsWith : List (List ℕ) → ℕ → Bool → ℕ → List ℕ → List ℕ → Bool
-stopsWith s i failed h payload store =
-    eqb (frameRefusal s i (length payload) (length store)) 0
-    && not (eqb (takenIn s i failed h .answer) 11)
-    && flagOf (groupAt s .begun)
-    && silent (groupAt s) (portAfter s i failed h) (portsIn (groupAt s))
-
--- what a frame may do to the group of a receiver that has begun, where it does not stop: nothing, or gather the first epoch
-pub record Gathers (g h : Group) : Type 0 where
-  pub first : flagOf (g .gathered) ≡ false
-  pub passed : h ≡ passedGroup g
+use Rattle.invariant.specs.Calls.{portAfter, storeAfter}
+use Rattle.invariant.specs.Reports.{Gathers, Given, ackAfter, passedRows, stopsWith}
 
 pub frame-holds : (s : List (List ℕ)) (i : ℕ) (failed : Bool) (h : ℕ) (payload store : List ℕ) → flagOf (groupAt s .begun) ≡ true → stopsWith s i failed h payload store ≡ false
     → (groupAt (frameRows s i failed h payload store) ≡ groupAt s) ⊎ Gathers (groupAt s) (groupAt (frameRows s i failed h payload store))
@@ -74,19 +63,6 @@ frame-holds s i failed h payload store begun goes =
     stops : eqb (frameRefusal s i (length payload) (length store)) 0 ≡ true → eqb (takenIn s i failed h .answer) 11 ≡ false
         → silent (groupAt s) (portAfter s i failed h) (portsIn (groupAt s)) ≡ true → stopsWith s i failed h payload store ≡ true
     stops e f q = rw (e, f, begun, q) refl
-
--- A fetch that gives a report.
-pub record Given (s : List (List ℕ)) (store out report : List ℕ) : Type 0 where
-  pub fitting : fits s store out report ≡ true
-  pub due : dueIn (groupAt s) (portsIn (groupAt s)) s ≡ true
-
--- the ports as the report's states are worked out from them
-abbrev pub passedRows : List (List ℕ) → List ℕ → List (List ℕ)
-passedRows s store = passedOf (groupAt s) store (portsIn (groupAt s)) s
-
--- RS-Ack after the report
-abbrev pub ackAfter : List (List ℕ) → List ℕ → ℕ
-ackAfter s store = ackOf (replyPorts (groupAt (passedRows s store)) (passedRows s store) (portsIn (groupAt s))) (sizeOf (portsIn (groupAt s))) (groupAt s .«rs_ack»)
 
 pub fetch-group : (s : List (List ℕ)) (store out report : List ℕ) → Given s store out report
     → groupAt (fetchRows s store out report) ≡ withAck (passedGroup (groupAt s)) (ackAfter s store)

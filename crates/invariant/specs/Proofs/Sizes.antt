@@ -4,8 +4,8 @@ use mathlib.Core.List.{List, [], _∷_}
 use Prim.Native.Nat.{ℕ, _<_}
 use native.Mathlib.Omega.{arith}
 use lib.ListN.{length}
-use Rattle.invariant.specs.Arriving.{Counts, after-group, frame-by, portAfter, storeAfter}
-use Rattle.invariant.specs.Calls.{Fetch, Frame, Receiver, ReceiverCall, receiverRun, receiverStep, step-kept}
+use Rattle.invariant.specs.Proofs.Arriving.{Counts, after-group, frame-by}
+use Rattle.invariant.specs.Proofs.Calls.{step-kept}
 use Rattle.invariant.specs.Kept.Group.{Kept}
 use Rattle.ground.specs.Truth.{cond-by}
 use Rattle.phases.specs.Laws.Lengths.{length-passed}
@@ -20,6 +20,7 @@ use Rattle.receiver.specs.Laws.Told.{told-group}
 use Rattle.receiver.specs.Report.{reportedOf, statesWorkedOut}
 use Rattle.rows.specs.declared.group.Group.{Group}
 use Rattle.rows.specs.Group.{groupAt}
+use Rattle.invariant.specs.Calls.{Fetch, Frame, Receiver, ReceiverCall, portAfter, receiverRun, receiverStep, storeAfter}
 
 pub frame-sizes : (s : List (List ℕ)) → Kept s → (i : ℕ) (failed : Bool) (h : ℕ) (payload store : List ℕ) → SameSizes (groupAt (frameRows s i failed h payload store)) (groupAt s)
 frame-sizes s k i failed h payload store =

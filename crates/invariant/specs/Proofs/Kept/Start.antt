@@ -9,8 +9,8 @@ use lib.ListN.{length}
 use borrow.Author.Tests.{eqb-true}
 use Rattle.invariant.specs.Kept.Group.{Kept, Lasting}
 use Rattle.invariant.specs.Kept.Port.{PortKept}
-use Rattle.invariant.specs.Laws.Runs.{none-kept}
-use Rattle.invariant.specs.Laws.Window.{some-epochs}
+use Rattle.invariant.specs.Proofs.Laws.Runs.{none-kept}
+use Rattle.invariant.specs.Proofs.Laws.Window.{some-epochs}
 use Rattle.ground.specs.Truth.{and-left}
 use Rattle.packet.specs.Theorems.Tags.{frames-two}
 use Rattle.phases.specs.Sizes.{sized}

@@ -11,18 +11,13 @@ use Rattle.judge.specs.declared.seen.Seen.{Seen}
 use Rattle.judge.specs.Order.{activeIn, hasRank, orderOf, portOf, rankOf}
 use Rattle.judge.specs.Seen.{activeSeen, seenAt}
 use Rattle.packet.specs.Words.{EOS, NORM}
-use Rattle.phases.specs.declared.ruling.Ruling.{Ruling}
-use Rattle.phases.specs.Ruling.{rulingOf}
 use Rattle.receiver.specs.Laws.Seen.{seen-at}
-use Rattle.receiver.specs.Report.{rulingEpoch, seenAll, seenOf}
+use Rattle.receiver.specs.Report.{seenAll, seenOf}
 use Rattle.rows.specs.declared.group.Group.{Group}
 use Rattle.rows.specs.Laws.Port.{port-step}
 use Rattle.rows.specs.Port.{Port, portAt}
 use Rattle.step.specs.Arrival.{flagOf}
-
--- the packet that rules a port, read
-abbrev pub ruledBy : Group → Port → Ruling
-ruledBy g p = rulingOf (g .kind) (rulingEpoch g) (p .ruling)
+use Rattle.invariant.specs.Reports.{SameRule, ruledBy}
 
 pub seen-whole : (g : Group) (s : List (List ℕ)) (i : ℕ) → seenOf g s i .whole ≡ flagOf (portAt s i .step .whole)
 unfolding seenOf
@@ -49,11 +44,6 @@ active-is g s n i h b = rw (seen-at g s n i h b, seen-whole g s i, seen-good g s
 
 number-is : (g : Group) (s : List (List ℕ)) (n i : ℕ) → n ≤ 64 → i < n → seenAt (seenAll g s n) i .number ≡ ruledBy g (portAt s i) .number
 number-is g s n i h b = rw (seen-at g s n i h b, seen-number g s i) refl
-
--- two states in which the same packets rule
-pub record SameRule (n : ℕ) (s t : List (List ℕ)) : Type 0 where
-  pub whole : (i : ℕ) → i < n → portAt s i .step .whole ≡ portAt t i .step .whole
-  pub ruling : (i : ℕ) → i < n → portAt s i .ruling ≡ portAt t i .ruling
 
 module _ (g : Group) (s t : List (List ℕ)) (n : ℕ) (h : n ≤ 64) (same : SameRule n s t) where
   abbrev S : List Seen

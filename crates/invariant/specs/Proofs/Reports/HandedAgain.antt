@@ -8,19 +8,18 @@ use native.Mathlib.Omega.{arith}
 use lib.Dec.{eqb, ltb}
 use lib.ListN.{length}
 use borrow.Author.Tests.{eq-eqb, ne-eqb, lt-ltb}
-use Rattle.invariant.specs.Arriving.{Counts, after-group, frame-by, portAfter, storeAfter}
-use Rattle.invariant.specs.Calls.{Fetch, Frame, Receiver, ReceiverCall, receiverRun, receiverStep, run-kept, step-kept}
-use Rattle.invariant.specs.Kept.Calls.{Due, due-says}
+use Rattle.invariant.specs.Proofs.Arriving.{Counts, after-group, frame-by}
+use Rattle.invariant.specs.Proofs.Calls.{run-kept, step-kept}
+use Rattle.invariant.specs.Proofs.Kept.Calls.{Due, due-says}
 use Rattle.invariant.specs.Kept.Group.{Kept, Lasting}
-use Rattle.invariant.specs.Kept.Passing.{ahead}
+use Rattle.invariant.specs.Proofs.Kept.Passing.{ahead}
 use Rattle.invariant.specs.Kept.Port.{Windowed, offset}
-use Rattle.invariant.specs.Kept.Steps.{brought-owes-nothing, lasting-frame, windowed}
-use Rattle.invariant.specs.Laws.Flags.{true-or-false}
-use Rattle.invariant.specs.Laws.Settling.{settled-by}
-use Rattle.invariant.specs.Laws.Window.{distance-passed, tag-next, tagIn}
-use Rattle.invariant.specs.Reports.Groups.{Given, fetch-none, stopsWith}
-use Rattle.invariant.specs.Reports.Order.{Unstopped, epochGiven, gives, reportsOf}
-use Rattle.invariant.specs.Sizes.{run-sizes, step-sizes}
+use Rattle.invariant.specs.Proofs.Kept.Steps.{brought-owes-nothing, lasting-frame, windowed}
+use Rattle.invariant.specs.Proofs.Laws.Flags.{true-or-false}
+use Rattle.invariant.specs.Proofs.Laws.Settling.{settled-by}
+use Rattle.invariant.specs.Proofs.Laws.Window.{distance-passed, tag-next}
+use Rattle.invariant.specs.Proofs.Reports.Groups.{fetch-none}
+use Rattle.invariant.specs.Proofs.Sizes.{run-sizes, step-sizes}
 use Rattle.ground.specs.Truth.{and-left, and-right, clash}
 use Rattle.judge.specs.Seen.{sizeOf}
 use Rattle.packet.specs.Kinds.{frames}
@@ -54,15 +53,11 @@ use Rattle.step.specs.declared.arrival.Taken.{Taken}
 use Rattle.step.specs.declared.run.Run.{Run}
 use Rattle.step.specs.Laws.Arrival.{ranOn, stepped, taken-by, taken-keeps}
 use Rattle.store.specs.Frames.{placeIn, storedAt}
-use Rattle.store.specs.Laws.Stands.{Stands, stands-put}
+use Rattle.store.specs.Laws.Stands.{stands-put}
 use Rattle.store.specs.Laws.Stored.{length-stored}
 use Rattle.store.specs.Marks.{firstMark}
-
--- no frame of port i
-abbrev pub Others : ℕ → List ReceiverCall → Type 0
-Others i [] = Unit {0}
-Others i (Frame j failed h payload ∷ calls) = (j ≢ i) × Others i calls
-Others i (Fetch out report ∷ calls) = Others i calls
+use Rattle.invariant.specs.Calls.{Fetch, Frame, Receiver, ReceiverCall, portAfter, receiverRun, receiverStep, storeAfter}
+use Rattle.invariant.specs.Reports.{Given, Others, Stored, Unstopped, epochGiven, gives, reportsOf, stopsWith}
 
 -- What 11 says of a port.
 record Full (g : Group) (s : Step) (failed : Bool) (h : ℕ) : Type 0 where
@@ -268,15 +263,6 @@ answered s i failed h payload store e = go (ltb i (portsIn (groupAt s))) (frameF
     go true true e = (refl, e)
     go true false e = absurd (omega arith)
     go false b e = absurd (omega arith)
-
--- a frame that is answered 0 and stored
-pub record Stored (y : Receiver) (i : ℕ) (failed : Bool) (h : ℕ) (payload : List ℕ) : Type 0 where
-  pub answer : frameAnswer (y .rows) i failed h (length payload) (length (y .store)) ≡ 0
-  pub at : ℕ
-  pub inside : at < groupAt (y .rows) .window
-  pub tag : tagIn (groupAt (y .rows)) at ≡ portAt (y .rows) i .step .next
-  pub store-is : frameStore (y .rows) i failed h payload (y .store) ≡ storedAt (y .store) (placeIn (groupAt (y .rows)) i at) payload h
-  pub stands : Stands (groupAt (y .rows)) i at payload h (frameStore (y .rows) i failed h payload (y .store))
 
 kept-store : (s : List (List ℕ)) (i : ℕ) (failed : Bool) (h : ℕ) (payload store : List ℕ) (d : ℕ) (run : Run) → frameRefusal s i (length payload) (length store) ≡ 0
     → takenIn s i failed h ≡ keeps (groupAt s) (stepAt s i) run d

@@ -5,10 +5,10 @@ use mathlib.Core.Bool.{Bool, true, false, _&&_}
 use mathlib.Core.List.{List}
 use Prim.Native.Nat.{ℕ, _-_, _≤_}
 use native.Mathlib.Omega.{arith}
-use Rattle.invariant.specs.Arriving.{after-group, frame-any, portAfter, storeAfter}
-use Rattle.invariant.specs.Laws.Flags.{true-or-false}
-use Rattle.invariant.specs.Laws.Settling.{settled-by}
-use Rattle.invariant.specs.Reports.Groups.{Given, ackAfter, fetch-group, fetch-none, passedRows}
+use Rattle.invariant.specs.Proofs.Arriving.{after-group, frame-any}
+use Rattle.invariant.specs.Proofs.Laws.Flags.{true-or-false}
+use Rattle.invariant.specs.Proofs.Laws.Settling.{settled-by}
+use Rattle.invariant.specs.Proofs.Reports.Groups.{fetch-group, fetch-none}
 use Rattle.judge.specs.Seen.{sizeOf}
 use Rattle.phases.specs.Laws.Cleared.{begun-group, stopped-group}
 use Rattle.phases.specs.Laws.Lengths.{length-stopped}
@@ -24,9 +24,8 @@ use Rattle.reply.specs.Telling.{turns}
 use Rattle.reply.specs.Theorems.Ack.{ack-kept, ack-turned}
 use Rattle.rows.specs.declared.group.Group.{Group}
 use Rattle.rows.specs.Group.{groupAt}
-
-abbrev pub ackIn : List (List ℕ) → ℕ
-ackIn s = groupAt s .«rs_ack»
+use Rattle.invariant.specs.Calls.{portAfter, storeAfter}
+use Rattle.invariant.specs.Reports.{Given, ackAfter, ackIn, passedRows}
 
 -- no frame changes it
 pub frame-ack : (s : List (List ℕ)) (i : ℕ) (failed : Bool) (h : ℕ) (payload store : List ℕ) → ackIn (frameRows s i failed h payload store) ≡ ackIn s

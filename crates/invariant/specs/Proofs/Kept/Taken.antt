@@ -8,9 +8,9 @@ use native.Mathlib.Omega.{arith}
 use lib.Dec.{eqb, leb, ltb}
 use borrow.Author.Tests.{ltb-true, lt-ltb, le-ltb, eqb-true}
 use Rattle.invariant.specs.Kept.Port.{Joined, PortKept, Waiting, Windowed, endOf, offset, shortOf}
-use Rattle.invariant.specs.Laws.Flags.{flag-on, never}
-use Rattle.invariant.specs.Laws.Runs.{RunKept, none-kept, run-goes-on, run-kept}
-use Rattle.invariant.specs.Laws.Window.{at-base, distance-next, ends-inside, ends-more, ends-same, epochs-none, far, meet, none-ended, short-next, start-place, whole-epochs}
+use Rattle.invariant.specs.Proofs.Laws.Flags.{flag-on, never}
+use Rattle.invariant.specs.Proofs.Laws.Runs.{none-kept, run-goes-on, run-kept}
+use Rattle.invariant.specs.Proofs.Laws.Window.{at-base, distance-next, ends-inside, ends-more, ends-same, epochs-none, far, meet, none-ended, short-next, start-place, whole-epochs}
 use Rattle.ground.specs.Truth.{and-left, and-true, clash, le-or-lt, or-cases}
 use Rattle.packet.specs.Kinds.{endsEpoch, epochsIn, frames, startsEpoch, tagAfter, tags}
 use Rattle.packet.specs.Theorems.Tags.{frames-two}
@@ -23,6 +23,7 @@ use Rattle.step.specs.declared.run.Run.{Run}
 use Rattle.step.specs.Laws.Arrival.{inWindow, ranOn, stepped, taken-by}
 use Rattle.store.specs.Laws.Marks.{Sixteen, mark-beyond, mark-cut, mark-marked, sixteen-cut, sixteen-marked}
 use Rattle.store.specs.Marks.{markIn, markedAt}
+use Rattle.invariant.specs.Kept.Run.{RunKept}
 
 -- a port without step
 lost-kept : (g : Group) (s : Step) (marks : List ℕ) (failed : ℕ) (run : Run) → failed ≤ 1 → RunKept (g .kind) run → (failed ≢ 0 → run .count ≡ 0)

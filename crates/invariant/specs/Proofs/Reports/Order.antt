@@ -1,16 +1,15 @@
 -- Reports come in order, with no gap, from the first one after a beginning until receiving stops. On every state.
 use mathlib.Core.Path.{_≡_, refl, ap, _∙_}
 use mathlib.Core.Logic.{⊎-elim}
-use mathlib.Core.Bool.{Bool, true, false, cond, _&&_}
+use mathlib.Core.Bool.{Bool, true, false, cond}
 use mathlib.Core.List.{List, [], _∷_}
-use Prim.Native.Nat.{ℕ, zero, suc}
+use Prim.Native.Nat.{ℕ, suc}
 use native.Mathlib.Omega.{arith}
 use lib.ListN.{length}
-use Rattle.invariant.specs.Arriving.{after-group, frame-any, portAfter, storeAfter}
-use Rattle.invariant.specs.Calls.{Fetch, Frame, Receiver, ReceiverCall, receiverStep}
-use Rattle.invariant.specs.Kept.Calls.{due-says}
-use Rattle.invariant.specs.Laws.Settling.{settled-by}
-use Rattle.invariant.specs.Reports.Groups.{Gathers, fetch-group, fetch-none, frame-holds, stopsWith}
+use Rattle.invariant.specs.Proofs.Arriving.{after-group, frame-any}
+use Rattle.invariant.specs.Proofs.Kept.Calls.{due-says}
+use Rattle.invariant.specs.Proofs.Laws.Settling.{settled-by}
+use Rattle.invariant.specs.Proofs.Reports.Groups.{fetch-group, fetch-none, frame-holds}
 use Rattle.ground.specs.Truth.{and-left, and-right, clash}
 use Rattle.packet.specs.Kinds.{epochAfter, epochOf}
 use Rattle.phases.specs.Beginning.{foremost}
@@ -24,37 +23,8 @@ use Rattle.receiver.specs.Report.{reportBy, reportOf}
 use Rattle.rows.specs.declared.group.Group.{Group}
 use Rattle.rows.specs.Group.{groupAt}
 use Rattle.step.specs.Arrival.{flagOf}
-
--- a fetch gives a report
-abbrev pub gives : Receiver → List ℕ → List ℕ → Bool
-gives x out report = fits (x .rows) (x .store) out report && dueIn (groupAt (x .rows)) (portsIn (groupAt (x .rows))) (x .rows)
-
--- the epoch that it says
-abbrev pub epochGiven : Receiver → ℕ
-epochGiven x = reportIfDue (groupAt (x .rows)) (portsIn (groupAt (x .rows))) (x .rows) .epoch
-
--- the epochs of all reports that a list of calls gives
-abbrev pub reportsOf : Receiver → List ReceiverCall → List ℕ
-reportsOf x [] = []
-reportsOf x (Frame i failed h payload ∷ calls) = reportsOf (receiverStep x (Frame i failed h payload)) calls
-reportsOf x (Fetch out report ∷ calls) =
-    let rest = reportsOf (receiverStep x (Fetch out report)) calls in
-    cond (gives x out report) (epochGiven x ∷ rest) rest
-
--- receiving stops in none of them
-abbrev pub Unstopped : Receiver → List ReceiverCall → Type 0
-Unstopped x [] = Unit {0}
-Unstopped x (Frame i failed h payload ∷ calls) = (stopsWith (x .rows) i failed h payload (x .store) ≡ false) × Unstopped (receiverStep x (Frame i failed h payload)) calls
-Unstopped x (Fetch out report ∷ calls) = Unstopped (receiverStep x (Fetch out report)) calls
-
--- so many epochs, each the one after the one before
-abbrev pub successive : ℕ → ℕ → ℕ → List ℕ
-successive kind e zero = []
-successive kind e (suc n) = e ∷ successive kind (epochAfter kind e) n
-
--- the first epoch to be reported: the one after the epoch that is still to be gathered, or the oldest
-abbrev pub nextReport : Group → ℕ
-nextReport g = cond (flagOf (g .gathered)) (g .oldest) (epochAfter (g .kind) (g .oldest))
+use Rattle.invariant.specs.Calls.{Fetch, Frame, Receiver, ReceiverCall, portAfter, receiverStep, storeAfter}
+use Rattle.invariant.specs.Reports.{Gathers, Unstopped, epochGiven, gives, nextReport, reportsOf, stopsWith, successive}
 
 -- a report's epoch is the oldest one
 given-epoch : (g : Group) (n : ℕ) (s : List (List ℕ)) → dueIn g n s ≡ true → reportIfDue g n s .epoch ≡ g .oldest
