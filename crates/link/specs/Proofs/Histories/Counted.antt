@@ -15,13 +15,13 @@ use Rattle.link.specs.Sending.{epochStart}
 use Rattle.link.specs.Proofs.Histories.Packets.{fields-bounds, packet-epoch, packet-is}
 
 -- the two nibbles of MFI2 in a packet's H4 bytes
-high-sent : (kind : ℕ) (f : Fields) (z : ℕ) → f .epoch < 256 → getD (h4Of (nibblesOf f z)) (lead kind) 0 / 16 ≡ f .epoch / 16
+high-sent : (kind : ℕ) (f : Fields) → f .epoch < 256 → getD (h4Of (nibblesOf f)) (lead kind) 0 / 16 ≡ f .epoch / 16
 unfolding h4Of nibblesOf sealedOf dataOf lead
-high-sent kind f z b = omega arith
+high-sent kind f b = omega arith
 
-low-sent : (kind : ℕ) (f : Fields) (z : ℕ) → f .epoch < 256 → getD (h4Of (nibblesOf f z)) (lead kind + 1) 0 / 16 ≡ f .epoch % 16
+low-sent : (kind : ℕ) (f : Fields) → f .epoch < 256 → getD (h4Of (nibblesOf f)) (lead kind + 1) 0 / 16 ≡ f .epoch % 16
 unfolding h4Of nibblesOf sealedOf dataOf lead
-low-sent kind f z b = omega arith
+low-sent kind f b = omega arith
 
 -- what the tag's epoch then is
 epoch-high : (kind x : ℕ) → tagOf kind x % 16 ≡ 0 → epochOf kind (tagOf kind x) / 16 ≡ tagOf kind x / 256 % 16
@@ -33,18 +33,18 @@ unfolding epochOf lead frames tags
 epoch-low kind x z = omega arith
 
 -- a packet whose epoch is that of the tag of x: its H4 byte at the tag's place
-pub counted-as-sent : (kind x : ℕ) (f : Fields) (z : ℕ) → f .epoch < 256 → f .epoch ≡ epochOf kind (tagOf kind x)
-    → SentWith kind x (getD (h4Of (nibblesOf f z)) (placeOf kind (tagOf kind x)) 0)
-counted-as-sent kind x f z b e =
+pub counted-as-sent : (kind x : ℕ) (f : Fields) → f .epoch < 256 → f .epoch ≡ epochOf kind (tagOf kind x)
+    → SentWith kind x (getD (h4Of (nibblesOf f)) (placeOf kind (tagOf kind x)) 0)
+counted-as-sent kind x f b e =
     let t : ℕ = tagOf kind x in
-    counts-by kind t (getD (h4Of (nibblesOf f z)) (placeOf kind t) 0) (place-sent (nibblesOf f z) kind t)
-    (λ (q : t % 16 ≡ 0). ap (λ (k : ℕ). getD (h4Of (nibblesOf f z)) k 0 / 16) (place-high kind t q) ∙ high-sent kind f z b ∙ ap (λ (n : ℕ). n / 16) e ∙ epoch-high kind x q)
-    (λ (q : t % 16 ≡ 1). ap (λ (k : ℕ). getD (h4Of (nibblesOf f z)) k 0 / 16) (place-low kind t q) ∙ low-sent kind f z b ∙ ap (λ (n : ℕ). n % 16) e ∙ epoch-low kind x q)
+    counts-by kind t (getD (h4Of (nibblesOf f)) (placeOf kind t) 0) (place-sent (nibblesOf f) kind t)
+    (λ (q : t % 16 ≡ 0). ap (λ (k : ℕ). getD (h4Of (nibblesOf f)) k 0 / 16) (place-high kind t q) ∙ high-sent kind f b ∙ ap (λ (n : ℕ). n / 16) e ∙ epoch-high kind x q)
+    (λ (q : t % 16 ≡ 1). ap (λ (k : ℕ). getD (h4Of (nibblesOf f)) k 0 / 16) (place-low kind t q) ∙ low-sent kind f b ∙ ap (λ (n : ℕ). n % 16) e ∙ epoch-low kind x q)
 
 module _ (h : History) (a : Allowed h) (i slot k : ℕ) (b : slot < h .slots) (l : k < frames (h .kind)) where
   pub sent-counts : SentWith (h .kind) (firstTag (h .kind) (h .first) + (epochStart (h .kind) i + k)) (getD (packetSent h i slot) k 0)
   sent-counts =
       rw (packet-is h a i slot b)
-      (ap (λ (p : ℕ). counts (h .kind) (tagAt (h .kind) (h .first) i k) (getD (h4Of (nibblesOf (fieldsSent h i slot) 0)) p 0)) (sym (tag-place (h .kind) (h .first) i k l))
-      ∙ counted-as-sent (h .kind) (firstTag (h .kind) (h .first) + (epochStart (h .kind) i + k)) (fieldsSent h i slot) 0 (fields-bounds h a i slot b .epoch)
+      (ap (λ (p : ℕ). counts (h .kind) (tagAt (h .kind) (h .first) i k) (getD (h4Of (nibblesOf (fieldsSent h i slot))) p 0)) (sym (tag-place (h .kind) (h .first) i k l))
+      ∙ counted-as-sent (h .kind) (firstTag (h .kind) (h .first) + (epochStart (h .kind) i + k)) (fieldsSent h i slot) (fields-bounds h a i slot b .epoch)
       (packet-epoch h a i slot ∙ sym (tag-epoch (h .kind) (h .first) i k l)))
