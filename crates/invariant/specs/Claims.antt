@@ -1,32 +1,22 @@
--- What a port says of the store: which frames of the window stand there.
-use mathlib.Core.Path.{_≡_, refl, sym, _∙_}
-use mathlib.Core.Logic.{_⊎_, inl, inr, ⊎-elim, _≢_}
-use mathlib.Core.Bool.{Bool, true, false, cond, _&&_, false≢true}
-use mathlib.Core.List.{List}
-use Prim.Native.Nat.{ℕ, _+_, _*_, _/_, _≤_, _<_}
-use native.Mathlib.Omega.{arith}
-use lib.Dec.{eqb, ltb}
-use borrow.Author.Tests.{eqb-true, ltb-true}
-use Rattle.invariant.specs.Kept.Passing.{ahead}
-use Rattle.invariant.specs.Kept.Port.{Joined, PortKept, Windowed, offset}
-use Rattle.invariant.specs.Laws.Flags.{never}
-use Rattle.invariant.specs.Laws.Runs.{run-counts, run-goes-on}
-use Rattle.invariant.specs.Laws.Window.{distance-next, distance-passed, epoch-cut, epoch-ended, epoch-more, in-epoch, later-back, later-part, part-back, part-before, start-place, whole-epochs}
-use Rattle.ground.specs.Truth.{and-left, and-right, clash, eq-or-ne, le-or-lt, or-cases}
+-- What a port says of the store: which frames of the window stand there, and the calls that handed them.
+use mathlib.Core.Path.{_≡_}
+use mathlib.Core.Logic.{_⊎_}
+use mathlib.Core.Bool.{Bool, true, false}
+use mathlib.Core.List.{List, [], _∷_}
+use Prim.Native.Nat.{ℕ, _+_, _*_, _/_, _≤_, _<_, _%_}
+use Rattle.invariant.specs.Kept.Port.{offset}
 use Rattle.packet.specs.Counts.{counts}
-use Rattle.packet.specs.Kinds.{endsEpoch, epochsIn, frames, startsEpoch, tags}
-use Rattle.packet.specs.Theorems.Tags.{frames-two}
-use Rattle.phases.specs.Due.{owesNothing}
-use Rattle.phases.specs.Passing.{passedGroup, passedStep}
-use Rattle.receiver.specs.Frame.{marksBy}
+use Rattle.packet.specs.Kinds.{frames, tags, firstTag}
+use Rattle.receiver.specs.Frame.{frameAnswer}
 use Rattle.rows.specs.declared.group.Group.{Group}
 use Rattle.rows.specs.declared.step.Step.{Step}
-use Rattle.step.specs.Arrival.{frameDropped, countsOn, distanceIn, flagOf, flagged, joining, keeps, outside, runOf, takenOf}
-use Rattle.step.specs.declared.arrival.Taken.{Taken}
-use Rattle.step.specs.declared.run.Run.{Run}
-use Rattle.step.specs.Laws.Arrival.{inWindow, ranOn, stepped, taken-by}
-use Rattle.store.specs.Laws.Marks.{mark-beyond, mark-cut, mark-marked, mark-passed, sixteen-marked}
-use Rattle.store.specs.Marks.{cutFrom, firstMark, markIn, markedAt, passedMarks}
+use Rattle.step.specs.Arrival.{flagOf}
+use Rattle.store.specs.Marks.{markIn}
+use lib.ListN.{getD, length}
+use Rattle.rows.specs.Group.{groupAt}
+use Rattle.rows.specs.Port.{portAt}
+use Rattle.store.specs.Laws.Stands.{Stands}
+use Rattle.invariant.specs.Calls.{Fetch, Frame, Receiver, ReceiverCall, receiverStep}
 
 -- of the epoch that a joined port is in the midst of: from its first frame, or the epoch joined at, up to the tag to come
 pub record Part (g : Group) (s : Step) (d : ℕ) : Type 0 where
@@ -40,186 +30,34 @@ pub record Claims (g : Group) (s : Step) (marks : List ℕ) (d : ℕ) : Type 0 w
   pub begun : flagOf (g .begun) ≡ true
   pub has : (markIn marks (d / frames (g .kind)) ≡ true) ⊎ Part g s d
 
--- what is claimed lies in the window
-pub claims-inside : (g : Group) (s : Step) (marks : List ℕ) → PortKept g s marks → (d : ℕ) → Claims g s marks d → d < g .window
-claims-inside g s marks k d c =
-    ⊎-elim (λ (m : markIn marks (d / frames (g .kind)) ≡ true). in-epoch (g .kind) d (g .window) (k .inside (d / frames (g .kind)) m))
-    (λ (p : Part g s d). let l = p .upto in let r = k .goes (p .joined) .reach in omega arith) (c .has)
+-- the tag of the frame that lies d after the window's first
+unfoldable pub tagIn : Group → ℕ → ℕ
+tagIn g d = (firstTag (g .kind) (g .oldest) + d) % tags (g .kind)
 
--- as an epoch is passed, what is claimed was claimed an epoch's frames further on
-pub passed-claims : (g : Group) (s : Step) (marks : List ℕ) → PortKept g s marks → flagOf (g .begun) ≡ true → owesNothing g s marks ≡ true → (d : ℕ)
-    → Claims (passedGroup g) (passedStep s (firstMark marks)) (passedMarks marks) d → Claims g s marks (d + frames (g .kind))
-unfolding passedGroup passedStep
-passed-claims g s marks k begun due d c =
-    record {
-      begun = begun;
-      has =
-          ⊎-elim
-          (λ (m : markIn (passedMarks marks) (d / frames (g .kind)) ≡ true).
-          inl (rw (epoch-more (g .kind) d) (sym (mark-passed marks (k .row) (d / frames (g .kind))) ∙ m)))
-          (λ (p : Part (passedGroup g) (passedStep s (firstMark marks)) d).
-          let near : distanceIn (passedGroup g) (s .next) + frames (g .kind) ≡ offset g s =
-          distance-passed g (passedGroup g) (s .next) refl refl (ahead g s marks k begun due (p .joined)) in
-          inr (record {
-            joined = p .joined;
-            later = later-back (g .kind) (s .later) d (p .later);
-            from = part-back (g .kind) d (offset g s) (distanceIn (passedGroup g) (s .next)) near (p .from);
-            upto = let l = p .upto in omega arith;
-          }))
-          (c .has);
-    }
+-- port i claims a frame with this tag, and there stand this payload and this H4
+pub record Claimed (s : List (List ℕ)) (store : List ℕ) (i tag : ℕ) (payload : List ℕ) (h : ℕ) : Type 0 where
+  pub at : ℕ
+  pub claims : Claims (groupAt s) (portAt s i .step) (portAt s i .marks) at
+  pub tag-is : tag ≡ tagIn (groupAt s) at
+  pub stands : Stands (groupAt s) i at payload h store
 
--- the frame that was just handed
-pub record New (g : Group) (s : Step) (failed : Bool) (h : ℕ) (t : Taken) (d : ℕ) : Type 0 where
-  pub kept : t .kept ≡ true
-  pub at : d ≡ t .at
-  pub next : t .at ≡ offset g s
+-- it is the frame just handed: answered 0, with the tag to come and an H4 that counts as that tag says
+pub record Handed (s : List (List ℕ)) (i : ℕ) (failed : Bool) (h : ℕ) (payload store : List ℕ) (j tag : ℕ) (bytes : List ℕ) (h4 : ℕ) : Type 0 where
+  pub port : j ≡ i
   pub unflagged : failed ≡ false
-  pub answer : t .answer ≡ 0
-  pub counted : counts (g .kind) (s .next) h ≡ true
+  pub answer : frameAnswer s i failed h (length payload) (length store) ≡ 0
+  pub tag-is : tag ≡ portAt s i .step .next
+  pub counted : counts (groupAt s .kind) tag h ≡ true
+  pub h4-is : h4 ≡ h
+  pub bytes-are : (k : ℕ) → k < groupAt s .payload → getD bytes k 0 ≡ getD payload k 0
 
--- or one that was claimed before
-pub record Old (g : Group) (s : Step) (marks : List ℕ) (t : Taken) (d : ℕ) : Type 0 where
-  pub claims : Claims g s marks d
-  pub apart : t .kept ≡ true → d ≢ t .at
+module _ (tag : ℕ) (bytes : List ℕ) (h4 : ℕ) where
+  -- a call handed it
+  abbrev pub HandedBy : Receiver → ReceiverCall → ℕ → Type 0
+  HandedBy x (Frame i failed h payload) j = Handed (x .rows) i failed h payload (x .store) j tag bytes h4
+  HandedBy x (Fetch out report) j = ⊥
 
--- a frame of the port itself
-module _ (g : Group) (s : Step) (marks : List ℕ) (failed : Bool) (h : ℕ) (W : Windowed g) (k : PortKept g s marks) (d : ℕ) where
-  abbrev Stays : Taken → Type 0
-  Stays t = Claims g (t .step) (marksBy (g .kind) marks t) d → New g s failed h t d ⊎ Old g s marks t d
-
-  flagged-stays : Stays (flagged g s)
-  unfolding flagged marksBy
-  flagged-stays c =
-      inr (record {
-        claims = record { begun = c .begun; has = ⊎-elim (λ (m : markIn marks (d / frames (g .kind)) ≡ true). inl m) (λ (p : Part g (flagged g s .step) d). never (p .joined)) (c .has) };
-        apart = λ e. never e;
-      })
-
-  counts-stays : (run : Run) → Stays (countsOn g s run)
-  unfolding countsOn marksBy
-  counts-stays run c =
-      inr (record {
-        claims = record { begun = c .begun; has = ⊎-elim (λ (m : markIn marks (d / frames (g .kind)) ≡ true). inl m) (λ (p : Part g (countsOn g s run .step) d). never (p .joined)) (c .has) };
-        apart = λ e. never e;
-      })
-
-  dropped-stays : (run : Run) → (flagOf (g .begun) ≡ true → flagOf (s .joined) ≡ false) → Stays (frameDropped g s run)
-  unfolding frameDropped marksBy
-  dropped-stays run off c =
-      inr (record {
-        claims =
-            record {
-              begun = c .begun;
-              has =
-                  ⊎-elim (λ (m : markIn marks (d / frames (g .kind)) ≡ true). inl m)
-                  (λ (p : Part g (frameDropped g s run .step) d). clash (flagOf (s .joined)) (p .joined) (off (c .begun))) (c .has);
-            };
-        apart = λ e. never e;
-      })
-
-  outside-stays : Stays (outside s)
-  unfolding outside marksBy
-  outside-stays c = inr (record { claims = c; apart = λ e. never e })
-
-  module _ (f : failed ≡ false) (on : stepped g s h ≡ true) (w : inWindow g s ≡ true) where
-    abbrev run : Run
-    run = ranOn g s h
-
-    abbrev e : ℕ
-    e = offset g s
-
-    low : e < g .window
-    low = ltb-true e (g .window) w
-
-    half : e + e < tags (g .kind)
-    half = let most = W .most in let l = low in omega arith
-
-    next-offset : distanceIn g (run .next) ≡ e + 1
-    next-offset =
-        rw (run-goes-on (g .kind) (runOf s) h on)
-        (distance-next g (s .next) (let most = W .most in let l = low in let some = W .least in let more = frames-two (g .kind) in omega arith))
-
-    sent : counts (g .kind) (s .next) h ≡ true
-    sent = run-counts (g .kind) (runOf s) h on
-
-    keeps-stays : flagOf (s .joined) ≡ true → Stays (keeps g s run e)
-    unfolding keeps marksBy
-    keeps-stays j c =
-        ⊎-elim (λ (z : d ≡ e). inl (record { kept = refl; at = z; next = refl; unflagged = f; answer = refl; counted = sent }))
-        (λ (z : d ≢ e). inr (record { claims = record { begun = c .begun; has = old z }; apart = λ y. z })) (eq-or-ne d e)
-      where
-        o : Joined g s marks
-        o = k .goes j
-
-        part : frames (g .kind) * (offset g s / frames (g .kind)) ≤ d → d < offset g s → Part g s d
-        part from upto = record { joined = j; later = later-part (g .kind) (s .later) d (offset g s) (o .passed) from; from = from; upto = upto }
-
-        by-mark : (b : Bool) → endsEpoch (g .kind) (offset g s) ≡ b → d ≢ offset g s
-            → markIn (cond b (markedAt marks (epochsIn (g .kind) (offset g s))) marks) (d / frames (g .kind)) ≡ true
-            → (markIn marks (d / frames (g .kind)) ≡ true) ⊎ Part g s d
-        by-mark true ends z m =
-            ⊎-elim
-            (λ (a : 128 ≤ d / frames (g .kind)).
-            never (sym (mark-beyond (markedAt marks (epochsIn (g .kind) (offset g s))) (d / frames (g .kind)) (sixteen-marked marks (k .row) (epochsIn (g .kind) (offset g s)) .len) a) ∙ m))
-            (λ (a : d / frames (g .kind) < 128).
-            ⊎-elim (λ (t : markIn marks (d / frames (g .kind)) ≡ true). inl t)
-            (λ (t : eqb (d / frames (g .kind)) (epochsIn (g .kind) (offset g s)) ≡ true).
-            let q = epoch-ended (g .kind) d (offset g s) half ends z (eqb-true (d / frames (g .kind)) (epochsIn (g .kind) (offset g s)) t) in
-            inr (part (q .0) (q .1)))
-            (or-cases (markIn marks (d / frames (g .kind))) (eqb (d / frames (g .kind)) (epochsIn (g .kind) (offset g s)))
-            (sym (mark-marked marks (k .row) (epochsIn (g .kind) (offset g s)) (d / frames (g .kind)) a) ∙ m)))
-            (le-or-lt 128 (d / frames (g .kind)))
-        by-mark false ends z m = inl m
-
-        old : d ≢ offset g s → (markIn marks (d / frames (g .kind)) ≡ true) ⊎ Part g s d
-        old z =
-            ⊎-elim (λ m. by-mark (endsEpoch (g .kind) (offset g s)) refl z m)
-            (λ (p : Part g (keeps g s run e .step) d).
-            let from : frames (g .kind) * ((offset g s + 1) / frames (g .kind)) ≤ d = rw next-offset at (p .from) in
-            let upto : d < offset g s + 1 = rw next-offset at (p .upto) in
-            inr (part (part-before (g .kind) d (offset g s) from) (omega arith)))
-            (c .has)
-
-    joins-stays : startsEpoch (g .kind) (s .next) ≡ true → Stays (joining g s run e)
-    unfolding joining marksBy
-    joins-stays start c =
-        ⊎-elim
-        (λ (m : markIn (cutFrom marks (epochsIn (g .kind) (offset g s))) (d / frames (g .kind)) ≡ true).
-        let both-hold : (markIn marks (d / frames (g .kind)) && ltb (d / frames (g .kind)) (epochsIn (g .kind) (offset g s))) ≡ true =
-        sym (mark-cut marks (k .row) (epochsIn (g .kind) (offset g s)) (d / frames (g .kind))) ∙ m in
-        let l = ltb-true (d / frames (g .kind)) (epochsIn (g .kind) (offset g s)) (and-right (markIn marks (d / frames (g .kind))) (ltb (d / frames (g .kind)) (epochsIn (g .kind) (offset g s))) both-hold) in
-        inr (record {
-          claims = record { begun = c .begun; has = inl (and-left (markIn marks (d / frames (g .kind))) (ltb (d / frames (g .kind)) (epochsIn (g .kind) (offset g s))) both-hold) };
-          apart = λ y. epoch-cut (g .kind) d (offset g s) half l;
-        }))
-        (λ (p : Part g (joining g s run e .step) d).
-        let epochs : frames (g .kind) * epochsIn (g .kind) (offset g s) ≡ offset g s = whole-epochs (g .kind) (offset g s) half (start-place g (s .next) start) in
-        let from : offset g s ≤ d = rw epochs at (p .later) in
-        let upto : d < offset g s + 1 = rw next-offset at (p .upto) in
-        inl (record { kept = refl; at = omega arith; next = refl; unflagged = f; answer = refl; counted = sent }))
-        (c .has)
-
-  pub taken-claims : Stays (takenOf g s failed h)
-  taken-claims =
-      taken-by Stays g s failed h
-      (λ f. flagged-stays)
-      (λ f e. counts-stays (ranOn g s h))
-      (λ f e b. dropped-stays (ranOn g s h) (λ t. clash (flagOf (g .begun)) t b))
-      (λ f e b j w. keeps-stays f e w j)
-      (λ f e b j w. outside-stays)
-      (λ f e b j t w. joins-stays f e w t)
-      (λ f e b j w. dropped-stays (ranOn g s h) (λ t. j))
-
--- a frame that is stored lies in the window
-pub taken-inside : (g : Group) (s : Step) (failed : Bool) (h : ℕ) → takenOf g s failed h .kept ≡ true → takenOf g s failed h .at < g .window
-unfolding flagged countsOn frameDropped keeps outside joining
-taken-inside g s failed h =
-    taken-by (λ (t : Taken). t .kept ≡ true → t .at < g .window) g s failed h
-    (λ f e. absurd (false≢true e))
-    (λ f o e. absurd (false≢true e))
-    (λ f o b e. absurd (false≢true e))
-    (λ f o b j w e. ltb-true (offset g s) (g .window) w)
-    (λ f o b j w e. absurd (false≢true e))
-    (λ f o b j t w e. ltb-true (offset g s) (g .window) w)
-    (λ f o b j w e. absurd (false≢true e))
+  -- one of the calls handed it
+  abbrev pub HandedIn : Receiver → List ReceiverCall → ℕ → Type 0
+  HandedIn x [] j = ⊥
+  HandedIn x (c ∷ calls) j = HandedBy x c j ⊎ HandedIn (receiverStep x c) calls j

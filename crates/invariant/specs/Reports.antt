@@ -1,8 +1,126 @@
--- What 01 and the minutes ask of reports, proved on the definitions.
-pub mod Seen
-pub mod Bytes
-pub mod Held
-pub mod Groups
-pub mod Order
-pub mod Ack
-pub mod HandedAgain
+-- What 01 and the minutes say of reports, as the theorems say it.
+use mathlib.Core.Path.{_≡_}
+use mathlib.Core.Bool.{Bool, _&&_, true, false, cond, not}
+use mathlib.Core.List.{List, [], _∷_}
+use Prim.Native.Nat.{ℕ, _<_, zero, suc}
+use lib.Dec.{eqb}
+use Rattle.judge.specs.Seen.{sizeOf}
+use Rattle.phases.specs.declared.ruling.Ruling.{Ruling}
+use Rattle.phases.specs.Ruling.{rulingOf}
+use Rattle.receiver.specs.Report.{rulingEpoch, replyPorts}
+use Rattle.rows.specs.declared.group.Group.{Group}
+use Rattle.rows.specs.Port.{Port, portAt}
+use Rattle.step.specs.Arrival.{flagOf}
+use mathlib.Core.Logic.{_≢_}
+use lib.ListN.{length}
+use Rattle.phases.specs.Due.{silent}
+use Rattle.phases.specs.Passing.{passedGroup, passedOf}
+use Rattle.phases.specs.Sizes.{portsIn}
+use Rattle.receiver.specs.Fetch.{dueIn, fits, reportIfDue}
+use Rattle.receiver.specs.Frame.{frameRefusal, takenIn, frameAnswer, frameStore}
+use Rattle.reply.specs.Telling.{ackOf}
+use Rattle.rows.specs.Group.{groupAt}
+use Rattle.packet.specs.Kinds.{epochAfter}
+use Rattle.store.specs.Frames.{placeIn, storedAt}
+use Rattle.store.specs.Laws.Stands.{Stands}
+use Rattle.judge.specs.Verdict.{HELD}
+use Rattle.receiver.specs.declared.report.Report.{Report}
+use Rattle.invariant.specs.Calls.{Fetch, Frame, Receiver, ReceiverCall, portAfter, receiverStep}
+use Rattle.invariant.specs.Claims.{tagIn}
+
+-- the packet that rules a port, read
+abbrev pub ruledBy : Group → Port → Ruling
+ruledBy g p = rulingOf (g .kind) (rulingEpoch g) (p .ruling)
+
+-- two states in which the same packets rule
+pub record SameRule (n : ℕ) (s t : List (List ℕ)) : Type 0 where
+  pub whole : (i : ℕ) → i < n → portAt s i .step .whole ≡ portAt t i .step .whole
+  pub ruling : (i : ℕ) → i < n → portAt s i .ruling ≡ portAt t i .ruling
+
+-- receiving stops in this call: the frame counts, and after it no port is readable
+abbrev pub stopsWith : List (List ℕ) → ℕ → Bool → ℕ → List ℕ → List ℕ → Bool
+stopsWith s i failed h payload store =
+    eqb (frameRefusal s i (length payload) (length store)) 0
+    && not (eqb (takenIn s i failed h .answer) 11)
+    && flagOf (groupAt s .begun)
+    && silent (groupAt s) (portAfter s i failed h) (portsIn (groupAt s))
+
+-- what a frame may do to the group of a receiver that has begun, where it does not stop: nothing, or gather the first epoch
+pub record Gathers (g h : Group) : Type 0 where
+  pub first : flagOf (g .gathered) ≡ false
+  pub passed : h ≡ passedGroup g
+
+-- A fetch that gives a report.
+pub record Given (s : List (List ℕ)) (store out report : List ℕ) : Type 0 where
+  pub fitting : fits s store out report ≡ true
+  pub due : dueIn (groupAt s) (portsIn (groupAt s)) s ≡ true
+
+-- the ports as the report's states are worked out from them
+abbrev pub passedRows : List (List ℕ) → List ℕ → List (List ℕ)
+passedRows s store = passedOf (groupAt s) store (portsIn (groupAt s)) s
+
+-- RS-Ack after the report
+abbrev pub ackAfter : List (List ℕ) → List ℕ → ℕ
+ackAfter s store = ackOf (replyPorts (groupAt (passedRows s store)) (passedRows s store) (portsIn (groupAt s))) (sizeOf (portsIn (groupAt s))) (groupAt s .«rs_ack»)
+
+-- a fetch gives a report
+abbrev pub gives : Receiver → List ℕ → List ℕ → Bool
+gives x out report = fits (x .rows) (x .store) out report && dueIn (groupAt (x .rows)) (portsIn (groupAt (x .rows))) (x .rows)
+
+-- the epoch that it says
+abbrev pub epochGiven : Receiver → ℕ
+epochGiven x = reportIfDue (groupAt (x .rows)) (portsIn (groupAt (x .rows))) (x .rows) .epoch
+
+-- the epochs of all reports that a list of calls gives
+abbrev pub reportsOf : Receiver → List ReceiverCall → List ℕ
+reportsOf x [] = []
+reportsOf x (Frame i failed h payload ∷ calls) = reportsOf (receiverStep x (Frame i failed h payload)) calls
+reportsOf x (Fetch out report ∷ calls) =
+    let rest = reportsOf (receiverStep x (Fetch out report)) calls in
+    cond (gives x out report) (epochGiven x ∷ rest) rest
+
+-- receiving stops in none of them
+abbrev pub Unstopped : Receiver → List ReceiverCall → Type 0
+Unstopped x [] = Unit {0}
+Unstopped x (Frame i failed h payload ∷ calls) = (stopsWith (x .rows) i failed h payload (x .store) ≡ false) × Unstopped (receiverStep x (Frame i failed h payload)) calls
+Unstopped x (Fetch out report ∷ calls) = Unstopped (receiverStep x (Fetch out report)) calls
+
+-- so many epochs, each the one after the one before
+abbrev pub successive : ℕ → ℕ → ℕ → List ℕ
+successive kind e zero = []
+successive kind e (suc n) = e ∷ successive kind (epochAfter kind e) n
+
+-- the first epoch to be reported: the one after the epoch that is still to be gathered, or the oldest
+abbrev pub nextReport : Group → ℕ
+nextReport g = cond (flagOf (g .gathered)) (g .oldest) (epochAfter (g .kind) (g .oldest))
+
+-- no frame of port i
+abbrev pub Others : ℕ → List ReceiverCall → Type 0
+Others i [] = Unit {0}
+Others i (Frame j failed h payload ∷ calls) = (j ≢ i) × Others i calls
+Others i (Fetch out report ∷ calls) = Others i calls
+
+-- a frame that is answered 0 and stored
+pub record Stored (y : Receiver) (i : ℕ) (failed : Bool) (h : ℕ) (payload : List ℕ) : Type 0 where
+  pub answer : frameAnswer (y .rows) i failed h (length payload) (length (y .store)) ≡ 0
+  pub at : ℕ
+  pub inside : at < groupAt (y .rows) .window
+  pub tag : tagIn (groupAt (y .rows)) at ≡ portAt (y .rows) i .step .next
+  pub store-is : frameStore (y .rows) i failed h payload (y .store) ≡ storedAt (y .store) (placeIn (groupAt (y .rows)) i at) payload h
+  pub stands : Stands (groupAt (y .rows)) i at payload h (frameStore (y .rows) i failed h payload (y .store))
+
+abbrev pub ackIn : List (List ℕ) → ℕ
+ackIn s = groupAt s .«rs_ack»
+
+-- a whole ruling packet that was refused with 5, 6 or 7
+pub record Refused (s : List (List ℕ)) (i : ℕ) : Type 0 where
+  pub port : i < portsIn (groupAt s)
+  pub whole : flagOf (portAt s i .step .whole) ≡ true
+  pub refused : ruledBy (groupAt s) (portAt s i) .good ≡ false
+
+-- held, with no bytes
+pub record HeldReport (r : Report) (epoch : ℕ) : Type 0 where
+  pub mark : r .mark ≡ HELD
+  pub epoch-is : r .epoch ≡ epoch
+  pub none : r .x ≡ 0
+  pub empty : r .bytes ≡ 0

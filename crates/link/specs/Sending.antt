@@ -1,16 +1,4 @@
 -- The sending side of demand 3, whoever sends: what each slot sends, and the laws that it keeps. Our sender's histories are one instance (History). Nothing here is a rule of one kind of sender: which words there are, and what X is at first, is the instance's.
-pub mod Counted
-pub mod Damage
-pub mod Histories
-pub mod Numbering
-pub mod Ours
-pub mod Packets
-pub mod Payloads
-pub mod Ports
-pub mod Reaching
-pub mod Ruling
-pub mod Senders
-pub mod Sure
 use mathlib.Core.Path.{_≡_}
 use mathlib.Core.Logic.{_≢_}
 use mathlib.Core.Bool.{true, false}

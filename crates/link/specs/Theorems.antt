@@ -1,10 +1,16 @@
 -- Demand 3, proved.
-use mathlib.Core.Path.{_≡_, sym, subst}
+use mathlib.Core.Path.{_≡_}
+use mathlib.Core.List.{List}
+use Prim.Native.Nat.{ℕ, _<_}
+use lib.ListN.{length}
 use Rattle.link.specs.Assumed.{Assumed}
 use Rattle.link.specs.Demand3.{Demand3}
+use Rattle.link.specs.History.{Allowed, Handed, History, sendingOf}
 use Rattle.link.specs.Link.{AssumedOver, Link}
-use Rattle.link.specs.Proved.{over}
-use Rattle.link.specs.Sending.Ours.{ours}
+use Rattle.link.specs.Proofs.Histories.Lawful.{history-lawful}
+use Rattle.link.specs.Proofs.Histories.Ours.{ours}
+use Rattle.link.specs.Proofs.Over.{over}
+use Rattle.link.specs.Sending.{Client, Lawful}
 
 -- over any sending side
 pub demand3-over : (k : Link) → AssumedOver k → Demand3 k
@@ -13,3 +19,8 @@ demand3-over k a = over k a
 -- for our sender's histories, as the minutes have it
 pub demand3 : (k : Link) → Assumed k → Demand3 k
 demand3 k a = demand3-over k (ours k a)
+
+-- Our sender's histories keep the laws of a sending side, whatever slots with no rank carry and whichever slots reach a port.
+pub histories-lawful : (h : History) → Allowed h → (P : ℕ) (client : Client) → Handed h P client
+    → (unranked : ℕ → ℕ → List ℕ) → ((x slot : ℕ) → slot < h .slots → length (unranked x slot) ≡ P) → Lawful (sendingOf h P client unranked) P client
+histories-lawful = history-lawful

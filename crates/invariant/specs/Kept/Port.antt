@@ -5,13 +5,13 @@ use mathlib.Core.Bool.{true, false}
 use mathlib.Core.List.{List}
 use Prim.Native.Nat.{ℕ, _+_, _*_, _≤_, _<_}
 use lib.Dec.{leb}
-use Rattle.invariant.specs.Laws.Runs.{RunKept}
 use Rattle.packet.specs.Kinds.{distanceOf, firstTag, frames, tags}
 use Rattle.rows.specs.declared.group.Group.{Group}
 use Rattle.rows.specs.declared.step.Step.{Step}
 use Rattle.step.specs.Arrival.{distanceIn, flagOf, inStep, runOf}
 use Rattle.store.specs.Laws.Marks.{Sixteen}
 use Rattle.store.specs.Marks.{markIn}
+use Rattle.invariant.specs.Kept.Run.{RunKept}
 
 -- 'The window W is 16 to 2,048 frames'
 pub record Windowed (g : Group) : Type 0 where

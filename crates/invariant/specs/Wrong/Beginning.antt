@@ -1,11 +1,9 @@
 -- Two wrong rules of the beginning (R-7).
 use mathlib.Core.Path.{_≡_, refl}
-use mathlib.Core.Bool.{Bool, true, false, cond, not, _&&_, _||_}
+use mathlib.Core.Bool.{Bool, true, false, cond, not, _&&_}
 use mathlib.Core.List.{List, [], _∷_}
-use Prim.Native.Nat.{ℕ, zero, suc, _+_, _*_, _%_}
-use lib.ListN.{getD, replicate}
-use Rattle.invariant.specs.Arriving.{portAfter, storeAfter}
-use Rattle.invariant.specs.Calls.{Receiver}
+use Prim.Native.Nat.{ℕ, zero, suc, _+_}
+use lib.ListN.{replicate}
 use Rattle.invariant.specs.Wrong.Sample.{sampleGroup, sampleStep, sentH4}
 use Rattle.ground.specs.Circle.{after}
 use Rattle.packet.specs.Counts.{tagByHigh, tagByLow, counts, carriesLow, nibbleIn, nibblePlace, startsCount}
@@ -26,12 +24,13 @@ use Rattle.rows.specs.declared.step.Step.{Step}
 use Rattle.rows.specs.Group.{groupAt, groupOf, groupRow, putGroup}
 use Rattle.rows.specs.Member.{memberAt, memberOf, memberRow, putMember}
 use Rattle.rows.specs.Packets.{marksAt, packetsAt, putMarks, putPackets}
-use Rattle.rows.specs.Rows.{putRow, rowIn, rowsFor}
+use Rattle.rows.specs.Rows.{putRow, rowIn}
 use Rattle.rows.specs.Step.{putStep, stepAt, stepOf, stepRow}
 use Rattle.step.specs.Arrival.{arrives, frameDropped, byStart, byWindow, countsOn, distanceIn, flagged, flagOf, inStep, joining, keeps, outside, readable, takenOf}
 use Rattle.step.specs.Run.{begunRun, furtherRun, inStepAt, oneMore, runOn, secondRun}
 use Rattle.store.specs.Frames.{byteAt, h4At, packetIn, placeIn, ringOf, storedAt}
 use Rattle.store.specs.Marks.{cutByte, cutFrom, firstMark, markedAt, markedByte, passedByte, passedMarks}
+use Rattle.invariant.specs.Calls.{Receiver, portAfter, storeAfter}
 
 -- rows of two ports with these steps
 two : Group → Step → Step → List (List ℕ)

@@ -1,19 +1,17 @@
 -- Slip 2: 'Using a new packet's numbers for its own epoch.'
 use mathlib.Core.Path.{_≡_, refl}
-use mathlib.Core.Bool.{Bool, true, false, cond, not, _&&_, _||_}
+use mathlib.Core.Bool.{cond}
 use mathlib.Core.List.{List, [], _∷_, _++_}
-use Prim.Native.Nat.{ℕ, zero, suc, _+_, _*_, _/_, _%_}
+use Prim.Native.Nat.{ℕ, _/_, _%_}
 use lib.Dec.{eqb}
 use lib.ListN.{getD, replicate}
 use Rattle.invariant.specs.Wrong.Sample.{sampleGroup, sampleStep}
-use Rattle.ground.specs.Circle.{after}
 use Rattle.ground.specs.Table.{tabulate}
 use Rattle.judge.specs.declared.seen.Seen.{Seen}
 use Rattle.judge.specs.Order.{activeIn, orderOf, portOf, rankOf}
 use Rattle.judge.specs.Verdict.{SURE, doubtfulBy, eosAlone, eosWrong, exact, gidDiffers, heldBy, highest, judgeOf, missing, repeats, takes}
 use Rattle.packet.specs.Counts.{nibbleIn}
 use Rattle.packet.specs.Crc.{crcOf, divisor, nibbleBits}
-use Rattle.packet.specs.declared.layout.Fields.{Fields}
 use Rattle.packet.specs.Kinds.{epochOf, firstTag, frames, lead, tagBefore, tags}
 use Rattle.packet.specs.Layout.{carriedIn, dataOf, fieldsOf, h4Of, nibblesOf, sealedOf}
 use Rattle.packet.specs.Reading.{readNibbles}
@@ -27,9 +25,9 @@ use Rattle.receiver.specs.Report.{frameInto, framesInto, outputBy, outputOf, re
 use Rattle.rows.specs.declared.group.Group.{Group}
 use Rattle.rows.specs.Group.{groupAt, groupOf, groupRow, putGroup}
 use Rattle.rows.specs.Packets.{marksAt, packetsAt, putMarks, putPackets}
-use Rattle.rows.specs.Rows.{putRow, rowIn, rowsFor}
+use Rattle.rows.specs.Rows.{putRow, rowIn}
 use Rattle.rows.specs.Step.{putStep, stepAt, stepOf, stepRow}
-use Rattle.step.specs.Arrival.{flagOf, inStep, readable}
+use Rattle.step.specs.Arrival.{inStep, readable}
 use Rattle.step.specs.Run.{inStepAt}
 use Rattle.store.specs.Frames.{byteAt, h4At, packetIn, placeIn, ringOf}
 use Rattle.store.specs.Marks.{firstMark}

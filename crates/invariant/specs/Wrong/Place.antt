@@ -4,17 +4,16 @@ use mathlib.Core.Bool.{false}
 use mathlib.Core.List.{List, [], _∷_}
 use Prim.Native.Nat.{ℕ, zero, suc, _+_, _*_, _%_}
 use lib.ListN.{getD, replicate}
-use Rattle.invariant.specs.Laws.Window.{tagIn}
 use Rattle.invariant.specs.Wrong.Sample.{sampleGroup, sampleStep, sentH4}
 use Rattle.ground.specs.Circle.{after}
 use Rattle.ground.specs.Table.{tabulate}
 use Rattle.packet.specs.Counts.{counts}
 use Rattle.packet.specs.Kinds.{distanceOf, firstTag, frames, lead, tagAfter, tags}
 use Rattle.rows.specs.declared.group.Group.{Group}
-use Rattle.rows.specs.declared.step.Step.{Step}
 use Rattle.step.specs.Arrival.{arrives, byWindow, distanceIn, keeps, takenOf}
 use Rattle.step.specs.Run.{furtherRun, inStepAt, oneMore, runOn}
 use Rattle.store.specs.Frames.{placeIn, ringOf, storedAt}
+use Rattle.invariant.specs.Claims.{tagIn}
 
 wrong-place : Group → ℕ → ℕ → ℕ
 wrong-place g port t = (port * g .window + t % g .window) * (g .payload + 1)

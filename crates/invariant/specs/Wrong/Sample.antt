@@ -1,9 +1,7 @@
 -- Small groups and ports, and H4 bytes as sent.
 use mathlib.Core.Bool.{cond}
-use mathlib.Core.List.{List, [], _∷_}
 use Prim.Native.Nat.{ℕ, _+_, _*_, _/_, _%_}
 use lib.Dec.{eqb}
-use lib.ListN.{replicate}
 use Rattle.receiver.specs.Starting.{groupWith}
 use Rattle.rows.specs.declared.group.Group.{Group}
 use Rattle.rows.specs.declared.step.Step.{Step}

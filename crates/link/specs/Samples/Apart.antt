@@ -16,7 +16,7 @@ use Rattle.link.specs.Demand3.Stands.{none-yet, reporting}
 use Rattle.link.specs.History.{xAt}
 use Rattle.link.specs.Link.{Alike, Link, SameIn, epochFrames, expected}
 use Rattle.link.specs.Sending.{Client, epochAt}
-use Rattle.link.specs.Sending.Ours.{ours}
+use Rattle.link.specs.Proofs.Histories.Ours.{ours}
 use Rattle.link.specs.Theorems.{demand3}
 use Rattle.link.specs.Told.{Told}
 use Rattle.link.specs.Samples.Computing.{outcome, started}

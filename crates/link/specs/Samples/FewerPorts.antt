@@ -25,8 +25,7 @@ use Rattle.link.specs.Demand3.{Demand3}
 use Rattle.link.specs.History.{Allowed, Handed, History, packetSent, senderAt, sendingOf, wordSent, xAt}
 use Rattle.link.specs.Link.{AssumedOver, Link}
 use Rattle.link.specs.Sending.{Client, Covered, epochAt, epochStart}
-use Rattle.link.specs.Sending.Histories.{history-lawful}
-use Rattle.link.specs.Theorems.{demand3-over}
+use Rattle.link.specs.Theorems.{demand3-over, histories-lawful}
 use Rattle.link.specs.Samples.Computing.{outcome}
 use Rattle.link.specs.Samples.Members.{lent, output, unranked}
 use Rattle.link.specs.Samples.Met.{once, only}
@@ -149,7 +148,7 @@ met : AssumedOver link
 unfolding sized frames tags
 met =
     record {
-      lawful = history-lawful history allowed 1 client handed unranked (λ x slot b. refl);
+      lawful = histories-lawful history allowed 1 client handed unranked (λ x slot b. refl);
       lines = record {
         sizes = refl;
         client = handed .whole;

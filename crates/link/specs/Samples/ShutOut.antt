@@ -17,7 +17,7 @@ use Rattle.link.specs.Theorems.{demand3}
 use Rattle.link.specs.Running.{hasBegun}
 use Rattle.link.specs.Told.{Told}
 use Rattle.link.specs.Road.{times}
-use Rattle.link.specs.Transport.Times.{coming-is}
+use Rattle.link.specs.Proofs.Transport.Times.{coming-is}
 use Rattle.link.specs.Samples.Computing.{started}
 use Rattle.link.specs.Samples.Members.{link}
 use Rattle.link.specs.Samples.Met.{met}

@@ -1,0 +1,8 @@
+-- What the theorems on reports need.
+pub mod Seen
+pub mod Bytes
+pub mod Held
+pub mod Groups
+pub mod Order
+pub mod Ack
+pub mod HandedAgain

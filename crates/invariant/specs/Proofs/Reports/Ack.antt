@@ -1,0 +1,78 @@
+-- RS-Ack turns over at most once a report, and at no other call. On every state.
+use mathlib.Core.Path.{_≡_, refl, ap, _∙_}
+use mathlib.Core.Logic.{_⊎_, inl, inr, ⊎-elim}
+use mathlib.Core.Bool.{Bool, true, false, _&&_}
+use mathlib.Core.List.{List}
+use Prim.Native.Nat.{ℕ, _-_, _≤_}
+use native.Mathlib.Omega.{arith}
+use Rattle.invariant.specs.Proofs.Arriving.{after-group, frame-any}
+use Rattle.invariant.specs.Proofs.Laws.Flags.{true-or-false}
+use Rattle.invariant.specs.Proofs.Laws.Settling.{settled-by}
+use Rattle.invariant.specs.Proofs.Reports.Groups.{fetch-group, fetch-none}
+use Rattle.judge.specs.Seen.{sizeOf}
+use Rattle.phases.specs.Laws.Cleared.{begun-group, stopped-group}
+use Rattle.phases.specs.Laws.Lengths.{length-stopped}
+use Rattle.phases.specs.Laws.Passed.{passed-group}
+use Rattle.phases.specs.Settling.{stoppedOf}
+use Rattle.phases.specs.Sizes.{portsIn}
+use Rattle.receiver.specs.Fetch.{dueIn, fetchRows, fits}
+use Rattle.receiver.specs.Frame.{frameRows}
+use Rattle.receiver.specs.Laws.Passed.{passed-ack}
+use Rattle.receiver.specs.Report.{replyPorts}
+use Rattle.reply.specs.declared.members.Port.{Port as ReplyPort}
+use Rattle.reply.specs.Telling.{turns}
+use Rattle.reply.specs.Theorems.Ack.{ack-kept, ack-turned}
+use Rattle.rows.specs.declared.group.Group.{Group}
+use Rattle.rows.specs.Group.{groupAt}
+use Rattle.invariant.specs.Calls.{portAfter, storeAfter}
+use Rattle.invariant.specs.Reports.{Given, ackAfter, ackIn, passedRows}
+
+-- no frame changes it
+pub frame-ack : (s : List (List ℕ)) (i : ℕ) (failed : Bool) (h : ℕ) (payload store : List ℕ) → ackIn (frameRows s i failed h payload store) ≡ ackIn s
+frame-ack s i failed h payload store =
+    frame-any (λ (r : List (List ℕ)). ackIn r ≡ ackIn s) s i failed h payload store refl
+    (λ e f. ap (λ (g : Group). g .«rs_ack») same)
+    (λ e f long.
+    settled-by (λ (r : List (List ℕ)). ackIn r ≡ ackIn s) n st a long
+    (ap (λ (g : Group). g .«rs_ack») same)
+    (λ b q z w. ap ack (passed-group (groupAt a) st n a (omega arith)) ∙ passed-ack (groupAt a) ∙ ap ack same)
+    (λ b w. ap ack (begun-group (groupAt a) n a (omega arith)) ∙ ap ack same)
+    (λ b q. ap ack (stopped-group (groupAt a) n a (omega arith)) ∙ ap ack same)
+    (λ b q.
+    let z : List (List ℕ) = stoppedOf (groupAt a) n a in
+    ap ack (begun-group (groupAt z) n z (rw (length-stopped (groupAt a) n a) (omega arith))) ∙ ap ack (stopped-group (groupAt a) n a (omega arith)) ∙ ap ack same))
+  where
+    ack : Group → ℕ
+    ack g = g .«rs_ack»
+
+    n : ℕ
+    n = portsIn (groupAt s)
+
+    a : List (List ℕ)
+    a = portAfter s i failed h
+
+    st : List ℕ
+    st = storeAfter s i failed h payload store
+
+    same : groupAt (portAfter s i failed h) ≡ groupAt s
+    same = after-group s i failed h
+
+-- nor does a fetch with none due
+pub none-ack : (s : List (List ℕ)) (store out report : List ℕ) → (fits s store out report && dueIn (groupAt s) (portsIn (groupAt s)) s) ≡ false
+    → ackIn (fetchRows s store out report) ≡ ackIn s
+none-ack s store out report e = ap ackIn (fetch-none s store out report e)
+
+-- a report: as the good packets up to its epoch's own say
+pub report-ack : (s : List (List ℕ)) (store out report : List ℕ) → Given s store out report → ackIn (fetchRows s store out report) ≡ ackAfter s store
+report-ack s store out report o = ap (λ (g : Group). g .«rs_ack») (fetch-group s store out report o)
+
+-- it stays, or turns over once
+pub report-turns : (s : List (List ℕ)) (store out report : List ℕ) → Given s store out report → ackIn s ≤ 1
+    → (ackIn (fetchRows s store out report) ≡ ackIn s) ⊎ (ackIn (fetchRows s store out report) ≡ 1 - ackIn s)
+report-turns s store out report o b =
+    ⊎-elim (λ (t : turns ports (sizeOf (portsIn (groupAt s))) ≡ true). inr (report-ack s store out report o ∙ ack-turned ports (sizeOf (portsIn (groupAt s))) (ackIn s) t b))
+    (λ (t : turns ports (sizeOf (portsIn (groupAt s))) ≡ false). inl (report-ack s store out report o ∙ ack-kept ports (sizeOf (portsIn (groupAt s))) (ackIn s) t))
+    (true-or-false (turns ports (sizeOf (portsIn (groupAt s)))))
+  where
+    ports : List ReplyPort
+    ports = replyPorts (groupAt (passedRows s store)) (passedRows s store) (portsIn (groupAt s))

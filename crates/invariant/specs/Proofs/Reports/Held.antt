@@ -1,0 +1,56 @@
+-- The minutes' item 2: on every state, a report one of whose whole ruling packets is refused is held, and no output byte changes.
+use mathlib.Core.Path.{_≡_, refl}
+use mathlib.Core.Bool.{Bool, true, false, cond}
+use mathlib.Core.List.{List}
+use Prim.Native.Nat.{ℕ, _*_, _≤_}
+use native.Mathlib.Nat.{zero-mul}
+use native.Mathlib.Omega.{arith}
+use Rattle.invariant.specs.Proofs.Reports.Seen.{seen-good, seen-whole}
+use Rattle.judge.specs.declared.seen.Seen.{Seen}
+use Rattle.judge.specs.Seen.{sizeOf}
+use Rattle.judge.specs.Theorems.Held.{refused}
+use Rattle.judge.specs.Verdict.{HELD, judgeOf}
+use Rattle.packet.specs.Kinds.{frames}
+use Rattle.phases.specs.Sizes.{portsIn}
+use Rattle.receiver.specs.Fetch.{dueIn, fetchOut, fits, outIfDue, reportIfDue}
+use Rattle.receiver.specs.Laws.Seen.{seen-at}
+use Rattle.receiver.specs.Laws.Sizes.{size-is, sizes-of, some-sized}
+use Rattle.receiver.specs.Report.{outputBy, outputOf, reportBy, reportOf, seenAll}
+use Rattle.rows.specs.declared.group.Group.{Group}
+use Rattle.rows.specs.Group.{groupAt}
+use Rattle.invariant.specs.Reports.{HeldReport, Refused}
+
+module _ (s : List (List ℕ)) (i : ℕ) (o : Refused s i) where
+  abbrev g : Group
+  g = groupAt s
+
+  abbrev n : ℕ
+  n = portsIn (groupAt s)
+
+  abbrev seen : List Seen
+  seen = seenAll (groupAt s) s (portsIn (groupAt s))
+
+  few : n ≤ 64
+  few =
+      let z = some-sized g (let p = o .port in omega arith) in
+      let size = sizes-of (g .kind) (g .count) (g .payload) (g .window) (z .0) .few-ports in
+      rw (z .1) size
+
+  judged : judgeOf seen (sizeOf n) ≡ HELD
+  judged = rw (size-is n few) (refused seen n i (o .port) (rw (seen-at g s n i few (o .port), seen-whole g s i, seen-good g s i, o .whole, o .refused) refl))
+
+  pub held-out : (store out report : List ℕ) → fetchOut s store out report ≡ out
+  unfolding fetchOut outIfDue outputOf outputBy
+  held-out store out report = rw judged (both (fits s store out report) (dueIn g n s))
+    where
+      both : (a b : Bool) → cond a (cond b out out) out ≡ out
+      both true true = refl
+      both true false = refl
+      both false b = refl
+
+  pub held-report : dueIn g n s ≡ true → HeldReport (reportIfDue g n s) (g .oldest)
+  unfolding reportIfDue reportOf reportBy
+  held-report d = rw (d, judged) (record { mark = refl; epoch-is = refl; none = refl; empty = none (frames (g .kind)) (g .payload) })
+    where
+      none : (L P : ℕ) → 0 * L * P ≡ 0
+      none L P = rw (zero-mul L, zero-mul P) refl

@@ -1,0 +1,131 @@
+-- What holds of the receiver on every state, or after a start that is answered 0 and any calls.
+use mathlib.Core.Path.{_≡_}
+use mathlib.Core.Logic.{_⊎_, _≢_}
+use mathlib.Core.Bool.{Bool, true, false, _&&_}
+use mathlib.Core.List.{List, []}
+use Prim.Native.Nat.{ℕ, _+_, _-_, _*_, _≤_, _<_}
+use lib.ListN.{getD, length}
+use Rattle.ground.specs.Drawn.{fillAt}
+use Rattle.ground.specs.Table.{tabulate}
+use Rattle.judge.specs.Order.{orderOf}
+use Rattle.judge.specs.Verdict.{HELD, judgeOf}
+use Rattle.packet.specs.Kinds.{epochAfter, epochOf, frames}
+use Rattle.phases.specs.Beginning.{foremost}
+use Rattle.phases.specs.Settling.{settledOf}
+use Rattle.phases.specs.Sizes.{portsIn}
+use Rattle.receiver.specs.Fetch.{dueIn, fetchOut, fetchRows, fits, reportIfDue}
+use Rattle.receiver.specs.Frame.{frameAnswer, frameRows, settledBy, takenIn}
+use Rattle.receiver.specs.Laws.Bytes.{frameBytes, reportByte}
+use Rattle.receiver.specs.Report.{seenAll}
+use Rattle.receiver.specs.Starting.{startAnswer}
+use Rattle.rows.specs.declared.group.Group.{Group}
+use Rattle.rows.specs.Group.{groupAt}
+use Rattle.rows.specs.Port.{portAt}
+use Rattle.step.specs.Arrival.{flagOf}
+use Rattle.store.specs.Frames.{h4At, placeIn}
+use Rattle.store.specs.Marks.{firstMark}
+use Rattle.invariant.specs.Calls.{Receiver, ReceiverCall, portAfter, receiverRun, receiverStep, startedWith}
+use Rattle.invariant.specs.Claims.{Claimed, HandedBy, HandedIn, tagIn}
+use Rattle.invariant.specs.Kept.Group.{Kept}
+use Rattle.invariant.specs.Proofs.Calls as Calls
+use Rattle.invariant.specs.Proofs.Claimed as Claims
+use Rattle.invariant.specs.Proofs.Numbered as Numbered
+use Rattle.invariant.specs.Proofs.Reports.Ack as Ack
+use Rattle.invariant.specs.Proofs.Reports.Bytes as Bytes
+use Rattle.invariant.specs.Proofs.Reports.HandedAgain as Again
+use Rattle.invariant.specs.Proofs.Reports.Held as Held
+use Rattle.invariant.specs.Proofs.Reports.Order as Order
+use Rattle.invariant.specs.Proofs.Reports.Seen as Seen
+use Rattle.invariant.specs.Proofs.Ruled as Rules
+use Rattle.invariant.specs.Proofs.Settles as Settles
+use Rattle.invariant.specs.Reports.{Given, HeldReport, Others, Refused, SameRule, Stored, Unstopped, ackIn, nextReport, reportsOf, successive}
+use Rattle.invariant.specs.Ruled.{NumberedIn, OneEpoch}
+
+-- After any calls.
+
+pub kept : (kind count P W : ℕ) (rows : List (List ℕ)) (store : List ℕ) → startAnswer kind count P W (length store) (length rows) ≡ 0 → (calls : List ReceiverCall)
+    → Kept (receiverRun (startedWith kind count P W rows store) calls .rows)
+kept = Calls.kept
+
+-- R-7: after a frame, stopping, beginning and gathering may be tested always or only where takenOf says so
+pub settles-always : (s : List (List ℕ)) → Kept s → (i : ℕ) (failed : Bool) (h : ℕ) → i < groupAt s .count → (store : List ℕ)
+    → settledBy (takenIn s i failed h .settles) (groupAt s .count) store (portAfter s i failed h) ≡ settledOf (groupAt s .count) store (portAfter s i failed h)
+settles-always s k i failed h b store = Settles.settles-always s k i failed h b store
+
+-- every frame that a port claims was handed in one of the calls
+pub claimed-handed : (tag : ℕ) (bytes : List ℕ) (h4 kind count P W : ℕ) (rows : List (List ℕ)) (store : List ℕ) → startAnswer kind count P W (length store) (length rows) ≡ 0
+    → (calls : List ReceiverCall) (j : ℕ) → j < count
+    → Claimed (receiverRun (startedWith kind count P W rows store) calls .rows) (receiverRun (startedWith kind count P W rows store) calls .store) j tag bytes h4
+    → HandedIn tag bytes h4 (startedWith kind count P W rows store) calls j
+claimed-handed = Claims.claimed-handed
+
+-- as a relation between two calls: it was claimed before, or is the one just handed
+pub step-claimed : (tag : ℕ) (bytes : List ℕ) (h4 : ℕ) (x : Receiver) (c : ReceiverCall) → Kept (x .rows) → (j : ℕ) → j < groupAt (x .rows) .count
+    → Claimed (receiverStep x c .rows) (receiverStep x c .store) j tag bytes h4 → Claimed (x .rows) (x .store) j tag bytes h4 ⊎ HandedBy tag bytes h4 x c j
+step-claimed = Claims.step-claimed
+
+-- a port's first mark says that all frames of the oldest epoch stand in the store
+pub mark-claimed : (s : List (List ℕ)) (store : List ℕ) (j : ℕ) → flagOf (groupAt s .begun) ≡ true → firstMark (portAt s j .marks) ≡ true → (d : ℕ) → d < frames (groupAt s .kind)
+    → Claimed s store j (tagIn (groupAt s) d) (tabulate (groupAt s .payload) (λ k. getD store (placeIn (groupAt s) j d + k) 0)) (h4At (groupAt s) j d store)
+mark-claimed = Claims.mark-claimed
+
+-- all packets that rule are of one epoch, and each carries its number
+pub one-epoch : (kind count P W : ℕ) (rows : List (List ℕ)) (store : List ℕ) → startAnswer kind count P W (length store) (length rows) ≡ 0 → (calls : List ReceiverCall)
+    → OneEpoch (startedWith kind count P W rows store) calls
+one-epoch = Rules.one-epoch
+
+pub ruling-numbered : (kind count P W : ℕ) (rows : List (List ℕ)) (store : List ℕ) → startAnswer kind count P W (length store) (length rows) ≡ 0 → (calls : List ReceiverCall)
+    → NumberedIn (receiverRun (startedWith kind count P W rows store) calls)
+ruling-numbered = Numbered.ruling-numbered
+
+-- Reports, on every state.
+
+-- The minutes' item 1: the bytes of a report that is not held are the join under one order, sixteen group frames, and the output beyond them stays.
+pub report-bytes : (s : List (List ℕ)) (store out report : List ℕ) → fits s store out report ≡ true → dueIn (groupAt s) (portsIn (groupAt s)) s ≡ true
+    → judgeOf (seenAll (groupAt s) s (portsIn (groupAt s))) (portsIn (groupAt s)) ≢ HELD
+    → fetchOut s store out report
+    ≡ fillAt 0 (frames (groupAt s .kind) * frameBytes (groupAt s) (seenAll (groupAt s) s (portsIn (groupAt s))) (portsIn (groupAt s)))
+    (reportByte (groupAt s) (seenAll (groupAt s) s (portsIn (groupAt s))) (portsIn (groupAt s)) store) out
+report-bytes = Bytes.report-bytes
+
+-- the order is read from the packets that rule and from nothing else
+pub order-same : (g : Group) (s t : List (List ℕ)) (n : ℕ) → n ≤ 64 → SameRule n s t → orderOf (seenAll g s n) n ≡ orderOf (seenAll g t n) n
+order-same g s t n h same = Seen.order-same g s t n h same
+
+-- The minutes' item 2: a report one of whose whole ruling packets is refused is held, and no output byte changes.
+
+pub held-report : (s : List (List ℕ)) (i : ℕ) → Refused s i → dueIn (groupAt s) (portsIn (groupAt s)) s ≡ true → HeldReport (reportIfDue (groupAt s) (portsIn (groupAt s)) s) (groupAt s .oldest)
+held-report s i o = Held.held-report s i o
+
+pub held-out : (s : List (List ℕ)) (i : ℕ) → Refused s i → (store out report : List ℕ) → fetchOut s store out report ≡ out
+held-out s i o = Held.held-out s i o
+
+-- Reports come in order, with no gap, from the first one after a beginning until receiving stops.
+
+pub first-reported : (s : List (List ℕ)) (i : ℕ) (failed : Bool) (h : ℕ) (payload store : List ℕ) → flagOf (groupAt s .begun) ≡ false
+    → flagOf (groupAt (frameRows s i failed h payload store) .begun) ≡ true
+    → nextReport (groupAt (frameRows s i failed h payload store))
+    ≡ epochAfter (groupAt s .kind) (epochAfter (groupAt s .kind) (epochOf (groupAt s .kind) (foremost (groupAt s) (portAfter s i failed h) (portsIn (groupAt s)))))
+first-reported = Order.first-reported
+
+pub in-order : (x : Receiver) (calls : List ReceiverCall) → flagOf (groupAt (x .rows) .begun) ≡ true → Unstopped x calls
+    → reportsOf x calls ≡ successive (groupAt (x .rows) .kind) (nextReport (groupAt (x .rows))) (length (reportsOf x calls))
+in-order = Order.in-order
+
+-- 'the host may hand the frame again after a report': a frame answered 11, with no other frame of that port and no stop in between, is then answered 0 and stored
+pub again : (x : Receiver) → Kept (x .rows) → (i : ℕ) (failed : Bool) (h : ℕ) (payload : List ℕ) → frameAnswer (x .rows) i failed h (length payload) (length (x .store)) ≡ 11
+    → (calls : List ReceiverCall) → Others i calls → Unstopped x calls → (reportsOf x calls ≡ [] → ⊥) → Stored (receiverRun x calls) i failed h payload
+again = Again.again
+
+-- RS-Ack turns over at most once a report, and at no other call.
+
+pub frame-ack : (s : List (List ℕ)) (i : ℕ) (failed : Bool) (h : ℕ) (payload store : List ℕ) → ackIn (frameRows s i failed h payload store) ≡ ackIn s
+frame-ack = Ack.frame-ack
+
+pub none-ack : (s : List (List ℕ)) (store out report : List ℕ) → (fits s store out report && dueIn (groupAt s) (portsIn (groupAt s)) s) ≡ false
+    → ackIn (fetchRows s store out report) ≡ ackIn s
+none-ack = Ack.none-ack
+
+pub report-turns : (s : List (List ℕ)) (store out report : List ℕ) → Given s store out report → ackIn s ≤ 1
+    → (ackIn (fetchRows s store out report) ≡ ackIn s) ⊎ (ackIn (fetchRows s store out report) ≡ 1 - ackIn s)
+report-turns = Ack.report-turns

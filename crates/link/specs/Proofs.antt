@@ -1,0 +1,9 @@
+-- Why demand 3 holds. Nothing here has to be believed: Theorems states what comes of it.
+pub mod Laws
+pub mod Contents
+pub mod Standing
+pub mod Transport
+pub mod Judged
+pub mod Alike
+pub mod Over
+pub mod Histories

@@ -1,0 +1,13 @@
+-- Our sender's histories are a lawful sending side. Nothing here knows the transport.
+pub mod Counted
+pub mod Damage
+pub mod Lawful
+pub mod Numbering
+pub mod Ours
+pub mod Packets
+pub mod Payloads
+pub mod Ports
+pub mod Reaching
+pub mod Ruling
+pub mod Senders
+pub mod Sure

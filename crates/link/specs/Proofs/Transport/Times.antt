@@ -1,0 +1,350 @@
+-- All frame times: what stands at every moment of a run.
+use mathlib.Core.Path.{_≡_, refl, sym, ap, _∙_, subst}
+use mathlib.Core.Logic.{inl, inr, ⊎-elim, _≢_}
+use mathlib.Core.Bool.{Bool, true, false, cond, true≢false}
+use mathlib.Core.List.{List, [], _∷_, _++_, append-nil, append-assoc}
+use Prim.Native.Nat.{ℕ, zero, suc, _+_, _-_, _*_, _/_, _≤_, _<_}
+use native.Mathlib.Nat.{not-suc-le-zero}
+use native.Mathlib.Omega.{arith}
+use lib.Dec.{ltb}
+use lib.ListN.{getD, length, length-append}
+use borrow.Author.Tests.{lt-ltb, eq-eqb, ne-eqb, le-leb, lt-leb, ltb-true}
+use Rattle.ground.specs.Truth.{eq-or-ne, le-or-lt}
+use Rattle.packet.specs.Theorems.Tags.{frames-some}
+use Rattle.phases.specs.Beginning.{begins}
+use Rattle.receiver.specs.Laws.Sizes.{window-some}
+use Rattle.rows.specs.Group.{groupAt}
+use Rattle.step.specs.Laws.Run.{start-from, startFrom}
+use Rattle.link.specs.Proofs.Laws.Lists.{append-apart}
+use Rattle.link.specs.Proofs.Laws.Numbers.{one-epoch}
+use Rattle.link.specs.Moments.{Beginning, Ready, Unready, coming, nextAt, reached}
+use Rattle.link.specs.Road.{Fair, L, Road, sizes-in}
+use Rattle.link.specs.Running.{Moment, drained, fetched, framed, hasBegun, recordAt, through, turn, turns}
+use Rattle.link.specs.Proofs.Standing.{Before, First, Later, Lined, Owes}
+use Rattle.link.specs.Proofs.Transport.Due.{AllCome, owes-or-come}
+use Rattle.link.specs.Proofs.Transport.Moments.{Rest, apart, next-time, reach, rest-all, rest-tail, served, served-at, unserved}
+use Rattle.link.specs.Proofs.Transport.Steps.{Apart, Begun?, Gathered?, Reach, Served}
+use Rattle.link.specs.Proofs.Transport.Steps.Begun?.{comes, stays}
+use Rattle.link.specs.Proofs.Transport.Steps.Gathered?.{gathers, waits}
+
+module _ (r : Road) where
+  abbrev markNext : Moment → ℕ
+  markNext m = getD (recordAt r m) 0 0
+
+  -- what the single steps are proved to do
+  pub record Steps : Type 0 where
+    pub on-before : (m : Moment) (p : ℕ) (coming coming′ : ℕ → ℕ) → Served r p coming coming′ → Apart r coming′ → Before r m coming → Begun? r (framed r p (coming p) m) coming′
+    pub on-first : (m : Moment) (p i : ℕ) (coming coming′ : ℕ → ℕ) → Served r p coming coming′ → Reach r p coming → First r m coming i → Gathered? r (framed r p (coming p) m) coming′ i
+    pub on-later : (m : Moment) (p g i : ℕ) (coming coming′ : ℕ → ℕ) → Served r p coming coming′ → Reach r p coming → Later r m coming g i → Owes r coming (suc i) → Later r (framed r p (coming p) m) coming′ g i
+    pub before-none : (m : Moment) (coming : ℕ → ℕ) → Before r m coming → markNext m ≡ 0
+    pub first-none : (m : Moment) (i : ℕ) (coming : ℕ → ℕ) → First r m coming i → markNext m ≡ 0
+    pub later-none : (m : Moment) (g i : ℕ) (coming : ℕ → ℕ) → Later r m coming g i → Owes r coming (suc i) → markNext m ≡ 0
+    pub later-one : (m : Moment) (g i : ℕ) (coming : ℕ → ℕ) → Later r m coming g i → AllCome r coming (suc i) → (markNext m ≢ 0) × Later r (fetched r m) coming g (suc i)
+    pub must-begin : (m : Moment) (coming : ℕ → ℕ) → Lined r m coming → Ready r coming → begins (groupAt (m .rows)) (m .rows) (r .ports) ≡ true
+
+  -- fetching ends where none is due
+  pub drained-none : (k : ℕ) (m : Moment) → markNext m ≡ 0 → drained r k m ≡ m
+  unfolding drained
+  drained-none zero m e = refl
+  drained-none (suc k) m e = rw (eq-eqb (getD (recordAt r m) 0 0) 0 e) refl
+
+  drained-one : (k : ℕ) (m : Moment) → markNext m ≢ 0 → markNext (fetched r m) ≡ 0 → drained r (suc k) m ≡ fetched r m
+  unfolding drained
+  drained-one k m d e = rw (ne-eqb (getD (recordAt r m) 0 0) 0 d) (drained-none k (fetched r m) e)
+
+  pub coming-is : (t : ℕ) (rest : List ℕ) (p : ℕ) → p < r .ports → coming r t rest p ≡ nextAt r t rest p
+  unfolding coming
+  coming-is t rest p b = rw (lt-ltb p (r .ports) b) refl
+
+  coming-by : (t u : ℕ) (rest next : List ℕ) → ((p : ℕ) → p < r .ports → nextAt r t rest p ≡ nextAt r u next p) → coming r t rest ≡ coming r u next
+  unfolding coming
+  coming-by t u rest next h = λ i p. go p (ltb p (r .ports)) refl i
+    where
+      go : (p : ℕ) (b : Bool) → ltb p (r .ports) ≡ b → cond (ltb p (r .ports)) (nextAt r t rest p) (r .first p) ≡ cond (ltb p (r .ports)) (nextAt r u next p) (r .first p)
+      go p true e = rw e (h p (ltb-true p (r .ports) e))
+      go p false e = rw e refl
+
+  coming-first : (f : Fair r) → r .first ≡ coming r zero (r .order zero)
+  unfolding coming nextAt
+  coming-first f = λ i p. go p (ltb p (r .ports)) refl i
+    where
+      go : (p : ℕ) (b : Bool) → ltb p (r .ports) ≡ b → r .first p ≡ cond (ltb p (r .ports)) (nextAt r zero (r .order zero) p) (r .first p)
+      go p true e = let w = f .once zero p (ltb-true p (r .ports) e) in rw (e, w) (omega arith)
+      go p false e = rw e refl
+
+  pub served-coming : (t p : ℕ) (ps : List ℕ) → Rest r (p ∷ ps) → r .delay p + r .first p ≤ t → Served r p (coming r t (p ∷ ps)) (coming r t ps)
+  unfolding coming
+  served-coming t p ps o late =
+      let s = served r t p ps o late in
+      record { below = s .below; next = rw (lt-ltb p (r .ports) (s .below)) (s .next); others = λ q d. rw (s .others q d) refl }
+
+  apart-coming : (f : Fair r) (t : ℕ) (rest : List ℕ) → Rest r rest → Apart r (coming r t rest)
+  apart-coming f t rest o p q hp hq sp sq =
+      rw (coming-is t rest p hp, coming-is t rest q hq) (apart r f t rest o p q hp hq (rw (coming-is t rest p hp) at sp) (rw (coming-is t rest q hq) at sq))
+
+  pub reach-coming : (f : Fair r) (t p : ℕ) (ps : List ℕ) → Rest r (p ∷ ps) → r .delay p + r .first p ≤ t → Reach r p (coming r t (p ∷ ps))
+  reach-coming f t p ps o late q b = rw (coming-is t (p ∷ ps) p (o .all-below .0), coming-is t (p ∷ ps) q b) (reach r f t p ps o late q b)
+
+  pub turns-more : (t p : ℕ) (done : List ℕ) (m : Moment) → turns r t (done ++ (p ∷ [])) m ≡ turn r t p (turns r t done m)
+  unfolding turns
+  turns-more t p [] m = refl
+  turns-more t p (q ∷ qs) m = turns-more t p qs (turn r t q m)
+
+  pub no-frame : (t p : ℕ) (m : Moment) → t < r .delay p + r .first p → turn r t p m ≡ m
+  unfolding turn
+  no-frame t p m early = rw (lt-leb (r .delay p + r .first p) t early) refl
+
+  -- one port more, at which they are not ready either
+  unready-more : (t p : ℕ) (done ps : List ℕ) → r .order t ≡ done ++ (p ∷ ps) → Unready r t done → (Ready r (coming r t ps) → ⊥) → Unready r t (done ++ (p ∷ []))
+  unready-more t p done ps is-order un now u earlier rest e na y = ⊎-elim (λ (h : u < t). un u earlier rest e (inl h) y) same na
+    where
+      same : (u ≡ t) × (length earlier ≤ length (done ++ (p ∷ []))) → ⊥
+      same h =
+          let long : length (done ++ (p ∷ [])) ≡ length done + 1 = length-append done (p ∷ []) in
+          let l = h .1 in
+          ⊎-elim (λ (w : length earlier ≤ length done). un u earlier rest e (inr (h .0, w)) y)
+          (λ (w : length done < length earlier).
+          let eq : length (done ++ (p ∷ [])) ≡ length earlier = omega arith in
+          let whole : done ++ (p ∷ []) ++ ps ≡ earlier ++ rest = append-assoc done (p ∷ []) ps ∙ sym is-order ∙ ap (r .order) (sym (h .0)) ∙ e in
+          let ends : ps ≡ rest = append-apart (done ++ (p ∷ [])) earlier ps rest eq whole .1 in
+          now (subst (λ (l : List ℕ). Ready r (coming r t l)) (sym ends) (subst (λ (v : ℕ). Ready r (coming r v rest)) (h .0) y)))
+          (le-or-lt (length earlier) (length done))
+
+  -- the first frame time
+  unready-first : (f : Fair r) → Unready r zero []
+  unready-first f u earlier rest e na y =
+      ⊎-elim (λ (h : u < zero). absurd (not-suc-le-zero h))
+      (λ (h : (u ≡ zero) × (length earlier ≤ zero)).
+      let n : 1 ≤ r .ports = sizes-in r f .some-ports in
+      let l = frames-some (r .kind) in
+      let from = start-from (r .kind) (r .offset) (r .first zero) .from in
+      let i : rest ≡ r .order u = (let none = h .1 in append-apart earlier [] rest (r .order u) (omega arith) (sym e) .1) in
+      let z : coming r u rest ≡ r .first = ap (λ (l : List ℕ). coming r u l) i ∙ ap (λ (v : ℕ). coming r v (r .order v)) (h .0) ∙ sym (coming-first f) in
+      let w = y .stepped zero n in
+      let v : startFrom (r .kind) (r .offset) (r .first zero) + L r * 2 ≤ r .first zero = subst (λ (k : ℕ → ℕ). startFrom (r .kind) (r .offset) (r .first zero) + L r * 2 ≤ k zero) z w in
+      absurd (omega arith))
+      na
+
+  -- the start of the next frame time
+  unready-next : (f : Fair r) (t : ℕ) → Unready r t (r .order t) → Unready r (suc t) []
+  unready-next f t un u earlier rest e na y = ⊎-elim before-it at-it na
+    where
+      before-it : u < suc t → ⊥
+      before-it h =
+          ⊎-elim (λ (q : u ≡ t).
+          let l : length (earlier ++ rest) ≡ length earlier + length rest = length-append earlier rest in
+          let m : length (r .order t) ≡ length (earlier ++ rest) = ap length (ap (r .order) (sym q) ∙ e) in
+          un u earlier rest e (inr (q, omega arith)) y)
+          (λ (q : u ≢ t). un u earlier rest e (inl (omega arith)) y)
+          (eq-or-ne u t)
+
+      at-it : (u ≡ suc t) × (length earlier ≤ zero) → ⊥
+      at-it h =
+          let i : rest ≡ r .order u = (let none = h .1 in append-apart earlier [] rest (r .order u) (omega arith) (sym e) .1) in
+          let z : coming r u rest ≡ coming r t [] = ap (λ (l : List ℕ). coming r u l) i ∙ ap (λ (v : ℕ). coming r v (r .order v)) (h .0) ∙ sym (coming-by t (suc t) [] (r .order (suc t)) (λ k b. next-time r f t k b)) in
+          un t (r .order t) [] (sym (append-nil (r .order t))) (inr (refl, omega arith)) (subst (λ (k : ℕ → ℕ). Ready r k) z y)
+
+  module _ (m₀ : Moment) where
+    -- what stands at a moment
+    pub data Phase (t : ℕ) (done : List ℕ) (m : Moment) (coming : ℕ → ℕ) : Type 0 where
+      before : Before r m coming → Unready r t done → Phase t done m coming
+      first : (F : ℕ) → Beginning r (reached r m₀) F → First r m coming (suc (F / L r)) → Phase t done m coming
+      later : (F i : ℕ) → Beginning r (reached r m₀) F → Later r m coming (suc (F / L r)) i → Owes r coming (suc i) → Phase t done m coming
+
+    module _ (f : Fair r) (s : Steps) where
+      drained-wide : (w : ℕ) (m : Moment) → 0 < w → markNext m ≢ 0 → markNext (fetched r m) ≡ 0 → drained r w m ≡ fetched r m
+      drained-wide zero m h d e = absurd (not-suc-le-zero h)
+      drained-wide (suc k) m h d e = drained-one k m d e
+
+      -- the port that owed last owes of the next epoch
+      owes-next : (p i : ℕ) (n n′ : ℕ → ℕ) → Served r p n n′ → Owes r n i → AllCome r n′ i → Owes r n′ (suc i)
+      owes-next p i n n′ sv o all =
+          ⊎-elim
+          (λ (e : o .port ≡ p).
+          let a : n (o .port) < i * L r + L r = o .owes in
+          let b : n p < i * L r + L r = rw e at a in
+          let c : n′ p ≡ n p + 1 = sv .next in
+          let l = frames-some (r .kind) in
+          let one = one-epoch i (L r) in
+          record { port = p; below = sv .below; owes = rw one (omega arith) })
+          (λ (d : o .port ≢ p).
+          let a = o .owes in
+          let b = all (o .port) (o .below) in
+          let c = sv .others (o .port) d in
+          absurd (omega arith))
+          (eq-or-ne (o .port) p)
+
+      -- One port's turn with a frame.
+      module _ (t p : ℕ) (done ps : List ℕ) (is-order : r .order t ≡ done ++ (p ∷ ps)) (o : Rest r (p ∷ ps)) (late : r .delay p + r .first p ≤ t) where
+        abbrev here : Moment
+        here = reached r m₀ t done
+
+        abbrev there : Moment
+        there = framed r p (t - r .delay p) here
+
+        position : coming r t (p ∷ ps) p ≡ t - r .delay p
+        position = coming-is t (p ∷ ps) p (o .all-below .0) ∙ served-at r t p ps o late
+
+        moved : Served r p (coming r t (p ∷ ps)) (coming r t ps)
+        moved = served-coming t p ps o late
+
+        one-turn : turn r t p here ≡ drained r (r .window) there
+        unfolding turn
+        one-turn = rw (le-leb (r .delay p + r .first p) t late) refl
+
+        quiet : markNext there ≡ 0 → turn r t p here ≡ there
+        quiet e = one-turn ∙ drained-none (r .window) there e
+
+        now-begun : (m : Moment) → turn r t p here ≡ m → hasBegun m ≡ 1 → hasBegun (reached r m₀ t (done ++ (p ∷ []))) ≡ 1
+        now-begun m e b = ap hasBegun (turns-more t p done (through r t m₀) ∙ e) ∙ b
+
+        abbrev Next : Type 0
+        Next = Phase t (done ++ (p ∷ [])) (turn r t p here) (coming r t ps)
+
+        as-phase : (m : Moment) → turn r t p here ≡ m → Phase t (done ++ (p ∷ [])) m (coming r t ps) → Next
+        as-phase m e q = subst (λ (n : Moment). Phase t (done ++ (p ∷ [])) n (coming r t ps)) (sym e) q
+
+        from-before : Before r here (coming r t (p ∷ ps)) → Unready r t done → Next
+        from-before b un = go (rw position at (s .on-before here p (coming r t (p ∷ ps)) (coming r t ps) moved (apart-coming f t ps (rest-tail r p ps o)) b))
+          where
+            go : Begun? r there (coming r t ps) → Next
+            go (stays c) =
+                as-phase there (quiet (s .before-none there (coming r t ps) c))
+                (before c (unready-more t p done ps is-order un (λ y. true≢false (sym (s .must-begin there (coming r t ps) (c .lined) y) ∙ c .unfit))))
+            go (comes F fore y c) =
+                let e = quiet (s .first-none there (suc (F / L r)) (coming r t ps) c) in
+                as-phase there e
+                (first F (record {
+                  time = t;
+                  done = done;
+                  port = p;
+                  rest = ps;
+                  is-order = is-order;
+                  not-yet = b .begun;
+                  begun = now-begun there e (c .open-at .begun);
+                  foremost = fore;
+                  ready = y;
+                  unready = un;
+                }) c)
+
+        from-first : (F : ℕ) → Beginning r (reached r m₀) F → First r here (coming r t (p ∷ ps)) (suc (F / L r)) → Next
+        from-first F b c = go (rw position at (s .on-first here p (suc (F / L r)) (coming r t (p ∷ ps)) (coming r t ps) moved (reach-coming f t p ps o late) c))
+          where
+            go : Gathered? r there (coming r t ps) (suc (F / L r)) → Next
+            go (waits d) = as-phase there (quiet (s .first-none there (suc (F / L r)) (coming r t ps) d)) (first F b d)
+            go (gathers d w) =
+                as-phase there (quiet (s .later-none there (suc (F / L r)) (suc (F / L r)) (coming r t ps) d w)) (later F (suc (F / L r)) b d w)
+
+        from-later : (F i : ℕ) → 0 < r .window → Beginning r (reached r m₀) F → Later r here (coming r t (p ∷ ps)) (suc (F / L r)) i → Owes r (coming r t (p ∷ ps)) (suc i) → Next
+        from-later F i wide b c w = go (rw position at (s .on-later here p (suc (F / L r)) i (coming r t (p ∷ ps)) (coming r t ps) moved (reach-coming f t p ps o late) c w))
+          where
+            go : Later r there (coming r t ps) (suc (F / L r)) i → Next
+            go d = ⊎-elim some-owe none-owe (owes-or-come r (coming r t ps) (suc i))
+              where
+                some-owe : Owes r (coming r t ps) (suc i) → Next
+                some-owe v = as-phase there (quiet (s .later-none there (suc (F / L r)) i (coming r t ps) d v)) (later F i b d v)
+
+                none-owe : AllCome r (coming r t ps) (suc i) → Next
+                none-owe all =
+                    let l = s .later-one there (suc (F / L r)) i (coming r t ps) d all in
+                    let v : Owes r (coming r t ps) (suc (suc i)) = owes-next p (suc i) (coming r t (p ∷ ps)) (coming r t ps) moved w all in
+                    let e = s .later-none (fetched r there) (suc (F / L r)) (suc i) (coming r t ps) (l .1) v in
+                    as-phase (fetched r there) (one-turn ∙ drained-wide (r .window) there wide (l .0) e) (later F (suc i) b (l .1) v)
+
+      wide : 0 < r .window
+      wide = window-some (r .kind) (r .ports) (r .payload) (r .window) (sizes-in r f)
+
+      -- one port's turn, with or without a frame
+      turned : (t p : ℕ) (done ps : List ℕ) → r .order t ≡ done ++ (p ∷ ps) → Rest r (p ∷ ps) → Phase t done (reached r m₀ t done) (coming r t (p ∷ ps))
+          → Phase t (done ++ (p ∷ [])) (reached r m₀ t (done ++ (p ∷ []))) (coming r t ps)
+      turned t p done ps is-order o q =
+          subst (λ (m : Moment). Phase t (done ++ (p ∷ [])) m (coming r t ps)) (sym (turns-more t p done (through r t m₀)))
+          (⊎-elim (λ (late : r .delay p + r .first p ≤ t). with-frame late q) (λ (early : t < r .delay p + r .first p). without early q) (le-or-lt (r .delay p + r .first p) t))
+        where
+          with-frame : r .delay p + r .first p ≤ t → Phase t done (reached r m₀ t done) (coming r t (p ∷ ps)) → Phase t (done ++ (p ∷ [])) (turn r t p (reached r m₀ t done)) (coming r t ps)
+          with-frame late (before b un) = from-before t p done ps is-order o late b un
+          with-frame late (first F b c) = from-first t p done ps is-order o late F b c
+          with-frame late (later F i b c w) = from-later t p done ps is-order o late F i wide b c w
+
+          without : t < r .delay p + r .first p → Phase t done (reached r m₀ t done) (coming r t (p ∷ ps)) → Phase t (done ++ (p ∷ [])) (turn r t p (reached r m₀ t done)) (coming r t ps)
+          without early q =
+              subst (λ (m : Moment). Phase t (done ++ (p ∷ [])) m (coming r t ps)) (sym (no-frame t p (reached r m₀ t done) early))
+              (go q)
+            where
+              same : coming r t (p ∷ ps) ≡ coming r t ps
+              same = coming-by t t (p ∷ ps) ps (λ k b. unserved r t p ps o early k)
+
+              go : Phase t done (reached r m₀ t done) (coming r t (p ∷ ps)) → Phase t (done ++ (p ∷ [])) (reached r m₀ t done) (coming r t ps)
+              go (before b un) =
+                  before (subst (λ (n : ℕ → ℕ). Before r (reached r m₀ t done) n) same b)
+                  (unready-more t p done ps is-order un (λ y. un t done (p ∷ ps) is-order (inr (refl, omega arith)) (subst (λ (n : ℕ → ℕ). Ready r n) (sym same) y)))
+              go (first F b c) = first F b (subst (λ (n : ℕ → ℕ). First r (reached r m₀ t done) n (suc (F / L r))) same c)
+              go (later F i b c w) =
+                  later F i b (subst (λ (n : ℕ → ℕ). Later r (reached r m₀ t done) n (suc (F / L r)) i) same c) (subst (λ (n : ℕ → ℕ). Owes r n (suc i)) same w)
+
+      -- the ports of a frame time, one after the other
+      served-all : (t : ℕ) (done ps rest : List ℕ) → r .order t ≡ done ++ (ps ++ rest) → Rest r (ps ++ rest) → Phase t done (reached r m₀ t done) (coming r t (ps ++ rest))
+          → Phase t (done ++ ps) (reached r m₀ t (done ++ ps)) (coming r t rest)
+      served-all t done [] rest is-order o q = rw (append-nil done) q
+      served-all t done (p ∷ ps) rest is-order o q =
+          let next = turned t p done (ps ++ rest) is-order o q in
+          let e : r .order t ≡ done ++ (p ∷ []) ++ (ps ++ rest) = is-order ∙ sym (append-assoc done (p ∷ []) (ps ++ rest)) in
+          let all = served-all t (done ++ (p ∷ [])) ps rest e (rest-tail r p (ps ++ rest) o) next in
+          subst (λ (l : List ℕ). Phase t l (reached r m₀ t l) (coming r t rest)) (append-assoc done (p ∷ []) ps) all
+
+      -- every frame time from its start
+      at-start : Before r m₀ (r .first) → (t : ℕ) → Phase t [] (reached r m₀ t []) (coming r t (r .order t))
+      unfolding turns through
+      at-start b zero = before (subst (λ (n : ℕ → ℕ). Before r m₀ n) (coming-first f) b) (unready-first f)
+      at-start b (suc t) =
+          let all = served-all t [] (r .order t) [] (sym (append-nil (r .order t))) (rw (append-nil (r .order t)) (rest-all r f t)) (rw (append-nil (r .order t)) (at-start b t)) in
+          go all
+        where
+          same : coming r t [] ≡ coming r (suc t) (r .order (suc t))
+          same = coming-by t (suc t) [] (r .order (suc t)) (λ k h. next-time r f t k h)
+
+          go : Phase t (r .order t) (reached r m₀ t (r .order t)) (coming r t []) → Phase (suc t) [] (reached r m₀ t (r .order t)) (coming r (suc t) (r .order (suc t)))
+          go (before c un) = before (subst (λ (n : ℕ → ℕ). Before r (reached r m₀ t (r .order t)) n) same c) (unready-next f t un)
+          go (first F c d) = first F c (subst (λ (n : ℕ → ℕ). First r (reached r m₀ t (r .order t)) n (suc (F / L r))) same d)
+          go (later F i c d w) =
+              later F i c (subst (λ (n : ℕ → ℕ). Later r (reached r m₀ t (r .order t)) n (suc (F / L r)) i) same d) (subst (λ (n : ℕ → ℕ). Owes r n (suc i)) same w)
+
+      -- every moment
+      pub phase : Before r m₀ (r .first) → (t : ℕ) (done rest : List ℕ) → r .order t ≡ done ++ rest → Phase t done (reached r m₀ t done) (coming r t rest)
+      phase b t done rest e =
+          served-all t [] done rest e (rw e at (rest-all r f t)) (rw e at (at-start b t))
+
+      -- 'A fresh receiver begins within 48 frames of the last port's first': after 47, the first counted as 1.
+      module _ (fresh-start : Before r m₀ (r .first)) (T : ℕ) (all-come : (p : ℕ) → p < r .ports → r .delay p + r .first p ≤ T) where
+        abbrev by : ℕ
+        by = T + (L r * 3 - 1)
+
+        position-by : (q : ℕ) → q < r .ports → coming r by (r .order by) q ≡ by - r .delay q
+        unfolding nextAt
+        position-by q b =
+            let l = frames-some (r .kind) in
+            let c = all-come q b in
+            coming-is by (r .order by) q b ∙ rw (f .once by q b) (omega arith)
+
+        stepped : (q : ℕ) → q < r .ports → startFrom (r .kind) (r .offset) (r .first q) + L r * 2 ≤ coming r by (r .order by) q
+        stepped q b =
+            let soon = start-from (r .kind) (r .offset) (r .first q) .soon in
+            let c = all-come q b in
+            let l = frames-some (r .kind) in
+            rw (position-by q b) (omega arith)
+
+        near : (p q : ℕ) → p < r .ports → q < r .ports → coming r by (r .order by) p + L r ≤ coming r by (r .order by) q + r .window
+        near p q hp hq =
+            let c = all-come p hp in
+            let d = all-come q hq in
+            let l = frames-some (r .kind) in
+            let w = f .spread q p hq hp in
+            rw (position-by p hp, position-by q hq) (omega arith)
+
+        pub begun-by : hasBegun (reached r m₀ by []) ≡ 1
+        begun-by = go (phase fresh-start by [] (r .order by) refl)
+          where
+            go : Phase by [] (reached r m₀ by []) (coming r by (r .order by)) → hasBegun (reached r m₀ by []) ≡ 1
+            go (before b un) = absurd (true≢false (sym (s .must-begin (reached r m₀ by []) (coming r by (r .order by)) (b .lined) (record { stepped = stepped; near = near })) ∙ b .unfit))
+            go (first F b c) = c .open-at .begun
+            go (later F i b c w) = c .open-at .begun
