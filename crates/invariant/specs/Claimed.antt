@@ -15,13 +15,14 @@ use Rattle.invariant.specs.Kept.Port.{PortKept, Windowed}
 use Rattle.invariant.specs.Kept.Start.{started-kept, started-with}
 use Rattle.invariant.specs.Kept.Steps.{brought-owes-nothing, lasting-frame, windowed}
 use Rattle.invariant.specs.Laws.Settling.{settled-by}
-use Rattle.invariant.specs.Laws.Window.{first-epoch, tag-next, tag-passed, tagIn}
+use Rattle.invariant.specs.Laws.Window.{tag-next, tag-passed, tagIn}
 use Rattle.invariant.specs.Sizes.{step-sizes}
 use Rattle.ground.specs.Table.{getD-tabulate, tabulate}
 use Rattle.ground.specs.Truth.{cond-by, eq-or-ne}
 use Rattle.judge.specs.Seen.{sizeOf}
 use Rattle.packet.specs.Counts.{counts}
 use Rattle.packet.specs.Kinds.{frames}
+use Rattle.packet.specs.Laws.Epochs.{first-epoch}
 use Rattle.packet.specs.Theorems.Tags.{frames-two}
 use Rattle.phases.specs.Due.{brought}
 use Rattle.phases.specs.Laws.Cleared.{begun-port, clearedOn, stopped-group}

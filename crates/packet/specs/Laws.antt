@@ -1,4 +1,7 @@
 -- Laws on the definitions, for the proofs above them.
 pub mod Bounds
 pub mod Bytes
+pub mod Counting
+pub mod Distances
+pub mod Epochs
 pub mod Nibbles

@@ -1,3 +1,4 @@
+pub mod Clock
 pub mod Counts
 pub mod Crc
 pub mod Kinds

@@ -12,7 +12,6 @@ use Rattle.invariant.specs.Kept.Group.{GroupKept, OkApart, PortIn, Lasti
 use Rattle.invariant.specs.Kept.Passing.{passed-kept}
 use Rattle.invariant.specs.Kept.Port.{Windowed}
 use Rattle.invariant.specs.Kept.Taken.{taken-kept, taken-whole}
-use Rattle.invariant.specs.Laws.Window.{epoch-after-lt, some-epochs}
 use Rattle.counting.specs.Laws.Tests.{every-at}
 use Rattle.counting.specs.Words.{every}
 use Rattle.ground.specs.Truth.{and-right, clash, cond-by, eq-or-ne}
@@ -22,7 +21,7 @@ use Rattle.packet.specs.declared.reader.Reading.the-variants.{Crc, Fixed, Packe
 use Rattle.packet.specs.Kinds.{epochAfter, epochOf}
 use Rattle.packet.specs.Layout.{carriedIn, fieldsOf}
 use Rattle.packet.specs.Reading.{readNibbles}
-use Rattle.packet.specs.Theorems.Tags.{frames-two}
+use Rattle.packet.specs.Theorems.Tags.{epoch-after-lt, epochs-some, frames-two}
 use Rattle.packet.specs.Words.{ADD, DNU, EOS, FIXED, IDLE, NORM, assigned}
 use Rattle.phases.specs.Beginning.{begins, foremost, noTag, ready, within}
 use Rattle.phases.specs.declared.ruling.Ruling.{Ruling}
@@ -206,7 +205,7 @@ module _ (s : List (List ℕ)) (k : Lasting s) where
           record {
             sizes = k .group .sizes;
             origin = k .group .origin;
-            oldest = some-epochs (g .kind);
+            oldest = epochs-some (g .kind);
             begun = omega arith;
             gathered = omega arith;
             ack = k .group .ack;

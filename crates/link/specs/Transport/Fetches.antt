@@ -16,6 +16,8 @@ use Rattle.judge.specs.Order.{orderOf}
 use Rattle.judge.specs.Theorems.Ranks.{active-le}
 use Rattle.judge.specs.Verdict.{HELD, doubtfulBy, heldBy, judgeOf}
 use Rattle.packet.specs.Kinds.{frames}
+use Rattle.packet.specs.Laws.Epochs.{count-fits}
+use Rattle.packet.specs.Theorems.Tags.{epoch-before, first-of}
 use Rattle.phases.specs.Due.{brought}
 use Rattle.phases.specs.Laws.Lengths.{length-passed}
 use Rattle.phases.specs.Passing.{passedOf}
@@ -29,7 +31,6 @@ use Rattle.rows.specs.Group.{groupAt}
 use Rattle.rows.specs.Rows.{rowsFor}
 use Rattle.store.specs.Laws.Stands.{Stands}
 use Rattle.link.specs.Contents.{allSeenAfter, framesFrom, numberOf, reportAfter, seenAfter}
-use Rattle.link.specs.Laws.Numbers.{count-fits, epoch-before, epoch-first}
 use Rattle.link.specs.Road.{Fair, L, Road, sizes-in}
 use Rattle.link.specs.Running.{Moment, drained, fetched, recordAt, toldBy}
 use Rattle.link.specs.Standing.{Later, Lined, Owes}
@@ -77,7 +78,7 @@ fetched-answers r m = refl
 
 module _ (r : Road) (fair : Fair r) where
   -- A fetch is not refused.
-  module _ (m : Moment) (coming : ℕ → ℕ) (l : Lined r m coming) where
+  module _ (m : Moment) (l : Lined r m) where
     abbrev pub outOf : List ℕ
     outOf = r .output (length (m .told))
 
@@ -85,7 +86,7 @@ module _ (r : Road) (fair : Fair r) where
     unfolding fits fetchFits rowsFit storeFor outputFor
     fits-now =
         rw (
-          ports-are r fair m coming l,
+          ports-are r fair m l,
           eq-eqb (length (m .rows)) (rowsFor (r .ports)) (l .rows-long),
           l .payload-is,
           l .window-is,
@@ -103,7 +104,7 @@ module _ (r : Road) (fair : Fair r) where
     -- none due
     mark-none : dueIn (groupAt (m .rows)) (r .ports) (m .rows) ≡ false → getD (recordAt r m) 0 0 ≡ 0
     unfolding fetchRecord reportIfDue recordOf
-    mark-none e = rw (fits-now, ports-are r fair m coming l, e) refl
+    mark-none e = rw (fits-now, ports-are r fair m l, e) refl
 
   some-due : ltb 0 (r .ports) ≡ true
   some-due =
@@ -114,7 +115,7 @@ module _ (r : Road) (fair : Fair r) where
     abbrev g : Group
     g = groupAt (m .rows)
 
-    abbrev lined : Lined r m coming
+    abbrev lined : Lined r m
     lined = o .open-at .lined
 
     due-is : dueIn g (r .ports) (m .rows) ≡ brought g (m .rows) (r .ports)
@@ -123,7 +124,7 @@ module _ (r : Road) (fair : Fair r) where
 
     -- a port owes a frame of the oldest epoch
     pub owed-mark : Owes r coming (suc i) → getD (recordAt r m) 0 0 ≡ 0
-    owed-mark w = mark-none m coming lined (due-is ∙ brought-not r fair m coming (suc i) (o .open-at) w)
+    owed-mark w = mark-none m lined (due-is ∙ brought-not r fair m coming (suc i) (o .open-at) w)
 
     -- none does
     module _ (all : AllCome r coming (suc i)) where
@@ -159,15 +160,15 @@ module _ (r : Road) (fair : Fair r) where
 
       record-is : recordAt r m ≡ recordOf (reportBy g mark order)
       unfolding fetchRecord reportIfDue reportOf
-      record-is = rw (fits-now m coming lined, ports-are r fair m coming lined, due-now, seen-is, size-is (r .ports) few) refl
+      record-is = rw (fits-now m lined, ports-are r fair m lined, due-now, seen-is, size-is (r .ports) few) refl
 
-      out-is : fetchOut (m .rows) (m .store) (outOf m coming lined) (replicate 8 0) ≡ outputBy g mark order (m .store) (outOf m coming lined)
+      out-is : fetchOut (m .rows) (m .store) (outOf m lined) (replicate 8 0) ≡ outputBy g mark order (m .store) (outOf m lined)
       unfolding fetchOut outIfDue outputOf
-      out-is = rw (fits-now m coming lined, ports-are r fair m coming lined, due-now, seen-is, size-is (r .ports) few) refl
+      out-is = rw (fits-now m lined, ports-are r fair m lined, due-now, seen-is, size-is (r .ports) few) refl
 
-      rows-are : fetchRows (m .rows) (m .store) (outOf m coming lined) (replicate 8 0) ≡ reportedOf g (m .store) (r .ports) (m .rows)
+      rows-are : fetchRows (m .rows) (m .store) (outOf m lined) (replicate 8 0) ≡ reportedOf g (m .store) (r .ports) (m .rows)
       unfolding fetchRows rowsIfDue
-      rows-are = rw (fits-now m coming lined, ports-are r fair m coming lined, due-now) refl
+      rows-are = rw (fits-now m lined, ports-are r fair m lined, due-now) refl
 
       mark-told : getD (recordAt r m) 0 0 ≡ mark
       unfolding recordOf reportBy
@@ -175,7 +176,7 @@ module _ (r : Road) (fair : Fair r) where
 
       epoch-told : getD (recordAt r m) 1 0 ≡ numberOf r (suc i)
       unfolding recordOf reportBy numberOf
-      epoch-told = rw (record-is, ← o .open-at .oldest) (sym (epoch-first (r .kind) (g .oldest) (o .open-at .oldest-small)))
+      epoch-told = rw (record-is, ← o .open-at .oldest) (sym (first-of (r .kind) (g .oldest) (o .open-at .oldest-small) .0))
 
       -- the byte count
       abbrev X : ℕ
@@ -196,7 +197,7 @@ module _ (r : Road) (fair : Fair r) where
           most : g .payload ≤ 2340
           most = rw (lined .payload-is) (sizes-in r fair .few-bytes)
 
-      bytes-told : take (X * frames (g .kind) * g .payload) (outputBy g mark order (m .store) (outOf m coming lined)) ≡ reportAfter r i .bytes
+      bytes-told : take (X * frames (g .kind) * g .payload) (outputBy g mark order (m .store) (outOf m lined)) ≡ reportAfter r i .bytes
       unfolding outputBy reportAfter
       bytes-told = go (eqb mark HELD)
         where
@@ -207,18 +208,18 @@ module _ (r : Road) (fair : Fair r) where
               rw e at (o .open-at .stands p (suc i * L r + k) b (omega arith) (omega arith))
 
           go : (b : Bool)
-              → take (cond b 0 (order .x) * frames (g .kind) * g .payload) (cond b (outOf m coming lined) (framesInto g order (m .store) (frames (g .kind)) (outOf m coming lined)))
+              → take (cond b 0 (order .x) * frames (g .kind) * g .payload) (cond b (outOf m lined) (framesInto g order (m .store) (frames (g .kind)) (outOf m lined)))
               ≡ cond b [] (framesFrom r seen (suc i * L r) (L r))
           go true = let z : 0 * frames (g .kind) * g .payload ≡ 0 = omega arith in rw z refl
           go false =
               let e : order .x * frames (g .kind) * g .payload ≡ frames (g .kind) * (order .x * g .payload) = omega arith in
               let same : frames (g .kind) ≡ L r = ap frames (lined .kind-is) in
               rw (e, same)
-              (frames-taken r fair g (lined .kind-is) (lined .payload-is) (lined .window-is) (m .store) (lined .store-long) (suc i * L r) all-stand seen (outOf m coming lined)
+              (frames-taken r fair g (lined .kind-is) (lined .payload-is) (lined .window-is) (m .store) (lined .store-long) (suc i * L r) all-stand seen (outOf m lined)
               (fair .room (length (m .told))))
 
       -- exactly the report that the contents give
-      told-is : toldBy r (recordAt r m) (fetchOut (m .rows) (m .store) (outOf m coming lined) (replicate 8 0)) ≡ reportAfter r i
+      told-is : toldBy r (recordAt r m) (fetchOut (m .rows) (m .store) (outOf m lined) (replicate 8 0)) ≡ reportAfter r i
       unfolding reportAfter
       told-is = told-same _ (reportAfter r i) epoch-told mark-told (rw (count-told, out-is) bytes-told)
 
