@@ -13,7 +13,7 @@ use Rattle.c_face.specs.Keeping.{bytesOf, senderOf, stateBytes}
 abbrev pub isState : List ℕ → Bool
 isState state = eqb (length state) stateBytes
 
--- '4: group count out of range'
+-- 4: 'group count .. out of range'
 abbrev pub outside : ℕ → Bool
 outside count = eqb count 0 || ltb 64 count
 
@@ -21,7 +21,7 @@ outside count = eqb count 0 || ltb 64 count
 unfoldable pub startAnswerC : ℕ → ℕ → List ℕ → ℕ
 startAnswerC count first state = cond (outside count) 4 (cond (isState state) (cond (ltb 255 first) 8 0) 9)
 
--- '4: an empty group', where there is room for one. Its first epoch has the number 0, whatever was asked for, so that a number above 255 beside it needs no second rule.
+-- 4 returns 'an empty group', where there is room for one. Its first epoch has the number 0, whatever was asked for, so that a number above 255 beside it needs no second rule.
 unfoldable pub startStateC : ℕ → ℕ → List ℕ → List ℕ
 startStateC count first state =
     cond (isState state) (cond (outside count) (bytesOf (beginOf 0 count 0 .sender)) (cond (ltb 255 first) state (bytesOf (beginOf 0 count first .sender)))) state

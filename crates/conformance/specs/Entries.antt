@@ -28,7 +28,7 @@ pub record Entry : Type 1 where
   pub returned : Input → State
   pub empty : Input → State
 
--- 'Returned: state as given' under every number but 0, 4, 10 and 12
+-- 'state as given' is returned under every number but 0, 4, 10 and 12
 abbrev pub keepsState : ℕ → Bool
 keepsState n = not (eqb n 0 || eqb n 4 || eqb n 10 || eqb n 12)
 

@@ -24,7 +24,7 @@ repliedOf s = replied (s .table) (answerNumber (s .answer))
 unfoldable pub sizeReply : Table → ℕ → Reply
 sizeReply t n = cond (eqb (answerNumber (startOf (t .kind) n .answer)) 0) (repliedOf (startOf (t .kind) n)) (replied t (answerNumber (startOf (t .kind) n .answer)))
 
--- '13: malformed line: state as given'
+-- 13: 'malformed line', 'state as given'
 unfoldable pub replyOf : Table → Line → Reply
 replyOf t (Size n) = sizeReply t n
 replyOf t (Add i) = repliedOf (S.stepOf t (S.AddSlot i))

@@ -49,7 +49,7 @@ fedSession s input =
 unfoldable pub fedText : Session → List ℕ → List ℕ
 fedText s input = cond (hasEnd input) (saidTo (s .table) (lineIn (keptWith s input))) []
 
--- '9: output length wrong: state as given'
+-- 9: 'output .. length wrong', 'state as given'
 abbrev pub refused : Session → Fed
 refused s = record { session = s; answer = 9; used = 0; written = 0 }
 

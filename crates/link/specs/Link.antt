@@ -55,7 +55,7 @@ pub record Damaged (kind : ℕ) (sent came : List ℕ) : Type 0 where
 abbrev pub Arrived : ℕ → List ℕ → List ℕ → Type 0
 Arrived kind sent came = (came ≡ sent) ⊎ Damaged kind sent came
 
--- What demand 3 owesNothing be so. That each frame comes once, with its payload undamaged and not flagged failed, that reports are fetched after each frame, and that the receiver's state and the store
+-- What demand 3 lets be so. That each frame comes once, with its payload undamaged and not flagged failed, that reports are fetched after each frame, and that the receiver's state and the store
 -- stay untouched between calls is said by how the receiver is called on this road.
 pub record Assumed (k : Link) : Type 0 where
   -- 'any history of members our sender allows from one start'

@@ -1,4 +1,4 @@
--- Demand 3 says something: a link on which all that it owesNothing be so holds, its run computed to the reports, a link with one frame of spread too many, whose run goes wrong, and receivers that are shut out.
+-- Demand 3 says something: a link on which all that it lets be so holds, its run computed to the reports, a link with one frame of spread too many, whose run goes wrong, and receivers that are shut out.
 mod Members
 mod Met
 mod Computing

@@ -1,4 +1,4 @@
--- What one H4 byte says (01, 'The control packet'): 'bits 5 to 8 are MFI1', 'bits 1 to 4 carry a nibble by MFI1: 0 MFI2 high, 1 MFI2 low'. By the kind of packet, as in Kinds.
+-- What one H4 byte says (01, 'The control packet'): 'bits 5 to 8 are MFI1', 'Bits 1 to 4 .. carry a nibble by MFI1: 0 MFI2 high, 1 MFI2 low'. By the kind of packet, as in Kinds.
 use mathlib.Core.Bool.{Bool, _&&_, not, _||_}
 use Prim.Native.Nat.{ℕ, _+_, _*_, _/_, _%_}
 use lib.Dec.{eqb}

@@ -120,7 +120,7 @@ port-rows kind s i t h tag stepped gathered marked e0 e1 e2 e3 =
     let m : marksAt gathered i ≡ marksAt s i = rw e2 (marks-put-packets stepped i (gatheredBy kind (packetsAt stepped i) (t .counted) tag h) i ∙ same) in
     e3 ∙ rw (m, e2, p, e1, e0) refl
 
--- A steady frame midEpoch the window: the marks are put back as they were.
+-- A steady frame in mid-epoch: the marks are put back as they were.
 module _ (s : List (List ℕ)) (i h : ℕ) (g : Group) where
   steady-marks : marksAt (steadyRows (g .kind) (stepAt s i .next) h i s) i ≡ marksAt s i
   unfolding steadyRows

@@ -128,7 +128,7 @@ fn decided(
     taken.answer
 }
 
-// The rows after a steady frame midEpoch the window.
+// The rows after a steady frame in mid-epoch.
 fn go_on(kind: u8, next: u16, h4: u8, port: u8, state: &mut [[u8; 16]])
     ensures { λ _. ⌜ now (state .exit) ≡ steadyRows kind next h4 port (now (state .entry)) ⌝ }
 {

@@ -29,7 +29,7 @@ idleSlot kind = record { state = Idle; number = idleNumber kind }
 unfoldable pub freshOf : ℕ → ℕ → Table
 freshOf kind count = record { slots = replicate 64 (idleSlot kind); count = count; wait = false; bit = 0; kind = kind }
 
--- '4: group count out of range: an empty group'
+-- 4: 'group count .. out of range', 'an empty group'
 unfoldable pub startOf : ℕ → ℕ → Outcome
 startOf kind count = cond (eqb count 0 || ltb 64 count) (answered (freshOf kind 0) OutOfRange) (answered (freshOf kind count) Done)
 
@@ -63,6 +63,6 @@ removedFrom t i = withSlots t (set (fallenIn (t .slots) (sizeOf (t .count)) (slo
 unfoldable pub removeOf : Table → ℕ → Outcome
 removeOf t i = inOrder t i (isMember (slotAt (t .slots) i .state)) (removedFrom t i)
 
--- 'Lapse: closes an open wait'; '2: lapse with no wait open'
+-- 'Lapse: closes an open wait'; 2: 'lapse with no wait open'
 unfoldable pub lapseOf : Table → Outcome
 lapseOf t = cond (t .wait) (answered (withSlots t (t .slots) false) Done) (answered t NotAllowed)

@@ -46,7 +46,7 @@ unfoldable pub startedSender : Sender → ℕ → ℕ → ℕ → Sender
 startedSender s gid mst ack =
     record { table = s .table; outgoing = boardOf (s .table); ruling = s .outgoing; epoch = startedEpoch s; begun = true; gid = gid; mst = mst; «rs_ack» = ack }
 
--- '8: a field given for writing is too large'
+-- 8: 'a field given for writing is too large'
 unfoldable pub startEpochOf : Sender → ℕ → ℕ → ℕ → SenderOutcome
 startEpochOf s gid mst ack =
     cond (ltb gid 2 && ltb ack 2) (record { sender = startedSender s gid mst ack; answer = Done }) (record { sender = s; answer = Field })

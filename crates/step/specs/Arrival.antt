@@ -62,13 +62,13 @@ joinedAt s run later = stepTo s 0 run 1 (s .since) later
 abbrev pub settlesAt : Group → Step → Step → Bool
 settlesAt g before now = not (flagOf (g .begun)) || inStep g before && not (inStep g now)
 
--- '10: signal-fail flag set on the frame: port recorded unreadable, its step lost'
+-- 10: 'signal-fail flag set on the frame', 'port recorded unreadable, its step lost'
 unfoldable pub flagged : Group → Step → Taken
 flagged g s =
     let now = lost s 1 (record { count = 0; next = 0 }) in
     record { step = now; answer = 10; counted = false; kept = false; at = 0; joins = false; settles = settlesAt g s now }
 
--- '12: port not in step after this frame: step record advanced, frame not stored'
+-- 12: 'port not in step after this frame', 'step record advanced, frame not stored'
 unfoldable pub countsOn : Group → Step → Run → Taken
 countsOn g s run =
     let now = lost s 0 run in
@@ -78,7 +78,7 @@ countsOn g s run =
 unfoldable pub frameDropped : Group → Step → Run → Taken
 frameDropped g s run = record { step = advanced s run; answer = 0; counted = true; kept = false; at = 0; joins = false; settles = not (flagOf (g .begun)) }
 
--- '11: frame in step, but outside the window: state as given'
+-- 11: 'frame in step, but outside the window', 'state as given'
 unfoldable pub outside : Step → Taken
 outside s = record { step = s; answer = 11; counted = false; kept = false; at = 0; joins = false; settles = false }
 

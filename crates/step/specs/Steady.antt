@@ -1,4 +1,4 @@
--- The frame that comes most often: steady, with the tag that was to come, of a joined port in step; and midEpoch the window, so not the last of its epoch.
+-- The frame that comes most often: steady, with the tag that was to come, of a joined port in step; and in mid-epoch, which is in the window and not the last of its epoch.
 -- Of the port's records it changes the next tag and one nibble alone.
 use mathlib.Core.Bool.{Bool, true, false, not, _&&_}
 use Prim.Native.Nat.{ℕ}

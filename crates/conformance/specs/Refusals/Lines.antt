@@ -102,7 +102,7 @@ finish-copes =
       emptied = λ i e. absurd (fed-never-4 (short (i .out)) _ _ refl refl e);
     }
 
--- A line: 13, then what its command is answered. 'A refused size leaves the board as it stood.'
+-- A line: 13, then what its command is answered. 'A second size starts afresh; a refused one leaves the board as it stood.'
 
 pub record LineInput : Type 0 where
   pub table : Table

@@ -14,13 +14,13 @@ use Rattle.sender.specs.Steps.{stepOf}
 use Rattle.sender.specs.Steps.Call.{AddSlot, Lapse, RemoveSlot, Report}
 use Rattle.sender.specs.Table.{answerNumber, isMember, sizeOf, slotAt}
 
--- Starting: '4: group count out of range: an empty group'.
+-- Starting: 4: 'group count .. out of range', 'an empty group'.
 
 pub record StartInput : Type 0 where
   pub kind : ℕ
   pub count : ℕ
 
--- '4: an empty group'; there is no state before a start, so the empty group stands for it
+-- 4 returns 'an empty group'; there is no state before a start, so the empty group stands for it
 abbrev pub start : Entry
 start =
     record {
@@ -163,7 +163,7 @@ remove-copes =
       emptied = λ i e. absurd (commands-never-4 (i .table) (removedFrom (i .table) (i .slot)) (i .slot) (member i) e);
     }
 
--- Lapse: '2: lapse with no wait open'.
+-- Lapse: 2: 'lapse with no wait open'.
 
 abbrev pub lapse : Entry
 lapse =

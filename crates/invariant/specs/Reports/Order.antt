@@ -56,7 +56,7 @@ successive kind e (suc n) = e ∷ successive kind (epochAfter kind e) n
 abbrev pub nextReport : Group → ℕ
 nextReport g = cond (flagOf (g .gathered)) (g .oldest) (epochAfter (g .kind) (g .oldest))
 
--- 'A report says epoch oldest'
+-- a report's epoch is the oldest one
 given-epoch : (g : Group) (n : ℕ) (s : List (List ℕ)) → dueIn g n s ≡ true → reportIfDue g n s .epoch ≡ g .oldest
 unfolding reportIfDue reportOf reportBy
 given-epoch g n s d = rw d refl

@@ -70,6 +70,6 @@ linkWith late lateFirst =
       output = λ j. replicate 32 0xEE;
     }
 
--- W is 20, so port 0 is as late as demand 3 owesNothing it be.
+-- W is 20, so port 0 is as late as demand 3 lets it be.
 abbrev pub link : Link
 link = linkWith 4 (λ t. eqb (t % 2) 0)

@@ -1,4 +1,4 @@
--- One frame of spread more than demand 3 owesNothing be: port 0 is late by W - 15, and all else is as in the sample. Then it depends on the order of the ports whether all goes well.
+-- One frame of spread more than demand 3 lets be: port 0 is late by W - 15, and all else is as in the sample. Then it depends on the order of the ports whether all goes well.
 use mathlib.Core.Path.{_≡_, refl}
 use mathlib.Core.Bool.{Bool, false}
 use mathlib.Core.List.{List, [], _∷_}
@@ -13,7 +13,7 @@ use Rattle.link.specs.Samples.Computing.{outcome}
 use Rattle.link.specs.Samples.Members.{linkWith}
 use Rattle.link.specs.Samples.Reports.{held}
 
--- Of what demand 3 owesNothing be so the spread alone lacks: Met's `met-but` has all else.
+-- Of what demand 3 lets be so the spread alone lacks: Met's `met-but` has all else.
 too-wide : (lateFirst : ℕ → Bool) → Assumed (linkWith 5 lateFirst) → ⊥
 unfolding frames
 too-wide lateFirst a = let h = a .spread 0 1 (omega arith) (omega arith) in absurd (omega arith)

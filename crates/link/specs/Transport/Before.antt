@@ -337,7 +337,7 @@ module _ (r : Road) (f : Fair r) where
   -- A frame before the beginning: its port is counted on, nothing is stored, and all ports are looked at.
 
   pub record Counted (p x : ℕ) (t : Taken) : Type 0 where
-    -- '12: port not in step after this frame'
+    -- 12: 'port not in step after this frame'
     pub answer : t .answer ≡ cond (leb (runFrom r p + L r * 2) (x + 1)) 0 12
     pub settles : t .settles ≡ true
     pub kept : t .kept ≡ false
