@@ -27,18 +27,18 @@ high t h = not (eqb (t % 16) 0) || eqb (h / 16) (t / 256 % 16)
 abbrev low : ℕ → ℕ → Bool
 low t h = not (eqb (t % 16) 1) || eqb (h / 16) (t / 16 % 16)
 
-counts-first : (kind t h : ℕ) → counts kind t h ≡ true → h % 16 ≡ t % 16
+pub counts-first : (kind t h : ℕ) → counts kind t h ≡ true → h % 16 ≡ t % 16
 unfolding counts
 counts-first kind t h e =
     eqb-true (h % 16) (t % 16) (and-left (first t h) (high t h) (and-left (first t h && high t h) (low t h) e))
 
-counts-high : (kind t h : ℕ) → counts kind t h ≡ true → t % 16 ≡ 0 → h / 16 ≡ t / 256 % 16
+pub counts-high : (kind t h : ℕ) → counts kind t h ≡ true → t % 16 ≡ 0 → h / 16 ≡ t / 256 % 16
 unfolding counts
 counts-high kind t h e z =
     let test : high t h ≡ true = and-right (first t h) (high t h) (and-left (first t h && high t h) (low t h) e) in
     eqb-true (h / 16) (t / 256 % 16) (rw (eq-eqb (t % 16) 0 z) at test)
 
-counts-low : (kind t h : ℕ) → counts kind t h ≡ true → t % 16 ≡ 1 → h / 16 ≡ t / 16 % 16
+pub counts-low : (kind t h : ℕ) → counts kind t h ≡ true → t % 16 ≡ 1 → h / 16 ≡ t / 16 % 16
 unfolding counts
 counts-low kind t h e z =
     let test : low t h ≡ true = and-right (first t h && high t h) (low t h) e in
@@ -51,7 +51,7 @@ implied m n p q f =
     (λ (d : m ≢ n). or-left (not (eqb m n)) (eqb p q) (ap not (ne-eqb m n d)))
     (eq-or-ne m n)
 
-counts-by : (kind t h : ℕ) → h % 16 ≡ t % 16 → (t % 16 ≡ 0 → h / 16 ≡ t / 256 % 16) → (t % 16 ≡ 1 → h / 16 ≡ t / 16 % 16) → counts kind t h ≡ true
+pub counts-by : (kind t h : ℕ) → h % 16 ≡ t % 16 → (t % 16 ≡ 0 → h / 16 ≡ t / 256 % 16) → (t % 16 ≡ 1 → h / 16 ≡ t / 16 % 16) → counts kind t h ≡ true
 unfolding counts
 counts-by kind t h same-first same-high same-low =
     and-true (first t h && high t h) (low t h)
@@ -158,36 +158,36 @@ epoch-carried kind e ns a b below at-high at-low sent-high sent-low =
     (counts-low kind (e * 16 + 1) b (rw (low-tag e below) at sent-low) (omega arith)))
 
 -- the two nibbles of MFI2 in a packet's H4 bytes
-high-sent : (kind : ℕ) (f : Fields) (z : ℕ) → f .epoch < 256 → getD (h4Of (nibblesOf f z)) (lead kind) 0 / 16 ≡ f .epoch / 16
+pub high-sent : (kind : ℕ) (f : Fields) (z : ℕ) → f .epoch < 256 → getD (h4Of (nibblesOf f z)) (lead kind) 0 / 16 ≡ f .epoch / 16
 unfolding h4Of nibblesOf sealedOf dataOf lead
 high-sent kind f z b = omega arith
 
-low-sent : (kind : ℕ) (f : Fields) (z : ℕ) → f .epoch < 256 → getD (h4Of (nibblesOf f z)) (lead kind + 1) 0 / 16 ≡ f .epoch % 16
+pub low-sent : (kind : ℕ) (f : Fields) (z : ℕ) → f .epoch < 256 → getD (h4Of (nibblesOf f z)) (lead kind + 1) 0 / 16 ≡ f .epoch % 16
 unfolding h4Of nibblesOf sealedOf dataOf lead
 low-sent kind f z b = omega arith
 
 -- where they stand, and what the tag's epoch then is
-place-below : (kind t : ℕ) → placeOf kind t < frames kind
+pub place-below : (kind t : ℕ) → placeOf kind t < frames kind
 unfolding placeOf lead frames
 place-below kind t = omega arith
 
-place-high : (kind t : ℕ) → t % 16 ≡ 0 → placeOf kind t ≡ lead kind
+pub place-high : (kind t : ℕ) → t % 16 ≡ 0 → placeOf kind t ≡ lead kind
 unfolding placeOf lead frames
 place-high kind t z = omega arith
 
-place-low : (kind t : ℕ) → t % 16 ≡ 1 → placeOf kind t ≡ lead kind + 1
+pub place-low : (kind t : ℕ) → t % 16 ≡ 1 → placeOf kind t ≡ lead kind + 1
 unfolding placeOf lead frames
 place-low kind t z = omega arith
 
-epoch-high : (kind x : ℕ) → tagOf kind x % 16 ≡ 0 → epochOf kind (tagOf kind x) / 16 ≡ tagOf kind x / 256 % 16
+pub epoch-high : (kind x : ℕ) → tagOf kind x % 16 ≡ 0 → epochOf kind (tagOf kind x) / 16 ≡ tagOf kind x / 256 % 16
 unfolding epochOf lead frames tags
 epoch-high kind x z = omega arith
 
-epoch-low : (kind x : ℕ) → tagOf kind x % 16 ≡ 1 → epochOf kind (tagOf kind x) % 16 ≡ tagOf kind x / 16 % 16
+pub epoch-low : (kind x : ℕ) → tagOf kind x % 16 ≡ 1 → epochOf kind (tagOf kind x) % 16 ≡ tagOf kind x / 16 % 16
 unfolding epochOf lead frames tags
 epoch-low kind x z = omega arith
 
-same-place : (kind a b : ℕ) → nibblePlace kind a ≡ nibblePlace kind b → a % 16 ≡ b % 16
+pub same-place : (kind a b : ℕ) → nibblePlace kind a ≡ nibblePlace kind b → a % 16 ≡ b % 16
 unfolding nibblePlace
 same-place kind a b e = omega arith
 
