@@ -131,7 +131,7 @@ module _ (s : List (List ℕ)) (i h : ℕ) (g : Group) where
 
   steady-parts : endsEpoch (g .kind) (distanceIn g (stepAt s i .next)) ≡ false
       → portRows (g .kind) s i (steadyTaken g (stepAt s i)) h ≡ putMarks (steadyRows (g .kind) (stepAt s i .next) h i s) i (marksAt s i)
-  unfolding portRows steadyTaken marksBy gatheredBy withNibble steadyRows
+  unfolding portRows steadyTaken marksBy gatheredBy withNibble withNext steadyRows
   steady-parts e = rw (e, place-back (g .kind) (stepAt s i .next)) refl
 
   pub steady-rows : midEpoch g (distanceIn g (stepAt s i .next)) ≡ true → portRows (g .kind) s i (steadyTaken g (stepAt s i)) h ≡ steadyRows (g .kind) (stepAt s i .next) h i s
