@@ -5,3 +5,4 @@ pub mod Counting
 pub mod Distances
 pub mod Epochs
 pub mod Nibbles
+pub mod Writing

@@ -8,7 +8,8 @@ use lib.Dec.{eqb, ltb}
 use lib.ListN.{length}
 use Rattle.packet.specs.declared.writer.Writing.the-variants.{Done as WriteDone, Field as WriteField, Length as WriteLength}
 use Rattle.packet.specs.Kinds.{frames}
-use Rattle.packet.specs.Writing.{fitting, writeAnswer, writeBytes}
+use Rattle.packet.specs.Laws.Writing.{answer-sized, bytes-sized}
+use Rattle.packet.specs.Writing.{fitting}
 use Rattle.conformance.specs.Entries.{Copes, Entry, keepsState}
 use Rattle.payload.specs.Answers.{answerBy, sized, underDone}
 use Rattle.sender.specs.declared.epochs.Sender.{Sender}
@@ -122,11 +123,17 @@ packets-untouched true true true true new h4 d = absurd (d refl)
 packets-untouched true true true false new h4 d = refl
 
 pub packet-copes : Copes packetEntry
-unfolding packetAnswer packetBytes writeAnswer writeBytes frames
+unfolding packetAnswer packetBytes
 packet-copes =
     record {
-      in-order = λ i. packets-in-order (below (i .sender) (i .slot)) (eqb (length (i .h4)) 16) (i .sender .begun) (fitting (packetFields (i .sender) (i .slot)));
-      untouched = λ i d. ap (λ l. l ∷ []) (packets-untouched (below (i .sender) (i .slot)) (eqb (length (i .h4)) 16) (i .sender .begun) (fitting (packetFields (i .sender) (i .slot))) _ (i .h4) d);
+      in-order = λ i.
+          rw (answer-sized (i .sender .table .kind) (packetFields (i .sender) (i .slot)) (i .h4))
+          (packets-in-order (below (i .sender) (i .slot)) (eqb (length (i .h4)) (frames (i .sender .table .kind))) (i .sender .begun) (fitting (packetFields (i .sender) (i .slot))));
+      untouched = λ i d.
+          ap (λ l. l ∷ [])
+          (rw (bytes-sized (i .sender .table .kind) (packetFields (i .sender) (i .slot)) (i .h4))
+          (packets-untouched (below (i .sender) (i .slot)) (eqb (length (i .h4)) (frames (i .sender .table .kind))) (i .sender .begun) (fitting (packetFields (i .sender) (i .slot))) _ (i .h4)
+          (rw (answer-sized (i .sender .table .kind) (packetFields (i .sender) (i .slot)) (i .h4)) at d)));
       as-given = λ i k. refl;
       emptied = λ i e. refl;
     }

@@ -12,7 +12,8 @@ use Rattle.c_face.specs.Keeping.{bytesOf, senderOf}
 use Rattle.c_face.specs.Senders.{areBytes, isState, outside, packetAnswerC, packetBytesC, payloadAnswerC, payloadBytesC, startAnswerC, startStateC, stepAnswerC, stepStateC}
 use Rattle.packet.specs.declared.writer.Writing.the-variants as W
 use Rattle.packet.specs.Kinds.{frames}
-use Rattle.packet.specs.Writing.{fitting, writeAnswer, writeBytes}
+use Rattle.packet.specs.Laws.Writing.{answer-sized, bytes-sized}
+use Rattle.packet.specs.Writing.{fitting}
 use Rattle.conformance.specs.Entries.{Entry, Copes, keepsState}
 use Rattle.payload.specs.Answers.{answerBy, sized, underDone}
 use Rattle.payload.specs.Order.{memberFrame}
@@ -460,14 +461,17 @@ packetC =
     }
 
 pub packetC-copes : Copes packetC
-unfolding packetAnswerC packetBytesC packetAnswer packetBytes writeAnswer writeBytes frames
+unfolding packetAnswerC packetBytesC packetAnswer packetBytes
 packetC-copes =
     record {
       in-order = λ i.
-          packets-in-order (isState (i .state)) (packetBelow i) (packetSized i) (senderOf (i .state) .begun) (packetFits i);
+          rw (answer-sized (table (i .state) .kind) (packetFields (senderOf (i .state)) (i .slot)) (i .h4))
+          (packets-in-order (isState (i .state)) (packetBelow i) (packetSized i) (senderOf (i .state) .begun) (packetFits i));
       untouched = λ i d.
           ap (λ l. l ∷ [])
-          (packets-untouched (isState (i .state)) (packetBelow i) (packetSized i) (senderOf (i .state) .begun) (packetFits i) _ (i .h4) d);
+          (rw (bytes-sized (table (i .state) .kind) (packetFields (senderOf (i .state)) (i .slot)) (i .h4))
+          (packets-untouched (isState (i .state)) (packetBelow i) (packetSized i) (senderOf (i .state) .begun) (packetFits i) _ (i .h4)
+          (rw (answer-sized (table (i .state) .kind) (packetFields (senderOf (i .state)) (i .slot)) (i .h4)) at d)));
       as-given = λ i k. refl;
       emptied = λ i e. refl;
     }

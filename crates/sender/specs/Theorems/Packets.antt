@@ -10,9 +10,10 @@ use borrow.Author.Tests.{eq-eqb, lt-ltb, ltb-true}
 use Rattle.ground.specs.Truth.{and-left, and-right}
 use Rattle.counting.specs.Laws.Numbers.{count-le}
 use Rattle.packet.specs.Kinds.{epochAfter, frames}
+use Rattle.packet.specs.Laws.Writing.{answer-sized}
 use Rattle.packet.specs.Theorems.Tags.{epoch-fits, idle-fits}
 use Rattle.packet.specs.Words.{FIXED, assigned}
-use Rattle.packet.specs.Writing.{fitting, writeAnswer}
+use Rattle.packet.specs.Writing.{fitting}
 use Rattle.sender.specs.declared.board.Row.{Row}
 use Rattle.sender.specs.declared.epochs.Sender.{Sender}
 use Rattle.sender.specs.declared.epochs.SenderOutcome.{SenderOutcome}
@@ -128,12 +129,13 @@ fields-fit s o w i h =
     word : (not (eqb (rowAt (s .outgoing .rows) i .word .0) FIXED) && assigned (rowAt (s .outgoing .rows) i .word)) ≡ true
     word = rw (w .outgoing .is) (row-fits t i below)
 
-all-right : (s : Sender) (i : ℕ) (h4 : List ℕ) → i < slotsIn (s .table) → length h4 ≡ 16 → s .begun ≡ true → fitting (packetFields s i) ≡ true → packetAnswer s i h4 ≡ Done
-unfolding packetAnswer writeAnswer frames
-all-right s i h4 l k b f = rw (lt-ltb i (sizeOf (s .table .count)) l, eq-eqb (length h4) 16 k, f, b)
+all-right : (s : Sender) (i : ℕ) (h4 : List ℕ) → i < slotsIn (s .table) → length h4 ≡ frames (s .table .kind) → s .begun ≡ true → fitting (packetFields s i) ≡ true → packetAnswer s i h4 ≡ Done
+unfolding packetAnswer
+all-right s i h4 l k b f =
+    rw (lt-ltb i (sizeOf (s .table .count)) l, answer-sized (s .table .kind) (packetFields s i) h4, eq-eqb (length h4) (frames (s .table .kind)) k, f, b)
 
 pub packet-done : (kind count e : ℕ) (cs : List SenderCall) → e < 256 → AllGiven cs → senderAfter kind count e cs .begun ≡ true
-    → (i : ℕ) → i < slotsIn (senderAfter kind count e cs .table) → (h4 : List ℕ) → length h4 ≡ 16 → packetAnswer (senderAfter kind count e cs) i h4 ≡ Done
+    → (i : ℕ) → i < slotsIn (senderAfter kind count e cs .table) → (h4 : List ℕ) → length h4 ≡ frames (senderAfter kind count e cs .table .kind) → packetAnswer (senderAfter kind count e cs) i h4 ≡ Done
 packet-done kind count e cs h g b i l h4 k =
     let s = senderAfter kind count e cs in
     all-right s i h4 l k b (fields-fit s (fit-run (beginOf kind count e .sender) cs g (fit-fresh kind count e h)) (sender-sound kind count e cs) i l)
