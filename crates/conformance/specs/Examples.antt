@@ -9,16 +9,18 @@ use Rattle.packet.specs.Layout.{byteOf, carriedIn, dataOf, fieldsOf, h4Of, high
 use Rattle.packet.specs.Reading.{readAnswer, readNibbles, readingNumber, readingValues}
 use Rattle.packet.specs.Words.{FIXED, ADD, NORM, EOS, IDLE, DNU, assigned}
 use Rattle.packet.specs.Writing.{fitting, writeAnswer, writeBytes, writingNumber}
-use Rattle.console.specs.Ascii.{ascii}
-use Rattle.console.specs.Fields.{decimalOf, digitOf, hexPair}
+use Rattle.text.specs.Ascii.{ascii}
+use Rattle.text.specs.Fields.{digitOf, hexOf}
+use Rattle.text.specs.Fields.{numberOf as numberIn}
+use Rattle.text.specs.Output.{decimalText, wordText}
+use Rattle.text.specs.Text.{linesOf}
+use Rattle.text.specs.Text.{fieldsOf as fieldsIn}
 use Rattle.console.specs.Line.{lineOf, numberLine, reportLine, wordLine}
 use Rattle.console.specs.Line.{reportOf as reportIn}
-use Rattle.console.specs.Output.{answerText, boardText, decimalText, slotText, waitText, wordText}
+use Rattle.console.specs.Output.{answerText, boardText, slotText, waitText}
 use Rattle.console.specs.Replies.{outputOf, replyOf, sizeReply}
 use Rattle.console.specs.Runs.{wholeOutput}
 use Rattle.console.specs.Session.{beginning}
-use Rattle.console.specs.Text.{linesOf}
-use Rattle.console.specs.Text.{fieldsOf as fieldsIn}
 use Rattle.payload.specs.Answers.{numberOf}
 use Rattle.payload.specs.Joining.{joined, wholeAnswer}
 use Rattle.payload.specs.Spreading.{spreadAll}
@@ -180,5 +182,5 @@ table =
     ∷ []
 
 pub examples : Equal table
-unfolding table nibblesOf sealedOf dataOf crcOf divisor byteBits nibbleBits writeAnswer writeBytes fitting assigned h4Of readAnswer readNibbles fieldsOf carriedIn highsOf boardOf rowsOf rowOf noRow highest startOf freshOf idleSlot idleNumber addOf addedTo removeOf removedFrom fallen fallenIn lapseOf reportOf waited actedOn mstApplied numberApplied holderOf renumbered slotAfter numberAfter comesBefore turnOf opensWait sizeOf membersOf mstFails mstFirst mstNumbers wholeOutput beginning linesOf fieldsIn lineOf wordLine numberLine reportLine reportIn decimalOf digitOf hexPair replyOf sizeReply outputOf answerText boardText slotText waitText wordText decimalText afterOn nibbleIn nibblePlace startsCount tagByHigh carriesLow tagByLow counts endsEpoch epochsIn frames tagAfter tagBefore tags lead epochs epochAfter epochOf distanceOf placeOf startsEpoch firstTag settledOf clearedStep clearedPort clearedPorts stoppedOf stopBy begunOf beginBy gatherBy portsIn sizedGroup storeFor ready latest noTag further foremost within begins owesNothing brought silent ruledBy passedStep notedBy passedPort passedPorts passedGroup passedOf frameFits rowsFit frameAnswer frameRows frameStore gatheredBy marksBy portRows storeBy settledBy takenRows takenStore refusalBy startAnswer startRows startFits sizedAnswer sizedRows freshPort freshPorts groupAt groupOf groupRow putGroup rowIn putRow marksAt packetsAt putMarks putPackets memberAt putMember memberOf memberRow putStep stepAt stepIn stepRow takenOf inStep readable distanceIn flagged countsOn frameDropped outside keeps joining byWindow byStart arrives inStepAt begunRun secondRun oneMore furtherRun runOn placeIn storedAt ringOf byteAt h4At packetIn cutFrom markedAt firstMark markedByte cutByte passedByte passedMarks
+unfolding table nibblesOf sealedOf dataOf crcOf divisor byteBits nibbleBits writeAnswer writeBytes fitting assigned h4Of readAnswer readNibbles fieldsOf carriedIn highsOf boardOf rowsOf rowOf noRow highest startOf freshOf idleSlot idleNumber addOf addedTo removeOf removedFrom fallen fallenIn lapseOf reportOf waited actedOn mstApplied numberApplied holderOf renumbered slotAfter numberAfter comesBefore turnOf opensWait sizeOf membersOf mstFails mstFirst mstNumbers wholeOutput beginning linesOf fieldsIn lineOf wordLine numberLine reportLine reportIn numberIn digitOf hexOf replyOf sizeReply outputOf answerText boardText slotText waitText wordText decimalText afterOn nibbleIn nibblePlace startsCount tagByHigh carriesLow tagByLow counts endsEpoch epochsIn frames tagAfter tagBefore tags lead epochs epochAfter epochOf distanceOf placeOf startsEpoch firstTag settledOf clearedStep clearedPort clearedPorts stoppedOf stopBy begunOf beginBy gatherBy portsIn sizedGroup storeFor ready latest noTag further foremost within begins owesNothing brought silent ruledBy passedStep notedBy passedPort passedPorts passedGroup passedOf frameFits rowsFit frameAnswer frameRows frameStore gatheredBy marksBy portRows storeBy settledBy takenRows takenStore refusalBy startAnswer startRows startFits sizedAnswer sizedRows freshPort freshPorts groupAt groupOf groupRow putGroup rowIn putRow marksAt packetsAt putMarks putPackets memberAt putMember memberOf memberRow putStep stepAt stepIn stepRow takenOf inStep readable distanceIn flagged countsOn frameDropped outside keeps joining byWindow byStart arrives inStepAt begunRun secondRun oneMore furtherRun runOn placeIn storedAt ringOf byteAt h4At packetIn cutFrom markedAt firstMark markedByte cutByte passedByte passedMarks
 examples = equal-rows table refl

@@ -102,9 +102,9 @@ module _ (k : Link) (a : Assumed k) where
 
         go : Phase (roadOf k) m₀ (at .t) (at .done) (standing k (ownRun k m₀) at) (coming (roadOf k) (at .t) (at .rest))
             → NoneDue k (standing k (ownRun k m₀) at)
-        go (before b un) = (fetch-answered (roadOf k) (fair k a) (standing k (ownRun k m₀) at) here (b .lined), s .before-none (standing k (ownRun k m₀) at) here b)
-        go (first F b c) = (fetch-answered (roadOf k) (fair k a) (standing k (ownRun k m₀) at) here (c .open-at .lined), s .first-none (standing k (ownRun k m₀) at) (suc (F / epochFrames k)) here c)
-        go (later F i b c o) = (fetch-answered (roadOf k) (fair k a) (standing k (ownRun k m₀) at) here (c .open-at .lined), s .later-none (standing k (ownRun k m₀) at) (suc (F / epochFrames k)) i here c o)
+        go (before b un) = (fetch-answered (roadOf k) (fair k a) (standing k (ownRun k m₀) at) (b .lined), s .before-none (standing k (ownRun k m₀) at) here b)
+        go (first F b c) = (fetch-answered (roadOf k) (fair k a) (standing k (ownRun k m₀) at) (c .open-at .lined), s .first-none (standing k (ownRun k m₀) at) (suc (F / epochFrames k)) here c)
+        go (later F i b c o) = (fetch-answered (roadOf k) (fair k a) (standing k (ownRun k m₀) at) (c .open-at .lined), s .later-none (standing k (ownRun k m₀) at) (suc (F / epochFrames k)) i here c o)
 
   always-stands : (m₀ : Moment) → Started k m₀ → (at : Time k) → Stands k (ownRun k m₀) at
   always-stands m₀ o at = stands m₀ (from-start m₀ o) at
