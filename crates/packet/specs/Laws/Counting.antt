@@ -27,18 +27,18 @@ high t h = not (eqb (t % 16) 0) || eqb (h / 16) (t / 256 % 16)
 abbrev low : ℕ → ℕ → Bool
 low t h = not (eqb (t % 16) 1) || eqb (h / 16) (t / 16 % 16)
 
-pub counts-first : (kind t h : ℕ) → counts kind t h ≡ true → h % 16 ≡ t % 16
+counts-first : (kind t h : ℕ) → counts kind t h ≡ true → h % 16 ≡ t % 16
 unfolding counts
 counts-first kind t h e =
     eqb-true (h % 16) (t % 16) (and-left (first t h) (high t h) (and-left (first t h && high t h) (low t h) e))
 
-pub counts-high : (kind t h : ℕ) → counts kind t h ≡ true → t % 16 ≡ 0 → h / 16 ≡ t / 256 % 16
+counts-high : (kind t h : ℕ) → counts kind t h ≡ true → t % 16 ≡ 0 → h / 16 ≡ t / 256 % 16
 unfolding counts
 counts-high kind t h e z =
     let test : high t h ≡ true = and-right (first t h) (high t h) (and-left (first t h && high t h) (low t h) e) in
     eqb-true (h / 16) (t / 256 % 16) (rw (eq-eqb (t % 16) 0 z) at test)
 
-pub counts-low : (kind t h : ℕ) → counts kind t h ≡ true → t % 16 ≡ 1 → h / 16 ≡ t / 16 % 16
+counts-low : (kind t h : ℕ) → counts kind t h ≡ true → t % 16 ≡ 1 → h / 16 ≡ t / 16 % 16
 unfolding counts
 counts-low kind t h e z =
     let test : low t h ≡ true = and-right (first t h && high t h) (low t h) e in
@@ -51,7 +51,7 @@ implied m n p q f =
     (λ (d : m ≢ n). or-left (not (eqb m n)) (eqb p q) (ap not (ne-eqb m n d)))
     (eq-or-ne m n)
 
-pub counts-by : (kind t h : ℕ) → h % 16 ≡ t % 16 → (t % 16 ≡ 0 → h / 16 ≡ t / 256 % 16) → (t % 16 ≡ 1 → h / 16 ≡ t / 16 % 16) → counts kind t h ≡ true
+counts-by : (kind t h : ℕ) → h % 16 ≡ t % 16 → (t % 16 ≡ 0 → h / 16 ≡ t / 256 % 16) → (t % 16 ≡ 1 → h / 16 ≡ t / 16 % 16) → counts kind t h ≡ true
 unfolding counts
 counts-by kind t h same-first same-high same-low =
     and-true (first t h && high t h) (low t h)
@@ -158,52 +158,48 @@ epoch-carried kind e ns a b below at-high at-low sent-high sent-low =
     (counts-low kind (e * 16 + 1) b (rw (low-tag e below) at sent-low) (omega arith)))
 
 -- the two nibbles of MFI2 in a packet's H4 bytes
-pub high-sent : (kind : ℕ) (f : Fields) (z : ℕ) → f .epoch < 256 → getD (h4Of (nibblesOf f z)) (lead kind) 0 / 16 ≡ f .epoch / 16
+high-sent : (kind : ℕ) (f : Fields) → f .epoch < 256 → getD (h4Of (nibblesOf f)) (lead kind) 0 / 16 ≡ f .epoch / 16
 unfolding h4Of nibblesOf sealedOf dataOf lead
-high-sent kind f z b = omega arith
+high-sent kind f b = omega arith
 
-pub low-sent : (kind : ℕ) (f : Fields) (z : ℕ) → f .epoch < 256 → getD (h4Of (nibblesOf f z)) (lead kind + 1) 0 / 16 ≡ f .epoch % 16
+low-sent : (kind : ℕ) (f : Fields) → f .epoch < 256 → getD (h4Of (nibblesOf f)) (lead kind + 1) 0 / 16 ≡ f .epoch % 16
 unfolding h4Of nibblesOf sealedOf dataOf lead
-low-sent kind f z b = omega arith
+low-sent kind f b = omega arith
 
 -- where they stand, and what the tag's epoch then is
-pub place-below : (kind t : ℕ) → placeOf kind t < frames kind
-unfolding placeOf lead frames
-place-below kind t = omega arith
-
-pub place-high : (kind t : ℕ) → t % 16 ≡ 0 → placeOf kind t ≡ lead kind
+place-high : (kind t : ℕ) → t % 16 ≡ 0 → placeOf kind t ≡ lead kind
 unfolding placeOf lead frames
 place-high kind t z = omega arith
 
-pub place-low : (kind t : ℕ) → t % 16 ≡ 1 → placeOf kind t ≡ lead kind + 1
+place-low : (kind t : ℕ) → t % 16 ≡ 1 → placeOf kind t ≡ lead kind + 1
 unfolding placeOf lead frames
 place-low kind t z = omega arith
 
-pub epoch-high : (kind x : ℕ) → tagOf kind x % 16 ≡ 0 → epochOf kind (tagOf kind x) / 16 ≡ tagOf kind x / 256 % 16
+epoch-high : (kind x : ℕ) → tagOf kind x % 16 ≡ 0 → epochOf kind (tagOf kind x) / 16 ≡ tagOf kind x / 256 % 16
 unfolding epochOf lead frames tags
 epoch-high kind x z = omega arith
 
-pub epoch-low : (kind x : ℕ) → tagOf kind x % 16 ≡ 1 → epochOf kind (tagOf kind x) % 16 ≡ tagOf kind x / 16 % 16
+epoch-low : (kind x : ℕ) → tagOf kind x % 16 ≡ 1 → epochOf kind (tagOf kind x) % 16 ≡ tagOf kind x / 16 % 16
 unfolding epochOf lead frames tags
 epoch-low kind x z = omega arith
 
-pub same-place : (kind a b : ℕ) → nibblePlace kind a ≡ nibblePlace kind b → a % 16 ≡ b % 16
+same-place : (kind a b : ℕ) → nibblePlace kind a ≡ nibblePlace kind b → a % 16 ≡ b % 16
 unfolding nibblePlace
 same-place kind a b e = omega arith
 
--- H4 bytes that came with MFI1 and MFI2 as sent, of a packet whose epoch is that of the tag of x: the one at the tag's place counts as the tag says
-pub counted-as-sent : (kind x : ℕ) (f : Fields) (z : ℕ) (came : List ℕ) → f .epoch < 256 → f .epoch ≡ epochOf kind (tagOf kind x)
-    → ((k : ℕ) → k < frames kind → nibblePlace kind (getD came k 0) ≡ nibblePlace kind (getD (h4Of (nibblesOf f z)) k 0))
-    → nibbleIn kind (getD came (lead kind) 0) ≡ nibbleIn kind (getD (h4Of (nibblesOf f z)) (lead kind) 0)
-    → nibbleIn kind (getD came (lead kind + 1) 0) ≡ nibbleIn kind (getD (h4Of (nibblesOf f z)) (lead kind + 1) 0)
-    → counts kind (tagOf kind x) (getD came (placeOf kind (tagOf kind x)) 0) ≡ true
-unfolding nibbleIn
-counted-as-sent kind x f z came b e places came-high came-low =
+-- a packet whose epoch is that of the tag of x: its H4 byte at the tag's place counts as the tag says
+pub counted-as-sent : (kind x : ℕ) (f : Fields) → f .epoch < 256 → f .epoch ≡ epochOf kind (tagOf kind x)
+    → counts kind (tagOf kind x) (getD (h4Of (nibblesOf f)) (placeOf kind (tagOf kind x)) 0) ≡ true
+counted-as-sent kind x f b e =
     let t : ℕ = tagOf kind x in
-    let place : ℕ = placeOf kind t in
-    counts-by kind t (getD came place 0)
-    (same-place kind (getD came place 0) (getD (h4Of (nibblesOf f z)) place 0) (places place (place-below kind t)) ∙ place-sent (nibblesOf f z) kind t)
-    (λ (q : t % 16 ≡ 0).
-    ap (λ (k : ℕ). getD came k 0 / 16) (place-high kind t q) ∙ came-high ∙ high-sent kind f z b ∙ ap (λ (n : ℕ). n / 16) e ∙ epoch-high kind x q)
-    (λ (q : t % 16 ≡ 1).
-    ap (λ (k : ℕ). getD came k 0 / 16) (place-low kind t q) ∙ came-low ∙ low-sent kind f z b ∙ ap (λ (n : ℕ). n % 16) e ∙ epoch-low kind x q)
+    counts-by kind t (getD (h4Of (nibblesOf f)) (placeOf kind t) 0) (place-sent (nibblesOf f) kind t)
+    (λ (q : t % 16 ≡ 0). ap (λ (k : ℕ). getD (h4Of (nibblesOf f)) k 0 / 16) (place-high kind t q) ∙ high-sent kind f b ∙ ap (λ (n : ℕ). n / 16) e ∙ epoch-high kind x q)
+    (λ (q : t % 16 ≡ 1). ap (λ (k : ℕ). getD (h4Of (nibblesOf f)) k 0 / 16) (place-low kind t q) ∙ low-sent kind f b ∙ ap (λ (n : ℕ). n % 16) e ∙ epoch-low kind x q)
+
+-- so does a byte with MFI1 as in one that counts, and with its nibble where that is one of MFI2
+pub counts-as : (kind t h g : ℕ) → counts kind t g ≡ true → nibblePlace kind h ≡ nibblePlace kind g
+    → (placeOf kind t ≡ lead kind → nibbleIn kind h ≡ nibbleIn kind g) → (placeOf kind t ≡ lead kind + 1 → nibbleIn kind h ≡ nibbleIn kind g) → counts kind t h ≡ true
+unfolding nibbleIn
+counts-as kind t h g e place same-high same-low =
+    counts-by kind t h (same-place kind h g place ∙ counts-first kind t g e) (λ (z : t % 16 ≡ 0). same-high (place-high kind t z) ∙ counts-high kind t g e z)
+    (λ (z : t % 16 ≡ 1). same-low (place-low kind t z) ∙ counts-low kind t g e z)

@@ -15,6 +15,6 @@ pub answer-sized : (kind : ℕ) (f : Fields) (s : List ℕ) → writeAnswer f s 
 unfolding writeAnswer frames
 answer-sized kind f s = refl
 
-pub bytes-sized : (kind : ℕ) (f : Fields) (s : List ℕ) → writeBytes f s ≡ cond (eqb (length s) (frames kind)) (cond (fitting f) (h4Of (nibblesOf f 0)) s) s
+pub bytes-sized : (kind : ℕ) (f : Fields) (s : List ℕ) → writeBytes f s ≡ cond (eqb (length s) (frames kind)) (cond (fitting f) (h4Of (nibblesOf f)) s) s
 unfolding writeBytes frames
 bytes-sized kind f s = refl
