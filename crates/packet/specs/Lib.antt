@@ -5,6 +5,7 @@ pub mod Kinds
 pub mod Laws
 pub mod Layout
 pub mod Reading
+pub mod Ruling
 pub mod Theorems
 pub mod Words
 pub mod Writing

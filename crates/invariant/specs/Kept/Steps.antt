@@ -24,13 +24,13 @@ use Rattle.packet.specs.Reading.{readNibbles}
 use Rattle.packet.specs.Theorems.Tags.{epoch-after-lt, epochs-some, frames-two}
 use Rattle.packet.specs.Words.{ADD, DNU, EOS, FIXED, IDLE, NORM, assigned}
 use Rattle.phases.specs.Beginning.{begins, foremost, noTag, ready, within}
-use Rattle.phases.specs.declared.ruling.Ruling.{Ruling}
+use Rattle.packet.specs.declared.ruling.Ruling.{Ruling}
 use Rattle.phases.specs.Due.{brought, owesNothing}
 use Rattle.phases.specs.Laws.Cleared.{begun-group, begun-port, stopped-group, stopped-port}
 use Rattle.phases.specs.Laws.Lengths.{length-begun, length-passed, length-stopped}
 use Rattle.phases.specs.Laws.Passed.{passed-group, passed-of-port}
 use Rattle.phases.specs.Passing.{groupTo, notedBy, passedGroup, passedOf}
-use Rattle.phases.specs.Ruling.{rulingBy, rulingOf}
+use Rattle.packet.specs.Ruling.{rulingBy, rulingOf}
 use Rattle.phases.specs.Settling.{begunOf, stoppedOf}
 use Rattle.receiver.specs.Frame.{portRows, takenIn}
 use Rattle.receiver.specs.Laws.Frames.{frame-group, frame-other, frame-port, frameOn, length-frame}

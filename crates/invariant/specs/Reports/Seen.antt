@@ -11,8 +11,8 @@ use Rattle.judge.specs.declared.seen.Seen.{Seen}
 use Rattle.judge.specs.Order.{activeIn, hasRank, orderOf, portOf, rankOf}
 use Rattle.judge.specs.Seen.{activeSeen, seenAt}
 use Rattle.packet.specs.Words.{EOS, NORM}
-use Rattle.phases.specs.declared.ruling.Ruling.{Ruling}
-use Rattle.phases.specs.Ruling.{rulingOf}
+use Rattle.packet.specs.declared.ruling.Ruling.{Ruling}
+use Rattle.packet.specs.Ruling.{rulingOf}
 use Rattle.receiver.specs.Laws.Seen.{seen-at}
 use Rattle.receiver.specs.Report.{rulingEpoch, seenAll, seenOf}
 use Rattle.rows.specs.declared.group.Group.{Group}

@@ -12,8 +12,8 @@ use Rattle.packet.specs.Counts.{nibbleIn}
 use Rattle.packet.specs.Kinds.{frames}
 use Rattle.packet.specs.Laws.Epochs.{epoch-in, nibbles-in, place-in}
 use Rattle.packet.specs.Theorems.Tags.{frames-some}
-use Rattle.phases.specs.declared.ruling.Ruling.{Ruling}
-use Rattle.phases.specs.Ruling.{rulingOf}
+use Rattle.packet.specs.declared.ruling.Ruling.{Ruling}
+use Rattle.packet.specs.Ruling.{rulingOf}
 use Rattle.receiver.specs.Laws.Seen.{seen-each}
 use Rattle.receiver.specs.Laws.Sizes.{sizes-of}
 use Rattle.link.specs.Contents.{allSeenAfter, numberOf, packetOf, seenAfter}
