@@ -5,8 +5,8 @@ use mathlib.Core.List.{List, [], _∷_}
 use Prim.Native.Nat.{ℕ, _<_, zero, suc}
 use lib.Dec.{eqb}
 use Rattle.judge.specs.Seen.{sizeOf}
-use Rattle.phases.specs.declared.ruling.Ruling.{Ruling}
-use Rattle.phases.specs.Ruling.{rulingOf}
+use Rattle.packet.specs.declared.ruling.Ruling.{Ruling}
+use Rattle.packet.specs.Ruling.{rulingOf}
 use Rattle.receiver.specs.Report.{rulingEpoch, replyPorts}
 use Rattle.rows.specs.declared.group.Group.{Group}
 use Rattle.rows.specs.Port.{Port, portAt}

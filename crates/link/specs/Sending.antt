@@ -15,7 +15,7 @@ use Rattle.packet.specs.Kinds.{epochs, firstTag, frames}
 use Rattle.packet.specs.Theorems.Damage.{changed}
 use Rattle.packet.specs.Words.{IDLE}
 use Rattle.payload.specs.Order.{memberFrame}
-use Rattle.phases.specs.Ruling.{rulingOf}
+use Rattle.packet.specs.Ruling.{rulingOf}
 use Rattle.step.specs.Laws.Sent.{SentWith}
 
 pub record Sending : Type 0 where

@@ -1,4 +1,8 @@
 -- Laws on the definitions, for the proofs above them.
 pub mod Bounds
 pub mod Bytes
+pub mod Counting
+pub mod Distances
+pub mod Epochs
 pub mod Nibbles
+pub mod Writing

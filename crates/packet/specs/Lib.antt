@@ -1,9 +1,11 @@
+pub mod Clock
 pub mod Counts
 pub mod Crc
 pub mod Kinds
 pub mod Laws
 pub mod Layout
 pub mod Reading
+pub mod Ruling
 pub mod Theorems
 pub mod Words
 pub mod Writing

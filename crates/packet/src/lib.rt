@@ -4,6 +4,7 @@ mod crc;
 pub mod kinds;
 mod layout;
 mod reader;
+mod ruling;
 mod words;
 mod writer;
 
@@ -11,6 +12,8 @@ pub use layout::Fields;
 pub use reader::Reading;
 pub use reader::read;
 pub use reader::read_nibbles;
+pub use ruling::Ruling;
+pub use ruling::ruling_of;
 pub use words::Word;
 pub use writer::Writing;
 pub use writer::write;

@@ -3,9 +3,9 @@ use mathlib.Core.Path.{_≡_, refl, sym}
 use mathlib.Core.Bool.{Bool, true, false, cond, _&&_, true≢false}
 use mathlib.Core.List.{List}
 use Prim.Native.Nat.{ℕ}
-use Rattle.phases.specs.declared.ruling.Ruling.{Ruling}
+use Rattle.packet.specs.declared.ruling.Ruling.{Ruling}
 use Rattle.phases.specs.Passing.{notedBy, passedPort, passedStep, ruledBy}
-use Rattle.phases.specs.Ruling.{rulingOf}
+use Rattle.packet.specs.Ruling.{rulingOf}
 use Rattle.rows.specs.declared.group.Group.{Group}
 use Rattle.rows.specs.declared.member.Member.{Member}
 use Rattle.rows.specs.declared.step.Step.{Step}

@@ -1,5 +1,4 @@
 pub mod Sizes
-pub mod Ruling
 pub mod Due
 pub mod Beginning
 pub mod Passing

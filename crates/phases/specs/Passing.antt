@@ -4,8 +4,8 @@ use mathlib.Core.List.{List}
 use Prim.Native.Nat.{ℕ, zero, suc, _-_}
 use lib.ListN.{set}
 use Rattle.packet.specs.Kinds.{epochAfter, frames}
-use Rattle.phases.specs.declared.ruling.Ruling.{Ruling}
-use Rattle.phases.specs.Ruling.{rulingOf}
+use Rattle.packet.specs.declared.ruling.Ruling.{Ruling}
+use Rattle.packet.specs.Ruling.{rulingOf}
 use Rattle.rows.specs.declared.group.Group.{Group}
 use Rattle.rows.specs.declared.member.Member.{Member}
 use Rattle.rows.specs.declared.step.Step.{Step}

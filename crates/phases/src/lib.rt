@@ -2,15 +2,12 @@
 mod due;
 mod flags;
 mod passing;
-mod ruling;
 mod settling;
 mod sizes;
 mod starting;
 
 pub use due::is_complete;
 pub use passing::pass;
-pub use ruling::Ruling;
-pub use ruling::ruling_of;
 pub use settling::settle;
 pub use sizes::is_sized;
 pub use sizes::ports_in;

@@ -1,7 +1,6 @@
 // The oldest epoch passed: gathered, or reported. Each port's packet of that epoch comes to rule, if it stands whole in the store.
 use crate::flags::flag_for;
-use crate::ruling;
-use crate::ruling::Ruling;
+use packet::Ruling;
 use packet::kinds;
 use rows::Group;
 use rows::Member;
@@ -89,7 +88,7 @@ fn pass_port(group: Group, store: &[u8], port: u8, state: &mut [[u8; 16]])
     let row = rows::packets::marks(state, port);
     let whole = marks::first(row);
     let nibbles = frames::packet_in(group, port, store);
-    let ruling = ruling::ruling_of(group.kind, group.oldest, nibbles);
+    let ruling = packet::ruling_of(group.kind, group.oldest, nibbles);
     let member = rows::member::get(state, port);
     let packets = rows::packets::get(state, port);
     let step = rows::step::get(state, port);

@@ -8,10 +8,11 @@ use lib.Dec.{ltb}
 use lib.ListN.{length, replicate}
 use lib.Seq.{set-getD}
 use borrow.Author.Tests.{eq-eqb, ltb-true, ne-eqb}
-use Rattle.packet.specs.Counts.{nibbleIn, nibblePlace}
-use Rattle.packet.specs.Kinds.{endsEpoch, epochsIn, tagAfter}
+use Rattle.packet.specs.Counts.{nibbleIn}
+use Rattle.packet.specs.Kinds.{endsEpoch, epochsIn, placeOf, tagAfter}
+use Rattle.packet.specs.Laws.Distances.{place-back}
 use Rattle.phases.specs.Sizes.{portsIn}
-use Rattle.receiver.specs.Frame.{decidedAnswer, decidedRows, decidedStore, frameAnswer, frameRefusal, frameRows, frameStore, gatheredBy, marksBy, portRows, refusalBy, settledBy, steadyRows, storeBy, takenRows, takenStore}
+use Rattle.receiver.specs.Frame.{decidedAnswer, decidedRows, decidedStore, frameAnswer, frameRefusal, frameRows, frameStore, gatheredBy, marksBy, ownTag, portRows, refusalBy, settledBy, steadyRows, storeBy, takenRows, takenStore}
 use Rattle.receiver.specs.Lengths.{frameFits}
 use Rattle.rows.specs.declared.group.Group.{Group}
 use Rattle.rows.specs.declared.step.Step.{Step}
@@ -84,15 +85,15 @@ module _ (s : List (List ℕ)) (i : ℕ) where
   same-packets = sym (rw (set-getD s (i * 5 + 3) (replicate 16 0)) (set-getD s (i * 5 + 4) (replicate 16 0)))
 
 -- Gathering: a frame that is not counted leaves the packets.
-pub gather-counted : (kind : ℕ) (s : List (List ℕ)) (i : ℕ) (counted : Bool) (h place nibble : ℕ) (rows : List (List ℕ)) → counted ≡ true
-    → place ≡ nibblePlace kind h → nibble ≡ nibbleIn kind h → rows ≡ putPackets s i (withNibble (packetsAt s i) place nibble)
-    → rows ≡ putPackets s i (gatheredBy kind (packetsAt s i) counted h)
+pub gather-counted : (kind : ℕ) (s : List (List ℕ)) (i : ℕ) (counted : Bool) (tag h place nibble : ℕ) (rows : List (List ℕ)) → counted ≡ true
+    → place ≡ placeOf kind tag → nibble ≡ nibbleIn kind h → rows ≡ putPackets s i (withNibble (packetsAt s i) place nibble)
+    → rows ≡ putPackets s i (gatheredBy kind (packetsAt s i) counted tag h)
 unfolding gatheredBy withNibble
-gather-counted kind s i counted h place nibble rows e ep en er = er ∙ rw (e, ep, en) refl
+gather-counted kind s i counted tag h place nibble rows e ep en er = er ∙ rw (e, ep, en) refl
 
-pub gather-none : (kind : ℕ) (s : List (List ℕ)) (i : ℕ) (counted : Bool) (h : ℕ) → counted ≡ false → s ≡ putPackets s i (gatheredBy kind (packetsAt s i) counted h)
+pub gather-none : (kind : ℕ) (s : List (List ℕ)) (i : ℕ) (counted : Bool) (tag h : ℕ) → counted ≡ false → s ≡ putPackets s i (gatheredBy kind (packetsAt s i) counted tag h)
 unfolding gatheredBy
-gather-none kind s i counted h e = rw e (same-packets s i)
+gather-none kind s i counted tag h e = rw e (same-packets s i)
 
 -- Marking: a frame that neither joins nor ends an epoch leaves the marks.
 marks-stay : (kind : ℕ) (row : List ℕ) (t : Taken) → (t .joins || t .kept && endsEpoch kind (t .at)) ≡ false → marksBy kind row t ≡ row
@@ -109,15 +110,15 @@ pub mark-none : (kind : ℕ) (s : List (List ℕ)) (i : ℕ) (t : Taken) (ends :
     → s ≡ putMarks s i (marksBy kind (marksAt s i) t)
 mark-none kind s i t ends ee e = rw (marks-stay kind (marksAt s i) t (rw (← ee) e)) (sym (same-marks s i s refl))
 
-pub port-rows : (kind : ℕ) (s : List (List ℕ)) (i : ℕ) (t : Taken) (h : ℕ) (stepped gathered marked : List (List ℕ))
-    → stepped ≡ putStep s i (t .step) → gathered ≡ putPackets stepped i (gatheredBy kind (packetsAt stepped i) (t .counted) h)
+pub port-rows : (kind : ℕ) (s : List (List ℕ)) (i : ℕ) (t : Taken) (h : ℕ) (tag : ℕ) (stepped gathered marked : List (List ℕ)) → tag ≡ ownTag kind t
+    → stepped ≡ putStep s i (t .step) → gathered ≡ putPackets stepped i (gatheredBy kind (packetsAt stepped i) (t .counted) tag h)
     → marked ≡ putMarks gathered i (marksBy kind (marksAt gathered i) t) → marked ≡ portRows kind s i t h
 unfolding portRows
-port-rows kind s i t h stepped gathered marked e1 e2 e3 =
+port-rows kind s i t h tag stepped gathered marked e0 e1 e2 e3 =
     let p : packetsAt stepped i ≡ packetsAt s i = rw e1 (packets-put-step s i (t .step) i) in
     let same : marksAt stepped i ≡ marksAt s i = rw e1 (marks-put-step s i (t .step) i) in
-    let m : marksAt gathered i ≡ marksAt s i = rw e2 (marks-put-packets stepped i (gatheredBy kind (packetsAt stepped i) (t .counted) h) i ∙ same) in
-    e3 ∙ rw (m, e2, p, e1) refl
+    let m : marksAt gathered i ≡ marksAt s i = rw e2 (marks-put-packets stepped i (gatheredBy kind (packetsAt stepped i) (t .counted) tag h) i ∙ same) in
+    e3 ∙ rw (m, e2, p, e1, e0) refl
 
 -- A steady frame in mid-epoch: the marks are put back as they were.
 module _ (s : List (List ℕ)) (i h : ℕ) (g : Group) where
@@ -125,13 +126,13 @@ module _ (s : List (List ℕ)) (i h : ℕ) (g : Group) where
   unfolding steadyRows
   steady-marks =
       let low : List (List ℕ) = putStep s i (withNext (stepAt s i) (tagAfter (g .kind) (stepAt s i .next))) in
-      marks-put-packets low i (withNibble (packetsAt s i) (nibblePlace (g .kind) h) (nibbleIn (g .kind) h)) i
+      marks-put-packets low i (withNibble (packetsAt s i) (placeOf (g .kind) (stepAt s i .next)) (nibbleIn (g .kind) h)) i
       ∙ marks-put-step s i (withNext (stepAt s i) (tagAfter (g .kind) (stepAt s i .next))) i
 
   steady-parts : endsEpoch (g .kind) (distanceIn g (stepAt s i .next)) ≡ false
       → portRows (g .kind) s i (steadyTaken g (stepAt s i)) h ≡ putMarks (steadyRows (g .kind) (stepAt s i .next) h i s) i (marksAt s i)
-  unfolding portRows steadyTaken marksBy gatheredBy withNibble steadyRows
-  steady-parts e = rw e refl
+  unfolding portRows steadyTaken marksBy gatheredBy withNibble withNext steadyRows
+  steady-parts e = rw (e, place-back (g .kind) (stepAt s i .next)) refl
 
   pub steady-rows : midEpoch g (distanceIn g (stepAt s i .next)) ≡ true → portRows (g .kind) s i (steadyTaken g (stepAt s i)) h ≡ steadyRows (g .kind) (stepAt s i .next) h i s
   steady-rows w = steady-parts (mid-epoch-goes-on g (distanceIn g (stepAt s i .next)) w) ∙ same-marks s i (steadyRows (g .kind) (stepAt s i .next) h i s) steady-marks

@@ -2,10 +2,11 @@
 use mathlib.Core.Path.{_≡_}
 use mathlib.Core.Bool.{true, _&&_}
 use Prim.Native.Nat.{ℕ, _≤_}
+use native.Mathlib.Omega.{arith}
 use lib.Dec.{eqb, leb}
 use borrow.Author.Tests.{eqb-true}
 use Rattle.ground.specs.Truth.{and-right}
-use Rattle.packet.specs.Kinds.{tags}
+use Rattle.packet.specs.Laws.Epochs.{half-fits}
 use Rattle.phases.specs.Sizes.{storeFor}
 use Rattle.receiver.specs.Laws.Sizes.{Sizes}
 use Rattle.receiver.specs.Lengths.{fetchFits, outputFor, rowsFit}
@@ -13,8 +14,7 @@ use Rattle.receiver.specs.Shown.{replyFit, shownFit}
 use Rattle.rows.specs.declared.group.Group.{Group}
 
 pub window-most : (kind count P W : ℕ) → Sizes kind count P W → W ≤ 2048
-unfolding tags
-window-most kind count P W z = z .narrow
+window-most kind count P W z = let narrow = z .narrow in let half = half-fits kind in omega arith
 
 pub shown-length : (n rows out : ℕ) → shownFit n rows out ≡ true → out ≡ n
 unfolding shownFit

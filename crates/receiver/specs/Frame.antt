@@ -4,8 +4,8 @@ use mathlib.Core.List.{List, []}
 use Prim.Native.Nat.{ℕ}
 use lib.Dec.{eqb, ltb}
 use lib.ListN.{getD, length, set}
-use Rattle.packet.specs.Counts.{nibbleIn, nibblePlace}
-use Rattle.packet.specs.Kinds.{endsEpoch, epochsIn, tagAfter}
+use Rattle.packet.specs.Counts.{nibbleIn}
+use Rattle.packet.specs.Kinds.{endsEpoch, epochsIn, placeOf, tagAfter, tagBefore}
 use Rattle.phases.specs.Settling.{settledOf}
 use Rattle.phases.specs.Sizes.{portsIn}
 use Rattle.receiver.specs.Lengths.{frameFits}
@@ -18,9 +18,13 @@ use Rattle.step.specs.Arrival.{takenOf}
 use Rattle.store.specs.Frames.{placeIn, storedAt}
 use Rattle.store.specs.Marks.{cutFrom, markedAt}
 
--- 'sixteen nibbles of the packet being gathered': a counted frame's nibble goes to its place there
-unfoldable pub gatheredBy : ℕ → List (List ℕ) → Bool → ℕ → List (List ℕ)
-gatheredBy kind pair counted h = cond counted (set pair 0 (set (getD pair 0 []) (nibblePlace kind h) (nibbleIn kind h))) pair
+-- the receiver's own tag of a counted frame: the one before the tag to come
+abbrev pub ownTag : ℕ → Taken → ℕ
+ownTag kind t = tagBefore kind (t .step .next)
+
+-- 'sixteen nibbles of the packet being gathered': a counted frame's nibble goes to the place of its tag there
+unfoldable pub gatheredBy : ℕ → List (List ℕ) → Bool → ℕ → ℕ → List (List ℕ)
+gatheredBy kind pair counted tag h = cond counted (set pair 0 (set (getD pair 0 []) (placeOf kind tag) (nibbleIn kind h))) pair
 
 -- joining at an epoch drops what the port had stored from that epoch on; the last frame of an epoch marks it
 unfoldable pub marksBy : ℕ → List ℕ → Taken → List ℕ
@@ -30,12 +34,12 @@ marksBy kind marks t =
 -- the port's rows after a frame
 unfoldable pub portRows : ℕ → List (List ℕ) → ℕ → Taken → ℕ → List (List ℕ)
 portRows kind s i t h =
-    putMarks (putPackets (putStep s i (t .step)) i (gatheredBy kind (packetsAt s i) (t .counted) h)) i (marksBy kind (marksAt s i) t)
+    putMarks (putPackets (putStep s i (t .step)) i (gatheredBy kind (packetsAt s i) (t .counted) (ownTag kind t) h)) i (marksBy kind (marksAt s i) t)
 
 -- the port's rows after a frame that changes its next tag and one nibble alone
 unfoldable pub steadyRows : ℕ → ℕ → ℕ → ℕ → List (List ℕ) → List (List ℕ)
 steadyRows kind next h i s =
-    putPackets (putStep s i (withNext (stepAt s i) (tagAfter kind next))) i (withNibble (packetsAt s i) (nibblePlace kind h) (nibbleIn kind h))
+    putPackets (putStep s i (withNext (stepAt s i) (tagAfter kind next))) i (withNibble (packetsAt s i) (placeOf kind next) (nibbleIn kind h))
 
 -- the store after a frame
 unfoldable pub storeBy : Group → ℕ → Taken → ℕ → List ℕ → List ℕ → List ℕ

@@ -13,12 +13,12 @@ ghost use Rattle.rows.specs.Group.{groupAt};
 ghost use Rattle.rows.specs.Packets.{marksAt, packetsAt, putMarks, putPackets};
 ghost use Rattle.store.specs.Frames.{placeIn, storedAt};
 
-// A counted frame's nibble into the packet being gathered.
-fn gather(kind: u8, state: &mut [[u8; 16]], port: u8, counted: bool, h4: u8)
-    ensures { λ _. ⌜ now (state .exit) ≡ putPackets (now (state .entry)) port (gatheredBy kind (packetsAt (now (state .entry)) port) counted h4) ⌝ }
+// A counted frame's nibble into the packet being gathered, at the place of its tag.
+fn gather(kind: u8, state: &mut [[u8; 16]], port: u8, counted: bool, tag: u16, h4: u8)
+    ensures { λ _. ⌜ now (state .exit) ≡ putPackets (now (state .entry)) port (gatheredBy kind (packetsAt (now (state .entry)) port) counted tag h4) ⌝ }
 {
     if counted {
-        let place = counts::nibble_place(kind, h4);
+        let place = kinds::place_of(kind, tag);
         let nibble = counts::nibble_in(kind, h4);
         rows::packets::put_nibble(state, port, place, nibble);
     }
@@ -55,8 +55,10 @@ fn mark(kind: u8, state: &mut [[u8; 16]], port: u8, taken: Taken)
 fn put_port(kind: u8, state: &mut [[u8; 16]], port: u8, taken: Taken, h4: u8)
     ensures { λ _. ⌜ now (state .exit) ≡ portRows kind (now (state .entry)) port taken h4 ⌝ }
 {
-    rows::step::put(state, port, taken.step);
-    gather(kind, state, port, taken.counted, h4);
+    let step = taken.step;
+    let tag = kinds::previous_tag(kind, step.next);
+    rows::step::put(state, port, step);
+    gather(kind, state, port, taken.counted, tag, h4);
     mark(kind, state, port, taken);
 }
 
@@ -131,7 +133,7 @@ fn go_on(kind: u8, next: u16, h4: u8, port: u8, state: &mut [[u8; 16]])
     ensures { λ _. ⌜ now (state .exit) ≡ steadyRows kind next h4 port (now (state .entry)) ⌝ }
 {
     let after = kinds::next_tag(kind, next);
-    let place = counts::nibble_place(kind, h4);
+    let place = kinds::place_of(kind, next);
     let nibble = counts::nibble_in(kind, h4);
     rows::step::put_next(state, port, after);
     rows::packets::put_nibble(state, port, place, nibble);

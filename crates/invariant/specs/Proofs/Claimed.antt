@@ -15,12 +15,13 @@ use Rattle.invariant.specs.Kept.Port.{PortKept, Windowed}
 use Rattle.invariant.specs.Proofs.Kept.Start.{started-kept, started-with}
 use Rattle.invariant.specs.Proofs.Kept.Steps.{brought-owes-nothing, lasting-frame, windowed}
 use Rattle.invariant.specs.Proofs.Laws.Settling.{settled-by}
-use Rattle.invariant.specs.Proofs.Laws.Window.{first-epoch, tag-next, tag-passed}
+use Rattle.invariant.specs.Proofs.Laws.Window.{tag-next, tag-passed}
 use Rattle.invariant.specs.Proofs.Sizes.{step-sizes}
 use Rattle.ground.specs.Table.{getD-tabulate, tabulate}
 use Rattle.ground.specs.Truth.{cond-by, eq-or-ne}
 use Rattle.judge.specs.Seen.{sizeOf}
 use Rattle.packet.specs.Kinds.{frames}
+use Rattle.packet.specs.Laws.Epochs.{first-epoch}
 use Rattle.packet.specs.Theorems.Tags.{frames-two}
 use Rattle.phases.specs.Due.{brought}
 use Rattle.phases.specs.Laws.Cleared.{begun-port, clearedOn, stopped-group}

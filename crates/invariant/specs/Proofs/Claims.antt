@@ -11,10 +11,11 @@ use Rattle.invariant.specs.Proofs.Kept.Passing.{ahead}
 use Rattle.invariant.specs.Kept.Port.{Joined, PortKept, Windowed, offset}
 use Rattle.invariant.specs.Proofs.Laws.Flags.{never}
 use Rattle.invariant.specs.Proofs.Laws.Runs.{run-counts, run-goes-on}
-use Rattle.invariant.specs.Proofs.Laws.Window.{distance-next, distance-passed, epoch-cut, epoch-ended, epoch-more, in-epoch, later-back, later-part, part-back, part-before, start-place, whole-epochs}
+use Rattle.invariant.specs.Proofs.Laws.Window.{distance-next, distance-passed, start-place}
 use Rattle.ground.specs.Truth.{and-left, and-right, clash, eq-or-ne, le-or-lt, or-cases}
 use Rattle.packet.specs.Counts.{counts}
 use Rattle.packet.specs.Kinds.{endsEpoch, epochsIn, frames, startsEpoch, tags}
+use Rattle.packet.specs.Laws.Epochs.{epoch-cut, epoch-ended, epoch-more, in-epoch, later-back, later-part, part-back, part-before, whole-epochs}
 use Rattle.packet.specs.Theorems.Tags.{frames-two}
 use Rattle.phases.specs.Due.{owesNothing}
 use Rattle.phases.specs.Passing.{passedGroup, passedStep}
@@ -121,8 +122,8 @@ module _ (g : Group) (s : Step) (marks : List ℕ) (failed : Bool) (h : ℕ) (W 
     low : e < g .window
     low = ltb-true e (g .window) w
 
-    half : e + e < tags (g .kind)
-    half = let most = W .most in let l = low in omega arith
+    round : e < tags (g .kind)
+    round = let most = W .most in let l = low in omega arith
 
     next-offset : distanceIn g (run .next) ≡ e + 1
     next-offset =
@@ -154,7 +155,7 @@ module _ (g : Group) (s : Step) (marks : List ℕ) (failed : Bool) (h : ℕ) (W 
             (λ (a : d / frames (g .kind) < 128).
             ⊎-elim (λ (t : markIn marks (d / frames (g .kind)) ≡ true). inl t)
             (λ (t : eqb (d / frames (g .kind)) (epochsIn (g .kind) (offset g s)) ≡ true).
-            let q = epoch-ended (g .kind) d (offset g s) half ends z (eqb-true (d / frames (g .kind)) (epochsIn (g .kind) (offset g s)) t) in
+            let q = epoch-ended (g .kind) d (offset g s) round ends z (eqb-true (d / frames (g .kind)) (epochsIn (g .kind) (offset g s)) t) in
             inr (part (q .0) (q .1)))
             (or-cases (markIn marks (d / frames (g .kind))) (eqb (d / frames (g .kind)) (epochsIn (g .kind) (offset g s)))
             (sym (mark-marked marks (k .row) (epochsIn (g .kind) (offset g s)) (d / frames (g .kind)) a) ∙ m)))
@@ -180,10 +181,10 @@ module _ (g : Group) (s : Step) (marks : List ℕ) (failed : Bool) (h : ℕ) (W 
         let l = ltb-true (d / frames (g .kind)) (epochsIn (g .kind) (offset g s)) (and-right (markIn marks (d / frames (g .kind))) (ltb (d / frames (g .kind)) (epochsIn (g .kind) (offset g s))) both-hold) in
         inr (record {
           claims = record { begun = c .begun; has = inl (and-left (markIn marks (d / frames (g .kind))) (ltb (d / frames (g .kind)) (epochsIn (g .kind) (offset g s))) both-hold) };
-          apart = λ y. epoch-cut (g .kind) d (offset g s) half l;
+          apart = λ y. epoch-cut (g .kind) d (offset g s) round l;
         }))
         (λ (p : Part g (joining g s run e .step) d).
-        let epochs : frames (g .kind) * epochsIn (g .kind) (offset g s) ≡ offset g s = whole-epochs (g .kind) (offset g s) half (start-place g (s .next) start) in
+        let epochs : frames (g .kind) * epochsIn (g .kind) (offset g s) ≡ offset g s = whole-epochs (g .kind) (offset g s) round (start-place g (s .next) start) in
         let from : offset g s ≤ d = rw epochs at (p .later) in
         let upto : d < offset g s + 1 = rw next-offset at (p .upto) in
         inl (record { kept = refl; at = omega arith; next = refl; unflagged = f; answer = refl; counted = sent }))

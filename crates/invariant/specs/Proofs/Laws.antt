@@ -1,4 +1,4 @@
--- Laws of single runs, tags and marks, where the numbers of a kind of packet are opened, and of what follows from a frame.
+-- Laws of single runs, of tags about the window and of what follows from a frame.
 pub mod Flags
 pub mod Runs
 pub mod Window

@@ -12,12 +12,13 @@ use Rattle.invariant.specs.Proofs.Claimed.{mark-claimed, step-claimed}
 use Rattle.invariant.specs.Kept.Group.{Kept}
 use Rattle.invariant.specs.Proofs.Kept.Start.{started-kept, started-with}
 use Rattle.invariant.specs.Proofs.Laws.Flags.{never, off-flag}
-use Rattle.invariant.specs.Proofs.Laws.Window.{mfi2-within, packet-numbered, ruling-passed}
+use Rattle.invariant.specs.Proofs.Laws.Window.{packet-numbered, ruling-passed}
 use Rattle.invariant.specs.Proofs.Ruled.{step-ruled}
 use Rattle.invariant.specs.Proofs.Sizes.{step-sizes}
 use Rattle.ground.specs.Truth.{clash}
 use Rattle.packet.specs.Counts.{counts}
 use Rattle.packet.specs.Kinds.{frames, lead}
+use Rattle.packet.specs.Laws.Epochs.{second-within}
 use Rattle.packet.specs.Layout.{fieldsOf}
 use Rattle.receiver.specs.Report.{rulingEpoch}
 use Rattle.receiver.specs.Starting.{groupWith, startAnswer, startRows}
@@ -74,7 +75,7 @@ module _ (x : Receiver) (c : ReceiverCall) (k : Kept (x .rows)) (counted : Count
   came-numbered : AllPassed x c (y .store) (y .rows) → (j : ℕ) → j < g .count → firstMark (portAt (rowsPassed x c) j .marks) ≡ true
       → fieldsOf (packetIn g j (y .store)) .epoch ≡ g .oldest
   came-numbered p j b first =
-      packet-numbered g j (y .store) (k .steady .group .oldest) (at (lead (g .kind)) (let l = mfi2-within (g .kind) in omega arith)) (at (lead (g .kind) + 1) (mfi2-within (g .kind)))
+      packet-numbered g j (y .store) (k .steady .group .oldest) (at (lead (g .kind)) (let l = second-within (g .kind) in omega arith)) (at (lead (g .kind) + 1) (second-within (g .kind)))
     where
       at : (d : ℕ) → d < frames (g .kind) → counts (g .kind) (tagIn g d) (h4At g j d (y .store)) ≡ true
       at d l =

@@ -15,7 +15,7 @@ use Rattle.packet.specs.Words.{assigned}
 use Rattle.phases.specs.Beginning.{begins, foremost, further, latest, noTag, ready, within}
 use Rattle.phases.specs.Due.{brought, owesNothing, silent}
 use Rattle.phases.specs.Passing.{groupTo, notedBy, passedGroup, passedOf, passedPort, passedPorts, passedStep, ruledBy}
-use Rattle.phases.specs.Ruling.{rulingOf}
+use Rattle.packet.specs.Ruling.{rulingOf}
 use Rattle.phases.specs.Settling.{beginBy, begunOf, clearedPort, clearedPorts, clearedStep, gatherBy, settledOf, stopBy, stoppedOf}
 use Rattle.receiver.specs.Frame.{gatheredBy, marksBy, portRows, storeBy}
 use Rattle.receiver.specs.Starting.{freshStep}

@@ -17,7 +17,7 @@ use Rattle.packet.specs.Layout.{carriedIn, dataOf, fieldsOf, h4Of, nibblesOf, s
 use Rattle.packet.specs.Reading.{readNibbles}
 use Rattle.packet.specs.Words.{EOS, NORM, assigned}
 use Rattle.phases.specs.Due.{brought, owesNothing}
-use Rattle.phases.specs.Ruling.{rulingOf}
+use Rattle.packet.specs.Ruling.{rulingOf}
 use Rattle.phases.specs.Sizes.{portsIn, sized, storeFor}
 use Rattle.receiver.specs.Fetch.{dueIn, fetchOut, fits, outIfDue, reportIfDue}
 use Rattle.receiver.specs.Lengths.{fetchFits, outputFor, rowsFit}

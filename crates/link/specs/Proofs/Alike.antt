@@ -6,16 +6,16 @@ use Prim.Native.Nat.{ℕ, suc, _+_, _*_, _/_, _≤_, _<_}
 use native.Mathlib.Nat.{mul-le-mul-right}
 use native.Mathlib.Omega.{arith}
 use lib.ListN.{getD, length, length-append}
-use Rattle.ground.specs.Table.{getD-tabulate, length-tabulate, tabulate}
+use Rattle.ground.specs.Table.{getD-tabulate, length-tabulate}
 use Rattle.ground.specs.Truth.{eq-or-ne, le-or-lt}
 use Rattle.judge.specs.Verdict.{SURE}
 use Rattle.packet.specs.Kinds.{firstTag, frames}
+use Rattle.packet.specs.Laws.Epochs.{one-epoch, start-after-lt}
 use Rattle.packet.specs.Theorems.Tags.{frames-some}
 use Rattle.step.specs.Laws.Run.{startFrom}
 use Rattle.link.specs.Demand3.{FullyArrived, Reported, Time, ToldApart, noReport, reportAt, standing}
 use Rattle.link.specs.Proofs.Judged.Apart.{apart}
 use Rattle.link.specs.Proofs.Laws.Lists.{append-apart, not-apart}
-use Rattle.link.specs.Proofs.Laws.Numbers.{epoch-after-lt, one-epoch}
 use Rattle.link.specs.Link.{Alike, AssumedOver, Link, SameIn, epochFrames, expected, kindOf, roadOf}
 use Rattle.link.specs.Moments.{Beginning, NotAfter, Ready, Run, Unready, coming, nextAt}
 use Rattle.link.specs.Road.{times}
@@ -219,7 +219,7 @@ module _ (k : Link) (ak : AssumedOver k) (rk : Run) (at : Time k) (ok : Reported
   further =
       let is : coming (roadOf k) (b .time) (b .rest) front ≡ ok .F + 1 = b .foremost .is in
       let come = ok .arrived m some front (b .foremost .below) in
-      let after = epoch-after-lt (kindOf k) (ok .F) in
+      let after = start-after-lt (kindOf k) (ok .F) in
       let l = frames-some (kindOf k) in
       let w = coming-is (roadOf k) (b .time) (b .rest) front (b .foremost .below) in
       let v = coming-is (roadOf k) (at .t) (at .rest) front (b .foremost .below) in

@@ -6,6 +6,7 @@ use Prim.Native.Nat.{ℕ, suc, _+_, _-_, _*_, _/_, _≤_, _<_}
 use native.Mathlib.Nat.{mul-le-mul-right}
 use native.Mathlib.Omega.{arith}
 use Rattle.packet.specs.Kinds.{firstTag}
+use Rattle.packet.specs.Laws.Epochs.{one-epoch, start-after-lt}
 use Rattle.packet.specs.Theorems.Tags.{frames-some}
 use Rattle.step.specs.Laws.Run.{start-from}
 use Rattle.ground.specs.Table.{tabulate, tabulate-ext}
@@ -17,7 +18,6 @@ use Rattle.link.specs.Demand3.Stands.{none-yet, reporting}
 use Rattle.link.specs.Proofs.Judged.Apart.{same-ports}
 use Rattle.link.specs.Proofs.Judged.Fairness.{fair}
 use Rattle.link.specs.Proofs.Judged.Reports.{judged}
-use Rattle.link.specs.Proofs.Laws.Numbers.{epoch-after-lt, one-epoch}
 use Rattle.link.specs.Link.{Alike, AssumedOver, Link, SameIn, epochFrames, expected, kindOf, roadOf}
 use Rattle.link.specs.Moments.{Beginning, coming}
 use Rattle.link.specs.Running.{Moment, fresh}
@@ -39,7 +39,7 @@ module _ (k : Link) (a : AssumedOver k) where
     -- the epochs from the first one to start after the foremost position on start after every port's first frame, so that all slots that take part reach a port
     from-then : (F : ℕ) → Beginning (roadOf k) (ownRun k m₀) F → (j : ℕ) → Covered (k .sending) (suc (F / epochFrames k) + j) (k .ports) (k .pairing)
     unfolding roadOf
-    from-then F b j = a .covered (suc (F / epochFrames k) + j) (late (F / epochFrames k) (epoch-after-lt (kindOf k) F))
+    from-then F b j = a .covered (suc (F / epochFrames k) + j) (late (F / epochFrames k) (start-after-lt (kindOf k) F))
       where
         front : a .earliest ≤ F
         front =
@@ -131,9 +131,9 @@ module _ (k : Link) (a : AssumedOver k) where
 
         go : Phase (roadOf k) m₀ (at .t) (at .done) (standing k (ownRun k m₀) at) (coming (roadOf k) (at .t) (at .rest))
             → NoneDue k (standing k (ownRun k m₀) at)
-        go (before b un) = (fetch-answered (roadOf k) (fair k a) (standing k (ownRun k m₀) at) here (b .lined), s .before-none (standing k (ownRun k m₀) at) here b)
-        go (first F b c) = (fetch-answered (roadOf k) (fair k a) (standing k (ownRun k m₀) at) here (c .open-at .lined), s .first-none (standing k (ownRun k m₀) at) (suc (F / epochFrames k)) here c)
-        go (later F i b c o) = (fetch-answered (roadOf k) (fair k a) (standing k (ownRun k m₀) at) here (c .open-at .lined), s .later-none (standing k (ownRun k m₀) at) (suc (F / epochFrames k)) i here c o)
+        go (before b un) = (fetch-answered (roadOf k) (fair k a) (standing k (ownRun k m₀) at) (b .lined), s .before-none (standing k (ownRun k m₀) at) here b)
+        go (first F b c) = (fetch-answered (roadOf k) (fair k a) (standing k (ownRun k m₀) at) (c .open-at .lined), s .first-none (standing k (ownRun k m₀) at) (suc (F / epochFrames k)) here c)
+        go (later F i b c o) = (fetch-answered (roadOf k) (fair k a) (standing k (ownRun k m₀) at) (c .open-at .lined), s .later-none (standing k (ownRun k m₀) at) (suc (F / epochFrames k)) i here c o)
 
   always-stands : (m₀ : Moment) → Started k m₀ → (at : Time k) → Stands k (ownRun k m₀) at
   always-stands m₀ o at = stands m₀ (from-start m₀ o) at

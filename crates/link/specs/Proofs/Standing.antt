@@ -1,12 +1,12 @@
 -- What stands at each moment of a run (the invariant of demand 3). Everything of the receiver that matters is a function of how far each port has come and of the window's first position.
 use mathlib.Core.Path.{_≡_}
-use mathlib.Core.Bool.{false, cond}
+use mathlib.Core.Bool.{true, false, cond}
 use mathlib.Core.List.{[]}
 use Prim.Native.Nat.{ℕ, suc, _+_, _-_, _*_, _≤_, _<_}
 use lib.Dec.{leb, ltb}
 use lib.ListN.{getD, length}
 use Rattle.ground.specs.Table.{tabulate}
-use Rattle.packet.specs.Kinds.{firstTag}
+use Rattle.packet.specs.Kinds.{epochs, firstTag}
 use Rattle.packet.specs.Theorems.Tags.{tagOf}
 use Rattle.phases.specs.Beginning.{begins}
 use Rattle.rows.specs.declared.step.Step.{Step}
@@ -17,6 +17,7 @@ use Rattle.rows.specs.Step.{stepAt}
 use Rattle.step.specs.Arrival.{runOf}
 use Rattle.step.specs.declared.run.Run.{Run}
 use Rattle.step.specs.Laws.Run.{runAt, startFrom}
+use Rattle.step.specs.Run.{inStepAt}
 use Rattle.store.specs.Laws.Marks.{Sixteen}
 use Rattle.store.specs.Laws.Stands.{Stands}
 use Rattle.store.specs.Marks.{markIn}
@@ -29,14 +30,20 @@ module _ (r : Road) where
   unfoldable pub heardRun : ℕ → ℕ → Run
   heardRun p x = cond (ltb (r .first p) x) (runAt (r .kind) (r .offset) (startFrom (r .kind) (r .offset) (r .first p)) (x - 1)) (record { count = 0; next = 0 })
 
+  -- What is known of a port's step where its next frame is the one at x. Before the beginning: the run as it is.
   pub record Heard (p x : ℕ) (s : Step) : Type 0 where
     pub from : r .first p ≤ x
     pub had : s .had ≡ cond (ltb (r .first p) x) 1 0
     pub failed : s .failed ≡ 0
     pub run : runOf s ≡ heardRun p x
 
-  -- coming p is the position of port p's next frame
-  pub record Lined (m : Moment) (coming : ℕ → ℕ) : Type 0 where
+  -- In step: that it is, and the tag to come.
+  pub record Stepped (x : ℕ) (s : Step) : Type 0 where
+    pub count : inStepAt (r .kind) (s .count) ≡ true
+    pub next : s .next ≡ tagOf (r .kind) (r .offset + x)
+
+  -- the rows and the store are the road's
+  pub record Lined (m : Moment) : Type 0 where
     pub rows-long : length (m .rows) ≡ rowsFor (r .ports)
     pub store-long : length (m .store) ≡ r .ports * r .window * (r .payload + 1)
     pub kind-is : groupAt (m .rows) .kind ≡ r .kind
@@ -44,23 +51,26 @@ module _ (r : Road) where
     pub payload-is : groupAt (m .rows) .payload ≡ r .payload
     pub window-is : groupAt (m .rows) .window ≡ r .window
     pub origin-in : groupAt (m .rows) .origin < r .window
-    pub heard : (p : ℕ) → p < r .ports → Heard p (coming p) (stepAt (m .rows) p)
+
+  -- In what follows coming p is the position of port p's next frame.
 
   -- receiving has not begun
   pub record Before (m : Moment) (coming : ℕ → ℕ) : Type 0 where
-    pub lined : Lined m coming
+    pub lined : Lined m
+    pub heard : (p : ℕ) → p < r .ports → Heard p (coming p) (stepAt (m .rows) p)
     pub begun : groupAt (m .rows) .begun ≡ 0
     pub unfit : begins (groupAt (m .rows)) (m .rows) (r .ports) ≡ false
     pub told : m .told ≡ []
 
   -- receiving has begun, and the window's first frame is the one at i L
   pub record Open (m : Moment) (coming : ℕ → ℕ) (i : ℕ) : Type 0 where
-    pub lined : Lined m coming
+    pub lined : Lined m
     pub begun : groupAt (m .rows) .begun ≡ 1
     pub oldest : firstTag (r .kind) (groupAt (m .rows) .oldest) ≡ tagOf (r .kind) (r .offset + i * L r)
-    pub oldest-small : groupAt (m .rows) .oldest < 256
+    pub oldest-small : groupAt (m .rows) .oldest < epochs (r .kind)
     -- all ports are in step and have been since the beginning
     pub in-step : (p : ℕ) → p < r .ports → startFrom (r .kind) (r .offset) (r .first p) + L r * 2 ≤ coming p
+    pub stepped : (p : ℕ) → p < r .ports → Stepped (coming p) (stepAt (m .rows) p)
     pub since : (p : ℕ) → p < r .ports → stepAt (m .rows) p .since ≡ 1
     pub later : (p : ℕ) → p < r .ports → stepAt (m .rows) p .later ≡ 0
     -- none is further from the window than the window is wide

@@ -1,15 +1,17 @@
--- Tags of positions in an endless count of frames. What stands above cites these laws, and not a kind's numbers: they are stated over the kind, of which there is one today.
+-- Tags of positions in an endless count of frames. What stands above cites these laws, and not a kind's numbers: they are stated over the kind, of which there is one today, and proved for two clocks (Clock).
 use mathlib.Core.Path.{_≡_, refl}
-use Prim.Native.Nat.{ℕ, _+_, _-_, _*_, _/_, _%_, _≤_, _<_}
+use Prim.Native.Nat.{ℕ, suc, _+_, _-_, _*_, _/_, _%_, _≤_, _<_}
+use native.Mathlib.Nat.{add-mod-right, mod-add-mod, mod-lt}
 use native.Mathlib.Omega.{arith}
 use mathlib.Core.Bool.{true}
 use mathlib.Core.List.{List}
-use borrow.Author.Tests.{eq-eqb}
+use borrow.Author.Tests.{eq-eqb, eqb-true}
 use lib.ListN.{getD}
 use Rattle.ground.specs.Circle.{after-of, after-lt}
 use Rattle.ground.specs.Table.{getD-tabulate}
+use Rattle.packet.specs.Clock.{by}
 use Rattle.packet.specs.Layout.{h4Of}
-use Rattle.packet.specs.Kinds.{distanceOf, epochAfter, endsEpoch, epochOf, epochs, epochsIn, firstTag, frames, idleNumber, lead, mstFirst, mstNumbers, placeOf, tagAfter, tags}
+use Rattle.packet.specs.Kinds.{distanceOf, endsEpoch, epochAfter, epochOf, epochs, epochsIn, firstTag, frames, idleNumber, lead, mstFirst, mstNumbers, placeOf, startsEpoch, tagAfter, tagBefore, tags}
 
 -- the tag of the x-th frame after one with tag 0
 abbrev pub tagOf : ℕ → ℕ → ℕ
@@ -17,52 +19,121 @@ tagOf kind x = x % tags kind
 
 -- an epoch has frames, and more than one
 pub frames-some : (kind : ℕ) → 0 < frames kind
-unfolding frames
-frames-some kind = omega arith
+frames-some kind = by (λ L E N l. 0 < L) (omega arith) (omega arith) kind
 
 pub frames-two : (kind : ℕ) → 2 ≤ frames kind
-unfolding frames
-frames-two kind = omega arith
+frames-two kind = by (λ L E N l. 2 ≤ L) (omega arith) (omega arith) kind
+
+pub epochs-some : (kind : ℕ) → 0 < epochs kind
+epochs-some kind = by (λ L E N l. 0 < E) (omega arith) (omega arith) kind
+
+pub tags-some : (kind : ℕ) → 0 < tags kind
+tags-some kind = by (λ L E N l. 0 < N) (omega arith) (omega arith) kind
+
+pub tags-are : (kind : ℕ) → epochs kind * frames kind ≡ tags kind
+tags-are kind = by (λ L E N l. E * L ≡ N) refl refl kind
 
 pub next-tag : (kind x : ℕ) → tagAfter kind (tagOf kind x) ≡ tagOf kind (x + 1)
-unfolding tagAfter tags
-next-tag kind x = omega arith
+unfolding tagAfter
+next-tag kind x = mod-add-mod x (tags kind) 1
+
+pub tag-before : (kind x : ℕ) → tagBefore kind (tagOf kind (x + 1)) ≡ tagOf kind x
+unfolding tagBefore
+tag-before kind x = by (λ L E N l. ((x + 1) % N + (N - 1)) % N ≡ x % N) (omega arith) (omega arith) kind
 
 pub distance-lt : (kind a b : ℕ) → distanceOf kind a b < tags kind
-unfolding distanceOf tags
-distance-lt kind a b = after-lt 4096 a b (omega arith)
+unfolding distanceOf
+distance-lt kind a b = after-lt (tags kind) a b (tags-some kind)
 
 -- less than a round apart, the tags' distance is the positions'
 pub distance-of : (kind x y : ℕ) → y ≤ x → x < y + tags kind → distanceOf kind (tagOf kind x) (tagOf kind y) ≡ x - y
 unfolding distanceOf
 distance-of kind x y low high = after-of (tags kind) x y low high
 
+-- a tag less than the window behind lies beyond the window
+pub behind-far : (kind x y w : ℕ) → x < y → y < x + w → w * 2 ≤ tags kind → w ≤ distanceOf kind (tagOf kind x) (tagOf kind y)
+behind-far kind x y w late near half =
+    let around = distance-of kind (x + tags kind) y (omega arith) (omega arith) in
+    let e : distanceOf kind (tagOf kind x) (tagOf kind y) ≡ x + tags kind - y = rw (add-mod-right x (tags kind)) at around in
+    omega arith
+
 pub place-of : (kind x : ℕ) → placeOf kind (tagOf kind x) ≡ (x + lead kind) % frames kind
-unfolding placeOf lead frames tags
-place-of kind x = omega arith
+unfolding placeOf
+place-of kind x = by (λ L E N l. (x % N + l) % L ≡ (x + l) % L) (omega arith) (omega arith) kind
 
 pub epoch-of : (kind x : ℕ) → epochOf kind (tagOf kind x) ≡ (x + lead kind) / frames kind % epochs kind
-unfolding epochOf lead frames tags epochs
-epoch-of kind x = omega arith
+unfolding epochOf
+epoch-of kind x = by (λ L E N l. (x % N + l) % N / L ≡ (x + l) / L % E) (omega arith) (omega arith) kind
 
 -- an epoch's first tag is of that epoch and stands at its first place
 pub first-of : (kind e : ℕ) → e < epochs kind → (epochOf kind (firstTag kind e) ≡ e) × (placeOf kind (firstTag kind e) ≡ 0)
-unfolding epochOf placeOf firstTag lead frames tags epochs
-first-of kind e h = (omega arith, omega arith)
+unfolding epochOf placeOf firstTag
+first-of kind e =
+    by (λ L E N l. e < E → (((e * L + (N - l)) % N + l) % N / L ≡ e) × (((e * L + (N - l)) % N + l) % L ≡ 0)) (λ h. (omega arith, omega arith)) (λ h. (omega arith, omega arith)) kind
 
 -- after the last frame of an epoch comes the next epoch
 pub next-epoch : (kind x : ℕ) → epochOf kind (tagOf kind (x + frames kind)) ≡ epochAfter kind (epochOf kind (tagOf kind x))
-unfolding epochOf epochAfter lead frames tags epochs
-next-epoch kind x = omega arith
+unfolding epochOf epochAfter
+next-epoch kind x = by (λ L E N l. ((x + L) % N + l) % N / L ≡ ((x % N + l) % N / L + 1) % E) (omega arith) (omega arith) kind
 
-pub tags-are : (kind : ℕ) → epochs kind * frames kind ≡ tags kind
-unfolding epochs frames tags
-tags-are kind = refl
+-- whose first frame comes so many frames later
+pub first-after : (kind e x : ℕ) → e < epochs kind → firstTag kind e ≡ tagOf kind x → firstTag kind (epochAfter kind e) ≡ tagOf kind (x + frames kind)
+unfolding firstTag epochAfter
+first-after kind e x =
+    by (λ L E N l. e < E → (e * L + (N - l)) % N ≡ x % N → ((e + 1) % E * L + (N - l)) % N ≡ (x + L) % N) (λ h q. omega arith) (λ h q. omega arith) kind
+
+-- epochs counted from one of them
+pub epoch-from : (kind e : ℕ) → e < epochs kind → (e + 0) % epochs kind ≡ e
+epoch-from kind e = by (λ L E N l. e < E → (e + 0) % E ≡ e) (λ h. omega arith) (λ h. omega arith) kind
+
+pub epoch-on : (kind e i : ℕ) → epochAfter kind ((e + i) % epochs kind) ≡ (e + suc i) % epochs kind
+unfolding epochAfter
+epoch-on kind e i = by (λ L E N l. ((e + i) % E + 1) % E ≡ (e + suc i) % E) (omega arith) (omega arith) kind
+
+-- Positions counted from one that starts an epoch.
+
+starts-at : (kind c : ℕ) → startsEpoch kind c ≡ true → (c + lead kind) % frames kind ≡ 0
+unfolding startsEpoch placeOf
+starts-at kind c e = eqb-true ((c + lead kind) % frames kind) 0 e
+
+-- each epoch starts so many frames after the one before
+pub starts-each : (kind c i : ℕ) → startsEpoch kind c ≡ true → startsEpoch kind (tagOf kind (c + i * frames kind)) ≡ true
+unfolding startsEpoch placeOf
+starts-each kind c i e =
+    eq-eqb (((c + i * frames kind) % tags kind + lead kind) % frames kind) 0
+    (by (λ L E N l. (c + l) % L ≡ 0 → ((c + i * L) % N + l) % L ≡ 0) (λ z. omega arith) (λ z. omega arith) kind (starts-at kind c e))
+
+-- the tag of the first epoch to start after a position
+pub epoch-after-tag : (kind c x : ℕ) → startsEpoch kind c ≡ true
+    → firstTag kind (epochAfter kind (epochOf kind (tagOf kind (c + x)))) ≡ tagOf kind (c + suc (x / frames kind) * frames kind)
+unfolding firstTag epochAfter epochOf
+epoch-after-tag kind c x e =
+    by (λ L E N l. (c + l) % L ≡ 0 → ((((c + x) % N + l) % N / L + 1) % E * L + (N - l)) % N ≡ (c + suc (x / L) * L) % N) (λ z. omega arith) (λ z. omega arith) kind
+    (starts-at kind c e)
+
+-- the tag before an epoch's first is of the epoch before
+pub epoch-before : (kind c i : ℕ) → startsEpoch kind c ≡ true
+    → epochOf kind (tagBefore kind (tagOf kind (c + suc i * frames kind))) ≡ epochOf kind (tagOf kind (c + i * frames kind))
+unfolding epochOf tagBefore
+epoch-before kind c i e =
+    by (λ L E N l. (c + l) % L ≡ 0 → (((c + suc i * L) % N + (N - 1)) % N + l) % N / L ≡ ((c + i * L) % N + l) % N / L) (λ z. omega arith) (λ z. omega arith) kind
+    (starts-at kind c e)
+
+-- the frame at place k of the i-th epoch
+pub place-each : (kind e i k : ℕ) → k < frames kind → placeOf kind (tagOf kind (firstTag kind e + (i * frames kind + k))) ≡ k
+unfolding placeOf firstTag
+place-each kind e i k =
+    by (λ L E N l. k < L → (((e * L + (N - l)) % N + (i * L + k)) % N + l) % L ≡ k) (λ h. omega arith) (λ h. omega arith) kind
+
+pub epoch-each : (kind e i k : ℕ) → k < frames kind → epochOf kind (tagOf kind (firstTag kind e + (i * frames kind + k))) ≡ (e + i) % epochs kind
+unfolding epochOf firstTag
+epoch-each kind e i k =
+    by (λ L E N l. k < L → (((e * L + (N - l)) % N + (i * L + k)) % N + l) % N / L ≡ (e + i) % E) (λ h. omega arith) (λ h. omega arith) kind
 
 -- 'A frame's tag is 16 x MFI2 + MFI1': multiframe m begins with tag 16 m, in the epoch that m names
 pub multiframe : (kind m : ℕ) → m < epochs kind → epochOf kind (frames kind * m) ≡ m
-unfolding epochOf lead frames tags epochs
-multiframe kind m h = omega arith
+unfolding epochOf
+multiframe kind m = by (λ L E N l. m < E → (L * m + l) % N / L ≡ m) (λ h. omega arith) (λ h. omega arith) kind
 
 -- the nibble of a packet that stands at a tag's place is sent with that tag's MFI1
 pub place-sent : (ns : List ℕ) (kind t : ℕ) → getD (h4Of ns) (placeOf kind t) 0 % 16 ≡ t % 16
@@ -75,20 +146,28 @@ pub mst-fits : (kind e : ℕ) → mstFirst kind e + mstNumbers kind ≤ 256
 unfolding mstFirst mstNumbers
 mst-fits kind e = omega arith
 
--- and so do the idle number and every epoch that follows another
+-- and so does the idle number
 pub idle-fits : (kind : ℕ) → idleNumber kind < 256
 unfolding idleNumber
 idle-fits kind = omega arith
 
+-- a byte holds an epoch's number
+pub epochs-fit : (kind : ℕ) → epochs kind ≤ 256
+epochs-fit kind = by (λ L E N l. E ≤ 256) (omega arith) (omega arith) kind
+
+pub epoch-after-lt : (kind e : ℕ) → epochAfter kind e < epochs kind
+unfolding epochAfter
+epoch-after-lt kind e = mod-lt (e + 1) (epochs-some kind)
+
 pub epoch-fits : (kind e : ℕ) → epochAfter kind e < 256
-unfolding epochAfter epochs
-epoch-fits kind e = omega arith
+epoch-fits kind e = let l = epoch-after-lt kind e in let m = epochs-fit kind in omega arith
 
 -- a distance is below a round, so it holds no more epochs than there are
 pub epochs-in : (kind d : ℕ) → d < tags kind → epochsIn kind d ≡ d / frames kind
-unfolding epochsIn tags frames epochs
-epochs-in kind d h = omega arith
+unfolding epochsIn
+epochs-in kind d = by (λ L E N l. d < N → d / L % E ≡ d / L) (λ h. omega arith) (λ h. omega arith) kind
 
 pub ends-epoch : (kind i : ℕ) → endsEpoch kind (i * frames kind + (frames kind - 1)) ≡ true
-unfolding endsEpoch frames
-ends-epoch kind i = eq-eqb ((i * 16 + 15) % 16) 15 (omega arith)
+unfolding endsEpoch
+ends-epoch kind i =
+    eq-eqb ((i * frames kind + (frames kind - 1)) % frames kind) (frames kind - 1) (by (λ L E N l. (i * L + (L - 1)) % L ≡ L - 1) (omega arith) (omega arith) kind)

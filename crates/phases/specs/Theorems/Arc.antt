@@ -3,16 +3,16 @@ use mathlib.Core.Path.{_≡_, refl, _∙_, sym, ap}
 use mathlib.Core.Logic.{_⊎_, inl, inr, ⊎-elim, _≢_}
 use mathlib.Core.Bool.{Bool, true, false, cond, not, _&&_, _||_, true≢false}
 use mathlib.Core.List.{List}
-use Prim.Native.Nat.{ℕ, zero, suc, _+_, _-_, _/_, _%_, _≤_, _<_}
+use Prim.Native.Nat.{ℕ, zero, suc, _+_, _/_, _≤_, _<_}
 use native.Mathlib.Omega.{arith}
 use native.Mathlib.Nat.{not-suc-le-zero}
 use borrow.Author.Tests.{eq-eqb, ne-eqb, eqb-false, leb-true, le-leb, lt-ltb, le-ltb, not-true}
 use lib.Dec.{eqb, leb, ltb}
 use Rattle.counting.specs.Laws.Tests.{every-all, every-at}
 use Rattle.counting.specs.Words.{every}
-use Rattle.ground.specs.Circle.{after-leads, after-only}
 use Rattle.ground.specs.Truth.{and-left, and-right, and-true, eq-or-ne, le-or-lt, or-right}
-use Rattle.packet.specs.Kinds.{distanceOf, frames, tagBefore, tags}
+use Rattle.packet.specs.Kinds.{distanceOf, frames, tags}
+use Rattle.packet.specs.Laws.Distances.{distance-none, distance-same, farther-not-after, nearer-after, tag-before-lt}
 use Rattle.packet.specs.Theorems.Tags.{frames-some}
 use Rattle.phases.specs.Beginning.{begins, foremost, further, latest, noTag, ready, within}
 use Rattle.rows.specs.declared.group.Group.{Group}
@@ -79,65 +79,6 @@ sound g s n e =
       behind = λ j b t. near g fore (stepAt s j) (every-at n (λ i. within g fore (stepAt s i)) (and-right (readies && found) closes e) j b) t;
     }
 
--- Of two tags less than half a round behind a third: the one nearer to it lies less than half a round after the other.
-
-tag-lt : (kind t : ℕ) → tagBefore kind t < tags kind
-unfolding tagBefore tags
-tag-lt kind t = omega arith
-
-distance-same : (kind a : ℕ) → distanceOf kind a a ≡ 0
-unfolding distanceOf tags
-distance-same kind a = after-only 4096 a a 0 (omega arith) (ap (λ (n : ℕ). n % 4096) (omega arith))
-
-distance-none : (kind a b : ℕ) → a < tags kind → b < tags kind → distanceOf kind a b ≡ 0 → a ≡ b
-unfolding distanceOf tags
-distance-none kind a b ha hb e =
-    let l = after-leads 4096 a b (omega arith) in
-    let m : (b + 0) % 4096 ≡ a % 4096 = rw e at l in
-    omega arith
-
--- a place and a distance add up to a place, or to one a round further on
-whole : (x d f : ℕ) → x < 4096 → d < 4096 → f < 4096 → (x + d) % 4096 ≡ f % 4096 → (x + d ≡ f) ⊎ (x + d ≡ f + 4096)
-whole x d f hx hd hf e = ⊎-elim (λ (h : 4096 ≤ x + d). inr (omega arith)) (λ (h : x + d < 4096). inl (omega arith)) (le-or-lt 4096 (x + d))
-
-between : (a t da dt f : ℕ) → a < 4096 → t < 4096 → dt ≤ da → (a + da ≡ f) ⊎ (a + da ≡ f + 4096) → (t + dt ≡ f) ⊎ (t + dt ≡ f + 4096) → (a + (da - dt)) % 4096 ≡ t % 4096
-between a t da dt f ha ht h (inl ea) (inl et) = let e : a + (da - dt) ≡ t = omega arith in rw e refl
-between a t da dt f ha ht h (inl ea) (inr et) = absurd (omega arith)
-between a t da dt f ha ht h (inr ea) (inl et) = let e : a + (da - dt) ≡ t + 4096 = omega arith in rw e (omega arith)
-between a t da dt f ha ht h (inr ea) (inr et) = let e : a + (da - dt) ≡ t = omega arith in rw e refl
-
-beyond : (a t da dt f : ℕ) → a < 4096 → t < 4096 → da < dt → dt < 4096 → (a + da ≡ f) ⊎ (a + da ≡ f + 4096) → (t + dt ≡ f) ⊎ (t + dt ≡ f + 4096) → (a + (4096 - (dt - da))) % 4096 ≡ t % 4096
-beyond a t da dt f ha ht h l (inl ea) (inl et) = let e : a + (4096 - (dt - da)) ≡ t + 4096 = omega arith in rw e (omega arith)
-beyond a t da dt f ha ht h l (inl ea) (inr et) = let e : a + (4096 - (dt - da)) ≡ t = omega arith in rw e refl
-beyond a t da dt f ha ht h l (inr ea) (inl et) = absurd (omega arith)
-beyond a t da dt f ha ht h l (inr ea) (inr et) = let e : a + (4096 - (dt - da)) ≡ t + 4096 = omega arith in rw e (omega arith)
-
-module _ (kind far a t : ℕ) (h-far : far < tags kind) (h-a : a < tags kind) (h-t : t < tags kind)
-    (near-a : distanceOf kind far a < tags kind / 2) (near-t : distanceOf kind far t < tags kind / 2) where
-  sum-a : (a + distanceOf kind far a ≡ far) ⊎ (a + distanceOf kind far a ≡ far + tags kind)
-  unfolding distanceOf tags
-  sum-a = whole a (distanceOf kind far a) far h-a (omega arith) h-far (after-leads 4096 far a (omega arith))
-
-  sum-t : (t + distanceOf kind far t ≡ far) ⊎ (t + distanceOf kind far t ≡ far + tags kind)
-  unfolding distanceOf tags
-  sum-t = whole t (distanceOf kind far t) far h-t (omega arith) h-far (after-leads 4096 far t (omega arith))
-
-  nearer : distanceOf kind far t ≤ distanceOf kind far a → distanceOf kind t a < tags kind / 2
-  unfolding distanceOf tags
-  nearer h =
-      let da = distanceOf kind far a in
-      let dt = distanceOf kind far t in
-      let e : distanceOf kind t a ≡ da - dt = after-only 4096 t a (da - dt) (omega arith) (between a t da dt far h-a h-t h sum-a sum-t) in
-      omega arith
-
-  farther : distanceOf kind far a < distanceOf kind far t → tags kind / 2 ≤ distanceOf kind t a
-  unfolding distanceOf tags
-  farther h =
-      let da = distanceOf kind far a in
-      let dt = distanceOf kind far t in
-      let e : distanceOf kind t a ≡ 4096 - (dt - da) = after-only 4096 t a (4096 - (dt - da)) (omega arith) (beyond a t da dt far h-a h-t h (omega arith) sum-a sum-t) in
-      omega arith
-
 -- The foremost of the first k ports' tags, seen from a tag `far` that none in step is half a round behind: of them all it is the least far behind.
 
 module _ (g : Group) (s : List (List ℕ)) (far : ℕ) where
@@ -171,13 +112,13 @@ further-old g a step e d h =
 
 latest-lt : (g : Group) (step : Step) → latest g step < tags (g .kind)
 unfolding latest
-latest-lt g step = tag-lt (g .kind) (step .next)
+latest-lt g step = tag-before-lt (g .kind) (step .next)
 
 not-none : (g : Group) (a : ℕ) → a < tags (g .kind) → a ≢ noTag g
 unfolding noTag
 not-none g a h e = absurd (omega arith)
 
-module _ (g : Group) (s : List (List ℕ)) (far : ℕ) (h-far : far < tags (g .kind)) where
+module _ (g : Group) (s : List (List ℕ)) (far : ℕ) where
   -- one more port
   next : (k a : ℕ) → (inStep g (stepAt s k) ≡ true → distanceOf (g .kind) far (latest g (stepAt s k)) < tags (g .kind) / 2)
       → Nobody g s far k a ⊎ Least g s far k a
@@ -221,7 +162,7 @@ module _ (g : Group) (s : List (List ℕ)) (far : ℕ) (h-far : far < tags (g .k
       go true e (inr o) =
           ⊎-elim
           (λ (h : distanceOf (g .kind) far tag ≤ distanceOf (g .kind) far a).
-          rw (further-new g a (stepAt s k) e (nearer (g .kind) far a tag h-far (o .low) (latest-lt g (stepAt s k)) (o .half) (half e) h))
+          rw (further-new g a (stepAt s k) e (nearer-after (g .kind) far a tag (o .half) (half e) h))
           (inr
           (record {
             low = latest-lt g (stepAt s k);
@@ -231,7 +172,7 @@ module _ (g : Group) (s : List (List ℕ)) (far : ℕ) (h-far : far < tags (g .k
                 ⊎-elim (λ (q : j ≡ k). rw q (omega arith)) (λ (d : j ≢ k). let l = o .least j (omega arith) t in omega arith) (eq-or-ne j k);
           })))
           (λ (h : distanceOf (g .kind) far a < distanceOf (g .kind) far tag).
-          rw (further-old g a (stepAt s k) e (not-none g a (o .low)) (farther (g .kind) far a tag h-far (o .low) (latest-lt g (stepAt s k)) (o .half) (half e) h))
+          rw (further-old g a (stepAt s k) e (not-none g a (o .low)) (farther-not-after (g .kind) far a tag (o .half) (half e) h))
           (inr
           (record {
             low = o .low;
@@ -276,7 +217,7 @@ complete g s n fore o h = (rw is begun, is)
         (λ (x : Least g s fore n (foremost g s n)).
         let l = x .least (o .port) (o .below) (o .stepped) in
         sym (distance-none (g .kind) fore (foremost g s n) low (x .low) (omega (arith, at-port))))
-        (least-of g s fore low n half)
+        (least-of g s fore n half)
 
     begun : (every n (λ i. ready g (stepAt s i)) && not (eqb fore (noTag g)) && every n (λ i. within g fore (stepAt s i))) ≡ true
     begun =

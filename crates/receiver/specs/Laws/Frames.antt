@@ -6,7 +6,7 @@ use mathlib.Core.List.{List, [], _∷_}
 use Prim.Native.Nat.{ℕ, _≤_, _<_}
 use lib.ListN.{getD, length}
 use Rattle.ground.specs.Truth.{eq-or-ne}
-use Rattle.receiver.specs.Frame.{gatheredBy, marksBy, portRows}
+use Rattle.receiver.specs.Frame.{gatheredBy, marksBy, ownTag, portRows}
 use Rattle.rows.specs.Group.{groupAt}
 use Rattle.rows.specs.Laws.Group.{group-put-marks, group-put-packets, group-put-step}
 use Rattle.rows.specs.Laws.Lengths.{length-put-marks, length-put-packets, length-put-step}
@@ -23,15 +23,15 @@ frameOn kind p t h =
     record {
       step = t .step;
       member = p .member;
-      gathering = getD (gatheredBy kind (p .gathering ∷ p .ruling ∷ []) (t .counted) h) 0 [];
+      gathering = getD (gatheredBy kind (p .gathering ∷ p .ruling ∷ []) (t .counted) (ownTag kind t) h) 0 [];
       ruling = p .ruling;
       marks = marksBy kind (p .marks) t;
     }
 
-ruling-stays : (kind : ℕ) (a b : List ℕ) (counted : Bool) (h : ℕ) → getD (gatheredBy kind (a ∷ b ∷ []) counted h) 1 [] ≡ b
+ruling-stays : (kind : ℕ) (a b : List ℕ) (counted : Bool) (tag h : ℕ) → getD (gatheredBy kind (a ∷ b ∷ []) counted tag h) 1 [] ≡ b
 unfolding gatheredBy
-ruling-stays kind a b true h = refl
-ruling-stays kind a b false h = refl
+ruling-stays kind a b true tag h = refl
+ruling-stays kind a b false tag h = refl
 
 module _ (kind : ℕ) (s : List (List ℕ)) (i : ℕ) (t : Taken) (h : ℕ) where
   pub length-frame : length (portRows kind s i t h) ≡ length s
@@ -45,7 +45,7 @@ module _ (kind : ℕ) (s : List (List ℕ)) (i : ℕ) (t : Taken) (h : ℕ) wher
   pub frame-port : (n : ℕ) → i < n → rowsFor n ≤ length s → portAt (portRows kind s i t h) i ≡ frameOn kind (portAt s i) t h
   unfolding portRows portAt packetsAt
   frame-port n b l =
-      let pair : List (List ℕ) = gatheredBy kind (packetsAt s i) (t .counted) h in
+      let pair : List (List ℕ) = gatheredBy kind (packetsAt s i) (t .counted) (ownTag kind t) h in
       let a : List (List ℕ) = putStep s i (t .step) in
       let la : length a ≡ length s = length-put-step s i (t .step) in
       let c : List (List ℕ) = putPackets a i pair in
@@ -53,7 +53,7 @@ module _ (kind : ℕ) (s : List (List ℕ)) (i : ℕ) (t : Taken) (h : ℕ) wher
       port-put-marks c i (marksBy kind (marksAt s i) t) n b (rw lc l)
       ∙ ap (λ (p : Port). withMarks p (marksBy kind (marksAt s i) t)) (port-put-packets a i pair n b (rw la l))
       ∙ ap (λ (p : Port). withMarks (withPackets p pair) (marksBy kind (marksAt s i) t)) (port-put-step s i (t .step) n b l)
-      ∙ rw (ruling-stays kind _ _ (t .counted) h) refl
+      ∙ rw (ruling-stays kind _ _ (t .counted) (ownTag kind t) h) refl
 
   pub frame-other : (j : ℕ) → j ≢ i → portAt (portRows kind s i t h) j ≡ portAt s j
   unfolding portRows

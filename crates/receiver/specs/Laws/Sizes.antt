@@ -23,7 +23,6 @@ pub record Sizes (kind count P W : ℕ) : Type 0 where
   pub round : W * 2 ≤ tags kind
 
 half-round : (kind W : ℕ) → W ≤ tags kind / 2 → W * 2 ≤ tags kind
-unfolding tags
 half-round kind W h = omega arith
 
 pub sizes-of : (kind count P W : ℕ) → sized kind count P W ≡ true → Sizes kind count P W

@@ -10,6 +10,7 @@ use borrow.Author.Tests.{eq-eqb, lt-ltb, ltb-true}
 use Rattle.ground.specs.Truth.{and-left, and-right}
 use Rattle.counting.specs.Laws.Numbers.{count-le}
 use Rattle.packet.specs.Kinds.{epochAfter, frames}
+use Rattle.packet.specs.Laws.Writing.{answer-sized}
 use Rattle.packet.specs.declared.writer.Writing.{Writing}
 use Rattle.packet.specs.declared.writer.Writing.the-variants as W
 use Rattle.packet.specs.Theorems.Reserved.{NoneReserved, none-reserved}
@@ -132,12 +133,13 @@ fields-fit s o w i h =
     word : (not (eqb (rowAt (s .outgoing .rows) i .word .0) FIXED) && assigned (rowAt (s .outgoing .rows) i .word)) ≡ true
     word = rw (w .outgoing .is) (row-fits t i below)
 
-all-right : (s : Sender) (i : ℕ) (h4 : List ℕ) → i < slotsIn (s .table) → length h4 ≡ 16 → s .begun ≡ true → fitting (packetFields s i) ≡ true → packetAnswer s i h4 ≡ Done
-unfolding packetAnswer writeAnswer frames
-all-right s i h4 l k b f = rw (lt-ltb i (sizeOf (s .table .count)) l, eq-eqb (length h4) 16 k, f, b)
+all-right : (s : Sender) (i : ℕ) (h4 : List ℕ) → i < slotsIn (s .table) → length h4 ≡ frames (s .table .kind) → s .begun ≡ true → fitting (packetFields s i) ≡ true → packetAnswer s i h4 ≡ Done
+unfolding packetAnswer
+all-right s i h4 l k b f =
+    rw (lt-ltb i (sizeOf (s .table .count)) l, answer-sized (s .table .kind) (packetFields s i) h4, eq-eqb (length h4) (frames (s .table .kind)) k, f, b)
 
 pub packet-done : (kind count e : ℕ) (cs : List SenderCall) → e < 256 → AllGiven cs → senderAfter kind count e cs .begun ≡ true
-    → (i : ℕ) → i < slotsIn (senderAfter kind count e cs .table) → (h4 : List ℕ) → length h4 ≡ 16 → packetAnswer (senderAfter kind count e cs) i h4 ≡ Done
+    → (i : ℕ) → i < slotsIn (senderAfter kind count e cs .table) → (h4 : List ℕ) → length h4 ≡ frames (senderAfter kind count e cs .table .kind) → packetAnswer (senderAfter kind count e cs) i h4 ≡ Done
 packet-done kind count e cs h g b i l h4 k =
     let s = senderAfter kind count e cs in
     all-right s i h4 l k b (fields-fit s (fit-run (beginOf kind count e .sender) cs g (fit-fresh kind count e h)) (sender-sound kind count e cs) i l)
@@ -147,14 +149,14 @@ written-done W.Done e = refl
 written-done W.Length e = absurd (let n = ap answerNumber e in omega arith)
 written-done W.Field e = absurd (let n = ap answerNumber e in omega arith)
 
-module _ (s : Sender) (i : ℕ) (h4 : List ℕ) (below : i < slotsIn (s .table)) (room : length h4 ≡ 16) (begun : s .begun ≡ true) where
+module _ (s : Sender) (i : ℕ) (h4 : List ℕ) (below : i < slotsIn (s .table)) (room : length h4 ≡ frames (s .table .kind)) (begun : s .begun ≡ true) where
   zeros-in : packetAnswer s i h4 ≡ Done → NoneReserved (packetBytes s i h4)
-  unfolding packetAnswer packetBytes frames packetFields
+  unfolding packetAnswer packetBytes packetFields
   zeros-in e =
-      rw (lt-ltb i (sizeOf (s .table .count)) below, eq-eqb (length h4) 16 room, begun)
-      (none-reserved (packetFields s i) h4 (written-done (writeAnswer (packetFields s i) h4) (rw (lt-ltb i (sizeOf (s .table .count)) below, eq-eqb (length h4) 16 room, begun) at e)) refl)
+      rw (lt-ltb i (sizeOf (s .table .count)) below, eq-eqb (length h4) (frames (s .table .kind)) room, begun)
+      (none-reserved (packetFields s i) h4 (written-done (writeAnswer (packetFields s i) h4) (rw (lt-ltb i (sizeOf (s .table .count)) below, eq-eqb (length h4) (frames (s .table .kind)) room, begun) at e)) refl)
 
 -- 'Our sender still writes zeros' (request 2026-08): after any calls from a start, in the H4 bytes of every slot's packet
 pub packet-zeros : (kind count e : ℕ) (cs : List SenderCall) → e < 256 → AllGiven cs → senderAfter kind count e cs .begun ≡ true
-    → (i : ℕ) → i < slotsIn (senderAfter kind count e cs .table) → (h4 : List ℕ) → length h4 ≡ 16 → NoneReserved (packetBytes (senderAfter kind count e cs) i h4)
+    → (i : ℕ) → i < slotsIn (senderAfter kind count e cs .table) → (h4 : List ℕ) → length h4 ≡ frames (senderAfter kind count e cs .table .kind) → NoneReserved (packetBytes (senderAfter kind count e cs) i h4)
 packet-zeros kind count e cs h g b i l h4 k = zeros-in (senderAfter kind count e cs) i h4 l k b (packet-done kind count e cs h g b i l h4 k)

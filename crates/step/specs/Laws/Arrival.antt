@@ -1,16 +1,19 @@
 -- What a frame does, case by case: each way through takenOf with its tests, and all of them at once.
 use mathlib.Core.Path.{_≡_, refl}
-use mathlib.Core.Bool.{Bool, true, false, cond, not, _&&_}
+use mathlib.Core.Bool.{Bool, true, false, cond, not, _&&_, false≢true}
 use Prim.Native.Nat.{ℕ}
-use lib.Dec.{ltb}
-use borrow.Author.Tests.{not-true, not-false}
+use native.Mathlib.Omega.{arith}
+use lib.Dec.{eqb, ltb}
+use borrow.Author.Tests.{eqb-false, not-true, not-false}
 use Rattle.ground.specs.Truth.{and-left, and-right, cond-by}
-use Rattle.packet.specs.Kinds.{startsEpoch}
+use Rattle.packet.specs.Counts.{nibblePlace}
+use Rattle.packet.specs.Kinds.{placeOf, startsEpoch, tagBefore}
 use Rattle.rows.specs.declared.group.Group.{Group}
 use Rattle.rows.specs.declared.step.Step.{Step}
 use Rattle.step.specs.declared.arrival.Taken.{Taken}
 use Rattle.step.specs.declared.run.Run.{Run}
 use Rattle.step.specs.Arrival.{arrives, frameDropped, byStart, byWindow, countsOn, distanceIn, flagged, flagOf, joining, keeps, outside, runOf, takenOf}
+use Rattle.step.specs.Laws.Run.{run-place, step-many}
 use Rattle.step.specs.Run.{inStepAt, runOn}
 
 -- a port's run after a frame that is not flagged
@@ -98,3 +101,20 @@ taken-by P g s flag h whenFlagged whenCounts whenAside whenKeeps whenOutside whe
     (λ w. whenJoins f e b j (and-left start (inWindow g s) w) (and-right start (inWindow g s) w))
     (whenWaits f e b j))))
     (whenCounts f))
+
+-- A counted frame carries the place of the receiver's own tag of it, the one before the tag to come.
+pub taken-place : (g : Group) (s : Step) (flag : Bool) (h : ℕ) → takenOf g s flag h .counted ≡ true
+    → placeOf (g .kind) (tagBefore (g .kind) (takenOf g s flag h .step .next)) ≡ nibblePlace (g .kind) h
+unfolding flagged countsOn frameDropped keeps outside joining
+taken-place g s flag h =
+    taken-by (λ (t : Taken). t .counted ≡ true → placeOf (g .kind) (tagBefore (g .kind) (t .step .next)) ≡ nibblePlace (g .kind) h) g s flag h
+    (λ f c. absurd (false≢true c))
+    (λ f e c. run-place (g .kind) (runOf s) h (eqb-false (ranOn g s h .count) 0 (not-true (eqb (ranOn g s h .count) 0) c)))
+    (λ f e b c. in-step e)
+    (λ f e b j w c. in-step e)
+    (λ f e b j w c. absurd (false≢true c))
+    (λ f e b j t w c. in-step e)
+    (λ f e b j w c. in-step e)
+  where
+    in-step : stepped g s h ≡ true → placeOf (g .kind) (tagBefore (g .kind) (ranOn g s h .next)) ≡ nibblePlace (g .kind) h
+    in-step e = run-place (g .kind) (runOf s) h (λ (z : ranOn g s h .count ≡ 0). let many = step-many (g .kind) (ranOn g s h .count) e in omega arith)

@@ -1,33 +1,19 @@
 -- What a steady frame does.
-use mathlib.Core.Path.{_≡_, refl, sym, _∙_}
+use mathlib.Core.Path.{_≡_, refl, _∙_}
 use mathlib.Core.Bool.{Bool, true, false, not, _&&_}
-use Prim.Native.Nat.{ℕ, _≤_}
-use native.Mathlib.Omega.{arith}
+use Prim.Native.Nat.{ℕ}
 use lib.Dec.{eqb, ltb}
-use borrow.Author.Tests.{eqb-true, leb-true, ne-eqb, not-true}
+use borrow.Author.Tests.{eqb-true, not-true}
 use Rattle.ground.specs.Truth.{and-left, and-right}
 use Rattle.packet.specs.Counts.{counts}
-use Rattle.packet.specs.Kinds.{endsEpoch, epochsIn, frames, tagAfter}
+use Rattle.packet.specs.Kinds.{endsEpoch, epochsIn, tagAfter}
 use Rattle.rows.specs.declared.group.Group.{Group}
 use Rattle.rows.specs.declared.step.Step.{Step}
 use Rattle.rows.specs.Step.{withNext}
 use Rattle.step.specs.Arrival.{advanced, distanceIn, flagOf, inStep, keeps, takenOf}
 use Rattle.step.specs.Laws.Arrival.{ranOn, stepped, taken-keeps}
-use Rattle.step.specs.declared.run.Run.{Run}
-use Rattle.step.specs.Run.{furtherRun, inStepAt, oneMore, runOn}
+use Rattle.step.specs.Laws.Run.{run-on}
 use Rattle.step.specs.Steady.{midEpoch, steady, steadyTaken}
-
-step-many : (kind count : ℕ) → inStepAt kind count ≡ true → 2 ≤ count
-unfolding inStepAt frames
-step-many kind count e = let long = leb-true 32 count e in omega arith
-
--- a port in step stays so through every frame that has the tag to come
-stays : (kind : ℕ) (run : Run) (h : ℕ) → inStepAt kind (run .count) ≡ true → counts kind (run .next) h ≡ true
-    → runOn kind run h ≡ record { count = run .count; next = tagAfter kind (run .next) }
-unfolding runOn furtherRun oneMore
-stays kind run h e sent =
-    let many : 2 ≤ run .count = step-many kind (run .count) e in
-    rw (ne-eqb (run .count) 0 (λ (z : run .count ≡ 0). omega arith), ne-eqb (run .count) 1 (λ (z : run .count ≡ 1). omega arith), sent, e) refl
 
 quiet : (a b c : Bool) → b ≡ false → (a && b && c) ≡ false
 quiet true b c e = rw e
@@ -36,7 +22,7 @@ quiet false b c e = refl
 module _ (g : Group) (s : Step) (h : ℕ) (had : s .had ≡ 1) (failed : s .failed ≡ 0) (stands : inStep g s ≡ true) (sent : counts (g .kind) (s .next) h ≡ true) where
   ran : ranOn g s h ≡ record { count = s .count; next = tagAfter (g .kind) (s .next) }
   unfolding inStep
-  ran = stays (g .kind) (record { count = s .count; next = s .next }) h stands sent
+  ran = run-on (g .kind) (record { count = s .count; next = s .next }) h stands sent
 
   steps : stepped g s h ≡ true
   unfolding inStep

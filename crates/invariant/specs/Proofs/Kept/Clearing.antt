@@ -8,8 +8,8 @@ use lib.ListN.{replicate}
 use borrow.Author.Tests.{leb-true}
 use Rattle.invariant.specs.Kept.Port.{PortKept, Waiting, Windowed}
 use Rattle.invariant.specs.Proofs.Laws.Flags.{flag-le}
-use Rattle.invariant.specs.Proofs.Laws.Window.{arc-short}
 use Rattle.packet.specs.Kinds.{distanceOf, epochAfter, epochOf, frames, tagBefore}
+use Rattle.packet.specs.Laws.Distances.{arc-short}
 use Rattle.phases.specs.Beginning.{latest, within}
 use Rattle.phases.specs.Passing.{groupTo}
 use Rattle.phases.specs.Settling.{clearedStep}

@@ -7,9 +7,10 @@ use Prim.Native.Nat.{ℕ, _+_, _≤_}
 use native.Mathlib.Omega.{arith}
 use Rattle.invariant.specs.Kept.Port.{Joined, PortKept, offset}
 use Rattle.invariant.specs.Proofs.Laws.Flags.{flag-le, flag-on, true-or-false}
-use Rattle.invariant.specs.Proofs.Laws.Window.{distance-passed, end-before, end-nearer, first-ended, later-nearer, less-later, one-ahead}
+use Rattle.invariant.specs.Proofs.Laws.Window.{distance-passed}
 use Rattle.ground.specs.Truth.{and-left, and-right, clash, eq-or-ne, or-cases}
 use Rattle.packet.specs.Kinds.{frames}
+use Rattle.packet.specs.Laws.Epochs.{end-before, end-nearer, first-ended, later-nearer, less-later, one-ahead}
 use Rattle.phases.specs.Due.{owesNothing}
 use Rattle.phases.specs.Passing.{passedGroup, passedStep}
 use Rattle.rows.specs.declared.group.Group.{Group}
@@ -35,11 +36,11 @@ module _ (g : Group) (s : Step) (marks : List ℕ) (k : PortKept g s marks) (beg
   pub ahead : flagOf (s .joined) ≡ true → frames (g .kind) ≤ offset g s
   ahead j =
       let o : Joined g s marks = k .goes j in
-      let far : s .later ≢ 0 → frames (g .kind) ≤ offset g s = λ n. one-ahead (g .kind) (s .later) (offset g s) n (o .passed n) in
+      let later : s .later ≢ 0 → frames (g .kind) ≤ offset g s = λ n. one-ahead (g .kind) (s .later) (offset g s) n (o .passed n) in
       ⊎-elim
       (λ (m : firstMark marks ≡ true).
-      ⊎-elim (λ (z : s .later ≡ 0). first-ended (g .kind) (offset g s) (sym (o .marked 0 (omega arith)) ∙ sym (first-mark marks) ∙ m)) far (eq-or-ne (s .later) 0))
-      (λ (m : (flagOf (s .joined) && flagOf (s .later)) ≡ true). far (flag-on (s .later) (and-right (flagOf (s .joined)) (flagOf (s .later)) m)))
+      ⊎-elim (λ (z : s .later ≡ 0). first-ended (g .kind) (offset g s) (sym (o .marked 0 (omega arith)) ∙ sym (first-mark marks) ∙ m)) later (eq-or-ne (s .later) 0))
+      (λ (m : (flagOf (s .joined) && flagOf (s .later)) ≡ true). later (flag-on (s .later) (and-right (flagOf (s .joined)) (flagOf (s .later)) m)))
       (or-cases (firstMark marks) (flagOf (s .joined) && flagOf (s .later)) (has-brought (rw j)))
 
   -- and one that waits to join lets no epoch pass

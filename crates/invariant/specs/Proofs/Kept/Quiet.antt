@@ -3,15 +3,17 @@ use mathlib.Core.Path.{_≡_, refl, sym, _∙_}
 use mathlib.Core.Logic.{⊎-elim, _≢_}
 use mathlib.Core.Bool.{Bool, true, false, cond, not, _&&_, _||_, true≢false, and-false, or-false}
 use mathlib.Core.List.{List}
-use Prim.Native.Nat.{ℕ}
+use Prim.Native.Nat.{ℕ, _*_}
 use native.Mathlib.Omega.{arith}
 use lib.Dec.{eqb}
-use borrow.Author.Tests.{eqb-false, ne-eqb, ltb-true, not-false}
+use borrow.Author.Tests.{eqb-false, lt-leb, ltb-true, ne-eqb, not-false}
 use Rattle.invariant.specs.Kept.Port.{PortKept, Windowed, offset}
 use Rattle.invariant.specs.Proofs.Laws.Flags.{true-or-false}
-use Rattle.invariant.specs.Proofs.Laws.Window.{epochs-none, meet}
+use Rattle.invariant.specs.Proofs.Laws.Window.{no-offset}
 use Rattle.ground.specs.Truth.{clash, neither, or-cases}
 use Rattle.packet.specs.Kinds.{endsEpoch, epochsIn, frames}
+use Rattle.packet.specs.Laws.Epochs.{none-in}
+use Rattle.packet.specs.Theorems.Tags.{frames-some}
 use Rattle.phases.specs.Due.{owesNothing}
 use Rattle.receiver.specs.Frame.{marksBy}
 use Rattle.rows.specs.declared.group.Group.{Group}
@@ -25,8 +27,8 @@ use Rattle.store.specs.Laws.Marks.{first-mark, mark-cut, mark-marked}
 use Rattle.store.specs.Marks.{cutFrom, firstMark, markIn, markedAt}
 
 none-step : (kind : ℕ) → inStepAt kind 0 ≡ false
-unfolding inStepAt frames
-none-step kind = refl
+unfolding inStepAt
+none-step kind = let some = frames-some kind in lt-leb (frames kind * 2) 0 (omega arith)
 
 -- of a frame's effect on its port
 pub record Quiet (g : Group) (s : Step) (marks : List ℕ) (t : Taken) : Type 0 where
@@ -158,8 +160,8 @@ module _ (g : Group) (s : Step) (marks : List ℕ) (W : Windowed g) (k : PortKep
           stuck : flagOf (s .since) ≡ true → (firstMark (cutFrom marks (epochsIn (g .kind) (offset g s))) || flagOf (epochsIn (g .kind) (offset g s))) ≡ false
           stuck i =
               let o = k .waits i j in
-              let z : offset g s ≡ 0 = meet g (s .next) (g .window) (k .run .tag) (W .most) (ltb-true (offset g s) (g .window) w) (o .short) in
-              let e : epochsIn (g .kind) (offset g s) ≡ 0 = rw z (epochs-none (g .kind)) in
+              let z : offset g s ≡ 0 = no-offset g (s .next) (g .window) (W .most) (ltb-true (offset g s) (g .window) w) (o .short) in
+              let e : epochsIn (g .kind) (offset g s) ≡ 0 = rw z (none-in (g .kind)) in
               rw (e, first-mark (cutFrom marks 0), mark-cut marks (k .row) 0 0, o .empty 0) refl
 
 aside-begun : (g : Group) (s : Step) (run : Run) → frameDropped g s run .settles ≡ false → flagOf (g .begun) ≡ true

@@ -10,9 +10,8 @@ use borrow.Author.Tests.{eqb-true}
 use Rattle.invariant.specs.Kept.Group.{Kept, Lasting}
 use Rattle.invariant.specs.Kept.Port.{PortKept}
 use Rattle.invariant.specs.Proofs.Laws.Runs.{none-kept}
-use Rattle.invariant.specs.Proofs.Laws.Window.{some-epochs}
 use Rattle.ground.specs.Truth.{and-left}
-use Rattle.packet.specs.Theorems.Tags.{frames-two}
+use Rattle.packet.specs.Theorems.Tags.{epochs-some, frames-two}
 use Rattle.phases.specs.Sizes.{sized}
 use Rattle.receiver.specs.Laws.Fresh.{freshOn, length-started, started-group, started-port, started-step, waits-for}
 use Rattle.receiver.specs.Laws.Sizes.{Sizes, sizes-of}
@@ -69,7 +68,7 @@ module _ (kind count P W : ℕ) (s : List (List ℕ)) (right : sized kind count 
             (record {
               sizes = right;
               origin = let w = sizes .wide in let some = frames-two kind in omega arith;
-              oldest = some-epochs kind;
+              oldest = epochs-some kind;
               begun = omega arith;
               gathered = omega arith;
               ack = omega arith;

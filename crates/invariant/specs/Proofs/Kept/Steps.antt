@@ -12,7 +12,6 @@ use Rattle.invariant.specs.Kept.Group.{GroupKept, OkApart, PortIn, Lasti
 use Rattle.invariant.specs.Proofs.Kept.Passing.{passed-kept}
 use Rattle.invariant.specs.Kept.Port.{Windowed}
 use Rattle.invariant.specs.Proofs.Kept.Taken.{taken-kept, taken-whole}
-use Rattle.invariant.specs.Proofs.Laws.Window.{epoch-after-lt, some-epochs}
 use Rattle.counting.specs.Laws.Tests.{every-at}
 use Rattle.counting.specs.Words.{every}
 use Rattle.ground.specs.Truth.{and-right, clash, cond-by, eq-or-ne}
@@ -22,16 +21,16 @@ use Rattle.packet.specs.declared.reader.Reading.the-variants.{Crc, Fixed, Packe
 use Rattle.packet.specs.Kinds.{epochAfter, epochOf}
 use Rattle.packet.specs.Layout.{carriedIn, fieldsOf}
 use Rattle.packet.specs.Reading.{readNibbles}
-use Rattle.packet.specs.Theorems.Tags.{frames-two}
+use Rattle.packet.specs.Theorems.Tags.{epoch-after-lt, epochs-some, frames-two}
 use Rattle.packet.specs.Words.{ADD, DNU, EOS, FIXED, IDLE, NORM, assigned}
 use Rattle.phases.specs.Beginning.{begins, foremost, noTag, ready, within}
-use Rattle.phases.specs.declared.ruling.Ruling.{Ruling}
+use Rattle.packet.specs.declared.ruling.Ruling.{Ruling}
 use Rattle.phases.specs.Due.{brought, owesNothing}
 use Rattle.phases.specs.Laws.Cleared.{begun-group, begun-port, stopped-group, stopped-port}
 use Rattle.phases.specs.Laws.Lengths.{length-begun, length-passed, length-stopped}
 use Rattle.phases.specs.Laws.Passed.{passed-group, passed-of-port}
 use Rattle.phases.specs.Passing.{groupTo, notedBy, passedGroup, passedOf}
-use Rattle.phases.specs.Ruling.{rulingBy, rulingOf}
+use Rattle.packet.specs.Ruling.{rulingBy, rulingOf}
 use Rattle.phases.specs.Settling.{begunOf, stoppedOf}
 use Rattle.receiver.specs.Frame.{portRows, takenIn}
 use Rattle.receiver.specs.Laws.Frames.{frame-group, frame-other, frame-port, frameOn, length-frame}
@@ -206,7 +205,7 @@ module _ (s : List (List ℕ)) (k : Lasting s) where
           record {
             sizes = k .group .sizes;
             origin = k .group .origin;
-            oldest = some-epochs (g .kind);
+            oldest = epochs-some (g .kind);
             begun = omega arith;
             gathered = omega arith;
             ack = k .group .ack;

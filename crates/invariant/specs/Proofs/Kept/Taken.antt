@@ -10,9 +10,10 @@ use borrow.Author.Tests.{ltb-true, lt-ltb, le-ltb, eqb-true}
 use Rattle.invariant.specs.Kept.Port.{Joined, PortKept, Waiting, Windowed, endOf, offset, shortOf}
 use Rattle.invariant.specs.Proofs.Laws.Flags.{flag-on, never}
 use Rattle.invariant.specs.Proofs.Laws.Runs.{none-kept, run-goes-on, run-kept}
-use Rattle.invariant.specs.Proofs.Laws.Window.{at-base, distance-next, ends-inside, ends-more, ends-same, epochs-none, far, meet, none-ended, short-next, start-place, whole-epochs}
+use Rattle.invariant.specs.Proofs.Laws.Window.{at-base, distance-next, no-offset, short-next, start-place}
 use Rattle.ground.specs.Truth.{and-left, and-true, clash, le-or-lt, or-cases}
 use Rattle.packet.specs.Kinds.{endsEpoch, epochsIn, frames, startsEpoch, tagAfter, tags}
+use Rattle.packet.specs.Laws.Epochs.{beyond-marks, ends-last, ends-more, ends-same, none-ended, none-in, whole-epochs}
 use Rattle.packet.specs.Theorems.Tags.{frames-two}
 use Rattle.receiver.specs.Frame.{marksBy}
 use Rattle.rows.specs.declared.group.Group.{Group}
@@ -130,15 +131,15 @@ module _ (g : Group) (s : Step) (marks : List ℕ) (W : Windowed g) (k : PortKep
               let o = k .waits e n in
               let near = o .short in
               let one : 0 < shortOf g s = (let a = ahead in omega arith) in
-              let next = short-next g (s .next) (k .run .tag) one in
+              let next = short-next g (s .next) one in
               record { gathered = o .gathered; short = rw after (omega arith); empty = o .empty }
 
       module _ (in-window : inWindow g s ≡ true) where
         low : d < g .window
         low = ltb-true d (g .window) in-window
 
-        half : d + d < tags (g .kind)
-        half = let most = W .most in let l = low in omega arith
+        round : d < tags (g .kind)
+        round = let most = W .most in let l = low in omega arith
 
         next-offset : distanceIn g (run .next) ≡ d + 1
         next-offset = rw after (distance-next g (s .next) (let most = W .most in let l = low in let some = W .least in let more = frames-two (g .kind) in omega arith))
@@ -189,9 +190,9 @@ module _ (g : Group) (s : Step) (marks : List ℕ) (W : Windowed g) (k : PortKep
                     ⊎-elim
                     (λ (a : 128 ≤ i).
                     mark-beyond (markedAt marks (epochsIn (g .kind) d)) i (sixteen-marked marks (k .row) (epochsIn (g .kind) d) .len) a
-                    ∙ sym (far (g .kind) i (d + 1) (let most = W .most in let l = low in omega arith) a))
+                    ∙ sym (beyond-marks (g .kind) i (d + 1) (let most = W .most in let l = low in omega arith) a))
                     (λ (a : i < 128).
-                    mark-marked marks (k .row) (epochsIn (g .kind) d) i a ∙ (rw (goes .marked i l) refl) ∙ sym (ends-more (g .kind) i d half e))
+                    mark-marked marks (k .row) (epochsIn (g .kind) d) i a ∙ (rw (goes .marked i l) refl) ∙ sym (ends-more (g .kind) i d round e))
                     (le-or-lt 128 i)
 
                 inside : (i : ℕ) → markIn (markedAt marks (epochsIn (g .kind) d)) i ≡ true → endOf g i ≤ g .window
@@ -202,7 +203,7 @@ module _ (g : Group) (s : Step) (marks : List ℕ) (W : Windowed g) (k : PortKep
                     (λ (a : i < 128).
                     ⊎-elim (λ (t : markIn marks i ≡ true). k .inside i t)
                     (λ (t : eqb i (epochsIn (g .kind) d) ≡ true).
-                    rw (eqb-true i (epochsIn (g .kind) d) t, ends-inside (g .kind) d half e) (let l = low in omega arith))
+                    rw (eqb-true i (epochsIn (g .kind) d) t) (let l = low in let last = ends-last (g .kind) d round e in omega arith))
                     (or-cases (markIn marks i) (eqb i (epochsIn (g .kind) d)) (sym (mark-marked marks (k .row) (epochsIn (g .kind) d) i a) ∙ m)))
                     (le-or-lt 128 i)
             go false e = with-marks marks (k .row) (λ i l. goes .marked i l ∙ sym (ends-same (g .kind) i d e)) (k .inside)
@@ -212,7 +213,7 @@ module _ (g : Group) (s : Step) (marks : List ℕ) (W : Windowed g) (k : PortKep
         unfolding joining marksBy inStep
         joins-keeps b j start =
             let place : d % frames (g .kind) ≡ 0 = start-place g (s .next) start in
-            let epochs : frames (g .kind) * epochsIn (g .kind) d ≡ d = whole-epochs (g .kind) d half place in
+            let epochs : frames (g .kind) * epochsIn (g .kind) d ≡ d = whole-epochs (g .kind) d round place in
             record {
               row = sixteen-cut marks (k .row) (epochsIn (g .kind) d);
               run = ran;
@@ -233,15 +234,15 @@ module _ (g : Group) (s : Step) (marks : List ℕ) (W : Windowed g) (k : PortKep
                     within = rw epochs low;
                     passed = λ z. rw (epochs, next-offset) (omega arith);
                     marked = λ i l.
-                        rw (mark-cut marks (k .row) (epochsIn (g .kind) d) i, next-offset, none-ended (g .kind) i d half place l, le-ltb i (epochsIn (g .kind) d) l) (and-false (markIn marks i));
+                        rw (mark-cut marks (k .row) (epochsIn (g .kind) d) i, next-offset, none-ended (g .kind) i d round place l, le-ltb i (epochsIn (g .kind) d) l) (and-false (markIn marks i));
                   };
               inside = λ i m. k .inside i (and-left (markIn marks i) (ltb i (epochsIn (g .kind) d)) (sym (mark-cut marks (k .row) (epochsIn (g .kind) d) i) ∙ m));
               at-once = λ e. absurd (true≢false e);
               waits = λ e n. absurd (true≢false n);
               early = λ e.
                   let o = k .waits e j in
-                  let z : d ≡ 0 = meet g (s .next) (g .window) (k .run .tag) (W .most) low (o .short) in
-                  rw z (epochs-none (g .kind));
+                  let z : d ≡ 0 = no-offset g (s .next) (g .window) (W .most) low (o .short) in
+                  rw z (none-in (g .kind));
             }
 
 -- what a frame leaves of its port

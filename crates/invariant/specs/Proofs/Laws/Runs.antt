@@ -8,55 +8,58 @@ use borrow.Author.Tests.{eqb-false, leb-true, leb-false}
 use Rattle.ground.specs.Truth.{cond-by}
 use Rattle.packet.specs.Counts.{tagByHigh, tagByLow, counts, carriesLow, startsCount}
 use Rattle.packet.specs.Kinds.{frames, tagAfter, tags}
+use Rattle.packet.specs.Laws.Counting.{high-told, low-told}
+use Rattle.packet.specs.Laws.Distances.{place-on, tag-after-lt}
+use Rattle.packet.specs.Theorems.Tags.{frames-two, tags-some}
 use Rattle.step.specs.declared.run.Run.{Run}
 use Rattle.step.specs.Run.{begunRun, furtherRun, inStepAt, oneMore, runOn, secondRun}
 use Rattle.invariant.specs.Kept.Run.{RunKept}
 
 pub none-kept : (kind : ℕ) → RunKept kind (record { count = 0; next = 0 })
-unfolding tags
 none-kept kind =
-    record { most = omega arith; tag = omega arith; none = λ e. refl; first = λ e. absurd (omega arith); goes = λ l m. absurd (omega arith) }
+    record { most = omega arith; tag = tags-some kind; none = λ e. refl; first = λ e. absurd (omega arith); goes = λ l m. absurd (omega arith) }
 
 one-kept : (kind h : ℕ) → RunKept kind (record { count = 1; next = tagByHigh kind h })
-unfolding tags frames tagByHigh
 one-kept kind h =
+    let more = frames-two kind in
+    let told = high-told kind h in
     record {
       most = omega arith;
-      tag = omega arith;
+      tag = told .0;
       none = λ e. absurd (omega arith);
       first = λ e. record { byte = h; told = refl };
-      goes = λ l m. omega arith;
+      goes = λ l m. told .1;
     }
 
 two-kept : (kind t h : ℕ) → RunKept kind (record { count = 2; next = tagByLow kind t h })
-unfolding tags frames tagByLow
 two-kept kind t h =
-    record { most = omega arith; tag = omega arith; none = λ e. absurd (omega arith); first = λ e. absurd (omega arith); goes = λ l m. omega arith }
+    let more = frames-two kind in
+    let told = low-told kind t h in
+    record { most = omega arith; tag = told .0; none = λ e. absurd (omega arith); first = λ e. absurd (omega arith); goes = λ l m. told .1 }
 
 further-kept : (kind count next : ℕ) → 2 ≤ count → RunKept kind (record { count = count; next = next })
     → RunKept kind (record { count = oneMore kind count; next = tagAfter kind next })
-unfolding tags frames tagAfter oneMore inStepAt
-further-kept kind count next many k = go (leb 32 count) refl
+unfolding oneMore inStepAt
+further-kept kind count next many k = go (leb (frames kind * 2) count) refl
   where
-    go : (b : Bool) → leb 32 count ≡ b → RunKept kind (record { count = cond b count (count + 1); next = (next + 1) % 4096 })
+    go : (b : Bool) → leb (frames kind * 2) count ≡ b → RunKept kind (record { count = cond b count (count + 1); next = tagAfter kind next })
     go true e =
-        let long = leb-true 32 count e in
+        let enough = leb-true (frames kind * 2) count e in
         record {
           most = k .most;
-          tag = omega arith;
+          tag = tag-after-lt kind next;
           none = λ (z : count ≡ 0). absurd (omega arith);
           first = λ (z : count ≡ 1). absurd (omega arith);
-          goes = λ (l : 0 < count) (m : count < 32). absurd (omega arith);
+          goes = λ (l : 0 < count) (m : count < frames kind * 2). absurd (omega arith);
         }
     go false e =
-        let short = leb-false 32 count e in
-        let same : next % 16 ≡ count % 16 = k .goes (omega arith) (omega arith) in
+        let fewer = leb-false (frames kind * 2) count e in
         record {
           most = omega arith;
-          tag = omega arith;
+          tag = tag-after-lt kind next;
           none = λ (z : count + 1 ≡ 0). absurd (omega arith);
           first = λ (z : count + 1 ≡ 1). absurd (omega arith);
-          goes = λ (l : 0 < count + 1) (m : count + 1 < 32). omega arith;
+          goes = λ (l : 0 < count + 1) (m : count + 1 < frames kind * 2). place-on kind next count (k .goes (omega arith) (omega arith));
         }
 
 begun-kept : (kind h : ℕ) → RunKept kind (begunRun kind h)
@@ -86,21 +89,24 @@ run-kept kind run h k =
 
 -- A frame after which the port is in step has the tag that was to come: the next one is the tag after it.
 
-short : (kind count : ℕ) → count ≤ 2 → inStepAt kind count ≡ true → ⊥
-unfolding inStepAt frames
-short kind count l e = let w = leb-true 32 count e in omega arith
+two-not-in-step : (kind count : ℕ) → count ≤ 2 → inStepAt kind count ≡ true → ⊥
+unfolding inStepAt
+two-not-in-step kind count l e =
+    let enough = leb-true (frames kind * 2) count e in
+    let more = frames-two kind in
+    omega arith
 
-few : (kind h : ℕ) → begunRun kind h .count ≤ 2
+begun-at-most-two : (kind h : ℕ) → begunRun kind h .count ≤ 2
 unfolding begunRun
-few kind h =
+begun-at-most-two kind h =
     cond-by (λ (r : Run). r .count ≤ 2) (startsCount kind h) (record { count = 1; next = tagByHigh kind h }) (record { count = 0; next = 0 }) (λ e. omega arith)
     (λ e. omega arith)
 
-few-second : (kind : ℕ) (run : Run) (h : ℕ) → secondRun kind run h .count ≤ 2
+second-at-most-two : (kind : ℕ) (run : Run) (h : ℕ) → secondRun kind run h .count ≤ 2
 unfolding secondRun
-few-second kind run h =
+second-at-most-two kind run h =
     cond-by (λ (r : Run). r .count ≤ 2) (carriesLow kind h) (record { count = 2; next = tagByLow kind (run .next) h }) (begunRun kind h) (λ e. omega arith)
-    (λ e. few kind h)
+    (λ e. begun-at-most-two kind h)
 
 abbrev GoesOn : ℕ → Run → Run → Type 0
 GoesOn kind run r = inStepAt kind (r .count) ≡ true → r .next ≡ tagAfter kind (run .next)
@@ -109,13 +115,13 @@ pub run-goes-on : (kind : ℕ) (run : Run) (h : ℕ) → inStepAt kind (runOn ki
 unfolding runOn furtherRun
 run-goes-on kind run h =
     cond-by (GoesOn kind run) (eqb (run .count) 0) (begunRun kind h) (cond (eqb (run .count) 1) (secondRun kind run h) (furtherRun kind run h))
-    (λ e t. absurd (short kind (begunRun kind h .count) (few kind h) t))
+    (λ e t. absurd (two-not-in-step kind (begunRun kind h .count) (begun-at-most-two kind h) t))
     (λ e.
     cond-by (GoesOn kind run) (eqb (run .count) 1) (secondRun kind run h) (furtherRun kind run h)
-    (λ d t. absurd (short kind (secondRun kind run h .count) (few-second kind run h) t))
+    (λ d t. absurd (two-not-in-step kind (secondRun kind run h .count) (second-at-most-two kind run h) t))
     (λ d.
     cond-by (GoesOn kind run) (counts kind (run .next) h) (record { count = oneMore kind (run .count); next = tagAfter kind (run .next) }) (begunRun kind h)
-    (λ c t. refl) (λ c t. absurd (short kind (begunRun kind h .count) (few kind h) t))))
+    (λ c t. refl) (λ c t. absurd (two-not-in-step kind (begunRun kind h .count) (begun-at-most-two kind h) t))))
 
 abbrev Counted : ℕ → Run → ℕ → Run → Type 0
 Counted kind run h r = inStepAt kind (r .count) ≡ true → counts kind (run .next) h ≡ true
@@ -125,10 +131,10 @@ pub run-counts : (kind : ℕ) (run : Run) (h : ℕ) → inStepAt kind (runOn kin
 unfolding runOn furtherRun
 run-counts kind run h =
     cond-by (Counted kind run h) (eqb (run .count) 0) (begunRun kind h) (cond (eqb (run .count) 1) (secondRun kind run h) (furtherRun kind run h))
-    (λ e t. absurd (short kind (begunRun kind h .count) (few kind h) t))
+    (λ e t. absurd (two-not-in-step kind (begunRun kind h .count) (begun-at-most-two kind h) t))
     (λ e.
     cond-by (Counted kind run h) (eqb (run .count) 1) (secondRun kind run h) (furtherRun kind run h)
-    (λ d t. absurd (short kind (secondRun kind run h .count) (few-second kind run h) t))
+    (λ d t. absurd (two-not-in-step kind (secondRun kind run h .count) (second-at-most-two kind run h) t))
     (λ d.
     cond-by (Counted kind run h) (counts kind (run .next) h) (record { count = oneMore kind (run .count); next = tagAfter kind (run .next) }) (begunRun kind h)
-    (λ c t. c) (λ c t. absurd (short kind (begunRun kind h .count) (few kind h) t))))
+    (λ c t. c) (λ c t. absurd (two-not-in-step kind (begunRun kind h .count) (begun-at-most-two kind h) t))))

@@ -8,8 +8,8 @@ use Rattle.packet.specs.declared.reader.Reading.{Reading}
 use Rattle.packet.specs.declared.reader.Reading.the-variants.{Crc, Packet}
 use Rattle.packet.specs.Layout.{highsOf}
 use Rattle.packet.specs.Reading.{readNibbles}
-use Rattle.phases.specs.declared.ruling.Ruling.{Ruling}
-use Rattle.phases.specs.Ruling.{rulingBy, rulingOf}
+use Rattle.packet.specs.declared.ruling.Ruling.{Ruling}
+use Rattle.packet.specs.Ruling.{rulingBy, rulingOf}
 use Rattle.link.specs.History.{Allowed, Handed, History, fieldsSent, packetSent, sendingOf}
 use Rattle.link.specs.Sending.{Client, Lawful, nibblesIn}
 use Rattle.link.specs.Proofs.Histories.Counted.{sent-counts}

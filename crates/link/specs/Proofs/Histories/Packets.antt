@@ -7,11 +7,12 @@ use lib.ListN.{length, length-replicate, replicate}
 use borrow.Author.Tests.{eq-eqb, lt-ltb}
 use Rattle.packet.specs.declared.layout.Fields.{Fields}
 use Rattle.packet.specs.declared.reader.Reading.the-variants.{Packet}
-use Rattle.packet.specs.Kinds.{epochs, frames}
+use Rattle.packet.specs.Kinds.{frames}
 use Rattle.packet.specs.Laws.Bounds.{Bounds, bounds}
 use Rattle.packet.specs.Laws.Nibbles.{highs-back, packet-nibbles}
 use Rattle.packet.specs.Layout.{h4Of, highsOf, nibblesOf}
 use Rattle.packet.specs.Reading.{readNibbles}
+use Rattle.packet.specs.Theorems.Tags.{epochs-fit}
 use Rattle.packet.specs.Theorems.ReadBack.{WrittenAs, length-nibbles, nibbles-back, written-as}
 use Rattle.packet.specs.Writing.{fitting, writeAnswer, writeBytes}
 use Rattle.sender.specs.declared.epochs.Sender.{Sender}
@@ -49,11 +50,12 @@ module _ (h : History) (a : Allowed h) (i slot : ℕ) (b : slot < h .slots) wher
   room = length-replicate (frames (h .kind)) 0 ∙ ap frames (sym (sender-in h a i .kind))
 
   pub packet-answered : packetAnswer (senderAt h i) slot blank ≡ Done
-  unfolding frames epochs
   packet-answered =
+      let below-first = a .first in
+      let most = epochs-fit (h .kind) in
       rw (sender-run h i)
-      (packet-done (h .kind) (h .slots) (h .first) (callsTo h i) (a .first) (given-to h a i) (rw (sender-run h i) at (sender-in h a i .begun)) slot
-      (rw (sender-run h i) at below) blank (length-replicate {A = ℕ} 16 0))
+      (packet-done (h .kind) (h .slots) (h .first) (callsTo h i) (omega arith) (given-to h a i) (rw (sender-run h i) at (sender-in h a i .begun)) slot
+      (rw (sender-run h i) at below) blank (rw (sender-run h i) at room))
 
   wrote : WrittenAs (fieldsSent h i slot) blank
   wrote =

@@ -8,7 +8,8 @@ use native.Mathlib.Omega.{arith}
 use lib.Dec.{ltb}
 use borrow.Author.Tests.{lt-ltb, le-ltb, ne-eqb}
 use Rattle.ground.specs.Truth.{and-true, le-or-lt}
-use Rattle.packet.specs.Kinds.{epochAfter, epochs}
+use Rattle.packet.specs.Kinds.{epochAfter}
+use Rattle.packet.specs.Theorems.Tags.{epoch-from, epoch-on}
 use Rattle.sender.specs.Commands.{freshOf, startOf}
 use Rattle.sender.specs.declared.epochs.Sender.{Sender}
 use Rattle.sender.specs.declared.epochs.SenderOutcome.{SenderOutcome}
@@ -130,8 +131,8 @@ module _ (h : History) (a : Allowed h) where
   fresh-kind = ap (λ (t : Table). t .kind) fresh-table
 
   first-number : h .first ≡ epochNumber (h .kind) (h .first) zero
-  unfolding epochNumber epochs
-  first-number = let b = a .first in omega arith
+  unfolding epochNumber
+  first-number = sym (epoch-from (h .kind) (h .first) (a .first))
 
   begin-in : InEpoch h zero (startedOn h zero (beginOf (h .kind) (h .slots) (h .first) .sender))
   unfolding beginOf freshSender startedEpoch
@@ -140,8 +141,8 @@ module _ (h : History) (a : Allowed h) where
       in-started zero (beginOf (h .kind) (h .slots) (h .first) .sender) fresh-count fresh-kind (rw (o .begun, o .epoch) first-number)
 
   next-number : (i : ℕ) → epochAfter (h .kind) (epochNumber (h .kind) (h .first) i) ≡ epochNumber (h .kind) (h .first) (suc i)
-  unfolding epochAfter epochNumber epochs
-  next-number i = omega arith
+  unfolding epochNumber
+  next-number i = epoch-on (h .kind) (h .first) i
 
   next-in : (i : ℕ) (s : Sender) → InEpoch h i s → InEpoch h (suc i) (startedOn h (suc i) s)
   next-in i s w =

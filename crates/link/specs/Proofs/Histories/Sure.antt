@@ -17,11 +17,11 @@ use Rattle.judge.specs.Theorems.Ranks.{Ranked, port-ranked}
 use Rattle.judge.specs.Theorems.Sure.{Tidy, eosAt, tidy-sure}
 use Rattle.packet.specs.Kinds.{frames}
 use Rattle.packet.specs.Words.{EOS}
+use Rattle.packet.specs.Laws.Epochs.{epoch-in}
 use Rattle.payload.specs.Order.{memberFrame}
 use Rattle.sender.specs.Epochs.{rankIn}
 use Rattle.sender.specs.Ranks.{noRank}
 use Rattle.link.specs.History.{Allowed, Handed, History, numberSent, senderAt, sendingOf, wordSent, xAt}
-use Rattle.link.specs.Proofs.Laws.Numbers.{epoch-in}
 use Rattle.link.specs.Sending.{Client, Covered, Pairing, Rules, Sending, epochAt, epochStart, seenSent}
 use Rattle.link.specs.Proofs.Histories.Numbering.{Numbered, numbered, numberedWord}
 use Rattle.link.specs.Proofs.Histories.Packets.{packet-gid}

@@ -11,8 +11,8 @@ use borrow.Author.Tests.{ne-eqb}
 use Rattle.ground.specs.Truth.{eq-or-ne}
 use Rattle.judge.specs.Verdict.{HELD, SURE}
 use Rattle.packet.specs.Kinds.{frames}
+use Rattle.packet.specs.Laws.Epochs.{epoch-in, frames-cancel}
 use Rattle.link.specs.Proofs.Laws.Lists.{append-apart, not-apart}
-use Rattle.link.specs.Proofs.Laws.Numbers.{epoch-in, frames-cancel}
 use Rattle.link.specs.Link.{Alike, AssumedOver, Link, SameIn, allAsSent, clientBytes, epochFrames, expected, framesOf, kindOf}
 use Rattle.link.specs.Road.{Below, times}
 use Rattle.link.specs.Sending.{Client}

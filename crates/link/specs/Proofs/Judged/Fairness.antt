@@ -7,10 +7,10 @@ use Prim.Native.Nat.{ℕ, _+_, _/_, _%_, _<_}
 use lib.ListN.{getD}
 use borrow.Author.Tests.{eq-eqb}
 use Rattle.packet.specs.Kinds.{firstTag, frames, placeOf, startsEpoch}
+use Rattle.packet.specs.Laws.Epochs.{place-lt, position-is}
 use Rattle.packet.specs.Theorems.Tags.{first-of}
 use Rattle.step.specs.Laws.Sent.{SentWith}
 use Rattle.link.specs.Proofs.Laws.Counts.{kept-counts, kept-self}
-use Rattle.link.specs.Proofs.Laws.Numbers.{place-lt, position-is}
 use Rattle.link.specs.Link.{Arrived, AssumedOver, CountKept, Damaged, Link, roadOf, sentTo}
 use Rattle.link.specs.Road.{Fair}
 use Rattle.link.specs.Sending.{Sending}

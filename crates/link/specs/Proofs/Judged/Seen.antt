@@ -10,14 +10,14 @@ use Rattle.judge.specs.declared.seen.Seen.{Seen}
 use Rattle.judge.specs.Seen.{refusedSeen, seenAt}
 use Rattle.packet.specs.Counts.{nibbleIn}
 use Rattle.packet.specs.Kinds.{frames}
+use Rattle.packet.specs.Laws.Epochs.{epoch-in, nibbles-in, place-in}
 use Rattle.packet.specs.Theorems.Tags.{frames-some}
-use Rattle.phases.specs.declared.ruling.Ruling.{Ruling}
-use Rattle.phases.specs.Ruling.{rulingOf}
+use Rattle.packet.specs.declared.ruling.Ruling.{Ruling}
+use Rattle.packet.specs.Ruling.{rulingOf}
 use Rattle.receiver.specs.Laws.Seen.{seen-each}
 use Rattle.receiver.specs.Laws.Sizes.{sizes-of}
 use Rattle.link.specs.Proofs.Contents.{allSeenAfter, numberOf, packetOf, seenAfter}
 use Rattle.link.specs.Proofs.Laws.Counts.{tag-epoch}
-use Rattle.link.specs.Proofs.Laws.Numbers.{epoch-in, nibbles-in, place-in}
 use Rattle.link.specs.Link.{AssumedOver, Damaged, Link, kindOf, roadOf, sentTo}
 use Rattle.link.specs.Sending.{epochNumber, epochStart, nibblesIn, seenSent}
 

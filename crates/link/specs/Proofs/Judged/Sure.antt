@@ -1,6 +1,6 @@
 -- An epoch whose ruling packets all came as sent: it is judged sure, and its bytes are the client's.
-use mathlib.Core.Path.{_≡_, refl, _∙_, sym, ap, ap₂}
-use mathlib.Core.List.{List, _++_}
+use mathlib.Core.Path.{_≡_, refl, _∙_, ap, ap₂}
+use mathlib.Core.List.{List}
 use Prim.Native.Nat.{ℕ, zero, suc, _+_, _*_, _≤_, _<_}
 use native.Mathlib.Omega.{arith}
 use lib.ListN.{getD, length}
@@ -8,11 +8,11 @@ use Rattle.ground.specs.Table.{getD-tabulate}
 use Rattle.judge.specs.declared.seen.Seen.{Seen}
 use Rattle.judge.specs.Order.{portOf}
 use Rattle.judge.specs.Verdict.{SURE, judgeOf}
+use Rattle.packet.specs.Laws.Epochs.{epoch-in}
 use Rattle.payload.specs.Order.{groupFrame, memberByte}
 use Rattle.payload.specs.Theorems.RoundTrip.{join-spreads}
 use Rattle.link.specs.Proofs.Contents.{allSeenAfter, frameAt, framesFrom}
 use Rattle.link.specs.Proofs.Judged.Seen.{seen-sent}
-use Rattle.link.specs.Proofs.Laws.Numbers.{epoch-in}
 use Rattle.link.specs.Link.{AssumedOver, Link, epochFrames, framesOf, kindOf, roadOf, sentTo}
 use Rattle.link.specs.Sending.{Covered, Rules, epochStart}
 

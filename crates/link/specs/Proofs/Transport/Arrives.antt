@@ -9,7 +9,8 @@ use lib.Dec.{eqb, leb, ltb}
 use borrow.Author.Tests.{eq-eqb, le-leb, le-ltb, lt-leb, lt-ltb, ne-eqb}
 use Rattle.ground.specs.Truth.{eq-or-ne, le-or-lt}
 use Rattle.packet.specs.Kinds.{distanceOf, endsEpoch, epochsIn, frames, startsEpoch, tags}
-use Rattle.packet.specs.Theorems.Tags.{distance-of, frames-two, tagOf}
+use Rattle.packet.specs.Laws.Epochs.{ends-else, ends-first, ends-last, first-in, frames-many, none-in, same-epoch}
+use Rattle.packet.specs.Theorems.Tags.{behind-far, distance-of, frames-two, starts-each, tagOf}
 use Rattle.receiver.specs.Frame.{marksBy}
 use Rattle.rows.specs.declared.group.Group.{Group}
 use Rattle.rows.specs.declared.step.Step.{Step}
@@ -23,11 +24,10 @@ use Rattle.step.specs.Laws.Arrival.{inWindow, ranOn, stepped, taken-joins, take
 use Rattle.step.specs.Run.{inStepAt}
 use Rattle.store.specs.Laws.Marks.{Sixteen, mark-cut, mark-marked, sixteen-cut, sixteen-marked}
 use Rattle.store.specs.Marks.{cutFrom, markIn, markedAt}
-use Rattle.link.specs.Proofs.Laws.Numbers.{behind-far, ends-else, ends-first, ends-last, first-in, frames-many, none-in, same-epoch, starts-each}
 use Rattle.link.specs.Road.{Fair, L, Road, sizes-in}
 use Rattle.link.specs.Running.{Moment}
-use Rattle.link.specs.Proofs.Standing.{Heard, Open}
-use Rattle.link.specs.Proofs.Transport.Heard.{heard-dropped, heard-in-step, heard-joining, heard-keeps, heard-next}
+use Rattle.link.specs.Proofs.Standing.{Open, Stepped}
+use Rattle.link.specs.Proofs.Transport.Heard.{from-first, stepped-dropped, stepped-joining, stepped-keeps}
 
 -- a frame more makes no difference to an epoch that it does not end
 leb-on : (a x : ℕ) → a ≢ x + 1 → leb a x ≡ leb a (x + 1)
@@ -62,7 +62,7 @@ module _ (kind b d : ℕ) (row : List ℕ) (sixteen : Sixteen row) (near : d < t
 -- a port's frame that is answered 0, as the window after it wants it
 pub record Goes (r : Road) (m : Moment) (coming : ℕ → ℕ) (i p : ℕ) (t : Taken) : Type 0 where
   pub answer : t .answer ≡ 0
-  pub heard : Heard r p (coming p + 1) (t .step)
+  pub stepped : Stepped r (coming p + 1) (t .step)
   pub since : t .step .since ≡ stepAt (m .rows) p .since
   pub later : t .step .later ≡ 0
   pub whole : t .step .whole ≡ stepAt (m .rows) p .whole
@@ -96,8 +96,12 @@ module _ (r : Road) (fair : Fair r) (m : Moment) (coming : ℕ → ℕ) (i : ℕ
   abbrev row : List ℕ
   row = marksAt (m .rows) p
 
-  heard-now : Heard r p (coming p) s
-  heard-now = o .lined .heard p b
+  -- in step, from a frame on that its port had
+  stepped-then : Stepped r (coming p) s
+  stepped-then = o .stepped p b
+
+  late : r .first p ≤ coming p
+  late = let far = o .in-step p b in let from = from-first r p in omega arith
 
   near-tag : i * L r ≤ coming p → coming p - i * L r < tags (r .kind)
   near-tag low =
@@ -137,7 +141,7 @@ module _ (r : Road) (fair : Fair r) (m : Moment) (coming : ℕ → ℕ) (i : ℕ
   goes-keeps low j =
       record {
         answer = refl;
-        heard = heard-keeps r fair g p (coming p) s (o .lined .kind-is) b heard-now (coming p - i * L r);
+        stepped = stepped-keeps r fair g p (coming p) s (o .lined .kind-is) b late stepped-then (coming p - i * L r);
         since = refl;
         later = o .later p b;
         whole = refl;
@@ -157,7 +161,7 @@ module _ (r : Road) (fair : Fair r) (m : Moment) (coming : ℕ → ℕ) (i : ℕ
       let n = frames-two (r .kind) in
       record {
         answer = refl;
-        heard = heard-joining r fair g p (coming p) s (o .lined .kind-is) b heard-now 0;
+        stepped = stepped-joining r fair g p (coming p) s (o .lined .kind-is) b late stepped-then 0;
         since = refl;
         later = none-in (g .kind);
         whole = refl;
@@ -177,7 +181,7 @@ module _ (r : Road) (fair : Fair r) (m : Moment) (coming : ℕ → ℕ) (i : ℕ
       let n = frames-two (r .kind) in
       record {
         answer = refl;
-        heard = heard-dropped r fair g p (coming p) s (o .lined .kind-is) b heard-now;
+        stepped = stepped-dropped r fair g p (coming p) s (o .lined .kind-is) b late stepped-then;
         since = refl;
         later = o .later p b;
         whole = refl;
@@ -198,13 +202,11 @@ module _ (r : Road) (fair : Fair r) (m : Moment) (coming : ℕ → ℕ) (i : ℕ
   stepped-now : stepped g s h ≡ true
   unfolding frameDropped
   stepped-now =
-      let far = o .in-step p b in
-      ap (λ (k : ℕ). inStepAt k (run .count)) (o .lined .kind-is)
-      ∙ heard-in-step r p (coming p + 1) (frameDropped g s run .step) (heard-dropped r fair g p (coming p) s (o .lined .kind-is) b heard-now) (omega arith)
+      ap (λ (k : ℕ). inStepAt k (run .count)) (o .lined .kind-is) ∙ stepped-dropped r fair g p (coming p) s (o .lined .kind-is) b late stepped-then .count
 
   distance-now : distanceIn g (s .next) ≡ distanceOf (r .kind) (tagOf (r .kind) (r .offset + coming p)) (tagOf (r .kind) (r .offset + i * L r))
   unfolding distanceIn
-  distance-now = rw (o .lined .kind-is, heard-next r p (coming p) s heard-now (o .in-step p b), o .oldest) refl
+  distance-now = rw (o .lined .kind-is, stepped-then .next, o .oldest) refl
 
   distance-in : i * L r ≤ coming p → distanceIn g (s .next) ≡ coming p - i * L r
   distance-in low =
@@ -227,7 +229,7 @@ module _ (r : Road) (fair : Fair r) (m : Moment) (coming : ℕ → ℕ) (i : ℕ
 
   starts-now : coming p ≡ i * L r → startsEpoch (g .kind) (s .next) ≡ true
   starts-now same =
-      rw (o .lined .kind-is, heard-next r p (coming p) s heard-now (o .in-step p b), same) (starts-each (r .kind) (r .offset) i (fair .starts))
+      rw (o .lined .kind-is, stepped-then .next, same) (starts-each (r .kind) (r .offset) i (fair .starts))
 
   pub goes : Joins r m coming i p → Goes r m coming i p (takenOf g s false h)
   goes j =

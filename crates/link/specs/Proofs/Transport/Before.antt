@@ -10,7 +10,8 @@ use lib.ListN.{length, replicate}
 use borrow.Author.Tests.{le-ltb, lt-leb, lt-ltb}
 use Rattle.ground.specs.Truth.{and-right, eq-or-ne, le-or-lt, or-cases}
 use Rattle.packet.specs.Kinds.{distanceOf, epochAfter, epochOf, firstTag, frames, tags}
-use Rattle.packet.specs.Theorems.Tags.{distance-of, epoch-fits, frames-some, frames-two, tagOf}
+use Rattle.packet.specs.Laws.Epochs.{frames-many, start-after-le, start-after-lt}
+use Rattle.packet.specs.Theorems.Tags.{behind-far, distance-of, epoch-after-lt, epoch-after-tag, frames-some, frames-two, tag-before, tagOf}
 use Rattle.phases.specs.Beginning.{begins, foremost, latest, ready}
 use Rattle.phases.specs.Laws.Cleared.{begun-group, begun-marks-at, begun-step-at}
 use Rattle.phases.specs.Laws.Lengths.{length-begun}
@@ -32,11 +33,10 @@ use Rattle.step.specs.declared.arrival.Taken.{Taken}
 use Rattle.step.specs.Laws.Arrival.{ranOn, stepped, taken-dropped, taken-counts}
 use Rattle.step.specs.Run.{inStepAt}
 use Rattle.store.specs.Laws.Marks.{mark-none, sixteen-none}
-use Rattle.link.specs.Proofs.Laws.Numbers.{behind-far, epoch-after-le, epoch-after-lt, epoch-after-tag, frames-many, frames-run, tag-before}
 use Rattle.link.specs.Moments.{Foremost}
 use Rattle.link.specs.Road.{Fair, L, Road, sizes-in}
 use Rattle.link.specs.Running.{Moment, framed}
-use Rattle.link.specs.Proofs.Standing.{Before, First, Heard, Lined, Open}
+use Rattle.link.specs.Proofs.Standing.{Before, First, Heard, Lined, Open, Stepped}
 use Rattle.link.specs.Proofs.Transport.Call.{framed-is}
 use Rattle.link.specs.Proofs.Transport.Heard.{from-first, heard-dropped, heard-counts, heard-in-step, heard-next, heard-short, heard-test, runFrom}
 use Rattle.link.specs.Proofs.Transport.Steps.{Apart, Begun?, Served}
@@ -114,14 +114,14 @@ module _ (r : Road) (f : Fair r) where
   sizes = sizes-in r f
 
   -- Ports in step, as the receiver's own tests see them.
-  module _ (m : Moment) (coming : ℕ → ℕ) (o : Lined r m coming) where
+  module _ (m : Moment) (coming : ℕ → ℕ) (o : Lined r m) (heard : (q : ℕ) → q < r .ports → Heard r q (coming q) (stepAt (m .rows) q)) where
     steps : (q : ℕ) → q < r .ports → InStep r q (coming q) → inStep (groupAt (m .rows)) (stepAt (m .rows) q) ≡ true
     unfolding inStep
-    steps q b far = rw (o .kind-is) (heard-in-step r q (coming q) (stepAt (m .rows) q) (o .heard q b) far)
+    steps q b far = rw (o .kind-is) (heard-in-step r q (coming q) (stepAt (m .rows) q) (heard q b) far)
 
     steps-not : (q : ℕ) → q < r .ports → coming q < runFrom r q + L r * 2 → inStep (groupAt (m .rows)) (stepAt (m .rows) q) ≡ false
     unfolding inStep
-    steps-not q b near = rw (o .kind-is) (heard-short r q (coming q) (stepAt (m .rows) q) (o .heard q b) near)
+    steps-not q b near = rw (o .kind-is) (heard-short r q (coming q) (stepAt (m .rows) q) (heard q b) near)
 
     steps-back : (q : ℕ) → q < r .ports → inStep (groupAt (m .rows)) (stepAt (m .rows) q) ≡ true → InStep r q (coming q)
     steps-back q b e =
@@ -133,12 +133,12 @@ module _ (r : Road) (f : Fair r) where
     latest-is : (q : ℕ) → q < r .ports → InStep r q (coming q) → latest (groupAt (m .rows)) (stepAt (m .rows) q) ≡ tagOf (r .kind) (r .offset + (coming q - 1))
     unfolding latest
     latest-is q b far =
-        let n = frames-run (r .kind) in
+        let n = frames-two (r .kind) in
         let e : r .offset + coming q ≡ r .offset + (coming q - 1) + 1 = omega arith in
-        rw (o .kind-is, heard-next r q (coming q) (stepAt (m .rows) q) (o .heard q b) far, e) (tag-before (r .kind) (r .offset + (coming q - 1)))
+        rw (o .kind-is, heard-next r q (coming q) (stepAt (m .rows) q) (heard q b) far, e) (tag-before (r .kind) (r .offset + (coming q - 1)))
 
     had-is : (q : ℕ) → q < r .ports → r .first q < coming q → stepAt (m .rows) q .had ≡ 1
-    had-is q b late = o .heard q b .had ∙ rw (lt-ltb (r .first q) (coming q) late) refl
+    had-is q b late = heard q b .had ∙ rw (lt-ltb (r .first q) (coming q) late) refl
 
     -- 'A fresh receiver begins' where all ports are in step and none is further behind than the spread.
     pub must-begin : ((q : ℕ) → q < r .ports → InStep r q (coming q)) → ((p q : ℕ) → p < r .ports → q < r .ports → coming p + L r ≤ coming q + r .window)
@@ -149,7 +149,7 @@ module _ (r : Road) (f : Fair r) where
         let e : suc (r .ports - 1) ≡ r .ports = omega arith in
         let top : Greatest coming (r .ports) = rw e at (greatest-of coming (r .ports - 1)) in
         let k = top .at in
-        let run = frames-run (r .kind) in
+        let run = frames-two (r .kind) in
         let arc : Arc (groupAt (m .rows)) (m .rows) (r .ports) (tagOf (r .kind) (r .offset + (coming k - 1))) =
         record {
           all-ready = λ q b. ready-is (groupAt (m .rows)) (stepAt (m .rows) q) (had-is q b (let w = far q b in let v = from-first r q in omega arith)) (steps q b (far q b));
@@ -172,13 +172,13 @@ module _ (r : Road) (f : Fair r) where
 
       all-in : (q : ℕ) → q < r .ports → InStep r q (coming q)
       all-in q b =
-          steps-back q b (ready-back (groupAt (m .rows)) (stepAt (m .rows) q) (o .heard q b .failed) (arc .all-ready q b))
+          steps-back q b (ready-back (groupAt (m .rows)) (stepAt (m .rows) q) (heard q b .failed) (arc .all-ready q b))
 
       all-late : (q : ℕ) → q < r .ports → r .first q < coming q
       all-late q b =
           let w = all-in q b in
           let v = from-first r q in
-          let run = frames-run (r .kind) in
+          let run = frames-two (r .kind) in
           omega arith
 
       top : ℕ
@@ -224,11 +224,11 @@ module _ (r : Road) (f : Fair r) where
 
       next-after : fore < epoch * L r
       unfolding epoch
-      next-after = epoch-after-lt (r .kind) fore
+      next-after = start-after-lt (r .kind) fore
 
       next-soon : epoch * L r ≤ fore + L r
       unfolding epoch
-      next-soon = epoch-after-le (r .kind) fore
+      next-soon = start-after-le (r .kind) fore
 
       nobody-there : (q : ℕ) → q < r .ports → coming q ≤ epoch * L r
       nobody-there q b =
@@ -258,9 +258,13 @@ module _ (r : Road) (f : Fair r) where
       unfolding rows-begun
       marks-begun q b = begun-marks-at (groupAt (m .rows)) (r .ports) (m .rows) q b (rw (o .rows-long) (omega arith))
 
-      heard-begun : (q : ℕ) → q < r .ports → Heard r q (coming q) (clearedStep (stepAt (m .rows) q) true)
+      stepped-begun : (q : ℕ) → q < r .ports → Stepped r (coming q) (clearedStep (stepAt (m .rows) q) true)
       unfolding clearedStep
-      heard-begun q b = let h = o .heard q b in record { from = h .from; had = h .had; failed = h .failed; run = h .run }
+      stepped-begun q b =
+          record {
+            count = heard-in-step r q (coming q) (stepAt (m .rows) q) (heard q b) (all-in q b);
+            next = heard-next r q (coming q) (stepAt (m .rows) q) (heard q b) (all-in q b);
+          }
 
       oldest-begun : groupAt rows-begun .oldest ≡ epochAfter (r .kind) (epochOf (r .kind) (tagOf (r .kind) (r .offset + fore)))
       oldest-begun = ap (λ (g : Group). g .oldest) group-begun ∙ rw (fore-tag, o .kind-is) refl
@@ -280,7 +284,7 @@ module _ (r : Road) (f : Fair r) where
         moment-begun : Moment
         moment-begun = record { rows = rows-begun; store = m .store; answers = answers; told = m .told }
 
-        lined-begun : Lined r moment-begun coming
+        lined-begun : Lined r moment-begun
         unfolding moment-begun
         lined-begun =
             record {
@@ -291,7 +295,6 @@ module _ (r : Road) (f : Fair r) where
               payload-is = ap (λ (g : Group). g .payload) group-begun ∙ o .payload-is;
               window-is = ap (λ (g : Group). g .window) group-begun ∙ o .window-is;
               origin-in = rw group-begun (o .origin-in);
-              heard = λ q b. rw (step-begun q b) (heard-begun q b);
             }
 
         open-begun : Open r moment-begun coming epoch
@@ -301,8 +304,9 @@ module _ (r : Road) (f : Fair r) where
               lined = lined-begun;
               begun = ap (λ (g : Group). g .begun) group-begun;
               oldest = tag-begun;
-              oldest-small = rw oldest-begun (epoch-fits (r .kind) _);
+              oldest-small = rw oldest-begun (epoch-after-lt (r .kind) _);
               in-step = all-in;
+              stepped = λ q b. rw (step-begun q b) (stepped-begun q b);
               since = λ q b. rw (step-begun q b) refl;
               later = λ q b. rw (step-begun q b) refl;
               behind = λ q b. (let w = none-behind q b .1 in let v = top-is in let a = next-soon in omega arith);
@@ -381,7 +385,7 @@ module _ (r : Road) (f : Fair r) where
 
     is-counted : Counted p (coming p) taken
     unfolding taken
-    is-counted = counted (groupAt (m .rows)) p (coming p) (stepAt (m .rows) p) (o .lined .kind-is) b (o .lined .heard p b) (o .begun)
+    is-counted = counted (groupAt (m .rows)) p (coming p) (stepAt (m .rows) p) (o .lined .kind-is) b (o .heard p b) (o .begun)
 
     not-outside : taken .answer ≢ 11
     not-outside = go (leb (runFrom r p + L r * 2) (coming p + 1)) (is-counted .answer)
@@ -397,7 +401,7 @@ module _ (r : Road) (f : Fair r) where
     then-is : framed r p (coming p) m
         ≡ record { rows = settledOf (r .ports) (m .store) rows-then; store = m .store; answers = m .answers ++ (taken .answer ∷ []); told = m .told }
     unfolding taken rows-then settledBy storeBy
-    then-is = framed-is r f m coming (o .lined) p (coming p) b not-outside ∙ rw (is-counted .settles, is-counted .kept) refl
+    then-is = framed-is r f m (o .lined) p (coming p) b not-outside ∙ rw (is-counted .settles, is-counted .kept) refl
 
     -- the answer: 0 if the port is in step after the frame, 12 if not
     pub before-answer : framed r p (coming p) m .answers ≡ m .answers ++ (cond (leb (runFrom r p + L r * 2) (coming p + 1)) 0 12 ∷ [])
@@ -418,11 +422,11 @@ module _ (r : Road) (f : Fair r) where
           ⊎-elim
           (λ (e : q ≡ p).
           rw (e, next, frame-step (r .kind) (m .rows) p taken (r .h4 p (coming p)) (r .ports) b (rw (o .lined .rows-long) (omega arith))) (is-counted .heard))
-          (λ (d : q ≢ p). rw (others q d, frame-step-other (r .kind) (m .rows) p taken (r .h4 p (coming p)) q d) (o .lined .heard q c))
+          (λ (d : q ≢ p). rw (others q d, frame-step-other (r .kind) (m .rows) p taken (r .h4 p (coming p)) q d) (o .heard q c))
           (eq-or-ne q p)
 
       module _ (answers : List ℕ) where
-        then-lined : Lined r (record { rows = rows-then; store = m .store; answers = answers; told = m .told }) coming′
+        then-lined : Lined r (record { rows = rows-then; store = m .store; answers = answers; told = m .told })
         then-lined =
             let l = o .lined in
             record {
@@ -433,7 +437,6 @@ module _ (r : Road) (f : Fair r) where
               payload-is = ap (λ (g : Group). g .payload) then-group ∙ l .payload-is;
               window-is = ap (λ (g : Group). g .window) then-group ∙ l .window-is;
               origin-in = rw then-group (l .origin-in);
-              heard = then-heard;
             }
 
         then-begun : groupAt rows-then .begun ≡ 0
@@ -443,7 +446,7 @@ module _ (r : Road) (f : Fair r) where
             → Begun? r (record { rows = settledOf (r .ports) (m .store) rows-then; store = m .store; answers = answers; told = m .told }) coming′
         look apart true e =
             rw (settled-begins (r .ports) (m .store) rows-then (rw then-long (omega arith)) (rw then-begun refl) e)
-            (begun-comes (record { rows = rows-then; store = m .store; answers = answers; told = m .told }) coming′ then-lined apart e answers (o .told))
+            (begun-comes (record { rows = rows-then; store = m .store; answers = answers; told = m .told }) coming′ then-lined then-heard apart e answers (o .told))
         look apart false e =
             let none : flagOf (groupAt rows-then .begun) ≡ false = rw then-begun refl in
             rw (settled-stays (r .ports) (m .store) rows-then (record {
@@ -451,7 +454,7 @@ module _ (r : Road) (f : Fair r) where
               gathers = λ t g. absurd (true≢false (sym t ∙ none));
               waits = λ t. e;
             }))
-            (stays (record { lined = then-lined; begun = then-begun; unfit = e; told = o .told }))
+            (stays (record { lined = then-lined; heard = then-heard; begun = then-begun; unfit = e; told = o .told }))
 
   -- Receiving has still not begun, or the first epoch to start after the foremost position is being gathered.
   pub before-frame : (m : Moment) (p : ℕ) (coming coming′ : ℕ → ℕ) → Served r p coming coming′ → Apart r coming′ → Before r m coming → Begun? r (framed r p (coming p) m) coming′

@@ -16,7 +16,7 @@ use Rattle.link.specs.Running.{Moment, framed}
 use Rattle.link.specs.Proofs.Standing.{Lined}
 
 module _ (r : Road) (f : Fair r) where
-  module _ (m : Moment) (coming : ℕ → ℕ) (o : Lined r m coming) where
+  module _ (m : Moment) (o : Lined r m) where
     pub ports-are : portsIn (groupAt (m .rows)) ≡ r .ports
     unfolding portsIn
     ports-are = rw (o .kind-is, o .count-is, o .payload-is, o .window-is, f .sizes) refl

@@ -19,7 +19,6 @@ use Rattle.store.specs.Marks.{firstMark}
 use Rattle.link.specs.Road.{Fair, L, Road, sizes-in}
 use Rattle.link.specs.Running.{Moment}
 use Rattle.link.specs.Proofs.Standing.{Open, Owes}
-use Rattle.link.specs.Proofs.Transport.Heard.{heard-in-step}
 
 -- no port owes a frame of epoch i
 abbrev pub AllCome : (r : Road) (coming : ℕ → ℕ) (i : ℕ) → Type 0
@@ -38,7 +37,7 @@ module _ (r : Road) (fair : Fair r) (m : Moment) (coming : ℕ → ℕ) (i : ℕ
   pub all-read : (p : ℕ) → p < r .ports → readable (groupAt (m .rows)) (stepAt (m .rows) p) ≡ true
   unfolding readable inStep
   all-read p b =
-      rw (o .begun, o .lined .kind-is, heard-in-step r p (coming p) (stepAt (m .rows) p) (o .lined .heard p b) (o .in-step p b), o .since p b)
+      rw (o .begun, o .lined .kind-is, o .stepped p b .count, o .since p b)
       (or-right (flagOf (stepAt (m .rows) p .joined)) true refl)
 
   first-come : (p : ℕ) → p < r .ports → firstMark (marksAt (m .rows) p) ≡ leb (i * L r + L r) (coming p)

@@ -18,7 +18,7 @@ module _ (r : Road) (f : Fair r) where
         first-none = first-none r f;
         later-none = λ m g i n o w. owed-mark r f m n g i o w;
         later-one = λ m g i n o all. (due-mark r f m n g i o all, later-fetched r f m n g i o all);
-        must-begin = λ m n o y. must-begin r f m n o (y .stepped) (y .near);
+        must-begin = λ m n o y. must-begin r f m n (o .lined) (o .heard) (y .stepped) (y .near);
       }
 
   pub says : Says r

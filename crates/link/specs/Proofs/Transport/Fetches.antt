@@ -16,6 +16,8 @@ use Rattle.judge.specs.Order.{orderOf}
 use Rattle.judge.specs.Theorems.Ranks.{active-le}
 use Rattle.judge.specs.Verdict.{HELD, doubtfulBy, heldBy, judgeOf}
 use Rattle.packet.specs.Kinds.{frames}
+use Rattle.packet.specs.Laws.Epochs.{count-fits}
+use Rattle.packet.specs.Theorems.Tags.{epoch-before, first-of}
 use Rattle.phases.specs.Due.{brought}
 use Rattle.phases.specs.Laws.Lengths.{length-passed}
 use Rattle.phases.specs.Passing.{passedOf}
@@ -29,7 +31,6 @@ use Rattle.rows.specs.Group.{groupAt}
 use Rattle.rows.specs.Rows.{rowsFor}
 use Rattle.store.specs.Laws.Stands.{Stands}
 use Rattle.link.specs.Proofs.Contents.{allSeenAfter, framesFrom, numberOf, reportAfter, seenAfter}
-use Rattle.link.specs.Proofs.Laws.Numbers.{count-fits, epoch-before, epoch-first}
 use Rattle.link.specs.Road.{Fair, L, Road, sizes-in}
 use Rattle.link.specs.Running.{Moment, drained, fetched, lentAt, outputAt, recordAt, toldBy}
 use Rattle.link.specs.Proofs.Standing.{Later, Lined, Owes}
@@ -77,12 +78,12 @@ fetched-answers r m = refl
 
 module _ (r : Road) (fair : Fair r) where
   -- A fetch is not refused.
-  module _ (m : Moment) (coming : ℕ → ℕ) (l : Lined r m coming) where
+  module _ (m : Moment) (l : Lined r m) where
     fits-now : fits (m .rows) (m .store) (outputAt r m) (lentAt r m) ≡ true
     unfolding fits fetchFits rowsFit storeFor outputFor
     fits-now =
         rw (
-          ports-are r fair m coming l,
+          ports-are r fair m l,
           eq-eqb (length (m .rows)) (rowsFor (r .ports)) (l .rows-long),
           l .payload-is,
           l .window-is,
@@ -101,7 +102,7 @@ module _ (r : Road) (fair : Fair r) where
     -- none due
     pub mark-none : dueIn (groupAt (m .rows)) (r .ports) (m .rows) ≡ false → getD (recordAt r m) 0 0 ≡ 0
     unfolding fetchRecord reportIfDue recordOf
-    mark-none e = rw (fits-now, ports-are r fair m coming l, e) refl
+    mark-none e = rw (fits-now, ports-are r fair m l, e) refl
 
   some-due : ltb 0 (r .ports) ≡ true
   some-due =
@@ -112,7 +113,7 @@ module _ (r : Road) (fair : Fair r) where
     abbrev g : Group
     g = groupAt (m .rows)
 
-    abbrev lined : Lined r m coming
+    abbrev lined : Lined r m
     lined = o .open-at .lined
 
     due-is : dueIn g (r .ports) (m .rows) ≡ brought g (m .rows) (r .ports)
@@ -121,7 +122,7 @@ module _ (r : Road) (fair : Fair r) where
 
     -- a port owes a frame of the oldest epoch
     pub owed-mark : Owes r coming (suc i) → getD (recordAt r m) 0 0 ≡ 0
-    owed-mark w = mark-none m coming lined (due-is ∙ brought-not r fair m coming (suc i) (o .open-at) w)
+    owed-mark w = mark-none m lined (due-is ∙ brought-not r fair m coming (suc i) (o .open-at) w)
 
     -- none does
     module _ (all : AllCome r coming (suc i)) where
@@ -157,15 +158,15 @@ module _ (r : Road) (fair : Fair r) where
 
       record-is : recordAt r m ≡ recordOf (reportBy g mark order)
       unfolding fetchRecord reportIfDue reportOf
-      record-is = rw (fits-now m coming lined, ports-are r fair m coming lined, due-now, seen-is, size-is (r .ports) few) refl
+      record-is = rw (fits-now m lined, ports-are r fair m lined, due-now, seen-is, size-is (r .ports) few) refl
 
       out-is : fetchOut (m .rows) (m .store) (outputAt r m) (lentAt r m) ≡ outputBy g mark order (m .store) (outputAt r m)
       unfolding fetchOut outIfDue outputOf
-      out-is = rw (fits-now m coming lined, ports-are r fair m coming lined, due-now, seen-is, size-is (r .ports) few) refl
+      out-is = rw (fits-now m lined, ports-are r fair m lined, due-now, seen-is, size-is (r .ports) few) refl
 
       rows-are : fetchRows (m .rows) (m .store) (outputAt r m) (lentAt r m) ≡ reportedOf g (m .store) (r .ports) (m .rows)
       unfolding fetchRows rowsIfDue
-      rows-are = rw (fits-now m coming lined, ports-are r fair m coming lined, due-now) refl
+      rows-are = rw (fits-now m lined, ports-are r fair m lined, due-now) refl
 
       mark-told : getD (recordAt r m) 0 0 ≡ mark
       unfolding recordOf reportBy
@@ -173,7 +174,7 @@ module _ (r : Road) (fair : Fair r) where
 
       epoch-told : getD (recordAt r m) 1 0 ≡ numberOf r (suc i)
       unfolding recordOf reportBy numberOf
-      epoch-told = rw (record-is, ← o .open-at .oldest) (sym (epoch-first (r .kind) (g .oldest) (o .open-at .oldest-small)))
+      epoch-told = rw (record-is, ← o .open-at .oldest) (sym (first-of (r .kind) (g .oldest) (o .open-at .oldest-small) .0))
 
       -- the byte count
       abbrev X : ℕ

@@ -32,7 +32,7 @@ use Rattle.store.specs.Laws.Stored.{length-stored}
 use Rattle.store.specs.Marks.{markIn}
 use Rattle.link.specs.Road.{Fair, L, Road}
 use Rattle.link.specs.Running.{Moment, framed}
-use Rattle.link.specs.Proofs.Standing.{First, Heard, Later, Open, Owes}
+use Rattle.link.specs.Proofs.Standing.{First, Later, Open, Owes, Stepped}
 use Rattle.link.specs.Proofs.Transport.Arrives.{Goes, Joins, goes}
 use Rattle.link.specs.Proofs.Transport.Call.{framed-is}
 use Rattle.link.specs.Proofs.Transport.Due.{AllCome, brought-all, brought-not, not-silent, owes-or-come}
@@ -97,10 +97,10 @@ module _ (r : Road) (fair : Fair r) (m : Moment) (coming coming′ : ℕ → ℕ
     pub by-port : (q : ℕ) → q < r .ports → P q
     by-port q c = ⊎-elim (λ (e : q ≡ p). rw e here) (λ (d : q ≢ p). there q c d) (eq-or-ne q p)
 
-  heard-after : (q : ℕ) → q < r .ports → Heard r q (coming′ q) (stepAt (after .rows) q)
-  heard-after =
-      by-port (λ q. Heard r q (coming′ q) (stepAt (after .rows) q)) (rw (step-after, f .next) (went .heard))
-      (λ q c d. rw (step-others q d, f .others q d) (o .lined .heard q c))
+  stepped-after : (q : ℕ) → q < r .ports → Stepped r (coming′ q) (stepAt (after .rows) q)
+  stepped-after =
+      by-port (λ q. Stepped r (coming′ q) (stepAt (after .rows) q)) (rw (step-after, f .next) (went .stepped))
+      (λ q c d. rw (step-others q d, f .others q d) (o .stepped q c))
 
   -- the store: a frame from the window's first on is put in
   store-kept : i * L r ≤ coming p → after .store ≡ storedAt (m .store) (placeIn g p (coming p - i * L r)) (r .bytes p (coming p)) h
@@ -172,12 +172,12 @@ module _ (r : Road) (fair : Fair r) (m : Moment) (coming coming′ : ℕ → ℕ
           payload-is = rw group-after (o .lined .payload-is);
           window-is = rw group-after (o .lined .window-is);
           origin-in = rw group-after (o .lined .origin-in);
-          heard = heard-after;
         };
         begun = rw group-after (o .begun);
         oldest = rw group-after (o .oldest);
         oldest-small = rw group-after (o .oldest-small);
         in-step = by-port (λ q. startFrom (r .kind) (r .offset) (r .first q) + L r * 2 ≤ coming′ q) (let e = f .next in let a = o .in-step p b in omega arith) (λ q c d. rw (f .others q d) (o .in-step q c));
+        stepped = stepped-after;
         since = by-port (λ q. stepAt (after .rows) q .since ≡ 1) (rw step-after (went .since ∙ o .since p b)) (λ q c d. rw (step-others q d) (o .since q c));
         later = by-port (λ q. stepAt (after .rows) q .later ≡ 0) (rw step-after (went .later)) (λ q c d. rw (step-others q d) (o .later q c));
         behind = by-port (λ q. i * L r < coming′ q + r .window) (let e = f .next in let a = o .behind p b in omega arith) (λ q c d. rw (f .others q d) (o .behind q c));
@@ -212,23 +212,23 @@ module _ (r : Road) (fair : Fair r) (m : Moment) (coming coming′ : ℕ → ℕ
   unrefused e = let z = went .answer in omega arith
 
   pub framed-stays : Owes r coming′ i ⊎ (flagOf (g .gathered) ≡ true) → framed r p (coming p) m ≡ after
-  framed-stays w = framed-is r fair m coming (o .lined) p (coming p) b unrefused ∙ rw (unsettled w) refl
+  framed-stays w = framed-is r fair m (o .lined) p (coming p) b unrefused ∙ rw (unsettled w) refl
 
   pub framed-answers : framed r p (coming p) m .answers ≡ m .answers ++ (0 ∷ [])
-  framed-answers = ap (λ (n : Moment). n .answers) (framed-is r fair m coming (o .lined) p (coming p) b unrefused) ∙ rw (went .answer) refl
+  framed-answers = ap (λ (n : Moment). n .answers) (framed-is r fair m (o .lined) p (coming p) b unrefused) ∙ rw (went .answer) refl
 
   pub framed-store : framed r p (coming p) m .store ≡ after .store
-  framed-store = ap (λ (n : Moment). n .store) (framed-is r fair m coming (o .lined) p (coming p) b unrefused)
+  framed-store = ap (λ (n : Moment). n .store) (framed-is r fair m (o .lined) p (coming p) b unrefused)
 
   pub framed-told : framed r p (coming p) m .told ≡ m .told
-  framed-told = ap (λ (n : Moment). n .told) (framed-is r fair m coming (o .lined) p (coming p) b unrefused)
+  framed-told = ap (λ (n : Moment). n .told) (framed-is r fair m (o .lined) p (coming p) b unrefused)
 
   -- the last frame owed of the first epoch
   pub framed-passes : flagOf (g .gathered) ≡ false → coming p + 1 ≡ i * L r + L r → AllCome r coming′ i
       → framed r p (coming p) m .rows ≡ passedOf (groupAt (after .rows)) (after .store) (r .ports) (after .rows)
   unfolding settledBy
   framed-passes e last all =
-      ap (λ (n : Moment). n .rows) (framed-is r fair m coming (o .lined) p (coming p) b unrefused)
+      ap (λ (n : Moment). n .rows) (framed-is r fair m (o .lined) p (coming p) b unrefused)
       ∙ ap (λ (c : Bool). settledBy c (r .ports) (after .store) (after .rows)) (went .settles e last)
       ∙ settled-gathers (r .ports) (after .store) (after .rows) (rw (open-frame .begun) refl) (not-silent r fair after coming′ i open-frame) (rw group-after e)
       (brought-all r fair after coming′ i open-frame all)

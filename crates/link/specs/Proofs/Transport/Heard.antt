@@ -7,19 +7,18 @@ use native.Mathlib.Omega.{arith}
 use lib.Dec.{leb}
 use borrow.Author.Tests.{le-leb, le-ltb, lt-leb, lt-ltb}
 use Rattle.ground.specs.Truth.{le-or-lt}
-use Rattle.packet.specs.Kinds.{epochsIn}
-use Rattle.packet.specs.Theorems.Tags.{tagOf}
+use Rattle.packet.specs.Kinds.{epochsIn, tagAfter}
+use Rattle.packet.specs.Theorems.Tags.{frames-two, next-tag, tagOf}
 use Rattle.rows.specs.declared.group.Group.{Group}
 use Rattle.rows.specs.declared.step.Step.{Step}
 use Rattle.step.specs.Arrival.{advanced, frameDropped, countsOn, joinedAt, joining, keeps, lost, runOf}
 use Rattle.step.specs.declared.run.Run.{Run}
 use Rattle.step.specs.Laws.Arrival.{ranOn}
-use Rattle.step.specs.Laws.Run.{run-goes, run-in-step, run-next, run-short, run-starts, runAt, start-from, startFrom}
+use Rattle.step.specs.Laws.Run.{run-goes, run-in-step, run-next, run-short, run-starts, run-stays, runAt, start-from, startFrom}
 use Rattle.step.specs.Laws.Sent.{SentWith}
 use Rattle.step.specs.Run.{inStepAt, runOn}
-use Rattle.link.specs.Proofs.Laws.Numbers.{frames-run}
 use Rattle.link.specs.Road.{Fair, L, Road}
-use Rattle.link.specs.Proofs.Standing.{Heard, heardRun}
+use Rattle.link.specs.Proofs.Standing.{Heard, Stepped, heardRun}
 
 module _ (r : Road) where
   -- where the run of a port's first frames starts
@@ -50,7 +49,7 @@ module _ (r : Road) where
   pub heard-in-step : (p x : ℕ) (s : Step) → Heard r p x s → runFrom p + L r * 2 ≤ x → inStepAt (r .kind) (s .count) ≡ true
   heard-in-step p x s o far =
       let a = from-first p in
-      let n = frames-run (r .kind) in
+      let n = frames-two (r .kind) in
       run-in-step (r .kind) (r .offset) (runFrom p) (x - 1) (runOf s) (heard-run p x s o (omega arith)) (omega arith)
 
   pub heard-short : (p x : ℕ) (s : Step) → Heard r p x s → x < runFrom p + L r * 2 → inStepAt (r .kind) (s .count) ≡ false
@@ -59,7 +58,7 @@ module _ (r : Road) where
       ⊎-elim
       (λ (e : x ≤ r .first p).
       let none : s .count ≡ 0 = ap (λ (q : Run). q .count) (o .run ∙ heard-none p x e) in
-      let n = frames-run (r .kind) in
+      let n = frames-two (r .kind) in
       rw none (lt-leb (L r * 2) 0 (omega arith)))
       (λ (late : r .first p < x).
       run-short (r .kind) (r .offset) (runFrom p) (x - 1) (runOf s) (heard-run p x s o late) (omega arith))
@@ -76,7 +75,7 @@ module _ (r : Road) where
   pub heard-next : (p x : ℕ) (s : Step) → Heard r p x s → runFrom p + L r * 2 ≤ x → s .next ≡ tagOf (r .kind) (r .offset + x)
   heard-next p x s o far =
       let a = from-first p in
-      let n = frames-run (r .kind) in
+      let n = frames-two (r .kind) in
       let e : x - 1 + 1 ≡ x = omega arith in
       run-next (r .kind) (r .offset) (runFrom p) (x - 1) (runOf s) (heard-run p x s o (omega arith)) (omega arith) ∙ rw e refl
 
@@ -129,10 +128,29 @@ module _ (r : Road) where
       unfolding countsOn run
       heard-counts = heard-on p x s (lost s 0 run) b o refl refl run-is
 
-      pub heard-keeps : (d : ℕ) → Heard r p (x + 1) (keeps g s (ranOn g s (r .h4 p x)) d .step)
-      unfolding keeps run
-      heard-keeps d = heard-on p x s (advanced s run) b o refl refl run-is
+    -- a port in step stays so, and the tag to come is the one after
+    stepped-on : (p x : ℕ) (s t : Step) → p < r .ports → r .first p ≤ x → Stepped r x s → runOf t ≡ runOn (r .kind) (runOf s) (r .h4 p x) → Stepped r (x + 1) t
+    stepped-on p x s t b low o run =
+        let sent : SentWith (r .kind) (r .offset + x) (r .h4 p x) = f .counted p x b low in
+        let goes = run-stays (r .kind) (runOf s) (r .h4 p x) (o .count) (rw (o .next) sent) in
+        let e : r .offset + x + 1 ≡ r .offset + (x + 1) = omega arith in
+        record {
+          count = ap (λ (q : Run). inStepAt (r .kind) (q .count)) run ∙ goes .0;
+          next = ap (λ (q : Run). q .next) run ∙ goes .1 ∙ ap (tagAfter (r .kind)) (o .next) ∙ next-tag (r .kind) (r .offset + x) ∙ ap (tagOf (r .kind)) e;
+        }
 
-      pub heard-joining : (d : ℕ) → Heard r p (x + 1) (joining g s (ranOn g s (r .h4 p x)) d .step)
-      unfolding joining run
-      heard-joining d = heard-on p x s (joinedAt s run (epochsIn (g .kind) d)) b o refl refl run-is
+    module _ (g : Group) (p x : ℕ) (s : Step) (k : g .kind ≡ r .kind) (b : p < r .ports) (low : r .first p ≤ x) (o : Stepped r x s) where
+      ran : ranOn g s (r .h4 p x) ≡ runOn (r .kind) (runOf s) (r .h4 p x)
+      ran = rw k refl
+
+      pub stepped-dropped : Stepped r (x + 1) (frameDropped g s (ranOn g s (r .h4 p x)) .step)
+      unfolding frameDropped
+      stepped-dropped = stepped-on p x s (advanced s (ranOn g s (r .h4 p x))) b low o ran
+
+      pub stepped-keeps : (d : ℕ) → Stepped r (x + 1) (keeps g s (ranOn g s (r .h4 p x)) d .step)
+      unfolding keeps
+      stepped-keeps d = stepped-on p x s (advanced s (ranOn g s (r .h4 p x))) b low o ran
+
+      pub stepped-joining : (d : ℕ) → Stepped r (x + 1) (joining g s (ranOn g s (r .h4 p x)) d .step)
+      unfolding joining
+      stepped-joining d = stepped-on p x s (joinedAt s (ranOn g s (r .h4 p x)) (epochsIn (g .kind) d)) b low o ran

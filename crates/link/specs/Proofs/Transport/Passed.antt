@@ -10,7 +10,8 @@ use lib.ListN.{getD, length}
 use borrow.Author.Tests.{lt-leb}
 use Rattle.ground.specs.Truth.{le-or-lt}
 use Rattle.packet.specs.Kinds.{firstTag, frames}
-use Rattle.packet.specs.Theorems.Tags.{epoch-fits, frames-some, tagOf}
+use Rattle.packet.specs.Laws.Epochs.{marks-enough, nibbles-in}
+use Rattle.packet.specs.Theorems.Tags.{epoch-after-lt, first-after, frames-some, tagOf}
 use Rattle.phases.specs.Laws.Lengths.{length-passed}
 use Rattle.phases.specs.Laws.Passed.{passed-group, passed-marks-at, passed-of-port, passed-step-at}
 use Rattle.phases.specs.Passing.{passedGroup, passedOf, passedStep}
@@ -28,16 +29,15 @@ use Rattle.store.specs.Laws.Marks.{mark-beyond, mark-passed, sixteen-passed}
 use Rattle.store.specs.Laws.Stands.{Stands, packet-stands, stands-moved}
 use Rattle.store.specs.Marks.{firstMark, markIn, passedMarks}
 use Rattle.link.specs.Proofs.Contents.{packetOf}
-use Rattle.link.specs.Proofs.Laws.Numbers.{first-after, marks-enough, nibbles-in}
 use Rattle.link.specs.Road.{Fair, L, Road, sizes-in}
 use Rattle.link.specs.Running.{Moment}
-use Rattle.link.specs.Proofs.Standing.{Heard, Lined, Open}
+use Rattle.link.specs.Proofs.Standing.{Lined, Open, Stepped}
 use Rattle.link.specs.Proofs.Transport.Due.{AllCome, first-all}
 
 -- of a step that passes
-heard-passed : (r : Road) (p x : ℕ) (s : Step) (whole : Bool) → Heard r p x s → Heard r p x (passedStep s whole)
+stepped-passed : (r : Road) (x : ℕ) (s : Step) (whole : Bool) → Stepped r x s → Stepped r x (passedStep s whole)
 unfolding passedStep
-heard-passed r p x s whole h = record { from = h .from; had = h .had; failed = h .failed; run = h .run }
+stepped-passed r x s whole h = record { count = h .count; next = h .next }
 
 -- what passing the oldest epoch does to the rows that an open window looks at
 pub record PassedTo (r : Road) (m m′ : Moment) : Type 0 where
@@ -85,7 +85,7 @@ module _ (r : Road) (fair : Fair r) (m m′ : Moment) (coming : ℕ → ℕ) (i 
       (λ (far : 128 ≤ k + 1).
       let s = sizes-in r fair in
       let n = frames-some (r .kind) in
-      let w = marks-enough (r .kind) (r .window) (s .round) in
+      let w = marks-enough (r .kind) 128 (r .window) (let round = s .round in omega arith) (omega arith) in
       let h = o .ahead p b in
       let k-is : k ≡ 127 = omega arith in
       mark-beyond (marksAt (m .rows) p) (k + 1) (o .marks-row p b .len) far ∙ rw k-is (sym (lt-leb (suc i * L r + 128 * L r) (coming p) (omega arith))))
@@ -103,7 +103,7 @@ module _ (r : Road) (fair : Fair r) (m m′ : Moment) (coming : ℕ → ℕ) (i 
       (stands-moved g (groupAt (m′ .rows)) (L r) p (x - suc i * L r) (r .bytes p x) (r .h4 p x) (m .store) (rw (t .group-is) (passed-payload g))
       (rw (t .group-is) (passed-window g)) (rw (t .group-is, ← frames-same) (passed-origin g wide)) f)
 
-  lined-passed : Lined r m′ coming
+  lined-passed : Lined r m′
   lined-passed =
       let l = o .lined in
       record {
@@ -114,7 +114,6 @@ module _ (r : Road) (fair : Fair r) (m m′ : Moment) (coming : ℕ → ℕ) (i 
         payload-is = rw (t .group-is) (passed-payload g ∙ l .payload-is);
         window-is = rw (t .group-is) (passed-window g ∙ l .window-is);
         origin-in = rw (t .group-is, ← l .window-is) (origin-within g wide);
-        heard = λ p b. rw (t .steps p b) (heard-passed r p (coming p) (stepAt (m .rows) p) (firstMark (marksAt (m .rows) p)) (l .heard p b));
       }
 
   oldest-now : firstTag (r .kind) (groupAt (m′ .rows) .oldest) ≡ tagOf (r .kind) (r .offset + suc i * L r)
@@ -128,8 +127,9 @@ module _ (r : Road) (fair : Fair r) (m m′ : Moment) (coming : ℕ → ℕ) (i 
         lined = lined-passed;
         begun = rw (t .group-is) (passed-begun g ∙ o .begun);
         oldest = oldest-now;
-        oldest-small = rw (t .group-is, passed-oldest g) (epoch-fits (g .kind) (g .oldest));
+        oldest-small = rw (t .group-is, passed-oldest g, o .lined .kind-is) (epoch-after-lt (r .kind) (g .oldest));
         in-step = o .in-step;
+        stepped = λ p b. rw (t .steps p b) (stepped-passed r (coming p) (stepAt (m .rows) p) (firstMark (marksAt (m .rows) p)) (o .stepped p b));
         since = λ p b. rw (t .steps p b) (step-since (stepAt (m .rows) p) (firstMark (marksAt (m .rows) p)) ∙ o .since p b);
         later = λ p b. rw (t .steps p b) (step-later (stepAt (m .rows) p) (firstMark (marksAt (m .rows) p)) ∙ rw (o .later p b) refl);
         behind = λ p b.

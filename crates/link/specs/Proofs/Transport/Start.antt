@@ -60,8 +60,8 @@ module _ (r : Road) (f : Fair r) (rows : List (List ℕ)) (store : List ℕ)
               payload-is = ap (λ (g : Group). g .payload) group-is;
               window-is = ap (λ (g : Group). g .window) group-is;
               origin-in = rw group-is (omega arith);
-              heard = λ p b. rw (step-is p b) (started-heard p);
             };
+        heard = λ p b. rw (step-is p b) (started-heard p);
         begun = ap (λ (g : Group). g .begun) group-is;
         unfit = waits-for (groupAt started) started (r .ports) 0 (omega arith) (rw (step-is 0 (omega arith)) refl);
         told = refl;

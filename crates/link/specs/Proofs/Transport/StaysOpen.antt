@@ -45,12 +45,12 @@ module _ (r : Road) where
           payload-is = a .payloads ∙ l .payload-is;
           window-is = a .windows ∙ l .window-is;
           origin-in = rw (a .origins) (l .origin-in);
-          heard = λ p b. rw (a .steps p b) (l .heard p b);
         };
         begun = a .beguns ∙ o .begun;
         oldest = rw (a .oldests) (o .oldest);
         oldest-small = rw (a .oldests) (o .oldest-small);
         in-step = o .in-step;
+        stepped = λ p b. rw (a .steps p b) (o .stepped p b);
         since = λ p b. rw (a .steps p b) (o .since p b);
         later = λ p b. rw (a .steps p b) (o .later p b);
         behind = o .behind;

@@ -10,17 +10,17 @@ use lib.Dec.{ltb}
 use lib.ListN.{getD, length, length-append}
 use borrow.Author.Tests.{lt-ltb, eq-eqb, ne-eqb, le-leb, lt-leb, ltb-true}
 use Rattle.ground.specs.Truth.{eq-or-ne, le-or-lt}
+use Rattle.packet.specs.Laws.Epochs.{one-epoch}
 use Rattle.packet.specs.Theorems.Tags.{frames-some}
 use Rattle.phases.specs.Beginning.{begins}
 use Rattle.receiver.specs.Laws.Sizes.{window-some}
 use Rattle.rows.specs.Group.{groupAt}
 use Rattle.step.specs.Laws.Run.{start-from, startFrom}
 use Rattle.link.specs.Proofs.Laws.Lists.{append-apart}
-use Rattle.link.specs.Proofs.Laws.Numbers.{one-epoch}
 use Rattle.link.specs.Moments.{Beginning, Ready, Unready, coming, nextAt, reached}
 use Rattle.link.specs.Road.{Fair, L, Road, sizes-in}
 use Rattle.link.specs.Running.{Moment, drained, fetched, framed, hasBegun, recordAt, through, turn, turns}
-use Rattle.link.specs.Proofs.Standing.{Before, First, Later, Lined, Owes}
+use Rattle.link.specs.Proofs.Standing.{Before, First, Later, Owes}
 use Rattle.link.specs.Proofs.Transport.Due.{AllCome, owes-or-come}
 use Rattle.link.specs.Proofs.Transport.Moments.{Rest, apart, next-time, reach, rest-all, rest-tail, served, served-at, unserved}
 use Rattle.link.specs.Proofs.Transport.Steps.{Apart, Begun?, Gathered?, Reach, Served}
@@ -40,7 +40,7 @@ module _ (r : Road) where
     pub first-none : (m : Moment) (i : ℕ) (coming : ℕ → ℕ) → First r m coming i → markNext m ≡ 0
     pub later-none : (m : Moment) (g i : ℕ) (coming : ℕ → ℕ) → Later r m coming g i → Owes r coming (suc i) → markNext m ≡ 0
     pub later-one : (m : Moment) (g i : ℕ) (coming : ℕ → ℕ) → Later r m coming g i → AllCome r coming (suc i) → (markNext m ≢ 0) × Later r (fetched r m) coming g (suc i)
-    pub must-begin : (m : Moment) (coming : ℕ → ℕ) → Lined r m coming → Ready r coming → begins (groupAt (m .rows)) (m .rows) (r .ports) ≡ true
+    pub must-begin : (m : Moment) (coming : ℕ → ℕ) → Before r m coming → Ready r coming → begins (groupAt (m .rows)) (m .rows) (r .ports) ≡ true
 
   -- fetching ends where none is due
   pub drained-none : (k : ℕ) (m : Moment) → markNext m ≡ 0 → drained r k m ≡ m
@@ -210,7 +210,7 @@ module _ (r : Road) where
             go : Begun? r there (coming r t ps) → Next
             go (stays c) =
                 as-phase there (quiet (s .before-none there (coming r t ps) c))
-                (before c (unready-more t p done ps is-order un (λ y. true≢false (sym (s .must-begin there (coming r t ps) (c .lined) y) ∙ c .unfit))))
+                (before c (unready-more t p done ps is-order un (λ y. true≢false (sym (s .must-begin there (coming r t ps) c y) ∙ c .unfit))))
             go (comes F fore y c) =
                 let e = quiet (s .first-none there (suc (F / L r)) (coming r t ps) c) in
                 as-phase there e
@@ -345,6 +345,6 @@ module _ (r : Road) where
         begun-by = go (phase fresh-start by [] (r .order by) refl)
           where
             go : Phase by [] (reached r m₀ by []) (coming r by (r .order by)) → hasBegun (reached r m₀ by []) ≡ 1
-            go (before b un) = absurd (true≢false (sym (s .must-begin (reached r m₀ by []) (coming r by (r .order by)) (b .lined) (record { stepped = stepped; near = near })) ∙ b .unfit))
+            go (before b un) = absurd (true≢false (sym (s .must-begin (reached r m₀ by []) (coming r by (r .order by)) b (record { stepped = stepped; near = near })) ∙ b .unfit))
             go (first F b c) = c .open-at .begun
             go (later F i b c w) = c .open-at .begun

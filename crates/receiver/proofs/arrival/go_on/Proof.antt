@@ -8,8 +8,8 @@ use Rattle.receiver.proofs.arrival.go_on.Tie as tie
 next-tag-requires : tie.Need-next-tag-requires
 next-tag-requires c κs = search needs
 
-nibble-place-requires : tie.Need-nibble-place-requires
-nibble-place-requires c κs = search needs
+place-of-requires : tie.Need-place-of-requires
+place-of-requires c κs = search needs
 
 nibble-in-requires : tie.Need-nibble-in-requires
 nibble-in-requires c κs = search needs
@@ -25,14 +25,14 @@ same-length c = search needs
 
 returns : tie.Need-returns
 unfolding steadyRows
-returns c = rw (c .before .put-nibble .ensures, c .before .before .before .before .put-next .ensures, c .before .before .before .before .before .before .nibble-in .ensures, c .before .before .before .before .before .before .before .nibble-place .ensures, c .before .before .before .before .before .before .before .before .next-tag .ensures) (rw (packets-put-step _ _ _ _) refl)
+returns c = rw (c .before .put-nibble .ensures, c .before .before .before .before .put-next .ensures, c .before .before .before .before .before .before .nibble-in .ensures, c .before .before .before .before .before .before .before .place-of .ensures, c .before .before .before .before .before .before .before .before .next-tag .ensures) (rw (packets-put-step _ _ _ _) refl)
 
 pub go-on-spec : {M : Type 1} → statement M
 go-on-spec =
     tie.close
     (tie.spec
     next-tag-requires
-    nibble-place-requires
+    place-of-requires
     nibble-in-requires
     put-next-requires
     put-nibble-requires

@@ -3,6 +3,9 @@ use borrow.Author.Needs.{needs}
 use Rattle.receiver.proofs.arrival.put_port.Statement.{statement}
 use Rattle.receiver.proofs.arrival.put_port.Tie as tie
 
+previous-tag-requires : tie.Need-previous-tag-requires
+previous-tag-requires c κs = search needs
+
 put-requires : tie.Need-put-requires
 put-requires c κs = search needs
 
@@ -16,7 +19,7 @@ same-length : tie.Need-same-length
 same-length c = search needs
 
 returns : tie.Need-returns
-returns c = port-rows _ _ _ _ _ _ _ _ (c .before .before .before .before .before .before .before .put .ensures) (c .before .before .before .before .gather .ensures) (c .before .mark .ensures)
+returns c = port-rows _ _ _ _ _ _ _ _ _ (c .before .before .before .before .before .before .before .before .before .previous-tag .ensures) (c .before .before .before .before .before .before .before .put .ensures) (c .before .before .before .before .gather .ensures) (c .before .mark .ensures)
 
 pub put-port-spec : {M : Type 1} → statement M
-put-port-spec = tie.close (tie.spec put-requires gather-requires mark-requires same-length returns)
+put-port-spec = tie.close (tie.spec previous-tag-requires put-requires gather-requires mark-requires same-length returns)

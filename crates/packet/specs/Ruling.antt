@@ -2,10 +2,10 @@
 use mathlib.Core.Bool.{true, false}
 use mathlib.Core.List.{List}
 use Prim.Native.Nat.{ℕ}
 use Rattle.packet.specs.declared.reader.Reading.{Reading}
 use Rattle.packet.specs.declared.reader.Reading.the-variants.{Packet, Length, Crc, Fixed, Unassigned}
 use Rattle.packet.specs.Reading.{readNibbles}
-use Rattle.phases.specs.declared.ruling.Ruling.{Ruling}
+use Rattle.packet.specs.declared.ruling.Ruling.{Ruling}
 
 abbrev pub refused : Ruling
 refused = record { good = false; word = 0; number = 0; gid = 0 }

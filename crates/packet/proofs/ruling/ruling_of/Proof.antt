@@ -1,8 +1,8 @@
 use mathlib.Core.Path.{refl}
-use Rattle.phases.specs.Ruling.{rulingOf}
+use Rattle.packet.specs.Ruling.{rulingOf}
 use borrow.Author.Needs.{needs}
-use Rattle.phases.proofs.ruling.ruling_of.Statement.{statement}
-use Rattle.phases.proofs.ruling.ruling_of.Tie as tie
+use Rattle.packet.proofs.ruling.ruling_of.Statement.{statement}
+use Rattle.packet.proofs.ruling.ruling_of.Tie as tie
 
 read-nibbles-requires : tie.Need-read-nibbles-requires
 read-nibbles-requires c κs = search needs

@@ -1,7 +1,8 @@
 // A packet read for what it rules.
-use packet::Reading;
+use crate::reader;
+use crate::reader::Reading;
 ghost use mathlib.Core.Path.{_≡_};
-ghost use Rattle.phases.specs.Ruling.{refused, rulingOf};
+ghost use Rattle.packet.specs.Ruling.{refused, rulingOf};
 
 pub struct Ruling {
     // whether it was read with 0; only then the rest says something
@@ -26,7 +27,7 @@ fn refusal() -> Ruling
 pub fn ruling_of(kind: u8, epoch: u8, nibbles: [u8; 16]) -> Ruling
     ensures { λ r. ⌜ r ≡ rulingOf kind epoch nibbles ⌝ }
 {
-    let reading = packet::read_nibbles(nibbles);
+    let reading = reader::read_nibbles(nibbles);
     match reading {
         Reading::Packet(fields) => {
             let word = fields.word;
