@@ -4,6 +4,7 @@ pub mod Kinds
 pub mod Laws
 pub mod Layout
 pub mod Reading
+pub mod Shares
 pub mod Theorems
 pub mod Words
 pub mod Writing

@@ -4,6 +4,7 @@ mod crc;
 pub mod kinds;
 mod layout;
 mod reader;
+mod shares;
 mod words;
 mod writer;
 
