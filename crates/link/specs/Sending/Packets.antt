@@ -20,7 +20,8 @@ use Rattle.sender.specs.Epochs.{packetAnswer, packetBytes, packetFields}
 use Rattle.sender.specs.Outcomes.{written}
 use Rattle.sender.specs.Table.{sizeOf}
 use Rattle.sender.specs.Theorems.Packets.{packet-done, written-done}
-use Rattle.link.specs.History.{Allowed, History, epochNumber, fieldsSent, packetSent, senderAt}
+use Rattle.link.specs.History.{Allowed, History, fieldsSent, packetSent, senderAt}
+use Rattle.link.specs.Sending.{epochNumber}
 use Rattle.link.specs.Sending.Senders.{callsTo, given-to, sender-in, sender-run, size-at}
 
 -- what a sender writes whose packet is not refused
@@ -77,7 +78,7 @@ module _ (h : History) (a : Allowed h) (i slot : ℕ) (b : slot < h .slots) wher
   packet-reads = ap readNibbles packet-highs ∙ nibbles-back (fieldsSent h i slot) fields-fit
 
 -- its epoch is the history's, and its GID the one lent
-pub packet-epoch : (h : History) → Allowed h → (i slot : ℕ) → fieldsSent h i slot .epoch ≡ epochNumber h i
+pub packet-epoch : (h : History) → Allowed h → (i slot : ℕ) → fieldsSent h i slot .epoch ≡ epochNumber (h .kind) (h .first) i
 unfolding packetFields
 packet-epoch h a i slot = sender-in h a i .epoch
 
