@@ -1,4 +1,6 @@
-//! The reference's reading of a control packet, as a C call.
+//! The reference's reading of a control packet, as a C call; beside it one whose CRC goes bit by bit.
+
+mod packet_bits;
 
 /// # Safety
 /// Both buffers are the caller's, of these lengths.
