@@ -1,6 +1,9 @@
+pub mod Answered
+pub mod ByRank
 pub mod Entries
 pub mod Examples
 pub mod Hosts
 pub mod Refusals
 pub mod Rows
+pub mod Worked
 pub mod Wrong
