@@ -17,8 +17,9 @@
  *   levelspruce_sender_report the lowest bit counts). Bytes pass as uint8_t:
  *   h4 of levelspruce_receiver_frame and epoch of levelspruce_receiver_reply.
  * - A buffer is a pointer and its length in bytes; where the pointer is to rows
- *   (a receiver's state, its ports), the length counts rows. The whole length
- *   must be the caller's to use. NULL with length 0 is an empty buffer.
+ *   (a receiver's state, its ports), the length counts rows, and where it is to
+ *   delays, delays. The whole length must be the caller's to use. NULL with
+ *   length 0 is an empty buffer.
  * - A buffer is lent for the time of the call.
  * - The buffers of one call must not overlap.
  * - Nothing is kept between calls, so different threads may call at once with
@@ -35,9 +36,9 @@ extern "C" {
 #endif
 
 /* The version of this header and of the archive that comes with it. */
-#define LEVELSPRUCE_VERSION "0.1.0"
+#define LEVELSPRUCE_VERSION "0.2.0"
 #define LEVELSPRUCE_VERSION_MAJOR 0
-#define LEVELSPRUCE_VERSION_MINOR 1
+#define LEVELSPRUCE_VERSION_MINOR 2
 #define LEVELSPRUCE_VERSION_PATCH 0
 
 /* Answers. */
@@ -45,7 +46,7 @@ extern "C" {
 #define LEVELSPRUCE_ANSWER_SLOT 1       /* the slot or port is not below the group's count */
 #define LEVELSPRUCE_ANSWER_STATE 2      /* not allowed now: by the slot's state, no wait open, or no epoch started */
 #define LEVELSPRUCE_ANSWER_WAIT 3       /* add or remove while a wait is open */
-#define LEVELSPRUCE_ANSWER_RANGE 4      /* a count, P, W or X is out of range */
+#define LEVELSPRUCE_ANSWER_RANGE 4      /* a count, P, W, X or delay is out of range */
 #define LEVELSPRUCE_ANSWER_CRC 5        /* the packet's CRC differs */
 #define LEVELSPRUCE_ANSWER_UNASSIGNED 6 /* CRC right, control word unassigned */
 #define LEVELSPRUCE_ANSWER_FIXED 7      /* CRC right, control word FIXED */
@@ -68,7 +69,7 @@ extern "C" {
 
 /* Sizes of buffers, in bytes. */
 #define LEVELSPRUCE_PACKET_BYTES 16 /* the H4 bytes of one packet */
-#define LEVELSPRUCE_FIELDS_BYTES 6  /* the fields of one packet */
+#define LEVELSPRUCE_FIELDS_BYTES 10 /* the fields of one packet */
 #define LEVELSPRUCE_SENDER_BYTES 397 /* a sender's state */
 #define LEVELSPRUCE_BOARD_BYTES 130 /* a sender's board */
 #define LEVELSPRUCE_RANKS_BYTES 68  /* the ranks of an epoch */
@@ -76,6 +77,7 @@ extern "C" {
 #define LEVELSPRUCE_REPORT_BYTES 8  /* the record of a report */
 #define LEVELSPRUCE_PORT_BYTES 8    /* what is shown of a port */
 #define LEVELSPRUCE_REPLY_BYTES 2   /* a reply */
+#define LEVELSPRUCE_PLAN_BYTES 65   /* a plan of which paths to join */
 
 /* Of a receiver: the rows of its state, and the bytes of its store and of the
  * least output. */
@@ -91,13 +93,16 @@ extern "C" {
 #define LEVELSPRUCE_PAYLOAD_VC3 756
 #define LEVELSPRUCE_PAYLOAD_VC4 2340
 
-/* The place of each field among the six bytes that reading gives. */
+/* The place of each field among the ten bytes that reading gives, and the
+ * greatest number that the reserved bits make. */
 #define LEVELSPRUCE_FIELD_EPOCH 0
 #define LEVELSPRUCE_FIELD_WORD 1
 #define LEVELSPRUCE_FIELD_GID 2
 #define LEVELSPRUCE_FIELD_MST 3
 #define LEVELSPRUCE_FIELD_RS_ACK 4
 #define LEVELSPRUCE_FIELD_SQ 5
+#define LEVELSPRUCE_FIELD_RESERVED 6 /* the first of four bytes, highest first */
+#define LEVELSPRUCE_RESERVED_MOST 67108863
 
 /* A sender's slots, and the number of a slot that is IDLE. */
 #define LEVELSPRUCE_SLOTS_MOST 64
@@ -123,10 +128,15 @@ extern "C" {
  *   epoch, mst, sq   0 to 255
  *   word             ADD, NORM, EOS, IDLE or DNU
  *   gid, rs_ack      0 or 1
+ *   reserved         0 to LEVELSPRUCE_RESERVED_MOST: the 26 bits that no other
+ *                    field has, in the order of sending, the first one highest;
+ *                    0 but for a relay
  *   h4               LEVELSPRUCE_PACKET_BYTES bytes, in the order of sending
  *
  * A byte's high nibble is the packet's; its low nibble is the frame's count
- * MFI1, which goes from 8 to 15 and on from 0 to 7. Reserved bits are 0.
+ * MFI1, which goes from 8 to 15 and on from 0 to 7. The reserved bits are the
+ * three beside RS-Ack (MFI1 10), the nibbles of MFI1 11, 12 and 13, the three
+ * beside GID (MFI1 3) and the nibbles of MFI1 4 and 5.
  *
  * Answers, the first that fits:
  *   9  h4_length is not 16
@@ -136,6 +146,7 @@ extern "C" {
  */
 uint8_t levelspruce_packet_write(uint32_t epoch, uint32_t word, uint32_t gid,
                                  uint32_t mst, uint32_t rs_ack, uint32_t sq,
+                                 uint32_t reserved,
                                  uint8_t *h4, size_t h4_length);
 
 /*
@@ -146,15 +157,18 @@ uint8_t levelspruce_packet_write(uint32_t epoch, uint32_t word, uint32_t gid,
  *   fields   LEVELSPRUCE_FIELDS_BYTES bytes for the result, each at its
  *            LEVELSPRUCE_FIELD_ place
  *
- * Reserved bits are looked at by the CRC alone. A written packet with one to
- * three of its 64 bits (the high nibbles') changed is always answered 5.
+ * The reserved bits come in four bytes from LEVELSPRUCE_FIELD_RESERVED on, the
+ * highest first. What is answered 0 can always be written, and
+ * levelspruce_packet_write with the same fields gives the same high nibbles
+ * again. A written packet with one to three of its 64 bits (the high nibbles')
+ * changed is always answered 5.
  *
  * Answers, the first that fits:
- *   9  h4_length is not 16, or fields_length is not 6
+ *   9  h4_length is not 16, or fields_length is not 10
  *   5  the CRC differs
  *   7  the control word is FIXED
  *   6  the control word is unassigned
- *   0  all six fields are written
+ *   0  all ten bytes of fields are written
  */
 uint8_t levelspruce_packet_read(const uint8_t *h4, size_t h4_length,
                                 uint8_t *fields, size_t fields_length);
@@ -550,6 +564,63 @@ uint8_t levelspruce_receiver_ports(const uint8_t (*state)[16],
 uint8_t levelspruce_receiver_reply(const uint8_t (*state)[16],
                                    size_t state_length, uint8_t epoch,
                                    uint8_t *reply, size_t reply_length);
+
+/*
+ * Which paths to join. Candidates are numbered as they are handed over, from 0,
+ * each with its measured delay in frames. Delays count plainly, never round
+ * 4096. A group whose delays lie at most window - 16 apart is joined by a
+ * receiver with that window.
+ */
+
+/* Candidates, and the greatest delay. */
+#define LEVELSPRUCE_PATHS_MOST 64
+#define LEVELSPRUCE_DELAY_MOST 4095
+
+/* The bytes of a plan: k, or 0 where there is no such set; then the chosen
+ * candidates' numbers, rising, and LEVELSPRUCE_PATH_NONE for the rest. */
+#define LEVELSPRUCE_PLAN_COUNT 0
+#define LEVELSPRUCE_PLAN_EACH 1
+#define LEVELSPRUCE_PATH_NONE 255
+
+/*
+ * Proposes k candidates no two of which differ in delay by more than
+ * window - 16. Of several such sets it is the tightest, of several tightest the
+ * one with the least delays, and of equal delays the lower numbers. It says
+ * none exactly if there is no such set.
+ *
+ *   delays   a delay for each candidate, 0 to 4095; 1 to 64 candidates
+ *   k        how many to join, 1 to the number of candidates
+ *   window   the receiver's window in frames, 16 to 2048
+ *   plan     LEVELSPRUCE_PLAN_BYTES bytes, by the LEVELSPRUCE_PLAN_ places
+ *
+ * Answers, the first that fits:
+ *   4  delays_length, k, window or a delay is out of range
+ *   9  plan_length is not 65
+ *   0  all of plan is written
+ */
+uint8_t levelspruce_paths_plan(const uint32_t *delays, size_t delays_length,
+                               uint32_t k, uint32_t window,
+                               uint8_t *plan, size_t plan_length);
+
+/*
+ * Checks a set of candidates, whoever proposed it: it is accepted exactly if
+ * it names k different candidates no two of which differ in delay by more than
+ * window - 16.
+ *
+ *   delays, k, window   as for levelspruce_paths_plan
+ *   set                 a candidate's number in each byte, in any order; any
+ *                       length and any bytes
+ *   accepted            one byte: 1 where the set is accepted, or 0
+ *
+ * Answers, the first that fits:
+ *   4  delays_length, k, window or a delay is out of range
+ *   9  accepted_length is not 1
+ *   0  accepted is written
+ */
+uint8_t levelspruce_paths_check(const uint32_t *delays, size_t delays_length,
+                                uint32_t k, uint32_t window,
+                                const uint8_t *set, size_t set_length,
+                                uint8_t *accepted, size_t accepted_length);
 
 #ifdef __cplusplus
 }

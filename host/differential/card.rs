@@ -5,7 +5,7 @@ use reference::receiver::rows::Row;
 
 extern "C" {
     fn levelspruce_packet_write(
-        epoch: u32, word: u32, gid: u32, mst: u32, rs_ack: u32, sq: u32, h4: *mut u8, h4_length: usize,
+        epoch: u32, word: u32, gid: u32, mst: u32, rs_ack: u32, sq: u32, reserved: u32, h4: *mut u8, h4_length: usize,
     ) -> u8;
     fn levelspruce_packet_read(h4: *const u8, h4_length: usize, fields: *mut u8, fields_length: usize) -> u8;
     fn levelspruce_spread(
@@ -13,6 +13,13 @@ extern "C" {
     ) -> u8;
     fn levelspruce_join(
         x: u32, p: u32, members: *const u8, members_length: usize, frame: *mut u8, frame_length: usize,
+    ) -> u8;
+    fn levelspruce_paths_plan(
+        delays: *const u32, delays_length: usize, k: u32, window: u32, plan: *mut u8, plan_length: usize,
+    ) -> u8;
+    fn levelspruce_paths_check(
+        delays: *const u32, delays_length: usize, k: u32, window: u32, set: *const u8, set_length: usize, accepted: *mut u8,
+        accepted_length: usize,
     ) -> u8;
     fn levelspruce_sender_start(count: u32, first_epoch: u32, state: *mut u8, state_length: usize) -> u8;
     fn levelspruce_sender_add(state: *mut u8, state_length: usize, slot: u32) -> u8;
@@ -44,7 +51,7 @@ extern "C" {
 }
 
 pub fn packet_write(f: &Fields, h4: &mut [u8]) -> u8 {
-    unsafe { levelspruce_packet_write(f.epoch, f.word, f.gid, f.mst, f.rs_ack, f.sq, h4.as_mut_ptr(), h4.len()) }
+    unsafe { levelspruce_packet_write(f.epoch, f.word, f.gid, f.mst, f.rs_ack, f.sq, f.reserved, h4.as_mut_ptr(), h4.len()) }
 }
 
 pub fn packet_read(h4: &[u8], fields: &mut [u8]) -> u8 {
@@ -57,6 +64,18 @@ pub fn spread(x: u32, p: u32, frame: &[u8], members: &mut [u8]) -> u8 {
 
 pub fn join(x: u32, p: u32, members: &[u8], frame: &mut [u8]) -> u8 {
     unsafe { levelspruce_join(x, p, members.as_ptr(), members.len(), frame.as_mut_ptr(), frame.len()) }
+}
+
+pub fn paths_plan(delays: &[u32], k: u32, window: u32, plan: &mut [u8]) -> u8 {
+    unsafe { levelspruce_paths_plan(delays.as_ptr(), delays.len(), k, window, plan.as_mut_ptr(), plan.len()) }
+}
+
+pub fn paths_check(delays: &[u32], k: u32, window: u32, set: &[u8], accepted: &mut [u8]) -> u8 {
+    unsafe {
+        levelspruce_paths_check(
+            delays.as_ptr(), delays.len(), k, window, set.as_ptr(), set.len(), accepted.as_mut_ptr(), accepted.len(),
+        )
+    }
 }
 
 pub fn sender_start(count: u32, first_epoch: u32, state: &mut [u8]) -> u8 {

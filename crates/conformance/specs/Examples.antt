@@ -1,24 +1,32 @@
--- 01's examples, marked P1 to P11, and its limits, in one table under one statement. Bytes stand in hexadecimal, as 01 has them.
+-- 01's examples, marked P1 to P11, its limits, examples worked out apart for what those leave open, and those of requests that have landed, in one table under one statement. Bytes stand in hexadecimal, as 01 has them.
 use mathlib.Core.Path.{refl}
+use mathlib.Core.Bool.{cond}
 use mathlib.Core.List.{List, [], _∷_, _++_}
 use Prim.Native.Nat.{ℕ, _+_}
-use lib.ListN.{replicate}
+use lib.ListN.{length, replicate}
 use Rattle.packet.specs.declared.layout.Fields.{Fields}
 use Rattle.packet.specs.Crc.{byteBits, crcOf, divisor, nibbleBits}
 use Rattle.packet.specs.Layout.{byteOf, carriedIn, dataOf, fieldsOf, h4Of, highsOf, nibblesOf, sealedOf}
 use Rattle.packet.specs.Reading.{readAnswer, readNibbles, readingNumber, readingValues}
 use Rattle.packet.specs.Words.{FIXED, ADD, NORM, EOS, IDLE, DNU, assigned}
 use Rattle.packet.specs.Writing.{fitting, writeAnswer, writeBytes, writingNumber}
-use Rattle.console.specs.Ascii.{ascii}
-use Rattle.console.specs.Fields.{decimalOf, digitOf, hexPair}
+use Rattle.text.specs.Ascii.{ascii}
+use Rattle.text.specs.Fields.{digitOf, hexOf}
+use Rattle.text.specs.Fields.{numberOf as numberIn}
+use Rattle.text.specs.Output.{decimalText, wordText}
+use Rattle.text.specs.Text.{linesOf}
+use Rattle.text.specs.Text.{fieldsOf as fieldsIn}
 use Rattle.console.specs.Line.{lineOf, numberLine, reportLine, wordLine}
 use Rattle.console.specs.Line.{reportOf as reportIn}
-use Rattle.console.specs.Output.{answerText, boardText, decimalText, slotText, waitText, wordText}
+use Rattle.console.specs.Output.{answerText, boardText, slotText, waitText}
 use Rattle.console.specs.Replies.{outputOf, replyOf, sizeReply}
 use Rattle.console.specs.Runs.{wholeOutput}
 use Rattle.console.specs.Session.{beginning}
-use Rattle.console.specs.Text.{linesOf}
-use Rattle.console.specs.Text.{fieldsOf as fieldsIn}
+use Rattle.paths.specs.Answers.{answerOf, areShort}
+use Rattle.paths.specs.Answers.{numberOf as planNumber}
+use Rattle.paths.specs.Checking.{accepts, agree, agreesWith, checkedOf}
+use Rattle.paths.specs.Order.{candidateAt, rankOf, ranksOf, sortedBy}
+use Rattle.paths.specs.Planning.{proposed, setOf, tightestOf}
 use Rattle.payload.specs.Answers.{numberOf}
 use Rattle.payload.specs.Joining.{joined, wholeAnswer}
 use Rattle.payload.specs.Spreading.{spreadAll}
@@ -62,11 +70,41 @@ bytes (a ∷ b ∷ ns) = byteOf a b ∷ bytes ns
 
 -- IDLE, SQ 255, MST all FAIL, RS-Ack 0, epoch 0, GID 0
 abbrev p1 : Fields
-p1 = record { epoch = 0; word = record { 0 = IDLE }; gid = 0; mst = 0xFF; «rs_ack» = 0; sq = 255 }
+p1 = record { epoch = 0; word = record { 0 = IDLE }; gid = 0; mst = 0xFF; «rs_ack» = 0; sq = 255; reserved = 0 }
 
 -- EOS, SQ 0, MST all FAIL, epoch 1, GID 1
 abbrev p2 : Fields
-p2 = record { epoch = 1; word = record { 0 = EOS }; gid = 1; mst = 0xFF; «rs_ack» = 0; sq = 0 }
+p2 = record { epoch = 1; word = record { 0 = EOS }; gid = 1; mst = 0xFF; «rs_ack» = 0; sq = 0; reserved = 0 }
+
+-- a packet whose fields all differ: DNU, SQ 77, MST A5, RS-Ack 1, epoch 200, GID 1
+abbrev mixed : Fields
+mixed = record { epoch = 200; word = record { 0 = DNU }; gid = 1; mst = 0xA5; «rs_ack» = 1; sq = 77; reserved = 0 }
+
+abbrev mixed-h4 : List ℕ
+mixed-h4 = 0xA8 ∷ 0x59 ∷ 0x1A ∷ 0x0B ∷ 0x0C ∷ 0x0D ∷ 0x4E ∷ 0xDF ∷ 0xC0 ∷ 0x81 ∷ 0xF2 ∷ 0x13 ∷ 0x04 ∷ 0x05 ∷ 0xA6 ∷ 0x77 ∷ []
+
+-- request 2026-08: NORM, SQ 17, epoch 5, GID 1, MST BF, RS-Ack 1, with reserved bits
+abbrev relayed : ℕ → Fields
+relayed reserved = record { epoch = 5; word = record { 0 = NORM }; gid = 1; mst = 0xBF; «rs_ack» = 1; sq = 17; reserved = reserved }
+
+-- the answer of writing it and the H4 bytes, and what reading those gives
+abbrev wrote : ℕ → List ℕ
+wrote reserved = writingNumber (writeAnswer (relayed reserved) (replicate 16 0)) ∷ writeBytes (relayed reserved) (replicate 16 0)
+
+abbrev came : List ℕ → List ℕ
+came h4 = readingNumber (readAnswer h4) ∷ readingValues (readAnswer h4)
+
+abbrev all-set : List ℕ
+all-set = 0xB8 ∷ 0xF9 ∷ 0xFA ∷ 0xFB ∷ 0xFC ∷ 0xFD ∷ 0x1E ∷ 0x1F ∷ 0x00 ∷ 0x51 ∷ 0x22 ∷ 0xF3 ∷ 0xF4 ∷ 0xF5 ∷ 0xB6 ∷ 0x87 ∷ []
+
+abbrev first-alone : List ℕ
+first-alone = 0xB8 ∷ 0xF9 ∷ 0x9A ∷ 0x0B ∷ 0x0C ∷ 0x0D ∷ 0x1E ∷ 0x1F ∷ 0x00 ∷ 0x51 ∷ 0x22 ∷ 0x13 ∷ 0x04 ∷ 0x05 ∷ 0x76 ∷ 0x97 ∷ []
+
+abbrev last-alone : List ℕ
+last-alone = 0xB8 ∷ 0xF9 ∷ 0x1A ∷ 0x0B ∷ 0x0C ∷ 0x0D ∷ 0x1E ∷ 0x1F ∷ 0x00 ∷ 0x51 ∷ 0x22 ∷ 0x13 ∷ 0x04 ∷ 0x15 ∷ 0x96 ∷ 0x27 ∷ []
+
+abbrev beside-gid : List ℕ
+beside-gid = 0xB8 ∷ 0xF9 ∷ 0x1A ∷ 0x0B ∷ 0x0C ∷ 0x0D ∷ 0x1E ∷ 0x1F ∷ 0x00 ∷ 0x51 ∷ 0x22 ∷ 0xF3 ∷ 0x04 ∷ 0x05 ∷ 0x46 ∷ 0x37 ∷ []
 
 abbrev p1-h4 : List ℕ
 p1-h4 = 0xF8 ∷ 0xF9 ∷ 0x0A ∷ 0x0B ∷ 0x0C ∷ 0x0D ∷ 0xFE ∷ 0xFF ∷ 0x00 ∷ 0x01 ∷ 0x52 ∷ 0x03 ∷ 0x04 ∷ 0x05 ∷ 0x96 ∷ 0x97 ∷ []
@@ -99,6 +137,18 @@ apart frames = fed 0 32 0 (fed 1 (frames + 16) 16 (opened 2 32))
 abbrev joined56 : ℕ → Host
 joined56 frames = fed 0 (56 + frames) 0 (opened 1 16)
 
+-- four candidate paths
+abbrev four : List ℕ
+four = 0 ∷ 100 ∷ 16 ∷ 20 ∷ []
+
+-- how many paths are proposed, and which
+abbrev plan : List ℕ → ℕ → ℕ → List ℕ
+plan delays k W = let set = setOf delays k W in length set ∷ set
+
+-- 1 where the check accepts two of the four with W 20
+abbrev accepted : List ℕ → ℕ
+accepted set = cond (checkedOf four 2 20 set .accepted) 1 0
+
 pub table : List Row
 table =
     record {
@@ -108,15 +158,43 @@ table =
     }
     ∷ record {
       name = "P1 data and CRC";
-      given = bytes (nibblesOf p1 0);
+      given = bytes (nibblesOf p1);
       said = 0xFF ∷ 0x00 ∷ 0x00 ∷ 0xFF ∷ 0x00 ∷ 0x50 ∷ 0x00 ∷ 0x99 ∷ [];
     }
     ∷ record { name = "P1 written"; given = writingNumber (writeAnswer p1 (replicate 16 0)) ∷ writeBytes p1 (replicate 16 0); said = 0 ∷ p1-h4 }
-    ∷ record { name = "P1 read"; given = readingNumber (readAnswer p1-h4) ∷ readingValues (readAnswer p1-h4); said = 0 ∷ 0 ∷ 5 ∷ 0 ∷ 0xFF ∷ 0 ∷ 255 ∷ [] }
+    ∷ record { name = "P1 read"; given = came p1-h4; said = 0 ∷ 0 ∷ 5 ∷ 0 ∷ 0xFF ∷ 0 ∷ 255 ∷ 0 ∷ [] }
     ∷ record {
       name = "P2 data and CRC";
-      given = bytes (nibblesOf p2 0);
+      given = bytes (nibblesOf p2);
       said = 0xFF ∷ 0x00 ∷ 0x00 ∷ 0x00 ∷ 0x01 ∷ 0x31 ∷ 0x00 ∷ 0xC3 ∷ [];
+    }
+    ∷ record {
+      name = "each field at its place, written";
+      given = writingNumber (writeAnswer mixed (replicate 16 0)) ∷ writeBytes mixed (replicate 16 0);
+      said = 0 ∷ mixed-h4;
+    }
+    ∷ record {
+      name = "each field at its place, read";
+      given = came mixed-h4;
+      said = 0 ∷ 200 ∷ 15 ∷ 1 ∷ 0xA5 ∷ 1 ∷ 77 ∷ 0 ∷ [];
+    }
+    ∷ record {
+      name = "reserved bits 0, written";
+      given = wrote 0;
+      said = 0 ∷ 0xB8 ∷ 0xF9 ∷ 0x1A ∷ 0x0B ∷ 0x0C ∷ 0x0D ∷ 0x1E ∷ 0x1F ∷ 0x00 ∷ 0x51 ∷ 0x22 ∷ 0x13 ∷ 0x04 ∷ 0x05 ∷ 0x96 ∷ 0x57 ∷ [];
+    }
+    ∷ record { name = "all 26 set, written"; given = wrote 67108863; said = 0 ∷ all-set }
+    ∷ record { name = "all 26 set, read"; given = came all-set; said = 0 ∷ 5 ∷ 2 ∷ 1 ∷ 0xBF ∷ 1 ∷ 17 ∷ 67108863 ∷ [] }
+    ∷ record { name = "the first reserved bit alone, written"; given = wrote 33554432; said = 0 ∷ first-alone }
+    ∷ record { name = "the first reserved bit alone, read"; given = came first-alone; said = 0 ∷ 5 ∷ 2 ∷ 1 ∷ 0xBF ∷ 1 ∷ 17 ∷ 33554432 ∷ [] }
+    ∷ record { name = "the last reserved bit alone, written"; given = wrote 1; said = 0 ∷ last-alone }
+    ∷ record { name = "the last reserved bit alone, read"; given = came last-alone; said = 0 ∷ 5 ∷ 2 ∷ 1 ∷ 0xBF ∷ 1 ∷ 17 ∷ 1 ∷ [] }
+    ∷ record { name = "the three bits beside GID, written"; given = wrote 1792; said = 0 ∷ beside-gid }
+    ∷ record { name = "the three bits beside GID, read"; given = came beside-gid; said = 0 ∷ 5 ∷ 2 ∷ 1 ∷ 0xBF ∷ 1 ∷ 17 ∷ 1792 ∷ [] }
+    ∷ record {
+      name = "reserved 67,108,863 and 67,108,864";
+      given = writingNumber (writeAnswer (relayed 67108863) (replicate 16 0)) ∷ writingNumber (writeAnswer (relayed 67108864) (replicate 16 0)) ∷ [];
+      said = 0 ∷ 8 ∷ [];
     }
     ∷ record { name = "P3 CRC of 56 zero bits"; given = crcOf (replicate 14 0) ∷ []; said = 0x00 ∷ [] }
     ∷ record { name = "P4 CRC of the last bit alone"; given = crcOf (replicate 13 0 ++ (1 ∷ [])) ∷ []; said = 0x07 ∷ [] }
@@ -177,8 +255,34 @@ table =
     ∷ record { name = "and begin with the frame that brings them W-16 apart"; given = begun (handed 0 32 (apart 17)); said = 0 ∷ 1 ∷ [] }
     ∷ record { name = "a joined port's tag W-1 after the window's first is stored"; given = stored 15 (joined56 16); said = 0 ∷ 71 ∷ 0x07 ∷ [] }
     ∷ record { name = "W gives 11"; given = stored 0 (joined56 17); said = 11 ∷ 56 ∷ 0x08 ∷ [] }
+    ∷ record {
+      name = "two of 0 100 16 20 with W 16, 20 and 32";
+      given = plan four 2 16 ++ plan four 2 20 ++ plan four 2 32;
+      said = 0 ∷ 2 ∷ 2 ∷ 3 ∷ 2 ∷ 2 ∷ 3 ∷ [];
+    }
+    ∷ record { name = "three of them with W 36 and 35"; given = plan four 3 36 ++ plan four 3 35; said = 3 ∷ 0 ∷ 2 ∷ 3 ∷ 0 ∷ [] }
+    ∷ record { name = "4,095 and 0 are not 1 apart"; given = plan (4095 ∷ 0 ∷ []) 2 2048; said = 0 ∷ [] }
+    ∷ record { name = "one path with W 16"; given = plan four 1 16; said = 1 ∷ 0 ∷ [] }
+    ∷ record { name = "two of three equal delays"; given = plan (7 ∷ 7 ∷ 7 ∷ []) 2 16; said = 2 ∷ 0 ∷ 1 ∷ [] }
+    ∷ record {
+      name = "k of 0 and of 5 of 4, 65 candidates, a delay of 4,096, W of 15 and 2,049";
+      given =
+          planNumber (answerOf four 0 16)
+          ∷ planNumber (answerOf four 5 16)
+          ∷ planNumber (answerOf (replicate 65 0) 2 16)
+          ∷ planNumber (answerOf (0 ∷ 4096 ∷ []) 1 16)
+          ∷ planNumber (answerOf four 2 15)
+          ∷ planNumber (answerOf four 2 2049)
+          ∷ [];
+      said = 4 ∷ 4 ∷ 4 ∷ 4 ∷ 4 ∷ 4 ∷ [];
+    }
+    ∷ record {
+      name = "the check of 3 2, of 2 2, of 2 alone and of 2 64";
+      given = accepted (3 ∷ 2 ∷ []) ∷ accepted (2 ∷ 2 ∷ []) ∷ accepted (2 ∷ []) ∷ accepted (2 ∷ 64 ∷ []) ∷ [];
+      said = 1 ∷ 0 ∷ 0 ∷ 0 ∷ [];
+    }
     ∷ []
 
 pub examples : Equal table
-unfolding table nibblesOf sealedOf dataOf crcOf divisor byteBits nibbleBits writeAnswer writeBytes fitting assigned h4Of readAnswer readNibbles fieldsOf carriedIn highsOf boardOf rowsOf rowOf noRow highest startOf freshOf idleSlot idleNumber addOf addedTo removeOf removedFrom fallen fallenIn lapseOf reportOf waited actedOn mstApplied numberApplied holderOf renumbered slotAfter numberAfter comesBefore turnOf opensWait sizeOf membersOf mstFails mstFirst mstNumbers wholeOutput beginning linesOf fieldsIn lineOf wordLine numberLine reportLine reportIn decimalOf digitOf hexPair replyOf sizeReply outputOf answerText boardText slotText waitText wordText decimalText afterOn nibbleIn nibblePlace startsCount tagByHigh carriesLow tagByLow counts endsEpoch epochsIn frames tagAfter tagBefore tags lead epochs epochAfter epochOf distanceOf placeOf startsEpoch firstTag settledOf clearedStep clearedPort clearedPorts stoppedOf stopBy begunOf beginBy gatherBy portsIn sizedGroup storeFor ready latest noTag further foremost within begins owesNothing brought silent ruledBy passedStep notedBy passedPort passedPorts passedGroup passedOf frameFits rowsFit frameAnswer frameRows frameStore gatheredBy marksBy portRows storeBy settledBy takenRows takenStore refusalBy startAnswer startRows startFits sizedAnswer sizedRows freshPort freshPorts groupAt groupOf groupRow putGroup rowIn putRow marksAt packetsAt putMarks putPackets memberAt putMember memberOf memberRow putStep stepAt stepIn stepRow takenOf inStep readable distanceIn flagged countsOn frameDropped outside keeps joining byWindow byStart arrives inStepAt begunRun secondRun oneMore furtherRun runOn placeIn storedAt ringOf byteAt h4At packetIn cutFrom markedAt firstMark markedByte cutByte passedByte passedMarks
+unfolding table answerOf areShort setOf proposed tightestOf ranksOf rankOf candidateAt sortedBy checkedOf accepts agreesWith agree nibblesOf sealedOf dataOf crcOf divisor byteBits nibbleBits writeAnswer writeBytes fitting assigned h4Of readAnswer readNibbles fieldsOf carriedIn highsOf boardOf rowsOf rowOf noRow highest startOf freshOf idleSlot idleNumber addOf addedTo removeOf removedFrom fallen fallenIn lapseOf reportOf waited actedOn mstApplied numberApplied holderOf renumbered slotAfter numberAfter comesBefore turnOf opensWait sizeOf membersOf mstFails mstFirst mstNumbers wholeOutput beginning linesOf fieldsIn lineOf wordLine numberLine reportLine reportIn numberIn digitOf hexOf replyOf sizeReply outputOf answerText boardText slotText waitText wordText decimalText afterOn nibbleIn nibblePlace startsCount tagByHigh carriesLow tagByLow counts endsEpoch epochsIn frames tagAfter tagBefore tags lead epochs epochAfter epochOf distanceOf placeOf startsEpoch firstTag settledOf clearedStep clearedPort clearedPorts stoppedOf stopBy begunOf beginBy gatherBy portsIn sizedGroup storeFor ready latest noTag further foremost within begins owesNothing brought silent ruledBy passedStep notedBy passedPort passedPorts passedGroup passedOf frameFits rowsFit frameAnswer frameRows frameStore gatheredBy marksBy portRows storeBy settledBy takenRows takenStore refusalBy startAnswer startRows startFits sizedAnswer sizedRows freshPort freshPorts groupAt groupOf groupRow putGroup rowIn putRow marksAt packetsAt putMarks putPackets memberAt putMember memberOf memberRow putStep stepAt stepIn stepRow takenOf inStep readable distanceIn flagged countsOn frameDropped outside keeps joining byWindow byStart arrives inStepAt begunRun secondRun oneMore furtherRun runOn placeIn storedAt ringOf byteAt h4At packetIn cutFrom markedAt firstMark markedByte cutByte passedByte passedMarks
 examples = equal-rows table refl

@@ -14,7 +14,7 @@ use Rattle.console.specs.Kept.{keepAll, lineIn, nothingKept}
 use Rattle.console.specs.Line.{lineOf}
 use Rattle.console.specs.Output.{ROOM}
 use Rattle.console.specs.Replies.{outputOf, replyOf}
-use Rattle.console.specs.Text.{LINE-END}
+use Rattle.text.specs.Text.{LINE-END}
 
 -- 'Before any size, the count is 0.'
 unfoldable pub beginning : Session

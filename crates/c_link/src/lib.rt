@@ -1,1 +1,0 @@
-// No code: what a C host's sender calls write is what the link of demand 3 sends. It stands in specs/.
