@@ -1,5 +1,5 @@
 -- Short runs of a receiver from its start, for the examples: P is 1, and frames carry their count and no good packet.
-use mathlib.Core.Bool.{false, cond}
+use mathlib.Core.Bool.{Bool, true, false, cond}
 use mathlib.Core.List.{List, [], _∷_}
 use Prim.Native.Nat.{ℕ, zero, suc, _+_, _*_, _/_, _%_}
 use lib.Dec.{eqb}
@@ -33,14 +33,20 @@ h4With t = cond (eqb (t % 16) 0) (t / 256) (cond (eqb (t % 16) 1) (t / 16 % 16) 
 abbrev payloadWith : ℕ → List ℕ
 payloadWith t = t % 256 ∷ []
 
--- the frame of a port with tag t
-abbrev pub handed : ℕ → ℕ → Host → Host
-handed port t h =
+-- the frame of a port with tag t, flagged as failed or not
+abbrev handedAs : Bool → ℕ → ℕ → Host → Host
+handedAs failed port t h =
     record {
-      answer = frameAnswer (h .rows) port false (h4With t) (length (payloadWith t)) (length (h .store));
-      rows = frameRows (h .rows) port false (h4With t) (payloadWith t) (h .store);
-      store = frameStore (h .rows) port false (h4With t) (payloadWith t) (h .store);
+      answer = frameAnswer (h .rows) port failed (h4With t) (length (payloadWith t)) (length (h .store));
+      rows = frameRows (h .rows) port failed (h4With t) (payloadWith t) (h .store);
+      store = frameStore (h .rows) port failed (h4With t) (payloadWith t) (h .store);
     }
+
+abbrev pub handed : ℕ → ℕ → Host → Host
+handed port t h = handedAs false port t h
+
+abbrev pub flagged : ℕ → ℕ → Host → Host
+flagged port t h = handedAs true port t h
 
 -- n frames of a port, the first with tag t
 abbrev pub fed : ℕ → ℕ → ℕ → Host → Host

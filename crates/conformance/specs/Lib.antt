@@ -1,7 +1,11 @@
+pub mod Answered
+pub mod ByRank
 pub mod Entries
 pub mod Examples
 pub mod Hosts
 pub mod Joining
 pub mod Refusals
 pub mod Rows
+pub mod SameBytes
+pub mod Worked
 pub mod Wrong

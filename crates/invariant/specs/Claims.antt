@@ -57,7 +57,12 @@ module _ (tag : ℕ) (bytes : List ℕ) (h4 : ℕ) where
   HandedBy x (Frame i failed h payload) j = Handed (x .rows) i failed h payload (x .store) j tag bytes h4
   HandedBy x (Fetch out report) j = ⊥
 
-  -- one of the calls handed it
-  abbrev pub HandedIn : Receiver → List ReceiverCall → ℕ → Type 0
-  HandedIn x [] j = ⊥
-  HandedIn x (c ∷ calls) j = HandedBy x c j ⊎ HandedIn (receiverStep x c) calls j
+  -- the port claims this very frame before the calls and after each of them
+  abbrev pub ClaimedOn : Receiver → List ReceiverCall → ℕ → Type 0
+  ClaimedOn x [] j = Claimed (x .rows) (x .store) j tag bytes h4
+  ClaimedOn x (c ∷ calls) j = Claimed (x .rows) (x .store) j tag bytes h4 × ClaimedOn (receiverStep x c) calls j
+
+  -- One of the calls handed it, and the port has claimed it ever since: no later call has put another frame with its tag in its place.
+  abbrev pub HandedLast : Receiver → List ReceiverCall → ℕ → Type 0
+  HandedLast x [] j = ⊥
+  HandedLast x (c ∷ calls) j = (HandedBy x c j × ClaimedOn (receiverStep x c) calls j) ⊎ HandedLast (receiverStep x c) calls j

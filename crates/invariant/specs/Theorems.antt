@@ -25,7 +25,7 @@ use Rattle.step.specs.Arrival.{flagOf}
 use Rattle.store.specs.Frames.{h4At, placeIn}
 use Rattle.store.specs.Marks.{firstMark}
 use Rattle.invariant.specs.Calls.{Receiver, ReceiverCall, portAfter, receiverRun, receiverStep, startedWith}
-use Rattle.invariant.specs.Claims.{Claimed, HandedBy, HandedIn, tagIn}
+use Rattle.invariant.specs.Claims.{Claimed, HandedBy, HandedLast, tagIn}
 use Rattle.invariant.specs.Kept.Group.{Kept}
 use Rattle.invariant.specs.Proofs.Calls as Calls
 use Rattle.invariant.specs.Proofs.Claimed as Claims
@@ -52,11 +52,11 @@ pub settles-always : (s : List (List ℕ)) → Kept s → (i : ℕ) (failed : Bo
     → settledBy (takenIn s i failed h .settles) (groupAt s .count) store (portAfter s i failed h) ≡ settledOf (groupAt s .count) store (portAfter s i failed h)
 settles-always s k i failed h b store = Settles.settles-always s k i failed h b store
 
--- every frame that a port claims was handed in one of the calls
+-- Every frame that a port claims was handed in one of the calls, and has been claimed after each call since: it is the last one handed with its tag since the port joined.
 pub claimed-handed : (tag : ℕ) (bytes : List ℕ) (h4 kind count P W : ℕ) (rows : List (List ℕ)) (store : List ℕ) → startAnswer kind count P W (length store) (length rows) ≡ 0
     → (calls : List ReceiverCall) (j : ℕ) → j < count
     → Claimed (receiverRun (startedWith kind count P W rows store) calls .rows) (receiverRun (startedWith kind count P W rows store) calls .store) j tag bytes h4
-    → HandedIn tag bytes h4 (startedWith kind count P W rows store) calls j
+    → HandedLast tag bytes h4 (startedWith kind count P W rows store) calls j
 claimed-handed = Claims.claimed-handed
 
 -- as a relation between two calls: it was claimed before, or is the one just handed

@@ -31,7 +31,7 @@ use Rattle.c_face.specs.Senders.{areBytes, isState, keptBytes, outside, 
 use Rattle.c_face.specs.Theorems.Round.{Whole, round}
 
 -- a C call: the sender's call, with what the C call asks of its numbers
-pub fits : SenderCall → Bool
+abbrev pub fits : SenderCall → Bool
 fits (OnTable (AddSlot i)) = true
 fits (OnTable (RemoveSlot i)) = true
 fits (OnTable (Report e mst ack)) = areBytes e mst ack
@@ -169,6 +169,10 @@ module _ (count first : ℕ) (state : List ℕ) (cs : List SenderCall) (done : s
   -- any C calls after a C start that was done: the state holds the sender's own run
   pub runs-own : senderOf (runC (startStateC count first state) cs) ≡ senderRun (beginOf 0 count first .sender) (meant cs)
   runs-own = run-keeps (startStateC count first state) (beginOf 0 count first .sender) cs start-keeps .is
+
+  -- in as many bytes
+  pub runs-sized : length (runC (startStateC count first state) cs) ≡ 397
+  runs-sized = run-keeps (startStateC count first state) (beginOf 0 count first .sender) cs start-keeps .sized
 
   -- and demand 2 holds of its table
   pub runs-demand2 : Demand2 (senderOf (runC (startStateC count first state) cs) .table)

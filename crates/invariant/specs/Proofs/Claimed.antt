@@ -55,7 +55,7 @@ use Rattle.store.specs.Laws.Places.{place-moved}
 use Rattle.store.specs.Laws.Stands.{Stands, stands-put, stands-same, stored-elsewhere}
 use Rattle.store.specs.Marks.{firstMark, markIn, passedMarks}
 use Rattle.invariant.specs.Calls.{Fetch, Frame, Receiver, ReceiverCall, portAfter, receiverRun, receiverStep, startedWith, storeAfter}
-use Rattle.invariant.specs.Claims.{Claimed, Claims, Handed, HandedBy, HandedIn, Part, tagIn}
+use Rattle.invariant.specs.Claims.{Claimed, ClaimedOn, Claims, Handed, HandedBy, HandedLast, Part, tagIn}
 
 -- The same content in two states: what is claimed in the second was claimed in the first.
 
@@ -293,27 +293,31 @@ module _ (tag : ℕ) (bytes : List ℕ) (h4 : ℕ) where
   step-claimed x (Frame i failed h payload) k j b c = frame-claimed (x .rows) k i failed h payload (x .store) j b c
   step-claimed x (Fetch out report) k j b c = inl (fetch-claimed (x .rows) k (x .store) out report j b c)
 
+  still : (x : Receiver) (calls : List ReceiverCall) (j : ℕ) → ClaimedOn tag bytes h4 x calls j → Claimed (x .rows) (x .store) j tag bytes h4
+  still x [] j c = c
+  still x (call ∷ calls) j c = c .0
+
   pub run-claimed : (x : Receiver) (calls : List ReceiverCall) → Kept (x .rows) → (j : ℕ) → j < groupAt (x .rows) .count
-      → Claimed (receiverRun x calls .rows) (receiverRun x calls .store) j tag bytes h4 → Claimed (x .rows) (x .store) j tag bytes h4 ⊎ HandedIn tag bytes h4 x calls j
+      → Claimed (receiverRun x calls .rows) (receiverRun x calls .store) j tag bytes h4 → ClaimedOn tag bytes h4 x calls j ⊎ HandedLast tag bytes h4 x calls j
   run-claimed x [] k j b c = inl c
   run-claimed x (call ∷ calls) k j b c =
       let y : Receiver = receiverStep x call in
-      let rest : Claimed (y .rows) (y .store) j tag bytes h4 ⊎ HandedIn tag bytes h4 y calls j = run-claimed y calls (step-kept x call k) j (rw (step-sizes x call k .count) b) c in
+      let rest : ClaimedOn tag bytes h4 y calls j ⊎ HandedLast tag bytes h4 y calls j = run-claimed y calls (step-kept x call k) j (rw (step-sizes x call k .count) b) c in
       ⊎-elim
-      (λ (p : Claimed (y .rows) (y .store) j tag bytes h4).
-      ⊎-elim (λ (q : Claimed (x .rows) (x .store) j tag bytes h4). inl q) (λ (q : HandedBy tag bytes h4 x call j). inr (inl q)) (step-claimed x call k j b p))
-      (λ (p : HandedIn tag bytes h4 y calls j). inr (inr p)) rest
+      (λ (p : ClaimedOn tag bytes h4 y calls j).
+      ⊎-elim (λ (q : Claimed (x .rows) (x .store) j tag bytes h4). inl (q, p)) (λ (q : HandedBy tag bytes h4 x call j). inr (inl (q, p))) (step-claimed x call k j b (still y calls j p)))
+      (λ (p : HandedLast tag bytes h4 y calls j). inr (inr p)) rest
 
-  -- after a start and any calls, every frame that a port claims was handed in one of them
+  -- After a start and any calls, every frame that a port claims was handed in one of them, and has been claimed after each call since: it is the last one handed with its tag since the port joined.
   pub claimed-handed : (kind count P W : ℕ) (rows : List (List ℕ)) (store : List ℕ) → startAnswer kind count P W (length store) (length rows) ≡ 0 → (calls : List ReceiverCall) (j : ℕ) → j < count
       → Claimed (receiverRun (startedWith kind count P W rows store) calls .rows) (receiverRun (startedWith kind count P W rows store) calls .store) j tag bytes h4
-      → HandedIn tag bytes h4 (startedWith kind count P W rows store) calls j
+      → HandedLast tag bytes h4 (startedWith kind count P W rows store) calls j
   claimed-handed kind count P W rows store e calls j b c =
       let x : Receiver = startedWith kind count P W rows store in
       let k : Kept (x .rows) = started-kept kind count P W (length store) rows e in
       let group : groupAt (startRows kind count P W (length store) rows) ≡ groupWith kind count P W = started-with kind count P W (length store) rows e in
-      ⊎-elim (λ (p : Claimed (x .rows) (x .store) j tag bytes h4). absurd (let w : flagOf (groupAt (startRows kind count P W (length store) rows) .begun) ≡ true = p .claims .begun in false≢true (rw group at w)))
-      (λ (p : HandedIn tag bytes h4 x calls j). p) (run-claimed x calls k j (rw group b) c)
+      ⊎-elim (λ (p : ClaimedOn tag bytes h4 x calls j). absurd (let w : flagOf (groupAt (startRows kind count P W (length store) rows) .begun) ≡ true = still x calls j p .claims .begun in false≢true (rw group at w)))
+      (λ (p : HandedLast tag bytes h4 x calls j). p) (run-claimed x calls k j (rw group b) c)
 
 -- What the first mark of a port says: all frames of the oldest epoch stand in the store.
 pub mark-claimed : (s : List (List ℕ)) (store : List ℕ) (j : ℕ) → flagOf (groupAt s .begun) ≡ true → firstMark (portAt s j .marks) ≡ true → (d : ℕ) → d < frames (groupAt s .kind)

@@ -1,7 +1,7 @@
 -- When RS-Ack turns over.
 use mathlib.Core.Path.{_≡_, refl, sym, ap, _∙_}
 use mathlib.Core.Bool.{Bool, true, false, cond, not, _&&_, _||_, Bool·beq, true≢false}
-use mathlib.Core.List.{List}
+use mathlib.Core.List.{List, [], _∷_}
 use mathlib.Core.Option.{Option, none, some, Option·some-injective, Option·none-ne-some, Option·some-ne-none}
 use Prim.Native.Nat.{ℕ, _-_, _≤_, _<_}
 use native.Mathlib.Omega.{arith}
@@ -10,7 +10,7 @@ use lib.ListN.{getD}
 use borrow.Author.Tests.{eq-eqb, eqb-true, eqb-false}
 use Rattle.counting.specs.Laws.Tests.{none-at, some-none}
 use Rattle.ground.specs.Table.{tabulate, tabulate-ext, getD-tabulate}
-use Rattle.ground.specs.Truth.{neither}
+use Rattle.ground.specs.Truth.{and-left, and-right, and-true, clash, fails, neither}
 use Rattle.reply.specs.declared.members.Port.{Port}
 use Rattle.reply.specs.Members.{noWord, portAt}
 use Rattle.reply.specs.Telling.{ackOf, hasChanged, hasLeft, isListed, turns}
@@ -37,9 +37,9 @@ none-turns ports n each = some-none n (λ i. hasChanged (portAt ports i) || hasL
 pub fresh-kept : (ports : List Port) (n : ℕ) → ((i : ℕ) → i < n → (portAt ports i .word ≡ noWord) × (portAt ports i .«told_word» ≡ noWord)) → turns ports n ≡ false
 fresh-kept ports n fresh = none-turns ports n (λ i b. rw (fresh i b .0, fresh i b .1))
 
--- 'the list of active and DNU ports with their numbers', port by port: the number of one that is in it
+-- 'the list of active and DNU ports with their numbers', port by port: the number of one whose word is NORM, EOS or DNU
 abbrev pub entry : ℕ → ℕ → Option ℕ
-entry word number = cond (isListed word) (some number) none
+entry word number = cond (eqb word 2 || eqb word 3 || eqb word 15) (some number) none
 
 abbrev pub listNow : List Port → ℕ → List (Option ℕ)
 listNow ports n = tabulate n (λ i. entry (portAt ports i .word) (portAt ports i .number))
@@ -69,21 +69,34 @@ changed p = go (isListed (p .word)) (isListed (p .«told_word»))
     go false true h = absurd (Option·none-ne-some (p .«told_number») h)
     go false false h = refl
 
--- the bit is kept exactly where the list is as it was and no ADD port has become IDLE
+-- a port whose word was ADD at the last report and is IDLE now
+abbrev pub Left : Port → Type 0
+Left p = (p .«told_word» ≡ 1) × (p .word ≡ 5)
+
+unleft : (p : Port) → hasLeft p ≡ false → Left p → ⊥
+unleft p e l = clash (hasLeft p) (and-true (eqb (p .«told_word») 1) (eqb (p .word) 5) (eq-eqb (p .«told_word») 1 (l .0)) (eq-eqb (p .word) 5 (l .1))) e
+
+stayed : (p : Port) → (Left p → ⊥) → hasLeft p ≡ false
+stayed p d =
+    fails (eqb (p .«told_word») 1 && eqb (p .word) 5)
+    (λ e. d (eqb-true (p .«told_word») 1 (and-left (eqb (p .«told_word») 1) (eqb (p .word) 5) e), eqb-true (p .word) 5 (and-right (eqb (p .«told_word») 1) (eqb (p .word) 5) e)))
+
+-- The bit is kept exactly where the list is as it was and no port whose word was ADD at the last report is IDLE now.
+
 pub kept-says : (ports : List Port) (n : ℕ) → turns ports n ≡ false
-    → (listNow ports n ≡ listTold ports n) × ((i : ℕ) → i < n → hasLeft (portAt ports i) ≡ false)
+    → (listNow ports n ≡ listTold ports n) × ((i : ℕ) → i < n → Left (portAt ports i) → ⊥)
 unfolding turns
 kept-says ports n e = (
   tabulate-ext n (λ i. entry (portAt ports i .word) (portAt ports i .number)) (λ i. entry (portAt ports i .«told_word») (portAt ports i .«told_number»))
       (λ i b. unchanged (portAt ports i) (neither (hasChanged (portAt ports i)) (hasLeft (portAt ports i)) (each i b) .0)),
-  λ i b. neither (hasChanged (portAt ports i)) (hasLeft (portAt ports i)) (each i b) .1,
+  λ i b. unleft (portAt ports i) (neither (hasChanged (portAt ports i)) (hasLeft (portAt ports i)) (each i b) .1),
 )
   where
     each : (i : ℕ) → i < n → (hasChanged (portAt ports i) || hasLeft (portAt ports i)) ≡ false
     each i b = none-at n (λ k. hasChanged (portAt ports k) || hasLeft (portAt ports k)) e i b
 
-pub says-kept : (ports : List Port) (n : ℕ) → listNow ports n ≡ listTold ports n → ((i : ℕ) → i < n → hasLeft (portAt ports i) ≡ false) → turns ports n ≡ false
-says-kept ports n same left = none-turns ports n (λ i b. rw (changed (portAt ports i) (at i b)) (left i b))
+pub says-kept : (ports : List Port) (n : ℕ) → listNow ports n ≡ listTold ports n → ((i : ℕ) → i < n → Left (portAt ports i) → ⊥) → turns ports n ≡ false
+says-kept ports n same left = none-turns ports n (λ i b. rw (changed (portAt ports i) (at i b)) (stayed (portAt ports i) (left i b)))
   where
     now : ℕ → Option ℕ
     now i = entry (portAt ports i .word) (portAt ports i .number)
@@ -94,3 +107,19 @@ says-kept ports n same left = none-turns ports n (λ i b. rw (changed (portAt po
     at : (i : ℕ) → i < n → now i ≡ told i
     at i b =
         sym (getD-tabulate n now i none b) ∙ ap (λ (l : List (Option ℕ)). getD l i none) same ∙ getD-tabulate n told i none b
+
+-- Runs of one port from the word and number of the last report to those of this one, and the bit from 0.
+
+abbrev from : ℕ → ℕ → ℕ → ℕ → ℕ
+from toldWord toldNumber word number =
+    ackOf (record { word = word; number = number; state = 0; «state_number» = 0; «told_word» = toldWord; «told_number» = toldNumber; readable = true } ∷ []) 1 0
+
+-- It turns from ADD to IDLE, and as the port enters the list, leaves it or has another number in it.
+pub turned : (from 1 7 5 255 ≡ 1) × (from 1 7 3 7 ≡ 1) × (from 3 0 5 255 ≡ 1) × (from 2 1 2 0 ≡ 1) × (from 15 1 15 0 ≡ 1)
+unfolding ackOf turns
+turned = (refl, refl, refl, refl, refl)
+
+-- It does not from ADD to ADD, also under another number, from IDLE to ADD, with no good packet yet, or among NORM, EOS and DNU under one number.
+pub kept : (from 1 7 1 7 ≡ 0) × (from 1 7 1 6 ≡ 0) × (from 5 255 1 7 ≡ 0) × (from 255 255 5 255 ≡ 0) × (from 2 1 15 1 ≡ 0) × (from 15 1 3 1 ≡ 0)
+unfolding ackOf turns
+kept = (refl, refl, refl, refl, refl, refl)

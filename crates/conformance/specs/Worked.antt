@@ -1,0 +1,254 @@
+-- What 01's rules give where its own examples are silent, in one table under one statement. Each figure is worked out apart from the definitions, by a second reading of 01's words.
+use mathlib.Core.Path.{refl}
+use mathlib.Core.Bool.{true, false}
+use mathlib.Core.List.{List, [], _∷_, _++_}
+use Prim.Native.Nat.{ℕ}
+use lib.ListN.{getD, length, replicate, take}
+use Rattle.packet.specs.Crc.{byteBits, crcOf, divisor, nibbleBits}
+use Rattle.packet.specs.Layout.{dataOf, h4Of, nibblesOf, sealedOf}
+use Rattle.packet.specs.Words.{assigned}
+use Rattle.packet.specs.Writing.{fitting, writeAnswer, writeBytes}
+use Rattle.ground.specs.Circle.{after as afterOn}
+use Rattle.packet.specs.Counts.{tagByHigh, tagByLow, counts, carriesLow, nibbleIn, nibblePlace, startsCount}
+use Rattle.packet.specs.Kinds.{distanceOf, endsEpoch, epochAfter, epochOf, epochs, epochsIn, firstTag, frames, idleNumber, lead, mstFails, mstFirst, mstNumbers, placeOf, startsEpoch, tagAfter, tagBefore, tags}
+use Rattle.phases.specs.Beginning.{begins, foremost, further, latest, noTag, ready, within}
+use Rattle.phases.specs.Due.{brought, owesNothing, silent}
+use Rattle.phases.specs.Passing.{notedBy, passedGroup, passedOf, passedPort, passedPorts, passedStep, ruledBy}
+use Rattle.phases.specs.Settling.{beginBy, begunOf, clearedPort, clearedPorts, clearedStep, gatherBy, settledOf, stopBy, stoppedOf}
+use Rattle.phases.specs.Sizes.{portsIn, storeFor}
+use Rattle.phases.specs.Sizes.{sized as sizedGroup}
+use Rattle.receiver.specs.Frame.{frameAnswer, frameRows, frameStore, gatheredBy, marksBy, portRows, refusalBy, settledBy, storeBy, takenRows, takenStore}
+use Rattle.receiver.specs.Lengths.{frameFits, rowsFit}
+use Rattle.receiver.specs.Starting.{freshPort, freshPorts, sizedAnswer, sizedRows, startAnswer, startFits, startRows}
+use Rattle.rows.specs.Group.{groupAt, groupOf, groupRow, putGroup}
+use Rattle.rows.specs.Member.{memberAt, memberOf, memberRow, putMember}
+use Rattle.rows.specs.Packets.{marksAt, packetsAt, putMarks, putPackets}
+use Rattle.rows.specs.Rows.{putRow, rowIn}
+use Rattle.rows.specs.Step.{putStep, stepAt, stepRow}
+use Rattle.rows.specs.Step.{stepOf as stepIn}
+use Rattle.sender.specs.Board.{boardOf, highest, noRow, rowOf, rowsOf}
+use Rattle.sender.specs.Commands.{addOf, addedTo, fallen, fallenIn, freshOf, idleSlot, lapseOf, removeOf, removedFrom, startOf}
+use Rattle.sender.specs.Reports.{actedOn, comesBefore, mstApplied, numberAfter, opensWait, renumbered, reportOf, slotAfter, numberApplied, turnOf, waited}
+use Rattle.sender.specs.Shown.{after, shown}
+use Rattle.sender.specs.Steps.{Call}
+use Rattle.sender.specs.Steps.Call.{AddSlot, Lapse, RemoveSlot, Report}
+use Rattle.sender.specs.Table.{holderOf, membersOf, sizeOf}
+use Rattle.step.specs.Arrival.{arrives, frameDropped, byStart, byWindow, countsOn, distanceIn, inStep, joining, keeps, outside, readable, takenOf}
+use Rattle.step.specs.Run.{begunRun, furtherRun, inStepAt, oneMore, runOn, secondRun}
+use Rattle.store.specs.Frames.{byteAt, h4At, packetIn, placeIn, ringOf, storedAt}
+use Rattle.store.specs.Marks.{cutByte, cutFrom, firstMark, markedAt, markedByte, passedByte, passedMarks}
+use Rattle.c_face.specs.Boards.{boardByte, boardBytesOf, rankByte, ranksBytesOf}
+use Rattle.judge.specs.declared.seen.Seen.{Seen}
+use Rattle.judge.specs.Order.{activeIn, orderOf, portOf}
+use Rattle.judge.specs.Order.{rankOf as rankSeen}
+use Rattle.judge.specs.Verdict.{doubtfulBy, eosAlone, eosWrong, exact, gidDiffers, heldBy, judgeOf, missing, repeats, takes}
+use Rattle.judge.specs.Verdict.{highest as highestSeen}
+use Rattle.receiver.specs.Fetch.{recordOf}
+use Rattle.receiver.specs.Shown.{portIn, portShown, portsOut, shownFit}
+use Rattle.reply.specs.declared.members.Port.{Port}
+use Rattle.reply.specs.Choosing.{claim, claims, holders, stateBy, statesOf}
+use Rattle.reply.specs.Telling.{mstFrom, mstOf, okHolds}
+use Rattle.sender.specs.declared.epochs.Sender.{Sender}
+use Rattle.sender.specs.Epochs.{beginOf, freshSender, packetBytes, packetFields, payloadBytes, ranksOf, senderRun, startEpochOf, startedEpoch, startedSender, xOf}
+use Rattle.sender.specs.Epochs.SenderCall.{StartEpoch}
+use Rattle.sender.specs.Ranks.{carriersIn, rankAt, rankOf, ranksIn}
+use Rattle.sender.specs.Theorems.Epochs.{onTable}
+use Rattle.conformance.specs.Hosts.{Host, begun, fed, flagged, opened}
+use Rattle.step.specs.Arrival.{flagged as flaggedStep}
+use Rattle.conformance.specs.Rows.{Row, Equal, equal-rows}
+
+-- The sender's table. A member added and made active, its wait lapsed:
+abbrev active : ℕ → List Call
+active slot = AddSlot slot ∷ Report 0 0x00 0 ∷ Lapse ∷ []
+
+abbrev two : List Call
+two = active 0 ++ active 1
+
+abbrev three : List Call
+three = two ++ active 2
+
+-- ten members active
+abbrev ten : List Call
+ten =
+    AddSlot 0
+    ∷ AddSlot 1
+    ∷ AddSlot 2
+    ∷ AddSlot 3
+    ∷ AddSlot 4
+    ∷ AddSlot 5
+    ∷ AddSlot 6
+    ∷ AddSlot 7
+    ∷ AddSlot 8
+    ∷ AddSlot 9
+    ∷ Report 0 0x00 0
+    ∷ Lapse
+    ∷ Report 1 0x00 0
+    ∷ Lapse
+    ∷ []
+
+-- number 0 is active; slots 3, 2, 1 and 0 ask under the numbers 1 to 4
+abbrev four : List Call
+four = active 4 ++ (AddSlot 3 ∷ AddSlot 2 ∷ AddSlot 1 ∷ AddSlot 0 ∷ [])
+
+-- Two members of three slots, and epochs started from number 200 on.
+abbrev sending : ℕ → Sender
+sending epochs = senderRun (beginOf 0 3 200 .sender) (onTable two ++ replicate epochs (StartEpoch 1 0xA5 1))
+
+-- A port with a whole good packet and all its frames: word, number and GID. One with no whole packet.
+abbrev saw : ℕ → ℕ → ℕ → Seen
+saw word number gid = record { whole = true; good = true; word = word; number = number; gid = gid; here = true }
+
+abbrev unseen : Seen
+unseen = record { whole = false; good = false; word = 0; number = 0; gid = 0; here = false }
+
+abbrev bad : Seen
+bad = record { whole = true; good = false; word = 0; number = 0; gid = 0; here = true }
+
+abbrev lacking : ℕ → ℕ → Seen
+lacking word number = record { whole = true; good = true; word = word; number = number; gid = 0; here = false }
+
+abbrev verdict : List Seen → ℕ
+verdict ports = judgeOf ports (length ports)
+
+-- X, and the ports by rank
+abbrev ranked : List Seen → List ℕ
+ranked ports = let o = orderOf ports (length ports) in o .x ∷ take (o .x) (o .ports)
+
+-- a port of the reply: word, number, and the state and number of the last report
+abbrev port : ℕ → ℕ → ℕ → ℕ → Port
+port word number state was = record { word = word; number = number; state = state; «state_number» = was; «told_word» = 255; «told_number» = 255; readable = true }
+
+abbrev gone : ℕ → ℕ → Port
+gone word number = record { word = word; number = number; state = 0; «state_number» = 255; «told_word» = 255; «told_number» = 255; readable = false }
+
+abbrev worked : List Port → List ℕ
+worked ports = take (length ports) (statesOf ports (length ports))
+
+abbrev oks : List Port
+oks = port 2 9 2 9 ∷ port 5 255 0 255 ∷ port 3 0 2 0 ∷ port 1 2 1 2 ∷ []
+
+-- one port in step, begun
+abbrev running : Host
+running = fed 0 48 0 (opened 1 16)
+
+pub table : List Row
+table =
+    record {
+      name = "a bit is remembered as a wait closes";
+      given = shown (after 3 (three ++ (RemoveSlot 2 ∷ Report 0 0x00 1 ∷ RemoveSlot 1 ∷ Report 0 0x00 1 ∷ [])));
+      said = 3 ∷ 0 ∷ 5 ∷ 255 ∷ 5 ∷ 255 ∷ 1 ∷ [];
+    }
+    ∷ record {
+      name = "a bit is remembered with no wait open";
+      given = shown (after 2 (two ++ (Report 0 0x00 1 ∷ RemoveSlot 1 ∷ Report 0 0x00 1 ∷ [])));
+      said = 3 ∷ 0 ∷ 5 ∷ 255 ∷ 1 ∷ [];
+    }
+    ∷ record { name = "MST is ignored while a wait is open"; given = shown (after 2 (two ++ (RemoveSlot 1 ∷ Report 0 0xFF 1 ∷ []))); said = 3 ∷ 0 ∷ 5 ∷ 255 ∷ 0 ∷ [] }
+    ∷ record { name = "RS-Ack is one bit"; given = shown (after 1 (active 0 ++ (RemoveSlot 0 ∷ Report 0 0x00 2 ∷ []))); said = 5 ∷ 255 ∷ 1 ∷ [] }
+    ∷ record {
+      name = "epoch 33 speaks of numbers 8 to 15, the first bit of the lowest";
+      given = shown (after 10 (ten ++ (Report 33 0x40 0 ∷ [])));
+      said = 2 ∷ 0 ∷ 2 ∷ 1 ∷ 2 ∷ 2 ∷ 2 ∷ 3 ∷ 2 ∷ 4 ∷ 2 ∷ 5 ∷ 2 ∷ 6 ∷ 2 ∷ 7 ∷ 3 ∷ 8 ∷ 15 ∷ 9 ∷ 0 ∷ [];
+    }
+    ∷ record { name = "DNU with OK becomes active, and no wait opens"; given = shown (after 2 (two ++ (Report 0 0x40 0 ∷ Report 0 0x00 0 ∷ []))); said = 2 ∷ 0 ∷ 3 ∷ 1 ∷ 0 ∷ [] }
+    ∷ record {
+      name = "added members take the next numbers, the ADD members left follow";
+      given = shown (after 5 (four ++ (Report 0 0x50 0 ∷ [])));
+      said = 3 ∷ 2 ∷ 1 ∷ 4 ∷ 2 ∷ 1 ∷ 1 ∷ 3 ∷ 2 ∷ 0 ∷ 1 ∷ [];
+    }
+    ∷ record { name = "an ADD member removed"; given = shown (after 2 (AddSlot 0 ∷ AddSlot 1 ∷ RemoveSlot 0 ∷ [])); said = 5 ∷ 255 ∷ 1 ∷ 0 ∷ 1 ∷ [] }
+    ∷ record { name = "a DNU member removed"; given = shown (after 3 (three ++ (Report 0 0x80 0 ∷ RemoveSlot 0 ∷ []))); said = 5 ∷ 255 ∷ 2 ∷ 0 ∷ 3 ∷ 1 ∷ 1 ∷ [] }
+    ∷ record {
+      name = "a sender's epochs 255, 0 and 1";
+      given =
+          senderRun (beginOf 0 1 255 .sender) (StartEpoch 0 0xFF 0 ∷ []) .epoch
+          ∷ senderRun (beginOf 0 1 255 .sender) (replicate 2 (StartEpoch 0 0xFF 0)) .epoch
+          ∷ senderRun (beginOf 0 1 255 .sender) (replicate 3 (StartEpoch 0 0xFF 0)) .epoch
+          ∷ [];
+      said = 255 ∷ 0 ∷ 1 ∷ [];
+    }
+    ∷ record {
+      name = "what slots 0 and 1 send in epoch 200";
+      given = packetBytes (sending 1) 0 (replicate 16 0) ++ packetBytes (sending 1) 1 (replicate 16 0);
+      said =
+          0xA8 ∷ 0x59 ∷ 0x1A ∷ 0x0B ∷ 0x0C ∷ 0x0D ∷ 0x0E ∷ 0x0F ∷ 0xC0 ∷ 0x81 ∷ 0x22 ∷ 0x13 ∷ 0x04 ∷ 0x05 ∷ 0x76 ∷ 0x87
+          ∷ 0xA8 ∷ 0x59 ∷ 0x1A ∷ 0x0B ∷ 0x0C ∷ 0x0D ∷ 0x0E ∷ 0x1F ∷ 0xC0 ∷ 0x81 ∷ 0x32 ∷ 0x13 ∷ 0x04 ∷ 0x05 ∷ 0x36 ∷ 0x97
+          ∷ [];
+    }
+    ∷ record { name = "X of the first epoch and of the second"; given = xOf (sending 1) ∷ xOf (sending 2) ∷ []; said = 0 ∷ 2 ∷ [] }
+    ∷ record {
+      name = "the payload of slots 0, 1 and 2, the last with no rank";
+      given =
+          payloadBytes (sending 2) 0 2 (10 ∷ 11 ∷ 12 ∷ 13 ∷ []) (9 ∷ 9 ∷ [])
+          ++ (payloadBytes (sending 2) 1 2 (10 ∷ 11 ∷ 12 ∷ 13 ∷ []) (9 ∷ 9 ∷ []) ++ payloadBytes (sending 2) 2 2 (10 ∷ 11 ∷ 12 ∷ 13 ∷ []) (9 ∷ 9 ∷ []));
+      said = 10 ∷ 12 ∷ 11 ∷ 13 ∷ 0 ∷ 0 ∷ [];
+    }
+    ∷ record { name = "the board's first bytes for C"; given = take 8 (boardBytesOf (boardOf (after 3 (three ++ (RemoveSlot 1 ∷ []))))); said = 3 ∷ 1 ∷ 2 ∷ 0 ∷ 5 ∷ 255 ∷ 3 ∷ 1 ∷ [] }
+    ∷ record { name = "the ranks' first bytes for C"; given = take 7 (ranksBytesOf (ranksOf (sending 2))); said = 3 ∷ 1 ∷ 201 ∷ 2 ∷ 0 ∷ 1 ∷ 255 ∷ [] }
+    ∷ record { name = "32 frames make the step, 31 don't"; given = fed 0 31 0 (opened 1 16) .answer ∷ fed 0 32 0 (opened 1 16) .answer ∷ []; said = 12 ∷ 0 ∷ [] }
+    ∷ record { name = "the count starts at MFI1 0"; given = fed 0 42 5 (opened 1 16) .answer ∷ fed 0 43 5 (opened 1 16) .answer ∷ []; said = 12 ∷ 0 ∷ [] }
+    ∷ record {
+      name = "a second MFI2 that is not the first plus one loses the count, and MFI1 0 starts the next";
+      given = fed 0 47 32 (fed 0 16 0 (opened 1 16)) .answer ∷ fed 0 48 32 (fed 0 16 0 (opened 1 16)) .answer ∷ [];
+      said = 12 ∷ 0 ∷ [];
+    }
+    ∷ record {
+      name = "a frame that breaks the count can be the first of a new 32";
+      given = fed 0 31 256 (fed 0 16 0 (opened 1 16)) .answer ∷ fed 0 32 256 (fed 0 16 0 (opened 1 16)) .answer ∷ [];
+      said = 12 ∷ 0 ∷ [];
+    }
+    ∷ record {
+      name = "a flagged frame starts no new count";
+      given = flagged 0 48 running .answer ∷ fed 0 46 49 (flagged 0 48 running) .answer ∷ fed 0 47 49 (flagged 0 48 running) .answer ∷ [];
+      said = 10 ∷ 12 ∷ 0 ∷ [];
+    }
+    ∷ record { name = "a port with no frame keeps receiving from beginning"; given = begun (fed 0 64 0 (opened 2 16)); said = 0 ∷ 0 ∷ [] }
+    ∷ record { name = "a port flagged failed does not"; given = begun (flagged 1 0 (fed 0 64 0 (opened 2 16))); said = 10 ∷ 1 ∷ [] }
+    ∷ record { name = "with all ports flagged nothing begins"; given = begun (flagged 0 0 (opened 1 16)); said = 10 ∷ 0 ∷ [] }
+    ∷ record { name = "with no port readable any more receiving stops"; given = begun running ++ begun (flagged 0 48 running); said = 0 ∷ 1 ∷ 10 ∷ 0 ∷ [] }
+    ∷ record { name = "NORM 0, EOS 1, DNU 2 are sure"; given = verdict (saw 2 0 1 ∷ saw 3 1 1 ∷ saw 15 2 1 ∷ []) ∷ []; said = 3 ∷ [] }
+    ∷ record { name = "ranks go by number among active ports"; given = ranked (saw 3 2 0 ∷ saw 2 0 0 ∷ saw 15 1 0 ∷ []); said = 2 ∷ 1 ∷ 0 ∷ [] }
+    ∷ record { name = "a refused packet holds"; given = verdict (saw 3 0 0 ∷ bad ∷ []) ∷ []; said = 1 ∷ [] }
+    ∷ record { name = "an active port that lacks a frame holds, a DNU port does not"; given = verdict (lacking 3 0 ∷ []) ∷ verdict (saw 3 0 0 ∷ lacking 15 1 ∷ []) ∷ []; said = 1 ∷ 3 ∷ [] }
+    ∷ record { name = "a number twice holds, of an ADD port it does not"; given = verdict (saw 3 0 0 ∷ saw 15 0 0 ∷ []) ∷ verdict (saw 3 0 0 ∷ saw 1 0 0 ∷ []) ∷ []; said = 1 ∷ 3 ∷ [] }
+    ∷ record { name = "another GID holds, of an IDLE port it does not"; given = verdict (saw 3 0 0 ∷ saw 1 1 1 ∷ []) ∷ verdict (saw 3 0 0 ∷ saw 5 255 1 ∷ []) ∷ []; said = 1 ∷ 3 ∷ [] }
+    ∷ record {
+      name = "EOS below the highest, twice or not at all holds";
+      given = verdict (saw 3 0 0 ∷ saw 2 1 0 ∷ []) ∷ verdict (saw 3 0 0 ∷ saw 3 1 0 ∷ []) ∷ verdict (saw 2 0 0 ∷ saw 2 1 0 ∷ []) ∷ [];
+      said = 1 ∷ 1 ∷ 1 ∷ [];
+    }
+    ∷ record {
+      name = "with a packet missing no EOS is doubtful, a wrong one holds";
+      given = verdict (saw 2 0 0 ∷ unseen ∷ []) ∷ verdict (saw 3 0 0 ∷ saw 2 1 0 ∷ unseen ∷ []) ∷ [];
+      said = 2 ∷ 1 ∷ [];
+    }
+    ∷ record { name = "DNU above EOS is sure"; given = verdict (saw 3 0 0 ∷ saw 15 1 0 ∷ []) ∷ []; said = 3 ∷ [] }
+    ∷ record { name = "a gap in the numbers or a packet missing is doubtful"; given = verdict (saw 2 0 0 ∷ saw 3 2 0 ∷ []) ∷ verdict (saw 3 0 0 ∷ unseen ∷ []) ∷ []; said = 2 ∷ 2 ∷ [] }
+    ∷ record { name = "all IDLE is sure"; given = verdict (saw 5 255 0 ∷ saw 5 255 0 ∷ []) ∷ []; said = 3 ∷ [] }
+    ∷ record {
+      name = "IDLE, OK and FAIL";
+      given = worked (port 255 255 0 255 ∷ port 5 255 0 255 ∷ port 1 3 0 255 ∷ port 1 64 0 255 ∷ port 2 63 0 255 ∷ gone 2 5 ∷ port 15 3 0 255 ∷ []);
+      said = 0 ∷ 0 ∷ 2 ∷ 1 ∷ 2 ∷ 1 ∷ 1 ∷ [];
+    }
+    ∷ record { name = "OK under the same number chooses first, under another it does not"; given = worked (port 2 4 0 255 ∷ port 3 4 2 4 ∷ port 15 4 2 9 ∷ []); said = 1 ∷ 2 ∷ 1 ∷ [] }
+    ∷ record {
+      name = "MST in epochs 0, 1, 33 and 8 with 0 and 9 OK";
+      given = mstOf 0 oks 4 0 ∷ mstOf 0 oks 4 1 ∷ mstOf 0 oks 4 33 ∷ mstOf 0 oks 4 8 ∷ [];
+      said = 0x7F ∷ 0xBF ∷ 0xBF ∷ 0xFF ∷ [];
+    }
+    ∷ record {
+      name = "what is shown of a port";
+      given =
+          getD (portsOut (running .rows) (replicate 8 9 ∷ [])) 0 [] ++ getD (portsOut (flagged 0 48 running .rows) (replicate 8 9 ∷ [])) 0 [];
+      said = 0 ∷ 255 ∷ 1 ∷ 1 ∷ 1 ∷ 0 ∷ 255 ∷ 0 ∷ 0 ∷ 255 ∷ 0 ∷ 0 ∷ 0 ∷ 1 ∷ 255 ∷ 0 ∷ [];
+    }
+    ∷ record {
+      name = "the record of a report";
+      given = recordOf (record { mark = 3; epoch = 200; x = 2; bytes = 24192 });
+      said = 3 ∷ 200 ∷ 2 ∷ 0 ∷ 0 ∷ 0 ∷ 0x5E ∷ 0x80 ∷ [];
+    }
+    ∷ []
+
+pub worked-out : Equal table
+unfolding table recordOf portIn portShown portsOut shownFit nibblesOf sealedOf dataOf crcOf divisor byteBits nibbleBits writeAnswer writeBytes fitting assigned h4Of boardOf rowsOf rowOf noRow highest startOf freshOf idleSlot idleNumber addOf addedTo removeOf removedFrom fallen fallenIn lapseOf reportOf waited actedOn mstApplied numberApplied holderOf renumbered slotAfter numberAfter comesBefore turnOf opensWait sizeOf membersOf mstFails mstFirst mstNumbers afterOn nibbleIn nibblePlace startsCount tagByHigh carriesLow tagByLow counts endsEpoch epochsIn frames tagAfter tagBefore tags lead epochs epochAfter epochOf distanceOf placeOf startsEpoch firstTag settledOf clearedStep clearedPort clearedPorts stoppedOf stopBy begunOf beginBy gatherBy portsIn sizedGroup storeFor ready latest noTag further foremost within begins owesNothing brought silent ruledBy passedStep notedBy passedPort passedPorts passedGroup passedOf frameFits rowsFit frameAnswer frameRows frameStore gatheredBy marksBy portRows storeBy settledBy takenRows takenStore refusalBy startAnswer startRows startFits sizedAnswer sizedRows freshPort freshPorts groupAt groupOf groupRow putGroup rowIn putRow marksAt packetsAt putMarks putPackets memberAt putMember memberOf memberRow putStep stepAt stepIn stepRow takenOf inStep readable distanceIn flaggedStep countsOn frameDropped outside keeps joining byWindow byStart arrives inStepAt begunRun secondRun oneMore furtherRun runOn placeIn storedAt ringOf byteAt h4At packetIn cutFrom markedAt firstMark markedByte cutByte passedByte passedMarks boardByte boardBytesOf rankByte ranksBytesOf activeIn orderOf portOf rankSeen doubtfulBy eosAlone eosWrong exact gidDiffers heldBy judgeOf missing repeats takes highestSeen claim claims holders stateBy statesOf mstFrom mstOf okHolds beginOf freshSender packetBytes packetFields payloadBytes ranksOf startEpochOf startedEpoch startedSender carriersIn rankAt rankOf ranksIn
+worked-out = equal-rows table refl
