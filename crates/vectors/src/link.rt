@@ -59,23 +59,6 @@ pub(crate) fn frame(
     )
 }
 
-// So many frames of a port that sends IDLE, from a tag on: the last one's answer.
-pub(crate) fn run(port: u8, from: u16, count: u16, state: &mut [[u8; 16]], store: &mut [u8]) -> u8 {
-    let idle = Sent {
-        word: Word::IDLE,
-        number: 255,
-        damaged: false,
-        failed: false,
-    };
-    let mut answer = 0;
-    let mut i: u16 = 0;
-    while i < count {
-        answer = frame(port, idle, tag_after(from, i), state, store);
-        i += 1;
-    }
-    answer
-}
-
 pub(crate) fn tag_after(tag: u16, by: u16) -> u16 {
     (tag % 4096 + by % 4096) % 4096
 }

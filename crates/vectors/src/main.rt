@@ -1,30 +1,17 @@
-// Runs the packet, payload and receiver libraries on 01's examples, on the rows of data/packets.txt, on damaged packets and on all words, lengths and fields, and
-// prints one line for each group: words first, fields parted by tabs. The file `stdout` has what must be printed. It was worked out from 01
-// and the rows by other code than this, with the CRC as one division of whole numbers; the lines of columns are by source document 002's rule.
-mod bounds;
+// Runs the packet, payload and receiver libraries on published vectors: the packets of data/packets.txt, written and read; the columns of
+// source document 002; the receiver's states and reply through the histories of data/receiver.txt. Prints one line for each: words first,
+// fields parted by tabs. The file `stdout` has what must be printed. It was worked out from 01 and the rows by other code than this, with the
+// CRC as one division of whole numbers; the lines of columns are by 002's rule.
 mod columns;
-mod damage;
-mod examples;
 mod given;
-mod groups;
-mod limits;
 mod link;
 mod packets;
 mod received;
 mod show;
-mod sums;
-mod tags;
 mod text;
-mod words;
 
 fn main() {
-    examples::run();
     packets::run();
-    damage::run();
-    words::run();
-    limits::run();
-    tags::run();
     columns::run();
     received::run();
-    bounds::run();
 }
