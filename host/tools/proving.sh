@@ -63,9 +63,9 @@ jobs() {
 # about SECONDS: in words
 about() { if [ "$1" -lt 90 ]; then echo "about $((($1 + 9) / 10 * 10)) seconds"; else echo "about $((($1 + 30) / 60)) minutes"; fi; }
 
-# At first the speed is a guess, some 2,500 bytes a second and processor; then it is what was measured.
+# At first the speed is a guess, some 2,500 bytes a second and processor; from a tenth of the work on it is what was measured.
 time_left() {
-    if [ "$weight_done" -gt 0 ] && [ "$(($(date +%s) - begun))" -gt 20 ]; then
+    if [ "$((10 * weight_done))" -gt "$weight_all" ]; then
         about $(((weight_all - weight_done) * ($(date +%s) - begun) / weight_done))
     else
         about $(((weight_all - weight_done) / 2500 / $(nproc 2>/dev/null || echo 1)))
