@@ -10,12 +10,6 @@ has_toolchain() {
 # The file that says which toolchain it is; none where it is not here, since then nothing can be proved again.
 kit_id() { command -v rt >/dev/null && echo "$(dirname "$(dirname "$(rt doc)")")/KIT-ID"; }
 
-# is_current FILE: whether it is there and older than no crate, nor than the toolchain.
-is_current() {
-    # shellcheck disable=SC2046
-    [ -f "$1" ] && [ -z "$(find crates crates.txt $(kit_id) -newer "$1" | head -n 1)" ]
-}
-
 # levels CRATE: the crates that it depends on, each behind the number of its level. Those of one level need nothing of
 # each other.
 levels() {
@@ -32,6 +26,13 @@ levels() {
         { sub(/#.*/, "") }
         /:/ { name = rest = $0; sub(/[ \t]*:.*/, "", name); sub(/^[^:]*:/, "", rest); deps[name] = rest }
         END { level(wanted); for (n in known) if (n != wanted) print known[n], n }' crates.txt | sort -k 1,1n -k 2
+}
+
+# is_current FILE CRATE: whether it is there and older neither than the crate that it is made of and those below, nor than the
+# toolchain.
+is_current() {
+    # shellcheck disable=SC2046
+    [ -f "$1" ] && [ -z "$(find "crates/$2" $(levels "$2" | sed 's,.* ,crates/,') $(kit_id) -newer "$1" | head -n 1)" ]
 }
 
 # is_proved CRATE: whether it seems to be proved as it is. rt itself looks more closely, and proves it where it is not.
