@@ -33,11 +33,13 @@ build_choices() {
         -o target/host/choices
 }
 
-# build_c NAME SOURCE: a C program over the archive.
+# build_c NAME SOURCE WORD..: a C program over the archive.
 build_c() {
+    c_name=$1 c_source=$2
+    shift 2
     mkdir -p target/host
     # shellcheck disable=SC2086
-    $archive_compiler -std=c99 $strict -O2 "$2" "$archive" -o "target/host/$1"
+    $archive_compiler -std=c99 $strict -O2 "$@" "$c_source" "$archive" -o "target/host/$c_name"
 }
 
 # build_link: the example link.
