@@ -87,3 +87,34 @@ def module_path(file, src):
     if parts[-1] in ("lib", "main", "mod"):
         parts.pop()
     return [src.parent.name] + parts
+
+
+def parted(clause):
+    """The name of the result that `λ .. r. body` binds last, and the parts of the body that × joins."""
+    bound = re.match(r"\s*λ((?:\s*(?:\([^()]*\)|[^\s().]+))+)\s*\.(.*)", clause, re.S)
+    if not bound:
+        return "_", []
+    last = re.findall(r"\(\s*([^\s:()]+)[^()]*\)|([^\s()]+)", bound[1])[-1]
+    body = re.sub(r"^\s*(do\b)?\s*⌜|⌝\s*$", "", bound[2]).strip()
+    parts, depth, start = [], 0, 0
+    for i, sign in enumerate(body):
+        depth += (sign in "({⟦") - (sign in ")}⟧")
+        if sign == "×" and depth == 0:
+            parts.append(body[start:i])
+            start = i + 1
+    parts.append(body[start:])
+    return last[0] or last[1], [unwrapped(p.strip()) for p in parts]
+
+
+def unwrapped(part):
+    """The part without a pair of brackets round the whole of it."""
+    while part.startswith("(") and closing(part, 0) == len(part) - 1:
+        part = part[1:-1].strip()
+    return part
+
+
+def lent(parameters):
+    """The names of the parameters that are lent to be changed."""
+    if re.search(r"&\s*('\w+\s+)?mut\s+self\b", parameters):
+        yield "self"
+    yield from (m[1] for m in re.finditer(r"(\w+)\s*:\s*&\s*(?:'\w+\s+)?mut\b", parameters))

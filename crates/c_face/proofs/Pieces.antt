@@ -14,7 +14,7 @@ module _ (s : Sender) where
   unfolding byteAt
   at-slots j h = rw (lt-ltb j 128 h) refl
 
-  at-going : (j : ℕ) → j < 128 → rowsByte (s .going .rows) j ≡ byteAt s (128 + j)
+  at-going : (j : ℕ) → j < 128 → rowsByte (s .outgoing .rows) j ≡ byteAt s (128 + j)
   unfolding byteAt
   at-going j h =
       let e : 128 + j - 128 ≡ j = omega arith in rw (le-ltb (128 + j) 128 (omega arith), lt-ltb (128 + j) 256 (omega arith), e) refl
@@ -32,12 +32,12 @@ module _ (s : Sender) where
       rw (le-ltb (384 + j) 128 (omega arith), le-ltb (384 + j) 256 (omega arith), le-ltb (384 + j) 384 (omega arith), e) refl
 
   pub put-whole : (fields d a b c out : List ℕ) → length d ≡ 397 → fields ≡ fieldBytes s → a ≡ fillAt 0 128 (slotsByte (s .table .slots)) d
-      → b ≡ fillAt 128 128 (rowsByte (s .going .rows)) a → c ≡ fillAt 256 128 (rowsByte (s .ruling .rows)) b
+      → b ≡ fillAt 128 128 (rowsByte (s .outgoing .rows)) a → c ≡ fillAt 256 128 (rowsByte (s .ruling .rows)) b
       → out ≡ fillAt 384 (length fields) (λ k. getD fields k 0) c → out ≡ bytesOf s
   unfolding bytesOf
   put-whole fields d a b c out l ef ea eb ec eo =
       let A : Filling 0 128 (byteAt s) d a = filling 0 128 (byteAt s) d a (ea ∙ fillAt-ext 0 128 (slotsByte (s .table .slots)) (byteAt s) d at-slots) in
-      let B : Filling 0 256 (byteAt s) d b = filling-piece 128 (rowsByte (s .going .rows)) b A eb at-going in
+      let B : Filling 0 256 (byteAt s) d b = filling-piece 128 (rowsByte (s .outgoing .rows)) b A eb at-going in
       let C : Filling 0 384 (byteAt s) d c = filling-piece 128 (rowsByte (s .ruling .rows)) c B ec at-ruling in
       let e : out ≡ fillAt 384 13 (λ k. getD (fieldBytes s) k 0) c = eo ∙ ap (λ (f : List ℕ). fillAt 384 (length f) (λ k. getD f k 0) c) ef in
       let D : Filling 0 397 (byteAt s) d out = filling-piece 13 (λ k. getD (fieldBytes s) k 0) out C e (λ j h. at-fields j) in

@@ -8,19 +8,19 @@ use lib.ListN.{length}
 use borrow.Author.Tests.{eq-eqb, ne-eqb, lt-ltb, le-ltb, ltb-true}
 use Rattle.ground.specs.Truth.{and-left, and-right}
 use Rattle.sender.specs.declared.epochs.Sender.{Sender}
-use Rattle.sender.specs.declared.epochs.SenderStep.{SenderStep}
+use Rattle.sender.specs.declared.epochs.SenderOutcome.{SenderOutcome}
 use Rattle.sender.specs.declared.table.Answer.{Answer}
 use Rattle.sender.specs.Epochs.{SenderCall, beginOf, packetAnswer, packetBytes, payloadAnswer, payloadBytes, senderStepOf}
 use Rattle.sender.specs.Table.{answerNumber}
 use Rattle.c_face.specs.Keeping.{bytesOf, senderOf}
-use Rattle.c_face.specs.Senders.{areThree, keptBytes, outside, packetAnswerC, packetBytesC, payloadAnswerC, payloadBytesC, startAnswerC, startStateC, stepAnswerC, stepStateC}
+use Rattle.c_face.specs.Senders.{areBytes, keptBytes, outside, packetAnswerC, packetBytesC, payloadAnswerC, payloadBytesC, startAnswerC, startStateC, stepAnswerC, stepStateC}
 
 pub record Three (a b c : ℕ) : Type 0 where
   pub first : a < 256
   pub second : b < 256
   pub third : c < 256
 
-pub three-said : (a b c : ℕ) → areThree a b c ≡ true → Three a b c
+pub three-said : (a b c : ℕ) → areBytes a b c ≡ true → Three a b c
 three-said a b c t =
     let u = and-left (ltb a 256 && ltb b 256) (ltb c 256) t in
     record {
@@ -29,7 +29,7 @@ three-said a b c t =
       third = ltb-true c 256 (and-right (ltb a 256 && ltb b 256) (ltb c 256) t);
     }
 
-module _ (step : SenderStep) (old : List ℕ) (n : ℕ) (e : n ≡ answerNumber (step .answer)) where
+module _ (step : SenderOutcome) (old : List ℕ) (n : ℕ) (e : n ≡ answerNumber (step .answer)) where
   pub keep-refused : (n ≡ 0 → ⊥) → (n ≡ answerNumber (step .answer)) × (old ≡ keptBytes step old)
   keep-refused d = (e, rw (ne-eqb (answerNumber (step .answer)) 0 (λ z. d (e ∙ z))) refl)
 
@@ -45,7 +45,7 @@ module _ (state : List ℕ) (fits : Bool) (call : SenderCall) where
   unfolding stepAnswerC stepStateC
   step-unfit l f = rw (eq-eqb (length state) 397 l, f) (refl, refl)
 
-  pub step-kept : (s : Sender) (step : SenderStep) (r : ℕ) (out : List ℕ) → length state ≡ 397 → fits ≡ true → s ≡ senderOf state
+  pub step-kept : (s : Sender) (step : SenderOutcome) (r : ℕ) (out : List ℕ) → length state ≡ 397 → fits ≡ true → s ≡ senderOf state
       → step ≡ senderStepOf s call → (r ≡ answerNumber (step .answer)) × (out ≡ keptBytes step state)
       → (r ≡ stepAnswerC fits call state) × (out ≡ stepStateC fits call state)
   unfolding stepAnswerC stepStateC

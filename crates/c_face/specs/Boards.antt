@@ -41,7 +41,7 @@ abbrev pub boardBytesC : List ℕ → List ℕ → List ℕ
 boardBytesC state out = shownBytes 130 state (boardBytesOf (boardOf (senderOf state .table))) out
 
 abbrev pub goingBytesC : List ℕ → List ℕ → List ℕ
-goingBytesC state out = shownBytes 130 state (boardBytesOf (senderOf state .going)) out
+goingBytesC state out = shownBytes 130 state (boardBytesOf (senderOf state .outgoing)) out
 
 abbrev pub ranksBytesC : List ℕ → List ℕ → List ℕ
 ranksBytesC state out = shownBytes 68 state (ranksBytesOf (ranksOf (senderOf state))) out

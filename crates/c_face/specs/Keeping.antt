@@ -66,7 +66,7 @@ unfoldable pub senderOf : List ℕ → Sender
 senderOf bytes =
     record {
       table = tableIn bytes;
-      going = boardIn bytes 128 (byteIn bytes 388) (byteIn bytes 389);
+      outgoing = boardIn bytes 128 (byteIn bytes 388) (byteIn bytes 389);
       ruling = boardIn bytes 256 (byteIn bytes 390) (byteIn bytes 391);
       epoch = byteIn bytes 392;
       begun = flagOf (byteIn bytes 393);
@@ -95,8 +95,8 @@ fieldBytes s =
     ∷ flagByte (s .table .wait)
     ∷ s .table .bit
     ∷ s .table .kind
-    ∷ s .going .count
-    ∷ flagByte (s .going .wait)
+    ∷ s .outgoing .count
+    ∷ flagByte (s .outgoing .wait)
     ∷ s .ruling .count
     ∷ flagByte (s .ruling .wait)
     ∷ s .epoch
@@ -109,7 +109,7 @@ fieldBytes s =
 unfoldable pub byteAt : Sender → ℕ → ℕ
 byteAt s k =
     cond (ltb k 128) (slotsByte (s .table .slots) k)
-    (cond (ltb k 256) (rowsByte (s .going .rows) (k - 128)) (cond (ltb k 384) (rowsByte (s .ruling .rows) (k - 256)) (getD (fieldBytes s) (k - 384) 0)))
+    (cond (ltb k 256) (rowsByte (s .outgoing .rows) (k - 128)) (cond (ltb k 384) (rowsByte (s .ruling .rows) (k - 256)) (getD (fieldBytes s) (k - 384) 0)))
 
 unfoldable pub bytesOf : Sender → List ℕ
 bytesOf s = tabulate 397 (byteAt s)

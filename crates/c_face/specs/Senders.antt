@@ -5,7 +5,7 @@ use mathlib.Core.List.{List}
 use Prim.Native.Nat.{ℕ}
 use lib.Dec.{eqb, ltb}
 use lib.ListN.{length}
-use Rattle.sender.specs.declared.epochs.SenderStep.{SenderStep}
+use Rattle.sender.specs.declared.epochs.SenderOutcome.{SenderOutcome}
 use Rattle.sender.specs.Epochs.{SenderCall, beginOf, packetAnswer, packetBytes, payloadAnswer, payloadBytes, senderStepOf}
 use Rattle.sender.specs.Table.{answerNumber}
 use Rattle.c_face.specs.Keeping.{bytesOf, senderOf, stateBytes}
@@ -13,7 +13,7 @@ use Rattle.c_face.specs.Keeping.{bytesOf, senderOf, stateBytes}
 abbrev pub isState : List ℕ → Bool
 isState state = eqb (length state) stateBytes
 
--- '4: group count out of range'
+-- 4: 'group count .. out of range'
 abbrev pub outside : ℕ → Bool
 outside count = eqb count 0 || ltb 64 count
 
@@ -21,7 +21,7 @@ outside count = eqb count 0 || ltb 64 count
 unfoldable pub startAnswerC : ℕ → ℕ → List ℕ → ℕ
 startAnswerC count first state = cond (outside count) 4 (cond (isState state) (cond (ltb 255 first) 8 0) 9)
 
--- '4: an empty group', where there is room for one. Its first epoch has the number 0, whatever was asked for, so that a number above 255 beside it needs no second rule.
+-- 4 returns 'an empty group', where there is room for one. Its first epoch has the number 0, whatever was asked for, so that a number above 255 beside it needs no second rule.
 unfoldable pub startStateC : ℕ → ℕ → List ℕ → List ℕ
 startStateC count first state =
     cond (isState state) (cond (outside count) (bytesOf (beginOf 0 count 0 .sender)) (cond (ltb 255 first) state (bytesOf (beginOf 0 count first .sender)))) state
@@ -31,14 +31,14 @@ unfoldable pub stepAnswerC : Bool → SenderCall → List ℕ → ℕ
 stepAnswerC fits call state = cond (isState state) (cond fits (answerNumber (senderStepOf (senderOf state) call .answer)) 8) 9
 
 -- a refusal encodes nothing anew
-abbrev pub keptBytes : SenderStep → List ℕ → List ℕ
+abbrev pub keptBytes : SenderOutcome → List ℕ → List ℕ
 keptBytes step state = cond (eqb (answerNumber (step .answer)) 0) (bytesOf (step .sender)) state
 
 unfoldable pub stepStateC : Bool → SenderCall → List ℕ → List ℕ
 stepStateC fits call state = cond (isState state) (cond fits (keptBytes (senderStepOf (senderOf state) call) state) state) state
 
-abbrev pub areThree : ℕ → ℕ → ℕ → Bool
-areThree a b c = ltb a 256 && ltb b 256 && ltb c 256
+abbrev pub areBytes : ℕ → ℕ → ℕ → Bool
+areBytes a b c = ltb a 256 && ltb b 256 && ltb c 256
 
 -- What a slot sends.
 unfoldable pub packetAnswerC : List ℕ → ℕ → List ℕ → ℕ

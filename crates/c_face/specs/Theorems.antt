@@ -1,4 +1,4 @@
 -- What the C calls are, proved on the definitions.
-pub mod Own
+pub mod CratesOwn
 pub mod Round
 pub mod Runs

@@ -68,8 +68,8 @@ pub extern "C" fn levelspruce_sender_board_going(state: &[u8], board: &mut [u8])
         return 9;
     }
     let sender = keeping::sender_of(state);
-    let going = sender.going;
-    put_board(going, board);
+    let outgoing = sender.outgoing;
+    put_board(outgoing, board);
     0
 }
 

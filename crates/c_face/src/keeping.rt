@@ -140,12 +140,12 @@ pub(crate) fn sender_of(state: &[u8]) -> Sender
     ensures { λ r. ⌜ r ≡ senderOf (now (state .entry)) ⌝ }
 {
     let table = table_in(state);
-    let going = board_in(state, 128, state[388], state[389]);
+    let outgoing = board_in(state, 128, state[388], state[389]);
     let ruling = board_in(state, 256, state[390], state[391]);
     let begun = flag_of(state[393]);
     Sender {
         table,
-        going,
+        outgoing,
         ruling,
         epoch: state[392],
         begun,
@@ -209,15 +209,15 @@ fn field_bytes(sender: Sender) -> [u8; 13]
     ensures { λ r. ⌜ r ≡ fieldBytes sender ⌝ }
 {
     let table = sender.table;
-    let going = sender.going;
+    let outgoing = sender.outgoing;
     let ruling = sender.ruling;
     [
         table.count,
         flag_byte(table.wait),
         table.bit,
         table.kind,
-        going.count,
-        flag_byte(going.wait),
+        outgoing.count,
+        flag_byte(outgoing.wait),
         ruling.count,
         flag_byte(ruling.wait),
         sender.epoch,
@@ -233,10 +233,10 @@ pub(crate) fn put_sender(sender: Sender, state: &mut [u8])
     ensures { λ r. ⌜ now (state .exit) ≡ bytesOf sender ⌝ }
 {
     let table = sender.table;
-    let going = sender.going;
+    let outgoing = sender.outgoing;
     let ruling = sender.ruling;
     let slots = table.slots;
-    let now = going.rows;
+    let now = outgoing.rows;
     let before = ruling.rows;
     let fields = field_bytes(sender);
     put_slots(slots, state);

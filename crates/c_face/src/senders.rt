@@ -3,7 +3,7 @@ use crate::keeping;
 use packet::kinds;
 use sender::Answer;
 use sender::Sender;
-use sender::SenderStep;
+use sender::SenderOutcome;
 ghost use mathlib.Core.Path.{_≡_};
 ghost use mathlib.Core.Bool.{true};
 ghost use lib.ListN.{length};
@@ -12,7 +12,7 @@ ghost use Rattle.sender.specs.Epochs.SenderCall.{OnTable, StartEpoch};
 ghost use Rattle.sender.specs.Steps.Call.{AddSlot, RemoveSlot, Report, Lapse};
 ghost use Rattle.sender.specs.Table.{answerNumber};
 ghost use Rattle.c_face.specs.Keeping.{bytesOf};
-ghost use Rattle.c_face.specs.Senders.{areThree, keptBytes, outside, packetAnswerC, packetBytesC, payloadAnswerC, payloadBytesC, startAnswerC, startStateC, stepAnswerC, stepStateC};
+ghost use Rattle.c_face.specs.Senders.{areBytes, keptBytes, outside, packetAnswerC, packetBytesC, payloadAnswerC, payloadBytesC, startAnswerC, startStateC, stepAnswerC, stepStateC};
 
 fn is_outside(count: u32) -> bool
     ensures { λ r. ⌜ r ≡ outside count ⌝ }
@@ -20,8 +20,8 @@ fn is_outside(count: u32) -> bool
     (count == 0) | (64 < count)
 }
 
-fn are_three(a: u32, b: u32, c: u32) -> bool
-    ensures { λ r. ⌜ r ≡ areThree a b c ⌝ }
+fn are_bytes(a: u32, b: u32, c: u32) -> bool
+    ensures { λ r. ⌜ r ≡ areBytes a b c ⌝ }
 {
     (a < 256) & (b < 256) & (c < 256)
 }
@@ -36,7 +36,7 @@ fn put_start(count: u32, epoch: u8, state: &mut [u8])
 }
 
 // What a step leaves: under 0 its sender's bytes, and under a refusal the bytes as they were.
-fn keep(step: SenderStep, state: &mut [u8]) -> u8
+fn keep(step: SenderOutcome, state: &mut [u8]) -> u8
     requires { ⌜ length (now state) ≡ 397 ⌝ }
     ensures { λ r. ⌜ (r ≡ answerNumber (step .answer)) × (now (state .exit) ≡ keptBytes step (now (state .entry))) ⌝ }
 {
@@ -102,13 +102,13 @@ pub extern "C" fn levelspruce_sender_report(
     mst: u32,
     rs_ack: u32,
 ) -> u8
-    ensures { λ r. ⌜ (r ≡ stepAnswerC (areThree epoch mst «rs_ack») (OnTable (Report epoch mst «rs_ack»)) (now (state .entry)))
-        × (now (state .exit) ≡ stepStateC (areThree epoch mst «rs_ack») (OnTable (Report epoch mst «rs_ack»)) (now (state .entry))) ⌝ }
+    ensures { λ r. ⌜ (r ≡ stepAnswerC (areBytes epoch mst «rs_ack») (OnTable (Report epoch mst «rs_ack»)) (now (state .entry)))
+        × (now (state .exit) ≡ stepStateC (areBytes epoch mst «rs_ack») (OnTable (Report epoch mst «rs_ack»)) (now (state .entry))) ⌝ }
 {
     if state.len() != 397 {
         return 9;
     }
-    if !are_three(epoch, mst, rs_ack) {
+    if !are_bytes(epoch, mst, rs_ack) {
         return 8;
     }
     let sender = keeping::sender_of(state);
@@ -136,13 +136,13 @@ pub extern "C" fn levelspruce_sender_start_epoch(
     mst: u32,
     rs_ack: u32,
 ) -> u8
-    ensures { λ r. ⌜ (r ≡ stepAnswerC (areThree gid mst «rs_ack») (StartEpoch gid mst «rs_ack») (now (state .entry)))
-        × (now (state .exit) ≡ stepStateC (areThree gid mst «rs_ack») (StartEpoch gid mst «rs_ack») (now (state .entry))) ⌝ }
+    ensures { λ r. ⌜ (r ≡ stepAnswerC (areBytes gid mst «rs_ack») (StartEpoch gid mst «rs_ack») (now (state .entry)))
+        × (now (state .exit) ≡ stepStateC (areBytes gid mst «rs_ack») (StartEpoch gid mst «rs_ack») (now (state .entry))) ⌝ }
 {
     if state.len() != 397 {
         return 9;
     }
-    if !are_three(gid, mst, rs_ack) {
+    if !are_bytes(gid, mst, rs_ack) {
         return 8;
     }
     let sender = keeping::sender_of(state);

@@ -1,57 +1,114 @@
--- Demand 1 for one entry point: for all arguments and states the answer is the first of 01's numbers, in 01's order, whose condition holds. A refusal leaves the lent bytes as they were, and the state too but under 4, 10 and 12; under 4 an empty group is returned.
-use mathlib.Core.Path.{_≡_, _∙_, sym}
-use mathlib.Core.Bool.{Bool, true, cond, not, _||_}
+-- Demand 1 for one call of an entry point: the answer is the first of 01's numbers, in 01's order, whose condition holds, and what is left and returned is what 01 says under that number.
+use mathlib.Core.Path.{_≡_, _∙_, refl, sym}
+use mathlib.Core.Bool.{Bool, true, false, cond, not, _||_, false≢true}
 use mathlib.Core.List.{List, [], _∷_}
 use Prim.Native.Nat.{ℕ}
 use Prim.Native.String.{String}
+use native.Mathlib.Omega.{arith}
 use lib.Dec.{eqb}
+use Rattle.ground.specs.Truth.{cond-by}
 
-pub record Refusal (Input : Type 0) : Type 0 where
-  pub number : ℕ
-  pub condition : Input → Bool
+-- a number of 01, and the condition under which it is given or not given
+pub data Refusal : Type 0 where
+  If : ℕ → Bool → Refusal
+  Unless : ℕ → Bool → Refusal
 
 -- the first number whose condition holds, 0 where none does
-abbrev pub first : {Input : Type 0} → List (Refusal Input) → Input → ℕ
-first [] x = 0
-first (r ∷ rs) x = cond (r .condition x) (r .number) (first rs x)
+abbrev pub first : List Refusal → ℕ
+first [] = 0
+first (If n b ∷ rs) = cond b n (first rs)
+first (Unless n b ∷ rs) = cond b (first rs) n
 
--- An entry point: what comes in, 01's refusals in 01's order, and what its contract promises of the answer, of each lent slice and of the state.
-pub record Entry : Type 1 where
-  pub name : String
-  pub Input : Type 0
-  pub refusals : List (Refusal Input)
-  pub answer : Input → ℕ
-  pub lent : Input → List (List ℕ)
-  pub left : Input → List (List ℕ)
+-- A call: 01's refusals in 01's order at its arguments, and what its contract promises of the answer, of each lent slice and of the state.
+pub record Call : Type 1 where
+  pub refusals : List Refusal
+  pub answer : ℕ
+  pub lent : List (List ℕ)
+  pub left : List (List ℕ)
   pub State : Type 0
-  pub given : Input → State
-  pub returned : Input → State
-  pub empty : Input → State
+  pub given : State
+  pub returned : State
+  pub empty : State
 
--- 'Returned: state as given' under every number but 0, 4, 10 and 12
+-- a call with no state: its refusals, its answer, what is lent to it and what is left of that
+abbrev pub stateless : List Refusal → ℕ → List (List ℕ) → List (List ℕ) → Call
+stateless rs answer lent left = record { refusals = rs; answer = answer; lent = lent; left = left; State = Unit {0}; given = tt; returned = tt; empty = tt }
+
+-- a call with a state: the same, then the state given, the state returned and the empty one
+abbrev pub stateful : {S : Type 0} → List Refusal → ℕ → List (List ℕ) → List (List ℕ) → S → S → S → Call
+stateful {S} rs answer lent left given returned empty =
+    record { refusals = rs; answer = answer; lent = lent; left = left; State = S; given = given; returned = returned; empty = empty }
+
+-- 'state as given' is returned under every number but 0, 4, 10 and 12
 abbrev pub keepsState : ℕ → Bool
 keepsState n = not (eqb n 0 || eqb n 4 || eqb n 10 || eqb n 12)
 
-pub record Copes (e : Entry) : Type 0 where
-  pub in-order : (x : e .Input) → e .answer x ≡ first (e .refusals) x
-  pub untouched : (x : e .Input) → (e .answer x ≡ 0 → ⊥) → e .left x ≡ e .lent x
-  pub as-given : (x : e .Input) → keepsState (e .answer x) ≡ true → e .returned x ≡ e .given x
-  pub emptied : (x : e .Input) → e .answer x ≡ 4 → e .returned x ≡ e .empty x
+-- what 01 says under the number n: 'Lent bytes change only under 0', the state, and under 4 'an empty group'
+pub record Under (c : Call) (n : ℕ) : Type 0 where
+  pub answers : c .answer ≡ n
+  pub untouched : (n ≡ 0 → ⊥) → c .left ≡ c .lent
+  pub as-given : keepsState n ≡ true → c .returned ≡ c .given
+  pub emptied : n ≡ 4 → c .returned ≡ c .empty
 
--- an entry point with the proof that it copes: what a row of the table is
+abbrev pub Copes : Call → Type 0
+Copes c = Under c (first (c .refusals))
+
+-- an entry point with the proof that it copes with any arguments: what a row of the table is
 pub record Coping : Type 1 where
-  pub entry : Entry
-  pub copes : Copes entry
+  pub name : String
+  pub Input : Type 0
+  pub call : Input → Call
+  pub copes : (x : Input) → Copes (call x)
 
-abbrev pub row : (e : Entry) → Copes e → Coping
-row e c = record { entry = e; copes = c }
+abbrev pub row : {Input : Type 0} → String → (call : Input → Call) → ((x : Input) → Copes (call x)) → Coping
+row {Input} name call copes = record { name = name; Input = Input; call = call; copes = copes }
 
--- what meets an entry point's contract: an answer, what is left of the lent slices, and a state
-pub record Meets (e : Entry) (x : e .Input) (answer : ℕ) (left : List (List ℕ)) (state : e .State) : Type 0 where
-  pub answers : answer ≡ e .answer x
-  pub leaves : left ≡ e .left x
-  pub returns : state ≡ e .returned x
+-- what meets a call's contract: an answer, what is left of the lent slices, and a state
+pub record Meets (c : Call) (answer : ℕ) (left : List (List ℕ)) (state : c .State) : Type 0 where
+  pub answers : answer ≡ c .answer
+  pub leaves : left ≡ c .left
+  pub returns : state ≡ c .returned
 
 -- no second one does
-pub only : (e : Entry) (x : e .Input) (a b : ℕ) (l m : List (List ℕ)) (s t : e .State) → Meets e x a l s → Meets e x b m t → (a ≡ b) × (l ≡ m) × (s ≡ t)
-only e x a b l m s t p q = (p .answers ∙ sym (q .answers), p .leaves ∙ sym (q .leaves), p .returns ∙ sym (q .returns))
+pub only : (c : Call) (a b : ℕ) (l m : List (List ℕ)) (s t : c .State) → Meets c a l s → Meets c b m t → (a ≡ b) × (l ≡ m) × (s ≡ t)
+only c a b l m s t p q = (p .answers ∙ sym (q .answers), p .leaves ∙ sym (q .leaves), p .returns ∙ sym (q .returns))
+
+-- How a row is proved: down the ladder of its refusals, each condition taken as true and as false.
+
+abbrev choice : Bool → Type 0 → Type 0 → Type 0
+choice true A B = A
+choice false A B = B
+
+-- what is to be shown where the call is refused with n
+abbrev pub Refused : Call → ℕ → Type 0
+Refused c n =
+    (c .answer ≡ n) × (c .left ≡ c .lent) × choice (keepsState n) (c .returned ≡ c .given) (choice (eqb n 4) (c .returned ≡ c .empty) (Unit {0}))
+
+pub refused : (c : Call) (n : ℕ) → Refused c n → Under c n
+refused c n r = record { answers = r .0; untouched = λ d. r .1; as-given = λ k. rw k at (r .2); emptied = λ e. rw e at (r .2) }
+
+pub done : (c : Call) → c .answer ≡ 0 → Under c 0
+done c e = record { answers = e; untouched = λ d. absurd (d refl); as-given = λ k. absurd (false≢true k); emptied = λ f. absurd (omega arith) }
+
+abbrev pub Ladder : Call → List Refusal → Type 0
+Ladder c [] = c .answer ≡ 0
+Ladder c (If n b ∷ rs) = (b ≡ true → Refused c n) × (b ≡ false → Ladder c rs)
+Ladder c (Unless n b ∷ rs) = (b ≡ true → Ladder c rs) × (b ≡ false → Refused c n)
+
+descends : (c : Call) (rs : List Refusal) → Ladder c rs → Under c (first rs)
+descends c [] w = done c w
+descends c (If n b ∷ rs) w = cond-by (Under c) b n (first rs) (λ t. refused c n (w .0 t)) (λ f. descends c rs (w .1 f))
+descends c (Unless n b ∷ rs) w = cond-by (Under c) b (first rs) n (λ t. descends c rs (w .0 t)) (λ f. refused c n (w .1 f))
+
+pub copes : (c : Call) → Ladder c (c .refusals) → Copes c
+copes c w = descends c (c .refusals) w
+
+-- where nothing is lent and there is no state, the answer is all
+pub answers-alone : (rs : List Refusal) (n : ℕ) → n ≡ first rs → Copes (stateless rs n [] [])
+answers-alone rs n e = record { answers = e; untouched = λ d. refl; as-given = λ k. refl; emptied = λ f. refl }
+
+-- a call behind a test of its own: the number m unless it holds, then what the call behind it does with its lent slice
+pub behind : (m : ℕ) (b : Bool) (rs : List Refusal) (n : ℕ) (new old : List ℕ) → Copes (stateless rs n (old ∷ []) (new ∷ []))
+    → Copes (stateless (Unless m b ∷ rs) (cond b n m) (old ∷ []) (cond b new old ∷ []))
+behind m true rs n new old c = record { answers = c .answers; untouched = c .untouched; as-given = c .as-given; emptied = c .emptied }
+behind m false rs n new old c = record { answers = refl; untouched = λ d. refl; as-given = λ k. refl; emptied = λ f. refl }

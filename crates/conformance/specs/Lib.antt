@@ -3,3 +3,4 @@ pub mod Examples
 pub mod Hosts
 pub mod Refusals
 pub mod Rows
+pub mod Wrong

@@ -1,4 +1,4 @@
--- The refusals of every entry point that can refuse (demand 1), in one table: each row is an entry point with the proof that it copes.
+-- The refusals of every entry point that can refuse (demand 1), in one table: each row is an entry point's name, its call and the proof that it copes. host/tools/refusals holds each row to the entry point's contract.
 pub mod Epochs
 pub mod Lines
 pub mod Packets
@@ -8,64 +8,64 @@ pub mod Senders
 pub mod Tables
 use mathlib.Core.List.{List, [], _∷_}
 use Rattle.conformance.specs.Entries.{Coping, row}
-use Epochs.{senderStart, senderStart-copes, senderAdd, senderAdd-copes, senderRemove, senderRemove-copes, senderReport, senderReport-copes, senderLapse, senderLapse-copes, startEpoch, startEpoch-copes, packetEntry, packet-copes, payloadEntry, payload-copes}
-use Lines.{feed, feed-copes, finish, finish-copes, reply, reply-copes}
-use Packets.{write, write-copes, read, read-copes, readSixteen, readSixteen-copes, writeC, writeC-copes, readC, readC-copes}
-use Payloads.{spread, spread-copes, join, join-copes, spreadOneMember, spreadOne-copes, joinFrom, joinFrom-copes, oneAnswerEntry, oneAnswer-copes, spreadC, spreadC-copes, joinC, joinC-copes}
+use Epochs as sender
+use Lines as console
+use Packets as packet
+use Payloads as payload
 use Receivers as receiver
-use Senders.{startC, startC-copes, addC, addC-copes, removeC, removeC-copes, reportC, reportC-copes, lapseC, lapseC-copes, startEpochC, startEpochC-copes, packetC, packetC-copes, payloadC, payloadC-copes, boardC, boardC-copes, goingC, goingC-copes, ranksC, ranksC-copes}
-use Tables.{start, start-copes, add, add-copes, remove, remove-copes, report, report-copes, lapse, lapse-copes}
+use Senders as state
+use Tables as table
 
 pub entries : List Coping
 entries =
-    row write write-copes
-    ∷ row read read-copes
-    ∷ row readSixteen readSixteen-copes
-    ∷ row writeC writeC-copes
-    ∷ row readC readC-copes
-    ∷ row spread spread-copes
-    ∷ row join join-copes
-    ∷ row spreadOneMember spreadOne-copes
-    ∷ row joinFrom joinFrom-copes
-    ∷ row oneAnswerEntry oneAnswer-copes
-    ∷ row spreadC spreadC-copes
-    ∷ row joinC joinC-copes
-    ∷ row start start-copes
-    ∷ row add add-copes
-    ∷ row remove remove-copes
-    ∷ row report report-copes
-    ∷ row lapse lapse-copes
-    ∷ row senderStart senderStart-copes
-    ∷ row senderAdd senderAdd-copes
-    ∷ row senderRemove senderRemove-copes
-    ∷ row senderReport senderReport-copes
-    ∷ row senderLapse senderLapse-copes
-    ∷ row startEpoch startEpoch-copes
-    ∷ row packetEntry packet-copes
-    ∷ row payloadEntry payload-copes
-    ∷ row feed feed-copes
-    ∷ row finish finish-copes
-    ∷ row reply reply-copes
-    ∷ row startC startC-copes
-    ∷ row addC addC-copes
-    ∷ row removeC removeC-copes
-    ∷ row reportC reportC-copes
-    ∷ row lapseC lapseC-copes
-    ∷ row startEpochC startEpochC-copes
-    ∷ row packetC packetC-copes
-    ∷ row payloadC payloadC-copes
-    ∷ row boardC boardC-copes
-    ∷ row goingC goingC-copes
-    ∷ row ranksC ranksC-copes
-    ∷ row receiver.decide receiver.decide-copes
-    ∷ row receiver.start receiver.start-copes
-    ∷ row receiver.frame receiver.frame-copes
-    ∷ row receiver.fetch receiver.fetch-copes
-    ∷ row receiver.ports receiver.ports-copes
-    ∷ row receiver.reply receiver.reply-copes
-    ∷ row receiver.startC receiver.startC-copes
-    ∷ row receiver.frameC receiver.frameC-copes
-    ∷ row receiver.fetchC receiver.fetchC-copes
-    ∷ row receiver.portsC receiver.portsC-copes
-    ∷ row receiver.replyC receiver.replyC-copes
+    row "packet::write" packet.write packet.write-copes
+    ∷ row "packet::read" packet.read packet.read-copes
+    ∷ row "packet::read_nibbles" packet.readSixteen packet.readSixteen-copes
+    ∷ row "payload::spread" payload.spread payload.spread-copes
+    ∷ row "payload::join" payload.join payload.join-copes
+    ∷ row "payload::spread_one" payload.spreadOneMember payload.spreadOne-copes
+    ∷ row "payload::join_from" payload.joinFrom payload.joinFrom-copes
+    ∷ row "payload::one_answer" payload.oneAnswerCall payload.oneAnswer-copes
+    ∷ row "sender::start" table.start table.start-copes
+    ∷ row "sender::add" table.add table.add-copes
+    ∷ row "sender::remove" table.remove table.remove-copes
+    ∷ row "sender::report" table.report table.report-copes
+    ∷ row "sender::lapse" table.lapse table.lapse-copes
+    ∷ row "sender::Sender::start" sender.start sender.start-copes
+    ∷ row "sender::Sender::add" sender.add sender.add-copes
+    ∷ row "sender::Sender::remove" sender.remove sender.remove-copes
+    ∷ row "sender::Sender::report" sender.report sender.report-copes
+    ∷ row "sender::Sender::lapse" sender.lapse sender.lapse-copes
+    ∷ row "sender::Sender::start_epoch" sender.startEpoch sender.startEpoch-copes
+    ∷ row "sender::Sender::packet" sender.packet sender.packet-copes
+    ∷ row "sender::Sender::payload" sender.payload sender.payload-copes
+    ∷ row "console::feed" console.feed console.feed-copes
+    ∷ row "console::finish" console.finish console.finish-copes
+    ∷ row "console::reply_to" console.reply console.reply-copes
+    ∷ row "step::decide" receiver.decide receiver.decide-copes
+    ∷ row "receiver::start" receiver.start receiver.start-copes
+    ∷ row "receiver::frame" receiver.frame receiver.frame-copes
+    ∷ row "receiver::fetch" receiver.fetch receiver.fetch-copes
+    ∷ row "receiver::ports" receiver.ports receiver.ports-copes
+    ∷ row "receiver::reply" receiver.reply receiver.reply-copes
+    ∷ row "levelspruce_packet_write" packet.writeC packet.writeC-copes
+    ∷ row "levelspruce_packet_read" packet.readC packet.readC-copes
+    ∷ row "levelspruce_spread" payload.spreadC payload.spread-copes
+    ∷ row "levelspruce_join" payload.joinC payload.join-copes
+    ∷ row "levelspruce_sender_start" state.start state.start-copes
+    ∷ row "levelspruce_sender_add" state.add state.add-copes
+    ∷ row "levelspruce_sender_remove" state.remove state.remove-copes
+    ∷ row "levelspruce_sender_report" state.report state.report-copes
+    ∷ row "levelspruce_sender_lapse" state.lapse state.lapse-copes
+    ∷ row "levelspruce_sender_start_epoch" state.startEpoch state.startEpoch-copes
+    ∷ row "levelspruce_sender_packet" state.packet state.packet-copes
+    ∷ row "levelspruce_sender_payload" state.payload state.payload-copes
+    ∷ row "levelspruce_sender_board" state.shown state.shown-copes
+    ∷ row "levelspruce_sender_board_going" state.outgoing state.outgoing-copes
+    ∷ row "levelspruce_sender_ranks" state.ranked state.ranked-copes
+    ∷ row "levelspruce_receiver_start" receiver.startC receiver.startC-copes
+    ∷ row "levelspruce_receiver_frame" receiver.frameC receiver.frameC-copes
+    ∷ row "levelspruce_receiver_fetch" receiver.fetch receiver.fetch-copes
+    ∷ row "levelspruce_receiver_ports" receiver.ports receiver.ports-copes
+    ∷ row "levelspruce_receiver_reply" receiver.reply receiver.reply-copes
     ∷ []

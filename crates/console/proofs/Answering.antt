@@ -19,10 +19,11 @@ use Rattle.console.specs.declared.session.Fed.{Fed}
 use Rattle.console.specs.declared.session.Session.{Session}
 use Rattle.console.specs.Kept.{keepAll, lineIn, nothingKept}
 use Rattle.console.specs.Line.{lineOf}
-use Rattle.console.specs.Output.{Put, ROOM, answerText, boardText}
+use Rattle.console.specs.Output.{ROOM, answerText, boardText}
 use Rattle.console.specs.Replies.{isBoard, outputOf, replyOf}
 use Rattle.console.specs.Session.{fedSession, fedText, feedBytes, feedOf, finishBytes, finishOf, lastSession, lastText, over, refused, saidTo, tableAfter, usedOf}
-use Rattle.console.specs.Text.{LINE-END}
+use Rattle.text.specs.Output.{Put}
+use Rattle.text.specs.Text.{LINE-END}
 use Rattle.console.proofs.Lengths.{answer-le, board-le}
 
 put-over : {text out new : List ℕ} {next : ℕ} → Put text 0 out next new → length text ≤ length out → (next ≡ length text) × (new ≡ over text out)

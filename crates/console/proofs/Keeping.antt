@@ -6,7 +6,7 @@ use native.Mathlib.Numerals.{add-one}
 use lib.ListN.{length, take, getD}
 use lib.Seq.{take-suc}
 use borrow.Author.Tests.{eq-eqb, ne-eqb}
-use Rattle.sender.specs.declared.table.Step.{Step}
+use Rattle.sender.specs.declared.table.Outcome.{Outcome}
 use Rattle.sender.specs.declared.table.Table.{Table}
 use Rattle.sender.specs.Commands.{startOf}
 use Rattle.sender.specs.Table.{answerNumber}
@@ -19,7 +19,7 @@ use Rattle.console.specs.Replies.{replied, repliedOf, sizeReply}
 pub keep-turn : (k₀ k : Kept) (input : List ℕ) (i : ℕ) → i < length input → k ≡ keepAll k₀ (take i input) → keepOf k (getD input i 0) ≡ keepAll k₀ (take (i + 1) input)
 keep-turn k₀ k input i h e = rw (e, add-one, take-suc input i 0 h, keep-append k₀ (take i input) (getD input i 0 ∷ []))
 
-module _ (t : Table) (n : ℕ) (s : Step) (f : Reply) (e : s ≡ startOf (t .kind) n) (g : f ≡ repliedOf s) where
+module _ (t : Table) (n : ℕ) (s : Outcome) (f : Reply) (e : s ≡ startOf (t .kind) n) (g : f ≡ repliedOf s) where
   number-is : f .number ≡ answerNumber (startOf (t .kind) n .answer)
   number-is = rw (g, e)
 

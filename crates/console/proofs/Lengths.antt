@@ -10,7 +10,8 @@ use borrow.Author.Tests.{lt-ltb}
 use Rattle.packet.specs.declared.words.Word.{Word}
 use Rattle.sender.specs.declared.board.Board.{Board}
 use Rattle.sender.specs.declared.board.Row.{Row}
-use Rattle.console.specs.Output.{Put, ROOM, answerText, boardText, decimalText, rowAt, slotText, slotsText, waitText, wordText}
+use Rattle.console.specs.Output.{ROOM, answerText, boardText, rowAt, slotText, slotsText, waitText}
+use Rattle.text.specs.Output.{Put, decimalText, wordText}
 
 either-le : (b : Bool) (x y : List ℕ) (n : ℕ) → length x ≤ n → length y ≤ n → length (cond b x y) ≤ n
 either-le true x y n h k = h

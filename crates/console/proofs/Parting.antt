@@ -2,53 +2,19 @@
 use mathlib.Core.Path.{_≡_, refl, sym, ap, _∙_}
 use mathlib.Core.Bool.{Bool, true, false, cond}
 use mathlib.Core.List.{List, [], _∷_}
-use Prim.Native.Nat.{ℕ, zero, suc, _+_, _-_, _≤_, _<_}
+use Prim.Native.Nat.{ℕ, _+_, _-_, _≤_, _<_}
 use native.Mathlib.Omega.{arith}
 use lib.Dec.{eqb}
 use lib.ListN.{length, take}
-use lib.Seq.{slice, drop-drop, length-slice, take-nil, take-take}
+use lib.Seq.{slice, length-slice}
 use borrow.Author.Tests.{le-leb, lt-leb}
 use Rattle.bytes.specs.Bytes.{indexOf}
-use Rattle.console.specs.declared.fields.Number.{Number}
+use Rattle.text.specs.declared.fields.Number.{Number}
+use Rattle.text.specs.Fields.{sameBytes}
+use Rattle.text.specs.Laws.Slices.{end-le, fields-last, fields-more, slice-end, slice-none}
+use Rattle.text.specs.Text.{TAB, ahead, fieldsOf, parted}
 use Rattle.console.specs.declared.line.Line.the-variants.{Malformed}
-use Rattle.console.specs.Fields.{hexOf, numberOf, sameBytes}
-use Rattle.console.specs.Laws.Feeding.{index-le}
-use Rattle.console.specs.Laws.Parted.{parted-more, parted-none}
-use Rattle.console.specs.Line.{REPORT, lineOf, meaningOf, numberLine, reportLine, reportOf, wordLine}
-use Rattle.console.specs.Text.{TAB, ahead, fieldsOf, parted}
-use Rattle.console.proofs.Slices.{end-le, slice-end, slice-none}
-
-take-slice : (at i end : ℕ) (l : List ℕ) → at + i ≤ end → take i (slice at end l) ≡ slice at (at + i) l
-take-slice zero i end l h =
-    let e : 0 + i ≡ i = omega arith in
-    rw e (take-take i end l (omega arith))
-take-slice (suc at) i zero l h = absurd (omega arith)
-take-slice (suc at) i (suc end) [] h =
-    let e : suc at + i ≡ suc (at + i) = omega arith in
-    rw (e, take-nil)
-take-slice (suc at) i (suc end) (x ∷ l) h =
-    let e : suc at + i ≡ suc (at + i) = omega arith in
-    rw e (take-slice at i end l (omega arith))
-
-module _ (l : List ℕ) (at end first : ℕ) (h : at ≤ end) (k : end ≤ length l) (e : first ≡ at + indexOf TAB (slice at end l)) where
-  pub first-le : first ≤ end
-  first-le = let n = length-slice at end l k in let m = index-le TAB (slice at end l) in omega arith
-
-  pub fields-last : end ≤ first → fieldsOf (slice at end l) ≡ slice at end l ∷ []
-  unfolding fieldsOf
-  fields-last b =
-      let n = length-slice at end l k in
-      let m = index-le TAB (slice at end l) in
-      parted-none TAB (slice at end l) (omega arith)
-
-  pub fields-more : first < end → fieldsOf (slice at end l) ≡ slice at first l ∷ fieldsOf (slice (first + 1) end l)
-  unfolding fieldsOf
-  fields-more b =
-      let n = length-slice at end l k in
-      let i = indexOf TAB (slice at end l) in
-      let s : at + suc i ≡ first + 1 = omega arith in
-      parted-more TAB ([] ∷ []) (slice at end l) (omega arith)
-      ∙ rw (take-slice at i end l (omega arith), drop-drop (suc i) at (take end l), s, ← e)
+use Rattle.console.specs.Line.{REPORT, hexOf, lineOf, meaningOf, numberLine, numberOf, reportLine, reportOf, wordLine}
 
 many-ahead : (w a b c : List ℕ) (x : ℕ) (ps : List (List ℕ)) → Malformed ≡ meaningOf (w ∷ a ∷ b ∷ c ∷ ahead x ps)
 many-ahead w a b c x [] = refl

@@ -2,5 +2,3 @@
 pub mod Feeding
 pub mod Holding
 pub mod Keeping
-pub mod Lines
-pub mod Parted

@@ -1,5 +1,3 @@
-pub mod Ascii
-pub mod Fields
 pub mod Kept
 pub mod Laws
 pub mod Line
@@ -7,6 +5,5 @@ pub mod Output
 pub mod Replies
 pub mod Runs
 pub mod Session
-pub mod Text
 pub mod Theorems
 mod Wrong

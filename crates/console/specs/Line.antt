@@ -4,13 +4,14 @@ use mathlib.Core.List.{List, [], _∷_}
 use Prim.Native.Nat.{ℕ}
 use lib.Dec.{leb, ltb}
 use lib.ListN.{length}
-use Rattle.console.specs.declared.fields.Number.{Number}
-use Rattle.console.specs.declared.fields.Number.the-variants.{Value, Unreadable}
+use Rattle.text.specs.declared.fields.Number.{Number}
+use Rattle.text.specs.declared.fields.Number.the-variants.{Value, Unreadable}
 use Rattle.console.specs.declared.line.Line.{Line}
 use Rattle.console.specs.declared.line.Line.the-variants.{Size, Add, Remove, Report, Lapse, Board, Malformed}
-use Rattle.console.specs.Ascii.{ascii}
-use Rattle.console.specs.Fields.{hexOf, numberOf, sameBytes}
-use Rattle.console.specs.Text.{fieldsOf}
+use Rattle.text.specs.Ascii.{ascii}
+use Rattle.text.specs.Fields.{sameBytes}
+use Rattle.text.specs.Fields as F
+use Rattle.text.specs.Text.{fieldsOf}
 
 abbrev pub SIZE : List ℕ
 SIZE = ascii "size"
@@ -29,6 +30,14 @@ LAPSE = ascii "lapse"
 
 abbrev pub BOARD : List ℕ
 BOARD = ascii "board"
+
+-- 'Numbers have one to three decimal digits'
+abbrev pub numberOf : List ℕ → Number
+numberOf field = F.numberOf 3 field
+
+-- 'two hex digits'
+abbrev pub hexOf : List ℕ → Number
+hexOf field = F.hexOf 2 field
 
 -- a line of one field
 unfoldable pub wordLine : List ℕ → Line

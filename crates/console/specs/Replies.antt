@@ -3,7 +3,7 @@ use mathlib.Core.Bool.{Bool, true, false, cond}
 use mathlib.Core.List.{List}
 use Prim.Native.Nat.{ℕ}
 use lib.Dec.{eqb}
-use Rattle.sender.specs.declared.table.Step.{Step}
+use Rattle.sender.specs.declared.table.Outcome.{Outcome}
 use Rattle.sender.specs.declared.table.Table.{Table}
 use Rattle.sender.specs.Board.{boardOf}
 use Rattle.sender.specs.Commands.{startOf}
@@ -17,14 +17,14 @@ use Rattle.console.specs.Output.{answerText, boardText}
 abbrev pub replied : Table → ℕ → Reply
 replied t n = record { table = t; number = n }
 
-abbrev pub repliedOf : Step → Reply
+abbrev pub repliedOf : Outcome → Reply
 repliedOf s = replied (s .table) (answerNumber (s .answer))
 
 -- 'A second size starts afresh; a refused one leaves the board as it stood.'
 unfoldable pub sizeReply : Table → ℕ → Reply
 sizeReply t n = cond (eqb (answerNumber (startOf (t .kind) n .answer)) 0) (repliedOf (startOf (t .kind) n)) (replied t (answerNumber (startOf (t .kind) n .answer)))
 
--- '13: malformed line: state as given'
+-- 13: 'malformed line', 'state as given'
 unfoldable pub replyOf : Table → Line → Reply
 replyOf t (Size n) = sizeReply t n
 replyOf t (Add i) = repliedOf (S.stepOf t (S.AddSlot i))

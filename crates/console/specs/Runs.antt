@@ -5,7 +5,7 @@ use lib.ListN.{drop, length, take}
 use Rattle.sender.specs.declared.table.Table.{Table}
 use Rattle.console.specs.declared.session.Session.{Session}
 use Rattle.console.specs.Session.{beginning, feedBytes, feedOf, finishBytes, finishOf, saidTo, tableAfter}
-use Rattle.console.specs.Text.{linesOf}
+use Rattle.text.specs.Text.{linesOf}
 
 -- what lines are answered, one behind the other
 abbrev pub answersTo : Table → List (List ℕ) → List ℕ

@@ -14,7 +14,7 @@ use Rattle.console.specs.Kept.{keepAll, lineIn, nothingKept}
 use Rattle.console.specs.Line.{lineOf}
 use Rattle.console.specs.Output.{ROOM}
 use Rattle.console.specs.Replies.{outputOf, replyOf}
-use Rattle.console.specs.Text.{LINE-END}
+use Rattle.text.specs.Text.{LINE-END}
 
 -- 'Before any size, the count is 0.'
 unfoldable pub beginning : Session
@@ -49,7 +49,7 @@ fedSession s input =
 unfoldable pub fedText : Session → List ℕ → List ℕ
 fedText s input = cond (hasEnd input) (saidTo (s .table) (lineIn (keptWith s input))) []
 
--- '9: output length wrong: state as given'
+-- 9: 'output .. length wrong', 'state as given'
 abbrev pub refused : Session → Fed
 refused s = record { session = s; answer = 9; used = 0; written = 0 }
 

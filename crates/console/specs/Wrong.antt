@@ -1,27 +1,20 @@
 -- Wrong readings of 01, each as a definition with a run on which it breaks what 01 says.
 use mathlib.Core.Path.{_≡_, refl}
 use mathlib.Core.Bool.{cond}
-use mathlib.Core.List.{List, [], _∷_}
+use mathlib.Core.List.{List}
 use Prim.Native.Nat.{ℕ}
 use lib.Dec.{ltb}
 use Rattle.packet.specs.Kinds.{idleNumber}
 use Rattle.sender.specs.declared.table.Table.{Table}
 use Rattle.sender.specs.Commands.{freshOf, idleSlot, startOf}
-use Rattle.console.specs.declared.fields.Number.{Number}
-use Rattle.console.specs.declared.fields.Number.the-variants.{Value, Unreadable}
+use Rattle.text.specs.declared.fields.Number.{Number}
+use Rattle.text.specs.declared.fields.Number.the-variants.{Value, Unreadable}
 use Rattle.console.specs.declared.replies.Reply.{Reply}
-use Rattle.console.specs.Ascii.{ascii}
-use Rattle.console.specs.Fields.{decimalOf, digitOf, numberOf}
+use Rattle.console.specs.Line.{numberOf}
 use Rattle.console.specs.Replies.{repliedOf, sizeReply}
-use Rattle.console.specs.Text.{LINE-END, linesOf, parted}
-
--- The input parted like a line's fields. Then there is an empty line behind the last line end, and every session ends in a 13.
-wrong-lines : List ℕ → List (List ℕ)
-wrong-lines input = parted LINE-END ([] ∷ []) input
-
-lines-break : (wrong-lines (ascii "lapse\n") ≡ ascii "lapse" ∷ [] ∷ []) × (linesOf (ascii "lapse\n") ≡ ascii "lapse" ∷ [])
-unfolding wrong-lines linesOf
-lines-break = (refl, refl)
+use Rattle.text.specs.Ascii.{ascii}
+use Rattle.text.specs.Fields.{digitOf}
+use Rattle.text.specs.Fields as F
 
 -- A number that does not fit a byte as malformed. 'Numbers have one to three decimal digits': `size 256` is refused by its range, with 4.
 wrong-byte : Number → Number
@@ -32,7 +25,7 @@ wrong-number : List ℕ → Number
 wrong-number field = wrong-byte (numberOf field)
 
 number-breaks : (wrong-number (ascii "256") ≡ Unreadable) × (numberOf (ascii "256") ≡ Value 256)
-unfolding wrong-number wrong-byte decimalOf digitOf
+unfolding wrong-number wrong-byte F.numberOf digitOf
 number-breaks = (refl, refl)
 
 -- A refused size that hands on the empty group of the library's start. 'A refused one leaves the board as it stood.'

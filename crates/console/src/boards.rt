@@ -4,7 +4,8 @@ use sender::Board;
 use sender::Row;
 ghost use Prim.Native.Nat.{_≤_};
 ghost use lib.ListN.{length};
-ghost use Rattle.console.specs.Output.{Put, ROOM, boardText, slotsText};
+ghost use Rattle.console.specs.Output.{ROOM, boardText, slotsText};
+ghost use Rattle.text.specs.Output.{Put};
 
 // The lines of the first n slots.
 fn put_slots(rows: [Row; 64], n: u8, out: &mut [u8]) -> usize

@@ -1,17 +1,11 @@
 // The text session of 01 over the sender's table: what a line means, what it is answered, and the input fed in parts cut anywhere.
 mod boards;
-mod fields;
 mod kept;
 mod line;
 mod output;
 mod replies;
 mod session;
 
-pub use fields::Number;
-pub use fields::piece_end;
-pub use fields::read_hex;
-pub use fields::read_number;
-pub use fields::same;
 pub use kept::Kept;
 pub use line::Line;
 pub use line::read_line;

@@ -1,13 +1,12 @@
 // What a line means (01, 'Session').
-use crate::fields;
-use crate::fields::Number;
+use text::Number;
 ghost use mathlib.Core.Path.{_≡_};
 ghost use mathlib.Core.List.{_∷_};
 ghost use Prim.Native.Nat.{_+_, _≤_, _<_};
 ghost use lib.ListN.{length};
 ghost use lib.Seq.{slice};
 ghost use Rattle.console.specs.Line.{lineOf, meaningOf, numberLine, reportOf, wordLine};
-ghost use Rattle.console.specs.Text.{fieldsOf};
+ghost use Rattle.text.specs.Text.{fieldsOf};
 
 pub enum Line {
     Size(u32),
@@ -25,10 +24,10 @@ const TAB: u8 = b'\t';
 fn word_line(text: &[u8], at: usize, end: usize) -> Line
     ensures { λ r. ⌜ r ≡ wordLine (slice at end (now (text .entry))) ⌝ }
 {
-    if fields::same(text, at, end, b"lapse") {
+    if text::same(text, at, end, b"lapse") {
         return Line::Lapse;
     }
-    if fields::same(text, at, end, b"board") {
+    if text::same(text, at, end, b"board") {
         return Line::Board;
     }
     Line::Malformed
@@ -41,13 +40,13 @@ fn number_line(text: &[u8], at: usize, end: usize, number: Number) -> Line
     let Number::Value(n) = number else {
         return Line::Malformed;
     };
-    if fields::same(text, at, end, b"size") {
+    if text::same(text, at, end, b"size") {
         return Line::Size(n);
     }
-    if fields::same(text, at, end, b"add") {
+    if text::same(text, at, end, b"add") {
         return Line::Add(n);
     }
-    if fields::same(text, at, end, b"remove") {
+    if text::same(text, at, end, b"remove") {
         return Line::Remove(n);
     }
     Line::Malformed
@@ -76,19 +75,19 @@ fn report_line(text: &[u8], at: usize, first: usize, second: usize, end: usize) 
     requires { ⌜ (first < second) × (second < end) × (end ≤ length (now text)) ⌝ }
     ensures { λ r. ⌜ r ≡ meaningOf (slice at first (now (text .entry)) ∷ slice (first + 1) second (now (text .entry)) ∷ fieldsOf (slice (second + 1) end (now (text .entry)))) ⌝ }
 {
-    let third = fields::piece_end(text, second + 1, end, TAB);
+    let third = text::piece_end(text, second + 1, end, TAB);
     if end <= third {
         return Line::Malformed;
     }
-    if fields::piece_end(text, third + 1, end, TAB) < end {
+    if text::piece_end(text, third + 1, end, TAB) < end {
         return Line::Malformed;
     }
-    if !fields::same(text, at, first, b"report") {
+    if !text::same(text, at, first, b"report") {
         return Line::Malformed;
     }
-    let epoch = fields::read_number(text, first + 1, second);
-    let mst = fields::read_hex(text, second + 1, third);
-    let ack = fields::read_number(text, third + 1, end);
+    let epoch = text::read_number(text, first + 1, second, 3);
+    let mst = text::read_hex(text, second + 1, third, 2);
+    let ack = text::read_number(text, third + 1, end, 3);
     report_of(epoch, mst, ack)
 }
 
@@ -97,9 +96,9 @@ fn rest_line(text: &[u8], at: usize, first: usize, end: usize) -> Line
     requires { ⌜ (first < end) × (end ≤ length (now text)) ⌝ }
     ensures { λ r. ⌜ r ≡ meaningOf (slice at first (now (text .entry)) ∷ fieldsOf (slice (first + 1) end (now (text .entry)))) ⌝ }
 {
-    let second = fields::piece_end(text, first + 1, end, TAB);
+    let second = text::piece_end(text, first + 1, end, TAB);
     if end <= second {
-        let number = fields::read_number(text, first + 1, end);
+        let number = text::read_number(text, first + 1, end, 3);
         return number_line(text, at, first, number);
     }
     report_line(text, at, first, second, end)
@@ -110,7 +109,7 @@ fn short_line(text: &[u8], at: usize, end: usize) -> Line
     requires { ⌜ (at ≤ end) × (end ≤ length (now text)) ⌝ }
     ensures { λ r. ⌜ r ≡ meaningOf (fieldsOf (slice at end (now (text .entry)))) ⌝ }
 {
-    let first = fields::piece_end(text, at, end, TAB);
+    let first = text::piece_end(text, at, end, TAB);
     if end <= first {
         return word_line(text, at, end);
     }
@@ -121,7 +120,7 @@ fn short_line(text: &[u8], at: usize, end: usize) -> Line
 pub fn read_line(text: &[u8], at: usize, limit: usize) -> Line
     ensures { λ r. ⌜ r ≡ lineOf (slice at limit (now (text .entry))) ⌝ }
 {
-    let end = fields::end_of(text, limit);
+    let end = text::end_of(text, limit);
     if end < at {
         return Line::Malformed;
     }

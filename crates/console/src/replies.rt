@@ -1,6 +1,6 @@
 // What a line is answered (01, 'Session'): the number and the table afterwards.
 use crate::line::Line;
-use sender::Step;
+use sender::Outcome;
 use sender::Table;
 ghost use mathlib.Core.Path.{_≡_};
 ghost use Rattle.console.specs.Replies.{isBoard, repliedOf, replyOf, sizeReply};
@@ -10,7 +10,7 @@ pub struct Reply {
     pub number: u8,
 }
 
-fn replied(step: Step) -> Reply
+fn replied(step: Outcome) -> Reply
     ensures { λ r. ⌜ r ≡ repliedOf step ⌝ }
 {
     let table = step.table;

@@ -10,13 +10,13 @@ use Rattle.invariant.specs.Arriving.{Counts, after-group, frame-by, port
 use Rattle.invariant.specs.Calls.{Fetch, Frame, Receiver, ReceiverCall, receiverRun, receiverStep, startedWith, step-kept}
 use Rattle.invariant.specs.Claims.{Claims, New, Old, Part, claims-inside, passed-claims, taken-claims, taken-inside}
 use Rattle.invariant.specs.Kept.Calls.{Due, due-says}
-use Rattle.invariant.specs.Kept.Group.{Kept, Steady}
+use Rattle.invariant.specs.Kept.Group.{Kept, Lasting}
 use Rattle.invariant.specs.Kept.Port.{PortKept, Windowed}
 use Rattle.invariant.specs.Kept.Start.{started-kept, started-with}
-use Rattle.invariant.specs.Kept.Steps.{brought-lets, steady-frame, windowed}
+use Rattle.invariant.specs.Kept.Steps.{brought-owes-nothing, lasting-frame, windowed}
 use Rattle.invariant.specs.Laws.Settling.{settled-by}
 use Rattle.invariant.specs.Laws.Window.{first-epoch, tag-next, tag-passed, tagIn}
-use Rattle.invariant.specs.Same.{step-sizes}
+use Rattle.invariant.specs.Sizes.{step-sizes}
 use Rattle.ground.specs.Table.{getD-tabulate, tabulate}
 use Rattle.ground.specs.Truth.{cond-by, eq-or-ne}
 use Rattle.judge.specs.Seen.{sizeOf}
@@ -30,14 +30,14 @@ use Rattle.phases.specs.Laws.Passed.{passed-group, passed-of-port, passedOn}
 use Rattle.phases.specs.Passing.{passedGroup, passedOf, passedStep}
 use Rattle.phases.specs.Settling.{begunOf, clearedStep, settledOf, stoppedOf}
 use Rattle.phases.specs.Sizes.{portsIn, storeFor}
-use Rattle.receiver.specs.Fetch.{dueIn, fetchRows, fits, givenRows}
+use Rattle.receiver.specs.Fetch.{dueIn, fetchRows, fits, rowsIfDue}
 use Rattle.receiver.specs.Frame.{frameAnswer, frameRows, frameStore, marksBy, storeBy, takenIn}
 use Rattle.receiver.specs.Laws.Answers.{taken-answer, unrefused}
 use Rattle.receiver.specs.Laws.Frames.{frame-other, frame-port, frameOn}
 use Rattle.receiver.specs.Laws.Passed.{cleared-joined, passed-kind, passed-oldest, passed-origin, passed-payload, passed-window}
 use Rattle.receiver.specs.Laws.Sizes.{ports-are}
 use Rattle.receiver.specs.Laws.Told.{statesIn, told-group, told-of-port, toldOn, withAck}
-use Rattle.receiver.specs.Report.{replyPorts, reportedOf, toldBy, toldOf}
+use Rattle.receiver.specs.Report.{replyPorts, reportedOf, withState, statesWorkedOut}
 use Rattle.receiver.specs.Starting.{groupWith, startAnswer, startRows}
 use Rattle.reply.specs.Telling.{ackOf}
 use Rattle.rows.specs.declared.group.Group.{Group}
@@ -96,7 +96,7 @@ module _ (tag : ℕ) (bytes : List ℕ) (h4 : ℕ) where
       record { bytes = λ k m. rw e at (f .bytes k (rw p m)); last = rw (e, p) at (f .last) }
 
   -- an epoch passed
-  passed-claimed : (n : ℕ) (s : List (List ℕ)) (k : Steady s) → groupAt s .count ≡ n → (store other : List ℕ) → flagOf (groupAt s .begun) ≡ true → brought (groupAt s) s n ≡ true → (j : ℕ) → j < n
+  passed-claimed : (n : ℕ) (s : List (List ℕ)) (k : Lasting s) → groupAt s .count ≡ n → (store other : List ℕ) → flagOf (groupAt s .begun) ≡ true → brought (groupAt s) s n ≡ true → (j : ℕ) → j < n
       → Claimed (passedOf (groupAt s) other n s) store j tag bytes h4 → Claimed s store j tag bytes h4
   passed-claimed n s k count store other begun due j b c =
       let g : Group = groupAt s in
@@ -110,7 +110,7 @@ module _ (tag : ℕ) (bytes : List ℕ) (h4 : ℕ) where
       let stands : Stands (passedGroup (groupAt s)) j (c .at) bytes h4 store = rw group at (c .stands) in
       record {
         at = c .at + frames (g .kind);
-        claims = passed-claims g (portAt s j .step) (portAt s j .marks) (k .ports j (let e = count in omega arith) .kept) begun (brought-lets g s n due j b) (c .at) claims;
+        claims = passed-claims g (portAt s j .step) (portAt s j .marks) (k .ports j (let e = count in omega arith) .kept) begun (brought-owes-nothing g s n due j b) (c .at) claims;
         tag-is = tag-is ∙ tag-passed g (passedGroup g) (c .at) (passed-kind g) (passed-oldest g);
         stands =
             stands-back g (passedGroup g) (frames (g .kind)) j (c .at) store (passed-payload g) (passed-window g) (passed-origin g some) stands;
@@ -135,13 +135,13 @@ module _ (tag : ℕ) (bytes : List ℕ) (h4 : ℕ) where
       (claims .has)
 
   -- states and RS-Ack worked out
-  told-claimed : (g : Group) (n : ℕ) (s : List (List ℕ)) → g ≡ groupAt s → rowsFor n ≤ length s → (store : List ℕ) (j : ℕ) → j < n → Claimed (toldOf g n s) store j tag bytes h4
+  told-claimed : (g : Group) (n : ℕ) (s : List (List ℕ)) → g ≡ groupAt s → rowsFor n ≤ length s → (store : List ℕ) (j : ℕ) → j < n → Claimed (statesWorkedOut g n s) store j tag bytes h4
       → Claimed s store j tag bytes h4
-  unfolding toldBy
+  unfolding withState
   told-claimed g n s same l store j b c =
       let ack : ℕ = ackOf (replyPorts g s n) (sizeOf n) (g .«rs_ack») in
-      let group : groupAt (toldOf g n s) ≡ withAck g ack = told-group g n s (omega arith) in
-      let port : portAt (toldOf g n s) j ≡ toldOn (portAt s j) (getD (statesIn g n s) j 0) = told-of-port g n s j b l in
+      let group : groupAt (statesWorkedOut g n s) ≡ withAck g ack = told-group g n s (omega arith) in
+      let port : portAt (statesWorkedOut g n s) j ≡ toldOn (portAt s j) (getD (statesIn g n s) j 0) = told-of-port g n s j b l in
       let claims : Claims (withAck g ack) (portAt s j .step) (portAt s j .marks) (c .at) = rw (group, port) at (c .claims) in
       let tag-is : tag ≡ tagIn (withAck g ack) (c .at) = rw group at (c .tag-is) in
       let stands : Stands (withAck g ack) j (c .at) bytes h4 store = rw group at (c .stands) in
@@ -254,8 +254,8 @@ module _ (tag : ℕ) (bytes : List ℕ) (h4 : ℕ) where
     taken-claimed j b c =
         ⊎-elim (λ (e : j ≡ i). rw e (own-claimed (rw e at c))) (λ (d : j ≢ i). inl (other-claimed j d b c)) (eq-or-ne j i)
 
-    steady : Steady a
-    steady = steady-frame s (k .steady) i failed h (o .port)
+    steady : Lasting a
+    steady = lasting-frame s (k .steady) i failed h (o .port)
 
     count : groupAt a .count ≡ n
     count = ap (λ (x : Group). x .count) same
@@ -282,7 +282,7 @@ module _ (tag : ℕ) (bytes : List ℕ) (h4 : ℕ) where
 
   pub fetch-claimed : (s : List (List ℕ)) → Kept s → (store out report : List ℕ) (j : ℕ) → j < groupAt s .count → Claimed (fetchRows s store out report) store j tag bytes h4
       → Claimed s store j tag bytes h4
-  unfolding fetchRows givenRows reportedOf
+  unfolding fetchRows rowsIfDue reportedOf
   fetch-claimed s k store out report j b =
       cond-by On (fits s store out report) (cond (dueIn (groupAt s) (portsIn (groupAt s)) s) (reportedOf (groupAt s) store (portsIn (groupAt s)) s) s) s
       (λ e.

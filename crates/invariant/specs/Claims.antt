@@ -16,12 +16,12 @@ use Rattle.ground.specs.Truth.{and-left, and-right, clash, eq-or-ne, le-or-lt, 
 use Rattle.packet.specs.Counts.{counts}
 use Rattle.packet.specs.Kinds.{endsEpoch, epochsIn, frames, startsEpoch, tags}
 use Rattle.packet.specs.Theorems.Tags.{frames-two}
-use Rattle.phases.specs.Due.{lets}
+use Rattle.phases.specs.Due.{owesNothing}
 use Rattle.phases.specs.Passing.{passedGroup, passedStep}
 use Rattle.receiver.specs.Frame.{marksBy}
 use Rattle.rows.specs.declared.group.Group.{Group}
 use Rattle.rows.specs.declared.step.Step.{Step}
-use Rattle.step.specs.Arrival.{aside, countsOn, distanceIn, flagOf, flagged, joining, keeps, outside, runOf, takenOf}
+use Rattle.step.specs.Arrival.{frameDropped, countsOn, distanceIn, flagOf, flagged, joining, keeps, outside, runOf, takenOf}
 use Rattle.step.specs.declared.arrival.Taken.{Taken}
 use Rattle.step.specs.declared.run.Run.{Run}
 use Rattle.step.specs.Laws.Arrival.{inWindow, ranOn, stepped, taken-by}
@@ -47,7 +47,7 @@ claims-inside g s marks k d c =
     (λ (p : Part g s d). let l = p .upto in let r = k .goes (p .joined) .reach in omega arith) (c .has)
 
 -- as an epoch is passed, what is claimed was claimed an epoch's frames further on
-pub passed-claims : (g : Group) (s : Step) (marks : List ℕ) → PortKept g s marks → flagOf (g .begun) ≡ true → lets g s marks ≡ true → (d : ℕ)
+pub passed-claims : (g : Group) (s : Step) (marks : List ℕ) → PortKept g s marks → flagOf (g .begun) ≡ true → owesNothing g s marks ≡ true → (d : ℕ)
     → Claims (passedGroup g) (passedStep s (firstMark marks)) (passedMarks marks) d → Claims g s marks (d + frames (g .kind))
 unfolding passedGroup passedStep
 passed-claims g s marks k begun due d c =
@@ -104,16 +104,16 @@ module _ (g : Group) (s : Step) (marks : List ℕ) (failed : Bool) (h : ℕ) (W 
         apart = λ e. never e;
       })
 
-  aside-stays : (run : Run) → (flagOf (g .begun) ≡ true → flagOf (s .joined) ≡ false) → Stays (aside g s run)
-  unfolding aside marksBy
-  aside-stays run off c =
+  dropped-stays : (run : Run) → (flagOf (g .begun) ≡ true → flagOf (s .joined) ≡ false) → Stays (frameDropped g s run)
+  unfolding frameDropped marksBy
+  dropped-stays run off c =
       inr (record {
         claims =
             record {
               begun = c .begun;
               has =
                   ⊎-elim (λ (m : markIn marks (d / frames (g .kind)) ≡ true). inl m)
-                  (λ (p : Part g (aside g s run .step) d). clash (flagOf (s .joined)) (p .joined) (off (c .begun))) (c .has);
+                  (λ (p : Part g (frameDropped g s run .step) d). clash (flagOf (s .joined)) (p .joined) (off (c .begun))) (c .has);
             };
         apart = λ e. never e;
       })
@@ -205,15 +205,15 @@ module _ (g : Group) (s : Step) (marks : List ℕ) (failed : Bool) (h : ℕ) (W 
       taken-by Stays g s failed h
       (λ f. flagged-stays)
       (λ f e. counts-stays (ranOn g s h))
-      (λ f e b. aside-stays (ranOn g s h) (λ t. clash (flagOf (g .begun)) t b))
+      (λ f e b. dropped-stays (ranOn g s h) (λ t. clash (flagOf (g .begun)) t b))
       (λ f e b j w. keeps-stays f e w j)
       (λ f e b j w. outside-stays)
       (λ f e b j t w. joins-stays f e w t)
-      (λ f e b j w. aside-stays (ranOn g s h) (λ t. j))
+      (λ f e b j w. dropped-stays (ranOn g s h) (λ t. j))
 
 -- a frame that is stored lies in the window
 pub taken-inside : (g : Group) (s : Step) (failed : Bool) (h : ℕ) → takenOf g s failed h .kept ≡ true → takenOf g s failed h .at < g .window
-unfolding flagged countsOn aside keeps outside joining
+unfolding flagged countsOn frameDropped keeps outside joining
 taken-inside g s failed h =
     taken-by (λ (t : Taken). t .kept ≡ true → t .at < g .window) g s failed h
     (λ f e. absurd (false≢true e))

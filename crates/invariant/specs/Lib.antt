@@ -3,7 +3,7 @@ pub mod Laws
 pub mod Settles
 pub mod Calls
 pub mod Arriving
-pub mod Same
+pub mod Sizes
 pub mod Claims
 pub mod Claimed
 pub mod Ruled

@@ -14,7 +14,7 @@ use Rattle.invariant.specs.Kept.Start.{started-kept, started-with}
 use Rattle.invariant.specs.Laws.Flags.{never, off-flag}
 use Rattle.invariant.specs.Laws.Window.{mfi2-within, packet-numbered, ruling-passed, tagIn}
 use Rattle.invariant.specs.Ruled.{AllPassed, AllStay, AllUnruled, rowsPassed, step-ruled}
-use Rattle.invariant.specs.Same.{step-sizes}
+use Rattle.invariant.specs.Sizes.{step-sizes}
 use Rattle.ground.specs.Truth.{clash}
 use Rattle.packet.specs.Counts.{counts}
 use Rattle.packet.specs.Kinds.{frames, lead}

@@ -5,4 +5,4 @@ pub mod Held
 pub mod Groups
 pub mod Order
 pub mod Ack
-pub mod Again
+pub mod HandedAgain

@@ -15,7 +15,7 @@ use Rattle.invariant.specs.Kept.Start.{started-kept, started-with}
 use Rattle.invariant.specs.Kept.Taken.{taken-whole}
 use Rattle.invariant.specs.Laws.Flags.{off-flag}
 use Rattle.invariant.specs.Laws.Settling.{settled-by}
-use Rattle.invariant.specs.Same.{step-sizes}
+use Rattle.invariant.specs.Sizes.{step-sizes}
 use Rattle.ground.specs.Truth.{cond-by, eq-or-ne}
 use Rattle.packet.specs.Kinds.{epochAfter}
 use Rattle.phases.specs.Laws.Cleared.{begun-port, stopped-port}
@@ -24,7 +24,7 @@ use Rattle.phases.specs.Laws.Passed.{passed-group, passed-of-port}
 use Rattle.phases.specs.Passing.{passedOf}
 use Rattle.phases.specs.Settling.{stoppedOf}
 use Rattle.phases.specs.Sizes.{portsIn}
-use Rattle.receiver.specs.Fetch.{dueIn, fetchRows, fits, givenRows}
+use Rattle.receiver.specs.Fetch.{dueIn, fetchRows, fits, rowsIfDue}
 use Rattle.receiver.specs.Frame.{frameRows, frameStore, takenIn}
 use Rattle.receiver.specs.Laws.Frames.{frame-other, frame-port}
 use Rattle.receiver.specs.Laws.Passed.{cleared-whole, passed-oldest, step-whole}
@@ -165,7 +165,7 @@ module _ (s : List (List ℕ)) (k : Kept s) (store out report : List ℕ) where
       l = rw (length-passed (groupAt s) store (groupAt s .count) s) enough
 
   pub fetch-ruled : Ruled y (Fetch out report) store (fetchRows s store out report)
-  unfolding fetchRows givenRows
+  unfolding fetchRows rowsIfDue
   fetch-ruled =
       cond-by (Ruled y (Fetch out report) store) (fits s store out report) (cond (dueIn g (portsIn g) s) (reportedOf g store (portsIn g) s) s) s
       (λ e. cond-by (Ruled y (Fetch out report) store) (dueIn g (portsIn g) s) (reportedOf g store (portsIn g) s) s (λ d. inr (inr (rw ports (reported (due-says g (portsIn g) s d .begun))))) (λ d. stays)) (λ e. stays)

@@ -12,7 +12,7 @@ use Rattle.invariant.specs.Kept.Steps.{windowed}
 use Rattle.counting.specs.Laws.Tests.{every-all, every-at, every-fails}
 use Rattle.counting.specs.Words.{every}
 use Rattle.ground.specs.Truth.{clash, eq-or-ne, fails}
-use Rattle.phases.specs.Due.{brought, lets, silent}
+use Rattle.phases.specs.Due.{brought, owesNothing, silent}
 use Rattle.phases.specs.Settling.{settledOf}
 use Rattle.phases.specs.Theorems.Settled.{Settled, heard-port, settled-stays}
 use Rattle.receiver.specs.Frame.{marksBy, portRows, settledBy, takenIn}
@@ -74,12 +74,12 @@ module _ (s : List (List ℕ)) (k : Kept s) (i : ℕ) (failed : Bool) (h : ℕ) 
     unfolding brought
     still-waits f e =
         fails (brought g after n) (λ (t : brought g after n ≡ true).
-        true≢false (sym (every-all n (λ j. lets g (stepAt s j) (marksAt s j)) (λ j c. before t j c)) ∙ e))
+        true≢false (sym (every-all n (λ j. owesNothing g (stepAt s j) (marksAt s j)) (λ j c. before t j c)) ∙ e))
       where
-        before : every n (λ j. lets g (stepAt after j) (marksAt after j)) ≡ true → (j : ℕ) → j < n → lets g (stepAt s j) (marksAt s j) ≡ true
+        before : every n (λ j. owesNothing g (stepAt after j) (marksAt after j)) ≡ true → (j : ℕ) → j < n → owesNothing g (stepAt s j) (marksAt s j) ≡ true
         before t j c =
-            let l : lets g (stepAt after j) (marksAt after j) ≡ true = every-at n (λ m. lets g (stepAt after m) (marksAt after m)) t j c in
-            ⊎-elim (λ (z : j ≡ i). rw z (q .lets f (rw (z, step-now, marks-now) at l))) (λ (d : j ≢ i). rw (step-other j d, marks-other j d) at l) (eq-or-ne j i)
+            let l : owesNothing g (stepAt after j) (marksAt after j) ≡ true = every-at n (λ m. owesNothing g (stepAt after m) (marksAt after m)) t j c in
+            ⊎-elim (λ (z : j ≡ i). rw z (q .owesNothing f (rw (z, step-now, marks-now) at l))) (λ (d : j ≢ i). rw (step-other j d, marks-other j d) at l) (eq-or-ne j i)
 
     nothing-follows : Settled n after
     nothing-follows =

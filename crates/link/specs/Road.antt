@@ -27,7 +27,7 @@ pub record Road : Type 0 where
   pub first : ℕ → ℕ
   -- 'in any port order within a frame time', new in each
   pub order : ℕ → List ℕ
-  -- the output lent for the k-th report: 'the output may be anything'
+  -- the output lent for the k-th report, which may be anything
   pub output : ℕ → List ℕ
 
 -- frames that an epoch has

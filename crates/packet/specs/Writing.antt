@@ -16,7 +16,7 @@ writingNumber Done = 0
 writingNumber Length = 9
 writingNumber Field = 8
 
--- '8: a field given for writing is too large, or its word is FIXED or unassigned'
+-- 8: 'a field given for writing is too large, or its word is FIXED or unassigned'
 unfoldable pub fitting : Fields → Bool
 fitting f =
     ltb (f .epoch) 256

@@ -1,6 +1,6 @@
 // What one H4 byte says (01, 'The control packet'): its count, and the packet's nibble that it carries.
 ghost use mathlib.Core.Path.{_≡_};
-ghost use Rattle.packet.specs.Counts.{nibbleIn, nibblePlace, startsCount, afterFirst, goesSecond, afterSecond, counts};
+ghost use Rattle.packet.specs.Counts.{nibbleIn, nibblePlace, startsCount, tagByHigh, carriesLow, tagByLow, counts};
 
 pub fn nibble_in(kind: u8, h4: u8) -> u8
     ensures { λ r. ⌜ r ≡ nibbleIn kind h4 ⌝ }
@@ -23,21 +23,21 @@ pub fn starts_count(kind: u8, h4: u8) -> bool
 }
 
 // The tag after such a frame, as far as it tells.
-pub fn after_first(kind: u8, h4: u8) -> u16
-    ensures { λ r. ⌜ r ≡ afterFirst kind h4 ⌝ }
+pub fn tag_by_high(kind: u8, h4: u8) -> u16
+    ensures { λ r. ⌜ r ≡ tagByHigh kind h4 ⌝ }
 {
     (h4 / 16 % 16) as u16 * 256 + 1
 }
 
-pub fn goes_second(kind: u8, h4: u8) -> bool
-    ensures { λ r. ⌜ r ≡ goesSecond kind h4 ⌝ }
+pub fn carries_low(kind: u8, h4: u8) -> bool
+    ensures { λ r. ⌜ r ≡ carriesLow kind h4 ⌝ }
 {
     h4 % 16 == 1
 }
 
 // The tag after a second frame: `tag` is what the first one told.
-pub fn after_second(kind: u8, tag: u16, h4: u8) -> u16
-    ensures { λ r. ⌜ r ≡ afterSecond kind tag h4 ⌝ }
+pub fn tag_by_low(kind: u8, tag: u16, h4: u8) -> u16
+    ensures { λ r. ⌜ r ≡ tagByLow kind tag h4 ⌝ }
 {
     tag / 256 % 16 * 256 + (h4 / 16 % 16) as u16 * 16 + 2
 }

@@ -1,4 +1,4 @@
 -- What 01 asks of payload order, proved on the definitions.
 pub mod Laid
-pub mod Only
+pub mod NoSecondAnswer
 pub mod RoundTrip

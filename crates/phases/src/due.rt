@@ -9,31 +9,31 @@ ghost use mathlib.Core.Bool.{not};
 ghost use Rattle.rows.specs.Packets.{marksAt};
 ghost use Rattle.rows.specs.Step.{stepAt};
 ghost use Rattle.step.specs.Arrival.{readable};
-ghost use Rattle.phases.specs.Due.{brought, lets, silent};
+ghost use Rattle.phases.specs.Due.{brought, owesNothing, silent};
 
-fn lets_pass(group: Group, step: Step, row: [u8; 16]) -> bool
-    ensures { λ r. ⌜ r ≡ lets group step row ⌝ }
+fn owes_nothing(group: Group, step: Step, row: [u8; 16]) -> bool
+    ensures { λ r. ⌜ r ≡ owesNothing group step row ⌝ }
 {
     let readable = step::is_readable(group, step);
     let first = marks::first(row);
     !readable | first | is_set(step.joined) & is_set(step.later)
 }
 
-fn port_lets(group: Group, state: &[[u8; 16]], port: u8) -> bool
-    ensures { λ r. ⌜ r ≡ lets group (stepAt (now (state .entry)) port) (marksAt (now (state .entry)) port) ⌝ }
+fn port_owes_nothing(group: Group, state: &[[u8; 16]], port: u8) -> bool
+    ensures { λ r. ⌜ r ≡ owesNothing group (stepAt (now (state .entry)) port) (marksAt (now (state .entry)) port) ⌝ }
 {
     let step = rows::step::get(state, port);
     let row = packets::marks(state, port);
-    lets_pass(group, step, row)
+    owes_nothing(group, step, row)
 }
 
 // Whether the oldest epoch lies whole in the store, as far as readable ports have joined. Ends at the first port that still owes a frame.
-pub fn is_brought(group: Group, state: &[[u8; 16]], ports: u8) -> bool
+pub fn is_complete(group: Group, state: &[[u8; 16]], ports: u8) -> bool
     ensures { λ r. ⌜ r ≡ brought group (now (state .entry)) ports ⌝ }
 {
     let mut i = 0;
     while i < ports {
-        if !port_lets(group, state, i) {
+        if !port_owes_nothing(group, state, i) {
             return false;
         }
         i += 1;

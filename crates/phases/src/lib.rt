@@ -7,7 +7,7 @@ mod settling;
 mod sizes;
 mod starting;
 
-pub use due::is_brought;
+pub use due::is_complete;
 pub use passing::pass;
 pub use ruling::Ruling;
 pub use ruling::ruling_of;

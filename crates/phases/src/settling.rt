@@ -95,7 +95,7 @@ fn gather_by(group: Group, store: &[u8], ports: u8, state: &mut [[u8; 16]])
     ensures { λ _. ⌜ now (state .exit) ≡ gatherBy group (now (store .entry)) ports (now (state .entry)) ⌝ }
 {
     if is_set(group.begun) & !is_set(group.gathered) {
-        if due::is_brought(group, state, ports) {
+        if due::is_complete(group, state, ports) {
             passing::pass(group, store, ports, state);
         }
     }

@@ -23,8 +23,8 @@ use Rattle.rows.specs.Rows.{putRow, rowIn}
 use Rattle.rows.specs.Step.{putStep, stepAt, withNext}
 use Rattle.step.specs.declared.arrival.Taken.{Taken}
 use Rattle.step.specs.Arrival.{distanceIn, takenOf}
-use Rattle.step.specs.Laws.Steady.{amid-goes-on, steady-taken}
-use Rattle.step.specs.Steady.{amid, steady, steadyTaken}
+use Rattle.step.specs.Laws.Steady.{mid-epoch-goes-on, steady-taken}
+use Rattle.step.specs.Steady.{midEpoch, steady, steadyTaken}
 use Rattle.store.specs.Frames.{placeIn, storedAt}
 use Rattle.store.specs.Marks.{cutFrom, markedAt}
 
@@ -119,7 +119,7 @@ port-rows kind s i t h stepped gathered marked e1 e2 e3 =
     let m : marksAt gathered i ≡ marksAt s i = rw e2 (marks-put-packets stepped i (gatheredBy kind (packetsAt stepped i) (t .counted) h) i ∙ same) in
     e3 ∙ rw (m, e2, p, e1) refl
 
--- A steady frame amid the window: the marks are put back as they were.
+-- A steady frame in mid-epoch: the marks are put back as they were.
 module _ (s : List (List ℕ)) (i h : ℕ) (g : Group) where
   steady-marks : marksAt (steadyRows (g .kind) (stepAt s i .next) h i s) i ≡ marksAt s i
   unfolding steadyRows
@@ -133,11 +133,11 @@ module _ (s : List (List ℕ)) (i h : ℕ) (g : Group) where
   unfolding portRows steadyTaken marksBy gatheredBy withNibble steadyRows
   steady-parts e = rw e refl
 
-  pub steady-rows : amid g (distanceIn g (stepAt s i .next)) ≡ true → portRows (g .kind) s i (steadyTaken g (stepAt s i)) h ≡ steadyRows (g .kind) (stepAt s i .next) h i s
-  steady-rows w = steady-parts (amid-goes-on g (distanceIn g (stepAt s i .next)) w) ∙ same-marks s i (steadyRows (g .kind) (stepAt s i .next) h i s) steady-marks
+  pub steady-rows : midEpoch g (distanceIn g (stepAt s i .next)) ≡ true → portRows (g .kind) s i (steadyTaken g (stepAt s i)) h ≡ steadyRows (g .kind) (stepAt s i .next) h i s
+  steady-rows w = steady-parts (mid-epoch-goes-on g (distanceIn g (stepAt s i .next)) w) ∙ same-marks s i (steadyRows (g .kind) (stepAt s i .next) h i s) steady-marks
 
 module _ (s : List (List ℕ)) (i : ℕ) (failed : Bool) (h : ℕ) (payload store : List ℕ) (g : Group) (eg : g ≡ groupAt s) where
-  steady-arrives : (rows : List (List ℕ)) (kept : List ℕ) → steady g (stepAt s i) failed h ≡ true → amid g (distanceIn g (stepAt s i .next)) ≡ true
+  steady-arrives : (rows : List (List ℕ)) (kept : List ℕ) → steady g (stepAt s i) failed h ≡ true → midEpoch g (distanceIn g (stepAt s i .next)) ≡ true
       → rows ≡ steadyRows (g .kind) (stepAt s i .next) h i s → kept ≡ storedAt store (placeIn g i (distanceIn g (stepAt s i .next))) payload h
       → (0 ≡ takenOf (groupAt s) (stepAt s i) failed h .answer)
       × (rows ≡ takenRows (groupAt s) (portsIn (groupAt s)) s i (takenOf (groupAt s) (stepAt s i) failed h) h payload store)
@@ -146,12 +146,12 @@ module _ (s : List (List ℕ)) (i : ℕ) (failed : Bool) (h : ℕ) (payload stor
   steady-arrives rows kept st w er ek =
       rw (← eg, steady-taken g (stepAt s i) failed h st w) (refl, er ∙ sym (steady-rows s i h g w), ek)
 
-  pub arrive-steady : (step : Step) (at : ℕ) (rows : List (List ℕ)) (kept : List ℕ) → step ≡ stepAt s i → steady g step failed h ≡ true → at ≡ distanceIn g (step .next) → amid g at ≡ true
+  pub arrive-steady : (step : Step) (at : ℕ) (rows : List (List ℕ)) (kept : List ℕ) → step ≡ stepAt s i → steady g step failed h ≡ true → at ≡ distanceIn g (step .next) → midEpoch g at ≡ true
       → rows ≡ steadyRows (g .kind) (step .next) h i s → kept ≡ storedAt store (placeIn g i at) payload h
       → (0 ≡ takenOf (groupAt s) (stepAt s i) failed h .answer)
       × (rows ≡ takenRows (groupAt s) (portsIn (groupAt s)) s i (takenOf (groupAt s) (stepAt s i) failed h) h payload store)
       × (kept ≡ takenStore (groupAt s) i (takenOf (groupAt s) (stepAt s i) failed h) h payload store)
   arrive-steady step at rows kept es st ea w er ek =
-      steady-arrives rows kept (subst (λ q. steady g q failed h ≡ true) es st) (subst (λ q. amid g (distanceIn g (q .next)) ≡ true) es (subst (λ d. amid g d ≡ true) ea w))
+      steady-arrives rows kept (subst (λ q. steady g q failed h ≡ true) es st) (subst (λ q. midEpoch g (distanceIn g (q .next)) ≡ true) es (subst (λ d. midEpoch g d ≡ true) ea w))
       (subst (λ q. rows ≡ steadyRows (g .kind) (q .next) h i s) es er)
       (subst (λ q. kept ≡ storedAt store (placeIn g i (distanceIn g (q .next))) payload h) es (subst (λ d. kept ≡ storedAt store (placeIn g i d) payload h) ea ek))

@@ -11,7 +11,7 @@ use Rattle.judge.specs.Seen.{sizeOf}
 use Rattle.judge.specs.Verdict.{judgeOf}
 use Rattle.phases.specs.Sizes.{portsIn}
 use Rattle.receiver.specs.declared.report.Report.{Report}
-use Rattle.receiver.specs.Fetch.{dueIn, fetchAnswer, fetchOut, fetchRecord, fetchRows, fits, givenOut, givenReport, givenRows, noneDue, recordOf}
+use Rattle.receiver.specs.Fetch.{dueIn, fetchAnswer, fetchOut, fetchRecord, fetchRows, fits, outIfDue, reportIfDue, rowsIfDue, noneDue, recordOf}
 use Rattle.receiver.specs.Lengths.{fetchFits}
 use Rattle.receiver.specs.Report.{outputBy, outputOf, reportBy, reportOf, reportedOf, seenAll}
 use Rattle.rows.specs.declared.group.Group.{Group}
@@ -28,13 +28,13 @@ module _ (g : Group) (n : ℕ) (s : List (List ℕ)) (store out : List ℕ) wher
   module _ (due : Bool) (ed : due ≡ dueIn g n s) where
     pub given-due : (report : Report) (rows : List (List ℕ)) (left : List ℕ) → due ≡ true
         → (report ≡ reportOf g (seenAll g s n) n) × (rows ≡ reportedOf g store n s) × (left ≡ outputOf g (seenAll g s n) n store out)
-        → (report ≡ givenReport g n s) × (rows ≡ givenRows g n s store) × (left ≡ givenOut g n s store out)
-    unfolding givenReport givenRows givenOut
+        → (report ≡ reportIfDue g n s) × (rows ≡ rowsIfDue g n s store) × (left ≡ outIfDue g n s store out)
+    unfolding reportIfDue rowsIfDue outIfDue
     given-due report rows left e h = rw (← ed, e) h
 
     pub given-none : (report : Report) → due ≡ false → report ≡ noneDue
-        → (report ≡ givenReport g n s) × (s ≡ givenRows g n s store) × (out ≡ givenOut g n s store out)
-    unfolding givenReport givenRows givenOut
+        → (report ≡ reportIfDue g n s) × (s ≡ rowsIfDue g n s store) × (out ≡ outIfDue g n s store out)
+    unfolding reportIfDue rowsIfDue outIfDue
     given-none report e h = rw (← ed, e) (h, refl, refl)
 
 module _ (s : List (List ℕ)) (store out lent : List ℕ) (g : Group) (n : ℕ) (fit : Bool) (eg : g ≡ groupAt s) (en : n ≡ portsIn g)
@@ -49,7 +49,7 @@ module _ (s : List (List ℕ)) (store out lent : List ℕ) (g : Group) (n : ℕ)
   fetch-unfit e = rw (← same-fits, e) (refl, refl, refl, refl)
 
   pub fetch-fit : (report : Report) (rows : List (List ℕ)) (left told : List ℕ) → fit ≡ true
-      → report ≡ givenReport g n s → rows ≡ givenRows g n s store → left ≡ givenOut g n s store out → told ≡ recordOf report
+      → report ≡ reportIfDue g n s → rows ≡ rowsIfDue g n s store → left ≡ outIfDue g n s store out → told ≡ recordOf report
       → (0 ≡ fetchAnswer s store out lent) × (rows ≡ fetchRows s store out lent) × (left ≡ fetchOut s store out lent) × (told ≡ fetchRecord s store out lent)
   unfolding fetchAnswer fetchRows fetchOut fetchRecord
   fetch-fit report rows left told e er es el et = rw (← same-fits, e, ← eg, ← en, ← er) (refl, es, el, et)

@@ -35,14 +35,14 @@ recordOf r =
 
 -- 'A fetch with none due answers 0, says so, and changes nothing.'
 
-unfoldable pub givenReport : Group → ℕ → List (List ℕ) → Report
-givenReport g n s = cond (dueIn g n s) (reportOf g (seenAll g s n) n) noneDue
+unfoldable pub reportIfDue : Group → ℕ → List (List ℕ) → Report
+reportIfDue g n s = cond (dueIn g n s) (reportOf g (seenAll g s n) n) noneDue
 
-unfoldable pub givenRows : Group → ℕ → List (List ℕ) → List ℕ → List (List ℕ)
-givenRows g n s store = cond (dueIn g n s) (reportedOf g store n s) s
+unfoldable pub rowsIfDue : Group → ℕ → List (List ℕ) → List ℕ → List (List ℕ)
+rowsIfDue g n s store = cond (dueIn g n s) (reportedOf g store n s) s
 
-unfoldable pub givenOut : Group → ℕ → List (List ℕ) → List ℕ → List ℕ → List ℕ
-givenOut g n s store out = cond (dueIn g n s) (outputOf g (seenAll g s n) n store out) out
+unfoldable pub outIfDue : Group → ℕ → List (List ℕ) → List ℕ → List ℕ → List ℕ
+outIfDue g n s store out = cond (dueIn g n s) (outputOf g (seenAll g s n) n store out) out
 
 module _ (s : List (List ℕ)) (store out report : List ℕ) where
   unfoldable pub fits : Bool
@@ -52,10 +52,10 @@ module _ (s : List (List ℕ)) (store out report : List ℕ) where
   fetchAnswer = cond fits 0 9
 
   unfoldable pub fetchRows : List (List ℕ)
-  fetchRows = cond fits (givenRows (groupAt s) (portsIn (groupAt s)) s store) s
+  fetchRows = cond fits (rowsIfDue (groupAt s) (portsIn (groupAt s)) s store) s
 
   unfoldable pub fetchOut : List ℕ
-  fetchOut = cond fits (givenOut (groupAt s) (portsIn (groupAt s)) s store out) out
+  fetchOut = cond fits (outIfDue (groupAt s) (portsIn (groupAt s)) s store out) out
 
   unfoldable pub fetchRecord : List ℕ
-  fetchRecord = cond fits (recordOf (givenReport (groupAt s) (portsIn (groupAt s)) s)) report
+  fetchRecord = cond fits (recordOf (reportIfDue (groupAt s) (portsIn (groupAt s)) s)) report

@@ -65,7 +65,7 @@ decidedRows s i failed h payload store = takenRows (groupAt s) (portsIn (groupAt
 abbrev pub decidedStore : List (List ℕ) → ℕ → Bool → ℕ → List ℕ → List ℕ → List ℕ
 decidedStore s i failed h payload store = takenStore (groupAt s) i (takenIn s i failed h) h payload store
 
--- '1: .. port not below the group's count'; '9: payload, store .. length wrong'
+-- 1: 'port not below the group's count'; 9: 'payload, store .. length wrong'
 unfoldable pub refusalBy : Group → ℕ → ℕ → ℕ → ℕ → ℕ → ℕ
 refusalBy g n i rows payload store = cond (ltb i n) (cond (frameFits g n rows payload store) 0 9) 1
 

@@ -101,8 +101,8 @@ unfoldable pub replyPorts : Group → List (List ℕ) → ℕ → List Port
 replyPorts g s n = each (sizeOf n) (replyPort g s) (replicate 64 noPort)
 
 -- 'Worked out at each report'
-unfoldable pub toldBy : Member → ℕ → Member
-toldBy m state =
+unfoldable pub withState : Member → ℕ → Member
+withState m state =
     record {
       word = m .word;
       number = m .number;
@@ -122,20 +122,20 @@ toldBy m state =
       «spare_15» = m .«spare_15»;
     }
 
-unfoldable pub toldPort : List ℕ → ℕ → List (List ℕ) → List (List ℕ)
-toldPort states i s = putMember s i (toldBy (memberAt s i) (getD states i 0))
+unfoldable pub statePut : List ℕ → ℕ → List (List ℕ) → List (List ℕ)
+statePut states i s = putMember s i (withState (memberAt s i) (getD states i 0))
 
-unfoldable pub toldPorts : List ℕ → ℕ → List (List ℕ) → List (List ℕ)
-toldPorts states zero s = s
-toldPorts states (suc n) s = toldPort states n (toldPorts states n s)
+unfoldable pub statesPut : List ℕ → ℕ → List (List ℕ) → List (List ℕ)
+statesPut states zero s = s
+statesPut states (suc n) s = statePut states n (statesPut states n s)
 
-unfoldable pub toldOf : Group → ℕ → List (List ℕ) → List (List ℕ)
-toldOf g n s =
+unfoldable pub statesWorkedOut : Group → ℕ → List (List ℕ) → List (List ℕ)
+statesWorkedOut g n s =
     let ports = replyPorts g s n in
-    putGroup (toldPorts (statesOf ports (sizeOf n)) n s) (groupTo g (g .begun) (g .gathered) (g .oldest) (g .origin) (ackOf ports (sizeOf n) (g .«rs_ack»)))
+    putGroup (statesPut (statesOf ports (sizeOf n)) n s) (groupTo g (g .begun) (g .gathered) (g .oldest) (g .origin) (ackOf ports (sizeOf n) (g .«rs_ack»)))
 
 -- the state after a report: the epoch is passed, then states and RS-Ack are worked out from the good packets up to its own
 unfoldable pub reportedOf : Group → List ℕ → ℕ → List (List ℕ) → List (List ℕ)
 reportedOf g store n s =
     let a = passedOf g store n s in
-    toldOf (groupAt a) n a
+    statesWorkedOut (groupAt a) n a

@@ -126,7 +126,7 @@ fn decided(
     taken.answer
 }
 
-// The rows after a steady frame amid the window.
+// The rows after a steady frame in mid-epoch.
 fn go_on(kind: u8, next: u16, h4: u8, port: u8, state: &mut [[u8; 16]])
     ensures { λ _. ⌜ now (state .exit) ≡ steadyRows kind next h4 port (now (state .entry)) ⌝ }
 {
@@ -156,7 +156,7 @@ fn arrive(
     let step = rows::step::get(state, port);
     if step::is_steady(group, step, failed, h4) {
         let at = step::distance_in(group, step.next);
-        if step::is_amid(group, at) {
+        if step::is_mid_epoch(group, at) {
             go_on(group.kind, step.next, h4, port, state);
             keep(group, port, at, h4, payload, store);
             return 0;

@@ -4,11 +4,11 @@ use crate::joining;
 use crate::lengths;
 use crate::report;
 use crate::report::Report;
-use crate::telling;
+use crate::states;
 use rows::Group;
 ghost use mathlib.Core.Path.{_≡_};
 ghost use lib.ListN.{length};
-ghost use Rattle.receiver.specs.Fetch.{dueIn, fetchAnswer, fetchOut, fetchRecord, fetchRows, givenOut, givenReport, givenRows, noneDue, recordOf};
+ghost use Rattle.receiver.specs.Fetch.{dueIn, fetchAnswer, fetchOut, fetchRecord, fetchRows, outIfDue, reportIfDue, rowsIfDue, noneDue, recordOf};
 ghost use Rattle.receiver.specs.Report.{outputOf, reportOf, reportedOf, seenAll};
 
 // A host fetches after every frame: the two flags come first, and the ports end at the first one that still owes a frame.
@@ -16,7 +16,7 @@ fn is_due(group: Group, ports: u8, state: &[[u8; 16]]) -> bool
     ensures { λ r. ⌜ r ≡ dueIn group ports (now (state .entry)) ⌝ }
 {
     if (0 < ports) & flags::is_set(group.begun) & flags::is_set(group.gathered) {
-        return phases::is_brought(group, state, ports);
+        return phases::is_complete(group, state, ports);
     }
     false
 }
@@ -33,7 +33,13 @@ fn none_due() -> Report
 }
 
 // The report of the oldest epoch, which is due.
-fn give(group: Group, ports: u8, state: &mut [[u8; 16]], store: &[u8], out: &mut [u8]) -> Report
+fn report_oldest(
+    group: Group,
+    ports: u8,
+    state: &mut [[u8; 16]],
+    store: &[u8],
+    out: &mut [u8],
+) -> Report
     ensures { λ r. ⌜ (r ≡ reportOf group (seenAll group (now (state .entry)) ports) ports)
         × (now (state .exit) ≡ reportedOf group (now (store .entry)) ports (now (state .entry)))
         × (now (out .exit) ≡ outputOf group (seenAll group (now (state .entry)) ports) ports (now (store .entry)) (now (out .entry))) ⌝ }
@@ -42,17 +48,23 @@ fn give(group: Group, ports: u8, state: &mut [[u8; 16]], store: &[u8], out: &mut
     let mark = judge::judge(seen, ports);
     let order = judge::ordered(seen, ports);
     joining::output_by(group, mark, order, store, out);
-    telling::pass(group, store, ports, state);
+    states::pass(group, store, ports, state);
     joining::report_by(group, mark, order)
 }
 
-fn give_due(group: Group, ports: u8, state: &mut [[u8; 16]], store: &[u8], out: &mut [u8]) -> Report
-    ensures { λ r. ⌜ (r ≡ givenReport group ports (now (state .entry)))
-        × (now (state .exit) ≡ givenRows group ports (now (state .entry)) (now (store .entry)))
-        × (now (out .exit) ≡ givenOut group ports (now (state .entry)) (now (store .entry)) (now (out .entry))) ⌝ }
+fn report_if_due(
+    group: Group,
+    ports: u8,
+    state: &mut [[u8; 16]],
+    store: &[u8],
+    out: &mut [u8],
+) -> Report
+    ensures { λ r. ⌜ (r ≡ reportIfDue group ports (now (state .entry)))
+        × (now (state .exit) ≡ rowsIfDue group ports (now (state .entry)) (now (store .entry)))
+        × (now (out .exit) ≡ outIfDue group ports (now (state .entry)) (now (store .entry)) (now (out .entry))) ⌝ }
 {
     if is_due(group, ports, state) {
-        return give(group, ports, state, store, out);
+        return report_oldest(group, ports, state, store, out);
     }
     none_due()
 }
@@ -99,7 +111,7 @@ pub fn fetch(state: &mut [[u8; 16]], store: &[u8], out: &mut [u8], report: &mut 
     ) {
         return 9;
     }
-    let given = give_due(group, ports, state, store, out);
+    let given = report_if_due(group, ports, state, store, out);
     put_record(given, report);
     0
 }

@@ -8,7 +8,7 @@ mod lengths;
 mod report;
 mod shown;
 mod starting;
-mod telling;
+mod states;
 
 pub use arrival::frame;
 pub use fetching::fetch;

@@ -1,7 +1,7 @@
 // What the host reads out: the ports, and the reply (01, 'Member states and reply').
 use crate::flags;
 use crate::lengths;
-use crate::telling;
+use crate::states;
 use packet::kinds;
 use reply::Port;
 use rows::Group;
@@ -106,7 +106,7 @@ pub fn reply(state: &[[u8; 16]], epoch: u8, out: &mut [u8]) -> u8
     if !is_reply(count, state.len(), out.len()) {
         return 9;
     }
-    let all = telling::reply_ports(group, state, count);
+    let all = states::reply_ports(group, state, count);
     let mst = reply::mst(group.kind, all, count, epoch);
     let ack = flags::flag_byte(flags::is_set(group.rs_ack));
     put_reply(mst, ack, out);

@@ -9,5 +9,5 @@ pub mod Member
 pub mod Packets
 pub mod Marks
 pub mod Port
-pub mod Same
+pub mod EqualRows
 pub mod Parts

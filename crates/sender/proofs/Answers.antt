@@ -15,10 +15,10 @@ use Rattle.sender.specs.declared.finding.Found.the-variants.{At, Nothing
 use Rattle.sender.specs.declared.table.Answer.the-variants.{Done, NoSlot, NotAllowed, OutOfRange, WaitOpen}
 use Rattle.sender.specs.declared.table.Slot.{Slot}
 use Rattle.sender.specs.declared.table.State.{State}
-use Rattle.sender.specs.declared.table.Step.{Step}
+use Rattle.sender.specs.declared.table.Outcome.{Outcome}
 use Rattle.sender.specs.declared.table.Table.{Table}
 use Rattle.sender.specs.Commands.{addOf, addedTo, answered, fallen, freshOf, inOrder, removeOf, removedFrom, startOf}
-use Rattle.sender.specs.Reports.{actedOn, heardIn, numberAfter, opensWait, renumbered, reportOf, slotAfter, spoken, toldIn, turnOf, waited}
+use Rattle.sender.specs.Reports.{actedOn, mstApplied, numberAfter, opensWait, renumbered, reportOf, slotAfter, becomes, numberApplied, turnOf, waited}
 use Rattle.sender.specs.Table.{holderOf, isAdd, isMember, sizeOf, slotAt}
 
 module _ (kind count : ℕ) (t : Table) where
@@ -49,7 +49,7 @@ module _ (q : ℕ) (s : Slot) (member : Bool) (e : member ≡ isMember (s .state
 -- where no refusal holds
 in-order : (t next : Table) (i : ℕ) (allowed : Bool) → ltb i (sizeOf (t .count)) ≡ true → t .wait ≡ false → allowed ≡ true → answered next Done ≡ inOrder t i allowed next
 in-order t next i allowed h w a =
-    let last : Step = cond allowed (answered next Done) (answered t NotAllowed) in
+    let last : Outcome = cond allowed (answered next Done) (answered t NotAllowed) in
     sym (
     ap (λ (b : Bool). cond b (cond (t .wait) (answered t WaitOpen) last) (answered t NoSlot)) h
     ∙ ap (λ (b : Bool). cond b (answered t WaitOpen) last) w
@@ -93,13 +93,13 @@ module _ (t : Table) (i : ℕ) {n : ℕ} (e : n ≡ sizeOf (t .count)) where
 
 -- one reported number
 module _ (slots heard : List Slot) (n q mst : ℕ) (fails : Bool) (found : Found) (e : fails ≡ mstFails mst q) (h : found ≡ holderOf slots n q) where
-  pub told-at : (i : ℕ) (state : State) → found ≡ At i → state ≡ spoken fails (slotAt heard i .state)
-      → set heard i (record { state = state; number = slotAt heard i .number }) ≡ toldIn slots heard n q mst
-  unfolding toldIn
+  pub told-at : (i : ℕ) (state : State) → found ≡ At i → state ≡ becomes fails (slotAt heard i .state)
+      → set heard i (record { state = state; number = slotAt heard i .number }) ≡ numberApplied slots heard n q mst
+  unfolding numberApplied
   told-at i state g s = rw (← e, ← h, g, s)
 
-  pub told-none : found ≡ Nothing → heard ≡ toldIn slots heard n q mst
-  unfolding toldIn
+  pub told-none : found ≡ Nothing → heard ≡ numberApplied slots heard n q mst
+  unfolding numberApplied
   told-none g = rw (← e, ← h, g)
 
 -- a slot's number after a report
@@ -114,15 +114,15 @@ module _ (was is : List Slot) (n i : ℕ) where
   after-other a = rw a
 
 pub acted-is : (t : Table) (e mst ack : ℕ) {n first numbers : ℕ} {is next : List Slot} {wait : Bool} → n ≡ sizeOf (t .count) → first ≡ mstFirst (t .kind) e → numbers ≡ mstNumbers (t .kind)
-    → is ≡ heardIn (t .slots) n first mst numbers → next ≡ renumbered (t .slots) is n → wait ≡ opensWait (t .slots) is n
+    → is ≡ mstApplied (t .slots) n first mst numbers → next ≡ renumbered (t .slots) is n → wait ≡ opensWait (t .slots) is n
     → record { slots = next; count = t .count; wait = wait; bit = ack; kind = t .kind } ≡ actedOn t e mst ack
 unfolding actedOn
 acted-is t e mst ack size first numbers is next wait = rw (next, wait, is, first, numbers, size)
 
 -- one more reported number
-pub heard-more : (slots : List Slot) (n first mst k : ℕ) {heard : List Slot} (next : List Slot) → heard ≡ heardIn slots n first mst k → next ≡ toldIn slots heard n (first + k) mst
-    → next ≡ heardIn slots n first mst (k + 1)
-unfolding heardIn
+pub heard-more : (slots : List Slot) (n first mst k : ℕ) {heard : List Slot} (next : List Slot) → heard ≡ mstApplied slots n first mst k → next ≡ numberApplied slots heard n (first + k) mst
+    → next ≡ mstApplied slots n first mst (k + 1)
+unfolding mstApplied
 heard-more slots n first mst k next e h = h ∙ rw (e, add-one)
 
 module _ (t : Table) (e mst ack : ℕ) {next : Table} where

@@ -14,13 +14,13 @@ use Rattle.payload.specs.declared.answer.Answer as P
 use Rattle.payload.specs.Spreading.{oneAnswer, spreadOne}
 use Rattle.sender.specs.declared.board.Board.{Board}
 use Rattle.sender.specs.declared.epochs.Sender.{Sender}
-use Rattle.sender.specs.declared.epochs.SenderStep.{SenderStep}
+use Rattle.sender.specs.declared.epochs.SenderOutcome.{SenderOutcome}
 use Rattle.sender.specs.declared.table.Answer.{Answer}
 use Rattle.sender.specs.declared.table.Answer.the-variants.{Done, NoSlot, NotAllowed, Field, Length}
-use Rattle.sender.specs.declared.table.Step.{Step}
+use Rattle.sender.specs.declared.table.Outcome.{Outcome}
 use Rattle.sender.specs.Board.{boardOf}
 use Rattle.sender.specs.Commands.{startOf}
-use Rattle.sender.specs.Epochs.{beginOf, freshSender, packetAnswer, packetBytes, packetFields, payloadAnswer, payloadBytes, rankIn, startEpochOf, startedEpoch, startedSender, withStep, xOf}
+use Rattle.sender.specs.Epochs.{beginOf, freshSender, packetAnswer, packetBytes, packetFields, payloadAnswer, payloadBytes, rankIn, startEpochOf, startedEpoch, startedSender, withOutcome, xOf}
 use Rattle.sender.specs.Outcomes.{spreadEarly, spreadTold, written}
 use Rattle.sender.specs.Ranks.{carriersIn, rankAt}
 use Rattle.sender.specs.Table.{sizeOf}
@@ -38,10 +38,10 @@ module _ {A : Type 0} where
   three : (x y z : Bool) (a b : A) → x ≡ true → y ≡ true → z ≡ true → cond (x && y && z) a b ≡ a
   three x y z a b hx hy hz = rw (hx, hy, hz)
 
-pub stepped : (s : Sender) {r q : Step} {a : SenderStep} → r ≡ q → a ≡ withStep s r → a ≡ withStep s q
-stepped s e h = h ∙ ap (λ (x : Step). withStep s x) e
+pub stepped : (s : Sender) {r q : Outcome} {a : SenderOutcome} → r ≡ q → a ≡ withOutcome s r → a ≡ withOutcome s q
+stepped s e h = h ∙ ap (λ (x : Outcome). withOutcome s x) e
 
-pub begun-as : (kind count e : ℕ) {r : Step} {s : Sender} → r ≡ startOf kind count → s ≡ freshSender (r .table) e → record { sender = s; answer = r .answer } ≡ beginOf kind count e
+pub begun-as : (kind count e : ℕ) {r : Outcome} {s : Sender} → r ≡ startOf kind count → s ≡ freshSender (r .table) e → record { sender = s; answer = r .answer } ≡ beginOf kind count e
 unfolding beginOf
 begun-as kind count e h k = rw (k, h)
 
@@ -58,8 +58,8 @@ module _ (s : Sender) (gid mst ack : ℕ) where
   unfolding startEpochOf
   start-refused h = rw h
 
-  pub start-kept : {going : Board} {e : ℕ} → (ltb gid 2 && ltb ack 2) ≡ true → going ≡ boardOf (s .table) → e ≡ startedEpoch s
-      → record { sender = record { table = s .table; going = going; ruling = s .going; epoch = e; begun = true; gid = gid; mst = mst; «rs_ack» = ack }; answer = Done } ≡ startEpochOf s gid mst ack
+  pub start-kept : {outgoing : Board} {e : ℕ} → (ltb gid 2 && ltb ack 2) ≡ true → outgoing ≡ boardOf (s .table) → e ≡ startedEpoch s
+      → record { sender = record { table = s .table; outgoing = outgoing; ruling = s .outgoing; epoch = e; begun = true; gid = gid; mst = mst; «rs_ack» = ack }; answer = Done } ≡ startEpochOf s gid mst ack
   unfolding startEpochOf startedSender
   start-kept h g e = rw (h, g, e)
 

@@ -10,11 +10,11 @@ use Rattle.sender.specs.declared.table.Answer.{Answer}
 use Rattle.sender.specs.declared.table.Answer.the-variants.{Done, NoSlot, NotAllowed, WaitOpen, OutOfRange}
 use Rattle.sender.specs.declared.table.Slot.{Slot}
 use Rattle.sender.specs.declared.table.State.the-variants.{Idle, Add}
-use Rattle.sender.specs.declared.table.Step.{Step}
+use Rattle.sender.specs.declared.table.Outcome.{Outcome}
 use Rattle.sender.specs.declared.table.Table.{Table}
 use Rattle.sender.specs.Table.{isMember, membersOf, sizeOf, slotAt}
 
-abbrev pub answered : Table → Answer → Step
+abbrev pub answered : Table → Answer → Outcome
 answered t a = record { table = t; answer = a }
 
 -- the table with other slots and another wait
@@ -29,12 +29,12 @@ idleSlot kind = record { state = Idle; number = idleNumber kind }
 unfoldable pub freshOf : ℕ → ℕ → Table
 freshOf kind count = record { slots = replicate 64 (idleSlot kind); count = count; wait = false; bit = 0; kind = kind }
 
--- '4: group count out of range: an empty group'
-unfoldable pub startOf : ℕ → ℕ → Step
+-- 4: 'group count .. out of range', 'an empty group'
+unfoldable pub startOf : ℕ → ℕ → Outcome
 startOf kind count = cond (eqb count 0 || ltb 64 count) (answered (freshOf kind 0) OutOfRange) (answered (freshOf kind count) Done)
 
 -- 'For commands: 1, 3, 2.' What a command allowed makes of the table is given.
-abbrev pub inOrder : Table → ℕ → Bool → Table → Step
+abbrev pub inOrder : Table → ℕ → Bool → Table → Outcome
 inOrder t i allowed next =
     cond (ltb i (sizeOf (t .count)))
     (cond (t .wait) (answered t WaitOpen) (cond allowed (answered next Done) (answered t NotAllowed)))
@@ -45,7 +45,7 @@ unfoldable pub addedTo : Table → ℕ → Table
 addedTo t i = withSlots t (set (t .slots) i (record { state = Add; number = membersOf (t .slots) (sizeOf (t .count)) })) (t .wait)
 
 -- 'Add, from IDLE'
-unfoldable pub addOf : Table → ℕ → Step
+unfoldable pub addOf : Table → ℕ → Outcome
 addOf t i = inOrder t i (not (isMember (slotAt (t .slots) i .state))) (addedTo t i)
 
 -- 'Higher numbers fall by one': those of members alone, an IDLE slot's 255 stays
@@ -60,9 +60,9 @@ unfoldable pub removedFrom : Table → ℕ → Table
 removedFrom t i = withSlots t (set (fallenIn (t .slots) (sizeOf (t .count)) (slotAt (t .slots) i .number)) i (idleSlot (t .kind))) true
 
 -- 'Remove, from ADD, active or DNU'
-unfoldable pub removeOf : Table → ℕ → Step
+unfoldable pub removeOf : Table → ℕ → Outcome
 removeOf t i = inOrder t i (isMember (slotAt (t .slots) i .state)) (removedFrom t i)
 
--- 'Lapse: closes an open wait'; '2: lapse with no wait open'
-unfoldable pub lapseOf : Table → Step
+-- 'Lapse: closes an open wait'; 2: 'lapse with no wait open'
+unfoldable pub lapseOf : Table → Outcome
 lapseOf t = cond (t .wait) (answered (withSlots t (t .slots) false) Done) (answered t NotAllowed)

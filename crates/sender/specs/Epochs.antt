@@ -9,11 +9,11 @@ use Rattle.packet.specs.Kinds.{epochAfter, frames}
 use Rattle.packet.specs.Writing.{writeAnswer, writeBytes}
 use Rattle.payload.specs.Spreading.{oneAnswer, spreadOne}
 use Rattle.sender.specs.declared.epochs.Sender.{Sender}
-use Rattle.sender.specs.declared.epochs.SenderStep.{SenderStep}
+use Rattle.sender.specs.declared.epochs.SenderOutcome.{SenderOutcome}
 use Rattle.sender.specs.declared.ranks.Ranks.{Ranks}
 use Rattle.sender.specs.declared.table.Answer.{Answer}
 use Rattle.sender.specs.declared.table.Answer.the-variants.{Done, NoSlot, NotAllowed, Field, Length}
-use Rattle.sender.specs.declared.table.Step.{Step}
+use Rattle.sender.specs.declared.table.Outcome.{Outcome}
 use Rattle.sender.specs.declared.table.Table.{Table}
 use Rattle.sender.specs.Board.{boardOf}
 use Rattle.sender.specs.Commands.{startOf}
@@ -24,16 +24,16 @@ use Rattle.sender.specs.Table.{sizeOf}
 
 -- no epoch has started: nothing has gone out, so 'a sender's first epoch has X = 0'
 unfoldable pub freshSender : Table → ℕ → Sender
-freshSender t e = record { table = t; going = boardOf t; ruling = boardOf t; epoch = e; begun = false; gid = 0; mst = 0; «rs_ack» = 0 }
+freshSender t e = record { table = t; outgoing = boardOf t; ruling = boardOf t; epoch = e; begun = false; gid = 0; mst = 0; «rs_ack» = 0 }
 
-unfoldable pub beginOf : ℕ → ℕ → ℕ → SenderStep
+unfoldable pub beginOf : ℕ → ℕ → ℕ → SenderOutcome
 beginOf kind count e = record { sender = freshSender (startOf kind count .table) e; answer = startOf kind count .answer }
 
 -- a call on the table leaves what the epoch's start fixed
-abbrev pub withStep : Sender → Step → SenderStep
-withStep s r =
+abbrev pub withOutcome : Sender → Outcome → SenderOutcome
+withOutcome s r =
     record {
-      sender = record { table = r .table; going = s .going; ruling = s .ruling; epoch = s .epoch; begun = s .begun; gid = s .gid; mst = s .mst; «rs_ack» = s .«rs_ack» };
+      sender = record { table = r .table; outgoing = s .outgoing; ruling = s .ruling; epoch = s .epoch; begun = s .begun; gid = s .gid; mst = s .mst; «rs_ack» = s .«rs_ack» };
       answer = r .answer;
     }
 
@@ -44,10 +44,10 @@ startedEpoch s = cond (s .begun) (epochAfter (s .table .kind) (s .epoch)) (s .ep
 -- 'The packets of one epoch rule the payload of the next epoch'
 unfoldable pub startedSender : Sender → ℕ → ℕ → ℕ → Sender
 startedSender s gid mst ack =
-    record { table = s .table; going = boardOf (s .table); ruling = s .going; epoch = startedEpoch s; begun = true; gid = gid; mst = mst; «rs_ack» = ack }
+    record { table = s .table; outgoing = boardOf (s .table); ruling = s .outgoing; epoch = startedEpoch s; begun = true; gid = gid; mst = mst; «rs_ack» = ack }
 
--- '8: a field given for writing is too large'
-unfoldable pub startEpochOf : Sender → ℕ → ℕ → ℕ → SenderStep
+-- 8: 'a field given for writing is too large'
+unfoldable pub startEpochOf : Sender → ℕ → ℕ → ℕ → SenderOutcome
 startEpochOf s gid mst ack =
     cond (ltb gid 2 && ltb ack 2) (record { sender = startedSender s gid mst ack; answer = Done }) (record { sender = s; answer = Field })
 
@@ -55,8 +55,8 @@ pub data SenderCall : Type 0 where
   OnTable : Call → SenderCall
   StartEpoch : ℕ → ℕ → ℕ → SenderCall
 
-abbrev pub senderStepOf : Sender → SenderCall → SenderStep
-senderStepOf s (OnTable c) = withStep s (stepOf (s .table) c)
+abbrev pub senderStepOf : Sender → SenderCall → SenderOutcome
+senderStepOf s (OnTable c) = withOutcome s (stepOf (s .table) c)
 senderStepOf s (StartEpoch gid mst ack) = startEpochOf s gid mst ack
 
 abbrev pub senderRun : Sender → List SenderCall → Sender
@@ -66,7 +66,7 @@ senderRun s (c ∷ cs) = senderRun (senderStepOf s c .sender) cs
 -- 'GID is lent by the caller and is equal in all packets of an epoch.'
 unfoldable pub packetFields : Sender → ℕ → Fields
 packetFields s i =
-    let row = rowAt (s .going .rows) i in
+    let row = rowAt (s .outgoing .rows) i in
     record { epoch = s .epoch; word = row .word; gid = s .gid; mst = s .mst; «rs_ack» = s .«rs_ack»; sq = row .number }
 
 -- The packet of a slot: 1, 9, 2.

@@ -1,7 +1,7 @@
 -- The sender's calls as one step, and runs of them.
 use mathlib.Core.List.{List, [], _∷_}
 use Prim.Native.Nat.{ℕ}
-use Rattle.sender.specs.declared.table.Step.{Step}
+use Rattle.sender.specs.declared.table.Outcome.{Outcome}
 use Rattle.sender.specs.declared.table.Table.{Table}
 use Rattle.sender.specs.Commands.{addOf, lapseOf, removeOf}
 use Rattle.sender.specs.Reports.{reportOf}
@@ -12,7 +12,7 @@ pub data Call : Type 0 where
   Report : ℕ → ℕ → ℕ → Call
   Lapse : Call
 
-abbrev pub stepOf : Table → Call → Step
+abbrev pub stepOf : Table → Call → Outcome
 stepOf t (AddSlot i) = addOf t i
 stepOf t (RemoveSlot i) = removeOf t i
 stepOf t (Report e mst ack) = reportOf t e mst ack

@@ -14,7 +14,7 @@ use Rattle.sender.specs.Board.{boardOf, highest, noRow, rowOf, rowsOf}
 use Rattle.sender.specs.Commands.{addOf, addedTo, fallen, fallenIn, freshOf, idleSlot, lapseOf, removeOf, removedFrom, startOf, withSlots}
 use Rattle.sender.specs.Epochs.{beginOf, freshSender, rankIn, senderRun, startEpochOf, startedEpoch, startedSender, xOf}
 use Rattle.sender.specs.Ranks.{carriersIn, carries, noRank, rankAt, rankOf, rowAt}
-use Rattle.sender.specs.Reports.{actedOn, comesBefore, heardIn, numberAfter, opensWait, renumbered, reportOf, slotAfter, spoken, toldIn, turnOf, waited}
+use Rattle.sender.specs.Reports.{actedOn, comesBefore, mstApplied, numberAfter, opensWait, renumbered, reportOf, slotAfter, becomes, numberApplied, turnOf, waited}
 use Rattle.sender.specs.Shown.{after, shown}
 use Rattle.sender.specs.Steps.{Call}
 use Rattle.sender.specs.Steps.Call.{AddSlot, Lapse, RemoveSlot, Report}
@@ -23,12 +23,12 @@ use Rattle.sender.specs.Theorems.Epochs.{onTable}
 
 -- Slip 3: 'Giving the two members of P8 their asked numbers, so EOS lands on 1 and 0 is unused.' Nothing is numbered anew.
 wrong-numbers : Table → ℕ → ℕ → Table
-wrong-numbers t e mst = withSlots t (heardIn (t .slots) (sizeOf (t .count)) (mstFirst (t .kind) e) mst (mstNumbers (t .kind))) true
+wrong-numbers t e mst = withSlots t (mstApplied (t .slots) (sizeOf (t .count)) (mstFirst (t .kind) e) mst (mstNumbers (t .kind))) true
 
 numbers-break :
     (shown (wrong-numbers (after 2 (AddSlot 0 ∷ AddSlot 1 ∷ [])) 0 0xBF) ≡ ADD ∷ 0 ∷ EOS ∷ 1 ∷ 1 ∷ [])
     × (shown (after 2 (AddSlot 0 ∷ AddSlot 1 ∷ Report 0 0xBF 0 ∷ [])) ≡ ADD ∷ 1 ∷ EOS ∷ 0 ∷ 1 ∷ [])
-unfolding wrong-numbers boardOf rowsOf rowOf noRow highest startOf freshOf idleSlot idleNumber addOf addedTo reportOf actedOn heardIn toldIn holderOf renumbered slotAfter numberAfter comesBefore turnOf opensWait sizeOf membersOf mstFails mstFirst mstNumbers
+unfolding wrong-numbers boardOf rowsOf rowOf noRow highest startOf freshOf idleSlot idleNumber addOf addedTo reportOf actedOn mstApplied numberApplied holderOf renumbered slotAfter numberAfter comesBefore turnOf opensWait sizeOf membersOf mstFails mstFirst mstNumbers
 numbers-break = (refl, refl)
 
 -- Slip 4: 'Reading MST through numbers already moved by the same report.' Slot by slot, each by the number it has by then, and numbered anew at once.
@@ -37,13 +37,13 @@ wrong-reading slots n mst zero = slots
 wrong-reading slots n mst (suc i) =
     let now = wrong-reading slots n mst i in
     let slot = slotAt now i in
-    renumbered now (set now i (record { state = spoken (mstFails mst (slot .number)) (slot .state); number = slot .number })) n
+    renumbered now (set now i (record { state = becomes (mstFails mst (slot .number)) (slot .state); number = slot .number })) n
 
 -- Slot 0 asks under number 1, slot 1 under number 0; 1 is OK and 0 is FAIL. Once slot 0 has moved, slot 1 stands under 1 and takes its OK.
 reading-breaks :
     (let t = after 2 (AddSlot 1 ∷ AddSlot 0 ∷ []) in shown (withSlots t (wrong-reading (t .slots) 2 0xBF 2) true) ≡ NORM ∷ 0 ∷ EOS ∷ 1 ∷ 1 ∷ [])
     × (shown (after 2 (AddSlot 1 ∷ AddSlot 0 ∷ Report 0 0xBF 0 ∷ [])) ≡ EOS ∷ 0 ∷ ADD ∷ 1 ∷ 1 ∷ [])
-unfolding wrong-reading boardOf rowsOf rowOf noRow highest startOf freshOf idleSlot idleNumber addOf addedTo reportOf actedOn heardIn toldIn holderOf renumbered slotAfter numberAfter comesBefore turnOf opensWait sizeOf membersOf mstFails mstFirst mstNumbers
+unfolding wrong-reading boardOf rowsOf rowOf noRow highest startOf freshOf idleSlot idleNumber addOf addedTo reportOf actedOn mstApplied numberApplied holderOf renumbered slotAfter numberAfter comesBefore turnOf opensWait sizeOf membersOf mstFails mstFirst mstNumbers
 reading-breaks = (refl, refl)
 
 -- this epoch's X, then the rank of each of n slots
@@ -66,15 +66,15 @@ wrong-rank s i = cond (carries (rowAt (s .ruling .rows) i)) (rowAt (s .ruling .r
 rank-breaks :
     (told wrong-rank 3 (twice (joined 0 (joined 1 (joined 2 (Report 0 0x80 0 ∷ [])))) []) ≡ 2 ∷ 255 ∷ 1 ∷ 2 ∷ [])
     × (told rankIn 3 (twice (joined 0 (joined 1 (joined 2 (Report 0 0x80 0 ∷ [])))) []) ≡ 2 ∷ 255 ∷ 0 ∷ 1 ∷ [])
-unfolding wrong-rank beginOf freshSender startEpochOf startedSender startedEpoch carriersIn rankAt rankOf boardOf rowsOf rowOf noRow highest startOf freshOf idleSlot idleNumber addOf addedTo lapseOf reportOf waited actedOn heardIn toldIn holderOf renumbered slotAfter numberAfter comesBefore turnOf opensWait sizeOf membersOf mstFails mstFirst mstNumbers
+unfolding wrong-rank beginOf freshSender startEpochOf startedSender startedEpoch carriersIn rankAt rankOf boardOf rowsOf rowOf noRow highest startOf freshOf idleSlot idleNumber addOf addedTo lapseOf reportOf waited actedOn mstApplied numberApplied holderOf renumbered slotAfter numberAfter comesBefore turnOf opensWait sizeOf membersOf mstFails mstFirst mstNumbers
 rank-breaks = (refl, refl)
 
 -- Slip 2: 'Using a new packet's numbers for its own epoch.' Three members carry by packets of the epoch before; the middle one is removed, which shows in this epoch's packets and rules the next.
 wrong-epoch : Sender → ℕ → ℕ
-wrong-epoch s i = rankAt (s .going .rows) (sizeOf (s .going .count)) i
+wrong-epoch s i = rankAt (s .outgoing .rows) (sizeOf (s .outgoing .count)) i
 
 epoch-breaks :
     (told wrong-epoch 3 (twice (joined 0 (joined 1 (joined 2 []))) (RemoveSlot 1 ∷ [])) ≡ 3 ∷ 0 ∷ 255 ∷ 1 ∷ [])
     × (told rankIn 3 (twice (joined 0 (joined 1 (joined 2 []))) (RemoveSlot 1 ∷ [])) ≡ 3 ∷ 0 ∷ 1 ∷ 2 ∷ [])
-unfolding wrong-epoch beginOf freshSender startEpochOf startedSender startedEpoch carriersIn rankAt rankOf boardOf rowsOf rowOf noRow highest startOf freshOf idleSlot idleNumber addOf addedTo removeOf removedFrom fallen fallenIn lapseOf reportOf waited actedOn heardIn toldIn holderOf renumbered slotAfter numberAfter comesBefore turnOf opensWait sizeOf membersOf mstFails mstFirst mstNumbers
+unfolding wrong-epoch beginOf freshSender startEpochOf startedSender startedEpoch carriersIn rankAt rankOf boardOf rowsOf rowOf noRow highest startOf freshOf idleSlot idleNumber addOf addedTo removeOf removedFrom fallen fallenIn lapseOf reportOf waited actedOn mstApplied numberApplied holderOf renumbered slotAfter numberAfter comesBefore turnOf opensWait sizeOf membersOf mstFails mstFirst mstNumbers
 epoch-breaks = (refl, refl)

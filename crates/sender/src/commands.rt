@@ -1,9 +1,9 @@
 // Start, add, remove and lapse (01, 'The sender's table'; for commands the refusals are 1, 3, 2).
 use crate::table;
 use crate::table::Answer;
+use crate::table::Outcome;
 use crate::table::Slot;
 use crate::table::State;
-use crate::table::Step;
 use crate::table::Table;
 use packet::kinds;
 ghost use mathlib.Core.Path.{_≡_};
@@ -35,22 +35,22 @@ fn fresh(kind: u8, count: u8) -> Table
     }
 }
 
-pub fn start(kind: u8, count: u32) -> Step
+pub fn start(kind: u8, count: u32) -> Outcome
     ensures { λ r. ⌜ r ≡ startOf kind count ⌝ }
 {
     if count == 0 {
-        return Step {
+        return Outcome {
             table: fresh(kind, 0),
             answer: Answer::OutOfRange,
         };
     }
     if count > 64 {
-        return Step {
+        return Outcome {
             table: fresh(kind, 0),
             answer: Answer::OutOfRange,
         };
     }
-    Step {
+    Outcome {
         table: fresh(kind, count as u8),
         answer: Answer::Done,
     }
@@ -76,19 +76,19 @@ fn added_to(table: Table, at: usize) -> Table
     }
 }
 
-pub fn add(table: Table, slot: u32) -> Step
+pub fn add(table: Table, slot: u32) -> Outcome
     ensures { λ r. ⌜ r ≡ stepOf table (AddSlot slot) ⌝ }
 {
     let n = table::size(table.count);
     let at = slot as usize;
     if at >= n {
-        return Step {
+        return Outcome {
             table,
             answer: Answer::NoSlot,
         };
     }
     if table.wait {
-        return Step {
+        return Outcome {
             table,
             answer: Answer::WaitOpen,
         };
@@ -96,12 +96,12 @@ pub fn add(table: Table, slot: u32) -> Step
     let given = table.slots[at];
     let state = given.state;
     if table::is_member(state) {
-        return Step {
+        return Outcome {
             table,
             answer: Answer::NotAllowed,
         };
     }
-    Step {
+    Outcome {
         table: added_to(table, at),
         answer: Answer::Done,
     }
@@ -158,19 +158,19 @@ fn removed_from(table: Table, at: usize) -> Table
     }
 }
 
-pub fn remove(table: Table, slot: u32) -> Step
+pub fn remove(table: Table, slot: u32) -> Outcome
     ensures { λ r. ⌜ r ≡ stepOf table (RemoveSlot slot) ⌝ }
 {
     let n = table::size(table.count);
     let at = slot as usize;
     if at >= n {
-        return Step {
+        return Outcome {
             table,
             answer: Answer::NoSlot,
         };
     }
     if table.wait {
-        return Step {
+        return Outcome {
             table,
             answer: Answer::WaitOpen,
         };
@@ -178,23 +178,23 @@ pub fn remove(table: Table, slot: u32) -> Step
     let given = table.slots[at];
     let state = given.state;
     if table::is_member(state) {
-        return Step {
+        return Outcome {
             table: removed_from(table, at),
             answer: Answer::Done,
         };
     }
-    Step {
+    Outcome {
         table,
         answer: Answer::NotAllowed,
     }
 }
 
-pub fn lapse(table: Table) -> Step
+pub fn lapse(table: Table) -> Outcome
     ensures { λ r. ⌜ r ≡ stepOf table Lapse ⌝ }
 {
     if table.wait {
         let slots = table.slots;
-        return Step {
+        return Outcome {
             table: Table {
                 slots,
                 count: table.count,
@@ -205,7 +205,7 @@ pub fn lapse(table: Table) -> Step
             answer: Answer::Done,
         };
     }
-    Step {
+    Outcome {
         table,
         answer: Answer::NotAllowed,
     }

@@ -7,7 +7,7 @@ use crate::ranks::Ranks;
 use crate::reports;
 use crate::table;
 use crate::table::Answer;
-use crate::table::Step;
+use crate::table::Outcome;
 use crate::table::Table;
 use packet::Fields;
 use packet::Word;
@@ -17,16 +17,16 @@ ghost use mathlib.Core.Path.{_≡_};
 ghost use Prim.Native.Nat.{_≤_, _<_};
 ghost use lib.ListN.{length};
 ghost use Rattle.sender.specs.Board.{boardOf};
-ghost use Rattle.sender.specs.Epochs.{beginOf, freshSender, packetAnswer, packetBytes, packetFields, payloadAnswer, payloadBytes, ranksOf, senderStepOf, startedEpoch, withStep};
+ghost use Rattle.sender.specs.Epochs.{beginOf, freshSender, packetAnswer, packetBytes, packetFields, payloadAnswer, payloadBytes, ranksOf, senderStepOf, startedEpoch, withOutcome};
 ghost use Rattle.sender.specs.Epochs.SenderCall.{OnTable, StartEpoch};
 ghost use Rattle.sender.specs.Outcomes.{spreadEarly, spreadTold, written};
 ghost use Rattle.sender.specs.Steps.Call.{AddSlot, RemoveSlot, Report, Lapse};
 
-// going: what goes out in this epoch's packets. ruling: what went out in the packets before, which rules this epoch's payload.
+// outgoing: what goes out in this epoch's packets. ruling: what went out in the packets before, which rules this epoch's payload.
 // Before the first epoch starts, epoch is the number it will have.
 pub struct Sender {
     pub table: Table,
-    pub going: Board,
+    pub outgoing: Board,
     pub ruling: Board,
     pub epoch: u8,
     pub begun: bool,
@@ -35,7 +35,7 @@ pub struct Sender {
     pub rs_ack: u8,
 }
 
-pub struct SenderStep {
+pub struct SenderOutcome {
     pub sender: Sender,
     pub answer: Answer,
 }
@@ -46,7 +46,7 @@ fn fresh_sender(table: Table, epoch: u8) -> Sender
     let board = board::board_of(table);
     Sender {
         table,
-        going: board,
+        outgoing: board,
         ruling: board,
         epoch,
         begun: false,
@@ -56,17 +56,17 @@ fn fresh_sender(table: Table, epoch: u8) -> Sender
     }
 }
 
-fn with_step(sender: Sender, step: Step) -> SenderStep
-    ensures { λ r. ⌜ r ≡ withStep sender step ⌝ }
+fn with_outcome(sender: Sender, step: Outcome) -> SenderOutcome
+    ensures { λ r. ⌜ r ≡ withOutcome sender step ⌝ }
 {
     let table = step.table;
     let answer = step.answer;
-    let going = sender.going;
+    let outgoing = sender.outgoing;
     let ruling = sender.ruling;
-    SenderStep {
+    SenderOutcome {
         sender: Sender {
             table,
-            going,
+            outgoing,
             ruling,
             epoch: sender.epoch,
             begun: sender.begun,
@@ -123,7 +123,7 @@ fn packet_fields(sender: Sender, at: usize) -> Fields
     requires { ⌜ at < 64 ⌝ }
     ensures { λ r. ⌜ r ≡ packetFields sender at ⌝ }
 {
-    let board = sender.going;
+    let board = sender.outgoing;
     let row = board.rows[at];
     let word = row.word;
     Fields {
@@ -138,66 +138,66 @@ fn packet_fields(sender: Sender, at: usize) -> Fields
 
 impl Sender {
     // epoch: the first epoch's number.
-    pub fn start(kind: u8, count: u32, epoch: u8) -> SenderStep
+    pub fn start(kind: u8, count: u32, epoch: u8) -> SenderOutcome
         ensures { λ r. ⌜ r ≡ beginOf kind count epoch ⌝ }
     {
         let step = commands::start(kind, count);
         let table = step.table;
         let answer = step.answer;
-        SenderStep {
+        SenderOutcome {
             sender: fresh_sender(table, epoch),
             answer,
         }
     }
 
-    pub fn add(self, slot: u32) -> SenderStep
+    pub fn add(self, slot: u32) -> SenderOutcome
         ensures { λ r. ⌜ r ≡ senderStepOf self (OnTable (AddSlot slot)) ⌝ }
     {
         let table = self.table;
         let step = commands::add(table, slot);
-        with_step(self, step)
+        with_outcome(self, step)
     }
 
-    pub fn remove(self, slot: u32) -> SenderStep
+    pub fn remove(self, slot: u32) -> SenderOutcome
         ensures { λ r. ⌜ r ≡ senderStepOf self (OnTable (RemoveSlot slot)) ⌝ }
     {
         let table = self.table;
         let step = commands::remove(table, slot);
-        with_step(self, step)
+        with_outcome(self, step)
     }
 
-    pub fn report(self, epoch: u8, mst: u8, rs_ack: u8) -> SenderStep
+    pub fn report(self, epoch: u8, mst: u8, rs_ack: u8) -> SenderOutcome
         ensures { λ r. ⌜ r ≡ senderStepOf self (OnTable (Report epoch mst «rs_ack»)) ⌝ }
     {
         let table = self.table;
         let step = reports::report(table, epoch, mst, rs_ack);
-        with_step(self, step)
+        with_outcome(self, step)
     }
 
-    pub fn lapse(self) -> SenderStep
+    pub fn lapse(self) -> SenderOutcome
         ensures { λ r. ⌜ r ≡ senderStepOf self (OnTable Lapse) ⌝ }
     {
         let table = self.table;
         let step = commands::lapse(table);
-        with_step(self, step)
+        with_outcome(self, step)
     }
 
-    pub fn start_epoch(self, gid: u8, mst: u8, rs_ack: u8) -> SenderStep
+    pub fn start_epoch(self, gid: u8, mst: u8, rs_ack: u8) -> SenderOutcome
         ensures { λ r. ⌜ r ≡ senderStepOf self (StartEpoch gid mst «rs_ack») ⌝ }
     {
         let fits = (gid < 2) & (rs_ack < 2);
         if !fits {
-            return SenderStep {
+            return SenderOutcome {
                 sender: self,
                 answer: Answer::Field,
             };
         }
         let table = self.table;
-        let ruling = self.going;
-        SenderStep {
+        let ruling = self.outgoing;
+        SenderOutcome {
             sender: Sender {
                 table,
-                going: board::board_of(table),
+                outgoing: board::board_of(table),
                 ruling,
                 epoch: epoch_started(self),
                 begun: true,

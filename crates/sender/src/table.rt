@@ -50,7 +50,7 @@ impl Answer {
     }
 }
 
-pub struct Step {
+pub struct Outcome {
     pub table: Table,
     pub answer: Answer,
 }

@@ -62,23 +62,23 @@ joinedAt s run later = stepTo s 0 run 1 (s .since) later
 abbrev pub settlesAt : Group → Step → Step → Bool
 settlesAt g before now = not (flagOf (g .begun)) || inStep g before && not (inStep g now)
 
--- '10: signal-fail flag set on the frame: port recorded unreadable, its step lost'
+-- 10: 'signal-fail flag set on the frame', 'port recorded unreadable, its step lost'
 unfoldable pub flagged : Group → Step → Taken
 flagged g s =
     let now = lost s 1 (record { count = 0; next = 0 }) in
     record { step = now; answer = 10; counted = false; kept = false; at = 0; joins = false; settles = settlesAt g s now }
 
--- '12: port not in step after this frame: step record advanced, frame not stored'
+-- 12: 'port not in step after this frame', 'step record advanced, frame not stored'
 unfoldable pub countsOn : Group → Step → Run → Taken
 countsOn g s run =
     let now = lost s 0 run in
     record { step = now; answer = 12; counted = not (eqb (run .count) 0); kept = false; at = 0; joins = false; settles = settlesAt g s now }
 
 -- 'A frame in step of a port that has not joined is answered 0 and dropped.'
-unfoldable pub aside : Group → Step → Run → Taken
-aside g s run = record { step = advanced s run; answer = 0; counted = true; kept = false; at = 0; joins = false; settles = not (flagOf (g .begun)) }
+unfoldable pub frameDropped : Group → Step → Run → Taken
+frameDropped g s run = record { step = advanced s run; answer = 0; counted = true; kept = false; at = 0; joins = false; settles = not (flagOf (g .begun)) }
 
--- '11: frame in step, but outside the window: state as given'
+-- 11: 'frame in step, but outside the window', 'state as given'
 unfoldable pub outside : Step → Taken
 outside s = record { step = s; answer = 11; counted = false; kept = false; at = 0; joins = false; settles = false }
 
@@ -105,12 +105,12 @@ unfoldable pub byWindow : Group → Step → Run → ℕ → Taken
 byWindow g s run d = cond (ltb d (g .window)) (keeps g s run d) (outside s)
 
 unfoldable pub byStart : Group → Step → Run → ℕ → Taken
-byStart g s run d = cond (startsEpoch (g .kind) (s .next) && ltb d (g .window)) (joining g s run d) (aside g s run)
+byStart g s run d = cond (startsEpoch (g .kind) (s .next) && ltb d (g .window)) (joining g s run d) (frameDropped g s run)
 
 -- a frame in step, with the tag that was to come next
 unfoldable pub arrives : Group → Step → Run → Taken
 arrives g s run =
-    cond (not (flagOf (g .begun))) (aside g s run)
+    cond (not (flagOf (g .begun))) (frameDropped g s run)
     (cond (flagOf (s .joined)) (byWindow g s run (distanceIn g (s .next))) (byStart g s run (distanceIn g (s .next))))
 
 -- 'For frames: .. 10, 12, 11.' The H4 byte of a flagged frame is not looked at.

@@ -2,7 +2,7 @@
 use mathlib.Core.Bool.{Bool, cond}
 use Prim.Native.Nat.{ℕ, _+_, _*_}
 use lib.Dec.{eqb, leb}
-use Rattle.packet.specs.Counts.{startsCount, afterFirst, goesSecond, afterSecond, counts}
+use Rattle.packet.specs.Counts.{startsCount, tagByHigh, carriesLow, tagByLow, counts}
 use Rattle.packet.specs.Kinds.{frames, tagAfter}
 use Rattle.step.specs.declared.run.Run.{Run}
 
@@ -12,11 +12,11 @@ inStepAt kind count = leb (frames kind * 2) count
 
 -- 'starting at MFI1 0': a frame as the first of a new run, if it can be
 unfoldable pub begunRun : ℕ → ℕ → Run
-begunRun kind h = cond (startsCount kind h) (record { count = 1; next = afterFirst kind h }) (record { count = 0; next = 0 })
+begunRun kind h = cond (startsCount kind h) (record { count = 1; next = tagByHigh kind h }) (record { count = 0; next = 0 })
 
 -- a run's MFI2 is what its first two frames say
 unfoldable pub secondRun : ℕ → Run → ℕ → Run
-secondRun kind run h = cond (goesSecond kind h) (record { count = 2; next = afterSecond kind (run .next) h }) (begunRun kind h)
+secondRun kind run h = cond (carriesLow kind h) (record { count = 2; next = tagByLow kind (run .next) h }) (begunRun kind h)
 
 -- no frame counts beyond those that make the step
 unfoldable pub oneMore : ℕ → ℕ → ℕ

@@ -1,4 +1,4 @@
--- The frame that comes most often: steady, with the tag that was to come, of a joined port in step; and amid the window, so not the last of its epoch.
+-- The frame that comes most often: steady, with the tag that was to come, of a joined port in step; and in mid-epoch, which is in the window and not the last of its epoch.
 -- Of the port's records it changes the next tag and one nibble alone.
 use mathlib.Core.Bool.{Bool, true, false, not, _&&_}
 use Prim.Native.Nat.{ℕ}
@@ -22,8 +22,8 @@ steady g s flag h =
     && flagOf (s .joined)
 
 -- of a frame d after the window's first
-unfoldable pub amid : Group → ℕ → Bool
-amid g d = ltb d (g .window) && not (endsEpoch (g .kind) d)
+unfoldable pub midEpoch : Group → ℕ → Bool
+midEpoch g d = ltb d (g .window) && not (endsEpoch (g .kind) d)
 
 unfoldable pub steadyTaken : Group → Step → Taken
 steadyTaken g s =

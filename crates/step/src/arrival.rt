@@ -5,7 +5,7 @@ use packet::kinds;
 use rows::Group;
 use rows::Step;
 ghost use mathlib.Core.Path.{_≡_};
-ghost use Rattle.step.specs.Arrival.{arrives, aside, byStart, byWindow, countsOn, distanceIn, flagged, flagOf, inStep, joining, keeps, outside, readable, settlesAt, stepTo, takenOf};
+ghost use Rattle.step.specs.Arrival.{arrives, frameDropped, byStart, byWindow, countsOn, distanceIn, flagged, flagOf, inStep, joining, keeps, outside, readable, settlesAt, stepTo, takenOf};
 
 pub struct Taken {
     // the port's step afterwards
@@ -112,8 +112,8 @@ fn counts_on(group: Group, step: Step, run: Run) -> Taken
     }
 }
 
-fn aside(group: Group, step: Step, run: Run) -> Taken
-    ensures { λ r. ⌜ r ≡ aside group step run ⌝ }
+fn frame_dropped(group: Group, step: Step, run: Run) -> Taken
+    ensures { λ r. ⌜ r ≡ frameDropped group step run ⌝ }
 {
     let now = step_to(step, 0, run, step.joined, step.since, step.later);
     let settles = !is_set(group.begun);
@@ -194,14 +194,14 @@ fn by_start(group: Group, step: Step, run: Run, at: u16) -> Taken
     if starts & (at < group.window) {
         return joining(group, step, run, at);
     }
-    aside(group, step, run)
+    frame_dropped(group, step, run)
 }
 
 fn arrives(group: Group, step: Step, run: Run) -> Taken
     ensures { λ r. ⌜ r ≡ arrives group step run ⌝ }
 {
     if !is_set(group.begun) {
-        return aside(group, step, run);
+        return frame_dropped(group, step, run);
     }
     let at = distance_in(group, step.next);
     if is_set(step.joined) {

@@ -8,5 +8,5 @@ pub use arrival::decide;
 pub use arrival::distance_in;
 pub use arrival::in_step;
 pub use arrival::is_readable;
-pub use steady::is_amid;
+pub use steady::is_mid_epoch;
 pub use steady::is_steady;

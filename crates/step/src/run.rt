@@ -26,7 +26,7 @@ pub(crate) fn begun_run(kind: u8, h4: u8) -> Run
     if counts::starts_count(kind, h4) {
         return Run {
             count: 1,
-            next: counts::after_first(kind, h4),
+            next: counts::tag_by_high(kind, h4),
         };
     }
     Run { count: 0, next: 0 }
@@ -35,10 +35,10 @@ pub(crate) fn begun_run(kind: u8, h4: u8) -> Run
 fn second(kind: u8, run: Run, h4: u8) -> Run
     ensures { λ r. ⌜ r ≡ secondRun kind run h4 ⌝ }
 {
-    if counts::goes_second(kind, h4) {
+    if counts::carries_low(kind, h4) {
         return Run {
             count: 2,
-            next: counts::after_second(kind, run.next, h4),
+            next: counts::tag_by_low(kind, run.next, h4),
         };
     }
     begun_run(kind, h4)

@@ -5,7 +5,7 @@ use packet::kinds;
 use rows::Group;
 use rows::Step;
 ghost use mathlib.Core.Path.{_≡_};
-ghost use Rattle.step.specs.Steady.{amid, steady};
+ghost use Rattle.step.specs.Steady.{midEpoch, steady};
 
 // Of a joined port in step, with the tag that was to come. Had and failed stand as the rule writes them, so that nothing else changes.
 pub fn is_steady(group: Group, step: Step, failed: bool, h4: u8) -> bool
@@ -23,8 +23,8 @@ pub fn is_steady(group: Group, step: Step, failed: bool, h4: u8) -> bool
 }
 
 // In the window and not the last frame of its epoch.
-pub fn is_amid(group: Group, at: u16) -> bool
-    ensures { λ r. ⌜ r ≡ amid group at ⌝ }
+pub fn is_mid_epoch(group: Group, at: u16) -> bool
+    ensures { λ r. ⌜ r ≡ midEpoch group at ⌝ }
 {
     let ends = kinds::ends_epoch(group.kind, at);
     (at < group.window) & !ends

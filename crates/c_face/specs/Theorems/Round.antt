@@ -16,7 +16,7 @@ use Rattle.c_face.specs.Keeping.{byteAt, bytesOf, codeOf, fieldBytes, fl
 -- a sender whose table and boards have 64 rows each: every sender of the language's type
 pub record Whole (s : Sender) : Type 0 where
   pub slots : length (s .table .slots) ≡ 64
-  pub going : length (s .going .rows) ≡ 64
+  pub outgoing : length (s .outgoing .rows) ≡ 64
   pub ruling : length (s .ruling .rows) ≡ 64
 
 state-back : (t : State) → stateOf (codeOf t) ≡ t
@@ -55,25 +55,25 @@ module _ (s : Sender) where
   unfolding slotsIn
   slots-back e = sym (tabulate-is (s .table .slots) 64 (slotIn (bytesOf s)) (record { state = Idle; number = 0 }) e (λ i h. sym (slot-back i h)))
 
-  going-word : (i : ℕ) → i < 64 → getD (bytesOf s) (128 + 2 * i) 0 ≡ rowAt (s .going .rows) i .word .0
+  outgoing-word : (i : ℕ) → i < 64 → getD (bytesOf s) (128 + 2 * i) 0 ≡ rowAt (s .outgoing .rows) i .word .0
   unfolding byteAt
-  going-word i h =
+  outgoing-word i h =
       let d : (128 + 2 * i - 128) / 2 ≡ i = omega arith in
       let m : (128 + 2 * i - 128) % 2 ≡ 0 = omega arith in
       read (128 + 2 * i) (omega arith) ∙ rw (le-ltb (128 + 2 * i) 128 (omega arith), lt-ltb (128 + 2 * i) 256 (omega arith), d, m) refl
 
-  going-number : (i : ℕ) → i < 64 → getD (bytesOf s) (128 + 2 * i + 1) 0 ≡ rowAt (s .going .rows) i .number
+  outgoing-number : (i : ℕ) → i < 64 → getD (bytesOf s) (128 + 2 * i + 1) 0 ≡ rowAt (s .outgoing .rows) i .number
   unfolding byteAt
-  going-number i h =
+  outgoing-number i h =
       let d : (128 + 2 * i + 1 - 128) / 2 ≡ i = omega arith in
       let m : (128 + 2 * i + 1 - 128) % 2 ≡ 1 = omega arith in
       read (128 + 2 * i + 1) (omega arith) ∙ rw (le-ltb (128 + 2 * i + 1) 128 (omega arith), lt-ltb (128 + 2 * i + 1) 256 (omega arith), d, m) refl
 
-  going-back : length (s .going .rows) ≡ 64 → rowsIn (bytesOf s) 128 ≡ s .going .rows
+  outgoing-back : length (s .outgoing .rows) ≡ 64 → rowsIn (bytesOf s) 128 ≡ s .outgoing .rows
   unfolding rowsIn
-  going-back e =
-      sym (tabulate-is (s .going .rows) 64 (rowIn (bytesOf s) 128) (record { word = record { 0 = 0 }; number = 0 }) e
-      (λ i h. sym (rw (going-word i h, going-number i h) refl)))
+  outgoing-back e =
+      sym (tabulate-is (s .outgoing .rows) 64 (rowIn (bytesOf s) 128) (record { word = record { 0 = 0 }; number = 0 }) e
+      (λ i h. sym (rw (outgoing-word i h, outgoing-number i h) refl)))
 
   ruling-word : (i : ℕ) → i < 64 → getD (bytesOf s) (256 + 2 * i) 0 ≡ rowAt (s .ruling .rows) i .word .0
   unfolding byteAt
@@ -107,7 +107,7 @@ module _ (s : Sender) where
   pub round : Whole s → senderOf (bytesOf s) ≡ s
   unfolding senderOf
   round w =
-      rw (slots-back (w .slots), going-back (w .going), ruling-back (w .ruling))
+      rw (slots-back (w .slots), outgoing-back (w .outgoing), ruling-back (w .ruling))
       (rw (field 0 (omega arith), field 1 (omega arith), field 2 (omega arith), field 3 (omega arith), field 4 (omega arith), field 5 (omega arith), field 6 (omega arith))
       (rw (field 7 (omega arith), field 8 (omega arith), field 9 (omega arith), field 10 (omega arith), field 11 (omega arith), field 12 (omega arith))
-      (rw (flag-back (s .table .wait), flag-back (s .going .wait), flag-back (s .ruling .wait), flag-back (s .begun)) refl)))
+      (rw (flag-back (s .table .wait), flag-back (s .outgoing .wait), flag-back (s .ruling .wait), flag-back (s .begun)) refl)))

@@ -11,7 +11,7 @@ use Rattle.counting.specs.Each.{length-each}
 use Rattle.ground.specs.Table.{length-tabulate}
 use Rattle.sender.specs.Board.{boardOf, noRow, rowOf, rowsOf}
 use Rattle.sender.specs.declared.epochs.Sender.{Sender}
-use Rattle.sender.specs.declared.epochs.SenderStep.{SenderStep}
+use Rattle.sender.specs.declared.epochs.SenderOutcome.{SenderOutcome}
 use Rattle.sender.specs.declared.table.Answer.{Answer}
 use Rattle.sender.specs.declared.table.Answer.the-variants.{Done, NotAllowed, Field}
 use Rattle.sender.specs.declared.table.Table.{Table}
@@ -27,16 +27,16 @@ use Rattle.sender.specs.Table.{answerNumber, isMember, sizeOf, slotAt}
 use Rattle.sender.specs.Theorems.Demand2.{sound-demand2}
 use Rattle.sender.specs.Theorems.Epochs.{Demand2Kept, demand2-kept}
 use Rattle.c_face.specs.Keeping.{bytesOf, byteAt, senderOf}
-use Rattle.c_face.specs.Senders.{areThree, isState, keptBytes, outside, startAnswerC, startStateC, stepStateC}
+use Rattle.c_face.specs.Senders.{areBytes, isState, keptBytes, outside, startAnswerC, startStateC, stepStateC}
 use Rattle.c_face.specs.Theorems.Round.{Whole, round}
 
 -- a C call: the sender's call, with what the C call asks of its numbers
 pub fits : SenderCall → Bool
 fits (OnTable (AddSlot i)) = true
 fits (OnTable (RemoveSlot i)) = true
-fits (OnTable (Report e mst ack)) = areThree e mst ack
+fits (OnTable (Report e mst ack)) = areBytes e mst ack
 fits (OnTable Lapse) = true
-fits (StartEpoch gid mst ack) = areThree gid mst ack
+fits (StartEpoch gid mst ack) = areBytes gid mst ack
 
 -- the state after C calls
 abbrev pub runC : List ℕ → List SenderCall → List ℕ
@@ -51,11 +51,11 @@ meant (c ∷ cs) = cond (fits c) (c ∷ meant cs) (meant cs)
 -- what a start or a call leaves
 record Held (s : Sender) : Type 0 where
   pub table : Sound (s .table)
-  pub going : length (s .going .rows) ≡ 64
+  pub outgoing : length (s .outgoing .rows) ≡ 64
   pub ruling : length (s .ruling .rows) ≡ 64
 
 held-whole : (s : Sender) → Held s → Whole s
-held-whole s h = record { slots = h .table .whole; going = h .going; ruling = h .ruling }
+held-whole s h = record { slots = h .table .whole; outgoing = h .outgoing; ruling = h .ruling }
 
 board-whole : (t : Table) → length (boardOf t .rows) ≡ 64
 unfolding boardOf rowsOf
@@ -64,15 +64,15 @@ board-whole t =
 
 held-begin : (count first : ℕ) → Held (beginOf 0 count first .sender)
 unfolding beginOf freshSender
-held-begin count first = record { table = sound-start 0 count; going = board-whole (startOf 0 count .table); ruling = board-whole (startOf 0 count .table) }
+held-begin count first = record { table = sound-start 0 count; outgoing = board-whole (startOf 0 count .table); ruling = board-whole (startOf 0 count .table) }
 
 held-step : (s : Sender) (c : SenderCall) → Held s → Held (senderStepOf s c .sender)
 unfolding startEpochOf startedSender
-held-step s (OnTable c) h = record { table = sound-step (s .table) c (h .table); going = h .going; ruling = h .ruling }
+held-step s (OnTable c) h = record { table = sound-step (s .table) c (h .table); outgoing = h .outgoing; ruling = h .ruling }
 held-step s (StartEpoch gid mst ack) h = go (ltb gid 2 && ltb ack 2)
   where
-    go : (b : Bool) → Held (cond {A = SenderStep} b (record { sender = startedSender s gid mst ack; answer = Done }) (record { sender = s; answer = Field }) .sender)
-    go true = record { table = h .table; going = board-whole (s .table); ruling = h .going }
+    go : (b : Bool) → Held (cond {A = SenderOutcome} b (record { sender = startedSender s gid mst ack; answer = Done }) (record { sender = s; answer = Field }) .sender)
+    go true = record { table = h .table; outgoing = board-whole (s .table); ruling = h .outgoing }
     go false = h
 
 held-run : (s : Sender) (cs : List SenderCall) → Held s → Held (senderRun s cs)
@@ -99,8 +99,8 @@ unfolding refuses
 lapse-given t true k = absurd (true≢false k)
 lapse-given t false k = refl
 
-epoch-given : (s next : Sender) (b : Bool) → refuses (cond {A = SenderStep} b (record { sender = next; answer = Done }) (record { sender = s; answer = Field }) .answer) ≡ false
-    → cond {A = SenderStep} b (record { sender = next; answer = Done }) (record { sender = s; answer = Field }) .sender ≡ s
+epoch-given : (s next : Sender) (b : Bool) → refuses (cond {A = SenderOutcome} b (record { sender = next; answer = Done }) (record { sender = s; answer = Field }) .answer) ≡ false
+    → cond {A = SenderOutcome} b (record { sender = next; answer = Done }) (record { sender = s; answer = Field }) .sender ≡ s
 unfolding refuses
 epoch-given s next true k = absurd (true≢false k)
 epoch-given s next false k = refl
@@ -115,7 +115,7 @@ table-given t Lapse k = lapse-given t (t .wait) k
 step-given : (s : Sender) (c : SenderCall) → refuses (senderStepOf s c .answer) ≡ false → senderStepOf s c .sender ≡ s
 unfolding startEpochOf
 step-given s (OnTable c) k =
-    ap (λ (t : Table). record { table = t; going = s .going; ruling = s .ruling; epoch = s .epoch; begun = s .begun; gid = s .gid; mst = s .mst; «rs_ack» = s .«rs_ack» })
+    ap (λ (t : Table). record { table = t; outgoing = s .outgoing; ruling = s .ruling; epoch = s .epoch; begun = s .begun; gid = s .gid; mst = s .mst; «rs_ack» = s .«rs_ack» })
     (table-given (s .table) c k)
 step-given s (StartEpoch gid mst ack) k = epoch-given s (startedSender s gid mst ack) (ltb gid 2 && ltb ack 2) k
 

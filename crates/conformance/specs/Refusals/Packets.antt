@@ -1,225 +1,81 @@
--- The refusals of the packet's entry points.
-use mathlib.Core.Path.{_≡_, refl, ap}
-use mathlib.Core.Bool.{Bool, true, false, cond, not, _&&_}
+-- The refusals of the packet's entry points: writing 9, 8; reading 9, 5, 7, 6.
+use mathlib.Core.Path.{refl}
+use mathlib.Core.Bool.{Bool, not, _&&_, _||_}
 use mathlib.Core.List.{List, [], _∷_}
-use Prim.Native.Nat.{ℕ}
-use lib.Dec.{eqb}
-use lib.ListN.{length, take}
+use Prim.Native.Nat.{ℕ, _+_, _*_, _%_}
+use lib.Dec.{eqb, ltb}
+use lib.ListN.{getD, length, take}
 use Rattle.c_face.specs.Packets.{given, readAnswerC, readFieldsC, valuesOr, writeAnswerC, writeBytesC}
 use Rattle.packet.specs.declared.layout.Fields.{Fields}
-use Rattle.packet.specs.declared.reader.Reading.{Reading}
-use Rattle.packet.specs.declared.reader.Reading.the-variants.{Packet, Length, Crc, Fixed, Unassigned}
-use Rattle.packet.specs.declared.writer.Writing.the-variants.{Done, Field, Length as OtherLength}
 use Rattle.packet.specs.Crc.{crcOf}
 use Rattle.packet.specs.Layout.{carriedIn, fieldsOf, highsOf}
 use Rattle.packet.specs.Reading.{readAnswer, readNibbles, readingNumber}
-use Rattle.packet.specs.Words.{FIXED, assigned}
+use Rattle.packet.specs.Words.{assigned}
 use Rattle.packet.specs.Writing.{fitting, writeAnswer, writeBytes, writingNumber}
-use Rattle.conformance.specs.Entries.{Entry, Copes}
+use Rattle.conformance.specs.Entries.{Call, Copes, If, Refusal, Unless, answers-alone, behind, copes, stateless}
 
--- 01's conditions on a packet
+-- 'FIXED 0, ADD 1, NORM 2, EOS 3, IDLE 5, DNU 15. All others are unassigned.'
+abbrev pub named : ℕ → Bool
+named w = eqb w 0 || eqb w 1 || eqb w 2 || eqb w 3 || eqb w 5 || eqb w 15
 
-abbrev pub sized : ℕ → List ℕ → Bool
-sized n s = eqb (length s) n
+-- 8: 'a field given for writing is too large, or its word is FIXED or unassigned'
+abbrev pub small : Fields → Bool
+small f = ltb (f .epoch) 256 && ltb (f .mst) 256 && ltb (f .sq) 256 && ltb (f .gid) 2 && ltb (f .«rs_ack») 2 && not (eqb (f .word .0) 0) && named (f .word .0)
 
-abbrev pub crcRight : List ℕ → Bool
-crcRight ns = eqb (crcOf (take 14 ns)) (carriedIn ns)
+abbrev pub write : Fields × List ℕ → Call
+write (fields, h4) =
+    stateless (Unless 9 (eqb (length h4) 16) ∷ Unless 8 (small fields) ∷ [])
+    (writingNumber (writeAnswer fields h4)) (h4 ∷ []) (writeBytes fields h4 ∷ [])
 
-abbrev pub fixed : List ℕ → Bool
-fixed ns = eqb (fieldsOf ns .word .0) FIXED
+pub write-copes : (x : Fields × List ℕ) → Copes (write x)
+unfolding writeAnswer writeBytes fitting assigned
+write-copes (fields, h4) = copes _ (λ l. (λ f. rw (l, f), λ f. rw (l, f) (refl, refl, refl)), λ l. rw l (refl, refl, refl))
 
-abbrev pub known : List ℕ → Bool
-known ns = assigned (fieldsOf ns .word)
+abbrev pub writeC : ℕ × ℕ × ℕ × ℕ × ℕ × ℕ × List ℕ → Call
+writeC (epoch, word, gid, mst, «rs_ack», sq, h4) =
+    stateless (Unless 9 (eqb (length h4) 16) ∷ Unless 8 (small (given epoch word gid mst «rs_ack» sq)) ∷ [])
+    (writeAnswerC epoch word gid mst «rs_ack» sq h4) (h4 ∷ []) (writeBytesC epoch word gid mst «rs_ack» sq h4 ∷ [])
 
--- Writing a packet: 9, 8.
+pub writeC-copes : (x : ℕ × ℕ × ℕ × ℕ × ℕ × ℕ × List ℕ) → Copes (writeC x)
+writeC-copes (epoch, word, gid, mst, «rs_ack», sq, h4) = write-copes (given epoch word gid mst «rs_ack» sq, h4)
 
-writes-in-order : (l t : Bool) → writingNumber (cond l (cond t Done Field) OtherLength) ≡ cond (not l) 9 (cond (not t) 8 0)
-writes-in-order true true = refl
-writes-in-order true false = refl
-writes-in-order false t = refl
+-- of sixteen nibbles: the CRC is the last two, CTRL that of MFI1 2
+abbrev pub readRefusals : List ℕ → List Refusal
+readRefusals ns =
+    Unless 5 (eqb (crcOf (take 14 ns)) (getD ns 14 0 % 16 * 16 + getD ns 15 0 % 16))
+    ∷ If 7 (eqb (getD ns 10 0 % 16) 0)
+    ∷ Unless 6 (named (getD ns 10 0 % 16))
+    ∷ []
 
-writes-untouched : (l t : Bool) (new s : List ℕ) → (writingNumber (cond l (cond t Done Field) OtherLength) ≡ 0 → ⊥) → cond l (cond t new s) s ≡ s
-writes-untouched true true new s d = absurd (d refl)
-writes-untouched true false new s d = refl
-writes-untouched false t new s d = refl
+-- what a reading leaves of lent bytes for the values
+reads : (h4 fields : List ℕ) → Copes (stateless (Unless 9 (eqb (length h4) 16) ∷ readRefusals (highsOf h4)) (readingNumber (readAnswer h4)) (fields ∷ []) (valuesOr (readAnswer h4) fields ∷ []))
+unfolding readAnswer readNibbles carriedIn fieldsOf assigned
+reads h4 fields =
+    copes _ (
+      λ l. (λ c. (λ f. rw (l, c, f) (refl, refl, refl), λ f. (λ a. rw (l, c, f, rw f at a), λ a. rw (l, c, f, rw f at a) (refl, refl, refl))), λ c. rw (l, c) (refl, refl, refl)),
+      λ l. rw l (refl, refl, refl),
+    )
 
-pub record WriteInput : Type 0 where
-  pub fields : Fields
-  pub h4 : List ℕ
+abbrev pub readSixteen : List ℕ → Call
+readSixteen nibbles = stateless (readRefusals nibbles) (readingNumber (readNibbles nibbles)) [] []
 
-abbrev pub write : Entry
-write =
-    record {
-      name = "packet::write";
-      Input = WriteInput;
-      refusals =
-          record { number = 9; condition = λ x. not (sized 16 (x .h4)) }
-          ∷ record { number = 8; condition = λ x. not (fitting (x .fields)) }
-          ∷ [];
-      answer = λ x. writingNumber (writeAnswer (x .fields) (x .h4));
-      lent = λ x. x .h4 ∷ [];
-      left = λ x. writeBytes (x .fields) (x .h4) ∷ [];
-      State = Unit {0};
-      given = λ i. tt;
-      returned = λ i. tt;
-      empty = λ i. tt;
-    }
+pub readSixteen-copes : (x : List ℕ) → Copes (readSixteen x)
+unfolding readNibbles carriedIn fieldsOf assigned
+readSixteen-copes nibbles =
+    copes _ (λ c. (λ f. rw (c, f) (refl, refl, refl), λ f. (λ a. rw (c, f, rw f at a), λ a. rw (c, f, rw f at a) (refl, refl, refl))), λ c. rw c (refl, refl, refl))
 
-pub write-copes : Copes write
-unfolding writeAnswer writeBytes
-write-copes =
-    record {
-      in-order = λ x. writes-in-order (sized 16 (x .h4)) (fitting (x .fields));
-      untouched = λ x d. ap (λ l. l ∷ []) (writes-untouched (sized 16 (x .h4)) (fitting (x .fields)) _ (x .h4) d);
-      as-given = λ i k. refl;
-      emptied = λ i e. refl;
-    }
+abbrev pub read : List ℕ → Call
+read h4 = stateless (Unless 9 (eqb (length h4) 16) ∷ readRefusals (highsOf h4)) (readingNumber (readAnswer h4)) [] []
 
-pub record WriteInputC : Type 0 where
-  pub epoch : ℕ
-  pub word : ℕ
-  pub gid : ℕ
-  pub mst : ℕ
-  pub ack : ℕ
-  pub sq : ℕ
-  pub h4 : List ℕ
+pub read-copes : (x : List ℕ) → Copes (read x)
+read-copes h4 = answers-alone _ _ (reads h4 [] .answers)
 
-abbrev pub inputFields : WriteInputC → Fields
-inputFields x = given (x .epoch) (x .word) (x .gid) (x .mst) (x .ack) (x .sq)
+-- the values go into six lent bytes
+abbrev pub readC : List ℕ × List ℕ → Call
+readC (h4, fields) =
+    stateless (Unless 9 (eqb (length fields) 6) ∷ Unless 9 (eqb (length h4) 16) ∷ readRefusals (highsOf h4))
+    (readAnswerC h4 fields) (fields ∷ []) (readFieldsC h4 fields ∷ [])
 
-abbrev pub writeC : Entry
-writeC =
-    record {
-      name = "levelspruce_packet_write";
-      Input = WriteInputC;
-      refusals =
-          record { number = 9; condition = λ x. not (sized 16 (x .h4)) }
-          ∷ record { number = 8; condition = λ x. not (fitting (inputFields x)) }
-          ∷ [];
-      answer = λ x. writeAnswerC (x .epoch) (x .word) (x .gid) (x .mst) (x .ack) (x .sq) (x .h4);
-      lent = λ x. x .h4 ∷ [];
-      left = λ x. writeBytesC (x .epoch) (x .word) (x .gid) (x .mst) (x .ack) (x .sq) (x .h4) ∷ [];
-      State = Unit {0};
-      given = λ i. tt;
-      returned = λ i. tt;
-      empty = λ i. tt;
-    }
-
-pub writeC-copes : Copes writeC
-unfolding writeAnswer writeBytes
-writeC-copes =
-    record {
-      in-order = λ x. writes-in-order (sized 16 (x .h4)) (fitting (inputFields x));
-      untouched = λ x d. ap (λ l. l ∷ []) (writes-untouched (sized 16 (x .h4)) (fitting (inputFields x)) _ (x .h4) d);
-      as-given = λ i k. refl;
-      emptied = λ i e. refl;
-    }
-
--- Reading a packet: 9, 5, 7, 6.
-
--- by room for the values, length, CRC, FIXED and assigned
-reads-in-order : (room l c f a : Bool) (p : Fields)
-    → cond room (readingNumber (cond l (cond c (cond f Fixed (cond a (Packet p) Unassigned)) Crc) Length)) 9
-    ≡ cond (not (room && l)) 9 (cond (not c) 5 (cond (c && f) 7 (cond (c && not a) 6 0)))
-reads-in-order false l c f a p = refl
-reads-in-order true false c f a p = refl
-reads-in-order true true false f a p = refl
-reads-in-order true true true true a p = refl
-reads-in-order true true true false true p = refl
-reads-in-order true true true false false p = refl
-
-reads-untouched : (room : Bool) (r : Reading) (s : List ℕ) → (cond room (readingNumber r) 9 ≡ 0 → ⊥) → cond room (valuesOr r s) s ≡ s
-reads-untouched false r s d = refl
-reads-untouched true (Packet f) s d = absurd (d refl)
-reads-untouched true Length s d = refl
-reads-untouched true Crc s d = refl
-reads-untouched true Fixed s d = refl
-reads-untouched true Unassigned s d = refl
-
-abbrev pub readSixteen : Entry
-readSixteen =
-    record {
-      name = "packet::read_nibbles";
-      Input = List ℕ;
-      refusals =
-          record { number = 5; condition = λ ns. not (crcRight ns) }
-          ∷ record { number = 7; condition = λ ns. crcRight ns && fixed ns }
-          ∷ record { number = 6; condition = λ ns. crcRight ns && not (known ns) }
-          ∷ [];
-      answer = λ ns. readingNumber (readNibbles ns);
-      lent = λ ns. [];
-      left = λ ns. [];
-      State = Unit {0};
-      given = λ i. tt;
-      returned = λ i. tt;
-      empty = λ i. tt;
-    }
-
-pub readSixteen-copes : Copes readSixteen
-unfolding readNibbles
-readSixteen-copes =
-    record { in-order = λ ns. reads-in-order true true (crcRight ns) (fixed ns) (known ns) (fieldsOf ns); untouched = λ ns d. refl; as-given = λ i k. refl; emptied = λ i e. refl }
-
-abbrev pub read : Entry
-read =
-    record {
-      name = "packet::read";
-      Input = List ℕ;
-      refusals =
-          record { number = 9; condition = λ h4. not (sized 16 h4) }
-          ∷ record { number = 5; condition = λ h4. not (crcRight (highsOf h4)) }
-          ∷ record { number = 7; condition = λ h4. crcRight (highsOf h4) && fixed (highsOf h4) }
-          ∷ record { number = 6; condition = λ h4. crcRight (highsOf h4) && not (known (highsOf h4)) }
-          ∷ [];
-      answer = λ h4. readingNumber (readAnswer h4);
-      lent = λ h4. [];
-      left = λ h4. [];
-      State = Unit {0};
-      given = λ i. tt;
-      returned = λ i. tt;
-      empty = λ i. tt;
-    }
-
-pub read-copes : Copes read
-unfolding readAnswer readNibbles
-read-copes =
-    record {
-      in-order = λ h4. let ns = highsOf h4 in reads-in-order true (sized 16 h4) (crcRight ns) (fixed ns) (known ns) (fieldsOf ns);
-      untouched = λ h4 d. refl;
-      as-given = λ i k. refl;
-      emptied = λ i e. refl;
-    }
-
-pub record ReadInputC : Type 0 where
-  pub h4 : List ℕ
-  pub fields : List ℕ
-
-abbrev pub readC : Entry
-readC =
-    record {
-      name = "levelspruce_packet_read";
-      Input = ReadInputC;
-      refusals =
-          record { number = 9; condition = λ x. not (sized 6 (x .fields) && sized 16 (x .h4)) }
-          ∷ record { number = 5; condition = λ x. not (crcRight (highsOf (x .h4))) }
-          ∷ record { number = 7; condition = λ x. crcRight (highsOf (x .h4)) && fixed (highsOf (x .h4)) }
-          ∷ record { number = 6; condition = λ x. crcRight (highsOf (x .h4)) && not (known (highsOf (x .h4))) }
-          ∷ [];
-      answer = λ x. readAnswerC (x .h4) (x .fields);
-      lent = λ x. x .fields ∷ [];
-      left = λ x. readFieldsC (x .h4) (x .fields) ∷ [];
-      State = Unit {0};
-      given = λ i. tt;
-      returned = λ i. tt;
-      empty = λ i. tt;
-    }
-
-pub readC-copes : Copes readC
-unfolding readAnswerC readFieldsC readAnswer readNibbles
-readC-copes =
-    record {
-      in-order = λ x. let ns = highsOf (x .h4) in reads-in-order (sized 6 (x .fields)) (sized 16 (x .h4)) (crcRight ns) (fixed ns) (known ns) (fieldsOf ns);
-      untouched = λ x d. ap (λ l. l ∷ []) (reads-untouched (sized 6 (x .fields)) (readAnswer (x .h4)) (x .fields) d);
-      as-given = λ i k. refl;
-      emptied = λ i e. refl;
-    }
+pub readC-copes : (x : List ℕ × List ℕ) → Copes (readC x)
+unfolding readAnswerC readFieldsC
+readC-copes (h4, fields) = behind 9 (eqb (length fields) 6) _ _ (valuesOr (readAnswer h4) fields) fields (reads h4 fields)

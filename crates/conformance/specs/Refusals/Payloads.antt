@@ -1,237 +1,73 @@
--- The refusals of spreading and joining: 4, then 9.
-use mathlib.Core.Path.{_≡_, refl, ap}
-use mathlib.Core.Bool.{Bool, true, false, cond, not, _&&_}
+-- The refusals of spreading and joining: '4 (X above 64, or P), 9; a group frame has X x P bytes'.
+use mathlib.Core.Path.{refl}
+use mathlib.Core.Bool.{Bool, _&&_}
 use mathlib.Core.List.{List, [], _∷_}
 use Prim.Native.Nat.{ℕ, _+_, _*_}
-use Prim.Native.String.{String}
 use lib.Dec.{eqb, leb}
-use lib.ListN.{length}
+use lib.ListN.{getD, length}
 use Rattle.c_face.specs.Payloads.{joinAnswerC, joinFrameC, spreadAnswerC, spreadMembersC}
-use Rattle.payload.specs.Answers.{answerBy, numberOf, sized, underDone}
-use Rattle.payload.specs.Joining.{fromAnswer, joined, joinedFrom, rankedByte, startedByte, startsFit, wholeAnswer}
-use Rattle.payload.specs.Order.{groupByte, groupFrame, memberFrame}
-use Rattle.payload.specs.Spreading.{allMembers, oneAnswer, spreadAll, spreadOne}
-use Rattle.ground.specs.Drawn.{fillAt}
-use Rattle.conformance.specs.Entries.{Entry, Copes, Refusal}
+use Rattle.ground.specs.Finite.{below}
+use Rattle.payload.specs.Answers.{answerBy, numberOf, underDone}
+use Rattle.payload.specs.Joining.{fromAnswer, joined, joinedFrom, wholeAnswer}
+use Rattle.payload.specs.Spreading.{oneAnswer, spreadAll, spreadOne}
+use Rattle.conformance.specs.Entries.{Call, Copes, Refusal, Unless, answers-alone, copes, stateless}
 
-in-order : (sizes lengths : Bool) → numberOf (answerBy sizes lengths) ≡ cond (not sizes) 4 (cond (not lengths) 9 0)
-in-order true true = refl
-in-order true false = refl
-in-order false l = refl
+-- X is at most 64 and P 1 to 2,340
+abbrev pub ranged : ℕ → ℕ → Bool
+ranged x p = leb x 64 && leb 1 p && leb p 2340
 
-untouched : (sizes lengths : Bool) (new old : List ℕ) → (numberOf (answerBy sizes lengths) ≡ 0 → ⊥) → underDone (answerBy sizes lengths) new old ≡ old
-untouched true true new old d = absurd (d refl)
-untouched true false new old d = refl
-untouched false l new old d = refl
+abbrev pub refusals : ℕ → ℕ → Bool → List Refusal
+refusals x p lengths = Unless 4 (ranged x p) ∷ Unless 9 lengths ∷ []
 
--- '4 (X above 64, or P), 9'
-abbrev refusals : {Input : Type 0} → (Input → ℕ) → (Input → ℕ) → (Input → Bool) → List (Refusal Input)
-refusals X P lengths = record { number = 4; condition = λ i. not (sized (X i) (P i)) } ∷ record { number = 9; condition = λ i. not (lengths i) } ∷ []
+spreads : (x p : ℕ) (lengths : Bool) (new old : List ℕ) → Copes (stateless (refusals x p lengths) (numberOf (answerBy (ranged x p) lengths)) (old ∷ []) (underDone (answerBy (ranged x p) lengths) new old ∷ []))
+spreads x p lengths new old = copes _ (λ s. (λ l. rw (s, l), λ l. rw (s, l) (refl, refl, refl)), λ s. rw s (refl, refl, refl))
 
--- X, P, what is read and what is written, for spreading and joining alike
-pub record Whole : Type 0 where
-  pub x : ℕ
-  pub p : ℕ
-  pub from : List ℕ
-  pub to : List ℕ
+abbrev pub spread : ℕ × ℕ × List ℕ × List ℕ → Call
+spread (x, p, frame, members) =
+    stateless (refusals x p (eqb (length frame) (x * p) && eqb (length members) (x * p)))
+    (numberOf (wholeAnswer x p (length frame) (length members))) (members ∷ []) (spreadAll x p frame members ∷ [])
 
--- 'a group frame has X x P bytes', and so have its members together
-abbrev wholeLengths : Whole → Bool
-wholeLengths i = eqb (length (i .from)) (i .x * i .p) && eqb (length (i .to)) (i .x * i .p)
+pub spread-copes : (x : ℕ × ℕ × List ℕ × List ℕ) → Copes (spread x)
+spread-copes (x, p, frame, members) = spreads x p (eqb (length frame) (x * p) && eqb (length members) (x * p)) _ members
 
-whole-copes : (name : String) (new : Whole → List ℕ) → Copes (record {
-  name = name;
-  Input = Whole;
-  refusals = refusals (λ i. i .x) (λ i. i .p) wholeLengths;
-  answer = λ i. numberOf (wholeAnswer (i .x) (i .p) (length (i .from)) (length (i .to)));
-  lent = λ i. i .to ∷ [];
-  left = λ i. underDone (wholeAnswer (i .x) (i .p) (length (i .from)) (length (i .to))) (new i) (i .to) ∷ [];
-  State = Unit {0};
-  given = λ i. tt;
-  returned = λ i. tt;
-  empty = λ i. tt;
-})
-whole-copes name new =
-    record {
-      in-order = λ i. in-order (sized (i .x) (i .p)) (wholeLengths i);
-      untouched = λ i d. ap (λ l. l ∷ []) (untouched (sized (i .x) (i .p)) (wholeLengths i) (new i) (i .to) d);
-      as-given = λ i k. refl;
-      emptied = λ i e. refl;
-    }
+abbrev pub join : ℕ × ℕ × List ℕ × List ℕ → Call
+join (x, p, members, frame) =
+    stateless (refusals x p (eqb (length members) (x * p) && eqb (length frame) (x * p)))
+    (numberOf (wholeAnswer x p (length members) (length frame))) (frame ∷ []) (joined x p members frame ∷ [])
 
-abbrev pub spread : Entry
-spread =
-    record {
-      name = "payload::spread";
-      Input = Whole;
-      refusals = refusals (λ i. i .x) (λ i. i .p) wholeLengths;
-      answer = λ i. numberOf (wholeAnswer (i .x) (i .p) (length (i .from)) (length (i .to)));
-      lent = λ i. i .to ∷ [];
-      left = λ i. spreadAll (i .x) (i .p) (i .from) (i .to) ∷ [];
-      State = Unit {0};
-      given = λ i. tt;
-      returned = λ i. tt;
-      empty = λ i. tt;
-    }
+pub join-copes : (x : ℕ × ℕ × List ℕ × List ℕ) → Copes (join x)
+join-copes (x, p, members, frame) = spreads x p (eqb (length members) (x * p) && eqb (length frame) (x * p)) _ frame
 
-pub spread-copes : Copes spread
-spread-copes = whole-copes "payload::spread" (λ i. allMembers (i .x) (i .p) (i .from))
+abbrev pub spreadC : ℕ × ℕ × List ℕ × List ℕ → Call
+spreadC (x, p, frame, members) =
+    stateless (refusals x p (eqb (length frame) (x * p) && eqb (length members) (x * p)))
+    (spreadAnswerC x p frame members) (members ∷ []) (spreadMembersC x p frame members ∷ [])
 
-abbrev pub join : Entry
-join =
-    record {
-      name = "payload::join";
-      Input = Whole;
-      refusals = refusals (λ i. i .x) (λ i. i .p) wholeLengths;
-      answer = λ i. numberOf (wholeAnswer (i .x) (i .p) (length (i .from)) (length (i .to)));
-      lent = λ i. i .to ∷ [];
-      left = λ i. joined (i .x) (i .p) (i .from) (i .to) ∷ [];
-      State = Unit {0};
-      given = λ i. tt;
-      returned = λ i. tt;
-      empty = λ i. tt;
-    }
+abbrev pub joinC : ℕ × ℕ × List ℕ × List ℕ → Call
+joinC (x, p, members, frame) =
+    stateless (refusals x p (eqb (length members) (x * p) && eqb (length frame) (x * p)))
+    (joinAnswerC x p members frame) (frame ∷ []) (joinFrameC x p members frame ∷ [])
 
-pub join-copes : Copes join
-join-copes = whole-copes "payload::join" (λ i. groupFrame (i .x) (i .p) (rankedByte (i .p) (i .from)))
+abbrev pub spreadOneMember : ℕ × ℕ × ℕ × List ℕ × List ℕ → Call
+spreadOneMember (x, p, r, frame, member) =
+    stateless (refusals x p (eqb (length frame) (x * p) && eqb (length member) p))
+    (numberOf (oneAnswer x p (length frame) (length member))) (member ∷ []) (spreadOne x p r frame member ∷ [])
 
-abbrev pub spreadC : Entry
-spreadC =
-    record {
-      name = "levelspruce_spread";
-      Input = Whole;
-      refusals = refusals (λ i. i .x) (λ i. i .p) wholeLengths;
-      answer = λ i. spreadAnswerC (i .x) (i .p) (i .from) (i .to);
-      lent = λ i. i .to ∷ [];
-      left = λ i. spreadMembersC (i .x) (i .p) (i .from) (i .to) ∷ [];
-      State = Unit {0};
-      given = λ i. tt;
-      returned = λ i. tt;
-      empty = λ i. tt;
-    }
+pub spreadOne-copes : (x : ℕ × ℕ × ℕ × List ℕ × List ℕ) → Copes (spreadOneMember x)
+spreadOne-copes (x, p, r, frame, member) = spreads x p (eqb (length frame) (x * p) && eqb (length member) p) _ member
 
-pub spreadC-copes : Copes spreadC
-spreadC-copes = whole-copes "levelspruce_spread" (λ i. allMembers (i .x) (i .p) (i .from))
+-- each ranked member ends within the store, and the group frame from its place on within the output
+abbrev pub joinFrom : ℕ × ℕ × List ℕ × List ℕ × ℕ × List ℕ → Call
+joinFrom (x, p, starts, store, place, out) =
+    stateless (refusals x p (leb (place + x * p) (length out) && below x (λ r. leb (getD starts r 0 + p) (length store))))
+    (numberOf (fromAnswer x p starts (length store) place (length out))) (out ∷ []) (joinedFrom x p starts store place out ∷ [])
 
-abbrev pub joinC : Entry
-joinC =
-    record {
-      name = "levelspruce_join";
-      Input = Whole;
-      refusals = refusals (λ i. i .x) (λ i. i .p) wholeLengths;
-      answer = λ i. joinAnswerC (i .x) (i .p) (i .from) (i .to);
-      lent = λ i. i .to ∷ [];
-      left = λ i. joinFrameC (i .x) (i .p) (i .from) (i .to) ∷ [];
-      State = Unit {0};
-      given = λ i. tt;
-      returned = λ i. tt;
-      empty = λ i. tt;
-    }
+pub joinFrom-copes : (x : ℕ × ℕ × List ℕ × List ℕ × ℕ × List ℕ) → Copes (joinFrom x)
+joinFrom-copes (x, p, starts, store, place, out) = spreads x p (leb (place + x * p) (length out) && below x (λ r. leb (getD starts r 0 + p) (length store))) _ out
 
-pub joinC-copes : Copes joinC
-joinC-copes = whole-copes "levelspruce_join" (λ i. groupFrame (i .x) (i .p) (rankedByte (i .p) (i .from)))
+-- what payload::spread_one answers, from the lengths alone
+abbrev pub oneAnswerCall : ℕ × ℕ × ℕ × ℕ → Call
+oneAnswerCall (x, p, frame, member) = stateless (refusals x p (eqb frame (x * p) && eqb member p)) (numberOf (oneAnswer x p frame member)) [] []
 
-pub record One : Type 0 where
-  pub x : ℕ
-  pub p : ℕ
-  pub rank : ℕ
-  pub frame : List ℕ
-  pub member : List ℕ
-
-abbrev oneLengths : One → Bool
-oneLengths i = eqb (length (i .frame)) (i .x * i .p) && eqb (length (i .member)) (i .p)
-
-abbrev pub spreadOneMember : Entry
-spreadOneMember =
-    record {
-      name = "payload::spread_one";
-      Input = One;
-      refusals = refusals (λ i. i .x) (λ i. i .p) oneLengths;
-      answer = λ i. numberOf (oneAnswer (i .x) (i .p) (length (i .frame)) (length (i .member)));
-      lent = λ i. i .member ∷ [];
-      left = λ i. spreadOne (i .x) (i .p) (i .rank) (i .frame) (i .member) ∷ [];
-      State = Unit {0};
-      given = λ i. tt;
-      returned = λ i. tt;
-      empty = λ i. tt;
-    }
-
-pub spreadOne-copes : Copes spreadOneMember
-spreadOne-copes =
-    record {
-      in-order = λ i. in-order (sized (i .x) (i .p)) (oneLengths i);
-      untouched = λ i d. ap (λ l. l ∷ []) (untouched (sized (i .x) (i .p)) (oneLengths i) (memberFrame (i .x) (i .p) (i .frame) (i .rank)) (i .member) d);
-      as-given = λ i k. refl;
-      emptied = λ i e. refl;
-    }
-
-pub record From : Type 0 where
-  pub x : ℕ
-  pub p : ℕ
-  pub starts : List ℕ
-  pub store : List ℕ
-  pub place : ℕ
-  pub out : List ℕ
-
-abbrev fromLengths : From → Bool
-fromLengths i = leb (i .place + i .x * i .p) (length (i .out)) && startsFit (i .x) (i .p) (i .starts) (length (i .store))
-
-abbrev pub joinFrom : Entry
-joinFrom =
-    record {
-      name = "payload::join_from";
-      Input = From;
-      refusals = refusals (λ i. i .x) (λ i. i .p) fromLengths;
-      answer = λ i. numberOf (fromAnswer (i .x) (i .p) (i .starts) (length (i .store)) (i .place) (length (i .out)));
-      lent = λ i. i .out ∷ [];
-      left = λ i. joinedFrom (i .x) (i .p) (i .starts) (i .store) (i .place) (i .out) ∷ [];
-      State = Unit {0};
-      given = λ i. tt;
-      returned = λ i. tt;
-      empty = λ i. tt;
-    }
-
-pub joinFrom-copes : Copes joinFrom
-joinFrom-copes =
-    record {
-      in-order = λ i. in-order (sized (i .x) (i .p)) (fromLengths i);
-      untouched = λ i d.
-          ap (λ l. l ∷ [])
-          (untouched (sized (i .x) (i .p)) (fromLengths i) (fillAt (i .place) (i .x * i .p) (groupByte (i .x) (startedByte (i .starts) (i .store))) (i .out)) (i .out) d);
-      as-given = λ i k. refl;
-      emptied = λ i e. refl;
-    }
-
--- payload::one_answer is what payload::spread_one answers, from the lengths alone
-pub record Lengths : Type 0 where
-  pub x : ℕ
-  pub p : ℕ
-  pub frame : ℕ
-  pub member : ℕ
-
-abbrev lengthsFit : Lengths → Bool
-lengthsFit i = eqb (i .frame) (i .x * i .p) && eqb (i .member) (i .p)
-
-abbrev pub oneAnswerEntry : Entry
-oneAnswerEntry =
-    record {
-      name = "payload::one_answer";
-      Input = Lengths;
-      refusals = refusals (λ i. i .x) (λ i. i .p) lengthsFit;
-      answer = λ i. numberOf (oneAnswer (i .x) (i .p) (i .frame) (i .member));
-      lent = λ i. [];
-      left = λ i. [];
-      State = Unit {0};
-      given = λ i. tt;
-      returned = λ i. tt;
-      empty = λ i. tt;
-    }
-
-pub oneAnswer-copes : Copes oneAnswerEntry
-oneAnswer-copes =
-    record {
-      in-order = λ i. in-order (sized (i .x) (i .p)) (lengthsFit i);
-      untouched = λ i d. refl;
-      as-given = λ i k. refl;
-      emptied = λ i e. refl;
-    }
+pub oneAnswer-copes : (x : ℕ × ℕ × ℕ × ℕ) → Copes (oneAnswerCall x)
+oneAnswer-copes (x, p, frame, member) = answers-alone _ _ (spreads x p (eqb frame (x * p) && eqb member p) [] [] .answers)

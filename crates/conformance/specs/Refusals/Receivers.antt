@@ -1,17 +1,19 @@
 -- The refusals of the receiver: a start 4, 9; a frame 1, 9, 10, 12, 11; a fetch and what is read out 9. The state's rows stand as the state and not among the lent slices. Under 10 and 12 the state changes and no lent byte does.
 use mathlib.Core.Path.{_≡_, refl, ap}
-use mathlib.Core.Bool.{Bool, true, false, cond, not, _&&_, false≢true}
+use mathlib.Core.Bool.{Bool, true, false, cond, not, _&&_, _||_}
 use mathlib.Core.List.{List, [], _∷_}
-use Prim.Native.Nat.{ℕ}
-use native.Mathlib.Omega.{arith}
-use lib.Dec.{eqb, ltb}
+use Prim.Native.Nat.{ℕ, _+_, _-_, _*_, _%_}
+use native.Mathlib.Nat.{mod-mod}
+use lib.Dec.{eqb, leb, ltb}
 use lib.ListN.{length}
 use Rattle.c_face.specs.Receivers.{failedC}
-use Rattle.conformance.specs.Entries.{Copes, Entry, keepsState}
-use Rattle.phases.specs.Sizes.{portsIn, sized}
+use Rattle.conformance.specs.Entries.{Call, Copes, If, Refusal, Under, Unless, copes, done, first, refused, stateful, stateless}
+use Rattle.ground.specs.Circle.{after}
+use Rattle.packet.specs.Kinds.{distanceOf, firstTag, frames, lead, tags}
+use Rattle.phases.specs.Sizes.{portsIn, sized, storeFor}
 use Rattle.receiver.specs.Fetch.{fetchAnswer, fetchOut, fetchRecord, fetchRows, fits}
 use Rattle.receiver.specs.Frame.{frameAnswer, frameRows, frameStore, refusalBy, storeBy, takenRows, takenStore}
-use Rattle.receiver.specs.Lengths.{frameFits}
+use Rattle.receiver.specs.Lengths.{fetchFits, frameFits, outputFor, rowsFit}
 use Rattle.receiver.specs.Shown.{portsAnswer, portsOut, replyAnswer, replyFit, replyOut, shownFit}
 use Rattle.receiver.specs.Starting.{emptyGroup, sizedAnswer, sizedRows, startAnswer, startFits, startRows}
 use Rattle.rows.specs.declared.group.Group.{Group}
@@ -20,67 +22,23 @@ use Rattle.rows.specs.Group.{groupAt, groupOf, groupRow, putGroup}
 use Rattle.rows.specs.Rows.{putRow, rowIn}
 use Rattle.rows.specs.Step.{stepAt}
 use Rattle.step.specs.declared.arrival.Taken.{Taken}
-use Rattle.step.specs.Arrival.{aside, countsOn, flagOf, flagged, joining, keeps, outside, takenOf}
-use Rattle.step.specs.Laws.Arrival.{inWindow, stepped, taken-by}
+use Rattle.step.specs.Arrival.{countsOn, distanceIn, flagged, frameDropped, joining, keeps, outside, runOf, takenOf}
+use Rattle.step.specs.Laws.Arrival.{taken-by}
+use Rattle.step.specs.Run.{inStepAt, runOn}
 
--- Starting: 4, 9.
+-- '1 to 64 ports', 'P from 1 to 2,340', 'The window W is 16 to 2,048 frames'
+abbrev pub ranged : ℕ → ℕ → ℕ → Bool
+ranged count payload window = leb 1 count && leb count 64 && leb 1 payload && leb payload 2340 && leb 16 window && leb window 2048
 
-pub record StartInput : Type 0 where
-  pub kind : ℕ
-  pub ports : ℕ
-  pub payload : ℕ
-  pub window : ℕ
-  pub store : ℕ
-  pub rows : List (List ℕ)
+-- Starting. 'The lent store is exactly ports x W x (P+1) bytes', and the state has five rows a port and one.
+abbrev pub start : ℕ × ℕ × ℕ × ℕ × ℕ × List (List ℕ) → Call
+start (kind, count, payload, window, store, state) =
+    stateful (Unless 4 (ranged count payload window) ∷ Unless 9 (eqb (length state) (count * 5 + 1) && eqb store (count * window * (payload + 1))) ∷ [])
+    (startAnswer kind count payload window store (length state)) [] [] state (startRows kind count payload window store state) (putGroup state (emptyGroup kind))
 
-abbrev startSized : StartInput → Bool
-startSized i = sized (i .kind) (i .ports) (i .payload) (i .window)
-
-abbrev startLengths : StartInput → Bool
-startLengths i = startFits (i .ports) (i .payload) (i .window) (i .store) (length (i .rows))
-
-abbrev pub start : Entry
-start =
-    record {
-      name = "receiver::start";
-      Input = StartInput;
-      refusals =
-          record { number = 4; condition = λ i. not (startSized i) }
-          ∷ record { number = 9; condition = λ i. not (startLengths i) }
-          ∷ [];
-      answer = λ i. startAnswer (i .kind) (i .ports) (i .payload) (i .window) (i .store) (length (i .rows));
-      lent = λ i. [];
-      left = λ i. [];
-      State = List (List ℕ);
-      given = λ i. i .rows;
-      returned = λ i. startRows (i .kind) (i .ports) (i .payload) (i .window) (i .store) (i .rows);
-      empty = λ i. putGroup (i .rows) (emptyGroup (i .kind));
-    }
-
-starts-in-order : (s f : Bool) → _≡_ {A = ℕ} (cond s (cond f 0 9) 4) (cond (not s) 4 (cond (not f) 9 0))
-starts-in-order false f = refl
-starts-in-order true false = refl
-starts-in-order true true = refl
-
-starts-as-given : (s f : Bool) (none new old : List (List ℕ)) → keepsState (cond s (cond f 0 9) 4) ≡ true → cond s (cond f new old) none ≡ old
-starts-as-given false f none new old k = absurd (false≢true k)
-starts-as-given true false none new old k = refl
-starts-as-given true true none new old k = absurd (false≢true k)
-
-starts-emptied : (s f : Bool) (none new old : List (List ℕ)) → _≡_ {A = ℕ} (cond s (cond f 0 9) 4) 4 → cond s (cond f new old) none ≡ none
-starts-emptied false f none new old e = refl
-starts-emptied true false none new old e = absurd (omega arith)
-starts-emptied true true none new old e = absurd (omega arith)
-
-pub start-copes : Copes start
-unfolding startAnswer startRows sizedAnswer sizedRows
-start-copes =
-    record {
-      in-order = λ i. starts-in-order (startSized i) (startLengths i);
-      untouched = λ i d. refl;
-      as-given = λ i k. starts-as-given (startSized i) (startLengths i) _ _ (i .rows) k;
-      emptied = λ i e. starts-emptied (startSized i) (startLengths i) _ _ (i .rows) e;
-    }
+pub start-copes : (x : ℕ × ℕ × ℕ × ℕ × ℕ × List (List ℕ)) → Copes (start x)
+unfolding startAnswer startRows sizedAnswer sizedRows startFits sized frames tags
+start-copes (kind, count, payload, window, store, state) = copes _ (λ s. (λ f. rw (s, f), λ f. rw (s, f) (refl, refl, refl)), λ s. rw s (refl, refl, refl))
 
 -- what is then in the rows, if there are any, is a group without ports
 pub emptied-empty : (kind : ℕ) (rows : List (List ℕ)) → portsIn (groupAt (putGroup rows (emptyGroup kind))) ≡ 0
@@ -88,414 +46,140 @@ unfolding portsIn sized groupAt groupOf groupRow putGroup putRow rowIn
 emptied-empty kind [] = refl
 emptied-empty kind (r ∷ rs) = refl
 
-pub record StartInputC : Type 0 where
-  pub ports : ℕ
-  pub payload : ℕ
-  pub window : ℕ
-  pub «store_bytes» : ℕ
-  pub rows : List (List ℕ)
-
 -- for the kind H4
-abbrev startMeant : StartInputC → StartInput
-startMeant i = record { kind = 0; ports = i .ports; payload = i .payload; window = i .window; store = i .«store_bytes»; rows = i .rows }
+abbrev pub startC : ℕ × ℕ × ℕ × ℕ × List (List ℕ) → Call
+startC (ports, payload, window, «store_bytes», state) = start (0, ports, payload, window, «store_bytes», state)
 
-abbrev pub startC : Entry
-startC =
-    record {
-      name = "levelspruce_receiver_start";
-      Input = StartInputC;
-      refusals =
-          record { number = 4; condition = λ i. not (startSized (startMeant i)) }
-          ∷ record { number = 9; condition = λ i. not (startLengths (startMeant i)) }
-          ∷ [];
-      answer = λ i. startAnswer 0 (i .ports) (i .payload) (i .window) (i .«store_bytes») (length (i .rows));
-      lent = λ i. [];
-      left = λ i. [];
-      State = List (List ℕ);
-      given = λ i. i .rows;
-      returned = λ i. startRows 0 (i .ports) (i .payload) (i .window) (i .«store_bytes») (i .rows);
-      empty = λ i. putGroup (i .rows) (emptyGroup 0);
-    }
+pub startC-copes : (x : ℕ × ℕ × ℕ × ℕ × List (List ℕ)) → Copes (startC x)
+startC-copes (ports, payload, window, «store_bytes», state) = start-copes (0, ports, payload, window, «store_bytes», state)
 
-pub startC-copes : Copes startC
-startC-copes =
-    record {
-      in-order = λ i. start-copes .in-order (startMeant i);
-      untouched = λ i d. refl;
-      as-given = λ i k. start-copes .as-given (startMeant i) k;
-      emptied = λ i e. start-copes .emptied (startMeant i) e;
-    }
+-- What a frame does to a port: 10, 12, 11. 'A port is in step when 32 frames in a row' count; 'its tag is 0 to W-1 after the first frame of the oldest epoch'; '11 goes only to a joined port'.
 
--- What a frame does to a port: 10, 12, 11.
+-- how far the tag to come lies after the first frame of the oldest epoch, whose tag is 8 before 16 x that epoch
+abbrev pub ahead : Group → Step → ℕ
+ahead g s = (s .next + (4096 - (g .oldest * 16 + 4088) % 4096)) % 4096
 
-pub record DecideInput : Type 0 where
-  pub group : Group
-  pub step : Step
-  pub failed : Bool
-  pub h4 : ℕ
+ahead-is : (g : Group) (s : Step) → distanceIn g (s .next) ≡ ahead g s
+unfolding distanceIn distanceOf after firstTag frames tags lead
+ahead-is g s = ap (λ (n : ℕ). (s .next + (4096 - n)) % 4096) (mod-mod (g .oldest * 16 + 4088) 4096)
 
--- 'port not in step after this frame'
-abbrev unsteady : DecideInput → Bool
-unsteady i = not (stepped (i .group) (i .step) (i .h4))
+window-is : (g : Group) (s : Step) (b : Bool) → ltb (distanceIn g (s .next)) (g .window) ≡ b → ltb (ahead g s) (g .window) ≡ b
+window-is g s b e = rw (ahead-is g s) at e
 
--- 'frame in step, but outside the window'; '11 goes only to a joined port'
-abbrev beyond : DecideInput → Bool
-beyond i = stepped (i .group) (i .step) (i .h4) && flagOf (i .group .begun) && flagOf (i .step .joined) && not (inWindow (i .group) (i .step))
+abbrev pub portRefusals : Group → Step → Bool → ℕ → List Refusal
+portRefusals g s failed h4 =
+    If 10 failed
+    ∷ Unless 12 (leb 32 (runOn (g .kind) (runOf s) h4 .count))
+    ∷ If 11 (not (eqb (g .begun) 0) && not (eqb (s .joined) 0) && not (ltb (ahead g s) (g .window)))
+    ∷ []
 
-abbrev decided : DecideInput → Taken
-decided i = takenOf (i .group) (i .step) (i .failed) (i .h4)
+-- what holds of each way a frame can go, with its number, holds of the frame
+by-number : (P : Taken → ℕ → Type 0) (g : Group) (s : Step) (failed : Bool) (h4 : ℕ)
+    → P (flagged g s) 10 → P (countsOn g s (runOn (g .kind) (runOf s) h4)) 12 → P (frameDropped g s (runOn (g .kind) (runOf s) h4)) 0
+    → P (keeps g s (runOn (g .kind) (runOf s) h4) (distanceIn g (s .next))) 0 → P (outside s) 11 → P (joining g s (runOn (g .kind) (runOf s) h4) (distanceIn g (s .next))) 0
+    → P (takenOf g s failed h4) (first (portRefusals g s failed h4))
+unfolding inStepAt frames
+by-number P g s failed h4 ten twelve dropped kept eleven joined =
+    taken-by (λ t. P t (first (portRefusals g s failed h4))) g s failed h4
+    (λ f. rw f ten)
+    (λ f e. rw (f, e) twelve)
+    (λ f e b. rw (f, e, b) dropped)
+    (λ f e b j w. rw (f, e, b, j, window-is g s true w) kept)
+    (λ f e b j w. rw (f, e, b, j, window-is g s false w) eleven)
+    (λ f e b j t w. rw (f, e, b, j) joined)
+    (λ f e b j w. rw (f, e, b, j) dropped)
 
-abbrev pub decide : Entry
-decide =
-    record {
-      name = "step::decide";
-      Input = DecideInput;
-      refusals =
-          record { number = 10; condition = λ i. i .failed }
-          ∷ record { number = 12; condition = unsteady }
-          ∷ record { number = 11; condition = beyond }
-          ∷ [];
-      answer = λ i. decided i .answer;
-      lent = λ i. [];
-      left = λ i. [];
-      State = Step;
-      given = λ i. i .step;
-      returned = λ i. decided i .step;
-      empty = λ i. i .step;
-    }
+abbrev pub decide : Group × Step × Bool × ℕ → Call
+decide (group, step, failed, h4) =
+    stateful (portRefusals group step failed h4) (takenOf group step failed h4 .answer) [] [] step (takenOf group step failed h4 .step) step
 
--- What is taken has the first number that fits. Only a frame answered 0 is kept, and 11 leaves the step as it is.
-record Answered (i : DecideInput) (t : Taken) : Type 0 where
-  number : t .answer ≡ cond (i .failed) 10 (cond (unsteady i) 12 (cond (beyond i) 11 0))
-  dropped : (t .answer ≡ 0 → ⊥) → t .kept ≡ false
-  stays : keepsState (t .answer) ≡ true → t .step ≡ i .step
-  full : t .answer ≡ 4 → ⊥
-
-answered : (i : DecideInput) → Answered i (decided i)
-unfolding flagged countsOn aside keeps outside joining
-answered i =
-    taken-by (Answered i) (i .group) (i .step) (i .failed) (i .h4)
-    (λ f. record { number = rw f refl; dropped = λ d. refl; stays = λ k. absurd (false≢true k); full = λ e. omega arith })
-    (λ f e. record { number = rw (f, e) refl; dropped = λ d. refl; stays = λ k. absurd (false≢true k); full = λ e. omega arith })
-    (λ f e b. record { number = rw (f, e, b) refl; dropped = λ d. refl; stays = λ k. absurd (false≢true k); full = λ e. omega arith })
-    (λ f e b j w. record { number = rw (f, e, b, j, w) refl; dropped = λ d. absurd (d refl); stays = λ k. absurd (false≢true k); full = λ e. omega arith })
-    (λ f e b j w. record { number = rw (f, e, b, j, w) refl; dropped = λ d. refl; stays = λ k. refl; full = λ e. omega arith })
-    (λ f e b j t w. record { number = rw (f, e, b, j) refl; dropped = λ d. absurd (d refl); stays = λ k. absurd (false≢true k); full = λ e. omega arith })
-    (λ f e b j w. record { number = rw (f, e, b, j) refl; dropped = λ d. refl; stays = λ k. absurd (false≢true k); full = λ e. omega arith })
-
-pub decide-copes : Copes decide
-decide-copes =
-    record {
-      in-order = λ i. answered i .number;
-      untouched = λ i d. refl;
-      as-given = λ i k. answered i .stays k;
-      emptied = λ i e. absurd (answered i .full e);
-    }
+pub decide-copes : (x : Group × Step × Bool × ℕ) → Copes (decide x)
+unfolding flagged countsOn frameDropped keeps outside joining
+decide-copes (group, step, failed, h4) =
+    by-number (λ t n. Under (stateful (portRefusals group step failed h4) (t .answer) [] [] step (t .step) step) n) group step failed h4
+    (refused _ 10 (refl, refl, tt)) (refused _ 12 (refl, refl, tt)) (done _ refl) (done _ refl) (refused _ 11 (refl, refl, refl)) (done _ refl)
 
 -- A frame: 1, 9, 10, 12, 11.
 
-pub record FrameInput : Type 0 where
-  pub rows : List (List ℕ)
-  pub port : ℕ
-  pub failed : Bool
-  pub h4 : ℕ
-  pub payload : List ℕ
-  pub store : List ℕ
+-- how many ports there are: of a group out of range, which no start leaves, none
+abbrev pub portsOf : Group → ℕ
+portsOf g = cond (ranged (g .count) (g .payload) (g .window)) (g .count) 0
 
-abbrev below : FrameInput → Bool
-below i = ltb (i .port) (portsIn (groupAt (i .rows)))
+-- an empty group has any number of rows
+abbrev pub rowsOf : ℕ → ℕ → Bool
+rowsOf n rows = eqb n 0 || eqb rows (n * 5 + 1)
 
-abbrev frameLengths : FrameInput → Bool
-frameLengths i = frameFits (groupAt (i .rows)) (portsIn (groupAt (i .rows))) (length (i .rows)) (length (i .payload)) (length (i .store))
+abbrev pub storeOf : Group → ℕ
+storeOf g = portsOf g * g .window * (g .payload + 1)
 
--- the frame as its port takes it
-abbrev arriving : FrameInput → DecideInput
-arriving i = record { group = groupAt (i .rows); step = stepAt (i .rows) (i .port); failed = i .failed; h4 = i .h4 }
+abbrev pub frame : List (List ℕ) × ℕ × Bool × ℕ × List ℕ × List ℕ → Call
+frame (state, port, failed, h4, payload, store) =
+    stateful
+    (Unless 1 (ltb port (portsOf (groupAt state)))
+    ∷ Unless 9 (rowsOf (portsOf (groupAt state)) (length state) && eqb (length payload) (groupAt state .payload) && eqb (length store) (storeOf (groupAt state)))
+    ∷ portRefusals (groupAt state) (stepAt state port) failed h4)
+    (frameAnswer state port failed h4 (length payload) (length store)) (store ∷ []) (frameStore state port failed h4 payload store ∷ [])
+    state (frameRows state port failed h4 payload store) state
 
-abbrev pub frame : Entry
-frame =
-    record {
-      name = "receiver::frame";
-      Input = FrameInput;
-      refusals =
-          record { number = 1; condition = λ i. not (below i) }
-          ∷ record { number = 9; condition = λ i. not (frameLengths i) }
-          ∷ record { number = 10; condition = λ i. i .failed }
-          ∷ record { number = 12; condition = λ i. unsteady (arriving i) }
-          ∷ record { number = 11; condition = λ i. beyond (arriving i) }
-          ∷ [];
-      answer = λ i. frameAnswer (i .rows) (i .port) (i .failed) (i .h4) (length (i .payload)) (length (i .store));
-      lent = λ i. i .store ∷ [];
-      left = λ i. frameStore (i .rows) (i .port) (i .failed) (i .h4) (i .payload) (i .store) ∷ [];
-      State = List (List ℕ);
-      given = λ i. i .rows;
-      returned = λ i. frameRows (i .rows) (i .port) (i .failed) (i .h4) (i .payload) (i .store);
-      empty = λ i. i .rows;
-    }
+frames-on : (b l : Bool) (g : Group) (n : ℕ) (s : List (List ℕ)) (i : ℕ) (failed : Bool) (h4 : ℕ) (payload store : List ℕ)
+    → Copes (stateful (Unless 1 b ∷ Unless 9 l ∷ portRefusals g (stepAt s i) failed h4)
+    (cond (eqb (cond b (cond l 0 9) 1) 0) (takenOf g (stepAt s i) failed h4 .answer) (cond b (cond l 0 9) 1))
+    (store ∷ [])
+    (cond (eqb (cond b (cond l 0 9) 1) 0) (takenStore g i (takenOf g (stepAt s i) failed h4) h4 payload store) store ∷ [])
+    s
+    (cond (eqb (cond b (cond l 0 9) 1) 0) (takenRows g n s i (takenOf g (stepAt s i) failed h4) h4 payload store) s)
+    s)
+unfolding takenRows takenStore storeBy flagged countsOn frameDropped keeps outside joining
+frames-on false l g n s i failed h4 payload store = refused _ 1 (refl, refl, refl)
+frames-on true false g n s i failed h4 payload store = refused _ 9 (refl, refl, refl)
+frames-on true true g n s i failed h4 payload store =
+    by-number (λ t k. Under (stateful (Unless 1 true ∷ Unless 9 true ∷ portRefusals g (stepAt s i) failed h4) (t .answer) (store ∷ []) (takenStore g i t h4 payload store ∷ []) s (takenRows g n s i t h4 payload store) s) k)
+    g (stepAt s i) failed h4
+    (refused _ 10 (refl, refl, tt)) (refused _ 12 (refl, refl, tt)) (done _ refl) (done _ refl) (refused _ 11 (refl, refl, refl)) (done _ refl)
 
--- by the port, the lengths and what the frame is answered then
-abbrev answeredBy : Bool → Bool → ℕ → ℕ
-answeredBy b f a = cond (eqb (cond b (cond f 0 9) 1) 0) a (cond b (cond f 0 9) 1)
+pub frame-copes : (x : List (List ℕ) × ℕ × Bool × ℕ × List ℕ × List ℕ) → Copes (frame x)
+unfolding frameAnswer frameRows frameStore refusalBy frameFits rowsFit storeFor portsIn sized frames tags
+frame-copes (state, port, failed, h4, payload, store) = frames-on _ _ (groupAt state) (portsOf (groupAt state)) state port failed h4 payload store
 
-frames-in-order : (b f : Bool) (a n : ℕ) → a ≡ n → answeredBy b f a ≡ cond (not b) 1 (cond (not f) 9 n)
-frames-in-order false f a n e = refl
-frames-in-order true false a n e = refl
-frames-in-order true true a n e = e
+abbrev pub frameC : List (List ℕ) × ℕ × ℕ × ℕ × List ℕ × List ℕ → Call
+frameC (state, port, failed, h4, payload, store) = frame (state, port, failedC failed, h4, payload, store)
 
-same : (b : Bool) (l : List ℕ) → cond b l l ≡ l
-same true l = refl
-same false l = refl
+pub frameC-copes : (x : List (List ℕ) × ℕ × ℕ × ℕ × List ℕ × List ℕ) → Copes (frameC x)
+frameC-copes (state, port, failed, h4, payload, store) = frame-copes (state, port, failedC failed, h4, payload, store)
 
-frames-untouched : (b f : Bool) (a : ℕ) (kept : Bool) (new old : List ℕ) → ((a ≡ 0 → ⊥) → kept ≡ false) → (answeredBy b f a ≡ 0 → ⊥)
-    → cond (eqb (cond b (cond f 0 9) 1) 0) (cond (eqb a 11) old (cond kept new old)) old ≡ old
-frames-untouched false f a kept new old drops d = refl
-frames-untouched true false a kept new old drops d = refl
-frames-untouched true true a kept new old drops d = rw (drops d) (same (eqb a 11) old)
+-- A fetch. 'The lent output holds at least ports x 16 x P bytes', and the record eight.
+abbrev pub fetch : List (List ℕ) × List ℕ × List ℕ × List ℕ → Call
+fetch (state, store, out, report) =
+    stateful
+    (Unless 9
+    (rowsOf (portsOf (groupAt state)) (length state)
+    && eqb (length store) (storeOf (groupAt state))
+    && leb (portsOf (groupAt state) * 16 * groupAt state .payload) (length out)
+    && eqb (length report) 8)
+    ∷ [])
+    (fetchAnswer state store out report) (out ∷ report ∷ []) (fetchOut state store out report ∷ fetchRecord state store out report ∷ [])
+    state (fetchRows state store out report) state
 
-frames-as-given : (b f l u o : Bool) (a : ℕ) (new old : List (List ℕ)) → a ≡ cond l 10 (cond u 12 (cond o 11 0)) → keepsState (answeredBy b f a) ≡ true
-    → cond (eqb (cond b (cond f 0 9) 1) 0) (cond (eqb a 11) old new) old ≡ old
-frames-as-given false f l u o a new old e k = refl
-frames-as-given true false l u o a new old e k = refl
-frames-as-given true true true u o a new old e k = absurd (false≢true (rw e at k))
-frames-as-given true true false true o a new old e k = absurd (false≢true (rw e at k))
-frames-as-given true true false false true a new old e k = rw e refl
-frames-as-given true true false false false a new old e k = absurd (false≢true (rw e at k))
+pub fetch-copes : (x : List (List ℕ) × List ℕ × List ℕ × List ℕ) → Copes (fetch x)
+unfolding fetchAnswer fetchOut fetchRecord fetchRows fits fetchFits rowsFit storeFor outputFor portsIn sized frames tags
+fetch-copes (state, store, out, report) = copes _ (λ l. rw l, λ l. rw l (refl, refl, refl))
 
-frames-emptied : (b f : Bool) (a : ℕ) → (a ≡ 4 → ⊥) → answeredBy b f a ≡ 4 → ⊥
-frames-emptied false f a d e = omega arith
-frames-emptied true false a d e = omega arith
-frames-emptied true true a d e = d e
+-- The ports read out, each port's eight bytes a lent slice, and the reply's two bytes.
 
-pub frame-copes : Copes frame
-unfolding frameAnswer frameRows frameStore refusalBy takenRows takenStore storeBy
-frame-copes =
-    record {
-      in-order = λ i. frames-in-order (below i) (frameLengths i) _ _ (answered (arriving i) .number);
-      untouched = λ i d.
-          ap (λ l. l ∷ [])
-          (frames-untouched (below i) (frameLengths i) (decided (arriving i) .answer) (decided (arriving i) .kept) _ (i .store) (answered (arriving i) .dropped) d);
-      as-given = λ i k.
-          frames-as-given (below i) (frameLengths i) (i .failed) (unsteady (arriving i)) (beyond (arriving i)) (decided (arriving i) .answer) _ (i .rows)
-          (answered (arriving i) .number) k;
-      emptied = λ i e. absurd (frames-emptied (below i) (frameLengths i) (decided (arriving i) .answer) (answered (arriving i) .full) e);
-    }
+abbrev pub ports : List (List ℕ) × List (List ℕ) → Call
+ports (state, out) =
+    stateless (Unless 9 (rowsOf (portsOf (groupAt state)) (length state) && eqb (length out) (portsOf (groupAt state))) ∷ [])
+    (portsAnswer state (length out)) out (portsOut state out)
 
-pub record FrameInputC : Type 0 where
-  pub rows : List (List ℕ)
-  pub port : ℕ
-  pub failed : ℕ
-  pub h4 : ℕ
-  pub payload : List ℕ
-  pub store : List ℕ
+pub ports-copes : (x : List (List ℕ) × List (List ℕ)) → Copes (ports x)
+unfolding portsAnswer portsOut shownFit rowsFit portsIn sized frames tags
+ports-copes (state, out) = copes _ (λ l. rw l, λ l. rw l (refl, refl, refl))
 
-abbrev frameMeant : FrameInputC → FrameInput
-frameMeant i = record { rows = i .rows; port = i .port; failed = failedC (i .failed); h4 = i .h4; payload = i .payload; store = i .store }
+abbrev pub reply : List (List ℕ) × ℕ × List ℕ → Call
+reply (state, epoch, out) =
+    stateless (Unless 9 (rowsOf (portsOf (groupAt state)) (length state) && eqb (length out) 2) ∷ [])
+    (replyAnswer state (length out)) (out ∷ []) (replyOut state epoch out ∷ [])
 
-abbrev pub frameC : Entry
-frameC =
-    record {
-      name = "levelspruce_receiver_frame";
-      Input = FrameInputC;
-      refusals =
-          record { number = 1; condition = λ i. not (below (frameMeant i)) }
-          ∷ record { number = 9; condition = λ i. not (frameLengths (frameMeant i)) }
-          ∷ record { number = 10; condition = λ i. failedC (i .failed) }
-          ∷ record { number = 12; condition = λ i. unsteady (arriving (frameMeant i)) }
-          ∷ record { number = 11; condition = λ i. beyond (arriving (frameMeant i)) }
-          ∷ [];
-      answer = λ i. frameAnswer (i .rows) (i .port) (failedC (i .failed)) (i .h4) (length (i .payload)) (length (i .store));
-      lent = λ i. i .store ∷ [];
-      left = λ i. frameStore (i .rows) (i .port) (failedC (i .failed)) (i .h4) (i .payload) (i .store) ∷ [];
-      State = List (List ℕ);
-      given = λ i. i .rows;
-      returned = λ i. frameRows (i .rows) (i .port) (failedC (i .failed)) (i .h4) (i .payload) (i .store);
-      empty = λ i. i .rows;
-    }
-
-pub frameC-copes : Copes frameC
-frameC-copes =
-    record {
-      in-order = λ i. frame-copes .in-order (frameMeant i);
-      untouched = λ i d. frame-copes .untouched (frameMeant i) d;
-      as-given = λ i k. frame-copes .as-given (frameMeant i) k;
-      emptied = λ i e. frame-copes .emptied (frameMeant i) e;
-    }
-
--- A fetch: 9.
-
-pub record FetchInput : Type 0 where
-  pub rows : List (List ℕ)
-  pub store : List ℕ
-  pub out : List ℕ
-  pub report : List ℕ
-
-abbrev fetchLengths : FetchInput → Bool
-fetchLengths i = fits (i .rows) (i .store) (i .out) (i .report)
-
-abbrev pub fetch : Entry
-fetch =
-    record {
-      name = "receiver::fetch";
-      Input = FetchInput;
-      refusals = record { number = 9; condition = λ i. not (fetchLengths i) } ∷ [];
-      answer = λ i. fetchAnswer (i .rows) (i .store) (i .out) (i .report);
-      lent = λ i. i .out ∷ i .report ∷ [];
-      left = λ i. fetchOut (i .rows) (i .store) (i .out) (i .report) ∷ fetchRecord (i .rows) (i .store) (i .out) (i .report) ∷ [];
-      State = List (List ℕ);
-      given = λ i. i .rows;
-      returned = λ i. fetchRows (i .rows) (i .store) (i .out) (i .report);
-      empty = λ i. i .rows;
-    }
-
-lengths-in-order : (b : Bool) → _≡_ {A = ℕ} (cond b 0 9) (cond (not b) 9 0)
-lengths-in-order true = refl
-lengths-in-order false = refl
-
-lengths-untouched : {A : Type 0} (b : Bool) (new old : A) → (_≡_ {A = ℕ} (cond b 0 9) 0 → ⊥) → cond b new old ≡ old
-lengths-untouched true new old d = absurd (d refl)
-lengths-untouched false new old d = refl
-
-lengths-as-given : (b : Bool) (new old : List (List ℕ)) → keepsState (cond b 0 9) ≡ true → cond b new old ≡ old
-lengths-as-given true new old k = absurd (false≢true k)
-lengths-as-given false new old k = refl
-
-lengths-emptied : (b : Bool) → _≡_ {A = ℕ} (cond b 0 9) 4 → ⊥
-lengths-emptied true e = omega arith
-lengths-emptied false e = omega arith
-
-pub fetch-copes : Copes fetch
-unfolding fetchAnswer fetchOut fetchRecord fetchRows
-fetch-copes =
-    record {
-      in-order = λ i. lengths-in-order (fetchLengths i);
-      untouched = λ i d.
-          rw (lengths-untouched (fetchLengths i) _ (i .out) d, lengths-untouched (fetchLengths i) _ (i .report) d) refl;
-      as-given = λ i k. lengths-as-given (fetchLengths i) _ (i .rows) k;
-      emptied = λ i e. absurd (lengths-emptied (fetchLengths i) e);
-    }
-
-abbrev pub fetchC : Entry
-fetchC =
-    record {
-      name = "levelspruce_receiver_fetch";
-      Input = FetchInput;
-      refusals = record { number = 9; condition = λ i. not (fetchLengths i) } ∷ [];
-      answer = λ i. fetchAnswer (i .rows) (i .store) (i .out) (i .report);
-      lent = λ i. i .out ∷ i .report ∷ [];
-      left = λ i. fetchOut (i .rows) (i .store) (i .out) (i .report) ∷ fetchRecord (i .rows) (i .store) (i .out) (i .report) ∷ [];
-      State = List (List ℕ);
-      given = λ i. i .rows;
-      returned = λ i. fetchRows (i .rows) (i .store) (i .out) (i .report);
-      empty = λ i. i .rows;
-    }
-
-pub fetchC-copes : Copes fetchC
-fetchC-copes =
-    record { in-order = fetch-copes .in-order; untouched = fetch-copes .untouched; as-given = fetch-copes .as-given; emptied = fetch-copes .emptied }
-
--- The ports read out: 9. Each port's eight bytes are a lent slice.
-
-pub record PortsInput : Type 0 where
-  pub rows : List (List ℕ)
-  pub out : List (List ℕ)
-
-abbrev portsLengths : PortsInput → Bool
-portsLengths i = shownFit (portsIn (groupAt (i .rows))) (length (i .rows)) (length (i .out))
-
-abbrev pub ports : Entry
-ports =
-    record {
-      name = "receiver::ports";
-      Input = PortsInput;
-      refusals = record { number = 9; condition = λ i. not (portsLengths i) } ∷ [];
-      answer = λ i. portsAnswer (i .rows) (length (i .out));
-      lent = λ i. i .out;
-      left = λ i. portsOut (i .rows) (i .out);
-      State = Unit {0};
-      given = λ i. tt;
-      returned = λ i. tt;
-      empty = λ i. tt;
-    }
-
-pub ports-copes : Copes ports
-unfolding portsAnswer portsOut
-ports-copes =
-    record {
-      in-order = λ i. lengths-in-order (portsLengths i);
-      untouched = λ i d. lengths-untouched (portsLengths i) _ (i .out) d;
-      as-given = λ i k. refl;
-      emptied = λ i e. refl;
-    }
-
-abbrev pub portsC : Entry
-portsC =
-    record {
-      name = "levelspruce_receiver_ports";
-      Input = PortsInput;
-      refusals = record { number = 9; condition = λ i. not (portsLengths i) } ∷ [];
-      answer = λ i. portsAnswer (i .rows) (length (i .out));
-      lent = λ i. i .out;
-      left = λ i. portsOut (i .rows) (i .out);
-      State = Unit {0};
-      given = λ i. tt;
-      returned = λ i. tt;
-      empty = λ i. tt;
-    }
-
-pub portsC-copes : Copes portsC
-portsC-copes =
-    record { in-order = ports-copes .in-order; untouched = ports-copes .untouched; as-given = ports-copes .as-given; emptied = ports-copes .emptied }
-
--- The reply: 9.
-
-pub record ReplyInput : Type 0 where
-  pub rows : List (List ℕ)
-  pub epoch : ℕ
-  pub out : List ℕ
-
-abbrev replyLengths : ReplyInput → Bool
-replyLengths i = replyFit (portsIn (groupAt (i .rows))) (length (i .rows)) (length (i .out))
-
-abbrev pub reply : Entry
-reply =
-    record {
-      name = "receiver::reply";
-      Input = ReplyInput;
-      refusals = record { number = 9; condition = λ i. not (replyLengths i) } ∷ [];
-      answer = λ i. replyAnswer (i .rows) (length (i .out));
-      lent = λ i. i .out ∷ [];
-      left = λ i. replyOut (i .rows) (i .epoch) (i .out) ∷ [];
-      State = Unit {0};
-      given = λ i. tt;
-      returned = λ i. tt;
-      empty = λ i. tt;
-    }
-
-pub reply-copes : Copes reply
-unfolding replyAnswer replyOut
-reply-copes =
-    record {
-      in-order = λ i. lengths-in-order (replyLengths i);
-      untouched = λ i d. ap (λ l. l ∷ []) (lengths-untouched (replyLengths i) _ (i .out) d);
-      as-given = λ i k. refl;
-      emptied = λ i e. refl;
-    }
-
-abbrev pub replyC : Entry
-replyC =
-    record {
-      name = "levelspruce_receiver_reply";
-      Input = ReplyInput;
-      refusals = record { number = 9; condition = λ i. not (replyLengths i) } ∷ [];
-      answer = λ i. replyAnswer (i .rows) (length (i .out));
-      lent = λ i. i .out ∷ [];
-      left = λ i. replyOut (i .rows) (i .epoch) (i .out) ∷ [];
-      State = Unit {0};
-      given = λ i. tt;
-      returned = λ i. tt;
-      empty = λ i. tt;
-    }
-
-pub replyC-copes : Copes replyC
-replyC-copes =
-    record { in-order = reply-copes .in-order; untouched = reply-copes .untouched; as-given = reply-copes .as-given; emptied = reply-copes .emptied }
+pub reply-copes : (x : List (List ℕ) × ℕ × List ℕ) → Copes (reply x)
+unfolding replyAnswer replyOut replyFit rowsFit portsIn sized frames tags
+reply-copes (state, epoch, out) = copes _ (λ l. rw l, λ l. rw l (refl, refl, refl))

@@ -1,28 +1,20 @@
 -- A part of the input fed with room for the output: what a host's loop goes by.
 use mathlib.Core.Path.{_≡_, refl, ap, _∙_}
 use mathlib.Core.Bool.{Bool, true, false, cond}
-use mathlib.Core.List.{List, [], _∷_}
-use Prim.Native.Nat.{ℕ, suc, _+_, _-_, _≤_, _<_}
+use mathlib.Core.List.{List}
+use Prim.Native.Nat.{ℕ, _+_, _-_, _≤_, _<_}
 use native.Mathlib.Omega.{arith}
-use lib.Dec.{eqb, ltb}
+use lib.Dec.{ltb}
 use lib.ListN.{drop, length, take, length-append, length-drop}
 use lib.Seq.{length-take-le}
 use borrow.Author.Tests.{le-ltb, ltb-false, ltb-true}
-use Rattle.bytes.specs.Bytes.{indexAfter, indexOf}
+use Rattle.bytes.specs.Bytes.{indexOf}
 use Rattle.console.specs.declared.session.Fed.{Fed}
 use Rattle.console.specs.declared.session.Session.{Session}
 use Rattle.console.specs.Output.{ROOM}
 use Rattle.console.specs.Session.{fedText, feedBytes, feedOf, finishBytes, finishOf, lastText, over, usedOf}
-use Rattle.console.specs.Text.{LINE-END}
-
-pub index-le : (m : ℕ) (l : List ℕ) → indexOf m l ≤ length l
-unfolding indexOf indexAfter
-index-le m [] = omega arith
-index-le m (b ∷ l) = go (eqb b m) (index-le m l)
-  where
-    go : (t : Bool) → indexOf m l ≤ length l → indexAfter t (indexOf m l) ≤ suc (length l)
-    go true h = omega arith
-    go false h = omega arith
+use Rattle.text.specs.Laws.Parted.{index-le}
+use Rattle.text.specs.Text.{LINE-END}
 
 pub used-le : (input : List ℕ) → usedOf input ≤ length input
 unfolding usedOf

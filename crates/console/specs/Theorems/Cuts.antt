@@ -14,13 +14,13 @@ use Rattle.console.specs.declared.session.Session.{Session}
 use Rattle.console.specs.Kept.{lineIn, nothingKept}
 use Rattle.console.specs.Laws.Feeding.{used-some}
 use Rattle.console.specs.Laws.Holding.{Holds, held-line, holds-more, holds-nothing}
-use Rattle.console.specs.Laws.Lines.{Free, free-append, free-line, free-take, last-line, with-end}
+use Rattle.text.specs.Laws.Lines.{Free, free-append, free-line, free-take, last-line, with-end}
 use Rattle.console.specs.Line.{lineOf}
 use Rattle.console.specs.Output.{ROOM}
 use Rattle.console.specs.Replies.{outputOf, replyOf}
 use Rattle.console.specs.Runs.{Host, answersTo, endedRun, fedOnce, fedParts, fedUpTo, hostOutput, joined, leftOf, wholeOutput}
 use Rattle.console.specs.Session.{beginning, fedSession, fedText, feedBytes, feedOf, finishBytes, finishOf, hasEnd, keptWith, lastText, over, saidTo, tableAfter, usedOf}
-use Rattle.console.specs.Text.{LINE-END, linesOf}
+use Rattle.text.specs.Text.{LINE-END, linesOf}
 
 -- a host that stands where the rest of the input brings the whole output to `whole rest`
 record Stands (h : Host) (whole : List ℕ → List ℕ) : Type 0 where

@@ -7,10 +7,10 @@ use native.Mathlib.Omega.{arith}
 use lib.Dec.{eqb, ltb}
 use lib.ListN.{length}
 use borrow.Author.Tests.{eqb-true, ltb-true}
-use Rattle.invariant.specs.Kept.Group.{Kept, Steady}
+use Rattle.invariant.specs.Kept.Group.{Kept, Lasting}
 use Rattle.invariant.specs.Kept.Settling.{SteadyOf, steady-settled}
-use Rattle.invariant.specs.Kept.Steps.{steady-frame, steady-passed}
-use Rattle.invariant.specs.Kept.Told.{steady-told}
+use Rattle.invariant.specs.Kept.Steps.{lasting-frame, lasting-passed}
+use Rattle.invariant.specs.Kept.Told.{lasting-told}
 use Rattle.invariant.specs.Settles.{settles-always}
 use Rattle.counting.specs.Laws.Tests.{every-ext}
 use Rattle.ground.specs.Truth.{and-left, and-right, clash, cond-by}
@@ -22,14 +22,14 @@ use Rattle.phases.specs.Passing.{passedGroup, passedOf}
 use Rattle.phases.specs.Settling.{settledOf}
 use Rattle.phases.specs.Sizes.{portsIn}
 use Rattle.phases.specs.Theorems.Settled.{Settled, passed-begun, passed-silent, settled}
-use Rattle.receiver.specs.Fetch.{dueIn, fetchRows, fits, givenRows}
+use Rattle.receiver.specs.Fetch.{dueIn, fetchRows, fits, rowsIfDue}
 use Rattle.receiver.specs.Frame.{frameRefusal, frameRows, portRows, settledBy, storeBy, takenIn, takenRows}
 use Rattle.receiver.specs.Laws.Answers.{unrefused}
 use Rattle.receiver.specs.Laws.Frames.{frame-group}
 use Rattle.receiver.specs.Laws.Passed.{passed-count, passed-gathered}
 use Rattle.receiver.specs.Laws.Sizes.{ports-are}
 use Rattle.receiver.specs.Laws.Told.{told-group, told-step, withAck}
-use Rattle.receiver.specs.Report.{replyPorts, reportedOf, toldOf}
+use Rattle.receiver.specs.Report.{replyPorts, reportedOf, statesWorkedOut}
 use Rattle.reply.specs.Telling.{ackOf}
 use Rattle.rows.specs.declared.group.Group.{Group}
 use Rattle.rows.specs.declared.step.Step.{Step}
@@ -58,7 +58,7 @@ module _ (s : List (List ℕ)) (k : Kept s) where
   taken-kept i failed h store b =
       let t : Taken = takenIn s i failed h in
       let a : List (List ℕ) = portRows (g .kind) s i t h in
-      let ka : SteadyOf n a = record { steady = steady-frame s (k .steady) i failed h b; count = ap (λ (x : Group). x .count) (frame-group (g .kind) s i t h) } in
+      let ka : SteadyOf n a = record { steady = lasting-frame s (k .steady) i failed h b; count = ap (λ (x : Group). x .count) (frame-group (g .kind) s i t h) } in
       let l : rowsFor n ≤ length a = (let e = ka .steady .rows in let c = ka .count in omega arith) in
       rw (settles-always s k i failed h b store) (kept-of n (settledOf n store a) (steady-settled n store a ka) (settled n store a l))
 
@@ -80,19 +80,19 @@ unfolding readable inStep
 ack-readable g ack q = refl
 
 -- working out the states makes no port silent
-told-silent : (g : Group) (s : List (List ℕ)) → g ≡ groupAt s → (n : ℕ) → rowsFor n ≤ length s → silent (groupAt (toldOf g n s)) (toldOf g n s) n ≡ silent (groupAt s) s n
+told-silent : (g : Group) (s : List (List ℕ)) → g ≡ groupAt s → (n : ℕ) → rowsFor n ≤ length s → silent (groupAt (statesWorkedOut g n s)) (statesWorkedOut g n s) n ≡ silent (groupAt s) s n
 unfolding silent
 told-silent g s same n l =
-    every-ext n (λ i. not (readable (groupAt (toldOf g n s)) (stepAt (toldOf g n s) i))) (λ i. not (readable (groupAt s) (stepAt s i)))
+    every-ext n (λ i. not (readable (groupAt (statesWorkedOut g n s)) (stepAt (statesWorkedOut g n s) i))) (λ i. not (readable (groupAt s) (stepAt s i)))
     (λ i b. ap not (one i b))
   where
-    one : (i : ℕ) → i < n → readable (groupAt (toldOf g n s)) (stepAt (toldOf g n s) i) ≡ readable (groupAt s) (stepAt s i)
+    one : (i : ℕ) → i < n → readable (groupAt (statesWorkedOut g n s)) (stepAt (statesWorkedOut g n s) i) ≡ readable (groupAt s) (stepAt s i)
     one i b =
         rw (told-group g n s (omega arith), told-step g n s i b l)
         (ack-readable g (ackOf (replyPorts g s n) (sizeOf n) (g .«rs_ack»)) (stepAt s i) ∙ ap (λ (x : Group). readable x (stepAt s i)) same)
 
 -- by a count that is the group's
-told-count : (x : Group) (a : List (List ℕ)) (c n : ℕ) → c ≡ n → Steady (toldOf x c a) → Steady (toldOf x n a)
+told-count : (x : Group) (a : List (List ℕ)) (c n : ℕ) → c ≡ n → Lasting (statesWorkedOut x c a) → Lasting (statesWorkedOut x n a)
 told-count x a c n e h = rw e at h
 
 -- a report that is due
@@ -100,7 +100,7 @@ pub reported-kept : (s : List (List ℕ)) → Kept s → (store : List ℕ) → 
     → Kept (reportedOf (groupAt s) store (groupAt s .count) s)
 unfolding reportedOf
 reported-kept s k store on due =
-    kept-of n r (record { steady = told-count (groupAt a) a (groupAt a .count) n count (steady-told a ka); count = ap (λ (x : Group). x .count) told ∙ count })
+    kept-of n r (record { steady = told-count (groupAt a) a (groupAt a .count) n count (lasting-told a ka); count = ap (λ (x : Group). x .count) told ∙ count })
     (record {
       heard = λ e. told-silent (groupAt a) a refl n la ∙ passed-silent (groupAt s) store n s enough ∙ k .settled .heard on;
       gathers = λ e f. clash (flagOf (groupAt r .gathered)) gathered f;
@@ -114,7 +114,7 @@ reported-kept s k store on due =
     a = passedOf (groupAt s) store (groupAt s .count) s
 
     r : List (List ℕ)
-    r = toldOf (groupAt a) (groupAt s .count) a
+    r = statesWorkedOut (groupAt a) (groupAt s .count) a
 
     enough : rowsFor (groupAt s .count) ≤ length s
     enough = let e = k .steady .rows in omega arith
@@ -122,8 +122,8 @@ reported-kept s k store on due =
     la : rowsFor (groupAt s .count) ≤ length a
     la = rw (length-passed (groupAt s) store (groupAt s .count) s) enough
 
-    ka : Steady a
-    ka = steady-passed s (k .steady) store on due
+    ka : Lasting a
+    ka = lasting-passed s (k .steady) store on due
 
     group : groupAt a ≡ passedGroup (groupAt s)
     group = passed-group (groupAt s) store (groupAt s .count) s (let e = k .steady .rows in omega arith)
@@ -162,7 +162,7 @@ due-says g n s e =
     }
 
 pub fetch-kept : (s : List (List ℕ)) → Kept s → (store out report : List ℕ) → Kept (fetchRows s store out report)
-unfolding fetchRows givenRows
+unfolding fetchRows rowsIfDue
 fetch-kept s k store out report =
     cond-by Kept (fits s store out report) (cond (dueIn g (portsIn g) s) (reportedOf g store (portsIn g) s) s) s
     (λ e.

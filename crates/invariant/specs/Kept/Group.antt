@@ -47,7 +47,7 @@ pub record OkApart (n : ℕ) (member : ℕ → Member) : Type 0 where
   pub apart : (i j : ℕ) → i < n → j < n → member i .state ≡ okState → member j .state ≡ okState → member i .«state_number» ≡ member j .«state_number» → i ≡ j
 
 -- all but what follows from a frame for all ports
-pub record Steady (s : List (List ℕ)) : Type 0 where
+pub record Lasting (s : List (List ℕ)) : Type 0 where
   pub rows : length s ≡ rowsFor (groupAt s .count)
   pub group : GroupKept (groupAt s)
   pub ports : (i : ℕ) → i < groupAt s .count → PortIn (groupAt s) (portAt s i)
@@ -55,5 +55,5 @@ pub record Steady (s : List (List ℕ)) : Type 0 where
 
 -- After every call, stopping, beginning and gathering have followed: they wait for no other call.
 pub record Kept (s : List (List ℕ)) : Type 0 where
-  pub steady : Steady s
+  pub steady : Lasting s
   pub settled : Settled (groupAt s .count) s

@@ -10,7 +10,7 @@ use Rattle.invariant.specs.Laws.Flags.{flag-le, flag-on, true-or-false}
 use Rattle.invariant.specs.Laws.Window.{distance-passed, end-before, end-nearer, first-ended, later-nearer, less-later, one-ahead}
 use Rattle.ground.specs.Truth.{and-left, and-right, clash, eq-or-ne, or-cases}
 use Rattle.packet.specs.Kinds.{frames}
-use Rattle.phases.specs.Due.{lets}
+use Rattle.phases.specs.Due.{owesNothing}
 use Rattle.phases.specs.Passing.{passedGroup, passedStep}
 use Rattle.rows.specs.declared.group.Group.{Group}
 use Rattle.rows.specs.declared.step.Step.{Step}
@@ -18,7 +18,7 @@ use Rattle.step.specs.Arrival.{distanceIn, flagOf, inStep, readable}
 use Rattle.store.specs.Laws.Marks.{first-mark, mark-passed, sixteen-passed}
 use Rattle.store.specs.Marks.{firstMark, passedMarks}
 
-module _ (g : Group) (s : Step) (marks : List ℕ) (k : PortKept g s marks) (begun : flagOf (g .begun) ≡ true) (due : lets g s marks ≡ true) where
+module _ (g : Group) (s : Step) (marks : List ℕ) (k : PortKept g s marks) (begun : flagOf (g .begun) ≡ true) (due : owesNothing g s marks ≡ true) where
   -- a port that has joined, or waits to, is readable
   is-readable : (flagOf (s .joined) || flagOf (s .since)) ≡ true → readable g s ≡ true
   unfolding readable
@@ -28,7 +28,7 @@ module _ (g : Group) (s : Step) (marks : List ℕ) (k : PortKept g s marks) (beg
 
   -- so it has brought the epoch, or joined at a later one
   has-brought : (flagOf (s .joined) || flagOf (s .since)) ≡ true → (firstMark marks || flagOf (s .joined) && flagOf (s .later)) ≡ true
-  unfolding lets
+  unfolding owesNothing
   has-brought e = rw (is-readable e) at due
 
   -- a joined port is an epoch ahead

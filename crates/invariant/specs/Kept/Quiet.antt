@@ -12,11 +12,11 @@ use Rattle.invariant.specs.Laws.Flags.{true-or-false}
 use Rattle.invariant.specs.Laws.Window.{epochs-none, meet}
 use Rattle.ground.specs.Truth.{clash, neither, or-cases}
 use Rattle.packet.specs.Kinds.{endsEpoch, epochsIn, frames}
-use Rattle.phases.specs.Due.{lets}
+use Rattle.phases.specs.Due.{owesNothing}
 use Rattle.receiver.specs.Frame.{marksBy}
 use Rattle.rows.specs.declared.group.Group.{Group}
 use Rattle.rows.specs.declared.step.Step.{Step}
-use Rattle.step.specs.Arrival.{advanced, aside, countsOn, flagOf, flagged, inStep, joinedAt, joining, keeps, outside, readable, takenOf}
+use Rattle.step.specs.Arrival.{advanced, frameDropped, countsOn, flagOf, flagged, inStep, joinedAt, joining, keeps, outside, readable, takenOf}
 use Rattle.step.specs.declared.arrival.Taken.{Taken}
 use Rattle.step.specs.declared.run.Run.{Run}
 use Rattle.step.specs.Laws.Arrival.{inWindow, ranOn, stepped, taken-by}
@@ -32,7 +32,7 @@ none-step kind = refl
 pub record Quiet (g : Group) (s : Step) (marks : List ℕ) (t : Taken) : Type 0 where
   pub begun : flagOf (g .begun) ≡ true
   pub heard : readable g s ≡ true → readable g (t .step) ≡ true
-  pub lets : flagOf (g .gathered) ≡ false → lets g (t .step) (marksBy (g .kind) marks t) ≡ true → lets g s marks ≡ true
+  pub owesNothing : flagOf (g .gathered) ≡ false → owesNothing g (t .step) (marksBy (g .kind) marks t) ≡ true → owesNothing g s marks ≡ true
 
 module _ (g : Group) (s : Step) (marks : List ℕ) (W : Windowed g) (k : PortKept g s marks) where
   -- a port out of step has not joined and does not wait to
@@ -44,8 +44,8 @@ module _ (g : Group) (s : Step) (marks : List ℕ) (W : Windowed g) (k : PortKep
       go true b e = rw e refl
       go false b e = refl
 
-  lets-out : readable g s ≡ false → lets g s marks ≡ true
-  unfolding lets
+  lets-out : readable g s ≡ false → owesNothing g s marks ≡ true
+  unfolding owesNothing
   lets-out e = rw e refl
 
   -- lost without having been in step
@@ -65,7 +65,7 @@ module _ (g : Group) (s : Step) (marks : List ℕ) (W : Windowed g) (k : PortKep
       record {
         begun = b;
         heard = λ r. clash (readable g s) r (unreadable e);
-        lets = λ f l. lets-out (unreadable e);
+        owesNothing = λ f l. lets-out (unreadable e);
       }
 
   flagged-quiet : flagged g s .settles ≡ false → Quiet g s marks (flagged g s)
@@ -98,13 +98,13 @@ module _ (g : Group) (s : Step) (marks : List ℕ) (W : Windowed g) (k : PortKep
           go true e = rw (on, was e) refl
           go false e = rw (and-false (flagOf (g .begun) && stepped g s h), and-false (flagOf (g .begun) && inStep g s)) refl
 
-      same-lets : (m : List ℕ) → firstMark m ≡ firstMark marks → lets g (advanced s run) m ≡ lets g s marks
-      unfolding lets
+      same-lets : (m : List ℕ) → firstMark m ≡ firstMark marks → owesNothing g (advanced s run) m ≡ owesNothing g s marks
+      unfolding owesNothing
       same-lets m e = rw (same-readable, e) refl
 
-      aside-quiet : Quiet g s marks (aside g s run)
-      unfolding aside marksBy
-      aside-quiet = record { begun = begun; heard = λ r. same-readable ∙ r; lets = λ f l. sym (same-lets marks refl) ∙ l }
+      aside-quiet : Quiet g s marks (frameDropped g s run)
+      unfolding frameDropped marksBy
+      aside-quiet = record { begun = begun; heard = λ r. same-readable ∙ r; owesNothing = λ f l. sym (same-lets marks refl) ∙ l }
 
       -- a frame of a joined port
       keeps-quiet : keeps g s run (offset g s) .settles ≡ false → Quiet g s marks (keeps g s run (offset g s))
@@ -113,7 +113,7 @@ module _ (g : Group) (s : Step) (marks : List ℕ) (W : Windowed g) (k : PortKep
           record {
             begun = begun;
             heard = λ r. same-readable ∙ r;
-            lets = λ f l. sym (same-lets marked (first (rw f at q))) ∙ l;
+            owesNothing = λ f l. sym (same-lets marked (first (rw f at q))) ∙ l;
           }
         where
           marked : List ℕ
@@ -132,8 +132,8 @@ module _ (g : Group) (s : Step) (marks : List ℕ) (W : Windowed g) (k : PortKep
                   (sym (first-mark marks))
               go false e = refl
 
-      joined-lets : (later : ℕ) (m : List ℕ) → lets g (joinedAt s run later) m ≡ (firstMark m || flagOf later)
-      unfolding lets readable inStep
+      joined-lets : (later : ℕ) (m : List ℕ) → owesNothing g (joinedAt s run later) m ≡ (firstMark m || flagOf later)
+      unfolding owesNothing readable inStep
       joined-lets later m = rw (begun, on) refl
 
       apart : flagOf (s .joined) ≡ false → flagOf (s .since) ≡ false → readable g s ≡ false
@@ -147,7 +147,7 @@ module _ (g : Group) (s : Step) (marks : List ℕ) (W : Windowed g) (k : PortKep
           record {
             begun = begun;
             heard = λ r. rw (begun, on) refl;
-            lets = λ f l.
+            owesNothing = λ f l.
                 ⊎-elim (λ (i : flagOf (s .since) ≡ true). absurd (true≢false (sym l ∙ joined-lets last (cutFrom marks last) ∙ stuck i)))
                 (λ (i : flagOf (s .since) ≡ false). lets-out (apart j i)) (true-or-false (flagOf (s .since)));
           }
@@ -162,13 +162,13 @@ module _ (g : Group) (s : Step) (marks : List ℕ) (W : Windowed g) (k : PortKep
               let e : epochsIn (g .kind) (offset g s) ≡ 0 = rw z (epochs-none (g .kind)) in
               rw (e, first-mark (cutFrom marks 0), mark-cut marks (k .row) 0 0, o .empty 0) refl
 
-aside-begun : (g : Group) (s : Step) (run : Run) → aside g s run .settles ≡ false → flagOf (g .begun) ≡ true
-unfolding aside
+aside-begun : (g : Group) (s : Step) (run : Run) → frameDropped g s run .settles ≡ false → flagOf (g .begun) ≡ true
+unfolding frameDropped
 aside-begun g s run q = not-false (flagOf (g .begun)) q
 
 outside-quiet : (g : Group) (s : Step) (marks : List ℕ) → flagOf (g .begun) ≡ true → Quiet g s marks (outside s)
 unfolding outside marksBy
-outside-quiet g s marks b = record { begun = b; heard = λ r. r; lets = λ f l. l }
+outside-quiet g s marks b = record { begun = b; heard = λ r. r; owesNothing = λ f l. l }
 
 pub taken-quiet : (g : Group) (s : Step) (marks : List ℕ) (failed : Bool) (h : ℕ) → Windowed g → PortKept g s marks → takenOf g s failed h .settles ≡ false
     → Quiet g s marks (takenOf g s failed h)

@@ -5,8 +5,8 @@ use mathlib.Core.List.{List}
 use Prim.Native.Nat.{ℕ, _<_}
 use native.Mathlib.Omega.{arith}
 use lib.ListN.{length}
-use Rattle.invariant.specs.Kept.Group.{Steady}
-use Rattle.invariant.specs.Kept.Steps.{steady-begun, steady-passed, steady-stopped}
+use Rattle.invariant.specs.Kept.Group.{Lasting}
+use Rattle.invariant.specs.Kept.Steps.{lasting-begun, lasting-passed, lasting-stopped}
 use Rattle.ground.specs.Truth.{and-left, and-right, cond-by}
 use Rattle.phases.specs.Beginning.{begins}
 use Rattle.phases.specs.Due.{brought, silent}
@@ -21,10 +21,10 @@ use Rattle.step.specs.Arrival.{flagOf}
 
 -- steady, with the same ports
 pub record SteadyOf (n : ℕ) (s : List (List ℕ)) : Type 0 where
-  pub steady : Steady s
+  pub steady : Lasting s
   pub count : groupAt s .count ≡ n
 
-module _ (s : List (List ℕ)) (k : Steady s) where
+module _ (s : List (List ℕ)) (k : Lasting s) where
   abbrev g : Group
   g = groupAt s
 
@@ -38,7 +38,7 @@ module _ (s : List (List ℕ)) (k : Steady s) where
   unfolding stopBy
   stop-steady =
       cond-by (SteadyOf n) (flagOf (g .begun) && silent g s n) (stoppedOf g n s) s
-      (λ e. record { steady = steady-stopped s k; count = ap (λ (h : Group). h .count) (stopped-group g n s some) })
+      (λ e. record { steady = lasting-stopped s k; count = ap (λ (h : Group). h .count) (stopped-group g n s some) })
       (λ e. record { steady = k; count = refl })
 
   begin-steady : SteadyOf n (beginBy g n s)
@@ -47,7 +47,7 @@ module _ (s : List (List ℕ)) (k : Steady s) where
       cond-by (SteadyOf n) (not (flagOf (g .begun)) && begins g s n) (begunOf g n s) s
       (λ e.
       record {
-        steady = steady-begun s k (and-right (not (flagOf (g .begun))) (begins g s n) e);
+        steady = lasting-begun s k (and-right (not (flagOf (g .begun))) (begins g s n) e);
         count = ap (λ (h : Group). h .count) (begun-group g n s some);
       })
       (λ e. record { steady = k; count = refl })
@@ -59,7 +59,7 @@ module _ (s : List (List ℕ)) (k : Steady s) where
       (λ e.
       record {
         steady =
-            steady-passed s k store
+            lasting-passed s k store
             (and-left (flagOf (g .begun)) (not (flagOf (g .gathered))) (and-left (flagOf (g .begun) && not (flagOf (g .gathered))) (brought g s n) e))
             (and-right (flagOf (g .begun) && not (flagOf (g .gathered))) (brought g s n) e);
         count = ap (λ (h : Group). h .count) (passed-group g store n s some) ∙ passed-count g;

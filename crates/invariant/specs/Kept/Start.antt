@@ -7,7 +7,7 @@ use native.Mathlib.Omega.{arith}
 use lib.Dec.{eqb}
 use lib.ListN.{length}
 use borrow.Author.Tests.{eqb-true}
-use Rattle.invariant.specs.Kept.Group.{Kept, Steady}
+use Rattle.invariant.specs.Kept.Group.{Kept, Lasting}
 use Rattle.invariant.specs.Kept.Port.{PortKept}
 use Rattle.invariant.specs.Laws.Runs.{none-kept}
 use Rattle.invariant.specs.Laws.Window.{some-epochs}
@@ -60,8 +60,8 @@ module _ (kind count P W : ℕ) (s : List (List ℕ)) (right : sized kind count 
   sizes : Sizes kind count P W
   sizes = sizes-of kind count P W right
 
-  steady-start : Steady started
-  steady-start =
+  lasting-start : Lasting started
+  lasting-start =
       record {
         rows = rw group (length-started kind count s (groupWith kind count P W) ∙ rows);
         group =
@@ -90,7 +90,7 @@ module _ (kind count P W : ℕ) (s : List (List ℕ)) (right : sized kind count 
   kept-start : Kept started
   kept-start =
       record {
-        steady = steady-start;
+        steady = lasting-start;
         settled =
             rw group
             (record {

@@ -8,7 +8,7 @@ use native.Mathlib.Omega.{arith}
 use lib.Dec.{eqb}
 use lib.ListN.{length, take}
 use Rattle.invariant.specs.Kept.Clearing.{begun-kept, stopped-kept}
-use Rattle.invariant.specs.Kept.Group.{GroupKept, OkApart, PortIn, Steady, knownWord}
+use Rattle.invariant.specs.Kept.Group.{GroupKept, OkApart, PortIn, Lasting, knownWord}
 use Rattle.invariant.specs.Kept.Passing.{passed-kept}
 use Rattle.invariant.specs.Kept.Port.{Windowed}
 use Rattle.invariant.specs.Kept.Taken.{taken-kept, taken-whole}
@@ -26,7 +26,7 @@ use Rattle.packet.specs.Theorems.Tags.{frames-two}
 use Rattle.packet.specs.Words.{ADD, DNU, EOS, FIXED, IDLE, NORM, assigned}
 use Rattle.phases.specs.Beginning.{begins, foremost, noTag, ready, within}
 use Rattle.phases.specs.declared.ruling.Ruling.{Ruling}
-use Rattle.phases.specs.Due.{brought, lets}
+use Rattle.phases.specs.Due.{brought, owesNothing}
 use Rattle.phases.specs.Laws.Cleared.{begun-group, begun-port, stopped-group, stopped-port}
 use Rattle.phases.specs.Laws.Lengths.{length-begun, length-passed, length-stopped}
 use Rattle.phases.specs.Laws.Passed.{passed-group, passed-of-port}
@@ -72,9 +72,9 @@ begins-within g s n e i b =
     (and-right (every n (λ j. ready g (stepAt s j)) && not (eqb (foremost g s n) (noTag g))) (every n (λ j. within g (foremost g s n) (stepAt s j))) e) i b
 
 -- what it says of each port that an epoch is due
-pub brought-lets : (g : Group) (s : List (List ℕ)) (n : ℕ) → brought g s n ≡ true → (i : ℕ) → i < n → lets g (portAt s i .step) (portAt s i .marks) ≡ true
+pub brought-owes-nothing : (g : Group) (s : List (List ℕ)) (n : ℕ) → brought g s n ≡ true → (i : ℕ) → i < n → owesNothing g (portAt s i .step) (portAt s i .marks) ≡ true
 unfolding brought
-brought-lets g s n e i b = rw (port-step s i, port-marks s i) (every-at n (λ j. lets g (stepAt s j) (marksAt s j)) e i b)
+brought-owes-nothing g s n e i b = rw (port-step s i, port-marks s i) (every-at n (λ j. owesNothing g (stepAt s j) (marksAt s j)) e i b)
 
 noted-state : (m : Member) (whole : Bool) (r : Ruling) → (notedBy m whole r .state ≡ m .state) × (notedBy m whole r .«state_number» ≡ m .«state_number»)
 unfolding notedBy
@@ -132,7 +132,7 @@ passed-in g on k =
       idle-oldest = λ b. clash (flagOf (g .begun)) on b;
     }
 
-module _ (s : List (List ℕ)) (k : Steady s) where
+module _ (s : List (List ℕ)) (k : Lasting s) where
   abbrev g : Group
   g = groupAt s
 
@@ -143,8 +143,8 @@ module _ (s : List (List ℕ)) (k : Steady s) where
   enough = let e = k .rows in omega arith
 
   -- the port's own rows after a frame
-  pub steady-frame : (i : ℕ) (failed : Bool) (h : ℕ) → i < n → Steady (portRows (g .kind) s i (takenIn s i failed h) h)
-  steady-frame i failed h b =
+  pub lasting-frame : (i : ℕ) (failed : Bool) (h : ℕ) → i < n → Lasting (portRows (g .kind) s i (takenIn s i failed h) h)
+  lasting-frame i failed h b =
       record {
         rows = rw group (length-frame (g .kind) s i t h ∙ k .rows);
         group = rw group (k .group);
@@ -183,8 +183,8 @@ module _ (s : List (List ℕ)) (k : Steady s) where
           ⊎-elim (λ (e : j ≡ i). rw (e, port) (refl, refl)) (λ (d : j ≢ i). rw (frame-other (g .kind) s i t h j d) (refl, refl)) (eq-or-ne j i)
 
   -- receiving stops
-  pub steady-stopped : Steady (stoppedOf g n s)
-  steady-stopped =
+  pub lasting-stopped : Lasting (stoppedOf g n s)
+  lasting-stopped =
       record {
         rows = rw group (length-stopped g n s ∙ k .rows);
         group = rw group stopped;
@@ -215,8 +215,8 @@ module _ (s : List (List ℕ)) (k : Steady s) where
           }
 
   -- receiving begins
-  pub steady-begun : begins g s n ≡ true → Steady (begunOf g n s)
-  steady-begun starts =
+  pub lasting-begun : begins g s n ≡ true → Lasting (begunOf g n s)
+  lasting-begun starts =
       record {
         rows = rw group (length-begun g n s ∙ k .rows);
         group = rw group begun;
@@ -254,8 +254,8 @@ module _ (s : List (List ℕ)) (k : Steady s) where
           }
 
   -- an epoch that is due is passed
-  pub steady-passed : (store : List ℕ) → flagOf (g .begun) ≡ true → brought g s n ≡ true → Steady (passedOf g store n s)
-  steady-passed store on due =
+  pub lasting-passed : (store : List ℕ) → flagOf (g .begun) ≡ true → brought g s n ≡ true → Lasting (passedOf g store n s)
+  lasting-passed store on due =
       record {
         rows = rw group (rw same-count (length-passed g store n s ∙ k .rows));
         group = rw group passed;
@@ -264,7 +264,7 @@ module _ (s : List (List ℕ)) (k : Steady s) where
             let o = k .ports i b in
             rw (group, passed-of-port g store n s i b enough)
             (record {
-              kept = passed-kept g (portAt s i .step) (portAt s i .marks) (o .kept) on (brought-lets g s n due i b);
+              kept = passed-kept g (portAt s i .step) (portAt s i .marks) (o .kept) on (brought-owes-nothing g s n due i b);
               unruled = λ f. clash (flagOf (passedGroup g .gathered)) (rw (passed-gathered g) refl) f;
               word = noted-word (portAt s i .member) (firstMark (portAt s i .marks)) (g .kind) (g .oldest) (packetIn g i store) (o .word);
             });

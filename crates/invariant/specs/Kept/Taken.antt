@@ -17,7 +17,7 @@ use Rattle.packet.specs.Theorems.Tags.{frames-two}
 use Rattle.receiver.specs.Frame.{marksBy}
 use Rattle.rows.specs.declared.group.Group.{Group}
 use Rattle.rows.specs.declared.step.Step.{Step}
-use Rattle.step.specs.Arrival.{advanced, aside, countsOn, distanceIn, flagOf, flagged, inStep, joining, keeps, lost, outside, runOf, takenOf}
+use Rattle.step.specs.Arrival.{advanced, frameDropped, countsOn, distanceIn, flagOf, flagged, inStep, joining, keeps, lost, outside, runOf, takenOf}
 use Rattle.step.specs.declared.arrival.Taken.{Taken}
 use Rattle.step.specs.declared.run.Run.{Run}
 use Rattle.step.specs.Laws.Arrival.{inWindow, ranOn, stepped, taken-by}
@@ -80,9 +80,9 @@ module _ (g : Group) (s : Step) (marks : List ℕ) (W : Windowed g) (k : PortKep
       abbrev d : ℕ
       d = offset g s
 
-      aside-keeps : (flagOf (s .since) ≡ true → flagOf (s .joined) ≡ false → Waiting g (advanced s run) marks) → (flagOf (s .joined) ≡ false) → Keeps (aside g s run)
-      unfolding aside marksBy inStep
-      aside-keeps w j =
+      dropped-keeps : (flagOf (s .since) ≡ true → flagOf (s .joined) ≡ false → Waiting g (advanced s run) marks) → (flagOf (s .joined) ≡ false) → Keeps (frameDropped g s run)
+      unfolding frameDropped marksBy inStep
+      dropped-keeps w j =
           record {
             row = k .row;
             run = ran;
@@ -105,14 +105,14 @@ module _ (g : Group) (s : Step) (marks : List ℕ) (W : Windowed g) (k : PortKep
           }
 
       -- before the beginning
-      before-keeps : flagOf (g .begun) ≡ false → Keeps (aside g s run)
+      before-keeps : flagOf (g .begun) ≡ false → Keeps (frameDropped g s run)
       before-keeps b =
           let i = k .idle b in
-          aside-keeps (λ e n. clash (flagOf (s .since)) e (rw (i .since))) (rw (i .joined))
+          dropped-keeps (λ e n. clash (flagOf (s .since)) e (rw (i .since))) (rw (i .joined))
 
       -- not joined, at a frame that is no epoch start in the window
-      waits-keeps : flagOf (s .joined) ≡ false → (startsEpoch (g .kind) (s .next) && inWindow g s) ≡ false → Keeps (aside g s run)
-      waits-keeps j w = aside-keeps waiting j
+      waits-keeps : flagOf (s .joined) ≡ false → (startsEpoch (g .kind) (s .next) && inWindow g s) ≡ false → Keeps (frameDropped g s run)
+      waits-keeps j w = dropped-keeps waiting j
         where
           start : Bool
           start = startsEpoch (g .kind) (s .next)
@@ -258,7 +258,7 @@ taken-kept g s marks failed h W k =
 
 -- and what rules stays
 pub taken-whole : (g : Group) (s : Step) (failed : Bool) (h : ℕ) → takenOf g s failed h .step .whole ≡ s .whole
-unfolding flagged countsOn aside keeps outside joining
+unfolding flagged countsOn frameDropped keeps outside joining
 taken-whole g s failed h =
     taken-by (λ (t : Taken). t .step .whole ≡ s .whole) g s failed h (λ f. refl) (λ f e. refl) (λ f e b. refl) (λ f e b j w. refl) (λ f e b j w. refl)
     (λ f e b j t w. refl) (λ f e b j w. refl)

@@ -4,12 +4,12 @@ use mathlib.Core.List.{List}
 use Prim.Native.Nat.{ℕ, _≤_, _<_}
 use native.Mathlib.Omega.{arith}
 use lib.ListN.{getD, length}
-use Rattle.invariant.specs.Kept.Group.{GroupKept, OkApart, PortIn, Steady}
+use Rattle.invariant.specs.Kept.Group.{GroupKept, OkApart, PortIn, Lasting}
 use Rattle.invariant.specs.Kept.Port.{PortKept}
 use Rattle.judge.specs.Seen.{sizeOf}
 use Rattle.receiver.specs.Laws.Sizes.{size-is, sizes-of}
 use Rattle.receiver.specs.Laws.Told.{ack-le, length-told, statesIn, told-group, told-number, told-of-port, toldOn, withAck}
-use Rattle.receiver.specs.Report.{replyPorts, toldBy, toldOf}
+use Rattle.receiver.specs.Report.{replyPorts, withState, statesWorkedOut}
 use Rattle.reply.specs.Telling.{ackOf}
 use Rattle.reply.specs.Theorems.States.{ok-apart, ok-below, stateAt}
 use Rattle.rows.specs.declared.group.Group.{Group}
@@ -46,14 +46,14 @@ ack-kept g ack s marks k =
     }
 
 told-in : (g : Group) (ack : ℕ) (p : Port) (state : ℕ) → PortIn g p → PortIn (withAck g ack) (toldOn p state)
-unfolding toldBy
+unfolding withState
 told-in g ack p state o = record { kept = ack-kept g ack (p .step) (p .marks) (o .kept); unruled = o .unruled; word = o .word }
 
-told-state : (m : Member) (state : ℕ) → (toldBy m state .state ≡ state) × (toldBy m state .«state_number» ≡ m .number)
-unfolding toldBy
+told-state : (m : Member) (state : ℕ) → (withState m state .state ≡ state) × (withState m state .«state_number» ≡ m .number)
+unfolding withState
 told-state m state = (refl, refl)
 
-module _ (s : List (List ℕ)) (k : Steady s) where
+module _ (s : List (List ℕ)) (k : Lasting s) where
   abbrev g : Group
   g = groupAt s
 
@@ -63,8 +63,8 @@ module _ (s : List (List ℕ)) (k : Steady s) where
   few : n ≤ 64
   few = sizes-of (g .kind) n (g .payload) (g .window) (k .group .sizes) .few-ports
 
-  pub steady-told : Steady (toldOf g n s)
-  steady-told =
+  pub lasting-told : Lasting (statesWorkedOut g n s)
+  lasting-told =
       record {
         rows = rw group (length-told g n s ∙ k .rows);
         group = rw group with-ack;
@@ -80,7 +80,7 @@ module _ (s : List (List ℕ)) (k : Steady s) where
       ack : ℕ
       ack = ackOf (replyPorts g s n) (sizeOf n) (g .«rs_ack»)
 
-      group : groupAt (toldOf g n s) ≡ withAck g ack
+      group : groupAt (statesWorkedOut g n s) ≡ withAck g ack
       group = told-group g n s (let e = k .rows in omega arith)
 
       with-ack : GroupKept (withAck g ack)
@@ -96,12 +96,12 @@ module _ (s : List (List ℕ)) (k : Steady s) where
             idle-oldest = k .group .idle-oldest;
           }
 
-      state : (i : ℕ) → i < n → (portAt (toldOf g n s) i .member .state ≡ stateAt (replyPorts g s n) n i) × (portAt (toldOf g n s) i .member .«state_number» ≡ portAt s i .member .number)
+      state : (i : ℕ) → i < n → (portAt (statesWorkedOut g n s) i .member .state ≡ stateAt (replyPorts g s n) n i) × (portAt (statesWorkedOut g n s) i .member .«state_number» ≡ portAt s i .member .number)
       state i b =
           rw (told-of-port g n s i b enough)
           (let t = told-state (portAt s i .member) (getD (statesIn g n s) i 0) in (t .0 ∙ rw (size-is n few) refl, t .1))
 
-      apart : OkApart n (λ i. portAt (toldOf g n s) i .member)
+      apart : OkApart n (λ i. portAt (statesWorkedOut g n s) i .member)
       apart =
           record {
             below = λ i b o.

@@ -6,7 +6,7 @@ use native.Mathlib.Omega.{arith}
 use lib.Dec.{eqb, leb}
 use borrow.Author.Tests.{eqb-false, leb-true, leb-false}
 use Rattle.ground.specs.Truth.{cond-by}
-use Rattle.packet.specs.Counts.{afterFirst, afterSecond, counts, goesSecond, startsCount}
+use Rattle.packet.specs.Counts.{tagByHigh, tagByLow, counts, carriesLow, startsCount}
 use Rattle.packet.specs.Kinds.{frames, tagAfter, tags}
 use Rattle.step.specs.declared.run.Run.{Run}
 use Rattle.step.specs.Run.{begunRun, furtherRun, inStepAt, oneMore, runOn, secondRun}
@@ -14,7 +14,7 @@ use Rattle.step.specs.Run.{begunRun, furtherRun, inStepAt, oneMore, runOn, seco
 -- the tag to come is what the first frame of a run told of it
 pub record FirstTold (kind next : ℕ) : Type 0 where
   pub byte : ℕ
-  pub told : next ≡ afterFirst kind byte
+  pub told : next ≡ tagByHigh kind byte
 
 -- what holds of every run
 pub record RunKept (kind : ℕ) (run : Run) : Type 0 where
@@ -29,8 +29,8 @@ unfolding tags
 none-kept kind =
     record { most = omega arith; tag = omega arith; none = λ e. refl; first = λ e. absurd (omega arith); goes = λ l m. absurd (omega arith) }
 
-one-kept : (kind h : ℕ) → RunKept kind (record { count = 1; next = afterFirst kind h })
-unfolding tags frames afterFirst
+one-kept : (kind h : ℕ) → RunKept kind (record { count = 1; next = tagByHigh kind h })
+unfolding tags frames tagByHigh
 one-kept kind h =
     record {
       most = omega arith;
@@ -40,8 +40,8 @@ one-kept kind h =
       goes = λ l m. omega arith;
     }
 
-two-kept : (kind t h : ℕ) → RunKept kind (record { count = 2; next = afterSecond kind t h })
-unfolding tags frames afterSecond
+two-kept : (kind t h : ℕ) → RunKept kind (record { count = 2; next = tagByLow kind t h })
+unfolding tags frames tagByLow
 two-kept kind t h =
     record { most = omega arith; tag = omega arith; none = λ e. absurd (omega arith); first = λ e. absurd (omega arith); goes = λ l m. omega arith }
 
@@ -74,13 +74,13 @@ further-kept kind count next many k = go (leb 32 count) refl
 begun-kept : (kind h : ℕ) → RunKept kind (begunRun kind h)
 unfolding begunRun
 begun-kept kind h =
-    cond-by (RunKept kind) (startsCount kind h) (record { count = 1; next = afterFirst kind h }) (record { count = 0; next = 0 }) (λ e. one-kept kind h)
+    cond-by (RunKept kind) (startsCount kind h) (record { count = 1; next = tagByHigh kind h }) (record { count = 0; next = 0 }) (λ e. one-kept kind h)
     (λ e. none-kept kind)
 
 second-kept : (kind : ℕ) (run : Run) (h : ℕ) → RunKept kind (secondRun kind run h)
 unfolding secondRun
 second-kept kind run h =
-    cond-by (RunKept kind) (goesSecond kind h) (record { count = 2; next = afterSecond kind (run .next) h }) (begunRun kind h)
+    cond-by (RunKept kind) (carriesLow kind h) (record { count = 2; next = tagByLow kind (run .next) h }) (begunRun kind h)
     (λ e. two-kept kind (run .next) h) (λ e. begun-kept kind h)
 
 -- a frame more
@@ -105,13 +105,13 @@ short kind count l e = let w = leb-true 32 count e in omega arith
 few : (kind h : ℕ) → begunRun kind h .count ≤ 2
 unfolding begunRun
 few kind h =
-    cond-by (λ (r : Run). r .count ≤ 2) (startsCount kind h) (record { count = 1; next = afterFirst kind h }) (record { count = 0; next = 0 }) (λ e. omega arith)
+    cond-by (λ (r : Run). r .count ≤ 2) (startsCount kind h) (record { count = 1; next = tagByHigh kind h }) (record { count = 0; next = 0 }) (λ e. omega arith)
     (λ e. omega arith)
 
 few-second : (kind : ℕ) (run : Run) (h : ℕ) → secondRun kind run h .count ≤ 2
 unfolding secondRun
 few-second kind run h =
-    cond-by (λ (r : Run). r .count ≤ 2) (goesSecond kind h) (record { count = 2; next = afterSecond kind (run .next) h }) (begunRun kind h) (λ e. omega arith)
+    cond-by (λ (r : Run). r .count ≤ 2) (carriesLow kind h) (record { count = 2; next = tagByLow kind (run .next) h }) (begunRun kind h) (λ e. omega arith)
     (λ e. few kind h)
 
 abbrev GoesOn : ℕ → Run → Run → Type 0

@@ -12,7 +12,7 @@ use Rattle.judge.specs.declared.seen.Seen.{Seen}
 use Rattle.judge.specs.Verdict.{HELD, judgeOf}
 use Rattle.packet.specs.Kinds.{frames}
 use Rattle.phases.specs.Sizes.{portsIn, sized}
-use Rattle.receiver.specs.Fetch.{dueIn, fetchOut, fits, givenOut}
+use Rattle.receiver.specs.Fetch.{dueIn, fetchOut, fits, outIfDue}
 use Rattle.receiver.specs.Laws.Answers.{lent}
 use Rattle.receiver.specs.Laws.Bytes.{frameBytes, frames-into, reportByte}
 use Rattle.receiver.specs.Laws.Sizes.{Sizes, size-is, sizes-of, some-sized}
@@ -26,7 +26,7 @@ pub report-bytes : (s : List (List ℕ)) (store out report : List ℕ) → fits 
     → fetchOut s store out report
     ≡ fillAt 0 (frames (groupAt s .kind) * frameBytes (groupAt s) (seenAll (groupAt s) s (portsIn (groupAt s))) (portsIn (groupAt s)))
     (reportByte (groupAt s) (seenAll (groupAt s) s (portsIn (groupAt s))) (portsIn (groupAt s)) store) out
-unfolding fetchOut fits givenOut outputOf outputBy
+unfolding fetchOut fits outIfDue outputOf outputBy
 report-bytes s store out report f d v =
     let g : Group = groupAt s in
     let n : ℕ = portsIn (groupAt s) in

@@ -18,7 +18,7 @@ use Rattle.phases.specs.Laws.Lengths.{length-passed}
 use Rattle.phases.specs.Laws.Passed.{passed-group}
 use Rattle.phases.specs.Passing.{passedGroup, passedOf}
 use Rattle.phases.specs.Sizes.{portsIn}
-use Rattle.receiver.specs.Fetch.{dueIn, fetchRows, fits, givenRows}
+use Rattle.receiver.specs.Fetch.{dueIn, fetchRows, fits, rowsIfDue}
 use Rattle.receiver.specs.Frame.{frameRefusal, frameRows, takenIn}
 use Rattle.receiver.specs.Laws.Answers.{lent}
 use Rattle.receiver.specs.Laws.Passed.{passed-ack}
@@ -90,7 +90,7 @@ ackAfter s store = ackOf (replyPorts (groupAt (passedRows s store)) (passedRows 
 
 pub fetch-group : (s : List (List ℕ)) (store out report : List ℕ) → Given s store out report
     → groupAt (fetchRows s store out report) ≡ withAck (passedGroup (groupAt s)) (ackAfter s store)
-unfolding fetchRows givenRows reportedOf fits
+unfolding fetchRows rowsIfDue reportedOf fits
 fetch-group s store out report o =
     let n : ℕ = portsIn (groupAt s) in
     let p : List (List ℕ) = passedRows s store in
@@ -104,7 +104,7 @@ fetch-group s store out report o =
     ∙ ap (λ (b : ℕ). withAck (passedGroup (groupAt s)) (ackOf (replyPorts (groupAt p) p n) (sizeOf n) b)) (passed-ack (groupAt s)))
 
 pub fetch-none : (s : List (List ℕ)) (store out report : List ℕ) → (fits s store out report && dueIn (groupAt s) (portsIn (groupAt s)) s) ≡ false → fetchRows s store out report ≡ s
-unfolding fetchRows givenRows
+unfolding fetchRows rowsIfDue
 fetch-none s store out report e = go (fits s store out report) (dueIn (groupAt s) (portsIn (groupAt s)) s) e
   where
     go : (a b : Bool) → (a && b) ≡ false → cond a (cond b (reportedOf (groupAt s) store (portsIn (groupAt s)) s) s) s ≡ s

@@ -13,7 +13,7 @@ use Rattle.judge.specs.Verdict.{HELD, judgeOf}
 use Rattle.packet.specs.Kinds.{frames}
 use Rattle.phases.specs.Sizes.{portsIn}
 use Rattle.receiver.specs.declared.report.Report.{Report}
-use Rattle.receiver.specs.Fetch.{dueIn, fetchOut, fits, givenOut, givenReport}
+use Rattle.receiver.specs.Fetch.{dueIn, fetchOut, fits, outIfDue, reportIfDue}
 use Rattle.receiver.specs.Laws.Seen.{seen-at}
 use Rattle.receiver.specs.Laws.Sizes.{size-is, sizes-of, some-sized}
 use Rattle.receiver.specs.Report.{outputBy, outputOf, reportBy, reportOf, seenAll}
@@ -55,7 +55,7 @@ module _ (s : List (List ℕ)) (i : ℕ) (o : Refused s i) where
   judged = rw (size-is n few) (refused seen n i (o .port) (rw (seen-at g s n i few (o .port), seen-whole g s i, seen-good g s i, o .whole, o .refused) refl))
 
   pub held-out : (store out report : List ℕ) → fetchOut s store out report ≡ out
-  unfolding fetchOut givenOut outputOf outputBy
+  unfolding fetchOut outIfDue outputOf outputBy
   held-out store out report = rw judged (both (fits s store out report) (dueIn g n s))
     where
       both : (a b : Bool) → cond a (cond b out out) out ≡ out
@@ -63,8 +63,8 @@ module _ (s : List (List ℕ)) (i : ℕ) (o : Refused s i) where
       both true false = refl
       both false b = refl
 
-  pub held-report : dueIn g n s ≡ true → HeldReport (givenReport g n s) (g .oldest)
-  unfolding givenReport reportOf reportBy
+  pub held-report : dueIn g n s ≡ true → HeldReport (reportIfDue g n s) (g .oldest)
+  unfolding reportIfDue reportOf reportBy
   held-report d = rw (d, judged) (record { mark = refl; epoch-is = refl; none = refl; empty = none (frames (g .kind)) (g .payload) })
     where
       none : (L P : ℕ) → 0 * L * P ≡ 0

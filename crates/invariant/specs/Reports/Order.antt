@@ -17,7 +17,7 @@ use Rattle.phases.specs.Beginning.{foremost}
 use Rattle.phases.specs.Laws.Cleared.{begun-group}
 use Rattle.phases.specs.Sizes.{portsIn}
 use Rattle.phases.specs.Theorems.Settled.{passed-begun}
-use Rattle.receiver.specs.Fetch.{dueIn, fetchRows, fits, givenReport}
+use Rattle.receiver.specs.Fetch.{dueIn, fetchRows, fits, reportIfDue}
 use Rattle.receiver.specs.Frame.{frameRows}
 use Rattle.receiver.specs.Laws.Passed.{passed-gathered, passed-kind, passed-oldest}
 use Rattle.receiver.specs.Report.{reportBy, reportOf}
@@ -31,7 +31,7 @@ gives x out report = fits (x .rows) (x .store) out report && dueIn (groupAt (x .
 
 -- the epoch that it says
 abbrev pub epochGiven : Receiver → ℕ
-epochGiven x = givenReport (groupAt (x .rows)) (portsIn (groupAt (x .rows))) (x .rows) .epoch
+epochGiven x = reportIfDue (groupAt (x .rows)) (portsIn (groupAt (x .rows))) (x .rows) .epoch
 
 -- the epochs of all reports that a list of calls gives
 abbrev pub reportsOf : Receiver → List ReceiverCall → List ℕ
@@ -56,9 +56,9 @@ successive kind e (suc n) = e ∷ successive kind (epochAfter kind e) n
 abbrev pub nextReport : Group → ℕ
 nextReport g = cond (flagOf (g .gathered)) (g .oldest) (epochAfter (g .kind) (g .oldest))
 
--- 'A report says epoch oldest'
-given-epoch : (g : Group) (n : ℕ) (s : List (List ℕ)) → dueIn g n s ≡ true → givenReport g n s .epoch ≡ g .oldest
-unfolding givenReport reportOf reportBy
+-- a report's epoch is the oldest one
+given-epoch : (g : Group) (n : ℕ) (s : List (List ℕ)) → dueIn g n s ≡ true → reportIfDue g n s .epoch ≡ g .oldest
+unfolding reportIfDue reportOf reportBy
 given-epoch g n s d = rw d refl
 
 -- what a call leaves of it

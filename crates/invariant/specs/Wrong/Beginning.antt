@@ -8,14 +8,14 @@ use Rattle.invariant.specs.Arriving.{portAfter, storeAfter}
 use Rattle.invariant.specs.Calls.{Receiver}
 use Rattle.invariant.specs.Wrong.Sample.{sampleGroup, sampleStep, sentH4}
 use Rattle.ground.specs.Circle.{after}
-use Rattle.packet.specs.Counts.{afterFirst, afterSecond, counts, goesSecond, nibbleIn, nibblePlace, startsCount}
+use Rattle.packet.specs.Counts.{tagByHigh, tagByLow, counts, carriesLow, nibbleIn, nibblePlace, startsCount}
 use Rattle.packet.specs.Kinds.{distanceOf, endsEpoch, epochAfter, epochOf, epochs, epochsIn, firstTag, frames, lead, placeOf, startsEpoch, tagAfter, tagBefore, tags}
 use Rattle.packet.specs.Crc.{crcOf}
 use Rattle.packet.specs.Layout.{carriedIn, fieldsOf}
 use Rattle.packet.specs.Reading.{readNibbles}
 use Rattle.packet.specs.Words.{assigned}
 use Rattle.phases.specs.Beginning.{begins, foremost, further, latest, noTag, ready, within}
-use Rattle.phases.specs.Due.{brought, lets, silent}
+use Rattle.phases.specs.Due.{brought, owesNothing, silent}
 use Rattle.phases.specs.Passing.{groupTo, notedBy, passedGroup, passedOf, passedPort, passedPorts, passedStep, ruledBy}
 use Rattle.phases.specs.Ruling.{rulingOf}
 use Rattle.phases.specs.Settling.{beginBy, begunOf, clearedPort, clearedPorts, clearedStep, gatherBy, settledOf, stopBy, stoppedOf}
@@ -28,7 +28,7 @@ use Rattle.rows.specs.Member.{memberAt, memberOf, memberRow, putMember}
 use Rattle.rows.specs.Packets.{marksAt, packetsAt, putMarks, putPackets}
 use Rattle.rows.specs.Rows.{putRow, rowIn, rowsFor}
 use Rattle.rows.specs.Step.{putStep, stepAt, stepOf, stepRow}
-use Rattle.step.specs.Arrival.{arrives, aside, byStart, byWindow, countsOn, distanceIn, flagged, flagOf, inStep, joining, keeps, outside, readable, takenOf}
+use Rattle.step.specs.Arrival.{arrives, frameDropped, byStart, byWindow, countsOn, distanceIn, flagged, flagOf, inStep, joining, keeps, outside, readable, takenOf}
 use Rattle.step.specs.Run.{begunRun, furtherRun, inStepAt, oneMore, runOn, secondRun}
 use Rattle.store.specs.Frames.{byteAt, h4At, packetIn, placeIn, ringOf, storedAt}
 use Rattle.store.specs.Marks.{cutByte, cutFrom, firstMark, markedAt, markedByte, passedByte, passedMarks}
@@ -55,7 +55,7 @@ times frame zero = two (sampleGroup 2 16 0 0 0) (sampleStep 32 15 0 0 0 0) (samp
 times frame (suc n) = frame (frame (times frame n) 1 (sentH4 (15 + n))) 0 (sentH4 (15 + n))
 
 tested-breaks : (groupAt (times wrong-frame 1) .begun ≡ 0) × (groupAt (times wrong-frame 8) .begun ≡ 0) × (groupAt (times right-frame 1) .begun ≡ 1)
-unfolding two comes-in wrong-frame right-frame times portRows gatheredBy marksBy settledOf stopBy stoppedOf beginBy begunOf clearedPorts clearedPort clearedStep gatherBy silent brought lets begins foremost further latest noTag ready within passedOf passedPorts passedPort passedStep passedGroup notedBy ruledBy rulingOf takenOf arrives aside byStart byWindow countsOn flagged joining keeps outside readable inStep distanceIn runOn begunRun secondRun furtherRun oneMore inStepAt counts startsCount afterFirst goesSecond afterSecond nibbleIn nibblePlace distanceOf after endsEpoch epochAfter epochOf epochs epochsIn firstTag frames lead placeOf startsEpoch tagAfter tagBefore tags groupAt groupOf groupRow putGroup memberAt memberOf memberRow putMember marksAt packetsAt putMarks putPackets rowIn putRow stepAt stepOf stepRow putStep packetIn h4At byteAt placeIn ringOf firstMark passedMarks passedByte markedAt markedByte cutFrom cutByte
+unfolding two comes-in wrong-frame right-frame times portRows gatheredBy marksBy settledOf stopBy stoppedOf beginBy begunOf clearedPorts clearedPort clearedStep gatherBy silent brought owesNothing begins foremost further latest noTag ready within passedOf passedPorts passedPort passedStep passedGroup notedBy ruledBy rulingOf takenOf arrives frameDropped byStart byWindow countsOn flagged joining keeps outside readable inStep distanceIn runOn begunRun secondRun furtherRun oneMore inStepAt counts startsCount tagByHigh carriesLow tagByLow nibbleIn nibblePlace distanceOf after endsEpoch epochAfter epochOf epochs epochsIn firstTag frames lead placeOf startsEpoch tagAfter tagBefore tags groupAt groupOf groupRow putGroup memberAt memberOf memberRow putMember marksAt packetsAt putMarks putPackets rowIn putRow stepAt stepOf stepRow putStep packetIn h4At byteAt placeIn ringOf firstMark passedMarks passedByte markedAt markedByte cutFrom cutByte
 tested-breaks = (refl, refl, refl)
 
 -- A weak 'after the foremost tag': an epoch that starts with the foremost tag itself. The window is 32 frames. Port 0 is in step and its latest tag is 8, the start of epoch 1;
@@ -95,5 +95,5 @@ weak-breaks :
     × (stepAt (brings weak-settled 31 .rows) 0 .whole ≡ 0)
     × (groupAt (brings settledOf 31 .rows) .gathered ≡ 1)
     × (stepAt (brings settledOf 31 .rows) 0 .whole ≡ 1)
-unfolding two weak-epoch weak-begun weak-begin weak-settled brings storeBy storedAt readNibbles crcOf carriedIn fieldsOf assigned portRows gatheredBy marksBy settledOf stopBy stoppedOf beginBy begunOf clearedPorts clearedPort clearedStep gatherBy silent brought lets begins foremost further latest noTag ready within passedOf passedPorts passedPort passedStep passedGroup notedBy ruledBy rulingOf takenOf arrives aside byStart byWindow countsOn flagged joining keeps outside readable inStep distanceIn runOn begunRun secondRun furtherRun oneMore inStepAt counts startsCount afterFirst goesSecond afterSecond nibbleIn nibblePlace distanceOf after endsEpoch epochAfter epochOf epochs epochsIn firstTag frames lead placeOf startsEpoch tagAfter tagBefore tags groupAt groupOf groupRow putGroup memberAt memberOf memberRow putMember marksAt packetsAt putMarks putPackets rowIn putRow stepAt stepOf stepRow putStep packetIn h4At byteAt placeIn ringOf firstMark passedMarks passedByte markedAt markedByte cutFrom cutByte
+unfolding two weak-epoch weak-begun weak-begin weak-settled brings storeBy storedAt readNibbles crcOf carriedIn fieldsOf assigned portRows gatheredBy marksBy settledOf stopBy stoppedOf beginBy begunOf clearedPorts clearedPort clearedStep gatherBy silent brought owesNothing begins foremost further latest noTag ready within passedOf passedPorts passedPort passedStep passedGroup notedBy ruledBy rulingOf takenOf arrives frameDropped byStart byWindow countsOn flagged joining keeps outside readable inStep distanceIn runOn begunRun secondRun furtherRun oneMore inStepAt counts startsCount tagByHigh carriesLow tagByLow nibbleIn nibblePlace distanceOf after endsEpoch epochAfter epochOf epochs epochsIn firstTag frames lead placeOf startsEpoch tagAfter tagBefore tags groupAt groupOf groupRow putGroup memberAt memberOf memberRow putMember marksAt packetsAt putMarks putPackets rowIn putRow stepAt stepOf stepRow putStep packetIn h4At byteAt placeIn ringOf firstMark passedMarks passedByte markedAt markedByte cutFrom cutByte
 weak-breaks = (refl, refl, refl, refl, refl, refl)

@@ -8,7 +8,7 @@ use lib.ListN.{replicate}
 use Rattle.invariant.specs.Wrong.Sample.{sampleGroup, sampleStep}
 use Rattle.ground.specs.Circle.{after}
 use Rattle.packet.specs.Kinds.{distanceOf, epochAfter, epochs, firstTag, frames, lead, tags}
-use Rattle.phases.specs.Due.{lets}
+use Rattle.phases.specs.Due.{owesNothing}
 use Rattle.phases.specs.Passing.{passedGroup, passedStep}
 use Rattle.rows.specs.declared.group.Group.{Group}
 use Rattle.rows.specs.declared.step.Step.{Step}
@@ -43,9 +43,9 @@ steps next (suc n) = passedStep (steps next n) true
 -- 256 epochs later epoch 0 is the oldest again, and the port has brought none of its frames. By the wrong rule it is reported without them.
 later-breaks :
     (wrong-lets start (joiner 9) 8 (replicate 16 0) ≡ true)
-    × (lets start (joiner 9) (replicate 16 0) ≡ true)
+    × (owesNothing start (joiner 9) (replicate 16 0) ≡ true)
     × (passes 256 .oldest ≡ 0)
     × (wrong-lets (passes 256) (steps 4088 256) 8 (replicate 16 0) ≡ true)
-    × (lets (passes 256) (steps 4088 256) (replicate 16 0) ≡ false)
-unfolding wrong-later wrong-lets start joiner passes steps lets readable inStep inStepAt firstMark distanceIn distanceOf after firstTag tags lead frames epochs epochAfter passedGroup passedStep ringOf
+    × (owesNothing (passes 256) (steps 4088 256) (replicate 16 0) ≡ false)
+unfolding wrong-later wrong-lets start joiner passes steps owesNothing readable inStep inStepAt firstMark distanceIn distanceOf after firstTag tags lead frames epochs epochAfter passedGroup passedStep ringOf
 later-breaks = (refl, refl, refl, refl, refl)

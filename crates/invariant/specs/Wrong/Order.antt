@@ -18,10 +18,10 @@ use Rattle.packet.specs.Kinds.{epochOf, firstTag, frames, lead, tagBefore, tags
 use Rattle.packet.specs.Layout.{carriedIn, dataOf, fieldsOf, h4Of, nibblesOf, sealedOf}
 use Rattle.packet.specs.Reading.{readNibbles}
 use Rattle.packet.specs.Words.{EOS, NORM, assigned}
-use Rattle.phases.specs.Due.{brought, lets}
+use Rattle.phases.specs.Due.{brought, owesNothing}
 use Rattle.phases.specs.Ruling.{rulingOf}
 use Rattle.phases.specs.Sizes.{portsIn, sized, storeFor}
-use Rattle.receiver.specs.Fetch.{dueIn, fetchOut, fits, givenOut, givenReport}
+use Rattle.receiver.specs.Fetch.{dueIn, fetchOut, fits, outIfDue, reportIfDue}
 use Rattle.receiver.specs.Lengths.{fetchFits, outputFor, rowsFit}
 use Rattle.receiver.specs.Report.{frameInto, framesInto, outputBy, outputOf, reportBy, reportOf, rulingEpoch, seenAll, seenOf, startsOf}
 use Rattle.rows.specs.declared.group.Group.{Group}
@@ -70,7 +70,7 @@ sixteen a b = tabulate 32 (λ k. cond (eqb (k % 2) 0) a b)
 
 order-breaks :
     (fetchOut rows store (replicate 32 0) (replicate 8 0) ≡ sixteen 10 11)
-    × (givenReport group 2 rows .mark ≡ SURE)
+    × (reportIfDue group 2 rows .mark ≡ SURE)
     × (wrong-out ≡ sixteen 11 10)
-unfolding divisor nibbleBits packet group port rows sent store wrong-seen wrong-out sixteen dataOf sealedOf nibblesOf crcOf h4Of carriedIn fieldsOf assigned readNibbles rulingOf rulingEpoch seenOf seenAll orderOf activeIn portOf rankOf judgeOf heldBy doubtfulBy missing exact repeats takes gidDiffers eosWrong eosAlone highest fetchOut fits fetchFits rowsFit storeFor outputFor portsIn sized givenOut givenReport reportOf reportBy dueIn brought lets readable inStep inStepAt outputOf outputBy framesInto frameInto startsOf placeIn ringOf packetIn h4At byteAt nibbleIn firstMark epochOf firstTag frames lead tagBefore tags groupAt groupOf groupRow putGroup marksAt packetsAt putMarks putPackets rowIn putRow stepAt stepOf stepRow putStep
+unfolding divisor nibbleBits packet group port rows sent store wrong-seen wrong-out sixteen dataOf sealedOf nibblesOf crcOf h4Of carriedIn fieldsOf assigned readNibbles rulingOf rulingEpoch seenOf seenAll orderOf activeIn portOf rankOf judgeOf heldBy doubtfulBy missing exact repeats takes gidDiffers eosWrong eosAlone highest fetchOut fits fetchFits rowsFit storeFor outputFor portsIn sized outIfDue reportIfDue reportOf reportBy dueIn brought owesNothing readable inStep inStepAt outputOf outputBy framesInto frameInto startsOf placeIn ringOf packetIn h4At byteAt nibbleIn firstMark epochOf firstTag frames lead tagBefore tags groupAt groupOf groupRow putGroup marksAt packetsAt putMarks putPackets rowIn putRow stepAt stepOf stepRow putStep
 order-breaks = (refl, refl, refl)

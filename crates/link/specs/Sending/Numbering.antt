@@ -107,19 +107,19 @@ module _ (t : Table) (d : Demand2 t) (word number : ℕ → ℕ) (words : (s : �
 
 module _ (h : History) (a : Allowed h) (i : ℕ) where
   abbrev source : Table
-  source = sender-at-sound h i .going .source
+  source = sender-at-sound h i .outgoing .source
 
   source-size : slotsIn source ≡ h .slots
-  source-size = ap sizeOf (sender-at-sound h i .going .slots) ∙ size-at h a i
+  source-size = ap sizeOf (sender-at-sound h i .outgoing .slots) ∙ size-at h a i
 
   word-shown : (s : ℕ) → s < slotsIn source → wordSent h i s ≡ sends source s
   unfolding packetFields
   word-shown s b =
-      ap (λ (d : Board). rowAt (d .rows) s .word .0) (sender-at-sound h i .going .is) ∙ ap (λ (r : Row). r .word .0) (board-row source s b)
+      ap (λ (d : Board). rowAt (d .rows) s .word .0) (sender-at-sound h i .outgoing .is) ∙ ap (λ (r : Row). r .word .0) (board-row source s b)
 
   number-shown : (s : ℕ) → s < slotsIn source → numberSent h i s ≡ numberIn source s
   unfolding packetFields
-  number-shown s b = ap (λ (d : Board). rowAt (d .rows) s .number) (sender-at-sound h i .going .is) ∙ row-number source s b
+  number-shown s b = ap (λ (d : Board). rowAt (d .rows) s .number) (sender-at-sound h i .outgoing .is) ∙ row-number source s b
 
   pub numbered : Numbered (h .slots) (wordSent h i) (numberSent h i)
-  numbered = rw source-size at (table-numbered source (sound-demand2 source (sender-at-sound h i .going .sound)) (wordSent h i) (numberSent h i) word-shown number-shown)
+  numbered = rw source-size at (table-numbered source (sound-demand2 source (sender-at-sound h i .outgoing .sound)) (wordSent h i) (numberSent h i) word-shown number-shown)

@@ -34,17 +34,17 @@ module _ (h : History) (a : Allowed h) where
   lent i = and-true (ltb (h .gid i) 2) (ltb (h .ack i) 2) (lt-ltb (h .gid i) 2 (a .gid i)) (lt-ltb (h .ack i) 2 (a .ack i))
 
   -- what rules is the board that went out in the packets of the epoch before
-  pub rules : (i : ℕ) → senderAt h (suc i) .ruling ≡ senderAt h i .going
+  pub rules : (i : ℕ) → senderAt h (suc i) .ruling ≡ senderAt h i .outgoing
   unfolding senderAt
   rules i =
       rules-next (senderRun (senderAt h i) (onTable (h .before (suc i)))) (h .gid (suc i)) (h .mst (suc i)) (h .ack (suc i)) (lent (suc i))
-      ∙ left (senderAt h i) (h .before (suc i)) .going
+      ∙ left (senderAt h i) (h .before (suc i)) .outgoing
 
   shown-size : (i : ℕ) (b : Board) → Shows b (senderAt h i .table .count) → sizeOf (b .count) ≡ h .slots
   shown-size i b o = ap (λ (c : Board). sizeOf (c .count)) (o .is) ∙ board-size (o .source) ∙ ap sizeOf (o .slots) ∙ size-at h a i
 
-  pub going-size : (i : ℕ) → sizeOf (senderAt h i .going .count) ≡ h .slots
-  going-size i = shown-size i (senderAt h i .going) (sender-at-sound h i .going)
+  pub going-size : (i : ℕ) → sizeOf (senderAt h i .outgoing .count) ≡ h .slots
+  going-size i = shown-size i (senderAt h i .outgoing) (sender-at-sound h i .outgoing)
 
   pub ruling-size : (i : ℕ) → sizeOf (senderAt h i .ruling .count) ≡ h .slots
   ruling-size i = shown-size i (senderAt h i .ruling) (sender-at-sound h i .ruling)
@@ -57,10 +57,10 @@ module _ (h : History) (a : Allowed h) where
   unfolding carriersIn packetFields
   x-next i =
       ap (λ (b : Board). carriersIn (b .rows) (sizeOf (b .count))) (rules i)
-      ∙ ap (λ (n : ℕ). carriersIn (senderAt h i .going .rows) n) (going-size i)
+      ∙ ap (λ (n : ℕ). carriersIn (senderAt h i .outgoing .rows) n) (going-size i)
 
   pub rank-next : (i slot : ℕ) → rankIn (senderAt h (suc i)) slot ≡ rankBy (h .slots) (wordSent h i) (numberSent h i) slot
   unfolding rankAt rankOf packetFields
   rank-next i slot =
       ap (λ (b : Board). rankAt (b .rows) (sizeOf (b .count)) slot) (rules i)
-      ∙ ap (λ (n : ℕ). rankAt (senderAt h i .going .rows) n slot) (going-size i)
+      ∙ ap (λ (n : ℕ). rankAt (senderAt h i .outgoing .rows) n slot) (going-size i)

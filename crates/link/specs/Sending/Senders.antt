@@ -11,7 +11,7 @@ use Rattle.ground.specs.Truth.{and-true, le-or-lt}
 use Rattle.packet.specs.Kinds.{epochAfter, epochs}
 use Rattle.sender.specs.Commands.{freshOf, startOf}
 use Rattle.sender.specs.declared.epochs.Sender.{Sender}
-use Rattle.sender.specs.declared.epochs.SenderStep.{SenderStep}
+use Rattle.sender.specs.declared.epochs.SenderOutcome.{SenderOutcome}
 use Rattle.sender.specs.declared.table.Answer.the-variants.{Done, Field}
 use Rattle.sender.specs.declared.table.Table.{Table}
 use Rattle.sender.specs.Epochs.{SenderCall, beginOf, freshSender, senderRun, senderStepOf, startEpochOf, startedEpoch, startedSender}
@@ -71,16 +71,16 @@ given-to h a (suc i) = given-append (callsTo h i) (callsBefore h (suc i)) (given
 pub record Left (s r : Sender) : Type 0 where
   pub count : r .table .count ≡ s .table .count
   pub kind : r .table .kind ≡ s .table .kind
-  pub going : r .going ≡ s .going
+  pub outgoing : r .outgoing ≡ s .outgoing
   pub epoch : r .epoch ≡ s .epoch
   pub begun : r .begun ≡ s .begun
 
 pub left : (s : Sender) (cs : List Call) → Left s (senderRun s (onTable cs))
-left s [] = record { count = refl; kind = refl; going = refl; epoch = refl; begun = refl }
+left s [] = record { count = refl; kind = refl; outgoing = refl; epoch = refl; begun = refl }
 left s (c ∷ cs) =
     let o = left (senderStepOf s (OnTable c) .sender) cs in
     let g = group-step (s .table) c in
-    record { count = o .count ∙ g .count; kind = o .kind ∙ g .kind; going = o .going; epoch = o .epoch; begun = o .begun }
+    record { count = o .count ∙ g .count; kind = o .kind ∙ g .kind; outgoing = o .outgoing; epoch = o .epoch; begun = o .begun }
 
 later-epoch : (s : Sender) → s .begun ≡ true → startedEpoch s ≡ epochAfter (s .table .kind) (s .epoch)
 unfolding startedEpoch
@@ -103,7 +103,7 @@ module _ (h : History) (a : Allowed h) where
   started-is i s =
       let r : Sender = senderRun s (onTable (h .before i)) in
       ap
-      (λ (b : Bool). cond {A = SenderStep} b (record { sender = startedSender r (h .gid i) (h .mst i) (h .ack i); answer = Done }) (record { sender = r; answer = Field }) .sender)
+      (λ (b : Bool). cond {A = SenderOutcome} b (record { sender = startedSender r (h .gid i) (h .mst i) (h .ack i); answer = Done }) (record { sender = r; answer = Field }) .sender)
       (and-true (ltb (h .gid i) 2) (ltb (h .ack i) 2) (lt-ltb (h .gid i) 2 (a .gid i)) (lt-ltb (h .ack i) 2 (a .ack i)))
 
   in-started : (i : ℕ) (s : Sender) → s .table .count ≡ h .slots → s .table .kind ≡ h .kind → startedEpoch (senderRun s (onTable (h .before i))) ≡ epochNumber h i → InEpoch h i (startedOn h i s)

@@ -1,4 +1,4 @@
--- The answers of all frames: 'every frame answered 0 or 12, 12 only before step'.
+-- The answers of all frames: each is 0 or 12, and 12 only before its port is in step.
 use mathlib.Core.Path.{_≡_, refl, sym, ap, _∙_}
 use mathlib.Core.Logic.{⊎-elim}
 use mathlib.Core.List.{List, [], _∷_, _++_, append-nil, append-assoc}

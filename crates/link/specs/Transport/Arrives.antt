@@ -16,7 +16,7 @@ use Rattle.rows.specs.declared.step.Step.{Step}
 use Rattle.rows.specs.Group.{groupAt}
 use Rattle.rows.specs.Packets.{marksAt}
 use Rattle.rows.specs.Step.{stepAt}
-use Rattle.step.specs.Arrival.{aside, distanceIn, flagOf, joining, keeps, takenOf}
+use Rattle.step.specs.Arrival.{frameDropped, distanceIn, flagOf, joining, keeps, takenOf}
 use Rattle.step.specs.declared.arrival.Taken.{Taken}
 use Rattle.step.specs.declared.run.Run.{Run}
 use Rattle.step.specs.Laws.Arrival.{inWindow, ranOn, stepped, taken-joins, taken-keeps, taken-waits}
@@ -27,7 +27,7 @@ use Rattle.link.specs.Laws.Numbers.{behind-far, ends-else, ends-first, e
 use Rattle.link.specs.Road.{Fair, L, Road, sizes-in}
 use Rattle.link.specs.Running.{Moment}
 use Rattle.link.specs.Standing.{Heard, Open}
-use Rattle.link.specs.Transport.Heard.{heard-aside, heard-in-step, heard-joining, heard-keeps, heard-next}
+use Rattle.link.specs.Transport.Heard.{heard-dropped, heard-in-step, heard-joining, heard-keeps, heard-next}
 
 -- a frame more makes no difference to an epoch that it does not end
 leb-on : (a x : ℕ) → a ≢ x + 1 → leb a x ≡ leb a (x + 1)
@@ -171,13 +171,13 @@ module _ (r : Road) (fair : Fair r) (m : Moment) (coming : ℕ → ℕ) (i : ℕ
         settles = λ f x. absurd (omega arith);
       }
 
-  goes-aside : coming p < i * L r → s .joined ≡ 0 → Goes r m coming i p (aside g s run)
-  unfolding aside marksBy
-  goes-aside early j =
+  goes-dropped : coming p < i * L r → s .joined ≡ 0 → Goes r m coming i p (frameDropped g s run)
+  unfolding frameDropped marksBy
+  goes-dropped early j =
       let n = frames-two (r .kind) in
       record {
         answer = refl;
-        heard = heard-aside r fair g p (coming p) s (o .lined .kind-is) b heard-now;
+        heard = heard-dropped r fair g p (coming p) s (o .lined .kind-is) b heard-now;
         since = refl;
         later = o .later p b;
         whole = refl;
@@ -196,11 +196,11 @@ module _ (r : Road) (fair : Fair r) (m : Moment) (coming : ℕ → ℕ) (i : ℕ
   -- Where its tag lies.
 
   stepped-now : stepped g s h ≡ true
-  unfolding aside
+  unfolding frameDropped
   stepped-now =
       let far = o .in-step p b in
       ap (λ (k : ℕ). inStepAt k (run .count)) (o .lined .kind-is)
-      ∙ heard-in-step r p (coming p + 1) (aside g s run .step) (heard-aside r fair g p (coming p) s (o .lined .kind-is) b heard-now) (omega arith)
+      ∙ heard-in-step r p (coming p + 1) (frameDropped g s run .step) (heard-dropped r fair g p (coming p) s (o .lined .kind-is) b heard-now) (omega arith)
 
   distance-now : distanceIn g (s .next) ≡ distanceOf (r .kind) (tagOf (r .kind) (r .offset + coming p)) (tagOf (r .kind) (r .offset + i * L r))
   unfolding distanceIn
@@ -243,6 +243,6 @@ module _ (r : Road) (fair : Fair r) (m : Moment) (coming : ℕ → ℕ) (i : ℕ
       (λ (other : coming p ≢ i * L r).
       let last = a .1 in
       let early : coming p < i * L r = omega arith in
-      rw (taken-waits g s false h refl stepped-now begun-now (rw (a .0) refl) (rw (window-out early) (and-false (startsEpoch (g .kind) (s .next))))) (goes-aside early (a .0)))
+      rw (taken-waits g s false h refl stepped-now begun-now (rw (a .0) refl) (rw (window-out early) (and-false (startsEpoch (g .kind) (s .next))))) (goes-dropped early (a .0)))
       (eq-or-ne (coming p) (i * L r)))
       (j .is)

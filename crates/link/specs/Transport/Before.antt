@@ -27,9 +27,9 @@ use Rattle.rows.specs.Group.{groupAt}
 use Rattle.rows.specs.Packets.{marksAt}
 use Rattle.rows.specs.Rows.{rowsFor}
 use Rattle.rows.specs.Step.{stepAt}
-use Rattle.step.specs.Arrival.{aside, countsOn, flagOf, inStep, takenOf}
+use Rattle.step.specs.Arrival.{frameDropped, countsOn, flagOf, inStep, takenOf}
 use Rattle.step.specs.declared.arrival.Taken.{Taken}
-use Rattle.step.specs.Laws.Arrival.{ranOn, stepped, taken-aside, taken-counts}
+use Rattle.step.specs.Laws.Arrival.{ranOn, stepped, taken-dropped, taken-counts}
 use Rattle.step.specs.Run.{inStepAt}
 use Rattle.store.specs.Laws.Marks.{mark-none, sixteen-none}
 use Rattle.link.specs.Laws.Numbers.{behind-far, epoch-after-le, epoch-after-lt, epoch-after-tag, frames-many, frames-run, tag-before}
@@ -38,7 +38,7 @@ use Rattle.link.specs.Road.{Fair, L, Road, sizes-in}
 use Rattle.link.specs.Running.{Moment, framed}
 use Rattle.link.specs.Standing.{Before, First, Heard, Lined, Open}
 use Rattle.link.specs.Transport.Call.{framed-is}
-use Rattle.link.specs.Transport.Heard.{from-first, heard-aside, heard-counts, heard-in-step, heard-next, heard-short, heard-test, runFrom}
+use Rattle.link.specs.Transport.Heard.{from-first, heard-dropped, heard-counts, heard-in-step, heard-next, heard-short, heard-test, runFrom}
 use Rattle.link.specs.Transport.Steps.{Apart, Begun?, Served}
 use Rattle.link.specs.Transport.Steps.Begun?.{comes, stays}
 
@@ -333,7 +333,7 @@ module _ (r : Road) (f : Fair r) where
   -- A frame before the beginning: its port is counted on, nothing is stored, and all ports are looked at.
 
   pub record Counted (p x : ℕ) (t : Taken) : Type 0 where
-    -- '12: port not in step after this frame'
+    -- 12: 'port not in step after this frame'
     pub answer : t .answer ≡ cond (leb (runFrom r p + L r * 2) (x + 1)) 0 12
     pub settles : t .settles ≡ true
     pub kept : t .kept ≡ false
@@ -346,12 +346,12 @@ module _ (r : Road) (f : Fair r) where
         ∙ ap (λ (n : ℕ). inStepAt (r .kind) n) (sym e)
         ∙ heard-test r p (x + 1) q h
 
-    counted-in : stepped g s (r .h4 p x) ≡ true → Counted p x (aside g s (ranOn g s (r .h4 p x)))
-    unfolding aside
+    counted-in : stepped g s (r .h4 p x) ≡ true → Counted p x (frameDropped g s (ranOn g s (r .h4 p x)))
+    unfolding frameDropped
     counted-in e =
-        let h = heard-aside r f g p x s k b o in
+        let h = heard-dropped r f g p x s k b o in
         record {
-          answer = rw (sym (in-step-now (aside g s (ranOn g s (r .h4 p x)) .step) refl h) ∙ e) refl;
+          answer = rw (sym (in-step-now (frameDropped g s (ranOn g s (r .h4 p x)) .step) refl h) ∙ e) refl;
           settles = rw unbegun refl;
           kept = refl;
           heard = h;
@@ -372,7 +372,7 @@ module _ (r : Road) (f : Fair r) where
     counted = go (stepped g s (r .h4 p x)) refl
       where
         go : (c : Bool) → stepped g s (r .h4 p x) ≡ c → Counted p x (takenOf g s false (r .h4 p x))
-        go true e = rw (taken-aside g s false (r .h4 p x) refl e (rw unbegun refl)) (counted-in e)
+        go true e = rw (taken-dropped g s false (r .h4 p x) refl e (rw unbegun refl)) (counted-in e)
         go false e = rw (taken-counts g s false (r .h4 p x) refl e) (counted-out e)
 
   module _ (m : Moment) (coming : ℕ → ℕ) (o : Before r m coming) (p : ℕ) (b : p < r .ports) where

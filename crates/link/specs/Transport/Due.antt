@@ -9,7 +9,7 @@ use borrow.Author.Tests.{le-leb, leb-false, leb-true, lt-leb}
 use Rattle.counting.specs.Laws.Tests.{every-all, every-at, every-ext, every-fails, every-lacks}
 use Rattle.counting.specs.Words.{every}
 use Rattle.ground.specs.Truth.{or-right}
-use Rattle.phases.specs.Due.{brought, lets, silent}
+use Rattle.phases.specs.Due.{brought, owesNothing, silent}
 use Rattle.rows.specs.Group.{groupAt}
 use Rattle.rows.specs.Packets.{marksAt}
 use Rattle.rows.specs.Step.{stepAt}
@@ -49,15 +49,15 @@ module _ (r : Road) (fair : Fair r) (m : Moment) (coming : ℕ → ℕ) (i : ℕ
   pub first-all : AllCome r coming i → (p : ℕ) → p < r .ports → firstMark (marksAt (m .rows) p) ≡ true
   first-all all p b = first-come p b ∙ le-leb (i * L r + L r) (coming p) (all p b)
 
-  lets-is : (p : ℕ) → p < r .ports → lets (groupAt (m .rows)) (stepAt (m .rows) p) (marksAt (m .rows) p) ≡ leb (i * L r + L r) (coming p)
-  unfolding lets
-  lets-is p b =
+  owes-is : (p : ℕ) → p < r .ports → owesNothing (groupAt (m .rows)) (stepAt (m .rows) p) (marksAt (m .rows) p) ≡ leb (i * L r + L r) (coming p)
+  unfolding owesNothing
+  owes-is p b =
       rw (all-read p b, o .later p b, first-come p b, and-false (flagOf (stepAt (m .rows) p .joined)), or-false (leb (i * L r + L r) (coming p))) refl
 
   brought-is : brought (groupAt (m .rows)) (m .rows) (r .ports) ≡ every (r .ports) (λ p. leb (i * L r + L r) (coming p))
   unfolding brought
   brought-is =
-      every-ext (r .ports) (λ p. lets (groupAt (m .rows)) (stepAt (m .rows) p) (marksAt (m .rows) p)) (λ p. leb (i * L r + L r) (coming p)) lets-is
+      every-ext (r .ports) (λ p. owesNothing (groupAt (m .rows)) (stepAt (m .rows) p) (marksAt (m .rows) p)) (λ p. leb (i * L r + L r) (coming p)) owes-is
 
   pub brought-not : Owes r coming i → brought (groupAt (m .rows)) (m .rows) (r .ports) ≡ false
   brought-not w =

@@ -20,10 +20,10 @@ use Rattle.phases.specs.Due.{brought}
 use Rattle.phases.specs.Laws.Lengths.{length-passed}
 use Rattle.phases.specs.Passing.{passedOf}
 use Rattle.phases.specs.Sizes.{storeFor}
-use Rattle.receiver.specs.Fetch.{dueIn, fetchAnswer, fetchOut, fetchRecord, fetchRows, fits, givenOut, givenReport, givenRows, recordOf}
+use Rattle.receiver.specs.Fetch.{dueIn, fetchAnswer, fetchOut, fetchRecord, fetchRows, fits, outIfDue, reportIfDue, rowsIfDue, recordOf}
 use Rattle.receiver.specs.Laws.Sizes.{size-is}
 use Rattle.receiver.specs.Lengths.{fetchFits, outputFor, rowsFit}
-use Rattle.receiver.specs.Report.{framesInto, noSeen, outputBy, outputOf, reportBy, reportOf, reportedOf, rulingEpoch, seenAll, seenOf, toldOf}
+use Rattle.receiver.specs.Report.{framesInto, noSeen, outputBy, outputOf, reportBy, reportOf, reportedOf, rulingEpoch, seenAll, seenOf, statesWorkedOut}
 use Rattle.rows.specs.declared.group.Group.{Group}
 use Rattle.rows.specs.Group.{groupAt}
 use Rattle.rows.specs.Rows.{rowsFor}
@@ -102,7 +102,7 @@ module _ (r : Road) (fair : Fair r) where
 
     -- none due
     mark-none : dueIn (groupAt (m .rows)) (r .ports) (m .rows) ≡ false → getD (recordAt r m) 0 0 ≡ 0
-    unfolding fetchRecord givenReport recordOf
+    unfolding fetchRecord reportIfDue recordOf
     mark-none e = rw (fits-now, ports-are r fair m coming l, e) refl
 
   some-due : ltb 0 (r .ports) ≡ true
@@ -158,15 +158,15 @@ module _ (r : Road) (fair : Fair r) where
       order = orderOf seen (r .ports)
 
       record-is : recordAt r m ≡ recordOf (reportBy g mark order)
-      unfolding fetchRecord givenReport reportOf
+      unfolding fetchRecord reportIfDue reportOf
       record-is = rw (fits-now m coming lined, ports-are r fair m coming lined, due-now, seen-is, size-is (r .ports) few) refl
 
       out-is : fetchOut (m .rows) (m .store) (outOf m coming lined) (replicate 8 0) ≡ outputBy g mark order (m .store) (outOf m coming lined)
-      unfolding fetchOut givenOut outputOf
+      unfolding fetchOut outIfDue outputOf
       out-is = rw (fits-now m coming lined, ports-are r fair m coming lined, due-now, seen-is, size-is (r .ports) few) refl
 
       rows-are : fetchRows (m .rows) (m .store) (outOf m coming lined) (replicate 8 0) ≡ reportedOf g (m .store) (r .ports) (m .rows)
-      unfolding fetchRows givenRows
+      unfolding fetchRows rowsIfDue
       rows-are = rw (fits-now m coming lined, ports-are r fair m coming lined, due-now) refl
 
       mark-told : getD (recordAt r m) 0 0 ≡ mark
@@ -234,7 +234,7 @@ module _ (r : Road) (fair : Fair r) where
       abbrev mid : Moment
       mid = record { rows = passedOf g (m .store) (r .ports) (m .rows); store = m .store; answers = m .answers; told = m .told }
 
-      rows-now : fetched r m .rows ≡ toldOf (groupAt (mid .rows)) (r .ports) (mid .rows)
+      rows-now : fetched r m .rows ≡ statesWorkedOut (groupAt (mid .rows)) (r .ports) (mid .rows)
       unfolding fetched reportedOf
       rows-now = rows-are
 

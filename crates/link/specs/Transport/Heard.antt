@@ -11,7 +11,7 @@ use Rattle.packet.specs.Kinds.{epochsIn}
 use Rattle.packet.specs.Theorems.Tags.{tagOf}
 use Rattle.rows.specs.declared.group.Group.{Group}
 use Rattle.rows.specs.declared.step.Step.{Step}
-use Rattle.step.specs.Arrival.{advanced, aside, countsOn, joinedAt, joining, keeps, lost, runOf}
+use Rattle.step.specs.Arrival.{advanced, frameDropped, countsOn, joinedAt, joining, keeps, lost, runOf}
 use Rattle.step.specs.declared.run.Run.{Run}
 use Rattle.step.specs.Laws.Arrival.{ranOn}
 use Rattle.step.specs.Laws.Run.{run-goes, run-in-step, run-next, run-short, run-starts, runAt, start-from, startFrom}
@@ -121,9 +121,9 @@ module _ (r : Road) where
       unfolding run
       run-is = rw k refl
 
-      pub heard-aside : Heard r p (x + 1) (aside g s (ranOn g s (r .h4 p x)) .step)
-      unfolding aside run
-      heard-aside = heard-on p x s (advanced s run) b o refl refl run-is
+      pub heard-dropped : Heard r p (x + 1) (frameDropped g s (ranOn g s (r .h4 p x)) .step)
+      unfolding frameDropped run
+      heard-dropped = heard-on p x s (advanced s run) b o refl refl run-is
 
       pub heard-counts : Heard r p (x + 1) (countsOn g s (ranOn g s (r .h4 p x)) .step)
       unfolding countsOn run

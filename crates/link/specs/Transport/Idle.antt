@@ -7,7 +7,7 @@ use lib.Dec.{eqb, ltb}
 use lib.ListN.{getD, length, replicate}
 use borrow.Author.Tests.{eq-eqb}
 use Rattle.phases.specs.Sizes.{portsIn}
-use Rattle.receiver.specs.Fetch.{dueIn, fetchRecord, fits, givenReport, recordOf}
+use Rattle.receiver.specs.Fetch.{dueIn, fetchRecord, fits, reportIfDue, recordOf}
 use Rattle.rows.specs.declared.group.Group.{Group}
 use Rattle.rows.specs.Group.{groupAt}
 use Rattle.link.specs.Road.{Road}
@@ -23,10 +23,10 @@ unfolding dueIn
 not-gathered g n s e = rw (eq-eqb (g .gathered) 0 e, and-false (ltb 0 n && not (eqb (g .begun) 0))) refl
 
 none-due : (s : List (List ℕ)) (store out : List ℕ) → dueIn (groupAt s) (portsIn (groupAt s)) s ≡ false → getD (fetchRecord s store out (replicate 8 0)) 0 0 ≡ 0
-unfolding fetchRecord givenReport recordOf
+unfolding fetchRecord reportIfDue recordOf
 none-due s store out e = go (fits s store out (replicate 8 0))
   where
-    go : (b : Bool) → getD (cond b (recordOf (givenReport (groupAt s) (portsIn (groupAt s)) s)) (replicate 8 0)) 0 0 ≡ 0
+    go : (b : Bool) → getD (cond b (recordOf (reportIfDue (groupAt s) (portsIn (groupAt s)) s)) (replicate 8 0)) 0 0 ≡ 0
     go true = rw e refl
     go false = refl
 

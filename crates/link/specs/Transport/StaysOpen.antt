@@ -6,7 +6,7 @@ use native.Mathlib.Omega.{arith}
 use lib.ListN.{getD, length}
 use Rattle.judge.specs.Seen.{sizeOf}
 use Rattle.receiver.specs.Laws.Told.{length-told, told-group, told-marks, told-of-port, told-step, withAck}
-use Rattle.receiver.specs.Report.{replyPorts, toldOf}
+use Rattle.receiver.specs.Report.{replyPorts, statesWorkedOut}
 use Rattle.reply.specs.Telling.{ackOf}
 use Rattle.rows.specs.declared.group.Group.{Group}
 use Rattle.rows.specs.Group.{groupAt}
@@ -62,7 +62,7 @@ module _ (r : Road) where
             (stands-same (groupAt (m .rows)) (groupAt (m′ .rows)) p _ (r .bytes p x) (r .h4 p x) (m .store) (a .payloads) (a .windows) (a .origins) (o .stands p x b low high));
       }
 
-module _ (r : Road) (m m′ : Moment) (long : rowsFor (r .ports) ≤ length (m .rows)) (is : m′ .rows ≡ toldOf (groupAt (m .rows)) (r .ports) (m .rows)) (stores : m′ .store ≡ m .store) where
+module _ (r : Road) (m m′ : Moment) (long : rowsFor (r .ports) ≤ length (m .rows)) (is : m′ .rows ≡ statesWorkedOut (groupAt (m .rows)) (r .ports) (m .rows)) (stores : m′ .store ≡ m .store) where
   abbrev g : Group
   g = groupAt (m .rows)
 

@@ -9,7 +9,7 @@ use lib.ListN.{length, replicate}
 use Rattle.counting.specs.Laws.Tests.{One, every-ext, every-fails, some-one, some-passes}
 use Rattle.ground.specs.Truth.{and-left, and-right, and-true, clash, cond-by}
 use Rattle.phases.specs.Beginning.{begins}
-use Rattle.phases.specs.Due.{brought, lets, silent}
+use Rattle.phases.specs.Due.{brought, owesNothing, silent}
 use Rattle.phases.specs.Laws.Cleared.{begun-group, begun-marks-at, begun-step-at, stopped-group}
 use Rattle.phases.specs.Laws.Lengths.{length-begin, length-stop}
 use Rattle.phases.specs.Laws.Passed.{passed-group, passed-step-at}
@@ -68,8 +68,8 @@ begun-heard g n s h e =
     every-fails n (λ k. not (readable (groupAt (begunOf g n s)) (stepAt (begunOf g n s) k))) i (o .below) (ap not is-readable)
 
 -- and it owes its sixteen frames, so nothing is gathered in the call that begins
-owes : (g : Group) (q : Step) (oldest origin ack : ℕ) → inStep g q ≡ true → lets (groupTo g 1 0 oldest origin ack) (clearedStep q (inStep g q)) (replicate 16 0) ≡ false
-unfolding lets clearedStep firstMark
+owes : (g : Group) (q : Step) (oldest origin ack : ℕ) → inStep g q ≡ true → owesNothing (groupTo g 1 0 oldest origin ack) (clearedStep q (inStep g q)) (replicate 16 0) ≡ false
+unfolding owesNothing clearedStep firstMark
 owes g q oldest origin ack t = rw (begun-readable g q oldest origin ack t) refl
 
 pub begun-owes : (g : Group) (n : ℕ) (s : List (List ℕ)) → rowsFor n ≤ length s → begins g s n ≡ true → brought (groupAt (begunOf g n s)) (begunOf g n s) n ≡ false
@@ -78,9 +78,9 @@ begun-owes g n s h e =
     let o = sound g s n e in
     let i = o .port in
     let t = begunOf g n s in
-    let owed : lets (groupAt t) (stepAt t i) (marksAt t i) ≡ false =
+    let owed : owesNothing (groupAt t) (stepAt t i) (marksAt t i) ≡ false =
     rw (begun-group g n s (omega arith), begun-step-at g n s i (o .below) h, begun-marks-at g n s i (o .below) h) (owes g (stepAt s i) _ _ _ (o .stepped)) in
-    every-fails n (λ k. lets (groupAt t) (stepAt t k) (marksAt t k)) i (o .below) owed
+    every-fails n (λ k. owesNothing (groupAt t) (stepAt t k) (marksAt t k)) i (o .below) owed
 
 record Begun (n : ℕ) (s : List (List ℕ)) : Type 0 where
   heard : begunAt s ≡ true → silent (groupAt s) s n ≡ false

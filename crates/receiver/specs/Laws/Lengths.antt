@@ -10,7 +10,7 @@ use Rattle.payload.specs.declared.answer.Answer.the-variants.{Done, Range, Leng
 use Rattle.payload.specs.Answers.{underDone}
 use Rattle.payload.specs.Joining.{fromAnswer, startedByte}
 use Rattle.payload.specs.Order.{groupByte}
-use Rattle.receiver.specs.Report.{frameInto, framesInto, startsOf, toldPort, toldPorts}
+use Rattle.receiver.specs.Report.{frameInto, framesInto, startsOf, statePut, statesPut}
 use Rattle.receiver.specs.Starting.{freshPort, freshPorts}
 use Rattle.rows.specs.declared.group.Group.{Group}
 use Rattle.rows.specs.Laws.Lengths.{length-put-marks, length-put-member, length-put-packets, length-put-step}
@@ -24,14 +24,14 @@ unfolding freshPorts
 length-fresh-ports kind zero s = refl
 length-fresh-ports kind (suc n) s = length-fresh-port kind n (freshPorts kind n s) ∙ length-fresh-ports kind n s
 
-pub length-told-port : (states : List ℕ) (i : ℕ) (s : List (List ℕ)) → length (toldPort states i s) ≡ length s
-unfolding toldPort
+pub length-told-port : (states : List ℕ) (i : ℕ) (s : List (List ℕ)) → length (statePut states i s) ≡ length s
+unfolding statePut
 length-told-port states i s = length-put-member s i _
 
-pub length-told-ports : (states : List ℕ) (n : ℕ) (s : List (List ℕ)) → length (toldPorts states n s) ≡ length s
-unfolding toldPorts
+pub length-told-ports : (states : List ℕ) (n : ℕ) (s : List (List ℕ)) → length (statesPut states n s) ≡ length s
+unfolding statesPut
 length-told-ports states zero s = refl
-length-told-ports states (suc n) s = length-told-port states n (toldPorts states n s) ∙ length-told-ports states n s
+length-told-ports states (suc n) s = length-told-port states n (statesPut states n s) ∙ length-told-ports states n s
 
 pub length-frame-into : (g : Group) (o : Order) (store : List ℕ) (k : ℕ) (out : List ℕ) → length (frameInto g o store k out) ≡ length out
 unfolding frameInto

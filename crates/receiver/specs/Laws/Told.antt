@@ -14,7 +14,7 @@ use Rattle.judge.specs.Seen.{sizeOf}
 use Rattle.phases.specs.Passing.{groupTo}
 use Rattle.receiver.specs.Laws.Lengths.{length-told-ports}
 use Rattle.receiver.specs.Laws.Sizes.{size-is}
-use Rattle.receiver.specs.Report.{noPort, replyPort, replyPorts, toldBy, toldOf, toldPort, toldPorts}
+use Rattle.receiver.specs.Report.{noPort, replyPort, replyPorts, withState, statesWorkedOut, statePut, statesPut}
 use Rattle.reply.specs.Choosing.{statesOf}
 use Rattle.reply.specs.declared.members.Port.{Port as ReplyPort}
 use Rattle.reply.specs.Members as R
@@ -36,27 +36,27 @@ withAck g ack = groupTo g (g .begun) (g .gathered) (g .oldest) (g .origin) ack
 
 -- a port with its state worked out
 abbrev pub toldOn : Port → ℕ → Port
-toldOn p state = withMember p (toldBy (p .member) state)
+toldOn p state = withMember p (withState (p .member) state)
 
 module _ (states : List ℕ) where
-  told-one : (i : ℕ) (s : List (List ℕ)) (n : ℕ) → i < n → rowsFor n ≤ length s → portAt (toldPort states i s) i ≡ toldOn (portAt s i) (getD states i 0)
-  unfolding toldPort
-  told-one i s n b h = port-put-member s i (toldBy (memberAt s i) (getD states i 0)) n b h ∙ rw (port-member s i) refl
+  told-one : (i : ℕ) (s : List (List ℕ)) (n : ℕ) → i < n → rowsFor n ≤ length s → portAt (statePut states i s) i ≡ toldOn (portAt s i) (getD states i 0)
+  unfolding statePut
+  told-one i s n b h = port-put-member s i (withState (memberAt s i) (getD states i 0)) n b h ∙ rw (port-member s i) refl
 
-  told-one-other : (i : ℕ) (s : List (List ℕ)) (j : ℕ) → j ≢ i → portAt (toldPort states i s) j ≡ portAt s j
-  unfolding toldPort
+  told-one-other : (i : ℕ) (s : List (List ℕ)) (j : ℕ) → j ≢ i → portAt (statePut states i s) j ≡ portAt s j
+  unfolding statePut
   told-one-other i s j d = port-put-member-other s i _ j d
 
-  told-beyond : (n : ℕ) (s : List (List ℕ)) (i : ℕ) → n ≤ i → portAt (toldPorts states n s) i ≡ portAt s i
-  unfolding toldPorts
+  told-beyond : (n : ℕ) (s : List (List ℕ)) (i : ℕ) → n ≤ i → portAt (statesPut states n s) i ≡ portAt s i
+  unfolding statesPut
   told-beyond zero s i h = refl
-  told-beyond (suc n) s i h = told-one-other n (toldPorts states n s) i (omega arith) ∙ told-beyond n s i (omega arith)
+  told-beyond (suc n) s i h = told-one-other n (statesPut states n s) i (omega arith) ∙ told-beyond n s i (omega arith)
 
-  told-port : (n : ℕ) (s : List (List ℕ)) (i : ℕ) → i < n → rowsFor n ≤ length s → portAt (toldPorts states n s) i ≡ toldOn (portAt s i) (getD states i 0)
-  unfolding toldPorts
+  told-port : (n : ℕ) (s : List (List ℕ)) (i : ℕ) → i < n → rowsFor n ≤ length s → portAt (statesPut states n s) i ≡ toldOn (portAt s i) (getD states i 0)
+  unfolding statesPut
   told-port zero s i b h = absurd (not-suc-le-zero b)
   told-port (suc n) s i b h =
-      let t = toldPorts states n s in
+      let t = statesPut states n s in
       let l : length t ≡ length s = length-told-ports states n s in
       let rest = told-port n s i in
       ⊎-elim
@@ -69,27 +69,27 @@ module _ (g : Group) (n : ℕ) (s : List (List ℕ)) where
   abbrev pub statesIn : List ℕ
   statesIn = statesOf (replyPorts g s n) (sizeOf n)
 
-  pub length-told : length (toldOf g n s) ≡ length s
-  unfolding toldOf
+  pub length-told : length (statesWorkedOut g n s) ≡ length s
+  unfolding statesWorkedOut
   length-told = length-put-group _ _ ∙ length-told-ports statesIn n s
 
-  pub told-of-port : (i : ℕ) → i < n → rowsFor n ≤ length s → portAt (toldOf g n s) i ≡ toldOn (portAt s i) (getD statesIn i 0)
-  unfolding toldOf
-  told-of-port i b h = port-put-group (toldPorts statesIn n s) _ i ∙ told-port statesIn n s i b h
+  pub told-of-port : (i : ℕ) → i < n → rowsFor n ≤ length s → portAt (statesWorkedOut g n s) i ≡ toldOn (portAt s i) (getD statesIn i 0)
+  unfolding statesWorkedOut
+  told-of-port i b h = port-put-group (statesPut statesIn n s) _ i ∙ told-port statesIn n s i b h
 
-  pub told-step : (i : ℕ) → i < n → rowsFor n ≤ length s → stepAt (toldOf g n s) i ≡ stepAt s i
+  pub told-step : (i : ℕ) → i < n → rowsFor n ≤ length s → stepAt (statesWorkedOut g n s) i ≡ stepAt s i
   unfolding portAt
   told-step i b h = ap (λ (p : Port). p .step) (told-of-port i b h)
 
-  pub told-marks : (i : ℕ) → i < n → rowsFor n ≤ length s → marksAt (toldOf g n s) i ≡ marksAt s i
+  pub told-marks : (i : ℕ) → i < n → rowsFor n ≤ length s → marksAt (statesWorkedOut g n s) i ≡ marksAt s i
   unfolding portAt
   told-marks i b h = ap (λ (p : Port). p .marks) (told-of-port i b h)
 
-  pub told-group : 0 < length s → groupAt (toldOf g n s) ≡ withAck g (ackOf (replyPorts g s n) (sizeOf n) (g .«rs_ack»))
-  unfolding toldOf
+  pub told-group : 0 < length s → groupAt (statesWorkedOut g n s) ≡ withAck g (ackOf (replyPorts g s n) (sizeOf n) (g .«rs_ack»))
+  unfolding statesWorkedOut
   told-group h =
-      let l : length (toldPorts statesIn n s) ≡ length s = length-told-ports statesIn n s in
-      group-put-same (toldPorts statesIn n s) (withAck g (ackOf (replyPorts g s n) (sizeOf n) (g .«rs_ack»))) 0 (omega arith)
+      let l : length (statesPut statesIn n s) ≡ length s = length-told-ports statesIn n s in
+      group-put-same (statesPut statesIn n s) (withAck g (ackOf (replyPorts g s n) (sizeOf n) (g .«rs_ack»))) 0 (omega arith)
 
 -- the ports as their states are worked out
 pub reply-port : (g : Group) (s : List (List ℕ)) (n i : ℕ) → n ≤ 64 → i < n → R.portAt (replyPorts g s n) i ≡ replyPort g s i

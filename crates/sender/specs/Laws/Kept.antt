@@ -28,7 +28,7 @@ use Rattle.sender.specs.Laws.Removing.{lower, numbered-remove}
 use Rattle.sender.specs.Laws.Reporting.{Passes, numbered-report}
 use Rattle.sender.specs.Laws.Sizes.{size-le}
 use Rattle.sender.specs.Numbering.{numberIn, slotsIn, stateIn}
-use Rattle.sender.specs.Reports.{actedOn, comesBefore, heardIn, numberAfter, renumbered, reportOf, slotAfter, spoken, spokenTo, toldIn, turnOf, waited}
+use Rattle.sender.specs.Reports.{actedOn, comesBefore, mstApplied, numberAfter, renumbered, reportOf, slotAfter, becomes, spokenTo, numberApplied, turnOf, waited}
 use Rattle.sender.specs.Steps.{Call, run, stepOf}
 use Rattle.sender.specs.Steps.Call.{AddSlot, RemoveSlot, Report, Lapse}
 use Rattle.sender.specs.Table.{holderOf, isAdd, isMember, membersOf, sizeOf, slotAt}
@@ -153,14 +153,14 @@ passes-self s = record { member = refl; add = λ a. a }
 passes-then : (a b c : State) → Passes a b → Passes b c → Passes a c
 passes-then a b c p q = record { member = q .member ∙ p .member; add = λ x. p .add (q .add x) }
 
-passes-spoken : (f : Bool) (s : State) → Passes s (spoken f s)
-passes-spoken f Idle = record { member = refl; add = λ a. a }
-passes-spoken true Add = record { member = refl; add = λ a. a }
-passes-spoken false Add = record { member = refl; add = λ a. refl }
-passes-spoken true Active = record { member = refl; add = λ a. a }
-passes-spoken false Active = record { member = refl; add = λ a. a }
-passes-spoken true Dnu = record { member = refl; add = λ a. a }
-passes-spoken false Dnu = record { member = refl; add = λ a. a }
+passes-becomes : (f : Bool) (s : State) → Passes s (becomes f s)
+passes-becomes f Idle = record { member = refl; add = λ a. a }
+passes-becomes true Add = record { member = refl; add = λ a. a }
+passes-becomes false Add = record { member = refl; add = λ a. refl }
+passes-becomes true Active = record { member = refl; add = λ a. a }
+passes-becomes false Active = record { member = refl; add = λ a. a }
+passes-becomes true Dnu = record { member = refl; add = λ a. a }
+passes-becomes false Dnu = record { member = refl; add = λ a. a }
 
 -- the slots after some reported numbers: as many, with the numbers they had
 record Heard (slots heard : List Slot) : Type 0 where
@@ -168,13 +168,13 @@ record Heard (slots heard : List Slot) : Type 0 where
   number : (j : ℕ) → slotAt heard j .number ≡ slotAt slots j .number
   state : (j : ℕ) → Passes (slotAt slots j .state) (slotAt heard j .state)
 
-heard-spoken : (f : Bool) (found : Found) (slots heard : List Slot) → ((i : ℕ) → found ≡ At i → i < length slots) → Heard slots heard → Heard slots (spokenTo f found heard)
-heard-spoken f Nothing slots heard b o = o
-heard-spoken f (At i) slots heard b o =
+heard-becomes : (f : Bool) (found : Found) (slots heard : List Slot) → ((i : ℕ) → found ≡ At i → i < length slots) → Heard slots heard → Heard slots (spokenTo f found heard)
+heard-becomes f Nothing slots heard b o = o
+heard-becomes f (At i) slots heard b o =
     record { len = length-set heard i new ∙ o .len; number = number; state = state }
   where
     new : Slot
-    new = record { state = spoken f (slotAt heard i .state); number = slotAt heard i .number }
+    new = record { state = becomes f (slotAt heard i .state); number = slotAt heard i .number }
 
     here : slotAt (set heard i new) i ≡ new
     here = getD-set-same heard i new _ (rw (o .len) (b i refl))
@@ -188,15 +188,15 @@ heard-spoken f (At i) slots heard b o =
     state : (j : ℕ) → Passes (slotAt slots j .state) (slotAt (set heard i new) j .state)
     state j =
         ⊎-elim
-        (λ (e : j ≡ i). rw (e, here) (passes-then (slotAt slots i .state) (slotAt heard i .state) _ (o .state i) (passes-spoken f (slotAt heard i .state))))
+        (λ (e : j ≡ i). rw (e, here) (passes-then (slotAt slots i .state) (slotAt heard i .state) _ (o .state i) (passes-becomes f (slotAt heard i .state))))
         (λ (d : j ≢ i). rw (getD-set-other heard i j new _ d) (o .state j))
         (eq-or-ne j i)
 
-heard-in : (slots : List Slot) (n first mst k : ℕ) → n ≤ length slots → Heard slots (heardIn slots n first mst k)
-unfolding heardIn toldIn
+heard-in : (slots : List Slot) (n first mst k : ℕ) → n ≤ length slots → Heard slots (mstApplied slots n first mst k)
+unfolding mstApplied numberApplied
 heard-in slots n first mst zero h = record { len = refl; number = λ j. refl; state = λ j. passes-self (slotAt slots j .state) }
 heard-in slots n first mst (suc k) h =
-    heard-spoken (mstFails mst (first + k)) (holderOf slots n (first + k)) slots (heardIn slots n first mst k)
+    heard-becomes (mstFails mst (first + k)) (holderOf slots n (first + k)) slots (mstApplied slots n first mst k)
     (λ i e. let l = holder-said slots (first + k) n i e .0 in omega arith) (heard-in slots n first mst k h)
 
 -- a slot after a report
@@ -234,7 +234,7 @@ sound-acted t e mst ack o =
     n = sizeOf (t .count)
 
     is : List Slot
-    is = heardIn (t .slots) n (mstFirst (t .kind) e) mst (mstNumbers (t .kind))
+    is = mstApplied (t .slots) n (mstFirst (t .kind) e) mst (mstNumbers (t .kind))
 
     f : ℕ → Slot
     f i = slotAfter (t .slots) is n i

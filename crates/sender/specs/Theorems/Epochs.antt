@@ -13,7 +13,7 @@ use Rattle.counting.specs.Words.{count}
 use Rattle.packet.specs.declared.layout.Fields.{Fields}
 use Rattle.sender.specs.declared.board.Board.{Board}
 use Rattle.sender.specs.declared.epochs.Sender.{Sender}
-use Rattle.sender.specs.declared.epochs.SenderStep.{SenderStep}
+use Rattle.sender.specs.declared.epochs.SenderOutcome.{SenderOutcome}
 use Rattle.sender.specs.declared.table.Answer.the-variants.{Done, Field}
 use Rattle.sender.specs.declared.table.Table.{Table}
 use Rattle.sender.specs.Board.{boardOf}
@@ -37,7 +37,7 @@ pub record Shows (b : Board) (count : ℕ) : Type 0 where
 
 pub record SoundSender (s : Sender) : Type 0 where
   pub table : Sound (s .table)
-  pub going : Shows (s .going) (s .table .count)
+  pub outgoing : Shows (s .outgoing) (s .table .count)
   pub ruling : Shows (s .ruling) (s .table .count)
 
 shows : (t : Table) → Sound t → Shows (boardOf t) (t .count)
@@ -48,14 +48,14 @@ shows-still b c d e o = record { source = o .source; sound = o .sound; is = o .i
 
 fresh-sound : (t : Table) (e : ℕ) → Sound t → SoundSender (freshSender t e)
 unfolding freshSender
-fresh-sound t e o = record { table = o; going = shows t o; ruling = shows t o }
+fresh-sound t e o = record { table = o; outgoing = shows t o; ruling = shows t o }
 
 started-sound : (s : Sender) (gid mst ack : ℕ) → SoundSender s → SoundSender (startEpochOf s gid mst ack .sender)
 unfolding startEpochOf startedSender
 started-sound s gid mst ack o = go (ltb gid 2 && ltb ack 2)
   where
-    go : (b : Bool) → SoundSender (cond {A = SenderStep} b (record { sender = startedSender s gid mst ack; answer = Done }) (record { sender = s; answer = Field }) .sender)
-    go true = record { table = o .table; going = shows (s .table) (o .table); ruling = o .going }
+    go : (b : Bool) → SoundSender (cond {A = SenderOutcome} b (record { sender = startedSender s gid mst ack; answer = Done }) (record { sender = s; answer = Field }) .sender)
+    go true = record { table = o .table; outgoing = shows (s .table) (o .table); ruling = o .outgoing }
     go false = o
 
 step-sound : (s : Sender) (c : SenderCall) → SoundSender s → SoundSender (senderStepOf s c .sender)
@@ -63,7 +63,7 @@ step-sound s (OnTable c) o =
     let still = group-step (s .table) c .count in
     record {
       table = sound-step (s .table) c (o .table);
-      going = shows-still (s .going) (s .table .count) _ still (o .going);
+      outgoing = shows-still (s .outgoing) (s .table .count) _ still (o .outgoing);
       ruling = shows-still (s .ruling) (s .table .count) _ still (o .ruling);
     }
 step-sound s (StartEpoch gid mst ack) o = started-sound s gid mst ack o
@@ -72,7 +72,7 @@ run-sound : (s : Sender) (cs : List SenderCall) → SoundSender s → SoundSende
 run-sound s [] o = o
 run-sound s (c ∷ cs) o = run-sound (senderStepOf s c .sender) cs (step-sound s c o)
 
-begins : (kind count e : ℕ) → beginOf kind count e .sender .going ≡ boardOf (startOf kind count .table)
+begins : (kind count e : ℕ) → beginOf kind count e .sender .outgoing ≡ boardOf (startOf kind count .table)
 unfolding beginOf freshSender
 begins kind count e = refl
 
@@ -87,9 +87,9 @@ sender-sound kind count e cs = run-sound (beginOf kind count e .sender) cs (fres
 -- Demand 2 of the table, and of the two tables that an epoch's start keeps: those whose boards go out now and went out before
 pub record Demand2Kept (s : Sender) : Type 0 where
   pub table : Demand2 (s .table)
-  pub going-of : Table
-  pub going-is : s .going ≡ boardOf going-of
-  pub going : Demand2 going-of
+  pub outgoing-of : Table
+  pub outgoing-is : s .outgoing ≡ boardOf outgoing-of
+  pub outgoing : Demand2 outgoing-of
   pub ruling-of : Table
   pub ruling-is : s .ruling ≡ boardOf ruling-of
   pub ruling : Demand2 ruling-of
@@ -100,9 +100,9 @@ demand2-kept kind count e cs =
     let o = sender-sound kind count e cs in
     record {
       table = sound-demand2 (s .table) (o .table);
-      going-of = o .going .source;
-      going-is = o .going .is;
-      going = sound-demand2 (o .going .source) (o .going .sound);
+      outgoing-of = o .outgoing .source;
+      outgoing-is = o .outgoing .is;
+      outgoing = sound-demand2 (o .outgoing .source) (o .outgoing .sound);
       ruling-of = o .ruling .source;
       ruling-is = o .ruling .is;
       ruling = sound-demand2 (o .ruling .source) (o .ruling .sound);
@@ -158,20 +158,20 @@ unfolding packetFields
 one-gid s cs i j = ap (λ (f : Fields). f .gid) (fixed s cs .fields i)
 
 -- 'The packets of one epoch rule the payload of the next epoch'
-pub rules-next : (s : Sender) (gid mst ack : ℕ) → (ltb gid 2 && ltb ack 2) ≡ true → startEpochOf s gid mst ack .sender .ruling ≡ s .going
+pub rules-next : (s : Sender) (gid mst ack : ℕ) → (ltb gid 2 && ltb ack 2) ≡ true → startEpochOf s gid mst ack .sender .ruling ≡ s .outgoing
 unfolding startEpochOf startedSender
-rules-next s gid mst ack h = ap (λ (b : Bool). cond {A = SenderStep} b (record { sender = startedSender s gid mst ack; answer = Done }) (record { sender = s; answer = Field }) .sender .ruling) h
+rules-next s gid mst ack h = ap (λ (b : Bool). cond {A = SenderOutcome} b (record { sender = startedSender s gid mst ack; answer = Done }) (record { sender = s; answer = Field }) .sender .ruling) h
 
-going-stays : (s : Sender) (cs : List Call) → senderRun s (onTable cs) .going ≡ s .going
-going-stays s [] = refl
-going-stays s (c ∷ cs) = going-stays (senderStepOf s (OnTable c) .sender) cs
+outgoing-stays : (s : Sender) (cs : List Call) → senderRun s (onTable cs) .outgoing ≡ s .outgoing
+outgoing-stays s [] = refl
+outgoing-stays s (c ∷ cs) = outgoing-stays (senderStepOf s (OnTable c) .sender) cs
 
 -- 'a sender's first epoch has X = 0'
 pub first-x : (kind count e : ℕ) (cs : List Call) (gid mst ack : ℕ) → (ltb gid 2 && ltb ack 2) ≡ true
     → xOf (startEpochOf (senderAfter kind count e (onTable cs)) gid mst ack .sender) ≡ 0
 first-x kind c e cs gid mst ack h =
     ap (λ (b : Board). carriersIn (b .rows) (sizeOf (b .count)))
-    (rules-next (senderAfter kind c e (onTable cs)) gid mst ack h ∙ going-stays (beginOf kind c e .sender) cs ∙ begins kind c e)
+    (rules-next (senderAfter kind c e (onTable cs)) gid mst ack h ∙ outgoing-stays (beginOf kind c e .sender) cs ∙ begins kind c e)
     ∙ x-active (startOf kind c .table)
     ∙ count-none (slotsIn (startOf kind c .table)) _ (λ i b. ap isActive (start-idle kind c i b))
 

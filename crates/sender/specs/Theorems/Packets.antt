@@ -15,7 +15,7 @@ use Rattle.packet.specs.Words.{FIXED, assigned}
 use Rattle.packet.specs.Writing.{fitting, writeAnswer}
 use Rattle.sender.specs.declared.board.Row.{Row}
 use Rattle.sender.specs.declared.epochs.Sender.{Sender}
-use Rattle.sender.specs.declared.epochs.SenderStep.{SenderStep}
+use Rattle.sender.specs.declared.epochs.SenderOutcome.{SenderOutcome}
 use Rattle.sender.specs.declared.table.Answer.the-variants.{Done, Field}
 use Rattle.sender.specs.declared.table.State.{State}
 use Rattle.sender.specs.declared.table.State.the-variants.{Idle, Add, Active, Dnu}
@@ -64,7 +64,7 @@ unfolding startEpochOf startedSender
 fit-started s gid mst ack h o = go (ltb gid 2 && ltb ack 2) refl
   where
     go : (b : Bool) → (ltb gid 2 && ltb ack 2) ≡ b
-        → Fit (cond {A = SenderStep} b (record { sender = startedSender s gid mst ack; answer = Done }) (record { sender = s; answer = Field }) .sender)
+        → Fit (cond {A = SenderOutcome} b (record { sender = startedSender s gid mst ack; answer = Done }) (record { sender = s; answer = Field }) .sender)
     go true e =
         record {
           epoch = fit-epoch s o;
@@ -114,19 +114,19 @@ number-fits t o i h = go (isMember (stateIn t i)) refl
 fields-fit : (s : Sender) → Fit s → SoundSender s → (i : ℕ) → i < slotsIn (s .table) → fitting (packetFields s i) ≡ true
 unfolding fitting packetFields
 fields-fit s o w i h =
-    rw (lt-ltb (s .epoch) 256 (o .epoch), lt-ltb (s .mst) 256 (o .mst), lt-ltb (rowAt (s .going .rows) i .number) 256 number, lt-ltb (s .gid) 2 (o .gid), lt-ltb (s .«rs_ack») 2 (o .ack)) word
+    rw (lt-ltb (s .epoch) 256 (o .epoch), lt-ltb (s .mst) 256 (o .mst), lt-ltb (rowAt (s .outgoing .rows) i .number) 256 number, lt-ltb (s .gid) 2 (o .gid), lt-ltb (s .«rs_ack») 2 (o .ack)) word
   where
     t : Table
-    t = w .going .source
+    t = w .outgoing .source
 
     below : i < slotsIn t
-    below = rw (w .going .slots) h
+    below = rw (w .outgoing .slots) h
 
-    number : rowAt (s .going .rows) i .number < 256
-    number = rw (w .going .is, row-number t i below) (number-fits t (w .going .sound) i below)
+    number : rowAt (s .outgoing .rows) i .number < 256
+    number = rw (w .outgoing .is, row-number t i below) (number-fits t (w .outgoing .sound) i below)
 
-    word : (not (eqb (rowAt (s .going .rows) i .word .0) FIXED) && assigned (rowAt (s .going .rows) i .word)) ≡ true
-    word = rw (w .going .is) (row-fits t i below)
+    word : (not (eqb (rowAt (s .outgoing .rows) i .word .0) FIXED) && assigned (rowAt (s .outgoing .rows) i .word)) ≡ true
+    word = rw (w .outgoing .is) (row-fits t i below)
 
 all-right : (s : Sender) (i : ℕ) (h4 : List ℕ) → i < slotsIn (s .table) → length h4 ≡ 16 → s .begun ≡ true → fitting (packetFields s i) ≡ true → packetAnswer s i h4 ≡ Done
 unfolding packetAnswer writeAnswer frames

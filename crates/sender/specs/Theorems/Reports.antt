@@ -4,11 +4,11 @@ use mathlib.Core.Bool.{Bool, true, false, true≢false, false≢true}
 use mathlib.Core.List.{List, [], _∷_, _++_}
 use Prim.Native.Nat.{ℕ}
 use Rattle.packet.specs.Kinds.{idleNumber, mstFails, mstFirst, mstNumbers}
-use Rattle.sender.specs.declared.table.Step.{Step}
+use Rattle.sender.specs.declared.table.Outcome.{Outcome}
 use Rattle.sender.specs.declared.table.Table.{Table}
 use Rattle.sender.specs.Commands.{addOf, addedTo, freshOf, idleSlot, lapseOf, startOf}
 use Rattle.sender.specs.Numbering.{stateIn}
-use Rattle.sender.specs.Reports.{actedOn, comesBefore, heardIn, numberAfter, opensWait, renumbered, reportOf, slotAfter, toldIn, turnOf, waited}
+use Rattle.sender.specs.Reports.{actedOn, comesBefore, mstApplied, numberAfter, opensWait, renumbered, reportOf, slotAfter, numberApplied, turnOf, waited}
 use Rattle.sender.specs.Shown.{after}
 use Rattle.sender.specs.Steps.{Call, stepOf}
 use Rattle.sender.specs.Steps.Call.{AddSlot, Report, Lapse}
@@ -30,13 +30,13 @@ acts :
     × (carries (stepOf (after 1 asked) (Report 0 0x00 0) .table) ≡ true)
     × (carries (after 1 answered) ≡ true)
     × (carries (stepOf (after 1 answered) (Report 0 0x80 0) .table) ≡ false)
-unfolding startOf freshOf idleSlot idleNumber addOf addedTo lapseOf reportOf waited actedOn heardIn toldIn holderOf renumbered slotAfter numberAfter comesBefore turnOf opensWait sizeOf membersOf mstFails mstFirst mstNumbers
+unfolding startOf freshOf idleSlot idleNumber addOf addedTo lapseOf reportOf waited actedOn mstApplied numberApplied holderOf renumbered slotAfter numberAfter comesBefore turnOf opensWait sizeOf membersOf mstFails mstFirst mstNumbers
 acts = (refl, refl, refl, refl)
 
 -- any sender that meets the contracts
-module _ (step : Table → Call → Step) (meets : (t : Table) (c : Call) → step t c ≡ stepOf t c) where
+module _ (step : Table → Call → Outcome) (meets : (t : Table) (c : Call) → step t c ≡ stepOf t c) where
   changes : (t : Table) (c : Call) → step t c .table ≡ t → carries (stepOf t c .table) ≡ carries t
-  changes t c same = ap (λ (s : Step). carries (s .table)) (sym (meets t c)) ∙ ap carries same
+  changes t c same = ap (λ (s : Outcome). carries (s .table)) (sym (meets t c)) ∙ ap carries same
 
   pub does-nothing : ((t : Table) (e mst ack : ℕ) → step t (Report e mst ack) .table ≡ t) → ⊥
   does-nothing idle = true≢false (sym (acts .1) ∙ changes (after 1 asked) (Report 0 0x00 0) (idle (after 1 asked) 0 0x00 0) ∙ acts .0)

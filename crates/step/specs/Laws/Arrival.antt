@@ -10,7 +10,7 @@ use Rattle.rows.specs.declared.group.Group.{Group}
 use Rattle.rows.specs.declared.step.Step.{Step}
 use Rattle.step.specs.declared.arrival.Taken.{Taken}
 use Rattle.step.specs.declared.run.Run.{Run}
-use Rattle.step.specs.Arrival.{arrives, aside, byStart, byWindow, countsOn, distanceIn, flagged, flagOf, joining, keeps, outside, runOf, takenOf}
+use Rattle.step.specs.Arrival.{arrives, frameDropped, byStart, byWindow, countsOn, distanceIn, flagged, flagOf, joining, keeps, outside, runOf, takenOf}
 use Rattle.step.specs.Run.{inStepAt, runOn}
 
 -- a port's run after a frame that is not flagged
@@ -36,9 +36,9 @@ module _ (g : Group) (s : Step) (flag : Bool) (h : ℕ) where
   taken-counts f e = rw (f, e) refl
 
   -- in step before the beginning
-  pub taken-aside : flag ≡ false → stepped g s h ≡ true → flagOf (g .begun) ≡ false → takenOf g s flag h ≡ aside g s (ranOn g s h)
+  pub taken-dropped : flag ≡ false → stepped g s h ≡ true → flagOf (g .begun) ≡ false → takenOf g s flag h ≡ frameDropped g s (ranOn g s h)
   unfolding takenOf arrives
-  taken-aside f e b = rw (f, e, b) refl
+  taken-dropped f e b = rw (f, e, b) refl
 
   -- joined, and in the window
   pub taken-keeps : flag ≡ false → stepped g s h ≡ true → flagOf (g .begun) ≡ true → flagOf (s .joined) ≡ true → inWindow g s ≡ true → takenOf g s flag h ≡ keeps g s (ranOn g s h) (distanceIn g (s .next))
@@ -56,7 +56,7 @@ module _ (g : Group) (s : Step) (flag : Bool) (h : ℕ) where
   taken-joins f e b j t w = rw (f, e, b, j, t, w) refl
 
   -- not joined, at any other frame
-  pub taken-waits : flag ≡ false → stepped g s h ≡ true → flagOf (g .begun) ≡ true → flagOf (s .joined) ≡ false → (startsEpoch (g .kind) (s .next) && inWindow g s) ≡ false → takenOf g s flag h ≡ aside g s (ranOn g s h)
+  pub taken-waits : flag ≡ false → stepped g s h ≡ true → flagOf (g .begun) ≡ true → flagOf (s .joined) ≡ false → (startsEpoch (g .kind) (s .next) && inWindow g s) ≡ false → takenOf g s flag h ≡ frameDropped g s (ranOn g s h)
   unfolding takenOf arrives byStart
   taken-waits f e b j w = rw (f, e, b, j, w) refl
 
@@ -69,11 +69,11 @@ pub taken-by :
     (h : ℕ) →
     (flag ≡ true → P (flagged g s)) →
     (flag ≡ false → stepped g s h ≡ false → P (countsOn g s (ranOn g s h))) →
-    (flag ≡ false → stepped g s h ≡ true → flagOf (g .begun) ≡ false → P (aside g s (ranOn g s h))) →
+    (flag ≡ false → stepped g s h ≡ true → flagOf (g .begun) ≡ false → P (frameDropped g s (ranOn g s h))) →
     (flag ≡ false → stepped g s h ≡ true → flagOf (g .begun) ≡ true → flagOf (s .joined) ≡ true → inWindow g s ≡ true → P (keeps g s (ranOn g s h) (distanceIn g (s .next)))) →
     (flag ≡ false → stepped g s h ≡ true → flagOf (g .begun) ≡ true → flagOf (s .joined) ≡ true → inWindow g s ≡ false → P (outside s)) →
     (flag ≡ false → stepped g s h ≡ true → flagOf (g .begun) ≡ true → flagOf (s .joined) ≡ false → startsEpoch (g .kind) (s .next) ≡ true → inWindow g s ≡ true → P (joining g s (ranOn g s h) (distanceIn g (s .next)))) →
-    (flag ≡ false → stepped g s h ≡ true → flagOf (g .begun) ≡ true → flagOf (s .joined) ≡ false → (startsEpoch (g .kind) (s .next) && inWindow g s) ≡ false → P (aside g s (ranOn g s h))) →
+    (flag ≡ false → stepped g s h ≡ true → flagOf (g .begun) ≡ true → flagOf (s .joined) ≡ false → (startsEpoch (g .kind) (s .next) && inWindow g s) ≡ false → P (frameDropped g s (ranOn g s h))) →
     P (takenOf g s flag h)
 unfolding takenOf arrives byWindow byStart
 taken-by P g s flag h whenFlagged whenCounts whenAside whenKeeps whenOutside whenJoins whenWaits =
@@ -81,20 +81,20 @@ taken-by P g s flag h whenFlagged whenCounts whenAside whenKeeps whenOutside whe
     let d : ℕ = distanceIn g (s .next) in
     let start : Bool = startsEpoch (g .kind) (s .next) in
     let window : Taken = cond (inWindow g s) (keeps g s run d) (outside s) in
-    let epoch : Taken = cond (start && inWindow g s) (joining g s run d) (aside g s run) in
+    let epoch : Taken = cond (start && inWindow g s) (joining g s run d) (frameDropped g s run) in
     let begun : Taken = cond (flagOf (s .joined)) window epoch in
-    let arrived : Taken = cond (not (flagOf (g .begun))) (aside g s run) begun in
+    let arrived : Taken = cond (not (flagOf (g .begun))) (frameDropped g s run) begun in
     cond-by P flag (flagged g s) (cond (stepped g s h) arrived (countsOn g s run)) whenFlagged
     (λ (f : flag ≡ false).
     cond-by P (stepped g s h) arrived (countsOn g s run)
     (λ (e : stepped g s h ≡ true).
-    cond-by P (not (flagOf (g .begun))) (aside g s run) begun (λ b. whenAside f e (not-true (flagOf (g .begun)) b))
+    cond-by P (not (flagOf (g .begun))) (frameDropped g s run) begun (λ b. whenAside f e (not-true (flagOf (g .begun)) b))
     (λ b.
     let b : flagOf (g .begun) ≡ true = not-false (flagOf (g .begun)) b in
     cond-by P (flagOf (s .joined)) window epoch
     (λ j. cond-by P (inWindow g s) (keeps g s run d) (outside s) (whenKeeps f e b j) (whenOutside f e b j))
     (λ j.
-    cond-by P (start && inWindow g s) (joining g s run d) (aside g s run)
+    cond-by P (start && inWindow g s) (joining g s run d) (frameDropped g s run)
     (λ w. whenJoins f e b j (and-left start (inWindow g s) w) (and-right start (inWindow g s) w))
     (whenWaits f e b j))))
     (whenCounts f))

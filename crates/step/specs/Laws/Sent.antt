@@ -6,7 +6,7 @@ use native.Mathlib.Omega.{arith}
 use lib.Dec.{eqb}
 use borrow.Author.Tests.{eq-eqb, ne-eqb, eqb-true}
 use Rattle.ground.specs.Truth.{and-left, and-right}
-use Rattle.packet.specs.Counts.{startsCount, afterFirst, goesSecond, afterSecond, counts}
+use Rattle.packet.specs.Counts.{startsCount, tagByHigh, carriesLow, tagByLow, counts}
 use Rattle.packet.specs.Kinds.{frames, tags}
 use Rattle.packet.specs.Theorems.Tags.{tagOf}
 
@@ -54,8 +54,8 @@ module _ (kind x h : ℕ) (sent : SentWith kind x h) where
       let e : h % 16 ≡ x % 4096 % 16 = counts-first kind (x % 4096) h sent in
       eq-eqb (h % 16) 0 (omega arith)
 
-  pub sent-first : x % frames kind ≡ 0 → afterFirst kind h ≡ toldFirst kind x
-  unfolding afterFirst toldFirst frames tags
+  pub sent-first : x % frames kind ≡ 0 → tagByHigh kind h ≡ toldFirst kind x
+  unfolding tagByHigh toldFirst frames tags
   sent-first z =
       let e : h / 16 ≡ x % 4096 / 256 % 16 = counts-high kind (x % 4096) h sent (omega arith) in
       omega arith
@@ -77,14 +77,14 @@ nibbles-told t n high z e =
 
 -- the frame after the first has MFI1 1, and the two together tell the tag
 module _ (kind x h : ℕ) (z : x % frames kind ≡ 0) (sent : SentWith kind (x + 1) h) where
-  pub sent-second : goesSecond kind h ≡ true
-  unfolding goesSecond frames tags
+  pub sent-second : carriesLow kind h ≡ true
+  unfolding carriesLow frames tags
   sent-second =
       let e : h % 16 ≡ (x + 1) % 4096 % 16 = counts-first kind ((x + 1) % 4096) h sent in
       eq-eqb (h % 16) 1 (omega arith)
 
-  pub sent-told : afterSecond kind (toldFirst kind x) h ≡ tagOf kind (x + 1 + 1)
-  unfolding afterSecond toldFirst frames tags
+  pub sent-told : tagByLow kind (toldFirst kind x) h ≡ tagOf kind (x + 1 + 1)
+  unfolding tagByLow toldFirst frames tags
   sent-told =
       let e : h / 16 ≡ (x + 1) % 4096 / 16 % 16 = counts-low kind ((x + 1) % 4096) h sent (omega arith) in
       let t : (x + 1) % 4096 ≡ x % 4096 + 1 = omega arith in

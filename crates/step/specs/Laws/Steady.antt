@@ -15,7 +15,7 @@ use Rattle.step.specs.Arrival.{advanced, distanceIn, flagOf, inStep, kee
 use Rattle.step.specs.Laws.Arrival.{ranOn, stepped, taken-keeps}
 use Rattle.step.specs.declared.run.Run.{Run}
 use Rattle.step.specs.Run.{furtherRun, inStepAt, oneMore, runOn}
-use Rattle.step.specs.Steady.{amid, steady, steadyTaken}
+use Rattle.step.specs.Steady.{midEpoch, steady, steadyTaken}
 
 step-many : (kind count : ℕ) → inStepAt kind count ≡ true → 2 ≤ count
 unfolding inStepAt frames
@@ -52,15 +52,15 @@ module _ (g : Group) (s : Step) (h : ℕ) (had : s .had ≡ 1) (failed : s .fail
       let d : ℕ = distanceIn g (s .next) in
       rw (quiet (not (flagOf (g .gathered))) (endsEpoch (g .kind) d) (eqb (epochsIn (g .kind) d) 0) e, only-next) refl
 
-pub amid-goes-on : (g : Group) (d : ℕ) → amid g d ≡ true → endsEpoch (g .kind) d ≡ false
-unfolding amid
-amid-goes-on g d w = not-true (endsEpoch (g .kind) d) (and-right (ltb d (g .window)) (not (endsEpoch (g .kind) d)) w)
+pub mid-epoch-goes-on : (g : Group) (d : ℕ) → midEpoch g d ≡ true → endsEpoch (g .kind) d ≡ false
+unfolding midEpoch
+mid-epoch-goes-on g d w = not-true (endsEpoch (g .kind) d) (and-right (ltb d (g .window)) (not (endsEpoch (g .kind) d)) w)
 
-amid-inside : (g : Group) (d : ℕ) → amid g d ≡ true → ltb d (g .window) ≡ true
-unfolding amid
-amid-inside g d w = and-left (ltb d (g .window)) (not (endsEpoch (g .kind) d)) w
+mid-epoch-inside : (g : Group) (d : ℕ) → midEpoch g d ≡ true → ltb d (g .window) ≡ true
+unfolding midEpoch
+mid-epoch-inside g d w = and-left (ltb d (g .window)) (not (endsEpoch (g .kind) d)) w
 
-pub steady-taken : (g : Group) (s : Step) (flag : Bool) (h : ℕ) → steady g s flag h ≡ true → amid g (distanceIn g (s .next)) ≡ true → takenOf g s flag h ≡ steadyTaken g s
+pub steady-taken : (g : Group) (s : Step) (flag : Bool) (h : ℕ) → steady g s flag h ≡ true → midEpoch g (distanceIn g (s .next)) ≡ true → takenOf g s flag h ≡ steadyTaken g s
 unfolding steady
 steady-taken g s flag h t w =
     let d : ℕ = distanceIn g (s .next) in
@@ -80,5 +80,5 @@ steady-taken g s flag h t w =
     let stands : inStep g s ≡ true = and-right b3 (inStep g s) t4 in
     let sent : counts (g .kind) (s .next) h ≡ true = and-right b4 (counts (g .kind) (s .next) h) t5 in
     taken-keeps g s flag h (not-true flag (and-left b1 (eqb (s .had) 1) t2)) (steps g s h had failed stands sent)
-    (and-right b5 (flagOf (g .begun)) t6) (and-right b6 (flagOf (s .joined)) t) (amid-inside g d w)
-    ∙ only-kept g s h had failed stands sent (amid-goes-on g d w)
+    (and-right b5 (flagOf (g .begun)) t6) (and-right b6 (flagOf (s .joined)) t) (mid-epoch-inside g d w)
+    ∙ only-kept g s h had failed stands sent (mid-epoch-goes-on g d w)

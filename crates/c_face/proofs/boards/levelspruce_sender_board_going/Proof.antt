@@ -22,7 +22,7 @@ same-length : tie.Need-same-length
 same-length c = search needs
 
 returns-3 : tie.Need-returns-3
-returns-3 c = shown-done 130 _ _ _ _ (c .before .before .before .before .before .before .before .if1 .left) (c .before .before .before .before .before .before .if2 .left) (c .before .before .put-board .ensures ∙ ap (λ (s : Sender). boardBytesOf (s .going)) (c .before .before .before .before .before .sender-of .ensures))
+returns-3 c = shown-done 130 _ _ _ _ (c .before .before .before .before .before .before .before .if1 .left) (c .before .before .before .before .before .before .if2 .left) (c .before .before .put-board .ensures ∙ ap (λ (s : Sender). boardBytesOf (s .outgoing)) (c .before .before .before .before .before .sender-of .ensures))
 
 pub levelspruce-sender-board-going-spec : {M : Type 1} → statement M
 levelspruce-sender-board-going-spec =

@@ -2,7 +2,7 @@ use mathlib.Core.Path.{_∙_, ap}
 use borrow.Author.Needs.{needs}
 use Rattle.c_face.specs.Keeping.{bytesOf}
 use Rattle.c_face.proofs.senders.put_start.Statement.{statement}
-use Rattle.sender.specs.declared.epochs.SenderStep.{SenderStep}
+use Rattle.sender.specs.declared.epochs.SenderOutcome.{SenderOutcome}
 use Rattle.c_face.proofs.senders.put_start.Tie as tie
 
 start-requires : tie.Need-start-requires
@@ -15,7 +15,7 @@ same-length : tie.Need-same-length
 same-length c = search needs
 
 returns : tie.Need-returns
-returns c = c .before .before .put-sender .ensures ∙ ap (λ (t : SenderStep). bytesOf (t .sender)) (c .before .before .before .before .before .start .ensures)
+returns c = c .before .before .put-sender .ensures ∙ ap (λ (t : SenderOutcome). bytesOf (t .sender)) (c .before .before .before .before .before .start .ensures)
 
 pub put-start-spec : {M : Type 1} → statement M
 put-start-spec = tie.close (tie.spec start-requires put-sender-requires same-length returns)

@@ -1,7 +1,7 @@
 use borrow.Author.Needs.{needs}
 use Rattle.console.specs.Output.{boardText}
 use Rattle.console.proofs.Lengths.{wait-room}
-use Rattle.console.proofs.Putting.{put-then}
+use Rattle.text.specs.Laws.Putting.{put-then}
 use Rattle.console.proofs.boards.put_board.Statement.{statement}
 use Rattle.console.proofs.boards.put_board.Tie as tie
 

@@ -4,9 +4,10 @@ use native.Mathlib.Numerals.{add-one}
 use native.Mathlib.Omega.{arith}
 use lib.ListN.{length}
 use borrow.Author.Needs.{needs}
-use Rattle.console.specs.Output.{Put, slotsText}
+use Rattle.text.specs.Output.{Put}
+use Rattle.console.specs.Output.{slotsText}
 use Rattle.console.proofs.Lengths.{slot-room}
-use Rattle.console.proofs.Putting.{put-then}
+use Rattle.text.specs.Laws.Putting.{put-then}
 use Rattle.console.proofs.boards.put_slots.Statement.{statement}
 use Rattle.console.proofs.boards.put_slots.Tie as tie
 

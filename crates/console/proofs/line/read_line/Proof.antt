@@ -1,7 +1,7 @@
 use mathlib.Core.Path.{_∙_}
 use borrow.Author.Needs.{needs}
 use Rattle.console.proofs.Parting.{line-none, line-long, line-read}
-use Rattle.console.proofs.Slices.{end-le}
+use Rattle.text.specs.Laws.Slices.{end-le}
 use Rattle.console.proofs.line.read_line.Statement.{statement}
 use Rattle.console.proofs.line.read_line.Tie as tie
 

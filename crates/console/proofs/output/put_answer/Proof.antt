@@ -1,8 +1,9 @@
 use lib.ListN.{length}
 use borrow.Author.Needs.{needs}
-use Rattle.console.specs.Output.{ANSWER, answerText, decimalText, ended}
-use Rattle.console.specs.Text.{LINE-END, TAB}
-use Rattle.console.proofs.Putting.{put-then, room, shorter}
+use Rattle.text.specs.Laws.Putting.{is-put, put-then, room, shorter}
+use Rattle.text.specs.Output.{decimalText, ended}
+use Rattle.text.specs.Text.{LINE-END, TAB}
+use Rattle.console.specs.Output.{ANSWER, answerText}
 use Rattle.console.proofs.output.put_answer.Statement.{statement}
 use Rattle.console.proofs.output.put_answer.Tie as tie
 
@@ -10,19 +11,21 @@ slice-aggregate-put : tie.Need-slice-aggregate-put
 slice-aggregate-put c = search needs
 
 put-requires : tie.Need-put-requires
-unfolding answerText
-put-requires c κs = shorter (ended ANSWER TAB) (ended (decimalText (c .before .before .before .args .number)) LINE-END) 0 (length (c .before .before .before .args .out .now)) (c .before .before .before .pre)
+put-requires c κs = search needs
 
 put-number-requires : tie.Need-put-number-requires
-unfolding answerText
-put-number-requires c κs = room (c .before .before .before .put .ensures) (ended (decimalText (c .before .before .before .before .before .before .before .args .number)) LINE-END) (c .before .before .before .before .before .before .before .pre)
+put-number-requires c κs = search needs
 
 same-length : tie.Need-same-length
 same-length c = search needs
 
 returns : tie.Need-returns
 unfolding answerText
-returns c = put-then (c .before .before .before .before .before .before .put .ensures) (c .before .before .put-number .ensures)
+returns c =
+    let s = c .before .before .before .before .before .before .before .before .before .before in
+    let b = ended (decimalText (s .args .number)) LINE-END in
+    let p = is-put (shorter (ended ANSWER TAB) b 0 (length (s .args .out .now)) (s .pre)) (c .before .before .before .before .before .before .put .ensures) in
+    put-then p (is-put (room p b (s .pre)) (c .before .before .put-number .ensures))
 
 pub put-answer-spec : {M : Type 1} → statement M
 put-answer-spec =

@@ -1,9 +1,10 @@
 use mathlib.Core.List.{_++_}
 use lib.ListN.{length}
 use borrow.Author.Needs.{needs}
-use Rattle.console.specs.Output.{SLOT, slotText, decimalText, ended, wordText}
-use Rattle.console.specs.Text.{LINE-END, TAB}
-use Rattle.console.proofs.Putting.{put-then, room, shorter}
+use Rattle.text.specs.Laws.Putting.{is-put, put-then, room, shorter}
+use Rattle.text.specs.Output.{decimalText, ended, wordText}
+use Rattle.text.specs.Text.{LINE-END, TAB}
+use Rattle.console.specs.Output.{SLOT, slotText}
 use Rattle.console.proofs.output.put_slot.Statement.{statement}
 use Rattle.console.proofs.output.put_slot.Tie as tie
 
@@ -11,45 +12,36 @@ slice-aggregate-put : tie.Need-slice-aggregate-put
 slice-aggregate-put c = search needs
 
 put-requires : tie.Need-put-requires
-unfolding slotText
-put-requires c κs =
-    let a = ended SLOT TAB in
-    let b = ended (decimalText (c .before .before .before .args .slot)) TAB in
-    let d = ended (wordText (c .before .before .before .args .word)) TAB in
-    let e = ended (decimalText (c .before .before .before .args .number)) LINE-END in
-    let n = length (c .before .before .before .args .out .now) in
-    shorter a b (c .before .before .before .args .at) n (shorter (a ++ b) d (c .before .before .before .args .at) n (shorter (a ++ b ++ d) e (c .before .before .before .args .at) n (c .before .before .before .pre)))
+put-requires c κs = search needs
 
 put-number-requires : tie.Need-put-number-requires
-unfolding slotText
-put-number-requires c κs =
-    let a = ended SLOT TAB in
-    let b = ended (decimalText (c .before .before .before .before .before .before .before .args .slot)) TAB in
-    let d = ended (wordText (c .before .before .before .before .before .before .before .args .word)) TAB in
-    let e = ended (decimalText (c .before .before .before .before .before .before .before .args .number)) LINE-END in
-    let n = length (c .before .before .before .before .before .before .before .args .out .now) in
-    room (c .before .before .before .put .ensures) b (shorter (a ++ b) d (c .before .before .before .before .before .before .before .args .at) n (shorter (a ++ b ++ d) e (c .before .before .before .before .before .before .before .args .at) n (c .before .before .before .before .before .before .before .pre)))
+put-number-requires c κs = search needs
 
 put-word-requires : tie.Need-put-word-requires
-unfolding slotText
-put-word-requires c κs =
-    let a = ended SLOT TAB in
-    let b = ended (decimalText (c .before .before .before .before .before .before .before .before .before .before .before .args .slot)) TAB in
-    let d = ended (wordText (c .before .before .before .before .before .before .before .before .before .before .before .args .word)) TAB in
-    let e = ended (decimalText (c .before .before .before .before .before .before .before .before .before .before .before .args .number)) LINE-END in
-    let n = length (c .before .before .before .before .before .before .before .before .before .before .before .args .out .now) in
-    room (put-then (c .before .before .before .before .before .before .before .put .ensures) (c .before .before .before .put-number .ensures)) d (shorter (a ++ b ++ d) e (c .before .before .before .before .before .before .before .before .before .before .before .args .at) n (c .before .before .before .before .before .before .before .before .before .before .before .pre))
+put-word-requires c κs = search needs
 
 put-number-requires-2 : tie.Need-put-number-requires-2
-unfolding slotText
-put-number-requires-2 c κs = room (put-then (put-then (c .before .before .before .before .before .before .before .before .before .before .before .put .ensures) (c .before .before .before .before .before .before .before .put-number .ensures)) (c .before .before .before .put-word .ensures)) (ended (decimalText (c .before .before .before .before .before .before .before .before .before .before .before .before .before .before .before .args .number)) LINE-END) (c .before .before .before .before .before .before .before .before .before .before .before .before .before .before .before .pre)
+put-number-requires-2 c κs = search needs
 
 same-length : tie.Need-same-length
 same-length c = search needs
 
 returns : tie.Need-returns
 unfolding slotText
-returns c = put-then (put-then (put-then (c .before .before .before .before .before .before .before .before .before .before .before .before .before .before .put .ensures) (c .before .before .before .before .before .before .before .before .before .before .put-number .ensures)) (c .before .before .before .before .before .before .put-word .ensures)) (c .before .before .put-number2 .ensures)
+returns c =
+    let first = c .before .before .before .before .before .before .before .before .before .before .before .before .before .before in
+    let s = first .before .before .before .before in
+    let a = ended SLOT TAB in
+    let b = ended (decimalText (s .args .slot)) TAB in
+    let d = ended (wordText (s .args .word)) TAB in
+    let e = ended (decimalText (s .args .number)) LINE-END in
+    let n = length (s .args .out .now) in
+    let two = shorter (a ++ b ++ d) e (s .args .at) n (s .pre) in
+    let one = shorter (a ++ b) d (s .args .at) n two in
+    let p = is-put (shorter a b (s .args .at) n one) (first .put .ensures) in
+    let q = put-then p (is-put (room p b one) (c .before .before .before .before .before .before .before .before .before .before .put-number .ensures)) in
+    let r = put-then q (is-put (room q d two) (c .before .before .before .before .before .before .put-word .ensures)) in
+    put-then r (is-put (room r e (s .pre)) (c .before .before .put-number2 .ensures))
 
 pub put-slot-spec : {M : Type 1} → statement M
 put-slot-spec =

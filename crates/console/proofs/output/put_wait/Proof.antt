@@ -1,8 +1,9 @@
 use lib.ListN.{length}
 use borrow.Author.Needs.{needs}
-use Rattle.console.specs.Output.{WAIT, waitText, decimalText, ended}
-use Rattle.console.specs.Text.{LINE-END, TAB}
-use Rattle.console.proofs.Putting.{put-then, room, shorter}
+use Rattle.text.specs.Laws.Putting.{is-put, put-then, room, shorter}
+use Rattle.text.specs.Output.{decimalText, ended}
+use Rattle.text.specs.Text.{LINE-END, TAB}
+use Rattle.console.specs.Output.{WAIT, waitText}
 use Rattle.console.proofs.output.put_wait.Statement.{statement}
 use Rattle.console.proofs.output.put_wait.Tie as tie
 
@@ -13,19 +14,23 @@ slice-aggregate-put : tie.Need-slice-aggregate-put
 slice-aggregate-put c = search needs
 
 put-requires : tie.Need-put-requires
-unfolding waitText
-put-requires c κs = shorter (ended WAIT TAB) (ended (decimalText (c .before .before .bit-of .result)) LINE-END) (c .before .before .before .before .args .at) (length (c .before .before .before .before .args .out .now)) (rw (← (c .before .before .bit-of .ensures)) at (c .before .before .before .before .pre))
+put-requires c κs = search needs
 
 put-number-requires : tie.Need-put-number-requires
-unfolding waitText
-put-number-requires c κs = room (c .before .before .before .put .ensures) (ended (decimalText (c .before .before .before .before .before .before .bit-of .result)) LINE-END) (rw (← (c .before .before .before .before .before .before .bit-of .ensures)) at (c .before .before .before .before .before .before .before .before .pre))
+put-number-requires c κs = search needs
 
 same-length : tie.Need-same-length
 same-length c = search needs
 
 returns : tie.Need-returns
 unfolding waitText
-returns c = rw (← (c .before .before .before .before .before .before .before .before .before .bit-of .ensures)) (put-then (c .before .before .before .before .before .before .put .ensures) (c .before .before .put-number .ensures))
+returns c =
+    let w = c .before .before .before .before .before .before .before .before .before in
+    let s = w .before .before in
+    let b = ended (decimalText (w .bit-of .result)) LINE-END in
+    let h = rw (← (w .bit-of .ensures)) at (s .pre) in
+    let p = is-put (shorter (ended WAIT TAB) b (s .args .at) (length (s .args .out .now)) h) (c .before .before .before .before .before .before .put .ensures) in
+    rw (← (w .bit-of .ensures)) (put-then p (is-put (room p b h) (c .before .before .put-number .ensures)))
 
 pub put-wait-spec : {M : Type 1} → statement M
 put-wait-spec =

@@ -10,8 +10,8 @@ is-set-requires c κs = search needs
 is-set-requires-2 : tie.Need-is-set-requires-2
 is-set-requires-2 c κs = search needs
 
-is-brought-requires : tie.Need-is-brought-requires
-is-brought-requires c κs = search needs
+is-complete-requires : tie.Need-is-complete-requires
+is-complete-requires c κs = search needs
 
 pass-requires : tie.Need-pass-requires
 pass-requires c κs = search needs
@@ -21,14 +21,14 @@ same-length c = search needs
 
 returns : tie.Need-returns
 unfolding gatherBy
-returns c = rw (← c .before .before .before .before .before .before .before .before .is-set .ensures, ← c .before .before .before .before .before .before .before .is-set2 .ensures, c .before .before .before .before .before .before .if1 .taken, ← c .before .before .before .before .is-brought .ensures, c .before .before .before .if2 .taken) (c .before .pass .ensures)
+returns c = rw (← c .before .before .before .before .before .before .before .before .is-set .ensures, ← c .before .before .before .before .before .before .before .is-set2 .ensures, c .before .before .before .before .before .before .if1 .taken, ← c .before .before .before .before .is-complete .ensures, c .before .before .before .if2 .taken) (c .before .pass .ensures)
 
 same-length-2 : tie.Need-same-length-2
 same-length-2 c = search needs
 
 returns-2 : tie.Need-returns-2
 unfolding gatherBy
-returns-2 c = rw (← c .before .before .before .before .before .is-set .ensures, ← c .before .before .before .before .is-set2 .ensures, c .before .before .before .if1 .taken, ← c .before .is-brought .ensures, c .if2 .left) refl
+returns-2 c = rw (← c .before .before .before .before .before .is-set .ensures, ← c .before .before .before .before .is-set2 .ensures, c .before .before .before .if1 .taken, ← c .before .is-complete .ensures, c .if2 .left) refl
 
 returns-3 : tie.Need-returns-3
 unfolding gatherBy
@@ -40,7 +40,7 @@ gather-by-spec =
     (tie.spec
     is-set-requires
     is-set-requires-2
-    is-brought-requires
+    is-complete-requires
     pass-requires
     same-length
     returns

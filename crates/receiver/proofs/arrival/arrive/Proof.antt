@@ -13,8 +13,8 @@ is-steady-requires c κs = search needs
 distance-in-requires : tie.Need-distance-in-requires
 distance-in-requires c κs = search needs
 
-is-amid-requires : tie.Need-is-amid-requires
-is-amid-requires c κs = search needs
+is-mid-epoch-requires : tie.Need-is-mid-epoch-requires
+is-mid-epoch-requires c κs = search needs
 
 go-on-requires : tie.Need-go-on-requires
 go-on-requires c κs = search needs
@@ -29,7 +29,7 @@ same-length-2 : tie.Need-same-length-2
 same-length-2 c = search needs
 
 returns : tie.Need-returns
-returns c = arrive-steady _ _ _ _ _ _ _ (c .before .before .before .before .before .before .before .before .before .before .before .before .before .before .before .before .pre) _ _ _ _ (c .before .before .before .before .before .before .before .before .before .before .before .before .get .ensures) (sym (c .before .before .before .before .before .before .before .before .before .before .before .is-steady .ensures) ∙ c .before .before .before .before .before .before .before .before .before .before .if1 .taken) (c .before .before .before .before .before .before .before .before .before .distance-in .ensures) (sym (c .before .before .before .before .before .before .before .before .is-amid .ensures) ∙ c .before .before .before .before .before .before .before .if2 .taken) (c .before .before .before .before .before .go-on .ensures) (c .before .before .keep .ensures)
+returns c = arrive-steady _ _ _ _ _ _ _ (c .before .before .before .before .before .before .before .before .before .before .before .before .before .before .before .before .pre) _ _ _ _ (c .before .before .before .before .before .before .before .before .before .before .before .before .get .ensures) (sym (c .before .before .before .before .before .before .before .before .before .before .before .is-steady .ensures) ∙ c .before .before .before .before .before .before .before .before .before .before .if1 .taken) (c .before .before .before .before .before .before .before .before .before .distance-in .ensures) (sym (c .before .before .before .before .before .before .before .before .is-mid-epoch .ensures) ∙ c .before .before .before .before .before .before .before .if2 .taken) (c .before .before .before .before .before .go-on .ensures) (c .before .before .keep .ensures)
 
 decided-requires : tie.Need-decided-requires
 decided-requires c κs = search needs
@@ -62,7 +62,7 @@ arrive-spec =
     get-requires
     is-steady-requires
     distance-in-requires
-    is-amid-requires
+    is-mid-epoch-requires
     go-on-requires
     keep-requires
     same-length

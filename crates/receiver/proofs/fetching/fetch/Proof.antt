@@ -21,8 +21,8 @@ same-length c = search needs
 returns : tie.Need-returns
 returns c = fetch-unfit _ _ _ _ _ _ _ (c .before .before .before .get .ensures) (c .before .before .ports-in .ensures) (c .before .is-fetch .ensures) (not-true _ (c .if1 .taken))
 
-give-due-requires : tie.Need-give-due-requires
-give-due-requires c κs = search needs
+report-if-due-requires : tie.Need-report-if-due-requires
+report-if-due-requires c κs = search needs
 
 put-record-requires : tie.Need-put-record-requires
 put-record-requires c κs = record-length _ _ _ _ _ _ (sym (c .before .before .before .before .before .before .before .before .is-fetch .ensures) ∙ not-false _ (c .before .before .before .before .before .before .before .if1 .left))
@@ -37,7 +37,7 @@ same-length-4 : tie.Need-same-length-4
 same-length-4 c = search needs
 
 returns-2 : tie.Need-returns-2
-returns-2 c = fetch-fit _ _ _ _ _ _ _ (c .before .before .before .before .before .before .before .before .before .before .before .before .before .get .ensures) (c .before .before .before .before .before .before .before .before .before .before .before .before .ports-in .ensures) (c .before .before .before .before .before .before .before .before .before .before .before .is-fetch .ensures) _ _ _ _ (not-false _ (c .before .before .before .before .before .before .before .before .before .before .if1 .left)) (c .before .before .before .before .before .before .before .give-due .ensures .0) (c .before .before .before .before .before .before .before .give-due .ensures .1) (c .before .before .before .before .before .before .before .give-due .ensures .2) (c .before .before .put-record .ensures)
+returns-2 c = fetch-fit _ _ _ _ _ _ _ (c .before .before .before .before .before .before .before .before .before .before .before .before .before .get .ensures) (c .before .before .before .before .before .before .before .before .before .before .before .before .ports-in .ensures) (c .before .before .before .before .before .before .before .before .before .before .before .is-fetch .ensures) _ _ _ _ (not-false _ (c .before .before .before .before .before .before .before .before .before .before .if1 .left)) (c .before .before .before .before .before .before .before .report-if-due .ensures .0) (c .before .before .before .before .before .before .before .report-if-due .ensures .1) (c .before .before .before .before .before .before .before .report-if-due .ensures .2) (c .before .before .put-record .ensures)
 
 pub fetch-spec : {M : Type 1} → statement M
 fetch-spec =
@@ -48,7 +48,7 @@ fetch-spec =
     is-fetch-requires
     same-length
     returns
-    give-due-requires
+    report-if-due-requires
     put-record-requires
     same-length-2
     same-length-3

@@ -10,12 +10,12 @@ is-set-requires c κs = search needs
 is-set-requires-2 : tie.Need-is-set-requires-2
 is-set-requires-2 c κs = search needs
 
-is-brought-requires : tie.Need-is-brought-requires
-is-brought-requires c κs = search needs
+is-complete-requires : tie.Need-is-complete-requires
+is-complete-requires c κs = search needs
 
 returns : tie.Need-returns
 unfolding dueIn
-returns c = rw (← c .before .before .before .is-set .ensures, ← c .before .before .is-set2 .ensures, c .before .if1 .taken) (c .is-brought .ensures)
+returns c = rw (← c .before .before .before .is-set .ensures, ← c .before .before .is-set2 .ensures, c .before .if1 .taken) (c .is-complete .ensures)
 
 returns-2 : tie.Need-returns-2
 unfolding dueIn
@@ -23,4 +23,4 @@ returns-2 c = rw (← c .before .before .is-set .ensures, ← c .before .is-set2
 
 pub is-due-spec : {M : Type 1} → statement M
 is-due-spec =
-    tie.close (tie.spec is-set-requires is-set-requires-2 is-brought-requires returns returns-2)
+    tie.close (tie.spec is-set-requires is-set-requires-2 is-complete-requires returns returns-2)

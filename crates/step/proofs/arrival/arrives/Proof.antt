@@ -6,12 +6,12 @@ use Rattle.step.proofs.arrival.arrives.Tie as tie
 is-set-requires : tie.Need-is-set-requires
 is-set-requires c κs = search needs
 
-aside-requires : tie.Need-aside-requires
-aside-requires c κs = search needs
+frame-dropped-requires : tie.Need-frame-dropped-requires
+frame-dropped-requires c κs = search needs
 
 returns : tie.Need-returns
 unfolding arrives
-returns c = rw (← c .before .before .is-set .ensures, c .before .if1 .taken) (c .aside .ensures)
+returns c = rw (← c .before .before .is-set .ensures, c .before .if1 .taken) (c .frame-dropped .ensures)
 
 distance-in-requires : tie.Need-distance-in-requires
 distance-in-requires c κs = search needs
@@ -38,7 +38,7 @@ arrives-spec =
     tie.close
     (tie.spec
     is-set-requires
-    aside-requires
+    frame-dropped-requires
     returns
     distance-in-requires
     is-set-requires-2

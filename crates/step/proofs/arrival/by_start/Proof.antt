@@ -13,13 +13,13 @@ returns : tie.Need-returns
 unfolding byStart
 returns c = rw (← c .before .before .before .starts-epoch .ensures, c .before .if1 .taken) (c .joining .ensures)
 
-aside-requires : tie.Need-aside-requires
-aside-requires c κs = search needs
+frame-dropped-requires : tie.Need-frame-dropped-requires
+frame-dropped-requires c κs = search needs
 
 returns-2 : tie.Need-returns-2
 unfolding byStart
-returns-2 c = rw (← c .before .before .before .starts-epoch .ensures, c .before .if1 .left) (c .aside .ensures)
+returns-2 c = rw (← c .before .before .before .starts-epoch .ensures, c .before .if1 .left) (c .frame-dropped .ensures)
 
 pub by-start-spec : {M : Type 1} → statement M
 by-start-spec =
-    tie.close (tie.spec starts-epoch-requires joining-requires returns aside-requires returns-2)
+    tie.close (tie.spec starts-epoch-requires joining-requires returns frame-dropped-requires returns-2)

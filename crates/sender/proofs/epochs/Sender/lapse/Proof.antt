@@ -6,11 +6,11 @@ use Rattle.sender.proofs.epochs.Sender.lapse.Tie as tie
 lapse-requires : tie.Need-lapse-requires
 lapse-requires c κs = search needs
 
-with-step-requires : tie.Need-with-step-requires
-with-step-requires c κs = search needs
+with-outcome-requires : tie.Need-with-outcome-requires
+with-outcome-requires c κs = search needs
 
 returns : tie.Need-returns
-returns c = stepped (c .before .before .before .args .self) (c .before .lapse .ensures) (c .with-step .ensures)
+returns c = stepped (c .before .before .before .args .self) (c .before .lapse .ensures) (c .with-outcome .ensures)
 
 pub lapse-spec : {M : Type 1} → statement M
-lapse-spec = tie.close (tie.spec lapse-requires with-step-requires returns)
+lapse-spec = tie.close (tie.spec lapse-requires with-outcome-requires returns)

@@ -6,11 +6,11 @@ use Rattle.sender.proofs.epochs.Sender.remove.Tie as tie
 remove-requires : tie.Need-remove-requires
 remove-requires c κs = search needs
 
-with-step-requires : tie.Need-with-step-requires
-with-step-requires c κs = search needs
+with-outcome-requires : tie.Need-with-outcome-requires
+with-outcome-requires c κs = search needs
 
 returns : tie.Need-returns
-returns c = stepped (c .before .before .before .args .self) (c .before .remove .ensures) (c .with-step .ensures)
+returns c = stepped (c .before .before .before .args .self) (c .before .remove .ensures) (c .with-outcome .ensures)
 
 pub remove-spec : {M : Type 1} → statement M
-remove-spec = tie.close (tie.spec remove-requires with-step-requires returns)
+remove-spec = tie.close (tie.spec remove-requires with-outcome-requires returns)

@@ -6,11 +6,11 @@ use Rattle.sender.proofs.epochs.Sender.report.Tie as tie
 report-requires : tie.Need-report-requires
 report-requires c κs = search needs
 
-with-step-requires : tie.Need-with-step-requires
-with-step-requires c κs = search needs
+with-outcome-requires : tie.Need-with-outcome-requires
+with-outcome-requires c κs = search needs
 
 returns : tie.Need-returns
-returns c = stepped (c .before .before .before .args .self) (c .before .report .ensures) (c .with-step .ensures)
+returns c = stepped (c .before .before .before .args .self) (c .before .report .ensures) (c .with-outcome .ensures)
 
 pub report-spec : {M : Type 1} → statement M
-report-spec = tie.close (tie.spec report-requires with-step-requires returns)
+report-spec = tie.close (tie.spec report-requires with-outcome-requires returns)

@@ -1,0 +1,108 @@
+-- Each C call is the crate's own function: the same answer, by its number, and the same lent bytes.
+use mathlib.Core.Path.{_≡_, refl}
+use mathlib.Core.Bool.{Bool, true, false, cond}
+use mathlib.Core.List.{List}
+use Prim.Native.Nat.{ℕ, _≤_}
+use lib.ListN.{length}
+use borrow.Author.Tests.{eq-eqb, le-ltb, ne-eqb}
+use Rattle.packet.specs.declared.layout.Fields.{Fields}
+use Rattle.packet.specs.Reading.{readAnswer, readingNumber}
+use Rattle.packet.specs.Writing.{writeAnswer, writeBytes, writingNumber}
+use Rattle.payload.specs.Answers.{numberOf}
+use Rattle.payload.specs.Joining.{joined, wholeAnswer}
+use Rattle.payload.specs.Spreading.{spreadAll}
+use Rattle.receiver.specs.Frame.{frameAnswer, frameRows, frameStore}
+use Rattle.sender.specs.Board.{boardOf}
+use Rattle.sender.specs.Commands.{answered, freshOf, startOf}
+use Rattle.sender.specs.declared.table.Answer.the-variants.{Done, OutOfRange}
+use Rattle.sender.specs.declared.table.Outcome.{Outcome}
+use Rattle.sender.specs.Epochs.{SenderCall, beginOf, packetAnswer, packetBytes, payloadAnswer, payloadBytes, ranksOf, senderStepOf}
+use Rattle.sender.specs.Table.{answerNumber}
+use Rattle.c_face.specs.Boards.{boardBytesC, boardBytesOf, goingBytesC, ranksBytesC, ranksBytesOf, shownAnswerC, shownBytes}
+use Rattle.c_face.specs.Keeping.{bytesOf, senderOf}
+use Rattle.c_face.specs.Payloads.{joinAnswerC, joinFrameC, spreadAnswerC, spreadMembersC}
+use Rattle.c_face.specs.Packets.{readAnswerC, readFieldsC, valuesOr, writeAnswerC, writeBytesC}
+use Rattle.c_face.specs.Receivers.{failedC}
+use Rattle.c_face.specs.Senders.{keptBytes, outside, packetAnswerC, packetBytesC, payloadAnswerC, payloadBytesC, startAnswerC, startStateC, stepAnswerC, stepStateC}
+
+-- levelspruce_packet_write is packet::write on fields that are bytes
+pub write-own : (f : Fields) (h4 : List ℕ)
+    → (writeAnswerC (f .epoch) (f .word .0) (f .gid) (f .mst) (f .«rs_ack») (f .sq) h4 ≡ writingNumber (writeAnswer f h4))
+    × (writeBytesC (f .epoch) (f .word .0) (f .gid) (f .mst) (f .«rs_ack») (f .sq) h4 ≡ writeBytes f h4)
+write-own f h4 = (refl, refl)
+
+-- levelspruce_packet_read is packet::read, with room for its values
+pub read-own : (h4 fields : List ℕ) → length fields ≡ 6
+    → (readAnswerC h4 fields ≡ readingNumber (readAnswer h4)) × (readFieldsC h4 fields ≡ valuesOr (readAnswer h4) fields)
+unfolding readAnswerC readFieldsC
+read-own h4 fields h = rw (eq-eqb (length fields) 6 h) (refl, refl)
+
+-- levelspruce_spread and levelspruce_join are payload::spread and payload::join
+pub spread-own : (x p : ℕ) (frame members : List ℕ)
+    → (spreadAnswerC x p frame members ≡ numberOf (wholeAnswer x p (length frame) (length members)))
+    × (spreadMembersC x p frame members ≡ spreadAll x p frame members)
+spread-own x p frame members = (refl, refl)
+
+pub join-own : (x p : ℕ) (members frame : List ℕ)
+    → (joinAnswerC x p members frame ≡ numberOf (wholeAnswer x p (length members) (length frame)))
+    × (joinFrameC x p members frame ≡ joined x p members frame)
+join-own x p members frame = (refl, refl)
+
+-- levelspruce_sender_start is Sender::start for the kind H4, where the state has its length and the first epoch's number is a byte. An empty group's first epoch has the number 0.
+module _ (count first : ℕ) (state : List ℕ) (sized : length state ≡ 397) (byte : first ≤ 255) where
+  pub start-own : startAnswerC count first state ≡ answerNumber (beginOf 0 count first .answer)
+  unfolding startAnswerC beginOf startOf
+  start-own = rw (eq-eqb (length state) 397 sized, le-ltb 255 first byte) (go (outside count))
+    where
+      go : (b : Bool) → cond b 4 0 ≡ answerNumber (cond {A = Outcome} b (answered (freshOf 0 0) OutOfRange) (answered (freshOf 0 count) Done) .answer)
+      go true = refl
+      go false = refl
+
+  pub start-state-own : outside count ≡ false → startStateC count first state ≡ bytesOf (beginOf 0 count first .sender)
+  unfolding startStateC
+  start-state-own o = rw (eq-eqb (length state) 397 sized, le-ltb 255 first byte, o) refl
+
+  pub start-empty-own : outside count ≡ true → startStateC count first state ≡ bytesOf (beginOf 0 count 0 .sender)
+  unfolding startStateC
+  start-empty-own o = rw (eq-eqb (length state) 397 sized, o) refl
+
+-- levelspruce_sender_add, _remove, _report, _lapse and _start_epoch are the sender's own steps on the sender in the state; a refusal encodes nothing anew.
+pub step-own : (call : SenderCall) (state : List ℕ) → length state ≡ 397
+    → (stepAnswerC true call state ≡ answerNumber (senderStepOf (senderOf state) call .answer)) × (stepStateC true call state ≡ keptBytes (senderStepOf (senderOf state) call) state)
+unfolding stepAnswerC stepStateC
+step-own call state h = rw (eq-eqb (length state) 397 h) (refl, refl)
+
+-- levelspruce_sender_packet and levelspruce_sender_payload are Sender::packet and Sender::payload
+pub packet-own : (state : List ℕ) (slot : ℕ) (h4 : List ℕ) → length state ≡ 397
+    → (packetAnswerC state slot h4 ≡ answerNumber (packetAnswer (senderOf state) slot h4)) × (packetBytesC state slot h4 ≡ packetBytes (senderOf state) slot h4)
+unfolding packetAnswerC packetBytesC
+packet-own state slot h4 h = rw (eq-eqb (length state) 397 h) (refl, refl)
+
+pub payload-own : (state : List ℕ) (slot P : ℕ) (frame member : List ℕ) → length state ≡ 397
+    → (payloadAnswerC state slot P frame member ≡ answerNumber (payloadAnswer (senderOf state) slot P (length frame) (length member)))
+    × (payloadBytesC state slot P frame member ≡ payloadBytes (senderOf state) slot P frame member)
+unfolding payloadAnswerC payloadBytesC
+payload-own state slot P frame member h = rw (eq-eqb (length state) 397 h) (refl, refl)
+
+-- levelspruce_sender_board is board_of the table, levelspruce_sender_board_going the board going out, levelspruce_sender_ranks is Sender::ranks
+pub board-own : (state board : List ℕ) → length state ≡ 397 → length board ≡ 130
+    → (shownAnswerC 130 state board ≡ 0) × (boardBytesC state board ≡ boardBytesOf (boardOf (senderOf state .table))) × (goingBytesC state board ≡ boardBytesOf (senderOf state .outgoing))
+unfolding shownAnswerC shownBytes
+board-own state board h l = rw (eq-eqb (length state) 397 h, eq-eqb (length board) 130 l) (refl, refl, refl)
+
+pub ranks-own : (state ranks : List ℕ) → length state ≡ 397 → length ranks ≡ 68
+    → (shownAnswerC 68 state ranks ≡ 0) × (ranksBytesC state ranks ≡ ranksBytesOf (ranksOf (senderOf state)))
+unfolding shownAnswerC shownBytes
+ranks-own state ranks h l = rw (eq-eqb (length state) 397 h, eq-eqb (length ranks) 68 l) (refl, refl)
+
+-- levelspruce_receiver_start (for the kind H4), _fetch, _ports and _reply promise the receiver's own definitions as they stand, so that no law is needed; levelspruce_receiver_frame is receiver::frame, told of the flag by 1 or 0
+pub frame-own : (s : List (List ℕ)) (i : ℕ) (failed : Bool) (h : ℕ) (payload store : List ℕ)
+    → (frameAnswer s i (failedC (cond failed 1 0)) h (length payload) (length store) ≡ frameAnswer s i failed h (length payload) (length store))
+    × (frameRows s i (failedC (cond failed 1 0)) h payload store ≡ frameRows s i failed h payload store)
+    × (frameStore s i (failedC (cond failed 1 0)) h payload store ≡ frameStore s i failed h payload store)
+frame-own s i true h payload store = (refl, refl, refl)
+frame-own s i false h payload store = (refl, refl, refl)
+
+-- or by any other number for 1
+pub any-failed : (failed : ℕ) → (failed ≡ 0 → ⊥) → failedC failed ≡ true
+any-failed failed d = rw (ne-eqb failed 0 d) refl

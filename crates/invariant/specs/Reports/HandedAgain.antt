@@ -1,0 +1,377 @@
+-- 'the host may hand the frame again after a report': a frame answered 11, handed again after a report, with no other frame of that port and no stop in between, is answered 0 and stored.
+use mathlib.Core.Path.{_≡_, refl, sym, ap, _∙_}
+use mathlib.Core.Logic.{⊎-elim, _≢_}
+use mathlib.Core.Bool.{Bool, true, false, cond, _&&_, true≢false}
+use mathlib.Core.List.{List, [], _∷_}
+use Prim.Native.Nat.{ℕ, _+_, _-_, _*_, _≤_, _<_}
+use native.Mathlib.Omega.{arith}
+use lib.Dec.{eqb, ltb}
+use lib.ListN.{length}
+use borrow.Author.Tests.{eq-eqb, ne-eqb, lt-ltb}
+use Rattle.invariant.specs.Arriving.{Counts, after-group, frame-by, portAfter, storeAfter}
+use Rattle.invariant.specs.Calls.{Fetch, Frame, Receiver, ReceiverCall, receiverRun, receiverStep, run-kept, step-kept}
+use Rattle.invariant.specs.Kept.Calls.{Due, due-says}
+use Rattle.invariant.specs.Kept.Group.{Kept, Lasting}
+use Rattle.invariant.specs.Kept.Passing.{ahead}
+use Rattle.invariant.specs.Kept.Port.{Windowed, offset}
+use Rattle.invariant.specs.Kept.Steps.{brought-owes-nothing, lasting-frame, windowed}
+use Rattle.invariant.specs.Laws.Flags.{true-or-false}
+use Rattle.invariant.specs.Laws.Settling.{settled-by}
+use Rattle.invariant.specs.Laws.Window.{distance-passed, tag-next, tagIn}
+use Rattle.invariant.specs.Reports.Groups.{Given, fetch-none, stopsWith}
+use Rattle.invariant.specs.Reports.Order.{Unstopped, epochGiven, gives, reportsOf}
+use Rattle.invariant.specs.Sizes.{run-sizes, step-sizes}
+use Rattle.ground.specs.Truth.{and-left, and-right, clash}
+use Rattle.judge.specs.Seen.{sizeOf}
+use Rattle.packet.specs.Kinds.{frames}
+use Rattle.packet.specs.Theorems.Tags.{frames-two}
+use Rattle.phases.specs.Due.{brought, silent}
+use Rattle.phases.specs.Laws.Lengths.{length-passed}
+use Rattle.phases.specs.Laws.Passed.{passed-group, passed-of-port}
+use Rattle.phases.specs.Laws.Sizes.{SameSizes}
+use Rattle.phases.specs.Passing.{passedGroup, passedOf, passedStep}
+use Rattle.phases.specs.Sizes.{portsIn, storeFor}
+use Rattle.phases.specs.Theorems.Settled.{passed-begun}
+use Rattle.receiver.specs.Fetch.{dueIn, fetchRows, fits, rowsIfDue}
+use Rattle.receiver.specs.Frame.{frameAnswer, frameRefusal, frameRows, frameStore, refusalBy, storeBy, takenIn, takenStore}
+use Rattle.receiver.specs.Laws.Answers.{Fitting, fitting-none, taken-answer, unrefused}
+use Rattle.receiver.specs.Laws.Frames.{frame-other}
+use Rattle.receiver.specs.Laws.Passed.{step-count, step-joined, step-next}
+use Rattle.receiver.specs.Laws.Sizes.{ports-are}
+use Rattle.receiver.specs.Laws.Told.{told-group, told-of-port, withAck}
+use Rattle.receiver.specs.Lengths.{frameFits}
+use Rattle.receiver.specs.Report.{replyPorts, reportedOf}
+use Rattle.reply.specs.Telling.{ackOf}
+use Rattle.rows.specs.declared.group.Group.{Group}
+use Rattle.rows.specs.declared.step.Step.{Step}
+use Rattle.rows.specs.Group.{groupAt}
+use Rattle.rows.specs.Laws.Port.{port-step}
+use Rattle.rows.specs.Port.{portAt}
+use Rattle.rows.specs.Rows.{rowsFor}
+use Rattle.rows.specs.Step.{stepAt}
+use Rattle.step.specs.Arrival.{frameDropped, countsOn, distanceIn, flagOf, flagged, joining, keeps, outside, takenOf}
+use Rattle.step.specs.declared.arrival.Taken.{Taken}
+use Rattle.step.specs.declared.run.Run.{Run}
+use Rattle.step.specs.Laws.Arrival.{ranOn, stepped, taken-by, taken-keeps}
+use Rattle.store.specs.Frames.{placeIn, storedAt}
+use Rattle.store.specs.Laws.Stands.{Stands, stands-put}
+use Rattle.store.specs.Laws.Stored.{length-stored}
+use Rattle.store.specs.Marks.{firstMark}
+
+-- no frame of port i
+abbrev pub Others : ℕ → List ReceiverCall → Type 0
+Others i [] = Unit {0}
+Others i (Frame j failed h payload ∷ calls) = (j ≢ i) × Others i calls
+Others i (Fetch out report ∷ calls) = Others i calls
+
+-- What 11 says of a port.
+record Full (g : Group) (s : Step) (failed : Bool) (h : ℕ) : Type 0 where
+  unflagged : failed ≡ false
+  on : stepped g s h ≡ true
+  begun : flagOf (g .begun) ≡ true
+  joined : flagOf (s .joined) ≡ true
+
+full : (g : Group) (s : Step) (failed : Bool) (h : ℕ) → takenOf g s failed h .answer ≡ 11 → Full g s failed h
+unfolding flagged countsOn frameDropped keeps outside joining
+full g s failed h =
+    taken-by (λ (t : Taken). t .answer ≡ 11 → Full g s failed h) g s failed h
+    (λ f e. absurd (omega arith))
+    (λ f o e. absurd (omega arith))
+    (λ f o b e. absurd (omega arith))
+    (λ f o b j w e. absurd (omega arith))
+    (λ f o b j w e. record { unflagged = f; on = o; begun = b; joined = j })
+    (λ f o b j t w e. absurd (omega arith))
+    (λ f o b j w e. absurd (omega arith))
+
+-- The port as it stands while it is not handed anything: only the window moves, and never away from it.
+record Still (count next joined far : ℕ) (g : Group) (q : Step) : Type 0 where
+  count-is : q .count ≡ count
+  next-is : q .next ≡ next
+  joined-is : q .joined ≡ joined
+  begun : flagOf (g .begun) ≡ true
+  within : offset g q ≤ far
+
+nearer : (g : Group) (q : Step) (w : Bool) → frames (g .kind) ≤ offset g q → offset (passedGroup g) (passedStep q w) + frames (g .kind) ≡ offset g q
+unfolding passedGroup passedStep
+nearer g q w h = distance-passed g (passedGroup g) (q .next) refl refl h
+
+ack-offset : (g : Group) (ack : ℕ) (q : Step) → offset (withAck g ack) q ≡ offset g q
+unfolding distanceIn
+ack-offset g ack q = refl
+
+module _ (i count next joined : ℕ) (on : flagOf joined ≡ true) where
+  abbrev StillIn : ℕ → List (List ℕ) → Type 0
+  StillIn far s = Still count next joined far (groupAt s) (portAt s i .step)
+
+  -- an epoch passed brings the window nearer
+  passed-still : (far less n : ℕ) (s : List (List ℕ)) → Lasting s → groupAt s .count ≡ n → (store : List ℕ) → brought (groupAt s) s n ≡ true → i < n → StillIn far s
+      → far ≤ less + frames (groupAt s .kind) → StillIn less (passedOf (groupAt s) store n s)
+  passed-still far less n s k c store due b o l =
+      let g : Group = groupAt s in
+      let q : Step = portAt s i .step in
+      let enough : rowsFor n ≤ length s = (let r = k .rows in let e = c in omega arith) in
+      let first : Bool = firstMark (portAt s i .marks) in
+      let j : flagOf (portAt s i .step .joined) ≡ true = rw (o .joined-is) on in
+      let far-on : frames (g .kind) ≤ offset g q =
+      ahead g q (portAt s i .marks) (k .ports i (let e = c in omega arith) .kept) (o .begun) (brought-owes-nothing g s n due i b) j in
+      let near = nearer g q (firstMark (portAt s i .marks)) far-on in
+      let w = o .within in
+      rw (passed-group g store n s (omega arith), passed-of-port g store n s i b enough)
+      (record {
+        count-is = step-count q first ∙ o .count-is;
+        next-is = step-next q first ∙ o .next-is;
+        joined-is = step-joined q first ∙ o .joined-is;
+        begun = rw (passed-begun g) (o .begun);
+        within = omega arith;
+      })
+
+  -- frames of other ports
+  frame-still : (far : ℕ) (s : List (List ℕ)) → Kept s → i < groupAt s .count → (j : ℕ) (failed : Bool) (h : ℕ) (payload store : List ℕ) → j ≢ i
+      → stopsWith s j failed h payload store ≡ false → StillIn far s → StillIn far (frameRows s j failed h payload store)
+  frame-still far s k b j failed h payload store d goes o =
+      frame-by (λ (r : List (List ℕ)) (m : List ℕ). StillIn far r) s k j failed h payload store o
+      (λ (c : Counts s j failed h payload store).
+      let heard : silent (groupAt s) (portAfter s j failed h) (groupAt s .count) ≡ true → ⊥ =
+      (λ q. true≢false (sym (stops (eq-eqb (frameRefusal s j (length payload) (length store)) 0 (c .unrefused)) (ne-eqb (takenIn s j failed h .answer) 11 (c .answer)) q) ∙ goes)) in
+      settled-by (StillIn far) n st a (c .long)
+      there
+      (λ e q z w.
+      passed-still far far n a (lasting-frame s (k .steady) j failed h (c .port)) (ap (λ (x : Group). x .count) same) st w b there (omega arith))
+      (λ e w. clash (flagOf (groupAt s .begun)) (o .begun) (rw same at e))
+      (λ e q. absurd (heard (rw same at q)))
+      (λ e q. absurd (heard (rw same at q))))
+    where
+      n : ℕ
+      n = groupAt s .count
+
+      a : List (List ℕ)
+      a = portAfter s j failed h
+
+      st : List ℕ
+      st = storeAfter s j failed h payload store
+
+      same : groupAt (portAfter s j failed h) ≡ groupAt s
+      same = after-group s j failed h
+
+      there : Still count next joined far (groupAt (portAfter s j failed h)) (portAt (portAfter s j failed h) i .step)
+      there = rw (same, frame-other (groupAt s .kind) s j (takenIn s j failed h) h i (λ e. d (sym e))) o
+
+      ports : portsIn (groupAt s) ≡ groupAt s .count
+      ports = ports-are (groupAt s) (k .steady .group .sizes)
+
+      stops : eqb (frameRefusal s j (length payload) (length store)) 0 ≡ true → eqb (takenIn s j failed h .answer) 11 ≡ false
+          → silent (groupAt s) (portAfter s j failed h) (groupAt s .count) ≡ true → stopsWith s j failed h payload store ≡ true
+      stops e f q = rw (e, f, o .begun, ports, q) refl
+
+  -- a report
+  report-still : (far less : ℕ) (s : List (List ℕ)) → Kept s → i < groupAt s .count → (store out report : List ℕ) → Given s store out report → StillIn far s
+      → far ≤ less + frames (groupAt s .kind) → StillIn less (fetchRows s store out report)
+  unfolding fetchRows rowsIfDue reportedOf
+  report-still far less s k b store out report v o l =
+      let g : Group = groupAt s in
+      let n : ℕ = groupAt s .count in
+      let ports : portsIn (groupAt s) ≡ groupAt s .count = ports-are g (k .steady .group .sizes) in
+      let d : Due (groupAt s) (groupAt s .count) s = due-says g n s (rw ports at (v .due)) in
+      let p : List (List ℕ) = passedOf (groupAt s) store (groupAt s .count) s in
+      let long : rowsFor (groupAt s .count) ≤ length p = rw (length-passed g store n s) (let r = k .steady .rows in omega arith) in
+      let passed : Still count next joined less (groupAt p) (portAt p i .step) = passed-still far less n s (k .steady) refl store (d .brought) b o l in
+      rw (v .fitting, v .due, ports, told-group (groupAt p) n p (omega arith), told-of-port (groupAt p) n p i b long)
+      (record {
+        count-is = passed .count-is;
+        next-is = passed .next-is;
+        joined-is = passed .joined-is;
+        begun = passed .begun;
+        within = rw (ack-offset (groupAt p) (ackOf (replyPorts (groupAt p) p n) (sizeOf n) (groupAt p .«rs_ack»)) (portAt p i .step)) (passed .within);
+      })
+
+  fetch-still : (far : ℕ) (s : List (List ℕ)) → Kept s → i < groupAt s .count → (store out report : List ℕ) → StillIn far s → StillIn far (fetchRows s store out report)
+  fetch-still far s k b store out report o =
+      ⊎-elim
+      (λ (e : (fits s store out report && dueIn (groupAt s) (portsIn (groupAt s)) s) ≡ true).
+      report-still far far s k b store out report
+      (record { fitting = and-left (fits s store out report) (dueIn (groupAt s) (portsIn (groupAt s)) s) e; due = and-right (fits s store out report) (dueIn (groupAt s) (portsIn (groupAt s)) s) e }) o (omega arith))
+      (λ (e : (fits s store out report && dueIn (groupAt s) (portsIn (groupAt s)) s) ≡ false). rw (fetch-none s store out report e) o)
+      (true-or-false (fits s store out report && dueIn (groupAt s) (portsIn (groupAt s)) s))
+
+  run-still : (far : ℕ) (x : Receiver) (calls : List ReceiverCall) → Kept (x .rows) → i < groupAt (x .rows) .count → Others i calls → Unstopped x calls → StillIn far (x .rows)
+      → StillIn far (receiverRun x calls .rows)
+  run-still far x [] k b a u o = o
+  run-still far x (Frame j failed h payload ∷ calls) k b a u o =
+      let y : Receiver = receiverStep x (Frame j failed h payload) in
+      run-still far y calls (step-kept x (Frame j failed h payload) k) (rw (step-sizes x (Frame j failed h payload) k .count) b) (a .1) (u .1)
+      (frame-still far (x .rows) k b j failed h payload (x .store) (a .0) (u .0) o)
+  run-still far x (Fetch out report ∷ calls) k b a u o =
+      let y : Receiver = receiverStep x (Fetch out report) in
+      run-still far y calls (step-kept x (Fetch out report) k) (rw (step-sizes x (Fetch out report) k .count) b) a u
+      (fetch-still far (x .rows) k b (x .store) out report o)
+
+  -- with a report among the calls
+  reported-still : (far less : ℕ) (x : Receiver) (calls : List ReceiverCall) → Kept (x .rows) → i < groupAt (x .rows) .count → Others i calls → Unstopped x calls → StillIn far (x .rows)
+      → far ≤ less + frames (groupAt (x .rows) .kind) → (reportsOf x calls ≡ [] → ⊥) → StillIn less (receiverRun x calls .rows)
+  reported-still far less x [] k b a u o l some = absurd (some refl)
+  reported-still far less x (Frame j failed h payload ∷ calls) k b a u o l some =
+      let c : ReceiverCall = Frame j failed h payload in
+      reported-still far less (receiverStep x (Frame j failed h payload)) calls (step-kept x c k) (rw (step-sizes x c k .count) b) (a .1) (u .1)
+      (frame-still far (x .rows) k b j failed h payload (x .store) (a .0) (u .0) o) (rw (step-sizes x c k .kind) l) some
+  reported-still far less x (Fetch out report ∷ calls) k b a u o l some =
+      go (gives x out report) refl
+      (λ n. reported-still far less (receiverStep x (Fetch out report)) calls (step-kept x (Fetch out report) k) (rw (step-sizes x (Fetch out report) k .count) b) a u
+      (fetch-still far (x .rows) k b (x .store) out report o) (rw (step-sizes x (Fetch out report) k .kind) l) n)
+      some
+    where
+      y : Receiver
+      y = receiverStep x (Fetch out report)
+
+      go : (t : Bool) → gives x out report ≡ t → ((reportsOf (receiverStep x (Fetch out report)) calls ≡ [] → ⊥) → StillIn less (receiverRun (receiverStep x (Fetch out report)) calls .rows))
+          → (cond t (epochGiven x ∷ reportsOf (receiverStep x (Fetch out report)) calls) (reportsOf (receiverStep x (Fetch out report)) calls) ≡ [] → ⊥)
+          → StillIn less (receiverRun (receiverStep x (Fetch out report)) calls .rows)
+      go true e rest some =
+          let s : List (List ℕ) = x .rows in
+          let v : Given (x .rows) (x .store) out report =
+          record { fitting = and-left (fits s (x .store) out report) (dueIn (groupAt s) (portsIn (groupAt s)) s) e; due = and-right (fits s (x .store) out report) (dueIn (groupAt s) (portsIn (groupAt s)) s) e } in
+          run-still less y calls (step-kept x (Fetch out report) k) (rw (step-sizes x (Fetch out report) k .count) b) a u
+          (report-still far less s k b (x .store) out report v o l)
+      go false e rest some = rest some
+
+-- The lent store keeps its length.
+
+frame-length : (s : List (List ℕ)) (i : ℕ) (failed : Bool) (h : ℕ) (payload store : List ℕ) → length (frameStore s i failed h payload store) ≡ length store
+unfolding frameStore takenStore storeBy
+frame-length s i failed h payload store = go (eqb (frameRefusal s i (length payload) (length store)) 0) (eqb (t .answer) 11) (t .kept)
+  where
+    t : Taken
+    t = takenIn s i failed h
+
+    put : List ℕ
+    put = storedAt store (placeIn (groupAt s) i (takenIn s i failed h .at)) payload h
+
+    go : (a b c : Bool) → length (cond a (cond b store (cond c (storedAt store (placeIn (groupAt s) i (takenIn s i failed h .at)) payload h) store)) store) ≡ length store
+    go true true c = refl
+    go true false true = length-stored store (placeIn (groupAt s) i (t .at)) payload h
+    go true false false = refl
+    go false b c = refl
+
+pub run-length : (x : Receiver) (calls : List ReceiverCall) → length (receiverRun x calls .store) ≡ length (x .store)
+run-length x [] = refl
+run-length x (Frame i failed h payload ∷ calls) =
+    run-length (receiverStep x (Frame i failed h payload)) calls ∙ frame-length (x .rows) i failed h payload (x .store)
+run-length x (Fetch out report ∷ calls) = run-length (receiverStep x (Fetch out report)) calls
+
+-- what 11 says of the call
+answered : (s : List (List ℕ)) (i : ℕ) (failed : Bool) (h payload store : ℕ) → frameAnswer s i failed h payload store ≡ 11
+    → (frameRefusal s i payload store ≡ 0) × (takenIn s i failed h .answer ≡ 11)
+unfolding frameAnswer refusalBy
+answered s i failed h payload store e = go (ltb i (portsIn (groupAt s))) (frameFits (groupAt s) (portsIn (groupAt s)) (length s) payload store) e
+  where
+    go : (a b : Bool) → _≡_ {A = ℕ} (cond (eqb (cond a (cond b 0 9) 1) 0) (takenIn s i failed h .answer) (cond a (cond b 0 9) 1)) 11
+        → (_≡_ {A = ℕ} (cond a (cond b 0 9) 1) 0) × (takenIn s i failed h .answer ≡ 11)
+    go true true e = (refl, e)
+    go true false e = absurd (omega arith)
+    go false b e = absurd (omega arith)
+
+-- a frame that is answered 0 and stored
+pub record Stored (y : Receiver) (i : ℕ) (failed : Bool) (h : ℕ) (payload : List ℕ) : Type 0 where
+  pub answer : frameAnswer (y .rows) i failed h (length payload) (length (y .store)) ≡ 0
+  pub at : ℕ
+  pub inside : at < groupAt (y .rows) .window
+  pub tag : tagIn (groupAt (y .rows)) at ≡ portAt (y .rows) i .step .next
+  pub store-is : frameStore (y .rows) i failed h payload (y .store) ≡ storedAt (y .store) (placeIn (groupAt (y .rows)) i at) payload h
+  pub stands : Stands (groupAt (y .rows)) i at payload h (frameStore (y .rows) i failed h payload (y .store))
+
+kept-store : (s : List (List ℕ)) (i : ℕ) (failed : Bool) (h : ℕ) (payload store : List ℕ) (d : ℕ) (run : Run) → frameRefusal s i (length payload) (length store) ≡ 0
+    → takenIn s i failed h ≡ keeps (groupAt s) (stepAt s i) run d
+    → (takenIn s i failed h .answer ≡ 0) × (frameStore s i failed h payload store ≡ storedAt store (placeIn (groupAt s) i d) payload h)
+unfolding frameStore takenStore storeBy keeps
+kept-store s i failed h payload store d run e t =
+    (rw t refl, rw (eq-eqb (frameRefusal s i (length payload) (length store)) 0 e, t) refl)
+
+store-of : (g : Group) (n : ℕ) → storeFor g n ≡ n * g .window * (g .payload + 1)
+unfolding storeFor
+store-of g n = refl
+
+-- a port with the same run takes the same frame
+same-run : (g g′ : Group) (q q′ : Step) (h : ℕ) → g′ .kind ≡ g .kind → q′ .count ≡ q .count → q′ .next ≡ q .next → stepped g′ q′ h ≡ stepped g q h
+same-run g g′ q q′ h k c n = rw (k, c, n) refl
+
+pub again : (x : Receiver) → Kept (x .rows) → (i : ℕ) (failed : Bool) (h : ℕ) (payload : List ℕ) → frameAnswer (x .rows) i failed h (length payload) (length (x .store)) ≡ 11
+    → (calls : List ReceiverCall) → Others i calls → Unstopped x calls → (reportsOf x calls ≡ [] → ⊥) → Stored (receiverRun x calls) i failed h payload
+again x k i failed h payload e calls others goes some =
+    record {
+      answer = taken-answer r i failed h (length payload) (length (y .store)) unrefused-now ∙ left .0;
+      at = d;
+      inside = inside;
+      tag = tag-next (groupAt r) (portAt r i .step .next) (ky .steady .ports i now .kept .run .tag);
+      store-is = left .1;
+      stands = rw (left .1) (stands-put (groupAt r) (groupAt r .count) i d payload h (y .store) (let l = inside in omega arith) now stored-now bytes-now);
+    }
+  where
+    s : List (List ℕ)
+    s = x .rows
+
+    y : Receiver
+    y = receiverRun x calls
+
+    r : List (List ℕ)
+    r = receiverRun x calls .rows
+
+    d : ℕ
+    d = offset (groupAt (receiverRun x calls .rows)) (portAt (receiverRun x calls .rows) i .step)
+
+    said : (frameRefusal (x .rows) i (length payload) (length (x .store)) ≡ 0) × (takenIn (x .rows) i failed h .answer ≡ 11)
+    said = answered (x .rows) i failed h (length payload) (length (x .store)) e
+
+    fit : Fitting (groupAt (x .rows)) (portsIn (groupAt (x .rows))) i (length (x .rows)) (length payload) (length (x .store))
+    fit = unrefused (groupAt s) (portsIn (groupAt s)) i (length s) (length payload) (length (x .store)) (said .0)
+
+    ports : portsIn (groupAt (x .rows)) ≡ groupAt (x .rows) .count
+    ports = ports-are (groupAt s) (k .steady .group .sizes)
+
+    b : i < groupAt (x .rows) .count
+    b = rw ports at (fit .port)
+
+    f : Full (groupAt (x .rows)) (portAt (x .rows) i .step) failed h
+    f = rw (port-step s i) (full (groupAt s) (stepAt s i) failed h (said .1))
+
+    W : Windowed (groupAt (x .rows))
+    W = windowed (groupAt s) (k .steady .group)
+
+    ky : Kept (receiverRun x calls .rows)
+    ky = run-kept x calls k
+
+    sizes : SameSizes (groupAt (receiverRun x calls .rows)) (groupAt (x .rows))
+    sizes = run-sizes x calls k
+
+    still : Still (portAt (x .rows) i .step .count) (portAt (x .rows) i .step .next) (portAt (x .rows) i .step .joined) (groupAt (x .rows) .window - frames (groupAt (x .rows) .kind))
+        (groupAt (receiverRun x calls .rows)) (portAt (receiverRun x calls .rows) i .step)
+    still =
+        reported-still i (portAt s i .step .count) (portAt s i .step .next) (portAt s i .step .joined) (f .joined) (groupAt s .window) (groupAt s .window - frames (groupAt s .kind)) x calls k b others goes
+        (record { count-is = refl; next-is = refl; joined-is = refl; begun = f .begun; within = k .steady .ports i b .kept .goes (f .joined) .reach })
+        (let least = W .least in omega arith) some
+
+    inside : offset (groupAt (receiverRun x calls .rows)) (portAt (receiverRun x calls .rows) i .step) < groupAt (receiverRun x calls .rows) .window
+    inside = let w = still .within in let least = W .least in let more = frames-two (groupAt s .kind) in let q = sizes .window in omega arith
+
+    taken : takenIn (receiverRun x calls .rows) i failed h ≡ keeps (groupAt r) (stepAt r i) (ranOn (groupAt r) (stepAt r i) h) d
+    taken =
+        rw (← port-step r i)
+        (taken-keeps (groupAt r) (portAt r i .step) failed h (f .unflagged)
+        (same-run (groupAt s) (groupAt r) (portAt s i .step) (portAt r i .step) h (sizes .kind) (still .count-is) (still .next-is) ∙ f .on) (still .begun) (rw (still .joined-is) (f .joined))
+        (lt-ltb d (groupAt r .window) inside))
+
+    now : i < groupAt (receiverRun x calls .rows) .count
+    now = rw (sizes .count) b
+
+    bytes-now : length payload ≡ groupAt (receiverRun x calls .rows) .payload
+    bytes-now = fit .bytes ∙ sym (sizes .payload)
+
+    stored-now : length (receiverRun x calls .store) ≡ groupAt (receiverRun x calls .rows) .count * groupAt (receiverRun x calls .rows) .window * (groupAt (receiverRun x calls .rows) .payload + 1)
+    stored-now = run-length x calls ∙ fit .stored ∙ rw (ports, sizes .count, sizes .window, sizes .payload) (store-of (groupAt (x .rows)) (groupAt (x .rows) .count))
+
+    unrefused-now : frameRefusal (receiverRun x calls .rows) i (length payload) (length (receiverRun x calls .store)) ≡ 0
+    unrefused-now =
+        rw (ports-are (groupAt r) (ky .steady .group .sizes))
+        (fitting-none (groupAt r) (groupAt r .count) i (length r) (length payload) (length (y .store))
+        (record { port = now; whole = ky .steady .rows; bytes = bytes-now; stored = stored-now ∙ sym (store-of (groupAt r) (groupAt r .count)) }))
+
+    left : (takenIn (receiverRun x calls .rows) i failed h .answer ≡ 0) × (frameStore r i failed h payload (receiverRun x calls .store) ≡ storedAt (receiverRun x calls .store) (placeIn (groupAt r) i d) payload h)
+    left = kept-store r i failed h payload (y .store) d (ranOn (groupAt r) (stepAt r i) h) unrefused-now taken

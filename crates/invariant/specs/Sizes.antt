@@ -1,0 +1,64 @@
+-- What no call changes: the kind of packet, the count of ports, P and W.
+use mathlib.Core.Bool.{Bool, cond}
+use mathlib.Core.List.{List, [], _∷_}
+use Prim.Native.Nat.{ℕ, _<_}
+use native.Mathlib.Omega.{arith}
+use lib.ListN.{length}
+use Rattle.invariant.specs.Arriving.{Counts, after-group, frame-by, portAfter, storeAfter}
+use Rattle.invariant.specs.Calls.{Fetch, Frame, Receiver, ReceiverCall, receiverRun, receiverStep, step-kept}
+use Rattle.invariant.specs.Kept.Group.{Kept}
+use Rattle.ground.specs.Truth.{cond-by}
+use Rattle.phases.specs.Laws.Lengths.{length-passed}
+use Rattle.phases.specs.Laws.Passed.{passed-group}
+use Rattle.phases.specs.Laws.Sizes.{SameSizes, settled-sizes, sizes-stay, sizes-then}
+use Rattle.phases.specs.Passing.{passedOf}
+use Rattle.phases.specs.Sizes.{portsIn}
+use Rattle.receiver.specs.Fetch.{dueIn, fetchRows, fits, rowsIfDue}
+use Rattle.receiver.specs.Frame.{frameRows}
+use Rattle.receiver.specs.Laws.Passed.{passed-count, passed-kind, passed-payload, passed-window}
+use Rattle.receiver.specs.Laws.Told.{told-group}
+use Rattle.receiver.specs.Report.{reportedOf, statesWorkedOut}
+use Rattle.rows.specs.declared.group.Group.{Group}
+use Rattle.rows.specs.Group.{groupAt}
+
+pub frame-sizes : (s : List (List ℕ)) → Kept s → (i : ℕ) (failed : Bool) (h : ℕ) (payload store : List ℕ) → SameSizes (groupAt (frameRows s i failed h payload store)) (groupAt s)
+frame-sizes s k i failed h payload store =
+    frame-by (λ (r : List (List ℕ)) (m : List ℕ). SameSizes (groupAt r) (groupAt s)) s k i failed h payload store (sizes-stay (groupAt s))
+    (λ (o : Counts s i failed h payload store).
+    rw (after-group s i failed h) at (settled-sizes (groupAt s .count) (storeAfter s i failed h payload store) (portAfter s i failed h) (let l = o .long in omega arith)))
+
+pub fetch-sizes : (s : List (List ℕ)) → Kept s → (store out report : List ℕ) → SameSizes (groupAt (fetchRows s store out report)) (groupAt s)
+unfolding fetchRows rowsIfDue reportedOf
+fetch-sizes s k store out report =
+    cond-by On (fits s store out report) (cond (dueIn g (portsIn g) s) (reportedOf g store (portsIn g) s) s) s
+    (λ e. cond-by On (dueIn g (portsIn g) s) (reportedOf g store (portsIn g) s) s (λ d. reported) (λ d. sizes-stay (groupAt s))) (λ e. sizes-stay (groupAt s))
+  where
+    g : Group
+    g = groupAt s
+
+    On : List (List ℕ) → Type 0
+    On r = SameSizes (groupAt r) (groupAt s)
+
+    m : ℕ
+    m = portsIn (groupAt s)
+
+    some : 0 < length s
+    some = let r = k .steady .rows in omega arith
+
+    p : List (List ℕ)
+    p = passedOf (groupAt s) store (portsIn (groupAt s)) s
+
+    reported : SameSizes (groupAt (statesWorkedOut (groupAt (passedOf (groupAt s) store (portsIn (groupAt s)) s)) (portsIn (groupAt s)) (passedOf (groupAt s) store (portsIn (groupAt s)) s))) (groupAt s)
+    reported =
+        rw (told-group (groupAt p) m p (rw (length-passed (groupAt s) store m s) some), passed-group (groupAt s) store m s some)
+        (record { kind = passed-kind (groupAt s); count = passed-count (groupAt s); payload = passed-payload (groupAt s); window = passed-window (groupAt s) })
+
+pub step-sizes : (x : Receiver) (c : ReceiverCall) → Kept (x .rows) → SameSizes (groupAt (receiverStep x c .rows)) (groupAt (x .rows))
+step-sizes x (Frame i failed h payload) k = frame-sizes (x .rows) k i failed h payload (x .store)
+step-sizes x (Fetch out report) k = fetch-sizes (x .rows) k (x .store) out report
+
+pub run-sizes : (x : Receiver) (calls : List ReceiverCall) → Kept (x .rows) → SameSizes (groupAt (receiverRun x calls .rows)) (groupAt (x .rows))
+run-sizes x [] k = sizes-stay (groupAt (x .rows))
+run-sizes x (c ∷ calls) k =
+    sizes-then (groupAt (receiverRun (receiverStep x c) calls .rows)) (groupAt (receiverStep x c .rows)) (groupAt (x .rows))
+    (run-sizes (receiverStep x c) calls (step-kept x c k)) (step-sizes x c k)

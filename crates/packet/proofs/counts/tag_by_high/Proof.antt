@@ -1,0 +1,21 @@
+use mathlib.Core.Path.{refl}
+use Rattle.packet.specs.Counts.{tagByHigh}
+use borrow.Author.Needs.{needs}
+use Rattle.packet.proofs.counts.tag_by_high.Statement.{statement}
+use Rattle.packet.proofs.counts.tag_by_high.Tie as tie
+
+cast-result : tie.Need-cast-result
+cast-result c = search needs
+
+mul-result : tie.Need-mul-result
+mul-result c = search needs
+
+add-result : tie.Need-add-result
+add-result c = search needs
+
+returns : tie.Need-returns
+unfolding tagByHigh
+returns c = refl
+
+pub tag-by-high-spec : {M : Type 1} → statement M
+tag-by-high-spec = tie.close (tie.spec cast-result mul-result add-result returns)

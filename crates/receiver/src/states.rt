@@ -1,0 +1,143 @@
+// Member states and RS-Ack worked out at a report (01, 'Member states and reply').
+use crate::lengths;
+use reply::Port;
+use rows::Group;
+use rows::Member;
+ghost use mathlib.Core.Path.{_≡_};
+ghost use lib.ListN.{getD};
+ghost use Rattle.phases.specs.Passing.{groupTo};
+ghost use Rattle.receiver.specs.Report.{noPort, replyPort, replyPorts, reportedOf, withState, statesWorkedOut, statePut, statesPut};
+
+fn reply_port(group: Group, state: &[[u8; 16]], port: u8) -> Port
+    ensures { λ r. ⌜ r ≡ replyPort group (now (state .entry)) port ⌝ }
+{
+    let member = rows::member::get(state, port);
+    let step = rows::step::get(state, port);
+    let readable = step::is_readable(group, step);
+    Port {
+        word: member.word,
+        number: member.number,
+        state: member.state,
+        state_number: member.state_number,
+        told_word: member.told_word,
+        told_number: member.told_number,
+        readable,
+    }
+}
+
+fn no_port() -> Port
+    ensures { λ r. ⌜ r ≡ noPort ⌝ }
+{
+    Port {
+        word: 0,
+        number: 0,
+        state: 0,
+        state_number: 0,
+        told_word: 0,
+        told_number: 0,
+        readable: false,
+    }
+}
+
+pub(crate) fn reply_ports(group: Group, state: &[[u8; 16]], ports: u8) -> [Port; 64]
+    ensures { λ r. ⌜ r ≡ replyPorts group (now (state .entry)) ports ⌝ }
+{
+    let none = no_port();
+    let mut all = [none; 64];
+    let n = lengths::size_of(ports);
+    let mut i = 0;
+    while i < n {
+        let one = reply_port(group, state, i);
+        all[i as usize] = one;
+        i += 1;
+    }
+    all
+}
+
+fn state_at(states: [u8; 64], port: u8) -> u8
+    ensures { λ r. ⌜ r ≡ getD states port 0 ⌝ }
+{
+    if port < 64 { states[port as usize] } else { 0 }
+}
+
+fn with_state(m: Member, state: u8) -> Member
+    ensures { λ r. ⌜ r ≡ withState m state ⌝ }
+{
+    Member {
+        word: m.word,
+        number: m.number,
+        state,
+        state_number: m.number,
+        told_word: m.word,
+        told_number: m.number,
+        spare_6: m.spare_6,
+        spare_7: m.spare_7,
+        spare_8: m.spare_8,
+        spare_9: m.spare_9,
+        spare_10: m.spare_10,
+        spare_11: m.spare_11,
+        spare_12: m.spare_12,
+        spare_13: m.spare_13,
+        spare_14: m.spare_14,
+        spare_15: m.spare_15,
+    }
+}
+
+fn put_state(states: [u8; 64], port: u8, state: &mut [[u8; 16]])
+    ensures { λ _. ⌜ now (state .exit) ≡ statePut states port (now (state .entry)) ⌝ }
+{
+    let new = state_at(states, port);
+    let member = rows::member::get(state, port);
+    let told = with_state(member, new);
+    rows::member::put(state, port, told);
+}
+
+fn put_states(states: [u8; 64], ports: u8, state: &mut [[u8; 16]])
+    ensures { λ _. ⌜ now (state .exit) ≡ statesPut states ports (now (state .entry)) ⌝ }
+{
+    let mut i = 0;
+    while i < ports {
+        put_state(states, i, state);
+        i += 1;
+    }
+}
+
+fn with_ack(g: Group, ack: u8) -> Group
+    ensures { λ r. ⌜ r ≡ groupTo g (g .begun) (g .gathered) (g .oldest) (g .origin) ack ⌝ }
+{
+    Group {
+        kind: g.kind,
+        count: g.count,
+        payload: g.payload,
+        window: g.window,
+        begun: g.begun,
+        gathered: g.gathered,
+        oldest: g.oldest,
+        origin: g.origin,
+        rs_ack: ack,
+        spare_12: g.spare_12,
+        spare_13: g.spare_13,
+        spare_14: g.spare_14,
+        spare_15: g.spare_15,
+    }
+}
+
+fn work_out_states(group: Group, ports: u8, state: &mut [[u8; 16]])
+    ensures { λ _. ⌜ now (state .exit) ≡ statesWorkedOut group ports (now (state .entry)) ⌝ }
+{
+    let all = reply_ports(group, state, ports);
+    let states = reply::states(all, ports);
+    let ack = reply::ack(all, ports, group.rs_ack);
+    let told = with_ack(group, ack);
+    put_states(states, ports, state);
+    rows::group::put(state, told);
+}
+
+// The epoch passed, then states and RS-Ack from the good packets up to its own.
+pub(crate) fn pass(group: Group, store: &[u8], ports: u8, state: &mut [[u8; 16]])
+    ensures { λ _. ⌜ now (state .exit) ≡ reportedOf group (now (store .entry)) ports (now (state .entry)) ⌝ }
+{
+    phases::pass(group, store, ports, state);
+    let passed = rows::group::get(state);
+    work_out_states(passed, ports, state);
+}

@@ -1,0 +1,53 @@
+-- What a field says.
+use mathlib.Core.Bool.{Bool, true, false, cond, _&&_}
+use mathlib.Core.List.{List, [], _∷_}
+use Prim.Native.Nat.{ℕ, _+_, _-_, _*_}
+use lib.Dec.{eqb, leb, ltb}
+use lib.ListN.{length}
+use Rattle.text.specs.declared.fields.Number.{Number}
+use Rattle.text.specs.declared.fields.Number.the-variants.{Value, Unreadable}
+
+-- the value of a digit in ASCII, 0 to 9 and A to F, 'either case'; 16 for any other byte
+unfoldable pub digitOf : ℕ → ℕ
+digitOf b = cond (leb 48 b && leb b 57) (b - 48) (cond (leb 65 b && leb b 70) (b - 55) (cond (leb 97 b && leb b 102) (b - 87) 16))
+
+-- whether each byte is a digit below the base
+abbrev pub areDigits : ℕ → List ℕ → Bool
+areDigits base [] = true
+areDigits base (b ∷ digits) = ltb (digitOf b) base && areDigits base digits
+
+-- digits by value, the first one highest, behind those whose value is n
+abbrev pub valueOf : ℕ → ℕ → List ℕ → ℕ
+valueOf base n [] = n
+valueOf base n (b ∷ digits) = valueOf base (n * base + digitOf b) digits
+
+-- a number of one decimal digit or more, at most so many, and nine at the very most
+unfoldable pub numberOf : ℕ → List ℕ → Number
+numberOf most field =
+    cond (ltb 0 (length field) && leb (length field) most && leb (length field) 9 && areDigits 10 field) (Value (valueOf 10 0 field)) Unreadable
+
+-- a number of exactly so many hex digits, one to eight
+unfoldable pub hexOf : ℕ → List ℕ → Number
+hexOf digits field =
+    cond (ltb 0 (length field) && eqb (length field) digits && leb (length field) 8 && areDigits 16 field) (Value (valueOf 16 0 field)) Unreadable
+
+-- whether a field is exactly so many hex digits
+unfoldable pub isHex : ℕ → List ℕ → Bool
+isHex digits field = eqb (length field) digits && areDigits 16 field
+
+-- the bytes that hex digits stand for, two digits a byte
+abbrev pub bytesOf : List ℕ → List ℕ
+bytesOf [] = []
+bytesOf (a ∷ []) = []
+bytesOf (a ∷ b ∷ digits) = (digitOf a * 16 + digitOf b) ∷ bytesOf digits
+
+-- a lent slice into which a field is read: its bytes, if it has two hex digits for each
+unfoldable pub bytesIn : List ℕ → List ℕ → List ℕ
+bytesIn field out = cond (isHex (2 * length out) field) (bytesOf field) out
+
+-- two texts byte for byte
+abbrev pub sameBytes : List ℕ → List ℕ → Bool
+sameBytes [] [] = true
+sameBytes [] (b ∷ m) = false
+sameBytes (a ∷ l) [] = false
+sameBytes (a ∷ l) (b ∷ m) = eqb a b && sameBytes l m

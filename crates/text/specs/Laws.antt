@@ -1,0 +1,6 @@
+-- Laws on the definitions, for the proofs above them.
+pub mod Decimal
+pub mod Lines
+pub mod Parted
+pub mod Putting
+pub mod Slices

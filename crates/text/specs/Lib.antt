@@ -1,0 +1,6 @@
+pub mod Ascii
+pub mod Fields
+pub mod Laws
+pub mod Output
+pub mod Text
+mod Wrong

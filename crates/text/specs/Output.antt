@@ -1,0 +1,53 @@
+-- Texts put into a buffer, and what a number and a word are as text.
+use mathlib.Core.Path.{_≡_}
+use mathlib.Core.Bool.{Bool, cond}
+use mathlib.Core.List.{List, [], _∷_, _++_}
+use Prim.Native.Nat.{ℕ, zero, suc, _+_, _/_, _%_}
+use lib.Dec.{eqb, leb, ltb}
+use lib.ListN.{length}
+use lib.Seq.{sets}
+use Rattle.packet.specs.declared.words.Word.{Word}
+use Rattle.packet.specs.Words.{ADD, DNU, EOS, NORM}
+use Rattle.text.specs.Ascii.{ascii}
+
+-- a byte in decimal, with no zero before it
+unfoldable pub decimalText : ℕ → List ℕ
+decimalText n =
+    cond (ltb n 10) ((48 + n) ∷ [])
+    (cond (ltb n 100) ((48 + n / 10) ∷ (48 + n % 10) ∷ []) ((48 + n / 100) ∷ (48 + n / 10 % 10) ∷ (48 + n % 10) ∷ []))
+
+-- the digits of a number before a text, none for 0, and at most so many
+abbrev pub digitsBefore : ℕ → ℕ → List ℕ → List ℕ
+digitsBefore zero n text = text
+digitsBefore (suc most) n text = cond (ltb 0 n) (digitsBefore most (n / 10) ((48 + n % 10) ∷ text)) text
+
+-- a number of at most twenty digits in decimal, with no zero before it
+unfoldable pub numberText : ℕ → List ℕ
+numberText n = digitsBefore 19 (n / 10) ((48 + n % 10) ∷ [])
+
+-- five control words by name: ADD, NORM, EOS, DNU, IDLE
+unfoldable pub wordText : Word → List ℕ
+wordText w =
+    cond (eqb (w .0) ADD) (ascii "ADD")
+    (cond (eqb (w .0) NORM) (ascii "NORM")
+    (cond (eqb (w .0) EOS) (ascii "EOS") (cond (eqb (w .0) DNU) (ascii "DNU") (ascii "IDLE"))))
+
+-- a field with the mark behind it
+abbrev pub ended : List ℕ → ℕ → List ℕ
+ended field mark = field ++ (mark ∷ [])
+
+-- a text put at a place of a buffer, where the next one goes and the buffer afterwards
+pub record Put (text : List ℕ) (at : ℕ) (out : List ℕ) (next : ℕ) (new : List ℕ) : Type 0 where
+  pub behind : next ≡ at + length text
+  pub bytes : new ≡ sets out at text
+  pub kept : length new ≡ length out
+
+-- the same for any place and any buffer: a text that does not fit is left out
+abbrev pub fits : List ℕ → ℕ → List ℕ → Bool
+fits text at out = leb (at + length text) (length out)
+
+unfoldable pub putNext : List ℕ → ℕ → List ℕ → ℕ
+putNext text at out = cond (fits text at out) (at + length text) at
+
+unfoldable pub putBytes : List ℕ → ℕ → List ℕ → List ℕ
+putBytes text at out = cond (fits text at out) (sets out at text) out
