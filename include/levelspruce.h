@@ -511,7 +511,8 @@ uint8_t levelspruce_sender_ranks(const uint8_t *state, size_t state_length,
 LEVELSPRUCE_MUST_USE
 uint8_t levelspruce_receiver_start(uint32_t ports, uint32_t payload,
                                    uint32_t window, size_t store_bytes,
-                                   uint8_t (*state)[LEVELSPRUCE_ROW_BYTES], size_t state_length);
+                                   uint8_t (*state)[LEVELSPRUCE_ROW_BYTES],
+                                   size_t state_length);
 
 /*
  * Takes a frame of a port. Hand over each frame of each port once, in the
@@ -545,7 +546,8 @@ uint8_t levelspruce_receiver_start(uint32_t ports, uint32_t payload,
  * were not fetched before receiving stops are lost.
  */
 LEVELSPRUCE_MUST_USE
-uint8_t levelspruce_receiver_frame(uint8_t (*state)[LEVELSPRUCE_ROW_BYTES], size_t state_length,
+uint8_t levelspruce_receiver_frame(uint8_t (*state)[LEVELSPRUCE_ROW_BYTES],
+                                   size_t state_length,
                                    uint32_t port, uint32_t failed, uint8_t h4,
                                    const uint8_t *payload,
                                    size_t payload_length, uint8_t *store,
@@ -573,7 +575,8 @@ uint8_t levelspruce_receiver_frame(uint8_t (*state)[LEVELSPRUCE_ROW_BYTES], size
  *   SURE       X * P bytes, and the rest of out stays; for the state as HELD
  */
 LEVELSPRUCE_MUST_USE
-uint8_t levelspruce_receiver_fetch(uint8_t (*state)[LEVELSPRUCE_ROW_BYTES], size_t state_length,
+uint8_t levelspruce_receiver_fetch(uint8_t (*state)[LEVELSPRUCE_ROW_BYTES],
+                                   size_t state_length,
                                    const uint8_t *store, size_t store_length,
                                    uint8_t *out, size_t out_length,
                                    uint8_t *report, size_t report_length);
@@ -590,7 +593,8 @@ uint8_t levelspruce_receiver_fetch(uint8_t (*state)[LEVELSPRUCE_ROW_BYTES], size
  */
 LEVELSPRUCE_MUST_USE
 uint8_t levelspruce_receiver_ports(const uint8_t (*state)[LEVELSPRUCE_ROW_BYTES],
-                                   size_t state_length, uint8_t (*ports)[LEVELSPRUCE_PORT_BYTES],
+                                   size_t state_length,
+                                   uint8_t (*ports)[LEVELSPRUCE_PORT_BYTES],
                                    size_t ports_length);
 
 /*
