@@ -175,9 +175,8 @@ static void check_lost_frames(void)
 {
     int places = wrong_places(16, 0);
 
-    printf("sixteen frames lost\tplaces with a sure and wrong epoch\t%d\n", places);
-    check("a loss of sixteen frames gives one epoch that is sure and wrong at some places", places > 0);
-    check("it gives none at any place where a flagged frame is handed after it", wrong_places(16, 1) == 0);
+    check("a loss of sixteen frames gives one epoch that is sure and wrong at six places", places == 6 && wrong_places(32, 0) == 6);
+    check("it gives none at any place where a flagged frame is handed after it", wrong_places(16, 1) == 0 && wrong_places(32, 1) == 0);
     check("a loss of fifteen or seventeen frames gives none at any place", wrong_places(15, 0) == 0 && wrong_places(17, 0) == 0);
 }
 
