@@ -19,9 +19,12 @@ build_archive() {
         cp "$proved" "$archive.new" && "$archive_ar" rs "$archive.new" target/staticlib/texts.o && mv "$archive.new" "$archive"
 }
 
-# build_shared FILE: the shared library. Its name for programs that were linked with it goes by the first part of the version.
+# The first two numbers of the version: with another of them calls may have changed.
+series() { version | cut -d . -f 1,2; }
+
+# build_shared FILE: the shared library. Its name for programs that were linked with it goes by the version's first two numbers.
 build_shared() {
-    "$shared_compiler" -shared -o "$1" -Wl,-soname,"liblevelspruce.so.$(version | cut -d . -f 1)" \
+    "$shared_compiler" -shared -o "$1" -Wl,-soname,"liblevelspruce.so.$(series)" \
         -Wl,--version-script=host/library/exports -Wl,-z,defs -Wl,--whole-archive "$archive" -Wl,--no-whole-archive
 }
 
