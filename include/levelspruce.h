@@ -35,9 +35,9 @@ extern "C" {
 #endif
 
 /* The version of this header. levelspruce_version gives that of the library. */
-#define LEVELSPRUCE_VERSION "0.1.0"
+#define LEVELSPRUCE_VERSION "0.2.0"
 #define LEVELSPRUCE_VERSION_MAJOR 0
-#define LEVELSPRUCE_VERSION_MINOR 1
+#define LEVELSPRUCE_VERSION_MINOR 2
 #define LEVELSPRUCE_VERSION_PATCH 0
 
 /* The mark of a call whose answer must be looked at, where the compiler has one. */
@@ -86,7 +86,7 @@ extern "C" {
 
 /* Sizes of buffers, in bytes. */
 #define LEVELSPRUCE_PACKET_BYTES 16 /* the H4 bytes of one packet */
-#define LEVELSPRUCE_FIELDS_BYTES 6  /* the fields of one packet */
+#define LEVELSPRUCE_FIELDS_BYTES 10 /* the fields of one packet */
 #define LEVELSPRUCE_SENDER_BYTES 397 /* a sender's state */
 #define LEVELSPRUCE_BOARD_BYTES 130 /* a sender's board */
 #define LEVELSPRUCE_RANKS_BYTES 68  /* the ranks of an epoch */
@@ -109,13 +109,16 @@ extern "C" {
 #define LEVELSPRUCE_PAYLOAD_VC3 756
 #define LEVELSPRUCE_PAYLOAD_VC4 2340
 
-/* The place of each field among the six bytes that reading gives. */
+/* The place of each field among the ten bytes that reading gives, and the
+ * greatest number that the reserved bits make. */
 #define LEVELSPRUCE_FIELD_EPOCH 0
 #define LEVELSPRUCE_FIELD_WORD 1
 #define LEVELSPRUCE_FIELD_GID 2
 #define LEVELSPRUCE_FIELD_MST 3
 #define LEVELSPRUCE_FIELD_RS_ACK 4
 #define LEVELSPRUCE_FIELD_SQ 5
+#define LEVELSPRUCE_FIELD_RESERVED 6 /* the first of four bytes, highest first */
+#define LEVELSPRUCE_RESERVED_MOST 67108863
 
 /* A sender's slots, and the number of a slot that is IDLE. */
 #define LEVELSPRUCE_SLOTS_MOST 64
@@ -160,10 +163,15 @@ const char *levelspruce_word_name(uint32_t word);
  *   epoch, mst, sq   0 to 255
  *   word             ADD, NORM, EOS, IDLE or DNU
  *   gid, rs_ack      0 or 1
+ *   reserved         0 to LEVELSPRUCE_RESERVED_MOST: the 26 bits that no other
+ *                    field has, in the order of sending, the first one highest;
+ *                    0 but for a relay
  *   h4               LEVELSPRUCE_PACKET_BYTES bytes, in the order of sending
  *
  * A byte's high nibble is the packet's; its low nibble is the frame's count
- * MFI1, which goes from 8 to 15 and on from 0 to 7. Reserved bits are 0.
+ * MFI1, which goes from 8 to 15 and on from 0 to 7. The reserved bits are the
+ * three beside RS-Ack (MFI1 10), the nibbles of MFI1 11, 12 and 13, the three
+ * beside GID (MFI1 3) and the nibbles of MFI1 4 and 5.
  *
  * Answers, the first that fits:
  *   9  h4_length is not 16
@@ -174,6 +182,7 @@ const char *levelspruce_word_name(uint32_t word);
 LEVELSPRUCE_MUST_USE
 uint8_t levelspruce_packet_write(uint32_t epoch, uint32_t word, uint32_t gid,
                                  uint32_t mst, uint32_t rs_ack, uint32_t sq,
+                                 uint32_t reserved,
                                  uint8_t *h4, size_t h4_length);
 
 /*
@@ -184,15 +193,18 @@ uint8_t levelspruce_packet_write(uint32_t epoch, uint32_t word, uint32_t gid,
  *   fields   LEVELSPRUCE_FIELDS_BYTES bytes for the result, each at its
  *            LEVELSPRUCE_FIELD_ place
  *
- * Reserved bits are looked at by the CRC alone. A written packet with one to
- * three of its 64 bits (the high nibbles') changed is always answered 5.
+ * The reserved bits come in four bytes from LEVELSPRUCE_FIELD_RESERVED on, the
+ * highest first. What is answered 0 can always be written, and
+ * levelspruce_packet_write with the same fields gives the same high nibbles
+ * again. A written packet with one to three of its 64 bits (the high nibbles')
+ * changed is always answered 5.
  *
  * Answers, the first that fits:
- *   9  h4_length is not 16, or fields_length is not 6
+ *   9  h4_length is not 16, or fields_length is not 10
  *   5  the CRC differs
  *   7  the control word is FIXED
  *   6  the control word is unassigned
- *   0  all six fields are written
+ *   0  all ten bytes of fields are written
  */
 LEVELSPRUCE_MUST_USE
 uint8_t levelspruce_packet_read(const uint8_t *h4, size_t h4_length,

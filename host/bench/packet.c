@@ -78,7 +78,7 @@ int main(void)
     for (int i = 0; i < PACKETS; i++) {
         seed = seed * 1664525 + 1013904223;
         if (levelspruce_packet_write(seed >> 24, words[(seed >> 8) % 5], seed >> 23 & 1, seed >> 15 & 0xFF, seed >> 22 & 1, i % 256,
-                                     packets[i], sizeof packets[i]) != 0)
+                                     seed % (LEVELSPRUCE_RESERVED_MOST + 1), packets[i], sizeof packets[i]) != 0)
             return 1;
     }
     measure("as written", LEVELSPRUCE_ANSWER_DONE);

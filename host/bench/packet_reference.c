@@ -26,7 +26,8 @@ static uint8_t two(const uint8_t *h4, int place)
 uint8_t READ(const uint8_t *h4, size_t h4_length, uint8_t *fields, size_t fields_length)
 {
     uint8_t word;
-    if (h4_length != 16 || fields_length != 6)
+    uint32_t reserved;
+    if (h4_length != 16 || fields_length != 10)
         return 9;
     if (two(h4, 14) != crc(h4))
         return 5;
@@ -41,5 +42,10 @@ uint8_t READ(const uint8_t *h4, size_t h4_length, uint8_t *fields, size_t fields
     fields[3] = two(h4, 0);
     fields[4] = h4[2] >> 4 & 1;
     fields[5] = two(h4, 6);
+    reserved = (uint32_t)(h4[2] >> 5) << 23 | (uint32_t)two(h4, 3) << 15 | (uint32_t)(h4[5] >> 4) << 11 | (uint32_t)(h4[11] >> 5) << 8 | two(h4, 12);
+    fields[6] = (uint8_t)(reserved >> 24);
+    fields[7] = (uint8_t)(reserved >> 16);
+    fields[8] = (uint8_t)(reserved >> 8);
+    fields[9] = (uint8_t)reserved;
     return 0;
 }

@@ -34,7 +34,7 @@ impl Sent {
             for first in (8..TAGS + 8).step_by(EPOCH) {
                 let mut sixteen = [0; EPOCH];
                 let epoch = u32::from(epoch_of(first % TAGS));
-                packet::write(&Fields { epoch, word, gid: 0, mst: 0, rs_ack: 0, sq: port as u32 }, &mut sixteen);
+                packet::write(&Fields { epoch, word, gid: 0, mst: 0, rs_ack: 0, sq: port as u32, reserved: 0 }, &mut sixteen);
                 for (k, byte) in sixteen.iter().enumerate() {
                     h4[(first + k) % TAGS * ports + port] = *byte;
                 }

@@ -14,7 +14,7 @@
 static const uint8_t p1_h4[LEVELSPRUCE_PACKET_BYTES] = { 0xF8, 0xF9, 0x0A, 0x0B, 0x0C, 0x0D, 0xFE, 0xFF,
                                                          0x00, 0x01, 0x52, 0x03, 0x04, 0x05, 0x96, 0x97 };
 static const size_t h4_lengths[] = { 0, 1, 15, 16, 17, 64 };
-static const size_t fields_lengths[] = { 0, 1, 5, 6, 7, 64 };
+static const size_t fields_lengths[] = { 0, 1, 6, 9, 10, 11, 64 };
 static size_t page;
 
 /* The open one of three pages, or NULL. */
@@ -42,7 +42,7 @@ static int write_at_edges(uint8_t *open)
         for (at_end = 0; at_end < 2; at_end++) {
             uint8_t expected = h4_lengths[i] == LEVELSPRUCE_PACKET_BYTES ? LEVELSPRUCE_ANSWER_DONE : LEVELSPRUCE_ANSWER_LENGTH;
 
-            held = held && levelspruce_packet_write(0, LEVELSPRUCE_WORD_IDLE, 0, 255, 0, 255,
+            held = held && levelspruce_packet_write(0, LEVELSPRUCE_WORD_IDLE, 0, 255, 0, 255, 0,
                                                     buffer_in(open, h4_lengths[i], at_end), h4_lengths[i]) == expected;
         }
     return held;

@@ -195,7 +195,7 @@ static int cries(uint32_t first, uint32_t second, uint32_t third)
     memset(sent, 0, sizeof sent);
     for (n = 0; n < 12 * LEVELSPRUCE_EPOCH_FRAMES; n++)
         for (port = 0; port < SLOTS; port++) {
-            expect(levelspruce_packet_write((uint32_t)(n / LEVELSPRUCE_EPOCH_FRAMES), words[port], 0, 0xFF, 0, port, h4, sizeof h4) == LEVELSPRUCE_ANSWER_DONE);
+            expect(levelspruce_packet_write((uint32_t)(n / LEVELSPRUCE_EPOCH_FRAMES), words[port], 0, 0xFF, 0, port, 0, h4, sizeof h4) == LEVELSPRUCE_ANSWER_DONE);
             hand((int)port, 0, h4[n % LEVELSPRUCE_EPOCH_FRAMES], nothing);
             fetch_all(n / LEVELSPRUCE_EPOCH_FRAMES);
         }
@@ -229,7 +229,7 @@ static int frames_to_step(long k)
 
     expect(levelspruce_receiver_start(SLOTS, P, W, sizeof store, receiver, rows) == LEVELSPRUCE_ANSWER_DONE);
     for (n = k; n < k + 100; n++) {
-        expect(levelspruce_packet_write((uint32_t)(n / LEVELSPRUCE_EPOCH_FRAMES), LEVELSPRUCE_WORD_IDLE, 0, 0xFF, 0, 255, h4, sizeof h4) == LEVELSPRUCE_ANSWER_DONE);
+        expect(levelspruce_packet_write((uint32_t)(n / LEVELSPRUCE_EPOCH_FRAMES), LEVELSPRUCE_WORD_IDLE, 0, 0xFF, 0, 255, 0, h4, sizeof h4) == LEVELSPRUCE_ANSWER_DONE);
         if (levelspruce_receiver_frame(receiver, rows, 0, 0, h4[n % LEVELSPRUCE_EPOCH_FRAMES], nothing, P, store, sizeof store) != LEVELSPRUCE_ANSWER_STEP)
             break;
     }

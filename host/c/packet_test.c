@@ -11,22 +11,30 @@
 enum { LENT_MOST = 64 };
 #include "lent.h"
 
-enum { PACKET = LEVELSPRUCE_PACKET_BYTES, FIELDS = LEVELSPRUCE_FIELDS_BYTES, CRC_PLACE = 14, WORD_PLACE = 10 };
+enum { PACKET = LEVELSPRUCE_PACKET_BYTES, BYTES = LEVELSPRUCE_FIELDS_BYTES, CRC_PLACE = 14, WORD_PLACE = 10 };
 
-/* The fields in the order of the arguments of writing, which is also the order of the bytes of reading. */
+/* The fields of a packet; the reserved bits come last and take four bytes. */
+enum { FIELDS = LEVELSPRUCE_FIELD_RESERVED + 1 };
+
+/* The fields in the order of the arguments of writing, which is also the order of reading. */
 struct packet {
     uint32_t field[FIELDS];
 };
 
-static const char *const field_name[FIELDS] = { "epoch", "word", "GID", "MST", "RS-Ack", "SQ" };
+static const char *const field_name[FIELDS] = { "epoch", "word", "GID", "MST", "RS-Ack", "SQ", "reserved number" };
 
-static const struct packet p1 = { { 0, LEVELSPRUCE_WORD_IDLE, 0, 255, 0, 255 } };
+static const struct packet p1 = { { 0, LEVELSPRUCE_WORD_IDLE, 0, 255, 0, 255, 0 } };
 static const uint8_t p1_h4[PACKET] = { 0xF8, 0xF9, 0x0A, 0x0B, 0x0C, 0x0D, 0xFE, 0xFF,
                                        0x00, 0x01, 0x52, 0x03, 0x04, 0x05, 0x96, 0x97 };
 
-static const struct packet p2 = { { 1, LEVELSPRUCE_WORD_EOS, 1, 255, 0, 0 } };
+static const struct packet p2 = { { 1, LEVELSPRUCE_WORD_EOS, 1, 255, 0, 0, 0 } };
 static const uint8_t p2_h4[PACKET] = { 0xF8, 0xF9, 0x0A, 0x0B, 0x0C, 0x0D, 0x0E, 0x0F,
                                        0x00, 0x11, 0x32, 0x13, 0x04, 0x05, 0xC6, 0x37 };
+
+/* One whose fields all differ. */
+static const struct packet mixed = { { 200, LEVELSPRUCE_WORD_DNU, 1, 0xA5, 1, 77, 0 } };
+static const uint8_t mixed_h4[PACKET] = { 0xA8, 0x59, 0x1A, 0x0B, 0x0C, 0x0D, 0x4E, 0xDF,
+                                          0xC0, 0x81, 0xF2, 0x13, 0x04, 0x05, 0xA6, 0x77 };
 
 static const uint32_t assigned[] = { LEVELSPRUCE_WORD_ADD, LEVELSPRUCE_WORD_NORM, LEVELSPRUCE_WORD_EOS,
                                      LEVELSPRUCE_WORD_IDLE, LEVELSPRUCE_WORD_DNU };
@@ -47,7 +55,7 @@ static uint8_t write_into(struct lent *h4, size_t length, const struct packet *p
 {
     lend(h4, NULL, 0);
     return levelspruce_packet_write(p->field[0], p->field[1], p->field[2], p->field[3], p->field[4], p->field[5],
-                                    lent_bytes(h4), length);
+                                    p->field[6], lent_bytes(h4), length);
 }
 
 static int writes(const struct packet *p, const uint8_t *expected)
@@ -65,6 +73,13 @@ static int write_refuses(const struct packet *p, size_t length, uint8_t answer)
     return write_into(&h4, length, p) == answer && untouched(&h4);
 }
 
+static uint32_t reserved_in(const uint8_t *fields)
+{
+    const uint8_t *four = fields + LEVELSPRUCE_FIELD_RESERVED;
+
+    return (uint32_t)four[0] << 24 | (uint32_t)four[1] << 16 | (uint32_t)four[2] << 8 | four[3];
+}
+
 /* Whether reading gives the fields of p, and changes nothing but the fields' bytes. */
 static int reads(const uint8_t *bytes, const struct packet *p)
 {
@@ -73,11 +88,11 @@ static int reads(const uint8_t *bytes, const struct packet *p)
 
     lend(&h4, bytes, PACKET);
     lend(&fields, NULL, 0);
-    held = levelspruce_packet_read(lent_bytes(&h4), PACKET, lent_bytes(&fields), FIELDS) == LEVELSPRUCE_ANSWER_DONE
-        && untouched(&h4) && stands(&fields, FIELDS);
-    for (i = 0; i < FIELDS; i++)
+    held = levelspruce_packet_read(lent_bytes(&h4), PACKET, lent_bytes(&fields), BYTES) == LEVELSPRUCE_ANSWER_DONE
+        && untouched(&h4) && stands(&fields, BYTES);
+    for (i = 0; i < LEVELSPRUCE_FIELD_RESERVED; i++)
         held = held && lent_bytes(&fields)[i] == p->field[i];
-    return held;
+    return held && reserved_in(lent_bytes(&fields)) == p->field[LEVELSPRUCE_FIELD_RESERVED];
 }
 
 static int read_refuses_lengths(const uint8_t *bytes, size_t h4_length, size_t fields_length, uint8_t answer)
@@ -92,7 +107,7 @@ static int read_refuses_lengths(const uint8_t *bytes, size_t h4_length, size_t f
 
 static int read_refuses(const uint8_t *bytes, uint8_t answer)
 {
-    return read_refuses_lengths(bytes, PACKET, FIELDS, answer);
+    return read_refuses_lengths(bytes, PACKET, BYTES, answer);
 }
 
 /* ---- packets made by hand */
@@ -123,6 +138,36 @@ static void put_crc(uint8_t *h4, unsigned crc)
     put_nibble(h4, CRC_PLACE + 1, crc & 15u);
 }
 
+/* The reserved and zero bits in the order of sending: each one's frame in the packet, and the bit of its byte. */
+enum { RESERVED_BITS = 26 };
+static const struct { int place; uint8_t bit; } reserved_place[RESERVED_BITS] = {
+    { 2, 0x80 },  { 2, 0x40 },  { 2, 0x20 },                                                  /* beside RS-Ack */
+    { 3, 0x80 },  { 3, 0x40 },  { 3, 0x20 },  { 3, 0x10 },  { 4, 0x80 },  { 4, 0x40 },  { 4, 0x20 },
+    { 4, 0x10 },  { 5, 0x80 },  { 5, 0x40 },  { 5, 0x20 },  { 5, 0x10 },                      /* MFI1 11 to 13 */
+    { 11, 0x80 }, { 11, 0x40 }, { 11, 0x20 },                                                 /* beside GID */
+    { 12, 0x80 }, { 12, 0x40 }, { 12, 0x20 }, { 12, 0x10 }, { 13, 0x80 }, { 13, 0x40 }, { 13, 0x20 }, { 13, 0x10 },
+};
+
+/* The packet as the rules lay it out, written by hand: each field in the nibbles of its frames, then the CRC. */
+static void by_hand(uint8_t *h4, const struct packet *p)
+{
+    static const struct { int field, place, times; } nibbles[] = {
+        { LEVELSPRUCE_FIELD_MST, 0, 16 },   { LEVELSPRUCE_FIELD_MST, 1, 1 },   { LEVELSPRUCE_FIELD_RS_ACK, 2, 1 },
+        { LEVELSPRUCE_FIELD_SQ, 6, 16 },    { LEVELSPRUCE_FIELD_SQ, 7, 1 },    { LEVELSPRUCE_FIELD_EPOCH, 8, 16 },
+        { LEVELSPRUCE_FIELD_EPOCH, 9, 1 },  { LEVELSPRUCE_FIELD_WORD, 10, 1 }, { LEVELSPRUCE_FIELD_GID, 11, 1 },
+    };
+    size_t i;
+
+    for (i = 0; i < PACKET; i++)
+        h4[i] = (uint8_t)((i + 8) % 16);
+    for (i = 0; i < COUNT(nibbles); i++)
+        put_nibble(h4, nibbles[i].place, p->field[nibbles[i].field] / (unsigned)nibbles[i].times % 16);
+    for (i = 0; i < RESERVED_BITS; i++)
+        if (p->field[LEVELSPRUCE_FIELD_RESERVED] >> (RESERVED_BITS - 1 - i) & 1)
+            h4[reserved_place[i].place] |= reserved_place[i].bit;
+    put_crc(h4, remainder_of(h4));
+}
+
 /* P2 with another control word, and the CRC that belongs to it changed by the given bits. */
 static void with_word(uint8_t *h4, unsigned word, unsigned changed)
 {
@@ -139,41 +184,63 @@ static void test_examples(void)
     check("P1 is read", reads(p1_h4, &p1));
     check("P2 is written", writes(&p2, p2_h4));
     check("P2 is read", reads(p2_h4, &p2));
+    check("the packet whose fields all differ is written", writes(&mixed, mixed_h4));
+    check("the packet whose fields all differ is read", reads(mixed_h4, &mixed));
 }
 
-/* Every value of every field, beside those of P2, is written and reads back. */
+/* Every value of every field but the reserved bits, beside those of P2, is written at its place and reads back. */
 static void test_write_takes_all_that_fits(void)
 {
-    static const uint32_t most[FIELDS] = { 255, 15, 1, 255, 1, 255 };
+    static const uint32_t most[LEVELSPRUCE_FIELD_RESERVED] = { 255, 15, 1, 255, 1, 255 };
     int f, held;
     char name[80];
 
-    for (f = 0; f < FIELDS; f++) {
+    for (f = 0; f < LEVELSPRUCE_FIELD_RESERVED; f++) {
         struct packet p = p2;
         uint32_t value;
 
         held = 1;
         for (value = 0; value <= most[f]; value++) {
-            struct lent h4;
+            uint8_t h4[PACKET];
 
             p.field[f] = value;
             if (f == LEVELSPRUCE_FIELD_WORD && !is_assigned(value))
                 continue;
-            held = held && write_into(&h4, PACKET, &p) == LEVELSPRUCE_ANSWER_DONE && stands(&h4, PACKET)
-                && reads(lent_bytes(&h4), &p);
+            by_hand(h4, &p);
+            held = held && writes(&p, h4) && reads(h4, &p);
         }
-        sprintf(name, "writing answers 0 for every %s that fits, and it reads back", field_name[f]);
+        sprintf(name, "every %s that fits is written at its place and read there", field_name[f]);
         check(name, held);
     }
+}
+
+/* MST of all shapes, with both RS-Acks and in other packets than P2. */
+static void test_mst_of_all_shapes(void)
+{
+    struct packet p = { { 200, LEVELSPRUCE_WORD_DNU, 1, 0, 1, 77, 0 } };
+    uint8_t h4[PACKET];
+    uint32_t mst, ack;
+    int held = 1;
+
+    for (mst = 0; mst < 256; mst++)
+        for (ack = 0; ack < 2; ack++) {
+            p.field[LEVELSPRUCE_FIELD_EPOCH] = mst * 7 % 256;
+            p.field[LEVELSPRUCE_FIELD_WORD] = assigned[mst % COUNT(assigned)];
+            p.field[LEVELSPRUCE_FIELD_MST] = mst;
+            p.field[LEVELSPRUCE_FIELD_RS_ACK] = ack;
+            by_hand(h4, &p);
+            held = held && writes(&p, h4) && reads(h4, &p);
+        }
+    check("MST of all shapes is written and read, with both RS-Acks", held);
 }
 
 /* A value that is too large is refused, also where its low bits alone would fit. */
 static void test_write_refuses_too_large(void)
 {
-    static const uint32_t first_too_large[FIELDS] = { 256, 16, 2, 256, 2, 256 };
+    static const uint32_t first_too_large[LEVELSPRUCE_FIELD_RESERVED] = { 256, 16, 2, 256, 2, 256 };
     int f;
 
-    for (f = 0; f < FIELDS; f++) {
+    for (f = 0; f < LEVELSPRUCE_FIELD_RESERVED; f++) {
         const uint32_t first = first_too_large[f];
         /* P2's own value under high bits that do not belong there */
         const uint32_t fits = p2.field[f];
@@ -195,6 +262,21 @@ static void test_write_refuses_too_large(void)
     }
 }
 
+static void test_write_refuses_reserved_too_large(void)
+{
+    static const uint32_t values[] = { LEVELSPRUCE_RESERVED_MOST + 1u, LEVELSPRUCE_RESERVED_MOST + 2u, 0x04000001u, 0x07FFFFFFu,
+                                       0x08000000u, 0x10000000u, 0x40000000u, 0x80000000u, UINT32_MAX - 1, UINT32_MAX };
+    struct packet p = mixed;
+    int held = 1;
+    size_t i;
+
+    for (i = 0; i < COUNT(values); i++) {
+        p.field[LEVELSPRUCE_FIELD_RESERVED] = values[i];
+        held = held && write_refuses(&p, PACKET, LEVELSPRUCE_ANSWER_FIELD);
+    }
+    check("writing answers 8 where the reserved number is too large", held);
+}
+
 static void test_write_refuses_words(void)
 {
     struct packet p = p2;
@@ -212,7 +294,7 @@ static void test_write_refuses_words(void)
 }
 
 static const size_t wrong_packet_length[] = { 0, 1, 15, 17, 64 };
-static const size_t wrong_fields_length[] = { 0, 1, 5, 7, 16, 64 };
+static const size_t wrong_fields_length[] = { 0, 1, 6, 7, 9, 11, 16, 64 };
 
 static void test_write_refuses_lengths(void)
 {
@@ -229,7 +311,7 @@ static void test_write_refuses_lengths(void)
     check("writing answers 9 for a wrong length", length);
     check("writing answers 9 before 8", order);
     check("writing answers 9 for NULL with length 0",
-          levelspruce_packet_write(0, LEVELSPRUCE_WORD_IDLE, 0, 255, 0, 255, NULL, 0) == LEVELSPRUCE_ANSWER_LENGTH);
+          levelspruce_packet_write(0, LEVELSPRUCE_WORD_IDLE, 0, 255, 0, 255, 0, NULL, 0) == LEVELSPRUCE_ANSWER_LENGTH);
 }
 
 /* ---- tests of reading */
@@ -242,8 +324,8 @@ static void test_read_refuses_lengths(void)
     size_t i, j;
 
     for (i = 0; i < COUNT(wrong_packet_length); i++) {
-        h4 = h4 && read_refuses_lengths(p1_h4, wrong_packet_length[i], FIELDS, LEVELSPRUCE_ANSWER_LENGTH);
-        order = order && read_refuses_lengths(bad_crc, wrong_packet_length[i], FIELDS, LEVELSPRUCE_ANSWER_LENGTH);
+        h4 = h4 && read_refuses_lengths(p1_h4, wrong_packet_length[i], BYTES, LEVELSPRUCE_ANSWER_LENGTH);
+        order = order && read_refuses_lengths(bad_crc, wrong_packet_length[i], BYTES, LEVELSPRUCE_ANSWER_LENGTH);
         for (j = 0; j < COUNT(wrong_fields_length); j++)
             both = both && read_refuses_lengths(p1_h4, wrong_packet_length[i], wrong_fields_length[j], LEVELSPRUCE_ANSWER_LENGTH);
     }
@@ -258,7 +340,7 @@ static void test_read_refuses_lengths(void)
 
     lend(&lent, p1_h4, PACKET);
     check("reading answers 9 for NULL with length 0",
-          levelspruce_packet_read(NULL, 0, lent_bytes(&lent), FIELDS) == LEVELSPRUCE_ANSWER_LENGTH
+          levelspruce_packet_read(NULL, 0, lent_bytes(&lent), BYTES) == LEVELSPRUCE_ANSWER_LENGTH
           && levelspruce_packet_read(lent_bytes(&lent), PACKET, NULL, 0) == LEVELSPRUCE_ANSWER_LENGTH
           && levelspruce_packet_read(NULL, 0, NULL, 0) == LEVELSPRUCE_ANSWER_LENGTH && untouched(&lent));
 }
@@ -353,34 +435,56 @@ static void test_read_looks_at_high_nibbles(void)
     check("reading looks at the high nibbles only, in a packet that it refuses", refused);
 }
 
-/* Reserved bits and the zeros beside GID and RS-Ack may be anything, if the CRC counts them. */
-static void test_read_passes_over_reserved_bits(void)
+/* Reserved bits and the zeros beside RS-Ack and GID, if the CRC counts them, are handed back and written again. */
+static void test_reserved_bits(void)
 {
-    static const struct { int place; unsigned bits; } free_bits[] = { { 2, 14 }, { 3, 15 }, { 4, 15 }, { 5, 15 }, { 11, 14 }, { 12, 15 }, { 13, 15 } };
+    struct packet p = p2;
     uint8_t h4[PACKET];
-    int uncounted = 1, counted = 1;
-    size_t i;
+    int uncounted = 1, each = 1, two = 1, all;
+    size_t i, j;
 
-    for (i = 0; i < COUNT(free_bits); i++) {
-        unsigned bit;
-
-        for (bit = 1; bit < 16; bit <<= 1) {
-            if (!(free_bits[i].bits & bit))
-                continue;
-            memcpy(h4, p2_h4, PACKET);
-            h4[free_bits[i].place] ^= (uint8_t)(bit << 4);
-            uncounted = uncounted && read_refuses(h4, LEVELSPRUCE_ANSWER_CRC);
-            put_crc(h4, remainder_of(h4));
-            counted = counted && reads(h4, &p2);
+    for (i = 0; i < RESERVED_BITS; i++) {
+        memcpy(h4, p2_h4, PACKET);
+        h4[reserved_place[i].place] |= reserved_place[i].bit;
+        uncounted = uncounted && read_refuses(h4, LEVELSPRUCE_ANSWER_CRC);
+        put_crc(h4, remainder_of(h4));
+        p.field[LEVELSPRUCE_FIELD_RESERVED] = 1u << (RESERVED_BITS - 1 - i);
+        each = each && reads(h4, &p) && writes(&p, h4);
+        for (j = i + 1; j < RESERVED_BITS; j++) {
+            p.field[LEVELSPRUCE_FIELD_RESERVED] = 1u << (RESERVED_BITS - 1 - i) | 1u << (RESERVED_BITS - 1 - j);
+            by_hand(h4, &p);
+            two = two && reads(h4, &p) && writes(&p, h4);
         }
     }
-    memcpy(h4, p2_h4, PACKET);
-    for (i = 0; i < COUNT(free_bits); i++)
-        h4[free_bits[i].place] ^= (uint8_t)(free_bits[i].bits << 4);
-    put_crc(h4, remainder_of(h4));
-    counted = counted && reads(h4, &p2);
-    check("reading passes over reserved bits that the CRC counts", counted);
+    p.field[LEVELSPRUCE_FIELD_RESERVED] = LEVELSPRUCE_RESERVED_MOST;
+    by_hand(h4, &p);
+    all = reads(h4, &p) && writes(&p, h4);
+    check("each reserved bit alone is read at its place and written there", each);
+    check("each two reserved bits are read and written", two);
+    check("all 26 reserved bits are read and written", all);
     check("reading answers 5 for reserved bits that the CRC does not count", uncounted);
+}
+
+/* Each two and three changed bits in a packet with all reserved bits set are found, as in P1. */
+static void test_read_refuses_crc_under_reserved_bits(void)
+{
+    struct packet p = mixed;
+    uint8_t whole[PACKET], h4[PACKET];
+    int i, j, k, held = 1;
+
+    p.field[LEVELSPRUCE_FIELD_RESERVED] = LEVELSPRUCE_RESERVED_MOST;
+    by_hand(whole, &p);
+    for (i = 0; i < 64; i++)
+        for (j = i + 1; j < 64; j++)
+            for (k = j; k < 64; k++) {
+                memcpy(h4, whole, PACKET);
+                h4[i / 4] ^= (uint8_t)(0x80 >> i % 4);
+                h4[j / 4] ^= (uint8_t)(0x80 >> j % 4);
+                if (k > j)
+                    h4[k / 4] ^= (uint8_t)(0x80 >> k % 4);
+                held = held && read_refuses(h4, LEVELSPRUCE_ANSWER_CRC);
+            }
+    check("reading answers 5 for each two or three bits changed in a packet with all reserved bits set", held);
 }
 
 /* ---- rows of a file */
@@ -396,14 +500,15 @@ static uint32_t word_named(const char *name)
     return UINT32_MAX;
 }
 
-/* Reads 'epoch 0 EOS sq 0 gid 0 crc BD : F8 F9 ..'. MST is FF and RS-Ack 0 in every row. */
+/* Reads 'epoch 0 EOS sq 0 gid 0 mst FF ack 0 reserved 0000000 crc BD : F8 F9 ..'. */
 static int parse_row(const char *row, struct packet *p, uint8_t *h4)
 {
-    unsigned epoch, sq, gid, crc, byte;
+    unsigned epoch, sq, gid, mst, ack, reserved, crc, byte;
     char word[8];
     int i, at = 0, step;
 
-    if (sscanf(row, "epoch %u %7s sq %u gid %u crc %x :%n", &epoch, word, &sq, &gid, &crc, &at) != 5 || at == 0)
+    if (sscanf(row, "epoch %u %7s sq %u gid %u mst %x ack %u reserved %x crc %x :%n", &epoch, word, &sq, &gid, &mst, &ack, &reserved,
+               &crc, &at) != 8 || at == 0)
         return 0;
     for (i = 0; i < PACKET; i++, at += step) {
         if (sscanf(row + at, "%x%n", &byte, &step) != 1 || byte > 255)
@@ -413,9 +518,10 @@ static int parse_row(const char *row, struct packet *p, uint8_t *h4)
     p->field[LEVELSPRUCE_FIELD_EPOCH] = epoch;
     p->field[LEVELSPRUCE_FIELD_WORD] = word_named(word);
     p->field[LEVELSPRUCE_FIELD_GID] = gid;
-    p->field[LEVELSPRUCE_FIELD_MST] = 255;
-    p->field[LEVELSPRUCE_FIELD_RS_ACK] = 0;
+    p->field[LEVELSPRUCE_FIELD_MST] = mst;
+    p->field[LEVELSPRUCE_FIELD_RS_ACK] = ack;
     p->field[LEVELSPRUCE_FIELD_SQ] = sq;
+    p->field[LEVELSPRUCE_FIELD_RESERVED] = reserved;
     return remainder_of(h4) == crc;
 }
 
@@ -442,8 +548,8 @@ static void test_rows(const char *path)
     }
     if (file)
         fclose(file);
-    sprintf(name, "the file of packets has 14 rows, and %d were found", rows);
-    check(name, rows == 14 && understood);
+    sprintf(name, "the file of packets has 38 rows, and %d were found", rows);
+    check(name, rows == 38 && understood);
     check("every row of the file is written", rows > 0 && written);
     check("every row of the file is read", rows > 0 && read);
 }
@@ -456,14 +562,17 @@ int main(int count, char **words)
     }
     test_examples();
     test_write_takes_all_that_fits();
+    test_mst_of_all_shapes();
     test_write_refuses_too_large();
+    test_write_refuses_reserved_too_large();
     test_write_refuses_words();
     test_write_refuses_lengths();
     test_read_refuses_lengths();
     test_read_refuses_crc();
     test_read_refuses_words();
     test_read_looks_at_high_nibbles();
-    test_read_passes_over_reserved_bits();
+    test_reserved_bits();
+    test_read_refuses_crc_under_reserved_bits();
     test_rows(words[1]);
     return tally();
 }

@@ -133,7 +133,7 @@ static uint8_t h4_of(uint32_t tag, struct source s)
 {
     uint8_t h4[LEVELSPRUCE_PACKET_BYTES];
 
-    if (levelspruce_packet_write(epoch_of(tag % TAGS), s.word, 1, 255, 0, s.number, h4, sizeof h4) != LEVELSPRUCE_ANSWER_DONE)
+    if (levelspruce_packet_write(epoch_of(tag % TAGS), s.word, 1, 255, 0, s.number, 0, h4, sizeof h4) != LEVELSPRUCE_ANSWER_DONE)
         check("a packet is written", 0);
     return h4[(tag + 8) % EPOCH];
 }

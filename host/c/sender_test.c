@@ -107,12 +107,12 @@ static int ranks_are(int count, int begun, int epoch, int x, const uint8_t *each
     return held;
 }
 
-/* The slot's packet is the one that levelspruce_packet_write gives, with GID 1, MST AB and RS-Ack 0. */
+/* The slot's packet is the one that levelspruce_packet_write gives, with GID 1, MST AB, RS-Ack 0 and no reserved bit. */
 static int packet_is(uint32_t slot, uint32_t epoch, uint32_t word, uint32_t number)
 {
     uint8_t h4[LEVELSPRUCE_PACKET_BYTES];
 
-    return levelspruce_packet_write(epoch, word, 1, 0xAB, 0, number, h4, sizeof h4) == LEVELSPRUCE_ANSWER_DONE
+    return levelspruce_packet_write(epoch, word, 1, 0xAB, 0, number, 0, h4, sizeof h4) == LEVELSPRUCE_ANSWER_DONE
         && done(PACKET, slot, 0, 0) && memcmp(lent_bytes(&out), h4, sizeof h4) == 0;
 }
 

@@ -25,7 +25,7 @@ static void nothing(void)
 
 static void packets(void)
 {
-    answers |= levelspruce_packet_write(7, LEVELSPRUCE_WORD_NORM, 1, 0x5A, 1, 9, h4, sizeof h4);
+    answers |= levelspruce_packet_write(7, LEVELSPRUCE_WORD_NORM, 1, 0x5A, 1, 9, 0x155AA55, h4, sizeof h4);
     answers |= levelspruce_packet_read(h4, sizeof h4, fields, sizeof fields);
 }
 
@@ -69,7 +69,7 @@ static void receiving(void)
         for (port = 0; port < PORTS; port++) {
             uint8_t answer;
 
-            answers |= levelspruce_packet_write(n / LEVELSPRUCE_EPOCH_FRAMES, port + 1 < PORTS ? LEVELSPRUCE_WORD_NORM : LEVELSPRUCE_WORD_EOS, 0, 0, 0, port, h4, sizeof h4);
+            answers |= levelspruce_packet_write(n / LEVELSPRUCE_EPOCH_FRAMES, port + 1 < PORTS ? LEVELSPRUCE_WORD_NORM : LEVELSPRUCE_WORD_EOS, 0, 0, 0, port, 0, h4, sizeof h4);
             answer = levelspruce_receiver_frame(receiver, LEVELSPRUCE_RECEIVER_ROWS(PORTS), port, n > 150 && port == 1, h4[n % LEVELSPRUCE_EPOCH_FRAMES],
                                                 member, P, store, sizeof store);
             if (answer != LEVELSPRUCE_ANSWER_STEP && answer != LEVELSPRUCE_ANSWER_FAILED)

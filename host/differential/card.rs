@@ -5,7 +5,7 @@ use reference::receiver::rows::Row;
 
 extern "C" {
     fn levelspruce_packet_write(
-        epoch: u32, word: u32, gid: u32, mst: u32, rs_ack: u32, sq: u32, h4: *mut u8, h4_length: usize,
+        epoch: u32, word: u32, gid: u32, mst: u32, rs_ack: u32, sq: u32, reserved: u32, h4: *mut u8, h4_length: usize,
     ) -> u8;
     fn levelspruce_packet_read(h4: *const u8, h4_length: usize, fields: *mut u8, fields_length: usize) -> u8;
     fn levelspruce_spread(
@@ -44,7 +44,7 @@ extern "C" {
 }
 
 pub fn packet_write(f: &Fields, h4: &mut [u8]) -> u8 {
-    unsafe { levelspruce_packet_write(f.epoch, f.word, f.gid, f.mst, f.rs_ack, f.sq, h4.as_mut_ptr(), h4.len()) }
+    unsafe { levelspruce_packet_write(f.epoch, f.word, f.gid, f.mst, f.rs_ack, f.sq, f.reserved, h4.as_mut_ptr(), h4.len()) }
 }
 
 pub fn packet_read(h4: &[u8], fields: &mut [u8]) -> u8 {

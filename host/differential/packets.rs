@@ -3,7 +3,7 @@
 use crate::card;
 use crate::count::{Count, Test};
 use crate::random::Random;
-use reference::packet::{self, Fields, FIELDS_BYTES, PACKET_BYTES};
+use reference::packet::{self, Fields, FIELDS_BYTES, PACKET_BYTES, RESERVED_MOST};
 
 /// A lent buffer stands in the middle of an area, so that bytes written beside it show.
 const MARGIN: usize = 16;
@@ -26,6 +26,8 @@ pub fn compare(count: &mut Count) {
     reading_right_crc(count);
     reading_anything(count);
     reading_wrong_lengths(count);
+    relaying_anything(count);
+    relaying_each_bit(count);
 }
 
 // ---- one case
@@ -62,7 +64,32 @@ fn fitting_fields(random: &mut Random) -> Fields {
         mst: random.below(256) as u32,
         rs_ack: random.below(2) as u32,
         sq: random.below(256) as u32,
+        reserved: fitting_reserved(random),
     }
+}
+
+/// Any 26 bits, or one alone, or none.
+fn fitting_reserved(random: &mut Random) -> u32 {
+    match random.below(4) {
+        0 => 0,
+        1 => 1 << random.below(26),
+        _ => random.below(1 << 26) as u32,
+    }
+}
+
+/// The ten bytes that reading gives of these fields.
+fn field_bytes(f: &Fields) -> [u8; FIELDS_BYTES] {
+    let mut bytes = [0u8; FIELDS_BYTES];
+    bytes[..6].copy_from_slice(&[f.epoch, f.word, f.gid, f.mst, f.rs_ack, f.sq].map(|x| x as u8));
+    bytes[6..].copy_from_slice(&f.reserved.to_be_bytes());
+    bytes
+}
+
+/// The fields in ten bytes that reading gave.
+fn fields_in(bytes: &[u8]) -> Fields {
+    let [epoch, word, gid, mst, rs_ack, sq] = [0, 1, 2, 3, 4, 5].map(|i: usize| u32::from(bytes[i]));
+    let reserved = u32::from_be_bytes([bytes[6], bytes[7], bytes[8], bytes[9]]);
+    Fields { epoch, word, gid, mst, rs_ack, sq, reserved }
 }
 
 /// A number that often lies at a limit, or has only high bits too many.
@@ -80,13 +107,14 @@ fn any_fields(random: &mut Random) -> Fields {
     let mut fields = fitting_fields(random);
     for _ in 0..1 + random.below(3) {
         let number = any_number(random);
-        match random.below(6) {
+        match random.below(7) {
             0 => fields.epoch = number,
             1 => fields.word = number,
             2 => fields.gid = number,
             3 => fields.mst = number,
             4 => fields.rs_ack = number,
-            _ => fields.sq = number,
+            5 => fields.sq = number,
+            _ => fields.reserved = random.one_of(&[number, RESERVED_MOST, RESERVED_MOST + 1, !number]),
         }
     }
     fields
@@ -99,6 +127,17 @@ fn any_length(random: &mut Random, right: usize) -> usize {
         1 => random.one_of(&[0, right - 1, right + 1]),
         _ => right,
     }
+}
+
+/// Puts the right CRC into sixteen H4 bytes; the low nibbles stay.
+fn seal(h4: &mut [u8]) {
+    let mut nibbles = [0u8; 16];
+    for i in 0..16 {
+        nibbles[i] = h4[i] >> 4;
+    }
+    let crc = packet::crc(&nibbles);
+    h4[14] = crc & 0xF0 | h4[14] & 0x0F;
+    h4[15] = crc << 4 | h4[15] & 0x0F;
 }
 
 fn any_area(random: &mut Random) -> Area {
@@ -125,8 +164,7 @@ fn writing_what_fits(count: &mut Count) {
         let f = fitting_fields(&mut random);
         let (answer, area) = write_case(&mut writing, &mut random, &f, PACKET_BYTES);
         let fields = read_case(&mut reading, &mut random, &area, PACKET_BYTES, FIELDS_BYTES);
-        let given = [f.epoch, f.word, f.gid, f.mst, f.rs_ack, f.sq].map(|x| x as u8);
-        back.case(answer, &&given[..], &lent(&fields, FIELDS_BYTES), &f);
+        back.case(answer, &&field_bytes(&f)[..], &lent(&fields, FIELDS_BYTES), &f);
     }
     writing.end(count, &[packet::DONE]);
     reading.end(count, &[packet::DONE]);
@@ -166,14 +204,7 @@ fn reading_right_crc(count: &mut Count) {
     let mut test = Test::new("any bits under the right CRC read as by the reference");
     for _ in 0..1_000_000 {
         let mut area = any_area(&mut random);
-        let h4 = lent_mut(&mut area, PACKET_BYTES);
-        let mut nibbles = [0u8; 16];
-        for i in 0..16 {
-            nibbles[i] = h4[i] >> 4;
-        }
-        let crc = packet::crc(&nibbles);
-        h4[14] = crc & 0xF0 | h4[14] & 0x0F;
-        h4[15] = crc << 4 | h4[15] & 0x0F;
+        seal(lent_mut(&mut area, PACKET_BYTES));
         read_case(&mut test, &mut random, &area, PACKET_BYTES, FIELDS_BYTES);
     }
     test.end(count, &[packet::DONE, packet::WORD_UNASSIGNED, packet::WORD_FIXED]);
@@ -199,4 +230,73 @@ fn reading_wrong_lengths(count: &mut Count) {
         read_case(&mut test, &mut random, &area, h4_length, fields_length);
     }
     test.end(count, &[packet::DONE, packet::CRC_DIFFERS, packet::LENGTH_WRONG]);
+}
+
+// ---- a relay, for which no reference is needed: what it read and what it writes on are the same bits
+
+/// Reads sixteen H4 bytes and writes on what was read. The answer of reading, and the bytes before and after, or the bytes
+/// twice where reading refused.
+fn relay(h4: &[u8; PACKET_BYTES]) -> (u8, [u8; PACKET_BYTES]) {
+    let mut fields = [0u8; FIELDS_BYTES];
+    let answer = card::packet_read(h4, &mut fields);
+    let mut again = *h4;
+    if answer == packet::DONE {
+        again = [0; PACKET_BYTES];
+        let written = card::packet_write(&fields_in(&fields), &mut again);
+        assert_eq!(written, packet::DONE, "a packet that was read is not written: {h4:x?}");
+    }
+    (answer, again)
+}
+
+/// Any sixteen bytes, half of them under a right CRC, some with low nibbles that count.
+fn relaying_anything(count: &mut Count) {
+    let mut random = Random::new(7);
+    let mut high = Test::new("any bytes that read well are written again with the same high nibbles");
+    let mut all = Test::new("any bytes that read well and count are written again identically");
+    for case in 0..4_000_000u32 {
+        let mut h4 = [0u8; PACKET_BYTES];
+        random.fill(&mut h4);
+        if case % 2 == 0 {
+            seal(&mut h4);
+        }
+        if case % 4 < 2 {
+            for i in 0..PACKET_BYTES {
+                h4[i] = h4[i] & 0xF0 | (i as u8 + 8) % 16;
+            }
+            let (answer, again) = relay(&h4);
+            all.case(answer, &h4, &again, &h4);
+        } else {
+            let (answer, again) = relay(&h4);
+            high.case(answer, &h4.map(|b| b >> 4), &again.map(|b| b >> 4), &h4);
+        }
+    }
+    high.end(count, &[packet::DONE, packet::CRC_DIFFERS, packet::WORD_FIXED, packet::WORD_UNASSIGNED]);
+    all.end(count, &[packet::DONE, packet::CRC_DIFFERS, packet::WORD_FIXED, packet::WORD_UNASSIGNED]);
+}
+
+/// Each of the 26 bits alone, beside any fields: it rides in its own frame, and comes through.
+fn relaying_each_bit(count: &mut Count) {
+    // in the order of sending: the place of the frame and the bit of its byte
+    let bits: Vec<(usize, u32)> = [(2, 5), (3, 4), (4, 4), (5, 4), (11, 5), (12, 4), (13, 4)]
+        .iter()
+        .flat_map(|&(place, lowest)| (lowest..8).rev().map(move |bit| (place, bit)))
+        .collect();
+    assert_eq!(bits.len(), 26);
+    let mut random = Random::new(8);
+    let mut test = Test::new("each reserved bit alone is written where it belongs and relayed");
+    for case in 0..26 * 2000 {
+        let i = case % 26;
+        let mut fields = fitting_fields(&mut random);
+        fields.reserved = 0;
+        let mut without = [0u8; PACKET_BYTES];
+        card::packet_write(&fields, &mut without);
+        fields.reserved = 1 << (25 - i);
+        let mut with = [0u8; PACKET_BYTES];
+        let answer = card::packet_write(&fields, &mut with);
+        let (place, bit) = bits[i];
+        without[place] ^= 1 << bit;
+        seal(&mut without);
+        test.case(answer, &(without, without), &(with, relay(&with).1), &fields);
+    }
+    test.end(count, &[packet::DONE]);
 }

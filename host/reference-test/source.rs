@@ -15,7 +15,7 @@ pub const SAYS_IDLE: Says = Says { word: packet::IDLE, sq: 255, gid: 0 };
 
 /// The sixteen H4 bytes of an epoch's packet.
 pub fn packet(epoch: u8, says: Says) -> [u8; 16] {
-    let fields = Fields { epoch: epoch.into(), word: says.word, gid: says.gid, mst: 255, rs_ack: 0, sq: says.sq };
+    let fields = Fields { epoch: epoch.into(), word: says.word, gid: says.gid, mst: 255, rs_ack: 0, sq: says.sq, reserved: 0 };
     let mut h4 = [0; 16];
     assert_eq!(packet::write(&fields, &mut h4), 0);
     h4

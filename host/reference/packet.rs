@@ -1,7 +1,9 @@
 //! The H4 control packet.
 
 pub const PACKET_BYTES: usize = 16;
-pub const FIELDS_BYTES: usize = 6;
+pub const FIELDS_BYTES: usize = 10;
+/// The greatest number that the reserved bits make.
+pub const RESERVED_MOST: u32 = (1 << 26) - 1;
 
 pub const DONE: u8 = 0;
 pub const CRC_DIFFERS: u8 = 5;
@@ -29,7 +31,13 @@ pub struct Fields {
     pub mst: u32,
     pub rs_ack: u32,
     pub sq: u32,
+    /// The reserved bits and the zeros beside RS-Ack and GID.
+    pub reserved: u32,
 }
+
+/// The reserved and zero bits in the order of sending: of each frame its MFI1 and how many of its nibble's bits, from the
+/// highest on.
+const RESERVED: [(usize, u32); 7] = [(10, 3), (11, 4), (12, 4), (13, 4), (3, 3), (4, 4), (5, 4)];
 
 /// The MFI1 of the frame that carries the i-th nibble: 8 to 15, then 0 to 7.
 fn mfi1_of_place(i: usize) -> usize {
@@ -72,6 +80,13 @@ fn nibbles_of(f: &Fields) -> [u8; 16] {
         put(14, f.sq / 16);
         put(15, f.sq % 16);
     }
+    let mut left = 26;
+    for (mfi1, bits) in RESERVED {
+        for bit in (4 - bits..4).rev() {
+            left -= 1;
+            nibbles[place_of_mfi1(mfi1)] |= ((f.reserved >> left & 1) << bit) as u8;
+        }
+    }
     let check = crc(&nibbles);
     nibbles[place_of_mfi1(6)] = check / 16;
     nibbles[place_of_mfi1(7)] = check % 16;
@@ -82,7 +97,7 @@ pub fn write(f: &Fields, h4: &mut [u8]) -> u8 {
     if h4.len() != PACKET_BYTES {
         return LENGTH_WRONG;
     }
-    let too_large = f.epoch > 255 || f.mst > 255 || f.sq > 255 || f.gid > 1 || f.rs_ack > 1;
+    let too_large = f.epoch > 255 || f.mst > 255 || f.sq > 255 || f.gid > 1 || f.rs_ack > 1 || f.reserved > RESERVED_MOST;
     if too_large || !WORDS.contains(&f.word) {
         return FIELD_REFUSED;
     }
@@ -93,7 +108,7 @@ pub fn write(f: &Fields, h4: &mut [u8]) -> u8 {
     DONE
 }
 
-/// Puts epoch, word, GID, MST, RS-Ack and SQ into six bytes.
+/// Puts epoch, word, GID, MST, RS-Ack and SQ into six bytes, and the reserved bits into four behind them, highest first.
 pub fn read(h4: &[u8], fields: &mut [u8]) -> u8 {
     if h4.len() != PACKET_BYTES || fields.len() != FIELDS_BYTES {
         return LENGTH_WRONG;
@@ -114,6 +129,13 @@ pub fn read(h4: &[u8], fields: &mut [u8]) -> u8 {
     if !WORDS.contains(&u32::from(word)) {
         return WORD_UNASSIGNED;
     }
-    fields.copy_from_slice(&[two(0), word, one(3) % 2, two(8), one(10) % 2, two(14)]);
+    fields[..6].copy_from_slice(&[two(0), word, one(3) % 2, two(8), one(10) % 2, two(14)]);
+    let mut reserved: u32 = 0;
+    for (mfi1, bits) in RESERVED {
+        for bit in (4 - bits..4).rev() {
+            reserved = reserved << 1 | u32::from(one(mfi1) >> bit & 1);
+        }
+    }
+    fields[6..].copy_from_slice(&reserved.to_be_bytes());
     DONE
 }

@@ -234,7 +234,7 @@ fn read(nibbles: &[u8; 16]) -> Option<(u8, u8, u8)> {
     let h4 = nibbles.map(|n| n % 16 * 16);
     let mut fields = [0u8; packet::FIELDS_BYTES];
     let answer = packet::read(&h4, &mut fields);
-    let [_, word, gid, _, _, number] = fields;
+    let [_, word, gid, _, _, number, ..] = fields;
     (answer == packet::DONE).then_some((word, gid, number))
 }
 

@@ -192,7 +192,7 @@ impl Sender {
         }
         let word = u32::from(code(self.going.word(slot as usize)));
         let sq = self.going.slots[slot as usize].number;
-        let fields = crate::packet::Fields { epoch: self.epoch, word, gid: self.gid, mst: self.mst, rs_ack: self.rs_ack, sq };
+        let fields = crate::packet::Fields { epoch: self.epoch, word, gid: self.gid, mst: self.mst, rs_ack: self.rs_ack, sq, reserved: 0 };
         crate::packet::write(&fields, h4)
     }
 

@@ -58,31 +58,31 @@ module _ (epoch word gid mst ack sq : ℕ) where
       S = ltb sq 256
 
   -- where a field is no byte, the fields do not fit
-  pub unfit : areBytes epoch word gid mst ack sq ≡ false → fitting (given epoch word gid mst ack sq) ≡ false
-  unfit e =
-      fails (fitting (given epoch word gid mst ack sq))
-      (λ t. let b = bounds (given epoch word gid mst ack sq) t in
+  pub unfit : (reserved : ℕ) → areBytes epoch word gid mst ack sq ≡ false → fitting (given epoch word gid mst ack sq reserved) ≡ false
+  unfit reserved e =
+      fails (fitting (given epoch word gid mst ack sq reserved))
+      (λ t. let b = bounds (given epoch word gid mst ack sq reserved) t in
       false≢true (sym e ∙ rw (lt-ltb epoch 256 (omega arith), lt-ltb word 256 (omega arith), lt-ltb gid 256 (omega arith), lt-ltb mst 256 (omega arith), lt-ltb ack 256 (omega arith), lt-ltb sq 256 (omega arith)) refl))
 
-  pub write-unfit : (s : List ℕ) (r : ℕ) → areBytes epoch word gid mst ack sq ≡ false → r ≡ writeRefusal (length s)
-      → (r ≡ writingNumber (writeAnswer (given epoch word gid mst ack sq) s)) × (s ≡ writeBytes (given epoch word gid mst ack sq) s)
+  pub write-unfit : (reserved : ℕ) (s : List ℕ) (r : ℕ) → areBytes epoch word gid mst ack sq ≡ false → r ≡ writeRefusal (length s)
+      → (r ≡ writingNumber (writeAnswer (given epoch word gid mst ack sq reserved) s)) × (s ≡ writeBytes (given epoch word gid mst ack sq reserved) s)
   unfolding writeAnswer writeBytes
-  write-unfit s r e h = go (eqb (length s) 16) refl
+  write-unfit reserved s r e h = go (eqb (length s) 16) refl
     where
-      go : (b : Bool) → eqb (length s) 16 ≡ b → (r ≡ writingNumber (writeAnswer (given epoch word gid mst ack sq) s)) × (s ≡ writeBytes (given epoch word gid mst ack sq) s)
-      go true q = (h ∙ rw (q, unfit e) refl, rw (q, unfit e) refl)
+      go : (b : Bool) → eqb (length s) 16 ≡ b → (r ≡ writingNumber (writeAnswer (given epoch word gid mst ack sq reserved) s)) × (s ≡ writeBytes (given epoch word gid mst ack sq reserved) s)
+      go true q = (h ∙ rw (q, unfit reserved e) refl, rw (q, unfit reserved e) refl)
       go false q = (h ∙ rw q refl, rw q refl)
 
 module _ (h4 s : List ℕ) where
-  pub read-wrong : (length s ≡ 6 → ⊥) → (9 ≡ readAnswerC h4 s) × (s ≡ readFieldsC h4 s)
+  pub read-wrong : (length s ≡ 10 → ⊥) → (9 ≡ readAnswerC h4 s) × (s ≡ readFieldsC h4 s)
   unfolding readAnswerC readFieldsC
-  read-wrong d = rw (ne-eqb (length s) 6 d) (refl, refl)
+  read-wrong d = rw (ne-eqb (length s) 10 d) (refl, refl)
 
-  pub read-right : (r t : Reading) (v : List ℕ) → length s ≡ 6 → t ≡ readAnswer h4 → t ≡ r → v ≡ valuesOr r s
+  pub read-right : (r t : Reading) (v : List ℕ) → length s ≡ 10 → t ≡ readAnswer h4 → t ≡ r → v ≡ valuesOr r s
       → (readingNumber r ≡ readAnswerC h4 s) × (v ≡ readFieldsC h4 s)
   unfolding readAnswerC readFieldsC
-  read-right r t v h e q k = rw (eq-eqb (length s) 6 h, ← e, q) (refl, k)
+  read-right r t v h e q k = rw (eq-eqb (length s) 10 h, ← e, q) (refl, k)
 
--- six bytes copied over six
-pub put : (f : Fields) (s t : List ℕ) → length s ≡ 6 → t ≡ valuesIn f ++ drop 6 s → t ≡ valuesIn f
-put f s t h e = e ∙ rw (drop-of-length-le s {i = 6} (omega arith)) refl
+-- ten bytes copied over ten
+pub put : (f : Fields) (s t : List ℕ) → length s ≡ 10 → t ≡ valuesIn f ++ drop 10 s → t ≡ valuesIn f
+put f s t h e = e ∙ rw (drop-of-length-le s {i = 10} (omega arith)) refl

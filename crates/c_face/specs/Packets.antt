@@ -1,40 +1,56 @@
 -- The packet's C calls in terms of the packet's own.
 use mathlib.Core.Bool.{Bool, cond, _&&_}
-use mathlib.Core.List.{List}
-use Prim.Native.Nat.{ℕ}
+use mathlib.Core.List.{List, [], _∷_}
+use Prim.Native.Nat.{ℕ, _/_, _%_, _^_}
 use lib.Dec.{eqb, ltb}
 use lib.ListN.{length}
 use Rattle.packet.specs.declared.layout.Fields.{Fields}
 use Rattle.packet.specs.declared.reader.Reading.{Reading}
 use Rattle.packet.specs.declared.reader.Reading.the-variants.{Packet, Length, Crc, Fixed, Unassigned}
-use Rattle.packet.specs.Reading.{readAnswer, readingNumber, readingValues}
+use Rattle.packet.specs.Reading.{readAnswer, readingNumber}
 use Rattle.packet.specs.Writing.{writeAnswer, writeBytes, writingNumber}
 
 -- the fields that a C call gives, in its order
-abbrev pub given : ℕ → ℕ → ℕ → ℕ → ℕ → ℕ → Fields
-given epoch word gid mst ack sq = record { epoch = epoch; word = record { 0 = word }; gid = gid; mst = mst; «rs_ack» = ack; sq = sq }
+abbrev pub given : ℕ → ℕ → ℕ → ℕ → ℕ → ℕ → ℕ → Fields
+given epoch word gid mst ack sq reserved =
+    record { epoch = epoch; word = record { 0 = word }; gid = gid; mst = mst; «rs_ack» = ack; sq = sq; reserved = reserved }
 
 -- Writing for C: any 32 bits may come as a field.
-abbrev pub writeAnswerC : ℕ → ℕ → ℕ → ℕ → ℕ → ℕ → List ℕ → ℕ
-writeAnswerC epoch word gid mst ack sq h4 = writingNumber (writeAnswer (given epoch word gid mst ack sq) h4)
+abbrev pub writeAnswerC : ℕ → ℕ → ℕ → ℕ → ℕ → ℕ → ℕ → List ℕ → ℕ
+writeAnswerC epoch word gid mst ack sq reserved h4 = writingNumber (writeAnswer (given epoch word gid mst ack sq reserved) h4)
 
-abbrev pub writeBytesC : ℕ → ℕ → ℕ → ℕ → ℕ → ℕ → List ℕ → List ℕ
-writeBytesC epoch word gid mst ack sq h4 = writeBytes (given epoch word gid mst ack sq) h4
+abbrev pub writeBytesC : ℕ → ℕ → ℕ → ℕ → ℕ → ℕ → ℕ → List ℕ → List ℕ
+writeBytesC epoch word gid mst ack sq reserved h4 = writeBytes (given epoch word gid mst ack sq reserved) h4
 
--- Reading for C: the fields go into six lent bytes, of which another number is refused with 9 before all else.
+-- Reading for C: the fields go into ten lent bytes, of which another number is refused with 9 before all else.
 unfoldable pub readAnswerC : List ℕ → List ℕ → ℕ
-readAnswerC h4 fields = cond (eqb (length fields) 6) (readingNumber (readAnswer h4)) 9
+readAnswerC h4 fields = cond (eqb (length fields) 10) (readingNumber (readAnswer h4)) 9
 
--- a packet's values, or the lent bytes as they were
+-- a packet's values, of the reserved bits four bytes, the highest first
+abbrev pub valuesIn : Fields → List ℕ
+valuesIn f =
+    f .epoch
+    ∷ f .word .0
+    ∷ f .gid
+    ∷ f .mst
+    ∷ f .«rs_ack»
+    ∷ f .sq
+    ∷ (f .reserved / 2 ^ 24)
+    ∷ (f .reserved / 2 ^ 16 % 256)
+    ∷ (f .reserved / 2 ^ 8 % 256)
+    ∷ (f .reserved % 256)
+    ∷ []
+
+-- these, or the lent bytes as they were
 abbrev pub valuesOr : Reading → List ℕ → List ℕ
-valuesOr (Packet f) fields = readingValues (Packet f)
+valuesOr (Packet f) fields = valuesIn f
 valuesOr Length fields = fields
 valuesOr Crc fields = fields
 valuesOr Fixed fields = fields
 valuesOr Unassigned fields = fields
 
 unfoldable pub readFieldsC : List ℕ → List ℕ → List ℕ
-readFieldsC h4 fields = cond (eqb (length fields) 6) (valuesOr (readAnswer h4) fields) fields
+readFieldsC h4 fields = cond (eqb (length fields) 10) (valuesOr (readAnswer h4) fields) fields
 
 -- for the functions behind the calls
 abbrev pub areBytes : ℕ → ℕ → ℕ → ℕ → ℕ → ℕ → Bool
@@ -42,6 +58,3 @@ areBytes epoch word gid mst ack sq = ltb epoch 256 && ltb word 256 && ltb gid 25
 
 abbrev pub writeRefusal : ℕ → ℕ
 writeRefusal n = cond (eqb n 16) 8 9
-
-abbrev pub valuesIn : Fields → List ℕ
-valuesIn f = readingValues (Packet f)

@@ -26,10 +26,11 @@ pub extern "C" fn levelspruce_packet_write(
     mst: u32,
     rs_ack: u32,
     sq: u32,
+    reserved: u32,
     h4: &mut [u8],
 ) -> u8
-    ensures { λ r. ⌜ (r ≡ writeAnswerC epoch word gid mst «rs_ack» sq (now (h4 .entry)))
-        × (now (h4 .exit) ≡ writeBytesC epoch word gid mst «rs_ack» sq (now (h4 .entry))) ⌝ }
+    ensures { λ r. ⌜ (r ≡ writeAnswerC epoch word gid mst «rs_ack» sq reserved (now (h4 .entry)))
+        × (now (h4 .exit) ≡ writeBytesC epoch word gid mst «rs_ack» sq reserved (now (h4 .entry))) ⌝ }
 {
     if !are_bytes(epoch, word, gid, mst, rs_ack, sq) {
         return write_refusal(h4.len());
@@ -41,16 +42,18 @@ pub extern "C" fn levelspruce_packet_write(
         mst: mst as u8,
         rs_ack: rs_ack as u8,
         sq: sq as u8,
+        reserved,
     };
     let written = packet::write(fields, h4);
     written.number()
 }
 
 fn put_values(values: Fields, fields: &mut [u8])
-    requires { ⌜ length (now fields) ≡ 6 ⌝ }
+    requires { ⌜ length (now fields) ≡ 10 ⌝ }
     ensures { λ r. ⌜ now (fields .exit) ≡ valuesIn values ⌝ }
 {
     let word = values.word;
+    let reserved = values.reserved;
     let image = [
         values.epoch,
         word.0,
@@ -58,6 +61,10 @@ fn put_values(values: Fields, fields: &mut [u8])
         values.mst,
         values.rs_ack,
         values.sq,
+        (reserved / 16777216) as u8,
+        (reserved / 65536 % 256) as u8,
+        (reserved / 256 % 256) as u8,
+        (reserved % 256) as u8,
     ];
     bytes::copy(&image, fields);
 }
@@ -67,7 +74,7 @@ pub extern "C" fn levelspruce_packet_read(h4: &[u8], fields: &mut [u8]) -> u8
     ensures { λ r. ⌜ (r ≡ readAnswerC (now (h4 .entry)) (now (fields .entry)))
         × (now (fields .exit) ≡ readFieldsC (now (h4 .entry)) (now (fields .entry))) ⌝ }
 {
-    if fields.len() != 6 {
+    if fields.len() != 10 {
         return 9;
     }
     let reading = packet::read(h4);

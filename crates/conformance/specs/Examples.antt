@@ -1,4 +1,4 @@
--- 01's examples, marked P1 to P11, and its limits, in one table under one statement. Bytes stand in hexadecimal, as 01 has them.
+-- 01's examples, marked P1 to P11, its limits, and examples worked out apart for what those leave open, in one table under one statement. Bytes stand in hexadecimal, as 01 has them.
 use mathlib.Core.Path.{refl}
 use mathlib.Core.List.{List, [], _∷_, _++_}
 use Prim.Native.Nat.{ℕ, _+_}
@@ -64,11 +64,41 @@ bytes (a ∷ b ∷ ns) = byteOf a b ∷ bytes ns
 
 -- IDLE, SQ 255, MST all FAIL, RS-Ack 0, epoch 0, GID 0
 abbrev p1 : Fields
-p1 = record { epoch = 0; word = record { 0 = IDLE }; gid = 0; mst = 0xFF; «rs_ack» = 0; sq = 255 }
+p1 = record { epoch = 0; word = record { 0 = IDLE }; gid = 0; mst = 0xFF; «rs_ack» = 0; sq = 255; reserved = 0 }
 
 -- EOS, SQ 0, MST all FAIL, epoch 1, GID 1
 abbrev p2 : Fields
-p2 = record { epoch = 1; word = record { 0 = EOS }; gid = 1; mst = 0xFF; «rs_ack» = 0; sq = 0 }
+p2 = record { epoch = 1; word = record { 0 = EOS }; gid = 1; mst = 0xFF; «rs_ack» = 0; sq = 0; reserved = 0 }
+
+-- a packet whose fields all differ: DNU, SQ 77, MST A5, RS-Ack 1, epoch 200, GID 1
+abbrev mixed : Fields
+mixed = record { epoch = 200; word = record { 0 = DNU }; gid = 1; mst = 0xA5; «rs_ack» = 1; sq = 77; reserved = 0 }
+
+abbrev mixed-h4 : List ℕ
+mixed-h4 = 0xA8 ∷ 0x59 ∷ 0x1A ∷ 0x0B ∷ 0x0C ∷ 0x0D ∷ 0x4E ∷ 0xDF ∷ 0xC0 ∷ 0x81 ∷ 0xF2 ∷ 0x13 ∷ 0x04 ∷ 0x05 ∷ 0xA6 ∷ 0x77 ∷ []
+
+-- request 2026-08: NORM, SQ 17, epoch 5, GID 1, MST BF, RS-Ack 1, with reserved bits
+abbrev relayed : ℕ → Fields
+relayed reserved = record { epoch = 5; word = record { 0 = NORM }; gid = 1; mst = 0xBF; «rs_ack» = 1; sq = 17; reserved = reserved }
+
+-- the answer of writing it and the H4 bytes, and what reading those gives
+abbrev wrote : ℕ → List ℕ
+wrote reserved = writingNumber (writeAnswer (relayed reserved) (replicate 16 0)) ∷ writeBytes (relayed reserved) (replicate 16 0)
+
+abbrev came : List ℕ → List ℕ
+came h4 = readingNumber (readAnswer h4) ∷ readingValues (readAnswer h4)
+
+abbrev all-set : List ℕ
+all-set = 0xB8 ∷ 0xF9 ∷ 0xFA ∷ 0xFB ∷ 0xFC ∷ 0xFD ∷ 0x1E ∷ 0x1F ∷ 0x00 ∷ 0x51 ∷ 0x22 ∷ 0xF3 ∷ 0xF4 ∷ 0xF5 ∷ 0xB6 ∷ 0x87 ∷ []
+
+abbrev first-alone : List ℕ
+first-alone = 0xB8 ∷ 0xF9 ∷ 0x9A ∷ 0x0B ∷ 0x0C ∷ 0x0D ∷ 0x1E ∷ 0x1F ∷ 0x00 ∷ 0x51 ∷ 0x22 ∷ 0x13 ∷ 0x04 ∷ 0x05 ∷ 0x76 ∷ 0x97 ∷ []
+
+abbrev last-alone : List ℕ
+last-alone = 0xB8 ∷ 0xF9 ∷ 0x1A ∷ 0x0B ∷ 0x0C ∷ 0x0D ∷ 0x1E ∷ 0x1F ∷ 0x00 ∷ 0x51 ∷ 0x22 ∷ 0x13 ∷ 0x04 ∷ 0x15 ∷ 0x96 ∷ 0x27 ∷ []
+
+abbrev beside-gid : List ℕ
+beside-gid = 0xB8 ∷ 0xF9 ∷ 0x1A ∷ 0x0B ∷ 0x0C ∷ 0x0D ∷ 0x1E ∷ 0x1F ∷ 0x00 ∷ 0x51 ∷ 0x22 ∷ 0xF3 ∷ 0x04 ∷ 0x05 ∷ 0x46 ∷ 0x37 ∷ []
 
 abbrev p1-h4 : List ℕ
 p1-h4 = 0xF8 ∷ 0xF9 ∷ 0x0A ∷ 0x0B ∷ 0x0C ∷ 0x0D ∷ 0xFE ∷ 0xFF ∷ 0x00 ∷ 0x01 ∷ 0x52 ∷ 0x03 ∷ 0x04 ∷ 0x05 ∷ 0x96 ∷ 0x97 ∷ []
@@ -110,15 +140,43 @@ table =
     }
     ∷ record {
       name = "P1 data and CRC";
-      given = bytes (nibblesOf p1 0);
+      given = bytes (nibblesOf p1);
       said = 0xFF ∷ 0x00 ∷ 0x00 ∷ 0xFF ∷ 0x00 ∷ 0x50 ∷ 0x00 ∷ 0x99 ∷ [];
     }
     ∷ record { name = "P1 written"; given = writingNumber (writeAnswer p1 (replicate 16 0)) ∷ writeBytes p1 (replicate 16 0); said = 0 ∷ p1-h4 }
-    ∷ record { name = "P1 read"; given = readingNumber (readAnswer p1-h4) ∷ readingValues (readAnswer p1-h4); said = 0 ∷ 0 ∷ 5 ∷ 0 ∷ 0xFF ∷ 0 ∷ 255 ∷ [] }
+    ∷ record { name = "P1 read"; given = came p1-h4; said = 0 ∷ 0 ∷ 5 ∷ 0 ∷ 0xFF ∷ 0 ∷ 255 ∷ 0 ∷ [] }
     ∷ record {
       name = "P2 data and CRC";
-      given = bytes (nibblesOf p2 0);
+      given = bytes (nibblesOf p2);
       said = 0xFF ∷ 0x00 ∷ 0x00 ∷ 0x00 ∷ 0x01 ∷ 0x31 ∷ 0x00 ∷ 0xC3 ∷ [];
+    }
+    ∷ record {
+      name = "each field at its place, written";
+      given = writingNumber (writeAnswer mixed (replicate 16 0)) ∷ writeBytes mixed (replicate 16 0);
+      said = 0 ∷ mixed-h4;
+    }
+    ∷ record {
+      name = "each field at its place, read";
+      given = came mixed-h4;
+      said = 0 ∷ 200 ∷ 15 ∷ 1 ∷ 0xA5 ∷ 1 ∷ 77 ∷ 0 ∷ [];
+    }
+    ∷ record {
+      name = "reserved bits 0, written";
+      given = wrote 0;
+      said = 0 ∷ 0xB8 ∷ 0xF9 ∷ 0x1A ∷ 0x0B ∷ 0x0C ∷ 0x0D ∷ 0x1E ∷ 0x1F ∷ 0x00 ∷ 0x51 ∷ 0x22 ∷ 0x13 ∷ 0x04 ∷ 0x05 ∷ 0x96 ∷ 0x57 ∷ [];
+    }
+    ∷ record { name = "all 26 set, written"; given = wrote 67108863; said = 0 ∷ all-set }
+    ∷ record { name = "all 26 set, read"; given = came all-set; said = 0 ∷ 5 ∷ 2 ∷ 1 ∷ 0xBF ∷ 1 ∷ 17 ∷ 67108863 ∷ [] }
+    ∷ record { name = "the first reserved bit alone, written"; given = wrote 33554432; said = 0 ∷ first-alone }
+    ∷ record { name = "the first reserved bit alone, read"; given = came first-alone; said = 0 ∷ 5 ∷ 2 ∷ 1 ∷ 0xBF ∷ 1 ∷ 17 ∷ 33554432 ∷ [] }
+    ∷ record { name = "the last reserved bit alone, written"; given = wrote 1; said = 0 ∷ last-alone }
+    ∷ record { name = "the last reserved bit alone, read"; given = came last-alone; said = 0 ∷ 5 ∷ 2 ∷ 1 ∷ 0xBF ∷ 1 ∷ 17 ∷ 1 ∷ [] }
+    ∷ record { name = "the three bits beside GID, written"; given = wrote 1792; said = 0 ∷ beside-gid }
+    ∷ record { name = "the three bits beside GID, read"; given = came beside-gid; said = 0 ∷ 5 ∷ 2 ∷ 1 ∷ 0xBF ∷ 1 ∷ 17 ∷ 1792 ∷ [] }
+    ∷ record {
+      name = "reserved 67,108,863 and 67,108,864";
+      given = writingNumber (writeAnswer (relayed 67108863) (replicate 16 0)) ∷ writingNumber (writeAnswer (relayed 67108864) (replicate 16 0)) ∷ [];
+      said = 0 ∷ 8 ∷ [];
     }
     ∷ record { name = "P3 CRC of 56 zero bits"; given = crcOf (replicate 14 0) ∷ []; said = 0x00 ∷ [] }
     ∷ record { name = "P4 CRC of the last bit alone"; given = crcOf (replicate 13 0 ++ (1 ∷ [])) ∷ []; said = 0x07 ∷ [] }

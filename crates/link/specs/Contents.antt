@@ -3,7 +3,7 @@ use mathlib.Core.Bool.{true, cond}
 use mathlib.Core.List.{List, [], _++_}
 use Prim.Native.Nat.{ℕ, zero, suc, _+_, _*_}
 use lib.Dec.{eqb}
-use lib.ListN.{getD, replicate}
+use lib.ListN.{drop, getD, length, replicate}
 use Rattle.counting.specs.Each.{each}
 use Rattle.ground.specs.Table.{tabulate}
 use Rattle.judge.specs.declared.seen.Seen.{Seen}
@@ -46,13 +46,10 @@ module _ (r : Road) where
   framesFrom seen x zero = []
   framesFrom seen x (suc k) = framesFrom seen x k ++ frameAt seen (x + k)
 
-  -- the report of epoch i + 1
-  unfoldable pub reportAfter : ℕ → Told
-  reportAfter i =
+  -- the report of epoch i + 1, into an output
+  unfoldable pub reportAfter : ℕ → List ℕ → Told
+  reportAfter i out =
       let seen = allSeenAfter i in
       let mark = judgeOf seen (r .ports) in
-      record {
-        epoch = numberOf (suc i);
-        mark = mark;
-        bytes = cond (eqb mark HELD) [] (framesFrom seen (suc i * L r) (L r));
-      }
+      let bytes = cond (eqb mark HELD) [] (framesFrom seen (suc i * L r) (L r)) in
+      record { epoch = numberOf (suc i); mark = mark; bytes = bytes; rest = drop (length bytes) out }

@@ -1,17 +1,18 @@
--- Demand 3 (the minutes, item 3), as one statement. A link (Link) with what the minutes let be so (Assumed) and a receiver started over any rows and any store; its run (Running) calls the receiver's own
--- definitions frame by frame and fetches reports after each frame.
+-- Demand 3 (the minutes, item 3), as one statement. A link (Link) with what the minutes let be so (Assumed; over any sending side, AssumedOver) and a receiver started over any rows and any store; its run (Running)
+-- calls the receiver's own definitions frame by frame and fetches reports after each frame.
 use mathlib.Core.Path.{_≡_}
-use mathlib.Core.Logic.{_⊎_, _≢_}
+use mathlib.Core.Logic.{_⊎_}
 use mathlib.Core.List.{List, [], _++_}
 use Prim.Native.Nat.{ℕ, suc, _+_, _-_, _*_, _/_, _≤_, _<_}
-use lib.ListN.{getD, length, replicate}
+use lib.ListN.{getD, length}
 use Rattle.ground.specs.Table.{tabulate}
 use Rattle.judge.specs.Verdict.{SURE}
 use Rattle.receiver.specs.Fetch.{fetchAnswer}
 use Rattle.rows.specs.Rows.{rowsFor}
-use Rattle.link.specs.Link.{Alike, Assumed, Link, SameIn, epochFrames, expected, roadOf}
+use Rattle.link.specs.Link.{Alike, AssumedOver, Link, SameIn, epochFrames, expected, roadOf}
 use Rattle.link.specs.Moments.{Beginning, Run, Unready, coming, reached, says, saysThrough}
-use Rattle.link.specs.Running.{Moment, fresh, hasBegun, recordAt}
+use Rattle.link.specs.Running.{Moment, fresh, hasBegun, lentAt, outputAt, recordAt}
+use Rattle.link.specs.Told.{SaySame, Told}
 
 -- a moment: frame time t, in which the ports of `done` have been served and those of `rest` are still to come
 pub record Time (k : Link) : Type 0 where
@@ -22,7 +23,7 @@ pub record Time (k : Link) : Type 0 where
 
 -- all frames of the i-th epoch have come to every port
 abbrev pub FullyArrived : (k : Link) → Time k → ℕ → Type 0
-FullyArrived k at i = (p : ℕ) → p < k .history .slots → suc i * epochFrames k ≤ coming (roadOf k) (at .t) (at .rest) p
+FullyArrived k at i = (p : ℕ) → p < k .ports → suc i * epochFrames k ≤ coming (roadOf k) (at .t) (at .rest) p
 
 -- Of any run, so that other receivers can be held to it.
 module _ (k : Link) (run : Run) where
@@ -31,12 +32,12 @@ module _ (k : Link) (run : Run) where
   standing at = run (at .t) (at .done)
 
   -- 'From the second epoch to start after the foremost tag at that moment, each one that has fully arrived is reported once and in order': the first epoch to start after position F is the one
-  -- numbered F / 16 + 1 from the stream's start on, and the report of epoch i + 1 is `expected k i`. So n reports have been made, of the n epochs that follow it, each as expected; they have fully arrived, and the next has not.
+  -- numbered F / 16 + 1 from the stream's start on, and the report of epoch i + 1 is `expected k i`, into the output that was lent for it. So n reports have been made, of the n epochs that follow it, each as expected; they have fully arrived, and the next has not.
   pub record Reported (at : Time k) : Type 0 where
     pub F : ℕ
     pub beginning : Beginning (roadOf k) run F
     pub many : ℕ
-    pub are : standing at .told ≡ tabulate many (λ j. expected k (suc (F / epochFrames k) + j))
+    pub are : standing at .told ≡ tabulate many (λ j. expected k (suc (F / epochFrames k) + j) (k .output j))
     pub arrived : (j : ℕ) → j < many → FullyArrived k at (suc (suc (F / epochFrames k) + j))
     pub not-yet : FullyArrived k at (suc (suc (F / epochFrames k) + many)) → ⊥
 
@@ -46,7 +47,7 @@ module _ (k : Link) (run : Run) where
 
   pub record Promised : Type 0 where
     -- 'A fresh receiver begins within 48 frames of the last port's first': T is the frame time of the last port's first frame, and before frame time T + 47 it has had 47 frames
-    pub begins-within : (T : ℕ) → ((p : ℕ) → p < k .history .slots → k .delay p + k .first p ≤ T) → hasBegun (run (T + (epochFrames k * 3 - 1)) []) ≡ 1
+    pub begins-within : (T : ℕ) → ((p : ℕ) → p < k .ports → k .delay p + k .first p ≤ T) → hasBegun (run (T + (epochFrames k * 3 - 1)) []) ≡ 1
     -- at every moment of the run, for ever: nothing is reported before the beginning, and then each epoch as it has fully arrived
     pub always : (at : Time k) → Stands at
     -- every frame is answered 0 or 12, 12 only before its port is in step
@@ -60,25 +61,38 @@ ownRun k m₀ = reached (roadOf k) m₀
 pub record Started (k : Link) (m : Moment) : Type 0 where
   pub rows : List (List ℕ)
   pub store : List ℕ
-  pub rows-long : length rows ≡ rowsFor (k .history .slots)
-  pub store-long : length store ≡ k .history .slots * k .window * (k .payload + 1)
+  pub rows-long : length rows ≡ rowsFor (k .ports)
+  pub store-long : length store ≡ k .ports * k .window * (k .payload + 1)
   pub is : m ≡ fresh (roadOf k) rows store
 
 -- a fetch is answered 0 and says that none is due
 abbrev pub NoneDue : Link → Moment → Type 0
-NoneDue k m = (fetchAnswer (m .rows) (m .store) (k .output (length (m .told))) (replicate 8 0) ≡ 0) × (getD (recordAt (roadOf k) m) 0 0 ≡ 0)
+NoneDue k m = (fetchAnswer (m .rows) (m .store) (outputAt (roadOf k) m) (lentAt (roadOf k) m) ≡ 0) × (getD (recordAt (roadOf k) m) 0 0 ≡ 0)
 
--- 'So, over the same tags, delays, first frames and port orders, client streams that differ in an epoch reported sure never come out alike': of two such runs at the same moment, where an epoch that
--- either reports sure (the m-th reported) has different client bytes, the lists of reports differ.
+-- the m-th report of a moment, counted from 0
+abbrev pub noReport : Told
+noReport = record { epoch = 0; mark = 0; bytes = []; rest = [] }
+
+abbrev pub reportAt : Moment → ℕ → Told
+reportAt at m = getD (at .told) m noReport
+
+-- two moments at which the m-th report has been made, and the two differ in mark or bytes
+pub record ToldApart (a b : Moment) (m : ℕ) : Type 0 where
+  pub here : m < length (a .told)
+  pub there : m < length (b .told)
+  pub differ : SaySame (reportAt a m) (reportAt b m) → ⊥
+
+-- 'So, over the same tags, delays, first frames and port orders, client streams that differ in an epoch reported sure never come out alike': of two such runs at the same moment, where either's m-th report
+-- is sure and its epoch has different client bytes, it is the m-th reports that differ.
 pub record NeverAlike (k j : Link) : Type 0 where
   pub never : (mk mj : Moment) → Started k mk → Started j mj → (at : Time k) (bt : Time j) → at .t ≡ bt .t → at .rest ≡ bt .rest
       → (ok : Reported k (ownRun k mk) at) (m : ℕ) → m < ok .many
-      → (expected k (suc (ok .F / epochFrames k) + m) .mark ≡ SURE) ⊎ (expected j (suc (ok .F / epochFrames k) + m) .mark ≡ SURE)
+      → (reportAt (standing k (ownRun k mk) at) m .mark ≡ SURE) ⊎ (reportAt (standing j (ownRun j mj) bt) m .mark ≡ SURE)
       → (SameIn (suc (suc (ok .F / epochFrames k) + m)) k j → ⊥)
-      → standing k (ownRun k mk) at .told ≢ standing j (ownRun j mj) bt .told
+      → ToldApart (standing k (ownRun k mk) at) (standing j (ownRun j mj) bt) m
 
 pub record Demand3 (k : Link) : Type 0 where
   pub promised : (m₀ : Moment) → Started k m₀ → Promised k (ownRun k m₀)
   -- the fetches of every turn have ended by themselves
   pub fetched-out : (m₀ : Moment) → Started k m₀ → (at : Time k) → NoneDue k (standing k (ownRun k m₀) at)
-  pub never-alike : (j : Link) → Assumed j → Alike k j → NeverAlike k j
+  pub never-alike : (j : Link) → AssumedOver j → Alike k j → NeverAlike k j

@@ -1,5 +1,6 @@
 pub mod History
 pub mod Link
+pub mod Assumed
 pub mod Told
 pub mod Road
 pub mod Running
@@ -13,4 +14,5 @@ pub mod Judged
 pub mod Transport
 pub mod Alike
 pub mod Proved
+pub mod Theorems
 pub mod Samples

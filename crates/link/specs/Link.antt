@@ -1,23 +1,25 @@
--- Demand 3's environment: one sender, its lines and one receiver (the minutes, item 3), and the reports that are then to come.
+-- Demand 3's environment: what is sent, its lines and one receiver (the minutes, item 3), and the reports that are then to come.
 use mathlib.Core.Path.{_≡_}
 use mathlib.Core.Logic.{_⊎_}
 use mathlib.Core.Bool.{Bool, true, false, cond, _&&_}
 use mathlib.Core.List.{List, [], _∷_, _++_}
 use Prim.Native.Nat.{ℕ, zero, suc, _+_, _*_, _/_, _%_, _≤_, _<_}
 use lib.Dec.{eqb}
-use lib.ListN.{getD, length}
+use lib.ListN.{drop, getD, length}
 use Rattle.counting.specs.Words.{every}
 use Rattle.judge.specs.Verdict.{HELD, SURE}
-use Rattle.packet.specs.Kinds.{frames}
+use Rattle.packet.specs.Counts.{nibbleIn, nibblePlace}
+use Rattle.packet.specs.Kinds.{firstTag, frames, lead}
 use Rattle.packet.specs.Theorems.Damage.{changed}
 use Rattle.phases.specs.Sizes.{sized}
-use Rattle.link.specs.History.{Allowed, Client, CountKept, History, Pairing, epochAt, epochNumber, epochStart, firstTagOf, packetSent, payloadSent, xAt}
 use Rattle.link.specs.Road.{Below, Road, times}
+use Rattle.link.specs.Sending.{Client, Covered, Lawful, Pairing, Sending, epochAt, epochNumber, epochStart}
 use Rattle.link.specs.Told.{Told}
 
 pub record Link : Type 0 where
-  -- the sender's members, epoch by epoch
-  pub history : History
+  -- what each slot sends
+  pub sending : Sending
+  pub ports : ℕ
   -- P and W
   pub payload : ℕ
   pub window : ℕ
@@ -32,65 +34,85 @@ pub record Link : Type 0 where
   pub first : ℕ → ℕ
   -- the ports in the order of their frames, in each frame time
   pub order : ℕ → List ℕ
-  -- the output lent for each report
+  -- the output lent for each report, and the record lent to each fetch, by how many frames and how many reports there have been
   pub output : ℕ → List ℕ
+  pub lent : ℕ → ℕ → List ℕ
 
--- frames that an epoch has
+-- the kind of packets, and the frames that an epoch has
+abbrev pub kindOf : Link → ℕ
+kindOf k = k .sending .kind
+
 abbrev pub epochFrames : Link → ℕ
-epochFrames k = frames (k .history .kind)
+epochFrames k = frames (kindOf k)
 
 -- the packet of an epoch as it was sent to a port
 abbrev pub sentTo : Link → ℕ → ℕ → List ℕ
-sentTo k i p = packetSent (k .history) i (k .pairing p)
+sentTo k i p = k .sending .packet i (k .pairing p)
 
--- 'with one to three bits changed, none in its multiframe numbers'
-pub record Damaged (kind : ℕ) (sent came : List ℕ) : Type 0 where
+-- 'none in its multiframe numbers': a packet's H4 bytes came with the MFI1 of each frame as sent, which tells its place, and with both nibbles of MFI2, in the frames with MFI1 0 and 1
+pub record CountKept (kind : ℕ) (sent came : List ℕ) : Type 0 where
+  pub first : (k : ℕ) → k < frames kind → nibblePlace kind (getD came k 0) ≡ nibblePlace kind (getD sent k 0)
+  pub high : nibbleIn kind (getD came (lead kind) 0) ≡ nibbleIn kind (getD sent (lead kind) 0)
+  pub low : nibbleIn kind (getD came (lead kind + 1) 0) ≡ nibbleIn kind (getD sent (lead kind + 1) 0)
+
+-- 'with one to three bits changed, none in its multiframe numbers': how many at most is the sending side's to say
+pub record Damaged (kind changes : ℕ) (sent came : List ℕ) : Type 0 where
   pub long : length came ≡ frames kind
   pub bytes : (k : ℕ) → k < frames kind → getD came k 0 < 256
   pub least : 1 ≤ changed sent came
-  pub most : changed sent came ≤ 3
+  pub most : changed sent came ≤ changes
   pub counted : CountKept kind sent came
 
 -- 'Let each packet arrive as sent, or ..'
-abbrev pub Arrived : ℕ → List ℕ → List ℕ → Type 0
-Arrived kind sent came = (came ≡ sent) ⊎ Damaged kind sent came
+abbrev pub Arrived : ℕ → ℕ → List ℕ → List ℕ → Type 0
+Arrived kind changes sent came = (came ≡ sent) ⊎ Damaged kind changes sent came
 
--- What demand 3 lets be so. That each frame comes once, with its payload undamaged and not flagged failed, that reports are fetched after each frame, and that the receiver's state and the store
--- stay untouched between calls is said by how the receiver is called on this road.
-pub record Assumed (k : Link) : Type 0 where
-  -- 'any history of members our sender allows from one start'
-  pub allowed : Allowed (k .history)
+-- What demand 3 lets be so of the client, the lines and what is lent. That each frame comes once, with its payload undamaged and not flagged failed, that reports are fetched after each frame, and that the receiver's
+-- state and the store stay untouched between calls is said by how the receiver is called on this road.
+pub record Lines (k : Link) : Type 0 where
   -- 01, 'Numbers that bound the work'
-  pub sizes : sized (k .history .kind) (k .history .slots) (k .payload) (k .window) ≡ true
+  pub sizes : sized (kindOf k) (k .ports) (k .payload) (k .window) ≡ true
   -- 'any client bytes'; 'a group frame has X x P bytes'
-  pub client : (x : ℕ) → length (k .client x) ≡ xAt (k .history) (epochAt (k .history) x) * k .payload
-  -- 'each slot reach one port and each port one slot'
-  pub paired : Pairing (k .history .slots) (k .pairing)
+  pub client : (x : ℕ) → length (k .client x) ≡ k .sending .x (epochAt (kindOf k) x) * k .payload
   -- 'spread at most the window less 16 frames'
-  pub spread : (p q : ℕ) → p < k .history .slots → q < k .history .slots → k .delay p + frames (k .history .kind) ≤ k .delay q + k .window
+  pub spread : (p q : ℕ) → p < k .ports → q < k .ports → k .delay p + epochFrames k ≤ k .delay q + k .window
   -- 'in any port order within a frame time': every port once in each
-  pub once : (t p : ℕ) → p < k .history .slots → times p (k .order t) ≡ 1
-  pub only : (t : ℕ) → Below (k .history .slots) (k .order t)
+  pub once : (t p : ℕ) → p < k .ports → times p (k .order t) ≡ 1
+  pub only : (t : ℕ) → Below (k .ports) (k .order t)
   -- what came of each packet
-  pub arrived : (i p : ℕ) → p < k .history .slots → Arrived (k .history .kind) (sentTo k i p) (k .came i p)
+  pub arrived : (i p : ℕ) → p < k .ports → Arrived (kindOf k) (k .sending .changes) (sentTo k i p) (k .came i p)
   -- 'The lent output holds at least ports x 16 x P bytes'
-  pub room : (j : ℕ) → k .history .slots * frames (k .history .kind) * k .payload ≤ length (k .output j)
+  pub room : (j : ℕ) → k .ports * epochFrames k * k .payload ≤ length (k .output j)
+  -- and the record any eight
+  pub eight : (a j : ℕ) → length (k .lent a j) ≡ 8
 
--- what reaches the receiver: there are as many ports as slots, and each gets its slot's frames
+-- What demand 3 over any sending side lets be so.
+pub record AssumedOver (k : Link) : Type 0 where
+  pub lawful : Lawful (k .sending) (k .payload) (k .client)
+  pub lines : Lines k
+  -- each port has a slot of its own
+  pub paired : Pairing (k .ports) (k .sending .slots) (k .pairing)
+  -- every slot that is not IDLE in an epoch that starts at or after some position reaches a port, and no port's first frame is before that position: an epoch in which it falls had its packets fixed before, and rules no reported one
+  pub earliest : ℕ
+  pub not-before : (p : ℕ) → p < k .ports → earliest ≤ k .first p
+  pub covered : (i : ℕ) → earliest ≤ epochStart (kindOf k) i → Covered (k .sending) i (k .ports) (k .pairing)
+
+-- what reaches the receiver: each port gets its slot's frames
 unfoldable pub roadOf : Link → Road
 roadOf k =
     record {
-      kind = k .history .kind;
-      ports = k .history .slots;
+      kind = kindOf k;
+      ports = k .ports;
       payload = k .payload;
       window = k .window;
-      offset = firstTagOf (k .history);
-      h4 = λ p x. getD (k .came (x / frames (k .history .kind)) p) (x % frames (k .history .kind)) 0;
-      bytes = λ p x. payloadSent (k .history) (k .payload) (k .client) x (k .pairing p);
+      offset = firstTag (kindOf k) (k .sending .first);
+      h4 = λ p x. getD (k .came (epochAt (kindOf k) x) p) (x % epochFrames k) 0;
+      bytes = λ p x. k .sending .payload x (k .pairing p);
       delay = k .delay;
       first = k .first;
       order = k .order;
       output = k .output;
+      lent = k .lent;
     }
 
 -- two lists byte for byte
@@ -102,7 +124,7 @@ sameBytes (k ∷ l) (n ∷ m) = eqb k n && sameBytes l m
 
 -- all packets of the i-th epoch came as sent
 unfoldable pub allAsSent : Link → ℕ → Bool
-allAsSent k i = every (k .history .slots) (λ p. sameBytes (k .came i p) (sentTo k i p))
+allAsSent k i = every (k .ports) (λ p. sameBytes (k .came i p) (sentTo k i p))
 
 -- n of the client's group frames from position x on, one after the other
 unfoldable pub framesOf : Client → ℕ → ℕ → List ℕ
@@ -111,28 +133,31 @@ framesOf client x (suc n) = framesOf client x n ++ client (x + n)
 
 -- the client's bytes of the i-th epoch
 abbrev pub clientBytes : Link → ℕ → List ℕ
-clientBytes k i = framesOf (k .client) (epochStart (k .history) i) (frames (k .history .kind))
+clientBytes k i = framesOf (k .client) (epochStart (kindOf k) i) (epochFrames k)
 
--- The report of epoch i + 1, ruled by the packets of epoch i: 'exactly the client's bytes, marked sure, if all its ruling packets came as sent; otherwise held, with no bytes'.
-unfoldable pub expected : Link → ℕ → Told
-expected k i =
+-- The report of epoch i + 1, ruled by the packets of epoch i, into an output: 'exactly the client's bytes, marked sure, if all its ruling packets came as sent; otherwise held, with no bytes'. What is beyond its bytes
+-- stands as it was lent: where it is held, the whole output.
+unfoldable pub expected : Link → ℕ → List ℕ → Told
+expected k i out =
+    let bytes = cond (allAsSent k i) (clientBytes k (suc i)) [] in
     record {
-      epoch = epochNumber (k .history) (suc i);
+      epoch = epochNumber (kindOf k) (k .sending .first) (suc i);
       mark = cond (allAsSent k i) SURE HELD;
-      bytes = cond (allAsSent k i) (clientBytes k (suc i)) [];
+      bytes = bytes;
+      rest = drop (length bytes) out;
     }
 
 -- 'over the same tags, delays, first frames and port orders', at receivers of one size
 pub record Alike (k j : Link) : Type 0 where
   -- tags: those of the kind, from the same first epoch on
-  pub kind : k .history .kind ≡ j .history .kind
-  pub epoch : k .history .first ≡ j .history .first
+  pub kind : kindOf k ≡ kindOf j
+  pub epoch : k .sending .first ≡ j .sending .first
   pub payload : k .payload ≡ j .payload
   pub window : k .window ≡ j .window
-  pub delay : (p : ℕ) → p < k .history .slots → k .delay p ≡ j .delay p
-  pub first : (p : ℕ) → p < k .history .slots → k .first p ≡ j .first p
+  pub delay : (p : ℕ) → p < k .ports → k .delay p ≡ j .delay p
+  pub first : (p : ℕ) → p < k .ports → k .first p ≡ j .first p
   pub order : (t : ℕ) → k .order t ≡ j .order t
 
 -- the client streams of two links are the same in the i-th epoch
 abbrev pub SameIn : ℕ → Link → Link → Type 0
-SameIn i k j = (m : ℕ) → m < frames (k .history .kind) → k .client (epochStart (k .history) i + m) ≡ j .client (epochStart (k .history) i + m)
+SameIn i k j = (m : ℕ) → m < epochFrames k → k .client (epochStart (kindOf k) i + m) ≡ j .client (epochStart (kindOf k) i + m)

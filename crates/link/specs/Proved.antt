@@ -1,24 +1,27 @@
--- Demand 3 holds of every link with what the minutes let be so.
+-- Demand 3 over any sending side: it holds of every link with what is let be so.
 use mathlib.Core.Path.{_≡_, sym, ap, subst, _∙_}
-use mathlib.Core.Logic.{_⊎_, _≢_}
+use mathlib.Core.Logic.{_⊎_}
 use mathlib.Core.List.{List, []}
 use Prim.Native.Nat.{ℕ, suc, _+_, _-_, _*_, _/_, _≤_, _<_}
 use native.Mathlib.Nat.{mul-le-mul-right}
 use native.Mathlib.Omega.{arith}
-use lib.ListN.{length}
-use Rattle.ground.specs.Table.{length-tabulate, tabulate, tabulate-ext}
+use Rattle.packet.specs.Kinds.{firstTag}
+use Rattle.packet.specs.Theorems.Tags.{frames-some}
+use Rattle.step.specs.Laws.Run.{start-from}
+use Rattle.ground.specs.Table.{tabulate, tabulate-ext}
 use Rattle.judge.specs.Verdict.{SURE}
-use Rattle.link.specs.Alike.{never}
+use Rattle.link.specs.Alike.{never, ready-by}
 use Rattle.link.specs.Contents.{reportAfter}
-use Rattle.link.specs.Demand3.{Demand3, NeverAlike, NoneDue, Reported, Stands, Started, Time, ownRun, standing}
+use Rattle.link.specs.Demand3.{Demand3, NeverAlike, NoneDue, Reported, Stands, Started, Time, ToldApart, ownRun, reportAt, standing}
 use Rattle.link.specs.Demand3.Stands.{none-yet, reporting}
 use Rattle.link.specs.Judged.Apart.{same-ports}
 use Rattle.link.specs.Judged.Fairness.{fair}
 use Rattle.link.specs.Judged.Reports.{judged}
-use Rattle.link.specs.Laws.Numbers.{one-epoch}
-use Rattle.link.specs.Link.{Alike, Assumed, Link, SameIn, epochFrames, expected, roadOf}
-use Rattle.link.specs.Moments.{coming}
+use Rattle.link.specs.Laws.Numbers.{epoch-after-lt, one-epoch}
+use Rattle.link.specs.Link.{Alike, AssumedOver, Link, SameIn, epochFrames, expected, kindOf, roadOf}
+use Rattle.link.specs.Moments.{Beginning, coming}
 use Rattle.link.specs.Running.{Moment, fresh}
+use Rattle.link.specs.Sending.{Covered, epochStart}
 use Rattle.link.specs.Standing.{Before}
 use Rattle.link.specs.Told.{Told}
 use Rattle.link.specs.Transport.Answers.{answers-are}
@@ -28,13 +31,39 @@ use Rattle.link.specs.Transport.Start.{start}
 use Rattle.link.specs.Transport.Times.{Phase, Steps, begun-by, phase}
 use Rattle.link.specs.Transport.Times.Phase.{before, first, later}
 
-module _ (k : Link) (a : Assumed k) where
+module _ (k : Link) (a : AssumedOver k) where
   s : Steps (roadOf k)
   s = steps (roadOf k) (fair k a)
 
   module _ (m₀ : Moment) (fresh-start : Before (roadOf k) m₀ (k .first)) where
-    told-as : (g i : ℕ) (told : List Told) → told ≡ tabulate (i - g) (λ j. reportAfter (roadOf k) (g + j)) → told ≡ tabulate (i - g) (λ j. expected k (g + j))
-    told-as g i told e = e ∙ tabulate-ext (i - g) (λ j. reportAfter (roadOf k) (g + j)) (λ j. expected k (g + j)) (λ j b. judged k a (g + j))
+    -- the epochs from the first one to start after the foremost position on start after every port's first frame, so that all slots that take part reach a port
+    from-then : (F : ℕ) → Beginning (roadOf k) (ownRun k m₀) F → (j : ℕ) → Covered (k .sending) (suc (F / epochFrames k) + j) (k .ports) (k .pairing)
+    unfolding roadOf
+    from-then F b j = a .covered (suc (F / epochFrames k) + j) (late (F / epochFrames k) (epoch-after-lt (kindOf k) F))
+      where
+        front : a .earliest ≤ F
+        front =
+            let p : ℕ = b .foremost .port in
+            let below : p < k .ports = b .foremost .below in
+            let l = frames-some (kindOf k) in
+            let w = a .not-before p below in
+            let s = start-from (kindOf k) (firstTag (kindOf k) (k .sending .first)) (k .first p) .from in
+            let r = b .ready .stepped p below in
+            let e = b .foremost .is in
+            omega arith
+
+        late : (e : ℕ) → F < suc e * epochFrames k → a .earliest ≤ epochStart (kindOf k) (suc e + j)
+        late e h = let f = front in let m = mul-le-mul-right (epochFrames k) (plus e) in omega arith
+          where
+            plus : (e : ℕ) → suc e ≤ suc e + j
+            plus e = omega arith
+
+    told-as : (F i : ℕ) (told : List Told) → Beginning (roadOf k) (ownRun k m₀) F → told ≡ tabulate (i - suc (F / epochFrames k)) (λ j. reportAfter (roadOf k) (suc (F / epochFrames k) + j) (k .output j))
+        → told ≡ tabulate (i - suc (F / epochFrames k)) (λ j. expected k (suc (F / epochFrames k) + j) (k .output j))
+    told-as F i told b e =
+        e
+        ∙ tabulate-ext (i - suc (F / epochFrames k)) (λ j. reportAfter (roadOf k) (suc (F / epochFrames k) + j) (k .output j)) (λ j. expected k (suc (F / epochFrames k) + j) (k .output j))
+        (λ j l. judged k a (suc (F / epochFrames k) + j) (from-then F b j) (k .output j))
 
     stands : (at : Time k) → Stands k (ownRun k m₀) at
     unfolding roadOf
@@ -65,7 +94,7 @@ module _ (k : Link) (a : Assumed k) where
               F = F;
               beginning = b;
               many = i - suc (F / epochFrames k);
-              are = told-as (suc (F / epochFrames k)) i (standing k (ownRun k m₀) at .told) (c .told);
+              are = told-as F i (standing k (ownRun k m₀) at .told) b (c .told);
               arrived = λ j h p hp. (let w = c .within p hp in come j (coming (roadOf k) (at .t) (at .rest) p) h w);
               not-yet = λ all. (let w = all (o .port) (o .below) in let v = o .owes in absurd (next (coming (roadOf k) (at .t) (at .rest) (o .port)) w v));
             })
@@ -110,27 +139,23 @@ module _ (k : Link) (a : Assumed k) where
   always-stands m₀ o at = stands m₀ (from-start m₀ o) at
 
 -- its last sentence
-differ-too : (k j : Link) → Assumed k → Assumed j → Alike k j → NeverAlike k j
+differ-too : (k j : Link) → AssumedOver k → AssumedOver j → Alike k j → NeverAlike k j
 differ-too k j ak aj l = record { never = differ }
   where
-    more-than-none : (n : ℕ) (f : ℕ → Told) → 0 < n → tabulate n f ≢ []
-    more-than-none n f h e = let l = sym (length-tabulate n f) ∙ ap length e in omega arith
-
     differ : (mk mj : Moment) → Started k mk → Started j mj → (at : Time k) (bt : Time j) → at .t ≡ bt .t → at .rest ≡ bt .rest
         → (ok : Reported k (ownRun k mk) at) (m : ℕ) → m < ok .many
-        → (expected k (suc (ok .F / epochFrames k) + m) .mark ≡ SURE) ⊎ (expected j (suc (ok .F / epochFrames k) + m) .mark ≡ SURE)
+        → (reportAt (standing k (ownRun k mk) at) m .mark ≡ SURE) ⊎ (reportAt (standing j (ownRun j mj) bt) m .mark ≡ SURE)
         → (SameIn (suc (suc (ok .F / epochFrames k) + m)) k j → ⊥)
-        → standing k (ownRun k mk) at .told ≢ standing j (ownRun j mj) bt .told
-    differ mk mj sk sj at bt t rest ok m b sure other e = go (always-stands j aj mj sj bt)
+        → ToldApart (standing k (ownRun k mk) at) (standing j (ownRun j mj) bt) m
+    differ mk mj sk sj at bt t rest ok m b sure other = go (always-stands j aj mj sj bt)
       where
-        go : Stands j (ownRun j mj) bt → ⊥
-        go (none-yet n un told) = more-than-none (ok .many) (λ q. expected k (suc (ok .F / epochFrames k) + q)) (omega arith) (sym (ok .are) ∙ e ∙ told)
-        go (reporting n oj) = never k j l (same-ports k j ak aj l) (ownRun k mk) (ownRun j mj) at bt t rest ok oj ak aj m b sure other e
+        go : Stands j (ownRun j mj) bt → ToldApart (standing k (ownRun k mk) at) (standing j (ownRun j mj) bt) m
+        go (none-yet n un told) = absurd (ready-by k j l (same-ports k j ak aj l) ak (ownRun k mk) at bt t rest ok m b un)
+        go (reporting n oj) = never k j l (same-ports k j ak aj l) (ownRun k mk) (ownRun j mj) at bt t rest ok oj ak aj m b sure other
 
--- demand 3
-pub demand3 : (k : Link) → Assumed k → Demand3 k
+pub over : (k : Link) → AssumedOver k → Demand3 k
 unfolding roadOf
-demand3 k a =
+over k a =
     record {
       promised = λ m₀ o.
           record {

@@ -29,6 +29,8 @@ pub record Road : Type 0 where
   pub order : ℕ → List ℕ
   -- the output lent for the k-th report, which may be anything
   pub output : ℕ → List ℕ
+  -- the record lent to a fetch, by how many frames and how many reports there have been
+  pub lent : ℕ → ℕ → List ℕ
 
 -- frames that an epoch has
 abbrev pub L : Road → ℕ
@@ -57,6 +59,7 @@ pub record Fair (r : Road) : Type 0 where
   pub once : (t p : ℕ) → p < r .ports → times p (r .order t) ≡ 1
   pub only : (t : ℕ) → Below (r .ports) (r .order t)
   pub room : (k : ℕ) → r .ports * L r * r .payload ≤ length (r .output k)
+  pub eight : (a k : ℕ) → length (r .lent a k) ≡ 8
   -- position 0 starts an epoch
   pub starts : startsEpoch (r .kind) (r .offset) ≡ true
 

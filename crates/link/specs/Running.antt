@@ -3,7 +3,7 @@ use mathlib.Core.Bool.{false, cond}
 use mathlib.Core.List.{List, [], _∷_, _++_}
 use Prim.Native.Nat.{ℕ, zero, suc, _+_, _-_, _*_}
 use lib.Dec.{eqb, leb}
-use lib.ListN.{getD, length, replicate, take}
+use lib.ListN.{drop, getD, length, take}
 use Rattle.receiver.specs.Fetch.{fetchOut, fetchRecord, fetchRows}
 use Rattle.receiver.specs.Frame.{frameAnswer, frameRows, frameStore}
 use Rattle.receiver.specs.Starting.{startRows}
@@ -38,27 +38,32 @@ module _ (r : Road) where
         told = m .told;
       }
 
-  -- the record that a fetch writes
+  -- the output and the record that a fetch is lent
+  abbrev pub outputAt : Moment → List ℕ
+  outputAt m = r .output (length (m .told))
+
+  abbrev pub lentAt : Moment → List ℕ
+  lentAt m = r .lent (length (m .answers)) (length (m .told))
+
+  -- the record that it writes
   abbrev pub recordAt : Moment → List ℕ
-  recordAt m = fetchRecord (m .rows) (m .store) (r .output (length (m .told))) (replicate 8 0)
+  recordAt m = fetchRecord (m .rows) (m .store) (outputAt m) (lentAt m)
+
+  -- how many bytes a record says
+  abbrev pub bytesIn : List ℕ → ℕ
+  bytesIn rec = getD rec 4 0 * 16777216 + getD rec 5 0 * 65536 + getD rec 6 0 * 256 + getD rec 7 0
 
   abbrev pub toldBy : List ℕ → List ℕ → Told
-  toldBy rec out =
-      record {
-        epoch = getD rec 1 0;
-        mark = getD rec 0 0;
-        bytes = take (getD rec 4 0 * 16777216 + getD rec 5 0 * 65536 + getD rec 6 0 * 256 + getD rec 7 0) out;
-      }
+  toldBy rec out = record { epoch = getD rec 1 0; mark = getD rec 0 0; bytes = take (bytesIn rec) out; rest = drop (bytesIn rec) out }
 
   -- one fetch that gives a report
   unfoldable pub fetched : Moment → Moment
   fetched m =
-      let out = r .output (length (m .told)) in
       record {
-        rows = fetchRows (m .rows) (m .store) out (replicate 8 0);
+        rows = fetchRows (m .rows) (m .store) (outputAt m) (lentAt m);
         store = m .store;
         answers = m .answers;
-        told = m .told ++ (toldBy (recordAt m) (fetchOut (m .rows) (m .store) out (replicate 8 0)) ∷ []);
+        told = m .told ++ (toldBy (recordAt m) (fetchOut (m .rows) (m .store) (outputAt m) (lentAt m)) ∷ []);
       }
 
   -- 'reports fetched after each frame until none is due': at most k of them (the theorem says that none is due then)

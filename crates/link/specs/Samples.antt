@@ -5,3 +5,5 @@ mod Computing
 mod Reports
 mod TooWide
 mod ShutOut
+mod Apart
+mod FewerPorts

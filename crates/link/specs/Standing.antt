@@ -94,4 +94,4 @@ module _ (r : Road) where
     pub joined : (p : ℕ) → p < r .ports → stepAt (m .rows) p .joined ≡ 1
     pub whole : (p : ℕ) → p < r .ports → stepAt (m .rows) p .whole ≡ 1
     pub ruling : (p : ℕ) → p < r .ports → getD (packetsAt (m .rows) p) 1 [] ≡ packetOf r i p
-    pub told : m .told ≡ tabulate (i - g) (λ k. reportAfter r (g + k))
+    pub told : m .told ≡ tabulate (i - g) (λ k. reportAfter r (g + k) (r .output k))

@@ -34,7 +34,7 @@ module _ (ns : List ℕ) (sum carried : ℕ) (e : sum ≡ crcOf (take 14 ns)) (h
     read-packet w a = rw (← e, ← h, eq-eqb sum carried same, ← is, ne-eqb (f .word .0) 0 w, a)
 
 -- the CRC in its two places
-pub sealed-nibbles : (f : Fields) (d : List ℕ) (c : ℕ) → d ≡ dataOf f 0 ++ (0 ∷ 0 ∷ []) → c ≡ crcOf (take 14 d) → set (set d 14 (c / 16)) 15 (c % 16) ≡ nibblesOf f 0
+pub sealed-nibbles : (f : Fields) (d : List ℕ) (c : ℕ) → d ≡ dataOf f ++ (0 ∷ 0 ∷ []) → c ≡ crcOf (take 14 d) → set (set d 14 (c / 16)) 15 (c % 16) ≡ nibblesOf f
 unfolding nibblesOf sealedOf dataOf
 sealed-nibbles f d c e h = rw (h, e)
 
@@ -47,7 +47,7 @@ module _ (f : Fields) (s : List ℕ) where
   unfolding writeAnswer writeBytes
   write-field h b = rw (eq-eqb (length s) 16 h, b) (refl, refl)
 
-  pub write-done : length s ≡ 16 → fitting f ≡ true → (ns image t : List ℕ) → ns ≡ nibblesOf f 0 → image ≡ h4Of ns → t ≡ take (length image) image ++ drop (length image) s
+  pub write-done : length s ≡ 16 → fitting f ≡ true → (ns image t : List ℕ) → ns ≡ nibblesOf f → image ≡ h4Of ns → t ≡ take (length image) image ++ drop (length image) s
       → (Done ≡ writeAnswer f s) × (t ≡ writeBytes f s)
   unfolding writeAnswer writeBytes h4Of
   write-done h b ns image t e g k = rw (eq-eqb (length s) 16 h, b) (refl, (k ∙ rw (g, e, drop-of-length-le s {i = 16} (omega arith)) refl))

@@ -20,7 +20,7 @@ readingNumber Unassigned = 6
 
 -- and its values: 'no packet' under a refusal
 abbrev pub readingValues : Reading → List ℕ
-readingValues (Packet f) = f .epoch ∷ f .word .0 ∷ f .gid ∷ f .mst ∷ f .«rs_ack» ∷ f .sq ∷ []
+readingValues (Packet f) = f .epoch ∷ f .word .0 ∷ f .gid ∷ f .mst ∷ f .«rs_ack» ∷ f .sq ∷ f .reserved ∷ []
 readingValues Length = []
 readingValues Crc = []
 readingValues Fixed = []

@@ -1,7 +1,7 @@
 -- A packet written (01, 'Answer numbers').
 use mathlib.Core.Bool.{Bool, cond, _&&_, not}
 use mathlib.Core.List.{List}
-use Prim.Native.Nat.{ℕ}
+use Prim.Native.Nat.{ℕ, _^_}
 use lib.Dec.{eqb, ltb}
 use lib.ListN.{length}
 use Rattle.packet.specs.declared.layout.Fields.{Fields}
@@ -24,6 +24,7 @@ fitting f =
     && ltb (f .sq) 256
     && ltb (f .gid) 2
     && ltb (f .«rs_ack») 2
+    && ltb (f .reserved) (2 ^ 26)
     && not (eqb (f .word .0) FIXED)
     && assigned (f .word)
 
@@ -31,6 +32,6 @@ fitting f =
 unfoldable pub writeAnswer : Fields → List ℕ → Writing
 writeAnswer f s = cond (eqb (length s) 16) (cond (fitting f) Done Field) Length
 
--- the lent H4 bytes afterwards: the packet with its reserved bits 0, or as they were
+-- the lent H4 bytes afterwards: the packet, or as they were
 unfoldable pub writeBytes : Fields → List ℕ → List ℕ
-writeBytes f s = cond (eqb (length s) 16) (cond (fitting f) (h4Of (nibblesOf f 0)) s) s
+writeBytes f s = cond (eqb (length s) 16) (cond (fitting f) (h4Of (nibblesOf f)) s) s

@@ -1,18 +1,19 @@
--- Wrong readings of 01, each as a definition with a run on which it breaks what 01 says.
+-- Wrong readings of 01 and of request 2026-08, each as a definition with a run on which it breaks what these say.
 use mathlib.Core.Path.{_≡_, refl}
 use mathlib.Core.Bool.{Bool, true, false, cond}
-use mathlib.Core.List.{List, _∷_}
+use mathlib.Core.List.{List, [], _∷_, _++_}
 use Prim.Native.Nat.{ℕ, _+_, _*_, _/_, _%_, _^_}
 use lib.Dec.{eqb}
-use lib.ListN.{take, replicate}
+use lib.ListN.{getD, take, replicate}
 use Rattle.ground.specs.Bits.{odd}
+use Rattle.packet.specs.declared.layout.Fields.{Fields}
 use Rattle.packet.specs.declared.reader.Reading.{Reading}
 use Rattle.packet.specs.declared.reader.Reading.the-variants.{Packet, Crc, Fixed, Unassigned}
 use Rattle.packet.specs.Crc.{crcOf, divisor, nibbleBits}
 use Rattle.packet.specs.Kinds.{epochOf, frames, lead, mstFails, mstFirst, tags}
-use Rattle.packet.specs.Layout.{carriedIn, fieldsOf}
+use Rattle.packet.specs.Layout.{carriedIn, dataOf, fieldsOf, h4Of, nibblesOf, reservedOf, sealedOf}
 use Rattle.packet.specs.Reading.{readNibbles}
-use Rattle.packet.specs.Words.{FIXED, assigned}
+use Rattle.packet.specs.Words.{FIXED, NORM, assigned}
 
 -- The epoch as the multiframe. 'A packet is sixteen nibbles, from MFI1 8 to 15 and on to 0 to 7 of the next multiframe': tag 8 is epoch 1's.
 wrong-epoch : ℕ → ℕ
@@ -47,3 +48,29 @@ wrong-read ns =
 read-breaks : (wrong-read (1 ∷ replicate 15 0) ≡ Fixed) × (readNibbles (1 ∷ replicate 15 0) ≡ Crc)
 unfolding wrong-read readNibbles fieldsOf carriedIn crcOf divisor nibbleBits
 read-breaks = (refl, refl)
+
+-- Wrong readings of request 2026-08, on a packet with the three bits beside GID set.
+
+-- NORM, SQ 17, epoch 5, GID 1, MST BF, RS-Ack 1
+with-reserved : ℕ → Fields
+with-reserved z = record { epoch = 5; word = record { 0 = NORM }; gid = 1; mst = 0xBF; «rs_ack» = 1; sq = 17; reserved = z }
+
+-- Only the twenty reserved bits handed back, the six zeros lost: the byte F3 is written again as 13.
+wrong-reserved : List ℕ → ℕ
+wrong-reserved ns =
+    getD ns 3 0 % 16 * 2 ^ 19 + getD ns 4 0 % 16 * 2 ^ 15 + getD ns 5 0 % 16 * 2 ^ 11 + getD ns 12 0 % 16 * 2 ^ 4 + getD ns 13 0 % 16
+
+reserved-breaks : (getD (h4Of (nibblesOf (with-reserved (wrong-reserved (nibblesOf (with-reserved 1792)))))) 11 0 ≡ 0x13)
+    × (getD (h4Of (nibblesOf (fieldsOf (nibblesOf (with-reserved 1792))))) 11 0 ≡ 0xF3)
+unfolding wrong-reserved with-reserved nibblesOf sealedOf dataOf h4Of fieldsOf crcOf divisor nibbleBits
+reserved-breaks = (refl, refl)
+
+-- The bits written but the CRC taken over zeros: what is written does not read.
+wrong-nibbles : ℕ → List ℕ
+wrong-nibbles z =
+    let sum = crcOf (dataOf (with-reserved 0)) in
+    dataOf (with-reserved z) ++ ((sum / 16) ∷ (sum % 16) ∷ [])
+
+nibbles-break : (readNibbles (wrong-nibbles 1792) ≡ Crc) × (readNibbles (nibblesOf (with-reserved 1792)) ≡ Packet (with-reserved 1792))
+unfolding wrong-nibbles with-reserved nibblesOf sealedOf dataOf readNibbles fieldsOf carriedIn crcOf divisor nibbleBits assigned
+nibbles-break = (refl, refl)

@@ -3,7 +3,8 @@ use crate::crc::crc;
 use crate::words::Word;
 ghost use mathlib.Core.Path.{_≡_};
 ghost use mathlib.Core.List.{[], _∷_, _++_};
-ghost use Rattle.packet.specs.Layout.{byteOf, carriedIn, dataOf, fieldsOf, h4Of, nibblesOf};
+ghost use Rattle.packet.specs.Laws.Bounds.{Bounds};
+ghost use Rattle.packet.specs.Layout.{byteOf, carriedIn, dataOf, fieldsOf, h4Of, nibblesOf, reservedOf};
 
 pub struct Fields {
     pub epoch: u8,
@@ -12,6 +13,8 @@ pub struct Fields {
     pub mst: u8,
     pub rs_ack: u8,
     pub sq: u8,
+    // The 26 reserved and zero bits in the order of sending, the first one highest.
+    pub reserved: u32,
 }
 
 fn byte_of(high: u8, low: u8) -> u8
@@ -26,6 +29,17 @@ pub(crate) fn carried_in(nibbles: [u8; 16]) -> u8
     byte_of(nibbles[14], nibbles[15])
 }
 
+fn reserved_of(nibbles: [u8; 16]) -> u32
+    ensures { λ r. ⌜ r ≡ reservedOf nibbles ⌝ }
+{
+    let beside_ack = (nibbles[2] % 16 / 2) as u32;
+    let mfi1_11_and_12 = byte_of(nibbles[3], nibbles[4]) as u32;
+    let mfi1_13 = (nibbles[5] % 16) as u32;
+    let beside_gid = (nibbles[11] % 16 / 2) as u32;
+    let mfi1_4_and_5 = byte_of(nibbles[12], nibbles[13]) as u32;
+    beside_ack * 8388608 + mfi1_11_and_12 * 32768 + mfi1_13 * 2048 + beside_gid * 256 + mfi1_4_and_5
+}
+
 pub(crate) fn fields_of(nibbles: [u8; 16]) -> Fields
     ensures { λ r. ⌜ r ≡ fieldsOf nibbles ⌝ }
 {
@@ -36,35 +50,39 @@ pub(crate) fn fields_of(nibbles: [u8; 16]) -> Fields
         mst: byte_of(nibbles[0], nibbles[1]),
         rs_ack: nibbles[2] % 2,
         sq: byte_of(nibbles[6], nibbles[7]),
+        reserved: reserved_of(nibbles),
     }
 }
 
 // The fourteen data nibbles, and 0 in the two places of the CRC.
 fn data_of(fields: Fields) -> [u8; 16]
-    ensures { λ r. ⌜ r ≡ dataOf fields 0 ++ (0 ∷ 0 ∷ []) ⌝ }
+    requires { ⌜ Bounds fields ⌝ }
+    ensures { λ r. ⌜ r ≡ dataOf fields ++ (0 ∷ 0 ∷ []) ⌝ }
 {
+    let reserved = fields.reserved;
     [
         fields.mst / 16,
         fields.mst % 16,
-        fields.rs_ack,
-        0,
-        0,
-        0,
+        (reserved / 8388608 % 8) as u8 * 2 + fields.rs_ack,
+        (reserved / 524288 % 16) as u8,
+        (reserved / 32768 % 16) as u8,
+        (reserved / 2048 % 16) as u8,
         fields.sq / 16,
         fields.sq % 16,
         fields.epoch / 16,
         fields.epoch % 16,
         fields.word.0,
-        fields.gid,
-        0,
-        0,
+        (reserved / 256 % 8) as u8 * 2 + fields.gid,
+        (reserved / 16 % 16) as u8,
+        (reserved % 16) as u8,
         0,
         0,
     ]
 }
 
 pub(crate) fn nibbles_of(fields: Fields) -> [u8; 16]
-    ensures { λ r. ⌜ r ≡ nibblesOf fields 0 ⌝ }
+    requires { ⌜ Bounds fields ⌝ }
+    ensures { λ r. ⌜ r ≡ nibblesOf fields ⌝ }
 {
     let mut nibbles = data_of(fields);
     let sum = crc(nibbles);

@@ -28,7 +28,11 @@ fn fits(fields: Fields) -> bool
 {
     let word = fields.word;
     let assigned = word.is_assigned();
-    (fields.gid < 2) & (fields.rs_ack < 2) & (word.0 != Word::FIXED.0) & assigned
+    (fields.gid < 2)
+        & (fields.rs_ack < 2)
+        & (fields.reserved < 67108864)
+        & (word.0 != Word::FIXED.0)
+        & assigned
 }
 
 pub fn write(fields: Fields, h4: &mut [u8]) -> Writing

@@ -63,11 +63,11 @@ abbrev pub senderRun : Sender → List SenderCall → Sender
 senderRun s [] = s
 senderRun s (c ∷ cs) = senderRun (senderStepOf s c .sender) cs
 
--- 'GID is lent by the caller and is equal in all packets of an epoch.'
+-- 'GID is lent by the caller and is equal in all packets of an epoch.' 'Our sender still writes zeros' for reserved bits (request 2026-08).
 unfoldable pub packetFields : Sender → ℕ → Fields
 packetFields s i =
     let row = rowAt (s .outgoing .rows) i in
-    record { epoch = s .epoch; word = row .word; gid = s .gid; mst = s .mst; «rs_ack» = s .«rs_ack»; sq = row .number }
+    record { epoch = s .epoch; word = row .word; gid = s .gid; mst = s .mst; «rs_ack» = s .«rs_ack»; sq = row .number; reserved = 0 }
 
 -- The packet of a slot: 1, 9, 2.
 unfoldable pub packetAnswer : Sender → ℕ → List ℕ → Answer

@@ -1,18 +1,22 @@
--- Wrong readings of 01, each as a definition with a run on which it breaks what 01 says.
+-- Wrong readings of 01 and of request 2026-08, each as a definition with a run on which it breaks what these say.
 use mathlib.Core.Path.{_≡_, refl}
 use mathlib.Core.Bool.{true, cond}
 use mathlib.Core.List.{List, [], _∷_}
-use Prim.Native.Nat.{ℕ, zero, suc}
-use lib.ListN.{set}
+use Prim.Native.Nat.{ℕ, zero, suc, _/_}
+use lib.ListN.{getD, replicate, set}
 use Rattle.ground.specs.Table.{tabulate}
-use Rattle.packet.specs.Kinds.{idleNumber, mstFails, mstFirst, mstNumbers}
-use Rattle.packet.specs.Words.{ADD, EOS, NORM}
+use Rattle.packet.specs.declared.layout.Fields.{Fields}
+use Rattle.packet.specs.Crc.{crcOf, divisor, nibbleBits}
+use Rattle.packet.specs.Kinds.{epochAfter, epochs, frames, idleNumber, mstFails, mstFirst, mstNumbers}
+use Rattle.packet.specs.Layout.{dataOf, h4Of, nibblesOf, sealedOf}
+use Rattle.packet.specs.Words.{ADD, EOS, NORM, assigned}
+use Rattle.packet.specs.Writing.{fitting, writeBytes}
 use Rattle.sender.specs.declared.epochs.Sender.{Sender}
 use Rattle.sender.specs.declared.table.Slot.{Slot}
 use Rattle.sender.specs.declared.table.Table.{Table}
 use Rattle.sender.specs.Board.{boardOf, highest, noRow, rowOf, rowsOf}
 use Rattle.sender.specs.Commands.{addOf, addedTo, fallen, fallenIn, freshOf, idleSlot, lapseOf, removeOf, removedFrom, startOf, withSlots}
-use Rattle.sender.specs.Epochs.{beginOf, freshSender, rankIn, senderRun, startEpochOf, startedEpoch, startedSender, xOf}
+use Rattle.sender.specs.Epochs.{beginOf, freshSender, packetBytes, packetFields, rankIn, senderRun, startEpochOf, startedEpoch, startedSender, xOf}
 use Rattle.sender.specs.Ranks.{carriersIn, carries, noRank, rankAt, rankOf, rowAt}
 use Rattle.sender.specs.Reports.{actedOn, comesBefore, mstApplied, numberAfter, opensWait, renumbered, reportOf, slotAfter, becomes, numberApplied, turnOf, waited}
 use Rattle.sender.specs.Shown.{after, shown}
@@ -78,3 +82,18 @@ epoch-breaks :
     × (told rankIn 3 (twice (joined 0 (joined 1 (joined 2 []))) (RemoveSlot 1 ∷ [])) ≡ 3 ∷ 0 ∷ 1 ∷ 2 ∷ [])
 unfolding wrong-epoch beginOf freshSender startEpochOf startedSender startedEpoch carriersIn rankAt rankOf boardOf rowsOf rowOf noRow highest startOf freshOf idleSlot idleNumber addOf addedTo removeOf removedFrom fallen fallenIn lapseOf reportOf waited actedOn mstApplied numberApplied holderOf renumbered slotAfter numberAfter comesBefore turnOf opensWait sizeOf membersOf mstFails mstFirst mstNumbers
 epoch-breaks = (refl, refl)
+
+-- The reserved bits kept by the sender from the last packet read. 'Our sender still writes zeros' (request 2026-08): of the byte of MFI1 3 the first three bits are 0.
+wrong-packet : Fields → Sender → ℕ → List ℕ
+wrong-packet read s i =
+    let f = packetFields s i in
+    h4Of (nibblesOf (record { epoch = f .epoch; word = f .word; gid = f .gid; mst = f .mst; «rs_ack» = f .«rs_ack»; sq = f .sq; reserved = read .reserved }))
+
+abbrev last-read : Fields
+last-read = record { epoch = 5; word = record { 0 = NORM }; gid = 1; mst = 0xBF; «rs_ack» = 1; sq = 17; reserved = 1792 }
+
+packet-breaks :
+    (let s = twice (joined 0 []) [] in getD (wrong-packet last-read s 0) 11 0 / 32 ≡ 7)
+    × (let s = twice (joined 0 []) [] in getD (packetBytes s 0 (replicate 16 0)) 11 0 / 32 ≡ 0)
+unfolding wrong-packet packetFields packetBytes writeBytes fitting assigned frames h4Of nibblesOf sealedOf dataOf crcOf divisor nibbleBits beginOf freshSender startEpochOf startedSender startedEpoch epochAfter epochs boardOf rowsOf rowOf noRow highest startOf freshOf idleSlot idleNumber addOf addedTo lapseOf reportOf waited actedOn mstApplied numberApplied holderOf renumbered slotAfter numberAfter comesBefore turnOf opensWait sizeOf membersOf mstFails mstFirst mstNumbers
+packet-breaks = (refl, refl)

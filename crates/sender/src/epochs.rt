@@ -133,6 +133,7 @@ fn packet_fields(sender: Sender, at: usize) -> Fields
         mst: sender.mst,
         rs_ack: sender.rs_ack,
         sq: row.number,
+        reserved: 0,
     }
 }
 

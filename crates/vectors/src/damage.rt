@@ -1,5 +1,5 @@
 // Written packets with some of their bits changed: one to three of the 64 bits are refused with 5 (01, 'Any two different packets by these rules
-// differ in at least four of 64 bits'), low nibbles are not looked at, and reserved bits only by the CRC.
+// differ in at least four of 64 bits'), low nibbles are not looked at, and reserved bits under a right CRC are handed back (request 2026-08).
 // Vector i damages packet i mod 3 in the way i div 3.
 use crate::given;
 use crate::groups;
@@ -26,7 +26,7 @@ pub(crate) fn run() {
         48,
     );
     groups::line(
-        b"damaged\treserved bit, CRC made anew\tread as written\t",
+        b"damaged\treserved bit, CRC made anew\tread with that bit, written again alike\t",
         Group::Spare,
         78,
     );
@@ -115,7 +115,8 @@ fn spare_bit(i: u16) -> u16 {
 }
 
 pub(crate) fn spare(i: u16) -> bool {
-    let fields = given::by_turns(i);
-    let h4 = flipped(given::written(fields), spare_bit(i / 3));
-    given::is_read_as(sums::sealed(h4), fields)
+    let mut fields = given::by_turns(i);
+    let h4 = sums::sealed(flipped(given::written(fields), spare_bit(i / 3)));
+    fields.reserved = 33554432 >> (i / 3 % 26);
+    given::is_read_as(h4, fields) & given::is_written_again(h4)
 }

@@ -1,4 +1,4 @@
-// 01's P1 to P4. P3 and P4 speak of data bits and their CRC alone: their word is FIXED, so that with the right CRC the answer is 7.
+// 01's P1 to P4, one packet whose fields all differ, and one with reserved bits. P3 and P4 speak of data bits and their CRC alone: their word is FIXED, so that with the right CRC the answer is 7.
 use crate::given;
 use crate::show;
 use crate::sums;
@@ -7,6 +7,8 @@ use packet::Fields;
 pub(crate) fn run() {
     example(b"packet\tP1\t", given::p1());
     example(b"packet\tP2\t", given::p2());
+    example(b"packet\tmixed\t", given::mixed());
+    example(b"packet\tbeside GID\t", given::relayed());
     data_bits();
 }
 
@@ -37,7 +39,21 @@ fn show_fields(fields: Fields) {
     show::byte(b"\tMST ", fields.mst);
     show::named(b"\tRS-Ack ", fields.rs_ack as u16);
     show::named(b"\tSQ ", fields.sq as u16);
+    show::text(b"\treserved");
+    show_reserved(fields.reserved);
     show::end_line();
+}
+
+// As four bytes, the highest first.
+fn show_reserved(reserved: u32) {
+    show::bytes(
+        &[
+            (reserved / 16777216) as u8,
+            (reserved / 65536 % 256) as u8,
+            (reserved / 256 % 256) as u8,
+            (reserved % 256) as u8,
+        ],
+    );
 }
 
 fn data_bits() {

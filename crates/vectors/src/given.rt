@@ -12,6 +12,7 @@ pub(crate) fn p1() -> Fields {
         mst: 255,
         rs_ack: 0,
         sq: 255,
+        reserved: 0,
     }
 }
 
@@ -24,6 +25,7 @@ pub(crate) fn p2() -> Fields {
         mst: 255,
         rs_ack: 0,
         sq: 0,
+        reserved: 0,
     }
 }
 
@@ -36,10 +38,24 @@ pub(crate) fn mixed() -> Fields {
         mst: 165,
         rs_ack: 1,
         sq: 77,
+        reserved: 0,
     }
 }
 
-// The three in turn.
+// One with the three bits beside GID set (request 2026-08).
+pub(crate) fn relayed() -> Fields {
+    Fields {
+        epoch: 5,
+        word: Word::NORM,
+        gid: 1,
+        mst: 191,
+        rs_ack: 1,
+        sq: 17,
+        reserved: 1792,
+    }
+}
+
+// The first three in turn.
 pub(crate) fn by_turns(i: u16) -> Fields {
     match i % 3 {
         0 => p1(),
@@ -77,6 +93,7 @@ pub(crate) fn read(h4: [u8; 16]) -> Fields {
             mst: 0,
             rs_ack: 0,
             sq: 0,
+            reserved: 0,
         };
     };
     found
@@ -95,4 +112,11 @@ pub(crate) fn is_read_as(h4: [u8; 16], fields: Fields) -> bool {
         & (found.mst == fields.mst)
         & (found.rs_ack == fields.rs_ack)
         & (found.sq == fields.sq)
+        & (found.reserved == fields.reserved)
+}
+
+// Whether what is read is written again as the same sixteen bytes.
+pub(crate) fn is_written_again(h4: [u8; 16]) -> bool {
+    let again = written(read(h4));
+    check::same(&again, &h4)
 }

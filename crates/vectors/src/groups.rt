@@ -18,8 +18,10 @@ pub(crate) enum Group {
     LengthOfWriting,
     LengthOfReading,
     TooLarge,
+    ReservedTooLarge,
     InRange,
     SingleBits,
+    Reserved,
     NextTag,
     FirstTag,
 }
@@ -38,8 +40,10 @@ fn holds(group: Group, i: u16) -> bool {
         Group::LengthOfWriting => limits::length_of_writing(i),
         Group::LengthOfReading => limits::length_of_reading(i),
         Group::TooLarge => limits::too_large(i),
+        Group::ReservedTooLarge => limits::reserved_too_large(i),
         Group::InRange => limits::in_range(i),
         Group::SingleBits => limits::single_bits(i),
+        Group::Reserved => limits::reserved(i),
         Group::NextTag => tags::next(i),
         Group::FirstTag => tags::first(i),
     }

@@ -22,6 +22,11 @@ pub(crate) fn run() {
         508,
     );
     groups::line(
+        b"fields\treserved 2^26 to 2^32-1\twriting refused 8, no byte changed\t",
+        Group::ReservedTooLarge,
+        192,
+    );
+    groups::line(
         b"fields\tepoch, MST, SQ 0 to 255\tread as written\t",
         Group::InRange,
         768,
@@ -30,6 +35,11 @@ pub(crate) fn run() {
         b"fields\tGID and RS-Ack 0 and 1\tread as written\t",
         Group::SingleBits,
         4,
+    );
+    groups::line(
+        b"fields\treserved 0 to 2^26-1\tread as written\t",
+        Group::Reserved,
+        1024,
     );
 }
 
@@ -99,6 +109,18 @@ pub(crate) fn too_large(i: u16) -> bool {
     is_refused(fields)
 }
 
+// 2^26, the last number that 32 bits hold, and others between.
+pub(crate) fn reserved_too_large(i: u16) -> bool {
+    let n = (i % 192) as u32;
+    let mut fields = given::mixed();
+    fields.reserved = if n == 1 {
+        4294967295
+    } else {
+        67108864 + n * 22013641
+    };
+    is_refused(fields)
+}
+
 pub(crate) fn in_range(i: u16) -> bool {
     let value = (i / 3 % 256) as u8;
     let mut fields = given::mixed();
@@ -114,5 +136,13 @@ pub(crate) fn single_bits(i: u16) -> bool {
     let mut fields = given::mixed();
     fields.gid = (i % 2) as u8;
     fields.rs_ack = (i / 2 % 2) as u8;
+    given::is_read_as(given::written(fields), fields)
+}
+
+// 0, the greatest, and others between.
+pub(crate) fn reserved(i: u16) -> bool {
+    let n = (i % 1024) as u32;
+    let mut fields = given::by_turns(i);
+    fields.reserved = if n == 1 { 67108863 } else { n * 65537 };
     given::is_read_as(given::written(fields), fields)
 }

@@ -27,6 +27,7 @@ fn h4_at(sent: Sent, tag: u16) -> u8 {
         mst: 255,
         rs_ack: 0,
         sq: sent.number,
+        reserved: 0,
     });
     let place = kinds::place_of(H4, tag) % 16;
     let byte = h4[place as usize];

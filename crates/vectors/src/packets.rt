@@ -7,7 +7,7 @@ use packet::Fields;
 ghost use Prim.Native.Nat.{_<_};
 
 pub(crate) fn run() {
-    let mut file = io::buffer();
+    let mut file = [0u8; 8192];
     let n = text::read(b"packets.txt", &mut file);
     lines(&file[..n]);
 }
@@ -23,14 +23,14 @@ fn lines(file: &[u8]) {
 
 // A line that is no whole row is passed over.
 fn line(line: &[u8]) {
-    if line.len() < 104 {
+    if line.len() < 134 {
         return;
     }
     if line[0] != b'H' {
         return;
     }
     show::text(b"row\t");
-    show::text(&line[0..54]);
+    show::text(&line[0..84]);
     row(fields_in(line), bytes_in(line));
 }
 
@@ -52,23 +52,34 @@ fn is_written_as(fields: Fields, h4: [u8; 16]) -> bool {
     check::same(&own, &h4)
 }
 
-// MST is FF and RS-Ack 0 in every row.
 fn fields_in(line: &[u8]) -> Fields {
     Fields {
         epoch: text::number_at(line, 26),
         word: text::word_at(line, 30),
         gid: text::digit(text::column(line, 46)),
-        mst: 255,
-        rs_ack: 0,
+        mst: byte_at(line, 52),
+        rs_ack: text::digit(text::column(line, 59)),
         sq: text::number_at(line, 38),
+        reserved: reserved_at(line, 70),
     }
+}
+
+// Seven hex digits.
+fn reserved_at(line: &[u8], at: usize) -> u32
+    requires { ⌜ at < 900 ⌝ }
+{
+    let first = text::digit(text::column(line, at)) as u32;
+    let second = byte_at(line, at + 1) as u32;
+    let third = byte_at(line, at + 3) as u32;
+    let last = byte_at(line, at + 5) as u32;
+    first * 16777216 + second * 65536 + third * 256 + last
 }
 
 fn bytes_in(line: &[u8]) -> [u8; 16] {
     let mut bytes = [0u8; 16];
     let mut i = 0;
     while i < 16 {
-        bytes[i] = byte_at(line, 57 + 3 * i);
+        bytes[i] = byte_at(line, 87 + 3 * i);
         i += 1;
     }
     bytes

@@ -74,7 +74,9 @@ impl Host {
         let epoch = epoch_of(tag);
         if self.sources[port].epoch != Some(epoch) {
             let (word, sq, gid) = self.says(random, port, epoch);
-            let fields = Fields { epoch: epoch.into(), word, gid, mst: random.below(256) as u32, rs_ack: 0, sq };
+            // the receiver looks at none of these
+            let (mst, reserved) = (random.below(256) as u32, random.below(1 << 26) as u32);
+            let fields = Fields { epoch: epoch.into(), word, gid, mst, rs_ack: 0, sq, reserved };
             let s = &mut self.sources[port];
             s.epoch = Some(epoch);
             packet::write(&fields, &mut s.h4);

@@ -27,15 +27,15 @@ use Rattle.c_face.specs.Senders.{keptBytes, outside, packetAnswerC, pack
 
 -- levelspruce_packet_write is packet::write on fields that are bytes
 pub write-own : (f : Fields) (h4 : List ℕ)
-    → (writeAnswerC (f .epoch) (f .word .0) (f .gid) (f .mst) (f .«rs_ack») (f .sq) h4 ≡ writingNumber (writeAnswer f h4))
-    × (writeBytesC (f .epoch) (f .word .0) (f .gid) (f .mst) (f .«rs_ack») (f .sq) h4 ≡ writeBytes f h4)
+    → (writeAnswerC (f .epoch) (f .word .0) (f .gid) (f .mst) (f .«rs_ack») (f .sq) (f .reserved) h4 ≡ writingNumber (writeAnswer f h4))
+    × (writeBytesC (f .epoch) (f .word .0) (f .gid) (f .mst) (f .«rs_ack») (f .sq) (f .reserved) h4 ≡ writeBytes f h4)
 write-own f h4 = (refl, refl)
 
 -- levelspruce_packet_read is packet::read, with room for its values
-pub read-own : (h4 fields : List ℕ) → length fields ≡ 6
+pub read-own : (h4 fields : List ℕ) → length fields ≡ 10
     → (readAnswerC h4 fields ≡ readingNumber (readAnswer h4)) × (readFieldsC h4 fields ≡ valuesOr (readAnswer h4) fields)
 unfolding readAnswerC readFieldsC
-read-own h4 fields h = rw (eq-eqb (length fields) 6 h) (refl, refl)
+read-own h4 fields h = rw (eq-eqb (length fields) 10 h) (refl, refl)
 
 -- levelspruce_spread and levelspruce_join are payload::spread and payload::join
 pub spread-own : (x p : ℕ) (frame members : List ℕ)

@@ -18,9 +18,9 @@ use Rattle.conformance.specs.Entries.{Call, Copes, If, Refusal, Unless, 
 abbrev pub named : ℕ → Bool
 named w = eqb w 0 || eqb w 1 || eqb w 2 || eqb w 3 || eqb w 5 || eqb w 15
 
--- 8: 'a field given for writing is too large, or its word is FIXED or unassigned'
+-- 8: 'a field given for writing is too large, or its word is FIXED or unassigned'; the reserved bits are 26 (request 2026-08)
 abbrev pub small : Fields → Bool
-small f = ltb (f .epoch) 256 && ltb (f .mst) 256 && ltb (f .sq) 256 && ltb (f .gid) 2 && ltb (f .«rs_ack») 2 && not (eqb (f .word .0) 0) && named (f .word .0)
+small f = ltb (f .epoch) 256 && ltb (f .mst) 256 && ltb (f .sq) 256 && ltb (f .gid) 2 && ltb (f .«rs_ack») 2 && ltb (f .reserved) 67108864 && not (eqb (f .word .0) 0) && named (f .word .0)
 
 abbrev pub write : Fields × List ℕ → Call
 write (fields, h4) =
@@ -31,13 +31,13 @@ pub write-copes : (x : Fields × List ℕ) → Copes (write x)
 unfolding writeAnswer writeBytes fitting assigned
 write-copes (fields, h4) = copes _ (λ l. (λ f. rw (l, f), λ f. rw (l, f) (refl, refl, refl)), λ l. rw l (refl, refl, refl))
 
-abbrev pub writeC : ℕ × ℕ × ℕ × ℕ × ℕ × ℕ × List ℕ → Call
-writeC (epoch, word, gid, mst, «rs_ack», sq, h4) =
-    stateless (Unless 9 (eqb (length h4) 16) ∷ Unless 8 (small (given epoch word gid mst «rs_ack» sq)) ∷ [])
-    (writeAnswerC epoch word gid mst «rs_ack» sq h4) (h4 ∷ []) (writeBytesC epoch word gid mst «rs_ack» sq h4 ∷ [])
+abbrev pub writeC : ℕ × ℕ × ℕ × ℕ × ℕ × ℕ × ℕ × List ℕ → Call
+writeC (epoch, word, gid, mst, «rs_ack», sq, reserved, h4) =
+    stateless (Unless 9 (eqb (length h4) 16) ∷ Unless 8 (small (given epoch word gid mst «rs_ack» sq reserved)) ∷ [])
+    (writeAnswerC epoch word gid mst «rs_ack» sq reserved h4) (h4 ∷ []) (writeBytesC epoch word gid mst «rs_ack» sq reserved h4 ∷ [])
 
-pub writeC-copes : (x : ℕ × ℕ × ℕ × ℕ × ℕ × ℕ × List ℕ) → Copes (writeC x)
-writeC-copes (epoch, word, gid, mst, «rs_ack», sq, h4) = write-copes (given epoch word gid mst «rs_ack» sq, h4)
+pub writeC-copes : (x : ℕ × ℕ × ℕ × ℕ × ℕ × ℕ × ℕ × List ℕ) → Copes (writeC x)
+writeC-copes (epoch, word, gid, mst, «rs_ack», sq, reserved, h4) = write-copes (given epoch word gid mst «rs_ack» sq reserved, h4)
 
 -- of sixteen nibbles: the CRC is the last two, CTRL that of MFI1 2
 abbrev pub readRefusals : List ℕ → List Refusal
@@ -70,12 +70,12 @@ read h4 = stateless (Unless 9 (eqb (length h4) 16) ∷ readRefusals (highsOf h4)
 pub read-copes : (x : List ℕ) → Copes (read x)
 read-copes h4 = answers-alone _ _ (reads h4 [] .answers)
 
--- the values go into six lent bytes
+-- the values go into ten lent bytes
 abbrev pub readC : List ℕ × List ℕ → Call
 readC (h4, fields) =
-    stateless (Unless 9 (eqb (length fields) 6) ∷ Unless 9 (eqb (length h4) 16) ∷ readRefusals (highsOf h4))
+    stateless (Unless 9 (eqb (length fields) 10) ∷ Unless 9 (eqb (length h4) 16) ∷ readRefusals (highsOf h4))
     (readAnswerC h4 fields) (fields ∷ []) (readFieldsC h4 fields ∷ [])
 
 pub readC-copes : (x : List ℕ × List ℕ) → Copes (readC x)
 unfolding readAnswerC readFieldsC
-readC-copes (h4, fields) = behind 9 (eqb (length fields) 6) _ _ (valuesOr (readAnswer h4) fields) fields (reads h4 fields)
+readC-copes (h4, fields) = behind 9 (eqb (length fields) 10) _ _ (valuesOr (readAnswer h4) fields) fields (reads h4 fields)

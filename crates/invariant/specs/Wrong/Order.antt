@@ -36,7 +36,7 @@ use Rattle.store.specs.Marks.{firstMark}
 
 -- the nibbles of a packet
 packet : ℕ → ℕ → ℕ → List ℕ
-packet epoch word number = nibblesOf (record { epoch = epoch; word = record { 0 = word }; gid = 0; mst = 255; «rs_ack» = 0; sq = number }) 0
+packet epoch word number = nibblesOf (record { epoch = epoch; word = record { 0 = word }; gid = 0; mst = 255; «rs_ack» = 0; sq = number; reserved = 0 })
 
 -- The packets of epoch 0 rule: port 0 is NORM 0, port 1 is EOS 1. With the packets of epoch 1 they change places. All came as sent.
 group : Group

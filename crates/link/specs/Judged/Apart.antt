@@ -6,18 +6,17 @@ use mathlib.Core.List.{List, [], _∷_}
 use Prim.Native.Nat.{ℕ, zero, suc, _+_, _*_, _≤_, _<_}
 use native.Mathlib.Nat.{suc-mul, zero-mul}
 use native.Mathlib.Omega.{arith}
-use lib.ListN.{getD, length, length-append}
+use lib.ListN.{length, length-append}
 use borrow.Author.Tests.{ne-eqb}
-use Rattle.ground.specs.Table.{getD-tabulate, tabulate}
 use Rattle.ground.specs.Truth.{eq-or-ne}
 use Rattle.judge.specs.Verdict.{HELD, SURE}
 use Rattle.packet.specs.Kinds.{frames}
-use Rattle.link.specs.History.{Client, xAt}
 use Rattle.link.specs.Laws.Lists.{append-apart, not-apart}
 use Rattle.link.specs.Laws.Numbers.{epoch-in, frames-cancel}
-use Rattle.link.specs.Link.{Alike, Assumed, Link, SameIn, allAsSent, clientBytes, epochFrames, expected, framesOf}
+use Rattle.link.specs.Link.{Alike, AssumedOver, Link, SameIn, allAsSent, clientBytes, epochFrames, expected, framesOf, kindOf}
 use Rattle.link.specs.Road.{Below, times}
-use Rattle.link.specs.Told.{Told}
+use Rattle.link.specs.Sending.{Client}
+use Rattle.link.specs.Told.{SaySame}
 
 -- every one of n group frames from position x on has w bytes
 abbrev Wide : Client → ℕ → ℕ → ℕ → Type 0
@@ -47,62 +46,46 @@ sure-sent true e = refl
 sure-sent false e = absurd (omega arith)
 
 -- what a sure report to come brings
-sure-bytes : (k : Link) (i : ℕ) → expected k i .mark ≡ SURE → expected k i .bytes ≡ clientBytes k (suc i)
+sure-bytes : (k : Link) (i : ℕ) (out : List ℕ) → expected k i out .mark ≡ SURE → expected k i out .bytes ≡ clientBytes k (suc i)
 unfolding expected
-sure-bytes k i e = rw (sure-sent (allAsSent k i) e) refl
+sure-bytes k i out e = rw (sure-sent (allAsSent k i) e) refl
 
 -- a group frame's bytes, at the places of an epoch
-wide-in : (k : Link) → Assumed k → (i kind : ℕ) → k .history .kind ≡ kind → Wide (k .client) (i * frames kind) (frames kind) (xAt (k .history) i * k .payload)
+wide-in : (k : Link) → AssumedOver k → (i kind : ℕ) → kindOf k ≡ kind → Wide (k .client) (i * frames kind) (frames kind) (k .sending .x i * k .payload)
 wide-in k a i kind e m b =
-    a .client (i * frames kind + m)
-    ∙ ap (λ (q : ℕ). xAt (k .history) q * k .payload) (rw e (epoch-in kind i m b))
+    a .lines .client (i * frames kind + m)
+    ∙ ap (λ (q : ℕ). k .sending .x q * k .payload) (rw e (epoch-in kind i m b))
 
-module _ (k j : Link) (ak : Assumed k) (aj : Assumed j) (l : Alike k j) where
+module _ (k j : Link) (ak : AssumedOver k) (aj : AssumedOver j) (l : Alike k j) where
   bytes-apart : (i : ℕ) → clientBytes k i ≡ clientBytes j i → SameIn i k j
   bytes-apart i e =
-      let kind : ℕ = k .history .kind in
+      let kind : ℕ = kindOf k in
       let there : clientBytes j i ≡ framesOf (j .client) (i * epochFrames k) (epochFrames k) = ap (λ (q : ℕ). framesOf (j .client) (i * frames q) (frames q)) (sym (l .kind)) in
       let wk = wide-in k ak i kind refl in
       let wj = wide-in j aj i kind (sym (l .kind)) in
-      let lk = length-frames (k .client) (i * epochFrames k) (epochFrames k) (xAt (k .history) i * k .payload) wk in
-      let lj = length-frames (j .client) (i * epochFrames k) (epochFrames k) (xAt (j .history) i * j .payload) wj in
-      let w : xAt (k .history) i * k .payload ≡ xAt (j .history) i * j .payload = frames-cancel kind _ _ (sym lk ∙ ap length (e ∙ there) ∙ lj) in
-      frames-apart (k .client) (j .client) (i * epochFrames k) (epochFrames k) (xAt (k .history) i * k .payload) wk (λ m b. wj m b ∙ sym w) (e ∙ there)
+      let lk = length-frames (k .client) (i * epochFrames k) (epochFrames k) (k .sending .x i * k .payload) wk in
+      let lj = length-frames (j .client) (i * epochFrames k) (epochFrames k) (j .sending .x i * j .payload) wj in
+      let w : k .sending .x i * k .payload ≡ j .sending .x i * j .payload = frames-cancel kind _ _ (sym lk ∙ ap length (e ∙ there) ∙ lj) in
+      frames-apart (k .client) (j .client) (i * epochFrames k) (epochFrames k) (k .sending .x i * k .payload) wk (λ m b. wj m b ∙ sym w) (e ∙ there)
 
-  -- the report of epoch i + 1 is to be sure, on one link or on the other
-  abbrev pub EitherSure : ℕ → Type 0
-  EitherSure i = (expected k i .mark ≡ SURE) ⊎ (expected j i .mark ≡ SURE)
-
-  -- where the reports are the same, so are the client's frames of that epoch
-  pub apart : (i : ℕ) → EitherSure i → expected k i ≡ expected j i → SameIn (suc i) k j
-  apart i s e =
-      let mark : expected k i .mark ≡ expected j i .mark = ap (λ (t : Told). t .mark) e in
-      let sure : expected k i .mark ≡ SURE = ⊎-elim (λ (o : expected k i .mark ≡ SURE). o) (λ (o : expected j i .mark ≡ SURE). mark ∙ o) s in
-      bytes-apart (suc i) (sym (sure-bytes k i sure) ∙ ap (λ (t : Told). t .bytes) e ∙ sure-bytes j i (sym mark ∙ sure))
-
-  -- and where streams differ, so do the lists of reports, from the report of epoch g + 1 on, that hold this one
-  pub never-alike : (g n m : ℕ) → m < n → EitherSure (g + m) → (SameIn (suc (g + m)) k j → ⊥)
-      → tabulate n (λ q. expected k (g + q)) ≢ tabulate n (λ q. expected j (g + q))
-  never-alike g n m b s differ e =
-      let none : Told = record { epoch = 0; mark = 0; bytes = [] } in
-      differ
-      (apart (g + m) s
-      (sym (getD-tabulate n (λ q. expected k (g + q)) m none b)
-      ∙ ap (λ (t : List Told). getD t m none) e
-      ∙ getD-tabulate n (λ q. expected j (g + q)) m none b))
+  -- where the report of epoch i + 1 is sure on one link or on the other and both say the same, the client's frames of that epoch are the same
+  pub apart : (i : ℕ) (out other : List ℕ) → (expected k i out .mark ≡ SURE) ⊎ (expected j i other .mark ≡ SURE) → SaySame (expected k i out) (expected j i other) → SameIn (suc i) k j
+  apart i out other s same =
+      let sure : expected k i out .mark ≡ SURE = ⊎-elim (λ (o : expected k i out .mark ≡ SURE). o) (λ (o : expected j i other .mark ≡ SURE). same .0 ∙ o) s in
+      bytes-apart (suc i) (sym (sure-bytes k i out sure) ∙ same .1 ∙ sure-bytes j i other (sym (same .0) ∙ sure))
 
 -- Port orders tell how many ports there are.
 times-none : (n p : ℕ) (ps : List ℕ) → n ≤ p → Below n ps → times p ps ≡ 0
 times-none n p [] h b = refl
 times-none n p (q ∷ ps) h b = let l = b .0 in rw (ne-eqb p q (λ (e : p ≡ q). omega arith), times-none n p ps h (b .1)) refl
 
-fewer-not : (k j : Link) → Assumed k → Assumed j → k .order 0 ≡ j .order 0 → k .history .slots < j .history .slots → ⊥
+fewer-not : (k j : Link) → AssumedOver k → AssumedOver j → k .order 0 ≡ j .order 0 → k .ports < j .ports → ⊥
 fewer-not k j ak aj e h =
-    let none = times-none (k .history .slots) (k .history .slots) (k .order 0) (omega arith) (ak .only 0) in
-    let one = aj .once 0 (k .history .slots) h in
-    let same : times (k .history .slots) (k .order 0) ≡ times (k .history .slots) (j .order 0) = ap (times (k .history .slots)) e in
+    let none = times-none (k .ports) (k .ports) (k .order 0) (omega arith) (ak .lines .only 0) in
+    let one = aj .lines .once 0 (k .ports) h in
+    let same : times (k .ports) (k .order 0) ≡ times (k .ports) (j .order 0) = ap (times (k .ports)) e in
     omega arith
 
-pub same-ports : (k j : Link) → Assumed k → Assumed j → Alike k j → k .history .slots ≡ j .history .slots
+pub same-ports : (k j : Link) → AssumedOver k → AssumedOver j → Alike k j → k .ports ≡ j .ports
 same-ports k j ak aj l =
-    not-apart (k .history .slots) (j .history .slots) (fewer-not k j ak aj (l .order 0)) (fewer-not j k aj ak (sym (l .order 0)))
+    not-apart (k .ports) (j .ports) (fewer-not k j ak aj (l .order 0)) (fewer-not j k aj ak (sym (l .order 0)))

@@ -1,4 +1,4 @@
--- The numbers of a kind of packet, as the proof of demand 3 wants them. Besides Sending/Counted and Sending/Packets, which meet the layout of a packet, this file alone opens them; what stands above cites these laws.
+-- The numbers of a kind of packet, as the proof of demand 3 wants them. Besides Laws/Counts, Sending/Counted and Sending/Packets, which meet the H4 byte and the layout of a packet, this file alone opens them; what stands above cites these laws.
 use mathlib.Core.Path.{_≡_, refl}
 use mathlib.Core.Logic.{_≢_}
 use mathlib.Core.Bool.{true, false}

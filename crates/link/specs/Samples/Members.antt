@@ -7,8 +7,9 @@ use lib.ListN.{getD, replicate}
 use Rattle.ground.specs.Table.{tabulate}
 use Rattle.sender.specs.Steps.{Call}
 use Rattle.sender.specs.Steps.Call.{AddSlot, Lapse, RemoveSlot, Report}
-use Rattle.link.specs.History.{Client, History, epochAt, packetSent, xAt}
+use Rattle.link.specs.History.{History, packetSent, sendingOf, xAt}
 use Rattle.link.specs.Link.{Link}
+use Rattle.link.specs.Sending.{Client, epochAt}
 
 -- the commands and reports before each epoch's start
 abbrev pub calls : List (List Call)
@@ -38,7 +39,11 @@ history = record { kind = 0; slots = 2; first = 249; before = λ i. getD calls i
 
 -- P is 1: X bytes to a group frame
 abbrev pub client : Client
-client x = tabulate (xAt history (epochAt history x) * 1) (λ j. (x * 2 + j) % 256)
+client x = tabulate (xAt history (epochAt (history .kind) x) * 1) (λ j. (x * 2 + j) % 256)
+
+-- what a slot carries that has no rank
+abbrev pub unranked : ℕ → ℕ → List ℕ
+unranked x slot = 0xDD ∷ []
 
 -- slot 1 reaches port 0, and slot 0 port 1
 abbrev pub pairing : ℕ → ℕ
@@ -54,11 +59,19 @@ damaged = 0xF8 ∷ 0xF9 ∷ 0x0A ∷ 0x1B ∷ 0x0C ∷ 0x0D ∷ 0x0E ∷ 0x0F �
 abbrev pub came : ℕ → ℕ → List ℕ
 came i p = cond (eqb i 8 && eqb p 0) damaged (sent i p)
 
--- Port 0 is late by some frames, and comes first in the frame times that are named.
-abbrev pub linkWith : ℕ → (ℕ → Bool) → Link
-linkWith late lateFirst =
+-- the output lent for a report, a byte longer than need be, and the record lent to a fetch
+abbrev pub output : List ℕ
+output = replicate 33 0xEE
+
+abbrev pub lent : List ℕ
+lent = replicate 8 0xAA
+
+-- A client's group frames. Port 0 is late by some frames, and comes first in the frame times that are named.
+abbrev pub linkBy : Client → ℕ → (ℕ → Bool) → Link
+linkBy client late lateFirst =
     record {
-      history = history;
+      sending = sendingOf history 1 client unranked;
+      ports = 2;
       payload = 1;
       window = 20;
       client = client;
@@ -67,8 +80,12 @@ linkWith late lateFirst =
       delay = λ p. cond (eqb p 0) late 0;
       first = λ p. cond (eqb p 0) 3 21;
       order = λ t. cond (lateFirst t) (0 ∷ 1 ∷ []) (1 ∷ 0 ∷ []);
-      output = λ j. replicate 32 0xEE;
+      output = λ j. output;
+      lent = λ a j. lent;
     }
+
+abbrev pub linkWith : ℕ → (ℕ → Bool) → Link
+linkWith late lateFirst = linkBy client late lateFirst
 
 -- W is 20, so port 0 is as late as demand 3 lets it be.
 abbrev pub link : Link

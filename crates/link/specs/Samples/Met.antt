@@ -7,7 +7,7 @@ use Prim.Native.Nat.{ℕ, zero, suc, _+_, _*_, _%_, _≤_, _<_}
 use native.Mathlib.Omega.{arith}
 use borrow.Author.Tests.{eqb-true, ltb-true}
 use lib.Dec.{eqb, ltb}
-use lib.ListN.{getD, length-replicate}
+use lib.ListN.{getD, length, length-replicate}
 use Rattle.ground.specs.Finite.{below-at}
 use Rattle.ground.specs.Table.{length-tabulate}
 use Rattle.ground.specs.Truth.{and-left, and-right}
@@ -16,11 +16,13 @@ use Rattle.packet.specs.Kinds.{epochs, frames, lead, tags}
 use Rattle.packet.specs.Layout.{highsOf}
 use Rattle.packet.specs.Theorems.Damage.{changed}
 use Rattle.phases.specs.Sizes.{sized}
-use Rattle.link.specs.History.{Allowed, epochAt, xAt}
-use Rattle.link.specs.Link.{Arrived, Assumed, Damaged}
+use Rattle.link.specs.Assumed.{Assumed}
+use Rattle.link.specs.History.{Allowed, xAt}
+use Rattle.link.specs.Link.{Arrived, Damaged}
 use Rattle.link.specs.Road.{Below, times}
 use Rattle.link.specs.Samples.Computing.{outcome}
-use Rattle.link.specs.Samples.Members.{came, damaged, history, link, linkWith, sent}
+use Rattle.link.specs.Samples.Members.{came, client, damaged, history, link, linkBy, linkWith, sent, unranked}
+use Rattle.link.specs.Sending.{Client, epochAt}
 
 allowed : Allowed history
 unfolding epochs
@@ -38,7 +40,7 @@ three : changed whole damaged ≡ 3
 unfolding outcome highsOf
 three = refl
 
-damage : Damaged 0 whole damaged
+damage : Damaged 0 3 whole damaged
 unfolding frames lead nibbleIn nibblePlace
 damage =
     record {
@@ -49,14 +51,14 @@ damage =
       counted = record { first = λ k b. eqb-true (nibblePlace 0 (getD damaged k 0)) (nibblePlace 0 (getD whole k 0)) (below-at 16 (λ i. eqb (nibblePlace 0 (getD damaged i 0)) (nibblePlace 0 (getD whole i 0))) refl k b); high = refl; low = refl };
     }
 
-arrived : (i p : ℕ) → Arrived 0 (sent i p) (came i p)
+arrived : (i p : ℕ) → Arrived 0 3 (sent i p) (came i p)
 arrived i p = go (eqb i 8 && eqb p 0) refl
   where
-    go : (b : Bool) → (eqb i 8 && eqb p 0) ≡ b → Arrived 0 (sent i p) (cond b damaged (sent i p))
+    go : (b : Bool) → (eqb i 8 && eqb p 0) ≡ b → Arrived 0 3 (sent i p) (cond b damaged (sent i p))
     go true e = let hi = eqb-true i 8 (and-left (eqb i 8) (eqb p 0) e) in let hp = eqb-true p 0 (and-right (eqb i 8) (eqb p 0) e) in inr (rw (hi, hp, was-sent) damage)
     go false e = inl refl
 
-once : (b : Bool) (p : ℕ) → p < 2 → times p (cond b (0 ∷ 1 ∷ []) (1 ∷ 0 ∷ [])) ≡ 1
+pub once : (b : Bool) (p : ℕ) → p < 2 → times p (cond b (0 ∷ 1 ∷ []) (1 ∷ 0 ∷ [])) ≡ 1
 once true zero h = refl
 once true (suc zero) h = refl
 once true (suc (suc p)) h = absurd (omega arith)
@@ -64,31 +66,46 @@ once false zero h = refl
 once false (suc zero) h = refl
 once false (suc (suc p)) h = absurd (omega arith)
 
-only : (b : Bool) → Below 2 (cond b (0 ∷ 1 ∷ []) (1 ∷ 0 ∷ []))
+pub only : (b : Bool) → Below 2 (cond b (0 ∷ 1 ∷ []) (1 ∷ 0 ∷ []))
 only true = (omega arith, (omega arith, tt))
 only false = (omega arith, (omega arith, tt))
 
--- all but the spread, for every delay of port 0 and for every order of the ports
-pub met-but : (late : ℕ) (lateFirst : ℕ → Bool) → ((p q : ℕ) → p < 2 → q < 2 → cond (eqb p 0) late 0 + frames 0 ≤ cond (eqb q 0) late 0 + 20)
-    → Assumed (linkWith late lateFirst)
+-- all but the spread, for all group frames that are long enough, for every delay of port 0 and for every order of the ports
+pub met-by : (client : Client) → ((x : ℕ) → length (client x) ≡ xAt history (epochAt 0 x) * 1) → (late : ℕ) (lateFirst : ℕ → Bool)
+    → ((p q : ℕ) → p < 2 → q < 2 → cond (eqb p 0) late 0 + frames 0 ≤ cond (eqb q 0) late 0 + 20) → Assumed (linkBy client late lateFirst)
 unfolding sized frames tags
-met-but late lateFirst spread =
+met-by client whole late lateFirst spread =
     record {
+      history = history;
       allowed = allowed;
-      sizes = refl;
-      client = λ x. length-tabulate (xAt history (epochAt history x) * 1) (λ j. (x * 2 + j) % 256);
+      unranked = unranked;
+      unranked-long = λ x slot b. refl;
+      sends = refl;
+      all = refl;
       paired = record { below = λ p h. omega arith; once = λ p q hp hq e. omega arith };
-      spread = spread;
-      once = λ t p h. once (lateFirst t) p h;
-      only = λ t. only (lateFirst t);
-      arrived = λ i p h. arrived i p;
-      room = λ j. omega (arith, length-replicate {A = ℕ} 32 0xEE);
+      lines = record {
+        sizes = refl;
+        client = whole;
+        spread = spread;
+        once = λ t p h. once (lateFirst t) p h;
+        only = λ t. only (lateFirst t);
+        arrived = λ i p h. arrived i p;
+        room = λ j. omega (arith, length-replicate {A = ℕ} 33 0xEE);
+        eight = λ a j. refl;
+      };
     }
+
+pub met-but : (late : ℕ) (lateFirst : ℕ → Bool) → ((p q : ℕ) → p < 2 → q < 2 → cond (eqb p 0) late 0 + frames 0 ≤ cond (eqb q 0) late 0 + 20) → Assumed (linkWith late lateFirst)
+met-but = met-by client (λ x. length-tabulate (xAt history (epochAt 0 x) * 1) (λ j. (x * 2 + j) % 256))
 
 late : (b : Bool) → cond b 4 0 ≤ 4
 late true = omega arith
 late false = omega arith
 
-pub met : Assumed link
+-- as late as may be
+pub spread-4 : (p q : ℕ) → p < 2 → q < 2 → cond (eqb p 0) 4 0 + frames 0 ≤ cond (eqb q 0) 4 0 + 20
 unfolding frames
-met = met-but 4 (λ t. eqb (t % 2) 0) (λ p q hp hq. (let h = late (eqb p 0) in omega arith))
+spread-4 p q hp hq = let h = late (eqb p 0) in omega arith
+
+pub met : Assumed link
+met = met-but 4 (λ t. eqb (t % 2) 0) spread-4

@@ -11,10 +11,9 @@ use Rattle.packet.specs.Kinds.{firstTag, frames, lead, tags}
 use Rattle.step.specs.Laws.Run.{startFrom}
 use Rattle.link.specs.Demand3.{FullyArrived, Promised, Reported, Stands, Time}
 use Rattle.link.specs.Demand3.Stands.{none-yet, reporting}
-use Rattle.link.specs.History.{firstTagOf}
 use Rattle.link.specs.Moments.{Beginning, NotAfter, Ready, Run, nextAt, coming, reached}
 use Rattle.link.specs.Link.{roadOf}
-use Rattle.link.specs.Proved.{demand3}
+use Rattle.link.specs.Theorems.{demand3}
 use Rattle.link.specs.Running.{hasBegun}
 use Rattle.link.specs.Told.{Told}
 use Rattle.link.specs.Road.{times}
@@ -36,12 +35,12 @@ next-1 t rest = coming-is (roadOf link) t rest 1 (omega arith)
 
 -- the positions from which the ports count: the first ones with MFI1 0
 
-counts-0 : startFrom 0 (firstTagOf (link .history)) 3 ≡ 8
-unfolding startFrom firstTagOf firstTag frames lead tags
+counts-0 : startFrom 0 (firstTag 0 249) 3 ≡ 8
+unfolding startFrom firstTag frames lead tags
 counts-0 = refl
 
-counts-1 : startFrom 0 (firstTagOf (link .history)) 21 ≡ 24
-unfolding startFrom firstTagOf firstTag frames lead tags
+counts-1 : startFrom 0 (firstTag 0 249) 21 ≡ 24
+unfolding startFrom firstTag frames lead tags
 counts-1 = refl
 
 -- after frame time 55 all are in step and near enough
@@ -55,7 +54,7 @@ ready-then = record { stepped = stepped; near = near }
     at-1 : coming (roadOf link) 56 (link .order 56) 1 ≡ 56
     at-1 = next-1 56 (link .order 56)
 
-    stepped : (q : ℕ) → q < 2 → startFrom 0 (firstTagOf (link .history)) (link .first q) + 16 * 2 ≤ coming (roadOf link) 56 (link .order 56) q
+    stepped : (q : ℕ) → q < 2 → startFrom 0 (firstTag 0 249) (link .first q) + 16 * 2 ≤ coming (roadOf link) 56 (link .order 56) q
     stepped zero h = rw (counts-0, at-0) (omega arith)
     stepped (suc zero) h = rw (counts-1, at-1) (omega arith)
     stepped (suc (suc q)) h = absurd (omega arith)
@@ -71,7 +70,7 @@ ready-then = record { stepped = stepped; near = near }
     near (suc (suc p)) (suc q) hp hq = absurd (omega arith)
 
 -- the moment after frame time 179
-abbrev then : Time link
+abbrev pub then : Time link
 then = record { t = 180; done = []; rest = link .order 180; is-order = refl }
 
 come-0 : coming (roadOf link) 180 (link .order 180) 0 ≡ 176
@@ -93,7 +92,7 @@ Each P (r ∷ rs) = P r × Each P rs
 -- Any run of which demand 3's words hold on the sample.
 module _ (run : Run) (d : Promised link run) where
   -- It began when all ports were in step for the first time: the foremost position was 55.
-  began : (F : ℕ) → Beginning (roadOf link) run F → F ≡ 55
+  pub began : (F : ℕ) → Beginning (roadOf link) run F → F ≡ 55
   unfolding roadOf frames
   began F b = omega (arith, front, low)
     where
@@ -138,7 +137,7 @@ module _ (run : Run) (d : Promised link run) where
       six : r .many ≡ 6
       six = ⊎-elim (λ (h : 6 ≤ r .many). omega (arith, few)) (λ (h : r .many < 6). absurd (r .not-yet (all h))) (le-or-lt 6 (r .many))
 
-  has-begun : hasBegun (run 180 []) ≡ 1
+  pub has-begun : hasBegun (run 180 []) ≡ 1
   unfolding frames
   has-begun = d .begins-within 133 all-first
 
@@ -180,7 +179,7 @@ module _ (run : Run) (d : Promised link run) where
       absurd (omega arith)
 
 -- The receiver itself is held to it, and by the theorem alone its reports are the six that its run was computed to.
-itself : Promised link (reached (roadOf link) (started link))
+pub itself : Promised link (reached (roadOf link) (started link))
 itself =
     demand3 link met .promised (started link)
     (record {
@@ -191,5 +190,5 @@ itself =
       is = refl;
     })
 
-by-theorem : reached (roadOf link) (started link) 180 [] .told ≡ reports
+pub by-theorem : reached (roadOf link) (started link) 180 [] .told ≡ reports
 by-theorem = told-then (reached (roadOf link) (started link)) itself

@@ -5,18 +5,20 @@ use mathlib.Core.List.{List, [], _∷_}
 use Prim.Native.Nat.{ℕ, _%_}
 use native.Mathlib.Omega.{arith}
 use lib.Dec.{eqb}
+use lib.ListN.{drop, length}
 use Rattle.judge.specs.Verdict.{DOUBTFUL}
 use Rattle.packet.specs.Kinds.{frames}
-use Rattle.link.specs.Link.{Assumed, Link}
+use Rattle.link.specs.Assumed.{Assumed}
+use Rattle.link.specs.Link.{Link}
 use Rattle.link.specs.Told.{Told}
 use Rattle.link.specs.Samples.Computing.{outcome}
-use Rattle.link.specs.Samples.Members.{linkWith}
+use Rattle.link.specs.Samples.Members.{linkWith, output}
 use Rattle.link.specs.Samples.Reports.{held}
 
 -- Of what demand 3 lets be so the spread alone lacks: Met's `met-but` has all else.
 too-wide : (lateFirst : ℕ → Bool) → Assumed (linkWith 5 lateFirst) → ⊥
 unfolding frames
-too-wide lateFirst a = let h = a .spread 0 1 (omega arith) (omega arith) in absurd (omega arith)
+too-wide lateFirst a = let h = a .lines .spread 0 1 (omega arith) (omega arith) in absurd (omega arith)
 
 -- Where the late port always comes last, the latest tags are W - 15 or W - 14 apart after every frame. Receiving does not begin, though 69 frames have come since the last port's first.
 abbrev late-last : Link
@@ -32,7 +34,7 @@ abbrev late-in-turn : Link
 late-in-turn = linkWith 5 (λ t. eqb (t % 2) 1)
 
 abbrev doubtful : ℕ → List ℕ → Told
-doubtful e bytes = record { epoch = e; mark = DOUBTFUL; bytes = bytes }
+doubtful e bytes = record { epoch = e; mark = DOUBTFUL; bytes = bytes; rest = drop (length bytes) output }
 
 goes-wrong : outcome late-in-turn 120 ≡ record { begun = 1; told = held 254 ∷ doubtful 255 (193 ∷ 195 ∷ 197 ∷ 199 ∷ 201 ∷ 203 ∷ 205 ∷ 207 ∷ 209 ∷ 211 ∷ 213 ∷ 215 ∷ 217 ∷ 219 ∷ 221 ∷ 223 ∷ []) ∷ []; strange = 11 ∷ [] }
 unfolding outcome

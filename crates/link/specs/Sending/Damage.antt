@@ -13,5 +13,5 @@ pub packet-damaged : (h : History) → Allowed h → (i slot : ℕ) → slot < h
     → 1 ≤ changed (packetSent h i slot) came → changed (packetSent h i slot) came ≤ 3 → readNibbles (highsOf came) ≡ Crc
 unfolding nibblesOf
 packet-damaged h a i slot b came low high =
-    let sent : highsOf (packetSent h i slot) ≡ sealedOf (dataOf (fieldsSent h i slot) 0) = packet-highs h a i slot b in
-    nibbles-damaged (dataOf (fieldsSent h i slot) 0) (highsOf came) (length-data (fieldsSent h i slot)) (length-highs came) (rw sent at low) (rw sent at high)
+    let sent : highsOf (packetSent h i slot) ≡ sealedOf (dataOf (fieldsSent h i slot)) = packet-highs h a i slot b in
+    nibbles-damaged (dataOf (fieldsSent h i slot)) (highsOf came) (length-data (fieldsSent h i slot)) (length-highs came) (rw sent at low) (rw sent at high)

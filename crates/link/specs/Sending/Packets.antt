@@ -3,13 +3,10 @@ use mathlib.Core.Path.{_≡_, refl, _∙_, sym, ap}
 use mathlib.Core.Bool.{true}
 use mathlib.Core.List.{List}
 use Prim.Native.Nat.{ℕ, _<_}
-use native.Mathlib.Omega.{arith}
 use lib.ListN.{length, length-replicate, replicate}
 use borrow.Author.Tests.{eq-eqb, lt-ltb}
 use Rattle.packet.specs.declared.layout.Fields.{Fields}
 use Rattle.packet.specs.declared.reader.Reading.the-variants.{Packet}
-use Rattle.packet.specs.declared.writer.Writing.{Writing}
-use Rattle.packet.specs.declared.writer.Writing.the-variants as W
 use Rattle.packet.specs.Kinds.{epochs, frames}
 use Rattle.packet.specs.Laws.Bounds.{Bounds, bounds}
 use Rattle.packet.specs.Laws.Nibbles.{highs-back, packet-nibbles}
@@ -21,15 +18,11 @@ use Rattle.sender.specs.declared.epochs.Sender.{Sender}
 use Rattle.sender.specs.declared.table.Answer.the-variants.{Done}
 use Rattle.sender.specs.Epochs.{packetAnswer, packetBytes, packetFields}
 use Rattle.sender.specs.Outcomes.{written}
-use Rattle.sender.specs.Table.{answerNumber, sizeOf}
-use Rattle.sender.specs.Theorems.Packets.{packet-done}
-use Rattle.link.specs.History.{Allowed, History, epochNumber, fieldsSent, packetSent, senderAt}
+use Rattle.sender.specs.Table.{sizeOf}
+use Rattle.sender.specs.Theorems.Packets.{packet-done, written-done}
+use Rattle.link.specs.History.{Allowed, History, fieldsSent, packetSent, senderAt}
+use Rattle.link.specs.Sending.{epochNumber}
 use Rattle.link.specs.Sending.Senders.{callsTo, given-to, sender-in, sender-run, size-at}
-
-written-done : (w : Writing) → written w ≡ Done → w ≡ W.Done
-written-done W.Done e = refl
-written-done W.Length e = absurd (let n = ap answerNumber e in omega arith)
-written-done W.Field e = absurd (let n = ap answerNumber e in omega arith)
 
 -- what a sender writes whose packet is not refused
 module _ (s : Sender) (slot : ℕ) (h4 : List ℕ) (below : slot < sizeOf (s .table .count)) (room : length h4 ≡ frames (s .table .kind)) (begun : s .begun ≡ true) where
@@ -42,8 +35,8 @@ module _ (s : Sender) (slot : ℕ) (h4 : List ℕ) (below : slot < sizeOf (s .ta
   answer-is = rw (lt-ltb slot (sizeOf (s .table .count)) below, eq-eqb (length h4) (frames (s .table .kind)) room, begun) refl
 
 -- the H4 bytes of a packet whose fields fit
-highs-sent : (f : Fields) → fitting f ≡ true → highsOf (h4Of (nibblesOf f 0)) ≡ nibblesOf f 0
-highs-sent f t = highs-back (nibblesOf f 0) (packet-nibbles f 0 (bounds f t)) (length-nibbles f 0)
+highs-sent : (f : Fields) → fitting f ≡ true → highsOf (h4Of (nibblesOf f)) ≡ nibblesOf f
+highs-sent f t = highs-back (nibblesOf f) (packet-nibbles f (bounds f t)) (length-nibbles f)
 
 module _ (h : History) (a : Allowed h) (i slot : ℕ) (b : slot < h .slots) where
   abbrev blank : List ℕ
@@ -73,19 +66,19 @@ module _ (h : History) (a : Allowed h) (i slot : ℕ) (b : slot < h .slots) wher
   pub fields-bounds : Bounds (fieldsSent h i slot)
   fields-bounds = bounds (fieldsSent h i slot) fields-fit
 
-  pub packet-is : packetSent h i slot ≡ h4Of (nibblesOf (fieldsSent h i slot) 0)
+  pub packet-is : packetSent h i slot ≡ h4Of (nibblesOf (fieldsSent h i slot))
   unfolding packetSent
   packet-is = bytes-are (senderAt h i) slot blank below room (sender-in h a i .begun) ∙ wrote .bytes
 
-  pub packet-highs : highsOf (packetSent h i slot) ≡ nibblesOf (fieldsSent h i slot) 0
+  pub packet-highs : highsOf (packetSent h i slot) ≡ nibblesOf (fieldsSent h i slot)
   packet-highs = ap highsOf packet-is ∙ highs-sent (fieldsSent h i slot) fields-fit
 
   -- it reads back
   pub packet-reads : readNibbles (highsOf (packetSent h i slot)) ≡ Packet (fieldsSent h i slot)
-  packet-reads = ap readNibbles packet-highs ∙ nibbles-back (fieldsSent h i slot) 0 fields-fit
+  packet-reads = ap readNibbles packet-highs ∙ nibbles-back (fieldsSent h i slot) fields-fit
 
 -- its epoch is the history's, and its GID the one lent
-pub packet-epoch : (h : History) → Allowed h → (i slot : ℕ) → fieldsSent h i slot .epoch ≡ epochNumber h i
+pub packet-epoch : (h : History) → Allowed h → (i slot : ℕ) → fieldsSent h i slot .epoch ≡ epochNumber (h .kind) (h .first) i
 unfolding packetFields
 packet-epoch h a i slot = sender-in h a i .epoch
 

@@ -1,20 +1,21 @@
--- The payload of every slot: the bytes of its rank in the client's group frame, and zeros without a rank.
-use mathlib.Core.Path.{_≡_, refl, _∙_, ap}
-use mathlib.Core.Bool.{true}
+-- The payload of every slot: the bytes of its rank in the client's group frame, and without a rank whatever is given.
+use mathlib.Core.Path.{_≡_, refl, sym, _∙_, ap}
+use mathlib.Core.Bool.{Bool, true, false, cond}
 use mathlib.Core.List.{List}
 use Prim.Native.Nat.{ℕ, _<_}
 use native.Mathlib.Omega.{arith}
-use lib.ListN.{getD, length, length-replicate, replicate}
-use borrow.Author.Tests.{lt-ltb}
-use Rattle.ground.specs.Table.{getD-tabulate, length-tabulate}
+use lib.ListN.{length, length-replicate, replicate}
+use borrow.Author.Tests.{lt-ltb, ne-eqb}
+use Rattle.ground.specs.Table.{length-tabulate}
 use Rattle.payload.specs.Laws.Fits.{Sizes, spread-one-done}
-use Rattle.payload.specs.Order.{groupFrame, memberByte, memberFrame}
+use Rattle.payload.specs.Order.{memberByte, memberFrame}
 use Rattle.payload.specs.Spreading.{spreadOne}
-use Rattle.payload.specs.Theorems.RoundTrip.{join-spreads}
 use Rattle.sender.specs.declared.epochs.Sender.{Sender}
 use Rattle.sender.specs.Epochs.{payloadBytes, rankIn, xOf}
+use Rattle.sender.specs.Ranks.{noRank}
 use Rattle.sender.specs.Table.{sizeOf}
-use Rattle.link.specs.History.{Allowed, Client, Handed, History, epochAt, payloadSent, senderAt, xAt}
+use Rattle.link.specs.History.{Allowed, Handed, History, hasRank, payloadSent, senderAt, xAt}
+use Rattle.link.specs.Sending.{Client, epochAt}
 use Rattle.link.specs.Sending.Ruling.{x-le}
 use Rattle.link.specs.Sending.Senders.{sender-in, size-at}
 
@@ -24,32 +25,38 @@ bytes-are s slot P frame member below begun = rw (lt-ltb slot (sizeOf (s .table 
 
 module _ (h : History) (a : Allowed h) (P : ℕ) (client : Client) (c : Handed h P client) (x : ℕ) where
   abbrev X : ℕ
-  X = xAt h (epochAt h x)
+  X = xAt h (epochAt (h .kind) x)
 
   abbrev rankOf : ℕ → ℕ
-  rankOf slot = rankIn (senderAt h (epochAt h x)) slot
+  rankOf slot = rankIn (senderAt h (epochAt (h .kind) x)) slot
 
-  pub sizes-at : Sizes X P
-  sizes-at = record { ranks = (let l = x-le h a (epochAt h x) in let m = a .most in omega arith); least = c .least; most = c .most }
+  x-few : X < noRank
+  x-few = let l = x-le h a (epochAt (h .kind) x) in let m = a .most in omega arith
+
+  sizes-at : Sizes X P
+  sizes-at = record { ranks = (let l = x-le h a (epochAt (h .kind) x) in let m = a .most in omega arith); least = c .least; most = c .most }
 
   -- by its rank, whatever that is
-  pub payload-is : (slot : ℕ) → slot < h .slots → payloadSent h P client x slot ≡ memberFrame X P (client x) (rankOf slot)
+  payload-is : (slot : ℕ) → slot < h .slots → payloadSent h P client x slot ≡ memberFrame X P (client x) (rankOf slot)
   unfolding payloadSent
   payload-is slot b =
-      bytes-are (senderAt h (epochAt h x)) slot P (client x) (replicate P 0) (rw (size-at h a (epochAt h x)) b) (sender-in h a (epochAt h x) .begun)
+      bytes-are (senderAt h (epochAt (h .kind) x)) slot P (client x) (replicate P 0) (rw (size-at h a (epochAt (h .kind) x)) b) (sender-in h a (epochAt (h .kind) x) .begun)
       ∙ spread-one-done X P (rankOf slot) (client x) (replicate P 0) sizes-at (c .whole x) (length-replicate P 0)
 
-  pub payload-ranked : (slot r : ℕ) → slot < h .slots → rankOf slot ≡ r → payloadSent h P client x slot ≡ memberFrame X P (client x) r
-  payload-ranked slot r b e = payload-is slot b ∙ ap (memberFrame X P (client x)) e
+  module _ (unranked : ℕ → ℕ → List ℕ) (slot : ℕ) (b : slot < h .slots) where
+    -- what the lines carry
+    abbrev carried : List ℕ
+    carried = cond (hasRank h x slot) (payloadSent h P client x slot) (unranked x slot)
 
-  pub payload-length : (slot : ℕ) → slot < h .slots → length (payloadSent h P client x slot) ≡ P
-  payload-length slot b = ap length (payload-is slot b) ∙ length-tabulate P (memberByte X (client x) (rankOf slot))
+    pub carried-ranked : (r : ℕ) → r < X → rankOf slot ≡ r → carried ≡ memberFrame X P (client x) r
+    unfolding hasRank
+    carried-ranked r l e =
+        let few = x-few in
+        rw (ne-eqb (rankOf slot) noRank (λ (z : rankOf slot ≡ noRank). omega arith)) (payload-is slot b ∙ ap (memberFrame X P (client x)) e)
 
-  -- Joined in the order of their ranks, wherever the slots are found, they are the client's frame.
-  pub joined-back : (slotOf : ℕ → ℕ) → ((r : ℕ) → r < X → slotOf r < h .slots) → ((r : ℕ) → r < X → rankOf (slotOf r) ≡ r)
-      → groupFrame X P (λ r j. getD (payloadSent h P client x (slotOf r)) j 0) ≡ client x
-  joined-back slotOf below is =
-      join-spreads X P (client x) (λ r j. getD (payloadSent h P client x (slotOf r)) j 0) (c .whole x)
-      (λ r j hr hj.
-      ap (λ (l : List ℕ). getD l j 0) (payload-ranked (slotOf r) r (below r hr) (is r hr))
-      ∙ getD-tabulate P (memberByte X (client x) r) j 0 hj)
+    pub carried-length : length (unranked x slot) ≡ P → length carried ≡ P
+    carried-length l = go (hasRank h x slot)
+      where
+        go : (t : Bool) → length (cond t (payloadSent h P client x slot) (unranked x slot)) ≡ P
+        go true = ap length (payload-is slot b) ∙ length-tabulate P (memberByte X (client x) (rankOf slot))
+        go false = l

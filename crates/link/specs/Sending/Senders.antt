@@ -22,7 +22,8 @@ use Rattle.sender.specs.Steps.{Call}
 use Rattle.sender.specs.Table.{sizeOf}
 use Rattle.sender.specs.Theorems.Epochs.{SoundSender, onTable, sender-sound, senderAfter}
 use Rattle.sender.specs.Theorems.Packets.{AllGiven}
-use Rattle.link.specs.History.{Allowed, History, epochNumber, senderAt, startedOn}
+use Rattle.link.specs.History.{Allowed, History, senderAt, startedOn}
+use Rattle.link.specs.Sending.{epochNumber}
 
 -- all calls up to and with the start of the i-th epoch
 
@@ -89,7 +90,7 @@ later-epoch s b = rw b
 -- the sender in its i-th epoch
 pub record InEpoch (h : History) (i : ℕ) (s : Sender) : Type 0 where
   pub begun : s .begun ≡ true
-  pub epoch : s .epoch ≡ epochNumber h i
+  pub epoch : s .epoch ≡ epochNumber (h .kind) (h .first) i
   pub gid : s .gid ≡ h .gid i
   pub mst : s .mst ≡ h .mst i
   pub ack : s .«rs_ack» ≡ h .ack i
@@ -106,7 +107,7 @@ module _ (h : History) (a : Allowed h) where
       (λ (b : Bool). cond {A = SenderOutcome} b (record { sender = startedSender r (h .gid i) (h .mst i) (h .ack i); answer = Done }) (record { sender = r; answer = Field }) .sender)
       (and-true (ltb (h .gid i) 2) (ltb (h .ack i) 2) (lt-ltb (h .gid i) 2 (a .gid i)) (lt-ltb (h .ack i) 2 (a .ack i)))
 
-  in-started : (i : ℕ) (s : Sender) → s .table .count ≡ h .slots → s .table .kind ≡ h .kind → startedEpoch (senderRun s (onTable (h .before i))) ≡ epochNumber h i → InEpoch h i (startedOn h i s)
+  in-started : (i : ℕ) (s : Sender) → s .table .count ≡ h .slots → s .table .kind ≡ h .kind → startedEpoch (senderRun s (onTable (h .before i))) ≡ epochNumber (h .kind) (h .first) i → InEpoch h i (startedOn h i s)
   unfolding startedSender
   in-started i s c k e =
       let o = left s (h .before i) in
@@ -128,7 +129,7 @@ module _ (h : History) (a : Allowed h) where
   unfolding freshOf
   fresh-kind = ap (λ (t : Table). t .kind) fresh-table
 
-  first-number : h .first ≡ epochNumber h zero
+  first-number : h .first ≡ epochNumber (h .kind) (h .first) zero
   unfolding epochNumber epochs
   first-number = let b = a .first in omega arith
 
@@ -138,7 +139,7 @@ module _ (h : History) (a : Allowed h) where
       let o = left (beginOf (h .kind) (h .slots) (h .first) .sender) (h .before zero) in
       in-started zero (beginOf (h .kind) (h .slots) (h .first) .sender) fresh-count fresh-kind (rw (o .begun, o .epoch) first-number)
 
-  next-number : (i : ℕ) → epochAfter (h .kind) (epochNumber h i) ≡ epochNumber h (suc i)
+  next-number : (i : ℕ) → epochAfter (h .kind) (epochNumber (h .kind) (h .first) i) ≡ epochNumber (h .kind) (h .first) (suc i)
   unfolding epochAfter epochNumber epochs
   next-number i = omega arith
 

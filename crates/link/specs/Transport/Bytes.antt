@@ -1,12 +1,12 @@
 -- The group frames of an epoch whose frames all stand: the bytes of the ports, in the order that is seen.
-use mathlib.Core.Path.{_≡_, refl, ap, _∙_}
+use mathlib.Core.Path.{_≡_, refl, sym, ap, _∙_}
 use mathlib.Core.List.{List, _++_}
 use Prim.Native.Nat.{ℕ, zero, suc, _+_, _*_, _/_, _%_, _≤_, _<_}
 use native.Mathlib.Nat.{zero-mul}
 use native.Mathlib.Omega.{arith}
-use lib.ListN.{length, take}
+use lib.ListN.{drop, length, take}
 use Rattle.ground.specs.Drawn.{fillAt}
-use Rattle.ground.specs.Table.{tabulate, tabulate-ext}
+use Rattle.ground.specs.Table.{length-tabulate, tabulate, tabulate-ext}
 use Rattle.judge.specs.declared.seen.Seen.{Seen}
 use Rattle.judge.specs.Order.{activeIn, orderOf, portOf}
 use Rattle.packet.specs.Kinds.{frames}
@@ -19,7 +19,7 @@ use Rattle.receiver.specs.Report.{framesInto}
 use Rattle.rows.specs.declared.group.Group.{Group}
 use Rattle.store.specs.Laws.Stands.{Stands}
 use Rattle.link.specs.Contents.{frameAt, framesFrom}
-use Rattle.link.specs.Laws.Lists.{tabulate-append, take-fill}
+use Rattle.link.specs.Laws.Lists.{drop-fill, tabulate-append, take-fill}
 use Rattle.link.specs.Road.{Fair, L, Road, sizes-in}
 
 module _ (r : Road) (fair : Fair r) (g : Group) (kind-is : g .kind ≡ r .kind) (payload-is : g .payload ≡ r .payload) (window-is : g .window ≡ r .window) (store : List ℕ)
@@ -60,11 +60,28 @@ module _ (r : Road) (fair : Fair r) (g : Group) (kind-is : g .kind ≡ r .kind) 
       (tabulate-append (k * frameBytes g seen n) (frameBytes g seen n) (reportByte g seen n store)
       ∙ (λ i. frames-are k (omega arith) i ++ frame-is k h i))
 
+  -- they fill the front of the output
+  abbrev many : ℕ
+  many = L r * frameBytes g seen n
+
+  same-frames : frames (g .kind) ≡ L r
+  same-frames = ap frames kind-is
+
+  into : framesInto g (orderOf seen n) store (L r) out ≡ fillAt 0 many (reportByte g seen n store) out
+  unfolding orderOf
+  into = rw (← same-frames) (frames-into g seen n store out sizes stored enough)
+
+  ends : many ≤ length out
+  ends = rw (← same-frames) (frames-end g seen n store out sizes stored enough)
+
   pub frames-taken : take (L r * (orderOf seen n .x * g .payload)) (framesInto g (orderOf seen n) store (L r) out) ≡ framesFrom r seen base (L r)
   unfolding orderOf
-  frames-taken =
-      let same : frames (g .kind) ≡ L r = ap frames kind-is in
-      let into : framesInto g (orderOf seen n) store (L r) out ≡ fillAt 0 (L r * frameBytes g seen n) (reportByte g seen n store) out =
-      rw (← same) (frames-into g seen n store out sizes stored enough) in
-      let ends : L r * frameBytes g seen n ≤ length out = rw (← same) (frames-end g seen n store out sizes stored enough) in
-      ap (take (L r * frameBytes g seen n)) into ∙ take-fill (L r * frameBytes g seen n) (reportByte g seen n store) out 0 ends ∙ frames-are (L r) (omega arith)
+  frames-taken = ap (take many) into ∙ take-fill many (reportByte g seen n store) out 0 ends ∙ frames-are (L r) (omega arith)
+
+  long-frames : length (framesFrom r seen base (L r)) ≡ many
+  long-frames = ap length (sym (frames-are (L r) (omega arith))) ∙ length-tabulate many (reportByte g seen n store)
+
+  -- 'Output beyond those bytes stays.'
+  pub frames-beyond : drop (L r * (orderOf seen n .x * g .payload)) (framesInto g (orderOf seen n) store (L r) out) ≡ drop (length (framesFrom r seen base (L r))) out
+  unfolding orderOf
+  frames-beyond = ap (drop many) into ∙ drop-fill many (reportByte g seen n store) out 0 ∙ ap (λ (k : ℕ). drop k out) (sym long-frames)

@@ -14,8 +14,8 @@ module _ (r : Road) (f : Fair r) where
         on-before = before-frame r f;
         on-first = λ m p i n n′ s reach o. first-frame r f m p i n n′ s reach o;
         on-later = λ m p g i n n′ s reach o w. later-frame r f m p g i n n′ s reach o w;
-        before-none = before-none r;
-        first-none = first-none r;
+        before-none = before-none r f;
+        first-none = first-none r f;
         later-none = λ m g i n o w. owed-mark r f m n g i o w;
         later-one = λ m g i n o all. (due-mark r f m n g i o all, later-fetched r f m n g i o all);
         must-begin = λ m n o y. must-begin r f m n o (y .stepped) (y .near);

@@ -2,14 +2,14 @@
 use mathlib.Core.Path.{_≡_, refl, sym, ap, _∙_}
 use mathlib.Core.Logic.{_≢_}
 use mathlib.Core.Bool.{Bool, true, false, cond, or-true}
-use mathlib.Core.List.{List, []}
+use mathlib.Core.List.{List, [], _∷_, _++_}
 use Prim.Native.Nat.{ℕ, zero, suc, _+_, _-_, _*_, _/_, _%_, _≤_, _<_}
 use native.Mathlib.Omega.{arith}
 use lib.Dec.{eqb, ltb}
-use lib.ListN.{getD, length, replicate, take}
+use lib.ListN.{drop, getD, length, replicate, take}
 use borrow.Author.Tests.{eq-eqb, le-leb, lt-ltb, ltb-true}
 use Rattle.ground.specs.Drawn.{drawn-by}
-use Rattle.ground.specs.Table.{tabulate, tabulate-suc}
+use Rattle.ground.specs.Table.{length-tabulate, tabulate, tabulate-suc}
 use Rattle.judge.specs.declared.order.Order.{Order}
 use Rattle.judge.specs.declared.seen.Seen.{Seen}
 use Rattle.judge.specs.Order.{orderOf}
@@ -31,10 +31,10 @@ use Rattle.store.specs.Laws.Stands.{Stands}
 use Rattle.link.specs.Contents.{allSeenAfter, framesFrom, numberOf, reportAfter, seenAfter}
 use Rattle.link.specs.Laws.Numbers.{count-fits, epoch-before, epoch-first}
 use Rattle.link.specs.Road.{Fair, L, Road, sizes-in}
-use Rattle.link.specs.Running.{Moment, drained, fetched, recordAt, toldBy}
+use Rattle.link.specs.Running.{Moment, drained, fetched, lentAt, outputAt, recordAt, toldBy}
 use Rattle.link.specs.Standing.{Later, Lined, Owes}
 use Rattle.link.specs.Told.{Told}
-use Rattle.link.specs.Transport.Bytes.{frames-taken}
+use Rattle.link.specs.Transport.Bytes.{frames-beyond, frames-taken}
 use Rattle.link.specs.Transport.Call.{ports-are}
 use Rattle.link.specs.Transport.Due.{AllCome, brought-all, brought-not, first-all}
 use Rattle.link.specs.Transport.Passed.{gathered-now, joined-kept, open-passed, passed-to, ruling-now, whole-now}
@@ -59,8 +59,8 @@ four-bytes n h =
     rw (b, c)
     (by-bytes (n / 256 / 256 / 256 % 256) (n / 256 / 256 % 256) (n / 256 % 256) (n % 256) (n / 256) (n / 256 / 256) n (halves n) (halves (n / 256)) (last-half (n / 256 / 256) small))
 
-told-same : (a b : Told) → a .epoch ≡ b .epoch → a .mark ≡ b .mark → a .bytes ≡ b .bytes → a ≡ b
-told-same a b e k c = λ i. record { epoch = e i; mark = k i; bytes = c i }
+told-same : (a b : Told) → a .epoch ≡ b .epoch → a .mark ≡ b .mark → a .bytes ≡ b .bytes → a .rest ≡ b .rest → a ≡ b
+told-same a b e k c d = λ i. record { epoch = e i; mark = k i; bytes = c i; rest = d i }
 
 mark-some : (seen : List Seen) (n : ℕ) → judgeOf seen n ≢ 0
 unfolding judgeOf
@@ -78,10 +78,7 @@ fetched-answers r m = refl
 module _ (r : Road) (fair : Fair r) where
   -- A fetch is not refused.
   module _ (m : Moment) (coming : ℕ → ℕ) (l : Lined r m coming) where
-    abbrev pub outOf : List ℕ
-    outOf = r .output (length (m .told))
-
-    fits-now : fits (m .rows) (m .store) outOf (replicate 8 0) ≡ true
+    fits-now : fits (m .rows) (m .store) (outputAt r m) (lentAt r m) ≡ true
     unfolding fits fetchFits rowsFit storeFor outputFor
     fits-now =
         rw (
@@ -91,17 +88,18 @@ module _ (r : Road) (fair : Fair r) where
           l .window-is,
           l .kind-is,
           eq-eqb (length (m .store)) (r .ports * r .window * (r .payload + 1)) (l .store-long),
-          le-leb (r .ports * L r * r .payload) (length outOf) (fair .room (length (m .told))),
+          le-leb (r .ports * L r * r .payload) (length (outputAt r m)) (fair .room (length (m .told))),
+          eq-eqb (length (lentAt r m)) 8 (fair .eight (length (m .answers)) (length (m .told))),
           or-true (eqb (r .ports) 0),
         )
         refl
 
-    pub fetch-answered : fetchAnswer (m .rows) (m .store) outOf (replicate 8 0) ≡ 0
+    pub fetch-answered : fetchAnswer (m .rows) (m .store) (outputAt r m) (lentAt r m) ≡ 0
     unfolding fetchAnswer
     fetch-answered = rw fits-now refl
 
     -- none due
-    mark-none : dueIn (groupAt (m .rows)) (r .ports) (m .rows) ≡ false → getD (recordAt r m) 0 0 ≡ 0
+    pub mark-none : dueIn (groupAt (m .rows)) (r .ports) (m .rows) ≡ false → getD (recordAt r m) 0 0 ≡ 0
     unfolding fetchRecord reportIfDue recordOf
     mark-none e = rw (fits-now, ports-are r fair m coming l, e) refl
 
@@ -161,11 +159,11 @@ module _ (r : Road) (fair : Fair r) where
       unfolding fetchRecord reportIfDue reportOf
       record-is = rw (fits-now m coming lined, ports-are r fair m coming lined, due-now, seen-is, size-is (r .ports) few) refl
 
-      out-is : fetchOut (m .rows) (m .store) (outOf m coming lined) (replicate 8 0) ≡ outputBy g mark order (m .store) (outOf m coming lined)
+      out-is : fetchOut (m .rows) (m .store) (outputAt r m) (lentAt r m) ≡ outputBy g mark order (m .store) (outputAt r m)
       unfolding fetchOut outIfDue outputOf
       out-is = rw (fits-now m coming lined, ports-are r fair m coming lined, due-now, seen-is, size-is (r .ports) few) refl
 
-      rows-are : fetchRows (m .rows) (m .store) (outOf m coming lined) (replicate 8 0) ≡ reportedOf g (m .store) (r .ports) (m .rows)
+      rows-are : fetchRows (m .rows) (m .store) (outputAt r m) (lentAt r m) ≡ reportedOf g (m .store) (r .ports) (m .rows)
       unfolding fetchRows rowsIfDue
       rows-are = rw (fits-now m coming lined, ports-are r fair m coming lined, due-now) refl
 
@@ -196,39 +194,60 @@ module _ (r : Road) (fair : Fair r) where
           most : g .payload ≤ 2340
           most = rw (lined .payload-is) (sizes-in r fair .few-bytes)
 
-      bytes-told : take (X * frames (g .kind) * g .payload) (outputBy g mark order (m .store) (outOf m coming lined)) ≡ reportAfter r i .bytes
+      all-stand : (p k : ℕ) → p < r .ports → k < L r → Stands g p k (r .bytes p (suc i * L r + k)) (r .h4 p (suc i * L r + k)) (m .store)
+      all-stand p k b h =
+          let c = all p b in
+          let e : suc i * L r + k - suc i * L r ≡ k = omega arith in
+          rw e at (o .open-at .stands p (suc i * L r + k) b (omega arith) (omega arith))
+
+      bytes-told : take (X * frames (g .kind) * g .payload) (outputBy g mark order (m .store) (outputAt r m)) ≡ reportAfter r i (outputAt r m) .bytes
       unfolding outputBy reportAfter
       bytes-told = go (eqb mark HELD)
         where
-          all-stand : (p k : ℕ) → p < r .ports → k < L r → Stands g p k (r .bytes p (suc i * L r + k)) (r .h4 p (suc i * L r + k)) (m .store)
-          all-stand p k b h =
-              let c = all p b in
-              let e : suc i * L r + k - suc i * L r ≡ k = omega arith in
-              rw e at (o .open-at .stands p (suc i * L r + k) b (omega arith) (omega arith))
-
           go : (b : Bool)
-              → take (cond b 0 (order .x) * frames (g .kind) * g .payload) (cond b (outOf m coming lined) (framesInto g order (m .store) (frames (g .kind)) (outOf m coming lined)))
+              → take (cond b 0 (order .x) * frames (g .kind) * g .payload) (cond b (outputAt r m) (framesInto g order (m .store) (frames (g .kind)) (outputAt r m)))
               ≡ cond b [] (framesFrom r seen (suc i * L r) (L r))
           go true = let z : 0 * frames (g .kind) * g .payload ≡ 0 = omega arith in rw z refl
           go false =
               let e : order .x * frames (g .kind) * g .payload ≡ frames (g .kind) * (order .x * g .payload) = omega arith in
               let same : frames (g .kind) ≡ L r = ap frames (lined .kind-is) in
               rw (e, same)
-              (frames-taken r fair g (lined .kind-is) (lined .payload-is) (lined .window-is) (m .store) (lined .store-long) (suc i * L r) all-stand seen (outOf m coming lined)
+              (frames-taken r fair g (lined .kind-is) (lined .payload-is) (lined .window-is) (m .store) (lined .store-long) (suc i * L r) all-stand seen (outputAt r m)
+              (fair .room (length (m .told))))
+
+      -- the output beyond them
+      rest-told : drop (X * frames (g .kind) * g .payload) (outputBy g mark order (m .store) (outputAt r m)) ≡ reportAfter r i (outputAt r m) .rest
+      unfolding outputBy reportAfter
+      rest-told = go (eqb mark HELD)
+        where
+          go : (b : Bool)
+              → drop (cond b 0 (order .x) * frames (g .kind) * g .payload) (cond b (outputAt r m) (framesInto g order (m .store) (frames (g .kind)) (outputAt r m)))
+              ≡ drop (length (cond b [] (framesFrom r seen (suc i * L r) (L r)))) (outputAt r m)
+          go true = let z : 0 * frames (g .kind) * g .payload ≡ 0 = omega arith in rw z refl
+          go false =
+              let e : order .x * frames (g .kind) * g .payload ≡ frames (g .kind) * (order .x * g .payload) = omega arith in
+              let same : frames (g .kind) ≡ L r = ap frames (lined .kind-is) in
+              rw (e, same)
+              (frames-beyond r fair g (lined .kind-is) (lined .payload-is) (lined .window-is) (m .store) (lined .store-long) (suc i * L r) all-stand seen (outputAt r m)
               (fair .room (length (m .told))))
 
       -- exactly the report that the contents give
-      told-is : toldBy r (recordAt r m) (fetchOut (m .rows) (m .store) (outOf m coming lined) (replicate 8 0)) ≡ reportAfter r i
+      told-is : toldBy r (recordAt r m) (fetchOut (m .rows) (m .store) (outputAt r m) (lentAt r m)) ≡ reportAfter r i (outputAt r m)
       unfolding reportAfter
-      told-is = told-same _ (reportAfter r i) epoch-told mark-told (rw (count-told, out-is) bytes-told)
+      told-is = told-same _ (reportAfter r i (outputAt r m)) epoch-told mark-told (rw (count-told, out-is) bytes-told) (rw (count-told, out-is) rest-told)
 
-      told-now : fetched r m .told ≡ tabulate (suc i - j) (λ k. reportAfter r (j + k))
+      -- it is the report numbered i - j, and so is the output
+      output-now : outputAt r m ≡ r .output (i - j)
+      output-now = ap (r .output) (ap length (o .told) ∙ length-tabulate (i - j) (λ k. reportAfter r (j + k) (r .output k)))
+
+      told-now : fetched r m .told ≡ tabulate (suc i - j) (λ k. reportAfter r (j + k) (r .output k))
       unfolding fetched
       told-now =
           let c = o .come in
           let e : suc i - j ≡ suc (i - j) = omega arith in
           let last : j + (i - j) ≡ i = omega arith in
-          rw (told-is, o .told, e) (sym (tabulate-suc (i - j) (λ k. reportAfter r (j + k)) ∙ rw last refl))
+          ap (λ (t : Told). m .told ++ (t ∷ [])) (told-is ∙ ap (reportAfter r i) output-now)
+          ∙ rw (o .told, e) (sym (tabulate-suc (i - j) (λ k. reportAfter r (j + k) (r .output k)) ∙ rw last refl))
 
       -- the window after it
       abbrev mid : Moment

@@ -2,7 +2,7 @@
 use mathlib.Core.Path.{_≡_, refl, _∙_, sym}
 use mathlib.Core.Logic.{⊎-elim}
 use mathlib.Core.Bool.{Bool, true, false, _&&_, not, false≢true}
-use Prim.Native.Nat.{_≤_, _<_}
+use Prim.Native.Nat.{_^_, _≤_, _<_}
 use native.Mathlib.Omega.{arith}
 use borrow.Author.Tests.{ltb-true, ne-eqb, not-true}
 use lib.Dec.{eqb, ltb}
@@ -18,6 +18,7 @@ pub record Bounds (f : Fields) : Type 0 where
   pub sq : f .sq < 256
   pub gid : f .gid < 2
   pub ack : f .«rs_ack» < 2
+  pub reserved : f .reserved < 2 ^ 26
   pub nibble : f .word .0 < 16
   pub word : assigned (f .word) ≡ true
   pub not-fixed : eqb (f .word .0) FIXED ≡ false
@@ -42,8 +43,9 @@ small-word w a =
 pub bounds : (f : Fields) → fitting f ≡ true → Bounds f
 unfolding fitting
 bounds f t =
-    let t6 = and-left (E && M && S && G && A && N) W t in
-    let t5 = and-left (E && M && S && G && A) N t6 in
+    let t7 = and-left (E && M && S && G && A && R && N) W t in
+    let t6 = and-left (E && M && S && G && A && R) N t7 in
+    let t5 = and-left (E && M && S && G && A) R t6 in
     let t4 = and-left (E && M && S && G) A t5 in
     let t3 = and-left (E && M && S) G t4 in
     let t2 = and-left (E && M) S t3 in
@@ -53,9 +55,10 @@ bounds f t =
       sq = ltb-true (f .sq) 256 (and-right (E && M) S t3);
       gid = ltb-true (f .gid) 2 (and-right (E && M && S) G t4);
       ack = ltb-true (f .«rs_ack») 2 (and-right (E && M && S && G) A t5);
-      nibble = small-word (f .word) (and-right (E && M && S && G && A && N) W t);
-      word = and-right (E && M && S && G && A && N) W t;
-      not-fixed = not-true (eqb (f .word .0) FIXED) (and-right (E && M && S && G && A) N t6);
+      reserved = ltb-true (f .reserved) (2 ^ 26) (and-right (E && M && S && G && A) R t6);
+      nibble = small-word (f .word) (and-right (E && M && S && G && A && R && N) W t);
+      word = and-right (E && M && S && G && A && R && N) W t;
+      not-fixed = not-true (eqb (f .word .0) FIXED) (and-right (E && M && S && G && A && R) N t7);
     }
   where
     E : Bool
@@ -72,6 +75,9 @@ bounds f t =
 
     A : Bool
     A = ltb (f .«rs_ack») 2
+
+    R : Bool
+    R = ltb (f .reserved) (2 ^ 26)
 
     N : Bool
     N = not (eqb (f .word .0) FIXED)

@@ -23,17 +23,17 @@ nibbles-at [] all k h = absurd (not-suc-le-zero h)
 nibbles-at (n ∷ ns) all zero h = all .0
 nibbles-at (n ∷ ns) all (suc k) h = nibbles-at ns (all .1) k (le-of-suc-le-suc h)
 
-pub data-nibbles : (f : Fields) (z : ℕ) → Bounds f → Nibbles (dataOf f z)
+pub data-nibbles : (f : Fields) → Bounds f → Nibbles (dataOf f)
 unfolding dataOf
-data-nibbles f z b =
+data-nibbles f b =
     (omega arith, (omega arith, (omega arith, (omega arith, (omega arith, (omega arith, (omega arith, (omega arith, (omega arith, (omega arith, (omega arith, (omega arith, (omega arith, (omega arith, tt))))))))))))))
 
-pub packet-nibbles : (f : Fields) (z : ℕ) → Bounds f → Nibbles (nibblesOf f z)
+pub packet-nibbles : (f : Fields) → Bounds f → Nibbles (nibblesOf f)
 unfolding nibblesOf sealedOf
-packet-nibbles f z b = joined (dataOf f z) (data-nibbles f z b)
+packet-nibbles f b = joined (dataOf f) (data-nibbles f b)
   where
-    joined : (d : List ℕ) → Nibbles d → Nibbles (d ++ ((crcOf (dataOf f z) / 16) ∷ (crcOf (dataOf f z) % 16) ∷ []))
-    joined [] all = let h = crc-lt (dataOf f z) in (omega arith, (omega arith, tt))
+    joined : (d : List ℕ) → Nibbles d → Nibbles (d ++ ((crcOf (dataOf f) / 16) ∷ (crcOf (dataOf f) % 16) ∷ []))
+    joined [] all = let h = crc-lt (dataOf f) in (omega arith, (omega arith, tt))
     joined (n ∷ d) all = (all .0, joined d (all .1))
 
 pub highs-back : (ns : List ℕ) → Nibbles ns → length ns ≡ 16 → highsOf (h4Of ns) ≡ ns

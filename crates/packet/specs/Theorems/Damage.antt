@@ -65,17 +65,17 @@ nibbles-damaged d ns hd hn low high = rw (ne-eqb (crcOf (take 14 ns)) (byteOf a 
         (let h = length-bits-of d in omega arith)
         (rw (packet-bits d, tail) at low) (rw (packet-bits d, tail) at high) (fitted a b (take 14 ns) same)
 
-sent : (f : Fields) (s : List ℕ) → writeAnswer f s ≡ Done → highsOf (writeBytes f s) ≡ sealedOf (dataOf f 0)
+sent : (f : Fields) (s : List ℕ) → writeAnswer f s ≡ Done → highsOf (writeBytes f s) ≡ sealedOf (dataOf f)
 unfolding nibblesOf
 sent f s e =
     let w = written-as f s e in
-    ap highsOf (w .bytes) ∙ highs-back (nibblesOf f 0) (packet-nibbles f 0 (bounds f (w .fits))) (length-nibbles f 0)
+    ap highsOf (w .bytes) ∙ highs-back (nibblesOf f) (packet-nibbles f (bounds f (w .fits))) (length-nibbles f)
 
 pub length-highs : (s : List ℕ) → length (highsOf s) ≡ 16
 unfolding highsOf
 length-highs s = refl
 
-pub length-data : (f : Fields) → length (dataOf f 0) ≡ 14
+pub length-data : (f : Fields) → length (dataOf f) ≡ 14
 unfolding dataOf
 length-data f = refl
 
@@ -84,4 +84,4 @@ pub damaged : (f : Fields) (s came : List ℕ) → writeAnswer f s ≡ Done → 
 unfolding readAnswer
 damaged f s came e h low high =
     rw (eq-eqb (length came) 16 h)
-    (nibbles-damaged (dataOf f 0) (highsOf came) (length-data f) (length-highs came) (rw (sent f s e) at low) (rw (sent f s e) at high))
+    (nibbles-damaged (dataOf f) (highsOf came) (length-data f) (length-highs came) (rw (sent f s e) at low) (rw (sent f s e) at high))

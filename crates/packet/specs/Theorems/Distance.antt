@@ -1,7 +1,7 @@
 -- 'Any two different packets by these rules differ in at least four of 64 bits' (01, 'CRC'), over all 56 data bits.
 use mathlib.Core.Path.{_≡_, refl, _∙_, sym, ap}
 use mathlib.Core.List.{List, [], _∷_, _++_, append-nil}
-use Prim.Native.Nat.{ℕ, _*_, _/_, _%_, _^_, _≤_, _<_}
+use Prim.Native.Nat.{ℕ, _*_, _/_, _%_, _≤_}
 use native.Mathlib.Omega.{arith}
 use lib.Dec.{lit<}
 use lib.ListN.{length}
@@ -13,8 +13,8 @@ use Rattle.packet.specs.Crc.{bitsOf, crcOf, divisor, nibbleBits}
 use Rattle.packet.specs.Laws.Bounds.{Bounds}
 use Rattle.packet.specs.Laws.Bytes.{bits-append, byte-back, byte-bits, crc-bits, crc-lt, length-bits-of}
 use Rattle.packet.specs.Laws.Nibbles.{Nibbles, bits-tell, data-nibbles}
-use Rattle.packet.specs.Layout.{dataOf, fieldsOf, nibblesOf, sealedOf, reservedOf}
-use Rattle.packet.specs.Theorems.ReadBack.{fields-back, reserved-back}
+use Rattle.packet.specs.Layout.{dataOf, fieldsOf, nibblesOf, sealedOf}
+use Rattle.packet.specs.Theorems.ReadBack.{fields-back}
 
 -- x^8+x^2+x+1 catches up to three changed bits of 64
 pub strong : Strong divisor 64
@@ -41,13 +41,9 @@ data-apart d e nd ne hd he differ =
     (let h = length-bits-of d in omega arith)
     (λ same. differ (bits-tell d e nd ne (hd ∙ sym he) same)))
 
--- two packets whose fields or whose reserved and zero bits differ
-pub packets-apart : (f g : Fields) (y z : ℕ) → Bounds f → Bounds g → y < 2 ^ 26 → z < 2 ^ 26 → ((f ≡ g) × (y ≡ z) → ⊥)
-    → 4 ≤ apart (bitsOf (nibblesOf f y)) (bitsOf (nibblesOf g z))
+-- two packets of which some field or some reserved or zero bit differs
+pub packets-apart : (f g : Fields) → Bounds f → Bounds g → (f ≡ g → ⊥) → 4 ≤ apart (bitsOf (nibblesOf f)) (bitsOf (nibblesOf g))
 unfolding nibblesOf dataOf
-packets-apart f g y z bf bg hy hz differ =
-    data-apart (dataOf f y) (dataOf g z) (data-nibbles f y bf) (data-nibbles g z bg) refl refl
-    (λ same. differ (
-      sym (fields-back f y bf) ∙ ap (λ d. fieldsOf (sealedOf d)) same ∙ fields-back g z bg,
-      sym (reserved-back f y bf hy) ∙ ap (λ d. reservedOf (sealedOf d)) same ∙ reserved-back g z bg hz,
-    ))
+packets-apart f g bf bg differ =
+    data-apart (dataOf f) (dataOf g) (data-nibbles f bf) (data-nibbles g bg) refl refl
+    (λ same. differ (sym (fields-back f bf) ∙ ap (λ d. fieldsOf (sealedOf d)) same ∙ fields-back g bg))

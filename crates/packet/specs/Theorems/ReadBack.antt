@@ -1,4 +1,4 @@
--- What is written reads back as given; and so do the reserved and zero bits, which no field has.
+-- What is written reads back as given, the reserved and zero bits among it.
 use mathlib.Core.Path.{_≡_, refl, sym}
 use mathlib.Core.Bool.{Bool, true, false}
 use mathlib.Core.List.{List}
@@ -18,27 +18,6 @@ use Rattle.packet.specs.Layout.{carriedIn, dataOf, fieldsOf, h4Of, nibbl
 use Rattle.packet.specs.Reading.{readAnswer, readNibbles}
 use Rattle.packet.specs.Writing.{fitting, writeAnswer, writeBytes}
 
-pub fields-back : (f : Fields) (z : ℕ) → Bounds f → fieldsOf (nibblesOf f z) ≡ f
-unfolding fieldsOf nibblesOf sealedOf dataOf
-fields-back f z b =
-    λ i. record {
-      epoch = byte-back (f .epoch) (b .epoch) i;
-      word = record { 0 = word i };
-      gid = gid i;
-      mst = byte-back (f .mst) (b .mst) i;
-      «rs_ack» = ack i;
-      sq = byte-back (f .sq) (b .sq) i;
-    }
-  where
-    word : f .word .0 % 16 ≡ f .word .0
-    word = omega arith
-
-    gid : (z / 2 ^ 8 % 8 * 2 + f .gid) % 2 ≡ f .gid
-    gid = omega arith
-
-    ack : (z / 2 ^ 23 % 8 * 2 + f .«rs_ack») % 2 ≡ f .«rs_ack»
-    ack = omega arith
-
 above-bit : (x a : ℕ) → x < 8 → a < 2 → (x * 2 + a) % 16 / 2 ≡ x
 above-bit x a h g = omega arith
 
@@ -52,29 +31,52 @@ digits z h =
         → x * 2 ^ 23 + w * 2 ^ 19 + v * 2 ^ 15 + u * 2 ^ 11 + t * 2 ^ 8 + s * 2 ^ 4 + r ≡ z
     sum a b c d e f r s t u v w x p q i j k l m = omega arith
 
-pub reserved-back : (f : Fields) (z : ℕ) → Bounds f → z < 2 ^ 26 → reservedOf (nibblesOf f z) ≡ z
-unfolding reservedOf nibblesOf sealedOf dataOf
-reserved-back f z b h =
-    rw (above-bit (z / 2 ^ 23 % 8) (f .«rs_ack») (omega arith) (b .ack), above-bit (z / 2 ^ 8 % 8) (f .gid) (omega arith) (b .gid)) (digits z h)
-
-pub carried-back : (f : Fields) (z : ℕ) → carriedIn (nibblesOf f z) ≡ crcOf (take 14 (nibblesOf f z))
-unfolding carriedIn nibblesOf sealedOf dataOf
-carried-back f z = byte-back (crcOf (dataOf f z)) (crc-lt (dataOf f z))
-
-pub nibbles-back : (f : Fields) (z : ℕ) → fitting f ≡ true → readNibbles (nibblesOf f z) ≡ Packet f
-unfolding readNibbles
-nibbles-back f z t =
-    let b = bounds f t in
-    rw (eq-eqb (crcOf (take 14 (nibblesOf f z))) (carriedIn (nibblesOf f z)) (sym (carried-back f z)), fields-back f z b, b .not-fixed, b .word) refl
-
-pub length-nibbles : (f : Fields) (z : ℕ) → length (nibblesOf f z) ≡ 16
+reserved-back : (f : Fields) → Bounds f → reservedOf (nibblesOf f) ≡ f .reserved
 unfolding nibblesOf sealedOf dataOf
-length-nibbles f z = refl
+reserved-back f b =
+    rw (above-bit (f .reserved / 2 ^ 23 % 8) (f .«rs_ack») (omega arith) (b .ack), above-bit (f .reserved / 2 ^ 8 % 8) (f .gid) (omega arith) (b .gid))
+    (digits (f .reserved) (b .reserved))
+
+pub fields-back : (f : Fields) → Bounds f → fieldsOf (nibblesOf f) ≡ f
+unfolding fieldsOf nibblesOf sealedOf dataOf
+fields-back f b =
+    λ i. record {
+      epoch = byte-back (f .epoch) (b .epoch) i;
+      word = record { 0 = word i };
+      gid = gid i;
+      mst = byte-back (f .mst) (b .mst) i;
+      «rs_ack» = ack i;
+      sq = byte-back (f .sq) (b .sq) i;
+      reserved = reserved-back f b i;
+    }
+  where
+    word : f .word .0 % 16 ≡ f .word .0
+    word = omega arith
+
+    gid : (f .reserved / 2 ^ 8 % 8 * 2 + f .gid) % 2 ≡ f .gid
+    gid = omega arith
+
+    ack : (f .reserved / 2 ^ 23 % 8 * 2 + f .«rs_ack») % 2 ≡ f .«rs_ack»
+    ack = omega arith
+
+pub carried-back : (f : Fields) → carriedIn (nibblesOf f) ≡ crcOf (take 14 (nibblesOf f))
+unfolding carriedIn nibblesOf sealedOf dataOf
+carried-back f = byte-back (crcOf (dataOf f)) (crc-lt (dataOf f))
+
+pub nibbles-back : (f : Fields) → fitting f ≡ true → readNibbles (nibblesOf f) ≡ Packet f
+unfolding readNibbles
+nibbles-back f t =
+    let b = bounds f t in
+    rw (eq-eqb (crcOf (take 14 (nibblesOf f))) (carriedIn (nibblesOf f)) (sym (carried-back f)), fields-back f b, b .not-fixed, b .word) refl
+
+pub length-nibbles : (f : Fields) → length (nibblesOf f) ≡ 16
+unfolding nibblesOf sealedOf dataOf
+length-nibbles f = refl
 
 -- where a packet is written, the lent bytes are sixteen and its fields fit
 pub record WrittenAs (f : Fields) (s : List ℕ) : Type 0 where
   pub fits : fitting f ≡ true
-  pub bytes : writeBytes f s ≡ h4Of (nibblesOf f 0)
+  pub bytes : writeBytes f s ≡ h4Of (nibblesOf f)
 
 pub written-as : (f : Fields) (s : List ℕ) → writeAnswer f s ≡ Done → WrittenAs f s
 unfolding writeAnswer writeBytes
@@ -91,4 +93,4 @@ unfolding readAnswer h4Of
 written-back f s e =
     let w = written-as f s e in
     let b = bounds f (w .fits) in
-    rw (w .bytes, highs-back (nibblesOf f 0) (packet-nibbles f 0 b) (length-nibbles f 0)) (nibbles-back f 0 (w .fits))
+    rw (w .bytes, highs-back (nibblesOf f) (packet-nibbles f b) (length-nibbles f)) (nibbles-back f (w .fits))

@@ -12,7 +12,7 @@ use Rattle.packet.specs.Words.{IDLE, assigned}
 use Rattle.packet.specs.Writing.{fitting, writeAnswer, writeBytes}
 
 some-packet : Fields
-some-packet = record { epoch = 0; word = record { 0 = IDLE }; gid = 0; mst = 255; «rs_ack» = 0; sq = 255 }
+some-packet = record { epoch = 0; word = record { 0 = IDLE }; gid = 0; mst = 255; «rs_ack» = 0; sq = 255; reserved = 0 }
 
 is-written : writeAnswer some-packet (replicate 16 0) ≡ Done
 unfolding some-packet writeAnswer fitting assigned

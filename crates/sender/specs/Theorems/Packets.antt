@@ -1,4 +1,4 @@
--- The packet of a slot is never refused for its fields: after any calls from a start, each given bytes, it is written once an epoch has started and the lent bytes are as many as a packet has.
+-- The packet of a slot is never refused for its fields: after any calls from a start, each given bytes, it is written once an epoch has started and the lent bytes are as many as a packet has. Its reserved bits are 0.
 use mathlib.Core.Path.{_≡_, refl, _∙_, ap}
 use mathlib.Core.Bool.{Bool, true, false, cond, not, _&&_}
 use mathlib.Core.List.{List, [], _∷_}
@@ -10,6 +10,9 @@ use borrow.Author.Tests.{eq-eqb, lt-ltb, ltb-true}
 use Rattle.ground.specs.Truth.{and-left, and-right}
 use Rattle.counting.specs.Laws.Numbers.{count-le}
 use Rattle.packet.specs.Kinds.{epochAfter, frames}
+use Rattle.packet.specs.declared.writer.Writing.{Writing}
+use Rattle.packet.specs.declared.writer.Writing.the-variants as W
+use Rattle.packet.specs.Theorems.Reserved.{NoneReserved, none-reserved}
 use Rattle.packet.specs.Theorems.Tags.{epoch-fits, idle-fits}
 use Rattle.packet.specs.Words.{FIXED, assigned}
 use Rattle.packet.specs.Writing.{fitting, writeAnswer}
@@ -21,14 +24,15 @@ use Rattle.sender.specs.declared.table.State.{State}
 use Rattle.sender.specs.declared.table.State.the-variants.{Idle, Add, Active, Dnu}
 use Rattle.sender.specs.declared.table.Table.{Table}
 use Rattle.sender.specs.Board.{boardOf, highest, rowOf, wordOf}
-use Rattle.sender.specs.Epochs.{SenderCall, beginOf, freshSender, packetAnswer, packetFields, senderRun, senderStepOf, startEpochOf, startedEpoch, startedSender}
+use Rattle.sender.specs.Epochs.{SenderCall, beginOf, freshSender, packetAnswer, packetBytes, packetFields, senderRun, senderStepOf, startEpochOf, startedEpoch, startedSender}
 use Rattle.sender.specs.Epochs.SenderCall.{OnTable, StartEpoch}
 use Rattle.sender.specs.Laws.Carrying.{board-row, row-number}
 use Rattle.sender.specs.Laws.Kept.{Sound}
 use Rattle.sender.specs.Laws.Sizes.{size-le}
 use Rattle.sender.specs.Numbering.{numberIn, slotsIn, stateIn}
+use Rattle.sender.specs.Outcomes.{written}
 use Rattle.sender.specs.Ranks.{rowAt}
-use Rattle.sender.specs.Table.{isMember, sizeOf}
+use Rattle.sender.specs.Table.{answerNumber, isMember, sizeOf}
 use Rattle.sender.specs.Theorems.Epochs.{SoundSender, sender-sound, senderAfter}
 
 -- a call that is given bytes
@@ -137,3 +141,20 @@ pub packet-done : (kind count e : ℕ) (cs : List SenderCall) → e < 256 → Al
 packet-done kind count e cs h g b i l h4 k =
     let s = senderAfter kind count e cs in
     all-right s i h4 l k b (fields-fit s (fit-run (beginOf kind count e .sender) cs g (fit-fresh kind count e h)) (sender-sound kind count e cs) i l)
+
+pub written-done : (w : Writing) → written w ≡ Done → w ≡ W.Done
+written-done W.Done e = refl
+written-done W.Length e = absurd (let n = ap answerNumber e in omega arith)
+written-done W.Field e = absurd (let n = ap answerNumber e in omega arith)
+
+module _ (s : Sender) (i : ℕ) (h4 : List ℕ) (below : i < slotsIn (s .table)) (room : length h4 ≡ 16) (begun : s .begun ≡ true) where
+  zeros-in : packetAnswer s i h4 ≡ Done → NoneReserved (packetBytes s i h4)
+  unfolding packetAnswer packetBytes frames packetFields
+  zeros-in e =
+      rw (lt-ltb i (sizeOf (s .table .count)) below, eq-eqb (length h4) 16 room, begun)
+      (none-reserved (packetFields s i) h4 (written-done (writeAnswer (packetFields s i) h4) (rw (lt-ltb i (sizeOf (s .table .count)) below, eq-eqb (length h4) 16 room, begun) at e)) refl)
+
+-- 'Our sender still writes zeros' (request 2026-08): after any calls from a start, in the H4 bytes of every slot's packet
+pub packet-zeros : (kind count e : ℕ) (cs : List SenderCall) → e < 256 → AllGiven cs → senderAfter kind count e cs .begun ≡ true
+    → (i : ℕ) → i < slotsIn (senderAfter kind count e cs .table) → (h4 : List ℕ) → length h4 ≡ 16 → NoneReserved (packetBytes (senderAfter kind count e cs) i h4)
+packet-zeros kind count e cs h g b i l h4 k = zeros-in (senderAfter kind count e cs) i h4 l k b (packet-done kind count e cs h g b i l h4 k)

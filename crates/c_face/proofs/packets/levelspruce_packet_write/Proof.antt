@@ -14,20 +14,17 @@ write-refusal-requires : tie.Need-write-refusal-requires
 write-refusal-requires c κs = search needs
 
 returns : tie.Need-returns
-returns c = write-unfit _ _ _ _ _ _ _ _ (sym (c .before .before .are-bytes .ensures) ∙ not-true _ (c .before .if1 .taken)) (c .write-refusal .ensures)
+returns c = write-unfit _ _ _ _ _ _ _ _ _ (sym (c .before .before .are-bytes .ensures) ∙ not-true _ (c .before .if1 .taken)) (c .write-refusal .ensures)
 
 fit : (c : tie.Else1)
     → Bytes (c .before .before .before .args .epoch) (c .before .before .before .args .word) (c .before .before .before .args .gid) (c .before .before .before .args .mst) (c .before .before .before .args .rs-ack) (c .before .before .before .args .sq)
 fit c = bytes-said _ _ _ _ _ _ (sym (c .before .are-bytes .ensures) ∙ not-false _ (c .if1 .left))
 
-cast-t13 : tie.Need-cast-t13
-cast-t13 c = let b = fit c in omega arith
-
 cast-t14 : tie.Need-cast-t14
 cast-t14 c = let b = fit c in omega arith
 
-cast-t16 : tie.Need-cast-t16
-cast-t16 c = let b = fit c in omega arith
+cast-t15 : tie.Need-cast-t15
+cast-t15 c = let b = fit c in omega arith
 
 cast-t17 : tie.Need-cast-t17
 cast-t17 c = let b = fit c in omega arith
@@ -37,6 +34,9 @@ cast-t18 c = let b = fit c in omega arith
 
 cast-t19 : tie.Need-cast-t19
 cast-t19 c = let b = fit c in omega arith
+
+cast-t20 : tie.Need-cast-t20
+cast-t20 c = let b = fit c in omega arith
 
 write-requires : tie.Need-write-requires
 write-requires c κs = search needs
@@ -57,12 +57,12 @@ levelspruce-packet-write-spec =
     are-bytes-requires
     write-refusal-requires
     returns
-    cast-t13
     cast-t14
-    cast-t16
+    cast-t15
     cast-t17
     cast-t18
     cast-t19
+    cast-t20
     write-requires
     number-requires
     same-length

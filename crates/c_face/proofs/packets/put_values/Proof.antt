@@ -4,6 +4,18 @@ use Rattle.c_face.proofs.packets.put_values.Statement.{statement}
 use denote.Ref.{now}
 use Rattle.c_face.proofs.packets.put_values.Tie as tie
 
+cast-t7 : tie.Need-cast-t7
+cast-t7 c = search needs
+
+cast-t10 : tie.Need-cast-t10
+cast-t10 c = search needs
+
+cast-t13 : tie.Need-cast-t13
+cast-t13 c = search needs
+
+cast-t15 : tie.Need-cast-t15
+cast-t15 c = search needs
+
 slice-aggregate-copy : tie.Need-slice-aggregate-copy
 slice-aggregate-copy c = search needs
 
@@ -17,4 +29,6 @@ returns : tie.Need-returns
 returns c = put (c .before .before .before .before .before .before .before .args .values) (now (c .before .before .before .before .before .before .before .args .fields)) _ (c .before .before .before .before .before .before .before .pre) (c .before .before .copy .ensures .1)
 
 pub put-values-spec : {M : Type 1} → statement M
-put-values-spec = tie.close (tie.spec slice-aggregate-copy copy-requires same-length returns)
+put-values-spec =
+    tie.close
+    (tie.spec cast-t7 cast-t10 cast-t13 cast-t15 slice-aggregate-copy copy-requires same-length returns)

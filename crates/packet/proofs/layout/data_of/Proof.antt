@@ -1,11 +1,59 @@
-use native.Mathlib.Nat.{zero-add}
+use mathlib.Core.Path.{refl}
+use borrow.Author.Needs.{needs}
 use Rattle.packet.specs.Layout.{dataOf}
 use Rattle.packet.proofs.layout.data_of.Statement.{statement}
 use Rattle.packet.proofs.layout.data_of.Tie as tie
 
+cast-t7 : tie.Need-cast-t7
+cast-t7 c = search needs
+
+mul-t8 : tie.Need-mul-t8
+mul-t8 c = search needs
+
+add-t9 : tie.Need-add-t9
+add-t9 c = search needs
+
+cast-t12 : tie.Need-cast-t12
+cast-t12 c = search needs
+
+cast-t15 : tie.Need-cast-t15
+cast-t15 c = search needs
+
+cast-t18 : tie.Need-cast-t18
+cast-t18 c = search needs
+
+cast-t25 : tie.Need-cast-t25
+cast-t25 c = search needs
+
+mul-t26 : tie.Need-mul-t26
+mul-t26 c = search needs
+
+add-t27 : tie.Need-add-t27
+add-t27 c = search needs
+
+cast-t30 : tie.Need-cast-t30
+cast-t30 c = search needs
+
+cast-t32 : tie.Need-cast-t32
+cast-t32 c = search needs
+
 returns : tie.Need-returns
 unfolding dataOf
-returns c = simp zero-add
+returns c = refl
 
 pub data-of-spec : {M : Type 1} → statement M
-data-of-spec = tie.close (tie.spec returns)
+data-of-spec =
+    tie.close
+    (tie.spec
+    cast-t7
+    mul-t8
+    add-t9
+    cast-t12
+    cast-t15
+    cast-t18
+    cast-t25
+    mul-t26
+    add-t27
+    cast-t30
+    cast-t32
+    returns)

@@ -44,16 +44,20 @@ array-read-byte-of-6 c = search needs
 byte-of-requires-3 : tie.Need-byte-of-requires-3
 byte-of-requires-3 c κs = search needs
 
+reserved-of-requires : tie.Need-reserved-of-requires
+reserved-of-requires c κs = search needs
+
 returns : tie.Need-returns
 unfolding fieldsOf
 returns c =
     λ i. record {
-      epoch = c .before .before .before .byte-of .ensures i;
-      word = c .before .before .from-nibble .ensures i;
-      gid = getD (c .before .before .before .before .args .t1) 11 0 % 2;
-      mst = c .before .byte-of2 .ensures i;
-      «rs_ack» = getD (c .before .before .before .before .args .t1) 2 0 % 2;
-      sq = c .byte-of3 .ensures i;
+      epoch = c .before .before .before .before .byte-of .ensures i;
+      word = c .before .before .before .from-nibble .ensures i;
+      gid = getD (c .before .before .before .before .before .args .t1) 11 0 % 2;
+      mst = c .before .before .byte-of2 .ensures i;
+      «rs_ack» = getD (c .before .before .before .before .before .args .t1) 2 0 % 2;
+      sq = c .before .byte-of3 .ensures i;
+      reserved = c .reserved-of .ensures i;
     }
 
 pub fields-of-spec : {M : Type 1} → statement M
@@ -73,4 +77,5 @@ fields-of-spec =
     array-read-byte-of-5
     array-read-byte-of-6
     byte-of-requires-3
+    reserved-of-requires
     returns)

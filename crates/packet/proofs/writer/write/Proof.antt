@@ -1,6 +1,7 @@
 use mathlib.Core.Path.{_∙_, sym}
 use borrow.Author.Needs.{needs}
 use borrow.Author.Tests.{not-true, not-false}
+use Rattle.packet.specs.Laws.Bounds.{bounds}
 use Rattle.packet.proofs.Answers.{write-length, write-field, write-done}
 use Rattle.packet.proofs.writer.write.Statement.{statement}
 use Rattle.packet.proofs.writer.write.Tie as tie
@@ -15,7 +16,8 @@ returns-2 : tie.Need-returns-2
 returns-2 c = write-field _ _ (c .before .before .if1 .left) (sym (c .before .fits2 .ensures) ∙ not-true _ (c .if2 .taken))
 
 nibbles-of-requires : tie.Need-nibbles-of-requires
-nibbles-of-requires c κs = search needs
+nibbles-of-requires c κs =
+    bounds _ (sym (c .before .fits2 .ensures) ∙ not-false _ (c .if2 .left))
 
 h4-of-requires : tie.Need-h4-of-requires
 h4-of-requires c κs = search needs

@@ -1,0 +1,91 @@
+-- Two links that are alike but for the client's bytes of one epoch: the last sentence of demand 3, computed. It is that epoch's report in which the two runs differ, the second one of six.
+use mathlib.Core.Path.{_≡_, refl, sym, ap, subst, _∙_}
+use mathlib.Core.Logic.{inl}
+use mathlib.Core.Bool.{cond}
+use mathlib.Core.List.{List, [], _∷_}
+use Prim.Native.Nat.{ℕ, suc, _+_, _*_, _/_, _%_, _<_}
+use native.Mathlib.Omega.{arith}
+use lib.Dec.{eqb}
+use lib.ListN.{getD, length, replicate}
+use Rattle.ground.specs.Table.{length-tabulate, tabulate}
+use Rattle.judge.specs.Verdict.{SURE}
+use Rattle.packet.specs.Kinds.{frames}
+use Rattle.link.specs.Assumed.{Assumed}
+use Rattle.link.specs.Demand3.{Reported, Stands, Started, Time, ToldApart, noReport, ownRun, reportAt, standing}
+use Rattle.link.specs.Demand3.Stands.{none-yet, reporting}
+use Rattle.link.specs.History.{xAt}
+use Rattle.link.specs.Link.{Alike, Link, SameIn, epochFrames, expected}
+use Rattle.link.specs.Sending.{Client, epochAt}
+use Rattle.link.specs.Sending.Ours.{ours}
+use Rattle.link.specs.Theorems.{demand3}
+use Rattle.link.specs.Told.{Told}
+use Rattle.link.specs.Samples.Computing.{outcome, started}
+use Rattle.link.specs.Samples.Members.{history, link, linkBy}
+use Rattle.link.specs.Samples.Met.{met, met-by, spread-4}
+use Rattle.link.specs.Samples.Reports.{reports, reportsWith, sure}
+use Rattle.link.specs.Samples.ShutOut.{began, by-theorem, has-begun, itself, then}
+
+-- in the epoch at index 6, numbered 255, each byte is one more
+abbrev otherBytes : ℕ → ℕ → ℕ
+otherBytes x j = (x * 2 + j + cond (eqb (epochAt 0 x) 6) 1 0) % 256
+
+abbrev otherClient : Client
+otherClient x = tabulate (xAt history (epochAt 0 x) * 1) (otherBytes x)
+
+abbrev other : Link
+other = linkBy otherClient 4 (λ t. eqb (t % 2) 0)
+
+alike : Alike link other
+alike = record { kind = refl; epoch = refl; payload = refl; window = refl; delay = λ p b. refl; first = λ p b. refl; order = λ t. refl }
+
+other-met : Assumed other
+other-met = met-by otherClient (λ x. length-tabulate (xAt history (epochAt 0 x) * 1) (otherBytes x)) 4 (λ t. eqb (t % 2) 0) spread-4
+
+-- The runs: that of the first is `run` of Reports.
+other-run
+    : outcome other 180
+    ≡ record {
+      begun = 1;
+      told = reportsWith (sure 255 (193 ∷ 194 ∷ 195 ∷ 196 ∷ 197 ∷ 198 ∷ 199 ∷ 200 ∷ 201 ∷ 202 ∷ 203 ∷ 204 ∷ 205 ∷ 206 ∷ 207 ∷ 208 ∷ 209 ∷ 210 ∷ 211 ∷ 212 ∷ 213 ∷ 214 ∷ 215 ∷ 216 ∷ 217 ∷ 218 ∷ 219 ∷ 220 ∷ 221 ∷ 222 ∷ 223 ∷ 224 ∷ []));
+      strange = [];
+    }
+unfolding outcome
+other-run = refl
+
+-- By the theorem it is that report too.
+
+now : Reported link (ownRun link (started link)) then
+now = go (itself .always then)
+  where
+    go : Stands link (ownRun link (started link)) then → Reported link (ownRun link (started link)) then
+    go (none-yet e un t) = absurd (let b = has-begun (ownRun link (started link)) itself in omega arith)
+    go (reporting e r) = r
+
+six : now .many ≡ 6
+unfolding reports
+six =
+    sym (length-tabulate (now .many) (λ j. expected link (suc (now .F / epochFrames link) + j) (link .output j)))
+    ∙ ap length (sym (now .are) ∙ by-theorem)
+
+sure-there : reportAt (standing link (ownRun link (started link)) then) 1 .mark ≡ SURE
+unfolding reports
+sure-there = ap (λ (l : List Told). getD l 1 noReport .mark) by-theorem
+
+streams-differ : SameIn 6 link other → ⊥
+unfolding outcome
+streams-differ h = let e : _≡_ {A = ℕ} 192 193 = ap (λ (l : List ℕ). getD l 0 0) (h 0 (omega arith)) in absurd (omega arith)
+
+abbrev other-then : Time other
+other-then = record { t = 180; done = []; rest = other .order 180; is-order = refl }
+
+starts : Started link (started link)
+starts = record { rows = replicate 11 (replicate 16 0xFF); store = replicate 80 0xFF; rows-long = refl; store-long = refl; is = refl }
+
+other-starts : Started other (started other)
+other-starts = record { rows = replicate 11 (replicate 16 0xFF); store = replicate 80 0xFF; rows-long = refl; store-long = refl; is = refl }
+
+named : ToldApart (standing link (ownRun link (started link)) then) (standing other (ownRun other (started other)) other-then) 1
+unfolding frames
+named =
+    demand3 link met .never-alike other (ours other other-met) alike .never (started link) (started other) starts other-starts then other-then refl refl now 1 (omega (arith, six)) (inl sure-there)
+    (λ h. streams-differ (subst (λ (F : ℕ). SameIn (suc (suc (F / 16) + 1)) link other) (began (ownRun link (started link)) itself (now .F) (now .beginning)) h))
