@@ -17,8 +17,9 @@
  *   levelspruce_sender_report the lowest bit counts). Bytes pass as uint8_t:
  *   h4 of levelspruce_receiver_frame and epoch of levelspruce_receiver_reply.
  * - A buffer is a pointer and its length in bytes; where the pointer is to rows
- *   (a receiver's state, its ports), the length counts rows. The whole length
- *   must be the caller's to use. NULL with length 0 is an empty buffer.
+ *   (a receiver's state, its ports), the length counts rows, and where it is to
+ *   delays, delays. The whole length must be the caller's to use. NULL with
+ *   length 0 is an empty buffer.
  * - A buffer is lent for the time of the call.
  * - The buffers of one call must not overlap.
  * - Nothing is kept between calls, so different threads may call at once with
@@ -63,7 +64,7 @@ extern "C" {
 #define LEVELSPRUCE_ANSWER_SLOT 1       /* the slot or port is not below the group's count */
 #define LEVELSPRUCE_ANSWER_STATE 2      /* not allowed now: by the slot's state, no wait open, or no epoch started */
 #define LEVELSPRUCE_ANSWER_WAIT 3       /* add or remove while a wait is open */
-#define LEVELSPRUCE_ANSWER_RANGE 4      /* a count, P, W or X is out of range */
+#define LEVELSPRUCE_ANSWER_RANGE 4      /* a count, P, W, X or delay is out of range */
 #define LEVELSPRUCE_ANSWER_CRC 5        /* the packet's CRC differs */
 #define LEVELSPRUCE_ANSWER_UNASSIGNED 6 /* CRC right, control word unassigned */
 #define LEVELSPRUCE_ANSWER_FIXED 7      /* CRC right, control word FIXED */
@@ -94,6 +95,7 @@ extern "C" {
 #define LEVELSPRUCE_REPORT_BYTES 8  /* the record of a report */
 #define LEVELSPRUCE_PORT_BYTES 8    /* what is shown of a port */
 #define LEVELSPRUCE_REPLY_BYTES 2   /* a reply */
+#define LEVELSPRUCE_PLAN_BYTES 65   /* a plan of which paths to join */
 
 /* Of a receiver: the rows of its state, and the bytes of its store and of the
  * least output. */
@@ -626,6 +628,65 @@ LEVELSPRUCE_MUST_USE
 uint8_t levelspruce_receiver_reply(const uint8_t (*state)[LEVELSPRUCE_ROW_BYTES],
                                    size_t state_length, uint8_t epoch,
                                    uint8_t *reply, size_t reply_length);
+
+/*
+ * Which paths to join. Candidates are numbered as they are handed over, from 0,
+ * each with its measured delay in frames. Delays count plainly, never round
+ * 4096. A group whose delays lie at most window - 16 apart is joined by a
+ * receiver with that window.
+ */
+
+/* Candidates, and the greatest delay. */
+#define LEVELSPRUCE_PATHS_MOST 64
+#define LEVELSPRUCE_DELAY_MOST 4095
+
+/* The bytes of a plan: k, or 0 where there is no such set; then the chosen
+ * candidates' numbers, rising, and LEVELSPRUCE_PATH_NONE for the rest. */
+#define LEVELSPRUCE_PLAN_COUNT 0
+#define LEVELSPRUCE_PLAN_EACH 1
+#define LEVELSPRUCE_PATH_NONE 255
+
+/*
+ * Proposes k candidates no two of which differ in delay by more than
+ * window - 16. Of several such sets it is the tightest, of several tightest the
+ * one with the least delays, and of equal delays the lower numbers. It says
+ * none exactly if there is no such set.
+ *
+ *   delays   a delay for each candidate, 0 to 4095; 1 to 64 candidates
+ *   k        how many to join, 1 to the number of candidates
+ *   window   the receiver's window in frames, 16 to 2048
+ *   plan     LEVELSPRUCE_PLAN_BYTES bytes, by the LEVELSPRUCE_PLAN_ places
+ *
+ * Answers, the first that fits:
+ *   4  delays_length, k, window or a delay is out of range
+ *   9  plan_length is not 65
+ *   0  all of plan is written
+ */
+LEVELSPRUCE_MUST_USE
+uint8_t levelspruce_paths_plan(const uint32_t *delays, size_t delays_length,
+                               uint32_t k, uint32_t window,
+                               uint8_t *plan, size_t plan_length);
+
+/*
+ * Checks a set of candidates, whoever proposed it: it is accepted exactly if
+ * it names k different candidates no two of which differ in delay by more than
+ * window - 16.
+ *
+ *   delays, k, window   as for levelspruce_paths_plan
+ *   set                 a candidate's number in each byte, in any order; any
+ *                       length and any bytes
+ *   accepted            one byte: 1 where the set is accepted, or 0
+ *
+ * Answers, the first that fits:
+ *   4  delays_length, k, window or a delay is out of range
+ *   9  accepted_length is not 1
+ *   0  accepted is written
+ */
+LEVELSPRUCE_MUST_USE
+uint8_t levelspruce_paths_check(const uint32_t *delays, size_t delays_length,
+                                uint32_t k, uint32_t window,
+                                const uint8_t *set, size_t set_length,
+                                uint8_t *accepted, size_t accepted_length);
 
 #ifdef __cplusplus
 }

@@ -14,6 +14,13 @@ extern "C" {
     fn levelspruce_join(
         x: u32, p: u32, members: *const u8, members_length: usize, frame: *mut u8, frame_length: usize,
     ) -> u8;
+    fn levelspruce_paths_plan(
+        delays: *const u32, delays_length: usize, k: u32, window: u32, plan: *mut u8, plan_length: usize,
+    ) -> u8;
+    fn levelspruce_paths_check(
+        delays: *const u32, delays_length: usize, k: u32, window: u32, set: *const u8, set_length: usize, accepted: *mut u8,
+        accepted_length: usize,
+    ) -> u8;
     fn levelspruce_sender_start(count: u32, first_epoch: u32, state: *mut u8, state_length: usize) -> u8;
     fn levelspruce_sender_add(state: *mut u8, state_length: usize, slot: u32) -> u8;
     fn levelspruce_sender_remove(state: *mut u8, state_length: usize, slot: u32) -> u8;
@@ -57,6 +64,18 @@ pub fn spread(x: u32, p: u32, frame: &[u8], members: &mut [u8]) -> u8 {
 
 pub fn join(x: u32, p: u32, members: &[u8], frame: &mut [u8]) -> u8 {
     unsafe { levelspruce_join(x, p, members.as_ptr(), members.len(), frame.as_mut_ptr(), frame.len()) }
+}
+
+pub fn paths_plan(delays: &[u32], k: u32, window: u32, plan: &mut [u8]) -> u8 {
+    unsafe { levelspruce_paths_plan(delays.as_ptr(), delays.len(), k, window, plan.as_mut_ptr(), plan.len()) }
+}
+
+pub fn paths_check(delays: &[u32], k: u32, window: u32, set: &[u8], accepted: &mut [u8]) -> u8 {
+    unsafe {
+        levelspruce_paths_check(
+            delays.as_ptr(), delays.len(), k, window, set.as_ptr(), set.len(), accepted.as_mut_ptr(), accepted.len(),
+        )
+    }
 }
 
 pub fn sender_start(count: u32, first_epoch: u32, state: &mut [u8]) -> u8 {

@@ -5,6 +5,7 @@ mod count;
 mod packets;
 mod path;
 mod payloads;
+mod plans;
 mod random;
 mod receivers;
 mod senders;
@@ -13,6 +14,7 @@ fn main() {
     let mut count = count::Count::default();
     packets::compare(&mut count);
     payloads::compare(&mut count);
+    plans::compare(&mut count);
     senders::compare(&mut count);
     receivers::compare(&mut count);
     std::process::exit(count.tally());

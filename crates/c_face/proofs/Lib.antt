@@ -1,5 +1,6 @@
 pub mod Answers
 pub mod Pieces
+pub mod Planning
 pub mod Showing
 pub mod Stepping
 pub mod Wholes

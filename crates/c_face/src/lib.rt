@@ -3,5 +3,6 @@ mod boards;
 mod keeping;
 mod packets;
 mod payloads;
+mod plans;
 mod receivers;
 mod senders;

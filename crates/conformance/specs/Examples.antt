@@ -1,8 +1,9 @@
--- 01's examples, marked P1 to P11, its limits, and examples worked out apart for what those leave open, in one table under one statement. Bytes stand in hexadecimal, as 01 has them.
+-- 01's examples, marked P1 to P11, its limits, examples worked out apart for what those leave open, and those of requests that have landed, in one table under one statement. Bytes stand in hexadecimal, as 01 has them.
 use mathlib.Core.Path.{refl}
+use mathlib.Core.Bool.{cond}
 use mathlib.Core.List.{List, [], _∷_, _++_}
 use Prim.Native.Nat.{ℕ, _+_}
-use lib.ListN.{replicate}
+use lib.ListN.{length, replicate}
 use Rattle.packet.specs.declared.layout.Fields.{Fields}
 use Rattle.packet.specs.Crc.{byteBits, crcOf, divisor, nibbleBits}
 use Rattle.packet.specs.Layout.{byteOf, carriedIn, dataOf, fieldsOf, h4Of, highsOf, nibblesOf, sealedOf}
@@ -21,6 +22,11 @@ use Rattle.console.specs.Output.{answerText, boardText, slotText, waitText}
 use Rattle.console.specs.Replies.{outputOf, replyOf, sizeReply}
 use Rattle.console.specs.Runs.{wholeOutput}
 use Rattle.console.specs.Session.{beginning}
+use Rattle.paths.specs.Answers.{answerOf, areShort}
+use Rattle.paths.specs.Answers.{numberOf as planNumber}
+use Rattle.paths.specs.Checking.{accepts, agree, agreesWith, checkedOf}
+use Rattle.paths.specs.Order.{candidateAt, rankOf, ranksOf, sortedBy}
+use Rattle.paths.specs.Planning.{proposed, setOf, tightestOf}
 use Rattle.payload.specs.Answers.{numberOf}
 use Rattle.payload.specs.Joining.{joined, wholeAnswer}
 use Rattle.payload.specs.Spreading.{spreadAll}
@@ -131,6 +137,18 @@ apart frames = fed 0 32 0 (fed 1 (frames + 16) 16 (opened 2 32))
 abbrev joined56 : ℕ → Host
 joined56 frames = fed 0 (56 + frames) 0 (opened 1 16)
 
+-- four candidate paths
+abbrev four : List ℕ
+four = 0 ∷ 100 ∷ 16 ∷ 20 ∷ []
+
+-- how many paths are proposed, and which
+abbrev plan : List ℕ → ℕ → ℕ → List ℕ
+plan delays k W = let set = setOf delays k W in length set ∷ set
+
+-- 1 where the check accepts two of the four with W 20
+abbrev accepted : List ℕ → ℕ
+accepted set = cond (checkedOf four 2 20 set .accepted) 1 0
+
 pub table : List Row
 table =
     record {
@@ -237,8 +255,34 @@ table =
     ∷ record { name = "and begin with the frame that brings them W-16 apart"; given = begun (handed 0 32 (apart 17)); said = 0 ∷ 1 ∷ [] }
     ∷ record { name = "a joined port's tag W-1 after the window's first is stored"; given = stored 15 (joined56 16); said = 0 ∷ 71 ∷ 0x07 ∷ [] }
     ∷ record { name = "W gives 11"; given = stored 0 (joined56 17); said = 11 ∷ 56 ∷ 0x08 ∷ [] }
+    ∷ record {
+      name = "two of 0 100 16 20 with W 16, 20 and 32";
+      given = plan four 2 16 ++ plan four 2 20 ++ plan four 2 32;
+      said = 0 ∷ 2 ∷ 2 ∷ 3 ∷ 2 ∷ 2 ∷ 3 ∷ [];
+    }
+    ∷ record { name = "three of them with W 36 and 35"; given = plan four 3 36 ++ plan four 3 35; said = 3 ∷ 0 ∷ 2 ∷ 3 ∷ 0 ∷ [] }
+    ∷ record { name = "4,095 and 0 are not 1 apart"; given = plan (4095 ∷ 0 ∷ []) 2 2048; said = 0 ∷ [] }
+    ∷ record { name = "one path with W 16"; given = plan four 1 16; said = 1 ∷ 0 ∷ [] }
+    ∷ record { name = "two of three equal delays"; given = plan (7 ∷ 7 ∷ 7 ∷ []) 2 16; said = 2 ∷ 0 ∷ 1 ∷ [] }
+    ∷ record {
+      name = "k of 0 and of 5 of 4, 65 candidates, a delay of 4,096, W of 15 and 2,049";
+      given =
+          planNumber (answerOf four 0 16)
+          ∷ planNumber (answerOf four 5 16)
+          ∷ planNumber (answerOf (replicate 65 0) 2 16)
+          ∷ planNumber (answerOf (0 ∷ 4096 ∷ []) 1 16)
+          ∷ planNumber (answerOf four 2 15)
+          ∷ planNumber (answerOf four 2 2049)
+          ∷ [];
+      said = 4 ∷ 4 ∷ 4 ∷ 4 ∷ 4 ∷ 4 ∷ [];
+    }
+    ∷ record {
+      name = "the check of 3 2, of 2 2, of 2 alone and of 2 64";
+      given = accepted (3 ∷ 2 ∷ []) ∷ accepted (2 ∷ 2 ∷ []) ∷ accepted (2 ∷ []) ∷ accepted (2 ∷ 64 ∷ []) ∷ [];
+      said = 1 ∷ 0 ∷ 0 ∷ 0 ∷ [];
+    }
     ∷ []
 
 pub examples : Equal table
-unfolding table nibblesOf sealedOf dataOf crcOf divisor byteBits nibbleBits writeAnswer writeBytes fitting assigned h4Of readAnswer readNibbles fieldsOf carriedIn highsOf boardOf rowsOf rowOf noRow highest startOf freshOf idleSlot idleNumber addOf addedTo removeOf removedFrom fallen fallenIn lapseOf reportOf waited actedOn mstApplied numberApplied holderOf renumbered slotAfter numberAfter comesBefore turnOf opensWait sizeOf membersOf mstFails mstFirst mstNumbers wholeOutput beginning linesOf fieldsIn lineOf wordLine numberLine reportLine reportIn numberIn digitOf hexOf replyOf sizeReply outputOf answerText boardText slotText waitText wordText decimalText afterOn nibbleIn nibblePlace startsCount tagByHigh carriesLow tagByLow counts endsEpoch epochsIn frames tagAfter tagBefore tags lead epochs epochAfter epochOf distanceOf placeOf startsEpoch firstTag settledOf clearedStep clearedPort clearedPorts stoppedOf stopBy begunOf beginBy gatherBy portsIn sizedGroup storeFor ready latest noTag further foremost within begins owesNothing brought silent ruledBy passedStep notedBy passedPort passedPorts passedGroup passedOf frameFits rowsFit frameAnswer frameRows frameStore gatheredBy marksBy portRows storeBy settledBy takenRows takenStore refusalBy startAnswer startRows startFits sizedAnswer sizedRows freshPort freshPorts groupAt groupOf groupRow putGroup rowIn putRow marksAt packetsAt putMarks putPackets memberAt putMember memberOf memberRow putStep stepAt stepIn stepRow takenOf inStep readable distanceIn flagged countsOn frameDropped outside keeps joining byWindow byStart arrives inStepAt begunRun secondRun oneMore furtherRun runOn placeIn storedAt ringOf byteAt h4At packetIn cutFrom markedAt firstMark markedByte cutByte passedByte passedMarks
+unfolding table answerOf areShort setOf proposed tightestOf ranksOf rankOf candidateAt sortedBy checkedOf accepts agreesWith agree nibblesOf sealedOf dataOf crcOf divisor byteBits nibbleBits writeAnswer writeBytes fitting assigned h4Of readAnswer readNibbles fieldsOf carriedIn highsOf boardOf rowsOf rowOf noRow highest startOf freshOf idleSlot idleNumber addOf addedTo removeOf removedFrom fallen fallenIn lapseOf reportOf waited actedOn mstApplied numberApplied holderOf renumbered slotAfter numberAfter comesBefore turnOf opensWait sizeOf membersOf mstFails mstFirst mstNumbers wholeOutput beginning linesOf fieldsIn lineOf wordLine numberLine reportLine reportIn numberIn digitOf hexOf replyOf sizeReply outputOf answerText boardText slotText waitText wordText decimalText afterOn nibbleIn nibblePlace startsCount tagByHigh carriesLow tagByLow counts endsEpoch epochsIn frames tagAfter tagBefore tags lead epochs epochAfter epochOf distanceOf placeOf startsEpoch firstTag settledOf clearedStep clearedPort clearedPorts stoppedOf stopBy begunOf beginBy gatherBy portsIn sizedGroup storeFor ready latest noTag further foremost within begins owesNothing brought silent ruledBy passedStep notedBy passedPort passedPorts passedGroup passedOf frameFits rowsFit frameAnswer frameRows frameStore gatheredBy marksBy portRows storeBy settledBy takenRows takenStore refusalBy startAnswer startRows startFits sizedAnswer sizedRows freshPort freshPorts groupAt groupOf groupRow putGroup rowIn putRow marksAt packetsAt putMarks putPackets memberAt putMember memberOf memberRow putStep stepAt stepIn stepRow takenOf inStep readable distanceIn flagged countsOn frameDropped outside keeps joining byWindow byStart arrives inStepAt begunRun secondRun oneMore furtherRun runOn placeIn storedAt ringOf byteAt h4At packetIn cutFrom markedAt firstMark markedByte cutByte passedByte passedMarks
 examples = equal-rows table refl

@@ -2,6 +2,7 @@
 pub mod Epochs
 pub mod Lines
 pub mod Packets
+pub mod Paths
 pub mod Payloads
 pub mod Receivers
 pub mod Senders
@@ -11,6 +12,7 @@ use Rattle.conformance.specs.Entries.{Coping, row}
 use Epochs as sender
 use Lines as console
 use Packets as packet
+use Paths as paths
 use Payloads as payload
 use Receivers as receiver
 use Senders as state
@@ -26,6 +28,8 @@ entries =
     ∷ row "payload::spread_one" payload.spreadOneMember payload.spreadOne-copes
     ∷ row "payload::join_from" payload.joinFrom payload.joinFrom-copes
     ∷ row "payload::one_answer" payload.oneAnswerCall payload.oneAnswer-copes
+    ∷ row "paths::plan" paths.plan paths.plan-copes
+    ∷ row "paths::check" paths.check paths.check-copes
     ∷ row "sender::start" table.start table.start-copes
     ∷ row "sender::add" table.add table.add-copes
     ∷ row "sender::remove" table.remove table.remove-copes
@@ -52,6 +56,8 @@ entries =
     ∷ row "levelspruce_packet_read" packet.readC packet.readC-copes
     ∷ row "levelspruce_spread" payload.spreadC payload.spread-copes
     ∷ row "levelspruce_join" payload.joinC payload.join-copes
+    ∷ row "levelspruce_paths_plan" paths.planC paths.planC-copes
+    ∷ row "levelspruce_paths_check" paths.checkC paths.checkC-copes
     ∷ row "levelspruce_sender_start" state.start state.start-copes
     ∷ row "levelspruce_sender_add" state.add state.add-copes
     ∷ row "levelspruce_sender_remove" state.remove state.remove-copes

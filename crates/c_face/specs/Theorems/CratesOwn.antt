@@ -1,13 +1,18 @@
 -- Each C call is the crate's own function: the same answer, by its number, and the same lent bytes.
-use mathlib.Core.Path.{_≡_, refl}
+use mathlib.Core.Path.{_≡_, refl, sym}
 use mathlib.Core.Bool.{Bool, true, false, cond}
-use mathlib.Core.List.{List}
+use mathlib.Core.List.{List, [], _∷_}
 use Prim.Native.Nat.{ℕ, _≤_}
+use lib.Dec.{eqb}
 use lib.ListN.{length}
-use borrow.Author.Tests.{eq-eqb, le-ltb, ne-eqb}
+use borrow.Author.Tests.{eq-eqb, eqb-true, le-ltb, ne-eqb}
 use Rattle.packet.specs.declared.layout.Fields.{Fields}
 use Rattle.packet.specs.Reading.{readAnswer, readingNumber}
 use Rattle.packet.specs.Writing.{writeAnswer, writeBytes, writingNumber}
+use Rattle.paths.specs.Answers.{answerOf}
+use Rattle.paths.specs.Answers.{numberOf as planNumber}
+use Rattle.paths.specs.Checking.{checkedOf}
+use Rattle.paths.specs.Planning.{planOf}
 use Rattle.payload.specs.Answers.{numberOf}
 use Rattle.payload.specs.Joining.{joined, wholeAnswer}
 use Rattle.payload.specs.Spreading.{spreadAll}
@@ -19,9 +24,10 @@ use Rattle.sender.specs.declared.table.Outcome.{Outcome}
 use Rattle.sender.specs.Epochs.{SenderCall, beginOf, packetAnswer, packetBytes, payloadAnswer, payloadBytes, ranksOf, senderStepOf}
 use Rattle.sender.specs.Table.{answerNumber}
 use Rattle.c_face.specs.Boards.{boardBytesC, boardBytesOf, goingBytesC, ranksBytesC, ranksBytesOf, shownAnswerC, shownBytes}
-use Rattle.c_face.specs.Keeping.{bytesOf, senderOf}
+use Rattle.c_face.specs.Keeping.{bytesOf, flagByte, senderOf}
 use Rattle.c_face.specs.Payloads.{joinAnswerC, joinFrameC, spreadAnswerC, spreadMembersC}
 use Rattle.c_face.specs.Packets.{readAnswerC, readFieldsC, valuesOr, writeAnswerC, writeBytesC}
+use Rattle.c_face.specs.Plans.{checkAnswerC, checkByteC, lentAnswer, lentBytes, planAnswerC, planBytesC, planBytesOf}
 use Rattle.c_face.specs.Receivers.{failedC}
 use Rattle.c_face.specs.Senders.{keptBytes, outside, packetAnswerC, packetBytesC, payloadAnswerC, payloadBytesC, startAnswerC, startStateC, stepAnswerC, stepStateC}
 
@@ -47,6 +53,27 @@ pub join-own : (x p : ℕ) (members frame : List ℕ)
     → (joinAnswerC x p members frame ≡ numberOf (wholeAnswer x p (length members) (length frame)))
     × (joinFrameC x p members frame ≡ joined x p members frame)
 join-own x p members frame = (refl, refl)
+
+-- levelspruce_paths_plan and levelspruce_paths_check are paths::plan and paths::check, with room for their result
+lent-own : (number size : ℕ) (new out : List ℕ) → length out ≡ size → (lentAnswer number size out ≡ number) × (number ≡ 0 → lentBytes number size new out ≡ new)
+unfolding lentAnswer lentBytes
+lent-own number size new out h = rw (eq-eqb (length out) size h) (go (eqb number 0) refl, λ z. rw (eq-eqb number 0 z) refl)
+  where
+    go : (b : Bool) → eqb number 0 ≡ b → cond b 0 number ≡ number
+    go true e = sym (eqb-true number 0 e)
+    go false e = refl
+
+pub plan-own : (delays : List ℕ) (k W : ℕ) (out : List ℕ) → length out ≡ 65
+    → (planAnswerC delays k W out ≡ planNumber (planOf delays k W .answer))
+    × (planNumber (planOf delays k W .answer) ≡ 0 → planBytesC delays k W out ≡ planBytesOf (planOf delays k W))
+unfolding planOf
+plan-own delays k W out h = lent-own (planNumber (answerOf delays k W)) 65 (planBytesOf (planOf delays k W)) out h
+
+pub check-own : (delays : List ℕ) (k W : ℕ) (set out : List ℕ) → length out ≡ 1
+    → (checkAnswerC delays k W out ≡ planNumber (checkedOf delays k W set .answer))
+    × (planNumber (checkedOf delays k W set .answer) ≡ 0 → checkByteC delays k W set out ≡ flagByte (checkedOf delays k W set .accepted) ∷ [])
+unfolding checkedOf
+check-own delays k W set out h = lent-own (planNumber (answerOf delays k W)) 1 (flagByte (checkedOf delays k W set .accepted) ∷ []) out h
 
 -- levelspruce_sender_start is Sender::start for the kind H4, where the state has its length and the first epoch's number is a byte. An empty group's first epoch has the number 0.
 module _ (count first : ℕ) (state : List ℕ) (sized : length state ≡ 397) (byte : first ≤ 255) where

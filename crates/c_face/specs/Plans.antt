@@ -1,0 +1,33 @@
+-- The planner and the check for C: their own answer, then 9 where the result's buffer has another length. Under a refusal the buffer stays.
+use mathlib.Core.Bool.{cond}
+use mathlib.Core.List.{List, [], _∷_}
+use Prim.Native.Nat.{ℕ}
+use lib.Dec.{eqb}
+use lib.ListN.{length}
+use Rattle.paths.specs.Answers.{answerOf, numberOf}
+use Rattle.paths.specs.Checking.{checkedOf}
+use Rattle.paths.specs.declared.planning.Proposal.{Proposal}
+use Rattle.paths.specs.Planning.{planOf}
+use Rattle.c_face.specs.Keeping.{flagByte}
+
+-- how many are chosen, then their numbers
+abbrev pub planBytesOf : Proposal → List ℕ
+planBytesOf p = p .count ∷ p .paths
+
+unfoldable pub lentAnswer : ℕ → ℕ → List ℕ → ℕ
+lentAnswer number size out = cond (eqb number 0) (cond (eqb (length out) size) 0 9) number
+
+unfoldable pub lentBytes : ℕ → ℕ → List ℕ → List ℕ → List ℕ
+lentBytes number size new out = cond (eqb number 0) (cond (eqb (length out) size) new out) out
+
+abbrev pub planAnswerC : List ℕ → ℕ → ℕ → List ℕ → ℕ
+planAnswerC delays k W out = lentAnswer (numberOf (answerOf delays k W)) 65 out
+
+abbrev pub planBytesC : List ℕ → ℕ → ℕ → List ℕ → List ℕ
+planBytesC delays k W out = lentBytes (numberOf (answerOf delays k W)) 65 (planBytesOf (planOf delays k W)) out
+
+abbrev pub checkAnswerC : List ℕ → ℕ → ℕ → List ℕ → ℕ
+checkAnswerC delays k W out = lentAnswer (numberOf (answerOf delays k W)) 1 out
+
+abbrev pub checkByteC : List ℕ → ℕ → ℕ → List ℕ → List ℕ → List ℕ
+checkByteC delays k W set out = lentBytes (numberOf (answerOf delays k W)) 1 (flagByte (checkedOf delays k W set .accepted) ∷ []) out

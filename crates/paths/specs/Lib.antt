@@ -1,0 +1,8 @@
+pub mod Answers
+pub mod Checking
+pub mod Laws
+pub mod Order
+pub mod Paths
+pub mod Planning
+pub mod Theorems
+mod Wrong

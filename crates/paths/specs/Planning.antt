@@ -1,0 +1,66 @@
+-- The planner: of the candidates in order, the k in a row with the least spread, of several such the first.
+-- So it is always the same set, of the tightest the one with the least delays, and the receiver's window may be smallest.
+use mathlib.Core.Bool.{Bool, cond}
+use mathlib.Core.List.{List, [], _∷_, _++_}
+use Prim.Native.Nat.{ℕ, zero, suc, _+_, _-_}
+use lib.Dec.{leb, ltb}
+use lib.ListN.{length, getD, replicate}
+use Rattle.ground.specs.Drawn.{within}
+use Rattle.paths.specs.declared.answers.Answer.{Answer}
+use Rattle.paths.specs.declared.answers.Answer.the-variants.{Done}
+use Rattle.paths.specs.declared.planning.Proposal.{Proposal}
+use Rattle.paths.specs.declared.planning.Stretch.{Stretch}
+use Rattle.paths.specs.Answers.{answerOf, inRange}
+use Rattle.paths.specs.Order.{ranksOf, sortedBy}
+
+-- from a rank to the one so far after it
+abbrev pub stretchFrom : List ℕ → ℕ → ℕ → Stretch
+stretchFrom sorted far first = record { first = first; spread = getD sorted (first + far) 0 - getD sorted first 0 }
+
+abbrev pub tighter : Stretch → Stretch → Stretch
+tighter one other = cond (ltb (other .spread) (one .spread)) other one
+
+-- of the stretches from rank 0 and from each of the first m ranks the tightest, of several the first
+abbrev pub tightest : List ℕ → ℕ → ℕ → Stretch
+tightest sorted far zero = stretchFrom sorted far 0
+tightest sorted far (suc m) = tighter (tightest sorted far m) (stretchFrom sorted far m)
+
+-- the numbers below n at which the test holds, rising
+abbrev pub listed : ℕ → (ℕ → Bool) → List ℕ
+listed zero f = []
+listed (suc n) f = listed n f ++ cond (f n) (n ∷ []) []
+
+-- k in a row are k - 1 ranks from first to last, and begin at the latest where k are left
+unfoldable pub tightestOf : List ℕ → ℕ → Stretch
+tightestOf delays k = tightest (sortedBy delays (ranksOf delays)) (k - 1) (length delays + 1 - k)
+
+abbrev pub inStretch : List ℕ → ℕ → ℕ → ℕ → Bool
+inStretch ranks first k i = within first k (getD ranks i 0)
+
+unfoldable pub proposed : List ℕ → ℕ → ℕ → List ℕ
+proposed delays k s =
+    cond (leb (tightestOf delays k .spread) s) (listed (length delays) (inStretch (ranksOf delays) (tightestOf delays k .first) k)) []
+
+-- what the planner proposes; the empty list says none
+unfoldable pub setOf : List ℕ → ℕ → ℕ → List ℕ
+setOf delays k W = cond (inRange delays k W) (proposed delays k (W - 16)) []
+
+-- in a plan's 64 bytes the rest is 255
+abbrev pub padded : List ℕ → List ℕ
+padded set = set ++ replicate (64 - length set) 255
+
+abbrev pub planWith : Answer → List ℕ → Proposal
+planWith answer set = record { paths = padded set; count = length set; answer = answer }
+
+unfoldable pub planOf : List ℕ → ℕ → ℕ → Proposal
+planOf delays k W = planWith (answerOf delays k W) (setOf delays k W)
+
+-- for the functions behind it
+abbrev pub nothing : Answer → Proposal
+nothing answer = planWith answer []
+
+unfoldable pub listedPlan : List ℕ → ℕ → ℕ → ℕ → Proposal
+listedPlan ranks n first k = planWith Done (listed n (inStretch ranks first k))
+
+unfoldable pub proposedPlan : List ℕ → ℕ → ℕ → Proposal
+proposedPlan delays k s = planWith Done (proposed delays k s)
