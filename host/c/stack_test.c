@@ -81,6 +81,19 @@ static void receiving(void)
     answers |= levelspruce_receiver_reply((const uint8_t(*)[LEVELSPRUCE_ROW_BYTES])receiver, LEVELSPRUCE_RECEIVER_ROWS(PORTS), 0, reply, sizeof reply);
 }
 
+/* The longest search, and a check of what it finds. */
+static void planning(void)
+{
+    uint8_t plan[LEVELSPRUCE_PLAN_BYTES], accepted[1];
+    uint32_t delays[LEVELSPRUCE_PATHS_MOST], i;
+
+    for (i = 0; i < LEVELSPRUCE_PATHS_MOST; i++)
+        delays[i] = i * 2477 % (LEVELSPRUCE_DELAY_MOST + 1);
+    answers |= levelspruce_paths_plan(delays, LEVELSPRUCE_PATHS_MOST, 20, LEVELSPRUCE_WINDOW_MOST, plan, sizeof plan);
+    answers |= levelspruce_paths_check(delays, LEVELSPRUCE_PATHS_MOST, 20, LEVELSPRUCE_WINDOW_MOST, plan + LEVELSPRUCE_PLAN_EACH, 20, accepted, sizeof accepted);
+    answers |= accepted[0] != 1;
+}
+
 static void (*calls)(void);
 
 static void *call(void *unused)
@@ -114,7 +127,7 @@ int main(void)
     static const struct {
         const char *name;
         void (*calls)(void);
-    } groups[] = { { "packets", packets }, { "payload", payloads }, { "sender", sending }, { "receiver", receiving } };
+    } groups[] = { { "packets", packets }, { "payload", payloads }, { "sender", sending }, { "receiver", receiving }, { "paths", planning } };
     size_t own, i, most = 0;
 
     stack_of(nothing); /* what is done once */

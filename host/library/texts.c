@@ -18,7 +18,7 @@ const char *levelspruce_answer_text(uint32_t answer)
     case LEVELSPRUCE_ANSWER_WAIT:
         return "a wait is open";
     case LEVELSPRUCE_ANSWER_RANGE:
-        return "a count, P, W or X is out of range";
+        return "a count, P, W, X or delay is out of range";
     case LEVELSPRUCE_ANSWER_CRC:
         return "the packet's CRC differs";
     case LEVELSPRUCE_ANSWER_UNASSIGNED:
