@@ -1,11 +1,11 @@
 /*
  * levelspruce.h: the calls of Levelspruce for a C or C++ host.
  *
- * Link target/staticlib/libc_face.a, which 'rt staticlib c_face' writes, or what
- * ./install puts below a prefix: pkg-config --cflags --libs levelspruce.
- * docs/MANUAL.md says how a host uses the calls.
+ * ./install puts the library below a prefix: pkg-config --cflags --libs
+ * levelspruce, or find_package(levelspruce) in CMake. docs/MANUAL.md says how a
+ * host uses the calls.
  *
- * For every call:
+ * For every call (but those three that only give a text):
  * - The result is the answer number. Any answer but 0 is a refusal.
  * - A refusal changes no byte of any buffer, but for these, which change the
  *   state and nothing else: 4 of levelspruce_sender_start and of
@@ -35,11 +35,29 @@
 extern "C" {
 #endif
 
-/* The version of this header and of the archive that comes with it. */
+/* The version of this header. levelspruce_version gives that of the library. */
 #define LEVELSPRUCE_VERSION "0.2.0"
 #define LEVELSPRUCE_VERSION_MAJOR 0
 #define LEVELSPRUCE_VERSION_MINOR 2
 #define LEVELSPRUCE_VERSION_PATCH 0
+
+/* The mark of a call whose answer must be looked at, where the compiler has one. */
+#if defined(__cplusplus) && __cplusplus >= 201703L
+#define LEVELSPRUCE_MUST_USE [[nodiscard]]
+#elif defined(__STDC_VERSION__) && __STDC_VERSION__ >= 202311L
+#define LEVELSPRUCE_MUST_USE [[nodiscard]]
+#elif defined(__GNUC__)
+#define LEVELSPRUCE_MUST_USE __attribute__((warn_unused_result))
+#else
+#define LEVELSPRUCE_MUST_USE
+#endif
+
+/* A number as a size_t, by the cast of the language at hand. */
+#ifdef __cplusplus
+#define LEVELSPRUCE_SIZE(number) (static_cast<size_t>(number))
+#else
+#define LEVELSPRUCE_SIZE(number) ((size_t)(number))
+#endif
 
 /* Answers. */
 #define LEVELSPRUCE_ANSWER_DONE 0       /* done */
@@ -83,11 +101,11 @@ extern "C" {
 
 /* Of a receiver: the rows of its state, and the bytes of its store and of the
  * least output. */
-#define LEVELSPRUCE_RECEIVER_ROWS(ports) ((size_t)(ports) * 5 + 1)
+#define LEVELSPRUCE_RECEIVER_ROWS(ports) (LEVELSPRUCE_SIZE(ports) * 5 + 1)
 #define LEVELSPRUCE_STORE_BYTES(ports, payload, window) \
-    ((size_t)(ports) * (size_t)(window) * ((size_t)(payload) + 1))
+    (LEVELSPRUCE_SIZE(ports) * LEVELSPRUCE_SIZE(window) * (LEVELSPRUCE_SIZE(payload) + 1))
 #define LEVELSPRUCE_OUTPUT_BYTES(ports, payload) \
-    ((size_t)(ports) * LEVELSPRUCE_EPOCH_FRAMES * (size_t)(payload))
+    (LEVELSPRUCE_SIZE(ports) * LEVELSPRUCE_EPOCH_FRAMES * LEVELSPRUCE_SIZE(payload))
 
 /* Payload: members of a group, and bytes of a member frame. */
 #define LEVELSPRUCE_MEMBERS_MOST 64
@@ -139,6 +157,25 @@ extern "C" {
 #define LEVELSPRUCE_RANK_NONE 255
 
 /*
+ * The version of the library that is linked, as LEVELSPRUCE_VERSION has that
+ * of the header. A program that was built with one and runs with another
+ * shared library can see it.
+ */
+const char *levelspruce_version(void);
+
+/*
+ * What an answer means, in one English line without its end. Any number has
+ * one; of a number that no call answers it says so. The text stays for as
+ * long as the program runs.
+ */
+const char *levelspruce_answer_text(uint32_t answer);
+
+/*
+ * The name of a control word, as ADD; of any other number, unassigned.
+ */
+const char *levelspruce_word_name(uint32_t word);
+
+/*
  * Writes one control packet as the sixteen H4 bytes that carry it.
  *
  *   epoch, mst, sq   0 to 255
@@ -160,6 +197,7 @@ extern "C" {
  *   0  all sixteen bytes are written; levelspruce_packet_read gives the same
  *      fields back
  */
+LEVELSPRUCE_MUST_USE
 uint8_t levelspruce_packet_write(uint32_t epoch, uint32_t word, uint32_t gid,
                                  uint32_t mst, uint32_t rs_ack, uint32_t sq,
                                  uint32_t reserved,
@@ -186,6 +224,7 @@ uint8_t levelspruce_packet_write(uint32_t epoch, uint32_t word, uint32_t gid,
  *   6  the control word is unassigned
  *   0  all ten bytes of fields are written
  */
+LEVELSPRUCE_MUST_USE
 uint8_t levelspruce_packet_read(const uint8_t *h4, size_t h4_length,
                                 uint8_t *fields, size_t fields_length);
 
@@ -204,6 +243,7 @@ uint8_t levelspruce_packet_read(const uint8_t *h4, size_t h4_length,
  *   9  frame_length or members_length is not x * p
  *   0  all of members is written; nothing where x is 0
  */
+LEVELSPRUCE_MUST_USE
 uint8_t levelspruce_spread(uint32_t x, uint32_t p,
                            const uint8_t *frame, size_t frame_length,
                            uint8_t *members, size_t members_length);
@@ -219,6 +259,7 @@ uint8_t levelspruce_spread(uint32_t x, uint32_t p,
  *   9  members_length or frame_length is not x * p
  *   0  all of frame is written; nothing where x is 0
  */
+LEVELSPRUCE_MUST_USE
 uint8_t levelspruce_join(uint32_t x, uint32_t p,
                          const uint8_t *members, size_t members_length,
                          uint8_t *frame, size_t frame_length);
@@ -250,6 +291,7 @@ uint8_t levelspruce_join(uint32_t x, uint32_t p,
  *   8  first_epoch is above 255
  *   0  all of state is written
  */
+LEVELSPRUCE_MUST_USE
 uint8_t levelspruce_sender_start(uint32_t count, uint32_t first_epoch,
                                  uint8_t *state, size_t state_length);
 
@@ -263,6 +305,7 @@ uint8_t levelspruce_sender_start(uint32_t count, uint32_t first_epoch,
  *   2  the slot is not IDLE
  *   0  done
  */
+LEVELSPRUCE_MUST_USE
 uint8_t levelspruce_sender_add(uint8_t *state, size_t state_length,
                                uint32_t slot);
 
@@ -277,6 +320,7 @@ uint8_t levelspruce_sender_add(uint8_t *state, size_t state_length,
  *   2  the slot is IDLE
  *   0  done
  */
+LEVELSPRUCE_MUST_USE
 uint8_t levelspruce_sender_remove(uint8_t *state, size_t state_length,
                                   uint32_t slot);
 
@@ -298,6 +342,7 @@ uint8_t levelspruce_sender_remove(uint8_t *state, size_t state_length,
  *   8  epoch, mst or rs_ack is above 255
  *   0  done
  */
+LEVELSPRUCE_MUST_USE
 uint8_t levelspruce_sender_report(uint8_t *state, size_t state_length,
                                   uint32_t epoch, uint32_t mst,
                                   uint32_t rs_ack);
@@ -310,6 +355,7 @@ uint8_t levelspruce_sender_report(uint8_t *state, size_t state_length,
  *   2  no wait is open
  *   0  done
  */
+LEVELSPRUCE_MUST_USE
 uint8_t levelspruce_sender_lapse(uint8_t *state, size_t state_length);
 
 /*
@@ -326,6 +372,7 @@ uint8_t levelspruce_sender_lapse(uint8_t *state, size_t state_length);
  *   8  gid or rs_ack is above 1, or mst above 255
  *   0  done
  */
+LEVELSPRUCE_MUST_USE
 uint8_t levelspruce_sender_start_epoch(uint8_t *state, size_t state_length,
                                        uint32_t gid, uint32_t mst,
                                        uint32_t rs_ack);
@@ -344,6 +391,7 @@ uint8_t levelspruce_sender_start_epoch(uint8_t *state, size_t state_length,
  *      what it keeps makes no packet
  *   0  all sixteen bytes are written
  */
+LEVELSPRUCE_MUST_USE
 uint8_t levelspruce_sender_packet(const uint8_t *state, size_t state_length,
                                   uint32_t slot,
                                   uint8_t *h4, size_t h4_length);
@@ -365,6 +413,7 @@ uint8_t levelspruce_sender_packet(const uint8_t *state, size_t state_length,
  *   2  no epoch has started
  *   0  all of member is written
  */
+LEVELSPRUCE_MUST_USE
 uint8_t levelspruce_sender_payload(const uint8_t *state, size_t state_length,
                                    uint32_t slot, uint32_t p,
                                    const uint8_t *frame, size_t frame_length,
@@ -381,6 +430,7 @@ uint8_t levelspruce_sender_payload(const uint8_t *state, size_t state_length,
  *   9  state_length or board_length is wrong
  *   0  all of board is written
  */
+LEVELSPRUCE_MUST_USE
 uint8_t levelspruce_sender_board(const uint8_t *state, size_t state_length,
                                  uint8_t *board, size_t board_length);
 
@@ -392,6 +442,7 @@ uint8_t levelspruce_sender_board(const uint8_t *state, size_t state_length,
  *   9  state_length or board_length is wrong
  *   0  all of board is written
  */
+LEVELSPRUCE_MUST_USE
 uint8_t levelspruce_sender_board_going(const uint8_t *state,
                                        size_t state_length,
                                        uint8_t *board, size_t board_length);
@@ -407,6 +458,7 @@ uint8_t levelspruce_sender_board_going(const uint8_t *state,
  *   9  state_length or ranks_length is wrong
  *   0  all of ranks is written
  */
+LEVELSPRUCE_MUST_USE
 uint8_t levelspruce_sender_ranks(const uint8_t *state, size_t state_length,
                                  uint8_t *ranks, size_t ranks_length);
 
@@ -433,6 +485,7 @@ uint8_t levelspruce_sender_ranks(const uint8_t *state, size_t state_length,
  *   4  the boards' counts differ, or are above 64
  *   0  all of changes is written, 0 behind the last change
  */
+LEVELSPRUCE_MUST_USE
 uint8_t levelspruce_board_changes(const uint8_t *before, size_t before_length,
                                   const uint8_t *after, size_t after_length,
                                   uint8_t *changes, size_t changes_length);
@@ -454,6 +507,7 @@ uint8_t levelspruce_board_changes(const uint8_t *before, size_t before_length,
  *      open or closes though none is, a wait above 2, or a count above 64
  *   0  the board is the new one
  */
+LEVELSPRUCE_MUST_USE
 uint8_t levelspruce_board_apply(uint8_t *board, size_t board_length,
                                 const uint8_t *changes, size_t changes_length);
 
@@ -473,6 +527,7 @@ uint8_t levelspruce_board_apply(uint8_t *board, size_t board_length,
  *   2  the changes fit no board at all, or have a word that no board shows
  *   0  the lines and written are written
  */
+LEVELSPRUCE_MUST_USE
 uint8_t levelspruce_board_speak(const uint8_t *changes, size_t changes_length,
                                 uint8_t *text, size_t text_length,
                                 size_t *written);
@@ -495,7 +550,8 @@ uint8_t levelspruce_board_speak(const uint8_t *changes, size_t changes_length,
  * and any number of rows, and none of its reports is ever due.
  *
  * The calls that only read the state take rows of const bytes. A strict C
- * compiler (before C23) wants a cast there: (const uint8_t (*)[16])state.
+ * compiler (before C23) wants a cast there:
+ * (const uint8_t (*)[LEVELSPRUCE_ROW_BYTES])state.
  */
 
 /* Ports and windows, in frames. */
@@ -521,7 +577,9 @@ uint8_t levelspruce_board_speak(const uint8_t *changes, size_t changes_length,
 #define LEVELSPRUCE_PORT_FAIL 1
 #define LEVELSPRUCE_PORT_OK 2
 
-/* The bytes of what is shown of a port; the eighth is 0. */
+/* The bytes of what is shown of a port; the eighth is 0. A state byte that is
+ * none of IDLE, FAIL and OK is shown as it is. It is there only in a state that
+ * has bytes which no call returned. */
 #define LEVELSPRUCE_PORT_STATE 0    /* at the last report; IDLE before the first */
 #define LEVELSPRUCE_PORT_NUMBER 1   /* with that state; LEVELSPRUCE_NUMBER_IDLE where it is IDLE */
 #define LEVELSPRUCE_PORT_STEP 2     /* 1 while in step */
@@ -550,9 +608,11 @@ uint8_t levelspruce_board_speak(const uint8_t *changes, size_t changes_length,
  *   9  state_length or store_bytes is wrong
  *   0  all of state is written
  */
+LEVELSPRUCE_MUST_USE
 uint8_t levelspruce_receiver_start(uint32_t ports, uint32_t payload,
                                    uint32_t window, size_t store_bytes,
-                                   uint8_t (*state)[16], size_t state_length);
+                                   uint8_t (*state)[LEVELSPRUCE_ROW_BYTES],
+                                   size_t state_length);
 
 /*
  * Takes a frame of a port. Hand over each frame of each port once, in the
@@ -585,7 +645,9 @@ uint8_t levelspruce_receiver_start(uint32_t ports, uint32_t payload,
  * (anew), and the epoch before the first reported one is gathered. Epochs that
  * were not fetched before receiving stops are lost.
  */
-uint8_t levelspruce_receiver_frame(uint8_t (*state)[16], size_t state_length,
+LEVELSPRUCE_MUST_USE
+uint8_t levelspruce_receiver_frame(uint8_t (*state)[LEVELSPRUCE_ROW_BYTES],
+                                   size_t state_length,
                                    uint32_t port, uint32_t failed, uint8_t h4,
                                    const uint8_t *payload,
                                    size_t payload_length, uint8_t *store,
@@ -612,7 +674,9 @@ uint8_t levelspruce_receiver_frame(uint8_t (*state)[16], size_t state_length,
  *   DOUBTFUL,  the first 16 * X * P bytes of out are sixteen group frames of
  *   SURE       X * P bytes, and the rest of out stays; for the state as HELD
  */
-uint8_t levelspruce_receiver_fetch(uint8_t (*state)[16], size_t state_length,
+LEVELSPRUCE_MUST_USE
+uint8_t levelspruce_receiver_fetch(uint8_t (*state)[LEVELSPRUCE_ROW_BYTES],
+                                   size_t state_length,
                                    const uint8_t *store, size_t store_length,
                                    uint8_t *out, size_t out_length,
                                    uint8_t *report, size_t report_length);
@@ -627,8 +691,10 @@ uint8_t levelspruce_receiver_fetch(uint8_t (*state)[16], size_t state_length,
  *   9  state_length is wrong, or ports_length is not the group's count
  *   0  all of ports is written
  */
-uint8_t levelspruce_receiver_ports(const uint8_t (*state)[16],
-                                   size_t state_length, uint8_t (*ports)[8],
+LEVELSPRUCE_MUST_USE
+uint8_t levelspruce_receiver_ports(const uint8_t (*state)[LEVELSPRUCE_ROW_BYTES],
+                                   size_t state_length,
+                                   uint8_t (*ports)[LEVELSPRUCE_PORT_BYTES],
                                    size_t ports_length);
 
 /*
@@ -644,7 +710,8 @@ uint8_t levelspruce_receiver_ports(const uint8_t (*state)[16],
  *   9  state_length or reply_length is wrong
  *   0  both bytes are written
  */
-uint8_t levelspruce_receiver_reply(const uint8_t (*state)[16],
+LEVELSPRUCE_MUST_USE
+uint8_t levelspruce_receiver_reply(const uint8_t (*state)[LEVELSPRUCE_ROW_BYTES],
                                    size_t state_length, uint8_t epoch,
                                    uint8_t *reply, size_t reply_length);
 
@@ -681,6 +748,7 @@ uint8_t levelspruce_receiver_reply(const uint8_t (*state)[16],
  *   9  plan_length is not 65
  *   0  all of plan is written
  */
+LEVELSPRUCE_MUST_USE
 uint8_t levelspruce_paths_plan(const uint32_t *delays, size_t delays_length,
                                uint32_t k, uint32_t window,
                                uint8_t *plan, size_t plan_length);
@@ -700,6 +768,7 @@ uint8_t levelspruce_paths_plan(const uint32_t *delays, size_t delays_length,
  *   9  accepted_length is not 1
  *   0  accepted is written
  */
+LEVELSPRUCE_MUST_USE
 uint8_t levelspruce_paths_check(const uint32_t *delays, size_t delays_length,
                                 uint32_t k, uint32_t window,
                                 const uint8_t *set, size_t set_length,

@@ -25,7 +25,7 @@ int tally_open(struct tally *t, const char *out, int doubtful)
 }
 
 void tally_report(struct tally *t, uint64_t epoch, const struct report *report, const uint8_t *bytes, const struct sending *sending,
-                  struct client *client, const struct says *says)
+                  struct client *client, struct says *says)
 {
     const struct carried *carried = comparing ? sending_carried(sending, epoch) : NULL;
 

@@ -25,6 +25,10 @@ int main()
               && ports[0][LEVELSPRUCE_PORT_STATE] == LEVELSPRUCE_PORT_IDLE);
     char version[32];
     std::snprintf(version, sizeof version, "%d.%d.%d", LEVELSPRUCE_VERSION_MAJOR, LEVELSPRUCE_VERSION_MINOR, LEVELSPRUCE_VERSION_PATCH);
-    check("the version's text has its numbers", std::strcmp(version, LEVELSPRUCE_VERSION) == 0);
+    check("the version's text has its numbers, and the library has it", std::strcmp(version, LEVELSPRUCE_VERSION) == 0
+                                                                            && std::strcmp(version, levelspruce_version()) == 0);
+    check("a C++ program gets the texts",
+          std::strcmp(levelspruce_answer_text(LEVELSPRUCE_ANSWER_DONE), "done") == 0
+              && std::strcmp(levelspruce_word_name(LEVELSPRUCE_WORD_EOS), "EOS") == 0);
     return tally();
 }

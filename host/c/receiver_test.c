@@ -133,7 +133,8 @@ static uint8_t h4_of(uint32_t tag, struct source s)
 {
     uint8_t h4[LEVELSPRUCE_PACKET_BYTES];
 
-    levelspruce_packet_write(epoch_of(tag % TAGS), s.word, 1, 255, 0, s.number, 0, h4, sizeof h4);
+    if (levelspruce_packet_write(epoch_of(tag % TAGS), s.word, 1, 255, 0, s.number, 0, h4, sizeof h4) != LEVELSPRUCE_ANSWER_DONE)
+        check("a packet is written", 0);
     return h4[(tag + 8) % EPOCH];
 }
 
@@ -510,6 +511,17 @@ static void odd_states(void)
         held = held && ask(FETCH, none) == 0 && RECORD[0] == NONE;
     }
     check("rows whose count, P or W is out of range are an empty group", held);
+    {
+        size_t rows = LEVELSPRUCE_RECEIVER_ROWS(1) * LEVELSPRUCE_ROW_BYTES;
+        int places = 0;
+
+        for (i = LEVELSPRUCE_ROW_BYTES; i < rows; i++) { /* behind the group's own row */
+            held = held && started(1, 3, 16);
+            state.now[GUARD + i] = 32;
+            places += shown(0, LEVELSPRUCE_PORT_STATE) == 32;
+        }
+        check("a state byte that no call returned is shown as it is", held && places == 1);
+    }
 }
 
 /* Each call on these rows, with right lengths, gives one of its answers, and changes only what it may. */

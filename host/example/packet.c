@@ -6,24 +6,6 @@
 
 #include <stdio.h>
 
-static const char *word_name(uint8_t word)
-{
-    switch (word) {
-    case LEVELSPRUCE_WORD_ADD:
-        return "ADD";
-    case LEVELSPRUCE_WORD_NORM:
-        return "NORM";
-    case LEVELSPRUCE_WORD_EOS:
-        return "EOS";
-    case LEVELSPRUCE_WORD_IDLE:
-        return "IDLE";
-    case LEVELSPRUCE_WORD_DNU:
-        return "DNU";
-    default:
-        return "unassigned";
-    }
-}
-
 int main(void)
 {
     uint8_t h4[LEVELSPRUCE_PACKET_BYTES];
@@ -46,7 +28,7 @@ int main(void)
     if (answer != LEVELSPRUCE_ANSWER_DONE)
         return 1;
     printf("epoch\t%d\n", fields[LEVELSPRUCE_FIELD_EPOCH]);
-    printf("word\t%s\t%d\n", word_name(fields[LEVELSPRUCE_FIELD_WORD]), fields[LEVELSPRUCE_FIELD_WORD]);
+    printf("word\t%s\t%d\n", levelspruce_word_name(fields[LEVELSPRUCE_FIELD_WORD]), fields[LEVELSPRUCE_FIELD_WORD]);
     printf("gid\t%d\n", fields[LEVELSPRUCE_FIELD_GID]);
     printf("mst\t%02X\n", fields[LEVELSPRUCE_FIELD_MST]);
     printf("rs-ack\t%d\n", fields[LEVELSPRUCE_FIELD_RS_ACK]);

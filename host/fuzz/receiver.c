@@ -239,8 +239,9 @@ static void frames(struct lent *l, struct program *g)
         for (port = 0; port < l->ports; port++) {
             uint32_t tag = l->tag[port], last = port + 1 == l->ports;
 
-            levelspruce_packet_write((tag + 8) % 4096 / 16, word < 200 ? words[last] : words[word % 5], 0, 0, 0, port,
-                                     (tag * 40503 + word) % (LEVELSPRUCE_RESERVED_MOST + 1), h4, sizeof h4);
+            if (levelspruce_packet_write((tag + 8) % 4096 / 16, word < 200 ? words[last] : words[word % 5], 0, 0, 0, port,
+                                         (tag * 40503 + word) % (LEVELSPRUCE_RESERVED_MOST + 1), h4, sizeof h4) != LEVELSPRUCE_ANSWER_DONE)
+                fail("a packet was refused");
             frame(l, &right, port, 0, h4[(tag + 8) % 16]);
         }
 }

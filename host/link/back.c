@@ -20,13 +20,13 @@ void back_start_epoch(struct back *b, const uint8_t *reply)
     b->end++;
 }
 
-int back_next(struct back *b, uint64_t time, uint8_t *fields)
+int back_next(struct back *b, uint64_t time, uint8_t *fields, uint64_t *epoch)
 {
     const uint8_t *packet = b->packets[b->next % BACK_MOST];
 
     /* the packet is whole with the last frame of its epoch */
     if (b->next == b->end || (b->next + 1) * LEVELSPRUCE_EPOCH_FRAMES - 1 + b->delay > time)
         return 0;
-    b->next++;
+    *epoch = b->next++;
     return levelspruce_packet_read(packet, LEVELSPRUCE_PACKET_BYTES, fields, LEVELSPRUCE_FIELDS_BYTES) == LEVELSPRUCE_ANSWER_DONE;
 }

@@ -20,7 +20,7 @@ void back_open(struct back *b, const struct choices *c);
 /* The far end starts an epoch, and this reply goes out in its packet. */
 void back_start_epoch(struct back *b, const uint8_t *reply);
 
-/* 1 where a packet has come whole at this time and is good: then its fields are there. */
-int back_next(struct back *b, uint64_t time, uint8_t *fields);
+/* 1 where a packet has come whole at this time and is good: then its fields are there, and the epoch that it was sent in. */
+int back_next(struct back *b, uint64_t time, uint8_t *fields, uint64_t *epoch);
 
 #endif

@@ -11,7 +11,7 @@ enum { FRAME_MOST = 1000000000, EPOCH_MOST = FRAME_MOST / LEVELSPRUCE_EPOCH_FRAM
 enum choice {
     SLOTS, PAYLOAD, WINDOW, PORTS, DELAYS, FIRST, BACK, NUMBER,
     ADD, REMOVE, DAMAGE, FAIL, LAPSE, LATE, AT_ONCE, SEED, EPOCHS,
-    FILE_IN, FILE_OUT, DOUBTFUL, QUIET, HELP, CHOICES
+    FILE_IN, FILE_OUT, DOUBTFUL, EACH, QUIET, HELP, CHOICES
 };
 
 /* Those up to EPOCHS shape the link, so that with one of them the default run's shape is not taken. */
@@ -22,7 +22,7 @@ static const struct {
     { "--slots", 1 }, { "--payload", 1 }, { "--window", 1 }, { "--ports", 1 }, { "--delays", 1 }, { "--first", 1 },
     { "--back", 1 }, { "--number", 1 }, { "--add", 1 }, { "--remove", 1 }, { "--damage", 1 }, { "--fail", 1 },
     { "--lapse", 1 }, { "--late", 1 }, { "--at-once", 0 }, { "--seed", 1 }, { "--epochs", 1 }, { "--file", 1 }, { "--out", 1 }, { "--doubtful", 0 },
-    { "--quiet", 0 }, { "--help", 0 }
+    { "--each", 0 }, { "--quiet", 0 }, { "--help", 0 }
 };
 
 /* The word given with each choice, or NULL. */
@@ -314,10 +314,15 @@ int choices_read(struct choices *c, int count, char **words)
     c->whole_file = c->file != NULL && g.word[EPOCHS] == NULL;
     c->out = g.word[FILE_OUT];
     c->doubtful = g.word[DOUBTFUL] != NULL;
+    c->each = g.word[EACH] != NULL;
     c->quiet = g.word[QUIET] != NULL;
     c->help = g.word[HELP] != NULL;
     if (c->help)
         return 0;
+    if (c->doubtful && c->out == NULL) {
+        fprintf(stderr, "link: --doubtful adds to the file of --out, and there is no --out\n");
+        return -1;
+    }
     if (read_number(&g, EPOCHS, 1, EPOCH_MOST, &c->epochs) != 0 || shape(c, &g) != 0 || read_ports(&g, c) != 0
         || read_each(&g, DELAYS, c->slots, DELAY_MOST, c->delay) != 0
         || read_each(&g, FIRST, c->slots, FRAME_MOST, c->first) != 0

@@ -37,7 +37,7 @@ struct choices {
     uint64_t epochs;
     int whole_file; /* more epochs, until the file is sent */
     const char *file, *out;
-    int at_once, doubtful, quiet, help;
+    int at_once, doubtful, each, quiet, help;
 };
 
 /* Reads the command line's words. 0, or -1 where one is wrong: then a line on standard error says which. */

@@ -60,6 +60,9 @@ static int link_open(struct link *l)
     if (most_delay - least_delay > c->window - LEVELSPRUCE_WINDOW_LEAST)
         fprintf(stderr, "link: the delays differ by more than the window less %d frames, so receiving may not begin, or bytes may be wrong\n",
                 LEVELSPRUCE_WINDOW_LEAST);
+    else if (!c->at_once && most_delay - least_delay + c->late > c->window - LEVELSPRUCE_WINDOW_LEAST)
+        fprintf(stderr, "link: --late and the difference of the delays are more than the window less %d frames, so reports come earlier than that\n",
+                LEVELSPRUCE_WINDOW_LEAST);
     back_open(&l->back, c);
     says_link(&l->says, c);
     return 0;
@@ -170,6 +173,7 @@ static void receive(struct link *l, uint64_t time)
 {
     uint8_t ports[LINES_MOST][LEVELSPRUCE_PORT_BYTES], fields[LEVELSPRUCE_FIELDS_BYTES], reply[LEVELSPRUCE_REPLY_BYTES];
     uint32_t port;
+    uint64_t epoch;
 
     for (port = 0; port < l->choices.slots; port++)
         bring(l, port, time);
@@ -178,8 +182,8 @@ static void receive(struct link *l, uint64_t time)
         receiving_reply(&l->receiving, 0, reply);
         says_ports(&l->says, (const uint8_t(*)[LEVELSPRUCE_PORT_BYTES])ports, reply[LEVELSPRUCE_REPLY_RS_ACK], time);
     }
-    while (back_next(&l->back, time, fields))
-        sending_told(&l->sending, fields, &l->says);
+    while (back_next(&l->back, time, fields, &epoch))
+        sending_told(&l->sending, epoch, fields, &l->says);
 }
 
 /* Whether another epoch is to be sent. A file that no member carries for long is given up. */
@@ -211,9 +215,9 @@ static int all_empty(const struct link *l)
 static void tell_progress(const struct link *l, uint64_t epoch)
 {
     if (l->choices.whole_file)
-        says_progress("bytes", client_is_sent(&l->client) ? l->client.length : l->client.sent, l->client.length);
+        says_progress(&l->says, "bytes", client_is_sent(&l->client) ? l->client.length : l->client.sent, l->client.length);
     else
-        says_progress("epoch", epoch, l->choices.epochs);
+        says_progress(&l->says, "epoch", epoch, l->choices.epochs);
 }
 
 static void run(struct link *l)
@@ -249,6 +253,7 @@ int main(int count, char **words)
     if (link_open(&l) != 0)
         return 2;
     run(&l);
+    says_end(&l.says);
     status = tally_close(&l.tally, &l.client);
     link_close(&l);
     if (fflush(stdout) != 0 || ferror(stdout)) {

@@ -11,8 +11,34 @@ void must(uint8_t answer, const char *call)
     if (answer == LEVELSPRUCE_ANSWER_DONE)
         return;
     fflush(stdout);
-    fprintf(stderr, "link: %s was answered %d\n", call, answer);
+    fprintf(stderr, "link: %s was answered %d: %s\n", call, answer, levelspruce_answer_text(answer));
     exit(2);
+}
+
+void says_end(struct says *s)
+{
+    static const char *const marks[] = { "none", "held", "doubtful", "sure" };
+    const struct alike *a = &s->alike;
+
+    if (!a->some)
+        return;
+    if (a->first == a->last)
+        printf("epoch\t%" PRIu64, a->first);
+    else
+        printf("epochs\t%" PRIu64 "\tto\t%" PRIu64, a->first, a->last);
+    printf("\t%s", marks[a->mark]);
+    if (a->mark != LEVELSPRUCE_MARK_HELD)
+        printf("\t%s\t%lu\t%s", a->first == a->last ? "bytes" : "bytes each", (unsigned long)a->bytes, a->right ? "as sent" : "not as sent");
+    printf("\n");
+    s->alike.some = 0;
+}
+
+/* Whether lines are said. What is not said yet comes before the next one. */
+static int talks(struct says *s)
+{
+    if (!s->quiet)
+        says_end(s);
+    return !s->quiet;
 }
 
 static void says_events(const char *what, const struct events *events)
@@ -30,6 +56,7 @@ void says_link(struct says *s, const struct choices *c)
 
     memset(s, 0, sizeof *s);
     s->quiet = c->quiet;
+    s->each = c->each;
     s->slots = c->slots;
     s->x = LEVELSPRUCE_MEMBERS_MOST + 1;
     s->going[LEVELSPRUCE_BOARD_COUNT] = (uint8_t)c->slots;
@@ -43,7 +70,7 @@ void says_link(struct says *s, const struct choices *c)
     printf("link\tslots\t%" PRIu32 "\n", c->slots);
     printf("link\tpayload\t%" PRIu32 "\n", c->payload);
     printf("link\twindow\t%" PRIu32 "\n", c->window);
-    printf("link\tfirst epoch\t%" PRIu32 "\n", c->number);
+    printf("link\tnumber of epoch 0\t%" PRIu32 "\n", c->number);
     printf("link\tback\t%" PRIu32 "\n", c->back);
     if (c->at_once)
         printf("reports\tat once\n");
@@ -60,16 +87,20 @@ void says_link(struct says *s, const struct choices *c)
                c->failures.each[i].to);
 }
 
-void says_command(const struct says *s, const char *command, uint32_t slot, uint8_t answer)
+void says_command(struct says *s, const char *command, uint32_t slot, uint8_t answer)
 {
-    if (!s->quiet)
+    if (talks(s))
         printf("%s\tslot\t%" PRIu32 "\tanswer\t%d\n", command, slot, answer);
 }
 
-void says_wait(struct says *s, const uint8_t *board)
+void says_wait(struct says *s, const uint8_t *board, const char *closed_by)
 {
-    if (board[LEVELSPRUCE_BOARD_WAIT] != s->wait && !s->quiet)
-        printf("wait\t%s\n", board[LEVELSPRUCE_BOARD_WAIT] ? "open" : "closed");
+    if (board[LEVELSPRUCE_BOARD_WAIT] != s->wait && talks(s)) {
+        if (board[LEVELSPRUCE_BOARD_WAIT])
+            printf("wait\topen\n");
+        else
+            printf("wait\tclosed\tby %s\n", closed_by);
+    }
     s->wait = board[LEVELSPRUCE_BOARD_WAIT];
 }
 
@@ -89,7 +120,7 @@ void says_start(struct says *s, uint64_t epoch, uint32_t x, size_t bytes, const 
     uint8_t changes[LEVELSPRUCE_CHANGES_BYTES];
 
     must(levelspruce_board_changes(s->going, sizeof s->going, going, sizeof s->going, changes, sizeof changes), "the changes of the board going out");
-    if (s->quiet || (s->x == x && changes[LEVELSPRUCE_CHANGES_COUNT] == 0))
+    if ((s->x == x && changes[LEVELSPRUCE_CHANGES_COUNT] == 0) || !talks(s))
         return;
     printf("start\tepoch\t%" PRIu64 "\tmembers\t%" PRIu32 "\tbytes\t%lu\n", epoch, x, (unsigned long)bytes);
     says_changes(changes);
@@ -97,10 +128,10 @@ void says_start(struct says *s, uint64_t epoch, uint32_t x, size_t bytes, const 
     memcpy(s->going, going, sizeof s->going);
 }
 
-void says_told(const struct says *s, uint32_t number, uint32_t mst, uint32_t rs_ack)
+void says_told(struct says *s, uint64_t epoch, uint32_t mst, uint32_t rs_ack)
 {
-    if (!s->quiet)
-        printf("told\tepoch number\t%" PRIu32 "\tMST\t%02" PRIX32 "\tRS-Ack\t%" PRIu32 "\n", number, mst, rs_ack);
+    if (talks(s))
+        printf("told\tepoch\t%" PRIu64 "\tMST\t%02" PRIX32 "\tRS-Ack\t%" PRIu32 "\n", epoch, mst, rs_ack);
 }
 
 /* How a port does, in a word. */
@@ -129,37 +160,48 @@ void says_ports(struct says *s, const uint8_t (*ports)[LEVELSPRUCE_PORT_BYTES], 
     int reads = some_readable(s, ports);
     uint32_t i;
 
-    if (!s->quiet && reads != some_readable(s, (const uint8_t(*)[LEVELSPRUCE_PORT_BYTES])s->ports))
+    if (reads != some_readable(s, (const uint8_t(*)[LEVELSPRUCE_PORT_BYTES])s->ports) && talks(s))
         printf("receiving\t%s\tframe\t%" PRIu64 "\n", reads ? "begins" : "stops", time);
-    for (i = 0; i < s->slots && !s->quiet; i++) {
+    for (i = 0; i < s->slots; i++) {
         const uint8_t *now = ports[i], *before = s->ports[i];
 
-        if (strcmp(condition(now), condition(before)) != 0)
+        if (strcmp(condition(now), condition(before)) != 0 && talks(s))
             printf("port\t%" PRIu32 "\t%s\tframe\t%" PRIu64 "\n", i, condition(now), time);
-        if (now[LEVELSPRUCE_PORT_STATE] != before[LEVELSPRUCE_PORT_STATE] || now[LEVELSPRUCE_PORT_NUMBER] != before[LEVELSPRUCE_PORT_NUMBER])
+        if ((now[LEVELSPRUCE_PORT_STATE] != before[LEVELSPRUCE_PORT_STATE] || now[LEVELSPRUCE_PORT_NUMBER] != before[LEVELSPRUCE_PORT_NUMBER])
+            && talks(s))
             printf("port\t%" PRIu32 "\t%s\t%d\n", i, states[now[LEVELSPRUCE_PORT_STATE]], now[LEVELSPRUCE_PORT_NUMBER]);
     }
-    if (!s->quiet && rs_ack != s->rs_ack)
+    if (rs_ack != s->rs_ack && talks(s))
         printf("reply\tRS-Ack\t%d\n", rs_ack);
     memcpy(s->ports, ports, s->slots * sizeof s->ports[0]);
     s->rs_ack = rs_ack;
 }
 
-void says_report(const struct says *s, uint64_t epoch, uint8_t mark, size_t bytes, int right)
+void says_report(struct says *s, uint64_t epoch, uint8_t mark, size_t bytes, int right)
 {
-    static const char *const marks[] = { "none", "held", "doubtful", "sure" };
+    struct alike *a = &s->alike;
+    int goes_on = a->some && !s->each && a->mark == mark && a->bytes == bytes && a->right == right && a->last + 1 == epoch;
 
     if (s->quiet)
         return;
-    printf("epoch\t%" PRIu64 "\t%s\tbytes\t%lu", epoch, marks[mark], (unsigned long)bytes);
-    printf("%s\n", mark == LEVELSPRUCE_MARK_HELD ? "" : right ? "\tas sent" : "\tnot as sent");
+    if (!goes_on) {
+        says_end(s);
+        a->first = epoch;
+        a->mark = mark;
+        a->bytes = bytes;
+        a->right = right;
+        a->some = 1;
+    }
+    a->last = epoch;
 }
 
-void says_progress(const char *what, uint64_t done, uint64_t all)
+void says_progress(const struct says *s, const char *what, uint64_t done, uint64_t all)
 {
     static time_t last;
     time_t now = time(NULL);
 
+    if (s->quiet)
+        return;
     if (last == 0)
         last = now;
     if (now - last < 2)

@@ -31,7 +31,7 @@ typedef uint8_t command(uint8_t *state, size_t state_length, uint32_t slot);
 
 /* Gives each command that is due. One that meets an open wait is given again at the next start. */
 static void give(struct sending *s, const char *name, command *call, const struct events *events, uint8_t *done, uint64_t epoch,
-                 const struct says *says)
+                 struct says *says)
 {
     size_t i;
 
@@ -50,8 +50,16 @@ static void read_board(const struct sending *s, uint8_t *board)
     must(levelspruce_sender_board(s->state, sizeof s->state, board, LEVELSPRUCE_BOARD_BYTES), "levelspruce_sender_board");
 }
 
+static void tell_wait(const struct sending *s, struct says *says, const char *closed_by)
+{
+    uint8_t board[LEVELSPRUCE_BOARD_BYTES];
+
+    read_board(s, board);
+    says_wait(says, board, closed_by);
+}
+
 /* A far end that never answers must not keep a wait open for ever. */
-static void lapse_if_late(struct sending *s)
+static void lapse_if_late(struct sending *s, struct says *says)
 {
     uint8_t board[LEVELSPRUCE_BOARD_BYTES];
 
@@ -60,6 +68,7 @@ static void lapse_if_late(struct sending *s)
     if (s->waited > s->choices->lapse) {
         must(levelspruce_sender_lapse(s->state, sizeof s->state), "levelspruce_sender_lapse");
         s->waited = 0;
+        tell_wait(s, says, "lapse");
     }
 }
 
@@ -92,11 +101,10 @@ void sending_start_epoch(struct sending *s, uint64_t epoch, const struct client 
     struct carried *carried = &s->carried[epoch % CARRIED_MOST];
     uint8_t board[LEVELSPRUCE_BOARD_BYTES];
 
-    lapse_if_late(s);
+    lapse_if_late(s, says);
     give(s, "add", levelspruce_sender_add, &c->adds, s->added, epoch, says);
     give(s, "remove", levelspruce_sender_remove, &c->removes, s->removed, epoch, says);
-    read_board(s, board);
-    says_wait(says, board);
+    tell_wait(s, says, "nobody");
 
     /* This end receives nothing, so it has no member to call OK: MST is all ones, RS-Ack stays 0. */
     must(levelspruce_sender_start_epoch(s->state, sizeof s->state, next_gid(s), 0xFF, 0), "levelspruce_sender_start_epoch");
@@ -145,7 +153,7 @@ void sending_frame(struct sending *s, uint64_t n, struct client *client, struct 
     }
 }
 
-void sending_told(struct sending *s, const uint8_t *fields, struct says *says)
+void sending_told(struct sending *s, uint64_t epoch, const uint8_t *fields, struct says *says)
 {
     uint8_t before[LEVELSPRUCE_BOARD_BYTES], after[LEVELSPRUCE_BOARD_BYTES];
     uint32_t number = fields[LEVELSPRUCE_FIELD_EPOCH], mst = fields[LEVELSPRUCE_FIELD_MST], rs_ack = fields[LEVELSPRUCE_FIELD_RS_ACK];
@@ -154,8 +162,8 @@ void sending_told(struct sending *s, const uint8_t *fields, struct says *says)
     must(levelspruce_sender_report(s->state, sizeof s->state, number, mst, rs_ack), "levelspruce_sender_report");
     read_board(s, after);
     if (memcmp(before, after, sizeof before) != 0)
-        says_told(says, number, mst, rs_ack);
-    says_wait(says, after);
+        says_told(says, epoch, mst, rs_ack);
+    says_wait(says, after, "the far end");
 }
 
 const struct carried *sending_carried(const struct sending *s, uint64_t epoch)

@@ -16,7 +16,7 @@ int tally_open(struct tally *t, const char *out, int doubtful)
 }
 
 void tally_report(struct tally *t, uint64_t epoch, const struct report *report, const uint8_t *bytes, const struct sending *sending,
-                  struct client *client, const struct says *says)
+                  struct client *client, struct says *says)
 {
     const struct carried *carried = sending_carried(sending, epoch);
     int sure = report->mark == LEVELSPRUCE_MARK_SURE;
@@ -49,16 +49,16 @@ static void says_text(const struct client *client)
 
 int tally_close(struct tally *t, const struct client *client)
 {
-    int failed = t->out != NULL && ferror(t->out);
+    int failed = t->out != NULL && ferror(t->out), all_came = client_all_came(client);
 
     if (t->out != NULL && (fclose(t->out) != 0 || failed)) {
         fprintf(stderr, "link: what came out could not be written whole\n");
         return 2;
     }
-    if (client->repeats && client_all_came(client))
+    if (client->repeats && all_came)
         says_text(client);
     if (!client->repeats)
-        printf("file\tbytes\t%lu\t%s\n", (unsigned long)client->length, client_all_came(client) ? "all came out sure" : "not all came out sure");
+        printf("file\tbytes\t%lu\t%s\n", (unsigned long)client->length, all_came ? "all came out sure" : "not all came out sure");
     printf("held\tepochs\t%" PRIu64 "\n", t->epochs[LEVELSPRUCE_MARK_HELD]);
     printf("doubtful\tepochs\t%" PRIu64 "\n", t->epochs[LEVELSPRUCE_MARK_DOUBTFUL]);
     printf("doubtful\tbytes\t%" PRIu64 "\n", t->bytes[LEVELSPRUCE_MARK_DOUBTFUL]);
@@ -71,5 +71,5 @@ int tally_close(struct tally *t, const struct client *client)
         printf("no byte was sure\n");
     else
         printf("each sure byte was right\n");
-    return t->wrong > 0;
+    return t->wrong > 0 || (!client->repeats && !all_came);
 }

@@ -22,9 +22,9 @@ int tally_open(struct tally *t, const char *out, int doubtful);
 
 /* Compares a report with what its epoch carried, says and counts it, and writes its bytes out. */
 void tally_report(struct tally *t, uint64_t epoch, const struct report *report, const uint8_t *bytes, const struct sending *sending,
-                  struct client *client, const struct says *says);
+                  struct client *client, struct says *says);
 
-/* Says the end. The program's exit status. */
+/* Says the end. The program's exit status: 1 also where a file was to be delivered and not each byte of it was sure. */
 int tally_close(struct tally *t, const struct client *client);
 
 #endif

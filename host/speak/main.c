@@ -92,7 +92,9 @@ int main(void)
     struct line line;
     uint8_t answer;
 
-    levelspruce_sender_start(0, 0, sender, sizeof sender); /* before any size there are no slots */
+    /* before any size there are no slots: an empty group, under 4 */
+    if (levelspruce_sender_start(0, 0, sender, sizeof sender) != LEVELSPRUCE_ANSWER_RANGE)
+        return 2;
     take(heard);
     while (next_line(stdin, &line)) {
         answer = done(&line);

@@ -27,6 +27,19 @@ sanitized_run() {
 # builds_and_runs_c COMPILER WORD..: and whether the program runs here.
 builds_and_runs_c() { builds_c "$@" && sanitized_run "$room/try" >/dev/null 2>&1; }
 
+# has_archive_compiler: whether there is a C compiler for the archive's processor, if need be once it is installed; a line
+# says so if not. Makes a folder $room where there is none.
+has_archive_compiler() {
+    if [ -z "${room:-}" ]; then
+        room=$(mktemp -d) || exit 2
+        trap 'rm -rf "$room"' EXIT
+    fi
+    # shellcheck disable=SC2154,SC2086
+    at_hand "$archive_packages" builds_c $archive_compiler && return
+    echo "no C compiler is here, and none could be installed: $archive_compiler" >&2
+    return 1
+}
+
 has_clang() { command -v clang >/dev/null; }
 
 # builds_fuzzer COMPILER WORD..: whether it builds a program of libFuzzer that runs here.

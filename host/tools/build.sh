@@ -2,11 +2,47 @@
 
 strict='-Wall -Wextra -Werror -pedantic -Iinclude'
 
-# build_c NAME SOURCE: a C program over the archive.
-build_c() {
+# is_made FILE PART..: whether it is there and older than nothing that it is made of.
+is_made() {
+    made=$1
+    shift
+    [ -f "$made" ] && [ -z "$(find "$@" -newer "$made" | head -n 1)" ]
+}
+
+# The library's version, as its header has it.
+version() { sed -n 's/^#define LEVELSPRUCE_VERSION "\(.*\)"$/\1/p' include/levelspruce.h; }
+
+# build_archive: the archive of what is proved and of the texts.
+build_archive() {
+    # shellcheck disable=SC2086
+    $archive_compiler -std=c99 $strict -O2 -fPIC -c host/library/texts.c -o target/staticlib/texts.o &&
+        cp "$proved" "$archive.new" && "$archive_ar" rs "$archive.new" target/staticlib/texts.o && mv "$archive.new" "$archive"
+}
+
+# The first two numbers of the version: with another of them calls may have changed.
+series() { version | cut -d . -f 1,2; }
+
+# build_shared FILE: the shared library. Its name for programs that were linked with it goes by the version's first two numbers.
+build_shared() {
+    "$shared_compiler" -shared -o "$1" -Wl,-soname,"liblevelspruce.so.$(series)" \
+        -Wl,--version-script=host/library/exports -Wl,-z,defs -Wl,--whole-archive "$archive" -Wl,--no-whole-archive
+}
+
+# build_choices: the program that only reads the example link's choices.
+build_choices() {
     mkdir -p target/host
     # shellcheck disable=SC2086
-    $archive_compiler -std=c99 $strict -O2 "$2" "$archive" -o "target/host/$1"
+    $archive_compiler -std=c99 $strict host/choices/main.c host/link/choices.c host/link/client.c host/link/drawing.c host/link/random.c \
+        -o target/host/choices
+}
+
+# build_c NAME SOURCE WORD..: a C program over the archive.
+build_c() {
+    c_name=$1 c_source=$2
+    shift 2
+    mkdir -p target/host
+    # shellcheck disable=SC2086
+    $archive_compiler -std=c99 $strict -O2 "$@" "$c_source" "$archive" -o "target/host/$c_name"
 }
 
 # build_link: the example link.
@@ -47,9 +83,9 @@ build_reference() {
     rustc --edition 2021 -O --crate-type rlib --crate-name reference host/reference/lib.rs -o target/host/libreference.rlib
 }
 
-# build_links: the program that checks the reference's receiver.
-build_links() {
-    build_reference && rustc --edition 2021 -O host/links/main.rs --extern reference=target/host/libreference.rlib -o target/host/links
+# build_reference_test: the program that checks the reference's receiver.
+build_reference_test() {
+    build_reference && rustc --edition 2021 -O host/reference-test/main.rs --extern reference=target/host/libreference.rlib -o target/host/reference-test
 }
 
 # build_sessions: the program that holds the session program to the reference.
@@ -64,7 +100,7 @@ build_differential() {
             -C link-arg="$own_library" -o target/host/differential
 }
 
-# build_crossings: the program that runs the example link over made-up links.
-build_crossings() {
-    rustc --edition 2021 -O host/crossings/main.rs -o target/host/crossings
+# build_link_test: the program that runs the example link over made-up links.
+build_link_test() {
+    rustc --edition 2021 -O host/link-test/main.rs -o target/host/link-test
 }

@@ -5,23 +5,45 @@
 # compiler and run under the toolchain's emulator; programs that are built for the machine itself (Rust, sanitizers,
 # C++) link an object of the same proved module.
 
-archive=target/staticlib/libc_face.a
+proved=target/staticlib/libc_face.a        # what rt writes
+archive=target/staticlib/liblevelspruce.a  # the same with the texts, which are C
+
+# The toolchain's folder. Where rt is not on PATH, it is the one that was there at the last proof.
+kit() {
+    if command -v rt >/dev/null; then
+        dirname "$(dirname "$(rt doc)")"
+    else
+        cat target/kit 2>/dev/null
+    fi
+}
+
 case $(uname -m) in
 aarch64)
     archive_compiler='x86_64-linux-gnu-gcc -static'
+    archive_ar=x86_64-linux-gnu-ar
     archive_packages='gcc-x86-64-linux-gnu libc6-dev-amd64-cross'
-    emulator="$(dirname "$(dirname "$(rt doc)")")/on/aarch64/toolchain/bin/qemu-x86_64"
-    own_library=target/host/c_face.o
+    shared_compiler=x86_64-linux-gnu-gcc
+    emulator="$(kit)/on/aarch64/toolchain/bin/qemu-x86_64"
+    own_library=target/host/liblevelspruce.a
     own_library_possible() { has_python; }
-    make_own_library() { mkdir -p target/host && python3 host/tools/native-object c_face "$own_library"; }
+    make_own_library() {
+        mkdir -p target/host && rm -f "$own_library" && python3 host/tools/native-object c_face target/host/c_face.o &&
+            gcc -std=c99 -O2 -fPIC -Iinclude -c host/library/texts.c -o target/host/texts.o &&
+            ar rcs "$own_library" target/host/c_face.o target/host/texts.o
+    }
+    # a program of x86-64 that finds its libraries, and those in the folder FOLDER, while it runs
+    run_shared_program() { LD_LIBRARY_PATH='' "$emulator" -L /usr/x86_64-linux-gnu -E LD_LIBRARY_PATH="$1" "$2"; }
     ;;
 *)
     archive_compiler=gcc
+    archive_ar=ar
     archive_packages='gcc libc6-dev'
+    shared_compiler=gcc
     emulator=''
     own_library=$archive
     own_library_possible() { :; }
     make_own_library() { :; }
+    run_shared_program() { LD_LIBRARY_PATH=$1 "$2"; }
     ;;
 esac
 
@@ -30,7 +52,7 @@ run_archive_program() { $emulator "$@"; }
 
 # The words that run a program that rt linked. It needs the toolchain's C library, of which an emulator has to be told.
 if [ -n "$emulator" ]; then
-    libraries=$(dirname "$(dirname "$(rt doc)")")/on/$(uname -m)/toolchain/lib
+    libraries=$(kit)/on/$(uname -m)/toolchain/lib
     linked="$emulator $libraries/ld-linux-x86-64.so.2 --library-path $libraries"
 else
     linked=''

@@ -8,6 +8,7 @@ pub struct Line {
     pub first: u64,
 }
 
+#[derive(PartialEq)]
 pub struct Report {
     pub epoch: u64,
     pub mark: String,
@@ -37,6 +38,15 @@ fn number(fields: &[&str], word: &str) -> u64 {
     fields[at + 1].parse().unwrap_or_else(|_| panic!("a number behind {word} in {fields:?}"))
 }
 
+/// The bytes of a report; a held one has none.
+fn bytes(fields: &[&str], word: &str) -> u64 {
+    if fields.contains(&"held") {
+        0
+    } else {
+        number(fields, word)
+    }
+}
+
 pub fn read(text: &str) -> Lines {
     let mut read = Lines::default();
     for line in text.lines() {
@@ -52,11 +62,12 @@ pub fn read(text: &str) -> Lines {
             }
             ("receiving", "begins") => read.begun.push((number(&fields, "frame"), read.reports.len())),
             ("add", _) | ("remove", _) => read.answered_wait += usize::from(number(&fields, "answer") == 3),
-            ("epoch", _) => read.reports.push(Report {
-                epoch: number(&fields, "epoch"),
-                mark: fields[2].to_string(),
-                bytes: number(&fields, "bytes"),
-            }),
+            ("epoch", _) => read.reports.push(Report { epoch: number(&fields, "epoch"), mark: fields[2].to_string(), bytes: bytes(&fields, "bytes") }),
+            ("epochs", _) => {
+                for epoch in number(&fields, "epochs")..=number(&fields, "to") {
+                    read.reports.push(Report { epoch, mark: fields[4].to_string(), bytes: bytes(&fields, "bytes each") });
+                }
+            }
             _ => {}
         }
         read.last = line.to_string();

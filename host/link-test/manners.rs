@@ -4,7 +4,7 @@ use crate::count::Count;
 use crate::{lines, Program};
 
 /// Wrong choices, and a word that the answer must have.
-const WRONG: [(&[&str], &str); 22] = [
+const WRONG: [(&[&str], &str); 23] = [
     (&["--slot", "3"], "no choice '--slot'"),
     (&["file"], "no choice 'file'"),
     (&["--slots"], "--slots wants a value"),
@@ -25,6 +25,7 @@ const WRONG: [(&[&str], &str); 22] = [
     (&["--damage", "3:4"], "EPOCH:SLOT"),
     (&["--fail", "1:9-8"], "FROM not above TO"),
     (&["--seed", "99999999999999999999999"], "--seed"),
+    (&["--doubtful"], "there is no --out"),
     (&["--file", "/no/such/file"], "cannot read"),
     (&["--out", "/no/such/folder/file"], "cannot write"),
 ];
@@ -49,7 +50,7 @@ pub fn check(program: &Program, count: &mut Count) {
     count.note("wrong choices get one clear line and status 2", held == WRONG.len());
 
     let (status, help) = said(program, &["--help"]);
-    let named = ["--slots", "--payload", "--window", "--delays", "--first", "--seed", "--epochs", "--damage", "--fail", "--file", "--out", "--quiet"];
+    let named = ["--slots", "--payload", "--window", "--delays", "--first", "--seed", "--epochs", "--damage", "--fail", "--file", "--out", "--each", "--quiet"];
     count.note("--help names the choices", status == Some(0) && named.iter().all(|n| help.contains(n)));
 
     let (status, text) = said(program, &[]);
@@ -65,6 +66,24 @@ pub fn check(program: &Program, count: &mut Count) {
     count.note("a member is added and one removed", told("slot\t5\tEOS\t5") && told("slot\t0\tIDLE\t255") && told("port\t3\tIDLE\t255"));
     let counted = ["held", "doubtful", "sure"].iter().all(|m| text.contains(&format!("\n{m}\tepochs\t{}", marked(m))));
     count.note("the end counts the epochs by their marks", counted && marked("sure") > 80);
+
+    let said_of_epochs = |text: &str| text.lines().filter(|l| l.starts_with("epoch")).count();
+    let (_, each) = said(program, &["--each"]);
+    let others = |text: &str| text.lines().filter(|l| !l.starts_with("epoch")).map(str::to_string).collect::<Vec<_>>();
+    count.note("epochs that say the same in a row are one line", said_of_epochs(&text) < 40 && text.lines().any(|l| l.starts_with("epochs\t")));
+    count.note(
+        "--each gives each epoch a line, and nothing else is another",
+        lines::read(&each).reports == read.reports && said_of_epochs(&each) == read.reports.len() && others(&each) == others(&text),
+    );
+    let slots: Vec<&str> = text.lines().filter(|l| l.starts_with("slot\t")).collect();
+    let last_of = |i: usize| slots[..i].iter().rev().find(|l| l.split('\t').nth(1) == slots[i].split('\t').nth(1));
+    count.note(
+        "a slot is a line of its own, and none is said again as it was",
+        slots.iter().all(|l| l.split('\t').count() == 4) && (0..slots.len()).all(|i| last_of(i) != Some(&slots[i])) && !text.contains("board"),
+    );
+    let numbered = text.lines().filter(|l| l.starts_with("told\t") || l.starts_with("start\t")).filter_map(|l| l.split('\t').nth(2)?.parse::<u64>().ok());
+    let numbered: Vec<u64> = numbered.collect();
+    count.note("epochs are counted in one way", numbered.len() > 8 && numbered.iter().all(|e| *e < 160) && text.contains("told\tepoch\t"));
 
     let (status, quiet) = said(program, &["--quiet"]);
     count.note("--quiet prints the end alone", status == Some(0) && text.ends_with(&quiet) && quiet.lines().count() < 20);
@@ -84,11 +103,12 @@ pub fn check(program: &Program, count: &mut Count) {
     let file = program.path("gone.in");
     std::fs::write(&file, vec![7; 1_000_000]).expect("the file is written");
     let (status, gone) = said(program, &["--slots", "2", "--payload", "9", "--remove", "40:0,40:1", "--quiet", "--file", &file]);
-    count.note("a file that no member carries any more is given up", status == Some(0) && gone.contains("not all came out sure"));
+    count.note("a file that no member carries any more is given up, and the status is 1", status == Some(1) && gone.contains("not all came out sure"));
 
     let (_, waiting) = said(program, &["--slots", "2", "--remove", "40:0,40:1", "--add", "0:0,0:1"]);
+    count.note("a wait that is answered is closed by the far end", waiting.contains("wait\tclosed\tby the far end\n") && !waiting.contains("by lapse"));
     count.note("a command under an open wait is answered 3 and given again", waiting.contains("remove\tslot\t1\tanswer\t3\n") && waiting.contains("remove\tslot\t1\tanswer\t0\n"));
 
     let (_, unheard) = said(program, &["--slots", "2", "--back", "8000", "--lapse", "3", "--epochs", "40", "--remove", "9:0,9:1"]);
-    count.note("a wait that nobody answers lapses", unheard.contains("wait\tclosed") && unheard.contains("remove\tslot\t1\tanswer\t0\n"));
+    count.note("a wait that nobody answers lapses, and the line says so", unheard.contains("wait\tclosed\tby lapse\n") && unheard.contains("remove\tslot\t1\tanswer\t0\n"));
 }

@@ -1,7 +1,7 @@
 //! Runs the example link over many made-up links, a file through each, and holds what it prints and writes to what went
 //! in, byte for byte. Every run makes the same ones.
 //!
-//! Usage: crossings FOLDER COMMAND WORD.., where FOLDER takes files and COMMAND runs the example link.
+//! Usage: link-test FOLDER COMMAND WORD.., where FOLDER takes files and COMMAND runs the example link.
 
 #[path = "../differential/count.rs"]
 #[allow(dead_code)] // not all of it is used here
@@ -79,6 +79,7 @@ fn whole(lines: &Lines, epochs: u64) -> bool {
 
 struct Crossed {
     held: bool,
+    whole: bool,
     failures: usize,
     sure: usize,
     bytes: usize,
@@ -104,13 +105,15 @@ fn cross(program: &Program, seed: u64) -> Crossed {
     let came = std::fs::read(&to).expect("what came out is read");
     let sure = lines.reports.iter().filter(|r| r.mark == "sure").count();
     let right = came == sure_bytes(&lines, epochs, &file);
-    let ended = output.status.success() && ["each sure byte was right", "no byte was sure"].contains(&lines.last.as_str());
+    // status 0 where each byte of the file came out sure, and 1 where not
+    let status = i32::from(text.contains("\tnot all came out sure\n"));
+    let ended = output.status.code() == Some(status) && ["each sure byte was right", "no byte was sure"].contains(&lines.last.as_str());
     let bears = lines.failures > 0 || lines.spread() + 16 > lines.window || whole(&lines, epochs);
     let held = right && ended && in_order(&lines) && bears;
     if !held {
         println!("differs\tseed {seed}\tbytes right {right}\tended {ended}\tin order {}\twhole {bears}\t{}", in_order(&lines), choices.join(" "));
     }
-    Crossed { held, failures: lines.failures, sure, bytes: came.len() }
+    Crossed { held, whole: status == 0, failures: lines.failures, sure, bytes: came.len() }
 }
 
 fn main() {
@@ -131,6 +134,7 @@ fn main() {
     );
     count.note("files cross made-up links byte for byte", crossed.iter().all(|c| c.held));
     count.note("most made-up links carry bytes", 4 * total(|c| usize::from(c.bytes > 0)) > 3 * crossed.len());
+    count.note("some files come out whole, some do not", (20..=280).contains(&total(|c| usize::from(c.whole))));
     count.note("many have failures, many have none", (60..=240).contains(&total(|c| usize::from(c.failures > 0))));
 
     std::process::exit(count.tally());

@@ -1,0 +1,145 @@
+/* How much stack the calls take: each group of them runs in a thread whose stack is painted before, and what is no longer
+ * painted afterwards was used. docs/MANUAL.md has the number. */
+#define _POSIX_C_SOURCE 200809L
+#include <levelspruce.h>
+
+#include <pthread.h>
+#include <stdlib.h>
+#include <string.h>
+
+#include "check.h"
+
+enum { STACK = 1 << 20, PAINT = 0xA5, PORTS = LEVELSPRUCE_PORTS_MOST, P = LEVELSPRUCE_PAYLOAD_MOST, W = 64, MOST = 4096 };
+
+static uint8_t sender[LEVELSPRUCE_SENDER_BYTES], receiver[LEVELSPRUCE_RECEIVER_ROWS(PORTS)][LEVELSPRUCE_ROW_BYTES];
+static uint8_t h4[LEVELSPRUCE_PACKET_BYTES], frame[PORTS * P], member[PORTS * P], ports[PORTS][LEVELSPRUCE_PORT_BYTES];
+static uint8_t board[LEVELSPRUCE_BOARD_BYTES], ranks[LEVELSPRUCE_RANKS_BYTES], reply[LEVELSPRUCE_REPLY_BYTES];
+static uint8_t fields[LEVELSPRUCE_FIELDS_BYTES], report[LEVELSPRUCE_REPORT_BYTES];
+static uint8_t store[LEVELSPRUCE_STORE_BYTES(PORTS, P, W)], out[LEVELSPRUCE_OUTPUT_BYTES(PORTS, P)];
+static unsigned answers; /* all of them, so that none is left out */
+static int reported;
+
+static void nothing(void)
+{
+}
+
+static void packets(void)
+{
+    answers |= levelspruce_packet_write(7, LEVELSPRUCE_WORD_NORM, 1, 0x5A, 1, 9, 0x155AA55, h4, sizeof h4);
+    answers |= levelspruce_packet_read(h4, sizeof h4, fields, sizeof fields);
+}
+
+static void payloads(void)
+{
+    answers |= levelspruce_spread(PORTS, P, frame, sizeof frame, member, sizeof member);
+    answers |= levelspruce_join(PORTS, P, member, sizeof member, frame, sizeof frame);
+}
+
+/* 64 members that become active and are removed, with all that is read of them. */
+static void sending(void)
+{
+    uint32_t slot, epoch;
+
+    answers |= levelspruce_sender_start(PORTS, 0, sender, sizeof sender);
+    for (slot = 0; slot < PORTS; slot++)
+        answers |= levelspruce_sender_add(sender, sizeof sender, slot);
+    for (epoch = 0; epoch < 40; epoch++) {
+        answers |= levelspruce_sender_report(sender, sizeof sender, epoch, 0, epoch & 1);
+        answers |= levelspruce_sender_start_epoch(sender, sizeof sender, 1, 0, 0);
+    }
+    answers |= levelspruce_sender_board(sender, sizeof sender, board, sizeof board);
+    answers |= levelspruce_sender_board_going(sender, sizeof sender, board, sizeof board);
+    answers |= levelspruce_sender_ranks(sender, sizeof sender, ranks, sizeof ranks);
+    answers |= levelspruce_sender_packet(sender, sizeof sender, 3, h4, sizeof h4);
+    answers |= levelspruce_sender_payload(sender, sizeof sender, 3, P, frame, (size_t)ranks[LEVELSPRUCE_RANKS_X] * P, member, P);
+    while (board[LEVELSPRUCE_BOARD_WAIT]) {
+        answers |= levelspruce_sender_lapse(sender, sizeof sender);
+        answers |= levelspruce_sender_board(sender, sizeof sender, board, sizeof board);
+    }
+    answers |= levelspruce_sender_remove(sender, sizeof sender, 5);
+}
+
+/* 64 ports that come into step, carry bytes and are reported, one that fails, and what is read of them. */
+static void receiving(void)
+{
+    uint32_t port, n;
+
+    answers |= levelspruce_receiver_start(PORTS, P, W, sizeof store, receiver, LEVELSPRUCE_RECEIVER_ROWS(PORTS));
+    for (n = 0; n < 10 * LEVELSPRUCE_EPOCH_FRAMES; n++)
+        for (port = 0; port < PORTS; port++) {
+            uint8_t answer;
+
+            answers |= levelspruce_packet_write(n / LEVELSPRUCE_EPOCH_FRAMES, port + 1 < PORTS ? LEVELSPRUCE_WORD_NORM : LEVELSPRUCE_WORD_EOS, 0, 0, 0, port, 0, h4, sizeof h4);
+            answer = levelspruce_receiver_frame(receiver, LEVELSPRUCE_RECEIVER_ROWS(PORTS), port, n > 150 && port == 1, h4[n % LEVELSPRUCE_EPOCH_FRAMES],
+                                                member, P, store, sizeof store);
+            if (answer != LEVELSPRUCE_ANSWER_STEP && answer != LEVELSPRUCE_ANSWER_FAILED)
+                answers |= answer;
+            answers |= levelspruce_receiver_fetch(receiver, LEVELSPRUCE_RECEIVER_ROWS(PORTS), store, sizeof store, out, sizeof out, report, sizeof report);
+            reported += report[LEVELSPRUCE_REPORT_MARK] == LEVELSPRUCE_MARK_SURE && report[LEVELSPRUCE_REPORT_X] == PORTS;
+        }
+    answers |= levelspruce_receiver_ports((const uint8_t(*)[LEVELSPRUCE_ROW_BYTES])receiver, LEVELSPRUCE_RECEIVER_ROWS(PORTS), ports, PORTS);
+    answers |= levelspruce_receiver_reply((const uint8_t(*)[LEVELSPRUCE_ROW_BYTES])receiver, LEVELSPRUCE_RECEIVER_ROWS(PORTS), 0, reply, sizeof reply);
+}
+
+/* The longest search, and a check of what it finds. */
+static void planning(void)
+{
+    uint8_t plan[LEVELSPRUCE_PLAN_BYTES], accepted[1];
+    uint32_t delays[LEVELSPRUCE_PATHS_MOST], i;
+
+    for (i = 0; i < LEVELSPRUCE_PATHS_MOST; i++)
+        delays[i] = i * 2477 % (LEVELSPRUCE_DELAY_MOST + 1);
+    answers |= levelspruce_paths_plan(delays, LEVELSPRUCE_PATHS_MOST, 20, LEVELSPRUCE_WINDOW_MOST, plan, sizeof plan);
+    answers |= levelspruce_paths_check(delays, LEVELSPRUCE_PATHS_MOST, 20, LEVELSPRUCE_WINDOW_MOST, plan + LEVELSPRUCE_PLAN_EACH, 20, accepted, sizeof accepted);
+    answers |= accepted[0] != 1;
+}
+
+static void (*calls)(void);
+
+static void *call(void *unused)
+{
+    calls();
+    return unused;
+}
+
+/* The bytes of stack that these calls take in a thread of their own. */
+static size_t stack_of(void (*these)(void))
+{
+    static uint8_t *stack;
+    pthread_attr_t attributes;
+    pthread_t thread;
+    size_t left = 0;
+
+    if (stack == NULL && posix_memalign((void **)&stack, 65536, STACK) != 0)
+        return STACK;
+    calls = these;
+    memset(stack, PAINT, STACK);
+    if (pthread_attr_init(&attributes) != 0 || pthread_attr_setstack(&attributes, stack, STACK) != 0
+        || pthread_create(&thread, &attributes, call, NULL) != 0 || pthread_join(thread, NULL) != 0)
+        return STACK;
+    while (left < STACK && stack[left] == PAINT)
+        left++;
+    return STACK - left;
+}
+
+int main(void)
+{
+    static const struct {
+        const char *name;
+        void (*calls)(void);
+    } groups[] = { { "packets", packets }, { "payload", payloads }, { "sender", sending }, { "receiver", receiving }, { "paths", planning } };
+    size_t own, i, most = 0;
+
+    stack_of(nothing); /* what is done once */
+    own = stack_of(nothing);
+    for (i = 0; i < COUNT(groups); i++) {
+        size_t used = stack_of(groups[i].calls) - own;
+
+        printf("stack\t%s\tbytes\t%lu\n", groups[i].name, (unsigned long)used);
+        if (used > most)
+            most = used;
+    }
+    check("every call was done, and epochs of 64 members were reported", answers == 0 && reported > 3);
+    check("no call takes more than 4,096 bytes of stack", most > 0 && most <= MOST);
+    return tally();
+}

@@ -1,0 +1,61 @@
+/* The texts of the library: its version, what an answer means, the name of a control word. Nothing else of it is C. */
+#include <levelspruce.h>
+
+const char *levelspruce_version(void)
+{
+    return LEVELSPRUCE_VERSION;
+}
+
+const char *levelspruce_answer_text(uint32_t answer)
+{
+    switch (answer) {
+    case LEVELSPRUCE_ANSWER_DONE:
+        return "done";
+    case LEVELSPRUCE_ANSWER_SLOT:
+        return "the slot or port is not below the group's count";
+    case LEVELSPRUCE_ANSWER_STATE:
+        return "not allowed now, by the slot's state, with no wait open, or before the first epoch";
+    case LEVELSPRUCE_ANSWER_WAIT:
+        return "a wait is open";
+    case LEVELSPRUCE_ANSWER_RANGE:
+        return "a count, P, W, X or delay is out of range";
+    case LEVELSPRUCE_ANSWER_CRC:
+        return "the packet's CRC differs";
+    case LEVELSPRUCE_ANSWER_UNASSIGNED:
+        return "the packet's control word is unassigned";
+    case LEVELSPRUCE_ANSWER_FIXED:
+        return "the packet's control word is FIXED";
+    case LEVELSPRUCE_ANSWER_FIELD:
+        return "a field is too large, or its control word cannot be written";
+    case LEVELSPRUCE_ANSWER_LENGTH:
+        return "a buffer has the wrong length";
+    case LEVELSPRUCE_ANSWER_FAILED:
+        return "the frame came flagged as failed";
+    case LEVELSPRUCE_ANSWER_OUTSIDE:
+        return "the frame lies outside the window; hand it again after a report";
+    case LEVELSPRUCE_ANSWER_STEP:
+        return "the port is not in step after this frame";
+    default:
+        return "no call answers this number";
+    }
+}
+
+const char *levelspruce_word_name(uint32_t word)
+{
+    switch (word) {
+    case LEVELSPRUCE_WORD_FIXED:
+        return "FIXED";
+    case LEVELSPRUCE_WORD_ADD:
+        return "ADD";
+    case LEVELSPRUCE_WORD_NORM:
+        return "NORM";
+    case LEVELSPRUCE_WORD_EOS:
+        return "EOS";
+    case LEVELSPRUCE_WORD_IDLE:
+        return "IDLE";
+    case LEVELSPRUCE_WORD_DNU:
+        return "DNU";
+    default:
+        return "unassigned";
+    }
+}
