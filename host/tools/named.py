@@ -35,10 +35,10 @@ def words(folders):
 
 
 def blocks(page):
-    """Each item or paragraph in one line, with the heading above it."""
+    """Each item, paragraph or row of a table in one line, with the heading above it."""
     heading, lines = "", []
     for line in page.splitlines() + [""]:
-        if lines and (not line.strip() or line.startswith(("- ", "#"))):
+        if lines and (not line.strip() or line.startswith(("- ", "#", "|"))):
             yield heading, " ".join(lines)
             lines = []
         if line.startswith("#"):
