@@ -3,20 +3,17 @@
 //!
 //! Members stand in a list. A member's number is its place in that list, and is kept nowhere else.
 
-use crate::packet::{self, Fields, ADD, DNU, EOS, IDLE, NORM};
+use crate::packet::{self, Fields, ADD, DNU, DONE, EOS, FIELD_REFUSED, IDLE, LENGTH_WRONG, NORM};
 use crate::payload::PAYLOAD_MOST;
 
 pub const SLOTS_MOST: u32 = 64;
 /// The number that an IDLE slot shows.
 pub const NUMBER_IDLE: u32 = 255;
 
-const DONE: u8 = 0;
 const NO_SUCH_SLOT: u8 = 1;
 const NOT_NOW: u8 = 2;
 const WAIT_OPEN: u8 = 3;
 const OUT_OF_RANGE: u8 = 4;
-const FIELD_REFUSED: u8 = 8;
-const LENGTH_WRONG: u8 = 9;
 
 /// What a slot is that is not IDLE.
 #[derive(Clone, Copy, PartialEq, Debug)]
@@ -48,7 +45,8 @@ pub struct Table {
 /// number.
 fn said(epoch: u32, mst: u32, number: usize) -> Option<bool> {
     let first = 8 * (epoch as usize % 32);
-    (first..first + 8).position(|spoken_of| spoken_of == number).map(|bit| mst & (0x80 >> bit) == 0)
+    let place = number.checked_sub(first).filter(|place| *place < 8)?;
+    Some(mst & (0x80 >> place) == 0)
 }
 
 impl Table {
@@ -65,6 +63,7 @@ impl Table {
         self.count
     }
 
+    /// Whether a wait is open.
     pub fn waits(&self) -> bool {
         self.awaited.is_some()
     }
@@ -82,10 +81,12 @@ impl Table {
         self.awaited.map(|_| WAIT_OPEN)
     }
 
+    /// The next turn of RS-Ack closes it.
     fn open_wait(&mut self) {
         self.awaited = Some(!self.heard);
     }
 
+    /// The slot goes to the end of the list: it has the next free number.
     pub fn add(&mut self, slot: u32) -> u8 {
         match (self.refusal(slot), self.number(slot)) {
             (Some(answer), _) => answer,
@@ -110,6 +111,7 @@ impl Table {
         }
     }
 
+    /// Closes the wait. The remembered RS-Ack stays.
     pub fn lapse(&mut self) -> u8 {
         match self.awaited.take() {
             Some(_) => DONE,
@@ -117,7 +119,7 @@ impl Table {
         }
     }
 
-    /// Takes a report. Epoch and MST are bytes.
+    /// Takes a report; epoch and MST are bytes. With a wait open the MST is ignored, also where this closes the wait.
     pub fn report(&mut self, epoch: u32, mst: u32, rs_ack: bool) -> u8 {
         match self.awaited {
             Some(awaited) if awaited != rs_ack => {}

@@ -1,7 +1,7 @@
 //! The text session over the sender's table. Written from 01 and its readings alone, without sight of the proved code and
 //! its definitions.
 
-use crate::packet::{ADD, DNU, EOS, NORM};
+use crate::packet::{ADD, DNU, DONE, EOS, NORM};
 use crate::sender::{Board, Table};
 
 const LINE_MOST: usize = 80;
@@ -48,7 +48,8 @@ fn line(bytes: &[u8]) -> Option<Line> {
         [b"add", slot] => number(slot).map(Line::Add),
         [b"remove", slot] => number(slot).map(Line::Remove),
         [b"report", epoch, mst, rs_ack] => {
-            Some(Line::Report { epoch: number_to(255, epoch)?, mst: two_hex_digits(mst)?, rs_ack: number_to(1, rs_ack)? == 1 })
+            let (epoch, mst, rs_ack) = (number_to(255, epoch)?, two_hex_digits(mst)?, number_to(1, rs_ack)?);
+            Some(Line::Report { epoch, mst, rs_ack: rs_ack == 1 })
         }
         [b"lapse"] => Some(Line::Lapse),
         [b"board"] => Some(Line::Board),
@@ -61,7 +62,7 @@ fn size(table: &mut Table, count: u32) -> u8 {
     match Table::start(count) {
         Ok(fresh) => {
             *table = fresh;
-            0
+            DONE
         }
         Err(answer) => answer,
     }
