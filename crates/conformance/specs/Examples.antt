@@ -64,7 +64,7 @@ use Rattle.spoken.specs.Applying.{appliedOf, changesFit, fits, withChanges}
 use Rattle.spoken.specs.Changes.{changesIn, changesOf, comparedOf, listOf, noChanges}
 use Rattle.spoken.specs.declared.lists.Changes.{Changes}
 use Rattle.spoken.specs.Shown.{appliedNumbers, comparedNumbers}
-use Rattle.spoken.specs.Speaking.{changeText, nowText, rowText, spokenText, waitLine, wasText}
+use Rattle.spoken.specs.Speaking.{canSpeak, changeText, changesSpeak, nowText, rowText, spokenText, waitLine, wasText}
 use Rattle.spoken.specs.Speaking.{slotText as spokenSlot}
 use Rattle.spoken.specs.Taking.{takenOf as boardTaken}
 use Rattle.step.specs.Arrival.{arrives, frameDropped, byStart, byWindow, countsOn, distanceIn, flagged, inStep, joining, keeps, outside, readable, takenOf}
@@ -154,6 +154,10 @@ p8-second = senderRun p8-first (OnTable (Report 0 0xBF 0) ∷ OnTable (RemoveSlo
 -- the lines from one board that went out to the next
 abbrev spokenLines : Sender → Sender → List ℕ
 spokenLines old new = spokenText (comparedOf (boardTaken old) (boardTaken new) .changes)
+
+-- 1 where changes can be spoken
+abbrev sayable : Changes → ℕ
+sayable cs = cond (canSpeak cs) 1 0
 
 -- one port in step, its latest tag 4,095
 abbrev p5 : Host
@@ -289,6 +293,19 @@ table =
           ascii "slot\t0\twas\tIDLE\t255\tnow\tADD\t0\nslot\t1\twas\tIDLE\t255\tnow\tADD\t1\n"
           ++ ascii "slot\t0\twas\tADD\t0\tnow\tADD\t1\nslot\t1\twas\tADD\t1\tnow\tEOS\t0\nwait\topen\n";
     }
+    ∷ record {
+      name = "a wait that closes is spoken alone";
+      given = spokenText (comparedOf (boardOf (after 3 p9)) (boardOf (after 3 (p9 ++ (Lapse ∷ [])))) .changes);
+      said = ascii "wait\tclosed\n";
+    }
+    ∷ record {
+      name = "each of the five words can be spoken";
+      given =
+          sayable (comparedOf (boardTaken (beginOf 0 2 0 .sender)) (boardTaken p8-first) .changes)
+          ∷ sayable (comparedOf (boardOf (after 2 (active 0 ++ active 1))) (boardOf (after 2 p10)) .changes)
+          ∷ [];
+      said = 1 ∷ 1 ∷ [];
+    }
     ∷ record { name = "equal boards are silent"; given = comparedNumbers (boardOf (after 3 p9)) (boardOf (after 3 p9)); said = 0 ∷ 0 ∷ [] }
     ∷ record { name = "boards of 2 and of 3 slots"; given = comparedNumbers (boardOf (after 2 p10)) (boardOf (after 3 p9)); said = 4 ∷ 0 ∷ [] }
     ∷ record { name = "64 slots start"; given = started 64; said = 0 ∷ 64 ∷ [] }
@@ -344,12 +361,12 @@ table =
       said = 4 ∷ 4 ∷ 4 ∷ 4 ∷ 4 ∷ 4 ∷ [];
     }
     ∷ record {
-      name = "the check of 3 2, of 2 2, of 2 alone and of 2 64";
-      given = accepted (3 ∷ 2 ∷ []) ∷ accepted (2 ∷ 2 ∷ []) ∷ accepted (2 ∷ []) ∷ accepted (2 ∷ 64 ∷ []) ∷ [];
-      said = 1 ∷ 0 ∷ 0 ∷ 0 ∷ [];
+      name = "the check of 3 2, of 2 2, of 2 alone, of 2 64 and of 0 64";
+      given = accepted (3 ∷ 2 ∷ []) ∷ accepted (2 ∷ 2 ∷ []) ∷ accepted (2 ∷ []) ∷ accepted (2 ∷ 64 ∷ []) ∷ accepted (0 ∷ 64 ∷ []) ∷ [];
+      said = 1 ∷ 0 ∷ 0 ∷ 0 ∷ 0 ∷ [];
     }
     ∷ []
 
 pub examples : Equal table
-unfolding table comparedOf changesOf changesIn listOf noChanges appliedOf fits changesFit withChanges spokenText changeText wasText nowText rowText spokenSlot waitLine beginOf freshSender startEpochOf startedSender startedEpoch nibblesOf sealedOf dataOf crcOf divisor byteBits nibbleBits writeAnswer writeBytes fitting assigned h4Of readAnswer readNibbles fieldsOf carriedIn highsOf boardOf rowsOf rowOf noRow highest startOf freshOf idleSlot idleNumber addOf addedTo removeOf removedFrom fallen fallenIn lapseOf reportOf waited actedOn mstApplied numberApplied holderOf renumbered slotAfter numberAfter comesBefore turnOf opensWait sizeOf membersOf mstFails mstFirst mstNumbers wholeOutput beginning linesOf fieldsIn lineOf wordLine numberLine reportLine reportIn numberIn digitOf hexOf replyOf sizeReply outputOf answerText boardText slotText waitText wordText decimalText afterOn nibbleIn nibblePlace startsCount tagByHigh carriesLow tagByLow counts endsEpoch epochsIn frames tagAfter tagBefore tags lead epochs epochAfter epochOf distanceOf placeOf startsEpoch firstTag settledOf clearedStep clearedPort clearedPorts stoppedOf stopBy begunOf beginBy gatherBy portsIn sizedGroup storeFor ready latest noTag further foremost within begins owesNothing brought silent ruledBy passedStep notedBy passedPort passedPorts passedGroup passedOf frameFits rowsFit frameAnswer frameRows frameStore gatheredBy marksBy portRows storeBy settledBy takenRows takenStore refusalBy startAnswer startRows startFits sizedAnswer sizedRows freshPort freshPorts groupAt groupOf groupRow putGroup rowIn putRow marksAt packetsAt putMarks putPackets memberAt putMember memberOf memberRow putStep stepAt stepIn stepRow takenOf inStep readable distanceIn flagged countsOn frameDropped outside keeps joining byWindow byStart arrives inStepAt begunRun secondRun oneMore furtherRun runOn placeIn storedAt ringOf byteAt h4At packetIn cutFrom markedAt firstMark markedByte cutByte passedByte passedMarks answerOf areShort setOf proposed tightestOf ranksOf rankOf candidateAt sortedBy checkedOf accepts agreesWith agree joinedTo shareOf
+unfolding table comparedOf changesOf changesIn listOf noChanges appliedOf fits changesFit withChanges spokenText changeText wasText nowText rowText spokenSlot waitLine canSpeak changesSpeak beginOf freshSender startEpochOf startedSender startedEpoch nibblesOf sealedOf dataOf crcOf divisor byteBits nibbleBits writeAnswer writeBytes fitting assigned h4Of readAnswer readNibbles fieldsOf carriedIn highsOf boardOf rowsOf rowOf noRow highest startOf freshOf idleSlot idleNumber addOf addedTo removeOf removedFrom fallen fallenIn lapseOf reportOf waited actedOn mstApplied numberApplied holderOf renumbered slotAfter numberAfter comesBefore turnOf opensWait sizeOf membersOf mstFails mstFirst mstNumbers wholeOutput beginning linesOf fieldsIn lineOf wordLine numberLine reportLine reportIn numberIn digitOf hexOf replyOf sizeReply outputOf answerText boardText slotText waitText wordText decimalText afterOn nibbleIn nibblePlace startsCount tagByHigh carriesLow tagByLow counts endsEpoch epochsIn frames tagAfter tagBefore tags lead epochs epochAfter epochOf distanceOf placeOf startsEpoch firstTag settledOf clearedStep clearedPort clearedPorts stoppedOf stopBy begunOf beginBy gatherBy portsIn sizedGroup storeFor ready latest noTag further foremost within begins owesNothing brought silent ruledBy passedStep notedBy passedPort passedPorts passedGroup passedOf frameFits rowsFit frameAnswer frameRows frameStore gatheredBy marksBy portRows storeBy settledBy takenRows takenStore refusalBy startAnswer startRows startFits sizedAnswer sizedRows freshPort freshPorts groupAt groupOf groupRow putGroup rowIn putRow marksAt packetsAt putMarks putPackets memberAt putMember memberOf memberRow putStep stepAt stepIn stepRow takenOf inStep readable distanceIn flagged countsOn frameDropped outside keeps joining byWindow byStart arrives inStepAt begunRun secondRun oneMore furtherRun runOn placeIn storedAt ringOf byteAt h4At packetIn cutFrom markedAt firstMark markedByte cutByte passedByte passedMarks answerOf areShort setOf proposed tightestOf ranksOf rankOf candidateAt sortedBy checkedOf accepts agreesWith agree joinedTo shareOf
 examples = equal-rows table refl
