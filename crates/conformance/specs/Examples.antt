@@ -99,7 +99,7 @@ mixed-h4 = 0xA8 ∷ 0x59 ∷ 0x1A ∷ 0x0B ∷ 0x0C ∷ 0x0D ∷ 0x4E ∷ 0xDF �
 abbrev relayed : ℕ → Fields
 relayed reserved = record { epoch = 5; word = record { 0 = NORM }; gid = 1; mst = 0xBF; «rs_ack» = 1; sq = 17; reserved = reserved }
 
--- the answer of writing it and the H4 bytes, and what reading those gives
+-- the answer of writing it and the H4 bytes, and what reading those gives. The five rows by turns tell each bit's place: no two bits are alike in all five.
 abbrev wrote : ℕ → List ℕ
 wrote reserved = writingNumber (writeAnswer (relayed reserved) (replicate 16 0)) ∷ writeBytes (relayed reserved) (replicate 16 0)
 
@@ -225,6 +225,31 @@ table =
     ∷ record { name = "the last reserved bit alone, read"; given = came last-alone; said = 0 ∷ 5 ∷ 2 ∷ 1 ∷ 0xBF ∷ 1 ∷ 17 ∷ 1 ∷ [] }
     ∷ record { name = "the three bits beside GID, written"; given = wrote 1792; said = 0 ∷ beside-gid }
     ∷ record { name = "the three bits beside GID, read"; given = came beside-gid; said = 0 ∷ 5 ∷ 2 ∷ 1 ∷ 0xBF ∷ 1 ∷ 17 ∷ 1792 ∷ [] }
+    ∷ record {
+      name = "reserved bits by turns of one, written";
+      given = wrote 44739242;
+      said = 0 ∷ 0xB8 ∷ 0xF9 ∷ 0xBA ∷ 0x5B ∷ 0x5C ∷ 0x5D ∷ 0x1E ∷ 0x1F ∷ 0x00 ∷ 0x51 ∷ 0x22 ∷ 0x53 ∷ 0xA4 ∷ 0xA5 ∷ 0xD6 ∷ 0x37 ∷ [];
+    }
+    ∷ record {
+      name = "reserved bits by turns of two, written";
+      given = wrote 53687091;
+      said = 0 ∷ 0xB8 ∷ 0xF9 ∷ 0xDA ∷ 0x6B ∷ 0x6C ∷ 0x6D ∷ 0x1E ∷ 0x1F ∷ 0x00 ∷ 0x51 ∷ 0x22 ∷ 0x73 ∷ 0x34 ∷ 0x35 ∷ 0xF6 ∷ 0x97 ∷ [];
+    }
+    ∷ record {
+      name = "reserved bits by turns of four, written";
+      given = wrote 63161283;
+      said = 0 ∷ 0xB8 ∷ 0xF9 ∷ 0xFA ∷ 0x8B ∷ 0x7C ∷ 0x8D ∷ 0x1E ∷ 0x1F ∷ 0x00 ∷ 0x51 ∷ 0x22 ∷ 0x73 ∷ 0xC4 ∷ 0x35 ∷ 0xC6 ∷ 0x57 ∷ [];
+    }
+    ∷ record {
+      name = "reserved bits by turns of eight, written";
+      given = wrote 66847740;
+      said = 0 ∷ 0xB8 ∷ 0xF9 ∷ 0xFA ∷ 0xFB ∷ 0x8C ∷ 0x0D ∷ 0x1E ∷ 0x1F ∷ 0x00 ∷ 0x51 ∷ 0x22 ∷ 0x73 ∷ 0xF4 ∷ 0xC5 ∷ 0xB6 ∷ 0x77 ∷ [];
+    }
+    ∷ record {
+      name = "reserved bits by turns of sixteen, written";
+      given = wrote 67107840;
+      said = 0 ∷ 0xB8 ∷ 0xF9 ∷ 0xFA ∷ 0xFB ∷ 0xFC ∷ 0xFD ∷ 0x1E ∷ 0x1F ∷ 0x00 ∷ 0x51 ∷ 0x22 ∷ 0x93 ∷ 0x04 ∷ 0x05 ∷ 0x36 ∷ 0x57 ∷ [];
+    }
     ∷ record {
       name = "reserved 67,108,863 and 67,108,864";
       given = writingNumber (writeAnswer (relayed 67108863) (replicate 16 0)) ∷ writingNumber (writeAnswer (relayed 67108864) (replicate 16 0)) ∷ [];
