@@ -296,6 +296,13 @@ table =
       given = wholeOutput (ascii "size\t2\nadd\t0\nadd\t1\nreport\t0\tBF\t0\nremove\t0\nboard\n");
       said = ascii "answer\t0\nanswer\t0\nanswer\t0\nanswer\t0\nanswer\t3\nslot\t0\tADD\t1\nslot\t1\tEOS\t0\nwait\t1\n";
     }
+    ∷ record {
+      name = "a session with hex digits in small letters, DNU and NORM on its board, and lines that are malformed";
+      given =
+          wholeOutput (ascii "size\t3\nadd\t0\nadd\t1\nadd\t2\nreport\t0\t1f\t0\nlapse\nreport\t0\t5f\t0\nboard\nsize\t0003\nreport\t0\t00\t2\nlapse\nadd\t0 \n");
+      said =
+          ascii "answer\t0\nanswer\t0\nanswer\t0\nanswer\t0\nanswer\t0\nanswer\t0\nanswer\t0\nslot\t0\tNORM\t0\nslot\t1\tDNU\t1\nslot\t2\tEOS\t2\nwait\t0\nanswer\t13\nanswer\t13\nanswer\t2\nanswer\t13\n";
+    }
     ∷ record { name = "P9: NORM 0, IDLE 255, EOS 1, wait open"; given = shown (after 3 p9); said = 2 ∷ 0 ∷ 5 ∷ 255 ∷ 3 ∷ 1 ∷ 1 ∷ [] }
     ∷ record { name = "P10: EOS 0, DNU 1, no wait"; given = shown (after 2 p10); said = 3 ∷ 0 ∷ 15 ∷ 1 ∷ 0 ∷ [] }
     ∷ record { name = "P11: two DNU, no EOS"; given = shown (after 2 p11); said = 15 ∷ 0 ∷ 15 ∷ 1 ∷ 0 ∷ [] }
