@@ -11,7 +11,7 @@ enum { FRAME_MOST = 1000000000, EPOCH_MOST = FRAME_MOST / LEVELSPRUCE_EPOCH_FRAM
 enum choice {
     SLOTS, PAYLOAD, WINDOW, PORTS, DELAYS, FIRST, BACK, NUMBER,
     ADD, REMOVE, DAMAGE, FAIL, LAPSE, LATE, AT_ONCE, SEED, EPOCHS,
-    FILE_IN, FILE_OUT, DOUBTFUL, EACH, QUIET, HELP, CHOICES
+    FILE_IN, FILE_OUT, RECORD, DOUBTFUL, EACH, QUIET, HELP, CHOICES
 };
 
 /* Those up to EPOCHS shape the link, so that with one of them the default run's shape is not taken. */
@@ -21,8 +21,8 @@ static const struct {
 } known[CHOICES] = {
     { "--slots", 1 }, { "--payload", 1 }, { "--window", 1 }, { "--ports", 1 }, { "--delays", 1 }, { "--first", 1 },
     { "--back", 1 }, { "--number", 1 }, { "--add", 1 }, { "--remove", 1 }, { "--damage", 1 }, { "--fail", 1 },
-    { "--lapse", 1 }, { "--late", 1 }, { "--at-once", 0 }, { "--seed", 1 }, { "--epochs", 1 }, { "--file", 1 }, { "--out", 1 }, { "--doubtful", 0 },
-    { "--each", 0 }, { "--quiet", 0 }, { "--help", 0 }
+    { "--lapse", 1 }, { "--late", 1 }, { "--at-once", 0 }, { "--seed", 1 }, { "--epochs", 1 }, { "--file", 1 }, { "--out", 1 }, { "--record", 1 },
+    { "--doubtful", 0 }, { "--each", 0 }, { "--quiet", 0 }, { "--help", 0 }
 };
 
 /* The word given with each choice, or NULL. */
@@ -313,6 +313,7 @@ int choices_read(struct choices *c, int count, char **words)
     c->file = g.word[FILE_IN];
     c->whole_file = c->file != NULL && g.word[EPOCHS] == NULL;
     c->out = g.word[FILE_OUT];
+    c->record = g.word[RECORD];
     c->doubtful = g.word[DOUBTFUL] != NULL;
     c->each = g.word[EACH] != NULL;
     c->quiet = g.word[QUIET] != NULL;

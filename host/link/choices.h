@@ -36,7 +36,7 @@ struct choices {
     struct failures failures;
     uint64_t epochs;
     int whole_file; /* more epochs, until the file is sent */
-    const char *file, *out;
+    const char *file, *out, *record;
     int at_once, doubtful, each, quiet, help;
 };
 

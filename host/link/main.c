@@ -41,6 +41,7 @@ static int link_open(struct link *l)
 {
     struct choices *c = &l->choices;
     uint32_t slot, least_delay = c->delay[0], most_delay = 0;
+    int opened;
 
     if (client_open(&l->client, c->file) != 0 || tally_open(&l->tally, c->out, c->doubtful) != 0)
         return -1;
@@ -53,7 +54,12 @@ static int link_open(struct link *l)
         if (line_open(&l->lines[slot], c->delay[slot], c->first[slot], c->payload) != 0)
             break;
     }
-    if (slot < c->slots || sending_open(&l->sending, c) != 0 || receiving_open(&l->receiving, c) != 0) {
+    opened = slot < c->slots || sending_open(&l->sending, c) != 0 ? -1 : receiving_open(&l->receiving, c);
+    if (opened == -2) {
+        fprintf(stderr, "link: the file '%s' cannot be written\n", c->record);
+        return -1;
+    }
+    if (opened != 0) {
         fprintf(stderr, "link: there is not enough memory for a link of this size\n");
         return -1;
     }
@@ -68,15 +74,18 @@ static int link_open(struct link *l)
     return 0;
 }
 
-static void link_close(struct link *l)
+/* 0, or -1 where the recording could not be written whole. */
+static int link_close(struct link *l)
 {
     uint32_t slot;
+    int written;
 
     for (slot = 0; slot < l->choices.slots; slot++)
         line_close(&l->lines[slot]);
-    receiving_close(&l->receiving);
+    written = receiving_close(&l->receiving);
     sending_close(&l->sending);
     client_close(&l->client);
+    return written;
 }
 
 /* The epoch that a report's number means: the last one of that number of which a readable port has brought a frame. Every
@@ -255,7 +264,10 @@ int main(int count, char **words)
     run(&l);
     says_end(&l.says);
     status = tally_close(&l.tally, &l.client);
-    link_close(&l);
+    if (link_close(&l) != 0) {
+        fprintf(stderr, "link: the recording could not be written\n");
+        return 2;
+    }
     if (fflush(stdout) != 0 || ferror(stdout)) {
         fprintf(stderr, "link: the lines could not be written\n");
         return 2;

@@ -5,6 +5,19 @@
 
 #include "says.h"
 
+/* A line of a recording: port, H4, flag and payload, in the order in which frames are handed over. */
+static void record_frame(struct receiving *r, uint32_t port, int failed, uint8_t h4, const uint8_t *payload)
+{
+    size_t i;
+
+    if (r->record == NULL)
+        return;
+    fprintf(r->record, "%lu\t%02X\t%d\t", (unsigned long)port, (unsigned)h4, failed);
+    for (i = 0; i < r->payload; i++)
+        fprintf(r->record, "%02X", (unsigned)payload[i]);
+    putc('\n', r->record);
+}
+
 int receiving_open(struct receiving *r, const struct choices *c)
 {
     memset(r, 0, sizeof *r);
@@ -19,6 +32,12 @@ int receiving_open(struct receiving *r, const struct choices *c)
     r->nothing = calloc(r->payload, 1);
     if (r->state == NULL || r->store == NULL || r->out == NULL || r->nothing == NULL)
         return -1;
+    if (c->record != NULL) {
+        r->record = fopen(c->record, "w");
+        if (r->record == NULL)
+            return -2;
+        fprintf(r->record, "%lu\t%lu\t%lu\n", (unsigned long)c->slots, (unsigned long)c->payload, (unsigned long)c->window);
+    }
     must(levelspruce_receiver_start(c->slots, c->payload, c->window, r->store_bytes, r->state, r->rows), "levelspruce_receiver_start");
     return 0;
 }
@@ -27,6 +46,7 @@ int receiving_frame(struct receiving *r, uint32_t port, const uint8_t *frame)
 {
     uint8_t answer = levelspruce_receiver_frame(r->state, r->rows, port, 0, frame[r->payload], frame, r->payload, r->store, r->store_bytes);
 
+    record_frame(r, port, 0, frame[r->payload], frame);
     if (answer == LEVELSPRUCE_ANSWER_OUTSIDE)
         return 0;
     /* A port that is not in step yet, or no more, is nothing to stop for: the next frames bring it back. */
@@ -39,6 +59,7 @@ void receiving_failed(struct receiving *r, uint32_t port)
 {
     uint8_t answer = levelspruce_receiver_frame(r->state, r->rows, port, 1, 0, r->nothing, r->payload, r->store, r->store_bytes);
 
+    record_frame(r, port, 1, 0, r->nothing);
     if (answer != LEVELSPRUCE_ANSWER_FAILED)
         must(answer, "levelspruce_receiver_frame");
 }
@@ -68,10 +89,15 @@ void receiving_reply(const struct receiving *r, uint8_t number, uint8_t *reply)
          "levelspruce_receiver_reply");
 }
 
-void receiving_close(struct receiving *r)
+int receiving_close(struct receiving *r)
 {
+    int written = r->record == NULL || (fflush(r->record) == 0 && !ferror(r->record));
+
+    if (r->record != NULL)
+        written = fclose(r->record) == 0 && written;
     free(r->state);
     free(r->store);
     free(r->out);
     free(r->nothing);
+    return written ? 0 : -1;
 }

@@ -3,6 +3,7 @@
 #define RECEIVING_H
 
 #include <levelspruce.h>
+#include <stdio.h>
 
 #include "choices.h"
 
@@ -16,6 +17,7 @@ struct receiving {
     uint8_t *out;
     size_t out_bytes;
     uint8_t *nothing; /* the payload of a frame that came flagged */
+    FILE *record; /* where what the receiver is handed is written, or NULL */
 };
 
 struct report {
@@ -23,7 +25,7 @@ struct report {
     size_t bytes; /* of out */
 };
 
-/* 0, or -1 where there is no memory. */
+/* 0, or -1 where there is no memory, or -2 where the recording cannot be written. */
 int receiving_open(struct receiving *r, const struct choices *c);
 
 /* Hands a frame over: its payload, and its H4 byte behind it. 0 where it has to be handed again after a report. */
@@ -40,6 +42,7 @@ void receiving_ports(const struct receiving *r, uint8_t (*ports)[LEVELSPRUCE_POR
 /* The reply for the packets of an epoch. */
 void receiving_reply(const struct receiving *r, uint8_t number, uint8_t *reply);
 
-void receiving_close(struct receiving *r);
+/* 0, or -1 where the recording could not be written whole. */
+int receiving_close(struct receiving *r);
 
 #endif

@@ -1,0 +1,55 @@
+use mathlib.Core.Path.{_≡_, sym, ap, _∙_}
+use Prim.Native.Nat.{ℕ, _+_}
+use lib.Seq.{slice}
+use borrow.Author.Needs.{needs}
+use Rattle.text.specs.Fields.{isHex}
+use Rattle.recording.specs.Laws.Parting.{five, four}
+use Rattle.recording.proofs.record.frame_line.Statement.{statement}
+use Rattle.recording.proofs.record.frame_line.Tie as tie
+
+add-piece-end : tie.Need-add-piece-end
+add-piece-end c = search needs
+
+piece-end-requires : tie.Need-piece-end-requires
+piece-end-requires c κs = search needs
+
+returns : tie.Need-returns
+returns c = five (c .before .before .before .args .ports) (c .before .before .before .args .size) (c .before .before .before .args .text .now) (c .before .before .before .args .end) (c .before .before .before .args .next) (c .before .before .before .pre .3) (c .before .before .before .args .at) (c .before .before .before .args .first) (c .before .before .before .args .second) (c .before .before .before .args .third) (c .before .piece-end .result) (c .before .before .before .pre .2) (c .before .piece-end .ensures) (c .if1 .taken)
+
+read-number-requires : tie.Need-read-number-requires
+read-number-requires c κs = search needs
+
+add-read-hex : tie.Need-add-read-hex
+add-read-hex c = search needs
+
+read-hex-requires : tie.Need-read-hex-requires
+read-hex-requires c κs = search needs
+
+add-flag-in : tie.Need-add-flag-in
+add-flag-in c = search needs
+
+flag-in-requires : tie.Need-flag-in-requires
+flag-in-requires c κs = search needs
+
+digits-of-requires : tie.Need-digits-of-requires
+digits-of-requires c κs = search needs
+
+add-is-hex : tie.Need-add-is-hex
+add-is-hex c = search needs
+
+is-hex-requires : tie.Need-is-hex-requires
+is-hex-requires c κs = search needs
+
+add-frame-by : tie.Need-add-frame-by
+add-frame-by c = search needs
+
+frame-by-requires : tie.Need-frame-by-requires
+frame-by-requires c κs = search needs
+
+returns-2 : tie.Need-returns-2
+returns-2 c =
+    let s = c .before .before .before .before .before .before .before .before .before in
+    four (s .args .ports) (s .args .size) (s .args .text .now) (s .args .end) (s .args .next) (s .pre .3) (s .args .at) (s .args .first) (s .args .second) (s .args .third) (c .before .before .before .before .before .before .before .piece-end .result) (s .pre .2) (c .before .before .before .before .before .before .before .piece-end .ensures) (c .before .before .before .before .before .before .if1 .left) (c .before .before .before .before .before .read-number .result) (c .before .before .before .before .read-hex .result) (c .before .before .before .flag-in .result) (c .before .is-hex .result) (c .before .before .before .before .before .read-number .ensures) (c .before .before .before .before .read-hex .ensures) (c .before .before .before .flag-in .ensures) (c .before .is-hex .ensures ∙ ap (λ (n : ℕ). isHex n (slice (s .args .third + 1) (s .args .end) (s .args .text .now))) (c .before .before .digits-of .ensures)) (c .frame-by .result) (c .frame-by .ensures)
+
+pub frame-line-spec : {M : Type 1} → statement M
+frame-line-spec = tie.close (tie.spec add-piece-end piece-end-requires returns read-number-requires add-read-hex read-hex-requires add-flag-in flag-in-requires digits-of-requires add-is-hex is-hex-requires add-frame-by frame-by-requires returns-2)

@@ -1,0 +1,3 @@
+-- Laws on the definitions, for the proofs above them.
+pub mod Lines
+pub mod Parting

@@ -1,0 +1,174 @@
+-- What a line says does not go by where the next one is, and its payload lies in it.
+use mathlib.Core.Path.{_≡_, refl, sym, ap, _∙_}
+use mathlib.Core.Bool.{Bool, true, false, cond, _&&_}
+use mathlib.Core.List.{List, [], _∷_}
+use Prim.Native.Nat.{ℕ, zero, suc, _+_, _-_, _≤_}
+use native.Mathlib.Omega.{arith}
+use lib.Dec.{eqb, leb, ltb}
+use lib.ListN.{length}
+use borrow.Author.Tests.{eqb-true}
+use Rattle.ground.specs.Truth.{and-left, and-right}
+use Rattle.recording.specs.declared.opening.Opening.{Opening}
+use Rattle.recording.specs.declared.opening.Opening.the-variants as O
+use Rattle.recording.specs.declared.record.Record.{Record}
+use Rattle.recording.specs.declared.record.Record.the-variants.{Frame, Malformed, Long, Unfinished, End}
+use Rattle.recording.specs.Line.{MOST}
+use Rattle.recording.specs.Opening.{lineOpening, openingBy, settingsBy}
+use Rattle.recording.specs.Record.{flagIn, frameBy, lineRecord, recordBy}
+use Rattle.text.specs.declared.fields.Number.{Number}
+use Rattle.text.specs.declared.fields.Number.the-variants.{Value, Unreadable}
+use Rattle.text.specs.Fields.{areDigits, hexOf, isHex, numberOf}
+use Rattle.text.specs.Text.{TAB, ahead, fieldsOf, parted}
+
+-- a frame or a malformed line, with another next line
+abbrev pub goingTo : ℕ → Record → Record
+goingTo n (Frame port h4 flag place next) = Frame port h4 flag place n
+goingTo n (Malformed next) = Malformed n
+goingTo n Long = Long
+goingTo n Unfinished = Unfinished
+goingTo n End = End
+
+frame-going : (ports : ℕ) (p h : Number) (flag : ℕ) (payload : Bool) (place n m : ℕ) → frameBy ports p h flag payload place n ≡ goingTo n (frameBy ports p h flag payload place m)
+unfolding frameBy
+frame-going ports (Value x) (Value y) flag payload place n m = go (ltb x ports && ltb y 256 && ltb flag 2 && payload)
+  where
+    go : (b : Bool) → cond b (Frame x y flag place n) (Malformed n) ≡ goingTo n (cond b (Frame x y flag place m) (Malformed m))
+    go true = refl
+    go false = refl
+frame-going ports (Value x) Unreadable flag payload place n m = refl
+frame-going ports Unreadable h flag payload place n m = refl
+
+record-going : (ports size end n m : ℕ) (fs : List (List ℕ)) → recordBy ports size end n fs ≡ goingTo n (recordBy ports size end m fs)
+record-going ports size end n m [] = refl
+record-going ports size end n m (a ∷ []) = refl
+record-going ports size end n m (a ∷ b ∷ []) = refl
+record-going ports size end n m (a ∷ b ∷ c ∷ []) = refl
+record-going ports size end n m (a ∷ b ∷ c ∷ d ∷ []) = frame-going ports (numberOf 9 a) (hexOf 2 b) (flagIn c) (isHex (size + size) d) (end - length d) n m
+record-going ports size end n m (a ∷ b ∷ c ∷ d ∷ e ∷ rest) = refl
+
+pub line-going : (ports size at n m : ℕ) (line : List ℕ) → lineRecord ports size at n line ≡ goingTo n (lineRecord ports size at m line)
+unfolding lineRecord
+line-going ports size at n m line = go (leb (length line) MOST)
+  where
+    go : (b : Bool) → cond b (recordBy ports size (at + length line) n (fieldsOf line)) (Malformed n) ≡ goingTo n (cond b (recordBy ports size (at + length line) m (fieldsOf line)) (Malformed m))
+    go true = record-going ports size (at + length line) n m (fieldsOf line)
+    go false = refl
+
+-- the same of a first line
+abbrev pub opensTo : ℕ → Opening → Opening
+opensTo n (O.Settings ports size window next) = O.Settings ports size window n
+opensTo n O.Malformed = O.Malformed
+opensTo n O.Unfinished = O.Unfinished
+opensTo n O.End = O.End
+
+settings-opens : (a b c : Number) (n m : ℕ) → settingsBy a b c n ≡ opensTo n (settingsBy a b c m)
+unfolding settingsBy
+settings-opens (Value x) (Value y) (Value z) n m = refl
+settings-opens (Value x) (Value y) Unreadable n m = refl
+settings-opens (Value x) Unreadable c n m = refl
+settings-opens Unreadable b c n m = refl
+
+opening-opens : (n m : ℕ) (fs : List (List ℕ)) → openingBy n fs ≡ opensTo n (openingBy m fs)
+opening-opens n m [] = refl
+opening-opens n m (a ∷ []) = refl
+opening-opens n m (a ∷ b ∷ []) = refl
+opening-opens n m (a ∷ b ∷ c ∷ []) = settings-opens (numberOf 9 a) (numberOf 9 b) (numberOf 9 c) n m
+opening-opens n m (a ∷ b ∷ c ∷ d ∷ rest) = refl
+
+pub line-opens : (n m : ℕ) (line : List ℕ) → lineOpening n line ≡ opensTo n (lineOpening m line)
+unfolding lineOpening
+line-opens n m line = go (leb (length line) MOST)
+  where
+    go : (b : Bool) → cond b (openingBy n (fieldsOf line)) O.Malformed ≡ opensTo n (cond b (openingBy m (fieldsOf line)) O.Malformed)
+    go true = opening-opens n m (fieldsOf line)
+    go false = refl
+
+-- a line is a frame or malformed, and names the next one
+pub data IsLine : Record → Type 0 where
+  frame : {port h4 flag place next : ℕ} → IsLine (Frame port h4 flag place next)
+  malformed : {next : ℕ} → IsLine (Malformed next)
+
+frame-line : (ports : ℕ) (p h : Number) (flag : ℕ) (payload : Bool) (place n : ℕ) → IsLine (frameBy ports p h flag payload place n)
+unfolding frameBy
+frame-line ports (Value x) (Value y) flag payload place n = go (ltb x ports && ltb y 256 && ltb flag 2 && payload)
+  where
+    go : (b : Bool) → IsLine (cond b (Frame x y flag place n) (Malformed n))
+    go true = frame
+    go false = malformed
+frame-line ports (Value x) Unreadable flag payload place n = malformed
+frame-line ports Unreadable h flag payload place n = malformed
+
+record-line : (ports size end n : ℕ) (fs : List (List ℕ)) → IsLine (recordBy ports size end n fs)
+record-line ports size end n [] = malformed
+record-line ports size end n (a ∷ []) = malformed
+record-line ports size end n (a ∷ b ∷ []) = malformed
+record-line ports size end n (a ∷ b ∷ c ∷ []) = malformed
+record-line ports size end n (a ∷ b ∷ c ∷ d ∷ []) = frame-line ports (numberOf 9 a) (hexOf 2 b) (flagIn c) (isHex (size + size) d) (end - length d) n
+record-line ports size end n (a ∷ b ∷ c ∷ d ∷ e ∷ rest) = malformed
+
+pub is-line : (ports size at n : ℕ) (line : List ℕ) → IsLine (lineRecord ports size at n line)
+unfolding lineRecord
+is-line ports size at n line = go (leb (length line) MOST)
+  where
+    go : (b : Bool) → IsLine (cond b (recordBy ports size (at + length line) n (fieldsOf line)) (Malformed n))
+    go true = record-line ports size (at + length line) n (fieldsOf line)
+    go false = malformed
+
+-- the fields of a line, with what parts them, are as long as the line
+weight : List (List ℕ) → ℕ
+weight [] = 0
+weight (p ∷ ps) = suc (length p) + weight ps
+
+weight-ahead : (b : ℕ) (ps : List (List ℕ)) (n : ℕ) → weight ps ≡ suc n → weight (ahead b ps) ≡ suc (suc n)
+unfolding weight
+weight-ahead b [] n h = absurd (omega arith)
+weight-ahead b (p ∷ ps) n h = omega arith
+
+weight-fields : (line : List ℕ) → weight (fieldsOf line) ≡ suc (length line)
+unfolding weight fieldsOf
+weight-fields [] = refl
+weight-fields (b ∷ line) = go (eqb b TAB) (weight-fields line)
+  where
+    go : (t : Bool) → weight (parted TAB ([] ∷ []) line) ≡ suc (length line) → weight (cond t ([] ∷ parted TAB ([] ∷ []) line) (ahead b (parted TAB ([] ∷ []) line))) ≡ suc (suc (length line))
+    go true h = omega arith
+    go false h = weight-ahead b (parted TAB ([] ∷ []) line) (length line) h
+
+-- the payload of a frame lies in its line
+pub record Lies (size end : ℕ) (r : Record) : Type 0 where
+  pub within : (port h4 flag place next : ℕ) → r ≡ Frame port h4 flag place next → place + size + size ≤ end
+
+lies-none : (size end n : ℕ) → Lies size end (Malformed n)
+lies-none size end n = record { within = λ port h4 flag place next e. let z : _≡_ {A = ℕ} 0 1 = cc in absurd (omega arith) }
+
+frame-lies : (ports : ℕ) (p h : Number) (flag : ℕ) (payload : Bool) (place n size end : ℕ) → (payload ≡ true → place + size + size ≤ end) → Lies size end (frameBy ports p h flag payload place n)
+unfolding frameBy
+frame-lies ports (Value x) (Value y) flag payload place n size end h = go (ltb x ports && ltb y 256 && ltb flag 2 && payload) refl
+  where
+    go : (b : Bool) → (ltb x ports && ltb y 256 && ltb flag 2 && payload) ≡ b → Lies size end (cond b (Frame x y flag place n) (Malformed n))
+    go true t = record { within = λ port h4 f q next e. let z : place ≡ q = cc in rw (← z) (h (and-right (ltb x ports && ltb y 256 && ltb flag 2) payload t)) }
+    go false t = lies-none size end n
+frame-lies ports (Value x) Unreadable flag payload place n size end h = lies-none size end n
+frame-lies ports Unreadable hh flag payload place n size end h = lies-none size end n
+
+hex-length : (digits : ℕ) (field : List ℕ) → isHex digits field ≡ true → length field ≡ digits
+unfolding isHex
+hex-length digits field t = eqb-true (length field) digits (and-left (eqb (length field) digits) (areDigits 16 field) t)
+
+record-lies : (ports size end n : ℕ) (fs : List (List ℕ)) → weight fs ≡ suc end → Lies size end (recordBy ports size end n fs)
+unfolding weight
+record-lies ports size end n [] h = lies-none size end n
+record-lies ports size end n (a ∷ []) h = lies-none size end n
+record-lies ports size end n (a ∷ b ∷ []) h = lies-none size end n
+record-lies ports size end n (a ∷ b ∷ c ∷ []) h = lies-none size end n
+record-lies ports size end n (a ∷ b ∷ c ∷ d ∷ []) h =
+    frame-lies ports (numberOf 9 a) (hexOf 2 b) (flagIn c) (isHex (size + size) d) (end - length d) n size end
+    (λ (t : isHex (size + size) d ≡ true). let l = hex-length (size + size) d t in let w : length d ≤ end = omega arith in omega arith)
+record-lies ports size end n (a ∷ b ∷ c ∷ d ∷ e ∷ rest) h = lies-none size end n
+
+pub line-lies : (ports size n : ℕ) (line : List ℕ) → Lies size (length line) (lineRecord ports size 0 n line)
+unfolding lineRecord
+line-lies ports size n line = go (leb (length line) MOST)
+  where
+    go : (b : Bool) → Lies size (length line) (cond b (recordBy ports size (0 + length line) n (fieldsOf line)) (Malformed n))
+    go true = let z : 0 + length line ≡ length line = omega arith in rw z (record-lies ports size (length line) n (fieldsOf line) (weight-fields line))
+    go false = lies-none size (length line) n

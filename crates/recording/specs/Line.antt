@@ -1,0 +1,27 @@
+-- Where a line of a recording ends (2026-05).
+use mathlib.Core.Bool.{Bool, cond}
+use mathlib.Core.List.{List}
+use Prim.Native.Nat.{ℕ, _+_}
+use lib.Dec.{eqb, ltb}
+use lib.ListN.{length, take}
+use Rattle.bytes.specs.Bytes.{indexOf}
+use Rattle.recording.specs.declared.line.Found.{Found}
+use Rattle.recording.specs.declared.line.Found.the-variants.{Nothing, Open, TooLong, Ends}
+use Rattle.text.specs.Text.{LINE-END}
+
+-- 'Lines hold at most 8,192 bytes.'
+abbrev pub MOST : ℕ
+MOST = 8192
+
+abbrev pub hasEnd : List ℕ → Bool
+hasEnd rest = ltb (indexOf LINE-END rest) (length rest)
+
+-- the first line of a text, without its end
+abbrev pub firstLine : List ℕ → List ℕ
+firstLine rest = take (indexOf LINE-END rest) rest
+
+-- of what is left of a text from a place on
+unfoldable pub foundOf : ℕ → List ℕ → Found
+foundOf at rest =
+    cond (eqb (length rest) 0) Nothing
+    (cond (hasEnd rest) (Ends (at + indexOf LINE-END rest)) (cond (ltb MOST (length rest)) TooLong Open))

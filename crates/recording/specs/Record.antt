@@ -1,0 +1,55 @@
+-- A frame's line (2026-05): 'port, H4 in two hex digits, fail flag, payload in hex'.
+use mathlib.Core.Bool.{Bool, cond, _&&_}
+use mathlib.Core.List.{List, [], _∷_}
+use Prim.Native.Nat.{ℕ, _+_, _-_}
+use lib.Dec.{eqb, leb, ltb}
+use lib.ListN.{length}
+use Rattle.recording.specs.declared.record.Record.{Record}
+use Rattle.recording.specs.declared.record.Record.the-variants.{Frame, Malformed, Long, Unfinished, End}
+use Rattle.recording.specs.declared.line.Found.{Found}
+use Rattle.recording.specs.declared.line.Found.the-variants.{Nothing, Open, TooLong, Ends}
+use Rattle.recording.specs.Line.{MOST, firstLine, foundOf}
+use Rattle.text.specs.declared.fields.Number.{Number}
+use Rattle.text.specs.declared.fields.Number.the-variants.{Value, Unreadable}
+use Rattle.text.specs.Ascii.{ascii}
+use Rattle.text.specs.Fields.{hexOf, isHex, numberOf, sameBytes}
+use Rattle.text.specs.Text.{fieldsOf}
+
+-- the flag is 0 or 1 and nothing else
+unfoldable pub flagIn : List ℕ → ℕ
+flagIn field = cond (sameBytes field (ascii "0")) 0 (cond (sameBytes field (ascii "1")) 1 2)
+
+-- a port below the count, an H4 byte, a flag and the payload of P bytes
+unfoldable pub frameBy : ℕ → Number → Number → ℕ → Bool → ℕ → ℕ → Record
+frameBy ports (Value port) (Value h4) flag payload place next =
+    cond (ltb port ports && ltb h4 256 && ltb flag 2 && payload) (Frame port h4 flag place next) (Malformed next)
+frameBy ports (Value port) Unreadable flag payload place next = Malformed next
+frameBy ports Unreadable h4 flag payload place next = Malformed next
+
+-- four fields, the last of which ends at a place
+abbrev pub recordBy : ℕ → ℕ → ℕ → ℕ → List (List ℕ) → Record
+recordBy ports size end next [] = Malformed next
+recordBy ports size end next (a ∷ []) = Malformed next
+recordBy ports size end next (a ∷ b ∷ []) = Malformed next
+recordBy ports size end next (a ∷ b ∷ c ∷ []) = Malformed next
+recordBy ports size end next (port ∷ h4 ∷ flag ∷ payload ∷ []) =
+    frameBy ports (numberOf 9 port) (hexOf 2 h4) (flagIn flag) (isHex (size + size) payload) (end - length payload) next
+recordBy ports size end next (a ∷ b ∷ c ∷ d ∷ e ∷ rest) = Malformed next
+
+-- a line that begins at a place, and the place of the next one
+unfoldable pub lineRecord : ℕ → ℕ → ℕ → ℕ → List ℕ → Record
+lineRecord ports size at next line = cond (leb (length line) MOST) (recordBy ports size (at + length line) next (fieldsOf line)) (Malformed next)
+
+-- what is left of a text from a place on, by its first line's end
+abbrev pub recordFound : ℕ → ℕ → ℕ → List ℕ → Found → Record
+recordFound ports size at rest Nothing = End
+recordFound ports size at rest Open = Unfinished
+recordFound ports size at rest TooLong = Long
+recordFound ports size at rest (Ends end) = lineRecord ports size at (end + 1) (firstLine rest)
+
+unfoldable pub recordIn : ℕ → ℕ → ℕ → List ℕ → Record
+recordIn ports size at rest = recordFound ports size at rest (foundOf at rest)
+
+-- a last line that lacks its end
+unfoldable pub lastRecord : ℕ → ℕ → ℕ → List ℕ → Record
+lastRecord ports size at rest = cond (eqb (length rest) 0) End (lineRecord ports size at (at + length rest) rest)

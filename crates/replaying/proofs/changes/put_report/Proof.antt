@@ -1,0 +1,37 @@
+use native.Mathlib.Omega.{arith}
+use lib.ListN.{getD}
+use borrow.Author.Needs.{needs}
+use Rattle.text.specs.Laws.Putting.{put-then}
+use Rattle.replaying.specs.Output.{reportText}
+use Rattle.replaying.proofs.Printing.{epoch-le}
+use Rattle.replaying.proofs.changes.put_report.Statement.{statement}
+use Rattle.replaying.proofs.changes.put_report.Tie as tie
+
+count-in-requires : tie.Need-count-in-requires
+count-in-requires c κs = search needs
+
+array-read-put-epoch : tie.Need-array-read-put-epoch
+array-read-put-epoch c = search needs
+
+array-read-put-epoch-2 : tie.Need-array-read-put-epoch-2
+array-read-put-epoch-2 c = search needs
+
+put-epoch-requires : tie.Need-put-epoch-requires
+put-epoch-requires c κs = let l = epoch-le (getD (c .before .before .before .args .t1) 1 0) (getD (c .before .before .before .args .t1) 0 0) (c .before .count-in .result) (c .before .before .before .args .line) in omega arith
+
+put-changes-requires : tie.Need-put-changes-requires
+put-changes-requires c κs =
+    let l = epoch-le (getD (c .before .before .before .before .before .before .before .args .t1) 1 0) (getD (c .before .before .before .before .before .before .before .args .t1) 0 0) (c .before .before .before .before .before .count-in .result) (c .before .before .before .before .before .before .before .args .line) in
+    let b = c .before .before .before .put-epoch .ensures .behind in
+    let k = c .before .before .before .put-epoch .ensures .kept in
+    (c .before .before .before .before .before .before .before .pre .0, omega arith)
+
+same-length : tie.Need-same-length
+same-length c = search needs
+
+returns : tie.Need-returns
+unfolding reportText
+returns c = rw (← c .before .before .before .before .before .before .before .before .count-in .ensures) (put-then (c .before .before .before .before .before .before .put-epoch .ensures) (c .before .before .put-changes .ensures))
+
+pub put-report-spec : {M : Type 1} → statement M
+put-report-spec = tie.close (tie.spec count-in-requires array-read-put-epoch array-read-put-epoch-2 put-epoch-requires put-changes-requires same-length returns)

@@ -1,0 +1,51 @@
+use mathlib.Core.List.{_++_}
+use lib.ListN.{length}
+use borrow.Author.Needs.{needs}
+use Rattle.text.specs.Ascii.{ascii}
+use Rattle.text.specs.Laws.Putting.{is-put, shorter}
+use Rattle.text.specs.Output.{decimalText, ended, numberText}
+use Rattle.text.specs.Text.{LINE-END, TAB}
+use Rattle.replaying.specs.Output.{answerText}
+use Rattle.replaying.proofs.Printing.{put-more}
+use Rattle.replaying.proofs.output.put_answer.Statement.{statement}
+use Rattle.replaying.proofs.output.put_answer.Tie as tie
+
+slice-aggregate-put : tie.Need-slice-aggregate-put
+slice-aggregate-put c = search needs
+
+put-requires : tie.Need-put-requires
+put-requires c κs = search needs
+
+put-number-requires : tie.Need-put-number-requires
+put-number-requires c κs = search needs
+
+slice-aggregate-put-2 : tie.Need-slice-aggregate-put-2
+slice-aggregate-put-2 c = search needs
+
+put-requires-2 : tie.Need-put-requires-2
+put-requires-2 c κs = search needs
+
+put-decimal-requires : tie.Need-put-decimal-requires
+put-decimal-requires c κs = search needs
+
+same-length : tie.Need-same-length
+same-length c = search needs
+
+returns : tie.Need-returns
+unfolding answerText
+returns c =
+    let s = c .before .before .before .before .before .before .before .before .before .before .before .before .before .before .before .before .before .before .before in
+    let a = ended (ascii "answer") TAB in
+    let b = ended (decimalText (s .args .number)) TAB in
+    let d = ended (ascii "line") TAB in
+    let e = ended (numberText (s .args .line)) LINE-END in
+    let n = length (s .args .said .now) in
+    let two = shorter (a ++ b ++ d) e 0 n (s .pre) in
+    let one = shorter (a ++ b) d 0 n two in
+    let p = is-put (shorter a b 0 n one) (c .before .before .before .before .before .before .before .before .before .before .before .before .before .before .before .put .ensures) in
+    let q = put-more b p one (c .before .before .before .before .before .before .before .before .before .before .before .put-number .ensures) in
+    let r = put-more d q two (c .before .before .before .before .before .before .put2 .ensures) in
+    put-more e r (s .pre) (c .before .before .put-decimal .ensures)
+
+pub put-answer-spec : {M : Type 1} → statement M
+put-answer-spec = tie.close (tie.spec slice-aggregate-put put-requires put-number-requires slice-aggregate-put-2 put-requires-2 put-decimal-requires same-length returns)

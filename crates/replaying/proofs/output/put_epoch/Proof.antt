@@ -1,0 +1,72 @@
+use mathlib.Core.List.{_++_}
+use lib.ListN.{length}
+use borrow.Author.Needs.{needs}
+use Rattle.text.specs.Ascii.{ascii}
+use Rattle.text.specs.Laws.Putting.{is-put, shorter}
+use Rattle.text.specs.Output.{decimalText, ended, numberText}
+use Rattle.text.specs.Text.{LINE-END, TAB}
+use Rattle.replaying.specs.Output.{epochText, markText}
+use Rattle.replaying.proofs.Printing.{put-more}
+use Rattle.replaying.proofs.output.put_epoch.Statement.{statement}
+use Rattle.replaying.proofs.output.put_epoch.Tie as tie
+
+slice-aggregate-put : tie.Need-slice-aggregate-put
+slice-aggregate-put c = search needs
+
+put-requires : tie.Need-put-requires
+put-requires c κs = search needs
+
+put-number-requires : tie.Need-put-number-requires
+put-number-requires c κs = search needs
+
+put-mark-requires : tie.Need-put-mark-requires
+put-mark-requires c κs = search needs
+
+slice-aggregate-put-2 : tie.Need-slice-aggregate-put-2
+slice-aggregate-put-2 c = search needs
+
+put-requires-2 : tie.Need-put-requires-2
+put-requires-2 c κs = search needs
+
+put-decimal-requires : tie.Need-put-decimal-requires
+put-decimal-requires c κs = search needs
+
+slice-aggregate-put-3 : tie.Need-slice-aggregate-put-3
+slice-aggregate-put-3 c = search needs
+
+put-requires-3 : tie.Need-put-requires-3
+put-requires-3 c κs = search needs
+
+put-decimal-requires-2 : tie.Need-put-decimal-requires-2
+put-decimal-requires-2 c κs = search needs
+
+same-length : tie.Need-same-length
+same-length c = search needs
+
+returns : tie.Need-returns
+unfolding epochText
+returns c =
+    let s = c .before .before .before .before .before .before .before .before .before .before .before .before .before .before .before .before .before .before .before .before .before .before .before .before .before .before .before .before .before .before .before .before in
+    let a = ended (ascii "epoch") TAB in
+    let b = ended (decimalText (s .args .epoch)) TAB in
+    let d = ended (markText (s .args .mark)) TAB in
+    let e = ended (ascii "bytes") TAB in
+    let f = ended (numberText (s .args .bytes)) TAB in
+    let g = ended (ascii "line") TAB in
+    let h = ended (numberText (s .args .line)) LINE-END in
+    let n = length (s .args .said .now) in
+    let five = shorter (a ++ b ++ d ++ e ++ f ++ g) h 0 n (s .pre) in
+    let four = shorter (a ++ b ++ d ++ e ++ f) g 0 n five in
+    let three = shorter (a ++ b ++ d ++ e) f 0 n four in
+    let two = shorter (a ++ b ++ d) e 0 n three in
+    let one = shorter (a ++ b) d 0 n two in
+    let p = is-put (shorter a b 0 n one) (c .before .before .before .before .before .before .before .before .before .before .before .before .before .before .before .before .before .before .before .before .before .before .before .before .before .before .before .before .put .ensures) in
+    let q = put-more b p one (c .before .before .before .before .before .before .before .before .before .before .before .before .before .before .before .before .before .before .before .before .before .before .before .before .put-number .ensures) in
+    let r = put-more d q two (c .before .before .before .before .before .before .before .before .before .before .before .before .before .before .before .before .before .before .before .before .put-mark .ensures) in
+    let t = put-more e r three (c .before .before .before .before .before .before .before .before .before .before .before .before .before .before .before .put2 .ensures) in
+    let u = put-more f t four (c .before .before .before .before .before .before .before .before .before .before .before .put-decimal .ensures) in
+    let v = put-more g u five (c .before .before .before .before .before .before .put3 .ensures) in
+    put-more h v (s .pre) (c .before .before .put-decimal2 .ensures)
+
+pub put-epoch-spec : {M : Type 1} → statement M
+put-epoch-spec = tie.close (tie.spec slice-aggregate-put put-requires put-number-requires put-mark-requires slice-aggregate-put-2 put-requires-2 put-decimal-requires slice-aggregate-put-3 put-requires-3 put-decimal-requires-2 same-length returns)

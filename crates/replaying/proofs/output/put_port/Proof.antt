@@ -1,0 +1,48 @@
+use mathlib.Core.List.{_++_}
+use lib.ListN.{length}
+use borrow.Author.Needs.{needs}
+use Rattle.text.specs.Ascii.{ascii}
+use Rattle.text.specs.Laws.Putting.{is-put, shorter}
+use Rattle.text.specs.Output.{decimalText, ended}
+use Rattle.text.specs.Text.{LINE-END, TAB}
+use Rattle.replaying.specs.Output.{portText, stateText}
+use Rattle.replaying.proofs.Printing.{put-more}
+use Rattle.replaying.proofs.output.put_port.Statement.{statement}
+use Rattle.replaying.proofs.output.put_port.Tie as tie
+
+slice-aggregate-put : tie.Need-slice-aggregate-put
+slice-aggregate-put c = search needs
+
+put-requires : tie.Need-put-requires
+put-requires c κs = search needs
+
+put-number-requires : tie.Need-put-number-requires
+put-number-requires c κs = search needs
+
+put-state-requires : tie.Need-put-state-requires
+put-state-requires c κs = search needs
+
+put-number-requires-2 : tie.Need-put-number-requires-2
+put-number-requires-2 c κs = search needs
+
+same-length : tie.Need-same-length
+same-length c = search needs
+
+returns : tie.Need-returns
+unfolding portText
+returns c =
+    let s = c .before .before .before .before .before .before .before .before .before .before .before .before .before .before .before .before .before .before in
+    let a = ended (ascii "port") TAB in
+    let b = ended (decimalText (s .args .port)) TAB in
+    let d = ended (stateText (s .args .state)) TAB in
+    let e = ended (decimalText (s .args .number)) LINE-END in
+    let n = length (s .args .said .now) in
+    let two = shorter (a ++ b ++ d) e (s .args .at) n (s .pre) in
+    let one = shorter (a ++ b) d (s .args .at) n two in
+    let p = is-put (shorter a b (s .args .at) n one) (c .before .before .before .before .before .before .before .before .before .before .before .before .before .before .put .ensures) in
+    let q = put-more b p one (c .before .before .before .before .before .before .before .before .before .before .put-number .ensures) in
+    let r = put-more d q two (c .before .before .before .before .before .before .put-state .ensures) in
+    put-more e r (s .pre) (c .before .before .put-number2 .ensures)
+
+pub put-port-spec : {M : Type 1} → statement M
+put-port-spec = tie.close (tie.spec slice-aggregate-put put-requires put-number-requires put-state-requires put-number-requires-2 same-length returns)

@@ -1,0 +1,76 @@
+use mathlib.Core.Path.{refl, sym, _∙_}
+use lib.ListN.{length}
+use borrow.Author.Needs.{needs}
+use borrow.Author.Tests.{le-leb, lt-leb}
+use Rattle.replaying.specs.Turn.{openRows, openSaid, openTurn}
+use Rattle.replaying.proofs.turns.open.Statement.{statement}
+use Rattle.replaying.proofs.turns.open.Tie as tie
+
+refused-requires : tie.Need-refused-requires
+refused-requires c κs = search needs
+
+returns : tie.Need-returns
+unfolding openTurn openRows openSaid
+returns c = rw (lt-leb 1160 (length (c .before .before .before .before .args .said .now)) (c .before .if1 .taken)) (c .refused .ensures, refl, refl)
+
+refused-requires-2 : tie.Need-refused-requires-2
+refused-requires-2 c κs = search needs
+
+returns-2 : tie.Need-returns-2
+unfolding openTurn openRows openSaid
+returns-2 c = rw (le-leb 1160 (length (c .before .before .before .before .before .args .said .now)) (c .before .before .if1 .left), lt-leb 321 (length (c .before .before .before .before .before .args .rows .now)) (c .before .if2 .taken)) (c .refused2 .ensures, refl, refl)
+
+opening-at-requires : tie.Need-opening-at-requires
+opening-at-requires c κs = search needs
+
+enum-known-opening : tie.Need-enum-known-opening
+enum-known-opening c = search needs
+
+open-with-requires : tie.Need-open-with-requires
+open-with-requires c κs = search needs
+
+enum-told : tie.Need-enum-told
+enum-told c = search needs
+
+answered-requires : tie.Need-answered-requires
+answered-requires c κs = search needs
+
+enum-told-2 : tie.Need-enum-told-2
+enum-told-2 c = search needs
+
+waiting-requires : tie.Need-waiting-requires
+waiting-requires c κs = search needs
+
+enum-told-3 : tie.Need-enum-told-3
+enum-told-3 c = search needs
+
+waiting-requires-2 : tie.Need-waiting-requires-2
+waiting-requires-2 c κs = search needs
+
+same-length : tie.Need-same-length
+same-length c = search needs
+
+same-length-2 : tie.Need-same-length-2
+same-length-2 c = search needs
+
+returns-3 : tie.Need-returns-3
+unfolding openTurn openRows openSaid
+returns-3 c = rw (le-leb 1160 (length (c .before .before .before .before .before .before .before .before .before .before .before .before .before .before .args .said .now)) (c .before .before .before .before .before .before .before .before .before .before .before .if1 .left), le-leb 321 (length (c .before .before .before .before .before .before .before .before .before .before .before .before .before .before .args .rows .now)) (c .before .before .before .before .before .before .before .before .before .before .if2 .left), sym (c .before .before .before .before .before .before .before .before .before .opening-at .ensures) ∙ c .before .before .before .before .before .before .before .opening .given .1) (c .before .before .before .open-with .ensures)
+
+same-length-3 : tie.Need-same-length-3
+same-length-3 c = search needs
+
+returns-4 : tie.Need-returns-4
+unfolding openTurn openRows openSaid
+returns-4 c = rw (le-leb 1160 (length (c .before .before .before .before .before .before .before .before .before .before .before .args .said .now)) (c .before .before .before .before .before .before .before .before .if1 .left), le-leb 321 (length (c .before .before .before .before .before .before .before .before .before .before .before .args .rows .now)) (c .before .before .before .before .before .before .before .if2 .left), sym (c .before .before .before .before .before .before .opening-at .ensures) ∙ c .before .before .before .before .enum-told .given .1) (c .before .before .answered .ensures .0, refl, c .before .before .answered .ensures .1)
+
+returns-5 : tie.Need-returns-5
+unfolding openTurn openRows openSaid
+returns-5 c = rw (le-leb 1160 (length (c .before .before .before .before .before .before .before .before .args .said .now)) (c .before .before .before .before .before .if1 .left), le-leb 321 (length (c .before .before .before .before .before .before .before .before .args .rows .now)) (c .before .before .before .before .if2 .left), sym (c .before .before .before .opening-at .ensures) ∙ c .before .enum-told2 .given .1) (c .waiting .ensures, refl, refl)
+
+returns-6 : tie.Need-returns-6
+unfolding openTurn openRows openSaid
+returns-6 c = rw (le-leb 1160 (length (c .before .before .before .before .before .before .before .before .args .said .now)) (c .before .before .before .before .before .if1 .left), le-leb 321 (length (c .before .before .before .before .before .before .before .before .args .rows .now)) (c .before .before .before .before .if2 .left), sym (c .before .before .before .opening-at .ensures) ∙ c .before .enum-told3 .given .1) (c .waiting2 .ensures, refl, refl)
+
+pub open-spec : {M : Type 1} → statement M
+open-spec = tie.close (tie.spec refused-requires returns refused-requires-2 returns-2 opening-at-requires enum-known-opening open-with-requires enum-told answered-requires enum-told-2 waiting-requires enum-told-3 waiting-requires-2 same-length same-length-2 returns-3 same-length-3 returns-4 returns-5 returns-6)

@@ -1,0 +1,104 @@
+use mathlib.Core.Path.{refl, sym, _∙_}
+use lib.ListN.{length}
+use borrow.Author.Needs.{needs}
+use borrow.Author.Tests.{not-false, not-true}
+use Rattle.replaying.specs.Laws.Lent.{lent-says}
+use Rattle.replaying.specs.Turn.{readRows, readSaid, readStore, readTurn}
+use Rattle.replaying.proofs.turns.read.Statement.{statement}
+use Rattle.replaying.proofs.turns.read.Tie as tie
+
+is-lent-requires : tie.Need-is-lent-requires
+is-lent-requires c κs = search needs
+
+refused-requires : tie.Need-refused-requires
+refused-requires c κs = search needs
+
+returns : tie.Need-returns
+unfolding readTurn readRows readStore readSaid
+returns c =
+    let b = sym (c .before .before .is-lent .ensures) ∙ not-true (c .before .before .is-lent .result) (c .before .if1 .taken) in
+    rw b (c .refused .ensures, refl, refl, refl)
+
+record-now-requires : tie.Need-record-now-requires
+record-now-requires c κs = search needs
+
+enum-known-found : tie.Need-enum-known-found
+enum-known-found c = search needs
+
+take-frame-requires : tie.Need-take-frame-requires
+take-frame-requires c κs =
+    let s = c .before .before .before .before .before .before .before .before .before .before .before in
+    let l = lent-says (s .args .replay) (length (s .args .rows .now)) (length (s .args .store .now)) (s .args .out) (length (s .args .said .now)) (sym (c .before .before .before .before .before .before .before .is-lent .ensures) ∙ not-false (c .before .before .before .before .before .before .before .is-lent .result) (c .before .before .before .before .before .before .if1 .left)) in
+    (l .short, l .rows-there, l .store-there)
+
+framed-requires : tie.Need-framed-requires
+framed-requires c κs = search needs
+
+enum-known-found-2 : tie.Need-enum-known-found-2
+enum-known-found-2 c = search needs
+
+answered-requires : tie.Need-answered-requires
+answered-requires c κs = lent-says (c .before .before .before .before .before .before .before .before .before .before .args .replay) (length (c .before .before .before .before .before .before .before .before .before .before .args .rows .now)) (length (c .before .before .before .before .before .before .before .before .before .before .args .store .now)) (c .before .before .before .before .before .before .before .before .before .before .args .out) (length (c .before .before .before .before .before .before .before .before .before .before .args .said .now)) (sym (c .before .before .before .before .before .before .is-lent .ensures) ∙ not-false (c .before .before .before .before .before .before .is-lent .result) (c .before .before .before .before .before .if1 .left)) .room
+
+enum-told : tie.Need-enum-told
+enum-told c = search needs
+
+answered-requires-2 : tie.Need-answered-requires-2
+answered-requires-2 c κs = lent-says (c .before .before .before .before .before .before .before .before .before .args .replay) (length (c .before .before .before .before .before .before .before .before .before .args .rows .now)) (length (c .before .before .before .before .before .before .before .before .before .args .store .now)) (c .before .before .before .before .before .before .before .before .before .args .out) (length (c .before .before .before .before .before .before .before .before .before .args .said .now)) (sym (c .before .before .before .before .before .is-lent .ensures) ∙ not-false (c .before .before .before .before .before .is-lent .result) (c .before .before .before .before .if1 .left)) .room
+
+enum-told-2 : tie.Need-enum-told-2
+enum-told-2 c = search needs
+
+waiting-requires : tie.Need-waiting-requires
+waiting-requires c κs = search needs
+
+enum-told-3 : tie.Need-enum-told-3
+enum-told-3 c = search needs
+
+waiting-requires-2 : tie.Need-waiting-requires-2
+waiting-requires-2 c κs = search needs
+
+same-length : tie.Need-same-length
+same-length c = search needs
+
+same-length-2 : tie.Need-same-length-2
+same-length-2 c = search needs
+
+returns-2 : tie.Need-returns-2
+unfolding readTurn readRows readStore readSaid
+returns-2 c =
+    let b = sym (c .before .before .before .before .before .before .before .before .before .before .before .before .is-lent .ensures) ∙ not-false (c .before .before .before .before .before .before .before .before .before .before .before .before .is-lent .result) (c .before .before .before .before .before .before .before .before .before .before .before .if1 .left) in
+    rw (b, sym (c .before .before .before .before .before .before .before .before .before .before .record-now .ensures) ∙ c .before .before .before .before .before .before .before .before .found .given .1) (c .framed .ensures, c .before .before .before .before .take-frame .ensures .0, c .before .before .before .before .take-frame .ensures .1, refl)
+
+same-length-3 : tie.Need-same-length-3
+same-length-3 c = search needs
+
+returns-3 : tie.Need-returns-3
+unfolding readTurn readRows readStore readSaid
+returns-3 c =
+    let b = sym (c .before .before .before .before .before .before .before .before .before .is-lent .ensures) ∙ not-false (c .before .before .before .before .before .before .before .before .before .is-lent .result) (c .before .before .before .before .before .before .before .before .if1 .left) in
+    rw (b, sym (c .before .before .before .before .before .before .before .record-now .ensures) ∙ c .before .before .before .before .before .found2 .given .1) (c .before .before .answered .ensures .0, refl, refl, c .before .before .answered .ensures .1)
+
+same-length-4 : tie.Need-same-length-4
+same-length-4 c = search needs
+
+returns-4 : tie.Need-returns-4
+unfolding readTurn readRows readStore readSaid
+returns-4 c =
+    let b = sym (c .before .before .before .before .before .before .before .before .is-lent .ensures) ∙ not-false (c .before .before .before .before .before .before .before .before .is-lent .result) (c .before .before .before .before .before .before .before .if1 .left) in
+    rw (b, sym (c .before .before .before .before .before .before .record-now .ensures) ∙ c .before .before .before .before .enum-told .given .1) (c .before .before .answered2 .ensures .0, refl, refl, c .before .before .answered2 .ensures .1)
+
+returns-5 : tie.Need-returns-5
+unfolding readTurn readRows readStore readSaid
+returns-5 c =
+    let b = sym (c .before .before .before .before .before .is-lent .ensures) ∙ not-false (c .before .before .before .before .before .is-lent .result) (c .before .before .before .before .if1 .left) in
+    rw (b, sym (c .before .before .before .record-now .ensures) ∙ c .before .enum-told2 .given .1) (c .waiting .ensures, refl, refl, refl)
+
+returns-6 : tie.Need-returns-6
+unfolding readTurn readRows readStore readSaid
+returns-6 c =
+    let b = sym (c .before .before .before .before .before .is-lent .ensures) ∙ not-false (c .before .before .before .before .before .is-lent .result) (c .before .before .before .before .if1 .left) in
+    rw (b, sym (c .before .before .before .record-now .ensures) ∙ c .before .enum-told3 .given .1) (c .waiting2 .ensures, refl, refl, refl)
+
+pub read-spec : {M : Type 1} → statement M
+read-spec = tie.close (tie.spec is-lent-requires refused-requires returns record-now-requires enum-known-found take-frame-requires framed-requires enum-known-found-2 answered-requires enum-told answered-requires-2 enum-told-2 waiting-requires enum-told-3 waiting-requires-2 same-length same-length-2 returns-2 same-length-3 returns-3 same-length-4 returns-4 returns-5 returns-6)

@@ -1,0 +1,24 @@
+use borrow.Author.Needs.{needs}
+use Rattle.replaying.specs.Turn.{recordNow}
+use Rattle.replaying.proofs.turns.record_now.Statement.{statement}
+use Rattle.replaying.proofs.turns.record_now.Tie as tie
+
+record-at-requires : tie.Need-record-at-requires
+record-at-requires c κs = search needs
+
+is-open-requires : tie.Need-is-open-requires
+is-open-requires c κs = search needs
+
+last-record-requires : tie.Need-last-record-requires
+last-record-requires c κs = search needs
+
+returns : tie.Need-returns
+unfolding recordNow
+returns c = rw (← c .before .before .before .record-at .ensures, ← c .before .before .is-open .ensures, c .before .if1 .taken) (c .last-record .ensures)
+
+returns-2 : tie.Need-returns-2
+unfolding recordNow
+returns-2 c = rw (← c .before .before .record-at .ensures, ← c .before .is-open .ensures, c .if1 .left)
+
+pub record-now-spec : {M : Type 1} → statement M
+record-now-spec = tie.close (tie.spec record-at-requires is-open-requires last-record-requires returns returns-2)

@@ -1,0 +1,112 @@
+use mathlib.Core.Path.{refl}
+use lib.ListN.{length}
+use borrow.Author.Needs.{needs}
+use Rattle.replaying.specs.declared.replay.Phase.the-variants.{Ended, Fetching, Reading, Settings, Skipping}
+use Rattle.replaying.proofs.Deciding.{out-is, rows-is, said-is, store-is, turn-is}
+use Rattle.replaying.proofs.turns.turn.Statement.{statement}
+use Rattle.replaying.proofs.turns.turn.Tie as tie
+
+enum-told : tie.Need-enum-told
+enum-told c = search needs
+
+open-requires : tie.Need-open-requires
+open-requires c κs = search needs
+
+enum-told-2 : tie.Need-enum-told-2
+enum-told-2 c = search needs
+
+read-requires : tie.Need-read-requires
+read-requires c κs = search needs
+
+enum-told-3 : tie.Need-enum-told-3
+enum-told-3 c = search needs
+
+report-requires : tie.Need-report-requires
+report-requires c κs = search needs
+
+enum-told-4 : tie.Need-enum-told-4
+enum-told-4 c = search needs
+
+skip-requires : tie.Need-skip-requires
+skip-requires c κs = search needs
+
+enum-told-5 : tie.Need-enum-told-5
+enum-told-5 c = search needs
+
+swallow-requires : tie.Need-swallow-requires
+swallow-requires c κs = search needs
+
+same-length : tie.Need-same-length
+same-length c = search needs
+
+same-length-2 : tie.Need-same-length-2
+same-length-2 c = search needs
+
+returns : tie.Need-returns
+returns c =
+    let s = c .before .before .before .before .before .before .before .before .before .before .before .before in
+    let e = c .before .before .before .before .before .before .enum-told .given .1 in
+    let r = s .args .replay in
+    let t = s .args .text .now in
+    let n = length (s .args .said .now) in
+    (turn-is r Settings e t (s .args .last) (s .args .rows .now) (s .args .store .now) (s .args .out .now) n _ (c .before .before .before .«open» .ensures .0), rows-is r Settings e t (s .args .last) (s .args .rows .now) (s .args .store .now) (s .args .out .now) n _ (c .before .before .before .«open» .ensures .1), store-is r Settings e t (s .args .last) (s .args .rows .now) (s .args .store .now) (s .args .out .now) n _ refl, out-is r Settings e t (s .args .last) (s .args .rows .now) (s .args .store .now) (s .args .out .now) n _ refl, said-is r Settings e t (s .args .last) (s .args .rows .now) (s .args .store .now) (s .args .out .now) (s .args .said .now) _ (c .before .before .before .«open» .ensures .2))
+
+same-length-3 : tie.Need-same-length-3
+same-length-3 c = search needs
+
+same-length-4 : tie.Need-same-length-4
+same-length-4 c = search needs
+
+same-length-5 : tie.Need-same-length-5
+same-length-5 c = search needs
+
+returns-2 : tie.Need-returns-2
+returns-2 c =
+    let s = c .before .before .before .before .before .before .before .before .before .before .before .before .before .before .before in
+    let e = c .before .before .before .before .before .before .before .before .before .enum-told2 .given .1 in
+    let r = s .args .replay in
+    let t = s .args .text .now in
+    let n = length (s .args .said .now) in
+    (turn-is r Reading e t (s .args .last) (s .args .rows .now) (s .args .store .now) (s .args .out .now) n _ (c .before .before .before .before .before .read .ensures .0), rows-is r Reading e t (s .args .last) (s .args .rows .now) (s .args .store .now) (s .args .out .now) n _ (c .before .before .before .before .before .read .ensures .1), store-is r Reading e t (s .args .last) (s .args .rows .now) (s .args .store .now) (s .args .out .now) n _ (c .before .before .before .before .before .read .ensures .2), out-is r Reading e t (s .args .last) (s .args .rows .now) (s .args .store .now) (s .args .out .now) n _ refl, said-is r Reading e t (s .args .last) (s .args .rows .now) (s .args .store .now) (s .args .out .now) (s .args .said .now) _ (c .before .before .before .before .before .read .ensures .3))
+
+same-length-6 : tie.Need-same-length-6
+same-length-6 c = search needs
+
+same-length-7 : tie.Need-same-length-7
+same-length-7 c = search needs
+
+same-length-8 : tie.Need-same-length-8
+same-length-8 c = search needs
+
+same-length-9 : tie.Need-same-length-9
+same-length-9 c = search needs
+
+returns-3 : tie.Need-returns-3
+returns-3 c =
+    let s = c .before .before .before .before .before .before .before .before .before .before .before .before .before .before .before .before in
+    let e = c .before .before .before .before .before .before .before .before .before .before .enum-told3 .given .1 in
+    let r = s .args .replay in
+    let t = s .args .text .now in
+    let n = length (s .args .said .now) in
+    (turn-is r Fetching e t (s .args .last) (s .args .rows .now) (s .args .store .now) (s .args .out .now) n _ (c .before .before .before .before .before .report .ensures .0), rows-is r Fetching e t (s .args .last) (s .args .rows .now) (s .args .store .now) (s .args .out .now) n _ (c .before .before .before .before .before .report .ensures .1), store-is r Fetching e t (s .args .last) (s .args .rows .now) (s .args .store .now) (s .args .out .now) n _ refl, out-is r Fetching e t (s .args .last) (s .args .rows .now) (s .args .store .now) (s .args .out .now) n _ (c .before .before .before .before .before .report .ensures .2), said-is r Fetching e t (s .args .last) (s .args .rows .now) (s .args .store .now) (s .args .out .now) (s .args .said .now) _ (c .before .before .before .before .before .report .ensures .3))
+
+returns-4 : tie.Need-returns-4
+returns-4 c =
+    let s = c .before .before .before .before .before .before .before in
+    let e = c .before .enum-told4 .given .1 in
+    let r = s .args .replay in
+    let t = s .args .text .now in
+    let n = length (s .args .said .now) in
+    (turn-is r Skipping e t (s .args .last) (s .args .rows .now) (s .args .store .now) (s .args .out .now) n _ (c .skip .ensures), rows-is r Skipping e t (s .args .last) (s .args .rows .now) (s .args .store .now) (s .args .out .now) n _ refl, store-is r Skipping e t (s .args .last) (s .args .rows .now) (s .args .store .now) (s .args .out .now) n _ refl, out-is r Skipping e t (s .args .last) (s .args .rows .now) (s .args .store .now) (s .args .out .now) n _ refl, said-is r Skipping e t (s .args .last) (s .args .rows .now) (s .args .store .now) (s .args .out .now) (s .args .said .now) _ refl)
+
+returns-5 : tie.Need-returns-5
+returns-5 c =
+    let s = c .before .before .before .before .before .before .before in
+    let e = c .before .enum-told5 .given .1 in
+    let r = s .args .replay in
+    let t = s .args .text .now in
+    let n = length (s .args .said .now) in
+    (turn-is r Ended e t (s .args .last) (s .args .rows .now) (s .args .store .now) (s .args .out .now) n _ (c .swallow .ensures), rows-is r Ended e t (s .args .last) (s .args .rows .now) (s .args .store .now) (s .args .out .now) n _ refl, store-is r Ended e t (s .args .last) (s .args .rows .now) (s .args .store .now) (s .args .out .now) n _ refl, out-is r Ended e t (s .args .last) (s .args .rows .now) (s .args .store .now) (s .args .out .now) n _ refl, said-is r Ended e t (s .args .last) (s .args .rows .now) (s .args .store .now) (s .args .out .now) (s .args .said .now) _ refl)
+
+pub turn-spec : {M : Type 1} → statement M
+turn-spec = tie.close (tie.spec enum-told open-requires enum-told-2 read-requires enum-told-3 report-requires enum-told-4 skip-requires enum-told-5 swallow-requires same-length same-length-2 returns same-length-3 same-length-4 same-length-5 returns-2 same-length-6 same-length-7 same-length-8 same-length-9 returns-3 returns-4 returns-5)

@@ -1,0 +1,4 @@
+-- Laws on the definitions, for the proofs above them.
+pub mod Lengths
+pub mod Lent
+pub mod Texts

@@ -1,0 +1,7 @@
+pub mod Laws
+pub mod Output
+pub mod Replay
+pub mod Runs
+pub mod Theorems
+pub mod Turn
+mod Wrong

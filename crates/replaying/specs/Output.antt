@@ -1,0 +1,62 @@
+-- The lines that are printed (2026-05): 'each epoch's report with mark and byte count, and each change of port state, in the order they arise'.
+use mathlib.Core.Bool.{cond}
+use mathlib.Core.List.{List, [], _++_}
+use Prim.Native.Nat.{ℕ, zero, suc, _+_, _*_, _/_, _%_}
+use lib.Dec.{eqb}
+use lib.ListN.{getD}
+use Rattle.ground.specs.Table.{tabulate}
+use Rattle.receiver.specs.Shown.{shownNumber}
+use Rattle.rows.specs.Member.{memberAt}
+use Rattle.text.specs.Ascii.{ascii}
+use Rattle.text.specs.Output.{decimalText, ended, numberText}
+use Rattle.text.specs.Text.{LINE-END, TAB}
+
+-- held 1, doubtful 2, sure 3
+unfoldable pub markText : ℕ → List ℕ
+markText mark = cond (eqb mark 1) (ascii "held") (cond (eqb mark 2) (ascii "doubtful") (ascii "sure"))
+
+-- IDLE 0, FAIL 1, OK 2
+unfoldable pub stateText : ℕ → List ℕ
+stateText state = cond (eqb state 0) (ascii "IDLE") (cond (eqb state 1) (ascii "FAIL") (ascii "OK"))
+
+-- a refusal 'is printed with its line number'
+unfoldable pub answerText : ℕ → ℕ → List ℕ
+answerText number line = ended (ascii "answer") TAB ++ ended (decimalText number) TAB ++ ended (ascii "line") TAB ++ ended (numberText line) LINE-END
+
+unfoldable pub epochText : ℕ → ℕ → ℕ → ℕ → List ℕ
+epochText epoch mark bytes line =
+    ended (ascii "epoch") TAB ++ ended (decimalText epoch) TAB ++ ended (markText mark) TAB ++ ended (ascii "bytes") TAB ++ ended (numberText bytes) TAB ++ ended (ascii "line") TAB ++ ended (numberText line) LINE-END
+
+unfoldable pub portText : ℕ → ℕ → ℕ → List ℕ
+portText port state number = ended (ascii "port") TAB ++ ended (decimalText port) TAB ++ ended (stateText state) TAB ++ ended (decimalText number) LINE-END
+
+-- a port's member state and its number, as one
+unfoldable pub stateAt : List (List ℕ) → ℕ → ℕ
+stateAt rows i = memberAt rows i .state * 256 + shownNumber 0 (memberAt rows i)
+
+unfoldable pub statesIn : List (List ℕ) → List ℕ
+statesIn rows = tabulate 64 (stateAt rows)
+
+unfoldable pub stateLine : ℕ → ℕ → List ℕ
+stateLine port state = portText port (state / 256) (state % 256)
+
+-- nothing for a port whose state stayed
+abbrev pub changeText : ℕ → ℕ → ℕ → List ℕ
+changeText port old new = cond (eqb old new) [] (stateLine port new)
+
+-- a line for each of the first n ports whose state is another, in order
+abbrev pub changesText : List ℕ → List ℕ → ℕ → List ℕ
+changesText before after zero = []
+changesText before after (suc n) = changesText before after n ++ changeText n (getD before n 0) (getD after n 0)
+
+-- how many bytes a report says
+unfoldable pub countIn : List ℕ → ℕ
+countIn rec = getD rec 4 0 * 16777216 + getD rec 5 0 * 65536 + getD rec 6 0 * 256 + getD rec 7 0
+
+-- a report, and then the states that it changed
+unfoldable pub reportText : List ℕ → ℕ → List ℕ → List ℕ → ℕ → List ℕ
+reportText rec line before after ports = epochText (getD rec 1 0) (getD rec 0 0) (countIn rec) line ++ changesText before after ports
+
+-- room for what one call writes: a report of at most 72 bytes and 64 ports of at most 17
+abbrev pub ROOM : ℕ
+ROOM = 1160

@@ -1,0 +1,3 @@
+-- What 2026-05 asks of a replay, proved on the definitions.
+pub mod Cuts
+pub mod Lines

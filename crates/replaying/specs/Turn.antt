@@ -1,0 +1,296 @@
+-- One turn of a replay (2026-05): a line read, or a report fetched.
+use mathlib.Core.Bool.{Bool, true, false, cond, _&&_}
+use mathlib.Core.List.{List, [], _∷_, _++_}
+use Prim.Native.Nat.{ℕ, _+_, _-_, _*_}
+use lib.Dec.{eqb, leb, ltb}
+use lib.ListN.{drop, getD, length, replicate, take}
+use lib.Seq.{slice}
+use Rattle.bytes.specs.Bytes.{indexOf}
+use Rattle.phases.specs.Sizes.{sized}
+use Rattle.receiver.specs.Fetch.{fetchOut, fetchRecord, fetchRows}
+use Rattle.receiver.specs.Frame.{frameRows, frameStore}
+use Rattle.receiver.specs.Starting.{startRows}
+use Rattle.recording.specs.declared.opening.Opening.{Opening}
+use Rattle.recording.specs.declared.opening.Opening.the-variants as O
+use Rattle.recording.specs.declared.record.Record.{Record}
+use Rattle.recording.specs.declared.record.Record.the-variants.{Frame, Malformed, Long, Unfinished, End}
+use Rattle.recording.specs.Opening.{openingIn}
+use Rattle.recording.specs.Record.{lastRecord, recordIn}
+use Rattle.replaying.specs.declared.replay.Phase.{Phase}
+use Rattle.replaying.specs.declared.replay.Phase.the-variants.{Settings, Reading, Fetching, Skipping, Ended}
+use Rattle.replaying.specs.declared.replay.Replay.{Replay}
+use Rattle.replaying.specs.declared.turns.Replayed.{Replayed}
+use Rattle.replaying.specs.Output.{ROOM, answerText, reportText, statesIn}
+use Rattle.replaying.specs.Replay.{nextLine, outputOf, rowsOf, storeOf}
+use Rattle.text.specs.Fields.{bytesIn}
+use Rattle.text.specs.Text.{LINE-END}
+
+-- a text at a buffer's front; the bytes behind it stay
+abbrev pub over : List ℕ → List ℕ → List ℕ
+over text out = text ++ drop (length text) out
+
+-- in another phase, with so many lines and fetches
+abbrev pub within : Replay → Phase → ℕ → ℕ → Replay
+within r phase line left = record { phase = phase; line = line; left = left; ports = r .ports; size = r .size; window = r .window }
+
+abbrev pub turned : Replay → ℕ → ℕ → Bool → Replayed
+turned r used written wants = record { replay = r; answer = 0; used = used; written = written; wants = wants }
+
+-- 9: what is lent is too short, and nothing is done
+abbrev pub refusedTurn : Replay → Replayed
+refusedTurn r = record { replay = r; answer = 9; used = 0; written = 0; wants = true }
+
+-- no line has ended
+abbrev pub waitingTurn : Replay → Replayed
+waitingTurn r = turned r 0 0 true
+
+-- a line refused: it 'is printed with its line number'
+unfoldable pub answeredTurn : Replay → Phase → ℕ → ℕ → Replayed
+answeredTurn r phase number used = turned (within r phase (nextLine (r .line)) 0) used (length (answerText number (nextLine (r .line)))) false
+
+unfoldable pub answeredSaid : Replay → ℕ → List ℕ → List ℕ
+answeredSaid r number said = over (answerText number (nextLine (r .line))) said
+
+-- the first line: 'a bad first line ends the run', and 'Settings out of range, or a store above' what is lent 'are 4 and end it'
+
+unfoldable pub startable : ℕ → ℕ → ℕ → ℕ → Bool
+startable ports size window store = sized 0 ports size window && leb (storeOf ports size window) store
+
+unfoldable pub openWithTurn : Replay → ℕ → ℕ → ℕ → ℕ → ℕ → Replayed
+openWithTurn r ports size window next store =
+    cond (startable ports size window store)
+    (turned (record { phase = Reading; line = nextLine (r .line); left = 0; ports = ports; size = size; window = window }) next 0 false)
+    (answeredTurn r Ended 4 0)
+
+unfoldable pub openWithRows : ℕ → ℕ → ℕ → ℕ → List (List ℕ) → List (List ℕ)
+openWithRows ports size window store rows =
+    cond (startable ports size window store)
+    (startRows 0 ports size window (storeOf ports size window) (take (rowsOf ports) rows) ++ drop (rowsOf ports) rows)
+    rows
+
+unfoldable pub openWithSaid : Replay → ℕ → ℕ → ℕ → ℕ → List ℕ → List ℕ
+openWithSaid r ports size window store said = cond (startable ports size window store) said (answeredSaid r 4 said)
+
+abbrev pub openTurnBy : Replay → ℕ → Opening → Replayed
+openTurnBy r store (O.Settings ports size window next) = openWithTurn r ports size window next store
+openTurnBy r store O.Malformed = answeredTurn r Ended 13 0
+openTurnBy r store O.Unfinished = waitingTurn r
+openTurnBy r store O.End = waitingTurn r
+
+abbrev pub openRowsBy : ℕ → List (List ℕ) → Opening → List (List ℕ)
+openRowsBy store rows (O.Settings ports size window next) = openWithRows ports size window store rows
+openRowsBy store rows O.Malformed = rows
+openRowsBy store rows O.Unfinished = rows
+openRowsBy store rows O.End = rows
+
+abbrev pub openSaidBy : Replay → ℕ → List ℕ → Opening → List ℕ
+openSaidBy r store said (O.Settings ports size window next) = openWithSaid r ports size window store said
+openSaidBy r store said O.Malformed = answeredSaid r 13 said
+openSaidBy r store said O.Unfinished = said
+openSaidBy r store said O.End = said
+
+-- rows are lent for 64 ports
+abbrev pub openLent : ℕ → ℕ → Bool
+openLent rows said = leb ROOM said && leb 321 rows
+
+unfoldable pub openTurn : Replay → List ℕ → Bool → ℕ → ℕ → ℕ → Replayed
+openTurn r text last rows store said = cond (openLent rows said) (openTurnBy r store (openingIn 0 last text)) (refusedTurn r)
+
+unfoldable pub openRows : List ℕ → Bool → List (List ℕ) → ℕ → ℕ → List (List ℕ)
+openRows text last rows store said = cond (openLent (length rows) said) (openRowsBy store rows (openingIn 0 last text)) rows
+
+unfoldable pub openSaid : Replay → List ℕ → Bool → ℕ → ℕ → List ℕ → List ℕ
+openSaid r text last rows store said = cond (openLent rows (length said)) (openSaidBy r store said (openingIn 0 last text)) said
+
+-- a line
+
+unfoldable pub isLent : Replay → ℕ → ℕ → ℕ → ℕ → Bool
+isLent r rows store out said =
+    leb ROOM said && leb (r .ports) 64 && leb (r .size) 2340 && leb (rowsOf (r .ports)) rows && leb (storeOf (r .ports) (r .size) (r .window)) store && leb (outputOf (r .ports) (r .size)) out
+
+abbrev pub isOpen : Record → Bool
+isOpen (Frame port h4 flag place next) = false
+isOpen (Malformed next) = false
+isOpen Long = false
+isOpen Unfinished = true
+isOpen End = false
+
+-- the record at the beginning of a text; the last line may lack its end
+unfoldable pub recordNow : ℕ → ℕ → Bool → List ℕ → Record
+recordNow ports size last text = cond (isOpen (recordIn ports size 0 text) && last) (lastRecord ports size 0 text) (recordIn ports size 0 text)
+
+-- the payload's digits as bytes
+unfoldable pub payloadAt : ℕ → ℕ → List ℕ → List ℕ
+payloadAt size place text = bytesIn (slice place (place + size + size) text) (replicate size 0)
+
+-- the frame handed to the receiver, on the parts of rows and store that are its own
+module _ (r : Replay) (port h4 flag : ℕ) (payload : List ℕ) (rows : List (List ℕ)) (store : List ℕ) where
+  unfoldable pub framedRows : List (List ℕ)
+  framedRows =
+      frameRows (take (rowsOf (r .ports)) rows) port (eqb flag 1) h4 payload (take (storeOf (r .ports) (r .size) (r .window)) store) ++ drop (rowsOf (r .ports)) rows
+
+  unfoldable pub framedStore : List ℕ
+  framedStore =
+      frameStore (take (rowsOf (r .ports)) rows) port (eqb flag 1) h4 payload (take (storeOf (r .ports) (r .size) (r .window)) store)
+      ++ drop (storeOf (r .ports) (r .size) (r .window)) store
+
+-- reports are fetched then, at most W of them
+unfoldable pub framedTurn : Replay → ℕ → Replayed
+framedTurn r next = turned (within r Fetching (nextLine (r .line)) (r .window)) next 0 false
+
+module _ (r : Replay) (text : List ℕ) where
+  -- 'a malformed line is 13, is printed with its line number, and changes nothing else'
+  abbrev pub readBy : Record → Replayed
+  readBy (Frame port h4 flag place next) = framedTurn r next
+  readBy (Malformed next) = answeredTurn r Reading 13 next
+  readBy Long = answeredTurn r Skipping 13 (length text)
+  readBy Unfinished = waitingTurn r
+  readBy End = waitingTurn r
+
+  abbrev pub readRowsBy : List (List ℕ) → List ℕ → Record → List (List ℕ)
+  readRowsBy rows store (Frame port h4 flag place next) = framedRows r port h4 flag (payloadAt (r .size) place text) rows store
+  readRowsBy rows store (Malformed next) = rows
+  readRowsBy rows store Long = rows
+  readRowsBy rows store Unfinished = rows
+  readRowsBy rows store End = rows
+
+  abbrev pub readStoreBy : List (List ℕ) → List ℕ → Record → List ℕ
+  readStoreBy rows store (Frame port h4 flag place next) = framedStore r port h4 flag (payloadAt (r .size) place text) rows store
+  readStoreBy rows store (Malformed next) = store
+  readStoreBy rows store Long = store
+  readStoreBy rows store Unfinished = store
+  readStoreBy rows store End = store
+
+  abbrev pub readSaidBy : List ℕ → Record → List ℕ
+  readSaidBy said (Frame port h4 flag place next) = said
+  readSaidBy said (Malformed next) = answeredSaid r 13 said
+  readSaidBy said Long = answeredSaid r 13 said
+  readSaidBy said Unfinished = said
+  readSaidBy said End = said
+
+abbrev pub nowIn : Replay → List ℕ → Bool → Record
+nowIn r text last = recordNow (r .ports) (r .size) last text
+
+unfoldable pub readTurn : Replay → List ℕ → Bool → ℕ → ℕ → ℕ → ℕ → Replayed
+readTurn r text last rows store out said = cond (isLent r rows store out said) (readBy r text (nowIn r text last)) (refusedTurn r)
+
+unfoldable pub readRows : Replay → List ℕ → Bool → List (List ℕ) → List ℕ → ℕ → ℕ → List (List ℕ)
+readRows r text last rows store out said = cond (isLent r (length rows) (length store) out said) (readRowsBy r text rows store (nowIn r text last)) rows
+
+unfoldable pub readStore : Replay → List ℕ → Bool → List (List ℕ) → List ℕ → ℕ → ℕ → List ℕ
+readStore r text last rows store out said = cond (isLent r (length rows) (length store) out said) (readStoreBy r text rows store (nowIn r text last)) store
+
+unfoldable pub readSaid : Replay → List ℕ → Bool → ℕ → ℕ → ℕ → List ℕ → List ℕ
+readSaid r text last rows store out said = cond (isLent r rows store out (length said)) (readSaidBy r text said (nowIn r text last)) said
+
+-- a report
+
+unfoldable pub readOnTurn : Replay → Replayed
+readOnTurn r = turned (within r Reading (r .line) 0) 0 0 false
+
+unfoldable pub reportedTurn : Replay → ℕ → Replayed
+reportedTurn r written = turned (within r Fetching (r .line) (r .left - 1)) 0 written false
+
+module _ (r : Replay) (rows : List (List ℕ)) (store out : List ℕ) where
+  unfoldable pub fetchRecordBy : List ℕ
+  fetchRecordBy = fetchRecord (take (rowsOf (r .ports)) rows) (take (storeOf (r .ports) (r .size) (r .window)) store) out (replicate 8 0)
+
+  unfoldable pub fetchRowsBy : List (List ℕ)
+  fetchRowsBy =
+      fetchRows (take (rowsOf (r .ports)) rows) (take (storeOf (r .ports) (r .size) (r .window)) store) out (replicate 8 0) ++ drop (rowsOf (r .ports)) rows
+
+  unfoldable pub fetchOutBy : List ℕ
+  fetchOutBy = fetchOut (take (rowsOf (r .ports)) rows) (take (storeOf (r .ports) (r .size) (r .window)) store) out (replicate 8 0)
+
+  -- none is due where the mark is 0
+  abbrev pub isDue : Bool
+  isDue = ltb 0 (getD fetchRecordBy 0 0)
+
+  unfoldable pub reportOf : List ℕ
+  reportOf = reportText fetchRecordBy (r .line) (statesIn rows) (statesIn fetchRowsBy) (r .ports)
+
+  module _ (said : ℕ) where
+    -- a fetch is made
+    abbrev pub fetches : Bool
+    fetches = isLent r (length rows) (length store) (length out) said && ltb 0 (r .left)
+
+    unfoldable pub reportTurn : Replayed
+    reportTurn =
+        cond (isLent r (length rows) (length store) (length out) said)
+        (cond (ltb 0 (r .left)) (cond isDue (reportedTurn r (length reportOf)) (readOnTurn r)) (readOnTurn r))
+        (refusedTurn r)
+
+    unfoldable pub reportRows : List (List ℕ)
+    reportRows = cond fetches fetchRowsBy rows
+
+    unfoldable pub reportOut : List ℕ
+    reportOut = cond fetches fetchOutBy out
+
+  unfoldable pub reportSaid : List ℕ → List ℕ
+  reportSaid said = cond (fetches (length said)) (cond isDue (over reportOf said) said) said
+
+-- the rest of a line that is too long
+
+abbrev pub skippedTo : Bool → Phase
+skippedTo last = cond last Reading Skipping
+
+unfoldable pub skipTurn : Replay → List ℕ → Bool → Replayed
+skipTurn r text last =
+    cond (ltb (indexOf LINE-END text) (length text)) (turned (within r Reading (r .line) 0) (indexOf LINE-END text + 1) 0 false)
+    (turned (within r (skippedTo last) (r .line) 0) (length text) 0 true)
+
+-- nothing more is printed
+abbrev pub endedTurn : Replay → ℕ → Replayed
+endedTurn r text = turned r text 0 true
+
+-- by the phase
+
+abbrev pub turnBy : Phase → Replay → List ℕ → Bool → List (List ℕ) → List ℕ → List ℕ → ℕ → Replayed
+turnBy Settings r text last rows store out said = openTurn r text last (length rows) (length store) said
+turnBy Reading r text last rows store out said = readTurn r text last (length rows) (length store) (length out) said
+turnBy Fetching r text last rows store out said = reportTurn r rows store out said
+turnBy Skipping r text last rows store out said = skipTurn r text last
+turnBy Ended r text last rows store out said = endedTurn r (length text)
+
+abbrev pub turnRowsBy : Phase → Replay → List ℕ → Bool → List (List ℕ) → List ℕ → List ℕ → ℕ → List (List ℕ)
+turnRowsBy Settings r text last rows store out said = openRows text last rows (length store) said
+turnRowsBy Reading r text last rows store out said = readRows r text last rows store (length out) said
+turnRowsBy Fetching r text last rows store out said = reportRows r rows store out said
+turnRowsBy Skipping r text last rows store out said = rows
+turnRowsBy Ended r text last rows store out said = rows
+
+abbrev pub turnStoreBy : Phase → Replay → List ℕ → Bool → List (List ℕ) → List ℕ → List ℕ → ℕ → List ℕ
+turnStoreBy Settings r text last rows store out said = store
+turnStoreBy Reading r text last rows store out said = readStore r text last rows store (length out) said
+turnStoreBy Fetching r text last rows store out said = store
+turnStoreBy Skipping r text last rows store out said = store
+turnStoreBy Ended r text last rows store out said = store
+
+abbrev pub turnOutBy : Phase → Replay → List (List ℕ) → List ℕ → List ℕ → ℕ → List ℕ
+turnOutBy Settings r rows store out said = out
+turnOutBy Reading r rows store out said = out
+turnOutBy Fetching r rows store out said = reportOut r rows store out said
+turnOutBy Skipping r rows store out said = out
+turnOutBy Ended r rows store out said = out
+
+abbrev pub turnSaidBy : Phase → Replay → List ℕ → Bool → List (List ℕ) → List ℕ → List ℕ → List ℕ → List ℕ
+turnSaidBy Settings r text last rows store out said = openSaid r text last (length rows) (length store) said
+turnSaidBy Reading r text last rows store out said = readSaid r text last (length rows) (length store) (length out) said
+turnSaidBy Fetching r text last rows store out said = reportSaid r rows store out said
+turnSaidBy Skipping r text last rows store out said = said
+turnSaidBy Ended r text last rows store out said = said
+
+unfoldable pub turnOf : Replay → List ℕ → Bool → List (List ℕ) → List ℕ → List ℕ → ℕ → Replayed
+turnOf r text last rows store out said = turnBy (r .phase) r text last rows store out said
+
+unfoldable pub turnRows : Replay → List ℕ → Bool → List (List ℕ) → List ℕ → List ℕ → ℕ → List (List ℕ)
+turnRows r text last rows store out said = turnRowsBy (r .phase) r text last rows store out said
+
+unfoldable pub turnStore : Replay → List ℕ → Bool → List (List ℕ) → List ℕ → List ℕ → ℕ → List ℕ
+turnStore r text last rows store out said = turnStoreBy (r .phase) r text last rows store out said
+
+unfoldable pub turnOut : Replay → List (List ℕ) → List ℕ → List ℕ → ℕ → List ℕ
+turnOut r rows store out said = turnOutBy (r .phase) r rows store out said
+
+unfoldable pub turnSaid : Replay → List ℕ → Bool → List (List ℕ) → List ℕ → List ℕ → List ℕ → List ℕ
+turnSaid r text last rows store out said = turnSaidBy (r .phase) r text last rows store out said

@@ -1,0 +1,41 @@
+-- Wrong readings of 2026-05, each as a definition with a run on which it breaks what the request says.
+use mathlib.Core.Path.{_≡_, refl}
+use mathlib.Core.List.{List, [], _∷_, _++_}
+use Prim.Native.Nat.{ℕ}
+use lib.ListN.{getD, take}
+use Rattle.recording.specs.Opening.{lineOpening, settingsBy}
+use Rattle.replaying.specs.declared.replay.Phase.the-variants.{Settings}
+use Rattle.replaying.specs.Output.{answerText, changesText, countIn, epochText, markText, portText, reportText, stateLine, stateText}
+use Rattle.replaying.specs.Replay.{beginning}
+use Rattle.replaying.specs.Runs.{Desk, deskAfter, saidTo, standing}
+use Rattle.text.specs.Ascii.{ascii}
+use Rattle.text.specs.Fields.{digitOf, numberOf}
+use Rattle.text.specs.Output.{decimalText, numberText}
+use Rattle.text.specs.Text.{fieldsOf}
+
+abbrev fresh : Desk
+fresh = record { replay = beginning; rows = []; store = [] }
+
+-- The next line taken for the first one where that is bad. 'A bad first line ends the run'.
+wrong-after : Desk → Desk
+wrong-after d = standing [] d Settings
+
+ended-breaks : (saidTo [] (wrong-after fresh) (ascii "y") ≡ answerText 13 2) × (saidTo [] (deskAfter [] fresh (ascii "x")) (ascii "y") ≡ [])
+unfolding wrong-after saidTo deskAfter lineOpening fieldsOf settingsBy numberOf digitOf
+ended-breaks = (refl, refl)
+
+-- The changed states printed before their report. 'In the order they arise': they change at the report.
+wrong-report : List ℕ → ℕ → List ℕ → List ℕ → ℕ → List ℕ
+wrong-report rec line before after ports = changesText before after ports ++ epochText (getD rec 1 0) (getD rec 0 0) (countIn rec) line
+
+abbrev sure : List ℕ
+sure = 3 ∷ 33 ∷ 1 ∷ 0 ∷ 0 ∷ 0 ∷ 0 ∷ 16 ∷ []
+
+order-breaks : (take 4 (wrong-report sure 812 (255 ∷ []) (513 ∷ []) 1) ≡ ascii "port") × (take 5 (reportText sure 812 (255 ∷ []) (513 ∷ []) 1) ≡ ascii "epoch")
+unfolding wrong-report reportText epochText stateLine portText stateText markText countIn decimalText numberText
+order-breaks = (refl, refl)
+
+-- a report whole, and the state that it changed
+report-is : reportText sure 812 (255 ∷ []) (513 ∷ []) 1 ≡ ascii "epoch\t33\tsure\tbytes\t16\tline\t812\nport\t0\tOK\t1\n"
+unfolding reportText epochText stateLine portText stateText markText countIn decimalText numberText
+report-is = refl

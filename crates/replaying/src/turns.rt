@@ -1,0 +1,453 @@
+// One turn of a replay (2026-05): a line read, or a report fetched.
+use crate::changes;
+use crate::lent;
+use crate::output;
+use crate::replay;
+use crate::replay::Phase;
+use crate::replay::Replay;
+use packet::kinds;
+use recording::Opening;
+use recording::Record;
+ghost use mathlib.Core.Path.{_≡_};
+ghost use mathlib.Core.Bool.{true};
+ghost use mathlib.Core.List.{_++_};
+ghost use Prim.Native.Nat.{_+_, _*_, _≤_};
+ghost use lib.Dec.{eqb};
+ghost use lib.ListN.{drop, length, replicate};
+ghost use Rattle.recording.specs.Record.{recordIn};
+ghost use Rattle.replaying.specs.Output.{ROOM};
+ghost use Rattle.replaying.specs.Turn.{answeredSaid, answeredTurn, endedTurn, fetchOutBy, fetchRecordBy, fetchRowsBy, framedTurn, framedRows, framedStore, isLent, isOpen, openRows, openSaid, openTurn, openWithRows, openWithSaid, openWithTurn, payloadAt, readBy, readRows, readSaid, readStore, readTurn, recordNow, refusedTurn, reportOut, reportRows, reportSaid, reportTurn, reportedTurn, readOnTurn, skipTurn, skippedTo, startable, turnOf, turnOut, turnRows, turnSaid, turnStore, waitingTurn};
+
+// What a turn has done. answer: 0, or 9 where what is lent is too short, and then nothing is done. wants: nothing more can be done without more
+// of the text.
+pub struct Replayed {
+    pub replay: Replay,
+    pub answer: u8,
+    pub used: usize,
+    pub written: usize,
+    pub wants: bool,
+}
+
+// Room for what one turn writes.
+pub const REPLAY_ROOM: usize = 1160;
+
+fn refused(replay: Replay) -> Replayed
+    ensures { λ r. ⌜ r ≡ refusedTurn replay ⌝ }
+{
+    Replayed {
+        replay,
+        answer: 9,
+        used: 0,
+        written: 0,
+        wants: true,
+    }
+}
+
+fn waiting(replay: Replay) -> Replayed
+    ensures { λ r. ⌜ r ≡ waitingTurn replay ⌝ }
+{
+    Replayed {
+        replay,
+        answer: 0,
+        used: 0,
+        written: 0,
+        wants: true,
+    }
+}
+
+// A line refused, and what comes then.
+fn answered(replay: Replay, phase: Phase, number: u8, used: usize, said: &mut [u8]) -> Replayed
+    requires { ⌜ ROOM ≤ length (now said) ⌝ }
+    ensures { λ r. ⌜ (r ≡ answeredTurn replay phase number used) × (now (said .exit) ≡ answeredSaid replay number (now (said .entry))) ⌝ }
+{
+    let line = replay::next_line(replay.line);
+    let written = output::put_answer(number, line, said);
+    Replayed {
+        replay: Replay {
+            phase,
+            line,
+            left: 0,
+            ports: replay.ports,
+            size: replay.size,
+            window: replay.window,
+        },
+        answer: 0,
+        used,
+        written,
+        wants: false,
+    }
+}
+
+// Settings in range, and a store that is lent.
+fn is_startable(ports: u32, size: u32, window: u32, store: usize) -> bool
+    ensures { λ r. ⌜ r ≡ startable ports size window store ⌝ }
+{
+    if phases::is_sized(kinds::H4, ports, size, window) {
+        return replay::store_of(ports as u8, size as u16, window as u16) <= store;
+    }
+    false
+}
+
+fn open_with(
+    replay: Replay,
+    ports: u32,
+    size: u32,
+    window: u32,
+    next: usize,
+    rows: &mut [[u8; 16]],
+    store: usize,
+    said: &mut [u8],
+) -> Replayed
+    requires { ⌜ (ROOM ≤ length (now said)) × (321 ≤ length (now rows)) ⌝ }
+    ensures { λ r. ⌜ (r ≡ openWithTurn replay ports size window next store)
+        × (now (rows .exit) ≡ openWithRows ports size window store (now (rows .entry)))
+        × (now (said .exit) ≡ openWithSaid replay ports size window store (now (said .entry))) ⌝ }
+{
+    if !is_startable(ports, size, window, store) {
+        return answered(replay, Phase::Ended, 4, 0, said);
+    }
+    let count = ports as u8;
+    let bytes = replay::store_of(count, size as u16, window as u16);
+    let n = replay::rows_of(count);
+    lent::start(ports, size, window, bytes, rows, n);
+    let line = replay::next_line(replay.line);
+    Replayed {
+        replay: Replay {
+            phase: Phase::Reading,
+            line,
+            left: 0,
+            ports: count,
+            size: size as u16,
+            window: window as u16,
+        },
+        answer: 0,
+        used: next,
+        written: 0,
+        wants: false,
+    }
+}
+
+// The first line.
+fn open(
+    replay: Replay,
+    text: &[u8],
+    last: bool,
+    rows: &mut [[u8; 16]],
+    store: usize,
+    said: &mut [u8],
+) -> Replayed
+    ensures { λ r. ⌜ (r ≡ openTurn replay (now (text .entry)) last (length (now (rows .entry))) store (length (now (said .entry))))
+        × (now (rows .exit) ≡ openRows (now (text .entry)) last (now (rows .entry)) store (length (now (said .entry))))
+        × (now (said .exit) ≡ openSaid replay (now (text .entry)) last (length (now (rows .entry))) store (now (said .entry))) ⌝ }
+{
+    if said.len() < REPLAY_ROOM {
+        return refused(replay);
+    }
+    if rows.len() < 321 {
+        return refused(replay);
+    }
+    let opening = recording::opening_at(text, 0, last);
+    match opening {
+        Opening::Settings(ports, size, window, next) => {
+            open_with(replay, ports, size, window, next, rows, store, said)
+        }
+        Opening::Malformed => answered(replay, Phase::Ended, 13, 0, said),
+        Opening::Unfinished => waiting(replay),
+        Opening::End => waiting(replay),
+    }
+}
+
+// What is lent is long enough for the receiver and for what is printed.
+fn is_lent(replay: Replay, rows: usize, store: usize, out: usize, said: usize) -> bool
+    ensures { λ r. ⌜ r ≡ isLent replay rows store out said ⌝ }
+{
+    let n = replay::rows_of(replay.ports);
+    let m = replay::store_of(replay.ports, replay.size, replay.window);
+    let o = replay::output_of(replay.ports, replay.size);
+    (REPLAY_ROOM <= said)
+        & (replay.ports <= 64)
+        & (replay.size <= 2340)
+        & (n <= rows)
+        & (m <= store)
+        & (o <= out)
+}
+
+fn is_open(found: Record) -> bool
+    ensures { λ r. ⌜ r ≡ isOpen found ⌝ }
+{
+    match found {
+        Record::Frame(_, _, _, _, _) => false,
+        Record::Malformed(_) => false,
+        Record::Long => false,
+        Record::Unfinished => true,
+        Record::End => false,
+    }
+}
+
+// The record at the beginning of a text; the last line may lack its end.
+fn record_now(text: &[u8], last: bool, ports: u8, size: u16) -> Record
+    ensures { λ r. ⌜ r ≡ recordNow ports size last (now (text .entry)) ⌝ }
+{
+    let found = recording::record_at(text, 0, ports as u32, size as u32);
+    if is_open(found) & last {
+        return recording::last_record(text, 0, ports as u32, size as u32);
+    }
+    found
+}
+
+// The payload's digits as bytes, into the front of an array.
+fn payload_at(text: &[u8], place: usize, size: u16) -> [u8; 2340]
+    requires { ⌜ size ≤ 2340 ⌝ }
+    ensures { λ r. ⌜ r ≡ payloadAt size place (now (text .entry)) ++ drop size (replicate 2340 0) ⌝ }
+{
+    let mut payload = [0u8; 2340];
+    let n = size as usize;
+    if place <= text.len() {
+        text::read_bytes(text, place, place + n + n, &mut payload[..n]);
+    }
+    payload
+}
+
+// A frame handed to the receiver.
+fn take_frame(
+    replay: Replay,
+    text: &[u8],
+    port: u32,
+    h4: u8,
+    flag: u8,
+    place: usize,
+    rows: &mut [[u8; 16]],
+    store: &mut [u8],
+)
+    requires { ⌜ (replay .size ≤ 2340) × (replay .ports * 5 + 1 ≤ length (now rows)) × (replay .ports * replay .window * (replay .size + 1) ≤ length (now store)) ⌝ }
+    ensures { λ _. ⌜ (now (rows .exit) ≡ framedRows replay port h4 flag (payloadAt (replay .size) place (now (text .entry))) (now (rows .entry)) (now (store .entry)))
+        × (now (store .exit) ≡ framedStore replay port h4 flag (payloadAt (replay .size) place (now (text .entry))) (now (rows .entry)) (now (store .entry))) ⌝ }
+{
+    let payload = payload_at(text, place, replay.size);
+    let size = replay.size as usize;
+    let n = replay::rows_of(replay.ports);
+    let m = replay::store_of(replay.ports, replay.size, replay.window);
+    lent::frame(rows, n, port, flag == 1, h4, &payload[..size], store, m);
+}
+
+fn framed(replay: Replay, next: usize) -> Replayed
+    ensures { λ r. ⌜ r ≡ framedTurn replay next ⌝ }
+{
+    let line = replay::next_line(replay.line);
+    Replayed {
+        replay: Replay {
+            phase: Phase::Fetching,
+            line,
+            left: replay.window,
+            ports: replay.ports,
+            size: replay.size,
+            window: replay.window,
+        },
+        answer: 0,
+        used: next,
+        written: 0,
+        wants: false,
+    }
+}
+
+// A line.
+fn read(
+    replay: Replay,
+    text: &[u8],
+    last: bool,
+    rows: &mut [[u8; 16]],
+    store: &mut [u8],
+    out: usize,
+    said: &mut [u8],
+) -> Replayed
+    ensures { λ r. ⌜ (r ≡ readTurn replay (now (text .entry)) last (length (now (rows .entry))) (length (now (store .entry))) out (length (now (said .entry))))
+        × (now (rows .exit) ≡ readRows replay (now (text .entry)) last (now (rows .entry)) (now (store .entry)) out (length (now (said .entry))))
+        × (now (store .exit) ≡ readStore replay (now (text .entry)) last (now (rows .entry)) (now (store .entry)) out (length (now (said .entry))))
+        × (now (said .exit) ≡ readSaid replay (now (text .entry)) last (length (now (rows .entry))) (length (now (store .entry))) out (now (said .entry))) ⌝ }
+{
+    if !is_lent(replay, rows.len(), store.len(), out, said.len()) {
+        return refused(replay);
+    }
+    let found = record_now(text, last, replay.ports, replay.size);
+    match found {
+        Record::Frame(port, h4, flag, place, next) => {
+            take_frame(replay, text, port, h4, flag, place, rows, store);
+            framed(replay, next)
+        }
+        Record::Malformed(next) => answered(replay, Phase::Reading, 13, next, said),
+        Record::Long => answered(replay, Phase::Skipping, 13, text.len(), said),
+        Record::Unfinished => waiting(replay),
+        Record::End => waiting(replay),
+    }
+}
+
+// No report is due: the next line may come.
+fn read_on(replay: Replay) -> Replayed
+    ensures { λ r. ⌜ r ≡ readOnTurn replay ⌝ }
+{
+    Replayed {
+        replay: Replay {
+            phase: Phase::Reading,
+            line: replay.line,
+            left: 0,
+            ports: replay.ports,
+            size: replay.size,
+            window: replay.window,
+        },
+        answer: 0,
+        used: 0,
+        written: 0,
+        wants: false,
+    }
+}
+
+fn reported(replay: Replay, written: usize) -> Replayed
+    requires { ⌜ 1 ≤ replay .left ⌝ }
+    ensures { λ r. ⌜ r ≡ reportedTurn replay written ⌝ }
+{
+    Replayed {
+        replay: Replay {
+            phase: Phase::Fetching,
+            line: replay.line,
+            left: replay.left - 1,
+            ports: replay.ports,
+            size: replay.size,
+            window: replay.window,
+        },
+        answer: 0,
+        used: 0,
+        written,
+        wants: false,
+    }
+}
+
+// A fetch of one report on the receiver's own parts.
+fn fetch(replay: Replay, rows: &mut [[u8; 16]], store: &[u8], out: &mut [u8]) -> [u8; 8]
+    requires { ⌜ (replay .ports * 5 + 1 ≤ length (now rows)) × (replay .ports * replay .window * (replay .size + 1) ≤ length (now store)) ⌝ }
+    ensures { λ r. ⌜ (r ≡ fetchRecordBy replay (now (rows .entry)) (now (store .entry)) (now (out .entry)))
+        × (now (rows .exit) ≡ fetchRowsBy replay (now (rows .entry)) (now (store .entry)) (now (out .entry)))
+        × (now (out .exit) ≡ fetchOutBy replay (now (rows .entry)) (now (store .entry)) (now (out .entry))) ⌝ }
+{
+    let mut given = [0u8; 8];
+    let n = replay::rows_of(replay.ports);
+    let m = replay::store_of(replay.ports, replay.size, replay.window);
+    lent::fetch(rows, n, store, m, out, &mut given);
+    given
+}
+
+// A report, if one is due.
+fn report(
+    replay: Replay,
+    rows: &mut [[u8; 16]],
+    store: &[u8],
+    out: &mut [u8],
+    said: &mut [u8],
+) -> Replayed
+    ensures { λ r. ⌜ (r ≡ reportTurn replay (now (rows .entry)) (now (store .entry)) (now (out .entry)) (length (now (said .entry))))
+        × (now (rows .exit) ≡ reportRows replay (now (rows .entry)) (now (store .entry)) (now (out .entry)) (length (now (said .entry))))
+        × (now (out .exit) ≡ reportOut replay (now (rows .entry)) (now (store .entry)) (now (out .entry)) (length (now (said .entry))))
+        × (now (said .exit) ≡ reportSaid replay (now (rows .entry)) (now (store .entry)) (now (out .entry)) (now (said .entry))) ⌝ }
+{
+    if !is_lent(replay, rows.len(), store.len(), out.len(), said.len()) {
+        return refused(replay);
+    }
+    if replay.left == 0 {
+        return read_on(replay);
+    }
+    let before = changes::states_in(rows);
+    let given = fetch(replay, rows, store, out);
+    if given[0] == 0 {
+        return read_on(replay);
+    }
+    let after = changes::states_in(rows);
+    let written = changes::put_report(given, replay.line, before, after, replay.ports, said);
+    reported(replay, written)
+}
+
+// The rest of a line that is too long.
+fn skip(replay: Replay, text: &[u8], last: bool) -> Replayed
+    ensures { λ r. ⌜ r ≡ skipTurn replay (now (text .entry)) last ⌝ }
+{
+    let end = text::piece_end(text, 0, text.len(), b'\n');
+    if end < text.len() {
+        return Replayed {
+            replay: Replay {
+                phase: Phase::Reading,
+                line: replay.line,
+                left: 0,
+                ports: replay.ports,
+                size: replay.size,
+                window: replay.window,
+            },
+            answer: 0,
+            used: end + 1,
+            written: 0,
+            wants: false,
+        };
+    }
+    let phase = skipped_to(last);
+    Replayed {
+        replay: Replay {
+            phase,
+            line: replay.line,
+            left: 0,
+            ports: replay.ports,
+            size: replay.size,
+            window: replay.window,
+        },
+        answer: 0,
+        used: text.len(),
+        written: 0,
+        wants: true,
+    }
+}
+
+fn skipped_to(last: bool) -> Phase
+    ensures { λ r. ⌜ r ≡ skippedTo last ⌝ }
+{
+    if last {
+        Phase::Reading
+    } else {
+        Phase::Skipping
+    }
+}
+
+// The first line was refused: the rest is swallowed.
+fn swallow(replay: Replay, text: usize) -> Replayed
+    ensures { λ r. ⌜ r ≡ endedTurn replay text ⌝ }
+{
+    Replayed {
+        replay,
+        answer: 0,
+        used: text,
+        written: 0,
+        wants: true,
+    }
+}
+
+// One turn on what is left of a text. Rows are lent for 64 ports, and as much store as may be; `out` takes a report's bytes, `said` what is
+// printed.
+pub fn turn(
+    replay: Replay,
+    text: &[u8],
+    last: bool,
+    rows: &mut [[u8; 16]],
+    store: &mut [u8],
+    out: &mut [u8],
+    said: &mut [u8],
+) -> Replayed
+    ensures { λ r. ⌜ (r ≡ turnOf replay (now (text .entry)) last (now (rows .entry)) (now (store .entry)) (now (out .entry)) (length (now (said .entry))))
+        × (now (rows .exit) ≡ turnRows replay (now (text .entry)) last (now (rows .entry)) (now (store .entry)) (now (out .entry)) (length (now (said .entry))))
+        × (now (store .exit) ≡ turnStore replay (now (text .entry)) last (now (rows .entry)) (now (store .entry)) (now (out .entry)) (length (now (said .entry))))
+        × (now (out .exit) ≡ turnOut replay (now (rows .entry)) (now (store .entry)) (now (out .entry)) (length (now (said .entry))))
+        × (now (said .exit) ≡ turnSaid replay (now (text .entry)) last (now (rows .entry)) (now (store .entry)) (now (out .entry)) (now (said .entry))) ⌝ }
+{
+    let phase = replay.phase;
+    match phase {
+        Phase::Settings => open(replay, text, last, rows, store.len(), said),
+        Phase::Reading => read(replay, text, last, rows, store, out.len(), said),
+        Phase::Fetching => report(replay, rows, store, out, said),
+        Phase::Skipping => skip(replay, text, last),
+        Phase::Ended => swallow(replay, text.len()),
+    }
+}
