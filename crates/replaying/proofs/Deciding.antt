@@ -8,7 +8,7 @@ use lib.Dec.{leb}
 use lib.ListN.{length, replicate, length-replicate, drop-of-length-le, take, take-append-drop, drop}
 use lib.Seq.{slice, take-length}
 use borrow.Author.Tests.{le-leb, leb-true, lt-leb}
-use Rattle.packet.specs.Kinds.{tags}
+use Rattle.packet.specs.Laws.Epochs.{half-fits}
 use Rattle.phases.specs.Sizes.{sized}
 use Rattle.ground.specs.Truth.{and-left, and-right}
 use Rattle.receiver.specs.Laws.Sizes.{Sizes, sizes-of}
@@ -35,8 +35,11 @@ pub record Small (p s w : ℕ) : Type 0 where
   pub narrow : w ≤ 2048
 
 pub small : (p s w : ℕ) → sized 0 p s w ≡ true → Small p s w
-unfolding tags
-small p s w t = let z = sizes-of 0 p s w t in record { few = z .few-ports; short = z .few-bytes; narrow = z .narrow }
+small p s w t =
+    let z = sizes-of 0 p s w t in
+    let h = half-fits 0 in
+    let n = z .narrow in
+    record { few = z .few-ports; short = z .few-bytes; narrow = omega arith }
 
 pub start-sized : (p s w store : ℕ) → startable p s w store ≡ true → sized 0 p s w ≡ true
 unfolding startable

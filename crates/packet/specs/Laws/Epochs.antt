@@ -22,6 +22,11 @@ frames-many kind k = by (λ L E N l. L ≤ (k + 1) * L) (omega arith) (omega ari
 pub run-fits : (kind : ℕ) → frames kind * 2 ≤ 255
 run-fits kind = by (λ L E N l. L * 2 ≤ 255) (omega arith) (omega arith) kind
 
+-- of H4, for a program whose buffers are of its own size
+pub h4-frames : frames 0 ≡ 16
+unfolding frames
+h4-frames = refl
+
 -- two bytes count the frames of half a round
 pub half-fits : (kind : ℕ) → tags kind / 2 ≤ 2048
 half-fits kind = by (λ L E N l. N / 2 ≤ 2048) (omega arith) (omega arith) kind

@@ -13,7 +13,7 @@ use lib.Seq.{slice, drop-length, drop-nil, take-append-seam, take-take}
 use borrow.Author.Tests.{le-leb, leb-true, lt-leb, lt-ltb, ltb-false, ltb-true}
 use Rattle.bytes.specs.Bytes.{indexOf}
 use Rattle.ground.specs.Truth.{and-left, and-right, and-true}
-use Rattle.packet.specs.Kinds.{frames}
+use Rattle.packet.specs.Laws.Epochs.{h4-frames}
 use Rattle.phases.specs.Sizes.{sized}
 use Rattle.receiver.specs.Fetch.{fetchRows}
 use Rattle.receiver.specs.Frame.{frameRows, frameStore}
@@ -480,7 +480,7 @@ module _ (out : List ℕ) (line left ports size window : ℕ) (rows : List (List
         })
 
     settings-set : (p s w next : ℕ) → lineOpening n l ≡ O.Settings p s w next → T.startable p s w (length store) ≡ true → Keeps out last starting (called last starting)
-    unfolding called T.turnOf T.turnRows T.turnStore T.turnOut T.turnSaid T.openTurn T.openRows T.openSaid T.openWithTurn T.openWithRows T.openWithSaid T.startable saidTo deskAfter frames
+    unfolding called T.turnOf T.turnRows T.turnStore T.turnOut T.turnSaid T.openTurn T.openRows T.openSaid T.openWithTurn T.openWithRows T.openWithSaid T.startable saidTo deskAfter
     settings-set p s w next e b =
         let t = open-lent f in
         let q : O.Settings p s w next ≡ O.Settings p s w n = sym e ∙ (line-opens n n l ∙ ap (opensTo n) e) in
@@ -488,7 +488,7 @@ module _ (out : List ℕ) (line left ports size window : ℕ) (rows : List (List
         let i : lineOpening 0 l ≡ O.Settings p s w 0 = line-opens 0 n l ∙ ap (opensTo 0) e in
         let c = sizes-of 0 p s w (and-left (sized 0 p s w) (leb (storeOf p s w) (length store)) b) in
         let d = leb-true (storeOf p s w) (length store) (and-right (sized 0 p s w) (leb (storeOf p s w) (length store)) b) in
-        let k = output-le p s w (c .wide) in
+        let k = output-le p s w (rw h4-frames at (c .wide)) in
         let m : rowsOf p ≤ length rows = (let x = c .few-ports in let y = f .full in omega arith) in
         let lr = length-part (rowsOf p) rows (startRows 0 p s w (storeOf p s w) (take (rowsOf p) rows)) m (length-start-rows 0 p s w (storeOf p s w) (take (rowsOf p) rows)) in
         let o = f .same in
