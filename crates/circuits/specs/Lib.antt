@@ -1,7 +1,10 @@
+pub mod Alone
 pub mod Answers
 pub mod Calls
 pub mod Commands
+pub mod Laws
 pub mod Owners
 pub mod Parts
 pub mod Readings
+pub mod Theorems
 pub mod Views

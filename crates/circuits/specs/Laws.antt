@@ -1,0 +1,3 @@
+-- Laws on the definitions, for the theorems.
+pub mod Seeing
+pub mod Stepping
