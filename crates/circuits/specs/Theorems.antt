@@ -1,2 +1,3 @@
 -- What request 2026-06 asks of two circuits on one card, proved on the definitions.
 pub mod Apart
+pub mod Released
