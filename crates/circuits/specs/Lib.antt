@@ -6,5 +6,7 @@ pub mod Laws
 pub mod Owners
 pub mod Parts
 pub mod Readings
+pub mod Shown
 pub mod Theorems
 pub mod Views
+mod Wrong
