@@ -62,7 +62,7 @@ extern "C" {
 /* Answers. */
 #define LEVELSPRUCE_ANSWER_DONE 0       /* done */
 #define LEVELSPRUCE_ANSWER_SLOT 1       /* the slot or port is not below the group's count */
-#define LEVELSPRUCE_ANSWER_STATE 2      /* not allowed now: by the slot's state, no wait open, or no epoch started */
+#define LEVELSPRUCE_ANSWER_STATE 2      /* not allowed now: by the slot's state, no wait open, no epoch started, or changes that do not fit */
 #define LEVELSPRUCE_ANSWER_WAIT 3       /* add or remove while a wait is open */
 #define LEVELSPRUCE_ANSWER_RANGE 4      /* a count, P, W, X or delay is out of range */
 #define LEVELSPRUCE_ANSWER_CRC 5        /* the packet's CRC differs */
@@ -505,7 +505,7 @@ uint8_t levelspruce_board_changes(const uint8_t *before, size_t before_length,
  *      count or not above the slot before it, an old word or number that is
  *      not the board's, a change to the same, a wait that opens though it is
  *      open or closes though none is, a wait above 2, or a count above 64
- *   0  the board is the new one
+ *   0  the board is the new one, its wait 0 or 1
  */
 LEVELSPRUCE_MUST_USE
 uint8_t levelspruce_board_apply(uint8_t *board, size_t board_length,

@@ -1,7 +1,7 @@
 /* Times levelspruce_packet_read beside a check bit by bit in Rust and in C and the reference in Rust, one after the other in
  * one process, round by round, on the same packets. A line for packets as written and one for packets with a bit changed: the
  * median of the rounds in nanoseconds a packet, and the ratio to each form. Time is that for which the process had a processor.
- * With BEFORE also beside the same call of another archive, once both have answered alike on some millions of packets.
+ * With BEFORE also beside the same call of another archive; as_before.c has held the two to each other by then.
  */
 #define _POSIX_C_SOURCE 199309L
 #include "levelspruce.h"
@@ -12,7 +12,7 @@
 
 typedef uint8_t call(const uint8_t *h4, size_t h4_length, uint8_t *fields, size_t fields_length);
 
-call before_read, gcc_read, clang_read, rust_read, rust_bits_read;
+call before_packet_read, gcc_read, clang_read, rust_read, rust_bits_read;
 
 static const struct form {
     const char *name;
@@ -20,7 +20,7 @@ static const struct form {
 } forms[] = {
     {"proved", levelspruce_packet_read},
 #ifdef BEFORE
-    {"before", before_read},
+    {"before", before_packet_read},
 #endif
     {"Rust bit by bit", rust_bits_read},
     {"gcc", gcc_read},
@@ -75,49 +75,11 @@ static void measure(const char *which, uint8_t answer)
     fflush(stdout);
 }
 
-#ifdef BEFORE
-/* Drawn packets, half of them under a right CRC, some damaged: both archives answer alike, and give the same fields. */
-static void compare(void)
-{
-    enum { CASES = 8000000 };
-    uint64_t drawn = 1;
-    long right = 0;
-    for (long i = 0; i < CASES; i++) {
-        uint8_t h4[LEVELSPRUCE_PACKET_BYTES], now_fields[LEVELSPRUCE_FIELDS_BYTES] = {0}, then_fields[LEVELSPRUCE_FIELDS_BYTES] = {0};
-        uint8_t answer;
-        for (int k = 0; k < LEVELSPRUCE_PACKET_BYTES; k++) {
-            drawn = drawn * 6364136223846793005u + 1442695040888963407u;
-            h4[k] = (uint8_t)(drawn >> 56);
-        }
-        if (i % 2 == 0) {
-            unsigned rest = 0;
-            for (int k = 0; k < 14; k++)
-                for (int bit = 7; bit >= 4; bit--)
-                    rest = (rest << 1 & 0xFF) ^ ((rest >> 7 ^ h4[k] >> bit) & 1 ? 0x07 : 0);
-            h4[14] = (uint8_t)((rest & 0xF0) | (h4[14] & 0x0F));
-            h4[15] = (uint8_t)((rest << 4 & 0xF0) | (h4[15] & 0x0F));
-        }
-        if (i % 8 == 0)
-            h4[drawn % 16] ^= (uint8_t)(0x10 << drawn / 16 % 4);
-        answer = levelspruce_packet_read(h4, sizeof h4, now_fields, sizeof now_fields);
-        right += answer == LEVELSPRUCE_ANSWER_DONE;
-        if (before_read(h4, sizeof h4, then_fields, sizeof then_fields) != answer || memcmp(now_fields, then_fields, sizeof now_fields) != 0) {
-            printf("failed\tthe two archives differ in case %ld\n", i);
-            exit(1);
-        }
-    }
-    printf("packet\tas before\tdrawn %d\tanswered 0 %ld\n", CASES, right);
-}
-#endif
-
 int main(void)
 {
     static const uint32_t words[] = {LEVELSPRUCE_WORD_ADD, LEVELSPRUCE_WORD_NORM, LEVELSPRUCE_WORD_EOS, LEVELSPRUCE_WORD_IDLE,
                                      LEVELSPRUCE_WORD_DNU};
     uint32_t seed = 1;
-#ifdef BEFORE
-    compare();
-#endif
     for (int i = 0; i < PACKETS; i++) {
         seed = seed * 1664525 + 1013904223;
         if (levelspruce_packet_write(seed >> 24, words[(seed >> 8) % 5], seed >> 23 & 1, seed >> 15 & 0xFF, seed >> 22 & 1, i % 256,

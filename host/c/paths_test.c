@@ -67,14 +67,20 @@ static void plans(void)
 static void checks(void)
 {
     static const uint8_t back[2] = { 3, 2 }, twice[2] = { 2, 2 }, strange[2] = { 2, 64 }, three[3] = { 2, 3, 0 }, far[2] = { 1, 2 };
+    static const uint8_t beyond[] = { 4, 5, 63, 64, 255 };
     static const uint32_t steps[3] = { 0, 10, 20 };
     static const uint8_t all[3] = { 0, 1, 2 };
+    size_t i;
+    int held = 1;
 
     check("a good set in another order is accepted", verdict(four, 4, 2, 20, back, 2) == 1);
     check("a candidate twice is not", verdict(four, 4, 2, 20, twice, 2) == 0);
     check("one entry too few is not", verdict(four, 4, 2, 20, back, 1) == 0 && verdict(four, 4, 2, 20, NULL, 0) == 0);
-    check("one too many is not", verdict(four, 4, 2, 32, three, 3) == 0);
-    check("a number of no candidate is not", verdict(four, 4, 2, 20, strange, 2) == 0);
+    check("one too many is not", verdict(four, 4, 2, 36, three, 3) == 0 && verdict(four, 4, 3, 36, three, 3) == 1);
+    /* beside the candidate with delay 0, so that no spread refuses it */
+    for (i = 0; i < COUNT(beyond); i++)
+        held = held && verdict(four, 4, 2, 2048, (const uint8_t[]){ 0, beyond[i] }, 2) == 0 && verdict(four, 4, 2, 2048, (const uint8_t[]){ beyond[i], 0 }, 2) == 0;
+    check("a number of no candidate is not", held && verdict(four, 4, 2, 20, strange, 2) == 0);
     check("a spread above W-16 is not", verdict(four, 4, 2, 99, far, 2) == 0 && verdict(four, 4, 2, 100, far, 2) == 1);
     check("neighbours are near, the ends are not", verdict(steps, 3, 3, 26, all, 3) == 0 && verdict(steps, 3, 3, 36, all, 3) == 1);
 }

@@ -81,6 +81,24 @@ static void receiving(void)
     answers |= levelspruce_receiver_reply((const uint8_t(*)[LEVELSPRUCE_ROW_BYTES])receiver, LEVELSPRUCE_RECEIVER_ROWS(PORTS), 0, reply, sizeof reply);
 }
 
+/* 64 slots that all change, told and applied. */
+static void telling(void)
+{
+    static uint8_t after[LEVELSPRUCE_BOARD_BYTES], changes[LEVELSPRUCE_CHANGES_BYTES], text[LEVELSPRUCE_SPEECH_BYTES];
+    size_t written, i;
+
+    memset(board, LEVELSPRUCE_WORD_NORM, sizeof board);
+    memset(after, LEVELSPRUCE_WORD_IDLE, sizeof after);
+    board[LEVELSPRUCE_BOARD_COUNT] = after[LEVELSPRUCE_BOARD_COUNT] = LEVELSPRUCE_SLOTS_MOST;
+    after[LEVELSPRUCE_BOARD_WAIT] = 0;
+    for (i = 0; i < LEVELSPRUCE_SLOTS_MOST; i++)
+        after[LEVELSPRUCE_BOARD_ROWS + 2 * i + 1] = LEVELSPRUCE_NUMBER_IDLE;
+    answers |= levelspruce_board_changes(board, sizeof board, after, sizeof after, changes, sizeof changes);
+    answers |= levelspruce_board_speak(changes, sizeof changes, text, sizeof text, &written);
+    answers |= levelspruce_board_apply(board, sizeof board, changes, sizeof changes);
+    answers |= memcmp(board, after, sizeof board) != 0;
+}
+
 /* The longest search, and a check of what it finds. */
 static void planning(void)
 {
@@ -127,7 +145,7 @@ int main(void)
     static const struct {
         const char *name;
         void (*calls)(void);
-    } groups[] = { { "packets", packets }, { "payload", payloads }, { "sender", sending }, { "receiver", receiving }, { "paths", planning } };
+    } groups[] = { { "packets", packets }, { "payload", payloads }, { "sender", sending }, { "receiver", receiving }, { "paths", planning }, { "spoken board", telling } };
     size_t own, i, most = 0;
 
     stack_of(nothing); /* what is done once */

@@ -23,12 +23,14 @@ pub fn compare(count: &mut Count) {
         let list = bent(&mut random, &told);
         applied(&mut random, &mut applies, &held, &list);
         said(&mut random, &mut speaks, &list);
-        // what a call returned, applied to the board that it came from
-        new[1] = u8::from(new[1] != 0);
-        let mut after = held.clone();
-        let fits = card::board_apply(&mut after, &told) == 0;
-        let shown = 2 + 2 * usize::from(new[0]).min(64);
-        applies.case(0, &true, &(!fits || held != old || after[..shown] == new[..shown]), &(&old, &new));
+        // what a call returned fits the board that it came from, and gives the other one; where it was refused the count is no count
+        if told[0] <= 64 {
+            new[1] = u8::from(new[1] != 0);
+            let mut after = old.clone();
+            let answer = card::board_apply(&mut after, &told);
+            let shown = 2 + 2 * usize::from(new[0]);
+            applies.case(answer, &(0, &new[..shown]), &(answer, &after[..shown]), &(&old, &new));
+        }
     }
     changes.end(count, &[0, 4, 9]);
     applies.end(count, &[0, 2, 9]);

@@ -47,7 +47,7 @@ fn start(starts: &mut Test, given: u32, first: u32, length: usize) {
     };
     match sender {
         Some(s) if length == STATE_BYTES => {
-            let wanted = vec![Sender::board(&s.table), Sender::board(&s.going), s.ranks()];
+            let wanted = vec![s.table.board().bytes(), s.going.bytes(), s.ranks()];
             starts.case(expected, &(expected, wanted), &(answer, shown(&state)), &(given, first, length));
         }
         _ => starts.case(expected, &(expected, vec![vec![0xA5u8; length]]), &(answer, vec![state]), &(given, first, length)),
@@ -108,7 +108,7 @@ fn history(random: &mut Random, calls: &mut Test, sent: &mut Test) {
         let (mut board, mut going, mut ranks) = (vec![0u8; 130], vec![0u8; 130], vec![0u8; 68]);
         let read = (card::sender_board(&state, &mut board), card::sender_board_going(&state, &mut going), card::sender_ranks(&state, &mut ranks));
         let untouched = expected == 0 || state == before;
-        let wanted = (expected, (0, 0, 0), Sender::board(&sender.table), Sender::board(&sender.going), sender.ranks(), true);
+        let wanted = (expected, (0, 0, 0), sender.table.board().bytes(), sender.going.bytes(), sender.ranks(), true);
         calls.case(expected, &wanted, &(answer, read, board, going, ranks, untouched), &(slots, turn));
         sends(random, sent, &sender, &state, slots);
     }

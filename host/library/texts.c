@@ -14,7 +14,7 @@ const char *levelspruce_answer_text(uint32_t answer)
     case LEVELSPRUCE_ANSWER_SLOT:
         return "the slot or port is not below the group's count";
     case LEVELSPRUCE_ANSWER_STATE:
-        return "not allowed now, by the slot's state, with no wait open, or before the first epoch";
+        return "not allowed now: by the slot's state, no wait open, no epoch started, or changes that do not fit";
     case LEVELSPRUCE_ANSWER_WAIT:
         return "a wait is open";
     case LEVELSPRUCE_ANSWER_RANGE:

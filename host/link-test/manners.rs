@@ -57,13 +57,15 @@ pub fn check(program: &Program, count: &mut Count) {
     let read = lines::read(&text);
     let marked = |mark: &str| read.reports.iter().filter(|r| r.mark == mark).count();
     let told = |line: &str| text.lines().any(|l| l == line);
+    // a slot's change, by what it became
+    let became = |slot: &str, now: &str| text.lines().any(|l| l.starts_with(&format!("slot\t{slot}\twas\t")) && l.ends_with(&format!("\tnow\t{now}")));
     count.note("the default run ends well", status == Some(0) && read.last == "each sure byte was right");
     count.note("a damaged packet holds the epoch that it rules", read.reports.iter().any(|r| r.epoch == read.damaged[0] + 1 && r.mark == "held"));
     count.note(
         "a member fails, is set aside and comes back",
-        told("port\t5\tFAIL\t2") && told("slot\t2\tDNU\t2") && told("port\t5\tOK\t2") && told("slot\t2\tNORM\t2"),
+        told("port\t5\tFAIL\t2") && became("2", "DNU\t2") && told("port\t5\tOK\t2") && became("2", "NORM\t2"),
     );
-    count.note("a member is added and one removed", told("slot\t5\tEOS\t5") && told("slot\t0\tIDLE\t255") && told("port\t3\tIDLE\t255"));
+    count.note("a member is added and one removed", became("5", "EOS\t5") && became("0", "IDLE\t255") && told("port\t3\tIDLE\t255"));
     let counted = ["held", "doubtful", "sure"].iter().all(|m| text.contains(&format!("\n{m}\tepochs\t{}", marked(m))));
     count.note("the end counts the epochs by their marks", counted && marked("sure") > 80);
 
@@ -75,11 +77,15 @@ pub fn check(program: &Program, count: &mut Count) {
         "--each gives each epoch a line, and nothing else is another",
         lines::read(&each).reports == read.reports && said_of_epochs(&each) == read.reports.len() && others(&each) == others(&text),
     );
-    let slots: Vec<&str> = text.lines().filter(|l| l.starts_with("slot\t")).collect();
-    let last_of = |i: usize| slots[..i].iter().rev().find(|l| l.split('\t').nth(1) == slots[i].split('\t').nth(1));
+    // slot, number, was, old word and number, now, new word and number
+    let slots: Vec<Vec<&str>> = text.lines().filter(|l| l.starts_with("slot\t")).map(|l| l.split('\t').collect()).collect();
+    let last_of = |i: usize| slots[..i].iter().rev().find(|l| l[1] == slots[i][1]);
     count.note(
-        "a slot is a line of its own, and none is said again as it was",
-        slots.iter().all(|l| l.split('\t').count() == 4) && (0..slots.len()).all(|i| last_of(i) != Some(&slots[i])) && !text.contains("board"),
+        "a slot is a line of its own, and says what it was and is",
+        slots.len() > 8
+            && slots.iter().all(|l| l.len() == 8 && l[3..5] != l[6..8])
+            && (0..slots.len()).all(|i| last_of(i).map_or(slots[i][3..5] == ["IDLE", "255"], |before| before[6..8] == slots[i][3..5]))
+            && !text.contains("board"),
     );
     let numbered = text.lines().filter(|l| l.starts_with("told\t") || l.starts_with("start\t")).filter_map(|l| l.split('\t').nth(2)?.parse::<u64>().ok());
     let numbered: Vec<u64> = numbered.collect();

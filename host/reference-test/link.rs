@@ -4,8 +4,9 @@
 use crate::count::Count;
 use crate::random::Random;
 use crate::source::Lent;
+use reference::packet::{DNU, EOS, IDLE, NORM};
 use reference::receiver::{DOUBTFUL, HELD, SURE};
-use reference::sender::{Sender, State};
+use reference::sender::Sender;
 
 /// What goes out at one frame time: the client's group frame, and each slot's H4 and payload.
 struct Sent {
@@ -106,7 +107,7 @@ fn shuffled(random: &mut Random, n: usize) -> Vec<usize> {
 
 /// Some command or report at the sender.
 fn command(random: &mut Random, sender: &mut Sender, lent: &Lent) {
-    let slots = sender.table.slots.len() as u64;
+    let slots = u64::from(sender.table.count());
     let slot = random.below(slots) as u32;
     let epoch = 32 * random.below(8) as u8 + random.below(slots / 8 + 1) as u8;
     match random.below(40) {
@@ -320,8 +321,8 @@ fn hear(link: &mut Link) {
     link.sending.sender.table.report(0, mst.into(), rs_ack == 1);
 }
 
-fn states(link: &Link) -> Vec<State> {
-    link.sending.sender.table.slots.iter().map(|s| s.state).collect()
+fn words(link: &Link) -> Vec<u32> {
+    link.sending.sender.table.board().rows.iter().map(|r| r.word).collect()
 }
 
 fn all_carry() -> bool {
@@ -337,7 +338,7 @@ fn all_carry() -> bool {
             hear(&mut link);
         }
     }
-    let closed = !link.sending.sender.table.wait;
+    let closed = !link.sending.sender.table.waits();
     // one is removed: the wait closes by the turned RS-Ack, and the two left go on
     let removed = link.sending.sender.table.remove(1) == 0;
     for time in 400..560 {
@@ -349,7 +350,7 @@ fn all_carry() -> bool {
             hear(&mut link);
         }
     }
-    seen.widest == 3 && closed && removed && !link.sending.sender.table.wait && states(&link) == [State::Active, State::Idle, State::Active]
+    seen.widest == 3 && closed && removed && !link.sending.sender.table.waits() && words(&link) == [NORM, IDLE, EOS]
 }
 
 fn fails_and_returns() -> bool {
@@ -369,7 +370,7 @@ fn fails_and_returns() -> bool {
             let bytes = link.sending.client_bytes(time / 16);
             marks.push((report.mark, link.lent.output[..report.bytes] == bytes[..]));
         }
-        left_out |= states(&link) == [State::Active, State::Dnu, State::Active];
+        left_out |= words(&link) == [NORM, DNU, EOS];
         if time % 16 == 15 {
             hear(&mut link);
         }
@@ -379,5 +380,5 @@ fn fails_and_returns() -> bool {
     let doubtful_and_right = marks.iter().filter(|m| **m == (DOUBTFUL, true)).count() > 5;
     let held_once = marks.iter().filter(|m| m.0 == HELD).count() == 1;
     let ends_sure = marks[marks.len() - 10..].iter().all(|m| *m == (SURE, true));
-    sure_is_right && doubtful_and_right && held_once && ends_sure && left_out && states(&link) == [State::Active; 3]
+    sure_is_right && doubtful_and_right && held_once && ends_sure && left_out && words(&link) == [NORM, NORM, EOS]
 }

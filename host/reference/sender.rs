@@ -1,240 +1,317 @@
-//! The sender's table: slots, their states and numbers, the wait, and what reports do.
+//! The sender: its table of members, and the packets and payload that go out by it. Written from 01, its readings and
+//! the header alone, without sight of the proved code and its definitions.
+//!
+//! Members stand in a list. A member's number is its place in that list, and is kept nowhere else.
+
+use crate::packet::{self, Fields, ADD, DNU, DONE, EOS, FIELD_REFUSED, IDLE, LENGTH_WRONG, NORM};
+use crate::payload::PAYLOAD_MOST;
 
 pub const SLOTS_MOST: u32 = 64;
-const NO_NUMBER: u32 = 255;
+/// The number that an IDLE slot shows.
+pub const NUMBER_IDLE: u32 = 255;
 
+const NO_SUCH_SLOT: u8 = 1;
+const NOT_NOW: u8 = 2;
+const WAIT_OPEN: u8 = 3;
+const OUT_OF_RANGE: u8 = 4;
+
+/// What a slot is that is not IDLE.
 #[derive(Clone, Copy, PartialEq, Debug)]
-pub enum State {
-    Idle,
+enum Kind {
     Add,
     Active,
     Dnu,
 }
 
-#[derive(Clone, Copy, PartialEq, Debug)]
-pub struct Slot {
-    pub state: State,
-    pub number: u32,
+#[derive(Clone, Copy, Debug)]
+struct Member {
+    slot: u32,
+    kind: Kind,
 }
 
-#[derive(Clone, PartialEq, Debug, Default)]
+/// The table. By default it is that of an empty group.
+#[derive(Clone, Debug, Default)]
 pub struct Table {
-    pub slots: Vec<Slot>,
-    pub wait: bool,
-    bit: bool,
+    count: u32,
+    /// The slots that are not IDLE. The first has number 0, the next one 1. Those in ADD stand last.
+    members: Vec<Member>,
+    /// The remembered RS-Ack.
+    heard: bool,
+    /// While a wait is open, the RS-Ack that closes it.
+    awaited: Option<bool>,
+}
+
+/// What an MST says of a number, if it speaks of it: true for OK. Its first bit is the highest, and speaks of the lowest
+/// number.
+fn said(epoch: u32, mst: u32, number: usize) -> Option<bool> {
+    let first = 8 * (epoch as usize % 32);
+    let place = number.checked_sub(first).filter(|place| *place < 8)?;
+    Some(mst & (0x80 >> place) == 0)
 }
 
 impl Table {
-    /// A start with so many slots, or number 4.
+    /// A group of so many slots, all IDLE, or the answer that refuses it.
     pub fn start(count: u32) -> Result<Table, u8> {
         if count == 0 || count > SLOTS_MOST {
-            return Err(4);
+            return Err(OUT_OF_RANGE);
         }
-        let idle = Slot { state: State::Idle, number: NO_NUMBER };
-        Ok(Table { slots: vec![idle; count as usize], wait: false, bit: false })
+        Ok(Table { count, ..Table::default() })
     }
 
-    fn members(&self) -> u32 {
-        self.slots.iter().filter(|s| s.state != State::Idle).count() as u32
+    /// How many slots there are.
+    pub fn count(&self) -> u32 {
+        self.count
     }
 
+    /// Whether a wait is open.
+    pub fn waits(&self) -> bool {
+        self.awaited.is_some()
+    }
+
+    /// The place of a slot in the list, if it is not IDLE.
+    fn number(&self, slot: u32) -> Option<usize> {
+        self.members.iter().position(|m| m.slot == slot)
+    }
+
+    /// What is answered to add and remove before the slot's own state is looked at.
+    fn refusal(&self, slot: u32) -> Option<u8> {
+        if slot >= self.count {
+            return Some(NO_SUCH_SLOT);
+        }
+        self.awaited.map(|_| WAIT_OPEN)
+    }
+
+    /// The next turn of RS-Ack closes it.
+    fn open_wait(&mut self) {
+        self.awaited = Some(!self.heard);
+    }
+
+    /// The slot goes to the end of the list: it has the next free number.
     pub fn add(&mut self, slot: u32) -> u8 {
-        let free = self.members();
-        match self.slots.get(slot as usize) {
-            None => 1,
-            Some(_) if self.wait => 3,
-            Some(s) if s.state != State::Idle => 2,
-            Some(_) => {
-                self.slots[slot as usize] = Slot { state: State::Add, number: free };
-                0
+        match (self.refusal(slot), self.number(slot)) {
+            (Some(answer), _) => answer,
+            (None, Some(_)) => NOT_NOW,
+            (None, None) => {
+                self.members.push(Member { slot, kind: Kind::Add });
+                DONE
             }
         }
     }
 
+    /// Those behind the one that is taken out move up: their numbers fall by one.
     pub fn remove(&mut self, slot: u32) -> u8 {
-        let leaving = match self.slots.get(slot as usize) {
-            None => return 1,
-            Some(_) if self.wait => return 3,
-            Some(s) if s.state == State::Idle => return 2,
-            Some(s) => s.number,
-        };
-        self.slots[slot as usize] = Slot { state: State::Idle, number: NO_NUMBER };
-        for s in self.slots.iter_mut().filter(|s| s.state != State::Idle && s.number > leaving) {
-            s.number -= 1;
+        match (self.refusal(slot), self.number(slot)) {
+            (Some(answer), _) => answer,
+            (None, None) => NOT_NOW,
+            (None, Some(number)) => {
+                self.members.remove(number);
+                self.open_wait();
+                DONE
+            }
         }
-        self.wait = true;
-        0
     }
 
+    /// Closes the wait. The remembered RS-Ack stays.
     pub fn lapse(&mut self) -> u8 {
-        let open = self.wait;
-        self.wait = false;
-        if open { 0 } else { 2 }
+        match self.awaited.take() {
+            Some(_) => DONE,
+            None => NOT_NOW,
+        }
     }
 
+    /// Takes a report; epoch and MST are bytes. With a wait open the MST is ignored, also where this closes the wait.
     pub fn report(&mut self, epoch: u32, mst: u32, rs_ack: bool) -> u8 {
-        if self.wait {
-            if rs_ack != self.bit {
-                self.bit = rs_ack;
-                self.wait = false;
+        match self.awaited {
+            Some(awaited) if awaited != rs_ack => {}
+            Some(_) => {
+                self.heard = rs_ack;
+                self.awaited = None;
             }
-            return 0;
-        }
-        self.bit = rs_ack;
-        let arrived = self.slots.clone();
-        let first = 8 * (epoch % 32);
-        for place in 0..8 {
-            let fail = mst & (0x80 >> place) != 0;
-            let holder = arrived.iter().position(|s| s.state != State::Idle && s.number == first + place);
-            if let Some(i) = holder {
-                self.slots[i].state = match (arrived[i].state, fail) {
-                    (State::Add, false) | (State::Dnu, false) => State::Active,
-                    (State::Active, true) => State::Dnu,
-                    (state, _) => state,
-                };
+            None => {
+                self.heard = rs_ack;
+                self.act_on(epoch, mst);
             }
         }
-        // the ADD members in the order of their numbers: first those that became active, then those left
-        let mut asked: Vec<usize> = (0..arrived.len()).filter(|i| arrived[*i].state == State::Add).collect();
-        asked.sort_by_key(|i| arrived[*i].number);
-        let (added, left): (Vec<usize>, Vec<usize>) = asked.into_iter().partition(|i| self.slots[*i].state == State::Active);
-        let next = arrived.iter().filter(|s| matches!(s.state, State::Active | State::Dnu)).count() as u32;
-        for (number, i) in (next..).zip(added.iter().chain(left.iter())) {
-            self.slots[*i].number = number;
-        }
-        self.wait = !added.is_empty();
-        0
+        DONE
     }
 
-    /// The word that a slot sends.
-    pub fn word(&self, slot: usize) -> &'static str {
-        let own = self.slots[slot];
-        match own.state {
-            State::Idle => "IDLE",
-            State::Add => "ADD",
-            State::Dnu => "DNU",
-            State::Active => {
-                let highest = self.slots.iter().filter(|s| s.state == State::Active).map(|s| s.number).max();
-                if highest == Some(own.number) { "EOS" } else { "NORM" }
+    /// Acts on an MST. Every number is that of the list as it stood on arrival, since a new list is made.
+    fn act_on(&mut self, epoch: u32, mst: u32) {
+        let (mut settled, mut added, mut left) = (Vec::new(), Vec::new(), Vec::new());
+        for (number, member) in self.members.iter().enumerate() {
+            let as_kind = |kind| Member { kind, ..*member };
+            match (member.kind, said(epoch, mst, number)) {
+                (Kind::Add, Some(true)) => added.push(as_kind(Kind::Active)),
+                (Kind::Add, _) => left.push(*member),
+                (Kind::Active, Some(false)) => settled.push(as_kind(Kind::Dnu)),
+                (Kind::Dnu, Some(true)) => settled.push(as_kind(Kind::Active)),
+                _ => settled.push(*member),
             }
         }
-    }
-}
-
-/// A word's code in a packet.
-fn code(word: &str) -> u8 {
-    match word {
-        "ADD" => 1,
-        "NORM" => 2,
-        "EOS" => 3,
-        "IDLE" => 5,
-        _ => 15,
-    }
-}
-
-/// A sender over epochs: what goes out in packets is the table at the epoch's start, and payload goes by what went out
-/// in the epoch before.
-#[derive(Clone, Debug)]
-pub struct Sender {
-    pub table: Table,
-    pub going: Table,
-    pub ruling: Table,
-    pub epoch: u32,
-    pub begun: bool,
-    pub gid: u32,
-    pub mst: u32,
-    pub rs_ack: u32,
-}
-
-impl Sender {
-    pub fn start(count: u32, first_epoch: u32) -> Result<Sender, u8> {
-        let table = Table::start(count)?;
-        let (going, ruling) = (table.clone(), table.clone());
-        Ok(Sender { table, going, ruling, epoch: first_epoch, begun: false, gid: 0, mst: 0, rs_ack: 0 })
+        if !added.is_empty() {
+            self.open_wait();
+        }
+        self.members = [settled, added, left].concat();
     }
 
-    /// What a refused start leaves: no slots.
-    pub fn empty() -> Sender {
-        let none = Table::default();
-        Sender { table: none.clone(), going: none.clone(), ruling: none, epoch: 0, begun: false, gid: 0, mst: 0, rs_ack: 0 }
-    }
-
-    pub fn start_epoch(&mut self, gid: u32, mst: u32, rs_ack: u32) -> u8 {
-        if gid > 1 || mst > 255 || rs_ack > 1 {
-            return 8;
-        }
-        if self.begun {
-            self.epoch = (self.epoch + 1) % 256;
-        }
-        self.ruling = std::mem::replace(&mut self.going, self.table.clone());
-        self.begun = true;
-        (self.gid, self.mst, self.rs_ack) = (gid, mst, rs_ack);
-        0
-    }
-
-    /// The slots that carry payload in this epoch, in the order of their ranks.
-    pub fn ranked(&self) -> Vec<usize> {
-        let slots = &self.ruling.slots;
-        let mut carry: Vec<usize> = (0..slots.len()).filter(|i| slots[*i].state == State::Active).collect();
-        carry.sort_by_key(|i| slots[*i].number);
-        carry
-    }
-
-    pub fn packet(&self, slot: u32, h4: &mut [u8]) -> u8 {
-        if slot as usize >= self.table.slots.len() {
-            return 1;
-        }
-        if h4.len() != crate::packet::PACKET_BYTES {
-            return 9;
-        }
-        if !self.begun {
-            return 2;
-        }
-        let word = u32::from(code(self.going.word(slot as usize)));
-        let sq = self.going.slots[slot as usize].number;
-        let fields = crate::packet::Fields { epoch: self.epoch, word, gid: self.gid, mst: self.mst, rs_ack: self.rs_ack, sq, reserved: 0 };
-        crate::packet::write(&fields, h4)
-    }
-
-    pub fn payload(&self, slot: u32, p: u32, frame: &[u8], member: &mut [u8]) -> u8 {
-        let ranked = self.ranked();
-        if slot as usize >= self.table.slots.len() {
-            return 1;
-        }
-        if p < 1 || p > crate::payload::PAYLOAD_MOST {
-            return 4;
-        }
-        if frame.len() != ranked.len() * p as usize || member.len() != p as usize {
-            return 9;
-        }
-        if !self.begun {
-            return 2;
-        }
-        let rank = ranked.iter().position(|i| *i == slot as usize);
-        for (j, byte) in member.iter_mut().enumerate() {
-            *byte = rank.map_or(0, |r| frame[j * ranked.len() + r]);
-        }
-        0
-    }
-
-    /// A board as bytes: count, wait, then word and number of each of 64 slots.
-    pub fn board(table: &Table) -> Vec<u8> {
-        let mut bytes = vec![table.slots.len() as u8, u8::from(table.wait)];
-        for i in 0..SLOTS_MOST as usize {
-            let row = match table.slots.get(i) {
-                None => [5, 255],
-                Some(s) => [code(table.word(i)), s.number as u8],
+    /// What the table shows now. The last active member of the list has EOS.
+    pub fn board(&self) -> Board {
+        let mut rows = vec![Row { word: IDLE, number: NUMBER_IDLE }; self.count as usize];
+        let last_active = self.members.iter().rposition(|m| m.kind == Kind::Active);
+        for (number, member) in self.members.iter().enumerate() {
+            let word = match member.kind {
+                Kind::Add => ADD,
+                Kind::Dnu => DNU,
+                Kind::Active if last_active == Some(number) => EOS,
+                Kind::Active => NORM,
             };
-            bytes.extend(row);
+            rows[member.slot as usize] = Row { word, number: number as u32 };
+        }
+        Board { rows, wait: self.waits() }
+    }
+}
+
+/// The control word and the number of a slot.
+#[derive(Clone, Copy, PartialEq, Debug)]
+pub struct Row {
+    pub word: u32,
+    pub number: u32,
+}
+
+/// What a table showed at one moment: a row for each slot, and whether a wait was open.
+#[derive(Clone, PartialEq, Debug)]
+pub struct Board {
+    pub rows: Vec<Row>,
+    pub wait: bool,
+}
+
+impl Board {
+    /// The slots that carry payload by this board, by rank.
+    fn ranked(&self) -> Vec<usize> {
+        let carries = |slot: &usize| [NORM, EOS].contains(&self.rows[*slot].word);
+        let mut slots: Vec<usize> = (0..self.rows.len()).filter(carries).collect();
+        slots.sort_by_key(|slot| self.rows[*slot].number);
+        slots
+    }
+
+    /// The board as the header lays it out: count, wait, then word and number of 64 slots, IDLE past the count.
+    pub fn bytes(&self) -> Vec<u8> {
+        let mut bytes = vec![self.rows.len() as u8, u8::from(self.wait)];
+        for row in &self.rows {
+            bytes.extend([row.word as u8, row.number as u8]);
+        }
+        for _ in self.rows.len()..SLOTS_MOST as usize {
+            bytes.extend([IDLE as u8, NUMBER_IDLE as u8]);
         }
         bytes
     }
+}
 
-    /// Count, whether an epoch has started, its number, X, and each slot's rank or 255.
+/// What the caller lends for all packets of an epoch.
+#[derive(Clone, Copy, Debug)]
+struct Lent {
+    gid: u32,
+    mst: u32,
+    rs_ack: u32,
+}
+
+#[derive(Clone, Debug)]
+pub struct Sender {
+    pub table: Table,
+    /// The board at this epoch's start. Its packets go out in this epoch.
+    pub going: Board,
+    /// The board at the start before. Its packets rule this epoch's payload.
+    ruling: Board,
+    /// This epoch's number; before the first start, the number that the first epoch will have.
+    pub epoch: u32,
+    /// None before the first start.
+    lent: Option<Lent>,
+}
+
+impl Sender {
+    /// A sender with no epoch started, or the answer that refuses its count. To refuse a first epoch above 255 is left
+    /// to the caller, who has to look at lengths before that.
+    pub fn start(count: u32, first_epoch: u32) -> Result<Sender, u8> {
+        Ok(Sender::of(Table::start(count)?, first_epoch))
+    }
+
+    /// The sender of an empty group.
+    pub fn empty() -> Sender {
+        Sender::of(Table::default(), 0)
+    }
+
+    fn of(table: Table, epoch: u32) -> Sender {
+        let idle = table.board();
+        Sender { table, going: idle.clone(), ruling: idle, epoch, lent: None }
+    }
+
+    /// Starts an epoch. The first one is ruled by the board of the start, on which all are IDLE, so that X is 0.
+    pub fn start_epoch(&mut self, gid: u32, mst: u32, rs_ack: u32) -> u8 {
+        if gid > 1 || mst > 255 || rs_ack > 1 {
+            return FIELD_REFUSED;
+        }
+        if self.lent.is_some() {
+            self.epoch = (self.epoch + 1) % 256;
+        }
+        self.lent = Some(Lent { gid, mst, rs_ack });
+        self.ruling = std::mem::replace(&mut self.going, self.table.board());
+        DONE
+    }
+
+    /// The slots that carry payload in this epoch, by rank.
+    pub fn ranked(&self) -> Vec<usize> {
+        self.ruling.ranked()
+    }
+
+    /// The packet of a slot in this epoch.
+    pub fn packet(&self, slot: u32, h4: &mut [u8]) -> u8 {
+        if slot >= self.table.count {
+            return NO_SUCH_SLOT;
+        }
+        if h4.len() != packet::PACKET_BYTES {
+            return LENGTH_WRONG;
+        }
+        match self.lent {
+            None => NOT_NOW,
+            Some(Lent { gid, mst, rs_ack }) => {
+                let Row { word, number } = self.going.rows[slot as usize];
+                packet::write(&Fields { epoch: self.epoch, word, gid, mst, rs_ack, sq: number, reserved: 0 }, h4)
+            }
+        }
+    }
+
+    /// The payload of a slot for one group frame of this epoch: zeros if it has no rank.
+    pub fn payload(&self, slot: u32, p: u32, frame: &[u8], member: &mut [u8]) -> u8 {
+        if slot >= self.table.count {
+            return NO_SUCH_SLOT;
+        }
+        if p == 0 || p > PAYLOAD_MOST {
+            return OUT_OF_RANGE;
+        }
+        let ranked = self.ranked();
+        if frame.len() != ranked.len() * p as usize || member.len() != p as usize {
+            return LENGTH_WRONG;
+        }
+        if self.lent.is_none() {
+            return NOT_NOW;
+        }
+        member.fill(0);
+        if let Some(rank) = ranked.iter().position(|s| *s == slot as usize) {
+            for (k, byte) in frame.iter().enumerate().filter(|(k, _)| k % ranked.len() == rank) {
+                member[k / ranked.len()] = *byte;
+            }
+        }
+        DONE
+    }
+
+    /// What rules this epoch's payload, as the header lays it out: count, whether an epoch has started, its number, X,
+    /// and the ranks of 64 slots, 255 for none.
     pub fn ranks(&self) -> Vec<u8> {
         let ranked = self.ranked();
-        let mut bytes = vec![self.table.slots.len() as u8, u8::from(self.begun), self.epoch as u8, ranked.len() as u8];
-        bytes.extend((0..SLOTS_MOST as usize).map(|i| ranked.iter().position(|k| *k == i).map_or(255, |r| r as u8)));
+        let mut bytes = vec![self.table.count as u8, u8::from(self.lent.is_some()), self.epoch as u8, ranked.len() as u8];
+        for slot in 0..SLOTS_MOST as usize {
+            bytes.push(ranked.iter().position(|s| *s == slot).map_or(255, |rank| rank as u8));
+        }
         bytes
     }
 }

@@ -1,107 +1,139 @@
-//! The session: lines of text over the sender's table, and what they are answered.
+//! The text session over the sender's table. Written from 01 and its readings alone, without sight of the proved code and
+//! its definitions.
 
-use crate::sender::{Sender, Table};
+use crate::packet::{ADD, DNU, DONE, EOS, NORM};
+use crate::sender::{Board, Table};
 use crate::spoken;
 
 const LINE_MOST: usize = 80;
+const MALFORMED: u8 = 13;
 
-/// One to three decimal digits.
-fn number(field: &[u8]) -> Option<u32> {
-    let right = (1..=3).contains(&field.len()) && field.iter().all(u8::is_ascii_digit);
-    right.then(|| field.iter().fold(0, |n, d| 10 * n + u32::from(d - b'0')))
+/// An input line that is not malformed.
+enum Line {
+    Size(u32),
+    Add(u32),
+    Remove(u32),
+    Report { epoch: u32, mst: u32, rs_ack: bool },
+    Lapse,
+    Board,
 }
 
-/// Two hexadecimal digits.
-fn byte(field: &[u8]) -> Option<u32> {
-    let digit = |d: &u8| (*d as char).to_digit(16);
-    match field {
+/// One to three decimal digits, by value.
+fn number(field: &[u8]) -> Option<u32> {
+    let fits = (1..=3).contains(&field.len()) && field.iter().all(u8::is_ascii_digit);
+    fits.then(|| field.iter().fold(0, |value, digit| 10 * value + u32::from(digit - b'0')))
+}
+
+/// A number that is at most so large.
+fn number_to(most: u32, field: &[u8]) -> Option<u32> {
+    number(field).filter(|value| *value <= most)
+}
+
+/// Two hex digits, either case.
+fn two_hex_digits(field: &[u8]) -> Option<u32> {
+    let digit = |byte: u8| char::from(byte).to_digit(16);
+    match *field {
         [high, low] => Some(16 * digit(high)? + digit(low)?),
         _ => None,
     }
 }
 
-/// Does what a line says. The answer number; or none for a board, which has no answer line.
-fn done(table: &mut Table, line: &[u8]) -> Option<u8> {
-    let fields: Vec<&[u8]> = line.split(|b| *b == b'\t').collect();
-    let numbers = || fields[1..].iter().map(|f| number(f)).collect::<Option<Vec<u32>>>();
-    let malformed = Some(13);
-    if line.len() > LINE_MOST {
-        return malformed;
+/// What a line says, or None if it is malformed.
+fn line(bytes: &[u8]) -> Option<Line> {
+    if bytes.len() > LINE_MOST {
+        return None;
     }
-    match (fields[0], fields.len()) {
-        (b"board", 1) => None,
-        (b"lapse", 1) => Some(table.lapse()),
-        (b"size", 2) => match numbers() {
-            Some(n) => Some(match Table::start(n[0]) {
-                Ok(started) => {
-                    *table = started;
-                    0
-                }
-                Err(answer) => answer,
-            }),
-            None => malformed,
-        },
-        (b"add", 2) => numbers().map_or(malformed, |n| Some(table.add(n[0]))),
-        (b"remove", 2) => numbers().map_or(malformed, |n| Some(table.remove(n[0]))),
-        (b"report", 4) => match (number(fields[1]), byte(fields[2]), number(fields[3])) {
-            (Some(epoch), Some(mst), Some(rs_ack)) if epoch <= 255 && rs_ack <= 1 => Some(table.report(epoch, mst, rs_ack == 1)),
-            _ => malformed,
-        },
-        _ => malformed,
+    let fields: Vec<&[u8]> = bytes.split(|b| *b == b'\t').collect();
+    match fields[..] {
+        [b"size", count] => number(count).map(Line::Size),
+        [b"add", slot] => number(slot).map(Line::Add),
+        [b"remove", slot] => number(slot).map(Line::Remove),
+        [b"report", epoch, mst, rs_ack] => {
+            let (epoch, mst, rs_ack) = (number_to(255, epoch)?, two_hex_digits(mst)?, number_to(1, rs_ack)?);
+            Some(Line::Report { epoch, mst, rs_ack: rs_ack == 1 })
+        }
+        [b"lapse"] => Some(Line::Lapse),
+        [b"board"] => Some(Line::Board),
+        _ => None,
     }
 }
 
-/// The lines of an input. What follows the last line's end is no line.
+/// Starts afresh, unless the size is refused.
+fn size(table: &mut Table, count: u32) -> u8 {
+    match Table::start(count) {
+        Ok(fresh) => {
+            *table = fresh;
+            DONE
+        }
+        Err(answer) => answer,
+    }
+}
+
+fn name(word: u32) -> &'static str {
+    match word {
+        ADD => "ADD",
+        NORM => "NORM",
+        EOS => "EOS",
+        DNU => "DNU",
+        _ => "IDLE",
+    }
+}
+
+fn shown(board: &Board) -> String {
+    let slots = board.rows.iter().enumerate();
+    let lines: String = slots.map(|(slot, row)| format!("slot\t{}\t{}\t{}\n", slot, name(row.word), row.number)).collect();
+    lines + &format!("wait\t{}\n", u8::from(board.wait))
+}
+
+/// What one line puts out.
+fn answered(table: &mut Table, bytes: &[u8]) -> String {
+    let answer = match line(bytes) {
+        None => MALFORMED,
+        Some(Line::Board) => return shown(&table.board()),
+        Some(Line::Size(count)) => size(table, count),
+        Some(Line::Add(slot)) => table.add(slot),
+        Some(Line::Remove(slot)) => table.remove(slot),
+        Some(Line::Report { epoch, mst, rs_ack }) => table.report(epoch, mst, rs_ack),
+        Some(Line::Lapse) => table.lapse(),
+    };
+    format!("answer\t{}\n", answer)
+}
+
+/// The lines of an input. The last one may lack its end; behind an end there is no further line.
 fn lines(input: &[u8]) -> Vec<&[u8]> {
     let mut lines: Vec<&[u8]> = input.split(|b| *b == b'\n').collect();
-    if lines.last().map_or(false, |last| last.is_empty()) {
+    if lines.last().map_or(false, |l| l.is_empty()) {
         lines.pop();
     }
     lines
 }
 
-fn board(table: &Table) -> String {
-    let mut text = String::new();
-    for (i, slot) in table.slots.iter().enumerate() {
-        text += &format!("slot\t{}\t{}\t{}\n", i, table.word(i), slot.number);
-    }
-    text + &format!("wait\t{}\n", u8::from(table.wait))
-}
-
-/// The whole output for a whole input.
+/// The whole output of a session.
 pub fn run(input: &[u8]) -> String {
     let mut table = Table::default();
-    let mut output = String::new();
-    for line in lines(input) {
-        output += &match done(&mut table, line) {
-            Some(answer) => format!("answer\t{}\n", answer),
-            None => board(&table),
-        };
-    }
-    output
+    lines(input).iter().map(|l| answered(&mut table, l)).collect()
 }
 
 /// The whole output for a listener: `epoch` tells what has changed since the one before, a size that she begins anew, and
 /// of other lines only the refused ones are answered.
 pub fn told(input: &[u8]) -> String {
     let mut table = Table::default();
-    let mut heard = Sender::board(&table);
+    let mut heard = table.board().bytes();
     let mut output = String::new();
-    for line in lines(input) {
-        if line == b"epoch" {
-            let now = Sender::board(&table);
+    for bytes in lines(input) {
+        if bytes == b"epoch" {
+            let now = table.board().bytes();
             output += &spoken::told(&heard, &now).expect("boards of one group");
             heard = now;
             continue;
         }
-        match done(&mut table, line) {
-            None => output += &board(&table),
-            Some(0) if line.starts_with(b"size") => {
-                heard = Sender::board(&table);
-                output += &format!("size\t{}\n", table.slots.len());
-            }
-            Some(0) => (),
-            Some(answer) => output += &format!("answer\t{}\n", answer),
+        let said = answered(&mut table, bytes);
+        let done = said == "answer\t0\n";
+        if done && bytes.starts_with(b"size") {
+            heard = table.board().bytes();
+            output += &format!("size\t{}\n", table.count());
+        } else if !done {
+            output += &said;
         }
     }
     output

@@ -1,7 +1,5 @@
 #include "lines.h"
 
-#include <levelspruce.h>
-
 #include <stddef.h>
 #include <string.h>
 
@@ -11,17 +9,6 @@ struct field {
     const char *text;
     size_t length;
 };
-
-const char *word_name(uint8_t word)
-{
-    switch (word) {
-    case LEVELSPRUCE_WORD_ADD: return "ADD";
-    case LEVELSPRUCE_WORD_NORM: return "NORM";
-    case LEVELSPRUCE_WORD_EOS: return "EOS";
-    case LEVELSPRUCE_WORD_DNU: return "DNU";
-    default: return "IDLE";
-    }
-}
 
 static int is(const struct field *f, const char *word)
 {

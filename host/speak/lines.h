@@ -17,7 +17,4 @@ struct line {
 /* The next line of a file, which may lack its end. 0 where there is none. */
 int next_line(FILE *file, struct line *line);
 
-/* A word that a board shows, by its code. */
-const char *word_name(uint8_t word);
-
 #endif

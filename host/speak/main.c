@@ -67,7 +67,7 @@ static void board(void)
     for (slot = 0; slot < now[LEVELSPRUCE_BOARD_COUNT]; slot++) {
         const uint8_t *row = now + LEVELSPRUCE_BOARD_ROWS + 2 * slot;
 
-        printf("slot\t%lu\t%s\t%d\n", (unsigned long)slot, word_name(row[0]), row[1]);
+        printf("slot\t%lu\t%s\t%d\n", (unsigned long)slot, levelspruce_word_name(row[0]), row[1]);
     }
     printf("wait\t%d\n", now[LEVELSPRUCE_BOARD_WAIT]);
 }

@@ -8,7 +8,6 @@ use Rattle.packet.specs.declared.layout.Fields.{Fields}
 use Rattle.packet.specs.Crc.{byteBits, crcOf, divisor, nibbleBits}
 use Rattle.packet.specs.Layout.{byteOf, carriedIn, dataOf, fieldsOf, h4Of, highsOf, nibblesOf, sealedOf}
 use Rattle.packet.specs.Reading.{readAnswer, readNibbles, readingNumber, readingValues}
-use Rattle.packet.specs.Shares.{joinedTo, shareOf}
 use Rattle.packet.specs.Words.{FIXED, ADD, NORM, EOS, IDLE, DNU, assigned}
 use Rattle.packet.specs.Writing.{fitting, writeAnswer, writeBytes, writingNumber}
 use Rattle.text.specs.Ascii.{ascii}
@@ -31,7 +30,6 @@ use Rattle.paths.specs.Planning.{proposed, setOf, tightestOf}
 use Rattle.payload.specs.Answers.{numberOf}
 use Rattle.payload.specs.Joining.{joined, wholeAnswer}
 use Rattle.payload.specs.Spreading.{spreadAll}
-use Rattle.ground.specs.Table.{tabulate}
 use Rattle.ground.specs.Circle.{after as afterOn}
 use Rattle.packet.specs.Counts.{tagByHigh, tagByLow, counts, carriesLow, nibbleIn, nibblePlace, startsCount}
 use Rattle.packet.specs.Kinds.{distanceOf, endsEpoch, epochAfter, epochOf, epochs, epochsIn, firstTag, frames, idleNumber, lead, mstFails, mstFirst, mstNumbers, placeOf, startsEpoch, tagAfter, tagBefore, tags}
@@ -64,7 +62,7 @@ use Rattle.spoken.specs.Applying.{appliedOf, changesFit, fits, withChanges}
 use Rattle.spoken.specs.Changes.{changesIn, changesOf, comparedOf, listOf, noChanges}
 use Rattle.spoken.specs.declared.lists.Changes.{Changes}
 use Rattle.spoken.specs.Shown.{appliedNumbers, comparedNumbers}
-use Rattle.spoken.specs.Speaking.{changeText, nowText, rowText, spokenText, waitLine, wasText}
+use Rattle.spoken.specs.Speaking.{canSpeak, changeText, changesSpeak, nowText, rowText, spokenText, waitLine, wasText}
 use Rattle.spoken.specs.Speaking.{slotText as spokenSlot}
 use Rattle.spoken.specs.Taking.{takenOf as boardTaken}
 use Rattle.step.specs.Arrival.{arrives, frameDropped, byStart, byWindow, countsOn, distanceIn, flagged, inStep, joining, keeps, outside, readable, takenOf}
@@ -99,7 +97,7 @@ mixed-h4 = 0xA8 ∷ 0x59 ∷ 0x1A ∷ 0x0B ∷ 0x0C ∷ 0x0D ∷ 0x4E ∷ 0xDF �
 abbrev relayed : ℕ → Fields
 relayed reserved = record { epoch = 5; word = record { 0 = NORM }; gid = 1; mst = 0xBF; «rs_ack» = 1; sq = 17; reserved = reserved }
 
--- the answer of writing it and the H4 bytes, and what reading those gives
+-- the answer of writing it and the H4 bytes, and what reading those gives. The five rows by turns tell each bit's place: no two bits are alike in all five.
 abbrev wrote : ℕ → List ℕ
 wrote reserved = writingNumber (writeAnswer (relayed reserved) (replicate 16 0)) ∷ writeBytes (relayed reserved) (replicate 16 0)
 
@@ -154,6 +152,10 @@ p8-second = senderRun p8-first (OnTable (Report 0 0xBF 0) ∷ OnTable (RemoveSlo
 -- the lines from one board that went out to the next
 abbrev spokenLines : Sender → Sender → List ℕ
 spokenLines old new = spokenText (comparedOf (boardTaken old) (boardTaken new) .changes)
+
+-- 1 where changes can be spoken
+abbrev sayable : Changes → ℕ
+sayable cs = cond (canSpeak cs) 1 0
 
 -- one port in step, its latest tag 4,095
 abbrev p5 : Host
@@ -222,28 +224,37 @@ table =
     ∷ record { name = "the three bits beside GID, written"; given = wrote 1792; said = 0 ∷ beside-gid }
     ∷ record { name = "the three bits beside GID, read"; given = came beside-gid; said = 0 ∷ 5 ∷ 2 ∷ 1 ∷ 0xBF ∷ 1 ∷ 17 ∷ 1792 ∷ [] }
     ∷ record {
+      name = "reserved bits by turns of one, written";
+      given = wrote 44739242;
+      said = 0 ∷ 0xB8 ∷ 0xF9 ∷ 0xBA ∷ 0x5B ∷ 0x5C ∷ 0x5D ∷ 0x1E ∷ 0x1F ∷ 0x00 ∷ 0x51 ∷ 0x22 ∷ 0x53 ∷ 0xA4 ∷ 0xA5 ∷ 0xD6 ∷ 0x37 ∷ [];
+    }
+    ∷ record {
+      name = "reserved bits by turns of two, written";
+      given = wrote 53687091;
+      said = 0 ∷ 0xB8 ∷ 0xF9 ∷ 0xDA ∷ 0x6B ∷ 0x6C ∷ 0x6D ∷ 0x1E ∷ 0x1F ∷ 0x00 ∷ 0x51 ∷ 0x22 ∷ 0x73 ∷ 0x34 ∷ 0x35 ∷ 0xF6 ∷ 0x97 ∷ [];
+    }
+    ∷ record {
+      name = "reserved bits by turns of four, written";
+      given = wrote 63161283;
+      said = 0 ∷ 0xB8 ∷ 0xF9 ∷ 0xFA ∷ 0x8B ∷ 0x7C ∷ 0x8D ∷ 0x1E ∷ 0x1F ∷ 0x00 ∷ 0x51 ∷ 0x22 ∷ 0x73 ∷ 0xC4 ∷ 0x35 ∷ 0xC6 ∷ 0x57 ∷ [];
+    }
+    ∷ record {
+      name = "reserved bits by turns of eight, written";
+      given = wrote 66847740;
+      said = 0 ∷ 0xB8 ∷ 0xF9 ∷ 0xFA ∷ 0xFB ∷ 0x8C ∷ 0x0D ∷ 0x1E ∷ 0x1F ∷ 0x00 ∷ 0x51 ∷ 0x22 ∷ 0x73 ∷ 0xF4 ∷ 0xC5 ∷ 0xB6 ∷ 0x77 ∷ [];
+    }
+    ∷ record {
+      name = "reserved bits by turns of sixteen, written";
+      given = wrote 67107840;
+      said = 0 ∷ 0xB8 ∷ 0xF9 ∷ 0xFA ∷ 0xFB ∷ 0xFC ∷ 0xFD ∷ 0x1E ∷ 0x1F ∷ 0x00 ∷ 0x51 ∷ 0x22 ∷ 0x93 ∷ 0x04 ∷ 0x05 ∷ 0x36 ∷ 0x57 ∷ [];
+    }
+    ∷ record {
       name = "reserved 67,108,863 and 67,108,864";
       given = writingNumber (writeAnswer (relayed 67108863) (replicate 16 0)) ∷ writingNumber (writeAnswer (relayed 67108864) (replicate 16 0)) ∷ [];
       said = 0 ∷ 8 ∷ [];
     }
     ∷ record { name = "P3 CRC of 56 zero bits"; given = crcOf (replicate 14 0) ∷ []; said = 0x00 ∷ [] }
     ∷ record { name = "P4 CRC of the last bit alone"; given = crcOf (replicate 13 0 ++ (1 ∷ [])) ∷ []; said = 0x07 ∷ [] }
-    ∷ record {
-      name = "the share of 01 at places 0 to 6";
-      given = tabulate 7 (λ p. shareOf p 0x01);
-      said = 0xDF ∷ 0x29 ∷ 0x62 ∷ 0x16 ∷ 0x6B ∷ 0x15 ∷ 0x07 ∷ [];
-    }
-    ∷ record {
-      name = "the share of FF at places 0 to 6";
-      given = tabulate 7 (λ p. shareOf p 0xFF);
-      said = 0x44 ∷ 0xAF ∷ 0x39 ∷ 0xD1 ∷ 0x2B ∷ 0xD7 ∷ 0xF3 ∷ [];
-    }
-    ∷ record {
-      name = "the shares of P1's bytes, and they join to its CRC";
-      given = shareOf 0 0xFF ∷ shareOf 3 0xFF ∷ shareOf 5 0x50 ∷ joinedTo 7 (nibblesOf p1) ∷ [];
-      said = 0x44 ∷ 0xD1 ∷ 0x0C ∷ 0x99 ∷ [];
-    }
-    ∷ record { name = "the shares of P2's bytes join to its CRC"; given = joinedTo 7 (nibblesOf p2) ∷ []; said = 0xC3 ∷ [] }
     ∷ record { name = "P5: tag 4,095 then 0 keeps step"; given = p5 .answer ∷ handed 0 0 p5 .answer ∷ []; said = 0 ∷ 0 ∷ [] }
     ∷ record { name = "P5: 4,095 then 1 loses it"; given = p5 .answer ∷ handed 0 1 p5 .answer ∷ []; said = 0 ∷ 12 ∷ [] }
     ∷ record {
@@ -267,6 +278,13 @@ table =
       given = wholeOutput (ascii "size\t2\nadd\t0\nadd\t1\nreport\t0\tBF\t0\nremove\t0\nboard\n");
       said = ascii "answer\t0\nanswer\t0\nanswer\t0\nanswer\t0\nanswer\t3\nslot\t0\tADD\t1\nslot\t1\tEOS\t0\nwait\t1\n";
     }
+    ∷ record {
+      name = "a session with hex digits in small letters, DNU and NORM on its board, and lines that are malformed";
+      given =
+          wholeOutput (ascii "size\t3\nadd\t0\nadd\t1\nadd\t2\nreport\t0\t1f\t0\nlapse\nreport\t0\t5f\t0\nboard\nsize\t0003\nreport\t0\t00\t2\nlapse\nadd\t0 \n");
+      said =
+          ascii "answer\t0\nanswer\t0\nanswer\t0\nanswer\t0\nanswer\t0\nanswer\t0\nanswer\t0\nslot\t0\tNORM\t0\nslot\t1\tDNU\t1\nslot\t2\tEOS\t2\nwait\t0\nanswer\t13\nanswer\t13\nanswer\t2\nanswer\t13\n";
+    }
     ∷ record { name = "P9: NORM 0, IDLE 255, EOS 1, wait open"; given = shown (after 3 p9); said = 2 ∷ 0 ∷ 5 ∷ 255 ∷ 3 ∷ 1 ∷ 1 ∷ [] }
     ∷ record { name = "P10: EOS 0, DNU 1, no wait"; given = shown (after 2 p10); said = 3 ∷ 0 ∷ 15 ∷ 1 ∷ 0 ∷ [] }
     ∷ record { name = "P11: two DNU, no EOS"; given = shown (after 2 p11); said = 15 ∷ 0 ∷ 15 ∷ 1 ∷ 0 ∷ [] }
@@ -288,6 +306,19 @@ table =
       said =
           ascii "slot\t0\twas\tIDLE\t255\tnow\tADD\t0\nslot\t1\twas\tIDLE\t255\tnow\tADD\t1\n"
           ++ ascii "slot\t0\twas\tADD\t0\tnow\tADD\t1\nslot\t1\twas\tADD\t1\tnow\tEOS\t0\nwait\topen\n";
+    }
+    ∷ record {
+      name = "a wait that closes is spoken alone";
+      given = spokenText (comparedOf (boardOf (after 3 p9)) (boardOf (after 3 (p9 ++ (Lapse ∷ [])))) .changes);
+      said = ascii "wait\tclosed\n";
+    }
+    ∷ record {
+      name = "each of the five words can be spoken";
+      given =
+          sayable (comparedOf (boardTaken (beginOf 0 2 0 .sender)) (boardTaken p8-first) .changes)
+          ∷ sayable (comparedOf (boardOf (after 2 (active 0 ++ active 1))) (boardOf (after 2 p10)) .changes)
+          ∷ [];
+      said = 1 ∷ 1 ∷ [];
     }
     ∷ record { name = "equal boards are silent"; given = comparedNumbers (boardOf (after 3 p9)) (boardOf (after 3 p9)); said = 0 ∷ 0 ∷ [] }
     ∷ record { name = "boards of 2 and of 3 slots"; given = comparedNumbers (boardOf (after 2 p10)) (boardOf (after 3 p9)); said = 4 ∷ 0 ∷ [] }
@@ -344,12 +375,12 @@ table =
       said = 4 ∷ 4 ∷ 4 ∷ 4 ∷ 4 ∷ 4 ∷ [];
     }
     ∷ record {
-      name = "the check of 3 2, of 2 2, of 2 alone and of 2 64";
-      given = accepted (3 ∷ 2 ∷ []) ∷ accepted (2 ∷ 2 ∷ []) ∷ accepted (2 ∷ []) ∷ accepted (2 ∷ 64 ∷ []) ∷ [];
-      said = 1 ∷ 0 ∷ 0 ∷ 0 ∷ [];
+      name = "the check of 3 2, of 2 2, of 2 alone, of 2 64 and of 0 64";
+      given = accepted (3 ∷ 2 ∷ []) ∷ accepted (2 ∷ 2 ∷ []) ∷ accepted (2 ∷ []) ∷ accepted (2 ∷ 64 ∷ []) ∷ accepted (0 ∷ 64 ∷ []) ∷ [];
+      said = 1 ∷ 0 ∷ 0 ∷ 0 ∷ 0 ∷ [];
     }
     ∷ []
 
 pub examples : Equal table
-unfolding table comparedOf changesOf changesIn listOf noChanges appliedOf fits changesFit withChanges spokenText changeText wasText nowText rowText spokenSlot waitLine beginOf freshSender startEpochOf startedSender startedEpoch nibblesOf sealedOf dataOf crcOf divisor byteBits nibbleBits writeAnswer writeBytes fitting assigned h4Of readAnswer readNibbles fieldsOf carriedIn highsOf boardOf rowsOf rowOf noRow highest startOf freshOf idleSlot idleNumber addOf addedTo removeOf removedFrom fallen fallenIn lapseOf reportOf waited actedOn mstApplied numberApplied holderOf renumbered slotAfter numberAfter comesBefore turnOf opensWait sizeOf membersOf mstFails mstFirst mstNumbers wholeOutput beginning linesOf fieldsIn lineOf wordLine numberLine reportLine reportIn numberIn digitOf hexOf replyOf sizeReply outputOf answerText boardText slotText waitText wordText decimalText afterOn nibbleIn nibblePlace startsCount tagByHigh carriesLow tagByLow counts endsEpoch epochsIn frames tagAfter tagBefore tags lead epochs epochAfter epochOf distanceOf placeOf startsEpoch firstTag settledOf clearedStep clearedPort clearedPorts stoppedOf stopBy begunOf beginBy gatherBy portsIn sizedGroup storeFor ready latest noTag further foremost within begins owesNothing brought silent ruledBy passedStep notedBy passedPort passedPorts passedGroup passedOf frameFits rowsFit frameAnswer frameRows frameStore gatheredBy marksBy portRows storeBy settledBy takenRows takenStore refusalBy startAnswer startRows startFits sizedAnswer sizedRows freshPort freshPorts groupAt groupOf groupRow putGroup rowIn putRow marksAt packetsAt putMarks putPackets memberAt putMember memberOf memberRow putStep stepAt stepIn stepRow takenOf inStep readable distanceIn flagged countsOn frameDropped outside keeps joining byWindow byStart arrives inStepAt begunRun secondRun oneMore furtherRun runOn placeIn storedAt ringOf byteAt h4At packetIn cutFrom markedAt firstMark markedByte cutByte passedByte passedMarks answerOf areShort setOf proposed tightestOf ranksOf rankOf candidateAt sortedBy checkedOf accepts agreesWith agree joinedTo shareOf
+unfolding table comparedOf changesOf changesIn listOf noChanges appliedOf fits changesFit withChanges spokenText changeText wasText nowText rowText spokenSlot waitLine canSpeak changesSpeak beginOf freshSender startEpochOf startedSender startedEpoch nibblesOf sealedOf dataOf crcOf divisor byteBits nibbleBits writeAnswer writeBytes fitting assigned h4Of readAnswer readNibbles fieldsOf carriedIn highsOf boardOf rowsOf rowOf noRow highest startOf freshOf idleSlot idleNumber addOf addedTo removeOf removedFrom fallen fallenIn lapseOf reportOf waited actedOn mstApplied numberApplied holderOf renumbered slotAfter numberAfter comesBefore turnOf opensWait sizeOf membersOf mstFails mstFirst mstNumbers wholeOutput beginning linesOf fieldsIn lineOf wordLine numberLine reportLine reportIn numberIn digitOf hexOf replyOf sizeReply outputOf answerText boardText slotText waitText wordText decimalText afterOn nibbleIn nibblePlace startsCount tagByHigh carriesLow tagByLow counts endsEpoch epochsIn frames tagAfter tagBefore tags lead epochs epochAfter epochOf distanceOf placeOf startsEpoch firstTag settledOf clearedStep clearedPort clearedPorts stoppedOf stopBy begunOf beginBy gatherBy portsIn sizedGroup storeFor ready latest noTag further foremost within begins owesNothing brought silent ruledBy passedStep notedBy passedPort passedPorts passedGroup passedOf frameFits rowsFit frameAnswer frameRows frameStore gatheredBy marksBy portRows storeBy settledBy takenRows takenStore refusalBy startAnswer startRows startFits sizedAnswer sizedRows freshPort freshPorts groupAt groupOf groupRow putGroup rowIn putRow marksAt packetsAt putMarks putPackets memberAt putMember memberOf memberRow putStep stepAt stepIn stepRow takenOf inStep readable distanceIn flagged countsOn frameDropped outside keeps joining byWindow byStart arrives inStepAt begunRun secondRun oneMore furtherRun runOn placeIn storedAt ringOf byteAt h4At packetIn cutFrom markedAt firstMark markedByte cutByte passedByte passedMarks answerOf areShort setOf proposed tightestOf ranksOf rankOf candidateAt sortedBy checkedOf accepts agreesWith agree
 examples = equal-rows table refl

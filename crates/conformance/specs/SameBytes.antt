@@ -14,9 +14,9 @@ use Rattle.c_face.specs.Theorems.Runs.{fits, meant, runC, runs-own, runs-sized}
 use Rattle.ground.specs.Truth.{and-true}
 use Rattle.link.specs.History.{Allowed, Handed, History, fieldsSent, packetSent, payloadSent, senderAt}
 use Rattle.link.specs.Sending.{Client, epochAt}
-use Rattle.link.specs.Sending.Packets.{fields-fit, packet-is}
-use Rattle.link.specs.Sending.Ruling.{x-le}
-use Rattle.link.specs.Sending.Senders.{callsTo, sender-in, sender-run, size-at}
+use Rattle.link.specs.Proofs.Histories.Packets.{fields-fit, packet-is}
+use Rattle.link.specs.Proofs.Histories.Ruling.{x-le}
+use Rattle.link.specs.Proofs.Histories.Senders.{callsTo, sender-in, sender-run, size-at}
 use Rattle.packet.specs.Kinds.{frames}
 use Rattle.packet.specs.Layout.{h4Of, nibblesOf}
 use Rattle.packet.specs.Writing.{fitting, writeBytes}

@@ -33,7 +33,7 @@ use Rattle.sender.specs.Shown.{after, shown}
 use Rattle.sender.specs.Steps.{Call}
 use Rattle.sender.specs.Steps.Call.{AddSlot, Lapse, RemoveSlot, Report}
 use Rattle.sender.specs.Table.{holderOf, membersOf, sizeOf}
-use Rattle.step.specs.Arrival.{arrives, frameDropped, byStart, byWindow, countsOn, distanceIn, inStep, joining, keeps, outside, readable, takenOf}
+use Rattle.step.specs.Arrival.{arrives, frameDropped, byStart, byWindow, countsOn, distanceIn, inStep, joining, keeps, outside, readable, stepTo, takenOf}
 use Rattle.step.specs.Run.{begunRun, furtherRun, inStepAt, oneMore, runOn, secondRun}
 use Rattle.store.specs.Frames.{byteAt, h4At, packetIn, placeIn, ringOf, storedAt}
 use Rattle.store.specs.Marks.{cutByte, cutFrom, firstMark, markedAt, markedByte, passedByte, passedMarks}
@@ -143,6 +143,16 @@ table =
       given = shown (after 2 (two ++ (Report 0 0x00 1 ∷ RemoveSlot 1 ∷ Report 0 0x00 1 ∷ [])));
       said = 3 ∷ 0 ∷ 5 ∷ 255 ∷ 1 ∷ [];
     }
+    ∷ record {
+      name = "the remembered bit is 0 at first";
+      given = shown (after 2 (AddSlot 0 ∷ RemoveSlot 0 ∷ Report 0 0x00 0 ∷ []));
+      said = 5 ∷ 255 ∷ 5 ∷ 255 ∷ 1 ∷ [];
+    }
+    ∷ record {
+      name = "a lapse leaves the remembered bit";
+      given = shown (after 2 (two ++ (Report 0 0x00 1 ∷ RemoveSlot 1 ∷ Lapse ∷ RemoveSlot 0 ∷ Report 0 0x00 1 ∷ [])));
+      said = 5 ∷ 255 ∷ 5 ∷ 255 ∷ 1 ∷ [];
+    }
     ∷ record { name = "MST is ignored while a wait is open"; given = shown (after 2 (two ++ (RemoveSlot 1 ∷ Report 0 0xFF 1 ∷ []))); said = 3 ∷ 0 ∷ 5 ∷ 255 ∷ 0 ∷ [] }
     ∷ record { name = "RS-Ack is one bit"; given = shown (after 1 (active 0 ++ (RemoveSlot 0 ∷ Report 0 0x00 2 ∷ []))); said = 5 ∷ 255 ∷ 1 ∷ [] }
     ∷ record {
@@ -241,6 +251,13 @@ table =
       given =
           getD (portsOut (running .rows) (replicate 8 9 ∷ [])) 0 [] ++ getD (portsOut (flagged 0 48 running .rows) (replicate 8 9 ∷ [])) 0 [];
       said = 0 ∷ 255 ∷ 1 ∷ 1 ∷ 1 ∷ 0 ∷ 255 ∷ 0 ∷ 0 ∷ 255 ∷ 0 ∷ 0 ∷ 0 ∷ 1 ∷ 255 ∷ 0 ∷ [];
+    }
+    ∷ record {
+      name = "what is shown of a port in step that has not joined, readable and not";
+      given =
+          portShown (groupAt (running .rows)) (stepTo (stepAt (running .rows) 0) 0 (record { count = 32; next = 5 }) 0 1 0) (memberOf (2 ∷ 7 ∷ 1 ∷ 5 ∷ replicate 12 0))
+          ++ portShown (groupAt (running .rows)) (stepTo (stepAt (running .rows) 0) 0 (record { count = 32; next = 5 }) 0 0 0) (memberOf (2 ∷ 7 ∷ 1 ∷ 5 ∷ replicate 12 0));
+      said = 1 ∷ 5 ∷ 1 ∷ 0 ∷ 1 ∷ 0 ∷ 2 ∷ 0 ∷ 1 ∷ 5 ∷ 1 ∷ 0 ∷ 0 ∷ 0 ∷ 2 ∷ 0 ∷ [];
     }
     ∷ record {
       name = "the record of a report";

@@ -1,4 +1,4 @@
--- The sending side of demand 3, whoever sends: what each slot sends, and the laws that it keeps. Our sender's histories are one instance (History). Nothing here is a rule of one kind of sender: which words there are, and what X is at first, is the instance's.
+-- The sending side of demand 3, whoever sends: what each slot sends, and the laws that it keeps. Our sender's histories are one instance (History). Nothing here is a rule of one kind of sender: which words active members send, and what X is at first, is the instance's.
 use mathlib.Core.Path.{_≡_}
 use mathlib.Core.Logic.{_≢_}
 use mathlib.Core.Bool.{true, false}

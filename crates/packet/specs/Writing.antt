@@ -16,7 +16,7 @@ writingNumber Done = 0
 writingNumber Length = 9
 writingNumber Field = 8
 
--- 8: 'a field given for writing is too large, or its word is FIXED or unassigned'. The reserved and zero bits are a field too: 'writing takes them' (request 2026-08, in the place of 01's line that they are written 0).
+-- 8: 'a field given for writing is too large, or its word is FIXED or unassigned'
 unfoldable pub fitting : Fields → Bool
 fitting f =
     ltb (f .epoch) 256

@@ -1,28 +1,26 @@
-// The CRC of a packet (01, 'CRC') by a table (request 2026-02): the shares of its seven bytes joined.
-use crate::layout;
-use crate::shares::SHARES;
+// The CRC of a packet (01, 'CRC'), nibble by nibble.
 ghost use mathlib.Core.Path.{_≡_};
-ghost use Prim.Native.Nat.{_<_};
 ghost use lib.ListN.{take};
-ghost use Rattle.packet.specs.Crc.{crcOf};
-ghost use Rattle.packet.specs.Shares.{shareOf};
+ghost use Rattle.ground.specs.Polynomial.{remainder};
+ghost use Rattle.packet.specs.Crc.{divisor, byteBits, nibbleBits, crcOf};
 
-fn share(place: usize, value: u8) -> u8
-    requires { ⌜ place < 7 ⌝ }
-    ensures { λ r. ⌜ r ≡ shareOf place value ⌝ }
+// By the divisor x^8 is x^2+x+1: the four bits that leave at the top come back as themselves, doubled and quadrupled.
+fn bring_nibble(rest: u8, nibble: u8) -> u8
+    ensures { λ r. ⌜ byteBits r ≡ remainder divisor (byteBits rest) (nibbleBits nibble) ⌝ }
 {
-    SHARES[place][value as usize]
+    let high = rest / 16;
+    (rest % 16 * 16 + nibble % 16) ^ (high ^ (high * 2) ^ (high * 4))
 }
 
 pub(crate) fn crc(nibbles: [u8; 16]) -> u8
     ensures { λ r. ⌜ r ≡ crcOf (take 14 nibbles) ⌝ }
 {
     let mut rest = 0;
-    let mut place = 0;
-    while place < 7 {
-        let byte = layout::byte_of(nibbles[place * 2], nibbles[place * 2 + 1]);
-        rest = rest ^ share(place, byte);
-        place += 1;
+    let mut i = 0;
+    while i < 14 {
+        rest = bring_nibble(rest, nibbles[i]);
+        i += 1;
     }
-    rest
+    let behind = bring_nibble(rest, 0);
+    bring_nibble(behind, 0)
 }

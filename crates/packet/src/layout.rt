@@ -17,7 +17,7 @@ pub struct Fields {
     pub reserved: u32,
 }
 
-pub(crate) fn byte_of(high: u8, low: u8) -> u8
+fn byte_of(high: u8, low: u8) -> u8
     ensures { λ r. ⌜ r ≡ byteOf high low ⌝ }
 {
     high % 16 * 16 + low % 16

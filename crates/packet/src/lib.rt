@@ -5,7 +5,6 @@ pub mod kinds;
 mod layout;
 mod reader;
 mod ruling;
-mod shares;
 mod words;
 mod writer;
 

@@ -131,7 +131,7 @@ module _ (delays : List ℕ) (k : ℕ) (few : length delays ≤ 64) (one : 1 ≤
         near = λ a b ha hb. let w = tight-within a b ha hb in omega arith;
       }
 
-  -- 'k different ones that lie between are at most as many as lie there': a good set is no tighter
+  -- k different ranks that lie between two are at most as many as lie there, so a good set is no tighter
   least-good : (W : ℕ) (set : List ℕ) → Good delays k W set → least ≤ W - 16
   least-good W set g = between
     where

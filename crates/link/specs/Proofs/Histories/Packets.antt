@@ -3,6 +3,7 @@ use mathlib.Core.Path.{_≡_, refl, _∙_, sym, ap}
 use mathlib.Core.Bool.{true}
 use mathlib.Core.List.{List}
 use Prim.Native.Nat.{ℕ, _<_}
+use native.Mathlib.Omega.{arith}
 use lib.ListN.{length, length-replicate, replicate}
 use borrow.Author.Tests.{eq-eqb, lt-ltb}
 use Rattle.packet.specs.declared.layout.Fields.{Fields}

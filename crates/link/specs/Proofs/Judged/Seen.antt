@@ -26,7 +26,7 @@ abbrev seenBy : Ruling → Seen
 seenBy q = record { whole = true; good = q .good; word = q .word; number = q .number; gid = q .gid; here = true }
 
 module _ (k : Link) where
-  -- the receiver's number of an epoch is the sender's
+  -- the receiver's number of an epoch is the sending side's
   pub number-of : (i : ℕ) → numberOf (roadOf k) i ≡ epochNumber (kindOf k) (k .sending .first) i
   unfolding numberOf roadOf
   number-of i =

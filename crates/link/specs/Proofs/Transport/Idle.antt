@@ -24,7 +24,7 @@ not-gathered g n s e = rw (eq-eqb (g .gathered) 0 e, and-false (ltb 0 n && not (
 
 module _ (r : Road) (f : Fair r) where
   pub before-none : (m : Moment) (coming : ℕ → ℕ) → Before r m coming → getD (recordAt r m) 0 0 ≡ 0
-  before-none m coming b = mark-none r f m coming (b .lined) (not-begun (groupAt (m .rows)) (r .ports) (m .rows) (b .begun))
+  before-none m coming b = mark-none r f m (b .lined) (not-begun (groupAt (m .rows)) (r .ports) (m .rows) (b .begun))
 
   pub first-none : (m : Moment) (i : ℕ) (coming : ℕ → ℕ) → First r m coming i → getD (recordAt r m) 0 0 ≡ 0
-  first-none m i coming b = mark-none r f m coming (b .open-at .lined) (not-gathered (groupAt (m .rows)) (r .ports) (m .rows) (b .gathered))
+  first-none m i coming b = mark-none r f m (b .open-at .lined) (not-gathered (groupAt (m .rows)) (r .ports) (m .rows) (b .gathered))
