@@ -1,5 +1,6 @@
 pub mod Answered
 pub mod ByRank
+pub mod Circuits
 pub mod Entries
 pub mod Examples
 pub mod Hosts

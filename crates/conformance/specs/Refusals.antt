@@ -1,4 +1,5 @@
 -- The refusals of every entry point that can refuse (demand 1), in one table: each row is an entry point's name, its call and the proof that it copes. host/tools/refusals holds each row to the entry point's contract.
+pub mod Cards
 pub mod Epochs
 pub mod Lines
 pub mod Packets
@@ -10,6 +11,7 @@ pub mod Spoken
 pub mod Tables
 use mathlib.Core.List.{List, [], _∷_}
 use Rattle.conformance.specs.Entries.{Coping, row}
+use Cards as card
 use Epochs as sender
 use Lines as console
 use Packets as packet
@@ -45,6 +47,20 @@ entries =
     ∷ row "sender::Sender::start_epoch" sender.startEpoch sender.startEpoch-copes
     ∷ row "sender::Sender::packet" sender.packet sender.packet-copes
     ∷ row "sender::Sender::payload" sender.payload sender.payload-copes
+    ∷ row "circuits::Card::start" card.start card.start-copes
+    ∷ row "circuits::Card::claim" card.claim card.claim-copes
+    ∷ row "circuits::Card::release" card.release card.release-copes
+    ∷ row "circuits::Card::add" card.add card.add-copes
+    ∷ row "circuits::Card::remove" card.remove card.remove-copes
+    ∷ row "circuits::Card::report" card.report card.report-copes
+    ∷ row "circuits::Card::lapse" card.lapse card.lapse-copes
+    ∷ row "circuits::Card::start_epoch" card.startEpoch card.startEpoch-copes
+    ∷ row "circuits::Card::packet" card.packet card.packet-copes
+    ∷ row "circuits::Card::payload" card.payload card.payload-copes
+    ∷ row "circuits::Card::board" card.board card.board-copes
+    ∷ row "circuits::Card::board_going" card.boardGoing card.boardGoing-copes
+    ∷ row "circuits::Card::ranks" card.ranks card.ranks-copes
+    ∷ row "circuits::Card::owned" card.owned card.owned-copes
     ∷ row "spoken::changes_between" spoken.changes spoken.changes-copes
     ∷ row "spoken::apply" spoken.apply spoken.apply-copes
     ∷ row "spoken::speak" spoken.speak spoken.speak-copes

@@ -1,0 +1,46 @@
+use borrow.Author.Tests.{not-true, not-false}
+use Rattle.circuits.proofs.Answering.{packet-no-slot, packet-other, packet-done}
+use borrow.Author.Needs.{needs}
+use Rattle.circuits.proofs.card.Card.packet.Statement.{statement}
+use Rattle.circuits.proofs.card.Card.packet.Tie as tie
+
+is-slot-requires : tie.Need-is-slot-requires
+is-slot-requires c κs = search needs
+
+returns : tie.Need-returns
+returns c = packet-no-slot (c .before .before .before .args .self) (c .before .before .before .args .group) (c .before .before .before .args .slot) (c .before .is-slot .ensures) _ (not-true _ (c .if1 .taken))
+
+is-own-requires : tie.Need-is-own-requires
+is-own-requires c κs = search needs
+
+returns-2 : tie.Need-returns-2
+returns-2 c = packet-other (c .before .before .before .before .before .args .self) (c .before .before .before .before .before .args .group) (c .before .before .before .before .before .args .slot) (c .before .before .before .is-slot .ensures) (not-false _ (c .before .before .if1 .left)) (c .before .is-own .ensures) _ (not-true _ (c .if2 .taken))
+
+sender-of-requires : tie.Need-sender-of-requires
+sender-of-requires c κs = search needs
+
+packet-requires : tie.Need-packet-requires
+packet-requires c κs = search needs
+
+told-by-requires : tie.Need-told-by-requires
+told-by-requires c κs = search needs
+
+same-length : tie.Need-same-length
+same-length c = search needs
+
+returns-3 : tie.Need-returns-3
+returns-3 c = packet-done (c .before .before .before .before .before .before .before .before .before .before .before .args .self) (c .before .before .before .before .before .before .before .before .before .before .before .args .group) (c .before .before .before .before .before .before .before .before .before .before .before .args .slot) (c .before .before .before .before .before .before .before .before .before .is-slot .ensures) (not-false _ (c .before .before .before .before .before .before .before .before .if1 .left)) (c .before .before .before .before .before .before .before .is-own .ensures) (not-false _ (c .before .before .before .before .before .before .if2 .left)) _ (c .before .before .before .before .before .sender-of .ensures) (c .before .before .before .packet .ensures .0) (c .before .before .before .packet .ensures .1) (c .told-by .ensures)
+
+pub packet-spec : {M : Type 1} → statement M
+packet-spec =
+    tie.close
+    (tie.spec
+    is-slot-requires
+    returns
+    is-own-requires
+    returns-2
+    sender-of-requires
+    packet-requires
+    told-by-requires
+    same-length
+    returns-3)

@@ -1,0 +1,97 @@
+-- A group by itself: what each of its calls gives back and leaves, from its view, the call and, for a claim alone, one bit: the other owns the slot asked for.
+use mathlib.Core.Bool.{Bool, true, false, cond, _&&_, _||_}
+use mathlib.Core.List.{List, [], _∷_}
+use Prim.Native.Nat.{ℕ}
+use lib.Dec.{eqb, ltb}
+use lib.ListN.{getD, length}
+use Rattle.ground.specs.Table.{tabulate}
+use Rattle.sender.specs.declared.epochs.SenderOutcome.{SenderOutcome}
+use Rattle.sender.specs.Board.{boardOf}
+use Rattle.sender.specs.Epochs as E
+use Rattle.sender.specs.Epochs.{SenderCall as S, senderStepOf}
+use Rattle.sender.specs.Steps.{Call as T}
+use Rattle.sender.specs.Table.{isMember, sizeOf, slotAt}
+use Rattle.circuits.specs.declared.answers.Answer.{Answer}
+use Rattle.circuits.specs.declared.answers.Answer.the-variants as A
+use Rattle.circuits.specs.Answers.{told}
+use Rattle.circuits.specs.Calls.{Call}
+use Rattle.circuits.specs.Calls.Call.{Claim, Release, AddSlot, RemoveSlot, Report, Lapse, StartEpoch}
+use Rattle.circuits.specs.Owners.{byteOf}
+use Rattle.circuits.specs.Views.{Asked, Reply, View}
+use Rattle.circuits.specs.Views.Asked.{Do, Packet, Payload, Board, BoardGoing, Ranks, Owned}
+use Rattle.circuits.specs.Views.Reply.{Answered, Wrote, Showed, Ranked, Owns}
+
+abbrev pub slotIn : View → ℕ → Bool
+slotIn v i = ltb i (sizeOf (v .sender .table .count))
+
+abbrev pub ownIn : View → ℕ → Bool
+ownIn v i = getD (v .owned) i false
+
+abbrev pub withOwn : View → ℕ → Bool → View
+withOwn v i b = record { sender = v .sender; owned = tabulate 64 (λ j. cond (eqb j i) b (ownIn v j)) }
+
+-- what a call leaves and answers
+pub record Seen : Type 0 where
+  pub view : View
+  pub answer : Answer
+
+abbrev pub seen : View → Answer → Seen
+seen v a = record { view = v; answer = a }
+
+abbrev pub claimSeen : View → ℕ → Bool → Seen
+claimSeen v i taken = cond (slotIn v i) (cond (ownIn v i || taken) (seen v A.Owned) (seen (withOwn v i true) A.Done)) (seen v A.NoSlot)
+
+abbrev pub ownSeen : View → ℕ → Seen → Seen
+ownSeen v i r = cond (slotIn v i) (cond (ownIn v i) r (seen v A.Owned)) (seen v A.NoSlot)
+
+abbrev pub releaseSeen : View → ℕ → Seen
+releaseSeen v i = ownSeen v i (cond (isMember (slotAt (v .sender .table .slots) i .state)) (seen v A.Used) (seen (withOwn v i false) A.Done))
+
+abbrev pub sentSeen : View → S → Seen
+sentSeen v k = let r = senderStepOf (v .sender) k in seen (record { sender = r .sender; owned = v .owned }) (told (r .answer))
+
+abbrev pub stepSeen : View → Call → Bool → Seen
+stepSeen v (Claim i) taken = claimSeen v i taken
+stepSeen v (Release i) taken = releaseSeen v i
+stepSeen v (AddSlot i) taken = ownSeen v i (sentSeen v (S.OnTable (T.AddSlot i)))
+stepSeen v (RemoveSlot i) taken = ownSeen v i (sentSeen v (S.OnTable (T.RemoveSlot i)))
+stepSeen v (Report e mst ack) taken = sentSeen v (S.OnTable (T.Report e mst ack))
+stepSeen v Lapse taken = sentSeen v (S.OnTable T.Lapse)
+stepSeen v (StartEpoch gid mst ack) taken = sentSeen v (S.StartEpoch gid mst ack)
+
+-- of a slot that is the group's own
+abbrev pub ownAnswer : View → ℕ → Answer → Answer
+ownAnswer v i a = cond (slotIn v i) (cond (ownIn v i) a A.Owned) A.NoSlot
+
+abbrev pub ownBytes : View → ℕ → List ℕ → List ℕ → List ℕ
+ownBytes v i new old = cond (slotIn v i) (cond (ownIn v i) new old) old
+
+abbrev pub replySeen : View → Asked → Bool → Reply
+replySeen v (Do k) taken = Answered (stepSeen v k taken .answer)
+replySeen v (Packet i h4) taken = Wrote (ownAnswer v i (told (E.packetAnswer (v .sender) i h4))) (ownBytes v i (E.packetBytes (v .sender) i h4) h4)
+replySeen v (Payload i p frame member) taken =
+    Wrote (ownAnswer v i (told (E.payloadAnswer (v .sender) i p (length frame) (length member)))) (ownBytes v i (E.payloadBytes (v .sender) i p frame member) member)
+replySeen v Board taken = Showed (record { board = boardOf (v .sender .table); answer = A.Done })
+replySeen v BoardGoing taken = Showed (record { board = v .sender .outgoing; answer = A.Done })
+replySeen v Ranks taken = Ranked (record { ranks = E.ranksOf (v .sender); answer = A.Done })
+replySeen v Owned taken = Owns (record { owned = tabulate 64 (λ i. byteOf (ownIn v i)); answer = A.Done })
+
+abbrev pub viewAfter : View → Asked → Bool → View
+viewAfter v (Do k) taken = stepSeen v k taken .view
+viewAfter v (Packet i h4) taken = v
+viewAfter v (Payload i p frame member) taken = v
+viewAfter v Board taken = v
+viewAfter v BoardGoing taken = v
+viewAfter v Ranks taken = v
+viewAfter v Owned taken = v
+
+-- its calls one after the other, each with its bit
+abbrev pub repliesSeen : View → List Asked → List Bool → List Reply
+repliesSeen v [] bs = []
+repliesSeen v (k ∷ ks) [] = []
+repliesSeen v (k ∷ ks) (b ∷ bs) = replySeen v k b ∷ repliesSeen (viewAfter v k b) ks bs
+
+abbrev pub viewSeen : View → List Asked → List Bool → View
+viewSeen v [] bs = v
+viewSeen v (k ∷ ks) [] = v
+viewSeen v (k ∷ ks) (b ∷ bs) = viewSeen (viewAfter v k b) ks bs

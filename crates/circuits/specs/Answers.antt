@@ -1,0 +1,32 @@
+-- The answers (02, 2026-06): '14, slot owned by another group, or on claim already owned by anyone; 15, release of a slot that isn't IDLE'.
+use mathlib.Core.Bool.{cond}
+use Prim.Native.Nat.{ℕ}
+use lib.Dec.{ltb}
+use Rattle.sender.specs.declared.table.Answer as S
+use Rattle.circuits.specs.declared.answers.Answer.{Answer}
+use Rattle.circuits.specs.declared.answers.Answer.the-variants.{Done, NoSlot, NotAllowed, WaitOpen, OutOfRange, Field, Length, Owned, Used}
+
+abbrev pub answerNumber : Answer → ℕ
+answerNumber Done = 0
+answerNumber NoSlot = 1
+answerNumber NotAllowed = 2
+answerNumber WaitOpen = 3
+answerNumber OutOfRange = 4
+answerNumber Field = 8
+answerNumber Length = 9
+answerNumber Owned = 14
+answerNumber Used = 15
+
+-- a sender's answer is the card's under the same number
+abbrev pub told : S.Answer → Answer
+told S.Answer.Done = Done
+told S.Answer.NoSlot = NoSlot
+told S.Answer.NotAllowed = NotAllowed
+told S.Answer.WaitOpen = WaitOpen
+told S.Answer.OutOfRange = OutOfRange
+told S.Answer.Field = Field
+told S.Answer.Length = Length
+
+-- 'a group other than the two is 1'
+abbrev pub groupAnswer : ℕ → Answer
+groupAnswer g = cond (ltb g 2) Done NoSlot

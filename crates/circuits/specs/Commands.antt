@@ -1,0 +1,43 @@
+-- Start, claim and release, and what the other calls ask first (02, 2026-06): 'order 1, 14, 15, 3, 2'.
+use mathlib.Core.Bool.{cond}
+use Prim.Native.Nat.{ℕ}
+use lib.Dec.{ltb}
+use lib.ListN.{replicate}
+use Rattle.sender.specs.Epochs.{SenderCall, beginOf, senderStepOf}
+use Rattle.circuits.specs.declared.answers.Answer.the-variants.{NoSlot, Owned, Used}
+use Rattle.circuits.specs.declared.card.Card.{Card}
+use Rattle.circuits.specs.declared.card.CardOutcome.{CardOutcome}
+use Rattle.circuits.specs.Answers.{told}
+use Rattle.circuits.specs.Owners.{hasOwner, markOf}
+use Rattle.circuits.specs.Parts.{isSlot, isUsed, marked, owns, refused, senderOf, stepped}
+
+-- a first epoch for each group, no slot owned; a count out of range is 4, and both groups are empty
+unfoldable pub startOf : ℕ → ℕ → ℕ → ℕ → CardOutcome
+startOf kind count e₀ e₁ =
+    record {
+      card = record { owners = replicate 64 0; first = beginOf kind count e₀ .sender; second = beginOf kind count e₁ .sender };
+      answer = told (beginOf kind count e₀ .answer);
+    }
+
+-- '14, .. on claim already owned by anyone', also by the group itself
+unfoldable pub claimOf : Card → ℕ → ℕ → CardOutcome
+claimOf c g i = cond (isSlot c g i) (cond (hasOwner (c .owners) i) (refused c Owned) (marked c i (markOf g))) (refused c NoSlot)
+
+-- 1, then 14: 'slot owned by another group', and 'A command on a slot nobody owns is 14'
+abbrev pub ofOwn : Card → ℕ → ℕ → CardOutcome → CardOutcome
+ofOwn c g i r = cond (isSlot c g i) (cond (owns c g i) r (refused c Owned)) (refused c NoSlot)
+
+-- '15, release of a slot that isn't IDLE'
+unfoldable pub releaseOf : Card → ℕ → ℕ → CardOutcome
+releaseOf c g i = ofOwn c g i (cond (isUsed c g i) (refused c Used) (marked c i 0))
+
+abbrev pub sentOf : Card → ℕ → SenderCall → CardOutcome
+sentOf c g k = stepped c g (senderStepOf (senderOf c g) k)
+
+-- a command on a slot: 1, 14, then the sender's 3, 2
+unfoldable pub commandOf : Card → ℕ → ℕ → SenderCall → CardOutcome
+commandOf c g i k = ofOwn c g i (sentOf c g k)
+
+-- a call on the whole group: 1 for the group, then as the sender has it
+unfoldable pub groupCallOf : Card → ℕ → SenderCall → CardOutcome
+groupCallOf c g k = cond (ltb g 2) (sentOf c g k) (refused c NoSlot)

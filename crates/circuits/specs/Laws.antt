@@ -1,0 +1,4 @@
+-- Laws on the definitions, for the theorems.
+pub mod Members
+pub mod Seeing
+pub mod Stepping

@@ -1,0 +1,31 @@
+-- The owner row: 0 nobody, 1 group 0, 2 group 1; any other byte counts as nobody. 'Each slot is owned by at most one group' (02, 2026-06) by its form.
+use mathlib.Core.Bool.{Bool, cond, _&&_, _||_}
+use mathlib.Core.List.{List}
+use Prim.Native.Nat.{ℕ}
+use lib.Dec.{eqb, ltb}
+use lib.ListN.{getD}
+use Rattle.ground.specs.Table.{tabulate}
+
+abbrev pub markOf : ℕ → ℕ
+markOf g = cond (eqb g 0) 1 2
+
+abbrev pub ownerIn : List ℕ → ℕ → ℕ
+ownerIn row i = getD row i 0
+
+abbrev pub isMarked : List ℕ → ℕ → ℕ → Bool
+isMarked row g i = eqb (ownerIn row i) (markOf g)
+
+-- owned by anyone
+abbrev pub hasOwner : List ℕ → ℕ → Bool
+hasOwner row i = eqb (ownerIn row i) 1 || eqb (ownerIn row i) 2
+
+-- the row with another owner of slot i
+unfoldable pub withOwner : List ℕ → ℕ → ℕ → List ℕ
+withOwner row i m = tabulate 64 (λ j. cond (eqb j i) m (ownerIn row j))
+
+abbrev pub byteOf : Bool → ℕ
+byteOf b = cond b 1 0
+
+-- a byte a slot: 1 where the group owns it
+unfoldable pub ownedBytes : List ℕ → ℕ → List ℕ
+ownedBytes row g = tabulate 64 (λ i. byteOf (ltb g 2 && isMarked row g i))

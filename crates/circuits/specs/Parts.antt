@@ -1,0 +1,51 @@
+-- A group's part of the card, and what is asked of a slot before the sender's own steps (02, 2026-06).
+use mathlib.Core.Bool.{Bool, cond, _&&_}
+use Prim.Native.Nat.{ℕ}
+use lib.Dec.{eqb, ltb}
+use Rattle.sender.specs.declared.epochs.Sender.{Sender}
+use Rattle.sender.specs.declared.epochs.SenderOutcome.{SenderOutcome}
+use Rattle.sender.specs.Epochs.{beginOf}
+use Rattle.sender.specs.Table.{isMember, sizeOf, slotAt}
+use Rattle.circuits.specs.declared.answers.Answer.{Answer}
+use Rattle.circuits.specs.declared.answers.Answer.the-variants.{Done}
+use Rattle.circuits.specs.declared.card.Card.{Card}
+use Rattle.circuits.specs.declared.card.CardOutcome.{CardOutcome}
+use Rattle.circuits.specs.Answers.{told}
+use Rattle.circuits.specs.Owners.{isMarked, withOwner}
+
+-- groups are 0 and 1
+unfoldable pub senderOf : Card → ℕ → Sender
+senderOf c g = cond (eqb g 0) (c .first) (c .second)
+
+unfoldable pub withSender : Card → ℕ → Sender → Card
+withSender c g s =
+    cond (eqb g 0) (record { owners = c .owners; first = s; second = c .second }) (record { owners = c .owners; first = c .first; second = s })
+
+-- what no group is shown
+unfoldable pub emptySender : Sender
+emptySender = beginOf 0 0 0 .sender
+
+unfoldable pub shownSender : Card → ℕ → Sender
+shownSender c g = cond (ltb g 2) (senderOf c g) emptySender
+
+-- 1: 'a group other than the two', or a slot not below that group's own count
+unfoldable pub isSlot : Card → ℕ → ℕ → Bool
+isSlot c g i = ltb g 2 && ltb i (sizeOf (senderOf c g .table .count))
+
+unfoldable pub owns : Card → ℕ → ℕ → Bool
+owns c g i = isMarked (c .owners) g i
+
+-- not IDLE in the group's table
+unfoldable pub isUsed : Card → ℕ → ℕ → Bool
+isUsed c g i = isMember (slotAt (senderOf c g .table .slots) i .state)
+
+abbrev pub refused : Card → Answer → CardOutcome
+refused c a = record { card = c; answer = a }
+
+-- slot i has another owner, and all else stays
+unfoldable pub marked : Card → ℕ → ℕ → CardOutcome
+marked c i m = record { card = record { owners = withOwner (c .owners) i m; first = c .first; second = c .second }; answer = Done }
+
+-- a step of the group's sender, and all else stays
+unfoldable pub stepped : Card → ℕ → SenderOutcome → CardOutcome
+stepped c g r = record { card = withSender c g (r .sender); answer = told (r .answer) }

@@ -1,0 +1,101 @@
+-- What one group sees of the card, and its calls with what each gives back: 'For any calls, what one group is answered and what its board shows depend on its own calls and on which slots the other holds, and on nothing else.' (02, 2026-06)
+use mathlib.Core.Bool.{Bool, true, false, cond, _&&_}
+use mathlib.Core.List.{List, [], _∷_}
+use Prim.Native.Nat.{ℕ, _-_}
+use lib.Dec.{eqb}
+use lib.ListN.{length}
+use Rattle.ground.specs.Table.{tabulate}
+use Rattle.sender.specs.declared.epochs.Sender.{Sender}
+use Rattle.circuits.specs.declared.answers.Answer.{Answer}
+use Rattle.circuits.specs.declared.card.BoardOutcome.{BoardOutcome}
+use Rattle.circuits.specs.declared.card.Card.{Card}
+use Rattle.circuits.specs.declared.card.OwnedOutcome.{OwnedOutcome}
+use Rattle.circuits.specs.declared.card.RanksOutcome.{RanksOutcome}
+use Rattle.circuits.specs.Calls.{Call, stepOf}
+use Rattle.circuits.specs.Calls.Call.{Claim, Release, AddSlot, RemoveSlot, Report, Lapse, StartEpoch}
+use Rattle.circuits.specs.Parts.{owns, senderOf}
+use Rattle.circuits.specs.Readings.{boardShown, goingShown, ownedShown, packetAnswer, packetBytes, payloadAnswer, payloadBytes, ranksShown}
+
+-- the view of a group: its sender and which slots it owns
+pub record View : Type 0 where
+  pub sender : Sender
+  pub owned : List Bool
+
+unfoldable pub viewOf : ℕ → Card → View
+viewOf g c = record { sender = senderOf c g; owned = tabulate 64 (λ i. owns c g i) }
+
+-- every call: one that changes the card, or one that reads
+pub data Asked : Type 0 where
+  Do : Call → Asked
+  Packet : ℕ → List ℕ → Asked
+  Payload : ℕ → ℕ → List ℕ → List ℕ → Asked
+  Board : Asked
+  BoardGoing : Asked
+  Ranks : Asked
+  Owned : Asked
+
+-- all that it gives back
+pub data Reply : Type 0 where
+  Answered : Answer → Reply
+  Wrote : Answer → List ℕ → Reply
+  Showed : BoardOutcome → Reply
+  Ranked : RanksOutcome → Reply
+  Owns : OwnedOutcome → Reply
+
+abbrev pub replyTo : Card → ℕ → Asked → Reply
+replyTo c g (Do k) = Answered (stepOf c g k .answer)
+replyTo c g (Packet i h4) = Wrote (packetAnswer c g i h4) (packetBytes c g i h4)
+replyTo c g (Payload i p frame member) = Wrote (payloadAnswer c g i p (length frame) (length member)) (payloadBytes c g i p frame member)
+replyTo c g Board = Showed (boardShown c g)
+replyTo c g BoardGoing = Showed (goingShown c g)
+replyTo c g Ranks = Ranked (ranksShown c g)
+replyTo c g Owned = Owns (ownedShown c g)
+
+abbrev pub cardAfter : Card → ℕ → Asked → Card
+cardAfter c g (Do k) = stepOf c g k .card
+cardAfter c g (Packet i h4) = c
+cardAfter c g (Payload i p frame member) = c
+cardAfter c g Board = c
+cardAfter c g BoardGoing = c
+cardAfter c g Ranks = c
+cardAfter c g Owned = c
+
+-- the one bit through which the other's holdings show: on a claim, that the other owns the slot asked for
+abbrev pub bitOf : Card → ℕ → Asked → Bool
+bitOf c g (Do (Claim i)) = owns c (1 - g) i
+bitOf c g (Do (Release i)) = false
+bitOf c g (Do (AddSlot i)) = false
+bitOf c g (Do (RemoveSlot i)) = false
+bitOf c g (Do (Report e mst ack)) = false
+bitOf c g (Do Lapse) = false
+bitOf c g (Do (StartEpoch gid mst ack)) = false
+bitOf c g (Packet i h4) = false
+bitOf c g (Payload i p frame member) = false
+bitOf c g Board = false
+bitOf c g BoardGoing = false
+bitOf c g Ranks = false
+bitOf c g Owned = false
+
+-- a call with the group that makes it
+pub record Made : Type 0 where
+  pub group : ℕ
+  pub asked : Asked
+
+abbrev pub run : Card → List Made → Card
+run c [] = c
+run c (m ∷ ms) = run (cardAfter c (m .group) (m .asked)) ms
+
+-- of a list of calls: those of g, what it is given back, and its bits, in their order
+abbrev pub askedBy : ℕ → List Made → List Asked
+askedBy g [] = []
+askedBy g (m ∷ ms) = cond (eqb (m .group) g) (m .asked ∷ askedBy g ms) (askedBy g ms)
+
+abbrev pub repliesTo : ℕ → Card → List Made → List Reply
+repliesTo g c [] = []
+repliesTo g c (m ∷ ms) =
+    let rest = repliesTo g (cardAfter c (m .group) (m .asked)) ms in cond (eqb (m .group) g) (replyTo c g (m .asked) ∷ rest) rest
+
+abbrev pub bitsOf : ℕ → Card → List Made → List Bool
+bitsOf g c [] = []
+bitsOf g c (m ∷ ms) =
+    let rest = bitsOf g (cardAfter c (m .group) (m .asked)) ms in cond (eqb (m .group) g) (bitOf c g (m .asked) ∷ rest) rest

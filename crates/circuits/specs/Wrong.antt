@@ -1,0 +1,89 @@
+-- Wrong readings of request 2026-06, each as a definition with a run on which it breaks what the request says.
+use mathlib.Core.Path.{_≡_, refl}
+use mathlib.Core.Bool.{Bool, true, false, cond}
+use mathlib.Core.List.{List, [], _∷_}
+use Prim.Native.Nat.{ℕ, _+_}
+use lib.ListN.{set}
+use Rattle.packet.specs.Kinds.{idleNumber, mstFails, mstFirst, mstNumbers}
+use Rattle.sender.specs.declared.epochs.Sender.{Sender}
+use Rattle.sender.specs.declared.table.Slot.{Slot}
+use Rattle.sender.specs.declared.table.State.the-variants.{Add}
+use Rattle.sender.specs.declared.table.Table.{Table}
+use Rattle.sender.specs.Board.{boardOf, highest, noRow, rowOf, rowsOf}
+use Rattle.sender.specs.Commands.{addOf, addedTo, fallen, fallenIn, freshOf, idleSlot, lapseOf, removeOf, removedFrom, withSlots}
+use Rattle.sender.specs.Commands as T
+use Rattle.sender.specs.Epochs.{beginOf, freshSender}
+use Rattle.sender.specs.Table.{membersOf, sizeOf}
+use Rattle.circuits.specs.declared.answers.Answer.{Answer}
+use Rattle.circuits.specs.declared.answers.Answer.the-variants.{Done, NoSlot, NotAllowed, Owned, WaitOpen}
+use Rattle.circuits.specs.declared.card.Card.{Card}
+use Rattle.circuits.specs.Answers.{answerNumber}
+use Rattle.circuits.specs.Calls.{Call, stepOf}
+use Rattle.circuits.specs.Calls.Call.{AddSlot, Claim, Lapse, RemoveSlot}
+use Rattle.circuits.specs.Commands.{claimOf, commandOf, groupCallOf, releaseOf, startOf}
+use Rattle.circuits.specs.Owners.{hasOwner, withOwner}
+use Rattle.circuits.specs.Parts.{isSlot, marked, owns, senderOf, stepped, withSender}
+use Rattle.circuits.specs.Shown.{after, board, by, told}
+use Rattle.circuits.specs.Views.{Made}
+
+-- group 0 has slot 0, group 1 has slot 1
+abbrev shared : List Made → List Made
+shared ms = by 0 (Claim 0) ∷ by 1 (Claim 1) ∷ ms
+
+-- One numbering over both groups. 'Numbers, words, EOS and waits are per group': the one member of group 1 has number 0, else demand 2 has no number 0 in it.
+wrong-number : Card → ℕ → ℕ
+wrong-number c i = membersOf (c .first .table .slots) (sizeOf (c .first .table .count)) + membersOf (c .second .table .slots) (sizeOf (c .second .table .count))
+
+number-breaks :
+    (wrong-number (after 2 (shared (by 0 (AddSlot 0) ∷ []))) 1 ≡ 1)
+    × (board 1 (after 2 (shared (by 0 (AddSlot 0) ∷ by 1 (AddSlot 1) ∷ []))) ≡ 5 ∷ 255 ∷ 1 ∷ 0 ∷ 0 ∷ [])
+unfolding wrong-number withOwner senderOf withSender isSlot owns marked stepped startOf claimOf commandOf beginOf freshSender T.startOf freshOf idleSlot idleNumber addOf addedTo sizeOf membersOf boardOf rowsOf rowOf noRow highest
+number-breaks = (refl, refl)
+
+-- 3 before 14: with a wait open, a group would be told of its wait on a slot that is not its own. 'order 1, 14, 15, 3, 2'
+wrong-order : Card → ℕ → ℕ → Answer
+wrong-order c g i = cond (senderOf c g .table .wait) WaitOpen (cond (owns c g i) Done Owned)
+
+order-breaks :
+    (answerNumber (wrong-order (after 2 (shared (by 0 (AddSlot 0) ∷ by 0 (RemoveSlot 0) ∷ []))) 0 1) ≡ 3)
+    × (told 2 (shared (by 0 (AddSlot 0) ∷ by 0 (RemoveSlot 0) ∷ [])) 0 (AddSlot 1) ≡ 14)
+unfolding wrong-order withOwner senderOf withSender isSlot owns marked stepped startOf claimOf commandOf beginOf freshSender T.startOf freshOf idleSlot idleNumber addOf addedTo removeOf removedFrom fallen fallenIn sizeOf membersOf
+order-breaks = (refl, refl)
+
+-- A claim of one's own slot answered 0. 'on claim already owned by anyone'
+wrong-claim : Card → ℕ → ℕ → Answer
+wrong-claim c g i = cond (owns c g i) Done (cond (hasOwner (c .owners) i) Owned Done)
+
+claim-breaks : (answerNumber (wrong-claim (after 2 (shared [])) 0 0) ≡ 0) × (told 2 (shared []) 0 (Claim 0) ≡ 14)
+unfolding wrong-claim withOwner senderOf isSlot owns marked startOf claimOf beginOf freshSender T.startOf freshOf idleSlot idleNumber sizeOf
+claim-breaks = (refl, refl)
+
+-- Nobody's slot answered 2, and the other's 14: then an add tells what the other holds. 'A claim is the one answer through which the other's holdings show.'
+wrong-nobody : Card → ℕ → ℕ → Answer
+wrong-nobody c g i = cond (owns c g i) Done (cond (hasOwner (c .owners) i) Owned NotAllowed)
+
+nobody-breaks :
+    (answerNumber (wrong-nobody (after 2 (by 0 (Claim 0) ∷ [])) 0 1) ≡ 2)
+    × (answerNumber (wrong-nobody (after 2 (shared [])) 0 1) ≡ 14)
+    × (told 2 (by 0 (Claim 0) ∷ []) 0 (AddSlot 1) ≡ 14)
+    × (told 2 (shared []) 0 (AddSlot 1) ≡ 14)
+unfolding wrong-nobody withOwner senderOf isSlot owns marked startOf claimOf commandOf beginOf freshSender T.startOf freshOf idleSlot idleNumber sizeOf
+nobody-breaks = (refl, refl, refl, refl)
+
+-- A lapse that closes both waits. 'waits are per group': the last number shown is the wait of group 1.
+wrong-lapse : Card → Card
+wrong-lapse c = stepOf (stepOf c 0 Lapse .card) 1 Lapse .card
+
+abbrev waiting : List Made
+waiting = by 0 (AddSlot 0) ∷ by 1 (AddSlot 1) ∷ by 0 (RemoveSlot 0) ∷ by 1 (RemoveSlot 1) ∷ []
+
+lapse-breaks :
+    (board 1 (wrong-lapse (after 2 (shared waiting))) ≡ 5 ∷ 255 ∷ 5 ∷ 255 ∷ 0 ∷ [])
+    × (board 1 (stepOf (after 2 (shared waiting)) 0 Lapse .card) ≡ 5 ∷ 255 ∷ 5 ∷ 255 ∷ 1 ∷ [])
+unfolding wrong-lapse withOwner senderOf withSender isSlot owns marked stepped startOf claimOf commandOf groupCallOf beginOf freshSender T.startOf freshOf idleSlot idleNumber addOf addedTo removeOf removedFrom fallen fallenIn lapseOf sizeOf membersOf boardOf rowsOf rowOf noRow highest
+lapse-breaks = (refl, refl)
+
+-- Beside isolation, what a claim does tell: two runs alike in all calls of group 0 but for what group 1 holds.
+claim-tells : (told 2 (by 1 (Claim 1) ∷ []) 0 (Claim 1) ≡ 14) × (told 2 [] 0 (Claim 1) ≡ 0)
+unfolding withOwner senderOf isSlot owns marked startOf claimOf beginOf freshSender T.startOf freshOf idleSlot idleNumber sizeOf
+claim-tells = (refl, refl)

@@ -1,0 +1,71 @@
+-- Examples of request 2026-06, two circuits on one card, worked out apart: what calls are answered, and the words, numbers and wait that a group's board shows.
+use mathlib.Core.Path.{refl}
+use mathlib.Core.List.{List, [], _∷_, _++_}
+use Prim.Native.Nat.{ℕ}
+use Rattle.circuits.specs.Calls.Call.{AddSlot, Claim, Lapse, Release, RemoveSlot, Report}
+use Rattle.circuits.specs.Commands.{claimOf, commandOf, groupCallOf, releaseOf}
+use Rattle.circuits.specs.Commands.{startOf as cardStart}
+use Rattle.circuits.specs.Owners.{withOwner}
+use Rattle.circuits.specs.Parts.{isSlot, isUsed, marked, owns, senderOf, stepped, withSender}
+use Rattle.circuits.specs.Shown.{after, board, by, told}
+use Rattle.circuits.specs.Views.{Made}
+use Rattle.conformance.specs.Rows.{Equal, Row, equal-rows}
+use Rattle.packet.specs.Kinds.{idleNumber, mstFails, mstFirst, mstNumbers}
+use Rattle.sender.specs.Board.{boardOf, highest, noRow, rowOf, rowsOf}
+use Rattle.sender.specs.Commands.{addOf, addedTo, fallen, fallenIn, freshOf, idleSlot, lapseOf, removeOf, removedFrom, startOf}
+use Rattle.sender.specs.Epochs.{beginOf, freshSender}
+use Rattle.sender.specs.Reports.{actedOn, comesBefore, mstApplied, numberAfter, numberApplied, opensWait, renumbered, reportOf, slotAfter, turnOf, waited}
+use Rattle.sender.specs.Table.{holderOf, membersOf, sizeOf}
+
+-- group 0 has slot 3
+abbrev third : List Made
+third = by 0 (Claim 3) ∷ []
+
+-- P8 in both groups, interleaved: group 0 has slots 0 and 1, group 1 has 2 and 3
+abbrev both-p8 : List Made
+both-p8 =
+    by 0 (Claim 0) ∷ by 1 (Claim 2) ∷ by 0 (Claim 1) ∷ by 1 (Claim 3)
+    ∷ by 0 (AddSlot 0) ∷ by 1 (AddSlot 2) ∷ by 1 (AddSlot 3) ∷ by 0 (AddSlot 1)
+    ∷ by 1 (Report 0 0xBF 0) ∷ by 0 (Report 0 0xBF 0) ∷ by 0 (RemoveSlot 0) ∷ by 1 (RemoveSlot 2) ∷ []
+
+-- a slot of group 0 made active
+abbrev active : ℕ → List Made
+active i = by 0 (Claim i) ∷ by 0 (AddSlot i) ∷ by 0 (Report 0 0x00 0) ∷ by 1 (Report 0 0xFF 1) ∷ by 0 Lapse ∷ []
+
+-- P9 in group 0 while group 1 reports
+abbrev p9 : List Made
+p9 = active 0 ++ (active 1 ++ (active 2 ++ (by 0 (RemoveSlot 1) ∷ by 1 (Report 0 0x00 1) ∷ [])))
+
+pub table : List Row
+table =
+    record {
+      name = "claim 0 3, claim 1 3, claim 0 3";
+      given = told 64 [] 0 (Claim 3) ∷ told 64 third 1 (Claim 3) ∷ told 64 third 0 (Claim 3) ∷ [];
+      said = 0 ∷ 14 ∷ 14 ∷ [];
+    }
+    ∷ record { name = "add 1 3 after it, and add 0 4, which is nobody's"; given = told 64 third 1 (AddSlot 3) ∷ told 64 third 0 (AddSlot 4) ∷ []; said = 14 ∷ 14 ∷ [] }
+    ∷ record { name = "claim 2 3 and claim 0 64"; given = told 64 [] 2 (Claim 3) ∷ told 64 [] 0 (Claim 64) ∷ []; said = 1 ∷ 1 ∷ [] }
+    ∷ record {
+      name = "add 0 3, release 0 3";
+      given = told 64 third 0 (AddSlot 3) ∷ told 64 (third ++ (by 0 (AddSlot 3) ∷ [])) 0 (Release 3) ∷ [];
+      said = 0 ∷ 15 ∷ [];
+    }
+    ∷ record {
+      name = "with a wait open, a slot that is not its own and one that is, then a release and the claim by the other";
+      given =
+          let waiting = third ++ (by 0 (AddSlot 3) ∷ by 0 (RemoveSlot 3) ∷ []) in
+          told 64 waiting 0 (AddSlot 4)
+          ∷ told 64 waiting 0 (AddSlot 3)
+          ∷ told 64 waiting 0 (Release 3)
+          ∷ told 64 (waiting ++ (by 0 (Release 3) ∷ [])) 1 (Claim 3)
+          ∷ [];
+      said = 14 ∷ 3 ∷ 0 ∷ 0 ∷ [];
+    }
+    ∷ record { name = "P8 in both groups, group 0"; given = board 0 (after 4 both-p8); said = 1 ∷ 1 ∷ 3 ∷ 0 ∷ 5 ∷ 255 ∷ 5 ∷ 255 ∷ 1 ∷ [] }
+    ∷ record { name = "P8 in both groups, group 1"; given = board 1 (after 4 both-p8); said = 5 ∷ 255 ∷ 5 ∷ 255 ∷ 1 ∷ 1 ∷ 3 ∷ 0 ∷ 1 ∷ [] }
+    ∷ record { name = "P9 in group 0 while group 1 reports"; given = board 0 (after 3 p9); said = 2 ∷ 0 ∷ 5 ∷ 255 ∷ 3 ∷ 1 ∷ 1 ∷ [] }
+    ∷ []
+
+pub examples : Equal table
+unfolding table withOwner senderOf withSender isSlot owns isUsed marked stepped cardStart claimOf releaseOf commandOf groupCallOf beginOf freshSender startOf freshOf idleSlot idleNumber addOf addedTo removeOf removedFrom fallen fallenIn lapseOf reportOf waited actedOn mstApplied numberApplied holderOf renumbered slotAfter numberAfter comesBefore turnOf opensWait sizeOf membersOf mstFails mstFirst mstNumbers boardOf rowsOf rowOf noRow highest
+examples = equal-rows table refl

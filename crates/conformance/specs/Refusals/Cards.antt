@@ -1,0 +1,229 @@
+-- The refusals of a card with two circuits (02, 2026-06): 'order 1, 14, 15, 3, 2'; a claim 1, 14, a release 1, 14, 15, and the others 1, 14 or 1, then as the group's sender has it.
+use mathlib.Core.Path.{_≡_, _∙_, refl, ap}
+use mathlib.Core.Bool.{Bool, true, false, cond, not, _&&_, _||_}
+use mathlib.Core.List.{List, [], _∷_}
+use Prim.Native.Nat.{ℕ, _*_}
+use lib.Dec.{eqb, ltb}
+use lib.ListN.{length, replicate}
+use Rattle.circuits.specs.declared.answers.Answer.{Answer}
+use Rattle.circuits.specs.declared.answers.Answer.the-variants as A
+use Rattle.circuits.specs.declared.card.Card.{Card}
+use Rattle.circuits.specs.declared.card.CardOutcome.{CardOutcome}
+use Rattle.circuits.specs.Answers.{answerNumber, told}
+use Rattle.circuits.specs.Calls.{stepOf}
+use Rattle.circuits.specs.Calls.Call.{AddSlot, Claim, Lapse, Release, RemoveSlot, Report, StartEpoch}
+use Rattle.circuits.specs.Commands.{claimOf, commandOf, groupCallOf, releaseOf, startOf}
+use Rattle.circuits.specs.Owners.{hasOwner, ownedBytes}
+use Rattle.circuits.specs.Parts.{emptySender, isSlot, isUsed, marked, owns, refused, senderOf, shownSender, stepped, withSender}
+use Rattle.circuits.specs.Readings.{boardShown, goingShown, ownedShown, packetAnswer, packetBytes, payloadAnswer, payloadBytes, ranksShown}
+use Rattle.conformance.specs.Entries.{Call, Copes, If, Refusal, Unless, copes, stateful, stateless}
+use Rattle.conformance.specs.Refusals.Epochs as sender
+use Rattle.sender.specs.declared.epochs.Sender.{Sender}
+use Rattle.sender.specs.declared.epochs.SenderOutcome.{SenderOutcome}
+use Rattle.sender.specs.declared.table.Answer as S
+use Rattle.sender.specs.Board.{boardOf}
+use Rattle.sender.specs.Commands.{freshOf}
+use Rattle.sender.specs.Epochs as E
+use Rattle.sender.specs.Epochs.{SenderCall, beginOf, freshSender, senderStepOf}
+use Rattle.sender.specs.Steps.{Call as T}
+use Rattle.sender.specs.Table.{answerNumber as senderNumber}
+
+told-number : (a : S.Answer) → answerNumber (told a) ≡ senderNumber a
+told-number S.Answer.Done = refl
+told-number S.Answer.NoSlot = refl
+told-number S.Answer.NotAllowed = refl
+told-number S.Answer.WaitOpen = refl
+told-number S.Answer.OutOfRange = refl
+told-number S.Answer.Field = refl
+told-number S.Answer.Length = refl
+
+-- both groups empty
+abbrev emptyCard : ℕ → ℕ → ℕ → Card
+emptyCard kind e₀ e₁ = record { owners = replicate 64 0; first = freshSender (freshOf kind 0) e₀; second = freshSender (freshOf kind 0) e₁ }
+
+abbrev pub start : ℕ × ℕ × ℕ × ℕ → Call
+start (kind, count, «epoch_0», «epoch_1») =
+    stateful (If 4 (eqb count 0 || ltb 64 count) ∷ [])
+    (answerNumber (startOf kind count «epoch_0» «epoch_1» .answer)) [] []
+    (emptyCard kind «epoch_0» «epoch_1») (startOf kind count «epoch_0» «epoch_1» .card) (emptyCard kind «epoch_0» «epoch_1»)
+
+pub start-copes : (x : ℕ × ℕ × ℕ × ℕ) → Copes (start x)
+unfolding startOf
+start-copes (kind, count, e₀, e₁) =
+    let c = sender.start-copes (kind, count, e₀) in
+    let d = sender.start-copes (kind, count, e₁) in
+    record {
+      answers = told-number (beginOf kind count e₀ .answer) ∙ c .answers;
+      untouched = λ x. refl;
+      as-given = λ k. rw (c .as-given k, d .as-given k) refl;
+      emptied = λ k. rw (c .emptied k, d .emptied k) refl;
+    }
+
+put-back : (c : Card) (g : ℕ) → withSender c g (senderOf c g) ≡ c
+unfolding withSender senderOf
+put-back c g = go (eqb g 0)
+  where
+    go : (b : Bool)
+        → (let s = cond b (c .first) (c .second) in
+        cond {A = Card} b (record { owners = c .owners; first = s; second = c .second }) (record { owners = c .owners; first = c .first; second = s })) ≡ c
+    go true = refl
+    go false = refl
+
+-- a step of the group's sender is refused as the sender has it
+on-sender : (c : Card) (g : ℕ) (rs : List Refusal) (r : SenderOutcome) → Copes (stateful rs (senderNumber (r .answer)) [] [] (senderOf c g) (r .sender) (senderOf c g))
+    → Copes (stateful rs (answerNumber (stepped c g r .answer)) [] [] c (stepped c g r .card) c)
+unfolding stepped
+on-sender c g rs r h =
+    record {
+      answers = told-number (r .answer) ∙ h .answers;
+      untouched = λ x. refl;
+      as-given = λ k. ap (λ (s : Sender). withSender c g s) (h .as-given k) ∙ put-back c g;
+      emptied = λ k. ap (λ (s : Sender). withSender c g s) (h .emptied k) ∙ put-back c g;
+    }
+
+-- one test more before it
+gate : (b : Bool) (a : Answer) (c : Card) (rs : List Refusal) (r : CardOutcome) → Copes (stateful rs (answerNumber (r .answer)) [] [] c (r .card) c)
+    → Copes (stateful (Unless (answerNumber a) b ∷ rs) (answerNumber (cond b r (refused c a) .answer)) [] [] c (cond b r (refused c a) .card) c)
+gate true a c rs r h = record { answers = h .answers; untouched = h .untouched; as-given = h .as-given; emptied = h .emptied }
+gate false a c rs r h = record { answers = refl; untouched = λ x. refl; as-given = λ k. refl; emptied = λ k. refl }
+
+command : (c : Card) (g i : ℕ) (rs : List Refusal) (k : SenderCall) → let r = senderStepOf (senderOf c g) k in Copes (stateful rs (senderNumber (r .answer)) [] [] (senderOf c g) (r .sender) (senderOf c g))
+    → Copes (stateful (Unless 1 (isSlot c g i) ∷ Unless 14 (owns c g i) ∷ rs) (answerNumber (commandOf c g i k .answer)) [] [] c (commandOf c g i k .card) c)
+unfolding commandOf
+command c g i rs k h =
+    gate (isSlot c g i) A.NoSlot c _ _ (gate (owns c g i) A.Owned c rs (stepped c g (senderStepOf (senderOf c g) k)) (on-sender c g rs (senderStepOf (senderOf c g) k) h))
+
+group-call : (c : Card) (g : ℕ) (rs : List Refusal) (k : SenderCall) → let r = senderStepOf (senderOf c g) k in Copes (stateful rs (senderNumber (r .answer)) [] [] (senderOf c g) (r .sender) (senderOf c g))
+    → Copes (stateful (Unless 1 (ltb g 2) ∷ rs) (answerNumber (groupCallOf c g k .answer)) [] [] c (groupCallOf c g k .card) c)
+unfolding groupCallOf
+group-call c g rs k h = gate (ltb g 2) A.NoSlot c rs (stepped c g (senderStepOf (senderOf c g) k)) (on-sender c g rs (senderStepOf (senderOf c g) k) h)
+
+abbrev pub claim : Card × ℕ × ℕ → Call
+claim (self, group, slot) =
+    stateful (Unless 1 (isSlot self group slot) ∷ If 14 (hasOwner (self .owners) slot) ∷ [])
+    (answerNumber (stepOf self group (Claim slot) .answer)) [] [] self (stepOf self group (Claim slot) .card) self
+
+pub claim-copes : (x : Card × ℕ × ℕ) → Copes (claim x)
+unfolding claimOf marked
+claim-copes (self, group, slot) = copes _ (λ s. (λ o. rw (s, o) (refl, refl, refl), λ o. rw (s, o) refl), λ s. rw s (refl, refl, refl))
+
+abbrev pub release : Card × ℕ × ℕ → Call
+release (self, group, slot) =
+    stateful (Unless 1 (isSlot self group slot) ∷ Unless 14 (owns self group slot) ∷ If 15 (isUsed self group slot) ∷ [])
+    (answerNumber (stepOf self group (Release slot) .answer)) [] [] self (stepOf self group (Release slot) .card) self
+
+pub release-copes : (x : Card × ℕ × ℕ) → Copes (release x)
+unfolding releaseOf marked
+release-copes (self, group, slot) =
+    copes _ (
+      λ s. (λ o. (λ u. rw (s, o, u) (refl, refl, refl), λ u. rw (s, o, u) refl), λ o. rw (s, o) (refl, refl, refl)),
+      λ s. rw s (refl, refl, refl),
+    )
+
+-- the refusals of the group's sender, behind the card's own
+abbrev pub add : Card × ℕ × ℕ → Call
+add (self, group, slot) =
+    stateful (Unless 1 (isSlot self group slot) ∷ Unless 14 (owns self group slot) ∷ sender.add (senderOf self group, slot) .refusals)
+    (answerNumber (stepOf self group (AddSlot slot) .answer)) [] [] self (stepOf self group (AddSlot slot) .card) self
+
+pub add-copes : (x : Card × ℕ × ℕ) → Copes (add x)
+add-copes (self, group, slot) = command self group slot _ _ (sender.add-copes (senderOf self group, slot))
+
+abbrev pub remove : Card × ℕ × ℕ → Call
+remove (self, group, slot) =
+    stateful (Unless 1 (isSlot self group slot) ∷ Unless 14 (owns self group slot) ∷ sender.remove (senderOf self group, slot) .refusals)
+    (answerNumber (stepOf self group (RemoveSlot slot) .answer)) [] [] self (stepOf self group (RemoveSlot slot) .card) self
+
+pub remove-copes : (x : Card × ℕ × ℕ) → Copes (remove x)
+remove-copes (self, group, slot) = command self group slot _ _ (sender.remove-copes (senderOf self group, slot))
+
+abbrev pub report : Card × ℕ × ℕ × ℕ × ℕ → Call
+report (self, group, epoch, mst, «rs_ack») =
+    stateful (Unless 1 (ltb group 2) ∷ [])
+    (answerNumber (stepOf self group (Report epoch mst «rs_ack») .answer)) [] [] self (stepOf self group (Report epoch mst «rs_ack») .card) self
+
+pub report-copes : (x : Card × ℕ × ℕ × ℕ × ℕ) → Copes (report x)
+report-copes (self, group, epoch, mst, «rs_ack») = group-call self group _ _ (sender.report-copes (senderOf self group, epoch, mst, «rs_ack»))
+
+abbrev pub lapse : Card × ℕ → Call
+lapse (self, group) =
+    stateful (Unless 1 (ltb group 2) ∷ sender.lapse (senderOf self group) .refusals)
+    (answerNumber (stepOf self group Lapse .answer)) [] [] self (stepOf self group Lapse .card) self
+
+pub lapse-copes : (x : Card × ℕ) → Copes (lapse x)
+lapse-copes (self, group) = group-call self group _ _ (sender.lapse-copes (senderOf self group))
+
+abbrev pub startEpoch : Card × ℕ × ℕ × ℕ × ℕ → Call
+startEpoch (self, group, gid, mst, «rs_ack») =
+    stateful (Unless 1 (ltb group 2) ∷ sender.startEpoch (senderOf self group, gid, mst, «rs_ack») .refusals)
+    (answerNumber (stepOf self group (StartEpoch gid mst «rs_ack») .answer)) [] [] self (stepOf self group (StartEpoch gid mst «rs_ack») .card) self
+
+pub startEpoch-copes : (x : Card × ℕ × ℕ × ℕ × ℕ) → Copes (startEpoch x)
+startEpoch-copes (self, group, gid, mst, «rs_ack») = group-call self group _ _ (sender.startEpoch-copes (senderOf self group, gid, mst, «rs_ack»))
+
+-- a lent slice of an own slot
+lent : (s o : Bool) (a : S.Answer) (rs : List Refusal) (new old : List ℕ) → Copes (stateless rs (senderNumber a) (old ∷ []) (new ∷ []))
+    → Copes (stateless (Unless 1 s ∷ Unless 14 o ∷ rs) (answerNumber (cond s (cond o (told a) A.Owned) A.NoSlot)) (old ∷ []) (cond (s && o) new old ∷ []))
+lent true true a rs new old h = record { answers = told-number a ∙ h .answers; untouched = h .untouched; as-given = h .as-given; emptied = h .emptied }
+lent true false a rs new old h = record { answers = refl; untouched = λ x. refl; as-given = λ k. refl; emptied = λ k. refl }
+lent false o a rs new old h = record { answers = refl; untouched = λ x. refl; as-given = λ k. refl; emptied = λ k. refl }
+
+abbrev pub packet : Card × ℕ × ℕ × List ℕ → Call
+packet (self, group, slot, h4) =
+    stateless (Unless 1 (isSlot self group slot) ∷ Unless 14 (owns self group slot) ∷ sender.packet (senderOf self group, slot, h4) .refusals)
+    (answerNumber (packetAnswer self group slot h4)) (h4 ∷ []) (packetBytes self group slot h4 ∷ [])
+
+pub packet-copes : (x : Card × ℕ × ℕ × List ℕ) → Copes (packet x)
+unfolding packetAnswer packetBytes
+packet-copes (self, group, slot, h4) =
+    lent (isSlot self group slot) (owns self group slot) (E.packetAnswer (senderOf self group) slot h4) _ (E.packetBytes (senderOf self group) slot h4) h4
+    (sender.packet-copes (senderOf self group, slot, h4))
+
+abbrev pub payload : Card × ℕ × ℕ × ℕ × List ℕ × List ℕ → Call
+payload (self, group, slot, p, frame, member) =
+    stateless (Unless 1 (isSlot self group slot) ∷ Unless 14 (owns self group slot) ∷ sender.payload (senderOf self group, slot, p, frame, member) .refusals)
+    (answerNumber (payloadAnswer self group slot p (length frame) (length member))) (member ∷ []) (payloadBytes self group slot p frame member ∷ [])
+
+pub payload-copes : (x : Card × ℕ × ℕ × ℕ × List ℕ × List ℕ) → Copes (payload x)
+unfolding payloadAnswer payloadBytes
+payload-copes (self, group, slot, p, frame, member) =
+    lent (isSlot self group slot) (owns self group slot) (E.payloadAnswer (senderOf self group) slot p (length frame) (length member)) _
+    (E.payloadBytes (senderOf self group) slot p frame member) member (sender.payload-copes (senderOf self group, slot, p, frame, member))
+
+-- Nothing is there before a reading, so what no group is shown stands for what is given.
+
+abbrev pub board : Card × ℕ → Call
+board (self, group) =
+    stateful (Unless 1 (ltb group 2) ∷ [])
+    (answerNumber (boardShown self group .answer)) [] [] (boardOf (emptySender .table)) (boardShown self group .board) (boardOf (emptySender .table))
+
+pub board-copes : (x : Card × ℕ) → Copes (board x)
+unfolding boardShown shownSender
+board-copes (self, group) = copes _ (λ g. rw g, λ g. rw g (refl, refl, refl))
+
+abbrev pub boardGoing : Card × ℕ → Call
+boardGoing (self, group) =
+    stateful (Unless 1 (ltb group 2) ∷ [])
+    (answerNumber (goingShown self group .answer)) [] [] (emptySender .outgoing) (goingShown self group .board) (emptySender .outgoing)
+
+pub boardGoing-copes : (x : Card × ℕ) → Copes (boardGoing x)
+unfolding goingShown shownSender
+boardGoing-copes (self, group) = copes _ (λ g. rw g, λ g. rw g (refl, refl, refl))
+
+abbrev pub ranks : Card × ℕ → Call
+ranks (self, group) =
+    stateful (Unless 1 (ltb group 2) ∷ [])
+    (answerNumber (ranksShown self group .answer)) [] [] (E.ranksOf emptySender) (ranksShown self group .ranks) (E.ranksOf emptySender)
+
+pub ranks-copes : (x : Card × ℕ) → Copes (ranks x)
+unfolding ranksShown shownSender
+ranks-copes (self, group) = copes _ (λ g. rw g, λ g. rw g (refl, refl, refl))
+
+abbrev pub owned : Card × ℕ → Call
+owned (self, group) =
+    stateful (Unless 1 (ltb group 2) ∷ [])
+    (answerNumber (ownedShown self group .answer)) [] [] (replicate 64 0) (ownedShown self group .owned) (replicate 64 0)
+
+pub owned-copes : (x : Card × ℕ) → Copes (owned x)
+unfolding ownedShown ownedBytes
+owned-copes (self, group) = copes _ (λ g. rw g, λ g. rw g (refl, refl, refl))
