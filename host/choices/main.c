@@ -7,11 +7,18 @@
 #include "../link/choices.h"
 #include "../link/client.h"
 
+/* Whether a file can be written, if one is named. */
 static int can_write(const char *file)
 {
-    FILE *to = fopen(file, "ab");
+    FILE *to;
 
-    return to != NULL && fclose(to) == 0;
+    if (file == NULL)
+        return 1;
+    to = fopen(file, "ab");
+    if (to != NULL && fclose(to) == 0)
+        return 1;
+    fprintf(stderr, "link: cannot write the file '%s'\n", file);
+    return 0;
 }
 
 int main(int count, char **words)
@@ -24,9 +31,5 @@ int main(int count, char **words)
     if (client_open(&client, c.file) != 0)
         return 2;
     client_close(&client);
-    if (c.out != NULL && !can_write(c.out)) {
-        fprintf(stderr, "link: cannot write the file '%s'\n", c.out);
-        return 2;
-    }
-    return 0;
+    return can_write(c.out) && can_write(c.record) ? 0 : 2;
 }

@@ -46,9 +46,10 @@ int receiving_frame(struct receiving *r, uint32_t port, const uint8_t *frame)
 {
     uint8_t answer = levelspruce_receiver_frame(r->state, r->rows, port, 0, frame[r->payload], frame, r->payload, r->store, r->store_bytes);
 
-    record_frame(r, port, 0, frame[r->payload], frame);
+    /* A frame that is handed again is recorded once. */
     if (answer == LEVELSPRUCE_ANSWER_OUTSIDE)
         return 0;
+    record_frame(r, port, 0, frame[r->payload], frame);
     /* A port that is not in step yet, or no more, is nothing to stop for: the next frames bring it back. */
     if (answer != LEVELSPRUCE_ANSWER_STEP)
         must(answer, "levelspruce_receiver_frame");
