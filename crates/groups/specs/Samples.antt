@@ -3,4 +3,5 @@ pub mod Calls
 pub mod Histories
 pub mod Links
 mod Met
+mod Gives
 mod Reports

@@ -28,7 +28,7 @@ abbrev pub first₀ : ℕ → ℕ
 first₀ p = cond (eqb p 0) 57 60
 
 abbrev pub first₁ : ℕ → ℕ
-first₁ p = cond (eqb p 0) 61 58
+first₁ p = cond (eqb p 0) 66 58
 
 abbrev pub order : ℕ → List ℕ
 order t = cond (eqb (t % 2) 0) (0 ∷ 1 ∷ []) (1 ∷ 0 ∷ [])
@@ -51,9 +51,10 @@ linkOf history client pairing first =
       lent = λ a j. lent;
     }
 
--- The first frames are of the epoch at index 3. In group 0's, slot 2 still sends its packet, and no port gets it.
+-- The earliest frames are of the epoch at index 3. In group 0's, slot 2 still sends its packet, and no port gets it.
 abbrev pub link₀ : Link
 link₀ = linkOf history₀ client₀ pairing₀ first₀
 
+-- Slot 2 sends for group 1 from its next epoch on, and so its first frame there is of the epoch at index 4.
 abbrev pub link₁ : Link
 link₁ = linkOf history₁ client₁ pairing₁ first₁

@@ -107,7 +107,7 @@ from₀ : (b : Bool) → 57 ≤ cond b 57 60
 from₀ true = omega arith
 from₀ false = omega arith
 
-from₁ : (b : Bool) → 58 ≤ cond b 61 58
+from₁ : (b : Bool) → 58 ≤ cond b 66 58
 from₁ true = omega arith
 from₁ false = omega arith
 
