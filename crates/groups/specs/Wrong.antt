@@ -3,48 +3,54 @@ use mathlib.Core.Path.{_≡_, refl}
 use mathlib.Core.Logic.{_≢_}
 use mathlib.Core.Bool.{true, false, cond}
 use mathlib.Core.List.{[], _∷_}
+use Prim.Native.Nat.{ℕ}
 use native.Mathlib.Omega.{arith}
 use lib.Dec.{eqb}
 use lib.ListN.{replicate}
+use Rattle.judge.specs.Verdict.{HELD}
 use Rattle.packet.specs.Words.{IDLE}
 use Rattle.circuits.specs.Parts.{owns}
-use Rattle.link.specs.History.{packetSent, wordSent}
+use Rattle.link.specs.History.{History, numberSent, packetSent, wordSent, xAt}
 use Rattle.link.specs.Link.{Link}
 use Rattle.link.specs.Samples.Computing.{outcome}
-use Rattle.link.specs.Samples.Members.{lent, output}
+use Rattle.link.specs.Samples.Members.{lent, output, unranked}
 use Rattle.link.specs.Samples.Reports.{held, sure}
 use Rattle.link.specs.Sending.{Covered, Sending}
+use Rattle.link.specs.Told.{Told}
 use Rattle.groups.specs.Cards.{cardAt}
 use Rattle.groups.specs.Samples.Calls.{card}
 use Rattle.groups.specs.Samples.Histories.{computed, history₀, history₁}
 use Rattle.groups.specs.Samples.Links.{client₀, client₁, link₀, link₁, pairing₀}
 
--- A port for each slot that the group ever owned. Slot 2 was group 0's, and now it sends for group 1: its frames have the tags of group 1's epochs, and group 0's receiver does not begin, though over a hundred frames have come to each of its ports.
-wrong-sending : Sending
-wrong-sending =
+abbrev heldOf : ℕ → Told
+heldOf e = record { epoch = e; mark = HELD; bytes = []; rest = replicate 48 0xEE }
+
+-- A port for each slot that the group ever owned. Slot 2 was group 0's, and now it sends what a history of the other group has for it.
+wrong-sending : History → Sending
+wrong-sending other =
     record {
       kind = 0;
       slots = 4;
       first = 0;
-      packet = λ i slot. cond (eqb slot 2) (link₁ .sending .packet i slot) (link₀ .sending .packet i slot);
-      word = λ i slot. cond (eqb slot 2) (link₁ .sending .word i slot) (link₀ .sending .word i slot);
-      number = λ i slot. cond (eqb slot 2) (link₁ .sending .number i slot) (link₀ .sending .number i slot);
-      gid = λ i slot. cond (eqb slot 2) (link₁ .sending .gid i slot) (link₀ .sending .gid i slot);
-      x = link₀ .sending .x;
-      payload = λ x slot. cond (eqb slot 2) (link₁ .sending .payload x slot) (link₀ .sending .payload x slot);
+      packet = λ i slot. cond (eqb slot 2) (packetSent other i slot) (packetSent history₀ i slot);
+      word = λ i slot. cond (eqb slot 2) (wordSent other i slot) (wordSent history₀ i slot);
+      number = λ i slot. cond (eqb slot 2) (numberSent other i slot) (numberSent history₀ i slot);
+      gid = λ i slot. cond (eqb slot 2) (other .gid i) (history₀ .gid i);
+      x = xAt history₀;
+      payload = λ x slot. cond (eqb slot 2) (unranked x slot) (link₀ .sending .payload x slot);
       changes = 3;
     }
 
-wrong-ports : Link
-wrong-ports =
+wrong-ports : History → Link
+wrong-ports other =
     record {
-      sending = wrong-sending;
+      sending = wrong-sending other;
       ports = 3;
       payload = 1;
       window = 20;
       client = client₀;
       pairing = λ p. p;
-      came = wrong-sending .packet;
+      came = wrong-sending other .packet;
       delay = λ p. 0;
       first = λ p. 57;
       order = λ t. 0 ∷ 1 ∷ 2 ∷ [];
@@ -52,9 +58,18 @@ wrong-ports =
       lent = λ a j. lent;
     }
 
-ports-break : outcome wrong-ports 164 ≡ record { begun = 0; told = []; strange = [] }
+-- Its frames have the tags of group 1's epochs, and group 0's receiver does not begin, though over a hundred frames have come to each of its ports.
+ports-break : outcome (wrong-ports history₁) 164 ≡ record { begun = 0; told = []; strange = [] }
 unfolding wrong-ports wrong-sending outcome
 ports-break = refl
+
+-- Where both groups' epochs have the same numbers and one GID, it does begin, and holds every epoch: EOS comes from both groups, and number 1 twice.
+alike : History
+alike = record { kind = 0; slots = 4; first = 0; before = history₁ .before; gid = λ i. 0; mst = λ i. 255; ack = λ i. 0 }
+
+all-held : outcome (wrong-ports alike) 164 ≡ record { begun = 1; told = heldOf 8 ∷ heldOf 9 ∷ []; strange = [] }
+unfolding wrong-ports wrong-sending alike outcome
+all-held = refl
 
 -- The slots that the group owns as the earliest frame is sent, whatever it claims later. Group 1 then has slot 3 alone, a port for it, and claims slot 2 in its next epoch. Its packets all come as sent; the epochs that both members carry are held.
 wrong-clause : Link
