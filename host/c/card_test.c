@@ -150,7 +150,7 @@ static void starting(void)
 /* Every call but start: a wrong state length is 9 before all else, then a group that is none is 1. */
 static void first_tests(void)
 {
-    char name[80];
+    char name[120];
     int which, nine, one;
     size_t i;
 
