@@ -27,11 +27,11 @@ pub record AssumedEach (h : CardHistory) (g : ℕ) (k : Link) : Type 0 where
   pub sends : k .sending ≡ sendingOf (historyOf h g starts) (k .payload) (k .client) unranked
   -- the client, the lines, what is lent
   pub lines : Lines k
-  -- a position that no port's first frame is before, and how many calls had been made by then: the epochs that start at or after it are started by later calls
+  -- a position that no port's first frame is before, and how many calls had been made when its frame was sent: the epochs that start after it are started by later calls
   pub earliest : ℕ
   pub calls-then : ℕ
   pub not-before : (p : ℕ) → p < k .ports → earliest ≤ k .first p
-  pub started-later : (i : ℕ) → earliest ≤ epochStart (h .kind) i → calls-then ≤ starts .at i
+  pub started-later : (i : ℕ) → earliest < epochStart (h .kind) i → calls-then ≤ starts .at i
   -- from then on the group's slots stay
   pub stay : (n slot : ℕ) → calls-then ≤ n → slot < h .slots → owns (cardAt h n) g slot ≡ owns (cardAt h calls-then) g slot
   -- and each has a port of its own, and no other slot has one

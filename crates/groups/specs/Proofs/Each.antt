@@ -89,7 +89,7 @@ module _ (h : CardHistory) (g : ℕ) (k : Link) (a : AssumedEach h g k) where
       (rw (size-at-all (a .starts .at i)) b)
       (λ e. d (ap (λ (s : Sender). rowAt (s .outgoing .rows) slot .word .0) (started i) ∙ e))
 
-  covered : (i : ℕ) → a .earliest ≤ epochStart (h .kind) i → Covered ownSide i (k .ports) (k .pairing)
+  covered : (i : ℕ) → a .earliest < epochStart (h .kind) i → Covered ownSide i (k .ports) (k .pairing)
   covered i from slot b d =
       a .each slot b (sym (a .stay (a .starts .at i) slot (a .started-later i from) b) ∙ owned-then i slot b d)
 
@@ -101,7 +101,7 @@ module _ (h : CardHistory) (g : ℕ) (k : Link) (a : AssumedEach h g k) where
         paired = subst (λ (s : Sending). Pairing (k .ports) (s .slots) (k .pairing)) (sym (a .sends)) (a .paired);
         earliest = a .earliest;
         not-before = a .not-before;
-        covered = subst (λ (s : Sending). (i : ℕ) → a .earliest ≤ epochStart (s .kind) i → Covered s i (k .ports) (k .pairing)) (sym (a .sends)) covered;
+        covered = subst (λ (s : Sending). (i : ℕ) → a .earliest < epochStart (s .kind) i → Covered s i (k .ports) (k .pairing)) (sym (a .sends)) covered;
       }
 
   pub each : Demand3 k

@@ -93,13 +93,13 @@ reaches₁ (suc (suc zero)) h e = record { port = 0; below = omega arith; is = r
 reaches₁ (suc (suc (suc zero))) h e = record { port = 1; below = omega arith; is = refl }
 reaches₁ (suc (suc (suc (suc slot)))) h e = absurd (omega arith)
 
--- The epochs that start at or after the earliest frame are those from index 4 on.
+-- The epochs that start after the earliest frame are those from index 4 on.
 
-later₀ : (i : ℕ) → 57 ≤ epochStart 0 i → 34 ≤ starts₀ .at i
+later₀ : (i : ℕ) → 57 < epochStart 0 i → 34 ≤ starts₀ .at i
 unfolding frames starts₀
 later₀ i h = omega arith
 
-later₁ : (i : ℕ) → 58 ≤ epochStart 0 i → 35 ≤ starts₁ .at i
+later₁ : (i : ℕ) → 58 < epochStart 0 i → 35 ≤ starts₁ .at i
 unfolding frames starts₁
 later₁ i h = omega arith
 
