@@ -10,7 +10,7 @@ use Rattle.circuits.specs.declared.card.Card.{Card}
 use Rattle.circuits.specs.Calls.Call.{Claim, Release, AddSlot, RemoveSlot, Report, Lapse, StartEpoch}
 use Rattle.circuits.specs.Parts.{isSlot, owns}
 use Rattle.circuits.specs.Views.{Asked, Made, cardAfter}
-use Rattle.circuits.specs.Views.Asked.{Do, Packet, Payload, Board, BoardGoing, Ranks, Owned}
+use Rattle.circuits.specs.Views.Asked.{Do, Packet, Payload, Board, Outgoing, Ranks, Owned}
 use Rattle.link.specs.History.{History}
 use Rattle.groups.specs.Cards.{CardHistory, cardAt}
 
@@ -26,7 +26,7 @@ begins (Do (StartEpoch gid mst ack)) = ltb gid 2 && ltb ack 2
 begins (Packet i h4) = false
 begins (Payload i p frame member) = false
 begins Board = false
-begins BoardGoing = false
+begins Outgoing = false
 begins Ranks = false
 begins Owned = false
 
@@ -46,7 +46,7 @@ claimsOrReleases (Do (StartEpoch gid mst ack)) = false
 claimsOrReleases (Packet i h4) = false
 claimsOrReleases (Payload i p frame member) = false
 claimsOrReleases Board = false
-claimsOrReleases BoardGoing = false
+claimsOrReleases Outgoing = false
 claimsOrReleases Ranks = false
 claimsOrReleases Owned = false
 
@@ -86,7 +86,7 @@ tableCall c g (Do (StartEpoch gid mst ack)) = []
 tableCall c g (Packet i h4) = []
 tableCall c g (Payload i p frame member) = []
 tableCall c g Board = []
-tableCall c g BoardGoing = []
+tableCall c g Outgoing = []
 tableCall c g Ranks = []
 tableCall c g Owned = []
 

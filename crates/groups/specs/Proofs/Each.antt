@@ -18,7 +18,7 @@ use Rattle.sender.specs.Laws.Sizes.{size-large, size-small}
 use Rattle.sender.specs.Ranks.{rowAt}
 use Rattle.sender.specs.Table.{sizeOf}
 use Rattle.circuits.specs.Parts.{owns, senderOf}
-use Rattle.circuits.specs.Theorems.Owned.{countOf, counts, going-owned}
+use Rattle.circuits.specs.Theorems.Owned.{countOf, counts, outgoing-owned}
 use Rattle.link.specs.Demand3.{Demand3}
 use Rattle.link.specs.History.{Allowed, Handed, History, senderAt, sendingOf, wordSent}
 use Rattle.link.specs.Link.{AssumedOver, Link, kindOf}
@@ -84,7 +84,7 @@ module _ (h : CardHistory) (g : ℕ) (k : Link) (a : AssumedEach h g k) where
   owned-then : (i slot : ℕ) → slot < h .slots → wordSent own i slot ≢ IDLE → owns (cardAt h (a .starts .at i)) g slot ≡ true
   unfolding cardAt packetFields
   owned-then i slot b d =
-      going-owned (h .kind) (h .slots) (h .first 0) (h .first 1) (tabulate (a .starts .at i) (h .made)) g (a .starts .gid i) (a .starts .mst i) (a .starts .ack i) slot (a .group)
+      outgoing-owned (h .kind) (h .slots) (h .first 0) (h .first 1) (tabulate (a .starts .at i) (h .made)) g (a .starts .gid i) (a .starts .mst i) (a .starts .ack i) slot (a .group)
       (and-true (ltb (a .starts .gid i) 2) (ltb (a .starts .ack i) 2) (lt-ltb (a .starts .gid i) 2 (a .starts .gid-bit i)) (lt-ltb (a .starts .ack i) 2 (a .starts .ack-bit i)))
       (rw (size-at-all (a .starts .at i)) b)
       (λ e. d (ap (λ (s : Sender). rowAt (s .outgoing .rows) slot .word .0) (started i) ∙ e))

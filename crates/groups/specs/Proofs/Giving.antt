@@ -26,7 +26,7 @@ use Rattle.sender.specs.Ranks.{noRank}
 use Rattle.sender.specs.Table.{sizeOf}
 use Rattle.sender.specs.Theorems.Epochs.{Fixed, fixed, onTable}
 use Rattle.sender.specs.Theorems.Packets.{packet-done, written-done}
-use Rattle.circuits.specs.Answers.{told}
+use Rattle.circuits.specs.Answers.{fromSender}
 use Rattle.circuits.specs.declared.answers.Answer.the-variants as A
 use Rattle.circuits.specs.declared.card.Card.{Card}
 use Rattle.circuits.specs.Parts.{isSlot, owns, senderOf}
@@ -46,7 +46,7 @@ use Rattle.groups.specs.Proofs.Senders.{sender-from, sender-is}
 
 -- of a slot that is the group's own, a card gives what its sender gives
 module _ (c : Card) (g slot : ℕ) (there : isSlot c g slot ≡ true) (mine : owns c g slot ≡ true) where
-  packet-told : (h4 : List ℕ) → R.packetAnswer c g slot h4 ≡ told (E.packetAnswer (senderOf c g) slot h4)
+  packet-told : (h4 : List ℕ) → R.packetAnswer c g slot h4 ≡ fromSender (E.packetAnswer (senderOf c g) slot h4)
   unfolding R.packetAnswer
   packet-told h4 = rw (there, mine) refl
 
@@ -54,7 +54,7 @@ module _ (c : Card) (g slot : ℕ) (there : isSlot c g slot ≡ true) (mine : ow
   unfolding R.packetBytes
   packet-by h4 = rw (there, mine) refl
 
-  payload-told : (P frame member : ℕ) → R.payloadAnswer c g slot P frame member ≡ told (E.payloadAnswer (senderOf c g) slot P frame member)
+  payload-told : (P frame member : ℕ) → R.payloadAnswer c g slot P frame member ≡ fromSender (E.payloadAnswer (senderOf c g) slot P frame member)
   unfolding R.payloadAnswer
   payload-told P frame member = rw (there, mine) refl
 
@@ -181,14 +181,14 @@ module _ (h : CardHistory) (g : ℕ) (k : Link) (a : AssumedEach h g k) (n i p :
     payload-answered : R.payloadAnswer c g slot (k .payload) (length (k .client x)) (length member) ≡ A.Done
     payload-answered =
         payload-told c g slot there mine (k .payload) (length (k .client x)) (length member)
-        ∙ ap told (same .told slot (k .payload) (length (k .client x)) (length member)
+        ∙ ap fromSender (same .told slot (k .payload) (length (k .client x)) (length member)
         ∙ spread-told s slot slot-in begun (k .payload) (length (k .client x)) (length member)
         ∙ ap spreadTold (one-done (xOf s) (k .payload) (length (k .client x)) (length member) (record { size = sizes-at; frame-is = whole; member-is = long })))
 
   pub gives : Gives h g k n i slot
   gives =
       record {
-        packet-done = λ h4 l. packet-told c g slot there mine h4 ∙ ap told (same .answer slot h4 ∙ answered h4 l);
+        packet-done = λ h4 l. packet-told c g slot there mine h4 ∙ ap fromSender (same .answer slot h4 ∙ answered h4 l);
         packet = packet-gives;
         payload-done = λ x member e l. payload-answered x member e l;
         payload = λ x member e l r. payload-gives x member e l r;

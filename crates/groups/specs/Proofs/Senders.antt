@@ -23,7 +23,7 @@ use Rattle.circuits.specs.Owners.{hasOwner, markOf}
 use Rattle.circuits.specs.Parts.{isSlot, isUsed, marked, owns, refused, senderOf}
 use Rattle.circuits.specs.Theorems.Apart.{others-keep}
 use Rattle.circuits.specs.Views.{Asked, Made, View, cardAfter, run, viewOf}
-use Rattle.circuits.specs.Views.Asked.{Do, Packet, Payload, Board, BoardGoing, Ranks, Owned}
+use Rattle.circuits.specs.Views.Asked.{Do, Packet, Payload, Board, Outgoing, Ranks, Owned}
 use Rattle.link.specs.History.{senderAt}
 use Rattle.groups.specs.Cards.{CardHistory, cardAt}
 use Rattle.groups.specs.Projected.{Starts, begins, between, historyOf, isStart, onOwn, reaching, tableCall, tableCalls}
@@ -78,7 +78,7 @@ module _ (c : Card) (g : ℕ) (hg : g < 2) where
   own-step (Packet i h4) e = refl
   own-step (Payload i p frame member) e = refl
   own-step Board e = refl
-  own-step BoardGoing e = refl
+  own-step Outgoing e = refl
   own-step Ranks e = refl
   own-step Owned e = refl
 

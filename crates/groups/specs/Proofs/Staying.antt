@@ -18,7 +18,7 @@ use Rattle.circuits.specs.Owners.{markOf, ownerIn}
 use Rattle.circuits.specs.Parts.{isSlot, owns, refused, senderOf}
 use Rattle.circuits.specs.Theorems.Apart.{others-keep}
 use Rattle.circuits.specs.Views.{Asked, Made, View, cardAfter, viewOf}
-use Rattle.circuits.specs.Views.Asked.{Do, Packet, Payload, Board, BoardGoing, Ranks, Owned}
+use Rattle.circuits.specs.Views.Asked.{Do, Packet, Payload, Board, Outgoing, Ranks, Owned}
 use Rattle.groups.specs.Cards.{CardHistory, cardAt}
 use Rattle.groups.specs.Projected.{claimsOrReleases, isMove}
 use Rattle.groups.specs.Proofs.Running.{card-next}
@@ -55,7 +55,7 @@ module _ (c : Card) (g : ℕ) where
   owners-kept (Packet i h4) e = refl
   owners-kept (Payload i p frame member) e = refl
   owners-kept Board e = refl
-  owners-kept BoardGoing e = refl
+  owners-kept Outgoing e = refl
   owners-kept Ranks e = refl
   owners-kept Owned e = refl
 
