@@ -26,6 +26,7 @@ use Rattle.circuits.specs.Laws.Ways.{by-ways}
 use Rattle.circuits.specs.Owners.{ownerIn, withOwner}
 use Rattle.circuits.specs.Parts as P
 use Rattle.circuits.specs.Parts.{marked, refused, stepped, withSender}
+use Rattle.circuits.specs.Theorems.Owned.{demand2-each}
 use Rattle.circuits.specs.Views.{Asked, Made, cardAfter, run}
 use Rattle.circuits.specs.Views.Asked.{Do, Packet, Payload, Board, Outgoing, Ranks, Owned}
 use Rattle.sender.specs.declared.epochs.Sender.{Sender}
@@ -33,6 +34,7 @@ use Rattle.sender.specs.declared.epochs.SenderOutcome.{SenderOutcome}
 use Rattle.sender.specs.declared.table.Answer as S
 use Rattle.sender.specs.Epochs.{SenderCall, beginOf, senderStepOf}
 use Rattle.sender.specs.Table.{answerNumber as senderNumber}
+use Rattle.sender.specs.Theorems.Epochs.{Demand2Kept}
 use Rattle.c_face.specs.Cards.{bytesBehind, cardOf, isCard, keptCard, ownersIn, partAt, partIn, putCard, putOwn, startAnswerOn, startStateOn, stepAnswerOn, stepStateOn}
 use Rattle.c_face.specs.Keeping.{byteAt, bytesOf, senderOf}
 use Rattle.c_face.specs.Senders.{areBytes, outside}
@@ -404,3 +406,7 @@ module _ (count e₀ e₁ : ℕ) (state : List ℕ) (ms : List Made) (done : sta
   -- in as many bytes
   pub card-runs-sized : length (runOn (startStateOn count e₀ e₁ state) ms) ≡ 858
   card-runs-sized = run-keeps (startStateOn count e₀ e₁ state) (startOf 0 count e₀ e₁ .card) ms start-keeps .sized
+
+  -- and demand 2 holds of each group's table, and of both tables that its epochs' starts keep
+  pub card-runs-demand2 : (g : ℕ) → g < 2 → Demand2Kept (P.senderOf (cardOf (runOn (startStateOn count e₀ e₁ state) ms)) g)
+  card-runs-demand2 g h = rw card-runs-own (demand2-each 0 count e₀ e₁ (meant ms) g h)
