@@ -7,7 +7,7 @@ use native.Mathlib.Nat.{le-refl, suc-inj}
 use native.Mathlib.Numerals.{add-one}
 use native.Mathlib.Omega.{arith}
 use lib.Dec.{T, eqb, eqb→eq}
-use lib.ListN.{length, getD, set, length-set}
+use lib.ListN.{length, getD, length-set}
 use Rattle.orders.specs.Orders.{turnsOf, finishOf, stepBy, numberBy, storedBy, ordersOf, orderedOf, answersOf}
 use Rattle.circuits.specs.declared.answers.Answer.{Answer}
 use Rattle.circuits.specs.declared.answers.Answer.the-variants as A
