@@ -11,32 +11,28 @@ use lib.ListN.{length, getD, length-set}
 use Rattle.orders.specs.Orders.{turnsOf, finishOf, stepBy, numberBy, storedBy, ordersOf, orderedOf, answersOf}
 use Rattle.circuits.specs.declared.answers.Answer.{Answer}
 use Rattle.circuits.specs.declared.answers.Answer.the-variants as A
-use Rattle.orders.specs.declared.commands.Kind.the-variants.{Add}
+use Rattle.orders.specs.Singles.{noCommand}
 use Rattle.orders.specs.declared.commands.Command.{Command}
 use Rattle.circuits.specs.declared.card.Card.{Card}
 use Rattle.orders.specs.declared.lists.Ordered.{Ordered}
 
--- what stands in place of a command that is not there
-abbrev pub none : Command
-none = record { kind = Add; group = 0; slot = 0 }
-
 abbrev pub cardAt : Card → List Command → ℕ → Card
 cardAt card cs zero = card
-cardAt card cs (suc n) = stepBy (cardAt card cs n) (getD cs n none) .card
+cardAt card cs (suc n) = stepBy (cardAt card cs n) (getD cs n noCommand) .card
 
 abbrev pub listAt : Card → List Command → List ℕ → ℕ → List ℕ
 listAt card cs ys zero = ys
-listAt card cs ys (suc n) = storedBy (cardAt card cs n) (getD cs n none) n (listAt card cs ys n)
+listAt card cs ys (suc n) = storedBy (cardAt card cs n) (getD cs n noCommand) n (listAt card cs ys n)
 
 -- ---- one turn
 pub list-length : (card : Card) (cs : List Command) (ys : List ℕ) (i : ℕ) → length (listAt card cs ys i) ≡ length ys
 list-length card cs ys zero = refl
 list-length card cs ys (suc i) = length-set (listAt card cs ys i) i _ ∙ list-length card cs ys i
 
-pub card-next : (card : Card) (cs : List Command) (i : ℕ) → stepBy (cardAt card cs i) (getD cs i none) .card ≡ cardAt card cs (i + 1)
+pub card-next : (card : Card) (cs : List Command) (i : ℕ) → stepBy (cardAt card cs i) (getD cs i noCommand) .card ≡ cardAt card cs (i + 1)
 card-next card cs i = ap (λ (j : ℕ). cardAt card cs j) (sym (add-one i))
 
-pub list-next : (card : Card) (cs : List Command) (ys : List ℕ) (i : ℕ) → storedBy (cardAt card cs i) (getD cs i none) i (listAt card cs ys i) ≡ listAt card cs ys (i + 1)
+pub list-next : (card : Card) (cs : List Command) (ys : List ℕ) (i : ℕ) → storedBy (cardAt card cs i) (getD cs i noCommand) i (listAt card cs ys i) ≡ listAt card cs ys (i + 1)
 list-next card cs ys i = ap (λ (j : ℕ). listAt card cs ys j) (sym (add-one i))
 
 -- ---- how many turns
@@ -61,7 +57,7 @@ place-fits j m less big = omega arith
 -- ---- all of them
 card-shift : (card : Card) (c : Command) (cs : List Command) (n : ℕ) → cardAt card (c ∷ cs) (suc n) ≡ cardAt (stepBy card c .card) cs n
 card-shift card c cs zero = refl
-card-shift card c cs (suc n) = ap (λ (d : Card). stepBy d (getD cs n none) .card) (card-shift card c cs n)
+card-shift card c cs (suc n) = ap (λ (d : Card). stepBy d (getD cs n noCommand) .card) (card-shift card c cs n)
 
 card-all : (card : Card) (cs : List Command) → cardAt card cs (length cs) ≡ ordersOf card cs .card
 card-all card [] = refl
@@ -69,8 +65,8 @@ card-all card (c ∷ cs) = card-shift card c cs (length cs) ∙ card-all (stepBy
 
 list-shift : (card : Card) (c : Command) (cs : List Command) (y : ℕ) (ys : List ℕ) (n : ℕ) → listAt card (c ∷ cs) (y ∷ ys) (suc n) ≡ numberBy card c ∷ listAt (stepBy card c .card) cs ys n
 list-shift card c cs y ys zero = refl
-list-shift card c cs y ys (suc n) = ap (λ (l : List ℕ). storedBy (cardAt card (c ∷ cs) (suc n)) (getD cs n none) (suc n) l) (list-shift card c cs y ys n)
-    ∙ ap (λ (d : Card). storedBy d (getD cs n none) (suc n) (numberBy card c ∷ listAt (stepBy card c .card) cs ys n)) (card-shift card c cs n)
+list-shift card c cs y ys (suc n) = ap (λ (l : List ℕ). storedBy (cardAt card (c ∷ cs) (suc n)) (getD cs n noCommand) (suc n) l) (list-shift card c cs y ys n)
+    ∙ ap (λ (d : Card). storedBy d (getD cs n noCommand) (suc n) (numberBy card c ∷ listAt (stepBy card c .card) cs ys n)) (card-shift card c cs n)
 
 list-all : (card : Card) (cs : List Command) (ys : List ℕ) → length cs ≡ length ys → listAt card cs ys (length cs) ≡ ordersOf card cs .answers
 list-all card [] [] e = refl

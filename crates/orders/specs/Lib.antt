@@ -1,1 +1,5 @@
 pub mod Orders
+pub mod Shown
+pub mod Singles
+pub mod Theorems
+mod Wrong

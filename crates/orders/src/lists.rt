@@ -24,15 +24,15 @@ fn turns(commands: usize, answers: usize) -> usize
 fn finish(card: Card, commands: usize, answers: usize) -> Ordered
     ensures { λ r. ⌜ r ≡ finishOf card commands answers ⌝ }
 {
-    if commands == answers {
+    if commands != answers {
         Ordered {
             card,
-            answer: Answer::Done,
+            answer: Answer::Length,
         }
     } else {
         Ordered {
             card,
-            answer: Answer::Length,
+            answer: Answer::Done,
         }
     }
 }

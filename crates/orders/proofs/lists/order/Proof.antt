@@ -52,6 +52,7 @@ use denote.Triple.Table.{entered, cited}
 use denote.Triple.Walked.{says, Stays, stay-none, stay-none-slice, stay-slice, walkOf, goes-none, goes-none-slice, goes-slice, Walks, ends-at, walked, walk-meets}
 use denote.Exit.{yes}
 use Rattle.orders.specs.Orders.{turnsOf, finishOf, stepBy, storedBy, orderedOf, answersOf}
+use Rattle.orders.specs.Singles.{noCommand}
 use Rattle.orders.specs.declared.commands.Command.{Command}
 use Rattle.circuits.specs.declared.card.Card.{Card}
 use Rattle.orders.specs.declared.lists.Ordered.{Ordered}
@@ -61,7 +62,7 @@ use Rattle.circuits.proofs.card.Card as TC
 use Rattle.circuits.proofs.card.Card.Laws as LC
 use Rattle.orders.proofs.lists.Ordered as TO
 use Rattle.orders.proofs.lists.Ordered.Laws as LO
-use Rattle.orders.proofs.Turned.{none, cardAt, listAt, list-length, card-next, list-next, turns-left, turns-right, place-fits, card-left, list-left}
+use Rattle.orders.proofs.Turned.{cardAt, listAt, list-length, card-next, list-next, turns-left, turns-right, place-fits, card-left, list-left}
 use Rattle.orders.proofs.Places.{in-order, upward}
 use Rattle.orders.proofs.Again.{LentAgain, lends-again, comes-back}
 use Rattle.orders.proofs.lists.turns as turns
@@ -331,11 +332,11 @@ module _ {M : Type 1} (𝓤 : URA M) (H : Heap 𝓤) (A : Atoms 𝓤) (W : Given
           rewrite ! (6 + at-place) (λ (p : ℕ). ‵ (fat fullShare tyPtr l₁₂ 0 (vptr b p))) (sym (place-is 12 o j)) refl $
           -- the slice of commands is looked into, and the command is copied out
           move ! (3 ∷ 4 ∷ []) $ looks-slice ! tt R (Is R) (shows 𝓤 H A R) spelled (LL.tells T′.the-type L′.the-laws) (LL.copy T′.the-type L′.the-copy 𝓤 H A W) cs b o (λ q″.
-          elem-out ! R (Is R) (shows 𝓤 H A R) spelled (LL.tells T′.the-type L′.the-laws) q″ cs j none b o within-cs (λ g.
+          elem-out ! R (Is R) (shows 𝓤 H A R) spelled (LL.tells T′.the-type L′.the-laws) q″ cs j noCommand b o within-cs (λ g.
           -- [commands[i]; what it owns; the others; what shuts; the shared borrow; what answers own; κ′'s token; what commands own; what the card owns; _15; …]
           assigns ! (of-opd ! (load ! (from ! (hop ! (look ! (9 + at-place) refl) (stop !))) (look-raw ! 0 refl))) (from ! (stop !)) (init ! (9 + at-copied) refl (typed g)) $
           assigns ! (of-opd ! (load ! (from ! (stop !)) (look ! (9 + at-copied) refl))) (from ! (stop !)) (init ! (9 + at-command) refl (typed g)) $
-          elem-back ! R q″ cs j none (spelled c) b o within-cs $ shuts-slice ! tt R q″ cs b o $
+          elem-back ! R q″ cs j noCommand (spelled c) b o within-cs $ shuts-slice ! tt R q″ cs b o $
           -- [κ's token; the shared borrow; what answers own; κ′'s token; what commands own; what the card owns; _15; …]
           assigns ! (addr ! (from ! (fld ! refl (hop ! (look-in ! (6 + at-answers) (sub ! 0 refl (whole !))) (stop !))))) (from ! (stop !)) (init ! (6 + at-first) refl (tt, tt)) $
           assigns ! (agg ! (and-then ! (load ! (from ! (stop !)) (look ! (6 + at-first) refl)) (and-then ! (load ! (from ! (fld ! refl (stop !))) (look-in ! (6 + at-answers) (sub ! 1 refl (whole !)))) (no-more !)))) (from ! (stop !)) (init ! (6 + at-lent) refl (tt, (tt, (record { fits = room′ .0 }, tt)))) $
@@ -368,7 +369,7 @@ module _ {M : Type 1} (𝓤 : URA M) (H : Heap 𝓤) (A : Atoms 𝓤) (W : Given
           j = i .0
 
           c : Command
-          c = getD cs j none
+          c = getD cs j noCommand
 
           d : Card
           d = cardAt card cs j
