@@ -2,6 +2,7 @@
 pub mod Cards
 pub mod Epochs
 pub mod Lines
+pub mod Orders
 pub mod Packets
 pub mod Paths
 pub mod Payloads
@@ -14,6 +15,7 @@ use Rattle.conformance.specs.Entries.{Coping, row}
 use Cards as card
 use Epochs as sender
 use Lines as console
+use Orders as orders
 use Packets as packet
 use Paths as paths
 use Payloads as payload
@@ -61,6 +63,8 @@ entries =
     ∷ row "circuits::Card::board_going" card.boardGoing card.boardGoing-copes
     ∷ row "circuits::Card::ranks" card.ranks card.ranks-copes
     ∷ row "circuits::Card::owned" card.owned card.owned-copes
+    ∷ row "orders::order" orders.order orders.order-copes
+    ∷ row "orders::order_of" orders.orderOf orders.orderOf-copes
     ∷ row "spoken::changes_between" spoken.changes spoken.changes-copes
     ∷ row "spoken::apply" spoken.apply spoken.apply-copes
     ∷ row "spoken::speak" spoken.speak spoken.speak-copes
