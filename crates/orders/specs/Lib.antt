@@ -1,3 +1,5 @@
+pub mod Folding
+pub mod Laws
 pub mod Orders
 pub mod Shown
 pub mod Singles

@@ -1,6 +1,6 @@
 -- A whole work order at once (02, 2026-07): 'Take a list of commands, each a small record of kind, group and slot, and answer each in a lent list of numbers.'
 use mathlib.Core.Bool.{cond}
-use mathlib.Core.List.{List, [], _∷_}
+use mathlib.Core.List.{List}
 use Prim.Native.Nat.{ℕ}
 use lib.Dec.{eqb, ltb}
 use lib.ListN.{length, set, take}
@@ -13,6 +13,7 @@ use Rattle.circuits.specs.Calls.Call.{AddSlot, Claim, Release, RemoveSlot}
 use Rattle.orders.specs.declared.commands.Command.{Command}
 use Rattle.orders.specs.declared.commands.Kind as K
 use Rattle.orders.specs.declared.lists.Ordered.{Ordered}
+use Rattle.orders.specs.Folding.{Folded, folded}
 
 -- a command as one of the card's own calls
 abbrev pub callBy : K.Kind → ℕ → Call
@@ -31,22 +32,19 @@ numberBy card c = answerNumber (stepBy card c .answer)
 abbrev pub storedBy : Card → Command → ℕ → List ℕ → List ℕ
 storedBy card c i ys = set ys i (numberBy card c)
 
--- what an order leaves
-pub record OrderOutcome : Type 0 where
-  pub card : Card
-  pub answers : List ℕ
+abbrev pub cardBy : Card → Command → Card
+cardBy card c = stepBy card c .card
 
 -- 'State and answers equal those of calling one by one in that order, refusals included. A list of no commands changes nothing.'
-abbrev pub ordersOf : Card → List Command → OrderOutcome
-ordersOf card [] = record { card = card; answers = [] }
-ordersOf card (c ∷ cs) = let rest = ordersOf (stepBy card c .card) cs in record { card = rest .card; answers = numberBy card c ∷ rest .answers }
+abbrev pub ordersOf : Card → List Command → Folded Card
+ordersOf card cs = folded cardBy numberBy card cs
 
 -- 'answers list of a different length than the commands is 9, and nothing is done'
 abbrev pub orderedOf : Card → List Command → ℕ → Ordered
-orderedOf card cs k = cond (eqb (length cs) k) (record { card = ordersOf card cs .card; answer = A.Done }) (record { card = card; answer = A.Length })
+orderedOf card cs k = cond (eqb (length cs) k) (record { card = ordersOf card cs .state; answer = A.Done }) (record { card = card; answer = A.Length })
 
 abbrev pub answersOf : Card → List Command → List ℕ → List ℕ
-answersOf card cs ys = cond (eqb (length cs) (length ys)) (ordersOf card cs .answers) ys
+answersOf card cs ys = cond (eqb (length cs) (length ys)) (ordersOf card cs .numbers) ys
 
 -- the parts of the code: how many turns its loop has, and what it ends with
 abbrev pub turnsOf : ℕ → ℕ → ℕ

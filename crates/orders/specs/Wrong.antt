@@ -16,7 +16,8 @@ use Rattle.circuits.specs.Parts.{isSlot, isUsed, marked, owns, senderOf, steppe
 use Rattle.circuits.specs.Shown.{after}
 use Rattle.orders.specs.declared.commands.Command.{Command}
 use Rattle.orders.specs.declared.commands.Kind as K
-use Rattle.orders.specs.Orders.{OrderOutcome, numberBy, ordersOf, stepBy}
+use Rattle.orders.specs.Folding.{Folded}
+use Rattle.orders.specs.Orders.{numberBy, ordersOf, stepBy}
 use Rattle.orders.specs.Shown.{add, claim, release, remove}
 
 -- two slots, nobody's
@@ -34,7 +35,7 @@ wrong-stops card (c ∷ cs) = numberBy card c ∷ cond (eqb (numberBy card c) 0)
 
 stops-breaks :
     (wrong-stops fresh (add 0 0 ∷ claim 0 0 ∷ add 0 0 ∷ []) ≡ 14 ∷ 255 ∷ 255 ∷ [])
-    × (ordersOf fresh (add 0 0 ∷ claim 0 0 ∷ add 0 0 ∷ []) .answers ≡ 14 ∷ 0 ∷ 0 ∷ [])
+    × (ordersOf fresh (add 0 0 ∷ claim 0 0 ∷ add 0 0 ∷ []) .numbers ≡ 14 ∷ 0 ∷ 0 ∷ [])
 unfolding wrong-stops stepBy withOwner senderOf withSender isSlot owns marked stepped startOf claimOf commandOf beginOf freshSender T.startOf freshOf idleSlot idleNumber addOf addedTo sizeOf membersOf
 stops-breaks = (refl, refl)
 
@@ -45,7 +46,7 @@ wrong-judges card (c ∷ cs) = numberBy card c ∷ wrong-judges card cs
 
 judges-breaks :
     (wrong-judges fresh (claim 0 0 ∷ add 0 0 ∷ claim 1 0 ∷ []) ≡ 0 ∷ 14 ∷ 0 ∷ [])
-    × (ordersOf fresh (claim 0 0 ∷ add 0 0 ∷ claim 1 0 ∷ []) .answers ≡ 0 ∷ 0 ∷ 14 ∷ [])
+    × (ordersOf fresh (claim 0 0 ∷ add 0 0 ∷ claim 1 0 ∷ []) .numbers ≡ 0 ∷ 0 ∷ 14 ∷ [])
 unfolding wrong-judges stepBy withOwner senderOf withSender isSlot owns marked stepped startOf claimOf commandOf beginOf freshSender T.startOf freshOf idleSlot idleNumber addOf addedTo sizeOf membersOf
 judges-breaks = (refl, refl)
 
@@ -55,11 +56,11 @@ all-done [] = true
 all-done (n ∷ ns) = eqb n 0 && all-done ns
 
 wrong-whole : Card → List Command → Card
-wrong-whole card cs = cond (all-done (ordersOf card cs .answers)) (ordersOf card cs .card) card
+wrong-whole card cs = cond (all-done (ordersOf card cs .numbers)) (ordersOf card cs .state) card
 
 whole-breaks :
     (owns (wrong-whole fresh (claim 0 0 ∷ claim 0 0 ∷ [])) 0 0 ≡ false)
-    × (owns (ordersOf fresh (claim 0 0 ∷ claim 0 0 ∷ []) .card) 0 0 ≡ true)
+    × (owns (ordersOf fresh (claim 0 0 ∷ claim 0 0 ∷ []) .state) 0 0 ≡ true)
 unfolding wrong-whole all-done stepBy withOwner senderOf isSlot owns marked startOf claimOf beginOf freshSender T.startOf freshOf idleSlot idleNumber sizeOf
 whole-breaks = (refl, refl)
 
@@ -92,16 +93,16 @@ is-release K.Kind.Add = false
 is-release K.Kind.Remove = false
 is-release K.Kind.Release = true
 
-wrong-groups : Card → List Command → OrderOutcome
+wrong-groups : Card → List Command → Folded Card
 wrong-groups card cs = ordersOf card (of-kind is-claim cs ++ (of-kind is-add cs ++ (of-kind is-release cs ++ of-kind is-remove cs)))
 
 groups-breaks :
-    (wrong-groups fresh (add 0 0 ∷ claim 0 0 ∷ []) .answers ≡ 0 ∷ 0 ∷ [])
-    × (ordersOf fresh (add 0 0 ∷ claim 0 0 ∷ []) .answers ≡ 14 ∷ 0 ∷ [])
+    (wrong-groups fresh (add 0 0 ∷ claim 0 0 ∷ []) .numbers ≡ 0 ∷ 0 ∷ [])
+    × (ordersOf fresh (add 0 0 ∷ claim 0 0 ∷ []) .numbers ≡ 14 ∷ 0 ∷ [])
 unfolding wrong-groups of-kind is-claim is-add is-remove is-release stepBy withOwner senderOf withSender isSlot owns marked stepped startOf claimOf commandOf beginOf freshSender T.startOf freshOf idleSlot idleNumber addOf addedTo sizeOf membersOf
 groups-breaks = (refl, refl)
 
 -- Beside them the trap, which is no wrong reading: a remove opens the group's wait, and what follows of that group is answered 3. Nothing is sorted or put off for it.
-trap : ordersOf (after 2 []) (claim 0 0 ∷ claim 0 1 ∷ add 0 0 ∷ remove 0 0 ∷ add 0 1 ∷ remove 0 0 ∷ release 0 0 ∷ []) .answers ≡ 0 ∷ 0 ∷ 0 ∷ 0 ∷ 3 ∷ 3 ∷ 0 ∷ []
+trap : ordersOf (after 2 []) (claim 0 0 ∷ claim 0 1 ∷ add 0 0 ∷ remove 0 0 ∷ add 0 1 ∷ remove 0 0 ∷ release 0 0 ∷ []) .numbers ≡ 0 ∷ 0 ∷ 0 ∷ 0 ∷ 3 ∷ 3 ∷ 0 ∷ []
 unfolding stepBy withOwner senderOf withSender isSlot owns isUsed marked stepped startOf claimOf releaseOf commandOf beginOf freshSender T.startOf freshOf idleSlot idleNumber addOf addedTo removeOf removedFrom fallen fallenIn sizeOf membersOf
 trap = refl

@@ -42,13 +42,13 @@ asked-is g (c ∷ cs) = go (eqb (c .group) g) refl (asked-is g cs)
     go true e rest = rw (e, rest) refl
     go false e rest = rw (e, rest) refl
 
-numbers-are : (g : ℕ) (card : Card) (cs : List Command) → answersTo g cs (ordersOf card cs .answers) ≡ numbersIn (repliesTo g card (singlesOf cs))
+numbers-are : (g : ℕ) (card : Card) (cs : List Command) → answersTo g cs (ordersOf card cs .numbers) ≡ numbersIn (repliesTo g card (singlesOf cs))
 unfolding numbersIn numberIn stepBy
 numbers-are g card [] = refl
 numbers-are g card (c ∷ cs) = go (eqb (c .group) g) refl (numbers-are g (stepBy card c .card) cs)
   where
-    go : (b : Bool) → eqb (c .group) g ≡ b → answersTo g cs (ordersOf (stepBy card c .card) cs .answers) ≡ numbersIn (repliesTo g (stepBy card c .card) (singlesOf cs))
-        → answersTo g (c ∷ cs) (ordersOf card (c ∷ cs) .answers) ≡ numbersIn (repliesTo g card (singlesOf (c ∷ cs)))
+    go : (b : Bool) → eqb (c .group) g ≡ b → answersTo g cs (ordersOf (stepBy card c .card) cs .numbers) ≡ numbersIn (repliesTo g (stepBy card c .card) (singlesOf cs))
+        → answersTo g (c ∷ cs) (ordersOf card (c ∷ cs) .numbers) ≡ numbersIn (repliesTo g card (singlesOf (c ∷ cs)))
     go true e rest =
         let same : answerNumber (stepOf card (c .group) (callBy (c .kind) (c .slot)) .answer) ≡ answerNumber (stepOf card g (callBy (c .kind) (c .slot)) .answer) =
         ap (λ (h : ℕ). answerNumber (stepOf card h (callBy (c .kind) (c .slot)) .answer)) (eqb-true (c .group) g e) in
@@ -57,8 +57,8 @@ numbers-are g card (c ∷ cs) = go (eqb (c .group) g) refl (numbers-are g (stepB
 
 -- Two orders, from any two cards with the same view of g: where its commands are the same and its bits at its claims agree, the answers to them are the same, and so is the view left.
 pub record Same (g : ℕ) (card other : Card) (cs ds : List Command) : Type 0 where
-  pub answers : answersTo g cs (ordersOf card cs .answers) ≡ answersTo g ds (ordersOf other ds .answers)
-  pub view : viewOf g (ordersOf card cs .card) ≡ viewOf g (ordersOf other ds .card)
+  pub answers : answersTo g cs (ordersOf card cs .numbers) ≡ answersTo g ds (ordersOf other ds .numbers)
+  pub view : viewOf g (ordersOf card cs .state) ≡ viewOf g (ordersOf other ds .state)
 
 pub apart : (g : ℕ) → g < 2 → (card other : Card) (cs ds : List Command) → viewOf g card ≡ viewOf g other → commandsOf g cs ≡ commandsOf g ds
     → bitsOf g card (singlesOf cs) ≡ bitsOf g other (singlesOf ds) → Same g card other cs ds

@@ -6,15 +6,14 @@ use lib.ListN.{length, length-append}
 use borrow.Author.Tests.{eq-eqb}
 use Rattle.circuits.specs.declared.card.Card.{Card}
 use Rattle.orders.specs.declared.commands.Command.{Command}
-use Rattle.orders.specs.Orders.{answersOf, numberBy, orderedOf, ordersOf, stepBy}
+use Rattle.orders.specs.Laws.Folding.{cut-numbers, cut-state}
+use Rattle.orders.specs.Orders.{answersOf, cardBy, numberBy, orderedOf, ordersOf}
 
-pub cut-card : (card : Card) (cs ds : List Command) → ordersOf card (cs ++ ds) .card ≡ ordersOf (ordersOf card cs .card) ds .card
-cut-card card [] ds = refl
-cut-card card (c ∷ cs) ds = cut-card (stepBy card c .card) cs ds
+pub cut-card : (card : Card) (cs ds : List Command) → ordersOf card (cs ++ ds) .state ≡ ordersOf (ordersOf card cs .state) ds .state
+cut-card = cut-state cardBy numberBy
 
-pub cut-answers : (card : Card) (cs ds : List Command) → ordersOf card (cs ++ ds) .answers ≡ ordersOf card cs .answers ++ ordersOf (ordersOf card cs .card) ds .answers
-cut-answers card [] ds = refl
-cut-answers card (c ∷ cs) ds = ap (λ (ns : List ℕ). numberBy card c ∷ ns) (cut-answers (stepBy card c .card) cs ds)
+pub cut-answers : (card : Card) (cs ds : List Command) → ordersOf card (cs ++ ds) .numbers ≡ ordersOf card cs .numbers ++ ordersOf (ordersOf card cs .state) ds .numbers
+cut-answers = cut-numbers cardBy numberBy
 
 -- as two calls, each with as many answers as commands
 pub cut : (card : Card) (cs ds : List Command) (ys zs : List ℕ) → length cs ≡ length ys → length ds ≡ length zs

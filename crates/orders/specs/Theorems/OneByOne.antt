@@ -13,13 +13,13 @@ use Rattle.orders.specs.Orders.{answersOf, orderedOf, ordersOf, stepBy}
 use Rattle.orders.specs.Singles.{singleNumber, singleNumbers, singlesOf}
 
 -- the card is that of the single calls
-pub card-single : (card : Card) (cs : List Command) → ordersOf card cs .card ≡ run card (singlesOf cs)
+pub card-single : (card : Card) (cs : List Command) → ordersOf card cs .state ≡ run card (singlesOf cs)
 unfolding stepBy
 card-single card [] = refl
 card-single card (c ∷ cs) = card-single (stepBy card c .card) cs
 
 -- and so is each number
-pub answers-single : (card : Card) (cs : List Command) → ordersOf card cs .answers ≡ singleNumbers card cs
+pub answers-single : (card : Card) (cs : List Command) → ordersOf card cs .numbers ≡ singleNumbers card cs
 unfolding stepBy
 answers-single card [] = refl
 answers-single card (c ∷ cs) = ap (λ (ns : List ℕ). singleNumber card c ∷ ns) (answers-single (stepBy card c .card) cs)
