@@ -60,7 +60,7 @@ entries =
     ∷ row "circuits::Card::packet" card.packet card.packet-copes
     ∷ row "circuits::Card::payload" card.payload card.payload-copes
     ∷ row "circuits::Card::board" card.board card.board-copes
-    ∷ row "circuits::Card::board_going" card.boardGoing card.boardGoing-copes
+    ∷ row "circuits::Card::outgoing" card.outgoing card.outgoing-copes
     ∷ row "circuits::Card::ranks" card.ranks card.ranks-copes
     ∷ row "circuits::Card::owned" card.owned card.owned-copes
     ∷ row "orders::order" orders.order orders.order-copes

@@ -9,13 +9,13 @@ use Rattle.circuits.specs.declared.answers.Answer.{Answer}
 use Rattle.circuits.specs.declared.answers.Answer.the-variants as A
 use Rattle.circuits.specs.declared.card.Card.{Card}
 use Rattle.circuits.specs.declared.card.CardOutcome.{CardOutcome}
-use Rattle.circuits.specs.Answers.{answerNumber, told}
+use Rattle.circuits.specs.Answers.{answerNumber, fromSender}
 use Rattle.circuits.specs.Calls.{stepOf}
 use Rattle.circuits.specs.Calls.Call.{AddSlot, Claim, Lapse, Release, RemoveSlot, Report, StartEpoch}
 use Rattle.circuits.specs.Commands.{claimOf, commandOf, groupCallOf, releaseOf, startOf}
 use Rattle.circuits.specs.Owners.{hasOwner, ownedBytes}
 use Rattle.circuits.specs.Parts.{emptySender, isSlot, isUsed, marked, owns, refused, senderOf, shownSender, stepped, withSender}
-use Rattle.circuits.specs.Readings.{boardShown, goingShown, ownedShown, packetAnswer, packetBytes, payloadAnswer, payloadBytes, ranksShown}
+use Rattle.circuits.specs.Readings.{boardShown, outgoingShown, ownedShown, packetAnswer, packetBytes, payloadAnswer, payloadBytes, ranksShown}
 use Rattle.conformance.specs.Entries.{Call, Copes, If, Refusal, Unless, copes, stateful, stateless}
 use Rattle.conformance.specs.Refusals.Epochs as sender
 use Rattle.sender.specs.declared.epochs.Sender.{Sender}
@@ -28,14 +28,14 @@ use Rattle.sender.specs.Epochs.{SenderCall, beginOf, freshSender, senderStepOf}
 use Rattle.sender.specs.Steps.{Call as T}
 use Rattle.sender.specs.Table.{answerNumber as senderNumber}
 
-told-number : (a : S.Answer) → answerNumber (told a) ≡ senderNumber a
-told-number S.Answer.Done = refl
-told-number S.Answer.NoSlot = refl
-told-number S.Answer.NotAllowed = refl
-told-number S.Answer.WaitOpen = refl
-told-number S.Answer.OutOfRange = refl
-told-number S.Answer.Field = refl
-told-number S.Answer.Length = refl
+sender-number : (a : S.Answer) → answerNumber (fromSender a) ≡ senderNumber a
+sender-number S.Answer.Done = refl
+sender-number S.Answer.NoSlot = refl
+sender-number S.Answer.NotAllowed = refl
+sender-number S.Answer.WaitOpen = refl
+sender-number S.Answer.OutOfRange = refl
+sender-number S.Answer.Field = refl
+sender-number S.Answer.Length = refl
 
 -- both groups empty
 abbrev emptyCard : ℕ → ℕ → ℕ → Card
@@ -53,7 +53,7 @@ start-copes (kind, count, e₀, e₁) =
     let c = sender.start-copes (kind, count, e₀) in
     let d = sender.start-copes (kind, count, e₁) in
     record {
-      answers = told-number (beginOf kind count e₀ .answer) ∙ c .answers;
+      answers = sender-number (beginOf kind count e₀ .answer) ∙ c .answers;
       untouched = λ x. refl;
       as-given = λ k. rw (c .as-given k, d .as-given k) refl;
       emptied = λ k. rw (c .emptied k, d .emptied k) refl;
@@ -75,7 +75,7 @@ on-sender : (c : Card) (g : ℕ) (rs : List Refusal) (r : SenderOutcome) → Cop
 unfolding stepped
 on-sender c g rs r h =
     record {
-      answers = told-number (r .answer) ∙ h .answers;
+      answers = sender-number (r .answer) ∙ h .answers;
       untouched = λ x. refl;
       as-given = λ k. ap (λ (s : Sender). withSender c g s) (h .as-given k) ∙ put-back c g;
       emptied = λ k. ap (λ (s : Sender). withSender c g s) (h .emptied k) ∙ put-back c g;
@@ -163,8 +163,8 @@ startEpoch-copes (self, group, gid, mst, «rs_ack») = group-call self group _ _
 
 -- a lent slice of an own slot
 lent : (s o : Bool) (a : S.Answer) (rs : List Refusal) (new old : List ℕ) → Copes (stateless rs (senderNumber a) (old ∷ []) (new ∷ []))
-    → Copes (stateless (Unless 1 s ∷ Unless 14 o ∷ rs) (answerNumber (cond s (cond o (told a) A.Owned) A.NoSlot)) (old ∷ []) (cond (s && o) new old ∷ []))
-lent true true a rs new old h = record { answers = told-number a ∙ h .answers; untouched = h .untouched; as-given = h .as-given; emptied = h .emptied }
+    → Copes (stateless (Unless 1 s ∷ Unless 14 o ∷ rs) (answerNumber (cond s (cond o (fromSender a) A.Owned) A.NoSlot)) (old ∷ []) (cond (s && o) new old ∷ []))
+lent true true a rs new old h = record { answers = sender-number a ∙ h .answers; untouched = h .untouched; as-given = h .as-given; emptied = h .emptied }
 lent true false a rs new old h = record { answers = refl; untouched = λ x. refl; as-given = λ k. refl; emptied = λ k. refl }
 lent false o a rs new old h = record { answers = refl; untouched = λ x. refl; as-given = λ k. refl; emptied = λ k. refl }
 
@@ -201,14 +201,14 @@ pub board-copes : (x : Card × ℕ) → Copes (board x)
 unfolding boardShown shownSender
 board-copes (self, group) = copes _ (λ g. rw g, λ g. rw g (refl, refl, refl))
 
-abbrev pub boardGoing : Card × ℕ → Call
-boardGoing (self, group) =
+abbrev pub outgoing : Card × ℕ → Call
+outgoing (self, group) =
     stateful (Unless 1 (ltb group 2) ∷ [])
-    (answerNumber (goingShown self group .answer)) [] [] (emptySender .outgoing) (goingShown self group .board) (emptySender .outgoing)
+    (answerNumber (outgoingShown self group .answer)) [] [] (emptySender .outgoing) (outgoingShown self group .board) (emptySender .outgoing)
 
-pub boardGoing-copes : (x : Card × ℕ) → Copes (boardGoing x)
-unfolding goingShown shownSender
-boardGoing-copes (self, group) = copes _ (λ g. rw g, λ g. rw g (refl, refl, refl))
+pub outgoing-copes : (x : Card × ℕ) → Copes (outgoing x)
+unfolding outgoingShown shownSender
+outgoing-copes (self, group) = copes _ (λ g. rw g, λ g. rw g (refl, refl, refl))
 
 abbrev pub ranks : Card × ℕ → Call
 ranks (self, group) =
