@@ -1,5 +1,6 @@
 -- What the C calls are, proved on the definitions.
 pub mod CratesOwn
+pub mod Ordered
 pub mod Relay
 pub mod Round
 pub mod Runs
