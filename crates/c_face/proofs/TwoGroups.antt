@@ -29,6 +29,7 @@ use Rattle.c_face.specs.Boards.{boardBytesOf, ranksBytesOf}
 use Rattle.c_face.specs.Cards.{alone, behind, bytesBehind, cardOf, isCard, keptCard, ownersIn, packetAnswerOn, packetBytesOn, partAt, partIn, payloadAnswerOn, payloadBytesOn, putCard, putOwn, refusalOf, shownAnswerOn, shownBytesOn, startAnswerOn, startStateOn, stepAnswerOn, stepStateOn}
 use Rattle.c_face.specs.Keeping.{byteAt, bytesOf, senderOf}
 use Rattle.c_face.specs.Senders.{areBytes, outside}
+use Rattle.c_face.specs.Theorems.CardRuns.{part-of}
 use Rattle.c_face.proofs.Parts.{mid-is, put-is}
 
 -- where the two parts begin
@@ -50,16 +51,6 @@ module _ (g a : ℕ) (state : List ℕ) (at : partAt g ≡ a) (sized : length st
       ap (λ (l : List ℕ). take a state ++ (l ++ drop 397 (drop a state))) e
       ∙ put-is a 397 state (omega arith) (byteAt s)
       ∙ ap (λ (m : ℕ). fillAt m 397 (byteAt s) state) (sym at)
-
-part-of : (g : ℕ) (state : List ℕ) → P.senderOf (cardOf state) g ≡ senderOf (partIn g state)
-unfolding P.senderOf cardOf partIn
-part-of g state = go (eqb g 0)
-  where
-    go : (b : Bool)
-        → cond b (senderOf (tabulate 397 (λ k. getD state (64 + k) 0))) (senderOf (tabulate 397 (λ k. getD state (461 + k) 0)))
-        ≡ senderOf (tabulate 397 (λ k. getD state (cond b 64 461 + k) 0))
-    go true = refl
-    go false = refl
 
 pub card-alone : (g : ℕ) (state owners : List ℕ) (s : Sender) → owners ≡ ownersIn state → s ≡ senderOf (partIn g state)
     → record { owners = owners; first = s; second = s } ≡ alone g (cardOf state)

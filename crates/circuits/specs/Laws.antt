@@ -3,3 +3,4 @@ pub mod Alike
 pub mod Members
 pub mod Seeing
 pub mod Stepping
+pub mod Ways

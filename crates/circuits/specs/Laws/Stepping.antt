@@ -46,7 +46,7 @@ sent c g k =
         → seen (record { sender = senderStepOf (senderOf c g) k .sender; owned = viewOf g c .owned }) (stepped c g (senderStepOf (senderOf c g) k) .answer) ≡ sentSeen (viewOf g c) k
     answers c g k = refl
 
-slot-group : (c : Card) (g i : ℕ) → isSlot c g i ≡ true → g < 2
+pub slot-group : (c : Card) (g i : ℕ) → isSlot c g i ≡ true → g < 2
 unfolding isSlot
 slot-group c g i s = ltb-true g 2 (and-left (ltb g 2) _ s)
 
