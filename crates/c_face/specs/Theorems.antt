@@ -2,6 +2,7 @@
 pub mod CardRuns
 pub mod CratesOwn
 pub mod Ordered
+pub mod OrdersOwn
 pub mod Relay
 pub mod Round
 pub mod Runs

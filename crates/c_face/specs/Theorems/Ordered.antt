@@ -8,18 +8,22 @@ use lib.Dec.{eqb, ltb}
 use lib.ListN.{getD, length, length-append, take}
 use borrow.Author.Tests.{eq-eqb, ne-eqb}
 use Rattle.ground.specs.Drawn.{fillAt, length-fillAt}
-use Rattle.ground.specs.Table.{tabulate}
+use Rattle.ground.specs.Table.{tabulate, tabulate-ext}
 use Rattle.circuits.specs.declared.card.Card.{Card}
 use Rattle.circuits.specs.declared.card.CardOutcome.{CardOutcome}
 use Rattle.circuits.specs.Answers.{answerNumber}
 use Rattle.circuits.specs.Calls.{Call, stepOf}
 use Rattle.circuits.specs.Owners.{ownerIn}
 use Rattle.circuits.specs.Parts as P
+use Rattle.circuits.specs.Views.{Made}
+use Rattle.circuits.specs.Views.Asked.{Do}
+use Rattle.orders.specs.declared.commands.Kind as K
 use Rattle.orders.specs.Laws.Folding.{cut-numbers, cut-state, stateAt}
 use Rattle.orders.specs.Orders.{callBy}
 use Rattle.c_face.specs.Cards.{cardOf, isCard, keptCard, partAt, putOwn, stepAnswerOn, stepStateOn}
 use Rattle.c_face.specs.Keeping.{byteAt, stateBytes}
 use Rattle.c_face.specs.Orders.{commandAnswerOn, commandStateOn, kindAnswerOn, kindOf, kindStateOn, orderAnswerOn, orderAnswersOn, orderStateOn, ordersOn}
+use Rattle.c_face.specs.Theorems.CardRuns.{fitting, refused-stands, runOn}
 
 -- ---- no call changes how many bytes there are
 
@@ -51,35 +55,52 @@ turns-length s cs (suc i) = kind-length _ _ _ (stateAt commandStateOn commandAns
 
 -- ---- one by one
 
--- the call that a host makes by itself for a command, if it makes one
-abbrev pub callOn : List ℕ → List ℕ → List ℕ
-callOn s command = cond (ltb 3 (getD command 0 0)) s (stepStateOn true (getD command 1 0) (callBy (kindOf (getD command 0 0)) (getD command 2 0)) s)
-
--- the bytes after the single calls for these commands
-abbrev pub runOn : List ℕ → List (List ℕ) → List ℕ
-runOn s [] = s
-runOn s (c ∷ cs) = runOn (callOn s c) cs
+-- the single C calls that a host makes for these commands; it makes none for a number that is no kind
+abbrev pub singlesIn : List (List ℕ) → List Made
+singlesIn [] = []
+singlesIn (c ∷ cs) =
+    cond (ltb 3 (getD c 0 0)) (singlesIn cs) (record { group = getD c 1 0; asked = Do (callBy (kindOf (getD c 0 0)) (getD c 2 0)) } ∷ singlesIn cs)
 
 -- the number of each single call, on the bytes that those before it left; a host that knows no such kind says 8 by itself
 abbrev pub numberOn : List ℕ → List ℕ → ℕ
-numberOn s command = cond (ltb 3 (getD command 0 0)) 8 (stepAnswerOn true (getD command 1 0) (callBy (kindOf (getD command 0 0)) (getD command 2 0)) s)
+numberOn s c = cond (ltb 3 (getD c 0 0)) 8 (stepAnswerOn true (getD c 1 0) (callBy (kindOf (getD c 0 0)) (getD c 2 0)) s)
 
 abbrev pub numbersOn : List ℕ → List (List ℕ) → List ℕ
-numbersOn s cs = tabulate (length cs) (λ i. numberOn (runOn s (take i cs)) (getD cs i []))
+numbersOn s cs = tabulate (length cs) (λ i. numberOn (runOn s (singlesIn (take i cs))) (getD cs i []))
 
-bytes-single : (s : List ℕ) (cs : List (List ℕ)) → ordersOn s cs .state ≡ runOn s cs
+all-fit : (k : K.Kind) (i : ℕ) → fitting (callBy k i) ≡ true
+all-fit K.Kind.Add i = refl
+all-fit K.Kind.Remove i = refl
+all-fit K.Kind.Claim i = refl
+all-fit K.Kind.Release i = refl
+
+-- one command more at the front
+run-first : (s c : List ℕ) (cs : List (List ℕ)) → runOn s (singlesIn (c ∷ cs)) ≡ runOn (commandStateOn s c) (singlesIn cs)
 unfolding kindStateOn
+run-first s c cs = go (ltb 3 (getD c 0 0))
+  where
+    call : Call
+    call = callBy (kindOf (getD c 0 0)) (getD c 2 0)
+
+    go : (b : Bool) → runOn s (cond b (singlesIn cs) (record { group = getD c 1 0; asked = Do call } ∷ singlesIn cs)) ≡ runOn (cond b s (stepStateOn true (getD c 1 0) call s)) (singlesIn cs)
+    go true = refl
+    go false = ap (λ (f : Bool). runOn (stepStateOn f (getD c 1 0) call s) (singlesIn cs)) (all-fit (kindOf (getD c 0 0)) (getD c 2 0))
+
+bytes-single : (s : List ℕ) (cs : List (List ℕ)) → ordersOn s cs .state ≡ runOn s (singlesIn cs)
 bytes-single s [] = refl
-bytes-single s (c ∷ cs) = bytes-single (callOn s c) cs
+bytes-single s (c ∷ cs) = bytes-single (commandStateOn s c) cs ∙ sym (run-first s c cs)
 
 numbers-single : (s : List ℕ) (cs : List (List ℕ)) → ordersOn s cs .numbers ≡ numbersOn s cs
-unfolding kindStateOn kindAnswerOn
+unfolding kindAnswerOn
 numbers-single s [] = refl
-numbers-single s (c ∷ cs) = ap (λ (ns : List ℕ). numberOn s c ∷ ns) (numbers-single (callOn s c) cs)
+numbers-single s (c ∷ cs) =
+    ap (λ (ns : List ℕ). numberOn s c ∷ ns)
+    (numbers-single (commandStateOn s c) cs
+    ∙ tabulate-ext (length cs) _ _ (λ i h. ap (λ (t : List ℕ). numberOn t (getD cs i [])) (sym (run-first s c (take i cs)))))
 
 -- of the call itself, on any state bytes of a card's length
 pub one-by-one : (s : List ℕ) (cs : List (List ℕ)) (ys : List ℕ) → length s ≡ 858 → length cs ≡ length ys
-    → (orderAnswerOn s cs ys ≡ 0) × (orderStateOn s cs ys ≡ runOn s cs) × (orderAnswersOn s cs ys ≡ numbersOn s cs)
+    → (orderAnswerOn s cs ys ≡ 0) × (orderStateOn s cs ys ≡ runOn s (singlesIn cs)) × (orderAnswersOn s cs ys ≡ numbersOn s cs)
 unfolding orderAnswerOn orderStateOn orderAnswersOn
 one-by-one s cs ys sized e = rw (eq-eqb (length s) 858 sized, eq-eqb (length cs) (length ys) e, bytes-single s cs, numbers-single s cs) (refl, refl, refl)
 
@@ -88,18 +109,6 @@ one-by-one s cs ys sized e = rw (eq-eqb (length s) 858 sized, eq-eqb (length cs)
 abbrev pub AllRefused : List ℕ → Type 0
 AllRefused [] = Unit {0}
 AllRefused (n ∷ ns) = (n ≢ 0) × AllRefused ns
-
-step-refused : (g : ℕ) (call : Call) (s : List ℕ) → stepAnswerOn true g call s ≢ 0 → stepStateOn true g call s ≡ s
-unfolding stepAnswerOn stepStateOn
-step-refused g call s = go (isCard s) (ltb g 2)
-  where
-    step : CardOutcome
-    step = stepOf (cardOf s) g call
-
-    go : (b l : Bool) → cond b (cond l (answerNumber (step .answer)) 1) 9 ≢ 0 → cond b (cond l (keptCard g step s) s) s ≡ s
-    go true true n = rw (ne-eqb (answerNumber (step .answer)) 0 n) refl
-    go true false n = refl
-    go false l n = refl
 
 command-refused : (s command : List ℕ) → commandAnswerOn s command ≢ 0 → commandStateOn s command ≡ s
 unfolding kindAnswerOn kindStateOn
@@ -110,7 +119,7 @@ command-refused s command = go (ltb 3 (getD command 0 0))
 
     go : (b : Bool) → cond b 8 (stepAnswerOn true (getD command 1 0) call s) ≢ 0 → cond b s (stepStateOn true (getD command 1 0) call s) ≡ s
     go true n = refl
-    go false n = step-refused (getD command 1 0) call s n
+    go false n = refused-stands true (getD command 1 0) call s n
 
 pub all-refused : (s : List ℕ) (cs : List (List ℕ)) → AllRefused (ordersOn s cs .numbers) → ordersOn s cs .state ≡ s
 all-refused s [] r = refl
