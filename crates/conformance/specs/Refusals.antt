@@ -110,6 +110,7 @@ entries =
     ∷ row "levelspruce_card_board_going" cardState.outgoing cardState.outgoing-copes
     ∷ row "levelspruce_card_ranks" cardState.ranked cardState.ranked-copes
     ∷ row "levelspruce_card_owned" cardState.owned cardState.owned-copes
+    ∷ row "levelspruce_card_order" orders.orderC orders.orderC-copes
     ∷ row "levelspruce_board_changes" spoken.changesC spoken.changesC-copes
     ∷ row "levelspruce_board_apply" spoken.applyC spoken.applyC-copes
     ∷ row "levelspruce_board_speak" spoken.speakC spoken.speakC-copes

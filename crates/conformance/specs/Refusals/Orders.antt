@@ -4,6 +4,7 @@ use mathlib.Core.List.{List, [], _∷_}
 use Prim.Native.Nat.{ℕ}
 use lib.Dec.{eqb, ltb}
 use lib.ListN.{length, take}
+use Rattle.c_face.specs.Orders.{orderAnswerOn, orderAnswersOn, orderStateOn}
 use Rattle.circuits.specs.declared.card.Card.{Card}
 use Rattle.circuits.specs.Answers.{answerNumber}
 use Rattle.conformance.specs.Entries.{Call, Copes, If, Unless, copes, stateful}
@@ -26,3 +27,13 @@ orderOf (card, commands, n, answers) =
 
 pub orderOf-copes : (x : Card × List Command × ℕ × List ℕ) → Copes (orderOf x)
 orderOf-copes (card, commands, n, answers) = copes _ (λ m. rw m (refl, refl, refl), λ m. (λ e. rw (m, e) refl, λ e. rw (m, e) (refl, refl, refl)))
+
+-- through C: a state of another length is 9 as everywhere
+abbrev pub orderC : List ℕ × List (List ℕ) × List ℕ → Call
+orderC (state, commands, answers) =
+    stateful (Unless 9 (eqb (length state) 858) ∷ Unless 9 (eqb (length commands) (length answers)) ∷ [])
+    (orderAnswerOn state commands answers) (answers ∷ []) (orderAnswersOn state commands answers ∷ []) state (orderStateOn state commands answers) state
+
+pub orderC-copes : (x : List ℕ × List (List ℕ) × List ℕ) → Copes (orderC x)
+unfolding orderAnswerOn orderStateOn orderAnswersOn
+orderC-copes (state, commands, answers) = copes _ (λ l. (λ e. rw (l, e) refl, λ e. rw (l, e) (refl, refl, refl)), λ l. rw l (refl, refl, refl))
