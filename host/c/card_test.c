@@ -1,7 +1,8 @@
 /*
  * Tests of the calls of two circuits on one card over the archive: every answer number of every call, the order of the
  * refusals, that a refusal changes no byte and a call no byte of the other group's part, P8 and P9 with another group
- * beside, a group beside a sender of its own, and states that no call wrote.
+ * beside, a group beside a sender of its own, two groups through to the bytes of their receivers, and states that no call
+ * wrote.
  */
 #include <levelspruce.h>
 
@@ -150,7 +151,7 @@ static void starting(void)
 /* Every call but start: a wrong state length is 9 before all else, then a group that is none is 1. */
 static void first_tests(void)
 {
-    char name[80];
+    char name[120];
     int which, nine, one;
     size_t i;
 
@@ -312,6 +313,83 @@ static void beside_a_sender(void)
     check("a group that owns all slots is a sender, answer by answer and byte by byte", held);
 }
 
+enum { PORTS = 3, P = 5, W = 48, EPOCHS = 24 };
+
+/* A group with a receiver at its far end that has a port for each slot that it owns, and no delay between them. */
+struct circuit {
+    uint32_t group, ports, slots[PORTS];
+    uint8_t rows[LEVELSPRUCE_RECEIVER_ROWS(PORTS)][LEVELSPRUCE_ROW_BYTES], store[LEVELSPRUCE_STORE_BYTES(PORTS, P, W)];
+    uint8_t sent[256][LEVELSPRUCE_EPOCH_FRAMES * PORTS * P]; /* the client's bytes by epoch */
+    int sure, wrong;
+};
+
+static void fetch(struct circuit *c)
+{
+    uint8_t got[LEVELSPRUCE_OUTPUT_BYTES(PORTS, P)], report[LEVELSPRUCE_REPORT_BYTES];
+
+    if (levelspruce_receiver_fetch(c->rows, LEVELSPRUCE_RECEIVER_ROWS(c->ports), c->store, LEVELSPRUCE_STORE_BYTES(c->ports, P, W), got,
+                                   LEVELSPRUCE_OUTPUT_BYTES(c->ports, P), report, sizeof report) != 0)
+        c->wrong++;
+    else if (report[LEVELSPRUCE_REPORT_MARK] == LEVELSPRUCE_MARK_SURE)
+        c->sure += report[LEVELSPRUCE_REPORT_X] == c->ports
+            && memcmp(got, c->sent[report[LEVELSPRUCE_REPORT_EPOCH]], LEVELSPRUCE_EPOCH_FRAMES * c->ports * P) == 0;
+    else if (report[LEVELSPRUCE_REPORT_MARK] != LEVELSPRUCE_MARK_NONE)
+        c->wrong++;
+}
+
+/* One epoch of a group: its packets right after its start, then its sixteen frames. */
+static int goes_out(struct circuit *c, uint32_t seed)
+{
+    uint8_t h4[PORTS][LEVELSPRUCE_PACKET_BYTES], member[P], *sent;
+    uint32_t i, k, x;
+    int held = done(EPOCH, c->group, 0, 0xFF, 0) && done(RANKS, c->group, 0, 0, 0);
+
+    x = out.now[GUARD + LEVELSPRUCE_RANKS_X];
+    sent = c->sent[out.now[GUARD + LEVELSPRUCE_RANKS_EPOCH]];
+    noise(sent, LEVELSPRUCE_EPOCH_FRAMES * PORTS * P, seed);
+    for (i = 0; i < c->ports; i++) {
+        held = held && done(PACKET, c->group, c->slots[i], 0, 0);
+        memcpy(h4[i], lent_bytes(&out), sizeof h4[i]);
+    }
+    for (k = 0; k < LEVELSPRUCE_EPOCH_FRAMES; k++)
+        for (i = 0; i < c->ports; i++) {
+            uint8_t answer;
+
+            held = held && levelspruce_card_payload(lent_bytes(&state), STATE, c->group, c->slots[i], P, sent + k * x * P, (size_t)x * P, member, sizeof member) == 0;
+            answer = levelspruce_receiver_frame(c->rows, LEVELSPRUCE_RECEIVER_ROWS(c->ports), i, 0, h4[i][k], member, P, c->store, LEVELSPRUCE_STORE_BYTES(c->ports, P, W));
+            held = held && (answer == LEVELSPRUCE_ANSWER_DONE || answer == LEVELSPRUCE_ANSWER_STEP);
+            fetch(c);
+        }
+    return held;
+}
+
+static int joins(struct circuit *c)
+{
+    uint32_t i;
+    int held = levelspruce_receiver_start(c->ports, P, W, LEVELSPRUCE_STORE_BYTES(c->ports, P, W), c->rows, LEVELSPRUCE_RECEIVER_ROWS(c->ports)) == 0;
+
+    for (i = 0; i < c->ports; i++)
+        held = held && joined(c->group, c->slots[i]);
+    return held && done(REPORT, c->group, 0, 0, 0) && done(LAPSE, c->group, 0, 0, 0);
+}
+
+/* Two groups, interleaved, each with its own receiver; group 1 has an epoch more than group 0 now and then, and claims and releases a slot of nobody. */
+static void received(void)
+{
+    static struct circuit first = { .group = 0, .ports = 2, .slots = { 4, 1 } }, second = { .group = 1, .ports = 3, .slots = { 0, 5, 2 } };
+    uint32_t epoch;
+    int held = done(START, 6, 250, 77, 0) && joins(&first) && joins(&second);
+
+    for (epoch = 0; epoch < EPOCHS; epoch++) {
+        held = held && goes_out(&first, epoch + 1) && goes_out(&second, epoch + 1001) && say(CLAIM, 1, 4, 0, 0) == 14 && done(CLAIM, 0, 3, 0, 0)
+            && done(RELEASE, 0, 3, 0, 0) && done(REPORT, 0, 0, 0, epoch & 1);
+        if (epoch % 3 == 0)
+            held = held && goes_out(&second, epoch + 2001);
+    }
+    check("two groups on one card, each received by ports for its own slots: every report is sure, with its client's bytes", held && first.wrong == 0 && second.wrong == 0
+          && first.sure >= EPOCHS - 4 && second.sure >= EPOCHS - 4);
+}
+
 /* Each call on these bytes gives one of its answers (a bit for each number), and changes only what it may. */
 static int copes(const uint8_t *junk)
 {
@@ -375,6 +453,7 @@ int main(void)
     results();
     releases();
     beside_a_sender();
+    received();
     junk_states();
     return tally();
 }
