@@ -35,10 +35,11 @@ loop-less : tie.Need-loop-less Inv-loop μ-loop
 loop-less c = search needs
 
 loop-again : tie.Need-loop-again Inv-loop μ-loop
-loop-again c =
-    (omega arith,
-    bytes-next (c .before .before .before .before .before .before .before .before .before .args .state .now) (c .before .before .before .before .before .before .before .before .before .args .commands .now) (c .before .before .before .before .before .before .loop .i) _ _ (c .before .before .before .before .before .before .loop .inv .1) (c .before .before .one .ensures .1),
-    list-next (c .before .before .before .before .before .before .before .before .before .args .state .now) (c .before .before .before .before .before .before .before .before .before .args .commands .now) (c .before .before .before .before .before .before .before .before .before .args .answers .now) (c .before .before .before .before .before .before .loop .i) _ _ _ (c .before .before .before .before .before .before .loop .inv .1) (c .before .before .before .before .before .before .loop .inv .2) (c .before .before .one .ensures .0))
+loop-again c = (
+  omega arith,
+  bytes-next (c .before .before .before .before .before .before .before .before .before .args .state .now) (c .before .before .before .before .before .before .before .before .before .args .commands .now) (c .before .before .before .before .before .before .loop .i) _ _ (c .before .before .before .before .before .before .loop .inv .1) (c .before .before .one .ensures .1),
+  list-next (c .before .before .before .before .before .before .before .before .before .args .state .now) (c .before .before .before .before .before .before .before .before .before .args .commands .now) (c .before .before .before .before .before .before .before .before .before .args .answers .now) (c .before .before .before .before .before .before .loop .i) _ _ _ (c .before .before .before .before .before .before .loop .inv .1) (c .before .before .before .before .before .before .loop .inv .2) (c .before .before .one .ensures .0),
+)
 
 same-length : tie.Need-same-length Inv-loop μ-loop
 same-length c = bytes-length (c .before .before .before .before .args .state .now) (c .before .before .before .before .args .commands .now) (c .before .loop .i) _ (c .before .loop .inv .1)
@@ -48,9 +49,10 @@ same-length-2 c = list-length (c .before .before .before .before .args .state .n
 
 returns : tie.Need-returns Inv-loop μ-loop
 returns c =
-    let e : c .before .loop .i ≡ length (c .before .before .before .before .args .commands .now) = omega arith in
-    (bytes-all (c .before .before .before .before .args .state .now) (c .before .before .before .before .args .commands .now) (c .before .loop .i) _ e (c .before .loop .inv .1),
-    list-all (c .before .before .before .before .args .state .now) (c .before .before .before .before .args .commands .now) (c .before .before .before .before .args .answers .now) (c .before .loop .i) _ (c .before .before .before .before .pre) e (c .before .loop .inv .2))
+    let e : c .before .loop .i ≡ length (c .before .before .before .before .args .commands .now) = omega arith in (
+      bytes-all (c .before .before .before .before .args .state .now) (c .before .before .before .before .args .commands .now) (c .before .loop .i) _ e (c .before .loop .inv .1),
+      list-all (c .before .before .before .before .args .state .now) (c .before .before .before .before .args .commands .now) (c .before .before .before .before .args .answers .now) (c .before .loop .i) _ (c .before .before .before .before .pre) e (c .before .loop .inv .2),
+    )
 
 pub each-spec : {M : Type 1} → statement M
 each-spec =
