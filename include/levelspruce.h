@@ -722,6 +722,45 @@ uint8_t levelspruce_card_owned(const uint8_t *state, size_t state_length,
                                uint8_t *owned, size_t owned_length);
 
 /*
+ * A whole work order at once: a list of commands, each three numbers, done one
+ * behind the other. State and answers are those of the single calls above in
+ * that order, byte by byte. A refused command stops nothing: the next one is
+ * tried on the card as it stands.
+ *
+ * A remove opens its group's wait, so every later add and remove of that group
+ * in the same order is answered 3. One remove an order and group, at its end.
+ */
+#define LEVELSPRUCE_COMMAND_NUMBERS 3
+#define LEVELSPRUCE_COMMAND_KIND 0
+#define LEVELSPRUCE_COMMAND_GROUP 1
+#define LEVELSPRUCE_COMMAND_SLOT 2
+
+/* the kinds of a command */
+#define LEVELSPRUCE_COMMAND_ADD 0
+#define LEVELSPRUCE_COMMAND_REMOVE 1
+#define LEVELSPRUCE_COMMAND_CLAIM 2
+#define LEVELSPRUCE_COMMAND_RELEASE 3
+
+/*
+ * Does the commands of a list and writes the answer to each.
+ *
+ *   commands   any number of commands: kind, group and slot
+ *   answers    a byte for each; a command is answered as its single call is,
+ *              and 8 where its kind is above 3, before all else
+ *
+ * Answers, the first that fits:
+ *   9  state_length is wrong
+ *   9  answers_length is not commands_length; nothing is done, and no answer
+ *      is written
+ *   0  each command was tried, and all of answers is written
+ */
+LEVELSPRUCE_MUST_USE
+uint8_t levelspruce_card_order(
+    uint8_t *state, size_t state_length,
+    const uint32_t (*commands)[LEVELSPRUCE_COMMAND_NUMBERS],
+    size_t commands_length, uint8_t *answers, size_t answers_length);
+
+/*
  * The spoken board: for a console that tells what changes. A board to be told
  * is one going out, read whole by levelspruce_sender_board_going after the
  * start of an epoch: it stays as it is until the next start, so no list of

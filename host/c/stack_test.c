@@ -63,6 +63,10 @@ static void sending(void)
 /* 64 members of one of two groups on a card, with all that is read of them. */
 static void sharing(void)
 {
+    static const uint32_t order[][LEVELSPRUCE_COMMAND_NUMBERS] = {
+        { LEVELSPRUCE_COMMAND_CLAIM, 0, 5 }, { LEVELSPRUCE_COMMAND_ADD, 0, 5 }, { LEVELSPRUCE_COMMAND_REMOVE, 0, 5 }, { LEVELSPRUCE_COMMAND_RELEASE, 0, 5 }
+    };
+    uint8_t numbers[COUNT(order)];
     uint32_t slot, epoch;
 
     answers |= levelspruce_card_start(PORTS, 0, 0, card, sizeof card);
@@ -86,6 +90,8 @@ static void sharing(void)
     }
     answers |= levelspruce_card_remove(card, sizeof card, 1, 5);
     answers |= levelspruce_card_release(card, sizeof card, 1, 5);
+    answers |= levelspruce_card_order(card, sizeof card, order, COUNT(order), numbers, sizeof numbers);
+    answers |= numbers[0] | numbers[1] | numbers[2] | numbers[3];
 }
 
 /* 64 ports that come into step, carry bytes and are reported, one that fails, and what is read of them. */

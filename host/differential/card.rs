@@ -52,6 +52,9 @@ extern "C" {
     fn levelspruce_card_board_going(state: *const u8, state_length: usize, group: u32, board: *mut u8, board_length: usize) -> u8;
     fn levelspruce_card_ranks(state: *const u8, state_length: usize, group: u32, ranks: *mut u8, ranks_length: usize) -> u8;
     fn levelspruce_card_owned(state: *const u8, state_length: usize, group: u32, owned: *mut u8, owned_length: usize) -> u8;
+    fn levelspruce_card_order(
+        state: *mut u8, state_length: usize, commands: *const [u32; 3], commands_length: usize, answers: *mut u8, answers_length: usize,
+    ) -> u8;
     fn levelspruce_board_changes(
         before: *const u8, before_length: usize, after: *const u8, after_length: usize, changes: *mut u8, changes_length: usize,
     ) -> u8;
@@ -208,6 +211,14 @@ pub fn card_ranks(state: &[u8], group: u32, ranks: &mut [u8]) -> u8 {
 
 pub fn card_owned(state: &[u8], group: u32, owned: &mut [u8]) -> u8 {
     unsafe { levelspruce_card_owned(state.as_ptr(), state.len(), group, owned.as_mut_ptr(), owned.len()) }
+}
+
+pub fn card_order(state: &mut [u8], commands: &[[u32; 3]], answers: &mut [u8]) -> u8 {
+    unsafe {
+        levelspruce_card_order(
+            state.as_mut_ptr(), state.len(), commands.as_ptr(), commands.len(), answers.as_mut_ptr(), answers.len(),
+        )
+    }
 }
 
 pub fn board_changes(before: &[u8], after: &[u8], changes: &mut [u8]) -> u8 {

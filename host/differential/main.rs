@@ -4,6 +4,7 @@ mod boards;
 mod card;
 mod circuits;
 mod count;
+mod orders;
 mod packets;
 mod path;
 mod payloads;
@@ -19,6 +20,7 @@ fn main() {
     plans::compare(&mut count);
     senders::compare(&mut count);
     circuits::compare(&mut count);
+    orders::compare(&mut count);
     boards::compare(&mut count);
     receivers::compare(&mut count);
     std::process::exit(count.tally());

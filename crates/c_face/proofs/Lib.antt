@@ -1,4 +1,5 @@
 pub mod Answers
+pub mod Ordering
 pub mod Parts
 pub mod Pieces
 pub mod Planning

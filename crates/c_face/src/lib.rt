@@ -2,6 +2,7 @@
 mod boards;
 mod cards;
 mod changes;
+mod commands;
 mod keeping;
 mod packets;
 mod payloads;

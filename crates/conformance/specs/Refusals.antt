@@ -3,6 +3,7 @@ pub mod Cards
 pub mod CardStates
 pub mod Epochs
 pub mod Lines
+pub mod Orders
 pub mod Packets
 pub mod Paths
 pub mod Payloads
@@ -16,6 +17,7 @@ use Cards as card
 use CardStates as cardState
 use Epochs as sender
 use Lines as console
+use Orders as orders
 use Packets as packet
 use Paths as paths
 use Payloads as payload
@@ -63,6 +65,8 @@ entries =
     ∷ row "circuits::Card::outgoing" card.outgoing card.outgoing-copes
     ∷ row "circuits::Card::ranks" card.ranks card.ranks-copes
     ∷ row "circuits::Card::owned" card.owned card.owned-copes
+    ∷ row "orders::order" orders.order orders.order-copes
+    ∷ row "orders::order_of" orders.orderOf orders.orderOf-copes
     ∷ row "spoken::changes_between" spoken.changes spoken.changes-copes
     ∷ row "spoken::apply" spoken.apply spoken.apply-copes
     ∷ row "spoken::speak" spoken.speak spoken.speak-copes
@@ -106,6 +110,7 @@ entries =
     ∷ row "levelspruce_card_board_going" cardState.outgoing cardState.outgoing-copes
     ∷ row "levelspruce_card_ranks" cardState.ranked cardState.ranked-copes
     ∷ row "levelspruce_card_owned" cardState.owned cardState.owned-copes
+    ∷ row "levelspruce_card_order" orders.orderC orders.orderC-copes
     ∷ row "levelspruce_board_changes" spoken.changesC spoken.changesC-copes
     ∷ row "levelspruce_board_apply" spoken.applyC spoken.applyC-copes
     ∷ row "levelspruce_board_speak" spoken.speakC spoken.speakC-copes

@@ -55,14 +55,14 @@ put-sized g c state =
     length-fillAt (partAt g) 397 (byteAt (P.senderOf c g)) (fillAt 0 64 (ownerIn (c .owners)) state) ∙ length-fillAt 0 64 (ownerIn (c .owners)) state
 
 module _ (c : Card) (state : List ℕ) (sized : length state ≡ 858) where
-  own-part : (g : ℕ) → partIn g (putOwn g c state) ≡ bytesOf (P.senderOf c g)
+  pub own-part : (g : ℕ) → partIn g (putOwn g c state) ≡ bytesOf (P.senderOf c g)
   unfolding partIn putOwn bytesOf
   own-part g =
       let low = part-low g in
       let l : length (fillAt 0 64 (ownerIn (c .owners)) state) ≡ 858 = length-fillAt 0 64 (ownerIn (c .owners)) state ∙ sized in
       tabulate-ext 397 _ (byteAt (P.senderOf c g)) (λ k h. getD-fillAt (partAt g) 397 (byteAt (P.senderOf c g)) (fillAt 0 64 (ownerIn (c .owners)) state) k 0 h (omega arith))
 
-  own-row : (g : ℕ) → length (c .owners) ≡ 64 → ownersIn (putOwn g c state) ≡ c .owners
+  pub own-row : (g : ℕ) → length (c .owners) ≡ 64 → ownersIn (putOwn g c state) ≡ c .owners
   unfolding ownersIn putOwn
   own-row g whole = sym (tabulate-is (c .owners) 64 _ 0 whole (λ i h. sym (at i h)))
     where
@@ -85,7 +85,7 @@ beside c state (suc zero) zero hg hh n k b =
 beside c state (suc zero) (suc h) hg hh n k b = absurd (n (omega arith))
 beside c state (suc (suc g)) h hg hh n k b = absurd (omega arith)
 
-put-apart : (c : Card) (state : List ℕ) (g h : ℕ) → g < 2 → h < 2 → h ≢ g → partIn g (putOwn h c state) ≡ partIn g state
+pub put-apart : (c : Card) (state : List ℕ) (g h : ℕ) → g < 2 → h < 2 → h ≢ g → partIn g (putOwn h c state) ≡ partIn g state
 unfolding partIn
 put-apart c state g h hg hh n = tabulate-ext 397 _ _ (beside c state g h hg hh n)
 
@@ -219,7 +219,7 @@ pub step-refused : (c : Card) (g : ℕ) (k : Call) → (answerNumber (stepOf c g
 step-refused c g k =
     by-ways (λ r. (answerNumber (r .answer) ≡ 0 → ⊥) → r .card ≡ c) c g (λ a d. refl) (λ i m h d. absurd (d (marked-done c i m))) (λ s h d. sent-given c g s d) k
 
-no-group : (c : Card) (g : ℕ) (k : Call) → ltb g 2 ≡ false → stepOf c g k .card ≡ c
+pub no-group : (c : Card) (g : ℕ) (k : Call) → ltb g 2 ≡ false → stepOf c g k .card ≡ c
 no-group c g k e = by-ways (λ r. r .card ≡ c) c g (λ a. refl) (λ i m h. clash (ltb g 2) (lt-ltb g 2 h) e) (λ s h. clash (ltb g 2) (lt-ltb g 2 h) e) k
 
 -- a card whose senders and owner row are whole
