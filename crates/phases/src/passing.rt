@@ -88,7 +88,7 @@ fn pass_port(group: Group, store: &[u8], port: u8, state: &mut [[u8; 16]])
     let row = rows::packets::marks(state, port);
     let whole = marks::first(row);
     let nibbles = frames::packet_in(group, port, store);
-    let ruling = packet::ruling_of(group.kind, group.oldest, nibbles);
+    let ruling = step::ruling_of(group.kind, group.oldest, nibbles);
     let member = rows::member::get(state, port);
     let packets = rows::packets::get(state, port);
     let step = rows::step::get(state, port);
