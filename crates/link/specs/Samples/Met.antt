@@ -24,7 +24,7 @@ use Rattle.link.specs.Samples.Computing.{outcome}
 use Rattle.link.specs.Samples.Members.{came, client, damaged, history, link, linkBy, linkWith, sent, unranked}
 use Rattle.link.specs.Sending.{Client, epochAt}
 
-allowed : Allowed history
+pub allowed : Allowed history
 unfolding epochs
 allowed = record { some = omega arith; most = omega arith; first = omega arith; gid = λ i. omega arith; mst = λ i. omega arith; ack = λ i. omega arith }
 
@@ -51,7 +51,7 @@ damage =
       placed = λ k b. eqb-true (nibblePlace 0 (getD damaged k 0)) (nibblePlace 0 (getD whole k 0)) (below-at 16 (λ i. eqb (nibblePlace 0 (getD damaged i 0)) (nibblePlace 0 (getD whole i 0))) refl k b);
     }
 
-arrived : (i p : ℕ) → Arrived 0 3 (sent i p) (came i p)
+pub arrived : (i p : ℕ) → Arrived 0 3 (sent i p) (came i p)
 arrived i p = go (eqb i 8 && eqb p 0) refl
   where
     go : (b : Bool) → (eqb i 8 && eqb p 0) ≡ b → Arrived 0 3 (sent i p) (cond b damaged (sent i p))
@@ -59,7 +59,7 @@ arrived i p = go (eqb i 8 && eqb p 0) refl
     go false e = inl refl
 
 -- its MFI2 came as sent, and so did that of all others
-number-kept : (i p k : ℕ) → BringsMfi2 0 k → nibbleIn 0 (getD (came i p) k 0) ≡ nibbleIn 0 (getD (sent i p) k 0)
+pub number-kept : (i p k : ℕ) → BringsMfi2 0 k → nibbleIn 0 (getD (came i p) k 0) ≡ nibbleIn 0 (getD (sent i p) k 0)
 unfolding lead nibbleIn
 number-kept i p k brings = go (eqb i 8 && eqb p 0) refl
   where
