@@ -7,31 +7,34 @@ use Prim.Native.Nat.{ℕ, zero, suc, _+_, _-_, _*_, _/_, _%_, _≤_, _<_}
 use native.Mathlib.Omega.{arith}
 use borrow.Author.Tests.{eqb-true, ltb-true}
 use lib.Dec.{eqb, ltb}
-use lib.ListN.{drop, getD, length, length-replicate}
+use lib.ListN.{getD, length, length-replicate}
+use Rattle.counting.specs.Words.{every}
 use Rattle.ground.specs.Finite.{below-at}
 use Rattle.ground.specs.Table.{length-tabulate}
 use Rattle.ground.specs.Truth.{and-left, and-right}
+use Rattle.judge.specs.Verdict.{HELD, SURE}
 use Rattle.packet.specs.Counts.{nibbleIn, nibblePlace}
 use Rattle.packet.specs.Kinds.{firstTag, frames, lead, tags}
 use Rattle.packet.specs.Layout.{highsOf}
 use Rattle.packet.specs.Theorems.Damage.{changed}
 use Rattle.phases.specs.Sizes.{sized}
 use Rattle.step.specs.Laws.Run.{startFrom}
+use Rattle.step.specs.Own.{ownNumber}
 use Rattle.link.specs.Assumed.{Assumed}
 use Rattle.link.specs.Demand3.{Demand3}
 use Rattle.link.specs.History.{xAt}
-use Rattle.link.specs.Link.{Arrived, BringsMfi2, Damaged, Link, NumberKept, roadOf}
-use Rattle.link.specs.Moments.{NotAfter, Ready, Unready, coming, nextAt}
+use Rattle.link.specs.Link.{Arrived, Damaged, Link, NumberKept, expected, roadOf}
+use Rattle.link.specs.Moments.{Ready, Unready, coming, nextAt}
 use Rattle.link.specs.Proofs.Transport.Times.{coming-is}
 use Rattle.link.specs.Road.{times}
 use Rattle.link.specs.Samples.Computing.{outcome}
-use Rattle.link.specs.Samples.Members.{came, client, history, linkOf, sent, unranked}
+use Rattle.link.specs.Samples.Members.{came, client, history, linkOf, output, sent, unranked}
 use Rattle.link.specs.Samples.Met.{allowed, arrived, number-kept, once, only, spread-4}
-use Rattle.link.specs.Samples.Reports.{held, reports}
-use Rattle.link.specs.Sending.{epochAt}
+use Rattle.link.specs.Samples.Reports.{held, reportsWith}
+use Rattle.link.specs.Sending.{epochAt, epochNumber, nibblesIn}
 use Rattle.link.specs.Theorems.{demand3}
 
--- Receiving begins in frame time 55. Port 1's packet of the epoch at index 3 is then half there: its MFI2 comes in frame times 56 and 57. Port 0's of the next epoch comes later, and rules the first report.
+-- Receiving begins in frame time 55. Port 1's packet of the epoch at index 3 is then half there: its MFI2 comes in frame times 56 and 57. Port 0's of the epoch at index 5 comes later: it stands in the first epoch that is reported, and rules the second.
 
 abbrev half : List ℕ
 half = 0xF8 ∷ 0xF9 ∷ 0x0A ∷ 0x0B ∷ 0x0C ∷ 0x0D ∷ 0x0E ∷ 0x0F ∷ 0xF0 ∷ 0xC1 ∷ 0x32 ∷ 0x13 ∷ 0x04 ∷ 0x05 ∷ 0x36 ∷ 0xE7 ∷ []
@@ -40,16 +43,16 @@ abbrev half-hit : List ℕ
 half-hit = 0xF8 ∷ 0xF9 ∷ 0x0A ∷ 0x0B ∷ 0x0C ∷ 0x0D ∷ 0x0E ∷ 0x0F ∷ 0xE0 ∷ 0xD1 ∷ 0x32 ∷ 0x13 ∷ 0x04 ∷ 0x05 ∷ 0x36 ∷ 0xE7 ∷ []
 
 abbrev next : List ℕ
-next = 0xF8 ∷ 0xF9 ∷ 0x0A ∷ 0x0B ∷ 0x0C ∷ 0x0D ∷ 0x0E ∷ 0x1F ∷ 0xF0 ∷ 0xD1 ∷ 0x12 ∷ 0x13 ∷ 0x04 ∷ 0x05 ∷ 0xE6 ∷ 0xD7 ∷ []
+next = 0xF8 ∷ 0xF9 ∷ 0x0A ∷ 0x0B ∷ 0x0C ∷ 0x0D ∷ 0x0E ∷ 0x1F ∷ 0xF0 ∷ 0xE1 ∷ 0x32 ∷ 0x13 ∷ 0x04 ∷ 0x05 ∷ 0xF6 ∷ 0xE7 ∷ []
 
 abbrev next-hit : List ℕ
-next-hit = 0xF8 ∷ 0xF9 ∷ 0x0A ∷ 0x0B ∷ 0x0C ∷ 0x0D ∷ 0x0E ∷ 0x1F ∷ 0xE0 ∷ 0xC1 ∷ 0x12 ∷ 0x13 ∷ 0x04 ∷ 0x05 ∷ 0xE6 ∷ 0xD7 ∷ []
+next-hit = 0xF8 ∷ 0xF9 ∷ 0x0A ∷ 0x0B ∷ 0x0C ∷ 0x0D ∷ 0x0E ∷ 0x1F ∷ 0xE0 ∷ 0xF1 ∷ 0x32 ∷ 0x13 ∷ 0x04 ∷ 0x05 ∷ 0xF6 ∷ 0xE7 ∷ []
 
 half-sent : sent 3 1 ≡ half
 unfolding outcome
 half-sent = refl
 
-next-sent : sent 4 0 ≡ next
+next-sent : sent 5 0 ≡ next
 unfolding outcome
 next-sent = refl
 
@@ -84,7 +87,7 @@ next-damage =
     }
 
 abbrev came-after : ℕ → ℕ → List ℕ
-came-after i p = cond (eqb i 3 && eqb p 1) half-hit (cond (eqb i 4 && eqb p 0) next-hit (came i p))
+came-after i p = cond (eqb i 3 && eqb p 1) half-hit (cond (eqb i 5 && eqb p 0) next-hit (came i p))
 
 abbrev after : Link
 after = linkOf came-after client 4 (λ t. eqb (t % 2) 0)
@@ -92,13 +95,13 @@ after = linkOf came-after client 4 (λ t. eqb (t % 2) 0)
 arrived-after : (i p : ℕ) → Arrived 0 3 (sent i p) (came-after i p)
 arrived-after i p = go (eqb i 3 && eqb p 1) refl
   where
-    other : (b : Bool) → (eqb i 4 && eqb p 0) ≡ b → Arrived 0 3 (sent i p) (cond b next-hit (came i p))
-    other true e = let hi = eqb-true i 4 (and-left (eqb i 4) (eqb p 0) e) in let hp = eqb-true p 0 (and-right (eqb i 4) (eqb p 0) e) in inr (rw (hi, hp, next-sent) next-damage)
+    other : (b : Bool) → (eqb i 5 && eqb p 0) ≡ b → Arrived 0 3 (sent i p) (cond b next-hit (came i p))
+    other true e = let hi = eqb-true i 5 (and-left (eqb i 5) (eqb p 0) e) in let hp = eqb-true p 0 (and-right (eqb i 5) (eqb p 0) e) in inr (rw (hi, hp, next-sent) next-damage)
     other false e = arrived i p
 
-    go : (b : Bool) → (eqb i 3 && eqb p 1) ≡ b → Arrived 0 3 (sent i p) (cond b half-hit (cond (eqb i 4 && eqb p 0) next-hit (came i p)))
+    go : (b : Bool) → (eqb i 3 && eqb p 1) ≡ b → Arrived 0 3 (sent i p) (cond b half-hit (cond (eqb i 5 && eqb p 0) next-hit (came i p)))
     go true e = let hi = eqb-true i 3 (and-left (eqb i 3) (eqb p 1) e) in let hp = eqb-true p 1 (and-right (eqb i 3) (eqb p 1) e) in inr (rw (hi, hp, half-sent) half-damage)
-    go false e = other (eqb i 4 && eqb p 0) refl
+    go false e = other (eqb i 5 && eqb p 0) refl
 
 -- After frame time 55 all ports were ready.
 
@@ -151,16 +154,16 @@ spared-after t p done un brings = go (eqb (epochAt 0 x) 3 && eqb p 1) refl
         let low : 48 ≤ t - cond (eqb p 0) 4 0 = omega arith in
         ⊎-elim (λ (b : (t - cond (eqb p 0) 4 0) % 16 ≡ 8). omega arith) (λ (b : (t - cond (eqb p 0) 4 0) % 16 ≡ 8 + 1). omega arith) brings
 
-    other : (b : Bool) → (eqb (epochAt 0 (t - cond (eqb p 0) 4 0)) 4 && eqb p 0) ≡ b
+    other : (b : Bool) → (eqb (epochAt 0 (t - cond (eqb p 0) 4 0)) 5 && eqb p 0) ≡ b
         → nibbleIn 0 (getD (cond b next-hit (came (epochAt 0 (t - cond (eqb p 0) 4 0)) p)) ((t - cond (eqb p 0) 4 0) % 16) 0) ≡ nibbleIn 0 (getD (sent (epochAt 0 (t - cond (eqb p 0) 4 0)) p) ((t - cond (eqb p 0) 4 0) % 16) 0)
-    other true e = absurd (later-not t done (late 4 (omega arith) (eqb-true (epochAt 0 (t - cond (eqb p 0) 4 0)) 4 (and-left (eqb (epochAt 0 (t - cond (eqb p 0) 4 0)) 4) (eqb p 0) e))) un)
+    other true e = absurd (later-not t done (late 5 (omega arith) (eqb-true (epochAt 0 (t - cond (eqb p 0) 4 0)) 5 (and-left (eqb (epochAt 0 (t - cond (eqb p 0) 4 0)) 5) (eqb p 0) e))) un)
     other false e = number-kept (epochAt 0 (t - cond (eqb p 0) 4 0)) p ((t - cond (eqb p 0) 4 0) % 16) brings
 
     go : (b : Bool) → (eqb (epochAt 0 (t - cond (eqb p 0) 4 0)) 3 && eqb p 1) ≡ b
-        → nibbleIn 0 (getD (cond b half-hit (cond (eqb (epochAt 0 (t - cond (eqb p 0) 4 0)) 4 && eqb p 0) next-hit (came (epochAt 0 (t - cond (eqb p 0) 4 0)) p))) ((t - cond (eqb p 0) 4 0) % 16) 0)
+        → nibbleIn 0 (getD (cond b half-hit (cond (eqb (epochAt 0 (t - cond (eqb p 0) 4 0)) 5 && eqb p 0) next-hit (came (epochAt 0 (t - cond (eqb p 0) 4 0)) p))) ((t - cond (eqb p 0) 4 0) % 16) 0)
         ≡ nibbleIn 0 (getD (sent (epochAt 0 (t - cond (eqb p 0) 4 0)) p) ((t - cond (eqb p 0) 4 0) % 16) 0)
     go true e = absurd (later-not t done (late 3 (omega arith) (eqb-true (epochAt 0 (t - cond (eqb p 0) 4 0)) 3 (and-left (eqb (epochAt 0 (t - cond (eqb p 0) 4 0)) 3) (eqb p 1) e))) un)
-    go false e = other (eqb (epochAt 0 (t - cond (eqb p 0) 4 0)) 4 && eqb p 0) refl
+    go false e = other (eqb (epochAt 0 (t - cond (eqb p 0) 4 0)) 5 && eqb p 0) refl
 
 -- It meets what demand 3 lets be so.
 met-after : Assumed after
@@ -190,10 +193,18 @@ met-after =
 holds-after : Demand3 after
 holds-after = demand3 after met-after
 
--- Its run is the sample's but for the first report, which is held for the packet that rules it. No frame is answered otherwise than by 0 or 12.
-run-after : outcome after 180 ≡ record { begun = 1; told = held 254 ∷ drop 1 reports; strange = [] }
-unfolding outcome reports
+-- Its run is the sample's but for the second report, which is held for the packet that rules it. No frame is answered otherwise than by 0 or 12.
+run-after : outcome after 180 ≡ record { begun = 1; told = reportsWith (held 255); strange = [] }
+unfolding outcome
 run-after = refl
+
+-- A wrong reading: an epoch held for the MFI2 of a packet of its own. The first epoch reported is ruled by packets that came as sent, so demand 3 wants it sure.
+wrong-mark : Link → ℕ → ℕ
+wrong-mark k i = cond (every 2 (λ p. ownNumber (epochNumber 0 249 i) (nibblesIn 0 (k .came i p)))) SURE HELD
+
+own-breaks : (wrong-mark after 5 ≡ HELD) × (expected after 4 output .mark ≡ SURE)
+unfolding outcome wrong-mark nibblesIn
+own-breaks = (refl, refl)
 
 -- Before it begins: the low nibble of MFI2 in port 1's packet of the epoch at index 2 comes in frame time 41.
 
