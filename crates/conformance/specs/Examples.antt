@@ -2,7 +2,7 @@
 use mathlib.Core.Path.{refl}
 use mathlib.Core.Bool.{cond}
 use mathlib.Core.List.{List, [], _∷_, _++_}
-use Prim.Native.Nat.{ℕ, zero, suc, _+_}
+use Prim.Native.Nat.{ℕ, _+_}
 use lib.ListN.{length, replicate}
 use Rattle.packet.specs.declared.layout.Fields.{Fields}
 use Rattle.packet.specs.Crc.{byteBits, crcOf, divisor, nibbleBits}
@@ -40,10 +40,7 @@ use Rattle.phases.specs.Settling.{beginBy, begunOf, clearedPort, clearedPorts, 
 use Rattle.phases.specs.Sizes.{portsIn, storeFor}
 use Rattle.phases.specs.Sizes.{sized as sizedGroup}
 use Rattle.receiver.specs.Frame.{frameAnswer, frameRows, frameStore, gatheredBy, marksBy, portRows, refusalBy, settledBy, storeBy, takenRows, takenStore}
-use Rattle.receiver.specs.Fetch.{dueIn, fetchAnswer, fetchRows, rowsIfDue}
-use Rattle.receiver.specs.Fetch.{fits as fetchGoes}
-use Rattle.receiver.specs.Lengths.{fetchFits, frameFits, outputFor, rowsFit}
-use Rattle.receiver.specs.Report.{reportedOf, statePut, statesPut, statesWorkedOut, withState}
+use Rattle.receiver.specs.Lengths.{frameFits, rowsFit}
 use Rattle.receiver.specs.Starting.{freshPort, freshPorts, sizedAnswer, sizedRows, startAnswer, startFits, startRows}
 use Rattle.rows.specs.Group.{groupAt, groupOf, groupRow, putGroup}
 use Rattle.rows.specs.Member.{memberAt, memberOf, memberRow, putMember}
@@ -73,7 +70,7 @@ use Rattle.step.specs.Own.{endsOdd, oddPacket, ownNumber}
 use Rattle.step.specs.Run.{begunRun, breaksAfter, endsPacket, furtherRun, gainedRun, inStepAt, loses, oddAfter, runOn, secondRun, stayedRun}
 use Rattle.store.specs.Frames.{byteAt, h4At, packetIn, placeIn, ringOf, storedAt}
 use Rattle.store.specs.Marks.{cutByte, cutFrom, firstMark, markedAt, markedByte, passedByte, passedMarks}
-use Rattle.conformance.specs.Hosts.{Host, begun, counting, damagedWith, fed, fedWith, fetched, handed, opened, openedWith, packetWith, stored}
+use Rattle.conformance.specs.Hosts.{Host, begun, counting, fed, handed, opened, openedWith, stored}
 use Rattle.conformance.specs.Rows.{Row, Equal, equal-rows}
 
 -- nibbles two by two, as 01 writes a packet's data and CRC
@@ -165,14 +162,6 @@ sayable cs = cond (canSpeak cs) 1 0
 abbrev p5 : Host
 p5 = fed 0 32 4064 (opened 1 16)
 
--- then frames that carry the tags 1, 2, 3 and on: n of them
-abbrev broken : ℕ → Host
-broken n = fed 0 n 1 p5
-
--- W is 64. One port in step, its latest tag 39, so that the next epoch starts.
-abbrev at40 : Host
-at40 = fed 0 40 0 (opened 1 64)
-
 -- W is 32. Both ports in step, the latest tag of port 0 is 31, that of port 1 is apart frames more; port 0 comes into step last.
 abbrev apart : ℕ → Host
 apart frames = fed 0 32 0 (fed 1 (frames + 16) 16 (opened 2 32))
@@ -180,11 +169,6 @@ apart frames = fed 0 32 0 (fed 1 (frames + 16) 16 (opened 2 32))
 -- W is 16. The port joined at tag 40, and the epoch from there on is gathered; so the window's first frame has the tag 56.
 abbrev joined56 : ℕ → Host
 joined56 frames = fed 0 (56 + frames) 0 (opened 1 16)
-
--- The tag to come is 70, and 72 is the first outside the window: frames that carry the tag 3, n of them.
-abbrev broken11 : ℕ → Host
-broken11 zero = joined56 14
-broken11 (suc n) = handed 0 3 (broken11 n)
 
 -- four candidate paths
 abbrev four : List ℕ
@@ -274,33 +258,6 @@ table =
     ∷ record { name = "P4 CRC of the last bit alone"; given = crcOf (replicate 13 0 ++ (1 ∷ [])) ∷ []; said = 0x07 ∷ [] }
     ∷ record { name = "P5: tag 4,095 then 0 keeps step"; given = p5 .answer ∷ handed 0 0 p5 .answer ∷ []; said = 0 ∷ 0 ∷ [] }
     ∷ record { name = "P5: 4,095 then 1 keeps step, with tag 0 counted"; given = p5 .answer ∷ counting 0 (handed 0 1 p5); said = 0 ∷ 0 ∷ 1 ∷ 32 ∷ 1 ∷ [] }
-    ∷ record {
-      name = "4,095 and then frames that carry 1, 2, 3 and 4";
-      given = counting 0 (broken 1) ++ (counting 0 (broken 2) ++ (counting 0 (broken 3) ++ counting 0 (broken 4)));
-      said = 0 ∷ 1 ∷ 32 ∷ 1 ∷ 0 ∷ 2 ∷ 32 ∷ 2 ∷ 0 ∷ 3 ∷ 32 ∷ 3 ∷ 12 ∷ 0 ∷ 0 ∷ 0 ∷ [];
-    }
-    ∷ record { name = "4,095, then 1, then 1: the row of breaks is none again"; given = counting 0 (handed 0 1 (handed 0 1 p5)); said = 0 ∷ 2 ∷ 32 ∷ 0 ∷ [] }
-    ∷ record {
-      name = "a fourth break with MFI1 0 is the first of a new 32";
-      given = handed 0 0 (broken 3) .answer ∷ fed 0 30 1 (handed 0 0 (broken 3)) .answer ∷ fed 0 31 1 (handed 0 0 (broken 3)) .answer ∷ [];
-      said = 12 ∷ 12 ∷ 0 ∷ [];
-    }
-    ∷ record {
-      name = "a switch by one multiframe at an epoch start, CRC right: 31 frames 0, the 32nd 12";
-      given = fedWith packetWith 0 31 56 at40 .answer ∷ fedWith packetWith 0 32 56 at40 .answer ∷ [];
-      said = 0 ∷ 12 ∷ [];
-    }
-    ∷ record {
-      name = "the same with the first packet's CRC wrong: 12 sixteen frames later";
-      given = fedWith packetWith 0 31 72 (fedWith damagedWith 0 16 56 at40) .answer ∷ fedWith packetWith 0 32 72 (fedWith damagedWith 0 16 56 at40) .answer ∷ [];
-      said = 0 ∷ 12 ∷ [];
-    }
-    ∷ record {
-      name = "four breaks with a frame answered 11 between, which is not counted";
-      given = broken11 1 .answer ∷ broken11 2 .answer ∷ broken11 3 .answer ∷ handed 0 3 (fetched (broken11 3)) .answer ∷ handed 0 3 (handed 0 3 (fetched (broken11 3))) .answer ∷ [];
-      said = 0 ∷ 0 ∷ 11 ∷ 0 ∷ 12 ∷ [];
-    }
-    ∷ record { name = "a fourth break outside the window is 12 and not 11"; given = handed 0 3 (handed 0 3 (handed 0 3 (handed 0 3 (joined56 13)))) .answer ∷ []; said = 12 ∷ [] }
     ∷ record {
       name = "P6 spread: X 3, P 2, bytes 0 to 5";
       given = numberOf (wholeAnswer 3 2 6 6) ∷ spreadAll 3 2 (0 ∷ 1 ∷ 2 ∷ 3 ∷ 4 ∷ 5 ∷ []) (replicate 6 0);
@@ -426,5 +383,5 @@ table =
     ∷ []
 
 pub examples : Equal table
-unfolding table comparedOf changesOf changesIn listOf noChanges appliedOf fits changesFit withChanges spokenText changeText wasText nowText rowText spokenSlot waitLine canSpeak changesSpeak beginOf freshSender startEpochOf startedSender startedEpoch nibblesOf sealedOf dataOf crcOf divisor byteBits nibbleBits writeAnswer writeBytes fitting assigned h4Of readAnswer readNibbles fieldsOf carriedIn highsOf boardOf rowsOf rowOf noRow highest startOf freshOf idleSlot idleNumber addOf addedTo removeOf removedFrom fallen fallenIn lapseOf reportOf waited actedOn mstApplied numberApplied holderOf renumbered slotAfter numberAfter comesBefore turnOf opensWait sizeOf membersOf mstFails mstFirst mstNumbers wholeOutput beginning linesOf fieldsIn lineOf wordLine numberLine reportLine reportIn numberIn digitOf hexOf replyOf sizeReply outputOf answerText boardText slotText waitText wordText decimalText afterOn nibbleIn nibblePlace startsCount tagByHigh carriesLow tagByLow counts endsEpoch epochsIn frames tagAfter tagBefore tags lead epochs epochAfter epochOf distanceOf placeOf startsEpoch firstTag settledOf clearedStep clearedPort clearedPorts stoppedOf stopBy begunOf beginBy gatherBy portsIn sizedGroup storeFor ready latest noTag further foremost within begins owesNothing brought silent ruledBy passedStep notedBy passedPort passedPorts passedGroup passedOf frameFits rowsFit frameAnswer frameRows frameStore gatheredBy marksBy portRows storeBy settledBy takenRows takenStore refusalBy startAnswer startRows startFits sizedAnswer sizedRows freshPort freshPorts groupAt groupOf groupRow putGroup rowIn putRow marksAt packetsAt putMarks putPackets memberAt putMember memberOf memberRow putStep stepAt stepIn stepRow takenOf inStep readable distanceIn flagged countsOn frameDropped outside keeps joining byWindow byStart arrives inStepAt begunRun secondRun furtherRun gainedRun stayedRun loses breaksAfter oddAfter endsPacket endsOdd oddPacket ownNumber fetchAnswer fetchRows fetchGoes rowsIfDue dueIn fetchFits outputFor reportedOf statesWorkedOut statesPut statePut withState runOn placeIn storedAt ringOf byteAt h4At packetIn cutFrom markedAt firstMark markedByte cutByte passedByte passedMarks answerOf areShort setOf proposed tightestOf ranksOf rankOf candidateAt sortedBy checkedOf accepts agreesWith agree
+unfolding table comparedOf changesOf changesIn listOf noChanges appliedOf fits changesFit withChanges spokenText changeText wasText nowText rowText spokenSlot waitLine canSpeak changesSpeak beginOf freshSender startEpochOf startedSender startedEpoch nibblesOf sealedOf dataOf crcOf divisor byteBits nibbleBits writeAnswer writeBytes fitting assigned h4Of readAnswer readNibbles fieldsOf carriedIn highsOf boardOf rowsOf rowOf noRow highest startOf freshOf idleSlot idleNumber addOf addedTo removeOf removedFrom fallen fallenIn lapseOf reportOf waited actedOn mstApplied numberApplied holderOf renumbered slotAfter numberAfter comesBefore turnOf opensWait sizeOf membersOf mstFails mstFirst mstNumbers wholeOutput beginning linesOf fieldsIn lineOf wordLine numberLine reportLine reportIn numberIn digitOf hexOf replyOf sizeReply outputOf answerText boardText slotText waitText wordText decimalText afterOn nibbleIn nibblePlace startsCount tagByHigh carriesLow tagByLow counts endsEpoch epochsIn frames tagAfter tagBefore tags lead epochs epochAfter epochOf distanceOf placeOf startsEpoch firstTag settledOf clearedStep clearedPort clearedPorts stoppedOf stopBy begunOf beginBy gatherBy portsIn sizedGroup storeFor ready latest noTag further foremost within begins owesNothing brought silent ruledBy passedStep notedBy passedPort passedPorts passedGroup passedOf frameFits rowsFit frameAnswer frameRows frameStore gatheredBy marksBy portRows storeBy settledBy takenRows takenStore refusalBy startAnswer startRows startFits sizedAnswer sizedRows freshPort freshPorts groupAt groupOf groupRow putGroup rowIn putRow marksAt packetsAt putMarks putPackets memberAt putMember memberOf memberRow putStep stepAt stepIn stepRow takenOf inStep readable distanceIn flagged countsOn frameDropped outside keeps joining byWindow byStart arrives inStepAt begunRun secondRun furtherRun gainedRun stayedRun loses breaksAfter oddAfter endsPacket endsOdd oddPacket ownNumber runOn placeIn storedAt ringOf byteAt h4At packetIn cutFrom markedAt firstMark markedByte cutByte passedByte passedMarks answerOf areShort setOf proposed tightestOf ranksOf rankOf candidateAt sortedBy checkedOf accepts agreesWith agree
 examples = equal-rows table refl

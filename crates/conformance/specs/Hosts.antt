@@ -8,7 +8,7 @@ use Rattle.packet.specs.Kinds.{epochOf, placeOf}
 use Rattle.packet.specs.Layout.{h4Of, nibblesOf}
 use Rattle.packet.specs.Words.{IDLE}
 use Rattle.phases.specs.Sizes.{portsIn}
-use Rattle.receiver.specs.Fetch.{fetchAnswer, fetchRows}
+use Rattle.receiver.specs.Fetch.{fetchRows}
 use Rattle.receiver.specs.Frame.{frameAnswer, frameRows, frameStore}
 use Rattle.receiver.specs.Starting.{startAnswer, startRows}
 use Rattle.rows.specs.Group.{groupAt}
@@ -72,9 +72,9 @@ abbrev pub fedWith : (ℕ → ℕ) → ℕ → ℕ → ℕ → Host → Host
 fedWith h4 port zero t h = h
 fedWith h4 port (suc n) t h = fedWith h4 port n ((t + 1) % 4096) (handedAs false port (h4 t) (payloadWith t) h)
 
--- one fetch
+-- one fetch, whose answer is left out
 abbrev pub fetched : Host → Host
-fetched h = record { answer = fetchAnswer (h .rows) (h .store) (replicate 16 0) (replicate 8 0); rows = fetchRows (h .rows) (h .store) (replicate 16 0) (replicate 8 0); store = h .store }
+fetched h = record { answer = h .answer; rows = fetchRows (h .rows) (h .store) (replicate 16 0) (replicate 8 0); store = h .store }
 
 -- the answer, and of a port the tag to come, the frames counted, and the breaks in a row
 abbrev pub counting : ℕ → Host → List ℕ
