@@ -3,8 +3,8 @@
 use crate::count::Count;
 use crate::limits::{begun_at, in_step_at};
 use crate::source::{h4, packet, payload, Lent, Says, SAYS_IDLE};
-use reference::packet::{crc, EOS, NORM};
-use reference::receiver::{first_tag, Flag, Port, Report, HELD, SURE, TAGS};
+use reference::packet::{crc, write, Fields, EOS, IDLE, NORM};
+use reference::receiver::{epoch_of, first_tag, Flag, Port, Report, HELD, SURE, TAGS};
 
 pub fn check(count: &mut Count) {
     count.note("P5: tag 4095 then 0 keeps step, and then 1 does, with tag 0 counted", over_4095());
@@ -13,6 +13,7 @@ pub fn check(count: &mut Count) {
     count.note("a fourth break of MFI1 0 is the first of a new 32, an earlier one is not", starts_anew());
     count.note("a frame answered 11 is no break", outside_is_no_break());
     count.note("a switch by one multiframe loses step with the second packet's end", switches());
+    count.note("a switch by one multiframe at any place loses step 23 to 47 frames later", switches_anywhere());
     count.note("step is lost exactly so, on any record and frame", lost_exactly_so());
     count.note("a port that has not joined is judged alike", unjoined_alike());
     count.note("one hit in any bit of any frame costs one epoch at most", one_hit());
@@ -103,6 +104,28 @@ fn switches() -> bool {
             && frames_kept(*by, &[0, damaged]) == 63
             && frames_kept(*by, &[damaged, damaged, 0, damaged]) == 95
     }) && frames_kept(0, &[]) == 200
+}
+
+/// The frames of a switch at this place up to the 12. MST, which stands first in a packet, is one in all packets or is not.
+fn frames_to_12(place: usize, alike: bool) -> usize {
+    let start = 16 * 20 + 8;
+    let mut lent = in_step_at(start - 1);
+    let sent = |tag: usize| {
+        let epoch = epoch_of(tag).into();
+        let fields = Fields { epoch, word: IDLE, gid: 0, mst: if alike { 255 } else { epoch * 16 % 256 }, rs_ack: 0, sq: 255, reserved: 0 };
+        let mut h4 = [0; 16];
+        assert_eq!(write(&fields, &mut h4), 0);
+        h4[(tag + 8) % 16]
+    };
+    let lost = (0..200).find(|k| lent.hand(0, false, sent(start + k + if *k < place { 0 } else { 16 }), &[0]) == 12);
+    lost.map_or(0, |k| k + 1 - place)
+}
+
+fn switches_anywhere() -> bool {
+    let frames = |alike: bool| (0..16).map(|place| frames_to_12(place, alike)).collect::<Vec<_>>();
+    // the packet that the switch falls into is whole, with the other number, or its CRC is wrong
+    let expected = |whole: usize| (0..16).map(|place| if place < whole { 32 - place } else { 48 - place }).collect::<Vec<_>>();
+    frames(true) == expected(10) && frames(false) == expected(1)
 }
 
 /// A record in step: any own tag, breaks, odd and row.
