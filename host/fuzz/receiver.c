@@ -4,7 +4,7 @@
 
 #include "rooms.h"
 
-/* What libFuzzer takes for new, since it cannot see into the archive: answers and marks in each phase of receiving. */
+/* What libFuzzer takes for new, since it cannot see into the archive: answers, marks and steps in each phase of receiving. */
 __attribute__((section("__libfuzzer_extra_counters"))) static uint8_t counters[4 * 64];
 
 /* All that is lent, for the group of the latest start. */
@@ -30,6 +30,15 @@ static void note(const struct lent *l, int call, uint32_t what)
     uint32_t phase = l->state.length < 8 ? 3 : l->state.bytes[6] == 0 ? 0 : l->state.bytes[7] == 0 ? 1 : 2;
 
     counters[phase * 64 + (uint32_t)call * 16 + what % 16] = 1;
+}
+
+/* Notes the breaks in a row of a port in step, and whether its last packet was odd. */
+static void note_step(const struct lent *l, uint32_t port)
+{
+    size_t row = LEVELSPRUCE_RECEIVER_ROWS((size_t)port) * LEVELSPRUCE_ROW_BYTES;
+
+    if (port < l->ports && row + LEVELSPRUCE_ROW_BYTES <= l->state.length && l->state.bytes[row + 2] >= 32)
+        note(l, 3, l->state.bytes[row + 9] % 4u + 4 * (l->state.bytes[row + 10] != 0));
 }
 
 static void start(struct lent *l, struct program *g)
@@ -89,6 +98,7 @@ static void frame(struct lent *l, struct program *g, uint32_t port, uint32_t fai
     put_back(l->state, state);
     put_back(l->store, store);
     note(l, 0, answer);
+    note_step(l, port);
     if (port < l->ports && answer != 11)
         l->tag[port] = (l->tag[port] + 1) % 4096;
 }
@@ -103,10 +113,10 @@ static void frames(struct lent *l, struct program *g)
 
     while (times-- > 0)
         for (port = 0; port < l->ports; port++) {
-            uint32_t tag = l->tag[port], last = port + 1 == l->ports;
+            uint32_t tag = l->tag[port], epoch = (tag + 8) % 4096 / 16, last = port + 1 == l->ports;
 
-            if (levelspruce_packet_write((tag + 8) % 4096 / 16, word < 200 ? words[last] : words[word % 5], 0, 0, 0, port,
-                                         (tag * 40503 + word) % (LEVELSPRUCE_RESERVED_MOST + 1), h4, sizeof h4) != LEVELSPRUCE_ANSWER_DONE)
+            if (levelspruce_packet_write(epoch, word < 200 ? words[last] : words[word % 5], 0, 0, 0, port,
+                                         (epoch * 40503 + word) % (LEVELSPRUCE_RESERVED_MOST + 1), h4, sizeof h4) != LEVELSPRUCE_ANSWER_DONE)
                 fail("a packet was refused");
             frame(l, &right, port, 0, h4[(tag + 8) % 16]);
         }
@@ -179,7 +189,7 @@ int LLVMFuzzerTestOneInput(const uint8_t *data, size_t size)
         case 3: fetch(&l, &g); break;
         case 4: read_out(&l, &g); break;
         case 5: damage(&l, &g); break;
-        case 6: l.tag[byte_of(&g) % LEVELSPRUCE_PORTS_MOST] = number_of(&g) % 4096; break;
+        case 6: { uint32_t port = byte_of(&g) % LEVELSPRUCE_PORTS_MOST; l.tag[port] = number_of(&g) % 4096; break; }
         default: fetch(&l, &g); fetch(&l, &g); break;
         }
     free(l.state.bytes);
