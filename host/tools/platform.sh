@@ -31,6 +31,11 @@ aarch64)
             gcc -std=c99 -O2 -fPIC -Iinclude -c host/library/texts.c -o target/host/texts.o &&
             ar rcs "$own_library" target/host/c_face.o target/host/texts.o
     }
+    # The words with which COMPILER compiles for this very processor. clang 14 believes the processor's name, though a
+    # virtual machine may hide its scalable vectors: such code stops at an illegal instruction.
+    tuned_for() {
+        if [ "$1" = clang ] && ! grep -qw sve /proc/cpuinfo; then echo -mcpu=native+nosve; else echo -mcpu=native; fi
+    }
     # a program of x86-64 that finds its libraries, and those in the folder FOLDER, while it runs
     run_shared_program() { LD_LIBRARY_PATH='' "$emulator" -L /usr/x86_64-linux-gnu -E LD_LIBRARY_PATH="$1" "$2"; }
     ;;
@@ -43,6 +48,7 @@ aarch64)
     own_library=$archive
     own_library_possible() { :; }
     make_own_library() { :; }
+    tuned_for() { :; }
     run_shared_program() { LD_LIBRARY_PATH=$1 "$2"; }
     ;;
 esac

@@ -8,6 +8,7 @@ use Rattle.packet.specs.declared.layout.Fields.{Fields}
 use Rattle.packet.specs.Crc.{byteBits, crcOf, divisor, nibbleBits}
 use Rattle.packet.specs.Layout.{byteOf, carriedIn, dataOf, fieldsOf, h4Of, highsOf, nibblesOf, sealedOf}
 use Rattle.packet.specs.Reading.{readAnswer, readNibbles, readingNumber, readingValues}
+use Rattle.packet.specs.Shares.{joinedTo, shareOf}
 use Rattle.packet.specs.Words.{FIXED, ADD, NORM, EOS, IDLE, DNU, assigned}
 use Rattle.packet.specs.Writing.{fitting, writeAnswer, writeBytes, writingNumber}
 use Rattle.text.specs.Ascii.{ascii}
@@ -30,6 +31,7 @@ use Rattle.paths.specs.Planning.{proposed, setOf, tightestOf}
 use Rattle.payload.specs.Answers.{numberOf}
 use Rattle.payload.specs.Joining.{joined, wholeAnswer}
 use Rattle.payload.specs.Spreading.{spreadAll}
+use Rattle.ground.specs.Table.{tabulate}
 use Rattle.ground.specs.Circle.{after as afterOn}
 use Rattle.packet.specs.Counts.{tagByHigh, tagByLow, counts, carriesLow, nibbleIn, nibblePlace, startsCount}
 use Rattle.packet.specs.Kinds.{distanceOf, endsEpoch, epochAfter, epochOf, epochs, epochsIn, firstTag, frames, idleNumber, lead, mstFails, mstFirst, mstNumbers, placeOf, startsEpoch, tagAfter, tagBefore, tags}
@@ -256,6 +258,22 @@ table =
     }
     ∷ record { name = "P3 CRC of 56 zero bits"; given = crcOf (replicate 14 0) ∷ []; said = 0x00 ∷ [] }
     ∷ record { name = "P4 CRC of the last bit alone"; given = crcOf (replicate 13 0 ++ (1 ∷ [])) ∷ []; said = 0x07 ∷ [] }
+    ∷ record {
+      name = "the share of 01 at places 0 to 6";
+      given = tabulate 7 (λ p. shareOf p 0x01);
+      said = 0xDF ∷ 0x29 ∷ 0x62 ∷ 0x16 ∷ 0x6B ∷ 0x15 ∷ 0x07 ∷ [];
+    }
+    ∷ record {
+      name = "the share of FF at places 0 to 6";
+      given = tabulate 7 (λ p. shareOf p 0xFF);
+      said = 0x44 ∷ 0xAF ∷ 0x39 ∷ 0xD1 ∷ 0x2B ∷ 0xD7 ∷ 0xF3 ∷ [];
+    }
+    ∷ record {
+      name = "the shares of P1's bytes, and they join to its CRC";
+      given = shareOf 0 0xFF ∷ shareOf 3 0xFF ∷ shareOf 5 0x50 ∷ joinedTo 7 (nibblesOf p1) ∷ [];
+      said = 0x44 ∷ 0xD1 ∷ 0x0C ∷ 0x99 ∷ [];
+    }
+    ∷ record { name = "the shares of P2's bytes join to its CRC"; given = joinedTo 7 (nibblesOf p2) ∷ []; said = 0xC3 ∷ [] }
     ∷ record { name = "P5: tag 4,095 then 0 keeps step"; given = p5 .answer ∷ handed 0 0 p5 .answer ∷ []; said = 0 ∷ 0 ∷ [] }
     ∷ record { name = "P5: 4,095 then 1 keeps step, with tag 0 counted"; given = p5 .answer ∷ counting 0 (handed 0 1 p5); said = 0 ∷ 0 ∷ 1 ∷ 32 ∷ 1 ∷ [] }
     ∷ record {
@@ -383,5 +401,5 @@ table =
     ∷ []
 
 pub examples : Equal table
-unfolding table comparedOf changesOf changesIn listOf noChanges appliedOf fits changesFit withChanges spokenText changeText wasText nowText rowText spokenSlot waitLine canSpeak changesSpeak beginOf freshSender startEpochOf startedSender startedEpoch nibblesOf sealedOf dataOf crcOf divisor byteBits nibbleBits writeAnswer writeBytes fitting assigned h4Of readAnswer readNibbles fieldsOf carriedIn highsOf boardOf rowsOf rowOf noRow highest startOf freshOf idleSlot idleNumber addOf addedTo removeOf removedFrom fallen fallenIn lapseOf reportOf waited actedOn mstApplied numberApplied holderOf renumbered slotAfter numberAfter comesBefore turnOf opensWait sizeOf membersOf mstFails mstFirst mstNumbers wholeOutput beginning linesOf fieldsIn lineOf wordLine numberLine reportLine reportIn numberIn digitOf hexOf replyOf sizeReply outputOf answerText boardText slotText waitText wordText decimalText afterOn nibbleIn nibblePlace startsCount tagByHigh carriesLow tagByLow counts endsEpoch epochsIn frames tagAfter tagBefore tags lead epochs epochAfter epochOf distanceOf placeOf startsEpoch firstTag settledOf clearedStep clearedPort clearedPorts stoppedOf stopBy begunOf beginBy gatherBy portsIn sizedGroup storeFor ready latest noTag further foremost within begins owesNothing brought silent ruledBy passedStep notedBy passedPort passedPorts passedGroup passedOf frameFits rowsFit frameAnswer frameRows frameStore gatheredBy marksBy portRows storeBy settledBy takenRows takenStore refusalBy startAnswer startRows startFits sizedAnswer sizedRows freshPort freshPorts groupAt groupOf groupRow putGroup rowIn putRow marksAt packetsAt putMarks putPackets memberAt putMember memberOf memberRow putStep stepAt stepIn stepRow takenOf inStep readable distanceIn flagged countsOn frameDropped outside keeps joining byWindow byStart arrives inStepAt begunRun secondRun furtherRun gainedRun stayedRun loses breaksAfter oddAfter endsPacket endsOdd oddPacket ownNumber runOn placeIn storedAt ringOf byteAt h4At packetIn cutFrom markedAt firstMark markedByte cutByte passedByte passedMarks answerOf areShort setOf proposed tightestOf ranksOf rankOf candidateAt sortedBy checkedOf accepts agreesWith agree
+unfolding table comparedOf changesOf changesIn listOf noChanges appliedOf fits changesFit withChanges spokenText changeText wasText nowText rowText spokenSlot waitLine canSpeak changesSpeak beginOf freshSender startEpochOf startedSender startedEpoch nibblesOf sealedOf dataOf crcOf divisor byteBits nibbleBits writeAnswer writeBytes fitting assigned h4Of readAnswer readNibbles fieldsOf carriedIn highsOf boardOf rowsOf rowOf noRow highest startOf freshOf idleSlot idleNumber addOf addedTo removeOf removedFrom fallen fallenIn lapseOf reportOf waited actedOn mstApplied numberApplied holderOf renumbered slotAfter numberAfter comesBefore turnOf opensWait sizeOf membersOf mstFails mstFirst mstNumbers wholeOutput beginning linesOf fieldsIn lineOf wordLine numberLine reportLine reportIn numberIn digitOf hexOf replyOf sizeReply outputOf answerText boardText slotText waitText wordText decimalText afterOn nibbleIn nibblePlace startsCount tagByHigh carriesLow tagByLow counts endsEpoch epochsIn frames tagAfter tagBefore tags lead epochs epochAfter epochOf distanceOf placeOf startsEpoch firstTag settledOf clearedStep clearedPort clearedPorts stoppedOf stopBy begunOf beginBy gatherBy portsIn sizedGroup storeFor ready latest noTag further foremost within begins owesNothing brought silent ruledBy passedStep notedBy passedPort passedPorts passedGroup passedOf frameFits rowsFit frameAnswer frameRows frameStore gatheredBy marksBy portRows storeBy settledBy takenRows takenStore refusalBy startAnswer startRows startFits sizedAnswer sizedRows freshPort freshPorts groupAt groupOf groupRow putGroup rowIn putRow marksAt packetsAt putMarks putPackets memberAt putMember memberOf memberRow putStep stepAt stepIn stepRow takenOf inStep readable distanceIn flagged countsOn frameDropped outside keeps joining byWindow byStart arrives inStepAt begunRun secondRun furtherRun gainedRun stayedRun loses breaksAfter oddAfter endsPacket endsOdd oddPacket ownNumber runOn placeIn storedAt ringOf byteAt h4At packetIn cutFrom markedAt firstMark markedByte cutByte passedByte passedMarks answerOf areShort setOf proposed tightestOf ranksOf rankOf candidateAt sortedBy checkedOf accepts agreesWith agree joinedTo shareOf
 examples = equal-rows table refl

@@ -1,2 +1,3 @@
 pub mod Answers
-pub mod Dividing
+pub mod Joining
+pub mod Table

@@ -6,6 +6,7 @@ pub mod Laws
 pub mod Layout
 pub mod Reading
 pub mod Ruling
+pub mod Shares
 pub mod Theorems
 pub mod Words
 pub mod Writing

@@ -1,4 +1,4 @@
--- What 01 and request 2026-08 ask of packets, proved on the definitions.
+-- What 01 and requests 2026-08 and 2026-02 ask of packets, proved on the definitions.
 pub mod Again
 pub mod Damage
 pub mod Distance
@@ -6,4 +6,5 @@ pub mod NoSecondAnswer
 pub mod ReadBack
 pub mod RefusesAll
 pub mod Reserved
+pub mod Shares
 pub mod Tags

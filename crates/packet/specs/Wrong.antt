@@ -1,8 +1,9 @@
--- Wrong readings of 01 and of request 2026-08, each as a definition with a run on which it breaks what these say.
+-- Wrong readings of 01 and of requests 2026-08 and 2026-02, each as a definition with a run on which it breaks what these say.
 use mathlib.Core.Path.{_≡_, refl}
 use mathlib.Core.Bool.{Bool, true, false, cond}
 use mathlib.Core.List.{List, [], _∷_, _++_}
-use Prim.Native.Nat.{ℕ, _+_, _*_, _/_, _%_, _^_}
+use Prim.Native.Nat.{ℕ, zero, suc, _+_, _-_, _*_, _/_, _%_, _^_}
+use lib.Bits.{bitXor}
 use lib.Dec.{eqb}
 use lib.ListN.{getD, take, replicate}
 use Rattle.ground.specs.Bits.{odd}
@@ -11,8 +12,9 @@ use Rattle.packet.specs.declared.reader.Reading.{Reading}
 use Rattle.packet.specs.declared.reader.Reading.the-variants.{Packet, Crc, Fixed, Unassigned}
 use Rattle.packet.specs.Crc.{crcOf, divisor, nibbleBits}
 use Rattle.packet.specs.Kinds.{epochOf, frames, lead, mstFails, mstFirst, tags}
-use Rattle.packet.specs.Layout.{carriedIn, dataOf, fieldsOf, h4Of, nibblesOf, reservedOf, sealedOf}
+use Rattle.packet.specs.Layout.{byteOf, carriedIn, dataOf, fieldsOf, h4Of, nibblesOf, reservedOf, sealedOf}
 use Rattle.packet.specs.Reading.{readNibbles}
+use Rattle.packet.specs.Shares.{byteAt, joinedTo, shareOf}
 use Rattle.packet.specs.Words.{FIXED, NORM, assigned}
 
 -- The epoch as the multiframe. 'A packet is sixteen nibbles, from MFI1 8 to 15 and on to 0 to 7 of the next multiframe': tag 8 is epoch 1's.
@@ -74,3 +76,38 @@ wrong-nibbles z =
 nibbles-break : (readNibbles (wrong-nibbles 1792) ≡ Crc) × (readNibbles (nibblesOf (with-reserved 1792)) ≡ Packet (with-reserved 1792))
 unfolding wrong-nibbles with-reserved nibblesOf sealedOf dataOf readNibbles fieldsOf carriedIn crcOf divisor nibbleBits assigned
 nibbles-break = (refl, refl)
+
+-- Wrong readings of request 2026-02, on P4 (the last bit alone, CRC 07) and P1 (CRC 99).
+
+p4-data : List ℕ
+p4-data = replicate 13 0 ++ (1 ∷ [])
+
+p1-data : List ℕ
+p1-data = 15 ∷ 15 ∷ 0 ∷ 0 ∷ 0 ∷ 0 ∷ 15 ∷ 15 ∷ 0 ∷ 0 ∷ 5 ∷ 0 ∷ 0 ∷ 0 ∷ []
+
+-- Places counted from the last byte: P4 joins to DF.
+wrong-places : ℕ → List ℕ → ℕ
+wrong-places zero ns = 0
+wrong-places (suc p) ns = bitXor (wrong-places p ns) (shareOf (6 - p) (byteAt ns p))
+
+places-break : (wrong-places 7 p4-data ≡ 0xDF) × (joinedTo 7 p4-data ≡ 0x07)
+unfolding wrong-places p4-data joinedTo shareOf crcOf divisor nibbleBits
+places-break = (refl, refl)
+
+-- A byte made of its two nibbles the wrong way round: P4 gives 70.
+wrong-bytes : ℕ → List ℕ → ℕ
+wrong-bytes zero ns = 0
+wrong-bytes (suc p) ns = bitXor (wrong-bytes p ns) (shareOf p (byteOf (getD ns (p * 2 + 1) 0) (getD ns (p * 2) 0)))
+
+bytes-break : (wrong-bytes 7 p4-data ≡ 0x70) × (joinedTo 7 p4-data ≡ 0x07)
+unfolding wrong-bytes p4-data joinedTo shareOf crcOf divisor nibbleBits
+bytes-break = (refl, refl)
+
+-- The shares added as numbers modulo 256, and not bit by bit: P1 gives 21.
+wrong-sums : ℕ → List ℕ → ℕ
+wrong-sums zero ns = 0
+wrong-sums (suc p) ns = (wrong-sums p ns + shareOf p (byteAt ns p)) % 256
+
+sums-break : (wrong-sums 7 p1-data ≡ 0x21) × (joinedTo 7 p1-data ≡ 0x99)
+unfolding wrong-sums p1-data joinedTo shareOf crcOf divisor nibbleBits
+sums-break = (refl, refl)

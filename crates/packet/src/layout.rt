@@ -1,5 +1,5 @@
 // The layout of a packet (01, 'The control packet'): its fields, its sixteen nibbles, and the H4 bytes that carry them.
-use crate::crc::crc;
+use crate::crc::crc_to_write;
 use crate::words::Word;
 ghost use mathlib.Core.Path.{_≡_};
 ghost use mathlib.Core.List.{[], _∷_, _++_};
@@ -17,7 +17,7 @@ pub struct Fields {
     pub reserved: u32,
 }
 
-fn byte_of(high: u8, low: u8) -> u8
+pub(crate) fn byte_of(high: u8, low: u8) -> u8
     ensures { λ r. ⌜ r ≡ byteOf high low ⌝ }
 {
     high % 16 * 16 + low % 16
@@ -85,7 +85,7 @@ pub(crate) fn nibbles_of(fields: Fields) -> [u8; 16]
     ensures { λ r. ⌜ r ≡ nibblesOf fields ⌝ }
 {
     let mut nibbles = data_of(fields);
-    let sum = crc(nibbles);
+    let sum = crc_to_write(nibbles);
     nibbles[14] = sum / 16;
     nibbles[15] = sum % 16;
     nibbles

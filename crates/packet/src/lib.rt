@@ -5,6 +5,7 @@ pub mod kinds;
 mod layout;
 mod reader;
 mod ruling;
+mod shares;
 mod words;
 mod writer;
 

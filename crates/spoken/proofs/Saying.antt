@@ -38,6 +38,11 @@ pub both-put : (x y : List ℕ) {out mid new : List ℕ} {at next last : ℕ} �
     → Put (x ++ y) at out last new
 both-put x y h p q = let f = first-put x y h p in put-then f (is-put (room f y h) q)
 
+-- three texts
+pub three-put : (x y z : List ℕ) {out mid low new : List ℕ} {at next last end : ℕ} → at + length (x ++ (y ++ z)) ≤ length out → Said x at out next mid → Said y next mid last low
+    → Said z last low end new → Put (x ++ (y ++ z)) at out end new
+three-put x y z h p q r = let f = first-put x (y ++ z) h p in put-then f (both-put y z (room f (y ++ z) h) q r)
+
 -- the room that each of three needs
 pub one-of-three : (x y z : List ℕ) (at n : ℕ) → at + length (x ++ y ++ z) ≤ n → at + length x ≤ n
 one-of-three x y z at n h = shorter x y at n (shorter (x ++ y) z at n h)

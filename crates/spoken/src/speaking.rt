@@ -8,11 +8,12 @@ use crate::lists::WaitChange;
 use packet::Word;
 use sender::Row;
 ghost use mathlib.Core.Path.{_≡_};
+ghost use mathlib.Core.List.{_++_};
 ghost use Prim.Native.Nat.{ℕ, _+_, _≤_, _<_};
 ghost use lib.ListN.{length};
 ghost use Rattle.text.specs.Output.{Put};
 ghost use Rattle.spoken.specs.Applying.{changeIn};
-ghost use Rattle.spoken.specs.Speaking.{SPEECH-ROOM, canSpeak, changeLines, changeText, changesSpeak, isShown, nowText, rowText, slotText, speaksBy, speechBytes, speechOf, waitLine, wasText};
+ghost use Rattle.spoken.specs.Speaking.{SPEECH-ROOM, canSpeak, changeLines, changeText, changesSpeak, isShown, rowText, slotText, speaksBy, speechBytes, speechOf, waitLine};
 
 // answer: 0, 9 for a buffer below SPEECH_ROOM, 2 for changes that fit no board or have a word with no name. written: how many bytes the lines take.
 pub struct Speech {
@@ -77,29 +78,14 @@ fn put_slot(slot: u8, out: &mut [u8], at: usize) -> usize
     text::put_number(slot, b'\t', out, next)
 }
 
-fn put_row(row: Row, mark: u8, out: &mut [u8], at: usize) -> usize
-    requires { ⌜ at + length (rowText row mark) ≤ length (now out) ⌝ }
-    ensures { λ r. ⌜ Put (rowText row mark) at (now (out .entry)) r (now (out .exit)) ⌝ }
+fn put_row(label: &[u8], row: Row, mark: u8, out: &mut [u8], at: usize) -> usize
+    requires { ⌜ at + length (now label ++ rowText row mark) ≤ length (now out) ⌝ }
+    ensures { λ r. ⌜ Put (now (label .entry) ++ rowText row mark) at (now (out .entry)) r (now (out .exit)) ⌝ }
 {
     let word = row.word;
-    let next = text::put_word(word, out, at);
-    text::put_number(row.number, mark, out, next)
-}
-
-fn put_was(row: Row, out: &mut [u8], at: usize) -> usize
-    requires { ⌜ at + length (wasText row) ≤ length (now out) ⌝ }
-    ensures { λ r. ⌜ Put (wasText row) at (now (out .entry)) r (now (out .exit)) ⌝ }
-{
-    let next = text::put(b"was\t", out, at);
-    put_row(row, b'\t', out, next)
-}
-
-fn put_now(row: Row, out: &mut [u8], at: usize) -> usize
-    requires { ⌜ at + length (nowText row) ≤ length (now out) ⌝ }
-    ensures { λ r. ⌜ Put (nowText row) at (now (out .entry)) r (now (out .exit)) ⌝ }
-{
-    let next = text::put(b"now\t", out, at);
-    put_row(row, b'\n', out, next)
+    let second = text::put(label, out, at);
+    let third = text::put_word(word, out, second);
+    text::put_number(row.number, mark, out, third)
 }
 
 fn put_change(change: Change, out: &mut [u8], at: usize) -> usize
@@ -109,8 +95,8 @@ fn put_change(change: Change, out: &mut [u8], at: usize) -> usize
     let old = change.old;
     let new = change.new;
     let second = put_slot(change.slot, out, at);
-    let third = put_was(old, out, second);
-    put_now(new, out, third)
+    let third = put_row(b"was\t", old, b'\t', out, second);
+    put_row(b"now\t", new, b'\n', out, third)
 }
 
 fn put_changes(list: [Change; 64], n: usize, out: &mut [u8]) -> usize

@@ -1,66 +1,111 @@
-use mathlib.Core.Path.{_≡_, refl}
-use Prim.Native.Nat.{_-_, _≤_, _<_}
-use native.Mathlib.Numerals.{add-one}
 use native.Mathlib.Omega.{arith}
-use lib.ListN.{length, take}
 use borrow.Author.Needs.{needs}
-use Rattle.ground.specs.Polynomial.{remainder, zeros}
-use Rattle.packet.specs.Crc.{divisor, byteBits, bitsOf}
-use Rattle.packet.proofs.Dividing.{one-more, behind}
+use Rattle.packet.proofs.Joining.{seven}
 use Rattle.packet.proofs.crc.crc.Statement.{statement}
 use Rattle.packet.proofs.crc.crc.Tie as tie
 
-abbrev Inv-loop : tie.InvT-loop
-Inv-loop nibbles rest₀ i₀ rest i = (i ≤ 14) × (byteBits rest ≡ remainder divisor (zeros 8) (bitsOf (take i nibbles)))
+array-read-byte-of : tie.Need-array-read-byte-of
+array-read-byte-of c = search needs
 
-abbrev μ-loop : tie.MeasureT-loop
-μ-loop nibbles rest₀ i₀ rest i = 14 - i
+array-read-byte-of-2 : tie.Need-array-read-byte-of-2
+array-read-byte-of-2 c = search needs
 
-loop-holds : tie.Need-loop-holds Inv-loop μ-loop
-unfolding byteBits
-loop-holds c = (omega arith, refl)
+byte-of-requires : tie.Need-byte-of-requires
+byte-of-requires c κs = search needs
 
-array-read-bring-nibble : tie.Need-array-read-bring-nibble Inv-loop μ-loop
-array-read-bring-nibble c = search needs
+array-read-byte-of-3 : tie.Need-array-read-byte-of-3
+array-read-byte-of-3 c = search needs
 
-bring-nibble-requires : tie.Need-bring-nibble-requires Inv-loop μ-loop
-bring-nibble-requires c κs = search needs
+array-read-byte-of-4 : tie.Need-array-read-byte-of-4
+array-read-byte-of-4 c = search needs
 
-add-i : tie.Need-add-i Inv-loop μ-loop
-add-i c = search needs
+byte-of-requires-2 : tie.Need-byte-of-requires-2
+byte-of-requires-2 c κs = search needs
 
-loop-less : tie.Need-loop-less Inv-loop μ-loop
-loop-less c = search needs
+array-read-byte-of-5 : tie.Need-array-read-byte-of-5
+array-read-byte-of-5 c = search needs
 
-loop-again : tie.Need-loop-again Inv-loop μ-loop
-loop-again c =
-    let h : c .before .before .loop .i < length (c .before .before .before .args .t1) = omega arith in
-    (omega arith, rw add-one (one-more _ _ _ _ h (c .before .before .loop .inv .1) (c .bring-nibble .ensures)))
+array-read-byte-of-6 : tie.Need-array-read-byte-of-6
+array-read-byte-of-6 c = search needs
 
-bring-nibble-requires-2 : tie.Need-bring-nibble-requires-2 Inv-loop μ-loop
-bring-nibble-requires-2 c κs = search needs
+byte-of-requires-3 : tie.Need-byte-of-requires-3
+byte-of-requires-3 c κs = search needs
 
-bring-nibble-requires-3 : tie.Need-bring-nibble-requires-3 Inv-loop μ-loop
-bring-nibble-requires-3 c κs = search needs
+array-read-byte-of-7 : tie.Need-array-read-byte-of-7
+array-read-byte-of-7 c = search needs
 
-returns : tie.Need-returns Inv-loop μ-loop
+array-read-byte-of-8 : tie.Need-array-read-byte-of-8
+array-read-byte-of-8 c = search needs
+
+byte-of-requires-4 : tie.Need-byte-of-requires-4
+byte-of-requires-4 c κs = search needs
+
+array-read-byte-of-9 : tie.Need-array-read-byte-of-9
+array-read-byte-of-9 c = search needs
+
+array-read-byte-of-10 : tie.Need-array-read-byte-of-10
+array-read-byte-of-10 c = search needs
+
+byte-of-requires-5 : tie.Need-byte-of-requires-5
+byte-of-requires-5 c κs = search needs
+
+array-read-byte-of-11 : tie.Need-array-read-byte-of-11
+array-read-byte-of-11 c = search needs
+
+array-read-byte-of-12 : tie.Need-array-read-byte-of-12
+array-read-byte-of-12 c = search needs
+
+byte-of-requires-6 : tie.Need-byte-of-requires-6
+byte-of-requires-6 c κs = search needs
+
+array-read-byte-of-13 : tie.Need-array-read-byte-of-13
+array-read-byte-of-13 c = search needs
+
+array-read-byte-of-14 : tie.Need-array-read-byte-of-14
+array-read-byte-of-14 c = search needs
+
+byte-of-requires-7 : tie.Need-byte-of-requires-7
+byte-of-requires-7 c κs = search needs
+
+join-requires : tie.Need-join-requires
+join-requires c κs = search needs
+
+returns : tie.Need-returns
 returns c =
-    let e : c .before .before .before .loop .i ≡ 14 = omega arith in
-    let h : c .bring-nibble3 .result < 256 = omega arith in
-    behind _ _ _ _ h (rw e at (c .before .before .before .loop .inv .1)) (c .before .bring-nibble2 .ensures) (c .bring-nibble3 .ensures)
+    seven (c .before .before .before .before .before .before .before .before .args .t1) _ _ _ _ _ _ _ _ (omega arith)
+    (c .before .before .before .before .before .before .before .byte-of .ensures)
+    (c .before .before .before .before .before .before .byte-of2 .ensures)
+    (c .before .before .before .before .before .byte-of3 .ensures)
+    (c .before .before .before .before .byte-of4 .ensures)
+    (c .before .before .before .byte-of5 .ensures)
+    (c .before .before .byte-of6 .ensures)
+    (c .before .byte-of7 .ensures)
+    (c .join .ensures)
 
 pub crc-spec : {M : Type 1} → statement M
 crc-spec =
     tie.close
     (tie.spec
-    Inv-loop
-    μ-loop
-    loop-holds
-    array-read-bring-nibble
-    bring-nibble-requires
-    add-i
-    loop-less
-    loop-again
-    bring-nibble-requires-2
-    bring-nibble-requires-3
+    array-read-byte-of
+    array-read-byte-of-2
+    byte-of-requires
+    array-read-byte-of-3
+    array-read-byte-of-4
+    byte-of-requires-2
+    array-read-byte-of-5
+    array-read-byte-of-6
+    byte-of-requires-3
+    array-read-byte-of-7
+    array-read-byte-of-8
+    byte-of-requires-4
+    array-read-byte-of-9
+    array-read-byte-of-10
+    byte-of-requires-5
+    array-read-byte-of-11
+    array-read-byte-of-12
+    byte-of-requires-6
+    array-read-byte-of-13
+    array-read-byte-of-14
+    byte-of-requires-7
+    join-requires
     returns)
