@@ -2,6 +2,7 @@
 
 mod boards;
 mod card;
+mod circuits;
 mod count;
 mod packets;
 mod path;
@@ -17,6 +18,7 @@ fn main() {
     payloads::compare(&mut count);
     plans::compare(&mut count);
     senders::compare(&mut count);
+    circuits::compare(&mut count);
     boards::compare(&mut count);
     receivers::compare(&mut count);
     std::process::exit(count.tally());

@@ -1,7 +1,9 @@
 pub mod Answers
+pub mod Parts
 pub mod Pieces
 pub mod Planning
 pub mod Showing
 pub mod Stepping
 pub mod Telling
+pub mod TwoGroups
 pub mod Wholes

@@ -1,5 +1,6 @@
 // The C face: every entry point that the card's C host calls. include/levelspruce.h is its header.
 mod boards;
+mod cards;
 mod changes;
 mod keeping;
 mod packets;
