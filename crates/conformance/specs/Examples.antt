@@ -6,6 +6,7 @@ use Prim.Native.Nat.{ℕ, _+_}
 use lib.ListN.{length, replicate}
 use Rattle.packet.specs.declared.layout.Fields.{Fields}
 use Rattle.packet.specs.Crc.{byteBits, crcOf, divisor, nibbleBits}
+use Rattle.packet.specs.Fixed.{fixedNibbles, readFixedAnswer, readFixedNibbles, writeFixedAnswer, writeFixedBytes}
 use Rattle.packet.specs.Layout.{byteOf, carriedIn, dataOf, fieldsOf, h4Of, highsOf, nibblesOf, sealedOf}
 use Rattle.packet.specs.Reading.{readAnswer, readNibbles, readingNumber, readingValues}
 use Rattle.packet.specs.Shares.{joinedTo, shareOf}
@@ -121,6 +122,19 @@ beside-gid = 0xB8 ∷ 0xF9 ∷ 0x1A ∷ 0x0B ∷ 0x0C ∷ 0x0D ∷ 0x1E ∷ 0x1F
 
 abbrev p1-h4 : List ℕ
 p1-h4 = 0xF8 ∷ 0xF9 ∷ 0x0A ∷ 0x0B ∷ 0x0C ∷ 0x0D ∷ 0xFE ∷ 0xFF ∷ 0x00 ∷ 0x01 ∷ 0x52 ∷ 0x03 ∷ 0x04 ∷ 0x05 ∷ 0x96 ∷ 0x97 ∷ []
+
+-- request 2026-12: SQ 5 in epoch 58; with another word; with all that is not looked at set
+abbrev fixed-h4 : List ℕ
+fixed-h4 = 0x08 ∷ 0x09 ∷ 0x0A ∷ 0x0B ∷ 0x0C ∷ 0x0D ∷ 0x0E ∷ 0x5F ∷ 0x30 ∷ 0xA1 ∷ 0x02 ∷ 0x03 ∷ 0x04 ∷ 0x05 ∷ 0x06 ∷ 0x07 ∷ []
+
+abbrev fixed-word : List ℕ
+fixed-word = 0x08 ∷ 0x09 ∷ 0x0A ∷ 0x0B ∷ 0x0C ∷ 0x0D ∷ 0x0E ∷ 0x5F ∷ 0x30 ∷ 0xA1 ∷ 0x12 ∷ 0x03 ∷ 0x04 ∷ 0x05 ∷ 0x06 ∷ 0x07 ∷ []
+
+abbrev fixed-set : List ℕ
+fixed-set = 0xF8 ∷ 0xF9 ∷ 0xFA ∷ 0xFB ∷ 0xFC ∷ 0xFD ∷ 0x0E ∷ 0x5F ∷ 0x30 ∷ 0xA1 ∷ 0x02 ∷ 0xF3 ∷ 0xF4 ∷ 0xF5 ∷ 0xF6 ∷ 0xF7 ∷ []
+
+abbrev fixed-came : List ℕ → List ℕ
+fixed-came h4 = readingNumber (readFixedAnswer h4) ∷ readingValues (readFixedAnswer h4)
 
 -- a member added and made active, its wait lapsed
 abbrev active : ℕ → List Call
@@ -274,6 +288,19 @@ table =
       said = 0x44 ∷ 0xD1 ∷ 0x0C ∷ 0x99 ∷ [];
     }
     ∷ record { name = "the shares of P2's bytes join to its CRC"; given = joinedTo 7 (nibblesOf p2) ∷ []; said = 0xC3 ∷ [] }
+    ∷ record {
+      name = "FIXED, SQ 5 in epoch 58, written";
+      given = writingNumber (writeFixedAnswer 58 5 (replicate 16 0)) ∷ writeFixedBytes 58 5 (replicate 16 0);
+      said = 0 ∷ fixed-h4;
+    }
+    ∷ record { name = "FIXED, SQ 5 in epoch 58, read"; given = fixed-came fixed-h4; said = 0 ∷ 58 ∷ 0 ∷ 0 ∷ 0 ∷ 0 ∷ 5 ∷ 0 ∷ [] }
+    ∷ record { name = "FIXED, a word of 1 in it"; given = fixed-came fixed-word; said = 6 ∷ [] }
+    ∷ record { name = "FIXED, all that is not looked at set: the same fields"; given = fixed-came fixed-set; said = 0 ∷ 58 ∷ 0 ∷ 0 ∷ 0 ∷ 0 ∷ 5 ∷ 0 ∷ [] }
+    ∷ record {
+      name = "FIXED, SQ 256, epoch 256, fifteen bytes lent";
+      given = writingNumber (writeFixedAnswer 58 256 (replicate 16 0)) ∷ writingNumber (writeFixedAnswer 256 5 (replicate 16 0)) ∷ writingNumber (writeFixedAnswer 58 5 (replicate 15 0)) ∷ [];
+      said = 8 ∷ 8 ∷ 9 ∷ [];
+    }
     ∷ record { name = "P5: tag 4,095 then 0 keeps step"; given = p5 .answer ∷ handed 0 0 p5 .answer ∷ []; said = 0 ∷ 0 ∷ [] }
     ∷ record { name = "P5: 4,095 then 1 keeps step, with tag 0 counted"; given = p5 .answer ∷ counting 0 (handed 0 1 p5); said = 0 ∷ 0 ∷ 1 ∷ 32 ∷ 1 ∷ [] }
     ∷ record {
@@ -401,5 +428,5 @@ table =
     ∷ []
 
 pub examples : Equal table
-unfolding table comparedOf changesOf changesIn listOf noChanges appliedOf fits changesFit withChanges spokenText changeText wasText nowText rowText spokenSlot waitLine canSpeak changesSpeak beginOf freshSender startEpochOf startedSender startedEpoch nibblesOf sealedOf dataOf crcOf divisor byteBits nibbleBits writeAnswer writeBytes fitting assigned h4Of readAnswer readNibbles fieldsOf carriedIn highsOf boardOf rowsOf rowOf noRow highest startOf freshOf idleSlot idleNumber addOf addedTo removeOf removedFrom fallen fallenIn lapseOf reportOf waited actedOn mstApplied numberApplied holderOf renumbered slotAfter numberAfter comesBefore turnOf opensWait sizeOf membersOf mstFails mstFirst mstNumbers wholeOutput beginning linesOf fieldsIn lineOf wordLine numberLine reportLine reportIn numberIn digitOf hexOf replyOf sizeReply outputOf answerText boardText slotText waitText wordText decimalText afterOn nibbleIn nibblePlace startsCount tagByHigh carriesLow tagByLow counts endsEpoch epochsIn frames tagAfter tagBefore tags lead epochs epochAfter epochOf distanceOf placeOf startsEpoch firstTag settledOf clearedStep clearedPort clearedPorts stoppedOf stopBy begunOf beginBy gatherBy portsIn sizedGroup storeFor ready latest noTag further foremost within begins owesNothing brought silent ruledBy passedStep notedBy passedPort passedPorts passedGroup passedOf frameFits rowsFit frameAnswer frameRows frameStore gatheredBy marksBy portRows storeBy settledBy takenRows takenStore refusalBy startAnswer startRows startFits sizedAnswer sizedRows freshPort freshPorts groupAt groupOf groupRow putGroup rowIn putRow marksAt packetsAt putMarks putPackets memberAt putMember memberOf memberRow putStep stepAt stepIn stepRow takenOf inStep readable distanceIn flagged countsOn frameDropped outside keeps joining byWindow byStart arrives inStepAt begunRun secondRun furtherRun gainedRun stayedRun loses breaksAfter oddAfter endsPacket endsOdd oddPacket ownNumber runOn placeIn storedAt ringOf byteAt h4At packetIn cutFrom markedAt firstMark markedByte cutByte passedByte passedMarks answerOf areShort setOf proposed tightestOf ranksOf rankOf candidateAt sortedBy checkedOf accepts agreesWith agree joinedTo shareOf
+unfolding table comparedOf changesOf changesIn listOf noChanges appliedOf fits changesFit withChanges spokenText changeText wasText nowText rowText spokenSlot waitLine canSpeak changesSpeak beginOf freshSender startEpochOf startedSender startedEpoch nibblesOf sealedOf dataOf crcOf divisor byteBits nibbleBits writeAnswer writeBytes fitting assigned h4Of readAnswer readNibbles fieldsOf carriedIn highsOf boardOf rowsOf rowOf noRow highest startOf freshOf idleSlot idleNumber addOf addedTo removeOf removedFrom fallen fallenIn lapseOf reportOf waited actedOn mstApplied numberApplied holderOf renumbered slotAfter numberAfter comesBefore turnOf opensWait sizeOf membersOf mstFails mstFirst mstNumbers wholeOutput beginning linesOf fieldsIn lineOf wordLine numberLine reportLine reportIn numberIn digitOf hexOf replyOf sizeReply outputOf answerText boardText slotText waitText wordText decimalText afterOn nibbleIn nibblePlace startsCount tagByHigh carriesLow tagByLow counts endsEpoch epochsIn frames tagAfter tagBefore tags lead epochs epochAfter epochOf distanceOf placeOf startsEpoch firstTag settledOf clearedStep clearedPort clearedPorts stoppedOf stopBy begunOf beginBy gatherBy portsIn sizedGroup storeFor ready latest noTag further foremost within begins owesNothing brought silent ruledBy passedStep notedBy passedPort passedPorts passedGroup passedOf frameFits rowsFit frameAnswer frameRows frameStore gatheredBy marksBy portRows storeBy settledBy takenRows takenStore refusalBy startAnswer startRows startFits sizedAnswer sizedRows freshPort freshPorts groupAt groupOf groupRow putGroup rowIn putRow marksAt packetsAt putMarks putPackets memberAt putMember memberOf memberRow putStep stepAt stepIn stepRow takenOf inStep readable distanceIn flagged countsOn frameDropped outside keeps joining byWindow byStart arrives inStepAt begunRun secondRun furtherRun gainedRun stayedRun loses breaksAfter oddAfter endsPacket endsOdd oddPacket ownNumber runOn placeIn storedAt ringOf byteAt h4At packetIn cutFrom markedAt firstMark markedByte cutByte passedByte passedMarks answerOf areShort setOf proposed tightestOf ranksOf rankOf candidateAt sortedBy checkedOf accepts agreesWith agree joinedTo shareOf fixedNibbles readFixedAnswer readFixedNibbles writeFixedAnswer writeFixedBytes
 examples = equal-rows table refl

@@ -2,15 +2,16 @@
 use mathlib.Core.Path.{_≡_, refl, _∙_}
 use mathlib.Core.Bool.{true, false}
 use mathlib.Core.List.{List, [], _∷_, _++_}
-use Prim.Native.Nat.{ℕ, _/_, _%_}
-use borrow.Author.Tests.{eq-eqb, ne-eqb}
-use lib.ListN.{length, take, drop, set, drop-of-length-le}
+use Prim.Native.Nat.{ℕ, _/_, _%_, _≤_, _<_}
+use borrow.Author.Tests.{eq-eqb, le-ltb, lt-ltb, ne-eqb}
+use lib.ListN.{length, getD, take, drop, set, drop-of-length-le}
 use native.Mathlib.Omega.{arith}
 use Rattle.packet.specs.declared.layout.Fields.{Fields}
 use Rattle.packet.specs.declared.reader.Reading.the-variants.{Packet, Crc, Fixed, Unassigned}
 use Rattle.packet.specs.declared.writer.Writing.the-variants.{Done, Length, Field}
 use Rattle.packet.specs.Crc.{crcOf}
-use Rattle.packet.specs.Layout.{carriedIn, dataOf, fieldsOf, h4Of, nibblesOf, sealedOf}
+use Rattle.packet.specs.Fixed.{fixedFields, fixedNibbles, readFixedNibbles, writeFixedAnswer, writeFixedBytes}
+use Rattle.packet.specs.Layout.{byteOf, carriedIn, dataOf, fieldsOf, h4Of, nibblesOf, sealedOf}
 use Rattle.packet.specs.Reading.{readNibbles}
 use Rattle.packet.specs.Words.{assigned}
 use Rattle.packet.specs.Writing.{fitting, writeAnswer, writeBytes}
@@ -51,3 +52,27 @@ module _ (f : Fields) (s : List ℕ) where
       → (Done ≡ writeAnswer f s) × (t ≡ writeBytes f s)
   unfolding writeAnswer writeBytes h4Of
   write-done h b ns image t e g k = rw (eq-eqb (length s) 16 h, b) (refl, (k ∙ rw (g, e, drop-of-length-le s {i = 16} (omega arith)) refl))
+
+-- a fixed group's packet (request 2026-12)
+pub fixed-packet : (ns : List ℕ) (e q : ℕ) (f : Fields) → getD ns 10 0 % 16 ≡ 0 → e ≡ byteOf (getD ns 8 0) (getD ns 9 0) → q ≡ byteOf (getD ns 6 0) (getD ns 7 0) → f ≡ fixedFields e q
+    → Packet f ≡ readFixedNibbles ns
+unfolding readFixedNibbles
+fixed-packet ns e q f w he hq hf = rw (eq-eqb (getD ns 10 0 % 16) 0 w, hf, he, hq)
+
+module _ (e q : ℕ) (s : List ℕ) where
+  pub fixed-length : (length s ≡ 16 → ⊥) → (Length ≡ writeFixedAnswer e q s) × (s ≡ writeFixedBytes e q s)
+  unfolding writeFixedAnswer writeFixedBytes
+  fixed-length d = rw (ne-eqb (length s) 16 d) (refl, refl)
+
+  pub fixed-epoch : length s ≡ 16 → 256 ≤ e → (Field ≡ writeFixedAnswer e q s) × (s ≡ writeFixedBytes e q s)
+  unfolding writeFixedAnswer writeFixedBytes
+  fixed-epoch h a = rw (eq-eqb (length s) 16 h, le-ltb e 256 a) (refl, refl)
+
+  pub fixed-sq : length s ≡ 16 → e < 256 → 256 ≤ q → (Field ≡ writeFixedAnswer e q s) × (s ≡ writeFixedBytes e q s)
+  unfolding writeFixedAnswer writeFixedBytes
+  fixed-sq h a b = rw (eq-eqb (length s) 16 h, lt-ltb e 256 a, le-ltb q 256 b) (refl, refl)
+
+  pub fixed-done : length s ≡ 16 → e < 256 → q < 256 → (ns image t : List ℕ) → ns ≡ fixedNibbles e q → image ≡ h4Of ns → t ≡ take (length image) image ++ drop (length image) s
+      → (Done ≡ writeFixedAnswer e q s) × (t ≡ writeFixedBytes e q s)
+  unfolding writeFixedAnswer writeFixedBytes h4Of
+  fixed-done h a b ns image t i g k = rw (eq-eqb (length s) 16 h, lt-ltb e 256 a, lt-ltb q 256 b) (refl, (k ∙ rw (g, i, drop-of-length-le s {i = 16} (omega arith)) refl))

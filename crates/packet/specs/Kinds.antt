@@ -1,9 +1,12 @@
--- Epochs, tags and MST (01, 'The control packet'), by the kind of packet. There is one kind, H4; any other number counts as it.
+-- Epochs, tags and MST (01, 'The control packet'), by the kind of packet. There are two kinds of one clock, H4 and FIXED (request 2026-12); any other number counts as H4.
 use mathlib.Core.Bool.{Bool}
 use Prim.Native.Nat.{ℕ, _+_, _-_, _*_, _/_, _%_, _^_}
 use lib.Dec.{eqb}
 use Rattle.ground.specs.Bits.{odd}
 use Rattle.ground.specs.Circle.{after}
+
+abbrev pub fixedKind : ℕ
+fixedKind = 2
 
 -- 'The sixteen frames are an epoch'
 unfoldable pub frames : ℕ → ℕ

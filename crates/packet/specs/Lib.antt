@@ -1,6 +1,7 @@
 pub mod Clock
 pub mod Counts
 pub mod Crc
+pub mod Fixed
 pub mod Kinds
 pub mod Laws
 pub mod Layout

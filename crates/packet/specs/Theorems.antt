@@ -1,7 +1,8 @@
--- What 01 and requests 2026-08 and 2026-02 ask of packets, proved on the definitions.
+-- What 01 and requests 2026-08, 2026-02 and 2026-12 ask of packets, proved on the definitions.
 pub mod Again
 pub mod Damage
 pub mod Distance
+pub mod Fixed
 pub mod NoSecondAnswer
 pub mod ReadBack
 pub mod RefusesAll

@@ -1,4 +1,4 @@
--- Wrong readings of 01 and of requests 2026-08 and 2026-02, each as a definition with a run on which it breaks what these say.
+-- Wrong readings of 01 and of requests 2026-08, 2026-02 and 2026-12, each as a definition with a run on which it breaks what these say.
 use mathlib.Core.Path.{_≡_, refl}
 use mathlib.Core.Bool.{Bool, true, false, cond}
 use mathlib.Core.List.{List, [], _∷_, _++_}
@@ -11,6 +11,7 @@ use Rattle.packet.specs.declared.layout.Fields.{Fields}
 use Rattle.packet.specs.declared.reader.Reading.{Reading}
 use Rattle.packet.specs.declared.reader.Reading.the-variants.{Packet, Crc, Fixed, Unassigned}
 use Rattle.packet.specs.Crc.{crcOf, divisor, nibbleBits}
+use Rattle.packet.specs.Fixed.{fixedFields, fixedNibbles, readFixedNibbles}
 use Rattle.packet.specs.Kinds.{epochOf, frames, lead, mstFails, mstFirst, tags}
 use Rattle.packet.specs.Layout.{byteOf, carriedIn, dataOf, fieldsOf, h4Of, nibblesOf, reservedOf, sealedOf}
 use Rattle.packet.specs.Reading.{readNibbles}
@@ -111,3 +112,15 @@ wrong-sums (suc p) ns = (wrong-sums p ns + shareOf p (byteAt ns p)) % 256
 sums-break : (wrong-sums 7 p1-data ≡ 0x21) × (joinedTo 7 p1-data ≡ 0x99)
 unfolding wrong-sums p1-data joinedTo shareOf crcOf divisor nibbleBits
 sums-break = (refl, refl)
+
+-- Wrong readings of request 2026-12.
+
+-- The CRC still checked, on SQ 5 in epoch 58: 5.
+checked-breaks : (readNibbles (fixedNibbles 58 5) ≡ Crc) × (readFixedNibbles (fixedNibbles 58 5) ≡ Packet (fixedFields 58 5))
+unfolding fixedNibbles readFixedNibbles readNibbles fieldsOf carriedIn crcOf divisor nibbleBits assigned
+checked-breaks = (refl, refl)
+
+-- The word judged as in LCAS, on SQ 0 in epoch 0, whose CRC is right: 7.
+judged-breaks : (readNibbles (fixedNibbles 0 0) ≡ Fixed) × (readFixedNibbles (fixedNibbles 0 0) ≡ Packet (fixedFields 0 0))
+unfolding fixedNibbles readFixedNibbles readNibbles fieldsOf carriedIn crcOf divisor nibbleBits assigned
+judged-breaks = (refl, refl)

@@ -1,8 +1,10 @@
-// What goes by the kind of packet: epochs, tags and MST (01, 'The control packet'). There is one kind, H4; any other byte counts as it.
+// What goes by the kind of packet: epochs, tags and MST (01, 'The control packet'). There are two kinds of one clock, H4 and FIXED (request 2026-12); any other byte counts as H4.
 ghost use mathlib.Core.Path.{_≡_};
 ghost use Rattle.packet.specs.Kinds.{frames, epochAfter, tagAfter, tagBefore, tags, distanceOf, placeOf, startsEpoch, epochOf, epochsIn, endsEpoch, firstTag, mstFirst, mstNumbers, mstFails, idleNumber};
 
 pub const H4: u8 = 0;
+
+pub const FIXED: u8 = 2;
 
 // How many frames an epoch has, and so how long a packet is.
 pub fn epoch_frames(kind: u8) -> u8

@@ -1,6 +1,7 @@
 // The H4 control packet of virtual concatenation with LCAS (01, 'The control packet'): control words, epochs and tags, the packet written and read.
 pub mod counts;
 mod crc;
+mod fixed;
 pub mod kinds;
 mod layout;
 mod reader;
@@ -9,6 +10,10 @@ mod shares;
 mod words;
 mod writer;
 
+pub use fixed::fixed_ruling_of;
+pub use fixed::read_fixed;
+pub use fixed::read_fixed_nibbles;
+pub use fixed::write_fixed;
 pub use layout::Fields;
 pub use reader::Reading;
 pub use reader::read;

@@ -50,7 +50,7 @@ pub fn read_nibbles(nibbles: [u8; 16]) -> Reading
     Reading::Packet(fields)
 }
 
-fn highs_of(h4: &[u8]) -> [u8; 16]
+pub(crate) fn highs_of(h4: &[u8]) -> [u8; 16]
     requires { ⌜ length (now h4) ≡ 16 ⌝ }
     ensures { λ r. ⌜ r ≡ highsOf (now (h4 .entry)) ⌝ }
 {

@@ -12,7 +12,7 @@ pub struct Ruling {
     pub gid: u8,
 }
 
-fn refusal() -> Ruling
+pub(crate) fn refusal() -> Ruling
     ensures { λ r. ⌜ r ≡ refused ⌝ }
 {
     Ruling {

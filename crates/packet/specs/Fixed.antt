@@ -1,0 +1,49 @@
+-- Fixed groups (request 2026-12): 'H4 carries MFI1, MFI2 and SQ in their places. All other nibbles are written zero and, but for the control word, not looked at in reading; no CRC is checked.'
+use mathlib.Core.Bool.{Bool, cond, _&&_}
+use mathlib.Core.List.{List, [], _∷_}
+use Prim.Native.Nat.{ℕ, _/_, _%_}
+use lib.Dec.{eqb, ltb}
+use lib.ListN.{getD, length}
+use Rattle.packet.specs.declared.layout.Fields.{Fields}
+use Rattle.packet.specs.declared.reader.Reading.{Reading}
+use Rattle.packet.specs.declared.reader.Reading.the-variants.{Packet, Length, Unassigned}
+use Rattle.packet.specs.declared.ruling.Ruling.{Ruling}
+use Rattle.packet.specs.declared.writer.Writing.{Writing}
+use Rattle.packet.specs.declared.writer.Writing.the-variants.{Done, Length as Short, Field}
+use Rattle.packet.specs.Layout.{byteOf, h4Of, highsOf}
+use Rattle.packet.specs.Ruling.{rulingBy}
+use Rattle.packet.specs.Words.{FIXED}
+
+-- the sixteen nibbles in the order of sending
+unfoldable pub fixedNibbles : ℕ → ℕ → List ℕ
+fixedNibbles epoch sq =
+    0 ∷ 0 ∷ 0 ∷ 0 ∷ 0 ∷ 0 ∷ (sq / 16) ∷ (sq % 16) ∷ (epoch / 16) ∷ (epoch % 16) ∷ FIXED ∷ 0 ∷ 0 ∷ 0 ∷ 0 ∷ 0 ∷ []
+
+-- what they say: the word FIXED, and 0 in every field but two
+abbrev pub fixedFields : ℕ → ℕ → Fields
+fixedFields epoch sq = record { epoch = epoch; word = record { 0 = FIXED }; gid = 0; mst = 0; «rs_ack» = 0; sq = sq; reserved = 0 }
+
+abbrev pub fixedFits : ℕ → ℕ → Bool
+fixedFits epoch sq = ltb epoch 256 && ltb sq 256
+
+-- 'For writing: 9, 8' (01); 'the word FIXED is no cause for 8'
+unfoldable pub writeFixedAnswer : ℕ → ℕ → List ℕ → Writing
+writeFixedAnswer epoch sq s = cond (eqb (length s) 16) (cond (fixedFits epoch sq) Done Field) Short
+
+-- the lent H4 bytes afterwards: the packet, or as they were
+unfoldable pub writeFixedBytes : ℕ → ℕ → List ℕ → List ℕ
+writeFixedBytes epoch sq s = cond (eqb (length s) 16) (cond (fixedFits epoch sq) (h4Of (fixedNibbles epoch sq)) s) s
+
+-- 'Number 7 is not given; a word other than FIXED is 6.'
+unfoldable pub readFixedNibbles : List ℕ → Reading
+readFixedNibbles ns =
+    cond (eqb (getD ns 10 0 % 16) FIXED)
+    (Packet (fixedFields (byteOf (getD ns 8 0) (getD ns 9 0)) (byteOf (getD ns 6 0) (getD ns 7 0))))
+    Unassigned
+
+unfoldable pub readFixedAnswer : List ℕ → Reading
+readFixedAnswer s = cond (eqb (length s) 16) (readFixedNibbles (highsOf s)) Length
+
+-- what it rules; whether it is of the receiver's own epoch is the step rule's to judge (request 2026-04)
+unfoldable pub fixedRulingOf : List ℕ → Ruling
+fixedRulingOf ns = rulingBy (readFixedNibbles ns)
