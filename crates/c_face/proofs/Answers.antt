@@ -11,6 +11,7 @@ use Rattle.ground.specs.Truth.{and-left, and-right, fails}
 use Rattle.packet.specs.declared.layout.Fields.{Fields}
 use Rattle.packet.specs.declared.reader.Reading.{Reading}
 use Rattle.packet.specs.Laws.Bounds.{bounds}
+use Rattle.packet.specs.Laws.Writing.{unfit-answer, unfit-bytes}
 use Rattle.packet.specs.Reading.{readAnswer, readingNumber}
 use Rattle.packet.specs.Writing.{fitting, writeAnswer, writeBytes, writingNumber}
 use Rattle.c_face.specs.Packets.{areBytes, given, readAnswerC, readFieldsC, valuesIn, valuesOr, writeRefusal}
@@ -66,12 +67,8 @@ module _ (epoch word gid mst ack sq : ℕ) where
 
   pub write-unfit : (reserved : ℕ) (s : List ℕ) (r : ℕ) → areBytes epoch word gid mst ack sq ≡ false → r ≡ writeRefusal (length s)
       → (r ≡ writingNumber (writeAnswer (given epoch word gid mst ack sq reserved) s)) × (s ≡ writeBytes (given epoch word gid mst ack sq reserved) s)
-  unfolding writeAnswer writeBytes
-  write-unfit reserved s r e h = go (eqb (length s) 16) refl
-    where
-      go : (b : Bool) → eqb (length s) 16 ≡ b → (r ≡ writingNumber (writeAnswer (given epoch word gid mst ack sq reserved) s)) × (s ≡ writeBytes (given epoch word gid mst ack sq reserved) s)
-      go true q = (h ∙ rw (q, unfit reserved e) refl, rw (q, unfit reserved e) refl)
-      go false q = (h ∙ rw q refl, rw q refl)
+  write-unfit reserved s r e h =
+      (h ∙ sym (unfit-answer (given epoch word gid mst ack sq reserved) s (unfit reserved e)), sym (unfit-bytes (given epoch word gid mst ack sq reserved) s (unfit reserved e)))
 
 module _ (h4 s : List ℕ) where
   pub read-wrong : (length s ≡ 10 → ⊥) → (9 ≡ readAnswerC h4 s) × (s ≡ readFieldsC h4 s)

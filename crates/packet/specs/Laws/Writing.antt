@@ -1,6 +1,6 @@
--- A packet is written into one byte for each frame of its epoch.
+-- What is answered to a packet that is to be written: one byte for each frame of its epoch, and fields that do not fit.
 use mathlib.Core.Path.{_≡_, refl}
-use mathlib.Core.Bool.{cond}
+use mathlib.Core.Bool.{Bool, true, false, cond}
 use mathlib.Core.List.{List}
 use Prim.Native.Nat.{ℕ}
 use lib.Dec.{eqb}
@@ -8,13 +8,26 @@ use lib.ListN.{length}
 use Rattle.packet.specs.declared.layout.Fields.{Fields}
 use Rattle.packet.specs.declared.writer.Writing.the-variants.{Done, Field, Length}
 use Rattle.packet.specs.Kinds.{frames}
-use Rattle.packet.specs.Layout.{h4Of, nibblesOf}
-use Rattle.packet.specs.Writing.{fitting, writeAnswer, writeBytes}
+use Rattle.packet.specs.Writing.{fitting, writeAnswer, writeBytes, writingNumber}
 
 pub answer-sized : (kind : ℕ) (f : Fields) (s : List ℕ) → writeAnswer f s ≡ cond (eqb (length s) (frames kind)) (cond (fitting f) Done Field) Length
 unfolding writeAnswer frames
 answer-sized kind f s = refl
 
-pub bytes-sized : (kind : ℕ) (f : Fields) (s : List ℕ) → writeBytes f s ≡ cond (eqb (length s) (frames kind)) (cond (fitting f) (h4Of (nibblesOf f)) s) s
-unfolding writeBytes frames
-bytes-sized kind f s = refl
+-- Fields that do not fit are answered by the length alone, and leave the bytes.
+
+pub unfit-answer : (f : Fields) (s : List ℕ) → fitting f ≡ false → writingNumber (writeAnswer f s) ≡ cond (eqb (length s) 16) 8 9
+unfolding writeAnswer
+unfit-answer f s e = rw e (go (eqb (length s) 16))
+  where
+    go : (b : Bool) → writingNumber (cond b Field Length) ≡ cond b 8 9
+    go true = refl
+    go false = refl
+
+pub unfit-bytes : (f : Fields) (s : List ℕ) → fitting f ≡ false → writeBytes f s ≡ s
+unfolding writeBytes
+unfit-bytes f s e = rw e (go (eqb (length s) 16))
+  where
+    go : (b : Bool) → cond b s s ≡ s
+    go true = refl
+    go false = refl
