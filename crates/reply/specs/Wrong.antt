@@ -72,13 +72,21 @@ wrong-reserve ports n (suc i) =
     cond (isCandidate p && eqb (holderOf h (p .number)) FREE && not reserved) (set h (p .number) i)
     (cond (hasHoldOff p) (set h (p .«state_number») i) h)
 
+abbrev reserving : List Port → ℕ → List Standing
+reserving ports n =
+    let h = wrong-reserve ports n n in
+    tabulate n
+    (λ i.
+    let p = portAt ports i in
+    cond (isCandidate p && eqb (holderOf h (p .number)) i) (standing okState (p .number) 0) (withoutClaim h i p))
+
 -- an ordinary removal, with the ports in reverse order: each number falls by one
 falling : List Port
 falling = port NORM 2 true (standing okState 3 0) 9 0 ∷ port NORM 1 true (standing okState 2 0) 9 0 ∷ port NORM 0 true (standing okState 1 0) 9 0 ∷ []
 
 -- healthy numbers go without: nobody is OK under 1, and two ports hold a number that is no longer theirs
 reserve-breaks :
-    (leftBy (wrong-reserve falling 3 3) falling 3 ≡ standing okState 3 1 ∷ standing okState 2 1 ∷ standing okState 0 0 ∷ [])
+    (reserving falling 3 ≡ standing okState 3 1 ∷ standing okState 2 1 ∷ standing okState 0 0 ∷ [])
     × (left falling 3 ≡ standing okState 2 0 ∷ standing okState 1 0 ∷ standing okState 0 0 ∷ [])
 unfolding falling wrong-reserve claims grant granted holders rounds someJoin moreHeld heldOf chosenOf standingBy standingsOf
 reserve-breaks = (refl, refl)
@@ -89,7 +97,7 @@ swapped = port NORM 1 true (standing okState 0 0) 9 0 ∷ port NORM 0 true (stan
 
 -- and block each other for the whole hold-off
 swap-breaks :
-    (leftBy (wrong-reserve swapped 2 2) swapped 2 ≡ standing okState 0 1 ∷ standing okState 1 1 ∷ [])
+    (reserving swapped 2 ≡ standing okState 0 1 ∷ standing okState 1 1 ∷ [])
     × (left swapped 2 ≡ standing okState 1 0 ∷ standing okState 0 0 ∷ [])
 unfolding swapped wrong-reserve claims grant granted holders rounds someJoin moreHeld heldOf chosenOf standingBy standingsOf
 swap-breaks = (refl, refl)

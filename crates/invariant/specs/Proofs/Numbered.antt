@@ -21,7 +21,7 @@ use Rattle.packet.specs.Kinds.{frames, lead}
 use Rattle.packet.specs.Laws.Epochs.{second-within}
 use Rattle.packet.specs.Layout.{fieldsOf}
 use Rattle.receiver.specs.Report.{rulingEpoch}
-use Rattle.receiver.specs.Starting.{groupWith, startAnswer, startRows}
+use Rattle.receiver.specs.Starting.{groupWith, startAsAnswer, startAsRows}
 use Rattle.rows.specs.declared.group.Group.{Group}
 use Rattle.rows.specs.Group.{groupAt}
 use Rattle.rows.specs.Port.{portAt}
@@ -106,12 +106,12 @@ run-numbered x [] k counted o = o
 run-numbered x (c ∷ calls) k counted o = run-numbered (receiverStep x c) calls (step-kept x c k) (step-counted x c k counted) (step-numbered x c k counted o)
 
 -- after a start and any calls
-pub ruling-numbered : (kind count P W : ℕ) (rows : List (List ℕ)) (store : List ℕ) → startAnswer kind count P W (length store) (length rows) ≡ 0 → (calls : List ReceiverCall)
-    → NumberedIn (receiverRun (startedWith kind count P W rows store) calls)
-ruling-numbered kind count P W rows store e calls =
-    let x : Receiver = startedWith kind count P W rows store in
-    let k : Kept (x .rows) = started-kept kind count P W (length store) rows e in
-    let group : groupAt (startRows kind count P W (length store) rows) ≡ groupWith kind count P W = started-with kind count P W (length store) rows e in
+pub ruling-numbered : (kind count P W : ℕ) (hold restore : List ℕ) (rows : List (List ℕ)) (store : List ℕ) → startAsAnswer kind count P W (length store) hold restore (length rows) ≡ 0 → (calls : List ReceiverCall)
+    → NumberedIn (receiverRun (startedWith kind count P W hold restore rows store) calls)
+ruling-numbered kind count P W hold restore rows store e calls =
+    let x : Receiver = startedWith kind count P W hold restore rows store in
+    let k : Kept (x .rows) = started-kept kind count P W (length store) hold restore rows e in
+    let group : groupAt (startAsRows kind count P W (length store) hold restore rows) ≡ groupWith kind count P W = started-with kind count P W (length store) hold restore rows e in
     run-numbered x calls k
-    (λ tag bytes h4 j b c. let w : flagOf (groupAt (startRows kind count P W (length store) rows) .begun) ≡ true = c .claims .begun in never (rw group at w))
+    (λ tag bytes h4 j b c. let w : flagOf (groupAt (startAsRows kind count P W (length store) hold restore rows) .begun) ≡ true = c .claims .begun in never (rw group at w))
     (λ j b whole. clash (flagOf (portAt (x .rows) j .step .whole)) whole (off-flag (portAt (x .rows) j .step .whole) (k .steady .ports j b .unruled (rw group refl))))

@@ -10,8 +10,9 @@ use lib.ListN.{getD, length, replicate}
 use Rattle.ground.specs.Table.{length-tabulate, tabulate}
 use Rattle.judge.specs.Verdict.{SURE}
 use Rattle.packet.specs.Kinds.{frames}
+use Rattle.receiver.specs.Starting.{timesWithin}
 use Rattle.link.specs.Assumed.{Assumed}
-use Rattle.link.specs.Demand3.{Reported, Stands, Started, Time, ToldApart, noReport, ownRun, reportAt, standing}
+use Rattle.link.specs.Demand3.{Reported, Stands, Started, Time, Times, ToldApart, noReport, ownRun, reportAt, standing}
 use Rattle.link.specs.Demand3.Stands.{none-yet, reporting}
 use Rattle.link.specs.History.{xAt}
 use Rattle.link.specs.Link.{Alike, Link, SameIn, epochFrames, expected}
@@ -78,11 +79,35 @@ streams-differ h = let e : _≡_ {A = ℕ} 192 193 = ap (λ (l : List ℕ). getD
 abbrev other-then : Time other
 other-then = record { t = 180; done = []; rest = other .order 180; is-order = refl }
 
+no-times : (ports : ℕ) → Times [] ports
+unfolding timesWithin
+no-times ports = record { within = refl; fits = refl }
+
 starts : Started link (started link)
-starts = record { rows = replicate 11 (replicate 16 0xFF); store = replicate 80 0xFF; rows-long = refl; store-long = refl; is = refl }
+starts = record {
+  hold = [];
+  restore = [];
+  hold-times = no-times 2;
+  restore-times = no-times 2;
+  rows = replicate 11 (replicate 16 0xFF);
+  store = replicate 80 0xFF;
+  rows-long = refl;
+  store-long = refl;
+  is = refl;
+}
 
 other-starts : Started other (started other)
-other-starts = record { rows = replicate 11 (replicate 16 0xFF); store = replicate 80 0xFF; rows-long = refl; store-long = refl; is = refl }
+other-starts = record {
+  hold = [];
+  restore = [];
+  hold-times = no-times 2;
+  restore-times = no-times 2;
+  rows = replicate 11 (replicate 16 0xFF);
+  store = replicate 80 0xFF;
+  rows-long = refl;
+  store-long = refl;
+  is = refl;
+}
 
 named : ToldApart (standing link (ownRun link (started link)) then) (standing other (ownRun other (started other)) other-then) 1
 unfolding frames
