@@ -10,9 +10,8 @@ use lib.ListN.{getD, length, replicate}
 use Rattle.ground.specs.Table.{length-tabulate, tabulate}
 use Rattle.judge.specs.Verdict.{SURE}
 use Rattle.packet.specs.Kinds.{frames}
-use Rattle.receiver.specs.Starting.{timesWithin}
 use Rattle.link.specs.Assumed.{Assumed}
-use Rattle.link.specs.Demand3.{Reported, Stands, Started, Time, Times, ToldApart, noReport, ownRun, reportAt, standing}
+use Rattle.link.specs.Demand3.{Reported, Stands, Started, Time, ToldApart, noReport, ownRun, reportAt, standing}
 use Rattle.link.specs.Demand3.Stands.{none-yet, reporting}
 use Rattle.link.specs.History.{xAt}
 use Rattle.link.specs.Link.{Alike, Link, SameIn, epochFrames, expected}
@@ -20,7 +19,7 @@ use Rattle.link.specs.Sending.{Client, epochAt}
 use Rattle.link.specs.Proofs.Histories.Ours.{ours}
 use Rattle.link.specs.Theorems.{demand3}
 use Rattle.link.specs.Told.{Told}
-use Rattle.link.specs.Samples.Computing.{outcome, started}
+use Rattle.link.specs.Samples.Computing.{no-times, outcome, started}
 use Rattle.link.specs.Samples.Members.{history, link, linkBy}
 use Rattle.link.specs.Samples.Met.{met, met-by, spread-4}
 use Rattle.link.specs.Samples.Reports.{reports, reportsWith, sure}
@@ -78,10 +77,6 @@ streams-differ h = let e : _≡_ {A = ℕ} 192 193 = ap (λ (l : List ℕ). getD
 
 abbrev other-then : Time other
 other-then = record { t = 180; done = []; rest = other .order 180; is-order = refl }
-
-no-times : (ports : ℕ) → Times [] ports
-unfolding timesWithin
-no-times ports = record { within = refl; fits = refl }
 
 starts : Started link (started link)
 starts = record {

@@ -156,6 +156,7 @@ met =
         once = λ t p h. once (eqb (t % 2) 0) p h;
         only = λ t. only (eqb (t % 2) 0);
         arrived = λ i p h. inl refl;
+        spared = λ t p done rest h is-order come un brings. refl;
         room = λ j. omega (arith, length-replicate {A = ℕ} 33 0xEE);
         eight = λ a j. refl;
       };

@@ -16,9 +16,11 @@ use Rattle.phases.specs.Beginning.{begins}
 use Rattle.receiver.specs.Laws.Sizes.{window-some}
 use Rattle.rows.specs.Group.{groupAt}
 use Rattle.step.specs.Laws.Run.{start-from, startFrom}
+use Rattle.step.specs.Laws.Sent.{SentWith}
 use Rattle.link.specs.Proofs.Laws.Lists.{append-apart}
 use Rattle.link.specs.Moments.{Beginning, Ready, Unready, coming, nextAt, reached}
-use Rattle.link.specs.Road.{Fair, L, Road, sizes-in}
+use Rattle.link.specs.Road.{L, Road}
+use Rattle.link.specs.Proofs.Fair.{Fair, sizes-in}
 use Rattle.link.specs.Running.{Moment, drained, fetched, framed, hasBegun, recordAt, through, turn, turns}
 use Rattle.link.specs.Proofs.Standing.{Before, First, Later, Owes}
 use Rattle.link.specs.Proofs.Transport.Due.{AllCome, owes-or-come}
@@ -33,7 +35,8 @@ module _ (r : Road) where
 
   -- what the single steps are proved to do
   pub record Steps : Type 0 where
-    pub on-before : (m : Moment) (p : ℕ) (coming coming′ : ℕ → ℕ) → Served r p coming coming′ → Apart r coming′ → Before r m coming → Begun? r (framed r p (coming p) m) coming′
+    pub on-before : (m : Moment) (p : ℕ) (coming coming′ : ℕ → ℕ) → Served r p coming coming′ → Apart r coming′ → SentWith (r .kind) (r .offset + coming p) (r .h4 p (coming p)) → Before r m coming
+        → Begun? r (framed r p (coming p) m) coming′
     pub on-first : (m : Moment) (p i : ℕ) (coming coming′ : ℕ → ℕ) → Served r p coming coming′ → Reach r p coming → First r m coming i → Gathered? r (framed r p (coming p) m) coming′ i
     pub on-later : (m : Moment) (p g i : ℕ) (coming coming′ : ℕ → ℕ) → Served r p coming coming′ → Reach r p coming → Later r m coming g i → Owes r coming (suc i) → Later r (framed r p (coming p) m) coming′ g i
     pub before-none : (m : Moment) (coming : ℕ → ℕ) → Before r m coming → markNext m ≡ 0
@@ -204,8 +207,12 @@ module _ (r : Road) where
         as-phase : (m : Moment) → turn r t p here ≡ m → Phase t (done ++ (p ∷ [])) m (coming r t ps) → Next
         as-phase m e q = subst (λ (n : Moment). Phase t (done ++ (p ∷ [])) n (coming r t ps)) (sym e) q
 
+        -- a frame handed before the beginning, or with which it comes, is as sent
+        sent-then : Unready r t done → SentWith (r .kind) (r .offset + coming r t (p ∷ ps) p) (r .h4 p (coming r t (p ∷ ps) p))
+        sent-then un = rw position (f .counted t p done ps (o .all-below .0) is-order late un)
+
         from-before : Before r here (coming r t (p ∷ ps)) → Unready r t done → Next
-        from-before b un = go (rw position at (s .on-before here p (coming r t (p ∷ ps)) (coming r t ps) moved (apart-coming f t ps (rest-tail r p ps o)) b))
+        from-before b un = go (rw position at (s .on-before here p (coming r t (p ∷ ps)) (coming r t ps) moved (apart-coming f t ps (rest-tail r p ps o)) (sent-then un) b))
           where
             go : Begun? r there (coming r t ps) → Next
             go (stays c) =
