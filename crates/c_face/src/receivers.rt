@@ -52,7 +52,16 @@ pub extern "C" fn levelspruce_receiver_start_as(
         × (now (state .exit) ≡ startAsRowsC kind ports payload window «store_bytes» (now («hold_off» .entry)) (now (restore .entry)) (now (state .entry))) ⌝ }
 {
     let named = ports_for(kind, ports);
-    receiver::start_as(kinds::H4, named, payload, window, store_bytes, hold_off, restore, state)
+    receiver::start_as(
+        kinds::H4,
+        named,
+        payload,
+        window,
+        store_bytes,
+        hold_off,
+        restore,
+        state,
+    )
 }
 
 #[no_mangle]

@@ -4,6 +4,7 @@ use mathlib.Core.Bool.{true, false}
 use mathlib.Core.List.{List, [], _∷_, _++_}
 use Prim.Native.Nat.{ℕ}
 use lib.ListN.{getD, length, replicate, take}
+use Rattle.ground.specs.Table.{tabulate}
 use Rattle.packet.specs.Crc.{byteBits, crcOf, divisor, nibbleBits}
 use Rattle.packet.specs.Layout.{carriedIn, dataOf, fieldsOf, h4Of, nibblesOf, sealedOf}
 use Rattle.packet.specs.Reading.{readNibbles}
@@ -56,6 +57,7 @@ use Rattle.sender.specs.Epochs.{beginOf, freshSender, packetBytes, packetFields
 use Rattle.sender.specs.Epochs.SenderCall.{StartEpoch}
 use Rattle.sender.specs.Ranks.{carriersIn, rankAt, rankOf, ranksIn}
 use Rattle.sender.specs.Theorems.Epochs.{onTable}
+use Rattle.conformance.specs.Waits.{seenPort}
 use Rattle.conformance.specs.Hosts.{Host, begun, fed, flagged, opened}
 use Rattle.step.specs.Arrival.{flagged as flaggedStep}
 use Rattle.conformance.specs.Rows.{Row, Equal, equal-rows}
