@@ -633,7 +633,12 @@ uint8_t levelspruce_receiver_start(uint32_t ports, uint32_t payload,
  *   9  state_length, payload_length or store_length is wrong
  *  10  the frame is flagged: the port is unreadable, and its step is lost
  *  12  the port is not in step after this frame: its count of frames goes on
- *      or starts anew
+ *      or starts anew. A port in step counts by itself and takes up to three
+ *      frames in a row that break the count of MFI1 and MFI2; the fourth is 12,
+ *      and so is the end of a second packet in a row with a right CRC and
+ *      another MFI2 than that count's. Hand one flagged frame at every known
+ *      switch of a path: until step is lost, frames of the new path are taken
+ *      under the tags of the old one
  *  11  the frame is in step, but lies outside the window, and the port has
  *      joined: nothing changes; hand the same frame again after a report
  *   0  taken: its payload and H4 are stored, or dropped where the port has not

@@ -44,10 +44,10 @@ module _ (r : Road) where
 
           go : Phase r m₀ t done here (coming r t (p ∷ ps)) → framed r p (t - r .delay p) here .answers ≡ here .answers ++ (said r p (t - r .delay p) ∷ [])
           go (before b un) = rw position at (a .before-says here p (coming r t (p ∷ ps)) (coming r t ps) (served-coming r t p ps o late) (rw position (f .counted t p done ps (o .all-below .0) is-order late un)) b)
-          go (first F b c) =
+          go (first F b come c) =
               rw position at (a .first-says here p (suc (F / L r)) (coming r t (p ∷ ps)) (coming r t ps) (served-coming r t p ps o late) (reach-coming r f t p ps o late) c)
               ∙ ap (λ (n : ℕ). here .answers ++ (n ∷ [])) (sym (said-in p (t - r .delay p) (rw position at (c .open-at .in-step p (o .all-below .0)))))
-          go (later F i b c w) =
+          go (later F i b come c w) =
               rw position at (a .later-says here p (suc (F / L r)) i (coming r t (p ∷ ps)) (coming r t ps) (served-coming r t p ps o late) (reach-coming r f t p ps o late) c w)
               ∙ ap (λ (n : ℕ). here .answers ++ (n ∷ [])) (sym (said-in p (t - r .delay p) (rw position at (c .open-at .in-step p (o .all-below .0)))))
 
