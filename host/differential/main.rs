@@ -2,7 +2,9 @@
 
 mod boards;
 mod card;
+mod circuits;
 mod count;
+mod orders;
 mod packets;
 mod path;
 mod payloads;
@@ -17,6 +19,8 @@ fn main() {
     payloads::compare(&mut count);
     plans::compare(&mut count);
     senders::compare(&mut count);
+    circuits::compare(&mut count);
+    orders::compare(&mut count);
     boards::compare(&mut count);
     receivers::compare(&mut count);
     std::process::exit(count.tally());

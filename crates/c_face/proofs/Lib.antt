@@ -1,8 +1,11 @@
 pub mod Answers
+pub mod Ordering
+pub mod Parts
 pub mod Pieces
 pub mod Planning
 pub mod Showing
 pub mod Started
 pub mod Stepping
 pub mod Telling
+pub mod TwoGroups
 pub mod Wholes

@@ -6,6 +6,7 @@ pub mod Examples
 pub mod Hosts
 pub mod Joining
 pub mod OwnCount
+pub mod Orders
 pub mod Refusals
 pub mod Rows
 pub mod SameBytes

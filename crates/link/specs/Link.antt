@@ -120,10 +120,10 @@ pub record AssumedOver (k : Link) : Type 0 where
   pub lines : Lines k
   -- each port has a slot of its own
   pub paired : Pairing (k .ports) (k .sending .slots) (k .pairing)
-  -- every slot that is not IDLE in an epoch that starts at or after some position reaches a port, and no port's first frame is before that position: an epoch in which it falls had its packets fixed before, and rules no reported one
+  -- every slot that is not IDLE in an epoch that starts after some position reaches a port, and no port's first frame is before that position: the epoch in which it falls had its packets fixed before, and rules no reported one
   pub earliest : ℕ
   pub not-before : (p : ℕ) → p < k .ports → earliest ≤ k .first p
-  pub covered : (i : ℕ) → earliest ≤ epochStart (kindOf k) i → Covered (k .sending) i (k .ports) (k .pairing)
+  pub covered : (i : ℕ) → earliest < epochStart (kindOf k) i → Covered (k .sending) i (k .ports) (k .pairing)
 
 -- two lists byte for byte
 abbrev pub sameBytes : List ℕ → List ℕ → Bool

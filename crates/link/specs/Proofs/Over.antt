@@ -52,7 +52,7 @@ module _ (k : Link) (a : AssumedOver k) where
             let e = b .foremost .is in
             omega arith
 
-        late : (e : ℕ) → F < suc e * epochFrames k → a .earliest ≤ epochStart (kindOf k) (suc e + j)
+        late : (e : ℕ) → F < suc e * epochFrames k → a .earliest < epochStart (kindOf k) (suc e + j)
         late e h = let f = front in let m = mul-le-mul-right (epochFrames k) (plus e) in omega arith
           where
             plus : (e : ℕ) → suc e ≤ suc e + j
