@@ -9,9 +9,10 @@
  * - The result is the answer number. Any answer but 0 is a refusal.
  * - A refusal changes no byte of any buffer, but for these, which change the
  *   state and nothing else: 4 of levelspruce_sender_start, of
- *   levelspruce_card_start and of levelspruce_receiver_start writes an empty
- *   group (of a card, two), and 10 and 12 of levelspruce_receiver_frame record
- *   that the port is not in step, with all that follows from it.
+ *   levelspruce_card_start, of levelspruce_receiver_start and of
+ *   levelspruce_receiver_start_as writes an empty group (of a card, two), and
+ *   10 and 12 of levelspruce_receiver_frame record that the port is not in
+ *   step, with all that follows from it.
  * - Numbers pass as uint32_t, so a number that is too large is refused by its
  *   answer and never cut down to one that fits (but of rs_ack in
  *   levelspruce_sender_report and levelspruce_card_report the lowest bit
@@ -19,7 +20,7 @@
  *   of levelspruce_receiver_reply.
  * - A buffer is a pointer and its length in bytes; where the pointer is to rows
  *   (a receiver's state, its ports), the length counts rows, and where it is to
- *   delays, delays. The whole length must be the caller's to use. NULL with
+ *   numbers (delays, times), numbers. The whole length must be the caller's to use. NULL with
  *   length 0 is an empty buffer.
  * - A buffer is lent for the time of the call.
  * - The buffers of one call must not overlap.
@@ -875,9 +876,9 @@ uint8_t levelspruce_board_speak(const uint8_t *changes, size_t changes_length,
 #define LEVELSPRUCE_PORT_FAIL 1
 #define LEVELSPRUCE_PORT_OK 2
 
-/* The bytes of what is shown of a port; the eighth is 0. A state byte that is
- * none of IDLE, FAIL and OK is shown as it is. It is there only in a state that
- * has bytes which no call returned. */
+/* The bytes of what is shown of a port. A state byte that is none of IDLE, FAIL
+ * and OK is shown as it is. It is there only in a state that has bytes which no
+ * call returned. */
 #define LEVELSPRUCE_PORT_STATE 0    /* at the last report; IDLE before the first */
 #define LEVELSPRUCE_PORT_NUMBER 1   /* with that state; LEVELSPRUCE_NUMBER_IDLE where it is IDLE */
 #define LEVELSPRUCE_PORT_STEP 2     /* 1 while in step */
@@ -885,6 +886,17 @@ uint8_t levelspruce_board_speak(const uint8_t *changes, size_t changes_length,
 #define LEVELSPRUCE_PORT_READABLE 4 /* 1 while readable */
 #define LEVELSPRUCE_PORT_FAILED 5   /* 1 where the latest frame came flagged */
 #define LEVELSPRUCE_PORT_WORD 6     /* of the last good packet; 255 where there was none */
+#define LEVELSPRUCE_PORT_WAITING 7  /* which timer runs, never both */
+
+/* Which timer of a port runs. */
+#define LEVELSPRUCE_WAITING_NONE 0
+#define LEVELSPRUCE_WAITING_HOLD_OFF 1 /* OK without its claim; FAIL when the hold-off is over */
+#define LEVELSPRUCE_WAITING_RESTORE 2  /* FAIL with its claim; OK when the wait-to-restore is over */
+
+/* The kinds of packets of a group, and the greatest count of a timer, in
+ * epochs. */
+#define LEVELSPRUCE_KIND_H4 0
+#define LEVELSPRUCE_TIMER_MOST 5000
 
 /* The bytes of a reply. */
 #define LEVELSPRUCE_REPLY_MST 0
@@ -911,6 +923,43 @@ uint8_t levelspruce_receiver_start(uint32_t ports, uint32_t payload,
                                    uint32_t window, size_t store_bytes,
                                    uint8_t (*state)[LEVELSPRUCE_ROW_BYTES],
                                    size_t state_length);
+
+/*
+ * Starts a receiver of a kind of packets, with a hold-off and a wait-to-restore
+ * for each port, in reports, that is, in epochs while receiving goes on.
+ *
+ * A port that is OK and loses its claim (it is not readable, or another port
+ * has its number) stays OK under the number it has, against others, at as many
+ * reports as its hold-off says, and is FAIL at the next; a port that is FAIL and
+ * has its claim stays FAIL at as many as its wait-to-restore says, and is OK at
+ * the next. A port whose packets say IDLE is IDLE at once. With 0 and 0 this is
+ * levelspruce_receiver_start, which is this call with LEVELSPRUCE_KIND_H4 and
+ * two empty lists. Give all ports of a group the same times: a held number can
+ * make a healthy port FAIL that is renumbered into it and has no hold-off.
+ * To change the times, start anew.
+ *
+ *   kind          LEVELSPRUCE_KIND_H4
+ *   ports, payload, window, store_bytes, state
+ *                 as for levelspruce_receiver_start
+ *   hold_off      a count for each port, 0 to LEVELSPRUCE_TIMER_MOST; an empty
+ *                 list is 0 for every port
+ *   restore       the same for wait-to-restore
+ *
+ * Answers, the first that fits:
+ *   4  kind is not named, ports, payload or window is out of range, or a count
+ *      is above LEVELSPRUCE_TIMER_MOST, wherever in its list; the first row of
+ *      state, if it has one, is written with an empty group
+ *   9  state_length or store_bytes is wrong, or a list is neither empty nor as
+ *      long as there are ports
+ *   0  all of state is written
+ */
+LEVELSPRUCE_MUST_USE
+uint8_t levelspruce_receiver_start_as(uint32_t kind, uint32_t ports, uint32_t payload,
+                                      uint32_t window, size_t store_bytes,
+                                      const uint32_t *hold_off, size_t hold_off_length,
+                                      const uint32_t *restore, size_t restore_length,
+                                      uint8_t (*state)[LEVELSPRUCE_ROW_BYTES],
+                                      size_t state_length);
 
 /*
  * Takes a frame of a port. Hand over each frame of each port once, in the

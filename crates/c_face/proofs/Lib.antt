@@ -4,6 +4,7 @@ pub mod Parts
 pub mod Pieces
 pub mod Planning
 pub mod Showing
+pub mod Started
 pub mod Stepping
 pub mod Telling
 pub mod TwoGroups

@@ -1,8 +1,10 @@
 // The receiver for C: its state in lent rows of sixteen bytes, its frames in a lent store.
 use packet::kinds;
 ghost use mathlib.Core.Path.{_≡_};
+ghost use mathlib.Core.Bool.{cond};
+ghost use lib.Dec.{eqb};
 ghost use lib.ListN.{length};
-ghost use Rattle.c_face.specs.Receivers.{failedC};
+ghost use Rattle.c_face.specs.Receivers.{failedC, startAsAnswerC, startAsRowsC};
 ghost use Rattle.receiver.specs.Fetch.{fetchAnswer, fetchOut, fetchRecord, fetchRows};
 ghost use Rattle.receiver.specs.Frame.{frameAnswer, frameRows, frameStore};
 ghost use Rattle.receiver.specs.Shown.{portsAnswer, portsOut, replyAnswer, replyOut};
@@ -26,6 +28,40 @@ pub extern "C" fn levelspruce_receiver_start(
         × (now (state .exit) ≡ startRows 0 ports payload window «store_bytes» (now (state .entry))) ⌝ }
 {
     receiver::start(kinds::H4, ports, payload, window, store_bytes, state)
+}
+
+// A group of a kind that is not named has no port, and a start with none is answered 4.
+fn ports_for(kind: u32, ports: u32) -> u32
+    ensures { λ r. ⌜ r ≡ cond (eqb kind 0) ports 0 ⌝ }
+{
+    if kind == 0 { ports } else { 0 }
+}
+
+#[no_mangle]
+pub extern "C" fn levelspruce_receiver_start_as(
+    kind: u32,
+    ports: u32,
+    payload: u32,
+    window: u32,
+    store_bytes: usize,
+    hold_off: &[u32],
+    restore: &[u32],
+    state: &mut [[u8; 16]],
+) -> u8
+    ensures { λ r. ⌜ (r ≡ startAsAnswerC kind ports payload window «store_bytes» (now («hold_off» .entry)) (now (restore .entry)) (length (now (state .entry))))
+        × (now (state .exit) ≡ startAsRowsC kind ports payload window «store_bytes» (now («hold_off» .entry)) (now (restore .entry)) (now (state .entry))) ⌝ }
+{
+    let named = ports_for(kind, ports);
+    receiver::start_as(
+        kinds::H4,
+        named,
+        payload,
+        window,
+        store_bytes,
+        hold_off,
+        restore,
+        state,
+    )
 }
 
 #[no_mangle]

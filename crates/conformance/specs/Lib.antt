@@ -10,5 +10,7 @@ pub mod OwnCount
 pub mod Refusals
 pub mod Rows
 pub mod SameBytes
+pub mod Waiting
+pub mod Waits
 pub mod Worked
 pub mod Wrong

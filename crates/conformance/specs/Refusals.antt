@@ -75,6 +75,7 @@ entries =
     ∷ row "console::reply_to" console.reply console.reply-copes
     ∷ row "step::decide" receiver.decide receiver.decide-copes
     ∷ row "receiver::start" receiver.start receiver.start-copes
+    ∷ row "receiver::start_as" receiver.startAs receiver.startAs-copes
     ∷ row "receiver::frame" receiver.frame receiver.frame-copes
     ∷ row "receiver::fetch" receiver.fetch receiver.fetch-copes
     ∷ row "receiver::ports" receiver.ports receiver.ports-copes
@@ -115,6 +116,7 @@ entries =
     ∷ row "levelspruce_board_apply" spoken.applyC spoken.applyC-copes
     ∷ row "levelspruce_board_speak" spoken.speakC spoken.speakC-copes
     ∷ row "levelspruce_receiver_start" receiver.startC receiver.startC-copes
+    ∷ row "levelspruce_receiver_start_as" receiver.startAsC receiver.startAsC-copes
     ∷ row "levelspruce_receiver_frame" receiver.frameC receiver.frameC-copes
     ∷ row "levelspruce_receiver_fetch" receiver.fetch receiver.fetch-copes
     ∷ row "levelspruce_receiver_ports" receiver.ports receiver.ports-copes

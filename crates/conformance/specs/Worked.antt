@@ -4,6 +4,7 @@ use mathlib.Core.Bool.{true, false}
 use mathlib.Core.List.{List, [], _∷_, _++_}
 use Prim.Native.Nat.{ℕ}
 use lib.ListN.{getD, length, replicate, take}
+use Rattle.ground.specs.Table.{tabulate}
 use Rattle.packet.specs.Crc.{byteBits, crcOf, divisor, nibbleBits}
 use Rattle.packet.specs.Layout.{carriedIn, dataOf, fieldsOf, h4Of, nibblesOf, sealedOf}
 use Rattle.packet.specs.Reading.{readNibbles}
@@ -20,7 +21,7 @@ use Rattle.phases.specs.Sizes.{portsIn, storeFor}
 use Rattle.phases.specs.Sizes.{sized as sizedGroup}
 use Rattle.receiver.specs.Frame.{frameAnswer, frameRows, frameStore, gatheredBy, marksBy, portRows, refusalBy, settledBy, storeBy, takenRows, takenStore}
 use Rattle.receiver.specs.Lengths.{frameFits, rowsFit}
-use Rattle.receiver.specs.Starting.{freshPort, freshPorts, sizedAnswer, sizedRows, startAnswer, startFits, startRows}
+use Rattle.receiver.specs.Starting.{freshPort, freshPorts, sizedAnswer, sizedFits, sizedRows, startAnswer, startAsAnswer, startAsRows, startFits, startRight, startRows, timesWithin}
 use Rattle.rows.specs.Group.{groupAt, groupOf, groupRow, putGroup}
 use Rattle.rows.specs.Member.{memberAt, memberOf, memberRow, putMember}
 use Rattle.rows.specs.Packets.{marksAt, packetsAt, putMarks, putPackets}
@@ -48,13 +49,15 @@ use Rattle.judge.specs.Verdict.{highest as highestSeen}
 use Rattle.receiver.specs.Fetch.{recordOf}
 use Rattle.receiver.specs.Shown.{portIn, portShown, portsOut, shownFit}
 use Rattle.reply.specs.declared.members.Port.{Port}
-use Rattle.reply.specs.Choosing.{claim, claims, holders, stateBy, statesOf}
+use Rattle.reply.specs.Choosing.{claims, grant, granted, holders}
+use Rattle.reply.specs.Waiting.{chosenOf, heldOf, moreHeld, noStanding, rounds, someJoin, standing, standingBy, standingsOf}
 use Rattle.reply.specs.Telling.{mstFrom, mstOf, okHolds}
 use Rattle.sender.specs.declared.epochs.Sender.{Sender}
 use Rattle.sender.specs.Epochs.{beginOf, freshSender, packetBytes, packetFields, payloadBytes, ranksOf, senderRun, startEpochOf, startedEpoch, startedSender, xOf}
 use Rattle.sender.specs.Epochs.SenderCall.{StartEpoch}
 use Rattle.sender.specs.Ranks.{carriersIn, rankAt, rankOf, ranksIn}
 use Rattle.sender.specs.Theorems.Epochs.{onTable}
+use Rattle.conformance.specs.Waits.{seenPort}
 use Rattle.conformance.specs.Hosts.{Host, begun, fed, flagged, opened}
 use Rattle.step.specs.Arrival.{flagged as flaggedStep}
 use Rattle.conformance.specs.Rows.{Row, Equal, equal-rows}
@@ -118,13 +121,13 @@ ranked ports = let o = orderOf ports (length ports) in o .x ∷ take (o .x) (o .
 
 -- a port of the reply: word, number, and the state and number of the last report
 abbrev port : ℕ → ℕ → ℕ → ℕ → Port
-port word number state was = record { word = word; number = number; state = state; «state_number» = was; «told_word» = 255; «told_number» = 255; readable = true }
+port word number state was = seenPort word number true (standing state was 0) 0 0
 
 abbrev gone : ℕ → ℕ → Port
-gone word number = record { word = word; number = number; state = 0; «state_number» = 255; «told_word» = 255; «told_number» = 255; readable = false }
+gone word number = seenPort word number false (standing 0 255 0) 0 0
 
 abbrev worked : List Port → List ℕ
-worked ports = take (length ports) (statesOf ports (length ports))
+worked ports = tabulate (length ports) (λ i. getD (standingsOf ports (length ports)) i noStanding .state)
 
 abbrev oks : List Port
 oks = port 2 9 2 9 ∷ port 5 255 0 255 ∷ port 3 0 2 0 ∷ port 1 2 1 2 ∷ []
@@ -269,5 +272,5 @@ table =
     ∷ []
 
 pub worked-out : Equal table
-unfolding table recordOf portIn portShown portsOut shownFit nibblesOf sealedOf dataOf crcOf divisor byteBits nibbleBits writeAnswer writeBytes fitting assigned h4Of boardOf rowsOf rowOf noRow highest startOf freshOf idleSlot idleNumber addOf addedTo removeOf removedFrom fallen fallenIn lapseOf reportOf waited actedOn mstApplied numberApplied holderOf renumbered slotAfter numberAfter comesBefore turnOf opensWait sizeOf membersOf mstFails mstFirst mstNumbers afterOn nibbleIn nibblePlace startsCount tagByHigh carriesLow tagByLow counts endsEpoch epochsIn frames tagAfter tagBefore tags lead epochs epochAfter epochOf distanceOf placeOf startsEpoch firstTag settledOf clearedStep clearedPort clearedPorts stoppedOf stopBy begunOf beginBy gatherBy portsIn sizedGroup storeFor ready latest noTag further foremost within begins owesNothing brought silent ruledBy passedStep notedBy passedPort passedPorts passedGroup passedOf frameFits rowsFit frameAnswer frameRows frameStore gatheredBy marksBy portRows storeBy settledBy takenRows takenStore refusalBy startAnswer startRows startFits sizedAnswer sizedRows freshPort freshPorts groupAt groupOf groupRow putGroup rowIn putRow marksAt packetsAt putMarks putPackets memberAt putMember memberOf memberRow putStep stepAt stepIn stepRow takenOf inStep readable distanceIn flaggedStep countsOn frameDropped outside keeps joining byWindow byStart arrives inStepAt begunRun secondRun furtherRun gainedRun stayedRun loses breaksAfter oddAfter endsPacket endsOdd oddPacket ownNumber readNibbles fieldsOf carriedIn runOn placeIn storedAt ringOf byteAt h4At packetIn cutFrom markedAt firstMark markedByte cutByte passedByte passedMarks boardByte boardBytesOf rankByte ranksBytesOf activeIn orderOf portOf rankSeen doubtfulBy eosAlone eosWrong exact gidDiffers heldBy judgeOf missing repeats takes highestSeen claim claims holders stateBy statesOf mstFrom mstOf okHolds beginOf freshSender packetBytes packetFields payloadBytes ranksOf startEpochOf startedEpoch startedSender carriersIn rankAt rankOf ranksIn
+unfolding table recordOf portIn portShown portsOut shownFit nibblesOf sealedOf dataOf crcOf divisor byteBits nibbleBits writeAnswer writeBytes fitting assigned h4Of boardOf rowsOf rowOf noRow highest startOf freshOf idleSlot idleNumber addOf addedTo removeOf removedFrom fallen fallenIn lapseOf reportOf waited actedOn mstApplied numberApplied holderOf renumbered slotAfter numberAfter comesBefore turnOf opensWait sizeOf membersOf mstFails mstFirst mstNumbers afterOn nibbleIn nibblePlace startsCount tagByHigh carriesLow tagByLow counts endsEpoch epochsIn frames tagAfter tagBefore tags lead epochs epochAfter epochOf distanceOf placeOf startsEpoch firstTag settledOf clearedStep clearedPort clearedPorts stoppedOf stopBy begunOf beginBy gatherBy portsIn sizedGroup storeFor ready latest noTag further foremost within begins owesNothing brought silent ruledBy passedStep notedBy passedPort passedPorts passedGroup passedOf frameFits rowsFit frameAnswer frameRows frameStore gatheredBy marksBy portRows storeBy settledBy takenRows takenStore refusalBy startAsAnswer startRight timesWithin sizedFits startAsRows startFits sizedAnswer sizedRows freshPort freshPorts groupAt groupOf groupRow putGroup rowIn putRow marksAt packetsAt putMarks putPackets memberAt putMember memberOf memberRow putStep stepAt stepIn stepRow takenOf inStep readable distanceIn flaggedStep countsOn frameDropped outside keeps joining byWindow byStart arrives inStepAt begunRun secondRun furtherRun gainedRun stayedRun loses breaksAfter oddAfter endsPacket endsOdd oddPacket ownNumber readNibbles fieldsOf carriedIn runOn placeIn storedAt ringOf byteAt h4At packetIn cutFrom markedAt firstMark markedByte cutByte passedByte passedMarks boardByte boardBytesOf rankByte ranksBytesOf activeIn orderOf portOf rankSeen doubtfulBy eosAlone eosWrong exact gidDiffers heldBy judgeOf missing repeats takes highestSeen claims grant granted holders chosenOf heldOf moreHeld rounds someJoin standingBy standingsOf mstFrom mstOf okHolds beginOf freshSender packetBytes packetFields payloadBytes ranksOf startEpochOf startedEpoch startedSender carriersIn rankAt rankOf ranksIn
 worked-out = equal-rows table refl

@@ -5,7 +5,7 @@ use Prim.Native.Nat.{ℕ}
 use lib.ListN.{length}
 use Rattle.receiver.specs.Fetch.{fetchRows}
 use Rattle.receiver.specs.Frame.{frameRows, frameStore, portRows, storeBy, takenIn}
-use Rattle.receiver.specs.Starting.{startRows}
+use Rattle.receiver.specs.Starting.{startAsRows}
 use Rattle.rows.specs.Group.{groupAt}
 
 -- a frame of a port with its flag, its H4 and its payload; a fetch with an output and a record. Any numbers and any lengths
@@ -27,8 +27,9 @@ abbrev pub receiverRun : Receiver → List ReceiverCall → Receiver
 receiverRun x [] = x
 receiverRun x (c ∷ calls) = receiverRun (receiverStep x c) calls
 
-abbrev pub startedWith : ℕ → ℕ → ℕ → ℕ → List (List ℕ) → List ℕ → Receiver
-startedWith kind count P W rows store = record { rows = startRows kind count P W (length store) rows; store = store }
+-- a receiver started with any times
+abbrev pub startedWith : ℕ → ℕ → ℕ → ℕ → List ℕ → List ℕ → List (List ℕ) → List ℕ → Receiver
+startedWith kind count P W hold restore rows store = record { rows = startAsRows kind count P W (length store) hold restore rows; store = store }
 
 -- the port's rows changed by its frame
 abbrev pub portAfter : List (List ℕ) → ℕ → Bool → ℕ → List (List ℕ)

@@ -18,7 +18,7 @@ use Rattle.receiver.specs.Fetch.{dueIn, fetchOut, fetchRows, fits, reportIfDue}
 use Rattle.receiver.specs.Frame.{frameAnswer, frameRows, settledBy, takenIn}
 use Rattle.receiver.specs.Laws.Bytes.{frameBytes, reportByte}
 use Rattle.receiver.specs.Report.{rulingEpoch, seenAll, seenOf}
-use Rattle.receiver.specs.Starting.{startAnswer}
+use Rattle.receiver.specs.Starting.{startAsAnswer}
 use Rattle.rows.specs.declared.group.Group.{Group}
 use Rattle.rows.specs.Group.{groupAt}
 use Rattle.rows.specs.Port.{portAt}
@@ -44,8 +44,8 @@ use Rattle.invariant.specs.Ruled.{OneEpoch}
 
 -- After any calls.
 
-pub kept : (kind count P W : ℕ) (rows : List (List ℕ)) (store : List ℕ) → startAnswer kind count P W (length store) (length rows) ≡ 0 → (calls : List ReceiverCall)
-    → Kept (receiverRun (startedWith kind count P W rows store) calls .rows)
+pub kept : (kind count P W : ℕ) (hold restore : List ℕ) (rows : List (List ℕ)) (store : List ℕ) → startAsAnswer kind count P W (length store) hold restore (length rows) ≡ 0 → (calls : List ReceiverCall)
+    → Kept (receiverRun (startedWith kind count P W hold restore rows store) calls .rows)
 kept = Calls.kept
 
 -- R-7: after a frame, stopping, beginning and gathering may be tested always or only where takenOf says so
@@ -54,10 +54,10 @@ pub settles-always : (s : List (List ℕ)) → Kept s → (i : ℕ) (failed : Bo
 settles-always s k i failed h b store = Settles.settles-always s k i failed h b store
 
 -- Every frame that a port claims was handed in one of the calls, and has been claimed after each call since: it is the last one handed with its tag since the port joined.
-pub claimed-handed : (tag : ℕ) (bytes : List ℕ) (h4 kind count P W : ℕ) (rows : List (List ℕ)) (store : List ℕ) → startAnswer kind count P W (length store) (length rows) ≡ 0
+pub claimed-handed : (tag : ℕ) (bytes : List ℕ) (h4 kind count P W : ℕ) (hold restore : List ℕ) (rows : List (List ℕ)) (store : List ℕ) → startAsAnswer kind count P W (length store) hold restore (length rows) ≡ 0
     → (calls : List ReceiverCall) (j : ℕ) → j < count
-    → Claimed (receiverRun (startedWith kind count P W rows store) calls .rows) (receiverRun (startedWith kind count P W rows store) calls .store) j tag bytes h4
-    → HandedLast tag bytes h4 (startedWith kind count P W rows store) calls j
+    → Claimed (receiverRun (startedWith kind count P W hold restore rows store) calls .rows) (receiverRun (startedWith kind count P W hold restore rows store) calls .store) j tag bytes h4
+    → HandedLast tag bytes h4 (startedWith kind count P W hold restore rows store) calls j
 claimed-handed = Claims.claimed-handed
 
 -- as a relation between two calls: it was claimed before, or is the one just handed
@@ -71,8 +71,8 @@ pub mark-claimed : (s : List (List ℕ)) (store : List ℕ) (j : ℕ) → flagOf
 mark-claimed = Claims.mark-claimed
 
 -- all packets that rule are of one epoch, the one before the oldest
-pub one-epoch : (kind count P W : ℕ) (rows : List (List ℕ)) (store : List ℕ) → startAnswer kind count P W (length store) (length rows) ≡ 0 → (calls : List ReceiverCall)
-    → OneEpoch (startedWith kind count P W rows store) calls
+pub one-epoch : (kind count P W : ℕ) (hold restore : List ℕ) (rows : List (List ℕ)) (store : List ℕ) → startAsAnswer kind count P W (length store) hold restore (length rows) ≡ 0 → (calls : List ReceiverCall)
+    → OneEpoch (startedWith kind count P W hold restore rows store) calls
 one-epoch = Rules.one-epoch
 
 -- on every state a packet that rules and is read as good carries that epoch's number (request 2026-04)

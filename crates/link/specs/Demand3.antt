@@ -1,13 +1,15 @@
--- Demand 3 (the minutes, item 3), as one statement. A link (Link) with what the minutes let be so (Assumed; over any sending side, AssumedOver) and a receiver started over any rows and any store; its run (Running)
+-- Demand 3 (the minutes, item 3), as one statement. A link (Link) with what the minutes let be so (Assumed; over any sending side, AssumedOver) and a receiver started with any times, over any rows and any store; its run (Running)
 -- calls the receiver's own definitions frame by frame and fetches reports after each frame.
 use mathlib.Core.Path.{_≡_}
 use mathlib.Core.Logic.{_⊎_}
+use mathlib.Core.Bool.{true}
 use mathlib.Core.List.{List, [], _++_}
 use Prim.Native.Nat.{ℕ, suc, _+_, _-_, _*_, _/_, _≤_, _<_}
 use lib.ListN.{getD, length}
 use Rattle.ground.specs.Table.{tabulate}
 use Rattle.judge.specs.Verdict.{SURE}
 use Rattle.receiver.specs.Fetch.{fetchAnswer}
+use Rattle.receiver.specs.Starting.{listFits, timesWithin}
 use Rattle.rows.specs.Rows.{rowsFor}
 use Rattle.link.specs.Link.{Alike, AssumedOver, Link, SameIn, epochFrames, expected, roadOf}
 use Rattle.link.specs.Moments.{Beginning, Run, Unready, coming, reached, says, saysThrough}
@@ -57,13 +59,22 @@ module _ (k : Link) (run : Run) where
 abbrev pub ownRun : Link → Moment → Run
 ownRun k m₀ = reached (roadOf k) m₀
 
--- a receiver started over any rows and any store of the right lengths
+-- a list of counts that a start takes: none above 5,000, and one for each port or none at all
+pub record Times (counts : List ℕ) (ports : ℕ) : Type 0 where
+  pub within : timesWithin counts ≡ true
+  pub fits : listFits counts ports ≡ true
+
+-- a receiver started with any times, over any rows and any store of the right lengths
 pub record Started (k : Link) (m : Moment) : Type 0 where
+  pub hold : List ℕ
+  pub restore : List ℕ
+  pub hold-times : Times hold (k .ports)
+  pub restore-times : Times restore (k .ports)
   pub rows : List (List ℕ)
   pub store : List ℕ
   pub rows-long : length rows ≡ rowsFor (k .ports)
   pub store-long : length store ≡ k .ports * k .window * (k .payload + 1)
-  pub is : m ≡ fresh (roadOf k) rows store
+  pub is : m ≡ fresh (roadOf k) hold restore rows store
 
 -- a fetch is answered 0 and says that none is due
 abbrev pub NoneDue : Link → Moment → Type 0

@@ -6,7 +6,7 @@ use lib.Dec.{eqb, leb}
 use lib.ListN.{drop, getD, length, take}
 use Rattle.receiver.specs.Fetch.{fetchOut, fetchRecord, fetchRows}
 use Rattle.receiver.specs.Frame.{frameAnswer, frameRows, frameStore}
-use Rattle.receiver.specs.Starting.{startRows}
+use Rattle.receiver.specs.Starting.{startAsRows}
 use Rattle.rows.specs.Group.{groupAt}
 use Rattle.link.specs.Road.{Road}
 use Rattle.link.specs.Told.{Told}
@@ -23,10 +23,15 @@ abbrev pub hasBegun : Moment → ℕ
 hasBegun m = groupAt (m .rows) .begun
 
 module _ (r : Road) where
-  -- 'A fresh receiver', started over any rows and any store
-  unfoldable pub fresh : List (List ℕ) → List ℕ → Moment
-  fresh rows store =
-      record { rows = startRows (r .kind) (r .ports) (r .payload) (r .window) (length store) rows; store = store; answers = []; told = [] }
+  -- 'A fresh receiver', started with any times, over any rows and any store
+  unfoldable pub fresh : List ℕ → List ℕ → List (List ℕ) → List ℕ → Moment
+  fresh hold restore rows store =
+      record {
+        rows = startAsRows (r .kind) (r .ports) (r .payload) (r .window) (length store) hold restore rows;
+        store = store;
+        answers = [];
+        told = [];
+      }
 
   -- a frame handed over
   unfoldable pub framed : ℕ → ℕ → Moment → Moment

@@ -4,3 +4,4 @@ pub mod Lists
 pub mod Numbers
 pub mod Showing
 pub mod Sizes
+pub mod Started

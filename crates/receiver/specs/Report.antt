@@ -15,9 +15,10 @@ use Rattle.payload.specs.Joining.{joinedFrom}
 use Rattle.phases.specs.Passing.{groupTo, passedOf}
 use Rattle.step.specs.Own.{ownRuling}
 use Rattle.receiver.specs.declared.report.Report.{Report}
-use Rattle.reply.specs.Choosing.{statesOf}
 use Rattle.reply.specs.Telling.{ackOf}
+use Rattle.reply.specs.Waiting.{noStanding, standingsOf}
 use Rattle.reply.specs.declared.members.Port.{Port}
+use Rattle.reply.specs.declared.waiting.Standing.{Standing}
 use Rattle.rows.specs.declared.group.Group.{Group}
 use Rattle.rows.specs.declared.member.Member.{Member}
 use Rattle.rows.specs.Group.{groupAt, putGroup}
@@ -92,47 +93,59 @@ replyPort g s i =
       «told_word» = m .«told_word»;
       «told_number» = m .«told_number»;
       readable = readable g (stepAt s i);
+      «hold_off» = m .«hold_off»;
+      restore = m .restore;
+      run = m .run;
     }
 
 abbrev pub noPort : Port
-noPort = record { word = 0; number = 0; state = 0; «state_number» = 0; «told_word» = 0; «told_number» = 0; readable = false }
+noPort =
+    record {
+      word = 0;
+      number = 0;
+      state = 0;
+      «state_number» = 0;
+      «told_word» = 0;
+      «told_number» = 0;
+      readable = false;
+      «hold_off» = 0;
+      restore = 0;
+      run = 0;
+    }
 
 unfoldable pub replyPorts : Group → List (List ℕ) → ℕ → List Port
 replyPorts g s n = each (sizeOf n) (replyPort g s) (replicate 64 noPort)
 
 -- 'Worked out at each report'
-unfoldable pub withState : Member → ℕ → Member
-withState m state =
+unfoldable pub withState : Member → Standing → Member
+withState m left =
     record {
       word = m .word;
       number = m .number;
-      state = state;
-      «state_number» = m .number;
+      state = left .state;
+      «state_number» = left .number;
       «told_word» = m .word;
       «told_number» = m .number;
-      «spare_6» = m .«spare_6»;
-      «spare_7» = m .«spare_7»;
-      «spare_8» = m .«spare_8»;
-      «spare_9» = m .«spare_9»;
-      «spare_10» = m .«spare_10»;
-      «spare_11» = m .«spare_11»;
+      «hold_off» = m .«hold_off»;
+      restore = m .restore;
+      run = left .run;
       «spare_12» = m .«spare_12»;
       «spare_13» = m .«spare_13»;
       «spare_14» = m .«spare_14»;
       «spare_15» = m .«spare_15»;
     }
 
-unfoldable pub statePut : List ℕ → ℕ → List (List ℕ) → List (List ℕ)
-statePut states i s = putMember s i (withState (memberAt s i) (getD states i 0))
+unfoldable pub statePut : List Standing → ℕ → List (List ℕ) → List (List ℕ)
+statePut states i s = putMember s i (withState (memberAt s i) (getD states i noStanding))
 
-unfoldable pub statesPut : List ℕ → ℕ → List (List ℕ) → List (List ℕ)
+unfoldable pub statesPut : List Standing → ℕ → List (List ℕ) → List (List ℕ)
 statesPut states zero s = s
 statesPut states (suc n) s = statePut states n (statesPut states n s)
 
 unfoldable pub statesWorkedOut : Group → ℕ → List (List ℕ) → List (List ℕ)
 statesWorkedOut g n s =
     let ports = replyPorts g s n in
-    putGroup (statesPut (statesOf ports (sizeOf n)) n s) (groupTo g (g .begun) (g .gathered) (g .oldest) (g .origin) (ackOf ports (sizeOf n) (g .«rs_ack»)))
+    putGroup (statesPut (standingsOf ports (sizeOf n)) n s) (groupTo g (g .begun) (g .gathered) (g .oldest) (g .origin) (ackOf ports (sizeOf n) (g .«rs_ack»)))
 
 -- the state after a report: the epoch is passed, then states and RS-Ack are worked out from the good packets up to its own
 unfoldable pub reportedOf : Group → List ℕ → ℕ → List (List ℕ) → List (List ℕ)

@@ -10,7 +10,7 @@ use Rattle.packet.specs.Kinds.{idleNumber}
 use Rattle.phases.specs.Sizes.{portsIn}
 use Rattle.receiver.specs.Lengths.{rowsFit}
 use Rattle.receiver.specs.Report.{replyPorts}
-use Rattle.reply.specs.Members.{idleState}
+use Rattle.reply.specs.Members.{failState, idleState, okState}
 use Rattle.reply.specs.Telling.{mstOf}
 use Rattle.rows.specs.declared.group.Group.{Group}
 use Rattle.rows.specs.declared.member.Member.{Member}
@@ -27,7 +27,11 @@ flagByte b = cond b 1 0
 abbrev pub shownNumber : ℕ → Member → ℕ
 shownNumber kind m = cond (eqb (m .state) idleState) (idleNumber kind) (m .«state_number»)
 
--- eight bytes a port: state, number, in step, joined, readable, flagged failed, the last good word, a zero
+-- which timer runs: 0 none, 1 hold-off, 2 restoring (02, 2026-03)
+abbrev pub waitingByte : Member → ℕ
+waitingByte m = cond (eqb (m .run) 0) 0 (cond (eqb (m .state) okState) 1 (cond (eqb (m .state) failState) 2 0))
+
+-- eight bytes a port: state, number, in step, joined, readable, flagged failed, the last good word, waiting
 unfoldable pub portShown : Group → Step → Member → List ℕ
 portShown g step m =
     (m .state)
@@ -37,7 +41,7 @@ portShown g step m =
     ∷ flagByte (readable g step)
     ∷ flagByte (flagOf (step .failed))
     ∷ (m .word)
-    ∷ 0
+    ∷ waitingByte m
     ∷ []
 
 unfoldable pub portIn : Group → List (List ℕ) → ℕ → List ℕ

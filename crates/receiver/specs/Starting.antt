@@ -1,9 +1,10 @@
 -- A receiver's start (01, 'Answer numbers': 'At starting, 4 comes before 9').
-use mathlib.Core.Bool.{Bool, cond, _&&_}
+use mathlib.Core.Bool.{Bool, cond, _&&_, _||_}
 use mathlib.Core.List.{List, [], _∷_}
 use Prim.Native.Nat.{ℕ, zero, suc, _+_, _*_}
-use lib.Dec.{eqb}
-use lib.ListN.{length, replicate}
+use lib.Dec.{eqb, leb, ltb}
+use lib.ListN.{getD, length, replicate}
+use Rattle.counting.specs.Words.{every}
 use Rattle.packet.specs.Kinds.{idleNumber}
 use Rattle.phases.specs.Sizes.{sized}
 use Rattle.rows.specs.declared.group.Group.{Group}
@@ -59,9 +60,17 @@ freshStep =
       «spare_15» = 0;
     }
 
--- no good packet yet
-abbrev pub freshMember : ℕ → Member
-freshMember kind =
+-- 'each 0 to 5,000 epochs' (02, 2026-03)
+abbrev pub timerMost : ℕ
+timerMost = 5000
+
+-- the count of port i; an empty list is zero for every port
+abbrev pub timeOf : List ℕ → ℕ → ℕ
+timeOf counts i = cond (ltb (getD counts i 0) timerMost) (getD counts i 0) timerMost
+
+-- no good packet yet, and no timer runs
+abbrev pub freshMember : ℕ → ℕ → ℕ → Member
+freshMember kind hold restore =
     record {
       word = noWord;
       number = idleNumber kind;
@@ -69,12 +78,9 @@ freshMember kind =
       «state_number» = idleNumber kind;
       «told_word» = noWord;
       «told_number» = idleNumber kind;
-      «spare_6» = 0;
-      «spare_7» = 0;
-      «spare_8» = 0;
-      «spare_9» = 0;
-      «spare_10» = 0;
-      «spare_11» = 0;
+      «hold_off» = hold;
+      restore = restore;
+      run = 0;
       «spare_12» = 0;
       «spare_13» = 0;
       «spare_14» = 0;
@@ -84,24 +90,51 @@ freshMember kind =
 abbrev pub zeroRow : List ℕ
 zeroRow = replicate 16 0
 
-unfoldable pub freshPort : ℕ → ℕ → List (List ℕ) → List (List ℕ)
-freshPort kind i s = putMarks (putPackets (putMember (putStep s i freshStep) i (freshMember kind)) i (zeroRow ∷ zeroRow ∷ [])) i zeroRow
+unfoldable pub freshPort : ℕ → List ℕ → List ℕ → ℕ → List (List ℕ) → List (List ℕ)
+freshPort kind hold restore i s =
+    putMarks
+    (putPackets (putMember (putStep s i freshStep) i (freshMember kind (timeOf hold i) (timeOf restore i))) i (zeroRow ∷ zeroRow ∷ [])) i zeroRow
 
-unfoldable pub freshPorts : ℕ → ℕ → List (List ℕ) → List (List ℕ)
-freshPorts kind zero s = s
-freshPorts kind (suc n) s = freshPort kind n (freshPorts kind n s)
+unfoldable pub freshPorts : ℕ → List ℕ → List ℕ → ℕ → List (List ℕ) → List (List ℕ)
+freshPorts kind hold restore zero s = s
+freshPorts kind hold restore (suc n) s = freshPort kind hold restore n (freshPorts kind hold restore n s)
+
+-- 'a count above 5,000 is number 4' (02, 2026-03), wherever in the list it stands
+unfoldable pub timesWithin : List ℕ → Bool
+timesWithin counts = every (length counts) (λ i. leb (getD counts i 0) timerMost)
+
+-- a list has a count for each port, or none at all
+abbrev pub listFits : List ℕ → ℕ → Bool
+listFits counts ports = eqb (length counts) 0 || eqb (length counts) ports
 
 unfoldable pub startFits : ℕ → ℕ → ℕ → ℕ → ℕ → Bool
 startFits count P W store rows = eqb rows (rowsFor count) && eqb store (count * W * (P + 1))
 
-unfoldable pub sizedAnswer : ℕ → ℕ → ℕ → ℕ → ℕ → ℕ
-sizedAnswer count P W store rows = cond (startFits count P W store rows) 0 9
+unfoldable pub sizedFits : ℕ → ℕ → ℕ → ℕ → List ℕ → List ℕ → ℕ → Bool
+sizedFits count P W store hold restore rows = listFits hold count && listFits restore count && startFits count P W store rows
 
-unfoldable pub sizedRows : ℕ → ℕ → ℕ → ℕ → ℕ → List (List ℕ) → List (List ℕ)
-sizedRows kind count P W store s = cond (startFits count P W store (length s)) (putGroup (freshPorts kind count s) (groupWith kind count P W)) s
+unfoldable pub sizedAnswer : ℕ → ℕ → ℕ → ℕ → List ℕ → List ℕ → ℕ → ℕ
+sizedAnswer count P W store hold restore rows = cond (sizedFits count P W store hold restore rows) 0 9
 
-unfoldable pub startAnswer : ℕ → ℕ → ℕ → ℕ → ℕ → ℕ → ℕ
-startAnswer kind count P W store rows = cond (sized kind count P W) (sizedAnswer count P W store rows) 4
+unfoldable pub sizedRows : ℕ → ℕ → ℕ → ℕ → ℕ → List ℕ → List ℕ → List (List ℕ) → List (List ℕ)
+sizedRows kind count P W store hold restore s =
+    cond (sizedFits count P W store hold restore (length s)) (putGroup (freshPorts kind hold restore count s) (groupWith kind count P W)) s
 
-unfoldable pub startRows : ℕ → ℕ → ℕ → ℕ → ℕ → List (List ℕ) → List (List ℕ)
-startRows kind count P W store s = cond (sized kind count P W) (sizedRows kind count P W store s) (putGroup s (emptyGroup kind))
+unfoldable pub startRight : ℕ → ℕ → ℕ → ℕ → List ℕ → List ℕ → Bool
+startRight kind count P W hold restore = timesWithin hold && timesWithin restore && sized kind count P W
+
+-- A start with a hold-off and a wait-to-restore for each port.
+unfoldable pub startAsAnswer : ℕ → ℕ → ℕ → ℕ → ℕ → List ℕ → List ℕ → ℕ → ℕ
+startAsAnswer kind count P W store hold restore rows =
+    cond (startRight kind count P W hold restore) (sizedAnswer count P W store hold restore rows) 4
+
+unfoldable pub startAsRows : ℕ → ℕ → ℕ → ℕ → ℕ → List ℕ → List ℕ → List (List ℕ) → List (List ℕ)
+startAsRows kind count P W store hold restore s =
+    cond (startRight kind count P W hold restore) (sizedRows kind count P W store hold restore s) (putGroup s (emptyGroup kind))
+
+-- A start with none.
+abbrev pub startAnswer : ℕ → ℕ → ℕ → ℕ → ℕ → ℕ → ℕ
+startAnswer kind count P W store rows = startAsAnswer kind count P W store [] [] rows
+
+abbrev pub startRows : ℕ → ℕ → ℕ → ℕ → ℕ → List (List ℕ) → List (List ℕ)
+startRows kind count P W store s = startAsRows kind count P W store [] [] s

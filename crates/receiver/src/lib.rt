@@ -15,3 +15,4 @@ pub use fetching::fetch;
 pub use shown::ports;
 pub use shown::reply;
 pub use starting::start;
+pub use starting::start_as;

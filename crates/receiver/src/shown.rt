@@ -12,7 +12,7 @@ ghost use mathlib.Core.List.{[], _∷_};
 ghost use Prim.Native.Nat.{_≤_};
 ghost use lib.ListN.{length};
 ghost use Rattle.counting.specs.Each.{each};
-ghost use Rattle.receiver.specs.Shown.{portIn, portShown, portsAnswer, portsOut, replyAnswer, replyFit, replyOut, shownFit, shownNumber};
+ghost use Rattle.receiver.specs.Shown.{portIn, portShown, portsAnswer, portsOut, replyAnswer, replyFit, replyOut, shownFit, shownNumber, waitingByte};
 
 fn shown_number(kind: u8, member: Member) -> u8
     ensures { λ r. ⌜ r ≡ shownNumber kind member ⌝ }
@@ -21,6 +21,19 @@ fn shown_number(kind: u8, member: Member) -> u8
         return kinds::idle_number(kind);
     }
     member.state_number
+}
+
+// Which timer runs.
+fn waiting_byte(member: Member) -> u8
+    ensures { λ r. ⌜ r ≡ waitingByte member ⌝ }
+{
+    if member.run == 0 {
+        return 0;
+    }
+    if member.state == Port::OK {
+        return 1;
+    }
+    if member.state == Port::FAIL { 2 } else { 0 }
 }
 
 fn port_shown(group: Group, step: Step, member: Member) -> [u8; 8]
@@ -36,7 +49,7 @@ fn port_shown(group: Group, step: Step, member: Member) -> [u8; 8]
         flags::flag_byte(readable),
         flags::flag_byte(flags::is_set(step.failed)),
         member.word,
-        0,
+        waiting_byte(member),
     ]
 }
 

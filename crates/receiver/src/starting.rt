@@ -5,8 +5,10 @@ use rows::Group;
 use rows::Member;
 use rows::Step;
 ghost use mathlib.Core.Path.{_≡_};
+ghost use mathlib.Core.Bool.{cond, _||_};
+ghost use lib.Dec.{eqb, ltb};
 ghost use lib.ListN.{length};
-ghost use Rattle.receiver.specs.Starting.{freshMember, freshPort, freshPorts, freshStep, groupWith, sizedAnswer, sizedRows, startAnswer, startFits, startRows};
+ghost use Rattle.receiver.specs.Starting.{freshMember, freshPort, freshPorts, freshStep, groupWith, sizedAnswer, sizedRows, startAnswer, startAsAnswer, startAsRows, startFits, startRight, startRows, timeOf, timerMost, timesWithin};
 
 fn group_with(kind: u8, count: u8, payload: u16, window: u16) -> Group
     ensures { λ r. ⌜ r ≡ groupWith kind count payload window ⌝ }
@@ -50,8 +52,8 @@ fn fresh_step() -> Step
     }
 }
 
-fn fresh_member(kind: u8) -> Member
-    ensures { λ r. ⌜ r ≡ freshMember kind ⌝ }
+fn fresh_member(kind: u8, hold_off: u16, restore: u16) -> Member
+    ensures { λ r. ⌜ r ≡ freshMember kind «hold_off» restore ⌝ }
 {
     let none = kinds::idle_number(kind);
     Member {
@@ -61,12 +63,9 @@ fn fresh_member(kind: u8) -> Member
         state_number: none,
         told_word: Port::NO_WORD,
         told_number: none,
-        spare_6: 0,
-        spare_7: 0,
-        spare_8: 0,
-        spare_9: 0,
-        spare_10: 0,
-        spare_11: 0,
+        hold_off,
+        restore,
+        run: 0,
         spare_12: 0,
         spare_13: 0,
         spare_14: 0,
@@ -74,25 +73,61 @@ fn fresh_member(kind: u8) -> Member
     }
 }
 
-fn put_port(kind: u8, port: u8, state: &mut [[u8; 16]])
-    ensures { λ _. ⌜ now (state .exit) ≡ freshPort kind port (now (state .entry)) ⌝ }
+fn capped(count: u32) -> u16
+    ensures { λ r. ⌜ r ≡ cond (ltb count timerMost) count timerMost ⌝ }
+{
+    if count < 5000 { count as u16 } else { 5000 }
+}
+
+// The count of a port; an empty list is zero for every port.
+fn time_of(counts: &[u32], port: u8) -> u16
+    ensures { λ r. ⌜ r ≡ timeOf (now (counts .entry)) port ⌝ }
+{
+    let i = port as usize;
+    if i < counts.len() {
+        capped(counts[i])
+    } else {
+        0
+    }
+}
+
+fn put_port(kind: u8, hold_off: &[u32], restore: &[u32], port: u8, state: &mut [[u8; 16]])
+    ensures { λ _. ⌜ now (state .exit) ≡ freshPort kind (now («hold_off» .entry)) (now (restore .entry)) port (now (state .entry)) ⌝ }
 {
     let step = fresh_step();
-    let member = fresh_member(kind);
+    let member = fresh_member(kind, time_of(hold_off, port), time_of(restore, port));
     rows::step::put(state, port, step);
     rows::member::put(state, port, member);
     rows::packets::put(state, port, [[0; 16]; 2]);
     rows::packets::put_marks(state, port, [0; 16]);
 }
 
-fn put_ports(kind: u8, ports: u8, state: &mut [[u8; 16]])
-    ensures { λ _. ⌜ now (state .exit) ≡ freshPorts kind ports (now (state .entry)) ⌝ }
+fn put_ports(kind: u8, hold_off: &[u32], restore: &[u32], ports: u8, state: &mut [[u8; 16]])
+    ensures { λ _. ⌜ now (state .exit) ≡ freshPorts kind (now («hold_off» .entry)) (now (restore .entry)) ports (now (state .entry)) ⌝ }
 {
     let mut i = 0;
     while i < ports {
-        put_port(kind, i, state);
+        put_port(kind, hold_off, restore, i, state);
         i += 1;
     }
+}
+
+fn is_within(counts: &[u32]) -> bool
+    ensures { λ r. ⌜ r ≡ timesWithin (now (counts .entry)) ⌝ }
+{
+    let mut all = true;
+    let mut i = 0;
+    while i < counts.len() {
+        all = all & (counts[i] <= 5000);
+        i += 1;
+    }
+    all
+}
+
+fn is_list(counts: usize, ports: u8) -> bool
+    ensures { λ r. ⌜ r ≡ (eqb counts 0 || eqb counts ports) ⌝ }
+{
+    (counts == 0) | (counts == ports as usize)
 }
 
 fn is_fitting(count: u8, payload: u16, window: u16, store: usize, rows: usize) -> bool
@@ -110,21 +145,69 @@ fn start_sized(
     payload: u16,
     window: u16,
     store: usize,
+    hold_off: &[u32],
+    restore: &[u32],
     state: &mut [[u8; 16]],
 ) -> u8
-    ensures { λ r. ⌜ (r ≡ sizedAnswer count payload window store (length (now (state .entry))))
-        × (now (state .exit) ≡ sizedRows kind count payload window store (now (state .entry))) ⌝ }
+    ensures { λ r. ⌜ (r ≡ sizedAnswer count payload window store (now («hold_off» .entry)) (now (restore .entry)) (length (now (state .entry))))
+        × (now (state .exit) ≡ sizedRows kind count payload window store (now («hold_off» .entry)) (now (restore .entry)) (now (state .entry))) ⌝ }
 {
-    if !is_fitting(count, payload, window, store, state.len()) {
+    let lists = is_list(hold_off.len(), count) & is_list(restore.len(), count);
+    if !(lists & is_fitting(count, payload, window, store, state.len())) {
         return 9;
     }
     let group = group_with(kind, count, payload, window);
-    put_ports(kind, count, state);
+    put_ports(kind, hold_off, restore, count, state);
     rows::group::put(state, group);
     0
 }
 
-// A fresh receiver with so many ports, P, W and bytes of store.
+fn is_right(
+    kind: u8,
+    count: u32,
+    payload: u32,
+    window: u32,
+    hold_off: &[u32],
+    restore: &[u32],
+) -> bool
+    ensures { λ r. ⌜ r ≡ startRight kind count payload window (now («hold_off» .entry)) (now (restore .entry)) ⌝ }
+{
+    is_within(hold_off) & is_within(restore) & phases::is_sized(kind, count, payload, window)
+}
+
+// A fresh receiver with so many ports, P, W and bytes of store, and the times of its ports: hold-off and wait-to-restore, in reports. A list has a
+// count for each port, or none at all.
+pub fn start_as(
+    kind: u8,
+    count: u32,
+    payload: u32,
+    window: u32,
+    store: usize,
+    hold_off: &[u32],
+    restore: &[u32],
+    state: &mut [[u8; 16]],
+) -> u8
+    ensures { λ r. ⌜ (r ≡ startAsAnswer kind count payload window store (now («hold_off» .entry)) (now (restore .entry)) (length (now (state .entry))))
+        × (now (state .exit) ≡ startAsRows kind count payload window store (now («hold_off» .entry)) (now (restore .entry)) (now (state .entry))) ⌝ }
+{
+    if is_right(kind, count, payload, window, hold_off, restore) {
+        return start_sized(
+            kind,
+            count as u8,
+            payload as u16,
+            window as u16,
+            store,
+            hold_off,
+            restore,
+            state,
+        );
+    }
+    let empty = group_with(kind, 0, 0, 0);
+    rows::group::put(state, empty);
+    4
+}
+
+// The same with no times.
 pub fn start(
     kind: u8,
     count: u32,
@@ -136,17 +219,16 @@ pub fn start(
     ensures { λ r. ⌜ (r ≡ startAnswer kind count payload window store (length (now (state .entry))))
         × (now (state .exit) ≡ startRows kind count payload window store (now (state .entry))) ⌝ }
 {
-    if phases::is_sized(kind, count, payload, window) {
-        return start_sized(
-            kind,
-            count as u8,
-            payload as u16,
-            window as u16,
-            store,
-            state,
-        );
-    }
-    let empty = group_with(kind, 0, 0, 0);
-    rows::group::put(state, empty);
-    4
+    let hold_off = [0u32; 1];
+    let restore = [0u32; 1];
+    start_as(
+        kind,
+        count,
+        payload,
+        window,
+        store,
+        &hold_off[..0],
+        &restore[..0],
+        state,
+    )
 }

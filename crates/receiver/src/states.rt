@@ -1,10 +1,12 @@
 // Member states and RS-Ack worked out at a report (01, 'Member states and reply').
 use crate::lengths;
 use reply::Port;
+use reply::Standing;
 use rows::Group;
 use rows::Member;
 ghost use mathlib.Core.Path.{_≡_};
 ghost use lib.ListN.{getD};
+ghost use Rattle.reply.specs.Waiting.{noStanding};
 ghost use Rattle.phases.specs.Passing.{groupTo};
 ghost use Rattle.receiver.specs.Report.{noPort, replyPort, replyPorts, reportedOf, withState, statesWorkedOut, statePut, statesPut};
 
@@ -22,6 +24,9 @@ fn reply_port(group: Group, state: &[[u8; 16]], port: u8) -> Port
         told_word: member.told_word,
         told_number: member.told_number,
         readable,
+        hold_off: member.hold_off,
+        restore: member.restore,
+        run: member.run,
     }
 }
 
@@ -36,6 +41,9 @@ fn no_port() -> Port
         told_word: 0,
         told_number: 0,
         readable: false,
+        hold_off: 0,
+        restore: 0,
+        run: 0,
     }
 }
 
@@ -54,28 +62,33 @@ pub(crate) fn reply_ports(group: Group, state: &[[u8; 16]], ports: u8) -> [Port;
     all
 }
 
-fn state_at(states: [u8; 64], port: u8) -> u8
-    ensures { λ r. ⌜ r ≡ getD states port 0 ⌝ }
+fn standing_at(states: [Standing; 64], port: u8) -> Standing
+    ensures { λ r. ⌜ r ≡ getD states port noStanding ⌝ }
 {
-    if port < 64 { states[port as usize] } else { 0 }
+    if port < 64 {
+        let one = states[port as usize];
+        return one;
+    }
+    Standing {
+        state: Port::IDLE,
+        number: 0,
+        run: 0,
+    }
 }
 
-fn with_state(m: Member, state: u8) -> Member
-    ensures { λ r. ⌜ r ≡ withState m state ⌝ }
+fn with_state(m: Member, left: Standing) -> Member
+    ensures { λ r. ⌜ r ≡ withState m left ⌝ }
 {
     Member {
         word: m.word,
         number: m.number,
-        state,
-        state_number: m.number,
+        state: left.state,
+        state_number: left.number,
         told_word: m.word,
         told_number: m.number,
-        spare_6: m.spare_6,
-        spare_7: m.spare_7,
-        spare_8: m.spare_8,
-        spare_9: m.spare_9,
-        spare_10: m.spare_10,
-        spare_11: m.spare_11,
+        hold_off: m.hold_off,
+        restore: m.restore,
+        run: left.run,
         spare_12: m.spare_12,
         spare_13: m.spare_13,
         spare_14: m.spare_14,
@@ -83,16 +96,16 @@ fn with_state(m: Member, state: u8) -> Member
     }
 }
 
-fn put_state(states: [u8; 64], port: u8, state: &mut [[u8; 16]])
+fn put_state(states: [Standing; 64], port: u8, state: &mut [[u8; 16]])
     ensures { λ _. ⌜ now (state .exit) ≡ statePut states port (now (state .entry)) ⌝ }
 {
-    let new = state_at(states, port);
+    let new = standing_at(states, port);
     let member = rows::member::get(state, port);
     let told = with_state(member, new);
     rows::member::put(state, port, told);
 }
 
-fn put_states(states: [u8; 64], ports: u8, state: &mut [[u8; 16]])
+fn put_states(states: [Standing; 64], ports: u8, state: &mut [[u8; 16]])
     ensures { λ _. ⌜ now (state .exit) ≡ statesPut states ports (now (state .entry)) ⌝ }
 {
     let mut i = 0;
@@ -126,7 +139,7 @@ fn work_out_states(group: Group, ports: u8, state: &mut [[u8; 16]])
     ensures { λ _. ⌜ now (state .exit) ≡ statesWorkedOut group ports (now (state .entry)) ⌝ }
 {
     let all = reply_ports(group, state, ports);
-    let states = reply::states(all, ports);
+    let states = reply::standings(all, ports);
     let ack = reply::ack(all, ports, group.rs_ack);
     let told = with_ack(group, ack);
     put_states(states, ports, state);

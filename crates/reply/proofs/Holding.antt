@@ -1,6 +1,6 @@
 -- The table of holders as it is read and written.
-use mathlib.Core.Path.{_≡_, refl}
-use mathlib.Core.Bool.{Bool, true, _&&_, Bool·beq}
+use mathlib.Core.Path.{_≡_, refl, sym, ap, _∙_}
+use mathlib.Core.Bool.{Bool, true, false, not, _&&_}
 use mathlib.Core.List.{List, [], _∷_}
 use Prim.Native.Nat.{ℕ, zero, suc, _<_}
 use native.Mathlib.Nat.{not-suc-le-zero, le-of-suc-le-suc}
@@ -8,9 +8,12 @@ use lib.Dec.{eqb}
 use lib.ListN.{length, getD}
 use Rattle.ground.specs.Truth.{and-left}
 use Rattle.reply.specs.declared.members.Port.{Port}
-use Rattle.reply.specs.Choosing.{FREE}
-use Rattle.reply.specs.Laws.Members.{candidate-lt}
-use Rattle.reply.specs.Members.{isCandidate, wasOk}
+use Rattle.reply.specs.Choosing.{FREE, chooses, holderOf, holders, noneHeld}
+use Rattle.reply.specs.Laws.Choosing.{chooses-lt}
+use Rattle.reply.specs.Laws.Holding.{rounds-more, rounds-still}
+use Rattle.reply.specs.Laws.Members.{left-low}
+use Rattle.reply.specs.Members.{hasHoldOff}
+use Rattle.reply.specs.Waiting.{chosenOf, hasClaim, heldOf, joinsHeld, moreHeld, mustHold, rounds, someJoin}
 
 -- which default a list is read with makes no difference within it
 pub read-within : (l : List ℕ) (k d e : ℕ) → k < length l → getD l k d ≡ getD l k e
@@ -19,8 +22,39 @@ read-within (x ∷ l) zero d e h = refl
 read-within (x ∷ l) (suc k) d e h = read-within l k d e (le-of-suc-le-suc h)
 
 -- a port that takes its number
-pub taken-lt : (first : Bool) (holder : ℕ) (p : Port) → (isCandidate p && Bool·beq (wasOk p) first && eqb holder FREE) ≡ true → p .number < 64
-taken-lt first holder p e =
-    candidate-lt p
-    (and-left (isCandidate p) (Bool·beq (wasOk p) first)
-    (and-left (isCandidate p && Bool·beq (wasOk p) first) (eqb holder FREE) e))
+pub taken-lt : (first : Bool) (holder : ℕ) (p : Port) → (chooses first p && eqb holder FREE) ≡ true → p .number < 64
+taken-lt first holder p e = chooses-lt first p (and-left (chooses first p) (eqb holder FREE) e)
+
+-- one that joins the held
+pub held-lt : (chosen held : List ℕ) (i : ℕ) (p : Port) → joinsHeld chosen held i p ≡ true → p .«state_number» < 64
+held-lt chosen held i p e =
+    left-low p
+    (and-left (hasHoldOff p) (not (hasClaim chosen i p)) (and-left (mustHold chosen i p) (eqb (holderOf held (p .«state_number»)) FREE) e))
+
+-- the rounds as the loop goes: over where there is none left or none joins, else one less
+module _ (ports : List Port) (n : ℕ) where
+  pub rounds-begin : (k : ℕ) → n ≡ k → heldOf ports n ≡ rounds ports n k noneHeld
+  unfolding heldOf
+  rounds-begin k e = ap (λ (x : ℕ). rounds ports n x noneHeld) e
+
+  pub rounds-none : (k : ℕ) (h : List ℕ) → k ≡ 0 → rounds ports n k h ≡ h
+  unfolding rounds
+  rounds-none k h e = rw e refl
+
+  pub rounds-over : (k : ℕ) (held chosen : List ℕ) → chosen ≡ holders ports n held → heldOf ports n ≡ rounds ports n k held
+      → rounds ports n k held ≡ held → chosen ≡ chosenOf ports n
+  unfolding chosenOf
+  rounds-over k held chosen c h e = c ∙ ap (λ (l : List ℕ). holders ports n l) (sym (h ∙ e))
+
+  pub rounds-end : (k : ℕ) (held chosen : List ℕ) → chosen ≡ holders ports n held → heldOf ports n ≡ rounds ports n k held
+      → someJoin chosen held ports n ≡ false → chosen ≡ chosenOf ports n
+  rounds-end k held chosen c h j =
+      rounds-over k held chosen c h (rounds-still ports n k held (ap (λ (l : List ℕ). someJoin l held ports n) (sym c) ∙ j))
+
+  pub rounds-on : (k m : ℕ) (held chosen more : List ℕ) → chosen ≡ holders ports n held → heldOf ports n ≡ rounds ports n k held → k ≡ suc m
+      → someJoin chosen held ports n ≡ true → more ≡ moreHeld chosen ports n held → heldOf ports n ≡ rounds ports n m more
+  rounds-on k m held chosen more c h e j g =
+      h
+      ∙ ap (λ (x : ℕ). rounds ports n x held) e
+      ∙ rounds-more ports n m held (ap (λ (l : List ℕ). someJoin l held ports n) (sym c) ∙ j)
+      ∙ ap (λ (l : List ℕ). rounds ports n m l) (sym (g ∙ ap (λ (l : List ℕ). moreHeld l ports n held) c))

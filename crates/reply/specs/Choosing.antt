@@ -1,38 +1,40 @@
 -- Candidates choose their numbers (01, 'Member states and reply').
-use mathlib.Core.Bool.{Bool, true, false, cond, _&&_, Bool·beq}
+use mathlib.Core.Bool.{Bool, true, false, cond, not, _&&_, Bool·beq}
 use mathlib.Core.List.{List}
 use Prim.Native.Nat.{ℕ, zero, suc}
 use lib.Dec.{eqb}
 use lib.ListN.{getD, set, replicate}
-use Rattle.counting.specs.Each.{each}
 use Rattle.reply.specs.declared.members.Port.{Port}
-use Rattle.reply.specs.Members.{failState, idleState, okState, isCandidate, isIdle, portAt, wasOk}
+use Rattle.reply.specs.Members.{isCandidate, isRestoring, portAt, wasOk}
 
--- The port that has chosen each number, 255 where none has.
+-- The port that has each number, 255 where none has.
 abbrev pub FREE : ℕ
 FREE = 255
 
 abbrev pub holderOf : List ℕ → ℕ → ℕ
 holderOf holders q = getD holders q FREE
 
--- a port of this round whose number is still free takes it
-unfoldable pub claim : Bool → List ℕ → ℕ → Port → List ℕ
-claim first holders i p =
-    cond (isCandidate p && Bool·beq (wasOk p) first && eqb (holderOf holders (p .number)) FREE) (set holders (p .number) i) holders
+-- no number is any port's
+abbrev pub noneHeld : List ℕ
+noneHeld = replicate 64 FREE
 
--- 'each in port order'
+-- a port that asks for a number gets it where it is still free
+unfoldable pub grant : Bool → ℕ → List ℕ → ℕ → List ℕ
+grant asks q holders i = cond (asks && eqb (holderOf holders q) FREE) (set holders q i) holders
+
+-- 'each in port order': those of the first n ports that ask, each for its number
+unfoldable pub granted : (ℕ → Bool) → (ℕ → ℕ) → ℕ → List ℕ → List ℕ
+granted asks number zero holders = holders
+granted asks number (suc n) holders = grant (asks n) (number n) (granted asks number n holders) n
+
+-- The candidates that choose: those that were OK under the same number, or the rest. One that waits to restore takes its number from nobody
+-- (02, 2026-03).
+abbrev pub chooses : Bool → Port → Bool
+chooses first p = isCandidate p && not (isRestoring p) && Bool·beq (wasOk p) first
+
 unfoldable pub claims : Bool → List Port → ℕ → List ℕ → List ℕ
-claims first ports zero holders = holders
-claims first ports (suc n) holders = claim first (claims first ports n holders) n (portAt ports n)
+claims first ports n holders = granted (λ i. chooses first (portAt ports i)) (λ i. portAt ports i .number) n holders
 
--- 'Candidates that were OK under the same number choose first, then the rest.'
-unfoldable pub holders : List Port → ℕ → List ℕ
-holders ports n = claims false ports n (claims true ports n (replicate 64 FREE))
-
--- 'One whose number is still free becomes OK; all else are FAIL.'
-unfoldable pub stateBy : List ℕ → ℕ → Port → ℕ
-stateBy chosen i p =
-    cond (isIdle p) idleState (cond (isCandidate p && eqb (holderOf chosen (p .number)) i) okState failState)
-
-unfoldable pub statesOf : List Port → ℕ → List ℕ
-statesOf ports n = each n (λ i. stateBy (holders ports n) i (portAt ports i)) (replicate 64 idleState)
+-- 'Candidates that were OK under the same number choose first, then the rest', among the numbers that are not held
+unfoldable pub holders : List Port → ℕ → List ℕ → List ℕ
+holders ports n held = claims false ports n (claims true ports n held)

@@ -1,3 +1,6 @@
 -- Laws of the definitions, for the proofs and for callers.
 pub mod Choosing
+pub mod Claims
+pub mod Granting
+pub mod Holding
 pub mod Members

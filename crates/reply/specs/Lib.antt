@@ -3,4 +3,6 @@ pub mod Laws
 pub mod Members
 pub mod Telling
 pub mod Theorems
+pub mod Waiting
 mod Wrong
+pub mod Zero

@@ -27,7 +27,19 @@ okState = 2
 
 abbrev pub portAt : List Port → ℕ → Port
 portAt ports i =
-    getD ports i (record { word = 0; number = 0; state = 0; «state_number» = 0; «told_word» = 0; «told_number» = 0; readable = false })
+    getD ports i
+    (record {
+      word = 0;
+      number = 0;
+      state = 0;
+      «state_number» = 0;
+      «told_word» = 0;
+      «told_number» = 0;
+      readable = false;
+      «hold_off» = 0;
+      restore = 0;
+      run = 0;
+    })
 
 -- 'A port with no good packet yet, or whose last good word is IDLE, is IDLE.'
 abbrev pub isIdle : Port → Bool
@@ -40,3 +52,12 @@ isCandidate p = not (isIdle p) && p .readable && ltb (p .number) 64
 -- 'were OK under the same number'
 abbrev pub wasOk : Port → Bool
 wasOk p = eqb (p .state) okState && eqb (p .«state_number») (p .number)
+
+-- 'A FAIL port goes OK only when its claim has stood for the wait-to-restore' (02, 2026-03): one that still waits
+abbrev pub isRestoring : Port → Bool
+isRestoring p = eqb (p .state) failState && ltb (p .run) (p .restore)
+
+-- 'An OK port that loses its claim goes FAIL only when it has stayed so for the hold-off; one that turns IDLE does so at once' (02, 2026-03): one
+-- that has hold-off left
+abbrev pub hasHoldOff : Port → Bool
+hasHoldOff p = eqb (p .state) okState && ltb (p .run) (p .«hold_off») && ltb (p .«state_number») 64 && not (isIdle p)

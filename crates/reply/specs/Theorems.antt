@@ -1,4 +1,7 @@
--- What 01 says of member states and the reply, proved on the definitions.
+-- What 01 says of member states and the reply, and 02 of waiting, proved on the definitions.
 pub mod Ack
+pub mod Edges
 pub mod Mst
 pub mod States
+pub mod Waiting
+pub mod Zero

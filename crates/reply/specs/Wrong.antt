@@ -1,48 +1,165 @@
--- Wrong readings of 01, each as a definition with a run on which it breaks what 01 says.
+-- Wrong readings of 01 and of 02, 2026-03, each as a definition with a run on which it breaks what they say.
 use mathlib.Core.Path.{_≡_, refl}
-use mathlib.Core.Bool.{true, false, cond, _&&_}
+use mathlib.Core.Bool.{Bool, true, false, cond, not, _&&_, _||_}
 use mathlib.Core.List.{List, [], _∷_}
-use Prim.Native.Nat.{ℕ, zero, suc}
-use lib.Dec.{eqb}
-use lib.ListN.{replicate, set}
+use Prim.Native.Nat.{ℕ, zero, suc, _+_, _-_, _%_}
+use lib.Dec.{eqb, leb, ltb}
+use lib.ListN.{set}
+use Rattle.counting.specs.Words.{some}
 use Rattle.ground.specs.Table.{tabulate}
-use Rattle.packet.specs.Words.{ADD, NORM}
+use Rattle.packet.specs.Words.{ADD, IDLE, NORM}
 use Rattle.reply.specs.declared.members.Port.{Port}
-use Rattle.reply.specs.Choosing.{FREE, claim, claims, holderOf, holders, stateBy, statesOf}
-use Rattle.reply.specs.Members.{failState, idleState, isCandidate, noWord, okState, portAt}
-use Rattle.reply.specs.Theorems.States.{stateAt}
+use Rattle.reply.specs.declared.waiting.Standing.{Standing}
+use Rattle.reply.specs.Choosing.{FREE, claims, grant, granted, holderOf, holders, noneHeld}
+use Rattle.reply.specs.Members.{failState, hasHoldOff, idleState, isCandidate, isIdle, noWord, okState, portAt}
+use Rattle.reply.specs.Theorems.States.{standingAt}
+use Rattle.reply.specs.Waiting.{chosenOf, hasClaim, heldOf, keepsNumber, moreHeld, rounds, someJoin, standing, standingBy, standingsOf, withClaim, withoutClaim}
+
+-- a port that sends a word under a number, with what the last report left of it and its times
+abbrev port : ℕ → ℕ → Bool → Standing → ℕ → ℕ → Port
+port word number readable last hold restore =
+    record {
+      word = word;
+      number = number;
+      state = last .state;
+      «state_number» = last .number;
+      «told_word» = word;
+      «told_number» = number;
+      readable = readable;
+      «hold_off» = hold;
+      restore = restore;
+      run = last .run;
+    }
+
+-- what is left of the n ports by a table of holders, and by the definition
+abbrev leftBy : List ℕ → List Port → ℕ → List Standing
+leftBy chosen ports n = tabulate n (λ i. standingBy chosen i (portAt ports i))
+
+abbrev left : List Port → ℕ → List Standing
+left ports n = tabulate n (standingAt ports n)
 
 -- Port 0 has come anew and asks under number 0. Port 1 was OK under that number at the last report, and is still a candidate under it.
 newcomer : List Port
-newcomer =
-    record { word = ADD; number = 0; state = idleState; «state_number» = 0; «told_word» = noWord; «told_number» = 0; readable = true }
-    ∷ record { word = NORM; number = 0; state = okState; «state_number» = 0; «told_word» = NORM; «told_number» = 0; readable = true }
-    ∷ []
-
--- the states of the n ports by a table of holders
-abbrev states : List ℕ → List Port → ℕ → List ℕ
-states chosen ports n = tabulate n (λ i. stateBy chosen i (portAt ports i))
+newcomer = port ADD 0 true (standing idleState 0 0) 0 0 ∷ port NORM 0 true (standing okState 0 0) 0 0 ∷ []
 
 -- 'Candidates that were OK under the same number choose first, then the rest', the other way round
 wrong-order : List Port → ℕ → List ℕ
-wrong-order ports n = claims true ports n (claims false ports n (replicate 64 FREE))
+wrong-order ports n = claims true ports n (claims false ports n noneHeld)
 
 order-breaks :
-    (states (wrong-order newcomer 2) newcomer 2 ≡ okState ∷ failState ∷ [])
-    × (tabulate 2 (stateAt newcomer 2) ≡ failState ∷ okState ∷ [])
-unfolding newcomer wrong-order claims claim holders stateBy statesOf
+    (leftBy (wrong-order newcomer 2) newcomer 2 ≡ standing okState 0 0 ∷ standing failState 0 0 ∷ [])
+    × (left newcomer 2 ≡ standing failState 0 0 ∷ standing okState 0 0 ∷ [])
+unfolding newcomer wrong-order claims grant granted holders rounds someJoin moreHeld heldOf chosenOf standingBy standingsOf
 order-breaks = (refl, refl)
 
 -- one round for all, in port order alone
 wrong-round : List Port → ℕ → List ℕ
-wrong-round ports zero = replicate 64 FREE
-wrong-round ports (suc n) =
-    let h = wrong-round ports n in
-    let p = portAt ports n in
-    cond (isCandidate p && eqb (holderOf h (p .number)) FREE) (set h (p .number) n) h
+wrong-round ports n = granted (λ i. isCandidate (portAt ports i)) (λ i. portAt ports i .number) n noneHeld
 
 round-breaks :
-    (states (wrong-round newcomer 2) newcomer 2 ≡ okState ∷ failState ∷ [])
-    × (tabulate 2 (stateAt newcomer 2) ≡ failState ∷ okState ∷ [])
-unfolding newcomer wrong-round claims claim holders stateBy statesOf
+    (leftBy (wrong-round newcomer 2) newcomer 2 ≡ standing okState 0 0 ∷ standing failState 0 0 ∷ [])
+    × (left newcomer 2 ≡ standing failState 0 0 ∷ standing okState 0 0 ∷ [])
+unfolding newcomer wrong-round claims grant granted holders rounds someJoin moreHeld heldOf chosenOf standingBy standingsOf
 round-breaks = (refl, refl)
+
+-- Every OK port that has not chosen yet reserves the number it had, whether or not it has lost its claim.
+wrong-reserve : List Port → ℕ → ℕ → List ℕ
+wrong-reserve ports n zero = noneHeld
+wrong-reserve ports n (suc i) =
+    let h = wrong-reserve ports n i in
+    let p = portAt ports i in
+    let reserved = some n (λ j. ltb i j && hasHoldOff (portAt ports j) && eqb (portAt ports j .«state_number») (p .number)) in
+    cond (isCandidate p && eqb (holderOf h (p .number)) FREE && not reserved) (set h (p .number) i)
+    (cond (hasHoldOff p) (set h (p .«state_number») i) h)
+
+abbrev reserving : List Port → ℕ → List Standing
+reserving ports n =
+    let h = wrong-reserve ports n n in
+    tabulate n
+    (λ i.
+    let p = portAt ports i in
+    cond (isCandidate p && eqb (holderOf h (p .number)) i) (standing okState (p .number) 0) (withoutClaim h i p))
+
+-- an ordinary removal, with the ports in reverse order: each number falls by one
+falling : List Port
+falling = port NORM 2 true (standing okState 3 0) 9 0 ∷ port NORM 1 true (standing okState 2 0) 9 0 ∷ port NORM 0 true (standing okState 1 0) 9 0 ∷ []
+
+-- healthy numbers go without: nobody is OK under 1, and two ports hold a number that is no longer theirs
+reserve-breaks :
+    (reserving falling 3 ≡ standing okState 3 1 ∷ standing okState 2 1 ∷ standing okState 0 0 ∷ [])
+    × (left falling 3 ≡ standing okState 2 0 ∷ standing okState 1 0 ∷ standing okState 0 0 ∷ [])
+unfolding falling wrong-reserve claims grant granted holders rounds someJoin moreHeld heldOf chosenOf standingBy standingsOf
+reserve-breaks = (refl, refl)
+
+-- two members exchange numbers
+swapped : List Port
+swapped = port NORM 1 true (standing okState 0 0) 9 0 ∷ port NORM 0 true (standing okState 1 0) 9 0 ∷ []
+
+-- and block each other for the whole hold-off
+swap-breaks :
+    (reserving swapped 2 ≡ standing okState 0 1 ∷ standing okState 1 1 ∷ [])
+    × (left swapped 2 ≡ standing okState 1 0 ∷ standing okState 0 0 ∷ [])
+unfolding swapped wrong-reserve claims grant granted holders rounds someJoin moreHeld heldOf chosenOf standingBy standingsOf
+swap-breaks = (refl, refl)
+
+-- a port alone, OK under 0 with hold-off 2, that is not readable, with its counter
+lost : ℕ → List Port
+lost run = port NORM 0 false (standing okState 0 run) 2 0 ∷ []
+
+-- the hold-off over one report late
+wrong-late : Port → Standing
+wrong-late p = cond (leb (p .run) (p .«hold_off»)) (standing okState (p .«state_number») (p .run + 1)) (standing failState (p .number) 0)
+
+late-breaks : (wrong-late (portAt (lost 2) 0) ≡ standing okState 0 3) × (standingAt (lost 2) 1 0 ≡ standing failState 0 0)
+unfolding lost wrong-late claims grant granted holders rounds someJoin moreHeld heldOf chosenOf standingBy standingsOf
+late-breaks = (refl, refl)
+
+-- IDLE waits for the hold-off
+wrong-idle : List ℕ → ℕ → Port → Standing
+wrong-idle chosen i p = cond (keepsNumber chosen i p) (withoutClaim chosen i p) (standingBy chosen i p)
+
+turned-idle : List Port
+turned-idle = port IDLE 255 true (standing okState 0 0) 2 0 ∷ []
+
+idle-breaks :
+    (wrong-idle (set noneHeld 0 0) 0 (portAt turned-idle 0) ≡ standing okState 0 1)
+    × (standingAt turned-idle 1 0 ≡ standing idleState 255 0)
+unfolding turned-idle wrong-idle claims grant granted holders rounds someJoin moreHeld heldOf chosenOf standingBy standingsOf
+idle-breaks = (refl, refl)
+
+-- a port that comes from IDLE waits to restore
+wrong-first : Port → Standing
+wrong-first p = cond (ltb (p .run) (p .restore)) (standing failState (p .number) (p .run + 1)) (withClaim p)
+
+added : List Port
+added = port ADD 0 true (standing idleState 255 0) 0 3 ∷ []
+
+first-breaks : (wrong-first (portAt added 0) ≡ standing failState 0 1) × (standingAt added 1 0 ≡ standing okState 0 0)
+unfolding added wrong-first claims grant granted holders rounds someJoin moreHeld heldOf chosenOf standingBy standingsOf
+first-breaks = (refl, refl)
+
+-- the number that is held is the one that the port now sends: its own is given away
+wrong-held : List ℕ → ℕ → Port → Standing
+wrong-held chosen i p = cond (hasHoldOff p && not (hasClaim chosen i p)) (standing okState (p .number) (p .run + 1)) (standingBy chosen i p)
+
+-- port 0 is lost as it goes from 0 to 1, and port 1 from 1 to 0
+renumbered : List Port
+renumbered = port NORM 1 false (standing okState 0 0) 2 0 ∷ port NORM 0 true (standing okState 1 0) 2 0 ∷ []
+
+held-breaks :
+    (tabulate 2 (λ i. wrong-held (holders renumbered 2 noneHeld) i (portAt renumbered i)) ≡ standing okState 1 1 ∷ standing okState 0 0 ∷ [])
+    × (left renumbered 2 ≡ standing okState 0 1 ∷ standing okState 1 1 ∷ [])
+unfolding renumbered wrong-held claims grant granted holders rounds someJoin moreHeld heldOf chosenOf standingBy standingsOf
+held-breaks = (refl, refl)
+
+-- The hold-off counted by the epoch's number, which goes round after 256: 300 reports after the loss at epoch 0 it is epoch 44.
+wrong-epochs : Port → ℕ → ℕ → Standing
+wrong-epochs p since now =
+    cond (ltb ((now + 256 - since) % 256) (p .«hold_off»)) (standing okState (p .«state_number») 0) (standing failState (p .number) 0)
+
+long : List Port
+long = port NORM 0 false (standing okState 0 300) 300 0 ∷ []
+
+epochs-break : (wrong-epochs (portAt long 0) 0 44 ≡ standing okState 0 0) × (standingAt long 1 0 ≡ standing failState 0 0)
+unfolding long wrong-epochs claims grant granted holders rounds someJoin moreHeld heldOf chosenOf standingBy standingsOf
+epochs-break = (refl, refl)

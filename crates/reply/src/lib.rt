@@ -1,9 +1,11 @@
-// Member states and the reply (01, 'Member states and reply'), from the good packets and the last report's states.
+// Member states and the reply (01, 'Member states and reply'; 02, 2026-03), from the good packets and what the last report left.
 mod choosing;
 mod members;
 mod telling;
+mod waiting;
 
-pub use choosing::states;
 pub use members::Port;
 pub use telling::ack;
 pub use telling::mst;
+pub use waiting::Standing;
+pub use waiting::standings;

@@ -1,7 +1,7 @@
 // A port as its member state is worked out.
 use packet::Word;
 ghost use mathlib.Core.Path.{_≡_};
-ghost use Rattle.reply.specs.Members.{isCandidate, isIdle, sizeOf, wasOk};
+ghost use Rattle.reply.specs.Members.{hasHoldOff, isCandidate, isIdle, isRestoring, sizeOf, wasOk};
 
 pub struct Port {
     // the word and number of the last good packet; the word is 255 where there was none
@@ -14,6 +14,11 @@ pub struct Port {
     pub told_word: u8,
     pub told_number: u8,
     pub readable: bool,
+    // hold-off and wait-to-restore, in reports
+    pub hold_off: u16,
+    pub restore: u16,
+    // at how many reports the timer has run: hold-off in OK, restoring in FAIL
+    pub run: u16,
 }
 
 impl Port {
@@ -52,4 +57,21 @@ pub(crate) fn was_ok(port: Port) -> bool
     ensures { λ r. ⌜ r ≡ wasOk port ⌝ }
 {
     (port.state == Port::OK) & (port.state_number == port.number)
+}
+
+// A FAIL port whose claim has not stood long enough.
+pub(crate) fn is_restoring(port: Port) -> bool
+    ensures { λ r. ⌜ r ≡ isRestoring port ⌝ }
+{
+    (port.state == Port::FAIL) & (port.run < port.restore)
+}
+
+// An OK port that can lose its claim and not go FAIL yet.
+pub(crate) fn has_hold_off(port: Port) -> bool
+    ensures { λ r. ⌜ r ≡ hasHoldOff port ⌝ }
+{
+    (port.state == Port::OK)
+        & (port.run < port.hold_off)
+        & (port.state_number < 64)
+        & !((port.word == Port::NO_WORD) | (port.word == Word::IDLE.0))
 }

@@ -1,6 +1,6 @@
 -- The row of a port's member.
 use mathlib.Core.List.{List, [], _∷_}
-use Prim.Native.Nat.{ℕ, _+_, _*_}
+use Prim.Native.Nat.{ℕ, _+_, _*_, _/_, _%_}
 use lib.ListN.{getD}
 use Rattle.rows.specs.declared.member.Member.{Member}
 use Rattle.rows.specs.Rows.{rowIn, putRow}
@@ -14,12 +14,9 @@ memberOf row =
       «state_number» = getD row 3 0;
       «told_word» = getD row 4 0;
       «told_number» = getD row 5 0;
-      «spare_6» = getD row 6 0;
-      «spare_7» = getD row 7 0;
-      «spare_8» = getD row 8 0;
-      «spare_9» = getD row 9 0;
-      «spare_10» = getD row 10 0;
-      «spare_11» = getD row 11 0;
+      «hold_off» = getD row 6 0 * 256 + getD row 7 0;
+      restore = getD row 8 0 * 256 + getD row 9 0;
+      run = getD row 10 0 * 256 + getD row 11 0;
       «spare_12» = getD row 12 0;
       «spare_13» = getD row 13 0;
       «spare_14» = getD row 14 0;
@@ -34,12 +31,12 @@ memberRow m =
     ∷ (m .«state_number»)
     ∷ (m .«told_word»)
     ∷ (m .«told_number»)
-    ∷ (m .«spare_6»)
-    ∷ (m .«spare_7»)
-    ∷ (m .«spare_8»)
-    ∷ (m .«spare_9»)
-    ∷ (m .«spare_10»)
-    ∷ (m .«spare_11»)
+    ∷ m .«hold_off» / 256
+    ∷ m .«hold_off» % 256
+    ∷ m .restore / 256
+    ∷ m .restore % 256
+    ∷ m .run / 256
+    ∷ m .run % 256
     ∷ (m .«spare_12»)
     ∷ (m .«spare_13»)
     ∷ (m .«spare_14»)

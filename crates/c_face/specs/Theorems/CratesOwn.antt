@@ -21,6 +21,7 @@ use Rattle.payload.specs.Answers.{numberOf}
 use Rattle.payload.specs.Joining.{joined, wholeAnswer}
 use Rattle.payload.specs.Spreading.{spreadAll}
 use Rattle.receiver.specs.Frame.{frameAnswer, frameRows, frameStore}
+use Rattle.receiver.specs.Starting.{startAnswer, startAsAnswer, startAsRows, startRows}
 use Rattle.sender.specs.Board.{boardOf}
 use Rattle.sender.specs.Commands.{answered, freshOf, startOf}
 use Rattle.sender.specs.declared.table.Answer.the-variants.{Done, OutOfRange}
@@ -33,7 +34,7 @@ use Rattle.c_face.specs.Keeping.{bytesOf, flagByte, senderOf}
 use Rattle.c_face.specs.Payloads.{joinAnswerC, joinFrameC, spreadAnswerC, spreadMembersC}
 use Rattle.c_face.specs.Packets.{readAnswerC, readFieldsC, valuesOr, writeAnswerC, writeBytesC}
 use Rattle.c_face.specs.Plans.{checkAnswerC, checkByteC, lentAnswer, lentBytes, planAnswerC, planBytesC, planBytesOf}
-use Rattle.c_face.specs.Receivers.{failedC}
+use Rattle.c_face.specs.Receivers.{H4, failedC, startAsAnswerC, startAsRowsC}
 use Rattle.c_face.specs.Senders.{areBytes, keptBytes, outside, packetAnswerC, packetBytesC, payloadAnswerC, payloadBytesC, startAnswerC, startStateC, stepAnswerC, stepStateC}
 
 -- levelspruce_packet_write is packet::write on fields that are bytes
@@ -126,6 +127,20 @@ pub ranks-own : (state ranks : List ℕ) → length state ≡ 397 → length ran
     → (shownAnswerC 68 state ranks ≡ 0) × (ranksBytesC state ranks ≡ ranksBytesOf (ranksOf (senderOf state)))
 unfolding shownAnswerC shownBytes
 ranks-own state ranks h l = rw (eq-eqb (length state) 397 h, eq-eqb (length ranks) 68 l) (refl, refl)
+
+-- levelspruce_receiver_start is levelspruce_receiver_start_as with the kind H4 and empty lists
+pub start-as-own : (ports P W store : ℕ) (s : List (List ℕ))
+    → (startAnswer H4 ports P W store (length s) ≡ startAsAnswerC H4 ports P W store [] [] (length s))
+    × (startRows H4 ports P W store s ≡ startAsRowsC H4 ports P W store [] [] s)
+unfolding startAsAnswerC startAsRowsC
+start-as-own ports P W store s = (refl, refl)
+
+-- and that one is receiver::start_as
+pub start-as-h4 : (ports P W store : ℕ) (hold restore : List ℕ) (s : List (List ℕ))
+    → (startAsAnswerC H4 ports P W store hold restore (length s) ≡ startAsAnswer H4 ports P W store hold restore (length s))
+    × (startAsRowsC H4 ports P W store hold restore s ≡ startAsRows H4 ports P W store hold restore s)
+unfolding startAsAnswerC startAsRowsC
+start-as-h4 ports P W store hold restore s = (refl, refl)
 
 -- levelspruce_card_start is Card::start for the kind H4, where the state has its length and the first epochs' numbers are bytes. Empty groups' first epochs have the number 0.
 module _ (count e₀ e₁ : ℕ) (state : List ℕ) (sized : length state ≡ 858) (bytes : areBytes e₀ e₁ 0 ≡ true) where

@@ -5,9 +5,10 @@ use mathlib.Core.List.{List, [], _∷_}
 use Prim.Native.Nat.{ℕ, _+_, _-_, _*_, _%_}
 use native.Mathlib.Nat.{mod-mod}
 use lib.Dec.{eqb, leb, ltb}
-use lib.ListN.{length}
-use Rattle.c_face.specs.Receivers.{failedC}
+use lib.ListN.{getD, length}
+use Rattle.c_face.specs.Receivers.{failedC, startAsAnswerC, startAsRowsC}
 use Rattle.conformance.specs.Entries.{Call, Copes, If, Refusal, Under, Unless, copes, done, first, refused, stateful, stateless}
+use Rattle.counting.specs.Words.{every}
 use Rattle.ground.specs.Circle.{after}
 use Rattle.packet.specs.Kinds.{distanceOf, firstTag, frames, lead, tags}
 use Rattle.phases.specs.Sizes.{portsIn, sized, storeFor}
@@ -15,7 +16,7 @@ use Rattle.receiver.specs.Fetch.{fetchAnswer, fetchOut, fetchRecord, fetchRows,
 use Rattle.receiver.specs.Frame.{frameAnswer, frameRows, frameStore, oddIn, refusalBy, storeBy, takenRows, takenStore}
 use Rattle.receiver.specs.Lengths.{fetchFits, frameFits, outputFor, rowsFit}
 use Rattle.receiver.specs.Shown.{portsAnswer, portsOut, replyAnswer, replyFit, replyOut, shownFit}
-use Rattle.receiver.specs.Starting.{emptyGroup, sizedAnswer, sizedRows, startAnswer, startFits, startRows}
+use Rattle.receiver.specs.Starting.{emptyGroup, sizedAnswer, sizedFits, sizedRows, startAnswer, startAsAnswer, startAsRows, startFits, startRight, startRows, timesWithin}
 use Rattle.rows.specs.declared.group.Group.{Group}
 use Rattle.rows.specs.declared.step.Step.{Step}
 use Rattle.rows.specs.Group.{groupAt, groupOf, groupRow, putGroup}
@@ -37,8 +38,32 @@ start (kind, count, payload, window, store, state) =
     (startAnswer kind count payload window store (length state)) [] [] state (startRows kind count payload window store state) (putGroup state (emptyGroup kind))
 
 pub start-copes : (x : ℕ × ℕ × ℕ × ℕ × ℕ × List (List ℕ)) → Copes (start x)
-unfolding startAnswer startRows sizedAnswer sizedRows startFits sized frames tags
+unfolding startAsAnswer startAsRows startRight timesWithin sizedAnswer sizedRows sizedFits startFits sized frames tags
 start-copes (kind, count, payload, window, store, state) = copes _ (λ s. (λ f. rw (s, f), λ f. rw (s, f) (refl, refl, refl)), λ s. rw s (refl, refl, refl))
+
+-- 'a count above 5,000 is number 4' (02, 2026-03), and a list that is neither as long as there are ports nor empty is 9
+abbrev pub short : List ℕ → Bool
+short counts = every (length counts) (λ i. leb (getD counts i 0) 5000)
+
+abbrev pub startAsRefusals : ℕ → ℕ → ℕ → ℕ → List ℕ → List ℕ → ℕ → List Refusal
+startAsRefusals count payload window store hold restore rows =
+    Unless 4 (short hold && short restore && ranged count payload window)
+    ∷ Unless 9
+    ((eqb (length hold) 0 || eqb (length hold) count)
+    && (eqb (length restore) 0 || eqb (length restore) count)
+    && (eqb rows (count * 5 + 1) && eqb store (count * window * (payload + 1))))
+    ∷ []
+
+abbrev pub startAs : ℕ × ℕ × ℕ × ℕ × ℕ × List ℕ × List ℕ × List (List ℕ) → Call
+startAs (kind, count, payload, window, store, «hold_off», restore, state) =
+    stateful (startAsRefusals count payload window store «hold_off» restore (length state))
+    (startAsAnswer kind count payload window store «hold_off» restore (length state)) [] [] state
+    (startAsRows kind count payload window store «hold_off» restore state) (putGroup state (emptyGroup kind))
+
+pub startAs-copes : (x : ℕ × ℕ × ℕ × ℕ × ℕ × List ℕ × List ℕ × List (List ℕ)) → Copes (startAs x)
+unfolding startAsAnswer startAsRows startRight timesWithin sizedAnswer sizedRows sizedFits startFits sized frames tags
+startAs-copes (kind, count, payload, window, store, «hold_off», restore, state) =
+    copes _ (λ s. (λ f. rw (s, f), λ f. rw (s, f) (refl, refl, refl)), λ s. rw s (refl, refl, refl))
 
 -- what is then in the rows, if there are any, is a group without ports
 pub emptied-empty : (kind : ℕ) (rows : List (List ℕ)) → portsIn (groupAt (putGroup rows (emptyGroup kind))) ≡ 0
@@ -52,6 +77,22 @@ startC (ports, payload, window, «store_bytes», state) = start (0, ports, paylo
 
 pub startC-copes : (x : ℕ × ℕ × ℕ × ℕ × List (List ℕ)) → Copes (startC x)
 startC-copes (ports, payload, window, «store_bytes», state) = start-copes (0, ports, payload, window, «store_bytes», state)
+
+-- of a kind that is named: H4 alone
+abbrev pub startAsC : ℕ × ℕ × ℕ × ℕ × ℕ × List ℕ × List ℕ × List (List ℕ) → Call
+startAsC (kind, ports, payload, window, «store_bytes», «hold_off», restore, state) =
+    stateful (Unless 4 (eqb kind 0) ∷ startAsRefusals ports payload window «store_bytes» «hold_off» restore (length state))
+    (startAsAnswerC kind ports payload window «store_bytes» «hold_off» restore (length state)) [] [] state
+    (startAsRowsC kind ports payload window «store_bytes» «hold_off» restore state) (putGroup state (emptyGroup 0))
+
+pub startAsC-copes : (x : ℕ × ℕ × ℕ × ℕ × ℕ × List ℕ × List ℕ × List (List ℕ)) → Copes (startAsC x)
+unfolding startAsAnswerC startAsRowsC startAsAnswer startAsRows startRight timesWithin sizedAnswer sizedRows sizedFits startFits sized frames tags
+startAsC-copes (kind, ports, payload, window, «store_bytes», «hold_off», restore, state) =
+    copes _ (
+      λ k.
+          (λ s. (λ f. rw (k, s, f), λ f. rw (k, s, f) (refl, refl, refl)), λ s. rw (k, s) (refl, refl, refl)),
+      λ k. rw k (refl, refl, refl),
+    )
 
 -- What a frame does to a port, which ends an odd packet or not: 10, 12, 11. 'A port is in step when 32 frames in a row' count; 'its tag is 0 to W-1 after the first frame of the oldest epoch'; '11 goes only to a joined port'.
 

@@ -6,7 +6,7 @@ use lib.ListN.{length}
 use Rattle.invariant.specs.Proofs.Kept.Calls.{fetch-kept, frame-kept}
 use Rattle.invariant.specs.Kept.Group.{Kept}
 use Rattle.invariant.specs.Proofs.Kept.Start.{started-kept}
-use Rattle.receiver.specs.Starting.{startAnswer}
+use Rattle.receiver.specs.Starting.{startAsAnswer}
 use Rattle.invariant.specs.Calls.{Fetch, Frame, Receiver, ReceiverCall, receiverRun, receiverStep, startedWith}
 
 pub step-kept : (x : Receiver) (c : ReceiverCall) → Kept (x .rows) → Kept (receiverStep x c .rows)
@@ -18,6 +18,6 @@ run-kept x [] k = k
 run-kept x (c ∷ calls) k = run-kept (receiverStep x c) calls (step-kept x c k)
 
 -- after a start that is answered 0 and any calls
-pub kept : (kind count P W : ℕ) (rows : List (List ℕ)) (store : List ℕ) → startAnswer kind count P W (length store) (length rows) ≡ 0 → (calls : List ReceiverCall)
-    → Kept (receiverRun (startedWith kind count P W rows store) calls .rows)
-kept kind count P W rows store e calls = run-kept (startedWith kind count P W rows store) calls (started-kept kind count P W (length store) rows e)
+pub kept : (kind count P W : ℕ) (hold restore : List ℕ) (rows : List (List ℕ)) (store : List ℕ) → startAsAnswer kind count P W (length store) hold restore (length rows) ≡ 0 → (calls : List ReceiverCall)
+    → Kept (receiverRun (startedWith kind count P W hold restore rows store) calls .rows)
+kept kind count P W hold restore rows store e calls = run-kept (startedWith kind count P W hold restore rows store) calls (started-kept kind count P W (length store) hold restore rows e)

@@ -38,8 +38,9 @@ use Rattle.receiver.specs.Laws.Passed.{cleared-joined, passed-kind, passed-olde
 use Rattle.receiver.specs.Laws.Sizes.{ports-are}
 use Rattle.receiver.specs.Laws.Told.{statesIn, told-group, told-of-port, toldOn, withAck}
 use Rattle.receiver.specs.Report.{replyPorts, reportedOf, withState, statesWorkedOut}
-use Rattle.receiver.specs.Starting.{groupWith, startAnswer, startRows}
+use Rattle.receiver.specs.Starting.{groupWith, startAsAnswer, startAsRows}
 use Rattle.reply.specs.Telling.{ackOf}
+use Rattle.reply.specs.Waiting.{noStanding}
 use Rattle.rows.specs.declared.group.Group.{Group}
 use Rattle.rows.specs.declared.step.Step.{Step}
 use Rattle.rows.specs.Group.{groupAt}
@@ -126,7 +127,7 @@ module _ (tag : ℕ) (bytes : List ℕ) (h4 : ℕ) where
   told-claimed g n s same l store j b c =
       let ack : ℕ = ackOf (replyPorts g s n) (sizeOf n) (g .«rs_ack») in
       let group : groupAt (statesWorkedOut g n s) ≡ withAck g ack = told-group g n s (omega arith) in
-      let port : portAt (statesWorkedOut g n s) j ≡ toldOn (portAt s j) (getD (statesIn g n s) j 0) = told-of-port g n s j b l in
+      let port : portAt (statesWorkedOut g n s) j ≡ toldOn (portAt s j) (getD (statesIn g n s) j noStanding) = told-of-port g n s j b l in
       let claims : Claims (withAck g ack) (portAt s j .step) (portAt s j .marks) (c .at) = rw (group, port) at (c .claims) in
       let tag-is : tag ≡ tagIn (withAck g ack) (c .at) = rw group at (c .tag-is) in
       let stands : Stands (withAck g ack) j (c .at) bytes h4 store = rw group at (c .stands) in
@@ -308,14 +309,14 @@ module _ (tag : ℕ) (bytes : List ℕ) (h4 : ℕ) where
       (λ (p : HandedLast tag bytes h4 y calls j). inr (inr p)) rest
 
   -- After a start and any calls, every frame that a port claims was handed in one of them, and has been claimed after each call since: it is the last one handed with its tag since the port joined.
-  pub claimed-handed : (kind count P W : ℕ) (rows : List (List ℕ)) (store : List ℕ) → startAnswer kind count P W (length store) (length rows) ≡ 0 → (calls : List ReceiverCall) (j : ℕ) → j < count
-      → Claimed (receiverRun (startedWith kind count P W rows store) calls .rows) (receiverRun (startedWith kind count P W rows store) calls .store) j tag bytes h4
-      → HandedLast tag bytes h4 (startedWith kind count P W rows store) calls j
-  claimed-handed kind count P W rows store e calls j b c =
-      let x : Receiver = startedWith kind count P W rows store in
-      let k : Kept (x .rows) = started-kept kind count P W (length store) rows e in
-      let group : groupAt (startRows kind count P W (length store) rows) ≡ groupWith kind count P W = started-with kind count P W (length store) rows e in
-      ⊎-elim (λ (p : ClaimedOn tag bytes h4 x calls j). absurd (let w : flagOf (groupAt (startRows kind count P W (length store) rows) .begun) ≡ true = still x calls j p .claims .begun in false≢true (rw group at w)))
+  pub claimed-handed : (kind count P W : ℕ) (hold restore : List ℕ) (rows : List (List ℕ)) (store : List ℕ) → startAsAnswer kind count P W (length store) hold restore (length rows) ≡ 0 → (calls : List ReceiverCall) (j : ℕ) → j < count
+      → Claimed (receiverRun (startedWith kind count P W hold restore rows store) calls .rows) (receiverRun (startedWith kind count P W hold restore rows store) calls .store) j tag bytes h4
+      → HandedLast tag bytes h4 (startedWith kind count P W hold restore rows store) calls j
+  claimed-handed kind count P W hold restore rows store e calls j b c =
+      let x : Receiver = startedWith kind count P W hold restore rows store in
+      let k : Kept (x .rows) = started-kept kind count P W (length store) hold restore rows e in
+      let group : groupAt (startAsRows kind count P W (length store) hold restore rows) ≡ groupWith kind count P W = started-with kind count P W (length store) hold restore rows e in
+      ⊎-elim (λ (p : ClaimedOn tag bytes h4 x calls j). absurd (let w : flagOf (groupAt (startAsRows kind count P W (length store) hold restore rows) .begun) ≡ true = still x calls j p .claims .begun in false≢true (rw group at w)))
       (λ (p : HandedLast tag bytes h4 x calls j). p) (run-claimed x calls k j (rw group b) c)
 
 -- What the first mark of a port says: all frames of the oldest epoch stand in the store.

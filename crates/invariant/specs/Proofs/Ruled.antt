@@ -30,7 +30,7 @@ use Rattle.receiver.specs.Laws.Passed.{cleared-whole, passed-oldest, step-whole
 use Rattle.receiver.specs.Laws.Sizes.{ports-are}
 use Rattle.receiver.specs.Laws.Told.{told-group, told-of-port}
 use Rattle.receiver.specs.Report.{reportedOf}
-use Rattle.receiver.specs.Starting.{groupWith, startAnswer, startRows}
+use Rattle.receiver.specs.Starting.{groupWith, startAsAnswer, startAsRows}
 use Rattle.rows.specs.declared.group.Group.{Group}
 use Rattle.rows.specs.declared.step.Step.{Step}
 use Rattle.rows.specs.Group.{groupAt}
@@ -205,10 +205,10 @@ module _ (x : Receiver) (k₀ : Kept (x .rows)) where
   run-one done [] o = rw (append-nil done) o
   run-one done (c ∷ calls) o = subst (λ (l : List ReceiverCall). OneEpoch x l) (append-assoc done (c ∷ []) calls) (run-one (done ++ (c ∷ [])) calls (step-one done c o))
 
-pub one-epoch : (kind count P W : ℕ) (rows : List (List ℕ)) (store : List ℕ) → startAnswer kind count P W (length store) (length rows) ≡ 0 → (calls : List ReceiverCall)
-    → OneEpoch (startedWith kind count P W rows store) calls
-one-epoch kind count P W rows store e calls =
-    let x : Receiver = startedWith kind count P W rows store in
-    let k : Kept (x .rows) = started-kept kind count P W (length store) rows e in
-    let group : groupAt (startRows kind count P W (length store) rows) ≡ groupWith kind count P W = started-with kind count P W (length store) rows e in
+pub one-epoch : (kind count P W : ℕ) (hold restore : List ℕ) (rows : List (List ℕ)) (store : List ℕ) → startAsAnswer kind count P W (length store) hold restore (length rows) ≡ 0 → (calls : List ReceiverCall)
+    → OneEpoch (startedWith kind count P W hold restore rows store) calls
+one-epoch kind count P W hold restore rows store e calls =
+    let x : Receiver = startedWith kind count P W hold restore rows store in
+    let k : Kept (x .rows) = started-kept kind count P W (length store) hold restore rows e in
+    let group : groupAt (startAsRows kind count P W (length store) hold restore rows) ≡ groupWith kind count P W = started-with kind count P W (length store) hold restore rows e in
     run-one x k [] calls (none-rules (λ j b. off-flag (portAt (x .rows) j .step .whole) (k .steady .ports j b .unruled (rw group refl))))

@@ -19,7 +19,7 @@ use Rattle.link.specs.Sending.{Client, epochAt}
 use Rattle.link.specs.Proofs.Histories.Ours.{ours}
 use Rattle.link.specs.Theorems.{demand3}
 use Rattle.link.specs.Told.{Told}
-use Rattle.link.specs.Samples.Computing.{outcome, started}
+use Rattle.link.specs.Samples.Computing.{no-times, outcome, started}
 use Rattle.link.specs.Samples.Members.{history, link, linkBy}
 use Rattle.link.specs.Samples.Met.{met, met-by, spread-4}
 use Rattle.link.specs.Samples.Reports.{reports, reportsWith, sure}
@@ -79,10 +79,30 @@ abbrev other-then : Time other
 other-then = record { t = 180; done = []; rest = other .order 180; is-order = refl }
 
 starts : Started link (started link)
-starts = record { rows = replicate 11 (replicate 16 0xFF); store = replicate 80 0xFF; rows-long = refl; store-long = refl; is = refl }
+starts = record {
+  hold = [];
+  restore = [];
+  hold-times = no-times 2;
+  restore-times = no-times 2;
+  rows = replicate 11 (replicate 16 0xFF);
+  store = replicate 80 0xFF;
+  rows-long = refl;
+  store-long = refl;
+  is = refl;
+}
 
 other-starts : Started other (started other)
-other-starts = record { rows = replicate 11 (replicate 16 0xFF); store = replicate 80 0xFF; rows-long = refl; store-long = refl; is = refl }
+other-starts = record {
+  hold = [];
+  restore = [];
+  hold-times = no-times 2;
+  restore-times = no-times 2;
+  rows = replicate 11 (replicate 16 0xFF);
+  store = replicate 80 0xFF;
+  rows-long = refl;
+  store-long = refl;
+  is = refl;
+}
 
 named : ToldApart (standing link (ownRun link (started link)) then) (standing other (ownRun other (started other)) other-then) 1
 unfolding frames

@@ -1,4 +1,5 @@
 -- What the runs of a link come to. Everything that they are made of is opened here, for the checker to compute.
+use mathlib.Core.Path.{refl}
 use mathlib.Core.Bool.{cond, _||_}
 use mathlib.Core.List.{List, [], _∷_}
 use Prim.Native.Nat.{ℕ, _+_, _*_}
@@ -27,10 +28,11 @@ use Rattle.receiver.specs.Frame.{frameAnswer, frameRows, frameStore, gatheredBy
 use Rattle.receiver.specs.Lengths.{fetchFits, frameFits, outputFor, rowsFit}
 use Rattle.receiver.specs.Report.{frameInto, framesInto, outputBy, outputOf, replyPort, replyPorts, reportBy, reportedOf, rulingEpoch, seenAll, seenOf, startsOf, withState, statesWorkedOut, statePut, statesPut}
 use Rattle.receiver.specs.Report.{reportOf as reportSeen}
-use Rattle.receiver.specs.Starting.{freshPort, freshPorts, sizedRows, startFits, startRows}
-use Rattle.reply.specs.Choosing.{claim, claims, holders, stateBy, statesOf}
+use Rattle.receiver.specs.Starting.{freshPort, freshPorts, sizedFits, sizedRows, startAsRows, startFits, startRight, timesWithin}
+use Rattle.reply.specs.Choosing.{claims, grant, granted, holders}
 use Rattle.reply.specs.Telling.{ackOf}
 use Rattle.reply.specs.Telling.{turns as turnsAck}
+use Rattle.reply.specs.Waiting.{chosenOf, heldOf, moreHeld, rounds, someJoin, standingBy, standingsOf}
 use Rattle.rows.specs.Group.{groupAt, groupOf, groupRow, putGroup}
 use Rattle.rows.specs.Member.{memberAt, memberOf, memberRow, putMember}
 use Rattle.rows.specs.Packets.{marksAt, packetsAt, putMarks, putPackets}
@@ -50,6 +52,7 @@ use Rattle.step.specs.Own.{endsOdd, oddPacket, ownNumber, ownRuling}
 use Rattle.step.specs.Run.{begunRun, breaksAfter, endsPacket, furtherRun, gainedRun, inStepAt, loses, oddAfter, runOn, secondRun, stayedRun}
 use Rattle.store.specs.Frames.{byteAt, h4At, packetIn, placeIn, ringOf, storedAt}
 use Rattle.store.specs.Marks.{cutByte, cutFrom, firstMark, markIn, markedAt, markedByte, passedByte, passedMarks}
+use Rattle.link.specs.Demand3.{Times}
 use Rattle.link.specs.History.{hasRank, packetSent, payloadSent, senderAt}
 use Rattle.link.specs.Link.{Link, allAsSent, expected, framesOf, roadOf}
 use Rattle.link.specs.Running.{Moment, drained, fetched, framed, fresh, through, turn, turns}
@@ -58,7 +61,16 @@ use Rattle.link.specs.Told.{Told}
 
 -- started over rows and a store that hold anything but zeros
 abbrev pub started : Link → Moment
-started k = fresh (roadOf k) (replicate (rowsFor (k .ports)) (replicate 16 0xFF)) (replicate (k .ports * k .window * (k .payload + 1)) 0xFF)
+started k = fresh (roadOf k) [] [] (replicate (rowsFor (k .ports)) (replicate 16 0xFF)) (replicate (k .ports * k .window * (k .payload + 1)) 0xFF)
+
+-- no times, and some
+pub no-times : (ports : ℕ) → Times [] ports
+unfolding timesWithin
+no-times ports = record { within = refl; fits = refl }
+
+pub some-times : Times (0 ∷ 5000 ∷ []) 2
+unfolding timesWithin
+some-times = record { within = refl; fits = refl }
 
 -- of some answers those that are neither 0 nor 12
 abbrev pub strange : List ℕ → List ℕ
@@ -76,5 +88,5 @@ outcomeOf m = record { begun = groupAt (m .rows) .begun; told = m .told; strange
 
 -- after all frame times before t
 unfoldable pub outcome : Link → ℕ → Outcome
-unfolding after tagByHigh tagByLow counts carriesLow nibbleIn nibblePlace startsCount crcOf divisor nibbleBits distanceOf endsEpoch epochAfter epochOf epochs epochsIn firstTag frames idleNumber lead mstFails mstFirst mstNumbers placeOf startsEpoch tagAfter tagBefore tags carriedIn dataOf fieldsOf h4Of nibblesOf sealedOf readNibbles assigned fitting writeBytes activeIn orderOf portOf rankSeen doubtfulBy eosAlone eosWrong exact gidDiffers heldBy highestSeen judgeOf missing repeats takes begins foremost further latest noTag ready within brought owesNothing silent notedBy passedGroup passedOf passedPort passedPorts passedStep ruledBy rulingOf beginBy begunOf clearedPort clearedPorts clearedStep gatherBy settledOf stopBy stoppedOf portsIn sized storeFor dueIn fetchOut fetchRecord fetchRows fits outIfDue reportIfDue rowsIfDue recordOf frameAnswer frameRows frameStore gatheredBy marksBy portRows refusalBy settledBy storeBy takenRows takenStore fetchFits frameFits outputFor rowsFit frameInto framesInto outputBy outputOf replyPort replyPorts reportBy reportSeen reportedOf rulingEpoch seenAll seenOf startsOf withState statesWorkedOut statePut statesPut freshPort freshPorts sizedRows startFits startRows claim claims holders stateBy statesOf ackOf turnsAck groupAt groupOf groupRow putGroup memberAt memberOf memberRow putMember marksAt packetsAt putMarks putPackets putRow rowIn putStep stepAt stepOf stepRow boardOf highestSent noRow rowOf rowsOf addOf addedTo fallen fallenIn freshOf idleSlot lapseOf removeOf removedFrom startOf beginOf freshSender packetBytes packetFields payloadBytes startEpochOf startedEpoch startedSender carriersIn rankAt rankSent actedOn comesBefore mstApplied numberAfter opensWait renumbered reportHeard slotAfter numberApplied turnOf waited holderOf membersOf sizeOf arrives frameDropped byStart byWindow countsOn distanceIn flagged inStep joining keeps outside readable takenOf endsOdd oddPacket ownNumber ownRuling begunRun breaksAfter endsPacket furtherRun gainedRun inStepAt loses oddAfter runOn secondRun stayedRun byteAt h4At packetIn placeIn ringOf storedAt cutByte cutFrom firstMark markIn markedAt markedByte passedByte passedMarks epochNumber hasRank packetSent payloadSent senderAt allAsSent expected framesOf roadOf drained fetched framed fresh through turn turns
+unfolding after tagByHigh tagByLow counts carriesLow nibbleIn nibblePlace startsCount crcOf divisor nibbleBits distanceOf endsEpoch epochAfter epochOf epochs epochsIn firstTag frames idleNumber lead mstFails mstFirst mstNumbers placeOf startsEpoch tagAfter tagBefore tags carriedIn dataOf fieldsOf h4Of nibblesOf sealedOf readNibbles assigned fitting writeBytes activeIn orderOf portOf rankSeen doubtfulBy eosAlone eosWrong exact gidDiffers heldBy highestSeen judgeOf missing repeats takes begins foremost further latest noTag ready within brought owesNothing silent notedBy passedGroup passedOf passedPort passedPorts passedStep ruledBy rulingOf beginBy begunOf clearedPort clearedPorts clearedStep gatherBy settledOf stopBy stoppedOf portsIn sized storeFor dueIn fetchOut fetchRecord fetchRows fits outIfDue reportIfDue rowsIfDue recordOf frameAnswer frameRows frameStore gatheredBy marksBy portRows refusalBy settledBy storeBy takenRows takenStore fetchFits frameFits outputFor rowsFit frameInto framesInto outputBy outputOf replyPort replyPorts reportBy reportSeen reportedOf rulingEpoch seenAll seenOf startsOf withState statesWorkedOut statePut statesPut freshPort freshPorts sizedFits sizedRows startFits startRight startAsRows timesWithin claims grant granted holders chosenOf heldOf moreHeld rounds someJoin standingBy standingsOf ackOf turnsAck groupAt groupOf groupRow putGroup memberAt memberOf memberRow putMember marksAt packetsAt putMarks putPackets putRow rowIn putStep stepAt stepOf stepRow boardOf highestSent noRow rowOf rowsOf addOf addedTo fallen fallenIn freshOf idleSlot lapseOf removeOf removedFrom startOf beginOf freshSender packetBytes packetFields payloadBytes startEpochOf startedEpoch startedSender carriersIn rankAt rankSent actedOn comesBefore mstApplied numberAfter opensWait renumbered reportHeard slotAfter numberApplied turnOf waited holderOf membersOf sizeOf arrives frameDropped byStart byWindow countsOn distanceIn flagged inStep joining keeps outside readable takenOf endsOdd oddPacket ownNumber ownRuling begunRun breaksAfter endsPacket furtherRun gainedRun inStepAt loses oddAfter runOn secondRun stayedRun byteAt h4At packetIn placeIn ringOf storedAt cutByte cutFrom firstMark markIn markedAt markedByte passedByte passedMarks epochNumber hasRank packetSent payloadSent senderAt allAsSent expected framesOf roadOf drained fetched framed fresh through turn turns
 outcome k t = outcomeOf (through (roadOf k) t (started k))

@@ -14,11 +14,11 @@ use Rattle.link.specs.Demand3.Stands.{none-yet, reporting}
 use Rattle.link.specs.Moments.{Beginning, NotAfter, Ready, Run, nextAt, coming, reached}
 use Rattle.link.specs.Link.{roadOf}
 use Rattle.link.specs.Theorems.{demand3}
-use Rattle.link.specs.Running.{hasBegun}
+use Rattle.link.specs.Running.{fresh, hasBegun}
 use Rattle.link.specs.Told.{Told}
 use Rattle.link.specs.Road.{times}
 use Rattle.link.specs.Proofs.Transport.Times.{coming-is}
-use Rattle.link.specs.Samples.Computing.{started}
+use Rattle.link.specs.Samples.Computing.{no-times, some-times, started}
 use Rattle.link.specs.Samples.Members.{link}
 use Rattle.link.specs.Samples.Met.{met}
 use Rattle.link.specs.Samples.Reports.{as-expected, reports}
@@ -183,6 +183,26 @@ pub itself : Promised link (reached (roadOf link) (started link))
 itself =
     demand3 link met .promised (started link)
     (record {
+      hold = [];
+      restore = [];
+      hold-times = no-times 2;
+      restore-times = no-times 2;
+      rows = replicate 11 (replicate 16 0xFF);
+      store = replicate 80 0xFF;
+      rows-long = refl;
+      store-long = refl;
+      is = refl;
+    })
+
+-- so is one started with times
+pub with-times : Promised link (reached (roadOf link) (fresh (roadOf link) (0 ∷ 5000 ∷ []) (0 ∷ 5000 ∷ []) (replicate 11 (replicate 16 0xFF)) (replicate 80 0xFF)))
+with-times =
+    demand3 link met .promised _
+    (record {
+      hold = 0 ∷ 5000 ∷ [];
+      restore = 0 ∷ 5000 ∷ [];
+      hold-times = some-times;
+      restore-times = some-times;
       rows = replicate 11 (replicate 16 0xFF);
       store = replicate 80 0xFF;
       rows-long = refl;

@@ -12,23 +12,25 @@ use Rattle.payload.specs.Joining.{fromAnswer, startedByte}
 use Rattle.payload.specs.Order.{groupByte}
 use Rattle.receiver.specs.Report.{frameInto, framesInto, startsOf, statePut, statesPut}
 use Rattle.receiver.specs.Starting.{freshPort, freshPorts}
+use Rattle.reply.specs.declared.waiting.Standing.{Standing}
 use Rattle.rows.specs.declared.group.Group.{Group}
 use Rattle.rows.specs.Laws.Lengths.{length-put-marks, length-put-member, length-put-packets, length-put-step}
 
-pub length-fresh-port : (kind i : ℕ) (s : List (List ℕ)) → length (freshPort kind i s) ≡ length s
+pub length-fresh-port : (kind : ℕ) (hold restore : List ℕ) (i : ℕ) (s : List (List ℕ)) → length (freshPort kind hold restore i s) ≡ length s
 unfolding freshPort
-length-fresh-port kind i s = length-put-marks _ i _ ∙ length-put-packets _ i _ ∙ length-put-member _ i _ ∙ length-put-step s i _
+length-fresh-port kind hold restore i s = length-put-marks _ i _ ∙ length-put-packets _ i _ ∙ length-put-member _ i _ ∙ length-put-step s i _
 
-pub length-fresh-ports : (kind n : ℕ) (s : List (List ℕ)) → length (freshPorts kind n s) ≡ length s
+pub length-fresh-ports : (kind : ℕ) (hold restore : List ℕ) (n : ℕ) (s : List (List ℕ)) → length (freshPorts kind hold restore n s) ≡ length s
 unfolding freshPorts
-length-fresh-ports kind zero s = refl
-length-fresh-ports kind (suc n) s = length-fresh-port kind n (freshPorts kind n s) ∙ length-fresh-ports kind n s
+length-fresh-ports kind hold restore zero s = refl
+length-fresh-ports kind hold restore (suc n) s =
+    length-fresh-port kind hold restore n (freshPorts kind hold restore n s) ∙ length-fresh-ports kind hold restore n s
 
-pub length-told-port : (states : List ℕ) (i : ℕ) (s : List (List ℕ)) → length (statePut states i s) ≡ length s
+pub length-told-port : (states : List Standing) (i : ℕ) (s : List (List ℕ)) → length (statePut states i s) ≡ length s
 unfolding statePut
 length-told-port states i s = length-put-member s i _
 
-pub length-told-ports : (states : List ℕ) (n : ℕ) (s : List (List ℕ)) → length (statesPut states n s) ≡ length s
+pub length-told-ports : (states : List Standing) (n : ℕ) (s : List (List ℕ)) → length (statesPut states n s) ≡ length s
 unfolding statesPut
 length-told-ports states zero s = refl
 length-told-ports states (suc n) s = length-told-port states n (statesPut states n s) ∙ length-told-ports states n s

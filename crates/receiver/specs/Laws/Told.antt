@@ -15,10 +15,11 @@ use Rattle.phases.specs.Passing.{groupTo}
 use Rattle.receiver.specs.Laws.Lengths.{length-told-ports}
 use Rattle.receiver.specs.Laws.Sizes.{size-is}
 use Rattle.receiver.specs.Report.{noPort, replyPort, replyPorts, withState, statesWorkedOut, statePut, statesPut}
-use Rattle.reply.specs.Choosing.{statesOf}
 use Rattle.reply.specs.declared.members.Port.{Port as ReplyPort}
+use Rattle.reply.specs.declared.waiting.Standing.{Standing}
 use Rattle.reply.specs.Members as R
 use Rattle.reply.specs.Telling.{ackOf, turns}
+use Rattle.reply.specs.Waiting.{noStanding, standingsOf}
 use Rattle.rows.specs.declared.group.Group.{Group}
 use Rattle.rows.specs.Group.{groupAt}
 use Rattle.rows.specs.Laws.Group.{group-put-same}
@@ -35,13 +36,13 @@ abbrev pub withAck : Group → ℕ → Group
 withAck g ack = groupTo g (g .begun) (g .gathered) (g .oldest) (g .origin) ack
 
 -- a port with its state worked out
-abbrev pub toldOn : Port → ℕ → Port
-toldOn p state = withMember p (withState (p .member) state)
+abbrev pub toldOn : Port → Standing → Port
+toldOn p left = withMember p (withState (p .member) left)
 
-module _ (states : List ℕ) where
-  told-one : (i : ℕ) (s : List (List ℕ)) (n : ℕ) → i < n → rowsFor n ≤ length s → portAt (statePut states i s) i ≡ toldOn (portAt s i) (getD states i 0)
+module _ (states : List Standing) where
+  told-one : (i : ℕ) (s : List (List ℕ)) (n : ℕ) → i < n → rowsFor n ≤ length s → portAt (statePut states i s) i ≡ toldOn (portAt s i) (getD states i noStanding)
   unfolding statePut
-  told-one i s n b h = port-put-member s i (withState (memberAt s i) (getD states i 0)) n b h ∙ rw (port-member s i) refl
+  told-one i s n b h = port-put-member s i (withState (memberAt s i) (getD states i noStanding)) n b h ∙ rw (port-member s i) refl
 
   told-one-other : (i : ℕ) (s : List (List ℕ)) (j : ℕ) → j ≢ i → portAt (statePut states i s) j ≡ portAt s j
   unfolding statePut
@@ -52,7 +53,7 @@ module _ (states : List ℕ) where
   told-beyond zero s i h = refl
   told-beyond (suc n) s i h = told-one-other n (statesPut states n s) i (omega arith) ∙ told-beyond n s i (omega arith)
 
-  told-port : (n : ℕ) (s : List (List ℕ)) (i : ℕ) → i < n → rowsFor n ≤ length s → portAt (statesPut states n s) i ≡ toldOn (portAt s i) (getD states i 0)
+  told-port : (n : ℕ) (s : List (List ℕ)) (i : ℕ) → i < n → rowsFor n ≤ length s → portAt (statesPut states n s) i ≡ toldOn (portAt s i) (getD states i noStanding)
   unfolding statesPut
   told-port zero s i b h = absurd (not-suc-le-zero b)
   told-port (suc n) s i b h =
@@ -60,20 +61,20 @@ module _ (states : List ℕ) where
       let l : length t ≡ length s = length-told-ports states n s in
       let rest = told-port n s i in
       ⊎-elim
-      (λ (e : i ≡ n). rw e (told-one n t (suc n) (omega arith) (rw l h) ∙ ap (λ (p : Port). toldOn p (getD states n 0)) (told-beyond n s n (omega arith))))
+      (λ (e : i ≡ n). rw e (told-one n t (suc n) (omega arith) (rw l h) ∙ ap (λ (p : Port). toldOn p (getD states n noStanding)) (told-beyond n s n (omega arith))))
       (λ (d : i ≢ n). told-one-other n t i d ∙ rest (omega arith) (omega arith))
       (eq-or-ne i n)
 
 module _ (g : Group) (n : ℕ) (s : List (List ℕ)) where
   -- the states that come of it
-  abbrev pub statesIn : List ℕ
-  statesIn = statesOf (replyPorts g s n) (sizeOf n)
+  abbrev pub statesIn : List Standing
+  statesIn = standingsOf (replyPorts g s n) (sizeOf n)
 
   pub length-told : length (statesWorkedOut g n s) ≡ length s
   unfolding statesWorkedOut
   length-told = length-put-group _ _ ∙ length-told-ports statesIn n s
 
-  pub told-of-port : (i : ℕ) → i < n → rowsFor n ≤ length s → portAt (statesWorkedOut g n s) i ≡ toldOn (portAt s i) (getD statesIn i 0)
+  pub told-of-port : (i : ℕ) → i < n → rowsFor n ≤ length s → portAt (statesWorkedOut g n s) i ≡ toldOn (portAt s i) (getD statesIn i noStanding)
   unfolding statesWorkedOut
   told-of-port i b h = port-put-group (statesPut statesIn n s) _ i ∙ told-port statesIn n s i b h
 

@@ -1,7 +1,7 @@
 -- Frames and fetches keep the lengths of what is lent.
 use mathlib.Core.Path.{_≡_, refl, ap, _∙_}
 use mathlib.Core.Bool.{Bool, true, false, cond, not, _&&_}
-use mathlib.Core.List.{List, _++_}
+use mathlib.Core.List.{List, [], _++_}
 use Prim.Native.Nat.{ℕ, _+_, _≤_}
 use native.Mathlib.Omega.{arith}
 use lib.Dec.{eqb}
@@ -17,7 +17,7 @@ use Rattle.phases.specs.Passing.{passedOf}
 use Rattle.step.specs.Arrival.{flagOf}
 use Rattle.phases.specs.Laws.Lengths.{length-begin, length-passed, length-stop}
 use Rattle.phases.specs.Settling.{beginBy, gatherBy, settledOf, stopBy}
-use Rattle.phases.specs.Sizes.{portsIn, sized}
+use Rattle.phases.specs.Sizes.{portsIn}
 use Rattle.receiver.specs.Fetch.{dueIn, fetchOut, fetchRecord, fetchRows, fits, outIfDue, rowsIfDue}
 use Rattle.receiver.specs.Frame.{frameRefusal, frameRows, frameStore, portRows, settledBy, storeBy, takenIn, takenRows, takenStore}
 use Rattle.receiver.specs.Laws.Frames.{length-frame}
@@ -25,7 +25,7 @@ use Rattle.receiver.specs.Laws.Fresh.{length-started}
 use Rattle.receiver.specs.Laws.Lengths.{length-frames-into}
 use Rattle.receiver.specs.Laws.Told.{length-told}
 use Rattle.receiver.specs.Report.{framesInto, outputBy, outputOf, reportedOf, seenAll}
-use Rattle.receiver.specs.Starting.{emptyGroup, groupWith, sizedRows, startFits, startRows}
+use Rattle.receiver.specs.Starting.{emptyGroup, groupWith, sizedFits, sizedRows, startAsRows, startRight, startRows}
 use Rattle.rows.specs.declared.group.Group.{Group}
 use Rattle.rows.specs.Group.{groupAt, putGroup}
 use Rattle.rows.specs.Laws.Lengths.{length-put-group}
@@ -99,10 +99,10 @@ module _ (s : List (List ℕ)) (store out report : List ℕ) where
   fetch-record-alike other e = rw e
 
 pub length-start-rows : (kind count P W store : ℕ) (s : List (List ℕ)) → length (startRows kind count P W store s) ≡ length s
-unfolding startRows sizedRows
+unfolding startAsRows sizedRows
 length-start-rows kind count P W store s =
-    either (sized kind count P W) _ _ (length s)
-    (either (startFits count P W store (length s)) _ s (length s) (length-started kind count s (groupWith kind count P W)) refl)
+    either (startRight kind count P W [] []) _ _ (length s)
+    (either (sizedFits count P W store [] [] (length s)) _ s (length s) (length-started kind count [] [] s (groupWith kind count P W)) refl)
     (length-put-group s (emptyGroup kind))
 
 -- a part that keeps its length, before what is behind it

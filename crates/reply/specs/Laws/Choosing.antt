@@ -1,170 +1,122 @@
--- What a round of choosing does to the table of holders.
+-- What the choosing of candidates does to the table of holders.
 use mathlib.Core.Path.{_≡_, refl, sym, ap, _∙_}
 use mathlib.Core.Logic.{_⊎_, inl, inr, ⊎-elim, _≢_}
-use mathlib.Core.Bool.{Bool, true, false, cond, _&&_, Bool·beq}
+use mathlib.Core.Bool.{Bool, true, false, not, _&&_, Bool·beq}
 use mathlib.Core.List.{List}
-use Prim.Native.Nat.{ℕ, zero, suc, _≤_, _<_}
-use native.Mathlib.Nat.{not-suc-le-zero}
+use Prim.Native.Nat.{ℕ, _≤_, _<_}
 use native.Mathlib.Omega.{arith}
-use lib.Dec.{eqb}
-use lib.ListN.{length, set, length-set}
-use lib.Seq.{getD-set-same, getD-set-other}
-use borrow.Author.Tests.{eq-eqb, eqb-true, eqb-false}
-use Rattle.ground.specs.Truth.{and-true, and-left, and-right, eq-or-ne}
+use lib.ListN.{length}
+use borrow.Author.Tests.{not-true}
+use Rattle.ground.specs.Finite.{same-bit}
+use Rattle.ground.specs.Truth.{and-true, and-left, and-right}
 use Rattle.reply.specs.declared.members.Port.{Port}
-use Rattle.reply.specs.Choosing.{FREE, claim, claims, holderOf}
+use Rattle.reply.specs.Choosing.{FREE, chooses, claims, holderOf, holders}
+use Rattle.reply.specs.Laws.Granting.{Granted, granted-after, granted-first, granted-from, granted-kept, granted-same, length-granted}
 use Rattle.reply.specs.Laws.Members.{candidate-lt}
-use Rattle.reply.specs.Members.{isCandidate, portAt, wasOk}
+use Rattle.reply.specs.Members.{isCandidate, isRestoring, portAt, wasOk}
 
--- a port that chooses in this round
-abbrev pub chooses : Bool → Port → Bool
-chooses first p = isCandidate p && Bool·beq (wasOk p) first
+-- a port that chooses is a candidate, and does not wait to restore
+module _ (first : Bool) (p : Port) (e : chooses first p ≡ true) where
+  pub chooses-candidate : isCandidate p ≡ true
+  chooses-candidate = and-left (isCandidate p) (not (isRestoring p)) (and-left (isCandidate p && not (isRestoring p)) (Bool·beq (wasOk p) first) e)
 
-pub chooses-lt : (first : Bool) (p : Port) → chooses first p ≡ true → p .number < 64
-chooses-lt first p e = candidate-lt p (and-left (isCandidate p) (Bool·beq (wasOk p) first) e)
+  pub chooses-rested : isRestoring p ≡ false
+  chooses-rested =
+      not-true (isRestoring p)
+      (and-right (isCandidate p) (not (isRestoring p)) (and-left (isCandidate p && not (isRestoring p)) (Bool·beq (wasOk p) first) e))
 
--- whether it finds its number free
-abbrev finds : Bool → List ℕ → Port → Bool
-finds first h p = chooses first p && eqb (holderOf h (p .number)) FREE
+  pub chooses-lt : p .number < 64
+  chooses-lt = candidate-lt p chooses-candidate
 
-pub length-claim : (first : Bool) (h : List ℕ) (i : ℕ) (p : Port) → length (claim first h i p) ≡ length h
-unfolding claim
-length-claim first h i p = go (finds first h p)
-  where
-    go : (b : Bool) → length (cond b (set h (p .number) i) h) ≡ length h
-    go true = length-set h (p .number) i
-    go false = refl
+  pub chooses-was : wasOk p ≡ first
+  chooses-was = same-bit (wasOk p) first (and-right (isCandidate p && not (isRestoring p)) (Bool·beq (wasOk p) first) e)
 
--- a number that is taken stays its holder's
-pub claim-kept : (first : Bool) (h : List ℕ) (i : ℕ) (p : Port) (q : ℕ) → holderOf h q ≢ FREE → holderOf (claim first h i p) q ≡ holderOf h q
-unfolding claim
-claim-kept first h i p q taken = go (finds first h p) refl
-  where
-    go : (b : Bool) → finds first h p ≡ b → holderOf (cond b (set h (p .number) i) h) q ≡ holderOf h q
-    go true e =
-        let free : holderOf h (p .number) ≡ FREE = eqb-true (holderOf h (p .number)) FREE (and-right (chooses first p) (eqb (holderOf h (p .number)) FREE) e) in
-        getD-set-other h (p .number) q i FREE (λ (s : q ≡ p .number). taken (ap (λ (k : ℕ). holderOf h k) s ∙ free))
-    go false e = refl
+pub choosing : (p : Port) (first : Bool) → isCandidate p ≡ true → isRestoring p ≡ false → wasOk p ≡ first → chooses first p ≡ true
+choosing p true c r e = and-true (isCandidate p && not (isRestoring p)) _ (and-true (isCandidate p) _ c (rw r)) (rw e)
+choosing p false c r e = and-true (isCandidate p && not (isRestoring p)) _ (and-true (isCandidate p) _ c (rw r)) (rw e)
 
--- one that chooses and finds its number free holds it
-pub claim-holds : (first : Bool) (h : List ℕ) (i : ℕ) (p : Port) → length h ≡ 64 → chooses first p ≡ true → holderOf h (p .number) ≡ FREE
-    → holderOf (claim first h i p) (p .number) ≡ i
-unfolding claim
-claim-holds first h i p len c free =
-    let b : p .number < 64 = chooses-lt first p c in
-    rw (and-true (chooses first p) _ c (eq-eqb (holderOf h (p .number)) FREE free)) (getD-set-same h (p .number) i FREE (omega arith))
-
--- the holder of a number held it before, or has just chosen it
-pub claim-from : (first : Bool) (h : List ℕ) (i : ℕ) (p : Port) (q x : ℕ) → length h ≡ 64 → holderOf (claim first h i p) q ≡ x
-    → (holderOf h q ≡ x) ⊎ ((i ≡ x) × (chooses first p ≡ true) × (p .number ≡ q))
-unfolding claim
-claim-from first h i p q x len = go (finds first h p) refl
-  where
-    go : (b : Bool) → finds first h p ≡ b → holderOf (cond b (set h (p .number) i) h) q ≡ x
-        → (holderOf h q ≡ x) ⊎ ((i ≡ x) × (chooses first p ≡ true) × (p .number ≡ q))
-    go false e is = inl is
-    go true e is =
-        let c : chooses first p ≡ true = and-left (chooses first p) (eqb (holderOf h (p .number)) FREE) e in
-        let b : p .number < 64 = chooses-lt first p c in
-        ⊎-elim
-        (λ (s : q ≡ p .number). inr (sym (getD-set-same h (p .number) i FREE (omega arith)) ∙ ap (λ (k : ℕ). holderOf (set h (p .number) i) k) (sym s) ∙ is, c, sym s))
-        (λ (d : q ≢ p .number). inl (sym (getD-set-other h (p .number) q i FREE d) ∙ is))
-        (eq-or-ne q (p .number))
-
--- port i has chosen q among the first n
-pub record Claimed (first : Bool) (ports : List Port) (n q i : ℕ) : Type 0 where
+-- port i has chosen q
+pub record Chosen (ports : List Port) (n q i : ℕ) : Type 0 where
   pub below : i < n
-  pub chose : chooses first (portAt ports i) ≡ true
+  pub candidate : isCandidate (portAt ports i) ≡ true
+  pub rested : isRestoring (portAt ports i) ≡ false
   pub same : portAt ports i .number ≡ q
 
-module _ (first : Bool) (ports : List Port) where
-  pub length-claims : (n : ℕ) (h : List ℕ) → length (claims first ports n h) ≡ length h
-  unfolding claims
-  length-claims zero h = refl
-  length-claims (suc n) h = length-claim first (claims first ports n h) n (portAt ports n) ∙ length-claims n h
+module _ (ports : List Port) (n : ℕ) where
+  abbrev asks : Bool → ℕ → Bool
+  asks first i = chooses first (portAt ports i)
 
-  -- a number that is taken stays its holder's through the round
-  pub claims-kept : (n : ℕ) (h : List ℕ) (q : ℕ) → holderOf h q ≢ FREE → holderOf (claims first ports n h) q ≡ holderOf h q
-  unfolding claims
-  claims-kept zero h q taken = refl
-  claims-kept (suc n) h q taken =
-      let rest : holderOf (claims first ports n h) q ≡ holderOf h q = claims-kept n h q taken in
-      claim-kept first (claims first ports n h) n (portAt ports n) q (λ (e : holderOf (claims first ports n h) q ≡ FREE). taken (sym rest ∙ e)) ∙ rest
+  abbrev number : ℕ → ℕ
+  number i = portAt ports i .number
 
-  -- the holder of a number held it before the round, or chose it in it
-  pub claims-from : (n : ℕ) (h : List ℕ) (q x : ℕ) → length h ≡ 64 → holderOf (claims first ports n h) q ≡ x
-      → (holderOf h q ≡ x) ⊎ Claimed first ports n q x
+  low : (first : Bool) (i : ℕ) → asks first i ≡ true → number i < 64
+  low first i e = chooses-lt first (portAt ports i) e
+
+  length-claims : (first : Bool) (h : List ℕ) → length (claims first ports n h) ≡ length h
   unfolding claims
-  claims-from zero h q x len is = inl is
-  claims-from (suc n) h q x len is =
-      let rest = claims-from n h q x len in
-      ⊎-elim (λ (e : holderOf (claims first ports n h) q ≡ x). ⊎-elim (λ (o : holderOf h q ≡ x). inl o) (λ (c : Claimed first ports n q x). inr (longer c)) (rest e))
-      (λ (w : (n ≡ x) × (chooses first (portAt ports n) ≡ true) × (portAt ports n .number ≡ q)). inr (now w))
-      (claim-from first (claims first ports n h) n (portAt ports n) q x (length-claims n h ∙ len) is)
+  length-claims first h = length-granted (asks first) number n h
+
+  pub length-holders : (h : List ℕ) → length (holders ports n h) ≡ length h
+  unfolding holders
+  length-holders h = length-claims false (claims true ports n h) ∙ length-claims true h
+
+  -- a number that is held stays its holder's
+  pub holders-kept : (h : List ℕ) (q : ℕ) → holderOf h q ≢ FREE → holderOf (holders ports n h) q ≡ holderOf h q
+  unfolding holders claims
+  holders-kept h q taken =
+      let first : holderOf (claims true ports n h) q ≡ holderOf h q = granted-kept (asks true) number n h q taken in
+      granted-kept (asks false) number n (claims true ports n h) q (λ (e : holderOf (claims true ports n h) q ≡ FREE). taken (sym first ∙ e)) ∙ first
+
+  -- who has a number held it before, or has chosen it
+  pub holders-from : (h : List ℕ) (q x : ℕ) → length h ≡ 64 → holderOf (holders ports n h) q ≡ x → (holderOf h q ≡ x) ⊎ Chosen ports n q x
+  unfolding holders claims
+  holders-from h q x len is =
+      ⊎-elim
+      (λ (o : holderOf (claims true ports n h) q ≡ x).
+      ⊎-elim (λ (z : holderOf h q ≡ x). inl z) (λ (c : Granted (asks true) number n q x). inr (chosen true c)) (granted-from (asks true) number (low true) n h q x len o))
+      (λ (c : Granted (asks false) number n q x). inr (chosen false c))
+      (granted-from (asks false) number (low false) n (claims true ports n h) q x (length-claims true h ∙ len) is)
     where
-      longer : Claimed first ports n q x → Claimed first ports (suc n) q x
-      longer c = record { below = (let b = c .below in omega arith); chose = c .chose; same = c .same }
-
-      now : (n ≡ x) × (chooses first (portAt ports n) ≡ true) × (portAt ports n .number ≡ q) → Claimed first ports (suc n) q x
-      now w =
+      chosen : (first : Bool) → Granted (asks first) number n q x → Chosen ports n q x
+      chosen first c =
           record {
-            below = (let e = w .0 in omega arith);
-            chose = rw (← w .0) (w .1);
-            same = rw (← w .0) (w .2);
+            below = c .below;
+            candidate = chooses-candidate first (portAt ports x) (c .asked);
+            rested = chooses-rested first (portAt ports x) (c .asked);
+            same = c .same;
           }
 
-  -- no number of a port that chose in the round is free after it
-  pub claims-after : (n : ℕ) (h : List ℕ) (i : ℕ) → length h ≡ 64 → n ≤ 64 → i < n → chooses first (portAt ports i) ≡ true
-      → holderOf (claims first ports n h) (portAt ports i .number) ≢ FREE
-  unfolding claims
-  claims-after zero h i len small b c = absurd (not-suc-le-zero b)
-  claims-after (suc n) h i len small b c =
-      let rest = claims-after n h i len in
-      ⊎-elim (λ (e : i ≡ n). last e)
-      (λ (d : i ≢ n).
-      let t : holderOf (claims first ports n h) (portAt ports i .number) ≢ FREE = rest (omega arith) (omega arith) c in
-      λ (z : holderOf (claims first ports (suc n) h) (portAt ports i .number) ≡ FREE).
-      t (sym (claim-kept first (claims first ports n h) n (portAt ports n) (portAt ports i .number) t) ∙ z))
-      (eq-or-ne i n)
+  -- no number of a candidate that chooses is free afterwards
+  pub holders-after : (h : List ℕ) (i : ℕ) → length h ≡ 64 → n ≤ 64 → i < n → isCandidate (portAt ports i) ≡ true → isRestoring (portAt ports i) ≡ false
+      → holderOf (holders ports n h) (number i) ≢ FREE
+  unfolding holders claims
+  holders-after h i len small b c r = go (wasOk (portAt ports i)) refl
     where
-      own : (b : Bool) → eqb (holderOf (claims first ports n h) (portAt ports n .number)) FREE ≡ b → chooses first (portAt ports n) ≡ true
-          → holderOf (claim first (claims first ports n h) n (portAt ports n)) (portAt ports n .number) ≢ FREE
-      own true e k =
-          let is : holderOf (claim first (claims first ports n h) n (portAt ports n)) (portAt ports n .number) ≡ n =
-          claim-holds first (claims first ports n h) n (portAt ports n) (length-claims n h ∙ len) k
-          (eqb-true (holderOf (claims first ports n h) (portAt ports n .number)) FREE e) in
-          λ (z : holderOf (claim first (claims first ports n h) n (portAt ports n)) (portAt ports n .number) ≡ FREE).
-          (let w : n ≡ FREE = sym is ∙ z in omega arith)
-      own false e k =
-          let t : holderOf (claims first ports n h) (portAt ports n .number) ≢ FREE = eqb-false (holderOf (claims first ports n h) (portAt ports n .number)) FREE e in
-          λ (z : holderOf (claim first (claims first ports n h) n (portAt ports n)) (portAt ports n .number) ≡ FREE).
-          t (sym (claim-kept first (claims first ports n h) n (portAt ports n) (portAt ports n .number) t) ∙ z)
+      go : (t : Bool) → wasOk (portAt ports i) ≡ t → holderOf (holders ports n h) (number i) ≢ FREE
+      go false e =
+          granted-after (asks false) number (low false) n (claims true ports n h) i (length-claims true h ∙ len) small b (choosing (portAt ports i) false c r e)
+      go true e =
+          let first : holderOf (claims true ports n h) (number i) ≢ FREE =
+          granted-after (asks true) number (low true) n h i len small b (choosing (portAt ports i) true c r e) in
+          λ (z : holderOf (holders ports n h) (number i) ≡ FREE).
+          first (sym (granted-kept (asks false) number n (claims true ports n h) (number i) first) ∙ z)
 
-      last : i ≡ n → holderOf (claim first (claims first ports n h) n (portAt ports n)) (portAt ports i .number) ≢ FREE
-      last e = rw e (own (eqb (holderOf (claims first ports n h) (portAt ports n .number)) FREE) refl (rw e at c))
+  -- the first of those that were OK under a number gets it, unless it is held
+  pub holders-first : (h : List ℕ) (i : ℕ) → length h ≡ 64 → n ≤ 64 → i < n → chooses true (portAt ports i) ≡ true → holderOf h (number i) ≡ FREE
+      → ((j : ℕ) → j < i → wasOk (portAt ports j) ≡ true → number j ≢ number i)
+      → holderOf (holders ports n h) (number i) ≡ i
+  unfolding holders claims
+  holders-first h i len small b c free none =
+      let is : holderOf (claims true ports n h) (number i) ≡ i =
+      granted-first (asks true) number (low true) n h i len small b c free (λ j d k. none j d (chooses-was true (portAt ports j) k)) in
+      granted-kept (asks false) number n (claims true ports n h) (number i)
+      (λ (z : holderOf (claims true ports n h) (number i) ≡ FREE). let w : i ≡ FREE = sym is ∙ z in omega arith)
+      ∙ is
 
-  -- the first of those that choose a free number in the round holds it
-  pub claims-first : (n : ℕ) (h : List ℕ) (i : ℕ) → length h ≡ 64 → n ≤ 64 → i < n → chooses first (portAt ports i) ≡ true
-      → holderOf h (portAt ports i .number) ≡ FREE
-      → ((j : ℕ) → j < i → chooses first (portAt ports j) ≡ true → portAt ports j .number ≢ portAt ports i .number)
-      → holderOf (claims first ports n h) (portAt ports i .number) ≡ i
-  unfolding claims
-  claims-first zero h i len small b c free none = absurd (not-suc-le-zero b)
-  claims-first (suc n) h i len small b c free none =
-      let rest = claims-first n h i len in
-      ⊎-elim (λ (e : i ≡ n). last e)
-      (λ (d : i ≢ n).
-      let is : holderOf (claims first ports n h) (portAt ports i .number) ≡ i = rest (omega arith) (omega arith) c free none in
-      claim-kept first (claims first ports n h) n (portAt ports n) (portAt ports i .number)
-      (λ (z : holderOf (claims first ports n h) (portAt ports i .number) ≡ FREE). let w : i ≡ FREE = sym is ∙ z in omega arith)
-      ∙ is)
-      (eq-or-ne i n)
-    where
-      last : i ≡ n → holderOf (claim first (claims first ports n h) n (portAt ports n)) (portAt ports i .number) ≡ i
-      last e =
-          let still : holderOf (claims first ports n h) (portAt ports i .number) ≡ FREE =
-          ⊎-elim (λ (o : holderOf h (portAt ports i .number) ≡ holderOf (claims first ports n h) (portAt ports i .number)). sym o ∙ free)
-          (λ (o : Claimed first ports n (portAt ports i .number) (holderOf (claims first ports n h) (portAt ports i .number))).
-          absurd (none (holderOf (claims first ports n h) (portAt ports i .number)) (let k = o .below in omega arith) (o .chose) (o .same)))
-          (claims-from n h (portAt ports i .number) (holderOf (claims first ports n h) (portAt ports i .number)) len refl) in
-          rw (← e) (claim-holds first (claims first ports i h) i (portAt ports i) (length-claims i h ∙ len) c (rw (← e) at still))
+  -- who gets a number hangs on whether it is held, and not on what else is
+  pub holders-same : (h g : List ℕ) (q : ℕ) → length h ≡ 64 → length g ≡ 64 → holderOf h q ≡ holderOf g q
+      → holderOf (holders ports n h) q ≡ holderOf (holders ports n g) q
+  unfolding holders claims
+  holders-same h g q lh lg e =
+      granted-same (asks false) number (low false) n (claims true ports n h) (claims true ports n g) q (length-claims true h ∙ lh) (length-claims true g ∙ lg)
+      (granted-same (asks true) number (low true) n h g q lh lg e)

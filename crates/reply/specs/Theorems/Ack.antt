@@ -112,7 +112,21 @@ says-kept ports n same left = none-turns ports n (λ i b. rw (changed (portAt po
 
 abbrev from : ℕ → ℕ → ℕ → ℕ → ℕ
 from toldWord toldNumber word number =
-    ackOf (record { word = word; number = number; state = 0; «state_number» = 0; «told_word» = toldWord; «told_number» = toldNumber; readable = true } ∷ []) 1 0
+    ackOf
+    (record {
+      word = word;
+      number = number;
+      state = 0;
+      «state_number» = 0;
+      «told_word» = toldWord;
+      «told_number» = toldNumber;
+      readable = true;
+      «hold_off» = 0;
+      restore = 0;
+      run = 0;
+    }
+    ∷ [])
+    1 0
 
 -- It turns from ADD to IDLE, and as the port enters the list, leaves it or has another number in it.
 pub turned : (from 1 7 5 255 ≡ 1) × (from 1 7 3 7 ≡ 1) × (from 3 0 5 255 ≡ 1) × (from 2 1 2 0 ≡ 1) × (from 15 1 15 0 ≡ 1)

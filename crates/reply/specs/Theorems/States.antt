@@ -1,201 +1,146 @@
--- Which ports are OK.
+-- Which ports are OK, and under which numbers.
 use mathlib.Core.Path.{_≡_, refl, sym, ap, _∙_}
 use mathlib.Core.Logic.{⊎-elim, _≢_}
-use mathlib.Core.Bool.{Bool, true, false, cond, _&&_, Bool·beq}
+use mathlib.Core.Bool.{Bool, true, false}
 use mathlib.Core.List.{List}
-use Prim.Native.Nat.{ℕ, _≤_, _<_}
+use Prim.Native.Nat.{ℕ, _+_, _≤_, _<_}
 use native.Mathlib.Omega.{arith}
-use lib.Dec.{eqb}
-use lib.ListN.{length, getD, replicate, getD-replicate, length-replicate}
-use borrow.Author.Tests.{eq-eqb, eqb-true}
+use lib.ListN.{length, getD, replicate, length-replicate, List·getD-eq-default}
 use Rattle.counting.specs.Each.{getD-each}
-use Rattle.ground.specs.Finite.{same-bit}
-use Rattle.ground.specs.Truth.{and-true, and-left, and-right}
+use Rattle.ground.specs.Truth.{le-or-lt}
 use Rattle.reply.specs.declared.members.Port.{Port}
-use Rattle.reply.specs.Choosing.{FREE, claims, holderOf, holders, stateBy, statesOf}
-use Rattle.reply.specs.Laws.Choosing.{Claimed, chooses, claims-after, claims-first, claims-from, claims-kept, length-claims}
-use Rattle.reply.specs.Laws.Members.{candidate-lt, candidate-not-idle}
-use Rattle.reply.specs.Members.{failState, idleState, isCandidate, isIdle, okState, portAt, wasOk}
+use Rattle.reply.specs.declared.waiting.Standing.{Standing}
+use Rattle.reply.specs.Choosing.{FREE, holderOf}
+use Rattle.reply.specs.Laws.Choosing.{Chosen, holders-after, holders-from, holders-kept, length-holders}
+use Rattle.reply.specs.Laws.Claims.{claim-alone, claim-candidate, claim-own, keeps, keeps-own, left-claim, left-idle, left-lost, with-rested, with-restoring, without-failed, without-kept}
+use Rattle.reply.specs.Laws.Holding.{Apart, HeldBy, Low, held-by, held-lost}
+use Rattle.reply.specs.Laws.Members.{candidate-lt, candidate-not-idle, left-not-idle, left-ok, left-runs}
+use Rattle.reply.specs.Members.{failState, idleState, isCandidate, isIdle, isRestoring, okState, portAt}
+use Rattle.reply.specs.Waiting.{chosenOf, hasClaim, heldOf, keepsNumber, noStanding, standing, standingBy, standingsOf, withClaim, withoutClaim}
 
--- the state of port i after a report
-abbrev pub stateAt : List Port → ℕ → ℕ → ℕ
-stateAt ports n i = getD (statesOf ports n) i idleState
+-- what a report leaves of port i
+abbrev pub standingAt : List Port → ℕ → ℕ → Standing
+standingAt ports n i = getD (standingsOf ports n) i noStanding
 
-state-is : (ports : List Port) (n i : ℕ) → n ≤ 64 → i < n → stateAt ports n i ≡ stateBy (holders ports n) i (portAt ports i)
-unfolding statesOf
-state-is ports n i small b =
-    getD-each n (λ k. stateBy (holders ports n) k (portAt ports k)) (replicate 64 idleState) i idleState b (rw (length-replicate {A = ℕ} 64 0) (omega arith))
+pub standing-is : (ports : List Port) (n i : ℕ) → n ≤ 64 → i < n → standingAt ports n i ≡ standingBy (chosenOf ports n) i (portAt ports i)
+unfolding standingsOf
+standing-is ports n i small b =
+    getD-each n (λ k. standingBy (chosenOf ports n) k (portAt ports k)) (replicate 64 noStanding) i noStanding b
+    (rw (length-replicate {A = Standing} 64 noStanding) (omega arith))
 
-by-ok : (h : List ℕ) (i : ℕ) (p : Port) → stateBy h i p ≡ okState → (isCandidate p ≡ true) × (holderOf h (p .number) ≡ i)
-unfolding stateBy
-by-ok h i p = go (isIdle p) (isCandidate p && eqb (holderOf h (p .number)) i) refl
-  where
-    go : (a b : Bool) → (isCandidate p && eqb (holderOf h (p .number)) i) ≡ b → cond a idleState (cond b okState failState) ≡ okState
-        → (isCandidate p ≡ true) × (holderOf h (p .number) ≡ i)
-    go true b e z = absurd (omega arith)
-    go false true e z = (
-      and-left (isCandidate p) (eqb (holderOf h (p .number)) i) e,
-      eqb-true (holderOf h (p .number)) i (and-right (isCandidate p) (eqb (holderOf h (p .number)) i) e),
-    )
-    go false false e z = absurd (omega arith)
+pub length-chosen : (ports : List Port) (n : ℕ) → length (chosenOf ports n) ≡ 64
+unfolding chosenOf
+length-chosen ports n = length-holders ports n (heldOf ports n) ∙ held-by ports n .len
 
-holder-ok : (h : List ℕ) (i : ℕ) (p : Port) → isCandidate p ≡ true → holderOf h (p .number) ≡ i → stateBy h i p ≡ okState
-unfolding stateBy
-holder-ok h i p c e =
-    rw (and-true (isCandidate p) (eqb (holderOf h (p .number)) i) c (eq-eqb (holderOf h (p .number)) i e), candidate-not-idle p c)
+-- a port that is OK has the number under which it is
+abbrev Has : List ℕ → ℕ → Standing → Type 0
+Has chosen i s = s .state ≡ okState → holderOf chosen (s .number) ≡ i
 
--- an OK port is a candidate, and holds its number
-ok-holds : (ports : List Port) (n i : ℕ) → n ≤ 64 → i < n → stateAt ports n i ≡ okState
-    → (isCandidate (portAt ports i) ≡ true) × (holderOf (holders ports n) (portAt ports i .number) ≡ i)
-ok-holds ports n i small b ok = by-ok (holders ports n) i (portAt ports i) (sym (state-is ports n i small b) ∙ ok)
+module _ (ports : List Port) (n i : ℕ) (small : n ≤ 64) (b : i < n) where
+  abbrev p : Port
+  p = portAt ports i
 
-pub ok-candidate : (ports : List Port) (n i : ℕ) → n ≤ 64 → i < n → stateAt ports n i ≡ okState → isCandidate (portAt ports i) ≡ true
-ok-candidate ports n i small b ok = ok-holds ports n i small b ok .0
+  abbrev C : List ℕ
+  C = chosenOf ports n
+
+  -- a candidate that does not wait to restore, and whose number no other port has, has it
+  pub claim-has : hasClaim C i p ≡ true → isRestoring p ≡ false → holderOf C (p .number) ≡ i
+  unfolding chosenOf
+  claim-has c r =
+      ⊎-elim
+      (λ (f : holderOf C (p .number) ≡ FREE).
+      absurd (holders-after ports n (heldOf ports n) i (held-by ports n .len) small b (claim-candidate C i p c) r f))
+      (λ (o : holderOf C (p .number) ≡ i). o)
+      (claim-alone C i p c)
+
+  has-with : (r : Bool) → isRestoring p ≡ r → hasClaim C i p ≡ true → Has C i (withClaim p)
+  has-with true r c = rw (with-restoring p r) (λ (z : failState ≡ okState). absurd (omega arith))
+  has-with false r c = rw (with-rested p r) (λ (z : okState ≡ okState). claim-has c r)
+
+  has-without : (k : Bool) → keepsNumber C i p ≡ k → Has C i (withoutClaim C i p)
+  has-without true k = rw (without-kept C i p k) (λ (z : okState ≡ okState). keeps-own C i p k)
+  has-without false k = rw (without-failed C i p k) (λ (z : failState ≡ okState). absurd (omega arith))
+
+  has-live : (c : Bool) → hasClaim C i p ≡ c → isIdle p ≡ false → Has C i (standingBy C i p)
+  has-live true c e = rw (left-claim C i p e c) (has-with (isRestoring p) refl c)
+  has-live false c e = rw (left-lost C i p e c) (has-without (keepsNumber C i p) refl)
+
+  has-any : (a : Bool) → isIdle p ≡ a → Has C i (standingBy C i p)
+  has-any true e = rw (left-idle C i p e) (λ (z : idleState ≡ okState). absurd (omega arith))
+  has-any false e = has-live (hasClaim C i p) refl e
+
+pub ok-holds : (ports : List Port) (n i : ℕ) → n ≤ 64 → i < n → standingAt ports n i .state ≡ okState
+    → holderOf (chosenOf ports n) (standingAt ports n i .number) ≡ i
+ok-holds ports n i small b ok =
+    let e : standingAt ports n i ≡ standingBy (chosenOf ports n) i (portAt ports i) = standing-is ports n i small b in
+    ap (λ (s : Standing). holderOf (chosenOf ports n) (s .number)) e ∙ has-any ports n i small b (isIdle (portAt ports i)) refl (sym (ap (λ (s : Standing). s .state) e) ∙ ok)
 
 -- the number of an OK port is below 64,
-pub ok-below : (ports : List Port) (n i : ℕ) → n ≤ 64 → i < n → stateAt ports n i ≡ okState → portAt ports i .number < 64
-ok-below ports n i small b ok = candidate-lt (portAt ports i) (ok-candidate ports n i small b ok)
+pub ok-below : (ports : List Port) (n i : ℕ) → n ≤ 64 → i < n → standingAt ports n i .state ≡ okState → standingAt ports n i .number < 64
+ok-below ports n i small b ok =
+    let q : ℕ = standingAt ports n i .number in
+    ⊎-elim
+    (λ (g : 64 ≤ q).
+    let w : i ≡ FREE = sym (ok-holds ports n i small b ok) ∙ List·getD-eq-default (chosenOf ports n) FREE {n = q} (rw (length-chosen ports n) g) in
+    absurd (omega arith))
+    (λ (g : q < 64). g)
+    (le-or-lt 64 q)
 
--- and two OK ports have different ones
-pub ok-apart : (ports : List Port) (n i j : ℕ) → n ≤ 64 → i < n → j < n → stateAt ports n i ≡ okState → stateAt ports n j ≡ okState
-    → portAt ports i .number ≡ portAt ports j .number → i ≡ j
+-- and two OK ports have different ones, whatever came before the report
+pub ok-apart : (ports : List Port) (n i j : ℕ) → n ≤ 64 → i < n → j < n → standingAt ports n i .state ≡ okState → standingAt ports n j .state ≡ okState
+    → standingAt ports n i .number ≡ standingAt ports n j .number → i ≡ j
 ok-apart ports n i j small bi bj oi oj e =
-    sym (ok-holds ports n i small bi oi .1) ∙ ap (λ (q : ℕ). holderOf (holders ports n) q) e ∙ ok-holds ports n j small bj oj .1
+    sym (ok-holds ports n i small bi oi) ∙ ap (λ (q : ℕ). holderOf (chosenOf ports n) q) e ∙ ok-holds ports n j small bj oj
 
-none-held : (q : ℕ) → q < 64 → holderOf (replicate 64 FREE) q ≡ FREE
-none-held q b = getD-replicate 64 q FREE FREE b
+-- port x is OK under q
+pub record OkUnder (ports : List Port) (n q x : ℕ) : Type 0 where
+  pub below : x < n
+  pub ok : standingAt ports n x .state ≡ okState
+  pub same : standingAt ports n x .number ≡ q
 
-length-none : length (replicate 64 FREE) ≡ 64
-length-none = length-replicate {A = ℕ} 64 FREE
-
-length-first : (ports : List Port) (n : ℕ) → length (claims true ports n (replicate 64 FREE)) ≡ 64
-length-first ports n = length-claims true ports n (replicate 64 FREE) ∙ length-none
-
-choosing : (p : Port) (first : Bool) → isCandidate p ≡ true → wasOk p ≡ first → chooses first p ≡ true
-choosing p true c e = and-true (isCandidate p) _ c (rw e)
-choosing p false c e = and-true (isCandidate p) _ c (rw e)
-
-was-ok : (p : Port) → chooses true p ≡ true → wasOk p ≡ true
-was-ok p e = same-bit (wasOk p) true (and-right (isCandidate p) (Bool·beq (wasOk p) true) e)
-
--- 'Candidates that were OK under the same number choose first .. each in port order': no port before this one does so, then it stays OK
-pub first-stays : (ports : List Port) (n i : ℕ) → n ≤ 64 → i < n → isCandidate (portAt ports i) ≡ true → wasOk (portAt ports i) ≡ true
-    → ((j : ℕ) → j < i → isCandidate (portAt ports j) ≡ true → wasOk (portAt ports j) ≡ true → portAt ports j .number ≢ portAt ports i .number)
-    → stateAt ports n i ≡ okState
-unfolding holders
-first-stays ports n i small b c ok none =
-    let q : ℕ = portAt ports i .number in
-    let is : holderOf (claims true ports n (replicate 64 FREE)) q ≡ i =
-    claims-first true ports n (replicate 64 FREE) i length-none small b (choosing (portAt ports i) true c ok)
-    (none-held q (candidate-lt (portAt ports i) c))
-    (λ j d k. none j d (and-left (isCandidate (portAt ports j)) (Bool·beq (wasOk (portAt ports j)) true) k) (was-ok (portAt ports j) k)) in
-    let kept : holderOf (holders ports n) q ≡ i =
-    claims-kept false ports n (claims true ports n (replicate 64 FREE)) q (λ (z : holderOf (claims true ports n (replicate 64 FREE)) q ≡ FREE). let w : i ≡ FREE = sym is ∙ z in omega arith)
-    ∙ is in
-    state-is ports n i small b ∙ holder-ok (holders ports n) i (portAt ports i) c kept
-
--- what the last report left: OK ports have different numbers
-abbrev pub Apart : List Port → ℕ → Type 0
-Apart ports n =
-    (i j : ℕ) → i < n → j < n → portAt ports i .state ≡ okState → portAt ports j .state ≡ okState
-    → portAt ports i .«state_number» ≡ portAt ports j .«state_number» → i ≡ j
-
--- then every candidate that was OK under the same number stays OK, wherever it stands and whoever else claims that number
-pub was-ok-stays : (ports : List Port) (n i : ℕ) → n ≤ 64 → Apart ports n → i < n → isCandidate (portAt ports i) ≡ true → wasOk (portAt ports i) ≡ true
-    → stateAt ports n i ≡ okState
-was-ok-stays ports n i small apart b c ok =
-    first-stays ports n i small b c ok (λ j d cj okj same. let e : j ≡ i = meet j d okj same in omega arith)
+-- whoever has a number after the rounds is OK under it: one that is held, with its old number, one that has chosen it, with its new one
+pub ok-after : (ports : List Port) (n q x : ℕ) → n ≤ 64 → Apart ports n → holderOf (chosenOf ports n) q ≡ x → x ≢ FREE → OkUnder ports n q x
+unfolding chosenOf
+ok-after ports n q x small apart is some =
+    ⊎-elim (λ (h : holderOf (heldOf ports n) q ≡ x). kept (held-by ports n .by q x h some) (held-lost ports n small apart q x h some))
+    (λ (c : Chosen ports n q x). new c)
+    (holders-from ports n (heldOf ports n) q x (held-by ports n .len) is)
   where
-    state : (p : Port) → wasOk p ≡ true → p .state ≡ okState
-    state p e = eqb-true (p .state) okState (and-left (eqb (p .state) okState) (eqb (p .«state_number») (p .number)) e)
+    kept : HeldBy ports n q x → hasClaim (chosenOf ports n) x (portAt ports x) ≡ false → OkUnder ports n q x
+    kept w lost =
+        let e : standingAt ports n x ≡ standing okState (portAt ports x .«state_number») (portAt ports x .run + 1) =
+        standing-is ports n x small (w .below)
+        ∙ left-lost (chosenOf ports n) x (portAt ports x) (left-not-idle (portAt ports x) (w .left)) lost
+        ∙ without-kept (chosenOf ports n) x (portAt ports x)
+        (keeps (chosenOf ports n) x (portAt ports x) (left-ok (portAt ports x) (w .left)) (left-runs (portAt ports x) (w .left))
+        (ap (λ (k : ℕ). holderOf (chosenOf ports n) k) (w .same) ∙ is)) in
+        record { below = w .below; ok = ap (λ (s : Standing). s .state) e; same = ap (λ (s : Standing). s .number) e ∙ w .same }
 
-    number : (p : Port) → wasOk p ≡ true → p .«state_number» ≡ p .number
-    number p e = eqb-true (p .«state_number») (p .number) (and-right (eqb (p .state) okState) (eqb (p .«state_number») (p .number)) e)
-
-    meet : (j : ℕ) → j < i → wasOk (portAt ports j) ≡ true → portAt ports j .number ≡ portAt ports i .number → j ≡ i
-    meet j d okj same =
-        apart j i (omega arith) b (state (portAt ports j) okj) (state (portAt ports i) ok)
-        (number (portAt ports j) okj ∙ same ∙ sym (number (portAt ports i) ok))
+    new : Chosen ports n q x → OkUnder ports n q x
+    new c =
+        let e : standingAt ports n x ≡ standing okState (portAt ports x .number) 0 =
+        standing-is ports n x small (c .below)
+        ∙ left-claim (chosenOf ports n) x (portAt ports x) (candidate-not-idle (portAt ports x) (c .candidate))
+        (claim-own (chosenOf ports n) x (portAt ports x) (c .candidate) (ap (λ (k : ℕ). holderOf (chosenOf ports n) k) (c .same) ∙ is))
+        ∙ with-rested (portAt ports x) (c .rested) in
+        record { below = c .below; ok = ap (λ (s : Standing). s .state) e; same = ap (λ (s : Standing). s .number) e ∙ c .same }
 
 -- an OK port with number q
 pub record Holder (ports : List Port) (n q : ℕ) : Type 0 where
   pub at : ℕ
   pub below : at < n
-  pub ok : stateAt ports n at ≡ okState
-  pub same : portAt ports at .number ≡ q
+  pub ok : standingAt ports n at .state ≡ okState
+  pub same : standingAt ports n at .number ≡ q
 
--- whoever the second round leaves as holder of a number is an OK port with that number
-holder-of : (ports : List Port) (n q : ℕ) → n ≤ 64 → q < 64 → holderOf (holders ports n) q ≢ FREE → Holder ports n q
-unfolding holders
-holder-of ports n q small bq taken =
-    let x : ℕ = holderOf (holders ports n) q in
-    ⊎-elim
-    (λ (o : holderOf (claims true ports n (replicate 64 FREE)) q ≡ x).
-    ⊎-elim (λ (z : holderOf (replicate 64 FREE) q ≡ x). absurd (taken (sym z ∙ none-held q bq)))
-    (λ (c : Claimed true ports n q x). found true c)
-    (claims-from true ports n (replicate 64 FREE) q x length-none o))
-    (λ (c : Claimed false ports n q x). found false c)
-    (claims-from false ports n (claims true ports n (replicate 64 FREE)) q x (length-first ports n) refl)
-  where
-    found : (first : Bool) → Claimed first ports n q (holderOf (holders ports n) q) → Holder ports n q
-    found first c =
-        let x : ℕ = holderOf (holders ports n) q in
-        record {
-          at = x;
-          below = c .below;
-          ok =
-              state-is ports n x small (c .below)
-              ∙ holder-ok (holders ports n) x (portAt ports x)
-              (and-left (isCandidate (portAt ports x)) (Bool·beq (wasOk (portAt ports x)) first) (c .chose))
-              (ap (λ (k : ℕ). holderOf (holders ports n) k) (c .same));
-          same = c .same;
-        }
-
--- the number of every candidate is some OK port's
-pub held : (ports : List Port) (n i : ℕ) → n ≤ 64 → i < n → isCandidate (portAt ports i) ≡ true → Holder ports n (portAt ports i .number)
-unfolding holders
-held ports n i small b c = holder-of ports n (portAt ports i .number) small (candidate-lt (portAt ports i) c) (go (wasOk (portAt ports i)) refl)
-  where
-    go : (t : Bool) → wasOk (portAt ports i) ≡ t → holderOf (holders ports n) (portAt ports i .number) ≢ FREE
-    go false e =
-        claims-after false ports n (claims true ports n (replicate 64 FREE)) i (length-first ports n) small b (choosing (portAt ports i) false c e)
-    go true e =
-        let first : holderOf (claims true ports n (replicate 64 FREE)) (portAt ports i .number) ≢ FREE =
-        claims-after true ports n (replicate 64 FREE) i length-none small b (choosing (portAt ports i) true c e) in
-        λ (z : holderOf (holders ports n) (portAt ports i .number) ≡ FREE).
-        first (sym (claims-kept false ports n (claims true ports n (replicate 64 FREE)) (portAt ports i .number) first) ∙ z)
-
--- an OK port with the number of port i, and not i itself
-pub record Other (ports : List Port) (n i : ℕ) : Type 0 where
-  pub at : ℕ
-  pub below : at < n
-  pub ok : stateAt ports n at ≡ okState
-  pub same : portAt ports at .number ≡ portAt ports i .number
-  pub other : at ≢ i
-
--- 'One whose number is still free becomes OK; all else are FAIL': a candidate is FAIL only where another port is OK with its number
-pub fail-other : (ports : List Port) (n i : ℕ) → n ≤ 64 → i < n → isCandidate (portAt ports i) ≡ true → stateAt ports n i ≡ failState → Other ports n i
-fail-other ports n i small b c fail =
-    let o : Holder ports n (portAt ports i .number) = held ports n i small b c in
-    record {
-      at = o .at;
-      below = o .below;
-      ok = o .ok;
-      same = o .same;
-      other = λ (e : o .at ≡ i). let w : okState ≡ failState = sym (o .ok) ∙ ap (λ (k : ℕ). stateAt ports n k) e ∙ fail in omega arith;
-    }
-
--- the ports with the states of this report, each under its number
+-- the ports with what this report left of each
 pub record Told (ports : List Port) (n : ℕ) (now : List Port) : Type 0 where
-  pub state : (i : ℕ) → i < n → portAt now i .state ≡ stateAt ports n i
-  pub number : (i : ℕ) → i < n → portAt now i .«state_number» ≡ portAt ports i .number
+  pub state : (i : ℕ) → i < n → portAt now i .state ≡ standingAt ports n i .state
+  pub number : (i : ℕ) → i < n → portAt now i .«state_number» ≡ standingAt ports n i .number
+  pub run : (i : ℕ) → i < n → portAt now i .run ≡ standingAt ports n i .run
 
 -- what every report leaves, whatever came before it: OK ports have different numbers, below 64
-pub told-below : (ports : List Port) (n : ℕ) (now : List Port) → n ≤ 64 → Told ports n now → (i : ℕ) → i < n → portAt now i .state ≡ okState
-    → portAt now i .«state_number» < 64
-told-below ports n now small t i b ok =
-    let w : portAt ports i .number < 64 = ok-below ports n i small b (sym (t .state i b) ∙ ok) in
-    rw (t .number i b) w
+pub told-below : (ports : List Port) (n : ℕ) (now : List Port) → n ≤ 64 → Told ports n now → Low now n
+told-below ports n now small t i b ok = rw (t .number i b) (ok-below ports n i small b (sym (t .state i b) ∙ ok))
 
 pub told-apart : (ports : List Port) (n : ℕ) (now : List Port) → n ≤ 64 → Told ports n now → Apart now n
 told-apart ports n now small t i j bi bj oi oj e =

@@ -24,7 +24,7 @@ module _ (s : List (List ℕ)) (o : Shaped s) where
 
   member-row : (i : ℕ) → i * 5 + 2 < length s → memberRow (portAt s i .member) ≡ rowIn s (i * 5 + 2)
   unfolding portAt memberAt
-  member-row i h = member-row-back (rowIn s (i * 5 + 2)) (o .whole (i * 5 + 2) h)
+  member-row i h = member-row-back (rowIn s (i * 5 + 2)) (o .whole (i * 5 + 2) h) (λ j b. o .bytes (i * 5 + 2) j h b)
 
 gathering-row : (s : List (List ℕ)) (i : ℕ) → portAt s i .gathering ≡ rowIn s (i * 5 + 3)
 unfolding portAt packetsAt

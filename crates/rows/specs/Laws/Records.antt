@@ -31,16 +31,12 @@ step-back q = simp halves
 
 pub member-back : (m : Member) → memberOf (memberRow m) ≡ m
 unfolding memberOf memberRow
-member-back m = refl
+member-back m = simp halves
 
 -- And a row of sixteen bytes is the row of the record that it reads as.
 module _ (row : List ℕ) (whole : length row ≡ 16) where
   listed : tabulate 16 (λ k. getD row k 0) ≡ row
   listed = sym (tabulate-is row 16 (λ k. getD row k 0) 0 whole (λ k h. refl))
-
-  pub member-row-back : memberRow (memberOf row) ≡ row
-  unfolding memberOf memberRow
-  member-row-back = listed
 
   module _ (bytes : (j : ℕ) → j < 16 → getD row j 0 < 256) where
     pub group-row-back : groupRow (groupOf row) ≡ row
@@ -60,3 +56,16 @@ module _ (row : List ℕ) (whole : length row ≡ 16) where
     unfolding stepOf stepRow
     step-row-back =
         rw (high (getD row 3 0) (getD row 4 0) (bytes 4 (omega arith)), low (getD row 3 0) (getD row 4 0) (bytes 4 (omega arith))) listed
+
+    pub member-row-back : memberRow (memberOf row) ≡ row
+    unfolding memberOf memberRow
+    member-row-back =
+        rw (
+          high (getD row 6 0) (getD row 7 0) (bytes 7 (omega arith)),
+          low (getD row 6 0) (getD row 7 0) (bytes 7 (omega arith)),
+          high (getD row 8 0) (getD row 9 0) (bytes 9 (omega arith)),
+          low (getD row 8 0) (getD row 9 0) (bytes 9 (omega arith)),
+          high (getD row 10 0) (getD row 11 0) (bytes 11 (omega arith)),
+          low (getD row 10 0) (getD row 11 0) (bytes 11 (omega arith)),
+        )
+        listed

@@ -1,6 +1,6 @@
 -- What holds after a start.
 use mathlib.Core.Path.{_≡_, refl, sym, _∙_}
-use mathlib.Core.Bool.{Bool, true, false, cond, false≢true}
+use mathlib.Core.Bool.{Bool, true, false, cond, _&&_, false≢true}
 use mathlib.Core.List.{List}
 use Prim.Native.Nat.{ℕ, _+_, _*_, _<_}
 use native.Mathlib.Omega.{arith}
@@ -10,12 +10,12 @@ use borrow.Author.Tests.{eqb-true}
 use Rattle.invariant.specs.Kept.Group.{Kept, Lasting}
 use Rattle.invariant.specs.Kept.Port.{PortKept}
 use Rattle.invariant.specs.Proofs.Laws.Runs.{none-kept}
-use Rattle.ground.specs.Truth.{and-left}
+use Rattle.ground.specs.Truth.{and-left, and-right}
 use Rattle.packet.specs.Theorems.Tags.{epochs-some, frames-two}
 use Rattle.phases.specs.Sizes.{sized}
 use Rattle.receiver.specs.Laws.Fresh.{freshOn, length-started, started-group, started-port, started-step, waits-for}
 use Rattle.receiver.specs.Laws.Sizes.{Sizes, sizes-of}
-use Rattle.receiver.specs.Starting.{freshPorts, freshStep, groupWith, sizedAnswer, sizedRows, startAnswer, startFits, startRows, zeroRow}
+use Rattle.receiver.specs.Starting.{freshPorts, freshStep, groupWith, listFits, sizedAnswer, sizedFits, sizedRows, startAsAnswer, startAsRows, startFits, startRight, timeOf, timesWithin, zeroRow}
 use Rattle.reply.specs.Members.{idleState, okState}
 use Rattle.rows.specs.declared.group.Group.{Group}
 use Rattle.rows.specs.Group.{groupAt, putGroup}
@@ -46,15 +46,15 @@ fresh-kept g =
       early = λ e. refl;
     }
 
-module _ (kind count P W : ℕ) (s : List (List ℕ)) (right : sized kind count P W ≡ true) (rows : length s ≡ rowsFor count) where
+module _ (kind count P W : ℕ) (hold restore : List ℕ) (s : List (List ℕ)) (right : sized kind count P W ≡ true) (rows : length s ≡ rowsFor count) where
   abbrev started : List (List ℕ)
-  started = putGroup (freshPorts kind count s) (groupWith kind count P W)
+  started = putGroup (freshPorts kind hold restore count s) (groupWith kind count P W)
 
   group : groupAt started ≡ groupWith kind count P W
-  group = started-group kind count s (groupWith kind count P W) (omega arith)
+  group = started-group kind count hold restore s (groupWith kind count P W) (omega arith)
 
-  port : (i : ℕ) → i < count → portAt started i ≡ freshOn kind
-  port i b = started-port kind count s (groupWith kind count P W) i b (omega arith)
+  port : (i : ℕ) → i < count → portAt started i ≡ freshOn kind (timeOf hold i) (timeOf restore i)
+  port i b = started-port kind count hold restore s (groupWith kind count P W) i b (omega arith)
 
   sizes : Sizes kind count P W
   sizes = sizes-of kind count P W right
@@ -62,7 +62,7 @@ module _ (kind count P W : ℕ) (s : List (List ℕ)) (right : sized kind count 
   lasting-start : Lasting started
   lasting-start =
       record {
-        rows = rw group (length-started kind count s (groupWith kind count P W) ∙ rows);
+        rows = rw group (length-started kind count hold restore s (groupWith kind count P W) ∙ rows);
         group =
             rw group
             (record {
@@ -97,7 +97,7 @@ module _ (kind count P W : ℕ) (s : List (List ℕ)) (right : sized kind count 
               gathers = λ e f. absurd (false≢true (rw group at e));
               waits = λ e.
                   waits-for (groupAt started) started count 0 (sizes .some-ports)
-                  (rw (started-step kind count s (groupWith kind count P W) 0 (sizes .some-ports) (omega arith)) refl);
+                  (rw (started-step kind count hold restore s (groupWith kind count P W) 0 (sizes .some-ports) (omega arith)) refl);
             });
       }
 
@@ -105,24 +105,46 @@ fits-rows : (count P W store rows : ℕ) → startFits count P W store rows ≡ 
 unfolding startFits
 fits-rows count P W store rows e = eqb-true rows (rowsFor count) (and-left (eqb rows (rowsFor count)) (eqb store (count * W * (P + 1))) e)
 
--- a start that is answered 0
-pub started-kept : (kind count P W store : ℕ) (s : List (List ℕ)) → startAnswer kind count P W store (length s) ≡ 0 → Kept (startRows kind count P W store s)
-unfolding startAnswer startRows sizedAnswer sizedRows
-started-kept kind count P W store s z = go (sized kind count P W) (startFits count P W store (length s)) refl refl z
-  where
-    go : (a b : Bool) → sized kind count P W ≡ a → startFits count P W store (length s) ≡ b → _≡_ {A = ℕ} (cond a (cond b 0 9) 4) 0
-        → Kept (cond a (cond b (putGroup (freshPorts kind count s) (groupWith kind count P W)) s) (putGroup s (groupWith kind 0 0 0)))
-    go true true e f z = kept-start kind count P W s e (fits-rows count P W store (length s) f)
-    go true false e f z = absurd (omega arith)
-    go false b e f z = absurd (omega arith)
+sized-rows : (count P W store : ℕ) (hold restore : List ℕ) (rows : ℕ) → sizedFits count P W store hold restore rows ≡ true → rows ≡ rowsFor count
+unfolding sizedFits
+sized-rows count P W store hold restore rows e =
+    fits-rows count P W store rows (and-right (listFits hold count && listFits restore count) (startFits count P W store rows) e)
 
-pub started-with : (kind count P W store : ℕ) (s : List (List ℕ)) → startAnswer kind count P W store (length s) ≡ 0
-    → groupAt (startRows kind count P W store s) ≡ groupWith kind count P W
-unfolding startAnswer startRows sizedAnswer sizedRows
-started-with kind count P W store s z = go (sized kind count P W) (startFits count P W store (length s)) refl refl z
-  where
-    go : (a b : Bool) → sized kind count P W ≡ a → startFits count P W store (length s) ≡ b → _≡_ {A = ℕ} (cond a (cond b 0 9) 4) 0
-        → groupAt (cond a (cond b (putGroup (freshPorts kind count s) (groupWith kind count P W)) s) (putGroup s (groupWith kind 0 0 0))) ≡ groupWith kind count P W
-    go true true e f z = group kind count P W s e (fits-rows count P W store (length s) f)
-    go true false e f z = absurd (omega arith)
-    go false b e f z = absurd (omega arith)
+right-sized : (kind count P W : ℕ) (hold restore : List ℕ) → startRight kind count P W hold restore ≡ true → sized kind count P W ≡ true
+unfolding startRight
+right-sized kind count P W hold restore e = and-right (timesWithin hold && timesWithin restore) (sized kind count P W) e
+
+-- a start that is answered 0
+module _ (kind count P W store : ℕ) (hold restore : List ℕ) (s : List (List ℕ)) where
+  abbrev Answered : Bool → Bool → Type 0
+  Answered a b = _≡_ {A = ℕ} (cond a (cond b 0 9) 4) 0
+
+  abbrev left : Bool → Bool → List (List ℕ)
+  left a b = cond a (cond b (putGroup (freshPorts kind hold restore count s) (groupWith kind count P W)) s) (putGroup s (groupWith kind 0 0 0))
+
+  abbrev right : Bool
+  right = startRight kind count P W hold restore
+
+  abbrev fit : Bool
+  fit = sizedFits count P W store hold restore (length s)
+
+  by-kept : (a b : Bool) → right ≡ a → fit ≡ b → Answered a b → Kept (left a b)
+  by-kept true true e f z =
+      kept-start kind count P W hold restore s (right-sized kind count P W hold restore e) (sized-rows count P W store hold restore (length s) f)
+  by-kept true false e f z = absurd (omega arith)
+  by-kept false b e f z = absurd (omega arith)
+
+  by-group : (a b : Bool) → right ≡ a → fit ≡ b → Answered a b → groupAt (left a b) ≡ groupWith kind count P W
+  by-group true true e f z =
+      group kind count P W hold restore s (right-sized kind count P W hold restore e) (sized-rows count P W store hold restore (length s) f)
+  by-group true false e f z = absurd (omega arith)
+  by-group false b e f z = absurd (omega arith)
+
+  pub started-kept : startAsAnswer kind count P W store hold restore (length s) ≡ 0 → Kept (startAsRows kind count P W store hold restore s)
+  unfolding startAsAnswer startAsRows sizedAnswer sizedRows
+  started-kept z = by-kept right fit refl refl z
+
+  pub started-with : startAsAnswer kind count P W store hold restore (length s) ≡ 0
+      → groupAt (startAsRows kind count P W store hold restore s) ≡ groupWith kind count P W
+  unfolding startAsAnswer startAsRows sizedAnswer sizedRows
+  started-with z = by-group right fit refl refl z

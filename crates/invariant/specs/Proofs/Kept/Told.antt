@@ -8,10 +8,12 @@ use Rattle.invariant.specs.Kept.Group.{GroupKept, OkApart, PortIn, Lasti
 use Rattle.invariant.specs.Kept.Port.{PortKept}
 use Rattle.judge.specs.Seen.{sizeOf}
 use Rattle.receiver.specs.Laws.Sizes.{size-is, sizes-of}
-use Rattle.receiver.specs.Laws.Told.{ack-le, length-told, statesIn, told-group, told-number, told-of-port, toldOn, withAck}
+use Rattle.receiver.specs.Laws.Told.{ack-le, length-told, statesIn, told-group, told-of-port, toldOn, withAck}
 use Rattle.receiver.specs.Report.{replyPorts, withState, statesWorkedOut}
 use Rattle.reply.specs.Telling.{ackOf}
-use Rattle.reply.specs.Theorems.States.{ok-apart, ok-below, stateAt}
+use Rattle.reply.specs.Theorems.States.{ok-apart, ok-below, standingAt}
+use Rattle.reply.specs.Waiting.{noStanding}
+use Rattle.reply.specs.declared.waiting.Standing.{Standing}
 use Rattle.rows.specs.declared.group.Group.{Group}
 use Rattle.rows.specs.declared.member.Member.{Member}
 use Rattle.rows.specs.declared.step.Step.{Step}
@@ -45,13 +47,13 @@ ack-kept g ack s marks k =
       early = k .early;
     }
 
-told-in : (g : Group) (ack : ℕ) (p : Port) (state : ℕ) → PortIn g p → PortIn (withAck g ack) (toldOn p state)
+told-in : (g : Group) (ack : ℕ) (p : Port) (left : Standing) → PortIn g p → PortIn (withAck g ack) (toldOn p left)
 unfolding withState
-told-in g ack p state o = record { kept = ack-kept g ack (p .step) (p .marks) (o .kept); unruled = o .unruled; word = o .word }
+told-in g ack p left o = record { kept = ack-kept g ack (p .step) (p .marks) (o .kept); unruled = o .unruled; word = o .word }
 
-told-state : (m : Member) (state : ℕ) → (withState m state .state ≡ state) × (withState m state .«state_number» ≡ m .number)
+told-state : (m : Member) (left : Standing) → (withState m left .state ≡ left .state) × (withState m left .«state_number» ≡ left .number)
 unfolding withState
-told-state m state = (refl, refl)
+told-state m left = (refl, refl)
 
 module _ (s : List (List ℕ)) (k : Lasting s) where
   abbrev g : Group
@@ -70,7 +72,7 @@ module _ (s : List (List ℕ)) (k : Lasting s) where
         group = rw group with-ack;
         ports = λ i c.
             let b : i < n = rw group at c in
-            rw (group, told-of-port g n s i b enough) (told-in g ack (portAt s i) (getD (statesIn g n s) i 0) (k .ports i b));
+            rw (group, told-of-port g n s i b enough) (told-in g ack (portAt s i) (getD (statesIn g n s) i noStanding) (k .ports i b));
         members = rw group apart;
       }
     where
@@ -96,17 +98,17 @@ module _ (s : List (List ℕ)) (k : Lasting s) where
             idle-oldest = k .group .idle-oldest;
           }
 
-      state : (i : ℕ) → i < n → (portAt (statesWorkedOut g n s) i .member .state ≡ stateAt (replyPorts g s n) n i) × (portAt (statesWorkedOut g n s) i .member .«state_number» ≡ portAt s i .member .number)
+      state : (i : ℕ) → i < n → (portAt (statesWorkedOut g n s) i .member .state ≡ standingAt (replyPorts g s n) n i .state) × (portAt (statesWorkedOut g n s) i .member .«state_number» ≡ standingAt (replyPorts g s n) n i .number)
       state i b =
           rw (told-of-port g n s i b enough)
-          (let t = told-state (portAt s i .member) (getD (statesIn g n s) i 0) in (t .0 ∙ rw (size-is n few) refl, t .1))
+          (let t = told-state (portAt s i .member) (getD (statesIn g n s) i noStanding) in (t .0 ∙ rw (size-is n few) refl, t .1 ∙ rw (size-is n few) refl))
 
       apart : OkApart n (λ i. portAt (statesWorkedOut g n s) i .member)
       apart =
           record {
             below = λ i b o.
-                rw (state i b .1, ← told-number g s n i few b) (ok-below (replyPorts g s n) n i few b (sym (state i b .0) ∙ o));
+                rw (state i b .1) (ok-below (replyPorts g s n) n i few b (sym (state i b .0) ∙ o));
             apart = λ i j bi bj oi oj e.
                 ok-apart (replyPorts g s n) n i j few bi bj (sym (state i bi .0) ∙ oi) (sym (state j bj .0) ∙ oj)
-                (told-number g s n i few bi ∙ sym (state i bi .1) ∙ e ∙ state j bj .1 ∙ sym (told-number g s n j few bj));
+                (sym (state i bi .1) ∙ e ∙ state j bj .1);
           }

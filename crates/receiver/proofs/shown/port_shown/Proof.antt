@@ -31,9 +31,12 @@ is-set-requires-2 c κs = search needs
 flag-byte-requires-4 : tie.Need-flag-byte-requires-4
 flag-byte-requires-4 c κs = search needs
 
+waiting-byte-requires : tie.Need-waiting-byte-requires
+waiting-byte-requires c κs = search needs
+
 returns : tie.Need-returns
 unfolding portShown
-returns c = rw (c .flag-byte4 .ensures, c .before .is-set2 .ensures, c .before .before .flag-byte3 .ensures, c .before .before .before .flag-byte2 .ensures, c .before .before .before .before .is-set .ensures, c .before .before .before .before .before .flag-byte .ensures, c .before .before .before .before .before .before .shown-number .ensures, c .before .before .before .before .before .before .before .is-readable .ensures, c .before .before .before .before .before .before .before .before .in-step .ensures) refl
+returns c = rw (c .waiting-byte .ensures, c .before .flag-byte4 .ensures, c .before .before .is-set2 .ensures, c .before .before .before .flag-byte3 .ensures, c .before .before .before .before .flag-byte2 .ensures, c .before .before .before .before .before .is-set .ensures, c .before .before .before .before .before .before .flag-byte .ensures, c .before .before .before .before .before .before .before .shown-number .ensures, c .before .before .before .before .before .before .before .before .is-readable .ensures, c .before .before .before .before .before .before .before .before .before .in-step .ensures) refl
 
 pub port-shown-spec : {M : Type 1} → statement M
 port-shown-spec =
@@ -48,4 +51,5 @@ port-shown-spec =
     flag-byte-requires-3
     is-set-requires-2
     flag-byte-requires-4
+    waiting-byte-requires
     returns)

@@ -7,6 +7,12 @@ use Rattle.receiver.proofs.starting.put_port.Tie as tie
 fresh-step-requires : tie.Need-fresh-step-requires
 fresh-step-requires c κs = search needs
 
+time-of-requires : tie.Need-time-of-requires
+time-of-requires c κs = search needs
+
+time-of-requires-2 : tie.Need-time-of-requires-2
+time-of-requires-2 c κs = search needs
+
 fresh-member-requires : tie.Need-fresh-member-requires
 fresh-member-requires c κs = search needs
 
@@ -27,13 +33,15 @@ same-length c = search needs
 
 returns : tie.Need-returns
 unfolding freshPort
-returns c = rw (c .before .put-marks .ensures, c .before .before .before .before .put3 .ensures, c .before .before .before .before .before .before .before .put2 .ensures, c .before .before .before .before .before .before .before .before .before .before .put .ensures, c .before .before .before .before .before .before .before .before .before .before .before .before .fresh-member .ensures, c .before .before .before .before .before .before .before .before .before .before .before .before .before .fresh-step .ensures) refl
+returns c = rw (c .before .put-marks .ensures, c .before .before .before .before .put3 .ensures, c .before .before .before .before .before .before .before .put2 .ensures, c .before .before .before .before .before .before .before .before .before .before .put .ensures, c .before .before .before .before .before .before .before .before .before .before .before .before .fresh-member .ensures, c .before .before .before .before .before .before .before .before .before .before .before .before .before .time-of2 .ensures, c .before .before .before .before .before .before .before .before .before .before .before .before .before .before .time-of .ensures, c .before .before .before .before .before .before .before .before .before .before .before .before .before .before .before .fresh-step .ensures) refl
 
 pub put-port-spec : {M : Type 1} → statement M
 put-port-spec =
     tie.close
     (tie.spec
     fresh-step-requires
+    time-of-requires
+    time-of-requires-2
     fresh-member-requires
     put-requires
     put-requires-2

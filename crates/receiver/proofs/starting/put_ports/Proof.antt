@@ -10,10 +10,10 @@ use Rattle.receiver.proofs.starting.put_ports.Statement.{statement}
 use Rattle.receiver.proofs.starting.put_ports.Tie as tie
 
 abbrev Inv-loop : tie.InvT-loop
-Inv-loop kind ports state₀ i₀ state i = (i ≤ ports) × (state ≡ freshPorts kind i state₀)
+Inv-loop kind hold restore ports state₀ i₀ state i = (i ≤ ports) × (state ≡ freshPorts kind hold restore i state₀)
 
 abbrev μ-loop : tie.MeasureT-loop
-μ-loop kind ports state₀ i₀ state i = ports - i
+μ-loop kind hold restore ports state₀ i₀ state i = ports - i
 
 loop-holds : tie.Need-loop-holds Inv-loop μ-loop
 unfolding freshPorts
@@ -33,10 +33,10 @@ unfolding freshPorts
 loop-again c = (omega arith, rw (add-one, ← c .before .before .before .before .loop .inv .1) (c .before .put-port .ensures))
 
 same-length : tie.Need-same-length Inv-loop μ-loop
-same-length c = ap length (c .before .loop .inv .1) ∙ length-fresh-ports _ _ _
+same-length c = ap length (c .before .loop .inv .1) ∙ length-fresh-ports _ _ _ _ _
 
 returns : tie.Need-returns Inv-loop μ-loop
-returns c = let e : c .before .loop .i ≡ c .before .before .args .ports = omega arith in rw e at (c .before .loop .inv .1)
+returns c = let e : c .before .loop .i ≡ c .before .before .before .before .args .ports = omega arith in rw e at (c .before .loop .inv .1)
 
 pub put-ports-spec : {M : Type 1} → statement M
 put-ports-spec =

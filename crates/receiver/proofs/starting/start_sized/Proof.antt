@@ -1,16 +1,24 @@
 use mathlib.Core.Path.{refl, _∙_}
 use borrow.Author.Tests.{not-true, not-false}
-use Rattle.receiver.specs.Starting.{sizedAnswer, sizedRows}
 use borrow.Author.Needs.{needs}
+use Rattle.receiver.proofs.Started.{sized-done, sized-unfit}
 use Rattle.receiver.proofs.starting.start_sized.Statement.{statement}
 use Rattle.receiver.proofs.starting.start_sized.Tie as tie
+
+is-list-requires : tie.Need-is-list-requires
+is-list-requires c κs = search needs
+
+is-list-requires-2 : tie.Need-is-list-requires-2
+is-list-requires-2 c κs = search needs
 
 is-fitting-requires : tie.Need-is-fitting-requires
 is-fitting-requires c κs = search needs
 
 returns : tie.Need-returns
-unfolding sizedAnswer sizedRows
-returns c = rw (← c .before .is-fitting .ensures, not-true (c .before .is-fitting .result) (c .if1 .taken)) (refl, refl)
+returns c =
+    let a = c .before .before .before .before .before .before .args in
+    sized-unfit (a .kind) (a .count) (a .payload) (a .window) (a .store) (a .hold-off .now) (a .restore .now) (a .state .now) _ _ _
+    (c .before .before .before .is-list .ensures) (c .before .before .is-list2 .ensures) (c .before .is-fitting .ensures) (not-true _ (c .if1 .taken))
 
 group-with-requires : tie.Need-group-with-requires
 group-with-requires c κs = search needs
@@ -25,13 +33,19 @@ same-length : tie.Need-same-length
 same-length c = search needs
 
 returns-2 : tie.Need-returns-2
-unfolding sizedAnswer sizedRows
-returns-2 c = rw (← c .before .before .before .before .before .before .before .before .is-fitting .ensures, not-false (c .before .before .before .before .before .before .before .before .is-fitting .result) (c .before .before .before .before .before .before .before .if1 .left)) (refl, (c .before .put .ensures ∙ rw (c .before .before .before .before .put-ports .ensures, c .before .before .before .before .before .before .group-with .ensures) refl))
+returns-2 c =
+    let a = c .before .before .before .before .before .before .before .before .before .before .before .before .before .args in
+    sized-done (a .kind) (a .count) (a .payload) (a .window) (a .store) (a .hold-off .now) (a .restore .now) (a .state .now) _ _ _
+    (c .before .before .before .before .before .before .before .before .before .before .is-list .ensures) (c .before .before .before .before .before .before .before .before .before .is-list2 .ensures) (c .before .before .before .before .before .before .before .before .is-fitting .ensures) _
+    (not-false _ (c .before .before .before .before .before .before .before .if1 .left))
+    (c .before .put .ensures ∙ rw (c .before .before .before .before .put-ports .ensures, c .before .before .before .before .before .before .group-with .ensures) refl)
 
 pub start-sized-spec : {M : Type 1} → statement M
 start-sized-spec =
     tie.close
     (tie.spec
+    is-list-requires
+    is-list-requires-2
     is-fitting-requires
     returns
     group-with-requires

@@ -4,8 +4,8 @@ use borrow.Author.Needs.{needs}
 use Rattle.receiver.proofs.states.put_state.Statement.{statement}
 use Rattle.receiver.proofs.states.put_state.Tie as tie
 
-state-at-requires : tie.Need-state-at-requires
-state-at-requires c κs = search needs
+standing-at-requires : tie.Need-standing-at-requires
+standing-at-requires c κs = search needs
 
 get-requires : tie.Need-get-requires
 get-requires c κs = search needs
@@ -21,9 +21,9 @@ same-length c = search needs
 
 returns : tie.Need-returns
 unfolding statePut
-returns c = rw (c .before .put .ensures, c .before .before .before .with-state .ensures, c .before .before .before .before .get .ensures, c .before .before .before .before .before .before .state-at .ensures) refl
+returns c = rw (c .before .put .ensures, c .before .before .before .with-state .ensures, c .before .before .before .before .get .ensures, c .before .before .before .before .before .before .standing-at .ensures) refl
 
 pub put-state-spec : {M : Type 1} → statement M
 put-state-spec =
     tie.close
-    (tie.spec state-at-requires get-requires with-state-requires put-requires same-length returns)
+    (tie.spec standing-at-requires get-requires with-state-requires put-requires same-length returns)

@@ -7,8 +7,8 @@ use Rattle.receiver.proofs.states.work_out_states.Tie as tie
 reply-ports-requires : tie.Need-reply-ports-requires
 reply-ports-requires c κs = search needs
 
-states-requires : tie.Need-states-requires
-states-requires c κs = search needs
+standings-requires : tie.Need-standings-requires
+standings-requires c κs = search needs
 
 ack-requires : tie.Need-ack-requires
 ack-requires c κs = search needs
@@ -27,14 +27,14 @@ same-length c = search needs
 
 returns : tie.Need-returns
 unfolding statesWorkedOut
-returns c = rw (c .before .put .ensures, c .before .before .before .before .put-states .ensures, c .before .before .before .before .before .before .with-ack .ensures, c .before .before .before .before .before .before .before .ack .ensures, c .before .before .before .before .before .before .before .before .states .ensures, c .before .before .before .before .before .before .before .before .before .reply-ports .ensures) refl
+returns c = rw (c .before .put .ensures, c .before .before .before .before .put-states .ensures, c .before .before .before .before .before .before .with-ack .ensures, c .before .before .before .before .before .before .before .ack .ensures, c .before .before .before .before .before .before .before .before .standings .ensures, c .before .before .before .before .before .before .before .before .before .reply-ports .ensures) refl
 
 pub work-out-states-spec : {M : Type 1} → statement M
 work-out-states-spec =
     tie.close
     (tie.spec
     reply-ports-requires
-    states-requires
+    standings-requires
     ack-requires
     with-ack-requires
     put-states-requires

@@ -4,7 +4,7 @@ use native.Mathlib.Numerals.{add-one}
 use native.Mathlib.Omega.{arith}
 use lib.ListN.{length}
 use borrow.Author.Needs.{needs}
-use Rattle.reply.specs.Choosing.{claims}
+use Rattle.reply.specs.Choosing.{claims, granted}
 use Rattle.reply.proofs.choosing.claim_all.Statement.{statement}
 use Rattle.reply.proofs.choosing.claim_all.Tie as tie
 
@@ -15,7 +15,7 @@ abbrev μ-loop : tie.MeasureT-loop
 μ-loop first n ports chosen₀ i₀ chosen i = n - i
 
 loop-holds : tie.Need-loop-holds Inv-loop μ-loop
-unfolding claims
+unfolding claims granted
 loop-holds c = (omega arith, omega arith, refl)
 
 mul-port : tie.Need-mul-port Inv-loop μ-loop
@@ -37,7 +37,7 @@ loop-less : tie.Need-loop-less Inv-loop μ-loop
 loop-less c = search needs
 
 loop-again : tie.Need-loop-again Inv-loop μ-loop
-unfolding claims
+unfolding claims granted
 loop-again c = (c .before .before .before .loop .inv .0, omega arith, c .claim-one .ensures ∙ rw (c .before .before .before .loop .inv .2, add-one))
 
 returns : tie.Need-returns Inv-loop μ-loop

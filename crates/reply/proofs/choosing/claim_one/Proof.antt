@@ -2,7 +2,7 @@ use mathlib.Core.Path.{sym, _∙_}
 use Prim.Native.Nat.{_<_}
 use native.Mathlib.Omega.{arith}
 use borrow.Author.Needs.{needs}
-use Rattle.reply.specs.Choosing.{claim}
+use Rattle.reply.specs.Choosing.{grant}
 use Rattle.reply.proofs.Holding.{taken-lt}
 use Rattle.reply.proofs.choosing.claim_one.Statement.{statement}
 use Rattle.reply.proofs.choosing.claim_one.Tie as tie
@@ -20,11 +20,11 @@ array-write-next : tie.Need-array-write-next
 array-write-next c = let h : c .before .before .before .args .port .number < 64 = taken-lt (c .before .before .before .args .first) (c .before .before .holder-of .result) (c .before .before .before .args .port) (sym (c .before .takes .ensures) ∙ c .if1 .taken) in omega arith
 
 returns : tie.Need-returns
-unfolding claim
+unfolding grant
 returns c = rw (← c .before .before .holder-of .ensures, ← c .before .takes .ensures, c .if1 .taken)
 
 returns-2 : tie.Need-returns-2
-unfolding claim
+unfolding grant
 returns-2 c = rw (← c .before .before .holder-of .ensures, ← c .before .takes .ensures, c .if1 .left)
 
 pub claim-one-spec : {M : Type 1} → statement M

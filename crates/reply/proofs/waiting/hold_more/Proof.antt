@@ -1,0 +1,61 @@
+use mathlib.Core.Path.{_≡_, _∙_, refl}
+use Prim.Native.Nat.{_≤_, _-_}
+use native.Mathlib.Numerals.{add-one}
+use native.Mathlib.Omega.{arith}
+use lib.ListN.{length}
+use borrow.Author.Needs.{needs}
+use Rattle.reply.specs.Choosing.{granted}
+use Rattle.reply.specs.Waiting.{moreHeld}
+use Rattle.reply.proofs.waiting.hold_more.Statement.{statement}
+use Rattle.reply.proofs.waiting.hold_more.Tie as tie
+
+abbrev Inv-loop : tie.InvT-loop
+Inv-loop chosen n ports held₀ i₀ held i = (length ports ≡ 64) × (i ≤ n) × (held ≡ moreHeld chosen ports i held₀)
+
+abbrev μ-loop : tie.MeasureT-loop
+μ-loop chosen n ports held₀ i₀ held i = n - i
+
+loop-holds : tie.Need-loop-holds Inv-loop μ-loop
+unfolding moreHeld granted
+loop-holds c = (omega arith, omega arith, refl)
+
+mul-port : tie.Need-mul-port Inv-loop μ-loop
+mul-port c = search needs
+
+array-copy-out-port : tie.Need-array-copy-out-port Inv-loop μ-loop
+array-copy-out-port c = search needs
+
+cast-hold-one : tie.Need-cast-hold-one Inv-loop μ-loop
+cast-hold-one c = search needs
+
+hold-one-requires : tie.Need-hold-one-requires Inv-loop μ-loop
+hold-one-requires c κs = search needs
+
+add-i : tie.Need-add-i Inv-loop μ-loop
+add-i c = search needs
+
+loop-less : tie.Need-loop-less Inv-loop μ-loop
+loop-less c = search needs
+
+loop-again : tie.Need-loop-again Inv-loop μ-loop
+unfolding moreHeld granted
+loop-again c = (c .before .before .before .loop .inv .0, omega arith, c .hold-one .ensures ∙ rw (c .before .before .before .loop .inv .2, add-one))
+
+returns : tie.Need-returns Inv-loop μ-loop
+returns c = let e : c .before .loop .i ≡ c .before .before .args .n = omega arith in rw e at (c .before .loop .inv .2)
+
+pub hold-more-spec : {M : Type 1} → statement M
+hold-more-spec =
+    tie.close
+    (tie.spec
+    Inv-loop
+    μ-loop
+    loop-holds
+    mul-port
+    array-copy-out-port
+    cast-hold-one
+    hold-one-requires
+    add-i
+    loop-less
+    loop-again
+    returns)

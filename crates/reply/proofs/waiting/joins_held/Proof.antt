@@ -1,0 +1,15 @@
+use borrow.Author.Needs.{needs}
+use Rattle.reply.proofs.waiting.joins_held.Statement.{statement}
+use Rattle.reply.proofs.waiting.joins_held.Tie as tie
+
+holder-of-requires : tie.Need-holder-of-requires
+holder-of-requires c κs = search needs
+
+must-hold-requires : tie.Need-must-hold-requires
+must-hold-requires c κs = search needs
+
+returns : tie.Need-returns
+returns c = rw (c .must-hold .ensures, c .before .holder-of .ensures)
+
+pub joins-held-spec : {M : Type 1} → statement M
+joins-held-spec = tie.close (tie.spec holder-of-requires must-hold-requires returns)

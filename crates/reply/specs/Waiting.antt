@@ -1,0 +1,75 @@
+-- Waiting before crying failure (02, 2026-03): which numbers are held for ports that have lost their claim, and what a report leaves of each port.
+use mathlib.Core.Bool.{Bool, true, false, cond, not, _&&_, _||_}
+use mathlib.Core.List.{List}
+use Prim.Native.Nat.{ℕ, zero, suc, _+_}
+use lib.Dec.{eqb, ltb}
+use lib.ListN.{replicate}
+use Rattle.counting.specs.Each.{each}
+use Rattle.counting.specs.Words.{some}
+use Rattle.reply.specs.declared.members.Port.{Port}
+use Rattle.reply.specs.declared.waiting.Standing.{Standing}
+use Rattle.reply.specs.Choosing.{FREE, granted, holderOf, holders, noneHeld}
+use Rattle.reply.specs.Members.{failState, hasHoldOff, idleState, isCandidate, isIdle, isRestoring, okState, portAt}
+
+-- a candidate whose number no other port has
+abbrev pub hasClaim : List ℕ → ℕ → Port → Bool
+hasClaim chosen i p =
+    isCandidate p && (eqb (holderOf chosen (p .number)) FREE || eqb (holderOf chosen (p .number)) i)
+
+-- 'During hold-off the port keeps its number against others': one that has lost its claim and has hold-off left keeps the number under which it
+-- is OK
+abbrev pub mustHold : List ℕ → ℕ → Port → Bool
+mustHold chosen i p = hasHoldOff p && not (hasClaim chosen i p)
+
+-- such a port joins the held, unless it is among them
+abbrev pub joinsHeld : List ℕ → List ℕ → ℕ → Port → Bool
+joinsHeld chosen held i p = mustHold chosen i p && eqb (holderOf held (p .«state_number»)) FREE
+
+unfoldable pub someJoin : List ℕ → List ℕ → List Port → ℕ → Bool
+someJoin chosen held ports n = some n (λ i. joinsHeld chosen held i (portAt ports i))
+
+unfoldable pub moreHeld : List ℕ → List Port → ℕ → List ℕ → List ℕ
+moreHeld chosen ports n held = granted (λ i. mustHold chosen i (portAt ports i)) (λ i. portAt ports i .«state_number») n held
+
+-- Whether a port has lost its claim can hang on who else holds. So it goes in rounds: the candidates choose, those that lose join the held, and
+-- again, until none joins.
+unfoldable pub rounds : List Port → ℕ → ℕ → List ℕ → List ℕ
+rounds ports n zero held = held
+rounds ports n (suc k) held =
+    let chosen = holders ports n held in
+    cond (someJoin chosen held ports n) (rounds ports n k (moreHeld chosen ports n held)) held
+
+-- as many rounds as ports are enough (Theorems/Rounds.antt)
+unfoldable pub heldOf : List Port → ℕ → List ℕ
+heldOf ports n = rounds ports n n noneHeld
+
+unfoldable pub chosenOf : List Port → ℕ → List ℕ
+chosenOf ports n = holders ports n (heldOf ports n)
+
+abbrev pub standing : ℕ → ℕ → ℕ → Standing
+standing state number run = record { state = state; number = number; run = run }
+
+-- with its claim: 'A FAIL port goes OK only when its claim has stood for the wait-to-restore.'
+abbrev pub withClaim : Port → Standing
+withClaim p = cond (isRestoring p) (standing failState (p .number) (p .run + 1)) (standing okState (p .number) 0)
+
+-- one that is held, under the number that it keeps
+abbrev pub keepsNumber : List ℕ → ℕ → Port → Bool
+keepsNumber chosen i p = eqb (p .state) okState && ltb (p .run) (p .«hold_off») && eqb (holderOf chosen (p .«state_number»)) i
+
+-- without: 'An OK port that loses its claim goes FAIL only when it has stayed so for the hold-off.'
+abbrev pub withoutClaim : List ℕ → ℕ → Port → Standing
+withoutClaim chosen i p =
+    cond (keepsNumber chosen i p) (standing okState (p .«state_number») (p .run + 1)) (standing failState (p .number) 0)
+
+-- 'one that turns IDLE does so at once'
+unfoldable pub standingBy : List ℕ → ℕ → Port → Standing
+standingBy chosen i p =
+    cond (isIdle p) (standing idleState (p .number) 0) (cond (hasClaim chosen i p) (withClaim p) (withoutClaim chosen i p))
+
+abbrev pub noStanding : Standing
+noStanding = standing idleState 0 0
+
+-- what a report leaves of each port: its state, the number under which it has it, and at how many reports its timer has run
+unfoldable pub standingsOf : List Port → ℕ → List Standing
+standingsOf ports n = each n (λ i. standingBy (chosenOf ports n) i (portAt ports i)) (replicate 64 noStanding)

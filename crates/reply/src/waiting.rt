@@ -1,0 +1,188 @@
+// Waiting before crying failure (02, 2026-03): hold-off, wait-to-restore, and what a report leaves of each port.
+use crate::choosing;
+use crate::members;
+use crate::members::Port;
+ghost use mathlib.Core.Path.{_≡_};
+ghost use Prim.Native.Nat.{_≤_};
+ghost use lib.ListN.{replicate};
+ghost use Rattle.counting.specs.Each.{each};
+ghost use Rattle.reply.specs.Choosing.{grant};
+ghost use Rattle.reply.specs.Members.{portAt, sizeOf};
+ghost use Rattle.reply.specs.Waiting.{chosenOf, hasClaim, joinsHeld, keepsNumber, moreHeld, mustHold, noStanding, someJoin, standingBy, standingsOf, withClaim, withoutClaim};
+
+// What a report leaves of a port: its state, the number under which it has it, and at how many reports its timer has run.
+pub struct Standing {
+    pub state: u8,
+    pub number: u8,
+    pub run: u16,
+}
+
+// Whether a port is a candidate whose number no other port has.
+fn has_claim(chosen: [u8; 64], i: u8, port: Port) -> bool
+    ensures { λ r. ⌜ r ≡ hasClaim chosen i port ⌝ }
+{
+    let holder = choosing::holder_of(chosen, port.number);
+    members::is_candidate(port) & ((holder == choosing::NO_PORT) | (holder == i))
+}
+
+// Whether a port keeps the number under which it is OK, having lost its claim.
+fn must_hold(chosen: [u8; 64], i: u8, port: Port) -> bool
+    ensures { λ r. ⌜ r ≡ mustHold chosen i port ⌝ }
+{
+    members::has_hold_off(port) & !has_claim(chosen, i, port)
+}
+
+fn joins_held(chosen: [u8; 64], held: [u8; 64], i: u8, port: Port) -> bool
+    ensures { λ r. ⌜ r ≡ joinsHeld chosen held i port ⌝ }
+{
+    let holder = choosing::holder_of(held, port.state_number);
+    must_hold(chosen, i, port) & (holder == choosing::NO_PORT)
+}
+
+fn hold_one(chosen: [u8; 64], held: [u8; 64], i: u8, port: Port) -> [u8; 64]
+    ensures { λ r. ⌜ r ≡ grant (mustHold chosen i port) (port .«state_number») held i ⌝ }
+{
+    let number = port.state_number;
+    if joins_held(chosen, held, i, port) {
+        let mut next = held;
+        next[number as usize] = i;
+        return next;
+    }
+    held
+}
+
+fn hold_more(chosen: [u8; 64], ports: [Port; 64], n: usize, before: [u8; 64]) -> [u8; 64]
+    requires { ⌜ n ≤ 64 ⌝ }
+    ensures { λ r. ⌜ r ≡ moreHeld chosen ports n before ⌝ }
+{
+    let mut held = before;
+    let mut i = 0;
+    while i < n {
+        let port = ports[i];
+        let next = hold_one(chosen, held, i as u8, port);
+        held = next;
+        i += 1;
+    }
+    held
+}
+
+fn some_join(chosen: [u8; 64], held: [u8; 64], ports: [Port; 64], n: usize) -> bool
+    requires { ⌜ n ≤ 64 ⌝ }
+    ensures { λ r. ⌜ r ≡ someJoin chosen held ports n ⌝ }
+{
+    let mut joining = false;
+    let mut i = 0;
+    while i < n {
+        let port = ports[i];
+        joining = joining | joins_held(chosen, held, i as u8, port);
+        i += 1;
+    }
+    joining
+}
+
+// The candidates choose, and those that lose join the held, until none joins.
+fn choose_in_rounds(ports: [Port; 64], n: usize) -> [u8; 64]
+    requires { ⌜ n ≤ 64 ⌝ }
+    ensures { λ r. ⌜ r ≡ chosenOf ports n ⌝ }
+{
+    let mut held = [choosing::NO_PORT; 64];
+    let mut chosen = choosing::choose(ports, n, held);
+    let mut k = 0;
+    while k < n {
+        if !some_join(chosen, held, ports, n) {
+            break;
+        }
+        let more = hold_more(chosen, ports, n, held);
+        held = more;
+        let next = choosing::choose(ports, n, held);
+        chosen = next;
+        k += 1;
+    }
+    chosen
+}
+
+fn with_claim(port: Port) -> Standing
+    ensures { λ r. ⌜ r ≡ withClaim port ⌝ }
+{
+    if members::is_restoring(port) {
+        return Standing {
+            state: Port::FAIL,
+            number: port.number,
+            run: port.run + 1,
+        };
+    }
+    Standing {
+        state: Port::OK,
+        number: port.number,
+        run: 0,
+    }
+}
+
+fn keeps_number(chosen: [u8; 64], i: u8, port: Port) -> bool
+    ensures { λ r. ⌜ r ≡ keepsNumber chosen i port ⌝ }
+{
+    let holder = choosing::holder_of(chosen, port.state_number);
+    (port.state == Port::OK) & (port.run < port.hold_off) & (holder == i)
+}
+
+fn without_claim(chosen: [u8; 64], i: u8, port: Port) -> Standing
+    ensures { λ r. ⌜ r ≡ withoutClaim chosen i port ⌝ }
+{
+    if keeps_number(chosen, i, port) {
+        return Standing {
+            state: Port::OK,
+            number: port.state_number,
+            run: port.run + 1,
+        };
+    }
+    Standing {
+        state: Port::FAIL,
+        number: port.number,
+        run: 0,
+    }
+}
+
+fn standing_by(chosen: [u8; 64], i: u8, port: Port) -> Standing
+    ensures { λ r. ⌜ r ≡ standingBy chosen i port ⌝ }
+{
+    if members::is_idle(port) {
+        return Standing {
+            state: Port::IDLE,
+            number: port.number,
+            run: 0,
+        };
+    }
+    if has_claim(chosen, i, port) {
+        return with_claim(port);
+    }
+    without_claim(chosen, i, port)
+}
+
+fn standings_by(chosen: [u8; 64], ports: [Port; 64], n: usize) -> [Standing; 64]
+    requires { ⌜ n ≤ 64 ⌝ }
+    ensures { λ r. ⌜ r ≡ each n (λ i. standingBy chosen i (portAt ports i)) (replicate 64 noStanding) ⌝ }
+{
+    let none = Standing {
+        state: Port::IDLE,
+        number: 0,
+        run: 0,
+    };
+    let mut all = [none; 64];
+    let mut i = 0;
+    while i < n {
+        let port = ports[i];
+        let one = standing_by(chosen, i as u8, port);
+        all[i] = one;
+        i += 1;
+    }
+    all
+}
+
+// What this report leaves of each port.
+pub fn standings(ports: [Port; 64], count: u8) -> [Standing; 64]
+    ensures { λ r. ⌜ r ≡ standingsOf ports (sizeOf count) ⌝ }
+{
+    let n = members::size_of(count);
+    let chosen = choose_in_rounds(ports, n);
+    standings_by(chosen, ports, n)
+}
