@@ -27,6 +27,16 @@ pub const STATE_IDLE: u8 = 0;
 pub const STATE_FAIL: u8 = 1;
 pub const STATE_OK: u8 = 2;
 
+/// A packet kind, and the only one there is.
+pub const KIND_H4: u32 = 0;
+/// The most reports for which a port waits.
+pub const TIMER_MOST: u32 = 5000;
+
+/// What a port waits for: nothing, the end of its hold-off, or its restoring.
+pub const WAITING_NONE: u8 = 0;
+pub const WAITING_HOLD_OFF: u8 = 1;
+pub const WAITING_RESTORE: u8 = 2;
+
 /// What a fetch says of an epoch.
 pub const NONE_DUE: u8 = 0;
 pub const HELD: u8 = 1;
@@ -95,9 +105,15 @@ pub struct Port {
     /// Word and number of the last good packet.
     pub word: u8,
     pub number: u8,
-    /// The state worked out at the last report, and the last good number then, which is shown unless the state is IDLE.
+    /// The state worked out at the last report, and the number that goes with it: of an OK port the one under which it is OK, of
+    /// others the last good one then. It is shown unless the state is IDLE.
     pub state: u8,
     pub state_number: u8,
+    /// For how many reports an OK port that loses its claim stays OK, and a FAIL port that has one stays FAIL; and for how many it
+    /// has: of an OK port without its claim, of a FAIL port with it.
+    pub hold_off: u16,
+    pub restore: u16,
+    pub run: u16,
     /// The last good word and number at the last report.
     pub told_word: u8,
     pub told_number: u8,
@@ -123,6 +139,9 @@ impl Port {
             number: NONE,
             state: STATE_IDLE,
             state_number: NONE,
+            hold_off: 0,
+            restore: 0,
+            run: 0,
             told_word: NONE,
             told_number: NONE,
         }
@@ -260,6 +279,31 @@ impl Port {
     fn is_idle(&self) -> bool {
         self.word == NONE || self.word == IDLE
     }
+
+    /// OK at the last report, and under the number that it has now.
+    fn keeps(&self) -> bool {
+        self.state == STATE_OK && self.state_number == self.number
+    }
+
+    /// FAIL at the last report, and its claim has not stood for long enough.
+    fn is_restoring(&self) -> bool {
+        self.state == STATE_FAIL && self.run < self.restore
+    }
+
+    /// OK at the last report, and may lose its claim for one report more.
+    fn has_hold_off_left(&self) -> bool {
+        self.state == STATE_OK && self.run < self.hold_off
+    }
+
+    /// "Never are both running for one port": there is one count, and the state says of what.
+    fn waiting(&self) -> u8 {
+        match (self.state, self.run) {
+            (_, 0) => WAITING_NONE,
+            (STATE_OK, _) => WAITING_HOLD_OFF,
+            (STATE_FAIL, _) => WAITING_RESTORE,
+            _ => WAITING_NONE,
+        }
+    }
 }
 
 /// Whether a word is that of an active or DNU member, which has a number in the group's order.
@@ -269,15 +313,6 @@ fn is_numbered(word: u8) -> bool {
 
 fn is_active(word: u8) -> bool {
     word == NORM || word == EOS
-}
-
-/// The member state of a port that is IDLE or was chosen, or neither.
-fn state_of(idle: bool, chosen: bool) -> u8 {
-    match (idle, chosen) {
-        (true, _) => STATE_IDLE,
-        (false, true) => STATE_OK,
-        (false, false) => STATE_FAIL,
-    }
 }
 
 /// Word, GID and number of the packet of an epoch by the own count, if it is read with 0. "A packet whose carried MFI2 differs
@@ -316,6 +351,7 @@ pub struct Shown {
     pub failed: bool,
     /// The last good word.
     pub word: u8,
+    pub waiting: u8,
 }
 
 #[derive(Clone, PartialEq, Eq, Debug, Default)]
@@ -345,17 +381,28 @@ impl Receiver {
     }
 
     pub fn start(&mut self, ports: u32, payload: u32, window: u32, store_length: usize) -> u8 {
-        if !Receiver::fits(ports, payload, window) {
+        self.start_as(KIND_H4, ports, payload, window, store_length, &[], &[])
+    }
+
+    /// Starts with a hold-off and a wait-to-restore for each port; an empty list has zero for all.
+    pub fn start_as(
+        &mut self, kind: u32, ports: u32, payload: u32, window: u32, store_length: usize, hold_off: &[u32], restore: &[u32],
+    ) -> u8 {
+        let times_fit = hold_off.iter().chain(restore).all(|time| *time <= TIMER_MOST);
+        if kind != KIND_H4 || !Receiver::fits(ports, payload, window) || !times_fit {
             *self = Receiver::empty();
             return 4;
         }
+        let time = |list: &[u32], port: usize| list.get(port).map_or(0, |time| *time as u16);
+        let port = |i: usize| Port { hold_off: time(hold_off, i), restore: time(restore, i), ..Port::new() };
         let started = Receiver {
-            ports: vec![Port::new(); ports as usize],
+            ports: (0..ports as usize).map(port).collect(),
             payload: payload as usize,
             window: window as usize,
             ..Receiver::empty()
         };
-        if store_length != started.store_length() {
+        let is_list = |list: &[u32]| list.is_empty() || list.len() == ports as usize;
+        if store_length != started.store_length() || !is_list(hold_off) || !is_list(restore) {
             return 9;
         }
         *self = started;
@@ -574,24 +621,70 @@ impl Receiver {
             self.rs_ack = Flag::from(!self.rs_ack.is_set());
         }
 
-        let candidates: Vec<usize> = (0..self.ports.len())
-            .filter(|i| !self.ports[*i].is_idle() && self.is_readable(&self.ports[*i]) && self.ports[*i].number < 64)
+        let held = self.held();
+        let chosen = self.chosen(&held);
+        let ok_under = |q: u8| {
+            let by_choice = chosen.iter().any(|i| self.ports[*i].number == q);
+            by_choice || held.iter().any(|i| self.ports[*i].state_number == q)
+        };
+        let told: Vec<(u8, u8, u16)> = (0..self.ports.len())
+            .map(|i| {
+                let p = &self.ports[i];
+                let has_claim = self.is_candidate(p) && !ok_under(p.number);
+                match p.state {
+                    _ if p.is_idle() => (STATE_IDLE, p.number, 0),
+                    _ if chosen.contains(&i) => (STATE_OK, p.number, 0),
+                    _ if held.contains(&i) => (STATE_OK, p.state_number, p.run + 1),
+                    STATE_FAIL if has_claim => (STATE_FAIL, p.number, p.run + 1),
+                    _ => (STATE_FAIL, p.number, 0),
+                }
+            })
             .collect();
-        let (first, then): (Vec<usize>, Vec<usize>) = candidates.into_iter().partition(|i| {
+        for (p, told) in self.ports.iter_mut().zip(told) {
+            (p.state, p.state_number, p.run) = told;
+            (p.told_word, p.told_number) = (p.word, p.number);
+        }
+    }
+
+    /// "Candidates when readable with a number below 64"
+    fn is_candidate(&self, p: &Port) -> bool {
+        !p.is_idle() && self.is_readable(p) && p.number < 64
+    }
+
+    /// The ports that get their numbers, with those of held ports taken: first who keeps its number, then the rest, each in port
+    /// order. Who is held or waits to restore takes none.
+    fn chosen(&self, held: &[usize]) -> Vec<usize> {
+        let choosing = (0..self.ports.len()).filter(|i| {
             let p = &self.ports[*i];
-            p.state == STATE_OK && p.state_number == p.number
+            self.is_candidate(p) && !p.is_restoring() && !held.contains(i)
         });
+        let (first, then): (Vec<usize>, Vec<usize>) = choosing.partition(|i| self.ports[*i].keeps());
         let mut chosen: Vec<usize> = Vec::new();
         for i in first.into_iter().chain(then) {
-            if chosen.iter().all(|c| self.ports[*c].number != self.ports[i].number) {
+            let number = self.ports[i].number;
+            let is_held = held.iter().any(|h| self.ports[*h].state_number == number);
+            if !is_held && chosen.iter().all(|c| self.ports[*c].number != number) {
                 chosen.push(i);
             }
         }
+        chosen
+    }
 
-        for (i, p) in self.ports.iter_mut().enumerate() {
-            p.state = state_of(p.is_idle(), chosen.contains(&i));
-            p.state_number = p.number;
-            (p.told_word, p.told_number) = (p.word, p.number);
+    /// The OK ports that have lost their claims and stay OK, each under the number under which it is. Whether one has lost its
+    /// claim can hang on who else is held, so it goes in rounds, until one in which none joins.
+    fn held(&self) -> Vec<usize> {
+        let mut held: Vec<usize> = Vec::new();
+        loop {
+            let chosen = self.chosen(&held);
+            let joins = (0..self.ports.len()).filter(|i| {
+                let p = &self.ports[*i];
+                !p.is_idle() && p.has_hold_off_left() && !chosen.contains(i) && !held.contains(i)
+            });
+            let joins: Vec<usize> = joins.collect();
+            if joins.is_empty() {
+                return held;
+            }
+            held.extend(joins);
         }
     }
 
@@ -604,6 +697,7 @@ impl Receiver {
             readable: self.is_readable(p),
             failed: p.failed.is_set(),
             word: p.word,
+            waiting: p.waiting(),
         };
         self.ports.iter().map(shown).collect()
     }
