@@ -212,6 +212,7 @@ impl Port {
         }
         if self.count > 0 && self.is_right(mfi1, nibble) {
             self.count += 1;
+            (self.breaks, self.odd) = (0, Flag(0));
             self.go_on(nibble);
         } else {
             self.start_over(mfi1, nibble);
