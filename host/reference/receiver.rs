@@ -291,9 +291,9 @@ impl Port {
         self.state == STATE_FAIL && self.run < self.restore
     }
 
-    /// OK at the last report, and may lose its claim for one report more.
+    /// OK at the last report, and may lose its claim for one report more. (An OK port's number is below 64.)
     fn has_hold_off_left(&self) -> bool {
-        self.state == STATE_OK && self.run < self.hold_off
+        self.state == STATE_OK && self.run < self.hold_off && self.state_number < 64
     }
 
     /// "Never are both running for one port": there is one count, and the state says of what.
@@ -305,6 +305,13 @@ impl Port {
             _ => WAITING_NONE,
         }
     }
+}
+
+/// A number, and the port that holds it.
+type Holder = (u8, usize);
+
+fn holder_of(holders: &[Holder], number: u8) -> Option<usize> {
+    holders.iter().find(|(q, _)| *q == number).map(|(_, port)| *port)
 }
 
 /// Whether a word is that of an active or DNU member, which has a number in the group's order.
@@ -622,22 +629,17 @@ impl Receiver {
             self.rs_ack = Flag::from(!self.rs_ack.is_set());
         }
 
-        let held = self.held();
-        let chosen = self.chosen(&held);
-        let ok_under = |q: u8| {
-            let by_choice = chosen.iter().any(|i| self.ports[*i].number == q);
-            by_choice || held.iter().any(|i| self.ports[*i].state_number == q)
-        };
+        let holders = self.holders();
         let told: Vec<(u8, u8, u16)> = (0..self.ports.len())
             .map(|i| {
                 let p = &self.ports[i];
-                let has_claim = self.is_candidate(p) && !ok_under(p.number);
-                match p.state {
+                let keeps_number = p.has_hold_off_left() && holder_of(&holders, p.state_number) == Some(i);
+                match self.has_claim(&holders, i) {
                     _ if p.is_idle() => (STATE_IDLE, p.number, 0),
-                    _ if chosen.contains(&i) => (STATE_OK, p.number, 0),
-                    _ if held.contains(&i) => (STATE_OK, p.state_number, p.run + 1),
-                    STATE_FAIL if has_claim => (STATE_FAIL, p.number, p.run + 1),
-                    _ => (STATE_FAIL, p.number, 0),
+                    true if p.is_restoring() => (STATE_FAIL, p.number, p.run + 1),
+                    true => (STATE_OK, p.number, 0),
+                    false if keeps_number => (STATE_OK, p.state_number, p.run + 1),
+                    false => (STATE_FAIL, p.number, 0),
                 }
             })
             .collect();
@@ -652,40 +654,42 @@ impl Receiver {
         !p.is_idle() && self.is_readable(p) && p.number < 64
     }
 
-    /// The ports that get their numbers, with those of held ports taken: first who keeps its number, then the rest, each in port
-    /// order. Who is held or waits to restore takes none.
-    fn chosen(&self, held: &[usize]) -> Vec<usize> {
-        let choosing = (0..self.ports.len()).filter(|i| {
-            let p = &self.ports[*i];
-            self.is_candidate(p) && !p.is_restoring() && !held.contains(i)
-        });
-        let (first, then): (Vec<usize>, Vec<usize>) = choosing.partition(|i| self.ports[*i].keeps());
-        let mut chosen: Vec<usize> = Vec::new();
-        for i in first.into_iter().chain(then) {
-            let number = self.ports[i].number;
-            let is_held = held.iter().any(|h| self.ports[*h].state_number == number);
-            if !is_held && chosen.iter().all(|c| self.ports[*c].number != number) {
-                chosen.push(i);
-            }
-        }
-        chosen
+    /// A candidate, and no other port holds its number.
+    fn has_claim(&self, holders: &[Holder], i: usize) -> bool {
+        self.is_candidate(&self.ports[i]) && holder_of(holders, self.ports[i].number).map_or(true, |holder| holder == i)
     }
 
-    /// The OK ports that have lost their claims and stay OK, each under the number under which it is. Whether one has lost its
-    /// claim can hang on who else is held, so it goes in rounds, until one in which none joins.
-    fn held(&self) -> Vec<usize> {
-        let mut held: Vec<usize> = Vec::new();
-        loop {
-            let chosen = self.chosen(&held);
-            let joins = (0..self.ports.len()).filter(|i| {
-                let p = &self.ports[*i];
-                !p.is_idle() && p.has_hold_off_left() && !chosen.contains(i) && !held.contains(i)
-            });
-            let joins: Vec<usize> = joins.collect();
-            if joins.is_empty() {
-                return held;
+    /// Who chooses which number, where some are held already: first who keeps its number, then the rest, each in port order.
+    /// Who waits to restore takes none.
+    fn choose(&self, held: &[Holder]) -> Vec<Holder> {
+        let choosing = (0..self.ports.len()).filter(|i| self.is_candidate(&self.ports[*i]) && !self.ports[*i].is_restoring());
+        let (first, then): (Vec<usize>, Vec<usize>) = choosing.partition(|i| self.ports[*i].keeps());
+        let mut holders = held.to_vec();
+        for i in first.into_iter().chain(then) {
+            let number = self.ports[i].number;
+            if holder_of(&holders, number).is_none() {
+                holders.push((number, i));
             }
-            held.extend(joins);
+        }
+        holders
+    }
+
+    /// Who holds which number after this report. An OK port that gets none, and has hold-off left, holds the number under which it
+    /// is OK. Whether one gets its number can hang on who else holds, so it goes in rounds, until one in which none joins.
+    fn holders(&self) -> Vec<Holder> {
+        let mut held: Vec<Holder> = Vec::new();
+        loop {
+            let holders = self.choose(&held);
+            let before = held.len();
+            for (i, p) in self.ports.iter().enumerate() {
+                let loses = !p.is_idle() && p.has_hold_off_left() && !self.has_claim(&holders, i);
+                if loses && holder_of(&held, p.state_number).is_none() {
+                    held.push((p.state_number, i));
+                }
+            }
+            if held.len() == before {
+                return holders;
+            }
         }
     }
 
