@@ -4,7 +4,9 @@
 
 mod boards;
 mod card;
+mod circuits;
 mod count;
+mod orders;
 mod packets;
 mod path;
 mod payloads;
@@ -20,6 +22,8 @@ fn main() {
     payloads::compare(&mut count);
     plans::compare(&mut count);
     senders::compare(&mut count);
+    circuits::compare(&mut count);
+    orders::compare(&mut count);
     boards::compare(&mut count);
     receivers::compare(&mut count, hosts);
     std::process::exit(count.tally());
