@@ -1,15 +1,17 @@
 //! Times frame and fetch of the proved receiver beside the reference's fast form in Rust, one after the other in one
 //! process, round by round, and beside one copy of the same bytes by the C library. A line for each size: the medians of
-//! the rounds in nanoseconds a call, and the ratios. Then one second of traffic of 64 VC-4 ports.
+//! the rounds in nanoseconds a call, and the ratios. Then fetches while ports that have lost their claims are held off, and one
+//! second of traffic of 64 VC-4 ports.
 
 #[path = "../differential/card.rs"]
 #[allow(dead_code)] // the receiver's calls alone are used here
 mod card;
 
+use card::Start;
 use reference::packet::{self, Fields};
 use reference::receiver::fast;
-use reference::receiver::rows::{rows_for, Row};
-use reference::receiver::{epoch_of, SURE, TAGS};
+use reference::receiver::rows::{rows_for, Row, ROWS_A_PORT};
+use reference::receiver::{epoch_of, DOUBTFUL, KIND_H4, STATE_OK, SURE, TAGS, TIMER_MOST};
 
 const ROUNDS: usize = 51;
 const EPOCH: usize = 16;
@@ -28,13 +30,19 @@ struct Sent {
 
 impl Sent {
     fn new(ports: usize, payload: usize) -> Sent {
+        Sent::numbered(ports, payload, |port| port)
+    }
+
+    /// The same with other numbers; the highest has EOS.
+    fn numbered(ports: usize, payload: usize, number: fn(usize) -> usize) -> Sent {
         let mut h4 = vec![0; TAGS * ports];
         for port in 0..ports {
-            let word = if port + 1 == ports { packet::EOS } else { packet::NORM };
+            let highest = (0..ports).all(|other| number(other) <= number(port));
+            let word = if highest { packet::EOS } else { packet::NORM };
             for first in (8..TAGS + 8).step_by(EPOCH) {
                 let mut sixteen = [0; EPOCH];
                 let epoch = u32::from(epoch_of(first % TAGS));
-                packet::write(&Fields { epoch, word, gid: 0, mst: 0, rs_ack: 0, sq: port as u32, reserved: 0 }, &mut sixteen);
+                packet::write(&Fields { epoch, word, gid: 0, mst: 0, rs_ack: 0, sq: number(port) as u32, reserved: 0 }, &mut sixteen);
                 for (k, byte) in sixteen.iter().enumerate() {
                     h4[(first + k) % TAGS * ports + port] = *byte;
                 }
@@ -69,10 +77,14 @@ struct Proved {
 }
 
 impl Proved {
-    fn start(ports: usize, payload: usize, window: usize) -> Proved {
+    fn start(ports: usize, payload: usize, window: usize, hold_off: u32) -> Proved {
         let store = vec![0xA5; ports * window * (payload + 1)];
         let mut rows = vec![[0; 16]; rows_for(ports)];
-        assert_eq!(card::receiver_start(ports as u32, payload as u32, window as u32, store.len(), &mut rows), 0);
+        let hold_off = vec![hold_off; ports];
+        let (ports, payload, window) = (ports as u32, payload as u32, window as u32);
+        let start = Start { kind: KIND_H4, ports, payload, window, store_bytes: store.len(), hold_off: &hold_off, restore: &[] };
+        assert_eq!(card::receiver_start_as(&start, &mut rows), 0);
+        let (ports, payload) = (ports as usize, payload as usize);
         Proved { rows, store, output: vec![0; ports * EPOCH * payload], record: [0; 8] }
     }
 }
@@ -99,9 +111,10 @@ struct Fast {
 }
 
 impl Fast {
-    fn start(ports: usize, payload: usize, window: usize) -> Fast {
+    fn start(ports: usize, payload: usize, window: usize, hold_off: u32) -> Fast {
         let store = vec![0xA5; ports * window * (payload + 1)];
-        let receiver = fast::Receiver::start(ports as u32, payload as u32, window as u32, store.len()).expect("all is in range");
+        let (p, w) = (payload as u32, window as u32);
+        let receiver = fast::Receiver::start_as(ports as u32, p, w, store.len(), &vec![hold_off; ports], &[]).expect("all is in range");
         Fast { receiver, store, output: vec![0; ports * EPOCH * payload] }
     }
 }
@@ -168,13 +181,13 @@ fn clock_cost() -> f64 {
     median((0..1001).map(|_| now()).collect::<Vec<_>>().windows(2).map(|pair| pair[1] - pair[0]).collect())
 }
 
-/// Nanoseconds a frame and a fetch, of so many epochs.
-fn round<F: Form>(form: &mut F, sent: &Sent, next: &mut usize, epochs: usize, cost: f64) -> (f64, f64) {
+/// Nanoseconds a frame and a fetch, of so many epochs with this mark.
+fn round<F: Form>(form: &mut F, sent: &Sent, next: &mut usize, epochs: usize, mark: u8, cost: f64) -> (f64, f64) {
     let begun = now();
     hand(form, sent, *next..*next + epochs * EPOCH, 0);
     let handed = now();
     for _ in 0..epochs {
-        assert_eq!(form.fetch(), SURE);
+        assert_eq!(form.fetch(), mark);
     }
     let fetched = now();
     *next = (*next + epochs * EPOCH) % TAGS;
@@ -221,7 +234,7 @@ type Worst = [f64; 2];
 
 fn measure(ports: usize, payload: usize, window: usize, worst: &mut Worst) {
     let sent = Sent::new(ports, payload);
-    let (mut proved, mut fast) = (Proved::start(ports, payload, window), Fast::start(ports, payload, window));
+    let (mut proved, mut fast) = (Proved::start(ports, payload, window, 0), Fast::start(ports, payload, window, 0));
     let (mut a, mut b) = (begin(&mut proved, &sent), begin(&mut fast, &sent));
     assert!(proved.output() == fast.output());
     let mut copies = Copies { store: proved.store.clone(), output: proved.output.clone(), at: 0 };
@@ -231,8 +244,8 @@ fn measure(ports: usize, payload: usize, window: usize, worst: &mut Worst) {
     let warm = window / EPOCH / epochs + 1;
     for k in 0..warm + ROUNDS {
         let rounds = [
-            round(&mut proved, &sent, &mut a, epochs, cost),
-            round(&mut fast, &sent, &mut b, epochs, cost),
+            round(&mut proved, &sent, &mut a, epochs, SURE, cost),
+            round(&mut fast, &sent, &mut b, epochs, SURE, cost),
             copies.round(&sent, window, epochs, cost),
         ];
         for (times, (frame, fetch)) in times.iter_mut().zip(rounds) {
@@ -252,6 +265,28 @@ fn measure(ports: usize, payload: usize, window: usize, worst: &mut Worst) {
         );
         worst[i] = worst[i].max(p / f);
     }
+}
+
+/// Fetches while all ports have lost their claims and are held off, by what numbers they have come to.
+fn measure_held(name: &str, ports: usize, number: fn(usize) -> usize) {
+    let (payload, window, epochs) = (756, 64, 2);
+    let (sent, lost) = (Sent::new(ports, payload), Sent::numbered(ports, payload, number));
+    let (mut proved, mut fast) = (Proved::start(ports, payload, window, TIMER_MOST), Fast::start(ports, payload, window, TIMER_MOST));
+    let (mut a, mut b) = (begin(&mut proved, &sent), begin(&mut fast, &sent));
+    let cost = clock_cost();
+    // the first epoch is still ruled by the packets before
+    round(&mut proved, &lost, &mut a, 1, SURE, cost);
+    round(&mut fast, &lost, &mut b, 1, SURE, cost);
+    let mut times: [Vec<f64>; 2] = Default::default();
+    for _ in 0..ROUNDS {
+        times[0].push(round(&mut proved, &lost, &mut a, epochs, DOUBTFUL, cost).1);
+        times[1].push(round(&mut fast, &lost, &mut b, epochs, DOUBTFUL, cost).1);
+    }
+    assert!(proved.output() == fast.output());
+    let held = proved.rows[2..].iter().step_by(ROWS_A_PORT).filter(|member| member[2] == STATE_OK && member[10..12] != [0; 2]).count();
+    assert_eq!(held, ports);
+    let [p, f] = times.map(median);
+    println!("fetch\tports {ports}\tP {payload}\tW {window}\tall held off, {name}\tproved {p:.0} ns\tfast {f:.0} ns\tto fast {:.2}", p / f);
 }
 
 /// Processor time for one second of traffic: each frame is followed by a fetch until none is due.
@@ -292,10 +327,17 @@ fn main() {
         }
     }
     println!("greatest ratio to fast\tframe {:.2}\tfetch {:.2}", worst[0], worst[1]);
+    for ports in [1, 8, 64] {
+        measure_held("no number to claim", ports, |port| 64 + port);
+    }
+    // the first port has none to claim, and each other one has that of the port before it
+    for ports in [8, 64] {
+        measure_held("each by the one before it", ports, |port| if port == 0 { 64 } else { port - 1 });
+    }
     let sent = Sent::new(64, 2340);
     for window in [64, 2048] {
-        let proved = second(Proved::start(64, 2340, window), &sent, window);
-        let fast = second(Fast::start(64, 2340, window), &sent, window);
+        let proved = second(Proved::start(64, 2340, window, 0), &sent, window);
+        let fast = second(Fast::start(64, 2340, window, 0), &sent, window);
         println!(
             "one second of 64 VC-4 ports\tW {window}\tproved {proved:.2} of a processor\tfast {fast:.2} of a processor\tto fast {:.2}",
             proved / fast

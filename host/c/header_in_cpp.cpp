@@ -23,6 +23,12 @@ int main()
           levelspruce_receiver_start(1, 2, 16, LEVELSPRUCE_STORE_BYTES(1, 2, 16), receiver, LEVELSPRUCE_RECEIVER_ROWS(1)) == LEVELSPRUCE_ANSWER_DONE
               && levelspruce_receiver_ports(receiver, LEVELSPRUCE_RECEIVER_ROWS(1), ports, 1) == LEVELSPRUCE_ANSWER_DONE
               && ports[0][LEVELSPRUCE_PORT_STATE] == LEVELSPRUCE_PORT_IDLE);
+    const uint32_t times[1] = { LEVELSPRUCE_TIMER_MOST };
+    check("a C++ program starts a receiver with times",
+          levelspruce_receiver_start_as(LEVELSPRUCE_KIND_H4, 1, 2, 16, LEVELSPRUCE_STORE_BYTES(1, 2, 16), times, 1, nullptr, 0, receiver,
+                                        LEVELSPRUCE_RECEIVER_ROWS(1)) == LEVELSPRUCE_ANSWER_DONE
+              && levelspruce_receiver_ports(receiver, LEVELSPRUCE_RECEIVER_ROWS(1), ports, 1) == LEVELSPRUCE_ANSWER_DONE
+              && ports[0][LEVELSPRUCE_PORT_WAITING] == 0);
     char version[32];
     std::snprintf(version, sizeof version, "%d.%d.%d", LEVELSPRUCE_VERSION_MAJOR, LEVELSPRUCE_VERSION_MINOR, LEVELSPRUCE_VERSION_PATCH);
     check("the version's text has its numbers, and the library has it", std::strcmp(version, LEVELSPRUCE_VERSION) == 0

@@ -253,6 +253,80 @@ static void starting(void)
           && reply_is(0, 255, 0) && reply_is(255, 255, 0) && none_due());
 }
 
+/* A list of times, or none. */
+struct times {
+    const uint32_t *each;
+    size_t count;
+};
+
+static const struct times none = { NULL, 0 };
+
+/* A start with times, of state rows and a store that fit the group by this much; -1 where a byte changed that the answer must leave. */
+static int asked_as(uint32_t kind, uint32_t ports, struct times hold_off, struct times restore, long rows, long store_bytes)
+{
+    struct given g = right(START, ports, p, w);
+    int answer;
+
+    g.rows = (size_t)((long)g.rows + rows);
+    g.store = (size_t)((long)g.store + store_bytes);
+    remember(&state);
+    answer = levelspruce_receiver_start_as(kind, ports, p, w, g.store, hold_off.each, hold_off.count, restore.each, restore.count,
+                                           g.rows ? (uint8_t (*)[16])lent_bytes(&state) : NULL, g.rows);
+    return stands(&state, state_may(START, answer, g)) ? answer : -1;
+}
+
+/* A group of the test starts with times. */
+static int started_as(uint32_t ports, uint32_t payload_bytes, uint32_t window, const uint32_t *hold_off, const uint32_t *restore)
+{
+    const struct times h = { hold_off, ports }, r = { restore, ports };
+
+    count = ports;
+    p = payload_bytes;
+    w = window;
+    return asked_as(LEVELSPRUCE_KIND_H4, ports, h, r, 0, 0) == 0;
+}
+
+/* The lists of a start of three ports: its answer with the first so many of the numbers as hold-off, as restoring and as both. */
+static int lists_give(const uint32_t *numbers, size_t n, int answer)
+{
+    const struct times list = { numbers, n };
+
+    return asked_as(0, 3, list, none, 0, 0) == answer && asked_as(0, 3, none, list, 0, 0) == answer && asked_as(0, 3, list, list, 0, 0) == answer;
+}
+
+static void starting_with_times(void)
+{
+    static const uint32_t most[] = { 0, LEVELSPRUCE_TIMER_MOST, 1, 2 }, above[] = { LEVELSPRUCE_TIMER_MOST + 1, 65536, 65535, UINT32_MAX };
+    static uint8_t first[LENT_MOST];
+    const struct times three = { most, 3 }, two = { most, 2 };
+    size_t bytes = LEVELSPRUCE_RECEIVER_ROWS(3) * LEVELSPRUCE_ROW_BYTES, i, at, n;
+    int held = started(3, 2, 40);
+
+    memcpy(first, lent_bytes(&state), bytes);
+    noise(lent_bytes(&state), LENT_MOST, 78);
+    check("a start with empty lists is a start", held && asked_as(LEVELSPRUCE_KIND_H4, 3, none, none, 0, 0) == 0
+          && memcmp(first, lent_bytes(&state), bytes) == 0);
+    held = asked_as(1, 3, none, none, 0, 0) == 4 && asked_as(256, 3, three, three, 0, 0) == 4 && asked_as(UINT32_MAX, 3, none, none, 0, 0) == 4
+        && asked_as(0, 0, none, none, 0, 0) == 4 && asked_as(0, 65, none, none, 0, 0) == 4 && asked_as(0, 259, three, three, 0, 0) == 4;
+    check("with times it answers 4 for a kind that is not named, and for ports out of range", held);
+    held = 1;
+    for (i = 0; i < COUNT(above); i++)
+        for (n = 1; n <= 4; n++) /* in lists of any length */
+            for (at = 0; at < n; at++) {
+                uint32_t numbers[4] = { 0, 1, 2, 3 };
+
+                numbers[at] = above[i];
+                held = held && lists_give(numbers, n, 4);
+            }
+    check("it answers 4 for a count above 5,000 wherever it stands, before 9", held && asked_as(1, 3, two, two, 1, 1) == 4);
+    held = started(3, 2, 40) && lists_give(most, 1, 9) && lists_give(most, 2, 9) && lists_give(most, 4, 9) && asked_as(0, 3, three, two, 0, 0) == 9
+        && asked_as(0, 3, two, three, 0, 0) == 9 && asked_as(0, 3, three, three, 1, 0) == 9 && asked_as(0, 3, three, three, -1, 0) == 9
+        && asked_as(0, 3, three, none, 0, 1) == 9 && asked_as(0, 3, none, three, 0, -1) == 9 && memcmp(first, lent_bytes(&state), bytes) == 0;
+    check("it answers 9 for a list of another length, wrong rows or a wrong store, and leaves the state", held && into_step(0, 0));
+    check("5,000 starts, and a list may be empty beside another", lists_give(most, 3, 0) && asked_as(0, 3, three, none, 0, 0) == 0
+          && port_is(0, 0, 255, 0, 0, 0, 0, 255) && reply_is(0, 255, 0) && none_due());
+}
+
 /* The answer to a call that is right but for one length, which is off by this much. */
 static int off(int which, uint32_t a, uint32_t b, uint32_t c, size_t where, long by)
 {
@@ -553,6 +627,100 @@ static void link_of_three(void)
     check("receiving begins anew, and gives sure epochs", runs(FIRST_REPORT + 10 * EPOCH, 0, 0, 10) && reply_is(0, 0x1F, 1));
 }
 
+/* An epoch of ports in step with these packets, and its report. */
+static int told(uint32_t epoch, const struct source *sends_now)
+{
+    uint32_t k, port;
+    int held = 1;
+
+    for (k = 0; k < EPOCH; k++)
+        for (port = 0; port < count; port++)
+            held = held && hand(port, epoch * EPOCH - 8 + k, sends_now[port], 0) == 0;
+    return held && say(FETCH, 0, 0, 0) == 0 && RECORD[LEVELSPRUCE_REPORT_MARK] != NONE && RECORD[LEVELSPRUCE_REPORT_EPOCH] == epoch % 256;
+}
+
+/* A group with times, of which the first epoch is gathered, with all ports IDLE. The next is epoch 4. */
+static int waits_from(uint32_t ports, const uint32_t *hold_off, const uint32_t *restore)
+{
+    uint32_t port;
+    int held = started_as(ports, 2, 64, hold_off, restore);
+
+    for (port = 0; port < ports; port++)
+        held = held && into_step(port, 0);
+    for (port = 0; port < ports; port++)
+        held = held && hands(port, 32, 56, 0);
+    return held;
+}
+
+static int state_is(uint32_t port, int member_state, int number, int waiting)
+{
+    return shown(port, LEVELSPRUCE_PORT_STATE) == member_state && shown(port, LEVELSPRUCE_PORT_NUMBER) == number
+        && shown(port, LEVELSPRUCE_PORT_WAITING) == waiting;
+}
+
+enum { WAITS_FOR_NONE, HOLD_OFF, RESTORING };
+
+/* One port with a hold-off of 2 and a wait-to-restore of 3, which has its number 5, has none to claim, or is IDLE. */
+static int both_edges(void)
+{
+    static const uint32_t hold_off[] = { 2 }, restore[] = { 3 };
+    static const struct source has = { A, 5 }, lost = { A, 64 };
+    static const char reports[] = "r--r---rrrrIr", states[] = "OOOOOOFFFFOIO", waits[] = "NHHNHHNRRRNNN";
+    int held = waits_from(1, hold_off, restore), rs_ack = 0;
+    uint32_t i;
+
+    for (i = 0; reports[i] != '\0'; i++) {
+        const struct source *s = reports[i] == 'r' ? &has : reports[i] == '-' ? &lost : &quiet;
+        int state_now = states[i] == 'O' ? OK : states[i] == 'F' ? FAIL : LEVELSPRUCE_PORT_IDLE;
+        int number = state_now == OK ? 5 : state_now == FAIL ? (int)s->number : 255;
+
+        held = held && told(4 + i, s)
+            && state_is(0, state_now, number, waits[i] == 'H' ? HOLD_OFF : waits[i] == 'R' ? RESTORING : WAITS_FOR_NONE)
+            && reply_is(0, state_now == OK ? 0xFB : 0xFF, rs_ack);
+        rs_ack = rs_ack || reports[i + 1] == 'I'; /* ADD becomes IDLE */
+    }
+    return held;
+}
+
+/* A port with this hold-off loses its claim; whether it is FAIL at the report after so many. */
+static int falls_after(uint32_t hold_off)
+{
+    static const uint32_t restore[] = { 0 };
+    static const struct source has = { A, 5 }, lost = { A, 64 };
+    int held = waits_from(1, &hold_off, restore) && told(4, &has);
+    uint32_t i;
+
+    for (i = 0; i < hold_off; i++)
+        held = held && told(5 + i, &lost) && state_is(0, OK, 5, HOLD_OFF);
+    return held && told(5 + i, &lost) && state_is(0, FAIL, 64, WAITS_FOR_NONE);
+}
+
+static void waiting(void)
+{
+    static const uint32_t three_none[] = { 3, 0 }, zeros[] = { 0, 0, 0 }, nines[] = { 9, 9, 9 };
+    static const struct source alone[] = { { A, 5 }, { I, 255 } }, both[] = { { A, 64 }, { A, 5 } };
+    static const struct source up[] = { { A, 0 }, { A, 1 }, { A, 2 } }, chain[] = { { A, 64 }, { A, 0 }, { A, 1 } };
+    static const struct source reverse[] = { { A, 2 }, { A, 1 }, { A, 0 } }, removed[] = { { A, 1 }, { A, 0 }, { I, 255 } };
+    static const struct source swapped[] = { { A, 1 }, { A, 0 }, { A, 2 } };
+    uint32_t i;
+    int held;
+
+    check("a port is FAIL, and OK again, at the very reports that its times say", both_edges());
+    check("a hold-off is counted in reports, and not by the epoch's number", falls_after(1) && falls_after(300));
+    held = waits_from(2, three_none, zeros) && told(4, alone) && state_is(0, OK, 5, WAITS_FOR_NONE);
+    for (i = 0; i < 3; i++)
+        held = held && told(5 + i, both) && state_is(0, OK, 5, HOLD_OFF) && state_is(1, FAIL, 5, WAITS_FOR_NONE);
+    check("a port keeps its number against others until its hold-off ends", held && told(8, both) && state_is(0, FAIL, 64, WAITS_FOR_NONE)
+          && state_is(1, OK, 5, WAITS_FOR_NONE));
+    held = waits_from(3, nines, nines) && told(4, reverse) && told(5, removed) && state_is(0, OK, 1, WAITS_FOR_NONE)
+        && state_is(1, OK, 0, WAITS_FOR_NONE) && state_is(2, LEVELSPRUCE_PORT_IDLE, 255, WAITS_FOR_NONE);
+    check("a removal with the ports in reverse order holds nobody", held);
+    check("nor does a swap", waits_from(3, nines, nines) && told(4, up) && told(5, swapped) && state_is(0, OK, 1, WAITS_FOR_NONE)
+          && state_is(1, OK, 0, WAITS_FOR_NONE) && state_is(2, OK, 2, WAITS_FOR_NONE));
+    check("a chain is held whole", waits_from(3, nines, nines) && told(4, up) && told(5, chain) && state_is(0, OK, 0, HOLD_OFF)
+          && state_is(1, OK, 1, HOLD_OFF) && state_is(2, OK, 2, HOLD_OFF) && reply_is(0, 0x1F, 0));
+}
+
 /* An empty group, and rows that do not fit. */
 static void odd_states(void)
 {
@@ -634,12 +802,14 @@ int main(void)
     noise(store.now, sizeof store.now, 2);
     noise(payload.now, sizeof payload.now, 3);
     starting();
+    starting_with_times();
     refusals();
     stepping();
     switching();
     beginning();
     window();
     link_of_three();
+    waiting();
     odd_states();
     junk_states();
     return tally();

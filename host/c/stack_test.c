@@ -94,12 +94,15 @@ static void sharing(void)
     answers |= numbers[0] | numbers[1] | numbers[2] | numbers[3];
 }
 
-/* 64 ports that come into step, carry bytes and are reported, one that fails, and what is read of them. */
+/* 64 ports that come into step, carry bytes and are reported, one that fails and is held off, and what is read of them. */
 static void receiving(void)
 {
+    static uint32_t times[PORTS];
     uint32_t port, n;
 
-    answers |= levelspruce_receiver_start(PORTS, P, W, sizeof store, receiver, LEVELSPRUCE_RECEIVER_ROWS(PORTS));
+    for (port = 0; port < PORTS; port++)
+        times[port] = LEVELSPRUCE_TIMER_MOST;
+    answers |= levelspruce_receiver_start_as(LEVELSPRUCE_KIND_H4, PORTS, P, W, sizeof store, times, PORTS, times, PORTS, receiver, LEVELSPRUCE_RECEIVER_ROWS(PORTS));
     for (n = 0; n < 10 * LEVELSPRUCE_EPOCH_FRAMES; n++)
         for (port = 0; port < PORTS; port++) {
             uint8_t answer;

@@ -65,6 +65,10 @@ extern "C" {
     fn levelspruce_receiver_start(
         ports: u32, payload: u32, window: u32, store_bytes: usize, state: *mut Row, state_length: usize,
     ) -> u8;
+    fn levelspruce_receiver_start_as(
+        kind: u32, ports: u32, payload: u32, window: u32, store_bytes: usize, hold_off: *const u32, hold_off_length: usize, restore: *const u32,
+        restore_length: usize, state: *mut Row, state_length: usize,
+    ) -> u8;
     fn levelspruce_receiver_frame(
         state: *mut Row, state_length: usize, port: u32, failed: u32, h4: u8, payload: *const u8, payload_length: usize,
         store: *mut u8, store_length: usize,
@@ -237,6 +241,28 @@ pub fn board_speak(changes: &[u8], text: &mut [u8], written: &mut usize) -> u8 {
 
 pub fn receiver_start(ports: u32, payload: u32, window: u32, store_bytes: usize, state: &mut [Row]) -> u8 {
     unsafe { levelspruce_receiver_start(ports, payload, window, store_bytes, state.as_mut_ptr(), state.len()) }
+}
+
+/// What a receiver is started with: its kind, ports, P, W, the length of its store, hold-offs and waits-to-restore.
+#[derive(Clone, Copy, Debug)]
+pub struct Start<'a> {
+    pub kind: u32,
+    pub ports: u32,
+    pub payload: u32,
+    pub window: u32,
+    pub store_bytes: usize,
+    pub hold_off: &'a [u32],
+    pub restore: &'a [u32],
+}
+
+pub fn receiver_start_as(start: &Start, state: &mut [Row]) -> u8 {
+    let Start { kind, ports, payload, window, store_bytes, hold_off, restore } = *start;
+    unsafe {
+        levelspruce_receiver_start_as(
+            kind, ports, payload, window, store_bytes, hold_off.as_ptr(), hold_off.len(), restore.as_ptr(), restore.len(), state.as_mut_ptr(),
+            state.len(),
+        )
+    }
 }
 
 pub fn receiver_frame(state: &mut [Row], port: u32, failed: u32, h4: u8, payload: &[u8], store: &mut [u8]) -> u8 {

@@ -4,14 +4,15 @@
 
 mod damage;
 mod host;
+mod states;
 
-use crate::card;
+use crate::card::{self, Start};
 use crate::count::{Count, Test};
 use crate::path::Frame;
 use crate::random::Random;
 use host::Host;
-use reference::receiver::rows::{self, rows_for, Row};
-use reference::receiver::{Receiver, Report, Shown, STEP_FRAMES};
+use reference::receiver::rows::{self, rows_for, Row, ROWS_A_PORT};
+use reference::receiver::{Receiver, Report, Shown, KIND_H4, STATE_FAIL, STATE_OK, STEP_FRAMES};
 
 enum Reference {
     Plain(Receiver),
@@ -46,6 +47,11 @@ struct Seen {
     odd_packets: u64,
     fourth_breaks: u64,
     second_odd_packets: u64,
+    /// Ports that a report leaves waiting: for the end of their hold-off, and to restore; and waits that ended in FAIL and in OK.
+    held_off: u64,
+    restoring: u64,
+    fell: u64,
+    restored: u64,
 }
 
 impl Seen {
@@ -60,6 +66,15 @@ impl Seen {
             self.fourth_breaks += u64::from(was[9] == 3);
             self.second_odd_packets += u64::from(was[9] < 3);
         }
+    }
+
+    /// What a report did to a port's member row.
+    fn waits(&mut self, was: &Row, is: &Row) {
+        let runs = |row: &Row| row[10..12] != [0; 2];
+        self.held_off += u64::from(is[2] == STATE_OK && runs(is));
+        self.restoring += u64::from(is[2] == STATE_FAIL && runs(is));
+        self.fell += u64::from((was[2], is[2]) == (STATE_OK, STATE_FAIL) && runs(was));
+        self.restored += u64::from((was[2], is[2]) == (STATE_FAIL, STATE_OK) && runs(was));
     }
 }
 
@@ -76,7 +91,21 @@ fn record(report: Report) -> Vec<u8> {
 }
 
 fn shown(p: &Shown) -> [u8; 8] {
-    [p.state, p.number, p.in_step.into(), p.joined.into(), p.readable.into(), p.failed.into(), p.word, 0]
+    [p.state, p.number, p.in_step.into(), p.joined.into(), p.readable.into(), p.failed.into(), p.word, p.waiting]
+}
+
+/// The times of a group's ports, often none.
+fn times(random: &mut Random, ports: usize) -> Vec<u32> {
+    match random.below(3) {
+        0 => Vec::new(),
+        1 => vec![random.one_of(&[1, 3, 10, 5000]); ports],
+        _ => (0..ports).map(|_| random.one_of(&[0, 0, 1, 2, 3, 8])).collect(),
+    }
+}
+
+/// The same start on the reference's rows.
+fn start_rows(start: &Start, state: &mut [Row]) -> u8 {
+    rows::start_as(state, start.kind, start.ports, start.payload, start.window, start.store_bytes, start.hold_off, start.restore)
 }
 
 fn first_difference<T: PartialEq>(a: &[T], b: &[T]) -> usize {
@@ -87,11 +116,13 @@ impl Both {
     fn start(random: &mut Random, ports: usize, payload: usize, window: usize, damaged: bool) -> Both {
         let length = ports * window * (payload + 1);
         let (n, p, w) = (ports as u32, payload as u32, window as u32);
+        let (hold_off, restore) = (times(random, ports), times(random, ports));
+        let start = Start { kind: KIND_H4, ports: n, payload: p, window: w, store_bytes: length, hold_off: &hold_off, restore: &restore };
         let mut plain = Receiver::empty();
-        assert_eq!(plain.start(n, p, w, length), 0);
+        assert_eq!(plain.start_as(KIND_H4, n, p, w, length, &hold_off, &restore), 0);
         let mut by_rows = vec![[0xEE; 16]; rows_for(ports)];
         let mut by_card = by_rows.clone();
-        assert_eq!((rows::start(&mut by_rows, n, p, w, length), card::receiver_start(n, p, w, length, &mut by_card)), (0, 0));
+        assert_eq!((start_rows(&start, &mut by_rows), card::receiver_start_as(&start, &mut by_card)), (0, 0));
         let mut store = vec![0; length];
         random.fill(&mut store);
         let output = vec![0x5A; ports * 16 * payload + random.below(4) as usize];
@@ -172,6 +203,7 @@ impl Both {
 
     fn fetch(&mut self, test: &mut Test, random: &mut Random, seen: &mut Seen) -> Report {
         let ack = self.rows[0][0][11];
+        let members: Vec<Row> = self.rows[0].iter().skip(2).step_by(ROWS_A_PORT).copied().collect();
         let least = self.ports * 16 * self.payload;
         let (mut rows, mut store, mut out) = (self.rows[0].len(), self.stores[0].len(), self.outputs[0].len());
         let mut record_length = 8;
@@ -196,6 +228,9 @@ impl Both {
         seen.marks[usize::from(report.mark)] += 1;
         let [reference, card] = self.both(random, seen.calls, [answer, card_answer], [by_reference, by_card]);
         seen.turns += u64::from(ack != self.rows[0][0][11]);
+        if report != Report::NONE {
+            members.iter().zip(self.rows[0].iter().skip(2).step_by(ROWS_A_PORT)).for_each(|(was, is)| seen.waits(was, is));
+        }
         test.case(answer, &reference, &card, &("fetch", (self.ports, self.payload, self.window), rows, store, out, record_length));
         report
     }
@@ -295,7 +330,8 @@ pub fn compare(count: &mut Count, hosts: u64) {
     tests.fetches.end(count, &[0]);
     let events = [seen.begins, seen.stops, seen.joins_later, seen.turns].iter().all(|times| *times > 100) && seen.old_marks > 5;
     let steps = seen.breaks.iter().chain([&seen.odd_packets, &seen.fourth_breaks, &seen.second_odd_packets]).all(|times| *times > 100);
-    count.note("all that can happen to a receiver happens there", events && steps && seen.marks.iter().all(|times| *times > 200));
+    let waits = [seen.held_off, seen.restoring, seen.fell, seen.restored].iter().all(|times| *times > 20);
+    count.note("all that can happen to a receiver happens there", events && steps && waits && seen.marks.iter().all(|times| *times > 200));
 
     let mut seen = Seen::default();
     let mut tests = Tests { frames: Test::new("frames on states that no call wrote"), fetches: Test::new("fetches from such states") };
@@ -307,6 +343,7 @@ pub fn compare(count: &mut Count, hosts: u64) {
     tests.fetches.end(count, &[0]);
     count.note("reports of each mark come from such states", seen.marks.iter().all(|times| *times > 200) && seen.damages > 1000);
 
+    states::compare(count, &mut random);
     starts(count, &mut random);
 }
 
@@ -330,6 +367,33 @@ fn starts(count: &mut Count, random: &mut Random) {
         let expected = rows::start(&mut by_reference, ports, payload, window, store);
         let answer = card::receiver_start(ports, payload, window, store, &mut by_card);
         test.case(expected, &(expected, by_reference), &(answer, by_card), &(ports, payload, window, store, right));
+    }
+    test.end(count, &[0, 4, 9]);
+
+    let mut test = Test::new("starts of a receiver with times");
+    for _ in 0..60_000 {
+        let ports = random.one_of(&[1, 1, 2, 2, 3, 3, 5, 63, 64, 65, 0]);
+        let (payload, window) = (random.one_of(&[1, 2, 3, 3, 4, 2341]), random.one_of(&[16, 16, 17, 40, 40, 2049]));
+        let list = |random: &mut Random| -> Vec<u32> {
+            let right = ports as usize;
+            let length = random.one_of(&[0, 0, right, right, right, right, right, right, right, right + 1, right.saturating_sub(1)]);
+            let any = random.below(5001) as u32;
+            let mut list: Vec<u32> = (0..length).map(|_| random.one_of(&[0, 1, 5000, any])).collect();
+            if length > 0 && random.below(8) == 0 {
+                list[random.below(length as u64) as usize] = random.one_of(&[5001, 5001, 65536, 65535, 1 << 31, u32::MAX]);
+            }
+            list
+        };
+        let (hold_off, restore) = (list(random), list(random));
+        let kind = random.one_of(&[0, 0, 0, 0, 0, 0, 0, 0, 0, 0, 1, 256, u32::MAX]);
+        let store_bytes = ports as usize * window as usize * (payload as usize + 1) + random.below(16) as usize / 15;
+        let right = rows_for(ports as usize);
+        let mut by_reference = vec![[random.next() as u8; 16]; random.one_of(&[right, right, right, right, right, right, right + 1, right - 1, 0])];
+        let mut by_card = by_reference.clone();
+        let start = Start { kind, ports, payload, window, store_bytes, hold_off: &hold_off, restore: &restore };
+        let expected = start_rows(&start, &mut by_reference);
+        let answer = card::receiver_start_as(&start, &mut by_card);
+        test.case(expected, &(expected, by_reference), &(answer, by_card), &(&start, right));
     }
     test.end(count, &[0, 4, 9]);
 }

@@ -41,10 +41,29 @@ static void note_step(const struct lent *l, uint32_t port)
         note(l, 3, l->state.bytes[row + 9] % 4u + 4 * (l->state.bytes[row + 10] != 0));
 }
 
-static void start(struct lent *l, struct program *g)
+/* Times of a start, or none: as many as there are ports, or off by a little, and any numbers. Whether one is too large. */
+static int times_of(struct program *g, uint32_t ports, struct kept *times)
 {
-    uint32_t ports = number_of(g), payload = number_of(g), window = number_of(g);
-    int fits = ports >= 1 && ports <= 64 && payload >= 1 && payload <= 2340 && window >= 16 && window <= 2048;
+    size_t i, n = about(g, ports <= LEVELSPRUCE_PORTS_MOST ? ports : 1);
+    int too_large = 0;
+
+    *times = keep(n * sizeof(uint32_t));
+    for (i = 0; i < n; i++) {
+        uint32_t time = number_of(g);
+
+        memcpy(times->bytes + i * sizeof time, &time, sizeof time);
+        too_large = too_large || time > LEVELSPRUCE_TIMER_MOST;
+    }
+    return too_large;
+}
+
+static void start(struct lent *l, struct program *g, int with_times)
+{
+    uint32_t ports = number_of(g), payload = number_of(g), window = number_of(g), kind = with_times ? byte_of(g) / 240 : 0;
+    struct kept hold_off = { NULL, 0 }, restore = { NULL, 0 };
+    int long_hold_off = with_times && times_of(g, ports, &hold_off), long_restore = with_times && times_of(g, ports, &restore);
+    int fits = !long_hold_off && !long_restore && kind == LEVELSPRUCE_KIND_H4 && ports >= 1 && ports <= 64 && payload >= 1 && payload <= 2340
+        && window >= 16 && window <= 2048;
     /* small enough for many calls a second */
     int small = fits && ports <= 8 && payload <= 40 && window <= 80;
     size_t right = small ? LEVELSPRUCE_RECEIVER_ROWS(ports) : 6;
@@ -56,7 +75,17 @@ static void start(struct lent *l, struct program *g)
     fill(fresh.bytes, fresh.length, byte_of(g));
     state = lend(STATE, fresh, fresh.length);
     store = about(g, store);
-    answer = levelspruce_receiver_start(ports, payload, window, store, rows_of(state), state.length / 16);
+    if (with_times) {
+        struct block h = lend(PAYLOAD, hold_off, hold_off.length), r = lend(RESULT, restore, restore.length);
+
+        answer = levelspruce_receiver_start_as(kind, ports, payload, window, store, (const uint32_t *)(const void *)h.bytes, h.length / 4,
+                                               (const uint32_t *)(const void *)r.bytes, r.length / 4, rows_of(state), state.length / 16);
+        stands(h, 0, "a start changed hold-offs");
+        stands(r, 0, "a start changed waits-to-restore");
+        free(hold_off.bytes);
+        free(restore.bytes);
+    } else
+        answer = levelspruce_receiver_start(ports, payload, window, store, rows_of(state), state.length / 16);
     if (answer != 0 && answer != 4 && answer != 9)
         fail("an answer that start does not have");
     if ((answer == 4) == fits)
@@ -183,12 +212,12 @@ int LLVMFuzzerTestOneInput(const uint8_t *data, size_t size)
     turn = 0;
     while (g.at < g.end)
         switch (byte_of(&g) % 8) {
-        case 0: start(&l, &g); break;
+        case 0: start(&l, &g, 0); break;
         case 1: { uint32_t port = number_of(&g), failed = byte_of(&g) < 16; frame(&l, &g, port, failed, (uint8_t)byte_of(&g)); break; }
         case 2: frames(&l, &g); break;
         case 3: fetch(&l, &g); break;
         case 4: read_out(&l, &g); break;
-        case 5: damage(&l, &g); break;
+        case 5: if (byte_of(&g) < 128) damage(&l, &g); else start(&l, &g, 1); break;
         case 6: { uint32_t port = byte_of(&g) % LEVELSPRUCE_PORTS_MOST; l.tag[port] = number_of(&g) % 4096; break; }
         default: fetch(&l, &g); fetch(&l, &g); break;
         }

@@ -4,7 +4,7 @@ use crate::count::Count;
 use crate::{lines, Program};
 
 /// Wrong choices, and a word that the answer must have.
-const WRONG: [(&[&str], &str); 23] = [
+const WRONG: [(&[&str], &str); 26] = [
     (&["--slot", "3"], "no choice '--slot'"),
     (&["file"], "no choice 'file'"),
     (&["--slots"], "--slots wants a value"),
@@ -24,6 +24,9 @@ const WRONG: [(&[&str], &str); 23] = [
     (&["--damage", "3"], "EPOCH:SLOT"),
     (&["--damage", "3:4"], "EPOCH:SLOT"),
     (&["--fail", "1:9-8"], "FROM not above TO"),
+    (&["--hold-off", "5001"], "from 0 to 5000"),
+    (&["--restore", "65536"], "from 0 to 5000"),
+    (&["--hold-off"], "--hold-off wants a value"),
     (&["--seed", "99999999999999999999999"], "--seed"),
     (&["--doubtful"], "there is no --out"),
     (&["--file", "/no/such/file"], "cannot read"),
@@ -50,7 +53,7 @@ pub fn check(program: &Program, count: &mut Count) {
     count.note("wrong choices get one clear line and status 2", held == WRONG.len());
 
     let (status, help) = said(program, &["--help"]);
-    let named = ["--slots", "--payload", "--window", "--delays", "--first", "--seed", "--epochs", "--damage", "--fail", "--file", "--out", "--each", "--quiet"];
+    let named = ["--slots", "--payload", "--window", "--delays", "--first", "--seed", "--epochs", "--damage", "--fail", "--hold-off", "--restore", "--file", "--out", "--each", "--quiet"];
     count.note("--help names the choices", status == Some(0) && named.iter().all(|n| help.contains(n)));
 
     let (status, text) = said(program, &[]);
@@ -102,6 +105,18 @@ pub fn check(program: &Program, count: &mut Count) {
     let (_, early) = said(program, &["--slots", "2", "--window", "128", "--delays", "0,40", "--fail", "1:0-200"]);
     let (_, late) = said(program, &["--slots", "2", "--window", "128", "--delays", "0,40", "--fail", "1:0-200", "--late", "40"]);
     count.note("a port that comes later may be slower where reports are late", readable(&early) == 0 && readable(&late) == 1);
+
+    let heard = |hold_off: &str, restore: &str, port: &str| -> Vec<String> {
+        let (_, text) = said(program, &["--slots", "2", "--fail", "1:400-560", "--hold-off", hold_off, "--restore", restore]);
+        let told = |l: &&str| ["IDLE", "FAIL", "OK", "waiting"].iter().any(|w| l.starts_with(&format!("port\t{port}\t{w}")));
+        text.lines().filter(told).map(|l| l.split('\t').skip(2).collect::<Vec<_>>().join(" ")).collect()
+    };
+    count.note("a failure shorter than the hold-off is not told as FAIL", heard("20", "0", "1") == ["OK 1", "waiting hold-off", "waiting none"]);
+    count.note(
+        "a longer one is told once, and once that it is over",
+        heard("5", "10", "1") == ["OK 1", "waiting hold-off", "FAIL 1", "waiting none", "waiting restore", "OK 1", "waiting none"],
+    );
+    count.note("with no times nothing waits", heard("0", "0", "1") == ["OK 1", "FAIL 1", "OK 1"] && heard("5", "10", "0") == ["OK 0"]);
 
     let damages: Vec<String> = (40..80).step_by(2).map(|epoch| format!("{}:{}", epoch, epoch / 2 % 3)).collect();
     let (_, hit) = said(program, &["--slots", "3", "--delays", "0,9,30", "--damage", &damages.join(",")]);

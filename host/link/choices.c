@@ -10,7 +10,7 @@ enum { FRAME_MOST = 1000000000, EPOCH_MOST = FRAME_MOST / LEVELSPRUCE_EPOCH_FRAM
 
 enum choice {
     SLOTS, PAYLOAD, WINDOW, PORTS, DELAYS, FIRST, BACK, NUMBER,
-    ADD, REMOVE, DAMAGE, FAIL, LAPSE, LATE, AT_ONCE, SEED, EPOCHS,
+    ADD, REMOVE, DAMAGE, FAIL, HOLD_OFF, RESTORE, LAPSE, LATE, AT_ONCE, SEED, EPOCHS,
     FILE_IN, FILE_OUT, RECORD, DOUBTFUL, EACH, QUIET, HELP, CHOICES
 };
 
@@ -21,7 +21,7 @@ static const struct {
 } known[CHOICES] = {
     { "--slots", 1 }, { "--payload", 1 }, { "--window", 1 }, { "--ports", 1 }, { "--delays", 1 }, { "--first", 1 },
     { "--back", 1 }, { "--number", 1 }, { "--add", 1 }, { "--remove", 1 }, { "--damage", 1 }, { "--fail", 1 },
-    { "--lapse", 1 }, { "--late", 1 }, { "--at-once", 0 }, { "--seed", 1 }, { "--epochs", 1 }, { "--file", 1 }, { "--out", 1 }, { "--record", 1 },
+    { "--hold-off", 1 }, { "--restore", 1 }, { "--lapse", 1 }, { "--late", 1 }, { "--at-once", 0 }, { "--seed", 1 }, { "--epochs", 1 }, { "--file", 1 }, { "--out", 1 }, { "--record", 1 },
     { "--doubtful", 0 }, { "--each", 0 }, { "--quiet", 0 }, { "--help", 0 }
 };
 
@@ -330,6 +330,8 @@ int choices_read(struct choices *c, int count, char **words)
         || read_size(&g, BACK, 0, DELAY_MOST, &c->back) != 0 || read_size(&g, NUMBER, 0, 255, &c->number) != 0
         || read_events(&g, ADD, c->slots, &c->adds) != 0 || read_events(&g, REMOVE, c->slots, &c->removes) != 0
         || read_events(&g, DAMAGE, c->slots, &c->damages) != 0 || read_failures(&g, c->slots, &c->failures) != 0
+        || read_size(&g, HOLD_OFF, 0, LEVELSPRUCE_TIMER_MOST, &c->hold_off) != 0
+        || read_size(&g, RESTORE, 0, LEVELSPRUCE_TIMER_MOST, &c->restore) != 0
         || read_size(&g, LAPSE, 1, FRAME_MOST, &c->lapse) != 0
         || read_size(&g, LATE, 0, LEVELSPRUCE_WINDOW_MOST, &c->late) != 0)
         return -1;

@@ -32,6 +32,7 @@ struct choices {
     uint32_t slots, payload, window;
     uint32_t port[LINES_MOST], delay[LINES_MOST], first[LINES_MOST]; /* of each slot's line */
     uint32_t back, number, lapse, late;
+    uint32_t hold_off, restore; /* of every port, in reports */
     struct events adds, removes, damages;
     struct failures failures;
     uint64_t epochs;

@@ -72,4 +72,6 @@ void draw_events(struct choices *c, struct random *r, uint64_t epochs)
         failure->from = random_below(r, epochs * LEVELSPRUCE_EPOCH_FRAMES);
         failure->to = failure->from + random_below(r, 1000);
     }
+    c->hold_off = random_below(r, 2) == 0 ? 0 : number_below(r, 60);
+    c->restore = random_below(r, 2) == 0 ? 0 : number_below(r, 20);
 }

@@ -11,7 +11,7 @@ void draw_sizes(struct choices *c, struct random *r);
 /* Ports, delays that the window bears, first frames, the way back, the pace of reports. */
 void draw_lines(struct choices *c, struct random *r);
 
-/* Adding, removing, damage and failures, for a run of so many epochs. */
+/* Adding, removing, damage, failures and the ports' times, for a run of so many epochs. */
 void draw_events(struct choices *c, struct random *r, uint64_t epochs);
 
 #endif

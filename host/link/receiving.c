@@ -18,6 +18,20 @@ static void record_frame(struct receiving *r, uint32_t port, int failed, uint8_t
     putc('\n', r->record);
 }
 
+/* All ports have the same times. */
+static void start(struct receiving *r, const struct choices *c)
+{
+    uint32_t hold_off[LINES_MOST], restore[LINES_MOST], port;
+
+    for (port = 0; port < c->slots; port++) {
+        hold_off[port] = c->hold_off;
+        restore[port] = c->restore;
+    }
+    must(levelspruce_receiver_start_as(LEVELSPRUCE_KIND_H4, c->slots, c->payload, c->window, r->store_bytes, hold_off, c->slots, restore, c->slots,
+                                       r->state, r->rows),
+         "levelspruce_receiver_start_as");
+}
+
 int receiving_open(struct receiving *r, const struct choices *c)
 {
     memset(r, 0, sizeof *r);
@@ -38,7 +52,7 @@ int receiving_open(struct receiving *r, const struct choices *c)
             return -2;
         fprintf(r->record, "%lu\t%lu\t%lu\n", (unsigned long)c->slots, (unsigned long)c->payload, (unsigned long)c->window);
     }
-    must(levelspruce_receiver_start(c->slots, c->payload, c->window, r->store_bytes, r->state, r->rows), "levelspruce_receiver_start");
+    start(r, c);
     return 0;
 }
 

@@ -72,6 +72,8 @@ void says_link(struct says *s, const struct choices *c)
     printf("link\twindow\t%" PRIu32 "\n", c->window);
     printf("link\tnumber of epoch 0\t%" PRIu32 "\n", c->number);
     printf("link\tback\t%" PRIu32 "\n", c->back);
+    printf("link\thold-off\t%" PRIu32 "\n", c->hold_off);
+    printf("link\trestore\t%" PRIu32 "\n", c->restore);
     if (c->at_once)
         printf("reports\tat once\n");
     else
@@ -156,7 +158,7 @@ static int some_readable(const struct says *s, const uint8_t (*ports)[LEVELSPRUC
 
 void says_ports(struct says *s, const uint8_t (*ports)[LEVELSPRUCE_PORT_BYTES], uint8_t rs_ack, uint64_t time)
 {
-    static const char *const states[] = { "IDLE", "FAIL", "OK" };
+    static const char *const states[] = { "IDLE", "FAIL", "OK" }, *const waits[] = { "none", "hold-off", "restore" };
     int reads = some_readable(s, ports);
     uint32_t i;
 
@@ -170,6 +172,8 @@ void says_ports(struct says *s, const uint8_t (*ports)[LEVELSPRUCE_PORT_BYTES], 
         if ((now[LEVELSPRUCE_PORT_STATE] != before[LEVELSPRUCE_PORT_STATE] || now[LEVELSPRUCE_PORT_NUMBER] != before[LEVELSPRUCE_PORT_NUMBER])
             && talks(s))
             printf("port\t%" PRIu32 "\t%s\t%d\n", i, states[now[LEVELSPRUCE_PORT_STATE]], now[LEVELSPRUCE_PORT_NUMBER]);
+        if (now[LEVELSPRUCE_PORT_WAITING] != before[LEVELSPRUCE_PORT_WAITING] && talks(s))
+            printf("port\t%" PRIu32 "\twaiting\t%s\n", i, waits[now[LEVELSPRUCE_PORT_WAITING]]);
     }
     if (rs_ack != s->rs_ack && talks(s))
         printf("reply\tRS-Ack\t%d\n", rs_ack);

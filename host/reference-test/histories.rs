@@ -9,7 +9,9 @@ use crate::random::Random;
 use crate::source::{packet, Says};
 use reference::packet::{read, FIELDS_BYTES};
 use reference::receiver::rows::{self, Row};
-use reference::receiver::{epoch_of, fast, first_tag, Flag, Port, Receiver, Report, HELD, STATE_FAIL, STATE_IDLE, STATE_OK, SURE, TAGS};
+use reference::receiver::{
+    epoch_of, fast, first_tag, Flag, Port, Receiver, Report, HELD, KIND_H4, STATE_FAIL, STATE_IDLE, STATE_OK, SURE, TAGS,
+};
 use std::collections::HashMap;
 
 /// The receiver three times, with lent bytes of its own each.
@@ -19,6 +21,9 @@ struct Three {
     fast: fast::Receiver,
     stores: [Vec<u8>; 3],
     outputs: [Vec<u8>; 3],
+    /// One more, started alike but with no times, and its output.
+    timeless: Receiver,
+    timeless_output: Vec<u8>,
     /// What each port stored last for each tag.
     handed: HashMap<(usize, usize), Vec<u8>>,
     /// The nibbles of each port's frames that were counted, one after the other, since its run began.
@@ -43,6 +48,14 @@ struct Seen {
     second_odd_packets: usize,
     /// Reports held while a ruling packet with a right CRC carried another number.
     other_numbers: usize,
+    /// Hold-offs begun, ended in FAIL and ended by the claim come back; restorings ended in OK and by the claim lost; held numbers that
+    /// another port has.
+    hold_offs: usize,
+    hold_offs_ended: usize,
+    claims_back: usize,
+    restored: usize,
+    restoring_ended: usize,
+    kept_from_others: usize,
 }
 
 const SPARE: u8 = 0xC3;
@@ -58,7 +71,7 @@ fn spares(rows: &mut [Row]) -> Vec<&mut u8> {
                 bytes.extend(&mut rest[11..]);
             }
             (_, 1) => bytes.extend(&mut rest[10..]),
-            (_, 2) => bytes.extend(&mut rest[5..]),
+            (_, 2) => bytes.extend(&mut rest[11..]),
             _ => {}
         }
     }
@@ -66,21 +79,23 @@ fn spares(rows: &mut [Row]) -> Vec<&mut u8> {
 }
 
 impl Three {
-    fn start(ports: usize, payload: usize, window: usize) -> Three {
+    fn start(ports: usize, payload: usize, window: usize, times: &Times) -> Three {
         let length = ports * window * (payload + 1);
-        let mut plain = Receiver::empty();
+        let (mut plain, mut timeless) = (Receiver::empty(), Receiver::empty());
         let (n, p, w) = (ports as u32, payload as u32, window as u32);
-        assert_eq!(plain.start(n, p, w, length), 0);
+        assert_eq!(plain.start_as(KIND_H4, n, p, w, length, &times.hold_off, &times.restore), 0);
+        assert_eq!(timeless.start(n, p, w, length), 0);
         let mut lent = vec![[0xEE; 16]; rows::rows_for(ports)];
-        assert_eq!(rows::start(&mut lent, n, p, w, length), 0);
+        assert_eq!(rows::start_as(&mut lent, KIND_H4, n, p, w, length, &times.hold_off, &times.restore), 0);
         for byte in spares(&mut lent) {
             assert_eq!(*byte, 0);
             *byte = SPARE;
         }
-        let fast = fast::Receiver::start(n, p, w, length).expect("all is in range");
+        let fast = fast::Receiver::start_as(n, p, w, length, &times.hold_off, &times.restore).expect("all is in range");
         let stores = std::array::from_fn(|_| vec![0xA5; length]);
         let outputs = std::array::from_fn(|_| vec![0x5A; ports * 16 * payload + 3]);
-        Three { plain, rows: lent, fast, stores, outputs, handed: HashMap::new(), live: vec![Vec::new(); ports] }
+        let timeless_output = vec![0x5A; ports * 16 * payload + 3];
+        Three { plain, rows: lent, fast, stores, outputs, timeless, timeless_output, handed: HashMap::new(), live: vec![Vec::new(); ports] }
     }
 
     /// What is wrong after a call, if anything. All that is stored, and all replies, are looked at now and then, since
@@ -122,6 +137,15 @@ impl Three {
         })
     }
 
+    /// With all states and times taken out of them the receivers with times and without are one.
+    fn times_change_states_alone(&self) -> bool {
+        let mut plain = self.plain.clone();
+        for (p, t) in plain.ports.iter_mut().zip(&self.timeless.ports) {
+            (p.state, p.state_number, p.hold_off, p.restore, p.run) = (t.state, t.state_number, 0, 0, 0);
+        }
+        plain == self.timeless
+    }
+
     /// Of each of the last sixteen frames of a run the nibble stands at its own place.
     fn gathers(&self) -> bool {
         self.plain.ports.iter().zip(&self.live).all(|(p, live)| {
@@ -158,10 +182,14 @@ impl Three {
         let answer = self.plain.frame(port as u32, *flagged, *h4, payload, a);
         let by_rows = rows::frame(&mut self.rows, port as u32, *flagged, *h4, payload, b);
         let by_fast = self.fast.frame(port as u32, *flagged, *h4, payload, c);
+        let by_timeless = self.timeless.frame(port as u32, *flagged, *h4, payload, &mut before.1.clone());
         seen.calls += 1;
         seen.answers[usize::from(answer)] += 1;
         if answer != by_rows || answer != by_fast {
             return Err("answers");
+        }
+        if answer != by_timeless || !self.times_change_states_alone() {
+            return Err("times change more than states");
         }
         if answer != 0 && self.stores[0] != before.1 || ![0, 10, 12].contains(&answer) && self.plain != before.0 {
             return Err("a refusal changed something");
@@ -190,12 +218,17 @@ impl Three {
         let (answer, report) = self.plain.fetch(&self.stores[0], a);
         let by_rows = rows::fetch(&mut self.rows, &self.stores[1], b);
         let by_fast = self.fast.fetch(&self.stores[2], c);
+        let by_timeless = self.timeless.fetch(&self.stores[0], &mut self.timeless_output);
         seen.calls += 1;
         seen.marks[usize::from(report.mark)] += 1;
         seen.turns += usize::from(before.rs_ack != self.plain.rs_ack);
         if (answer, report) != by_rows || (answer, report) != by_fast || answer != 0 {
             return Err("reports");
         }
+        if (answer, report) != by_timeless || self.timeless_output != self.outputs[0] || !self.times_change_states_alone() {
+            return Err("times change more than states");
+        }
+        seen.waits(&before, &self.plain);
         if report == Report::NONE && self.plain != before {
             return Err("a fetch with none due changed something");
         }
@@ -219,20 +252,70 @@ fn carries_other(nibbles: &[u8; 16], epoch: u8) -> bool {
     read(&nibbles.map(|n| n << 4), &mut fields) == 0 && fields[0] != epoch
 }
 
-/// The member states in another form: who is OK, said of each port by itself.
+/// The member states in another form, said of each port by itself and of the numbers after the report. A claim: a candidate, and
+/// no other port is OK under its number.
 fn states_follow(before: &Receiver, now: &Receiver) -> bool {
-    let readable = |i: usize| before.is_readable(&before.ports[i]);
-    let idle = |i: usize| [5, 255].contains(&now.ports[i].word);
-    let candidate = |i: usize| !idle(i) && readable(i) && now.ports[i].number < 64;
-    let kept = |i: usize| before.ports[i].state == STATE_OK && before.ports[i].state_number == now.ports[i].number;
-    let same = |i: usize, j: usize| now.ports[i].number == now.ports[j].number;
     let n = now.ports.len();
-    let ok = |i: usize| candidate(i) && (kept(i) || !(0..n).any(|j| j != i && candidate(j) && same(i, j) && (kept(j) || j < i)));
-    (0..n).all(|i| {
-        let p = &now.ports[i];
-        let state = if idle(i) { STATE_IDLE } else if ok(i) { STATE_OK } else { STATE_FAIL };
-        (p.state, p.state_number) == (state, p.number)
-    })
+    let (was, is) = (|i: usize| &before.ports[i], |i: usize| &now.ports[i]);
+    let idle = |i: usize| [5, 255].contains(&is(i).word);
+    let candidate = |i: usize| !idle(i) && before.is_readable(was(i)) && is(i).number < 64;
+    let ok_under = |i: usize, q: u8| is(i).state == STATE_OK && is(i).state_number == q;
+    let claim = |i: usize| candidate(i) && !(0..n).any(|j| j != i && ok_under(j, is(i).number));
+    let follows = |i: usize| {
+        let (p, now) = (was(i), (is(i).state, is(i).state_number, is(i).run));
+        let number = is(i).number;
+        now == match p.state {
+            _ if idle(i) => (STATE_IDLE, number, 0),
+            STATE_OK if claim(i) => (STATE_OK, number, 0),
+            STATE_OK if p.run < p.hold_off => (STATE_OK, p.state_number, p.run + 1),
+            STATE_FAIL if claim(i) && p.run < p.restore => (STATE_FAIL, number, p.run + 1),
+            STATE_FAIL | STATE_IDLE if claim(i) => (STATE_OK, number, 0),
+            _ => (STATE_FAIL, number, 0),
+        }
+    };
+    // who of several gets a number: the one that keeps it, else the first that need not wait
+    let keeps = |i: usize| was(i).state == STATE_OK && was(i).state_number == is(i).number;
+    let asks = |i: usize| candidate(i) && !(was(i).state == STATE_FAIL && was(i).run < was(i).restore);
+    let in_order = |i: usize| {
+        let got = ok_under(i, is(i).number) && is(i).run == 0;
+        !got || keeps(i) || !(0..n).any(|j| asks(j) && is(j).number == is(i).number && (keeps(j) || j < i))
+    };
+    (0..n).all(|i| follows(i) && in_order(i) && (is(i).hold_off, is(i).restore) == (was(i).hold_off, was(i).restore))
+}
+
+/// The times of a group's ports.
+#[derive(Default)]
+struct Times {
+    hold_off: Vec<u32>,
+    restore: Vec<u32>,
+}
+
+impl Times {
+    /// Often the same for all, or none.
+    fn drawn(random: &mut Random, ports: usize) -> Times {
+        let mut list = || match random.below(4) {
+            0 => Vec::new(),
+            1 => vec![random.one_of(&[1, 2, 5, 20, 5000]); ports],
+            _ => (0..ports).map(|_| random.one_of(&[0, 0, 1, 2, 3, 8, 40])).collect(),
+        };
+        Times { hold_off: list(), restore: list() }
+    }
+}
+
+impl Seen {
+    /// Notes what a report did to waits.
+    fn waits(&mut self, before: &Receiver, now: &Receiver) {
+        for (was, is) in before.ports.iter().zip(&now.ports) {
+            let ran = (was.state, is.state);
+            self.hold_offs += usize::from(is.state == STATE_OK && was.run == 0 && is.run == 1);
+            self.hold_offs_ended += usize::from(ran == (STATE_OK, STATE_FAIL) && was.run > 0);
+            self.claims_back += usize::from(ran == (STATE_OK, STATE_OK) && was.run > 0 && is.run == 0);
+            self.restored += usize::from(ran == (STATE_FAIL, STATE_OK) && was.run > 0);
+            self.restoring_ended += usize::from(ran == (STATE_FAIL, STATE_FAIL) && was.run > 0 && is.run == 0);
+            let wanted = || now.ports.iter().any(|other| other.state == STATE_FAIL && other.number == is.state_number);
+            self.kept_from_others += usize::from(is.state == STATE_OK && is.run > 0 && wanted());
+        }
+    }
 }
 
 struct Host {
@@ -304,7 +387,7 @@ fn history(random: &mut Random, seen: &mut Seen, times: usize) -> Result<(), Str
     let window = random.one_of(&[16, 17, 24, 31, 32, 33, 40, 48, 64, 77, 160, 240, 256]);
     let ports = random.one_of(&[1, 2, 2, 3, 4, 9]);
     let payload = random.one_of(&[1, 2, 3, 9]);
-    let mut three = Three::start(ports, payload, window);
+    let mut three = Three::start(ports, payload, window, &Times::drawn(random, ports));
     let mut host = Host::new(random, ports, window);
     let fetches = random.one_of(&[1, 4, 20, 60]);
     for time in 0..times {
@@ -356,7 +439,8 @@ pub fn check(count: &mut Count) {
     let marks = seen.marks.iter().all(|times| *times > 1000);
     let events = [seen.begins, seen.stops, seen.joins_later, seen.turns].iter().all(|times| *times > 100) && seen.old_marks > 30;
     let steps = seen.breaks.iter().chain([&seen.fourth_breaks, &seen.odd_packets, &seen.second_odd_packets, &seen.other_numbers]);
-    let events = events && steps.into_iter().all(|times| *times > 100);
+    let waits = [seen.hold_offs, seen.hold_offs_ended, seen.claims_back, seen.restored, seen.restoring_ended, seen.kept_from_others];
+    let events = events && steps.into_iter().all(|times| *times > 100) && waits.iter().all(|times| *times > 30);
     count.note(&format!("plain, rows and fast alike and sound over {} calls", seen.calls), right);
     count.note("all that can happen happens in these histories", answers && marks && events);
     count.note("group frames of many widths, plain, rows and fast alike", widths());
@@ -371,7 +455,7 @@ fn widths() -> bool {
     let mut sure = 0;
     for x in [1, 2, 3, 7, 8, 9, 15, 16, 17, 24, 40, 63, 64] {
         for payload in [1, 8, 9, 15] {
-            let mut three = Three::start(x, payload, 17);
+            let mut three = Three::start(x, payload, 17, &Times::default());
             for tag in 0..90 {
                 for port in 0..x {
                     // 5 has no divisor in common with any x but 15 and 40, which 7 serves

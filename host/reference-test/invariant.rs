@@ -1,6 +1,6 @@
 //! What holds of every state that calls can reach.
 
-use reference::receiver::{after, first_tag, Port, Receiver, NONE, STATE_OK, TAGS};
+use reference::receiver::{after, first_tag, Port, Receiver, NONE, STATE_FAIL, STATE_OK, TAGS};
 
 /// The first of these that does not hold.
 pub fn broken(r: &Receiver) -> Option<&'static str> {
@@ -26,6 +26,15 @@ fn ok_numbers_differ(ports: &[Port]) -> bool {
     (0..ok.len()).all(|i| ok[i] < 64 && !ok[..i].contains(&ok[i]))
 }
 
+/// How far a port's count can have come.
+fn runs_to(p: &Port) -> u16 {
+    match p.state {
+        STATE_OK => p.hold_off,
+        STATE_FAIL => p.restore,
+        _ => 0,
+    }
+}
+
 fn of_step(p: &Port) -> Vec<(&'static str, bool)> {
     let (count, next) = (p.count, usize::from(p.next));
     vec![
@@ -38,6 +47,7 @@ fn of_step(p: &Port) -> Vec<(&'static str, bool)> {
         ("three breaks at most stand, and one odd packet", p.breaks < 4 && p.odd.0 < 2),
         ("breaks and odd packets are of who is in step", p.in_step() || p.breaks == 0 && !p.odd.is_set()),
         ("the count started at MFI1 0", count == 0 || count >= 32 || next % 16 == usize::from(count) % 16),
+        ("times are in range, and one of them runs at most", p.hold_off <= 5000 && p.restore <= 5000 && p.run <= runs_to(p)),
         ("words are known", [1, 2, 3, 5, 15, NONE].contains(&p.word)),
     ]
 }

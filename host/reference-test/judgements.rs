@@ -22,7 +22,7 @@ enum Brings {
 
 use Brings::{Damaged, Lacks, Nothing, Packet, Word};
 
-fn says(word: u32, sq: u32) -> Says {
+pub fn says(word: u32, sq: u32) -> Says {
     Says { word, sq, gid: 0 }
 }
 
@@ -211,7 +211,7 @@ fn any_packets() -> bool {
 }
 
 /// Ports that send these packets from now on, over a whole epoch and its report.
-fn epoch(lent: &mut Lent, tag: &mut usize, packets: &[Option<Says>]) {
+pub fn epoch(lent: &mut Lent, tag: &mut usize, packets: &[Option<Says>]) {
     for _ in 0..16 {
         for (port, says) in packets.iter().enumerate() {
             match says {

@@ -11,6 +11,7 @@ mod limits;
 mod link;
 mod source;
 mod steps;
+mod waiting;
 
 #[path = "../differential/path.rs"]
 mod path;
@@ -22,6 +23,7 @@ fn main() {
     limits::check(&mut count);
     steps::check(&mut count);
     judgements::check(&mut count);
+    waiting::check(&mut count);
     link::check(&mut count);
     histories::check(&mut count);
     std::process::exit(count.tally());

@@ -1,7 +1,7 @@
 //! What a member sends, tag by tag, and a receiver with its lent bytes.
 
 use reference::packet::{self, Fields};
-use reference::receiver::{epoch_of, Receiver, Report, TAGS};
+use reference::receiver::{epoch_of, Receiver, Report, KIND_H4, TAGS};
 
 /// What a packet says that is not its epoch.
 #[derive(Clone, Copy, Debug)]
@@ -41,9 +41,13 @@ pub struct Lent {
 
 impl Lent {
     pub fn start(ports: usize, payload: usize, window: usize) -> Lent {
+        Lent::start_as(ports, payload, window, &[], &[])
+    }
+
+    pub fn start_as(ports: usize, payload: usize, window: usize, hold_off: &[u32], restore: &[u32]) -> Lent {
         let store = vec![0xA5; ports * window * (payload + 1)];
         let mut receiver = Receiver::empty();
-        assert_eq!(receiver.start(ports as u32, payload as u32, window as u32, store.len()), 0);
+        assert_eq!(receiver.start_as(KIND_H4, ports as u32, payload as u32, window as u32, store.len(), hold_off, restore), 0);
         Lent { receiver, store, output: vec![0x5A; ports * 16 * payload] }
     }
 

@@ -27,6 +27,16 @@ pub const STATE_IDLE: u8 = 0;
 pub const STATE_FAIL: u8 = 1;
 pub const STATE_OK: u8 = 2;
 
+/// A packet kind, and the only one there is.
+pub const KIND_H4: u32 = 0;
+/// The most reports for which a port waits.
+pub const TIMER_MOST: u32 = 5000;
+
+/// What a port waits for: nothing, the end of its hold-off, or its restoring.
+pub const WAITING_NONE: u8 = 0;
+pub const WAITING_HOLD_OFF: u8 = 1;
+pub const WAITING_RESTORE: u8 = 2;
+
 /// What a fetch says of an epoch.
 pub const NONE_DUE: u8 = 0;
 pub const HELD: u8 = 1;
@@ -95,9 +105,15 @@ pub struct Port {
     /// Word and number of the last good packet.
     pub word: u8,
     pub number: u8,
-    /// The state worked out at the last report, and the last good number then, which is shown unless the state is IDLE.
+    /// The state worked out at the last report, and the number that goes with it: of an OK port the one under which it is OK, of
+    /// others the last good one then. It is shown unless the state is IDLE.
     pub state: u8,
     pub state_number: u8,
+    /// For how many reports an OK port that loses its claim stays OK, and a FAIL port that has one stays FAIL; and for how many it
+    /// has: of an OK port without its claim, of a FAIL port with it.
+    pub hold_off: u16,
+    pub restore: u16,
+    pub run: u16,
     /// The last good word and number at the last report.
     pub told_word: u8,
     pub told_number: u8,
@@ -123,6 +139,9 @@ impl Port {
             number: NONE,
             state: STATE_IDLE,
             state_number: NONE,
+            hold_off: 0,
+            restore: 0,
+            run: 0,
             told_word: NONE,
             told_number: NONE,
         }
@@ -261,6 +280,38 @@ impl Port {
     fn is_idle(&self) -> bool {
         self.word == NONE || self.word == IDLE
     }
+
+    /// OK at the last report, and under the number that it has now.
+    fn keeps(&self) -> bool {
+        self.state == STATE_OK && self.state_number == self.number
+    }
+
+    /// FAIL at the last report, and its claim has not stood for long enough.
+    fn is_restoring(&self) -> bool {
+        self.state == STATE_FAIL && self.run < self.restore
+    }
+
+    /// OK at the last report, and may lose its claim for one report more. (An OK port's number is below 64.)
+    fn has_hold_off_left(&self) -> bool {
+        self.state == STATE_OK && self.run < self.hold_off && self.state_number < 64
+    }
+
+    /// "Never are both running for one port": there is one count, and the state says of what.
+    fn waiting(&self) -> u8 {
+        match (self.state, self.run) {
+            (_, 0) => WAITING_NONE,
+            (STATE_OK, _) => WAITING_HOLD_OFF,
+            (STATE_FAIL, _) => WAITING_RESTORE,
+            _ => WAITING_NONE,
+        }
+    }
+}
+
+/// A number, and the port that holds it.
+type Holder = (u8, usize);
+
+fn holder_of(holders: &[Holder], number: u8) -> Option<usize> {
+    holders.iter().find(|(q, _)| *q == number).map(|(_, port)| *port)
 }
 
 /// Whether a word is that of an active or DNU member, which has a number in the group's order.
@@ -270,15 +321,6 @@ fn is_numbered(word: u8) -> bool {
 
 fn is_active(word: u8) -> bool {
     word == NORM || word == EOS
-}
-
-/// The member state of a port that is IDLE or was chosen, or neither.
-fn state_of(idle: bool, chosen: bool) -> u8 {
-    match (idle, chosen) {
-        (true, _) => STATE_IDLE,
-        (false, true) => STATE_OK,
-        (false, false) => STATE_FAIL,
-    }
 }
 
 /// Word, GID and number of the packet of an epoch by the own count, if it is read with 0. "A packet whose carried MFI2 differs
@@ -317,6 +359,7 @@ pub struct Shown {
     pub failed: bool,
     /// The last good word.
     pub word: u8,
+    pub waiting: u8,
 }
 
 #[derive(Clone, PartialEq, Eq, Debug, Default)]
@@ -346,17 +389,28 @@ impl Receiver {
     }
 
     pub fn start(&mut self, ports: u32, payload: u32, window: u32, store_length: usize) -> u8 {
-        if !Receiver::fits(ports, payload, window) {
+        self.start_as(KIND_H4, ports, payload, window, store_length, &[], &[])
+    }
+
+    /// Starts with a hold-off and a wait-to-restore for each port; an empty list has zero for all.
+    pub fn start_as(
+        &mut self, kind: u32, ports: u32, payload: u32, window: u32, store_length: usize, hold_off: &[u32], restore: &[u32],
+    ) -> u8 {
+        let times_fit = hold_off.iter().chain(restore).all(|time| *time <= TIMER_MOST);
+        if kind != KIND_H4 || !Receiver::fits(ports, payload, window) || !times_fit {
             *self = Receiver::empty();
             return 4;
         }
+        let time = |list: &[u32], port: usize| list.get(port).map_or(0, |time| *time as u16);
+        let port = |i: usize| Port { hold_off: time(hold_off, i), restore: time(restore, i), ..Port::new() };
         let started = Receiver {
-            ports: vec![Port::new(); ports as usize],
+            ports: (0..ports as usize).map(port).collect(),
             payload: payload as usize,
             window: window as usize,
             ..Receiver::empty()
         };
-        if store_length != started.store_length() {
+        let is_list = |list: &[u32]| list.is_empty() || list.len() == ports as usize;
+        if store_length != started.store_length() || !is_list(hold_off) || !is_list(restore) {
             return 9;
         }
         *self = started;
@@ -575,24 +629,67 @@ impl Receiver {
             self.rs_ack = Flag::from(!self.rs_ack.is_set());
         }
 
-        let candidates: Vec<usize> = (0..self.ports.len())
-            .filter(|i| !self.ports[*i].is_idle() && self.is_readable(&self.ports[*i]) && self.ports[*i].number < 64)
+        let holders = self.holders();
+        let told: Vec<(u8, u8, u16)> = (0..self.ports.len())
+            .map(|i| {
+                let p = &self.ports[i];
+                let keeps_number = p.has_hold_off_left() && holder_of(&holders, p.state_number) == Some(i);
+                match self.has_claim(&holders, i) {
+                    _ if p.is_idle() => (STATE_IDLE, p.number, 0),
+                    true if p.is_restoring() => (STATE_FAIL, p.number, p.run + 1),
+                    true => (STATE_OK, p.number, 0),
+                    false if keeps_number => (STATE_OK, p.state_number, p.run + 1),
+                    false => (STATE_FAIL, p.number, 0),
+                }
+            })
             .collect();
-        let (first, then): (Vec<usize>, Vec<usize>) = candidates.into_iter().partition(|i| {
-            let p = &self.ports[*i];
-            p.state == STATE_OK && p.state_number == p.number
-        });
-        let mut chosen: Vec<usize> = Vec::new();
+        for (p, told) in self.ports.iter_mut().zip(told) {
+            (p.state, p.state_number, p.run) = told;
+            (p.told_word, p.told_number) = (p.word, p.number);
+        }
+    }
+
+    /// "Candidates when readable with a number below 64"
+    fn is_candidate(&self, p: &Port) -> bool {
+        !p.is_idle() && self.is_readable(p) && p.number < 64
+    }
+
+    /// A candidate, and no other port holds its number.
+    fn has_claim(&self, holders: &[Holder], i: usize) -> bool {
+        self.is_candidate(&self.ports[i]) && holder_of(holders, self.ports[i].number).map_or(true, |holder| holder == i)
+    }
+
+    /// Who chooses which number, where some are held already: first who keeps its number, then the rest, each in port order.
+    /// Who waits to restore takes none.
+    fn choose(&self, held: &[Holder]) -> Vec<Holder> {
+        let choosing = (0..self.ports.len()).filter(|i| self.is_candidate(&self.ports[*i]) && !self.ports[*i].is_restoring());
+        let (first, then): (Vec<usize>, Vec<usize>) = choosing.partition(|i| self.ports[*i].keeps());
+        let mut holders = held.to_vec();
         for i in first.into_iter().chain(then) {
-            if chosen.iter().all(|c| self.ports[*c].number != self.ports[i].number) {
-                chosen.push(i);
+            let number = self.ports[i].number;
+            if holder_of(&holders, number).is_none() {
+                holders.push((number, i));
             }
         }
+        holders
+    }
 
-        for (i, p) in self.ports.iter_mut().enumerate() {
-            p.state = state_of(p.is_idle(), chosen.contains(&i));
-            p.state_number = p.number;
-            (p.told_word, p.told_number) = (p.word, p.number);
+    /// Who holds which number after this report. An OK port that gets none, and has hold-off left, holds the number under which it
+    /// is OK. Whether one gets its number can hang on who else holds, so it goes in rounds, until one in which none joins.
+    fn holders(&self) -> Vec<Holder> {
+        let mut held: Vec<Holder> = Vec::new();
+        loop {
+            let holders = self.choose(&held);
+            let before = held.len();
+            for (i, p) in self.ports.iter().enumerate() {
+                let loses = !p.is_idle() && p.has_hold_off_left() && !self.has_claim(&holders, i);
+                if loses && holder_of(&held, p.state_number).is_none() {
+                    held.push((p.state_number, i));
+                }
+            }
+            if held.len() == before {
+                return holders;
+            }
         }
     }
 
@@ -605,6 +702,7 @@ impl Receiver {
             readable: self.is_readable(p),
             failed: p.failed.is_set(),
             word: p.word,
+            waiting: p.waiting(),
         };
         self.ports.iter().map(shown).collect()
     }

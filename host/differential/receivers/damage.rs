@@ -30,8 +30,15 @@ pub fn rows(random: &mut Random, rows: &mut [Row], window: usize) {
             rows[first][3..5].copy_from_slice(&(tag as u16).to_be_bytes());
         }
         9 => {
+            // of word, number, states and times; a count of times is near one of them
             let byte = random.below(16) as usize;
             rows[first + 1][byte] = random.one_of(&[0, 1, 2, 3, 5, 15, 63, 64, 200, 255]);
+            if random.below(4) == 0 {
+                let times = 6 + 2 * random.below(2) as usize;
+                let time = u16::from_be_bytes([rows[first + 1][times], rows[first + 1][times + 1]]);
+                let run = random.one_of(&[time, time.wrapping_sub(1), time.wrapping_add(1), u16::MAX]);
+                rows[first + 1][10..12].copy_from_slice(&run.to_be_bytes());
+            }
         }
         10 => rows[first][9] = random.one_of(&[0, 1, 2, 3, 3, 4, 255]),
         11 => rows[first][10] = flag(random),

@@ -120,7 +120,7 @@ impl Host {
 
     /// The port's path is switched to a longer one, on which its tags go back, and the host says so or not.
     pub fn switch(&mut self, random: &mut Random, port: usize) {
-        let back = 32 + random.below(self.window + 28) as usize;
+        let back = 56 + random.below(self.window) as usize;
         self.sources[port].path.tag += TAGS - back;
         self.sources[port].path.flagged = random.below(4).min(1);
     }

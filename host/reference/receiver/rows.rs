@@ -7,7 +7,7 @@
 //! as the next; a port that is not in step has not joined, whatever stands there; and only some frames are looked at for
 //! what follows for all ports.
 
-use super::{after, first_tag, Flag, Port, Receiver, Report, Shown, EPOCH_FRAMES};
+use super::{after, first_tag, Flag, Port, Receiver, Report, Shown, EPOCH_FRAMES, KIND_H4};
 
 pub type Row = [u8; 16];
 
@@ -46,6 +46,9 @@ impl Port {
             state_number: member[3],
             told_word: member[4],
             told_number: member[5],
+            hold_off: pair(member, 6),
+            restore: pair(member, 8),
+            run: pair(member, 10),
             gathering: *gathering,
             ruling: *ruling,
             // mark i is bit i mod 8, lowest first, of byte i div 8
@@ -59,7 +62,11 @@ impl Port {
         put_pair(step, 3, self.next);
         (step[5], step[6], step[7], step[8]) = (self.joined.0, self.since.0, self.later, self.whole.0);
         (step[9], step[10]) = (self.breaks, self.odd.0);
-        rows[1][..6].copy_from_slice(&[self.word, self.number, self.state, self.state_number, self.told_word, self.told_number]);
+        let member = &mut rows[1];
+        member[..6].copy_from_slice(&[self.word, self.number, self.state, self.state_number, self.told_word, self.told_number]);
+        put_pair(member, 6, self.hold_off);
+        put_pair(member, 8, self.restore);
+        put_pair(member, 10, self.run);
         rows[2] = self.gathering;
         rows[3] = self.ruling;
         rows[4] = self.marks.to_le_bytes();
@@ -110,8 +117,14 @@ fn fit(receiver: &Receiver, rows: &[Row]) -> bool {
 
 /// A start writes every byte; a refusal with 4 the group's row alone, if it is lent.
 pub fn start(rows: &mut [Row], ports: u32, payload: u32, window: u32, store_length: usize) -> u8 {
+    start_as(rows, KIND_H4, ports, payload, window, store_length, &[], &[])
+}
+
+pub fn start_as(
+    rows: &mut [Row], kind: u32, ports: u32, payload: u32, window: u32, store_length: usize, hold_off: &[u32], restore: &[u32],
+) -> u8 {
     let mut receiver = Receiver::empty();
-    let answer = receiver.start(ports, payload, window, store_length);
+    let answer = receiver.start_as(kind, ports, payload, window, store_length, hold_off, restore);
     match answer {
         0 if !fit(&receiver, rows) => return 9,
         0 => {
