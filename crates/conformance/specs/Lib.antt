@@ -6,6 +6,7 @@ pub mod Examples
 pub mod Hosts
 pub mod Joining
 pub mod Refusals
+pub mod Replays
 pub mod Rows
 pub mod SameBytes
 pub mod Worked
