@@ -1,7 +1,8 @@
 //! Holds the built replay program to the reference's replay: made-up recordings, torn and whole, each as one file, cut before
 //! every line, and cut at single lines, and read from standard input. Every run makes the same ones.
 //!
-//! Usage: replays FOLDER COMMAND WORD.., where FOLDER takes files and COMMAND runs the program.
+//! Usage: replays FOLDER COMMAND WORD.. [-- COMMAND WORD..], where FOLDER takes files, the first command runs the program and
+//! the second one the example link, whose recordings are then compared with what it said.
 
 #[path = "../differential/count.rs"]
 #[allow(dead_code)] // not all of it is used here
@@ -10,6 +11,7 @@ mod count;
 #[allow(dead_code)] // nor of this
 mod random;
 
+mod links;
 mod recordings;
 
 use count::Count;
@@ -23,6 +25,7 @@ use std::process::{Command, Stdio};
 const STORE_MOST: usize = 65536;
 
 const RECORDINGS: usize = 50;
+const LINKS: u64 = 200;
 
 struct Program {
     folder: String,
@@ -121,7 +124,8 @@ impl Held<'_> {
 
 fn main() {
     let words: Vec<String> = std::env::args().skip(1).collect();
-    let program = Program { folder: words[0].clone(), words: words[1..].to_vec() };
+    let mut commands = words[1..].split(|word| word == "--");
+    let program = Program { folder: words[0].clone(), words: commands.next().expect("a command").to_vec() };
     let mut count = Count::default();
     let mut random = Random::new(5);
 
@@ -160,6 +164,15 @@ fn main() {
         held.note("cut in two", &expected, &program.on_files(&parts), &lines);
     }
     count.note(&format!("a recording cut in two at each of its {} lines", lines.len()), held.differing == 0);
+
+    if let Some(link) = commands.next() {
+        let compared: Vec<links::Compared> = (1..=LINKS).map(|seed| links::compared(&program.folder, link, &program.words, seed)).collect();
+        let total = |f: fn(&links::Compared) -> usize| compared.iter().map(f).sum::<usize>();
+        let (reports, states, together) = (total(|c| c.reports), total(|c| c.states), total(|c| c.together));
+        println!("links\t{}\treports {}\tstates {}\twhere several reports came together {}", LINKS, reports, states, together);
+        count.note("what the example link said at once, replayed from its recording", compared.iter().all(|c| c.same));
+        count.note("it said many reports and states", reports > 4000 && states > 500);
+    }
 
     std::process::exit(count.tally());
 }
