@@ -8,14 +8,15 @@
  * For every call (but those three that only give a text):
  * - The result is the answer number. Any answer but 0 is a refusal.
  * - A refusal changes no byte of any buffer, but for these, which change the
- *   state and nothing else: 4 of levelspruce_sender_start and of
- *   levelspruce_receiver_start writes an empty group, and 10 and 12 of
- *   levelspruce_receiver_frame record that the port is not in step, with all
- *   that follows from it.
+ *   state and nothing else: 4 of levelspruce_sender_start, of
+ *   levelspruce_card_start and of levelspruce_receiver_start writes an empty
+ *   group (of a card, two), and 10 and 12 of levelspruce_receiver_frame record
+ *   that the port is not in step, with all that follows from it.
  * - Numbers pass as uint32_t, so a number that is too large is refused by its
  *   answer and never cut down to one that fits (but of rs_ack in
- *   levelspruce_sender_report the lowest bit counts). Bytes pass as uint8_t:
- *   h4 of levelspruce_receiver_frame and epoch of levelspruce_receiver_reply.
+ *   levelspruce_sender_report and levelspruce_card_report the lowest bit
+ *   counts). Bytes pass as uint8_t: h4 of levelspruce_receiver_frame and epoch
+ *   of levelspruce_receiver_reply.
  * - A buffer is a pointer and its length in bytes; where the pointer is to rows
  *   (a receiver's state, its ports), the length counts rows, and where it is to
  *   delays, delays. The whole length must be the caller's to use. NULL with
@@ -61,7 +62,7 @@ extern "C" {
 
 /* Answers. */
 #define LEVELSPRUCE_ANSWER_DONE 0       /* done */
-#define LEVELSPRUCE_ANSWER_SLOT 1       /* the slot or port is not below the group's count */
+#define LEVELSPRUCE_ANSWER_SLOT 1       /* the slot or port is not below the group's count, or the card has no such group */
 #define LEVELSPRUCE_ANSWER_STATE 2      /* not allowed now: by the slot's state, no wait open, no epoch started, or changes that do not fit */
 #define LEVELSPRUCE_ANSWER_WAIT 3       /* add or remove while a wait is open */
 #define LEVELSPRUCE_ANSWER_RANGE 4      /* a count, P, W, X or delay is out of range */
@@ -73,6 +74,8 @@ extern "C" {
 #define LEVELSPRUCE_ANSWER_FAILED 10    /* the frame came flagged as failed */
 #define LEVELSPRUCE_ANSWER_OUTSIDE 11   /* the frame is in step, but outside the window: hand it again after a report */
 #define LEVELSPRUCE_ANSWER_STEP 12      /* the port is not in step after this frame */
+#define LEVELSPRUCE_ANSWER_OWNED 14     /* the slot is not the group's own, or a slot to be claimed is owned already */
+#define LEVELSPRUCE_ANSWER_USED 15      /* a slot to be released is not IDLE */
 
 /* Control words. All other numbers are unassigned. */
 #define LEVELSPRUCE_WORD_FIXED 0 /* neither written nor read: the group has no LCAS */
@@ -89,6 +92,8 @@ extern "C" {
 #define LEVELSPRUCE_PACKET_BYTES 16 /* the H4 bytes of one packet */
 #define LEVELSPRUCE_FIELDS_BYTES 10 /* the fields of one packet */
 #define LEVELSPRUCE_SENDER_BYTES 397 /* a sender's state */
+#define LEVELSPRUCE_CARD_BYTES 858  /* the state of a card with two groups */
+#define LEVELSPRUCE_OWNED_BYTES 64  /* which slots a group owns */
 #define LEVELSPRUCE_BOARD_BYTES 130 /* a sender's board */
 #define LEVELSPRUCE_RANKS_BYTES 68  /* the ranks of an epoch */
 #define LEVELSPRUCE_CHANGES_BYTES 322 /* the changes between two boards */
@@ -124,8 +129,10 @@ extern "C" {
 #define LEVELSPRUCE_FIELD_RESERVED 6 /* the first of four bytes, highest first */
 #define LEVELSPRUCE_RESERVED_MOST 67108863
 
-/* A sender's slots, and the number of a slot that is IDLE. */
+/* A sender's slots, the groups of a card, and the number of a slot that is
+ * IDLE. */
 #define LEVELSPRUCE_SLOTS_MOST 64
+#define LEVELSPRUCE_GROUPS 2
 #define LEVELSPRUCE_NUMBER_IDLE 255
 
 /* The bytes of a board: slot s has its word at ROWS + 2 * s and its number
@@ -463,6 +470,297 @@ uint8_t levelspruce_sender_ranks(const uint8_t *state, size_t state_length,
                                  uint8_t *ranks, size_t ranks_length);
 
 /*
+ * Two circuits on one card: two groups, 0 and 1, share the card's slots. A slot
+ * is owned by one group or by nobody; claim and release move it. Numbers,
+ * words, waits and epochs are each group's own, and so are its boards and
+ * ranks. What a group is answered depends on its own calls and on which slots
+ * the other owns; a claim is the one answer that tells of the latter.
+ *
+ * The card's whole state is one buffer of LEVELSPRUCE_CARD_BYTES bytes, lent
+ * and kept as a sender's is. Begin with levelspruce_card_start. Any bytes are
+ * coped with. A call changes no byte of the other group's part of the state.
+ *
+ * A state_length other than LEVELSPRUCE_CARD_BYTES is answered 9 before all
+ * else (but 4 at starting), then a group other than 0 and 1 is answered 1.
+ */
+
+/*
+ * Starts a card: two groups with all slots IDLE, and no slot owned.
+ *
+ *   count           slots of the card, 1 to 64
+ *   first_epoch_0   the number of the first epoch of group 0, 0 to 255
+ *   first_epoch_1   that of group 1
+ *   state           LEVELSPRUCE_CARD_BYTES bytes, of any content
+ *
+ * Answers, the first that fits:
+ *   4  count is 0 or above 64; where state_length is right, all of state is
+ *      written with two empty groups, in which every slot is answered 1
+ *   9  state_length is wrong
+ *   8  a first epoch is above 255
+ *   0  all of state is written
+ */
+LEVELSPRUCE_MUST_USE
+uint8_t levelspruce_card_start(uint32_t count, uint32_t first_epoch_0,
+                               uint32_t first_epoch_1,
+                               uint8_t *state, size_t state_length);
+
+/*
+ * Claims a slot that nobody owns for the group.
+ *
+ * Answers, the first that fits:
+ *   9   state_length is wrong
+ *   1   there is no such group, or slot is not below its count
+ *   14  the slot is owned, by the other group or by this one
+ *   0   done
+ */
+LEVELSPRUCE_MUST_USE
+uint8_t levelspruce_card_claim(uint8_t *state, size_t state_length,
+                               uint32_t group, uint32_t slot);
+
+/*
+ * Releases a slot of the group: nobody owns it, and either group may claim it.
+ * An open wait does not hinder it. Ownership changes at once, while the
+ * packets of this epoch were fixed at its start: release a removed slot once
+ * an epoch of IDLE has gone out.
+ *
+ * Answers, the first that fits:
+ *   9   state_length is wrong
+ *   1   there is no such group, or slot is not below its count
+ *   14  the slot is not the group's own
+ *   15  the slot is not IDLE
+ *   0   done
+ */
+LEVELSPRUCE_MUST_USE
+uint8_t levelspruce_card_release(uint8_t *state, size_t state_length,
+                                 uint32_t group, uint32_t slot);
+
+/*
+ * Adds an IDLE slot of the group, as levelspruce_sender_add does.
+ *
+ * Answers, the first that fits:
+ *   9   state_length is wrong
+ *   1   there is no such group, or slot is not below its count
+ *   14  the slot is not the group's own: the other's and nobody's alike
+ *   3   a wait of this group is open
+ *   2   the slot is not IDLE
+ *   0   done
+ */
+LEVELSPRUCE_MUST_USE
+uint8_t levelspruce_card_add(uint8_t *state, size_t state_length,
+                             uint32_t group, uint32_t slot);
+
+/*
+ * Removes a slot of the group that is ADD, active or DNU, as
+ * levelspruce_sender_remove does. The slot stays the group's own.
+ *
+ * Answers, the first that fits:
+ *   9   state_length is wrong
+ *   1   there is no such group, or slot is not below its count
+ *   14  the slot is not the group's own
+ *   3   a wait of this group is open
+ *   2   the slot is IDLE
+ *   0   done
+ */
+LEVELSPRUCE_MUST_USE
+uint8_t levelspruce_card_remove(uint8_t *state, size_t state_length,
+                                uint32_t group, uint32_t slot);
+
+/*
+ * Takes what the far end of the group reports, as levelspruce_sender_report
+ * does.
+ *
+ * Answers, the first that fits:
+ *   9  state_length is wrong
+ *   1  there is no such group
+ *   8  epoch, mst or rs_ack is above 255
+ *   0  done
+ */
+LEVELSPRUCE_MUST_USE
+uint8_t levelspruce_card_report(uint8_t *state, size_t state_length,
+                                uint32_t group, uint32_t epoch, uint32_t mst,
+                                uint32_t rs_ack);
+
+/*
+ * Closes an open wait of the group; the other's wait stays as it is.
+ *
+ * Answers, the first that fits:
+ *   9  state_length is wrong
+ *   1  there is no such group
+ *   2  the group has no wait open
+ *   0  done
+ */
+LEVELSPRUCE_MUST_USE
+uint8_t levelspruce_card_lapse(uint8_t *state, size_t state_length,
+                               uint32_t group);
+
+/*
+ * Starts an epoch of the group, as levelspruce_sender_start_epoch does. Each
+ * group counts its own epochs. A claimed slot sends for its new owner from
+ * that group's next start on.
+ *
+ * Answers, the first that fits:
+ *   9  state_length is wrong
+ *   1  there is no such group
+ *   8  gid or rs_ack is above 1, or mst above 255
+ *   0  done
+ */
+LEVELSPRUCE_MUST_USE
+uint8_t levelspruce_card_start_epoch(uint8_t *state, size_t state_length,
+                                     uint32_t group, uint32_t gid,
+                                     uint32_t mst, uint32_t rs_ack);
+
+/*
+ * Writes the packet of a slot of the group in this epoch of it. Fetch all
+ * packets right after the start of an epoch: once a slot is released, its
+ * packet is answered 14.
+ *
+ *   h4   LEVELSPRUCE_PACKET_BYTES bytes, in the order of sending
+ *
+ * Answers, the first that fits:
+ *   9   state_length is wrong
+ *   1   there is no such group, or slot is not below its count
+ *   14  the slot is not the group's own
+ *   9   h4_length is not 16
+ *   2   no epoch of the group has started
+ *   8   only with a state that does not come from levelspruce_card_start:
+ *       what it keeps makes no packet
+ *   0   all sixteen bytes are written
+ */
+LEVELSPRUCE_MUST_USE
+uint8_t levelspruce_card_packet(const uint8_t *state, size_t state_length,
+                                uint32_t group, uint32_t slot,
+                                uint8_t *h4, size_t h4_length);
+
+/*
+ * Writes the payload of a slot of the group for one frame of the group, as
+ * levelspruce_sender_payload does.
+ *
+ *   p        payload of a member frame in bytes, 1 to 2340
+ *   frame    the group frame, x * p bytes with the x of this epoch
+ *   member   p bytes for the slot's payload
+ *
+ * Answers, the first that fits:
+ *   9   state_length is wrong
+ *   1   there is no such group, or slot is not below its count
+ *   14  the slot is not the group's own
+ *   4   p is out of range
+ *   9   frame_length is not x * p, or member_length is not p
+ *   2   no epoch of the group has started
+ *   0   all of member is written
+ */
+LEVELSPRUCE_MUST_USE
+uint8_t levelspruce_card_payload(const uint8_t *state, size_t state_length,
+                                 uint32_t group, uint32_t slot, uint32_t p,
+                                 const uint8_t *frame, size_t frame_length,
+                                 uint8_t *member, size_t member_length);
+
+/*
+ * Reads the board of the group whole, as levelspruce_sender_board does: all
+ * slots of the card, and those that are not the group's own are IDLE.
+ *
+ *   board   LEVELSPRUCE_BOARD_BYTES bytes, by the LEVELSPRUCE_BOARD_ places
+ *
+ * Answers, the first that fits:
+ *   9  state_length is wrong
+ *   1  there is no such group
+ *   9  board_length is wrong
+ *   0  all of board is written
+ */
+LEVELSPRUCE_MUST_USE
+uint8_t levelspruce_card_board(const uint8_t *state, size_t state_length,
+                               uint32_t group,
+                               uint8_t *board, size_t board_length);
+
+/*
+ * Reads the board whose packets go out in this epoch of the group, in the same
+ * way. A slot that was released since the epoch's start still shows there.
+ *
+ * Answers, the first that fits:
+ *   9  state_length is wrong
+ *   1  there is no such group
+ *   9  board_length is wrong
+ *   0  all of board is written
+ */
+LEVELSPRUCE_MUST_USE
+uint8_t levelspruce_card_board_going(const uint8_t *state,
+                                     size_t state_length, uint32_t group,
+                                     uint8_t *board, size_t board_length);
+
+/*
+ * Reads what rules the payload of this epoch of the group whole, as
+ * levelspruce_sender_ranks does. A slot that was released since may still have
+ * a rank there.
+ *
+ *   ranks   LEVELSPRUCE_RANKS_BYTES bytes, by the LEVELSPRUCE_RANKS_ places
+ *
+ * Answers, the first that fits:
+ *   9  state_length is wrong
+ *   1  there is no such group
+ *   9  ranks_length is wrong
+ *   0  all of ranks is written
+ */
+LEVELSPRUCE_MUST_USE
+uint8_t levelspruce_card_ranks(const uint8_t *state, size_t state_length,
+                               uint32_t group,
+                               uint8_t *ranks, size_t ranks_length);
+
+/*
+ * Reads which slots the group owns: a byte a slot, 1 or 0. Nothing tells what
+ * the other owns.
+ *
+ *   owned   LEVELSPRUCE_OWNED_BYTES bytes, in the order of the slots
+ *
+ * Answers, the first that fits:
+ *   9  state_length is wrong
+ *   1  there is no such group
+ *   9  owned_length is wrong
+ *   0  all of owned is written
+ */
+LEVELSPRUCE_MUST_USE
+uint8_t levelspruce_card_owned(const uint8_t *state, size_t state_length,
+                               uint32_t group,
+                               uint8_t *owned, size_t owned_length);
+
+/*
+ * A whole work order at once: a list of commands, each three numbers, done one
+ * behind the other. State and answers are those of the single calls above in
+ * that order, byte by byte. A refused command stops nothing: the next one is
+ * tried on the card as it stands.
+ *
+ * A remove opens its group's wait, so every later add and remove of that group
+ * in the same order is answered 3. One remove an order and group, at its end.
+ */
+#define LEVELSPRUCE_COMMAND_NUMBERS 3
+#define LEVELSPRUCE_COMMAND_KIND 0
+#define LEVELSPRUCE_COMMAND_GROUP 1
+#define LEVELSPRUCE_COMMAND_SLOT 2
+
+/* the kinds of a command */
+#define LEVELSPRUCE_COMMAND_ADD 0
+#define LEVELSPRUCE_COMMAND_REMOVE 1
+#define LEVELSPRUCE_COMMAND_CLAIM 2
+#define LEVELSPRUCE_COMMAND_RELEASE 3
+
+/*
+ * Does the commands of a list and writes the answer to each.
+ *
+ *   commands   any number of commands: kind, group and slot
+ *   answers    a byte for each; a command is answered as its single call is,
+ *              and 8 where its kind is above 3, before all else
+ *
+ * Answers, the first that fits:
+ *   9  state_length is wrong
+ *   9  answers_length is not commands_length; nothing is done, and no answer
+ *      is written
+ *   0  each command was tried, and all of answers is written
+ */
+LEVELSPRUCE_MUST_USE
+uint8_t levelspruce_card_order(
+    uint8_t *state, size_t state_length,
+    const uint32_t (*commands)[LEVELSPRUCE_COMMAND_NUMBERS],
+    size_t commands_length, uint8_t *answers, size_t answers_length);
+
+/*
  * The spoken board: for a console that tells what changes. A board to be told
  * is one going out, read whole by levelspruce_sender_board_going after the
  * start of an epoch: it stays as it is until the next start, so no list of
@@ -633,7 +931,12 @@ uint8_t levelspruce_receiver_start(uint32_t ports, uint32_t payload,
  *   9  state_length, payload_length or store_length is wrong
  *  10  the frame is flagged: the port is unreadable, and its step is lost
  *  12  the port is not in step after this frame: its count of frames goes on
- *      or starts anew
+ *      or starts anew. A port in step counts by itself and takes up to three
+ *      frames in a row that break the count of MFI1 and MFI2; the fourth is 12,
+ *      and so is the end of a second packet in a row with a right CRC and
+ *      another MFI2 than that count's. Hand one flagged frame at every known
+ *      switch of a path: until step is lost, frames of the new path are taken
+ *      under the tags of the old one
  *  11  the frame is in step, but lies outside the window, and the port has
  *      joined: nothing changes; hand the same frame again after a report
  *   0  taken: its payload and H4 are stored, or dropped where the port has not

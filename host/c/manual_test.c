@@ -152,6 +152,16 @@ static int some_are_lost(int port, long frame)
     return flagged_after ? FLAG_AND_BRING : BRING;
 }
 
+/* How many epochs are sure and wrong after a loss of so many frames at a place of an epoch; -1 where it is not as it should be. */
+static int wrong_at(long epoch, long place, long count, int flag)
+{
+    lost_from = epoch * LEVELSPRUCE_EPOCH_FRAMES + place;
+    lost_count = count;
+    flagged_after = flag;
+    run_both(some_are_lost);
+    return run.refused > 0 || run.marks[LEVELSPRUCE_MARK_SURE] < 80 ? -1 : run.sure_and_wrong;
+}
+
 /* At how many of the sixteen places of an epoch a loss of so many frames gives a sure epoch with wrong bytes; -1 where it
  * gives more than one there. */
 static int wrong_places(long count, int flag)
@@ -160,24 +170,42 @@ static int wrong_places(long count, int flag)
     long k;
 
     for (k = 0; k < LEVELSPRUCE_EPOCH_FRAMES; k++) {
-        lost_from = 80 * LEVELSPRUCE_EPOCH_FRAMES + k;
-        lost_count = count;
-        flagged_after = flag;
-        run_both(some_are_lost);
-        if (run.refused > 0 || run.sure_and_wrong > 1 || run.marks[LEVELSPRUCE_MARK_SURE] < 80)
+        int wrong = wrong_at(80, k, count, flag);
+
+        if (wrong < 0 || wrong > 1)
             return -1;
-        places += run.sure_and_wrong;
+        places += wrong;
     }
     return places;
 }
 
+/* At the last place of how many of these epochs a loss of sixteen frames gives two sure epochs with wrong bytes; -1 where it gives
+ * none or more. */
+static int wrong_twice(void)
+{
+    int twice = 0;
+    long epoch;
+
+    for (epoch = 64; epoch < 128; epoch++) {
+        int wrong = wrong_at(epoch, LEVELSPRUCE_EPOCH_FRAMES - 1, 16, 0);
+
+        if (wrong != 1 && wrong != 2)
+            return -1;
+        twice += wrong == 2;
+    }
+    return twice;
+}
+
 static void check_lost_frames(void)
 {
-    int places = wrong_places(16, 0);
+    int twice = wrong_twice();
 
-    check("a loss of sixteen frames gives one epoch that is sure and wrong at six places", places == 6 && wrong_places(32, 0) == 6);
-    check("it gives none at any place where a flagged frame is handed after it", wrong_places(16, 1) == 0 && wrong_places(32, 1) == 0);
-    check("a loss of fifteen or seventeen frames gives none at any place", wrong_places(15, 0) == 0 && wrong_places(17, 0) == 0);
+    check("a loss of sixteen frames gives one epoch that is sure and wrong, at any place", wrong_places(16, 0) == 16 && wrong_places(32, 0) == 16);
+    check("a loss of any other number gives one at the last three places", wrong_places(1, 0) == 3 && wrong_places(15, 0) == 3 && wrong_places(17, 0) == 3);
+    check("neither gives any where a flagged frame is handed after it",
+          wrong_places(16, 1) == 0 && wrong_places(32, 1) == 0 && wrong_places(1, 1) == 0 && wrong_places(15, 1) == 0 && wrong_places(17, 1) == 0);
+    printf("a loss of sixteen frames at the last place\tepochs\t64\ttwo sure and wrong\t%d\n", twice);
+    check("at the last place it seldom gives two", twice > 0 && twice < 10);
 }
 
 /* Ports whose packets have these words and the numbers 0, 1, 2, for so many epochs: whether the alarm is raised, and the

@@ -279,10 +279,26 @@ static int lengths_are_9(int which, uint32_t a, uint32_t b, uint32_t c)
     return held;
 }
 
-/* One port with W of 16 whose window is full: its next frame, tag 72, is outside. An epoch is due. */
+/* Hands so many frames whose own tags begin with this one, each with another MFI1; whether all get this answer. */
+static int breaks(uint32_t port, uint32_t first, uint32_t frames, int answer)
+{
+    int held = 1;
+
+    for (; frames > 0; first++, frames--)
+        held = held && hand_damaged(port, first, quiet, 1, 5) == answer;
+    return held;
+}
+
+/* One port with W of 16 whose window is full: its next frame, tag 72, is outside. An epoch is due. Its last frames broke the
+ * count. */
+static int full_after(uint32_t broken)
+{
+    return started(1, 3, 16) && into_step(0, 0) && hands(0, 32, 72 - broken, 0) && breaks(0, 72 - broken, broken, 0);
+}
+
 static int full(void)
 {
-    return started(1, 3, 16) && into_step(0, 0) && hands(0, 32, 72, 0);
+    return full_after(0);
 }
 
 static void refusals(void)
@@ -303,7 +319,9 @@ static void refusals(void)
           && lengths_are_9(PORTS, 0, 0, 0) && lengths_are_9(REPLY, 0, 0, 0) && fetched(SURE, 4, 0) && lengths_are_9(FETCH, 0, 0, 0) && none_due());
     check("a flagged frame is answered 10, before 12 and 11", full() && say(FRAME, 0, 1, h4_of(72, quiet)) == 10 && full() && say(FRAME, 0, 1, 0) == 10
           && full() && say(FRAME, 0, UINT32_MAX, 0) == 10 && full() && say(FRAME, 0, 256, 0) == 10);
-    check("a frame that breaks the count is answered 12, before 11", full() && hand(0, 73, quiet, 1) == 12);
+    check("a fourth frame in a row that breaks the count is answered 12, before 11", full_after(3) && breaks(0, 72, 1, 12));
+    check("a third, and a right frame after three, are answered 11", full_after(2) && breaks(0, 72, 2, 11) && full_after(3) && hand(0, 72, quiet, 1) == 11);
+    check("a frame answered 11 is not counted", full_after(2) && breaks(0, 72, 5, 11) && fetched(SURE, 4, 0) && breaks(0, 72, 1, 0) && breaks(0, 73, 1, 12));
 }
 
 static void stepping(void)
@@ -312,15 +330,57 @@ static void stepping(void)
 
     check("the 32nd right frame from MFI1 0 on is in step", held);
     check("P5: tag 4095 then 0 keeps step", started(1, 2, 16) && into_step(0, 4064) && hand(0, 4096, quiet, 1) == 0 && port_is(0, 0, 255, 1, 0, 1, 0, 255));
-    check("P5: tag 4095 then 1 loses step", started(1, 2, 16) && into_step(0, 4064) && hand(0, 4097, quiet, 1) == 12 && port_is(0, 0, 255, 0, 0, 0, 0, 255));
+    check("P5: tag 4095 then 1 keeps step, with tag 0 counted", started(1, 2, 16) && into_step(0, 4064) && hand(0, 4097, quiet, 1) == 0
+          && port_is(0, 0, 255, 1, 0, 1, 0, 255) && hand(0, 4097, quiet, 1) == 0 && hands(0, 4098, 4104, 0) && breaks(0, 4104, 3, 0)
+          && breaks(0, 4107, 1, 12));
+    check("4095, then frames that carry 1, 2, 3, 4: 0 0 0 12", started(1, 2, 16) && into_step(0, 4064) && hands(0, 4097, 4100, 0)
+          && hand(0, 4100, quiet, 1) == 12 && port_is(0, 0, 255, 0, 0, 0, 0, 255));
     held = 1;
-    for (i = 0; i < 16; i++) /* another MFI2 shows in its two nibbles alone */
-        held = held && started(1, 2, 16) && into_step(0, 0) && hands(0, 32, 32 + (uint32_t)i, 0)
-            && say(FRAME, 0, 0, h4_of(32 + (uint32_t)i, quiet) ^ 0x10) == (i == 0 || i == 1 ? 12 : 0);
-    check("one frame that breaks the count of MFI2 loses step", held);
+    for (i = 0; i < 16; i++) /* any three in a row, of any nibbles */
+        held = held && started(1, 2, 16) && into_step(0, 0) && hands(0, 32, 32 + (uint32_t)i, 0) && breaks(0, 32 + (uint32_t)i, 3, 0)
+            && hands(0, 35 + (uint32_t)i, 36 + (uint32_t)i, 0) && breaks(0, 36 + (uint32_t)i, 3, 0) && breaks(0, 39 + (uint32_t)i, 1, 12);
+    check("three frames in a row that break the count keep step, and a right one sets them to none", held);
+    check("coming into step is strict", started(1, 2, 16) && hands(0, 0, 31, 12) && breaks(0, 31, 1, 12) && hands(0, 32, 63, 12) && hand(0, 63, quiet, 1) == 0
+          && started(1, 2, 16) && hands(0, 0, 16, 12) && hand(0, 32, quiet, 1) == 12 && hand(0, 17, quiet, 1) == 12 && hands(0, 33, 48, 12)
+          && into_step(0, 48));
     check("a frame that breaks the count can be the first of a new 32", started(1, 2, 16) && hands(0, 0, 20, 12) && into_step(0, 160));
+    held = started(1, 2, 16) && into_step(0, 0) && hands(0, 32, 33, 0);
+    for (i = 0; i < 4; i++) /* own tags 33 to 36, with frames that carry 160 */
+        held = held && hand(0, 160, quiet, 1) == (i < 3 ? 0 : 12);
+    check("a fourth break of MFI1 0 is the first of a new 32", held && hands(0, 161, 191, 12) && hand(0, 191, quiet, 1) == 0);
+    check("an earlier one is not", started(1, 2, 16) && into_step(0, 0) && hands(0, 32, 34, 0) && hand(0, 160, quiet, 1) == 0 && hands(0, 35, 40, 0));
     check("a flagged frame ends a run", started(1, 2, 16) && hands(0, 0, 31, 12) && say(FRAME, 0, 1, h4_of(31, quiet)) == 10
           && port_is(0, 0, 255, 0, 0, 0, 1, 255) && hand(0, 31, quiet, 1) == 12 && port_is(0, 0, 255, 0, 0, 0, 0, 255));
+}
+
+/* From an epoch's start on a port in step brings the frames of so many tags later, where one nibble of each packet that is
+ * named by a bit comes damaged: how many of them are answered 0 before the first 12. */
+static uint32_t kept_by_switch(uint32_t port, uint32_t start, uint32_t by, unsigned damaged)
+{
+    uint32_t k;
+
+    for (k = 0; k < 200; k++)
+        if (hand_damaged(port, start + by + k, quiet, 1, k % EPOCH == 4 && (damaged >> k / EPOCH & 1) ? 0x20 : 0) != 0)
+            break;
+    return k;
+}
+
+/* The same for a port that has not joined, since receiving has not begun beside a silent port, and for one that has. */
+static int switch_loses_after(uint32_t by, unsigned damaged, uint32_t frames)
+{
+    int held = started(2, 2, 16) && into_step(0, 16) && hands(0, 48, 56, 0) && kept_by_switch(0, 56, by, damaged) == frames;
+
+    return held && started(1, 2, 300) && into_step(0, 16) && hands(0, 48, 120, 0) && readable(0) == 1
+        && kept_by_switch(0, 120, by, damaged) == frames;
+}
+
+static void switching(void)
+{
+    check("a switch by whole multiframes at an epoch's start: 31 frames 0, the 32nd 12", switch_loses_after(EPOCH, 0, 31)
+          && switch_loses_after(3 * EPOCH, 0, 31) && switch_loses_after(TAGS - EPOCH, 0, 31));
+    check("with the first packet damaged it is lost sixteen frames later", switch_loses_after(EPOCH, 1, 47));
+    check("with the second damaged two more whole packets are needed", switch_loses_after(EPOCH, 2, 63));
+    check("with no switch step is kept, whatever comes damaged", switch_loses_after(0, 0, 200) && switch_loses_after(0, 0xFFF, 200));
 }
 
 /* Two ports, of which the first is handed the tags from 0 on, the second those from 16 on. */
@@ -380,6 +440,7 @@ static struct line {
     uint32_t time;       /* frame times so far */
     uint32_t failed;     /* frame times for which port 1 still comes flagged */
     uint32_t damaged;    /* the epoch whose packet of port 0 comes damaged */
+    uint32_t place;      /* in which nibble */
     uint32_t next;       /* the epoch that the next report must have, or 256 before the first */
     uint32_t marks[4];   /* reports by mark */
     int held;            /* all was as it should be so far */
@@ -431,7 +492,7 @@ static void frame_time(void)
         if (port == 1 && line.failed > 0) {
             line.failed--;
             line.held = say(FRAME, port, 1, 0) == 10;
-        } else if (port == 0 && epoch_of(tag) == line.damaged && (tag + 8) % EPOCH == 3) {
+        } else if (port == 0 && epoch_of(tag) == line.damaged && (tag + 8) % EPOCH == line.place) {
             line.held = hand_damaged(port, tag, sends[port], DELAYS, 0x40) == 0;
         } else {
             answer = hand(port, tag, sends[port], DELAYS);
@@ -471,8 +532,11 @@ static void link_of_three(void)
     check("its ports are OK under their numbers", port_is(0, OK, 1, 1, 1, 1, 0, N) && port_is(1, OK, 2, 1, 1, 1, 0, E) && port_is(2, OK, 0, 1, 1, 1, 0, N));
     check("the reply says so, and RS-Ack has turned once", reply_is(0, 0x1F, 1) && reply_is(32, 0x1F, 1) && reply_is(1, 255, 1) && reply_is(8, 255, 1)
           && reply_is(255, 255, 1));
-    line.damaged = (line.next + 6) % 256;
-    check("a damaged packet holds the epoch after it alone, with no byte of output", runs(12 * EPOCH, 1, 0, 11) && line.marks[HELD] == 1);
+    for (line.place = 0; line.place < EPOCH && held; line.place++) { /* MFI2 stands at 8 and 9 */
+        line.damaged = (line.next + 6) % 256;
+        held = runs(12 * EPOCH, 1, 0, 11) && line.marks[HELD] == 1;
+    }
+    check("a packet damaged in any nibble holds the epoch after it alone, with no byte of output", held);
     check("and changes no state and no reply", port_is(0, OK, 1, 1, 1, 1, 0, N) && reply_is(0, 0x1F, 1));
     line.damaged = 256;
     line.failed = 10 * EPOCH;
@@ -572,6 +636,7 @@ int main(void)
     starting();
     refusals();
     stepping();
+    switching();
     beginning();
     window();
     link_of_three();

@@ -9,8 +9,9 @@
 
 #include "check.h"
 
-enum { STACK = 1 << 20, PAINT = 0xA5, PORTS = LEVELSPRUCE_PORTS_MOST, P = LEVELSPRUCE_PAYLOAD_MOST, W = 64, MOST = 4096 };
+enum { STACK = 1 << 20, PAINT = 0xA5, PORTS = LEVELSPRUCE_PORTS_MOST, P = LEVELSPRUCE_PAYLOAD_MOST, W = 64, MOST = 5120 };
 
+static uint8_t card[LEVELSPRUCE_CARD_BYTES], owned[LEVELSPRUCE_OWNED_BYTES];
 static uint8_t sender[LEVELSPRUCE_SENDER_BYTES], receiver[LEVELSPRUCE_RECEIVER_ROWS(PORTS)][LEVELSPRUCE_ROW_BYTES];
 static uint8_t h4[LEVELSPRUCE_PACKET_BYTES], frame[PORTS * P], member[PORTS * P], ports[PORTS][LEVELSPRUCE_PORT_BYTES];
 static uint8_t board[LEVELSPRUCE_BOARD_BYTES], ranks[LEVELSPRUCE_RANKS_BYTES], reply[LEVELSPRUCE_REPLY_BYTES];
@@ -57,6 +58,40 @@ static void sending(void)
         answers |= levelspruce_sender_board(sender, sizeof sender, board, sizeof board);
     }
     answers |= levelspruce_sender_remove(sender, sizeof sender, 5);
+}
+
+/* 64 members of one of two groups on a card, with all that is read of them. */
+static void sharing(void)
+{
+    static const uint32_t order[][LEVELSPRUCE_COMMAND_NUMBERS] = {
+        { LEVELSPRUCE_COMMAND_CLAIM, 0, 5 }, { LEVELSPRUCE_COMMAND_ADD, 0, 5 }, { LEVELSPRUCE_COMMAND_REMOVE, 0, 5 }, { LEVELSPRUCE_COMMAND_RELEASE, 0, 5 }
+    };
+    uint8_t numbers[COUNT(order)];
+    uint32_t slot, epoch;
+
+    answers |= levelspruce_card_start(PORTS, 0, 0, card, sizeof card);
+    for (slot = 0; slot < PORTS; slot++) {
+        answers |= levelspruce_card_claim(card, sizeof card, 1, slot);
+        answers |= levelspruce_card_add(card, sizeof card, 1, slot);
+    }
+    for (epoch = 0; epoch < 40; epoch++) {
+        answers |= levelspruce_card_report(card, sizeof card, 1, epoch, 0, epoch & 1);
+        answers |= levelspruce_card_start_epoch(card, sizeof card, 1, 1, 0, 0);
+    }
+    answers |= levelspruce_card_board(card, sizeof card, 1, board, sizeof board);
+    answers |= levelspruce_card_board_going(card, sizeof card, 1, board, sizeof board);
+    answers |= levelspruce_card_ranks(card, sizeof card, 1, ranks, sizeof ranks);
+    answers |= levelspruce_card_owned(card, sizeof card, 1, owned, sizeof owned);
+    answers |= levelspruce_card_packet(card, sizeof card, 1, 3, h4, sizeof h4);
+    answers |= levelspruce_card_payload(card, sizeof card, 1, 3, P, frame, (size_t)ranks[LEVELSPRUCE_RANKS_X] * P, member, P);
+    while (board[LEVELSPRUCE_BOARD_WAIT]) {
+        answers |= levelspruce_card_lapse(card, sizeof card, 1);
+        answers |= levelspruce_card_board(card, sizeof card, 1, board, sizeof board);
+    }
+    answers |= levelspruce_card_remove(card, sizeof card, 1, 5);
+    answers |= levelspruce_card_release(card, sizeof card, 1, 5);
+    answers |= levelspruce_card_order(card, sizeof card, order, COUNT(order), numbers, sizeof numbers);
+    answers |= numbers[0] | numbers[1] | numbers[2] | numbers[3];
 }
 
 /* 64 ports that come into step, carry bytes and are reported, one that fails, and what is read of them. */
@@ -145,7 +180,7 @@ int main(void)
     static const struct {
         const char *name;
         void (*calls)(void);
-    } groups[] = { { "packets", packets }, { "payload", payloads }, { "sender", sending }, { "receiver", receiving }, { "paths", planning }, { "spoken board", telling } };
+    } groups[] = { { "packets", packets }, { "payload", payloads }, { "sender", sending }, { "card", sharing }, { "receiver", receiving }, { "paths", planning }, { "spoken board", telling } };
     size_t own, i, most = 0;
 
     stack_of(nothing); /* what is done once */
@@ -158,6 +193,6 @@ int main(void)
             most = used;
     }
     check("every call was done, and epochs of 64 members were reported", answers == 0 && reported > 3);
-    check("no call takes more than 4,096 bytes of stack", most > 0 && most <= MOST);
+    check("no call takes more than 5,120 bytes of stack", most > 0 && most <= MOST);
     return tally();
 }

@@ -35,6 +35,26 @@ extern "C" {
     fn levelspruce_sender_board(state: *const u8, state_length: usize, board: *mut u8, board_length: usize) -> u8;
     fn levelspruce_sender_board_going(state: *const u8, state_length: usize, board: *mut u8, board_length: usize) -> u8;
     fn levelspruce_sender_ranks(state: *const u8, state_length: usize, ranks: *mut u8, ranks_length: usize) -> u8;
+    fn levelspruce_card_start(count: u32, first_epoch_0: u32, first_epoch_1: u32, state: *mut u8, state_length: usize) -> u8;
+    fn levelspruce_card_claim(state: *mut u8, state_length: usize, group: u32, slot: u32) -> u8;
+    fn levelspruce_card_release(state: *mut u8, state_length: usize, group: u32, slot: u32) -> u8;
+    fn levelspruce_card_add(state: *mut u8, state_length: usize, group: u32, slot: u32) -> u8;
+    fn levelspruce_card_remove(state: *mut u8, state_length: usize, group: u32, slot: u32) -> u8;
+    fn levelspruce_card_report(state: *mut u8, state_length: usize, group: u32, epoch: u32, mst: u32, rs_ack: u32) -> u8;
+    fn levelspruce_card_lapse(state: *mut u8, state_length: usize, group: u32) -> u8;
+    fn levelspruce_card_start_epoch(state: *mut u8, state_length: usize, group: u32, gid: u32, mst: u32, rs_ack: u32) -> u8;
+    fn levelspruce_card_packet(state: *const u8, state_length: usize, group: u32, slot: u32, h4: *mut u8, h4_length: usize) -> u8;
+    fn levelspruce_card_payload(
+        state: *const u8, state_length: usize, group: u32, slot: u32, p: u32, frame: *const u8, frame_length: usize, member: *mut u8,
+        member_length: usize,
+    ) -> u8;
+    fn levelspruce_card_board(state: *const u8, state_length: usize, group: u32, board: *mut u8, board_length: usize) -> u8;
+    fn levelspruce_card_board_going(state: *const u8, state_length: usize, group: u32, board: *mut u8, board_length: usize) -> u8;
+    fn levelspruce_card_ranks(state: *const u8, state_length: usize, group: u32, ranks: *mut u8, ranks_length: usize) -> u8;
+    fn levelspruce_card_owned(state: *const u8, state_length: usize, group: u32, owned: *mut u8, owned_length: usize) -> u8;
+    fn levelspruce_card_order(
+        state: *mut u8, state_length: usize, commands: *const [u32; 3], commands_length: usize, answers: *mut u8, answers_length: usize,
+    ) -> u8;
     fn levelspruce_board_changes(
         before: *const u8, before_length: usize, after: *const u8, after_length: usize, changes: *mut u8, changes_length: usize,
     ) -> u8;
@@ -131,6 +151,74 @@ pub fn sender_board_going(state: &[u8], board: &mut [u8]) -> u8 {
 
 pub fn sender_ranks(state: &[u8], ranks: &mut [u8]) -> u8 {
     unsafe { levelspruce_sender_ranks(state.as_ptr(), state.len(), ranks.as_mut_ptr(), ranks.len()) }
+}
+
+pub fn card_start(count: u32, first_epochs: [u32; 2], state: &mut [u8]) -> u8 {
+    unsafe { levelspruce_card_start(count, first_epochs[0], first_epochs[1], state.as_mut_ptr(), state.len()) }
+}
+
+pub fn card_claim(state: &mut [u8], group: u32, slot: u32) -> u8 {
+    unsafe { levelspruce_card_claim(state.as_mut_ptr(), state.len(), group, slot) }
+}
+
+pub fn card_release(state: &mut [u8], group: u32, slot: u32) -> u8 {
+    unsafe { levelspruce_card_release(state.as_mut_ptr(), state.len(), group, slot) }
+}
+
+pub fn card_add(state: &mut [u8], group: u32, slot: u32) -> u8 {
+    unsafe { levelspruce_card_add(state.as_mut_ptr(), state.len(), group, slot) }
+}
+
+pub fn card_remove(state: &mut [u8], group: u32, slot: u32) -> u8 {
+    unsafe { levelspruce_card_remove(state.as_mut_ptr(), state.len(), group, slot) }
+}
+
+pub fn card_report(state: &mut [u8], group: u32, epoch: u32, mst: u32, rs_ack: u32) -> u8 {
+    unsafe { levelspruce_card_report(state.as_mut_ptr(), state.len(), group, epoch, mst, rs_ack) }
+}
+
+pub fn card_lapse(state: &mut [u8], group: u32) -> u8 {
+    unsafe { levelspruce_card_lapse(state.as_mut_ptr(), state.len(), group) }
+}
+
+pub fn card_start_epoch(state: &mut [u8], group: u32, gid: u32, mst: u32, rs_ack: u32) -> u8 {
+    unsafe { levelspruce_card_start_epoch(state.as_mut_ptr(), state.len(), group, gid, mst, rs_ack) }
+}
+
+pub fn card_packet(state: &[u8], group: u32, slot: u32, h4: &mut [u8]) -> u8 {
+    unsafe { levelspruce_card_packet(state.as_ptr(), state.len(), group, slot, h4.as_mut_ptr(), h4.len()) }
+}
+
+pub fn card_payload(state: &[u8], group: u32, slot: u32, p: u32, frame: &[u8], member: &mut [u8]) -> u8 {
+    unsafe {
+        levelspruce_card_payload(
+            state.as_ptr(), state.len(), group, slot, p, frame.as_ptr(), frame.len(), member.as_mut_ptr(), member.len(),
+        )
+    }
+}
+
+pub fn card_board(state: &[u8], group: u32, board: &mut [u8]) -> u8 {
+    unsafe { levelspruce_card_board(state.as_ptr(), state.len(), group, board.as_mut_ptr(), board.len()) }
+}
+
+pub fn card_board_going(state: &[u8], group: u32, board: &mut [u8]) -> u8 {
+    unsafe { levelspruce_card_board_going(state.as_ptr(), state.len(), group, board.as_mut_ptr(), board.len()) }
+}
+
+pub fn card_ranks(state: &[u8], group: u32, ranks: &mut [u8]) -> u8 {
+    unsafe { levelspruce_card_ranks(state.as_ptr(), state.len(), group, ranks.as_mut_ptr(), ranks.len()) }
+}
+
+pub fn card_owned(state: &[u8], group: u32, owned: &mut [u8]) -> u8 {
+    unsafe { levelspruce_card_owned(state.as_ptr(), state.len(), group, owned.as_mut_ptr(), owned.len()) }
+}
+
+pub fn card_order(state: &mut [u8], commands: &[[u32; 3]], answers: &mut [u8]) -> u8 {
+    unsafe {
+        levelspruce_card_order(
+            state.as_mut_ptr(), state.len(), commands.as_ptr(), commands.len(), answers.as_mut_ptr(), answers.len(),
+        )
+    }
 }
 
 pub fn board_changes(before: &[u8], after: &[u8], changes: &mut [u8]) -> u8 {

@@ -11,7 +11,7 @@ use crate::path::Frame;
 use crate::random::Random;
 use host::Host;
 use reference::receiver::rows::{self, rows_for, Row};
-use reference::receiver::{Receiver, Report, Shown};
+use reference::receiver::{Receiver, Report, Shown, STEP_FRAMES};
 
 enum Reference {
     Plain(Receiver),
@@ -41,6 +41,26 @@ struct Seen {
     old_marks: u64,
     turns: u64,
     damages: u64,
+    /// Frames in step by the breaks in a row, packets that ended odd, and steps lost by a fourth break and by a second odd packet.
+    breaks: [u64; 4],
+    odd_packets: u64,
+    fourth_breaks: u64,
+    second_odd_packets: u64,
+}
+
+impl Seen {
+    /// What a frame did to a port's step row.
+    fn step(&mut self, was: &Row, is: &Row) {
+        let in_step = |row: &Row| row[2] >= STEP_FRAMES;
+        if in_step(was) && in_step(is) && was != is {
+            self.breaks[usize::from(is[9] % 4)] += 1;
+            self.odd_packets += u64::from(is[10] != 0 && is[4] % 16 == 8);
+        }
+        if in_step(was) && !in_step(is) && is[1] == 0 {
+            self.fourth_breaks += u64::from(was[9] == 3);
+            self.second_odd_packets += u64::from(was[9] < 3);
+        }
+    }
 }
 
 /// What a call gave: the answer, the record, the ports, the reply, and what else differs.
@@ -135,6 +155,9 @@ impl Both {
         let input = ("frame", (self.ports, self.payload, self.window), port, flagged, h4, payload.len(), rows, store, (before.0, given));
         test.case(answer, &reference, &card, &input);
         let group = &self.rows[0][0];
+        if let (Some(was), Some(is)) = (&given, self.rows[0].get(rows_for(port))) {
+            seen.step(was, is);
+        }
         if !matches!(self.reference, Reference::Rows) {
             seen.begins += u64::from(group[6] > before.0[6] || before.0[7] > group[7] && group[6] == 1);
             seen.stops += u64::from(before.0[6] > group[6]);
@@ -250,7 +273,7 @@ fn history(tests: &mut Tests, random: &mut Random, seen: &mut Seen, damaged: boo
             if !frame.0 && (answer != 11 || random.below(60) == 0) {
                 host.go_on(port);
             }
-            if answer == 11 && random.below(15) == 0 {
+            if answer == 11 && random.below(6) == 0 {
                 host.switch(random, port);
             }
         }
@@ -260,22 +283,23 @@ fn history(tests: &mut Tests, random: &mut Random, seen: &mut Seen, damaged: boo
     }
 }
 
-pub fn compare(count: &mut Count) {
+pub fn compare(count: &mut Count, hosts: u64) {
     let mut seen = Seen::default();
     let mut random = Random::new(10);
     let mut tests = Tests { frames: Test::new("frames of made-up hosts"), fetches: Test::new("fetches beside them") };
-    for _ in 0..500 {
+    for _ in 0..hosts {
         history(&mut tests, &mut random, &mut seen, false, 1500);
     }
     println!("seen\t{:?}", seen);
     tests.frames.end(count, &[0, 9, 10, 11, 12]);
     tests.fetches.end(count, &[0]);
     let events = [seen.begins, seen.stops, seen.joins_later, seen.turns].iter().all(|times| *times > 100) && seen.old_marks > 5;
-    count.note("all that can happen to a receiver happens there", events && seen.marks.iter().all(|times| *times > 200));
+    let steps = seen.breaks.iter().chain([&seen.odd_packets, &seen.fourth_breaks, &seen.second_odd_packets]).all(|times| *times > 100);
+    count.note("all that can happen to a receiver happens there", events && steps && seen.marks.iter().all(|times| *times > 200));
 
     let mut seen = Seen::default();
     let mut tests = Tests { frames: Test::new("frames on states that no call wrote"), fetches: Test::new("fetches from such states") };
-    for _ in 0..500 {
+    for _ in 0..hosts {
         history(&mut tests, &mut random, &mut seen, true, 1500);
     }
     println!("seen\t{:?}", seen);

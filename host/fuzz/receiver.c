@@ -1,135 +1,11 @@
-/*
- * Any calls of the receiver, by libFuzzer: the input is a program of calls, with any numbers, lengths and state bytes.
- * Every buffer has just the length that is lent. The archive has no sanitizer inside it, so a buffer is lent at the very
- * start or the very end of pages whose neighbours are shut: a touch beside it ends the run, and on its other side stand
- * guard bytes. What a call may change, and by which answer, is checked after each.
- */
+/* Any calls of the receiver, by libFuzzer. */
 #define _DEFAULT_SOURCE /* for mmap's MAP_ANONYMOUS */
 #include <levelspruce.h>
 
-#include <stdio.h>
-#include <stdlib.h>
-#include <string.h>
-#include <sys/mman.h>
+#include "rooms.h"
 
-int LLVMFuzzerTestOneInput(const uint8_t *data, size_t size);
-
-/* The program: what is left of the input. Past its end all bytes are 0. */
-struct program {
-    const uint8_t *at, *end;
-};
-
-static uint32_t byte_of(struct program *g)
-{
-    return g->at < g->end ? *g->at++ : 0;
-}
-
-/* Any number, more often a small one. */
-static uint32_t number_of(struct program *g)
-{
-    uint32_t first = byte_of(g);
-
-    if (first < 250)
-        return first;
-    return first < 254 ? byte_of(g) << 8 | byte_of(g) : 0xFFFFFF00u | byte_of(g);
-}
-
-/* What libFuzzer takes for new, since it cannot see into the archive: answers and marks in each phase of receiving. */
+/* What libFuzzer takes for new, since it cannot see into the archive: answers, marks and steps in each phase of receiving. */
 __attribute__((section("__libfuzzer_extra_counters"))) static uint8_t counters[4 * 64];
-
-static void fail(const char *what)
-{
-    fprintf(stderr, "%s\n", what);
-    abort();
-}
-
-enum { STATE, STORE, PAYLOAD, OUT, RESULT, ROOMS };
-enum { GUARD = 16, GUARD_BYTE = 0xA7, OPEN = 1 << 16 };
-
-static uint8_t *rooms[ROOMS], before[ROOMS][OPEN];
-static unsigned turn; /* a buffer stands at the start and at the end of its room by turns */
-
-static void open_rooms(void)
-{
-    int i;
-
-    for (i = 0; i < ROOMS && rooms[i] == NULL; i++) {
-        rooms[i] = mmap(NULL, 3 * OPEN, PROT_NONE, MAP_PRIVATE | MAP_ANONYMOUS, -1, 0);
-        if ((void *)rooms[i] == MAP_FAILED || mprotect(rooms[i] + OPEN, OPEN, PROT_READ | PROT_WRITE) != 0)
-            fail("no pages with shut neighbours");
-        rooms[i] += OPEN;
-    }
-}
-
-/* Bytes that the host keeps between calls. */
-struct kept {
-    uint8_t *bytes;
-    size_t length;
-};
-
-static struct kept keep(size_t length)
-{
-    struct kept k = { calloc(length ? length : 1, 1), length };
-
-    if (k.bytes == NULL)
-        fail("no memory");
-    return k;
-}
-
-/* A buffer in its room. */
-struct block {
-    uint8_t *bytes;
-    size_t length;
-    int room, at_end;
-};
-
-/* Lends the first bytes of what is kept, with zeros after them if it is too short. */
-static struct block lend(int room, struct kept from, size_t length)
-{
-    struct block b = { rooms[room], length, room, (int)(turn++ % 2) };
-    size_t some = length < from.length ? length : from.length;
-
-    if (length > OPEN - GUARD)
-        fail("too long to lend");
-    if (b.at_end)
-        b.bytes += OPEN - length;
-    memset(b.at_end ? b.bytes - GUARD : b.bytes + length, GUARD_BYTE, GUARD);
-    if (some)
-        memcpy(b.bytes, from.bytes, some);
-    memset(b.bytes + some, 0, length - some);
-    memcpy(before[room], b.bytes, length);
-    return b;
-}
-
-/* Only the first 'may' bytes changed, and none beside the buffer. */
-static void stands(struct block b, size_t may, const char *what)
-{
-    const uint8_t *guard = b.at_end ? b.bytes - GUARD : b.bytes + b.length;
-    int i;
-
-    for (i = 0; i < GUARD; i++)
-        if (guard[i] != GUARD_BYTE)
-            fail("a byte beside a buffer changed");
-    if (memcmp(b.bytes + may, before[b.room] + may, b.length - may) != 0)
-        fail(what);
-}
-
-/* What is kept takes the bytes back. */
-static void put_back(struct kept k, struct block b)
-{
-    size_t some = k.length < b.length ? k.length : b.length;
-
-    if (some)
-        memcpy(k.bytes, b.bytes, some);
-}
-
-static void fill(uint8_t *bytes, size_t length, uint32_t seed)
-{
-    size_t i;
-
-    for (i = 0; i < length; i++, seed = seed * 1664525u + 1013904223u)
-        bytes[i] = (uint8_t)(seed >> 24);
-}
 
 /* All that is lent, for the group of the latest start. */
 struct lent {
@@ -137,16 +13,6 @@ struct lent {
     struct kept state, store;
     uint32_t tag[LEVELSPRUCE_PORTS_MOST];
 };
-
-/* A length that is right, or off by a little. */
-static size_t about(struct program *g, size_t right)
-{
-    uint32_t off = byte_of(g);
-
-    if (off < 240)
-        return right;
-    return off < 248 ? right + (off - 239) : right > off - 247 ? right - (off - 247) : 0;
-}
 
 static uint8_t (*rows_of(struct block b))[16]
 {
@@ -164,6 +30,15 @@ static void note(const struct lent *l, int call, uint32_t what)
     uint32_t phase = l->state.length < 8 ? 3 : l->state.bytes[6] == 0 ? 0 : l->state.bytes[7] == 0 ? 1 : 2;
 
     counters[phase * 64 + (uint32_t)call * 16 + what % 16] = 1;
+}
+
+/* Notes the breaks in a row of a port in step, and whether its last packet was odd. */
+static void note_step(const struct lent *l, uint32_t port)
+{
+    size_t row = LEVELSPRUCE_RECEIVER_ROWS((size_t)port) * LEVELSPRUCE_ROW_BYTES;
+
+    if (port < l->ports && row + LEVELSPRUCE_ROW_BYTES <= l->state.length && l->state.bytes[row + 2] >= 32)
+        note(l, 3, l->state.bytes[row + 9] % 4u + 4 * (l->state.bytes[row + 10] != 0));
 }
 
 static void start(struct lent *l, struct program *g)
@@ -223,6 +98,7 @@ static void frame(struct lent *l, struct program *g, uint32_t port, uint32_t fai
     put_back(l->state, state);
     put_back(l->store, store);
     note(l, 0, answer);
+    note_step(l, port);
     if (port < l->ports && answer != 11)
         l->tag[port] = (l->tag[port] + 1) % 4096;
 }
@@ -237,10 +113,10 @@ static void frames(struct lent *l, struct program *g)
 
     while (times-- > 0)
         for (port = 0; port < l->ports; port++) {
-            uint32_t tag = l->tag[port], last = port + 1 == l->ports;
+            uint32_t tag = l->tag[port], epoch = (tag + 8) % 4096 / 16, last = port + 1 == l->ports;
 
-            if (levelspruce_packet_write((tag + 8) % 4096 / 16, word < 200 ? words[last] : words[word % 5], 0, 0, 0, port,
-                                         (tag * 40503 + word) % (LEVELSPRUCE_RESERVED_MOST + 1), h4, sizeof h4) != LEVELSPRUCE_ANSWER_DONE)
+            if (levelspruce_packet_write(epoch, word < 200 ? words[last] : words[word % 5], 0, 0, 0, port,
+                                         (epoch * 40503 + word) % (LEVELSPRUCE_RESERVED_MOST + 1), h4, sizeof h4) != LEVELSPRUCE_ANSWER_DONE)
                 fail("a packet was refused");
             frame(l, &right, port, 0, h4[(tag + 8) % 16]);
         }
@@ -313,7 +189,7 @@ int LLVMFuzzerTestOneInput(const uint8_t *data, size_t size)
         case 3: fetch(&l, &g); break;
         case 4: read_out(&l, &g); break;
         case 5: damage(&l, &g); break;
-        case 6: l.tag[byte_of(&g) % LEVELSPRUCE_PORTS_MOST] = number_of(&g) % 4096; break;
+        case 6: { uint32_t port = byte_of(&g) % LEVELSPRUCE_PORTS_MOST; l.tag[port] = number_of(&g) % 4096; break; }
         default: fetch(&l, &g); fetch(&l, &g); break;
         }
     free(l.state.bytes);

@@ -12,7 +12,7 @@ const char *levelspruce_answer_text(uint32_t answer)
     case LEVELSPRUCE_ANSWER_DONE:
         return "done";
     case LEVELSPRUCE_ANSWER_SLOT:
-        return "the slot or port is not below the group's count";
+        return "the slot or port is not below the group's count, or there is no such group";
     case LEVELSPRUCE_ANSWER_STATE:
         return "not allowed now: by the slot's state, no wait open, no epoch started, or changes that do not fit";
     case LEVELSPRUCE_ANSWER_WAIT:
@@ -35,6 +35,10 @@ const char *levelspruce_answer_text(uint32_t answer)
         return "the frame lies outside the window; hand it again after a report";
     case LEVELSPRUCE_ANSWER_STEP:
         return "the port is not in step after this frame";
+    case LEVELSPRUCE_ANSWER_OWNED:
+        return "the slot is not the group's own, or to be claimed and owned already";
+    case LEVELSPRUCE_ANSWER_USED:
+        return "a slot to be released is not IDLE";
     default:
         return "no call answers this number";
     }

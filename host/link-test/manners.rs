@@ -103,6 +103,14 @@ pub fn check(program: &Program, count: &mut Count) {
     let (_, late) = said(program, &["--slots", "2", "--window", "128", "--delays", "0,40", "--fail", "1:0-200", "--late", "40"]);
     count.note("a port that comes later may be slower where reports are late", readable(&early) == 0 && readable(&late) == 1);
 
+    let damages: Vec<String> = (40..80).step_by(2).map(|epoch| format!("{}:{}", epoch, epoch / 2 % 3)).collect();
+    let (_, hit) = said(program, &["--slots", "3", "--delays", "0,9,30", "--damage", &damages.join(",")]);
+    let held: Vec<u64> = lines::read(&hit).reports.iter().filter(|r| r.mark == "held").map(|r| r.epoch).collect();
+    count.note(
+        "packets damaged in any of their bits hold the epochs that they rule, and cost no port its step",
+        held == (41..80).step_by(2).collect::<Vec<u64>>() && !hit.contains("out of step") && hit.contains("doubtful\tepochs\t0\n"),
+    );
+
     let (_, behind) = said(program, &["--slots", "2", "--delays", "0,5000", "--fail", "0:0-99999", "--epochs", "600"]);
     count.note("epochs are told rightly behind a line that failed and would be far ahead", lines::read(&behind).reports.first().map_or(false, |r| r.epoch < 10));
 

@@ -4,8 +4,13 @@
 
 #include <stdint.h>
 
-/* Changes one to three bits of a packet on its way, others in other epochs; not those of the multiframe's number, which
- * would cost the port its step and not the packet alone. */
-void damage(uint8_t *h4, uint64_t epoch);
+#include "choices.h"
+
+/* The bits that are changed in the H4 byte of a slot's frame n. Of a packet that is damaged one to three bits are, others in other
+ * epochs; never of the low nibbles, which count the frames. */
+uint8_t damage(const struct events *damages, uint32_t slot, uint64_t n);
+
+/* Whether frame n carries a nibble of the multiframe's number. */
+int damage_is_of_number(uint64_t n);
 
 #endif

@@ -42,6 +42,11 @@ void line_take(struct line *l)
     l->next++;
 }
 
+uint64_t line_number(const struct line *l)
+{
+    return l->next;
+}
+
 uint64_t line_last(const struct line *l)
 {
     return l->next - 1;

@@ -25,6 +25,9 @@ const uint8_t *line_next(const struct line *l, uint64_t time);
 
 void line_take(struct line *l);
 
+/* The number of the frame that comes out next. */
+uint64_t line_number(const struct line *l);
+
 /* The number of the frame taken last, of a line of which one was. */
 uint64_t line_last(const struct line *l);
 

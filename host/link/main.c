@@ -10,6 +10,7 @@
 #include "back.h"
 #include "choices.h"
 #include "client.h"
+#include "damage.h"
 #include "line.h"
 #include "receiving.h"
 #include "says.h"
@@ -140,10 +141,23 @@ static int has_failed(const struct choices *c, uint32_t port, uint64_t time)
     return 0;
 }
 
-/* Hands a frame over. Where it lies outside the window, a report makes room for it: 0 if none is due. */
+/* The bits of the H4 byte of a slot's next frame that its line changes. Until receiving has begun the multiframe's number comes as
+ * sent: one wrong nibble of it would keep the port from coming into step. */
+static uint8_t damage_now(const struct link *l, uint32_t slot)
+{
+    uint64_t n = line_number(&l->lines[slot]);
+    uint8_t bits = damage(&l->choices.damages, slot, n);
+
+    return bits != 0 && damage_is_of_number(n) && !receiving_has_begun(&l->receiving) ? 0 : bits;
+}
+
+/* Hands a frame over: its payload, and its H4 byte behind it. Where it lies outside the window, a report makes room for it: 0 if
+ * none is due. */
 static int hand(struct link *l, uint32_t port, const uint8_t *frame, uint64_t time)
 {
-    while (!receiving_frame(&l->receiving, port, frame))
+    uint8_t h4 = frame[l->choices.payload] ^ damage_now(l, l->slot_of[port]);
+
+    while (!receiving_frame(&l->receiving, port, h4, frame))
         if (!fetch(l, time))
             return 0;
     return 1;

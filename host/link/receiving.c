@@ -42,14 +42,14 @@ int receiving_open(struct receiving *r, const struct choices *c)
     return 0;
 }
 
-int receiving_frame(struct receiving *r, uint32_t port, const uint8_t *frame)
+int receiving_frame(struct receiving *r, uint32_t port, uint8_t h4, const uint8_t *payload)
 {
-    uint8_t answer = levelspruce_receiver_frame(r->state, r->rows, port, 0, frame[r->payload], frame, r->payload, r->store, r->store_bytes);
+    uint8_t answer = levelspruce_receiver_frame(r->state, r->rows, port, 0, h4, payload, r->payload, r->store, r->store_bytes);
 
     /* A frame that is handed again is recorded once. */
     if (answer == LEVELSPRUCE_ANSWER_OUTSIDE)
         return 0;
-    record_frame(r, port, 0, frame[r->payload], frame);
+    record_frame(r, port, 0, h4, payload);
     /* A port that is not in step yet, or no more, is nothing to stop for: the next frames bring it back. */
     if (answer != LEVELSPRUCE_ANSWER_STEP)
         must(answer, "levelspruce_receiver_frame");
@@ -82,6 +82,18 @@ int receiving_fetch(struct receiving *r, struct report *report)
 void receiving_ports(const struct receiving *r, uint8_t (*ports)[LEVELSPRUCE_PORT_BYTES])
 {
     must(levelspruce_receiver_ports((const uint8_t(*)[LEVELSPRUCE_ROW_BYTES])r->state, r->rows, ports, r->ports), "levelspruce_receiver_ports");
+}
+
+int receiving_has_begun(const struct receiving *r)
+{
+    uint8_t ports[LINES_MOST][LEVELSPRUCE_PORT_BYTES];
+    uint32_t port;
+
+    receiving_ports(r, ports);
+    for (port = 0; port < r->ports; port++)
+        if (ports[port][LEVELSPRUCE_PORT_READABLE])
+            return 1;
+    return 0;
 }
 
 void receiving_reply(const struct receiving *r, uint8_t number, uint8_t *reply)

@@ -28,8 +28,8 @@ struct report {
 /* 0, or -1 where there is no memory, or -2 where the recording cannot be written. */
 int receiving_open(struct receiving *r, const struct choices *c);
 
-/* Hands a frame over: its payload, and its H4 byte behind it. 0 where it has to be handed again after a report. */
-int receiving_frame(struct receiving *r, uint32_t port, const uint8_t *frame);
+/* Hands a frame over. 0 where it has to be handed again after a report. */
+int receiving_frame(struct receiving *r, uint32_t port, uint8_t h4, const uint8_t *payload);
 
 /* A frame that came flagged. */
 void receiving_failed(struct receiving *r, uint32_t port);
@@ -38,6 +38,9 @@ void receiving_failed(struct receiving *r, uint32_t port);
 int receiving_fetch(struct receiving *r, struct report *report);
 
 void receiving_ports(const struct receiving *r, uint8_t (*ports)[LEVELSPRUCE_PORT_BYTES]);
+
+/* Whether receiving has begun: some port is readable. */
+int receiving_has_begun(const struct receiving *r);
 
 /* The reply for the packets of an epoch. */
 void receiving_reply(const struct receiving *r, uint8_t number, uint8_t *reply);

@@ -3,7 +3,6 @@
 #include <stdlib.h>
 #include <string.h>
 
-#include "damage.h"
 
 int sending_open(struct sending *s, const struct choices *c)
 {
@@ -72,27 +71,12 @@ static void lapse_if_late(struct sending *s, struct says *says)
     }
 }
 
-static int is_damaged(const struct events *damages, uint64_t epoch, uint32_t slot)
-{
-    size_t i;
-
-    for (i = 0; i < damages->count; i++)
-        if (damages->each[i].epoch == epoch && damages->each[i].slot == slot)
-            return 1;
-    return 0;
-}
-
-static void write_packets(struct sending *s, uint64_t epoch)
+static void write_packets(struct sending *s)
 {
     uint32_t slot;
 
-    for (slot = 0; slot < s->choices->slots; slot++) {
-        uint8_t *packet = s->packets[slot];
-
-        must(levelspruce_sender_packet(s->state, sizeof s->state, slot, packet, LEVELSPRUCE_PACKET_BYTES), "levelspruce_sender_packet");
-        if (is_damaged(&s->choices->damages, epoch, slot))
-            damage(packet, epoch);
-    }
+    for (slot = 0; slot < s->choices->slots; slot++)
+        must(levelspruce_sender_packet(s->state, sizeof s->state, slot, s->packets[slot], LEVELSPRUCE_PACKET_BYTES), "levelspruce_sender_packet");
 }
 
 void sending_start_epoch(struct sending *s, uint64_t epoch, const struct client *client, struct says *says)
@@ -108,7 +92,7 @@ void sending_start_epoch(struct sending *s, uint64_t epoch, const struct client 
 
     /* This end receives nothing, so it has no member to call OK: MST is all ones, RS-Ack stays 0. */
     must(levelspruce_sender_start_epoch(s->state, sizeof s->state, next_gid(s), 0xFF, 0), "levelspruce_sender_start_epoch");
-    write_packets(s, epoch);
+    write_packets(s);
     must(levelspruce_sender_ranks(s->state, sizeof s->state, s->ranks, sizeof s->ranks), "levelspruce_sender_ranks");
     s->frame_bytes = (size_t)s->ranks[LEVELSPRUCE_RANKS_X] * c->payload;
     carried->epoch = epoch;

@@ -7,8 +7,9 @@ use crate::invariant;
 use crate::path::{Frame, Path, BEFALLS};
 use crate::random::Random;
 use crate::source::{packet, Says};
+use reference::packet::{read, FIELDS_BYTES};
 use reference::receiver::rows::{self, Row};
-use reference::receiver::{epoch_of, fast, first_tag, Flag, Receiver, Report, STATE_FAIL, STATE_IDLE, STATE_OK, SURE, TAGS};
+use reference::receiver::{epoch_of, fast, first_tag, Flag, Port, Receiver, Report, HELD, STATE_FAIL, STATE_IDLE, STATE_OK, SURE, TAGS};
 use std::collections::HashMap;
 
 /// The receiver three times, with lent bytes of its own each.
@@ -20,6 +21,8 @@ struct Three {
     outputs: [Vec<u8>; 3],
     /// What each port stored last for each tag.
     handed: HashMap<(usize, usize), Vec<u8>>,
+    /// The nibbles of each port's frames that were counted, one after the other, since its run began.
+    live: Vec<Vec<u8>>,
 }
 
 /// How often things came to pass.
@@ -33,6 +36,13 @@ struct Seen {
     joins_later: usize,
     old_marks: usize,
     turns: usize,
+    /// Frames taken as the first, second or third break in a row; steps lost by a fourth, and by a second odd packet.
+    breaks: [usize; 4],
+    fourth_breaks: usize,
+    odd_packets: usize,
+    second_odd_packets: usize,
+    /// Reports held while a ruling packet with a right CRC carried another number.
+    other_numbers: usize,
 }
 
 const SPARE: u8 = 0xC3;
@@ -47,7 +57,7 @@ fn spares(rows: &mut [Row]) -> Vec<&mut u8> {
                 bytes.extend(first);
                 bytes.extend(&mut rest[11..]);
             }
-            (_, 1) => bytes.extend(&mut rest[8..]),
+            (_, 1) => bytes.extend(&mut rest[10..]),
             (_, 2) => bytes.extend(&mut rest[5..]),
             _ => {}
         }
@@ -70,7 +80,7 @@ impl Three {
         let fast = fast::Receiver::start(n, p, w, length).expect("all is in range");
         let stores = std::array::from_fn(|_| vec![0xA5; length]);
         let outputs = std::array::from_fn(|_| vec![0x5A; ports * 16 * payload + 3]);
-        Three { plain, rows: lent, fast, stores, outputs, handed: HashMap::new() }
+        Three { plain, rows: lent, fast, stores, outputs, handed: HashMap::new(), live: vec![Vec::new(); ports] }
     }
 
     /// What is wrong after a call, if anything. All that is stored, and all replies, are looked at now and then, since
@@ -93,6 +103,8 @@ impl Three {
             Some("replies")
         } else if calls % 16 == 0 && !self.stands() {
             Some("what is stored is not what was handed")
+        } else if !self.gathers() {
+            Some("the packet being gathered is not what came")
         } else {
             invariant::broken(&self.plain)
         }
@@ -108,6 +120,35 @@ impl Three {
                 self.handed.get(&(i, tag)).map_or(false, |bytes| *bytes == self.stores[0][at..at + p + 1])
             })
         })
+    }
+
+    /// Of each of the last sixteen frames of a run the nibble stands at its own place.
+    fn gathers(&self) -> bool {
+        self.plain.ports.iter().zip(&self.live).all(|(p, live)| {
+            let at = |back: usize| p.gathering[(p.next_tag() + TAGS - 1 - back + 8) % 16];
+            live.iter().rev().take(16).enumerate().all(|(back, nibble)| at(back) == *nibble)
+        })
+    }
+
+    /// Notes what a frame did to the port's step.
+    fn steps(&mut self, port: usize, was: &Port, h4: u8, seen: &mut Seen) {
+        let p = &self.plain.ports[port];
+        let live = &mut self.live[port];
+        if !p.in_step() && (p.count < 2 || was.in_step()) {
+            live.clear();
+        }
+        if p.count > 0 {
+            live.push(h4 >> 4);
+        }
+        if was.in_step() && p.in_step() {
+            seen.breaks[usize::from(p.breaks)] += 1;
+            seen.odd_packets += usize::from(p.odd.is_set() && was.next_tag() % 16 == 7);
+        }
+        if was.in_step() && !p.in_step() && !p.failed.is_set() {
+            // a fourth break is that whatever its packet is
+            seen.fourth_breaks += usize::from(was.breaks == 3);
+            seen.second_odd_packets += usize::from(was.breaks < 3);
+        }
     }
 
     fn frame(&mut self, port: usize, frame: &Frame, seen: &mut Seen) -> Result<u8, &'static str> {
@@ -128,6 +169,9 @@ impl Three {
         let (was_begun, is_begun) = (before.0.begun.is_set(), self.plain.begun.is_set());
         seen.begins += usize::from(is_begun && (!was_begun || before.0.gathered.is_set() && !self.plain.gathered.is_set()));
         seen.stops += usize::from(was_begun && !is_begun);
+        if port < self.plain.ports.len() && [0, 10, 12].contains(&answer) {
+            self.steps(port, &before.0.ports[port], *h4, seen);
+        }
         if let Some(p) = self.plain.ports.get(port) {
             if answer == 0 && p.joined.is_set() {
                 let joins = !before.0.ports[port].joined.is_set();
@@ -158,8 +202,21 @@ impl Three {
         if report != Report::NONE && !states_follow(&before, &self.plain) {
             return Err("member states");
         }
+        let other_number = before.ports.iter().any(|p| p.whole.is_set() && carries_other(&p.ruling, before.oldest.wrapping_sub(1)));
+        if report != Report::NONE && other_number {
+            seen.other_numbers += 1;
+            if report.mark != HELD {
+                return Err("a packet with another number rules");
+            }
+        }
         self.wrong(seen.calls).map_or(Ok(report), Err)
     }
+}
+
+/// Whether a packet is read with 0 and carries another number than this epoch's.
+fn carries_other(nibbles: &[u8; 16], epoch: u8) -> bool {
+    let mut fields = [0; FIELDS_BYTES];
+    read(&nibbles.map(|n| n << 4), &mut fields) == 0 && fields[0] != epoch
 }
 
 /// The member states in another form: who is OK, said of each port by itself.
@@ -217,9 +274,11 @@ impl Host {
             2 => says.gid = 1,
             _ => {}
         }
-        let mut h4 = packet(epoch, says);
+        // the number of another epoch now and then, with the CRC that goes with it
+        let named = if own.below(self.packets_calm) == 0 { epoch.wrapping_add(1 + own.below(3) as u8) } else { epoch };
+        let mut h4 = packet(named, says);
         if own.below(self.packets_calm) == 0 {
-            h4[own.below(8) as usize] ^= 0x10;
+            h4[own.below(16) as usize] ^= 0x10;
         }
         h4
     }
@@ -236,7 +295,8 @@ impl Host {
         }
         let (flagged, bytes) = path.next(random, payload)?;
         let tag = path.tag;
-        Some((flagged, if flagged { random.next() as u8 } else { self.packet(port, epoch_of(tag))[(tag + 8) % 16] }, bytes))
+        let h4 = self.packet(port, epoch_of(tag))[(tag + 8) % 16];
+        Some((flagged, if flagged { random.next() as u8 } else { self.paths[port].brings(random, h4) }, bytes))
     }
 }
 
@@ -265,8 +325,9 @@ fn history(random: &mut Random, seen: &mut Seen, times: usize) -> Result<(), Str
                 host.paths[port].go_on();
             }
             if answer == 11 && random.below(4) == 0 {
-                // a path is switched to a longer one
+                // a path is switched to a longer one, and the host says so or not
                 host.paths[port].tag += TAGS - random.below(window as u64 + 60) as usize;
+                host.paths[port].flagged = random.below(4).min(1);
             }
             if random.below(400) == 0 {
                 three.frame(ports + random.below(3) as usize, &frame, seen).map_err(|e| at(e))?;
@@ -294,6 +355,8 @@ pub fn check(count: &mut Count) {
     let answers = [0, 1, 9, 10, 11, 12].iter().all(|a| seen.answers[*a] > 300);
     let marks = seen.marks.iter().all(|times| *times > 1000);
     let events = [seen.begins, seen.stops, seen.joins_later, seen.turns].iter().all(|times| *times > 100) && seen.old_marks > 30;
+    let steps = seen.breaks.iter().chain([&seen.fourth_breaks, &seen.odd_packets, &seen.second_odd_packets, &seen.other_numbers]);
+    let events = events && steps.into_iter().all(|times| *times > 100);
     count.note(&format!("plain, rows and fast alike and sound over {} calls", seen.calls), right);
     count.note("all that can happen happens in these histories", answers && marks && events);
     count.note("group frames of many widths, plain, rows and fast alike", widths());
@@ -346,6 +409,8 @@ fn odd_rows(random: &mut Random) -> Vec<Row> {
         (step[0], step[1], step[5], step[6], step[8]) = (flag(random), random.one_of(&[0, 0, 9]), flag(random), flag(random), flag(random));
         step[2] = random.one_of(&[0, 1, 2, 17, 31, 31, 32, 32, 33, 255]);
         step[7] = random.one_of(&[0, 0, 1, 2, 200]);
+        step[9] = random.one_of(&[0, 0, 1, 2, 3, 3, 4, 255]);
+        step[10] = flag(random);
     }
     if random.below(2) == 0 {
         // ports near the window
@@ -365,6 +430,8 @@ fn tamed(r: &Receiver) -> Receiver {
     tamed.origin = (usize::from(r.origin) % r.window) as u16;
     for p in &mut tamed.ports {
         (p.had, p.failed, p.joined, p.since, p.whole) = (tame(p.had), tame(p.failed), tame(p.joined), tame(p.since), tame(p.whole));
+        p.odd = tame(p.odd);
+        p.breaks = p.breaks.min(3);
         p.count = p.count.min(32);
         p.next %= TAGS as u16;
     }

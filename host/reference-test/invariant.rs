@@ -35,6 +35,8 @@ fn of_step(p: &Port) -> Vec<(&'static str, bool)> {
         ("who failed or counts had a frame", !(p.failed.is_set() || count > 0) || p.had.is_set()),
         ("no count, no tag", count > 0 || next == 0),
         ("after one frame the low nibble is open", count != 1 || next % 256 == 1),
+        ("three breaks at most stand, and one odd packet", p.breaks < 4 && p.odd.0 < 2),
+        ("breaks and odd packets are of who is in step", p.in_step() || p.breaks == 0 && !p.odd.is_set()),
         ("the count started at MFI1 0", count == 0 || count >= 32 || next % 16 == usize::from(count) % 16),
         ("words are known", [1, 2, 3, 5, 15, NONE].contains(&p.word)),
     ]
@@ -49,8 +51,6 @@ fn of_window(r: &Receiver, p: &Port) -> Vec<(&'static str, bool)> {
     let marks_from = |i: usize| p.marks.checked_shr(i as u32).unwrap_or(0);
     let brought = (off / 16).saturating_sub(later) as u32;
     let so_many = 1u128.checked_shl(brought).map_or(u128::MAX, |bit| bit - 1);
-    let before_name = [p.ruling[8], p.ruling[9]];
-    let epoch_before = r.oldest.wrapping_sub(1);
     vec![
         (
             "nothing is kept while receiving has not begun",
@@ -71,10 +71,6 @@ fn of_window(r: &Receiver, p: &Port) -> Vec<(&'static str, bool)> {
             !since || joined || !r.gathered.is_set() && after(base, p.next_tag()) < r.window && p.marks == 0,
         ),
         ("who was there at the beginning joins at the oldest", !since || later == 0),
-        (
-            "a whole ruling packet is that of the epoch before",
-            !p.whole.is_set() || before_name == [epoch_before / 16, epoch_before % 16],
-        ),
     ]
 }
 

@@ -11,8 +11,7 @@ pub fn check(count: &mut Count) {
     count.note("64 ports start, 0 and 65 give 4", starts());
     count.note("what refused starts leave", refused_starts());
     count.note("the 32nd right frame is in step, whatever the first tag", comes_into_step());
-    count.note("a frame that breaks the count loses step", loses_step());
-    count.note("P5: tag 4095 then 0 keeps step, then 1 loses it", keeps_step_over_4095());
+    count.note("a flagged frame loses step at once", flag_loses_step());
     count.note("latest tags W-16 apart begin, W-15 apart do not", begins());
     count.note("a joined port's tag W-1 after the window's first is stored, W gives 11", window_edge());
     count.note("a port that has not joined is answered 0, and its frame dropped", not_joined());
@@ -58,7 +57,7 @@ fn comes_into_step() -> bool {
 }
 
 /// A port in step with this latest tag, in a group of two whose other port has had no frame.
-fn in_step_at(latest: usize) -> Lent {
+pub fn in_step_at(latest: usize) -> Lent {
     let mut lent = Lent::start(2, 1, 16);
     bring_to(&mut lent, 0, latest);
     lent
@@ -70,34 +69,12 @@ fn bring_to(lent: &mut Lent, port: usize, latest: usize) {
     lent.hand_run(port, first, latest + TAGS + 1 - first, SAYS_IDLE);
 }
 
-fn loses_step() -> bool {
-    let nibble_counts = |tag: usize| tag % 16 < 2;
+fn flag_loses_step() -> bool {
     (0..TAGS).step_by(7).all(|latest| {
-        let lent = in_step_at(latest);
-        let next = h4(latest + 1, SAYS_IDLE);
-        let wrong_mfi1 = (1..16).all(|k| {
-            let broken = next / 16 * 16 + (next + k) % 16;
-            let mut lent = lent.clone();
-            let count = u8::from(broken % 16 == 0);
-            lent.hand(0, false, broken, &[0]) == 12 && lent.receiver.ports[0].count == count
-        });
-        let wrong_nibble = (1..16).all(|k| {
-            let mut lent = lent.clone();
-            let answer = lent.hand(0, false, next.wrapping_add(16 * k), &[0]);
-            answer == if nibble_counts(latest + 1) { 12 } else { 0 }
-        });
-        let mut flagged = lent.clone();
-        let flag = flagged.hand_flag(0) == 10 && flagged.receiver.ports[0].count == 0;
-        let again = flagged.hand_tag(0, latest + 1, SAYS_IDLE) == 12;
-        wrong_mfi1 && wrong_nibble && flag && again
+        let mut lent = in_step_at(latest);
+        let flag = lent.hand_flag(0) == 10 && lent.receiver.ports[0].count == 0;
+        flag && lent.hand_tag(0, latest + 1, SAYS_IDLE) == 12
     })
-}
-
-fn keeps_step_over_4095() -> bool {
-    let mut keeps = in_step_at(4095);
-    let mut loses = keeps.clone();
-    let kept = keeps.hand_tag(0, 0, SAYS_IDLE) == 0 && keeps.receiver.ports[0].in_step();
-    kept && loses.hand_tag(0, 1, SAYS_IDLE) == 12 && !loses.receiver.ports[0].in_step()
 }
 
 fn begins() -> bool {
@@ -145,7 +122,7 @@ fn begins_once(random: &mut Random, window: usize) -> bool {
 }
 
 /// Two ports in step with the same latest tag, begun; and the tag of the window's first frame.
-fn begun_at(latest: usize, payload: usize, window: usize, ports: usize) -> (Lent, usize) {
+pub fn begun_at(latest: usize, payload: usize, window: usize, ports: usize) -> (Lent, usize) {
     let mut lent = Lent::start(ports, payload, window);
     for port in 2..ports {
         assert_eq!(lent.hand_flag(port), 10);
@@ -214,7 +191,14 @@ fn not_joined() -> bool {
 
 fn refusals() -> bool {
     let (mut lent, first) = begun_at(100, 2, 16, 2);
-    lent.hand_run(0, 101, first + 16 - 101, SAYS_IDLE);
+    lent.hand_run(0, 101, first + 13 - 101, SAYS_IDLE);
+    let lossless = {
+        let mut lent = lent.clone();
+        lent.hand_run(0, first + 13, 3, SAYS_IDLE);
+        lent.hand_tag(0, first + 17, SAYS_IDLE) == 11
+    };
+    // three breaks, so that the next one is the fourth
+    lent.hand_run(0, first + 14, 3, SAYS_IDLE);
     let before = lent.clone();
     let right = h4(first + 16, SAYS_IDLE);
     let length = lent.store.len();
@@ -239,7 +223,7 @@ fn refusals() -> bool {
     let short = fetched.receiver.fetch(&before.store, &mut [0; 63]) == (9, Report::NONE);
     let wrong = fetched.receiver.fetch(&before.store[1..], &mut [0; 64]) == (9, Report::NONE);
     let longer = fetched.receiver.fetch(&before.store, &mut [0; 65]) == (0, Report::NONE);
-    frames && short && wrong && longer && fetched.receiver == before.receiver
+    lossless && frames && short && wrong && longer && fetched.receiver == before.receiver
 }
 
 fn stops_and_begins() -> bool {
@@ -250,9 +234,9 @@ fn stops_and_begins() -> bool {
     lent.hand_run(2, 2000, 48, SAYS_IDLE);
     let one = lent.hand_flag(0) == 10 && lent.begun();
     let oldest = lent.receiver.oldest;
-    // with the second no port is readable; a break leaves it unsettled, a flag lets the third begin at once
+    // with the second no port is readable; a fourth break leaves it unsettled, a flag lets the third begin at once
     let mut broken = lent.clone();
-    let stops = broken.hand_tag(1, 7, SAYS_IDLE) == 12 && !broken.begun() && broken.receiver.oldest == 0;
+    let stops = broken.hand_run(1, 7, 4, SAYS_IDLE) == [0, 0, 0, 12] && !broken.begun() && broken.receiver.oldest == 0;
     let both = lent.hand_flag(1) == 10 && lent.begun() && !lent.receiver.gathered.is_set();
     let anew = lent.receiver.oldest != oldest && lent.receiver.oldest == epoch_of(2047).wrapping_add(1);
     let (mut lent, _) = begun_at(100, 2, 64, 2);
@@ -279,7 +263,8 @@ fn joining_drops() -> bool {
     let (mut lent, first) = begun_at(100, 2, 64, 2);
     lent.hand_run(0, 101, first + 64 - 101, SAYS_IDLE);
     let all = lent.receiver.ports[0].marks == 0b1111;
-    // its path is switched to one that is 48 frames later
+    // its path is switched to one that is 48 frames later, and the host says so
+    lent.hand_flag(0);
     lent.hand_run(0, first + TAGS - 24, 32, SAYS_IDLE);
     let waits = !lent.receiver.ports[0].joined.is_set() && lent.receiver.ports[0].marks == 0b1111;
     lent.hand_run(0, first + 8, 9, SAYS_IDLE);

@@ -1,5 +1,8 @@
 //! Links from the reference's sender to the receiver: any delays up to W-16 apart, any order within a frame time, damaged
 //! packets, any commands. Every answer, the moment of the beginning, every report and its bytes are foretold.
+//!
+//! MFI1 comes as sent, and so does the MFI2 of frames that are handed before receiving has begun. All else of a packet's 64
+//! bits may be changed, one to three in each packet that is.
 
 use crate::count::Count;
 use crate::random::Random;
@@ -22,7 +25,9 @@ struct Sending {
     /// One packet in so many is damaged; 0 for none.
     damage: u64,
     packets: Vec<[u8; 16]>,
-    /// For every epoch, whether some packet of it was damaged.
+    /// For every epoch, the bits of each slot's packet that the line changes, the first sent lowest.
+    hits: Vec<Vec<u64>>,
+    /// For every epoch, whether some packet of it came damaged.
     damaged: Vec<bool>,
     sent: Vec<Sent>,
 }
@@ -30,7 +35,7 @@ struct Sending {
 impl Sending {
     fn new(slots: usize, first_epoch: u8, payload: usize, damage: u64) -> Sending {
         let sender = Sender::start(slots as u32, first_epoch.into()).expect("the count fits");
-        Sending { sender, payload, damage, packets: vec![[0; 16]; slots], damaged: Vec::new(), sent: Vec::new() }
+        Sending { sender, payload, damage, packets: vec![[0; 16]; slots], hits: Vec::new(), damaged: Vec::new(), sent: Vec::new() }
     }
 
     fn slots(&self) -> usize {
@@ -40,15 +45,17 @@ impl Sending {
     fn start_epoch(&mut self, random: &mut Random) {
         let (gid, mst, rs_ack) = (random.below(2) as u32, random.below(256) as u32, random.below(2) as u32);
         assert_eq!(self.sender.start_epoch(gid, mst, rs_ack), 0);
-        let mut damaged = false;
         for slot in 0..self.slots() {
             assert_eq!(self.sender.packet(slot as u32, &mut self.packets[slot]), 0);
-            if self.damage > 0 && random.below(self.damage) == 0 {
-                damaged = true;
-                damage(random, &mut self.packets[slot]);
-            }
         }
-        self.damaged.push(damaged);
+        let hits = (0..self.slots()).map(|_| if self.damage > 0 && random.below(self.damage) == 0 { hits(random) } else { 0 });
+        self.hits.push(hits.collect());
+        self.damaged.push(false);
+    }
+
+    /// The bits that the line changes in the high nibble of a slot's frame x.
+    fn hit(&self, slot: usize, x: usize) -> u8 {
+        (self.hits[x / 16][slot] >> (4 * (x % 16)) & 15) as u8
     }
 
     /// Sends the next frame of the stream.
@@ -80,21 +87,20 @@ impl Sending {
     }
 }
 
-/// One to three changed bits, none in the multiframe's number.
-fn damage(random: &mut Random, packet: &mut [u8; 16]) {
-    let mut bits: Vec<usize> = Vec::new();
-    for _ in 0..1 + random.below(3) {
-        let bit = random.below(64) as usize;
-        if !(32..40).contains(&bit) && !bits.contains(&bit) {
-            bits.push(bit);
-        }
+/// One to three bits of 64; often of MFI2's eight alone.
+fn hits(random: &mut Random) -> u64 {
+    let (first, bits) = random.one_of(&[(0, 64), (0, 64), (32, 8)]);
+    let number = 1 + random.below(3) as u32;
+    let mut hits = 0u64;
+    while hits.count_ones() < number {
+        hits |= 1 << (first + random.below(bits));
     }
-    if bits.is_empty() {
-        bits.push(0);
-    }
-    for bit in bits {
-        packet[bit / 4] ^= 0x80 >> (bit % 4);
-    }
+    hits
+}
+
+/// Whether frame x of the stream carries a nibble of MFI2.
+fn carries_mfi2(x: usize) -> bool {
+    x % 16 == 8 || x % 16 == 9
 }
 
 fn shuffled(random: &mut Random, n: usize) -> Vec<usize> {
@@ -128,6 +134,8 @@ struct Seen {
     held: usize,
     bytes: usize,
     widest: usize,
+    /// Frames whose MFI2 came changed.
+    mfi2_hits: usize,
     /// The most frames, the first counted as 1, from the last port's first frame to the beginning.
     frames_to_begin: usize,
 }
@@ -146,6 +154,7 @@ struct Link {
     /// Once begun, the stream's frame that is the window's first; and whether an epoch was gathered.
     base: Option<usize>,
     gathered: bool,
+    mfi2_hits: usize,
 }
 
 impl Link {
@@ -163,7 +172,7 @@ impl Link {
         let sending = Sending::new(ports, random.below(256) as u8, payload, damage);
         let lent = Lent::start(ports, payload, window);
         let slot = shuffled(random, ports);
-        Link { sending, lent, window, slot, delay, first, got: vec![None; ports], base: None, gathered: false }
+        Link { sending, lent, window, slot, delay, first, got: vec![None; ports], base: None, gathered: false, mfi2_hits: 0 }
     }
 
     fn ports(&self) -> usize {
@@ -188,7 +197,11 @@ impl Link {
         };
         let sent = &self.sending.sent[x];
         let slot = self.slot[port];
-        let answer = self.lent.hand(port, false, sent.h4[slot], &sent.members[slot]);
+        let spared = carries_mfi2(x) && self.base.is_none();
+        let hit = if spared { 0 } else { self.sending.hit(slot, x) };
+        self.sending.damaged[x / 16] |= hit != 0;
+        self.mfi2_hits += usize::from(hit != 0 && carries_mfi2(x));
+        let answer = self.lent.hand(port, false, sent.h4[slot] ^ hit << 4, &sent.members[slot]);
         self.got[port] = Some(x);
         answer == if self.in_step(port) { 0 } else { 12 } && self.begins()
     }
@@ -264,6 +277,7 @@ impl Link {
                 seen.frames_to_begin = seen.frames_to_begin.max(time + 1 - last_starts);
             }
         }
+        seen.mfi2_hits += self.mfi2_hits;
         begun_at.map_or(false, |time| time <= last_starts + 46) && self.gathered
     }
 }
@@ -290,7 +304,10 @@ pub fn check(count: &mut Count) {
 
     let mut seen = Seen::default();
     let right = runs(&mut random, 400, 30, &mut seen);
-    count.note(&format!("damaged packets hold the next epoch alone ({} sure, {} held)", seen.sure, seen.held), right && seen.sure > 3000 && seen.held > 1000);
+    let name = format!("damaged packets hold the next epoch alone ({} sure, {} held, {} hits of MFI2)", seen.sure, seen.held, seen.mfi2_hits);
+    count.note(&name, right && seen.sure > 3000 && seen.held > 1000 && seen.mfi2_hits > 500);
+    count.note("MFI2 damaged in both nibbles right after the beginning costs nothing", mfi2_after_beginning());
+    count.note("MFI2 damaged before it, and receiving does not begin in 48 frames", mfi2_before_beginning());
 
     let mut seen = Seen::default();
     let right = (0..2).all(|_| Link::new(&mut random, 2048, 2, 1, 200).run(&mut random, 14000, &mut seen));
@@ -302,6 +319,40 @@ pub fn check(count: &mut Count) {
 
     count.note("all members come to carry payload by the receiver's replies alone", all_carry());
     count.note("a failed member is left out, and comes back", fails_and_returns());
+}
+
+/// Three frame by frame from the stream's first on, with these bits of the second one's packet of this epoch changed: the
+/// frame times to the beginning, and the marks of the first reports. All hits count here.
+fn begins_with_hits(epoch: usize, hits: u64) -> (Option<usize>, Vec<u8>) {
+    let mut random = Random::new(29);
+    let mut link = three(&mut random);
+    let mut begun_at = None;
+    let mut marks = Vec::new();
+    for time in 0..160 {
+        link.sending.send(&mut random);
+        for port in 0..3 {
+            let sent = &link.sending.sent[time];
+            let hit = if port == 1 && time / 16 == epoch { (hits >> (4 * (time % 16)) & 15) as u8 } else { 0 };
+            link.lent.hand(port, false, sent.h4[port] ^ hit << 4, &sent.members[port]);
+        }
+        if begun_at.is_none() && link.lent.begun() {
+            begun_at = Some(time);
+        }
+        marks.extend(link.lent.fetch_all().iter().map(|r| r.mark));
+    }
+    (begun_at, marks)
+}
+
+/// A bit of each nibble of MFI2.
+const BOTH_NIBBLES: u64 = 1 << 34 | 1 << 37;
+
+fn mfi2_after_beginning() -> bool {
+    // the stream's frame 8 has MFI1 0, so the ports are in step with frame 39, and frames 40 and 41 are MFI2's next
+    begins_with_hits(2, 0) == begins_with_hits(2, BOTH_NIBBLES) && begins_with_hits(2, 0) == (Some(39), vec![SURE; 6])
+}
+
+fn mfi2_before_beginning() -> bool {
+    [1 << 34, 1 << 37].iter().all(|hit| begins_with_hits(1, *hit).0.map_or(true, |time| time >= 48))
 }
 
 /// A link of three with no delays, whose sender hears the receiver's replies, after all were added.

@@ -10,6 +10,7 @@ mod judgements;
 mod limits;
 mod link;
 mod source;
+mod steps;
 
 #[path = "../differential/path.rs"]
 mod path;
@@ -19,6 +20,7 @@ mod random;
 fn main() {
     let mut count = count::Count::default();
     limits::check(&mut count);
+    steps::check(&mut count);
     judgements::check(&mut count);
     link::check(&mut count);
     histories::check(&mut count);

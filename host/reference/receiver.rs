@@ -17,6 +17,8 @@ pub const EPOCHS: usize = 256;
 pub const EPOCH_FRAMES: usize = 16;
 /// The frames counted rightly in a row that bring a port into step.
 pub const STEP_FRAMES: u8 = 32;
+/// "Step is lost at the fourth frame in a row that breaks the count"
+pub const BREAKS_LOSE: u8 = 4;
 /// No number; and, as a word, no good packet yet.
 pub const NONE: u8 = 255;
 
@@ -73,9 +75,13 @@ pub struct Port {
     /// Had a frame, and the latest came flagged.
     pub had: Flag,
     pub failed: Flag,
-    /// Frames counted rightly in a row, up to 32, and the tag that the next one should have.
+    /// Frames counted rightly in a row, up to 32, and the tag that the next one should have. In step it is the receiver's own
+    /// count, whatever frames carry.
     pub count: u8,
     pub next: u16,
+    /// In step: the frames that broke the count in a row, and whether the last packet was odd.
+    pub breaks: u8,
+    pub odd: Flag,
     /// Joined; in step ever since the beginning; the epochs from the oldest to the one joined at.
     pub joined: Flag,
     pub since: Flag,
@@ -104,6 +110,8 @@ impl Port {
             failed: Flag(0),
             count: 0,
             next: 0,
+            breaks: 0,
+            odd: Flag(0),
             joined: Flag(0),
             since: Flag(0),
             later: 0,
@@ -137,6 +145,8 @@ impl Port {
     fn lose_step(&mut self) {
         self.count = 0;
         self.next = 0;
+        self.breaks = 0;
+        self.odd = Flag(0);
         self.leave();
     }
 
@@ -153,16 +163,15 @@ impl Port {
         self.lose_step();
     }
 
-    /// Whether a frame counts on from those before. MFI2 is checked nibble by nibble as it comes, but for the low
-    /// nibble of a run's first MFI2, which is news.
-    fn counts_on(&self, mfi1: usize, nibble: usize) -> bool {
+    /// Whether a frame carries what the tag to come says: MFI1, and the nibble of MFI2 that stands at that tag's place.
+    fn is_right(&self, mfi1: usize, nibble: usize) -> bool {
         let next = self.next_tag();
-        let mfi2_right = match mfi1 {
+        let mfi2_right = match next % 16 {
             0 => nibble == next / 256,
-            1 => self.count == 1 || nibble == next / 16 % 16,
+            1 => nibble == next / 16 % 16,
             _ => true,
         };
-        self.count > 0 && mfi1 == next % 16 && mfi2_right
+        mfi1 == next % 16 && mfi2_right
     }
 
     /// The step record over a frame that is not flagged.
@@ -170,21 +179,64 @@ impl Port {
         let (nibble, mfi1) = (usize::from(h4 / 16), usize::from(h4 % 16));
         self.had = Flag(1);
         self.failed = Flag(0);
-        if self.counts_on(mfi1, nibble) {
-            let tag = if self.count == 1 && mfi1 == 1 { self.next_tag() / 256 * 256 + nibble * 16 + 1 } else { self.next_tag() };
-            self.next = ((tag + 1) % TAGS) as u16;
-            if !self.in_step() {
-                self.count += 1;
-            }
+        if self.in_step() {
+            self.stay(mfi1, nibble);
         } else {
-            self.lose_step();
-            if mfi1 == 0 {
-                self.count = 1;
-                self.next = (nibble * 256 + 1) as u16;
-            }
+            self.gain(mfi1, nibble);
         }
-        if self.count > 0 {
-            self.gathering[(mfi1 + 8) % 16] = nibble as u8;
+    }
+
+    /// Coming into step is strict. The low nibble of a run's first MFI2 is news, and is taken as it comes.
+    fn gain(&mut self, mfi1: usize, nibble: usize) {
+        if self.count == 1 && mfi1 == 1 {
+            self.next = (self.next_tag() / 256 * 256 + nibble * 16 + 1) as u16;
+        }
+        if self.count > 0 && self.is_right(mfi1, nibble) {
+            self.count += 1;
+            (self.breaks, self.odd) = (0, Flag(0));
+            self.go_on(nibble);
+        } else {
+            self.start_over(mfi1, nibble);
+        }
+    }
+
+    /// "The receiver goes on counting by itself": a frame in step has the tag to come.
+    fn stay(&mut self, mfi1: usize, nibble: usize) {
+        let breaks = if self.is_right(mfi1, nibble) { 0 } else { self.breaks.saturating_add(1) };
+        let ends = self.next_tag() % 16 == 7;
+        let odd = if ends { Flag::from(self.ends_odd(nibble)) } else { self.odd };
+        if breaks >= BREAKS_LOSE || ends && odd.is_set() && self.odd.is_set() {
+            self.start_over(mfi1, nibble);
+        } else {
+            self.breaks = breaks;
+            self.odd = odd;
+            self.go_on(nibble);
+        }
+    }
+
+    /// Whether the packet that ends with this nibble has a right CRC and the MFI2 of another epoch than the own count's.
+    fn ends_odd(&self, nibble: usize) -> bool {
+        let mut packet = self.gathering.map(|n| n % 16);
+        packet[15] = nibble as u8;
+        let check = usize::from(packet[14]) * 16 + usize::from(packet[15]);
+        let mfi2 = usize::from(packet[8]) * 16 + usize::from(packet[9]);
+        check == usize::from(packet::crc(&packet)) && mfi2 != self.next_tag() / 16
+    }
+
+    /// The frame has the tag to come, and its nibble goes to that tag's place.
+    fn go_on(&mut self, nibble: usize) {
+        let tag = self.next_tag();
+        self.gathering[(tag + 8) % 16] = nibble as u8;
+        self.next = ((tag + 1) % TAGS) as u16;
+    }
+
+    /// No step, and no run; but a frame of MFI1 0 is the first of a new 32.
+    fn start_over(&mut self, mfi1: usize, nibble: usize) {
+        self.lose_step();
+        if mfi1 == 0 {
+            self.count = 1;
+            self.next = (nibble * 256) as u16;
+            self.go_on(nibble);
         }
     }
 
@@ -229,13 +281,14 @@ fn state_of(idle: bool, chosen: bool) -> u8 {
     }
 }
 
-/// Word, GID and number of a packet, if it is read with 0.
-fn read(nibbles: &[u8; 16]) -> Option<(u8, u8, u8)> {
+/// Word, GID and number of the packet of an epoch by the own count, if it is read with 0. "A packet whose carried MFI2 differs
+/// from that count is treated as a CRC difference."
+fn read(nibbles: &[u8; 16], epoch: u8) -> Option<(u8, u8, u8)> {
     let h4 = nibbles.map(|n| n % 16 * 16);
     let mut fields = [0u8; packet::FIELDS_BYTES];
     let answer = packet::read(&h4, &mut fields);
-    let [_, word, gid, _, _, number, ..] = fields;
-    (answer == packet::DONE).then_some((word, gid, number))
+    let [mfi2, word, gid, _, _, number, ..] = fields;
+    (answer == packet::DONE && mfi2 == epoch).then_some((word, gid, number))
 }
 
 /// What a fetch reports.
@@ -439,7 +492,7 @@ impl Receiver {
                 let ruling: [u8; 16] = std::array::from_fn(nibble);
                 let p = &mut self.ports[i];
                 p.ruling = ruling;
-                if let Some((word, _, number)) = read(&ruling) {
+                if let Some((word, _, number)) = read(&ruling, self.oldest) {
                     p.word = word;
                     p.number = number;
                 }
@@ -481,8 +534,10 @@ impl Receiver {
 
     /// Held, doubtful or sure, and the ports to join in the order of their ranks (none if held).
     fn judge(&self) -> (u8, Vec<usize>) {
+        // the packets that rule are those of the epoch before
+        let ruled_by = self.oldest.wrapping_sub(1);
         let whole: Vec<(usize, Option<(u8, u8, u8)>)> =
-            (0..self.ports.len()).filter(|i| self.ports[*i].whole.is_set()).map(|i| (i, read(&self.ports[i].ruling))).collect();
+            (0..self.ports.len()).filter(|i| self.ports[*i].whole.is_set()).map(|i| (i, read(&self.ports[i].ruling, ruled_by))).collect();
         let some_missing = whole.len() < self.ports.len();
         let some_refused = whole.iter().any(|(_, packet)| packet.is_none());
         let good: Vec<(usize, u8, u8, u8)> =

@@ -73,6 +73,10 @@ impl Table {
         self.members.iter().position(|m| m.slot == slot)
     }
 
+    pub fn is_idle(&self, slot: u32) -> bool {
+        self.number(slot).is_none()
+    }
+
     /// What is answered to add and remove before the slot's own state is looked at.
     fn refusal(&self, slot: u32) -> Option<u8> {
         if slot >= self.count {

@@ -5,8 +5,6 @@
 #include <stdint.h>
 #include <stdio.h>
 
-enum { ANSWER_MALFORMED = 13 };
-
 enum line_kind { LINE_MALFORMED, LINE_SIZE, LINE_ADD, LINE_REMOVE, LINE_REPORT, LINE_LAPSE, LINE_EPOCH, LINE_BOARD };
 
 struct line {

@@ -8,6 +8,7 @@
 #include <stdlib.h>
 #include <string.h>
 
+#include "../fields/fields.h"
 #include "lines.h"
 
 static uint8_t sender[LEVELSPRUCE_SENDER_BYTES];

@@ -56,7 +56,14 @@ build_link() {
 build_speak() {
     mkdir -p target/host
     # shellcheck disable=SC2086
-    $archive_compiler -std=c99 $strict -O2 host/speak/*.c "$archive" -o target/host/speak
+    $archive_compiler -std=c99 $strict -O2 host/speak/*.c host/fields/*.c "$archive" -o target/host/speak
+}
+
+# build_order: a planner's lines over a card with two circuits.
+build_order() {
+    mkdir -p target/host
+    # shellcheck disable=SC2086
+    $archive_compiler -std=c99 $strict -O2 host/order/*.c host/fields/*.c "$archive" -o target/host/order
 }
 
 # build_own NAME SOURCE COMPILER WORD..: a C or C++ program for this machine's own processor.

@@ -1,7 +1,10 @@
 pub mod Answers
+pub mod Ordering
+pub mod Parts
 pub mod Pieces
 pub mod Planning
 pub mod Showing
 pub mod Stepping
 pub mod Telling
+pub mod TwoGroups
 pub mod Wholes

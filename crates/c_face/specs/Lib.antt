@@ -1,6 +1,8 @@
 pub mod Boards
+pub mod Cards
 pub mod Changes
 pub mod Keeping
+pub mod Orders
 pub mod Packets
 pub mod Payloads
 pub mod Plans

@@ -1,5 +1,8 @@
 -- What the C calls are, proved on the definitions.
+pub mod CardRuns
 pub mod CratesOwn
+pub mod Ordered
+pub mod OrdersOwn
 pub mod Relay
 pub mod Round
 pub mod Runs

@@ -27,7 +27,7 @@ pub(crate) fn put_board(board: Board, out: &mut [u8])
     keeping::put_rows(rows, 2, out);
 }
 
-fn put_ranks(ranks: Ranks, out: &mut [u8])
+pub(crate) fn put_ranks(ranks: Ranks, out: &mut [u8])
     requires { ⌜ length (now out) ≡ 68 ⌝ }
     ensures { λ r. ⌜ now (out .exit) ≡ ranksBytesOf ranks ⌝ }
 {

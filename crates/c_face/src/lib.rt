@@ -1,6 +1,8 @@
 // The C face: every entry point that the card's C host calls. include/levelspruce.h is its header.
 mod boards;
+mod cards;
 mod changes;
+mod commands;
 mod keeping;
 mod packets;
 mod payloads;

@@ -14,13 +14,13 @@ ghost use Rattle.sender.specs.Table.{answerNumber};
 ghost use Rattle.c_face.specs.Keeping.{bytesOf};
 ghost use Rattle.c_face.specs.Senders.{areBytes, keptBytes, outside, packetAnswerC, packetBytesC, payloadAnswerC, payloadBytesC, startAnswerC, startStateC, stepAnswerC, stepStateC};
 
-fn is_outside(count: u32) -> bool
+pub(crate) fn is_outside(count: u32) -> bool
     ensures { λ r. ⌜ r ≡ outside count ⌝ }
 {
     (count == 0) | (64 < count)
 }
 
-fn are_bytes(a: u32, b: u32, c: u32) -> bool
+pub(crate) fn are_bytes(a: u32, b: u32, c: u32) -> bool
     ensures { λ r. ⌜ r ≡ areBytes a b c ⌝ }
 {
     (a < 256) & (b < 256) & (c < 256)

@@ -18,7 +18,7 @@ use Rattle.circuits.specs.declared.answers.Answer.{Answer}
 use Rattle.circuits.specs.declared.answers.Answer.the-variants.{NoSlot, Owned, Used}
 use Rattle.circuits.specs.declared.card.Card.{Card}
 use Rattle.circuits.specs.declared.card.CardOutcome.{CardOutcome}
-use Rattle.circuits.specs.Answers.{told}
+use Rattle.circuits.specs.Answers.{fromSender}
 use Rattle.circuits.specs.Commands.{claimOf, commandOf, groupCallOf, releaseOf}
 use Rattle.circuits.specs.Owners.{hasOwner, markOf}
 use Rattle.circuits.specs.Parts.{isSlot, isUsed, marked, owns, refused, senderOf, stepped}
@@ -129,22 +129,22 @@ module _ (c : Card) (g i : ℕ) {slot : Bool} (es : slot ≡ isSlot c g i) where
             e₂ ∙ ap (λ (x : SenderOutcome). stepped c g x) (e₁ ∙ ap (λ (x : Sender). senderStepOf x k) e₀)
             ∙ sym (second-yes (isSlot c g i) (owns c g i) (stepped c g (senderStepOf (senderOf c g) k)) (refused c Owned) (refused c NoSlot) (sym es ∙ hs) (sym eo ∙ ho))
 
-        pub packet-done : (h4 : List ℕ) {s : Sender} {a : S.Answer} {r : Answer} {out : List ℕ} → s ≡ senderOf c g → a ≡ E.packetAnswer s i h4 → out ≡ E.packetBytes s i h4 → r ≡ told a
+        pub packet-done : (h4 : List ℕ) {s : Sender} {a : S.Answer} {r : Answer} {out : List ℕ} → s ≡ senderOf c g → a ≡ E.packetAnswer s i h4 → out ≡ E.packetBytes s i h4 → r ≡ fromSender a
             → (r ≡ packetAnswer c g i h4) × (out ≡ packetBytes c g i h4)
         unfolding packetAnswer packetBytes
         packet-done h4 e₀ e₁ e₂ e₃ = (
-          e₃ ∙ ap told (e₁ ∙ ap (λ (x : Sender). E.packetAnswer x i h4) e₀)
-              ∙ sym (second-yes (isSlot c g i) (owns c g i) (told (E.packetAnswer (senderOf c g) i h4)) Owned NoSlot (sym es ∙ hs) (sym eo ∙ ho)),
+          e₃ ∙ ap fromSender (e₁ ∙ ap (λ (x : Sender). E.packetAnswer x i h4) e₀)
+              ∙ sym (second-yes (isSlot c g i) (owns c g i) (fromSender (E.packetAnswer (senderOf c g) i h4)) Owned NoSlot (sym es ∙ hs) (sym eo ∙ ho)),
           e₂ ∙ ap (λ (x : Sender). E.packetBytes x i h4) e₀ ∙ sym (both (isSlot c g i) (owns c g i) (E.packetBytes (senderOf c g) i h4) h4 (sym es ∙ hs) (sym eo ∙ ho)),
         )
 
         pub payload-done : (p : ℕ) (frame member : List ℕ) {s : Sender} {a : S.Answer} {r : Answer} {out : List ℕ} → s ≡ senderOf c g
-            → a ≡ E.payloadAnswer s i p (length frame) (length member) → out ≡ E.payloadBytes s i p frame member → r ≡ told a
+            → a ≡ E.payloadAnswer s i p (length frame) (length member) → out ≡ E.payloadBytes s i p frame member → r ≡ fromSender a
             → (r ≡ payloadAnswer c g i p (length frame) (length member)) × (out ≡ payloadBytes c g i p frame member)
         unfolding payloadAnswer payloadBytes
         payload-done p frame member e₀ e₁ e₂ e₃ = (
-          e₃ ∙ ap told (e₁ ∙ ap (λ (x : Sender). E.payloadAnswer x i p (length frame) (length member)) e₀)
-              ∙ sym (second-yes (isSlot c g i) (owns c g i) (told (E.payloadAnswer (senderOf c g) i p (length frame) (length member))) Owned NoSlot (sym es ∙ hs) (sym eo ∙ ho)),
+          e₃ ∙ ap fromSender (e₁ ∙ ap (λ (x : Sender). E.payloadAnswer x i p (length frame) (length member)) e₀)
+              ∙ sym (second-yes (isSlot c g i) (owns c g i) (fromSender (E.payloadAnswer (senderOf c g) i p (length frame) (length member))) Owned NoSlot (sym es ∙ hs) (sym eo ∙ ho)),
           e₂ ∙ ap (λ (x : Sender). E.payloadBytes x i p frame member) e₀
               ∙ sym (both (isSlot c g i) (owns c g i) (E.payloadBytes (senderOf c g) i p frame member) member (sym es ∙ hs) (sym eo ∙ ho)),
         )

@@ -13,12 +13,12 @@ use Rattle.sender.specs.Steps.{Call as T}
 use Rattle.sender.specs.Table.{isMember, sizeOf, slotAt}
 use Rattle.circuits.specs.declared.answers.Answer.{Answer}
 use Rattle.circuits.specs.declared.answers.Answer.the-variants as A
-use Rattle.circuits.specs.Answers.{told}
+use Rattle.circuits.specs.Answers.{fromSender}
 use Rattle.circuits.specs.Calls.{Call}
 use Rattle.circuits.specs.Calls.Call.{Claim, Release, AddSlot, RemoveSlot, Report, Lapse, StartEpoch}
 use Rattle.circuits.specs.Owners.{byteOf}
 use Rattle.circuits.specs.Views.{Asked, Reply, View}
-use Rattle.circuits.specs.Views.Asked.{Do, Packet, Payload, Board, BoardGoing, Ranks, Owned}
+use Rattle.circuits.specs.Views.Asked.{Do, Packet, Payload, Board, Outgoing, Ranks, Owned}
 use Rattle.circuits.specs.Views.Reply.{Answered, Wrote, Showed, Ranked, Owns}
 
 abbrev pub slotIn : View → ℕ → Bool
@@ -48,7 +48,7 @@ abbrev pub releaseSeen : View → ℕ → Seen
 releaseSeen v i = ownSeen v i (cond (isMember (slotAt (v .sender .table .slots) i .state)) (seen v A.Used) (seen (withOwn v i false) A.Done))
 
 abbrev pub sentSeen : View → S → Seen
-sentSeen v k = let r = senderStepOf (v .sender) k in seen (record { sender = r .sender; owned = v .owned }) (told (r .answer))
+sentSeen v k = let r = senderStepOf (v .sender) k in seen (record { sender = r .sender; owned = v .owned }) (fromSender (r .answer))
 
 abbrev pub stepSeen : View → Call → Bool → Seen
 stepSeen v (Claim i) taken = claimSeen v i taken
@@ -68,11 +68,11 @@ ownBytes v i new old = cond (slotIn v i) (cond (ownIn v i) new old) old
 
 abbrev pub replySeen : View → Asked → Bool → Reply
 replySeen v (Do k) taken = Answered (stepSeen v k taken .answer)
-replySeen v (Packet i h4) taken = Wrote (ownAnswer v i (told (E.packetAnswer (v .sender) i h4))) (ownBytes v i (E.packetBytes (v .sender) i h4) h4)
+replySeen v (Packet i h4) taken = Wrote (ownAnswer v i (fromSender (E.packetAnswer (v .sender) i h4))) (ownBytes v i (E.packetBytes (v .sender) i h4) h4)
 replySeen v (Payload i p frame member) taken =
-    Wrote (ownAnswer v i (told (E.payloadAnswer (v .sender) i p (length frame) (length member)))) (ownBytes v i (E.payloadBytes (v .sender) i p frame member) member)
+    Wrote (ownAnswer v i (fromSender (E.payloadAnswer (v .sender) i p (length frame) (length member)))) (ownBytes v i (E.payloadBytes (v .sender) i p frame member) member)
 replySeen v Board taken = Showed (record { board = boardOf (v .sender .table); answer = A.Done })
-replySeen v BoardGoing taken = Showed (record { board = v .sender .outgoing; answer = A.Done })
+replySeen v Outgoing taken = Showed (record { board = v .sender .outgoing; answer = A.Done })
 replySeen v Ranks taken = Ranked (record { ranks = E.ranksOf (v .sender); answer = A.Done })
 replySeen v Owned taken = Owns (record { owned = tabulate 64 (λ i. byteOf (ownIn v i)); answer = A.Done })
 
@@ -81,7 +81,7 @@ viewAfter v (Do k) taken = stepSeen v k taken .view
 viewAfter v (Packet i h4) taken = v
 viewAfter v (Payload i p frame member) taken = v
 viewAfter v Board taken = v
-viewAfter v BoardGoing taken = v
+viewAfter v Outgoing taken = v
 viewAfter v Ranks taken = v
 viewAfter v Owned taken = v
 

@@ -18,14 +18,14 @@ answerNumber Owned = 14
 answerNumber Used = 15
 
 -- a sender's answer is the card's under the same number
-abbrev pub told : S.Answer → Answer
-told S.Answer.Done = Done
-told S.Answer.NoSlot = NoSlot
-told S.Answer.NotAllowed = NotAllowed
-told S.Answer.WaitOpen = WaitOpen
-told S.Answer.OutOfRange = OutOfRange
-told S.Answer.Field = Field
-told S.Answer.Length = Length
+abbrev pub fromSender : S.Answer → Answer
+fromSender S.Answer.Done = Done
+fromSender S.Answer.NoSlot = NoSlot
+fromSender S.Answer.NotAllowed = NotAllowed
+fromSender S.Answer.WaitOpen = WaitOpen
+fromSender S.Answer.OutOfRange = OutOfRange
+fromSender S.Answer.Field = Field
+fromSender S.Answer.Length = Length
 
 -- 'a group other than the two is 1'
 abbrev pub groupAnswer : ℕ → Answer

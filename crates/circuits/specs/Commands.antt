@@ -7,7 +7,7 @@ use Rattle.sender.specs.Epochs.{SenderCall, beginOf, senderStepOf}
 use Rattle.circuits.specs.declared.answers.Answer.the-variants.{NoSlot, Owned, Used}
 use Rattle.circuits.specs.declared.card.Card.{Card}
 use Rattle.circuits.specs.declared.card.CardOutcome.{CardOutcome}
-use Rattle.circuits.specs.Answers.{told}
+use Rattle.circuits.specs.Answers.{fromSender}
 use Rattle.circuits.specs.Owners.{hasOwner, markOf}
 use Rattle.circuits.specs.Parts.{isSlot, isUsed, marked, owns, refused, senderOf, stepped}
 
@@ -16,7 +16,7 @@ unfoldable pub startOf : ℕ → ℕ → ℕ → ℕ → CardOutcome
 startOf kind count e₀ e₁ =
     record {
       card = record { owners = replicate 64 0; first = beginOf kind count e₀ .sender; second = beginOf kind count e₁ .sender };
-      answer = told (beginOf kind count e₀ .answer);
+      answer = fromSender (beginOf kind count e₀ .answer);
     }
 
 -- '14, .. on claim already owned by anyone', also by the group itself

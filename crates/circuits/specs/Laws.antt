@@ -1,4 +1,6 @@
 -- Laws on the definitions, for the theorems.
+pub mod Alike
 pub mod Members
 pub mod Seeing
 pub mod Stepping
+pub mod Ways

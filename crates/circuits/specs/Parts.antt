@@ -10,7 +10,7 @@ use Rattle.circuits.specs.declared.answers.Answer.{Answer}
 use Rattle.circuits.specs.declared.answers.Answer.the-variants.{Done}
 use Rattle.circuits.specs.declared.card.Card.{Card}
 use Rattle.circuits.specs.declared.card.CardOutcome.{CardOutcome}
-use Rattle.circuits.specs.Answers.{told}
+use Rattle.circuits.specs.Answers.{fromSender}
 use Rattle.circuits.specs.Owners.{isMarked, withOwner}
 
 -- groups are 0 and 1
@@ -48,4 +48,4 @@ marked c i m = record { card = record { owners = withOwner (c .owners) i m; firs
 
 -- a step of the group's sender, and all else stays
 unfoldable pub stepped : Card → ℕ → SenderOutcome → CardOutcome
-stepped c g r = record { card = withSender c g (r .sender); answer = told (r .answer) }
+stepped c g r = record { card = withSender c g (r .sender); answer = fromSender (r .answer) }

@@ -10,19 +10,19 @@ use Rattle.circuits.specs.declared.card.BoardOutcome.{BoardOutcome}
 use Rattle.circuits.specs.declared.card.Card.{Card}
 use Rattle.circuits.specs.declared.card.OwnedOutcome.{OwnedOutcome}
 use Rattle.circuits.specs.declared.card.RanksOutcome.{RanksOutcome}
-use Rattle.circuits.specs.Answers.{groupAnswer, told}
+use Rattle.circuits.specs.Answers.{groupAnswer, fromSender}
 use Rattle.circuits.specs.Owners.{ownedBytes}
 use Rattle.circuits.specs.Parts.{isSlot, owns, senderOf, shownSender}
 
 -- 1, 14, then as the sender has it
 unfoldable pub packetAnswer : Card → ℕ → ℕ → List ℕ → Answer
-packetAnswer c g i h4 = cond (isSlot c g i) (cond (owns c g i) (told (E.packetAnswer (senderOf c g) i h4)) Owned) NoSlot
+packetAnswer c g i h4 = cond (isSlot c g i) (cond (owns c g i) (fromSender (E.packetAnswer (senderOf c g) i h4)) Owned) NoSlot
 
 unfoldable pub packetBytes : Card → ℕ → ℕ → List ℕ → List ℕ
 packetBytes c g i h4 = cond (isSlot c g i && owns c g i) (E.packetBytes (senderOf c g) i h4) h4
 
 unfoldable pub payloadAnswer : Card → ℕ → ℕ → ℕ → ℕ → ℕ → Answer
-payloadAnswer c g i P frame member = cond (isSlot c g i) (cond (owns c g i) (told (E.payloadAnswer (senderOf c g) i P frame member)) Owned) NoSlot
+payloadAnswer c g i P frame member = cond (isSlot c g i) (cond (owns c g i) (fromSender (E.payloadAnswer (senderOf c g) i P frame member)) Owned) NoSlot
 
 unfoldable pub payloadBytes : Card → ℕ → ℕ → ℕ → List ℕ → List ℕ → List ℕ
 payloadBytes c g i P frame member = cond (isSlot c g i && owns c g i) (E.payloadBytes (senderOf c g) i P frame member) member
@@ -31,8 +31,8 @@ payloadBytes c g i P frame member = cond (isSlot c g i && owns c g i) (E.payload
 unfoldable pub boardShown : Card → ℕ → BoardOutcome
 boardShown c g = record { board = boardOf (shownSender c g .table); answer = groupAnswer g }
 
-unfoldable pub goingShown : Card → ℕ → BoardOutcome
-goingShown c g = record { board = shownSender c g .outgoing; answer = groupAnswer g }
+unfoldable pub outgoingShown : Card → ℕ → BoardOutcome
+outgoingShown c g = record { board = shownSender c g .outgoing; answer = groupAnswer g }
 
 unfoldable pub ranksShown : Card → ℕ → RanksOutcome
 ranksShown c g = record { ranks = E.ranksOf (shownSender c g); answer = groupAnswer g }

@@ -14,7 +14,7 @@ use Rattle.circuits.specs.declared.card.RanksOutcome.{RanksOutcome}
 use Rattle.circuits.specs.Calls.{Call, stepOf}
 use Rattle.circuits.specs.Calls.Call.{Claim, Release, AddSlot, RemoveSlot, Report, Lapse, StartEpoch}
 use Rattle.circuits.specs.Parts.{owns, senderOf}
-use Rattle.circuits.specs.Readings.{boardShown, goingShown, ownedShown, packetAnswer, packetBytes, payloadAnswer, payloadBytes, ranksShown}
+use Rattle.circuits.specs.Readings.{boardShown, outgoingShown, ownedShown, packetAnswer, packetBytes, payloadAnswer, payloadBytes, ranksShown}
 
 -- the view of a group: its sender and which slots it owns
 pub record View : Type 0 where
@@ -30,7 +30,7 @@ pub data Asked : Type 0 where
   Packet : ℕ → List ℕ → Asked
   Payload : ℕ → ℕ → List ℕ → List ℕ → Asked
   Board : Asked
-  BoardGoing : Asked
+  Outgoing : Asked
   Ranks : Asked
   Owned : Asked
 
@@ -47,7 +47,7 @@ replyTo c g (Do k) = Answered (stepOf c g k .answer)
 replyTo c g (Packet i h4) = Wrote (packetAnswer c g i h4) (packetBytes c g i h4)
 replyTo c g (Payload i p frame member) = Wrote (payloadAnswer c g i p (length frame) (length member)) (payloadBytes c g i p frame member)
 replyTo c g Board = Showed (boardShown c g)
-replyTo c g BoardGoing = Showed (goingShown c g)
+replyTo c g Outgoing = Showed (outgoingShown c g)
 replyTo c g Ranks = Ranked (ranksShown c g)
 replyTo c g Owned = Owns (ownedShown c g)
 
@@ -56,7 +56,7 @@ cardAfter c g (Do k) = stepOf c g k .card
 cardAfter c g (Packet i h4) = c
 cardAfter c g (Payload i p frame member) = c
 cardAfter c g Board = c
-cardAfter c g BoardGoing = c
+cardAfter c g Outgoing = c
 cardAfter c g Ranks = c
 cardAfter c g Owned = c
 
@@ -72,7 +72,7 @@ bitOf c g (Do (StartEpoch gid mst ack)) = false
 bitOf c g (Packet i h4) = false
 bitOf c g (Payload i p frame member) = false
 bitOf c g Board = false
-bitOf c g BoardGoing = false
+bitOf c g Outgoing = false
 bitOf c g Ranks = false
 bitOf c g Owned = false
 

@@ -2,7 +2,8 @@
 use mathlib.Core.Path.{_≡_, refl}
 use mathlib.Core.Bool.{Bool, true, false, cond}
 use mathlib.Core.List.{List, [], _∷_}
-use Prim.Native.Nat.{ℕ, _+_}
+use Prim.Native.Nat.{ℕ, _+_, _<_}
+use native.Mathlib.Omega.{arith}
 use lib.ListN.{set}
 use Rattle.packet.specs.Kinds.{idleNumber, mstFails, mstFirst, mstNumbers}
 use Rattle.sender.specs.declared.epochs.Sender.{Sender}
@@ -13,6 +14,7 @@ use Rattle.sender.specs.Board.{boardOf, highest, noRow, rowOf, rowsOf}
 use Rattle.sender.specs.Commands.{addOf, addedTo, fallen, fallenIn, freshOf, idleSlot, lapseOf, removeOf, removedFrom, withSlots}
 use Rattle.sender.specs.Commands as T
 use Rattle.sender.specs.Epochs.{beginOf, freshSender}
+use Rattle.sender.specs.Numbering.{Demand2}
 use Rattle.sender.specs.Table.{membersOf, sizeOf}
 use Rattle.circuits.specs.declared.answers.Answer.{Answer}
 use Rattle.circuits.specs.declared.answers.Answer.the-variants.{Done, NoSlot, NotAllowed, Owned, WaitOpen}
@@ -30,15 +32,19 @@ use Rattle.circuits.specs.Views.{Made}
 abbrev shared : List Made → List Made
 shared ms = by 0 (Claim 0) ∷ by 1 (Claim 1) ∷ ms
 
--- One numbering over both groups. 'Numbers, words, EOS and waits are per group': the one member of group 1 has number 0, else demand 2 has no number 0 in it.
-wrong-number : Card → ℕ → ℕ
-wrong-number c i = membersOf (c .first .table .slots) (sizeOf (c .first .table .count)) + membersOf (c .second .table .slots) (sizeOf (c .second .table .count))
+-- One numbering over both groups: a slot is added under the next number that neither has. 'Numbers, words, EOS and waits are per group', and 'Demand 2 reads per group': it breaks in the table of group 1, whose one member has number 1.
+wrong-number : Card → ℕ
+wrong-number c = membersOf (c .first .table .slots) (sizeOf (c .first .table .count)) + membersOf (c .second .table .slots) (sizeOf (c .second .table .count))
+
+wrong-added : Card → ℕ → ℕ → Table
+wrong-added c g i =
+    let t = senderOf c g .table in withSlots t (set (t .slots) i (record { state = Add; number = wrong-number c })) (t .wait)
 
 number-breaks :
-    (wrong-number (after 2 (shared (by 0 (AddSlot 0) ∷ []))) 1 ≡ 1)
+    (Demand2 (wrong-added (after 2 (shared (by 0 (AddSlot 0) ∷ []))) 1 1) → ⊥)
     × (board 1 (after 2 (shared (by 0 (AddSlot 0) ∷ by 1 (AddSlot 1) ∷ []))) ≡ 5 ∷ 255 ∷ 1 ∷ 0 ∷ 0 ∷ [])
-unfolding wrong-number withOwner senderOf withSender isSlot owns marked stepped startOf claimOf commandOf beginOf freshSender T.startOf freshOf idleSlot idleNumber addOf addedTo sizeOf membersOf boardOf rowsOf rowOf noRow highest
-number-breaks = (refl, refl)
+unfolding wrong-number wrong-added withOwner senderOf withSender isSlot owns marked stepped startOf claimOf commandOf beginOf freshSender T.startOf freshOf idleSlot idleNumber addOf addedTo sizeOf membersOf boardOf rowsOf rowOf noRow highest
+number-breaks = (λ d. let h : 1 < 1 = d .last 1 (omega arith) refl in omega arith, refl)
 
 -- 3 before 14: with a wait open, a group would be told of its wait on a slot that is not its own. 'order 1, 14, 15, 3, 2'
 wrong-order : Card → ℕ → ℕ → Answer

@@ -1,6 +1,6 @@
 // The answers of a card: those of a sender, then 14 and 15 (02, 2026-06).
 ghost use mathlib.Core.Path.{_≡_};
-ghost use Rattle.circuits.specs.Answers.{answerNumber, groupAnswer, told};
+ghost use Rattle.circuits.specs.Answers.{answerNumber, groupAnswer, fromSender};
 
 pub enum Answer {
     Done,
@@ -32,8 +32,8 @@ impl Answer {
     }
 }
 
-pub(crate) fn told_by(answer: sender::Answer) -> Answer
-    ensures { λ r. ⌜ r ≡ told answer ⌝ }
+pub(crate) fn from_sender(answer: sender::Answer) -> Answer
+    ensures { λ r. ⌜ r ≡ fromSender answer ⌝ }
 {
     match answer {
         sender::Answer::Done => Answer::Done,

@@ -12,7 +12,7 @@ ghost use lib.ListN.{length};
 ghost use Rattle.circuits.specs.Calls.{stepOf};
 ghost use Rattle.circuits.specs.Calls.Call.{Claim, Release, AddSlot, RemoveSlot, Report, Lapse, StartEpoch};
 ghost use Rattle.circuits.specs.Commands.{startOf};
-ghost use Rattle.circuits.specs.Readings.{boardShown, goingShown, ownedShown, packetAnswer, packetBytes, payloadAnswer, payloadBytes, ranksShown};
+ghost use Rattle.circuits.specs.Readings.{boardShown, outgoingShown, ownedShown, packetAnswer, packetBytes, payloadAnswer, payloadBytes, ranksShown};
 
 // A whole sender for each group, with a table of all slots.
 pub struct Card {
@@ -57,7 +57,7 @@ impl Card {
                 first,
                 second,
             },
-            answer: answers::told_by(answer),
+            answer: answers::from_sender(answer),
         }
     }
 
@@ -165,7 +165,7 @@ impl Card {
             return Answer::Owned;
         }
         let sender = parts::sender_of(self, group);
-        answers::told_by(sender.packet(slot, h4))
+        answers::from_sender(sender.packet(slot, h4))
     }
 
     // 1, 14, 4, 9, 2.
@@ -180,7 +180,7 @@ impl Card {
             return Answer::Owned;
         }
         let sender = parts::sender_of(self, group);
-        answers::told_by(sender.payload(slot, p, frame, member))
+        answers::from_sender(sender.payload(slot, p, frame, member))
     }
 
     // The table now, of all slots.
@@ -196,8 +196,8 @@ impl Card {
     }
 
     // The board that goes out in this epoch's packets.
-    pub fn board_going(self, group: u32) -> BoardOutcome
-        ensures { λ r. ⌜ r ≡ goingShown self group ⌝ }
+    pub fn outgoing(self, group: u32) -> BoardOutcome
+        ensures { λ r. ⌜ r ≡ outgoingShown self group ⌝ }
     {
         let sender = parts::shown_sender(self, group);
         let board = sender.outgoing;

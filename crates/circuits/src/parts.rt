@@ -134,6 +134,6 @@ pub(crate) fn put_step(card: Card, group: u32, step: SenderOutcome) -> CardOutco
     let answer = step.answer;
     CardOutcome {
         card: with_sender(card, group, sender),
-        answer: answers::told_by(answer),
+        answer: answers::from_sender(answer),
     }
 }

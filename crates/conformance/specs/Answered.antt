@@ -17,7 +17,7 @@ use Rattle.phases.specs.Laws.Sizes.{settled-sizes}
 use Rattle.phases.specs.Passing.{passedOf, passedStep}
 use Rattle.phases.specs.Settling.{beginBy, begunOf, clearedStep, gatherBy, settledOf, stopBy, stoppedOf}
 use Rattle.phases.specs.Sizes.{portsIn}
-use Rattle.receiver.specs.Frame.{frameAnswer, frameRefusal, frameRows, portRows, refusalBy, settledBy, storeBy, takenIn, takenRows}
+use Rattle.receiver.specs.Frame.{frameAnswer, frameRefusal, frameRows, oddIn, portRows, refusalBy, settledBy, storeBy, takenIn, takenRows}
 use Rattle.receiver.specs.Laws.Answers.{Fitting, unrefused}
 use Rattle.receiver.specs.Laws.Frames.{frame-group, frame-step, length-frame}
 use Rattle.receiver.specs.Lengths.{frameFits}
@@ -81,10 +81,10 @@ record Says (g : Group) (t : Taken) : Type 0 where
   ten : t .answer ≡ 10 → (inStepAt (g .kind) (t .step .count) ≡ false) × (t .step .failed ≡ 1)
   twelve : t .answer ≡ 12 → (inStepAt (g .kind) (t .step .count) ≡ false) × (t .step .failed ≡ 0)
 
-says : (g : Group) (s : Step) (failed : Bool) (h : ℕ) → Says g (takenOf g s failed h)
+says : (g : Group) (s : Step) (failed odd : Bool) (h : ℕ) → Says g (takenOf g s failed odd h)
 unfolding flagged countsOn frameDropped keeps outside joining inStepAt frames
-says g s failed h =
-    taken-by (Says g) g s failed h
+says g s failed odd h =
+    taken-by (Says g) g s failed odd h
     (λ f. record { ten = λ e. (refl, refl); twelve = λ e. absurd (omega arith) })
     (λ f e. record { ten = λ a. absurd (omega arith); twelve = λ a. (e, refl) })
     (λ f e b. record { ten = λ a. absurd (omega arith); twelve = λ a. absurd (omega arith) })
@@ -171,8 +171,8 @@ module _ (s : List (List ℕ)) (i : ℕ) (failed : Bool) (h : ℕ) (payload stor
 
   -- 10: the port is not in step, not readable and flagged
   pub after-10 : frameAnswer s i failed h (length payload) (length store) ≡ 10 → OutOfStep (frameRows s i failed h payload store) i 1
-  after-10 e = out 10 1 (omega arith) refl (says (groupAt s) (stepAt s i) failed h .ten) e
+  after-10 e = out 10 1 (omega arith) refl (says (groupAt s) (stepAt s i) failed (oddIn s i h) h .ten) e
 
   -- 12: the port is not in step, not readable and not flagged
   pub after-12 : frameAnswer s i failed h (length payload) (length store) ≡ 12 → OutOfStep (frameRows s i failed h payload store) i 0
-  after-12 e = out 12 0 (omega arith) refl (says (groupAt s) (stepAt s i) failed h .twelve) e
+  after-12 e = out 12 0 (omega arith) refl (says (groupAt s) (stepAt s i) failed (oddIn s i h) h .twelve) e

@@ -2,6 +2,9 @@
 use mathlib.Core.Path.{refl}
 use mathlib.Core.List.{List, [], _∷_, _++_}
 use Prim.Native.Nat.{ℕ}
+use lib.ListN.{getD, replicate}
+use Rattle.c_face.specs.Cards.{putOwn}
+use Rattle.c_face.specs.Keeping.{byteAt}
 use Rattle.circuits.specs.Calls.Call.{AddSlot, Claim, Lapse, Release, RemoveSlot, Report}
 use Rattle.circuits.specs.Commands.{claimOf, commandOf, groupCallOf, releaseOf}
 use Rattle.circuits.specs.Commands.{startOf as cardStart}
@@ -61,11 +64,18 @@ table =
           ∷ [];
       said = 14 ∷ 3 ∷ 0 ∷ 0 ∷ [];
     }
+    ∷ record {
+      name = "the part of group 1 written for C: the owners of slots 0, 1 and 2, the ends of the part of group 0, which stays, then the state and number of slot 1 and the count";
+      given =
+          let state = putOwn 1 (after 2 (by 0 (Claim 0) ∷ by 1 (Claim 1) ∷ by 1 (AddSlot 1) ∷ [])) (replicate 858 9) in
+          getD state 0 0 ∷ getD state 1 0 ∷ getD state 2 0 ∷ getD state 64 0 ∷ getD state 460 0 ∷ getD state 463 0 ∷ getD state 464 0 ∷ getD state 845 0 ∷ [];
+      said = 1 ∷ 2 ∷ 0 ∷ 9 ∷ 9 ∷ 1 ∷ 0 ∷ 2 ∷ [];
+    }
     ∷ record { name = "P8 in both groups, group 0"; given = board 0 (after 4 both-p8); said = 1 ∷ 1 ∷ 3 ∷ 0 ∷ 5 ∷ 255 ∷ 5 ∷ 255 ∷ 1 ∷ [] }
     ∷ record { name = "P8 in both groups, group 1"; given = board 1 (after 4 both-p8); said = 5 ∷ 255 ∷ 5 ∷ 255 ∷ 1 ∷ 1 ∷ 3 ∷ 0 ∷ 1 ∷ [] }
     ∷ record { name = "P9 in group 0 while group 1 reports"; given = board 0 (after 3 p9); said = 2 ∷ 0 ∷ 5 ∷ 255 ∷ 3 ∷ 1 ∷ 1 ∷ [] }
     ∷ []
 
 pub examples : Equal table
-unfolding table withOwner senderOf withSender isSlot owns isUsed marked stepped cardStart claimOf releaseOf commandOf groupCallOf beginOf freshSender startOf freshOf idleSlot idleNumber addOf addedTo removeOf removedFrom fallen fallenIn lapseOf reportOf waited actedOn mstApplied numberApplied holderOf renumbered slotAfter numberAfter comesBefore turnOf opensWait sizeOf membersOf mstFails mstFirst mstNumbers boardOf rowsOf rowOf noRow highest
+unfolding table putOwn byteAt withOwner senderOf withSender isSlot owns isUsed marked stepped cardStart claimOf releaseOf commandOf groupCallOf beginOf freshSender startOf freshOf idleSlot idleNumber addOf addedTo removeOf removedFrom fallen fallenIn lapseOf reportOf waited actedOn mstApplied numberApplied holderOf renumbered slotAfter numberAfter comesBefore turnOf opensWait sizeOf membersOf mstFails mstFirst mstNumbers boardOf rowsOf rowOf noRow highest
 examples = equal-rows table refl

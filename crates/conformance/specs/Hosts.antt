@@ -1,14 +1,19 @@
--- Short runs of a receiver from its start, for the examples: P is 1, and frames carry their count and no good packet.
+-- Short runs of a receiver from its start, for the examples: P is 1, and frames carry their count and no good packet, but where it is said.
 use mathlib.Core.Bool.{Bool, true, false, cond}
 use mathlib.Core.List.{List, [], _∷_}
 use Prim.Native.Nat.{ℕ, zero, suc, _+_, _*_, _/_, _%_}
 use lib.Dec.{eqb}
 use lib.ListN.{getD, length, replicate}
+use Rattle.packet.specs.Kinds.{epochOf, placeOf}
+use Rattle.packet.specs.Layout.{h4Of, nibblesOf}
+use Rattle.packet.specs.Words.{IDLE}
 use Rattle.phases.specs.Sizes.{portsIn}
+use Rattle.receiver.specs.Fetch.{fetchRows}
 use Rattle.receiver.specs.Frame.{frameAnswer, frameRows, frameStore}
 use Rattle.receiver.specs.Starting.{startAnswer, startRows}
 use Rattle.rows.specs.Group.{groupAt}
 use Rattle.rows.specs.Rows.{rowsFor}
+use Rattle.rows.specs.Step.{stepAt}
 
 -- what the host keeps between calls, and the last call's answer
 pub record Host : Type 0 where
@@ -33,25 +38,47 @@ h4With t = cond (eqb (t % 16) 0) (t / 256) (cond (eqb (t % 16) 1) (t / 16 % 16) 
 abbrev payloadWith : ℕ → List ℕ
 payloadWith t = t % 256 ∷ []
 
--- the frame of a port with tag t, flagged as failed or not
-abbrev handedAs : Bool → ℕ → ℕ → Host → Host
-handedAs failed port t h =
+-- the frame of a port with an H4 byte, flagged as failed or not
+abbrev handedAs : Bool → ℕ → ℕ → List ℕ → Host → Host
+handedAs failed port h4 payload h =
     record {
-      answer = frameAnswer (h .rows) port failed (h4With t) (length (payloadWith t)) (length (h .store));
-      rows = frameRows (h .rows) port failed (h4With t) (payloadWith t) (h .store);
-      store = frameStore (h .rows) port failed (h4With t) (payloadWith t) (h .store);
+      answer = frameAnswer (h .rows) port failed h4 (length payload) (length (h .store));
+      rows = frameRows (h .rows) port failed h4 payload (h .store);
+      store = frameStore (h .rows) port failed h4 payload (h .store);
     }
 
+-- the frame with tag t
 abbrev pub handed : ℕ → ℕ → Host → Host
-handed port t h = handedAs false port t h
+handed port t h = handedAs false port (h4With t) (payloadWith t) h
 
 abbrev pub flagged : ℕ → ℕ → Host → Host
-flagged port t h = handedAs true port t h
+flagged port t h = handedAs true port (h4With t) (payloadWith t) h
 
 -- n frames of a port, the first with tag t
 abbrev pub fed : ℕ → ℕ → ℕ → Host → Host
 fed port zero t h = h
 fed port (suc n) t h = fed port n ((t + 1) % 4096) (handed port t h)
+
+-- the H4 byte of the frame with tag t of a whole packet: IDLE under 255, with its CRC
+abbrev pub packetWith : ℕ → ℕ
+packetWith t = getD (h4Of (nibblesOf (record { epoch = epochOf 0 t; word = record { 0 = IDLE }; gid = 0; mst = 255; «rs_ack» = 0; sq = 255; reserved = 0 }))) (placeOf 0 t) 0
+
+-- the same with a reserved bit changed, at MFI1 4
+abbrev pub damagedWith : ℕ → ℕ
+damagedWith t = packetWith t + cond (eqb (t % 16) 4) 16 0
+
+-- n frames of a port with such bytes, the first with tag t
+abbrev pub fedWith : (ℕ → ℕ) → ℕ → ℕ → ℕ → Host → Host
+fedWith h4 port zero t h = h
+fedWith h4 port (suc n) t h = fedWith h4 port n ((t + 1) % 4096) (handedAs false port (h4 t) (payloadWith t) h)
+
+-- one fetch, whose answer is left out
+abbrev pub fetched : Host → Host
+fetched h = record { answer = h .answer; rows = fetchRows (h .rows) (h .store) (replicate 16 0) (replicate 8 0); store = h .store }
+
+-- the answer, and of a port the tag to come, the frames counted, and the breaks in a row
+abbrev pub counting : ℕ → Host → List ℕ
+counting port h = let s = stepAt (h .rows) port in h .answer ∷ s .next ∷ s .count ∷ s .breaks ∷ []
 
 -- the answer, and how many ports there are
 abbrev pub openedWith : ℕ → List ℕ

@@ -5,6 +5,8 @@ pub mod Entries
 pub mod Examples
 pub mod Hosts
 pub mod Joining
+pub mod Orders
+pub mod OwnCount
 pub mod Refusals
 pub mod Replays
 pub mod Rows

@@ -1,7 +1,9 @@
 -- The refusals of every entry point that can refuse (demand 1), in one table: each row is an entry point's name, its call and the proof that it copes. host/tools/refusals holds each row to the entry point's contract.
 pub mod Cards
+pub mod CardStates
 pub mod Epochs
 pub mod Lines
+pub mod Orders
 pub mod Packets
 pub mod Paths
 pub mod Payloads
@@ -13,8 +15,10 @@ pub mod Tables
 use mathlib.Core.List.{List, [], _∷_}
 use Rattle.conformance.specs.Entries.{Coping, row}
 use Cards as card
+use CardStates as cardState
 use Epochs as sender
 use Lines as console
+use Orders as orders
 use Packets as packet
 use Paths as paths
 use Payloads as payload
@@ -60,9 +64,11 @@ entries =
     ∷ row "circuits::Card::packet" card.packet card.packet-copes
     ∷ row "circuits::Card::payload" card.payload card.payload-copes
     ∷ row "circuits::Card::board" card.board card.board-copes
-    ∷ row "circuits::Card::board_going" card.boardGoing card.boardGoing-copes
+    ∷ row "circuits::Card::outgoing" card.outgoing card.outgoing-copes
     ∷ row "circuits::Card::ranks" card.ranks card.ranks-copes
     ∷ row "circuits::Card::owned" card.owned card.owned-copes
+    ∷ row "orders::order" orders.order orders.order-copes
+    ∷ row "orders::order_of" orders.orderOf orders.orderOf-copes
     ∷ row "spoken::changes_between" spoken.changes spoken.changes-copes
     ∷ row "spoken::apply" spoken.apply spoken.apply-copes
     ∷ row "spoken::speak" spoken.speak spoken.speak-copes
@@ -93,6 +99,21 @@ entries =
     ∷ row "levelspruce_sender_board" state.shown state.shown-copes
     ∷ row "levelspruce_sender_board_going" state.outgoing state.outgoing-copes
     ∷ row "levelspruce_sender_ranks" state.ranked state.ranked-copes
+    ∷ row "levelspruce_card_start" cardState.start cardState.start-copes
+    ∷ row "levelspruce_card_claim" cardState.claim cardState.claim-copes
+    ∷ row "levelspruce_card_release" cardState.release cardState.release-copes
+    ∷ row "levelspruce_card_add" cardState.add cardState.add-copes
+    ∷ row "levelspruce_card_remove" cardState.remove cardState.remove-copes
+    ∷ row "levelspruce_card_report" cardState.report cardState.report-copes
+    ∷ row "levelspruce_card_lapse" cardState.lapse cardState.lapse-copes
+    ∷ row "levelspruce_card_start_epoch" cardState.startEpoch cardState.startEpoch-copes
+    ∷ row "levelspruce_card_packet" cardState.packet cardState.packet-copes
+    ∷ row "levelspruce_card_payload" cardState.payload cardState.payload-copes
+    ∷ row "levelspruce_card_board" cardState.shown cardState.shown-copes
+    ∷ row "levelspruce_card_board_going" cardState.outgoing cardState.outgoing-copes
+    ∷ row "levelspruce_card_ranks" cardState.ranked cardState.ranked-copes
+    ∷ row "levelspruce_card_owned" cardState.owned cardState.owned-copes
+    ∷ row "levelspruce_card_order" orders.orderC orders.orderC-copes
     ∷ row "levelspruce_board_changes" spoken.changesC spoken.changesC-copes
     ∷ row "levelspruce_board_apply" spoken.applyC spoken.applyC-copes
     ∷ row "levelspruce_board_speak" spoken.speakC spoken.speakC-copes

@@ -5,7 +5,8 @@ use mathlib.Core.List.{List, [], _∷_, _++_}
 use Prim.Native.Nat.{ℕ}
 use lib.ListN.{getD, length, replicate, take}
 use Rattle.packet.specs.Crc.{byteBits, crcOf, divisor, nibbleBits}
-use Rattle.packet.specs.Layout.{dataOf, h4Of, nibblesOf, sealedOf}
+use Rattle.packet.specs.Layout.{carriedIn, dataOf, fieldsOf, h4Of, nibblesOf, sealedOf}
+use Rattle.packet.specs.Reading.{readNibbles}
 use Rattle.packet.specs.Words.{assigned}
 use Rattle.packet.specs.Writing.{fitting, writeAnswer, writeBytes}
 use Rattle.ground.specs.Circle.{after as afterOn}
@@ -34,7 +35,8 @@ use Rattle.sender.specs.Steps.{Call}
 use Rattle.sender.specs.Steps.Call.{AddSlot, Lapse, RemoveSlot, Report}
 use Rattle.sender.specs.Table.{holderOf, membersOf, sizeOf}
 use Rattle.step.specs.Arrival.{arrives, frameDropped, byStart, byWindow, countsOn, distanceIn, inStep, joining, keeps, outside, readable, stepTo, takenOf}
-use Rattle.step.specs.Run.{begunRun, furtherRun, inStepAt, oneMore, runOn, secondRun}
+use Rattle.step.specs.Own.{endsOdd, oddPacket, ownNumber}
+use Rattle.step.specs.Run.{begunRun, breaksAfter, endsPacket, furtherRun, gainedRun, inStepAt, loses, oddAfter, runOn, secondRun, stayedRun}
 use Rattle.store.specs.Frames.{byteAt, h4At, packetIn, placeIn, ringOf, storedAt}
 use Rattle.store.specs.Marks.{cutByte, cutFrom, firstMark, markedAt, markedByte, passedByte, passedMarks}
 use Rattle.c_face.specs.Boards.{boardByte, boardBytesOf, rankByte, ranksBytesOf}
@@ -255,8 +257,8 @@ table =
     ∷ record {
       name = "what is shown of a port in step that has not joined, readable and not";
       given =
-          portShown (groupAt (running .rows)) (stepTo (stepAt (running .rows) 0) 0 (record { count = 32; next = 5 }) 0 1 0) (memberOf (2 ∷ 7 ∷ 1 ∷ 5 ∷ replicate 12 0))
-          ++ portShown (groupAt (running .rows)) (stepTo (stepAt (running .rows) 0) 0 (record { count = 32; next = 5 }) 0 0 0) (memberOf (2 ∷ 7 ∷ 1 ∷ 5 ∷ replicate 12 0));
+          portShown (groupAt (running .rows)) (stepTo (stepAt (running .rows) 0) 0 (record { count = 32; next = 5; breaks = 0; odd = 0 }) 0 1 0) (memberOf (2 ∷ 7 ∷ 1 ∷ 5 ∷ replicate 12 0))
+          ++ portShown (groupAt (running .rows)) (stepTo (stepAt (running .rows) 0) 0 (record { count = 32; next = 5; breaks = 0; odd = 0 }) 0 0 0) (memberOf (2 ∷ 7 ∷ 1 ∷ 5 ∷ replicate 12 0));
       said = 1 ∷ 5 ∷ 1 ∷ 0 ∷ 1 ∷ 0 ∷ 2 ∷ 0 ∷ 1 ∷ 5 ∷ 1 ∷ 0 ∷ 0 ∷ 0 ∷ 2 ∷ 0 ∷ [];
     }
     ∷ record {
@@ -267,5 +269,5 @@ table =
     ∷ []
 
 pub worked-out : Equal table
-unfolding table recordOf portIn portShown portsOut shownFit nibblesOf sealedOf dataOf crcOf divisor byteBits nibbleBits writeAnswer writeBytes fitting assigned h4Of boardOf rowsOf rowOf noRow highest startOf freshOf idleSlot idleNumber addOf addedTo removeOf removedFrom fallen fallenIn lapseOf reportOf waited actedOn mstApplied numberApplied holderOf renumbered slotAfter numberAfter comesBefore turnOf opensWait sizeOf membersOf mstFails mstFirst mstNumbers afterOn nibbleIn nibblePlace startsCount tagByHigh carriesLow tagByLow counts endsEpoch epochsIn frames tagAfter tagBefore tags lead epochs epochAfter epochOf distanceOf placeOf startsEpoch firstTag settledOf clearedStep clearedPort clearedPorts stoppedOf stopBy begunOf beginBy gatherBy portsIn sizedGroup storeFor ready latest noTag further foremost within begins owesNothing brought silent ruledBy passedStep notedBy passedPort passedPorts passedGroup passedOf frameFits rowsFit frameAnswer frameRows frameStore gatheredBy marksBy portRows storeBy settledBy takenRows takenStore refusalBy startAnswer startRows startFits sizedAnswer sizedRows freshPort freshPorts groupAt groupOf groupRow putGroup rowIn putRow marksAt packetsAt putMarks putPackets memberAt putMember memberOf memberRow putStep stepAt stepIn stepRow takenOf inStep readable distanceIn flaggedStep countsOn frameDropped outside keeps joining byWindow byStart arrives inStepAt begunRun secondRun oneMore furtherRun runOn placeIn storedAt ringOf byteAt h4At packetIn cutFrom markedAt firstMark markedByte cutByte passedByte passedMarks boardByte boardBytesOf rankByte ranksBytesOf activeIn orderOf portOf rankSeen doubtfulBy eosAlone eosWrong exact gidDiffers heldBy judgeOf missing repeats takes highestSeen claim claims holders stateBy statesOf mstFrom mstOf okHolds beginOf freshSender packetBytes packetFields payloadBytes ranksOf startEpochOf startedEpoch startedSender carriersIn rankAt rankOf ranksIn
+unfolding table recordOf portIn portShown portsOut shownFit nibblesOf sealedOf dataOf crcOf divisor byteBits nibbleBits writeAnswer writeBytes fitting assigned h4Of boardOf rowsOf rowOf noRow highest startOf freshOf idleSlot idleNumber addOf addedTo removeOf removedFrom fallen fallenIn lapseOf reportOf waited actedOn mstApplied numberApplied holderOf renumbered slotAfter numberAfter comesBefore turnOf opensWait sizeOf membersOf mstFails mstFirst mstNumbers afterOn nibbleIn nibblePlace startsCount tagByHigh carriesLow tagByLow counts endsEpoch epochsIn frames tagAfter tagBefore tags lead epochs epochAfter epochOf distanceOf placeOf startsEpoch firstTag settledOf clearedStep clearedPort clearedPorts stoppedOf stopBy begunOf beginBy gatherBy portsIn sizedGroup storeFor ready latest noTag further foremost within begins owesNothing brought silent ruledBy passedStep notedBy passedPort passedPorts passedGroup passedOf frameFits rowsFit frameAnswer frameRows frameStore gatheredBy marksBy portRows storeBy settledBy takenRows takenStore refusalBy startAnswer startRows startFits sizedAnswer sizedRows freshPort freshPorts groupAt groupOf groupRow putGroup rowIn putRow marksAt packetsAt putMarks putPackets memberAt putMember memberOf memberRow putStep stepAt stepIn stepRow takenOf inStep readable distanceIn flaggedStep countsOn frameDropped outside keeps joining byWindow byStart arrives inStepAt begunRun secondRun furtherRun gainedRun stayedRun loses breaksAfter oddAfter endsPacket endsOdd oddPacket ownNumber readNibbles fieldsOf carriedIn runOn placeIn storedAt ringOf byteAt h4At packetIn cutFrom markedAt firstMark markedByte cutByte passedByte passedMarks boardByte boardBytesOf rankByte ranksBytesOf activeIn orderOf portOf rankSeen doubtfulBy eosAlone eosWrong exact gidDiffers heldBy judgeOf missing repeats takes highestSeen claim claims holders stateBy statesOf mstFrom mstOf okHolds beginOf freshSender packetBytes packetFields payloadBytes ranksOf startEpochOf startedEpoch startedSender carriersIn rankAt rankOf ranksIn
 worked-out = equal-rows table refl

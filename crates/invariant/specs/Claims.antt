@@ -5,7 +5,6 @@ use mathlib.Core.Bool.{Bool, true, false}
 use mathlib.Core.List.{List, [], _∷_}
 use Prim.Native.Nat.{ℕ, _+_, _*_, _/_, _≤_, _<_, _%_}
 use Rattle.invariant.specs.Kept.Port.{offset}
-use Rattle.packet.specs.Counts.{counts}
 use Rattle.packet.specs.Kinds.{frames, tags, firstTag}
 use Rattle.receiver.specs.Frame.{frameAnswer}
 use Rattle.rows.specs.declared.group.Group.{Group}
@@ -41,13 +40,12 @@ pub record Claimed (s : List (List ℕ)) (store : List ℕ) (i tag : ℕ) (paylo
   pub tag-is : tag ≡ tagIn (groupAt s) at
   pub stands : Stands (groupAt s) i at payload h store
 
--- it is the frame just handed: answered 0, with the tag to come and an H4 that counts as that tag says
+-- it is the frame just handed: answered 0, with the tag to come, which it has by the receiver's own count whatever it carries
 pub record Handed (s : List (List ℕ)) (i : ℕ) (failed : Bool) (h : ℕ) (payload store : List ℕ) (j tag : ℕ) (bytes : List ℕ) (h4 : ℕ) : Type 0 where
   pub port : j ≡ i
   pub unflagged : failed ≡ false
   pub answer : frameAnswer s i failed h (length payload) (length store) ≡ 0
   pub tag-is : tag ≡ portAt s i .step .next
-  pub counted : counts (groupAt s .kind) tag h ≡ true
   pub h4-is : h4 ≡ h
   pub bytes-are : (k : ℕ) → k < groupAt s .payload → getD bytes k 0 ≡ getD payload k 0
 

@@ -6,10 +6,10 @@ use Prim.Native.Nat.{ℕ, _<_, zero, suc}
 use lib.Dec.{eqb}
 use Rattle.judge.specs.Seen.{sizeOf}
 use Rattle.packet.specs.declared.ruling.Ruling.{Ruling}
-use Rattle.packet.specs.Ruling.{rulingOf}
 use Rattle.receiver.specs.Report.{rulingEpoch, replyPorts}
 use Rattle.rows.specs.declared.group.Group.{Group}
 use Rattle.rows.specs.Port.{Port, portAt}
+use Rattle.step.specs.Own.{ownRuling}
 use Rattle.step.specs.Arrival.{flagOf}
 use mathlib.Core.Logic.{_≢_}
 use lib.ListN.{length}
@@ -30,7 +30,7 @@ use Rattle.invariant.specs.Claims.{tagIn}
 
 -- the packet that rules a port, read
 abbrev pub ruledBy : Group → Port → Ruling
-ruledBy g p = rulingOf (g .kind) (rulingEpoch g) (p .ruling)
+ruledBy g p = ownRuling (g .kind) (rulingEpoch g) (p .ruling)
 
 -- two states in which the same packets rule
 pub record SameRule (n : ℕ) (s t : List (List ℕ)) : Type 0 where

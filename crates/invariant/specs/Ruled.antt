@@ -5,14 +5,12 @@ use mathlib.Core.Bool.{true, false, cond}
 use mathlib.Core.List.{List, _∷_, _++_}
 use Prim.Native.Nat.{ℕ, _<_}
 use Rattle.packet.specs.Kinds.{epochAfter}
-use Rattle.receiver.specs.Report.{rulingEpoch}
 use Rattle.rows.specs.declared.group.Group.{Group}
 use Rattle.rows.specs.Group.{groupAt}
 use Rattle.rows.specs.Port.{Port, portAt}
 use Rattle.step.specs.Arrival.{flagOf}
 use Rattle.store.specs.Frames.{packetIn}
 use Rattle.store.specs.Marks.{firstMark}
-use Rattle.packet.specs.Layout.{fieldsOf}
 use Rattle.invariant.specs.Calls.{Fetch, Frame, Receiver, ReceiverCall, portAfter, receiverRun, receiverStep}
 use Rattle.invariant.specs.Claims.{Claimed, HandedBy}
 
@@ -65,8 +63,3 @@ pub data OneEpoch (x : Receiver) (calls : List ReceiverCall) : Type 0 where
       → portAt (receiverRun x calls .rows) j .ruling ≡ packetIn (groupAt (receiverRun x earlier .rows)) j (receiverStep (receiverRun x earlier) call .store))
       → groupAt (receiverRun x calls .rows) .oldest ≡ epochAfter (groupAt (receiverRun x earlier .rows) .kind) (groupAt (receiverRun x earlier .rows) .oldest)
       → OneEpoch x calls
-
--- each packet that rules carries the number of the epoch before the oldest
-abbrev pub NumberedIn : Receiver → Type 0
-NumberedIn x =
-    (j : ℕ) → j < groupAt (x .rows) .count → flagOf (portAt (x .rows) j .step .whole) ≡ true → fieldsOf (portAt (x .rows) j .ruling) .epoch ≡ rulingEpoch (groupAt (x .rows))

@@ -10,13 +10,14 @@ use Rattle.ground.specs.Table.{tabulate}
 use Rattle.judge.specs.Order.{orderOf}
 use Rattle.judge.specs.Verdict.{HELD, judgeOf}
 use Rattle.packet.specs.Kinds.{epochAfter, epochOf, frames}
+use Rattle.packet.specs.Layout.{fieldsOf}
 use Rattle.phases.specs.Beginning.{foremost}
 use Rattle.phases.specs.Settling.{settledOf}
 use Rattle.phases.specs.Sizes.{portsIn}
 use Rattle.receiver.specs.Fetch.{dueIn, fetchOut, fetchRows, fits, reportIfDue}
 use Rattle.receiver.specs.Frame.{frameAnswer, frameRows, settledBy, takenIn}
 use Rattle.receiver.specs.Laws.Bytes.{frameBytes, reportByte}
-use Rattle.receiver.specs.Report.{seenAll}
+use Rattle.receiver.specs.Report.{rulingEpoch, seenAll, seenOf}
 use Rattle.receiver.specs.Starting.{startAnswer}
 use Rattle.rows.specs.declared.group.Group.{Group}
 use Rattle.rows.specs.Group.{groupAt}
@@ -39,7 +40,7 @@ use Rattle.invariant.specs.Proofs.Reports.Seen as Seen
 use Rattle.invariant.specs.Proofs.Ruled as Rules
 use Rattle.invariant.specs.Proofs.Settles as Settles
 use Rattle.invariant.specs.Reports.{Given, HeldReport, Others, Refused, SameRule, Stored, Unstopped, ackIn, nextReport, reportsOf, successive}
-use Rattle.invariant.specs.Ruled.{NumberedIn, OneEpoch}
+use Rattle.invariant.specs.Ruled.{OneEpoch}
 
 -- After any calls.
 
@@ -69,14 +70,14 @@ pub mark-claimed : (s : List (List ℕ)) (store : List ℕ) (j : ℕ) → flagOf
     → Claimed s store j (tagIn (groupAt s) d) (tabulate (groupAt s .payload) (λ k. getD store (placeIn (groupAt s) j d + k) 0)) (h4At (groupAt s) j d store)
 mark-claimed = Claims.mark-claimed
 
--- all packets that rule are of one epoch, and each carries its number
+-- all packets that rule are of one epoch, the one before the oldest
 pub one-epoch : (kind count P W : ℕ) (rows : List (List ℕ)) (store : List ℕ) → startAnswer kind count P W (length store) (length rows) ≡ 0 → (calls : List ReceiverCall)
     → OneEpoch (startedWith kind count P W rows store) calls
 one-epoch = Rules.one-epoch
 
-pub ruling-numbered : (kind count P W : ℕ) (rows : List (List ℕ)) (store : List ℕ) → startAnswer kind count P W (length store) (length rows) ≡ 0 → (calls : List ReceiverCall)
-    → NumberedIn (receiverRun (startedWith kind count P W rows store) calls)
-ruling-numbered = Numbered.ruling-numbered
+-- on every state a packet that rules and is read as good carries that epoch's number (request 2026-04)
+pub own-number : (g : Group) (s : List (List ℕ)) (i : ℕ) → seenOf g s i .good ≡ true → fieldsOf (portAt s i .ruling) .epoch ≡ rulingEpoch g
+own-number = Numbered.own-number
 
 -- Reports, on every state.
 

@@ -4,3 +4,4 @@ mod Place
 mod Later
 mod Beginning
 mod Order
+mod Step

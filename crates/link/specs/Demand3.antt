@@ -96,3 +96,9 @@ pub record Demand3 (k : Link) : Type 0 where
   -- the fetches of every turn have ended by themselves
   pub fetched-out : (m₀ : Moment) → Started k m₀ → (at : Time k) → NoneDue k (standing k (ownRun k m₀) at)
   pub never-alike : (j : Link) → AssumedOver j → Alike k j → NeverAlike k j
+
+-- Which frames demand 3 spares the multiframe number in is said by the lines alone (Lines, `spared`). They are those that are handed before receiving has begun in the receiver's own run, and the one with which it begins: at every
+-- moment receiving has not begun if and only if up to it not all ports were ready.
+pub record UntilBegun (k : Link) (run : Run) (at : Time k) : Type 0 where
+  pub unready : hasBegun (standing k run at) ≡ 0 → Unready (roadOf k) (at .t) (at .done)
+  pub not-begun : Unready (roadOf k) (at .t) (at .done) → hasBegun (standing k run at) ≡ 0

@@ -1,11 +1,11 @@
 pub mod Sending
 pub mod History
-pub mod Link
-pub mod Assumed
 pub mod Told
 pub mod Road
 pub mod Running
 pub mod Moments
+pub mod Link
+pub mod Assumed
 pub mod Demand3
 pub mod Proofs
 pub mod Theorems

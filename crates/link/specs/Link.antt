@@ -3,7 +3,7 @@ use mathlib.Core.Path.{_≡_}
 use mathlib.Core.Logic.{_⊎_}
 use mathlib.Core.Bool.{Bool, true, false, cond, _&&_}
 use mathlib.Core.List.{List, [], _∷_, _++_}
-use Prim.Native.Nat.{ℕ, zero, suc, _+_, _*_, _/_, _%_, _≤_, _<_}
+use Prim.Native.Nat.{ℕ, zero, suc, _+_, _-_, _*_, _%_, _≤_, _<_}
 use lib.Dec.{eqb}
 use lib.ListN.{drop, getD, length}
 use Rattle.counting.specs.Words.{every}
@@ -12,6 +12,7 @@ use Rattle.packet.specs.Counts.{nibbleIn, nibblePlace}
 use Rattle.packet.specs.Kinds.{firstTag, frames, lead}
 use Rattle.packet.specs.Theorems.Damage.{changed}
 use Rattle.phases.specs.Sizes.{sized}
+use Rattle.link.specs.Moments.{Unready}
 use Rattle.link.specs.Road.{Below, Road, times}
 use Rattle.link.specs.Sending.{Client, Covered, Lawful, Pairing, Sending, epochAt, epochNumber, epochStart}
 use Rattle.link.specs.Told.{Told}
@@ -49,53 +50,18 @@ epochFrames k = frames (kindOf k)
 abbrev pub sentTo : Link → ℕ → ℕ → List ℕ
 sentTo k i p = k .sending .packet i (k .pairing p)
 
--- 'none in its multiframe numbers': a packet's H4 bytes came with the MFI1 of each frame as sent, which tells its place, and with both nibbles of MFI2, in the frames with MFI1 0 and 1
-pub record CountKept (kind : ℕ) (sent came : List ℕ) : Type 0 where
-  pub first : (k : ℕ) → k < frames kind → nibblePlace kind (getD came k 0) ≡ nibblePlace kind (getD sent k 0)
-  pub high : nibbleIn kind (getD came (lead kind) 0) ≡ nibbleIn kind (getD sent (lead kind) 0)
-  pub low : nibbleIn kind (getD came (lead kind + 1) 0) ≡ nibbleIn kind (getD sent (lead kind + 1) 0)
-
--- 'with one to three bits changed, none in its multiframe numbers': how many at most is the sending side's to say
+-- 'with one to three bits changed' (the minutes), 'anywhere in a packet's 64, MFI1 still coming as sent' (request 2026-04): how many at most is the sending side's to say
 pub record Damaged (kind changes : ℕ) (sent came : List ℕ) : Type 0 where
   pub long : length came ≡ frames kind
   pub bytes : (k : ℕ) → k < frames kind → getD came k 0 < 256
   pub least : 1 ≤ changed sent came
   pub most : changed sent came ≤ changes
-  pub counted : CountKept kind sent came
+  -- MFI1 of each frame, which tells its place
+  pub placed : (k : ℕ) → k < frames kind → nibblePlace kind (getD came k 0) ≡ nibblePlace kind (getD sent k 0)
 
 -- 'Let each packet arrive as sent, or ..'
 abbrev pub Arrived : ℕ → ℕ → List ℕ → List ℕ → Type 0
 Arrived kind changes sent came = (came ≡ sent) ⊎ Damaged kind changes sent came
-
--- What demand 3 lets be so of the client, the lines and what is lent. That each frame comes once, with its payload undamaged and not flagged failed, that reports are fetched after each frame, and that the receiver's
--- state and the store stay untouched between calls is said by how the receiver is called on this road.
-pub record Lines (k : Link) : Type 0 where
-  -- 01, 'Numbers that bound the work'
-  pub sizes : sized (kindOf k) (k .ports) (k .payload) (k .window) ≡ true
-  -- 'any client bytes'; 'a group frame has X x P bytes'
-  pub client : (x : ℕ) → length (k .client x) ≡ k .sending .x (epochAt (kindOf k) x) * k .payload
-  -- 'spread at most the window less 16 frames'
-  pub spread : (p q : ℕ) → p < k .ports → q < k .ports → k .delay p + epochFrames k ≤ k .delay q + k .window
-  -- 'in any port order within a frame time': every port once in each
-  pub once : (t p : ℕ) → p < k .ports → times p (k .order t) ≡ 1
-  pub only : (t : ℕ) → Below (k .ports) (k .order t)
-  -- what came of each packet
-  pub arrived : (i p : ℕ) → p < k .ports → Arrived (kindOf k) (k .sending .changes) (sentTo k i p) (k .came i p)
-  -- 'The lent output holds at least ports x 16 x P bytes'
-  pub room : (j : ℕ) → k .ports * epochFrames k * k .payload ≤ length (k .output j)
-  -- and the record any eight
-  pub eight : (a j : ℕ) → length (k .lent a j) ≡ 8
-
--- What demand 3 over any sending side lets be so.
-pub record AssumedOver (k : Link) : Type 0 where
-  pub lawful : Lawful (k .sending) (k .payload) (k .client)
-  pub lines : Lines k
-  -- each port has a slot of its own
-  pub paired : Pairing (k .ports) (k .sending .slots) (k .pairing)
-  -- every slot that is not IDLE in an epoch that starts at or after some position reaches a port, and no port's first frame is before that position: an epoch in which it falls had its packets fixed before, and rules no reported one
-  pub earliest : ℕ
-  pub not-before : (p : ℕ) → p < k .ports → earliest ≤ k .first p
-  pub covered : (i : ℕ) → earliest ≤ epochStart (kindOf k) i → Covered (k .sending) i (k .ports) (k .pairing)
 
 -- what reaches the receiver: each port gets its slot's frames
 unfoldable pub roadOf : Link → Road
@@ -114,6 +80,50 @@ roadOf k =
       output = k .output;
       lent = k .lent;
     }
+
+-- the frame at a place of a packet brings a nibble of MFI2, the high or the low one
+abbrev pub BringsMfi2 : ℕ → ℕ → Type 0
+BringsMfi2 kind place = (place ≡ lead kind) ⊎ (place ≡ lead kind + 1)
+
+-- port p's frame in frame time t brings, if one of MFI2, the nibble that was sent
+abbrev pub NumberKept : Link → ℕ → ℕ → Type 0
+NumberKept k t p =
+    let x = t - k .delay p in
+    BringsMfi2 (kindOf k) (x % epochFrames k)
+    → nibbleIn (kindOf k) (getD (k .came (epochAt (kindOf k) x) p) (x % epochFrames k) 0) ≡ nibbleIn (kindOf k) (getD (sentTo k (epochAt (kindOf k) x) p) (x % epochFrames k) 0)
+
+-- What demand 3 lets be so of the client, the lines and what is lent. That each frame comes once, with its payload undamaged and not flagged failed, that reports are fetched after each frame, and that the receiver's
+-- state and the store stay untouched between calls is said by how the receiver is called on this road.
+pub record Lines (k : Link) : Type 0 where
+  -- 01, 'Numbers that bound the work'
+  pub sizes : sized (kindOf k) (k .ports) (k .payload) (k .window) ≡ true
+  -- 'any client bytes'; 'a group frame has X x P bytes'
+  pub client : (x : ℕ) → length (k .client x) ≡ k .sending .x (epochAt (kindOf k) x) * k .payload
+  -- 'spread at most the window less 16 frames'
+  pub spread : (p q : ℕ) → p < k .ports → q < k .ports → k .delay p + epochFrames k ≤ k .delay q + k .window
+  -- 'in any port order within a frame time': every port once in each
+  pub once : (t p : ℕ) → p < k .ports → times p (k .order t) ≡ 1
+  pub only : (t : ℕ) → Below (k .ports) (k .order t)
+  -- what came of each packet
+  pub arrived : (i p : ℕ) → p < k .ports → Arrived (kindOf k) (k .sending .changes) (sentTo k i p) (k .came i p)
+  -- 'Demand 3 then spares the multiframe number only until receiving begins' (request 2026-04): the frame of port p comes in frame time t, after those of `done`, and up to then not all ports were ready. So it is handed before receiving
+  -- has begun, or receiving begins with it.
+  pub spared : (t p : ℕ) (done rest : List ℕ) → p < k .ports → k .order t ≡ done ++ (p ∷ rest) → k .delay p + k .first p ≤ t → Unready (roadOf k) t done → NumberKept k t p
+  -- 'The lent output holds at least ports x 16 x P bytes'
+  pub room : (j : ℕ) → k .ports * epochFrames k * k .payload ≤ length (k .output j)
+  -- and the record any eight
+  pub eight : (a j : ℕ) → length (k .lent a j) ≡ 8
+
+-- What demand 3 over any sending side lets be so.
+pub record AssumedOver (k : Link) : Type 0 where
+  pub lawful : Lawful (k .sending) (k .payload) (k .client)
+  pub lines : Lines k
+  -- each port has a slot of its own
+  pub paired : Pairing (k .ports) (k .sending .slots) (k .pairing)
+  -- every slot that is not IDLE in an epoch that starts after some position reaches a port, and no port's first frame is before that position: the epoch in which it falls had its packets fixed before, and rules no reported one
+  pub earliest : ℕ
+  pub not-before : (p : ℕ) → p < k .ports → earliest ≤ k .first p
+  pub covered : (i : ℕ) → earliest < epochStart (kindOf k) i → Covered (k .sending) i (k .ports) (k .pairing)
 
 -- two lists byte for byte
 abbrev pub sameBytes : List ℕ → List ℕ → Bool

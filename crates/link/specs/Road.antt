@@ -1,15 +1,10 @@
 -- What reaches the receiver, and when (the minutes, demand 3). Nothing here knows what the frames mean.
 -- A line's frames have positions 0, 1, 2, .. in an endless count; the frame at position x has the tag of x + offset.
-use mathlib.Core.Path.{_≡_}
-use mathlib.Core.Bool.{true, cond}
+use mathlib.Core.Bool.{cond}
 use mathlib.Core.List.{List, [], _∷_}
-use Prim.Native.Nat.{ℕ, _+_, _*_, _≤_, _<_}
+use Prim.Native.Nat.{ℕ, _+_, _<_}
 use lib.Dec.{eqb}
-use lib.ListN.{length}
-use Rattle.packet.specs.Kinds.{frames, startsEpoch}
-use Rattle.phases.specs.Sizes.{sized}
-use Rattle.receiver.specs.Laws.Sizes.{Sizes, sizes-of}
-use Rattle.step.specs.Laws.Sent.{SentWith}
+use Rattle.packet.specs.Kinds.{frames}
 
 pub record Road : Type 0 where
   pub kind : ℕ
@@ -45,23 +40,3 @@ times p (q ∷ qs) = cond (eqb p q) 1 0 + times p qs
 abbrev pub Below : ℕ → List ℕ → Type 0
 Below n [] = Unit {0}
 Below n (q ∷ qs) = (q < n) × Below n qs
-
--- the assumptions of demand 3 that concern the transport alone
-pub record Fair (r : Road) : Type 0 where
-  -- 01, 'Numbers that bound the work'
-  pub sizes : sized (r .kind) (r .ports) (r .payload) (r .window) ≡ true
-  -- the multiframe numbers come as sent
-  pub counted : (p x : ℕ) → p < r .ports → r .first p ≤ x → SentWith (r .kind) (r .offset + x) (r .h4 p x)
-  pub long : (p x : ℕ) → p < r .ports → length (r .bytes p x) ≡ r .payload
-  -- 'spread at most the window less 16 frames'
-  pub spread : (p q : ℕ) → p < r .ports → q < r .ports → r .delay p + L r ≤ r .delay q + r .window
-  -- every port once in each frame time
-  pub once : (t p : ℕ) → p < r .ports → times p (r .order t) ≡ 1
-  pub only : (t : ℕ) → Below (r .ports) (r .order t)
-  pub room : (k : ℕ) → r .ports * L r * r .payload ≤ length (r .output k)
-  pub eight : (a k : ℕ) → length (r .lent a k) ≡ 8
-  -- position 0 starts an epoch
-  pub starts : startsEpoch (r .kind) (r .offset) ≡ true
-
-pub sizes-in : (r : Road) → Fair r → Sizes (r .kind) (r .ports) (r .payload) (r .window)
-sizes-in r f = sizes-of (r .kind) (r .ports) (r .payload) (r .window) (f .sizes)

@@ -1,10 +1,11 @@
 -- Demand 3 says something: a link on which all that it lets be so holds, its run computed to the reports, a link with one frame of spread too many, whose run goes wrong, receivers that are shut out,
--- two links that differ in one epoch of the client's bytes, and a link with fewer ports than slots.
-mod Members
-mod Met
-mod Computing
-mod Reports
+-- two links that differ in one epoch of the client's bytes, a link with fewer ports than slots, and links with MFI2 damaged after the beginning and before it.
+pub mod Members
+pub mod Met
+pub mod Computing
+pub mod Reports
 mod TooWide
 mod ShutOut
 mod Apart
 mod FewerPorts
+mod Numbers

@@ -15,8 +15,8 @@ use Rattle.packet.specs.Kinds.{epochs, firstTag, frames}
 use Rattle.packet.specs.Theorems.Damage.{changed}
 use Rattle.packet.specs.Words.{IDLE}
 use Rattle.payload.specs.Order.{memberFrame}
-use Rattle.packet.specs.Ruling.{rulingOf}
 use Rattle.step.specs.Laws.Sent.{SentWith}
+use Rattle.step.specs.Own.{oddPacket, ownRuling}
 
 pub record Sending : Type 0 where
   -- the kind of its packets, how many slots there are, and the number of the first epoch
@@ -91,11 +91,14 @@ pub record Lawful (s : Sending) (P : ℕ) (client : Client) : Type 0 where
       → SentWith (s .kind) (firstTag (s .kind) (s .first) + (epochStart (s .kind) i + k)) (getD (s .packet i slot) k 0)
   -- each reads as said
   pub reads : (i slot : ℕ) → slot < s .slots
-      → rulingOf (s .kind) (epochNumber (s .kind) (s .first) i) (nibblesIn (s .kind) (s .packet i slot))
+      → ownRuling (s .kind) (epochNumber (s .kind) (s .first) i) (nibblesIn (s .kind) (s .packet i slot))
       ≡ record { good = true; word = s .word i slot; number = s .number i slot; gid = s .gid i slot }
   -- a changed one is refused
   pub refused : (i slot : ℕ) (came : List ℕ) → slot < s .slots → 1 ≤ changed (s .packet i slot) came → changed (s .packet i slot) came ≤ s .changes
-      → rulingOf (s .kind) (epochNumber (s .kind) (s .first) i) (nibblesIn (s .kind) came) .good ≡ false
+      → ownRuling (s .kind) (epochNumber (s .kind) (s .first) i) (nibblesIn (s .kind) came) .good ≡ false
+  -- and shows by its CRC that it is
+  pub even : (i slot : ℕ) (came : List ℕ) → slot < s .slots → 1 ≤ changed (s .packet i slot) came → changed (s .packet i slot) came ≤ s .changes
+      → oddPacket (epochNumber (s .kind) (s .first) i) (nibblesIn (s .kind) came) ≡ false
   -- all as said rule
   pub rules : (i n : ℕ) (slotOf : ℕ → ℕ) (ports : List Seen) → Pairing n (s .slots) slotOf → Covered s i n slotOf
       → ((p : ℕ) → p < n → seenAt ports p ≡ seenSent s i (slotOf p)) → Rules s P client i n slotOf ports

@@ -4,12 +4,13 @@ use mathlib.Core.List.{List}
 use Prim.Native.Nat.{ℕ, _<_}
 use lib.ListN.{length}
 use Rattle.link.specs.Assumed.{Assumed}
-use Rattle.link.specs.Demand3.{Demand3}
+use Rattle.link.specs.Demand3.{Demand3, Started, Time, UntilBegun, ownRun}
 use Rattle.link.specs.History.{Allowed, Handed, History, sendingOf}
 use Rattle.link.specs.Link.{AssumedOver, Link}
 use Rattle.link.specs.Proofs.Histories.Lawful.{history-lawful}
 use Rattle.link.specs.Proofs.Histories.Ours.{ours}
-use Rattle.link.specs.Proofs.Over.{over}
+use Rattle.link.specs.Proofs.Over.{over, until-begun}
+use Rattle.link.specs.Running.{Moment}
 use Rattle.link.specs.Sending.{Client, Lawful}
 
 -- over any sending side
@@ -19,6 +20,10 @@ demand3-over k a = over k a
 -- for our sender's histories, as the minutes have it
 pub demand3 : (k : Link) → Assumed k → Demand3 k
 demand3 k a = demand3-over k (ours k a)
+
+-- the multiframe number is spared until receiving begins, and no longer (request 2026-04)
+pub spared-until : (k : Link) → AssumedOver k → (m₀ : Moment) → Started k m₀ → (at : Time k) → UntilBegun k (ownRun k m₀) at
+spared-until k a m₀ o at = until-begun k a m₀ o at
 
 -- Our sender's histories keep the laws of a sending side, whatever slots with no rank carry and whichever slots reach a port.
 pub histories-lawful : (h : History) → Allowed h → (P : ℕ) (client : Client) → Handed h P client

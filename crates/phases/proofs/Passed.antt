@@ -5,7 +5,7 @@ use mathlib.Core.List.{List}
 use Prim.Native.Nat.{ℕ}
 use Rattle.packet.specs.declared.ruling.Ruling.{Ruling}
 use Rattle.phases.specs.Passing.{notedBy, passedPort, passedStep, ruledBy}
-use Rattle.packet.specs.Ruling.{rulingOf}
+use Rattle.step.specs.Own.{ownRuling}
 use Rattle.rows.specs.declared.group.Group.{Group}
 use Rattle.rows.specs.declared.member.Member.{Member}
 use Rattle.rows.specs.declared.step.Step.{Step}
@@ -31,7 +31,7 @@ pub passed-is : (g : Group) (store : List ℕ) (i : ℕ) (s : List (List ℕ))
     → row ≡ marksAt s i
     → whole ≡ firstMark row
     → nibbles ≡ packetIn g i store
-    → ruling ≡ rulingOf (g .kind) (g .oldest) nibbles
+    → ruling ≡ ownRuling (g .kind) (g .oldest) nibbles
     → member ≡ memberAt s i
     → packets ≡ packetsAt s i
     → step ≡ stepAt s i

@@ -5,7 +5,7 @@ use Prim.Native.Nat.{ℕ, zero, suc, _-_}
 use lib.ListN.{set}
 use Rattle.packet.specs.Kinds.{epochAfter, frames}
 use Rattle.packet.specs.declared.ruling.Ruling.{Ruling}
-use Rattle.packet.specs.Ruling.{rulingOf}
+use Rattle.step.specs.Own.{ownRuling}
 use Rattle.rows.specs.declared.group.Group.{Group}
 use Rattle.rows.specs.declared.member.Member.{Member}
 use Rattle.rows.specs.declared.step.Step.{Step}
@@ -32,8 +32,8 @@ passedStep s whole =
       since = s .since;
       later = s .later - 1;
       whole = cond whole 1 0;
-      «spare_9» = s .«spare_9»;
-      «spare_10» = s .«spare_10»;
+      breaks = s .breaks;
+      odd = s .odd;
       «spare_11» = s .«spare_11»;
       «spare_12» = s .«spare_12»;
       «spare_13» = s .«spare_13»;
@@ -67,7 +67,7 @@ unfoldable pub passedPort : Group → List ℕ → ℕ → List (List ℕ) → L
 passedPort g store i s =
     let whole = firstMark (marksAt s i) in
     let nibbles = packetIn g i store in
-    let a = putMember s i (notedBy (memberAt s i) whole (rulingOf (g .kind) (g .oldest) nibbles)) in
+    let a = putMember s i (notedBy (memberAt s i) whole (ownRuling (g .kind) (g .oldest) nibbles)) in
     let b = putPackets a i (ruledBy (packetsAt s i) whole nibbles) in
     let c = putStep b i (passedStep (stepAt s i) whole) in
     putMarks c i (passedMarks (marksAt s i))

@@ -42,8 +42,8 @@ fn passed_step(s: Step, whole: bool) -> Step
         since: s.since,
         later: one_less(s.later),
         whole: flag_for(whole),
-        spare_9: s.spare_9,
-        spare_10: s.spare_10,
+        breaks: s.breaks,
+        odd: s.odd,
         spare_11: s.spare_11,
         spare_12: s.spare_12,
         spare_13: s.spare_13,
@@ -88,7 +88,7 @@ fn pass_port(group: Group, store: &[u8], port: u8, state: &mut [[u8; 16]])
     let row = rows::packets::marks(state, port);
     let whole = marks::first(row);
     let nibbles = frames::packet_in(group, port, store);
-    let ruling = packet::ruling_of(group.kind, group.oldest, nibbles);
+    let ruling = step::ruling_of(group.kind, group.oldest, nibbles);
     let member = rows::member::get(state, port);
     let packets = rows::packets::get(state, port);
     let step = rows::step::get(state, port);

@@ -1,18 +1,18 @@
 -- What a frame leaves, by what the parts of the code leave.
 use mathlib.Core.Path.{_≡_, refl, sym, subst, _∙_}
 use mathlib.Core.Bool.{Bool, true, false, cond, _&&_, _||_, true≢false}
-use mathlib.Core.List.{List}
+use mathlib.Core.List.{List, []}
 use Prim.Native.Nat.{ℕ, _+_, _*_, _<_}
 use native.Mathlib.Omega.{arith}
 use lib.Dec.{ltb}
-use lib.ListN.{length, replicate}
+use lib.ListN.{getD, length, replicate}
 use lib.Seq.{set-getD}
 use borrow.Author.Tests.{eq-eqb, ltb-true, ne-eqb}
 use Rattle.packet.specs.Counts.{nibbleIn}
 use Rattle.packet.specs.Kinds.{endsEpoch, epochsIn, placeOf, tagAfter}
 use Rattle.packet.specs.Laws.Distances.{place-back}
 use Rattle.phases.specs.Sizes.{portsIn}
-use Rattle.receiver.specs.Frame.{decidedAnswer, decidedRows, decidedStore, frameAnswer, frameRefusal, frameRows, frameStore, gatheredBy, marksBy, ownTag, portRows, refusalBy, settledBy, steadyRows, storeBy, takenRows, takenStore}
+use Rattle.receiver.specs.Frame.{decidedAnswer, decidedRows, decidedStore, frameAnswer, frameRefusal, frameRows, frameStore, gatheredBy, marksBy, ownTag, portRows, refusalBy, settledBy, steadyRows, storeBy, takenIn, takenRows, takenStore}
 use Rattle.receiver.specs.Lengths.{frameFits}
 use Rattle.rows.specs.declared.group.Group.{Group}
 use Rattle.rows.specs.declared.step.Step.{Step}
@@ -24,7 +24,8 @@ use Rattle.rows.specs.Rows.{putRow, rowIn}
 use Rattle.rows.specs.Step.{putStep, stepAt, withNext}
 use Rattle.step.specs.declared.arrival.Taken.{Taken}
 use Rattle.step.specs.Arrival.{distanceIn, takenOf}
-use Rattle.step.specs.Laws.Steady.{mid-epoch-goes-on, steady-taken}
+use Rattle.step.specs.Laws.Steady.{mid-epoch-goes-on, mid-even, steady-taken}
+use Rattle.step.specs.Own.{endsOdd}
 use Rattle.step.specs.Steady.{midEpoch, steady, steadyTaken}
 use Rattle.store.specs.Frames.{placeIn, storedAt}
 use Rattle.store.specs.Marks.{cutFrom, markedAt}
@@ -67,12 +68,13 @@ module _ (s : List (List ℕ)) (i : ℕ) (failed : Bool) (h : ℕ) (payload stor
   frame-decided a rows kept eg en er z ea erows ek = rw (← same-refusal eg en er, eq-eqb r 0 z) (ea, erows, ek)
 
 module _ (s : List (List ℕ)) (i : ℕ) (failed : Bool) (h : ℕ) (payload store : List ℕ) (g : Group) (step : Step) (eg : g ≡ groupAt s) (es : step ≡ stepAt s i) where
-  pub decided-by : (n : ℕ) (t : Taken) (rows : List (List ℕ)) (kept : List ℕ) → n ≡ portsIn g → t ≡ takenOf g step failed h
+  pub decided-by : (n : ℕ) (packets : List (List ℕ)) (odd : Bool) (t : Taken) (rows : List (List ℕ)) (kept : List ℕ) → n ≡ portsIn g → packets ≡ packetsAt s i
+      → odd ≡ endsOdd (g .kind) (getD packets 0 []) (step .next) h → t ≡ takenOf g step failed odd h
       → rows ≡ takenRows g n s i t h payload store → kept ≡ takenStore g i t h payload store
-      → (t .answer ≡ takenOf (groupAt s) (stepAt s i) failed h .answer)
-      × (rows ≡ takenRows (groupAt s) (portsIn (groupAt s)) s i (takenOf (groupAt s) (stepAt s i) failed h) h payload store)
-      × (kept ≡ takenStore (groupAt s) i (takenOf (groupAt s) (stepAt s i) failed h) h payload store)
-  decided-by n t rows kept en et erows ek = rw (← eg, ← en, ← es, ← et) (refl, erows, ek)
+      → (t .answer ≡ takenIn s i failed h .answer)
+      × (rows ≡ takenRows (groupAt s) (portsIn (groupAt s)) s i (takenIn s i failed h) h payload store)
+      × (kept ≡ takenStore (groupAt s) i (takenIn s i failed h) h payload store)
+  decided-by n packets odd t rows kept en ep eo et erows ek = rw (← eg, ← en, ← es, ← ep, ← eo, ← et) (refl, erows, ek)
 
 -- What is put back as it was changes nothing.
 module _ (s : List (List ℕ)) (i : ℕ) where
@@ -140,18 +142,19 @@ module _ (s : List (List ℕ)) (i h : ℕ) (g : Group) where
 module _ (s : List (List ℕ)) (i : ℕ) (failed : Bool) (h : ℕ) (payload store : List ℕ) (g : Group) (eg : g ≡ groupAt s) where
   steady-arrives : (rows : List (List ℕ)) (kept : List ℕ) → steady g (stepAt s i) failed h ≡ true → midEpoch g (distanceIn g (stepAt s i .next)) ≡ true
       → rows ≡ steadyRows (g .kind) (stepAt s i .next) h i s → kept ≡ storedAt store (placeIn g i (distanceIn g (stepAt s i .next))) payload h
-      → (0 ≡ takenOf (groupAt s) (stepAt s i) failed h .answer)
-      × (rows ≡ takenRows (groupAt s) (portsIn (groupAt s)) s i (takenOf (groupAt s) (stepAt s i) failed h) h payload store)
-      × (kept ≡ takenStore (groupAt s) i (takenOf (groupAt s) (stepAt s i) failed h) h payload store)
+      → (0 ≡ takenIn s i failed h .answer)
+      × (rows ≡ takenRows (groupAt s) (portsIn (groupAt s)) s i (takenIn s i failed h) h payload store)
+      × (kept ≡ takenStore (groupAt s) i (takenIn s i failed h) h payload store)
   unfolding takenRows takenStore storeBy settledBy steadyTaken
   steady-arrives rows kept st w er ek =
-      rw (← eg, steady-taken g (stepAt s i) failed h st w) (refl, er ∙ sym (steady-rows s i h g w), ek)
+      rw (← eg, steady-taken g (stepAt s i) failed (endsOdd (g .kind) (getD (packetsAt s i) 0 []) (stepAt s i .next) h) h st w (mid-even g (stepAt s i) (getD (packetsAt s i) 0 []) h w))
+      (refl, er ∙ sym (steady-rows s i h g w), ek)
 
   pub arrive-steady : (step : Step) (at : ℕ) (rows : List (List ℕ)) (kept : List ℕ) → step ≡ stepAt s i → steady g step failed h ≡ true → at ≡ distanceIn g (step .next) → midEpoch g at ≡ true
       → rows ≡ steadyRows (g .kind) (step .next) h i s → kept ≡ storedAt store (placeIn g i at) payload h
-      → (0 ≡ takenOf (groupAt s) (stepAt s i) failed h .answer)
-      × (rows ≡ takenRows (groupAt s) (portsIn (groupAt s)) s i (takenOf (groupAt s) (stepAt s i) failed h) h payload store)
-      × (kept ≡ takenStore (groupAt s) i (takenOf (groupAt s) (stepAt s i) failed h) h payload store)
+      → (0 ≡ takenIn s i failed h .answer)
+      × (rows ≡ takenRows (groupAt s) (portsIn (groupAt s)) s i (takenIn s i failed h) h payload store)
+      × (kept ≡ takenStore (groupAt s) i (takenIn s i failed h) h payload store)
   arrive-steady step at rows kept es st ea w er ek =
       steady-arrives rows kept (subst (λ q. steady g q failed h ≡ true) es st) (subst (λ q. midEpoch g (distanceIn g (q .next)) ≡ true) es (subst (λ d. midEpoch g d ≡ true) ea w))
       (subst (λ q. rows ≡ steadyRows (g .kind) (q .next) h i s) es er)

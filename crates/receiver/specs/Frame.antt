@@ -15,10 +15,11 @@ use Rattle.rows.specs.Packets.{marksAt, packetsAt, putMarks, putPackets, withNi
 use Rattle.rows.specs.Step.{putStep, stepAt, withNext}
 use Rattle.step.specs.declared.arrival.Taken.{Taken}
 use Rattle.step.specs.Arrival.{takenOf}
+use Rattle.step.specs.Own.{endsOdd}
 use Rattle.store.specs.Frames.{placeIn, storedAt}
 use Rattle.store.specs.Marks.{cutFrom, markedAt}
 
--- the receiver's own tag of a counted frame: the one before the tag to come
+-- the receiver's own tag of a counted frame (request 2026-04): the one before the tag to come
 abbrev pub ownTag : ℕ → Taken → ℕ
 ownTag kind t = tagBefore kind (t .step .next)
 
@@ -56,9 +57,13 @@ takenRows g n s i t h payload store =
 unfoldable pub takenStore : Group → ℕ → Taken → ℕ → List ℕ → List ℕ → List ℕ
 takenStore g i t h payload store = cond (eqb (t .answer) 11) store (storeBy g i t h payload store)
 
+-- whether the frame ends an odd packet, by the packet being gathered and the tag to come
+abbrev pub oddIn : List (List ℕ) → ℕ → ℕ → Bool
+oddIn s i h = endsOdd (groupAt s .kind) (getD (packetsAt s i) 0 []) (stepAt s i .next) h
+
 -- what the frame does, where it is neither 1 nor 9
 abbrev pub takenIn : List (List ℕ) → ℕ → Bool → ℕ → Taken
-takenIn s i failed h = takenOf (groupAt s) (stepAt s i) failed h
+takenIn s i failed h = takenOf (groupAt s) (stepAt s i) failed (oddIn s i h) h
 
 abbrev pub decidedAnswer : List (List ℕ) → ℕ → Bool → ℕ → ℕ
 decidedAnswer s i failed h = takenIn s i failed h .answer

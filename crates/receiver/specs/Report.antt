@@ -13,7 +13,7 @@ use Rattle.judge.specs.Verdict.{HELD, judgeOf}
 use Rattle.packet.specs.Kinds.{epochOf, firstTag, frames, tagBefore}
 use Rattle.payload.specs.Joining.{joinedFrom}
 use Rattle.phases.specs.Passing.{groupTo, passedOf}
-use Rattle.packet.specs.Ruling.{rulingOf}
+use Rattle.step.specs.Own.{ownRuling}
 use Rattle.receiver.specs.declared.report.Report.{Report}
 use Rattle.reply.specs.Choosing.{statesOf}
 use Rattle.reply.specs.Telling.{ackOf}
@@ -35,7 +35,7 @@ rulingEpoch g = epochOf (g .kind) (tagBefore (g .kind) (firstTag (g .kind) (g .o
 -- what is seen of port i
 unfoldable pub seenOf : Group → List (List ℕ) → ℕ → Seen
 seenOf g s i =
-    let r = rulingOf (g .kind) (rulingEpoch g) (getD (packetsAt s i) 1 []) in
+    let r = ownRuling (g .kind) (rulingEpoch g) (getD (packetsAt s i) 1 []) in
     record {
       whole = flagOf (stepAt s i .whole);
       good = r .good;

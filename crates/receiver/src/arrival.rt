@@ -123,7 +123,10 @@ fn decided(
     let group = rows::group::get(state);
     let ports = phases::ports_in(group);
     let step = rows::step::get(state, port);
-    let taken = step::decide(group, step, failed, h4);
+    let packets = rows::packets::get(state, port);
+    let gathering = packets[0];
+    let odd = step::is_odd(group.kind, gathering, step.next, h4);
+    let taken = step::decide(group, step, failed, odd, h4);
     take(group, ports, state, port, taken, h4, payload, store);
     taken.answer
 }

@@ -34,7 +34,7 @@ fn seen_of(group: Group, state: &[[u8; 16]], port: u8) -> Seen
     let row = rows::packets::marks(state, port);
     let epoch = ruling_epoch(group);
     let nibbles = packets[1];
-    let ruling = packet::ruling_of(group.kind, epoch, nibbles);
+    let ruling = step::ruling_of(group.kind, epoch, nibbles);
     Seen {
         whole: flags::is_set(step.whole),
         good: ruling.good,

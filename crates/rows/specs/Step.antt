@@ -16,8 +16,8 @@ stepOf row =
       since = getD row 6 0;
       later = getD row 7 0;
       whole = getD row 8 0;
-      «spare_9» = getD row 9 0;
-      «spare_10» = getD row 10 0;
+      breaks = getD row 9 0;
+      odd = getD row 10 0;
       «spare_11» = getD row 11 0;
       «spare_12» = getD row 12 0;
       «spare_13» = getD row 13 0;
@@ -36,8 +36,8 @@ stepRow s =
     ∷ (s .since)
     ∷ (s .later)
     ∷ (s .whole)
-    ∷ (s .«spare_9»)
-    ∷ (s .«spare_10»)
+    ∷ (s .breaks)
+    ∷ (s .odd)
     ∷ (s .«spare_11»)
     ∷ (s .«spare_12»)
     ∷ (s .«spare_13»)
@@ -60,8 +60,8 @@ withNext q n =
       since = q .since;
       later = q .later;
       whole = q .whole;
-      «spare_9» = q .«spare_9»;
-      «spare_10» = q .«spare_10»;
+      breaks = q .breaks;
+      odd = q .odd;
       «spare_11» = q .«spare_11»;
       «spare_12» = q .«spare_12»;
       «spare_13» = q .«spare_13»;

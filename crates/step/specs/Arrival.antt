@@ -7,14 +7,14 @@ use Rattle.rows.specs.declared.group.Group.{Group}
 use Rattle.rows.specs.declared.step.Step.{Step}
 use Rattle.step.specs.declared.arrival.Taken.{Taken}
 use Rattle.step.specs.declared.run.Run.{Run}
-use Rattle.step.specs.Run.{inStepAt, runOn}
+use Rattle.step.specs.Run.{inStepAt, noRun, runOn}
 
 -- a flag byte other than 0 counts as set
 abbrev pub flagOf : ℕ → Bool
 flagOf byte = not (eqb byte 0)
 
 abbrev pub runOf : Step → Run
-runOf s = record { count = s .count; next = s .next }
+runOf s = record { count = s .count; next = s .next; breaks = s .breaks; odd = s .odd }
 
 unfoldable pub inStep : Group → Step → Bool
 inStep g s = inStepAt (g .kind) (s .count)
@@ -40,8 +40,8 @@ stepTo s failed run joined since later =
       since = since;
       later = later;
       whole = s .whole;
-      «spare_9» = s .«spare_9»;
-      «spare_10» = s .«spare_10»;
+      breaks = run .breaks;
+      odd = run .odd;
       «spare_11» = s .«spare_11»;
       «spare_12» = s .«spare_12»;
       «spare_13» = s .«spare_13»;
@@ -65,7 +65,7 @@ settlesAt g before now = not (flagOf (g .begun)) || inStep g before && not (inSt
 -- 10: 'signal-fail flag set on the frame', 'port recorded unreadable, its step lost'
 unfoldable pub flagged : Group → Step → Taken
 flagged g s =
-    let now = lost s 1 (record { count = 0; next = 0 }) in
+    let now = lost s 1 noRun in
     record { step = now; answer = 10; counted = false; kept = false; at = 0; joins = false; settles = settlesAt g s now }
 
 -- 12: 'port not in step after this frame', 'step record advanced, frame not stored'
@@ -107,15 +107,15 @@ byWindow g s run d = cond (ltb d (g .window)) (keeps g s run d) (outside s)
 unfoldable pub byStart : Group → Step → Run → ℕ → Taken
 byStart g s run d = cond (startsEpoch (g .kind) (s .next) && ltb d (g .window)) (joining g s run d) (frameDropped g s run)
 
--- a frame in step, with the tag that was to come next
+-- a frame in step: 'Frames take their tag from the receiver's own count' (request 2026-04), which is the tag that was to come next
 unfoldable pub arrives : Group → Step → Run → Taken
 arrives g s run =
     cond (not (flagOf (g .begun))) (frameDropped g s run)
     (cond (flagOf (s .joined)) (byWindow g s run (distanceIn g (s .next))) (byStart g s run (distanceIn g (s .next))))
 
--- 'For frames: .. 10, 12, 11.' The H4 byte of a flagged frame is not looked at.
-unfoldable pub takenOf : Group → Step → Bool → ℕ → Taken
-takenOf g s flag h =
+-- 'For frames: .. 10, 12, 11.' The H4 byte of a flagged frame is not looked at. By another it ends an odd packet or not.
+unfoldable pub takenOf : Group → Step → Bool → Bool → ℕ → Taken
+takenOf g s flag odd h =
     cond flag (flagged g s)
-    (let run = runOn (g .kind) (runOf s) h in
+    (let run = runOn (g .kind) (runOf s) odd h in
     cond (inStepAt (g .kind) (run .count)) (arrives g s run) (countsOn g s run))

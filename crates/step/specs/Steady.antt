@@ -16,6 +16,7 @@ steady g s flag h =
     not flag
     && eqb (s .had) 1
     && eqb (s .failed) 0
+    && eqb (s .breaks) 0
     && inStep g s
     && counts (g .kind) (s .next) h
     && flagOf (g .begun)

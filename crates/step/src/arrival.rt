@@ -61,8 +61,8 @@ fn step_to(step: Step, failed: u8, run: Run, joined: u8, since: u8, later: u8) -
         since,
         later,
         whole: step.whole,
-        spare_9: step.spare_9,
-        spare_10: step.spare_10,
+        breaks: run.breaks,
+        odd: run.odd,
         spare_11: step.spare_11,
         spare_12: step.spare_12,
         spare_13: step.spare_13,
@@ -82,7 +82,12 @@ fn settles_at(group: Group, before: Step, now: Step) -> bool
 fn flagged(group: Group, step: Step) -> Taken
     ensures { λ r. ⌜ r ≡ flagged group step ⌝ }
 {
-    let run = Run { count: 0, next: 0 };
+    let run = Run {
+        count: 0,
+        next: 0,
+        breaks: 0,
+        odd: 0,
+    };
     let now = step_to(step, 1, run, 0, 0, 0);
     let settles = settles_at(group, step, now);
     Taken {
@@ -210,9 +215,9 @@ fn arrives(group: Group, step: Step, run: Run) -> Taken
     by_start(group, step, run, at)
 }
 
-// What a frame does: flagged, or with its H4 byte.
-pub fn decide(group: Group, step: Step, failed: bool, h4: u8) -> Taken
-    ensures { λ r. ⌜ r ≡ takenOf group step failed h4 ⌝ }
+// What a frame does: flagged, or with its H4 byte, by which it ends an odd packet or not.
+pub fn decide(group: Group, step: Step, failed: bool, odd: bool, h4: u8) -> Taken
+    ensures { λ r. ⌜ r ≡ takenOf group step failed odd h4 ⌝ }
 {
     if failed {
         return flagged(group, step);
@@ -220,8 +225,10 @@ pub fn decide(group: Group, step: Step, failed: bool, h4: u8) -> Taken
     let before = Run {
         count: step.count,
         next: step.next,
+        breaks: step.breaks,
+        odd: step.odd,
     };
-    let run = run::run_on(group.kind, before, h4);
+    let run = run::run_on(group.kind, before, odd, h4);
     if run::is_step(group.kind, run.count) {
         return arrives(group, step, run);
     }

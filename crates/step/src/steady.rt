@@ -7,7 +7,7 @@ use rows::Step;
 ghost use mathlib.Core.Path.{_≡_};
 ghost use Rattle.step.specs.Steady.{midEpoch, steady};
 
-// Of a joined port in step, with the tag that was to come. Had and failed stand as the rule writes them, so that nothing else changes.
+// Of a joined port in step, with the tag that was to come. Had, failed and breaks stand as the rule writes them, so that nothing else changes.
 pub fn is_steady(group: Group, step: Step, failed: bool, h4: u8) -> bool
     ensures { λ r. ⌜ r ≡ steady group step failed h4 ⌝ }
 {
@@ -16,6 +16,7 @@ pub fn is_steady(group: Group, step: Step, failed: bool, h4: u8) -> bool
     !failed
         & (step.had == 1)
         & (step.failed == 0)
+        & (step.breaks == 0)
         & in_step
         & counted
         & arrival::is_set(group.begun)

@@ -13,7 +13,7 @@ pub fn rows(random: &mut Random, rows: &mut [Row], window: usize) {
     let ports = (rows.len() - 1) / ROWS_A_PORT;
     let first = rows_for(random.below(ports as u64) as usize);
     let any = random.next() as u8;
-    match random.below(12) {
+    match random.below(14) {
         0 => rows[0][6] = flag(random),
         1 => rows[0][7] = flag(random),
         2 => rows[0][8] = any,
@@ -33,7 +33,9 @@ pub fn rows(random: &mut Random, rows: &mut [Row], window: usize) {
             let byte = random.below(16) as usize;
             rows[first + 1][byte] = random.one_of(&[0, 1, 2, 3, 5, 15, 63, 64, 200, 255]);
         }
-        10 => {
+        10 => rows[first][9] = random.one_of(&[0, 1, 2, 3, 3, 4, 255]),
+        11 => rows[first][10] = flag(random),
+        12 => {
             let (row, byte) = (first + 2 + random.below(3) as usize, random.below(16) as usize);
             rows[row][byte] = any;
         }

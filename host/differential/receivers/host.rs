@@ -76,13 +76,14 @@ impl Host {
             let (word, sq, gid) = self.says(random, port, epoch);
             // the receiver looks at none of these
             let (mst, reserved) = (random.below(256) as u32, random.below(1 << 26) as u32);
-            let fields = Fields { epoch: epoch.into(), word, gid, mst, rs_ack: 0, sq, reserved };
+            // the number of another epoch now and then, with the CRC that goes with it
+            let named = if random.below(self.packets_calm) == 0 { random.below(256) as u32 } else { epoch.into() };
+            let fields = Fields { epoch: named, word, gid, mst, rs_ack: 0, sq, reserved };
             let s = &mut self.sources[port];
             s.epoch = Some(epoch);
             packet::write(&fields, &mut s.h4);
             if random.below(self.packets_calm) == 0 {
-                // the nibbles at 8 and 9 count
-                s.h4[random.one_of(&[0, 1, 2, 3, 4, 5, 6, 7, 10, 11, 12, 13, 14, 15])] ^= 0x10 << random.below(4);
+                s.h4[random.below(16) as usize] ^= 0x10 << random.below(4);
             }
         }
         self.sources[port].h4[(tag + 8) % EPOCH_FRAMES]
@@ -113,13 +114,15 @@ impl Host {
             }
         }
         let (flagged, bytes) = path.next(random, payload)?;
-        Some((flagged, if flagged { random.next() as u8 } else { self.h4(random, port) }, bytes))
+        let h4 = if flagged { random.next() as u8 } else { self.h4(random, port) };
+        Some((flagged, if flagged { h4 } else { self.sources[port].path.brings(random, h4) }, bytes))
     }
 
-    /// The port's path is switched to a longer one, on which its tags go back.
+    /// The port's path is switched to a longer one, on which its tags go back, and the host says so or not.
     pub fn switch(&mut self, random: &mut Random, port: usize) {
         let back = 32 + random.below(self.window + 28) as usize;
         self.sources[port].path.tag += TAGS - back;
+        self.sources[port].path.flagged = random.below(4).min(1);
     }
 
     /// The frame was taken, or given up.

@@ -38,6 +38,8 @@ impl Port {
             since: Flag(step[6]),
             later: step[7],
             whole: Flag(step[8]),
+            breaks: step[9],
+            odd: Flag(step[10]),
             word: member[0],
             number: member[1],
             state: member[2],
@@ -56,6 +58,7 @@ impl Port {
         (step[0], step[1], step[2]) = (self.had.0, self.failed.0, self.count);
         put_pair(step, 3, self.next);
         (step[5], step[6], step[7], step[8]) = (self.joined.0, self.since.0, self.later, self.whole.0);
+        (step[9], step[10]) = (self.breaks, self.odd.0);
         rows[1][..6].copy_from_slice(&[self.word, self.number, self.state, self.state_number, self.told_word, self.told_number]);
         rows[2] = self.gathering;
         rows[3] = self.ruling;

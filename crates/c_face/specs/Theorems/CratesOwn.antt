@@ -2,10 +2,14 @@
 use mathlib.Core.Path.{_≡_, refl, sym}
 use mathlib.Core.Bool.{Bool, true, false, cond}
 use mathlib.Core.List.{List, [], _∷_}
-use Prim.Native.Nat.{ℕ, _≤_}
+use Prim.Native.Nat.{ℕ, _≤_, _<_}
 use lib.Dec.{eqb}
 use lib.ListN.{length}
-use borrow.Author.Tests.{eq-eqb, eqb-true, le-ltb, ne-eqb}
+use borrow.Author.Tests.{eq-eqb, eqb-true, le-ltb, lt-ltb, ne-eqb}
+use Rattle.circuits.specs.Answers.{answerNumber as cardNumber, fromSender}
+use Rattle.circuits.specs.Calls.{Call, stepOf}
+use Rattle.circuits.specs.Commands.{startOf as cardStart}
+use Rattle.circuits.specs.Readings as card
 use Rattle.packet.specs.declared.layout.Fields.{Fields}
 use Rattle.packet.specs.Reading.{readAnswer, readingNumber}
 use Rattle.packet.specs.Writing.{writeAnswer, writeBytes, writingNumber}
@@ -24,12 +28,13 @@ use Rattle.sender.specs.declared.table.Outcome.{Outcome}
 use Rattle.sender.specs.Epochs.{SenderCall, beginOf, packetAnswer, packetBytes, payloadAnswer, payloadBytes, ranksOf, senderStepOf}
 use Rattle.sender.specs.Table.{answerNumber}
 use Rattle.c_face.specs.Boards.{boardBytesC, boardBytesOf, goingBytesC, ranksBytesC, ranksBytesOf, shownAnswerC, shownBytes}
+use Rattle.c_face.specs.Cards.{boardBytesOn, cardOf, keptCard, outgoingBytesOn, ownedBytesOn, packetAnswerOn, packetBytesOn, payloadAnswerOn, payloadBytesOn, putCard, ranksBytesOn, shownAnswerOn, shownBytesOn, startAnswerOn, startStateOn, stepAnswerOn, stepStateOn}
 use Rattle.c_face.specs.Keeping.{bytesOf, flagByte, senderOf}
 use Rattle.c_face.specs.Payloads.{joinAnswerC, joinFrameC, spreadAnswerC, spreadMembersC}
 use Rattle.c_face.specs.Packets.{readAnswerC, readFieldsC, valuesOr, writeAnswerC, writeBytesC}
 use Rattle.c_face.specs.Plans.{checkAnswerC, checkByteC, lentAnswer, lentBytes, planAnswerC, planBytesC, planBytesOf}
 use Rattle.c_face.specs.Receivers.{failedC}
-use Rattle.c_face.specs.Senders.{keptBytes, outside, packetAnswerC, packetBytesC, payloadAnswerC, payloadBytesC, startAnswerC, startStateC, stepAnswerC, stepStateC}
+use Rattle.c_face.specs.Senders.{areBytes, keptBytes, outside, packetAnswerC, packetBytesC, payloadAnswerC, payloadBytesC, startAnswerC, startStateC, stepAnswerC, stepStateC}
 
 -- levelspruce_packet_write is packet::write on fields that are bytes
 pub write-own : (f : Fields) (h4 : List ℕ)
@@ -121,6 +126,59 @@ pub ranks-own : (state ranks : List ℕ) → length state ≡ 397 → length ran
     → (shownAnswerC 68 state ranks ≡ 0) × (ranksBytesC state ranks ≡ ranksBytesOf (ranksOf (senderOf state)))
 unfolding shownAnswerC shownBytes
 ranks-own state ranks h l = rw (eq-eqb (length state) 397 h, eq-eqb (length ranks) 68 l) (refl, refl)
+
+-- levelspruce_card_start is Card::start for the kind H4, where the state has its length and the first epochs' numbers are bytes. Empty groups' first epochs have the number 0.
+module _ (count e₀ e₁ : ℕ) (state : List ℕ) (sized : length state ≡ 858) (bytes : areBytes e₀ e₁ 0 ≡ true) where
+  pub card-start-own : startAnswerOn count e₀ e₁ state ≡ cardNumber (cardStart 0 count e₀ e₁ .answer)
+  unfolding startAnswerOn cardStart beginOf startOf
+  card-start-own = rw (eq-eqb (length state) 858 sized, bytes) (go (outside count))
+    where
+      go : (b : Bool) → cond b 4 0 ≡ cardNumber (fromSender (cond {A = Outcome} b (answered (freshOf 0 0) OutOfRange) (answered (freshOf 0 count) Done) .answer))
+      go true = refl
+      go false = refl
+
+  pub card-start-state-own : outside count ≡ false → startStateOn count e₀ e₁ state ≡ putCard (cardStart 0 count e₀ e₁ .card) state
+  unfolding startStateOn
+  card-start-state-own o = rw (eq-eqb (length state) 858 sized, bytes, o) refl
+
+  pub card-start-empty-own : outside count ≡ true → startStateOn count e₀ e₁ state ≡ putCard (cardStart 0 count 0 0 .card) state
+  unfolding startStateOn
+  card-start-empty-own o = rw (eq-eqb (length state) 858 sized, o) refl
+
+-- the other calls of a card are the card's own on the card in the state, for either group
+module _ (state : List ℕ) (g : ℕ) (sized : length state ≡ 858) (group : g < 2) where
+  pub card-step-own : (call : Call)
+      → (stepAnswerOn true g call state ≡ cardNumber (stepOf (cardOf state) g call .answer)) × (stepStateOn true g call state ≡ keptCard g (stepOf (cardOf state) g call) state)
+  unfolding stepAnswerOn stepStateOn
+  card-step-own call = rw (eq-eqb (length state) 858 sized, lt-ltb g 2 group) (refl, refl)
+
+  pub card-packet-own : (slot : ℕ) (h4 : List ℕ)
+      → (packetAnswerOn state g slot h4 ≡ cardNumber (card.packetAnswer (cardOf state) g slot h4)) × (packetBytesOn state g slot h4 ≡ card.packetBytes (cardOf state) g slot h4)
+  unfolding packetAnswerOn packetBytesOn
+  card-packet-own slot h4 = rw (eq-eqb (length state) 858 sized, lt-ltb g 2 group) (refl, refl)
+
+  pub card-payload-own : (slot P : ℕ) (frame member : List ℕ)
+      → (payloadAnswerOn state g slot P frame member ≡ cardNumber (card.payloadAnswer (cardOf state) g slot P (length frame) (length member)))
+      × (payloadBytesOn state g slot P frame member ≡ card.payloadBytes (cardOf state) g slot P frame member)
+  unfolding payloadAnswerOn payloadBytesOn
+  card-payload-own slot P frame member = rw (eq-eqb (length state) 858 sized, lt-ltb g 2 group) (refl, refl)
+
+  pub card-board-own : (board : List ℕ) → length board ≡ 130
+      → (shownAnswerOn 130 state g board ≡ 0)
+      × (boardBytesOn state g board ≡ boardBytesOf (card.boardShown (cardOf state) g .board))
+      × (outgoingBytesOn state g board ≡ boardBytesOf (card.outgoingShown (cardOf state) g .board))
+  unfolding shownAnswerOn shownBytesOn
+  card-board-own board l = rw (eq-eqb (length state) 858 sized, lt-ltb g 2 group, eq-eqb (length board) 130 l) (refl, refl, refl)
+
+  pub card-ranks-own : (ranks : List ℕ) → length ranks ≡ 68
+      → (shownAnswerOn 68 state g ranks ≡ 0) × (ranksBytesOn state g ranks ≡ ranksBytesOf (card.ranksShown (cardOf state) g .ranks))
+  unfolding shownAnswerOn shownBytesOn
+  card-ranks-own ranks l = rw (eq-eqb (length state) 858 sized, lt-ltb g 2 group, eq-eqb (length ranks) 68 l) (refl, refl)
+
+  pub card-owned-own : (owned : List ℕ) → length owned ≡ 64
+      → (shownAnswerOn 64 state g owned ≡ 0) × (ownedBytesOn state g owned ≡ card.ownedShown (cardOf state) g .owned)
+  unfolding shownAnswerOn shownBytesOn
+  card-owned-own owned l = rw (eq-eqb (length state) 858 sized, lt-ltb g 2 group, eq-eqb (length owned) 64 l) (refl, refl)
 
 -- levelspruce_receiver_start (for the kind H4), _fetch, _ports and _reply promise the receiver's own definitions as they stand, so that no law is needed; levelspruce_receiver_frame is receiver::frame, told of the flag by 1 or 0
 pub frame-own : (s : List (List ℕ)) (i : ℕ) (failed : Bool) (h : ℕ) (payload store : List ℕ)

@@ -49,12 +49,12 @@ meant [] = []
 meant (c ∷ cs) = cond (fits c) (c ∷ meant cs) (meant cs)
 
 -- what a start or a call leaves
-record Held (s : Sender) : Type 0 where
+pub record Held (s : Sender) : Type 0 where
   pub table : Sound (s .table)
   pub outgoing : length (s .outgoing .rows) ≡ 64
   pub ruling : length (s .ruling .rows) ≡ 64
 
-held-whole : (s : Sender) → Held s → Whole s
+pub held-whole : (s : Sender) → Held s → Whole s
 held-whole s h = record { slots = h .table .whole; outgoing = h .outgoing; ruling = h .ruling }
 
 board-whole : (t : Table) → length (boardOf t .rows) ≡ 64
@@ -62,11 +62,11 @@ unfolding boardOf rowsOf
 board-whole t =
     length-each (sizeOf (t .count)) (λ i. rowOf (t .slots) (sizeOf (t .count)) i) (replicate 64 (noRow (t .kind))) ∙ length-replicate 64 (noRow (t .kind))
 
-held-begin : (count first : ℕ) → Held (beginOf 0 count first .sender)
+pub held-begin : (count first : ℕ) → Held (beginOf 0 count first .sender)
 unfolding beginOf freshSender
 held-begin count first = record { table = sound-start 0 count; outgoing = board-whole (startOf 0 count .table); ruling = board-whole (startOf 0 count .table) }
 
-held-step : (s : Sender) (c : SenderCall) → Held s → Held (senderStepOf s c .sender)
+pub held-step : (s : Sender) (c : SenderCall) → Held s → Held (senderStepOf s c .sender)
 unfolding startEpochOf startedSender
 held-step s (OnTable c) h = record { table = sound-step (s .table) c (h .table); outgoing = h .outgoing; ruling = h .ruling }
 held-step s (StartEpoch gid mst ack) h = go (ltb gid 2 && ltb ack 2)
@@ -80,7 +80,7 @@ held-run s [] h = h
 held-run s (c ∷ cs) h = held-run (senderStepOf s c .sender) cs (held-step s c h)
 
 -- a refusal leaves the sender as given
-refuses : Answer → Bool
+unfoldable pub refuses : Answer → Bool
 refuses a = eqb (answerNumber a) 0
 
 order-given : (t next : Table) (i : ℕ) (allowed : Bool) → refuses (inOrder t i allowed next .answer) ≡ false → inOrder t i allowed next .table ≡ t
@@ -112,7 +112,7 @@ table-given t (RemoveSlot i) k = order-given t (removedFrom t i) i (isMember (sl
 table-given t (Report e mst ack) k = absurd (true≢false k)
 table-given t Lapse k = lapse-given t (t .wait) k
 
-step-given : (s : Sender) (c : SenderCall) → refuses (senderStepOf s c .answer) ≡ false → senderStepOf s c .sender ≡ s
+pub step-given : (s : Sender) (c : SenderCall) → refuses (senderStepOf s c .answer) ≡ false → senderStepOf s c .sender ≡ s
 unfolding startEpochOf
 step-given s (OnTable c) k =
     ap (λ (t : Table). record { table = t; outgoing = s .outgoing; ruling = s .ruling; epoch = s .epoch; begun = s .begun; gid = s .gid; mst = s .mst; «rs_ack» = s .«rs_ack» })

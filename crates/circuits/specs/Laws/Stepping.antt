@@ -11,7 +11,7 @@ use Rattle.circuits.specs.declared.answers.Answer.the-variants.{Done, No
 use Rattle.circuits.specs.declared.card.Card.{Card}
 use Rattle.circuits.specs.declared.card.CardOutcome.{CardOutcome}
 use Rattle.circuits.specs.Alone.{Seen, claimSeen, ownIn, ownSeen, releaseSeen, seen, sentSeen, slotIn, withOwn}
-use Rattle.circuits.specs.Answers.{told}
+use Rattle.circuits.specs.Answers.{fromSender}
 use Rattle.circuits.specs.Commands.{claimOf, commandOf, groupCallOf, ofOwn, releaseOf, sentOf}
 use Rattle.circuits.specs.Laws.Seeing.{mark-some, marks-apart, own-is, owner-is, owners-stepped, owns-marked, sender-marked, sender-other, slot-is, slot-low, view-marked, view-same, view-stepped}
 use Rattle.circuits.specs.Owners.{hasOwner, markOf, ownerIn}
@@ -46,7 +46,7 @@ sent c g k =
         → seen (record { sender = senderStepOf (senderOf c g) k .sender; owned = viewOf g c .owned }) (stepped c g (senderStepOf (senderOf c g) k) .answer) ≡ sentSeen (viewOf g c) k
     answers c g k = refl
 
-slot-group : (c : Card) (g i : ℕ) → isSlot c g i ≡ true → g < 2
+pub slot-group : (c : Card) (g i : ℕ) → isSlot c g i ≡ true → g < 2
 unfolding isSlot
 slot-group c g i s = ltb-true g 2 (and-left (ltb g 2) _ s)
 

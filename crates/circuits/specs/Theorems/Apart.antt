@@ -19,16 +19,16 @@ use Rattle.circuits.specs.declared.card.Card.{Card}
 use Rattle.circuits.specs.declared.card.OwnedOutcome.{OwnedOutcome}
 use Rattle.circuits.specs.declared.card.RanksOutcome.{RanksOutcome}
 use Rattle.circuits.specs.Alone.{Seen, ownAnswer, ownBytes, ownIn, repliesSeen, replySeen, slotIn, stepSeen, viewAfter, viewSeen}
-use Rattle.circuits.specs.Answers.{told}
+use Rattle.circuits.specs.Answers.{fromSender}
 use Rattle.circuits.specs.Calls.{Call, stepOf}
 use Rattle.circuits.specs.Calls.Call.{Claim, Release, AddSlot, RemoveSlot, Report, Lapse, StartEpoch}
 use Rattle.circuits.specs.Laws.Seeing.{own-is, slot-is, slot-low}
 use Rattle.circuits.specs.Laws.Stepping.{choice, kept-claim, kept-command, kept-group-call, kept-release, see, see-claim, see-command, see-group-call, see-release}
 use Rattle.circuits.specs.Owners.{byteOf, isMarked, ownedBytes}
 use Rattle.circuits.specs.Parts.{isSlot, owns, senderOf, shownSender}
-use Rattle.circuits.specs.Readings.{boardShown, goingShown, ownedShown, packetAnswer, packetBytes, payloadAnswer, payloadBytes, ranksShown}
+use Rattle.circuits.specs.Readings.{boardShown, outgoingShown, ownedShown, packetAnswer, packetBytes, payloadAnswer, payloadBytes, ranksShown}
 use Rattle.circuits.specs.Views.{Asked, Made, Reply, View, askedBy, bitOf, bitsOf, cardAfter, repliesTo, replyTo, run, viewOf}
-use Rattle.circuits.specs.Views.Asked.{Do, Packet, Payload, Board, BoardGoing, Ranks, Owned}
+use Rattle.circuits.specs.Views.Asked.{Do, Packet, Payload, Board, Outgoing, Ranks, Owned}
 use Rattle.circuits.specs.Views.Reply.{Answered, Wrote, Showed, Ranked, Owns}
 
 -- (a) Every call of the other group, and of no group, keeps the view.
@@ -43,7 +43,7 @@ others-keep c g h (Do (StartEpoch gid mst ack)) hg n = kept-group-call c g h hg 
 others-keep c g h (Packet i h4) hg n = refl
 others-keep c g h (Payload i p frame member) hg n = refl
 others-keep c g h Board hg n = refl
-others-keep c g h BoardGoing hg n = refl
+others-keep c g h Outgoing hg n = refl
 others-keep c g h Ranks hg n = refl
 others-keep c g h Owned hg n = refl
 
@@ -81,20 +81,20 @@ module _ (c : Card) (g : ℕ) (hg : g < 2) where
 
   packet-seen : (i : ℕ) (h4 : List ℕ) → replyTo c g (Packet i h4) ≡ replySeen v (Packet i h4) false
   unfolding packetAnswer packetBytes viewOf
-  packet-seen i h4 = rw (answer-seen i (told (E.packetAnswer (senderOf c g) i h4)), bytes-seen i (E.packetBytes (senderOf c g) i h4) h4) refl
+  packet-seen i h4 = rw (answer-seen i (fromSender (E.packetAnswer (senderOf c g) i h4)), bytes-seen i (E.packetBytes (senderOf c g) i h4) h4) refl
 
   payload-seen : (i p : ℕ) (frame member : List ℕ) → replyTo c g (Payload i p frame member) ≡ replySeen v (Payload i p frame member) false
   unfolding payloadAnswer payloadBytes viewOf
   payload-seen i p frame member =
-      rw (answer-seen i (told (E.payloadAnswer (senderOf c g) i p (length frame) (length member))), bytes-seen i (E.payloadBytes (senderOf c g) i p frame member) member) refl
+      rw (answer-seen i (fromSender (E.payloadAnswer (senderOf c g) i p (length frame) (length member))), bytes-seen i (E.payloadBytes (senderOf c g) i p frame member) member) refl
 
   board-seen : replyTo c g Board ≡ replySeen v Board false
   unfolding boardShown
   board-seen = rw (lt-ltb g 2 hg, shown-seen) refl
 
-  going-seen : replyTo c g BoardGoing ≡ replySeen v BoardGoing false
-  unfolding goingShown
-  going-seen = rw (lt-ltb g 2 hg, shown-seen) refl
+  outgoing-seen : replyTo c g Outgoing ≡ replySeen v Outgoing false
+  unfolding outgoingShown
+  outgoing-seen = rw (lt-ltb g 2 hg, shown-seen) refl
 
   ranks-seen : replyTo c g Ranks ≡ replySeen v Ranks false
   unfolding ranksShown
@@ -116,7 +116,7 @@ module _ (c : Card) (g : ℕ) (hg : g < 2) where
   own-reply (Packet i h4) = packet-seen i h4
   own-reply (Payload i p frame member) = payload-seen i p frame member
   own-reply Board = board-seen
-  own-reply BoardGoing = going-seen
+  own-reply Outgoing = outgoing-seen
   own-reply Ranks = ranks-seen
   own-reply Owned = owned-seen
 
@@ -125,7 +125,7 @@ module _ (c : Card) (g : ℕ) (hg : g < 2) where
   own-view (Packet i h4) = refl
   own-view (Payload i p frame member) = refl
   own-view Board = refl
-  own-view BoardGoing = refl
+  own-view Outgoing = refl
   own-view Ranks = refl
   own-view Owned = refl
 

@@ -44,7 +44,7 @@ use Rattle.circuits.specs.Owners.{markOf, ownerIn}
 use Rattle.circuits.specs.Parts.{isUsed, owns, senderOf}
 use Rattle.circuits.specs.Theorems.Apart.{others-keep, own-view}
 use Rattle.circuits.specs.Views.{Asked, Made, View, bitOf, cardAfter, run, viewOf}
-use Rattle.circuits.specs.Views.Asked.{Do, Packet, Payload, Board, BoardGoing, Ranks, Owned}
+use Rattle.circuits.specs.Views.Asked.{Do, Packet, Payload, Board, Outgoing, Ranks, Owned}
 
 -- what holds of a group's view after any calls: every member is owned, the count is the start's, and the sender has come from its start by calls of its own
 record Tidy (count : ℕ) (s : Sender) (v : View) : Type 0 where
@@ -139,7 +139,7 @@ module _ (count : ℕ) (s : Sender) (v : View) (o : Tidy count s v) where
   tidy-after (Packet i h4) taken = o
   tidy-after (Payload i p frame member) taken = o
   tidy-after Board taken = o
-  tidy-after BoardGoing taken = o
+  tidy-after Outgoing taken = o
   tidy-after Ranks taken = o
   tidy-after Owned taken = o
 
@@ -239,7 +239,7 @@ module _ (kind count e₀ e₁ : ℕ) (ms : List Made) where
   demand2-each g hg = let o = tidy g hg in rw (o .is) (demand2-kept kind count (epochOf g e₀ e₁) (o .calls))
 
   -- at the start of an epoch, every slot that the board going out shows other than IDLE is the group's
-  pub going-owned : (g gid mst ack i : ℕ) → g < 2 → (ltb gid 2 && ltb ack 2) ≡ true → i < slotsIn (senderOf c g .table)
+  pub outgoing-owned : (g gid mst ack i : ℕ) → g < 2 → (ltb gid 2 && ltb ack 2) ≡ true → i < slotsIn (senderOf c g .table)
       → rowAt (startEpochOf (senderOf c g) gid mst ack .sender .outgoing .rows) i .word .0 ≢ IDLE → owns c g i ≡ true
-  going-owned g gid mst ack i hg fits l shown =
+  outgoing-owned g gid mst ack i hg fits l shown =
       members-owned g i hg l (shown-member (senderOf c g .table) i l (λ e. shown (ap (λ (b : B). rowAt (b .rows) i .word .0) (goes-out (senderOf c g) gid mst ack fits) ∙ e)))

@@ -4,20 +4,21 @@ use mathlib.Core.Bool.{Bool, true, false, cond, not, _&&_, _||_}
 use mathlib.Core.List.{List, [], _∷_}
 use Prim.Native.Nat.{ℕ, _*_}
 use lib.Dec.{eqb, ltb}
-use lib.ListN.{length, replicate}
+use lib.ListN.{getD, length, replicate}
 use Rattle.circuits.specs.declared.answers.Answer.{Answer}
 use Rattle.circuits.specs.declared.answers.Answer.the-variants as A
 use Rattle.circuits.specs.declared.card.Card.{Card}
 use Rattle.circuits.specs.declared.card.CardOutcome.{CardOutcome}
-use Rattle.circuits.specs.Answers.{answerNumber, told}
+use Rattle.circuits.specs.Answers.{answerNumber, fromSender}
 use Rattle.circuits.specs.Calls.{stepOf}
 use Rattle.circuits.specs.Calls.Call.{AddSlot, Claim, Lapse, Release, RemoveSlot, Report, StartEpoch}
 use Rattle.circuits.specs.Commands.{claimOf, commandOf, groupCallOf, releaseOf, startOf}
 use Rattle.circuits.specs.Owners.{hasOwner, ownedBytes}
 use Rattle.circuits.specs.Parts.{emptySender, isSlot, isUsed, marked, owns, refused, senderOf, shownSender, stepped, withSender}
-use Rattle.circuits.specs.Readings.{boardShown, goingShown, ownedShown, packetAnswer, packetBytes, payloadAnswer, payloadBytes, ranksShown}
+use Rattle.circuits.specs.Readings.{boardShown, outgoingShown, ownedShown, packetAnswer, packetBytes, payloadAnswer, payloadBytes, ranksShown}
 use Rattle.conformance.specs.Entries.{Call, Copes, If, Refusal, Unless, copes, stateful, stateless}
 use Rattle.conformance.specs.Refusals.Epochs as sender
+use Rattle.conformance.specs.Refusals.Tables.{idle, member-is, stateAt}
 use Rattle.sender.specs.declared.epochs.Sender.{Sender}
 use Rattle.sender.specs.declared.epochs.SenderOutcome.{SenderOutcome}
 use Rattle.sender.specs.declared.table.Answer as S
@@ -26,19 +27,40 @@ use Rattle.sender.specs.Commands.{freshOf}
 use Rattle.sender.specs.Epochs as E
 use Rattle.sender.specs.Epochs.{SenderCall, beginOf, freshSender, senderStepOf}
 use Rattle.sender.specs.Steps.{Call as T}
+use Rattle.sender.specs.Table.{isMember, sizeOf}
 use Rattle.sender.specs.Table.{answerNumber as senderNumber}
 
-told-number : (a : S.Answer) → answerNumber (told a) ≡ senderNumber a
-told-number S.Answer.Done = refl
-told-number S.Answer.NoSlot = refl
-told-number S.Answer.NotAllowed = refl
-told-number S.Answer.WaitOpen = refl
-told-number S.Answer.OutOfRange = refl
-told-number S.Answer.Field = refl
-told-number S.Answer.Length = refl
+sender-number : (a : S.Answer) → answerNumber (fromSender a) ≡ senderNumber a
+sender-number S.Answer.Done = refl
+sender-number S.Answer.NoSlot = refl
+sender-number S.Answer.NotAllowed = refl
+sender-number S.Answer.WaitOpen = refl
+sender-number S.Answer.OutOfRange = refl
+sender-number S.Answer.Field = refl
+sender-number S.Answer.Length = refl
+
+-- What is asked of a slot, in plain comparisons. Groups are 0 and 1.
+
+abbrev its : Card → ℕ → Sender
+its c g = cond (eqb g 0) (c .first) (c .second)
+
+-- 1: 'a group other than the two', or a slot not below its count; one above 64, which no call returns, is taken as 64
+abbrev isThere : Card → ℕ → ℕ → Bool
+isThere c g i = ltb g 2 && ltb i (cond (ltb (its c g .table .count) 64) (its c g .table .count) 64)
+
+-- 14: the owner row has 1 for group 0 and 2 for group 1
+abbrev isIts : Card → ℕ → ℕ → Bool
+isIts c g i = eqb (getD (c .owners) i 0) (cond (eqb g 0) 1 2)
+
+abbrev isAnyones : Card → ℕ → Bool
+isAnyones c i = eqb (getD (c .owners) i 0) 1 || eqb (getD (c .owners) i 0) 2
+
+-- 15: not IDLE in the group's table
+abbrev isInUse : Card → ℕ → ℕ → Bool
+isInUse c g i = not (idle (stateAt (its c g .table) i))
 
 -- both groups empty
-abbrev emptyCard : ℕ → ℕ → ℕ → Card
+abbrev pub emptyCard : ℕ → ℕ → ℕ → Card
 emptyCard kind e₀ e₁ = record { owners = replicate 64 0; first = freshSender (freshOf kind 0) e₀; second = freshSender (freshOf kind 0) e₁ }
 
 abbrev pub start : ℕ × ℕ × ℕ × ℕ → Call
@@ -53,7 +75,7 @@ start-copes (kind, count, e₀, e₁) =
     let c = sender.start-copes (kind, count, e₀) in
     let d = sender.start-copes (kind, count, e₁) in
     record {
-      answers = told-number (beginOf kind count e₀ .answer) ∙ c .answers;
+      answers = sender-number (beginOf kind count e₀ .answer) ∙ c .answers;
       untouched = λ x. refl;
       as-given = λ k. rw (c .as-given k, d .as-given k) refl;
       emptied = λ k. rw (c .emptied k, d .emptied k) refl;
@@ -75,7 +97,7 @@ on-sender : (c : Card) (g : ℕ) (rs : List Refusal) (r : SenderOutcome) → Cop
 unfolding stepped
 on-sender c g rs r h =
     record {
-      answers = told-number (r .answer) ∙ h .answers;
+      answers = sender-number (r .answer) ∙ h .answers;
       untouched = λ x. refl;
       as-given = λ k. ap (λ (s : Sender). withSender c g s) (h .as-given k) ∙ put-back c g;
       emptied = λ k. ap (λ (s : Sender). withSender c g s) (h .emptied k) ∙ put-back c g;
@@ -100,41 +122,45 @@ group-call c g rs k h = gate (ltb g 2) A.NoSlot c rs (stepped c g (senderStepOf 
 
 abbrev pub claim : Card × ℕ × ℕ → Call
 claim (self, group, slot) =
-    stateful (Unless 1 (isSlot self group slot) ∷ If 14 (hasOwner (self .owners) slot) ∷ [])
+    stateful (Unless 1 (isThere self group slot) ∷ If 14 (isAnyones self slot) ∷ [])
     (answerNumber (stepOf self group (Claim slot) .answer)) [] [] self (stepOf self group (Claim slot) .card) self
 
 pub claim-copes : (x : Card × ℕ × ℕ) → Copes (claim x)
-unfolding claimOf marked
+unfolding claimOf marked isSlot senderOf sizeOf
 claim-copes (self, group, slot) = copes _ (λ s. (λ o. rw (s, o) (refl, refl, refl), λ o. rw (s, o) refl), λ s. rw s (refl, refl, refl))
 
 abbrev pub release : Card × ℕ × ℕ → Call
 release (self, group, slot) =
-    stateful (Unless 1 (isSlot self group slot) ∷ Unless 14 (owns self group slot) ∷ If 15 (isUsed self group slot) ∷ [])
+    stateful (Unless 1 (isThere self group slot) ∷ Unless 14 (isIts self group slot) ∷ If 15 (isInUse self group slot) ∷ [])
     (answerNumber (stepOf self group (Release slot) .answer)) [] [] self (stepOf self group (Release slot) .card) self
 
 pub release-copes : (x : Card × ℕ × ℕ) → Copes (release x)
-unfolding releaseOf marked
+unfolding releaseOf marked isSlot owns isUsed senderOf sizeOf
 release-copes (self, group, slot) =
+    let state = stateAt (its self group .table) slot in
+    let used : (b : Bool) → not (idle state) ≡ b → isMember state ≡ b = λ b u. member-is state ∙ u in
     copes _ (
-      λ s. (λ o. (λ u. rw (s, o, u) (refl, refl, refl), λ u. rw (s, o, u) refl), λ o. rw (s, o) (refl, refl, refl)),
+      λ s. (λ o. (λ u. rw (s, o, used true u) (refl, refl, refl), λ u. rw (s, o, used false u) refl), λ o. rw (s, o) (refl, refl, refl)),
       λ s. rw s (refl, refl, refl),
     )
 
 -- the refusals of the group's sender, behind the card's own
 abbrev pub add : Card × ℕ × ℕ → Call
 add (self, group, slot) =
-    stateful (Unless 1 (isSlot self group slot) ∷ Unless 14 (owns self group slot) ∷ sender.add (senderOf self group, slot) .refusals)
+    stateful (Unless 1 (isThere self group slot) ∷ Unless 14 (isIts self group slot) ∷ sender.add (its self group, slot) .refusals)
     (answerNumber (stepOf self group (AddSlot slot) .answer)) [] [] self (stepOf self group (AddSlot slot) .card) self
 
 pub add-copes : (x : Card × ℕ × ℕ) → Copes (add x)
+unfolding isSlot owns senderOf sizeOf
 add-copes (self, group, slot) = command self group slot _ _ (sender.add-copes (senderOf self group, slot))
 
 abbrev pub remove : Card × ℕ × ℕ → Call
 remove (self, group, slot) =
-    stateful (Unless 1 (isSlot self group slot) ∷ Unless 14 (owns self group slot) ∷ sender.remove (senderOf self group, slot) .refusals)
+    stateful (Unless 1 (isThere self group slot) ∷ Unless 14 (isIts self group slot) ∷ sender.remove (its self group, slot) .refusals)
     (answerNumber (stepOf self group (RemoveSlot slot) .answer)) [] [] self (stepOf self group (RemoveSlot slot) .card) self
 
 pub remove-copes : (x : Card × ℕ × ℕ) → Copes (remove x)
+unfolding isSlot owns senderOf sizeOf
 remove-copes (self, group, slot) = command self group slot _ _ (sender.remove-copes (senderOf self group, slot))
 
 abbrev pub report : Card × ℕ × ℕ × ℕ × ℕ → Call
@@ -147,45 +173,47 @@ report-copes (self, group, epoch, mst, «rs_ack») = group-call self group _ _ (
 
 abbrev pub lapse : Card × ℕ → Call
 lapse (self, group) =
-    stateful (Unless 1 (ltb group 2) ∷ sender.lapse (senderOf self group) .refusals)
+    stateful (Unless 1 (ltb group 2) ∷ sender.lapse (its self group) .refusals)
     (answerNumber (stepOf self group Lapse .answer)) [] [] self (stepOf self group Lapse .card) self
 
 pub lapse-copes : (x : Card × ℕ) → Copes (lapse x)
+unfolding senderOf
 lapse-copes (self, group) = group-call self group _ _ (sender.lapse-copes (senderOf self group))
 
 abbrev pub startEpoch : Card × ℕ × ℕ × ℕ × ℕ → Call
 startEpoch (self, group, gid, mst, «rs_ack») =
-    stateful (Unless 1 (ltb group 2) ∷ sender.startEpoch (senderOf self group, gid, mst, «rs_ack») .refusals)
+    stateful (Unless 1 (ltb group 2) ∷ sender.startEpoch (its self group, gid, mst, «rs_ack») .refusals)
     (answerNumber (stepOf self group (StartEpoch gid mst «rs_ack») .answer)) [] [] self (stepOf self group (StartEpoch gid mst «rs_ack») .card) self
 
 pub startEpoch-copes : (x : Card × ℕ × ℕ × ℕ × ℕ) → Copes (startEpoch x)
+unfolding senderOf
 startEpoch-copes (self, group, gid, mst, «rs_ack») = group-call self group _ _ (sender.startEpoch-copes (senderOf self group, gid, mst, «rs_ack»))
 
 -- a lent slice of an own slot
 lent : (s o : Bool) (a : S.Answer) (rs : List Refusal) (new old : List ℕ) → Copes (stateless rs (senderNumber a) (old ∷ []) (new ∷ []))
-    → Copes (stateless (Unless 1 s ∷ Unless 14 o ∷ rs) (answerNumber (cond s (cond o (told a) A.Owned) A.NoSlot)) (old ∷ []) (cond (s && o) new old ∷ []))
-lent true true a rs new old h = record { answers = told-number a ∙ h .answers; untouched = h .untouched; as-given = h .as-given; emptied = h .emptied }
+    → Copes (stateless (Unless 1 s ∷ Unless 14 o ∷ rs) (answerNumber (cond s (cond o (fromSender a) A.Owned) A.NoSlot)) (old ∷ []) (cond (s && o) new old ∷ []))
+lent true true a rs new old h = record { answers = sender-number a ∙ h .answers; untouched = h .untouched; as-given = h .as-given; emptied = h .emptied }
 lent true false a rs new old h = record { answers = refl; untouched = λ x. refl; as-given = λ k. refl; emptied = λ k. refl }
 lent false o a rs new old h = record { answers = refl; untouched = λ x. refl; as-given = λ k. refl; emptied = λ k. refl }
 
 abbrev pub packet : Card × ℕ × ℕ × List ℕ → Call
 packet (self, group, slot, h4) =
-    stateless (Unless 1 (isSlot self group slot) ∷ Unless 14 (owns self group slot) ∷ sender.packet (senderOf self group, slot, h4) .refusals)
+    stateless (Unless 1 (isThere self group slot) ∷ Unless 14 (isIts self group slot) ∷ sender.packet (its self group, slot, h4) .refusals)
     (answerNumber (packetAnswer self group slot h4)) (h4 ∷ []) (packetBytes self group slot h4 ∷ [])
 
 pub packet-copes : (x : Card × ℕ × ℕ × List ℕ) → Copes (packet x)
-unfolding packetAnswer packetBytes
+unfolding packetAnswer packetBytes isSlot owns senderOf sizeOf
 packet-copes (self, group, slot, h4) =
     lent (isSlot self group slot) (owns self group slot) (E.packetAnswer (senderOf self group) slot h4) _ (E.packetBytes (senderOf self group) slot h4) h4
     (sender.packet-copes (senderOf self group, slot, h4))
 
 abbrev pub payload : Card × ℕ × ℕ × ℕ × List ℕ × List ℕ → Call
 payload (self, group, slot, p, frame, member) =
-    stateless (Unless 1 (isSlot self group slot) ∷ Unless 14 (owns self group slot) ∷ sender.payload (senderOf self group, slot, p, frame, member) .refusals)
+    stateless (Unless 1 (isThere self group slot) ∷ Unless 14 (isIts self group slot) ∷ sender.payload (its self group, slot, p, frame, member) .refusals)
     (answerNumber (payloadAnswer self group slot p (length frame) (length member))) (member ∷ []) (payloadBytes self group slot p frame member ∷ [])
 
 pub payload-copes : (x : Card × ℕ × ℕ × ℕ × List ℕ × List ℕ) → Copes (payload x)
-unfolding payloadAnswer payloadBytes
+unfolding payloadAnswer payloadBytes isSlot owns senderOf sizeOf
 payload-copes (self, group, slot, p, frame, member) =
     lent (isSlot self group slot) (owns self group slot) (E.payloadAnswer (senderOf self group) slot p (length frame) (length member)) _
     (E.payloadBytes (senderOf self group) slot p frame member) member (sender.payload-copes (senderOf self group, slot, p, frame, member))
@@ -201,14 +229,14 @@ pub board-copes : (x : Card × ℕ) → Copes (board x)
 unfolding boardShown shownSender
 board-copes (self, group) = copes _ (λ g. rw g, λ g. rw g (refl, refl, refl))
 
-abbrev pub boardGoing : Card × ℕ → Call
-boardGoing (self, group) =
+abbrev pub outgoing : Card × ℕ → Call
+outgoing (self, group) =
     stateful (Unless 1 (ltb group 2) ∷ [])
-    (answerNumber (goingShown self group .answer)) [] [] (emptySender .outgoing) (goingShown self group .board) (emptySender .outgoing)
+    (answerNumber (outgoingShown self group .answer)) [] [] (emptySender .outgoing) (outgoingShown self group .board) (emptySender .outgoing)
 
-pub boardGoing-copes : (x : Card × ℕ) → Copes (boardGoing x)
-unfolding goingShown shownSender
-boardGoing-copes (self, group) = copes _ (λ g. rw g, λ g. rw g (refl, refl, refl))
+pub outgoing-copes : (x : Card × ℕ) → Copes (outgoing x)
+unfolding outgoingShown shownSender
+outgoing-copes (self, group) = copes _ (λ g. rw g, λ g. rw g (refl, refl, refl))
 
 abbrev pub ranks : Card × ℕ → Call
 ranks (self, group) =

@@ -12,7 +12,7 @@ use Rattle.ground.specs.Circle.{after}
 use Rattle.packet.specs.Kinds.{distanceOf, firstTag, frames, lead, tags}
 use Rattle.phases.specs.Sizes.{portsIn, sized, storeFor}
 use Rattle.receiver.specs.Fetch.{fetchAnswer, fetchOut, fetchRecord, fetchRows, fits}
-use Rattle.receiver.specs.Frame.{frameAnswer, frameRows, frameStore, refusalBy, storeBy, takenRows, takenStore}
+use Rattle.receiver.specs.Frame.{frameAnswer, frameRows, frameStore, oddIn, refusalBy, storeBy, takenRows, takenStore}
 use Rattle.receiver.specs.Lengths.{fetchFits, frameFits, outputFor, rowsFit}
 use Rattle.receiver.specs.Shown.{portsAnswer, portsOut, replyAnswer, replyFit, replyOut, shownFit}
 use Rattle.receiver.specs.Starting.{emptyGroup, sizedAnswer, sizedRows, startAnswer, startFits, startRows}
@@ -53,7 +53,7 @@ startC (ports, payload, window, «store_bytes», state) = start (0, ports, paylo
 pub startC-copes : (x : ℕ × ℕ × ℕ × ℕ × List (List ℕ)) → Copes (startC x)
 startC-copes (ports, payload, window, «store_bytes», state) = start-copes (0, ports, payload, window, «store_bytes», state)
 
--- What a frame does to a port: 10, 12, 11. 'A port is in step when 32 frames in a row' count; 'its tag is 0 to W-1 after the first frame of the oldest epoch'; '11 goes only to a joined port'.
+-- What a frame does to a port, which ends an odd packet or not: 10, 12, 11. 'A port is in step when 32 frames in a row' count; 'its tag is 0 to W-1 after the first frame of the oldest epoch'; '11 goes only to a joined port'.
 
 -- how far the tag to come lies after the first frame of the oldest epoch, whose tag is 8 before 16 x that epoch
 abbrev pub ahead : Group → Step → ℕ
@@ -66,21 +66,21 @@ ahead-is g s = ap (λ (n : ℕ). (s .next + (4096 - n)) % 4096) (mod-mod (g .old
 window-is : (g : Group) (s : Step) (b : Bool) → ltb (distanceIn g (s .next)) (g .window) ≡ b → ltb (ahead g s) (g .window) ≡ b
 window-is g s b e = rw (ahead-is g s) at e
 
-abbrev pub portRefusals : Group → Step → Bool → ℕ → List Refusal
-portRefusals g s failed h4 =
+abbrev pub portRefusals : Group → Step → Bool → Bool → ℕ → List Refusal
+portRefusals g s failed odd h4 =
     If 10 failed
-    ∷ Unless 12 (leb 32 (runOn (g .kind) (runOf s) h4 .count))
+    ∷ Unless 12 (leb 32 (runOn (g .kind) (runOf s) odd h4 .count))
     ∷ If 11 (not (eqb (g .begun) 0) && not (eqb (s .joined) 0) && not (ltb (ahead g s) (g .window)))
     ∷ []
 
 -- what holds of each way a frame can go, with its number, holds of the frame
-by-number : (P : Taken → ℕ → Type 0) (g : Group) (s : Step) (failed : Bool) (h4 : ℕ)
-    → P (flagged g s) 10 → P (countsOn g s (runOn (g .kind) (runOf s) h4)) 12 → P (frameDropped g s (runOn (g .kind) (runOf s) h4)) 0
-    → P (keeps g s (runOn (g .kind) (runOf s) h4) (distanceIn g (s .next))) 0 → P (outside s) 11 → P (joining g s (runOn (g .kind) (runOf s) h4) (distanceIn g (s .next))) 0
-    → P (takenOf g s failed h4) (first (portRefusals g s failed h4))
+by-number : (P : Taken → ℕ → Type 0) (g : Group) (s : Step) (failed odd : Bool) (h4 : ℕ)
+    → P (flagged g s) 10 → P (countsOn g s (runOn (g .kind) (runOf s) odd h4)) 12 → P (frameDropped g s (runOn (g .kind) (runOf s) odd h4)) 0
+    → P (keeps g s (runOn (g .kind) (runOf s) odd h4) (distanceIn g (s .next))) 0 → P (outside s) 11 → P (joining g s (runOn (g .kind) (runOf s) odd h4) (distanceIn g (s .next))) 0
+    → P (takenOf g s failed odd h4) (first (portRefusals g s failed odd h4))
 unfolding inStepAt frames
-by-number P g s failed h4 ten twelve dropped kept eleven joined =
-    taken-by (λ t. P t (first (portRefusals g s failed h4))) g s failed h4
+by-number P g s failed odd h4 ten twelve dropped kept eleven joined =
+    taken-by (λ t. P t (first (portRefusals g s failed odd h4))) g s failed odd h4
     (λ f. rw f ten)
     (λ f e. rw (f, e) twelve)
     (λ f e b. rw (f, e, b) dropped)
@@ -89,14 +89,14 @@ by-number P g s failed h4 ten twelve dropped kept eleven joined =
     (λ f e b j t w. rw (f, e, b, j) joined)
     (λ f e b j w. rw (f, e, b, j) dropped)
 
-abbrev pub decide : Group × Step × Bool × ℕ → Call
-decide (group, step, failed, h4) =
-    stateful (portRefusals group step failed h4) (takenOf group step failed h4 .answer) [] [] step (takenOf group step failed h4 .step) step
+abbrev pub decide : Group × Step × Bool × Bool × ℕ → Call
+decide (group, step, failed, odd, h4) =
+    stateful (portRefusals group step failed odd h4) (takenOf group step failed odd h4 .answer) [] [] step (takenOf group step failed odd h4 .step) step
 
-pub decide-copes : (x : Group × Step × Bool × ℕ) → Copes (decide x)
+pub decide-copes : (x : Group × Step × Bool × Bool × ℕ) → Copes (decide x)
 unfolding flagged countsOn frameDropped keeps outside joining
-decide-copes (group, step, failed, h4) =
-    by-number (λ t n. Under (stateful (portRefusals group step failed h4) (t .answer) [] [] step (t .step) step) n) group step failed h4
+decide-copes (group, step, failed, odd, h4) =
+    by-number (λ t n. Under (stateful (portRefusals group step failed odd h4) (t .answer) [] [] step (t .step) step) n) group step failed odd h4
     (refused _ 10 (refl, refl, tt)) (refused _ 12 (refl, refl, tt)) (done _ refl) (done _ refl) (refused _ 11 (refl, refl, refl)) (done _ refl)
 
 -- A frame: 1, 9, 10, 12, 11.
@@ -117,29 +117,29 @@ frame (state, port, failed, h4, payload, store) =
     stateful
     (Unless 1 (ltb port (portsOf (groupAt state)))
     ∷ Unless 9 (rowsOf (portsOf (groupAt state)) (length state) && eqb (length payload) (groupAt state .payload) && eqb (length store) (storeOf (groupAt state)))
-    ∷ portRefusals (groupAt state) (stepAt state port) failed h4)
+    ∷ portRefusals (groupAt state) (stepAt state port) failed (oddIn state port h4) h4)
     (frameAnswer state port failed h4 (length payload) (length store)) (store ∷ []) (frameStore state port failed h4 payload store ∷ [])
     state (frameRows state port failed h4 payload store) state
 
-frames-on : (b l : Bool) (g : Group) (n : ℕ) (s : List (List ℕ)) (i : ℕ) (failed : Bool) (h4 : ℕ) (payload store : List ℕ)
-    → Copes (stateful (Unless 1 b ∷ Unless 9 l ∷ portRefusals g (stepAt s i) failed h4)
-    (cond (eqb (cond b (cond l 0 9) 1) 0) (takenOf g (stepAt s i) failed h4 .answer) (cond b (cond l 0 9) 1))
+frames-on : (b l : Bool) (g : Group) (n : ℕ) (s : List (List ℕ)) (i : ℕ) (failed odd : Bool) (h4 : ℕ) (payload store : List ℕ)
+    → Copes (stateful (Unless 1 b ∷ Unless 9 l ∷ portRefusals g (stepAt s i) failed odd h4)
+    (cond (eqb (cond b (cond l 0 9) 1) 0) (takenOf g (stepAt s i) failed odd h4 .answer) (cond b (cond l 0 9) 1))
     (store ∷ [])
-    (cond (eqb (cond b (cond l 0 9) 1) 0) (takenStore g i (takenOf g (stepAt s i) failed h4) h4 payload store) store ∷ [])
+    (cond (eqb (cond b (cond l 0 9) 1) 0) (takenStore g i (takenOf g (stepAt s i) failed odd h4) h4 payload store) store ∷ [])
     s
-    (cond (eqb (cond b (cond l 0 9) 1) 0) (takenRows g n s i (takenOf g (stepAt s i) failed h4) h4 payload store) s)
+    (cond (eqb (cond b (cond l 0 9) 1) 0) (takenRows g n s i (takenOf g (stepAt s i) failed odd h4) h4 payload store) s)
     s)
 unfolding takenRows takenStore storeBy flagged countsOn frameDropped keeps outside joining
-frames-on false l g n s i failed h4 payload store = refused _ 1 (refl, refl, refl)
-frames-on true false g n s i failed h4 payload store = refused _ 9 (refl, refl, refl)
-frames-on true true g n s i failed h4 payload store =
-    by-number (λ t k. Under (stateful (Unless 1 true ∷ Unless 9 true ∷ portRefusals g (stepAt s i) failed h4) (t .answer) (store ∷ []) (takenStore g i t h4 payload store ∷ []) s (takenRows g n s i t h4 payload store) s) k)
-    g (stepAt s i) failed h4
+frames-on false l g n s i failed odd h4 payload store = refused _ 1 (refl, refl, refl)
+frames-on true false g n s i failed odd h4 payload store = refused _ 9 (refl, refl, refl)
+frames-on true true g n s i failed odd h4 payload store =
+    by-number (λ t k. Under (stateful (Unless 1 true ∷ Unless 9 true ∷ portRefusals g (stepAt s i) failed odd h4) (t .answer) (store ∷ []) (takenStore g i t h4 payload store ∷ []) s (takenRows g n s i t h4 payload store) s) k)
+    g (stepAt s i) failed odd h4
     (refused _ 10 (refl, refl, tt)) (refused _ 12 (refl, refl, tt)) (done _ refl) (done _ refl) (refused _ 11 (refl, refl, refl)) (done _ refl)
 
 pub frame-copes : (x : List (List ℕ) × ℕ × Bool × ℕ × List ℕ × List ℕ) → Copes (frame x)
 unfolding frameAnswer frameRows frameStore refusalBy frameFits rowsFit storeFor portsIn sized frames tags
-frame-copes (state, port, failed, h4, payload, store) = frames-on _ _ (groupAt state) (portsOf (groupAt state)) state port failed h4 payload store
+frame-copes (state, port, failed, h4, payload, store) = frames-on _ _ (groupAt state) (portsOf (groupAt state)) state port failed (oddIn state port h4) h4 payload store
 
 abbrev pub frameC : List (List ℕ) × ℕ × ℕ × ℕ × List ℕ × List ℕ → Call
 frameC (state, port, failed, h4, payload, store) = frame (state, port, failedC failed, h4, payload, store)

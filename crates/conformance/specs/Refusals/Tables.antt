@@ -36,7 +36,7 @@ idle-is Add = refl
 idle-is Active = refl
 idle-is Dnu = refl
 
-member-is : (s : State) → isMember s ≡ not (idle s)
+pub member-is : (s : State) → isMember s ≡ not (idle s)
 member-is Idle = refl
 member-is Add = refl
 member-is Active = refl

@@ -17,3 +17,9 @@ pub record RunKept (kind : ℕ) (run : Run) : Type 0 where
   pub none : run .count ≡ 0 → run .next ≡ 0
   pub first : run .count ≡ 1 → FirstTold kind (run .next)
   pub goes : 0 < run .count → run .count < frames kind * 2 → run .next % frames kind ≡ run .count % frames kind
+  -- 'the fourth frame in a row that breaks the count' loses step
+  pub breaks : run .breaks ≤ 3
+  -- a flag is 0 or 1
+  pub odd : run .odd ≤ 1
+  -- before the step a break starts anew
+  pub clean : run .count < frames kind * 2 → (run .breaks ≡ 0) × (run .odd ≡ 0)

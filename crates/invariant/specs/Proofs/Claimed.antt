@@ -31,7 +31,7 @@ use Rattle.phases.specs.Passing.{passedGroup, passedOf, passedStep}
 use Rattle.phases.specs.Settling.{begunOf, clearedStep, settledOf, stoppedOf}
 use Rattle.phases.specs.Sizes.{portsIn, storeFor}
 use Rattle.receiver.specs.Fetch.{dueIn, fetchRows, fits, rowsIfDue}
-use Rattle.receiver.specs.Frame.{frameRows, frameStore, marksBy, storeBy, takenIn}
+use Rattle.receiver.specs.Frame.{frameRows, frameStore, marksBy, oddIn, storeBy, takenIn}
 use Rattle.receiver.specs.Laws.Answers.{taken-answer, unrefused}
 use Rattle.receiver.specs.Laws.Frames.{frame-other, frame-port, frameOn}
 use Rattle.receiver.specs.Laws.Passed.{cleared-joined, passed-kind, passed-oldest, passed-origin, passed-payload, passed-window}
@@ -167,7 +167,7 @@ module _ (tag : ℕ) (bytes : List ℕ) (h4 : ℕ) where
     in-step = sym (port-step s i)
 
     inside : t .kept ≡ true → t .at < g .window
-    inside e = taken-inside g (stepAt s i) failed h e
+    inside e = taken-inside g (stepAt s i) failed (oddIn s i h) h e
 
     -- a frame that stands and is not the one put stood before
     stood : (j d : ℕ) → d < g .window → (t .kept ≡ true → j ≡ i → d ≡ t .at → ⊥) → Stands g j d bytes h4 st → Stands g j d bytes h4 store
@@ -204,16 +204,16 @@ module _ (tag : ℕ) (bytes : List ℕ) (h4 : ℕ) where
 
     own-claimed : Claimed a st i tag bytes h4 → Claimed s store i tag bytes h4 ⊎ Handed s i failed h payload store i tag bytes h4
     own-claimed c =
-        let is : takenIn s i failed h ≡ takenOf (groupAt s) (portAt s i .step) failed h = ap (λ (q : Step). takenOf g q failed h) in-step in
+        let is : takenIn s i failed h ≡ takenOf (groupAt s) (portAt s i .step) failed (oddIn s i h) h = ap (λ (q : Step). takenOf g q failed (oddIn s i h) h) in-step in
         let port : portAt (portAfter s i failed h) i ≡ frameOn (g .kind) (portAt s i) t h = frame-port (g .kind) s i t h n (o .port) enough in
         let kept : PortKept (groupAt s) (portAt s i .step) (portAt s i .marks) = k .steady .ports i (o .port) .kept in
         let claims : Claims (groupAt s) (t .step) (marksBy (g .kind) (portAt s i .marks) t) (c .at) = rw (same, port) at (c .claims) in
         let stands : Stands (groupAt s) i (c .at) bytes h4 st = rw same at (c .stands) in
         let tag-is : tag ≡ tagIn (groupAt s) (c .at) = rw same at (c .tag-is) in
-        let found : New (groupAt s) (portAt s i .step) failed h t (c .at) ⊎ Old (groupAt s) (portAt s i .step) (portAt s i .marks) t (c .at) =
-        rw is (taken-claims g (portAt s i .step) (portAt s i .marks) failed h W kept (c .at) (rw is at claims)) in
+        let found : New (groupAt s) (portAt s i .step) failed t (c .at) ⊎ Old (groupAt s) (portAt s i .step) (portAt s i .marks) t (c .at) =
+        rw is (taken-claims g (portAt s i .step) (portAt s i .marks) failed (oddIn s i h) h W kept (c .at) (rw is at claims)) in
         ⊎-elim
-        (λ (w : New (groupAt s) (portAt s i .step) failed h t (c .at)).
+        (λ (w : New (groupAt s) (portAt s i .step) failed t (c .at)).
         let q = put (c .at) (w .kept) (w .at) stands in
         let next : tag ≡ portAt s i .step .next =
         tag-is ∙ ap (λ (d : ℕ). tagIn g d) (w .at ∙ w .next) ∙ tag-next g (portAt s i .step .next) (kept .run .tag) in
@@ -222,7 +222,6 @@ module _ (tag : ℕ) (bytes : List ℕ) (h4 : ℕ) where
           unflagged = w .unflagged;
           answer = taken-answer s i failed h (length payload) (length store) (o .unrefused) ∙ w .answer;
           tag-is = next;
-          counted = rw next (w .counted);
           h4-is = q .0;
           bytes-are = q .1;
         }))

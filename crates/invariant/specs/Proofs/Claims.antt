@@ -10,10 +10,8 @@ use borrow.Author.Tests.{eqb-true, ltb-true}
 use Rattle.invariant.specs.Proofs.Kept.Passing.{ahead}
 use Rattle.invariant.specs.Kept.Port.{Joined, PortKept, Windowed, offset}
 use Rattle.invariant.specs.Proofs.Laws.Flags.{never}
-use Rattle.invariant.specs.Proofs.Laws.Runs.{run-counts, run-goes-on}
 use Rattle.invariant.specs.Proofs.Laws.Window.{distance-next, distance-passed, start-place}
 use Rattle.ground.specs.Truth.{and-left, and-right, clash, eq-or-ne, le-or-lt, or-cases}
-use Rattle.packet.specs.Counts.{counts}
 use Rattle.packet.specs.Kinds.{endsEpoch, epochsIn, frames, startsEpoch, tags}
 use Rattle.packet.specs.Laws.Epochs.{epoch-cut, epoch-ended, epoch-more, in-epoch, later-back, later-part, part-back, part-before, whole-epochs}
 use Rattle.packet.specs.Theorems.Tags.{frames-two}
@@ -26,6 +24,7 @@ use Rattle.step.specs.Arrival.{frameDropped, countsOn, distanceIn, flagOf, flag
 use Rattle.step.specs.declared.arrival.Taken.{Taken}
 use Rattle.step.specs.declared.run.Run.{Run}
 use Rattle.step.specs.Laws.Arrival.{inWindow, ranOn, stepped, taken-by}
+use Rattle.step.specs.Laws.Lost.{run-goes-on}
 use Rattle.store.specs.Laws.Marks.{mark-beyond, mark-cut, mark-marked, mark-passed, sixteen-marked}
 use Rattle.store.specs.Marks.{cutFrom, firstMark, markIn, markedAt, passedMarks}
 use Rattle.invariant.specs.Claims.{Claims, Part}
@@ -60,13 +59,12 @@ passed-claims g s marks k begun due d c =
     }
 
 -- the frame that was just handed
-pub record New (g : Group) (s : Step) (failed : Bool) (h : ℕ) (t : Taken) (d : ℕ) : Type 0 where
+pub record New (g : Group) (s : Step) (failed : Bool) (t : Taken) (d : ℕ) : Type 0 where
   pub kept : t .kept ≡ true
   pub at : d ≡ t .at
   pub next : t .at ≡ offset g s
   pub unflagged : failed ≡ false
   pub answer : t .answer ≡ 0
-  pub counted : counts (g .kind) (s .next) h ≡ true
 
 -- or one that was claimed before
 pub record Old (g : Group) (s : Step) (marks : List ℕ) (t : Taken) (d : ℕ) : Type 0 where
@@ -74,9 +72,9 @@ pub record Old (g : Group) (s : Step) (marks : List ℕ) (t : Taken) (d : ℕ) :
   pub apart : t .kept ≡ true → d ≢ t .at
 
 -- a frame of the port itself
-module _ (g : Group) (s : Step) (marks : List ℕ) (failed : Bool) (h : ℕ) (W : Windowed g) (k : PortKept g s marks) (d : ℕ) where
+module _ (g : Group) (s : Step) (marks : List ℕ) (failed odd : Bool) (h : ℕ) (W : Windowed g) (k : PortKept g s marks) (d : ℕ) where
   abbrev Stays : Taken → Type 0
-  Stays t = Claims g (t .step) (marksBy (g .kind) marks t) d → New g s failed h t d ⊎ Old g s marks t d
+  Stays t = Claims g (t .step) (marksBy (g .kind) marks t) d → New g s failed t d ⊎ Old g s marks t d
 
   flagged-stays : Stays (flagged g s)
   unfolding flagged marksBy
@@ -112,9 +110,9 @@ module _ (g : Group) (s : Step) (marks : List ℕ) (failed : Bool) (h : ℕ) (W 
   unfolding outside marksBy
   outside-stays c = inr (record { claims = c; apart = λ e. never e })
 
-  module _ (f : failed ≡ false) (on : stepped g s h ≡ true) (w : inWindow g s ≡ true) where
+  module _ (f : failed ≡ false) (on : stepped g s odd h ≡ true) (w : inWindow g s ≡ true) where
     abbrev run : Run
-    run = ranOn g s h
+    run = ranOn g s odd h
 
     abbrev e : ℕ
     e = offset g s
@@ -127,16 +125,13 @@ module _ (g : Group) (s : Step) (marks : List ℕ) (failed : Bool) (h : ℕ) (W 
 
     next-offset : distanceIn g (run .next) ≡ e + 1
     next-offset =
-        rw (run-goes-on (g .kind) (runOf s) h on)
+        rw (run-goes-on (g .kind) (runOf s) odd h on)
         (distance-next g (s .next) (let most = W .most in let l = low in let some = W .least in let more = frames-two (g .kind) in omega arith))
-
-    sent : counts (g .kind) (s .next) h ≡ true
-    sent = run-counts (g .kind) (runOf s) h on
 
     keeps-stays : flagOf (s .joined) ≡ true → Stays (keeps g s run e)
     unfolding keeps marksBy
     keeps-stays j c =
-        ⊎-elim (λ (z : d ≡ e). inl (record { kept = refl; at = z; next = refl; unflagged = f; answer = refl; counted = sent }))
+        ⊎-elim (λ (z : d ≡ e). inl (record { kept = refl; at = z; next = refl; unflagged = f; answer = refl }))
         (λ (z : d ≢ e). inr (record { claims = record { begun = c .begun; has = old z }; apart = λ y. z })) (eq-or-ne d e)
       where
         o : Joined g s marks
@@ -187,25 +182,25 @@ module _ (g : Group) (s : Step) (marks : List ℕ) (failed : Bool) (h : ℕ) (W 
         let epochs : frames (g .kind) * epochsIn (g .kind) (offset g s) ≡ offset g s = whole-epochs (g .kind) (offset g s) round (start-place g (s .next) start) in
         let from : offset g s ≤ d = rw epochs at (p .later) in
         let upto : d < offset g s + 1 = rw next-offset at (p .upto) in
-        inl (record { kept = refl; at = omega arith; next = refl; unflagged = f; answer = refl; counted = sent }))
+        inl (record { kept = refl; at = omega arith; next = refl; unflagged = f; answer = refl }))
         (c .has)
 
-  pub taken-claims : Stays (takenOf g s failed h)
+  pub taken-claims : Stays (takenOf g s failed odd h)
   taken-claims =
-      taken-by Stays g s failed h
+      taken-by Stays g s failed odd h
       (λ f. flagged-stays)
-      (λ f e. counts-stays (ranOn g s h))
-      (λ f e b. dropped-stays (ranOn g s h) (λ t. clash (flagOf (g .begun)) t b))
+      (λ f e. counts-stays (ranOn g s odd h))
+      (λ f e b. dropped-stays (ranOn g s odd h) (λ t. clash (flagOf (g .begun)) t b))
       (λ f e b j w. keeps-stays f e w j)
       (λ f e b j w. outside-stays)
       (λ f e b j t w. joins-stays f e w t)
-      (λ f e b j w. dropped-stays (ranOn g s h) (λ t. j))
+      (λ f e b j w. dropped-stays (ranOn g s odd h) (λ t. j))
 
 -- a frame that is stored lies in the window
-pub taken-inside : (g : Group) (s : Step) (failed : Bool) (h : ℕ) → takenOf g s failed h .kept ≡ true → takenOf g s failed h .at < g .window
+pub taken-inside : (g : Group) (s : Step) (failed odd : Bool) (h : ℕ) → takenOf g s failed odd h .kept ≡ true → takenOf g s failed odd h .at < g .window
 unfolding flagged countsOn frameDropped keeps outside joining
-taken-inside g s failed h =
-    taken-by (λ (t : Taken). t .kept ≡ true → t .at < g .window) g s failed h
+taken-inside g s failed odd h =
+    taken-by (λ (t : Taken). t .kept ≡ true → t .at < g .window) g s failed odd h
     (λ f e. absurd (false≢true e))
     (λ f o e. absurd (false≢true e))
     (λ f o b e. absurd (false≢true e))

@@ -24,7 +24,7 @@ use Rattle.phases.specs.Passing.{passedOf}
 use Rattle.phases.specs.Settling.{stoppedOf}
 use Rattle.phases.specs.Sizes.{portsIn}
 use Rattle.receiver.specs.Fetch.{dueIn, fetchRows, fits, rowsIfDue}
-use Rattle.receiver.specs.Frame.{frameRows, frameStore, takenIn}
+use Rattle.receiver.specs.Frame.{frameRows, frameStore, oddIn, takenIn}
 use Rattle.receiver.specs.Laws.Frames.{frame-other, frame-port}
 use Rattle.receiver.specs.Laws.Passed.{cleared-whole, passed-oldest, step-whole}
 use Rattle.receiver.specs.Laws.Sizes.{ports-are}
@@ -69,7 +69,7 @@ module _ (s : List (List ℕ)) (k : Kept s) (i : ℕ) (failed : Bool) (h : ℕ) 
       ⊎-elim
       (λ (e : j ≡ i).
       rw (e, frame-port (groupAt s .kind) s i (takenIn s i failed h) h n b (let r = k .steady .rows in omega arith))
-      (record { ruling = refl; whole = taken-whole (groupAt s) (stepAt s i) failed h ∙ ap (λ (q : Step). q .whole) (sym (port-step s i)) }))
+      (record { ruling = refl; whole = taken-whole (groupAt s) (stepAt s i) failed (oddIn s i h) h ∙ ap (λ (q : Step). q .whole) (sym (port-step s i)) }))
       (λ (d : j ≢ i). rw (frame-other (groupAt s .kind) s i (takenIn s i failed h) h j d) (record { ruling = refl; whole = refl }))
       (eq-or-ne j i)
 

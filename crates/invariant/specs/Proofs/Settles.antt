@@ -15,7 +15,7 @@ use Rattle.ground.specs.Truth.{clash, eq-or-ne, fails}
 use Rattle.phases.specs.Due.{brought, owesNothing, silent}
 use Rattle.phases.specs.Settling.{settledOf}
 use Rattle.phases.specs.Theorems.Settled.{Settled, heard-port, settled-stays}
-use Rattle.receiver.specs.Frame.{marksBy, portRows, settledBy, takenIn}
+use Rattle.receiver.specs.Frame.{marksBy, oddIn, portRows, settledBy, takenIn}
 use Rattle.receiver.specs.Laws.Frames.{frame-group, frame-marks, frame-marks-other, frame-step, frame-step-other}
 use Rattle.rows.specs.declared.group.Group.{Group}
 use Rattle.rows.specs.Group.{groupAt}
@@ -59,7 +59,7 @@ module _ (s : List (List ℕ)) (k : Kept s) (i : ℕ) (failed : Bool) (h : ℕ) 
     q : Quiet g (stepAt s i) (marksAt s i) taken
     q =
         let o : PortIn g (portAt s i) = k .steady .ports i b in
-        taken-quiet g (stepAt s i) (marksAt s i) failed h (windowed g (k .steady .group)) (rw (port-step s i, port-marks s i) at (o .kept)) quiet
+        taken-quiet g (stepAt s i) (marksAt s i) failed (oddIn s i h) h (windowed g (k .steady .group)) (rw (port-step s i, port-marks s i) at (o .kept)) quiet
 
     still-heard : silent g s n ≡ false → silent g after n ≡ false
     unfolding silent

@@ -18,6 +18,7 @@ use Rattle.packet.specs.Reading.{readNibbles}
 use Rattle.packet.specs.Words.{EOS, NORM, assigned}
 use Rattle.phases.specs.Due.{brought, owesNothing}
 use Rattle.packet.specs.Ruling.{rulingOf}
+use Rattle.step.specs.Own.{ownNumber, ownRuling}
 use Rattle.phases.specs.Sizes.{portsIn, sized, storeFor}
 use Rattle.receiver.specs.Fetch.{dueIn, fetchOut, fits, outIfDue, reportIfDue}
 use Rattle.receiver.specs.Lengths.{fetchFits, outputFor, rowsFit}
@@ -56,7 +57,7 @@ store = sent 10 (packet 1 EOS 1) ++ sent 11 (packet 1 NORM 0)
 -- a port as the packet of the epoch itself shows it
 wrong-seen : Group → List (List ℕ) → List ℕ → ℕ → Seen
 wrong-seen g s d i =
-    let r = rulingOf (g .kind) (g .oldest) (packetIn g i d) in
+    let r = ownRuling (g .kind) (g .oldest) (packetIn g i d) in
     record { whole = firstMark (marksAt s i); good = r .good; word = r .word; number = r .number; gid = r .gid; here = firstMark (marksAt s i) }
 
 wrong-out : List ℕ
@@ -70,5 +71,5 @@ order-breaks :
     (fetchOut rows store (replicate 32 0) (replicate 8 0) ≡ sixteen 10 11)
     × (reportIfDue group 2 rows .mark ≡ SURE)
     × (wrong-out ≡ sixteen 11 10)
-unfolding divisor nibbleBits packet group port rows sent store wrong-seen wrong-out sixteen dataOf sealedOf nibblesOf crcOf h4Of carriedIn fieldsOf assigned readNibbles rulingOf rulingEpoch seenOf seenAll orderOf activeIn portOf rankOf judgeOf heldBy doubtfulBy missing exact repeats takes gidDiffers eosWrong eosAlone highest fetchOut fits fetchFits rowsFit storeFor outputFor portsIn sized outIfDue reportIfDue reportOf reportBy dueIn brought owesNothing readable inStep inStepAt outputOf outputBy framesInto frameInto startsOf placeIn ringOf packetIn h4At byteAt nibbleIn firstMark epochOf firstTag frames lead tagBefore tags groupAt groupOf groupRow putGroup marksAt packetsAt putMarks putPackets rowIn putRow stepAt stepOf stepRow putStep
+unfolding divisor nibbleBits packet group port rows sent store wrong-seen wrong-out sixteen dataOf sealedOf nibblesOf crcOf h4Of carriedIn fieldsOf assigned readNibbles ownRuling ownNumber rulingOf rulingEpoch seenOf seenAll orderOf activeIn portOf rankOf judgeOf heldBy doubtfulBy missing exact repeats takes gidDiffers eosWrong eosAlone highest fetchOut fits fetchFits rowsFit storeFor outputFor portsIn sized outIfDue reportIfDue reportOf reportBy dueIn brought owesNothing readable inStep inStepAt outputOf outputBy framesInto frameInto startsOf placeIn ringOf packetIn h4At byteAt nibbleIn firstMark epochOf firstTag frames lead tagBefore tags groupAt groupOf groupRow putGroup marksAt packetsAt putMarks putPackets rowIn putRow stepAt stepOf stepRow putStep
 order-breaks = (refl, refl, refl)

@@ -11,7 +11,7 @@ use Rattle.packet.specs.Counts.{counts}
 use Rattle.packet.specs.Kinds.{distanceOf, firstTag, frames, lead, tagAfter, tags}
 use Rattle.rows.specs.declared.group.Group.{Group}
 use Rattle.step.specs.Arrival.{arrives, byWindow, distanceIn, keeps, takenOf}
-use Rattle.step.specs.Run.{furtherRun, inStepAt, oneMore, runOn}
+use Rattle.step.specs.Run.{breaksAfter, endsPacket, inStepAt, loses, oddAfter, runOn, stayedRun}
 use Rattle.store.specs.Frames.{placeIn, ringOf, storedAt}
 use Rattle.invariant.specs.Claims.{tagIn}
 
@@ -23,7 +23,7 @@ window : Group
 window = sampleGroup 1 17 1 1 0
 
 answers : List ℕ
-answers = tabulate 17 (λ d. takenOf window (sampleStep 32 (tagIn window d) 1 0 0 0) false (sentH4 (tagIn window d)) .answer)
+answers = tabulate 17 (λ d. takenOf window (sampleStep 32 (tagIn window d) 1 0 0 0) false false (sentH4 (tagIn window d)) .answer)
 
 -- the store after the first n of them, by a rule for their places
 brought : (ℕ → ℕ) → ℕ → List ℕ
@@ -45,5 +45,5 @@ place-breaks :
     (answers ≡ replicate 17 0)
     × (found wrongly ≡ 16 ∷ 1 ∷ 2 ∷ 3 ∷ 4 ∷ 5 ∷ 6 ∷ 7 ∷ 8 ∷ 9 ∷ 10 ∷ 11 ∷ 12 ∷ 13 ∷ 14 ∷ 15 ∷ 16 ∷ [])
     × (found rightly ≡ 0 ∷ 1 ∷ 2 ∷ 3 ∷ 4 ∷ 5 ∷ 6 ∷ 7 ∷ 8 ∷ 9 ∷ 10 ∷ 11 ∷ 12 ∷ 13 ∷ 14 ∷ 15 ∷ 16 ∷ [])
-unfolding wrong-place window answers brought found wrongly rightly tagIn takenOf arrives byWindow keeps distanceIn distanceOf after firstTag tagAfter tags lead frames runOn furtherRun oneMore inStepAt counts placeIn ringOf storedAt
+unfolding wrong-place window answers brought found wrongly rightly tagIn takenOf arrives byWindow keeps distanceIn distanceOf after firstTag tagAfter tags lead frames runOn stayedRun loses breaksAfter oddAfter endsPacket inStepAt counts placeIn ringOf storedAt
 place-breaks = (refl, refl, refl)

@@ -13,7 +13,7 @@ use Rattle.packet.specs.Counts.{nibbleIn}
 use Rattle.packet.specs.Kinds.{epochOf}
 use Rattle.packet.specs.Theorems.Tags.{tagOf}
 use Rattle.payload.specs.Order.{groupFrame}
-use Rattle.packet.specs.Ruling.{rulingOf}
+use Rattle.step.specs.Own.{ownRuling}
 use Rattle.receiver.specs.Report.{noSeen}
 use Rattle.link.specs.Road.{L, Road}
 use Rattle.link.specs.Told.{Told}
@@ -30,7 +30,7 @@ module _ (r : Road) where
   -- what is seen of port p in the epoch after epoch i, which the packets of epoch i rule
   unfoldable pub seenAfter : ℕ → ℕ → Seen
   seenAfter i p =
-      let q = rulingOf (r .kind) (numberOf i) (packetOf i p) in
+      let q = ownRuling (r .kind) (numberOf i) (packetOf i p) in
       record { whole = true; good = q .good; word = q .word; number = q .number; gid = q .gid; here = true }
 
   unfoldable pub allSeenAfter : ℕ → List Seen

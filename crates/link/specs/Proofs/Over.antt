@@ -13,14 +13,14 @@ use Rattle.ground.specs.Table.{tabulate, tabulate-ext}
 use Rattle.judge.specs.Verdict.{SURE}
 use Rattle.link.specs.Proofs.Alike.{never, ready-by}
 use Rattle.link.specs.Proofs.Contents.{reportAfter}
-use Rattle.link.specs.Demand3.{Demand3, NeverAlike, NoneDue, Reported, Stands, Started, Time, ToldApart, ownRun, reportAt, standing}
+use Rattle.link.specs.Demand3.{Demand3, NeverAlike, NoneDue, Reported, Stands, Started, Time, ToldApart, UntilBegun, ownRun, reportAt, standing}
 use Rattle.link.specs.Demand3.Stands.{none-yet, reporting}
 use Rattle.link.specs.Proofs.Judged.Apart.{same-ports}
 use Rattle.link.specs.Proofs.Judged.Fairness.{fair}
 use Rattle.link.specs.Proofs.Judged.Reports.{judged}
 use Rattle.link.specs.Link.{Alike, AssumedOver, Link, SameIn, epochFrames, expected, kindOf, roadOf}
 use Rattle.link.specs.Moments.{Beginning, coming}
-use Rattle.link.specs.Running.{Moment, fresh}
+use Rattle.link.specs.Running.{Moment, fresh, hasBegun}
 use Rattle.link.specs.Sending.{Covered, epochStart}
 use Rattle.link.specs.Proofs.Standing.{Before}
 use Rattle.link.specs.Told.{Told}
@@ -28,7 +28,7 @@ use Rattle.link.specs.Proofs.Transport.Answers.{answers-are}
 use Rattle.link.specs.Proofs.Transport.EachStep.{says, steps}
 use Rattle.link.specs.Proofs.Transport.Fetches.{fetch-answered}
 use Rattle.link.specs.Proofs.Transport.Start.{start}
-use Rattle.link.specs.Proofs.Transport.Times.{Phase, Steps, begun-by, phase}
+use Rattle.link.specs.Proofs.Transport.Times.{Phase, Steps, begun-by, come-ready, phase}
 use Rattle.link.specs.Proofs.Transport.Times.Phase.{before, first, later}
 
 module _ (k : Link) (a : AssumedOver k) where
@@ -52,7 +52,7 @@ module _ (k : Link) (a : AssumedOver k) where
             let e = b .foremost .is in
             omega arith
 
-        late : (e : ℕ) → F < suc e * epochFrames k → a .earliest ≤ epochStart (kindOf k) (suc e + j)
+        late : (e : ℕ) → F < suc e * epochFrames k → a .earliest < epochStart (kindOf k) (suc e + j)
         late e h = let f = front in let m = mul-le-mul-right (epochFrames k) (plus e) in omega arith
           where
             plus : (e : ℕ) → suc e ≤ suc e + j
@@ -71,7 +71,7 @@ module _ (k : Link) (a : AssumedOver k) where
       where
         go : Phase (roadOf k) m₀ (at .t) (at .done) (standing k (ownRun k m₀) at) (coming (roadOf k) (at .t) (at .rest)) → Stands k (ownRun k m₀) at
         go (before b un) = none-yet (b .begun) un (b .told)
-        go (first F b c) =
+        go (first F b since c) =
             reporting (c .open-at .begun)
             (record {
               F = F;
@@ -88,7 +88,7 @@ module _ (k : Link) (a : AssumedOver k) where
                 let two = one-epoch (suc e) (epochFrames k) in
                 let z : suc (suc (suc e + 0)) * epochFrames k ≡ suc (suc (suc e)) * epochFrames k = ap (λ (n : ℕ). n * epochFrames k) (omega arith) in
                 omega arith
-        go (later F i b c o) =
+        go (later F i b since c o) =
             reporting (c .open-at .begun)
             (record {
               F = F;
@@ -132,8 +132,29 @@ module _ (k : Link) (a : AssumedOver k) where
         go : Phase (roadOf k) m₀ (at .t) (at .done) (standing k (ownRun k m₀) at) (coming (roadOf k) (at .t) (at .rest))
             → NoneDue k (standing k (ownRun k m₀) at)
         go (before b un) = (fetch-answered (roadOf k) (fair k a) (standing k (ownRun k m₀) at) (b .lined), s .before-none (standing k (ownRun k m₀) at) here b)
-        go (first F b c) = (fetch-answered (roadOf k) (fair k a) (standing k (ownRun k m₀) at) (c .open-at .lined), s .first-none (standing k (ownRun k m₀) at) (suc (F / epochFrames k)) here c)
-        go (later F i b c o) = (fetch-answered (roadOf k) (fair k a) (standing k (ownRun k m₀) at) (c .open-at .lined), s .later-none (standing k (ownRun k m₀) at) (suc (F / epochFrames k)) i here c o)
+        go (first F b since c) = (fetch-answered (roadOf k) (fair k a) (standing k (ownRun k m₀) at) (c .open-at .lined), s .first-none (standing k (ownRun k m₀) at) (suc (F / epochFrames k)) here c)
+        go (later F i b since c o) = (fetch-answered (roadOf k) (fair k a) (standing k (ownRun k m₀) at) (c .open-at .lined), s .later-none (standing k (ownRun k m₀) at) (suc (F / epochFrames k)) i here c o)
+
+  -- receiving has not begun exactly where up to the moment not all ports were ready
+  pub until-begun : (m₀ : Moment) → Started k m₀ → (at : Time k) → UntilBegun k (ownRun k m₀) at
+  unfolding roadOf
+  until-begun m₀ o at = go (phase (roadOf k) m₀ (fair k a) s (from-start m₀ o) (at .t) (at .done) (at .rest) (at .is-order))
+    where
+      none : (n : ℕ) → n ≡ 1 → n ≡ 0 → ⊥
+      none n e z = omega arith
+
+      go : Phase (roadOf k) m₀ (at .t) (at .done) (standing k (ownRun k m₀) at) (coming (roadOf k) (at .t) (at .rest)) → UntilBegun k (ownRun k m₀) at
+      go (before b un) = record { unready = λ z. un; not-begun = λ w. b .begun }
+      go (first F b since c) =
+          record {
+            unready = λ z. absurd (none (hasBegun (standing k (ownRun k m₀) at)) (c .open-at .begun) z);
+            not-begun = λ w. absurd (come-ready (roadOf k) m₀ F b (at .t) (at .done) since w);
+          }
+      go (later F i b since c o) =
+          record {
+            unready = λ z. absurd (none (hasBegun (standing k (ownRun k m₀) at)) (c .open-at .begun) z);
+            not-begun = λ w. absurd (come-ready (roadOf k) m₀ F b (at .t) (at .done) since w);
+          }
 
   always-stands : (m₀ : Moment) → Started k m₀ → (at : Time k) → Stands k (ownRun k m₀) at
   always-stands m₀ o at = stands m₀ (from-start m₀ o) at

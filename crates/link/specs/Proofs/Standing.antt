@@ -1,23 +1,26 @@
 -- What stands at each moment of a run (the invariant of demand 3). Everything of the receiver that matters is a function of how far each port has come and of the window's first position.
 use mathlib.Core.Path.{_≡_}
 use mathlib.Core.Bool.{true, false, cond}
-use mathlib.Core.List.{[]}
-use Prim.Native.Nat.{ℕ, suc, _+_, _-_, _*_, _≤_, _<_}
+use mathlib.Core.List.{List, []}
+use Prim.Native.Nat.{ℕ, suc, _+_, _-_, _*_, _%_, _≤_, _<_}
 use lib.Dec.{leb, ltb}
 use lib.ListN.{getD, length}
 use Rattle.ground.specs.Table.{tabulate}
+use Rattle.packet.specs.Counts.{nibbleIn}
 use Rattle.packet.specs.Kinds.{epochs, firstTag}
 use Rattle.packet.specs.Theorems.Tags.{tagOf}
 use Rattle.phases.specs.Beginning.{begins}
 use Rattle.rows.specs.declared.step.Step.{Step}
 use Rattle.rows.specs.Group.{groupAt}
 use Rattle.rows.specs.Packets.{marksAt, packetsAt}
+use Rattle.rows.specs.Port.{portAt}
 use Rattle.rows.specs.Rows.{rowsFor}
 use Rattle.rows.specs.Step.{stepAt}
 use Rattle.step.specs.Arrival.{runOf}
 use Rattle.step.specs.declared.run.Run.{Run}
+use Rattle.step.specs.Laws.Kept.{few}
 use Rattle.step.specs.Laws.Run.{runAt, startFrom}
-use Rattle.step.specs.Run.{inStepAt}
+use Rattle.step.specs.Run.{inStepAt, noRun}
 use Rattle.store.specs.Laws.Marks.{Sixteen}
 use Rattle.store.specs.Laws.Stands.{Stands}
 use Rattle.store.specs.Marks.{markIn}
@@ -28,7 +31,7 @@ use Rattle.link.specs.Running.{Moment}
 module _ (r : Road) where
   -- the step rule's run of a port whose next frame is the one at x
   unfoldable pub heardRun : ℕ → ℕ → Run
-  heardRun p x = cond (ltb (r .first p) x) (runAt (r .kind) (r .offset) (startFrom (r .kind) (r .offset) (r .first p)) (x - 1)) (record { count = 0; next = 0 })
+  heardRun p x = cond (ltb (r .first p) x) (runAt (r .kind) (r .offset) (startFrom (r .kind) (r .offset) (r .first p)) (x - 1)) noRun
 
   -- What is known of a port's step where its next frame is the one at x. Before the beginning: the run as it is.
   pub record Heard (p x : ℕ) (s : Step) : Type 0 where
@@ -37,10 +40,17 @@ module _ (r : Road) where
     pub failed : s .failed ≡ 0
     pub run : runOf s ≡ heardRun p x
 
-  -- In step: that it is, and the tag to come.
+  -- In step: that it is, the tag to come, that few frames in a row have broken the count, and that no packet was odd.
   pub record Stepped (x : ℕ) (s : Step) : Type 0 where
     pub count : inStepAt (r .kind) (s .count) ≡ true
     pub next : s .next ≡ tagOf (r .kind) (r .offset + x)
+    pub breaks : s .breaks ≤ few (r .kind) (tagOf (r .kind) (r .offset + x))
+    pub even : s .odd ≡ 0
+
+  -- The packet being gathered, in every phase: of each of the last frames of the run its nibble stands at its own place.
+  pub record Live (p x : ℕ) (row : List ℕ) : Type 0 where
+    pub long : length row ≡ 16
+    pub holds : (y : ℕ) → startFrom (r .kind) (r .offset) (r .first p) ≤ y → y < x → x ≤ y + L r → y % L r < 16 → getD row (y % L r) 0 ≡ nibbleIn (r .kind) (r .h4 p y)
 
   -- the rows and the store are the road's
   pub record Lined (m : Moment) : Type 0 where
@@ -58,6 +68,7 @@ module _ (r : Road) where
   pub record Before (m : Moment) (coming : ℕ → ℕ) : Type 0 where
     pub lined : Lined m
     pub heard : (p : ℕ) → p < r .ports → Heard p (coming p) (stepAt (m .rows) p)
+    pub live : (p : ℕ) → p < r .ports → Live p (coming p) (portAt (m .rows) p .gathering)
     pub begun : groupAt (m .rows) .begun ≡ 0
     pub unfit : begins (groupAt (m .rows)) (m .rows) (r .ports) ≡ false
     pub told : m .told ≡ []
@@ -71,6 +82,7 @@ module _ (r : Road) where
     -- all ports are in step and have been since the beginning
     pub in-step : (p : ℕ) → p < r .ports → startFrom (r .kind) (r .offset) (r .first p) + L r * 2 ≤ coming p
     pub stepped : (p : ℕ) → p < r .ports → Stepped (coming p) (stepAt (m .rows) p)
+    pub live : (p : ℕ) → p < r .ports → Live p (coming p) (portAt (m .rows) p .gathering)
     pub since : (p : ℕ) → p < r .ports → stepAt (m .rows) p .since ≡ 1
     pub later : (p : ℕ) → p < r .ports → stepAt (m .rows) p .later ≡ 0
     -- none is further from the window than the window is wide

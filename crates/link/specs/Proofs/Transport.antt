@@ -1,5 +1,6 @@
 -- The transport: which contents come together, for every order of ports, every delay within the spread and for ever.
 pub mod Heard
+pub mod Live
 pub mod Call
 pub mod Start
 pub mod StaysOpen

@@ -46,7 +46,8 @@ use Rattle.sender.specs.Reports.{actedOn, comesBefore, mstApplied, numberAfter,
 use Rattle.sender.specs.Reports.{reportOf as reportHeard}
 use Rattle.sender.specs.Table.{holderOf, membersOf, sizeOf}
 use Rattle.step.specs.Arrival.{arrives, frameDropped, byStart, byWindow, countsOn, distanceIn, flagged, inStep, joining, keeps, outside, readable, takenOf}
-use Rattle.step.specs.Run.{begunRun, furtherRun, inStepAt, oneMore, runOn, secondRun}
+use Rattle.step.specs.Own.{endsOdd, oddPacket, ownNumber, ownRuling}
+use Rattle.step.specs.Run.{begunRun, breaksAfter, endsPacket, furtherRun, gainedRun, inStepAt, loses, oddAfter, runOn, secondRun, stayedRun}
 use Rattle.store.specs.Frames.{byteAt, h4At, packetIn, placeIn, ringOf, storedAt}
 use Rattle.store.specs.Marks.{cutByte, cutFrom, firstMark, markIn, markedAt, markedByte, passedByte, passedMarks}
 use Rattle.link.specs.History.{hasRank, packetSent, payloadSent, senderAt}
@@ -75,5 +76,5 @@ outcomeOf m = record { begun = groupAt (m .rows) .begun; told = m .told; strange
 
 -- after all frame times before t
 unfoldable pub outcome : Link → ℕ → Outcome
-unfolding after tagByHigh tagByLow counts carriesLow nibbleIn nibblePlace startsCount crcOf divisor nibbleBits distanceOf endsEpoch epochAfter epochOf epochs epochsIn firstTag frames idleNumber lead mstFails mstFirst mstNumbers placeOf startsEpoch tagAfter tagBefore tags carriedIn dataOf fieldsOf h4Of nibblesOf sealedOf readNibbles assigned fitting writeBytes activeIn orderOf portOf rankSeen doubtfulBy eosAlone eosWrong exact gidDiffers heldBy highestSeen judgeOf missing repeats takes begins foremost further latest noTag ready within brought owesNothing silent notedBy passedGroup passedOf passedPort passedPorts passedStep ruledBy rulingOf beginBy begunOf clearedPort clearedPorts clearedStep gatherBy settledOf stopBy stoppedOf portsIn sized storeFor dueIn fetchOut fetchRecord fetchRows fits outIfDue reportIfDue rowsIfDue recordOf frameAnswer frameRows frameStore gatheredBy marksBy portRows refusalBy settledBy storeBy takenRows takenStore fetchFits frameFits outputFor rowsFit frameInto framesInto outputBy outputOf replyPort replyPorts reportBy reportSeen reportedOf rulingEpoch seenAll seenOf startsOf withState statesWorkedOut statePut statesPut freshPort freshPorts sizedRows startFits startRows claim claims holders stateBy statesOf ackOf turnsAck groupAt groupOf groupRow putGroup memberAt memberOf memberRow putMember marksAt packetsAt putMarks putPackets putRow rowIn putStep stepAt stepOf stepRow boardOf highestSent noRow rowOf rowsOf addOf addedTo fallen fallenIn freshOf idleSlot lapseOf removeOf removedFrom startOf beginOf freshSender packetBytes packetFields payloadBytes startEpochOf startedEpoch startedSender carriersIn rankAt rankSent actedOn comesBefore mstApplied numberAfter opensWait renumbered reportHeard slotAfter numberApplied turnOf waited holderOf membersOf sizeOf arrives frameDropped byStart byWindow countsOn distanceIn flagged inStep joining keeps outside readable takenOf begunRun furtherRun inStepAt oneMore runOn secondRun byteAt h4At packetIn placeIn ringOf storedAt cutByte cutFrom firstMark markIn markedAt markedByte passedByte passedMarks epochNumber hasRank packetSent payloadSent senderAt allAsSent expected framesOf roadOf drained fetched framed fresh through turn turns
+unfolding after tagByHigh tagByLow counts carriesLow nibbleIn nibblePlace startsCount crcOf divisor nibbleBits distanceOf endsEpoch epochAfter epochOf epochs epochsIn firstTag frames idleNumber lead mstFails mstFirst mstNumbers placeOf startsEpoch tagAfter tagBefore tags carriedIn dataOf fieldsOf h4Of nibblesOf sealedOf readNibbles assigned fitting writeBytes activeIn orderOf portOf rankSeen doubtfulBy eosAlone eosWrong exact gidDiffers heldBy highestSeen judgeOf missing repeats takes begins foremost further latest noTag ready within brought owesNothing silent notedBy passedGroup passedOf passedPort passedPorts passedStep ruledBy rulingOf beginBy begunOf clearedPort clearedPorts clearedStep gatherBy settledOf stopBy stoppedOf portsIn sized storeFor dueIn fetchOut fetchRecord fetchRows fits outIfDue reportIfDue rowsIfDue recordOf frameAnswer frameRows frameStore gatheredBy marksBy portRows refusalBy settledBy storeBy takenRows takenStore fetchFits frameFits outputFor rowsFit frameInto framesInto outputBy outputOf replyPort replyPorts reportBy reportSeen reportedOf rulingEpoch seenAll seenOf startsOf withState statesWorkedOut statePut statesPut freshPort freshPorts sizedRows startFits startRows claim claims holders stateBy statesOf ackOf turnsAck groupAt groupOf groupRow putGroup memberAt memberOf memberRow putMember marksAt packetsAt putMarks putPackets putRow rowIn putStep stepAt stepOf stepRow boardOf highestSent noRow rowOf rowsOf addOf addedTo fallen fallenIn freshOf idleSlot lapseOf removeOf removedFrom startOf beginOf freshSender packetBytes packetFields payloadBytes startEpochOf startedEpoch startedSender carriersIn rankAt rankSent actedOn comesBefore mstApplied numberAfter opensWait renumbered reportHeard slotAfter numberApplied turnOf waited holderOf membersOf sizeOf arrives frameDropped byStart byWindow countsOn distanceIn flagged inStep joining keeps outside readable takenOf endsOdd oddPacket ownNumber ownRuling begunRun breaksAfter endsPacket furtherRun gainedRun inStepAt loses oddAfter runOn secondRun stayedRun byteAt h4At packetIn placeIn ringOf storedAt cutByte cutFrom firstMark markIn markedAt markedByte passedByte passedMarks epochNumber hasRank packetSent payloadSent senderAt allAsSent expected framesOf roadOf drained fetched framed fresh through turn turns
 outcome k t = outcomeOf (through (roadOf k) t (started k))

@@ -121,7 +121,7 @@ idle-later i h = ⊎-elim late early (le-or-lt 10 i)
     early : i < 10 → wordSent history i 2 ≡ IDLE
     early l = eqb-true (wordSent history i 2) IDLE (rw (le-ltb i 4 h) at (sent-early i l))
 
-covered : (i : ℕ) → 57 ≤ epochStart 0 i → Covered (link .sending) i 2 pairing
+covered : (i : ℕ) → 57 < epochStart 0 i → Covered (link .sending) i 2 pairing
 unfolding frames
 covered i from zero b d = record { port = 1; below = omega arith; is = refl }
 covered i from (suc zero) b d = record { port = 0; below = omega arith; is = refl }
@@ -156,6 +156,7 @@ met =
         once = λ t p h. once (eqb (t % 2) 0) p h;
         only = λ t. only (eqb (t % 2) 0);
         arrived = λ i p h. inl refl;
+        spared = λ t p done rest h is-order come un brings. refl;
         room = λ j. omega (arith, length-replicate {A = ℕ} 33 0xEE);
         eight = λ a j. refl;
       };

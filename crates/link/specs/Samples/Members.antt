@@ -66,9 +66,9 @@ output = replicate 33 0xEE
 abbrev pub lent : List ℕ
 lent = replicate 8 0xAA
 
--- A client's group frames. Port 0 is late by some frames, and comes first in the frame times that are named.
-abbrev pub linkBy : Client → ℕ → (ℕ → Bool) → Link
-linkBy client late lateFirst =
+-- A client's group frames, and the packets as they came. Port 0 is late by some frames, and comes first in the frame times that are named.
+abbrev pub linkOf : (ℕ → ℕ → List ℕ) → Client → ℕ → (ℕ → Bool) → Link
+linkOf came client late lateFirst =
     record {
       sending = sendingOf history 1 client unranked;
       ports = 2;
@@ -83,6 +83,9 @@ linkBy client late lateFirst =
       output = λ j. output;
       lent = λ a j. lent;
     }
+
+abbrev pub linkBy : Client → ℕ → (ℕ → Bool) → Link
+linkBy client late lateFirst = linkOf came client late lateFirst
 
 abbrev pub linkWith : ℕ → (ℕ → Bool) → Link
 linkWith late lateFirst = linkBy client late lateFirst

@@ -1,9 +1,9 @@
 -- The sample link is one that demand 3 speaks of.
 use mathlib.Core.Path.{_≡_, refl}
-use mathlib.Core.Logic.{inl, inr}
+use mathlib.Core.Logic.{inl, inr, ⊎-elim}
 use mathlib.Core.Bool.{Bool, true, false, cond, _&&_}
 use mathlib.Core.List.{List, [], _∷_}
-use Prim.Native.Nat.{ℕ, zero, suc, _+_, _*_, _%_, _≤_, _<_}
+use Prim.Native.Nat.{ℕ, zero, suc, _+_, _-_, _*_, _%_, _≤_, _<_}
 use native.Mathlib.Omega.{arith}
 use borrow.Author.Tests.{eqb-true, ltb-true}
 use lib.Dec.{eqb, ltb}
@@ -18,13 +18,13 @@ use Rattle.packet.specs.Theorems.Damage.{changed}
 use Rattle.phases.specs.Sizes.{sized}
 use Rattle.link.specs.Assumed.{Assumed}
 use Rattle.link.specs.History.{Allowed, xAt}
-use Rattle.link.specs.Link.{Arrived, Damaged}
+use Rattle.link.specs.Link.{Arrived, BringsMfi2, Damaged}
 use Rattle.link.specs.Road.{Below, times}
 use Rattle.link.specs.Samples.Computing.{outcome}
 use Rattle.link.specs.Samples.Members.{came, client, damaged, history, link, linkBy, linkWith, sent, unranked}
 use Rattle.link.specs.Sending.{Client, epochAt}
 
-allowed : Allowed history
+pub allowed : Allowed history
 unfolding epochs
 allowed = record { some = omega arith; most = omega arith; first = omega arith; gid = λ i. omega arith; mst = λ i. omega arith; ack = λ i. omega arith }
 
@@ -41,22 +41,34 @@ unfolding outcome highsOf
 three = refl
 
 damage : Damaged 0 3 whole damaged
-unfolding frames lead nibbleIn nibblePlace
+unfolding frames nibblePlace
 damage =
     record {
       long = refl;
       bytes = λ k b. ltb-true (getD damaged k 0) 256 (below-at 16 (λ i. ltb (getD damaged i 0) 256) refl k b);
       least = omega (arith, three);
       most = omega (arith, three);
-      counted = record { first = λ k b. eqb-true (nibblePlace 0 (getD damaged k 0)) (nibblePlace 0 (getD whole k 0)) (below-at 16 (λ i. eqb (nibblePlace 0 (getD damaged i 0)) (nibblePlace 0 (getD whole i 0))) refl k b); high = refl; low = refl };
+      placed = λ k b. eqb-true (nibblePlace 0 (getD damaged k 0)) (nibblePlace 0 (getD whole k 0)) (below-at 16 (λ i. eqb (nibblePlace 0 (getD damaged i 0)) (nibblePlace 0 (getD whole i 0))) refl k b);
     }
 
-arrived : (i p : ℕ) → Arrived 0 3 (sent i p) (came i p)
+pub arrived : (i p : ℕ) → Arrived 0 3 (sent i p) (came i p)
 arrived i p = go (eqb i 8 && eqb p 0) refl
   where
     go : (b : Bool) → (eqb i 8 && eqb p 0) ≡ b → Arrived 0 3 (sent i p) (cond b damaged (sent i p))
     go true e = let hi = eqb-true i 8 (and-left (eqb i 8) (eqb p 0) e) in let hp = eqb-true p 0 (and-right (eqb i 8) (eqb p 0) e) in inr (rw (hi, hp, was-sent) damage)
     go false e = inl refl
+
+-- its MFI2 came as sent, and so did that of all others
+pub number-kept : (i p k : ℕ) → BringsMfi2 0 k → nibbleIn 0 (getD (came i p) k 0) ≡ nibbleIn 0 (getD (sent i p) k 0)
+unfolding lead nibbleIn
+number-kept i p k brings = go (eqb i 8 && eqb p 0) refl
+  where
+    both : BringsMfi2 0 k → nibbleIn 0 (getD damaged k 0) ≡ nibbleIn 0 (getD whole k 0)
+    both = ⊎-elim (λ (e : k ≡ lead 0). rw e refl) (λ (e : k ≡ lead 0 + 1). rw e refl)
+
+    go : (b : Bool) → (eqb i 8 && eqb p 0) ≡ b → nibbleIn 0 (getD (cond b damaged (sent i p)) k 0) ≡ nibbleIn 0 (getD (sent i p) k 0)
+    go true e = let hi = eqb-true i 8 (and-left (eqb i 8) (eqb p 0) e) in let hp = eqb-true p 0 (and-right (eqb i 8) (eqb p 0) e) in rw (hi, hp, was-sent) (both brings)
+    go false e = refl
 
 pub once : (b : Bool) (p : ℕ) → p < 2 → times p (cond b (0 ∷ 1 ∷ []) (1 ∷ 0 ∷ [])) ≡ 1
 once true zero h = refl
@@ -90,6 +102,7 @@ met-by client whole late lateFirst spread =
         once = λ t p h. once (lateFirst t) p h;
         only = λ t. only (lateFirst t);
         arrived = λ i p h. arrived i p;
+        spared = λ t p done rest h is-order come un. number-kept (epochAt 0 (t - cond (eqb p 0) late 0)) p ((t - cond (eqb p 0) late 0) % frames 0);
         room = λ j. omega (arith, length-replicate {A = ℕ} 33 0xEE);
         eight = λ a j. refl;
       };

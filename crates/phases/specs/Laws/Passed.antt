@@ -11,7 +11,7 @@ use Rattle.ground.specs.Truth.{eq-or-ne}
 use Rattle.phases.specs.Laws.Lengths.{length-passed-ports}
 use Rattle.phases.specs.Laws.Ports.{port-put-all, port-put-all-other}
 use Rattle.phases.specs.Passing.{notedBy, passedGroup, passedOf, passedPort, passedPorts, passedStep, ruledBy}
-use Rattle.packet.specs.Ruling.{rulingOf}
+use Rattle.step.specs.Own.{ownRuling}
 use Rattle.rows.specs.declared.group.Group.{Group}
 use Rattle.rows.specs.Group.{groupAt}
 use Rattle.rows.specs.Laws.Group.{group-put-same}
@@ -29,7 +29,7 @@ abbrev pub passedOn : Group → List ℕ → ℕ → Port → Port
 passedOn g store i p =
     record {
       step = passedStep (p .step) (firstMark (p .marks));
-      member = notedBy (p .member) (firstMark (p .marks)) (rulingOf (g .kind) (g .oldest) (packetIn g i store));
+      member = notedBy (p .member) (firstMark (p .marks)) (ownRuling (g .kind) (g .oldest) (packetIn g i store));
       gathering = p .gathering;
       ruling = cond (firstMark (p .marks)) (packetIn g i store) (p .ruling);
       marks = passedMarks (p .marks);
@@ -51,7 +51,7 @@ module _ (g : Group) (store : List ℕ) where
   passed-one i s n b h =
       let whole = firstMark (marksAt s i) in
       let nibbles = packetIn g i store in
-      let m = notedBy (memberAt s i) whole (rulingOf (g .kind) (g .oldest) nibbles) in
+      let m = notedBy (memberAt s i) whole (ownRuling (g .kind) (g .oldest) nibbles) in
       let pair = ruledBy (packetsAt s i) whole nibbles in
       let q = passedStep (stepAt s i) whole in
       port-put-all s i m pair q (passedMarks (marksAt s i)) n b h

@@ -1,11 +1,13 @@
 -- Ports and the group after a port's rows were changed by a frame.
 use mathlib.Core.Path.{_≡_, refl, ap, _∙_}
 use mathlib.Core.Logic.{⊎-elim, _≢_}
-use mathlib.Core.Bool.{Bool, true, false}
+use mathlib.Core.Bool.{Bool, true, false, cond}
 use mathlib.Core.List.{List, [], _∷_}
 use Prim.Native.Nat.{ℕ, _≤_, _<_}
-use lib.ListN.{getD, length}
+use lib.ListN.{getD, length, set}
 use Rattle.ground.specs.Truth.{eq-or-ne}
+use Rattle.packet.specs.Counts.{nibbleIn}
+use Rattle.packet.specs.Kinds.{placeOf}
 use Rattle.receiver.specs.Frame.{gatheredBy, marksBy, ownTag, portRows}
 use Rattle.rows.specs.Group.{groupAt}
 use Rattle.rows.specs.Laws.Group.{group-put-marks, group-put-packets, group-put-step}
@@ -32,6 +34,12 @@ ruling-stays : (kind : ℕ) (a b : List ℕ) (counted : Bool) (tag h : ℕ) → 
 unfolding gatheredBy
 ruling-stays kind a b true tag h = refl
 ruling-stays kind a b false tag h = refl
+
+-- a counted frame's nibble goes to the place of its own tag
+gathers : (kind : ℕ) (a b : List ℕ) (counted : Bool) (tag h : ℕ) → getD (gatheredBy kind (a ∷ b ∷ []) counted tag h) 0 [] ≡ cond counted (set a (placeOf kind tag) (nibbleIn kind h)) a
+unfolding gatheredBy
+gathers kind a b true tag h = refl
+gathers kind a b false tag h = refl
 
 module _ (kind : ℕ) (s : List (List ℕ)) (i : ℕ) (t : Taken) (h : ℕ) where
   pub length-frame : length (portRows kind s i t h) ≡ length s
@@ -75,6 +83,11 @@ module _ (kind : ℕ) (s : List (List ℕ)) (i : ℕ) (t : Taken) (h : ℕ) wher
   pub frame-marks-other : (j : ℕ) → j ≢ i → marksAt (portRows kind s i t h) j ≡ marksAt s j
   unfolding portAt
   frame-marks-other j d = ap (λ (p : Port). p .marks) (frame-other j d)
+
+  -- the packet being gathered
+  pub frame-gathering : (n : ℕ) → i < n → rowsFor n ≤ length s
+      → portAt (portRows kind s i t h) i .gathering ≡ cond (t .counted) (set (portAt s i .gathering) (placeOf kind (ownTag kind t)) (nibbleIn kind h)) (portAt s i .gathering)
+  frame-gathering n b l = ap (λ (p : Port). p .gathering) (frame-port n b l) ∙ gathers kind (portAt s i .gathering) (portAt s i .ruling) (t .counted) (ownTag kind t) h
 
   -- no frame changes which packet rules
   pub frame-ruling : (n : ℕ) → i < n → rowsFor n ≤ length s → (j : ℕ) → portAt (portRows kind s i t h) j .ruling ≡ portAt s j .ruling

@@ -1,38 +1,45 @@
 -- What a steady frame does.
-use mathlib.Core.Path.{_≡_, refl, _∙_}
+use mathlib.Core.Path.{_≡_, refl, _∙_, sym, ap}
 use mathlib.Core.Bool.{Bool, true, false, not, _&&_}
-use Prim.Native.Nat.{ℕ}
+use mathlib.Core.List.{List}
+use Prim.Native.Nat.{ℕ, _+_, _-_, _*_, _%_}
+use native.Mathlib.Omega.{arith}
 use lib.Dec.{eqb, ltb}
 use borrow.Author.Tests.{eqb-true, not-true}
+use Rattle.ground.specs.Circle.{after}
 use Rattle.ground.specs.Truth.{and-left, and-right}
+use Rattle.packet.specs.Clock.{by}
 use Rattle.packet.specs.Counts.{counts}
-use Rattle.packet.specs.Kinds.{endsEpoch, epochsIn, tagAfter}
+use Rattle.packet.specs.Kinds.{distanceOf, endsEpoch, epochsIn, firstTag, frames, placeOf, tagAfter}
 use Rattle.rows.specs.declared.group.Group.{Group}
 use Rattle.rows.specs.declared.step.Step.{Step}
 use Rattle.rows.specs.Step.{withNext}
-use Rattle.step.specs.Arrival.{advanced, distanceIn, flagOf, inStep, keeps, takenOf}
+use Rattle.step.specs.Arrival.{advanced, distanceIn, flagOf, inStep, keeps, runOf, takenOf}
 use Rattle.step.specs.Laws.Arrival.{ranOn, stepped, taken-keeps}
 use Rattle.step.specs.Laws.Run.{run-on}
+use Rattle.step.specs.Own.{endsOdd}
+use Rattle.step.specs.Run.{endsPacket, oddAfter}
 use Rattle.step.specs.Steady.{midEpoch, steady, steadyTaken}
 
 quiet : (a b c : Bool) → b ≡ false → (a && b && c) ≡ false
 quiet true b c e = rw e
 quiet false b c e = refl
 
-module _ (g : Group) (s : Step) (h : ℕ) (had : s .had ≡ 1) (failed : s .failed ≡ 0) (stands : inStep g s ≡ true) (sent : counts (g .kind) (s .next) h ≡ true) where
-  ran : ranOn g s h ≡ record { count = s .count; next = tagAfter (g .kind) (s .next) }
-  unfolding inStep
-  ran = run-on (g .kind) (record { count = s .count; next = s .next }) h stands sent
+module _ (g : Group) (s : Step) (odd : Bool) (h : ℕ) (had : s .had ≡ 1) (failed : s .failed ≡ 0) (unbroken : s .breaks ≡ 0) (stands : inStep g s ≡ true) (sent : counts (g .kind) (s .next) h ≡ true)
+    (even : odd ≡ false) (mid : endsPacket (g .kind) (s .next) ≡ false) where
+  ran : ranOn g s odd h ≡ record { count = s .count; next = tagAfter (g .kind) (s .next); breaks = 0; odd = s .odd }
+  unfolding inStep oddAfter
+  ran = run-on (g .kind) (runOf s) odd h stands sent even ∙ rw mid refl
 
-  steps : stepped g s h ≡ true
+  steps : stepped g s odd h ≡ true
   unfolding inStep
   steps = rw ran stands
 
-  only-next : advanced s (ranOn g s h) ≡ withNext s (tagAfter (g .kind) (s .next))
+  only-next : advanced s (ranOn g s odd h) ≡ withNext s (tagAfter (g .kind) (s .next))
   unfolding withNext
-  only-next = rw (ran, had, failed) refl
+  only-next = rw (ran, had, failed, unbroken) refl
 
-  only-kept : endsEpoch (g .kind) (distanceIn g (s .next)) ≡ false → keeps g s (ranOn g s h) (distanceIn g (s .next)) ≡ steadyTaken g s
+  only-kept : endsEpoch (g .kind) (distanceIn g (s .next)) ≡ false → keeps g s (ranOn g s odd h) (distanceIn g (s .next)) ≡ steadyTaken g s
   unfolding keeps steadyTaken
   only-kept e =
       let d : ℕ = distanceIn g (s .next) in
@@ -46,25 +53,44 @@ mid-epoch-inside : (g : Group) (d : ℕ) → midEpoch g d ≡ true → ltb d (g 
 unfolding midEpoch
 mid-epoch-inside g d w = and-left (ltb d (g .window)) (not (endsEpoch (g .kind) d)) w
 
-pub steady-taken : (g : Group) (s : Step) (flag : Bool) (h : ℕ) → steady g s flag h ≡ true → midEpoch g (distanceIn g (s .next)) ≡ true → takenOf g s flag h ≡ steadyTaken g s
+-- a tag lies as far after an epoch's first frame as its place says, but for whole epochs
+place-after : (kind e t : ℕ) → distanceOf kind t (firstTag kind e) % frames kind ≡ placeOf kind t % frames kind
+unfolding distanceOf after firstTag placeOf
+place-after kind e t = by (λ L E N l. (t + (N - (e * L + (N - l)) % N % N)) % N % L ≡ (t + l) % L % L) (omega arith) (omega arith) kind
+
+mid-packet : (g : Group) (s : Step) → midEpoch g (distanceIn g (s .next)) ≡ true → endsPacket (g .kind) (s .next) ≡ false
+unfolding endsPacket endsEpoch distanceIn
+mid-packet g s w =
+    ap (λ (n : ℕ). eqb n (frames (g .kind) - 1)) (sym (place-after (g .kind) (g .oldest) (s .next))) ∙ mid-epoch-goes-on g (distanceIn g (s .next)) w
+
+-- in mid-epoch no packet ends
+pub mid-even : (g : Group) (s : Step) (row : List ℕ) (h : ℕ) → midEpoch g (distanceIn g (s .next)) ≡ true → endsOdd (g .kind) row (s .next) h ≡ false
+unfolding endsOdd
+mid-even g s row h w = rw (mid-packet g s w) refl
+
+pub steady-taken : (g : Group) (s : Step) (flag odd : Bool) (h : ℕ) → steady g s flag h ≡ true → midEpoch g (distanceIn g (s .next)) ≡ true → odd ≡ false → takenOf g s flag odd h ≡ steadyTaken g s
 unfolding steady
-steady-taken g s flag h t w =
+steady-taken g s flag odd h t w even =
     let d : ℕ = distanceIn g (s .next) in
     let b1 : Bool = not flag in
     let b2 : Bool = b1 && eqb (s .had) 1 in
     let b3 : Bool = b2 && eqb (s .failed) 0 in
-    let b4 : Bool = b3 && inStep g s in
-    let b5 : Bool = b4 && counts (g .kind) (s .next) h in
-    let b6 : Bool = b5 && flagOf (g .begun) in
-    let t6 : b6 ≡ true = and-left b6 (flagOf (s .joined)) t in
-    let t5 : b5 ≡ true = and-left b5 (flagOf (g .begun)) t6 in
-    let t4 : b4 ≡ true = and-left b4 (counts (g .kind) (s .next) h) t5 in
-    let t3 : b3 ≡ true = and-left b3 (inStep g s) t4 in
+    let b4 : Bool = b3 && eqb (s .breaks) 0 in
+    let b5 : Bool = b4 && inStep g s in
+    let b6 : Bool = b5 && counts (g .kind) (s .next) h in
+    let b7 : Bool = b6 && flagOf (g .begun) in
+    let t7 : b7 ≡ true = and-left b7 (flagOf (s .joined)) t in
+    let t6 : b6 ≡ true = and-left b6 (flagOf (g .begun)) t7 in
+    let t5 : b5 ≡ true = and-left b5 (counts (g .kind) (s .next) h) t6 in
+    let t4 : b4 ≡ true = and-left b4 (inStep g s) t5 in
+    let t3 : b3 ≡ true = and-left b3 (eqb (s .breaks) 0) t4 in
     let t2 : b2 ≡ true = and-left b2 (eqb (s .failed) 0) t3 in
     let had : s .had ≡ 1 = eqb-true (s .had) 1 (and-right b1 (eqb (s .had) 1) t2) in
     let failed : s .failed ≡ 0 = eqb-true (s .failed) 0 (and-right b2 (eqb (s .failed) 0) t3) in
-    let stands : inStep g s ≡ true = and-right b3 (inStep g s) t4 in
-    let sent : counts (g .kind) (s .next) h ≡ true = and-right b4 (counts (g .kind) (s .next) h) t5 in
-    taken-keeps g s flag h (not-true flag (and-left b1 (eqb (s .had) 1) t2)) (steps g s h had failed stands sent)
-    (and-right b5 (flagOf (g .begun)) t6) (and-right b6 (flagOf (s .joined)) t) (mid-epoch-inside g d w)
-    ∙ only-kept g s h had failed stands sent (mid-epoch-goes-on g d w)
+    let unbroken : s .breaks ≡ 0 = eqb-true (s .breaks) 0 (and-right b3 (eqb (s .breaks) 0) t4) in
+    let stands : inStep g s ≡ true = and-right b4 (inStep g s) t5 in
+    let sent : counts (g .kind) (s .next) h ≡ true = and-right b5 (counts (g .kind) (s .next) h) t6 in
+    let mid : endsPacket (g .kind) (s .next) ≡ false = mid-packet g s w in
+    taken-keeps g s flag odd h (not-true flag (and-left b1 (eqb (s .had) 1) t2)) (steps g s odd h had failed unbroken stands sent even mid)
+    (and-right b6 (flagOf (g .begun)) t7) (and-right b7 (flagOf (s .joined)) t) (mid-epoch-inside g d w)
+    ∙ only-kept g s odd h had failed unbroken stands sent even mid (mid-epoch-goes-on g d w)

@@ -76,15 +76,15 @@ module _ (g : Group) (s : Step) (marks : List ℕ) (W : Windowed g) (k : PortKep
       let off = none-step (g .kind) in
       out (flagged g s) (quiet-begun (inStepAt (g .kind) 0) off q) (quiet-out (inStepAt (g .kind) 0) off q)
 
-  module _ (h : ℕ) where
+  module _ (odd : Bool) (h : ℕ) where
     abbrev run : Run
-    run = ranOn g s h
+    run = ranOn g s odd h
 
-    counts-quiet : stepped g s h ≡ false → countsOn g s run .settles ≡ false → Quiet g s marks (countsOn g s run)
+    counts-quiet : stepped g s odd h ≡ false → countsOn g s run .settles ≡ false → Quiet g s marks (countsOn g s run)
     unfolding countsOn inStep
-    counts-quiet off q = out (countsOn g s run) (quiet-begun (stepped g s h) off q) (quiet-out (stepped g s h) off q)
+    counts-quiet off q = out (countsOn g s run) (quiet-begun (stepped g s odd h) off q) (quiet-out (stepped g s odd h) off q)
 
-    module _ (on : stepped g s h ≡ true) (begun : flagOf (g .begun) ≡ true) where
+    module _ (on : stepped g s odd h ≡ true) (begun : flagOf (g .begun) ≡ true) where
       -- in step now; before it was, if it had joined or waited to
       same-readable : readable g (advanced s run) ≡ readable g s
       unfolding readable inStep
@@ -96,9 +96,9 @@ module _ (g : Group) (s : Step) (marks : List ℕ) (W : Windowed g) (k : PortKep
               (or-cases (flagOf (s .joined)) (flagOf (s .since)) e)
 
           go : (b : Bool) → (flagOf (s .joined) || flagOf (s .since)) ≡ b
-              → (flagOf (g .begun) && stepped g s h && b) ≡ (flagOf (g .begun) && inStep g s && b)
+              → (flagOf (g .begun) && stepped g s odd h && b) ≡ (flagOf (g .begun) && inStep g s && b)
           go true e = rw (on, was e) refl
-          go false e = rw (and-false (flagOf (g .begun) && stepped g s h), and-false (flagOf (g .begun) && inStep g s)) refl
+          go false e = rw (and-false (flagOf (g .begun) && stepped g s odd h), and-false (flagOf (g .begun) && inStep g s)) refl
 
       same-lets : (m : List ℕ) → firstMark m ≡ firstMark marks → owesNothing g (advanced s run) m ≡ owesNothing g s marks
       unfolding owesNothing
@@ -172,14 +172,14 @@ outside-quiet : (g : Group) (s : Step) (marks : List ℕ) → flagOf (g .begun) 
 unfolding outside marksBy
 outside-quiet g s marks b = record { begun = b; heard = λ r. r; owesNothing = λ f l. l }
 
-pub taken-quiet : (g : Group) (s : Step) (marks : List ℕ) (failed : Bool) (h : ℕ) → Windowed g → PortKept g s marks → takenOf g s failed h .settles ≡ false
-    → Quiet g s marks (takenOf g s failed h)
-taken-quiet g s marks failed h W k =
-    taken-by (λ (t : Taken). t .settles ≡ false → Quiet g s marks t) g s failed h
+pub taken-quiet : (g : Group) (s : Step) (marks : List ℕ) (failed odd : Bool) (h : ℕ) → Windowed g → PortKept g s marks → takenOf g s failed odd h .settles ≡ false
+    → Quiet g s marks (takenOf g s failed odd h)
+taken-quiet g s marks failed odd h W k =
+    taken-by (λ (t : Taken). t .settles ≡ false → Quiet g s marks t) g s failed odd h
     (λ f. flagged-quiet g s marks W k)
-    (λ f e. counts-quiet g s marks W k h e)
-    (λ f e b q. clash (flagOf (g .begun)) (aside-begun g s (ranOn g s h) q) b)
-    (λ f e b j w. keeps-quiet g s marks W k h e b)
+    (λ f e. counts-quiet g s marks W k odd h e)
+    (λ f e b q. clash (flagOf (g .begun)) (aside-begun g s (ranOn g s odd h) q) b)
+    (λ f e b j w. keeps-quiet g s marks W k odd h e b)
     (λ f e b j w q. outside-quiet g s marks b)
-    (λ f e b j t w q. joins-quiet g s marks W k h e b j w)
-    (λ f e b j w q. aside-quiet g s marks W k h e b)
+    (λ f e b j t w q. joins-quiet g s marks W k odd h e b j w)
+    (λ f e b j w q. aside-quiet g s marks W k odd h e b)

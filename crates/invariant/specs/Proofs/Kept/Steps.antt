@@ -1,5 +1,5 @@
 -- What is kept by each thing that a call does.
-use mathlib.Core.Path.{_≡_, refl, sym, _∙_}
+use mathlib.Core.Path.{_≡_, refl, sym, ap, _∙_}
 use mathlib.Core.Logic.{⊎-elim, _≢_}
 use mathlib.Core.Bool.{Bool, true, false, cond, not, _&&_, _||_, true≢false, false≢true}
 use mathlib.Core.List.{List}
@@ -30,15 +30,16 @@ use Rattle.phases.specs.Laws.Cleared.{begun-group, begun-port, stopped-group, s
 use Rattle.phases.specs.Laws.Lengths.{length-begun, length-passed, length-stopped}
 use Rattle.phases.specs.Laws.Passed.{passed-group, passed-of-port}
 use Rattle.phases.specs.Passing.{groupTo, notedBy, passedGroup, passedOf}
-use Rattle.packet.specs.Ruling.{rulingBy, rulingOf}
+use Rattle.packet.specs.Ruling.{refused, rulingBy, rulingOf}
 use Rattle.phases.specs.Settling.{begunOf, stoppedOf}
-use Rattle.receiver.specs.Frame.{portRows, takenIn}
+use Rattle.receiver.specs.Frame.{oddIn, portRows, takenIn}
 use Rattle.receiver.specs.Laws.Frames.{frame-group, frame-other, frame-port, frameOn, length-frame}
 use Rattle.receiver.specs.Laws.Passed.{cleared-whole, origin-within, passed-count, passed-gathered}
 use Rattle.receiver.specs.Laws.Sizes.{sizes-of}
 use Rattle.reply.specs.Members.{noWord}
 use Rattle.rows.specs.declared.group.Group.{Group}
 use Rattle.rows.specs.declared.member.Member.{Member}
+use Rattle.rows.specs.declared.step.Step.{Step}
 use Rattle.rows.specs.Group.{groupAt}
 use Rattle.rows.specs.Laws.Port.{port-marks, port-step}
 use Rattle.rows.specs.Packets.{marksAt}
@@ -47,6 +48,7 @@ use Rattle.rows.specs.Rows.{rowsFor}
 use Rattle.rows.specs.Step.{stepAt}
 use Rattle.step.specs.Arrival.{flagOf, inStep, takenOf}
 use Rattle.step.specs.declared.arrival.Taken.{Taken}
+use Rattle.step.specs.Own.{ownNumber, ownRuling}
 use Rattle.store.specs.Frames.{packetIn}
 use Rattle.store.specs.Marks.{firstMark}
 
@@ -103,15 +105,17 @@ read-known ns =
     (λ a e. absurd (false≢true e))))
     (λ c e. absurd (false≢true e))
 
-ruling-known : (kind epoch : ℕ) (ns : List ℕ) → rulingOf kind epoch ns .good ≡ true → knownWord (rulingOf kind epoch ns .word) ≡ true
-unfolding rulingOf
-ruling-known kind epoch ns e = read-known ns e
+ruling-known : (kind epoch : ℕ) (ns : List ℕ) → ownRuling kind epoch ns .good ≡ true → knownWord (ownRuling kind epoch ns .word) ≡ true
+unfolding ownRuling rulingOf
+ruling-known kind epoch ns =
+    cond-by (λ (r : Ruling). r .good ≡ true → knownWord (r .word) ≡ true) (ownNumber epoch ns) (rulingOf kind epoch ns) refused (λ own. read-known ns)
+    (λ other e. absurd (false≢true e))
 
-noted-word : (m : Member) (whole : Bool) (kind epoch : ℕ) (nibbles : List ℕ) → knownWord (m .word) ≡ true → knownWord (notedBy m whole (rulingOf kind epoch nibbles) .word) ≡ true
+noted-word : (m : Member) (whole : Bool) (kind epoch : ℕ) (nibbles : List ℕ) → knownWord (m .word) ≡ true → knownWord (notedBy m whole (ownRuling kind epoch nibbles) .word) ≡ true
 unfolding notedBy
-noted-word m true kind epoch nibbles k = go (rulingOf kind epoch nibbles .good) refl
+noted-word m true kind epoch nibbles k = go (ownRuling kind epoch nibbles .good) refl
   where
-    go : (b : Bool) → rulingOf kind epoch nibbles .good ≡ b → knownWord (cond b (rulingOf kind epoch nibbles .word) (m .word)) ≡ true
+    go : (b : Bool) → ownRuling kind epoch nibbles .good ≡ b → knownWord (cond b (ownRuling kind epoch nibbles .word) (m .word)) ≡ true
     go true e = ruling-known kind epoch nibbles e
     go false e = k
 noted-word m false kind epoch nibbles k = k
@@ -156,8 +160,8 @@ module _ (s : List (List ℕ)) (k : Lasting s) where
       t : Taken
       t = takenIn s i failed h
 
-      is : t ≡ takenOf g (portAt s i .step) failed h
-      is = rw (port-step s i) refl
+      is : t ≡ takenOf g (portAt s i .step) failed (oddIn s i h) h
+      is = ap (λ (q : Step). takenOf g q failed (oddIn s i h) h) (sym (port-step s i))
 
       group : groupAt (portRows (g .kind) s i t h) ≡ g
       group = frame-group (g .kind) s i t h
@@ -171,8 +175,8 @@ module _ (s : List (List ℕ)) (k : Lasting s) where
       here : PortIn g (frameOn (g .kind) (portAt s i) t h)
       here =
           record {
-            kept = rw is (taken-kept g (portAt s i .step) (portAt s i .marks) failed h (windowed g (k .group)) (o .kept));
-            unruled = λ f. rw is (taken-whole g (portAt s i .step) failed h ∙ o .unruled f);
+            kept = rw is (taken-kept g (portAt s i .step) (portAt s i .marks) failed (oddIn s i h) h (windowed g (k .group)) (o .kept));
+            unruled = λ f. rw is (taken-whole g (portAt s i .step) failed (oddIn s i h) h ∙ o .unruled f);
             word = o .word;
           }
 

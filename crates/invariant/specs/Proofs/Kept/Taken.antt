@@ -9,7 +9,7 @@ use lib.Dec.{eqb, leb, ltb}
 use borrow.Author.Tests.{ltb-true, lt-ltb, le-ltb, eqb-true}
 use Rattle.invariant.specs.Kept.Port.{Joined, PortKept, Waiting, Windowed, endOf, offset, shortOf}
 use Rattle.invariant.specs.Proofs.Laws.Flags.{flag-on, never}
-use Rattle.invariant.specs.Proofs.Laws.Runs.{none-kept, run-goes-on, run-kept}
+use Rattle.invariant.specs.Proofs.Laws.Runs.{none-kept, run-kept}
 use Rattle.invariant.specs.Proofs.Laws.Window.{at-base, distance-next, no-offset, short-next, start-place}
 use Rattle.ground.specs.Truth.{and-left, and-true, clash, le-or-lt, or-cases}
 use Rattle.packet.specs.Kinds.{endsEpoch, epochsIn, frames, startsEpoch, tagAfter, tags}
@@ -22,6 +22,8 @@ use Rattle.step.specs.Arrival.{advanced, frameDropped, countsOn, distanceIn, fl
 use Rattle.step.specs.declared.arrival.Taken.{Taken}
 use Rattle.step.specs.declared.run.Run.{Run}
 use Rattle.step.specs.Laws.Arrival.{inWindow, ranOn, stepped, taken-by}
+use Rattle.step.specs.Laws.Lost.{run-goes-on}
+use Rattle.step.specs.Run.{noRun}
 use Rattle.store.specs.Laws.Marks.{Sixteen, mark-beyond, mark-cut, mark-marked, sixteen-cut, sixteen-marked}
 use Rattle.store.specs.Marks.{markIn, markedAt}
 use Rattle.invariant.specs.Kept.Run.{RunKept}
@@ -57,26 +59,26 @@ module _ (g : Group) (s : Step) (marks : List ℕ) (W : Windowed g) (k : PortKep
 
   flagged-keeps : Keeps (flagged g s)
   unfolding flagged marksBy
-  flagged-keeps = lost-kept g s marks 1 (record { count = 0; next = 0 }) (omega arith) (none-kept (g .kind)) (λ n. refl) k
+  flagged-keeps = lost-kept g s marks 1 noRun (omega arith) (none-kept (g .kind)) (λ n. refl) k
 
   outside-keeps : Keeps (outside s)
   unfolding outside marksBy
   outside-keeps = k
 
-  module _ (h : ℕ) where
+  module _ (odd : Bool) (h : ℕ) where
     abbrev run : Run
-    run = ranOn g s h
+    run = ranOn g s odd h
 
     ran : RunKept (g .kind) run
-    ran = run-kept (g .kind) (runOf s) h (k .run)
+    ran = run-kept (g .kind) (runOf s) odd h (k .run)
 
     counts-keeps : Keeps (countsOn g s run)
     unfolding countsOn marksBy
     counts-keeps = lost-kept g s marks 0 run (omega arith) ran (λ n. absurd (n refl)) k
 
-    module _ (on : stepped g s h ≡ true) where
+    module _ (on : stepped g s odd h ≡ true) where
       after : run .next ≡ tagAfter (g .kind) (s .next)
-      after = run-goes-on (g .kind) (runOf s) h on
+      after = run-goes-on (g .kind) (runOf s) odd h on
 
       -- in step, and all else that does not look at the window
       abbrev d : ℕ
@@ -246,21 +248,21 @@ module _ (g : Group) (s : Step) (marks : List ℕ) (W : Windowed g) (k : PortKep
             }
 
 -- what a frame leaves of its port
-pub taken-kept : (g : Group) (s : Step) (marks : List ℕ) (failed : Bool) (h : ℕ) → Windowed g → PortKept g s marks
-    → PortKept g (takenOf g s failed h .step) (marksBy (g .kind) marks (takenOf g s failed h))
-taken-kept g s marks failed h W k =
-    taken-by (λ (t : Taken). PortKept g (t .step) (marksBy (g .kind) marks t)) g s failed h
+pub taken-kept : (g : Group) (s : Step) (marks : List ℕ) (failed odd : Bool) (h : ℕ) → Windowed g → PortKept g s marks
+    → PortKept g (takenOf g s failed odd h .step) (marksBy (g .kind) marks (takenOf g s failed odd h))
+taken-kept g s marks failed odd h W k =
+    taken-by (λ (t : Taken). PortKept g (t .step) (marksBy (g .kind) marks t)) g s failed odd h
     (λ f. flagged-keeps g s marks W k)
-    (λ f e. counts-keeps g s marks W k h)
-    (λ f e b. before-keeps g s marks W k h e b)
-    (λ f e b j w. keeps-keeps g s marks W k h e w b j)
+    (λ f e. counts-keeps g s marks W k odd h)
+    (λ f e b. before-keeps g s marks W k odd h e b)
+    (λ f e b j w. keeps-keeps g s marks W k odd h e w b j)
     (λ f e b j w. outside-keeps g s marks W k)
-    (λ f e b j t w. joins-keeps g s marks W k h e w b j t)
-    (λ f e b j w. waits-keeps g s marks W k h e j w)
+    (λ f e b j t w. joins-keeps g s marks W k odd h e w b j t)
+    (λ f e b j w. waits-keeps g s marks W k odd h e j w)
 
 -- and what rules stays
-pub taken-whole : (g : Group) (s : Step) (failed : Bool) (h : ℕ) → takenOf g s failed h .step .whole ≡ s .whole
+pub taken-whole : (g : Group) (s : Step) (failed odd : Bool) (h : ℕ) → takenOf g s failed odd h .step .whole ≡ s .whole
 unfolding flagged countsOn frameDropped keeps outside joining
-taken-whole g s failed h =
-    taken-by (λ (t : Taken). t .step .whole ≡ s .whole) g s failed h (λ f. refl) (λ f e. refl) (λ f e b. refl) (λ f e b j w. refl) (λ f e b j w. refl)
+taken-whole g s failed odd h =
+    taken-by (λ (t : Taken). t .step .whole ≡ s .whole) g s failed odd h (λ f. refl) (λ f e. refl) (λ f e b. refl) (λ f e b j w. refl) (λ f e b j w. refl)
     (λ f e b j t w. refl) (λ f e b j w. refl)

@@ -1,20 +1,11 @@
 -- Frames of the window by their distance from its first (01, 'Window').
 use mathlib.Core.Path.{_≡_}
 use mathlib.Core.Bool.{true}
-use mathlib.Core.List.{List}
 use Prim.Native.Nat.{ℕ, _+_, _%_, _≤_, _<_}
-use native.Mathlib.Omega.{arith}
-use Rattle.ground.specs.Table.{getD-tabulate}
-use Rattle.packet.specs.Counts.{counts, nibbleIn}
-use Rattle.packet.specs.Kinds.{distanceOf, epochAfter, epochs, firstTag, frames, lead, startsEpoch, tagAfter, tags}
-use Rattle.packet.specs.Laws.Counting.{epoch-carried}
-use Rattle.packet.specs.Laws.Distances.{ahead-nearer, at-start, distance-leads, distance-nearer, distance-on, epoch-passed, first-on, no-distance, start-multiple}
-use Rattle.packet.specs.Laws.Epochs.{second-carried}
-use Rattle.packet.specs.Layout.{fieldsOf}
-use Rattle.receiver.specs.Report.{rulingEpoch}
+use Rattle.packet.specs.Kinds.{distanceOf, epochAfter, firstTag, frames, startsEpoch, tagAfter, tags}
+use Rattle.packet.specs.Laws.Distances.{ahead-nearer, at-start, distance-leads, distance-nearer, distance-on, first-on, no-distance, start-multiple}
 use Rattle.rows.specs.declared.group.Group.{Group}
 use Rattle.step.specs.Arrival.{distanceIn}
-use Rattle.store.specs.Frames.{h4At, packetIn}
 use Rattle.invariant.specs.Claims.{tagIn}
 
 module _ (g : Group) (t : ℕ) where
@@ -58,19 +49,3 @@ tag-next g t h = distance-leads (g .kind) t (firstTag (g .kind) (g .oldest)) h
 pub tag-passed : (g g′ : Group) (d : ℕ) → g′ .kind ≡ g .kind → g′ .oldest ≡ epochAfter (g .kind) (g .oldest) → tagIn g′ d ≡ tagIn g (d + frames (g .kind))
 unfolding tagIn
 tag-passed g g′ d k o = rw (k, o) (first-on (g .kind) (g .oldest) d)
-
--- where the two frames that bring MFI2 count as their tags say, the packet carries the number of its epoch
-pub packet-numbered : (g : Group) (i : ℕ) (store : List ℕ) → g .oldest < epochs (g .kind)
-    → counts (g .kind) (tagIn g (lead (g .kind))) (h4At g i (lead (g .kind)) store) ≡ true
-    → counts (g .kind) (tagIn g (lead (g .kind) + 1)) (h4At g i (lead (g .kind) + 1) store) ≡ true → fieldsOf (packetIn g i store) .epoch ≡ g .oldest
-unfolding packetIn tagIn
-packet-numbered g i store below first second =
-    let inside = second-carried (g .kind) in
-    epoch-carried (g .kind) (g .oldest) (packetIn g i store) (h4At g i (lead (g .kind)) store) (h4At g i (lead (g .kind) + 1) store) below
-    (getD-tabulate 16 (λ k. nibbleIn (g .kind) (h4At g i k store)) (lead (g .kind)) 0 (omega arith))
-    (getD-tabulate 16 (λ k. nibbleIn (g .kind) (h4At g i k store)) (lead (g .kind) + 1) 0 (omega arith)) first second
-
--- the epoch before the oldest, as the window passes an epoch
-pub ruling-passed : (g g′ : Group) → g′ .kind ≡ g .kind → g′ .oldest ≡ epochAfter (g .kind) (g .oldest) → g .oldest < epochs (g .kind) → rulingEpoch g′ ≡ g .oldest
-unfolding rulingEpoch
-ruling-passed g g′ k o h = rw (k, o) (epoch-passed (g .kind) (g .oldest) h)

@@ -6,7 +6,7 @@ use mathlib.Core.List.{List, [], _∷_}
 use Prim.Native.Nat.{ℕ, _+_, _-_, _*_, _≤_, _<_}
 use native.Mathlib.Omega.{arith}
 use lib.Dec.{eqb, ltb}
-use lib.ListN.{length}
+use lib.ListN.{getD, length}
 use borrow.Author.Tests.{eq-eqb, ne-eqb, lt-ltb}
 use Rattle.invariant.specs.Proofs.Arriving.{Counts, after-group, frame-by}
 use Rattle.invariant.specs.Proofs.Calls.{run-kept, step-kept}
@@ -32,10 +32,10 @@ use Rattle.phases.specs.Passing.{passedGroup, passedOf, passedStep}
 use Rattle.phases.specs.Sizes.{portsIn, storeFor}
 use Rattle.phases.specs.Theorems.Settled.{passed-begun}
 use Rattle.receiver.specs.Fetch.{dueIn, fetchRows, fits, rowsIfDue}
-use Rattle.receiver.specs.Frame.{frameAnswer, frameRefusal, frameRows, frameStore, refusalBy, storeBy, takenIn, takenStore}
+use Rattle.receiver.specs.Frame.{frameAnswer, frameRefusal, frameRows, frameStore, oddIn, refusalBy, storeBy, takenIn, takenStore}
 use Rattle.receiver.specs.Laws.Answers.{Fitting, fitting-none, taken-answer, unrefused}
 use Rattle.receiver.specs.Laws.Frames.{frame-other}
-use Rattle.receiver.specs.Laws.Passed.{step-count, step-joined, step-next}
+use Rattle.receiver.specs.Laws.Passed.{step-joined}
 use Rattle.receiver.specs.Laws.Sizes.{ports-are}
 use Rattle.receiver.specs.Laws.Told.{told-group, told-of-port, withAck}
 use Rattle.receiver.specs.Lengths.{frameFits}
@@ -45,13 +45,16 @@ use Rattle.rows.specs.declared.group.Group.{Group}
 use Rattle.rows.specs.declared.step.Step.{Step}
 use Rattle.rows.specs.Group.{groupAt}
 use Rattle.rows.specs.Laws.Port.{port-step}
-use Rattle.rows.specs.Port.{portAt}
+use Rattle.rows.specs.Packets.{packetsAt}
+use Rattle.rows.specs.Port.{Port, portAt}
 use Rattle.rows.specs.Rows.{rowsFor}
 use Rattle.rows.specs.Step.{stepAt}
-use Rattle.step.specs.Arrival.{frameDropped, countsOn, distanceIn, flagOf, flagged, joining, keeps, outside, takenOf}
+use Rattle.step.specs.Arrival.{frameDropped, countsOn, distanceIn, flagOf, flagged, joining, keeps, outside, runOf, takenOf}
 use Rattle.step.specs.declared.arrival.Taken.{Taken}
 use Rattle.step.specs.declared.run.Run.{Run}
 use Rattle.step.specs.Laws.Arrival.{ranOn, stepped, taken-by, taken-keeps}
+use Rattle.step.specs.Own.{endsOdd}
+use Rattle.step.specs.Run.{inStepAt, runOn}
 use Rattle.store.specs.Frames.{placeIn, storedAt}
 use Rattle.store.specs.Laws.Stands.{stands-put}
 use Rattle.store.specs.Laws.Stored.{length-stored}
@@ -60,16 +63,16 @@ use Rattle.invariant.specs.Calls.{Fetch, Frame, Receiver, ReceiverCall, 
 use Rattle.invariant.specs.Reports.{Given, Others, Stored, Unstopped, epochGiven, gives, reportsOf, stopsWith}
 
 -- What 11 says of a port.
-record Full (g : Group) (s : Step) (failed : Bool) (h : ℕ) : Type 0 where
+record Full (g : Group) (s : Step) (failed odd : Bool) (h : ℕ) : Type 0 where
   unflagged : failed ≡ false
-  on : stepped g s h ≡ true
+  on : stepped g s odd h ≡ true
   begun : flagOf (g .begun) ≡ true
   joined : flagOf (s .joined) ≡ true
 
-full : (g : Group) (s : Step) (failed : Bool) (h : ℕ) → takenOf g s failed h .answer ≡ 11 → Full g s failed h
+full : (g : Group) (s : Step) (failed odd : Bool) (h : ℕ) → takenOf g s failed odd h .answer ≡ 11 → Full g s failed odd h
 unfolding flagged countsOn frameDropped keeps outside joining
-full g s failed h =
-    taken-by (λ (t : Taken). t .answer ≡ 11 → Full g s failed h) g s failed h
+full g s failed odd h =
+    taken-by (λ (t : Taken). t .answer ≡ 11 → Full g s failed odd h) g s failed odd h
     (λ f e. absurd (omega arith))
     (λ f o e. absurd (omega arith))
     (λ f o b e. absurd (omega arith))
@@ -79,12 +82,16 @@ full g s failed h =
     (λ f o b j w e. absurd (omega arith))
 
 -- The port as it stands while it is not handed anything: only the window moves, and never away from it.
-record Still (count next joined far : ℕ) (g : Group) (q : Step) : Type 0 where
-  count-is : q .count ≡ count
-  next-is : q .next ≡ next
-  joined-is : q .joined ≡ joined
+record Still (run : Run) (gathering : List ℕ) (joined far : ℕ) (g : Group) (q : Port) : Type 0 where
+  run-is : runOf (q .step) ≡ run
+  gathering-is : q .gathering ≡ gathering
+  joined-is : q .step .joined ≡ joined
   begun : flagOf (g .begun) ≡ true
-  within : offset g q ≤ far
+  within : offset g (q .step) ≤ far
+
+step-run : (q : Step) (w : Bool) → runOf (passedStep q w) ≡ runOf q
+unfolding passedStep
+step-run q w = refl
 
 nearer : (g : Group) (q : Step) (w : Bool) → frames (g .kind) ≤ offset g q → offset (passedGroup g) (passedStep q w) + frames (g .kind) ≡ offset g q
 unfolding passedGroup passedStep
@@ -94,9 +101,9 @@ ack-offset : (g : Group) (ack : ℕ) (q : Step) → offset (withAck g ack) q ≡
 unfolding distanceIn
 ack-offset g ack q = refl
 
-module _ (i count next joined : ℕ) (on : flagOf joined ≡ true) where
+module _ (i : ℕ) (run : Run) (gathering : List ℕ) (joined : ℕ) (on : flagOf joined ≡ true) where
   abbrev StillIn : ℕ → List (List ℕ) → Type 0
-  StillIn far s = Still count next joined far (groupAt s) (portAt s i .step)
+  StillIn far s = Still run gathering joined far (groupAt s) (portAt s i)
 
   -- an epoch passed brings the window nearer
   passed-still : (far less n : ℕ) (s : List (List ℕ)) → Lasting s → groupAt s .count ≡ n → (store : List ℕ) → brought (groupAt s) s n ≡ true → i < n → StillIn far s
@@ -113,8 +120,8 @@ module _ (i count next joined : ℕ) (on : flagOf joined ≡ true) where
       let w = o .within in
       rw (passed-group g store n s (omega arith), passed-of-port g store n s i b enough)
       (record {
-        count-is = step-count q first ∙ o .count-is;
-        next-is = step-next q first ∙ o .next-is;
+        run-is = step-run q first ∙ o .run-is;
+        gathering-is = o .gathering-is;
         joined-is = step-joined q first ∙ o .joined-is;
         begun = rw (passed-begun g) (o .begun);
         within = omega arith;
@@ -148,7 +155,7 @@ module _ (i count next joined : ℕ) (on : flagOf joined ≡ true) where
       same : groupAt (portAfter s j failed h) ≡ groupAt s
       same = after-group s j failed h
 
-      there : Still count next joined far (groupAt (portAfter s j failed h)) (portAt (portAfter s j failed h) i .step)
+      there : Still run gathering joined far (groupAt (portAfter s j failed h)) (portAt (portAfter s j failed h) i)
       there = rw (same, frame-other (groupAt s .kind) s j (takenIn s j failed h) h i (λ e. d (sym e))) o
 
       ports : portsIn (groupAt s) ≡ groupAt s .count
@@ -169,11 +176,11 @@ module _ (i count next joined : ℕ) (on : flagOf joined ≡ true) where
       let d : Due (groupAt s) (groupAt s .count) s = due-says g n s (rw ports at (v .due)) in
       let p : List (List ℕ) = passedOf (groupAt s) store (groupAt s .count) s in
       let long : rowsFor (groupAt s .count) ≤ length p = rw (length-passed g store n s) (let r = k .steady .rows in omega arith) in
-      let passed : Still count next joined less (groupAt p) (portAt p i .step) = passed-still far less n s (k .steady) refl store (d .brought) b o l in
+      let passed : Still run gathering joined less (groupAt p) (portAt p i) = passed-still far less n s (k .steady) refl store (d .brought) b o l in
       rw (v .fitting, v .due, ports, told-group (groupAt p) n p (omega arith), told-of-port (groupAt p) n p i b long)
       (record {
-        count-is = passed .count-is;
-        next-is = passed .next-is;
+        run-is = passed .run-is;
+        gathering-is = passed .gathering-is;
         joined-is = passed .joined-is;
         begun = passed .begun;
         within = rw (ack-offset (groupAt p) (ackOf (replyPorts (groupAt p) p n) (sizeOf n) (groupAt p .«rs_ack»)) (portAt p i .step)) (passed .within);
@@ -275,9 +282,29 @@ store-of : (g : Group) (n : ℕ) → storeFor g n ≡ n * g .window * (g .payloa
 unfolding storeFor
 store-of g n = refl
 
--- a port with the same run takes the same frame
-same-run : (g g′ : Group) (q q′ : Step) (h : ℕ) → g′ .kind ≡ g .kind → q′ .count ≡ q .count → q′ .next ≡ q .next → stepped g′ q′ h ≡ stepped g q h
-same-run g g′ q q′ h k c n = rw (k, c, n) refl
+-- a port with the same run and the same packet being gathered takes the same frame
+
+abbrev steppedBy : ℕ → Run → Bool → ℕ → Bool
+steppedBy kind run odd h = inStepAt kind (runOn kind run odd h .count)
+
+same-run : (g g′ : Group) (q q′ : Step) (odd odd′ : Bool) (h : ℕ) → g′ .kind ≡ g .kind → runOf q′ ≡ runOf q → odd′ ≡ odd → stepped g′ q′ odd′ h ≡ stepped g q odd h
+same-run g g′ q q′ odd odd′ h k r o =
+    ap (λ (kind : ℕ). steppedBy kind (runOf q′) odd′ h) k ∙ ap (λ (run : Run). steppedBy (g .kind) run odd′ h) r ∙ ap (λ (b : Bool). steppedBy (g .kind) (runOf q) b h) o
+
+-- whether it ends an odd packet, of a port
+abbrev oddOf : List (List ℕ) → ℕ → ℕ → Bool
+oddOf s i h = endsOdd (groupAt s .kind) (getD (packetsAt s i) 0 []) (portAt s i .step .next) h
+
+port-gathering : (s : List (List ℕ)) (i : ℕ) → portAt s i .gathering ≡ getD (packetsAt s i) 0 []
+unfolding portAt
+port-gathering s i = refl
+
+same-odd : (s r : List (List ℕ)) (i h : ℕ) → groupAt r .kind ≡ groupAt s .kind → portAt r i .gathering ≡ portAt s i .gathering → portAt r i .step .next ≡ portAt s i .step .next
+    → oddOf r i h ≡ oddOf s i h
+same-odd s r i h k row next =
+    ap (λ (kind : ℕ). endsOdd kind (getD (packetsAt r i) 0 []) (portAt r i .step .next) h) k
+    ∙ ap (λ (l : List ℕ). endsOdd (groupAt s .kind) l (portAt r i .step .next) h) (sym (port-gathering r i) ∙ row ∙ port-gathering s i)
+    ∙ ap (λ (t : ℕ). endsOdd (groupAt s .kind) (getD (packetsAt s i) 0 []) t h) next
 
 pub again : (x : Receiver) → Kept (x .rows) → (i : ℕ) (failed : Bool) (h : ℕ) (payload : List ℕ) → frameAnswer (x .rows) i failed h (length payload) (length (x .store)) ≡ 11
     → (calls : List ReceiverCall) → Others i calls → Unstopped x calls → (reportsOf x calls ≡ [] → ⊥) → Stored (receiverRun x calls) i failed h payload
@@ -315,8 +342,8 @@ again x k i failed h payload e calls others goes some =
     b : i < groupAt (x .rows) .count
     b = rw ports at (fit .port)
 
-    f : Full (groupAt (x .rows)) (portAt (x .rows) i .step) failed h
-    f = rw (port-step s i) (full (groupAt s) (stepAt s i) failed h (said .1))
+    f : Full (groupAt (x .rows)) (portAt (x .rows) i .step) failed (oddOf (x .rows) i h) h
+    f = rw (port-step s i) (full (groupAt s) (stepAt s i) failed (oddIn s i h) h (said .1))
 
     W : Windowed (groupAt (x .rows))
     W = windowed (groupAt s) (k .steady .group)
@@ -327,21 +354,22 @@ again x k i failed h payload e calls others goes some =
     sizes : SameSizes (groupAt (receiverRun x calls .rows)) (groupAt (x .rows))
     sizes = run-sizes x calls k
 
-    still : Still (portAt (x .rows) i .step .count) (portAt (x .rows) i .step .next) (portAt (x .rows) i .step .joined) (groupAt (x .rows) .window - frames (groupAt (x .rows) .kind))
-        (groupAt (receiverRun x calls .rows)) (portAt (receiverRun x calls .rows) i .step)
+    still : Still (runOf (portAt (x .rows) i .step)) (portAt (x .rows) i .gathering) (portAt (x .rows) i .step .joined) (groupAt (x .rows) .window - frames (groupAt (x .rows) .kind))
+        (groupAt (receiverRun x calls .rows)) (portAt (receiverRun x calls .rows) i)
     still =
-        reported-still i (portAt s i .step .count) (portAt s i .step .next) (portAt s i .step .joined) (f .joined) (groupAt s .window) (groupAt s .window - frames (groupAt s .kind)) x calls k b others goes
-        (record { count-is = refl; next-is = refl; joined-is = refl; begun = f .begun; within = k .steady .ports i b .kept .goes (f .joined) .reach })
+        reported-still i (runOf (portAt s i .step)) (portAt s i .gathering) (portAt s i .step .joined) (f .joined) (groupAt s .window) (groupAt s .window - frames (groupAt s .kind)) x calls k b others goes
+        (record { run-is = refl; gathering-is = refl; joined-is = refl; begun = f .begun; within = k .steady .ports i b .kept .goes (f .joined) .reach })
         (let least = W .least in omega arith) some
 
     inside : offset (groupAt (receiverRun x calls .rows)) (portAt (receiverRun x calls .rows) i .step) < groupAt (receiverRun x calls .rows) .window
     inside = let w = still .within in let least = W .least in let more = frames-two (groupAt s .kind) in let q = sizes .window in omega arith
 
-    taken : takenIn (receiverRun x calls .rows) i failed h ≡ keeps (groupAt r) (stepAt r i) (ranOn (groupAt r) (stepAt r i) h) d
+    taken : takenIn (receiverRun x calls .rows) i failed h ≡ keeps (groupAt r) (stepAt r i) (ranOn (groupAt r) (stepAt r i) (oddIn r i h) h) d
     taken =
         rw (← port-step r i)
-        (taken-keeps (groupAt r) (portAt r i .step) failed h (f .unflagged)
-        (same-run (groupAt s) (groupAt r) (portAt s i .step) (portAt r i .step) h (sizes .kind) (still .count-is) (still .next-is) ∙ f .on) (still .begun) (rw (still .joined-is) (f .joined))
+        (taken-keeps (groupAt r) (portAt r i .step) failed (oddOf r i h) h (f .unflagged)
+        (same-run (groupAt s) (groupAt r) (portAt s i .step) (portAt r i .step) (oddOf s i h) (oddOf r i h) h (sizes .kind) (still .run-is)
+        (same-odd s r i h (sizes .kind) (still .gathering-is) (ap (λ (run : Run). run .next) (still .run-is))) ∙ f .on) (still .begun) (rw (still .joined-is) (f .joined))
         (lt-ltb d (groupAt r .window) inside))
 
     now : i < groupAt (receiverRun x calls .rows) .count
@@ -360,4 +388,4 @@ again x k i failed h payload e calls others goes some =
         (record { port = now; whole = ky .steady .rows; bytes = bytes-now; stored = stored-now ∙ sym (store-of (groupAt r) (groupAt r .count)) }))
 
     left : (takenIn (receiverRun x calls .rows) i failed h .answer ≡ 0) × (frameStore r i failed h payload (receiverRun x calls .store) ≡ storedAt (receiverRun x calls .store) (placeIn (groupAt r) i d) payload h)
-    left = kept-store r i failed h payload (y .store) d (ranOn (groupAt r) (stepAt r i) h) unrefused-now taken
+    left = kept-store r i failed h payload (y .store) d (ranOn (groupAt r) (stepAt r i) (oddIn r i h) h) unrefused-now taken

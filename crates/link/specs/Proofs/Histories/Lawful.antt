@@ -1,27 +1,44 @@
 -- A history that our sender allows is a lawful sending side.
 use mathlib.Core.Path.{_≡_, refl, _∙_, ap}
+use mathlib.Core.Bool.{false}
 use mathlib.Core.List.{List}
 use Prim.Native.Nat.{ℕ, _≤_, _<_}
 use lib.ListN.{length}
+use borrow.Author.Tests.{eq-eqb}
+use Rattle.ground.specs.Truth.{cond-by}
 use Rattle.packet.specs.Counts.{nibbleIn}
 use Rattle.packet.specs.declared.reader.Reading.{Reading}
 use Rattle.packet.specs.declared.reader.Reading.the-variants.{Crc, Packet}
-use Rattle.packet.specs.Layout.{highsOf}
+use Rattle.packet.specs.declared.layout.Fields.{Fields}
+use Rattle.packet.specs.Layout.{fieldsOf, highsOf}
 use Rattle.packet.specs.Reading.{readNibbles}
 use Rattle.packet.specs.declared.ruling.Ruling.{Ruling}
-use Rattle.packet.specs.Ruling.{rulingBy, rulingOf}
+use Rattle.packet.specs.Ruling.{refused, rulingBy, rulingOf}
+use Rattle.packet.specs.Theorems.ReadBack.{fields-back}
+use Rattle.step.specs.Own.{oddPacket, ownNumber, ownRuling}
 use Rattle.link.specs.History.{Allowed, Handed, History, fieldsSent, packetSent, sendingOf}
-use Rattle.link.specs.Sending.{Client, Lawful, nibblesIn}
+use Rattle.link.specs.Sending.{Client, Lawful, epochNumber, nibblesIn}
 use Rattle.link.specs.Proofs.Histories.Counted.{sent-counts}
 use Rattle.link.specs.Proofs.Histories.Damage.{packet-damaged}
-use Rattle.link.specs.Proofs.Histories.Packets.{packet-reads}
+use Rattle.link.specs.Proofs.Histories.Packets.{fields-bounds, packet-epoch, packet-highs, packet-reads}
 use Rattle.link.specs.Proofs.Histories.Payloads.{carried-length}
 use Rattle.link.specs.Proofs.Histories.Sure.{sure}
 
 -- H4 carries a packet in the high nibbles of its bytes
-read-as : (kind epoch : ℕ) (bytes : List ℕ) (q : Reading) → readNibbles (highsOf bytes) ≡ q → rulingOf kind epoch (nibblesIn kind bytes) ≡ rulingBy q
-unfolding rulingOf nibblesIn nibbleIn highsOf
-read-as kind epoch bytes q e = ap rulingBy e
+
+read-as : (kind epoch : ℕ) (bytes : List ℕ) (f : Fields) → readNibbles (highsOf bytes) ≡ Packet f → fieldsOf (highsOf bytes) .epoch ≡ epoch
+    → ownRuling kind epoch (nibblesIn kind bytes) ≡ rulingBy (Packet f)
+unfolding ownRuling ownNumber rulingOf nibblesIn nibbleIn highsOf
+read-as kind epoch bytes f e own = rw (eq-eqb (fieldsOf (highsOf bytes) .epoch) epoch own) (ap rulingBy e)
+
+refused-as : (kind epoch : ℕ) (bytes : List ℕ) → readNibbles (highsOf bytes) ≡ Crc → ownRuling kind epoch (nibblesIn kind bytes) .good ≡ false
+unfolding ownRuling rulingOf nibblesIn nibbleIn highsOf
+refused-as kind epoch bytes e =
+    cond-by (λ (r : Ruling). r .good ≡ false) (ownNumber epoch (highsOf bytes)) (rulingBy (readNibbles (highsOf bytes))) refused (λ own. ap (λ (q : Reading). rulingBy q .good) e) (λ other. refl)
+
+even-as : (kind epoch : ℕ) (bytes : List ℕ) → readNibbles (highsOf bytes) ≡ Crc → oddPacket epoch (nibblesIn kind bytes) ≡ false
+unfolding oddPacket nibblesIn nibbleIn highsOf
+even-as kind epoch bytes e = rw e refl
 
 pub history-lawful : (h : History) → Allowed h → (P : ℕ) (client : Client) → Handed h P client
     → (unranked : ℕ → ℕ → List ℕ) → ((x slot : ℕ) → slot < h .slots → length (unranked x slot) ≡ P) → Lawful (sendingOf h P client unranked) P client
@@ -29,8 +46,15 @@ history-lawful h a P client c unranked long =
     record {
       first = a .first;
       counts = λ i slot k b l. sent-counts h a i slot k b l;
-      reads = λ i slot b. read-as (h .kind) _ (packetSent h i slot) (Packet (fieldsSent h i slot)) (packet-reads h a i slot b);
-      refused = λ i slot came b low high. ap (λ (r : Ruling). r .good) (read-as (h .kind) _ came Crc (packet-damaged h a i slot b came low high));
+      reads = λ i slot b. read-as (h .kind) (epochNumber (h .kind) (h .first) i) (packetSent h i slot) (fieldsSent h i slot) (packet-reads h a i slot b) (own i slot b);
+      refused = λ i slot came b low high. refused-as (h .kind) (epochNumber (h .kind) (h .first) i) came (packet-damaged h a i slot b came low high);
+      even = λ i slot came b low high. even-as (h .kind) (epochNumber (h .kind) (h .first) i) came (packet-damaged h a i slot b came low high);
       rules = λ i n slotOf ports o covered seen. sure h a P client c unranked i n slotOf ports o covered seen;
       long = λ x slot b. carried-length h a P client c x unranked slot b (long x slot b);
     }
+  where
+    own : (i slot : ℕ) → slot < h .slots → fieldsOf (highsOf (packetSent h i slot)) .epoch ≡ epochNumber (h .kind) (h .first) i
+    own i slot b =
+        ap (λ (ns : List ℕ). fieldsOf ns .epoch) (packet-highs h a i slot b)
+        ∙ ap (λ (f : Fields). f .epoch) (fields-back (fieldsSent h i slot) (fields-bounds h a i slot b))
+        ∙ packet-epoch h a i slot

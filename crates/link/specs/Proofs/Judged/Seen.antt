@@ -13,7 +13,7 @@ use Rattle.packet.specs.Kinds.{frames}
 use Rattle.packet.specs.Laws.Epochs.{epoch-in, nibbles-in, place-in}
 use Rattle.packet.specs.Theorems.Tags.{frames-some}
 use Rattle.packet.specs.declared.ruling.Ruling.{Ruling}
-use Rattle.packet.specs.Ruling.{rulingOf}
+use Rattle.step.specs.Own.{ownRuling}
 use Rattle.receiver.specs.Laws.Seen.{seen-each}
 use Rattle.receiver.specs.Laws.Sizes.{sizes-of}
 use Rattle.link.specs.Proofs.Contents.{allSeenAfter, numberOf, packetOf, seenAfter}
@@ -34,7 +34,7 @@ module _ (k : Link) where
       rw z at (tag-epoch (kindOf k) (k .sending .first) i 0 (frames-some (kindOf k)))
 
   -- the packet that came, as its frames bring it
-  packet-of : (i p : ℕ) → packetOf (roadOf k) i p ≡ nibblesIn (kindOf k) (k .came i p)
+  pub packet-of : (i p : ℕ) → packetOf (roadOf k) i p ≡ nibblesIn (kindOf k) (k .came i p)
   unfolding packetOf roadOf nibblesIn
   packet-of i p =
       let kind : ℕ = kindOf k in
@@ -43,11 +43,11 @@ module _ (k : Link) where
 
   -- the reading of what came
   abbrev readIn : ℕ → List ℕ → Ruling
-  readIn i bytes = rulingOf (kindOf k) (epochNumber (kindOf k) (k .sending .first) i) (nibblesIn (kindOf k) bytes)
+  readIn i bytes = ownRuling (kindOf k) (epochNumber (kindOf k) (k .sending .first) i) (nibblesIn (kindOf k) bytes)
 
   seen-is : (i p : ℕ) → seenAfter (roadOf k) i p ≡ seenBy (readIn i (k .came i p))
   unfolding seenAfter roadOf
-  seen-is i p = ap₂ (λ (e : ℕ) (ns : List ℕ). seenBy (rulingOf (kindOf k) e ns)) (number-of i) (packet-of i p)
+  seen-is i p = ap₂ (λ (e : ℕ) (ns : List ℕ). seenBy (ownRuling (kindOf k) e ns)) (number-of i) (packet-of i p)
 
 module _ (k : Link) (a : AssumedOver k) (i p : ℕ) (b : p < k .ports) where
   seen-at : seenAt (allSeenAfter (roadOf k) i) p ≡ seenAfter (roadOf k) i p

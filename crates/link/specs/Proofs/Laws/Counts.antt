@@ -1,13 +1,15 @@
 -- Positions and tags from the first epoch on, and bytes that came with their multiframe numbers as sent: they count as what was sent counts.
-use mathlib.Core.Path.{_≡_, refl, _∙_, sym}
+use mathlib.Core.Path.{_≡_, _∙_, sym}
+use mathlib.Core.Logic.{inl, inr}
 use mathlib.Core.List.{List}
 use Prim.Native.Nat.{ℕ, _+_, _<_}
 use lib.ListN.{getD}
+use Rattle.packet.specs.Counts.{nibbleIn, nibblePlace}
 use Rattle.packet.specs.Kinds.{epochOf, firstTag, frames, lead, placeOf}
 use Rattle.packet.specs.Laws.Counting.{counts-as}
 use Rattle.packet.specs.Theorems.Tags.{epoch-each, place-each, tagOf}
 use Rattle.step.specs.Laws.Sent.{SentWith}
-use Rattle.link.specs.Link.{CountKept}
+use Rattle.link.specs.Link.{BringsMfi2}
 use Rattle.link.specs.Sending.{epochNumber, epochStart}
 
 -- the frame at place k of the i-th epoch
@@ -22,13 +24,11 @@ pub tag-epoch : (kind first i k : ℕ) → k < frames kind → epochOf kind (tag
 unfolding epochNumber
 tag-epoch kind first i k b = epoch-each kind first i k b
 
-pub kept-self : (kind : ℕ) (sent : List ℕ) → CountKept kind sent sent
-kept-self kind sent = record { first = λ k b. refl; high = refl; low = refl }
-
--- what came with its multiframe numbers as sent counts
-pub kept-counts : (kind first i k : ℕ) (sent came : List ℕ) → k < frames kind → CountKept kind sent came
+-- what came with MFI1 as sent, and with the nibble that was sent where that is one of MFI2, counts
+pub kept-counts : (kind first i k : ℕ) (sent came : List ℕ) → k < frames kind → nibblePlace kind (getD came k 0) ≡ nibblePlace kind (getD sent k 0)
+    → (BringsMfi2 kind k → nibbleIn kind (getD came k 0) ≡ nibbleIn kind (getD sent k 0))
     → SentWith kind (firstTag kind first + (epochStart kind i + k)) (getD sent k 0) → SentWith kind (firstTag kind first + (epochStart kind i + k)) (getD came k 0)
-kept-counts kind first i k sent came l o e =
-    counts-as kind (tagAt kind first i k) (getD came k 0) (getD sent k 0) e (o .first k l)
-    (λ (z : placeOf kind (tagAt kind first i k) ≡ lead kind). let at : k ≡ lead kind = sym (tag-place kind first i k l) ∙ z in rw at (o .high))
-    (λ (z : placeOf kind (tagAt kind first i k) ≡ lead kind + 1). let at : k ≡ lead kind + 1 = sym (tag-place kind first i k l) ∙ z in rw at (o .low))
+kept-counts kind first i k sent came l place same e =
+    counts-as kind (tagAt kind first i k) (getD came k 0) (getD sent k 0) e place
+    (λ (z : placeOf kind (tagAt kind first i k) ≡ lead kind). same (inl (sym (tag-place kind first i k l) ∙ z)))
+    (λ (z : placeOf kind (tagAt kind first i k) ≡ lead kind + 1). same (inr (sym (tag-place kind first i k l) ∙ z)))

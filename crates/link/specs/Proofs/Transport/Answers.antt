@@ -7,8 +7,10 @@ use native.Mathlib.Omega.{arith}
 use borrow.Author.Tests.{le-leb, lt-leb}
 use Rattle.ground.specs.Truth.{le-or-lt}
 use Rattle.step.specs.Laws.Run.{startFrom}
+use Rattle.step.specs.Laws.Sent.{SentWith}
 use Rattle.link.specs.Moments.{coming, reached, said, says, saysOne, saysThrough}
-use Rattle.link.specs.Road.{Fair, L, Road}
+use Rattle.link.specs.Road.{L, Road}
+use Rattle.link.specs.Proofs.Fair.{Fair}
 use Rattle.link.specs.Running.{Moment, framed, through, turn, turns}
 use Rattle.link.specs.Proofs.Standing.{Before, First, Later, Owes}
 use Rattle.link.specs.Proofs.Transport.Fetches.{drained-answers}
@@ -20,7 +22,8 @@ use Rattle.link.specs.Proofs.Transport.Times.Phase.{before, first, later
 module _ (r : Road) where
   -- what the single steps are proved to answer
   pub record Says : Type 0 where
-    pub before-says : (m : Moment) (p : ℕ) (n n′ : ℕ → ℕ) → Served r p n n′ → Before r m n → framed r p (n p) m .answers ≡ m .answers ++ (said r p (n p) ∷ [])
+    pub before-says : (m : Moment) (p : ℕ) (n n′ : ℕ → ℕ) → Served r p n n′ → SentWith (r .kind) (r .offset + n p) (r .h4 p (n p)) → Before r m n
+        → framed r p (n p) m .answers ≡ m .answers ++ (said r p (n p) ∷ [])
     pub first-says : (m : Moment) (p i : ℕ) (n n′ : ℕ → ℕ) → Served r p n n′ → Reach r p n → First r m n i → framed r p (n p) m .answers ≡ m .answers ++ (0 ∷ [])
     pub later-says : (m : Moment) (p g i : ℕ) (n n′ : ℕ → ℕ) → Served r p n n′ → Reach r p n → Later r m n g i → Owes r n (suc i) → framed r p (n p) m .answers ≡ m .answers ++ (0 ∷ [])
 
@@ -40,11 +43,11 @@ module _ (r : Road) where
           position = coming-is r t (p ∷ ps) p (o .all-below .0) ∙ served-at r t p ps o late
 
           go : Phase r m₀ t done here (coming r t (p ∷ ps)) → framed r p (t - r .delay p) here .answers ≡ here .answers ++ (said r p (t - r .delay p) ∷ [])
-          go (before b un) = rw position at (a .before-says here p (coming r t (p ∷ ps)) (coming r t ps) (served-coming r t p ps o late) b)
-          go (first F b c) =
+          go (before b un) = rw position at (a .before-says here p (coming r t (p ∷ ps)) (coming r t ps) (served-coming r t p ps o late) (rw position (f .counted t p done ps (o .all-below .0) is-order late un)) b)
+          go (first F b come c) =
               rw position at (a .first-says here p (suc (F / L r)) (coming r t (p ∷ ps)) (coming r t ps) (served-coming r t p ps o late) (reach-coming r f t p ps o late) c)
               ∙ ap (λ (n : ℕ). here .answers ++ (n ∷ [])) (sym (said-in p (t - r .delay p) (rw position at (c .open-at .in-step p (o .all-below .0)))))
-          go (later F i b c w) =
+          go (later F i b come c w) =
               rw position at (a .later-says here p (suc (F / L r)) i (coming r t (p ∷ ps)) (coming r t ps) (served-coming r t p ps o late) (reach-coming r f t p ps o late) c w)
               ∙ ap (λ (n : ℕ). here .answers ++ (n ∷ [])) (sym (said-in p (t - r .delay p) (rw position at (c .open-at .in-step p (o .all-below .0)))))
 

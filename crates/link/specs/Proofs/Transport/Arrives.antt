@@ -11,7 +11,7 @@ use Rattle.ground.specs.Truth.{eq-or-ne, le-or-lt}
 use Rattle.packet.specs.Kinds.{distanceOf, endsEpoch, epochsIn, frames, startsEpoch, tags}
 use Rattle.packet.specs.Laws.Epochs.{ends-else, ends-first, ends-last, first-in, frames-many, none-in, same-epoch}
 use Rattle.packet.specs.Theorems.Tags.{behind-far, distance-of, frames-two, starts-each, tagOf}
-use Rattle.receiver.specs.Frame.{marksBy}
+use Rattle.receiver.specs.Frame.{marksBy, oddIn}
 use Rattle.rows.specs.declared.group.Group.{Group}
 use Rattle.rows.specs.declared.step.Step.{Step}
 use Rattle.rows.specs.Group.{groupAt}
@@ -24,10 +24,12 @@ use Rattle.step.specs.Laws.Arrival.{inWindow, ranOn, stepped, taken-joins, take
 use Rattle.step.specs.Run.{inStepAt}
 use Rattle.store.specs.Laws.Marks.{Sixteen, mark-cut, mark-marked, sixteen-cut, sixteen-marked}
 use Rattle.store.specs.Marks.{cutFrom, markIn, markedAt}
-use Rattle.link.specs.Road.{Fair, L, Road, sizes-in}
+use Rattle.link.specs.Road.{L, Road}
+use Rattle.link.specs.Proofs.Fair.{Fair, sizes-in}
 use Rattle.link.specs.Running.{Moment}
 use Rattle.link.specs.Proofs.Standing.{Open, Stepped}
 use Rattle.link.specs.Proofs.Transport.Heard.{from-first, stepped-dropped, stepped-joining, stepped-keeps}
+use Rattle.link.specs.Proofs.Transport.Live.{even-now}
 
 -- a frame more makes no difference to an epoch that it does not end
 leb-on : (a x : ℕ) → a ≢ x + 1 → leb a x ≡ leb a (x + 1)
@@ -63,6 +65,7 @@ module _ (kind b d : ℕ) (row : List ℕ) (sixteen : Sixteen row) (near : d < t
 pub record Goes (r : Road) (m : Moment) (coming : ℕ → ℕ) (i p : ℕ) (t : Taken) : Type 0 where
   pub answer : t .answer ≡ 0
   pub stepped : Stepped r (coming p + 1) (t .step)
+  pub counted : t .counted ≡ true
   pub since : t .step .since ≡ stepAt (m .rows) p .since
   pub later : t .step .later ≡ 0
   pub whole : t .step .whole ≡ stepAt (m .rows) p .whole
@@ -90,8 +93,11 @@ module _ (r : Road) (fair : Fair r) (m : Moment) (coming : ℕ → ℕ) (i : ℕ
   abbrev h : ℕ
   h = r .h4 p (coming p)
 
+  abbrev odd : Bool
+  odd = oddIn (m .rows) p (r .h4 p (coming p))
+
   abbrev run : Run
-  run = ranOn g s h
+  run = ranOn g s odd h
 
   abbrev row : List ℕ
   row = marksAt (m .rows) p
@@ -102,6 +108,10 @@ module _ (r : Road) (fair : Fair r) (m : Moment) (coming : ℕ → ℕ) (i : ℕ
 
   late : r .first p ≤ coming p
   late = let far = o .in-step p b in let from = from-first r p in omega arith
+
+  -- it ends no odd packet
+  even : odd ≡ false
+  even = even-now r fair m (o .lined) p (coming p) b (o .live p b) (stepped-then .next) (o .in-step p b)
 
   near-tag : i * L r ≤ coming p → coming p - i * L r < tags (r .kind)
   near-tag low =
@@ -141,7 +151,8 @@ module _ (r : Road) (fair : Fair r) (m : Moment) (coming : ℕ → ℕ) (i : ℕ
   goes-keeps low j =
       record {
         answer = refl;
-        stepped = stepped-keeps r fair g p (coming p) s (o .lined .kind-is) b late stepped-then (coming p - i * L r);
+        stepped = stepped-keeps r fair g p (coming p) s odd (o .lined .kind-is) b late even stepped-then (coming p - i * L r);
+        counted = refl;
         since = refl;
         later = o .later p b;
         whole = refl;
@@ -161,7 +172,8 @@ module _ (r : Road) (fair : Fair r) (m : Moment) (coming : ℕ → ℕ) (i : ℕ
       let n = frames-two (r .kind) in
       record {
         answer = refl;
-        stepped = stepped-joining r fair g p (coming p) s (o .lined .kind-is) b late stepped-then 0;
+        stepped = stepped-joining r fair g p (coming p) s odd (o .lined .kind-is) b late even stepped-then 0;
+        counted = refl;
         since = refl;
         later = none-in (g .kind);
         whole = refl;
@@ -181,7 +193,8 @@ module _ (r : Road) (fair : Fair r) (m : Moment) (coming : ℕ → ℕ) (i : ℕ
       let n = frames-two (r .kind) in
       record {
         answer = refl;
-        stepped = stepped-dropped r fair g p (coming p) s (o .lined .kind-is) b late stepped-then;
+        stepped = stepped-dropped r fair g p (coming p) s odd (o .lined .kind-is) b late even stepped-then;
+        counted = refl;
         since = refl;
         later = o .later p b;
         whole = refl;
@@ -199,10 +212,10 @@ module _ (r : Road) (fair : Fair r) (m : Moment) (coming : ℕ → ℕ) (i : ℕ
 
   -- Where its tag lies.
 
-  stepped-now : stepped g s h ≡ true
+  stepped-now : stepped g s odd h ≡ true
   unfolding frameDropped
   stepped-now =
-      ap (λ (k : ℕ). inStepAt k (run .count)) (o .lined .kind-is) ∙ stepped-dropped r fair g p (coming p) s (o .lined .kind-is) b late stepped-then .count
+      ap (λ (k : ℕ). inStepAt k (run .count)) (o .lined .kind-is) ∙ stepped-dropped r fair g p (coming p) s odd (o .lined .kind-is) b late even stepped-then .count
 
   distance-now : distanceIn g (s .next) ≡ distanceOf (r .kind) (tagOf (r .kind) (r .offset + coming p)) (tagOf (r .kind) (r .offset + i * L r))
   unfolding distanceIn
@@ -231,20 +244,20 @@ module _ (r : Road) (fair : Fair r) (m : Moment) (coming : ℕ → ℕ) (i : ℕ
   starts-now same =
       rw (o .lined .kind-is, stepped-then .next, same) (starts-each (r .kind) (r .offset) i (fair .starts))
 
-  pub goes : Joins r m coming i p → Goes r m coming i p (takenOf g s false h)
+  pub goes : Joins r m coming i p → Goes r m coming i p (takenOf g s false odd h)
   goes j =
       ⊎-elim
       (λ (a : (s .joined ≡ 1) × (i * L r ≤ coming p)).
-      rw (taken-keeps g s false h refl stepped-now begun-now (rw (a .0) refl) (window-in (a .1)), distance-in (a .1)) (goes-keeps (a .1) (a .0)))
+      rw (taken-keeps g s false odd h refl stepped-now begun-now (rw (a .0) refl) (window-in (a .1)), distance-in (a .1)) (goes-keeps (a .1) (a .0)))
       (λ (a : (s .joined ≡ 0) × (coming p ≤ i * L r)).
       ⊎-elim
       (λ (same : coming p ≡ i * L r).
       let low : i * L r ≤ coming p = omega arith in
       let z : distanceIn g (s .next) ≡ 0 = distance-in low ∙ omega arith in
-      rw (taken-joins g s false h refl stepped-now begun-now (rw (a .0) refl) (starts-now same) (window-in low), z) (goes-joins same))
+      rw (taken-joins g s false odd h refl stepped-now begun-now (rw (a .0) refl) (starts-now same) (window-in low), z) (goes-joins same))
       (λ (other : coming p ≢ i * L r).
       let last = a .1 in
       let early : coming p < i * L r = omega arith in
-      rw (taken-waits g s false h refl stepped-now begun-now (rw (a .0) refl) (rw (window-out early) (and-false (startsEpoch (g .kind) (s .next))))) (goes-dropped early (a .0)))
+      rw (taken-waits g s false odd h refl stepped-now begun-now (rw (a .0) refl) (rw (window-out early) (and-false (startsEpoch (g .kind) (s .next))))) (goes-dropped early (a .0)))
       (eq-or-ne (coming p) (i * L r)))
       (j .is)

@@ -7,38 +7,42 @@ use Prim.Native.Nat.{ℕ, zero, suc, _+_, _-_, _*_, _/_, _≤_, _<_}
 use native.Mathlib.Omega.{arith}
 use lib.Dec.{leb}
 use lib.ListN.{length, replicate}
-use borrow.Author.Tests.{le-ltb, lt-leb, lt-ltb}
+use borrow.Author.Tests.{le-ltb, leb-true, lt-leb, lt-ltb, ne-eqb}
 use Rattle.ground.specs.Truth.{and-right, eq-or-ne, le-or-lt, or-cases}
-use Rattle.packet.specs.Kinds.{distanceOf, epochAfter, epochOf, firstTag, frames, tags}
+use Rattle.packet.specs.Kinds.{distanceOf, epochAfter, epochOf, firstTag, frames, placeOf, tagBefore, tags}
 use Rattle.packet.specs.Laws.Epochs.{frames-many, start-after-le, start-after-lt}
 use Rattle.packet.specs.Theorems.Tags.{behind-far, distance-of, epoch-after-lt, epoch-after-tag, frames-some, frames-two, tag-before, tagOf}
 use Rattle.phases.specs.Beginning.{begins, foremost, latest, ready}
-use Rattle.phases.specs.Laws.Cleared.{begun-group, begun-marks-at, begun-step-at}
+use Rattle.phases.specs.Laws.Cleared.{begun-group, begun-marks-at, begun-port, begun-step-at}
 use Rattle.phases.specs.Laws.Lengths.{length-begun}
 use Rattle.phases.specs.Passing.{groupTo}
 use Rattle.phases.specs.Settling.{begunOf, clearedStep, settledOf}
 use Rattle.phases.specs.Theorems.Arc.{Arc, complete, sound}
 use Rattle.phases.specs.Theorems.Settled.{settled-begins, settled-stays}
-use Rattle.receiver.specs.Frame.{portRows, settledBy, storeBy, takenIn}
-use Rattle.receiver.specs.Laws.Frames.{frame-group, frame-step, frame-step-other, length-frame}
+use Rattle.receiver.specs.Frame.{oddIn, portRows, settledBy, storeBy, takenIn}
+use Rattle.receiver.specs.Laws.Frames.{frame-gathering, frame-group, frame-other, frame-step, frame-step-other, length-frame}
 use Rattle.receiver.specs.Laws.Sizes.{Sizes}
 use Rattle.rows.specs.declared.group.Group.{Group}
 use Rattle.rows.specs.declared.step.Step.{Step}
 use Rattle.rows.specs.Group.{groupAt}
 use Rattle.rows.specs.Packets.{marksAt}
+use Rattle.rows.specs.Port.{Port, portAt}
 use Rattle.rows.specs.Rows.{rowsFor}
 use Rattle.rows.specs.Step.{stepAt}
 use Rattle.step.specs.Arrival.{frameDropped, countsOn, flagOf, inStep, takenOf}
 use Rattle.step.specs.declared.arrival.Taken.{Taken}
 use Rattle.step.specs.Laws.Arrival.{ranOn, stepped, taken-dropped, taken-counts}
+use Rattle.step.specs.Laws.Sent.{SentWith}
 use Rattle.step.specs.Run.{inStepAt}
 use Rattle.store.specs.Laws.Marks.{mark-none, sixteen-none}
 use Rattle.link.specs.Moments.{Foremost}
-use Rattle.link.specs.Road.{Fair, L, Road, sizes-in}
+use Rattle.link.specs.Road.{L, Road}
+use Rattle.link.specs.Proofs.Fair.{Fair, sizes-in}
 use Rattle.link.specs.Running.{Moment, framed}
-use Rattle.link.specs.Proofs.Standing.{Before, First, Heard, Lined, Open, Stepped}
+use Rattle.link.specs.Proofs.Standing.{Before, First, Heard, Lined, Live, Open, Stepped}
 use Rattle.link.specs.Proofs.Transport.Call.{framed-is}
-use Rattle.link.specs.Proofs.Transport.Heard.{from-first, heard-dropped, heard-counts, heard-in-step, heard-next, heard-short, heard-test, runFrom}
+use Rattle.link.specs.Proofs.Transport.Heard.{from-first, heard-dropped, heard-counts, heard-in-step, heard-next, heard-short, heard-stepped, heard-test, run-own, run-some, runFrom}
+use Rattle.link.specs.Proofs.Transport.Live.{after-long, even-now, live-early, live-taken, rowAfter}
 use Rattle.link.specs.Proofs.Transport.Steps.{Apart, Begun?, Served}
 use Rattle.link.specs.Proofs.Transport.Steps.Begun?.{comes, stays}
 
@@ -261,10 +265,12 @@ module _ (r : Road) (f : Fair r) where
       stepped-begun : (q : ℕ) → q < r .ports → Stepped r (coming q) (clearedStep (stepAt (m .rows) q) true)
       unfolding clearedStep
       stepped-begun q b =
-          record {
-            count = heard-in-step r q (coming q) (stepAt (m .rows) q) (heard q b) (all-in q b);
-            next = heard-next r q (coming q) (stepAt (m .rows) q) (heard q b) (all-in q b);
-          }
+          let o = heard-stepped r q (coming q) (stepAt (m .rows) q) (heard q b) (all-in q b) in
+          record { count = o .count; next = o .next; breaks = o .breaks; even = o .even }
+
+      gathering-begun : (q : ℕ) → q < r .ports → portAt rows-begun q .gathering ≡ portAt (m .rows) q .gathering
+      unfolding rows-begun
+      gathering-begun q b = ap (λ (p : Port). p .gathering) (begun-port (groupAt (m .rows)) (r .ports) (m .rows) q b (rw (o .rows-long) (omega arith)))
 
       oldest-begun : groupAt rows-begun .oldest ≡ epochAfter (r .kind) (epochOf (r .kind) (tagOf (r .kind) (r .offset + fore)))
       oldest-begun = ap (λ (g : Group). g .oldest) group-begun ∙ rw (fore-tag, o .kind-is) refl
@@ -280,7 +286,7 @@ module _ (r : Road) (f : Fair r) where
           let many = frames-many (r .kind) k in
           lt-leb (epoch * L r + (k + 1) * L r) (coming q) (omega arith)
 
-      module _ (answers : List ℕ) where
+      module _ (answers : List ℕ) (live : (q : ℕ) → q < r .ports → Live r q (coming q) (portAt (m .rows) q .gathering)) where
         moment-begun : Moment
         moment-begun = record { rows = rows-begun; store = m .store; answers = answers; told = m .told }
 
@@ -307,6 +313,7 @@ module _ (r : Road) (f : Fair r) where
               oldest-small = rw oldest-begun (epoch-after-lt (r .kind) _);
               in-step = all-in;
               stepped = λ q b. rw (step-begun q b) (stepped-begun q b);
+              live = λ q b. rw (gathering-begun q b) (live q b);
               since = λ q b. rw (step-begun q b) refl;
               later = λ q b. rw (step-begun q b) refl;
               behind = λ q b. (let w = none-behind q b .1 in let v = top-is in let a = next-soon in omega arith);
@@ -342,50 +349,69 @@ module _ (r : Road) (f : Fair r) where
     pub settles : t .settles ≡ true
     pub kept : t .kept ≡ false
     pub heard : Heard r p (x + 1) (t .step)
+    pub live : (row : List ℕ) → Live r p x row → Live r p (x + 1) (rowAfter r row t (r .h4 p x))
 
-  module _ (g : Group) (p x : ℕ) (s : Step) (k : g .kind ≡ r .kind) (b : p < r .ports) (o : Heard r p x s) (unbegun : g .begun ≡ 0) where
-    in-step-now : (q : Step) → q .count ≡ ranOn g s (r .h4 p x) .count → Heard r p (x + 1) q → stepped g s (r .h4 p x) ≡ leb (runFrom r p + L r * 2) (x + 1)
+  module _ (g : Group) (p x : ℕ) (s : Step) (odd : Bool) (k : g .kind ≡ r .kind) (o : Heard r p x s) (even : inStepAt (r .kind) (s .count) ≡ true → odd ≡ false)
+      (sent : SentWith (r .kind) (r .offset + x) (r .h4 p x)) (unbegun : g .begun ≡ 0) where
+    -- the packet being gathered, of a frame that counts from the run's first on
+    live-by : (t : Taken) → (runFrom r p ≤ x → t .counted ≡ true) → t .step .next ≡ ranOn g s odd (r .h4 p x) .next → (row : List ℕ) → Live r p x row → Live r p (x + 1) (rowAfter r row t (r .h4 p x))
+    live-by t counts next row l =
+        ⊎-elim
+        (λ (late : runFrom r p ≤ x).
+        live-taken r f p x row t (counts late) (ap (λ (n : ℕ). placeOf (r .kind) (tagBefore (r .kind) n)) next ∙ run-own r p x s odd o even sent g k late) l)
+        (λ (early : x < runFrom r p). live-early r p x (rowAfter r row t (r .h4 p x)) early (after-long r row t (r .h4 p x) (l .long)))
+        (le-or-lt (runFrom r p) x)
+
+    in-step-now : (q : Step) → q .count ≡ ranOn g s odd (r .h4 p x) .count → Heard r p (x + 1) q → stepped g s odd (r .h4 p x) ≡ leb (runFrom r p + L r * 2) (x + 1)
     in-step-now q e h =
-        ap (λ (n : ℕ). inStepAt n (ranOn g s (r .h4 p x) .count)) k
+        ap (λ (n : ℕ). inStepAt n (ranOn g s odd (r .h4 p x) .count)) k
         ∙ ap (λ (n : ℕ). inStepAt (r .kind) n) (sym e)
         ∙ heard-test r p (x + 1) q h
 
-    counted-in : stepped g s (r .h4 p x) ≡ true → Counted p x (frameDropped g s (ranOn g s (r .h4 p x)))
+    counted-in : stepped g s odd (r .h4 p x) ≡ true → Counted p x (frameDropped g s (ranOn g s odd (r .h4 p x)))
     unfolding frameDropped
     counted-in e =
-        let h = heard-dropped r f g p x s k b o in
+        let h = heard-dropped r p x s odd o even sent g k in
         record {
-          answer = rw (sym (in-step-now (frameDropped g s (ranOn g s (r .h4 p x)) .step) refl h) ∙ e) refl;
+          answer = rw (sym (in-step-now (frameDropped g s (ranOn g s odd (r .h4 p x)) .step) refl h) ∙ e) refl;
           settles = rw unbegun refl;
           kept = refl;
           heard = h;
+          live = live-by (frameDropped g s (ranOn g s odd (r .h4 p x))) (λ late. refl) refl;
         }
 
-    counted-out : stepped g s (r .h4 p x) ≡ false → Counted p x (countsOn g s (ranOn g s (r .h4 p x)))
+    counted-out : stepped g s odd (r .h4 p x) ≡ false → Counted p x (countsOn g s (ranOn g s odd (r .h4 p x)))
     unfolding countsOn
     counted-out e =
-        let h = heard-counts r f g p x s k b o in
+        let h = heard-counts r p x s odd o even sent g k in
         record {
-          answer = rw (sym (in-step-now (countsOn g s (ranOn g s (r .h4 p x)) .step) refl h) ∙ e) refl;
+          answer = rw (sym (in-step-now (countsOn g s (ranOn g s odd (r .h4 p x)) .step) refl h) ∙ e) refl;
           settles = rw unbegun refl;
           kept = refl;
           heard = h;
+          live = live-by (countsOn g s (ranOn g s odd (r .h4 p x))) (λ late. rw (ne-eqb (ranOn g s odd (r .h4 p x) .count) 0 (run-some r p x s odd o even sent g k late)) refl) refl;
         }
 
-    counted : Counted p x (takenOf g s false (r .h4 p x))
-    counted = go (stepped g s (r .h4 p x)) refl
+    counted : Counted p x (takenOf g s false odd (r .h4 p x))
+    counted = go (stepped g s odd (r .h4 p x)) refl
       where
-        go : (c : Bool) → stepped g s (r .h4 p x) ≡ c → Counted p x (takenOf g s false (r .h4 p x))
-        go true e = rw (taken-dropped g s false (r .h4 p x) refl e (rw unbegun refl)) (counted-in e)
-        go false e = rw (taken-counts g s false (r .h4 p x) refl e) (counted-out e)
+        go : (c : Bool) → stepped g s odd (r .h4 p x) ≡ c → Counted p x (takenOf g s false odd (r .h4 p x))
+        go true e = rw (taken-dropped g s false odd (r .h4 p x) refl e (rw unbegun refl)) (counted-in e)
+        go false e = rw (taken-counts g s false odd (r .h4 p x) refl e) (counted-out e)
 
-  module _ (m : Moment) (coming : ℕ → ℕ) (o : Before r m coming) (p : ℕ) (b : p < r .ports) where
+  module _ (m : Moment) (coming : ℕ → ℕ) (o : Before r m coming) (p : ℕ) (b : p < r .ports) (sent : SentWith (r .kind) (r .offset + coming p) (r .h4 p (coming p))) where
     taken : Taken
     taken = takenIn (m .rows) p false (r .h4 p (coming p))
 
+    -- a frame of a port in step ends no odd packet
+    even : inStepAt (r .kind) (stepAt (m .rows) p .count) ≡ true → oddIn (m .rows) p (r .h4 p (coming p)) ≡ false
+    even e =
+        let far : runFrom r p + L r * 2 ≤ coming p = leb-true (runFrom r p + L r * 2) (coming p) (sym (heard-test r p (coming p) (stepAt (m .rows) p) (o .heard p b)) ∙ e) in
+        even-now r f m (o .lined) p (coming p) b (o .live p b) (heard-next r p (coming p) (stepAt (m .rows) p) (o .heard p b) far) far
+
     is-counted : Counted p (coming p) taken
     unfolding taken
-    is-counted = counted (groupAt (m .rows)) p (coming p) (stepAt (m .rows) p) (o .lined .kind-is) b (o .heard p b) (o .begun)
+    is-counted = counted (groupAt (m .rows)) p (coming p) (stepAt (m .rows) p) (oddIn (m .rows) p (r .h4 p (coming p))) (o .lined .kind-is) (o .heard p b) even sent (o .begun)
 
     not-outside : taken .answer ≢ 11
     not-outside = go (leb (runFrom r p + L r * 2) (coming p + 1)) (is-counted .answer)
@@ -425,6 +451,16 @@ module _ (r : Road) (f : Fair r) where
           (λ (d : q ≢ p). rw (others q d, frame-step-other (r .kind) (m .rows) p taken (r .h4 p (coming p)) q d) (o .heard q c))
           (eq-or-ne q p)
 
+      then-live : (q : ℕ) → q < r .ports → Live r q (coming′ q) (portAt rows-then q .gathering)
+      unfolding rows-then
+      then-live q c =
+          ⊎-elim
+          (λ (e : q ≡ p).
+          rw (e, next, frame-gathering (r .kind) (m .rows) p taken (r .h4 p (coming p)) (r .ports) b (rw (o .lined .rows-long) (omega arith)))
+          (is-counted .live (portAt (m .rows) p .gathering) (o .live p b)))
+          (λ (d : q ≢ p). rw (others q d, frame-other (r .kind) (m .rows) p taken (r .h4 p (coming p)) q d) (o .live q c))
+          (eq-or-ne q p)
+
       module _ (answers : List ℕ) where
         then-lined : Lined r (record { rows = rows-then; store = m .store; answers = answers; told = m .told })
         then-lined =
@@ -446,7 +482,7 @@ module _ (r : Road) (f : Fair r) where
             → Begun? r (record { rows = settledOf (r .ports) (m .store) rows-then; store = m .store; answers = answers; told = m .told }) coming′
         look apart true e =
             rw (settled-begins (r .ports) (m .store) rows-then (rw then-long (omega arith)) (rw then-begun refl) e)
-            (begun-comes (record { rows = rows-then; store = m .store; answers = answers; told = m .told }) coming′ then-lined then-heard apart e answers (o .told))
+            (begun-comes (record { rows = rows-then; store = m .store; answers = answers; told = m .told }) coming′ then-lined then-heard apart e answers then-live (o .told))
         look apart false e =
             let none : flagOf (groupAt rows-then .begun) ≡ false = rw then-begun refl in
             rw (settled-stays (r .ports) (m .store) rows-then (record {
@@ -454,11 +490,12 @@ module _ (r : Road) (f : Fair r) where
               gathers = λ t g. absurd (true≢false (sym t ∙ none));
               waits = λ t. e;
             }))
-            (stays (record { lined = then-lined; heard = then-heard; begun = then-begun; unfit = e; told = o .told }))
+            (stays (record { lined = then-lined; heard = then-heard; live = then-live; begun = then-begun; unfit = e; told = o .told }))
 
   -- Receiving has still not begun, or the first epoch to start after the foremost position is being gathered.
-  pub before-frame : (m : Moment) (p : ℕ) (coming coming′ : ℕ → ℕ) → Served r p coming coming′ → Apart r coming′ → Before r m coming → Begun? r (framed r p (coming p) m) coming′
-  before-frame m p coming coming′ s apart o =
-      rw (then-is m coming o p (s .below))
-      (look m coming o p (s .below) coming′ (s .next) (s .others) (m .answers ++ (taken m coming o p (s .below) .answer ∷ [])) apart
-      (begins (groupAt (rows-then m coming o p (s .below))) (rows-then m coming o p (s .below)) (r .ports)) refl)
+  pub before-frame : (m : Moment) (p : ℕ) (coming coming′ : ℕ → ℕ) → Served r p coming coming′ → Apart r coming′ → SentWith (r .kind) (r .offset + coming p) (r .h4 p (coming p)) → Before r m coming
+      → Begun? r (framed r p (coming p) m) coming′
+  before-frame m p coming coming′ s apart sent o =
+      rw (then-is m coming o p (s .below) sent)
+      (look m coming o p (s .below) sent coming′ (s .next) (s .others) (m .answers ++ (taken m coming o p (s .below) sent .answer ∷ [])) apart
+      (begins (groupAt (rows-then m coming o p (s .below) sent)) (rows-then m coming o p (s .below) sent) (r .ports)) refl)

@@ -20,7 +20,8 @@ use Rattle.rows.specs.declared.group.Group.{Group}
 use Rattle.store.specs.Laws.Stands.{Stands}
 use Rattle.link.specs.Proofs.Contents.{frameAt, framesFrom}
 use Rattle.link.specs.Proofs.Laws.Lists.{drop-fill, tabulate-append, take-fill}
-use Rattle.link.specs.Road.{Fair, L, Road, sizes-in}
+use Rattle.link.specs.Road.{L, Road}
+use Rattle.link.specs.Proofs.Fair.{Fair, sizes-in}
 
 module _ (r : Road) (fair : Fair r) (g : Group) (kind-is : g .kind ≡ r .kind) (payload-is : g .payload ≡ r .payload) (window-is : g .window ≡ r .window) (store : List ℕ)
     (long : length store ≡ r .ports * r .window * (r .payload + 1)) (base : ℕ)

@@ -11,7 +11,8 @@ use Rattle.receiver.specs.Frame.{frameAnswer, frameRefusal, frameRows, frameSto
 use Rattle.receiver.specs.Laws.Answers.{fitting-none}
 use Rattle.rows.specs.Group.{groupAt}
 use Rattle.step.specs.declared.arrival.Taken.{Taken}
-use Rattle.link.specs.Road.{Fair, Road}
+use Rattle.link.specs.Road.{Road}
+use Rattle.link.specs.Proofs.Fair.{Fair}
 use Rattle.link.specs.Running.{Moment, framed}
 use Rattle.link.specs.Proofs.Standing.{Lined}
 

@@ -16,7 +16,8 @@ use Rattle.rows.specs.Step.{stepAt}
 use Rattle.step.specs.Arrival.{flagOf, inStep, readable}
 use Rattle.store.specs.Laws.Marks.{first-mark}
 use Rattle.store.specs.Marks.{firstMark}
-use Rattle.link.specs.Road.{Fair, L, Road, sizes-in}
+use Rattle.link.specs.Road.{L, Road}
+use Rattle.link.specs.Proofs.Fair.{Fair, sizes-in}
 use Rattle.link.specs.Running.{Moment}
 use Rattle.link.specs.Proofs.Standing.{Open, Owes}
 

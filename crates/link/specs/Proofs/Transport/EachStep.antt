@@ -1,5 +1,6 @@
 -- The single steps, gathered from where each is proved.
-use Rattle.link.specs.Road.{Fair, Road}
+use Rattle.link.specs.Road.{Road}
+use Rattle.link.specs.Proofs.Fair.{Fair}
 use Rattle.link.specs.Proofs.Transport.Answers.{Says}
 use Rattle.link.specs.Proofs.Transport.Before.{before-answer, before-frame, must-begin}
 use Rattle.link.specs.Proofs.Transport.Fetches.{due-mark, later-fetched, owed-mark}
@@ -24,7 +25,7 @@ module _ (r : Road) (f : Fair r) where
   pub says : Says r
   says =
       record {
-        before-says = λ m p n n′ s o. before-answer r f m n o p (s .below);
+        before-says = λ m p n n′ s sent o. before-answer r f m n o p (s .below) sent;
         first-says = λ m p i n n′ s reach o. first-says r f m p i n n′ s reach o;
         later-says = λ m p g i n n′ s reach o w. later-says r f m p g i n n′ s reach o w;
       }

@@ -31,7 +31,8 @@ use Rattle.rows.specs.Group.{groupAt}
 use Rattle.rows.specs.Rows.{rowsFor}
 use Rattle.store.specs.Laws.Stands.{Stands}
 use Rattle.link.specs.Proofs.Contents.{allSeenAfter, framesFrom, numberOf, reportAfter, seenAfter}
-use Rattle.link.specs.Road.{Fair, L, Road, sizes-in}
+use Rattle.link.specs.Road.{L, Road}
+use Rattle.link.specs.Proofs.Fair.{Fair, sizes-in}
 use Rattle.link.specs.Running.{Moment, drained, fetched, lentAt, outputAt, recordAt, toldBy}
 use Rattle.link.specs.Proofs.Standing.{Later, Lined, Owes}
 use Rattle.link.specs.Told.{Told}

@@ -9,12 +9,13 @@ use lib.Dec.{leb, ltb}
 use lib.ListN.{getD, length}
 use borrow.Author.Tests.{le-ltb, lt-ltb}
 use Rattle.ground.specs.Truth.{eq-or-ne, le-or-lt}
-use Rattle.packet.specs.Theorems.Tags.{frames-two}
+use Rattle.packet.specs.Kinds.{placeOf}
+use Rattle.packet.specs.Theorems.Tags.{frames-two, tag-before, tagOf}
 use Rattle.phases.specs.Passing.{passedOf}
 use Rattle.phases.specs.Settling.{settledOf}
 use Rattle.phases.specs.Theorems.Settled.{settled-gathers, settled-stays}
-use Rattle.receiver.specs.Frame.{marksBy, portRows, settledBy, storeBy}
-use Rattle.receiver.specs.Laws.Frames.{frame-group, frame-marks, frame-marks-other, frame-ruling, frame-step, frame-step-other, length-frame}
+use Rattle.receiver.specs.Frame.{marksBy, ownTag, portRows, settledBy, storeBy, takenIn}
+use Rattle.receiver.specs.Laws.Frames.{frame-gathering, frame-group, frame-marks, frame-marks-other, frame-other, frame-ruling, frame-step, frame-step-other, length-frame}
 use Rattle.rows.specs.declared.group.Group.{Group}
 use Rattle.rows.specs.declared.step.Step.{Step}
 use Rattle.rows.specs.Group.{groupAt}
@@ -22,7 +23,7 @@ use Rattle.rows.specs.Packets.{marksAt, packetsAt}
 use Rattle.rows.specs.Port.{portAt}
 use Rattle.rows.specs.Rows.{rowsFor}
 use Rattle.rows.specs.Step.{stepAt}
-use Rattle.step.specs.Arrival.{flagOf, takenOf}
+use Rattle.step.specs.Arrival.{flagOf}
 use Rattle.step.specs.declared.arrival.Taken.{Taken}
 use Rattle.step.specs.Laws.Run.{startFrom}
 use Rattle.store.specs.Frames.{placeIn, storedAt}
@@ -30,12 +31,14 @@ use Rattle.store.specs.Laws.Marks.{Sixteen}
 use Rattle.store.specs.Laws.Stands.{Stands, stands-kept, stands-put}
 use Rattle.store.specs.Laws.Stored.{length-stored}
 use Rattle.store.specs.Marks.{markIn}
-use Rattle.link.specs.Road.{Fair, L, Road}
+use Rattle.link.specs.Road.{L, Road}
+use Rattle.link.specs.Proofs.Fair.{Fair}
 use Rattle.link.specs.Running.{Moment, framed}
-use Rattle.link.specs.Proofs.Standing.{First, Later, Open, Owes, Stepped}
+use Rattle.link.specs.Proofs.Standing.{First, Later, Live, Open, Owes, Stepped}
 use Rattle.link.specs.Proofs.Transport.Arrives.{Goes, Joins, goes}
 use Rattle.link.specs.Proofs.Transport.Call.{framed-is}
 use Rattle.link.specs.Proofs.Transport.Due.{AllCome, brought-all, brought-not, not-silent, owes-or-come}
+use Rattle.link.specs.Proofs.Transport.Live.{live-taken}
 use Rattle.link.specs.Proofs.Transport.Passed.{PassedTo, gathered-now, joined-kept, open-passed, passed-to, ruling-now, whole-now}
 use Rattle.link.specs.Proofs.Transport.Steps.{Gathered?, Reach, Served}
 use Rattle.link.specs.Proofs.Transport.Steps.Gathered?.{gathers, waits}
@@ -52,7 +55,7 @@ module _ (r : Road) (fair : Fair r) (m : Moment) (coming coming′ : ℕ → ℕ
   h = r .h4 p (coming p)
 
   abbrev t : Taken
-  t = takenOf g s false h
+  t = takenIn (m .rows) p false h
 
   b : p < r .ports
   b = f .below
@@ -101,6 +104,18 @@ module _ (r : Road) (fair : Fair r) (m : Moment) (coming coming′ : ℕ → ℕ
   stepped-after =
       by-port (λ q. Stepped r (coming′ q) (stepAt (after .rows) q)) (rw (step-after, f .next) (went .stepped))
       (λ q c d. rw (step-others q d, f .others q d) (o .stepped q c))
+
+  live-after : (q : ℕ) → q < r .ports → Live r q (coming′ q) (portAt (after .rows) q .gathering)
+  live-after =
+      by-port (λ q. Live r q (coming′ q) (portAt (after .rows) q .gathering))
+      (rw (frame-gathering (r .kind) (m .rows) p t h (r .ports) b long, f .next)
+      (live-taken r fair p (coming p) (portAt (m .rows) p .gathering) t (went .counted) own (o .live p b)))
+      (λ q c d. rw (frame-other (r .kind) (m .rows) p t h q d, f .others q d) (o .live q c))
+    where
+      own : placeOf (r .kind) (ownTag (r .kind) (takenIn (m .rows) p false (r .h4 p (coming p)))) ≡ placeOf (r .kind) (tagOf (r .kind) (r .offset + coming p))
+      own =
+          let e : r .offset + (coming p + 1) ≡ r .offset + coming p + 1 = omega arith in
+          rw (went .stepped .next, e, tag-before (r .kind) (r .offset + coming p)) refl
 
   -- the store: a frame from the window's first on is put in
   store-kept : i * L r ≤ coming p → after .store ≡ storedAt (m .store) (placeIn g p (coming p - i * L r)) (r .bytes p (coming p)) h
@@ -178,6 +193,7 @@ module _ (r : Road) (fair : Fair r) (m : Moment) (coming coming′ : ℕ → ℕ
         oldest-small = rw group-after (o .oldest-small);
         in-step = by-port (λ q. startFrom (r .kind) (r .offset) (r .first q) + L r * 2 ≤ coming′ q) (let e = f .next in let a = o .in-step p b in omega arith) (λ q c d. rw (f .others q d) (o .in-step q c));
         stepped = stepped-after;
+        live = live-after;
         since = by-port (λ q. stepAt (after .rows) q .since ≡ 1) (rw step-after (went .since ∙ o .since p b)) (λ q c d. rw (step-others q d) (o .since q c));
         later = by-port (λ q. stepAt (after .rows) q .later ≡ 0) (rw step-after (went .later)) (λ q c d. rw (step-others q d) (o .later q c));
         behind = by-port (λ q. i * L r < coming′ q + r .window) (let e = f .next in let a = o .behind p b in omega arith) (λ q c d. rw (f .others q d) (o .behind q c));
@@ -342,13 +358,13 @@ module _ (r : Road) (fair : Fair r) (m : Moment) (p j i : ℕ) (coming coming′
   pub later-says : framed r p (coming p) m .answers ≡ m .answers ++ (0 ∷ [])
   later-says = framed-answers r fair m coming coming′ (suc i) (o .open-at) p f near-later joins-later
 
-  step-later : stepAt (next-later .rows) p ≡ takenOf (groupAt (m .rows)) (stepAt (m .rows) p) false (r .h4 p (coming p)) .step
+  step-later : stepAt (next-later .rows) p ≡ takenIn (m .rows) p false (r .h4 p (coming p)) .step
   step-later = step-after r fair m coming coming′ (suc i) (o .open-at) p f near-later joins-later
 
   others-later : (q : ℕ) → q ≢ p → stepAt (next-later .rows) q ≡ stepAt (m .rows) q
   others-later = step-others r fair m coming coming′ (suc i) (o .open-at) p f near-later joins-later
 
-  went-later : Goes r m coming (suc i) p (takenOf (groupAt (m .rows)) (stepAt (m .rows) p) false (r .h4 p (coming p)))
+  went-later : Goes r m coming (suc i) p (takenIn (m .rows) p false (r .h4 p (coming p)))
   went-later = went r fair m coming coming′ (suc i) (o .open-at) p f near-later joins-later
 
   later-on : Later r next-later coming′ j i

@@ -1,23 +1,25 @@
 -- What the step rule knows of a port, frame by frame.
-use mathlib.Core.Path.{_≡_, refl, _∙_, sym, ap}
-use mathlib.Core.Logic.{⊎-elim}
-use mathlib.Core.Bool.{true, false}
+use mathlib.Core.Path.{_≡_, refl, _∙_, sym, ap, subst}
+use mathlib.Core.Logic.{⊎-elim, _≢_}
+use mathlib.Core.Bool.{Bool, true, false}
 use Prim.Native.Nat.{ℕ, _+_, _-_, _*_, _≤_, _<_}
 use native.Mathlib.Omega.{arith}
 use lib.Dec.{leb}
 use borrow.Author.Tests.{le-leb, le-ltb, lt-leb, lt-ltb}
-use Rattle.ground.specs.Truth.{le-or-lt}
-use Rattle.packet.specs.Kinds.{epochsIn, tagAfter}
-use Rattle.packet.specs.Theorems.Tags.{frames-two, next-tag, tagOf}
+use Rattle.ground.specs.Truth.{eq-or-ne, le-or-lt}
+use Rattle.packet.specs.Kinds.{epochsIn, placeOf, tagBefore}
+use Rattle.packet.specs.Theorems.Tags.{frames-two, tagOf}
 use Rattle.rows.specs.declared.group.Group.{Group}
 use Rattle.rows.specs.declared.step.Step.{Step}
 use Rattle.step.specs.Arrival.{advanced, frameDropped, countsOn, joinedAt, joining, keeps, lost, runOf}
 use Rattle.step.specs.declared.run.Run.{Run}
 use Rattle.step.specs.Laws.Arrival.{ranOn}
-use Rattle.step.specs.Laws.Run.{run-goes, run-in-step, run-next, run-short, run-starts, run-stays, runAt, start-from, startFrom}
+use Rattle.step.specs.Laws.Kept.{Stays, gained, kept}
+use Rattle.step.specs.Laws.Run.{at-after, at-first, run-goes, run-in-step, run-next, run-place, run-short, run-starts, runAt, start-from, startFrom}
 use Rattle.step.specs.Laws.Sent.{SentWith}
-use Rattle.step.specs.Run.{inStepAt, runOn}
-use Rattle.link.specs.Road.{Fair, L, Road}
+use Rattle.step.specs.Run.{inStepAt, noRun, runOn}
+use Rattle.link.specs.Road.{L, Road}
+use Rattle.link.specs.Proofs.Fair.{Fair}
 use Rattle.link.specs.Proofs.Standing.{Heard, Stepped, heardRun}
 
 module _ (r : Road) where
@@ -32,7 +34,7 @@ module _ (r : Road) where
       let e : x + 1 - 1 ≡ x = omega arith in
       rw (lt-ltb (r .first p) (x + 1) (omega arith), e) refl
 
-  heard-none : (p x : ℕ) → x ≤ r .first p → heardRun r p x ≡ record { count = 0; next = 0 }
+  heard-none : (p x : ℕ) → x ≤ r .first p → heardRun r p x ≡ noRun
   unfolding heardRun
   heard-none p x low = rw (le-ltb (r .first p) x low) refl
 
@@ -79,78 +81,115 @@ module _ (r : Road) where
       let e : x - 1 + 1 ≡ x = omega arith in
       run-next (r .kind) (r .offset) (runFrom p) (x - 1) (runOf s) (heard-run p x s o (omega arith)) (omega arith) ∙ rw e refl
 
-  -- One frame more.
+  -- all that is known of a port in step
 
-  module _ (f : Fair r) where
-    heard-goes : (p x : ℕ) (s : Step) → p < r .ports → Heard r p x s → runOn (r .kind) (runOf s) (r .h4 p x) ≡ heardRun r p (x + 1)
-    heard-goes p x s b o =
+  stays-of : (x : ℕ) (s : Step) → Stepped r x s → Stays (r .kind) (r .offset + x) (runOf s)
+  stays-of x s o = record { count = o .count; next = o .next; breaks = o .breaks; even = o .even }
+
+  stepped-by : (x : ℕ) (s : Step) → Stays (r .kind) (r .offset + x) (runOf s) → Stepped r x s
+  stepped-by x s o = record { count = o .count; next = o .next; breaks = o .breaks; even = o .even }
+
+  pub heard-stepped : (p x : ℕ) (s : Step) → Heard r p x s → runFrom p + L r * 2 ≤ x → Stepped r x s
+  heard-stepped p x s o far =
+      let a = from-first p in
+      let n = frames-two (r .kind) in
+      let e : x - 1 + 1 ≡ x = omega arith in
+      let g : Stays (r .kind) (r .offset + (x - 1 + 1)) (runOf s) =
+      gained (r .kind) (r .offset) (runFrom p) (x - 1) (runOf s) (heard-run p x s o (omega arith)) (omega arith) in
+      stepped-by x s (rw e at g)
+
+  -- One frame more, as sent, which ends no odd packet if its port is in step.
+
+  module _ (p x : ℕ) (s : Step) (odd : Bool) (o : Heard r p x s) (even : inStepAt (r .kind) (s .count) ≡ true → odd ≡ false) (sent : SentWith (r .kind) (r .offset + x) (r .h4 p x)) where
+    heard-goes : runOn (r .kind) (runOf s) odd (r .h4 p x) ≡ heardRun r p (x + 1)
+    heard-goes =
         let low = o .from in
         let starts = start-from (r .kind) (r .offset) (r .first p) in
         ⊎-elim
         (λ (e : x ≤ r .first p).
         let same : x ≡ r .first p = omega arith in
-        let none : runOf s ≡ record { count = 0; next = 0 } = o .run ∙ heard-none p x e in
-        let sent : SentWith (r .kind) (r .offset + r .first p) (r .h4 p (r .first p)) = f .counted p (r .first p) b (omega arith) in
+        let none : runOf s ≡ noRun = o .run ∙ heard-none p x e in
+        let here : SentWith (r .kind) (r .offset + r .first p) (r .h4 p (r .first p)) = rw same at sent in
         rw (same, heard-after p (r .first p) (omega arith))
-        (run-starts (r .kind) (r .offset) (r .first p) (runFrom p) (r .h4 p (r .first p)) (runOf s) starts (ap (λ (q : Run). q .count) none) sent))
+        (run-starts (r .kind) (r .offset) (r .first p) (runFrom p) (r .h4 p (r .first p)) (runOf s) odd starts (ap (λ (q : Run). q .count) none) here))
         (λ (late : r .first p < x).
         let up : x - 1 + 1 ≡ x = omega arith in
-        let sent : SentWith (r .kind) (r .offset + (x - 1 + 1)) (r .h4 p x) = rw up (f .counted p x b low) in
-        run-goes (r .kind) (r .offset) (r .first p) (runFrom p) (x - 1) (r .h4 p x) (runOf s) starts (omega arith) (heard-run p x s o late) sent
+        let here : SentWith (r .kind) (r .offset + (x - 1 + 1)) (r .h4 p x) = rw up sent in
+        run-goes (r .kind) (r .offset) (r .first p) (runFrom p) (x - 1) (r .h4 p x) (runOf s) odd starts (omega arith) (heard-run p x s o late) even here
         ∙ ap (runAt (r .kind) (r .offset) (runFrom p)) up
         ∙ sym (heard-after p x low))
         (le-or-lt x (r .first p))
 
     -- a step record that the step rule has counted on
-    pub heard-on : (p x : ℕ) (s t : Step) → p < r .ports → Heard r p x s → t .had ≡ 1 → t .failed ≡ 0 → runOf t ≡ runOn (r .kind) (runOf s) (r .h4 p x) → Heard r p (x + 1) t
-    heard-on p x s t b o had failed run =
+    heard-on : (t : Step) → t .had ≡ 1 → t .failed ≡ 0 → runOf t ≡ runOn (r .kind) (runOf s) odd (r .h4 p x) → Heard r p (x + 1) t
+    heard-on t had failed run =
         let low = o .from in
         record {
           from = omega arith;
           had = had ∙ rw (lt-ltb (r .first p) (x + 1) (omega arith)) refl;
           failed = failed;
-          run = run ∙ heard-goes p x s b o;
+          run = run ∙ heard-goes;
         }
 
-    module _ (g : Group) (p x : ℕ) (s : Step) (k : g .kind ≡ r .kind) (b : p < r .ports) (o : Heard r p x s) where
+    module _ (g : Group) (k : g .kind ≡ r .kind) where
       run : Run
-      run = ranOn g s (r .h4 p x)
+      run = ranOn g s odd (r .h4 p x)
 
-      run-is : run ≡ runOn (r .kind) (runOf s) (r .h4 p x)
+      run-is : run ≡ runOn (r .kind) (runOf s) odd (r .h4 p x)
       unfolding run
       run-is = rw k refl
 
-      pub heard-dropped : Heard r p (x + 1) (frameDropped g s (ranOn g s (r .h4 p x)) .step)
+      pub heard-dropped : Heard r p (x + 1) (frameDropped g s (ranOn g s odd (r .h4 p x)) .step)
       unfolding frameDropped run
-      heard-dropped = heard-on p x s (advanced s run) b o refl refl run-is
+      heard-dropped = heard-on (advanced s run) refl refl run-is
 
-      pub heard-counts : Heard r p (x + 1) (countsOn g s (ranOn g s (r .h4 p x)) .step)
+      pub heard-counts : Heard r p (x + 1) (countsOn g s (ranOn g s odd (r .h4 p x)) .step)
       unfolding countsOn run
-      heard-counts = heard-on p x s (lost s 0 run) b o refl refl run-is
+      heard-counts = heard-on (lost s 0 run) refl refl run-is
 
-    -- a port in step stays so, and the tag to come is the one after
-    stepped-on : (p x : ℕ) (s t : Step) → p < r .ports → r .first p ≤ x → Stepped r x s → runOf t ≡ runOn (r .kind) (runOf s) (r .h4 p x) → Stepped r (x + 1) t
-    stepped-on p x s t b low o run =
-        let sent : SentWith (r .kind) (r .offset + x) (r .h4 p x) = f .counted p x b low in
-        let goes = run-stays (r .kind) (runOf s) (r .h4 p x) (o .count) (rw (o .next) sent) in
+      ran : ranOn g s odd (r .h4 p x) ≡ runAt (r .kind) (r .offset) (runFrom p) x
+      unfolding run
+      ran = run-is ∙ heard-goes ∙ heard-after p x (o .from)
+
+      -- from the run's first frame on it counts, at the place of its own tag
+      pub run-some : runFrom p ≤ x → ranOn g s odd (r .h4 p x) .count ≢ 0
+      run-some late z =
+          ⊎-elim
+          (λ (e : x ≡ runFrom p).
+          let one : ranOn g s odd (r .h4 p x) .count ≡ 1 = ap (λ (q : Run). q .count) ran ∙ rw e (ap (λ (q : Run). q .count) (at-first (r .kind) (r .offset) (runFrom p))) in
+          absurd (omega arith))
+          (λ (n : x ≢ runFrom p).
+          let more = frames-two (r .kind) in
+          let many = ap (λ (q : Run). q .count) (ran ∙ at-after (r .kind) (r .offset) (runFrom p) x (omega arith)) in
+          absurd (omega arith))
+          (eq-or-ne x (runFrom p))
+
+      pub run-own : runFrom p ≤ x → placeOf (r .kind) (tagBefore (r .kind) (ranOn g s odd (r .h4 p x) .next)) ≡ placeOf (r .kind) (tagOf (r .kind) (r .offset + x))
+      run-own late =
+          run-place (r .kind) (r .offset) (r .first p) (runFrom p) x (r .h4 p x) (ranOn g s odd (r .h4 p x)) (start-from (r .kind) (r .offset) (r .first p)) late ran sent
+
+  -- A port in step stays so, and the tag to come is the one after.
+
+  module _ (f : Fair r) where
+    stepped-on : (p x : ℕ) (s t : Step) (odd : Bool) → p < r .ports → r .first p ≤ x → odd ≡ false → Stepped r x s → runOf t ≡ runOn (r .kind) (runOf s) odd (r .h4 p x) → Stepped r (x + 1) t
+    stepped-on p x s t odd b low even o run =
+        let k = kept (r .kind) (r .offset + x) (runOf s) odd (r .h4 p x) (stays-of x s o) (f .placed p x b low) even in
         let e : r .offset + x + 1 ≡ r .offset + (x + 1) = omega arith in
-        record {
-          count = ap (λ (q : Run). inStepAt (r .kind) (q .count)) run ∙ goes .0;
-          next = ap (λ (q : Run). q .next) run ∙ goes .1 ∙ ap (tagAfter (r .kind)) (o .next) ∙ next-tag (r .kind) (r .offset + x) ∙ ap (tagOf (r .kind)) e;
-        }
+        stepped-by (x + 1) t
+        (subst (λ (n : ℕ). Stays (r .kind) n (runOf t)) e (subst (λ (q : Run). Stays (r .kind) (r .offset + x + 1) q) (sym run) k))
 
-    module _ (g : Group) (p x : ℕ) (s : Step) (k : g .kind ≡ r .kind) (b : p < r .ports) (low : r .first p ≤ x) (o : Stepped r x s) where
-      ran : ranOn g s (r .h4 p x) ≡ runOn (r .kind) (runOf s) (r .h4 p x)
-      ran = rw k refl
+    module _ (g : Group) (p x : ℕ) (s : Step) (odd : Bool) (k : g .kind ≡ r .kind) (b : p < r .ports) (low : r .first p ≤ x) (even : odd ≡ false) (o : Stepped r x s) where
+      ran-on : ranOn g s odd (r .h4 p x) ≡ runOn (r .kind) (runOf s) odd (r .h4 p x)
+      ran-on = rw k refl
 
-      pub stepped-dropped : Stepped r (x + 1) (frameDropped g s (ranOn g s (r .h4 p x)) .step)
+      pub stepped-dropped : Stepped r (x + 1) (frameDropped g s (ranOn g s odd (r .h4 p x)) .step)
       unfolding frameDropped
-      stepped-dropped = stepped-on p x s (advanced s (ranOn g s (r .h4 p x))) b low o ran
+      stepped-dropped = stepped-on p x s (advanced s (ranOn g s odd (r .h4 p x))) odd b low even o ran-on
 
-      pub stepped-keeps : (d : ℕ) → Stepped r (x + 1) (keeps g s (ranOn g s (r .h4 p x)) d .step)
+      pub stepped-keeps : (d : ℕ) → Stepped r (x + 1) (keeps g s (ranOn g s odd (r .h4 p x)) d .step)
       unfolding keeps
-      stepped-keeps d = stepped-on p x s (advanced s (ranOn g s (r .h4 p x))) b low o ran
+      stepped-keeps d = stepped-on p x s (advanced s (ranOn g s odd (r .h4 p x))) odd b low even o ran-on
 
-      pub stepped-joining : (d : ℕ) → Stepped r (x + 1) (joining g s (ranOn g s (r .h4 p x)) d .step)
+      pub stepped-joining : (d : ℕ) → Stepped r (x + 1) (joining g s (ranOn g s odd (r .h4 p x)) d .step)
       unfolding joining
-      stepped-joining d = stepped-on p x s (joinedAt s (ranOn g s (r .h4 p x)) (epochsIn (g .kind) d)) b low o ran
+      stepped-joining d = stepped-on p x s (joinedAt s (ranOn g s odd (r .h4 p x)) (epochsIn (g .kind) d)) odd b low even o ran-on

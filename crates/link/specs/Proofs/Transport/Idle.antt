@@ -9,7 +9,8 @@ use borrow.Author.Tests.{eq-eqb}
 use Rattle.receiver.specs.Fetch.{dueIn}
 use Rattle.rows.specs.declared.group.Group.{Group}
 use Rattle.rows.specs.Group.{groupAt}
-use Rattle.link.specs.Road.{Fair, Road}
+use Rattle.link.specs.Road.{Road}
+use Rattle.link.specs.Proofs.Fair.{Fair}
 use Rattle.link.specs.Running.{Moment, recordAt}
 use Rattle.link.specs.Proofs.Standing.{Before, First}
 use Rattle.link.specs.Proofs.Transport.Fetches.{mark-none}

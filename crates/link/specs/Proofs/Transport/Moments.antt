@@ -7,7 +7,8 @@ use native.Mathlib.Omega.{arith}
 use lib.Dec.{eqb}
 use borrow.Author.Tests.{eq-eqb, ne-eqb, eqb-true}
 use Rattle.link.specs.Moments.{nextAt}
-use Rattle.link.specs.Road.{Below, Fair, Road, times}
+use Rattle.link.specs.Road.{Below, Road, times}
+use Rattle.link.specs.Proofs.Fair.{Fair}
 use Rattle.link.specs.Proofs.Transport.Steps.{Apart, Reach, Served}
 
 module _ (r : Road) where

@@ -29,7 +29,8 @@ use Rattle.store.specs.Laws.Marks.{mark-beyond, mark-passed, sixteen-passed}
 use Rattle.store.specs.Laws.Stands.{Stands, packet-stands, stands-moved}
 use Rattle.store.specs.Marks.{firstMark, markIn, passedMarks}
 use Rattle.link.specs.Proofs.Contents.{packetOf}
-use Rattle.link.specs.Road.{Fair, L, Road, sizes-in}
+use Rattle.link.specs.Road.{L, Road}
+use Rattle.link.specs.Proofs.Fair.{Fair, sizes-in}
 use Rattle.link.specs.Running.{Moment}
 use Rattle.link.specs.Proofs.Standing.{Lined, Open, Stepped}
 use Rattle.link.specs.Proofs.Transport.Due.{AllCome, first-all}
@@ -37,7 +38,7 @@ use Rattle.link.specs.Proofs.Transport.Due.{AllCome, first-all}
 -- of a step that passes
 stepped-passed : (r : Road) (x : ℕ) (s : Step) (whole : Bool) → Stepped r x s → Stepped r x (passedStep s whole)
 unfolding passedStep
-stepped-passed r x s whole h = record { count = h .count; next = h .next }
+stepped-passed r x s whole h = record { count = h .count; next = h .next; breaks = h .breaks; even = h .even }
 
 -- what passing the oldest epoch does to the rows that an open window looks at
 pub record PassedTo (r : Road) (m m′ : Moment) : Type 0 where
@@ -46,6 +47,7 @@ pub record PassedTo (r : Road) (m m′ : Moment) : Type 0 where
   pub group-is : groupAt (m′ .rows) ≡ passedGroup (groupAt (m .rows))
   pub steps : (p : ℕ) → p < r .ports → stepAt (m′ .rows) p ≡ passedStep (stepAt (m .rows) p) (firstMark (marksAt (m .rows) p))
   pub marks : (p : ℕ) → p < r .ports → marksAt (m′ .rows) p ≡ passedMarks (marksAt (m .rows) p)
+  pub gathering : (p : ℕ) → p < r .ports → portAt (m′ .rows) p .gathering ≡ portAt (m .rows) p .gathering
   pub ruling : (p : ℕ) → p < r .ports
       → getD (packetsAt (m′ .rows) p) 1 [] ≡ cond (firstMark (marksAt (m .rows) p)) (packetIn (groupAt (m .rows)) p (m .store)) (getD (packetsAt (m .rows) p) 1 [])
 
@@ -60,6 +62,7 @@ module _ (r : Road) (m m′ : Moment) (long : length (m .rows) ≡ rowsFor (r .p
         group-is = rw is (passed-group g (m .store) (r .ports) (m .rows) (omega arith));
         steps = λ p b. rw is (passed-step-at g (m .store) (r .ports) (m .rows) p b (omega arith));
         marks = λ p b. rw is (passed-marks-at g (m .store) (r .ports) (m .rows) p b (omega arith));
+        gathering = λ p b. rw is (ap (λ (q : Port). q .gathering) (passed-of-port g (m .store) (r .ports) (m .rows) p b (omega arith)));
         ruling = λ p b. rw is (ap (λ (q : Port). q .ruling) (passed-of-port g (m .store) (r .ports) (m .rows) p b (omega arith)));
       }
 
@@ -130,6 +133,7 @@ module _ (r : Road) (fair : Fair r) (m m′ : Moment) (coming : ℕ → ℕ) (i 
         oldest-small = rw (t .group-is, passed-oldest g, o .lined .kind-is) (epoch-after-lt (r .kind) (g .oldest));
         in-step = o .in-step;
         stepped = λ p b. rw (t .steps p b) (stepped-passed r (coming p) (stepAt (m .rows) p) (firstMark (marksAt (m .rows) p)) (o .stepped p b));
+        live = λ p b. rw (t .gathering p b) (o .live p b);
         since = λ p b. rw (t .steps p b) (step-since (stepAt (m .rows) p) (firstMark (marksAt (m .rows) p)) ∙ o .since p b);
         later = λ p b. rw (t .steps p b) (step-later (stepAt (m .rows) p) (firstMark (marksAt (m .rows) p)) ∙ rw (o .later p b) refl);
         behind = λ p b.

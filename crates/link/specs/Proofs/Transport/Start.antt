@@ -8,15 +8,18 @@ use lib.Dec.{ltb}
 use lib.ListN.{length}
 use borrow.Author.Tests.{eq-eqb, le-ltb}
 use Rattle.packet.specs.Theorems.Tags.{frames-some}
-use Rattle.receiver.specs.Laws.Fresh.{length-started, started-group, started-step, waits-for}
-use Rattle.receiver.specs.Starting.{freshPorts, freshStep, groupWith, sizedRows, startFits, startRows}
+use Rattle.receiver.specs.Laws.Fresh.{length-started, started-group, started-port, started-step, waits-for}
+use Rattle.receiver.specs.Starting.{freshPorts, freshStep, groupWith, sizedRows, startFits, startRows, zeroRow}
 use Rattle.rows.specs.declared.group.Group.{Group}
 use Rattle.rows.specs.Group.{groupAt, putGroup}
+use Rattle.rows.specs.Port.{Port, portAt}
 use Rattle.rows.specs.Rows.{rowsFor}
 use Rattle.rows.specs.Step.{stepAt}
-use Rattle.link.specs.Road.{Fair, Road, sizes-in}
+use Rattle.link.specs.Road.{Road}
+use Rattle.link.specs.Proofs.Fair.{Fair, sizes-in}
 use Rattle.link.specs.Running.{fresh}
 use Rattle.link.specs.Proofs.Standing.{Before, Heard, heardRun}
+use Rattle.link.specs.Proofs.Transport.Heard.{from-first}
 
 module _ (r : Road) (f : Fair r) (rows : List (List ℕ)) (store : List ℕ)
     (rows-long : length rows ≡ rowsFor (r .ports)) (store-long : length store ≡ r .ports * r .window * (r .payload + 1)) where
@@ -38,6 +41,10 @@ module _ (r : Road) (f : Fair r) (rows : List (List ℕ)) (store : List ℕ)
   step-is : (p : ℕ) → p < r .ports → stepAt started p ≡ freshStep
   unfolding started
   step-is p b = started-step (r .kind) (r .ports) rows group p b (omega arith)
+
+  gathering-is : (p : ℕ) → p < r .ports → portAt started p .gathering ≡ zeroRow
+  unfolding started
+  gathering-is p b = ap (λ (q : Port). q .gathering) (started-port (r .kind) (r .ports) rows group p b (omega arith))
 
   started-heard : (p : ℕ) → Heard r p (r .first p) freshStep
   unfolding heardRun
@@ -62,6 +69,7 @@ module _ (r : Road) (f : Fair r) (rows : List (List ℕ)) (store : List ℕ)
               origin-in = rw group-is (omega arith);
             };
         heard = λ p b. rw (step-is p b) (started-heard p);
+        live = λ p b. rw (gathering-is p b) (record { long = refl; holds = λ y from upto near small. absurd (let first = from-first r p in omega arith) });
         begun = ap (λ (g : Group). g .begun) group-is;
         unfit = waits-for (groupAt started) started (r .ports) 0 (omega arith) (rw (step-is 0 (omega arith)) refl);
         told = refl;

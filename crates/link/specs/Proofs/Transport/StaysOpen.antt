@@ -32,6 +32,7 @@ module _ (r : Road) where
     pub oldests : groupAt (m′ .rows) .oldest ≡ groupAt (m .rows) .oldest
     pub steps : (p : ℕ) → p < r .ports → stepAt (m′ .rows) p ≡ stepAt (m .rows) p
     pub marks : (p : ℕ) → p < r .ports → marksAt (m′ .rows) p ≡ marksAt (m .rows) p
+    pub gathering : (p : ℕ) → p < r .ports → portAt (m′ .rows) p .gathering ≡ portAt (m .rows) p .gathering
 
   pub open-stays : (m m′ : Moment) (coming : ℕ → ℕ) (i : ℕ) → SameWindow m m′ → Open r m coming i → Open r m′ coming i
   open-stays m m′ coming i a o =
@@ -51,6 +52,7 @@ module _ (r : Road) where
         oldest-small = rw (a .oldests) (o .oldest-small);
         in-step = o .in-step;
         stepped = λ p b. rw (a .steps p b) (o .stepped p b);
+        live = λ p b. rw (a .gathering p b) (o .live p b);
         since = λ p b. rw (a .steps p b) (o .since p b);
         later = λ p b. rw (a .steps p b) (o .later p b);
         behind = o .behind;
@@ -83,6 +85,7 @@ module _ (r : Road) (m m′ : Moment) (long : rowsFor (r .ports) ≤ length (m .
         oldests = rw group-told refl;
         steps = λ p b. rw is (told-step g (r .ports) (m .rows) p b long);
         marks = λ p b. rw is (told-marks g (r .ports) (m .rows) p b long);
+        gathering = λ p b. rw is (ap (λ (q : Port). q .gathering) (told-of-port g (r .ports) (m .rows) p b long));
       }
 
   pub gathered-told : groupAt (m′ .rows) .gathered ≡ g .gathered

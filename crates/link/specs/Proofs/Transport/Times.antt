@@ -16,9 +16,11 @@ use Rattle.phases.specs.Beginning.{begins}
 use Rattle.receiver.specs.Laws.Sizes.{window-some}
 use Rattle.rows.specs.Group.{groupAt}
 use Rattle.step.specs.Laws.Run.{start-from, startFrom}
+use Rattle.step.specs.Laws.Sent.{SentWith}
 use Rattle.link.specs.Proofs.Laws.Lists.{append-apart}
-use Rattle.link.specs.Moments.{Beginning, Ready, Unready, coming, nextAt, reached}
-use Rattle.link.specs.Road.{Fair, L, Road, sizes-in}
+use Rattle.link.specs.Moments.{Beginning, NotAfter, Ready, Unready, coming, nextAt, reached}
+use Rattle.link.specs.Road.{L, Road}
+use Rattle.link.specs.Proofs.Fair.{Fair, sizes-in}
 use Rattle.link.specs.Running.{Moment, drained, fetched, framed, hasBegun, recordAt, through, turn, turns}
 use Rattle.link.specs.Proofs.Standing.{Before, First, Later, Owes}
 use Rattle.link.specs.Proofs.Transport.Due.{AllCome, owes-or-come}
@@ -33,7 +35,8 @@ module _ (r : Road) where
 
   -- what the single steps are proved to do
   pub record Steps : Type 0 where
-    pub on-before : (m : Moment) (p : ℕ) (coming coming′ : ℕ → ℕ) → Served r p coming coming′ → Apart r coming′ → Before r m coming → Begun? r (framed r p (coming p) m) coming′
+    pub on-before : (m : Moment) (p : ℕ) (coming coming′ : ℕ → ℕ) → Served r p coming coming′ → Apart r coming′ → SentWith (r .kind) (r .offset + coming p) (r .h4 p (coming p)) → Before r m coming
+        → Begun? r (framed r p (coming p) m) coming′
     pub on-first : (m : Moment) (p i : ℕ) (coming coming′ : ℕ → ℕ) → Served r p coming coming′ → Reach r p coming → First r m coming i → Gathered? r (framed r p (coming p) m) coming′ i
     pub on-later : (m : Moment) (p g i : ℕ) (coming coming′ : ℕ → ℕ) → Served r p coming coming′ → Reach r p coming → Later r m coming g i → Owes r coming (suc i) → Later r (framed r p (coming p) m) coming′ g i
     pub before-none : (m : Moment) (coming : ℕ → ℕ) → Before r m coming → markNext m ≡ 0
@@ -145,11 +148,32 @@ module _ (r : Road) where
           un t (r .order t) [] (sym (append-nil (r .order t))) (inr (refl, omega arith)) (subst (λ (k : ℕ → ℕ). Ready r k) z y)
 
   module _ (m₀ : Moment) where
+    -- receiving began at or before this moment
+    abbrev Come : (F : ℕ) → Beginning r (reached r m₀) F → ℕ → List ℕ → Type 0
+    Come F b t done = NotAfter r (b .time) (b .done ++ (b .port ∷ [])) t done
+
+    come-more : (F : ℕ) (b : Beginning r (reached r m₀) F) (t p : ℕ) (done : List ℕ) → Come F b t done → Come F b t (done ++ (p ∷ []))
+    come-more F b t p done =
+        ⊎-elim (λ (h : b .time < t). inl h)
+        (λ (h : (b .time ≡ t) × (length (b .done ++ (b .port ∷ [])) ≤ length done)).
+        let long : length (done ++ (p ∷ [])) ≡ length done + 1 = length-append done (p ∷ []) in
+        let l = h .1 in
+        inr (h .0, omega arith))
+
+    come-next : (F : ℕ) (b : Beginning r (reached r m₀) F) (t : ℕ) (done : List ℕ) → Come F b t done → Come F b (suc t) []
+    come-next F b t done =
+        ⊎-elim (λ (h : b .time < t). inl (omega arith)) (λ (h : (b .time ≡ t) × (length (b .done ++ (b .port ∷ [])) ≤ length done)). let e = h .0 in inl (omega arith))
+
+    -- then not all ports were unready up to it
+    pub come-ready : (F : ℕ) (b : Beginning r (reached r m₀) F) (t : ℕ) (done : List ℕ) → Come F b t done → Unready r t done → ⊥
+    come-ready F b t done c un =
+        un (b .time) (b .done ++ (b .port ∷ [])) (b .rest) (b .is-order ∙ sym (append-assoc (b .done) (b .port ∷ []) (b .rest))) c (b .ready)
+
     -- what stands at a moment
     pub data Phase (t : ℕ) (done : List ℕ) (m : Moment) (coming : ℕ → ℕ) : Type 0 where
       before : Before r m coming → Unready r t done → Phase t done m coming
-      first : (F : ℕ) → Beginning r (reached r m₀) F → First r m coming (suc (F / L r)) → Phase t done m coming
-      later : (F i : ℕ) → Beginning r (reached r m₀) F → Later r m coming (suc (F / L r)) i → Owes r coming (suc i) → Phase t done m coming
+      first : (F : ℕ) (b : Beginning r (reached r m₀) F) → Come F b t done → First r m coming (suc (F / L r)) → Phase t done m coming
+      later : (F i : ℕ) (b : Beginning r (reached r m₀) F) → Come F b t done → Later r m coming (suc (F / L r)) i → Owes r coming (suc i) → Phase t done m coming
 
     module _ (f : Fair r) (s : Steps) where
       drained-wide : (w : ℕ) (m : Moment) → 0 < w → markNext m ≢ 0 → markNext (fetched r m) ≡ 0 → drained r w m ≡ fetched r m
@@ -204,8 +228,12 @@ module _ (r : Road) where
         as-phase : (m : Moment) → turn r t p here ≡ m → Phase t (done ++ (p ∷ [])) m (coming r t ps) → Next
         as-phase m e q = subst (λ (n : Moment). Phase t (done ++ (p ∷ [])) n (coming r t ps)) (sym e) q
 
+        -- a frame handed before the beginning, or with which it comes, is as sent
+        sent-then : Unready r t done → SentWith (r .kind) (r .offset + coming r t (p ∷ ps) p) (r .h4 p (coming r t (p ∷ ps) p))
+        sent-then un = rw position (f .counted t p done ps (o .all-below .0) is-order late un)
+
         from-before : Before r here (coming r t (p ∷ ps)) → Unready r t done → Next
-        from-before b un = go (rw position at (s .on-before here p (coming r t (p ∷ ps)) (coming r t ps) moved (apart-coming f t ps (rest-tail r p ps o)) b))
+        from-before b un = go (rw position at (s .on-before here p (coming r t (p ∷ ps)) (coming r t ps) moved (apart-coming f t ps (rest-tail r p ps o)) (sent-then un) b))
           where
             go : Begun? r there (coming r t ps) → Next
             go (stays c) =
@@ -225,31 +253,31 @@ module _ (r : Road) where
                   foremost = fore;
                   ready = y;
                   unready = un;
-                }) c)
+                }) (inr (refl, omega arith)) c)
 
-        from-first : (F : ℕ) → Beginning r (reached r m₀) F → First r here (coming r t (p ∷ ps)) (suc (F / L r)) → Next
-        from-first F b c = go (rw position at (s .on-first here p (suc (F / L r)) (coming r t (p ∷ ps)) (coming r t ps) moved (reach-coming f t p ps o late) c))
+        from-first : (F : ℕ) (b : Beginning r (reached r m₀) F) → Come F b t done → First r here (coming r t (p ∷ ps)) (suc (F / L r)) → Next
+        from-first F b come c = go (rw position at (s .on-first here p (suc (F / L r)) (coming r t (p ∷ ps)) (coming r t ps) moved (reach-coming f t p ps o late) c))
           where
             go : Gathered? r there (coming r t ps) (suc (F / L r)) → Next
-            go (waits d) = as-phase there (quiet (s .first-none there (suc (F / L r)) (coming r t ps) d)) (first F b d)
+            go (waits d) = as-phase there (quiet (s .first-none there (suc (F / L r)) (coming r t ps) d)) (first F b (come-more F b t p done come) d)
             go (gathers d w) =
-                as-phase there (quiet (s .later-none there (suc (F / L r)) (suc (F / L r)) (coming r t ps) d w)) (later F (suc (F / L r)) b d w)
+                as-phase there (quiet (s .later-none there (suc (F / L r)) (suc (F / L r)) (coming r t ps) d w)) (later F (suc (F / L r)) b (come-more F b t p done come) d w)
 
-        from-later : (F i : ℕ) → 0 < r .window → Beginning r (reached r m₀) F → Later r here (coming r t (p ∷ ps)) (suc (F / L r)) i → Owes r (coming r t (p ∷ ps)) (suc i) → Next
-        from-later F i wide b c w = go (rw position at (s .on-later here p (suc (F / L r)) i (coming r t (p ∷ ps)) (coming r t ps) moved (reach-coming f t p ps o late) c w))
+        from-later : (F i : ℕ) → 0 < r .window → (b : Beginning r (reached r m₀) F) → Come F b t done → Later r here (coming r t (p ∷ ps)) (suc (F / L r)) i → Owes r (coming r t (p ∷ ps)) (suc i) → Next
+        from-later F i wide b come c w = go (rw position at (s .on-later here p (suc (F / L r)) i (coming r t (p ∷ ps)) (coming r t ps) moved (reach-coming f t p ps o late) c w))
           where
             go : Later r there (coming r t ps) (suc (F / L r)) i → Next
             go d = ⊎-elim some-owe none-owe (owes-or-come r (coming r t ps) (suc i))
               where
                 some-owe : Owes r (coming r t ps) (suc i) → Next
-                some-owe v = as-phase there (quiet (s .later-none there (suc (F / L r)) i (coming r t ps) d v)) (later F i b d v)
+                some-owe v = as-phase there (quiet (s .later-none there (suc (F / L r)) i (coming r t ps) d v)) (later F i b (come-more F b t p done come) d v)
 
                 none-owe : AllCome r (coming r t ps) (suc i) → Next
                 none-owe all =
                     let l = s .later-one there (suc (F / L r)) i (coming r t ps) d all in
                     let v : Owes r (coming r t ps) (suc (suc i)) = owes-next p (suc i) (coming r t (p ∷ ps)) (coming r t ps) moved w all in
                     let e = s .later-none (fetched r there) (suc (F / L r)) (suc i) (coming r t ps) (l .1) v in
-                    as-phase (fetched r there) (one-turn ∙ drained-wide (r .window) there wide (l .0) e) (later F (suc i) b (l .1) v)
+                    as-phase (fetched r there) (one-turn ∙ drained-wide (r .window) there wide (l .0) e) (later F (suc i) b (come-more F b t p done come) (l .1) v)
 
       wide : 0 < r .window
       wide = window-some (r .kind) (r .ports) (r .payload) (r .window) (sizes-in r f)
@@ -263,8 +291,8 @@ module _ (r : Road) where
         where
           with-frame : r .delay p + r .first p ≤ t → Phase t done (reached r m₀ t done) (coming r t (p ∷ ps)) → Phase t (done ++ (p ∷ [])) (turn r t p (reached r m₀ t done)) (coming r t ps)
           with-frame late (before b un) = from-before t p done ps is-order o late b un
-          with-frame late (first F b c) = from-first t p done ps is-order o late F b c
-          with-frame late (later F i b c w) = from-later t p done ps is-order o late F i wide b c w
+          with-frame late (first F b come c) = from-first t p done ps is-order o late F b come c
+          with-frame late (later F i b come c w) = from-later t p done ps is-order o late F i wide b come c w
 
           without : t < r .delay p + r .first p → Phase t done (reached r m₀ t done) (coming r t (p ∷ ps)) → Phase t (done ++ (p ∷ [])) (turn r t p (reached r m₀ t done)) (coming r t ps)
           without early q =
@@ -278,9 +306,9 @@ module _ (r : Road) where
               go (before b un) =
                   before (subst (λ (n : ℕ → ℕ). Before r (reached r m₀ t done) n) same b)
                   (unready-more t p done ps is-order un (λ y. un t done (p ∷ ps) is-order (inr (refl, omega arith)) (subst (λ (n : ℕ → ℕ). Ready r n) (sym same) y)))
-              go (first F b c) = first F b (subst (λ (n : ℕ → ℕ). First r (reached r m₀ t done) n (suc (F / L r))) same c)
-              go (later F i b c w) =
-                  later F i b (subst (λ (n : ℕ → ℕ). Later r (reached r m₀ t done) n (suc (F / L r)) i) same c) (subst (λ (n : ℕ → ℕ). Owes r n (suc i)) same w)
+              go (first F b come c) = first F b (come-more F b t p done come) (subst (λ (n : ℕ → ℕ). First r (reached r m₀ t done) n (suc (F / L r))) same c)
+              go (later F i b come c w) =
+                  later F i b (come-more F b t p done come) (subst (λ (n : ℕ → ℕ). Later r (reached r m₀ t done) n (suc (F / L r)) i) same c) (subst (λ (n : ℕ → ℕ). Owes r n (suc i)) same w)
 
       -- the ports of a frame time, one after the other
       served-all : (t : ℕ) (done ps rest : List ℕ) → r .order t ≡ done ++ (ps ++ rest) → Rest r (ps ++ rest) → Phase t done (reached r m₀ t done) (coming r t (ps ++ rest))
@@ -305,9 +333,9 @@ module _ (r : Road) where
 
           go : Phase t (r .order t) (reached r m₀ t (r .order t)) (coming r t []) → Phase (suc t) [] (reached r m₀ t (r .order t)) (coming r (suc t) (r .order (suc t)))
           go (before c un) = before (subst (λ (n : ℕ → ℕ). Before r (reached r m₀ t (r .order t)) n) same c) (unready-next f t un)
-          go (first F c d) = first F c (subst (λ (n : ℕ → ℕ). First r (reached r m₀ t (r .order t)) n (suc (F / L r))) same d)
-          go (later F i c d w) =
-              later F i c (subst (λ (n : ℕ → ℕ). Later r (reached r m₀ t (r .order t)) n (suc (F / L r)) i) same d) (subst (λ (n : ℕ → ℕ). Owes r n (suc i)) same w)
+          go (first F c come d) = first F c (come-next F c t (r .order t) come) (subst (λ (n : ℕ → ℕ). First r (reached r m₀ t (r .order t)) n (suc (F / L r))) same d)
+          go (later F i c come d w) =
+              later F i c (come-next F c t (r .order t) come) (subst (λ (n : ℕ → ℕ). Later r (reached r m₀ t (r .order t)) n (suc (F / L r)) i) same d) (subst (λ (n : ℕ → ℕ). Owes r n (suc i)) same w)
 
       -- every moment
       pub phase : Before r m₀ (r .first) → (t : ℕ) (done rest : List ℕ) → r .order t ≡ done ++ rest → Phase t done (reached r m₀ t done) (coming r t rest)
@@ -346,5 +374,5 @@ module _ (r : Road) where
           where
             go : Phase by [] (reached r m₀ by []) (coming r by (r .order by)) → hasBegun (reached r m₀ by []) ≡ 1
             go (before b un) = absurd (true≢false (sym (s .must-begin (reached r m₀ by []) (coming r by (r .order by)) b (record { stepped = stepped; near = near })) ∙ b .unfit))
-            go (first F b c) = c .open-at .begun
-            go (later F i b c w) = c .open-at .begun
+            go (first F b come c) = c .open-at .begun
+            go (later F i b come c w) = c .open-at .begun

@@ -12,6 +12,15 @@ ports-in-requires c κs = search needs
 get-requires-2 : tie.Need-get-requires-2
 get-requires-2 c κs = search needs
 
+get-requires-3 : tie.Need-get-requires-3
+get-requires-3 c κs = search needs
+
+array-copy-out-gathering : tie.Need-array-copy-out-gathering
+array-copy-out-gathering c = search needs
+
+is-odd-requires : tie.Need-is-odd-requires
+is-odd-requires c κs = search needs
+
 decide-requires : tie.Need-decide-requires
 decide-requires c κs = search needs
 
@@ -25,7 +34,7 @@ same-length-2 : tie.Need-same-length-2
 same-length-2 c = search needs
 
 returns : tie.Need-returns
-returns c = decided-by _ _ _ _ _ _ _ _ (c .before .before .before .before .before .before .before .before .before .before .get .ensures) (c .before .before .before .before .before .before .before .get2 .ensures) _ _ _ _ (c .before .before .before .before .before .before .before .before .before .ports-in .ensures) (c .before .before .before .before .before .before .decide .ensures) (c .before .before .before .take .ensures .0) (c .before .before .before .take .ensures .1)
+returns c = decided-by _ _ _ _ _ _ _ _ (c .before .before .before .before .before .before .before .before .before .before .before .before .before .before .get .ensures) (c .before .before .before .before .before .before .before .before .before .before .before .get2 .ensures) _ _ _ _ _ _ (c .before .before .before .before .before .before .before .before .before .before .before .before .before .ports-in .ensures) (c .before .before .before .before .before .before .before .before .before .get3 .ensures) (c .before .before .before .before .before .before .before .is-odd .ensures) (c .before .before .before .before .before .before .decide .ensures) (c .before .before .before .take .ensures .0) (c .before .before .before .take .ensures .1)
 
 pub decided-spec : {M : Type 1} → statement M
 decided-spec =
@@ -34,6 +43,9 @@ decided-spec =
     get-requires
     ports-in-requires
     get-requires-2
+    get-requires-3
+    array-copy-out-gathering
+    is-odd-requires
     decide-requires
     take-requires
     same-length

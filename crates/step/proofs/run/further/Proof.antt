@@ -1,21 +1,28 @@
 use mathlib.Core.Path.{refl}
+use native.Mathlib.Omega.{arith}
+use Rattle.step.specs.Laws.Run.{count-fits}
 use Rattle.step.specs.Run.{furtherRun}
 use borrow.Author.Needs.{needs}
 use Rattle.step.proofs.run.further.Statement.{statement}
 use Rattle.step.proofs.run.further.Tie as tie
+use Rattle.step.proofs.run.further.Reads as reads
+use Rattle.step.proofs.run.further.Lts as lts
+use Rattle.packet.proofs.counts.is_counted.Reads as is-counted-reads
+use Rattle.packet.proofs.kinds.next_tag.Reads as next-tag-reads
+use Rattle.step.proofs.run.begun_run.Reads as begun-run-reads
 
 is-counted-requires : tie.Need-is-counted-requires
 is-counted-requires c κs = search needs
 
-one-more-requires : tie.Need-one-more-requires
-one-more-requires c κs = search needs
+add-t5 : tie.Need-add-t5
+add-t5 c = omega (arith, count-fits (c .before .before .before .args .kind) (c .before .before .before .args .run .count) (c .before .before .before .pre))
 
 next-tag-requires : tie.Need-next-tag-requires
 next-tag-requires c κs = search needs
 
 returns : tie.Need-returns
 unfolding furtherRun
-returns c = rw (← c .before .before .before .is-counted .ensures, c .before .before .if1 .taken, c .before .one-more .ensures, c .next-tag .ensures) refl
+returns c = rw (← c .before .before .before .is-counted .ensures, c .before .before .if1 .taken, c .next-tag .ensures) refl
 
 begun-run-requires : tie.Need-begun-run-requires
 begun-run-requires c κs = search needs
@@ -27,10 +34,4 @@ returns-2 c = rw (← c .before .before .is-counted .ensures, c .before .if1 .le
 pub further-spec : {M : Type 1} → statement M
 further-spec =
     tie.close
-    (tie.spec
-    is-counted-requires
-    one-more-requires
-    next-tag-requires
-    returns
-    begun-run-requires
-    returns-2)
+    (tie.spec is-counted-requires add-t5 next-tag-requires returns begun-run-requires returns-2)

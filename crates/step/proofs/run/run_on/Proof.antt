@@ -1,31 +1,30 @@
-use borrow.Author.Tests.{eq-eqb, ne-eqb}
+use mathlib.Core.Path.{sym, _∙_}
 use Rattle.step.specs.Run.{runOn}
 use borrow.Author.Needs.{needs}
 use Rattle.step.proofs.run.run_on.Statement.{statement}
 use Rattle.step.proofs.run.run_on.Tie as tie
+use Rattle.step.proofs.run.run_on.Reads as reads
+use Rattle.step.proofs.run.run_on.Lts as lts
+use Rattle.step.proofs.run.gains.Reads as gains-reads
+use Rattle.step.proofs.run.is_step.Reads as is-step-reads
+use Rattle.step.proofs.run.stays.Reads as stays-reads
 
-begun-run-requires : tie.Need-begun-run-requires
-begun-run-requires c κs = search needs
+is-step-requires : tie.Need-is-step-requires
+is-step-requires c κs = search needs
+
+stays-requires : tie.Need-stays-requires
+stays-requires c κs = search needs
 
 returns : tie.Need-returns
 unfolding runOn
-returns c = rw (eq-eqb _ 0 (c .before .if1 .taken)) (c .begun-run .ensures)
+returns c = rw (← c .before .before .is-step .ensures, c .before .if1 .taken) (c .stays .ensures)
 
-second-requires : tie.Need-second-requires
-second-requires c κs = search needs
+gains-requires : tie.Need-gains-requires
+gains-requires c κs = sym (c .before .is-step .ensures) ∙ c .if1 .left
 
 returns-2 : tie.Need-returns-2
 unfolding runOn
-returns-2 c = rw (ne-eqb _ 0 (c .before .before .if1 .left), eq-eqb _ 1 (c .before .if2 .taken)) (c .second .ensures)
-
-further-requires : tie.Need-further-requires
-further-requires c κs = search needs
-
-returns-3 : tie.Need-returns-3
-unfolding runOn
-returns-3 c = rw (ne-eqb _ 0 (c .before .before .if1 .left), ne-eqb _ 1 (c .before .if2 .left)) (c .further .ensures)
+returns-2 c = rw (← c .before .before .is-step .ensures, c .before .if1 .left) (c .gains .ensures)
 
 pub run-on-spec : {M : Type 1} → statement M
-run-on-spec =
-    tie.close
-    (tie.spec begun-run-requires returns second-requires returns-2 further-requires returns-3)
+run-on-spec = tie.close (tie.spec is-step-requires stays-requires returns gains-requires returns-2)

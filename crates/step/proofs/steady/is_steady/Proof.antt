@@ -18,7 +18,7 @@ is-set-requires-2 c κs = search needs
 
 returns : tie.Need-returns
 unfolding steady
-returns c = rw (c .is-set2 .ensures, c .before .is-set .ensures, c .before .before .before .before .is-counted .ensures, c .before .before .before .before .before .in-step .ensures) refl
+returns c = rw (c .is-set2 .ensures, c .before .is-set .ensures, c .before .before .before .before .before .is-counted .ensures, c .before .before .before .before .before .before .in-step .ensures) refl
 
 pub is-steady-spec : {M : Type 1} → statement M
 is-steady-spec =

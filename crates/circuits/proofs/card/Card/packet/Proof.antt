@@ -22,14 +22,14 @@ sender-of-requires c κs = search needs
 packet-requires : tie.Need-packet-requires
 packet-requires c κs = search needs
 
-told-by-requires : tie.Need-told-by-requires
-told-by-requires c κs = search needs
+from-sender-requires : tie.Need-from-sender-requires
+from-sender-requires c κs = search needs
 
 same-length : tie.Need-same-length
 same-length c = search needs
 
 returns-3 : tie.Need-returns-3
-returns-3 c = packet-done (c .before .before .before .before .before .before .before .before .before .before .before .args .self) (c .before .before .before .before .before .before .before .before .before .before .before .args .group) (c .before .before .before .before .before .before .before .before .before .before .before .args .slot) (c .before .before .before .before .before .before .before .before .before .is-slot .ensures) (not-false _ (c .before .before .before .before .before .before .before .before .if1 .left)) (c .before .before .before .before .before .before .before .is-own .ensures) (not-false _ (c .before .before .before .before .before .before .if2 .left)) _ (c .before .before .before .before .before .sender-of .ensures) (c .before .before .before .packet .ensures .0) (c .before .before .before .packet .ensures .1) (c .told-by .ensures)
+returns-3 c = packet-done (c .before .before .before .before .before .before .before .before .before .before .before .args .self) (c .before .before .before .before .before .before .before .before .before .before .before .args .group) (c .before .before .before .before .before .before .before .before .before .before .before .args .slot) (c .before .before .before .before .before .before .before .before .before .is-slot .ensures) (not-false _ (c .before .before .before .before .before .before .before .before .if1 .left)) (c .before .before .before .before .before .before .before .is-own .ensures) (not-false _ (c .before .before .before .before .before .before .if2 .left)) _ (c .before .before .before .before .before .sender-of .ensures) (c .before .before .before .packet .ensures .0) (c .before .before .before .packet .ensures .1) (c .from-sender .ensures)
 
 pub packet-spec : {M : Type 1} → statement M
 packet-spec =
@@ -41,6 +41,6 @@ packet-spec =
     returns-2
     sender-of-requires
     packet-requires
-    told-by-requires
+    from-sender-requires
     same-length
     returns-3)

@@ -22,14 +22,14 @@ sender-of-requires c κs = search needs
 payload-requires : tie.Need-payload-requires
 payload-requires c κs = search needs
 
-told-by-requires : tie.Need-told-by-requires
-told-by-requires c κs = search needs
+from-sender-requires : tie.Need-from-sender-requires
+from-sender-requires c κs = search needs
 
 same-length : tie.Need-same-length
 same-length c = search needs
 
 returns-3 : tie.Need-returns-3
-returns-3 c = payload-done (c .before .before .before .before .before .before .before .before .before .before .before .before .args .self) (c .before .before .before .before .before .before .before .before .before .before .before .before .args .group) (c .before .before .before .before .before .before .before .before .before .before .before .before .args .slot) (c .before .before .before .before .before .before .before .before .before .is-slot .ensures) (not-false _ (c .before .before .before .before .before .before .before .before .if1 .left)) (c .before .before .before .before .before .before .before .is-own .ensures) (not-false _ (c .before .before .before .before .before .before .if2 .left)) _ _ _ (c .before .before .before .before .before .sender-of .ensures) (c .before .before .before .payload .ensures .0) (c .before .before .before .payload .ensures .1) (c .told-by .ensures)
+returns-3 c = payload-done (c .before .before .before .before .before .before .before .before .before .before .before .before .args .self) (c .before .before .before .before .before .before .before .before .before .before .before .before .args .group) (c .before .before .before .before .before .before .before .before .before .before .before .before .args .slot) (c .before .before .before .before .before .before .before .before .before .is-slot .ensures) (not-false _ (c .before .before .before .before .before .before .before .before .if1 .left)) (c .before .before .before .before .before .before .before .is-own .ensures) (not-false _ (c .before .before .before .before .before .before .if2 .left)) _ _ _ (c .before .before .before .before .before .sender-of .ensures) (c .before .before .before .payload .ensures .0) (c .before .before .before .payload .ensures .1) (c .from-sender .ensures)
 
 pub payload-spec : {M : Type 1} → statement M
 payload-spec =
@@ -41,6 +41,6 @@ payload-spec =
     returns-2
     sender-of-requires
     payload-requires
-    told-by-requires
+    from-sender-requires
     same-length
     returns-3)

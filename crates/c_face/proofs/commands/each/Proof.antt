@@ -1,0 +1,73 @@
+use mathlib.Core.Path.{_≡_, refl}
+use Prim.Native.Nat.{ℕ, _-_, _≤_}
+use native.Mathlib.Omega.{arith}
+use lib.ListN.{length}
+use borrow.Author.Needs.{needs}
+use Rattle.c_face.proofs.Ordering.{bytes-all, bytes-length, bytes-next, bytesAt, in-list, list-all, list-length, list-next, listAt}
+use Rattle.c_face.proofs.commands.each.Statement.{statement}
+use Rattle.c_face.proofs.commands.each.Tie as tie
+
+abbrev Inv-loop : tie.InvT-loop
+Inv-loop state₀ commands answers₀ i₀ state answers i = (i ≤ length commands) × (state ≡ bytesAt state₀ commands i) × (answers ≡ listAt state₀ commands answers₀ i)
+
+abbrev μ-loop : tie.MeasureT-loop
+μ-loop state₀ commands answers₀ i₀ state answers i = length commands - i
+
+loop-holds : tie.Need-loop-holds Inv-loop μ-loop
+loop-holds c = (omega arith, refl, refl)
+
+mul-command : tie.Need-mul-command Inv-loop μ-loop
+mul-command c = search needs
+
+shared-slice-copy-out-command : tie.Need-shared-slice-copy-out-command Inv-loop μ-loop
+shared-slice-copy-out-command c = search needs
+
+one-requires : tie.Need-one-requires Inv-loop μ-loop
+one-requires c κs = search needs
+
+slice-write-answers : tie.Need-slice-write-answers Inv-loop μ-loop
+slice-write-answers c = in-list (c .before .before .before .before .before .before .before .before .before .args .state .now) (c .before .before .before .before .before .before .before .before .before .args .commands .now) (c .before .before .before .before .before .before .before .before .before .args .answers .now) (c .before .before .before .before .before .before .loop .i) _ (c .before .before .before .before .before .before .loop .inv .2) (c .before .before .before .before .before .before .before .before .before .pre) (c .before .before .before .before .before .loop-test .taken)
+
+add-i : tie.Need-add-i Inv-loop μ-loop
+add-i c = search needs
+
+loop-less : tie.Need-loop-less Inv-loop μ-loop
+loop-less c = search needs
+
+loop-again : tie.Need-loop-again Inv-loop μ-loop
+loop-again c = (
+  omega arith,
+  bytes-next (c .before .before .before .before .before .before .before .before .before .args .state .now) (c .before .before .before .before .before .before .before .before .before .args .commands .now) (c .before .before .before .before .before .before .loop .i) _ _ (c .before .before .before .before .before .before .loop .inv .1) (c .before .before .one .ensures .1),
+  list-next (c .before .before .before .before .before .before .before .before .before .args .state .now) (c .before .before .before .before .before .before .before .before .before .args .commands .now) (c .before .before .before .before .before .before .before .before .before .args .answers .now) (c .before .before .before .before .before .before .loop .i) _ _ _ (c .before .before .before .before .before .before .loop .inv .1) (c .before .before .before .before .before .before .loop .inv .2) (c .before .before .one .ensures .0),
+)
+
+same-length : tie.Need-same-length Inv-loop μ-loop
+same-length c = bytes-length (c .before .before .before .before .args .state .now) (c .before .before .before .before .args .commands .now) (c .before .loop .i) _ (c .before .loop .inv .1)
+
+same-length-2 : tie.Need-same-length-2 Inv-loop μ-loop
+same-length-2 c = list-length (c .before .before .before .before .args .state .now) (c .before .before .before .before .args .commands .now) (c .before .before .before .before .args .answers .now) (c .before .loop .i) _ (c .before .loop .inv .2)
+
+returns : tie.Need-returns Inv-loop μ-loop
+returns c =
+    let e : c .before .loop .i ≡ length (c .before .before .before .before .args .commands .now) = omega arith in (
+      bytes-all (c .before .before .before .before .args .state .now) (c .before .before .before .before .args .commands .now) (c .before .loop .i) _ e (c .before .loop .inv .1),
+      list-all (c .before .before .before .before .args .state .now) (c .before .before .before .before .args .commands .now) (c .before .before .before .before .args .answers .now) (c .before .loop .i) _ (c .before .before .before .before .pre) e (c .before .loop .inv .2),
+    )
+
+pub each-spec : {M : Type 1} → statement M
+each-spec =
+    tie.close
+    (tie.spec
+    Inv-loop
+    μ-loop
+    loop-holds
+    mul-command
+    shared-slice-copy-out-command
+    one-requires
+    slice-write-answers
+    add-i
+    loop-less
+    loop-again
+    same-length
+    same-length-2
+    returns)

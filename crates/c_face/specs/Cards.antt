@@ -1,0 +1,117 @@
+-- Two circuits on one card (02, 2026-06) for C, in terms of the card's own calls. The state is 858 bytes: the owner row in bytes 0 to 63, then the state of each group's sender.
+-- Any bytes are a card. A state of another length is refused with 9 before all else (at starting 4 comes before it), then a group other than the two with 1, a number that is
+-- no byte with 8, and then the card's own refusals follow.
+use mathlib.Core.Bool.{Bool, cond}
+use mathlib.Core.List.{List}
+use Prim.Native.Nat.{ℕ, _+_}
+use lib.Dec.{eqb, ltb}
+use lib.ListN.{getD, length}
+use Rattle.ground.specs.Drawn.{fillAt}
+use Rattle.ground.specs.Table.{tabulate}
+use Rattle.circuits.specs.declared.card.Card.{Card}
+use Rattle.circuits.specs.declared.card.CardOutcome.{CardOutcome}
+use Rattle.circuits.specs.Answers.{answerNumber}
+use Rattle.circuits.specs.Calls.{Call, stepOf}
+use Rattle.circuits.specs.Commands.{startOf}
+use Rattle.circuits.specs.Owners.{ownerIn}
+use Rattle.circuits.specs.Parts as P
+use Rattle.circuits.specs.Readings.{boardShown, outgoingShown, ownedShown, packetAnswer, packetBytes, payloadAnswer, payloadBytes, ranksShown}
+use Rattle.c_face.specs.Boards.{boardBytesOf, ranksBytesOf}
+use Rattle.c_face.specs.Keeping.{byteAt, senderOf, stateBytes}
+use Rattle.c_face.specs.Senders.{areBytes, outside}
+
+-- how many bytes a card's state has
+abbrev pub cardBytes : ℕ
+cardBytes = 858
+
+abbrev pub isCard : List ℕ → Bool
+isCard state = eqb (length state) cardBytes
+
+-- Reading.
+
+unfoldable pub ownersIn : List ℕ → List ℕ
+ownersIn state = tabulate 64 (λ i. getD state i 0)
+
+-- where a group's part begins: the state of its sender
+abbrev pub partAt : ℕ → ℕ
+partAt g = cond (eqb g 0) 64 461
+
+unfoldable pub partIn : ℕ → List ℕ → List ℕ
+partIn g state = tabulate stateBytes (λ k. getD state (partAt g + k) 0)
+
+unfoldable pub cardOf : List ℕ → Card
+cardOf state = record { owners = ownersIn state; first = senderOf (partIn 0 state); second = senderOf (partIn 1 state) }
+
+-- the card as one group may know it: its own sender stands in the other's place too
+abbrev pub alone : ℕ → Card → Card
+alone g c = record { owners = c .owners; first = P.senderOf c g; second = P.senderOf c g }
+
+-- Writing: the owner row and the group's own part. All else stays.
+
+unfoldable pub putOwn : ℕ → Card → List ℕ → List ℕ
+putOwn g c state = fillAt (partAt g) stateBytes (byteAt (P.senderOf c g)) (fillAt 0 64 (ownerIn (c .owners)) state)
+
+-- both groups' parts
+abbrev pub putCard : Card → List ℕ → List ℕ
+putCard c state = putOwn 1 c (putOwn 0 c state)
+
+-- a refusal encodes nothing anew
+abbrev pub keptCard : ℕ → CardOutcome → List ℕ → List ℕ
+keptCard g step state = cond (eqb (answerNumber (step .answer)) 0) (putOwn g (step .card) state) state
+
+-- Starting: 4, 9, 8. 4 gives two empty groups, where there is room for them; their first epochs have the number 0.
+unfoldable pub startAnswerOn : ℕ → ℕ → ℕ → List ℕ → ℕ
+startAnswerOn count e₀ e₁ state = cond (outside count) 4 (cond (isCard state) (cond (areBytes e₀ e₁ 0) 0 8) 9)
+
+unfoldable pub startStateOn : ℕ → ℕ → ℕ → List ℕ → List ℕ
+startStateOn count e₀ e₁ state =
+    cond (isCard state) (cond (outside count) (putCard (startOf 0 count 0 0 .card) state) (cond (areBytes e₀ e₁ 0) (putCard (startOf 0 count e₀ e₁ .card) state) state)) state
+
+-- 9, then 1 for the group: what a call tests first
+unfoldable pub refusalOf : ℕ → ℕ → ℕ
+refusalOf n g = cond (eqb n cardBytes) (cond (ltb g 2) 0 1) 9
+
+abbrev pub behind : List ℕ → ℕ → ℕ → ℕ
+behind state g n = cond (isCard state) (cond (ltb g 2) n 1) 9
+
+abbrev pub bytesBehind : List ℕ → ℕ → List ℕ → List ℕ → List ℕ
+bytesBehind state g new old = cond (isCard state) (cond (ltb g 2) new old) old
+
+-- The calls that change a card: 9, 1, 8 where the numbers given do not fit, then the card's own.
+unfoldable pub stepAnswerOn : Bool → ℕ → Call → List ℕ → ℕ
+stepAnswerOn fits g call state = behind state g (cond fits (answerNumber (stepOf (cardOf state) g call .answer)) 8)
+
+unfoldable pub stepStateOn : Bool → ℕ → Call → List ℕ → List ℕ
+stepStateOn fits g call state = bytesBehind state g (cond fits (keptCard g (stepOf (cardOf state) g call) state) state) state
+
+-- What a slot sends: 9, 1, then the card's own.
+unfoldable pub packetAnswerOn : List ℕ → ℕ → ℕ → List ℕ → ℕ
+packetAnswerOn state g slot h4 = behind state g (answerNumber (packetAnswer (cardOf state) g slot h4))
+
+unfoldable pub packetBytesOn : List ℕ → ℕ → ℕ → List ℕ → List ℕ
+packetBytesOn state g slot h4 = bytesBehind state g (packetBytes (cardOf state) g slot h4) h4
+
+unfoldable pub payloadAnswerOn : List ℕ → ℕ → ℕ → ℕ → List ℕ → List ℕ → ℕ
+payloadAnswerOn state g slot p frame member = behind state g (answerNumber (payloadAnswer (cardOf state) g slot p (length frame) (length member)))
+
+unfoldable pub payloadBytesOn : List ℕ → ℕ → ℕ → ℕ → List ℕ → List ℕ → List ℕ
+payloadBytesOn state g slot p frame member = bytesBehind state g (payloadBytes (cardOf state) g slot p frame member) member
+
+-- The boards, the ranks and which slots the group owns, each whole into one buffer: 9, 1, then 9 for a buffer of another length.
+unfoldable pub shownAnswerOn : ℕ → List ℕ → ℕ → List ℕ → ℕ
+shownAnswerOn n state g out = behind state g (cond (eqb (length out) n) 0 9)
+
+unfoldable pub shownBytesOn : ℕ → List ℕ → ℕ → List ℕ → List ℕ → List ℕ
+shownBytesOn n state g new out = bytesBehind state g (cond (eqb (length out) n) new out) out
+
+abbrev pub boardBytesOn : List ℕ → ℕ → List ℕ → List ℕ
+boardBytesOn state g out = shownBytesOn 130 state g (boardBytesOf (boardShown (cardOf state) g .board)) out
+
+abbrev pub outgoingBytesOn : List ℕ → ℕ → List ℕ → List ℕ
+outgoingBytesOn state g out = shownBytesOn 130 state g (boardBytesOf (outgoingShown (cardOf state) g .board)) out
+
+abbrev pub ranksBytesOn : List ℕ → ℕ → List ℕ → List ℕ
+ranksBytesOn state g out = shownBytesOn 68 state g (ranksBytesOf (ranksShown (cardOf state) g .ranks)) out
+
+abbrev pub ownedBytesOn : List ℕ → ℕ → List ℕ → List ℕ
+ownedBytesOn state g out = shownBytesOn 64 state g (ownedShown (cardOf state) g .owned) out

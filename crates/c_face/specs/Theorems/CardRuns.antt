@@ -1,0 +1,412 @@
+-- Two circuits on one card, through C: a call of one group changes no byte of the other's part, a refusal changes no byte, a call reads the owner row and its group's own
+-- part alone, and every run of C calls from a C start is the card's own run. The first three are on any bytes.
+use mathlib.Core.Path.{_≡_, refl, _∙_, sym, ap}
+use mathlib.Core.Bool.{Bool, true, false, cond, true≢false}
+use mathlib.Core.List.{List, [], _∷_}
+use mathlib.Core.Logic.{⊎-elim, _≢_}
+use Prim.Native.Nat.{ℕ, zero, suc, _+_, _≤_, _<_}
+use native.Mathlib.Omega.{arith}
+use lib.Dec.{eqb, ltb}
+use lib.ListN.{length, length-replicate, getD}
+use borrow.Author.Tests.{eq-eqb, ne-eqb, eqb-true, eqb-false, lt-ltb, ltb-true}
+use Rattle.ground.specs.Drawn.{fillAt, getD-after, getD-before, getD-fillAt, length-fillAt}
+use Rattle.ground.specs.Table.{tabulate, length-tabulate, tabulate-ext, tabulate-is}
+use Rattle.ground.specs.Truth.{clash, cond-by, eq-or-ne}
+use Rattle.circuits.specs.declared.answers.Answer.{Answer}
+use Rattle.circuits.specs.declared.answers.Answer.the-variants.{Done, NoSlot, NotAllowed, WaitOpen, OutOfRange, Field, Length}
+use Rattle.circuits.specs.declared.card.Card.{Card}
+use Rattle.circuits.specs.declared.card.CardOutcome.{CardOutcome}
+use Rattle.circuits.specs.Answers.{answerNumber, fromSender}
+use Rattle.circuits.specs.Calls.{Call, stepOf}
+use Rattle.circuits.specs.Calls.Call.{Claim, Release, AddSlot, RemoveSlot, Report, Lapse, StartEpoch}
+use Rattle.circuits.specs.Commands.{sentOf, startOf}
+use Rattle.circuits.specs.Laws.Alike.{Alike, AlikeAfter, alike-step}
+use Rattle.circuits.specs.Laws.Seeing.{owners-stepped, sender-marked, sender-other, sender-stepped}
+use Rattle.circuits.specs.Laws.Ways.{by-ways}
+use Rattle.circuits.specs.Owners.{ownerIn, withOwner}
+use Rattle.circuits.specs.Parts as P
+use Rattle.circuits.specs.Parts.{marked, refused, stepped, withSender}
+use Rattle.circuits.specs.Theorems.Owned.{demand2-each}
+use Rattle.circuits.specs.Views.{Asked, Made, cardAfter, run}
+use Rattle.circuits.specs.Views.Asked.{Do, Packet, Payload, Board, Outgoing, Ranks, Owned}
+use Rattle.sender.specs.declared.epochs.Sender.{Sender}
+use Rattle.sender.specs.declared.epochs.SenderOutcome.{SenderOutcome}
+use Rattle.sender.specs.declared.table.Answer as S
+use Rattle.sender.specs.Epochs.{SenderCall, beginOf, senderStepOf}
+use Rattle.sender.specs.Table.{answerNumber as senderNumber}
+use Rattle.sender.specs.Theorems.Epochs.{Demand2Kept}
+use Rattle.c_face.specs.Cards.{bytesBehind, cardOf, isCard, keptCard, ownersIn, partAt, partIn, putCard, putOwn, startAnswerOn, startStateOn, stepAnswerOn, stepStateOn}
+use Rattle.c_face.specs.Keeping.{byteAt, bytesOf, senderOf}
+use Rattle.c_face.specs.Senders.{areBytes, outside}
+use Rattle.c_face.specs.Theorems.Round.{round}
+use Rattle.c_face.specs.Theorems.Runs.{Held, held-begin, held-step, held-whole, refuses, step-given}
+
+-- What is written, read again.
+
+part-low : (g : ℕ) → partAt g + 397 ≤ 858
+part-low g = cond-by (λ (a : ℕ). a + 397 ≤ 858) (eqb g 0) 64 461 (λ e. omega arith) (λ e. omega arith)
+
+part-high : (g : ℕ) → 64 ≤ partAt g
+part-high g = cond-by (λ (a : ℕ). 64 ≤ a) (eqb g 0) 64 461 (λ e. omega arith) (λ e. omega arith)
+
+put-sized : (g : ℕ) (c : Card) (state : List ℕ) → length (putOwn g c state) ≡ length state
+unfolding putOwn
+put-sized g c state =
+    length-fillAt (partAt g) 397 (byteAt (P.senderOf c g)) (fillAt 0 64 (ownerIn (c .owners)) state) ∙ length-fillAt 0 64 (ownerIn (c .owners)) state
+
+module _ (c : Card) (state : List ℕ) (sized : length state ≡ 858) where
+  pub own-part : (g : ℕ) → partIn g (putOwn g c state) ≡ bytesOf (P.senderOf c g)
+  unfolding partIn putOwn bytesOf
+  own-part g =
+      let low = part-low g in
+      let l : length (fillAt 0 64 (ownerIn (c .owners)) state) ≡ 858 = length-fillAt 0 64 (ownerIn (c .owners)) state ∙ sized in
+      tabulate-ext 397 _ (byteAt (P.senderOf c g)) (λ k h. getD-fillAt (partAt g) 397 (byteAt (P.senderOf c g)) (fillAt 0 64 (ownerIn (c .owners)) state) k 0 h (omega arith))
+
+  pub own-row : (g : ℕ) → length (c .owners) ≡ 64 → ownersIn (putOwn g c state) ≡ c .owners
+  unfolding ownersIn putOwn
+  own-row g whole = sym (tabulate-is (c .owners) 64 _ 0 whole (λ i h. sym (at i h)))
+    where
+      at : (i : ℕ) → i < 64 → getD (fillAt (partAt g) 397 (byteAt (P.senderOf c g)) (fillAt 0 64 (ownerIn (c .owners)) state)) i 0 ≡ ownerIn (c .owners) i
+      at i h =
+          let high = part-high g in
+          let z : 0 + i ≡ i = omega arith in
+          getD-before (partAt g) 397 (byteAt (P.senderOf c g)) (fillAt 0 64 (ownerIn (c .owners)) state) i 0 (omega arith)
+          ∙ rw z at (getD-fillAt 0 64 (ownerIn (c .owners)) state i 0 h (omega arith))
+
+-- the other group's part stands beside what is written
+beside : (c : Card) (state : List ℕ) (g h : ℕ) → g < 2 → h < 2 → h ≢ g → (k : ℕ) → k < 397 → getD (putOwn h c state) (partAt g + k) 0 ≡ getD state (partAt g + k) 0
+unfolding putOwn
+beside c state zero zero hg hh n k b = absurd (n refl)
+beside c state zero (suc zero) hg hh n k b =
+    getD-before 461 397 (byteAt (P.senderOf c 1)) (fillAt 0 64 (ownerIn (c .owners)) state) (64 + k) 0 (omega arith) ∙ getD-after 0 64 (ownerIn (c .owners)) state (64 + k) 0 (omega arith)
+beside c state zero (suc (suc h)) hg hh n k b = absurd (omega arith)
+beside c state (suc zero) zero hg hh n k b =
+    getD-after 64 397 (byteAt (P.senderOf c 0)) (fillAt 0 64 (ownerIn (c .owners)) state) (461 + k) 0 (omega arith) ∙ getD-after 0 64 (ownerIn (c .owners)) state (461 + k) 0 (omega arith)
+beside c state (suc zero) (suc h) hg hh n k b = absurd (n (omega arith))
+beside c state (suc (suc g)) h hg hh n k b = absurd (omega arith)
+
+pub put-apart : (c : Card) (state : List ℕ) (g h : ℕ) → g < 2 → h < 2 → h ≢ g → partIn g (putOwn h c state) ≡ partIn g state
+unfolding partIn
+put-apart c state g h hg hh n = tabulate-ext 397 _ _ (beside c state g h hg hh n)
+
+-- A call of one group, and of no group, changes no byte of the other's part.
+pub others-part : (fits : Bool) (g h : ℕ) (k : Call) (state : List ℕ) → g < 2 → h ≢ g → partIn g (stepStateOn fits h k state) ≡ partIn g state
+unfolding stepStateOn
+others-part fits g h k state hg n =
+    let Q : List ℕ → Type 0 = λ t. partIn g t ≡ partIn g state in
+    cond-by Q (isCard state) _ state
+    (λ l.
+    cond-by Q (ltb h 2) _ state
+    (λ t.
+    cond-by Q fits _ state
+    (λ f. cond-by Q (eqb (answerNumber (stepOf (cardOf state) h k .answer)) 0) _ state (λ d. put-apart (stepOf (cardOf state) h k .card) state g h hg (ltb-true h 2 t) n) (λ d. refl))
+    (λ f. refl))
+    (λ t. refl))
+    (λ l. refl)
+
+-- A refusal changes no byte; a refused start none but under 4.
+pub refused-stands : (fits : Bool) (g : ℕ) (k : Call) (state : List ℕ) → (stepAnswerOn fits g k state ≡ 0 → ⊥) → stepStateOn fits g k state ≡ state
+unfolding stepAnswerOn stepStateOn
+refused-stands fits g k state = go (isCard state) (ltb g 2) fits (answerNumber (stepOf (cardOf state) g k .answer)) (putOwn g (stepOf (cardOf state) g k .card) state)
+  where
+    go : (b t f : Bool) (n : ℕ) (new : List ℕ) → (_≡_ {A = ℕ} (cond b (cond t (cond f n 8) 1) 9) 0 → ⊥) → cond b (cond t (cond f (cond (eqb n 0) new state) state) state) state ≡ state
+    go true true true n new d = rw (ne-eqb n 0 d)
+    go true true false n new d = refl
+    go true false f n new d = refl
+    go false t f n new d = refl
+
+pub refused-start-stands : (count e₀ e₁ : ℕ) (state : List ℕ) → (startAnswerOn count e₀ e₁ state ≡ 0 → ⊥) → (startAnswerOn count e₀ e₁ state ≡ 4 → ⊥) → startStateOn count e₀ e₁ state ≡ state
+unfolding startAnswerOn startStateOn
+refused-start-stands count e₀ e₁ state = go (outside count) (isCard state) (areBytes e₀ e₁ 0)
+  where
+    go : (o b f : Bool) → (_≡_ {A = ℕ} (cond o 4 (cond b (cond f 0 8) 9)) 0 → ⊥) → (_≡_ {A = ℕ} (cond o 4 (cond b (cond f 0 8) 9)) 4 → ⊥)
+        → cond b (cond o (putCard (startOf 0 count 0 0 .card) state) (cond f (putCard (startOf 0 count e₀ e₁ .card) state) state)) state ≡ state
+    go true b f d e = absurd (e refl)
+    go false true true d e = absurd (d refl)
+    go false true false d e = refl
+    go false false f d e = refl
+
+-- the sender of a group, in its part
+pub part-of : (g : ℕ) (state : List ℕ) → P.senderOf (cardOf state) g ≡ senderOf (partIn g state)
+unfolding P.senderOf cardOf partIn
+part-of g state = go (eqb g 0)
+  where
+    go : (b : Bool)
+        → cond b (senderOf (tabulate 397 (λ k. getD state (64 + k) 0))) (senderOf (tabulate 397 (λ k. getD state (461 + k) 0)))
+        ≡ senderOf (tabulate 397 (λ k. getD state (cond b 64 461 + k) 0))
+    go true = refl
+    go false = refl
+
+owners-of : (state : List ℕ) → cardOf state .owners ≡ ownersIn state
+unfolding cardOf
+owners-of state = refl
+
+-- A call reads the owner row and the group's own part alone: on two states with the same of these it is answered alike, and leaves the same of these.
+module _ (g : ℕ) (s t : List ℕ) (sized : length s ≡ length t) (row : ownersIn s ≡ ownersIn t) (part : partIn g s ≡ partIn g t) where
+  alike : Alike g (cardOf s) (cardOf t)
+  alike = record { owners = owners-of s ∙ row ∙ sym (owners-of t); sender = part-of g s ∙ ap senderOf part ∙ sym (part-of g t) }
+
+  pub same-answer : (fits : Bool) (k : Call) → stepAnswerOn fits g k s ≡ stepAnswerOn fits g k t
+  unfolding stepAnswerOn
+  same-answer fits k =
+      ap (λ (n : ℕ). cond (eqb n 858) (cond (ltb g 2) (cond fits (answerNumber (stepOf (cardOf s) g k .answer)) 8) 1) 9) sized
+      ∙ ap (λ (a : Answer). cond (isCard t) (cond (ltb g 2) (cond fits (answerNumber a) 8) 1) 9) (alike-step g (cardOf s) (cardOf t) alike k .answer)
+
+  pub same-part : (fits : Bool) (k : Call) → partIn g (stepStateOn fits g k s) ≡ partIn g (stepStateOn fits g k t)
+  unfolding stepStateOn
+  same-part fits k = go (isCard s) (isCard t) refl (ap (λ (n : ℕ). eqb n 858) sized) (ltb g 2) fits (eqb (answerNumber (stepOf (cardOf s) g k .answer)) 0) (eqb (answerNumber (stepOf (cardOf t) g k .answer)) 0) tests
+    where
+      after : AlikeAfter g (stepOf (cardOf s) g k) (stepOf (cardOf t) g k)
+      after = alike-step g (cardOf s) (cardOf t) alike k
+
+      tests : eqb (answerNumber (stepOf (cardOf s) g k .answer)) 0 ≡ eqb (answerNumber (stepOf (cardOf t) g k .answer)) 0
+      tests = ap (λ (a : Answer). eqb (answerNumber a) 0) (after .answer)
+
+      written : isCard s ≡ true → partIn g (putOwn g (stepOf (cardOf s) g k .card) s) ≡ partIn g (putOwn g (stepOf (cardOf t) g k .card) t)
+      written e =
+          let l : length s ≡ 858 = eqb-true (length s) 858 e in
+          own-part (stepOf (cardOf s) g k .card) s l g ∙ ap bytesOf (after .card .sender) ∙ sym (own-part (stepOf (cardOf t) g k .card) t (sym sized ∙ l) g)
+
+      go : (b d : Bool) → isCard s ≡ b → b ≡ d → (u f x y : Bool) → x ≡ y
+          → partIn g (cond b (cond u (cond f (cond x (putOwn g (stepOf (cardOf s) g k .card) s) s) s) s) s)
+          ≡ partIn g (cond d (cond u (cond f (cond y (putOwn g (stepOf (cardOf t) g k .card) t) t) t) t) t)
+      go true true e z true true true true w = written e
+      go true true e z true true false false w = part
+      go true true e z true true true false w = absurd (true≢false w)
+      go true true e z true true false true w = absurd (true≢false (sym w))
+      go true true e z true false x y w = part
+      go true true e z false f x y w = part
+      go false false e z u f x y w = part
+      go true false e z u f x y w = absurd (true≢false z)
+      go false true e z u f x y w = absurd (true≢false (sym z))
+
+-- What a step of the card leaves.
+
+sender-number : (a : S.Answer) → answerNumber (fromSender a) ≡ senderNumber a
+sender-number S.Answer.Done = refl
+sender-number S.Answer.NoSlot = refl
+sender-number S.Answer.NotAllowed = refl
+sender-number S.Answer.WaitOpen = refl
+sender-number S.Answer.OutOfRange = refl
+sender-number S.Answer.Field = refl
+sender-number S.Answer.Length = refl
+
+put-back : (c : Card) (g : ℕ) → withSender c g (P.senderOf c g) ≡ c
+unfolding withSender P.senderOf
+put-back c g = go (eqb g 0)
+  where
+    go : (b : Bool)
+        → (let s = cond b (c .first) (c .second) in
+        cond {A = Card} b (record { owners = c .owners; first = s; second = c .second }) (record { owners = c .owners; first = c .first; second = s })) ≡ c
+    go true = refl
+    go false = refl
+
+marked-done : (c : Card) (i m : ℕ) → answerNumber (marked c i m .answer) ≡ 0
+unfolding marked
+marked-done c i m = refl
+
+marked-row : (c : Card) (i m : ℕ) → length (marked c i m .card .owners) ≡ 64
+unfolding marked withOwner
+marked-row c i m = length-tabulate 64 (λ j. cond (eqb j i) m (ownerIn (c .owners) j))
+
+sent-given : (c : Card) (g : ℕ) (k : SenderCall) → (answerNumber (sentOf c g k .answer) ≡ 0 → ⊥) → sentOf c g k .card ≡ c
+unfolding stepped refuses
+sent-given c g k d =
+    let r = senderStepOf (P.senderOf c g) k in
+    ap (λ (s : Sender). withSender c g s) (step-given (P.senderOf c g) k (ne-eqb (senderNumber (r .answer)) 0 (λ z. d (sender-number (r .answer) ∙ z)))) ∙ put-back c g
+
+pub step-refused : (c : Card) (g : ℕ) (k : Call) → (answerNumber (stepOf c g k .answer) ≡ 0 → ⊥) → stepOf c g k .card ≡ c
+step-refused c g k =
+    by-ways (λ r. (answerNumber (r .answer) ≡ 0 → ⊥) → r .card ≡ c) c g (λ a d. refl) (λ i m h d. absurd (d (marked-done c i m))) (λ s h d. sent-given c g s d) k
+
+pub no-group : (c : Card) (g : ℕ) (k : Call) → ltb g 2 ≡ false → stepOf c g k .card ≡ c
+no-group c g k e = by-ways (λ r. r .card ≡ c) c g (λ a. refl) (λ i m h. clash (ltb g 2) (lt-ltb g 2 h) e) (λ s h. clash (ltb g 2) (lt-ltb g 2 h) e) k
+
+-- a card whose senders and owner row are whole
+record HeldCard (c : Card) : Type 0 where
+  pub row : length (c .owners) ≡ 64
+  pub part : (g : ℕ) → g < 2 → Held (P.senderOf c g)
+
+record Leaves (c : Card) (g : ℕ) (r : CardOutcome) : Type 0 where
+  pub row : length (r .card .owners) ≡ 64
+  pub own : Held (P.senderOf (r .card) g)
+  pub other : (h : ℕ) → h < 2 → g ≢ h → P.senderOf (r .card) h ≡ P.senderOf c h
+
+step-leaves : (c : Card) (g : ℕ) (k : Call) → g < 2 → HeldCard c → Leaves c g (stepOf c g k)
+step-leaves c g k hg o =
+    by-ways (Leaves c g) c g
+    (λ a. record { row = o .row; own = o .part g hg; other = λ h l n. refl })
+    (λ i m l.
+    record {
+      row = marked-row c i m;
+      own = rw (sender-marked c g i m) (o .part g hg);
+      other = λ h l n. sender-marked c h i m;
+    })
+    (λ s l.
+    let r = senderStepOf (P.senderOf c g) s in
+    record {
+      row = ap (λ (row : List ℕ). length row) (owners-stepped c g r) ∙ o .row;
+      own = rw (sender-stepped c g r) (held-step (P.senderOf c g) s (o .part g hg));
+      other = λ h b n. sender-other c h g r b hg n;
+    })
+    k
+
+-- A state in which a card is held, and what a C call makes of it.
+record KeepsCard (state : List ℕ) (c : Card) : Type 0 where
+  pub sized : length state ≡ 858
+  pub row : ownersIn state ≡ c .owners
+  pub part : (g : ℕ) → g < 2 → senderOf (partIn g state) ≡ P.senderOf c g
+  pub held : HeldCard c
+
+card-is : (state : List ℕ) (c : Card) → KeepsCard state c → cardOf state ≡ c
+unfolding cardOf P.senderOf
+card-is state c k = rw (k .row, k .part 0 (omega arith), k .part 1 (omega arith)) refl
+
+-- the part of one group written, where the other's stands
+put-keeps : (state : List ℕ) (c d : Card) (g : ℕ) → g < 2 → length state ≡ 858 → length (d .owners) ≡ 64 → ((h : ℕ) → h < 2 → Held (P.senderOf d h))
+    → ((h : ℕ) → h < 2 → g ≢ h → senderOf (partIn h state) ≡ P.senderOf d h) → KeepsCard (putOwn g d state) d
+put-keeps state c d g hg sized row held other =
+    record {
+      sized = put-sized g d state ∙ sized;
+      row = own-row d state sized g row;
+      part = λ h l. ⊎-elim (λ (e : g ≡ h). rw (← e) (own h e)) (λ (n : g ≢ h). ap senderOf (put-apart d state h g l hg n) ∙ other h l n) (eq-or-ne g h);
+      held = record { row = row; part = held };
+    }
+  where
+    own : (h : ℕ) → g ≡ h → senderOf (partIn g (putOwn g d state)) ≡ P.senderOf d g
+    own h e = ap senderOf (own-part d state sized g) ∙ round (P.senderOf d g) (held-whole (P.senderOf d g) (held g hg))
+
+kept-keeps : (state : List ℕ) (c : Card) (g : ℕ) (k : Call) → g < 2 → KeepsCard state c → KeepsCard (keptCard g (stepOf c g k) state) (stepOf c g k .card)
+kept-keeps state c g k hg o =
+    cond-by (λ t. KeepsCard t (stepOf c g k .card)) (eqb (answerNumber (stepOf c g k .answer)) 0) (putOwn g (stepOf c g k .card) state) state
+    (λ e. put-keeps state c (stepOf c g k .card) g hg (o .sized) (w .row) helds (λ h l n. o .part h l ∙ sym (w .other h l n)))
+    (λ e. rw (step-refused c g k (λ z. clash (eqb (answerNumber (stepOf c g k .answer)) 0) (eq-eqb (answerNumber (stepOf c g k .answer)) 0 z) e)) o)
+  where
+    w : Leaves c g (stepOf c g k)
+    w = step-leaves c g k hg (o .held)
+
+    helds : (h : ℕ) → h < 2 → Held (P.senderOf (stepOf c g k .card) h)
+    helds h l = ⊎-elim (λ (e : g ≡ h). rw (← e) (w .own)) (λ (n : g ≢ h). rw (w .other h l n) (o .held .part h l)) (eq-or-ne g h)
+
+step-keeps : (state : List ℕ) (c : Card) (g : ℕ) (k : Call) → KeepsCard state c → KeepsCard (stepStateOn true g k state) (stepOf c g k .card)
+unfolding stepStateOn
+step-keeps state c g k o =
+    rw (eq-eqb (length state) 858 (o .sized), card-is state c o)
+    (cond-by (λ t. KeepsCard t (stepOf c g k .card)) (ltb g 2) (keptCard g (stepOf c g k) state) state
+    (λ t. kept-keeps state c g k (ltb-true g 2 t) o)
+    (λ t. rw (no-group c g k t) o))
+
+unfit-keeps : (state : List ℕ) (c : Card) (g : ℕ) (k : Call) → KeepsCard state c → KeepsCard (stepStateOn false g k state) c
+unfolding stepStateOn
+unfit-keeps state c g k o =
+    rw (eq-eqb (length state) 858 (o .sized)) (cond-by (λ t. KeepsCard t c) (ltb g 2) state state (λ t. o) (λ t. o))
+
+-- Runs of C calls.
+
+-- what a C call asks of its numbers
+abbrev pub fitting : Call → Bool
+fitting (Claim i) = true
+fitting (Release i) = true
+fitting (AddSlot i) = true
+fitting (RemoveSlot i) = true
+fitting (Report e mst ack) = areBytes e mst ack
+fitting Lapse = true
+fitting (StartEpoch gid mst ack) = areBytes gid mst ack
+
+abbrev pub fits : Asked → Bool
+fits (Do k) = fitting k
+fits (Packet i h4) = true
+fits (Payload i p frame member) = true
+fits Board = true
+fits Outgoing = true
+fits Ranks = true
+fits Owned = true
+
+-- a reading is lent the state and leaves it
+abbrev pub stateAfter : List ℕ → ℕ → Asked → List ℕ
+stateAfter state g (Do k) = stepStateOn (fitting k) g k state
+stateAfter state g (Packet i h4) = state
+stateAfter state g (Payload i p frame member) = state
+stateAfter state g Board = state
+stateAfter state g Outgoing = state
+stateAfter state g Ranks = state
+stateAfter state g Owned = state
+
+abbrev pub runOn : List ℕ → List Made → List ℕ
+runOn state [] = state
+runOn state (m ∷ ms) = runOn (stateAfter state (m .group) (m .asked)) ms
+
+-- the calls among them that are not refused for a number that is no byte
+abbrev pub meant : List Made → List Made
+meant [] = []
+meant (m ∷ ms) = cond (fits (m .asked)) (m ∷ meant ms) (meant ms)
+
+call-keeps : (state : List ℕ) (c : Card) (g : ℕ) (k : Call) (b : Bool) → KeepsCard state c
+    → KeepsCard (stepStateOn b g k state) (cond b (stepOf c g k .card) c)
+call-keeps state c g k true o = step-keeps state c g k o
+call-keeps state c g k false o = unfit-keeps state c g k o
+
+asked-keeps : (state : List ℕ) (c : Card) (g : ℕ) (k : Asked) → KeepsCard state c → KeepsCard (stateAfter state g k) (cond (fits k) (cardAfter c g k) c)
+asked-keeps state c g (Do k) o = call-keeps state c g k (fitting k) o
+asked-keeps state c g (Packet i h4) o = o
+asked-keeps state c g (Payload i p frame member) o = o
+asked-keeps state c g Board o = o
+asked-keeps state c g Outgoing o = o
+asked-keeps state c g Ranks o = o
+asked-keeps state c g Owned o = o
+
+run-keeps : (state : List ℕ) (c : Card) (ms : List Made) → KeepsCard state c → KeepsCard (runOn state ms) (run c (meant ms))
+run-keeps state c [] o = o
+run-keeps state c (m ∷ ms) o =
+    rw (← chosen (fits (m .asked))) (run-keeps (stateAfter state (m .group) (m .asked)) (cond (fits (m .asked)) (cardAfter c (m .group) (m .asked)) c) ms (asked-keeps state c (m .group) (m .asked) o))
+  where
+    chosen : (b : Bool) → run (cond b (cardAfter c (m .group) (m .asked)) c) (meant ms) ≡ run c (cond b (m ∷ meant ms) (meant ms))
+    chosen true = refl
+    chosen false = refl
+
+module _ (count e₀ e₁ : ℕ) (state : List ℕ) (ms : List Made) (done : startAnswerOn count e₀ e₁ state ≡ 0) where
+  started-held : (g : ℕ) → g < 2 → Held (P.senderOf (startOf 0 count e₀ e₁ .card) g)
+  unfolding P.senderOf startOf
+  started-held zero h = held-begin count e₀
+  started-held (suc zero) h = held-begin count e₁
+  started-held (suc (suc g)) h = absurd (omega arith)
+
+  started-row : length (startOf 0 count e₀ e₁ .card .owners) ≡ 64
+  unfolding startOf
+  started-row = length-replicate {A = ℕ} 64 0
+
+  both-put : length state ≡ 858 → KeepsCard (putCard (startOf 0 count e₀ e₁ .card) state) (startOf 0 count e₀ e₁ .card)
+  both-put l =
+      let d = startOf 0 count e₀ e₁ .card in
+      put-keeps (putOwn 0 d state) d d 1 (omega arith) (put-sized 0 d state ∙ l) started-row started-held
+      (λ h b n. first h b n l)
+    where
+      first : (h : ℕ) → h < 2 → 1 ≢ h → length state ≡ 858 → senderOf (partIn h (putOwn 0 (startOf 0 count e₀ e₁ .card) state)) ≡ P.senderOf (startOf 0 count e₀ e₁ .card) h
+      first zero b n l =
+          let d = startOf 0 count e₀ e₁ .card in
+          ap senderOf (own-part d state l 0) ∙ round (P.senderOf d 0) (held-whole (P.senderOf d 0) (started-held 0 (omega arith)))
+      first (suc zero) b n l = absurd (n refl)
+      first (suc (suc h)) b n l = absurd (omega arith)
+
+  start-keeps : KeepsCard (startStateOn count e₀ e₁ state) (startOf 0 count e₀ e₁ .card)
+  unfolding startAnswerOn startStateOn
+  start-keeps = go (outside count) (isCard state) (areBytes e₀ e₁ 0) refl done
+    where
+      go : (o l f : Bool) → isCard state ≡ l → _≡_ {A = ℕ} (cond o 4 (cond l (cond f 0 8) 9)) 0
+          → KeepsCard (cond l (cond o (putCard (startOf 0 count 0 0 .card) state) (cond f (putCard (startOf 0 count e₀ e₁ .card) state) state)) state) (startOf 0 count e₀ e₁ .card)
+      go true l f el e = absurd (omega arith)
+      go false false f el e = absurd (omega arith)
+      go false true false el e = absurd (omega arith)
+      go false true true el e = both-put (eqb-true (length state) 858 el)
+
+  -- any C calls after a C start that was done: the state holds the card's own run
+  pub card-runs-own : cardOf (runOn (startStateOn count e₀ e₁ state) ms) ≡ run (startOf 0 count e₀ e₁ .card) (meant ms)
+  card-runs-own = card-is (runOn (startStateOn count e₀ e₁ state) ms) _ (run-keeps (startStateOn count e₀ e₁ state) (startOf 0 count e₀ e₁ .card) ms start-keeps)
+
+  -- in as many bytes
+  pub card-runs-sized : length (runOn (startStateOn count e₀ e₁ state) ms) ≡ 858
+  card-runs-sized = run-keeps (startStateOn count e₀ e₁ state) (startOf 0 count e₀ e₁ .card) ms start-keeps .sized
+
+  -- and demand 2 holds of each group's table, and of both tables that its epochs' starts keep
+  pub card-runs-demand2 : (g : ℕ) → g < 2 → Demand2Kept (P.senderOf (cardOf (runOn (startStateOn count e₀ e₁ state) ms)) g)
+  card-runs-demand2 g h = rw card-runs-own (demand2-each 0 count e₀ e₁ (meant ms) g h)

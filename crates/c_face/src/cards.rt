@@ -1,0 +1,377 @@
+// Two circuits on one card for C. The whole state is a lent buffer: the owner row, then a sender's state for each group. A call reads and writes the owner row and its group's own part.
+use crate::boards;
+use crate::keeping;
+use crate::senders;
+use circuits::Card;
+use circuits::CardOutcome;
+use packet::kinds;
+use sender::Sender;
+ghost use mathlib.Core.Path.{_≡_};
+ghost use mathlib.Core.Bool.{true};
+ghost use Prim.Native.Nat.{_<_};
+ghost use lib.ListN.{length};
+ghost use Rattle.circuits.specs.Answers.{answerNumber};
+ghost use Rattle.circuits.specs.Calls.Call.{Claim, Release, AddSlot, RemoveSlot, Report, Lapse, StartEpoch};
+ghost use Rattle.circuits.specs.Commands.{startOf};
+ghost use Rattle.circuits.specs.Parts as P;
+ghost use Rattle.ground.specs.Drawn.{fillAt};
+ghost use Rattle.c_face.specs.Cards.{alone, boardBytesOn, cardOf, keptCard, outgoingBytesOn, ownedBytesOn, ownersIn, packetAnswerOn, packetBytesOn, partAt, partIn, payloadAnswerOn, payloadBytesOn, putCard, putOwn, ranksBytesOn, refusalOf, shownAnswerOn, startAnswerOn, startStateOn, stepAnswerOn, stepStateOn};
+ghost use Rattle.c_face.specs.Keeping.{byteAt, senderOf};
+ghost use Rattle.c_face.specs.Senders.{areBytes};
+
+// 9 for a state of another length, then 1 for a group other than the two.
+fn refusal(length: usize, group: u32) -> u8
+    ensures { λ r. ⌜ r ≡ refusalOf length group ⌝ }
+{
+    if length != 858 {
+        return 9;
+    }
+    if group < 2 { 0 } else { 1 }
+}
+
+fn owners_in(state: &[u8]) -> [u8; 64]
+    requires { ⌜ length (now state) ≡ 858 ⌝ }
+    ensures { λ r. ⌜ r ≡ ownersIn (now (state .entry)) ⌝ }
+{
+    let mut owners = [0; 64];
+    let mut i = 0;
+    while i < 64 {
+        owners[i] = state[i];
+        i += 1;
+    }
+    owners
+}
+
+fn part_in(state: &[u8], group: u32) -> Sender
+    requires { ⌜ length (now state) ≡ 858 ⌝ }
+    ensures { λ r. ⌜ r ≡ senderOf (partIn group (now (state .entry))) ⌝ }
+{
+    if group == 0 {
+        return keeping::sender_of(&state[64..461]);
+    }
+    keeping::sender_of(&state[461..858])
+}
+
+// The card as one group may know it: its own sender stands in the other's place too, so that the other's part is not read.
+pub(crate) fn own_card(state: &[u8], group: u32) -> Card
+    requires { ⌜ length (now state) ≡ 858 ⌝ }
+    ensures { λ r. ⌜ r ≡ alone group (cardOf (now (state .entry))) ⌝ }
+{
+    let owners = owners_in(state);
+    let sender = part_in(state, group);
+    Card {
+        owners,
+        first: sender,
+        second: sender,
+    }
+}
+
+fn own_sender(card: Card, group: u32) -> Sender
+    ensures { λ r. ⌜ r ≡ P.senderOf card group ⌝ }
+{
+    if group == 0 { card.first } else { card.second }
+}
+
+fn put_part(sender: Sender, group: u32, state: &mut [u8])
+    requires { ⌜ length (now state) ≡ 858 ⌝ }
+    ensures { λ r. ⌜ now (state .exit) ≡ fillAt (partAt group) 397 (byteAt sender) (now (state .entry)) ⌝ }
+{
+    if group == 0 {
+        keeping::put_sender(sender, &mut state[64..461]);
+        return;
+    }
+    keeping::put_sender(sender, &mut state[461..858]);
+}
+
+pub(crate) fn put_own(card: Card, group: u32, state: &mut [u8])
+    requires { ⌜ length (now state) ≡ 858 ⌝ }
+    ensures { λ r. ⌜ now (state .exit) ≡ putOwn group card (now (state .entry)) ⌝ }
+{
+    let owners = card.owners;
+    let sender = own_sender(card, group);
+    keeping::put_bytes(&owners, 0, state);
+    put_part(sender, group, state);
+}
+
+// What a step leaves: under 0 the owner row and the group's part, and under a refusal the bytes as they were.
+pub(crate) fn keep(step: CardOutcome, group: u32, state: &mut [u8]) -> u8
+    requires { ⌜ length (now state) ≡ 858 ⌝ }
+    ensures { λ r. ⌜ (r ≡ answerNumber (step .answer)) × (now (state .exit) ≡ keptCard group step (now (state .entry))) ⌝ }
+{
+    let answer = step.answer;
+    let number = answer.number();
+    if number != 0 {
+        return number;
+    }
+    let card = step.card;
+    put_own(card, group, state);
+    0
+}
+
+fn put_start(count: u32, epoch_0: u8, epoch_1: u8, state: &mut [u8])
+    requires { ⌜ length (now state) ≡ 858 ⌝ }
+    ensures { λ r. ⌜ now (state .exit) ≡ putCard (startOf 0 count «epoch_0» «epoch_1» .card) (now (state .entry)) ⌝ }
+{
+    let step = Card::start(kinds::H4, count, epoch_0, epoch_1);
+    let card = step.card;
+    put_own(card, 0, state);
+    put_own(card, 1, state);
+}
+
+#[no_mangle]
+pub extern "C" fn levelspruce_card_start(
+    count: u32,
+    first_epoch_0: u32,
+    first_epoch_1: u32,
+    state: &mut [u8],
+) -> u8
+    ensures { λ r. ⌜ (r ≡ startAnswerOn count «first_epoch_0» «first_epoch_1» (now (state .entry)))
+        × (now (state .exit) ≡ startStateOn count «first_epoch_0» «first_epoch_1» (now (state .entry))) ⌝ }
+{
+    if state.len() != 858 {
+        return if senders::is_outside(count) { 4 } else { 9 };
+    }
+    if senders::is_outside(count) {
+        put_start(count, 0, 0, state);
+        return 4;
+    }
+    if !senders::are_bytes(first_epoch_0, first_epoch_1, 0) {
+        return 8;
+    }
+    put_start(count, first_epoch_0 as u8, first_epoch_1 as u8, state);
+    0
+}
+
+#[no_mangle]
+pub extern "C" fn levelspruce_card_claim(state: &mut [u8], group: u32, slot: u32) -> u8
+    ensures { λ r. ⌜ (r ≡ stepAnswerOn true group (Claim slot) (now (state .entry)))
+        × (now (state .exit) ≡ stepStateOn true group (Claim slot) (now (state .entry))) ⌝ }
+{
+    let first = refusal(state.len(), group);
+    if first != 0 {
+        return first;
+    }
+    let card = own_card(state, group);
+    let step = card.claim(group, slot);
+    keep(step, group, state)
+}
+
+#[no_mangle]
+pub extern "C" fn levelspruce_card_release(state: &mut [u8], group: u32, slot: u32) -> u8
+    ensures { λ r. ⌜ (r ≡ stepAnswerOn true group (Release slot) (now (state .entry)))
+        × (now (state .exit) ≡ stepStateOn true group (Release slot) (now (state .entry))) ⌝ }
+{
+    let first = refusal(state.len(), group);
+    if first != 0 {
+        return first;
+    }
+    let card = own_card(state, group);
+    let step = card.release(group, slot);
+    keep(step, group, state)
+}
+
+#[no_mangle]
+pub extern "C" fn levelspruce_card_add(state: &mut [u8], group: u32, slot: u32) -> u8
+    ensures { λ r. ⌜ (r ≡ stepAnswerOn true group (AddSlot slot) (now (state .entry)))
+        × (now (state .exit) ≡ stepStateOn true group (AddSlot slot) (now (state .entry))) ⌝ }
+{
+    let first = refusal(state.len(), group);
+    if first != 0 {
+        return first;
+    }
+    let card = own_card(state, group);
+    let step = card.add(group, slot);
+    keep(step, group, state)
+}
+
+#[no_mangle]
+pub extern "C" fn levelspruce_card_remove(state: &mut [u8], group: u32, slot: u32) -> u8
+    ensures { λ r. ⌜ (r ≡ stepAnswerOn true group (RemoveSlot slot) (now (state .entry)))
+        × (now (state .exit) ≡ stepStateOn true group (RemoveSlot slot) (now (state .entry))) ⌝ }
+{
+    let first = refusal(state.len(), group);
+    if first != 0 {
+        return first;
+    }
+    let card = own_card(state, group);
+    let step = card.remove(group, slot);
+    keep(step, group, state)
+}
+
+#[no_mangle]
+pub extern "C" fn levelspruce_card_lapse(state: &mut [u8], group: u32) -> u8
+    ensures { λ r. ⌜ (r ≡ stepAnswerOn true group Lapse (now (state .entry)))
+        × (now (state .exit) ≡ stepStateOn true group Lapse (now (state .entry))) ⌝ }
+{
+    let first = refusal(state.len(), group);
+    if first != 0 {
+        return first;
+    }
+    let card = own_card(state, group);
+    let step = card.lapse(group);
+    keep(step, group, state)
+}
+
+#[no_mangle]
+pub extern "C" fn levelspruce_card_report(
+    state: &mut [u8],
+    group: u32,
+    epoch: u32,
+    mst: u32,
+    rs_ack: u32,
+) -> u8
+    ensures { λ r. ⌜ (r ≡ stepAnswerOn (areBytes epoch mst «rs_ack») group (Report epoch mst «rs_ack») (now (state .entry)))
+        × (now (state .exit) ≡ stepStateOn (areBytes epoch mst «rs_ack») group (Report epoch mst «rs_ack») (now (state .entry))) ⌝ }
+{
+    let first = refusal(state.len(), group);
+    if first != 0 {
+        return first;
+    }
+    if !senders::are_bytes(epoch, mst, rs_ack) {
+        return 8;
+    }
+    let card = own_card(state, group);
+    let step = card.report(group, epoch as u8, mst as u8, rs_ack as u8);
+    keep(step, group, state)
+}
+
+#[no_mangle]
+pub extern "C" fn levelspruce_card_start_epoch(
+    state: &mut [u8],
+    group: u32,
+    gid: u32,
+    mst: u32,
+    rs_ack: u32,
+) -> u8
+    ensures { λ r. ⌜ (r ≡ stepAnswerOn (areBytes gid mst «rs_ack») group (StartEpoch gid mst «rs_ack») (now (state .entry)))
+        × (now (state .exit) ≡ stepStateOn (areBytes gid mst «rs_ack») group (StartEpoch gid mst «rs_ack») (now (state .entry))) ⌝ }
+{
+    let first = refusal(state.len(), group);
+    if first != 0 {
+        return first;
+    }
+    if !senders::are_bytes(gid, mst, rs_ack) {
+        return 8;
+    }
+    let card = own_card(state, group);
+    let step = card.start_epoch(group, gid as u8, mst as u8, rs_ack as u8);
+    keep(step, group, state)
+}
+
+#[no_mangle]
+pub extern "C" fn levelspruce_card_packet(state: &[u8], group: u32, slot: u32, h4: &mut [u8]) -> u8
+    ensures { λ r. ⌜ (r ≡ packetAnswerOn (now (state .entry)) group slot (now (h4 .entry)))
+        × (now (h4 .exit) ≡ packetBytesOn (now (state .entry)) group slot (now (h4 .entry))) ⌝ }
+{
+    let first = refusal(state.len(), group);
+    if first != 0 {
+        return first;
+    }
+    let card = own_card(state, group);
+    let answer = card.packet(group, slot, h4);
+    answer.number()
+}
+
+#[no_mangle]
+pub extern "C" fn levelspruce_card_payload(
+    state: &[u8],
+    group: u32,
+    slot: u32,
+    p: u32,
+    frame: &[u8],
+    member: &mut [u8],
+) -> u8
+    ensures { λ r. ⌜ (r ≡ payloadAnswerOn (now (state .entry)) group slot p (now (frame .entry)) (now (member .entry)))
+        × (now (member .exit) ≡ payloadBytesOn (now (state .entry)) group slot p (now (frame .entry)) (now (member .entry))) ⌝ }
+{
+    let first = refusal(state.len(), group);
+    if first != 0 {
+        return first;
+    }
+    let card = own_card(state, group);
+    let answer = card.payload(group, slot, p, frame, member);
+    answer.number()
+}
+
+#[no_mangle]
+pub extern "C" fn levelspruce_card_board(state: &[u8], group: u32, board: &mut [u8]) -> u8
+    ensures { λ r. ⌜ (r ≡ shownAnswerOn 130 (now (state .entry)) group (now (board .entry)))
+        × (now (board .exit) ≡ boardBytesOn (now (state .entry)) group (now (board .entry))) ⌝ }
+{
+    let first = refusal(state.len(), group);
+    if first != 0 {
+        return first;
+    }
+    if board.len() != 130 {
+        return 9;
+    }
+    let card = own_card(state, group);
+    let shown = card.board(group);
+    let whole = shown.board;
+    boards::put_board(whole, board);
+    0
+}
+
+#[no_mangle]
+pub extern "C" fn levelspruce_card_board_going(state: &[u8], group: u32, board: &mut [u8]) -> u8
+    ensures { λ r. ⌜ (r ≡ shownAnswerOn 130 (now (state .entry)) group (now (board .entry)))
+        × (now (board .exit) ≡ outgoingBytesOn (now (state .entry)) group (now (board .entry))) ⌝ }
+{
+    let first = refusal(state.len(), group);
+    if first != 0 {
+        return first;
+    }
+    if board.len() != 130 {
+        return 9;
+    }
+    let card = own_card(state, group);
+    let shown = card.outgoing(group);
+    let whole = shown.board;
+    boards::put_board(whole, board);
+    0
+}
+
+#[no_mangle]
+pub extern "C" fn levelspruce_card_ranks(state: &[u8], group: u32, ranks: &mut [u8]) -> u8
+    ensures { λ r. ⌜ (r ≡ shownAnswerOn 68 (now (state .entry)) group (now (ranks .entry)))
+        × (now (ranks .exit) ≡ ranksBytesOn (now (state .entry)) group (now (ranks .entry))) ⌝ }
+{
+    let first = refusal(state.len(), group);
+    if first != 0 {
+        return first;
+    }
+    if ranks.len() != 68 {
+        return 9;
+    }
+    let card = own_card(state, group);
+    let shown = card.ranks(group);
+    let whole = shown.ranks;
+    boards::put_ranks(whole, ranks);
+    0
+}
+
+fn put_owned(owned: [u8; 64], out: &mut [u8])
+    requires { ⌜ length (now out) ≡ 64 ⌝ }
+    ensures { λ r. ⌜ now (out .exit) ≡ owned ⌝ }
+{
+    keeping::put_bytes(&owned, 0, out);
+}
+
+#[no_mangle]
+pub extern "C" fn levelspruce_card_owned(state: &[u8], group: u32, owned: &mut [u8]) -> u8
+    ensures { λ r. ⌜ (r ≡ shownAnswerOn 64 (now (state .entry)) group (now (owned .entry)))
+        × (now (owned .exit) ≡ ownedBytesOn (now (state .entry)) group (now (owned .entry))) ⌝ }
+{
+    let first = refusal(state.len(), group);
+    if first != 0 {
+        return first;
+    }
+    if owned.len() != 64 {
+        return 9;
+    }
+    let card = own_card(state, group);
+    let shown = card.owned(group);
+    let whole = shown.owned;
+    put_owned(whole, owned);
+    0
+}

@@ -1,0 +1,62 @@
+-- Examples of request 2026-07, a whole work order at once, worked out apart: the number of the order, then the answers as they are left, then what the group's board shows.
+use mathlib.Core.Path.{refl}
+use mathlib.Core.List.{List, [], _∷_, _++_}
+use Prim.Native.Nat.{ℕ}
+use Rattle.circuits.specs.declared.card.Card.{Card}
+use Rattle.circuits.specs.Calls.Call.{AddSlot, Claim}
+use Rattle.circuits.specs.Commands.{claimOf, commandOf, releaseOf}
+use Rattle.circuits.specs.Commands.{startOf as cardStart}
+use Rattle.circuits.specs.Owners.{withOwner}
+use Rattle.circuits.specs.Parts.{isSlot, isUsed, marked, owns, senderOf, stepped, withSender}
+use Rattle.circuits.specs.Shown.{after, board, by}
+use Rattle.conformance.specs.Rows.{Equal, Row, equal-rows}
+use Rattle.orders.specs.declared.commands.Command.{Command}
+use Rattle.orders.specs.Orders.{stepBy}
+use Rattle.orders.specs.Shown.{add, cardLeft, claim, numbersOf, remove}
+use Rattle.packet.specs.Kinds.{idleNumber, mstFails, mstFirst, mstNumbers}
+use Rattle.sender.specs.Board.{boardOf, highest, noRow, rowOf, rowsOf}
+use Rattle.sender.specs.Commands.{addOf, addedTo, fallen, fallenIn, freshOf, idleSlot, removeOf, removedFrom, startOf}
+use Rattle.sender.specs.Epochs.{beginOf, freshSender}
+use Rattle.sender.specs.Table.{membersOf, sizeOf}
+
+-- two slots; group 0 has slot 0, which is being added
+abbrev adding : Card
+adding = after 2 (by 0 (Claim 0) ∷ by 0 (AddSlot 0) ∷ [])
+
+-- the slot is removed and not released, and slot 1 is nobody's
+abbrev six : List Command
+six = claim 0 0 ∷ add 0 0 ∷ add 0 0 ∷ remove 0 0 ∷ add 0 1 ∷ claim 1 0 ∷ []
+
+abbrev unwritten : List ℕ
+unwritten = 255 ∷ 255 ∷ 255 ∷ 255 ∷ 255 ∷ 255 ∷ []
+
+pub table : List Row
+table =
+    record { name = "the empty order"; given = numbersOf adding [] [] ++ board 0 (cardLeft adding [] []); said = 0 ∷ 1 ∷ 0 ∷ 5 ∷ 255 ∷ 0 ∷ [] }
+    ∷ record {
+      name = "claim 0 0, add 0 0, add 0 0, remove 0 0, add 0 1, claim 1 0";
+      given = numbersOf (after 2 []) six unwritten ++ board 0 (cardLeft (after 2 []) six unwritten);
+      said = 0 ∷ 0 ∷ 0 ∷ 2 ∷ 0 ∷ 14 ∷ 14 ∷ 5 ∷ 255 ∷ 5 ∷ 255 ∷ 1 ∷ [];
+    }
+    ∷ record {
+      name = "the same with claim 0 1 done before";
+      given = numbersOf (after 2 (by 0 (Claim 1) ∷ [])) six unwritten;
+      said = 0 ∷ 0 ∷ 0 ∷ 2 ∷ 0 ∷ 3 ∷ 14 ∷ [];
+    }
+    ∷ record {
+      name = "three commands and two answers";
+      given =
+          let three = remove 0 0 ∷ claim 0 1 ∷ add 0 1 ∷ [] in
+          numbersOf adding three (7 ∷ 8 ∷ []) ++ board 0 (cardLeft adding three (7 ∷ 8 ∷ []));
+      said = 9 ∷ 7 ∷ 8 ∷ 1 ∷ 0 ∷ 5 ∷ 255 ∷ 0 ∷ [];
+    }
+    ∷ record {
+      name = "two commands and three answers";
+      given = numbersOf adding (remove 0 0 ∷ claim 0 1 ∷ []) (7 ∷ 8 ∷ 6 ∷ []) ++ board 0 (cardLeft adding (remove 0 0 ∷ claim 0 1 ∷ []) (7 ∷ 8 ∷ 6 ∷ []));
+      said = 9 ∷ 7 ∷ 8 ∷ 6 ∷ 1 ∷ 0 ∷ 5 ∷ 255 ∷ 0 ∷ [];
+    }
+    ∷ []
+
+pub examples : Equal table
+unfolding table stepBy withOwner senderOf withSender isSlot owns isUsed marked stepped cardStart claimOf releaseOf commandOf beginOf freshSender startOf freshOf idleSlot idleNumber addOf addedTo removeOf removedFrom fallen fallenIn sizeOf membersOf mstFails mstFirst mstNumbers boardOf rowsOf rowOf noRow highest
+examples = equal-rows table refl

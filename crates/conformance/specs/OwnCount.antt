@@ -1,0 +1,107 @@
+-- Examples of request 2026-04, the receiver's own count, worked out apart: what frames are answered, and what then stands of a port.
+use mathlib.Core.Path.{refl}
+use mathlib.Core.List.{List, [], _∷_, _++_}
+use Prim.Native.Nat.{ℕ}
+use Rattle.conformance.specs.Hosts.{Host, counting, damagedWith, fed, fedWith, fetched, handed, opened, packetWith}
+use Rattle.conformance.specs.Rows.{Equal, Row, equal-rows}
+use Rattle.ground.specs.Circle.{after as afterOn}
+use Rattle.packet.specs.Counts.{carriesLow, counts, nibbleIn, nibblePlace, startsCount, tagByHigh, tagByLow}
+use Rattle.packet.specs.Crc.{byteBits, crcOf, divisor, nibbleBits}
+use Rattle.packet.specs.Kinds.{distanceOf, endsEpoch, epochAfter, epochOf, epochs, epochsIn, firstTag, frames, idleNumber, lead, mstFails, mstFirst, mstNumbers, placeOf, startsEpoch, tagAfter, tagBefore, tags}
+use Rattle.packet.specs.Layout.{carriedIn, dataOf, fieldsOf, h4Of, highsOf, nibblesOf, sealedOf}
+use Rattle.packet.specs.Reading.{readAnswer, readNibbles}
+use Rattle.packet.specs.Words.{assigned}
+use Rattle.phases.specs.Beginning.{begins, foremost, further, latest, noTag, ready, within}
+use Rattle.phases.specs.Due.{brought, owesNothing, silent}
+use Rattle.phases.specs.Passing.{notedBy, passedGroup, passedOf, passedPort, passedPorts, passedStep, ruledBy}
+use Rattle.phases.specs.Settling.{beginBy, begunOf, clearedPort, clearedPorts, clearedStep, gatherBy, settledOf, stopBy, stoppedOf}
+use Rattle.phases.specs.Sizes.{portsIn, storeFor}
+use Rattle.phases.specs.Sizes.{sized as sizedGroup}
+use Rattle.receiver.specs.Fetch.{dueIn, fetchRows, fits, rowsIfDue}
+use Rattle.receiver.specs.Frame.{frameAnswer, frameRows, frameStore, gatheredBy, marksBy, portRows, refusalBy, settledBy, storeBy, takenRows, takenStore}
+use Rattle.receiver.specs.Lengths.{fetchFits, frameFits, outputFor, rowsFit}
+use Rattle.receiver.specs.Report.{reportedOf, statePut, statesPut, statesWorkedOut, withState}
+use Rattle.receiver.specs.Starting.{freshPort, freshPorts, sizedAnswer, sizedRows, startAnswer, startFits, startRows}
+use Rattle.rows.specs.Group.{groupAt, groupOf, groupRow, putGroup}
+use Rattle.rows.specs.Member.{memberAt, memberOf, memberRow, putMember}
+use Rattle.rows.specs.Packets.{marksAt, packetsAt, putMarks, putPackets}
+use Rattle.rows.specs.Rows.{putRow, rowIn}
+use Rattle.rows.specs.Step.{putStep, stepAt, stepRow}
+use Rattle.rows.specs.Step.{stepOf as stepIn}
+use Rattle.step.specs.Arrival.{arrives, byStart, byWindow, countsOn, distanceIn, flagged, frameDropped, inStep, joining, keeps, outside, readable, takenOf}
+use Rattle.step.specs.Own.{endsOdd, oddPacket, ownNumber}
+use Rattle.step.specs.Run.{begunRun, breaksAfter, endsPacket, furtherRun, gainedRun, inStepAt, loses, oddAfter, runOn, secondRun, stayedRun}
+use Rattle.store.specs.Frames.{byteAt, h4At, packetIn, placeIn, ringOf, storedAt}
+use Rattle.store.specs.Marks.{cutByte, cutFrom, firstMark, markedAt, markedByte, passedByte, passedMarks}
+
+-- one port in step, its latest tag 4,095
+abbrev edge : Host
+edge = fed 0 32 4064 (opened 1 16)
+
+-- frames that carry these tags, one after the other: of each the answer, and of the port the tag to come, the frames counted and the breaks in a row
+abbrev each : List ℕ → Host → List ℕ
+each [] h = []
+each (t ∷ ts) h = let g = handed 0 t h in counting 0 g ++ each ts g
+
+-- the answer, and that of one frame more
+abbrev then : Host → (Host → Host) → List ℕ
+then h more = h .answer ∷ more h .answer ∷ []
+
+-- W is 64. One port in step, its latest tag 39, so that the next epoch starts.
+abbrev at40 : Host
+at40 = fed 0 40 0 (opened 1 64)
+
+-- W is 16. The port has joined, the tag to come is 70, and 72 is the first outside the window.
+abbrev at70 : Host
+at70 = fed 0 70 0 (opened 1 16)
+
+pub broken : List Row
+broken =
+    record {
+      name = "4,095 and then frames that carry 1, 2, 3 and 4";
+      given = each (1 ∷ 2 ∷ 3 ∷ 4 ∷ []) edge;
+      said = 0 ∷ 1 ∷ 32 ∷ 1 ∷ 0 ∷ 2 ∷ 32 ∷ 2 ∷ 0 ∷ 3 ∷ 32 ∷ 3 ∷ 12 ∷ 0 ∷ 0 ∷ 0 ∷ [];
+    }
+    ∷ record { name = "4,095, then 1, then 1: the row of breaks is none again"; given = each (1 ∷ 1 ∷ []) edge; said = 0 ∷ 1 ∷ 32 ∷ 1 ∷ 0 ∷ 2 ∷ 32 ∷ 0 ∷ [] }
+    ∷ record {
+      name = "a fourth break with MFI1 0 is the first of a new 32";
+      given = each (1 ∷ 2 ∷ 3 ∷ 0 ∷ []) edge ++ then (fed 0 30 1 (handed 0 0 (fed 0 3 1 edge))) (handed 0 31);
+      said = 0 ∷ 1 ∷ 32 ∷ 1 ∷ 0 ∷ 2 ∷ 32 ∷ 2 ∷ 0 ∷ 3 ∷ 32 ∷ 3 ∷ 12 ∷ 1 ∷ 1 ∷ 0 ∷ 12 ∷ 0 ∷ [];
+    }
+    ∷ []
+
+pub switched : List Row
+switched =
+    record {
+      name = "a switch by one multiframe at an epoch start, CRC right: 31 frames 0, the 32nd 12";
+      given = then (fedWith packetWith 0 31 56 at40) (fedWith packetWith 0 1 87);
+      said = 0 ∷ 12 ∷ [];
+    }
+    ∷ record {
+      name = "the same with the first packet's CRC wrong: 12 sixteen frames later";
+      given = then (fedWith packetWith 0 31 72 (fedWith damagedWith 0 16 56 at40)) (fedWith packetWith 0 1 103);
+      said = 0 ∷ 12 ∷ [];
+    }
+    ∷ []
+
+pub beyond : List Row
+beyond =
+    record {
+      name = "four breaks with a frame answered 11 between, which is not counted";
+      given = each (3 ∷ 3 ∷ 3 ∷ []) at70 ++ each (3 ∷ 3 ∷ []) (fetched (fed 0 1 3 (fed 0 1 3 (fed 0 1 3 at70))));
+      said = 0 ∷ 71 ∷ 32 ∷ 1 ∷ 0 ∷ 72 ∷ 32 ∷ 2 ∷ 11 ∷ 72 ∷ 32 ∷ 2 ∷ 0 ∷ 73 ∷ 32 ∷ 3 ∷ 12 ∷ 0 ∷ 0 ∷ 0 ∷ [];
+    }
+    ∷ record { name = "a fourth break outside the window is 12 and not 11"; given = each (3 ∷ 3 ∷ 3 ∷ 3 ∷ []) (fed 0 69 0 (opened 1 16)); said = 0 ∷ 70 ∷ 32 ∷ 1 ∷ 0 ∷ 71 ∷ 32 ∷ 2 ∷ 0 ∷ 72 ∷ 32 ∷ 3 ∷ 12 ∷ 0 ∷ 0 ∷ 0 ∷ [] }
+    ∷ []
+
+pub broken-rows : Equal broken
+unfolding broken nibblesOf sealedOf dataOf crcOf divisor byteBits nibbleBits assigned h4Of readAnswer readNibbles fieldsOf carriedIn highsOf idleNumber mstFails mstFirst mstNumbers afterOn nibbleIn nibblePlace startsCount tagByHigh carriesLow tagByLow counts endsEpoch epochsIn frames tagAfter tagBefore tags lead epochs epochAfter epochOf distanceOf placeOf startsEpoch firstTag settledOf clearedStep clearedPort clearedPorts stoppedOf stopBy begunOf beginBy gatherBy portsIn sizedGroup storeFor ready latest noTag further foremost within begins owesNothing brought silent ruledBy passedStep notedBy passedPort passedPorts passedGroup passedOf frameFits rowsFit frameAnswer frameRows frameStore gatheredBy marksBy portRows storeBy settledBy takenRows takenStore refusalBy startAnswer startRows startFits sizedAnswer sizedRows freshPort freshPorts groupAt groupOf groupRow putGroup rowIn putRow marksAt packetsAt putMarks putPackets memberAt putMember memberOf memberRow putStep stepAt stepIn stepRow takenOf inStep readable distanceIn flagged countsOn frameDropped outside keeps joining byWindow byStart arrives inStepAt begunRun secondRun furtherRun gainedRun stayedRun loses breaksAfter oddAfter endsPacket endsOdd oddPacket ownNumber runOn placeIn storedAt ringOf byteAt h4At packetIn cutFrom markedAt firstMark markedByte cutByte passedByte passedMarks dueIn fetchRows rowsIfDue fits fetchFits outputFor reportedOf statePut statesPut statesWorkedOut withState
+broken-rows = equal-rows broken refl
+
+pub switched-rows : Equal switched
+unfolding switched nibblesOf sealedOf dataOf crcOf divisor byteBits nibbleBits assigned h4Of readAnswer readNibbles fieldsOf carriedIn highsOf idleNumber mstFails mstFirst mstNumbers afterOn nibbleIn nibblePlace startsCount tagByHigh carriesLow tagByLow counts endsEpoch epochsIn frames tagAfter tagBefore tags lead epochs epochAfter epochOf distanceOf placeOf startsEpoch firstTag settledOf clearedStep clearedPort clearedPorts stoppedOf stopBy begunOf beginBy gatherBy portsIn sizedGroup storeFor ready latest noTag further foremost within begins owesNothing brought silent ruledBy passedStep notedBy passedPort passedPorts passedGroup passedOf frameFits rowsFit frameAnswer frameRows frameStore gatheredBy marksBy portRows storeBy settledBy takenRows takenStore refusalBy startAnswer startRows startFits sizedAnswer sizedRows freshPort freshPorts groupAt groupOf groupRow putGroup rowIn putRow marksAt packetsAt putMarks putPackets memberAt putMember memberOf memberRow putStep stepAt stepIn stepRow takenOf inStep readable distanceIn flagged countsOn frameDropped outside keeps joining byWindow byStart arrives inStepAt begunRun secondRun furtherRun gainedRun stayedRun loses breaksAfter oddAfter endsPacket endsOdd oddPacket ownNumber runOn placeIn storedAt ringOf byteAt h4At packetIn cutFrom markedAt firstMark markedByte cutByte passedByte passedMarks dueIn fetchRows rowsIfDue fits fetchFits outputFor reportedOf statePut statesPut statesWorkedOut withState
+switched-rows = equal-rows switched refl
+
+pub beyond-rows : Equal beyond
+unfolding beyond nibblesOf sealedOf dataOf crcOf divisor byteBits nibbleBits assigned h4Of readAnswer readNibbles fieldsOf carriedIn highsOf idleNumber mstFails mstFirst mstNumbers afterOn nibbleIn nibblePlace startsCount tagByHigh carriesLow tagByLow counts endsEpoch epochsIn frames tagAfter tagBefore tags lead epochs epochAfter epochOf distanceOf placeOf startsEpoch firstTag settledOf clearedStep clearedPort clearedPorts stoppedOf stopBy begunOf beginBy gatherBy portsIn sizedGroup storeFor ready latest noTag further foremost within begins owesNothing brought silent ruledBy passedStep notedBy passedPort passedPorts passedGroup passedOf frameFits rowsFit frameAnswer frameRows frameStore gatheredBy marksBy portRows storeBy settledBy takenRows takenStore refusalBy startAnswer startRows startFits sizedAnswer sizedRows freshPort freshPorts groupAt groupOf groupRow putGroup rowIn putRow marksAt packetsAt putMarks putPackets memberAt putMember memberOf memberRow putStep stepAt stepIn stepRow takenOf inStep readable distanceIn flagged countsOn frameDropped outside keeps joining byWindow byStart arrives inStepAt begunRun secondRun furtherRun gainedRun stayedRun loses breaksAfter oddAfter endsPacket endsOdd oddPacket ownNumber runOn placeIn storedAt ringOf byteAt h4At packetIn cutFrom markedAt firstMark markedByte cutByte passedByte passedMarks dueIn fetchRows rowsIfDue fits fetchFits outputFor reportedOf statePut statesPut statesWorkedOut withState
+beyond-rows = equal-rows beyond refl

@@ -1,0 +1,175 @@
+-- The refusals of a card's C calls (02, 2026-06): a state of another length is 9, a group other than the two 1, what is no byte 8, then the card's own. The state is lent, so it stands as the state and not among the lent slices: under 4 starting leaves two empty groups in it.
+use mathlib.Core.Path.{_≡_, _∙_, refl, sym}
+use mathlib.Core.Bool.{Bool, true, false, cond, _&&_, _||_, false≢true}
+use mathlib.Core.List.{List, [], _∷_}
+use Prim.Native.Nat.{ℕ}
+use native.Mathlib.Omega.{arith}
+use borrow.Author.Tests.{ne-eqb}
+use lib.Dec.{eqb, ltb}
+use lib.ListN.{length}
+use Rattle.c_face.specs.Cards.{boardBytesOn, cardOf, outgoingBytesOn, ownedBytesOn, packetAnswerOn, packetBytesOn, payloadAnswerOn, payloadBytesOn, putCard, ranksBytesOn, shownAnswerOn, shownBytesOn, startAnswerOn, startStateOn, stepAnswerOn, stepStateOn}
+use Rattle.c_face.specs.Senders.{areBytes}
+use Rattle.circuits.specs.Answers.{answerNumber}
+use Rattle.circuits.specs.Calls.{Call as Step, stepOf}
+use Rattle.circuits.specs.Calls.Call.{AddSlot, Claim, Lapse, Release, RemoveSlot, Report, StartEpoch}
+use Rattle.circuits.specs.Commands as card
+use Rattle.circuits.specs.Readings.{packetBytes, payloadBytes}
+use Rattle.conformance.specs.Entries.{Call, Copes, If, Refusal, Unless, behind, copes, first, refused, stateful, stateless}
+use Rattle.conformance.specs.Refusals.Cards as own
+use Rattle.conformance.specs.Refusals.Cards.{emptyCard}
+use Rattle.sender.specs.Commands.{startOf}
+use Rattle.sender.specs.Epochs.{beginOf}
+
+-- 858 bytes
+abbrev pub isWhole : List ℕ → Bool
+isWhole state = eqb (length state) 858
+
+-- Starting: 4, 9, 8.
+abbrev pub start : ℕ × ℕ × ℕ × List ℕ → Call
+start (count, «first_epoch_0», «first_epoch_1», state) =
+    stateful (If 4 (eqb count 0 || ltb 64 count) ∷ Unless 9 (isWhole state) ∷ Unless 8 (areBytes «first_epoch_0» «first_epoch_1» 0) ∷ [])
+    (startAnswerOn count «first_epoch_0» «first_epoch_1» state) [] []
+    state (startStateOn count «first_epoch_0» «first_epoch_1» state) (cond (isWhole state) (putCard (emptyCard 0 0 0) state) state)
+
+pub start-copes : (x : ℕ × ℕ × ℕ × List ℕ) → Copes (start x)
+unfolding startAnswerOn startStateOn card.startOf beginOf startOf
+start-copes (count, e₀, e₁, state) =
+    copes _ (λ o. rw o (refl, refl, refl), λ o. (λ l. (λ f. rw (o, l, f), λ f. rw (o, l, f) (refl, refl, refl)), λ l. rw (o, l) (refl, refl, refl)))
+
+-- A call that changes a card: 9, 1 for the group, 8 where the numbers given do not fit, then the call's own refusals.
+abbrev pub step : List ℕ → ℕ → Bool → Step → List Refusal → Call
+step state group fits call rs =
+    stateful (Unless 9 (isWhole state) ∷ Unless 1 (ltb group 2) ∷ Unless 8 fits ∷ rs) (stepAnswerOn fits group call state) [] [] state (stepStateOn fits group call state) state
+
+-- a refusal encodes nothing anew
+kept : (n : ℕ) (new old : List ℕ) → (n ≡ 0 → ⊥) → cond (eqb n 0) new old ≡ old
+kept n new old d = rw (ne-eqb n 0 d)
+
+stands : (b g f : Bool) (n : ℕ) (new old : List ℕ) (rs : List Refusal) → n ≡ first rs
+    → Copes (stateful (Unless 9 b ∷ Unless 1 g ∷ Unless 8 f ∷ rs) (cond b (cond g (cond f n 8) 1) 9) [] [] old (cond b (cond g (cond f (cond (eqb n 0) new old) old) old) old) old)
+stands false g f n new old rs e = refused _ 9 (refl, refl, refl)
+stands true false f n new old rs e = refused _ 1 (refl, refl, refl)
+stands true true false n new old rs e = refused _ 8 (refl, refl, refl)
+stands true true true n new old rs e =
+    record {
+      answers = e;
+      untouched = λ d. refl;
+      as-given = λ k. kept n new old (λ z. false≢true (rw (sym e ∙ z) at k));
+      emptied = λ f. kept n new old (λ z. omega arith);
+    }
+
+pub step-copes : (state : List ℕ) (group : ℕ) (fits : Bool) (call : Step) (rs : List Refusal) → answerNumber (stepOf (cardOf state) group call .answer) ≡ first rs → Copes (step state group fits call rs)
+unfolding stepAnswerOn stepStateOn
+step-copes state group fits call rs e = stands (isWhole state) (ltb group 2) fits (answerNumber (stepOf (cardOf state) group call .answer)) _ state rs e
+
+abbrev pub claim : List ℕ × ℕ × ℕ → Call
+claim (state, group, slot) = step state group true (Claim slot) (own.claim (cardOf state, group, slot) .refusals)
+
+pub claim-copes : (x : List ℕ × ℕ × ℕ) → Copes (claim x)
+claim-copes (state, group, slot) = step-copes state group true _ _ (own.claim-copes (cardOf state, group, slot) .answers)
+
+abbrev pub release : List ℕ × ℕ × ℕ → Call
+release (state, group, slot) = step state group true (Release slot) (own.release (cardOf state, group, slot) .refusals)
+
+pub release-copes : (x : List ℕ × ℕ × ℕ) → Copes (release x)
+release-copes (state, group, slot) = step-copes state group true _ _ (own.release-copes (cardOf state, group, slot) .answers)
+
+abbrev pub add : List ℕ × ℕ × ℕ → Call
+add (state, group, slot) = step state group true (AddSlot slot) (own.add (cardOf state, group, slot) .refusals)
+
+pub add-copes : (x : List ℕ × ℕ × ℕ) → Copes (add x)
+add-copes (state, group, slot) = step-copes state group true _ _ (own.add-copes (cardOf state, group, slot) .answers)
+
+abbrev pub remove : List ℕ × ℕ × ℕ → Call
+remove (state, group, slot) = step state group true (RemoveSlot slot) (own.remove (cardOf state, group, slot) .refusals)
+
+pub remove-copes : (x : List ℕ × ℕ × ℕ) → Copes (remove x)
+remove-copes (state, group, slot) = step-copes state group true _ _ (own.remove-copes (cardOf state, group, slot) .answers)
+
+abbrev pub report : List ℕ × ℕ × ℕ × ℕ × ℕ → Call
+report (state, group, epoch, mst, «rs_ack») =
+    step state group (areBytes epoch mst «rs_ack») (Report epoch mst «rs_ack») (own.report (cardOf state, group, epoch, mst, «rs_ack») .refusals)
+
+pub report-copes : (x : List ℕ × ℕ × ℕ × ℕ × ℕ) → Copes (report x)
+report-copes (state, group, epoch, mst, «rs_ack») =
+    step-copes state group (areBytes epoch mst «rs_ack») _ _ (own.report-copes (cardOf state, group, epoch, mst, «rs_ack») .answers)
+
+abbrev pub lapse : List ℕ × ℕ → Call
+lapse (state, group) = step state group true Lapse (own.lapse (cardOf state, group) .refusals)
+
+pub lapse-copes : (x : List ℕ × ℕ) → Copes (lapse x)
+lapse-copes (state, group) = step-copes state group true _ _ (own.lapse-copes (cardOf state, group) .answers)
+
+abbrev pub startEpoch : List ℕ × ℕ × ℕ × ℕ × ℕ → Call
+startEpoch (state, group, gid, mst, «rs_ack») =
+    step state group (areBytes gid mst «rs_ack») (StartEpoch gid mst «rs_ack») (own.startEpoch (cardOf state, group, gid, mst, «rs_ack») .refusals)
+
+pub startEpoch-copes : (x : List ℕ × ℕ × ℕ × ℕ × ℕ) → Copes (startEpoch x)
+startEpoch-copes (state, group, gid, mst, «rs_ack») =
+    step-copes state group (areBytes gid mst «rs_ack») _ _ (own.startEpoch-copes (cardOf state, group, gid, mst, «rs_ack») .answers)
+
+-- What a slot sends: 9, 1, then the card's own.
+
+abbrev pub packet : List ℕ × ℕ × ℕ × List ℕ → Call
+packet (state, group, slot, h4) =
+    stateless (Unless 9 (isWhole state) ∷ Unless 1 (ltb group 2) ∷ own.packet (cardOf state, group, slot, h4) .refusals)
+    (packetAnswerOn state group slot h4) (h4 ∷ []) (packetBytesOn state group slot h4 ∷ [])
+
+pub packet-copes : (x : List ℕ × ℕ × ℕ × List ℕ) → Copes (packet x)
+unfolding packetAnswerOn packetBytesOn
+packet-copes (state, group, slot, h4) =
+    behind 9 (isWhole state) _ _ _ h4 (behind 1 (ltb group 2) _ _ (packetBytes (cardOf state) group slot h4) h4 (own.packet-copes (cardOf state, group, slot, h4)))
+
+abbrev pub payload : List ℕ × ℕ × ℕ × ℕ × List ℕ × List ℕ → Call
+payload (state, group, slot, p, frame, member) =
+    stateless (Unless 9 (isWhole state) ∷ Unless 1 (ltb group 2) ∷ own.payload (cardOf state, group, slot, p, frame, member) .refusals)
+    (payloadAnswerOn state group slot p frame member) (member ∷ []) (payloadBytesOn state group slot p frame member ∷ [])
+
+pub payload-copes : (x : List ℕ × ℕ × ℕ × ℕ × List ℕ × List ℕ) → Copes (payload x)
+unfolding payloadAnswerOn payloadBytesOn
+payload-copes (state, group, slot, p, frame, member) =
+    behind 9 (isWhole state) _ _ _ member
+    (behind 1 (ltb group 2) _ _ (payloadBytes (cardOf state) group slot p frame member) member (own.payload-copes (cardOf state, group, slot, p, frame, member)))
+
+-- What is read out whole: 9 for the state, 1 for the group, then 9 for the buffer.
+
+shows : (n : ℕ) (state : List ℕ) (group : ℕ) (new out : List ℕ)
+    → Copes (stateless (Unless 9 (isWhole state) ∷ Unless 1 (ltb group 2) ∷ Unless 9 (eqb (length out) n) ∷ []) (shownAnswerOn n state group out) (out ∷ []) (shownBytesOn n state group new out ∷ []))
+unfolding shownAnswerOn shownBytesOn
+shows n state group new out =
+    copes _ (
+      λ l. (λ g. (λ m. rw (l, g, m), λ m. rw (l, g, m) (refl, refl, refl)), λ g. rw (l, g) (refl, refl, refl)),
+      λ l. rw l (refl, refl, refl),
+    )
+
+abbrev pub shown : List ℕ × ℕ × List ℕ → Call
+shown (state, group, board) =
+    stateless (Unless 9 (isWhole state) ∷ Unless 1 (ltb group 2) ∷ Unless 9 (eqb (length board) 130) ∷ [])
+    (shownAnswerOn 130 state group board) (board ∷ []) (boardBytesOn state group board ∷ [])
+
+pub shown-copes : (x : List ℕ × ℕ × List ℕ) → Copes (shown x)
+shown-copes (state, group, board) = shows 130 state group _ board
+
+abbrev pub outgoing : List ℕ × ℕ × List ℕ → Call
+outgoing (state, group, board) =
+    stateless (Unless 9 (isWhole state) ∷ Unless 1 (ltb group 2) ∷ Unless 9 (eqb (length board) 130) ∷ [])
+    (shownAnswerOn 130 state group board) (board ∷ []) (outgoingBytesOn state group board ∷ [])
+
+pub outgoing-copes : (x : List ℕ × ℕ × List ℕ) → Copes (outgoing x)
+outgoing-copes (state, group, board) = shows 130 state group _ board
+
+abbrev pub ranked : List ℕ × ℕ × List ℕ → Call
+ranked (state, group, ranks) =
+    stateless (Unless 9 (isWhole state) ∷ Unless 1 (ltb group 2) ∷ Unless 9 (eqb (length ranks) 68) ∷ [])
+    (shownAnswerOn 68 state group ranks) (ranks ∷ []) (ranksBytesOn state group ranks ∷ [])
+
+pub ranked-copes : (x : List ℕ × ℕ × List ℕ) → Copes (ranked x)
+ranked-copes (state, group, ranks) = shows 68 state group _ ranks
+
+abbrev pub owned : List ℕ × ℕ × List ℕ → Call
+owned (state, group, mine) =
+    stateless (Unless 9 (isWhole state) ∷ Unless 1 (ltb group 2) ∷ Unless 9 (eqb (length mine) 64) ∷ [])
+    (shownAnswerOn 64 state group mine) (mine ∷ []) (ownedBytesOn state group mine ∷ [])
+
+pub owned-copes : (x : List ℕ × ℕ × List ℕ) → Copes (owned x)
+owned-copes (state, group, mine) = shows 64 state group _ mine

@@ -1,0 +1,91 @@
+-- The step rule of request 2026-04 read wrongly, each with a run on which it breaks.
+use mathlib.Core.Path.{_≡_, refl}
+use mathlib.Core.Bool.{Bool, true, false, cond, not, _&&_}
+use mathlib.Core.List.{List, [], _∷_}
+use Prim.Native.Nat.{ℕ, zero, suc, _+_, _%_}
+use lib.Dec.{eqb}
+use lib.ListN.{getD, replicate, set}
+use Rattle.packet.specs.Counts.{counts, nibbleIn, nibblePlace, startsCount, tagByHigh}
+use Rattle.packet.specs.Crc.{crcOf, divisor, nibbleBits}
+use Rattle.packet.specs.Kinds.{endsEpoch, frames, lead, placeOf, tagAfter, tags}
+use Rattle.packet.specs.Layout.{carriedIn, dataOf, fieldsOf, h4Of, nibblesOf, sealedOf}
+use Rattle.packet.specs.Reading.{readNibbles, readingNumber}
+use Rattle.packet.specs.Words.{NORM, assigned}
+use Rattle.receiver.specs.Frame.{gatheredBy}
+use Rattle.step.specs.declared.run.Run.{Run}
+use Rattle.step.specs.Run.{begunRun, breaksAfter, endsPacket, gainedRun, inStepAt, loses, noRun, oddAfter, runOn, stayedRun}
+use Rattle.invariant.specs.Wrong.Sample.{sentH4}
+
+-- a port in step, with the tag to come
+at : ℕ → Run
+at t = record { count = 32; next = t; breaks = 0; odd = 0 }
+
+-- A frame with MFI1 0 amid the count taken as a new start at once. One hit makes MFI1 4 a 0, and the port is out.
+
+wrong-start : Run → Bool → ℕ → Run
+wrong-start run odd h = cond (startsCount 0 h && not (counts 0 (run .next) h)) (begunRun 0 h) (runOn 0 run odd h)
+
+start-breaks : (wrong-start (at 4) false 0x00 .count ≡ 1) × (runOn 0 (at 4) false 0x00 ≡ record { count = 32; next = 5; breaks = 1; odd = 0 })
+unfolding at wrong-start runOn stayedRun gainedRun loses breaksAfter oddAfter endsPacket begunRun inStepAt counts startsCount tagByHigh placeOf endsEpoch tagAfter tags frames lead
+start-breaks = (refl, refl)
+
+-- Breaks counted over all time and not in a row. Every other frame of eight is hit in MFI1, so that no two in a row break the count.
+
+wrong-breaks : Run → Bool → ℕ → Run
+wrong-breaks run odd h =
+    let counted = counts 0 (run .next) h in
+    cond (loses counted run odd) noRun
+    (record { count = run .count; next = tagAfter 0 (run .next); breaks = run .breaks + cond counted 0 1; odd = oddAfter 0 run odd })
+
+hit : ℕ → ℕ
+hit t = cond (eqb (t % 2) 0) (sentH4 (t + 1)) (sentH4 t)
+
+-- n frames from tag 8 on by a rule
+by : (Run → Bool → ℕ → Run) → ℕ → Run
+by rule zero = at 8
+by rule (suc n) = rule (by rule n) false (hit (8 + n))
+
+row-breaks : (by wrong-breaks 7 .count ≡ 0) × (by (runOn 0) 8 ≡ record { count = 32; next = 16; breaks = 0; odd = 0 })
+unfolding at wrong-breaks hit by runOn stayedRun gainedRun loses breaksAfter oddAfter endsPacket begunRun inStepAt counts startsCount tagByHigh placeOf endsEpoch tagAfter tags frames lead
+row-breaks = (refl, refl)
+
+-- Odd packets counted over a damaged one. An odd packet ends, then one with a wrong CRC, then an odd one: not two in a row.
+
+wrong-odd : Run → Bool → ℕ → Run
+wrong-odd run odd h =
+    cond (loses (counts 0 (run .next) h) run odd) noRun (record { count = run .count; next = tagAfter 0 (run .next); breaks = 0; odd = cond odd 1 (run .odd) })
+
+-- the last frames of three packets, each as the rule finds the row of odd packets
+three : (Run → Bool → ℕ → Run) → Run
+three rule = rule (record { count = 32; next = 39; breaks = 0; odd = rule (record { count = 32; next = 23; breaks = 0; odd = rule (at 7) true 0x07 .odd }) false 0x07 .odd }) true 0x07
+
+odd-breaks : (three wrong-odd .count ≡ 0) × (three (runOn 0) ≡ record { count = 32; next = 40; breaks = 0; odd = 1 })
+unfolding at wrong-odd three runOn stayedRun gainedRun loses breaksAfter oddAfter endsPacket begunRun inStepAt counts startsCount tagByHigh placeOf endsEpoch tagAfter tags frames lead
+odd-breaks = (refl, refl)
+
+-- The packet being gathered put together by the MFI1 that frames carry. One hit makes MFI1 2, which brings the word, a 3: the word stays that of the packet before, and what is read is no longer the packet that came.
+
+wrong-gathered : List (List ℕ) → ℕ → List (List ℕ)
+wrong-gathered pair h = set pair 0 (set (getD pair 0 []) (nibblePlace 0 h) (nibbleIn 0 h))
+
+packet : List ℕ
+packet = nibblesOf (record { epoch = 1; word = record { 0 = NORM }; gid = 0; mst = 255; «rs_ack» = 0; sq = 3; reserved = 0 })
+
+-- the frame at place k of it
+frame : ℕ → ℕ
+frame k = getD (h4Of packet) k 0 + cond (eqb k 10) 1 0
+
+-- n frames of it, after a packet of zeros
+gathered : (List (List ℕ) → ℕ → ℕ → List (List ℕ)) → ℕ → List (List ℕ)
+gathered rule zero = replicate 16 0 ∷ replicate 16 0 ∷ []
+gathered rule (suc n) = rule (gathered rule n) (8 + n) (frame n)
+
+row-of : List (List ℕ) → List ℕ
+row-of pair = getD pair 0 []
+
+gathered-breaks :
+    (row-of (gathered (λ pair tag h. gatheredBy 0 pair true tag h) 16) ≡ packet)
+    × (readingNumber (readNibbles (row-of (gathered (λ pair tag h. gatheredBy 0 pair true tag h) 16))) ≡ 0)
+    × (readingNumber (readNibbles (row-of (gathered (λ pair tag h. wrong-gathered pair h) 16))) ≡ 5)
+unfolding wrong-gathered packet frame gathered row-of gatheredBy nibblePlace nibbleIn placeOf lead frames nibblesOf sealedOf dataOf h4Of crcOf divisor nibbleBits readNibbles fieldsOf carriedIn assigned
+gathered-breaks = (refl, refl, refl)

@@ -1,0 +1,126 @@
+-- The packet being gathered: at the end of a packet it is the packet that came.
+use mathlib.Core.Path.{_≡_, refl, _∙_, sym, ap}
+use mathlib.Core.Logic.{⊎-elim, _≢_}
+use mathlib.Core.Bool.{Bool, true, false, cond}
+use mathlib.Core.List.{List, []}
+use Prim.Native.Nat.{ℕ, _+_, _-_, _*_, _/_, _%_, _≤_, _<_}
+use native.Mathlib.Omega.{arith}
+use lib.ListN.{getD, length, length-set, set}
+use lib.Seq.{getD-set-other, getD-set-same}
+use borrow.Author.Tests.{eqb-true}
+use Rattle.ground.specs.Table.{tabulate-is}
+use Rattle.ground.specs.Truth.{eq-or-ne}
+use Rattle.packet.specs.Clock.{by}
+use Rattle.packet.specs.Counts.{nibbleIn}
+use Rattle.packet.specs.Kinds.{endsEpoch, epochOf, frames, lead, placeOf, startsEpoch}
+use Rattle.packet.specs.Laws.Epochs.{nibbles-in, place-in, place-lt, position-is}
+use Rattle.packet.specs.Theorems.Tags.{frames-some, tagOf}
+use Rattle.receiver.specs.Frame.{oddIn, ownTag}
+use Rattle.rows.specs.Port.{portAt}
+use Rattle.rows.specs.Step.{stepAt}
+use Rattle.step.specs.declared.arrival.Taken.{Taken}
+use Rattle.step.specs.Laws.Run.{startFrom}
+use Rattle.step.specs.Own.{endsOdd, oddPacket}
+use Rattle.step.specs.Run.{endsPacket}
+use Rattle.link.specs.Proofs.Contents.{numberOf, packetOf}
+use Rattle.link.specs.Proofs.Fair.{Fair}
+use Rattle.link.specs.Proofs.Standing.{Lined, Live}
+use Rattle.link.specs.Road.{L, Road}
+use Rattle.link.specs.Running.{Moment}
+
+-- Positions counted from one that starts an epoch.
+
+pub place-from : (kind c x : ℕ) → startsEpoch kind c ≡ true → placeOf kind (tagOf kind (c + x)) ≡ x % frames kind
+unfolding placeOf startsEpoch
+place-from kind c x e =
+    by (λ L E N l. (c + l) % L ≡ 0 → ((c + x) % N + l) % L ≡ x % L) (λ z. omega arith) (λ z. omega arith) kind (eqb-true ((c + lead kind) % frames kind) 0 e)
+
+epoch-from : (kind c i k : ℕ) → startsEpoch kind c ≡ true → k < frames kind → epochOf kind (tagOf kind (c + (i * frames kind + k))) ≡ epochOf kind (tagOf kind (c + i * frames kind))
+unfolding epochOf placeOf startsEpoch
+epoch-from kind c i k e =
+    by (λ L E N l. (c + l) % L ≡ 0 → k < L → ((c + (i * L + k)) % N + l) % N / L ≡ ((c + i * L) % N + l) % N / L) (λ z b. omega arith) (λ z b. omega arith) kind
+    (eqb-true ((c + lead kind) % frames kind) 0 e)
+
+apart-places : (kind x y : ℕ) → y < x → x < y + frames kind → y % frames kind ≢ x % frames kind
+apart-places kind x y = by (λ L E N l. y < x → x < y + L → y % L ≢ x % L) (λ h g e. omega arith) (λ h g e. omega arith) kind
+
+last-of : (kind t : ℕ) → endsPacket kind t ≡ true → placeOf kind t % frames kind ≡ frames kind - 1
+unfolding endsPacket endsEpoch
+last-of kind t e = eqb-true (placeOf kind t % frames kind) (frames kind - 1) e
+
+twice : (kind x : ℕ) → x % frames kind % frames kind ≡ x % frames kind
+twice kind x = by (λ L E N l. x % L % L ≡ x % L) (omega arith) (omega arith) kind
+
+module _ (r : Road) where
+  -- the row after a frame
+  abbrev pub rowAfter : List ℕ → Taken → ℕ → List ℕ
+  rowAfter row t h = cond (t .counted) (set row (placeOf (r .kind) (ownTag (r .kind) t)) (nibbleIn (r .kind) h)) row
+
+  pub after-long : (row : List ℕ) (t : Taken) (h : ℕ) → length row ≡ 16 → length (rowAfter row t h) ≡ 16
+  after-long row t h e = go (t .counted)
+    where
+      go : (b : Bool) → length (cond b (set row (placeOf (r .kind) (ownTag (r .kind) t)) (nibbleIn (r .kind) h)) row) ≡ 16
+      go true = length-set row (placeOf (r .kind) (ownTag (r .kind) t)) (nibbleIn (r .kind) h) ∙ e
+      go false = e
+
+  -- before the run's first frame nothing is said of it
+  pub live-early : (p x : ℕ) (row : List ℕ) → x < startFrom (r .kind) (r .offset) (r .first p) → length row ≡ 16 → Live r p (x + 1) row
+  live-early p x row early e = record { long = e; holds = λ y from upto near small. absurd (omega arith) }
+
+  live-on : (p x : ℕ) (row : List ℕ) → Live r p x row → Live r p (x + 1) (set row (x % L r) (nibbleIn (r .kind) (r .h4 p x)))
+  live-on p x row o =
+      let n : ℕ = nibbleIn (r .kind) (r .h4 p x) in
+      record {
+        long = length-set row (x % L r) (nibbleIn (r .kind) (r .h4 p x)) ∙ o .long;
+        holds = λ y from upto near small.
+            ⊎-elim
+            (λ (e : y ≡ x). rw e (getD-set-same row (x % L r) (nibbleIn (r .kind) (r .h4 p x)) 0 (rw (o .long) (rw e at small))))
+            (λ (d : y ≢ x).
+            getD-set-other row (x % L r) (y % L r) (nibbleIn (r .kind) (r .h4 p x)) 0 (apart-places (r .kind) x y (omega arith) (omega arith))
+            ∙ o .holds y from (omega arith) (omega arith) small)
+            (eq-or-ne y x);
+      }
+
+  module _ (f : Fair r) where
+    -- a frame that counts puts its nibble at its own place
+    pub live-taken : (p x : ℕ) (row : List ℕ) (t : Taken) → t .counted ≡ true → placeOf (r .kind) (ownTag (r .kind) t) ≡ placeOf (r .kind) (tagOf (r .kind) (r .offset + x))
+        → Live r p x row → Live r p (x + 1) (rowAfter row t (r .h4 p x))
+    live-taken p x row t counted place o = rw (counted, place, place-from (r .kind) (r .offset) x (f .starts)) (live-on p x row o)
+
+    -- at a packet's end the row is the packet that came
+    packet-live : (p x : ℕ) (row : List ℕ) → Live r p x row → startFrom (r .kind) (r .offset) (r .first p) + L r * 2 ≤ x → x % L r ≡ L r - 1
+        → set row (x % L r) (nibbleIn (r .kind) (r .h4 p x)) ≡ packetOf r (x / L r) p
+    unfolding packetOf
+    packet-live p x row o far last =
+        let some = frames-some (r .kind) in
+        let now : Live r p (x + 1) (set row (x % L r) (nibbleIn (r .kind) (r .h4 p x))) = live-on p x row o in
+        let is = position-is (r .kind) x in
+        tabulate-is (set row (x % L r) (nibbleIn (r .kind) (r .h4 p x))) 16 (λ k. nibbleIn (r .kind) (r .h4 p (x / L r * L r + k))) 0 (now .long)
+        (λ k b.
+        let l = nibbles-in (r .kind) k b in
+        let e : (x / L r * L r + k) % L r ≡ k = place-in (r .kind) (x / L r) k l in
+        rw e at (now .holds (x / L r * L r + k) (omega arith) (omega arith) (omega arith) (rw e b)))
+
+    pub live-even : (p x : ℕ) (row : List ℕ) → p < r .ports → Live r p x row → startFrom (r .kind) (r .offset) (r .first p) + L r * 2 ≤ x
+        → endsOdd (r .kind) row (tagOf (r .kind) (r .offset + x)) (r .h4 p x) ≡ false
+    unfolding endsOdd numberOf
+    live-even p x row b o far = go (endsPacket (r .kind) (tagOf (r .kind) (r .offset + x))) refl
+      where
+        go : (c : Bool) → endsPacket (r .kind) (tagOf (r .kind) (r .offset + x)) ≡ c → endsOdd (r .kind) row (tagOf (r .kind) (r .offset + x)) (r .h4 p x) ≡ false
+        go true e =
+            let place : placeOf (r .kind) (tagOf (r .kind) (r .offset + x)) ≡ x % L r = place-from (r .kind) (r .offset) x (f .starts) in
+            let last : x % L r ≡ L r - 1 = sym (twice (r .kind) x) ∙ ap (λ (n : ℕ). n % L r) (sym place) ∙ last-of (r .kind) (tagOf (r .kind) (r .offset + x)) e in
+            let number : epochOf (r .kind) (tagOf (r .kind) (r .offset + x)) ≡ numberOf r (x / L r) =
+            ap (λ (n : ℕ). epochOf (r .kind) (tagOf (r .kind) (r .offset + n))) (sym (position-is (r .kind) x)) ∙ epoch-from (r .kind) (r .offset) (x / L r) (x % L r) (f .starts) (place-lt (r .kind) x) in
+            rw e
+            (ap (λ (n : ℕ). oddPacket n (set row (placeOf (r .kind) (tagOf (r .kind) (r .offset + x))) (nibbleIn (r .kind) (r .h4 p x)))) number
+            ∙ ap (λ (k : ℕ). oddPacket (numberOf r (x / L r)) (set row k (nibbleIn (r .kind) (r .h4 p x)))) place
+            ∙ ap (λ (ns : List ℕ). oddPacket (numberOf r (x / L r)) ns) (packet-live p x row o far last)
+            ∙ f .even (x / L r) p b)
+        go false e = rw e refl
+
+    -- so no frame of a port in step ends an odd packet
+    pub even-now : (m : Moment) → Lined r m → (p x : ℕ) → p < r .ports → Live r p x (portAt (m .rows) p .gathering) → stepAt (m .rows) p .next ≡ tagOf (r .kind) (r .offset + x)
+        → startFrom (r .kind) (r .offset) (r .first p) + L r * 2 ≤ x → oddIn (m .rows) p (r .h4 p x) ≡ false
+    unfolding portAt
+    even-now m l p x b o next far = rw (l .kind-is, next) (live-even p x (portAt (m .rows) p .gathering) b o far)

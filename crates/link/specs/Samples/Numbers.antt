@@ -1,0 +1,246 @@
+-- MFI2 damaged (request 2026-04): in both nibbles right after receiving has begun, which demand 3 lets be, and in one before it, which it does not. All else is as in the sample.
+use mathlib.Core.Path.{_≡_, refl}
+use mathlib.Core.Logic.{⊎-elim, inl, inr}
+use mathlib.Core.Bool.{Bool, true, false, cond, _&&_}
+use mathlib.Core.List.{List, [], _∷_}
+use Prim.Native.Nat.{ℕ, zero, suc, _+_, _-_, _*_, _/_, _%_, _≤_, _<_}
+use native.Mathlib.Omega.{arith}
+use borrow.Author.Tests.{eqb-true, ltb-true}
+use lib.Dec.{eqb, ltb}
+use lib.ListN.{getD, length, length-replicate}
+use Rattle.counting.specs.Words.{every}
+use Rattle.ground.specs.Finite.{below-at}
+use Rattle.ground.specs.Table.{length-tabulate}
+use Rattle.ground.specs.Truth.{and-left, and-right}
+use Rattle.judge.specs.Verdict.{HELD, SURE}
+use Rattle.packet.specs.Counts.{nibbleIn, nibblePlace}
+use Rattle.packet.specs.Kinds.{firstTag, frames, lead, tags}
+use Rattle.packet.specs.Layout.{highsOf}
+use Rattle.packet.specs.Theorems.Damage.{changed}
+use Rattle.phases.specs.Sizes.{sized}
+use Rattle.step.specs.Laws.Run.{startFrom}
+use Rattle.step.specs.Own.{ownNumber}
+use Rattle.link.specs.Assumed.{Assumed}
+use Rattle.link.specs.Demand3.{Demand3}
+use Rattle.link.specs.History.{xAt}
+use Rattle.link.specs.Link.{Arrived, Damaged, Link, NumberKept, expected, roadOf}
+use Rattle.link.specs.Moments.{Ready, Unready, coming, nextAt}
+use Rattle.link.specs.Proofs.Transport.Times.{coming-is}
+use Rattle.link.specs.Road.{times}
+use Rattle.link.specs.Samples.Computing.{outcome}
+use Rattle.link.specs.Samples.Members.{came, client, history, linkOf, output, sent, unranked}
+use Rattle.link.specs.Samples.Met.{allowed, arrived, number-kept, once, only, spread-4}
+use Rattle.link.specs.Samples.Reports.{held, reportsWith}
+use Rattle.link.specs.Sending.{epochAt, epochNumber, nibblesIn}
+use Rattle.link.specs.Theorems.{demand3}
+
+-- Receiving begins in frame time 55. Port 1's packet of the epoch at index 3 is then half there: its MFI2 comes in frame times 56 and 57. Port 0's of the epoch at index 5 comes later: it stands in the first epoch that is reported, and rules the second.
+
+abbrev half : List ℕ
+half = 0xF8 ∷ 0xF9 ∷ 0x0A ∷ 0x0B ∷ 0x0C ∷ 0x0D ∷ 0x0E ∷ 0x0F ∷ 0xF0 ∷ 0xC1 ∷ 0x32 ∷ 0x13 ∷ 0x04 ∷ 0x05 ∷ 0x36 ∷ 0xE7 ∷ []
+
+abbrev half-hit : List ℕ
+half-hit = 0xF8 ∷ 0xF9 ∷ 0x0A ∷ 0x0B ∷ 0x0C ∷ 0x0D ∷ 0x0E ∷ 0x0F ∷ 0xE0 ∷ 0xD1 ∷ 0x32 ∷ 0x13 ∷ 0x04 ∷ 0x05 ∷ 0x36 ∷ 0xE7 ∷ []
+
+abbrev next : List ℕ
+next = 0xF8 ∷ 0xF9 ∷ 0x0A ∷ 0x0B ∷ 0x0C ∷ 0x0D ∷ 0x0E ∷ 0x1F ∷ 0xF0 ∷ 0xE1 ∷ 0x32 ∷ 0x13 ∷ 0x04 ∷ 0x05 ∷ 0xF6 ∷ 0xE7 ∷ []
+
+abbrev next-hit : List ℕ
+next-hit = 0xF8 ∷ 0xF9 ∷ 0x0A ∷ 0x0B ∷ 0x0C ∷ 0x0D ∷ 0x0E ∷ 0x1F ∷ 0xE0 ∷ 0xF1 ∷ 0x32 ∷ 0x13 ∷ 0x04 ∷ 0x05 ∷ 0xF6 ∷ 0xE7 ∷ []
+
+half-sent : sent 3 1 ≡ half
+unfolding outcome
+half-sent = refl
+
+next-sent : sent 5 0 ≡ next
+unfolding outcome
+next-sent = refl
+
+half-two : changed half half-hit ≡ 2
+unfolding outcome highsOf
+half-two = refl
+
+next-two : changed next next-hit ≡ 2
+unfolding outcome highsOf
+next-two = refl
+
+half-damage : Damaged 0 3 half half-hit
+unfolding frames nibblePlace
+half-damage =
+    record {
+      long = refl;
+      bytes = λ k b. ltb-true (getD half-hit k 0) 256 (below-at 16 (λ i. ltb (getD half-hit i 0) 256) refl k b);
+      least = omega (arith, half-two);
+      most = omega (arith, half-two);
+      placed = λ k b. eqb-true (nibblePlace 0 (getD half-hit k 0)) (nibblePlace 0 (getD half k 0)) (below-at 16 (λ i. eqb (nibblePlace 0 (getD half-hit i 0)) (nibblePlace 0 (getD half i 0))) refl k b);
+    }
+
+next-damage : Damaged 0 3 next next-hit
+unfolding frames nibblePlace
+next-damage =
+    record {
+      long = refl;
+      bytes = λ k b. ltb-true (getD next-hit k 0) 256 (below-at 16 (λ i. ltb (getD next-hit i 0) 256) refl k b);
+      least = omega (arith, next-two);
+      most = omega (arith, next-two);
+      placed = λ k b. eqb-true (nibblePlace 0 (getD next-hit k 0)) (nibblePlace 0 (getD next k 0)) (below-at 16 (λ i. eqb (nibblePlace 0 (getD next-hit i 0)) (nibblePlace 0 (getD next i 0))) refl k b);
+    }
+
+abbrev came-after : ℕ → ℕ → List ℕ
+came-after i p = cond (eqb i 3 && eqb p 1) half-hit (cond (eqb i 5 && eqb p 0) next-hit (came i p))
+
+abbrev after : Link
+after = linkOf came-after client 4 (λ t. eqb (t % 2) 0)
+
+arrived-after : (i p : ℕ) → Arrived 0 3 (sent i p) (came-after i p)
+arrived-after i p = go (eqb i 3 && eqb p 1) refl
+  where
+    other : (b : Bool) → (eqb i 5 && eqb p 0) ≡ b → Arrived 0 3 (sent i p) (cond b next-hit (came i p))
+    other true e = let hi = eqb-true i 5 (and-left (eqb i 5) (eqb p 0) e) in let hp = eqb-true p 0 (and-right (eqb i 5) (eqb p 0) e) in inr (rw (hi, hp, next-sent) next-damage)
+    other false e = arrived i p
+
+    go : (b : Bool) → (eqb i 3 && eqb p 1) ≡ b → Arrived 0 3 (sent i p) (cond b half-hit (cond (eqb i 5 && eqb p 0) next-hit (came i p)))
+    go true e = let hi = eqb-true i 3 (and-left (eqb i 3) (eqb p 1) e) in let hp = eqb-true p 1 (and-right (eqb i 3) (eqb p 1) e) in inr (rw (hi, hp, half-sent) half-damage)
+    go false e = other (eqb i 5 && eqb p 0) refl
+
+-- After frame time 55 all ports were ready.
+
+counts-0 : startFrom 0 (firstTag 0 249) 3 ≡ 8
+unfolding startFrom firstTag frames lead tags
+counts-0 = refl
+
+counts-1 : startFrom 0 (firstTag 0 249) 21 ≡ 24
+unfolding startFrom firstTag frames lead tags
+counts-1 = refl
+
+ready-then : Ready (roadOf after) (coming (roadOf after) 55 [])
+unfolding roadOf frames nextAt
+ready-then = record { stepped = stepped; near = near }
+  where
+    at-0 : coming (roadOf after) 55 [] 0 ≡ 52
+    at-0 = coming-is (roadOf after) 55 [] 0 (omega arith)
+
+    at-1 : coming (roadOf after) 55 [] 1 ≡ 56
+    at-1 = coming-is (roadOf after) 55 [] 1 (omega arith)
+
+    stepped : (q : ℕ) → q < 2 → startFrom 0 (firstTag 0 249) (after .first q) + 16 * 2 ≤ coming (roadOf after) 55 [] q
+    stepped zero h = rw (counts-0, at-0) (omega arith)
+    stepped (suc zero) h = rw (counts-1, at-1) (omega arith)
+    stepped (suc (suc q)) h = absurd (omega arith)
+
+    near : (p q : ℕ) → p < 2 → q < 2 → coming (roadOf after) 55 [] p + 16 ≤ coming (roadOf after) 55 [] q + 20
+    near zero zero hp hq = rw at-0 (omega arith)
+    near zero (suc zero) hp hq = rw (at-0, at-1) (omega arith)
+    near (suc zero) zero hp hq = rw (at-0, at-1) (omega arith)
+    near (suc zero) (suc zero) hp hq = rw at-1 (omega arith)
+    near (suc (suc p)) q hp hq = absurd (omega arith)
+    near zero (suc (suc q)) hp hq = absurd (omega arith)
+    near (suc zero) (suc (suc q)) hp hq = absurd (omega arith)
+
+later-not : (t : ℕ) (done : List ℕ) → 55 < t → Unready (roadOf after) t done → ⊥
+unfolding roadOf
+later-not t done late un = un 55 (1 ∷ 0 ∷ []) [] refl (inl late) ready-then
+
+spared-after : (t p : ℕ) (done : List ℕ) → Unready (roadOf after) t done → NumberKept after t p
+unfolding frames lead
+spared-after t p done un brings = go (eqb (epochAt 0 x) 3 && eqb p 1) refl
+  where
+    x : ℕ
+    x = t - cond (eqb p 0) 4 0
+
+    -- a frame that brings MFI2 of the epoch at index 3 or of a later one to a port
+    late : (i : ℕ) → 3 ≤ i → (t - cond (eqb p 0) 4 0) / 16 ≡ i → 55 < t
+    late i l e =
+        let low : 48 ≤ t - cond (eqb p 0) 4 0 = omega arith in
+        ⊎-elim (λ (b : (t - cond (eqb p 0) 4 0) % 16 ≡ 8). omega arith) (λ (b : (t - cond (eqb p 0) 4 0) % 16 ≡ 8 + 1). omega arith) brings
+
+    other : (b : Bool) → (eqb (epochAt 0 (t - cond (eqb p 0) 4 0)) 5 && eqb p 0) ≡ b
+        → nibbleIn 0 (getD (cond b next-hit (came (epochAt 0 (t - cond (eqb p 0) 4 0)) p)) ((t - cond (eqb p 0) 4 0) % 16) 0) ≡ nibbleIn 0 (getD (sent (epochAt 0 (t - cond (eqb p 0) 4 0)) p) ((t - cond (eqb p 0) 4 0) % 16) 0)
+    other true e = absurd (later-not t done (late 5 (omega arith) (eqb-true (epochAt 0 (t - cond (eqb p 0) 4 0)) 5 (and-left (eqb (epochAt 0 (t - cond (eqb p 0) 4 0)) 5) (eqb p 0) e))) un)
+    other false e = number-kept (epochAt 0 (t - cond (eqb p 0) 4 0)) p ((t - cond (eqb p 0) 4 0) % 16) brings
+
+    go : (b : Bool) → (eqb (epochAt 0 (t - cond (eqb p 0) 4 0)) 3 && eqb p 1) ≡ b
+        → nibbleIn 0 (getD (cond b half-hit (cond (eqb (epochAt 0 (t - cond (eqb p 0) 4 0)) 5 && eqb p 0) next-hit (came (epochAt 0 (t - cond (eqb p 0) 4 0)) p))) ((t - cond (eqb p 0) 4 0) % 16) 0)
+        ≡ nibbleIn 0 (getD (sent (epochAt 0 (t - cond (eqb p 0) 4 0)) p) ((t - cond (eqb p 0) 4 0) % 16) 0)
+    go true e = absurd (later-not t done (late 3 (omega arith) (eqb-true (epochAt 0 (t - cond (eqb p 0) 4 0)) 3 (and-left (eqb (epochAt 0 (t - cond (eqb p 0) 4 0)) 3) (eqb p 1) e))) un)
+    go false e = other (eqb (epochAt 0 (t - cond (eqb p 0) 4 0)) 5 && eqb p 0) refl
+
+-- It meets what demand 3 lets be so.
+met-after : Assumed after
+unfolding sized frames tags
+met-after =
+    record {
+      history = history;
+      allowed = allowed;
+      unranked = unranked;
+      unranked-long = λ x slot b. refl;
+      sends = refl;
+      all = refl;
+      paired = record { below = λ p h. omega arith; once = λ p q hp hq e. omega arith };
+      lines = record {
+        sizes = refl;
+        client = λ x. length-tabulate (xAt history (epochAt 0 x) * 1) (λ j. (x * 2 + j) % 256);
+        spread = spread-4;
+        once = λ t p h. once (eqb (t % 2) 0) p h;
+        only = λ t. only (eqb (t % 2) 0);
+        arrived = λ i p h. arrived-after i p;
+        spared = λ t p done rest h is-order come un. spared-after t p done un;
+        room = λ j. omega (arith, length-replicate {A = ℕ} 33 0xEE);
+        eight = λ a j. refl;
+      };
+    }
+
+holds-after : Demand3 after
+holds-after = demand3 after met-after
+
+-- Its run is the sample's but for the second report, which is held for the packet that rules it. No frame is answered otherwise than by 0 or 12.
+run-after : outcome after 180 ≡ record { begun = 1; told = reportsWith (held 255); strange = [] }
+unfolding outcome
+run-after = refl
+
+-- A wrong reading: an epoch held for the MFI2 of a packet of its own. The first epoch reported is ruled by packets that came as sent, so demand 3 wants it sure.
+wrong-mark : Link → ℕ → ℕ
+wrong-mark k i = cond (every 2 (λ p. ownNumber (epochNumber 0 249 i) (nibblesIn 0 (k .came i p)))) SURE HELD
+
+own-breaks : (wrong-mark after 5 ≡ HELD) × (expected after 4 output .mark ≡ SURE)
+unfolding outcome wrong-mark nibblesIn
+own-breaks = (refl, refl)
+
+-- Before it begins: the low nibble of MFI2 in port 1's packet of the epoch at index 2 comes in frame time 41.
+
+abbrev early : List ℕ
+early = 0xF8 ∷ 0xF9 ∷ 0x0A ∷ 0x0B ∷ 0x0C ∷ 0x0D ∷ 0x0E ∷ 0x0F ∷ 0xF0 ∷ 0xB1 ∷ 0x32 ∷ 0x13 ∷ 0x04 ∷ 0x05 ∷ 0x26 ∷ 0x87 ∷ []
+
+abbrev early-hit : List ℕ
+early-hit = 0xF8 ∷ 0xF9 ∷ 0x0A ∷ 0x0B ∷ 0x0C ∷ 0x0D ∷ 0x0E ∷ 0x0F ∷ 0xF0 ∷ 0xA1 ∷ 0x32 ∷ 0x13 ∷ 0x04 ∷ 0x05 ∷ 0x26 ∷ 0x87 ∷ []
+
+early-sent : sent 2 1 ≡ early
+unfolding outcome
+early-sent = refl
+
+abbrev came-before : ℕ → ℕ → List ℕ
+came-before i p = cond (eqb i 2 && eqb p 1) early-hit (came i p)
+
+abbrev before : Link
+before = linkOf came-before client 4 (λ t. eqb (t % 2) 0)
+
+unready-then : Unready (roadOf before) 41 []
+unfolding roadOf frames nextAt
+unready-then u earlier rest e na y =
+    let w : startFrom 0 (firstTag 0 249) 21 + 16 * 2 ≤ coming (roadOf before) u rest 1 = y .stepped 1 (omega arith) in
+    let at : coming (roadOf before) u rest 1 ≡ 21 + (u + 1 - times 1 rest - 21) = coming-is (roadOf before) u rest 1 (omega arith) in
+    let from = counts-1 in
+    ⊎-elim (λ (h : u < 41). absurd (omega arith)) (λ (h : (u ≡ 41) × (length earlier ≤ 0)). (let same = h .0 in absurd (omega arith))) na
+
+-- Of what demand 3 lets be so this alone lacks.
+not-spared : Assumed before → ⊥
+unfolding outcome
+not-spared a =
+    let e : NumberKept before 41 1 = a .lines .spared 41 1 [] (0 ∷ []) (omega arith) refl (omega arith) unready-then in
+    let same : _≡_ {A = ℕ} 10 11 = e (inr refl) in
+    absurd (omega arith)
+
+-- The count of port 1 starts anew, and 47 frames after the last port's first receiving has not begun.
+late-then : (outcome before 68 .begun ≡ 0) × (outcome before 87 .begun ≡ 0) × (outcome before 88 .begun ≡ 1)
+unfolding outcome
+late-then = (refl, refl, refl)

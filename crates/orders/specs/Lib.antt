@@ -1,0 +1,7 @@
+pub mod Folding
+pub mod Laws
+pub mod Orders
+pub mod Shown
+pub mod Singles
+pub mod Theorems
+mod Wrong

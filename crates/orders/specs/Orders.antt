@@ -1,0 +1,61 @@
+-- A whole work order at once (02, 2026-07): 'Take a list of commands, each a small record of kind, group and slot, and answer each in a lent list of numbers.'
+use mathlib.Core.Bool.{cond}
+use mathlib.Core.List.{List}
+use Prim.Native.Nat.{ℕ}
+use lib.Dec.{eqb, ltb}
+use lib.ListN.{length, set, take}
+use Rattle.circuits.specs.declared.answers.Answer.the-variants as A
+use Rattle.circuits.specs.declared.card.Card.{Card}
+use Rattle.circuits.specs.declared.card.CardOutcome.{CardOutcome}
+use Rattle.circuits.specs.Answers.{answerNumber}
+use Rattle.circuits.specs.Calls.{Call, stepOf}
+use Rattle.circuits.specs.Calls.Call.{AddSlot, Claim, Release, RemoveSlot}
+use Rattle.orders.specs.declared.commands.Command.{Command}
+use Rattle.orders.specs.declared.commands.Kind as K
+use Rattle.orders.specs.declared.lists.Ordered.{Ordered}
+use Rattle.orders.specs.Folding.{Folded, folded}
+
+-- a command as one of the card's own calls
+abbrev pub callBy : K.Kind → ℕ → Call
+callBy K.Kind.Add i = AddSlot i
+callBy K.Kind.Remove i = RemoveSlot i
+callBy K.Kind.Claim i = Claim i
+callBy K.Kind.Release i = Release i
+
+unfoldable pub stepBy : Card → Command → CardOutcome
+stepBy card c = stepOf card (c .group) (callBy (c .kind) (c .slot))
+
+abbrev pub numberBy : Card → Command → ℕ
+numberBy card c = answerNumber (stepBy card c .answer)
+
+-- the number of command i in its place
+abbrev pub storedBy : Card → Command → ℕ → List ℕ → List ℕ
+storedBy card c i ys = set ys i (numberBy card c)
+
+abbrev pub cardBy : Card → Command → Card
+cardBy card c = stepBy card c .card
+
+-- 'State and answers equal those of calling one by one in that order, refusals included. A list of no commands changes nothing.'
+abbrev pub ordersOf : Card → List Command → Folded Card
+ordersOf card cs = folded cardBy numberBy card cs
+
+-- 'answers list of a different length than the commands is 9, and nothing is done'
+abbrev pub orderedOf : Card → List Command → ℕ → Ordered
+orderedOf card cs k = cond (eqb (length cs) k) (record { card = ordersOf card cs .state; answer = A.Done }) (record { card = card; answer = A.Length })
+
+abbrev pub answersOf : Card → List Command → List ℕ → List ℕ
+answersOf card cs ys = cond (eqb (length cs) (length ys)) (ordersOf card cs .numbers) ys
+
+-- the parts of the code: how many turns its loop has, and what it ends with
+abbrev pub turnsOf : ℕ → ℕ → ℕ
+turnsOf m k = cond (eqb m k) m 0
+
+abbrev pub finishOf : Card → ℕ → ℕ → Ordered
+finishOf card m k = cond (eqb m k) (record { card = card; answer = A.Done }) (record { card = card; answer = A.Length })
+
+-- the first n of an array of 64; where n is more than there are, 9
+abbrev pub firstOrdered : Card → List Command → ℕ → ℕ → Ordered
+firstOrdered card cs n k = cond (ltb 64 n) (record { card = card; answer = A.Length }) (orderedOf card (take n cs) k)
+
+abbrev pub firstAnswers : Card → List Command → ℕ → List ℕ → List ℕ
+firstAnswers card cs n ys = cond (ltb 64 n) ys (answersOf card (take n cs) ys)

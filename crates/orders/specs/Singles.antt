@@ -1,0 +1,45 @@
+-- The commands of an order as single calls of the card, and what one group has of an order: what the theorems speak of.
+use mathlib.Core.Bool.{cond}
+use mathlib.Core.List.{List, [], _∷_}
+use Prim.Native.Nat.{ℕ}
+use lib.Dec.{eqb}
+use lib.ListN.{getD, length, take}
+use Rattle.ground.specs.Table.{tabulate}
+use Rattle.circuits.specs.declared.card.Card.{Card}
+use Rattle.circuits.specs.Answers.{answerNumber}
+use Rattle.circuits.specs.Calls.{stepOf}
+use Rattle.circuits.specs.Views.{Made, run}
+use Rattle.circuits.specs.Views.Asked.{Do}
+use Rattle.orders.specs.declared.commands.Command.{Command}
+use Rattle.orders.specs.declared.commands.Kind.the-variants.{Add}
+use Rattle.orders.specs.Orders.{callBy}
+
+-- the call that its caller would make alone
+abbrev pub singleOf : Command → Made
+singleOf c = record { group = c .group; asked = Do (callBy (c .kind) (c .slot)) }
+
+abbrev pub singlesOf : List Command → List Made
+singlesOf [] = []
+singlesOf (c ∷ cs) = singleOf c ∷ singlesOf cs
+
+-- what stands in place of a command that is not there
+abbrev pub noCommand : Command
+noCommand = record { kind = Add; group = 0; slot = 0 }
+
+-- the number that a single call is answered
+abbrev pub singleNumber : Card → Command → ℕ
+singleNumber card c = answerNumber (stepOf card (c .group) (callBy (c .kind) (c .slot)) .answer)
+
+-- what the single calls are answered, each on the card that those before it left
+abbrev pub singleNumbers : Card → List Command → List ℕ
+singleNumbers card cs = tabulate (length cs) (λ i. singleNumber (run card (singlesOf (take i cs))) (getD cs i noCommand))
+
+-- of a list of commands: those of group g, and the answers to them, in their order
+abbrev pub commandsOf : ℕ → List Command → List Command
+commandsOf g [] = []
+commandsOf g (c ∷ cs) = cond (eqb (c .group) g) (c ∷ commandsOf g cs) (commandsOf g cs)
+
+abbrev pub answersTo : ℕ → List Command → List ℕ → List ℕ
+answersTo g [] ns = []
+answersTo g (c ∷ cs) [] = []
+answersTo g (c ∷ cs) (n ∷ ns) = cond (eqb (c .group) g) (n ∷ answersTo g cs ns) (answersTo g cs ns)

@@ -1,0 +1,52 @@
+use mathlib.Core.Path.{refl}
+use Rattle.step.specs.Own.{endsOdd}
+use borrow.Author.Needs.{needs}
+use Rattle.step.proofs.own.is_odd.Statement.{statement}
+use Rattle.step.proofs.own.is_odd.Tie as tie
+use Rattle.step.proofs.own.is_odd.Reads as reads
+use Rattle.step.proofs.own.is_odd.Lts as lts
+use Rattle.packet.proofs.counts.nibble_in.Reads as nibble-in-reads
+use Rattle.packet.proofs.kinds.epoch_of.Reads as epoch-of-reads
+use Rattle.packet.proofs.kinds.place_of.Reads as place-of-reads
+use Rattle.step.proofs.own.is_odd_packet.Reads as is-odd-packet-reads
+use Rattle.step.proofs.own.with_nibble.Reads as with-nibble-reads
+use Rattle.step.proofs.run.ends_packet.Reads as ends-packet-reads
+
+ends-packet-requires : tie.Need-ends-packet-requires
+ends-packet-requires c κs = search needs
+
+place-of-requires : tie.Need-place-of-requires
+place-of-requires c κs = search needs
+
+nibble-in-requires : tie.Need-nibble-in-requires
+nibble-in-requires c κs = search needs
+
+with-nibble-requires : tie.Need-with-nibble-requires
+with-nibble-requires c κs = search needs
+
+epoch-of-requires : tie.Need-epoch-of-requires
+epoch-of-requires c κs = search needs
+
+is-odd-packet-requires : tie.Need-is-odd-packet-requires
+is-odd-packet-requires c κs = search needs
+
+returns : tie.Need-returns
+unfolding endsOdd
+returns c = rw (← c .before .before .before .before .before .before .ends-packet .ensures, c .before .before .before .before .before .if1 .taken, ← c .before .before .before .before .place-of .ensures, ← c .before .before .before .nibble-in .ensures, ← c .before .before .with-nibble .ensures, ← c .before .epoch-of .ensures) (c .is-odd-packet .ensures)
+
+returns-2 : tie.Need-returns-2
+unfolding endsOdd
+returns-2 c = rw (← c .before .ends-packet .ensures, c .if1 .left) refl
+
+pub is-odd-spec : {M : Type 1} → statement M
+is-odd-spec =
+    tie.close
+    (tie.spec
+    ends-packet-requires
+    place-of-requires
+    nibble-in-requires
+    with-nibble-requires
+    epoch-of-requires
+    is-odd-packet-requires
+    returns
+    returns-2)

@@ -1,0 +1,28 @@
+use mathlib.Core.Path.{refl}
+use Rattle.packet.specs.Layout.{fieldsOf}
+use Rattle.step.specs.Own.{ownNumber}
+use borrow.Author.Needs.{needs}
+use Rattle.step.proofs.own.is_own.Statement.{statement}
+use Rattle.step.proofs.own.is_own.Tie as tie
+use Rattle.step.proofs.own.is_own.Reads as reads
+use Rattle.step.proofs.own.is_own.Lts as lts
+
+array-read-result : tie.Need-array-read-result
+array-read-result c = search needs
+
+mul-result : tie.Need-mul-result
+mul-result c = search needs
+
+array-read-result-2 : tie.Need-array-read-result-2
+array-read-result-2 c = search needs
+
+add-result : tie.Need-add-result
+add-result c = search needs
+
+returns : tie.Need-returns
+unfolding ownNumber fieldsOf
+returns c = refl
+
+pub is-own-spec : {M : Type 1} → statement M
+is-own-spec =
+    tie.close (tie.spec array-read-result mul-result array-read-result-2 add-result returns)

@@ -1,0 +1,26 @@
+use mathlib.Core.Path.{refl}
+use Rattle.step.specs.Run.{oddAfter}
+use borrow.Author.Needs.{needs}
+use Rattle.step.proofs.run.odd_after.Statement.{statement}
+use Rattle.step.proofs.run.odd_after.Tie as tie
+use Rattle.step.proofs.run.odd_after.Reads as reads
+use Rattle.step.proofs.run.odd_after.Lts as lts
+use Rattle.step.proofs.run.ends_packet.Reads as ends-packet-reads
+
+ends-packet-requires : tie.Need-ends-packet-requires
+ends-packet-requires c κs = search needs
+
+returns : tie.Need-returns
+unfolding oddAfter
+returns c = rw (← c .before .before .ends-packet .ensures, c .before .if1 .taken, c .if2 .taken) refl
+
+returns-2 : tie.Need-returns-2
+unfolding oddAfter
+returns-2 c = rw (← c .before .before .ends-packet .ensures, c .before .if1 .taken, c .if2 .left) refl
+
+returns-3 : tie.Need-returns-3
+unfolding oddAfter
+returns-3 c = rw (← c .before .ends-packet .ensures, c .if1 .left) refl
+
+pub odd-after-spec : {M : Type 1} → statement M
+odd-after-spec = tie.close (tie.spec ends-packet-requires returns returns-2 returns-3)

@@ -1,0 +1,64 @@
+// A packet by the receiver's own count (request 2026-04).
+use crate::run;
+use packet::Ruling;
+use packet::counts;
+use packet::kinds;
+ghost use mathlib.Core.Path.{_≡_};
+ghost use lib.ListN.{set};
+ghost use Rattle.step.specs.Own.{endsOdd, oddPacket, ownNumber, ownRuling};
+
+// Whether MFI2, in the ninth and tenth nibble, is the number of the packet's epoch.
+fn is_own(epoch: u8, nibbles: [u8; 16]) -> bool
+    ensures { λ r. ⌜ r ≡ ownNumber epoch nibbles ⌝ }
+{
+    nibbles[8] % 16 * 16 + nibbles[9] % 16 == epoch
+}
+
+// The packet of an epoch read for what it rules; one with another MFI2 is refused.
+pub fn ruling_of(kind: u8, epoch: u8, nibbles: [u8; 16]) -> Ruling
+    ensures { λ r. ⌜ r ≡ ownRuling kind epoch nibbles ⌝ }
+{
+    if is_own(epoch, nibbles) {
+        return packet::ruling_of(kind, epoch, nibbles);
+    }
+    Ruling {
+        good: false,
+        word: 0,
+        number: 0,
+        gid: 0,
+    }
+}
+
+// A right CRC, and another MFI2.
+fn is_odd_packet(epoch: u8, nibbles: [u8; 16]) -> bool
+    ensures { λ r. ⌜ r ≡ oddPacket epoch nibbles ⌝ }
+{
+    let reading = packet::read_nibbles(nibbles);
+    let answer = reading.number();
+    let own = is_own(epoch, nibbles);
+    !(answer == 5) & !own
+}
+
+fn with_nibble(row: [u8; 16], place: u8, nibble: u8) -> [u8; 16]
+    ensures { λ r. ⌜ r ≡ set row place nibble ⌝ }
+{
+    let mut nibbles = row;
+    if place < 16 {
+        nibbles[place as usize] = nibble;
+    }
+    nibbles
+}
+
+// Whether the frame with this tag ends an odd packet: the one being gathered, with the frame's nibble put in.
+pub fn is_odd(kind: u8, gathering: [u8; 16], tag: u16, h4: u8) -> bool
+    ensures { λ r. ⌜ r ≡ endsOdd kind gathering tag h4 ⌝ }
+{
+    if run::ends_packet(kind, tag) {
+        let place = kinds::place_of(kind, tag);
+        let nibble = counts::nibble_in(kind, h4);
+        let nibbles = with_nibble(gathering, place, nibble);
+        let epoch = kinds::epoch_of(kind, tag);
+        return is_odd_packet(epoch, nibbles);
+    }
+    false
+}

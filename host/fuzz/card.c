@@ -1,0 +1,117 @@
+/* Any calls of a card with two circuits, by libFuzzer. */
+#define _DEFAULT_SOURCE /* for mmap's MAP_ANONYMOUS */
+#include <levelspruce.h>
+
+#include "rooms.h"
+
+enum { CLAIM, RELEASE, ADD, REMOVE, REPORT, LAPSE, EPOCH, PACKET, MEMBER, BOARD, GOING, RANKS, OWNED, CALLS };
+enum { ROW = LEVELSPRUCE_OWNED_BYTES, PART = LEVELSPRUCE_SENDER_BYTES };
+
+/* The answers of each call, a bit for each number. */
+static const unsigned answers[CALLS] = { 0x4203, 0xC203, 0x420F, 0x420F, 0x303, 0x207, 0x303, 0x4307, 0x4217, 0x203, 0x203, 0x203, 0x203 };
+static const size_t results[CALLS] = { [PACKET] = LEVELSPRUCE_PACKET_BYTES, [BOARD] = LEVELSPRUCE_BOARD_BYTES, [GOING] = LEVELSPRUCE_BOARD_BYTES,
+                                       [RANKS] = LEVELSPRUCE_RANKS_BYTES, [OWNED] = LEVELSPRUCE_OWNED_BYTES };
+
+/* What libFuzzer takes for new, since it cannot see into the archive: answers by call. */
+__attribute__((section("__libfuzzer_extra_counters"))) static uint8_t counters[CALLS * 16];
+
+static uint8_t make(int which, uint32_t g, const uint32_t *n, struct block s, struct block f, struct block o)
+{
+    switch (which) {
+    case CLAIM: return levelspruce_card_claim(s.bytes, s.length, g, n[0]);
+    case RELEASE: return levelspruce_card_release(s.bytes, s.length, g, n[0]);
+    case ADD: return levelspruce_card_add(s.bytes, s.length, g, n[0]);
+    case REMOVE: return levelspruce_card_remove(s.bytes, s.length, g, n[0]);
+    case REPORT: return levelspruce_card_report(s.bytes, s.length, g, n[0], n[1], n[2]);
+    case LAPSE: return levelspruce_card_lapse(s.bytes, s.length, g);
+    case EPOCH: return levelspruce_card_start_epoch(s.bytes, s.length, g, n[0], n[1], n[2]);
+    case PACKET: return levelspruce_card_packet(s.bytes, s.length, g, n[0], o.bytes, o.length);
+    case MEMBER: return levelspruce_card_payload(s.bytes, s.length, g, n[0], n[1], f.bytes, f.length, o.bytes, o.length);
+    case BOARD: return levelspruce_card_board(s.bytes, s.length, g, o.bytes, o.length);
+    case GOING: return levelspruce_card_board_going(s.bytes, s.length, g, o.bytes, o.length);
+    case RANKS: return levelspruce_card_ranks(s.bytes, s.length, g, o.bytes, o.length);
+    default: return levelspruce_card_owned(s.bytes, s.length, g, o.bytes, o.length);
+    }
+}
+
+/* X of the group's epoch, as its ranks have it. */
+static size_t x_of(struct kept card, uint32_t g)
+{
+    uint8_t ranks[LEVELSPRUCE_RANKS_BYTES];
+
+    return levelspruce_card_ranks(card.bytes, card.length, g, ranks, sizeof ranks) == LEVELSPRUCE_ANSWER_DONE ? ranks[LEVELSPRUCE_RANKS_X] : 0;
+}
+
+static void any_call(struct kept card, struct program *p, int which)
+{
+    static const struct kept nothing;
+    uint32_t g = byte_of(p) % 16 == 15 ? number_of(p) : byte_of(p) % LEVELSPRUCE_GROUPS, n[3];
+    struct block state, frame, out;
+    uint8_t answer;
+    size_t small;
+
+    n[0] = number_of(p);
+    n[1] = which == MEMBER || which == REPORT || which == EPOCH ? number_of(p) : 0;
+    n[2] = which == REPORT || which == EPOCH ? number_of(p) : 0;
+    small = n[1] < 64 ? n[1] : 1;
+    state = lend(STATE, card, about(p, card.length));
+    frame = lend(PAYLOAD, nothing, which == MEMBER ? about(p, x_of(card, g) * small) : 0);
+    out = lend(RESULT, nothing, about(p, which == MEMBER ? small : results[which]));
+    answer = make(which, g, n, state, frame, out);
+    if (answer > 15 || !(answers[which] >> answer & 1))
+        fail("an answer that the call does not have");
+    if (state.length != LEVELSPRUCE_CARD_BYTES ? answer != 9 : g >= LEVELSPRUCE_GROUPS ? answer != 1 : 0)
+        fail("9 and 1 do not come first");
+    stands(frame, 0, "a group frame changed");
+    stands(out, answer == 0 ? out.length : 0, "a refused reading was written");
+    stands(state, answer == 0 && which < PACKET ? state.length : 0, "a refusal or a reading changed the state");
+    if (answer == 0 && memcmp(state.bytes + ROW + (1 - g) * PART, before[STATE] + ROW + (1 - g) * PART, PART) != 0)
+        fail("a call changed the other group's part");
+    put_back(card, state);
+    counters[which * 16 + answer] = 1;
+}
+
+static void start(struct kept card, struct program *p)
+{
+    uint32_t count = number_of(p), first = number_of(p), second = number_of(p);
+    struct block state = lend(STATE, card, about(p, card.length));
+    uint8_t answer = levelspruce_card_start(count, first, second, state.bytes, state.length);
+    int right = state.length == LEVELSPRUCE_CARD_BYTES;
+
+    if (answer != (count < 1 || count > 64 ? 4 : !right ? 9 : first > 255 || second > 255 ? 8 : 0))
+        fail("start answers another number than the first that fits");
+    stands(state, right && (answer == 0 || answer == 4) ? state.length : 0, "start changed what it must leave");
+    put_back(card, state);
+}
+
+/* Some bytes of the state become any. */
+static void damage(struct kept card, struct program *p)
+{
+    uint32_t at = number_of(p) * 4, i, n = byte_of(p) % 16;
+
+    for (i = 0; i <= n; i++)
+        card.bytes[(at + i) % card.length] = (uint8_t)byte_of(p);
+}
+
+int LLVMFuzzerTestOneInput(const uint8_t *data, size_t size)
+{
+    struct program p = { data, data + size };
+    struct kept card = keep(LEVELSPRUCE_CARD_BYTES);
+
+    open_rooms();
+    turn = 0;
+    while (p.at < p.end) {
+        uint32_t which = byte_of(&p) % (CALLS + 3);
+
+        if (which < CALLS)
+            any_call(card, &p, (int)which);
+        else if (which == CALLS)
+            start(card, &p);
+        else if (which == CALLS + 1)
+            damage(card, &p);
+        else
+            fill(card.bytes, card.length, byte_of(&p));
+    }
+    free(card.bytes);
+    return 0;
+}
