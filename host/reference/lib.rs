@@ -6,6 +6,7 @@ pub mod packet;
 pub mod paths;
 pub mod payload;
 pub mod receiver;
+pub mod replay;
 pub mod sender;
 pub mod session;
 pub mod spoken;

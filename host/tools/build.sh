@@ -100,6 +100,11 @@ build_sessions() {
     build_reference && rustc --edition 2021 -O host/sessions/main.rs --extern reference=target/host/libreference.rlib -o target/host/sessions
 }
 
+# build_replays: the program that holds the replay program to the reference and to the example link.
+build_replays() {
+    build_reference && rustc --edition 2021 -O host/replays/main.rs --extern reference=target/host/libreference.rlib -o target/host/replays
+}
+
 # build_differential: the program that holds the proved code to the reference.
 build_differential() {
     build_reference &&

@@ -8,6 +8,7 @@ pub mod Joining
 pub mod Orders
 pub mod OwnCount
 pub mod Refusals
+pub mod Replays
 pub mod Rows
 pub mod SameBytes
 pub mod Waiting

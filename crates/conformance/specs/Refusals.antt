@@ -8,6 +8,7 @@ pub mod Packets
 pub mod Paths
 pub mod Payloads
 pub mod Receivers
+pub mod Replays
 pub mod Senders
 pub mod Spoken
 pub mod Tables
@@ -22,6 +23,7 @@ use Packets as packet
 use Paths as paths
 use Payloads as payload
 use Receivers as receiver
+use Replays as replay
 use Senders as state
 use Spoken as spoken
 use Tables as table
@@ -80,6 +82,7 @@ entries =
     ∷ row "receiver::fetch" receiver.fetch receiver.fetch-copes
     ∷ row "receiver::ports" receiver.ports receiver.ports-copes
     ∷ row "receiver::reply" receiver.reply receiver.reply-copes
+    ∷ row "replaying::turn" replay.turn replay.turn-copes
     ∷ row "levelspruce_packet_write" packet.writeC packet.writeC-copes
     ∷ row "levelspruce_packet_read" packet.readC packet.readC-copes
     ∷ row "levelspruce_spread" payload.spreadC payload.spread-copes

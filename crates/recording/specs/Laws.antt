@@ -1,3 +1,4 @@
 -- Laws on the definitions, for the proofs above them.
+pub mod Here
 pub mod Lines
 pub mod Parting

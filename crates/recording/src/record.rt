@@ -3,10 +3,12 @@ use crate::line;
 use crate::line::Found;
 use text::Number;
 ghost use mathlib.Core.Path.{_≡_};
+ghost use mathlib.Core.Bool.{true};
 ghost use mathlib.Core.List.{_∷_};
 ghost use Prim.Native.Nat.{_+_, _≤_, _<_};
 ghost use lib.ListN.{drop, length};
 ghost use lib.Seq.{slice};
+ghost use Rattle.recording.specs.Laws.Here.{frameBehind, isFrame, partedAt};
 ghost use Rattle.recording.specs.Record.{flagIn, frameBy, lastRecord, lineRecord, recordBy, recordIn};
 ghost use Rattle.text.specs.Text.{fieldsOf};
 
@@ -24,6 +26,8 @@ pub enum Record {
 }
 
 const TAB: u8 = b'\t';
+
+const LINE_END: u8 = b'\n';
 
 // The flag; 2 for what is none.
 fn flag_in(text: &[u8], at: usize, limit: usize) -> u8
@@ -125,8 +129,65 @@ fn line_record(text: &[u8], at: usize, end: usize, next: usize, ports: u32, size
     short_record(text, at, end, next, ports, size)
 }
 
-// What stands at a place of a text, for a group of so many ports and bytes a frame.
-pub fn record_in(text: &[u8], at: usize, ports: u32, size: u32) -> Record
+// Whether the tabs behind port, H4 and flag of a frame's line are there, and its end.
+fn is_parted(text: &[u8], first: usize, end: usize) -> bool
+    requires { ⌜ (first + 6 ≤ end) × (end < length (now text)) ⌝ }
+    ensures { λ r. ⌜ r ≡ partedAt first end (now (text .entry)) ⌝ }
+{
+    (text[first] == TAB)
+        & (text[first + 3] == TAB)
+        & (text[first + 5] == TAB)
+        & (text[end] == LINE_END)
+}
+
+// A line whose port ends at `first`, its other fields taken from where a frame's line has them.
+fn frame_behind(text: &[u8], at: usize, first: usize, end: usize, ports: u32, size: u32) -> Record
+    requires { ⌜ (first + 6 ≤ end) × (end < length (now text)) ⌝ }
+    ensures { λ r. ⌜ r ≡ frameBehind ports size at first end (now (text .entry)) ⌝ }
+{
+    let port = text::read_number(text, at, first, 9);
+    let h4 = text::read_hex(text, first + 1, first + 3, 2);
+    let flag = flag_in(text, first + 4, first + 5);
+    let digits = digits_of(size);
+    let payload = text::is_hex(text, first + 6, end, digits);
+    frame_by(ports, port, h4, flag, payload, first + 6, end + 1)
+}
+
+// A frame's line is as long as its port and P say: it is read without a search for its end. Any other line is no frame here.
+fn frame_here(text: &[u8], at: usize, ports: u32, size: u32) -> Record
+    ensures { λ r. ⌜ (isFrame r ≡ true → r ≡ recordIn ports size at (drop at (now (text .entry)))) ⌝ }
+{
+    if text.len() <= at {
+        return Record::End;
+    }
+    let first = text::piece_end(text, at, at + 10, TAB);
+    let end = first + 6 + digits_of(size);
+    if text.len() <= end {
+        return Record::End;
+    }
+    if 8192 < end - at {
+        return Record::End;
+    }
+    if is_parted(text, first, end) {
+        return frame_behind(text, at, first, end, ports, size);
+    }
+    Record::End
+}
+
+fn is_frame(found: Record) -> bool
+    ensures { λ r. ⌜ r ≡ isFrame found ⌝ }
+{
+    match found {
+        Record::Frame(_, _, _, _, _) => true,
+        Record::Malformed(_) => false,
+        Record::Long => false,
+        Record::Unfinished => false,
+        Record::End => false,
+    }
+}
+
+// Any line.
+fn any_record(text: &[u8], at: usize, ports: u32, size: u32) -> Record
     ensures { λ r. ⌜ r ≡ recordIn ports size at (drop at (now (text .entry))) ⌝ }
 {
     let found = line::find(text, at);
@@ -136,6 +197,17 @@ pub fn record_in(text: &[u8], at: usize, ports: u32, size: u32) -> Record
         Found::TooLong => Record::Long,
         Found::Ends(end) => line_record(text, at, end, end + 1, ports, size),
     }
+}
+
+// What stands at a place of a text, for a group of so many ports and bytes a frame.
+pub fn record_in(text: &[u8], at: usize, ports: u32, size: u32) -> Record
+    ensures { λ r. ⌜ r ≡ recordIn ports size at (drop at (now (text .entry))) ⌝ }
+{
+    let here = frame_here(text, at, ports, size);
+    if is_frame(here) {
+        return here;
+    }
+    any_record(text, at, ports, size)
 }
 
 // The same where the rest of the text is a line that lacks its end.

@@ -26,13 +26,13 @@ fn take_turn(
     rows: &mut [[u8; 16]],
     store: &mut [u8],
     out: &mut [u8],
+    said: &mut [u8],
 ) -> Done
     ensures { λ r. ⌜ r .used ≤ length (now (text .entry)) ⌝ }
 {
-    let mut said = [0u8; 1160];
-    let turn = replaying::turn(replay, text, last, rows, store, out, &mut said);
+    let turn = replaying::turn(replay, text, last, rows, store, out, said);
     let after = turn.replay;
-    let written = at_most(turn.written, 1160);
+    let written = at_most(turn.written, said.len());
     let wrote = io::write_all(STDOUT_FILENO, &said[..written]);
     Done {
         replay: after,
@@ -53,12 +53,13 @@ fn run_text(
 ) -> Done
     ensures { λ r. ⌜ r .used ≤ length (now (text .entry)) ⌝ }
 {
+    let mut said = io::buffer();
     let mut now = replay;
     let mut at = 0;
     let mut goes_on = true;
     let mut turns = u64::MAX;
     while goes_on & (turns > 0) {
-        let turn = take_turn(now, &text[at..], last, rows, store, out);
+        let turn = take_turn(now, &text[at..], last, rows, store, out, &mut said);
         let next = turn.replay;
         now = next;
         at += turn.used;

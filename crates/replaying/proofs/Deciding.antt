@@ -74,13 +74,17 @@ module _ (r : Replay) (p : Phase) (e : r .phase ≡ p) (text : List ℕ) (last :
   said-is said x h = h ∙ ap (λ (q : Phase). turnSaidBy q r text last rows store out said) (sym e)
 
 -- digits behind a text's end stand for nothing
-pub payload-past : (size place : ℕ) (text : List ℕ) → length text < place → replicate size 0 ≡ payloadAt size place text
-unfolding payloadAt bytesIn isHex
-payload-past size place text h = go size (drop-of-length-le (take (place + size + size) text) {i = place} (let m = lib.ListN.length-take (place + size + size) text in omega arith))
+pub bytes-past : (place : ℕ) (text payload : List ℕ) → length text < place → payload ≡ bytesIn (slice place (place + length payload + length payload) text) payload
+unfolding bytesIn isHex
+bytes-past place text payload h =
+    go payload (drop-of-length-le (take (place + length payload + length payload) text) {i = place} (let m = lib.ListN.length-take (place + length payload + length payload) text in omega arith))
   where
-    go : (n : ℕ) → slice place (place + size + size) text ≡ [] → replicate n 0 ≡ cond (lib.Dec.eqb (length (slice place (place + size + size) text)) (2 * length {A = ℕ} (replicate n 0)) && areDigits 16 (slice place (place + size + size) text)) (bytesOf (slice place (place + size + size) text)) (replicate n 0)
-    go Prim.Native.Nat.zero e = rw e
-    go (Prim.Native.Nat.suc n) e = rw (e, borrow.Author.Tests.ne-eqb 0 (2 * length {A = ℕ} (replicate (Prim.Native.Nat.suc n) 0)) (λ z. omega arith))
+    go : (p : List ℕ) → slice place (place + length payload + length payload) text ≡ []
+        → p
+        ≡ cond (lib.Dec.eqb (length (slice place (place + length payload + length payload) text)) (2 * length p) && areDigits 16 (slice place (place + length payload + length payload) text))
+        (bytesOf (slice place (place + length payload + length payload) text)) p
+    go [] e = rw e
+    go (b ∷ p) e = rw (e, borrow.Author.Tests.ne-eqb 0 (2 * Prim.Native.Nat.suc (length p)) (λ z. omega arith))
 
 -- the payload has as many bytes as are asked for
 length-bytes : (n : ℕ) (l : List ℕ) → length l ≡ 2 * n → length (bytesOf l) ≡ n
@@ -103,25 +107,38 @@ pub length-payload : (size place : ℕ) (text : List ℕ) → length (payloadAt 
 unfolding payloadAt
 length-payload size place text = length-in (slice place (place + size + size) text) (replicate size 0) ∙ length-replicate size 0
 
-pub payload-front : (size place : ℕ) (text payload : List ℕ) → payload ≡ payloadAt size place text ++ drop size (replicate 2340 0) → take size payload ≡ payloadAt size place text
-payload-front size place text payload e = rw e (lib.Seq.take-at (payloadAt size place text) (drop size (replicate 2340 0)) size (length-payload size place text))
-
 -- zeros
 front-zeros : (n m : ℕ) → n ≤ m → _≡_ {A = List ℕ} (take n (replicate m 0)) (replicate n 0)
 front-zeros Prim.Native.Nat.zero m h = refl
 front-zeros (Prim.Native.Nat.suc n) Prim.Native.Nat.zero h = absurd (omega arith)
 front-zeros (Prim.Native.Nat.suc n) (Prim.Native.Nat.suc m) h = ap (λ (l : List ℕ). 0 ∷ l) (front-zeros n m (omega arith))
 
-module _ (size place : ℕ) (text : List ℕ) (h : size ≤ 2340) where
-  pub payload-read : (part : List ℕ) → part ≡ bytesIn (slice place (place + size + size) text) (take size (replicate 2340 0)) → part ≡ payloadAt size place text
-  unfolding payloadAt
-  payload-read part e = e ∙ ap (bytesIn (slice place (place + size + size) text)) (front-zeros size 2340 h)
+-- the payload read into the front of zeros
+module _ (size : ℕ) (h : size ≤ 2340) (zeros : List ℕ) (z : zeros ≡ replicate 2340 0) where
+  front : take size zeros ≡ replicate size 0
+  front = rw z (front-zeros size 2340 h)
 
-  pub payload-none : length text < place → _≡_ {A = List ℕ} (replicate 2340 0) (payloadAt size place text ++ drop size (replicate 2340 0))
-  payload-none k =
-      let zs : List ℕ = replicate 2340 0 in
-      let z : take size zs ≡ replicate size 0 = front-zeros size 2340 h in
-      rw (← payload-past size place text k, ← z) (sym (take-append-drop size zs))
+  pub front-there : size ≡ length (take size zeros)
+  front-there = rw front (sym (length-replicate size 0))
 
-  pub zeros-there : size ≡ length {A = ℕ} (take size (replicate 2340 0))
-  zeros-there = let l = length-replicate {A = ℕ} size 0 in rw (front-zeros size 2340 h) (sym l)
+  pub front-short : length (take size zeros) ≤ 2340
+  front-short = rw (← front-there) h
+
+  module _ (place : ℕ) (text payload : List ℕ) (e : payload ≡ bytesIn (slice place (place + length (take size zeros) + length (take size zeros)) text) (take size zeros)) where
+    pub payload-is : payload ≡ payloadAt size place text
+    unfolding payloadAt
+    payload-is =
+        let n : length (take size zeros) ≡ size = sym front-there in
+        rw (n, front) at e
+
+    payload-length : length payload ≡ size
+    payload-length = ap length payload-is ∙ length-payload size place text
+
+    pub part-there : (rest : List ℕ) → size ≤ length (payload ++ rest)
+    part-there rest = let a = lib.ListN.length-append payload rest in let b = payload-length in omega arith
+
+    pub part-is : (rest : List ℕ) → take size (payload ++ rest) ≡ payloadAt size place text
+    part-is rest = lib.Seq.take-at payload rest size payload-length ∙ payload-is
+
+    pub part-length : (rest : List ℕ) → size ≡ length (take size (payload ++ rest))
+    part-length rest = sym (ap length (part-is rest) ∙ length-payload size place text)

@@ -10,6 +10,7 @@ use lib.Seq.{sets-eq}
 use borrow.Author.Tests.{eq-eqb, ne-eqb}
 use Rattle.replaying.specs.Output.{ROOM, answerText, changeText, changesText, countIn, epochText, markText, portText, reportText, stateLine, stateText}
 use Rattle.replaying.specs.Turn.{over}
+use Rattle.text.specs.Laws.Lengths.{decimal-le, small-le}
 use Rattle.text.specs.Laws.Putting.{is-put, put-then, room, shorter}
 use Rattle.text.specs.Output.{Put, decimalText, digitsBefore, ended, numberText, putBytes, putNext}
 use Rattle.text.specs.Text.{TAB}
@@ -53,14 +54,6 @@ state-ok s a b = rw (ne-eqb s 0 a, ne-eqb s 1 b)
 either-le : (b : Bool) (x y : List ℕ) (n : ℕ) → length x ≤ n → length y ≤ n → length (cond b x y) ≤ n
 either-le true x y n h k = h
 either-le false x y n h k = k
-
-decimal-le : (n : ℕ) → length (decimalText n) ≤ 3
-unfolding decimalText
-decimal-le n = either-le (ltb n 10) _ _ 3 (omega arith) (either-le (ltb n 100) _ _ 3 (omega arith) (omega arith))
-
-small-le : (n : ℕ) → n < 100 → length (decimalText n) ≤ 2
-unfolding decimalText
-small-le n h = rw (borrow.Author.Tests.lt-ltb n 100 h) (either-le (ltb n 10) _ _ 2 (omega arith) (omega arith))
 
 before-le : (most n : ℕ) (text : List ℕ) → length (digitsBefore most n text) ≤ most + length text
 before-le zero n text = omega arith

@@ -15,7 +15,7 @@ use Rattle.replaying.specs.declared.replay.Replay.{Replay}
 use Rattle.replaying.specs.declared.turns.Replayed.{Replayed}
 use Rattle.replaying.specs.Output.{answerText}
 use Rattle.replaying.specs.Replay.{beginning, nextLine}
-use Rattle.replaying.specs.Turn.{fetchRowsBy, framedRows, framedStore, isDue, openWithRows, openWithTurn, payloadAt, reportOf, startable, turnOf, turnOut, turnRows, turnSaid, turnStore, within}
+use Rattle.replaying.specs.Turn.{fetchRowsBy, framedRows, framedStore, isDue, openWithRows, openWithTurn, payloadAt, reportOf, startable, storeBy, turnOf, turnOut, turnRows, turnSaid, turnStore, within}
 use Rattle.text.specs.Text.{linesOf}
 
 -- what is carried from one line to the next
@@ -50,7 +50,11 @@ module _ (out : List ℕ) where
   -- the first line
   abbrev pub openedBy : Desk → Opening → Desk
   openedBy d (O.Settings ports size window next) =
-      record { replay = openWithTurn (d .replay) ports size window next (length (d .store)) .replay; rows = openWithRows ports size window (length (d .store)) (d .rows); store = d .store }
+      record {
+        replay = openWithTurn (d .replay) ports size window next (length (d .store)) .replay;
+        rows = openWithRows ports size window (length (d .store)) (d .rows);
+        store = storeBy (openWithTurn (d .replay) ports size window next (length (d .store)) .replay .phase) (d .store);
+      }
   openedBy d O.Malformed = standing d Ended
   openedBy d O.Unfinished = d
   openedBy d O.End = d

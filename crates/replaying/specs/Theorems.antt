@@ -1,3 +1,6 @@
 -- What 2026-05 asks of a replay, proved on the definitions.
 pub mod Cuts
+pub mod Ends
 pub mod Lines
+pub mod Printed
+pub mod Same

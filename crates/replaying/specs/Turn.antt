@@ -51,6 +51,14 @@ answeredTurn r phase number used = turned (within r phase (nextLine (r .line)) 0
 unfoldable pub answeredSaid : Replay → ℕ → List ℕ → List ℕ
 answeredSaid r number said = over (answerText number (nextLine (r .line))) said
 
+-- What is lent holds zeros when a group starts: a replay does not go by what lay there before.
+
+abbrev pub clearedRows : List (List ℕ) → List (List ℕ)
+clearedRows rows = replicate (length rows) (replicate 16 0)
+
+abbrev pub clearedStore : List ℕ → List ℕ
+clearedStore store = replicate (length store) 0
+
 -- the first line: 'a bad first line ends the run', and 'Settings out of range, or a store above' what is lent 'are 4 and end it'
 
 unfoldable pub startable : ℕ → ℕ → ℕ → ℕ → Bool
@@ -65,7 +73,7 @@ openWithTurn r ports size window next store =
 unfoldable pub openWithRows : ℕ → ℕ → ℕ → ℕ → List (List ℕ) → List (List ℕ)
 openWithRows ports size window store rows =
     cond (startable ports size window store)
-    (startRows 0 ports size window (storeOf ports size window) (take (rowsOf ports) rows) ++ drop (rowsOf ports) rows)
+    (startRows 0 ports size window (storeOf ports size window) (take (rowsOf ports) (clearedRows rows)) ++ drop (rowsOf ports) (clearedRows rows))
     rows
 
 unfoldable pub openWithSaid : Replay → ℕ → ℕ → ℕ → ℕ → List ℕ → List ℕ
@@ -101,6 +109,14 @@ openRows text last rows store said = cond (openLent (length rows) said) (openRow
 
 unfoldable pub openSaid : Replay → List ℕ → Bool → ℕ → ℕ → List ℕ → List ℕ
 openSaid r text last rows store said = cond (openLent rows (length said)) (openSaidBy r store said (openingIn 0 last text)) said
+
+-- lines are read next where a group has started
+abbrev pub storeBy : Phase → List ℕ → List ℕ
+storeBy Settings store = store
+storeBy Reading store = clearedStore store
+storeBy Fetching store = store
+storeBy Skipping store = store
+storeBy Ended store = store
 
 -- a line
 
@@ -209,6 +225,13 @@ module _ (r : Replay) (rows : List (List ℕ)) (store out : List ℕ) where
   unfoldable pub reportOf : List ℕ
   reportOf = reportText fetchRecordBy (r .line) (statesIn rows) (statesIn fetchRowsBy) (r .ports)
 
+  -- a fetch, and its report if it gave one
+  unfoldable pub fetchedTurn : Replayed
+  fetchedTurn = cond isDue (reportedTurn r (length reportOf)) (readOnTurn r)
+
+  unfoldable pub fetchedSaid : List ℕ → List ℕ
+  fetchedSaid said = cond isDue (over reportOf said) said
+
   module _ (said : ℕ) where
     -- a fetch is made
     abbrev pub fetches : Bool
@@ -217,7 +240,7 @@ module _ (r : Replay) (rows : List (List ℕ)) (store out : List ℕ) where
     unfoldable pub reportTurn : Replayed
     reportTurn =
         cond (isLent r (length rows) (length store) (length out) said)
-        (cond (ltb 0 (r .left)) (cond isDue (reportedTurn r (length reportOf)) (readOnTurn r)) (readOnTurn r))
+        (cond (ltb 0 (r .left)) fetchedTurn (readOnTurn r))
         (refusedTurn r)
 
     unfoldable pub reportRows : List (List ℕ)
@@ -227,7 +250,7 @@ module _ (r : Replay) (rows : List (List ℕ)) (store out : List ℕ) where
     reportOut = cond fetches fetchOutBy out
 
   unfoldable pub reportSaid : List ℕ → List ℕ
-  reportSaid said = cond (fetches (length said)) (cond isDue (over reportOf said) said) said
+  reportSaid said = cond (fetches (length said)) (fetchedSaid said) said
 
 -- the rest of a line that is too long
 
@@ -260,7 +283,7 @@ turnRowsBy Skipping r text last rows store out said = rows
 turnRowsBy Ended r text last rows store out said = rows
 
 abbrev pub turnStoreBy : Phase → Replay → List ℕ → Bool → List (List ℕ) → List ℕ → List ℕ → ℕ → List ℕ
-turnStoreBy Settings r text last rows store out said = store
+turnStoreBy Settings r text last rows store out said = storeBy (openTurn r text last (length rows) (length store) said .replay .phase) store
 turnStoreBy Reading r text last rows store out said = readStore r text last rows store (length out) said
 turnStoreBy Fetching r text last rows store out said = store
 turnStoreBy Skipping r text last rows store out said = store

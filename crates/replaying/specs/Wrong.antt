@@ -1,13 +1,16 @@
--- Wrong readings of 2026-05, each as a definition with a run on which it breaks what the request says.
+-- Wrong readings of 2026-05, each as a definition with a run on which it breaks what the request says. Two more, which take a run of 72 frames, stand in
+-- crates/conformance/specs/Replays.antt: a pending fetch forgotten at the cut, and a malformed line handed as a flagged frame.
 use mathlib.Core.Path.{_≡_, refl}
 use mathlib.Core.List.{List, [], _∷_, _++_}
 use Prim.Native.Nat.{ℕ}
 use lib.ListN.{getD, take}
 use Rattle.recording.specs.Opening.{lineOpening, settingsBy}
-use Rattle.replaying.specs.declared.replay.Phase.the-variants.{Settings}
+use Rattle.recording.specs.Record.{lineRecord}
+use Rattle.replaying.specs.declared.replay.Phase.the-variants.{Reading, Settings}
 use Rattle.replaying.specs.Output.{answerText, changesText, countIn, epochText, markText, portText, reportText, stateLine, stateText}
 use Rattle.replaying.specs.Replay.{beginning}
 use Rattle.replaying.specs.Runs.{Desk, deskAfter, saidTo, standing}
+use Rattle.replaying.specs.Turn.{within}
 use Rattle.text.specs.Ascii.{ascii}
 use Rattle.text.specs.Fields.{digitOf, numberOf}
 use Rattle.text.specs.Output.{decimalText, numberText}
@@ -23,6 +26,18 @@ wrong-after d = standing [] d Settings
 ended-breaks : (saidTo [] (wrong-after fresh) (ascii "y") ≡ answerText 13 2) × (saidTo [] (deskAfter [] fresh (ascii "x")) (ascii "y") ≡ [])
 unfolding wrong-after saidTo deskAfter lineOpening fieldsOf settingsBy numberOf digitOf
 ended-breaks = (refl, refl)
+
+-- Lines numbered from 1 in each part. 'With the state carried over': the number counts on.
+wrong-part : Desk → Desk
+wrong-part d = record { replay = within (d .replay) (d .replay .phase) 0 0; rows = d .rows; store = d .store }
+
+-- one line was read
+abbrev opened : Desk
+opened = record { replay = record { phase = Reading; line = 1; left = 0; ports = 1; size = 1; window = 16 }; rows = []; store = [] }
+
+numbers-break : (saidTo [] (wrong-part opened) (ascii "y") ≡ answerText 13 1) × (saidTo [] opened (ascii "y") ≡ answerText 13 2)
+unfolding wrong-part saidTo lineRecord fieldsOf
+numbers-break = (refl, refl)
 
 -- The changed states printed before their report. 'In the order they arise': they change at the report.
 wrong-report : List ℕ → ℕ → List ℕ → List ℕ → ℕ → List ℕ

@@ -1,5 +1,6 @@
 // The receiver on the parts of the lent rows and store that are its own.
 use packet::kinds;
+use rows::Group;
 ghost use mathlib.Core.Path.{_≡_};
 ghost use mathlib.Core.List.{[], _++_};
 ghost use Prim.Native.Nat.{_≤_};
@@ -7,7 +8,30 @@ ghost use lib.ListN.{drop, length, take};
 ghost use Rattle.receiver.specs.Fetch.{fetchOut, fetchRecord, fetchRows};
 ghost use Rattle.receiver.specs.Frame.{frameRows, frameStore};
 ghost use Rattle.receiver.specs.Starting.{startRows};
+ghost use Rattle.replaying.specs.Laws.Due.{dueAt, dueOf};
+ghost use Rattle.replaying.specs.Turn.{clearedRows, clearedStore};
 
+fn clear_rows(rows: &mut [[u8; 16]])
+    ensures { λ _. ⌜ now (rows .exit) ≡ clearedRows (now (rows .entry)) ⌝ }
+{
+    let mut i = 0;
+    while i < rows.len() {
+        rows[i] = [0u8; 16];
+        i += 1;
+    }
+}
+
+pub(crate) fn clear_store(store: &mut [u8])
+    ensures { λ _. ⌜ now (store .exit) ≡ clearedStore (now (store .entry)) ⌝ }
+{
+    let mut i = 0;
+    while i < store.len() {
+        store[i] = 0;
+        i += 1;
+    }
+}
+
+// All rows are cleared first.
 pub(crate) fn start(
     ports: u32,
     size: u32,
@@ -17,8 +41,9 @@ pub(crate) fn start(
     count: usize,
 )
     requires { ⌜ count ≤ length (now rows) ⌝ }
-    ensures { λ _. ⌜ now (rows .exit) ≡ startRows 0 ports size window store (take count (now (rows .entry))) ++ drop count (now (rows .entry)) ⌝ }
+    ensures { λ _. ⌜ now (rows .exit) ≡ startRows 0 ports size window store (take count (clearedRows (now (rows .entry)))) ++ drop count (clearedRows (now (rows .entry))) ⌝ }
 {
+    clear_rows(rows);
     receiver::start(kinds::H4, ports, size, window, store, &mut rows[..count]);
 }
 
@@ -60,4 +85,29 @@ pub(crate) fn fetch(
         × (now (report .exit) ≡ fetchRecord (take count (now (rows .entry))) (take bytes (now (store .entry))) (now (out .entry)) (now (report .entry))) ⌝ }
 {
     receiver::fetch(&mut rows[..count], &store[..bytes], out, report);
+}
+
+fn is_due_of(group: Group, state: &[[u8; 16]]) -> bool
+    ensures { λ r. ⌜ r ≡ dueOf group (now (state .entry)) ⌝ }
+{
+    let ports = phases::ports_in(group);
+    if (0 < ports) & !(group.begun == 0) & !(group.gathered == 0) {
+        return phases::is_complete(group, state, ports);
+    }
+    false
+}
+
+fn is_due_in(state: &[[u8; 16]]) -> bool
+    ensures { λ r. ⌜ r ≡ dueAt (now (state .entry)) ⌝ }
+{
+    let group = rows::group::get(state);
+    is_due_of(group, state)
+}
+
+// Whether a fetch would give a report.
+pub(crate) fn is_due(rows: &[[u8; 16]], count: usize) -> bool
+    requires { ⌜ count ≤ length (now rows) ⌝ }
+    ensures { λ r. ⌜ r ≡ dueAt (take count (now (rows .entry))) ⌝ }
+{
+    is_due_in(&rows[..count])
 }

@@ -9,14 +9,13 @@ use packet::kinds;
 use recording::Opening;
 use recording::Record;
 ghost use mathlib.Core.Path.{_≡_};
-ghost use mathlib.Core.Bool.{true};
-ghost use mathlib.Core.List.{_++_};
 ghost use Prim.Native.Nat.{_+_, _*_, _≤_};
-ghost use lib.Dec.{eqb};
-ghost use lib.ListN.{drop, length, replicate};
-ghost use Rattle.recording.specs.Record.{recordIn};
+ghost use lib.ListN.{length, replicate};
+ghost use lib.Seq.{slice};
+ghost use Rattle.replaying.specs.Laws.Lent.{Lent};
 ghost use Rattle.replaying.specs.Output.{ROOM};
-ghost use Rattle.replaying.specs.Turn.{answeredSaid, answeredTurn, endedTurn, fetchOutBy, fetchRecordBy, fetchRowsBy, framedTurn, framedRows, framedStore, isLent, isOpen, openRows, openSaid, openTurn, openWithRows, openWithSaid, openWithTurn, payloadAt, readBy, readRows, readSaid, readStore, readTurn, recordNow, refusedTurn, reportOut, reportRows, reportSaid, reportTurn, reportedTurn, readOnTurn, skipTurn, skippedTo, startable, turnOf, turnOut, turnRows, turnSaid, turnStore, waitingTurn};
+ghost use Rattle.replaying.specs.Turn.{answeredSaid, answeredTurn, endedTurn, fetchOutBy, fetchRecordBy, fetchRowsBy, fetchedSaid, fetchedTurn, framedTurn, framedRows, framedStore, isLent, isOpen, openRows, openSaid, openTurn, openWithRows, openWithSaid, openWithTurn, payloadAt, readBy, readRows, readSaid, readStore, readTurn, recordNow, refusedTurn, reportOut, reportRows, reportSaid, reportTurn, reportedTurn, readOnTurn, skipTurn, skippedTo, startable, storeBy, turnOf, turnOut, turnRows, turnSaid, turnStore, waitingTurn};
+ghost use Rattle.text.specs.Fields.{bytesIn};
 
 // What a turn has done. answer: 0, or 9 where what is lent is too short, and then nothing is done. wants: nothing more can be done without more
 // of the text.
@@ -157,6 +156,40 @@ fn open(
     }
 }
 
+// The store of a group that starts is cleared.
+fn store_by(phase: Phase, store: &mut [u8])
+    ensures { λ _. ⌜ now (store .exit) ≡ storeBy phase (now (store .entry)) ⌝ }
+{
+    match phase {
+        Phase::Settings => {}
+        Phase::Reading => lent::clear_store(store),
+        Phase::Fetching => {}
+        Phase::Skipping => {}
+        Phase::Ended => {}
+    }
+}
+
+// The first line, with all that is lent for it.
+fn open_all(
+    replay: Replay,
+    text: &[u8],
+    last: bool,
+    rows: &mut [[u8; 16]],
+    store: &mut [u8],
+    said: &mut [u8],
+) -> Replayed
+    ensures { λ r. ⌜ (r ≡ openTurn replay (now (text .entry)) last (length (now (rows .entry))) (length (now (store .entry))) (length (now (said .entry))))
+        × (now (rows .exit) ≡ openRows (now (text .entry)) last (now (rows .entry)) (length (now (store .entry))) (length (now (said .entry))))
+        × (now (store .exit) ≡ storeBy (openTurn replay (now (text .entry)) last (length (now (rows .entry))) (length (now (store .entry))) (length (now (said .entry))) .replay .phase) (now (store .entry)))
+        × (now (said .exit) ≡ openSaid replay (now (text .entry)) last (length (now (rows .entry))) (length (now (store .entry))) (now (said .entry))) ⌝ }
+{
+    let done = open(replay, text, last, rows, store.len(), said);
+    let after = done.replay;
+    let phase = after.phase;
+    store_by(phase, store);
+    done
+}
+
 // What is lent is long enough for the receiver and for what is printed.
 fn is_lent(replay: Replay, rows: usize, store: usize, out: usize, said: usize) -> bool
     ensures { λ r. ⌜ r ≡ isLent replay rows store out said ⌝ }
@@ -195,17 +228,22 @@ fn record_now(text: &[u8], last: bool, ports: u8, size: u16) -> Record
     found
 }
 
-// The payload's digits as bytes, into the front of an array.
-fn payload_at(text: &[u8], place: usize, size: u16) -> [u8; 2340]
-    requires { ⌜ size ≤ 2340 ⌝ }
-    ensures { λ r. ⌜ r ≡ payloadAt size place (now (text .entry)) ++ drop size (replicate 2340 0) ⌝ }
+// The payload's digits as bytes.
+fn read_payload(text: &[u8], place: usize, payload: &mut [u8])
+    requires { ⌜ length (now payload) ≤ 2340 ⌝ }
+    ensures { λ _. ⌜ now (payload .exit) ≡ bytesIn (slice place (place + length (now (payload .entry)) + length (now (payload .entry))) (now (text .entry))) (now (payload .entry)) ⌝ }
 {
-    let mut payload = [0u8; 2340];
-    let n = size as usize;
+    let n = payload.len();
     if place <= text.len() {
-        text::read_bytes(text, place, place + n + n, &mut payload[..n]);
+        text::read_bytes(text, place, place + n + n, payload);
     }
-    payload
+}
+
+// Room for a payload.
+fn blank() -> [u8; 2340]
+    ensures { λ r. ⌜ r ≡ replicate 2340 0 ⌝ }
+{
+    [0u8; 2340]
 }
 
 // A frame handed to the receiver.
@@ -223,8 +261,9 @@ fn take_frame(
     ensures { λ _. ⌜ (now (rows .exit) ≡ framedRows replay port h4 flag (payloadAt (replay .size) place (now (text .entry))) (now (rows .entry)) (now (store .entry)))
         × (now (store .exit) ≡ framedStore replay port h4 flag (payloadAt (replay .size) place (now (text .entry))) (now (rows .entry)) (now (store .entry))) ⌝ }
 {
-    let payload = payload_at(text, place, replay.size);
     let size = replay.size as usize;
+    let mut payload = blank();
+    read_payload(text, place, &mut payload[..size]);
     let n = replay::rows_of(replay.ports);
     let m = replay::store_of(replay.ports, replay.size, replay.window);
     lent::frame(rows, n, port, flag == 1, h4, &payload[..size], store, m);
@@ -335,7 +374,31 @@ fn fetch(replay: Replay, rows: &mut [[u8; 16]], store: &[u8], out: &mut [u8]) ->
     given
 }
 
-// A report, if one is due.
+// A fetch, and its report with the states that it changed.
+fn report_now(
+    replay: Replay,
+    rows: &mut [[u8; 16]],
+    store: &[u8],
+    out: &mut [u8],
+    said: &mut [u8],
+) -> Replayed
+    requires { ⌜ Lent replay (length (now rows)) (length (now store)) (length (now out)) (length (now said)) × (1 ≤ replay .left) ⌝ }
+    ensures { λ r. ⌜ (r ≡ fetchedTurn replay (now (rows .entry)) (now (store .entry)) (now (out .entry)))
+        × (now (rows .exit) ≡ fetchRowsBy replay (now (rows .entry)) (now (store .entry)) (now (out .entry)))
+        × (now (out .exit) ≡ fetchOutBy replay (now (rows .entry)) (now (store .entry)) (now (out .entry)))
+        × (now (said .exit) ≡ fetchedSaid replay (now (rows .entry)) (now (store .entry)) (now (out .entry)) (now (said .entry))) ⌝ }
+{
+    let before = changes::states_in(rows);
+    let given = fetch(replay, rows, store, out);
+    if given[0] == 0 {
+        return read_on(replay);
+    }
+    let after = changes::states_in(rows);
+    let written = changes::put_report(given, replay.line, before, after, replay.ports, said);
+    reported(replay, written)
+}
+
+// A report, if one is due. Most frames make none due, and the states are then not looked at.
 fn report(
     replay: Replay,
     rows: &mut [[u8; 16]],
@@ -354,14 +417,11 @@ fn report(
     if replay.left == 0 {
         return read_on(replay);
     }
-    let before = changes::states_in(rows);
-    let given = fetch(replay, rows, store, out);
-    if given[0] == 0 {
-        return read_on(replay);
+    let n = replay::rows_of(replay.ports);
+    if lent::is_due(rows, n) {
+        return report_now(replay, rows, store, out, said);
     }
-    let after = changes::states_in(rows);
-    let written = changes::put_report(given, replay.line, before, after, replay.ports, said);
-    reported(replay, written)
+    read_on(replay)
 }
 
 // The rest of a line that is too long.
@@ -444,7 +504,7 @@ pub fn turn(
 {
     let phase = replay.phase;
     match phase {
-        Phase::Settings => open(replay, text, last, rows, store.len(), said),
+        Phase::Settings => open_all(replay, text, last, rows, store, said),
         Phase::Reading => read(replay, text, last, rows, store, out.len(), said),
         Phase::Fetching => report(replay, rows, store, out, said),
         Phase::Skipping => skip(replay, text, last),

@@ -1,4 +1,4 @@
-use mathlib.Core.Path.{_≡_}
+use mathlib.Core.Path.{_≡_, refl}
 use Prim.Native.Nat.{_-_, _≤_, _<_}
 use native.Mathlib.Omega.{arith}
 use lib.Dec.{ltb}
@@ -11,13 +11,17 @@ use Rattle.replay.proofs.run_text.Statement.{statement}
 use Rattle.replay.proofs.run_text.Tie as tie
 
 abbrev Inv-loop : tie.InvT-loop
-Inv-loop text last rows₀ store₀ out₀ now₀ at₀ goes₀ turns₀ rows store out now at goes turns = (at ≤ length text) × (length rows ≡ length rows₀) × (length store ≡ length store₀) × (length out ≡ length out₀)
+Inv-loop text last rows₀ store₀ out₀ said₀ now₀ at₀ goes₀ turns₀ rows store out said now at goes turns =
+    (at ≤ length text) × (length rows ≡ length rows₀) × (length store ≡ length store₀) × (length out ≡ length out₀) × (4096 ≡ length said) × (length text ≤ 18446744073709551615)
 
 abbrev μ-loop : tie.MeasureT-loop
-μ-loop text last rows₀ store₀ out₀ now₀ at₀ goes₀ turns₀ rows store out now at goes turns = turns
+μ-loop text last rows₀ store₀ out₀ said₀ now₀ at₀ goes₀ turns₀ rows store out said now at goes turns = turns
+
+buffer-requires : tie.Need-buffer-requires Inv-loop μ-loop
+buffer-requires c κs = search needs
 
 loop-holds : tie.Need-loop-holds Inv-loop μ-loop
-loop-holds c = search needs
+loop-holds c = (omega arith, refl, refl, refl, c .buffer .ensures, omega arith)
 
 sub-take-turn : tie.Need-sub-take-turn Inv-loop μ-loop
 sub-take-turn c = search needs
@@ -28,30 +32,33 @@ part-take-turn-start c = search needs
 part-take-turn-end : tie.Need-part-take-turn-end Inv-loop μ-loop
 part-take-turn-end c = search needs
 
+slice-aggregate-take-turn : tie.Need-slice-aggregate-take-turn Inv-loop μ-loop
+slice-aggregate-take-turn c = c .before .before .before .before .before .before .loop .inv .4
+
 take-turn-requires : tie.Need-take-turn-requires Inv-loop μ-loop
 take-turn-requires c κs = search needs
 
 add-at : tie.Need-add-at Inv-loop μ-loop
 add-at c =
-    let t = c .before .before .before .before .before .before .before .before .before .before .before .before .before .before .before .before .before .args .text .now in
-    let a = c .before .before .before .before .before .before .before .before .before .before .before .before .before .loop .at in
+    let t = c .before .before .before .before .before .before .before .before .before .before .before .before .before .before .before .before .before .before .before .before .args .text .now in
+    let a = c .before .before .before .before .before .before .before .before .before .before .before .before .before .before .before .loop .at in
     let d = length-drop a t in
     let e = length-take-le (length t - a) (drop a t) (omega arith) in
-    omega (arith, c .before .before .before .before .before .before .before .take-turn .ensures, c .before .before .before .before .before .before .before .before .before .before .before .before .before .loop .inv .0)
+    omega (arith, c .before .before .before .before .before .before .before .before .take-turn .ensures, c .before .before .before .before .before .before .before .before .before .before .before .before .before .before .before .loop .inv .0, c .before .before .before .before .before .before .before .before .before .before .before .before .before .before .before .loop .inv .5)
 
 sub-turns : tie.Need-sub-turns Inv-loop μ-loop
-sub-turns c = let h = ltb-true 0 (c .before .before .before .before .before .before .before .before .before .before .before .before .before .loop .turns) (and-right (c .before .before .before .before .before .before .before .before .before .before .before .before .before .loop .goes-on) (ltb 0 (c .before .before .before .before .before .before .before .before .before .before .before .before .before .loop .turns)) (c .before .before .before .before .before .before .before .before .before .before .before .before .loop-test .taken)) in omega arith
+sub-turns c = let h = ltb-true 0 (c .before .before .before .before .before .before .before .before .before .before .before .before .before .before .before .loop .turns) (and-right (c .before .before .before .before .before .before .before .before .before .before .before .before .before .before .before .loop .goes-on) (ltb 0 (c .before .before .before .before .before .before .before .before .before .before .before .before .before .before .before .loop .turns)) (c .before .before .before .before .before .before .before .before .before .before .before .before .before .before .loop-test .taken)) in omega arith
 
 loop-less : tie.Need-loop-less Inv-loop μ-loop
-loop-less c = let h = ltb-true 0 (c .before .before .before .before .before .before .before .before .before .before .before .before .before .loop .turns) (and-right (c .before .before .before .before .before .before .before .before .before .before .before .before .before .loop .goes-on) (ltb 0 (c .before .before .before .before .before .before .before .before .before .before .before .before .before .loop .turns)) (c .before .before .before .before .before .before .before .before .before .before .before .before .loop-test .taken)) in omega arith
+loop-less c = let h = ltb-true 0 (c .before .before .before .before .before .before .before .before .before .before .before .before .before .before .before .loop .turns) (and-right (c .before .before .before .before .before .before .before .before .before .before .before .before .before .before .before .loop .goes-on) (ltb 0 (c .before .before .before .before .before .before .before .before .before .before .before .before .before .before .before .loop .turns)) (c .before .before .before .before .before .before .before .before .before .before .before .before .before .before .loop-test .taken)) in omega arith
 
 loop-again : tie.Need-loop-again Inv-loop μ-loop
 loop-again c =
-    let t = c .before .before .before .before .before .before .before .before .before .before .before .before .before .before .before .before .before .args .text .now in
-    let a = c .before .before .before .before .before .before .before .before .before .before .before .before .before .loop .at in
+    let t = c .before .before .before .before .before .before .before .before .before .before .before .before .before .before .before .before .before .before .before .before .args .text .now in
+    let a = c .before .before .before .before .before .before .before .before .before .before .before .before .before .before .before .loop .at in
     let d = length-drop a t in
     let e = length-take-le (length t - a) (drop a t) (omega arith) in
-    (omega (arith, c .before .before .before .before .before .before .before .take-turn .ensures, c .before .before .before .before .before .before .before .before .before .before .before .before .before .loop .inv .0), search needs, search needs, search needs)
+    (omega (arith, c .before .before .before .before .before .before .before .before .take-turn .ensures, c .before .before .before .before .before .before .before .before .before .before .before .before .before .before .before .loop .inv .0), search needs, search needs, search needs, search needs, c .before .before .before .before .before .before .before .before .before .before .before .before .before .before .before .loop .inv .5)
 
 same-length : tie.Need-same-length Inv-loop μ-loop
 same-length c = search needs
@@ -66,4 +73,4 @@ returns : tie.Need-returns Inv-loop μ-loop
 returns c = search needs
 
 pub run-text-spec : {M : Type 1} → statement M
-run-text-spec = tie.close (tie.spec Inv-loop μ-loop loop-holds sub-take-turn part-take-turn-start part-take-turn-end take-turn-requires add-at sub-turns loop-less loop-again same-length same-length-2 same-length-3 returns)
+run-text-spec = tie.close (tie.spec Inv-loop μ-loop buffer-requires loop-holds sub-take-turn part-take-turn-start part-take-turn-end slice-aggregate-take-turn take-turn-requires add-at sub-turns loop-less loop-again same-length same-length-2 same-length-3 returns)

@@ -4,20 +4,17 @@ use borrow.Author.Needs.{needs}
 use Rattle.replay.proofs.take_turn.Statement.{statement}
 use Rattle.replay.proofs.take_turn.Tie as tie
 
-slice-aggregate-turn : tie.Need-slice-aggregate-turn
-slice-aggregate-turn c = search needs
-
 turn-requires : tie.Need-turn-requires
 turn-requires c κs = search needs
 
 at-most-requires : tie.Need-at-most-requires
 at-most-requires c κs = search needs
 
-array-share-prefix-said : tie.Need-array-share-prefix-said
-array-share-prefix-said c = search needs
+slice-reshare-prefix-write-all : tie.Need-slice-reshare-prefix-write-all
+slice-reshare-prefix-write-all c = search needs
 
 slice-aggregate-write-all : tie.Need-slice-aggregate-write-all
-slice-aggregate-write-all c = sym (length-take-le (c .before .at-most .result) (c .before .before .before .before .before .before .before .before .before .turn .last .1 .1 .1 .1 .1 .1 .0) (search needs))
+slice-aggregate-write-all c = sym (length-take-le (c .before .at-most .result) (c .before .before .before .before .before .before .before .before .before .before .turn .last .1 .1 .1 .1 .1 .1 .0) (search needs))
 
 write-all-requires : tie.Need-write-all-requires
 write-all-requires c κs = search needs
@@ -34,8 +31,11 @@ same-length-2 c = search needs
 same-length-3 : tie.Need-same-length-3
 same-length-3 c = search needs
 
+same-length-4 : tie.Need-same-length-4
+same-length-4 c = search needs
+
 returns : tie.Need-returns
 returns c = search needs
 
 pub take-turn-spec : {M : Type 1} → statement M
-take-turn-spec = tie.close (tie.spec slice-aggregate-turn turn-requires at-most-requires array-share-prefix-said slice-aggregate-write-all write-all-requires at-most-requires-2 same-length same-length-2 same-length-3 returns)
+take-turn-spec = tie.close (tie.spec turn-requires at-most-requires slice-reshare-prefix-write-all slice-aggregate-write-all write-all-requires at-most-requires-2 same-length same-length-2 same-length-3 same-length-4 returns)

@@ -8,7 +8,7 @@ use Prim.Native.Nat.{ℕ, zero, suc, _+_, _-_, _*_, _≤_, _<_}
 use native.Mathlib.Nat.{mul-le-mul-left, mul-le-mul-right}
 use native.Mathlib.Omega.{arith}
 use lib.Dec.{eqb, leb, ltb}
-use lib.ListN.{drop, length, replicate, take, length-append, length-drop}
+use lib.ListN.{drop, length, replicate, take, length-append, length-drop, length-replicate}
 use lib.Seq.{slice, drop-length, drop-nil, take-append-seam, take-take}
 use borrow.Author.Tests.{le-leb, leb-true, lt-leb, lt-ltb, ltb-false, ltb-true}
 use Rattle.bytes.specs.Bytes.{indexOf}
@@ -175,7 +175,7 @@ module _ (out : List ℕ) (line ports size window : ℕ) (rows : List (List ℕ)
   fetching left = host Fetching line left ports size window rows store lent buffer text said
 
   report-keeps : (left : ℕ) (last : Bool) → Fit out (fetching left) → Keeps out last (fetching left) (called last (fetching left))
-  unfolding called T.turnOf T.turnRows T.turnStore T.turnOut T.turnSaid T.reportTurn T.reportRows T.reportOut T.reportSaid T.readOnTurn T.reportedTurn
+  unfolding called T.turnOf T.turnRows T.turnStore T.turnOut T.turnSaid T.reportTurn T.reportRows T.reportOut T.reportSaid T.fetchedTurn T.fetchedSaid T.readOnTurn T.reportedTurn
   report-keeps zero last f =
       let t = lent-is (fetching zero .replay) (length rows) (length store) (length lent) (length buffer) (f .lent) in
       rw t (record { fit = record { room = f .room; full = f .full; same = f .same; enough = f .enough; lent = same-lent (f .lent) }; whole = λ more g. rw (append-nil said) })
@@ -251,7 +251,7 @@ module _ (r : Replay) (port h4 flag : ℕ) (payload : List ℕ) (rows : List (Li
       (length-frame-store (take (rowsOf (r .ports)) rows) port (eqb flag 1) h4 payload (take (storeOf (r .ports) (r .size) (r .window)) store))
 
 -- a line is not open
-line-closed : {x : Record} → IsLine x → T.isOpen x ≡ false
+pub line-closed : {x : Record} → IsLine x → T.isOpen x ≡ false
 line-closed frame = refl
 line-closed malformed = refl
 
@@ -490,7 +490,11 @@ module _ (out : List ℕ) (line left ports size window : ℕ) (rows : List (List
         let d = leb-true (storeOf p s w) (length store) (and-right (sized 0 p s w) (leb (storeOf p s w) (length store)) b) in
         let k = output-le p s w (rw h4-frames at (c .wide)) in
         let m : rowsOf p ≤ length rows = (let x = c .few-ports in let y = f .full in omega arith) in
-        let lr = length-part (rowsOf p) rows (startRows 0 p s w (storeOf p s w) (take (rowsOf p) rows)) m (length-start-rows 0 p s w (storeOf p s w) (take (rowsOf p) rows)) in
+        let zs = T.clearedRows rows in
+        let lz : length zs ≡ length rows = length-replicate (length rows) _ in
+        let mz : rowsOf p ≤ length zs = rw lz m in
+        let lr = length-part (rowsOf p) zs (startRows 0 p s w (storeOf p s w) (take (rowsOf p) zs)) mz (length-start-rows 0 p s w (storeOf p s w) (take (rowsOf p) zs)) ∙ lz in
+        let ls : length (T.clearedStore store) ≡ length store = length-replicate (length store) 0 in
         let o = f .same in
         let v = f .enough in
         rw (t, now ∙ e, b)
@@ -500,8 +504,8 @@ module _ (out : List ℕ) (line left ports size window : ℕ) (rows : List (List
                 room = f .room;
                 full = rw lr (f .full);
                 same = f .same;
-                enough = f .enough;
-                lent = record { room = f .room; few = c .few-ports; short = c .few-bytes; rows-there = rw lr m; store-there = d; out-there = omega arith };
+                enough = rw ls (f .enough);
+                lent = record { room = f .room; few = c .few-ports; short = c .few-bytes; rows-there = rw lr m; store-there = rw ls d; out-there = omega arith };
               };
           whole = λ more g. rw (lines more g, i, z, b, append-nil said);
         })

@@ -9,8 +9,8 @@ use Rattle.replaying.proofs.turns.turn.Tie as tie
 enum-told : tie.Need-enum-told
 enum-told c = search needs
 
-open-requires : tie.Need-open-requires
-open-requires c κs = search needs
+open-all-requires : tie.Need-open-all-requires
+open-all-requires c κs = search needs
 
 enum-told-2 : tie.Need-enum-told-2
 enum-told-2 c = search needs
@@ -42,23 +42,26 @@ same-length c = search needs
 same-length-2 : tie.Need-same-length-2
 same-length-2 c = search needs
 
+same-length-3 : tie.Need-same-length-3
+same-length-3 c = search needs
+
 returns : tie.Need-returns
 returns c =
-    let s = c .before .before .before .before .before .before .before .before .before .before .before .before in
-    let e = c .before .before .before .before .before .before .enum-told .given .1 in
+    let s = c .before .before .before .before .before .before .before .before .before .before .before .before .before .before .before in
+    let e = c .before .before .before .before .before .before .before .before .before .enum-told .given .1 in
     let r = s .args .replay in
     let t = s .args .text .now in
     let n = length (s .args .said .now) in
-    (turn-is r Settings e t (s .args .last) (s .args .rows .now) (s .args .store .now) (s .args .out .now) n _ (c .before .before .before .«open» .ensures .0), rows-is r Settings e t (s .args .last) (s .args .rows .now) (s .args .store .now) (s .args .out .now) n _ (c .before .before .before .«open» .ensures .1), store-is r Settings e t (s .args .last) (s .args .rows .now) (s .args .store .now) (s .args .out .now) n _ refl, out-is r Settings e t (s .args .last) (s .args .rows .now) (s .args .store .now) (s .args .out .now) n _ refl, said-is r Settings e t (s .args .last) (s .args .rows .now) (s .args .store .now) (s .args .out .now) (s .args .said .now) _ (c .before .before .before .«open» .ensures .2))
-
-same-length-3 : tie.Need-same-length-3
-same-length-3 c = search needs
+    (turn-is r Settings e t (s .args .last) (s .args .rows .now) (s .args .store .now) (s .args .out .now) n _ (c .before .before .before .before .before .open-all .ensures .0), rows-is r Settings e t (s .args .last) (s .args .rows .now) (s .args .store .now) (s .args .out .now) n _ (c .before .before .before .before .before .open-all .ensures .1), store-is r Settings e t (s .args .last) (s .args .rows .now) (s .args .store .now) (s .args .out .now) n _ (c .before .before .before .before .before .open-all .ensures .2), out-is r Settings e t (s .args .last) (s .args .rows .now) (s .args .store .now) (s .args .out .now) n _ refl, said-is r Settings e t (s .args .last) (s .args .rows .now) (s .args .store .now) (s .args .out .now) (s .args .said .now) _ (c .before .before .before .before .before .open-all .ensures .3))
 
 same-length-4 : tie.Need-same-length-4
 same-length-4 c = search needs
 
 same-length-5 : tie.Need-same-length-5
 same-length-5 c = search needs
+
+same-length-6 : tie.Need-same-length-6
+same-length-6 c = search needs
 
 returns-2 : tie.Need-returns-2
 returns-2 c =
@@ -69,9 +72,6 @@ returns-2 c =
     let n = length (s .args .said .now) in
     (turn-is r Reading e t (s .args .last) (s .args .rows .now) (s .args .store .now) (s .args .out .now) n _ (c .before .before .before .before .before .read .ensures .0), rows-is r Reading e t (s .args .last) (s .args .rows .now) (s .args .store .now) (s .args .out .now) n _ (c .before .before .before .before .before .read .ensures .1), store-is r Reading e t (s .args .last) (s .args .rows .now) (s .args .store .now) (s .args .out .now) n _ (c .before .before .before .before .before .read .ensures .2), out-is r Reading e t (s .args .last) (s .args .rows .now) (s .args .store .now) (s .args .out .now) n _ refl, said-is r Reading e t (s .args .last) (s .args .rows .now) (s .args .store .now) (s .args .out .now) (s .args .said .now) _ (c .before .before .before .before .before .read .ensures .3))
 
-same-length-6 : tie.Need-same-length-6
-same-length-6 c = search needs
-
 same-length-7 : tie.Need-same-length-7
 same-length-7 c = search needs
 
@@ -80,6 +80,9 @@ same-length-8 c = search needs
 
 same-length-9 : tie.Need-same-length-9
 same-length-9 c = search needs
+
+same-length-10 : tie.Need-same-length-10
+same-length-10 c = search needs
 
 returns-3 : tie.Need-returns-3
 returns-3 c =
@@ -109,4 +112,4 @@ returns-5 c =
     (turn-is r Ended e t (s .args .last) (s .args .rows .now) (s .args .store .now) (s .args .out .now) n _ (c .swallow .ensures), rows-is r Ended e t (s .args .last) (s .args .rows .now) (s .args .store .now) (s .args .out .now) n _ refl, store-is r Ended e t (s .args .last) (s .args .rows .now) (s .args .store .now) (s .args .out .now) n _ refl, out-is r Ended e t (s .args .last) (s .args .rows .now) (s .args .store .now) (s .args .out .now) n _ refl, said-is r Ended e t (s .args .last) (s .args .rows .now) (s .args .store .now) (s .args .out .now) (s .args .said .now) _ refl)
 
 pub turn-spec : {M : Type 1} → statement M
-turn-spec = tie.close (tie.spec enum-told open-requires enum-told-2 read-requires enum-told-3 report-requires enum-told-4 skip-requires enum-told-5 swallow-requires same-length same-length-2 returns same-length-3 same-length-4 same-length-5 returns-2 same-length-6 same-length-7 same-length-8 same-length-9 returns-3 returns-4 returns-5)
+turn-spec = tie.close (tie.spec enum-told open-all-requires enum-told-2 read-requires enum-told-3 report-requires enum-told-4 skip-requires enum-told-5 swallow-requires same-length same-length-2 same-length-3 returns same-length-4 same-length-5 same-length-6 returns-2 same-length-7 same-length-8 same-length-9 same-length-10 returns-3 returns-4 returns-5)

@@ -1,0 +1,157 @@
+-- Examples of request 2026-05, a recording run again, worked out apart: one port, P 1, 72 frames of IDLE packets from MFI1 0 and MFI2 0 on, to the first report. And two wrong
+-- readings, which this run breaks.
+use mathlib.Core.Path.{_≡_, refl}
+use mathlib.Core.List.{List, [], _∷_, _++_}
+use Prim.Native.Nat.{ℕ}
+use lib.ListN.{drop, replicate, take}
+use Rattle.ground.specs.Circle.{after}
+use Rattle.judge.specs.Order.{activeIn, orderOf, portOf}
+use Rattle.judge.specs.Order.{rankOf as rankSeen}
+use Rattle.judge.specs.Verdict.{doubtfulBy, eosAlone, eosWrong, exact, gidDiffers, heldBy, judgeOf, missing, repeats, takes}
+use Rattle.judge.specs.Verdict.{highest as highestSeen}
+use Rattle.packet.specs.Counts.{tagByHigh, tagByLow, counts, carriesLow, nibbleIn, nibblePlace, startsCount}
+use Rattle.packet.specs.Crc.{crcOf, divisor, nibbleBits}
+use Rattle.packet.specs.Kinds.{distanceOf, endsEpoch, epochAfter, epochOf, epochs, epochsIn, firstTag, frames, idleNumber, lead, placeOf, startsEpoch, tagAfter, tagBefore, tags}
+use Rattle.packet.specs.Layout.{carriedIn, dataOf, fieldsOf}
+use Rattle.packet.specs.Reading.{readNibbles}
+use Rattle.packet.specs.Words.{assigned}
+use Rattle.phases.specs.Beginning.{begins, foremost, further, latest, noTag, ready, within}
+use Rattle.phases.specs.Due.{brought, owesNothing, silent}
+use Rattle.phases.specs.Passing.{notedBy, passedGroup, passedOf, passedPort, passedPorts, passedStep, ruledBy}
+use Rattle.packet.specs.Ruling.{rulingOf}
+use Rattle.phases.specs.Settling.{beginBy, begunOf, clearedPort, clearedPorts, clearedStep, gatherBy, settledOf, stopBy, stoppedOf}
+use Rattle.phases.specs.Sizes.{portsIn, sized, storeFor}
+use Rattle.receiver.specs.Fetch.{dueIn, fetchOut, fetchRecord, fetchRows, fits, outIfDue, reportIfDue, rowsIfDue, recordOf}
+use Rattle.receiver.specs.Frame.{frameRows, frameStore, gatheredBy, marksBy, portRows, refusalBy, settledBy, storeBy, takenRows, takenStore}
+use Rattle.receiver.specs.Lengths.{fetchFits, frameFits, outputFor, rowsFit}
+use Rattle.receiver.specs.Report.{frameInto, framesInto, outputBy, outputOf, replyPort, replyPorts, reportBy, reportedOf, rulingEpoch, seenAll, seenOf, startsOf, withState, statesWorkedOut, statePut, statesPut}
+use Rattle.receiver.specs.Report.{reportOf as reportSeen}
+use Rattle.receiver.specs.Starting.{freshPort, freshPorts, sizedRows, startFits, startRows}
+use Rattle.reply.specs.Choosing.{claim, claims, holders, stateBy, statesOf}
+use Rattle.reply.specs.Telling.{ackOf}
+use Rattle.reply.specs.Telling.{turns as turnsAck}
+use Rattle.rows.specs.Group.{groupAt, groupOf, groupRow, putGroup}
+use Rattle.rows.specs.Member.{memberAt, memberOf, memberRow, putMember}
+use Rattle.rows.specs.Packets.{marksAt, packetsAt, putMarks, putPackets}
+use Rattle.rows.specs.Rows.{putRow, rowIn}
+use Rattle.rows.specs.Step.{putStep, stepAt, stepOf, stepRow}
+use Rattle.step.specs.Arrival.{arrives, frameDropped, byStart, byWindow, countsOn, distanceIn, flagged, inStep, joining, keeps, outside, readable, takenOf}
+use Rattle.step.specs.Run.{begunRun, furtherRun, inStepAt, oneMore, runOn, secondRun}
+use Rattle.store.specs.Frames.{byteAt, h4At, packetIn, placeIn, ringOf, storedAt}
+use Rattle.store.specs.Marks.{cutByte, cutFrom, firstMark, markIn, markedAt, markedByte, passedByte, passedMarks}
+use Rattle.recording.specs.declared.record.Record.{Record}
+use Rattle.recording.specs.declared.record.Record.the-variants as R
+use Rattle.recording.specs.Opening.{lineOpening, settingsBy}
+use Rattle.recording.specs.Record.{flagIn, frameBy, lineRecord}
+use Rattle.replaying.specs.declared.replay.Phase.{Phase}
+use Rattle.replaying.specs.declared.replay.Phase.the-variants as P
+use Rattle.replaying.specs.Output.{answerText, countIn, epochText, markText, portText, reportText, stateAt, stateLine, stateText, statesIn}
+use Rattle.replaying.specs.Replay.{beginning}
+use Rattle.replaying.specs.Runs.{Desk, deskAfter, framed, lineIn, reported, saidTo, standing}
+use Rattle.replaying.specs.Turn.{answeredTurn, fetchRecordBy, fetchRowsBy, framedRows, framedStore, openWithRows, openWithTurn, payloadAt, startable}
+use Rattle.replaying.specs.Turn.{reportOf as reportIn}
+use Rattle.text.specs.Ascii.{ascii}
+use Rattle.text.specs.Fields.{bytesIn, digitOf, hexOf, isHex}
+use Rattle.text.specs.Fields.{numberOf as numberIn}
+use Rattle.text.specs.Output.{decimalText, numberText}
+use Rattle.text.specs.Text.{linesOf}
+use Rattle.text.specs.Text.{fieldsOf as fieldsIn}
+use Rattle.conformance.specs.Rows.{Equal, Row, equal-rows}
+
+-- what is lent: rows of one port, its store for P 1 and W 16, and the output
+abbrev out : List ℕ
+out = replicate 32 0
+
+abbrev lentFor : ℕ → Desk
+lentFor store = record { replay = beginning; rows = replicate 6 (replicate 16 0); store = replicate store 0 }
+
+-- a host that cuts the recording behind each line and forgets that reports may be due
+abbrev forgetfulRecord : Desk → List ℕ → Record → Desk
+forgetfulRecord d l (R.Frame port h4 flag place next) = framed out d l port h4 flag place
+forgetfulRecord d l (R.Malformed next) = standing out d P.Reading
+forgetfulRecord d l R.Long = d
+forgetfulRecord d l R.Unfinished = d
+forgetfulRecord d l R.End = d
+
+abbrev forgetful : Phase → Desk → List ℕ → Desk
+forgetful P.Settings d l = deskAfter out d l
+forgetful P.Reading d l = forgetfulRecord d l (lineIn out d l)
+forgetful P.Fetching d l = d
+forgetful P.Skipping d l = d
+forgetful P.Ended d l = d
+
+-- a malformed line handed to port 0 as a flagged frame
+abbrev flaggedRecord : Desk → List ℕ → Record → Desk
+flaggedRecord d l (R.Frame port h4 flag place next) = deskAfter out d l
+flaggedRecord d l (R.Malformed next) = reported out (d .replay .window) (framed out d l 0 0 1 0)
+flaggedRecord d l R.Long = d
+flaggedRecord d l R.Unfinished = d
+flaggedRecord d l R.End = d
+
+abbrev flaggedLine : Phase → Desk → List ℕ → Desk
+flaggedLine P.Settings d l = deskAfter out d l
+flaggedLine P.Reading d l = flaggedRecord d l (lineIn out d l)
+flaggedLine P.Fetching d l = d
+flaggedLine P.Skipping d l = d
+flaggedLine P.Ended d l = d
+
+-- how a line is taken
+pub data Taking : Type 0 where
+  Right : Taking
+  Forgetful : Taking
+  Flagging : Taking
+
+abbrev said : Taking → Desk → List ℕ → List ℕ
+said Right d l = saidTo out d l
+said Forgetful d l = []
+said Flagging d l = saidTo out d l
+
+abbrev next : Taking → Desk → List ℕ → Desk
+next Right d l = deskAfter out d l
+next Forgetful d l = forgetful (d .replay .phase) d l
+next Flagging d l = flaggedLine (d .replay .phase) d l
+
+abbrev output : Taking → Desk → List (List ℕ) → List ℕ
+output t d [] = []
+output t d (l ∷ ls) = said t d l ++ output t (next t d l) ls
+
+abbrev left : Taking → Desk → List (List ℕ) → Desk
+left t d [] = d
+left t d (l ∷ ls) = left t (next t d l) ls
+
+-- Lines in two parts, the state carried over. Everything that a run is made of is opened here, for the checker to compute.
+unfoldable pub replayed : Taking → ℕ → List (List ℕ) → List (List ℕ) → List ℕ
+unfolding after tagByHigh tagByLow counts carriesLow nibbleIn nibblePlace startsCount crcOf divisor nibbleBits distanceOf endsEpoch epochAfter epochOf epochs epochsIn firstTag frames idleNumber lead placeOf startsEpoch tagAfter tagBefore tags carriedIn dataOf fieldsOf readNibbles assigned activeIn orderOf portOf rankSeen doubtfulBy eosAlone eosWrong exact gidDiffers heldBy highestSeen judgeOf missing repeats takes begins foremost further latest noTag ready within brought owesNothing silent notedBy passedGroup passedOf passedPort passedPorts passedStep ruledBy rulingOf beginBy begunOf clearedPort clearedPorts clearedStep gatherBy settledOf stopBy stoppedOf portsIn sized storeFor dueIn fetchOut fetchRecord fetchRows fits outIfDue reportIfDue rowsIfDue recordOf frameRows frameStore gatheredBy marksBy portRows refusalBy settledBy storeBy takenRows takenStore fetchFits frameFits outputFor rowsFit frameInto framesInto outputBy outputOf replyPort replyPorts reportBy reportSeen reportedOf rulingEpoch seenAll seenOf startsOf withState statesWorkedOut statePut statesPut freshPort freshPorts sizedRows startFits startRows claim claims holders stateBy statesOf ackOf turnsAck groupAt groupOf groupRow putGroup memberAt memberOf memberRow putMember marksAt packetsAt putMarks putPackets putRow rowIn putStep stepAt stepOf stepRow arrives frameDropped byStart byWindow countsOn distanceIn flagged inStep joining keeps outside readable takenOf begunRun furtherRun inStepAt oneMore runOn secondRun byteAt h4At packetIn placeIn ringOf storedAt cutByte cutFrom firstMark markIn markedAt markedByte passedByte passedMarks saidTo deskAfter lineOpening settingsBy fieldsIn numberIn digitOf hexOf isHex bytesIn flagIn frameBy lineRecord startable openWithTurn openWithRows answeredTurn payloadAt framedRows framedStore fetchRecordBy fetchRowsBy reportText epochText markText countIn decimalText numberText statesIn stateAt stateLine portText stateText answerText reportIn
+replayed t store first second = output t (lentFor store) first ++ output t (left t (lentFor store) first) second
+
+abbrev lines : List (List ℕ)
+lines = linesOf (ascii "1\t1\t16\n0\t00\t0\tAB\n0\t01\t0\tAB\n0\t52\t0\tAB\n0\t03\t0\tAB\n0\t04\t0\tAB\n0\t05\t0\tAB\n0\t96\t0\tAB\n0\t97\t0\tAB\n0\tF8\t0\tAB\n0\tF9\t0\tAB\n0\t0A\t0\tAB\n0\t0B\t0\tAB\n0\t0C\t0\tAB\n0\t0D\t0\tAB\n0\tFE\t0\tAB\n0\tFF\t0\tAB\n0\t00\t0\tAB\n0\t11\t0\tAB\n0\t52\t0\tAB\n0\t03\t0\tAB\n0\t04\t0\tAB\n0\t05\t0\tAB\n0\tF6\t0\tAB\n0\t27\t0\tAB\n0\tF8\t0\tAB\n0\tF9\t0\tAB\n0\t0A\t0\tAB\n0\t0B\t0\tAB\n0\t0C\t0\tAB\n0\t0D\t0\tAB\n0\tFE\t0\tAB\n0\tFF\t0\tAB\n0\t00\t0\tAB\n0\t21\t0\tAB\n0\t52\t0\tAB\n0\t03\t0\tAB\n0\t04\t0\tAB\n0\t05\t0\tAB\n0\t46\t0\tAB\n0\tF7\t0\tAB\n0\tF8\t0\tAB\n0\tF9\t0\tAB\n0\t0A\t0\tAB\n0\t0B\t0\tAB\n0\t0C\t0\tAB\n0\t0D\t0\tAB\n0\tFE\t0\tAB\n0\tFF\t0\tAB\n0\t00\t0\tAB\n0\t31\t0\tAB\n0\t52\t0\tAB\n0\t03\t0\tAB\n0\t04\t0\tAB\n0\t05\t0\tAB\n0\t26\t0\tAB\n0\t47\t0\tAB\n0\tF8\t0\tAB\n0\tF9\t0\tAB\n0\t0A\t0\tAB\n0\t0B\t0\tAB\n0\t0C\t0\tAB\n0\t0D\t0\tAB\n0\tFE\t0\tAB\n0\tFF\t0\tAB\n0\t00\t0\tAB\n0\t41\t0\tAB\n0\t52\t0\tAB\n0\t03\t0\tAB\n0\t04\t0\tAB\n0\t05\t0\tAB\n0\t36\t0\tAB\n0\t27\t0\tAB\n")
+
+-- with a line that is none behind line 41
+abbrev torn : List (List ℕ)
+torn = take 41 lines ++ (ascii "0\t0" ∷ drop 41 lines)
+
+pub table : List Row
+table =
+    record { name = "72 frames to the first report, all IDLE"; given = replayed Right 32 lines []; said = ascii "epoch\t4\tsure\tbytes\t0\tline\t73\n" }
+    ∷ record { name = "the same cut after line 40"; given = replayed Right 32 (take 40 lines) (drop 40 lines); said = ascii "epoch\t4\tsure\tbytes\t0\tline\t73\n" }
+    ∷ record { name = "one frame less"; given = replayed Right 32 (take 72 lines) []; said = [] }
+    ∷ record { name = "with a torn line put in"; given = replayed Right 32 torn []; said = ascii "answer\t13\tline\t42\nepoch\t4\tsure\tbytes\t0\tline\t74\n" }
+    ∷ record { name = "no ports: 4, and the rest is swallowed"; given = replayed Right 32 (ascii "0\t1\t16" ∷ drop 1 torn) []; said = ascii "answer\t4\tline\t1\n" }
+    ∷ record { name = "a store of one byte less than is asked: 4"; given = replayed Right 31 lines []; said = ascii "answer\t4\tline\t1\n" }
+    ∷ record { name = "a first line that is none: 13, whatever follows"; given = replayed Right 32 (ascii "x" ∷ lines) []; said = ascii "answer\t13\tline\t1\n" }
+    ∷ []
+
+pub examples : Equal table
+unfolding table replayed linesOf
+examples = equal-rows table refl
+
+-- 'with the state carried over': a report that is due at the cut is part of it
+forgetful-breaks : (replayed Forgetful 32 lines [] ≡ []) × (replayed Right 32 lines [] ≡ ascii "epoch\t4\tsure\tbytes\t0\tline\t73\n")
+unfolding replayed linesOf
+forgetful-breaks = (refl, refl)
+
+-- 'and changes nothing else': a flagged frame would lose the port's step, and no report comes
+flagging-breaks : (replayed Flagging 32 torn [] ≡ ascii "answer\t13\tline\t42\n") × (replayed Right 32 torn [] ≡ ascii "answer\t13\tline\t42\nepoch\t4\tsure\tbytes\t0\tline\t74\n")
+unfolding replayed linesOf
+flagging-breaks = (refl, refl)

@@ -1,0 +1,68 @@
+use borrow.Author.Needs.{needs}
+use Rattle.recording.specs.Laws.Here.{frameBehind}
+use Rattle.recording.proofs.record.frame_behind.Statement.{statement}
+use Rattle.recording.proofs.record.frame_behind.Tie as tie
+
+read-number-requires : tie.Need-read-number-requires
+read-number-requires c κs = search needs
+
+add-read-hex : tie.Need-add-read-hex
+add-read-hex c = search needs
+
+add-read-hex-2 : tie.Need-add-read-hex-2
+add-read-hex-2 c = search needs
+
+read-hex-requires : tie.Need-read-hex-requires
+read-hex-requires c κs = search needs
+
+add-flag-in : tie.Need-add-flag-in
+add-flag-in c = search needs
+
+add-flag-in-2 : tie.Need-add-flag-in-2
+add-flag-in-2 c = search needs
+
+flag-in-requires : tie.Need-flag-in-requires
+flag-in-requires c κs = search needs
+
+digits-of-requires : tie.Need-digits-of-requires
+digits-of-requires c κs = search needs
+
+add-is-hex : tie.Need-add-is-hex
+add-is-hex c = search needs
+
+is-hex-requires : tie.Need-is-hex-requires
+is-hex-requires c κs = search needs
+
+add-frame-by : tie.Need-add-frame-by
+add-frame-by c = search needs
+
+add-frame-by-2 : tie.Need-add-frame-by-2
+add-frame-by-2 c = search needs
+
+frame-by-requires : tie.Need-frame-by-requires
+frame-by-requires c κs = search needs
+
+returns : tie.Need-returns
+unfolding frameBehind
+returns c =
+    rw (← c .before .before .before .before .before .read-number .ensures, ← c .before .before .before .before .read-hex .ensures, ← c .before .before .before .flag-in .ensures, ← c .before .before .digits-of .ensures, ← c .before .is-hex .ensures)
+    (c .frame-by .ensures)
+
+pub frame-behind-spec : {M : Type 1} → statement M
+frame-behind-spec =
+    tie.close
+    (tie.spec
+    read-number-requires
+    add-read-hex
+    add-read-hex-2
+    read-hex-requires
+    add-flag-in
+    add-flag-in-2
+    flag-in-requires
+    digits-of-requires
+    add-is-hex
+    is-hex-requires
+    add-frame-by
+    add-frame-by-2
+    frame-by-requires
+    returns)

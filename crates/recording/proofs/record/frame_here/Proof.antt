@@ -1,0 +1,62 @@
+use mathlib.Core.Bool.{false≢true}
+use mathlib.Core.Path.{sym, ap, _∙_}
+use Prim.Native.Nat.{ℕ, _+_, _≤_}
+use native.Mathlib.Omega.{arith}
+use borrow.Author.Needs.{needs}
+use Rattle.recording.specs.Laws.Here.{here-is, isFrame, piece-within}
+use Rattle.text.specs.Text.{TAB}
+use Rattle.recording.proofs.record.frame_here.Statement.{statement}
+use Rattle.recording.proofs.record.frame_here.Tie as tie
+
+returns : tie.Need-returns
+returns c = λ t. absurd (false≢true t)
+
+add-piece-end : tie.Need-add-piece-end
+add-piece-end c = search needs
+
+piece-end-requires : tie.Need-piece-end-requires
+piece-end-requires c κs = search needs
+
+add-end : tie.Need-add-end
+add-end c =
+    let w = piece-within TAB (c .before .before .before .args .text .now) (c .before .before .before .args .at) (c .before .before .before .args .at + 10) (omega arith) in
+    let e = c .piece-end .ensures in
+    omega arith
+
+digits-of-requires : tie.Need-digits-of-requires
+digits-of-requires c κs = search needs
+
+add-end-2 : tie.Need-add-end-2
+add-end-2 c =
+    let w = piece-within TAB (c .before .before .before .before .args .text .now) (c .before .before .before .before .args .at) (c .before .before .before .before .args .at + 10) (omega arith) in
+    let e = c .before .piece-end .ensures in
+    let d = c .digits-of .ensures in
+    omega arith
+
+returns-2 : tie.Need-returns-2
+returns-2 c = λ t. absurd (false≢true t)
+
+sub-if3 : tie.Need-sub-if3
+sub-if3 c = search needs
+
+returns-3 : tie.Need-returns-3
+returns-3 c = λ t. absurd (false≢true t)
+
+is-parted-requires : tie.Need-is-parted-requires
+is-parted-requires c κs = (omega arith, omega arith)
+
+frame-behind-requires : tie.Need-frame-behind-requires
+frame-behind-requires c κs = (omega arith, omega arith)
+
+returns-4 : tie.Need-returns-4
+returns-4 c =
+    let e = c .frame-behind .ensures in
+    let q = c .before .before .before .before .before .before .piece-end .ensures in
+    let h : c .before .before .before .before .before .before .before .before .before .args .at ≤ c .before .before .before .before .before .before .piece-end .result = omega arith in
+    λ t. e ∙ here-is (c .before .before .before .before .before .before .before .before .before .args .ports) (c .before .before .before .before .before .before .before .before .before .args .size) (c .before .before .before .before .before .before .before .before .before .args .text .now) (c .before .before .before .before .before .before .before .before .before .args .at) (c .before .before .before .before .before .before .piece-end .result) (c .before .before .before .before .before .before .piece-end .result + 6 + c .before .before .before .before .before .digits-of .result) h (ap (λ (n : ℕ). c .before .before .before .before .before .before .piece-end .result + 6 + n) (c .before .before .before .before .before .digits-of .ensures)) (c .before .before .before .before .if2 .left) (c .before .before .before .if3 .left) (sym (c .before .before .is-parted .ensures) ∙ c .before .if4 .taken) (sym (ap isFrame e) ∙ t)
+
+returns-5 : tie.Need-returns-5
+returns-5 c = λ t. absurd (false≢true t)
+
+pub frame-here-spec : {M : Type 1} → statement M
+frame-here-spec = tie.close (tie.spec returns add-piece-end piece-end-requires add-end digits-of-requires add-end-2 returns-2 sub-if3 returns-3 is-parted-requires frame-behind-requires returns-4 returns-5)

@@ -1,0 +1,29 @@
+use mathlib.Core.Path.{ap, _∙_}
+use borrow.Author.Needs.{needs}
+use Rattle.replaying.specs.declared.turns.Replayed.{Replayed}
+use Rattle.replaying.specs.Turn.{storeBy}
+use Rattle.replaying.proofs.turns.open_all.Statement.{statement}
+use Rattle.replaying.proofs.turns.open_all.Tie as tie
+
+open-requires : tie.Need-open-requires
+open-requires c κs = search needs
+
+store-by-requires : tie.Need-store-by-requires
+store-by-requires c κs = search needs
+
+same-length : tie.Need-same-length
+same-length c = search needs
+
+same-length-2 : tie.Need-same-length-2
+same-length-2 c = search needs
+
+same-length-3 : tie.Need-same-length-3
+same-length-3 c = search needs
+
+returns : tie.Need-returns
+returns c =
+    let o = c .before .before .before .before .before .before .before .before .«open» .ensures in
+    (o .0, o .1, c .before .before .store-by .ensures ∙ ap (λ (q : Replayed). storeBy (q .replay .phase) (c .before .before .before .before .before .before .before .before .before .before .before .before .before .before .args .store .now)) (o .0), o .2)
+
+pub open-all-spec : {M : Type 1} → statement M
+open-all-spec = tie.close (tie.spec open-requires store-by-requires same-length same-length-2 same-length-3 returns)

@@ -1,0 +1,87 @@
+use mathlib.Core.Bool.{false, true}
+use mathlib.Core.Path.{_≡_, ap, refl, _∙_}
+use Prim.Native.Nat.{_≤_, _<_}
+use native.Mathlib.Omega.{arith}
+use lib.Dec.{ltb}
+use lib.ListN.{getD, length}
+use borrow.Author.Tests.{le-ltb, lt-ltb}
+use Rattle.replaying.specs.Output.{reportText}
+use Rattle.replaying.specs.Turn.{fetchRecordBy, fetchedSaid, fetchedTurn, reportOf, reportedTurn}
+use Rattle.replaying.proofs.Printing.{put-over, report-le}
+use borrow.Author.Needs.{needs}
+use Rattle.replaying.proofs.turns.report_now.Statement.{statement}
+use Rattle.replaying.proofs.turns.report_now.Tie as tie
+
+states-in-requires : tie.Need-states-in-requires
+states-in-requires c κs = search needs
+
+fetch-requires : tie.Need-fetch-requires
+fetch-requires c κs = (c .before .before .before .before .before .before .before .pre .0 .rows-there, c .before .before .before .before .before .before .before .pre .0 .store-there)
+
+array-read-if1 : tie.Need-array-read-if1
+array-read-if1 c = search needs
+
+read-on-requires : tie.Need-read-on-requires
+read-on-requires c κs = search needs
+
+same-length : tie.Need-same-length
+same-length c = search needs
+
+same-length-2 : tie.Need-same-length-2
+same-length-2 c = search needs
+
+returns : tie.Need-returns
+unfolding fetchedTurn fetchedSaid
+returns c =
+    let y : getD (c .before .before .before .before .before .fetch .result) 0 0 ≤ 0 = omega (arith, c .before .if1 .taken) in
+    let d : ltb 0 (getD (fetchRecordBy (c .before .before .before .before .before .before .before .before .before .before .before .before .before .args .replay) (c .before .before .before .before .before .before .before .before .before .before .before .before .before .args .rows .now) (c .before .before .before .before .before .before .before .before .before .before .before .before .before .args .store .now) (c .before .before .before .before .before .before .before .before .before .before .before .before .before .args .out .now)) 0 0) ≡ false = rw (← c .before .before .before .before .before .fetch .ensures .0) (le-ltb 0 (getD (c .before .before .before .before .before .fetch .result) 0 0) y) in
+    rw d (c .read-on .ensures, c .before .before .before .before .before .fetch .ensures .1, c .before .before .before .before .before .fetch .ensures .2, refl)
+
+states-in-requires-2 : tie.Need-states-in-requires-2
+states-in-requires-2 c κs = search needs
+
+put-report-requires : tie.Need-put-report-requires
+put-report-requires c κs = (c .before .before .before .before .before .before .before .before .before .before .before .before .before .before .before .pre .0 .few, c .before .before .before .before .before .before .before .before .before .before .before .before .before .before .before .pre .0 .room)
+
+reported-requires : tie.Need-reported-requires
+reported-requires c κs = c .before .before .before .before .before .before .before .before .before .before .before .before .before .before .before .before .before .before .pre .1
+
+same-length-3 : tie.Need-same-length-3
+same-length-3 c = search needs
+
+same-length-4 : tie.Need-same-length-4
+same-length-4 c = search needs
+
+same-length-5 : tie.Need-same-length-5
+same-length-5 c = search needs
+
+returns-2 : tie.Need-returns-2
+unfolding fetchedTurn fetchedSaid reportOf
+returns-2 c =
+    let l = c .before .before .before .before .before .before .before .before .before .before .before .before .before .before .before .before .before .before .before .pre .0 in
+    let y : 0 < getD (c .before .before .before .before .before .before .before .before .before .before .before .fetch .result) 0 0 = omega (arith, c .before .before .before .before .before .before .before .if1 .left) in
+    let d : ltb 0 (getD (fetchRecordBy (c .before .before .before .before .before .before .before .before .before .before .before .before .before .before .before .before .before .before .before .args .replay) (c .before .before .before .before .before .before .before .before .before .before .before .before .before .before .before .before .before .before .before .args .rows .now) (c .before .before .before .before .before .before .before .before .before .before .before .before .before .before .before .before .before .before .before .args .store .now) (c .before .before .before .before .before .before .before .before .before .before .before .before .before .before .before .before .before .before .before .args .out .now)) 0 0) ≡ true = rw (← c .before .before .before .before .before .before .before .before .before .before .before .fetch .ensures .0) (lt-ltb 0 (getD (c .before .before .before .before .before .before .before .before .before .before .before .fetch .result) 0 0) y) in
+    let w : reportText (c .before .before .before .before .before .before .before .before .before .before .before .fetch .result) (c .before .before .before .before .before .before .before .before .before .before .before .before .before .before .before .before .before .before .before .args .replay .line) (c .before .before .before .before .before .before .before .before .before .before .before .before .before .before .states-in .result) (c .before .before .before .before .before .states-in2 .result) (c .before .before .before .before .before .before .before .before .before .before .before .before .before .before .before .before .before .before .before .args .replay .ports) ≡ reportOf (c .before .before .before .before .before .before .before .before .before .before .before .before .before .before .before .before .before .before .before .args .replay) (c .before .before .before .before .before .before .before .before .before .before .before .before .before .before .before .before .before .before .before .args .rows .now) (c .before .before .before .before .before .before .before .before .before .before .before .before .before .before .before .before .before .before .before .args .store .now) (c .before .before .before .before .before .before .before .before .before .before .before .before .before .before .before .before .before .before .before .args .out .now) = rw (c .before .before .before .before .before .states-in2 .ensures, c .before .before .before .before .before .before .before .before .before .before .before .before .before .before .states-in .ensures, c .before .before .before .before .before .before .before .before .before .before .before .fetch .ensures .1, c .before .before .before .before .before .before .before .before .before .before .before .fetch .ensures .0) in
+    let k = report-le (c .before .before .before .before .before .before .before .before .before .before .before .fetch .result) (c .before .before .before .before .before .before .before .before .before .before .before .before .before .before .before .before .before .before .before .args .replay .line) (c .before .before .before .before .before .before .before .before .before .before .before .before .before .before .states-in .result) (c .before .before .before .before .before .states-in2 .result) (c .before .before .before .before .before .before .before .before .before .before .before .before .before .before .before .before .before .before .before .args .replay .ports) (l .few) in
+    let h : length (reportText (c .before .before .before .before .before .before .before .before .before .before .before .fetch .result) (c .before .before .before .before .before .before .before .before .before .before .before .before .before .before .before .before .before .before .before .args .replay .line) (c .before .before .before .before .before .before .before .before .before .before .before .before .before .before .states-in .result) (c .before .before .before .before .before .states-in2 .result) (c .before .before .before .before .before .before .before .before .before .before .before .before .before .before .before .before .before .before .before .args .replay .ports)) ≤ length (c .before .before .before .before .before .before .before .before .before .before .before .before .before .before .before .before .before .before .before .args .said .now) = omega (arith, l .room) in
+    let q = rw w at (put-over (c .before .before .before .put-report .ensures) h) in
+    rw d (c .reported .ensures ∙ ap (reportedTurn (c .before .before .before .before .before .before .before .before .before .before .before .before .before .before .before .before .before .before .before .args .replay)) (q .0), c .before .before .before .before .before .before .before .before .before .before .before .fetch .ensures .1, c .before .before .before .before .before .before .before .before .before .before .before .fetch .ensures .2, q .1)
+
+pub report-now-spec : {M : Type 1} → statement M
+report-now-spec =
+    tie.close
+    (tie.spec
+    states-in-requires
+    fetch-requires
+    array-read-if1
+    read-on-requires
+    same-length
+    same-length-2
+    returns
+    states-in-requires-2
+    put-report-requires
+    reported-requires
+    same-length-3
+    same-length-4
+    same-length-5
+    returns-2)

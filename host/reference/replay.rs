@@ -1,0 +1,233 @@
+//! A recording run again. Written from the request (2026-05), its readings and 01.
+
+use crate::packet::DONE;
+use crate::receiver::{fast, Receiver as Plain, Report, Shown, DOUBTFUL, EPOCH_FRAMES, HELD, NONE, NONE_DUE, STATE_FAIL, STATE_IDLE};
+
+const LINE_MOST: usize = 8192;
+const OUT_OF_RANGE: u8 = 4;
+const MALFORMED: u8 = 13;
+
+/// A receiver in one of the reference's forms, with what it is lent.
+pub trait Receives: Sized {
+    fn start(ports: u32, payload: u32, window: u32, store: usize) -> Result<Self, u8>;
+    fn frame(&mut self, port: u32, flagged: bool, h4: u8, payload: &[u8], store: &mut [u8]) -> u8;
+    fn fetch(&mut self, store: &[u8], output: &mut [u8]) -> (u8, Report);
+    fn ports(&self) -> Vec<Shown>;
+}
+
+impl Receives for Plain {
+    fn start(ports: u32, payload: u32, window: u32, store: usize) -> Result<Plain, u8> {
+        let mut receiver = Plain::empty();
+        match receiver.start(ports, payload, window, store) {
+            DONE => Ok(receiver),
+            answer => Err(answer),
+        }
+    }
+
+    fn frame(&mut self, port: u32, flagged: bool, h4: u8, payload: &[u8], store: &mut [u8]) -> u8 {
+        self.frame(port, flagged, h4, payload, store)
+    }
+
+    fn fetch(&mut self, store: &[u8], output: &mut [u8]) -> (u8, Report) {
+        self.fetch(store, output)
+    }
+
+    fn ports(&self) -> Vec<Shown> {
+        self.ports()
+    }
+}
+
+impl Receives for fast::Receiver {
+    fn start(ports: u32, payload: u32, window: u32, store: usize) -> Result<fast::Receiver, u8> {
+        fast::Receiver::start(ports, payload, window, store)
+    }
+
+    fn frame(&mut self, port: u32, flagged: bool, h4: u8, payload: &[u8], store: &mut [u8]) -> u8 {
+        self.frame(port, flagged, h4, payload, store)
+    }
+
+    fn fetch(&mut self, store: &[u8], output: &mut [u8]) -> (u8, Report) {
+        self.fetch(store, output)
+    }
+
+    fn ports(&self) -> Vec<Shown> {
+        self.ports()
+    }
+}
+
+/// One to nine decimal digits, by value.
+fn number(field: &[u8]) -> Option<u32> {
+    let fits = (1..=9).contains(&field.len()) && field.iter().all(u8::is_ascii_digit);
+    fits.then(|| field.iter().fold(0, |value, digit| 10 * value + u32::from(digit - b'0')))
+}
+
+/// The value of each byte as a hex digit of either case, and NONE for any other.
+const DIGITS: [u8; 256] = {
+    let mut digits = [NONE; 256];
+    let mut value = 0;
+    while value < 16 {
+        digits[b"0123456789abcdef"[value] as usize] = value as u8;
+        digits[b"0123456789ABCDEF"[value] as usize] = value as u8;
+        value += 1;
+    }
+    digits
+};
+
+/// The bytes that a field stands for by two hex digits each, or false if it is not just that.
+fn hex(field: &[u8], bytes: &mut [u8]) -> bool {
+    if field.len() != 2 * bytes.len() {
+        return false;
+    }
+    let mut strange = 0;
+    for (byte, pair) in bytes.iter_mut().zip(field.chunks_exact(2)) {
+        let (high, low) = (DIGITS[usize::from(pair[0])], DIGITS[usize::from(pair[1])]);
+        strange |= high | low;
+        *byte = high << 4 | low & 15;
+    }
+    strange < 16
+}
+
+/// A group that runs.
+struct Group<R> {
+    receiver: R,
+    ports: u32,
+    store: Vec<u8>,
+    output: Vec<u8>,
+    /// The bytes of the frame just read.
+    payload: Vec<u8>,
+    /// Member state and number of each port at the last report.
+    states: Vec<(u8, u8)>,
+}
+
+fn states<R: Receives>(receiver: &R) -> Vec<(u8, u8)> {
+    receiver.ports().iter().map(|p| (p.state, p.number)).collect()
+}
+
+/// What the settings say: 13, 4, or a group. Settings are ports, P and W.
+fn opened<R: Receives>(line: &[u8], store_most: usize) -> Result<Group<R>, u8> {
+    if line.len() > LINE_MOST {
+        return Err(MALFORMED);
+    }
+    let fields: Vec<Option<u32>> = line.split(|b| *b == b'\t').map(number).collect();
+    let (ports, payload, window) = match fields[..] {
+        [Some(ports), Some(payload), Some(window)] => (ports, payload, window),
+        _ => return Err(MALFORMED),
+    };
+    if !Plain::fits(ports, payload, window) {
+        return Err(OUT_OF_RANGE);
+    }
+    let size = payload as usize;
+    let store = ports as usize * window as usize * (size + 1);
+    if store > store_most {
+        return Err(OUT_OF_RANGE);
+    }
+    let receiver = R::start(ports, payload, window, store)?;
+    Ok(Group {
+        ports,
+        store: vec![0; store],
+        output: vec![0; ports as usize * EPOCH_FRAMES * size],
+        payload: vec![0; size],
+        states: states(&receiver),
+        receiver,
+    })
+}
+
+impl<R: Receives> Group<R> {
+    /// Port, H4 and flag of a frame's line, with its bytes in `payload`; None if it is malformed.
+    fn frame(&mut self, line: &[u8]) -> Option<(u32, u8, bool)> {
+        if line.len() > LINE_MOST {
+            return None;
+        }
+        let mut fields = line.split(|b| *b == b'\t');
+        let (port, h4, flag, digits) = (fields.next()?, fields.next()?, fields.next()?, fields.next()?);
+        if fields.next().is_some() {
+            return None;
+        }
+        let port = number(port).filter(|port| *port < self.ports)?;
+        let mut byte = [0];
+        let flag = match flag {
+            b"0" => false,
+            b"1" => true,
+            _ => return None,
+        };
+        (hex(h4, &mut byte) && hex(digits, &mut self.payload)).then(|| (port, byte[0], flag))
+    }
+
+    /// A frame handed once, then reports until none is due.
+    fn take(&mut self, frame: (u32, u8, bool), number: u64, said: &mut Vec<u8>) {
+        let (port, h4, flagged) = frame;
+        self.receiver.frame(port, flagged, h4, &self.payload, &mut self.store);
+        loop {
+            let (_, report) = self.receiver.fetch(&self.store, &mut self.output);
+            let mark = match report.mark {
+                NONE_DUE => return,
+                HELD => "held",
+                DOUBTFUL => "doubtful",
+                _ => "sure",
+            };
+            said.extend(format!("epoch\t{}\t{}\tbytes\t{}\tline\t{}\n", report.epoch, mark, report.bytes, number).bytes());
+            let now = states(&self.receiver);
+            for (port, ((state, number), before)) in now.iter().zip(&self.states).enumerate() {
+                if (*state, *number) != *before {
+                    let word = match *state {
+                        STATE_IDLE => "IDLE",
+                        STATE_FAIL => "FAIL",
+                        _ => "OK",
+                    };
+                    said.extend(format!("port\t{}\t{}\t{}\n", port, word, number).bytes());
+                }
+            }
+            self.states = now;
+        }
+    }
+}
+
+enum Phase<R> {
+    Settings,
+    Running(Group<R>),
+    Ended,
+}
+
+/// How far a recording has been replayed.
+pub struct Replay<R> {
+    phase: Phase<R>,
+    lines: u64,
+    store_most: usize,
+}
+
+impl<R: Receives> Replay<R> {
+    pub fn new(store_most: usize) -> Replay<R> {
+        Replay { phase: Phase::Settings, lines: 0, store_most }
+    }
+
+    /// One line, without its end; what is printed is put behind what was said.
+    pub fn line(&mut self, line: &[u8], said: &mut Vec<u8>) {
+        self.lines += 1;
+        let number = self.lines;
+        let mut refuse = |answer: u8| said.extend(format!("answer\t{}\tline\t{}\n", answer, number).bytes());
+        match &mut self.phase {
+            Phase::Settings => match opened(line, self.store_most) {
+                Ok(group) => self.phase = Phase::Running(group),
+                Err(answer) => {
+                    refuse(answer);
+                    self.phase = Phase::Ended;
+                }
+            },
+            Phase::Running(group) => match group.frame(line) {
+                Some(frame) => group.take(frame, number, said),
+                None => refuse(MALFORMED),
+            },
+            Phase::Ended => {}
+        }
+    }
+}
+
+/// The whole output of a recording, whose last line may lack its end.
+pub fn whole<R: Receives>(recording: &[u8], store_most: usize) -> Vec<u8> {
+    let mut replay = Replay::<R>::new(store_most);
+    let mut said = Vec::new();
+    for line in recording.split_inclusive(|b| *b == b'\n') {
+        replay.line(line.strip_suffix(b"\n").unwrap_or(line), &mut said);
+    }
+    said
+}

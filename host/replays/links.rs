@@ -1,0 +1,95 @@
+//! The example link with --record and --at-once beside the replay of what it recorded: their lines of epochs and of port
+//! states say the same. The link says states once all frames of a frame time are handed, so that reports which come together
+//! have one list of changes there.
+
+use crate::random::Random;
+use std::collections::BTreeMap;
+use std::process::Command;
+
+/// A report as both say it, and the states that are said behind it.
+#[derive(Default)]
+struct Report {
+    epoch: u64,
+    mark: String,
+    bytes: u64,
+    states: Vec<(u64, String)>,
+}
+
+fn number(field: &str) -> u64 {
+    field.parse().expect("a number")
+}
+
+/// The reports of either program; the epoch of the link's first one has this number in its packets.
+fn reports(text: &str, first: u64) -> Vec<Report> {
+    let mut reports: Vec<Report> = Vec::new();
+    for line in text.lines() {
+        let fields: Vec<&str> = line.split('\t').collect();
+        match fields[..] {
+            ["epoch", epoch, mark, ref rest @ ..] => {
+                let bytes = if rest.first() == Some(&"bytes") { number(rest[1]) } else { 0 };
+                reports.push(Report { epoch: (number(epoch) + first) % 256, mark: mark.into(), bytes, states: Vec::new() });
+            }
+            ["port", port, state @ ("IDLE" | "FAIL" | "OK"), of] => {
+                let report = reports.last_mut().expect("a state changes at a report");
+                report.states.push((number(port), format!("{} {}", state, of)));
+            }
+            _ => {}
+        }
+    }
+    reports
+}
+
+/// What ports are said to be, where it is another than before.
+fn changes(before: &BTreeMap<u64, String>, said: &[Report]) -> Vec<(u64, String)> {
+    let mut now = before.clone();
+    for report in said {
+        now.extend(report.states.iter().cloned());
+    }
+    let idle = "IDLE 255".to_string();
+    now.into_iter().filter(|(port, state)| before.get(port).unwrap_or(&idle) != state).collect()
+}
+
+pub struct Compared {
+    pub same: bool,
+    pub reports: usize,
+    pub states: usize,
+    pub together: usize,
+}
+
+/// A link drawn from the seed.
+pub fn compared(folder: &str, link: &[String], replay: &[String], seed: u64) -> Compared {
+    let mut random = Random::new(seed);
+    let first = random.below(256);
+    let file = format!("{}/recorded", folder);
+    let slots = 1 + random.below(6);
+    let payload = random.one_of(&[1, 7, 30]);
+    let window = random.one_of(&[32, 48, 64, 100]);
+    let choices = format!(
+        "--at-once --each --seed {} --slots {} --payload {} --window {} --number {} --epochs 60 --record {}",
+        seed, slots, payload, window, first, file
+    );
+    let said = Command::new(&link[0]).args(&link[1..]).args(choices.split(' ')).output().expect("the example link starts");
+    let run_again = Command::new(&replay[0]).args(&replay[1..]).arg(&file).output().expect("the replay program starts");
+    let (link_text, replay_text) = (String::from_utf8_lossy(&said.stdout), String::from_utf8_lossy(&run_again.stdout));
+    let (of_link, of_replay) = (reports(&link_text, first), reports(&replay_text, 0));
+
+    let alike = |(a, b): (&Report, &Report)| a.epoch == b.epoch && a.mark == b.mark && a.bytes == b.bytes;
+    let mut same = of_link.len() == of_replay.len() && of_link.iter().zip(&of_replay).all(alike) && !replay_text.contains("answer");
+    // up to each report behind which the link says states, and at the end
+    let (mut before, mut start, mut together) = (BTreeMap::new(), 0, 0);
+    for end in 1..=of_link.len().min(of_replay.len()) {
+        if of_link[end - 1].states.is_empty() && end < of_link.len() {
+            continue;
+        }
+        same &= changes(&before, &of_link[start..end]) == changes(&before, &of_replay[start..end]);
+        together += usize::from(of_replay[start..end - 1].iter().any(|r| !r.states.is_empty()));
+        for report in &of_replay[start..end] {
+            before.extend(report.states.iter().cloned());
+        }
+        start = end;
+    }
+    if !same {
+        println!("differs\tseed {}\t{}", seed, choices);
+    }
+    Compared { same, reports: of_replay.len(), states: of_replay.iter().map(|r| r.states.len()).sum(), together }
+}
