@@ -729,7 +729,8 @@ uint8_t levelspruce_card_owned(const uint8_t *state, size_t state_length,
  * tried on the card as it stands.
  *
  * A remove opens its group's wait, so every later add and remove of that group
- * in the same order is answered 3. One remove an order and group, at its end.
+ * in the same order is answered 3. Give one remove an order and group, at its
+ * end.
  */
 #define LEVELSPRUCE_COMMAND_NUMBERS 3
 #define LEVELSPRUCE_COMMAND_KIND 0

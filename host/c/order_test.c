@@ -128,7 +128,7 @@ static void lengths(void)
 
     start(2);
     check("three commands and two answers: 9, and no byte changes", say(STATE, n, n - 1) == 9 && say(STATE, n, n + 1) == 9 && say(STATE, n, 0) == 9);
-    check("commands lack for answers: 9", say(STATE, 0, 1) == 9);
+    check("no command and one answer: 9", say(STATE, 0, 1) == 9);
     for (i = 0; i < COUNT(wrong); i++)
         held &= say(wrong[i], n, n) == 9 && say(wrong[i], 0, 0) == 9 && say(wrong[i], n, n - 1) == 9;
     check("a state of another length: 9", held);

@@ -141,7 +141,7 @@ owners-of : (state : List ℕ) → cardOf state .owners ≡ ownersIn state
 unfolding cardOf
 owners-of state = refl
 
--- A call reads the owner row and the group's own part alone: on two states with the same of these it is answered alike, and leaves the same of these.
+-- A call that changes a card reads the owner row and the group's own part alone: on two states with the same of these it is answered alike, and leaves the same part.
 module _ (g : ℕ) (s t : List ℕ) (sized : length s ≡ length t) (row : ownersIn s ≡ ownersIn t) (part : partIn g s ≡ partIn g t) where
   alike : Alike g (cardOf s) (cardOf t)
   alike = record { owners = owners-of s ∙ row ∙ sym (owners-of t); sender = part-of g s ∙ ap senderOf part ∙ sym (part-of g t) }
