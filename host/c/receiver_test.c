@@ -457,6 +457,59 @@ static void switching(void)
     check("with no switch step is kept, whatever comes damaged", switch_loses_after(0, 0, 200) && switch_loses_after(0, 0xFFF, 200));
 }
 
+/* The H4 byte of the frame with a tag, of a packet whose word is the sum of three: the CRC has no start value, so three packets
+ * that are one but for their words make one more. */
+static uint8_t h4_with_sum(uint32_t tag, uint32_t a, uint32_t b, uint32_t c)
+{
+    const struct source first = { a, 255 }, second = { b, 255 }, third = { c, 255 };
+
+    return h4_of(tag, first) ^ h4_of(tag, second) ^ h4_of(tag, third);
+}
+
+/* Whether a packet with this sum as its word is read with this number, and two of it under another MFI2 lose step. */
+static int odd_with_sum(uint32_t a, uint32_t b, uint32_t c, int number)
+{
+    uint8_t h4[LEVELSPRUCE_PACKET_BYTES], fields[LEVELSPRUCE_FIELDS_BYTES];
+    uint32_t k;
+    int held;
+
+    for (k = 0; k < EPOCH; k++)
+        h4[k] = h4_with_sum(72 + k, a, b, c);
+    held = levelspruce_packet_read(h4, sizeof h4, fields, sizeof fields) == number && started(1, 2, 64) && into_step(0, 16) && hands(0, 48, 56, 0);
+    for (k = 0; k < 2 * EPOCH; k++)
+        held = held && say(FRAME, 0, 0, h4_with_sum(72 + k, a, b, c)) == (k < 2 * EPOCH - 1 ? 0 : 12);
+    return held;
+}
+
+/* One port sends IDLE, and in the packet of epoch 6 EOS with number 0, under the MFI2 of so many epochs later. */
+static int one_of_epoch(uint32_t later)
+{
+    static const struct source active = { E, 0 };
+    uint32_t k;
+    int held = started(1, 2, 64) && into_step(0, 16) && hands(0, 48, 88, 0) && fetched(SURE, 5, 0);
+
+    for (k = 88; k < 104; k++)
+        held = held && hand(0, k + later * EPOCH, active, 1) == 0;
+    return held && fetched(SURE, 6, 0);
+}
+
+static void other_numbers(void)
+{
+    uint32_t last;
+
+    check("an odd packet is one whatever its word: FIXED, unassigned", odd_with_sum(A, N, E, 7) && odd_with_sum(N, E, I, 6));
+    check("a packet with the right number between two odd ones starts the row anew", started(1, 2, 300) && into_step(0, 16) && hands(0, 48, 56, 0)
+          && hands(0, 72, 88, 0) && hands(0, 72, 88, 0) && hands(0, 104, 120, 0) && hands(0, 104, 120, 0) && kept_by_switch(0, 120, EPOCH, 0) == 31);
+    /* own MFI1 7, carried 0: the nibble, of the CRC, is then MFI2's high one */
+    last = h4_of(103, quiet) / 16 * 256u;
+    check("the end of a second one, with MFI1 0, is the first of a new 32", started(1, 2, 64) && into_step(0, 16) && hands(0, 48, 56, 0) && hands(0, 72, 103, 0)
+          && hand_damaged(0, 103, quiet, 1, 7) == 12 && hands(0, last + 1, last + 31, 12) && hand(0, last + 31, quiet, 1) == 0);
+    check("a packet with its own number tells word and number, and RS-Ack turns", one_of_epoch(0) && port_is(0, OK, 0, 1, 1, 1, 0, E) && reply_is(0, 0x7F, 1));
+    check("with another it tells neither, and the epoch that it rules is held", one_of_epoch(1) && port_is(0, 0, 255, 1, 1, 1, 0, I) && reply_is(0, 255, 0)
+          && hands(0, 104, 120, 0) && fetched(HELD, 7, 0) && port_is(0, 0, 255, 1, 1, 1, 0, I) && reply_is(0, 255, 0) && hands(0, 120, 136, 0)
+          && fetched(SURE, 8, 0));
+}
+
 /* Two ports, of which the first is handed the tags from 0 on, the second those from 16 on. */
 static void beginning(void)
 {
@@ -806,6 +859,7 @@ int main(void)
     refusals();
     stepping();
     switching();
+    other_numbers();
     beginning();
     window();
     link_of_three();

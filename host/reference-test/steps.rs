@@ -4,7 +4,7 @@ use crate::count::Count;
 use crate::limits::{begun_at, in_step_at};
 use crate::source::{h4, packet, payload, Lent, Says, SAYS_IDLE};
 use reference::packet::{crc, write, Fields, EOS, IDLE, NORM};
-use reference::receiver::{epoch_of, first_tag, Flag, Port, Report, HELD, SURE, TAGS};
+use reference::receiver::{epoch_of, first_tag, Flag, Port, Report, HELD, STATE_IDLE, STATE_OK, SURE, TAGS};
 
 pub fn check(count: &mut Count) {
     count.note("P5: tag 4095 then 0 keeps step, and then 1 does, with tag 0 counted", over_4095());
@@ -16,6 +16,7 @@ pub fn check(count: &mut Count) {
     count.note("a switch by one multiframe at any place loses step 23 to 47 frames later", switches_anywhere());
     count.note("step is lost exactly so, on any record and frame", lost_exactly_so());
     count.note("a port that has not joined is judged alike", unjoined_alike());
+    count.note("a packet with another number is no good one for states and RS-Ack", other_number());
     count.note("one hit in any bit of any frame costs one epoch at most", one_hit());
     count.note("three broken frames in a row cost their packets alone", three_broken());
     count.note("a switch by whole multiframes, at any place: one epoch may be sure and wrong, with a flagged frame none", switched_paths());
@@ -144,13 +145,22 @@ fn nibbles(mfi2: u8, right: bool) -> [u8; 16] {
     nibbles
 }
 
+/// The same with another word, FIXED or an unassigned one too, and the CRC that goes with it.
+fn with_word(mut nibbles: [u8; 16], word: u8) -> [u8; 16] {
+    nibbles[10] = word;
+    let check = crc(&nibbles);
+    (nibbles[14], nibbles[15]) = (check >> 4, check & 15);
+    nibbles
+}
+
 fn lost_exactly_so() -> bool {
     let mut cases = 0;
     let mut right = true;
     for next in [0, 1, 2, 7, 8, 15, 256 + 16 + 7, 4080, 4081, 4087, 4095] {
         let epoch = (next / 16) as u8;
         for (breaks, odd) in (0..4).flat_map(|breaks| [(breaks, false), (breaks, true)]) {
-            for row in [nibbles(epoch, true), nibbles(epoch ^ 1, true), nibbles(epoch ^ 0x80, true), nibbles(epoch ^ 1, false)] {
+            let other = nibbles(epoch ^ 1, true);
+            for row in [nibbles(epoch, true), other, nibbles(epoch ^ 0x80, true), nibbles(epoch ^ 1, false), with_word(other, 0), with_word(other, 4)] {
                 for carried in 0..=255u8 {
                     let mut lent = in_step_record(next, breaks, odd, row);
                     let answer = lent.hand(0, false, carried, &[0]);
@@ -178,7 +188,7 @@ fn lost_exactly_so() -> bool {
             }
         }
     }
-    right && cases == 11 * 8 * 4 * 256
+    right && cases == 11 * 8 * 6 * 256
 }
 
 fn unjoined_alike() -> bool {
@@ -189,6 +199,23 @@ fn unjoined_alike() -> bool {
     let unjoined = lent.receiver.ports[2].in_step() && !lent.receiver.ports[2].joined.is_set();
     let answers = lent.hand_run(2, far + 40 + 16, 32, SAYS_IDLE);
     unjoined && answers[..31].iter().all(|a| *a == 0) && answers[31] == 12
+}
+
+/// One port sends IDLE, and in the packet of epoch 6 EOS, under its own number or another. States and RS-Ack go by good packets.
+fn other_number() -> bool {
+    let says = Says { word: EOS, sq: 0, gid: 0 };
+    let told = |later: usize| {
+        let mut lent = Lent::start(1, 2, 64);
+        lent.hand_run(0, 16, 72, SAYS_IDLE);
+        let before = lent.fetch().epoch == 5;
+        let taken = lent.hand_run(0, 88 + 16 * later, 16, says).iter().all(|a| *a == 0);
+        let report = lent.fetch();
+        let state = (lent.receiver.ports[0].word, lent.receiver.ports[0].state, lent.receiver.reply(0));
+        lent.hand_run(0, 104, 16, SAYS_IDLE);
+        let next = lent.fetch();
+        (before && taken && (report.mark, report.epoch, next.epoch) == (SURE, 6, 7), state, next.mark)
+    };
+    told(0) == (true, (EOS as u8, STATE_OK, (0x7F, 1)), SURE) && told(1) == (true, (IDLE as u8, STATE_IDLE, (255, 0)), HELD)
 }
 
 const PORTS: usize = 3;

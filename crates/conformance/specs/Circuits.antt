@@ -2,14 +2,15 @@
 use mathlib.Core.Path.{refl}
 use mathlib.Core.List.{List, [], _∷_, _++_}
 use Prim.Native.Nat.{ℕ}
-use lib.ListN.{getD, replicate}
+use lib.ListN.{getD, replicate, take}
 use Rattle.c_face.specs.Cards.{putOwn}
 use Rattle.c_face.specs.Keeping.{byteAt}
 use Rattle.circuits.specs.Calls.Call.{AddSlot, Claim, Lapse, Release, RemoveSlot, Report}
 use Rattle.circuits.specs.Commands.{claimOf, commandOf, groupCallOf, releaseOf}
 use Rattle.circuits.specs.Commands.{startOf as cardStart}
-use Rattle.circuits.specs.Owners.{withOwner}
+use Rattle.circuits.specs.Owners.{ownedBytes, withOwner}
 use Rattle.circuits.specs.Parts.{isSlot, isUsed, marked, owns, senderOf, stepped, withSender}
+use Rattle.circuits.specs.Readings.{ownedShown}
 use Rattle.circuits.specs.Shown.{after, board, by, told}
 use Rattle.circuits.specs.Views.{Made}
 use Rattle.conformance.specs.Rows.{Equal, Row, equal-rows}
@@ -73,9 +74,14 @@ table =
     }
     ∷ record { name = "P8 in both groups, group 0"; given = board 0 (after 4 both-p8); said = 1 ∷ 1 ∷ 3 ∷ 0 ∷ 5 ∷ 255 ∷ 5 ∷ 255 ∷ 1 ∷ [] }
     ∷ record { name = "P8 in both groups, group 1"; given = board 1 (after 4 both-p8); said = 5 ∷ 255 ∷ 5 ∷ 255 ∷ 1 ∷ 1 ∷ 3 ∷ 0 ∷ 1 ∷ [] }
+    ∷ record {
+      name = "what each group owns, a byte a slot";
+      given = take 4 (ownedShown (after 4 both-p8) 0 .owned) ++ take 4 (ownedShown (after 4 both-p8) 1 .owned);
+      said = 1 ∷ 1 ∷ 0 ∷ 0 ∷ 0 ∷ 0 ∷ 1 ∷ 1 ∷ [];
+    }
     ∷ record { name = "P9 in group 0 while group 1 reports"; given = board 0 (after 3 p9); said = 2 ∷ 0 ∷ 5 ∷ 255 ∷ 3 ∷ 1 ∷ 1 ∷ [] }
     ∷ []
 
 pub examples : Equal table
-unfolding table putOwn byteAt withOwner senderOf withSender isSlot owns isUsed marked stepped cardStart claimOf releaseOf commandOf groupCallOf beginOf freshSender startOf freshOf idleSlot idleNumber addOf addedTo removeOf removedFrom fallen fallenIn lapseOf reportOf waited actedOn mstApplied numberApplied holderOf renumbered slotAfter numberAfter comesBefore turnOf opensWait sizeOf membersOf mstFails mstFirst mstNumbers boardOf rowsOf rowOf noRow highest
+unfolding table ownedShown ownedBytes putOwn byteAt withOwner senderOf withSender isSlot owns isUsed marked stepped cardStart claimOf releaseOf commandOf groupCallOf beginOf freshSender startOf freshOf idleSlot idleNumber addOf addedTo removeOf removedFrom fallen fallenIn lapseOf reportOf waited actedOn mstApplied numberApplied holderOf renumbered slotAfter numberAfter comesBefore turnOf opensWait sizeOf membersOf mstFails mstFirst mstNumbers boardOf rowsOf rowOf noRow highest
 examples = equal-rows table refl

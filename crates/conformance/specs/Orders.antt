@@ -11,7 +11,8 @@ use Rattle.circuits.specs.Parts.{isSlot, isUsed, marked, owns, senderOf, steppe
 use Rattle.circuits.specs.Shown.{after, board, by}
 use Rattle.conformance.specs.Rows.{Equal, Row, equal-rows}
 use Rattle.orders.specs.declared.commands.Command.{Command}
-use Rattle.orders.specs.Orders.{stepBy}
+use Rattle.orders.specs.declared.commands.Kind as K
+use Rattle.orders.specs.Orders.{firstAnswers, stepBy}
 use Rattle.orders.specs.Shown.{add, cardLeft, claim, numbersOf, remove}
 use Rattle.packet.specs.Kinds.{idleNumber, mstFails, mstFirst, mstNumbers}
 use Rattle.sender.specs.Board.{boardOf, highest, noRow, rowOf, rowsOf}
@@ -43,6 +44,7 @@ table =
       given = numbersOf (after 2 (by 0 (Claim 1) ∷ [])) six unwritten;
       said = 0 ∷ 0 ∷ 0 ∷ 2 ∷ 0 ∷ 3 ∷ 14 ∷ [];
     }
+    ∷ record { name = "the first two of six"; given = firstAnswers (after 2 []) six 2 (255 ∷ 255 ∷ []); said = 0 ∷ 0 ∷ [] }
     ∷ record {
       name = "three commands and two answers";
       given =
