@@ -1,7 +1,8 @@
 -- Examples of request 2026-07, a whole work order at once, worked out apart: the number of the order, then the answers as they are left, then what the group's board shows.
-use mathlib.Core.Path.{refl}
+use mathlib.Core.Path.{_≡_, refl}
 use mathlib.Core.List.{List, [], _∷_, _++_}
 use Prim.Native.Nat.{ℕ}
+use Rattle.c_face.specs.Orders.{kindOf}
 use Rattle.circuits.specs.declared.card.Card.{Card}
 use Rattle.circuits.specs.Calls.Call.{AddSlot, Claim}
 use Rattle.circuits.specs.Commands.{claimOf, commandOf, releaseOf}
@@ -62,3 +63,7 @@ table =
 pub examples : Equal table
 unfolding table stepBy withOwner senderOf withSender isSlot owns isUsed marked stepped cardStart claimOf releaseOf commandOf beginOf freshSender startOf freshOf idleSlot idleNumber addOf addedTo removeOf removedFrom fallen fallenIn sizeOf membersOf mstFails mstFirst mstNumbers boardOf rowsOf rowOf noRow highest
 examples = equal-rows table refl
+
+-- a command's kind in C, by the numbers of the header
+pub kinds-in-c : (kindOf 0 ≡ K.Kind.Add) × (kindOf 1 ≡ K.Kind.Remove) × (kindOf 2 ≡ K.Kind.Claim) × (kindOf 3 ≡ K.Kind.Release)
+kinds-in-c = (refl, refl, refl, refl)

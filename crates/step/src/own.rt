@@ -29,14 +29,16 @@ pub fn ruling_of(kind: u8, epoch: u8, nibbles: [u8; 16]) -> Ruling
     }
 }
 
-// A right CRC, and another MFI2.
+// A right CRC, and another MFI2, which is looked at first: the CRC takes longer than all else of a frame.
 fn is_odd_packet(epoch: u8, nibbles: [u8; 16]) -> bool
     ensures { λ r. ⌜ r ≡ oddPacket epoch nibbles ⌝ }
 {
+    if is_own(epoch, nibbles) {
+        return false;
+    }
     let reading = packet::read_nibbles(nibbles);
     let answer = reading.number();
-    let own = is_own(epoch, nibbles);
-    !(answer == 5) & !own
+    !(answer == 5)
 }
 
 fn with_nibble(row: [u8; 16], place: u8, nibble: u8) -> [u8; 16]
