@@ -157,7 +157,13 @@ pub fixed-order : (s : List (List ℕ)) → groupAt s .kind ≡ fixedKind → du
     × (numberAt (seenAll (groupAt s) s (portsIn (groupAt s))) (portOf (seenAll (groupAt s) s (portsIn (groupAt s))) (portsIn (groupAt s)) r) ≡ r))
 fixed-order = Fixed.fixed-order
 
--- after any calls from a FIXED start MST reads 00 in every epoch, and RS-Ack 0
-pub fixed-told : (count P W : ℕ) (rows : List (List ℕ)) (store : List ℕ) → startAnswer fixedKind count P W (length store) (length rows) ≡ 0 → (calls : List ReceiverCall) (e : ℕ)
-    → replyOf (receiverRun (startedWith fixedKind count P W rows store) calls .rows) e ≡ 0 ∷ 0 ∷ []
+-- 'A set number of ports never changes while running': X is the number set at the start, after any calls from it
+pub fixed-stays : (count P W : ℕ) (hold restore : List ℕ) (rows : List (List ℕ)) (store : List ℕ) → startAsAnswer fixedKind count P W (length store) hold restore (length rows) ≡ 0 → (calls : List ReceiverCall)
+    → (groupAt (receiverRun (startedWith fixedKind count P W hold restore rows store) calls .rows) .kind ≡ fixedKind)
+    × (portsIn (groupAt (receiverRun (startedWith fixedKind count P W hold restore rows store) calls .rows)) ≡ count)
+fixed-stays = Fixed.fixed-stays
+
+-- and MST reads 00 in every epoch, and RS-Ack 0
+pub fixed-told : (count P W : ℕ) (hold restore : List ℕ) (rows : List (List ℕ)) (store : List ℕ) → startAsAnswer fixedKind count P W (length store) hold restore (length rows) ≡ 0 → (calls : List ReceiverCall) (e : ℕ)
+    → replyOf (receiverRun (startedWith fixedKind count P W hold restore rows store) calls .rows) e ≡ 0 ∷ 0 ∷ []
 fixed-told = Fixed.fixed-told

@@ -142,15 +142,13 @@ ranks-own state ranks h l = rw (eq-eqb (length state) 397 h, eq-eqb (length rank
 pub start-as-own : (ports P W store : ℕ) (s : List (List ℕ))
     → (startAnswer H4 ports P W store (length s) ≡ startAsAnswerC H4 ports P W store [] [] (length s))
     × (startRows H4 ports P W store s ≡ startAsRowsC H4 ports P W store [] [] s)
-unfolding startAsAnswerC startAsRowsC
 start-as-own ports P W store s = (refl, refl)
 
--- and that one is receiver::start_as
-pub start-as-h4 : (ports P W store : ℕ) (hold restore : List ℕ) (s : List (List ℕ))
-    → (startAsAnswerC H4 ports P W store hold restore (length s) ≡ startAsAnswer H4 ports P W store hold restore (length s))
-    × (startAsRowsC H4 ports P W store hold restore s ≡ startAsRows H4 ports P W store hold restore s)
-unfolding startAsAnswerC startAsRowsC
-start-as-h4 ports P W store hold restore s = (refl, refl)
+-- and that one is receiver::start_as, of every kind that is a byte
+pub start-as-named : (kind ports P W store : ℕ) (hold restore : List ℕ) (s : List (List ℕ)) → kind < 256
+    → (startAsAnswerC kind ports P W store hold restore (length s) ≡ startAsAnswer kind ports P W store hold restore (length s))
+    × (startAsRowsC kind ports P W store hold restore s ≡ startAsRows kind ports P W store hold restore s)
+start-as-named kind ports P W store hold restore s h = rw (lt-ltb kind 256 h) (refl, refl)
 
 -- levelspruce_card_start is Card::start for the kind H4, where the state has its length and the first epochs' numbers are bytes. Empty groups' first epochs have the number 0.
 module _ (count e₀ e₁ : ℕ) (state : List ℕ) (sized : length state ≡ 858) (bytes : areBytes e₀ e₁ 0 ≡ true) where

@@ -17,20 +17,20 @@ use Rattle.packet.specs.Words.{FIXED}
 use Rattle.phases.specs.Sizes.{portsIn, sized}
 use Rattle.receiver.specs.Fetch.{dueIn, reportIfDue}
 use Rattle.receiver.specs.Laws.Seen.{seen-at}
-use Rattle.receiver.specs.Laws.Sizes.{size-is, sizes-of}
+use Rattle.receiver.specs.Laws.Sizes.{ports-are, size-is, sizes-of}
 use Rattle.receiver.specs.Report.{reportBy, reportOf, rulingEpoch, seenAll, seenOf}
 use Rattle.receiver.specs.Shown.{replyOf}
-use Rattle.receiver.specs.Starting.{startAnswer}
+use Rattle.receiver.specs.Starting.{groupWith, startAsAnswer}
 use Rattle.rows.specs.declared.group.Group.{Group}
 use Rattle.rows.specs.Group.{groupAt}
 use Rattle.rows.specs.Packets.{packetsAt}
 use Rattle.step.specs.Laws.Own.{own-fixed}
 use Rattle.step.specs.Own.{ownRuling}
-use Rattle.invariant.specs.Calls.{Receiver, ReceiverCall, receiverRun, receiverStep, startedWith}
+use Rattle.invariant.specs.Calls.{Receiver, ReceiverCall, receiverRun, startedWith}
 use Rattle.invariant.specs.Kept.Group.{Kept}
-use Rattle.invariant.specs.Proofs.Calls.{step-kept}
+use Rattle.invariant.specs.Proofs.Calls as Calls
 use Rattle.invariant.specs.Proofs.Kept.Start.{started-kept, started-with}
-use Rattle.invariant.specs.Proofs.Sizes.{step-sizes}
+use Rattle.invariant.specs.Proofs.Sizes.{run-sizes}
 
 few : (g : Group) → portsIn g ≤ 64
 unfolding portsIn
@@ -77,13 +77,28 @@ pub fixed-reply : (s : List (List ℕ)) → groupAt s .kind ≡ fixedKind → (e
 unfolding replyOf
 fixed-reply s fixed e = rw fixed refl
 
-run-kind : (x : Receiver) (calls : List ReceiverCall) → Kept (x .rows) → groupAt (receiverRun x calls .rows) .kind ≡ groupAt (x .rows) .kind
-run-kind x [] k = refl
-run-kind x (c ∷ calls) k = run-kind (receiverStep x c) calls (step-kept x c k) ∙ step-sizes x c k .kind
+-- what the start set stays
+module _ (count P W : ℕ) (hold restore : List ℕ) (rows : List (List ℕ)) (store : List ℕ) (zero : startAsAnswer fixedKind count P W (length store) hold restore (length rows) ≡ 0) (calls : List ReceiverCall) where
+  abbrev first : Receiver
+  first = startedWith fixedKind count P W hold restore rows store
 
-pub fixed-told : (count P W : ℕ) (rows : List (List ℕ)) (store : List ℕ) → startAnswer fixedKind count P W (length store) (length rows) ≡ 0 → (calls : List ReceiverCall) (e : ℕ)
-    → replyOf (receiverRun (startedWith fixedKind count P W rows store) calls .rows) e ≡ 0 ∷ 0 ∷ []
-fixed-told count P W rows store z calls e =
-    let x : Receiver = startedWith fixedKind count P W rows store in
-    fixed-reply (receiverRun x calls .rows)
-    (run-kind x calls (started-kept fixedKind count P W (length store) rows z) ∙ ap (λ (g : Group). g .kind) (started-with fixedKind count P W (length store) rows z)) e
+  abbrev last : Group
+  last = groupAt (receiverRun first calls .rows)
+
+  first-kept : Kept (first .rows)
+  first-kept = started-kept fixedKind count P W (length store) hold restore rows zero
+
+  first-is : groupAt (first .rows) ≡ groupWith fixedKind count P W
+  first-is = started-with fixedKind count P W (length store) hold restore rows zero
+
+  kind-stays : last .kind ≡ fixedKind
+  kind-stays = run-sizes first calls first-kept .kind ∙ ap (λ (g : Group). g .kind) first-is
+
+  count-stays : last .count ≡ count
+  count-stays = run-sizes first calls first-kept .count ∙ ap (λ (g : Group). g .count) first-is
+
+  pub fixed-stays : (last .kind ≡ fixedKind) × (portsIn last ≡ count)
+  fixed-stays = (kind-stays, ports-are last (Calls.kept fixedKind count P W hold restore rows store zero calls .steady .group .sizes) ∙ count-stays)
+
+  pub fixed-told : (e : ℕ) → replyOf (receiverRun first calls .rows) e ≡ 0 ∷ 0 ∷ []
+  fixed-told e = fixed-reply (receiverRun first calls .rows) kind-stays e
