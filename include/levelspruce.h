@@ -933,6 +933,7 @@ uint8_t levelspruce_board_speak(const uint8_t *changes, size_t changes_length,
 /* The kinds of packets of a group, and the greatest count of a timer, in
  * epochs. */
 #define LEVELSPRUCE_KIND_H4 0
+#define LEVELSPRUCE_KIND_FIXED 2 /* a group without LCAS */
 #define LEVELSPRUCE_TIMER_MOST 5000
 
 /* The bytes of a reply. */
@@ -975,7 +976,7 @@ uint8_t levelspruce_receiver_start(uint32_t ports, uint32_t payload,
  * make a healthy port FAIL that is renumbered into it and has no hold-off.
  * To change the times, start anew.
  *
- *   kind          LEVELSPRUCE_KIND_H4
+ *   kind          LEVELSPRUCE_KIND_H4 or LEVELSPRUCE_KIND_FIXED
  *   ports, payload, window, store_bytes, state
  *                 as for levelspruce_receiver_start
  *   hold_off      a count for each port, 0 to LEVELSPRUCE_TIMER_MOST; an empty

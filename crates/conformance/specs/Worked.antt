@@ -44,7 +44,7 @@ use Rattle.c_face.specs.Boards.{boardByte, boardBytesOf, rankByte, ranksBytesOf
 use Rattle.judge.specs.declared.seen.Seen.{Seen}
 use Rattle.judge.specs.Order.{activeIn, orderOf, portOf}
 use Rattle.judge.specs.Order.{rankOf as rankSeen}
-use Rattle.judge.specs.Verdict.{doubtfulBy, eosAlone, eosWrong, exact, fixedExact, fixedHeld, fixedVerdict, gidDiffers, heldBy, judgeOf, lcasVerdict, missing, repeats, takes}
+use Rattle.judge.specs.Verdict.{doubtfulBy, eosAlone, eosWrong, exact, gidDiffers, heldBy, judgeOf, lcasVerdict, missing, repeats, takes}
 use Rattle.judge.specs.Verdict.{highest as highestSeen}
 use Rattle.receiver.specs.Fetch.{recordOf}
 use Rattle.receiver.specs.Shown.{portIn, portShown, portsOut, shownFit}
@@ -114,10 +114,6 @@ lacking word number = record { whole = true; good = true; word = word; number = 
 
 abbrev verdict : List Seen → ℕ
 verdict ports = judgeOf 0 ports (length ports)
-
--- of a fixed group (request 2026-12)
-abbrev fixedly : List Seen → ℕ
-fixedly ports = judgeOf 2 ports (length ports)
 
 -- X, and the ports by rank
 abbrev ranked : List Seen → List ℕ
@@ -245,22 +241,6 @@ table =
     ∷ record { name = "a gap in the numbers or a packet missing is doubtful"; given = verdict (saw 2 0 0 ∷ saw 3 2 0 ∷ []) ∷ verdict (saw 3 0 0 ∷ unseen ∷ []) ∷ []; said = 2 ∷ 2 ∷ [] }
     ∷ record { name = "all IDLE is sure"; given = verdict (saw 5 255 0 ∷ saw 5 255 0 ∷ []) ∷ []; said = 3 ∷ [] }
     ∷ record {
-      name = "a fixed group with the numbers 2, 0, 1 is sure, in the order of the numbers";
-      given = fixedly (saw 0 2 0 ∷ saw 0 0 0 ∷ saw 0 1 0 ∷ []) ∷ ranked (saw 0 2 0 ∷ saw 0 0 0 ∷ saw 0 1 0 ∷ []);
-      said = 3 ∷ 3 ∷ 1 ∷ 2 ∷ 0 ∷ [];
-    }
-    ∷ record {
-      name = "a fixed group is held by the numbers 0, 1, 1 and 0, 1, 3";
-      given = fixedly (saw 0 0 0 ∷ saw 0 1 0 ∷ saw 0 1 0 ∷ []) ∷ fixedly (saw 0 0 0 ∷ saw 0 1 0 ∷ saw 0 3 0 ∷ []) ∷ [];
-      said = 1 ∷ 1 ∷ [];
-    }
-    ∷ record {
-      name = "a fixed group is held, and not doubtful, by a dark port, a refused packet or a lacking frame";
-      given = fixedly (saw 0 0 0 ∷ saw 0 1 0 ∷ unseen ∷ []) ∷ fixedly (saw 0 0 0 ∷ bad ∷ []) ∷ fixedly (saw 0 0 0 ∷ lacking 0 1 ∷ []) ∷ [];
-      said = 1 ∷ 1 ∷ 1 ∷ [];
-    }
-    ∷ record { name = "a fixed group of one, with the number 0, is sure"; given = fixedly (saw 0 0 0 ∷ []) ∷ []; said = 3 ∷ [] }
-    ∷ record {
       name = "IDLE, OK and FAIL";
       given = worked (port 255 255 0 255 ∷ port 5 255 0 255 ∷ port 1 3 0 255 ∷ port 1 64 0 255 ∷ port 2 63 0 255 ∷ gone 2 5 ∷ port 15 3 0 255 ∷ []);
       said = 0 ∷ 0 ∷ 2 ∷ 1 ∷ 2 ∷ 1 ∷ 1 ∷ [];
@@ -292,5 +272,5 @@ table =
     ∷ []
 
 pub worked-out : Equal table
-unfolding table recordOf portIn portShown portsOut shownFit nibblesOf sealedOf dataOf crcOf divisor byteBits nibbleBits writeAnswer writeBytes fitting assigned h4Of boardOf rowsOf rowOf noRow highest startOf freshOf idleSlot idleNumber addOf addedTo removeOf removedFrom fallen fallenIn lapseOf reportOf waited actedOn mstApplied numberApplied holderOf renumbered slotAfter numberAfter comesBefore turnOf opensWait sizeOf membersOf mstFails mstFirst mstNumbers afterOn nibbleIn nibblePlace startsCount tagByHigh carriesLow tagByLow counts endsEpoch epochsIn frames tagAfter tagBefore tags lead epochs epochAfter epochOf distanceOf placeOf startsEpoch firstTag settledOf clearedStep clearedPort clearedPorts stoppedOf stopBy begunOf beginBy gatherBy portsIn sizedGroup storeFor ready latest noTag further foremost within begins owesNothing brought silent ruledBy passedStep notedBy passedPort passedPorts passedGroup passedOf frameFits rowsFit frameAnswer frameRows frameStore gatheredBy marksBy portRows storeBy settledBy takenRows takenStore refusalBy startAsAnswer startRight timesWithin sizedFits startAsRows startFits sizedAnswer sizedRows freshPort freshPorts groupAt groupOf groupRow putGroup rowIn putRow marksAt packetsAt putMarks putPackets memberAt putMember memberOf memberRow putStep stepAt stepIn stepRow takenOf inStep readable distanceIn flaggedStep countsOn frameDropped outside keeps joining byWindow byStart arrives inStepAt begunRun secondRun furtherRun gainedRun stayedRun loses breaksAfter oddAfter endsPacket endsOdd oddPacket rightCrc ownNumber readNibbles fieldsOf carriedIn runOn placeIn storedAt ringOf byteAt h4At packetIn cutFrom markedAt firstMark markedByte cutByte passedByte passedMarks boardByte boardBytesOf rankByte ranksBytesOf activeIn orderOf portOf rankSeen doubtfulBy eosAlone eosWrong exact gidDiffers heldBy judgeOf fixedExact fixedHeld fixedVerdict lcasVerdict missing repeats takes highestSeen claims grant granted holders chosenOf heldOf moreHeld rounds someJoin standingBy standingsOf mstFrom mstOf okHolds beginOf freshSender packetBytes packetFields payloadBytes ranksOf startEpochOf startedEpoch startedSender carriersIn rankAt rankOf ranksIn
+unfolding table recordOf portIn portShown portsOut shownFit nibblesOf sealedOf dataOf crcOf divisor byteBits nibbleBits writeAnswer writeBytes fitting assigned h4Of boardOf rowsOf rowOf noRow highest startOf freshOf idleSlot idleNumber addOf addedTo removeOf removedFrom fallen fallenIn lapseOf reportOf waited actedOn mstApplied numberApplied holderOf renumbered slotAfter numberAfter comesBefore turnOf opensWait sizeOf membersOf mstFails mstFirst mstNumbers afterOn nibbleIn nibblePlace startsCount tagByHigh carriesLow tagByLow counts endsEpoch epochsIn frames tagAfter tagBefore tags lead epochs epochAfter epochOf distanceOf placeOf startsEpoch firstTag settledOf clearedStep clearedPort clearedPorts stoppedOf stopBy begunOf beginBy gatherBy portsIn sizedGroup storeFor ready latest noTag further foremost within begins owesNothing brought silent ruledBy passedStep notedBy passedPort passedPorts passedGroup passedOf frameFits rowsFit frameAnswer frameRows frameStore gatheredBy marksBy portRows storeBy settledBy takenRows takenStore refusalBy startAsAnswer startRight timesWithin sizedFits startAsRows startFits sizedAnswer sizedRows freshPort freshPorts groupAt groupOf groupRow putGroup rowIn putRow marksAt packetsAt putMarks putPackets memberAt putMember memberOf memberRow putStep stepAt stepIn stepRow takenOf inStep readable distanceIn flaggedStep countsOn frameDropped outside keeps joining byWindow byStart arrives inStepAt begunRun secondRun furtherRun gainedRun stayedRun loses breaksAfter oddAfter endsPacket endsOdd oddPacket rightCrc ownNumber readNibbles fieldsOf carriedIn runOn placeIn storedAt ringOf byteAt h4At packetIn cutFrom markedAt firstMark markedByte cutByte passedByte passedMarks boardByte boardBytesOf rankByte ranksBytesOf activeIn orderOf portOf rankSeen doubtfulBy eosAlone eosWrong exact gidDiffers heldBy judgeOf lcasVerdict missing repeats takes highestSeen claims grant granted holders chosenOf heldOf moreHeld rounds someJoin standingBy standingsOf mstFrom mstOf okHolds beginOf freshSender packetBytes packetFields payloadBytes ranksOf startEpochOf startedEpoch startedSender carriersIn rankAt rankOf ranksIn
 worked-out = equal-rows table refl

@@ -1,16 +1,16 @@
 -- Wrong readings of 01 and of request 2026-12, each as a definition with a run on which it breaks what 01 says.
 use mathlib.Core.Path.{_≡_, refl}
-use mathlib.Core.Bool.{Bool, true, false, cond, not, _&&_, _||_}
+use mathlib.Core.Bool.{true, false, cond, not, _&&_, _||_}
 use mathlib.Core.List.{List, [], _∷_}
 use Prim.Native.Nat.{ℕ}
 use lib.Dec.{eqb}
-use Rattle.counting.specs.Words.{count, every, some, the}
+use Rattle.counting.specs.Words.{some, the}
 use Rattle.ground.specs.Table.{tabulate}
 use Rattle.packet.specs.Kinds.{fixedKind}
 use Rattle.packet.specs.Words.{DNU, EOS, FIXED, NORM}
 use Rattle.judge.specs.declared.seen.Seen.{Seen}
 use Rattle.judge.specs.Order.{activeIn, portOf, rankOf}
-use Rattle.judge.specs.Seen.{activeSeen, lackingSeen, numberedSeen, refusedSeen, seenAt}
+use Rattle.judge.specs.Seen.{activeSeen, lackingSeen, refusedSeen, seenAt}
 use Rattle.judge.specs.Verdict.{DOUBTFUL, HELD, SURE, doubtfulBy, eosAlone, eosWrong, exact, fixedExact, fixedHeld, fixedVerdict, gidDiffers, heldBy, highest, judgeOf, lcasVerdict, missing, repeats, takes}
 
 abbrev sent : ℕ → ℕ → Seen
@@ -29,27 +29,6 @@ port-breaks = (refl, refl, refl)
 
 -- A fixed group (request 2026-12).
 
-abbrev unseen : Seen
-unseen = record { whole = false; good = false; word = 0; number = 0; gid = 0; here = false }
-
--- X by the ports seen. With the port of number 2 dark the other two have exactly 0 and 1: that would be sure, with two members of the three that carry the payload.
-wrong-x : List Seen → ℕ → ℕ
-wrong-x ports n =
-    cond
-    (some n (λ i. refusedSeen (seenAt ports i))
-    || some n (λ i. lackingSeen (seenAt ports i))
-    || repeats ports n
-    || not (every (count n (λ i. numberedSeen (seenAt ports i))) (λ q. takes ports n q)))
-    HELD
-    SURE
-
-abbrev dark : List Seen
-dark = sent FIXED 0 ∷ sent FIXED 1 ∷ unseen ∷ []
-
-x-breaks : (wrong-x dark 3 ≡ SURE) × (activeIn dark 3 ≡ 2) × (judgeOf fixedKind dark 3 ≡ HELD)
-unfolding wrong-x judgeOf fixedVerdict fixedHeld fixedExact missing repeats takes activeIn
-x-breaks = (refl, refl, refl)
-
 -- EOS asked for: no fixed group would ever be sure.
 wrong-eos : List Seen → ℕ → ℕ
 wrong-eos ports n = cond (fixedHeld ports n || eosWrong ports n) HELD SURE
@@ -66,6 +45,12 @@ wrong-doubt : List Seen → ℕ → ℕ
 wrong-doubt ports n =
     cond (some n (λ i. refusedSeen (seenAt ports i)) || some n (λ i. lackingSeen (seenAt ports i)) || repeats ports n) HELD
     (cond (missing ports n || not (fixedExact ports n)) DOUBTFUL SURE)
+
+abbrev unseen : Seen
+unseen = record { whole = false; good = false; word = 0; number = 0; gid = 0; here = false }
+
+abbrev dark : List Seen
+dark = sent FIXED 0 ∷ sent FIXED 1 ∷ unseen ∷ []
 
 abbrev gap : List Seen
 gap = sent FIXED 0 ∷ sent FIXED 1 ∷ sent FIXED 3 ∷ []
