@@ -213,14 +213,16 @@ static void starting(void)
     static const uint32_t others[] = { 1, 3, 4, 255, 256, 258, 65538, 0x80000002u, UINT32_MAX };
     static const uint32_t times[] = { 0, 5000, 5001 };
     const size_t bytes = LEVELSPRUCE_STORE_BYTES(2, P, W), rows = LEVELSPRUCE_RECEIVER_ROWS(2);
-    uint8_t zeros[LEVELSPRUCE_ROW_BYTES] = { 0 };
+    uint8_t nothing[P] = { 0 };
     int held = 1;
     size_t i;
 
     check("the kinds 0 and 2 start", starts(LEVELSPRUCE_KIND_H4, 3) == 0 && starts(LEVELSPRUCE_KIND_FIXED, 3) == 0 && LEVELSPRUCE_KIND_H4 == 0
           && LEVELSPRUCE_KIND_FIXED == 2);
     for (i = 0; i < COUNT(others); i++) {
-        held = held && starts(LEVELSPRUCE_KIND_FIXED, 2) == 0 && starts(others[i], 2) == 4 && memcmp(state[0], zeros, sizeof zeros) == 0;
+        held = held && starts(LEVELSPRUCE_KIND_FIXED, 2) == 0 && starts(others[i], 2) == 4
+            && levelspruce_receiver_frame(state, rows, 0, 0, 0, nothing, P, store, bytes) == 1
+            && levelspruce_receiver_ports((const uint8_t (*)[LEVELSPRUCE_ROW_BYTES])state, rows, NULL, 0) == 0;
         held = held && starts_with(others[i], 2, P, W, bytes + 1, rows + 1) == 4;
     }
     check("any other kind is 4, before 9, and leaves an empty group", held);

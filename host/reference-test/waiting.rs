@@ -194,7 +194,7 @@ fn starts() -> bool {
         let same = rows::start_as(&mut lent, kind, ports, 1, 16, store, hold_off, restore) == answer;
         let left = match answer {
             0 => Receiver::from_rows(&lent) == receiver,
-            4 => lent[0] == [0; 16] && lent[1..].iter().all(|row| *row == [0xEE; 16]),
+            4 => lent[0][1..] == [0; 15] && lent[1..].iter().all(|row| *row == [0xEE; 16]),
             _ => lent.iter().all(|row| *row == [0xEE; 16]),
         };
         if same && left { answer } else { 255 }

@@ -383,7 +383,7 @@ pub struct Receiver {
 }
 
 impl Receiver {
-    /// What a refused start leaves: no ports.
+    /// What a refused start leaves, of whatever kind: no ports.
     pub fn empty() -> Receiver {
         Receiver::default()
     }
@@ -402,7 +402,7 @@ impl Receiver {
     ) -> u8 {
         let times_fit = hold_off.iter().chain(restore).all(|time| *time <= TIMER_MOST);
         if !KINDS.contains(&kind) || !Receiver::fits(ports, payload, window) || !times_fit {
-            *self = Receiver::empty();
+            *self = Receiver { kind, ..Receiver::empty() };
             return 4;
         }
         let time = |list: &[u32], port: usize| list.get(port).map_or(0, |time| *time as u16);
