@@ -882,8 +882,8 @@ uint8_t levelspruce_board_speak(const uint8_t *changes, size_t changes_length,
  *
  * Any bytes are coped with: a state that does not come from
  * levelspruce_receiver_start is answered like any other, and no call reads or
- * writes outside its buffers. A state with no row, or whose count, P or W is
- * out of range, is that of an empty group: it has 0 ports, a store of 0 bytes
+ * writes outside its buffers. A state with no row, or whose kind, count, P or W
+ * is out of range, is that of an empty group: it has 0 ports, a store of 0 bytes
  * and any number of rows, and none of its reports is ever due.
  *
  * The calls that only read the state take rows of const bytes. A strict C

@@ -7,7 +7,7 @@
 //! as the next; a port that is not in step has not joined, whatever stands there; and only some frames are looked at for
 //! what follows for all ports.
 
-use super::{after, first_tag, Flag, Port, Receiver, Report, Shown, EPOCH_FRAMES, KIND_FIXED, KIND_H4};
+use super::{after, first_tag, Flag, Port, Receiver, Report, Shown, EPOCH_FRAMES, KINDS, KIND_FIXED, KIND_H4};
 
 pub type Row = [u8; 16];
 
@@ -74,12 +74,12 @@ impl Port {
 }
 
 impl Receiver {
-    /// No rows, or a count, P or W out of range, are an empty group. Rows that are not there read as zeros.
+    /// No rows, or a kind, count, P or W out of range, are an empty group. Rows that are not there read as zeros.
     pub fn from_rows(rows: &[Row]) -> Receiver {
         let row = |at: usize| rows.get(at).copied().unwrap_or([0; 16]);
         let group = row(0);
         let (kind, count, payload, window) = (group[0], group[1], pair(&group, 2), pair(&group, 4));
-        if !Receiver::fits(count.into(), payload.into(), window.into()) {
+        if !KINDS.contains(&kind.into()) || !Receiver::fits(count.into(), payload.into(), window.into()) {
             return Receiver { kind: kind.into(), ..Receiver::empty() };
         }
         let port = |i: usize| Port::from_rows(&std::array::from_fn(|k| row(rows_for(i) + k)));
