@@ -155,10 +155,11 @@ fn main() {
 
     let fixed: Vec<Crossed> = (1001..=1000 + LINKS / 2).map(|seed| cross(&program, seed, true)).collect();
     tell("without LCAS", &fixed);
-    let carry = fixed.iter().filter(|c| c.bytes > 0).count();
+    // a short file is sent before receiving begins
+    let carry = fixed.iter().filter(|c| c.sure > 0).count();
     let failing = fixed.iter().filter(|c| c.failures > 0).count();
     count.note("files cross made-up links without LCAS byte for byte", fixed.iter().all(|c| c.held));
-    count.note("most of these carry bytes, many have failures, many none", carry > 100 && (30..=120).contains(&failing));
+    count.note("nearly all of these have sure epochs, many have failures, many none", carry > 140 && (30..=120).contains(&failing));
 
     std::process::exit(count.tally());
 }
