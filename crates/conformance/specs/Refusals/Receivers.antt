@@ -6,7 +6,7 @@ use Prim.Native.Nat.{ℕ, _+_, _-_, _*_, _%_}
 use native.Mathlib.Nat.{mod-mod}
 use lib.Dec.{eqb, leb, ltb}
 use lib.ListN.{getD, length}
-use Rattle.c_face.specs.Receivers.{failedC, kindC}
+use Rattle.c_face.specs.Receivers.{failedC, kindC, startAsAnswerC, startAsRowsC}
 use Rattle.conformance.specs.Entries.{Call, Copes, If, Refusal, Under, Unless, copes, done, first, refused, stateful, stateless}
 use Rattle.counting.specs.Words.{every}
 use Rattle.ground.specs.Circle.{after}
@@ -81,7 +81,9 @@ startC-copes (ports, payload, window, «store_bytes», state) = start-copes (0, 
 -- of the kind that is named; a number that is no byte names none
 abbrev pub startAsC : ℕ × ℕ × ℕ × ℕ × ℕ × List ℕ × List ℕ × List (List ℕ) → Call
 startAsC (kind, ports, payload, window, «store_bytes», «hold_off», restore, state) =
-    startAs (kindC kind, ports, payload, window, «store_bytes», «hold_off», restore, state)
+    stateful (startAsRefusals (kindC kind) ports payload window «store_bytes» «hold_off» restore (length state))
+    (startAsAnswerC kind ports payload window «store_bytes» «hold_off» restore (length state)) [] [] state
+    (startAsRowsC kind ports payload window «store_bytes» «hold_off» restore state) (putGroup state (emptyGroup (kindC kind)))
 
 pub startAsC-copes : (x : ℕ × ℕ × ℕ × ℕ × ℕ × List ℕ × List ℕ × List (List ℕ)) → Copes (startAsC x)
 startAsC-copes (kind, ports, payload, window, «store_bytes», «hold_off», restore, state) =
