@@ -92,8 +92,8 @@ static void writing(void)
         }
     check("every epoch and SQ is written at its place, with zeros else, and reads back", held);
     for (i = 0; i < COUNT(too_large); i++)
-        large = large && write_refuses(too_large[i], 5, PACKET, LEVELSPRUCE_ANSWER_FIELD) && write_refuses(58, too_large[i], PACKET, LEVELSPRUCE_ANSWER_FIELD)
-            && write_refuses(too_large[i], too_large[i], PACKET, LEVELSPRUCE_ANSWER_FIELD);
+        large = large && write_refuses(too_large[i], 5, PACKET, LEVELSPRUCE_ANSWER_FIELD)
+            && write_refuses(58, too_large[i], PACKET, LEVELSPRUCE_ANSWER_FIELD) && write_refuses(too_large[i], too_large[i], PACKET, LEVELSPRUCE_ANSWER_FIELD);
     check("writing answers 8 for an epoch or SQ above 255", large);
     for (i = 0; i < COUNT(wrong_packet_length); i++)
         length = length && write_refuses(58, 5, wrong_packet_length[i], LEVELSPRUCE_ANSWER_LENGTH)
@@ -354,20 +354,25 @@ static void fetch(void)
     }
 }
 
-/* Runs a group of so many ports with the numbers and delays that are set. */
-static void run(uint32_t ports, const struct fault *faults, size_t n)
+/* Runs a receiver of a kind with so many ports, on a fixed group with the numbers and delays that are set. */
+static void run_as(uint32_t kind, uint32_t ports, const struct fault *faults, size_t n)
 {
     uint32_t time, port;
 
     memset(marks, 0, sizeof marks);
     reported = 0;
-    silent = starts(LEVELSPRUCE_KIND_FIXED, ports) == 0;
+    silent = starts(kind, ports) == 0;
     for (time = 0; time < TIMES; time++) {
         for (port = 0; port < ports; port++)
             (void)!hand(faults, n, port, time);
         fetch();
     }
     silent = silent && replies_nothing();
+}
+
+static void run(uint32_t ports, const struct fault *faults, size_t n)
+{
+    run_as(LEVELSPRUCE_KIND_FIXED, ports, faults, n);
 }
 
 /* Whether the epochs from one to before another all have this mark, with all that goes with it. */
@@ -516,6 +521,21 @@ static void losses(void)
     spread_delays();
 }
 
+/* What the manual says of such a neighbour where nobody knows it yet. */
+static void to_lcas(void)
+{
+    uint32_t port;
+    int readable = 1;
+
+    set_numbers(2, 0, 1);
+    run_as(LEVELSPRUCE_KIND_H4, 3, NULL, 0);
+    for (port = 0; port < 3; port++)
+        readable = readable && shown(port, LEVELSPRUCE_PORT_STEP) == 1 && shown(port, LEVELSPRUCE_PORT_READABLE) == 1
+            && shown(port, LEVELSPRUCE_PORT_WORD) == 255;
+    check("a receiver with LCAS has every port of a fixed group in step and readable, and holds every epoch",
+          readable && reported > 10 && all_are(first_reported, TIMES / EPOCH - W / EPOCH, HELD));
+}
+
 static void streams_of_lcas(void)
 {
     struct fault norm = { LCAS, 0, 0, LAST_EPOCH, LEVELSPRUCE_WORD_NORM }, both[2];
@@ -573,6 +593,7 @@ int main(void)
     damage();
     losses();
     streams_of_lcas();
+    to_lcas();
     times();
     return tally();
 }
