@@ -21,7 +21,8 @@ use Rattle.replaying.specs.declared.replay.Phase.the-variants.{Settings,
 use Rattle.replaying.specs.declared.replay.Replay.{Replay}
 use Rattle.replaying.specs.declared.turns.Replayed.{Replayed}
 use Rattle.replaying.specs.Output.{ROOM, answerText, reportText, statesIn}
-use Rattle.replaying.specs.Replay.{nextLine, outputOf, rowsOf, storeOf}
+use Rattle.replaying.specs.Replay.{nextLine, outputOf, storeOf}
+use Rattle.rows.specs.Rows.{rowsFor}
 use Rattle.text.specs.Fields.{bytesIn}
 use Rattle.text.specs.Text.{LINE-END}
 
@@ -73,7 +74,7 @@ openWithTurn r ports size window next store =
 unfoldable pub openWithRows : ℕ → ℕ → ℕ → ℕ → List (List ℕ) → List (List ℕ)
 openWithRows ports size window store rows =
     cond (startable ports size window store)
-    (startRows 0 ports size window (storeOf ports size window) (take (rowsOf ports) (clearedRows rows)) ++ drop (rowsOf ports) (clearedRows rows))
+    (startRows 0 ports size window (storeOf ports size window) (take (rowsFor ports) (clearedRows rows)) ++ drop (rowsFor ports) (clearedRows rows))
     rows
 
 unfoldable pub openWithSaid : Replay → ℕ → ℕ → ℕ → ℕ → List ℕ → List ℕ
@@ -122,7 +123,7 @@ storeBy Ended store = store
 
 unfoldable pub isLent : Replay → ℕ → ℕ → ℕ → ℕ → Bool
 isLent r rows store out said =
-    leb ROOM said && leb (r .ports) 64 && leb (r .size) 2340 && leb (rowsOf (r .ports)) rows && leb (storeOf (r .ports) (r .size) (r .window)) store && leb (outputOf (r .ports) (r .size)) out
+    leb ROOM said && leb (r .ports) 64 && leb (r .size) 2340 && leb (rowsFor (r .ports)) rows && leb (storeOf (r .ports) (r .size) (r .window)) store && leb (outputOf (r .ports) (r .size)) out
 
 abbrev pub isOpen : Record → Bool
 isOpen (Frame port h4 flag place next) = false
@@ -143,11 +144,11 @@ payloadAt size place text = bytesIn (slice place (place + size + size) text) (re
 module _ (r : Replay) (port h4 flag : ℕ) (payload : List ℕ) (rows : List (List ℕ)) (store : List ℕ) where
   unfoldable pub framedRows : List (List ℕ)
   framedRows =
-      frameRows (take (rowsOf (r .ports)) rows) port (eqb flag 1) h4 payload (take (storeOf (r .ports) (r .size) (r .window)) store) ++ drop (rowsOf (r .ports)) rows
+      frameRows (take (rowsFor (r .ports)) rows) port (eqb flag 1) h4 payload (take (storeOf (r .ports) (r .size) (r .window)) store) ++ drop (rowsFor (r .ports)) rows
 
   unfoldable pub framedStore : List ℕ
   framedStore =
-      frameStore (take (rowsOf (r .ports)) rows) port (eqb flag 1) h4 payload (take (storeOf (r .ports) (r .size) (r .window)) store)
+      frameStore (take (rowsFor (r .ports)) rows) port (eqb flag 1) h4 payload (take (storeOf (r .ports) (r .size) (r .window)) store)
       ++ drop (storeOf (r .ports) (r .size) (r .window)) store
 
 -- reports are fetched then, at most W of them
@@ -209,14 +210,14 @@ reportedTurn r written = turned (within r Fetching (r .line) (r .left - 1)) 0 wr
 
 module _ (r : Replay) (rows : List (List ℕ)) (store out : List ℕ) where
   unfoldable pub fetchRecordBy : List ℕ
-  fetchRecordBy = fetchRecord (take (rowsOf (r .ports)) rows) (take (storeOf (r .ports) (r .size) (r .window)) store) out (replicate 8 0)
+  fetchRecordBy = fetchRecord (take (rowsFor (r .ports)) rows) (take (storeOf (r .ports) (r .size) (r .window)) store) out (replicate 8 0)
 
   unfoldable pub fetchRowsBy : List (List ℕ)
   fetchRowsBy =
-      fetchRows (take (rowsOf (r .ports)) rows) (take (storeOf (r .ports) (r .size) (r .window)) store) out (replicate 8 0) ++ drop (rowsOf (r .ports)) rows
+      fetchRows (take (rowsFor (r .ports)) rows) (take (storeOf (r .ports) (r .size) (r .window)) store) out (replicate 8 0) ++ drop (rowsFor (r .ports)) rows
 
   unfoldable pub fetchOutBy : List ℕ
-  fetchOutBy = fetchOut (take (rowsOf (r .ports)) rows) (take (storeOf (r .ports) (r .size) (r .window)) store) out (replicate 8 0)
+  fetchOutBy = fetchOut (take (rowsFor (r .ports)) rows) (take (storeOf (r .ports) (r .size) (r .window)) store) out (replicate 8 0)
 
   -- none is due where the mark is 0
   abbrev pub isDue : Bool

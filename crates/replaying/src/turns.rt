@@ -8,6 +8,7 @@ use crate::replay::Replay;
 use packet::kinds;
 use recording::Opening;
 use recording::Record;
+use rows::group;
 ghost use mathlib.Core.Path.{_≡_};
 ghost use Prim.Native.Nat.{_+_, _*_, _≤_};
 ghost use lib.ListN.{length, replicate};
@@ -15,6 +16,7 @@ ghost use lib.Seq.{slice};
 ghost use Rattle.replaying.specs.Laws.Lent.{Lent};
 ghost use Rattle.replaying.specs.Output.{ROOM};
 ghost use Rattle.replaying.specs.Turn.{answeredSaid, answeredTurn, endedTurn, fetchOutBy, fetchRecordBy, fetchRowsBy, fetchedSaid, fetchedTurn, framedTurn, framedRows, framedStore, isLent, isOpen, openRows, openSaid, openTurn, openWithRows, openWithSaid, openWithTurn, payloadAt, readBy, readRows, readSaid, readStore, readTurn, recordNow, refusedTurn, reportOut, reportRows, reportSaid, reportTurn, reportedTurn, readOnTurn, skipTurn, skippedTo, startable, storeBy, turnOf, turnOut, turnRows, turnSaid, turnStore, waitingTurn};
+ghost use Rattle.rows.specs.Rows.{rowsFor};
 ghost use Rattle.text.specs.Fields.{bytesIn};
 
 // What a turn has done. answer: 0, or 9 where what is lent is too short, and then nothing is done. wants: nothing more can be done without more
@@ -107,7 +109,7 @@ fn open_with(
     }
     let count = ports as u8;
     let bytes = replay::store_of(count, size as u16, window as u16);
-    let n = replay::rows_of(count);
+    let n = group::rows_for(count);
     lent::start(ports, size, window, bytes, rows, n);
     let line = replay::next_line(replay.line);
     Replayed {
@@ -194,7 +196,7 @@ fn open_all(
 fn is_lent(replay: Replay, rows: usize, store: usize, out: usize, said: usize) -> bool
     ensures { λ r. ⌜ r ≡ isLent replay rows store out said ⌝ }
 {
-    let n = replay::rows_of(replay.ports);
+    let n = group::rows_for(replay.ports);
     let m = replay::store_of(replay.ports, replay.size, replay.window);
     let o = replay::output_of(replay.ports, replay.size);
     (REPLAY_ROOM <= said)
@@ -257,14 +259,14 @@ fn take_frame(
     rows: &mut [[u8; 16]],
     store: &mut [u8],
 )
-    requires { ⌜ (replay .size ≤ 2340) × (replay .ports * 5 + 1 ≤ length (now rows)) × (replay .ports * replay .window * (replay .size + 1) ≤ length (now store)) ⌝ }
+    requires { ⌜ (replay .size ≤ 2340) × (rowsFor (replay .ports) ≤ length (now rows)) × (replay .ports * replay .window * (replay .size + 1) ≤ length (now store)) ⌝ }
     ensures { λ _. ⌜ (now (rows .exit) ≡ framedRows replay port h4 flag (payloadAt (replay .size) place (now (text .entry))) (now (rows .entry)) (now (store .entry)))
         × (now (store .exit) ≡ framedStore replay port h4 flag (payloadAt (replay .size) place (now (text .entry))) (now (rows .entry)) (now (store .entry))) ⌝ }
 {
     let size = replay.size as usize;
     let mut payload = blank();
     read_payload(text, place, &mut payload[..size]);
-    let n = replay::rows_of(replay.ports);
+    let n = group::rows_for(replay.ports);
     let m = replay::store_of(replay.ports, replay.size, replay.window);
     lent::frame(rows, n, port, flag == 1, h4, &payload[..size], store, m);
 }
@@ -362,13 +364,13 @@ fn reported(replay: Replay, written: usize) -> Replayed
 
 // A fetch of one report on the receiver's own parts.
 fn fetch(replay: Replay, rows: &mut [[u8; 16]], store: &[u8], out: &mut [u8]) -> [u8; 8]
-    requires { ⌜ (replay .ports * 5 + 1 ≤ length (now rows)) × (replay .ports * replay .window * (replay .size + 1) ≤ length (now store)) ⌝ }
+    requires { ⌜ (rowsFor (replay .ports) ≤ length (now rows)) × (replay .ports * replay .window * (replay .size + 1) ≤ length (now store)) ⌝ }
     ensures { λ r. ⌜ (r ≡ fetchRecordBy replay (now (rows .entry)) (now (store .entry)) (now (out .entry)))
         × (now (rows .exit) ≡ fetchRowsBy replay (now (rows .entry)) (now (store .entry)) (now (out .entry)))
         × (now (out .exit) ≡ fetchOutBy replay (now (rows .entry)) (now (store .entry)) (now (out .entry))) ⌝ }
 {
     let mut given = [0u8; 8];
-    let n = replay::rows_of(replay.ports);
+    let n = group::rows_for(replay.ports);
     let m = replay::store_of(replay.ports, replay.size, replay.window);
     lent::fetch(rows, n, store, m, out, &mut given);
     given
@@ -417,7 +419,7 @@ fn report(
     if replay.left == 0 {
         return read_on(replay);
     }
-    let n = replay::rows_of(replay.ports);
+    let n = group::rows_for(replay.ports);
     if lent::is_due(rows, n) {
         return report_now(replay, rows, store, out, said);
     }

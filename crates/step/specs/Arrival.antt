@@ -32,6 +32,7 @@ distanceIn g tag = distanceOf (g .kind) tag (firstTag (g .kind) (g .oldest))
 abbrev pub stepTo : Step → ℕ → Run → ℕ → ℕ → ℕ → Step
 stepTo s failed run joined since later =
     record {
+      spare = s .spare;
       had = 1;
       failed = failed;
       count = run .count;
@@ -42,11 +43,6 @@ stepTo s failed run joined since later =
       whole = s .whole;
       breaks = run .breaks;
       odd = run .odd;
-      «spare_11» = s .«spare_11»;
-      «spare_12» = s .«spare_12»;
-      «spare_13» = s .«spare_13»;
-      «spare_14» = s .«spare_14»;
-      «spare_15» = s .«spare_15»;
     }
 
 abbrev pub lost : Step → ℕ → Run → Step

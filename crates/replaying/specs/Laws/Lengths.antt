@@ -28,7 +28,7 @@ use Rattle.receiver.specs.Report.{framesInto, outputBy, outputOf, reportedOf, s
 use Rattle.receiver.specs.Starting.{emptyGroup, groupWith, sizedFits, sizedRows, startAsRows, startRight, startRows}
 use Rattle.rows.specs.declared.group.Group.{Group}
 use Rattle.rows.specs.Group.{groupAt, putGroup}
-use Rattle.rows.specs.Laws.Lengths.{length-put-group}
+use Rattle.rows.specs.Laws.Port.{length-put-group}
 use Rattle.step.specs.declared.arrival.Taken.{Taken}
 use Rattle.store.specs.Laws.Stored.{length-stored}
 

@@ -35,11 +35,12 @@ use Rattle.replaying.specs.Laws.Lent.{Lent, lent-is}
 use Rattle.replaying.specs.Laws.Lengths.{fetch-record-alike, fetch-rows-alike, length-fetch-out, length-fetch-rows, length-frame-rows, length-frame-store, length-part, length-start-rows}
 use Rattle.replaying.specs.Laws.Texts.{GoesOn, behind-append, behind-none, behindOf, firstOf, free-all, free-behind, goes-on, lines-first, lines-last, no-lines}
 use Rattle.replaying.specs.Output.{ROOM, answerText}
-use Rattle.replaying.specs.Replay.{beginning, nextLine, outputOf, rowsOf, storeOf}
+use Rattle.replaying.specs.Replay.{beginning, nextLine, outputOf, storeOf}
 use Rattle.replaying.specs.Runs.{Desk, Host, called, deskAfter, fetched, framed, lineIn, outputFrom, readBy, readText, reported, reports, saidTo, standing, wholeOutput}
 use Rattle.replaying.specs.Theorems.Lines.{bad-first-line, bad-settings}
 use Rattle.replaying.specs.Turn as T
 use Rattle.replaying.specs.Turn.{over, within}
+use Rattle.rows.specs.Rows.{rowsFor}
 use Rattle.text.specs.Text.{LINE-END, linesOf}
 
 -- a host between two lines
@@ -152,23 +153,23 @@ module _ (out : List ℕ) (line left ports size window : ℕ) (rows : List (List
 module _ (r : Replay) (rows : List (List ℕ)) (store lent out : List ℕ) (e : length lent ≡ length out) where
   record-alike : T.fetchRecordBy r rows store lent ≡ T.fetchRecordBy (within r Reading (r .line) 0) rows store out
   unfolding T.fetchRecordBy
-  record-alike = fetch-record-alike (take (rowsOf (r .ports)) rows) (take (storeOf (r .ports) (r .size) (r .window)) store) out _ lent e
+  record-alike = fetch-record-alike (take (rowsFor (r .ports)) rows) (take (storeOf (r .ports) (r .size) (r .window)) store) out _ lent e
 
   rows-alike : T.fetchRowsBy r rows store lent ≡ T.fetchRowsBy (within r Reading (r .line) 0) rows store out
   unfolding T.fetchRowsBy
-  rows-alike = ap (λ (x : List (List ℕ)). x ++ drop (rowsOf (r .ports)) rows) (fetch-rows-alike (take (rowsOf (r .ports)) rows) (take (storeOf (r .ports) (r .size) (r .window)) store) out _ lent e)
+  rows-alike = ap (λ (x : List (List ℕ)). x ++ drop (rowsFor (r .ports)) rows) (fetch-rows-alike (take (rowsFor (r .ports)) rows) (take (storeOf (r .ports) (r .size) (r .window)) store) out _ lent e)
 
   report-alike : T.reportOf r rows store lent ≡ T.reportOf (within r Reading (r .line) 0) rows store out
   unfolding T.reportOf
   report-alike = rw (record-alike, rows-alike)
 
-  length-rows : rowsOf (r .ports) ≤ length rows → length (T.fetchRowsBy r rows store lent) ≡ length rows
+  length-rows : rowsFor (r .ports) ≤ length rows → length (T.fetchRowsBy r rows store lent) ≡ length rows
   unfolding T.fetchRowsBy
-  length-rows h = length-part (rowsOf (r .ports)) rows (fetchRows (take (rowsOf (r .ports)) rows) (take (storeOf (r .ports) (r .size) (r .window)) store) lent (replicate 8 0)) h (length-fetch-rows (take (rowsOf (r .ports)) rows) (take (storeOf (r .ports) (r .size) (r .window)) store) lent (replicate 8 0))
+  length-rows h = length-part (rowsFor (r .ports)) rows (fetchRows (take (rowsFor (r .ports)) rows) (take (storeOf (r .ports) (r .size) (r .window)) store) lent (replicate 8 0)) h (length-fetch-rows (take (rowsFor (r .ports)) rows) (take (storeOf (r .ports) (r .size) (r .window)) store) lent (replicate 8 0))
 
   length-out : length (T.fetchOutBy r rows store lent) ≡ length lent
   unfolding T.fetchOutBy
-  length-out = length-fetch-out (take (rowsOf (r .ports)) rows) (take (storeOf (r .ports) (r .size) (r .window)) store) lent (replicate 8 0)
+  length-out = length-fetch-out (take (rowsFor (r .ports)) rows) (take (storeOf (r .ports) (r .size) (r .window)) store) lent (replicate 8 0)
 
 module _ (out : List ℕ) (line ports size window : ℕ) (rows : List (List ℕ)) (store lent buffer text said : List ℕ) where
   abbrev fetching : ℕ → Host
@@ -238,17 +239,17 @@ module _ (out : List ℕ) (line ports size window : ℕ) (rows : List (List ℕ)
 
 -- a frame keeps the lengths of rows and store
 module _ (r : Replay) (port h4 flag : ℕ) (payload : List ℕ) (rows : List (List ℕ)) (store : List ℕ) where
-  framed-rows : rowsOf (r .ports) ≤ length rows → length (T.framedRows r port h4 flag payload rows store) ≡ length rows
+  framed-rows : rowsFor (r .ports) ≤ length rows → length (T.framedRows r port h4 flag payload rows store) ≡ length rows
   unfolding T.framedRows
   framed-rows h =
-      length-part (rowsOf (r .ports)) rows (frameRows (take (rowsOf (r .ports)) rows) port (eqb flag 1) h4 payload (take (storeOf (r .ports) (r .size) (r .window)) store)) h
-      (length-frame-rows (take (rowsOf (r .ports)) rows) port (eqb flag 1) h4 payload (take (storeOf (r .ports) (r .size) (r .window)) store))
+      length-part (rowsFor (r .ports)) rows (frameRows (take (rowsFor (r .ports)) rows) port (eqb flag 1) h4 payload (take (storeOf (r .ports) (r .size) (r .window)) store)) h
+      (length-frame-rows (take (rowsFor (r .ports)) rows) port (eqb flag 1) h4 payload (take (storeOf (r .ports) (r .size) (r .window)) store))
 
   framed-store : storeOf (r .ports) (r .size) (r .window) ≤ length store → length (T.framedStore r port h4 flag payload rows store) ≡ length store
   unfolding T.framedStore
   framed-store h =
-      length-part (storeOf (r .ports) (r .size) (r .window)) store (frameStore (take (rowsOf (r .ports)) rows) port (eqb flag 1) h4 payload (take (storeOf (r .ports) (r .size) (r .window)) store)) h
-      (length-frame-store (take (rowsOf (r .ports)) rows) port (eqb flag 1) h4 payload (take (storeOf (r .ports) (r .size) (r .window)) store))
+      length-part (storeOf (r .ports) (r .size) (r .window)) store (frameStore (take (rowsFor (r .ports)) rows) port (eqb flag 1) h4 payload (take (storeOf (r .ports) (r .size) (r .window)) store)) h
+      (length-frame-store (take (rowsFor (r .ports)) rows) port (eqb flag 1) h4 payload (take (storeOf (r .ports) (r .size) (r .window)) store))
 
 -- a line is not open
 pub line-closed : {x : Record} → IsLine x → T.isOpen x ≡ false
@@ -489,11 +490,11 @@ module _ (out : List ℕ) (line left ports size window : ℕ) (rows : List (List
         let c = sizes-of 0 p s w (and-left (sized 0 p s w) (leb (storeOf p s w) (length store)) b) in
         let d = leb-true (storeOf p s w) (length store) (and-right (sized 0 p s w) (leb (storeOf p s w) (length store)) b) in
         let k = output-le p s w (rw h4-frames at (c .wide)) in
-        let m : rowsOf p ≤ length rows = (let x = c .few-ports in let y = f .full in omega arith) in
+        let m : rowsFor p ≤ length rows = (let x = c .few-ports in let y = f .full in omega arith) in
         let zs = T.clearedRows rows in
         let lz : length zs ≡ length rows = length-replicate (length rows) _ in
-        let mz : rowsOf p ≤ length zs = rw lz m in
-        let lr = length-part (rowsOf p) zs (startRows 0 p s w (storeOf p s w) (take (rowsOf p) zs)) mz (length-start-rows 0 p s w (storeOf p s w) (take (rowsOf p) zs)) ∙ lz in
+        let mz : rowsFor p ≤ length zs = rw lz m in
+        let lr = length-part (rowsFor p) zs (startRows 0 p s w (storeOf p s w) (take (rowsFor p) zs)) mz (length-start-rows 0 p s w (storeOf p s w) (take (rowsFor p) zs)) ∙ lz in
         let ls : length (T.clearedStore store) ≡ length store = length-replicate (length store) 0 in
         let o = f .same in
         let v = f .enough in

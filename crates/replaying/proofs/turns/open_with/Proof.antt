@@ -34,13 +34,13 @@ cast-store-of-2 c = omega (arith, small (c .before .before .before .args .ports)
 store-of-requires : tie.Need-store-of-requires
 store-of-requires c κs = search needs
 
-rows-of-requires : tie.Need-rows-of-requires
-rows-of-requires c κs = search needs
+rows-for-requires : tie.Need-rows-for-requires
+rows-for-requires c κs = search needs
 
 start-requires : tie.Need-start-requires
 start-requires c κs =
     let z = small (c .before .before .before .before .before .before .args .ports) (c .before .before .before .before .before .before .args .size) (c .before .before .before .before .before .before .args .window) (start-sized (c .before .before .before .before .before .before .args .ports) (c .before .before .before .before .before .before .args .size) (c .before .before .before .before .before .before .args .window) (c .before .before .before .before .before .before .args .store) (sym (c .before .before .before .before .is-startable .ensures) ∙ not-false (c .before .before .before .before .is-startable .result) (c .before .before .before .if1 .left))) in
-    let e = c .before .rows-of .ensures in
+    let e = c .before .rows-for .ensures in
     let p = c .before .before .before .before .before .before .pre .1 in
     omega (arith, z .few)
 
@@ -60,7 +60,7 @@ returns-2 : tie.Need-returns-2
 unfolding openWithTurn openWithRows openWithSaid
 returns-2 c =
     let b = sym (c .before .before .before .before .before .before .before .is-startable .ensures) ∙ not-false (c .before .before .before .before .before .before .before .is-startable .result) (c .before .before .before .before .before .before .if1 .left) in
-    rw (b, c .next-line .ensures) (refl, rw (c .before .before .before .before .before .store-of .ensures, c .before .before .before .before .rows-of .ensures) at (c .before .before .start .ensures), refl)
+    rw (b, c .next-line .ensures) (refl, rw (c .before .before .before .before .before .store-of .ensures, c .before .before .before .before .rows-for .ensures) at (c .before .before .start .ensures), refl)
 
 pub open-with-spec : {M : Type 1} → statement M
-open-with-spec = tie.close (tie.spec is-startable-requires answered-requires same-length returns cast-count cast-store-of cast-store-of-2 store-of-requires rows-of-requires start-requires next-line-requires cast-t18 cast-t19 same-length-2 returns-2)
+open-with-spec = tie.close (tie.spec is-startable-requires answered-requires same-length returns cast-count cast-store-of cast-store-of-2 store-of-requires rows-for-requires start-requires next-line-requires cast-t18 cast-t19 same-length-2 returns-2)

@@ -5,7 +5,7 @@ use Prim.Native.Nat.{ℕ, zero, suc, _+_, _*_, _/_, _%_, _≤_, _<_}
 use native.Mathlib.Omega.{arith}
 use lib.ListN.{length, getD, replicate, set}
 use lib.Seq.{set-getD, set-out, getD-set-same, getD-set-other}
-use Rattle.ground.specs.Table.{tabulate, tabulate-is}
+use Rattle.rows.specs.Laws.Records.{listed, rest}
 use Rattle.rows.specs.Laws.Rows.{row-within, put-beyond}
 use Rattle.rows.specs.Packets.{packetsAt, putPackets, withNibble}
 use Rattle.rows.specs.Rows.{rowIn, putRow}
@@ -18,7 +18,7 @@ set-twice (a ∷ rest) (suc k) x y = ap (λ r. a ∷ r) (set-twice rest k x y)
 
 next-row : (row : List ℕ) (n : ℕ) → length row ≡ 16 → set (set row 3 (n / 256)) 4 (n % 256) ≡ stepRow (withNext (stepOf row) n)
 unfolding stepRow withNext stepOf
-next-row row n e = ap (λ r. set (set r 3 (n / 256)) 4 (n % 256)) (tabulate-is row 16 (λ k. getD row k 0) 0 e (λ k h. refl))
+next-row row n e = rw (← rest row e 11) (ap (λ r. set (set r 3 (n / 256)) 4 (n % 256)) (sym (listed 16 row e)))
 
 module _ (s : List (List ℕ)) (i : ℕ) where
   -- the two bytes of the next tag
