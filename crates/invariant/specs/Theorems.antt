@@ -39,8 +39,10 @@ use Rattle.invariant.specs.Proofs.Reports.Order as Order
 use Rattle.invariant.specs.Proofs.Reports.Seen as Seen
 use Rattle.invariant.specs.Proofs.Ruled as Rules
 use Rattle.invariant.specs.Proofs.Settles as Settles
+use Rattle.invariant.specs.Proofs.Times.Calls as Times
 use Rattle.invariant.specs.Reports.{Given, HeldReport, Others, Refused, SameRule, Stored, Unstopped, ackIn, nextReport, reportsOf, successive}
 use Rattle.invariant.specs.Ruled.{OneEpoch}
+use Rattle.invariant.specs.Times.{SameShown, outcomesOf}
 
 -- After any calls.
 
@@ -130,3 +132,26 @@ none-ack = Ack.none-ack
 pub report-turns : (s : List (List ℕ)) (store out report : List ℕ) → Given s store out report → ackIn s ≤ 1
     → (ackIn (fetchRows s store out report) ≡ ackIn s) ⊎ (ackIn (fetchRows s store out report) ≡ 1 - ackIn s)
 report-turns = Ack.report-turns
+
+-- 'Only the reply changes' (02, 2026-03): two receivers started alike but for their times, whatever stood in their rows, give the same for ever at the same calls.
+
+-- answers, stores, outputs and the records of reports
+pub times-apart : (kind count P W : ℕ) (hold restore hold₂ restore₂ : List ℕ) (rows rows₂ : List (List ℕ)) (store : List ℕ)
+    → startAsAnswer kind count P W (length store) hold restore (length rows) ≡ 0 → startAsAnswer kind count P W (length store) hold₂ restore₂ (length rows₂) ≡ 0
+    → (calls : List ReceiverCall)
+    → outcomesOf (startedWith kind count P W hold restore rows store) calls ≡ outcomesOf (startedWith kind count P W hold₂ restore₂ rows₂ store) calls
+times-apart = Times.times-apart
+
+-- RS-Ack, and what is shown of the ports but for states
+pub times-shown : (kind count P W : ℕ) (hold restore hold₂ restore₂ : List ℕ) (rows rows₂ : List (List ℕ)) (store : List ℕ)
+    → startAsAnswer kind count P W (length store) hold restore (length rows) ≡ 0 → startAsAnswer kind count P W (length store) hold₂ restore₂ (length rows₂) ≡ 0
+    → (calls : List ReceiverCall)
+    → SameShown (receiverRun (startedWith kind count P W hold restore rows store) calls .rows) (receiverRun (startedWith kind count P W hold₂ restore₂ rows₂ store) calls .rows)
+times-shown = Times.times-shown
+
+-- two starts in the same rows that are refused alike leave the same receiver
+pub times-refused : (kind count P W : ℕ) (hold restore hold₂ restore₂ : List ℕ) (rows : List (List ℕ)) (store : List ℕ)
+    → startAsAnswer kind count P W (length store) hold restore (length rows) ≡ startAsAnswer kind count P W (length store) hold₂ restore₂ (length rows)
+    → startAsAnswer kind count P W (length store) hold restore (length rows) ≢ 0
+    → startedWith kind count P W hold restore rows store ≡ startedWith kind count P W hold₂ restore₂ rows store
+times-refused = Times.times-refused

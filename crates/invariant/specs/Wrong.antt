@@ -5,3 +5,4 @@ mod Later
 mod Beginning
 mod Order
 mod Step
+mod Times
