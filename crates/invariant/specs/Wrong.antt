@@ -4,5 +4,6 @@ mod Place
 mod Later
 mod Beginning
 mod Order
+mod PortsSeen
 mod Step
 mod Times
