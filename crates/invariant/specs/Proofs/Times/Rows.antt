@@ -12,7 +12,7 @@ use Rattle.rows.specs.declared.member.Member.{Member}
 use Rattle.rows.specs.declared.step.Step.{Step}
 use Rattle.rows.specs.Group.{groupAt, groupOf, groupRow, putGroup}
 use Rattle.rows.specs.Laws.Records.{member-back}
-use Rattle.rows.specs.Laws.Rows.{length-put, put-beyond, row-other, row-same}
+use Rattle.rows.specs.Laws.Rows.{length-put-row, put-beyond, row-other, row-same}
 use Rattle.rows.specs.Member.{memberAt, memberOf, memberRow, putMember}
 use Rattle.rows.specs.Packets.{marksAt, packetsAt, putMarks, putPackets}
 use Rattle.rows.specs.Rows.{putRow, rowIn}
@@ -22,6 +22,7 @@ use Rattle.rows.specs.Step.{putStep, stepAt, stepOf, stepRow}
 abbrev pub untimed : Member → Member
 untimed m =
     record {
+      spare = m .spare;
       word = m .word;
       number = m .number;
       state = 0;
@@ -31,10 +32,6 @@ untimed m =
       «hold_off» = 0;
       restore = 0;
       run = 0;
-      «spare_12» = m .«spare_12»;
-      «spare_13» = m .«spare_13»;
-      «spare_14» = m .«spare_14»;
-      «spare_15» = m .«spare_15»;
     }
 
 -- row k of both: the second row of a port is its member's
@@ -95,7 +92,7 @@ module _ {s t : List (List ℕ)} (h : SameButTimes s t) where
         (eq-or-ne j k)
 
     pub put-same : SameButTimes (putRow s k a) (putRow t k b)
-    put-same = record { long = length-put s k a ∙ h .long ∙ sym (length-put t k b); row = put-row }
+    put-same = record { long = length-put-row s k a ∙ h .long ∙ sym (length-put-row t k b); row = put-row }
 
   pub put-group : (g : Group) → SameButTimes (putGroup s g) (putGroup t g)
   unfolding putGroup

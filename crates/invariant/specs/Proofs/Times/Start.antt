@@ -14,7 +14,7 @@ use Rattle.rows.specs.declared.group.Group.{Group}
 use Rattle.rows.specs.declared.member.Member.{Member}
 use Rattle.rows.specs.Group.{groupRow, putGroup}
 use Rattle.rows.specs.Laws.Records.{member-back}
-use Rattle.rows.specs.Laws.Rows.{length-put, row-beyond, row-other, row-same}
+use Rattle.rows.specs.Laws.Rows.{length-put-row, row-beyond, row-other, row-same}
 use Rattle.rows.specs.Member.{memberRow, putMember}
 use Rattle.rows.specs.Packets.{putMarks, putPackets}
 use Rattle.rows.specs.Rows.{putRow, rowIn, rowsFor}
@@ -36,7 +36,7 @@ module _ {m : ℕ} {s t : List (List ℕ)} {P : ℕ → Type 0} (h : Both m s t 
 
   -- one more
   both-put : Both m (putRow s p a) (putRow t p b) (λ k. k ≢ p → P k)
-  both-put = record { first = length-put s p a ∙ h .first; second = length-put t p b ∙ h .second; row = both-row }
+  both-put = record { first = length-put-row s p a ∙ h .first; second = length-put-row t p b ∙ h .second; row = both-row }
 
 -- the rows of the first n ports
 abbrev Upto : ℕ → ℕ → Type 0
