@@ -6,3 +6,4 @@ mod Beginning
 mod Order
 mod Step
 mod Times
+mod Live
