@@ -7,6 +7,7 @@ pub mod FixedGroups
 pub mod Hosts
 pub mod Joining
 pub mod Orders
+pub mod OtherNumbers
 pub mod OwnCount
 pub mod Refusals
 pub mod Replays

@@ -4,6 +4,7 @@ pub mod Claims
 pub mod Ruled
 pub mod Reports
 pub mod Times
+pub mod Live
 pub mod Proofs
 pub mod Theorems
 mod Wrong

@@ -11,3 +11,4 @@ pub mod Ruled
 pub mod Numbered
 pub mod Reports
 pub mod Times
+pub mod Live

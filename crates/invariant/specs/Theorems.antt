@@ -31,8 +31,10 @@ use Rattle.store.specs.Marks.{firstMark}
 use Rattle.invariant.specs.Calls.{Receiver, ReceiverCall, portAfter, receiverRun, receiverStep, startedWith}
 use Rattle.invariant.specs.Claims.{Claimed, HandedBy, HandedLast, tagIn}
 use Rattle.invariant.specs.Kept.Group.{Kept}
+use Rattle.invariant.specs.Live.{Live, heardOf}
 use Rattle.invariant.specs.Proofs.Calls as Calls
 use Rattle.invariant.specs.Proofs.Claimed as Claims
+use Rattle.invariant.specs.Proofs.Live.Calls as Lives
 use Rattle.invariant.specs.Proofs.Numbered as Numbered
 use Rattle.invariant.specs.Proofs.Reports.Ack as Ack
 use Rattle.invariant.specs.Proofs.Reports.Bytes as Bytes
@@ -84,6 +86,12 @@ one-epoch = Rules.one-epoch
 -- on every state a packet that rules and is read as good carries that epoch's number (request 2026-04)
 pub own-number : (g : Group) (s : List (List ℕ)) (i : ℕ) → seenOf g s i .good ≡ true → fieldsOf (portAt s i .ruling) .epoch ≡ rulingEpoch g
 own-number = Numbered.own-number
+
+-- The packet being gathered (request 2026-04): in every phase the nibbles of a run's last frames stand at their own places, and at own MFI1 7 of a port in step it is the packet that came.
+pub live-row : (kind count P W : ℕ) (hold restore : List ℕ) (rows : List (List ℕ)) (store : List ℕ) → startAsAnswer kind count P W (length store) hold restore (length rows) ≡ 0
+    → (calls : List ReceiverCall) (j : ℕ) → j < count
+    → Live kind (portAt (receiverRun (startedWith kind count P W hold restore rows store) calls .rows) j) (heardOf j (startedWith kind count P W hold restore rows store) calls [])
+live-row = Lives.live-row
 
 -- Reports, on every state.
 

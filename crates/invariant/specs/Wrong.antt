@@ -7,3 +7,4 @@ mod Order
 mod PortsSeen
 mod Step
 mod Times
+mod Live

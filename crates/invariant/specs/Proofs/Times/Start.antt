@@ -7,7 +7,7 @@ use Prim.Native.Nat.{ℕ, zero, suc, _+_, _*_, _≤_, _<_}
 use native.Mathlib.Omega.{arith}
 use lib.ListN.{length, replicate}
 use Rattle.ground.specs.Truth.{eq-or-ne, le-or-lt}
-use Rattle.invariant.specs.Proofs.Kept.Start.{sized-rows}
+use Rattle.invariant.specs.Proofs.Laws.Started.{accepted, codeBy, leftBy}
 use Rattle.invariant.specs.Proofs.Times.Rows.{SameButTimes, SameRow, alike}
 use Rattle.receiver.specs.Starting.{emptyGroup, freshMember, freshPort, freshPorts, freshStep, groupWith, sizedAnswer, sizedFits, sizedRows, startAsAnswer, startAsRows, startRight, timeOf, zeroRow}
 use Rattle.rows.specs.declared.group.Group.{Group}
@@ -85,27 +85,6 @@ module _ (kind : ℕ) (hold restore hold₂ restore₂ : List ℕ) (m : ℕ) whe
 
       two : List (List ℕ)
       two = putRow (freshPorts kind hold₂ restore₂ n t) 0 (groupRow g)
-
--- a start that is answered 0, and what it leaves
-module _ (kind count P W store : ℕ) (hold restore : List ℕ) (s : List (List ℕ)) where
-  abbrev codeBy : Bool → Bool → ℕ
-  codeBy a b = cond a (cond b 0 9) 4
-
-  abbrev leftBy : Bool → Bool → List (List ℕ)
-  leftBy a b = cond a (cond b (putGroup (freshPorts kind hold restore count s) (groupWith kind count P W)) s) (putGroup s (emptyGroup kind))
-
-  record Accepted (left : List (List ℕ)) : Type 0 where
-    rows : length s ≡ rowsFor count
-    fresh : left ≡ putGroup (freshPorts kind hold restore count s) (groupWith kind count P W)
-
-  by-accepted : (a b : Bool) → sizedFits count P W store hold restore (length s) ≡ b → codeBy a b ≡ 0 → Accepted (leftBy a b)
-  by-accepted true true f z = record { rows = sized-rows count P W store hold restore (length s) f; fresh = refl }
-  by-accepted true false f z = absurd (omega arith)
-  by-accepted false b f z = absurd (omega arith)
-
-  accepted : startAsAnswer kind count P W store hold restore (length s) ≡ 0 → Accepted (startAsRows kind count P W store hold restore s)
-  unfolding startAsAnswer startAsRows sizedAnswer sizedRows
-  accepted z = by-accepted (startRight kind count P W hold restore) (sizedFits count P W store hold restore (length s)) refl z
 
 module _ (kind count P W store : ℕ) (hold restore hold₂ restore₂ : List ℕ) where
   pub started-same : (s t : List (List ℕ)) → startAsAnswer kind count P W store hold restore (length s) ≡ 0 → startAsAnswer kind count P W store hold₂ restore₂ (length t) ≡ 0
