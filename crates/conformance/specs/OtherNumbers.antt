@@ -7,7 +7,7 @@ use Rattle.conformance.specs.Hosts.{Host, counting, fed, fedWith, fetche
 use Rattle.conformance.specs.Rows.{Equal, Row, equal-rows}
 use Rattle.ground.specs.Circle.{after as afterOn}
 use Rattle.judge.specs.Order.{activeIn, orderOf, portOf, rankOf}
-use Rattle.judge.specs.Verdict.{doubtfulBy, eosAlone, eosWrong, exact, gidDiffers, heldBy, highest, judgeOf, missing, repeats, takes}
+use Rattle.judge.specs.Verdict.{doubtfulBy, eosAlone, eosWrong, exact, gidDiffers, heldBy, highest, judgeOf, lcasVerdict, missing, repeats, takes}
 use Rattle.packet.specs.Counts.{carriesLow, counts, nibbleIn, nibblePlace, startsCount, tagByHigh, tagByLow}
 use Rattle.packet.specs.Crc.{byteBits, crcOf, divisor, nibbleBits}
 use Rattle.packet.specs.Kinds.{distanceOf, endsEpoch, epochAfter, epochOf, epochs, epochsIn, firstTag, frames, idleNumber, lead, mstFails, mstFirst, mstNumbers, placeOf, startsEpoch, tagAfter, tagBefore, tags}
@@ -37,7 +37,7 @@ use Rattle.rows.specs.Rows.{putRow, rowIn}
 use Rattle.rows.specs.Step.{putStep, stepAt, stepRow}
 use Rattle.rows.specs.Step.{stepOf as stepIn}
 use Rattle.step.specs.Arrival.{arrives, byStart, byWindow, countsOn, distanceIn, flagged, frameDropped, inStep, joining, keeps, outside, readable, takenOf}
-use Rattle.step.specs.Own.{endsOdd, oddPacket, ownNumber, ownRuling}
+use Rattle.step.specs.Own.{endsOdd, oddPacket, ownNumber, ownRuling, rightCrc, rulingIn}
 use Rattle.step.specs.Run.{begunRun, breaksAfter, endsPacket, furtherRun, gainedRun, inStepAt, loses, oddAfter, runOn, secondRun, stayedRun}
 use Rattle.store.specs.Frames.{byteAt, h4At, packetIn, placeIn, ringOf, storedAt}
 use Rattle.store.specs.Marks.{cutByte, cutFrom, firstMark, markedAt, markedByte, passedByte, passedMarks}
@@ -116,13 +116,13 @@ odd =
     ∷ []
 
 pub members-rows : Equal members
-unfolding members afterOn activeIn orderOf portOf rankOf doubtfulBy eosAlone eosWrong exact gidDiffers heldBy highest judgeOf missing repeats takes carriesLow counts nibbleIn nibblePlace startsCount tagByHigh tagByLow byteBits crcOf divisor nibbleBits distanceOf endsEpoch epochAfter epochOf epochs epochsIn firstTag frames idleNumber lead mstFails mstFirst mstNumbers placeOf startsEpoch tagAfter tagBefore tags carriedIn dataOf fieldsOf h4Of highsOf nibblesOf sealedOf readNibbles rulingOf assigned begins foremost further latest noTag ready within brought owesNothing silent notedBy passedGroup passedOf passedPort passedPorts passedStep ruledBy beginBy begunOf clearedPort clearedPorts clearedStep gatherBy settledOf stopBy stoppedOf portsIn storeFor sizedGroup dueIn fetchRecord fetchRows fits recordOf reportIfDue rowsIfDue frameAnswer frameRows frameStore gatheredBy marksBy portRows refusalBy settledBy storeBy takenRows takenStore fetchFits frameFits outputFor rowsFit replyPort replyPorts reportBy reportOf reportedOf rulingEpoch seenAll seenOf statePut statesPut statesWorkedOut withState portIn portShown portsOut replyFit replyOf replyOut shownFit freshPort freshPorts sizedAnswer sizedFits sizedRows startAsAnswer startAsRows startFits startRight timesWithin claims grant granted holders ackOf mstFrom mstOf okHolds turns chosenOf heldOf moreHeld rounds someJoin standingBy standingsOf groupAt groupOf groupRow putGroup memberAt memberOf memberRow putMember marksAt packetsAt putMarks putPackets putRow rowIn putStep stepAt stepRow stepIn arrives byStart byWindow countsOn distanceIn flagged frameDropped inStep joining keeps outside readable takenOf endsOdd oddPacket ownNumber ownRuling begunRun breaksAfter endsPacket furtherRun gainedRun inStepAt loses oddAfter runOn secondRun stayedRun byteAt h4At packetIn placeIn ringOf storedAt cutByte cutFrom firstMark markedAt markedByte passedByte passedMarks
+unfolding members afterOn activeIn orderOf portOf rankOf doubtfulBy eosAlone eosWrong exact gidDiffers heldBy highest judgeOf lcasVerdict missing repeats takes carriesLow counts nibbleIn nibblePlace startsCount tagByHigh tagByLow byteBits crcOf divisor nibbleBits distanceOf endsEpoch epochAfter epochOf epochs epochsIn firstTag frames idleNumber lead mstFails mstFirst mstNumbers placeOf startsEpoch tagAfter tagBefore tags carriedIn dataOf fieldsOf h4Of highsOf nibblesOf sealedOf readNibbles rulingOf assigned begins foremost further latest noTag ready within brought owesNothing silent notedBy passedGroup passedOf passedPort passedPorts passedStep ruledBy beginBy begunOf clearedPort clearedPorts clearedStep gatherBy settledOf stopBy stoppedOf portsIn storeFor sizedGroup dueIn fetchRecord fetchRows fits recordOf reportIfDue rowsIfDue frameAnswer frameRows frameStore gatheredBy marksBy portRows refusalBy settledBy storeBy takenRows takenStore fetchFits frameFits outputFor rowsFit replyPort replyPorts reportBy reportOf reportedOf rulingEpoch seenAll seenOf statePut statesPut statesWorkedOut withState portIn portShown portsOut replyFit replyOf replyOut shownFit freshPort freshPorts sizedAnswer sizedFits sizedRows startAsAnswer startAsRows startFits startRight timesWithin claims grant granted holders ackOf mstFrom mstOf okHolds turns chosenOf heldOf moreHeld rounds someJoin standingBy standingsOf groupAt groupOf groupRow putGroup memberAt memberOf memberRow putMember marksAt packetsAt putMarks putPackets putRow rowIn putStep stepAt stepRow stepIn arrives byStart byWindow countsOn distanceIn flagged frameDropped inStep joining keeps outside readable takenOf endsOdd oddPacket rightCrc ownNumber ownRuling rulingIn begunRun breaksAfter endsPacket furtherRun gainedRun inStepAt loses oddAfter runOn secondRun stayedRun byteAt h4At packetIn placeIn ringOf storedAt cutByte cutFrom firstMark markedAt markedByte passedByte passedMarks
 members-rows = equal-rows members refl
 
 pub ruled-rows : Equal ruled
-unfolding ruled afterOn activeIn orderOf portOf rankOf doubtfulBy eosAlone eosWrong exact gidDiffers heldBy highest judgeOf missing repeats takes carriesLow counts nibbleIn nibblePlace startsCount tagByHigh tagByLow byteBits crcOf divisor nibbleBits distanceOf endsEpoch epochAfter epochOf epochs epochsIn firstTag frames idleNumber lead mstFails mstFirst mstNumbers placeOf startsEpoch tagAfter tagBefore tags carriedIn dataOf fieldsOf h4Of highsOf nibblesOf sealedOf readNibbles rulingOf assigned begins foremost further latest noTag ready within brought owesNothing silent notedBy passedGroup passedOf passedPort passedPorts passedStep ruledBy beginBy begunOf clearedPort clearedPorts clearedStep gatherBy settledOf stopBy stoppedOf portsIn storeFor sizedGroup dueIn fetchRecord fetchRows fits recordOf reportIfDue rowsIfDue frameAnswer frameRows frameStore gatheredBy marksBy portRows refusalBy settledBy storeBy takenRows takenStore fetchFits frameFits outputFor rowsFit replyPort replyPorts reportBy reportOf reportedOf rulingEpoch seenAll seenOf statePut statesPut statesWorkedOut withState portIn portShown portsOut replyFit replyOf replyOut shownFit freshPort freshPorts sizedAnswer sizedFits sizedRows startAsAnswer startAsRows startFits startRight timesWithin claims grant granted holders ackOf mstFrom mstOf okHolds turns chosenOf heldOf moreHeld rounds someJoin standingBy standingsOf groupAt groupOf groupRow putGroup memberAt memberOf memberRow putMember marksAt packetsAt putMarks putPackets putRow rowIn putStep stepAt stepRow stepIn arrives byStart byWindow countsOn distanceIn flagged frameDropped inStep joining keeps outside readable takenOf endsOdd oddPacket ownNumber ownRuling begunRun breaksAfter endsPacket furtherRun gainedRun inStepAt loses oddAfter runOn secondRun stayedRun byteAt h4At packetIn placeIn ringOf storedAt cutByte cutFrom firstMark markedAt markedByte passedByte passedMarks
+unfolding ruled afterOn activeIn orderOf portOf rankOf doubtfulBy eosAlone eosWrong exact gidDiffers heldBy highest judgeOf lcasVerdict missing repeats takes carriesLow counts nibbleIn nibblePlace startsCount tagByHigh tagByLow byteBits crcOf divisor nibbleBits distanceOf endsEpoch epochAfter epochOf epochs epochsIn firstTag frames idleNumber lead mstFails mstFirst mstNumbers placeOf startsEpoch tagAfter tagBefore tags carriedIn dataOf fieldsOf h4Of highsOf nibblesOf sealedOf readNibbles rulingOf assigned begins foremost further latest noTag ready within brought owesNothing silent notedBy passedGroup passedOf passedPort passedPorts passedStep ruledBy beginBy begunOf clearedPort clearedPorts clearedStep gatherBy settledOf stopBy stoppedOf portsIn storeFor sizedGroup dueIn fetchRecord fetchRows fits recordOf reportIfDue rowsIfDue frameAnswer frameRows frameStore gatheredBy marksBy portRows refusalBy settledBy storeBy takenRows takenStore fetchFits frameFits outputFor rowsFit replyPort replyPorts reportBy reportOf reportedOf rulingEpoch seenAll seenOf statePut statesPut statesWorkedOut withState portIn portShown portsOut replyFit replyOf replyOut shownFit freshPort freshPorts sizedAnswer sizedFits sizedRows startAsAnswer startAsRows startFits startRight timesWithin claims grant granted holders ackOf mstFrom mstOf okHolds turns chosenOf heldOf moreHeld rounds someJoin standingBy standingsOf groupAt groupOf groupRow putGroup memberAt memberOf memberRow putMember marksAt packetsAt putMarks putPackets putRow rowIn putStep stepAt stepRow stepIn arrives byStart byWindow countsOn distanceIn flagged frameDropped inStep joining keeps outside readable takenOf endsOdd oddPacket rightCrc ownNumber ownRuling rulingIn begunRun breaksAfter endsPacket furtherRun gainedRun inStepAt loses oddAfter runOn secondRun stayedRun byteAt h4At packetIn placeIn ringOf storedAt cutByte cutFrom firstMark markedAt markedByte passedByte passedMarks
 ruled-rows = equal-rows ruled refl
 
 pub odd-rows : Equal odd
-unfolding odd afterOn activeIn orderOf portOf rankOf doubtfulBy eosAlone eosWrong exact gidDiffers heldBy highest judgeOf missing repeats takes carriesLow counts nibbleIn nibblePlace startsCount tagByHigh tagByLow byteBits crcOf divisor nibbleBits distanceOf endsEpoch epochAfter epochOf epochs epochsIn firstTag frames idleNumber lead mstFails mstFirst mstNumbers placeOf startsEpoch tagAfter tagBefore tags carriedIn dataOf fieldsOf h4Of highsOf nibblesOf sealedOf readNibbles rulingOf assigned begins foremost further latest noTag ready within brought owesNothing silent notedBy passedGroup passedOf passedPort passedPorts passedStep ruledBy beginBy begunOf clearedPort clearedPorts clearedStep gatherBy settledOf stopBy stoppedOf portsIn storeFor sizedGroup dueIn fetchRecord fetchRows fits recordOf reportIfDue rowsIfDue frameAnswer frameRows frameStore gatheredBy marksBy portRows refusalBy settledBy storeBy takenRows takenStore fetchFits frameFits outputFor rowsFit replyPort replyPorts reportBy reportOf reportedOf rulingEpoch seenAll seenOf statePut statesPut statesWorkedOut withState portIn portShown portsOut replyFit replyOf replyOut shownFit freshPort freshPorts sizedAnswer sizedFits sizedRows startAsAnswer startAsRows startFits startRight timesWithin claims grant granted holders ackOf mstFrom mstOf okHolds turns chosenOf heldOf moreHeld rounds someJoin standingBy standingsOf groupAt groupOf groupRow putGroup memberAt memberOf memberRow putMember marksAt packetsAt putMarks putPackets putRow rowIn putStep stepAt stepRow stepIn arrives byStart byWindow countsOn distanceIn flagged frameDropped inStep joining keeps outside readable takenOf endsOdd oddPacket ownNumber ownRuling begunRun breaksAfter endsPacket furtherRun gainedRun inStepAt loses oddAfter runOn secondRun stayedRun byteAt h4At packetIn placeIn ringOf storedAt cutByte cutFrom firstMark markedAt markedByte passedByte passedMarks
+unfolding odd afterOn activeIn orderOf portOf rankOf doubtfulBy eosAlone eosWrong exact gidDiffers heldBy highest judgeOf lcasVerdict missing repeats takes carriesLow counts nibbleIn nibblePlace startsCount tagByHigh tagByLow byteBits crcOf divisor nibbleBits distanceOf endsEpoch epochAfter epochOf epochs epochsIn firstTag frames idleNumber lead mstFails mstFirst mstNumbers placeOf startsEpoch tagAfter tagBefore tags carriedIn dataOf fieldsOf h4Of highsOf nibblesOf sealedOf readNibbles rulingOf assigned begins foremost further latest noTag ready within brought owesNothing silent notedBy passedGroup passedOf passedPort passedPorts passedStep ruledBy beginBy begunOf clearedPort clearedPorts clearedStep gatherBy settledOf stopBy stoppedOf portsIn storeFor sizedGroup dueIn fetchRecord fetchRows fits recordOf reportIfDue rowsIfDue frameAnswer frameRows frameStore gatheredBy marksBy portRows refusalBy settledBy storeBy takenRows takenStore fetchFits frameFits outputFor rowsFit replyPort replyPorts reportBy reportOf reportedOf rulingEpoch seenAll seenOf statePut statesPut statesWorkedOut withState portIn portShown portsOut replyFit replyOf replyOut shownFit freshPort freshPorts sizedAnswer sizedFits sizedRows startAsAnswer startAsRows startFits startRight timesWithin claims grant granted holders ackOf mstFrom mstOf okHolds turns chosenOf heldOf moreHeld rounds someJoin standingBy standingsOf groupAt groupOf groupRow putGroup memberAt memberOf memberRow putMember marksAt packetsAt putMarks putPackets putRow rowIn putStep stepAt stepRow stepIn arrives byStart byWindow countsOn distanceIn flagged frameDropped inStep joining keeps outside readable takenOf endsOdd oddPacket rightCrc ownNumber ownRuling rulingIn begunRun breaksAfter endsPacket furtherRun gainedRun inStepAt loses oddAfter runOn secondRun stayedRun byteAt h4At packetIn placeIn ringOf storedAt cutByte cutFrom firstMark markedAt markedByte passedByte passedMarks
 odd-rows = equal-rows odd refl

@@ -65,11 +65,15 @@ unfolding startAsAnswer startAsRows startRight timesWithin sizedAnswer sizedRows
 startAs-copes (kind, count, payload, window, store, «hold_off», restore, state) =
     copes _ (λ s. (λ f. rw (s, f), λ f. rw (s, f) (refl, refl, refl)), λ s. rw s (refl, refl, refl))
 
+no-ports : (b : Bool) → _≡_ {A = ℕ} (cond b 0 0) 0
+no-ports true = refl
+no-ports false = refl
+
 -- what is then in the rows, if there are any, is a group without ports
 pub emptied-empty : (kind : ℕ) (rows : List (List ℕ)) → portsIn (groupAt (putGroup rows (emptyGroup kind))) ≡ 0
 unfolding portsIn sized groupAt groupOf groupRow putGroup putRow rowIn
 emptied-empty kind [] = refl
-emptied-empty kind (r ∷ rs) = refl
+emptied-empty kind (r ∷ rs) = no-ports (sized kind 0 0 0)
 
 -- for the kind H4
 abbrev pub startC : ℕ × ℕ × ℕ × ℕ × List (List ℕ) → Call

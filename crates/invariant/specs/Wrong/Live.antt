@@ -31,7 +31,7 @@ use Rattle.rows.specs.Packets.{marksAt, packetsAt, putMarks, putPackets}
 use Rattle.rows.specs.Rows.{putRow, rowIn}
 use Rattle.rows.specs.Step.{putStep, stepAt, stepOf, stepRow}
 use Rattle.step.specs.Arrival.{arrives, byStart, byWindow, countsOn, distanceIn, flagged, frameDropped, inStep, joining, keeps, outside, readable, takenOf}
-use Rattle.step.specs.Own.{endsOdd, oddPacket, ownNumber, ownRuling}
+use Rattle.step.specs.Own.{endsOdd, oddPacket, ownNumber, ownRuling, rightCrc, rulingIn}
 use Rattle.step.specs.Run.{begunRun, breaksAfter, endsPacket, furtherRun, gainedRun, inStepAt, loses, oddAfter, runOn, secondRun, stayedRun}
 use Rattle.store.specs.Frames.{byteAt, h4At, packetIn, placeIn, ringOf, storedAt}
 use Rattle.store.specs.Marks.{cutByte, cutFrom, firstMark, markedAt, markedByte, passedByte, passedMarks}
@@ -59,5 +59,5 @@ live-breaks :
     (portAt (receiverRun receiver calls .rows) 0 .gathering ≡ came)
     × (packetHeard 0 (heardOf 0 receiver calls []) ≡ came)
     × (packetHeard 0 (wrong-heard receiver calls []) ≡ 0 ∷ 0 ∷ 0 ∷ 0 ∷ 0 ∷ 0 ∷ 0 ∷ 5 ∷ 0 ∷ 2 ∷ 5 ∷ 5 ∷ 5 ∷ 5 ∷ 5 ∷ 5 ∷ [])
-unfolding calls receiver wrong-heard came afterOn carriesLow counts nibbleIn nibblePlace startsCount tagByHigh tagByLow crcOf divisor nibbleBits distanceOf endsEpoch epochAfter epochOf epochs epochsIn firstTag frames idleNumber lead placeOf startsEpoch tagAfter tagBefore tags carriedIn dataOf fieldsOf h4Of nibblesOf sealedOf readNibbles rulingOf assigned begins foremost further latest noTag ready within brought owesNothing silent notedBy passedGroup passedOf passedPort passedPorts passedStep ruledBy beginBy begunOf clearedPort clearedPorts clearedStep gatherBy settledOf stopBy stoppedOf portsIn sized storeFor frameAnswer frameRows frameStore gatheredBy marksBy portRows refusalBy settledBy storeBy takenRows takenStore fetchFits frameFits outputFor rowsFit freshPort freshPorts sizedAnswer sizedFits sizedRows startAsAnswer startAsRows startFits startRight timesWithin groupAt groupOf groupRow putGroup memberAt memberOf memberRow putMember marksAt packetsAt putMarks putPackets putRow rowIn putStep stepAt stepOf stepRow arrives byStart byWindow countsOn distanceIn flagged frameDropped inStep joining keeps outside readable takenOf endsOdd oddPacket ownNumber ownRuling begunRun breaksAfter endsPacket furtherRun gainedRun inStepAt loses oddAfter runOn secondRun stayedRun byteAt h4At packetIn placeIn ringOf storedAt cutByte cutFrom firstMark markedAt markedByte passedByte passedMarks portAt
+unfolding calls receiver wrong-heard came afterOn carriesLow counts nibbleIn nibblePlace startsCount tagByHigh tagByLow crcOf divisor nibbleBits distanceOf endsEpoch epochAfter epochOf epochs epochsIn firstTag frames idleNumber lead placeOf startsEpoch tagAfter tagBefore tags carriedIn dataOf fieldsOf h4Of nibblesOf sealedOf readNibbles rulingOf assigned begins foremost further latest noTag ready within brought owesNothing silent notedBy passedGroup passedOf passedPort passedPorts passedStep ruledBy beginBy begunOf clearedPort clearedPorts clearedStep gatherBy settledOf stopBy stoppedOf portsIn sized storeFor frameAnswer frameRows frameStore gatheredBy marksBy portRows refusalBy settledBy storeBy takenRows takenStore fetchFits frameFits outputFor rowsFit freshPort freshPorts sizedAnswer sizedFits sizedRows startAsAnswer startAsRows startFits startRight timesWithin groupAt groupOf groupRow putGroup memberAt memberOf memberRow putMember marksAt packetsAt putMarks putPackets putRow rowIn putStep stepAt stepOf stepRow arrives byStart byWindow countsOn distanceIn flagged frameDropped inStep joining keeps outside readable takenOf endsOdd oddPacket rightCrc ownNumber ownRuling rulingIn begunRun breaksAfter endsPacket furtherRun gainedRun inStepAt loses oddAfter runOn secondRun stayedRun byteAt h4At packetIn placeIn ringOf storedAt cutByte cutFrom firstMark markedAt markedByte passedByte passedMarks portAt
 live-breaks = (refl, refl, refl)
