@@ -1,6 +1,7 @@
 pub mod Answered
 pub mod ByRank
 pub mod Circuits
+pub mod Clauses
 pub mod Entries
 pub mod Examples
 pub mod FixedGroups
