@@ -9,8 +9,8 @@ use sender::Sender;
 use sender::SenderOutcome;
 use sender::State;
 ghost use mathlib.Core.Path.{_≡_};
-ghost use Prim.Native.Nat.{_≤_, _<_};
-ghost use Rattle.sender.specs.Table.{isMember, sizeOf};
+ghost use Prim.Native.Nat.{_<_};
+ghost use Rattle.sender.specs.Table.{isMember};
 ghost use Rattle.circuits.specs.Parts.{emptySender, isSlot, isUsed, marked, owns, refused, senderOf, shownSender, stepped, withSender};
 
 pub(crate) fn sender_of(card: Card, group: u32) -> Sender

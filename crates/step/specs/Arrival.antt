@@ -2,16 +2,13 @@
 use mathlib.Core.Bool.{Bool, true, false, cond, not, _&&_, _||_}
 use Prim.Native.Nat.{ℕ}
 use lib.Dec.{eqb, ltb}
+pub use Rattle.ground.specs.Flags.{flagOf}
 use Rattle.packet.specs.Kinds.{distanceOf, endsEpoch, epochsIn, firstTag, startsEpoch}
 use Rattle.rows.specs.declared.group.Group.{Group}
 use Rattle.rows.specs.declared.step.Step.{Step}
 use Rattle.step.specs.declared.arrival.Taken.{Taken}
 use Rattle.step.specs.declared.run.Run.{Run}
 use Rattle.step.specs.Run.{inStepAt, noRun, runOn}
-
--- a flag byte other than 0 counts as set
-abbrev pub flagOf : ℕ → Bool
-flagOf byte = not (eqb byte 0)
 
 abbrev pub runOf : Step → Run
 runOf s = record { count = s .count; next = s .next; breaks = s .breaks; odd = s .odd }
