@@ -1,7 +1,7 @@
 //! Times frame and fetch of the proved receiver beside the reference's fast form in Rust, one after the other in one
 //! process, round by round, and beside one copy of the same bytes by the C library. A line for each size: the medians of
-//! the rounds in nanoseconds a call, and the ratios. Then fetches while ports that have lost their claims are held off, and one
-//! second of traffic of 64 VC-4 ports.
+//! the rounds in nanoseconds a call, and the ratios. Then the same of a fixed group (request 2026-12) beside a group with LCAS, fetches
+//! while ports that have lost their claims are held off, and one second of traffic of 64 VC-4 ports.
 
 #[path = "../differential/card.rs"]
 #[allow(dead_code)] // the receiver's calls alone are used here
@@ -11,7 +11,7 @@ use card::Start;
 use reference::packet::{self, Fields};
 use reference::receiver::fast;
 use reference::receiver::rows::{rows_for, Row, ROWS_A_PORT};
-use reference::receiver::{epoch_of, DOUBTFUL, KIND_H4, STATE_OK, SURE, TAGS, TIMER_MOST};
+use reference::receiver::{epoch_of, DOUBTFUL, KIND_FIXED, KIND_H4, STATE_OK, SURE, TAGS, TIMER_MOST};
 
 const ROUNDS: usize = 51;
 const EPOCH: usize = 16;
@@ -22,6 +22,7 @@ const FRAMES_A_SECOND: usize = 8000;
 
 /// What is sent: every port is active, and its number is its rank. The same payload comes in every frame of a port.
 struct Sent {
+    kind: u32,
     ports: usize,
     payload: usize,
     h4: Vec<u8>,
@@ -30,11 +31,11 @@ struct Sent {
 
 impl Sent {
     fn new(ports: usize, payload: usize) -> Sent {
-        Sent::numbered(ports, payload, |port| port)
+        Sent::numbered(KIND_H4, ports, payload, |port| port)
     }
 
-    /// The same with other numbers; the highest has EOS.
-    fn numbered(ports: usize, payload: usize, number: fn(usize) -> usize) -> Sent {
+    /// The same with other numbers; the highest has EOS. Or of a fixed group.
+    fn numbered(kind: u32, ports: usize, payload: usize, number: fn(usize) -> usize) -> Sent {
         let mut h4 = vec![0; TAGS * ports];
         for port in 0..ports {
             let highest = (0..ports).all(|other| number(other) <= number(port));
@@ -42,7 +43,12 @@ impl Sent {
             for first in (8..TAGS + 8).step_by(EPOCH) {
                 let mut sixteen = [0; EPOCH];
                 let epoch = u32::from(epoch_of(first % TAGS));
-                packet::write(&Fields { epoch, word, gid: 0, mst: 0, rs_ack: 0, sq: number(port) as u32, reserved: 0 }, &mut sixteen);
+                let sq = number(port) as u32;
+                let answer = match kind {
+                    KIND_FIXED => packet::write_fixed(epoch, sq, &mut sixteen),
+                    _ => packet::write(&Fields { epoch, word, gid: 0, mst: 0, rs_ack: 0, sq, reserved: 0 }, &mut sixteen),
+                };
+                assert_eq!(answer, 0);
                 for (k, byte) in sixteen.iter().enumerate() {
                     h4[(first + k) % TAGS * ports + port] = *byte;
                 }
@@ -53,7 +59,7 @@ impl Sent {
             seed = seed.wrapping_mul(1664525).wrapping_add(1013904223);
             (seed >> 24) as u8
         };
-        Sent { ports, payload, h4, bytes: (0..ports * payload).map(|_| next()).collect() }
+        Sent { kind, ports, payload, h4, bytes: (0..ports * payload).map(|_| next()).collect() }
     }
 
     fn frame(&self, port: usize, tag: usize) -> (u8, &[u8]) {
@@ -77,12 +83,13 @@ struct Proved {
 }
 
 impl Proved {
-    fn start(ports: usize, payload: usize, window: usize, hold_off: u32) -> Proved {
+    fn start(sent: &Sent, window: usize, hold_off: u32) -> Proved {
+        let (kind, ports, payload) = (sent.kind, sent.ports, sent.payload);
         let store = vec![0xA5; ports * window * (payload + 1)];
         let mut rows = vec![[0; 16]; rows_for(ports)];
         let hold_off = vec![hold_off; ports];
         let (ports, payload, window) = (ports as u32, payload as u32, window as u32);
-        let start = Start { kind: KIND_H4, ports, payload, window, store_bytes: store.len(), hold_off: &hold_off, restore: &[] };
+        let start = Start { kind, ports, payload, window, store_bytes: store.len(), hold_off: &hold_off, restore: &[] };
         assert_eq!(card::receiver_start_as(&start, &mut rows), 0);
         let (ports, payload) = (ports as usize, payload as usize);
         Proved { rows, store, output: vec![0; ports * EPOCH * payload], record: [0; 8] }
@@ -111,10 +118,11 @@ struct Fast {
 }
 
 impl Fast {
-    fn start(ports: usize, payload: usize, window: usize, hold_off: u32) -> Fast {
+    fn start(sent: &Sent, window: usize, hold_off: u32) -> Fast {
+        let (ports, payload) = (sent.ports, sent.payload);
         let store = vec![0xA5; ports * window * (payload + 1)];
         let (p, w) = (payload as u32, window as u32);
-        let receiver = fast::Receiver::start_as(ports as u32, p, w, store.len(), &vec![hold_off; ports], &[]).expect("all is in range");
+        let receiver = fast::Receiver::start_as(sent.kind, ports as u32, p, w, store.len(), &vec![hold_off; ports], &[]).expect("all is in range");
         Fast { receiver, store, output: vec![0; ports * EPOCH * payload] }
     }
 }
@@ -234,7 +242,7 @@ type Worst = [f64; 2];
 
 fn measure(ports: usize, payload: usize, window: usize, worst: &mut Worst) {
     let sent = Sent::new(ports, payload);
-    let (mut proved, mut fast) = (Proved::start(ports, payload, window, 0), Fast::start(ports, payload, window, 0));
+    let (mut proved, mut fast) = (Proved::start(&sent, window, 0), Fast::start(&sent, window, 0));
     let (mut a, mut b) = (begin(&mut proved, &sent), begin(&mut fast, &sent));
     assert!(proved.output() == fast.output());
     let mut copies = Copies { store: proved.store.clone(), output: proved.output.clone(), at: 0 };
@@ -267,11 +275,44 @@ fn measure(ports: usize, payload: usize, window: usize, worst: &mut Worst) {
     }
 }
 
+/// A fixed group beside one with LCAS and beside the fast form of itself.
+fn measure_fixed(ports: usize, payload: usize, window: usize) {
+    let [lcas, fixed] = [KIND_H4, KIND_FIXED].map(|kind| Sent::numbered(kind, ports, payload, |port| port));
+    let (mut by_lcas, mut proved, mut fast) = (Proved::start(&lcas, window, 0), Proved::start(&fixed, window, 0), Fast::start(&fixed, window, 0));
+    let (mut a, mut b, mut c) = (begin(&mut by_lcas, &lcas), begin(&mut proved, &fixed), begin(&mut fast, &fixed));
+    assert!(proved.output() == fast.output() && proved.output() == by_lcas.output());
+    let (epochs, cost) = (4, clock_cost());
+    let mut times: [[Vec<f64>; 2]; 3] = Default::default();
+    let warm = window / EPOCH / epochs + 1;
+    for k in 0..warm + ROUNDS {
+        let rounds = [
+            round(&mut by_lcas, &lcas, &mut a, epochs, SURE, cost),
+            round(&mut proved, &fixed, &mut b, epochs, SURE, cost),
+            round(&mut fast, &fixed, &mut c, epochs, SURE, cost),
+        ];
+        for (times, (frame, fetch)) in times.iter_mut().zip(rounds) {
+            if k >= warm {
+                times[0].push(frame);
+                times[1].push(fetch);
+            }
+        }
+    }
+    assert!(proved.output() == fast.output());
+    for (i, what) in ["frame", "fetch"].iter().enumerate() {
+        let [l, p, f] = [0, 1, 2].map(|form: usize| median(times[form][i].clone()));
+        println!(
+            "{what}\tports {ports}\tP {payload}\tW {window}\tFIXED {p:.0} ns\tH4 {l:.0} ns\tfast FIXED {f:.0} ns\tto H4 {:.2}\tto fast {:.2}",
+            p / l,
+            p / f
+        );
+    }
+}
+
 /// Fetches while all ports have lost their claims and are held off, by what numbers they have come to.
 fn measure_held(name: &str, ports: usize, number: fn(usize) -> usize) {
     let (payload, window, epochs) = (756, 64, 2);
-    let (sent, lost) = (Sent::new(ports, payload), Sent::numbered(ports, payload, number));
-    let (mut proved, mut fast) = (Proved::start(ports, payload, window, TIMER_MOST), Fast::start(ports, payload, window, TIMER_MOST));
+    let (sent, lost) = (Sent::new(ports, payload), Sent::numbered(KIND_H4, ports, payload, number));
+    let (mut proved, mut fast) = (Proved::start(&sent, window, TIMER_MOST), Fast::start(&sent, window, TIMER_MOST));
     let (mut a, mut b) = (begin(&mut proved, &sent), begin(&mut fast, &sent));
     let cost = clock_cost();
     // the first epoch is still ruled by the packets before
@@ -327,6 +368,11 @@ fn main() {
         }
     }
     println!("greatest ratio to fast\tframe {:.2}\tfetch {:.2}", worst[0], worst[1]);
+    for payload in [756, 2340] {
+        for ports in [1, 8, 64] {
+            measure_fixed(ports, payload, 64);
+        }
+    }
     for ports in [1, 8, 64] {
         measure_held("no number to claim", ports, |port| 64 + port);
     }
@@ -336,8 +382,8 @@ fn main() {
     }
     let sent = Sent::new(64, 2340);
     for window in [64, 2048] {
-        let proved = second(Proved::start(64, 2340, window, 0), &sent, window);
-        let fast = second(Fast::start(64, 2340, window, 0), &sent, window);
+        let proved = second(Proved::start(&sent, window, 0), &sent, window);
+        let fast = second(Fast::start(&sent, window, 0), &sent, window);
         println!(
             "one second of 64 VC-4 ports\tW {window}\tproved {proved:.2} of a processor\tfast {fast:.2} of a processor\tto fast {:.2}",
             proved / fast

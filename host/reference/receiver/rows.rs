@@ -7,7 +7,7 @@
 //! as the next; a port that is not in step has not joined, whatever stands there; and only some frames are looked at for
 //! what follows for all ports.
 
-use super::{after, first_tag, Flag, Port, Receiver, Report, Shown, EPOCH_FRAMES, KIND_H4};
+use super::{after, first_tag, Flag, Port, Receiver, Report, Shown, EPOCH_FRAMES, KINDS, KIND_FIXED, KIND_H4};
 
 pub type Row = [u8; 16];
 
@@ -74,16 +74,17 @@ impl Port {
 }
 
 impl Receiver {
-    /// No rows, or a count, P or W out of range, are an empty group. Rows that are not there read as zeros.
+    /// No rows, or a kind, count, P or W out of range, are an empty group. Rows that are not there read as zeros.
     pub fn from_rows(rows: &[Row]) -> Receiver {
         let row = |at: usize| rows.get(at).copied().unwrap_or([0; 16]);
         let group = row(0);
-        let (count, payload, window) = (group[1], pair(&group, 2), pair(&group, 4));
-        if !Receiver::fits(count.into(), payload.into(), window.into()) {
-            return Receiver::empty();
+        let (kind, count, payload, window) = (group[0], group[1], pair(&group, 2), pair(&group, 4));
+        if !KINDS.contains(&kind.into()) || !Receiver::fits(count.into(), payload.into(), window.into()) {
+            return Receiver { kind: kind.into(), ..Receiver::empty() };
         }
         let port = |i: usize| Port::from_rows(&std::array::from_fn(|k| row(rows_for(i) + k)));
         Receiver {
+            kind: kind.into(),
             ports: (0..usize::from(count)).map(port).collect(),
             payload: payload.into(),
             window: window.into(),
@@ -98,7 +99,7 @@ impl Receiver {
     /// Writes the state into rows that fit it.
     pub fn to_rows(&self, rows: &mut [Row]) {
         let group = &mut rows[0];
-        group[1] = self.ports.len() as u8;
+        (group[0], group[1]) = (self.kind as u8, self.ports.len() as u8);
         put_pair(group, 2, self.payload as u16);
         put_pair(group, 4, self.window as u16);
         (group[6], group[7], group[8]) = (self.begun.0, self.gathered.0, self.oldest);
@@ -115,7 +116,8 @@ fn fit(receiver: &Receiver, rows: &[Row]) -> bool {
     receiver.ports.is_empty() || rows.len() == rows_for(receiver.ports.len())
 }
 
-/// A start writes every byte; a refusal with 4 the group's row alone, if it is lent.
+/// A start writes every byte; a refusal with 4 the group's row alone, if it is lent, in which nothing but the kind stands. The kind is a
+/// byte there, 255 for all that are greater.
 pub fn start(rows: &mut [Row], ports: u32, payload: u32, window: u32, store_length: usize) -> u8 {
     start_as(rows, KIND_H4, ports, payload, window, store_length, &[], &[])
 }
@@ -134,6 +136,7 @@ pub fn start_as(
         4 => {
             if let Some(group) = rows.first_mut() {
                 *group = [0; 16];
+                group[0] = kind.min(255) as u8;
             }
         }
         _ => {}
@@ -198,12 +201,13 @@ pub fn ports(rows: &[Row]) -> Result<Vec<Shown>, u8> {
     if fit(&receiver, rows) { Ok(receiver.ports()) } else { Err(9) }
 }
 
-/// RS-Ack is read from the group's row, also where the group is an empty one.
+/// RS-Ack is read from the group's row, also where the group is an empty one, unless that is FIXED.
 pub fn reply(rows: &[Row], epoch: u8) -> Result<(u8, u8), u8> {
     let receiver = Receiver::from_rows(rows);
     if !fit(&receiver, rows) {
         return Err(9);
     }
     let (mst, _) = receiver.reply(epoch);
-    Ok((mst, rows.first().map_or(0, |group| u8::from(group[11] != 0))))
+    let turned = rows.first().map_or(false, |group| group[11] != 0) && receiver.kind != KIND_FIXED;
+    Ok((mst, u8::from(turned)))
 }
