@@ -16,7 +16,7 @@ use Rattle.packet.specs.Layout.{fieldsOf}
 use Rattle.packet.specs.Words.{FIXED}
 use Rattle.phases.specs.Beginning.{foremost}
 use Rattle.phases.specs.Settling.{settledOf}
-use Rattle.phases.specs.Sizes.{portsIn}
+use Rattle.phases.specs.Sizes.{knownKind, portsIn}
 use Rattle.receiver.specs.Fetch.{dueIn, fetchOut, fetchRows, fits, reportIfDue}
 use Rattle.receiver.specs.Frame.{frameAnswer, frameRows, settledBy, takenIn}
 use Rattle.receiver.specs.Laws.Bytes.{frameBytes, reportByte}
@@ -195,6 +195,10 @@ fixed-order = Fixed.fixed-order
 pub fixed-foreign : (s : List (List ℕ)) (i : ℕ) → groupAt s .kind ≡ fixedKind → i < portsIn (groupAt s) → flagOf (portAt s i .step .whole) ≡ true
     → getD (portAt s i .ruling) 10 0 % 16 ≢ FIXED → Refused s i
 fixed-foreign = Fixed.fixed-foreign
+
+-- and on every state a group with ports is of a kind that the product knows
+pub known-kind : (g : Group) → 0 < portsIn g → knownKind (g .kind) ≡ true
+known-kind = Fixed.known-kind
 
 -- 'A set number of ports never changes while running': X is the number set at the start, after any calls from it
 pub fixed-stays : (count P W : ℕ) (hold restore : List ℕ) (rows : List (List ℕ)) (store : List ℕ) → startAsAnswer fixedKind count P W (length store) hold restore (length rows) ≡ 0 → (calls : List ReceiverCall)

@@ -18,10 +18,10 @@ use Rattle.packet.specs.Fixed.{fixedRulingOf, readFixedNibbles}
 use Rattle.packet.specs.Kinds.{fixedKind}
 use Rattle.packet.specs.Ruling.{refused}
 use Rattle.packet.specs.Words.{FIXED}
-use Rattle.phases.specs.Sizes.{portsIn, sized}
+use Rattle.phases.specs.Sizes.{knownKind, portsIn, sized}
 use Rattle.receiver.specs.Fetch.{dueIn, reportIfDue}
 use Rattle.receiver.specs.Laws.Seen.{seen-at}
-use Rattle.receiver.specs.Laws.Sizes.{ports-are, size-is, sizes-of}
+use Rattle.receiver.specs.Laws.Sizes.{ports-are, size-is, sizes-of, some-sized}
 use Rattle.receiver.specs.Report.{reportBy, reportOf, rulingEpoch, seenAll, seenOf}
 use Rattle.receiver.specs.Shown.{replyOf}
 use Rattle.receiver.specs.Starting.{groupWith, startAsAnswer}
@@ -78,6 +78,9 @@ module _ (s : List (List ℕ)) (fixed : groupAt s .kind ≡ fixedKind) (due : du
 
   pub fixed-order : reportIfDue g n s .mark ≡ SURE → (activeIn seen n ≡ n) × ((r : ℕ) → r < n → (portOf seen n r < n) × (numberAt seen (portOf seen n r) ≡ r))
   fixed-order e = (fixed-members seen n all-fixed (sure-fixed e), λ r b. fixed-port seen n all-fixed (sure-fixed e) r b)
+
+pub known-kind : (g : Group) → 0 < portsIn g → knownKind (g .kind) ≡ true
+known-kind g some = sizes-of (g .kind) (g .count) (g .payload) (g .window) (some-sized g some .0) .known
 
 -- 'a word other than FIXED is 6'
 foreign-refused : (epoch : ℕ) (ns : List ℕ) → getD ns 10 0 % 16 ≢ FIXED → ownRuling fixedKind epoch ns .good ≡ false
