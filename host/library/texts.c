@@ -18,11 +18,11 @@ const char *levelspruce_answer_text(uint32_t answer)
     case LEVELSPRUCE_ANSWER_WAIT:
         return "a wait is open";
     case LEVELSPRUCE_ANSWER_RANGE:
-        return "a count, P, W, X or delay is out of range";
+        return "a count, P, W, X, delay, time or kind is out of range";
     case LEVELSPRUCE_ANSWER_CRC:
         return "the packet's CRC differs";
     case LEVELSPRUCE_ANSWER_UNASSIGNED:
-        return "the packet's control word is unassigned";
+        return "the packet's control word is unassigned, or in a fixed group not FIXED";
     case LEVELSPRUCE_ANSWER_FIXED:
         return "the packet's control word is FIXED";
     case LEVELSPRUCE_ANSWER_FIELD:
