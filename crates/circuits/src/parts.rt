@@ -10,7 +10,7 @@ use sender::SenderOutcome;
 use sender::State;
 ghost use mathlib.Core.Path.{_≡_};
 ghost use Prim.Native.Nat.{_<_};
-ghost use Rattle.sender.specs.Table.{isMember};
+ghost use Rattle.sender.specs.Table.{isMember, sizeOf};
 ghost use Rattle.circuits.specs.Parts.{emptySender, isSlot, isUsed, marked, owns, refused, senderOf, shownSender, stepped, withSender};
 
 pub(crate) fn sender_of(card: Card, group: u32) -> Sender
