@@ -5,16 +5,17 @@ use crate::output;
 use crate::replay;
 use crate::replay::Phase;
 use crate::replay::Replay;
-use packet::kinds;
 use recording::Opening;
 use recording::Record;
+use recording::Settings;
 ghost use mathlib.Core.Path.{_≡_};
 ghost use Prim.Native.Nat.{_+_, _*_, _≤_};
 ghost use lib.ListN.{length, replicate};
 ghost use lib.Seq.{slice};
 ghost use Rattle.replaying.specs.Laws.Lent.{Lent};
+ghost use Rattle.replaying.specs.Laws.Starts.{Small};
 ghost use Rattle.replaying.specs.Output.{ROOM};
-ghost use Rattle.replaying.specs.Turn.{answeredSaid, answeredTurn, endedTurn, fetchOutBy, fetchRecordBy, fetchRowsBy, fetchedSaid, fetchedTurn, framedTurn, framedRows, framedStore, isLent, isOpen, openRows, openSaid, openTurn, openWithRows, openWithSaid, openWithTurn, payloadAt, readBy, readRows, readSaid, readStore, readTurn, recordNow, refusedTurn, reportOut, reportRows, reportSaid, reportTurn, reportedTurn, readOnTurn, skipTurn, skippedTo, startable, storeBy, turnOf, turnOut, turnRows, turnSaid, turnStore, waitingTurn};
+ghost use Rattle.replaying.specs.Turn.{answeredSaid, answeredTurn, endedTurn, fetchOutBy, fetchRecordBy, fetchRowsBy, fetchedSaid, fetchedTurn, framedTurn, framedRows, framedStore, isLent, isOpen, openRows, openSaid, openTurn, openWithRows, openWithSaid, openWithTurn, payloadAt, readBy, readRows, readSaid, readStore, readTurn, recordNow, refusedTurn, reportOut, reportRows, reportSaid, reportTurn, reportedTurn, readOnTurn, rowsStarted, skipTurn, skippedTo, startable, startedTurn, storeBy, turnOf, turnOut, turnRows, turnSaid, turnStore, waitingTurn};
 ghost use Rattle.text.specs.Fields.{bytesIn};
 
 // What a turn has done. answer: 0, or 9 where what is lent is too short, and then nothing is done. wants: nothing more can be done without more
@@ -78,52 +79,71 @@ fn answered(replay: Replay, phase: Phase, number: u8, used: usize, said: &mut [u
 }
 
 // Settings in range, and a store that is lent.
-fn is_startable(ports: u32, size: u32, window: u32, store: usize) -> bool
-    ensures { λ r. ⌜ r ≡ startable ports size window store ⌝ }
+fn is_startable(settings: Settings, store: usize) -> bool
+    ensures { λ r. ⌜ r ≡ startable settings store ⌝ }
 {
-    if phases::is_sized(kinds::H4, ports, size, window) {
-        return replay::store_of(ports as u8, size as u16, window as u16) <= store;
+    if !phases::is_sized(
+        settings.kind,
+        settings.ports,
+        settings.size,
+        settings.window,
+    ) {
+        return false;
     }
-    false
+    let times = lent::times_fit(settings);
+    let bytes = replay::store_of(
+        settings.ports as u8,
+        settings.size as u16,
+        settings.window as u16,
+    );
+    times & (bytes <= store)
 }
 
-fn open_with(
-    replay: Replay,
-    ports: u32,
-    size: u32,
-    window: u32,
-    next: usize,
-    rows: &mut [[u8; 16]],
-    store: usize,
-    said: &mut [u8],
-) -> Replayed
-    requires { ⌜ (ROOM ≤ length (now said)) × (321 ≤ length (now rows)) ⌝ }
-    ensures { λ r. ⌜ (r ≡ openWithTurn replay ports size window next store)
-        × (now (rows .exit) ≡ openWithRows ports size window store (now (rows .entry)))
-        × (now (said .exit) ≡ openWithSaid replay ports size window store (now (said .entry))) ⌝ }
+// The group's receiver is started.
+fn open_as(replay: Replay, settings: Settings, next: usize, rows: &mut [[u8; 16]]) -> Replayed
+    requires { ⌜ Small settings × (321 ≤ length (now rows)) ⌝ }
+    ensures { λ r. ⌜ (r ≡ startedTurn replay settings next) × (now (rows .exit) ≡ rowsStarted settings (now (rows .entry))) ⌝ }
 {
-    if !is_startable(ports, size, window, store) {
-        return answered(replay, Phase::Ended, 4, 0, said);
-    }
-    let count = ports as u8;
-    let bytes = replay::store_of(count, size as u16, window as u16);
-    let n = replay::rows_of(count);
-    lent::start(ports, size, window, bytes, rows, n);
+    let ports = settings.ports as u8;
+    let size = settings.size as u16;
+    let window = settings.window as u16;
+    let bytes = replay::store_of(ports, size, window);
+    let n = replay::rows_of(ports);
+    lent::start(settings, bytes, rows, n);
     let line = replay::next_line(replay.line);
     Replayed {
         replay: Replay {
             phase: Phase::Reading,
             line,
             left: 0,
-            ports: count,
-            size: size as u16,
-            window: window as u16,
+            ports,
+            size,
+            window,
         },
         answer: 0,
         used: next,
         written: 0,
         wants: false,
     }
+}
+
+fn open_with(
+    replay: Replay,
+    settings: Settings,
+    next: usize,
+    rows: &mut [[u8; 16]],
+    store: usize,
+    said: &mut [u8],
+) -> Replayed
+    requires { ⌜ (ROOM ≤ length (now said)) × (321 ≤ length (now rows)) ⌝ }
+    ensures { λ r. ⌜ (r ≡ openWithTurn replay settings next store)
+        × (now (rows .exit) ≡ openWithRows settings store (now (rows .entry)))
+        × (now (said .exit) ≡ openWithSaid replay settings store (now (said .entry))) ⌝ }
+{
+    if is_startable(settings, store) {
+        return open_as(replay, settings, next, rows);
+    }
+    answered(replay, Phase::Ended, 4, 0, said)
 }
 
 // The first line.
@@ -147,8 +167,8 @@ fn open(
     }
     let opening = recording::opening_at(text, 0, last);
     match opening {
-        Opening::Settings(ports, size, window, next) => {
-            open_with(replay, ports, size, window, next, rows, store, said)
+        Opening::Settings(settings, next) => {
+            open_with(replay, settings, next, rows, store, said)
         }
         Opening::Malformed => answered(replay, Phase::Ended, 13, 0, said),
         Opening::Unfinished => waiting(replay),

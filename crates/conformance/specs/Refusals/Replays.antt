@@ -7,8 +7,8 @@ use lib.Dec.{leb, ltb}
 use lib.ListN.{length}
 use Rattle.bytes.specs.Bytes.{indexOf}
 use Rattle.conformance.specs.Entries.{Call, Copes, Refusal, Unless, copes, done, stateful}
-use Rattle.recording.specs.declared.opening.Opening.{Opening}
-use Rattle.recording.specs.declared.opening.Opening.the-variants as O
+use Rattle.recording.specs.Opening.{Opening}
+use Rattle.recording.specs.Opening.{Opening as O}
 use Rattle.recording.specs.declared.record.Record.{Record}
 use Rattle.recording.specs.declared.record.Record.the-variants as R
 use Rattle.recording.specs.Opening.{openingIn}
