@@ -5,7 +5,7 @@ use crate::output;
 use crate::replay;
 use crate::replay::Phase;
 use crate::replay::Replay;
-use recording::Opening;
+use recording::FirstLine;
 use recording::Record;
 use recording::Settings;
 ghost use mathlib.Core.Path.{_≡_};
@@ -165,14 +165,16 @@ fn open(
     if rows.len() < 321 {
         return refused(replay);
     }
-    let opening = recording::opening_at(text, 0, last);
-    match opening {
-        Opening::Settings(settings, next) => {
-            open_with(replay, settings, next, rows, store, said)
+    let first = recording::opening_at(text, 0, last);
+    let line = first.line;
+    match line {
+        FirstLine::Settings => {
+            let settings = first.settings;
+            open_with(replay, settings, first.next, rows, store, said)
         }
-        Opening::Malformed => answered(replay, Phase::Ended, 13, 0, said),
-        Opening::Unfinished => waiting(replay),
-        Opening::End => waiting(replay),
+        FirstLine::Malformed => answered(replay, Phase::Ended, 13, 0, said),
+        FirstLine::Unfinished => waiting(replay),
+        FirstLine::End => waiting(replay),
     }
 }
 

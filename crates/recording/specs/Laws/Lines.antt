@@ -10,13 +10,15 @@ use borrow.Author.Tests.{eqb-true}
 use Rattle.ground.specs.Truth.{and-left, and-right}
 use Rattle.recording.specs.Opening.{Opening}
 use Rattle.recording.specs.Opening.{Opening as O}
+use Rattle.recording.specs.declared.opening.First.{First}
+use Rattle.recording.specs.declared.opening.FirstLine.the-variants as F
 use Rattle.recording.specs.declared.pairs.Awaited.{Awaited}
 use Rattle.recording.specs.declared.pairs.Awaited.the-variants as A
 use Rattle.recording.specs.declared.pairs.Pairs.{Pairs}
 use Rattle.recording.specs.declared.record.Record.{Record}
 use Rattle.recording.specs.declared.record.Record.the-variants.{Frame, Malformed, Long, Unfinished, End}
 use Rattle.recording.specs.Line.{MOST}
-use Rattle.recording.specs.Opening.{lineOpening, opened, openedBy, openingBy, settingsBy}
+use Rattle.recording.specs.Opening.{handed, lineOpening, opened, openedBy, openingBy, settingsBy}
 use Rattle.recording.specs.Pairs.{firstPairs, pairsFrom}
 use Rattle.recording.specs.Record.{flagIn, frameBy, lineRecord, recordBy}
 use Rattle.text.specs.declared.fields.Number.{Number}
@@ -96,6 +98,44 @@ line-opens n m line = go (leb (length line) MOST)
     go : (b : Bool) → cond b (openingBy n (fieldsOf line)) O.Malformed ≡ opensTo n (cond b (openingBy m (fieldsOf line)) O.Malformed)
     go true = opening-opens n m (fieldsOf line)
     go false = refl
+
+-- what is handed over of a first line tells which one it was
+module _ (x : Opening) (f : First) (e : f ≡ handed x) where
+  pub handed-set : f .line ≡ F.Settings → x ≡ O.Settings (f .settings) (f .next)
+  handed-set k = rw e (go x (rw e at k))
+    where
+      go : (x : Opening) → handed x .line ≡ F.Settings → x ≡ O.Settings (handed x .settings) (handed x .next)
+      go (O.Settings s next) m = refl
+      go O.Malformed m = let z : _≡_ {A = ℕ} 0 1 = cc in absurd (omega arith)
+      go O.Unfinished m = let z : _≡_ {A = ℕ} 0 1 = cc in absurd (omega arith)
+      go O.End m = let z : _≡_ {A = ℕ} 0 1 = cc in absurd (omega arith)
+
+  pub handed-malformed : f .line ≡ F.Malformed → x ≡ O.Malformed
+  handed-malformed k = go x (rw e at k)
+    where
+      go : (x : Opening) → handed x .line ≡ F.Malformed → x ≡ O.Malformed
+      go (O.Settings s next) m = let z : _≡_ {A = ℕ} 0 1 = cc in absurd (omega arith)
+      go O.Malformed m = refl
+      go O.Unfinished m = let z : _≡_ {A = ℕ} 0 1 = cc in absurd (omega arith)
+      go O.End m = let z : _≡_ {A = ℕ} 0 1 = cc in absurd (omega arith)
+
+  pub handed-unfinished : f .line ≡ F.Unfinished → x ≡ O.Unfinished
+  handed-unfinished k = go x (rw e at k)
+    where
+      go : (x : Opening) → handed x .line ≡ F.Unfinished → x ≡ O.Unfinished
+      go (O.Settings s next) m = let z : _≡_ {A = ℕ} 0 1 = cc in absurd (omega arith)
+      go O.Malformed m = let z : _≡_ {A = ℕ} 0 1 = cc in absurd (omega arith)
+      go O.Unfinished m = refl
+      go O.End m = let z : _≡_ {A = ℕ} 0 1 = cc in absurd (omega arith)
+
+  pub handed-end : f .line ≡ F.End → x ≡ O.End
+  handed-end k = go x (rw e at k)
+    where
+      go : (x : Opening) → handed x .line ≡ F.End → x ≡ O.End
+      go (O.Settings s next) m = let z : _≡_ {A = ℕ} 0 1 = cc in absurd (omega arith)
+      go O.Malformed m = let z : _≡_ {A = ℕ} 0 1 = cc in absurd (omega arith)
+      go O.Unfinished m = let z : _≡_ {A = ℕ} 0 1 = cc in absurd (omega arith)
+      go O.End m = refl
 
 -- a line is a frame or malformed, and names the next one
 pub data IsLine : Record → Type 0 where

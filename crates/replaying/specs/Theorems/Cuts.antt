@@ -468,33 +468,33 @@ module _ (out : List ℕ) (line left ports size window : ℕ) (rows : List (List
   -- the first line is whole
   module _ (last : Bool) (f : Fit out starting) (n : ℕ) (l : List ℕ) (now : openingIn 0 last text ≡ lineOpening n l)
       (lines : (more : List ℕ) → (last ≡ true → more ≡ []) → linesOf (text ++ more) ≡ l ∷ linesOf (drop n text ++ more)) where
-    settings-four : (g : GroupSettings) (next : ℕ) → lineOpening n l ≡ O.Settings g next → T.startable g (length store) ≡ false → Keeps out last starting (called last starting)
+    settings-four : (s : GroupSettings) (next : ℕ) → lineOpening n l ≡ O.Settings s next → T.startable s (length store) ≡ false → Keeps out last starting (called last starting)
     unfolding called T.turnOf T.turnRows T.turnStore T.turnOut T.turnSaid T.openTurn T.openRows T.openSaid T.openWithTurn T.openWithRows T.openWithSaid T.answeredTurn T.answeredSaid
-    settings-four g next e b =
+    settings-four s next e b =
         let t = open-lent f in
-        let i : lineOpening 0 l ≡ O.Settings g 0 = line-opens 0 n l ∙ ap (opensTo 0) e in
+        let i : lineOpening 0 l ≡ O.Settings s 0 = line-opens 0 n l ∙ ap (opensTo 0) e in
         rw (t, now ∙ e, b)
         (record {
           fit = record { room = over-room (answerText 4 (nextLine line)) buffer (f .room); full = f .full; same = f .same; enough = f .enough; lent = tt };
-          whole = λ more g. written said (answerText 4 (nextLine line)) buffer [] ∙ rw (lines more g) (ap (λ (x : List ℕ). said ++ x) (sym (bad-settings out (deskOf starting) l (linesOf (drop n text ++ more)) refl g 0 i b)));
+          whole = λ more g. written said (answerText 4 (nextLine line)) buffer [] ∙ rw (lines more g) (ap (λ (x : List ℕ). said ++ x) (sym (bad-settings out (deskOf starting) l (linesOf (drop n text ++ more)) refl s 0 i b)));
         })
 
-    settings-set : (g : GroupSettings) (next : ℕ) → lineOpening n l ≡ O.Settings g next → T.startable g (length store) ≡ true → Keeps out last starting (called last starting)
+    settings-set : (s : GroupSettings) (next : ℕ) → lineOpening n l ≡ O.Settings s next → T.startable s (length store) ≡ true → Keeps out last starting (called last starting)
     unfolding called T.turnOf T.turnRows T.turnStore T.turnOut T.turnSaid T.openTurn T.openRows T.openSaid T.openWithTurn T.openWithRows T.openWithSaid saidTo deskAfter
-    settings-set g next e b =
+    settings-set s next e b =
         let t = open-lent f in
-        let q : O.Settings g next ≡ O.Settings g n = sym e ∙ (line-opens n n l ∙ ap (opensTo n) e) in
+        let q : O.Settings s next ≡ O.Settings s n = sym e ∙ (line-opens n n l ∙ ap (opensTo n) e) in
         let z : next ≡ n = cc in
-        let i : lineOpening 0 l ≡ O.Settings g 0 = line-opens 0 n l ∙ ap (opensTo 0) e in
-        let p = g .ports in
-        let c = sizes-of (g .kind) p (g .size) (g .window) (start-sized g (length store) b) in
-        let d = start-stored g (length store) b in
-        let k = output-le p (g .size) (g .window) (let a = nibbles-in (g .kind) 15 (omega arith) in let b = c .wide in omega arith) in
+        let i : lineOpening 0 l ≡ O.Settings s 0 = line-opens 0 n l ∙ ap (opensTo 0) e in
+        let p = s .ports in
+        let c = sizes-of (s .kind) p (s .size) (s .window) (start-sized s (length store) b) in
+        let d = start-stored s (length store) b in
+        let k = output-le p (s .size) (s .window) (let a = nibbles-in (s .kind) 15 (omega arith) in let b = c .wide in omega arith) in
         let m : rowsOf p ≤ length rows = (let x = c .few-ports in let y = f .full in omega arith) in
         let zs = T.clearedRows rows in
         let lz : length zs ≡ length rows = length-replicate (length rows) _ in
         let mz : rowsOf p ≤ length zs = rw lz m in
-        let lr = length-part (rowsOf p) zs (T.startedRows g (take (rowsOf p) zs)) mz (length-started-rows g (take (rowsOf p) zs)) ∙ lz in
+        let lr = length-part (rowsOf p) zs (T.startedRows s (take (rowsOf p) zs)) mz (length-started-rows s (take (rowsOf p) zs)) ∙ lz in
         let ls : length (T.clearedStore store) ≡ length store = length-replicate (length store) 0 in
         let o = f .same in
         let v = f .enough in
@@ -515,11 +515,11 @@ module _ (out : List ℕ) (line left ports size window : ℕ) (rows : List (List
     opened-keeps = go (lineOpening n l) refl
       where
         go : (x : Opening) → lineOpening n l ≡ x → Keeps out last starting (called last starting)
-        go (O.Settings g next) e = by (T.startable g (length store)) refl
+        go (O.Settings s next) e = by (T.startable s (length store)) refl
           where
-            by : (b : Bool) → T.startable g (length store) ≡ b → Keeps out last starting (called last starting)
-            by true b = settings-set g next e b
-            by false b = settings-four g next e b
+            by : (b : Bool) → T.startable s (length store) ≡ b → Keeps out last starting (called last starting)
+            by true b = settings-set s next e b
+            by false b = settings-four s next e b
         go O.Malformed e = first-refused last f (now ∙ e) (λ more g. record { line = l; rest = linesOf (drop n text ++ more); lines = lines more g; bad = line-opens 0 n l ∙ ap (opensTo 0) e })
         go O.Unfinished e = first-waits last f O.Unfinished (now ∙ e) (inl refl)
         go O.End e = first-waits last f O.End (now ∙ e) (inr refl)
