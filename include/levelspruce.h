@@ -69,7 +69,7 @@ extern "C" {
 #define LEVELSPRUCE_ANSWER_RANGE 4      /* a count, P, W, X or delay is out of range */
 #define LEVELSPRUCE_ANSWER_CRC 5        /* the packet's CRC differs */
 #define LEVELSPRUCE_ANSWER_UNASSIGNED 6 /* CRC right, control word unassigned */
-#define LEVELSPRUCE_ANSWER_FIXED 7      /* CRC right, control word FIXED */
+#define LEVELSPRUCE_ANSWER_FIXED 7      /* CRC right, control word FIXED; not of a fixed group */
 #define LEVELSPRUCE_ANSWER_FIELD 8      /* a field is too large, or its word is FIXED or unassigned */
 #define LEVELSPRUCE_ANSWER_LENGTH 9     /* a buffer has the wrong length */
 #define LEVELSPRUCE_ANSWER_FAILED 10    /* the frame came flagged as failed */
@@ -79,7 +79,7 @@ extern "C" {
 #define LEVELSPRUCE_ANSWER_USED 15      /* a slot to be released is not IDLE */
 
 /* Control words. All other numbers are unassigned. */
-#define LEVELSPRUCE_WORD_FIXED 0 /* neither written nor read: the group has no LCAS */
+#define LEVELSPRUCE_WORD_FIXED 0 /* the group has no LCAS: by the _fixed calls alone */
 #define LEVELSPRUCE_WORD_ADD 1
 #define LEVELSPRUCE_WORD_NORM 2
 #define LEVELSPRUCE_WORD_EOS 3
@@ -235,6 +235,42 @@ uint8_t levelspruce_packet_write(uint32_t epoch, uint32_t word, uint32_t gid,
 LEVELSPRUCE_MUST_USE
 uint8_t levelspruce_packet_read(const uint8_t *h4, size_t h4_length,
                                 uint8_t *fields, size_t fields_length);
+
+/*
+ * Writes one packet of a fixed group (virtual concatenation without LCAS): the
+ * epoch and the number in their places, the word FIXED, all other nibbles zero.
+ *
+ *   epoch    0 to 255
+ *   sq       0 to 255
+ *   h4       LEVELSPRUCE_PACKET_BYTES bytes, in the order of sending
+ *
+ * Answers, the first that fits:
+ *   9  h4_length is not 16
+ *   8  epoch or sq is above 255
+ *   0  all sixteen bytes are written; levelspruce_packet_read_fixed gives the
+ *      same epoch and sq back
+ */
+LEVELSPRUCE_MUST_USE
+uint8_t levelspruce_packet_write_fixed(uint32_t epoch, uint32_t sq,
+                                       uint8_t *h4, size_t h4_length);
+
+/*
+ * Reads one packet of a fixed group. Nothing but epoch, sq and the word is
+ * looked at, and no CRC is checked: a damaged packet can read well.
+ *
+ *   h4       LEVELSPRUCE_PACKET_BYTES bytes, from the frame with MFI1 8 on;
+ *            only their high nibbles are looked at
+ *   fields   LEVELSPRUCE_FIELDS_BYTES bytes for the result, as
+ *            levelspruce_packet_read has it; all but epoch and sq are 0
+ *
+ * Answers, the first that fits:
+ *   9  h4_length is not 16, or fields_length is not 10
+ *   6  the control word is not FIXED
+ *   0  all ten bytes of fields are written
+ */
+LEVELSPRUCE_MUST_USE
+uint8_t levelspruce_packet_read_fixed(const uint8_t *h4, size_t h4_length,
+                                      uint8_t *fields, size_t fields_length);
 
 /*
  * Spreads a group frame over its members: byte p of the frame becomes byte
@@ -897,6 +933,7 @@ uint8_t levelspruce_board_speak(const uint8_t *changes, size_t changes_length,
 /* The kinds of packets of a group, and the greatest count of a timer, in
  * epochs. */
 #define LEVELSPRUCE_KIND_H4 0
+#define LEVELSPRUCE_KIND_FIXED 2 /* a group without LCAS */
 #define LEVELSPRUCE_TIMER_MOST 5000
 
 /* The bytes of a reply. */
@@ -939,7 +976,7 @@ uint8_t levelspruce_receiver_start(uint32_t ports, uint32_t payload,
  * make a healthy port FAIL that is renumbered into it and has no hold-off.
  * To change the times, start anew.
  *
- *   kind          LEVELSPRUCE_KIND_H4
+ *   kind          LEVELSPRUCE_KIND_H4 or LEVELSPRUCE_KIND_FIXED
  *   ports, payload, window, store_bytes, state
  *                 as for levelspruce_receiver_start
  *   hold_off      a count for each port, 0 to LEVELSPRUCE_TIMER_MOST; an empty

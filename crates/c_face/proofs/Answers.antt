@@ -14,7 +14,8 @@ use Rattle.packet.specs.Laws.Bounds.{bounds}
 use Rattle.packet.specs.Laws.Writing.{unfit-answer, unfit-bytes}
 use Rattle.packet.specs.Reading.{readAnswer, readingNumber}
 use Rattle.packet.specs.Writing.{fitting, writeAnswer, writeBytes, writingNumber}
-use Rattle.c_face.specs.Packets.{areBytes, given, readAnswerC, readFieldsC, valuesIn, valuesOr, writeRefusal}
+use Rattle.packet.specs.Fixed.{readFixedAnswer}
+use Rattle.c_face.specs.Packets.{areBytes, given, readAnswerC, readFieldsC, readFixedAnswerC, readFixedFieldsC, valuesIn, valuesOr, writeRefusal}
 
 module _ (epoch word gid mst ack sq : ℕ) where
   pub record Bytes : Type 0 where
@@ -79,6 +80,16 @@ module _ (h4 s : List ℕ) where
       → (readingNumber r ≡ readAnswerC h4 s) × (v ≡ readFieldsC h4 s)
   unfolding readAnswerC readFieldsC
   read-right r t v h e q k = rw (eq-eqb (length s) 10 h, ← e, q) (refl, k)
+
+module _ (h4 s : List ℕ) where
+  pub fixed-wrong : (length s ≡ 10 → ⊥) → (9 ≡ readFixedAnswerC h4 s) × (s ≡ readFixedFieldsC h4 s)
+  unfolding readFixedAnswerC readFixedFieldsC
+  fixed-wrong d = rw (ne-eqb (length s) 10 d) (refl, refl)
+
+  pub fixed-right : (r t : Reading) (v : List ℕ) → length s ≡ 10 → t ≡ readFixedAnswer h4 → t ≡ r → v ≡ valuesOr r s
+      → (readingNumber r ≡ readFixedAnswerC h4 s) × (v ≡ readFixedFieldsC h4 s)
+  unfolding readFixedAnswerC readFixedFieldsC
+  fixed-right r t v h e q k = rw (eq-eqb (length s) 10 h, ← e, q) (refl, k)
 
 -- ten bytes copied over ten
 pub put : (f : Fields) (s t : List ℕ) → length s ≡ 10 → t ≡ valuesIn f ++ drop 10 s → t ≡ valuesIn f

@@ -4,7 +4,6 @@ pub mod Parts
 pub mod Pieces
 pub mod Planning
 pub mod Showing
-pub mod Started
 pub mod Stepping
 pub mod Telling
 pub mod TwoGroups

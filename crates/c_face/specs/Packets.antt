@@ -7,6 +7,7 @@ use lib.ListN.{length}
 use Rattle.packet.specs.declared.layout.Fields.{Fields}
 use Rattle.packet.specs.declared.reader.Reading.{Reading}
 use Rattle.packet.specs.declared.reader.Reading.the-variants.{Packet, Length, Crc, Fixed, Unassigned}
+use Rattle.packet.specs.Fixed.{readFixedAnswer, writeFixedAnswer}
 use Rattle.packet.specs.Reading.{readAnswer, readingNumber}
 use Rattle.packet.specs.Writing.{writeAnswer, writeBytes, writingNumber}
 
@@ -51,6 +52,17 @@ valuesOr Unassigned fields = fields
 
 unfoldable pub readFieldsC : List ℕ → List ℕ → List ℕ
 readFieldsC h4 fields = cond (eqb (length fields) 10) (valuesOr (readAnswer h4) fields) fields
+
+-- Of a fixed group (request 2026-12), by the same lent bytes.
+
+abbrev pub writeFixedAnswerC : ℕ → ℕ → List ℕ → ℕ
+writeFixedAnswerC epoch sq h4 = writingNumber (writeFixedAnswer epoch sq h4)
+
+unfoldable pub readFixedAnswerC : List ℕ → List ℕ → ℕ
+readFixedAnswerC h4 fields = cond (eqb (length fields) 10) (readingNumber (readFixedAnswer h4)) 9
+
+unfoldable pub readFixedFieldsC : List ℕ → List ℕ → List ℕ
+readFixedFieldsC h4 fields = cond (eqb (length fields) 10) (valuesOr (readFixedAnswer h4) fields) fields
 
 -- for the functions behind the calls
 abbrev pub areBytes : ℕ → ℕ → ℕ → ℕ → ℕ → ℕ → Bool

@@ -2,19 +2,21 @@
 use mathlib.Core.Bool.{Bool, cond, not}
 use mathlib.Core.List.{List}
 use Prim.Native.Nat.{ℕ}
-use lib.Dec.{eqb}
-use Rattle.receiver.specs.Starting.{emptyGroup, startAsAnswer, startAsRows}
-use Rattle.rows.specs.Group.{putGroup}
+use lib.Dec.{eqb, ltb}
+use Rattle.receiver.specs.Starting.{startAsAnswer, startAsRows}
 
 abbrev pub failedC : ℕ → Bool
 failedC failed = not (eqb failed 0)
 
--- A start says of which kind its packets are. H4 is the one kind so far; any other is out of range: 4, and an empty group.
+-- A start says of which kind its packets are: H4, or FIXED (request 2026-12). Any other is out of range: 4, and an empty group. A number that is no byte names no kind, as 255 doesn't.
 abbrev pub H4 : ℕ
 H4 = 0
 
-unfoldable pub startAsAnswerC : ℕ → ℕ → ℕ → ℕ → ℕ → List ℕ → List ℕ → ℕ → ℕ
-startAsAnswerC kind ports P W store hold restore rows = cond (eqb kind H4) (startAsAnswer H4 ports P W store hold restore rows) 4
+abbrev pub kindC : ℕ → ℕ
+kindC kind = cond (ltb kind 256) kind 255
 
-unfoldable pub startAsRowsC : ℕ → ℕ → ℕ → ℕ → ℕ → List ℕ → List ℕ → List (List ℕ) → List (List ℕ)
-startAsRowsC kind ports P W store hold restore s = cond (eqb kind H4) (startAsRows H4 ports P W store hold restore s) (putGroup s (emptyGroup H4))
+abbrev pub startAsAnswerC : ℕ → ℕ → ℕ → ℕ → ℕ → List ℕ → List ℕ → ℕ → ℕ
+startAsAnswerC kind ports P W store hold restore rows = startAsAnswer (kindC kind) ports P W store hold restore rows
+
+abbrev pub startAsRowsC : ℕ → ℕ → ℕ → ℕ → ℕ → List ℕ → List ℕ → List (List ℕ) → List (List ℕ)
+startAsRowsC kind ports P W store hold restore s = startAsRows (kindC kind) ports P W store hold restore s

@@ -4,7 +4,8 @@ use packet::Reading;
 use packet::Word;
 ghost use mathlib.Core.Path.{_≡_};
 ghost use lib.ListN.{length};
-ghost use Rattle.c_face.specs.Packets.{areBytes, readAnswerC, readFieldsC, valuesIn, writeAnswerC, writeBytesC, writeRefusal};
+ghost use Rattle.c_face.specs.Packets.{areBytes, readAnswerC, readFieldsC, readFixedAnswerC, readFixedFieldsC, valuesIn, writeAnswerC, writeBytesC, writeFixedAnswerC, writeRefusal};
+ghost use Rattle.packet.specs.Fixed.{writeFixedBytes};
 
 fn are_bytes(epoch: u32, word: u32, gid: u32, mst: u32, rs_ack: u32, sq: u32) -> bool
     ensures { λ r. ⌜ r ≡ areBytes epoch word gid mst «rs_ack» sq ⌝ }
@@ -78,6 +79,36 @@ pub extern "C" fn levelspruce_packet_read(h4: &[u8], fields: &mut [u8]) -> u8
         return 9;
     }
     let reading = packet::read(h4);
+    match reading {
+        Reading::Packet(values) => {
+            put_values(values, fields);
+            0
+        }
+        Reading::Length => 9,
+        Reading::Crc => 5,
+        Reading::Fixed => 7,
+        Reading::Unassigned => 6,
+    }
+}
+
+#[no_mangle]
+pub extern "C" fn levelspruce_packet_write_fixed(epoch: u32, sq: u32, h4: &mut [u8]) -> u8
+    ensures { λ r. ⌜ (r ≡ writeFixedAnswerC epoch sq (now (h4 .entry)))
+        × (now (h4 .exit) ≡ writeFixedBytes epoch sq (now (h4 .entry))) ⌝ }
+{
+    let written = packet::write_fixed(epoch, sq, h4);
+    written.number()
+}
+
+#[no_mangle]
+pub extern "C" fn levelspruce_packet_read_fixed(h4: &[u8], fields: &mut [u8]) -> u8
+    ensures { λ r. ⌜ (r ≡ readFixedAnswerC (now (h4 .entry)) (now (fields .entry)))
+        × (now (fields .exit) ≡ readFixedFieldsC (now (h4 .entry)) (now (fields .entry))) ⌝ }
+{
+    if fields.len() != 10 {
+        return 9;
+    }
+    let reading = packet::read_fixed(h4);
     match reading {
         Reading::Packet(values) => {
             put_values(values, fields);

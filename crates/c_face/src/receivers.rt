@@ -1,10 +1,8 @@
 // The receiver for C: its state in lent rows of sixteen bytes, its frames in a lent store.
 use packet::kinds;
 ghost use mathlib.Core.Path.{_≡_};
-ghost use mathlib.Core.Bool.{cond};
-ghost use lib.Dec.{eqb};
 ghost use lib.ListN.{length};
-ghost use Rattle.c_face.specs.Receivers.{failedC, startAsAnswerC, startAsRowsC};
+ghost use Rattle.c_face.specs.Receivers.{failedC, kindC, startAsAnswerC, startAsRowsC};
 ghost use Rattle.receiver.specs.Fetch.{fetchAnswer, fetchOut, fetchRecord, fetchRows};
 ghost use Rattle.receiver.specs.Frame.{frameAnswer, frameRows, frameStore};
 ghost use Rattle.receiver.specs.Shown.{portsAnswer, portsOut, replyAnswer, replyOut};
@@ -30,11 +28,10 @@ pub extern "C" fn levelspruce_receiver_start(
     receiver::start(kinds::H4, ports, payload, window, store_bytes, state)
 }
 
-// A group of a kind that is not named has no port, and a start with none is answered 4.
-fn ports_for(kind: u32, ports: u32) -> u32
-    ensures { λ r. ⌜ r ≡ cond (eqb kind 0) ports 0 ⌝ }
+fn kind_byte(kind: u32) -> u8
+    ensures { λ r. ⌜ r ≡ kindC kind ⌝ }
 {
-    if kind == 0 { ports } else { 0 }
+    if kind < 256 { kind as u8 } else { 255 }
 }
 
 #[no_mangle]
@@ -51,10 +48,10 @@ pub extern "C" fn levelspruce_receiver_start_as(
     ensures { λ r. ⌜ (r ≡ startAsAnswerC kind ports payload window «store_bytes» (now («hold_off» .entry)) (now (restore .entry)) (length (now (state .entry))))
         × (now (state .exit) ≡ startAsRowsC kind ports payload window «store_bytes» (now («hold_off» .entry)) (now (restore .entry)) (now (state .entry))) ⌝ }
 {
-    let named = ports_for(kind, ports);
+    let named = kind_byte(kind);
     receiver::start_as(
-        kinds::H4,
         named,
+        ports,
         payload,
         window,
         store_bytes,

@@ -3,6 +3,7 @@ pub mod ByRank
 pub mod Circuits
 pub mod Entries
 pub mod Examples
+pub mod FixedGroups
 pub mod Hosts
 pub mod Joining
 pub mod Orders

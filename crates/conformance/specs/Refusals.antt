@@ -33,6 +33,9 @@ entries =
     row "packet::write" packet.write packet.write-copes
     ∷ row "packet::read" packet.read packet.read-copes
     ∷ row "packet::read_nibbles" packet.readSixteen packet.readSixteen-copes
+    ∷ row "packet::write_fixed" packet.writeFixed packet.writeFixed-copes
+    ∷ row "packet::read_fixed" packet.readFixed packet.readFixed-copes
+    ∷ row "packet::read_fixed_nibbles" packet.readFixedSixteen packet.readFixedSixteen-copes
     ∷ row "payload::spread" payload.spread payload.spread-copes
     ∷ row "payload::join" payload.join payload.join-copes
     ∷ row "payload::spread_one" payload.spreadOneMember payload.spreadOne-copes
@@ -85,6 +88,8 @@ entries =
     ∷ row "replaying::turn" replay.turn replay.turn-copes
     ∷ row "levelspruce_packet_write" packet.writeC packet.writeC-copes
     ∷ row "levelspruce_packet_read" packet.readC packet.readC-copes
+    ∷ row "levelspruce_packet_write_fixed" packet.writeFixedC packet.writeFixedC-copes
+    ∷ row "levelspruce_packet_read_fixed" packet.readFixedC packet.readFixedC-copes
     ∷ row "levelspruce_spread" payload.spreadC payload.spread-copes
     ∷ row "levelspruce_join" payload.joinC payload.join-copes
     ∷ row "levelspruce_paths_plan" paths.planC paths.planC-copes

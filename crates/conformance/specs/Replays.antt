@@ -7,7 +7,7 @@ use lib.ListN.{drop, replicate, take}
 use Rattle.ground.specs.Circle.{after}
 use Rattle.judge.specs.Order.{activeIn, orderOf, portOf}
 use Rattle.judge.specs.Order.{rankOf as rankSeen}
-use Rattle.judge.specs.Verdict.{doubtfulBy, eosAlone, eosWrong, exact, gidDiffers, heldBy, judgeOf, missing, repeats, takes}
+use Rattle.judge.specs.Verdict.{doubtfulBy, eosAlone, eosWrong, exact, gidDiffers, heldBy, judgeOf, lcasVerdict, missing, repeats, takes}
 use Rattle.judge.specs.Verdict.{highest as highestSeen}
 use Rattle.packet.specs.Counts.{tagByHigh, tagByLow, counts, carriesLow, nibbleIn, nibblePlace, startsCount}
 use Rattle.packet.specs.Crc.{crcOf, divisor, nibbleBits}
@@ -37,7 +37,7 @@ use Rattle.rows.specs.Packets.{marksAt, packetsAt, putMarks, putPackets}
 use Rattle.rows.specs.Rows.{putRow, rowIn}
 use Rattle.rows.specs.Step.{putStep, stepAt, stepOf, stepRow}
 use Rattle.step.specs.Arrival.{arrives, frameDropped, byStart, byWindow, countsOn, distanceIn, flagged, inStep, joining, keeps, outside, readable, takenOf}
-use Rattle.step.specs.Own.{endsOdd, oddPacket, ownNumber, ownRuling}
+use Rattle.step.specs.Own.{endsOdd, oddPacket, ownNumber, ownRuling, rightCrc, rulingIn}
 use Rattle.step.specs.Run.{begunRun, breaksAfter, endsPacket, furtherRun, gainedRun, inStepAt, loses, oddAfter, runOn, secondRun, stayedRun}
 use Rattle.store.specs.Frames.{byteAt, h4At, packetIn, placeIn, ringOf, storedAt}
 use Rattle.store.specs.Marks.{cutByte, cutFrom, firstMark, markIn, markedAt, markedByte, passedByte, passedMarks}
@@ -123,7 +123,7 @@ left t d (l ∷ ls) = left t (next t d l) ls
 
 -- Lines in two parts, the state carried over. Everything that a run is made of is opened here, for the checker to compute.
 unfoldable pub replayed : Taking → ℕ → List (List ℕ) → List (List ℕ) → List ℕ
-unfolding after reportSeen tagByHigh tagByLow counts carriesLow nibbleIn nibblePlace startsCount crcOf divisor nibbleBits distanceOf endsEpoch epochAfter epochOf epochs epochsIn firstTag frames idleNumber lead placeOf startsEpoch tagAfter tagBefore tags carriedIn dataOf fieldsOf readNibbles assigned activeIn orderOf portOf rankSeen doubtfulBy eosAlone eosWrong exact gidDiffers heldBy highestSeen judgeOf missing repeats takes begins foremost further latest noTag ready within brought owesNothing silent notedBy passedGroup passedOf passedPort passedPorts passedStep ruledBy rulingOf beginBy begunOf clearedPort clearedPorts clearedStep gatherBy settledOf stopBy stoppedOf portsIn sized storeFor dueIn fetchOut fetchRecord fetchRows fits outIfDue reportIfDue rowsIfDue recordOf frameRows frameStore gatheredBy marksBy portRows refusalBy settledBy storeBy takenRows takenStore fetchFits frameFits outputFor rowsFit frameInto framesInto outputBy outputOf replyPort replyPorts reportBy reportedOf rulingEpoch seenAll seenOf startsOf withState statesWorkedOut statePut statesPut freshPort freshPorts sizedRows startFits claims holders ackOf turnsAck groupAt groupOf groupRow putGroup memberAt memberOf memberRow putMember marksAt packetsAt putMarks putPackets putRow rowIn putStep stepAt stepOf stepRow arrives frameDropped byStart byWindow countsOn distanceIn flagged inStep joining keeps outside readable takenOf endsOdd oddPacket ownNumber ownRuling begunRun breaksAfter endsPacket furtherRun gainedRun inStepAt loses oddAfter runOn secondRun stayedRun byteAt h4At packetIn placeIn ringOf storedAt cutByte cutFrom firstMark markIn markedAt markedByte passedByte passedMarks saidTo deskAfter lineOpening settingsBy fieldsIn numberIn digitOf hexOf isHex bytesIn flagIn frameBy lineRecord startable openWithTurn openWithRows answeredTurn payloadAt framedRows framedStore fetchRecordBy fetchRowsBy reportText epochText markText countIn decimalText numberText statesIn stateAt stateLine portText stateText answerText reportIn sizedAnswer sizedFits startAsAnswer startAsRows startRight timesWithin grant granted chosenOf heldOf moreHeld rounds someJoin standingBy standingsOf
+unfolding after reportSeen tagByHigh tagByLow counts carriesLow nibbleIn nibblePlace startsCount crcOf divisor nibbleBits distanceOf endsEpoch epochAfter epochOf epochs epochsIn firstTag frames idleNumber lead placeOf startsEpoch tagAfter tagBefore tags carriedIn dataOf fieldsOf readNibbles assigned activeIn orderOf portOf rankSeen doubtfulBy eosAlone eosWrong exact gidDiffers heldBy highestSeen judgeOf lcasVerdict missing repeats takes begins foremost further latest noTag ready within brought owesNothing silent notedBy passedGroup passedOf passedPort passedPorts passedStep ruledBy rulingOf beginBy begunOf clearedPort clearedPorts clearedStep gatherBy settledOf stopBy stoppedOf portsIn sized storeFor dueIn fetchOut fetchRecord fetchRows fits outIfDue reportIfDue rowsIfDue recordOf frameRows frameStore gatheredBy marksBy portRows refusalBy settledBy storeBy takenRows takenStore fetchFits frameFits outputFor rowsFit frameInto framesInto outputBy outputOf replyPort replyPorts reportBy reportedOf rulingEpoch seenAll seenOf startsOf withState statesWorkedOut statePut statesPut freshPort freshPorts sizedRows startFits claims holders ackOf turnsAck groupAt groupOf groupRow putGroup memberAt memberOf memberRow putMember marksAt packetsAt putMarks putPackets putRow rowIn putStep stepAt stepOf stepRow arrives frameDropped byStart byWindow countsOn distanceIn flagged inStep joining keeps outside readable takenOf endsOdd oddPacket rightCrc ownNumber ownRuling rulingIn begunRun breaksAfter endsPacket furtherRun gainedRun inStepAt loses oddAfter runOn secondRun stayedRun byteAt h4At packetIn placeIn ringOf storedAt cutByte cutFrom firstMark markIn markedAt markedByte passedByte passedMarks saidTo deskAfter lineOpening settingsBy fieldsIn numberIn digitOf hexOf isHex bytesIn flagIn frameBy lineRecord startable openWithTurn openWithRows answeredTurn payloadAt framedRows framedStore fetchRecordBy fetchRowsBy reportText epochText markText countIn decimalText numberText statesIn stateAt stateLine portText stateText answerText reportIn sizedAnswer sizedFits startAsAnswer startAsRows startRight timesWithin grant granted chosenOf heldOf moreHeld rounds someJoin standingBy standingsOf
 replayed t store first second = output t (lentFor store) first ++ output t (left t (lentFor store) first) second
 
 abbrev lines : List (List ℕ)

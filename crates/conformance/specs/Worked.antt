@@ -36,7 +36,7 @@ use Rattle.sender.specs.Steps.{Call}
 use Rattle.sender.specs.Steps.Call.{AddSlot, Lapse, RemoveSlot, Report}
 use Rattle.sender.specs.Table.{holderOf, membersOf, sizeOf}
 use Rattle.step.specs.Arrival.{arrives, frameDropped, byStart, byWindow, countsOn, distanceIn, inStep, joining, keeps, outside, readable, stepTo, takenOf}
-use Rattle.step.specs.Own.{endsOdd, oddPacket, ownNumber}
+use Rattle.step.specs.Own.{endsOdd, oddPacket, ownNumber, rightCrc}
 use Rattle.step.specs.Run.{begunRun, breaksAfter, endsPacket, furtherRun, gainedRun, inStepAt, loses, oddAfter, runOn, secondRun, stayedRun}
 use Rattle.store.specs.Frames.{byteAt, h4At, packetIn, placeIn, ringOf, storedAt}
 use Rattle.store.specs.Marks.{cutByte, cutFrom, firstMark, markedAt, markedByte, passedByte, passedMarks}
@@ -44,7 +44,7 @@ use Rattle.c_face.specs.Boards.{boardByte, boardBytesOf, rankByte, ranksBytesOf
 use Rattle.judge.specs.declared.seen.Seen.{Seen}
 use Rattle.judge.specs.Order.{activeIn, orderOf, portOf}
 use Rattle.judge.specs.Order.{rankOf as rankSeen}
-use Rattle.judge.specs.Verdict.{doubtfulBy, eosAlone, eosWrong, exact, gidDiffers, heldBy, judgeOf, missing, repeats, takes}
+use Rattle.judge.specs.Verdict.{doubtfulBy, eosAlone, eosWrong, exact, gidDiffers, heldBy, judgeOf, lcasVerdict, missing, repeats, takes}
 use Rattle.judge.specs.Verdict.{highest as highestSeen}
 use Rattle.receiver.specs.Fetch.{recordOf}
 use Rattle.receiver.specs.Shown.{portIn, portShown, portsOut, shownFit}
@@ -113,7 +113,7 @@ abbrev lacking : ℕ → ℕ → Seen
 lacking word number = record { whole = true; good = true; word = word; number = number; gid = 0; here = false }
 
 abbrev verdict : List Seen → ℕ
-verdict ports = judgeOf ports (length ports)
+verdict ports = judgeOf 0 ports (length ports)
 
 -- X, and the ports by rank
 abbrev ranked : List Seen → List ℕ
@@ -272,5 +272,5 @@ table =
     ∷ []
 
 pub worked-out : Equal table
-unfolding table recordOf portIn portShown portsOut shownFit nibblesOf sealedOf dataOf crcOf divisor byteBits nibbleBits writeAnswer writeBytes fitting assigned h4Of boardOf rowsOf rowOf noRow highest startOf freshOf idleSlot idleNumber addOf addedTo removeOf removedFrom fallen fallenIn lapseOf reportOf waited actedOn mstApplied numberApplied holderOf renumbered slotAfter numberAfter comesBefore turnOf opensWait sizeOf membersOf mstFails mstFirst mstNumbers afterOn nibbleIn nibblePlace startsCount tagByHigh carriesLow tagByLow counts endsEpoch epochsIn frames tagAfter tagBefore tags lead epochs epochAfter epochOf distanceOf placeOf startsEpoch firstTag settledOf clearedStep clearedPort clearedPorts stoppedOf stopBy begunOf beginBy gatherBy portsIn sizedGroup storeFor ready latest noTag further foremost within begins owesNothing brought silent ruledBy passedStep notedBy passedPort passedPorts passedGroup passedOf frameFits rowsFit frameAnswer frameRows frameStore gatheredBy marksBy portRows storeBy settledBy takenRows takenStore refusalBy startAsAnswer startRight timesWithin sizedFits startAsRows startFits sizedAnswer sizedRows freshPort freshPorts groupAt groupOf groupRow putGroup rowIn putRow marksAt packetsAt putMarks putPackets memberAt putMember memberOf memberRow putStep stepAt stepIn stepRow takenOf inStep readable distanceIn flaggedStep countsOn frameDropped outside keeps joining byWindow byStart arrives inStepAt begunRun secondRun furtherRun gainedRun stayedRun loses breaksAfter oddAfter endsPacket endsOdd oddPacket ownNumber readNibbles fieldsOf carriedIn runOn placeIn storedAt ringOf byteAt h4At packetIn cutFrom markedAt firstMark markedByte cutByte passedByte passedMarks boardByte boardBytesOf rankByte ranksBytesOf activeIn orderOf portOf rankSeen doubtfulBy eosAlone eosWrong exact gidDiffers heldBy judgeOf missing repeats takes highestSeen claims grant granted holders chosenOf heldOf moreHeld rounds someJoin standingBy standingsOf mstFrom mstOf okHolds beginOf freshSender packetBytes packetFields payloadBytes ranksOf startEpochOf startedEpoch startedSender carriersIn rankAt rankOf ranksIn
+unfolding table recordOf portIn portShown portsOut shownFit nibblesOf sealedOf dataOf crcOf divisor byteBits nibbleBits writeAnswer writeBytes fitting assigned h4Of boardOf rowsOf rowOf noRow highest startOf freshOf idleSlot idleNumber addOf addedTo removeOf removedFrom fallen fallenIn lapseOf reportOf waited actedOn mstApplied numberApplied holderOf renumbered slotAfter numberAfter comesBefore turnOf opensWait sizeOf membersOf mstFails mstFirst mstNumbers afterOn nibbleIn nibblePlace startsCount tagByHigh carriesLow tagByLow counts endsEpoch epochsIn frames tagAfter tagBefore tags lead epochs epochAfter epochOf distanceOf placeOf startsEpoch firstTag settledOf clearedStep clearedPort clearedPorts stoppedOf stopBy begunOf beginBy gatherBy portsIn sizedGroup storeFor ready latest noTag further foremost within begins owesNothing brought silent ruledBy passedStep notedBy passedPort passedPorts passedGroup passedOf frameFits rowsFit frameAnswer frameRows frameStore gatheredBy marksBy portRows storeBy settledBy takenRows takenStore refusalBy startAsAnswer startRight timesWithin sizedFits startAsRows startFits sizedAnswer sizedRows freshPort freshPorts groupAt groupOf groupRow putGroup rowIn putRow marksAt packetsAt putMarks putPackets memberAt putMember memberOf memberRow putStep stepAt stepIn stepRow takenOf inStep readable distanceIn flaggedStep countsOn frameDropped outside keeps joining byWindow byStart arrives inStepAt begunRun secondRun furtherRun gainedRun stayedRun loses breaksAfter oddAfter endsPacket endsOdd oddPacket rightCrc ownNumber readNibbles fieldsOf carriedIn runOn placeIn storedAt ringOf byteAt h4At packetIn cutFrom markedAt firstMark markedByte cutByte passedByte passedMarks boardByte boardBytesOf rankByte ranksBytesOf activeIn orderOf portOf rankSeen doubtfulBy eosAlone eosWrong exact gidDiffers heldBy judgeOf lcasVerdict missing repeats takes highestSeen claims grant granted holders chosenOf heldOf moreHeld rounds someJoin standingBy standingsOf mstFrom mstOf okHolds beginOf freshSender packetBytes packetFields payloadBytes ranksOf startEpochOf startedEpoch startedSender carriersIn rankAt rankOf ranksIn
 worked-out = equal-rows table refl

@@ -1,10 +1,11 @@
 -- What demand 3 lets be so of one group of a card, and of its own link: 'demand 3 per group with its own ports, one for each slot it owns, as long as no claim or release changes the group's slots from the sending of the earliest frame that its receiver gets' (02, 2026-06).
 use mathlib.Core.Path.{_≡_}
-use mathlib.Core.Bool.{true}
+use mathlib.Core.Bool.{true, false}
 use mathlib.Core.List.{List}
 use Prim.Native.Nat.{ℕ, _≤_, _<_}
+use lib.Dec.{eqb}
 use lib.ListN.{length}
-use Rattle.packet.specs.Kinds.{epochs}
+use Rattle.packet.specs.Kinds.{epochs, fixedKind}
 use Rattle.circuits.specs.Parts.{owns}
 use Rattle.link.specs.History.{sendingOf}
 use Rattle.link.specs.Link.{Lines, Link}
@@ -13,8 +14,9 @@ use Rattle.groups.specs.Cards.{CardHistory, cardAt}
 use Rattle.groups.specs.Projected.{Starts, historyOf}
 
 pub record AssumedEach (h : CardHistory) (g : ℕ) (k : Link) : Type 0 where
-  -- one of the two groups, of a card whose start was answered 0
+  -- one of the two groups, of a card whose start was answered 0; a fixed group (request 2026-12) is none of our sender's
   pub group : g < 2
+  pub lcas : eqb (h .kind) fixedKind ≡ false
   pub some : 1 ≤ h .slots
   pub most : h .slots ≤ 64
   pub first : h .first g < epochs (h .kind)

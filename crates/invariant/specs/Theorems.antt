@@ -2,14 +2,16 @@
 use mathlib.Core.Path.{_≡_}
 use mathlib.Core.Logic.{_⊎_, _≢_}
 use mathlib.Core.Bool.{Bool, true, false, _&&_}
-use mathlib.Core.List.{List, []}
+use mathlib.Core.List.{List, [], _∷_}
 use Prim.Native.Nat.{ℕ, _+_, _-_, _*_, _≤_, _<_}
 use lib.ListN.{getD, length}
 use Rattle.ground.specs.Drawn.{fillAt}
 use Rattle.ground.specs.Table.{tabulate}
-use Rattle.judge.specs.Order.{orderOf}
-use Rattle.judge.specs.Verdict.{HELD, judgeOf}
-use Rattle.packet.specs.Kinds.{epochAfter, epochOf, frames}
+use Rattle.judge.specs.Laws.Numbers.{numberAt}
+use Rattle.judge.specs.Order.{activeIn, orderOf, portOf}
+use Rattle.judge.specs.Theorems.Fixed.{Standing}
+use Rattle.judge.specs.Verdict.{HELD, SURE, judgeOf}
+use Rattle.packet.specs.Kinds.{epochAfter, epochOf, fixedKind, frames}
 use Rattle.packet.specs.Layout.{fieldsOf}
 use Rattle.phases.specs.Beginning.{foremost}
 use Rattle.phases.specs.Settling.{settledOf}
@@ -18,6 +20,7 @@ use Rattle.receiver.specs.Fetch.{dueIn, fetchOut, fetchRows, fits, reportIfDue}
 use Rattle.receiver.specs.Frame.{frameAnswer, frameRows, settledBy, takenIn}
 use Rattle.receiver.specs.Laws.Bytes.{frameBytes, reportByte}
 use Rattle.receiver.specs.Report.{rulingEpoch, seenAll, seenOf}
+use Rattle.receiver.specs.Shown.{replyOf}
 use Rattle.receiver.specs.Starting.{startAsAnswer}
 use Rattle.rows.specs.declared.group.Group.{Group}
 use Rattle.rows.specs.Group.{groupAt}
@@ -33,6 +36,7 @@ use Rattle.invariant.specs.Proofs.Claimed as Claims
 use Rattle.invariant.specs.Proofs.Numbered as Numbered
 use Rattle.invariant.specs.Proofs.Reports.Ack as Ack
 use Rattle.invariant.specs.Proofs.Reports.Bytes as Bytes
+use Rattle.invariant.specs.Proofs.Reports.Fixed as Fixed
 use Rattle.invariant.specs.Proofs.Reports.HandedAgain as Again
 use Rattle.invariant.specs.Proofs.Reports.Held as Held
 use Rattle.invariant.specs.Proofs.Reports.Order as Order
@@ -83,7 +87,7 @@ own-number = Numbered.own-number
 
 -- The minutes' item 1: the bytes of a report that is not held are the join under one order, sixteen group frames, and the output beyond them stays.
 pub report-bytes : (s : List (List ℕ)) (store out report : List ℕ) → fits s store out report ≡ true → dueIn (groupAt s) (portsIn (groupAt s)) s ≡ true
-    → judgeOf (seenAll (groupAt s) s (portsIn (groupAt s))) (portsIn (groupAt s)) ≢ HELD
+    → judgeOf (groupAt s .kind) (seenAll (groupAt s) s (portsIn (groupAt s))) (portsIn (groupAt s)) ≢ HELD
     → fetchOut s store out report
     ≡ fillAt 0 (frames (groupAt s .kind) * frameBytes (groupAt s) (seenAll (groupAt s) s (portsIn (groupAt s))) (portsIn (groupAt s)))
     (reportByte (groupAt s) (seenAll (groupAt s) s (portsIn (groupAt s))) (portsIn (groupAt s)) store) out
@@ -130,3 +134,36 @@ none-ack = Ack.none-ack
 pub report-turns : (s : List (List ℕ)) (store out report : List ℕ) → Given s store out report → ackIn s ≤ 1
     → (ackIn (fetchRows s store out report) ≡ ackIn s) ⊎ (ackIn (fetchRows s store out report) ≡ 1 - ackIn s)
 report-turns = Ack.report-turns
+
+-- Fixed groups (request 2026-12), on every state: a due report is sure exactly where every port has a whole good ruling packet and brought its frames, and the numbers are 0 to X-1, X being the number of ports. Otherwise it is held.
+
+pub fixed-sure : (s : List (List ℕ)) → groupAt s .kind ≡ fixedKind → dueIn (groupAt s) (portsIn (groupAt s)) s ≡ true
+    → Standing (seenAll (groupAt s) s (portsIn (groupAt s))) (portsIn (groupAt s)) → reportIfDue (groupAt s) (portsIn (groupAt s)) s .mark ≡ SURE
+fixed-sure = Fixed.fixed-sure
+
+pub sure-fixed : (s : List (List ℕ)) → groupAt s .kind ≡ fixedKind → dueIn (groupAt s) (portsIn (groupAt s)) s ≡ true
+    → reportIfDue (groupAt s) (portsIn (groupAt s)) s .mark ≡ SURE → Standing (seenAll (groupAt s) s (portsIn (groupAt s))) (portsIn (groupAt s))
+sure-fixed = Fixed.sure-fixed
+
+pub fixed-else : (s : List (List ℕ)) → groupAt s .kind ≡ fixedKind → dueIn (groupAt s) (portsIn (groupAt s)) s ≡ true
+    → reportIfDue (groupAt s) (portsIn (groupAt s)) s .mark ≢ SURE → reportIfDue (groupAt s) (portsIn (groupAt s)) s .mark ≡ HELD
+fixed-else = Fixed.fixed-else
+
+-- the order under which a sure one's bytes are joined (report-bytes): all ports, each at the rank of its number
+pub fixed-order : (s : List (List ℕ)) → groupAt s .kind ≡ fixedKind → dueIn (groupAt s) (portsIn (groupAt s)) s ≡ true → reportIfDue (groupAt s) (portsIn (groupAt s)) s .mark ≡ SURE
+    → (activeIn (seenAll (groupAt s) s (portsIn (groupAt s))) (portsIn (groupAt s)) ≡ portsIn (groupAt s))
+    × ((r : ℕ) → r < portsIn (groupAt s)
+    → (portOf (seenAll (groupAt s) s (portsIn (groupAt s))) (portsIn (groupAt s)) r < portsIn (groupAt s))
+    × (numberAt (seenAll (groupAt s) s (portsIn (groupAt s))) (portOf (seenAll (groupAt s) s (portsIn (groupAt s))) (portsIn (groupAt s)) r) ≡ r))
+fixed-order = Fixed.fixed-order
+
+-- 'A set number of ports never changes while running': X is the number set at the start, after any calls from it
+pub fixed-stays : (count P W : ℕ) (hold restore : List ℕ) (rows : List (List ℕ)) (store : List ℕ) → startAsAnswer fixedKind count P W (length store) hold restore (length rows) ≡ 0 → (calls : List ReceiverCall)
+    → (groupAt (receiverRun (startedWith fixedKind count P W hold restore rows store) calls .rows) .kind ≡ fixedKind)
+    × (portsIn (groupAt (receiverRun (startedWith fixedKind count P W hold restore rows store) calls .rows)) ≡ count)
+fixed-stays = Fixed.fixed-stays
+
+-- and MST reads 00 in every epoch, and RS-Ack 0
+pub fixed-told : (count P W : ℕ) (hold restore : List ℕ) (rows : List (List ℕ)) (store : List ℕ) → startAsAnswer fixedKind count P W (length store) hold restore (length rows) ≡ 0 → (calls : List ReceiverCall) (e : ℕ)
+    → replyOf (receiverRun (startedWith fixedKind count P W hold restore rows store) calls .rows) e ≡ 0 ∷ 0 ∷ []
+fixed-told = Fixed.fixed-told

@@ -4,4 +4,5 @@ mod Place
 mod Later
 mod Beginning
 mod Order
+mod PortsSeen
 mod Step

@@ -5,8 +5,8 @@ use mathlib.Core.List.{List}
 use Prim.Native.Nat.{ℕ}
 use Rattle.judge.specs.declared.seen.Seen.{Seen}
 use Rattle.judge.specs.declared.verdict.Tally.{Tally}
-use Rattle.judge.specs.Tally.{eosAloneBy, exactTo, heldWith, tallyOf}
-use Rattle.judge.specs.Verdict.{DOUBTFUL, HELD, SURE, doubtfulBy, eosAlone, eosWrong, exact, gidDiffers, heldBy, highest, judgeOf, missing, repeats}
+use Rattle.judge.specs.Tally.{eosAloneBy, exactTo, fixedHeldWith, heldWith, tallyOf}
+use Rattle.judge.specs.Verdict.{DOUBTFUL, HELD, SURE, doubtfulBy, eosAlone, eosWrong, exact, fixedExact, fixedHeld, fixedVerdict, gidDiffers, heldBy, highest, lcasVerdict, missing, repeats}
 
 held-is : (ports : List Seen) (n : ℕ) → heldWith (tallyOf ports n) (repeats ports n) (eosAloneBy ports n (tallyOf ports n .highest)) ≡ heldBy ports n
 unfolding heldBy gidDiffers eosWrong eosAlone eosAloneBy highest missing
@@ -16,22 +16,39 @@ doubtful-is : (ports : List Seen) (n : ℕ) → (tallyOf ports n .missing || not
 unfolding doubtfulBy missing exact exactTo
 doubtful-is ports n = refl
 
-module _ (ports : List Seen) (m n : ℕ) (t : Tally) (repeated alone held : Bool) (size : n ≡ m) (tallied : t ≡ tallyOf ports n)
+module _ (ports : List Seen) (n : ℕ) (t : Tally) (repeated alone held : Bool) (tallied : t ≡ tallyOf ports n)
     (repeating : repeated ≡ repeats ports n) (standing : alone ≡ eosAloneBy ports n (t .highest)) (holding : held ≡ heldWith t repeated alone) where
-  held-by : held ≡ heldBy ports m
-  held-by = rw (← size) (holding ∙ rw (standing, repeating, tallied) (held-is ports n))
+  held-by : held ≡ heldBy ports n
+  held-by = holding ∙ rw (standing, repeating, tallied) (held-is ports n)
 
-  pub by-held : held ≡ true → HELD ≡ judgeOf ports m
-  unfolding judgeOf
+  pub by-held : held ≡ true → HELD ≡ lcasVerdict ports n
+  unfolding lcasVerdict
   by-held e = rw (← held-by, e)
 
-  doubtful-by : (whole : Bool) → whole ≡ exactTo ports n (t .numbered) → (t .missing || not whole) ≡ doubtfulBy ports m
-  doubtful-by whole e = rw (← size, e, tallied) (doubtful-is ports n)
+  doubtful-by : (whole : Bool) → whole ≡ exactTo ports n (t .numbered) → (t .missing || not whole) ≡ doubtfulBy ports n
+  doubtful-by whole e = rw (e, tallied) (doubtful-is ports n)
 
-  pub by-doubt : (whole : Bool) → whole ≡ exactTo ports n (t .numbered) → held ≡ false → (t .missing || not whole) ≡ true → DOUBTFUL ≡ judgeOf ports m
-  unfolding judgeOf
+  pub by-doubt : (whole : Bool) → whole ≡ exactTo ports n (t .numbered) → held ≡ false → (t .missing || not whole) ≡ true → DOUBTFUL ≡ lcasVerdict ports n
+  unfolding lcasVerdict
   by-doubt whole e h d = rw (← held-by, h, ← doubtful-by whole e, d)
 
-  pub by-rest : (whole : Bool) → whole ≡ exactTo ports n (t .numbered) → held ≡ false → (t .missing || not whole) ≡ false → SURE ≡ judgeOf ports m
-  unfolding judgeOf
+  pub by-rest : (whole : Bool) → whole ≡ exactTo ports n (t .numbered) → held ≡ false → (t .missing || not whole) ≡ false → SURE ≡ lcasVerdict ports n
+  unfolding lcasVerdict
   by-rest whole e h d = rw (← held-by, h, ← doubtful-by whole e, d)
+
+fixed-held-is : (ports : List Seen) (n : ℕ) → fixedHeldWith (tallyOf ports n) (repeats ports n) (exactTo ports n n) ≡ fixedHeld ports n
+unfolding fixedHeld fixedExact exactTo missing
+fixed-held-is ports n = refl
+
+module _ (ports : List Seen) (n : ℕ) (t : Tally) (repeated exact held : Bool) (tallied : t ≡ tallyOf ports n) (repeating : repeated ≡ repeats ports n) (whole : exact ≡ exactTo ports n n)
+    (holding : held ≡ fixedHeldWith t repeated exact) where
+  fixed-held-by : held ≡ fixedHeld ports n
+  fixed-held-by = holding ∙ rw (whole, repeating, tallied) (fixed-held-is ports n)
+
+  pub fixed-by-held : held ≡ true → HELD ≡ fixedVerdict ports n
+  unfolding fixedVerdict
+  fixed-by-held e = rw (← fixed-held-by, e)
+
+  pub fixed-by-rest : held ≡ false → SURE ≡ fixedVerdict ports n
+  unfolding fixedVerdict
+  fixed-by-rest e = rw (← fixed-held-by, e)

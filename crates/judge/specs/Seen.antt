@@ -4,7 +4,7 @@ use mathlib.Core.List.{List}
 use Prim.Native.Nat.{ℕ}
 use lib.Dec.{eqb, ltb}
 use lib.ListN.{getD}
-use Rattle.packet.specs.Words.{NORM, EOS, IDLE, DNU}
+use Rattle.packet.specs.Words.{NORM, EOS, IDLE, DNU, FIXED}
 use Rattle.judge.specs.declared.seen.Seen.{Seen}
 
 -- 'A group has 1 to 64 .. ports.'
@@ -18,13 +18,13 @@ seenAt ports i = getD ports i (record { whole = false; good = false; word = 0; n
 abbrev pub refusedSeen : Seen → Bool
 refusedSeen p = p .whole && not (p .good)
 
--- Of good packets: active members send NORM or EOS.
+-- Of good packets: active members send NORM or EOS. 'A FIXED port counts as active' (request 2026-12); where packets are read by 01 none with that word is good.
 
 abbrev pub activeSeen : Seen → Bool
-activeSeen p = p .whole && p .good && (eqb (p .word) NORM || eqb (p .word) EOS)
+activeSeen p = p .whole && p .good && (eqb (p .word) NORM || eqb (p .word) EOS || eqb (p .word) FIXED)
 
 abbrev pub numberedSeen : Seen → Bool
-numberedSeen p = p .whole && p .good && (eqb (p .word) NORM || eqb (p .word) EOS || eqb (p .word) DNU)
+numberedSeen p = p .whole && p .good && (eqb (p .word) NORM || eqb (p .word) EOS || eqb (p .word) FIXED || eqb (p .word) DNU)
 
 abbrev pub eosSeen : Seen → Bool
 eosSeen p = p .whole && p .good && eqb (p .word) EOS

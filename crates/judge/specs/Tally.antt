@@ -51,3 +51,7 @@ heldWith t repeated alone =
     || repeated
     || (t .zero && t .other)
     || (t .active && not alone && not (not (t .eos) && t .missing))
+
+-- of a fixed group
+abbrev pub fixedHeldWith : Tally → Bool → Bool → Bool
+fixedHeldWith t repeated exact = t .missing || t .refused || t .lacking || repeated || not exact

@@ -4,6 +4,7 @@ use mathlib.Core.List.{List}
 use Prim.Native.Nat.{ℕ}
 use lib.Dec.{eqb}
 use Rattle.counting.specs.Words.{some, every, count, greatest}
+use Rattle.packet.specs.Kinds.{fixedKind}
 use Rattle.judge.specs.declared.seen.Seen.{Seen}
 use Rattle.judge.specs.Seen.{activeSeen, eosSeen, lackingSeen, numberedSeen, refusedSeen, seenAt, unidleSeen}
 
@@ -65,5 +66,28 @@ DOUBTFUL = 2
 abbrev pub SURE : ℕ
 SURE = 3
 
-unfoldable pub judgeOf : List Seen → ℕ → ℕ
-judgeOf ports n = cond (heldBy ports n) HELD (cond (doubtfulBy ports n) DOUBTFUL SURE)
+-- by 01
+unfoldable pub lcasVerdict : List Seen → ℕ → ℕ
+lcasVerdict ports n = cond (heldBy ports n) HELD (cond (doubtfulBy ports n) DOUBTFUL SURE)
+
+-- A fixed group (request 2026-12). X is how many ports were set at the start: 'A set number of ports never changes while running'.
+
+-- 'The ports' numbers must be exactly 0 to X-1': each of these is one of theirs
+unfoldable pub fixedExact : List Seen → ℕ → Bool
+fixedExact ports n = every n (λ q. takes ports n q)
+
+-- 'or the epoch is held': each of them once. So is one in which some port has no whole ruling packet, or a refused one, or lacks a frame.
+unfoldable pub fixedHeld : List Seen → ℕ → Bool
+fixedHeld ports n =
+    missing ports n
+    || some n (λ i. refusedSeen (seenAt ports i))
+    || some n (λ i. lackingSeen (seenAt ports i))
+    || repeats ports n
+    || not (fixedExact ports n)
+
+unfoldable pub fixedVerdict : List Seen → ℕ → ℕ
+fixedVerdict ports n = cond (fixedHeld ports n) HELD SURE
+
+-- by the kind of packet
+unfoldable pub judgeOf : ℕ → List Seen → ℕ → ℕ
+judgeOf kind ports n = cond (eqb kind fixedKind) (fixedVerdict ports n) (lcasVerdict ports n)

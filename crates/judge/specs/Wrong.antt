@@ -1,15 +1,17 @@
--- Wrong readings of 01, each as a definition with a run on which it breaks what 01 says.
+-- Wrong readings of 01 and of request 2026-12, each as a definition with a run on which it breaks what 01 says.
 use mathlib.Core.Path.{_≡_, refl}
-use mathlib.Core.Bool.{true, _&&_}
+use mathlib.Core.Bool.{true, false, cond, not, _&&_, _||_}
 use mathlib.Core.List.{List, [], _∷_}
 use Prim.Native.Nat.{ℕ}
 use lib.Dec.{eqb}
-use Rattle.counting.specs.Words.{the}
+use Rattle.counting.specs.Words.{some, the}
 use Rattle.ground.specs.Table.{tabulate}
-use Rattle.packet.specs.Words.{DNU, EOS, NORM}
+use Rattle.packet.specs.Kinds.{fixedKind}
+use Rattle.packet.specs.Words.{DNU, EOS, FIXED, NORM}
 use Rattle.judge.specs.declared.seen.Seen.{Seen}
 use Rattle.judge.specs.Order.{activeIn, portOf, rankOf}
-use Rattle.judge.specs.Seen.{activeSeen, seenAt}
+use Rattle.judge.specs.Seen.{activeSeen, lackingSeen, refusedSeen, seenAt}
+use Rattle.judge.specs.Verdict.{DOUBTFUL, HELD, SURE, doubtfulBy, eosAlone, eosWrong, exact, fixedExact, fixedHeld, fixedVerdict, gidDiffers, heldBy, highest, judgeOf, lcasVerdict, missing, repeats, takes}
 
 abbrev sent : ℕ → ℕ → Seen
 sent word number = record { whole = true; good = true; word = word; number = number; gid = 0; here = true }
@@ -24,3 +26,40 @@ hole = sent DNU 0 ∷ sent NORM 1 ∷ sent EOS 2 ∷ []
 port-breaks : (activeIn hole 3 ≡ 2) × (tabulate 2 (wrong-port hole 3) ≡ 0 ∷ 1 ∷ []) × (tabulate 2 (portOf hole 3) ≡ 1 ∷ 2 ∷ [])
 unfolding wrong-port activeIn portOf rankOf
 port-breaks = (refl, refl, refl)
+
+-- A fixed group (request 2026-12).
+
+-- EOS asked for: no fixed group would ever be sure.
+wrong-eos : List Seen → ℕ → ℕ
+wrong-eos ports n = cond (fixedHeld ports n || eosWrong ports n) HELD SURE
+
+abbrev three : List Seen
+three = sent FIXED 2 ∷ sent FIXED 0 ∷ sent FIXED 1 ∷ []
+
+eos-breaks : (wrong-eos three 3 ≡ HELD) × (judgeOf fixedKind three 3 ≡ SURE)
+unfolding wrong-eos judgeOf fixedVerdict fixedHeld fixedExact eosWrong eosAlone highest missing repeats takes
+eos-breaks = (refl, refl)
+
+-- Doubtful kept: a gap in the numbers, or a dark port, would give out bytes that are surely not the client's.
+wrong-doubt : List Seen → ℕ → ℕ
+wrong-doubt ports n =
+    cond (some n (λ i. refusedSeen (seenAt ports i)) || some n (λ i. lackingSeen (seenAt ports i)) || repeats ports n) HELD
+    (cond (missing ports n || not (fixedExact ports n)) DOUBTFUL SURE)
+
+abbrev unseen : Seen
+unseen = record { whole = false; good = false; word = 0; number = 0; gid = 0; here = false }
+
+abbrev dark : List Seen
+dark = sent FIXED 0 ∷ sent FIXED 1 ∷ unseen ∷ []
+
+abbrev gap : List Seen
+gap = sent FIXED 0 ∷ sent FIXED 1 ∷ sent FIXED 3 ∷ []
+
+doubt-breaks : (wrong-doubt gap 3 ≡ DOUBTFUL) × (judgeOf fixedKind gap 3 ≡ HELD) × (wrong-doubt dark 3 ≡ DOUBTFUL) × (judgeOf fixedKind dark 3 ≡ HELD)
+unfolding wrong-doubt judgeOf fixedVerdict fixedHeld fixedExact missing repeats takes
+doubt-breaks = (refl, refl, refl, refl)
+
+-- By 01 the same packets are held, since no port has EOS: the kind decides.
+kind-breaks : judgeOf 0 three 3 ≡ HELD
+unfolding judgeOf lcasVerdict heldBy doubtfulBy eosWrong eosAlone exact gidDiffers highest missing repeats takes
+kind-breaks = refl

@@ -38,7 +38,9 @@ pub(crate) fn is_refused(port: Seen) -> bool
 pub(crate) fn is_active(port: Seen) -> bool
     ensures { λ r. ⌜ r ≡ activeSeen port ⌝ }
 {
-    port.whole & port.good & ((port.word == Word::NORM.0) | (port.word == Word::EOS.0))
+    port.whole
+        & port.good
+        & ((port.word == Word::NORM.0) | (port.word == Word::EOS.0) | (port.word == Word::FIXED.0))
 }
 
 pub(crate) fn is_numbered(port: Seen) -> bool
@@ -46,7 +48,10 @@ pub(crate) fn is_numbered(port: Seen) -> bool
 {
     port.whole
         & port.good
-        & ((port.word == Word::NORM.0) | (port.word == Word::EOS.0) | (port.word == Word::DNU.0))
+        & ((port.word == Word::NORM.0)
+            | (port.word == Word::EOS.0)
+            | (port.word == Word::FIXED.0)
+            | (port.word == Word::DNU.0))
 }
 
 pub(crate) fn is_eos(port: Seen) -> bool

@@ -1,12 +1,13 @@
 // Held, doubtful, sure (01, 'Report of an epoch').
 use crate::seen;
 use crate::seen::Seen;
+use packet::kinds;
 ghost use mathlib.Core.Path.{_≡_};
 ghost use mathlib.Core.Bool.{cond};
 ghost use Prim.Native.Nat.{_≤_, _<_};
 ghost use Rattle.judge.specs.Seen.{sizeOf};
-ghost use Rattle.judge.specs.Tally.{eosAloneBy, exactTo, heldWith, tallyOf, tallyWith};
-ghost use Rattle.judge.specs.Verdict.{judgeOf, repeats, takes};
+ghost use Rattle.judge.specs.Tally.{eosAloneBy, exactTo, fixedHeldWith, heldWith, tallyOf, tallyWith};
+ghost use Rattle.judge.specs.Verdict.{fixedVerdict, judgeOf, lcasVerdict, repeats, takes};
 
 // The marks of a report. 0 says that none is due.
 pub const HELD: u8 = 1;
@@ -151,10 +152,10 @@ fn is_held(tally: Tally, repeated: bool, alone: bool) -> bool
         | (tally.active & !alone & !(!tally.eos & tally.missing))
 }
 
-pub fn judge(ports: [Seen; 64], count: u8) -> u8
-    ensures { λ r. ⌜ r ≡ judgeOf ports (sizeOf count) ⌝ }
+fn lcas_verdict(ports: [Seen; 64], n: usize) -> u8
+    requires { ⌜ n ≤ 64 ⌝ }
+    ensures { λ r. ⌜ r ≡ lcasVerdict ports n ⌝ }
 {
-    let n = seen::size_of(count);
     let tally = tallied(ports, n);
     let repeated = has_repeats(ports, n);
     let alone = is_eos_alone(ports, n, tally.highest);
@@ -166,4 +167,34 @@ pub fn judge(ports: [Seen; 64], count: u8) -> u8
         return DOUBTFUL;
     }
     SURE
+}
+
+fn is_fixed_held(tally: Tally, repeated: bool, exact: bool) -> bool
+    ensures { λ r. ⌜ r ≡ fixedHeldWith tally repeated exact ⌝ }
+{
+    tally.missing | tally.refused | tally.lacking | repeated | !exact
+}
+
+// A fixed group (request 2026-12). X is the number of its ports, so no report of it is doubtful.
+fn fixed_verdict(ports: [Seen; 64], n: usize) -> u8
+    requires { ⌜ n ≤ 64 ⌝ }
+    ensures { λ r. ⌜ r ≡ fixedVerdict ports n ⌝ }
+{
+    let tally = tallied(ports, n);
+    let repeated = has_repeats(ports, n);
+    let exact = is_exact(ports, n, n as u8);
+    if is_fixed_held(tally, repeated, exact) {
+        return HELD;
+    }
+    SURE
+}
+
+pub fn judge(kind: u8, ports: [Seen; 64], count: u8) -> u8
+    ensures { λ r. ⌜ r ≡ judgeOf kind ports (sizeOf count) ⌝ }
+{
+    let n = seen::size_of(count);
+    if kind == kinds::FIXED {
+        return fixed_verdict(ports, n);
+    }
+    lcas_verdict(ports, n)
 }

@@ -1,12 +1,12 @@
 -- Our sender's side of demand 3: 'any client bytes and any history of members our sender allows from one start', and what each slot then sends.
 use mathlib.Core.Path.{_≡_}
-use mathlib.Core.Bool.{Bool, cond, not}
+use mathlib.Core.Bool.{Bool, false, cond, not}
 use mathlib.Core.List.{List}
 use Prim.Native.Nat.{ℕ, zero, suc, _*_, _≤_, _<_}
 use lib.Dec.{eqb}
 use lib.ListN.{length, replicate}
 use Rattle.packet.specs.declared.layout.Fields.{Fields}
-use Rattle.packet.specs.Kinds.{epochs, frames}
+use Rattle.packet.specs.Kinds.{epochs, fixedKind, frames}
 use Rattle.sender.specs.declared.epochs.Sender.{Sender}
 use Rattle.sender.specs.Epochs.{beginOf, packetBytes, packetFields, payloadBytes, rankIn, senderRun, senderStepOf, xOf}
 use Rattle.sender.specs.Epochs.SenderCall.{StartEpoch}
@@ -25,8 +25,9 @@ pub record History : Type 0 where
   pub mst : ℕ → ℕ
   pub ack : ℕ → ℕ
 
--- 'A group has 1 to 64 slots at the sender'; the numbers lent are a byte's or a bit's. Which commands and reports come is free: one that is refused changes nothing.
+-- 'A group has 1 to 64 slots at the sender'; a fixed group (request 2026-12) is none of our sender's; the numbers lent are a byte's or a bit's. Which commands and reports come is free: one that is refused changes nothing.
 pub record Allowed (h : History) : Type 0 where
+  pub lcas : eqb (h .kind) fixedKind ≡ false
   pub some : 1 ≤ h .slots
   pub most : h .slots ≤ 64
   pub first : h .first < epochs (h .kind)

@@ -6,6 +6,7 @@ pub mod Running
 pub mod Moments
 pub mod Link
 pub mod Assumed
+pub mod FixedGroup
 pub mod Demand3
 pub mod Proofs
 pub mod Theorems

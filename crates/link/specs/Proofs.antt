@@ -8,3 +8,4 @@ pub mod Judged
 pub mod Alike
 pub mod Over
 pub mod Histories
+pub mod FixedGroups

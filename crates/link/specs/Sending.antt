@@ -78,7 +78,7 @@ seenSent s i slot = record { whole = true; good = true; word = s .word i slot; n
 
 -- 'The packets of one epoch rule the payload of the next epoch, from its first frame': what n ports have seen of the i-th epoch is judged sure, and the ranks that it gives carry the client's group frames of the next.
 pub record Rules (s : Sending) (P : ℕ) (client : Client) (i n : ℕ) (slotOf : ℕ → ℕ) (ports : List Seen) : Type 0 where
-  pub mark : judgeOf ports n ≡ SURE
+  pub mark : judgeOf (s .kind) ports n ≡ SURE
   pub members : activeIn ports n ≡ s .x (suc i)
   pub carried : (r j : ℕ) → r < s .x (suc i) → j < frames (s .kind)
       → s .payload (epochStart (s .kind) (suc i) + j) (slotOf (portOf ports n r)) ≡ memberFrame (s .x (suc i)) P (client (epochStart (s .kind) (suc i) + j)) r
@@ -98,7 +98,7 @@ pub record Lawful (s : Sending) (P : ℕ) (client : Client) : Type 0 where
       → ownRuling (s .kind) (epochNumber (s .kind) (s .first) i) (nibblesIn (s .kind) came) .good ≡ false
   -- and shows by its CRC that it is
   pub even : (i slot : ℕ) (came : List ℕ) → slot < s .slots → 1 ≤ changed (s .packet i slot) came → changed (s .packet i slot) came ≤ s .changes
-      → oddPacket (epochNumber (s .kind) (s .first) i) (nibblesIn (s .kind) came) ≡ false
+      → oddPacket (s .kind) (epochNumber (s .kind) (s .first) i) (nibblesIn (s .kind) came) ≡ false
   -- all as said rule
   pub rules : (i n : ℕ) (slotOf : ℕ → ℕ) (ports : List Seen) → Pairing n (s .slots) slotOf → Covered s i n slotOf
       → ((p : ℕ) → p < n → seenAt ports p ≡ seenSent s i (slotOf p)) → Rules s P client i n slotOf ports

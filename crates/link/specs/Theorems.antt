@@ -5,8 +5,11 @@ use Prim.Native.Nat.{ℕ, _<_}
 use lib.ListN.{length}
 use Rattle.link.specs.Assumed.{Assumed}
 use Rattle.link.specs.Demand3.{Demand3, Started, Time, UntilBegun, ownRun}
+use Rattle.link.specs.FixedGroup.{AssumedFixed, FixedGroup, Numbered, sendingFixed}
 use Rattle.link.specs.History.{Allowed, Handed, History, sendingOf}
 use Rattle.link.specs.Link.{AssumedOver, Link}
+use Rattle.link.specs.Proofs.FixedGroups.Over.{fixed-over}
+use Rattle.link.specs.Proofs.FixedGroups.Sure.{fixed-lawful}
 use Rattle.link.specs.Proofs.Histories.Lawful.{history-lawful}
 use Rattle.link.specs.Proofs.Histories.Ours.{ours}
 use Rattle.link.specs.Proofs.Over.{over, until-begun}
@@ -29,3 +32,10 @@ spared-until k a m₀ o at = until-begun k a m₀ o at
 pub histories-lawful : (h : History) → Allowed h → (P : ℕ) (client : Client) → Handed h P client
     → (unranked : ℕ → ℕ → List ℕ) → ((x slot : ℕ) → slot < h .slots → length (unranked x slot) ≡ P) → Lawful (sendingOf h P client unranked) P client
 histories-lawful = history-lawful
+
+-- for fixed groups (request 2026-12)
+pub demand3-fixed : (k : Link) → AssumedFixed k → Demand3 k
+demand3-fixed k a = demand3-over k (fixed-over k a)
+
+pub fixed-groups-lawful : (f : FixedGroup) → Numbered f → (P : ℕ) (client : Client) → Lawful (sendingFixed f P client) P client
+fixed-groups-lawful = fixed-lawful

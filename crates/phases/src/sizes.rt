@@ -9,7 +9,8 @@ pub fn is_sized(kind: u8, count: u32, payload: u32, window: u32) -> bool
 {
     let frames = kinds::epoch_frames(kind);
     let tags = kinds::tag_count(kind);
-    (1 <= count)
+    ((kind == kinds::H4) | (kind == kinds::FIXED))
+        & (1 <= count)
         & (count <= 64)
         & (1 <= payload)
         & (payload <= 2340)
@@ -17,7 +18,7 @@ pub fn is_sized(kind: u8, count: u32, payload: u32, window: u32) -> bool
         & (window <= (tags / 2) as u32)
 }
 
-// How many ports a group has; a group out of range is an empty one.
+// How many ports a group has; a group out of range, or of no kind that is known, is an empty one.
 pub fn ports_in(group: Group) -> u8
     ensures { λ r. ⌜ r ≡ portsIn group ⌝ }
 {

@@ -19,7 +19,7 @@ use Rattle.rows.specs.Group.{groupAt}
 
 module _ (g : Group) (n : ℕ) (s : List (List ℕ)) (store out : List ℕ) where
   pub given-is : (seen : List Seen) (mark : ℕ) (order : Order) (left : List ℕ) (rows : List (List ℕ)) (report : Report)
-      → seen ≡ seenAll g s n → mark ≡ judgeOf seen (sizeOf n) → order ≡ orderOf seen (sizeOf n) → left ≡ outputBy g mark order store out
+      → seen ≡ seenAll g s n → mark ≡ judgeOf (g .kind) seen (sizeOf n) → order ≡ orderOf seen (sizeOf n) → left ≡ outputBy g mark order store out
       → rows ≡ reportedOf g store n s → report ≡ reportBy g mark order
       → (report ≡ reportOf g (seenAll g s n) n) × (rows ≡ reportedOf g store n s) × (left ≡ outputOf g (seenAll g s n) n store out)
   unfolding reportOf outputOf

@@ -72,14 +72,14 @@ reportBy g mark o =
     record { mark = mark; epoch = g .oldest; x = x; bytes = x * frames (g .kind) * g .payload }
 
 unfoldable pub reportOf : Group → List Seen → ℕ → Report
-reportOf g seen n = reportBy g (judgeOf seen (sizeOf n)) (orderOf seen (sizeOf n))
+reportOf g seen n = reportBy g (judgeOf (g .kind) seen (sizeOf n)) (orderOf seen (sizeOf n))
 
 -- held: 'No bytes.' Otherwise 'Sixteen group frames from the active ports seen.' 'Output beyond those bytes stays.'
 unfoldable pub outputBy : Group → ℕ → Order → List ℕ → List ℕ → List ℕ
 outputBy g mark o store out = cond (eqb mark HELD) out (framesInto g o store (frames (g .kind)) out)
 
 unfoldable pub outputOf : Group → List Seen → ℕ → List ℕ → List ℕ → List ℕ
-outputOf g seen n store out = outputBy g (judgeOf seen (sizeOf n)) (orderOf seen (sizeOf n)) store out
+outputOf g seen n store out = outputBy g (judgeOf (g .kind) seen (sizeOf n)) (orderOf seen (sizeOf n)) store out
 
 -- a port as its member state is worked out; readable at the moment of the fetch
 unfoldable pub replyPort : Group → List (List ℕ) → ℕ → Port

@@ -6,7 +6,7 @@ use lib.Dec.{eqb}
 use lib.ListN.{length}
 use Rattle.counting.specs.Each.{each}
 use Rattle.judge.specs.Seen.{sizeOf}
-use Rattle.packet.specs.Kinds.{idleNumber}
+use Rattle.packet.specs.Kinds.{fixedKind, idleNumber}
 use Rattle.phases.specs.Sizes.{portsIn}
 use Rattle.receiver.specs.Lengths.{rowsFit}
 use Rattle.receiver.specs.Report.{replyPorts}
@@ -59,11 +59,15 @@ portsOut s out =
     (each (portsIn (groupAt s)) (portIn (groupAt s) s) out)
     out
 
+-- Of a fixed group 'there is no DNU, EOS, GID rule or reply' (request 2026-12): what is read is what an end without LCAS sends back.
+abbrev pub toldBy : ℕ → ℕ → ℕ
+toldBy kind byte = cond (eqb kind fixedKind) 0 byte
+
 -- 'MST for q is 0 exactly if an OK port holds q', of the numbers that the epoch speaks of; and RS-Ack beside it
 unfoldable pub replyOf : List (List ℕ) → ℕ → List ℕ
 replyOf s e =
     let g = groupAt s in
-    mstOf (g .kind) (replyPorts g s (portsIn g)) (sizeOf (portsIn g)) e ∷ flagByte (flagOf (g .«rs_ack»)) ∷ []
+    toldBy (g .kind) (mstOf (g .kind) (replyPorts g s (portsIn g)) (sizeOf (portsIn g)) e) ∷ toldBy (g .kind) (flagByte (flagOf (g .«rs_ack»))) ∷ []
 
 unfoldable pub replyFit : ℕ → ℕ → ℕ → Bool
 replyFit n rows out = rowsFit n rows && eqb out 2

@@ -45,7 +45,7 @@ fn report_oldest(
         × (now (out .exit) ≡ outputOf group (seenAll group (now (state .entry)) ports) ports (now (store .entry)) (now (out .entry))) ⌝ }
 {
     let seen = report::seen_all(group, state, ports);
-    let mark = judge::judge(seen, ports);
+    let mark = judge::judge(group.kind, seen, ports);
     let order = judge::ordered(seen, ports);
     joining::output_by(group, mark, order, store, out);
     states::pass(group, store, ports, state);

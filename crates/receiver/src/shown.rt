@@ -12,7 +12,7 @@ ghost use mathlib.Core.List.{[], _∷_};
 ghost use Prim.Native.Nat.{_≤_};
 ghost use lib.ListN.{length};
 ghost use Rattle.counting.specs.Each.{each};
-ghost use Rattle.receiver.specs.Shown.{portIn, portShown, portsAnswer, portsOut, replyAnswer, replyFit, replyOut, shownFit, shownNumber, waitingByte};
+ghost use Rattle.receiver.specs.Shown.{portIn, portShown, portsAnswer, portsOut, replyAnswer, replyFit, replyOut, shownFit, shownNumber, toldBy, waitingByte};
 
 fn shown_number(kind: u8, member: Member) -> u8
     ensures { λ r. ⌜ r ≡ shownNumber kind member ⌝ }
@@ -109,6 +109,13 @@ fn put_reply(mst: u8, ack: u8, out: &mut [u8])
     out[1] = ack;
 }
 
+// Nothing is told to the far end of a fixed group: what is read is what an end without LCAS sends back.
+fn told_by(kind: u8, byte: u8) -> u8
+    ensures { λ r. ⌜ r ≡ toldBy kind byte ⌝ }
+{
+    if kind == kinds::FIXED { 0 } else { byte }
+}
+
 // The reply of an epoch: its MST byte, then RS-Ack.
 pub fn reply(state: &[[u8; 16]], epoch: u8, out: &mut [u8]) -> u8
     ensures { λ r. ⌜ (r ≡ replyAnswer (now (state .entry)) (length (now (out .entry))))
@@ -122,6 +129,6 @@ pub fn reply(state: &[[u8; 16]], epoch: u8, out: &mut [u8]) -> u8
     let all = states::reply_ports(group, state, count);
     let mst = reply::mst(group.kind, all, count, epoch);
     let ack = flags::flag_byte(flags::is_set(group.rs_ack));
-    put_reply(mst, ack, out);
+    put_reply(told_by(group.kind, mst), told_by(group.kind, ack), out);
     0
 }

@@ -1,12 +1,13 @@
--- A packet by the receiver's own count (request 2026-04).
-use mathlib.Core.Bool.{Bool, cond, not, _&&_}
+-- A packet by the receiver's own count (request 2026-04), and by the kind of packet (request 2026-12).
+use mathlib.Core.Bool.{Bool, cond, not, _&&_, _||_}
 use mathlib.Core.List.{List}
 use Prim.Native.Nat.{ℕ}
 use lib.Dec.{eqb}
 use lib.ListN.{set}
 use Rattle.packet.specs.Counts.{nibbleIn}
 use Rattle.packet.specs.declared.ruling.Ruling.{Ruling}
-use Rattle.packet.specs.Kinds.{epochOf, placeOf}
+use Rattle.packet.specs.Fixed.{fixedRulingOf}
+use Rattle.packet.specs.Kinds.{epochOf, fixedKind, placeOf}
 use Rattle.packet.specs.Layout.{fieldsOf}
 use Rattle.packet.specs.Reading.{readNibbles, readingNumber}
 use Rattle.packet.specs.Ruling.{refused, rulingOf}
@@ -16,14 +17,22 @@ use Rattle.step.specs.Run.{endsPacket}
 unfoldable pub ownNumber : ℕ → List ℕ → Bool
 ownNumber epoch nibbles = eqb (fieldsOf nibbles .epoch) epoch
 
+-- the packet read by its kind
+unfoldable pub rulingIn : ℕ → ℕ → List ℕ → Ruling
+rulingIn kind epoch nibbles = cond (eqb kind fixedKind) (fixedRulingOf nibbles) (rulingOf kind epoch nibbles)
+
 -- 'a packet whose carried MFI2 differs from that count is treated as a CRC difference'
 unfoldable pub ownRuling : ℕ → ℕ → List ℕ → Ruling
-ownRuling kind epoch nibbles = cond (ownNumber epoch nibbles) (rulingOf kind epoch nibbles) refused
+ownRuling kind epoch nibbles = cond (ownNumber epoch nibbles) (rulingIn kind epoch nibbles) refused
 
--- 'right CRC and a differing MFI2': 5 is 'CRC differs'. The word is not looked at.
-unfoldable pub oddPacket : ℕ → List ℕ → Bool
-oddPacket epoch nibbles = not (eqb (readingNumber (readNibbles nibbles)) 5) && not (ownNumber epoch nibbles)
+-- 5 is 'CRC differs'. Of a fixed group 'no CRC is checked': each packet counts as one of right CRC.
+unfoldable pub rightCrc : ℕ → List ℕ → Bool
+rightCrc kind nibbles = eqb kind fixedKind || not (eqb (readingNumber (readNibbles nibbles)) 5)
+
+-- 'right CRC and a differing MFI2'. The word is not looked at.
+unfoldable pub oddPacket : ℕ → ℕ → List ℕ → Bool
+oddPacket kind epoch nibbles = rightCrc kind nibbles && not (ownNumber epoch nibbles)
 
 -- whether the frame with this tag ends an odd packet, the one being gathered with the frame's nibble put in
 unfoldable pub endsOdd : ℕ → List ℕ → ℕ → ℕ → Bool
-endsOdd kind gathering tag h = endsPacket kind tag && oddPacket (epochOf kind tag) (set gathering (placeOf kind tag) (nibbleIn kind h))
+endsOdd kind gathering tag h = endsPacket kind tag && oddPacket kind (epochOf kind tag) (set gathering (placeOf kind tag) (nibbleIn kind h))

@@ -1,11 +1,11 @@
-// A packet by the receiver's own count (request 2026-04).
+// A packet by the receiver's own count (request 2026-04), and by the kind of packet (request 2026-12).
 use crate::run;
 use packet::Ruling;
 use packet::counts;
 use packet::kinds;
 ghost use mathlib.Core.Path.{_≡_};
 ghost use lib.ListN.{set};
-ghost use Rattle.step.specs.Own.{endsOdd, oddPacket, ownNumber, ownRuling};
+ghost use Rattle.step.specs.Own.{endsOdd, oddPacket, ownNumber, ownRuling, rightCrc, rulingIn};
 
 // Whether MFI2, in the ninth and tenth nibble, is the number of the packet's epoch.
 fn is_own(epoch: u8, nibbles: [u8; 16]) -> bool
@@ -14,12 +14,21 @@ fn is_own(epoch: u8, nibbles: [u8; 16]) -> bool
     nibbles[8] % 16 * 16 + nibbles[9] % 16 == epoch
 }
 
+fn ruling_in(kind: u8, epoch: u8, nibbles: [u8; 16]) -> Ruling
+    ensures { λ r. ⌜ r ≡ rulingIn kind epoch nibbles ⌝ }
+{
+    if kind == kinds::FIXED {
+        return packet::fixed_ruling_of(nibbles);
+    }
+    packet::ruling_of(kind, epoch, nibbles)
+}
+
 // The packet of an epoch read for what it rules; one with another MFI2 is refused.
 pub fn ruling_of(kind: u8, epoch: u8, nibbles: [u8; 16]) -> Ruling
     ensures { λ r. ⌜ r ≡ ownRuling kind epoch nibbles ⌝ }
 {
     if is_own(epoch, nibbles) {
-        return packet::ruling_of(kind, epoch, nibbles);
+        return ruling_in(kind, epoch, nibbles);
     }
     Ruling {
         good: false,
@@ -29,16 +38,26 @@ pub fn ruling_of(kind: u8, epoch: u8, nibbles: [u8; 16]) -> Ruling
     }
 }
 
-// A right CRC, and another MFI2, which is looked at first: the CRC takes longer than all else of a frame.
-fn is_odd_packet(epoch: u8, nibbles: [u8; 16]) -> bool
-    ensures { λ r. ⌜ r ≡ oddPacket epoch nibbles ⌝ }
+// A fixed group's packet counts as one of right CRC.
+fn is_right(kind: u8, nibbles: [u8; 16]) -> bool
+    ensures { λ r. ⌜ r ≡ rightCrc kind nibbles ⌝ }
 {
-    if is_own(epoch, nibbles) {
-        return false;
+    if kind == kinds::FIXED {
+        return true;
     }
     let reading = packet::read_nibbles(nibbles);
     let answer = reading.number();
     !(answer == 5)
+}
+
+// A right CRC, and another MFI2, which is looked at first: the CRC takes longer than all else of a frame.
+fn is_odd_packet(kind: u8, epoch: u8, nibbles: [u8; 16]) -> bool
+    ensures { λ r. ⌜ r ≡ oddPacket kind epoch nibbles ⌝ }
+{
+    if is_own(epoch, nibbles) {
+        return false;
+    }
+    is_right(kind, nibbles)
 }
 
 fn with_nibble(row: [u8; 16], place: u8, nibble: u8) -> [u8; 16]
@@ -60,7 +79,7 @@ pub fn is_odd(kind: u8, gathering: [u8; 16], tag: u16, h4: u8) -> bool
         let nibble = counts::nibble_in(kind, h4);
         let nibbles = with_nibble(gathering, place, nibble);
         let epoch = kinds::epoch_of(kind, tag);
-        return is_odd_packet(epoch, nibbles);
+        return is_odd_packet(kind, epoch, nibbles);
     }
     false
 }

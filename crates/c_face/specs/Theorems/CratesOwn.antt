@@ -11,6 +11,7 @@ use Rattle.circuits.specs.Calls.{Call, stepOf}
 use Rattle.circuits.specs.Commands.{startOf as cardStart}
 use Rattle.circuits.specs.Readings as card
 use Rattle.packet.specs.declared.layout.Fields.{Fields}
+use Rattle.packet.specs.Fixed.{readFixedAnswer, writeFixedAnswer}
 use Rattle.packet.specs.Reading.{readAnswer, readingNumber}
 use Rattle.packet.specs.Writing.{writeAnswer, writeBytes, writingNumber}
 use Rattle.paths.specs.Answers.{answerOf}
@@ -32,7 +33,7 @@ use Rattle.c_face.specs.Boards.{boardBytesC, boardBytesOf, goingBytesC, 
 use Rattle.c_face.specs.Cards.{boardBytesOn, cardOf, keptCard, outgoingBytesOn, ownedBytesOn, packetAnswerOn, packetBytesOn, payloadAnswerOn, payloadBytesOn, putCard, ranksBytesOn, shownAnswerOn, shownBytesOn, startAnswerOn, startStateOn, stepAnswerOn, stepStateOn}
 use Rattle.c_face.specs.Keeping.{bytesOf, flagByte, senderOf}
 use Rattle.c_face.specs.Payloads.{joinAnswerC, joinFrameC, spreadAnswerC, spreadMembersC}
-use Rattle.c_face.specs.Packets.{readAnswerC, readFieldsC, valuesOr, writeAnswerC, writeBytesC}
+use Rattle.c_face.specs.Packets.{readAnswerC, readFieldsC, readFixedAnswerC, readFixedFieldsC, valuesOr, writeAnswerC, writeBytesC, writeFixedAnswerC}
 use Rattle.c_face.specs.Plans.{checkAnswerC, checkByteC, lentAnswer, lentBytes, planAnswerC, planBytesC, planBytesOf}
 use Rattle.c_face.specs.Receivers.{H4, failedC, startAsAnswerC, startAsRowsC}
 use Rattle.c_face.specs.Senders.{areBytes, keptBytes, outside, packetAnswerC, packetBytesC, payloadAnswerC, payloadBytesC, startAnswerC, startStateC, stepAnswerC, stepStateC}
@@ -48,6 +49,15 @@ pub read-own : (h4 fields : List ℕ) → length fields ≡ 10
     → (readAnswerC h4 fields ≡ readingNumber (readAnswer h4)) × (readFieldsC h4 fields ≡ valuesOr (readAnswer h4) fields)
 unfolding readAnswerC readFieldsC
 read-own h4 fields h = rw (eq-eqb (length fields) 10 h) (refl, refl)
+
+-- levelspruce_packet_write_fixed and levelspruce_packet_read_fixed are packet::write_fixed and packet::read_fixed
+pub write-fixed-own : (epoch sq : ℕ) (h4 : List ℕ) → writeFixedAnswerC epoch sq h4 ≡ writingNumber (writeFixedAnswer epoch sq h4)
+write-fixed-own epoch sq h4 = refl
+
+pub read-fixed-own : (h4 fields : List ℕ) → length fields ≡ 10
+    → (readFixedAnswerC h4 fields ≡ readingNumber (readFixedAnswer h4)) × (readFixedFieldsC h4 fields ≡ valuesOr (readFixedAnswer h4) fields)
+unfolding readFixedAnswerC readFixedFieldsC
+read-fixed-own h4 fields h = rw (eq-eqb (length fields) 10 h) (refl, refl)
 
 -- levelspruce_spread and levelspruce_join are payload::spread and payload::join
 pub spread-own : (x p : ℕ) (frame members : List ℕ)
@@ -132,15 +142,13 @@ ranks-own state ranks h l = rw (eq-eqb (length state) 397 h, eq-eqb (length rank
 pub start-as-own : (ports P W store : ℕ) (s : List (List ℕ))
     → (startAnswer H4 ports P W store (length s) ≡ startAsAnswerC H4 ports P W store [] [] (length s))
     × (startRows H4 ports P W store s ≡ startAsRowsC H4 ports P W store [] [] s)
-unfolding startAsAnswerC startAsRowsC
 start-as-own ports P W store s = (refl, refl)
 
--- and that one is receiver::start_as
-pub start-as-h4 : (ports P W store : ℕ) (hold restore : List ℕ) (s : List (List ℕ))
-    → (startAsAnswerC H4 ports P W store hold restore (length s) ≡ startAsAnswer H4 ports P W store hold restore (length s))
-    × (startAsRowsC H4 ports P W store hold restore s ≡ startAsRows H4 ports P W store hold restore s)
-unfolding startAsAnswerC startAsRowsC
-start-as-h4 ports P W store hold restore s = (refl, refl)
+-- and that one is receiver::start_as, of every kind that is a byte
+pub start-as-named : (kind ports P W store : ℕ) (hold restore : List ℕ) (s : List (List ℕ)) → kind < 256
+    → (startAsAnswerC kind ports P W store hold restore (length s) ≡ startAsAnswer kind ports P W store hold restore (length s))
+    × (startAsRowsC kind ports P W store hold restore s ≡ startAsRows kind ports P W store hold restore s)
+start-as-named kind ports P W store hold restore s h = rw (lt-ltb kind 256 h) (refl, refl)
 
 -- levelspruce_card_start is Card::start for the kind H4, where the state has its length and the first epochs' numbers are bytes. Empty groups' first epochs have the number 0.
 module _ (count e₀ e₁ : ℕ) (state : List ℕ) (sized : length state ≡ 858) (bytes : areBytes e₀ e₁ 0 ≡ true) where

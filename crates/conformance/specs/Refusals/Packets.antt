@@ -1,13 +1,14 @@
--- The refusals of the packet's entry points: writing 9, 8; reading 9, 5, 7, 6.
+-- The refusals of the packet's entry points: writing 9, 8; reading 9, 5, 7, 6. Of a fixed group (request 2026-12) writing 9, 8; reading 9, 6.
 use mathlib.Core.Path.{refl}
 use mathlib.Core.Bool.{Bool, not, _&&_, _||_}
 use mathlib.Core.List.{List, [], _∷_}
 use Prim.Native.Nat.{ℕ, _+_, _*_, _%_}
 use lib.Dec.{eqb, ltb}
 use lib.ListN.{getD, length, take}
-use Rattle.c_face.specs.Packets.{given, readAnswerC, readFieldsC, valuesOr, writeAnswerC, writeBytesC}
+use Rattle.c_face.specs.Packets.{given, readAnswerC, readFieldsC, readFixedAnswerC, readFixedFieldsC, valuesOr, writeAnswerC, writeBytesC, writeFixedAnswerC}
 use Rattle.packet.specs.declared.layout.Fields.{Fields}
 use Rattle.packet.specs.Crc.{crcOf}
+use Rattle.packet.specs.Fixed.{readFixedAnswer, readFixedNibbles, writeFixedAnswer, writeFixedBytes}
 use Rattle.packet.specs.Layout.{carriedIn, fieldsOf, highsOf}
 use Rattle.packet.specs.Reading.{readAnswer, readNibbles, readingNumber}
 use Rattle.packet.specs.Words.{assigned}
@@ -79,3 +80,51 @@ readC (h4, fields) =
 pub readC-copes : (x : List ℕ × List ℕ) → Copes (readC x)
 unfolding readAnswerC readFieldsC
 readC-copes (h4, fields) = behind 9 (eqb (length fields) 10) _ _ (valuesOr (readAnswer h4) fields) fields (reads h4 fields)
+
+-- 'the word FIXED is no cause for 8': an epoch or an SQ above 255 is
+abbrev pub writeFixed : ℕ × ℕ × List ℕ → Call
+writeFixed (epoch, sq, h4) =
+    stateless (Unless 9 (eqb (length h4) 16) ∷ Unless 8 (ltb epoch 256 && ltb sq 256) ∷ [])
+    (writingNumber (writeFixedAnswer epoch sq h4)) (h4 ∷ []) (writeFixedBytes epoch sq h4 ∷ [])
+
+pub writeFixed-copes : (x : ℕ × ℕ × List ℕ) → Copes (writeFixed x)
+unfolding writeFixedAnswer writeFixedBytes
+writeFixed-copes (epoch, sq, h4) = copes _ (λ l. (λ f. rw (l, f), λ f. rw (l, f) (refl, refl, refl)), λ l. rw l (refl, refl, refl))
+
+abbrev pub writeFixedC : ℕ × ℕ × List ℕ → Call
+writeFixedC (epoch, sq, h4) =
+    stateless (Unless 9 (eqb (length h4) 16) ∷ Unless 8 (ltb epoch 256 && ltb sq 256) ∷ [])
+    (writeFixedAnswerC epoch sq h4) (h4 ∷ []) (writeFixedBytes epoch sq h4 ∷ [])
+
+pub writeFixedC-copes : (x : ℕ × ℕ × List ℕ) → Copes (writeFixedC x)
+writeFixedC-copes x = writeFixed-copes x
+
+-- 'Number 7 is not given; a word other than FIXED is 6.'
+abbrev pub readFixedRefusals : List ℕ → List Refusal
+readFixedRefusals ns = Unless 6 (eqb (getD ns 10 0 % 16) 0) ∷ []
+
+fixedReads : (h4 fields : List ℕ) → Copes (stateless (Unless 9 (eqb (length h4) 16) ∷ readFixedRefusals (highsOf h4)) (readingNumber (readFixedAnswer h4)) (fields ∷ []) (valuesOr (readFixedAnswer h4) fields ∷ []))
+unfolding readFixedAnswer readFixedNibbles
+fixedReads h4 fields = copes _ (λ l. (λ w. rw (l, w), λ w. rw (l, w) (refl, refl, refl)), λ l. rw l (refl, refl, refl))
+
+abbrev pub readFixedSixteen : List ℕ → Call
+readFixedSixteen nibbles = stateless (readFixedRefusals nibbles) (readingNumber (readFixedNibbles nibbles)) [] []
+
+pub readFixedSixteen-copes : (x : List ℕ) → Copes (readFixedSixteen x)
+unfolding readFixedNibbles
+readFixedSixteen-copes nibbles = copes _ (λ w. rw w, λ w. rw w (refl, refl, refl))
+
+abbrev pub readFixed : List ℕ → Call
+readFixed h4 = stateless (Unless 9 (eqb (length h4) 16) ∷ readFixedRefusals (highsOf h4)) (readingNumber (readFixedAnswer h4)) [] []
+
+pub readFixed-copes : (x : List ℕ) → Copes (readFixed x)
+readFixed-copes h4 = answers-alone _ _ (fixedReads h4 [] .answers)
+
+abbrev pub readFixedC : List ℕ × List ℕ → Call
+readFixedC (h4, fields) =
+    stateless (Unless 9 (eqb (length fields) 10) ∷ Unless 9 (eqb (length h4) 16) ∷ readFixedRefusals (highsOf h4))
+    (readFixedAnswerC h4 fields) (fields ∷ []) (readFixedFieldsC h4 fields ∷ [])
+
+pub readFixedC-copes : (x : List ℕ × List ℕ) → Copes (readFixedC x)
+unfolding readFixedAnswerC readFixedFieldsC
+readFixedC-copes (h4, fields) = behind 9 (eqb (length fields) 10) _ _ (valuesOr (readFixedAnswer h4) fields) fields (fixedReads h4 fields)

@@ -6,7 +6,7 @@ use Prim.Native.Nat.{ℕ, _+_, _-_, _*_, _%_}
 use native.Mathlib.Nat.{mod-mod}
 use lib.Dec.{eqb, leb, ltb}
 use lib.ListN.{getD, length}
-use Rattle.c_face.specs.Receivers.{failedC, startAsAnswerC, startAsRowsC}
+use Rattle.c_face.specs.Receivers.{failedC, kindC}
 use Rattle.conformance.specs.Entries.{Call, Copes, If, Refusal, Under, Unless, copes, done, first, refused, stateful, stateless}
 use Rattle.counting.specs.Words.{every}
 use Rattle.ground.specs.Circle.{after}
@@ -27,14 +27,14 @@ use Rattle.step.specs.Arrival.{countsOn, distanceIn, flagged, frameDropped, joi
 use Rattle.step.specs.Laws.Arrival.{taken-by}
 use Rattle.step.specs.Run.{inStepAt, runOn}
 
--- '1 to 64 ports', 'P from 1 to 2,340', 'The window W is 16 to 2,048 frames'
-abbrev pub ranged : ℕ → ℕ → ℕ → Bool
-ranged count payload window = leb 1 count && leb count 64 && leb 1 payload && leb payload 2340 && leb 16 window && leb window 2048
+-- of kind H4 or FIXED; '1 to 64 ports', 'P from 1 to 2,340', 'The window W is 16 to 2,048 frames'
+abbrev pub ranged : ℕ → ℕ → ℕ → ℕ → Bool
+ranged kind count payload window = (eqb kind 0 || eqb kind 2) && leb 1 count && leb count 64 && leb 1 payload && leb payload 2340 && leb 16 window && leb window 2048
 
 -- Starting. 'The lent store is exactly ports x W x (P+1) bytes', and the state has five rows a port and one.
 abbrev pub start : ℕ × ℕ × ℕ × ℕ × ℕ × List (List ℕ) → Call
 start (kind, count, payload, window, store, state) =
-    stateful (Unless 4 (ranged count payload window) ∷ Unless 9 (eqb (length state) (count * 5 + 1) && eqb store (count * window * (payload + 1))) ∷ [])
+    stateful (Unless 4 (ranged kind count payload window) ∷ Unless 9 (eqb (length state) (count * 5 + 1) && eqb store (count * window * (payload + 1))) ∷ [])
     (startAnswer kind count payload window store (length state)) [] [] state (startRows kind count payload window store state) (putGroup state (emptyGroup kind))
 
 pub start-copes : (x : ℕ × ℕ × ℕ × ℕ × ℕ × List (List ℕ)) → Copes (start x)
@@ -45,9 +45,9 @@ start-copes (kind, count, payload, window, store, state) = copes _ (λ s. (λ f.
 abbrev pub short : List ℕ → Bool
 short counts = every (length counts) (λ i. leb (getD counts i 0) 5000)
 
-abbrev pub startAsRefusals : ℕ → ℕ → ℕ → ℕ → List ℕ → List ℕ → ℕ → List Refusal
-startAsRefusals count payload window store hold restore rows =
-    Unless 4 (short hold && short restore && ranged count payload window)
+abbrev pub startAsRefusals : ℕ → ℕ → ℕ → ℕ → ℕ → List ℕ → List ℕ → ℕ → List Refusal
+startAsRefusals kind count payload window store hold restore rows =
+    Unless 4 (short hold && short restore && ranged kind count payload window)
     ∷ Unless 9
     ((eqb (length hold) 0 || eqb (length hold) count)
     && (eqb (length restore) 0 || eqb (length restore) count)
@@ -56,7 +56,7 @@ startAsRefusals count payload window store hold restore rows =
 
 abbrev pub startAs : ℕ × ℕ × ℕ × ℕ × ℕ × List ℕ × List ℕ × List (List ℕ) → Call
 startAs (kind, count, payload, window, store, «hold_off», restore, state) =
-    stateful (startAsRefusals count payload window store «hold_off» restore (length state))
+    stateful (startAsRefusals kind count payload window store «hold_off» restore (length state))
     (startAsAnswer kind count payload window store «hold_off» restore (length state)) [] [] state
     (startAsRows kind count payload window store «hold_off» restore state) (putGroup state (emptyGroup kind))
 
@@ -78,21 +78,14 @@ startC (ports, payload, window, «store_bytes», state) = start (0, ports, paylo
 pub startC-copes : (x : ℕ × ℕ × ℕ × ℕ × List (List ℕ)) → Copes (startC x)
 startC-copes (ports, payload, window, «store_bytes», state) = start-copes (0, ports, payload, window, «store_bytes», state)
 
--- of a kind that is named: H4 alone
+-- of the kind that is named; a number that is no byte names none
 abbrev pub startAsC : ℕ × ℕ × ℕ × ℕ × ℕ × List ℕ × List ℕ × List (List ℕ) → Call
 startAsC (kind, ports, payload, window, «store_bytes», «hold_off», restore, state) =
-    stateful (Unless 4 (eqb kind 0) ∷ startAsRefusals ports payload window «store_bytes» «hold_off» restore (length state))
-    (startAsAnswerC kind ports payload window «store_bytes» «hold_off» restore (length state)) [] [] state
-    (startAsRowsC kind ports payload window «store_bytes» «hold_off» restore state) (putGroup state (emptyGroup 0))
+    startAs (kindC kind, ports, payload, window, «store_bytes», «hold_off», restore, state)
 
 pub startAsC-copes : (x : ℕ × ℕ × ℕ × ℕ × ℕ × List ℕ × List ℕ × List (List ℕ)) → Copes (startAsC x)
-unfolding startAsAnswerC startAsRowsC startAsAnswer startAsRows startRight timesWithin sizedAnswer sizedRows sizedFits startFits sized frames tags
 startAsC-copes (kind, ports, payload, window, «store_bytes», «hold_off», restore, state) =
-    copes _ (
-      λ k.
-          (λ s. (λ f. rw (k, s, f), λ f. rw (k, s, f) (refl, refl, refl)), λ s. rw (k, s) (refl, refl, refl)),
-      λ k. rw k (refl, refl, refl),
-    )
+    startAs-copes (kindC kind, ports, payload, window, «store_bytes», «hold_off», restore, state)
 
 -- What a frame does to a port, which ends an odd packet or not: 10, 12, 11. 'A port is in step when 32 frames in a row' count; 'its tag is 0 to W-1 after the first frame of the oldest epoch'; '11 goes only to a joined port'.
 
@@ -144,7 +137,7 @@ decide-copes (group, step, failed, odd, h4) =
 
 -- how many ports there are: of a group out of range, which no start leaves, none
 abbrev pub portsOf : Group → ℕ
-portsOf g = cond (ranged (g .count) (g .payload) (g .window)) (g .count) 0
+portsOf g = cond (ranged (g .kind) (g .count) (g .payload) (g .window)) (g .count) 0
 
 -- an empty group has any number of rows
 abbrev pub rowsOf : ℕ → ℕ → Bool

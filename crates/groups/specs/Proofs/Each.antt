@@ -52,6 +52,7 @@ module _ (h : CardHistory) (g : ℕ) (k : Link) (a : AssumedEach h g k) where
   pub allowed : Allowed own
   allowed =
       record {
+        lcas = a .lcas;
         some = a .some;
         most = a .most;
         first = a .first;

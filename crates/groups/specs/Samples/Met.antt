@@ -117,6 +117,7 @@ unfolding epochs
 met₀ =
     record {
       group = omega arith;
+      lcas = refl;
       some = omega arith;
       most = omega arith;
       first = omega arith;
@@ -140,6 +141,7 @@ unfolding epochs
 met₁ =
     record {
       group = omega arith;
+      lcas = refl;
       some = omega arith;
       most = omega arith;
       first = omega arith;

@@ -1,13 +1,13 @@
 -- What holds of the receiver's rows after any calls.
 use mathlib.Core.Path.{_≡_}
-use mathlib.Core.Bool.{Bool, true, false, _||_}
+use mathlib.Core.Bool.{Bool, true, false, cond, _||_}
 use mathlib.Core.List.{List}
 use Prim.Native.Nat.{ℕ, _≤_, _<_}
 use lib.Dec.{eqb}
 use lib.ListN.{length}
 use Rattle.invariant.specs.Kept.Port.{PortKept}
-use Rattle.packet.specs.Kinds.{epochs}
-use Rattle.packet.specs.Words.{ADD, DNU, EOS, IDLE, NORM}
+use Rattle.packet.specs.Kinds.{epochs, fixedKind}
+use Rattle.packet.specs.Words.{ADD, DNU, EOS, FIXED, IDLE, NORM}
 use Rattle.phases.specs.Sizes.{sized}
 use Rattle.phases.specs.Theorems.Settled.{Settled}
 use Rattle.reply.specs.Members.{noWord, okState}
@@ -31,15 +31,19 @@ pub record GroupKept (g : Group) : Type 0 where
   pub idle-oldest : flagOf (g .begun) ≡ false → g .oldest ≡ 0
 
 -- the word of a good packet, or none yet
-abbrev pub knownWord : ℕ → Bool
-knownWord w = eqb w noWord || eqb w ADD || eqb w NORM || eqb w EOS || eqb w IDLE || eqb w DNU
+abbrev pub lcasWord : ℕ → Bool
+lcasWord w = eqb w noWord || eqb w ADD || eqb w NORM || eqb w EOS || eqb w IDLE || eqb w DNU
+
+-- of a fixed group FIXED, or none yet (request 2026-12)
+abbrev pub knownWord : ℕ → ℕ → Bool
+knownWord kind w = cond (eqb kind fixedKind) (eqb w noWord || eqb w FIXED) (lcasWord w)
 
 -- of one port
 pub record PortIn (g : Group) (p : Port) : Type 0 where
   pub kept : PortKept g (p .step) (p .marks)
   -- nothing rules until the first epoch is gathered
   pub unruled : flagOf (g .gathered) ≡ false → p .step .whole ≡ 0
-  pub word : knownWord (p .member .word) ≡ true
+  pub word : knownWord (g .kind) (p .member .word) ≡ true
 
 -- OK ports have numbers below 64, each its own
 pub record OkApart (n : ℕ) (member : ℕ → Member) : Type 0 where

@@ -8,16 +8,16 @@ use borrow.Author.Tests.{eqb-true}
 use Rattle.ground.specs.Truth.{cond-by}
 use Rattle.packet.specs.declared.ruling.Ruling.{Ruling}
 use Rattle.packet.specs.Layout.{fieldsOf}
-use Rattle.packet.specs.Ruling.{refused, rulingOf}
+use Rattle.packet.specs.Ruling.{refused}
 use Rattle.receiver.specs.Report.{rulingEpoch, seenOf}
 use Rattle.rows.specs.declared.group.Group.{Group}
 use Rattle.rows.specs.Port.{portAt}
-use Rattle.step.specs.Own.{ownNumber, ownRuling}
+use Rattle.step.specs.Own.{ownNumber, ownRuling, rulingIn}
 
 own-good : (kind epoch : ℕ) (ns : List ℕ) → ownRuling kind epoch ns .good ≡ true → fieldsOf ns .epoch ≡ epoch
 unfolding ownRuling ownNumber
 own-good kind epoch ns =
-    cond-by (λ (r : Ruling). r .good ≡ true → fieldsOf ns .epoch ≡ epoch) (eqb (fieldsOf ns .epoch) epoch) (rulingOf kind epoch ns) refused
+    cond-by (λ (r : Ruling). r .good ≡ true → fieldsOf ns .epoch ≡ epoch) (eqb (fieldsOf ns .epoch) epoch) (rulingIn kind epoch ns) refused
     (λ own e. eqb-true (fieldsOf ns .epoch) epoch own) (λ other e. absurd (false≢true e))
 
 pub own-number : (g : Group) (s : List (List ℕ)) (i : ℕ) → seenOf g s i .good ≡ true → fieldsOf (portAt s i .ruling) .epoch ≡ rulingEpoch g

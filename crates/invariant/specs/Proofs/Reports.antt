@@ -2,6 +2,7 @@
 pub mod Seen
 pub mod Bytes
 pub mod Held
+pub mod Fixed
 pub mod Groups
 pub mod Order
 pub mod Ack

@@ -27,7 +27,7 @@ use Rattle.rows.specs.Packets.{marksAt, packetsAt, putMarks, putPackets}
 use Rattle.rows.specs.Rows.{putRow, rowIn}
 use Rattle.rows.specs.Step.{putStep, stepAt, stepOf, stepRow}
 use Rattle.step.specs.Arrival.{arrives, frameDropped, byStart, byWindow, countsOn, distanceIn, flagged, flagOf, inStep, joining, keeps, outside, readable, takenOf}
-use Rattle.step.specs.Own.{endsOdd, oddPacket, ownNumber, ownRuling}
+use Rattle.step.specs.Own.{endsOdd, oddPacket, ownNumber, ownRuling, rightCrc, rulingIn}
 use Rattle.step.specs.Run.{begunRun, breaksAfter, endsPacket, furtherRun, gainedRun, inStepAt, loses, oddAfter, runOn, secondRun, stayedRun}
 use Rattle.store.specs.Frames.{byteAt, h4At, packetIn, placeIn, ringOf, storedAt}
 use Rattle.store.specs.Marks.{cutByte, cutFrom, firstMark, markedAt, markedByte, passedByte, passedMarks}
@@ -55,7 +55,7 @@ times frame zero = two (sampleGroup 2 16 0 0 0) (sampleStep 32 15 0 0 0 0) (samp
 times frame (suc n) = frame (frame (times frame n) 1 (sentH4 (15 + n))) 0 (sentH4 (15 + n))
 
 tested-breaks : (groupAt (times wrong-frame 1) .begun ≡ 0) × (groupAt (times wrong-frame 8) .begun ≡ 0) × (groupAt (times right-frame 1) .begun ≡ 1)
-unfolding two comes-in wrong-frame right-frame times portRows gatheredBy marksBy settledOf stopBy stoppedOf beginBy begunOf clearedPorts clearedPort clearedStep gatherBy silent brought owesNothing begins foremost further latest noTag ready within passedOf passedPorts passedPort passedStep passedGroup notedBy ruledBy ownRuling ownNumber rulingOf endsOdd oddPacket takenOf arrives frameDropped byStart byWindow countsOn flagged joining keeps outside readable inStep distanceIn runOn stayedRun gainedRun loses breaksAfter oddAfter endsPacket begunRun secondRun furtherRun inStepAt counts startsCount tagByHigh carriesLow tagByLow nibbleIn nibblePlace distanceOf after endsEpoch epochAfter epochOf epochs epochsIn firstTag frames lead placeOf startsEpoch tagAfter tagBefore tags groupAt groupOf groupRow putGroup memberAt memberOf memberRow putMember marksAt packetsAt putMarks putPackets rowIn putRow stepAt stepOf stepRow putStep packetIn h4At byteAt placeIn ringOf firstMark passedMarks passedByte markedAt markedByte cutFrom cutByte
+unfolding two comes-in wrong-frame right-frame times portRows gatheredBy marksBy settledOf stopBy stoppedOf beginBy begunOf clearedPorts clearedPort clearedStep gatherBy silent brought owesNothing begins foremost further latest noTag ready within passedOf passedPorts passedPort passedStep passedGroup notedBy ruledBy ownRuling rulingIn ownNumber rulingOf endsOdd oddPacket rightCrc takenOf arrives frameDropped byStart byWindow countsOn flagged joining keeps outside readable inStep distanceIn runOn stayedRun gainedRun loses breaksAfter oddAfter endsPacket begunRun secondRun furtherRun inStepAt counts startsCount tagByHigh carriesLow tagByLow nibbleIn nibblePlace distanceOf after endsEpoch epochAfter epochOf epochs epochsIn firstTag frames lead placeOf startsEpoch tagAfter tagBefore tags groupAt groupOf groupRow putGroup memberAt memberOf memberRow putMember marksAt packetsAt putMarks putPackets rowIn putRow stepAt stepOf stepRow putStep packetIn h4At byteAt placeIn ringOf firstMark passedMarks passedByte markedAt markedByte cutFrom cutByte
 tested-breaks = (refl, refl, refl)
 
 -- A weak 'after the foremost tag': an epoch that starts with the foremost tag itself. The window is 32 frames. Port 0 is in step and its latest tag is 8, the start of epoch 1;
@@ -95,5 +95,5 @@ weak-breaks :
     × (stepAt (brings weak-settled 31 .rows) 0 .whole ≡ 0)
     × (groupAt (brings settledOf 31 .rows) .gathered ≡ 1)
     × (stepAt (brings settledOf 31 .rows) 0 .whole ≡ 1)
-unfolding two weak-epoch weak-begun weak-begin weak-settled brings storeBy storedAt readNibbles divisor nibbleBits crcOf carriedIn fieldsOf assigned portRows gatheredBy marksBy settledOf stopBy stoppedOf beginBy begunOf clearedPorts clearedPort clearedStep gatherBy silent brought owesNothing begins foremost further latest noTag ready within passedOf passedPorts passedPort passedStep passedGroup notedBy ruledBy ownRuling ownNumber rulingOf endsOdd oddPacket takenOf arrives frameDropped byStart byWindow countsOn flagged joining keeps outside readable inStep distanceIn runOn stayedRun gainedRun loses breaksAfter oddAfter endsPacket begunRun secondRun furtherRun inStepAt counts startsCount tagByHigh carriesLow tagByLow nibbleIn nibblePlace distanceOf after endsEpoch epochAfter epochOf epochs epochsIn firstTag frames lead placeOf startsEpoch tagAfter tagBefore tags groupAt groupOf groupRow putGroup memberAt memberOf memberRow putMember marksAt packetsAt putMarks putPackets rowIn putRow stepAt stepOf stepRow putStep packetIn h4At byteAt placeIn ringOf firstMark passedMarks passedByte markedAt markedByte cutFrom cutByte
+unfolding two weak-epoch weak-begun weak-begin weak-settled brings storeBy storedAt readNibbles divisor nibbleBits crcOf carriedIn fieldsOf assigned portRows gatheredBy marksBy settledOf stopBy stoppedOf beginBy begunOf clearedPorts clearedPort clearedStep gatherBy silent brought owesNothing begins foremost further latest noTag ready within passedOf passedPorts passedPort passedStep passedGroup notedBy ruledBy ownRuling rulingIn ownNumber rulingOf endsOdd oddPacket rightCrc takenOf arrives frameDropped byStart byWindow countsOn flagged joining keeps outside readable inStep distanceIn runOn stayedRun gainedRun loses breaksAfter oddAfter endsPacket begunRun secondRun furtherRun inStepAt counts startsCount tagByHigh carriesLow tagByLow nibbleIn nibblePlace distanceOf after endsEpoch epochAfter epochOf epochs epochsIn firstTag frames lead placeOf startsEpoch tagAfter tagBefore tags groupAt groupOf groupRow putGroup memberAt memberOf memberRow putMember marksAt packetsAt putMarks putPackets rowIn putRow stepAt stepOf stepRow putStep packetIn h4At byteAt placeIn ringOf firstMark passedMarks passedByte markedAt markedByte cutFrom cutByte
 weak-breaks = (refl, refl, refl, refl, refl, refl)

@@ -8,12 +8,13 @@ use lib.Dec.{eqb}
 use borrow.Author.Tests.{not-false}
 use Rattle.counting.specs.Words.{some}
 use Rattle.counting.specs.Laws.Tests.{none-at, some-at}
-use Rattle.ground.specs.Truth.{and-true, or-right, fails, same-test}
+use Rattle.ground.specs.Truth.{and-true, or-left, or-right, cond-by, fails, same-test}
 use Rattle.judge.specs.declared.seen.Seen.{Seen}
 use Rattle.judge.specs.Laws.Numbers.{AllApart, repeats-apart}
 use Rattle.judge.specs.Laws.Ports.{lacks-here}
 use Rattle.judge.specs.Seen.{activeSeen, lackingSeen, refusedSeen, seenAt, unidleSeen}
-use Rattle.judge.specs.Verdict.{HELD, eosWrong, gidDiffers, heldBy, judgeOf, repeats}
+use Rattle.packet.specs.Kinds.{fixedKind}
+use Rattle.judge.specs.Verdict.{HELD, eosWrong, fixedHeld, fixedVerdict, gidDiffers, heldBy, judgeOf, lcasVerdict, missing, repeats}
 
 abbrev someRefused : List Seen → ℕ → Bool
 someRefused ports n = some n (λ i. refusedSeen (seenAt ports i))
@@ -21,24 +22,38 @@ someRefused ports n = some n (λ i. refusedSeen (seenAt ports i))
 abbrev someLacking : List Seen → ℕ → Bool
 someLacking ports n = some n (λ i. lackingSeen (seenAt ports i))
 
-held : (ports : List Seen) (n : ℕ) → heldBy ports n ≡ true → judgeOf ports n ≡ HELD
-unfolding judgeOf
+held : (ports : List Seen) (n : ℕ) → heldBy ports n ≡ true → lcasVerdict ports n ≡ HELD
+unfolding lcasVerdict
 held ports n e = rw e
 
+-- where one of three tests holds a fixed group is held too
+fixed-held : (ports : List Seen) (n : ℕ) → (missing ports n || someRefused ports n || someLacking ports n) ≡ true → fixedVerdict ports n ≡ HELD
+unfolding fixedVerdict fixedHeld
+fixed-held ports n e = rw e
+
+by-kind : (kind : ℕ) (ports : List Seen) (n : ℕ) → fixedVerdict ports n ≡ HELD → lcasVerdict ports n ≡ HELD → judgeOf kind ports n ≡ HELD
+unfolding judgeOf
+by-kind kind ports n f l = cond-by (λ (m : ℕ). m ≡ HELD) (eqb kind fixedKind) (fixedVerdict ports n) (lcasVerdict ports n) (λ e. f) (λ e. l)
+
 -- 'a ruling packet that arrived whole was refused with 5, 6 or 7'
-pub refused : (ports : List Seen) (n i : ℕ) → i < n → refusedSeen (seenAt ports i) ≡ true → judgeOf ports n ≡ HELD
+pub refused : (kind : ℕ) (ports : List Seen) (n i : ℕ) → i < n → refusedSeen (seenAt ports i) ≡ true → judgeOf kind ports n ≡ HELD
 unfolding heldBy
-refused ports n i b t = held ports n (rw (some-at n (λ j. refusedSeen (seenAt ports j)) i b t))
+refused kind ports n i b t =
+    let some-is : someRefused ports n ≡ true = some-at n (λ j. refusedSeen (seenAt ports j)) i b t in
+    by-kind kind ports n
+    (fixed-held ports n (or-left (missing ports n || someRefused ports n) (someLacking ports n) (or-right (missing ports n) (someRefused ports n) some-is)))
+    (held ports n (rw some-is))
 
 -- 'a port ruled active lacks a frame'
-pub lacking : (ports : List Seen) (n i : ℕ) → i < n → lackingSeen (seenAt ports i) ≡ true → judgeOf ports n ≡ HELD
+pub lacking : (kind : ℕ) (ports : List Seen) (n i : ℕ) → i < n → lackingSeen (seenAt ports i) ≡ true → judgeOf kind ports n ≡ HELD
 unfolding heldBy
-lacking ports n i b t =
-    let l : (someRefused ports n || someLacking ports n) ≡ true = or-right (someRefused ports n) (someLacking ports n) (some-at n (λ j. lackingSeen (seenAt ports j)) i b t) in
-    held ports n (rw l)
+lacking kind ports n i b t =
+    let some-is : someLacking ports n ≡ true = some-at n (λ j. lackingSeen (seenAt ports j)) i b t in
+    let l : (someRefused ports n || someLacking ports n) ≡ true = or-right (someRefused ports n) (someLacking ports n) some-is in
+    by-kind kind ports n (fixed-held ports n (or-right (missing ports n || someRefused ports n) (someLacking ports n) some-is)) (held ports n (rw l))
 
 -- none of the five
-none : (a b c d e : Bool) → (a || b || c || d || e) ≡ false → (a ≡ false) × (b ≡ false) × (c ≡ false) × (d ≡ false) × (e ≡ false)
+pub none : (a b c d e : Bool) → (a || b || c || d || e) ≡ false → (a ≡ false) × (b ≡ false) × (c ≡ false) × (d ≡ false) × (e ≡ false)
 none true b c d e h = absurd (true≢false h)
 none false true c d e h = absurd (true≢false h)
 none false false true d e h = absurd (true≢false h)
@@ -76,8 +91,8 @@ unheld-is ports n e =
       eos = h .4;
     }
 
-pub unheld : (ports : List Seen) (n : ℕ) → judgeOf ports n ≢ HELD → heldBy ports n ≡ false
+pub unheld : (ports : List Seen) (n : ℕ) → lcasVerdict ports n ≢ HELD → heldBy ports n ≡ false
 unheld ports n d = fails (heldBy ports n) (λ (e : heldBy ports n ≡ true). d (held ports n e))
 
-pub not-held : (ports : List Seen) (n : ℕ) → judgeOf ports n ≢ HELD → NotHeld ports n
+pub not-held : (ports : List Seen) (n : ℕ) → lcasVerdict ports n ≢ HELD → NotHeld ports n
 not-held ports n d = unheld-is ports n (unheld ports n d)

@@ -11,6 +11,7 @@ use Rattle.counting.specs.Words.{some}
 use Rattle.counting.specs.Laws.Tests.{every-all, every-at, none-at, some-at, some-none, some-one}
 use Rattle.ground.specs.Finite.{below, below-at, same-bit}
 use Rattle.ground.specs.Truth.{and-true, and-left, and-right, neither, fails, same-test, eq-or-ne}
+use Rattle.packet.specs.Kinds.{fixedKind}
 use Rattle.packet.specs.Words.{DNU, EOS, NORM}
 use Rattle.judge.specs.declared.seen.Seen.{Seen}
 use Rattle.judge.specs.Laws.Numbers.{AllApart, Highest, activeAt, apart-repeats, highest-is, is-highest, numberAt, numberedAt}
@@ -18,7 +19,7 @@ use Rattle.judge.specs.Laws.Ports.{accepted-good, eos-active, good-accep
 use Rattle.judge.specs.Seen.{eosSeen, lackingSeen, refusedSeen, seenAt, unidleSeen}
 use Rattle.judge.specs.Theorems.Exact.{below-exact, exact-below, numbersIn}
 use Rattle.judge.specs.Theorems.Held.{not-held, unheld}
-use Rattle.judge.specs.Verdict.{DOUBTFUL, HELD, SURE, doubtfulBy, eosAlone, eosWrong, exact, gidDiffers, heldBy, highest, judgeOf, missing, repeats, takes}
+use Rattle.judge.specs.Verdict.{DOUBTFUL, HELD, SURE, doubtfulBy, eosAlone, eosWrong, exact, gidDiffers, heldBy, highest, judgeOf, lcasVerdict, missing, repeats, takes}
 
 abbrev pub eosAt : List Seen → ℕ → Bool
 eosAt ports i = eosSeen (seenAt ports i)
@@ -79,8 +80,8 @@ eos-right : (ports : List Seen) (n : ℕ) → eosAlone ports n ≡ true → eosW
 unfolding eosWrong
 eos-right ports n e = rw (e, and-false (some n (activeAt ports)))
 
-pub tidy-sure : (ports : List Seen) (n : ℕ) → Tidy ports n → judgeOf ports n ≡ SURE
-unfolding judgeOf heldBy doubtfulBy missing
+pub tidy-sure : (ports : List Seen) (n : ℕ) → Tidy ports n → lcasVerdict ports n ≡ SURE
+unfolding lcasVerdict heldBy doubtfulBy missing
 tidy-sure ports n o =
     rw (
       some-none n (λ i. refusedSeen (seenAt ports i)) (λ i b. good-accepted (seenAt ports i) (o .good i b)),
@@ -92,8 +93,13 @@ tidy-sure ports n o =
       below-exact ports n (o .apart) (o .dense),
     )
 
-undoubted : (ports : List Seen) (n : ℕ) → heldBy ports n ≡ false → judgeOf ports n ≡ SURE → doubtfulBy ports n ≡ false
+-- by the kind
+pub lcas-judged : (kind : ℕ) (ports : List Seen) (n : ℕ) → eqb kind fixedKind ≡ false → judgeOf kind ports n ≡ lcasVerdict ports n
 unfolding judgeOf
+lcas-judged kind ports n e = rw e
+
+undoubted : (ports : List Seen) (n : ℕ) → heldBy ports n ≡ false → lcasVerdict ports n ≡ SURE → doubtfulBy ports n ≡ false
+unfolding lcasVerdict
 undoubted ports n h s =
     fails (doubtfulBy ports n) (λ (e : doubtfulBy ports n ≡ true). let w : _≡_ {A = ℕ} DOUBTFUL SURE = rw (h, e) at s in omega arith)
 
@@ -120,10 +126,10 @@ one-bit a b ha hb e =
     (eq-or-ne a 0)
 
 -- GID is one bit in every packet that is read.
-pub sure-tidy : (ports : List Seen) (n : ℕ) → ((i : ℕ) → i < n → seenAt ports i .gid < 2) → judgeOf ports n ≡ SURE → Tidy ports n
+pub sure-tidy : (ports : List Seen) (n : ℕ) → ((i : ℕ) → i < n → seenAt ports i .gid < 2) → lcasVerdict ports n ≡ SURE → Tidy ports n
 unfolding doubtfulBy missing
 sure-tidy ports n bit s =
-    let d : judgeOf ports n ≢ HELD = (λ (e : judgeOf ports n ≡ HELD). let w : _≡_ {A = ℕ} HELD SURE = sym e ∙ s in omega arith) in
+    let d : lcasVerdict ports n ≢ HELD = (λ (e : lcasVerdict ports n ≡ HELD). let w : _≡_ {A = ℕ} HELD SURE = sym e ∙ s in omega arith) in
     let o = not-held ports n d in
     let q = neither (missing ports n) (not (exact ports n)) (undoubted ports n (unheld ports n d) s) in
     let whole : (i : ℕ) → i < n → seenAt ports i .whole ≡ true =
@@ -152,8 +158,8 @@ sent word number = record { whole = true; good = true; word = word; number = num
 abbrev sample : List Seen
 sample = sent EOS 2 ∷ sent NORM 0 ∷ sent DNU 1 ∷ []
 
-sample-judged : judgeOf sample 3 ≡ SURE
-unfolding judgeOf heldBy doubtfulBy missing exact repeats takes gidDiffers eosWrong eosAlone highest
+sample-judged : lcasVerdict sample 3 ≡ SURE
+unfolding lcasVerdict heldBy doubtfulBy missing exact repeats takes gidDiffers eosWrong eosAlone highest
 sample-judged = refl
 
 sample-tidy : Tidy sample 3

@@ -50,6 +50,6 @@ module _ (r : Road) where
   unfoldable pub reportAfter : ℕ → List ℕ → Told
   reportAfter i out =
       let seen = allSeenAfter i in
-      let mark = judgeOf seen (r .ports) in
+      let mark = judgeOf (r .kind) seen (r .ports) in
       let bytes = cond (eqb mark HELD) [] (framesFrom seen (suc i * L r) (L r)) in
       record { epoch = numberOf (suc i); mark = mark; bytes = bytes; rest = drop (length bytes) out }

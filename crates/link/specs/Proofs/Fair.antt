@@ -24,7 +24,7 @@ pub record Fair (r : Road) : Type 0 where
   pub counted : (t p : ℕ) (done rest : List ℕ) → p < r .ports → r .order t ≡ done ++ (p ∷ rest) → r .delay p + r .first p ≤ t → Unready r t done
       → SentWith (r .kind) (r .offset + (t - r .delay p)) (r .h4 p (t - r .delay p))
   -- no packet has a right CRC and another MFI2 than its epoch's number
-  pub even : (i p : ℕ) → p < r .ports → oddPacket (numberOf r i) (packetOf r i p) ≡ false
+  pub even : (i p : ℕ) → p < r .ports → oddPacket (r .kind) (numberOf r i) (packetOf r i p) ≡ false
   pub long : (p x : ℕ) → p < r .ports → length (r .bytes p x) ≡ r .payload
   -- 'spread at most the window less 16 frames'
   pub spread : (p q : ℕ) → p < r .ports → q < r .ports → r .delay p + L r ≤ r .delay q + r .window

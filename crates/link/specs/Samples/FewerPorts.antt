@@ -130,7 +130,7 @@ covered i from (suc (suc (suc slot))) b d = absurd (omega arith)
 
 allowed : Allowed history
 unfolding epochs
-allowed = record { some = omega arith; most = omega arith; first = omega arith; gid = λ i. omega arith; mst = λ i. omega arith; ack = λ i. omega arith }
+allowed = record { lcas = refl; some = omega arith; most = omega arith; first = omega arith; gid = λ i. omega arith; mst = λ i. omega arith; ack = λ i. omega arith }
 
 handed : Handed history 1 client
 handed = record { least = omega arith; most = omega arith; whole = λ x. length-tabulate (xAt history (epochAt 0 x) * 1) (λ j. (x * 2 + j) % 256) }

@@ -26,7 +26,7 @@ use Rattle.link.specs.Sending.{Client, epochAt}
 
 pub allowed : Allowed history
 unfolding epochs
-allowed = record { some = omega arith; most = omega arith; first = omega arith; gid = λ i. omega arith; mst = λ i. omega arith; ack = λ i. omega arith }
+allowed = record { lcas = refl; some = omega arith; most = omega arith; first = omega arith; gid = λ i. omega arith; mst = λ i. omega arith; ack = λ i. omega arith }
 
 -- the packet that came damaged, as it was sent
 abbrev whole : List ℕ

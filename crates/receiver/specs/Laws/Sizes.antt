@@ -10,10 +10,11 @@ use Rattle.ground.specs.Truth.{and-left, and-right, le-or-lt}
 use Rattle.judge.specs.Seen.{sizeOf}
 use Rattle.packet.specs.Kinds.{frames, tags}
 use Rattle.packet.specs.Theorems.Tags.{frames-some}
-use Rattle.phases.specs.Sizes.{portsIn, sized}
+use Rattle.phases.specs.Sizes.{knownKind, portsIn, sized}
 use Rattle.rows.specs.declared.group.Group.{Group}
 
 pub record Sizes (kind count P W : ℕ) : Type 0 where
+  pub known : knownKind kind ≡ true
   pub some-ports : 1 ≤ count
   pub few-ports : count ≤ 64
   pub some-bytes : 1 ≤ P
@@ -28,23 +29,26 @@ half-round kind W h = omega arith
 pub sizes-of : (kind count P W : ℕ) → sized kind count P W ≡ true → Sizes kind count P W
 unfolding sized
 sizes-of kind count P W e =
+    let k : Bool = knownKind kind in
     let a : Bool = leb 1 count in
     let b : Bool = leb count 64 in
     let c : Bool = leb 1 P in
     let d : Bool = leb P 2340 in
     let f : Bool = leb (frames kind) W in
     let g : Bool = leb W (tags kind / 2) in
-    let e5 = and-left (a && b && c && d && f) g e in
-    let e4 = and-left (a && b && c && d) f e5 in
-    let e3 = and-left (a && b && c) d e4 in
-    let e2 = and-left (a && b) c e3 in
-    let narrow : W ≤ tags kind / 2 = leb-true W (tags kind / 2) (and-right (a && b && c && d && f) g e) in
+    let e6 = and-left (k && a && b && c && d && f) g e in
+    let e5 = and-left (k && a && b && c && d) f e6 in
+    let e4 = and-left (k && a && b && c) d e5 in
+    let e3 = and-left (k && a && b) c e4 in
+    let e2 = and-left (k && a) b e3 in
+    let narrow : W ≤ tags kind / 2 = leb-true W (tags kind / 2) (and-right (k && a && b && c && d && f) g e) in
     record {
-      some-ports = leb-true 1 count (and-left a b e2);
-      few-ports = leb-true count 64 (and-right a b e2);
-      some-bytes = leb-true 1 P (and-right (a && b) c e3);
-      few-bytes = leb-true P 2340 (and-right (a && b && c) d e4);
-      wide = leb-true (frames kind) W (and-right (a && b && c && d) f e5);
+      known = and-left k a e2;
+      some-ports = leb-true 1 count (and-right k a e2);
+      few-ports = leb-true count 64 (and-right (k && a) b e3);
+      some-bytes = leb-true 1 P (and-right (k && a && b) c e4);
+      few-bytes = leb-true P 2340 (and-right (k && a && b && c) d e5);
+      wide = leb-true (frames kind) W (and-right (k && a && b && c && d) f e6);
       narrow = narrow;
       round = half-round kind W narrow;
     }

@@ -74,7 +74,7 @@ length-reported g store n s = length-told _ n _ ∙ length-passed g store n s
 length-output : (g : Group) (seen : List Seen) (n : ℕ) (store out : List ℕ) → length (outputOf g seen n store out) ≡ length out
 unfolding outputOf outputBy
 length-output g seen n store out =
-    either (eqb (judgeOf seen (sizeOf n)) HELD) out (framesInto g (orderOf seen (sizeOf n)) store (frames (g .kind)) out) (length out) refl (length-frames-into g (orderOf seen (sizeOf n)) store (frames (g .kind)) out)
+    either (eqb (judgeOf (g .kind) seen (sizeOf n)) HELD) out (framesInto g (orderOf seen (sizeOf n)) store (frames (g .kind)) out) (length out) refl (length-frames-into g (orderOf seen (sizeOf n)) store (frames (g .kind)) out)
 
 module _ (s : List (List ℕ)) (store out report : List ℕ) where
   pub length-fetch-rows : length (fetchRows s store out report) ≡ length s

@@ -10,7 +10,8 @@ use borrow.Author.Tests.{eqb-true}
 use Rattle.invariant.specs.Kept.Group.{Kept, Lasting}
 use Rattle.invariant.specs.Kept.Port.{PortKept}
 use Rattle.invariant.specs.Proofs.Laws.Runs.{none-kept}
-use Rattle.ground.specs.Truth.{and-left, and-right}
+use Rattle.ground.specs.Truth.{and-left, and-right, cond-by}
+use Rattle.packet.specs.Kinds.{fixedKind}
 use Rattle.packet.specs.Theorems.Tags.{epochs-some, frames-two}
 use Rattle.phases.specs.Sizes.{sized}
 use Rattle.receiver.specs.Laws.Fresh.{freshOn, length-started, started-group, started-port, started-step, waits-for}
@@ -77,7 +78,7 @@ module _ (kind count P W : ℕ) (hold restore : List ℕ) (s : List (List ℕ)) 
             });
         ports = λ i c.
             let b : i < count = rw group at c in
-            rw (group, port i b) (record { kept = fresh-kept (groupWith kind count P W); unruled = λ f. refl; word = refl });
+            rw (group, port i b) (record { kept = fresh-kept (groupWith kind count P W); unruled = λ f. refl; word = cond-by (λ (b : Bool). b ≡ true) (eqb kind fixedKind) true true (λ e. refl) (λ e. refl) });
         members =
             rw group
             (record {

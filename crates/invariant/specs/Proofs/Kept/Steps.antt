@@ -8,7 +8,7 @@ use native.Mathlib.Omega.{arith}
 use lib.Dec.{eqb}
 use lib.ListN.{length, take}
 use Rattle.invariant.specs.Proofs.Kept.Clearing.{begun-kept, stopped-kept}
-use Rattle.invariant.specs.Kept.Group.{GroupKept, OkApart, PortIn, Lasting, knownWord}
+use Rattle.invariant.specs.Kept.Group.{GroupKept, OkApart, PortIn, Lasting, knownWord, lcasWord}
 use Rattle.invariant.specs.Proofs.Kept.Passing.{passed-kept}
 use Rattle.invariant.specs.Kept.Port.{Windowed}
 use Rattle.invariant.specs.Proofs.Kept.Taken.{taken-kept, taken-whole}
@@ -18,7 +18,7 @@ use Rattle.ground.specs.Truth.{and-right, clash, cond-by, eq-or-ne}
 use Rattle.packet.specs.Crc.{crcOf}
 use Rattle.packet.specs.declared.reader.Reading.{Reading}
 use Rattle.packet.specs.declared.reader.Reading.the-variants.{Crc, Fixed, Packet, Unassigned}
-use Rattle.packet.specs.Kinds.{epochAfter, epochOf}
+use Rattle.packet.specs.Kinds.{epochAfter, epochOf, fixedKind}
 use Rattle.packet.specs.Layout.{carriedIn, fieldsOf}
 use Rattle.packet.specs.Reading.{readNibbles}
 use Rattle.packet.specs.Theorems.Tags.{epoch-after-lt, epochs-some, frames-two}
@@ -34,7 +34,7 @@ use Rattle.packet.specs.Ruling.{refused, rulingBy, rulingOf}
 use Rattle.phases.specs.Settling.{begunOf, stoppedOf}
 use Rattle.receiver.specs.Frame.{oddIn, portRows, takenIn}
 use Rattle.receiver.specs.Laws.Frames.{frame-group, frame-other, frame-port, frameOn, length-frame}
-use Rattle.receiver.specs.Laws.Passed.{cleared-whole, origin-within, passed-count, passed-gathered}
+use Rattle.receiver.specs.Laws.Passed.{cleared-whole, origin-within, passed-count, passed-gathered, passed-kind}
 use Rattle.receiver.specs.Laws.Sizes.{sizes-of}
 use Rattle.reply.specs.Members.{noWord}
 use Rattle.rows.specs.declared.group.Group.{Group}
@@ -48,7 +48,9 @@ use Rattle.rows.specs.Rows.{rowsFor}
 use Rattle.rows.specs.Step.{stepAt}
 use Rattle.step.specs.Arrival.{flagOf, inStep, takenOf}
 use Rattle.step.specs.declared.arrival.Taken.{Taken}
-use Rattle.step.specs.Own.{ownNumber, ownRuling}
+use Rattle.packet.specs.Fixed.{fixedRulingOf}
+use Rattle.step.specs.Laws.Own.{fixed-word}
+use Rattle.step.specs.Own.{ownNumber, ownRuling, rulingIn}
 use Rattle.store.specs.Frames.{packetIn}
 use Rattle.store.specs.Marks.{firstMark}
 
@@ -88,7 +90,7 @@ one-of x a b c d e true f h = refl
 one-of x a b c d e false f h = rw f at h
 
 abbrev Known : Reading → Type 0
-Known r = rulingBy r .good ≡ true → knownWord (rulingBy r .word) ≡ true
+Known r = rulingBy r .good ≡ true → lcasWord (rulingBy r .word) ≡ true
 
 read-known : (ns : List ℕ) → Known (readNibbles ns)
 unfolding readNibbles assigned
@@ -105,17 +107,29 @@ read-known ns =
     (λ a e. absurd (false≢true e))))
     (λ c e. absurd (false≢true e))
 
-ruling-known : (kind epoch : ℕ) (ns : List ℕ) → ownRuling kind epoch ns .good ≡ true → knownWord (ownRuling kind epoch ns .word) ≡ true
-unfolding ownRuling rulingOf
+-- by the kind
+known-in : (kind epoch : ℕ) (ns : List ℕ) → rulingIn kind epoch ns .good ≡ true → knownWord kind (rulingIn kind epoch ns .word) ≡ true
+unfolding rulingIn rulingOf
+known-in kind epoch ns = go (eqb kind fixedKind)
+  where
+    go : (b : Bool) → cond b (fixedRulingOf ns) (rulingBy (readNibbles ns)) .good ≡ true
+        → cond b (eqb (cond b (fixedRulingOf ns) (rulingBy (readNibbles ns)) .word) noWord || eqb (cond b (fixedRulingOf ns) (rulingBy (readNibbles ns)) .word) FIXED)
+        (lcasWord (cond b (fixedRulingOf ns) (rulingBy (readNibbles ns)) .word))
+        ≡ true
+    go true e = rw (fixed-word ns) refl
+    go false e = read-known ns e
+
+ruling-known : (kind epoch : ℕ) (ns : List ℕ) → ownRuling kind epoch ns .good ≡ true → knownWord kind (ownRuling kind epoch ns .word) ≡ true
+unfolding ownRuling
 ruling-known kind epoch ns =
-    cond-by (λ (r : Ruling). r .good ≡ true → knownWord (r .word) ≡ true) (ownNumber epoch ns) (rulingOf kind epoch ns) refused (λ own. read-known ns)
+    cond-by (λ (r : Ruling). r .good ≡ true → knownWord kind (r .word) ≡ true) (ownNumber epoch ns) (rulingIn kind epoch ns) refused (λ own. known-in kind epoch ns)
     (λ other e. absurd (false≢true e))
 
-noted-word : (m : Member) (whole : Bool) (kind epoch : ℕ) (nibbles : List ℕ) → knownWord (m .word) ≡ true → knownWord (notedBy m whole (ownRuling kind epoch nibbles) .word) ≡ true
+noted-word : (m : Member) (whole : Bool) (kind epoch : ℕ) (nibbles : List ℕ) → knownWord kind (m .word) ≡ true → knownWord kind (notedBy m whole (ownRuling kind epoch nibbles) .word) ≡ true
 unfolding notedBy
 noted-word m true kind epoch nibbles k = go (ownRuling kind epoch nibbles .good) refl
   where
-    go : (b : Bool) → ownRuling kind epoch nibbles .good ≡ b → knownWord (cond b (ownRuling kind epoch nibbles .word) (m .word)) ≡ true
+    go : (b : Bool) → ownRuling kind epoch nibbles .good ≡ b → knownWord kind (cond b (ownRuling kind epoch nibbles .word) (m .word)) ≡ true
     go true e = ruling-known kind epoch nibbles e
     go false e = k
 noted-word m false kind epoch nibbles k = k
@@ -269,7 +283,7 @@ module _ (s : List (List ℕ)) (k : Lasting s) where
             (record {
               kept = passed-kept g (portAt s i .step) (portAt s i .marks) (o .kept) on (brought-owes-nothing g s n due i b);
               unruled = λ f. clash (flagOf (passedGroup g .gathered)) (rw (passed-gathered g) refl) f;
-              word = noted-word (portAt s i .member) (firstMark (portAt s i .marks)) (g .kind) (g .oldest) (packetIn g i store) (o .word);
+              word = rw (passed-kind g) (noted-word (portAt s i .member) (firstMark (portAt s i .marks)) (g .kind) (g .oldest) (packetIn g i store) (o .word));
             });
         members =
             rw (group, same-count)

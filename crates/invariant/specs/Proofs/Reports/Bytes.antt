@@ -22,7 +22,7 @@ use Rattle.rows.specs.Group.{groupAt}
 
 -- A fetch with a report that is not held: sixteen group frames, and the output beyond them stays.
 pub report-bytes : (s : List (List ℕ)) (store out report : List ℕ) → fits s store out report ≡ true → dueIn (groupAt s) (portsIn (groupAt s)) s ≡ true
-    → judgeOf (seenAll (groupAt s) s (portsIn (groupAt s))) (portsIn (groupAt s)) ≢ HELD
+    → judgeOf (groupAt s .kind) (seenAll (groupAt s) s (portsIn (groupAt s))) (portsIn (groupAt s)) ≢ HELD
     → fetchOut s store out report
     ≡ fillAt 0 (frames (groupAt s .kind) * frameBytes (groupAt s) (seenAll (groupAt s) s (portsIn (groupAt s))) (portsIn (groupAt s)))
     (reportByte (groupAt s) (seenAll (groupAt s) s (portsIn (groupAt s))) (portsIn (groupAt s)) store) out
@@ -35,4 +35,4 @@ report-bytes s store out report f d v =
     let sized = some-sized g (o .some) in
     let size : Sizes (g .kind) (portsIn (groupAt s)) (g .payload) (g .window) = rw (sized .1) (sizes-of (g .kind) (g .count) (g .payload) (g .window) (sized .0)) in
     let l = lent g n (length s) (length store) (length out) (length report) f in
-    rw (f, d, size-is n (size .few-ports), ne-eqb (judgeOf seen n) HELD v) (frames-into g seen n store out size (l .stored) (l .room))
+    rw (f, d, size-is n (size .few-ports), ne-eqb (judgeOf (g .kind) seen n) HELD v) (frames-into g seen n store out size (l .stored) (l .room))

@@ -36,8 +36,8 @@ module _ (s : List (List ℕ)) (i : ℕ) (o : Refused s i) where
       let size = sizes-of (g .kind) (g .count) (g .payload) (g .window) (z .0) .few-ports in
       rw (z .1) size
 
-  judged : judgeOf seen (sizeOf n) ≡ HELD
-  judged = rw (size-is n few) (refused seen n i (o .port) (rw (seen-at g s n i few (o .port), seen-whole g s i, seen-good g s i, o .whole, o .refused) refl))
+  judged : judgeOf (g .kind) seen (sizeOf n) ≡ HELD
+  judged = rw (size-is n few) (refused (g .kind) seen n i (o .port) (rw (seen-at g s n i few (o .port), seen-whole g s i, seen-good g s i, o .whole, o .refused) refl))
 
   pub held-out : (store out report : List ℕ) → fetchOut s store out report ≡ out
   unfolding fetchOut outIfDue outputOf outputBy

@@ -10,7 +10,7 @@ use Rattle.ground.specs.Table.{tabulate-ext}
 use Rattle.judge.specs.declared.seen.Seen.{Seen}
 use Rattle.judge.specs.Order.{activeIn, hasRank, orderOf, portOf, rankOf}
 use Rattle.judge.specs.Seen.{activeSeen, seenAt}
-use Rattle.packet.specs.Words.{EOS, NORM}
+use Rattle.packet.specs.Words.{EOS, FIXED, NORM}
 use Rattle.receiver.specs.Laws.Seen.{seen-at}
 use Rattle.receiver.specs.Report.{seenAll, seenOf}
 use Rattle.rows.specs.declared.group.Group.{Group}
@@ -37,7 +37,7 @@ seen-number g s i = refl
 
 -- what the order looks at
 abbrev activeOf : Group → Port → Bool
-activeOf g p = flagOf (p .step .whole) && ruledBy g p .good && (eqb (ruledBy g p .word) NORM || eqb (ruledBy g p .word) EOS)
+activeOf g p = flagOf (p .step .whole) && ruledBy g p .good && (eqb (ruledBy g p .word) NORM || eqb (ruledBy g p .word) EOS || eqb (ruledBy g p .word) FIXED)
 
 active-is : (g : Group) (s : List (List ℕ)) (n i : ℕ) → n ≤ 64 → i < n → activeSeen (seenAt (seenAll g s n) i) ≡ activeOf g (portAt s i)
 active-is g s n i h b = rw (seen-at g s n i h b, seen-whole g s i, seen-good g s i, seen-word g s i) refl

@@ -9,7 +9,7 @@ use Rattle.counting.specs.Laws.Ranks.{Apart}
 use Rattle.counting.specs.Laws.Tests.{One}
 use Rattle.counting.specs.Words.{count}
 use Rattle.ground.specs.Truth.{and-left, and-right, and-true}
-use Rattle.packet.specs.Words.{DNU, EOS, NORM}
+use Rattle.packet.specs.Words.{DNU, EOS, FIXED, NORM}
 use Rattle.sender.specs.Board.{highest, rowOf, wordOf}
 use Rattle.sender.specs.declared.board.Board.{Board}
 use Rattle.sender.specs.declared.board.Row.{Row}
@@ -54,6 +54,18 @@ word-active Add last = refl
 word-active Active true = refl
 word-active Active false = refl
 word-active Dnu last = refl
+
+-- our sender sends no FIXED
+word-unfixed : (s : State) (last : Bool) → eqb (wordOf s last .0) FIXED ≡ false
+word-unfixed Idle last = refl
+word-unfixed Add last = refl
+word-unfixed Active true = refl
+word-unfixed Active false = refl
+word-unfixed Dnu last = refl
+
+sends-unfixed : (t : Table) (s : ℕ) → eqb (sends t s) FIXED ≡ false
+unfolding rowOf
+sends-unfixed t s = word-unfixed (stateIn t s) (highest (t .slots) (slotsIn t) (numberIn t s))
 
 sends-numbered : (t : Table) (s : ℕ) → numberedWord (sends t s) ≡ isPlaced (stateIn t s)
 unfolding rowOf
@@ -120,6 +132,9 @@ module _ (h : History) (a : Allowed h) (i : ℕ) where
   number-shown : (s : ℕ) → s < slotsIn source → numberSent h i s ≡ numberIn source s
   unfolding packetFields
   number-shown s b = ap (λ (d : Board). rowAt (d .rows) s .number) (sender-at-sound h i .outgoing .is) ∙ row-number source s b
+
+  pub unfixed : (s : ℕ) → s < h .slots → eqb (wordSent h i s) FIXED ≡ false
+  unfixed s b = ap (λ (w : ℕ). eqb w FIXED) (word-shown s (rw source-size b)) ∙ sends-unfixed source s
 
   pub numbered : Numbered (h .slots) (wordSent h i) (numberSent h i)
   numbered = rw source-size at (table-numbered source (sound-demand2 source (sender-at-sound h i .outgoing .sound)) (wordSent h i) (numberSent h i) word-shown number-shown)

@@ -1,6 +1,6 @@
 -- What n ports see of an epoch of a history whose packets all came as sent: it is judged sure, and the order that it gives is the sender's in the next epoch.
-use mathlib.Core.Path.{_≡_, _∙_, sym, ap, ap₂}
-use mathlib.Core.Bool.{Bool, true, cond, _&&_}
+use mathlib.Core.Path.{_≡_, refl, _∙_, sym, ap, ap₂}
+use mathlib.Core.Bool.{Bool, true, false, cond, _&&_, or-false}
 use mathlib.Core.List.{List}
 use Prim.Native.Nat.{ℕ, suc, _+_, _<_}
 use lib.Dec.{eqb, ltb}
@@ -14,16 +14,16 @@ use Rattle.judge.specs.Order.{activeIn, portOf, rankOf}
 use Rattle.judge.specs.Seen.{activeSeen, eosSeen, numberedSeen, seenAt}
 use Rattle.judge.specs.Theorems.Exact.{numbersIn}
 use Rattle.judge.specs.Theorems.Ranks.{Ranked, port-ranked}
-use Rattle.judge.specs.Theorems.Sure.{Tidy, eosAt, tidy-sure}
+use Rattle.judge.specs.Theorems.Sure.{Tidy, eosAt, lcas-judged, tidy-sure}
 use Rattle.packet.specs.Kinds.{frames}
-use Rattle.packet.specs.Words.{EOS}
+use Rattle.packet.specs.Words.{EOS, FIXED}
 use Rattle.packet.specs.Laws.Epochs.{epoch-in}
 use Rattle.payload.specs.Order.{memberFrame}
 use Rattle.sender.specs.Epochs.{rankIn}
 use Rattle.sender.specs.Ranks.{noRank}
 use Rattle.link.specs.History.{Allowed, Handed, History, numberSent, senderAt, sendingOf, wordSent, xAt}
 use Rattle.link.specs.Sending.{Client, Covered, Pairing, Rules, Sending, epochAt, epochStart, seenSent}
-use Rattle.link.specs.Proofs.Histories.Numbering.{Numbered, numbered, numberedWord}
+use Rattle.link.specs.Proofs.Histories.Numbering.{Numbered, numbered, numberedWord, unfixed}
 use Rattle.link.specs.Proofs.Histories.Packets.{packet-gid}
 use Rattle.link.specs.Proofs.Histories.Payloads.{carried-ranked}
 use Rattle.link.specs.Proofs.Histories.Ports.{numbered-ports, rank-ports, x-ports}
@@ -44,11 +44,14 @@ module _ (h : History) (a : Allowed h) (P : ℕ) (client : Client) (c : Handed h
   right : Numbered n words numbers
   right = numbered-ports n (h .slots) slotOf o (wordSent h i) (numberSent h i) covered (numbered h a i)
 
+  lcas-word : (p : ℕ) → p < n → eqb (words p) FIXED ≡ false
+  lcas-word p b = unfixed h a i (slotOf p) (o .below p b)
+
   active-at : (p : ℕ) → p < n → activeAt ports p ≡ activeWord (words p)
-  active-at p b = ap activeSeen (is-seen p b)
+  active-at p b = ap activeSeen (is-seen p b) ∙ rw (lcas-word p b) (or-false (activeWord (words p)))
 
   numbered-at : (p : ℕ) → p < n → numberedAt ports p ≡ numberedWord (words p)
-  numbered-at p b = ap numberedSeen (is-seen p b)
+  numbered-at p b = ap numberedSeen (is-seen p b) ∙ rw (lcas-word p b, or-false (activeWord (words p))) refl
 
   eos-at : (p : ℕ) → p < n → eosAt ports p ≡ eqb (words p) EOS
   eos-at p b = ap eosSeen (is-seen p b)
@@ -122,4 +125,4 @@ module _ (h : History) (a : Allowed h) (P : ℕ) (client : Client) (c : Handed h
       (carried-ranked h a P client c x unranked (slotOf (portOf ports n r)) (o .below (portOf ports n r) (w .below)) r (rw e l) (rw e (rank-is r (portOf ports n r) w)))
 
   pub sure : Rules s P client i n slotOf ports
-  sure = record { mark = tidy-sure ports n tidy; members = members; carried = carried-by }
+  sure = record { mark = lcas-judged (h .kind) ports n (a .lcas) ∙ tidy-sure ports n tidy; members = members; carried = carried-by }

@@ -11,12 +11,11 @@ use Rattle.packet.specs.Counts.{nibblePlace}
 use Rattle.packet.specs.declared.ruling.Ruling.{Ruling}
 use Rattle.packet.specs.Kinds.{firstTag, frames, placeOf, startsEpoch}
 use Rattle.packet.specs.Laws.Epochs.{place-lt, position-is}
-use Rattle.packet.specs.Reading.{readNibbles, readingNumber}
-use Rattle.packet.specs.Ruling.{refused, rulingOf}
+use Rattle.packet.specs.Ruling.{refused}
 use Rattle.packet.specs.Theorems.Tags.{first-of, tagOf}
 use Rattle.step.specs.Laws.Run.{sent-place}
 use Rattle.step.specs.Laws.Sent.{SentWith}
-use Rattle.step.specs.Own.{oddPacket, ownNumber, ownRuling}
+use Rattle.step.specs.Own.{oddPacket, ownNumber, ownRuling, rightCrc, rulingIn}
 use Rattle.link.specs.Proofs.Laws.Counts.{kept-counts}
 use Rattle.link.specs.Link.{Arrived, AssumedOver, Damaged, Link, roadOf, sentTo}
 use Rattle.link.specs.Moments.{Unready}
@@ -30,12 +29,12 @@ placed-as : (kind changes : ℕ) (sent came : List ℕ) → Arrived kind changes
 placed-as kind changes sent came a k l = ⊎-elim (λ (e : came ≡ sent). rw e refl) (λ (d : Damaged kind changes sent came). d .placed k l) a
 
 -- a packet that is read as good is not odd
-good-even : (kind n : ℕ) (ns : List ℕ) → ownRuling kind n ns .good ≡ true → oddPacket n ns ≡ false
+good-even : (kind n : ℕ) (ns : List ℕ) → ownRuling kind n ns .good ≡ true → oddPacket kind n ns ≡ false
 unfolding ownRuling oddPacket
 good-even kind n ns = go (ownNumber n ns) refl
   where
-    go : (b : Bool) → ownNumber n ns ≡ b → cond b (rulingOf kind n ns) refused .good ≡ true → (not (eqb (readingNumber (readNibbles ns)) 5) && not (ownNumber n ns)) ≡ false
-    go true e g = rw e (and-false (not (eqb (readingNumber (readNibbles ns)) 5)))
+    go : (b : Bool) → ownNumber n ns ≡ b → cond b (rulingIn kind n ns) refused .good ≡ true → (rightCrc kind ns && not (ownNumber n ns)) ≡ false
+    go true e g = rw e (and-false (rightCrc kind ns))
     go false e g = absurd (false≢true g)
 
 module _ (k : Link) (a : AssumedOver k) where
@@ -68,13 +67,13 @@ module _ (k : Link) (a : AssumedOver k) where
       kept-counts (s .kind) (s .first) i (x % frames (s .kind)) (sentTo k i p) (k .came i p) (place-lt (s .kind) x) (came-placed p x b) (a .lines .spared t p done rest b is-order late un) (sent-then p x b) in
       rw (position-is (s .kind) x) at c
 
-  even : (i p : ℕ) → p < k .ports → oddPacket (numberOf (roadOf k) i) (packetOf (roadOf k) i p) ≡ false
+  even : (i p : ℕ) → p < k .ports → oddPacket (s .kind) (numberOf (roadOf k) i) (packetOf (roadOf k) i p) ≡ false
   even i p b =
-      ap (λ (n : ℕ). oddPacket n (packetOf (roadOf k) i p)) (number-of k i)
-      ∙ ap (λ (ns : List ℕ). oddPacket (epochNumber (s .kind) (s .first) i) ns) (packet-of k i p)
+      ap (λ (n : ℕ). oddPacket (s .kind) n (packetOf (roadOf k) i p)) (number-of k i)
+      ∙ ap (λ (ns : List ℕ). oddPacket (s .kind) (epochNumber (s .kind) (s .first) i) ns) (packet-of k i p)
       ∙ ⊎-elim
       (λ (e : k .came i p ≡ sentTo k i p).
-      ap (λ (l : List ℕ). oddPacket (epochNumber (s .kind) (s .first) i) (nibblesIn (s .kind) l)) e
+      ap (λ (l : List ℕ). oddPacket (s .kind) (epochNumber (s .kind) (s .first) i) (nibblesIn (s .kind) l)) e
       ∙ good-even (s .kind) (epochNumber (s .kind) (s .first) i) (nibblesIn (s .kind) (sentTo k i p)) (ap (λ (r : Ruling). r .good) (a .lawful .reads i (k .pairing p) (a .paired .below p b))))
       (λ (d : Damaged (s .kind) (s .changes) (sentTo k i p) (k .came i p)). a .lawful .even i (k .pairing p) (k .came i p) (a .paired .below p b) (d .least) (d .most))
       (a .lines .arrived i p b)

@@ -43,21 +43,21 @@ module _ (k : Link) (a : AssumedOver k) (i : ℕ) (covered : Covered (k .sending
   ports = allSeenAfter (roadOf k) i
 
   -- the report of an epoch by its mark and its bytes
-  report-is : (mark : ℕ) (bytes : List ℕ) → judgeOf ports (k .ports) ≡ mark
+  report-is : (mark : ℕ) (bytes : List ℕ) → judgeOf (kindOf k) ports (k .ports) ≡ mark
       → cond (eqb mark HELD) [] (framesFrom (roadOf k) ports (epochStart (kindOf k) (suc i)) (epochFrames k)) ≡ bytes
       → reportAfter (roadOf k) i out ≡ record { epoch = number; mark = mark; bytes = bytes; rest = drop (length bytes) out }
   unfolding reportAfter roadOf
   report-is mark bytes j e =
-      told-is (numberOf (roadOf k) (suc i)) number (judgeOf ports (k .ports)) mark
-      (cond (eqb (judgeOf ports (k .ports)) HELD) [] (framesFrom (roadOf k) ports (epochStart (kindOf k) (suc i)) (epochFrames k))) bytes out
+      told-is (numberOf (roadOf k) (suc i)) number (judgeOf (kindOf k) ports (k .ports)) mark
+      (cond (eqb (judgeOf (kindOf k) ports (k .ports)) HELD) [] (framesFrom (roadOf k) ports (epochStart (kindOf k) (suc i)) (epochFrames k))) bytes out
       (number-of k (suc i)) j
       (ap (λ (m : ℕ). cond (eqb m HELD) [] (framesFrom (roadOf k) ports (epochStart (kindOf k) (suc i)) (epochFrames k))) j ∙ e)
 
   -- one packet damaged
-  held : (p : ℕ) → p < k .ports → sameBytes (k .came i p) (sentTo k i p) ≡ false → judgeOf ports (k .ports) ≡ HELD
+  held : (p : ℕ) → p < k .ports → sameBytes (k .came i p) (sentTo k i p) ≡ false → judgeOf (kindOf k) ports (k .ports) ≡ HELD
   held p b e =
       ⊎-elim (λ (w : k .came i p ≡ sentTo k i p). absurd (true≢false (sym (rw w (same-self (sentTo k i p))) ∙ e)))
-      (λ (d : Damaged (kindOf k) (k .sending .changes) (sentTo k i p) (k .came i p)). refused ports (k .ports) p b (seen-damaged k a i p b d))
+      (λ (d : Damaged (kindOf k) (k .sending .changes) (sentTo k i p) (k .came i p)). refused (kindOf k) ports (k .ports) p b (seen-damaged k a i p b d))
       (a .lines .arrived i p b)
 
   by-test : (b : Bool) → allAsSent k i ≡ b

@@ -23,7 +23,7 @@ module _ (k : Link) (a : AssumedOver k) (i : ℕ) (covered : Covered (k .sending
   rules : Rules (k .sending) (k .payload) (k .client) i (k .ports) (k .pairing) ports
   rules = a .lawful .rules i (k .ports) (k .pairing) ports (a .paired) covered (λ p b. seen-sent k a i p b (sent p b))
 
-  pub sure : judgeOf ports (k .ports) ≡ SURE
+  pub sure : judgeOf (kindOf k) ports (k .ports) ≡ SURE
   sure = rules .mark
 
   -- the group frame at a place of the next epoch is the client's

@@ -14,8 +14,8 @@ use Rattle.judge.specs.declared.order.Order.{Order}
 use Rattle.judge.specs.declared.seen.Seen.{Seen}
 use Rattle.judge.specs.Order.{orderOf}
 use Rattle.judge.specs.Theorems.Ranks.{active-le}
-use Rattle.judge.specs.Verdict.{HELD, doubtfulBy, heldBy, judgeOf}
-use Rattle.packet.specs.Kinds.{frames}
+use Rattle.judge.specs.Verdict.{HELD, doubtfulBy, fixedHeld, fixedVerdict, heldBy, judgeOf, lcasVerdict}
+use Rattle.packet.specs.Kinds.{fixedKind, frames}
 use Rattle.packet.specs.Laws.Epochs.{count-fits}
 use Rattle.packet.specs.Theorems.Tags.{epoch-before, first-of}
 use Rattle.phases.specs.Due.{brought}
@@ -64,14 +64,16 @@ four-bytes n h =
 told-same : (a b : Told) → a .epoch ≡ b .epoch → a .mark ≡ b .mark → a .bytes ≡ b .bytes → a .rest ≡ b .rest → a ≡ b
 told-same a b e k c d = λ i. record { epoch = e i; mark = k i; bytes = c i; rest = d i }
 
-mark-some : (seen : List Seen) (n : ℕ) → judgeOf seen n ≢ 0
-unfolding judgeOf
-mark-some seen n = go (heldBy seen n) (doubtfulBy seen n)
+mark-some : (kind : ℕ) (seen : List Seen) (n : ℕ) → judgeOf kind seen n ≢ 0
+unfolding judgeOf lcasVerdict fixedVerdict
+mark-some kind seen n = go (eqb kind fixedKind) (fixedHeld seen n) (heldBy seen n) (doubtfulBy seen n)
   where
-    go : (a b : Bool) → _≢_ {A = ℕ} (cond a 1 (cond b 2 3)) 0
-    go true b e = omega arith
-    go false true e = omega arith
-    go false false e = omega arith
+    go : (f c a b : Bool) → _≢_ {A = ℕ} (cond f (cond c 1 3) (cond a 1 (cond b 2 3))) 0
+    go true true a b e = omega arith
+    go true false a b e = omega arith
+    go false c true b e = omega arith
+    go false c false true e = omega arith
+    go false c false false e = omega arith
 
 fetched-answers : (r : Road) (m : Moment) → fetched r m .answers ≡ m .answers
 unfolding fetched
@@ -152,18 +154,18 @@ module _ (r : Road) (fair : Fair r) where
       seen = allSeenAfter r i
 
       abbrev mark : ℕ
-      mark = judgeOf seen (r .ports)
+      mark = judgeOf (r .kind) seen (r .ports)
 
       abbrev order : Order
       order = orderOf seen (r .ports)
 
       record-is : recordAt r m ≡ recordOf (reportBy g mark order)
       unfolding fetchRecord reportIfDue reportOf
-      record-is = rw (fits-now m lined, ports-are r fair m lined, due-now, seen-is, size-is (r .ports) few) refl
+      record-is = rw (fits-now m lined, ports-are r fair m lined, due-now, seen-is, size-is (r .ports) few, lined .kind-is) refl
 
       out-is : fetchOut (m .rows) (m .store) (outputAt r m) (lentAt r m) ≡ outputBy g mark order (m .store) (outputAt r m)
       unfolding fetchOut outIfDue outputOf
-      out-is = rw (fits-now m lined, ports-are r fair m lined, due-now, seen-is, size-is (r .ports) few) refl
+      out-is = rw (fits-now m lined, ports-are r fair m lined, due-now, seen-is, size-is (r .ports) few, lined .kind-is) refl
 
       rows-are : fetchRows (m .rows) (m .store) (outputAt r m) (lentAt r m) ≡ reportedOf g (m .store) (r .ports) (m .rows)
       unfolding fetchRows rowsIfDue
@@ -283,7 +285,7 @@ module _ (r : Road) (fair : Fair r) where
           }
 
       pub due-mark : getD (recordAt r m) 0 0 ≢ 0
-      due-mark e = mark-some seen (r .ports) (sym mark-told ∙ e)
+      due-mark e = mark-some (r .kind) seen (r .ports) (sym mark-told ∙ e)
 
   -- fetches answer no frame
   pub drained-answers : (k : ℕ) (m : Moment) → drained r k m .answers ≡ m .answers

@@ -113,9 +113,9 @@ module _ (r : Road) where
             let number : epochOf (r .kind) (tagOf (r .kind) (r .offset + x)) ≡ numberOf r (x / L r) =
             ap (λ (n : ℕ). epochOf (r .kind) (tagOf (r .kind) (r .offset + n))) (sym (position-is (r .kind) x)) ∙ epoch-from (r .kind) (r .offset) (x / L r) (x % L r) (f .starts) (place-lt (r .kind) x) in
             rw e
-            (ap (λ (n : ℕ). oddPacket n (set row (placeOf (r .kind) (tagOf (r .kind) (r .offset + x))) (nibbleIn (r .kind) (r .h4 p x)))) number
-            ∙ ap (λ (k : ℕ). oddPacket (numberOf r (x / L r)) (set row k (nibbleIn (r .kind) (r .h4 p x)))) place
-            ∙ ap (λ (ns : List ℕ). oddPacket (numberOf r (x / L r)) ns) (packet-live p x row o far last)
+            (ap (λ (n : ℕ). oddPacket (r .kind) n (set row (placeOf (r .kind) (tagOf (r .kind) (r .offset + x))) (nibbleIn (r .kind) (r .h4 p x)))) number
+            ∙ ap (λ (k : ℕ). oddPacket (r .kind) (numberOf r (x / L r)) (set row k (nibbleIn (r .kind) (r .h4 p x)))) place
+            ∙ ap (λ (ns : List ℕ). oddPacket (r .kind) (numberOf r (x / L r)) ns) (packet-live p x row o far last)
             ∙ f .even (x / L r) p b)
         go false e = rw e refl
 

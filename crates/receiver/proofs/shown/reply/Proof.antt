@@ -30,14 +30,20 @@ is-set-requires c κs = search needs
 flag-byte-requires : tie.Need-flag-byte-requires
 flag-byte-requires c κs = search needs
 
+told-by-requires : tie.Need-told-by-requires
+told-by-requires c κs = search needs
+
+told-by-requires-2 : tie.Need-told-by-requires-2
+told-by-requires-2 c κs = search needs
+
 put-reply-requires : tie.Need-put-reply-requires
-put-reply-requires c κs = reply-length _ _ _ (sym (c .before .before .before .before .before .before .is-reply .ensures) ∙ not-false _ (c .before .before .before .before .before .if1 .left))
+put-reply-requires c κs = reply-length _ _ _ (sym (c .before .before .before .before .before .before .before .before .is-reply .ensures) ∙ not-false _ (c .before .before .before .before .before .before .before .if1 .left))
 
 same-length : tie.Need-same-length
 same-length c = search needs
 
 returns-2 : tie.Need-returns-2
-returns-2 c = reply-shown _ _ _ _ (c .before .before .before .before .before .before .before .before .before .before .before .get .ensures) (c .before .before .before .before .before .before .before .before .before .before .ports-in .ensures) _ _ (c .before .before .before .before .before .before .before .before .before .is-reply .ensures) _ _ _ _ _ (not-false _ (c .before .before .before .before .before .before .before .before .if1 .left)) (c .before .before .before .before .before .before .before .reply-ports .ensures) (c .before .before .before .before .before .before .mst .ensures) (c .before .before .before .before .before .is-set .ensures) (c .before .before .before .before .flag-byte .ensures) (c .before .before .put-reply .ensures)
+returns-2 c = reply-shown _ _ _ _ (c .before .before .before .before .before .before .before .before .before .before .before .before .before .get .ensures) (c .before .before .before .before .before .before .before .before .before .before .before .before .ports-in .ensures) _ _ (c .before .before .before .before .before .before .before .before .before .before .before .is-reply .ensures) _ _ _ _ _ _ _ (not-false _ (c .before .before .before .before .before .before .before .before .before .before .if1 .left)) (c .before .before .before .before .before .before .before .before .before .reply-ports .ensures) (c .before .before .before .before .before .before .before .before .mst .ensures) (c .before .before .before .before .before .before .before .is-set .ensures) (c .before .before .before .before .before .before .flag-byte .ensures) (c .before .before .before .before .before .told-by .ensures) (c .before .before .before .before .told-by2 .ensures) (c .before .before .put-reply .ensures)
 
 pub reply-spec : {M : Type 1} → statement M
 reply-spec =
@@ -51,6 +57,8 @@ reply-spec =
     mst-requires
     is-set-requires
     flag-byte-requires
+    told-by-requires
+    told-by-requires-2
     put-reply-requires
     same-length
     returns-2)

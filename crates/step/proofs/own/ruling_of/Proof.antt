@@ -5,22 +5,21 @@ use Rattle.step.proofs.own.ruling_of.Statement.{statement}
 use Rattle.step.proofs.own.ruling_of.Tie as tie
 use Rattle.step.proofs.own.ruling_of.Reads as reads
 use Rattle.step.proofs.own.ruling_of.Lts as lts
-use Rattle.packet.proofs.ruling_of.Reads as ruling-of-reads
 use Rattle.step.proofs.own.is_own.Reads as is-own-reads
 
 is-own-requires : tie.Need-is-own-requires
 is-own-requires c κs = search needs
 
-ruling-of-requires : tie.Need-ruling-of-requires
-ruling-of-requires c κs = search needs
+ruling-in-requires : tie.Need-ruling-in-requires
+ruling-in-requires c κs = search needs
 
 returns : tie.Need-returns
 unfolding ownRuling
-returns c = rw (← c .before .before .is-own .ensures, c .before .if1 .taken) (c .ruling-of .ensures)
+returns c = rw (← c .before .before .is-own .ensures, c .before .if1 .taken) (c .ruling-in .ensures)
 
 returns-2 : tie.Need-returns-2
 unfolding ownRuling
 returns-2 c = rw (← c .before .is-own .ensures, c .if1 .left) refl
 
 pub ruling-of-spec : {M : Type 1} → statement M
-ruling-of-spec = tie.close (tie.spec is-own-requires ruling-of-requires returns returns-2)
+ruling-of-spec = tie.close (tie.spec is-own-requires ruling-in-requires returns returns-2)

@@ -1,0 +1,66 @@
+use mathlib.Core.Path.{refl}
+use borrow.Author.Needs.{needs}
+use Rattle.c_face.proofs.Answers.{fixed-wrong, fixed-right}
+use Rattle.c_face.proofs.packets.levelspruce_packet_read_fixed.Statement.{statement}
+use Rattle.c_face.proofs.packets.levelspruce_packet_read_fixed.Tie as tie
+
+returns : tie.Need-returns
+returns c = fixed-wrong _ _ (c .if1 .taken)
+
+read-fixed-requires : tie.Need-read-fixed-requires
+read-fixed-requires c κs = search needs
+
+enum-known-reading : tie.Need-enum-known-reading
+enum-known-reading c = search needs
+
+put-values-requires : tie.Need-put-values-requires
+put-values-requires c κs = search needs
+
+enum-told : tie.Need-enum-told
+enum-told c = search needs
+
+enum-told-2 : tie.Need-enum-told-2
+enum-told-2 c = search needs
+
+enum-told-3 : tie.Need-enum-told-3
+enum-told-3 c = search needs
+
+enum-told-4 : tie.Need-enum-told-4
+enum-told-4 c = search needs
+
+same-length : tie.Need-same-length
+same-length c = search needs
+
+returns-2 : tie.Need-returns-2
+returns-2 c = fixed-right _ _ _ _ _ (c .before .before .before .before .before .before .before .before .if1 .left) (c .before .before .before .before .before .before .before .read-fixed .ensures) (c .before .before .before .before .before .reading .given .1) (c .before .before .put-values .ensures)
+
+returns-3 : tie.Need-returns-3
+returns-3 c = fixed-right _ _ _ _ _ (c .before .before .before .if1 .left) (c .before .before .read-fixed .ensures) (c .enum-told .given .1) refl
+
+returns-4 : tie.Need-returns-4
+returns-4 c = fixed-right _ _ _ _ _ (c .before .before .before .if1 .left) (c .before .before .read-fixed .ensures) (c .enum-told2 .given .1) refl
+
+returns-5 : tie.Need-returns-5
+returns-5 c = fixed-right _ _ _ _ _ (c .before .before .before .if1 .left) (c .before .before .read-fixed .ensures) (c .enum-told3 .given .1) refl
+
+returns-6 : tie.Need-returns-6
+returns-6 c = fixed-right _ _ _ _ _ (c .before .before .before .if1 .left) (c .before .before .read-fixed .ensures) (c .enum-told4 .given .1) refl
+
+pub levelspruce-packet-read-fixed-spec : {M : Type 1} → statement M
+levelspruce-packet-read-fixed-spec =
+    tie.close
+    (tie.spec
+    returns
+    read-fixed-requires
+    enum-known-reading
+    put-values-requires
+    enum-told
+    enum-told-2
+    enum-told-3
+    enum-told-4
+    same-length
+    returns-2
+    returns-3
+    returns-4
+    returns-5
+    returns-6)

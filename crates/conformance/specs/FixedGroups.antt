@@ -1,0 +1,153 @@
+-- Examples of request 2026-12, fixed groups, worked out apart: verdicts, what a packet rules, states and reply, and what a start answers.
+use mathlib.Core.Path.{refl}
+use mathlib.Core.Bool.{Bool, true, false, cond}
+use mathlib.Core.List.{List, [], _∷_, _++_}
+use Prim.Native.Nat.{ℕ}
+use lib.ListN.{length, replicate, take}
+use Rattle.c_face.specs.Receivers.{startAsAnswerC}
+use Rattle.conformance.specs.Rows.{Equal, Row, equal-rows}
+use Rattle.conformance.specs.Waits.{Sent, away, here, statesAt}
+use Rattle.judge.specs.declared.order.Order.{Order}
+use Rattle.judge.specs.declared.seen.Seen.{Seen}
+use Rattle.judge.specs.Order.{activeIn, orderOf, portOf, rankOf}
+use Rattle.judge.specs.Verdict.{fixedExact, fixedHeld, fixedVerdict, judgeOf, missing, repeats, takes}
+use Rattle.packet.specs.Crc.{byteBits, crcOf, divisor, nibbleBits}
+use Rattle.packet.specs.Fixed.{fixedRulingOf, readFixedNibbles}
+use Rattle.packet.specs.Kinds.{frames, idleNumber, mstFails, mstFirst, mstNumbers, tags}
+use Rattle.packet.specs.Layout.{carriedIn, dataOf, fieldsOf, highsOf, sealedOf}
+use Rattle.packet.specs.Reading.{readNibbles}
+use Rattle.packet.specs.Words.{assigned}
+use Rattle.phases.specs.Passing.{notedBy}
+use Rattle.phases.specs.Sizes.{portsIn, sized}
+use Rattle.receiver.specs.Lengths.{rowsFit}
+use Rattle.receiver.specs.Report.{replyPort, replyPorts, withState}
+use Rattle.receiver.specs.Shown.{portShown, replyFit, replyOf, replyOut}
+use Rattle.receiver.specs.Starting.{freshMember, freshPort, freshPorts, freshStep, groupWith, sizedAnswer, sizedFits, sizedRows, startAnswer, startAsAnswer, startAsRows, startFits, startRight, startRows, timesWithin}
+use Rattle.reply.specs.Choosing.{claims, grant, granted, holders}
+use Rattle.reply.specs.Telling.{mstFrom, mstOf, okHolds}
+use Rattle.reply.specs.Waiting.{chosenOf, heldOf, moreHeld, rounds, someJoin, standing, standingBy, standingsOf}
+use Rattle.rows.specs.declared.member.Member.{Member}
+use Rattle.rows.specs.Group.{groupAt, groupOf, groupRow, putGroup}
+use Rattle.rows.specs.Member.{memberAt, memberOf, memberRow, putMember}
+use Rattle.rows.specs.Packets.{putMarks, putPackets}
+use Rattle.rows.specs.Rows.{putRow, rowIn}
+use Rattle.rows.specs.Step.{putStep, stepAt, stepOf, stepRow}
+use Rattle.step.specs.Arrival.{inStep, readable}
+use Rattle.step.specs.Own.{oddPacket, ownNumber, ownRuling, rightCrc, rulingIn}
+use Rattle.step.specs.Run.{inStepAt}
+
+-- A port with a whole good packet and all its frames, by its number. One with no whole packet, with a refused one, and one that lacks a frame.
+abbrev saw : ℕ → Seen
+saw number = record { whole = true; good = true; word = 0; number = number; gid = 0; here = true }
+
+abbrev unseen : Seen
+unseen = record { whole = false; good = false; word = 0; number = 0; gid = 0; here = false }
+
+abbrev bad : Seen
+bad = record { whole = true; good = false; word = 0; number = 0; gid = 0; here = true }
+
+abbrev lacking : ℕ → Seen
+lacking number = record { whole = true; good = true; word = 0; number = number; gid = 0; here = false }
+
+abbrev verdict : List Seen → ℕ
+verdict ports = judgeOf 2 ports (length ports)
+
+-- X, and the ports by rank
+abbrev ranked : List Seen → List ℕ
+ranked ports = let o = orderOf ports (length ports) in o .x ∷ take (o .x) (o .ports)
+
+-- the nibbles of a fixed group's packet of epoch 58 with SQ 5
+abbrev fixed : List ℕ
+fixed = 0 ∷ 0 ∷ 0 ∷ 0 ∷ 0 ∷ 0 ∷ 0 ∷ 5 ∷ 3 ∷ 10 ∷ 0 ∷ 0 ∷ 0 ∷ 0 ∷ 0 ∷ 0 ∷ []
+
+-- the same with the word NORM
+abbrev foreign : List ℕ
+foreign = 0 ∷ 0 ∷ 0 ∷ 0 ∷ 0 ∷ 0 ∷ 0 ∷ 5 ∷ 3 ∷ 10 ∷ 2 ∷ 0 ∷ 0 ∷ 0 ∷ 0 ∷ 0 ∷ []
+
+abbrev flag : Bool → ℕ
+flag b = cond b 1 0
+
+-- good or not, word, number, GID
+abbrev rules : ℕ → ℕ → List ℕ → List ℕ
+rules kind epoch nibbles = let r = ownRuling kind epoch nibbles in flag (r .good) ∷ r .word ∷ r .number ∷ r .gid ∷ []
+
+-- a port of a fixed group that noted the packet and is OK under its number
+abbrev noted : Member
+noted = withState (notedBy (freshMember 2 0 0) true (ownRuling 2 58 fixed)) (standing 2 5 0)
+
+-- the reply of epoch 7 after a start with one port
+abbrev told : ℕ → List ℕ
+told kind = replyOut (startRows kind 1 1 16 32 (replicate 6 (replicate 16 0))) 7 (9 ∷ 9 ∷ [])
+
+pub table : List Row
+table =
+    record {
+      name = "a fixed group with the numbers 2, 0, 1 is sure, in the order of the numbers";
+      given = verdict (saw 2 ∷ saw 0 ∷ saw 1 ∷ []) ∷ ranked (saw 2 ∷ saw 0 ∷ saw 1 ∷ []);
+      said = 3 ∷ 3 ∷ 1 ∷ 2 ∷ 0 ∷ [];
+    }
+    ∷ record {
+      name = "a fixed group is held by the numbers 0, 1, 1 and 0, 1, 3";
+      given = verdict (saw 0 ∷ saw 1 ∷ saw 1 ∷ []) ∷ verdict (saw 0 ∷ saw 1 ∷ saw 3 ∷ []) ∷ [];
+      said = 1 ∷ 1 ∷ [];
+    }
+    ∷ record {
+      name = "a fixed group is held, and not doubtful, by a dark port, whichever number it had, a refused packet or a lacking frame";
+      given =
+          verdict (saw 0 ∷ saw 1 ∷ unseen ∷ []) ∷ verdict (unseen ∷ saw 1 ∷ saw 2 ∷ []) ∷ verdict (saw 0 ∷ bad ∷ []) ∷ verdict (saw 0 ∷ lacking 1 ∷ []) ∷ [];
+      said = 1 ∷ 1 ∷ 1 ∷ 1 ∷ [];
+    }
+    ∷ record { name = "a fixed group of one, with the number 0, is sure"; given = verdict (saw 0 ∷ []) ∷ verdict (saw 1 ∷ []) ∷ []; said = 3 ∷ 1 ∷ [] }
+    ∷ record {
+      name = "a fixed group's packet rules in its own epoch, and in no other; one with another word is refused; by 01 its CRC differs";
+      given = rules 2 58 fixed ++ rules 2 59 fixed ++ rules 2 58 foreign ++ rules 0 58 fixed;
+      said = 1 ∷ 0 ∷ 5 ∷ 0 ∷ 0 ∷ 0 ∷ 0 ∷ 0 ∷ 0 ∷ 0 ∷ 0 ∷ 0 ∷ 0 ∷ 0 ∷ 0 ∷ 0 ∷ [];
+    }
+    ∷ record {
+      name = "with another MFI2 each packet of a fixed group is odd, since no CRC is checked; by 01 one of wrong CRC is not";
+      given = flag (oddPacket 2 59 fixed) ∷ flag (oddPacket 2 58 fixed) ∷ flag (oddPacket 0 59 fixed) ∷ [];
+      said = 1 ∷ 0 ∷ 0 ∷ [];
+    }
+    ∷ record {
+      name = "what is shown of a fixed group's port: its word is 0 after a good packet, and 255 before one";
+      given = portShown (groupWith 2 1 1 16) freshStep noted ++ portShown (groupWith 2 1 1 16) freshStep (freshMember 2 0 0);
+      said = 2 ∷ 5 ∷ 0 ∷ 0 ∷ 0 ∷ 0 ∷ 0 ∷ 0 ∷ 0 ∷ 255 ∷ 0 ∷ 0 ∷ 0 ∷ 0 ∷ 255 ∷ 0 ∷ [];
+    }
+    ∷ record {
+      name = "a fixed group's port with hold-off 1 and wait-to-restore 2: lost for one report it stays OK, for two it is FAIL, OK again after two";
+      given =
+          statesAt 0 (1 ∷ []) (2 ∷ []) ((here 0 0 ∷ []) ∷ (away 0 0 ∷ []) ∷ (here 0 0 ∷ []) ∷ (away 0 0 ∷ []) ∷ (away 0 0 ∷ []) ∷ (here 0 0 ∷ []) ∷ (here 0 0 ∷ []) ∷ (here 0 0 ∷ []) ∷ []);
+      said = 2 ∷ 2 ∷ 2 ∷ 2 ∷ 1 ∷ 1 ∷ 1 ∷ 2 ∷ [];
+    }
+    ∷ record { name = "a fixed group's reply is MST 00 and RS-Ack 0; by 01 MST is FF before a member is OK"; given = told 2 ++ told 0; said = 0 ∷ 0 ∷ 255 ∷ 0 ∷ [] }
+    ∷ record {
+      name = "a start takes the kinds 0 and 2; any other is 4, in C and in the library";
+      given =
+          startAsAnswerC 0 1 1 16 32 [] [] 6
+          ∷ startAsAnswerC 2 1 1 16 32 [] [] 6
+          ∷ startAsAnswerC 1 1 1 16 32 [] [] 6
+          ∷ startAsAnswerC 255 1 1 16 32 [] [] 6
+          ∷ startAsAnswerC 256 1 1 16 32 [] [] 6
+          ∷ startAsAnswerC 258 1 1 16 32 [] [] 6
+          ∷ startAnswer 1 1 1 16 32 6
+          ∷ startAnswer 3 1 1 16 32 6
+          ∷ [];
+      said = 0 ∷ 0 ∷ 4 ∷ 4 ∷ 4 ∷ 4 ∷ 4 ∷ 4 ∷ [];
+    }
+    ∷ record {
+      name = "a fixed start: 4 before 9, with times as any other";
+      given =
+          startAsAnswerC 2 0 1 16 32 [] [] 6
+          ∷ startAsAnswerC 2 1 1 15 32 [] [] 6
+          ∷ startAsAnswerC 2 1 1 16 31 (5001 ∷ []) [] 6
+          ∷ startAsAnswerC 2 1 1 16 31 (5000 ∷ []) [] 6
+          ∷ startAsAnswerC 2 1 1 16 32 (0 ∷ 0 ∷ []) [] 6
+          ∷ startAsAnswerC 2 1 1 16 32 (5000 ∷ []) (1 ∷ []) 6
+          ∷ [];
+      said = 4 ∷ 4 ∷ 4 ∷ 9 ∷ 9 ∷ 0 ∷ [];
+    }
+    ∷ []
+
+pub fixed-groups : Equal table
+unfolding table activeIn orderOf portOf rankOf fixedExact fixedHeld fixedVerdict judgeOf missing repeats takes byteBits crcOf divisor nibbleBits fixedRulingOf readFixedNibbles frames idleNumber mstFails mstFirst mstNumbers tags carriedIn dataOf fieldsOf highsOf sealedOf readNibbles assigned notedBy portsIn sized rowsFit replyPort replyPorts withState portShown replyFit replyOf replyOut freshPort freshPorts sizedAnswer sizedFits sizedRows startAsAnswer startAsRows startFits startRight timesWithin claims grant granted holders mstFrom mstOf okHolds chosenOf heldOf moreHeld rounds someJoin standingBy standingsOf groupAt groupOf groupRow putGroup memberAt memberOf memberRow putMember putMarks putPackets putRow rowIn putStep stepAt stepOf stepRow inStep readable oddPacket ownNumber ownRuling rightCrc rulingIn inStepAt
+fixed-groups = equal-rows table refl

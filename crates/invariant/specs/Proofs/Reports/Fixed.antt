@@ -1,0 +1,104 @@
+-- A fixed group's reports (request 2026-12), on every state; and its reply.
+use mathlib.Core.Path.{_≡_, refl, sym, ap, _∙_}
+use mathlib.Core.Logic.{_≢_}
+use mathlib.Core.Bool.{true}
+use mathlib.Core.List.{List, [], _∷_}
+use Prim.Native.Nat.{ℕ, _≤_, _<_}
+use native.Mathlib.Omega.{arith}
+use lib.ListN.{getD, length}
+use Rattle.ground.specs.Truth.{cond-by}
+use Rattle.judge.specs.declared.seen.Seen.{Seen}
+use Rattle.judge.specs.Laws.Numbers.{numberAt}
+use Rattle.judge.specs.Order.{activeIn, portOf}
+use Rattle.judge.specs.Theorems.Fixed.{AllFixed, Standing, fixed-else-held, fixed-judged, fixed-members, fixed-port, stands-sure, sure-stands}
+use Rattle.judge.specs.Verdict.{HELD, SURE, fixedVerdict, judgeOf}
+use Rattle.packet.specs.Kinds.{fixedKind}
+use Rattle.packet.specs.Words.{FIXED}
+use Rattle.phases.specs.Sizes.{portsIn, sized}
+use Rattle.receiver.specs.Fetch.{dueIn, reportIfDue}
+use Rattle.receiver.specs.Laws.Seen.{seen-at}
+use Rattle.receiver.specs.Laws.Sizes.{ports-are, size-is, sizes-of}
+use Rattle.receiver.specs.Report.{reportBy, reportOf, rulingEpoch, seenAll, seenOf}
+use Rattle.receiver.specs.Shown.{replyOf}
+use Rattle.receiver.specs.Starting.{groupWith, startAsAnswer}
+use Rattle.rows.specs.declared.group.Group.{Group}
+use Rattle.rows.specs.Group.{groupAt}
+use Rattle.rows.specs.Packets.{packetsAt}
+use Rattle.step.specs.Laws.Own.{own-fixed}
+use Rattle.step.specs.Own.{ownRuling}
+use Rattle.invariant.specs.Calls.{Receiver, ReceiverCall, receiverRun, startedWith}
+use Rattle.invariant.specs.Kept.Group.{Kept}
+use Rattle.invariant.specs.Proofs.Calls as Calls
+use Rattle.invariant.specs.Proofs.Kept.Start.{started-kept, started-with}
+use Rattle.invariant.specs.Proofs.Sizes.{run-sizes}
+
+few : (g : Group) → portsIn g ≤ 64
+unfolding portsIn
+few g =
+    cond-by (λ (m : ℕ). m ≤ 64) (sized (g .kind) (g .count) (g .payload) (g .window)) (g .count) 0
+    (λ e. sizes-of (g .kind) (g .count) (g .payload) (g .window) e .few-ports) (λ e. omega arith)
+
+module _ (s : List (List ℕ)) (fixed : groupAt s .kind ≡ fixedKind) (due : dueIn (groupAt s) (portsIn (groupAt s)) s ≡ true) where
+  abbrev g : Group
+  g = groupAt s
+
+  abbrev n : ℕ
+  n = portsIn (groupAt s)
+
+  abbrev seen : List Seen
+  seen = seenAll (groupAt s) s (portsIn (groupAt s))
+
+  seen-fixed : (i : ℕ) → seenOf g s i .word ≡ FIXED
+  unfolding seenOf
+  seen-fixed i =
+      ap (λ (kind : ℕ). ownRuling kind (rulingEpoch g) (getD (packetsAt s i) 1 []) .word) fixed ∙ own-fixed (rulingEpoch g) (getD (packetsAt s i) 1 [])
+
+  all-fixed : AllFixed seen n
+  all-fixed i b good = ap (λ (p : Seen). p .word) (seen-at g s n i (few g) b) ∙ seen-fixed i
+
+  mark-is : reportIfDue g n s .mark ≡ fixedVerdict seen n
+  unfolding reportIfDue reportOf reportBy
+  mark-is = rw due (ap (λ (m : ℕ). judgeOf (g .kind) seen m) (size-is n (few g)) ∙ ap (λ (kind : ℕ). judgeOf kind seen n) fixed ∙ fixed-judged seen n)
+
+  pub fixed-sure : Standing seen n → reportIfDue g n s .mark ≡ SURE
+  fixed-sure o = mark-is ∙ stands-sure seen n all-fixed o
+
+  pub sure-fixed : reportIfDue g n s .mark ≡ SURE → Standing seen n
+  sure-fixed e = sure-stands seen n all-fixed (sym mark-is ∙ e)
+
+  pub fixed-else : reportIfDue g n s .mark ≢ SURE → reportIfDue g n s .mark ≡ HELD
+  fixed-else d = mark-is ∙ fixed-else-held seen n (λ e. d (mark-is ∙ e))
+
+  pub fixed-order : reportIfDue g n s .mark ≡ SURE → (activeIn seen n ≡ n) × ((r : ℕ) → r < n → (portOf seen n r < n) × (numberAt seen (portOf seen n r) ≡ r))
+  fixed-order e = (fixed-members seen n all-fixed (sure-fixed e), λ r b. fixed-port seen n all-fixed (sure-fixed e) r b)
+
+-- the reply
+pub fixed-reply : (s : List (List ℕ)) → groupAt s .kind ≡ fixedKind → (e : ℕ) → replyOf s e ≡ 0 ∷ 0 ∷ []
+unfolding replyOf
+fixed-reply s fixed e = rw fixed refl
+
+-- what the start set stays
+module _ (count P W : ℕ) (hold restore : List ℕ) (rows : List (List ℕ)) (store : List ℕ) (zero : startAsAnswer fixedKind count P W (length store) hold restore (length rows) ≡ 0) (calls : List ReceiverCall) where
+  abbrev first : Receiver
+  first = startedWith fixedKind count P W hold restore rows store
+
+  abbrev last : Group
+  last = groupAt (receiverRun first calls .rows)
+
+  first-kept : Kept (first .rows)
+  first-kept = started-kept fixedKind count P W (length store) hold restore rows zero
+
+  first-is : groupAt (first .rows) ≡ groupWith fixedKind count P W
+  first-is = started-with fixedKind count P W (length store) hold restore rows zero
+
+  kind-stays : last .kind ≡ fixedKind
+  kind-stays = run-sizes first calls first-kept .kind ∙ ap (λ (g : Group). g .kind) first-is
+
+  count-stays : last .count ≡ count
+  count-stays = run-sizes first calls first-kept .count ∙ ap (λ (g : Group). g .count) first-is
+
+  pub fixed-stays : (last .kind ≡ fixedKind) × (portsIn last ≡ count)
+  fixed-stays = (kind-stays, ports-are last (Calls.kept fixedKind count P W hold restore rows store zero calls .steady .group .sizes) ∙ count-stays)
+
+  pub fixed-told : (e : ℕ) → replyOf (receiverRun first calls .rows) e ≡ 0 ∷ 0 ∷ []
+  fixed-told e = fixed-reply (receiverRun first calls .rows) kind-stays e

@@ -1,0 +1,41 @@
+use Rattle.judge.proofs.Judging.{by-held, by-doubt, by-rest}
+use borrow.Author.Needs.{needs}
+use Rattle.judge.proofs.verdict.lcas_verdict.Statement.{statement}
+use Rattle.judge.proofs.verdict.lcas_verdict.Tie as tie
+
+tallied-requires : tie.Need-tallied-requires
+tallied-requires c κs = search needs
+
+has-repeats-requires : tie.Need-has-repeats-requires
+has-repeats-requires c κs = search needs
+
+is-eos-alone-requires : tie.Need-is-eos-alone-requires
+is-eos-alone-requires c κs = search needs
+
+is-held-requires : tie.Need-is-held-requires
+is-held-requires c κs = search needs
+
+returns : tie.Need-returns
+returns c = by-held (c .before .before .before .before .before .args .ports) (c .before .before .before .before .before .args .n) (c .before .before .before .before .tallied .result) _ _ _ (c .before .before .before .before .tallied .ensures) (c .before .before .before .has-repeats .ensures) (c .before .before .is-eos-alone .ensures) (c .before .is-held .ensures) (c .if1 .taken)
+
+is-exact-requires : tie.Need-is-exact-requires
+is-exact-requires c κs = search needs
+
+returns-2 : tie.Need-returns-2
+returns-2 c = by-doubt (c .before .before .before .before .before .before .before .before .args .ports) (c .before .before .before .before .before .before .before .before .args .n) (c .before .before .before .before .before .before .before .tallied .result) _ _ _ (c .before .before .before .before .before .before .before .tallied .ensures) (c .before .before .before .before .before .before .has-repeats .ensures) (c .before .before .before .before .before .is-eos-alone .ensures) (c .before .before .before .before .is-held .ensures) _ (c .before .before .is-exact .ensures) (c .before .before .before .if1 .left) (c .if2 .taken)
+
+returns-3 : tie.Need-returns-3
+returns-3 c = by-rest (c .before .before .before .before .before .before .before .before .args .ports) (c .before .before .before .before .before .before .before .before .args .n) (c .before .before .before .before .before .before .before .tallied .result) _ _ _ (c .before .before .before .before .before .before .before .tallied .ensures) (c .before .before .before .before .before .before .has-repeats .ensures) (c .before .before .before .before .before .is-eos-alone .ensures) (c .before .before .before .before .is-held .ensures) _ (c .before .before .is-exact .ensures) (c .before .before .before .if1 .left) (c .if2 .left)
+
+pub lcas-verdict-spec : {M : Type 1} → statement M
+lcas-verdict-spec =
+    tie.close
+    (tie.spec
+    tallied-requires
+    has-repeats-requires
+    is-eos-alone-requires
+    is-held-requires
+    returns
+    is-exact-requires
+    returns-2
+    returns-3)

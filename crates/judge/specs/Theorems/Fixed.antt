@@ -1,0 +1,178 @@
+-- Fixed groups (request 2026-12): a report is sure exactly where every port has a whole good ruling packet and its frames, and the numbers are 0 to X-1, X being how many ports were set at the start. Otherwise it is held, and never doubtful.
+use mathlib.Core.Path.{_≡_, refl, sym, _∙_}
+use mathlib.Core.Logic.{_≢_}
+use mathlib.Core.Bool.{Bool, true, false, not, _&&_}
+use mathlib.Core.List.{List, [], _∷_}
+use Prim.Native.Nat.{ℕ, _≤_, _<_}
+use native.Mathlib.Omega.{arith}
+use lib.Dec.{eqb, ltb}
+use borrow.Author.Tests.{eq-eqb, eqb-true, lt-ltb, ltb-true, not-false}
+use Rattle.counting.specs.Words.{count, some}
+use Rattle.counting.specs.Laws.Ranks.{Apart, all-taken, count-taken, taken}
+use Rattle.counting.specs.Laws.Tests.{One, every-all, every-at, none-at, some-at, some-none}
+use Rattle.ground.specs.Table.{tabulate}
+use Rattle.ground.specs.Truth.{and-left, and-right, and-true, cond-by, fails}
+use Rattle.packet.specs.Kinds.{fixedKind}
+use Rattle.packet.specs.Words.{FIXED}
+use Rattle.judge.specs.declared.seen.Seen.{Seen}
+use Rattle.judge.specs.Laws.Numbers.{ActiveApart, AllApart, activeAt, all-active, apart-repeats, numberAt, numberedAt, repeats-apart}
+use Rattle.judge.specs.Laws.Ports.{accepted-good, active-numbered, good-accepted, here-lacks, lacks-here}
+use Rattle.judge.specs.Order.{activeIn, portOf, rankOf}
+use Rattle.judge.specs.Seen.{activeSeen, lackingSeen, refusedSeen, seenAt}
+use Rattle.judge.specs.Theorems.Exact.{all-below, count-all}
+use Rattle.judge.specs.Theorems.Held.{none}
+use Rattle.judge.specs.Theorems.Ranks.{Ranked, port-ranked}
+use Rattle.judge.specs.Verdict.{DOUBTFUL, HELD, SURE, fixedExact, fixedHeld, fixedVerdict, judgeOf, missing, repeats, takes}
+
+pub record Standing (ports : List Seen) (n : ℕ) : Type 0 where
+  pub whole : (i : ℕ) → i < n → seenAt ports i .whole ≡ true
+  pub good : (i : ℕ) → i < n → seenAt ports i .good ≡ true
+  pub here : (i : ℕ) → i < n → seenAt ports i .here ≡ true
+  -- the numbers are 0 to n-1, each once
+  pub once : (i j : ℕ) → i < n → j < n → numberAt ports i ≡ numberAt ports j → i ≡ j
+  pub low : (i : ℕ) → i < n → numberAt ports i < n
+
+-- 'a word other than FIXED is 6': no other is good
+abbrev pub AllFixed : List Seen → ℕ → Type 0
+AllFixed ports n = (i : ℕ) → i < n → seenAt ports i .good ≡ true → seenAt ports i .word ≡ FIXED
+
+fixed-active : (p : Seen) → p .whole ≡ true → p .good ≡ true → p .word ≡ FIXED → activeSeen p ≡ true
+fixed-active p w g e = rw (w, g, e)
+
+held : (ports : List Seen) (n : ℕ) → fixedHeld ports n ≡ true → fixedVerdict ports n ≡ HELD
+unfolding fixedVerdict
+held ports n e = rw e
+
+unheld : (ports : List Seen) (n : ℕ) → fixedVerdict ports n ≡ SURE → fixedHeld ports n ≡ false
+unheld ports n s = fails (fixedHeld ports n) (λ (e : fixedHeld ports n ≡ true). let w : _≡_ {A = ℕ} HELD SURE = sym (held ports n e) ∙ s in omega arith)
+
+module _ (ports : List Seen) (n : ℕ) (fixed : AllFixed ports n) (s : fixedVerdict ports n ≡ SURE) where
+  clear : (missing ports n ≡ false) × (some n (λ i. refusedSeen (seenAt ports i)) ≡ false) × (some n (λ i. lackingSeen (seenAt ports i)) ≡ false) × (repeats ports n ≡ false) × (not (fixedExact ports n) ≡ false)
+  unfolding fixedHeld
+  clear = none (missing ports n) (some n (λ i. refusedSeen (seenAt ports i))) (some n (λ i. lackingSeen (seenAt ports i))) (repeats ports n) (not (fixedExact ports n)) (unheld ports n s)
+
+  whole-at : (i : ℕ) → i < n → seenAt ports i .whole ≡ true
+  unfolding missing
+  whole-at i b = not-false (seenAt ports i .whole) (none-at n (λ k. not (seenAt ports k .whole)) (clear .0) i b)
+
+  good-at : (i : ℕ) → i < n → seenAt ports i .good ≡ true
+  good-at i b = accepted-good (seenAt ports i) (whole-at i b) (none-at n (λ k. refusedSeen (seenAt ports k)) (clear .1) i b)
+
+  active-at : (i : ℕ) → i < n → activeAt ports i ≡ true
+  active-at i b = fixed-active (seenAt ports i) (whole-at i b) (good-at i b) (fixed i b (good-at i b))
+
+  numbered-at : (i : ℕ) → i < n → numberedAt ports i ≡ true
+  numbered-at i b = active-numbered (seenAt ports i) (active-at i b)
+
+  apart-in : AllApart ports n
+  apart-in = repeats-apart ports n (clear .3)
+
+  all-in : count n (numberedAt ports) ≡ n
+  all-in = count-all n (numberedAt ports) numbered-at
+
+  taken-in : (q : ℕ) → q < n → taken n (numberedAt ports) (numberAt ports) q ≡ true
+  unfolding fixedExact takes
+  taken-in q h = every-at n (λ p. takes ports n p) (not-false (fixedExact ports n) (clear .4)) q h
+
+  low-at : (i : ℕ) → i < n → numberAt ports i < n
+  low-at i b = rw all-in at (all-below n (numberedAt ports) (numberAt ports) apart-in (λ q h. taken-in q (rw all-in at h)) i b (numbered-at i b))
+
+  pub sure-stands : Standing ports n
+  sure-stands =
+      record {
+        whole = whole-at;
+        good = good-at;
+        here = λ i b. lacks-here (seenAt ports i) (none-at n (λ k. lackingSeen (seenAt ports k)) (clear .2) i b) (active-at i b);
+        once = λ i j bi bj e. apart-in i j bi bj (numbered-at i bi) (numbered-at j bj) e;
+        low = low-at;
+      }
+
+module _ (ports : List Seen) (n : ℕ) (fixed : AllFixed ports n) (o : Standing ports n) where
+  stands-active : (i : ℕ) → i < n → activeAt ports i ≡ true
+  stands-active i b = fixed-active (seenAt ports i) (o .whole i b) (o .good i b) (fixed i b (o .good i b))
+
+  stands-numbered : (i : ℕ) → i < n → numberedAt ports i ≡ true
+  stands-numbered i b = active-numbered (seenAt ports i) (stands-active i b)
+
+  stands-apart : AllApart ports n
+  stands-apart i j bi bj ti tj e = o .once i j bi bj e
+
+  exact-in : fixedExact ports n ≡ true
+  unfolding fixedExact takes
+  exact-in =
+      every-all n (λ q. takes ports n q) (λ q h.
+      let w = all-taken n n (numberedAt ports) (numberAt ports) stands-apart (λ i b t. o .low i b) (count-all n (numberedAt ports) stands-numbered) q h in
+      some-at n (λ k. numberedAt ports k && eqb (numberAt ports k) q) (w .at) (w .below) (w .holds))
+
+  pub stands-sure : fixedVerdict ports n ≡ SURE
+  unfolding fixedVerdict fixedHeld missing
+  stands-sure =
+      rw (
+        some-none n (λ i. not (seenAt ports i .whole)) (λ i b. rw (o .whole i b)),
+        some-none n (λ i. refusedSeen (seenAt ports i)) (λ i b. good-accepted (seenAt ports i) (o .good i b)),
+        some-none n (λ i. lackingSeen (seenAt ports i)) (λ i b. here-lacks (seenAt ports i) (λ t. o .here i b)),
+        apart-repeats ports n stands-apart,
+        exact-in,
+      )
+
+  -- X is the number of ports
+  pub fixed-members : activeIn ports n ≡ n
+  unfolding activeIn
+  fixed-members = count-all n (activeAt ports) stands-active
+
+  -- and a number is its rank
+  rank-number : (q : ℕ) → q ≤ n → rankOf ports n q ≡ q
+  unfolding rankOf
+  rank-number q l = sym (count-taken n q below (numberAt ports) (λ i j bi bj ti tj e. o .once i j bi bj e) under) ∙ count-all q (taken n below (numberAt ports)) each
+    where
+      below : ℕ → Bool
+      below j = activeAt ports j && ltb (numberAt ports j) q
+
+      under : (i : ℕ) → i < n → below i ≡ true → numberAt ports i < q
+      under i b t = ltb-true (numberAt ports i) q (and-right (activeAt ports i) (ltb (numberAt ports i) q) t)
+
+      each : (k : ℕ) → k < q → taken n below (numberAt ports) k ≡ true
+      each k h =
+          let w = all-taken n n (numberedAt ports) (numberAt ports) stands-apart (λ i b t. o .low i b) (count-all n (numberedAt ports) stands-numbered) k (omega arith) in
+          let i : ℕ = w .at in
+          let e : numberAt ports i ≡ k = eqb-true (numberAt ports i) k (and-right (numberedAt ports i) (eqb (numberAt ports i) k) (w .holds)) in
+          some-at n (λ j. below j && eqb (numberAt ports j) k) i (w .below)
+          (and-true (below i) _ (and-true (activeAt ports i) _ (stands-active i (w .below)) (lt-ltb (numberAt ports i) q (omega arith))) (eq-eqb (numberAt ports i) k e))
+
+  stands-ranked : (r : ℕ) → r < n → Ranked ports n r (portOf ports n r)
+  stands-ranked r h = port-ranked ports n (all-active ports n stands-apart) r (rw fixed-members h)
+
+  -- the port of rank r is the one with the number r
+  pub fixed-port : (r : ℕ) → r < n → (portOf ports n r < n) × (numberAt ports (portOf ports n r) ≡ r)
+  fixed-port r h =
+      let w = stands-ranked r h in
+      let p : ℕ = portOf ports n r in
+      let low : numberAt ports p < n = o .low p (w .below) in
+      (w .below, sym (rank-number (numberAt ports p) (omega arith)) ∙ w .rank)
+
+-- by the kind
+pub fixed-judged : (ports : List Seen) (n : ℕ) → judgeOf fixedKind ports n ≡ fixedVerdict ports n
+unfolding judgeOf
+fixed-judged ports n = refl
+
+-- whatever is seen
+pub fixed-not-doubtful : (ports : List Seen) (n : ℕ) → fixedVerdict ports n ≢ DOUBTFUL
+unfolding fixedVerdict
+fixed-not-doubtful ports n =
+    cond-by (λ (m : ℕ). m ≢ DOUBTFUL) (fixedHeld ports n) HELD SURE (λ e (q : _≡_ {A = ℕ} HELD DOUBTFUL). omega arith) (λ e (q : _≡_ {A = ℕ} SURE DOUBTFUL). omega arith)
+
+pub fixed-else-held : (ports : List Seen) (n : ℕ) → fixedVerdict ports n ≢ SURE → fixedVerdict ports n ≡ HELD
+unfolding fixedVerdict
+fixed-else-held ports n =
+    cond-by (λ (m : ℕ). m ≢ SURE → m ≡ HELD) (fixedHeld ports n) HELD SURE (λ e d. refl) (λ e d. absurd (d refl))
+
+-- Three ports that meet it, with the numbers 2, 0 and 1: ports 1, 2 and 0 in the order of their numbers.
+abbrev sent : ℕ → Seen
+sent number = record { whole = true; good = true; word = FIXED; number = number; gid = 0; here = true }
+
+abbrev sample : List Seen
+sample = sent 2 ∷ sent 0 ∷ sent 1 ∷ []
+
+sample-judged : (judgeOf fixedKind sample 3 ≡ SURE) × (activeIn sample 3 ≡ 3) × (tabulate 3 (portOf sample 3) ≡ 1 ∷ 2 ∷ 0 ∷ [])
+unfolding judgeOf fixedVerdict fixedHeld fixedExact missing repeats takes activeIn portOf rankOf
+sample-judged = (refl, refl, refl)
