@@ -3,12 +3,13 @@ use mathlib.Core.Path.{_≡_, refl, sym, ap, _∙_}
 use mathlib.Core.Bool.{Bool, true, false, not, _&&_}
 use mathlib.Core.List.{List}
 use Prim.Native.Nat.{ℕ, _+_}
+use Rattle.packet.specs.Kinds.{fixedKind}
 use Rattle.recording.specs.declared.pairs.Awaited.{Awaited}
-use Rattle.recording.specs.declared.pairs.Awaited.the-variants.{Name, Nothing}
+use Rattle.recording.specs.declared.pairs.Awaited.the-variants.{Nothing}
 use Rattle.recording.specs.declared.pairs.Pairs.{Pairs}
 use Rattle.recording.specs.declared.pairs.Settings.{Settings}
 use Rattle.recording.specs.Opening.{handed, opened, openedBy}
-use Rattle.recording.specs.Pairs.{awaiting, countPut, fieldBy, fieldIn, holdFrom, holdNamed, holdRead, kindNamed, kindRead, named, restoreFrom, restoreNamed, restoreRead, settingsTo, withHold, withRestore}
+use Rattle.recording.specs.Pairs.{awaiting, countPut, fieldBy, fieldIn, holdFrom, holdNamed, holdRead, kindNamed, kindRead, kindTo, named, restoreFrom, restoreNamed, restoreRead, settingsTo, withHold, withRestore}
 use Rattle.text.specs.declared.fields.Number.{Number}
 use Rattle.text.specs.declared.fields.Number.the-variants.{Value, Unreadable}
 use Rattle.text.specs.Ascii.{ascii}
@@ -34,13 +35,18 @@ module _ (p : Pairs) (f : List ℕ) (a : Bool) (ea : a ≡ sameBytes f (ascii "k
       name-none t r h = rw (← ea, ta, ← eb, tb, ← ec, t) h
 
 module _ (p : Pairs) (f : List ℕ) (a : Bool) (ea : a ≡ sameBytes f (ascii "H4")) where
-  pub kind-h4 : a ≡ true → (r : Pairs) → r ≡ awaiting Name p → r ≡ kindRead p f
+  pub kind-h4 : a ≡ true → (r : Pairs) → r ≡ kindTo p 0 → r ≡ kindRead p f
   unfolding kindRead
   kind-h4 t r h = rw (← ea, t) h
 
-  pub kind-none : a ≡ false → (r : Pairs) → r ≡ awaiting Nothing p → r ≡ kindRead p f
-  unfolding kindRead
-  kind-none t r h = rw (← ea, t) h
+  module _ (ta : a ≡ false) (b : Bool) (eb : b ≡ sameBytes f (ascii "FIXED")) where
+    pub kind-fixed : b ≡ true → (r : Pairs) → r ≡ kindTo p fixedKind → r ≡ kindRead p f
+    unfolding kindRead
+    kind-fixed t r h = rw (← ea, ta, ← eb, t) h
+
+    pub kind-none : b ≡ false → (r : Pairs) → r ≡ awaiting Nothing p → r ≡ kindRead p f
+    unfolding kindRead
+    kind-none t r h = rw (← ea, ta, ← eb, t) h
 
 module _ (p : Pairs) (i : ℕ) (number : Number) where
   pub hold-none : number ≡ Unreadable → (r : Pairs) → r ≡ awaiting Nothing p → r ≡ holdRead p i number

@@ -9,6 +9,7 @@ use Rattle.recording.specs.declared.pairs.Awaited.{Awaited}
 use Rattle.recording.specs.declared.pairs.Awaited.the-variants.{Name, Kind, HoldOff, Restore, Nothing}
 use Rattle.recording.specs.declared.pairs.Pairs.{Pairs}
 use Rattle.recording.specs.declared.pairs.Settings.{Settings}
+use Rattle.packet.specs.Kinds.{fixedKind}
 use Rattle.text.specs.declared.fields.Number.{Number}
 use Rattle.text.specs.declared.fields.Number.the-variants.{Value, Unreadable}
 use Rattle.text.specs.Ascii.{ascii}
@@ -65,12 +66,18 @@ withHold s counts = record { «hold_off» = counts; restore = s .restore; kind =
 abbrev pub withRestore : Settings → List ℕ → Settings
 withRestore s counts = record { «hold_off» = s .«hold_off»; restore = counts; kind = s .kind; ports = s .ports; size = s .size; window = s .window }
 
+abbrev pub withKind : Settings → ℕ → Settings
+withKind s kind = record { «hold_off» = s .«hold_off»; restore = s .restore; kind = kind; ports = s .ports; size = s .size; window = s .window }
+
 -- of a group with more than 64 ports, which no receiver has, the numbers of the first 64 are kept
 abbrev pub countPut : List ℕ → ℕ → ℕ → List ℕ
 countPut counts i n = cond (ltb i 64) (set counts i n) counts
 
+abbrev pub kindTo : Pairs → ℕ → Pairs
+kindTo p kind = settingsTo (withKind (p .settings) kind) Name p
+
 unfoldable pub kindRead : Pairs → List ℕ → Pairs
-kindRead p field = cond (sameBytes field (ascii "H4")) (awaiting Name p) (wrongField p)
+kindRead p field = cond (sameBytes field (ascii "H4")) (kindTo p 0) (cond (sameBytes field (ascii "FIXED")) (kindTo p fixedKind) (wrongField p))
 
 unfoldable pub holdRead : Pairs → ℕ → Number → Pairs
 holdRead p i (Value n) = settingsTo (withHold (p .settings) (countPut (p .settings .«hold_off») i n)) (holdFrom (p .settings .ports) (i + 1)) p

@@ -1,11 +1,12 @@
 // The pairs behind the three numbers of a first line (2026-05): each a name and what it says, in any order, each at most once.
+use packet::kinds;
 use text::Number;
 ghost use mathlib.Core.Path.{_≡_};
 ghost use Prim.Native.Nat.{_+_, _≤_};
 ghost use lib.ListN.{length};
 ghost use lib.Seq.{slice};
 ghost use Rattle.recording.specs.Laws.Pairs.{fieldsFrom};
-ghost use Rattle.recording.specs.Pairs.{awaiting, countPut, fieldIn, firstPairs, holdFrom, holdNamed, holdRead, kindNamed, kindRead, named, pairsFrom, plainSettings, restoreFrom, restoreNamed, restoreRead, settingsTo, withHold, withRestore};
+ghost use Rattle.recording.specs.Pairs.{awaiting, countPut, fieldIn, firstPairs, holdFrom, holdNamed, holdRead, kindNamed, kindRead, kindTo, named, pairsFrom, plainSettings, restoreFrom, restoreNamed, restoreRead, settingsTo, withHold, withRestore};
 
 // A group's settings. hold_off, restore: the number of each port.
 pub struct Settings {
@@ -170,11 +171,31 @@ fn read_name(pairs: Pairs, text: &[u8], at: usize, limit: usize) -> Pairs
     awaits(pairs, Awaited::Nothing)
 }
 
+fn kind_to(pairs: Pairs, kind: u8) -> Pairs
+    ensures { λ r. ⌜ r ≡ kindTo pairs kind ⌝ }
+{
+    let before = pairs.settings;
+    let hold_off = before.hold_off;
+    let restore = before.restore;
+    let settings = Settings {
+        hold_off,
+        restore,
+        kind,
+        ports: before.ports,
+        size: before.size,
+        window: before.window,
+    };
+    with_settings(pairs, settings, Awaited::Name)
+}
+
 fn read_kind(pairs: Pairs, text: &[u8], at: usize, limit: usize) -> Pairs
     ensures { λ r. ⌜ r ≡ kindRead pairs (slice at limit (now (text .entry))) ⌝ }
 {
     if text::same(text, at, limit, b"H4") {
-        return awaits(pairs, Awaited::Name);
+        return kind_to(pairs, kinds::H4);
+    }
+    if text::same(text, at, limit, b"FIXED") {
+        return kind_to(pairs, kinds::FIXED);
     }
     awaits(pairs, Awaited::Nothing)
 }
