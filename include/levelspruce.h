@@ -66,10 +66,10 @@ extern "C" {
 #define LEVELSPRUCE_ANSWER_SLOT 1       /* the slot or port is not below the group's count, or the card has no such group */
 #define LEVELSPRUCE_ANSWER_STATE 2      /* not allowed now: by the slot's state, no wait open, no epoch started, or changes that do not fit */
 #define LEVELSPRUCE_ANSWER_WAIT 3       /* add or remove while a wait is open */
-#define LEVELSPRUCE_ANSWER_RANGE 4      /* a count, P, W, X or delay is out of range */
+#define LEVELSPRUCE_ANSWER_RANGE 4      /* a count, P, W, X, delay, time or kind is out of range */
 #define LEVELSPRUCE_ANSWER_CRC 5        /* the packet's CRC differs */
-#define LEVELSPRUCE_ANSWER_UNASSIGNED 6 /* CRC right, control word unassigned */
-#define LEVELSPRUCE_ANSWER_FIXED 7      /* CRC right, control word FIXED; not of a fixed group */
+#define LEVELSPRUCE_ANSWER_UNASSIGNED 6 /* CRC right, control word unassigned; of a fixed group any word but FIXED */
+#define LEVELSPRUCE_ANSWER_FIXED 7      /* CRC right, control word FIXED: the far end has no LCAS; never given for a fixed group */
 #define LEVELSPRUCE_ANSWER_FIELD 8      /* a field is too large, or its word is FIXED or unassigned */
 #define LEVELSPRUCE_ANSWER_LENGTH 9     /* a buffer has the wrong length */
 #define LEVELSPRUCE_ANSWER_FAILED 10    /* the frame came flagged as failed */
@@ -79,7 +79,7 @@ extern "C" {
 #define LEVELSPRUCE_ANSWER_USED 15      /* a slot to be released is not IDLE */
 
 /* Control words. All other numbers are unassigned. */
-#define LEVELSPRUCE_WORD_FIXED 0 /* the group has no LCAS: by the _fixed calls alone */
+#define LEVELSPRUCE_WORD_FIXED 0 /* the group has no LCAS: written and read by the calls of fixed groups alone */
 #define LEVELSPRUCE_WORD_ADD 1
 #define LEVELSPRUCE_WORD_NORM 2
 #define LEVELSPRUCE_WORD_EOS 3
@@ -238,17 +238,17 @@ uint8_t levelspruce_packet_read(const uint8_t *h4, size_t h4_length,
 
 /*
  * Writes one packet of a fixed group (virtual concatenation without LCAS): the
- * epoch and the number in their places, the word FIXED, all other nibbles zero.
+ * epoch and the number in their places, the word FIXED, which is 0, and all
+ * other nibbles 0.
  *
- *   epoch    0 to 255
- *   sq       0 to 255
- *   h4       LEVELSPRUCE_PACKET_BYTES bytes, in the order of sending
+ *   epoch, sq   0 to 255
+ *   h4          LEVELSPRUCE_PACKET_BYTES bytes, in the order of sending
  *
  * Answers, the first that fits:
  *   9  h4_length is not 16
  *   8  epoch or sq is above 255
- *   0  all sixteen bytes are written; levelspruce_packet_read_fixed gives the
- *      same epoch and sq back
+ *   0  all sixteen bytes are written; levelspruce_packet_read_fixed gives epoch
+ *      and sq back
  */
 LEVELSPRUCE_MUST_USE
 uint8_t levelspruce_packet_write_fixed(uint32_t epoch, uint32_t sq,
@@ -256,12 +256,13 @@ uint8_t levelspruce_packet_write_fixed(uint32_t epoch, uint32_t sq,
 
 /*
  * Reads one packet of a fixed group. Nothing but epoch, sq and the word is
- * looked at, and no CRC is checked: a damaged packet can read well.
+ * looked at, and no CRC is checked: a damaged packet can read well. So what is
+ * answered 0 need not be what levelspruce_packet_write_fixed writes of it.
  *
  *   h4       LEVELSPRUCE_PACKET_BYTES bytes, from the frame with MFI1 8 on;
  *            only their high nibbles are looked at
- *   fields   LEVELSPRUCE_FIELDS_BYTES bytes for the result, as
- *            levelspruce_packet_read has it; all but epoch and sq are 0
+ *   fields   LEVELSPRUCE_FIELDS_BYTES bytes for the result, each at its
+ *            LEVELSPRUCE_FIELD_ place; all but epoch and sq are 0
  *
  * Answers, the first that fits:
  *   9  h4_length is not 16, or fields_length is not 10
@@ -898,7 +899,7 @@ uint8_t levelspruce_board_speak(const uint8_t *changes, size_t changes_length,
 /* The marks of a report. */
 #define LEVELSPRUCE_MARK_NONE 0     /* none is due */
 #define LEVELSPRUCE_MARK_HELD 1     /* held back whole: no bytes */
-#define LEVELSPRUCE_MARK_DOUBTFUL 2 /* bytes, but some port has no whole ruling packet, or the numbers are not 0 to n - 1 */
+#define LEVELSPRUCE_MARK_DOUBTFUL 2 /* bytes, but some port has no whole ruling packet, or the numbers are not 0 to n - 1; never of a fixed group */
 #define LEVELSPRUCE_MARK_SURE 3     /* the client's bytes */
 
 /* The bytes of a report's record. COUNT is the first of four, highest first:
@@ -922,7 +923,7 @@ uint8_t levelspruce_board_speak(const uint8_t *changes, size_t changes_length,
 #define LEVELSPRUCE_PORT_JOINED 3   /* 1 while joined */
 #define LEVELSPRUCE_PORT_READABLE 4 /* 1 while readable */
 #define LEVELSPRUCE_PORT_FAILED 5   /* 1 where the latest frame came flagged */
-#define LEVELSPRUCE_PORT_WORD 6     /* of the last good packet; 255 where there was none */
+#define LEVELSPRUCE_PORT_WORD 6     /* of the last good packet, 0 (FIXED) in a fixed group; 255 where there was none */
 #define LEVELSPRUCE_PORT_WAITING 7  /* which timer runs, never both */
 
 /* Which timer of a port runs. */
@@ -930,10 +931,10 @@ uint8_t levelspruce_board_speak(const uint8_t *changes, size_t changes_length,
 #define LEVELSPRUCE_WAITING_HOLD_OFF 1 /* OK without its claim; FAIL when the hold-off is over */
 #define LEVELSPRUCE_WAITING_RESTORE 2  /* FAIL with its claim; OK when the wait-to-restore is over */
 
-/* The kinds of packets of a group, and the greatest count of a timer, in
- * epochs. */
+/* The kinds of packets of a group: with LCAS, and without it (a fixed group);
+ * and the greatest count of a timer, in epochs. */
 #define LEVELSPRUCE_KIND_H4 0
-#define LEVELSPRUCE_KIND_FIXED 2 /* a group without LCAS */
+#define LEVELSPRUCE_KIND_FIXED 2
 #define LEVELSPRUCE_TIMER_MOST 5000
 
 /* The bytes of a reply. */
@@ -976,6 +977,17 @@ uint8_t levelspruce_receiver_start(uint32_t ports, uint32_t payload,
  * make a healthy port FAIL that is renumbered into it and has no hold-off.
  * To change the times, start anew.
  *
+ * A receiver of LEVELSPRUCE_KIND_FIXED is for a far end without LCAS, whose
+ * packets levelspruce_packet_read_fixed reads. All ports carry payload, always:
+ * a report is sure where every port has a whole packet of the epoch before that
+ * was read well and has that epoch's number, has brought its frames, and the
+ * ports' numbers are 0 to ports - 1, each once. Else it is held, so one port
+ * that is dark holds all reports. None is doubtful. Nothing detects a damaged
+ * number but that it does not fit the others. There is no reply:
+ * levelspruce_receiver_reply gives 0 and 0. Frames, windows and member states
+ * are as with LCAS, but that two packets in a row with another MFI2 than the
+ * receiver's count lose step whatever their CRC.
+ *
  *   kind          LEVELSPRUCE_KIND_H4 or LEVELSPRUCE_KIND_FIXED
  *   ports, payload, window, store_bytes, state
  *                 as for levelspruce_receiver_start
@@ -984,7 +996,7 @@ uint8_t levelspruce_receiver_start(uint32_t ports, uint32_t payload,
  *   restore       the same for wait-to-restore
  *
  * Answers, the first that fits:
- *   4  kind is not named, ports, payload or window is out of range, or a count
+ *   4  kind is neither, ports, payload or window is out of range, or a count
  *      is above LEVELSPRUCE_TIMER_MOST, wherever in its list; the first row of
  *      state, if it has one, is written with an empty group
  *   9  state_length or store_bytes is wrong, or a list is neither empty nor as
@@ -1020,10 +1032,10 @@ uint8_t levelspruce_receiver_start_as(uint32_t kind, uint32_t ports, uint32_t pa
  *  12  the port is not in step after this frame: its count of frames goes on
  *      or starts anew. A port in step counts by itself and takes up to three
  *      frames in a row that break the count of MFI1 and MFI2; the fourth is 12,
- *      and so is the end of a second packet in a row with a right CRC and
- *      another MFI2 than that count's. Hand one flagged frame at every known
- *      switch of a path: until step is lost, frames of the new path are taken
- *      under the tags of the old one
+ *      and so is the end of a second packet in a row with a right CRC (of a
+ *      fixed group with any) and another MFI2 than that count's. Hand one
+ *      flagged frame at every known switch of a path: until step is lost, frames
+ *      of the new path are taken under the tags of the old one
  *  11  the frame is in step, but lies outside the window, and the port has
  *      joined: nothing changes; hand the same frame again after a report
  *   0  taken: its payload and H4 are stored, or dropped where the port has not
@@ -1091,7 +1103,8 @@ uint8_t levelspruce_receiver_ports(const uint8_t (*state)[LEVELSPRUCE_ROW_BYTES]
  * Reads the reply to send back with the packets of an epoch: MST for the
  * numbers 8 * (epoch % 32) to that plus 7, the lowest number in the highest
  * bit, 0 for OK and 1 for FAIL; and RS-Ack, 0 or 1. Both are as the last report
- * left them.
+ * left them. Of a fixed group both are 0 in every epoch, which is what an end
+ * without LCAS sends back.
  *
  *   epoch   the epoch of the packets that will carry it
  *   reply   LEVELSPRUCE_REPLY_BYTES bytes, by the LEVELSPRUCE_REPLY_ places

@@ -43,7 +43,8 @@ static int write_at_edges(uint8_t *open)
             uint8_t expected = h4_lengths[i] == LEVELSPRUCE_PACKET_BYTES ? LEVELSPRUCE_ANSWER_DONE : LEVELSPRUCE_ANSWER_LENGTH;
 
             held = held && levelspruce_packet_write(0, LEVELSPRUCE_WORD_IDLE, 0, 255, 0, 255, 0,
-                                                    buffer_in(open, h4_lengths[i], at_end), h4_lengths[i]) == expected;
+                                                    buffer_in(open, h4_lengths[i], at_end), h4_lengths[i]) == expected
+                && levelspruce_packet_write_fixed(58, 5, buffer_in(open, h4_lengths[i], at_end), h4_lengths[i]) == expected;
         }
     return held;
 }
@@ -62,6 +63,13 @@ static int read_at_edges(uint8_t *open_h4, uint8_t *open_fields)
 
                 memcpy(h4, p1_h4, h4_lengths[i] < sizeof p1_h4 ? h4_lengths[i] : sizeof p1_h4);
                 held = held && levelspruce_packet_read(h4, h4_lengths[i], fields, fields_lengths[j])
+                    == (right ? LEVELSPRUCE_ANSWER_DONE : LEVELSPRUCE_ANSWER_LENGTH);
+                /* P1 has another word than FIXED; without that it is a fixed group's packet */
+                held = held && levelspruce_packet_read_fixed(h4, h4_lengths[i], fields, fields_lengths[j])
+                    == (right ? LEVELSPRUCE_ANSWER_UNASSIGNED : LEVELSPRUCE_ANSWER_LENGTH);
+                if (h4_lengths[i] > 10)
+                    h4[10] = 0;
+                held = held && levelspruce_packet_read_fixed(h4, h4_lengths[i], fields, fields_lengths[j])
                     == (right ? LEVELSPRUCE_ANSWER_DONE : LEVELSPRUCE_ANSWER_LENGTH);
             }
     return held;

@@ -17,6 +17,9 @@ int main()
     check("a C++ program reads a packet",
           levelspruce_packet_read(h4, sizeof h4, fields, sizeof fields) == LEVELSPRUCE_ANSWER_DONE
               && fields[LEVELSPRUCE_FIELD_SQ] == 255);
+    check("a C++ program writes and reads a packet of a fixed group",
+          levelspruce_packet_write_fixed(58, 5, h4, sizeof h4) == LEVELSPRUCE_ANSWER_DONE && h4[7] == 0x5F
+              && levelspruce_packet_read_fixed(h4, sizeof h4, fields, sizeof fields) == LEVELSPRUCE_ANSWER_DONE && fields[LEVELSPRUCE_FIELD_SQ] == 5);
     uint8_t receiver[LEVELSPRUCE_RECEIVER_ROWS(1)][LEVELSPRUCE_ROW_BYTES];
     uint8_t ports[1][LEVELSPRUCE_PORT_BYTES];
     check("a C++ program starts a receiver and sees its port",
@@ -29,6 +32,9 @@ int main()
                                         LEVELSPRUCE_RECEIVER_ROWS(1)) == LEVELSPRUCE_ANSWER_DONE
               && levelspruce_receiver_ports(receiver, LEVELSPRUCE_RECEIVER_ROWS(1), ports, 1) == LEVELSPRUCE_ANSWER_DONE
               && ports[0][LEVELSPRUCE_PORT_WAITING] == 0);
+    check("a C++ program starts a receiver of a fixed group",
+          levelspruce_receiver_start_as(LEVELSPRUCE_KIND_FIXED, 1, 2, 16, LEVELSPRUCE_STORE_BYTES(1, 2, 16), nullptr, 0, nullptr, 0, receiver,
+                                        LEVELSPRUCE_RECEIVER_ROWS(1)) == LEVELSPRUCE_ANSWER_DONE);
     char version[32];
     std::snprintf(version, sizeof version, "%d.%d.%d", LEVELSPRUCE_VERSION_MAJOR, LEVELSPRUCE_VERSION_MINOR, LEVELSPRUCE_VERSION_PATCH);
     check("the version's text has its numbers, and the library has it", std::strcmp(version, LEVELSPRUCE_VERSION) == 0

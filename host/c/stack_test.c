@@ -28,6 +28,8 @@ static void packets(void)
 {
     answers |= levelspruce_packet_write(7, LEVELSPRUCE_WORD_NORM, 1, 0x5A, 1, 9, 0x155AA55, h4, sizeof h4);
     answers |= levelspruce_packet_read(h4, sizeof h4, fields, sizeof fields);
+    answers |= levelspruce_packet_write_fixed(58, 5, h4, sizeof h4);
+    answers |= levelspruce_packet_read_fixed(h4, sizeof h4, fields, sizeof fields);
 }
 
 static void payloads(void)
@@ -94,20 +96,28 @@ static void sharing(void)
     answers |= numbers[0] | numbers[1] | numbers[2] | numbers[3];
 }
 
+static void write_packet(uint32_t kind, uint32_t epoch, uint32_t port)
+{
+    if (kind == LEVELSPRUCE_KIND_FIXED)
+        answers |= levelspruce_packet_write_fixed(epoch, port, h4, sizeof h4);
+    else
+        answers |= levelspruce_packet_write(epoch, port + 1 < PORTS ? LEVELSPRUCE_WORD_NORM : LEVELSPRUCE_WORD_EOS, 0, 0, 0, port, 0, h4, sizeof h4);
+}
+
 /* 64 ports that come into step, carry bytes and are reported, one that fails and is held off, and what is read of them. */
-static void receiving(void)
+static void receiving_as(uint32_t kind)
 {
     static uint32_t times[PORTS];
     uint32_t port, n;
 
     for (port = 0; port < PORTS; port++)
         times[port] = LEVELSPRUCE_TIMER_MOST;
-    answers |= levelspruce_receiver_start_as(LEVELSPRUCE_KIND_H4, PORTS, P, W, sizeof store, times, PORTS, times, PORTS, receiver, LEVELSPRUCE_RECEIVER_ROWS(PORTS));
+    answers |= levelspruce_receiver_start_as(kind, PORTS, P, W, sizeof store, times, PORTS, times, PORTS, receiver, LEVELSPRUCE_RECEIVER_ROWS(PORTS));
     for (n = 0; n < 10 * LEVELSPRUCE_EPOCH_FRAMES; n++)
         for (port = 0; port < PORTS; port++) {
             uint8_t answer;
 
-            answers |= levelspruce_packet_write(n / LEVELSPRUCE_EPOCH_FRAMES, port + 1 < PORTS ? LEVELSPRUCE_WORD_NORM : LEVELSPRUCE_WORD_EOS, 0, 0, 0, port, 0, h4, sizeof h4);
+            write_packet(kind, n / LEVELSPRUCE_EPOCH_FRAMES, port);
             answer = levelspruce_receiver_frame(receiver, LEVELSPRUCE_RECEIVER_ROWS(PORTS), port, n > 150 && port == 1, h4[n % LEVELSPRUCE_EPOCH_FRAMES],
                                                 member, P, store, sizeof store);
             if (answer != LEVELSPRUCE_ANSWER_STEP && answer != LEVELSPRUCE_ANSWER_FAILED)
@@ -117,6 +127,16 @@ static void receiving(void)
         }
     answers |= levelspruce_receiver_ports((const uint8_t(*)[LEVELSPRUCE_ROW_BYTES])receiver, LEVELSPRUCE_RECEIVER_ROWS(PORTS), ports, PORTS);
     answers |= levelspruce_receiver_reply((const uint8_t(*)[LEVELSPRUCE_ROW_BYTES])receiver, LEVELSPRUCE_RECEIVER_ROWS(PORTS), 0, reply, sizeof reply);
+}
+
+static void receiving(void)
+{
+    receiving_as(LEVELSPRUCE_KIND_H4);
+}
+
+static void receiving_fixed(void)
+{
+    receiving_as(LEVELSPRUCE_KIND_FIXED);
 }
 
 /* 64 slots that all change, told and applied. */
@@ -183,7 +203,8 @@ int main(void)
     static const struct {
         const char *name;
         void (*calls)(void);
-    } groups[] = { { "packets", packets }, { "payload", payloads }, { "sender", sending }, { "card", sharing }, { "receiver", receiving }, { "paths", planning }, { "spoken board", telling } };
+    } groups[] = { { "packets", packets }, { "payload", payloads }, { "sender", sending }, { "card", sharing }, { "receiver", receiving },
+                 { "receiver of a fixed group", receiving_fixed }, { "paths", planning }, { "spoken board", telling } };
     size_t own, i, most = 0;
 
     stack_of(nothing); /* what is done once */
@@ -195,7 +216,7 @@ int main(void)
         if (used > most)
             most = used;
     }
-    check("every call was done, and epochs of 64 members were reported", answers == 0 && reported > 3);
+    check("every call was done, and epochs of 64 members were reported", answers == 0 && reported > 6);
     check("no call takes more than 5,120 bytes of stack", most > 0 && most <= MOST);
     return tally();
 }

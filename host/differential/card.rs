@@ -8,6 +8,8 @@ extern "C" {
         epoch: u32, word: u32, gid: u32, mst: u32, rs_ack: u32, sq: u32, reserved: u32, h4: *mut u8, h4_length: usize,
     ) -> u8;
     fn levelspruce_packet_read(h4: *const u8, h4_length: usize, fields: *mut u8, fields_length: usize) -> u8;
+    fn levelspruce_packet_write_fixed(epoch: u32, sq: u32, h4: *mut u8, h4_length: usize) -> u8;
+    fn levelspruce_packet_read_fixed(h4: *const u8, h4_length: usize, fields: *mut u8, fields_length: usize) -> u8;
     fn levelspruce_spread(
         x: u32, p: u32, frame: *const u8, frame_length: usize, members: *mut u8, members_length: usize,
     ) -> u8;
@@ -87,6 +89,14 @@ pub fn packet_write(f: &Fields, h4: &mut [u8]) -> u8 {
 
 pub fn packet_read(h4: &[u8], fields: &mut [u8]) -> u8 {
     unsafe { levelspruce_packet_read(h4.as_ptr(), h4.len(), fields.as_mut_ptr(), fields.len()) }
+}
+
+pub fn packet_write_fixed(epoch: u32, sq: u32, h4: &mut [u8]) -> u8 {
+    unsafe { levelspruce_packet_write_fixed(epoch, sq, h4.as_mut_ptr(), h4.len()) }
+}
+
+pub fn packet_read_fixed(h4: &[u8], fields: &mut [u8]) -> u8 {
+    unsafe { levelspruce_packet_read_fixed(h4.as_ptr(), h4.len(), fields.as_mut_ptr(), fields.len()) }
 }
 
 pub fn spread(x: u32, p: u32, frame: &[u8], members: &mut [u8]) -> u8 {

@@ -28,6 +28,8 @@ pub fn compare(count: &mut Count) {
     reading_wrong_lengths(count);
     relaying_anything(count);
     relaying_each_bit(count);
+    writing_fixed(count);
+    reading_fixed(count);
 }
 
 // ---- one case
@@ -230,6 +232,53 @@ fn reading_wrong_lengths(count: &mut Count) {
         read_case(&mut test, &mut random, &area, h4_length, fields_length);
     }
     test.end(count, &[packet::DONE, packet::CRC_DIFFERS, packet::LENGTH_WRONG]);
+}
+
+// ---- packets of a fixed group
+
+fn writing_fixed(count: &mut Count) {
+    let mut random = Random::new(40);
+    let mut writing = Test::new("packets of fixed groups, with any epoch, SQ and length, written as by the reference");
+    let mut back = Test::new("those that the card wrote read back as given");
+    for _ in 0..1_000_000 {
+        let mut number = || if random.below(4) == 0 { any_number(&mut random) } else { random.below(256) as u32 };
+        let (epoch, sq) = (number(), number());
+        let length = any_length(&mut random, PACKET_BYTES);
+        let mut by_reference = any_area(&mut random);
+        let mut by_card = by_reference;
+        let answer = packet::write_fixed(epoch, sq, lent_mut(&mut by_reference, length));
+        let card_answer = card::packet_write_fixed(epoch, sq, lent_mut(&mut by_card, length));
+        writing.case(answer, &(answer, by_reference), &(card_answer, by_card), &(epoch, sq, length));
+        if card_answer == packet::DONE {
+            let mut fields = [0xA5; FIELDS_BYTES];
+            let answer = card::packet_read_fixed(lent(&by_card, length), &mut fields);
+            back.case(answer, &[epoch as u8, 0, 0, 0, 0, sq as u8, 0, 0, 0, 0], &fields, &(epoch, sq));
+        }
+    }
+    writing.end(count, &[packet::DONE, packet::FIELD_REFUSED, packet::LENGTH_WRONG]);
+    back.end(count, &[packet::DONE]);
+}
+
+/// Any bytes, packets of either kind and with bits changed, under any lengths.
+fn reading_fixed(count: &mut Count) {
+    let mut random = Random::new(41);
+    let mut test = Test::new("packets of fixed groups, damaged or any bytes, read as by the reference");
+    for case in 0..2_000_000 {
+        let mut area = if case % 4 == 0 { written_area(&mut random) } else { any_area(&mut random) };
+        if case % 4 > 1 {
+            packet::write_fixed(random.below(256) as u32, random.below(256) as u32, lent_mut(&mut area, PACKET_BYTES));
+            for _ in 0..random.below(6) {
+                lent_mut(&mut area, PACKET_BYTES)[random.below(16) as usize] ^= 1 << random.below(8);
+            }
+        }
+        let (h4_length, fields_length) = (any_length(&mut random, PACKET_BYTES), any_length(&mut random, FIELDS_BYTES));
+        let mut by_reference = any_area(&mut random);
+        let mut by_card = by_reference;
+        let answer = packet::read_fixed(lent(&area, h4_length), lent_mut(&mut by_reference, fields_length));
+        let card_answer = card::packet_read_fixed(lent(&area, h4_length), lent_mut(&mut by_card, fields_length));
+        test.case(answer, &(answer, by_reference), &(card_answer, by_card), &(area, h4_length, fields_length));
+    }
+    test.end(count, &[packet::DONE, packet::WORD_UNASSIGNED, packet::LENGTH_WRONG]);
 }
 
 // ---- a relay, for which no reference is needed: what it read and what it writes on are the same bits

@@ -1,6 +1,7 @@
 //! The archive's receiver against the reference on long made-up histories. After each call the answers, all rows of the
 //! state, the store, the output, the record, the ports and the reply are compared. On states that calls returned the
-//! reference is the plain form; where state bytes are damaged between calls it is the one on rows.
+//! reference is the plain form; where state bytes are damaged between calls it is the one on rows. All of it for groups with LCAS
+//! and for those that are FIXED.
 
 mod damage;
 mod host;
@@ -12,7 +13,7 @@ use crate::path::Frame;
 use crate::random::Random;
 use host::Host;
 use reference::receiver::rows::{self, rows_for, Row, ROWS_A_PORT};
-use reference::receiver::{Receiver, Report, Shown, KIND_H4, STATE_FAIL, STATE_OK, STEP_FRAMES};
+use reference::receiver::{Receiver, Report, Shown, DOUBTFUL, HELD, KIND_FIXED, KIND_H4, STATE_FAIL, STATE_OK, STEP_FRAMES, SURE};
 
 enum Reference {
     Plain(Receiver),
@@ -113,13 +114,13 @@ fn first_difference<T: PartialEq>(a: &[T], b: &[T]) -> usize {
 }
 
 impl Both {
-    fn start(random: &mut Random, ports: usize, payload: usize, window: usize, damaged: bool) -> Both {
+    fn start(random: &mut Random, kind: u32, ports: usize, payload: usize, window: usize, damaged: bool) -> Both {
         let length = ports * window * (payload + 1);
         let (n, p, w) = (ports as u32, payload as u32, window as u32);
         let (hold_off, restore) = (times(random, ports), times(random, ports));
-        let start = Start { kind: KIND_H4, ports: n, payload: p, window: w, store_bytes: length, hold_off: &hold_off, restore: &restore };
+        let start = Start { kind, ports: n, payload: p, window: w, store_bytes: length, hold_off: &hold_off, restore: &restore };
         let mut plain = Receiver::empty();
-        assert_eq!(plain.start_as(KIND_H4, n, p, w, length, &hold_off, &restore), 0);
+        assert_eq!(plain.start_as(kind, n, p, w, length, &hold_off, &restore), 0);
         let mut by_rows = vec![[0xEE; 16]; rows_for(ports)];
         let mut by_card = by_rows.clone();
         assert_eq!((start_rows(&start, &mut by_rows), card::receiver_start_as(&start, &mut by_card)), (0, 0));
@@ -264,13 +265,13 @@ struct Tests {
     fetches: Test,
 }
 
-fn history(tests: &mut Tests, random: &mut Random, seen: &mut Seen, damaged: bool, calls: u64) {
+fn history(tests: &mut Tests, random: &mut Random, seen: &mut Seen, kind: u32, damaged: bool, calls: u64) {
     let window = random.one_of(&[16, 16, 17, 31, 32, 64, 64, 160, 2048]);
     let wide = window == 2048;
     let ports = if wide { random.one_of(&[1, 2]) } else { random.one_of(&[1, 2, 2, 3, 4, 5, 9, 64]) };
     let payload = if ports < 5 && random.below(12) == 0 { 756 } else { 1 + random.below(5) as usize };
-    let mut both = Both::start(random, ports, payload, window, damaged);
-    let mut host = Host::new(random, ports, window);
+    let mut both = Both::start(random, kind, ports, payload, window, damaged);
+    let mut host = Host::new(random, kind, ports, window);
     // one frame time in so many is followed by fetches, and one frame answered 11 in so many
     let (fetches, full_fetches) = (random.one_of(&[1, 4, 20, 1000]), random.one_of(&[2, 3, 60]));
     // one frame in so many finds state bytes damaged before it, and one goes on from what the state says
@@ -323,7 +324,7 @@ pub fn compare(count: &mut Count, hosts: u64) {
     let mut random = Random::new(10);
     let mut tests = Tests { frames: Test::new("frames of made-up hosts"), fetches: Test::new("fetches beside them") };
     for _ in 0..hosts {
-        history(&mut tests, &mut random, &mut seen, false, 1500);
+        history(&mut tests, &mut random, &mut seen, KIND_H4, false, 1500);
     }
     println!("seen\t{:?}", seen);
     tests.frames.end(count, &[0, 9, 10, 11, 12]);
@@ -336,7 +337,7 @@ pub fn compare(count: &mut Count, hosts: u64) {
     let mut seen = Seen::default();
     let mut tests = Tests { frames: Test::new("frames on states that no call wrote"), fetches: Test::new("fetches from such states") };
     for _ in 0..hosts {
-        history(&mut tests, &mut random, &mut seen, true, 1500);
+        history(&mut tests, &mut random, &mut seen, KIND_H4, true, 1500);
     }
     println!("seen\t{:?}", seen);
     tests.frames.end(count, &[0, 9, 10, 11, 12]);
@@ -345,6 +346,36 @@ pub fn compare(count: &mut Count, hosts: u64) {
 
     states::compare(count, &mut random);
     starts(count, &mut random);
+    fixed(count, hosts);
+}
+
+/// The same of FIXED groups, of which no report is doubtful, and whose RS-Ack never turns.
+fn fixed(count: &mut Count, hosts: u64) {
+    let mut seen = Seen::default();
+    let mut random = Random::new(42);
+    let mut tests = Tests { frames: Test::new("frames of made-up hosts of fixed groups"), fetches: Test::new("fetches beside these") };
+    for _ in 0..hosts {
+        history(&mut tests, &mut random, &mut seen, KIND_FIXED, false, 1500);
+    }
+    println!("seen\t{:?}", seen);
+    tests.frames.end(count, &[0, 9, 10, 11, 12]);
+    tests.fetches.end(count, &[0]);
+    let events = [seen.begins, seen.stops, seen.joins_later, seen.second_odd_packets, seen.fourth_breaks].iter().all(|times| *times > 100);
+    let waits = [seen.held_off, seen.restoring, seen.fell, seen.restored].iter().all(|times| *times > 20);
+    let marks = [HELD, SURE].iter().all(|mark| seen.marks[usize::from(*mark)] > 1000);
+    count.note("all that can happen to a fixed group happens there", events && waits && marks);
+    count.note("no report of it is doubtful, and RS-Ack never turns", seen.marks[usize::from(DOUBTFUL)] == 0 && seen.turns == 0);
+
+    let mut seen = Seen::default();
+    let mut tests = Tests { frames: Test::new("frames on states of fixed groups that no call wrote"), fetches: Test::new("fetches from these") };
+    for _ in 0..hosts {
+        history(&mut tests, &mut random, &mut seen, KIND_FIXED, true, 1500);
+    }
+    println!("seen\t{:?}", seen);
+    tests.frames.end(count, &[0, 9, 10, 11, 12]);
+    tests.fetches.end(count, &[0]);
+    let marks = [HELD, SURE].iter().all(|mark| seen.marks[usize::from(*mark)] > 200);
+    count.note("held and sure reports come from such states", marks && seen.damages > 1000);
 }
 
 /// Starts with any numbers and lengths.
@@ -385,7 +416,7 @@ fn starts(count: &mut Count, random: &mut Random) {
             list
         };
         let (hold_off, restore) = (list(random), list(random));
-        let kind = random.one_of(&[0, 0, 0, 0, 0, 0, 0, 0, 0, 0, 1, 256, u32::MAX]);
+        let kind = random.one_of(&[0, 0, 0, 0, 0, 0, 2, 2, 2, 2, 1, 3, 256, 258, u32::MAX]);
         let store_bytes = ports as usize * window as usize * (payload as usize + 1) + random.below(16) as usize / 15;
         let right = rows_for(ports as usize);
         let mut by_reference = vec![[random.next() as u8; 16]; random.one_of(&[right, right, right, right, right, right, right + 1, right - 1, 0])];

@@ -1,4 +1,4 @@
-/* Any calls of the receiver, by libFuzzer. */
+/* Any calls of the receiver, of either kind, and of a fixed group's packets, by libFuzzer. */
 #define _DEFAULT_SOURCE /* for mmap's MAP_ANONYMOUS */
 #include <levelspruce.h>
 
@@ -9,7 +9,8 @@ __attribute__((section("__libfuzzer_extra_counters"))) static uint8_t counters[4
 
 /* All that is lent, for the group of the latest start. */
 struct lent {
-    uint32_t ports, payload, window;
+    uint32_t kind, ports, payload, window;
+    int damaged; /* whether bytes of the state were changed between calls */
     struct kept state, store;
     uint32_t tag[LEVELSPRUCE_PORTS_MOST];
 };
@@ -57,12 +58,22 @@ static int times_of(struct program *g, uint32_t ports, struct kept *times)
     return too_large;
 }
 
+/* H4 or FIXED, and seldom none that there is. */
+static uint32_t kind_of(struct program *g)
+{
+    uint32_t byte = byte_of(g);
+
+    if (byte < 240)
+        return byte < 128 ? LEVELSPRUCE_KIND_H4 : LEVELSPRUCE_KIND_FIXED;
+    return byte < 248 ? 1 : byte;
+}
+
 static void start(struct lent *l, struct program *g, int with_times)
 {
-    uint32_t ports = number_of(g), payload = number_of(g), window = number_of(g), kind = with_times ? byte_of(g) / 240 : 0;
+    uint32_t ports = number_of(g), payload = number_of(g), window = number_of(g), kind = with_times ? kind_of(g) : LEVELSPRUCE_KIND_H4;
     struct kept hold_off = { NULL, 0 }, restore = { NULL, 0 };
     int long_hold_off = with_times && times_of(g, ports, &hold_off), long_restore = with_times && times_of(g, ports, &restore);
-    int fits = !long_hold_off && !long_restore && kind == LEVELSPRUCE_KIND_H4 && ports >= 1 && ports <= 64 && payload >= 1 && payload <= 2340
+    int fits = !long_hold_off && !long_restore && (kind == LEVELSPRUCE_KIND_H4 || kind == LEVELSPRUCE_KIND_FIXED) && ports >= 1 && ports <= 64 && payload >= 1 && payload <= 2340
         && window >= 16 && window <= 2048;
     /* small enough for many calls a second */
     int small = fits && ports <= 8 && payload <= 40 && window <= 80;
@@ -101,6 +112,8 @@ static void start(struct lent *l, struct program *g, int with_times)
     l->state = fresh;
     l->store = keep(store);
     fill(l->store.bytes, store, byte_of(g));
+    l->kind = kind;
+    l->damaged = 0;
     l->ports = ports;
     l->payload = payload;
     l->window = window;
@@ -144,7 +157,12 @@ static void frames(struct lent *l, struct program *g)
         for (port = 0; port < l->ports; port++) {
             uint32_t tag = l->tag[port], epoch = (tag + 8) % 4096 / 16, last = port + 1 == l->ports;
 
-            if (levelspruce_packet_write(epoch, word < 200 ? words[last] : words[word % 5], 0, 0, 0, port,
+            /* a packet of the group's kind, and of the other one now and then */
+            if ((l->kind == LEVELSPRUCE_KIND_FIXED) != (word >= 250)) {
+                if (levelspruce_packet_write_fixed(epoch, word < 220 ? l->ports - 1 - port : word, h4, sizeof h4) != LEVELSPRUCE_ANSWER_DONE)
+                    fail("a fixed group's packet was refused");
+                h4[0] ^= (uint8_t)(word << 4);
+            } else if (levelspruce_packet_write(epoch, word < 200 ? words[last] : words[word % 5], 0, 0, 0, port,
                                          (epoch * 40503 + word) % (LEVELSPRUCE_RESERVED_MOST + 1), h4, sizeof h4) != LEVELSPRUCE_ANSWER_DONE)
                 fail("a packet was refused");
             frame(l, &right, port, 0, h4[(tag + 8) % 16]);
@@ -167,6 +185,9 @@ static void fetch(struct lent *l, struct program *g)
     bytes = answer == 0 ? (size_t)report.bytes[4] << 24 | (size_t)report.bytes[5] << 16 | (size_t)report.bytes[6] << 8 | report.bytes[7] : 0;
     if (mark > LEVELSPRUCE_MARK_SURE || bytes > out.length || (mark < LEVELSPRUCE_MARK_DOUBTFUL && bytes != 0))
         fail("a report that cannot be");
+    if (l->kind == LEVELSPRUCE_KIND_FIXED && !l->damaged && (mark == LEVELSPRUCE_MARK_DOUBTFUL
+        || (mark == LEVELSPRUCE_MARK_SURE && report.bytes[LEVELSPRUCE_REPORT_X] != l->ports)))
+        fail("a fixed group's report is doubtful, or not of all ports");
     stands(store, 0, "a fetch changed the store");
     stands(out, bytes, "a fetch changed output beyond its bytes");
     stands(report, answer == 0 ? report.length : 0, "a refused fetch changed the record");
@@ -191,6 +212,9 @@ static void read_out(struct lent *l, struct program *g)
     if (answer != 0 && answer != 9)
         fail("an answer that a reply does not have");
     stands(result, answer == 0 ? result.length : 0, "a refused reply was written");
+    if (answer == 0 && state.length == l->state.length && l->kind == LEVELSPRUCE_KIND_FIXED && !l->damaged
+        && (result.bytes[0] != 0 || result.bytes[1] != 0))
+        fail("a fixed group has a reply");
     stands(state, 0, "reading out changed the state");
 }
 
@@ -199,14 +223,42 @@ static void damage(struct lent *l, struct program *g)
 {
     uint32_t at = number_of(g), i, n = byte_of(g) % 16;
 
+    l->damaged = 1;
     for (i = 0; i <= n && l->state.length; i++)
         l->state.bytes[(at + i) % l->state.length] = (uint8_t)byte_of(g);
+}
+
+/* A fixed group's packet written, and any bytes read as one. */
+static void packets(struct program *g)
+{
+    static const struct kept nothing;
+    uint32_t epoch = number_of(g), sq = number_of(g);
+    struct block h4 = lend(STATE, nothing, about(g, LEVELSPRUCE_PACKET_BYTES)), fields = lend(RESULT, nothing, about(g, LEVELSPRUCE_FIELDS_BYTES));
+    uint8_t answer = levelspruce_packet_write_fixed(epoch, sq, h4.bytes, h4.length);
+    int right = h4.length == LEVELSPRUCE_PACKET_BYTES && fields.length == LEVELSPRUCE_FIELDS_BYTES;
+
+    if (answer != (h4.length != LEVELSPRUCE_PACKET_BYTES ? 9 : epoch > 255 || sq > 255 ? 8 : 0))
+        fail("an answer that writing a fixed group's packet does not have");
+    stands(h4, answer == 0 ? h4.length : 0, "a packet that is refused was written");
+    if (byte_of(g) < 64) {
+        fill(h4.bytes, h4.length, byte_of(g));
+        answer = LEVELSPRUCE_ANSWER_FIELD; /* other bytes than those that were written */
+    }
+    memcpy(before[STATE], h4.bytes, h4.length);
+    epoch = right && answer == 0 ? epoch : 256;
+    answer = levelspruce_packet_read_fixed(h4.bytes, h4.length, fields.bytes, fields.length);
+    if (answer != (!right ? 9 : h4.bytes[10] >= 16 ? 6 : 0))
+        fail("an answer that reading a fixed group's packet does not have");
+    if (epoch < 256 && (answer != 0 || fields.bytes[LEVELSPRUCE_FIELD_EPOCH] != epoch || fields.bytes[LEVELSPRUCE_FIELD_SQ] != sq))
+        fail("a written packet does not read as given");
+    stands(fields, answer == 0 ? fields.length : 0, "fields of a refused packet were written");
+    stands(h4, 0, "reading changed a packet");
 }
 
 int LLVMFuzzerTestOneInput(const uint8_t *data, size_t size)
 {
     struct program g = { data, data + size };
-    struct lent l = { 0, 0, 0, { NULL, 0 }, { NULL, 0 }, { 0 } };
+    struct lent l = { 0, 0, 0, 0, 0, { NULL, 0 }, { NULL, 0 }, { 0 } };
 
     open_rooms();
     turn = 0;
@@ -217,7 +269,7 @@ int LLVMFuzzerTestOneInput(const uint8_t *data, size_t size)
         case 2: frames(&l, &g); break;
         case 3: fetch(&l, &g); break;
         case 4: read_out(&l, &g); break;
-        case 5: if (byte_of(&g) < 128) damage(&l, &g); else start(&l, &g, 1); break;
+        case 5: { uint32_t which = byte_of(&g); if (which < 128) damage(&l, &g); else if (which < 240) start(&l, &g, 1); else packets(&g); break; }
         case 6: { uint32_t port = byte_of(&g) % LEVELSPRUCE_PORTS_MOST; l.tag[port] = number_of(&g) % 4096; break; }
         default: fetch(&l, &g); fetch(&l, &g); break;
         }

@@ -66,15 +66,21 @@ fn first_right(lines: &Lines, time: u64) -> bool {
 }
 
 /// Where no port failed: begun within 47 frames, every epoch from the first reported on is reported, and all are sure but
-/// those that a damaged packet rules, which are held.
-fn whole(lines: &Lines, epochs: u64) -> bool {
+/// those that a damaged packet rules, which are held. Without LCAS damage may show nowhere.
+fn whole(lines: &Lines, epochs: u64, fixed: bool) -> bool {
     let begun = lines.begun.len() == 1 && lines.begun[0].0 <= lines.last_first_frame() + 46 && first_right(lines, lines.begun[0].0);
     let to_the_end = lines.reports.last().map_or(false, |r| r.epoch == epochs - 1);
     let marked = |r: &lines::Report| {
-        let damaged = lines.damaged.iter().any(|e| e + 1 == r.epoch);
+        let damaged = lines.damaged.iter().any(|e| e + 1 == r.epoch) && (!fixed || r.mark == "held");
         r.mark == if damaged { "held" } else { "sure" } && r.bytes == if damaged { 0 } else { lines.carried(r.epoch) }
     };
     begun && to_the_end && lines.reports.iter().all(marked)
+}
+
+/// Nothing is doubtful, nothing replied, and all slots carry bytes in every epoch.
+fn unlike_lcas(text: &str, lines: &Lines) -> bool {
+    let said = |word: &str| text.lines().any(|line| line.starts_with(word));
+    !said("told\t") && !said("reply\t") && lines.reports.iter().all(|r| r.mark != "doubtful") && lines.members.values().all(|x| *x == lines.lines.len() as u64)
 }
 
 struct Crossed {
@@ -85,7 +91,8 @@ struct Crossed {
     bytes: usize,
 }
 
-fn cross(program: &Program, seed: u64) -> Crossed {
+/// One file through one link, with LCAS or without.
+fn cross(program: &Program, seed: u64, fixed: bool) -> Crossed {
     let mut random = Random::new(seed);
     let mut file = vec![0; random.below(400_000) as usize];
     random.fill(&mut file);
@@ -94,6 +101,9 @@ fn cross(program: &Program, seed: u64) -> Crossed {
     let mut choices: Vec<String> = vec!["--seed".into(), seed.to_string(), "--file".into(), from, "--out".into(), to.clone()];
     if random.below(3) == 0 {
         choices.extend(["--fail".into(), "none".into()]);
+    }
+    if fixed {
+        choices.push("--fixed".into());
     }
     // enough for the slowest answers
     let epochs = EPOCHS + random.below(4) * 64;
@@ -108,12 +118,24 @@ fn cross(program: &Program, seed: u64) -> Crossed {
     // status 0 where each byte of the file came out sure, and 1 where not
     let status = i32::from(text.contains("\tnot all came out sure\n"));
     let ended = output.status.code() == Some(status) && ["each sure byte was right", "no byte was sure"].contains(&lines.last.as_str());
-    let bears = lines.failures > 0 || lines.spread() + 16 > lines.window || whole(&lines, epochs);
-    let held = right && ended && in_order(&lines) && bears;
+    let bears = lines.failures > 0 || lines.spread() + 16 > lines.window || whole(&lines, epochs, fixed);
+    let held = right && ended && in_order(&lines) && bears && (!fixed || unlike_lcas(&text, &lines));
     if !held {
         println!("differs\tseed {seed}\tbytes right {right}\tended {ended}\tin order {}\twhole {bears}\t{}", in_order(&lines), choices.join(" "));
     }
     Crossed { held, whole: status == 0, failures: lines.failures, sure, bytes: came.len() }
+}
+
+fn tell(name: &str, crossed: &[Crossed]) {
+    let total = |f: fn(&Crossed) -> usize| crossed.iter().map(f).sum::<usize>();
+    println!(
+        "{}\tlinks {}\twith failures {}\tsure epochs {}\tbytes {}",
+        name,
+        crossed.len(),
+        total(|c| usize::from(c.failures > 0)),
+        total(|c| c.sure),
+        total(|c| c.bytes)
+    );
 }
 
 fn main() {
@@ -123,19 +145,20 @@ fn main() {
 
     manners::check(&program, &mut count);
 
-    let crossed: Vec<Crossed> = (1..=LINKS).map(|seed| cross(&program, seed)).collect();
+    let crossed: Vec<Crossed> = (1..=LINKS).map(|seed| cross(&program, seed, false)).collect();
     let total = |f: fn(&Crossed) -> usize| crossed.iter().map(f).sum::<usize>();
-    println!(
-        "crossed\tlinks {}\twith failures {}\tsure epochs {}\tbytes {}",
-        crossed.len(),
-        total(|c| usize::from(c.failures > 0)),
-        total(|c| c.sure),
-        total(|c| c.bytes)
-    );
+    tell("crossed", &crossed);
     count.note("files cross made-up links byte for byte", crossed.iter().all(|c| c.held));
     count.note("most made-up links carry bytes", 4 * total(|c| usize::from(c.bytes > 0)) > 3 * crossed.len());
     count.note("some files come out whole, some do not", (20..=280).contains(&total(|c| usize::from(c.whole))));
     count.note("many have failures, many have none", (60..=240).contains(&total(|c| usize::from(c.failures > 0))));
+
+    let fixed: Vec<Crossed> = (1001..=1000 + LINKS / 2).map(|seed| cross(&program, seed, true)).collect();
+    tell("without LCAS", &fixed);
+    let carry = fixed.iter().filter(|c| c.bytes > 0).count();
+    let failing = fixed.iter().filter(|c| c.failures > 0).count();
+    count.note("files cross made-up links without LCAS byte for byte", fixed.iter().all(|c| c.held));
+    count.note("most of these carry bytes, many have failures, many none", carry > 100 && (30..=120).contains(&failing));
 
     std::process::exit(count.tally());
 }

@@ -4,7 +4,7 @@ use crate::count::Count;
 use crate::{lines, Program};
 
 /// Wrong choices, and a word that the answer must have.
-const WRONG: [(&[&str], &str); 26] = [
+const WRONG: [(&[&str], &str); 34] = [
     (&["--slot", "3"], "no choice '--slot'"),
     (&["file"], "no choice 'file'"),
     (&["--slots"], "--slots wants a value"),
@@ -27,6 +27,14 @@ const WRONG: [(&[&str], &str); 26] = [
     (&["--hold-off", "5001"], "from 0 to 5000"),
     (&["--restore", "65536"], "from 0 to 5000"),
     (&["--hold-off"], "--hold-off wants a value"),
+    (&["--numbers", "1,0"], "there is no --fixed"),
+    (&["--fixed", "--numbers", "1,256"], "up to 255 for each of 2 slots"),
+    (&["--fixed", "--slots", "3", "--numbers", "1,0"], "each of 3 slots"),
+    (&["--fixed", "--add", "0:1"], "--add is of LCAS"),
+    (&["--fixed", "--remove", "none"], "--remove is of LCAS"),
+    (&["--fixed", "--lapse", "3"], "--lapse is of LCAS"),
+    (&["--fixed", "--back", "0"], "--back is of LCAS"),
+    (&["--fixed", "--record", "record.txt"], "--record does not go with --fixed"),
     (&["--seed", "99999999999999999999999"], "--seed"),
     (&["--doubtful"], "there is no --out"),
     (&["--file", "/no/such/file"], "cannot read"),
@@ -53,7 +61,7 @@ pub fn check(program: &Program, count: &mut Count) {
     count.note("wrong choices get one clear line and status 2", held == WRONG.len());
 
     let (status, help) = said(program, &["--help"]);
-    let named = ["--slots", "--payload", "--window", "--delays", "--first", "--seed", "--epochs", "--damage", "--fail", "--hold-off", "--restore", "--file", "--out", "--each", "--quiet"];
+    let named = ["--slots", "--payload", "--window", "--delays", "--first", "--seed", "--epochs", "--damage", "--fail", "--hold-off", "--restore", "--fixed", "--numbers", "--file", "--out", "--each", "--quiet"];
     count.note("--help names the choices", status == Some(0) && named.iter().all(|n| help.contains(n)));
 
     let (status, text) = said(program, &[]);
@@ -129,6 +137,8 @@ pub fn check(program: &Program, count: &mut Count) {
     let (_, behind) = said(program, &["--slots", "2", "--delays", "0,5000", "--fail", "0:0-99999", "--epochs", "600"]);
     count.note("epochs are told rightly behind a line that failed and would be far ahead", lines::read(&behind).reports.first().map_or(false, |r| r.epoch < 10));
 
+    fixed(program, count);
+
     let file = program.path("gone.in");
     std::fs::write(&file, vec![7; 1_000_000]).expect("the file is written");
     let (status, gone) = said(program, &["--slots", "2", "--payload", "9", "--remove", "40:0,40:1", "--quiet", "--file", &file]);
@@ -140,4 +150,55 @@ pub fn check(program: &Program, count: &mut Count) {
 
     let (_, unheard) = said(program, &["--slots", "2", "--back", "8000", "--lapse", "3", "--epochs", "40", "--remove", "9:0,9:1"]);
     count.note("a wait that nobody answers lapses, and the line says so", unheard.contains("wait\tclosed\tby lapse\n") && unheard.contains("remove\tslot\t1\tanswer\t0\n"));
+}
+
+/// Groups without LCAS: any order of numbers, wrong ones, a dark port, and damage that nothing detects.
+fn fixed(program: &Program, count: &mut Count) {
+    let marks = |text: &str, mark: &str| lines::read(text).reports.iter().filter(|r| r.mark == mark).count();
+    let (status, text) = said(program, &["--fixed", "--numbers", "2,0,1", "--delays", "5,0,40", "--ports", "1,2,0"]);
+    let told = |line: &str| text.lines().any(|l| l == line);
+    let silent = ["told\t", "reply\t", "wait\t", "link\tback", "was\t"].iter().all(|word| !text.contains(word));
+    count.note(
+        "a group without LCAS gives the client's bytes in the order of its numbers",
+        status == Some(0) && lines::read(&text).last == "each sure byte was right" && marks(&text, "sure") > 140 && marks(&text, "held") + marks(&text, "doubtful") == 0,
+    );
+    count.note(
+        "its slots say FIXED and their numbers, its ports are OK under these, and nothing is replied",
+        silent && told("link\tFIXED") && told("slot\t0\tsends\tFIXED\t2") && told("port\t1\tOK\t2") && told("port\t2\tOK\t0") && told("port\t0\tOK\t1"),
+    );
+    let wrong = ["0,1,1", "0,1,3", "1,2,3", "0,0,0", "0,1,255"].iter().all(|numbers| {
+        let (status, text) = said(program, &["--fixed", "--numbers", numbers, "--delays", "5,0,40"]);
+        status == Some(0) && text.ends_with("no byte was sure\n") && marks(&text, "held") > 140 && marks(&text, "doubtful") == 0
+    });
+    count.note("numbers that are not 0 to X-1, each once, are held and never doubtful", wrong);
+    let dark = (0..3).all(|port| {
+        let (status, text) = said(program, &["--fixed", "--slots", "3", "--numbers", "2,0,1", "--fail", &format!("{port}:400-800")]);
+        let read = lines::read(&text);
+        let in_fail = |r: &&lines::Report| (26..50).contains(&r.epoch);
+        status == Some(0)
+            && read.last == "each sure byte was right"
+            && marks(&text, "doubtful") == 0
+            && read.reports.iter().filter(in_fail).all(|r| r.mark == "held")
+            && read.reports.iter().filter(|r| r.epoch > 60).all(|r| r.mark == "sure")
+    });
+    count.note("one dark port holds everything until it is back", dark);
+    // the bits that are changed go by the epoch, so that two packets of one epoch have the same ones changed
+    let damaged = |slots: &[u64]| -> Vec<(Option<i32>, String)> {
+        let run = |epochs: std::ops::Range<u64>| {
+            let damages: Vec<String> = epochs.flat_map(|epoch| slots.iter().map(move |slot| format!("{epoch}:{slot}"))).collect();
+            said(program, &["--fixed", "--slots", "2", "--epochs", "500", "--damage", &damages.join(",")])
+        };
+        vec![run(20..120), run(120..220), run(220..320), run(320..420)]
+    };
+    let one = damaged(&[0]);
+    let seen = |mark: &str| one.iter().map(|(_, text)| marks(text, mark)).sum::<usize>();
+    count.note(
+        "one packet of an epoch damaged is held or makes no difference",
+        one.iter().all(|(status, text)| *status == Some(0) && text.ends_with("each sure byte was right\n")) && seen("held") > 100 && seen("doubtful") == 0,
+    );
+    let two = damaged(&[0, 1]);
+    count.note(
+        "two that come to have each other's number are sure and wrong, and the status is 1",
+        two.iter().any(|(status, text)| *status == Some(1) && text.contains("a sure byte was wrong\tepochs\t")),
+    );
 }

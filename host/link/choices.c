@@ -9,7 +9,7 @@
 enum { FRAME_MOST = 1000000000, EPOCH_MOST = FRAME_MOST / LEVELSPRUCE_EPOCH_FRAMES, EPOCHS_USUAL = 160 };
 
 enum choice {
-    SLOTS, PAYLOAD, WINDOW, PORTS, DELAYS, FIRST, BACK, NUMBER,
+    SLOTS, PAYLOAD, WINDOW, PORTS, DELAYS, FIRST, NUMBERS, FIXED, BACK, NUMBER,
     ADD, REMOVE, DAMAGE, FAIL, HOLD_OFF, RESTORE, LAPSE, LATE, AT_ONCE, SEED, EPOCHS,
     FILE_IN, FILE_OUT, RECORD, DOUBTFUL, EACH, QUIET, HELP, CHOICES
 };
@@ -20,8 +20,9 @@ static const struct {
     int valued;
 } known[CHOICES] = {
     { "--slots", 1 }, { "--payload", 1 }, { "--window", 1 }, { "--ports", 1 }, { "--delays", 1 }, { "--first", 1 },
-    { "--back", 1 }, { "--number", 1 }, { "--add", 1 }, { "--remove", 1 }, { "--damage", 1 }, { "--fail", 1 },
-    { "--hold-off", 1 }, { "--restore", 1 }, { "--lapse", 1 }, { "--late", 1 }, { "--at-once", 0 }, { "--seed", 1 }, { "--epochs", 1 }, { "--file", 1 }, { "--out", 1 }, { "--record", 1 },
+    { "--numbers", 1 }, { "--fixed", 0 }, { "--back", 1 }, { "--number", 1 }, { "--add", 1 }, { "--remove", 1 }, { "--damage", 1 }, { "--fail", 1 },
+    { "--hold-off", 1 }, { "--restore", 1 }, { "--lapse", 1 }, { "--late", 1 }, { "--at-once", 0 }, { "--seed", 1 },
+    { "--epochs", 1 }, { "--file", 1 }, { "--out", 1 }, { "--record", 1 },
     { "--doubtful", 0 }, { "--each", 0 }, { "--quiet", 0 }, { "--help", 0 }
 };
 
@@ -222,6 +223,7 @@ static void shape_plainly(struct choices *c)
     for (slot = 0; slot < c->slots; slot++) {
         c->port[slot] = slot;
         c->delay[slot] = c->first[slot] = 0;
+        c->sq[slot] = slot;
         c->adds.each[slot].epoch = 0;
         c->adds.each[slot].slot = slot;
     }
@@ -270,7 +272,7 @@ static int shape(struct choices *c, const struct given *g)
         return -1;
     if (drawn)
         draw_sizes(c, &random);
-    for (which = PORTS; which <= FIRST; which++)
+    for (which = PORTS; which <= NUMBERS; which++)
         if (g->word[which] != NULL && parts_of(g->word[which]) <= LINES_MOST)
             c->slots = parts_of(g->word[which]);
     if (read_size(g, SLOTS, 1, LEVELSPRUCE_SLOTS_MOST, &c->slots) != 0
@@ -283,6 +285,30 @@ static int shape(struct choices *c, const struct given *g)
             c->epochs += c->window / 4; /* each answer is on its way for longer */
         draw_lines(c, &random);
         draw_events(c, &random, c->epochs);
+    }
+    return 0;
+}
+
+/* Choices that go with LCAS alone, or with a group without it alone. */
+static int choices_agree(const struct given *g)
+{
+    static const enum choice lcas[] = { BACK, ADD, REMOVE, LAPSE };
+    size_t i;
+
+    if (g->word[FIXED] == NULL) {
+        if (g->word[NUMBERS] == NULL)
+            return 0;
+        fprintf(stderr, "link: --numbers goes with --fixed, and there is no --fixed\n");
+        return -1;
+    }
+    for (i = 0; i < sizeof lcas / sizeof lcas[0]; i++)
+        if (g->word[lcas[i]] != NULL) {
+            fprintf(stderr, "link: %s is of LCAS, which a group has not with --fixed\n", known[lcas[i]].name);
+            return -1;
+        }
+    if (g->word[RECORD] != NULL) {
+        fprintf(stderr, "link: --record does not go with --fixed, since a recording is replayed as one of a group with LCAS\n");
+        return -1;
     }
     return 0;
 }
@@ -315,6 +341,7 @@ int choices_read(struct choices *c, int count, char **words)
     c->out = g.word[FILE_OUT];
     c->record = g.word[RECORD];
     c->doubtful = g.word[DOUBTFUL] != NULL;
+    c->fixed = g.word[FIXED] != NULL;
     c->each = g.word[EACH] != NULL;
     c->quiet = g.word[QUIET] != NULL;
     c->help = g.word[HELP] != NULL;
@@ -324,7 +351,10 @@ int choices_read(struct choices *c, int count, char **words)
         fprintf(stderr, "link: --doubtful adds to the file of --out, and there is no --out\n");
         return -1;
     }
+    if (choices_agree(&g) != 0)
+        return -1;
     if (read_number(&g, EPOCHS, 1, EPOCH_MOST, &c->epochs) != 0 || shape(c, &g) != 0 || read_ports(&g, c) != 0
+        || read_each(&g, NUMBERS, c->slots, 255, c->sq) != 0
         || read_each(&g, DELAYS, c->slots, DELAY_MOST, c->delay) != 0
         || read_each(&g, FIRST, c->slots, FRAME_MOST, c->first) != 0
         || read_size(&g, BACK, 0, DELAY_MOST, &c->back) != 0 || read_size(&g, NUMBER, 0, 255, &c->number) != 0
@@ -337,6 +367,9 @@ int choices_read(struct choices *c, int count, char **words)
         return -1;
     if (g.word[AT_ONCE] != NULL)
         c->at_once = 1;
+    /* neither a sender's table nor a way back */
+    if (c->fixed)
+        c->adds.count = c->removes.count = c->back = 0;
     if (g.word[EPOCHS] == NULL && (g.word[DELAYS] != NULL || g.word[BACK] != NULL))
         c->epochs += epochs_on_the_way(c);
     return 0;

@@ -30,6 +30,8 @@ struct failures {
 
 struct choices {
     uint32_t slots, payload, window;
+    int fixed; /* the group has no LCAS */
+    uint32_t sq[LINES_MOST]; /* the number under which each slot sends, where it has none */
     uint32_t port[LINES_MOST], delay[LINES_MOST], first[LINES_MOST]; /* of each slot's line */
     uint32_t back, number, lapse, late;
     uint32_t hold_off, restore; /* of every port, in reports */

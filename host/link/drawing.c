@@ -22,18 +22,28 @@ void draw_sizes(struct choices *c, struct random *r)
     c->payload = 1 + number_below(r, payload_most);
 }
 
+/* The numbers from 0 on, one for each slot, in any order. */
+static void draw_order(struct random *r, uint32_t slots, uint32_t *each)
+{
+    uint32_t slot;
+
+    for (slot = 0; slot < slots; slot++)
+        each[slot] = slot;
+    for (slot = slots; slot > 1; slot--) {
+        uint32_t other = number_below(r, slot), number = each[other];
+
+        each[other] = each[slot - 1];
+        each[slot - 1] = number;
+    }
+}
+
 void draw_lines(struct choices *c, struct random *r)
 {
     uint32_t slot;
 
-    for (slot = 0; slot < c->slots; slot++)
-        c->port[slot] = slot;
-    for (slot = c->slots; slot > 1; slot--) {
-        uint32_t other = number_below(r, slot), port = c->port[other];
-
-        c->port[other] = c->port[slot - 1];
-        c->port[slot - 1] = port;
-    }
+    draw_order(r, c->slots, c->port);
+    if (c->fixed)
+        draw_order(r, c->slots, c->sq);
     for (slot = 0; slot < c->slots; slot++) {
         c->delay[slot] = number_below(r, c->window - LEVELSPRUCE_WINDOW_LEAST + 1);
         c->first[slot] = number_below(r, 64);

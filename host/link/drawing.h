@@ -8,7 +8,7 @@
 /* Sizes whose store is not too large to be tried many times. */
 void draw_sizes(struct choices *c, struct random *r);
 
-/* Ports, delays that the window bears, first frames, the way back, the pace of reports. */
+/* Ports, numbers of a group without LCAS, delays that the window bears, first frames, the way back, the pace of reports. */
 void draw_lines(struct choices *c, struct random *r);
 
 /* Adding, removing, damage, failures and the ports' times, for a run of so many epochs. */

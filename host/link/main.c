@@ -70,7 +70,8 @@ static int link_open(struct link *l)
     else if (!c->at_once && most_delay - least_delay + c->late > c->window - LEVELSPRUCE_WINDOW_LEAST)
         fprintf(stderr, "link: --late and the difference of the delays are more than the window less %d frames, so reports come earlier than that\n",
                 LEVELSPRUCE_WINDOW_LEAST);
-    back_open(&l->back, c);
+    if (!c->fixed)
+        back_open(&l->back, c);
     says_link(&l->says, c);
     return 0;
 }
@@ -181,13 +182,15 @@ static void bring(struct link *l, uint32_t port, uint64_t time)
     }
 }
 
-/* Both ends start an epoch: the near end's goes out on all lines, the far end's has the reply in it. */
+/* Both ends start an epoch: the near end's goes out on all lines, the far end's has the reply in it. Without LCAS there is none. */
 static void start_epoch(struct link *l, uint64_t epoch)
 {
     uint8_t reply[LEVELSPRUCE_REPLY_BYTES];
 
     sending_start_epoch(&l->sending, epoch, &l->client, &l->says);
     l->with_nothing = l->sending.frame_bytes == 0 ? l->with_nothing + 1 : 0;
+    if (l->choices.fixed)
+        return;
     receiving_reply(&l->receiving, (uint8_t)(l->choices.number + epoch), reply);
     back_start_epoch(&l->back, reply);
 }

@@ -27,8 +27,8 @@ static void start(struct receiving *r, const struct choices *c)
         hold_off[port] = c->hold_off;
         restore[port] = c->restore;
     }
-    must(levelspruce_receiver_start_as(LEVELSPRUCE_KIND_H4, c->slots, c->payload, c->window, r->store_bytes, hold_off, c->slots, restore, c->slots,
-                                       r->state, r->rows),
+    must(levelspruce_receiver_start_as(c->fixed ? LEVELSPRUCE_KIND_FIXED : LEVELSPRUCE_KIND_H4, c->slots, c->payload, c->window, r->store_bytes,
+                                       hold_off, c->slots, restore, c->slots, r->state, r->rows),
          "levelspruce_receiver_start_as");
 }
 

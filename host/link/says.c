@@ -71,7 +71,10 @@ void says_link(struct says *s, const struct choices *c)
     printf("link\tpayload\t%" PRIu32 "\n", c->payload);
     printf("link\twindow\t%" PRIu32 "\n", c->window);
     printf("link\tnumber of epoch 0\t%" PRIu32 "\n", c->number);
-    printf("link\tback\t%" PRIu32 "\n", c->back);
+    if (c->fixed)
+        printf("link\tFIXED\n");
+    else
+        printf("link\tback\t%" PRIu32 "\n", c->back);
     printf("link\thold-off\t%" PRIu32 "\n", c->hold_off);
     printf("link\trestore\t%" PRIu32 "\n", c->restore);
     if (c->at_once)
@@ -81,6 +84,8 @@ void says_link(struct says *s, const struct choices *c)
     for (slot = 0; slot < c->slots; slot++)
         printf("line\tslot\t%" PRIu32 "\tport\t%" PRIu32 "\tdelay\t%" PRIu32 "\tfirst frame\t%" PRIu32 "\n", slot, c->port[slot],
                c->delay[slot], c->first[slot]);
+    for (slot = 0; c->fixed && slot < c->slots; slot++)
+        printf("slot\t%" PRIu32 "\tsends\tFIXED\t%" PRIu32 "\n", slot, c->sq[slot]);
     says_events("add", &c->adds);
     says_events("remove", &c->removes);
     says_events("damage", &c->damages);

@@ -13,7 +13,8 @@ int sending_open(struct sending *s, const struct choices *c)
     s->members = malloc((size_t)c->slots * c->payload);
     if (s->frame == NULL || s->members == NULL)
         return -1;
-    must(levelspruce_sender_start(c->slots, c->number, s->state, sizeof s->state), "levelspruce_sender_start");
+    if (!c->fixed)
+        must(levelspruce_sender_start(c->slots, c->number, s->state, sizeof s->state), "levelspruce_sender_start");
     return 0;
 }
 
@@ -79,11 +80,10 @@ static void write_packets(struct sending *s)
         must(levelspruce_sender_packet(s->state, sizeof s->state, slot, s->packets[slot], LEVELSPRUCE_PACKET_BYTES), "levelspruce_sender_packet");
 }
 
-void sending_start_epoch(struct sending *s, uint64_t epoch, const struct client *client, struct says *says)
+/* An epoch of a group with LCAS; the board that goes out with it. */
+static void start_epoch(struct sending *s, uint64_t epoch, struct says *says, uint8_t *board)
 {
     const struct choices *c = s->choices;
-    struct carried *carried = &s->carried[epoch % CARRIED_MOST];
-    uint8_t board[LEVELSPRUCE_BOARD_BYTES];
 
     lapse_if_late(s, says);
     give(s, "add", levelspruce_sender_add, &c->adds, s->added, epoch, says);
@@ -94,12 +94,40 @@ void sending_start_epoch(struct sending *s, uint64_t epoch, const struct client 
     must(levelspruce_sender_start_epoch(s->state, sizeof s->state, next_gid(s), 0xFF, 0), "levelspruce_sender_start_epoch");
     write_packets(s);
     must(levelspruce_sender_ranks(s->state, sizeof s->state, s->ranks, sizeof s->ranks), "levelspruce_sender_ranks");
-    s->frame_bytes = (size_t)s->ranks[LEVELSPRUCE_RANKS_X] * c->payload;
+    must(levelspruce_sender_board_going(s->state, sizeof s->state, board, LEVELSPRUCE_BOARD_BYTES), "levelspruce_sender_board_going");
+}
+
+/* An epoch of a group without LCAS: every slot carries payload from the first frame on, and its number is its rank. Where the numbers are
+ * not 0 to X - 1, each once, no receiver takes them, and a slot whose number is above carries zeros. */
+static void start_fixed_epoch(struct sending *s, uint64_t epoch)
+{
+    const struct choices *c = s->choices;
+    uint32_t slot;
+
+    s->ranks[LEVELSPRUCE_RANKS_X] = (uint8_t)c->slots;
+    for (slot = 0; slot < c->slots; slot++) {
+        s->ranks[LEVELSPRUCE_RANKS_EACH + slot] = c->sq[slot] < c->slots ? (uint8_t)c->sq[slot] : LEVELSPRUCE_RANK_NONE;
+        must(levelspruce_packet_write_fixed((uint32_t)((c->number + epoch) % 256), c->sq[slot], s->packets[slot], LEVELSPRUCE_PACKET_BYTES),
+             "levelspruce_packet_write_fixed");
+    }
+}
+
+void sending_start_epoch(struct sending *s, uint64_t epoch, const struct client *client, struct says *says)
+{
+    struct carried *carried = &s->carried[epoch % CARRIED_MOST];
+    uint8_t board[LEVELSPRUCE_BOARD_BYTES];
+
+    if (s->choices->fixed) {
+        start_fixed_epoch(s, epoch);
+        /* there is no board, so none has changed */
+        memcpy(board, says->going, sizeof board);
+    } else {
+        start_epoch(s, epoch, says, board);
+    }
+    s->frame_bytes = (size_t)s->ranks[LEVELSPRUCE_RANKS_X] * s->choices->payload;
     carried->epoch = epoch;
     carried->from = client->sent;
     carried->bytes = LEVELSPRUCE_EPOCH_FRAMES * s->frame_bytes;
-
-    must(levelspruce_sender_board_going(s->state, sizeof s->state, board, sizeof board), "levelspruce_sender_board_going");
     says_start(says, epoch, s->ranks[LEVELSPRUCE_RANKS_X], carried->bytes, board);
 }
 

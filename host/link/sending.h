@@ -1,4 +1,4 @@
-/* The sending end: the sender, its commands, and what each epoch carried. */
+/* The sending end: the sender and its commands, or slots without LCAS, and what each epoch carried. */
 #ifndef SENDING_H
 #define SENDING_H
 
@@ -34,7 +34,8 @@ struct sending {
 /* 0, or -1 where there is no memory. */
 int sending_open(struct sending *s, const struct choices *c);
 
-/* Starts an epoch: commands that are due, a lapse where a wait stands too long, then the packets. */
+/* Starts an epoch: commands that are due, a lapse where a wait stands too long, then the packets; of a group without LCAS the packets
+ * alone. */
 void sending_start_epoch(struct sending *s, uint64_t epoch, const struct client *client, struct says *says);
 
 /* Sends frame n of each slot on its line. */

@@ -1,16 +1,18 @@
 //! Long histories of unruly hosts: delays that change, losses, flags, noise, frames left out or handed late, fetches now
 //! and then. The receiver's rows and the fast receiver must do the same as the plain one, what is stored must be what
-//! was handed, and the invariants must hold, after every call. And rows that no call returned must be coped with.
+//! was handed, and the invariants must hold, after every call. And rows that no call returned must be coped with. All of it once
+//! more for groups that are FIXED.
 
 use crate::count::Count;
 use crate::invariant;
 use crate::path::{Frame, Path, BEFALLS};
 use crate::random::Random;
 use crate::source::{packet, Says};
-use reference::packet::{read, FIELDS_BYTES};
+use reference::packet::{read, read_fixed, write_fixed, FIELDS_BYTES};
 use reference::receiver::rows::{self, Row};
 use reference::receiver::{
-    epoch_of, fast, first_tag, Flag, Port, Receiver, Report, HELD, KIND_H4, STATE_FAIL, STATE_IDLE, STATE_OK, SURE, TAGS,
+    epoch_of, fast, first_tag, Flag, Port, Receiver, Report, DOUBTFUL, HELD, KIND_FIXED, KIND_H4, STATE_FAIL, STATE_IDLE, STATE_OK, SURE,
+    TAGS,
 };
 use std::collections::HashMap;
 
@@ -64,14 +66,9 @@ const SPARE: u8 = 0xC3;
 fn spares(rows: &mut [Row]) -> Vec<&mut u8> {
     let mut bytes = Vec::new();
     for (i, row) in rows.iter_mut().enumerate() {
-        let (first, rest) = row.split_at_mut(1);
         match (i, i % 5) {
-            (0, _) => {
-                bytes.extend(first);
-                bytes.extend(&mut rest[11..]);
-            }
-            (_, 1) => bytes.extend(&mut rest[10..]),
-            (_, 2) => bytes.extend(&mut rest[11..]),
+            (0, _) | (_, 2) => bytes.extend(&mut row[12..]),
+            (_, 1) => bytes.extend(&mut row[11..]),
             _ => {}
         }
     }
@@ -79,19 +76,19 @@ fn spares(rows: &mut [Row]) -> Vec<&mut u8> {
 }
 
 impl Three {
-    fn start(ports: usize, payload: usize, window: usize, times: &Times) -> Three {
+    fn start(kind: u32, ports: usize, payload: usize, window: usize, times: &Times) -> Three {
         let length = ports * window * (payload + 1);
         let (mut plain, mut timeless) = (Receiver::empty(), Receiver::empty());
         let (n, p, w) = (ports as u32, payload as u32, window as u32);
-        assert_eq!(plain.start_as(KIND_H4, n, p, w, length, &times.hold_off, &times.restore), 0);
-        assert_eq!(timeless.start(n, p, w, length), 0);
+        assert_eq!(plain.start_as(kind, n, p, w, length, &times.hold_off, &times.restore), 0);
+        assert_eq!(timeless.start_as(kind, n, p, w, length, &[], &[]), 0);
         let mut lent = vec![[0xEE; 16]; rows::rows_for(ports)];
-        assert_eq!(rows::start_as(&mut lent, KIND_H4, n, p, w, length, &times.hold_off, &times.restore), 0);
+        assert_eq!(rows::start_as(&mut lent, kind, n, p, w, length, &times.hold_off, &times.restore), 0);
         for byte in spares(&mut lent) {
             assert_eq!(*byte, 0);
             *byte = SPARE;
         }
-        let fast = fast::Receiver::start_as(n, p, w, length, &times.hold_off, &times.restore).expect("all is in range");
+        let fast = fast::Receiver::start_as(kind, n, p, w, length, &times.hold_off, &times.restore).expect("all is in range");
         let stores = std::array::from_fn(|_| vec![0xA5; length]);
         let outputs = std::array::from_fn(|_| vec![0x5A; ports * 16 * payload + 3]);
         let timeless_output = vec![0x5A; ports * 16 * payload + 3];
@@ -235,7 +232,7 @@ impl Three {
         if report != Report::NONE && !states_follow(&before, &self.plain) {
             return Err("member states");
         }
-        let other_number = before.ports.iter().any(|p| p.whole.is_set() && carries_other(&p.ruling, before.oldest.wrapping_sub(1)));
+        let other_number = before.ports.iter().any(|p| p.whole.is_set() && carries_other(before.kind, &p.ruling, before.oldest.wrapping_sub(1)));
         if report != Report::NONE && other_number {
             seen.other_numbers += 1;
             if report.mark != HELD {
@@ -247,9 +244,11 @@ impl Three {
 }
 
 /// Whether a packet is read with 0 and carries another number than this epoch's.
-fn carries_other(nibbles: &[u8; 16], epoch: u8) -> bool {
+fn carries_other(kind: u32, nibbles: &[u8; 16], epoch: u8) -> bool {
     let mut fields = [0; FIELDS_BYTES];
-    read(&nibbles.map(|n| n << 4), &mut fields) == 0 && fields[0] != epoch
+    let h4 = nibbles.map(|n| n << 4);
+    let answer = if kind == KIND_FIXED { read_fixed(&h4, &mut fields) } else { read(&h4, &mut fields) };
+    answer == 0 && fields[0] != epoch
 }
 
 /// The member states in another form, said of each port by itself and of the numbers after the report. A claim: a candidate, and
@@ -319,6 +318,7 @@ impl Seen {
 }
 
 struct Host {
+    kind: u32,
     seed: u64,
     paths: Vec<Path>,
     /// How unruly: one event in so many frames, and one odd packet in so many.
@@ -327,17 +327,45 @@ struct Host {
 }
 
 impl Host {
-    fn new(random: &mut Random, ports: usize, window: usize) -> Host {
+    fn new(random: &mut Random, kind: u32, ports: usize, window: usize) -> Host {
         let base = random.below(TAGS as u64) as usize;
         let paths = (0..ports)
             .map(|_| Path { tag: base + random.below(window as u64 - 15) as usize, ..Path::default() })
             .collect();
         let calm = random.one_of(&[30, 100, 300, 1000, 1000, 3000]);
-        Host { seed: random.next(), paths, calm, packets_calm: random.one_of(&[10, 20, 50, 200]) }
+        Host { kind, seed: random.next(), paths, calm, packets_calm: random.one_of(&[10, 20, 50, 200]) }
+    }
+
+    /// The packet of a port's epoch in a FIXED group: mostly its own number, in an order that changes now and then.
+    fn fixed_packet(&self, port: usize, epoch: u8) -> [u8; 16] {
+        let n = self.paths.len();
+        let shift = Random::new(self.seed ^ (u64::from(epoch) / 64) << 20).below(n as u64) as usize;
+        let mut own = Random::new(self.seed ^ (u64::from(epoch) << 8) ^ (port as u64) << 40);
+        for _ in 0..4 {
+            own.next();
+        }
+        let mut sq = ((port + shift) % n) as u32;
+        if own.below(self.packets_calm) == 0 {
+            sq = own.one_of(&[0, 1, 2, n as u32, 63, 64, 255]);
+        }
+        let named = if own.below(self.packets_calm) == 0 { epoch.wrapping_add(1 + own.below(3) as u8) } else { epoch };
+        let mut h4 = [0; 16];
+        assert_eq!(write_fixed(named.into(), sq, &mut h4), 0);
+        match own.below(self.packets_calm) {
+            // a word, or nibbles that are not looked at
+            0 => h4[10] ^= (1 + own.below(15) as u8) << 4,
+            1..=3 => [0, 1, 2, 3, 4, 5, 11, 12, 13, 14, 15].iter().for_each(|k: &usize| h4[*k] ^= (own.below(16) as u8) << 4),
+            4 => h4[own.below(16) as usize] ^= 0x10,
+            _ => {}
+        }
+        h4
     }
 
     /// The packet of a port's epoch: mostly what makes a group, and the same however often it is asked for.
     fn packet(&self, port: usize, epoch: u8) -> [u8; 16] {
+        if self.kind == KIND_FIXED {
+            return self.fixed_packet(port, epoch);
+        }
         let n = self.paths.len();
         let mut whole = Random::new(self.seed ^ (u64::from(epoch) / 8) << 20);
         let (shift, active) = (whole.below(n as u64) as usize, whole.below(n as u64 + 1) as usize);
@@ -383,12 +411,12 @@ impl Host {
     }
 }
 
-fn history(random: &mut Random, seen: &mut Seen, times: usize) -> Result<(), String> {
+fn history(random: &mut Random, seen: &mut Seen, kind: u32, times: usize) -> Result<(), String> {
     let window = random.one_of(&[16, 17, 24, 31, 32, 33, 40, 48, 64, 77, 160, 240, 256]);
     let ports = random.one_of(&[1, 2, 2, 3, 4, 9]);
     let payload = random.one_of(&[1, 2, 3, 9]);
-    let mut three = Three::start(ports, payload, window, &Times::drawn(random, ports));
-    let mut host = Host::new(random, ports, window);
+    let mut three = Three::start(kind, ports, payload, window, &Times::drawn(random, ports));
+    let mut host = Host::new(random, kind, ports, window);
     let fetches = random.one_of(&[1, 4, 20, 60]);
     for time in 0..times {
         for port in 0..ports {
@@ -423,18 +451,35 @@ fn history(random: &mut Random, seen: &mut Seen, times: usize) -> Result<(), Str
     Ok(())
 }
 
-pub fn check(count: &mut Count) {
-    let mut random = Random::new(26);
+/// So many histories of a kind; whether all was right, and what was seen.
+fn histories(random: &mut Random, kind: u32, number: usize) -> (bool, Seen) {
     let mut seen = Seen::default();
     let mut right = true;
-    for _ in 0..300 {
-        if let Err(what) = history(&mut random, &mut seen, 1000) {
+    for _ in 0..number {
+        if let Err(what) = history(random, &mut seen, kind, 1000) {
             println!("differs\t{}", what);
             right = false;
             break;
         }
     }
     println!("seen\t{:?}", seen);
+    (right, seen)
+}
+
+/// The same of FIXED groups, of which no report is doubtful and RS-Ack never turns.
+fn check_fixed(count: &mut Count) {
+    let (right, seen) = histories(&mut Random::new(30), KIND_FIXED, 150);
+    let answers = [0, 1, 9, 10, 11, 12].iter().all(|a| seen.answers[*a] > 150);
+    let marks = seen.marks[usize::from(HELD)] > 1000 && seen.marks[usize::from(SURE)] > 1000;
+    let events = [seen.begins, seen.stops, seen.joins_later, seen.second_odd_packets, seen.other_numbers].iter().all(|times| *times > 50);
+    let waits = [seen.hold_offs, seen.hold_offs_ended, seen.claims_back, seen.restored].iter().all(|times| *times > 20);
+    count.note(&format!("FIXED groups alike and sound over {} calls", seen.calls), right);
+    count.note("all that can happen to one happens there", answers && marks && events && waits);
+    count.note("none of its reports is doubtful, and RS-Ack never turns", seen.marks[usize::from(DOUBTFUL)] == 0 && seen.turns == 0);
+}
+
+pub fn check(count: &mut Count) {
+    let (right, seen) = histories(&mut Random::new(26), KIND_H4, 300);
     let answers = [0, 1, 9, 10, 11, 12].iter().all(|a| seen.answers[*a] > 300);
     let marks = seen.marks.iter().all(|times| *times > 1000);
     let events = [seen.begins, seen.stops, seen.joins_later, seen.turns].iter().all(|times| *times > 100) && seen.old_marks > 30;
@@ -443,6 +488,7 @@ pub fn check(count: &mut Count) {
     let events = events && steps.into_iter().all(|times| *times > 100) && waits.iter().all(|times| *times > 30);
     count.note(&format!("plain, rows and fast alike and sound over {} calls", seen.calls), right);
     count.note("all that can happen happens in these histories", answers && marks && events);
+    check_fixed(count);
     count.note("group frames of many widths, plain, rows and fast alike", widths());
     count.note("rows that no call returned", any_rows());
     count.note("rows that do not fit", misfits());
@@ -455,7 +501,7 @@ fn widths() -> bool {
     let mut sure = 0;
     for x in [1, 2, 3, 7, 8, 9, 15, 16, 17, 24, 40, 63, 64] {
         for payload in [1, 8, 9, 15] {
-            let mut three = Three::start(x, payload, 17, &Times::default());
+            let mut three = Three::start(KIND_H4, x, payload, 17, &Times::default());
             for tag in 0..90 {
                 for port in 0..x {
                     // 5 has no divisor in common with any x but 15 and 40, which 7 serves
@@ -487,7 +533,8 @@ fn odd_rows(random: &mut Random) -> Vec<Row> {
         random.fill(row);
     }
     let flag = |random: &mut Random| random.one_of(&[0, 1, 1, 7, 255]);
-    lent[0][1..6].copy_from_slice(&[ports, 0, payload, 0, window]);
+    let kind = random.one_of(&[0, 0, 2, 2, 1, 255]);
+    lent[0][..6].copy_from_slice(&[kind, ports, 0, payload, 0, window]);
     (lent[0][6], lent[0][7], lent[0][11]) = (flag(random), flag(random), flag(random));
     for step in lent[1..].iter_mut().step_by(5) {
         (step[0], step[1], step[5], step[6], step[8]) = (flag(random), random.one_of(&[0, 0, 9]), flag(random), flag(random), flag(random));

@@ -1,6 +1,6 @@
 //! What holds of every state that calls can reach.
 
-use reference::receiver::{after, first_tag, Port, Receiver, NONE, STATE_FAIL, STATE_OK, TAGS};
+use reference::receiver::{after, first_tag, Port, Receiver, KIND_FIXED, NONE, STATE_FAIL, STATE_OK, TAGS};
 
 /// The first of these that does not hold.
 pub fn broken(r: &Receiver) -> Option<&'static str> {
@@ -15,7 +15,7 @@ pub fn broken(r: &Receiver) -> Option<&'static str> {
         ("numbers of OK ports differ and are below 64", ok_numbers_differ(&r.ports)),
     ];
     for p in &r.ports {
-        claims.extend(of_step(p));
+        claims.extend(of_step(r.kind, p));
         claims.extend(of_window(r, p));
     }
     claims.into_iter().find(|(_, holds)| !holds).map(|(name, _)| name)
@@ -35,7 +35,7 @@ fn runs_to(p: &Port) -> u16 {
     }
 }
 
-fn of_step(p: &Port) -> Vec<(&'static str, bool)> {
+fn of_step(kind: u32, p: &Port) -> Vec<(&'static str, bool)> {
     let (count, next) = (p.count, usize::from(p.next));
     vec![
         ("count and tag are in range", count <= 32 && next < TAGS),
@@ -48,7 +48,7 @@ fn of_step(p: &Port) -> Vec<(&'static str, bool)> {
         ("breaks and odd packets are of who is in step", p.in_step() || p.breaks == 0 && !p.odd.is_set()),
         ("the count started at MFI1 0", count == 0 || count >= 32 || next % 16 == usize::from(count) % 16),
         ("times are in range, and one of them runs at most", p.hold_off <= 5000 && p.restore <= 5000 && p.run <= runs_to(p)),
-        ("words are known", [1, 2, 3, 5, 15, NONE].contains(&p.word)),
+        ("words are known", if kind == KIND_FIXED { [0, NONE].contains(&p.word) } else { [1, 2, 3, 5, 15, NONE].contains(&p.word) }),
     ]
 }
 

@@ -4,6 +4,7 @@
 #[path = "../differential/count.rs"]
 #[allow(dead_code)] // not all of it is used here
 mod count;
+mod fixed;
 mod histories;
 mod invariant;
 mod judgements;
@@ -25,6 +26,7 @@ fn main() {
     judgements::check(&mut count);
     waiting::check(&mut count);
     link::check(&mut count);
+    fixed::check(&mut count);
     histories::check(&mut count);
     std::process::exit(count.tally());
 }

@@ -41,13 +41,13 @@ pub struct Lent {
 
 impl Lent {
     pub fn start(ports: usize, payload: usize, window: usize) -> Lent {
-        Lent::start_as(ports, payload, window, &[], &[])
+        Lent::start_as(KIND_H4, ports, payload, window, &[], &[])
     }
 
-    pub fn start_as(ports: usize, payload: usize, window: usize, hold_off: &[u32], restore: &[u32]) -> Lent {
+    pub fn start_as(kind: u32, ports: usize, payload: usize, window: usize, hold_off: &[u32], restore: &[u32]) -> Lent {
         let store = vec![0xA5; ports * window * (payload + 1)];
         let mut receiver = Receiver::empty();
-        assert_eq!(receiver.start_as(KIND_H4, ports as u32, payload as u32, window as u32, store.len(), hold_off, restore), 0);
+        assert_eq!(receiver.start_as(kind, ports as u32, payload as u32, window as u32, store.len(), hold_off, restore), 0);
         Lent { receiver, store, output: vec![0x5A; ports * 16 * payload] }
     }
 

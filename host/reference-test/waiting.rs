@@ -5,7 +5,7 @@ use crate::judgements::{epoch, says};
 use crate::source::{Lent, Says, SAYS_IDLE};
 use reference::packet::{ADD, EOS, NORM};
 use reference::receiver::rows::{self, rows_for};
-use reference::receiver::{Receiver, STATE_FAIL, STATE_IDLE, STATE_OK, WAITING_HOLD_OFF, WAITING_NONE, WAITING_RESTORE};
+use reference::receiver::{Receiver, KIND_H4, STATE_FAIL, STATE_IDLE, STATE_OK, WAITING_HOLD_OFF, WAITING_NONE, WAITING_RESTORE};
 
 pub fn check(count: &mut Count) {
     count.note("both edges to the report, IDLE at once and back at once", edges());
@@ -36,7 +36,7 @@ struct Group {
 impl Group {
     /// A group after its first report, whose ports are all IDLE.
     fn new(hold_off: &[u32], restore: &[u32]) -> Group {
-        let mut lent = Lent::start_as(hold_off.len(), 1, 48, hold_off, restore);
+        let mut lent = Lent::start_as(KIND_H4, hold_off.len(), 1, 48, hold_off, restore);
         let mut tag = 8;
         for _ in 0..5 {
             epoch(&mut lent, &mut tag, &vec![IDLE; hold_off.len()]);

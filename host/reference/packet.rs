@@ -1,4 +1,4 @@
-//! The H4 control packet.
+//! The H4 control packet, and that of a fixed group (request 2026-12).
 
 pub const PACKET_BYTES: usize = 16;
 pub const FIELDS_BYTES: usize = 10;
@@ -137,5 +137,43 @@ pub fn read(h4: &[u8], fields: &mut [u8]) -> u8 {
         }
     }
     fields[6..].copy_from_slice(&reserved.to_be_bytes());
+    DONE
+}
+
+/// Writes a fixed group's packet: "H4 carries MFI1, MFI2 and SQ in their places. All other nibbles are written zero", and FIXED is
+/// the word 0.
+pub fn write_fixed(epoch: u32, sq: u32, h4: &mut [u8]) -> u8 {
+    if h4.len() != PACKET_BYTES {
+        return LENGTH_WRONG;
+    }
+    if epoch > 255 || sq > 255 {
+        return FIELD_REFUSED;
+    }
+    for mfi1 in 0..16 {
+        let nibble = match mfi1 {
+            0 => epoch / 16,
+            1 => epoch % 16,
+            14 => sq / 16,
+            15 => sq % 16,
+            _ => 0,
+        };
+        h4[place_of_mfi1(mfi1)] = nibble as u8 * 16 + mfi1 as u8;
+    }
+    DONE
+}
+
+/// Reads one: of the nibbles MFI2, SQ and the word are looked at, and "a word other than FIXED is 6". All fields but epoch and SQ
+/// are 0.
+pub fn read_fixed(h4: &[u8], fields: &mut [u8]) -> u8 {
+    if h4.len() != PACKET_BYTES || fields.len() != FIELDS_BYTES {
+        return LENGTH_WRONG;
+    }
+    let nibble = |mfi1: usize| h4[place_of_mfi1(mfi1)] / 16;
+    if u32::from(nibble(2)) != FIXED {
+        return WORD_UNASSIGNED;
+    }
+    fields.fill(0);
+    fields[0] = nibble(0) * 16 + nibble(1);
+    fields[5] = nibble(14) * 16 + nibble(15);
     DONE
 }

@@ -27,8 +27,10 @@ pub const STATE_IDLE: u8 = 0;
 pub const STATE_FAIL: u8 = 1;
 pub const STATE_OK: u8 = 2;
 
-/// A packet kind, and the only one there is.
+/// The kinds of packets: LCAS, and those of a group that is FIXED (request 2026-12), which have the same clock.
 pub const KIND_H4: u32 = 0;
+pub const KIND_FIXED: u32 = 2;
+pub const KINDS: [u32; 2] = [KIND_H4, KIND_FIXED];
 /// The most reports for which a port waits.
 pub const TIMER_MOST: u32 = 5000;
 
@@ -193,13 +195,13 @@ impl Port {
         mfi1 == next % 16 && mfi2_right
     }
 
-    /// The step record over a frame that is not flagged.
-    fn count(&mut self, h4: u8) {
+    /// The step record over a frame that is not flagged, of a group of a kind.
+    fn count(&mut self, h4: u8, kind: u32) {
         let (nibble, mfi1) = (usize::from(h4 / 16), usize::from(h4 % 16));
         self.had = Flag(1);
         self.failed = Flag(0);
         if self.in_step() {
-            self.stay(mfi1, nibble);
+            self.stay(mfi1, nibble, kind);
         } else {
             self.gain(mfi1, nibble);
         }
@@ -220,10 +222,10 @@ impl Port {
     }
 
     /// "The receiver goes on counting by itself": a frame in step has the tag to come.
-    fn stay(&mut self, mfi1: usize, nibble: usize) {
+    fn stay(&mut self, mfi1: usize, nibble: usize, kind: u32) {
         let breaks = if self.is_right(mfi1, nibble) { 0 } else { self.breaks.saturating_add(1) };
         let ends = self.next_tag() % 16 == 7;
-        let odd = if ends { Flag::from(self.ends_odd(nibble)) } else { self.odd };
+        let odd = if ends { Flag::from(self.ends_odd(nibble, kind)) } else { self.odd };
         if breaks >= BREAKS_LOSE || ends && odd.is_set() && self.odd.is_set() {
             self.start_over(mfi1, nibble);
         } else {
@@ -233,13 +235,14 @@ impl Port {
         }
     }
 
-    /// Whether the packet that ends with this nibble has a right CRC and the MFI2 of another epoch than the own count's.
-    fn ends_odd(&self, nibble: usize) -> bool {
+    /// Whether the packet that ends with this nibble has a right CRC and the MFI2 of another epoch than the own count's. Of a FIXED
+    /// group "no CRC is checked", so none is wrong.
+    fn ends_odd(&self, nibble: usize, kind: u32) -> bool {
         let mut packet = self.gathering.map(|n| n % 16);
         packet[15] = nibble as u8;
         let check = usize::from(packet[14]) * 16 + usize::from(packet[15]);
         let mfi2 = usize::from(packet[8]) * 16 + usize::from(packet[9]);
-        check == usize::from(packet::crc(&packet)) && mfi2 != self.next_tag() / 16
+        (kind == KIND_FIXED || check == usize::from(packet::crc(&packet))) && mfi2 != self.next_tag() / 16
     }
 
     /// The frame has the tag to come, and its nibble goes to that tag's place.
@@ -324,11 +327,11 @@ fn is_active(word: u8) -> bool {
 }
 
 /// Word, GID and number of the packet of an epoch by the own count, if it is read with 0. "A packet whose carried MFI2 differs
-/// from that count is treated as a CRC difference."
-fn read(nibbles: &[u8; 16], epoch: u8) -> Option<(u8, u8, u8)> {
+/// from that count is treated as a CRC difference", of either kind.
+fn read(kind: u32, nibbles: &[u8; 16], epoch: u8) -> Option<(u8, u8, u8)> {
     let h4 = nibbles.map(|n| n % 16 * 16);
     let mut fields = [0u8; packet::FIELDS_BYTES];
-    let answer = packet::read(&h4, &mut fields);
+    let answer = if kind == KIND_FIXED { packet::read_fixed(&h4, &mut fields) } else { packet::read(&h4, &mut fields) };
     let [mfi2, word, gid, _, _, number, ..] = fields;
     (answer == packet::DONE && mfi2 == epoch).then_some((word, gid, number))
 }
@@ -364,6 +367,7 @@ pub struct Shown {
 
 #[derive(Clone, PartialEq, Eq, Debug, Default)]
 pub struct Receiver {
+    pub kind: u32,
     pub ports: Vec<Port>,
     /// P and W.
     pub payload: usize,
@@ -397,13 +401,14 @@ impl Receiver {
         &mut self, kind: u32, ports: u32, payload: u32, window: u32, store_length: usize, hold_off: &[u32], restore: &[u32],
     ) -> u8 {
         let times_fit = hold_off.iter().chain(restore).all(|time| *time <= TIMER_MOST);
-        if kind != KIND_H4 || !Receiver::fits(ports, payload, window) || !times_fit {
+        if !KINDS.contains(&kind) || !Receiver::fits(ports, payload, window) || !times_fit {
             *self = Receiver::empty();
             return 4;
         }
         let time = |list: &[u32], port: usize| list.get(port).map_or(0, |time| *time as u16);
         let port = |i: usize| Port { hold_off: time(hold_off, i), restore: time(restore, i), ..Port::new() };
         let started = Receiver {
+            kind,
             ports: (0..ports as usize).map(port).collect(),
             payload: payload as usize,
             window: window as usize,
@@ -464,7 +469,7 @@ impl Receiver {
             advanced.flag();
             10
         } else {
-            advanced.count(h4);
+            advanced.count(h4, self.kind);
             if advanced.in_step() { 0 } else { 12 }
         };
         if answer == 0 && self.begun.is_set() {
@@ -546,7 +551,7 @@ impl Receiver {
                 let ruling: [u8; 16] = std::array::from_fn(nibble);
                 let p = &mut self.ports[i];
                 p.ruling = ruling;
-                if let Some((word, _, number)) = read(&ruling, self.oldest) {
+                if let Some((word, _, number)) = read(self.kind, &ruling, self.oldest) {
                     p.word = word;
                     p.number = number;
                 }
@@ -586,12 +591,34 @@ impl Receiver {
         (0, report)
     }
 
+    /// Each port's whole ruling packet, with what is read of it. The packets that rule are those of the epoch before.
+    fn whole(&self) -> Vec<(usize, Option<(u8, u8, u8)>)> {
+        let ruled_by = self.oldest.wrapping_sub(1);
+        let whole = (0..self.ports.len()).filter(|i| self.ports[*i].whole.is_set());
+        whole.map(|i| (i, read(self.kind, &self.ports[i].ruling, ruled_by))).collect()
+    }
+
     /// Held, doubtful or sure, and the ports to join in the order of their ranks (none if held).
     fn judge(&self) -> (u8, Vec<usize>) {
-        // the packets that rule are those of the epoch before
-        let ruled_by = self.oldest.wrapping_sub(1);
-        let whole: Vec<(usize, Option<(u8, u8, u8)>)> =
-            (0..self.ports.len()).filter(|i| self.ports[*i].whole.is_set()).map(|i| (i, read(&self.ports[i].ruling, ruled_by))).collect();
+        if self.kind == KIND_FIXED { self.judge_fixed() } else { self.judge_lcas() }
+    }
+
+    /// "The ports' numbers must be exactly 0 to X-1 or the epoch is held", and "a set number of ports never changes while running", so
+    /// X is all ports. A port whose packet is not there or was refused has no number.
+    fn judge_fixed(&self) -> (u8, Vec<usize>) {
+        let mut numbered: Vec<(u8, usize)> = self.whole().iter().filter_map(|(i, packet)| packet.map(|(_, _, number)| (number, *i))).collect();
+        numbered.sort();
+        let numbers: Vec<usize> = numbered.iter().map(|(number, _)| usize::from(*number)).collect();
+        let exact = numbers == (0..self.ports.len()).collect::<Vec<usize>>();
+        if exact && self.ports.iter().all(Port::brought) {
+            (SURE, numbered.iter().map(|(_, i)| *i).collect())
+        } else {
+            (HELD, Vec::new())
+        }
+    }
+
+    fn judge_lcas(&self) -> (u8, Vec<usize>) {
+        let whole = self.whole();
         let some_missing = whole.len() < self.ports.len();
         let some_refused = whole.iter().any(|(_, packet)| packet.is_none());
         let good: Vec<(usize, u8, u8, u8)> =
@@ -707,8 +734,12 @@ impl Receiver {
         self.ports.iter().map(shown).collect()
     }
 
-    /// MST and RS-Ack for the packets of an epoch.
+    /// MST and RS-Ack for the packets of an epoch. For a FIXED group "there is no .. reply": what an end without LCAS sends back is
+    /// zeros (002, 7.1).
     pub fn reply(&self, epoch: u8) -> (u8, u8) {
+        if self.kind == KIND_FIXED {
+            return (0, 0);
+        }
         let is_ok = |q: u8| self.ports.iter().any(|p| p.state == STATE_OK && p.state_number == q);
         let mst = (0..8).filter(|bit| !is_ok(8 * (epoch % 32) + bit)).map(|bit| 0x80 >> bit).sum();
         (mst, u8::from(self.rs_ack.is_set()))

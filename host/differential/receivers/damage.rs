@@ -53,9 +53,9 @@ pub fn rows(random: &mut Random, rows: &mut [Row], window: usize) {
     }
 }
 
-/// Another count, P or W in the group's row.
+/// Another kind, count, P or W in the group's row.
 pub fn sizes(random: &mut Random, group: &mut Row) {
-    let byte = 1 + random.below(5) as usize;
+    let byte = random.below(6) as usize;
     group[byte] = random.one_of(&[0, 1, 2, 9, 16, 64, 65, 255]);
 }
 

@@ -1,10 +1,10 @@
 //! Unruly hosts: what frames each port brings. Delays differ, ports lose step and come back, are flagged, fall silent or
-//! change to another path, all of them fail at once and come back, and packets are odd now and then.
+//! change to another path, all of them fail at once and come back, and packets are odd now and then, of either kind.
 
 use crate::path::{Frame, Path, BEFALLS};
 use crate::random::Random;
 use reference::packet::{self, Fields};
-use reference::receiver::{epoch_of, EPOCH_FRAMES, TAGS};
+use reference::receiver::{epoch_of, EPOCH_FRAMES, KIND_FIXED, TAGS};
 
 #[derive(Default)]
 struct Source {
@@ -15,6 +15,7 @@ struct Source {
 }
 
 pub struct Host {
+    kind: u32,
     sources: Vec<Source>,
     window: u64,
     /// One event in so many frames, and one odd packet in so many.
@@ -23,8 +24,9 @@ pub struct Host {
 }
 
 impl Host {
-    pub fn new(random: &mut Random, ports: usize, window: usize) -> Host {
+    pub fn new(random: &mut Random, kind: u32, ports: usize, window: usize) -> Host {
         let mut host = Host {
+            kind,
             sources: (0..ports).map(|_| Source::default()).collect(),
             window: window as u64,
             calm: random.one_of(&[80, 600, 3000, 20_000]),
@@ -69,9 +71,36 @@ impl Host {
         (word, sq as u32, gid)
     }
 
+    /// The packet of a fixed group's port: its number most often right, which changes with time, its word now and then another, and
+    /// the nibbles that are not looked at often any.
+    fn fixed_packet(&self, random: &mut Random, port: usize, epoch: u8) -> [u8; 16] {
+        let ports = self.sources.len();
+        let mut sq = ((port + usize::from(epoch / 64) * 3) % ports) as u32;
+        if random.below(self.packets_calm * 2) == 0 {
+            sq = random.one_of(&[0, 1, 2, 63, 64, 255, ports as u32]);
+        }
+        let named = if random.below(self.packets_calm * 2) == 0 { random.below(256) as u32 } else { epoch.into() };
+        let mut h4 = [0; 16];
+        packet::write_fixed(named, sq, &mut h4);
+        if random.below(4) == 0 {
+            for k in [0, 1, 2, 3, 4, 5, 11, 12, 13, 14, 15] {
+                h4[k] |= (random.below(16) as u8) << 4;
+            }
+        }
+        if random.below(self.packets_calm * 2) == 0 {
+            h4[10] |= (1 + random.below(15) as u8) << 4;
+        }
+        h4
+    }
+
     fn h4(&mut self, random: &mut Random, port: usize) -> u8 {
         let tag = self.sources[port].path.tag;
         let epoch = epoch_of(tag);
+        // of the other kind seldom
+        if self.sources[port].epoch != Some(epoch) && self.kind == KIND_FIXED && random.below(40 * self.packets_calm) > 0 {
+            self.sources[port].h4 = self.fixed_packet(random, port, epoch);
+            self.sources[port].epoch = Some(epoch);
+        }
         if self.sources[port].epoch != Some(epoch) {
             let (word, sq, gid) = self.says(random, port, epoch);
             // the receiver looks at none of these

@@ -1,5 +1,5 @@
 //! One report on made-up states: any ports OK, FAIL or IDLE under any numbers, each with times and a count of its own, and any
-//! packets. Chains of ports that lose their numbers to one another come about here, and hardly on the way of frames.
+//! packets, of either kind. Chains of ports that lose their numbers to one another come about here, and hardly on the way of frames.
 
 use super::{record, shown};
 use crate::card;
@@ -7,7 +7,7 @@ use crate::count::{Count, Test};
 use crate::random::Random;
 use reference::packet::{self, Fields};
 use reference::receiver::rows::{self, rows_for, Row};
-use reference::receiver::{first_tag, NONE, STATE_FAIL, STATE_IDLE, STATE_OK, TAGS};
+use reference::receiver::{first_tag, KIND_FIXED, KIND_H4, NONE, STATE_FAIL, STATE_IDLE, STATE_OK, TAGS};
 
 const WINDOW: usize = 16;
 const PAYLOAD: usize = 1;
@@ -24,11 +24,11 @@ fn number(random: &mut Random, way: u64, last: u8, most: u64) -> u8 {
 }
 
 /// Rows and store of a group of which a report is due. With `any` its OK numbers and counts may be such as no call leaves.
-fn made_up(random: &mut Random, ports: usize, any: bool) -> (Vec<Row>, Vec<u8>) {
+fn made_up(random: &mut Random, kind: u32, ports: usize, any: bool) -> (Vec<Row>, Vec<u8>) {
     let mut lent = vec![[0; 16]; rows_for(ports)];
     let mut store = vec![0; ports * WINDOW * (PAYLOAD + 1)];
     let oldest = random.next() as u8;
-    lent[0][..9].copy_from_slice(&[0, ports as u8, 0, PAYLOAD as u8, 0, WINDOW as u8, 1, 1, oldest]);
+    lent[0][..9].copy_from_slice(&[kind as u8, ports as u8, 0, PAYLOAD as u8, 0, WINDOW as u8, 1, 1, oldest]);
     let most = random.one_of(&[2, ports as u64 + 1, 64]);
     let (way, lost) = (random.below(4), random.one_of(&[2, 8, 40]));
     let time = random.one_of(&[1, 2, 3, 5001]);
@@ -55,7 +55,12 @@ fn made_up(random: &mut Random, ports: usize, any: bool) -> (Vec<Row>, Vec<u8>) 
             STATE_FAIL => random.below(u64::from(restore) + 1) as u16,
             _ => 0,
         };
-        let word = if state == STATE_IDLE { packet::IDLE as u8 } else { packet::NORM as u8 };
+        let word = match state {
+            STATE_IDLE if kind == KIND_FIXED => NONE,
+            _ if kind == KIND_FIXED => packet::FIXED as u8,
+            STATE_IDLE => packet::IDLE as u8,
+            _ => packet::NORM as u8,
+        };
         let told = if state == STATE_IDLE { NONE } else { last };
         lent[member][..6].copy_from_slice(&[word, told, state, told, word, told]);
         for (at, number) in [(6, hold_off), (8, restore), (10, run)] {
@@ -65,7 +70,13 @@ fn made_up(random: &mut Random, ports: usize, any: bool) -> (Vec<Row>, Vec<u8>) 
         let word = random.one_of(&[packet::NORM, packet::NORM, packet::NORM, packet::ADD, packet::IDLE]);
         let sq = number(random, way, last, most).into();
         let mut h4 = [0; 16];
-        assert_eq!(packet::write(&Fields { epoch: oldest.into(), word, gid: 0, mst: 255, rs_ack: 0, sq, reserved: 0 }, &mut h4), 0);
+        if kind == KIND_FIXED {
+            assert_eq!(packet::write_fixed(oldest.into(), sq, &mut h4), 0);
+            // another word now and then
+            h4[10] |= if word == packet::IDLE && random.below(4) == 0 { 0x50 } else { 0 };
+        } else {
+            assert_eq!(packet::write(&Fields { epoch: oldest.into(), word, gid: 0, mst: 255, rs_ack: 0, sq, reserved: 0 }, &mut h4), 0);
+        }
         for (k, byte) in h4.iter().enumerate() {
             store[(port * WINDOW + k) * (PAYLOAD + 1) + PAYLOAD] = *byte;
         }
@@ -79,7 +90,8 @@ pub fn compare(count: &mut Count, random: &mut Random) {
     for case in 0..60_000 {
         let any = case % 2 == 1;
         let ports = random.one_of(&[1, 2, 3, 3, 4, 5, 9, 64]);
-        let (mut by_reference, store) = made_up(random, ports, any);
+        let kind = random.one_of(&[KIND_H4, KIND_H4, KIND_FIXED]);
+        let (mut by_reference, store) = made_up(random, kind, ports, any);
         let mut by_card = by_reference.clone();
         let given = by_card.clone();
         let mut outputs = [vec![0; ports * 16 * PAYLOAD], vec![0; ports * 16 * PAYLOAD]];

@@ -78,12 +78,13 @@ impl Receiver {
     pub fn from_rows(rows: &[Row]) -> Receiver {
         let row = |at: usize| rows.get(at).copied().unwrap_or([0; 16]);
         let group = row(0);
-        let (count, payload, window) = (group[1], pair(&group, 2), pair(&group, 4));
+        let (kind, count, payload, window) = (group[0], group[1], pair(&group, 2), pair(&group, 4));
         if !Receiver::fits(count.into(), payload.into(), window.into()) {
             return Receiver::empty();
         }
         let port = |i: usize| Port::from_rows(&std::array::from_fn(|k| row(rows_for(i) + k)));
         Receiver {
+            kind: kind.into(),
             ports: (0..usize::from(count)).map(port).collect(),
             payload: payload.into(),
             window: window.into(),
@@ -98,7 +99,7 @@ impl Receiver {
     /// Writes the state into rows that fit it.
     pub fn to_rows(&self, rows: &mut [Row]) {
         let group = &mut rows[0];
-        group[1] = self.ports.len() as u8;
+        (group[0], group[1]) = (self.kind as u8, self.ports.len() as u8);
         put_pair(group, 2, self.payload as u16);
         put_pair(group, 4, self.window as u16);
         (group[6], group[7], group[8]) = (self.begun.0, self.gathered.0, self.oldest);
