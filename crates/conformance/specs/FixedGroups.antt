@@ -16,6 +16,7 @@ use Rattle.packet.specs.Fixed.{fixedRulingOf, readFixedNibbles}
 use Rattle.packet.specs.Kinds.{frames, idleNumber, mstFails, mstFirst, mstNumbers, tags}
 use Rattle.packet.specs.Layout.{carriedIn, dataOf, fieldsOf, highsOf, sealedOf}
 use Rattle.packet.specs.Reading.{readNibbles}
+use Rattle.packet.specs.Ruling.{rulingOf}
 use Rattle.packet.specs.Words.{assigned}
 use Rattle.phases.specs.Passing.{notedBy}
 use Rattle.phases.specs.Sizes.{portsIn, sized}
@@ -149,5 +150,5 @@ table =
     ∷ []
 
 pub fixed-groups : Equal table
-unfolding table activeIn orderOf portOf rankOf fixedExact fixedHeld fixedVerdict judgeOf missing repeats takes byteBits crcOf divisor nibbleBits fixedRulingOf readFixedNibbles frames idleNumber mstFails mstFirst mstNumbers tags carriedIn dataOf fieldsOf highsOf sealedOf readNibbles assigned notedBy portsIn sized rowsFit replyPort replyPorts withState portShown replyFit replyOf replyOut freshPort freshPorts sizedAnswer sizedFits sizedRows startAsAnswer startAsRows startFits startRight timesWithin claims grant granted holders mstFrom mstOf okHolds chosenOf heldOf moreHeld rounds someJoin standingBy standingsOf groupAt groupOf groupRow putGroup memberAt memberOf memberRow putMember putMarks putPackets putRow rowIn putStep stepAt stepOf stepRow inStep readable oddPacket ownNumber ownRuling rightCrc rulingIn inStepAt
+unfolding table activeIn orderOf portOf rankOf fixedExact fixedHeld fixedVerdict judgeOf missing repeats takes byteBits crcOf divisor nibbleBits fixedRulingOf readFixedNibbles frames idleNumber mstFails mstFirst mstNumbers tags carriedIn dataOf fieldsOf highsOf sealedOf readNibbles assigned notedBy portsIn sized rowsFit replyPort replyPorts withState portShown replyFit replyOf replyOut freshPort freshPorts sizedAnswer sizedFits sizedRows startAsAnswer startAsRows startFits startRight timesWithin claims grant granted holders mstFrom mstOf okHolds chosenOf heldOf moreHeld rounds someJoin standingBy standingsOf groupAt groupOf groupRow putGroup memberAt memberOf memberRow putMember putMarks putPackets putRow rowIn putStep stepAt stepOf stepRow inStep readable oddPacket ownNumber ownRuling rightCrc rulingIn rulingOf inStepAt
 fixed-groups = equal-rows table refl

@@ -97,5 +97,5 @@ table =
     ∷ []
 
 pub waited-out : Equal table
-unfolding table startAsAnswerC startAsAnswer startRight timesWithin sizedAnswer sizedFits startFits sized frames tags claims grant granted holders chosenOf heldOf moreHeld rounds someJoin standingBy standingsOf
+unfolding table startAsAnswer startRight timesWithin sizedAnswer sizedFits startFits sized frames tags claims grant granted holders chosenOf heldOf moreHeld rounds someJoin standingBy standingsOf
 waited-out = equal-rows table refl

@@ -3,7 +3,7 @@ use mathlib.Core.Path.{_≡_}
 use mathlib.Core.Logic.{_⊎_, _≢_}
 use mathlib.Core.Bool.{Bool, true, false, _&&_}
 use mathlib.Core.List.{List, [], _∷_}
-use Prim.Native.Nat.{ℕ, _+_, _-_, _*_, _≤_, _<_}
+use Prim.Native.Nat.{ℕ, _+_, _-_, _*_, _%_, _≤_, _<_}
 use lib.ListN.{getD, length}
 use Rattle.ground.specs.Drawn.{fillAt}
 use Rattle.ground.specs.Table.{tabulate}
@@ -13,6 +13,7 @@ use Rattle.judge.specs.Theorems.Fixed.{Standing}
 use Rattle.judge.specs.Verdict.{HELD, SURE, judgeOf}
 use Rattle.packet.specs.Kinds.{epochAfter, epochOf, fixedKind, frames}
 use Rattle.packet.specs.Layout.{fieldsOf}
+use Rattle.packet.specs.Words.{FIXED}
 use Rattle.phases.specs.Beginning.{foremost}
 use Rattle.phases.specs.Settling.{settledOf}
 use Rattle.phases.specs.Sizes.{portsIn}
@@ -156,6 +157,11 @@ pub fixed-order : (s : List (List ℕ)) → groupAt s .kind ≡ fixedKind → du
     → (portOf (seenAll (groupAt s) s (portsIn (groupAt s))) (portsIn (groupAt s)) r < portsIn (groupAt s))
     × (numberAt (seenAll (groupAt s) s (portsIn (groupAt s))) (portOf (seenAll (groupAt s) s (portsIn (groupAt s))) (portsIn (groupAt s)) r) ≡ r))
 fixed-order = Fixed.fixed-order
+
+-- a whole ruling packet with another word is refused, so its epoch is held (held-report): a stream with LCAS is never read
+pub fixed-foreign : (s : List (List ℕ)) (i : ℕ) → groupAt s .kind ≡ fixedKind → i < portsIn (groupAt s) → flagOf (portAt s i .step .whole) ≡ true
+    → getD (portAt s i .ruling) 10 0 % 16 ≢ FIXED → Refused s i
+fixed-foreign = Fixed.fixed-foreign
 
 -- 'A set number of ports never changes while running': X is the number set at the start, after any calls from it
 pub fixed-stays : (count P W : ℕ) (hold restore : List ℕ) (rows : List (List ℕ)) (store : List ℕ) → startAsAnswer fixedKind count P W (length store) hold restore (length rows) ≡ 0 → (calls : List ReceiverCall)

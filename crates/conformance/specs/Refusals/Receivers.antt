@@ -6,7 +6,7 @@ use Prim.Native.Nat.{ℕ, _+_, _-_, _*_, _%_}
 use native.Mathlib.Nat.{mod-mod}
 use lib.Dec.{eqb, leb, ltb}
 use lib.ListN.{getD, length}
-use Rattle.c_face.specs.Receivers.{failedC, kindC}
+use Rattle.c_face.specs.Receivers.{failedC, kindC, startAsAnswerC, startAsRowsC}
 use Rattle.conformance.specs.Entries.{Call, Copes, If, Refusal, Under, Unless, copes, done, first, refused, stateful, stateless}
 use Rattle.counting.specs.Words.{every}
 use Rattle.ground.specs.Circle.{after}
@@ -65,11 +65,15 @@ unfolding startAsAnswer startAsRows startRight timesWithin sizedAnswer sizedRows
 startAs-copes (kind, count, payload, window, store, «hold_off», restore, state) =
     copes _ (λ s. (λ f. rw (s, f), λ f. rw (s, f) (refl, refl, refl)), λ s. rw s (refl, refl, refl))
 
+no-ports : (b : Bool) → _≡_ {A = ℕ} (cond b 0 0) 0
+no-ports true = refl
+no-ports false = refl
+
 -- what is then in the rows, if there are any, is a group without ports
 pub emptied-empty : (kind : ℕ) (rows : List (List ℕ)) → portsIn (groupAt (putGroup rows (emptyGroup kind))) ≡ 0
 unfolding portsIn sized groupAt groupOf groupRow putGroup putRow rowIn
 emptied-empty kind [] = refl
-emptied-empty kind (r ∷ rs) = refl
+emptied-empty kind (r ∷ rs) = no-ports (sized kind 0 0 0)
 
 -- for the kind H4
 abbrev pub startC : ℕ × ℕ × ℕ × ℕ × List (List ℕ) → Call
@@ -81,7 +85,9 @@ startC-copes (ports, payload, window, «store_bytes», state) = start-copes (0, 
 -- of the kind that is named; a number that is no byte names none
 abbrev pub startAsC : ℕ × ℕ × ℕ × ℕ × ℕ × List ℕ × List ℕ × List (List ℕ) → Call
 startAsC (kind, ports, payload, window, «store_bytes», «hold_off», restore, state) =
-    startAs (kindC kind, ports, payload, window, «store_bytes», «hold_off», restore, state)
+    stateful (startAsRefusals (kindC kind) ports payload window «store_bytes» «hold_off» restore (length state))
+    (startAsAnswerC kind ports payload window «store_bytes» «hold_off» restore (length state)) [] [] state
+    (startAsRowsC kind ports payload window «store_bytes» «hold_off» restore state) (putGroup state (emptyGroup (kindC kind)))
 
 pub startAsC-copes : (x : ℕ × ℕ × ℕ × ℕ × ℕ × List ℕ × List ℕ × List (List ℕ)) → Copes (startAsC x)
 startAsC-copes (kind, ports, payload, window, «store_bytes», «hold_off», restore, state) =

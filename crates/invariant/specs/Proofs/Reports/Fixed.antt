@@ -1,18 +1,22 @@
 -- A fixed group's reports (request 2026-12), on every state; and its reply.
 use mathlib.Core.Path.{_≡_, refl, sym, ap, _∙_}
 use mathlib.Core.Logic.{_≢_}
-use mathlib.Core.Bool.{true}
+use mathlib.Core.Bool.{true, false}
 use mathlib.Core.List.{List, [], _∷_}
-use Prim.Native.Nat.{ℕ, _≤_, _<_}
+use Prim.Native.Nat.{ℕ, _%_, _≤_, _<_}
 use native.Mathlib.Omega.{arith}
 use lib.ListN.{getD, length}
+use borrow.Author.Tests.{ne-eqb}
 use Rattle.ground.specs.Truth.{cond-by}
 use Rattle.judge.specs.declared.seen.Seen.{Seen}
 use Rattle.judge.specs.Laws.Numbers.{numberAt}
 use Rattle.judge.specs.Order.{activeIn, portOf}
 use Rattle.judge.specs.Theorems.Fixed.{AllFixed, Standing, fixed-else-held, fixed-judged, fixed-members, fixed-port, stands-sure, sure-stands}
 use Rattle.judge.specs.Verdict.{HELD, SURE, fixedVerdict, judgeOf}
+use Rattle.packet.specs.declared.ruling.Ruling.{Ruling}
+use Rattle.packet.specs.Fixed.{fixedRulingOf, readFixedNibbles}
 use Rattle.packet.specs.Kinds.{fixedKind}
+use Rattle.packet.specs.Ruling.{refused}
 use Rattle.packet.specs.Words.{FIXED}
 use Rattle.phases.specs.Sizes.{portsIn, sized}
 use Rattle.receiver.specs.Fetch.{dueIn, reportIfDue}
@@ -24,13 +28,16 @@ use Rattle.receiver.specs.Starting.{groupWith, startAsAnswer}
 use Rattle.rows.specs.declared.group.Group.{Group}
 use Rattle.rows.specs.Group.{groupAt}
 use Rattle.rows.specs.Packets.{packetsAt}
+use Rattle.rows.specs.Port.{portAt}
 use Rattle.step.specs.Laws.Own.{own-fixed}
-use Rattle.step.specs.Own.{ownRuling}
+use Rattle.step.specs.Arrival.{flagOf}
+use Rattle.step.specs.Own.{ownNumber, ownRuling, rulingIn}
 use Rattle.invariant.specs.Calls.{Receiver, ReceiverCall, receiverRun, startedWith}
 use Rattle.invariant.specs.Kept.Group.{Kept}
 use Rattle.invariant.specs.Proofs.Calls as Calls
 use Rattle.invariant.specs.Proofs.Kept.Start.{started-kept, started-with}
 use Rattle.invariant.specs.Proofs.Sizes.{run-sizes}
+use Rattle.invariant.specs.Reports.{Refused}
 
 few : (g : Group) → portsIn g ≤ 64
 unfolding portsIn
@@ -71,6 +78,22 @@ module _ (s : List (List ℕ)) (fixed : groupAt s .kind ≡ fixedKind) (due : du
 
   pub fixed-order : reportIfDue g n s .mark ≡ SURE → (activeIn seen n ≡ n) × ((r : ℕ) → r < n → (portOf seen n r < n) × (numberAt seen (portOf seen n r) ≡ r))
   fixed-order e = (fixed-members seen n all-fixed (sure-fixed e), λ r b. fixed-port seen n all-fixed (sure-fixed e) r b)
+
+-- 'a word other than FIXED is 6'
+foreign-refused : (epoch : ℕ) (ns : List ℕ) → getD ns 10 0 % 16 ≢ FIXED → ownRuling fixedKind epoch ns .good ≡ false
+unfolding ownRuling rulingIn fixedRulingOf readFixedNibbles
+foreign-refused epoch ns d =
+    rw (ne-eqb (getD ns 10 0 % 16) FIXED d) (cond-by (λ (r : Ruling). r .good ≡ false) (ownNumber epoch ns) refused refused (λ e. refl) (λ e. refl))
+
+pub fixed-foreign : (s : List (List ℕ)) (i : ℕ) → groupAt s .kind ≡ fixedKind → i < portsIn (groupAt s) → flagOf (portAt s i .step .whole) ≡ true
+    → getD (portAt s i .ruling) 10 0 % 16 ≢ FIXED → Refused s i
+fixed-foreign s i fixed b w d =
+    record {
+      port = b;
+      whole = w;
+      refused =
+          ap (λ (kind : ℕ). ownRuling kind (rulingEpoch (groupAt s)) (portAt s i .ruling) .good) fixed ∙ foreign-refused (rulingEpoch (groupAt s)) (portAt s i .ruling) d;
+    }
 
 -- the reply
 pub fixed-reply : (s : List (List ℕ)) → groupAt s .kind ≡ fixedKind → (e : ℕ) → replyOf s e ≡ 0 ∷ 0 ∷ []
