@@ -51,7 +51,7 @@ either-done false x y e f = f
 
 open-done : (r : Replay) (store : ℕ) (x : Opening) → openTurnBy r store x .answer ≡ 0
 unfolding openWithTurn answeredTurn
-open-done r store (O.Settings p s w next) = either-done (startable p s w store) _ _ refl refl
+open-done r store (O.Settings s next) = either-done (startable s store) _ _ refl refl
 open-done r store O.Malformed = refl
 open-done r store O.Unfinished = refl
 open-done r store O.End = refl
