@@ -6,10 +6,10 @@ use Prim.Native.Nat.{ℕ, _≤_, _<_}
 use lib.ListN.{length}
 use borrow.Author.Tests.{eq-eqb}
 use Rattle.ground.specs.Truth.{cond-by}
-use Rattle.packet.specs.Counts.{nibbleIn}
 use Rattle.packet.specs.declared.reader.Reading.{Reading}
 use Rattle.packet.specs.declared.reader.Reading.the-variants.{Crc, Packet}
 use Rattle.packet.specs.declared.layout.Fields.{Fields}
+use Rattle.packet.specs.Laws.Writing.{nibbles-high}
 use Rattle.packet.specs.Layout.{fieldsOf, highsOf}
 use Rattle.packet.specs.Reading.{readNibbles}
 use Rattle.packet.specs.declared.ruling.Ruling.{Ruling}
@@ -28,17 +28,18 @@ use Rattle.link.specs.Proofs.Histories.Sure.{sure}
 
 read-as : (kind epoch : ℕ) (bytes : List ℕ) (f : Fields) → readNibbles (highsOf bytes) ≡ Packet f → fieldsOf (highsOf bytes) .epoch ≡ epoch
     → ownRuling kind epoch (nibblesIn kind bytes) ≡ rulingBy (Packet f)
-unfolding ownRuling ownNumber rulingOf nibblesIn nibbleIn highsOf
-read-as kind epoch bytes f e own = rw (eq-eqb (fieldsOf (highsOf bytes) .epoch) epoch own) (ap rulingBy e)
+unfolding ownRuling ownNumber rulingOf nibblesIn
+read-as kind epoch bytes f e own = rw (nibbles-high kind bytes, eq-eqb (fieldsOf (highsOf bytes) .epoch) epoch own) (ap rulingBy e)
 
 refused-as : (kind epoch : ℕ) (bytes : List ℕ) → readNibbles (highsOf bytes) ≡ Crc → ownRuling kind epoch (nibblesIn kind bytes) .good ≡ false
-unfolding ownRuling rulingOf nibblesIn nibbleIn highsOf
+unfolding ownRuling rulingOf nibblesIn
 refused-as kind epoch bytes e =
-    cond-by (λ (r : Ruling). r .good ≡ false) (ownNumber epoch (highsOf bytes)) (rulingBy (readNibbles (highsOf bytes))) refused (λ own. ap (λ (q : Reading). rulingBy q .good) e) (λ other. refl)
+    rw (nibbles-high kind bytes)
+    (cond-by (λ (r : Ruling). r .good ≡ false) (ownNumber epoch (highsOf bytes)) (rulingBy (readNibbles (highsOf bytes))) refused (λ own. ap (λ (q : Reading). rulingBy q .good) e) (λ other. refl))
 
 even-as : (kind epoch : ℕ) (bytes : List ℕ) → readNibbles (highsOf bytes) ≡ Crc → oddPacket epoch (nibblesIn kind bytes) ≡ false
-unfolding oddPacket nibblesIn nibbleIn highsOf
-even-as kind epoch bytes e = rw e refl
+unfolding oddPacket nibblesIn
+even-as kind epoch bytes e = rw (nibbles-high kind bytes, e) refl
 
 pub history-lawful : (h : History) → Allowed h → (P : ℕ) (client : Client) → Handed h P client
     → (unranked : ℕ → ℕ → List ℕ) → ((x slot : ℕ) → slot < h .slots → length (unranked x slot) ≡ P) → Lawful (sendingOf h P client unranked) P client
