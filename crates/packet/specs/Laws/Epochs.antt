@@ -31,6 +31,10 @@ h4-frames = refl
 pub half-fits : (kind : ℕ) → tags kind / 2 ≤ 2048
 half-fits kind = by (λ L E N l. N / 2 ≤ 2048) (omega arith) (omega arith) kind
 
+-- each nibble of a packet comes with a frame of its epoch
+pub nibbles-in : (kind k : ℕ) → k < 16 → k < frames kind
+nibbles-in kind k h = by (λ L E N l. k < L) (omega arith) (omega arith) kind
+
 -- the frame after the count's first is of the same epoch
 pub second-within : (kind : ℕ) → lead kind + 1 < frames kind
 second-within kind = by (λ L E N l. l + 1 < L) (omega arith) (omega arith) kind
