@@ -1,6 +1,6 @@
 use mathlib.Core.Path.{_≡_, refl, sym}
 use Prim.Native.Nat.{ℕ, _≤_}
-use lib.ListN.{length, replicate, length-replicate}
+use lib.ListN.{length, length-map, length-replicate, replicate}
 use lib.Seq.{length-take-le}
 use Rattle.replaying.specs.Turn.{clearedRows, startedRows}
 use borrow.Author.Needs.{needs}
@@ -14,16 +14,16 @@ cast-n : tie.Need-cast-n
 cast-n c = search needs
 
 array-share-prefix-hold : tie.Need-array-share-prefix-hold
-array-share-prefix-hold c = let l : length (c .before .before .before .before .before .before .args .settings .«hold_off») ≡ 64 = c .before .before .before .before .before .before .good .0 .1 .1 .0 .1 .0 .1 in rw l (c .before .before .before .before .before .before .pre .1)
+array-share-prefix-hold c = let l : length (c .before .before .before .before .before .before .args .settings .«hold_off») ≡ 64 = simp length-map at (c .before .before .before .before .before .before .good .0 .1 .1 .0 .1 .0 .1) in rw l (c .before .before .before .before .before .before .pre .1)
 
 slice-aggregate-start-as : tie.Need-slice-aggregate-start-as
-slice-aggregate-start-as c = let l : length (c .before .before .before .before .before .before .before .args .settings .«hold_off») ≡ 64 = c .before .before .before .before .before .before .before .good .0 .1 .1 .0 .1 .0 .1 in let h : c .before .before .before .before .before .before .before .args .settings .ports ≤ length (c .before .before .before .before .before .before .before .args .settings .«hold_off») = rw l (c .before .before .before .before .before .before .before .pre .1) in sym (length-take-le (c .before .before .before .before .before .before .before .args .settings .ports) (c .before .before .before .before .before .before .before .args .settings .«hold_off») h)
+slice-aggregate-start-as c = let l : length (c .before .before .before .before .before .before .before .args .settings .«hold_off») ≡ 64 = simp length-map at (c .before .before .before .before .before .before .before .good .0 .1 .1 .0 .1 .0 .1) in let h : c .before .before .before .before .before .before .before .args .settings .ports ≤ length (c .before .before .before .before .before .before .before .args .settings .«hold_off») = rw l (c .before .before .before .before .before .before .before .pre .1) in sym (length-take-le (c .before .before .before .before .before .before .before .args .settings .ports) (c .before .before .before .before .before .before .before .args .settings .«hold_off») h)
 
 array-share-prefix-restore : tie.Need-array-share-prefix-restore
-array-share-prefix-restore c = let l : length (c .before .before .before .before .before .before .before .args .settings .restore) ≡ 64 = c .before .before .before .before .before .before .before .good .0 .1 .1 .1 .0 .1 .0 .1 in rw l (c .before .before .before .before .before .before .before .pre .1)
+array-share-prefix-restore c = let l : length (c .before .before .before .before .before .before .before .args .settings .restore) ≡ 64 = simp length-map at (c .before .before .before .before .before .before .before .good .0 .1 .1 .1 .0 .1 .0 .1) in rw l (c .before .before .before .before .before .before .before .pre .1)
 
 slice-aggregate-start-as-2 : tie.Need-slice-aggregate-start-as-2
-slice-aggregate-start-as-2 c = let l : length (c .before .before .before .before .before .before .before .before .args .settings .restore) ≡ 64 = c .before .before .before .before .before .before .before .before .good .0 .1 .1 .1 .0 .1 .0 .1 in let h : c .before .before .before .before .before .before .before .before .args .settings .ports ≤ length (c .before .before .before .before .before .before .before .before .args .settings .restore) = rw l (c .before .before .before .before .before .before .before .before .pre .1) in sym (length-take-le (c .before .before .before .before .before .before .before .before .args .settings .ports) (c .before .before .before .before .before .before .before .before .args .settings .restore) h)
+slice-aggregate-start-as-2 c = let l : length (c .before .before .before .before .before .before .before .before .args .settings .restore) ≡ 64 = simp length-map at (c .before .before .before .before .before .before .before .before .good .0 .1 .1 .1 .0 .1 .0 .1) in let h : c .before .before .before .before .before .before .before .before .args .settings .ports ≤ length (c .before .before .before .before .before .before .before .before .args .settings .restore) = rw l (c .before .before .before .before .before .before .before .before .pre .1) in sym (length-take-le (c .before .before .before .before .before .before .before .before .args .settings .ports) (c .before .before .before .before .before .before .before .before .args .settings .restore) h)
 
 slice-relend-prefix-start-as : tie.Need-slice-relend-prefix-start-as
 slice-relend-prefix-start-as c = search needs
