@@ -5,6 +5,7 @@ pub mod Clauses
 pub mod Entries
 pub mod Examples
 pub mod FixedGroups
+pub mod FixedRuns
 pub mod Hosts
 pub mod Joining
 pub mod Orders
