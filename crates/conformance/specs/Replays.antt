@@ -131,6 +131,10 @@ replayed t store first second = output t (lentFor store) first ++ output t (left
 abbrev lines : List (List ℕ)
 lines = linesOf (ascii "1\t1\t16\n0\t00\t0\tAB\n0\t01\t0\tAB\n0\t52\t0\tAB\n0\t03\t0\tAB\n0\t04\t0\tAB\n0\t05\t0\tAB\n0\t96\t0\tAB\n0\t97\t0\tAB\n0\tF8\t0\tAB\n0\tF9\t0\tAB\n0\t0A\t0\tAB\n0\t0B\t0\tAB\n0\t0C\t0\tAB\n0\t0D\t0\tAB\n0\tFE\t0\tAB\n0\tFF\t0\tAB\n0\t00\t0\tAB\n0\t11\t0\tAB\n0\t52\t0\tAB\n0\t03\t0\tAB\n0\t04\t0\tAB\n0\t05\t0\tAB\n0\tF6\t0\tAB\n0\t27\t0\tAB\n0\tF8\t0\tAB\n0\tF9\t0\tAB\n0\t0A\t0\tAB\n0\t0B\t0\tAB\n0\t0C\t0\tAB\n0\t0D\t0\tAB\n0\tFE\t0\tAB\n0\tFF\t0\tAB\n0\t00\t0\tAB\n0\t21\t0\tAB\n0\t52\t0\tAB\n0\t03\t0\tAB\n0\t04\t0\tAB\n0\t05\t0\tAB\n0\t46\t0\tAB\n0\tF7\t0\tAB\n0\tF8\t0\tAB\n0\tF9\t0\tAB\n0\t0A\t0\tAB\n0\t0B\t0\tAB\n0\t0C\t0\tAB\n0\t0D\t0\tAB\n0\tFE\t0\tAB\n0\tFF\t0\tAB\n0\t00\t0\tAB\n0\t31\t0\tAB\n0\t52\t0\tAB\n0\t03\t0\tAB\n0\t04\t0\tAB\n0\t05\t0\tAB\n0\t26\t0\tAB\n0\t47\t0\tAB\n0\tF8\t0\tAB\n0\tF9\t0\tAB\n0\t0A\t0\tAB\n0\t0B\t0\tAB\n0\t0C\t0\tAB\n0\t0D\t0\tAB\n0\tFE\t0\tAB\n0\tFF\t0\tAB\n0\t00\t0\tAB\n0\t41\t0\tAB\n0\t52\t0\tAB\n0\t03\t0\tAB\n0\t04\t0\tAB\n0\t05\t0\tAB\n0\t36\t0\tAB\n0\t27\t0\tAB\n")
 
+-- the same count with zeros beside it, which is a fixed group's packets with SQ 0 (request 2026-12)
+abbrev fixedLines : List (List ℕ)
+fixedLines = linesOf (ascii "1\t1\t16\tkind\tFIXED\n0\t00\t0\tAB\n0\t01\t0\tAB\n0\t02\t0\tAB\n0\t03\t0\tAB\n0\t04\t0\tAB\n0\t05\t0\tAB\n0\t06\t0\tAB\n0\t07\t0\tAB\n0\t08\t0\tAB\n0\t09\t0\tAB\n0\t0A\t0\tAB\n0\t0B\t0\tAB\n0\t0C\t0\tAB\n0\t0D\t0\tAB\n0\t0E\t0\tAB\n0\t0F\t0\tAB\n0\t00\t0\tAB\n0\t11\t0\tAB\n0\t02\t0\tAB\n0\t03\t0\tAB\n0\t04\t0\tAB\n0\t05\t0\tAB\n0\t06\t0\tAB\n0\t07\t0\tAB\n0\t08\t0\tAB\n0\t09\t0\tAB\n0\t0A\t0\tAB\n0\t0B\t0\tAB\n0\t0C\t0\tAB\n0\t0D\t0\tAB\n0\t0E\t0\tAB\n0\t0F\t0\tAB\n0\t00\t0\tAB\n0\t21\t0\tAB\n0\t02\t0\tAB\n0\t03\t0\tAB\n0\t04\t0\tAB\n0\t05\t0\tAB\n0\t06\t0\tAB\n0\t07\t0\tAB\n0\t08\t0\tAB\n0\t09\t0\tAB\n0\t0A\t0\tAB\n0\t0B\t0\tAB\n0\t0C\t0\tAB\n0\t0D\t0\tAB\n0\t0E\t0\tAB\n0\t0F\t0\tAB\n0\t00\t0\tAB\n0\t31\t0\tAB\n0\t02\t0\tAB\n0\t03\t0\tAB\n0\t04\t0\tAB\n0\t05\t0\tAB\n0\t06\t0\tAB\n0\t07\t0\tAB\n0\t08\t0\tAB\n0\t09\t0\tAB\n0\t0A\t0\tAB\n0\t0B\t0\tAB\n0\t0C\t0\tAB\n0\t0D\t0\tAB\n0\t0E\t0\tAB\n0\t0F\t0\tAB\n0\t00\t0\tAB\n0\t41\t0\tAB\n0\t02\t0\tAB\n0\t03\t0\tAB\n0\t04\t0\tAB\n0\t05\t0\tAB\n0\t06\t0\tAB\n0\t07\t0\tAB\n")
+
 -- with a line that is none behind line 41
 abbrev torn : List (List ℕ)
 torn = take 41 lines ++ (ascii "0\t0" ∷ drop 41 lines)
@@ -149,6 +153,7 @@ table =
     ∷ record { name = "a hold-off of 5,001 and a kind that is none: 13 before 4"; given = replayed Right 32 (ascii "1\t1\t16\thold-off\t5001\tkind\tK4" ∷ drop 1 lines) []; said = ascii "answer\t13\tline\t1\n" }
     ∷ record { name = "the 72 frames with both times: an IDLE port waits for nothing"; given = replayed Right 32 (ascii "1\t1\t16\twait-to-restore\t2\tkind\tH4\thold-off\t5" ∷ drop 1 lines) []; said = ascii "epoch\t4\tsure\tbytes\t0\tline\t73\n" }
     ∷ record { name = "the 72 frames as those of a fixed group: no word is FIXED, and it is held"; given = replayed Right 32 (ascii "1\t1\t16\tkind\tFIXED" ∷ drop 1 lines) []; said = ascii "epoch\t4\theld\tbytes\t0\tline\t73\n" }
+    ∷ record { name = "72 frames of a fixed group of one: sure, and its port is OK"; given = replayed Right 32 fixedLines []; said = ascii "epoch\t4\tsure\tbytes\t16\tline\t73\nport\t0\tOK\t0\n" }
     ∷ []
 
 pub examples : Equal table
