@@ -34,7 +34,6 @@ const WRONG: [(&[&str], &str); 34] = [
     (&["--fixed", "--remove", "none"], "--remove is of LCAS"),
     (&["--fixed", "--lapse", "3"], "--lapse is of LCAS"),
     (&["--fixed", "--back", "0"], "--back is of LCAS"),
-    (&["--fixed", "--record", "record.txt"], "--record does not go with --fixed"),
     (&["--seed", "99999999999999999999999"], "--seed"),
     (&["--doubtful"], "there is no --out"),
     (&["--file", "/no/such/file"], "cannot read"),

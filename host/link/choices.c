@@ -306,10 +306,6 @@ static int choices_agree(const struct given *g)
             fprintf(stderr, "link: %s is of LCAS, which a group has not with --fixed\n", known[lcas[i]].name);
             return -1;
         }
-    if (g->word[RECORD] != NULL) {
-        fprintf(stderr, "link: --record does not go with --fixed, since a recording is replayed as one of a group with LCAS\n");
-        return -1;
-    }
     return 0;
 }
 

@@ -14,7 +14,7 @@
 "  --fixed                 a group without LCAS, as of older gear: each slot sends FIXED under a number of its own,\n"
 "                          and carries the payload of that number from the first frame on, so that what is\n"
 "                          sent before receiving begins is lost. There is no sender's table and no reply, so\n"
-"                          that --add, --remove, --lapse and --back do not go with it, and --record does not\n"
+"                          that --add, --remove, --lapse and --back do not go with it\n"
 "  --numbers A,B,..        with --fixed: the number of each slot, 0 to 255 (0,1,..)\n"
 "  --back D                the delay of the way back, in frames, up to 8192 (24)\n"
 "  --number E              the number that epoch 0 has in its packets, 0 to 255 (20)\n"

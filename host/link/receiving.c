@@ -18,6 +18,28 @@ static void record_frame(struct receiving *r, uint32_t port, int failed, uint8_t
     putc('\n', r->record);
 }
 
+/* A list of a recording's first line: the number of every port, where it is not 0. */
+static void record_times(struct receiving *r, const char *name, uint32_t time)
+{
+    uint32_t port;
+
+    if (time == 0)
+        return;
+    fprintf(r->record, "\t%s", name);
+    for (port = 0; port < r->ports; port++)
+        fprintf(r->record, "\t%lu", (unsigned long)time);
+}
+
+static void record_settings(struct receiving *r, const struct choices *c)
+{
+    fprintf(r->record, "%lu\t%lu\t%lu", (unsigned long)c->slots, (unsigned long)c->payload, (unsigned long)c->window);
+    if (c->fixed)
+        fputs("\tkind\tFIXED", r->record);
+    record_times(r, "hold-off", c->hold_off);
+    record_times(r, "wait-to-restore", c->restore);
+    putc('\n', r->record);
+}
+
 /* All ports have the same times. */
 static void start(struct receiving *r, const struct choices *c)
 {
@@ -50,7 +72,7 @@ int receiving_open(struct receiving *r, const struct choices *c)
         r->record = fopen(c->record, "w");
         if (r->record == NULL)
             return -2;
-        fprintf(r->record, "%lu\t%lu\t%lu\n", (unsigned long)c->slots, (unsigned long)c->payload, (unsigned long)c->window);
+        record_settings(r, c);
     }
     start(r, c);
     return 0;

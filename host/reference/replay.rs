@@ -1,24 +1,37 @@
 //! A recording run again. Written from the request (2026-05), its readings and 01.
 
 use crate::packet::DONE;
-use crate::receiver::{fast, Receiver as Plain, Report, Shown, DOUBTFUL, EPOCH_FRAMES, HELD, NONE, NONE_DUE, STATE_FAIL, STATE_IDLE};
+use crate::receiver::{
+    fast, Receiver as Plain, Report, Shown, DOUBTFUL, EPOCH_FRAMES, HELD, KIND_FIXED, KIND_H4, NONE, NONE_DUE, STATE_FAIL, STATE_IDLE,
+};
 
 const LINE_MOST: usize = 8192;
 const OUT_OF_RANGE: u8 = 4;
 const MALFORMED: u8 = 13;
 
+/// What a first line says. A list has a number for each port, or none at all.
+pub struct Settings {
+    kind: u32,
+    ports: u32,
+    payload: u32,
+    window: u32,
+    hold_off: Vec<u32>,
+    restore: Vec<u32>,
+}
+
 /// A receiver in one of the reference's forms, with what it is lent.
 pub trait Receives: Sized {
-    fn start(ports: u32, payload: u32, window: u32, store: usize) -> Result<Self, u8>;
+    fn start(settings: &Settings, store: usize) -> Result<Self, u8>;
     fn frame(&mut self, port: u32, flagged: bool, h4: u8, payload: &[u8], store: &mut [u8]) -> u8;
     fn fetch(&mut self, store: &[u8], output: &mut [u8]) -> (u8, Report);
     fn ports(&self) -> Vec<Shown>;
 }
 
 impl Receives for Plain {
-    fn start(ports: u32, payload: u32, window: u32, store: usize) -> Result<Plain, u8> {
+    fn start(settings: &Settings, store: usize) -> Result<Plain, u8> {
+        let Settings { kind, ports, payload, window, hold_off, restore } = settings;
         let mut receiver = Plain::empty();
-        match receiver.start(ports, payload, window, store) {
+        match receiver.start_as(*kind, *ports, *payload, *window, store, hold_off, restore) {
             DONE => Ok(receiver),
             answer => Err(answer),
         }
@@ -38,8 +51,9 @@ impl Receives for Plain {
 }
 
 impl Receives for fast::Receiver {
-    fn start(ports: u32, payload: u32, window: u32, store: usize) -> Result<fast::Receiver, u8> {
-        fast::Receiver::start(ports, payload, window, store)
+    fn start(settings: &Settings, store: usize) -> Result<fast::Receiver, u8> {
+        let Settings { kind, ports, payload, window, hold_off, restore } = settings;
+        fast::Receiver::start_as(*kind, *ports, *payload, *window, store, hold_off, restore)
     }
 
     fn frame(&mut self, port: u32, flagged: bool, h4: u8, payload: &[u8], store: &mut [u8]) -> u8 {
@@ -103,16 +117,41 @@ fn states<R: Receives>(receiver: &R) -> Vec<(u8, u8)> {
     receiver.ports().iter().map(|p| (p.state, p.number)).collect()
 }
 
-/// What the settings say: 13, 4, or a group. Settings are ports, P and W.
-fn opened<R: Receives>(line: &[u8], store_most: usize) -> Result<Group<R>, u8> {
+/// Ports, P and W, and behind them pairs in any order, each at most once: a kind, or a list with as many numbers as ports.
+fn settings(line: &[u8]) -> Option<Settings> {
     if line.len() > LINE_MOST {
-        return Err(MALFORMED);
+        return None;
     }
-    let fields: Vec<Option<u32>> = line.split(|b| *b == b'\t').map(number).collect();
-    let (ports, payload, window) = match fields[..] {
-        [Some(ports), Some(payload), Some(window)] => (ports, payload, window),
-        _ => return Err(MALFORMED),
-    };
+    let mut fields = line.split(|b| *b == b'\t');
+    let (ports, payload, window) = (number(fields.next()?)?, number(fields.next()?)?, number(fields.next()?)?);
+    let (mut kind, mut hold_off, mut restore) = (None, None, None);
+    while let Some(name) = fields.next() {
+        let mut list = || (0..ports).map(|_| number(fields.next()?)).collect::<Option<Vec<u32>>>();
+        let given_before = match name {
+            b"kind" => {
+                let of = match fields.next()? {
+                    b"H4" => KIND_H4,
+                    b"FIXED" => KIND_FIXED,
+                    _ => return None,
+                };
+                kind.replace(of).is_some()
+            }
+            b"hold-off" => hold_off.replace(list()?).is_some(),
+            b"wait-to-restore" => restore.replace(list()?).is_some(),
+            _ => return None,
+        };
+        if given_before {
+            return None;
+        }
+    }
+    let list = |given: Option<Vec<u32>>| given.unwrap_or_default();
+    Some(Settings { kind: kind.unwrap_or(KIND_H4), ports, payload, window, hold_off: list(hold_off), restore: list(restore) })
+}
+
+/// What the settings say: 13, 4, or a group.
+fn opened<R: Receives>(line: &[u8], store_most: usize) -> Result<Group<R>, u8> {
+    let settings = settings(line).ok_or(MALFORMED)?;
+    let Settings { ports, payload, window, .. } = settings;
     if !Plain::fits(ports, payload, window) {
         return Err(OUT_OF_RANGE);
     }
@@ -121,7 +160,7 @@ fn opened<R: Receives>(line: &[u8], store_most: usize) -> Result<Group<R>, u8> {
     if store > store_most {
         return Err(OUT_OF_RANGE);
     }
-    let receiver = R::start(ports, payload, window, store)?;
+    let receiver = R::start(&settings, store)?;
     Ok(Group {
         ports,
         store: vec![0; store],

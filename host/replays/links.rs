@@ -1,6 +1,6 @@
 //! The example link with --record and --at-once beside the replay of what it recorded: their lines of epochs and of port
 //! states say the same. The link says states once all frames of a frame time are handed, so that reports which come together
-//! have one list of changes there. A recording has no times yet, so that the link is drawn with none.
+//! have one list of changes there.
 
 use crate::random::Random;
 use std::collections::BTreeMap;
@@ -65,7 +65,8 @@ pub fn compared(folder: &str, link: &[String], replay: &[String], seed: u64) -> 
     let payload = random.one_of(&[1, 7, 30]);
     let window = random.one_of(&[32, 48, 64, 100]);
     let choices = format!(
-        "--at-once --each --hold-off 0 --restore 0 --seed {} --slots {} --payload {} --window {} --number {} --epochs 60 --record {}",
+        "--at-once --each{} --seed {} --slots {} --payload {} --window {} --number {} --epochs 60 --record {}",
+        if seed % 4 == 0 { " --fixed" } else { "" },
         seed, slots, payload, window, first, file
     );
     let said = Command::new(&link[0]).args(&link[1..]).args(choices.split(' ')).output().expect("the example link starts");

@@ -24,7 +24,7 @@ use std::process::{Command, Stdio};
 /// What the program lends.
 const STORE_MOST: usize = 65536;
 
-const RECORDINGS: usize = 50;
+const RECORDINGS: usize = 80;
 const LINKS: u64 = 200;
 
 struct Program {

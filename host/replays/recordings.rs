@@ -27,7 +27,7 @@ struct Sending {
     h4: Vec<Vec<u8>>,
 }
 
-fn sending(random: &mut Random, ports: usize, first: usize, frames: usize) -> Sending {
+fn sending(random: &mut Random, ports: usize, first: usize, frames: usize, fixed: bool) -> Sending {
     let mut h4 = vec![vec![0; frames]; ports];
     let mut said = words(random, ports);
     let start = (first + 8) / EPOCH * EPOCH;
@@ -40,8 +40,14 @@ fn sending(random: &mut Random, ports: usize, first: usize, frames: usize) -> Se
         for (port, (word, sq)) in said.iter().enumerate() {
             let mut sixteen = [0; EPOCH];
             let epoch = u32::from(epoch_of(tag % TAGS));
-            let fields = Fields { epoch, word: *word, gid: 0, mst: random.below(256) as u32, rs_ack: 0, sq: *sq, reserved: 0 };
-            packet::write(&fields, &mut sixteen);
+            if fixed {
+                // mostly each port's own number
+                let own = if random.below(60) == 0 { *sq } else { port as u32 };
+                packet::write_fixed(epoch, own, &mut sixteen);
+            } else {
+                let fields = Fields { epoch, word: *word, gid: 0, mst: random.below(256) as u32, rs_ack: 0, sq: *sq, reserved: 0 };
+                packet::write(&fields, &mut sixteen);
+            }
             for (k, byte) in sixteen.iter().enumerate() {
                 let place = (epoch_start + k).wrapping_sub(first + 8);
                 if place < frames {
@@ -59,6 +65,23 @@ pub fn line(port: usize, h4: u8, flag: u8, payload: &[u8], lower: bool) -> Vec<u
         line.extend(if lower { format!("{:02x}", byte) } else { format!("{:02X}", byte) }.bytes());
     }
     line
+}
+
+/// Ports, P and W, and pairs in any order; no name stands for no kind.
+fn first_line(random: &mut Random, ports: usize, size: usize, window: usize, kind: &str) -> Vec<u8> {
+    let mut pairs = Vec::new();
+    if !kind.is_empty() {
+        pairs.push(format!("\tkind\t{}", kind));
+    }
+    for name in ["hold-off", "wait-to-restore"] {
+        if random.below(2) == 0 {
+            let most = random.one_of(&[1, 3, 20, 5001]);
+            let list: String = (0..ports).map(|_| format!("\t{}", random.below(most))).collect();
+            let place = random.below(pairs.len() as u64 + 1) as usize;
+            pairs.insert(place, format!("\t{}{}", name, list));
+        }
+    }
+    format!("{}\t{}\t{}{}", ports, size, window, pairs.concat()).into_bytes()
 }
 
 /// A line that is none, mostly made of a good one.
@@ -88,9 +111,10 @@ pub fn made_up(random: &mut Random, frames: usize) -> Vec<Vec<u8>> {
     let ports = random.one_of(&[1, 1, 2, 3, 5]);
     let size = random.one_of(&[1, 2, 3, 30]);
     let window = random.one_of(&[16, 17, 32, 48, 64, 100]);
-    let mut lines = vec![format!("{}\t{}\t{}", ports, size, window).into_bytes()];
+    let kind = random.one_of(&["", "", "H4", "FIXED"]);
+    let mut lines = vec![first_line(random, ports, size, window, kind)];
     let first = random.one_of(&[0, 8, 4000, 4088]);
-    let sending = sending(random, ports, first, frames);
+    let sending = sending(random, ports, first, frames, kind == "FIXED");
     let spread = random.one_of(&[0, 0, 4, 15, 40]);
     let delays: Vec<usize> = (0..ports).map(|_| random.below(spread + 1) as usize).collect();
     let mut payload = vec![0; size];
@@ -116,12 +140,19 @@ pub fn made_up(random: &mut Random, frames: usize) -> Vec<Vec<u8>> {
     lines
 }
 
-/// First lines that are refused, or of the greatest store that is lent and of one port more.
+/// First lines that are refused, or of the greatest store that is lent and of one port more; pairs that are taken and that are not.
 pub fn openings() -> Vec<Vec<u8>> {
     let mut lines: Vec<Vec<u8>> = [
         "x", "", "0\t1\t16", "1\t0\t16", "1\t1\t15", "65\t1\t16", "1\t2341\t16", "1\t1\t2049", "1\t1", "1\t1\t16\t", "1\t1\t16\tkind\tH4", "1\t1\t16\r", "1\t1 \t16",
         "000000001\t1\t16", "0000000001\t1\t16", "1\t100000\t16", "999999999\t1\t16", "4294967297\t1\t16", "-1\t1\t16", "64\t1\t512", "64\t1\t513", "63\t1\t520", "64\t63\t16",
         "64\t64\t16", "32\t31\t64", "33\t31\t64", "16\t63\t64", "17\t63\t64", "1\t31\t2048", "1\t32\t2048", "6\t756\t64",
+        "1\t1\t16\tkind", "1\t1\t16\tkind\t", "1\t1\t16\tkind\tK4", "1\t1\t16\tkind\tFIXED", "1\t1\t16\tkind\tfixed", "1\t1\t16\tkind\tH4\tkind\tH4", "1\t1\t16\tkind\tH4\t",
+        "1\t1\t16\thold-off", "1\t1\t16\thold-off\t", "1\t1\t16\thold-off\t0", "1\t1\t16\thold-off\t5000", "1\t1\t16\thold-off\t5001", "1\t1\t16\thold-off\t999999999",
+        "1\t1\t16\thold-off\t0000005000", "1\t1\t16\thold-off\t000005000", "1\t1\t16\thold-off\t5\t5", "2\t1\t16\thold-off\t5", "2\t1\t16\thold-off\t5\tx",
+        "1\t1\t16\thold-off\t5\thold-off\t5", "1\t1\t16\twait-to-restore\t5", "1\t1\t16\twait-to-restore\t5001", "1\t1\t16\twait-to-restore\t1\thold-off\t2",
+        "1\t1\t16\thold-off\t1\twait-to-restore\t2", "1\t1\t16\thold-off\t5001\twait-to-restore\tx", "1\t1\t16\thold-off\t1\twait-to-restore", "1\t1\t16\twait_to_restore\t1",
+        "1\t1\t16\tkind\tFIXED\thold-off\t3\twait-to-restore\t4", "1\t1\t16\thold-off\t3\twait-to-restore\t4\tkind\tFIXED", "0\t1\t16\thold-off", "0\t1\t16\thold-off\t1",
+        "1\t1\t16\thold-off\tkind\tH4", "1\t1\t16\t\tkind\tH4", "999999999\t1\t16\thold-off\t1",
     ]
     .iter()
     .map(|l| l.as_bytes().to_vec())
@@ -129,6 +160,13 @@ pub fn openings() -> Vec<Vec<u8>> {
     // a first line of 8,192 bytes, which is long and malformed, and one byte more
     lines.push(vec![b'1'; 8192]);
     lines.push(vec![b'1'; 8193]);
+    // both lists of 64 ports with nine digits, which fit into a line, and of 65 ports
+    for ports in [64, 65] {
+        for time in ["000005000", "000005001"] {
+            let list = format!("\t{}", time).repeat(ports);
+            lines.push(format!("{}\t1\t16\thold-off{}\twait-to-restore{}", ports, list, list).into_bytes());
+        }
+    }
     lines
 }
 

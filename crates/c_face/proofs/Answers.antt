@@ -5,7 +5,7 @@ use mathlib.Core.List.{List, _++_}
 use Prim.Native.Nat.{ℕ, _<_}
 use native.Mathlib.Omega.{arith}
 use borrow.Author.Tests.{eq-eqb, ne-eqb, lt-ltb, ltb-true}
-use lib.Dec.{eqb, ltb}
+use lib.Dec.{ltb}
 use lib.ListN.{length, drop, drop-of-length-le}
 use Rattle.ground.specs.Truth.{and-left, and-right, fails}
 use Rattle.packet.specs.declared.layout.Fields.{Fields}
@@ -69,7 +69,7 @@ module _ (epoch word gid mst ack sq : ℕ) where
   pub write-unfit : (reserved : ℕ) (s : List ℕ) (r : ℕ) → areBytes epoch word gid mst ack sq ≡ false → r ≡ writeRefusal (length s)
       → (r ≡ writingNumber (writeAnswer (given epoch word gid mst ack sq reserved) s)) × (s ≡ writeBytes (given epoch word gid mst ack sq reserved) s)
   write-unfit reserved s r e h =
-      (h ∙ sym (unfit-answer (given epoch word gid mst ack sq reserved) s (unfit reserved e)), sym (unfit-bytes (given epoch word gid mst ack sq reserved) s (unfit reserved e)))
+      (h ∙ sym (unfit-answer 0 (given epoch word gid mst ack sq reserved) s (unfit reserved e)), sym (unfit-bytes (given epoch word gid mst ack sq reserved) s (unfit reserved e)))
 
 module _ (h4 s : List ℕ) where
   pub read-wrong : (length s ≡ 10 → ⊥) → (9 ≡ readAnswerC h4 s) × (s ≡ readFieldsC h4 s)

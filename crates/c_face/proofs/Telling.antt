@@ -1,10 +1,8 @@
 -- Changes written piece by piece are the table of their bytes, and each way out of the calls on them.
 use mathlib.Core.Path.{_≡_, refl, sym, _∙_, ap}
-use mathlib.Core.Bool.{Bool, true, false, cond, not, _&&_}
 use mathlib.Core.List.{List, [], _∷_}
 use Prim.Native.Nat.{ℕ, _+_, _-_, _*_, _/_, _%_, _≤_, _<_}
 use native.Mathlib.Omega.{arith}
-use lib.Dec.{eqb, ltb}
 use lib.ListN.{length, getD}
 use borrow.Author.Tests.{eq-eqb, ne-eqb, le-ltb, lt-ltb}
 use Rattle.ground.specs.Drawn.{Filling, fillAt, fillAt-ext, filling, filling-all, filling-piece}
@@ -19,7 +17,7 @@ use Rattle.spoken.specs.declared.speaking.Speech.{Speech}
 use Rattle.spoken.specs.Shown.{waitCode}
 use Rattle.spoken.specs.Speaking.{SPEECH-ROOM, speechBytes, speechOf}
 use Rattle.c_face.specs.Boards.{boardBytesOf}
-use Rattle.c_face.specs.Changes.{appliedAnswerC, appliedBytesC, boardFrom, changeBytes, changesByte, changesBytesOf, changesFrom, comparedAnswerC, comparedBytesC, isWait, listByte, spokenAnswerC, spokenBytesC, writtenC}
+use Rattle.c_face.specs.Changes.{appliedAnswerC, appliedBytesC, boardFrom, changeBytes, changesByte, changesBytesOf, changesFrom, comparedAnswerC, comparedBytesC, listByte, spokenAnswerC, spokenBytesC, writtenC}
 
 -- five bytes more
 pub five-more : {out₀ out new : List ℕ} (list : List Change) (i : ℕ) (five : List ℕ) → five ≡ changeBytes (changeIn list i) → Filling 2 (5 * i) (listByte list) out₀ out

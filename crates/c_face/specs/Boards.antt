@@ -4,28 +4,35 @@ use mathlib.Core.List.{List, [], _∷_}
 use Prim.Native.Nat.{ℕ, _-_}
 use lib.Dec.{eqb, ltb}
 use lib.ListN.{getD, length}
+use Rattle.ground.specs.Flags.{oneIf}
 use Rattle.ground.specs.Table.{tabulate}
 use Rattle.sender.specs.Board.{boardOf}
 use Rattle.sender.specs.declared.board.Board.{Board}
 use Rattle.sender.specs.declared.ranks.Ranks.{Ranks}
 use Rattle.sender.specs.Epochs.{ranksOf}
 use Rattle.sender.specs.Table.{sizeOf}
-use Rattle.c_face.specs.Keeping.{flagByte, rowsByte, senderOf}
+use Rattle.c_face.specs.Keeping.{rowsByte, senderOf}
 use Rattle.c_face.specs.Senders.{isState}
 
 -- the count, at most 64, and the wait, then each slot's word and number
 unfoldable pub boardByte : Board → ℕ → ℕ
-boardByte b k = cond (ltb k 2) (getD (sizeOf (b .count) ∷ flagByte (b .wait) ∷ []) k 0) (rowsByte (b .rows) (k - 2))
+boardByte b k = cond (ltb k 2) (getD (sizeOf (b .count) ∷ oneIf (b .wait) ∷ []) k 0) (rowsByte (b .rows) (k - 2))
+
+abbrev pub boardBytes : ℕ
+boardBytes = 130
 
 unfoldable pub boardBytesOf : Board → List ℕ
-boardBytesOf b = tabulate 130 (boardByte b)
+boardBytesOf b = tabulate boardBytes (boardByte b)
 
 -- the count, whether an epoch has started, its number and X, then each slot's rank
 unfoldable pub rankByte : Ranks → ℕ → ℕ
-rankByte r k = cond (ltb k 4) (getD (r .count ∷ flagByte (r .begun) ∷ r .epoch ∷ r .x ∷ []) k 0) (getD (r .ranks) (k - 4) 0)
+rankByte r k = cond (ltb k 4) (getD (r .count ∷ oneIf (r .begun) ∷ r .epoch ∷ r .x ∷ []) k 0) (getD (r .ranks) (k - 4) 0)
+
+abbrev pub ranksBytes : ℕ
+ranksBytes = 68
 
 unfoldable pub ranksBytesOf : Ranks → List ℕ
-ranksBytesOf r = tabulate 68 (rankByte r)
+ranksBytesOf r = tabulate ranksBytes (rankByte r)
 
 abbrev pub bothSized : ℕ → List ℕ → List ℕ → Bool
 bothSized n state out = isState state && eqb (length out) n
@@ -38,10 +45,10 @@ unfoldable pub shownBytes : ℕ → List ℕ → List ℕ → List ℕ → List 
 shownBytes n state new out = cond (bothSized n state out) new out
 
 abbrev pub boardBytesC : List ℕ → List ℕ → List ℕ
-boardBytesC state out = shownBytes 130 state (boardBytesOf (boardOf (senderOf state .table))) out
+boardBytesC state out = shownBytes boardBytes state (boardBytesOf (boardOf (senderOf state .table))) out
 
 abbrev pub goingBytesC : List ℕ → List ℕ → List ℕ
-goingBytesC state out = shownBytes 130 state (boardBytesOf (senderOf state .outgoing)) out
+goingBytesC state out = shownBytes boardBytes state (boardBytesOf (senderOf state .outgoing)) out
 
 abbrev pub ranksBytesC : List ℕ → List ℕ → List ℕ
-ranksBytesC state out = shownBytes 68 state (ranksBytesOf (ranksOf (senderOf state))) out
+ranksBytesC state out = shownBytes ranksBytes state (ranksBytesOf (ranksOf (senderOf state))) out

@@ -16,7 +16,7 @@ use Rattle.circuits.specs.Commands.{startOf}
 use Rattle.circuits.specs.Owners.{ownerIn}
 use Rattle.circuits.specs.Parts as P
 use Rattle.circuits.specs.Readings.{boardShown, outgoingShown, ownedShown, packetAnswer, packetBytes, payloadAnswer, payloadBytes, ranksShown}
-use Rattle.c_face.specs.Boards.{boardBytesOf, ranksBytesOf}
+use Rattle.c_face.specs.Boards.{boardBytes, boardBytesOf, ranksBytes, ranksBytesOf}
 use Rattle.c_face.specs.Keeping.{byteAt, senderOf, stateBytes}
 use Rattle.c_face.specs.Senders.{areBytes, outside}
 
@@ -105,13 +105,13 @@ unfoldable pub shownBytesOn : ℕ → List ℕ → ℕ → List ℕ → List ℕ
 shownBytesOn n state g new out = bytesBehind state g (cond (eqb (length out) n) new out) out
 
 abbrev pub boardBytesOn : List ℕ → ℕ → List ℕ → List ℕ
-boardBytesOn state g out = shownBytesOn 130 state g (boardBytesOf (boardShown (cardOf state) g .board)) out
+boardBytesOn state g out = shownBytesOn boardBytes state g (boardBytesOf (boardShown (cardOf state) g .board)) out
 
 abbrev pub outgoingBytesOn : List ℕ → ℕ → List ℕ → List ℕ
-outgoingBytesOn state g out = shownBytesOn 130 state g (boardBytesOf (outgoingShown (cardOf state) g .board)) out
+outgoingBytesOn state g out = shownBytesOn boardBytes state g (boardBytesOf (outgoingShown (cardOf state) g .board)) out
 
 abbrev pub ranksBytesOn : List ℕ → ℕ → List ℕ → List ℕ
-ranksBytesOn state g out = shownBytesOn 68 state g (ranksBytesOf (ranksShown (cardOf state) g .ranks)) out
+ranksBytesOn state g out = shownBytesOn ranksBytes state g (ranksBytesOf (ranksShown (cardOf state) g .ranks)) out
 
 abbrev pub ownedBytesOn : List ℕ → ℕ → List ℕ → List ℕ
 ownedBytesOn state g out = shownBytesOn 64 state g (ownedShown (cardOf state) g .owned) out

@@ -16,15 +16,18 @@ use Rattle.spoken.specs.declared.lists.Changes.{Changes}
 use Rattle.spoken.specs.declared.lists.WaitChange.{WaitChange}
 use Rattle.spoken.specs.declared.lists.WaitChange.the-variants.{Same, Opened, Closed}
 use Rattle.spoken.specs.Shown.{waitCode}
-use Rattle.spoken.specs.Speaking.{SPEECH-ROOM, speakAnswer, speechBytes, speechOf}
-use Rattle.c_face.specs.Boards.{boardBytesOf}
+use Rattle.spoken.specs.Speaking.{SPEECH-ROOM, speechBytes, speechOf}
+use Rattle.c_face.specs.Boards.{boardBytes, boardBytesOf}
 use Rattle.c_face.specs.Keeping.{boardIn}
 
 abbrev pub isBoard : List ℕ → Bool
-isBoard bytes = eqb (length bytes) 130
+isBoard bytes = eqb (length bytes) boardBytes
+
+abbrev pub changesBytes : ℕ
+changesBytes = 322
 
 abbrev pub areChanges : List ℕ → Bool
-areChanges bytes = eqb (length bytes) 322
+areChanges bytes = eqb (length bytes) changesBytes
 
 -- Reading. Any bytes are a board.
 
@@ -62,7 +65,7 @@ unfoldable pub changesByte : Changes → ℕ → ℕ
 changesByte cs k = cond (ltb k 2) (getD (cs .count ∷ waitCode (cs .wait) ∷ []) k 0) (listByte (cs .list) (k - 2))
 
 unfoldable pub changesBytesOf : Changes → List ℕ
-changesBytesOf cs = tabulate 322 (changesByte cs)
+changesBytesOf cs = tabulate changesBytes (changesByte cs)
 
 -- The calls: 9 and then the crate's own answer; under a refusal every lent byte stays.
 

@@ -1,10 +1,11 @@
 -- The sender's state as 397 bytes. Bytes 0 to 127 are the slots' states and numbers in turn, 128 to 255 the words and numbers now going out,
 -- 256 to 383 those that rule, then the fields. Any bytes are a sender: what no call writes is read as said here.
-use mathlib.Core.Bool.{Bool, cond, not}
+use mathlib.Core.Bool.{cond}
 use mathlib.Core.List.{List, [], _∷_}
 use Prim.Native.Nat.{ℕ, _+_, _-_, _*_, _/_, _%_}
 use lib.Dec.{eqb, ltb}
 use lib.ListN.{getD}
+use Rattle.ground.specs.Flags.{flagOf, oneIf}
 use Rattle.ground.specs.Table.{tabulate}
 use Rattle.sender.specs.Board.{word}
 use Rattle.sender.specs.declared.board.Board.{Board}
@@ -33,13 +34,6 @@ codeOf Idle = 0
 codeOf Add = 1
 codeOf Active = 2
 codeOf Dnu = 3
-
--- a flag byte other than 0 counts as set
-abbrev pub flagOf : ℕ → Bool
-flagOf byte = not (eqb byte 0)
-
-abbrev pub flagByte : Bool → ℕ
-flagByte flag = cond flag 1 0
 
 -- Reading.
 
@@ -92,15 +86,15 @@ rowsByte rows k = rowByte (rowAt rows (k / 2)) (k % 2)
 abbrev pub fieldBytes : Sender → List ℕ
 fieldBytes s =
     s .table .count
-    ∷ flagByte (s .table .wait)
+    ∷ oneIf (s .table .wait)
     ∷ s .table .bit
     ∷ s .table .kind
     ∷ s .outgoing .count
-    ∷ flagByte (s .outgoing .wait)
+    ∷ oneIf (s .outgoing .wait)
     ∷ s .ruling .count
-    ∷ flagByte (s .ruling .wait)
+    ∷ oneIf (s .ruling .wait)
     ∷ s .epoch
-    ∷ flagByte (s .begun)
+    ∷ oneIf (s .begun)
     ∷ s .gid
     ∷ s .mst
     ∷ s .«rs_ack»
@@ -112,4 +106,4 @@ byteAt s k =
     (cond (ltb k 256) (rowsByte (s .outgoing .rows) (k - 128)) (cond (ltb k 384) (rowsByte (s .ruling .rows) (k - 256)) (getD (fieldBytes s) (k - 384) 0)))
 
 unfoldable pub bytesOf : Sender → List ℕ
-bytesOf s = tabulate 397 (byteAt s)
+bytesOf s = tabulate stateBytes (byteAt s)

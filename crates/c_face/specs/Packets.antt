@@ -8,6 +8,7 @@ use Rattle.packet.specs.declared.layout.Fields.{Fields}
 use Rattle.packet.specs.declared.reader.Reading.{Reading}
 use Rattle.packet.specs.declared.reader.Reading.the-variants.{Packet, Length, Crc, Fixed, Unassigned}
 use Rattle.packet.specs.Fixed.{readFixedAnswer, writeFixedAnswer}
+use Rattle.packet.specs.Kinds.{frames}
 use Rattle.packet.specs.Reading.{readAnswer, readingNumber}
 use Rattle.packet.specs.Writing.{writeAnswer, writeBytes, writingNumber}
 
@@ -68,5 +69,6 @@ readFixedFieldsC h4 fields = cond (eqb (length fields) 10) (valuesOr (readFixedA
 abbrev pub areBytes : ℕ → ℕ → ℕ → ℕ → ℕ → ℕ → Bool
 areBytes epoch word gid mst ack sq = ltb epoch 256 && ltb word 256 && ltb gid 256 && ltb mst 256 && ltb ack 256 && ltb sq 256
 
+-- the packet is H4's, whose kind is 0
 abbrev pub writeRefusal : ℕ → ℕ
-writeRefusal n = cond (eqb n 16) 8 9
+writeRefusal n = cond (eqb n (frames 0)) 8 9

@@ -4,11 +4,11 @@ use mathlib.Core.List.{List, [], _∷_}
 use Prim.Native.Nat.{ℕ}
 use lib.Dec.{eqb}
 use lib.ListN.{length}
+use Rattle.ground.specs.Flags.{oneIf}
 use Rattle.paths.specs.Answers.{answerOf, numberOf}
 use Rattle.paths.specs.Checking.{checkedOf}
 use Rattle.paths.specs.declared.planning.Proposal.{Proposal}
 use Rattle.paths.specs.Planning.{planOf}
-use Rattle.c_face.specs.Keeping.{flagByte}
 
 -- how many are chosen, then their numbers
 abbrev pub planBytesOf : Proposal → List ℕ
@@ -30,4 +30,4 @@ abbrev pub checkAnswerC : List ℕ → ℕ → ℕ → List ℕ → ℕ
 checkAnswerC delays k W out = lentAnswer (numberOf (answerOf delays k W)) 1 out
 
 abbrev pub checkByteC : List ℕ → ℕ → ℕ → List ℕ → List ℕ → List ℕ
-checkByteC delays k W set out = lentBytes (numberOf (answerOf delays k W)) 1 (flagByte (checkedOf delays k W set .accepted) ∷ []) out
+checkByteC delays k W set out = lentBytes (numberOf (answerOf delays k W)) 1 (oneIf (checkedOf delays k W set .accepted) ∷ []) out

@@ -1,12 +1,18 @@
 // The sender's board and ranks for C, each read whole into one lent buffer.
 use crate::keeping;
+use crate::keeping::SENDER_BYTES;
 use sender::Board;
 use sender::Ranks;
-use sender::Sender;
 ghost use mathlib.Core.Path.{_≡_};
 ghost use lib.ListN.{length};
 ghost use Rattle.sender.specs.Table.{sizeOf};
-ghost use Rattle.c_face.specs.Boards.{boardBytesC, boardBytesOf, goingBytesC, ranksBytesC, ranksBytesOf, shownAnswerC};
+ghost use Rattle.c_face.specs.Boards.{boardBytes, boardBytesC, boardBytesOf, goingBytesC, ranksBytes, ranksBytesC, ranksBytesOf, shownAnswerC};
+
+// A board.
+pub(crate) const BOARD_BYTES: usize = 130;
+
+// The ranks of an epoch.
+pub(crate) const RANKS_BYTES: usize = 68;
 
 // A count above 64 stands only in a state that does not come from a start: nobody is to read past the board by it.
 fn shown_count(count: u8) -> u8
@@ -16,10 +22,10 @@ fn shown_count(count: u8) -> u8
 }
 
 pub(crate) fn put_board(board: Board, out: &mut [u8])
-    requires { ⌜ length (now out) ≡ 130 ⌝ }
+    requires { ⌜ length (now out) ≡ boardBytes ⌝ }
     ensures { λ r. ⌜ now (out .exit) ≡ boardBytesOf board ⌝ }
 {
-    let wait = keeping::flag_byte(board.wait);
+    let wait = ground::one_if(board.wait);
     let count = shown_count(board.count);
     let head = [count, wait];
     let rows = board.rows;
@@ -28,10 +34,10 @@ pub(crate) fn put_board(board: Board, out: &mut [u8])
 }
 
 pub(crate) fn put_ranks(ranks: Ranks, out: &mut [u8])
-    requires { ⌜ length (now out) ≡ 68 ⌝ }
+    requires { ⌜ length (now out) ≡ ranksBytes ⌝ }
     ensures { λ r. ⌜ now (out .exit) ≡ ranksBytesOf ranks ⌝ }
 {
-    let begun = keeping::flag_byte(ranks.begun);
+    let begun = ground::one_if(ranks.begun);
     let head = [ranks.count, begun, ranks.epoch, ranks.x];
     let each = ranks.ranks;
     keeping::put_bytes(&head, 0, out);
@@ -43,10 +49,10 @@ pub extern "C" fn levelspruce_sender_board(state: &[u8], board: &mut [u8]) -> u8
     ensures { λ r. ⌜ (r ≡ shownAnswerC 130 (now (state .entry)) (now (board .entry)))
         × (now (board .exit) ≡ boardBytesC (now (state .entry)) (now (board .entry))) ⌝ }
 {
-    if state.len() != 397 {
+    if state.len() != SENDER_BYTES {
         return 9;
     }
-    if board.len() != 130 {
+    if board.len() != BOARD_BYTES {
         return 9;
     }
     let sender = keeping::sender_of(state);
@@ -61,10 +67,10 @@ pub extern "C" fn levelspruce_sender_board_going(state: &[u8], board: &mut [u8])
     ensures { λ r. ⌜ (r ≡ shownAnswerC 130 (now (state .entry)) (now (board .entry)))
         × (now (board .exit) ≡ goingBytesC (now (state .entry)) (now (board .entry))) ⌝ }
 {
-    if state.len() != 397 {
+    if state.len() != SENDER_BYTES {
         return 9;
     }
-    if board.len() != 130 {
+    if board.len() != BOARD_BYTES {
         return 9;
     }
     let sender = keeping::sender_of(state);
@@ -78,10 +84,10 @@ pub extern "C" fn levelspruce_sender_ranks(state: &[u8], ranks: &mut [u8]) -> u8
     ensures { λ r. ⌜ (r ≡ shownAnswerC 68 (now (state .entry)) (now (ranks .entry)))
         × (now (ranks .exit) ≡ ranksBytesC (now (state .entry)) (now (ranks .entry))) ⌝ }
 {
-    if state.len() != 397 {
+    if state.len() != SENDER_BYTES {
         return 9;
     }
-    if ranks.len() != 68 {
+    if ranks.len() != RANKS_BYTES {
         return 9;
     }
     let sender = keeping::sender_of(state);

@@ -1,5 +1,7 @@
 // Two circuits on one card for C. The whole state is a lent buffer: the owner row, then a sender's state for each group. A call reads and writes the owner row and its group's own part.
 use crate::boards;
+use crate::boards::BOARD_BYTES;
+use crate::boards::RANKS_BYTES;
 use crate::keeping;
 use crate::senders;
 use circuits::Card;
@@ -15,22 +17,25 @@ ghost use Rattle.circuits.specs.Calls.Call.{Claim, Release, AddSlot, RemoveSlot
 ghost use Rattle.circuits.specs.Commands.{startOf};
 ghost use Rattle.circuits.specs.Parts as P;
 ghost use Rattle.ground.specs.Drawn.{fillAt};
-ghost use Rattle.c_face.specs.Cards.{alone, boardBytesOn, cardOf, keptCard, outgoingBytesOn, ownedBytesOn, ownersIn, packetAnswerOn, packetBytesOn, partAt, partIn, payloadAnswerOn, payloadBytesOn, putCard, putOwn, ranksBytesOn, refusalOf, shownAnswerOn, startAnswerOn, startStateOn, stepAnswerOn, stepStateOn};
-ghost use Rattle.c_face.specs.Keeping.{byteAt, senderOf};
+ghost use Rattle.c_face.specs.Cards.{alone, boardBytesOn, cardBytes, cardOf, keptCard, outgoingBytesOn, ownedBytesOn, ownersIn, packetAnswerOn, packetBytesOn, partAt, partIn, payloadAnswerOn, payloadBytesOn, putCard, putOwn, ranksBytesOn, refusalOf, shownAnswerOn, startAnswerOn, startStateOn, stepAnswerOn, stepStateOn};
+ghost use Rattle.c_face.specs.Keeping.{byteAt, senderOf, stateBytes};
 ghost use Rattle.c_face.specs.Senders.{areBytes};
+
+// The state of a card with two groups.
+pub(crate) const CARD_BYTES: usize = 858;
 
 // 9 for a state of another length, then 1 for a group other than the two.
 fn refusal(length: usize, group: u32) -> u8
     ensures { λ r. ⌜ r ≡ refusalOf length group ⌝ }
 {
-    if length != 858 {
+    if length != CARD_BYTES {
         return 9;
     }
     if group < 2 { 0 } else { 1 }
 }
 
 fn owners_in(state: &[u8]) -> [u8; 64]
-    requires { ⌜ length (now state) ≡ 858 ⌝ }
+    requires { ⌜ length (now state) ≡ cardBytes ⌝ }
     ensures { λ r. ⌜ r ≡ ownersIn (now (state .entry)) ⌝ }
 {
     let mut owners = [0; 64];
@@ -43,7 +48,7 @@ fn owners_in(state: &[u8]) -> [u8; 64]
 }
 
 fn part_in(state: &[u8], group: u32) -> Sender
-    requires { ⌜ length (now state) ≡ 858 ⌝ }
+    requires { ⌜ length (now state) ≡ cardBytes ⌝ }
     ensures { λ r. ⌜ r ≡ senderOf (partIn group (now (state .entry))) ⌝ }
 {
     if group == 0 {
@@ -54,7 +59,7 @@ fn part_in(state: &[u8], group: u32) -> Sender
 
 // The card as one group may know it: its own sender stands in the other's place too, so that the other's part is not read.
 pub(crate) fn own_card(state: &[u8], group: u32) -> Card
-    requires { ⌜ length (now state) ≡ 858 ⌝ }
+    requires { ⌜ length (now state) ≡ cardBytes ⌝ }
     ensures { λ r. ⌜ r ≡ alone group (cardOf (now (state .entry))) ⌝ }
 {
     let owners = owners_in(state);
@@ -73,8 +78,8 @@ fn own_sender(card: Card, group: u32) -> Sender
 }
 
 fn put_part(sender: Sender, group: u32, state: &mut [u8])
-    requires { ⌜ length (now state) ≡ 858 ⌝ }
-    ensures { λ r. ⌜ now (state .exit) ≡ fillAt (partAt group) 397 (byteAt sender) (now (state .entry)) ⌝ }
+    requires { ⌜ length (now state) ≡ cardBytes ⌝ }
+    ensures { λ r. ⌜ now (state .exit) ≡ fillAt (partAt group) stateBytes (byteAt sender) (now (state .entry)) ⌝ }
 {
     if group == 0 {
         keeping::put_sender(sender, &mut state[64..461]);
@@ -84,7 +89,7 @@ fn put_part(sender: Sender, group: u32, state: &mut [u8])
 }
 
 pub(crate) fn put_own(card: Card, group: u32, state: &mut [u8])
-    requires { ⌜ length (now state) ≡ 858 ⌝ }
+    requires { ⌜ length (now state) ≡ cardBytes ⌝ }
     ensures { λ r. ⌜ now (state .exit) ≡ putOwn group card (now (state .entry)) ⌝ }
 {
     let owners = card.owners;
@@ -95,7 +100,7 @@ pub(crate) fn put_own(card: Card, group: u32, state: &mut [u8])
 
 // What a step leaves: under 0 the owner row and the group's part, and under a refusal the bytes as they were.
 pub(crate) fn keep(step: CardOutcome, group: u32, state: &mut [u8]) -> u8
-    requires { ⌜ length (now state) ≡ 858 ⌝ }
+    requires { ⌜ length (now state) ≡ cardBytes ⌝ }
     ensures { λ r. ⌜ (r ≡ answerNumber (step .answer)) × (now (state .exit) ≡ keptCard group step (now (state .entry))) ⌝ }
 {
     let answer = step.answer;
@@ -109,7 +114,7 @@ pub(crate) fn keep(step: CardOutcome, group: u32, state: &mut [u8]) -> u8
 }
 
 fn put_start(count: u32, epoch_0: u8, epoch_1: u8, state: &mut [u8])
-    requires { ⌜ length (now state) ≡ 858 ⌝ }
+    requires { ⌜ length (now state) ≡ cardBytes ⌝ }
     ensures { λ r. ⌜ now (state .exit) ≡ putCard (startOf 0 count «epoch_0» «epoch_1» .card) (now (state .entry)) ⌝ }
 {
     let step = Card::start(kinds::H4, count, epoch_0, epoch_1);
@@ -128,7 +133,7 @@ pub extern "C" fn levelspruce_card_start(
     ensures { λ r. ⌜ (r ≡ startAnswerOn count «first_epoch_0» «first_epoch_1» (now (state .entry)))
         × (now (state .exit) ≡ startStateOn count «first_epoch_0» «first_epoch_1» (now (state .entry))) ⌝ }
 {
-    if state.len() != 858 {
+    if state.len() != CARD_BYTES {
         return if senders::is_outside(count) { 4 } else { 9 };
     }
     if senders::is_outside(count) {
@@ -302,7 +307,7 @@ pub extern "C" fn levelspruce_card_board(state: &[u8], group: u32, board: &mut [
     if first != 0 {
         return first;
     }
-    if board.len() != 130 {
+    if board.len() != BOARD_BYTES {
         return 9;
     }
     let card = own_card(state, group);
@@ -321,7 +326,7 @@ pub extern "C" fn levelspruce_card_board_going(state: &[u8], group: u32, board: 
     if first != 0 {
         return first;
     }
-    if board.len() != 130 {
+    if board.len() != BOARD_BYTES {
         return 9;
     }
     let card = own_card(state, group);
@@ -340,7 +345,7 @@ pub extern "C" fn levelspruce_card_ranks(state: &[u8], group: u32, ranks: &mut [
     if first != 0 {
         return first;
     }
-    if ranks.len() != 68 {
+    if ranks.len() != RANKS_BYTES {
         return 9;
     }
     let card = own_card(state, group);

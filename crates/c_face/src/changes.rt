@@ -1,5 +1,6 @@
 // The spoken board for C: boards compared, changes applied and spoken, each lent whole as bytes.
 use crate::boards;
+use crate::boards::BOARD_BYTES;
 use crate::keeping;
 use packet::Word;
 use sender::Board;
@@ -8,14 +9,18 @@ use spoken::Change;
 use spoken::Changes;
 use spoken::WaitChange;
 ghost use mathlib.Core.Path.{_≡_};
-ghost use Prim.Native.Nat.{_+_, _*_, _≤_, _<_};
-ghost use lib.ListN.{getD, length};
+ghost use Prim.Native.Nat.{_+_, _*_, _<_};
+ghost use lib.ListN.{length};
 ghost use Rattle.ground.specs.Drawn.{fillAt};
 ghost use Rattle.spoken.specs.Shown.{waitCode};
-ghost use Rattle.c_face.specs.Changes.{appliedAnswerC, appliedBytesC, boardFrom, changeBytes, changeFrom, changesBytesOf, changesFrom, comparedAnswerC, comparedBytesC, listByte, listFrom, spokenAnswerC, spokenBytesC, waitFrom, writtenC};
+ghost use Rattle.c_face.specs.Boards.{boardBytes};
+ghost use Rattle.c_face.specs.Changes.{appliedAnswerC, appliedBytesC, boardFrom, changeBytes, changeFrom, changesBytes, changesBytesOf, changesFrom, comparedAnswerC, comparedBytesC, listByte, listFrom, spokenAnswerC, spokenBytesC, waitFrom, writtenC};
+
+// The changes between two boards.
+pub(crate) const CHANGES_BYTES: usize = 322;
 
 fn board_from(bytes: &[u8]) -> Board
-    requires { ⌜ length (now bytes) ≡ 130 ⌝ }
+    requires { ⌜ length (now bytes) ≡ boardBytes ⌝ }
     ensures { λ r. ⌜ r ≡ boardFrom (now (bytes .entry)) ⌝ }
 {
     let count = bytes[0];
@@ -44,7 +49,7 @@ fn wait_code(wait: WaitChange) -> u8
 }
 
 fn change_from(bytes: &[u8], i: usize) -> Change
-    requires { ⌜ (length (now bytes) ≡ 322) × (i < 64) ⌝ }
+    requires { ⌜ (length (now bytes) ≡ changesBytes) × (i < 64) ⌝ }
     ensures { λ r. ⌜ r ≡ changeFrom (now (bytes .entry)) i ⌝ }
 {
     let slot = bytes[2 + 5 * i];
@@ -66,7 +71,7 @@ fn change_from(bytes: &[u8], i: usize) -> Change
 }
 
 fn list_from(bytes: &[u8]) -> [Change; 64]
-    requires { ⌜ length (now bytes) ≡ 322 ⌝ }
+    requires { ⌜ length (now bytes) ≡ changesBytes ⌝ }
     ensures { λ r. ⌜ r ≡ listFrom (now (bytes .entry)) ⌝ }
 {
     let blank = change_from(bytes, 0);
@@ -81,7 +86,7 @@ fn list_from(bytes: &[u8]) -> [Change; 64]
 }
 
 fn changes_from(bytes: &[u8]) -> Changes
-    requires { ⌜ length (now bytes) ≡ 322 ⌝ }
+    requires { ⌜ length (now bytes) ≡ changesBytes ⌝ }
     ensures { λ r. ⌜ r ≡ changesFrom (now (bytes .entry)) ⌝ }
 {
     let count = bytes[0];
@@ -104,7 +109,7 @@ fn change_bytes(change: Change) -> [u8; 5]
 }
 
 fn put_list(list: [Change; 64], out: &mut [u8])
-    requires { ⌜ length (now out) ≡ 322 ⌝ }
+    requires { ⌜ length (now out) ≡ changesBytes ⌝ }
     ensures { λ r. ⌜ now (out .exit) ≡ fillAt 2 320 (listByte list) (now (out .entry)) ⌝ }
 {
     let mut i = 0;
@@ -117,7 +122,7 @@ fn put_list(list: [Change; 64], out: &mut [u8])
 }
 
 fn put_changes(changes: Changes, out: &mut [u8])
-    requires { ⌜ length (now out) ≡ 322 ⌝ }
+    requires { ⌜ length (now out) ≡ changesBytes ⌝ }
     ensures { λ r. ⌜ now (out .exit) ≡ changesBytesOf changes ⌝ }
 {
     let wait = changes.wait;
@@ -132,13 +137,13 @@ pub extern "C" fn levelspruce_board_changes(before: &[u8], after: &[u8], changes
     ensures { λ r. ⌜ (r ≡ comparedAnswerC (now (before .entry)) (now (after .entry)) (now (changes .entry)))
         × (now (changes .exit) ≡ comparedBytesC (now (before .entry)) (now (after .entry)) (now (changes .entry))) ⌝ }
 {
-    if before.len() != 130 {
+    if before.len() != BOARD_BYTES {
         return 9;
     }
-    if after.len() != 130 {
+    if after.len() != BOARD_BYTES {
         return 9;
     }
-    if changes.len() != 322 {
+    if changes.len() != CHANGES_BYTES {
         return 9;
     }
     let old = board_from(before);
@@ -159,10 +164,10 @@ pub extern "C" fn levelspruce_board_apply(board: &mut [u8], changes: &[u8]) -> u
     ensures { λ r. ⌜ (r ≡ appliedAnswerC (now (board .entry)) (now (changes .entry)))
         × (now (board .exit) ≡ appliedBytesC (now (board .entry)) (now (changes .entry))) ⌝ }
 {
-    if board.len() != 130 {
+    if board.len() != BOARD_BYTES {
         return 9;
     }
-    if changes.len() != 322 {
+    if changes.len() != CHANGES_BYTES {
         return 9;
     }
     if changes[1] >= 3 {
@@ -191,7 +196,7 @@ pub extern "C" fn levelspruce_board_speak(
         × (now (text .exit) ≡ spokenBytesC (now (changes .entry)) (now (text .entry)))
         × (now (written .exit) ≡ writtenC (now (changes .entry)) (now (text .entry)) (now (written .entry))) ⌝ }
 {
-    if changes.len() != 322 {
+    if changes.len() != CHANGES_BYTES {
         return 9;
     }
     if text.len() < spoken::SPEECH_ROOM {

@@ -1,5 +1,6 @@
 // A whole work order for C: each command is the card's own C call, on the bytes that those before it left. So it is one by one on any bytes.
 use crate::cards;
+use crate::cards::CARD_BYTES;
 ghost use mathlib.Core.Path.{_≡_};
 ghost use lib.ListN.{length};
 ghost use Rattle.c_face.specs.Orders.{commandAnswerOn, commandStateOn, kindAnswerOn, kindStateOn, orderAnswerOn, orderAnswersOn, orderStateOn, ordersOn};
@@ -47,7 +48,7 @@ pub extern "C" fn levelspruce_card_order(
         × (now (state .exit) ≡ orderStateOn (now (state .entry)) (now (commands .entry)) (now (answers .entry)))
         × (now (answers .exit) ≡ orderAnswersOn (now (state .entry)) (now (commands .entry)) (now (answers .entry))) ⌝ }
 {
-    if state.len() != 858 {
+    if state.len() != CARD_BYTES {
         return 9;
     }
     if commands.len() != answers.len() {

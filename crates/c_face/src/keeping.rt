@@ -10,7 +10,10 @@ ghost use mathlib.Core.Path.{_≡_};
 ghost use Prim.Native.Nat.{_+_, _≤_, _<_};
 ghost use lib.ListN.{length, getD};
 ghost use Rattle.ground.specs.Drawn.{fillAt};
-ghost use Rattle.c_face.specs.Keeping.{boardIn, bytesOf, codeOf, fieldBytes, flagByte, flagOf, rowByte, rowIn, rowsByte, rowsIn, senderOf, slotByte, slotIn, slotsByte, slotsIn, stateOf, tableIn};
+ghost use Rattle.c_face.specs.Keeping.{boardIn, bytesOf, codeOf, fieldBytes, rowByte, rowIn, rowsByte, rowsIn, senderOf, slotByte, slotIn, slotsByte, slotsIn, stateBytes, stateOf, tableIn};
+
+// A sender's state.
+pub(crate) const SENDER_BYTES: usize = 397;
 
 fn state_of(code: u8) -> State
     ensures { λ r. ⌜ r ≡ stateOf code ⌝ }
@@ -34,20 +37,8 @@ fn code_of(state: State) -> u8
     }
 }
 
-fn flag_of(byte: u8) -> bool
-    ensures { λ r. ⌜ r ≡ flagOf byte ⌝ }
-{
-    !(byte == 0)
-}
-
-pub(crate) fn flag_byte(flag: bool) -> u8
-    ensures { λ r. ⌜ r ≡ flagByte flag ⌝ }
-{
-    if flag { 1 } else { 0 }
-}
-
 fn slot_in(state: &[u8], i: usize) -> Slot
-    requires { ⌜ (length (now state) ≡ 397) × (i < 64) ⌝ }
+    requires { ⌜ (length (now state) ≡ stateBytes) × (i < 64) ⌝ }
     ensures { λ r. ⌜ r ≡ slotIn (now (state .entry)) i ⌝ }
 {
     let code = state[2 * i];
@@ -59,7 +50,7 @@ fn slot_in(state: &[u8], i: usize) -> Slot
 }
 
 fn slots_in(state: &[u8]) -> [Slot; 64]
-    requires { ⌜ length (now state) ≡ 397 ⌝ }
+    requires { ⌜ length (now state) ≡ stateBytes ⌝ }
     ensures { λ r. ⌜ r ≡ slotsIn (now (state .entry)) ⌝ }
 {
     let blank = Slot {
@@ -107,7 +98,7 @@ fn rows_in(state: &[u8], at: usize) -> [Row; 64]
 }
 
 fn table_in(state: &[u8]) -> Table
-    requires { ⌜ length (now state) ≡ 397 ⌝ }
+    requires { ⌜ length (now state) ≡ stateBytes ⌝ }
     ensures { λ r. ⌜ r ≡ tableIn (now (state .entry)) ⌝ }
 {
     let count = state[384];
@@ -117,7 +108,7 @@ fn table_in(state: &[u8]) -> Table
     Table {
         slots: slots_in(state),
         count,
-        wait: flag_of(wait),
+        wait: ground::is_set(wait),
         bit,
         kind,
     }
@@ -131,19 +122,19 @@ pub(crate) fn board_in(state: &[u8], at: usize, count: u8, wait: u8) -> Board
     Board {
         rows: rows_in(state, at),
         count,
-        wait: flag_of(wait),
+        wait: ground::is_set(wait),
     }
 }
 
 // Any bytes are a sender.
 pub(crate) fn sender_of(state: &[u8]) -> Sender
-    requires { ⌜ length (now state) ≡ 397 ⌝ }
+    requires { ⌜ length (now state) ≡ stateBytes ⌝ }
     ensures { λ r. ⌜ r ≡ senderOf (now (state .entry)) ⌝ }
 {
     let table = table_in(state);
     let outgoing = board_in(state, 128, state[388], state[389]);
     let ruling = board_in(state, 256, state[390], state[391]);
-    let begun = flag_of(state[393]);
+    let begun = ground::is_set(state[393]);
     Sender {
         table,
         outgoing,
@@ -214,15 +205,15 @@ fn field_bytes(sender: Sender) -> [u8; 13]
     let ruling = sender.ruling;
     [
         table.count,
-        flag_byte(table.wait),
+        ground::one_if(table.wait),
         table.bit,
         table.kind,
         outgoing.count,
-        flag_byte(outgoing.wait),
+        ground::one_if(outgoing.wait),
         ruling.count,
-        flag_byte(ruling.wait),
+        ground::one_if(ruling.wait),
         sender.epoch,
-        flag_byte(sender.begun),
+        ground::one_if(sender.begun),
         sender.gid,
         sender.mst,
         sender.rs_ack,
@@ -230,7 +221,7 @@ fn field_bytes(sender: Sender) -> [u8; 13]
 }
 
 pub(crate) fn put_sender(sender: Sender, state: &mut [u8])
-    requires { ⌜ length (now state) ≡ 397 ⌝ }
+    requires { ⌜ length (now state) ≡ stateBytes ⌝ }
     ensures { λ r. ⌜ now (state .exit) ≡ bytesOf sender ⌝ }
 {
     let table = sender.table;

@@ -2,6 +2,8 @@
 use packet::Fields;
 use packet::Reading;
 use packet::Word;
+use packet::kinds;
+use packet::kinds::H4;
 ghost use mathlib.Core.Path.{_≡_};
 ghost use lib.ListN.{length};
 ghost use Rattle.c_face.specs.Packets.{areBytes, readAnswerC, readFieldsC, readFixedAnswerC, readFixedFieldsC, valuesIn, writeAnswerC, writeBytesC, writeFixedAnswerC, writeRefusal};
@@ -16,7 +18,8 @@ fn are_bytes(epoch: u32, word: u32, gid: u32, mst: u32, rs_ack: u32, sq: u32) ->
 fn write_refusal(length: usize) -> u8
     ensures { λ r. ⌜ r ≡ writeRefusal length ⌝ }
 {
-    if length == 16 { 8 } else { 9 }
+    let frames = kinds::epoch_frames(H4);
+    if length == frames as usize { 8 } else { 9 }
 }
 
 #[no_mangle]

@@ -53,7 +53,7 @@ pub extern "C" fn levelspruce_paths_check(
     if accepted.len() != 1 {
         return 9;
     }
-    let byte = keeping::flag_byte(checked.accepted);
+    let byte = ground::one_if(checked.accepted);
     accepted[0] = byte;
     0
 }

@@ -1,7 +1,7 @@
 // The sender for C. The whole state is a lent buffer; a refusal changes no byte of it, but for the empty group of a refused start.
 use crate::keeping;
+use crate::keeping::SENDER_BYTES;
 use packet::kinds;
-use sender::Answer;
 use sender::Sender;
 use sender::SenderOutcome;
 ghost use mathlib.Core.Path.{_≡_};
@@ -11,7 +11,7 @@ ghost use Rattle.sender.specs.Epochs.{beginOf};
 ghost use Rattle.sender.specs.Epochs.SenderCall.{OnTable, StartEpoch};
 ghost use Rattle.sender.specs.Steps.Call.{AddSlot, RemoveSlot, Report, Lapse};
 ghost use Rattle.sender.specs.Table.{answerNumber};
-ghost use Rattle.c_face.specs.Keeping.{bytesOf};
+ghost use Rattle.c_face.specs.Keeping.{bytesOf, stateBytes};
 ghost use Rattle.c_face.specs.Senders.{areBytes, keptBytes, outside, packetAnswerC, packetBytesC, payloadAnswerC, payloadBytesC, startAnswerC, startStateC, stepAnswerC, stepStateC};
 
 pub(crate) fn is_outside(count: u32) -> bool
@@ -27,7 +27,7 @@ pub(crate) fn are_bytes(a: u32, b: u32, c: u32) -> bool
 }
 
 fn put_start(count: u32, epoch: u8, state: &mut [u8])
-    requires { ⌜ length (now state) ≡ 397 ⌝ }
+    requires { ⌜ length (now state) ≡ stateBytes ⌝ }
     ensures { λ r. ⌜ now (state .exit) ≡ bytesOf (beginOf 0 count epoch .sender) ⌝ }
 {
     let step = Sender::start(kinds::H4, count, epoch);
@@ -37,7 +37,7 @@ fn put_start(count: u32, epoch: u8, state: &mut [u8])
 
 // What a step leaves: under 0 its sender's bytes, and under a refusal the bytes as they were.
 fn keep(step: SenderOutcome, state: &mut [u8]) -> u8
-    requires { ⌜ length (now state) ≡ 397 ⌝ }
+    requires { ⌜ length (now state) ≡ stateBytes ⌝ }
     ensures { λ r. ⌜ (r ≡ answerNumber (step .answer)) × (now (state .exit) ≡ keptBytes step (now (state .entry))) ⌝ }
 {
     let answer = step.answer;
@@ -55,7 +55,7 @@ pub extern "C" fn levelspruce_sender_start(count: u32, first_epoch: u32, state: 
     ensures { λ r. ⌜ (r ≡ startAnswerC count «first_epoch» (now (state .entry)))
         × (now (state .exit) ≡ startStateC count «first_epoch» (now (state .entry))) ⌝ }
 {
-    if state.len() != 397 {
+    if state.len() != SENDER_BYTES {
         return if is_outside(count) { 4 } else { 9 };
     }
     if is_outside(count) {
@@ -74,7 +74,7 @@ pub extern "C" fn levelspruce_sender_add(state: &mut [u8], slot: u32) -> u8
     ensures { λ r. ⌜ (r ≡ stepAnswerC true (OnTable (AddSlot slot)) (now (state .entry)))
         × (now (state .exit) ≡ stepStateC true (OnTable (AddSlot slot)) (now (state .entry))) ⌝ }
 {
-    if state.len() != 397 {
+    if state.len() != SENDER_BYTES {
         return 9;
     }
     let sender = keeping::sender_of(state);
@@ -87,7 +87,7 @@ pub extern "C" fn levelspruce_sender_remove(state: &mut [u8], slot: u32) -> u8
     ensures { λ r. ⌜ (r ≡ stepAnswerC true (OnTable (RemoveSlot slot)) (now (state .entry)))
         × (now (state .exit) ≡ stepStateC true (OnTable (RemoveSlot slot)) (now (state .entry))) ⌝ }
 {
-    if state.len() != 397 {
+    if state.len() != SENDER_BYTES {
         return 9;
     }
     let sender = keeping::sender_of(state);
@@ -105,7 +105,7 @@ pub extern "C" fn levelspruce_sender_report(
     ensures { λ r. ⌜ (r ≡ stepAnswerC (areBytes epoch mst «rs_ack») (OnTable (Report epoch mst «rs_ack»)) (now (state .entry)))
         × (now (state .exit) ≡ stepStateC (areBytes epoch mst «rs_ack») (OnTable (Report epoch mst «rs_ack»)) (now (state .entry))) ⌝ }
 {
-    if state.len() != 397 {
+    if state.len() != SENDER_BYTES {
         return 9;
     }
     if !are_bytes(epoch, mst, rs_ack) {
@@ -121,7 +121,7 @@ pub extern "C" fn levelspruce_sender_lapse(state: &mut [u8]) -> u8
     ensures { λ r. ⌜ (r ≡ stepAnswerC true (OnTable Lapse) (now (state .entry)))
         × (now (state .exit) ≡ stepStateC true (OnTable Lapse) (now (state .entry))) ⌝ }
 {
-    if state.len() != 397 {
+    if state.len() != SENDER_BYTES {
         return 9;
     }
     let sender = keeping::sender_of(state);
@@ -139,7 +139,7 @@ pub extern "C" fn levelspruce_sender_start_epoch(
     ensures { λ r. ⌜ (r ≡ stepAnswerC (areBytes gid mst «rs_ack») (StartEpoch gid mst «rs_ack») (now (state .entry)))
         × (now (state .exit) ≡ stepStateC (areBytes gid mst «rs_ack») (StartEpoch gid mst «rs_ack») (now (state .entry))) ⌝ }
 {
-    if state.len() != 397 {
+    if state.len() != SENDER_BYTES {
         return 9;
     }
     if !are_bytes(gid, mst, rs_ack) {
@@ -155,7 +155,7 @@ pub extern "C" fn levelspruce_sender_packet(state: &[u8], slot: u32, h4: &mut [u
     ensures { λ r. ⌜ (r ≡ packetAnswerC (now (state .entry)) slot (now (h4 .entry)))
         × (now (h4 .exit) ≡ packetBytesC (now (state .entry)) slot (now (h4 .entry))) ⌝ }
 {
-    if state.len() != 397 {
+    if state.len() != SENDER_BYTES {
         return 9;
     }
     let sender = keeping::sender_of(state);
@@ -174,7 +174,7 @@ pub extern "C" fn levelspruce_sender_payload(
     ensures { λ r. ⌜ (r ≡ payloadAnswerC (now (state .entry)) slot p (now (frame .entry)) (now (member .entry)))
         × (now (member .exit) ≡ payloadBytesC (now (state .entry)) slot p (now (frame .entry)) (now (member .entry))) ⌝ }
 {
-    if state.len() != 397 {
+    if state.len() != SENDER_BYTES {
         return 9;
     }
     let sender = keeping::sender_of(state);

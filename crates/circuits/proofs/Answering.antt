@@ -1,5 +1,5 @@
 -- Each way out of the card's calls, as the definitions have it.
-use mathlib.Core.Path.{_≡_, refl, _∙_, sym, ap}
+use mathlib.Core.Path.{_≡_, _∙_, sym, ap}
 use mathlib.Core.Bool.{Bool, true, false, cond, _&&_}
 use mathlib.Core.List.{List}
 use Prim.Native.Nat.{ℕ, _≤_, _<_}
@@ -12,7 +12,7 @@ use Rattle.sender.specs.declared.epochs.Sender.{Sender}
 use Rattle.sender.specs.declared.epochs.SenderOutcome.{SenderOutcome}
 use Rattle.sender.specs.declared.table.Answer as S
 use Rattle.sender.specs.Epochs as E
-use Rattle.sender.specs.Epochs.{SenderCall, beginOf, senderStepOf}
+use Rattle.sender.specs.Epochs.{SenderCall, senderStepOf}
 use Rattle.sender.specs.Laws.Sizes.{size-le}
 use Rattle.circuits.specs.declared.answers.Answer.{Answer}
 use Rattle.circuits.specs.declared.answers.Answer.the-variants.{NoSlot, Owned, Used}

@@ -1,11 +1,11 @@
 -- A group by itself: what each of its calls gives back and leaves, from its view, the call and, for a claim alone, one bit: the other owns the slot asked for.
-use mathlib.Core.Bool.{Bool, true, false, cond, _&&_, _||_}
+use mathlib.Core.Bool.{Bool, true, false, cond, _||_}
 use mathlib.Core.List.{List, [], _∷_}
 use Prim.Native.Nat.{ℕ}
 use lib.Dec.{eqb, ltb}
 use lib.ListN.{getD, length}
+use Rattle.ground.specs.Flags.{oneIf}
 use Rattle.ground.specs.Table.{tabulate}
-use Rattle.sender.specs.declared.epochs.SenderOutcome.{SenderOutcome}
 use Rattle.sender.specs.Board.{boardOf}
 use Rattle.sender.specs.Epochs as E
 use Rattle.sender.specs.Epochs.{SenderCall as S, senderStepOf}
@@ -16,7 +16,6 @@ use Rattle.circuits.specs.declared.answers.Answer.the-variants as A
 use Rattle.circuits.specs.Answers.{fromSender}
 use Rattle.circuits.specs.Calls.{Call}
 use Rattle.circuits.specs.Calls.Call.{Claim, Release, AddSlot, RemoveSlot, Report, Lapse, StartEpoch}
-use Rattle.circuits.specs.Owners.{byteOf}
 use Rattle.circuits.specs.Views.{Asked, Reply, View}
 use Rattle.circuits.specs.Views.Asked.{Do, Packet, Payload, Board, Outgoing, Ranks, Owned}
 use Rattle.circuits.specs.Views.Reply.{Answered, Wrote, Showed, Ranked, Owns}
@@ -74,7 +73,7 @@ replySeen v (Payload i p frame member) taken =
 replySeen v Board taken = Showed (record { board = boardOf (v .sender .table); answer = A.Done })
 replySeen v Outgoing taken = Showed (record { board = v .sender .outgoing; answer = A.Done })
 replySeen v Ranks taken = Ranked (record { ranks = E.ranksOf (v .sender); answer = A.Done })
-replySeen v Owned taken = Owns (record { owned = tabulate 64 (λ i. byteOf (ownIn v i)); answer = A.Done })
+replySeen v Owned taken = Owns (record { owned = tabulate 64 (λ i. oneIf (ownIn v i)); answer = A.Done })
 
 abbrev pub viewAfter : View → Asked → Bool → View
 viewAfter v (Do k) taken = stepSeen v k taken .view

@@ -4,6 +4,7 @@ use mathlib.Core.List.{List}
 use Prim.Native.Nat.{ℕ}
 use lib.Dec.{eqb, ltb}
 use lib.ListN.{getD}
+use Rattle.ground.specs.Flags.{oneIf}
 use Rattle.ground.specs.Table.{tabulate}
 
 abbrev pub markOf : ℕ → ℕ
@@ -23,9 +24,6 @@ hasOwner row i = eqb (ownerIn row i) 1 || eqb (ownerIn row i) 2
 unfoldable pub withOwner : List ℕ → ℕ → ℕ → List ℕ
 withOwner row i m = tabulate 64 (λ j. cond (eqb j i) m (ownerIn row j))
 
-abbrev pub byteOf : Bool → ℕ
-byteOf b = cond b 1 0
-
 -- a byte a slot: 1 where the group owns it
 unfoldable pub ownedBytes : List ℕ → ℕ → List ℕ
-ownedBytes row g = tabulate 64 (λ i. byteOf (ltb g 2 && isMarked row g i))
+ownedBytes row g = tabulate 64 (λ i. oneIf (ltb g 2 && isMarked row g i))

@@ -1,5 +1,5 @@
 -- Calls from a start, for examples: what they answer, and what a group's table then shows.
-use mathlib.Core.List.{List, [], _∷_}
+use mathlib.Core.List.{List}
 use Prim.Native.Nat.{ℕ}
 use Rattle.sender.specs.Shown.{shown}
 use Rattle.circuits.specs.declared.card.Card.{Card}

@@ -1,5 +1,5 @@
 -- What one group sees of the card, and its calls with what each gives back: 'For any calls, what one group is answered and what its board shows depend on its own calls and on which slots the other holds, and on nothing else.' (02, 2026-06)
-use mathlib.Core.Bool.{Bool, true, false, cond, _&&_}
+use mathlib.Core.Bool.{Bool, false, cond}
 use mathlib.Core.List.{List, [], _∷_}
 use Prim.Native.Nat.{ℕ, _-_}
 use lib.Dec.{eqb}

@@ -1,13 +1,11 @@
 -- Wrong readings of request 2026-06, each as a definition with a run on which it breaks what the request says.
 use mathlib.Core.Path.{_≡_, refl}
-use mathlib.Core.Bool.{Bool, true, false, cond}
+use mathlib.Core.Bool.{cond}
 use mathlib.Core.List.{List, [], _∷_}
 use Prim.Native.Nat.{ℕ, _+_, _<_}
 use native.Mathlib.Omega.{arith}
 use lib.ListN.{set}
-use Rattle.packet.specs.Kinds.{idleNumber, mstFails, mstFirst, mstNumbers}
-use Rattle.sender.specs.declared.epochs.Sender.{Sender}
-use Rattle.sender.specs.declared.table.Slot.{Slot}
+use Rattle.packet.specs.Kinds.{idleNumber}
 use Rattle.sender.specs.declared.table.State.the-variants.{Add}
 use Rattle.sender.specs.declared.table.Table.{Table}
 use Rattle.sender.specs.Board.{boardOf, highest, noRow, rowOf, rowsOf}
@@ -17,12 +15,12 @@ use Rattle.sender.specs.Epochs.{beginOf, freshSender}
 use Rattle.sender.specs.Numbering.{Demand2}
 use Rattle.sender.specs.Table.{membersOf, sizeOf}
 use Rattle.circuits.specs.declared.answers.Answer.{Answer}
-use Rattle.circuits.specs.declared.answers.Answer.the-variants.{Done, NoSlot, NotAllowed, Owned, WaitOpen}
+use Rattle.circuits.specs.declared.answers.Answer.the-variants.{Done, NotAllowed, Owned, WaitOpen}
 use Rattle.circuits.specs.declared.card.Card.{Card}
 use Rattle.circuits.specs.Answers.{answerNumber}
-use Rattle.circuits.specs.Calls.{Call, stepOf}
+use Rattle.circuits.specs.Calls.{stepOf}
 use Rattle.circuits.specs.Calls.Call.{AddSlot, Claim, Lapse, RemoveSlot}
-use Rattle.circuits.specs.Commands.{claimOf, commandOf, groupCallOf, releaseOf, startOf}
+use Rattle.circuits.specs.Commands.{claimOf, commandOf, groupCallOf, startOf}
 use Rattle.circuits.specs.Owners.{hasOwner, withOwner}
 use Rattle.circuits.specs.Parts.{isSlot, marked, owns, senderOf, stepped, withSender}
 use Rattle.circuits.specs.Shown.{after, board, by, told}

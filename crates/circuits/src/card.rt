@@ -7,7 +7,6 @@ use sender::Board;
 use sender::Ranks;
 use sender::Sender;
 ghost use mathlib.Core.Path.{_≡_};
-ghost use Prim.Native.Nat.{_≤_, _<_};
 ghost use lib.ListN.{length};
 ghost use Rattle.circuits.specs.Calls.{stepOf};
 ghost use Rattle.circuits.specs.Calls.Call.{Claim, Release, AddSlot, RemoveSlot, Report, Lapse, StartEpoch};

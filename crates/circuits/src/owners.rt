@@ -1,8 +1,7 @@
 // The owner row: 0 nobody, 1 group 0, 2 group 1; any other byte counts as nobody.
 ghost use mathlib.Core.Path.{_≡_};
-ghost use Prim.Native.Nat.{_≤_, _<_};
-ghost use lib.ListN.{length};
-ghost use Rattle.circuits.specs.Owners.{byteOf, hasOwner, isMarked, markOf, ownedBytes, ownerIn, withOwner};
+ghost use Prim.Native.Nat.{_<_};
+ghost use Rattle.circuits.specs.Owners.{hasOwner, isMarked, markOf, ownedBytes, ownerIn, withOwner};
 
 pub(crate) fn mark_of(group: u32) -> u8
     ensures { λ r. ⌜ r ≡ markOf group ⌝ }
@@ -45,12 +44,6 @@ pub(crate) fn with_owner(owners: [u8; 64], slot: u32, mark: u8) -> [u8; 64]
     out
 }
 
-fn byte_of(is: bool) -> u8
-    ensures { λ r. ⌜ r ≡ byteOf is ⌝ }
-{
-    if is { 1 } else { 0 }
-}
-
 // A byte a slot: 1 where the group owns it.
 pub(crate) fn owned_bytes(owners: [u8; 64], group: u32) -> [u8; 64]
     ensures { λ r. ⌜ r ≡ ownedBytes owners group ⌝ }
@@ -61,7 +54,7 @@ pub(crate) fn owned_bytes(owners: [u8; 64], group: u32) -> [u8; 64]
     let mut i = 0;
     while i < 64 {
         let owner = owners[i];
-        out[i] = byte_of(is_group & (owner == mark));
+        out[i] = ground::one_if(is_group & (owner == mark));
         i += 1;
     }
     out

@@ -9,7 +9,7 @@ use sender::Sender;
 use sender::SenderOutcome;
 use sender::State;
 ghost use mathlib.Core.Path.{_≡_};
-ghost use Prim.Native.Nat.{_≤_, _<_};
+ghost use Prim.Native.Nat.{_<_};
 ghost use Rattle.sender.specs.Table.{isMember, sizeOf};
 ghost use Rattle.circuits.specs.Parts.{emptySender, isSlot, isUsed, marked, owns, refused, senderOf, shownSender, stepped, withSender};
 

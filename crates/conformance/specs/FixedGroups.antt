@@ -12,12 +12,13 @@ use Rattle.judge.specs.declared.seen.Seen.{Seen}
 use Rattle.judge.specs.Order.{activeIn, orderOf, portOf, rankOf}
 use Rattle.judge.specs.Verdict.{fixedExact, fixedHeld, fixedVerdict, judgeOf, missing, repeats, takes}
 use Rattle.packet.specs.Crc.{byteBits, crcOf, divisor, nibbleBits}
-use Rattle.packet.specs.Fixed.{fixedRulingOf, readFixedNibbles}
+use Rattle.packet.specs.Fixed.{fixedNibbles, fixedRulingOf, readFixedAnswer, readFixedNibbles, writeFixedAnswer, writeFixedBytes}
 use Rattle.packet.specs.Kinds.{frames, idleNumber, mstFails, mstFirst, mstNumbers, tags}
-use Rattle.packet.specs.Layout.{carriedIn, dataOf, fieldsOf, highsOf, sealedOf}
-use Rattle.packet.specs.Reading.{readNibbles}
+use Rattle.packet.specs.Layout.{carriedIn, dataOf, fieldsOf, h4Of, highsOf, sealedOf}
+use Rattle.packet.specs.Reading.{readNibbles, readingNumber, readingValues}
 use Rattle.packet.specs.Ruling.{rulingOf}
 use Rattle.packet.specs.Words.{assigned}
+use Rattle.packet.specs.Writing.{writingNumber}
 use Rattle.phases.specs.Passing.{notedBy}
 use Rattle.phases.specs.Sizes.{portsIn, sized}
 use Rattle.receiver.specs.Lengths.{rowsFit}
@@ -56,6 +57,17 @@ verdict ports = judgeOf 2 ports (length ports)
 -- X, and the ports by rank
 abbrev ranked : List Seen → List ℕ
 ranked ports = let o = orderOf ports (length ports) in o .x ∷ take (o .x) (o .ports)
+
+-- the packet of epoch 147, 93 in hex, with SQ 180, B4 in hex: all four nibbles differ
+abbrev high : List ℕ
+high = 0x08 ∷ 0x09 ∷ 0x0A ∷ 0x0B ∷ 0x0C ∷ 0x0D ∷ 0xBE ∷ 0x4F ∷ 0x90 ∷ 0x31 ∷ 0x02 ∷ 0x03 ∷ 0x04 ∷ 0x05 ∷ 0x06 ∷ 0x07 ∷ []
+
+abbrev highSet : List ℕ
+highSet = 0xF8 ∷ 0xF9 ∷ 0xFA ∷ 0xFB ∷ 0xFC ∷ 0xFD ∷ 0xBE ∷ 0x4F ∷ 0x90 ∷ 0x31 ∷ 0x02 ∷ 0xF3 ∷ 0xF4 ∷ 0xF5 ∷ 0xF6 ∷ 0xF7 ∷ []
+
+-- the answer, and the values
+abbrev came : List ℕ → List ℕ
+came h4 = readingNumber (readFixedAnswer h4) ∷ readingValues (readFixedAnswer h4)
 
 -- the nibbles of a fixed group's packet of epoch 58 with SQ 5
 abbrev fixed : List ℕ
@@ -100,14 +112,24 @@ table =
     }
     ∷ record { name = "a fixed group of one, with the number 0, is sure"; given = verdict (saw 0 ∷ []) ∷ verdict (saw 1 ∷ []) ∷ []; said = 3 ∷ 1 ∷ [] }
     ∷ record {
+      name = "FIXED, SQ 180 in epoch 147, written and read; SQ 255 in epoch 255 fits";
+      given = writeFixedBytes 147 180 (replicate 16 0) ++ came high ++ (writingNumber (writeFixedAnswer 255 255 (replicate 16 0)) ∷ []);
+      said = high ++ (0 ∷ 147 ∷ 0 ∷ 0 ∷ 0 ∷ 0 ∷ 180 ∷ 0 ∷ 0 ∷ []);
+    }
+    ∷ record {
+      name = "the same with all that is not looked at set reads well, and is written again otherwise";
+      given = came highSet ++ writeFixedBytes 147 180 highSet;
+      said = (0 ∷ 147 ∷ 0 ∷ 0 ∷ 0 ∷ 0 ∷ 180 ∷ 0 ∷ []) ++ high;
+    }
+    ∷ record {
       name = "a fixed group's packet rules in its own epoch, and in no other; one with another word is refused; by 01 its CRC differs";
       given = rules 2 58 fixed ++ rules 2 59 fixed ++ rules 2 58 foreign ++ rules 0 58 fixed;
       said = 1 ∷ 0 ∷ 5 ∷ 0 ∷ 0 ∷ 0 ∷ 0 ∷ 0 ∷ 0 ∷ 0 ∷ 0 ∷ 0 ∷ 0 ∷ 0 ∷ 0 ∷ 0 ∷ [];
     }
     ∷ record {
       name = "with another MFI2 each packet of a fixed group is odd, since no CRC is checked; by 01 one of wrong CRC is not";
-      given = flag (oddPacket 2 59 fixed) ∷ flag (oddPacket 2 58 fixed) ∷ flag (oddPacket 0 59 fixed) ∷ [];
-      said = 1 ∷ 0 ∷ 0 ∷ [];
+      given = flag (oddPacket 2 59 fixed) ∷ flag (oddPacket 2 59 foreign) ∷ flag (oddPacket 2 58 fixed) ∷ flag (oddPacket 0 59 fixed) ∷ [];
+      said = 1 ∷ 1 ∷ 0 ∷ 0 ∷ [];
     }
     ∷ record {
       name = "what is shown of a fixed group's port: its word is 0 after a good packet, and 255 before one";
@@ -150,5 +172,5 @@ table =
     ∷ []
 
 pub fixed-groups : Equal table
-unfolding table activeIn orderOf portOf rankOf fixedExact fixedHeld fixedVerdict judgeOf missing repeats takes byteBits crcOf divisor nibbleBits fixedRulingOf readFixedNibbles frames idleNumber mstFails mstFirst mstNumbers tags carriedIn dataOf fieldsOf highsOf sealedOf readNibbles assigned notedBy portsIn sized rowsFit replyPort replyPorts withState portShown replyFit replyOf replyOut freshPort freshPorts sizedAnswer sizedFits sizedRows startAsAnswer startAsRows startFits startRight timesWithin claims grant granted holders mstFrom mstOf okHolds chosenOf heldOf moreHeld rounds someJoin standingBy standingsOf groupAt groupOf groupRow putGroup memberAt memberOf memberRow putMember putMarks putPackets putRow rowIn putStep stepAt stepOf stepRow inStep readable oddPacket ownNumber ownRuling rightCrc rulingIn rulingOf inStepAt
+unfolding table activeIn orderOf portOf rankOf fixedExact fixedHeld fixedVerdict judgeOf missing repeats takes byteBits crcOf divisor nibbleBits fixedNibbles fixedRulingOf readFixedAnswer readFixedNibbles writeFixedAnswer writeFixedBytes h4Of frames idleNumber mstFails mstFirst mstNumbers tags carriedIn dataOf fieldsOf highsOf sealedOf readNibbles assigned notedBy portsIn sized rowsFit replyPort replyPorts withState portShown replyFit replyOf replyOut freshPort freshPorts sizedAnswer sizedFits sizedRows startAsAnswer startAsRows startFits startRight timesWithin claims grant granted holders mstFrom mstOf okHolds chosenOf heldOf moreHeld rounds someJoin standingBy standingsOf groupAt groupOf groupRow putGroup memberAt memberOf memberRow putMember putMarks putPackets putRow rowIn putStep stepAt stepOf stepRow inStep readable oddPacket ownNumber ownRuling rightCrc rulingIn rulingOf inStepAt
 fixed-groups = equal-rows table refl

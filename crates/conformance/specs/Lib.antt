@@ -1,12 +1,15 @@
 pub mod Answered
 pub mod ByRank
 pub mod Circuits
+pub mod Clauses
 pub mod Entries
 pub mod Examples
 pub mod FixedGroups
+pub mod FixedRuns
 pub mod Hosts
 pub mod Joining
 pub mod Orders
+pub mod OtherNumbers
 pub mod OwnCount
 pub mod Refusals
 pub mod Replays

@@ -7,10 +7,11 @@ use lib.ListN.{drop, replicate, take}
 use Rattle.ground.specs.Circle.{after}
 use Rattle.judge.specs.Order.{activeIn, orderOf, portOf}
 use Rattle.judge.specs.Order.{rankOf as rankSeen}
-use Rattle.judge.specs.Verdict.{doubtfulBy, eosAlone, eosWrong, exact, gidDiffers, heldBy, judgeOf, lcasVerdict, missing, repeats, takes}
+use Rattle.judge.specs.Verdict.{doubtfulBy, eosAlone, eosWrong, exact, fixedExact, fixedHeld, fixedVerdict, gidDiffers, heldBy, judgeOf, lcasVerdict, missing, repeats, takes}
 use Rattle.judge.specs.Verdict.{highest as highestSeen}
 use Rattle.packet.specs.Counts.{tagByHigh, tagByLow, counts, carriesLow, nibbleIn, nibblePlace, startsCount}
 use Rattle.packet.specs.Crc.{crcOf, divisor, nibbleBits}
+use Rattle.packet.specs.Fixed.{fixedRulingOf, readFixedNibbles}
 use Rattle.packet.specs.Kinds.{distanceOf, endsEpoch, epochAfter, epochOf, epochs, epochsIn, firstTag, frames, idleNumber, lead, placeOf, startsEpoch, tagAfter, tagBefore, tags}
 use Rattle.packet.specs.Layout.{carriedIn, dataOf, fieldsOf}
 use Rattle.packet.specs.Reading.{readNibbles}
@@ -43,14 +44,15 @@ use Rattle.store.specs.Frames.{byteAt, h4At, packetIn, placeIn, ringOf, storedA
 use Rattle.store.specs.Marks.{cutByte, cutFrom, firstMark, markIn, markedAt, markedByte, passedByte, passedMarks}
 use Rattle.recording.specs.declared.record.Record.{Record}
 use Rattle.recording.specs.declared.record.Record.the-variants as R
-use Rattle.recording.specs.Opening.{lineOpening, settingsBy}
+use Rattle.recording.specs.Opening.{lineOpening, opened, settingsBy}
+use Rattle.recording.specs.Pairs.{fieldIn, holdRead, kindRead, named, restoreRead}
 use Rattle.recording.specs.Record.{flagIn, frameBy, lineRecord}
 use Rattle.replaying.specs.declared.replay.Phase.{Phase}
 use Rattle.replaying.specs.declared.replay.Phase.the-variants as P
 use Rattle.replaying.specs.Output.{answerText, countIn, epochText, markText, portText, reportText, stateAt, stateLine, stateText, statesIn}
 use Rattle.replaying.specs.Replay.{beginning}
 use Rattle.replaying.specs.Runs.{Desk, deskAfter, framed, lineIn, reported, saidTo, standing}
-use Rattle.replaying.specs.Turn.{answeredTurn, fetchRecordBy, fetchRowsBy, framedRows, framedStore, openWithRows, openWithTurn, payloadAt, startable}
+use Rattle.replaying.specs.Turn.{answeredTurn, fetchRecordBy, fetchRowsBy, framedRows, framedStore, openWithRows, openWithTurn, payloadAt, startable, startedRows, timesFit}
 use Rattle.replaying.specs.Turn.{reportOf as reportIn}
 use Rattle.text.specs.Ascii.{ascii}
 use Rattle.text.specs.Fields.{bytesIn, digitOf, hexOf, isHex}
@@ -123,11 +125,15 @@ left t d (l ∷ ls) = left t (next t d l) ls
 
 -- Lines in two parts, the state carried over. Everything that a run is made of is opened here, for the checker to compute.
 unfoldable pub replayed : Taking → ℕ → List (List ℕ) → List (List ℕ) → List ℕ
-unfolding after reportSeen tagByHigh tagByLow counts carriesLow nibbleIn nibblePlace startsCount crcOf divisor nibbleBits distanceOf endsEpoch epochAfter epochOf epochs epochsIn firstTag frames idleNumber lead placeOf startsEpoch tagAfter tagBefore tags carriedIn dataOf fieldsOf readNibbles assigned activeIn orderOf portOf rankSeen doubtfulBy eosAlone eosWrong exact gidDiffers heldBy highestSeen judgeOf lcasVerdict missing repeats takes begins foremost further latest noTag ready within brought owesNothing silent notedBy passedGroup passedOf passedPort passedPorts passedStep ruledBy rulingOf beginBy begunOf clearedPort clearedPorts clearedStep gatherBy settledOf stopBy stoppedOf portsIn sized storeFor dueIn fetchOut fetchRecord fetchRows fits outIfDue reportIfDue rowsIfDue recordOf frameRows frameStore gatheredBy marksBy portRows refusalBy settledBy storeBy takenRows takenStore fetchFits frameFits outputFor rowsFit frameInto framesInto outputBy outputOf replyPort replyPorts reportBy reportedOf rulingEpoch seenAll seenOf startsOf withState statesWorkedOut statePut statesPut freshPort freshPorts sizedRows startFits claims holders ackOf turnsAck groupAt groupOf groupRow putGroup memberAt memberOf memberRow putMember marksAt packetsAt putMarks putPackets putRow rowIn putStep stepAt stepOf stepRow arrives frameDropped byStart byWindow countsOn distanceIn flagged inStep joining keeps outside readable takenOf endsOdd oddPacket rightCrc ownNumber ownRuling rulingIn begunRun breaksAfter endsPacket furtherRun gainedRun inStepAt loses oddAfter runOn secondRun stayedRun byteAt h4At packetIn placeIn ringOf storedAt cutByte cutFrom firstMark markIn markedAt markedByte passedByte passedMarks saidTo deskAfter lineOpening settingsBy fieldsIn numberIn digitOf hexOf isHex bytesIn flagIn frameBy lineRecord startable openWithTurn openWithRows answeredTurn payloadAt framedRows framedStore fetchRecordBy fetchRowsBy reportText epochText markText countIn decimalText numberText statesIn stateAt stateLine portText stateText answerText reportIn sizedAnswer sizedFits startAsAnswer startAsRows startRight timesWithin grant granted chosenOf heldOf moreHeld rounds someJoin standingBy standingsOf
+unfolding after reportSeen tagByHigh tagByLow counts carriesLow nibbleIn nibblePlace startsCount crcOf divisor nibbleBits distanceOf endsEpoch epochAfter epochOf epochs epochsIn firstTag frames idleNumber lead placeOf startsEpoch tagAfter tagBefore tags carriedIn dataOf fieldsOf readNibbles assigned activeIn orderOf portOf rankSeen doubtfulBy eosAlone eosWrong exact gidDiffers heldBy highestSeen judgeOf lcasVerdict missing repeats takes begins foremost further latest noTag ready within brought owesNothing silent notedBy passedGroup passedOf passedPort passedPorts passedStep ruledBy rulingOf beginBy begunOf clearedPort clearedPorts clearedStep gatherBy settledOf stopBy stoppedOf portsIn sized storeFor dueIn fetchOut fetchRecord fetchRows fits outIfDue reportIfDue rowsIfDue recordOf frameRows frameStore gatheredBy marksBy portRows refusalBy settledBy storeBy takenRows takenStore fetchFits frameFits outputFor rowsFit frameInto framesInto outputBy outputOf replyPort replyPorts reportBy reportedOf rulingEpoch seenAll seenOf startsOf withState statesWorkedOut statePut statesPut freshPort freshPorts sizedRows startFits claims holders ackOf turnsAck groupAt groupOf groupRow putGroup memberAt memberOf memberRow putMember marksAt packetsAt putMarks putPackets putRow rowIn putStep stepAt stepOf stepRow arrives frameDropped byStart byWindow countsOn distanceIn flagged inStep joining keeps outside readable takenOf endsOdd oddPacket rightCrc ownNumber ownRuling rulingIn begunRun breaksAfter endsPacket furtherRun gainedRun inStepAt loses oddAfter runOn secondRun stayedRun byteAt h4At packetIn placeIn ringOf storedAt cutByte cutFrom firstMark markIn markedAt markedByte passedByte passedMarks fixedRulingOf readFixedNibbles fixedExact fixedHeld fixedVerdict saidTo deskAfter lineOpening settingsBy opened fieldIn named kindRead holdRead restoreRead timesFit startedRows fieldsIn numberIn digitOf hexOf isHex bytesIn flagIn frameBy lineRecord startable openWithTurn openWithRows answeredTurn payloadAt framedRows framedStore fetchRecordBy fetchRowsBy reportText epochText markText countIn decimalText numberText statesIn stateAt stateLine portText stateText answerText reportIn sizedAnswer sizedFits startAsAnswer startAsRows startRight timesWithin grant granted chosenOf heldOf moreHeld rounds someJoin standingBy standingsOf
 replayed t store first second = output t (lentFor store) first ++ output t (left t (lentFor store) first) second
 
 abbrev lines : List (List ℕ)
 lines = linesOf (ascii "1\t1\t16\n0\t00\t0\tAB\n0\t01\t0\tAB\n0\t52\t0\tAB\n0\t03\t0\tAB\n0\t04\t0\tAB\n0\t05\t0\tAB\n0\t96\t0\tAB\n0\t97\t0\tAB\n0\tF8\t0\tAB\n0\tF9\t0\tAB\n0\t0A\t0\tAB\n0\t0B\t0\tAB\n0\t0C\t0\tAB\n0\t0D\t0\tAB\n0\tFE\t0\tAB\n0\tFF\t0\tAB\n0\t00\t0\tAB\n0\t11\t0\tAB\n0\t52\t0\tAB\n0\t03\t0\tAB\n0\t04\t0\tAB\n0\t05\t0\tAB\n0\tF6\t0\tAB\n0\t27\t0\tAB\n0\tF8\t0\tAB\n0\tF9\t0\tAB\n0\t0A\t0\tAB\n0\t0B\t0\tAB\n0\t0C\t0\tAB\n0\t0D\t0\tAB\n0\tFE\t0\tAB\n0\tFF\t0\tAB\n0\t00\t0\tAB\n0\t21\t0\tAB\n0\t52\t0\tAB\n0\t03\t0\tAB\n0\t04\t0\tAB\n0\t05\t0\tAB\n0\t46\t0\tAB\n0\tF7\t0\tAB\n0\tF8\t0\tAB\n0\tF9\t0\tAB\n0\t0A\t0\tAB\n0\t0B\t0\tAB\n0\t0C\t0\tAB\n0\t0D\t0\tAB\n0\tFE\t0\tAB\n0\tFF\t0\tAB\n0\t00\t0\tAB\n0\t31\t0\tAB\n0\t52\t0\tAB\n0\t03\t0\tAB\n0\t04\t0\tAB\n0\t05\t0\tAB\n0\t26\t0\tAB\n0\t47\t0\tAB\n0\tF8\t0\tAB\n0\tF9\t0\tAB\n0\t0A\t0\tAB\n0\t0B\t0\tAB\n0\t0C\t0\tAB\n0\t0D\t0\tAB\n0\tFE\t0\tAB\n0\tFF\t0\tAB\n0\t00\t0\tAB\n0\t41\t0\tAB\n0\t52\t0\tAB\n0\t03\t0\tAB\n0\t04\t0\tAB\n0\t05\t0\tAB\n0\t36\t0\tAB\n0\t27\t0\tAB\n")
+
+-- the same count with zeros beside it, which is a fixed group's packets with SQ 0 (request 2026-12)
+abbrev fixedLines : List (List ℕ)
+fixedLines = linesOf (ascii "1\t1\t16\tkind\tFIXED\n0\t00\t0\tAB\n0\t01\t0\tAB\n0\t02\t0\tAB\n0\t03\t0\tAB\n0\t04\t0\tAB\n0\t05\t0\tAB\n0\t06\t0\tAB\n0\t07\t0\tAB\n0\t08\t0\tAB\n0\t09\t0\tAB\n0\t0A\t0\tAB\n0\t0B\t0\tAB\n0\t0C\t0\tAB\n0\t0D\t0\tAB\n0\t0E\t0\tAB\n0\t0F\t0\tAB\n0\t00\t0\tAB\n0\t11\t0\tAB\n0\t02\t0\tAB\n0\t03\t0\tAB\n0\t04\t0\tAB\n0\t05\t0\tAB\n0\t06\t0\tAB\n0\t07\t0\tAB\n0\t08\t0\tAB\n0\t09\t0\tAB\n0\t0A\t0\tAB\n0\t0B\t0\tAB\n0\t0C\t0\tAB\n0\t0D\t0\tAB\n0\t0E\t0\tAB\n0\t0F\t0\tAB\n0\t00\t0\tAB\n0\t21\t0\tAB\n0\t02\t0\tAB\n0\t03\t0\tAB\n0\t04\t0\tAB\n0\t05\t0\tAB\n0\t06\t0\tAB\n0\t07\t0\tAB\n0\t08\t0\tAB\n0\t09\t0\tAB\n0\t0A\t0\tAB\n0\t0B\t0\tAB\n0\t0C\t0\tAB\n0\t0D\t0\tAB\n0\t0E\t0\tAB\n0\t0F\t0\tAB\n0\t00\t0\tAB\n0\t31\t0\tAB\n0\t02\t0\tAB\n0\t03\t0\tAB\n0\t04\t0\tAB\n0\t05\t0\tAB\n0\t06\t0\tAB\n0\t07\t0\tAB\n0\t08\t0\tAB\n0\t09\t0\tAB\n0\t0A\t0\tAB\n0\t0B\t0\tAB\n0\t0C\t0\tAB\n0\t0D\t0\tAB\n0\t0E\t0\tAB\n0\t0F\t0\tAB\n0\t00\t0\tAB\n0\t41\t0\tAB\n0\t02\t0\tAB\n0\t03\t0\tAB\n0\t04\t0\tAB\n0\t05\t0\tAB\n0\t06\t0\tAB\n0\t07\t0\tAB\n")
 
 -- with a line that is none behind line 41
 abbrev torn : List (List ℕ)
@@ -142,6 +148,12 @@ table =
     ∷ record { name = "no ports: 4, and the rest is swallowed"; given = replayed Right 32 (ascii "0\t1\t16" ∷ drop 1 torn) []; said = ascii "answer\t4\tline\t1\n" }
     ∷ record { name = "a store of one byte less than is asked: 4"; given = replayed Right 31 lines []; said = ascii "answer\t4\tline\t1\n" }
     ∷ record { name = "a first line that is none: 13, whatever follows"; given = replayed Right 32 (ascii "x" ∷ lines) []; said = ascii "answer\t13\tline\t1\n" }
+    ∷ record { name = "a hold-off of 5,001: 4"; given = replayed Right 32 (ascii "1\t1\t16\thold-off\t5001" ∷ drop 1 lines) []; said = ascii "answer\t4\tline\t1\n" }
+    ∷ record { name = "numbers for two ports where there is one: 13"; given = replayed Right 32 (ascii "1\t1\t16\thold-off\t5\t5" ∷ drop 1 lines) []; said = ascii "answer\t13\tline\t1\n" }
+    ∷ record { name = "a hold-off of 5,001 and a kind that is none: 13 before 4"; given = replayed Right 32 (ascii "1\t1\t16\thold-off\t5001\tkind\tK4" ∷ drop 1 lines) []; said = ascii "answer\t13\tline\t1\n" }
+    ∷ record { name = "the 72 frames with both times: an IDLE port waits for nothing"; given = replayed Right 32 (ascii "1\t1\t16\twait-to-restore\t2\tkind\tH4\thold-off\t5" ∷ drop 1 lines) []; said = ascii "epoch\t4\tsure\tbytes\t0\tline\t73\n" }
+    ∷ record { name = "the 72 frames as those of a fixed group: no word is FIXED, and it is held"; given = replayed Right 32 (ascii "1\t1\t16\tkind\tFIXED" ∷ drop 1 lines) []; said = ascii "epoch\t4\theld\tbytes\t0\tline\t73\n" }
+    ∷ record { name = "72 frames of a fixed group of one: sure, and its port is OK"; given = replayed Right 32 fixedLines []; said = ascii "epoch\t4\tsure\tbytes\t16\tline\t73\nport\t0\tOK\t0\n" }
     ∷ []
 
 pub examples : Equal table

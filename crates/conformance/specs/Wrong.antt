@@ -18,7 +18,7 @@ apart e = omega arith
 abbrev pub spoils : ℕ → Call
 spoils n = stateful {S = ℕ} (If n true ∷ []) n [] [] 0 1 1
 
-pub spoiled : Each (λ n. Copes (spoils n) → ⊥) (1 ∷ 2 ∷ 3 ∷ 5 ∷ 6 ∷ 7 ∷ 8 ∷ 9 ∷ 11 ∷ 13 ∷ [])
+pub spoiled : Each (λ n. Copes (spoils n) → ⊥) (1 ∷ 2 ∷ 3 ∷ 5 ∷ 6 ∷ 7 ∷ 8 ∷ 9 ∷ 11 ∷ 13 ∷ 14 ∷ 15 ∷ [])
 spoiled = (
   λ c. apart (c .as-given refl),
   (
@@ -31,7 +31,16 @@ spoiled = (
           λ c. apart (c .as-given refl),
           (
             λ c. apart (c .as-given refl),
-            (λ c. apart (c .as-given refl), (λ c. apart (c .as-given refl), (λ c. apart (c .as-given refl), (λ c. apart (c .as-given refl), tt)))),
+            (
+              λ c. apart (c .as-given refl),
+              (
+                λ c. apart (c .as-given refl),
+                (
+                  λ c. apart (c .as-given refl),
+                  (λ c. apart (c .as-given refl), (λ c. apart (c .as-given refl), (λ c. apart (c .as-given refl), tt))),
+                ),
+              ),
+            ),
           ),
         ),
       ),

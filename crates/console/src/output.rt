@@ -1,7 +1,5 @@
 // The lines of the output (01, 'Session'), put one behind the other into a lent buffer.
 use packet::Word;
-ghost use mathlib.Core.Path.{_≡_};
-ghost use mathlib.Core.Bool.{cond};
 ghost use Prim.Native.Nat.{_+_, _≤_};
 ghost use lib.ListN.{length};
 ghost use Rattle.console.specs.Output.{answerText, slotText, waitText};
@@ -25,17 +23,11 @@ pub(crate) fn put_slot(slot: u8, word: Word, number: u8, out: &mut [u8], at: usi
     text::put_number(number, b'\n', out, fourth)
 }
 
-fn bit_of(wait: bool) -> u8
-    ensures { λ r. ⌜ r ≡ cond wait 1 0 ⌝ }
-{
-    if wait { 1 } else { 0 }
-}
-
 pub(crate) fn put_wait(wait: bool, out: &mut [u8], at: usize) -> usize
     requires { ⌜ at + length (waitText wait) ≤ length (now out) ⌝ }
     ensures { λ r. ⌜ Put (waitText wait) at (now (out .entry)) r (now (out .exit)) ⌝ }
 {
-    let bit = bit_of(wait);
+    let bit = ground::one_if(wait);
     let next = text::put(b"wait\t", out, at);
     text::put_number(bit, b'\n', out, next)
 }

@@ -6,7 +6,9 @@ use Prim.Native.Nat.{ℕ, zero, suc, _+_, _<_}
 use native.Mathlib.Nat.{add-zero, zero-add, add-suc, suc-add, le-of-suc-le-suc, not-suc-le-zero}
 use native.Mathlib.Decide.{ℕ-discrete}
 use native.Mathlib.Omega.{arith}
+use lib.Dec.{eqb}
 use lib.ListN.{length, getD}
+use borrow.Author.Tests.{eqb-true}
 use Rattle.ground.specs.Truth.{and-left, and-right}
 
 -- the test f passes at every number below n
@@ -70,3 +72,17 @@ same-bits [] (b ∷ m) t = absurd (false≢true t)
 same-bits (a ∷ l) [] t = absurd (false≢true t)
 same-bits (a ∷ l) (b ∷ m) t =
     ap₂ _∷_ (same-bit a b (and-left (Bool·beq a b) (sameBits l m) t)) (same-bits l m (and-right (Bool·beq a b) (sameBits l m) t))
+
+-- two lists of bytes compared by a test
+abbrev pub sameBytes : List ℕ → List ℕ → Bool
+sameBytes [] [] = true
+sameBytes [] (b ∷ m) = false
+sameBytes (a ∷ l) [] = false
+sameBytes (a ∷ l) (b ∷ m) = eqb a b && sameBytes l m
+
+pub same-bytes : (l m : List ℕ) → sameBytes l m ≡ true → l ≡ m
+same-bytes [] [] t = refl
+same-bytes [] (b ∷ m) t = absurd (false≢true t)
+same-bytes (a ∷ l) [] t = absurd (false≢true t)
+same-bytes (a ∷ l) (b ∷ m) t =
+    ap₂ _∷_ (eqb-true a b (and-left (eqb a b) (sameBytes l m) t)) (same-bytes l m (and-right (eqb a b) (sameBytes l m) t))

@@ -5,7 +5,9 @@ pub mod Distance
 pub mod Division
 pub mod Drawn
 pub mod Finite
+pub mod Flags
 pub mod Polynomial
+pub mod Sizes
 pub mod Sums
 pub mod Table
 pub mod Truth

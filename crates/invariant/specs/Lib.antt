@@ -3,6 +3,8 @@ pub mod Kept
 pub mod Claims
 pub mod Ruled
 pub mod Reports
+pub mod Times
+pub mod Live
 pub mod Proofs
 pub mod Theorems
 mod Wrong

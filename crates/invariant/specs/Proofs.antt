@@ -10,3 +10,5 @@ pub mod Claimed
 pub mod Ruled
 pub mod Numbered
 pub mod Reports
+pub mod Times
+pub mod Live

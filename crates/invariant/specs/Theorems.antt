@@ -32,8 +32,10 @@ use Rattle.store.specs.Marks.{firstMark}
 use Rattle.invariant.specs.Calls.{Receiver, ReceiverCall, portAfter, receiverRun, receiverStep, startedWith}
 use Rattle.invariant.specs.Claims.{Claimed, HandedBy, HandedLast, tagIn}
 use Rattle.invariant.specs.Kept.Group.{Kept}
+use Rattle.invariant.specs.Live.{Live, heardOf}
 use Rattle.invariant.specs.Proofs.Calls as Calls
 use Rattle.invariant.specs.Proofs.Claimed as Claims
+use Rattle.invariant.specs.Proofs.Live.Calls as Lives
 use Rattle.invariant.specs.Proofs.Numbered as Numbered
 use Rattle.invariant.specs.Proofs.Reports.Ack as Ack
 use Rattle.invariant.specs.Proofs.Reports.Bytes as Bytes
@@ -44,8 +46,10 @@ use Rattle.invariant.specs.Proofs.Reports.Order as Order
 use Rattle.invariant.specs.Proofs.Reports.Seen as Seen
 use Rattle.invariant.specs.Proofs.Ruled as Rules
 use Rattle.invariant.specs.Proofs.Settles as Settles
+use Rattle.invariant.specs.Proofs.Times.Calls as Times
 use Rattle.invariant.specs.Reports.{Given, HeldReport, Others, Refused, SameRule, Stored, Unstopped, ackIn, nextReport, reportsOf, successive}
 use Rattle.invariant.specs.Ruled.{OneEpoch}
+use Rattle.invariant.specs.Times.{SameShown, outcomesOf}
 
 -- After any calls.
 
@@ -83,6 +87,12 @@ one-epoch = Rules.one-epoch
 -- on every state a packet that rules and is read as good carries that epoch's number (request 2026-04)
 pub own-number : (g : Group) (s : List (List ℕ)) (i : ℕ) → seenOf g s i .good ≡ true → fieldsOf (portAt s i .ruling) .epoch ≡ rulingEpoch g
 own-number = Numbered.own-number
+
+-- The packet being gathered (request 2026-04): in every phase the nibbles of a run's last frames stand at their own places, and at own MFI1 7 of a port in step it is the packet that came.
+pub live-row : (kind count P W : ℕ) (hold restore : List ℕ) (rows : List (List ℕ)) (store : List ℕ) → startAsAnswer kind count P W (length store) hold restore (length rows) ≡ 0
+    → (calls : List ReceiverCall) (j : ℕ) → j < count
+    → Live kind (portAt (receiverRun (startedWith kind count P W hold restore rows store) calls .rows) j) (heardOf j (startedWith kind count P W hold restore rows store) calls [])
+live-row = Lives.live-row
 
 -- Reports, on every state.
 
@@ -135,6 +145,29 @@ none-ack = Ack.none-ack
 pub report-turns : (s : List (List ℕ)) (store out report : List ℕ) → Given s store out report → ackIn s ≤ 1
     → (ackIn (fetchRows s store out report) ≡ ackIn s) ⊎ (ackIn (fetchRows s store out report) ≡ 1 - ackIn s)
 report-turns = Ack.report-turns
+
+-- 'Only the reply changes' (02, 2026-03): two receivers started alike but for their times, whatever stood in their rows, give the same for ever at the same calls.
+
+-- answers, stores, outputs and the records of reports
+pub times-apart : (kind count P W : ℕ) (hold restore hold₂ restore₂ : List ℕ) (rows rows₂ : List (List ℕ)) (store : List ℕ)
+    → startAsAnswer kind count P W (length store) hold restore (length rows) ≡ 0 → startAsAnswer kind count P W (length store) hold₂ restore₂ (length rows₂) ≡ 0
+    → (calls : List ReceiverCall)
+    → outcomesOf (startedWith kind count P W hold restore rows store) calls ≡ outcomesOf (startedWith kind count P W hold₂ restore₂ rows₂ store) calls
+times-apart = Times.times-apart
+
+-- RS-Ack, and what is shown of the ports but for states
+pub times-shown : (kind count P W : ℕ) (hold restore hold₂ restore₂ : List ℕ) (rows rows₂ : List (List ℕ)) (store : List ℕ)
+    → startAsAnswer kind count P W (length store) hold restore (length rows) ≡ 0 → startAsAnswer kind count P W (length store) hold₂ restore₂ (length rows₂) ≡ 0
+    → (calls : List ReceiverCall)
+    → SameShown (receiverRun (startedWith kind count P W hold restore rows store) calls .rows) (receiverRun (startedWith kind count P W hold₂ restore₂ rows₂ store) calls .rows)
+times-shown = Times.times-shown
+
+-- two starts in the same rows that are refused alike leave the same receiver
+pub times-refused : (kind count P W : ℕ) (hold restore hold₂ restore₂ : List ℕ) (rows : List (List ℕ)) (store : List ℕ)
+    → startAsAnswer kind count P W (length store) hold restore (length rows) ≡ startAsAnswer kind count P W (length store) hold₂ restore₂ (length rows)
+    → startAsAnswer kind count P W (length store) hold restore (length rows) ≢ 0
+    → startedWith kind count P W hold restore rows store ≡ startedWith kind count P W hold₂ restore₂ rows store
+times-refused = Times.times-refused
 
 -- Fixed groups (request 2026-12), on every state: a due report is sure exactly where every port has a whole good ruling packet and brought its frames, and the numbers are 0 to X-1, X being the number of ports. Otherwise it is held.
 

@@ -6,3 +6,5 @@ mod Beginning
 mod Order
 mod PortsSeen
 mod Step
+mod Times
+mod Live

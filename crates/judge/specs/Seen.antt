@@ -1,15 +1,12 @@
 -- What is seen of a port (01, 'Report of an epoch'): all is judged on whole ruling packets.
-use mathlib.Core.Bool.{Bool, false, cond, not, _&&_, _||_}
+use mathlib.Core.Bool.{Bool, false, not, _&&_, _||_}
 use mathlib.Core.List.{List}
 use Prim.Native.Nat.{ℕ}
-use lib.Dec.{eqb, ltb}
+use lib.Dec.{eqb}
 use lib.ListN.{getD}
 use Rattle.packet.specs.Words.{NORM, EOS, IDLE, DNU, FIXED}
 use Rattle.judge.specs.declared.seen.Seen.{Seen}
-
--- 'A group has 1 to 64 .. ports.'
-abbrev pub sizeOf : ℕ → ℕ
-sizeOf count = cond (ltb count 64) count 64
+pub use Rattle.ground.specs.Sizes.{sizeOf}
 
 abbrev pub seenAt : List Seen → ℕ → Seen
 seenAt ports i = getD ports i (record { whole = false; good = false; word = 0; number = 0; gid = 0; here = false })

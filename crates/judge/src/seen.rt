@@ -1,8 +1,9 @@
 // What is seen of a port: the packet that rules it, and whether its frames stand in the store.
+pub(crate) use ground::one_if;
+pub(crate) use ground::size_of;
 use packet::Word;
 ghost use mathlib.Core.Path.{_≡_};
-ghost use mathlib.Core.Bool.{cond};
-ghost use Rattle.judge.specs.Seen.{activeSeen, eosSeen, lackingSeen, numberedSeen, refusedSeen, unidleSeen, sizeOf};
+ghost use Rattle.judge.specs.Seen.{activeSeen, eosSeen, lackingSeen, numberedSeen, refusedSeen, unidleSeen};
 
 pub struct Seen {
     // whether a ruling packet arrived whole, and whether it was read with 0
@@ -14,19 +15,6 @@ pub struct Seen {
     pub gid: u8,
     // whether the epoch's frames of this port stand in the store
     pub here: bool,
-}
-
-// A group has at most 64 ports.
-pub(crate) fn size_of(count: u8) -> usize
-    ensures { λ r. ⌜ r ≡ sizeOf count ⌝ }
-{
-    if count < 64 { count as usize } else { 64 }
-}
-
-pub(crate) fn one_if(test: bool) -> u8
-    ensures { λ r. ⌜ r ≡ cond test 1 0 ⌝ }
-{
-    if test { 1 } else { 0 }
 }
 
 pub(crate) fn is_refused(port: Seen) -> bool

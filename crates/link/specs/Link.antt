@@ -1,12 +1,12 @@
 -- Demand 3's environment: what is sent, its lines and one receiver (the minutes, item 3), and the reports that are then to come.
 use mathlib.Core.Path.{_≡_}
 use mathlib.Core.Logic.{_⊎_}
-use mathlib.Core.Bool.{Bool, true, false, cond, _&&_}
+use mathlib.Core.Bool.{Bool, true, cond}
 use mathlib.Core.List.{List, [], _∷_, _++_}
 use Prim.Native.Nat.{ℕ, zero, suc, _+_, _-_, _*_, _%_, _≤_, _<_}
-use lib.Dec.{eqb}
 use lib.ListN.{drop, getD, length}
 use Rattle.counting.specs.Words.{every}
+pub use Rattle.ground.specs.Finite.{sameBytes}
 use Rattle.judge.specs.Verdict.{HELD, SURE}
 use Rattle.packet.specs.Counts.{nibbleIn, nibblePlace}
 use Rattle.packet.specs.Kinds.{firstTag, frames, lead}
@@ -124,13 +124,6 @@ pub record AssumedOver (k : Link) : Type 0 where
   pub earliest : ℕ
   pub not-before : (p : ℕ) → p < k .ports → earliest ≤ k .first p
   pub covered : (i : ℕ) → earliest < epochStart (kindOf k) i → Covered (k .sending) i (k .ports) (k .pairing)
-
--- two lists byte for byte
-abbrev pub sameBytes : List ℕ → List ℕ → Bool
-sameBytes [] [] = true
-sameBytes [] (n ∷ m) = false
-sameBytes (k ∷ l) [] = false
-sameBytes (k ∷ l) (n ∷ m) = eqb k n && sameBytes l m
 
 -- all packets of the i-th epoch came as sent
 unfoldable pub allAsSent : Link → ℕ → Bool

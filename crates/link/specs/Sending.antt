@@ -70,7 +70,7 @@ Covered s i n slotOf = (slot : ℕ) → slot < s .slots → s .word i slot ≢ I
 
 -- the nibbles of a packet's bytes
 unfoldable pub nibblesIn : ℕ → List ℕ → List ℕ
-nibblesIn kind bytes = tabulate 16 (λ k. nibbleIn kind (getD bytes k 0))
+nibblesIn kind bytes = tabulate (frames kind) (λ k. nibbleIn kind (getD bytes k 0))
 
 -- what is seen of a slot's packet of the i-th epoch where it came as sent, and the next epoch's frames came too
 abbrev pub seenSent : Sending → ℕ → ℕ → Seen

@@ -1,3 +1,4 @@
 pub mod Answers
+pub mod Eight
 pub mod Joining
 pub mod Table

@@ -13,7 +13,7 @@ use Rattle.packet.specs.declared.reader.Reading.the-variants.{Packet, Cr
 use Rattle.packet.specs.Crc.{crcOf, divisor, nibbleBits}
 use Rattle.packet.specs.Fixed.{fixedFields, fixedNibbles, readFixedNibbles}
 use Rattle.packet.specs.Kinds.{epochOf, frames, lead, mstFails, mstFirst, tags}
-use Rattle.packet.specs.Layout.{byteOf, carriedIn, dataOf, fieldsOf, h4Of, nibblesOf, reservedOf, sealedOf}
+use Rattle.packet.specs.Layout.{byteOf, carriedIn, dataOf, fieldsOf, h4Of, nibblesOf, sealedOf}
 use Rattle.packet.specs.Reading.{readNibbles}
 use Rattle.packet.specs.Shares.{byteAt, joinedTo, shareOf}
 use Rattle.packet.specs.Words.{FIXED, NORM, assigned}

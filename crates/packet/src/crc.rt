@@ -7,8 +7,8 @@ ghost use lib.ListN.{take};
 ghost use Rattle.packet.specs.Crc.{crcOf};
 ghost use Rattle.packet.specs.Shares.{shareOf};
 
-// Takes bytes and no array, and has two callers, so that the compiler leaves it a function of its own: a packet's nibbles then stay in registers.
-fn join(at_0: u8, at_1: u8, at_2: u8, at_3: u8, at_4: u8, at_5: u8, at_6: u8) -> u8
+// Takes bytes and no array, so that they stay in registers.
+pub(crate) fn join(at_0: u8, at_1: u8, at_2: u8, at_3: u8, at_4: u8, at_5: u8, at_6: u8) -> u8
     ensures { λ r. ⌜ r ≡ bitXor (bitXor (bitXor (bitXor (bitXor (bitXor (shareOf 0 «at_0») (shareOf 1 «at_1»)) (shareOf 2 «at_2»)) (shareOf 3 «at_3»)) (shareOf 4 «at_4»)) (shareOf 5 «at_5»)) (shareOf 6 «at_6») ⌝ }
 {
     shares::share_at_0(at_0)
@@ -21,21 +21,6 @@ fn join(at_0: u8, at_1: u8, at_2: u8, at_3: u8, at_4: u8, at_5: u8, at_6: u8) ->
 }
 
 pub(crate) fn crc(nibbles: [u8; 16]) -> u8
-    ensures { λ r. ⌜ r ≡ crcOf (take 14 nibbles) ⌝ }
-{
-    join(
-        byte_of(nibbles[0], nibbles[1]),
-        byte_of(nibbles[2], nibbles[3]),
-        byte_of(nibbles[4], nibbles[5]),
-        byte_of(nibbles[6], nibbles[7]),
-        byte_of(nibbles[8], nibbles[9]),
-        byte_of(nibbles[10], nibbles[11]),
-        byte_of(nibbles[12], nibbles[13]),
-    )
-}
-
-// The same for a packet that is written.
-pub(crate) fn crc_to_write(nibbles: [u8; 16]) -> u8
     ensures { λ r. ⌜ r ≡ crcOf (take 14 nibbles) ⌝ }
 {
     join(

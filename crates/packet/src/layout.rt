@@ -1,10 +1,11 @@
 // The layout of a packet (01, 'The control packet'): its fields, its sixteen nibbles, and the H4 bytes that carry them.
-use crate::crc::crc_to_write;
+use crate::crc::crc;
 use crate::words::Word;
 ghost use mathlib.Core.Path.{_≡_};
 ghost use mathlib.Core.List.{[], _∷_, _++_};
 ghost use Rattle.packet.specs.Laws.Bounds.{Bounds};
-ghost use Rattle.packet.specs.Layout.{byteOf, carriedIn, dataOf, fieldsOf, h4Of, nibblesOf, reservedOf};
+ghost use Rattle.packet.specs.Layout.{byteOf, dataOf, fieldsOf, h4Of, nibblesOf, reservedOf};
+ghost use Rattle.packet.specs.Shares.{halvesOf};
 
 pub struct Fields {
     pub epoch: u8,
@@ -23,10 +24,37 @@ pub(crate) fn byte_of(high: u8, low: u8) -> u8
     high % 16 * 16 + low % 16
 }
 
-pub(crate) fn carried_in(nibbles: [u8; 16]) -> u8
-    ensures { λ r. ⌜ r ≡ carriedIn nibbles ⌝ }
+// The sixteen nibbles of eight bytes.
+pub(crate) fn halves_of(
+    at_0: u8,
+    at_1: u8,
+    at_2: u8,
+    at_3: u8,
+    at_4: u8,
+    at_5: u8,
+    at_6: u8,
+    at_7: u8,
+) -> [u8; 16]
+    ensures { λ r. ⌜ r ≡ halvesOf («at_0» ∷ «at_1» ∷ «at_2» ∷ «at_3» ∷ «at_4» ∷ «at_5» ∷ «at_6» ∷ «at_7» ∷ []) ⌝ }
 {
-    byte_of(nibbles[14], nibbles[15])
+    [
+        at_0 / 16,
+        at_0 % 16,
+        at_1 / 16,
+        at_1 % 16,
+        at_2 / 16,
+        at_2 % 16,
+        at_3 / 16,
+        at_3 % 16,
+        at_4 / 16,
+        at_4 % 16,
+        at_5 / 16,
+        at_5 % 16,
+        at_6 / 16,
+        at_6 % 16,
+        at_7 / 16,
+        at_7 % 16,
+    ]
 }
 
 fn reserved_of(nibbles: [u8; 16]) -> u32
@@ -85,7 +113,7 @@ pub(crate) fn nibbles_of(fields: Fields) -> [u8; 16]
     ensures { λ r. ⌜ r ≡ nibblesOf fields ⌝ }
 {
     let mut nibbles = data_of(fields);
-    let sum = crc_to_write(nibbles);
+    let sum = crc(nibbles);
     nibbles[14] = sum / 16;
     nibbles[15] = sum % 16;
     nibbles

@@ -103,7 +103,7 @@ fn listed(ranks: [u8; 64], n: usize, first: usize, k: usize) -> Proposal
         let chosen = is_within(ranks[i], first, k);
         let next = put_path(paths, count, chosen, i as u8);
         paths = next;
-        count += order::one_if(chosen);
+        count += ground::one_if(chosen);
         i += 1;
     }
     Proposal {

@@ -18,9 +18,13 @@ module _ {A : Type 0} where
   underDone Range new old = old
   underDone Length new old = old
 
--- 4 is for 'X above 64, or P', and P goes 'from 1 to 2,340'.
+-- P goes 'from 1 to 2,340'.
+abbrev pub PAYLOAD-MOST : ℕ
+PAYLOAD-MOST = 2340
+
+-- 4 is for 'X above 64, or P'.
 abbrev pub sized : ℕ → ℕ → Bool
-sized X P = leb X 64 && leb 1 P && leb P 2340
+sized X P = leb X 64 && leb 1 P && leb P PAYLOAD-MOST
 
 -- The order of 01's numbers: first the sizes, then the lengths.
 abbrev pub answerBy : Bool → Bool → Answer

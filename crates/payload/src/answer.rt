@@ -8,6 +8,9 @@ ghost use Rattle.payload.specs.Answers.{numberOf, sized};
 ghost use Rattle.payload.specs.Joining.{wholeAnswer, fromAnswer, startsFit};
 ghost use Rattle.payload.specs.Spreading.{oneAnswer};
 
+// The longest payload of a member frame.
+pub const PAYLOAD_MOST: usize = 2340;
+
 pub enum Answer {
     Done,
     Range,
@@ -30,7 +33,7 @@ impl Answer {
 fn is_sized(x: usize, p: usize) -> bool
     ensures { λ r. ⌜ r ≡ sized x p ⌝ }
 {
-    (x <= 64) & (1 <= p) & (p <= 2340)
+    (x <= 64) & (1 <= p) & (p <= PAYLOAD_MOST)
 }
 
 fn by_lengths(right: bool) -> Answer

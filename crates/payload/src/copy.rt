@@ -2,10 +2,12 @@
 // the longest frame payload of 01 goes through an array of its own: so the compiler knows that source and target lie apart, sees one copy
 // in the two loops, and makes a single call of the C library's copy of them, in which the array is gone. Of one loop over two slices, which
 // might overlap for all it knows, it makes none.
+use crate::answer::PAYLOAD_MOST;
 ghost use mathlib.Core.Path.{_≡_};
 ghost use Prim.Native.Nat.{_+_, _≤_};
 ghost use lib.ListN.{length, getD};
 ghost use Rattle.ground.specs.Drawn.{fillAt};
+ghost use Rattle.payload.specs.Answers.{PAYLOAD-MOST};
 
 fn by_bytes(from: &[u8], at: usize, n: usize, place: usize, to: &mut [u8])
     requires { ⌜ (at + n ≤ length (now from)) × (place + n ≤ length (now to)) ⌝ }
@@ -19,7 +21,7 @@ fn by_bytes(from: &[u8], at: usize, n: usize, place: usize, to: &mut [u8])
 }
 
 fn at_once(from: &[u8], at: usize, n: usize, place: usize, to: &mut [u8])
-    requires { ⌜ (n ≤ 2340) × (at + n ≤ length (now from)) × (place + n ≤ length (now to)) ⌝ }
+    requires { ⌜ (n ≤ PAYLOAD-MOST) × (at + n ≤ length (now from)) × (place + n ≤ length (now to)) ⌝ }
     ensures { λ _. ⌜ now (to .exit) ≡ fillAt place n (λ j. getD (now (from .entry)) (at + j) 0) (now (to .entry)) ⌝ }
 {
     let mut run = [0; 2340];
@@ -32,7 +34,7 @@ pub(crate) fn run(from: &[u8], at: usize, n: usize, place: usize, to: &mut [u8])
     requires { ⌜ (at + n ≤ length (now from)) × (place + n ≤ length (now to)) ⌝ }
     ensures { λ _. ⌜ now (to .exit) ≡ fillAt place n (λ j. getD (now (from .entry)) (at + j) 0) (now (to .entry)) ⌝ }
 {
-    if n <= 2340 {
+    if n <= PAYLOAD_MOST {
         at_once(from, at, n, place, to);
     } else {
         by_bytes(from, at, n, place, to);

@@ -8,6 +8,7 @@ mod word;
 mod work;
 
 pub use answer::Answer;
+pub use answer::PAYLOAD_MOST;
 ghost use mathlib.Core.Path.{_≡_};
 ghost use lib.ListN.{length};
 ghost use Rattle.payload.specs.Joining.{wholeAnswer, joined, fromAnswer, joinedFrom};

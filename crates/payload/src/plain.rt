@@ -1,6 +1,6 @@
 // Spreading and joining one byte after the other: for every size, and the whole of the work where no block of eight by eight fits.
 ghost use mathlib.Core.Path.{_≡_};
-ghost use Prim.Native.Nat.{ℕ, _+_, _-_, _*_, _/_, _%_, _≤_, _<_};
+ghost use Prim.Native.Nat.{ℕ, _+_, _-_, _*_, _/_, _≤_, _<_};
 ghost use lib.ListN.{length, getD};
 ghost use Rattle.ground.specs.Drawn.{drawn, fillAt};
 ghost use Rattle.ground.specs.Table.{tabulate};

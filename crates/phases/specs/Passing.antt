@@ -24,6 +24,7 @@ ruledBy pair whole nibbles = cond whole (set pair 1 nibbles) pair
 unfoldable pub passedStep : Step → Bool → Step
 passedStep s whole =
     record {
+      spare = s .spare;
       had = s .had;
       failed = s .failed;
       count = s .count;
@@ -34,17 +35,13 @@ passedStep s whole =
       whole = cond whole 1 0;
       breaks = s .breaks;
       odd = s .odd;
-      «spare_11» = s .«spare_11»;
-      «spare_12» = s .«spare_12»;
-      «spare_13» = s .«spare_13»;
-      «spare_14» = s .«spare_14»;
-      «spare_15» = s .«spare_15»;
     }
 
 -- 'the good packets up to that epoch's own'
 unfoldable pub notedBy : Member → Bool → Ruling → Member
 notedBy m whole r =
     record {
+      spare = m .spare;
       word = cond whole (cond (r .good) (r .word) (m .word)) (m .word);
       number = cond whole (cond (r .good) (r .number) (m .number)) (m .number);
       state = m .state;
@@ -54,10 +51,6 @@ notedBy m whole r =
       «hold_off» = m .«hold_off»;
       restore = m .restore;
       run = m .run;
-      «spare_12» = m .«spare_12»;
-      «spare_13» = m .«spare_13»;
-      «spare_14» = m .«spare_14»;
-      «spare_15» = m .«spare_15»;
     }
 
 unfoldable pub passedPort : Group → List ℕ → ℕ → List (List ℕ) → List (List ℕ)
@@ -76,6 +69,7 @@ passedPorts g store (suc n) s = passedPort g store n (passedPorts g store n s)
 abbrev pub groupTo : Group → ℕ → ℕ → ℕ → ℕ → ℕ → Group
 groupTo g begun gathered oldest origin ack =
     record {
+      spare = g .spare;
       kind = g .kind;
       count = g .count;
       payload = g .payload;
@@ -85,10 +79,6 @@ groupTo g begun gathered oldest origin ack =
       oldest = oldest;
       origin = origin;
       «rs_ack» = ack;
-      «spare_12» = g .«spare_12»;
-      «spare_13» = g .«spare_13»;
-      «spare_14» = g .«spare_14»;
-      «spare_15» = g .«spare_15»;
     }
 
 -- the window moves on by one epoch, and its first frame's place with it

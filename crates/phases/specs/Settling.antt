@@ -18,6 +18,7 @@ use Rattle.step.specs.Arrival.{flagOf, inStep}
 unfoldable pub clearedStep : Step → Bool → Step
 clearedStep s since =
     record {
+      spare = s .spare;
       had = s .had;
       failed = s .failed;
       count = s .count;
@@ -28,11 +29,6 @@ clearedStep s since =
       whole = 0;
       breaks = s .breaks;
       odd = s .odd;
-      «spare_11» = s .«spare_11»;
-      «spare_12» = s .«spare_12»;
-      «spare_13» = s .«spare_13»;
-      «spare_14» = s .«spare_14»;
-      «spare_15» = s .«spare_15»;
     }
 
 unfoldable pub clearedPort : Group → Bool → ℕ → List (List ℕ) → List (List ℕ)

@@ -33,7 +33,9 @@ fn one_less(later: u8) -> u8
 fn passed_step(s: Step, whole: bool) -> Step
     ensures { λ r. ⌜ r ≡ passedStep s whole ⌝ }
 {
+    let spare = s.spare;
     Step {
+        spare,
         had: s.had,
         failed: s.failed,
         count: s.count,
@@ -44,11 +46,6 @@ fn passed_step(s: Step, whole: bool) -> Step
         whole: flag_for(whole),
         breaks: s.breaks,
         odd: s.odd,
-        spare_11: s.spare_11,
-        spare_12: s.spare_12,
-        spare_13: s.spare_13,
-        spare_14: s.spare_14,
-        spare_15: s.spare_15,
     }
 }
 
@@ -62,7 +59,9 @@ fn good_byte(whole: bool, good: bool, new: u8, old: u8) -> u8
 fn noted_by(m: Member, whole: bool, r: Ruling) -> Member
     ensures { λ q. ⌜ q ≡ notedBy m whole r ⌝ }
 {
+    let spare = m.spare;
     Member {
+        spare,
         word: good_byte(whole, r.good, r.word, m.word),
         number: good_byte(whole, r.good, r.number, m.number),
         state: m.state,
@@ -72,10 +71,6 @@ fn noted_by(m: Member, whole: bool, r: Ruling) -> Member
         hold_off: m.hold_off,
         restore: m.restore,
         run: m.run,
-        spare_12: m.spare_12,
-        spare_13: m.spare_13,
-        spare_14: m.spare_14,
-        spare_15: m.spare_15,
     }
 }
 
@@ -112,7 +107,9 @@ fn pass_ports(group: Group, store: &[u8], ports: u8, state: &mut [[u8; 16]])
 pub(crate) fn group_to(g: Group, begun: u8, gathered: u8, oldest: u8, origin: u16, ack: u8) -> Group
     ensures { λ r. ⌜ r ≡ groupTo g begun gathered oldest origin ack ⌝ }
 {
+    let spare = g.spare;
     Group {
+        spare,
         kind: g.kind,
         count: g.count,
         payload: g.payload,
@@ -122,10 +119,6 @@ pub(crate) fn group_to(g: Group, begun: u8, gathered: u8, oldest: u8, origin: u1
         oldest,
         origin,
         rs_ack: ack,
-        spare_12: g.spare_12,
-        spare_13: g.spare_13,
-        spare_14: g.spare_14,
-        spare_15: g.spare_15,
     }
 }
 

@@ -13,7 +13,9 @@ ghost use Rattle.phases.specs.Settling.{beginBy, begunOf, clearedPort, c
 fn cleared_step(s: Step, since: bool) -> Step
     ensures { λ r. ⌜ r ≡ clearedStep s since ⌝ }
 {
+    let spare = s.spare;
     Step {
+        spare,
         had: s.had,
         failed: s.failed,
         count: s.count,
@@ -24,11 +26,6 @@ fn cleared_step(s: Step, since: bool) -> Step
         whole: 0,
         breaks: s.breaks,
         odd: s.odd,
-        spare_11: s.spare_11,
-        spare_12: s.spare_12,
-        spare_13: s.spare_13,
-        spare_14: s.spare_14,
-        spare_15: s.spare_15,
     }
 }
 

@@ -1,7 +1,7 @@
 -- What a frame leaves, by what the parts of the code leave.
-use mathlib.Core.Path.{_≡_, refl, sym, subst, _∙_}
+use mathlib.Core.Path.{_≡_, refl, sym, subst, ap, _∙_}
 use mathlib.Core.Bool.{Bool, true, false, cond, _&&_, _||_, true≢false}
-use mathlib.Core.List.{List, []}
+use mathlib.Core.List.{List, [], _∷_}
 use Prim.Native.Nat.{ℕ, _+_, _*_, _<_}
 use native.Mathlib.Omega.{arith}
 use lib.Dec.{ltb}
@@ -17,9 +17,10 @@ use Rattle.receiver.specs.Lengths.{frameFits}
 use Rattle.rows.specs.declared.group.Group.{Group}
 use Rattle.rows.specs.declared.step.Step.{Step}
 use Rattle.rows.specs.Group.{groupAt}
-use Rattle.rows.specs.Laws.Marks.{marks-put-packets, marks-put-step}
-use Rattle.rows.specs.Laws.Packets.{packets-put-step}
+use Rattle.rows.specs.Laws.Port.{port-put-part}
 use Rattle.rows.specs.Packets.{marksAt, packetsAt, putMarks, putPackets, withNibble}
+use Rattle.rows.specs.Part.{ThePackets, TheStep}
+use Rattle.rows.specs.Port.{Port, portAt}
 use Rattle.rows.specs.Rows.{putRow, rowIn}
 use Rattle.rows.specs.Step.{putStep, stepAt, withNext}
 use Rattle.step.specs.declared.arrival.Taken.{Taken}
@@ -76,6 +77,19 @@ module _ (s : List (List ℕ)) (i : ℕ) (failed : Bool) (h : ℕ) (payload stor
       × (kept ≡ takenStore (groupAt s) i (takenIn s i failed h) h payload store)
   decided-by n packets odd t rows kept en ep eo et erows ek = rw (← eg, ← en, ← es, ← ep, ← eo, ← et) (refl, erows, ek)
 
+module _ (s : List (List ℕ)) (i : ℕ) where
+  pub packets-after-step : (q : Step) → packetsAt (putStep s i q) i ≡ packetsAt s i
+  unfolding portAt packetsAt
+  packets-after-step q = ap (λ (p : Port). p .gathering ∷ p .ruling ∷ []) (port-put-part s i (TheStep q))
+
+  marks-after-step : (q : Step) → marksAt (putStep s i q) i ≡ marksAt s i
+  unfolding portAt
+  marks-after-step q = ap (λ (p : Port). p .marks) (port-put-part s i (TheStep q))
+
+  marks-after-packets : (pair : List (List ℕ)) → marksAt (putPackets s i pair) i ≡ marksAt s i
+  unfolding portAt
+  marks-after-packets pair = ap (λ (p : Port). p .marks) (port-put-part s i (ThePackets pair))
+
 -- What is put back as it was changes nothing.
 module _ (s : List (List ℕ)) (i : ℕ) where
   pub same-marks : (rows : List (List ℕ)) → marksAt rows i ≡ marksAt s i → putMarks rows i (marksAt s i) ≡ rows
@@ -117,9 +131,9 @@ pub port-rows : (kind : ℕ) (s : List (List ℕ)) (i : ℕ) (t : Taken) (h : �
     → marked ≡ putMarks gathered i (marksBy kind (marksAt gathered i) t) → marked ≡ portRows kind s i t h
 unfolding portRows
 port-rows kind s i t h tag stepped gathered marked e0 e1 e2 e3 =
-    let p : packetsAt stepped i ≡ packetsAt s i = rw e1 (packets-put-step s i (t .step) i) in
-    let same : marksAt stepped i ≡ marksAt s i = rw e1 (marks-put-step s i (t .step) i) in
-    let m : marksAt gathered i ≡ marksAt s i = rw e2 (marks-put-packets stepped i (gatheredBy kind (packetsAt stepped i) (t .counted) tag h) i ∙ same) in
+    let p : packetsAt stepped i ≡ packetsAt s i = rw e1 (packets-after-step s i (t .step)) in
+    let same : marksAt stepped i ≡ marksAt s i = rw e1 (marks-after-step s i (t .step)) in
+    let m : marksAt gathered i ≡ marksAt s i = rw e2 (marks-after-packets stepped i (gatheredBy kind (packetsAt stepped i) (t .counted) tag h) ∙ same) in
     e3 ∙ rw (m, e2, p, e1, e0) refl
 
 -- A steady frame in mid-epoch: the marks are put back as they were.
@@ -128,8 +142,8 @@ module _ (s : List (List ℕ)) (i h : ℕ) (g : Group) where
   unfolding steadyRows
   steady-marks =
       let low : List (List ℕ) = putStep s i (withNext (stepAt s i) (tagAfter (g .kind) (stepAt s i .next))) in
-      marks-put-packets low i (withNibble (packetsAt s i) (placeOf (g .kind) (stepAt s i .next)) (nibbleIn (g .kind) h)) i
-      ∙ marks-put-step s i (withNext (stepAt s i) (tagAfter (g .kind) (stepAt s i .next))) i
+      marks-after-packets low i (withNibble (packetsAt s i) (placeOf (g .kind) (stepAt s i .next)) (nibbleIn (g .kind) h))
+      ∙ marks-after-step s i (withNext (stepAt s i) (tagAfter (g .kind) (stepAt s i .next)))
 
   steady-parts : endsEpoch (g .kind) (distanceIn g (stepAt s i .next)) ≡ false
       → portRows (g .kind) s i (steadyTaken g (stepAt s i)) h ≡ putMarks (steadyRows (g .kind) (stepAt s i .next) h i s) i (marksAt s i)

@@ -1,3 +1,4 @@
+pub mod Alone
 pub mod Arriving
 pub mod Fetched
 pub mod Lists

@@ -120,6 +120,7 @@ replyPorts g s n = each (sizeOf n) (replyPort g s) (replicate 64 noPort)
 unfoldable pub withState : Member → Standing → Member
 withState m left =
     record {
+      spare = m .spare;
       word = m .word;
       number = m .number;
       state = left .state;
@@ -129,10 +130,6 @@ withState m left =
       «hold_off» = m .«hold_off»;
       restore = m .restore;
       run = left .run;
-      «spare_12» = m .«spare_12»;
-      «spare_13» = m .«spare_13»;
-      «spare_14» = m .«spare_14»;
-      «spare_15» = m .«spare_15»;
     }
 
 unfoldable pub statePut : List Standing → ℕ → List (List ℕ) → List (List ℕ)

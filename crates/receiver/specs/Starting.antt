@@ -20,6 +20,7 @@ use Rattle.reply.specs.Members.{idleState, noWord}
 abbrev pub groupWith : ℕ → ℕ → ℕ → ℕ → Group
 groupWith kind count P W =
     record {
+      spare = replicate 4 0;
       kind = kind;
       count = count;
       payload = P;
@@ -29,10 +30,6 @@ groupWith kind count P W =
       oldest = 0;
       origin = 0;
       «rs_ack» = 0;
-      «spare_12» = 0;
-      «spare_13» = 0;
-      «spare_14» = 0;
-      «spare_15» = 0;
     }
 
 -- '4: .. an empty group'
@@ -43,6 +40,7 @@ emptyGroup kind = groupWith kind 0 0 0
 abbrev pub freshStep : Step
 freshStep =
     record {
+      spare = replicate 5 0;
       had = 0;
       failed = 0;
       count = 0;
@@ -53,11 +51,6 @@ freshStep =
       whole = 0;
       breaks = 0;
       odd = 0;
-      «spare_11» = 0;
-      «spare_12» = 0;
-      «spare_13» = 0;
-      «spare_14» = 0;
-      «spare_15» = 0;
     }
 
 -- 'each 0 to 5,000 epochs' (02, 2026-03)
@@ -72,6 +65,7 @@ timeOf counts i = cond (ltb (getD counts i 0) timerMost) (getD counts i 0) timer
 abbrev pub freshMember : ℕ → ℕ → ℕ → Member
 freshMember kind hold restore =
     record {
+      spare = replicate 4 0;
       word = noWord;
       number = idleNumber kind;
       state = idleState;
@@ -81,10 +75,6 @@ freshMember kind hold restore =
       «hold_off» = hold;
       restore = restore;
       run = 0;
-      «spare_12» = 0;
-      «spare_13» = 0;
-      «spare_14» = 0;
-      «spare_15» = 0;
     }
 
 abbrev pub zeroRow : List ℕ

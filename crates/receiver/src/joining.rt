@@ -9,7 +9,10 @@ ghost use mathlib.Core.Path.{_≡_};
 ghost use mathlib.Core.Bool.{cond};
 ghost use Prim.Native.Nat.{_*_};
 ghost use lib.Dec.{eqb};
+ghost use lib.ListN.{replicate, set};
 ghost use Rattle.judge.specs.Verdict.{HELD};
+ghost use Rattle.payload.specs.Joining.{joinedFrom};
+ghost use Rattle.store.specs.Frames.{placeIn};
 ghost use Rattle.receiver.specs.Report.{frameInto, framesInto, outputBy, reportBy, startsOf};
 
 fn starts_of(group: Group, ports: [u8; 64], x: u8, k: u16) -> [usize; 64]
@@ -26,10 +29,24 @@ fn starts_of(group: Group, ports: [u8; 64], x: u8, k: u16) -> [usize; 64]
     starts
 }
 
+// The frame of a member alone needs one start, and no table of them.
+fn alone_into(group: Group, port: u8, store: &[u8], k: u8, out: &mut [u8])
+    ensures { λ _. ⌜ now (out .exit) ≡ joinedFrom 1 (group .payload) (set (replicate 64 0) 0 (placeIn group port k)) (now (store .entry)) (k * group .payload) (now (out .entry)) ⌝ }
+{
+    let mut starts = [0; 64];
+    starts[0] = frames::place(group, port, k as u16);
+    let p = group.payload as usize;
+    payload::join_from(1, p, starts, store, k as usize * p, out);
+}
+
 fn frame_into(group: Group, order: Order, store: &[u8], k: u8, out: &mut [u8])
     ensures { λ _. ⌜ now (out .exit) ≡ frameInto group order (now (store .entry)) k (now (out .entry)) ⌝ }
 {
     let ports = order.ports;
+    if order.x == 1 {
+        alone_into(group, ports[0], store, k, out);
+        return;
+    }
     let starts = starts_of(group, ports, order.x, k as u16);
     let x = order.x as usize;
     let p = group.payload as usize;

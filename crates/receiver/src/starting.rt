@@ -14,6 +14,7 @@ fn group_with(kind: u8, count: u8, payload: u16, window: u16) -> Group
     ensures { λ r. ⌜ r ≡ groupWith kind count payload window ⌝ }
 {
     Group {
+        spare: [0; 4],
         kind,
         count,
         payload,
@@ -23,10 +24,6 @@ fn group_with(kind: u8, count: u8, payload: u16, window: u16) -> Group
         oldest: 0,
         origin: 0,
         rs_ack: 0,
-        spare_12: 0,
-        spare_13: 0,
-        spare_14: 0,
-        spare_15: 0,
     }
 }
 
@@ -34,6 +31,7 @@ fn fresh_step() -> Step
     ensures { λ r. ⌜ r ≡ freshStep ⌝ }
 {
     Step {
+        spare: [0; 5],
         had: 0,
         failed: 0,
         count: 0,
@@ -44,11 +42,6 @@ fn fresh_step() -> Step
         whole: 0,
         breaks: 0,
         odd: 0,
-        spare_11: 0,
-        spare_12: 0,
-        spare_13: 0,
-        spare_14: 0,
-        spare_15: 0,
     }
 }
 
@@ -57,6 +50,7 @@ fn fresh_member(kind: u8, hold_off: u16, restore: u16) -> Member
 {
     let none = kinds::idle_number(kind);
     Member {
+        spare: [0; 4],
         word: Port::NO_WORD,
         number: none,
         state: Port::IDLE,
@@ -66,10 +60,6 @@ fn fresh_member(kind: u8, hold_off: u16, restore: u16) -> Member
         hold_off,
         restore,
         run: 0,
-        spare_12: 0,
-        spare_13: 0,
-        spare_14: 0,
-        spare_15: 0,
     }
 }
 

@@ -79,7 +79,9 @@ fn standing_at(states: [Standing; 64], port: u8) -> Standing
 fn with_state(m: Member, left: Standing) -> Member
     ensures { λ r. ⌜ r ≡ withState m left ⌝ }
 {
+    let spare = m.spare;
     Member {
+        spare,
         word: m.word,
         number: m.number,
         state: left.state,
@@ -89,10 +91,6 @@ fn with_state(m: Member, left: Standing) -> Member
         hold_off: m.hold_off,
         restore: m.restore,
         run: left.run,
-        spare_12: m.spare_12,
-        spare_13: m.spare_13,
-        spare_14: m.spare_14,
-        spare_15: m.spare_15,
     }
 }
 
@@ -118,7 +116,9 @@ fn put_states(states: [Standing; 64], ports: u8, state: &mut [[u8; 16]])
 fn with_ack(g: Group, ack: u8) -> Group
     ensures { λ r. ⌜ r ≡ groupTo g (g .begun) (g .gathered) (g .oldest) (g .origin) ack ⌝ }
 {
+    let spare = g.spare;
     Group {
+        spare,
         kind: g.kind,
         count: g.count,
         payload: g.payload,
@@ -128,10 +128,6 @@ fn with_ack(g: Group, ack: u8) -> Group
         oldest: g.oldest,
         origin: g.origin,
         rs_ack: ack,
-        spare_12: g.spare_12,
-        spare_13: g.spare_13,
-        spare_14: g.spare_14,
-        spare_15: g.spare_15,
     }
 }
 

@@ -6,9 +6,11 @@ use Prim.Native.Nat.{ℕ, _<_}
 use lib.Dec.{ltb}
 use borrow.Author.Tests.{ltb-true}
 use Rattle.ground.specs.Truth.{and-left, and-right}
-use Rattle.recording.specs.declared.opening.Opening.the-variants as O
+use Rattle.recording.specs.Opening.{Opening as O}
+use Rattle.recording.specs.declared.pairs.Pairs.{Pairs}
 use Rattle.recording.specs.declared.record.Record.the-variants as R
-use Rattle.recording.specs.Opening.{settingsBy}
+use Rattle.recording.specs.Opening.{opened, settingsBy}
+use Rattle.recording.specs.Pairs.{firstPairs, pairsFrom}
 use Rattle.recording.specs.Record.{flagIn, frameBy}
 use Rattle.text.specs.declared.fields.Number.{Number}
 use Rattle.text.specs.declared.fields.Number.the-variants.{Value, Unreadable}
@@ -49,19 +51,19 @@ pub h4-below : (x y ports flag : ℕ) (payload : Bool) → (ltb x ports && ltb y
 h4-below x y ports flag payload t =
     ltb-true y 256 (and-right (ltb x ports) (ltb y 256) (and-left (ltb x ports && ltb y 256) (ltb flag 2) (and-left (ltb x ports && ltb y 256 && ltb flag 2) payload t)))
 
-module _ (a b c : Number) (next : ℕ) where
-  pub no-count : a ≡ Unreadable → O.Malformed ≡ settingsBy a b c next
+module _ (a b c : Number) (pairs : List (List ℕ)) (next : ℕ) where
+  pub no-count : a ≡ Unreadable → O.Malformed ≡ settingsBy a b c pairs next
   unfolding settingsBy
   no-count e = rw e
 
-  pub no-size : (x : ℕ) → a ≡ Value x → b ≡ Unreadable → O.Malformed ≡ settingsBy a b c next
+  pub no-size : (x : ℕ) → a ≡ Value x → b ≡ Unreadable → O.Malformed ≡ settingsBy a b c pairs next
   unfolding settingsBy
   no-size x e k = rw (e, k)
 
-  pub no-window : (x y : ℕ) → a ≡ Value x → b ≡ Value y → c ≡ Unreadable → O.Malformed ≡ settingsBy a b c next
+  pub no-window : (x y : ℕ) → a ≡ Value x → b ≡ Value y → c ≡ Unreadable → O.Malformed ≡ settingsBy a b c pairs next
   unfolding settingsBy
   no-window x y e k m = rw (e, k, m)
 
-  pub all-set : (x y z : ℕ) → a ≡ Value x → b ≡ Value y → c ≡ Value z → O.Settings x y z next ≡ settingsBy a b c next
+  pub all-set : (x y z : ℕ) → a ≡ Value x → b ≡ Value y → c ≡ Value z → (p q : Pairs) → p ≡ firstPairs x y z → q ≡ pairsFrom p pairs → opened q next ≡ settingsBy a b c pairs next
   unfolding settingsBy
-  all-set x y z e k m = rw (e, k, m)
+  all-set x y z e k m p q f g = rw (e, k, m, g, f)

@@ -1,6 +1,7 @@
 pub mod Laws
 pub mod Line
 pub mod Opening
+pub mod Pairs
 pub mod Reader
 pub mod Record
 mod Wrong

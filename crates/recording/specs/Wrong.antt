@@ -1,11 +1,14 @@
 -- Wrong readings of 2026-05, each as a definition with a run on which it breaks what the request says.
 use mathlib.Core.Path.{_≡_, refl}
-use mathlib.Core.Bool.{cond}
-use mathlib.Core.List.{List, [], _∷_}
+use mathlib.Core.List.{List, [], _∷_, _++_}
 use Prim.Native.Nat.{ℕ}
-use lib.Dec.{ltb}
+use lib.ListN.{replicate, take}
+use Rattle.recording.specs.declared.pairs.Settings.{Settings}
 use Rattle.recording.specs.declared.record.Record.{Record}
 use Rattle.recording.specs.declared.record.Record.the-variants.{Frame, Malformed}
+use Rattle.recording.specs.Opening.{Opening, lineOpening, opened, openingBy, settingsBy}
+use Rattle.recording.specs.Opening.{Opening as O}
+use Rattle.recording.specs.Pairs.{fieldIn, holdRead, kindRead, named, restoreRead}
 use Rattle.recording.specs.Record.{flagIn, frameBy, lineRecord}
 use Rattle.text.specs.Ascii.{ascii}
 use Rattle.text.specs.declared.fields.Number.{Number}
@@ -26,3 +29,35 @@ lines-read : (lineRecord 1 1 0 10 (ascii "0\tf0\t0\tAb") ≡ Frame 0 240 0 7 10)
     × (lineRecord 1 1 0 12 (ascii "0\tf0\t0\tAbAb") ≡ Malformed 12) × (lineRecord 1 1 0 11 (ascii "0\tf0\t0\tAb\r") ≡ Malformed 11)
 unfolding lineRecord fieldsOf frameBy numberOf hexOf flagIn isHex digitOf
 lines-read = (refl, refl, refl, refl)
+
+-- A pair that is not read: then a group with times replays as one with none. 'hold-off .. each with as many numbers as ports'.
+wrong-pairs : ℕ → List ℕ → Opening
+wrong-pairs next line = openingBy next (take 3 (fieldsOf line))
+
+-- A list for fewer ports, the others taken as zeros.
+wrong-list : ℕ → List ℕ → Opening
+wrong-list next line = openingBy next (fieldsOf line ++ (ascii "0" ∷ []))
+
+-- two ports, P 1 and W 16
+abbrev two : List ℕ → List ℕ → Settings
+two hold restore = record { «hold_off» = hold; restore = restore; kind = 0; ports = 2; size = 1; window = 16 }
+
+abbrev zeros : ℕ → List ℕ
+zeros n = replicate n 0
+
+pairs-break : (wrong-pairs 0 (ascii "2\t1\t16\thold-off\t5\t7") ≡ O.Settings (two (zeros 64) (zeros 64)) 0)
+    × (lineOpening 0 (ascii "2\t1\t16\thold-off\t5\t7") ≡ O.Settings (two (5 ∷ 7 ∷ zeros 62) (zeros 64)) 0)
+unfolding wrong-pairs lineOpening fieldsOf settingsBy opened fieldIn named holdRead numberOf digitOf
+pairs-break = (refl, refl)
+
+list-breaks : (wrong-list 0 (ascii "2\t1\t16\thold-off\t5") ≡ O.Settings (two (5 ∷ zeros 63) (zeros 64)) 0) × (lineOpening 0 (ascii "2\t1\t16\thold-off\t5") ≡ O.Malformed)
+unfolding wrong-list lineOpening fieldsOf settingsBy opened fieldIn named holdRead numberOf digitOf
+list-breaks = (refl, refl)
+
+-- both kinds, both lists in either order, and what is no pair: a list for one port too many, a pair twice, a name that no pair has, a kind that the product does not have
+pairs-read : (lineOpening 0 (ascii "2\t1\t16\twait-to-restore\t1\t002\tkind\tH4\thold-off\t5000\t999999999") ≡ O.Settings (two (5000 ∷ 999999999 ∷ zeros 62) (1 ∷ 2 ∷ zeros 62)) 0)
+    × (lineOpening 0 (ascii "2\t1\t16\tkind\tFIXED") ≡ O.Settings (record { «hold_off» = zeros 64; restore = zeros 64; kind = 2; ports = 2; size = 1; window = 16 }) 0)
+    × (lineOpening 0 (ascii "2\t1\t16\thold-off\t5\t5\t5") ≡ O.Malformed) × (lineOpening 0 (ascii "2\t1\t16\thold-off\t5\t5\thold-off\t5\t5") ≡ O.Malformed)
+    × (lineOpening 0 (ascii "2\t1\t16\tholdoff\t5\t5") ≡ O.Malformed) × (lineOpening 0 (ascii "2\t1\t16\tkind\tK4") ≡ O.Malformed) × (lineOpening 0 (ascii "2\t1\t16\t") ≡ O.Malformed)
+unfolding lineOpening fieldsOf settingsBy opened fieldIn named kindRead holdRead restoreRead numberOf digitOf
+pairs-read = (refl, refl, refl, refl, refl, refl, refl)

@@ -2,11 +2,14 @@
 // reader that stays on the lent text and knows how far it has come.
 mod line;
 mod opening;
+mod pairs;
 mod reader;
 mod record;
 
-pub use opening::Opening;
+pub use opening::First;
+pub use opening::FirstLine;
 pub use opening::opening_at;
+pub use pairs::Settings;
 pub use reader::Reader;
 pub use reader::moved;
 pub use reader::next;

@@ -2,48 +2,17 @@
 use mathlib.Core.Path.{_≡_, refl, sym, ap, _∙_}
 use mathlib.Core.Bool.{Bool, true, false, cond, _&&_}
 use mathlib.Core.List.{List, [], _∷_, _++_}
-use Prim.Native.Nat.{ℕ, _+_, _*_, _/_, _≤_, _<_}
+use Prim.Native.Nat.{ℕ, _+_, _*_, _≤_, _<_}
 use native.Mathlib.Omega.{arith}
-use lib.Dec.{leb}
 use lib.ListN.{length, replicate, length-replicate, drop-of-length-le, take, take-append-drop, drop}
 use lib.Seq.{slice, take-length}
-use borrow.Author.Tests.{le-leb, leb-true, lt-leb}
-use Rattle.packet.specs.Laws.Epochs.{half-fits}
-use Rattle.phases.specs.Sizes.{sized}
-use Rattle.ground.specs.Truth.{and-left, and-right}
-use Rattle.receiver.specs.Laws.Sizes.{Sizes, sizes-of}
-use Rattle.replaying.specs.Replay.{storeOf}
 use Rattle.bytes.specs.Bytes.{indexOf}
 use Rattle.replaying.specs.declared.replay.Phase.{Phase}
 use Rattle.replaying.specs.declared.replay.Replay.{Replay}
 use Rattle.replaying.specs.declared.turns.Replayed.{Replayed}
-use Rattle.replaying.specs.Turn.{payloadAt, startable, turnBy, turnOf, turnOut, turnOutBy, turnRows, turnRowsBy, turnSaid, turnSaidBy, turnStore, turnStoreBy}
+use Rattle.replaying.specs.Turn.{payloadAt, turnBy, turnOf, turnOut, turnOutBy, turnRows, turnRowsBy, turnSaid, turnSaidBy, turnStore, turnStoreBy}
 use Rattle.text.specs.Text.{LINE-END}
 use Rattle.text.specs.Fields.{areDigits, bytesIn, bytesOf, isHex}
-
-pub start-out : (p s w store : ℕ) → sized 0 p s w ≡ false → false ≡ startable p s w store
-unfolding startable
-start-out p s w store t = rw t
-
-pub start-in : (p s w store : ℕ) → sized 0 p s w ≡ true → (m : ℕ) → m ≡ storeOf p s w → leb m store ≡ startable p s w store
-unfolding startable
-start-in p s w store t m e = rw (t, e)
-
-pub record Small (p s w : ℕ) : Type 0 where
-  pub few : p ≤ 64
-  pub short : s ≤ 2340
-  pub narrow : w ≤ 2048
-
-pub small : (p s w : ℕ) → sized 0 p s w ≡ true → Small p s w
-small p s w t =
-    let z = sizes-of 0 p s w t in
-    let h = half-fits 0 in
-    let n = z .narrow in
-    record { few = z .few-ports; short = z .few-bytes; narrow = omega arith }
-
-pub start-sized : (p s w store : ℕ) → startable p s w store ≡ true → sized 0 p s w ≡ true
-unfolding startable
-start-sized p s w store t = and-left (sized 0 p s w) (leb (storeOf p s w) store) t
 
 -- the first line end of a whole text
 pub end-is : (text : List ℕ) (end : ℕ) → end ≡ 0 + indexOf LINE-END (slice 0 (length text) text) → end ≡ indexOf LINE-END text

@@ -2,4 +2,5 @@
 pub mod Due
 pub mod Lengths
 pub mod Lent
+pub mod Starts
 pub mod Texts

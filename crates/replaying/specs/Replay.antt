@@ -11,10 +11,7 @@ beginning = record { phase = Settings; line = 0; left = 0; ports = 0; size = 0; 
 abbrev pub nextLine : ℕ → ℕ
 nextLine n = (n + 1) % 18446744073709551616
 
--- the receiver's rows, 'The lent store is exactly ports x W x (P+1) bytes', 'at least ports x 16 x P bytes' of output
-abbrev pub rowsOf : ℕ → ℕ
-rowsOf ports = ports * 5 + 1
-
+-- 'The lent store is exactly ports x W x (P+1) bytes', 'at least ports x 16 x P bytes' of output
 abbrev pub storeOf : ℕ → ℕ → ℕ → ℕ
 storeOf ports size window = ports * window * (size + 1)
 

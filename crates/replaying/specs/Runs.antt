@@ -3,8 +3,8 @@ use mathlib.Core.Bool.{Bool, true, false, cond}
 use mathlib.Core.List.{List, [], _∷_, _++_}
 use Prim.Native.Nat.{ℕ, zero, suc}
 use lib.ListN.{drop, length, take}
-use Rattle.recording.specs.declared.opening.Opening.{Opening}
-use Rattle.recording.specs.declared.opening.Opening.the-variants as O
+use Rattle.recording.specs.Opening.{Opening}
+use Rattle.recording.specs.Opening.{Opening as O}
 use Rattle.recording.specs.declared.record.Record.{Record}
 use Rattle.recording.specs.declared.record.Record.the-variants.{Frame, Malformed, Long, Unfinished, End}
 use Rattle.recording.specs.Opening.{lineOpening}
@@ -49,18 +49,18 @@ module _ (out : List ℕ) where
 
   -- the first line
   abbrev pub openedBy : Desk → Opening → Desk
-  openedBy d (O.Settings ports size window next) =
+  openedBy d (O.Settings s next) =
       record {
-        replay = openWithTurn (d .replay) ports size window next (length (d .store)) .replay;
-        rows = openWithRows ports size window (length (d .store)) (d .rows);
-        store = storeBy (openWithTurn (d .replay) ports size window next (length (d .store)) .replay .phase) (d .store);
+        replay = openWithTurn (d .replay) s next (length (d .store)) .replay;
+        rows = openWithRows s (length (d .store)) (d .rows);
+        store = storeBy (openWithTurn (d .replay) s next (length (d .store)) .replay .phase) (d .store);
       }
   openedBy d O.Malformed = standing d Ended
   openedBy d O.Unfinished = d
   openedBy d O.End = d
 
   abbrev pub openingText : Desk → Opening → List ℕ
-  openingText d (O.Settings ports size window next) = cond (startable ports size window (length (d .store))) [] (refusal d 4)
+  openingText d (O.Settings s next) = cond (startable s (length (d .store))) [] (refusal d 4)
   openingText d O.Malformed = refusal d 13
   openingText d O.Unfinished = []
   openingText d O.End = []

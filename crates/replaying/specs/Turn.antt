@@ -9,11 +9,12 @@ use Rattle.bytes.specs.Bytes.{indexOf}
 use Rattle.phases.specs.Sizes.{sized}
 use Rattle.receiver.specs.Fetch.{fetchOut, fetchRecord, fetchRows}
 use Rattle.receiver.specs.Frame.{frameRows, frameStore}
-use Rattle.receiver.specs.Starting.{startRows}
-use Rattle.recording.specs.declared.opening.Opening.{Opening}
-use Rattle.recording.specs.declared.opening.Opening.the-variants as O
+use Rattle.receiver.specs.Starting.{startAsRows, timesWithin}
+use Rattle.recording.specs.Opening.{Opening}
+use Rattle.recording.specs.Opening.{Opening as O}
 use Rattle.recording.specs.declared.record.Record.{Record}
 use Rattle.recording.specs.declared.record.Record.the-variants.{Frame, Malformed, Long, Unfinished, End}
+use Rattle.recording.specs.declared.pairs.Settings.{Settings as GroupSettings}
 use Rattle.recording.specs.Opening.{openingIn}
 use Rattle.recording.specs.Record.{lastRecord, recordIn}
 use Rattle.replaying.specs.declared.replay.Phase.{Phase}
@@ -21,7 +22,8 @@ use Rattle.replaying.specs.declared.replay.Phase.the-variants.{Settings,
 use Rattle.replaying.specs.declared.replay.Replay.{Replay}
 use Rattle.replaying.specs.declared.turns.Replayed.{Replayed}
 use Rattle.replaying.specs.Output.{ROOM, answerText, reportText, statesIn}
-use Rattle.replaying.specs.Replay.{nextLine, outputOf, rowsOf, storeOf}
+use Rattle.replaying.specs.Replay.{nextLine, outputOf, storeOf}
+use Rattle.rows.specs.Rows.{rowsFor}
 use Rattle.text.specs.Fields.{bytesIn}
 use Rattle.text.specs.Text.{LINE-END}
 
@@ -61,38 +63,60 @@ clearedStore store = replicate (length store) 0
 
 -- the first line: 'a bad first line ends the run', and 'Settings out of range, or a store above' what is lent 'are 4 and end it'
 
-unfoldable pub startable : ℕ → ℕ → ℕ → ℕ → Bool
-startable ports size window store = sized 0 ports size window && leb (storeOf ports size window) store
+-- the numbers of the group's ports
+abbrev pub holdOffs : GroupSettings → List ℕ
+holdOffs s = take (s .ports) (s .«hold_off»)
 
-unfoldable pub openWithTurn : Replay → ℕ → ℕ → ℕ → ℕ → ℕ → Replayed
-openWithTurn r ports size window next store =
-    cond (startable ports size window store)
-    (turned (record { phase = Reading; line = nextLine (r .line); left = 0; ports = ports; size = size; window = window }) next 0 false)
-    (answeredTurn r Ended 4 0)
+abbrev pub restores : GroupSettings → List ℕ
+restores s = take (s .ports) (s .restore)
 
-unfoldable pub openWithRows : ℕ → ℕ → ℕ → ℕ → List (List ℕ) → List (List ℕ)
-openWithRows ports size window store rows =
-    cond (startable ports size window store)
-    (startRows 0 ports size window (storeOf ports size window) (take (rowsOf ports) (clearedRows rows)) ++ drop (rowsOf ports) (clearedRows rows))
-    rows
+abbrev pub storeIn : GroupSettings → ℕ
+storeIn s = storeOf (s .ports) (s .size) (s .window)
 
-unfoldable pub openWithSaid : Replay → ℕ → ℕ → ℕ → ℕ → List ℕ → List ℕ
-openWithSaid r ports size window store said = cond (startable ports size window store) said (answeredSaid r 4 said)
+abbrev pub isSized : GroupSettings → Bool
+isSized s = sized (s .kind) (s .ports) (s .size) (s .window)
+
+-- 'a count above 5,000 is number 4' (02, 2026-03)
+unfoldable pub timesFit : GroupSettings → Bool
+timesFit s = timesWithin (holdOffs s) && timesWithin (restores s)
+
+unfoldable pub startable : GroupSettings → ℕ → Bool
+startable s store = isSized s && timesFit s && leb (storeIn s) store
+
+-- the group's own rows, as a receiver's start with these times leaves them
+unfoldable pub startedRows : GroupSettings → List (List ℕ) → List (List ℕ)
+startedRows s rows = startAsRows (s .kind) (s .ports) (s .size) (s .window) (storeIn s) (holdOffs s) (restores s) rows
+
+abbrev pub startedTurn : Replay → GroupSettings → ℕ → Replayed
+startedTurn r s next =
+    turned (record { phase = Reading; line = nextLine (r .line); left = 0; ports = s .ports; size = s .size; window = s .window }) next 0 false
+
+abbrev pub rowsStarted : GroupSettings → List (List ℕ) → List (List ℕ)
+rowsStarted s rows = startedRows s (take (rowsFor (s .ports)) (clearedRows rows)) ++ drop (rowsFor (s .ports)) (clearedRows rows)
+
+unfoldable pub openWithTurn : Replay → GroupSettings → ℕ → ℕ → Replayed
+openWithTurn r s next store = cond (startable s store) (startedTurn r s next) (answeredTurn r Ended 4 0)
+
+unfoldable pub openWithRows : GroupSettings → ℕ → List (List ℕ) → List (List ℕ)
+openWithRows s store rows = cond (startable s store) (rowsStarted s rows) rows
+
+unfoldable pub openWithSaid : Replay → GroupSettings → ℕ → List ℕ → List ℕ
+openWithSaid r s store said = cond (startable s store) said (answeredSaid r 4 said)
 
 abbrev pub openTurnBy : Replay → ℕ → Opening → Replayed
-openTurnBy r store (O.Settings ports size window next) = openWithTurn r ports size window next store
+openTurnBy r store (O.Settings s next) = openWithTurn r s next store
 openTurnBy r store O.Malformed = answeredTurn r Ended 13 0
 openTurnBy r store O.Unfinished = waitingTurn r
 openTurnBy r store O.End = waitingTurn r
 
 abbrev pub openRowsBy : ℕ → List (List ℕ) → Opening → List (List ℕ)
-openRowsBy store rows (O.Settings ports size window next) = openWithRows ports size window store rows
+openRowsBy store rows (O.Settings s next) = openWithRows s store rows
 openRowsBy store rows O.Malformed = rows
 openRowsBy store rows O.Unfinished = rows
 openRowsBy store rows O.End = rows
 
 abbrev pub openSaidBy : Replay → ℕ → List ℕ → Opening → List ℕ
-openSaidBy r store said (O.Settings ports size window next) = openWithSaid r ports size window store said
+openSaidBy r store said (O.Settings s next) = openWithSaid r s store said
 openSaidBy r store said O.Malformed = answeredSaid r 13 said
 openSaidBy r store said O.Unfinished = said
 openSaidBy r store said O.End = said
@@ -122,7 +146,7 @@ storeBy Ended store = store
 
 unfoldable pub isLent : Replay → ℕ → ℕ → ℕ → ℕ → Bool
 isLent r rows store out said =
-    leb ROOM said && leb (r .ports) 64 && leb (r .size) 2340 && leb (rowsOf (r .ports)) rows && leb (storeOf (r .ports) (r .size) (r .window)) store && leb (outputOf (r .ports) (r .size)) out
+    leb ROOM said && leb (r .ports) 64 && leb (r .size) 2340 && leb (rowsFor (r .ports)) rows && leb (storeOf (r .ports) (r .size) (r .window)) store && leb (outputOf (r .ports) (r .size)) out
 
 abbrev pub isOpen : Record → Bool
 isOpen (Frame port h4 flag place next) = false
@@ -143,11 +167,11 @@ payloadAt size place text = bytesIn (slice place (place + size + size) text) (re
 module _ (r : Replay) (port h4 flag : ℕ) (payload : List ℕ) (rows : List (List ℕ)) (store : List ℕ) where
   unfoldable pub framedRows : List (List ℕ)
   framedRows =
-      frameRows (take (rowsOf (r .ports)) rows) port (eqb flag 1) h4 payload (take (storeOf (r .ports) (r .size) (r .window)) store) ++ drop (rowsOf (r .ports)) rows
+      frameRows (take (rowsFor (r .ports)) rows) port (eqb flag 1) h4 payload (take (storeOf (r .ports) (r .size) (r .window)) store) ++ drop (rowsFor (r .ports)) rows
 
   unfoldable pub framedStore : List ℕ
   framedStore =
-      frameStore (take (rowsOf (r .ports)) rows) port (eqb flag 1) h4 payload (take (storeOf (r .ports) (r .size) (r .window)) store)
+      frameStore (take (rowsFor (r .ports)) rows) port (eqb flag 1) h4 payload (take (storeOf (r .ports) (r .size) (r .window)) store)
       ++ drop (storeOf (r .ports) (r .size) (r .window)) store
 
 -- reports are fetched then, at most W of them
@@ -209,14 +233,14 @@ reportedTurn r written = turned (within r Fetching (r .line) (r .left - 1)) 0 wr
 
 module _ (r : Replay) (rows : List (List ℕ)) (store out : List ℕ) where
   unfoldable pub fetchRecordBy : List ℕ
-  fetchRecordBy = fetchRecord (take (rowsOf (r .ports)) rows) (take (storeOf (r .ports) (r .size) (r .window)) store) out (replicate 8 0)
+  fetchRecordBy = fetchRecord (take (rowsFor (r .ports)) rows) (take (storeOf (r .ports) (r .size) (r .window)) store) out (replicate 8 0)
 
   unfoldable pub fetchRowsBy : List (List ℕ)
   fetchRowsBy =
-      fetchRows (take (rowsOf (r .ports)) rows) (take (storeOf (r .ports) (r .size) (r .window)) store) out (replicate 8 0) ++ drop (rowsOf (r .ports)) rows
+      fetchRows (take (rowsFor (r .ports)) rows) (take (storeOf (r .ports) (r .size) (r .window)) store) out (replicate 8 0) ++ drop (rowsFor (r .ports)) rows
 
   unfoldable pub fetchOutBy : List ℕ
-  fetchOutBy = fetchOut (take (rowsOf (r .ports)) rows) (take (storeOf (r .ports) (r .size) (r .window)) store) out (replicate 8 0)
+  fetchOutBy = fetchOut (take (rowsFor (r .ports)) rows) (take (storeOf (r .ports) (r .size) (r .window)) store) out (replicate 8 0)
 
   -- none is due where the mark is 0
   abbrev pub isDue : Bool

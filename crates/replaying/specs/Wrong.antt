@@ -3,14 +3,23 @@
 use mathlib.Core.Path.{_≡_, refl}
 use mathlib.Core.List.{List, [], _∷_, _++_}
 use Prim.Native.Nat.{ℕ}
-use lib.ListN.{getD, take}
+use lib.ListN.{getD, replicate, take}
+use Rattle.packet.specs.Kinds.{frames, idleNumber, tags}
+use Rattle.phases.specs.Sizes.{sized}
+use Rattle.receiver.specs.Starting.{freshPort, freshPorts, sizedFits, sizedRows, startAsRows, startFits, startRight, timesWithin}
+use Rattle.rows.specs.Group.{groupAt, groupOf, groupRow, putGroup}
+use Rattle.rows.specs.Member.{memberAt, memberOf, memberRow, putMember}
+use Rattle.rows.specs.Packets.{putMarks, putPackets}
+use Rattle.rows.specs.Rows.{putRow, rowIn}
+use Rattle.rows.specs.Step.{putStep, stepRow}
+use Rattle.recording.specs.declared.pairs.Settings as S
 use Rattle.recording.specs.Opening.{lineOpening, settingsBy}
 use Rattle.recording.specs.Record.{lineRecord}
 use Rattle.replaying.specs.declared.replay.Phase.the-variants.{Reading, Settings}
 use Rattle.replaying.specs.Output.{answerText, changesText, countIn, epochText, markText, portText, reportText, stateLine, stateText}
 use Rattle.replaying.specs.Replay.{beginning}
 use Rattle.replaying.specs.Runs.{Desk, deskAfter, saidTo, standing}
-use Rattle.replaying.specs.Turn.{within}
+use Rattle.replaying.specs.Turn.{holdOffs, restores, startedRows, storeIn, within}
 use Rattle.text.specs.Ascii.{ascii}
 use Rattle.text.specs.Fields.{digitOf, numberOf}
 use Rattle.text.specs.Output.{decimalText, numberText}
@@ -54,3 +63,18 @@ order-breaks = (refl, refl)
 report-is : reportText sure 812 (255 ∷ []) (513 ∷ []) 1 ≡ ascii "epoch\t33\tsure\tbytes\t16\tline\t812\nport\t0\tOK\t1\n"
 unfolding reportText epochText stateLine portText stateText markText countIn decimalText numberText
 report-is = refl
+
+-- Hold-off and wait-to-restore exchanged at the start. A pair's name says which of them it is.
+wrong-started : S.Settings → List (List ℕ) → List (List ℕ)
+wrong-started s rows = startAsRows (s .kind) (s .ports) (s .size) (s .window) (storeIn s) (restores s) (holdOffs s) rows
+
+-- a fixed group of one port with both times
+abbrev timed : S.Settings
+timed = record { «hold_off» = 5 ∷ replicate 63 0; restore = 2 ∷ replicate 63 0; kind = 2; ports = 1; size = 1; window = 16 }
+
+abbrev timesIn : List (List ℕ) → List ℕ
+timesIn rows = (groupAt rows .kind) ∷ (memberAt rows 0 .«hold_off») ∷ (memberAt rows 0 .restore) ∷ []
+
+times-break : (timesIn (startedRows timed (replicate 6 (replicate 16 0))) ≡ 2 ∷ 5 ∷ 2 ∷ []) × (timesIn (wrong-started timed (replicate 6 (replicate 16 0))) ≡ 2 ∷ 2 ∷ 5 ∷ [])
+unfolding wrong-started frames idleNumber tags sized freshPort freshPorts sizedFits sizedRows startAsRows startFits startRight timesWithin groupAt groupOf groupRow putGroup memberAt memberOf memberRow putMember putMarks putPackets putRow rowIn putStep stepRow startedRows
+times-break = (refl, refl)

@@ -1,5 +1,5 @@
 // The receiver on the parts of the lent rows and store that are its own.
-use packet::kinds;
+use recording::Settings;
 use rows::Group;
 ghost use mathlib.Core.Path.{_≡_};
 ghost use mathlib.Core.List.{[], _++_};
@@ -7,9 +7,9 @@ ghost use Prim.Native.Nat.{_≤_};
 ghost use lib.ListN.{drop, length, take};
 ghost use Rattle.receiver.specs.Fetch.{fetchOut, fetchRecord, fetchRows};
 ghost use Rattle.receiver.specs.Frame.{frameRows, frameStore};
-ghost use Rattle.receiver.specs.Starting.{startRows};
+ghost use Rattle.receiver.specs.Starting.{timesWithin};
 ghost use Rattle.replaying.specs.Laws.Due.{dueAt, dueOf};
-ghost use Rattle.replaying.specs.Turn.{clearedRows, clearedStore};
+ghost use Rattle.replaying.specs.Turn.{clearedRows, clearedStore, startedRows, storeIn, timesFit};
 
 fn clear_rows(rows: &mut [[u8; 16]])
     ensures { λ _. ⌜ now (rows .exit) ≡ clearedRows (now (rows .entry)) ⌝ }
@@ -31,20 +31,48 @@ pub(crate) fn clear_store(store: &mut [u8])
     }
 }
 
+fn is_within(counts: &[u32]) -> bool
+    ensures { λ r. ⌜ r ≡ timesWithin (now (counts .entry)) ⌝ }
+{
+    let mut all = true;
+    let mut i = 0;
+    while i < counts.len() {
+        all = all & (counts[i] <= 5000);
+        i += 1;
+    }
+    all
+}
+
+// The times of the group's ports are in range.
+pub(crate) fn times_fit(settings: Settings) -> bool
+    requires { ⌜ settings .ports ≤ 64 ⌝ }
+    ensures { λ r. ⌜ r ≡ timesFit settings ⌝ }
+{
+    let hold = settings.hold_off;
+    let restore = settings.restore;
+    let n = settings.ports as usize;
+    is_within(&hold[..n]) & is_within(&restore[..n])
+}
+
 // All rows are cleared first.
-pub(crate) fn start(
-    ports: u32,
-    size: u32,
-    window: u32,
-    store: usize,
-    rows: &mut [[u8; 16]],
-    count: usize,
-)
-    requires { ⌜ count ≤ length (now rows) ⌝ }
-    ensures { λ _. ⌜ now (rows .exit) ≡ startRows 0 ports size window store (take count (clearedRows (now (rows .entry)))) ++ drop count (clearedRows (now (rows .entry))) ⌝ }
+pub(crate) fn start(settings: Settings, store: usize, rows: &mut [[u8; 16]], count: usize)
+    requires { ⌜ (count ≤ length (now rows)) × (settings .ports ≤ 64) × (store ≡ storeIn settings) ⌝ }
+    ensures { λ _. ⌜ now (rows .exit) ≡ startedRows settings (take count (clearedRows (now (rows .entry)))) ++ drop count (clearedRows (now (rows .entry))) ⌝ }
 {
     clear_rows(rows);
-    receiver::start(kinds::H4, ports, size, window, store, &mut rows[..count]);
+    let hold = settings.hold_off;
+    let restore = settings.restore;
+    let n = settings.ports as usize;
+    receiver::start_as(
+        settings.kind,
+        settings.ports,
+        settings.size,
+        settings.window,
+        store,
+        &hold[..n],
+        &restore[..n],
+        &mut rows[..count],
+    );
 }
 
 pub(crate) fn frame(

@@ -1,6 +1,6 @@
 // How far a recording has been replayed, beside the receiver's rows and store.
 ghost use mathlib.Core.Path.{_≡_};
-ghost use Rattle.replaying.specs.Replay.{beginning, nextLine, outputOf, rowsOf, storeOf};
+ghost use Rattle.replaying.specs.Replay.{beginning, nextLine, outputOf, storeOf};
 
 pub enum Phase {
     // the first line is to come
@@ -47,13 +47,7 @@ pub(crate) fn next_line(line: u64) -> u64
     std::num::wrapping_add_u64(line, 1)
 }
 
-// How many rows, bytes of store and bytes of output the receiver has.
-pub(crate) fn rows_of(ports: u8) -> usize
-    ensures { λ r. ⌜ r ≡ rowsOf ports ⌝ }
-{
-    ports as usize * 5 + 1
-}
-
+// How many bytes of store and bytes of output the receiver has.
 pub(crate) fn store_of(ports: u8, size: u16, window: u16) -> usize
     ensures { λ r. ⌜ r ≡ storeOf ports size window ⌝ }
 {

@@ -5,16 +5,19 @@ use crate::output;
 use crate::replay;
 use crate::replay::Phase;
 use crate::replay::Replay;
-use packet::kinds;
-use recording::Opening;
+use recording::FirstLine;
 use recording::Record;
+use recording::Settings;
+use rows::group;
 ghost use mathlib.Core.Path.{_≡_};
 ghost use Prim.Native.Nat.{_+_, _*_, _≤_};
 ghost use lib.ListN.{length, replicate};
 ghost use lib.Seq.{slice};
 ghost use Rattle.replaying.specs.Laws.Lent.{Lent};
+ghost use Rattle.replaying.specs.Laws.Starts.{Small};
 ghost use Rattle.replaying.specs.Output.{ROOM};
-ghost use Rattle.replaying.specs.Turn.{answeredSaid, answeredTurn, endedTurn, fetchOutBy, fetchRecordBy, fetchRowsBy, fetchedSaid, fetchedTurn, framedTurn, framedRows, framedStore, isLent, isOpen, openRows, openSaid, openTurn, openWithRows, openWithSaid, openWithTurn, payloadAt, readBy, readRows, readSaid, readStore, readTurn, recordNow, refusedTurn, reportOut, reportRows, reportSaid, reportTurn, reportedTurn, readOnTurn, skipTurn, skippedTo, startable, storeBy, turnOf, turnOut, turnRows, turnSaid, turnStore, waitingTurn};
+ghost use Rattle.replaying.specs.Turn.{answeredSaid, answeredTurn, endedTurn, fetchOutBy, fetchRecordBy, fetchRowsBy, fetchedSaid, fetchedTurn, framedTurn, framedRows, framedStore, isLent, isOpen, openRows, openSaid, openTurn, openWithRows, openWithSaid, openWithTurn, payloadAt, readBy, readRows, readSaid, readStore, readTurn, recordNow, refusedTurn, reportOut, reportRows, reportSaid, reportTurn, reportedTurn, readOnTurn, rowsStarted, skipTurn, skippedTo, startable, startedTurn, storeBy, turnOf, turnOut, turnRows, turnSaid, turnStore, waitingTurn};
+ghost use Rattle.rows.specs.Rows.{rowsFor};
 ghost use Rattle.text.specs.Fields.{bytesIn};
 
 // What a turn has done. answer: 0, or 9 where what is lent is too short, and then nothing is done. wants: nothing more can be done without more
@@ -78,52 +81,71 @@ fn answered(replay: Replay, phase: Phase, number: u8, used: usize, said: &mut [u
 }
 
 // Settings in range, and a store that is lent.
-fn is_startable(ports: u32, size: u32, window: u32, store: usize) -> bool
-    ensures { λ r. ⌜ r ≡ startable ports size window store ⌝ }
+fn is_startable(settings: Settings, store: usize) -> bool
+    ensures { λ r. ⌜ r ≡ startable settings store ⌝ }
 {
-    if phases::is_sized(kinds::H4, ports, size, window) {
-        return replay::store_of(ports as u8, size as u16, window as u16) <= store;
+    if !phases::is_sized(
+        settings.kind,
+        settings.ports,
+        settings.size,
+        settings.window,
+    ) {
+        return false;
     }
-    false
+    let times = lent::times_fit(settings);
+    let bytes = replay::store_of(
+        settings.ports as u8,
+        settings.size as u16,
+        settings.window as u16,
+    );
+    times & (bytes <= store)
 }
 
-fn open_with(
-    replay: Replay,
-    ports: u32,
-    size: u32,
-    window: u32,
-    next: usize,
-    rows: &mut [[u8; 16]],
-    store: usize,
-    said: &mut [u8],
-) -> Replayed
-    requires { ⌜ (ROOM ≤ length (now said)) × (321 ≤ length (now rows)) ⌝ }
-    ensures { λ r. ⌜ (r ≡ openWithTurn replay ports size window next store)
-        × (now (rows .exit) ≡ openWithRows ports size window store (now (rows .entry)))
-        × (now (said .exit) ≡ openWithSaid replay ports size window store (now (said .entry))) ⌝ }
+// The group's receiver is started.
+fn open_as(replay: Replay, settings: Settings, next: usize, rows: &mut [[u8; 16]]) -> Replayed
+    requires { ⌜ Small settings × (321 ≤ length (now rows)) ⌝ }
+    ensures { λ r. ⌜ (r ≡ startedTurn replay settings next) × (now (rows .exit) ≡ rowsStarted settings (now (rows .entry))) ⌝ }
 {
-    if !is_startable(ports, size, window, store) {
-        return answered(replay, Phase::Ended, 4, 0, said);
-    }
-    let count = ports as u8;
-    let bytes = replay::store_of(count, size as u16, window as u16);
-    let n = replay::rows_of(count);
-    lent::start(ports, size, window, bytes, rows, n);
+    let ports = settings.ports as u8;
+    let size = settings.size as u16;
+    let window = settings.window as u16;
+    let bytes = replay::store_of(ports, size, window);
+    let n = group::rows_for(ports);
+    lent::start(settings, bytes, rows, n);
     let line = replay::next_line(replay.line);
     Replayed {
         replay: Replay {
             phase: Phase::Reading,
             line,
             left: 0,
-            ports: count,
-            size: size as u16,
-            window: window as u16,
+            ports,
+            size,
+            window,
         },
         answer: 0,
         used: next,
         written: 0,
         wants: false,
     }
+}
+
+fn open_with(
+    replay: Replay,
+    settings: Settings,
+    next: usize,
+    rows: &mut [[u8; 16]],
+    store: usize,
+    said: &mut [u8],
+) -> Replayed
+    requires { ⌜ (ROOM ≤ length (now said)) × (321 ≤ length (now rows)) ⌝ }
+    ensures { λ r. ⌜ (r ≡ openWithTurn replay settings next store)
+        × (now (rows .exit) ≡ openWithRows settings store (now (rows .entry)))
+        × (now (said .exit) ≡ openWithSaid replay settings store (now (said .entry))) ⌝ }
+{
+    if is_startable(settings, store) {
+        return open_as(replay, settings, next, rows);
+    }
+    answered(replay, Phase::Ended, 4, 0, said)
 }
 
 // The first line.
@@ -145,14 +167,16 @@ fn open(
     if rows.len() < 321 {
         return refused(replay);
     }
-    let opening = recording::opening_at(text, 0, last);
-    match opening {
-        Opening::Settings(ports, size, window, next) => {
-            open_with(replay, ports, size, window, next, rows, store, said)
+    let first = recording::opening_at(text, 0, last);
+    let line = first.line;
+    match line {
+        FirstLine::Settings => {
+            let settings = first.settings;
+            open_with(replay, settings, first.next, rows, store, said)
         }
-        Opening::Malformed => answered(replay, Phase::Ended, 13, 0, said),
-        Opening::Unfinished => waiting(replay),
-        Opening::End => waiting(replay),
+        FirstLine::Malformed => answered(replay, Phase::Ended, 13, 0, said),
+        FirstLine::Unfinished => waiting(replay),
+        FirstLine::End => waiting(replay),
     }
 }
 
@@ -194,7 +218,7 @@ fn open_all(
 fn is_lent(replay: Replay, rows: usize, store: usize, out: usize, said: usize) -> bool
     ensures { λ r. ⌜ r ≡ isLent replay rows store out said ⌝ }
 {
-    let n = replay::rows_of(replay.ports);
+    let n = group::rows_for(replay.ports);
     let m = replay::store_of(replay.ports, replay.size, replay.window);
     let o = replay::output_of(replay.ports, replay.size);
     (REPLAY_ROOM <= said)
@@ -257,14 +281,14 @@ fn take_frame(
     rows: &mut [[u8; 16]],
     store: &mut [u8],
 )
-    requires { ⌜ (replay .size ≤ 2340) × (replay .ports * 5 + 1 ≤ length (now rows)) × (replay .ports * replay .window * (replay .size + 1) ≤ length (now store)) ⌝ }
+    requires { ⌜ (replay .size ≤ 2340) × (rowsFor (replay .ports) ≤ length (now rows)) × (replay .ports * replay .window * (replay .size + 1) ≤ length (now store)) ⌝ }
     ensures { λ _. ⌜ (now (rows .exit) ≡ framedRows replay port h4 flag (payloadAt (replay .size) place (now (text .entry))) (now (rows .entry)) (now (store .entry)))
         × (now (store .exit) ≡ framedStore replay port h4 flag (payloadAt (replay .size) place (now (text .entry))) (now (rows .entry)) (now (store .entry))) ⌝ }
 {
     let size = replay.size as usize;
     let mut payload = blank();
     read_payload(text, place, &mut payload[..size]);
-    let n = replay::rows_of(replay.ports);
+    let n = group::rows_for(replay.ports);
     let m = replay::store_of(replay.ports, replay.size, replay.window);
     lent::frame(rows, n, port, flag == 1, h4, &payload[..size], store, m);
 }
@@ -362,13 +386,13 @@ fn reported(replay: Replay, written: usize) -> Replayed
 
 // A fetch of one report on the receiver's own parts.
 fn fetch(replay: Replay, rows: &mut [[u8; 16]], store: &[u8], out: &mut [u8]) -> [u8; 8]
-    requires { ⌜ (replay .ports * 5 + 1 ≤ length (now rows)) × (replay .ports * replay .window * (replay .size + 1) ≤ length (now store)) ⌝ }
+    requires { ⌜ (rowsFor (replay .ports) ≤ length (now rows)) × (replay .ports * replay .window * (replay .size + 1) ≤ length (now store)) ⌝ }
     ensures { λ r. ⌜ (r ≡ fetchRecordBy replay (now (rows .entry)) (now (store .entry)) (now (out .entry)))
         × (now (rows .exit) ≡ fetchRowsBy replay (now (rows .entry)) (now (store .entry)) (now (out .entry)))
         × (now (out .exit) ≡ fetchOutBy replay (now (rows .entry)) (now (store .entry)) (now (out .entry))) ⌝ }
 {
     let mut given = [0u8; 8];
-    let n = replay::rows_of(replay.ports);
+    let n = group::rows_for(replay.ports);
     let m = replay::store_of(replay.ports, replay.size, replay.window);
     lent::fetch(rows, n, store, m, out, &mut given);
     given
@@ -417,7 +441,7 @@ fn report(
     if replay.left == 0 {
         return read_on(replay);
     }
-    let n = replay::rows_of(replay.ports);
+    let n = group::rows_for(replay.ports);
     if lent::is_due(rows, n) {
         return report_now(replay, rows, store, out, said);
     }

@@ -1,15 +1,12 @@
 -- A port as its member state is worked out (01, 'Member states and reply').
-use mathlib.Core.Bool.{Bool, false, cond, not, _&&_, _||_}
+use mathlib.Core.Bool.{Bool, false, not, _&&_, _||_}
 use mathlib.Core.List.{List}
 use Prim.Native.Nat.{ℕ}
 use lib.Dec.{eqb, ltb}
 use lib.ListN.{getD}
+pub use Rattle.ground.specs.Sizes.{sizeOf}
 use Rattle.packet.specs.Words.{IDLE}
 use Rattle.reply.specs.declared.members.Port.{Port}
-
--- 'A group has 1 to 64 .. ports.'
-abbrev pub sizeOf : ℕ → ℕ
-sizeOf count = cond (ltb count 64) count 64
 
 -- the word of a port with no good packet yet
 abbrev pub noWord : ℕ

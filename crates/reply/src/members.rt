@@ -1,7 +1,8 @@
 // A port as its member state is worked out.
+pub(crate) use ground::size_of;
 use packet::Word;
 ghost use mathlib.Core.Path.{_≡_};
-ghost use Rattle.reply.specs.Members.{hasHoldOff, isCandidate, isIdle, isRestoring, sizeOf, wasOk};
+ghost use Rattle.reply.specs.Members.{hasHoldOff, isCandidate, isIdle, isRestoring, wasOk};
 
 pub struct Port {
     // the word and number of the last good packet; the word is 255 where there was none
@@ -30,13 +31,6 @@ impl Port {
     pub const FAIL: u8 = 1;
 
     pub const OK: u8 = 2;
-}
-
-// A group has at most 64 ports.
-pub(crate) fn size_of(count: u8) -> usize
-    ensures { λ r. ⌜ r ≡ sizeOf count ⌝ }
-{
-    if count < 64 { count as usize } else { 64 }
 }
 
 pub(crate) fn is_idle(port: Port) -> bool

@@ -1,13 +1,14 @@
 -- The group's row.
-use mathlib.Core.List.{List, [], _∷_}
+use mathlib.Core.List.{List, _∷_}
 use Prim.Native.Nat.{ℕ, _+_, _*_, _/_, _%_}
-use lib.ListN.{getD}
+use lib.ListN.{drop, getD}
 use Rattle.rows.specs.declared.group.Group.{Group}
 use Rattle.rows.specs.Rows.{rowIn, putRow}
 
 unfoldable pub groupOf : List ℕ → Group
 groupOf row =
     record {
+      spare = drop 12 row;
       kind = getD row 0 0;
       count = getD row 1 0;
       payload = getD row 2 0 * 256 + getD row 3 0;
@@ -17,10 +18,6 @@ groupOf row =
       oldest = getD row 8 0;
       origin = getD row 9 0 * 256 + getD row 10 0;
       «rs_ack» = getD row 11 0;
-      «spare_12» = getD row 12 0;
-      «spare_13» = getD row 13 0;
-      «spare_14» = getD row 14 0;
-      «spare_15» = getD row 15 0;
     }
 
 unfoldable pub groupRow : Group → List ℕ
@@ -37,11 +34,7 @@ groupRow g =
     ∷ (g .origin / 256)
     ∷ (g .origin % 256)
     ∷ (g .«rs_ack»)
-    ∷ (g .«spare_12»)
-    ∷ (g .«spare_13»)
-    ∷ (g .«spare_14»)
-    ∷ (g .«spare_15»)
-    ∷ []
+    ∷ (g .spare)
 
 unfoldable pub groupAt : List (List ℕ) → Group
 groupAt s = groupOf (rowIn s 0)

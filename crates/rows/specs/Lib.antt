@@ -4,4 +4,5 @@ pub mod Step
 pub mod Member
 pub mod Packets
 pub mod Port
+pub mod Part
 pub mod Laws

@@ -1,13 +1,14 @@
 -- The row of a port's step.
-use mathlib.Core.List.{List, [], _∷_}
+use mathlib.Core.List.{List, _∷_}
 use Prim.Native.Nat.{ℕ, _+_, _*_, _/_, _%_}
-use lib.ListN.{getD}
+use lib.ListN.{drop, getD}
 use Rattle.rows.specs.declared.step.Step.{Step}
 use Rattle.rows.specs.Rows.{rowIn, putRow}
 
 unfoldable pub stepOf : List ℕ → Step
 stepOf row =
     record {
+      spare = drop 11 row;
       had = getD row 0 0;
       failed = getD row 1 0;
       count = getD row 2 0;
@@ -18,11 +19,6 @@ stepOf row =
       whole = getD row 8 0;
       breaks = getD row 9 0;
       odd = getD row 10 0;
-      «spare_11» = getD row 11 0;
-      «spare_12» = getD row 12 0;
-      «spare_13» = getD row 13 0;
-      «spare_14» = getD row 14 0;
-      «spare_15» = getD row 15 0;
     }
 
 unfoldable pub stepRow : Step → List ℕ
@@ -38,12 +34,7 @@ stepRow s =
     ∷ (s .whole)
     ∷ (s .breaks)
     ∷ (s .odd)
-    ∷ (s .«spare_11»)
-    ∷ (s .«spare_12»)
-    ∷ (s .«spare_13»)
-    ∷ (s .«spare_14»)
-    ∷ (s .«spare_15»)
-    ∷ []
+    ∷ (s .spare)
 
 unfoldable pub stepAt : List (List ℕ) → ℕ → Step
 stepAt s i = stepOf (rowIn s (i * 5 + 1))
@@ -52,6 +43,7 @@ stepAt s i = stepOf (rowIn s (i * 5 + 1))
 unfoldable pub withNext : Step → ℕ → Step
 withNext q n =
     record {
+      spare = q .spare;
       had = q .had;
       failed = q .failed;
       count = q .count;
@@ -62,11 +54,6 @@ withNext q n =
       whole = q .whole;
       breaks = q .breaks;
       odd = q .odd;
-      «spare_11» = q .«spare_11»;
-      «spare_12» = q .«spare_12»;
-      «spare_13» = q .«spare_13»;
-      «spare_14» = q .«spare_14»;
-      «spare_15» = q .«spare_15»;
     }
 
 unfoldable pub putStep : List (List ℕ) → ℕ → Step → List (List ℕ)

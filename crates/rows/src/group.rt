@@ -6,6 +6,8 @@ ghost use Rattle.rows.specs.Group.{groupAt, groupOf, groupRow, putGroup}
 ghost use Rattle.rows.specs.Rows.{rowIn, putRow, rowsFor};
 
 pub struct Group {
+    // bytes of the row that nothing is in yet
+    pub spare: [u8; 4],
     // the kind of packet
     pub kind: u8,
     // how many ports
@@ -23,10 +25,6 @@ pub struct Group {
     // the place of the window's first frame
     pub origin: u16,
     pub rs_ack: u8,
-    pub spare_12: u8,
-    pub spare_13: u8,
-    pub spare_14: u8,
-    pub spare_15: u8,
 }
 
 pub(crate) fn row_in(state: &[[u8; 16]], at: usize) -> [u8; 16]
@@ -59,6 +57,7 @@ fn group_of(row: [u8; 16]) -> Group
     ensures { λ r. ⌜ r ≡ groupOf row ⌝ }
 {
     Group {
+        spare: [row[12], row[13], row[14], row[15]],
         kind: row[0],
         count: row[1],
         payload: pair(row[2], row[3]),
@@ -68,10 +67,6 @@ fn group_of(row: [u8; 16]) -> Group
         oldest: row[8],
         origin: pair(row[9], row[10]),
         rs_ack: row[11],
-        spare_12: row[12],
-        spare_13: row[13],
-        spare_14: row[14],
-        spare_15: row[15],
     }
 }
 
@@ -91,10 +86,10 @@ fn group_row(g: Group) -> [u8; 16]
         (g.origin / 256) as u8,
         (g.origin % 256) as u8,
         g.rs_ack,
-        g.spare_12,
-        g.spare_13,
-        g.spare_14,
-        g.spare_15,
+        g.spare[0],
+        g.spare[1],
+        g.spare[2],
+        g.spare[3],
     ]
 }
 

@@ -4,6 +4,8 @@ ghost use mathlib.Core.Path.{_≡_};
 ghost use Rattle.rows.specs.Member.{memberAt, memberOf, memberRow, putMember};
 
 pub struct Member {
+    // bytes of the row that nothing is in yet
+    pub spare: [u8; 4],
     // the word of the last good packet; 255 where there was none
     pub word: u8,
     // and its number
@@ -20,16 +22,13 @@ pub struct Member {
     pub restore: u16,
     // at how many reports the timer has run: hold-off in OK, restoring in FAIL
     pub run: u16,
-    pub spare_12: u8,
-    pub spare_13: u8,
-    pub spare_14: u8,
-    pub spare_15: u8,
 }
 
 fn member_of(row: [u8; 16]) -> Member
     ensures { λ r. ⌜ r ≡ memberOf row ⌝ }
 {
     Member {
+        spare: [row[12], row[13], row[14], row[15]],
         word: row[0],
         number: row[1],
         state: row[2],
@@ -39,10 +38,6 @@ fn member_of(row: [u8; 16]) -> Member
         hold_off: group::pair(row[6], row[7]),
         restore: group::pair(row[8], row[9]),
         run: group::pair(row[10], row[11]),
-        spare_12: row[12],
-        spare_13: row[13],
-        spare_14: row[14],
-        spare_15: row[15],
     }
 }
 
@@ -62,10 +57,10 @@ fn member_row(m: Member) -> [u8; 16]
         (m.restore % 256) as u8,
         (m.run / 256) as u8,
         (m.run % 256) as u8,
-        m.spare_12,
-        m.spare_13,
-        m.spare_14,
-        m.spare_15,
+        m.spare[0],
+        m.spare[1],
+        m.spare[2],
+        m.spare[3],
     ]
 }
 

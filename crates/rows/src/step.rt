@@ -4,6 +4,8 @@ ghost use mathlib.Core.Path.{_≡_};
 ghost use Rattle.rows.specs.Step.{stepAt, stepOf, stepRow, putStep, withNext};
 
 pub struct Step {
+    // bytes of the row that nothing is in yet
+    pub spare: [u8; 5],
     // 0 until the port has had a frame
     pub had: u8,
     // not 0 where its latest frame came flagged
@@ -23,17 +25,13 @@ pub struct Step {
     pub breaks: u8,
     // not 0 where the latest packet had a right CRC and another MFI2 than the count says
     pub odd: u8,
-    pub spare_11: u8,
-    pub spare_12: u8,
-    pub spare_13: u8,
-    pub spare_14: u8,
-    pub spare_15: u8,
 }
 
 fn step_of(row: [u8; 16]) -> Step
     ensures { λ r. ⌜ r ≡ stepOf row ⌝ }
 {
     Step {
+        spare: [row[11], row[12], row[13], row[14], row[15]],
         had: row[0],
         failed: row[1],
         count: row[2],
@@ -44,11 +42,6 @@ fn step_of(row: [u8; 16]) -> Step
         whole: row[8],
         breaks: row[9],
         odd: row[10],
-        spare_11: row[11],
-        spare_12: row[12],
-        spare_13: row[13],
-        spare_14: row[14],
-        spare_15: row[15],
     }
 }
 
@@ -67,11 +60,11 @@ fn step_row(s: Step) -> [u8; 16]
         s.whole,
         s.breaks,
         s.odd,
-        s.spare_11,
-        s.spare_12,
-        s.spare_13,
-        s.spare_14,
-        s.spare_15,
+        s.spare[0],
+        s.spare[1],
+        s.spare[2],
+        s.spare[3],
+        s.spare[4],
     ]
 }
 

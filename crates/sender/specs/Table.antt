@@ -42,9 +42,6 @@ isActive Add = false
 isActive Active = true
 isActive Dnu = false
 
-abbrev pub one : Bool → ℕ
-one b = cond b 1 0
-
 -- how many slots there are; a count above 64, which no call returns, is taken as 64
 unfoldable pub sizeOf : ℕ → ℕ
 sizeOf c = cond (ltb c 64) c 64

@@ -11,7 +11,6 @@ ghost use Prim.Native.Nat.{_≤_, _<_};
 ghost use Rattle.sender.specs.Commands.{addedTo, fallen, fallenIn, freshOf, idleSlot, removedFrom, startOf};
 ghost use Rattle.sender.specs.Steps.{stepOf};
 ghost use Rattle.sender.specs.Steps.Call.{AddSlot, RemoveSlot, Lapse};
-ghost use Rattle.sender.specs.Table.{sizeOf};
 
 fn idle_slot(kind: u8) -> Slot
     ensures { λ r. ⌜ r ≡ idleSlot kind ⌝ }

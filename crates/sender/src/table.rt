@@ -1,7 +1,7 @@
 // The table of slots by value, and what each call gives back.
 ghost use mathlib.Core.Path.{_≡_};
 ghost use Prim.Native.Nat.{_≤_};
-ghost use Rattle.sender.specs.Table.{answerNumber, isAdd, isActive, isMember, membersOf, one, sizeOf};
+ghost use Rattle.sender.specs.Table.{answerNumber, isAdd, isActive, isMember, membersOf, sizeOf};
 
 pub enum State {
     Idle,
@@ -88,12 +88,6 @@ pub(crate) fn is_active(state: State) -> bool
     }
 }
 
-pub(crate) fn one_if(test: bool) -> u8
-    ensures { λ r. ⌜ r ≡ one test ⌝ }
-{
-    if test { 1 } else { 0 }
-}
-
 // How many slots there are: a count above 64, which no call returns, is taken as 64.
 pub(crate) fn size(count: u8) -> usize
     ensures { λ r. ⌜ r ≡ sizeOf count ⌝ }
@@ -111,7 +105,7 @@ pub(crate) fn members(slots: [Slot; 64], n: usize) -> u8
     while i < n {
         let slot = slots[i];
         let state = slot.state;
-        sum += one_if(is_member(state));
+        sum += ground::one_if(is_member(state));
         i += 1;
     }
     sum

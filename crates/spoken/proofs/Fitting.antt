@@ -1,6 +1,6 @@
 -- The loop that judges the changes, and each way out of applying them.
-use mathlib.Core.Path.{_≡_, refl, sym, _∙_, ap}
-use mathlib.Core.Bool.{Bool, true, false, cond, not, _&&_, false≢true}
+use mathlib.Core.Path.{_≡_, refl, _∙_}
+use mathlib.Core.Bool.{Bool, true, false, _&&_}
 use mathlib.Core.List.{List}
 use Prim.Native.Nat.{ℕ, zero, suc, _+_, _-_, _%_, _≤_, _<_}
 use native.Mathlib.Numerals.{add-one}
@@ -17,7 +17,6 @@ use Rattle.spoken.specs.declared.lists.Answer.the-variants.{Done, Unfit}
 use Rattle.spoken.specs.declared.lists.Change.{Change}
 use Rattle.spoken.specs.declared.lists.Changes.{Changes}
 use Rattle.spoken.specs.Applying.{appliedOf, changeIn, changesFit, fits, fitsBy, laidTo, risesAt, waitAfter, waitFits, withChanges}
-use Rattle.spoken.specs.Fitting.{Fits}
 use Rattle.spoken.specs.Theorems.Only.{fits-said}
 
 pub rises-before : (list : List Change) (k : ℕ) → (k ≡ 0 → ⊥) → ltb (changeIn list (k - 1) .slot) (changeIn list k .slot) ≡ risesAt list k

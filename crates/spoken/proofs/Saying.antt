@@ -1,15 +1,15 @@
 -- The lines put one behind the other, how long they are at most, and each way out of speaking.
-use mathlib.Core.Path.{_≡_, refl, sym, _∙_, ap}
+use mathlib.Core.Path.{_≡_, refl, _∙_}
 use mathlib.Core.Bool.{Bool, true, false, cond, not, _&&_, false≢true}
-use mathlib.Core.List.{List, [], _∷_, _++_}
+use mathlib.Core.List.{List, _++_}
 use Prim.Native.Nat.{ℕ, zero, suc, _+_, _*_, _≤_, _<_}
 use native.Mathlib.Numerals.{add-one}
 use native.Mathlib.Omega.{arith}
 use lib.Dec.{leb, ltb}
-use lib.ListN.{drop, length, length-append, take}
-use lib.Seq.{sets, sets-eq}
+use lib.ListN.{drop, length, length-append}
+use lib.Seq.{sets-eq}
 use borrow.Author.Tests.{le-leb, le-ltb, leb-true, lt-leb, lt-ltb, ltb-true}
-use Rattle.ground.specs.Truth.{and-left, and-right}
+use Rattle.ground.specs.Truth.{and-left}
 use Rattle.counting.specs.Laws.Tests.{every-at}
 use Rattle.sender.specs.declared.board.Row.{Row}
 use Rattle.text.specs.Ascii.{ascii}

@@ -4,8 +4,6 @@ use Prim.Native.Nat.{ℕ}
 use lib.ListN.{take}
 use Rattle.sender.specs.declared.board.Board.{Board}
 use Rattle.sender.specs.Shown.{numbers}
-use Rattle.spoken.specs.declared.applying.Applied.{Applied}
-use Rattle.spoken.specs.declared.comparing.Compared.{Compared}
 use Rattle.spoken.specs.declared.lists.Change.{Change}
 use Rattle.spoken.specs.declared.lists.Changes.{Changes}
 use Rattle.spoken.specs.declared.lists.WaitChange.{WaitChange}

@@ -9,7 +9,7 @@ use sender::Row;
 ghost use mathlib.Core.Path.{_≡_};
 ghost use mathlib.Core.Bool.{cond};
 ghost use Prim.Native.Nat.{_≤_};
-ghost use Rattle.spoken.specs.Changes.{changesIn, changesOf, comparedOf, waitChange};
+ghost use Rattle.spoken.specs.Changes.{changesIn, comparedOf, waitChange};
 
 pub struct Compared {
     pub changes: Changes,
@@ -34,12 +34,6 @@ fn change_if(test: bool, change: Change, other: Change) -> Change
     if test { change } else { other }
 }
 
-fn one_if(test: bool) -> u8
-    ensures { λ r. ⌜ r ≡ cond test 1 0 ⌝ }
-{
-    if test { 1 } else { 0 }
-}
-
 // The changes of the first n slots. Where a slot is as it was, nothing is stored over nothing.
 fn changes_in(old: [Row; 64], new: [Row; 64], n: usize, wait: WaitChange) -> Changes
     requires { ⌜ n ≤ 64 ⌝ }
@@ -60,7 +54,7 @@ fn changes_in(old: [Row; 64], new: [Row; 64], n: usize, wait: WaitChange) -> Cha
         };
         let entry = change_if(changed, change, none);
         list[count as usize] = entry;
-        count += one_if(changed);
+        count += ground::one_if(changed);
         i += 1;
     }
     Changes { list, count, wait }

@@ -2,16 +2,13 @@
 use mathlib.Core.Bool.{Bool, true, false, cond, not, _&&_, _||_}
 use Prim.Native.Nat.{ℕ}
 use lib.Dec.{eqb, ltb}
+pub use Rattle.ground.specs.Flags.{flagOf}
 use Rattle.packet.specs.Kinds.{distanceOf, endsEpoch, epochsIn, firstTag, startsEpoch}
 use Rattle.rows.specs.declared.group.Group.{Group}
 use Rattle.rows.specs.declared.step.Step.{Step}
 use Rattle.step.specs.declared.arrival.Taken.{Taken}
 use Rattle.step.specs.declared.run.Run.{Run}
 use Rattle.step.specs.Run.{inStepAt, noRun, runOn}
-
--- a flag byte other than 0 counts as set
-abbrev pub flagOf : ℕ → Bool
-flagOf byte = not (eqb byte 0)
 
 abbrev pub runOf : Step → Run
 runOf s = record { count = s .count; next = s .next; breaks = s .breaks; odd = s .odd }
@@ -32,6 +29,7 @@ distanceIn g tag = distanceOf (g .kind) tag (firstTag (g .kind) (g .oldest))
 abbrev pub stepTo : Step → ℕ → Run → ℕ → ℕ → ℕ → Step
 stepTo s failed run joined since later =
     record {
+      spare = s .spare;
       had = 1;
       failed = failed;
       count = run .count;
@@ -42,11 +40,6 @@ stepTo s failed run joined since later =
       whole = s .whole;
       breaks = run .breaks;
       odd = run .odd;
-      «spare_11» = s .«spare_11»;
-      «spare_12» = s .«spare_12»;
-      «spare_13» = s .«spare_13»;
-      «spare_14» = s .«spare_14»;
-      «spare_15» = s .«spare_15»;
     }
 
 abbrev pub lost : Step → ℕ → Run → Step

@@ -52,7 +52,9 @@ pub fn distance_in(group: Group, tag: u16) -> u16
 fn step_to(step: Step, failed: u8, run: Run, joined: u8, since: u8, later: u8) -> Step
     ensures { λ r. ⌜ r ≡ stepTo step failed run joined since later ⌝ }
 {
+    let spare = step.spare;
     Step {
+        spare,
         had: 1,
         failed,
         count: run.count,
@@ -63,11 +65,6 @@ fn step_to(step: Step, failed: u8, run: Run, joined: u8, since: u8, later: u8) -
         whole: step.whole,
         breaks: run.breaks,
         odd: run.odd,
-        spare_11: step.spare_11,
-        spare_12: step.spare_12,
-        spare_13: step.spare_13,
-        spare_14: step.spare_14,
-        spare_15: step.spare_15,
     }
 }
 

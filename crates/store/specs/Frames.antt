@@ -7,6 +7,7 @@ use lib.ListN.{length, getD}
 use Rattle.ground.specs.Drawn.{fillAt}
 use Rattle.ground.specs.Table.{tabulate}
 use Rattle.packet.specs.Counts.{nibbleIn}
+use Rattle.packet.specs.Kinds.{frames}
 use Rattle.rows.specs.declared.group.Group.{Group}
 
 -- a port's W places go round; the window's first frame stands at the origin
@@ -28,6 +29,6 @@ byteAt s place = getD s place 0
 unfoldable pub h4At : Group → ℕ → ℕ → List ℕ → ℕ
 h4At g port d s = byteAt s (placeIn g port d + g .payload)
 
--- the packet that came with the sixteen frames of the oldest epoch
+-- the packet that came with the frames of the oldest epoch
 unfoldable pub packetIn : Group → ℕ → List ℕ → List ℕ
-packetIn g port s = tabulate 16 (λ k. nibbleIn (g .kind) (h4At g port k s))
+packetIn g port s = tabulate (frames (g .kind)) (λ k. nibbleIn (g .kind) (h4At g port k s))

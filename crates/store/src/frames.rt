@@ -1,5 +1,6 @@
 // Frames in the lent store: each has its payload, then its H4 byte.
 use packet::counts;
+use packet::kinds;
 use rows::Group;
 ghost use mathlib.Core.Path.{_≡_};
 ghost use Rattle.store.specs.Frames.{byteAt, packetIn, placeIn, ringOf, storedAt};
@@ -49,14 +50,15 @@ fn byte_at(store: &[u8], place: usize) -> u8
     if place < store.len() { store[place] } else { 0 }
 }
 
-// The packet that came with the sixteen frames of the oldest epoch, out of their H4 bytes.
+// The packet that came with the frames of the oldest epoch, out of their H4 bytes.
 pub fn packet_in(group: Group, port: u8, store: &[u8]) -> [u8; 16]
     ensures { λ r. ⌜ r ≡ packetIn group port (now (store .entry)) ⌝ }
 {
+    let frames = kinds::epoch_frames(group.kind);
     let mut nibbles = [0; 16];
     let mut k = 0;
-    while k < 16 {
-        let at = place(group, port, k);
+    while k < frames {
+        let at = place(group, port, k as u16);
         let h4 = byte_at(store, at + group.payload as usize);
         nibbles[k as usize] = counts::nibble_in(group.kind, h4);
         k += 1;

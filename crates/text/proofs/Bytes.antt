@@ -1,13 +1,12 @@
 -- Bytes by their hex digits.
 use mathlib.Core.Path.{_≡_, refl, sym, ap, _∙_}
-use mathlib.Core.Bool.{Bool, true, false, _&&_}
-use mathlib.Core.List.{List, [], _∷_, _++_}
+use mathlib.Core.Bool.{Bool, true, false}
+use mathlib.Core.List.{List, [], _∷_}
 use Prim.Native.Nat.{ℕ, zero, suc, _+_, _*_, _≤_, _<_}
-use native.Mathlib.Numerals.{add-one}
 use native.Mathlib.Omega.{arith}
 use lib.Dec.{eqb}
-use lib.ListN.{length, take, drop, getD, set}
-use lib.Seq.{drop-length, length-sets, sets, sets-eq, slice, take-length}
+use lib.ListN.{length, take, getD, set}
+use lib.Seq.{drop-length, sets, sets-eq, slice, take-length}
 use borrow.Author.Tests.{eq-eqb, eqb-true, ne-eqb}
 use Rattle.ground.specs.Truth.{and-left, and-right}
 use Rattle.text.specs.Fields.{areDigits, bytesIn, bytesOf, digitOf, isHex}

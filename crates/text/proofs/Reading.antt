@@ -6,16 +6,15 @@ use Prim.Native.Nat.{ℕ, zero, suc, _+_, _-_, _*_, _^_, _≤_, _<_}
 use native.Mathlib.Nat.{mul-le-mul-right, pow-le-pow-right, pow-suc}
 use native.Mathlib.Numerals.{add-one}
 use native.Mathlib.Omega.{arith}
-use lib.Dec.{eqb, leb, ltb, eqb·suc-zero}
+use lib.Dec.{eqb, ltb, eqb·suc-zero}
 use lib.ListN.{length, take, getD}
-use lib.Seq.{slice, length-slice, length-take-le, take-suc, take-length}
+use lib.Seq.{slice, length-slice, length-take-le, take-suc}
 use borrow.Author.Tests.{eq-eqb, le-leb, le-ltb, lt-leb, lt-ltb, ltb-true, ne-eqb}
 use Rattle.bytes.specs.Bytes.{indexOf}
 use Rattle.ground.specs.Truth.{and-left, and-right}
-use Rattle.text.specs.declared.fields.Number.{Number}
 use Rattle.text.specs.declared.fields.Number.the-variants.{Value, Unreadable}
 use Rattle.text.specs.Fields.{areDigits, digitOf, hexOf, numberOf, sameBytes, valueOf}
-use Rattle.text.specs.Laws.Slices.{end-le, slice-end, slice-length, slice-none, slice-suc}
+use Rattle.text.specs.Laws.Slices.{end-le, slice-end, slice-none, slice-suc}
 
 same-nothing : (w : List ℕ) → eqb (length w) 0 ≡ sameBytes [] w
 same-nothing [] = refl

@@ -1,9 +1,10 @@
 -- What a field says.
-use mathlib.Core.Bool.{Bool, true, false, cond, _&&_}
+use mathlib.Core.Bool.{Bool, true, cond, _&&_}
 use mathlib.Core.List.{List, [], _∷_}
 use Prim.Native.Nat.{ℕ, _+_, _-_, _*_}
 use lib.Dec.{eqb, leb, ltb}
 use lib.ListN.{length}
+pub use Rattle.ground.specs.Finite.{sameBytes}
 use Rattle.text.specs.declared.fields.Number.{Number}
 use Rattle.text.specs.declared.fields.Number.the-variants.{Value, Unreadable}
 
@@ -44,10 +45,3 @@ bytesOf (a ∷ b ∷ digits) = (digitOf a * 16 + digitOf b) ∷ bytesOf digits
 -- a lent slice into which a field is read: its bytes, if it has two hex digits for each
 unfoldable pub bytesIn : List ℕ → List ℕ → List ℕ
 bytesIn field out = cond (isHex (2 * length out) field) (bytesOf field) out
-
--- two texts byte for byte
-abbrev pub sameBytes : List ℕ → List ℕ → Bool
-sameBytes [] [] = true
-sameBytes [] (b ∷ m) = false
-sameBytes (a ∷ l) [] = false
-sameBytes (a ∷ l) (b ∷ m) = eqb a b && sameBytes l m

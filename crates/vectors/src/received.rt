@@ -7,6 +7,7 @@ use packet::Word;
 use packet::kinds;
 use packet::kinds::H4;
 use reply::Port;
+use rows::group;
 ghost use Prim.Native.Nat.{_≤_};
 
 // The group that a row is about: how many ports it has, and the epoch that comes next.
@@ -36,7 +37,7 @@ fn lines(file: &[u8], state: &mut [[u8; 16]], store: &mut [u8]) {
 fn line(line: &[u8], before: At, state: &mut [[u8; 16]], store: &mut [u8]) -> At {
     let at = at_line(line, before);
     let ports = at.ports as usize;
-    let rows = ports * 5 + 1;
+    let rows = group::rows_for(at.ports);
     let bytes = ports * 48;
     if state.len() < rows {
         return before;

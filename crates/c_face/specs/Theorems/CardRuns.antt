@@ -8,7 +8,7 @@ use Prim.Native.Nat.{ℕ, zero, suc, _+_, _≤_, _<_}
 use native.Mathlib.Omega.{arith}
 use lib.Dec.{eqb, ltb}
 use lib.ListN.{length, length-replicate, getD}
-use borrow.Author.Tests.{eq-eqb, ne-eqb, eqb-true, eqb-false, lt-ltb, ltb-true}
+use borrow.Author.Tests.{eq-eqb, ne-eqb, eqb-true, lt-ltb, ltb-true}
 use Rattle.ground.specs.Drawn.{fillAt, getD-after, getD-before, getD-fillAt, length-fillAt}
 use Rattle.ground.specs.Table.{tabulate, length-tabulate, tabulate-ext, tabulate-is}
 use Rattle.ground.specs.Truth.{clash, cond-by, eq-or-ne}
@@ -25,17 +25,16 @@ use Rattle.circuits.specs.Laws.Seeing.{owners-stepped, sender-marked, sender-ot
 use Rattle.circuits.specs.Laws.Ways.{by-ways}
 use Rattle.circuits.specs.Owners.{ownerIn, withOwner}
 use Rattle.circuits.specs.Parts as P
-use Rattle.circuits.specs.Parts.{marked, refused, stepped, withSender}
+use Rattle.circuits.specs.Parts.{marked, stepped, withSender}
 use Rattle.circuits.specs.Theorems.Owned.{demand2-each}
 use Rattle.circuits.specs.Views.{Asked, Made, cardAfter, run}
 use Rattle.circuits.specs.Views.Asked.{Do, Packet, Payload, Board, Outgoing, Ranks, Owned}
 use Rattle.sender.specs.declared.epochs.Sender.{Sender}
-use Rattle.sender.specs.declared.epochs.SenderOutcome.{SenderOutcome}
 use Rattle.sender.specs.declared.table.Answer as S
-use Rattle.sender.specs.Epochs.{SenderCall, beginOf, senderStepOf}
+use Rattle.sender.specs.Epochs.{SenderCall, senderStepOf}
 use Rattle.sender.specs.Table.{answerNumber as senderNumber}
 use Rattle.sender.specs.Theorems.Epochs.{Demand2Kept}
-use Rattle.c_face.specs.Cards.{bytesBehind, cardOf, isCard, keptCard, ownersIn, partAt, partIn, putCard, putOwn, startAnswerOn, startStateOn, stepAnswerOn, stepStateOn}
+use Rattle.c_face.specs.Cards.{cardOf, isCard, keptCard, ownersIn, partAt, partIn, putCard, putOwn, startAnswerOn, startStateOn, stepAnswerOn, stepStateOn}
 use Rattle.c_face.specs.Keeping.{byteAt, bytesOf, senderOf}
 use Rattle.c_face.specs.Senders.{areBytes, outside}
 use Rattle.c_face.specs.Theorems.Round.{round}

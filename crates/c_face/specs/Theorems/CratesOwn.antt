@@ -6,6 +6,7 @@ use Prim.Native.Nat.{ℕ, _≤_, _<_}
 use lib.Dec.{eqb}
 use lib.ListN.{length}
 use borrow.Author.Tests.{eq-eqb, eqb-true, le-ltb, lt-ltb, ne-eqb}
+use Rattle.ground.specs.Flags.{oneIf}
 use Rattle.circuits.specs.Answers.{answerNumber as cardNumber, fromSender}
 use Rattle.circuits.specs.Calls.{Call, stepOf}
 use Rattle.circuits.specs.Commands.{startOf as cardStart}
@@ -31,7 +32,7 @@ use Rattle.sender.specs.Epochs.{SenderCall, beginOf, packetAnswer, packetBytes,
 use Rattle.sender.specs.Table.{answerNumber}
 use Rattle.c_face.specs.Boards.{boardBytesC, boardBytesOf, goingBytesC, ranksBytesC, ranksBytesOf, shownAnswerC, shownBytes}
 use Rattle.c_face.specs.Cards.{boardBytesOn, cardOf, keptCard, outgoingBytesOn, ownedBytesOn, packetAnswerOn, packetBytesOn, payloadAnswerOn, payloadBytesOn, putCard, ranksBytesOn, shownAnswerOn, shownBytesOn, startAnswerOn, startStateOn, stepAnswerOn, stepStateOn}
-use Rattle.c_face.specs.Keeping.{bytesOf, flagByte, senderOf}
+use Rattle.c_face.specs.Keeping.{bytesOf, senderOf}
 use Rattle.c_face.specs.Payloads.{joinAnswerC, joinFrameC, spreadAnswerC, spreadMembersC}
 use Rattle.c_face.specs.Packets.{readAnswerC, readFieldsC, readFixedAnswerC, readFixedFieldsC, valuesOr, writeAnswerC, writeBytesC, writeFixedAnswerC}
 use Rattle.c_face.specs.Plans.{checkAnswerC, checkByteC, lentAnswer, lentBytes, planAnswerC, planBytesC, planBytesOf}
@@ -87,9 +88,9 @@ plan-own delays k W out h = lent-own (planNumber (answerOf delays k W)) 65 (plan
 
 pub check-own : (delays : List ℕ) (k W : ℕ) (set out : List ℕ) → length out ≡ 1
     → (checkAnswerC delays k W out ≡ planNumber (checkedOf delays k W set .answer))
-    × (planNumber (checkedOf delays k W set .answer) ≡ 0 → checkByteC delays k W set out ≡ flagByte (checkedOf delays k W set .accepted) ∷ [])
+    × (planNumber (checkedOf delays k W set .answer) ≡ 0 → checkByteC delays k W set out ≡ oneIf (checkedOf delays k W set .accepted) ∷ [])
 unfolding checkedOf
-check-own delays k W set out h = lent-own (planNumber (answerOf delays k W)) 1 (flagByte (checkedOf delays k W set .accepted) ∷ []) out h
+check-own delays k W set out h = lent-own (planNumber (answerOf delays k W)) 1 (oneIf (checkedOf delays k W set .accepted) ∷ []) out h
 
 -- levelspruce_sender_start is Sender::start for the kind H4, where the state has its length and the first epoch's number is a byte. An empty group's first epoch has the number 0.
 module _ (count first : ℕ) (state : List ℕ) (sized : length state ≡ 397) (byte : first ≤ 255) where

@@ -5,8 +5,8 @@ use mathlib.Core.Bool.{Bool, true, false, cond}
 use mathlib.Core.List.{List, [], _∷_, _++_}
 use Prim.Native.Nat.{ℕ, zero, suc, _+_}
 use lib.Dec.{eqb, ltb}
-use lib.ListN.{getD, length, length-append, take}
-use borrow.Author.Tests.{eq-eqb, ne-eqb}
+use lib.ListN.{getD, length, take}
+use borrow.Author.Tests.{eq-eqb}
 use Rattle.ground.specs.Drawn.{fillAt, length-fillAt}
 use Rattle.ground.specs.Table.{tabulate, tabulate-ext}
 use Rattle.circuits.specs.declared.card.Card.{Card}

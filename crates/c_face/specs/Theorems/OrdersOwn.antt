@@ -7,13 +7,12 @@ use Prim.Native.Nat.{ℕ, _<_}
 use native.Mathlib.Omega.{arith}
 use lib.Dec.{eqb, ltb}
 use lib.ListN.{drop, getD, length, length-set}
-use borrow.Author.Tests.{eq-eqb, eqb-false, eqb-true, ltb-true}
+use borrow.Author.Tests.{eq-eqb, eqb-false, ltb-true}
 use Rattle.counting.specs.Each.{length-each}
 use Rattle.ground.specs.Table.{length-tabulate}
-use Rattle.ground.specs.Truth.{clash, cond-by, eq-or-ne}
+use Rattle.ground.specs.Truth.{cond-by, eq-or-ne}
 use Rattle.sender.specs.declared.epochs.Sender.{Sender}
 use Rattle.sender.specs.declared.table.Outcome.{Outcome}
-use Rattle.sender.specs.declared.table.Slot.{Slot}
 use Rattle.sender.specs.declared.table.Table.{Table}
 use Rattle.sender.specs.Commands.{addOf, addedTo, fallen, fallenIn, idleSlot, removeOf, removedFrom}
 use Rattle.sender.specs.Epochs.{SenderCall as S, senderStepOf}

@@ -1,5 +1,5 @@
 -- A relay over the C calls (request 2026-08): what levelspruce_packet_read gives, handed to levelspruce_packet_write, is the same packet again.
-use mathlib.Core.Path.{_≡_, refl, _∙_, ap}
+use mathlib.Core.Path.{_≡_, refl, ap}
 use mathlib.Core.Bool.{Bool, true, false}
 use mathlib.Core.List.{List}
 use Prim.Native.Nat.{ℕ, _+_, _*_, _/_, _%_, _^_}
@@ -11,9 +11,9 @@ use Rattle.packet.specs.declared.reader.Reading.{Reading}
 use Rattle.packet.specs.declared.reader.Reading.the-variants.{Packet, Length, Crc, Fixed, Unassigned}
 use Rattle.packet.specs.Crc.{bitsOf}
 use Rattle.packet.specs.Layout.{highsOf}
-use Rattle.packet.specs.Reading.{readAnswer, readingNumber}
+use Rattle.packet.specs.Reading.{readAnswer}
 use Rattle.packet.specs.Theorems.Again.{Counted, again, again-bytes}
-use Rattle.packet.specs.Writing.{writeAnswer, writeBytes, writingNumber}
+use Rattle.packet.specs.Writing.{writingNumber}
 use Rattle.c_face.specs.Packets.{given, readAnswerC, readFieldsC, valuesIn, writeAnswerC, writeBytesC}
 
 -- the reserved number in ten bytes of fields

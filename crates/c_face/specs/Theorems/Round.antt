@@ -5,13 +5,14 @@ use Prim.Native.Nat.{ℕ, _+_, _-_, _*_, _/_, _%_, _<_}
 use native.Mathlib.Omega.{arith}
 use lib.ListN.{length, getD}
 use borrow.Author.Tests.{le-ltb, lt-ltb}
+use Rattle.ground.specs.Flags.{flagOf, oneIf}
 use Rattle.ground.specs.Table.{getD-tabulate, tabulate-is}
 use Rattle.sender.specs.declared.epochs.Sender.{Sender}
 use Rattle.sender.specs.declared.table.State.{State}
 use Rattle.sender.specs.declared.table.State.the-variants.{Idle, Add, Active, Dnu}
 use Rattle.sender.specs.Ranks.{rowAt}
 use Rattle.sender.specs.Table.{slotAt}
-use Rattle.c_face.specs.Keeping.{byteAt, bytesOf, codeOf, fieldBytes, flagByte, flagOf, rowIn, rowsIn, senderOf, slotIn, slotsIn, stateOf}
+use Rattle.c_face.specs.Keeping.{byteAt, bytesOf, codeOf, fieldBytes, rowIn, rowsIn, senderOf, slotIn, slotsIn, stateOf}
 
 -- a sender whose table and boards have 64 rows each: every sender of the language's type
 pub record Whole (s : Sender) : Type 0 where
@@ -25,7 +26,7 @@ state-back Add = refl
 state-back Active = refl
 state-back Dnu = refl
 
-flag-back : (b : Bool) → flagOf (flagByte b) ≡ b
+flag-back : (b : Bool) → flagOf (oneIf b) ≡ b
 flag-back true = refl
 flag-back false = refl
 

@@ -1,11 +1,12 @@
 -- Boards and changes as bytes are read back as they were. So over C too what is told, applied to the old board, gives the new one, byte by byte.
 use mathlib.Core.Path.{_≡_, refl, sym, _∙_, ap}
-use mathlib.Core.Bool.{Bool, true, false, cond, _&&_}
+use mathlib.Core.Bool.{Bool, true, false}
 use mathlib.Core.List.{List}
-use Prim.Native.Nat.{ℕ, _+_, _-_, _*_, _/_, _%_, _≤_, _<_}
+use Prim.Native.Nat.{ℕ, _+_, _-_, _*_, _/_, _%_, _<_}
 use native.Mathlib.Omega.{arith}
 use lib.ListN.{length, getD}
 use borrow.Author.Tests.{eq-eqb, le-ltb, lt-ltb}
+use Rattle.ground.specs.Flags.{flagOf, oneIf}
 use Rattle.ground.specs.Table.{getD-tabulate, length-tabulate, tabulate-is}
 use Rattle.sender.specs.Board.{boardOf}
 use Rattle.sender.specs.declared.board.Board.{Board}
@@ -17,7 +18,6 @@ use Rattle.spoken.specs.Applying.{appliedOf, changeIn}
 use Rattle.spoken.specs.Changes.{answerNumber, comparedOf, noChange}
 use Rattle.spoken.specs.declared.applying.Applied.{Applied}
 use Rattle.spoken.specs.declared.lists.Answer.the-variants.{Done}
-use Rattle.spoken.specs.declared.lists.Change.{Change}
 use Rattle.spoken.specs.declared.lists.Changes.{Changes}
 use Rattle.spoken.specs.declared.lists.WaitChange.{WaitChange}
 use Rattle.spoken.specs.declared.lists.WaitChange.the-variants.{Same, Opened, Closed}
@@ -25,9 +25,9 @@ use Rattle.spoken.specs.Shown.{waitCode}
 use Rattle.spoken.specs.Theorems.Applied.{board-whole, compared-done, compared-whole, outright}
 use Rattle.c_face.specs.Boards.{boardByte, boardBytesOf}
 use Rattle.c_face.specs.Changes.{appliedAnswerC, appliedBytesC, boardFrom, changeBytes, changeFrom, changesByte, changesBytesOf, changesFrom, comparedAnswerC, comparedBytesC, listFrom, waitFrom}
-use Rattle.c_face.specs.Keeping.{flagByte, flagOf, rowIn, rowsIn}
+use Rattle.c_face.specs.Keeping.{rowIn, rowsIn}
 
-flag-back : (b : Bool) → flagOf (flagByte b) ≡ b
+flag-back : (b : Bool) → flagOf (oneIf b) ≡ b
 flag-back true = refl
 flag-back false = refl
 
@@ -64,7 +64,7 @@ module _ (b : Board) where
   unfolding boardByte
   count-back = read 0 (omega arith)
 
-  wait-back : getD (boardBytesOf b) 1 0 ≡ flagByte (b .wait)
+  wait-back : getD (boardBytesOf b) 1 0 ≡ oneIf (b .wait)
   unfolding boardByte
   wait-back = read 1 (omega arith)
 

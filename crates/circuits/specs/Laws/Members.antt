@@ -19,7 +19,7 @@ use Rattle.sender.specs.declared.table.State.the-variants.{Idle, Add, Active, D
 use Rattle.sender.specs.declared.table.Table.{Table}
 use Rattle.sender.specs.Commands.{addOf, addedTo, answered, fallen, fallenIn, idleSlot, inOrder, lapseOf, removeOf, removedFrom, withSlots}
 use Rattle.sender.specs.Reports.{actedOn, becomes, mstApplied, numberAfter, numberApplied, renumbered, reportOf, slotAfter, spokenTo, turnOf, waited}
-use Rattle.sender.specs.Steps.{Call, stepOf}
+use Rattle.sender.specs.Steps.{stepOf}
 use Rattle.sender.specs.Steps.Call.{AddSlot, RemoveSlot, Report, Lapse}
 use Rattle.sender.specs.Table.{holderOf, isAdd, isMember, sizeOf, slotAt}
 

@@ -1,17 +1,16 @@
 -- Each call of a group, as its view has it; and each call of any other, which leaves that view.
 use mathlib.Core.Path.{_≡_, refl, _∙_, sym, ap}
 use mathlib.Core.Logic.{_≢_}
-use mathlib.Core.Bool.{Bool, true, false, cond, _&&_, _||_}
+use mathlib.Core.Bool.{Bool, true, false, cond, _||_}
 use Prim.Native.Nat.{ℕ, _-_, _<_}
 use lib.Dec.{eqb, ltb}
-use borrow.Author.Tests.{eq-eqb, ne-eqb, eqb-true, lt-ltb, ltb-true}
+use borrow.Author.Tests.{eq-eqb, eqb-true, lt-ltb, ltb-true}
 use Rattle.ground.specs.Truth.{and-left, neither}
 use Rattle.sender.specs.Epochs.{SenderCall, senderStepOf}
 use Rattle.circuits.specs.declared.answers.Answer.the-variants.{Done, NoSlot, Owned, Used}
 use Rattle.circuits.specs.declared.card.Card.{Card}
 use Rattle.circuits.specs.declared.card.CardOutcome.{CardOutcome}
 use Rattle.circuits.specs.Alone.{Seen, claimSeen, ownIn, ownSeen, releaseSeen, seen, sentSeen, slotIn, withOwn}
-use Rattle.circuits.specs.Answers.{fromSender}
 use Rattle.circuits.specs.Commands.{claimOf, commandOf, groupCallOf, ofOwn, releaseOf, sentOf}
 use Rattle.circuits.specs.Laws.Seeing.{mark-some, marks-apart, own-is, owner-is, owners-stepped, owns-marked, sender-marked, sender-other, slot-is, slot-low, view-marked, view-same, view-stepped}
 use Rattle.circuits.specs.Owners.{hasOwner, markOf, ownerIn}

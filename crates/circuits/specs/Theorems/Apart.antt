@@ -8,28 +8,24 @@ use Prim.Native.Nat.{ℕ, _<_}
 use lib.Dec.{eqb, ltb}
 use lib.ListN.{length}
 use borrow.Author.Tests.{eqb-true, lt-ltb, eqb-false}
+use Rattle.ground.specs.Flags.{oneIf}
 use Rattle.ground.specs.Table.{tabulate, tabulate-ext}
-use Rattle.sender.specs.declared.epochs.Sender.{Sender}
-use Rattle.sender.specs.Board.{boardOf}
 use Rattle.sender.specs.Epochs as E
 use Rattle.circuits.specs.declared.answers.Answer.{Answer}
 use Rattle.circuits.specs.declared.answers.Answer.the-variants as A
-use Rattle.circuits.specs.declared.card.BoardOutcome.{BoardOutcome}
 use Rattle.circuits.specs.declared.card.Card.{Card}
-use Rattle.circuits.specs.declared.card.OwnedOutcome.{OwnedOutcome}
-use Rattle.circuits.specs.declared.card.RanksOutcome.{RanksOutcome}
 use Rattle.circuits.specs.Alone.{Seen, ownAnswer, ownBytes, ownIn, repliesSeen, replySeen, slotIn, stepSeen, viewAfter, viewSeen}
 use Rattle.circuits.specs.Answers.{fromSender}
 use Rattle.circuits.specs.Calls.{Call, stepOf}
 use Rattle.circuits.specs.Calls.Call.{Claim, Release, AddSlot, RemoveSlot, Report, Lapse, StartEpoch}
 use Rattle.circuits.specs.Laws.Seeing.{own-is, slot-is, slot-low}
 use Rattle.circuits.specs.Laws.Stepping.{choice, kept-claim, kept-command, kept-group-call, kept-release, see, see-claim, see-command, see-group-call, see-release}
-use Rattle.circuits.specs.Owners.{byteOf, isMarked, ownedBytes}
+use Rattle.circuits.specs.Owners.{isMarked, ownedBytes}
 use Rattle.circuits.specs.Parts.{isSlot, owns, senderOf, shownSender}
 use Rattle.circuits.specs.Readings.{boardShown, outgoingShown, ownedShown, packetAnswer, packetBytes, payloadAnswer, payloadBytes, ranksShown}
-use Rattle.circuits.specs.Views.{Asked, Made, Reply, View, askedBy, bitOf, bitsOf, cardAfter, repliesTo, replyTo, run, viewOf}
+use Rattle.circuits.specs.Views.{Asked, Made, View, askedBy, bitOf, bitsOf, cardAfter, repliesTo, replyTo, run, viewOf}
 use Rattle.circuits.specs.Views.Asked.{Do, Packet, Payload, Board, Outgoing, Ranks, Owned}
-use Rattle.circuits.specs.Views.Reply.{Answered, Wrote, Showed, Ranked, Owns}
+use Rattle.circuits.specs.Views.Reply.{Answered}
 
 -- (a) Every call of the other group, and of no group, keeps the view.
 pub others-keep : (c : Card) (g h : ℕ) (k : Asked) → g < 2 → h ≢ g → viewOf g (cardAfter c h k) ≡ viewOf g c
@@ -100,11 +96,11 @@ module _ (c : Card) (g : ℕ) (hg : g < 2) where
   unfolding ranksShown
   ranks-seen = rw (lt-ltb g 2 hg, shown-seen) refl
 
-  owned-bytes-seen : ownedBytes (c .owners) g ≡ tabulate 64 (λ i. byteOf (ownIn v i))
+  owned-bytes-seen : ownedBytes (c .owners) g ≡ tabulate 64 (λ i. oneIf (ownIn v i))
   unfolding ownedBytes owns
   owned-bytes-seen =
-      tabulate-ext 64 (λ i. byteOf (ltb g 2 && isMarked (c .owners) g i)) (λ i. byteOf (ownIn v i))
-      (λ i b. ap (λ (t : Bool). byteOf (t && owns c g i)) (lt-ltb g 2 hg) ∙ ap byteOf (own-is c g i b))
+      tabulate-ext 64 (λ i. oneIf (ltb g 2 && isMarked (c .owners) g i)) (λ i. oneIf (ownIn v i))
+      (λ i b. ap (λ (t : Bool). oneIf (t && owns c g i)) (lt-ltb g 2 hg) ∙ ap oneIf (own-is c g i b))
 
   owned-seen : replyTo c g Owned ≡ replySeen v Owned false
   unfolding ownedShown

@@ -3,13 +3,11 @@ use mathlib.Core.Path.{_≡_, refl, _∙_, sym, ap}
 use mathlib.Core.Logic.{⊎-elim, _≢_}
 use mathlib.Core.Bool.{Bool, true, false, cond, _&&_, _||_, false≢true, true≢false}
 use mathlib.Core.List.{List, [], _∷_, _++_}
-use Prim.Native.Nat.{ℕ, zero, suc, _<_}
+use Prim.Native.Nat.{ℕ, _<_}
 use native.Mathlib.Omega.{arith}
 use lib.Dec.{eqb, ltb}
-use lib.ListN.{getD}
-use borrow.Author.Tests.{eqb-true, eqb-false, lt-ltb}
-use Rattle.ground.specs.Table.{tabulate, getD-tabulate}
-use Rattle.ground.specs.Truth.{and-left, and-right, cond-by}
+use borrow.Author.Tests.{eqb-true, eqb-false}
+use Rattle.ground.specs.Table.{getD-tabulate}
 use Rattle.packet.specs.Words.{IDLE}
 use Rattle.sender.specs.declared.board.Board.{Board as B}
 use Rattle.sender.specs.declared.board.Row.{Row as R}
@@ -31,17 +29,16 @@ use Rattle.sender.specs.Ranks.{rowAt}
 use Rattle.sender.specs.Steps.{Call as C}
 use Rattle.sender.specs.Table.{isMember, sizeOf, slotAt}
 use Rattle.sender.specs.Theorems.Epochs.{Demand2Kept, demand2-kept}
-use Rattle.circuits.specs.declared.answers.Answer.{Answer}
 use Rattle.circuits.specs.declared.answers.Answer.the-variants as A
 use Rattle.circuits.specs.declared.card.Card.{Card}
-use Rattle.circuits.specs.Alone.{Seen, claimSeen, ownIn, ownSeen, releaseSeen, seen, sentSeen, slotIn, stepSeen, viewAfter, withOwn}
-use Rattle.circuits.specs.Calls.{Call, stepOf}
+use Rattle.circuits.specs.Alone.{Seen, ownIn, ownSeen, seen, sentSeen, slotIn, stepSeen, viewAfter, withOwn}
+use Rattle.circuits.specs.Calls.{Call}
 use Rattle.circuits.specs.Calls.Call.{Claim, Release, AddSlot, RemoveSlot, Report, Lapse, StartEpoch}
 use Rattle.circuits.specs.Commands.{startOf}
 use Rattle.circuits.specs.Laws.Members.{add-member, lapse-keeps, memberAt, remove-member, report-keeps}
-use Rattle.circuits.specs.Laws.Seeing.{marks-apart, own-is}
-use Rattle.circuits.specs.Owners.{markOf, ownerIn}
-use Rattle.circuits.specs.Parts.{isUsed, owns, senderOf}
+use Rattle.circuits.specs.Laws.Seeing.{own-is}
+use Rattle.circuits.specs.Owners.{ownerIn}
+use Rattle.circuits.specs.Parts.{owns, senderOf}
 use Rattle.circuits.specs.Theorems.Apart.{others-keep, own-view}
 use Rattle.circuits.specs.Views.{Asked, Made, View, bitOf, cardAfter, run, viewOf}
 use Rattle.circuits.specs.Views.Asked.{Do, Packet, Payload, Board, Outgoing, Ranks, Owned}

@@ -7,8 +7,8 @@ use lib.Dec.{leb, ltb}
 use lib.ListN.{length}
 use Rattle.bytes.specs.Bytes.{indexOf}
 use Rattle.conformance.specs.Entries.{Call, Copes, Refusal, Unless, copes, done, stateful}
-use Rattle.recording.specs.declared.opening.Opening.{Opening}
-use Rattle.recording.specs.declared.opening.Opening.the-variants as O
+use Rattle.recording.specs.Opening.{Opening}
+use Rattle.recording.specs.Opening.{Opening as O}
 use Rattle.recording.specs.declared.record.Record.{Record}
 use Rattle.recording.specs.declared.record.Record.the-variants as R
 use Rattle.recording.specs.Opening.{openingIn}
@@ -51,7 +51,7 @@ either-done false x y e f = f
 
 open-done : (r : Replay) (store : ℕ) (x : Opening) → openTurnBy r store x .answer ≡ 0
 unfolding openWithTurn answeredTurn
-open-done r store (O.Settings p s w next) = either-done (startable p s w store) _ _ refl refl
+open-done r store (O.Settings s next) = either-done (startable s store) _ _ refl refl
 open-done r store O.Malformed = refl
 open-done r store O.Unfinished = refl
 open-done r store O.End = refl

@@ -3,3 +3,4 @@ pub mod Flags
 pub mod Runs
 pub mod Window
 pub mod Settling
+pub mod Started

@@ -2,6 +2,7 @@
 use mathlib.Core.Bool.{cond}
 use Prim.Native.Nat.{ℕ, _+_, _*_, _/_, _%_}
 use lib.Dec.{eqb}
+use lib.ListN.{replicate}
 use Rattle.receiver.specs.Starting.{groupWith}
 use Rattle.rows.specs.declared.group.Group.{Group}
 use Rattle.rows.specs.declared.step.Step.{Step}
@@ -14,6 +15,7 @@ sampleGroup n W begun gathered oldest = groupTo (groupWith 0 n 1 W) begun gather
 abbrev pub sampleStep : ℕ → ℕ → ℕ → ℕ → ℕ → ℕ → Step
 sampleStep count next joined since later whole =
     record {
+      spare = replicate 5 0;
       had = 1;
       failed = 0;
       count = count;
@@ -24,11 +26,6 @@ sampleStep count next joined since later whole =
       whole = whole;
       breaks = 0;
       odd = 0;
-      «spare_11» = 0;
-      «spare_12» = 0;
-      «spare_13» = 0;
-      «spare_14» = 0;
-      «spare_15» = 0;
     }
 
 -- the H4 byte of a frame with this tag, with a packet's nibble where MFI2 does not stand

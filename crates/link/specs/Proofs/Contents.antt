@@ -25,7 +25,7 @@ module _ (r : Road) where
 
   -- the packet that came to port p in epoch i
   unfoldable pub packetOf : ℕ → ℕ → List ℕ
-  packetOf i p = tabulate 16 (λ k. nibbleIn (r .kind) (r .h4 p (i * L r + k)))
+  packetOf i p = tabulate (L r) (λ k. nibbleIn (r .kind) (r .h4 p (i * L r + k)))
 
   -- what is seen of port p in the epoch after epoch i, which the packets of epoch i rule
   unfoldable pub seenAfter : ℕ → ℕ → Seen

@@ -203,7 +203,7 @@ wrong-mark : Link → ℕ → ℕ
 wrong-mark k i = cond (every 2 (λ p. ownNumber (epochNumber 0 249 i) (nibblesIn 0 (k .came i p)))) SURE HELD
 
 own-breaks : (wrong-mark after 5 ≡ HELD) × (expected after 4 output .mark ≡ SURE)
-unfolding outcome wrong-mark nibblesIn
+unfolding outcome wrong-mark nibblesIn frames
 own-breaks = (refl, refl)
 
 -- Before it begins: the low nibble of MFI2 in port 1's packet of the epoch at index 2 comes in frame time 41.

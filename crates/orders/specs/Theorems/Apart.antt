@@ -13,7 +13,7 @@ use Rattle.circuits.specs.Views.{Asked, Reply, askedBy, bitsOf, repliesTo, view
 use Rattle.circuits.specs.Views.Asked.{Do}
 use Rattle.circuits.specs.Views.Reply.{Answered, Wrote, Showed, Ranked, Owns}
 use Rattle.orders.specs.declared.commands.Command.{Command}
-use Rattle.orders.specs.Orders.{callBy, numberBy, ordersOf, stepBy}
+use Rattle.orders.specs.Orders.{callBy, ordersOf, stepBy}
 use Rattle.orders.specs.Singles.{answersTo, commandsOf, singlesOf}
 use Rattle.orders.specs.Theorems.OneByOne.{card-single}
 

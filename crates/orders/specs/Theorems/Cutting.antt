@@ -1,6 +1,6 @@
 -- An order cut in two: the first part, then the second on the card that it left, with the answers one behind the other. So a long order may be given in chunks.
 use mathlib.Core.Path.{_≡_, refl, ap, sym, _∙_}
-use mathlib.Core.List.{List, [], _∷_, _++_}
+use mathlib.Core.List.{List, _++_}
 use Prim.Native.Nat.{ℕ, _+_}
 use lib.ListN.{length, length-append}
 use borrow.Author.Tests.{eq-eqb}

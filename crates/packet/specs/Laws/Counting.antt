@@ -2,7 +2,6 @@
 use mathlib.Core.Path.{_≡_, _∙_, ap}
 use mathlib.Core.Logic.{⊎-elim, _≢_}
 use mathlib.Core.Bool.{Bool, true, false, _&&_, not, _||_}
-use mathlib.Core.List.{List}
 use Prim.Native.Nat.{ℕ, _+_, _*_, _/_, _%_, _<_}
 use native.Mathlib.Omega.{arith}
 use lib.Dec.{eqb}
@@ -11,9 +10,9 @@ use borrow.Author.Tests.{eq-eqb, ne-eqb, eqb-true}
 use Rattle.ground.specs.Truth.{and-left, and-right, and-true, eq-or-ne, or-left, or-right}
 use Rattle.packet.specs.Counts.{carriesLow, counts, nibbleIn, nibblePlace, startsCount, tagByHigh, tagByLow}
 use Rattle.packet.specs.declared.layout.Fields.{Fields}
-use Rattle.packet.specs.Kinds.{epochOf, epochs, firstTag, frames, lead, placeOf, tagAfter, tagBefore, tags}
+use Rattle.packet.specs.Kinds.{epochOf, frames, lead, placeOf, tagAfter, tagBefore, tags}
 use Rattle.packet.specs.Laws.Distances.{place-back}
-use Rattle.packet.specs.Layout.{dataOf, fieldsOf, h4Of, nibblesOf, sealedOf}
+use Rattle.packet.specs.Layout.{dataOf, h4Of, nibblesOf, sealedOf}
 use Rattle.packet.specs.Theorems.Tags.{place-sent, tagOf}
 
 -- The three tests of a right count.
@@ -116,10 +115,6 @@ pub starts-place : (kind h : ℕ) → startsCount kind h ≡ true → placeOf ki
 unfolding startsCount tagByHigh tagBefore placeOf nibblePlace lead frames tags
 starts-place kind h e = let z : h % 16 ≡ 0 = eqb-true (h % 16) 0 e in omega arith
 
-pub second-place : (kind t h : ℕ) → carriesLow kind h ≡ true → placeOf kind (tagBefore kind (tagByLow kind t h)) ≡ nibblePlace kind h
-unfolding carriesLow tagByLow tagBefore placeOf nibblePlace lead frames tags
-second-place kind t h e = let z : h % 16 ≡ 1 = eqb-true (h % 16) 1 e in omega arith
-
 pub counted-place : (kind t h : ℕ) → counts kind t h ≡ true → placeOf kind (tagBefore kind (tagAfter kind t)) ≡ nibblePlace kind h
 unfolding placeOf nibblePlace lead frames
 counted-place kind t h e = let z : h % 16 ≡ t % 16 = counts-first kind t h e in place-back kind t ∙ omega arith
@@ -134,28 +129,6 @@ unfolding tagByLow tags frames
 low-told kind t h = (omega arith, omega arith)
 
 -- The packet of an epoch.
-
--- on plain numbers: the tags of the two frames that bring MFI2, and the number that their nibbles make
-high-tag : (e : ℕ) → e < 256 → ((e * 16 + 4088) % 4096 + 8) % 4096 ≡ e * 16
-high-tag e h = omega arith
-
-low-tag : (e : ℕ) → e < 256 → ((e * 16 + 4088) % 4096 + 9) % 4096 ≡ e * 16 + 1
-low-tag e h = omega arith
-
-number-by : (e a b : ℕ) → e < 256 → a ≡ e * 16 / 256 % 16 → b ≡ (e * 16 + 1) / 16 % 16 → a % 16 * 16 + b % 16 ≡ e
-number-by e a b h p q =
-    let c : a ≡ e / 16 = omega arith in
-    let d : b ≡ e % 16 = omega arith in
-    rw (c, d) (omega arith)
-
--- where those two frames count as their tags say, the packet carries the number of its epoch
-pub epoch-carried : (kind e : ℕ) (ns : List ℕ) (a b : ℕ) → e < epochs kind → getD ns (lead kind) 0 ≡ nibbleIn kind a → getD ns (lead kind + 1) 0 ≡ nibbleIn kind b
-    → counts kind ((firstTag kind e + lead kind) % tags kind) a ≡ true → counts kind ((firstTag kind e + (lead kind + 1)) % tags kind) b ≡ true → fieldsOf ns .epoch ≡ e
-unfolding fieldsOf nibbleIn firstTag epochs tags lead frames
-epoch-carried kind e ns a b below at-high at-low sent-high sent-low =
-    rw (at-high, at-low)
-    (number-by e (a / 16) (b / 16) below (counts-high kind (e * 16) a (rw (high-tag e below) at sent-high) (omega arith))
-    (counts-low kind (e * 16 + 1) b (rw (low-tag e below) at sent-low) (omega arith)))
 
 -- the two nibbles of MFI2 in a packet's H4 bytes
 high-sent : (kind : ℕ) (f : Fields) → f .epoch < 256 → getD (h4Of (nibblesOf f)) (lead kind) 0 / 16 ≡ f .epoch / 16

@@ -8,7 +8,7 @@ use borrow.Author.Tests.{eq-eqb, eqb-true}
 use Rattle.ground.specs.Arcs.{after-none, after-nearer, after-on, arc-on, farther-behind, forth-and-back, nearer-behind, none-after}
 use Rattle.ground.specs.Circle.{after, after-leads}
 use Rattle.packet.specs.Clock.{by}
-use Rattle.packet.specs.Kinds.{distanceOf, epochAfter, epochOf, epochs, firstTag, frames, lead, placeOf, startsEpoch, tagAfter, tagBefore, tags}
+use Rattle.packet.specs.Kinds.{distanceOf, epochAfter, epochOf, firstTag, frames, lead, placeOf, startsEpoch, tagAfter, tagBefore, tags}
 use Rattle.packet.specs.Theorems.Tags.{frames-some, tags-some}
 
 pub tag-before-lt : (kind t : ℕ) → tagBefore kind t < tags kind
@@ -108,12 +108,6 @@ pub first-on : (kind e d : ℕ) → (firstTag kind (epochAfter kind e) + d) % ta
 first-on kind e d =
     let sum : firstTag kind e + frames kind + d ≡ firstTag kind e + (d + frames kind) = omega arith in
     rw (next-first kind e) (mod-add-mod (firstTag kind e + frames kind) (tags kind) d ∙ ap (λ (n : ℕ). n % tags kind) sum)
-
--- the tag before the new first frame is of the epoch that was passed
-pub epoch-passed : (kind e : ℕ) → e < epochs kind → epochOf kind (tagBefore kind (firstTag kind (epochAfter kind e))) ≡ e
-unfolding epochOf tagBefore firstTag epochAfter
-epoch-passed kind e =
-    by (λ L E N l. e < E → ((((e + 1) % E * L + (N - l)) % N + (N - 1)) % N + l) % N / L ≡ e) (λ h. omega arith) (λ h. omega arith) kind
 
 -- The next epoch to start after the foremost tag starts less than W frames after the tag to come of each port that lies at most W less an epoch's frames behind.
 

@@ -39,10 +39,6 @@ nibbles-in kind k h = by (λ L E N l. k < L) (omega arith) (omega arith) kind
 pub second-within : (kind : ℕ) → lead kind + 1 < frames kind
 second-within kind = by (λ L E N l. l + 1 < L) (omega arith) (omega arith) kind
 
--- and so is its entry of the packet
-pub second-carried : (kind : ℕ) → lead kind + 1 < 16
-second-carried kind = by (λ L E N l. l + 1 < 16) (omega arith) (omega arith) kind
-
 -- four bytes hold a report's byte count
 pub count-fits : (kind x P : ℕ) → x ≤ 64 → P ≤ 2340 → x * frames kind * P < 4294967296
 count-fits kind x P hx hp =

@@ -10,7 +10,7 @@ use lib.ListN.{getD}
 use borrow.Author.Tests.{ltb-true, ltb-false}
 use Rattle.ground.specs.Truth.{cond-by, eq-or-ne}
 use Rattle.paths.specs.declared.planning.Stretch.{Stretch}
-use Rattle.paths.specs.Planning.{stretchFrom, tighter, tightest}
+use Rattle.paths.specs.Planning.{stretchFrom, tightest}
 
 module _ (sorted : List ℕ) (far : ℕ) where
   abbrev from : ℕ → Stretch

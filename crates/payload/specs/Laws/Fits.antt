@@ -13,7 +13,7 @@ use Rattle.ground.specs.Finite.{below-at}
 use Rattle.ground.specs.Truth.{and-true, and-left, and-right}
 use Rattle.payload.specs.declared.answer.Answer.{Answer}
 use Rattle.payload.specs.declared.answer.Answer.the-variants.{Done, Range, Length}
-use Rattle.payload.specs.Answers.{answerBy, numberOf, sized}
+use Rattle.payload.specs.Answers.{PAYLOAD-MOST, answerBy, numberOf, sized}
 use Rattle.payload.specs.Joining.{wholeAnswer, rankedByte, joined, startedByte, startsFit, fromAnswer, joinedFrom}
 use Rattle.payload.specs.Order.{groupByte, groupFrame, memberFrame}
 use Rattle.payload.specs.Spreading.{allMembers, spreadAll, oneAnswer, spreadOne}
@@ -21,20 +21,20 @@ use Rattle.payload.specs.Spreading.{allMembers, spreadAll, oneAnswer, sp
 pub record Sizes (X P : ℕ) : Type 0 where
   pub ranks : X ≤ 64
   pub least : 1 ≤ P
-  pub most : P ≤ 2340
+  pub most : P ≤ PAYLOAD-MOST
 
 pub sizes : (X P : ℕ) → sized X P ≡ true → Sizes X P
 sizes X P h =
-    let front = and-left (leb X 64 && leb 1 P) (leb P 2340) h in
+    let front = and-left (leb X 64 && leb 1 P) (leb P PAYLOAD-MOST) h in
     record {
       ranks = leb-true X 64 (and-left (leb X 64) (leb 1 P) front);
       least = leb-true 1 P (and-right (leb X 64) (leb 1 P) front);
-      most = leb-true P 2340 (and-right (leb X 64 && leb 1 P) (leb P 2340) h);
+      most = leb-true P PAYLOAD-MOST (and-right (leb X 64 && leb 1 P) (leb P PAYLOAD-MOST) h);
     }
 
 pub are-sized : (X P : ℕ) → Sizes X P → sized X P ≡ true
 are-sized X P s =
-    and-true (leb X 64 && leb 1 P) (leb P 2340) (and-true (leb X 64) (leb 1 P) (le-leb X 64 (s .ranks)) (le-leb 1 P (s .least))) (le-leb P 2340 (s .most))
+    and-true (leb X 64 && leb 1 P) (leb P PAYLOAD-MOST) (and-true (leb X 64) (leb 1 P) (le-leb X 64 (s .ranks)) (le-leb 1 P (s .least))) (le-leb P PAYLOAD-MOST (s .most))
 
 -- a group frame has at most 64 x 2,340 bytes
 pub frame-most : (X P : ℕ) → Sizes X P → X * P ≤ 149760

@@ -1,7 +1,6 @@
 -- What is laid, tried at the end of the slice and past it.
 use mathlib.Core.Path.{_≡_, refl}
-use mathlib.Core.List.{List, [], _∷_}
-use Prim.Native.Nat.{ℕ}
+use mathlib.Core.List.{[], _∷_}
 use Rattle.payload.specs.Laying.{laid}
 
 pub up-to-end : laid 2 (7 ∷ 8 ∷ []) (0 ∷ 1 ∷ 2 ∷ 3 ∷ []) ≡ 0 ∷ 1 ∷ 7 ∷ 8 ∷ []

@@ -16,8 +16,7 @@ use Rattle.phases.specs.Passing.{groupTo}
 use Rattle.phases.specs.Settling.{begunOf, clearedPort, clearedPorts, clearedStep, stoppedOf}
 use Rattle.rows.specs.declared.group.Group.{Group}
 use Rattle.rows.specs.Group.{groupAt}
-use Rattle.rows.specs.Laws.Group.{group-put-same}
-use Rattle.rows.specs.Laws.Port.{port-put-group}
+use Rattle.rows.specs.Laws.Port.{group-put-same, port-put-group}
 use Rattle.rows.specs.Packets.{marksAt}
 use Rattle.rows.specs.Port.{Port, portAt}
 use Rattle.rows.specs.Rows.{rowsFor}

@@ -10,12 +10,13 @@ use Rattle.phases.specs.Due.{silent}
 use Rattle.phases.specs.Passing.{passedGroup, passedOf, passedPort, passedPorts}
 use Rattle.phases.specs.Settling.{beginBy, begunOf, clearedPort, clearedPorts, stopBy, stoppedOf}
 use Rattle.rows.specs.declared.group.Group.{Group}
-use Rattle.rows.specs.Laws.Lengths.{length-put-group, length-put-marks, length-put-member, length-put-packets, length-put-step}
+use Rattle.rows.specs.Laws.Port.{length-put, length-put-group}
+use Rattle.rows.specs.Part.{TheMarks, TheMember, ThePackets, TheStep}
 use Rattle.step.specs.Arrival.{flagOf}
 
 pub length-passed-port : (g : Group) (store : List ℕ) (i : ℕ) (s : List (List ℕ)) → length (passedPort g store i s) ≡ length s
 unfolding passedPort
-length-passed-port g store i s = rw (length-put-marks, length-put-step, length-put-packets, length-put-member) refl
+length-passed-port g store i s = length-put _ i (TheMarks _) ∙ length-put _ i (TheStep _) ∙ length-put _ i (ThePackets _) ∙ length-put s i (TheMember _)
 
 pub length-passed-ports : (g : Group) (store : List ℕ) (n : ℕ) (s : List (List ℕ)) → length (passedPorts g store n s) ≡ length s
 unfolding passedPorts
@@ -28,7 +29,7 @@ length-passed g store n s = length-put-group (passedPorts g store n s) (passedGr
 
 pub length-cleared-port : (g : Group) (beginning : Bool) (i : ℕ) (s : List (List ℕ)) → length (clearedPort g beginning i s) ≡ length s
 unfolding clearedPort
-length-cleared-port g beginning i s = rw (length-put-marks, length-put-step) refl
+length-cleared-port g beginning i s = length-put _ i (TheMarks _) ∙ length-put s i (TheStep _)
 
 pub length-cleared : (g : Group) (beginning : Bool) (n : ℕ) (s : List (List ℕ)) → length (clearedPorts g beginning n s) ≡ length s
 unfolding clearedPorts

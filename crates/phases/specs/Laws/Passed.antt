@@ -14,8 +14,7 @@ use Rattle.phases.specs.Passing.{notedBy, passedGroup, passedOf, passedP
 use Rattle.step.specs.Own.{ownRuling}
 use Rattle.rows.specs.declared.group.Group.{Group}
 use Rattle.rows.specs.Group.{groupAt}
-use Rattle.rows.specs.Laws.Group.{group-put-same}
-use Rattle.rows.specs.Laws.Port.{port-put-group}
+use Rattle.rows.specs.Laws.Port.{group-put-same, port-put-group}
 use Rattle.rows.specs.Member.{memberAt}
 use Rattle.rows.specs.Packets.{marksAt, packetsAt}
 use Rattle.rows.specs.Port.{Port, portAt}

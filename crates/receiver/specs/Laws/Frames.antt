@@ -10,10 +10,9 @@ use Rattle.packet.specs.Counts.{nibbleIn}
 use Rattle.packet.specs.Kinds.{placeOf}
 use Rattle.receiver.specs.Frame.{gatheredBy, marksBy, ownTag, portRows}
 use Rattle.rows.specs.Group.{groupAt}
-use Rattle.rows.specs.Laws.Group.{group-put-marks, group-put-packets, group-put-step}
-use Rattle.rows.specs.Laws.Lengths.{length-put-marks, length-put-packets, length-put-step}
-use Rattle.rows.specs.Laws.Port.{port-put-marks, port-put-marks-other, port-put-packets, port-put-packets-other, port-put-step, port-put-step-other}
+use Rattle.rows.specs.Laws.Port.{group-put, length-put, port-put, port-put-other}
 use Rattle.rows.specs.Packets.{marksAt, packetsAt, putPackets}
+use Rattle.rows.specs.Part.{TheMarks, ThePackets, TheStep}
 use Rattle.rows.specs.Port.{Port, portAt, withMarks, withPackets}
 use Rattle.rows.specs.Rows.{rowsFor}
 use Rattle.rows.specs.Step.{putStep, stepAt}
@@ -44,28 +43,28 @@ gathers kind a b false tag h = refl
 module _ (kind : ℕ) (s : List (List ℕ)) (i : ℕ) (t : Taken) (h : ℕ) where
   pub length-frame : length (portRows kind s i t h) ≡ length s
   unfolding portRows
-  length-frame = length-put-marks _ i _ ∙ length-put-packets _ i _ ∙ length-put-step s i (t .step)
+  length-frame = length-put _ i (TheMarks _) ∙ length-put _ i (ThePackets _) ∙ length-put s i (TheStep (t .step))
 
   pub frame-group : groupAt (portRows kind s i t h) ≡ groupAt s
   unfolding portRows
-  frame-group = group-put-marks _ i _ ∙ group-put-packets _ i _ ∙ group-put-step s i (t .step)
+  frame-group = group-put _ i (TheMarks _) ∙ group-put _ i (ThePackets _) ∙ group-put s i (TheStep (t .step))
 
   pub frame-port : (n : ℕ) → i < n → rowsFor n ≤ length s → portAt (portRows kind s i t h) i ≡ frameOn kind (portAt s i) t h
   unfolding portRows portAt packetsAt
   frame-port n b l =
       let pair : List (List ℕ) = gatheredBy kind (packetsAt s i) (t .counted) (ownTag kind t) h in
       let a : List (List ℕ) = putStep s i (t .step) in
-      let la : length a ≡ length s = length-put-step s i (t .step) in
+      let la : length a ≡ length s = length-put s i (TheStep (t .step)) in
       let c : List (List ℕ) = putPackets a i pair in
-      let lc : length c ≡ length s = length-put-packets a i pair ∙ la in
-      port-put-marks c i (marksBy kind (marksAt s i) t) n b (rw lc l)
-      ∙ ap (λ (p : Port). withMarks p (marksBy kind (marksAt s i) t)) (port-put-packets a i pair n b (rw la l))
-      ∙ ap (λ (p : Port). withMarks (withPackets p pair) (marksBy kind (marksAt s i) t)) (port-put-step s i (t .step) n b l)
+      let lc : length c ≡ length s = length-put a i (ThePackets pair) ∙ la in
+      port-put c i (TheMarks (marksBy kind (marksAt s i) t)) n b (rw lc l)
+      ∙ ap (λ (p : Port). withMarks p (marksBy kind (marksAt s i) t)) (port-put a i (ThePackets pair) n b (rw la l))
+      ∙ ap (λ (p : Port). withMarks (withPackets p pair) (marksBy kind (marksAt s i) t)) (port-put s i (TheStep (t .step)) n b l)
       ∙ rw (ruling-stays kind _ _ (t .counted) (ownTag kind t) h) refl
 
   pub frame-other : (j : ℕ) → j ≢ i → portAt (portRows kind s i t h) j ≡ portAt s j
   unfolding portRows
-  frame-other j d = port-put-marks-other _ i _ j d ∙ port-put-packets-other _ i _ j d ∙ port-put-step-other s i (t .step) j d
+  frame-other j d = port-put-other _ i (TheMarks _) j d ∙ port-put-other _ i (ThePackets _) j d ∙ port-put-other s i (TheStep (t .step)) j d
 
   -- the same of single rows
   pub frame-step : (n : ℕ) → i < n → rowsFor n ≤ length s → stepAt (portRows kind s i t h) i ≡ t .step

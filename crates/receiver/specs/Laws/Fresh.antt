@@ -15,11 +15,10 @@ use Rattle.receiver.specs.Starting.{freshMember, freshPort, freshPorts, 
 use Rattle.rows.specs.declared.group.Group.{Group}
 use Rattle.rows.specs.declared.member.Member.{Member}
 use Rattle.rows.specs.Group.{groupAt, putGroup}
-use Rattle.rows.specs.Laws.Group.{group-put-same}
-use Rattle.rows.specs.Laws.Lengths.{length-put-group, length-put-member, length-put-packets, length-put-step}
-use Rattle.rows.specs.Laws.Port.{port-put-group, port-put-marks, port-put-marks-other, port-put-member, port-put-member-other, port-put-packets, port-put-packets-other, port-put-step, port-put-step-other}
+use Rattle.rows.specs.Laws.Port.{group-put-same, length-put, length-put-group, port-put, port-put-group, port-put-other}
 use Rattle.rows.specs.Member.{putMember}
 use Rattle.rows.specs.Packets.{putPackets}
+use Rattle.rows.specs.Part.{TheMarks, TheMember, ThePackets, TheStep}
 use Rattle.rows.specs.Port.{Port, portAt, withMarks, withMember, withPackets}
 use Rattle.rows.specs.Rows.{rowsFor}
 use Rattle.rows.specs.Step.{putStep, stepAt}
@@ -36,20 +35,20 @@ module _ (kind : ℕ) (hold restore : List ℕ) where
   unfolding freshPort
   fresh-one i s n b h =
       let a : List (List ℕ) = putStep s i freshStep in
-      let la : length a ≡ length s = length-put-step s i freshStep in
+      let la : length a ≡ length s = length-put s i (TheStep freshStep) in
       let c : List (List ℕ) = putMember a i (member i) in
-      let lc : length c ≡ length s = length-put-member a i (member i) ∙ la in
+      let lc : length c ≡ length s = length-put a i (TheMember (member i)) ∙ la in
       let d : List (List ℕ) = putPackets c i (zeroRow ∷ zeroRow ∷ []) in
-      let ld : length d ≡ length s = length-put-packets c i (zeroRow ∷ zeroRow ∷ []) ∙ lc in
-      port-put-marks d i zeroRow n b (rw ld h)
-      ∙ ap (λ (p : Port). withMarks p zeroRow) (port-put-packets c i (zeroRow ∷ zeroRow ∷ []) n b (rw lc h))
-      ∙ ap (λ (p : Port). withMarks (withPackets p (zeroRow ∷ zeroRow ∷ [])) zeroRow) (port-put-member a i (member i) n b (rw la h))
-      ∙ ap (λ (p : Port). withMarks (withPackets (withMember p (member i)) (zeroRow ∷ zeroRow ∷ [])) zeroRow) (port-put-step s i freshStep n b h)
+      let ld : length d ≡ length s = length-put c i (ThePackets (zeroRow ∷ zeroRow ∷ [])) ∙ lc in
+      port-put d i (TheMarks zeroRow) n b (rw ld h)
+      ∙ ap (λ (p : Port). withMarks p zeroRow) (port-put c i (ThePackets (zeroRow ∷ zeroRow ∷ [])) n b (rw lc h))
+      ∙ ap (λ (p : Port). withMarks (withPackets p (zeroRow ∷ zeroRow ∷ [])) zeroRow) (port-put a i (TheMember (member i)) n b (rw la h))
+      ∙ ap (λ (p : Port). withMarks (withPackets (withMember p (member i)) (zeroRow ∷ zeroRow ∷ [])) zeroRow) (port-put s i (TheStep freshStep) n b h)
 
   fresh-one-other : (i : ℕ) (s : List (List ℕ)) (j : ℕ) → j ≢ i → portAt (freshPort kind hold restore i s) j ≡ portAt s j
   unfolding freshPort
   fresh-one-other i s j d =
-      port-put-marks-other _ i _ j d ∙ port-put-packets-other _ i _ j d ∙ port-put-member-other _ i _ j d ∙ port-put-step-other s i freshStep j d
+      port-put-other _ i (TheMarks _) j d ∙ port-put-other _ i (ThePackets _) j d ∙ port-put-other _ i (TheMember _) j d ∙ port-put-other s i (TheStep freshStep) j d
 
   fresh-port : (n : ℕ) (s : List (List ℕ)) (i : ℕ) → i < n → rowsFor n ≤ length s → portAt (freshPorts kind hold restore n s) i ≡ freshOn kind (timeOf hold i) (timeOf restore i)
   unfolding freshPorts

@@ -14,11 +14,12 @@ use Rattle.receiver.specs.Report.{frameInto, framesInto, startsOf, state
 use Rattle.receiver.specs.Starting.{freshPort, freshPorts}
 use Rattle.reply.specs.declared.waiting.Standing.{Standing}
 use Rattle.rows.specs.declared.group.Group.{Group}
-use Rattle.rows.specs.Laws.Lengths.{length-put-marks, length-put-member, length-put-packets, length-put-step}
+use Rattle.rows.specs.Laws.Port.{length-put}
+use Rattle.rows.specs.Part.{TheMarks, TheMember, ThePackets, TheStep}
 
 pub length-fresh-port : (kind : ℕ) (hold restore : List ℕ) (i : ℕ) (s : List (List ℕ)) → length (freshPort kind hold restore i s) ≡ length s
 unfolding freshPort
-length-fresh-port kind hold restore i s = length-put-marks _ i _ ∙ length-put-packets _ i _ ∙ length-put-member _ i _ ∙ length-put-step s i _
+length-fresh-port kind hold restore i s = length-put _ i (TheMarks _) ∙ length-put _ i (ThePackets _) ∙ length-put _ i (TheMember _) ∙ length-put s i (TheStep _)
 
 pub length-fresh-ports : (kind : ℕ) (hold restore : List ℕ) (n : ℕ) (s : List (List ℕ)) → length (freshPorts kind hold restore n s) ≡ length s
 unfolding freshPorts
@@ -28,7 +29,7 @@ length-fresh-ports kind hold restore (suc n) s =
 
 pub length-told-port : (states : List Standing) (i : ℕ) (s : List (List ℕ)) → length (statePut states i s) ≡ length s
 unfolding statePut
-length-told-port states i s = length-put-member s i _
+length-told-port states i s = length-put s i (TheMember _)
 
 pub length-told-ports : (states : List Standing) (n : ℕ) (s : List (List ℕ)) → length (statesPut states n s) ≡ length s
 unfolding statesPut

@@ -22,11 +22,10 @@ use Rattle.reply.specs.Telling.{ackOf, turns}
 use Rattle.reply.specs.Waiting.{noStanding, standingsOf}
 use Rattle.rows.specs.declared.group.Group.{Group}
 use Rattle.rows.specs.Group.{groupAt}
-use Rattle.rows.specs.Laws.Group.{group-put-same}
-use Rattle.rows.specs.Laws.Lengths.{length-put-group}
-use Rattle.rows.specs.Laws.Port.{port-member, port-put-group, port-put-member, port-put-member-other}
+use Rattle.rows.specs.Laws.Port.{group-put-same, length-put-group, port-member, port-put, port-put-group, port-put-other}
 use Rattle.rows.specs.Member.{memberAt}
 use Rattle.rows.specs.Packets.{marksAt}
+use Rattle.rows.specs.Part.{TheMember}
 use Rattle.rows.specs.Port.{Port, portAt, withMember}
 use Rattle.rows.specs.Rows.{rowsFor}
 use Rattle.rows.specs.Step.{stepAt}
@@ -42,11 +41,11 @@ toldOn p left = withMember p (withState (p .member) left)
 module _ (states : List Standing) where
   told-one : (i : ℕ) (s : List (List ℕ)) (n : ℕ) → i < n → rowsFor n ≤ length s → portAt (statePut states i s) i ≡ toldOn (portAt s i) (getD states i noStanding)
   unfolding statePut
-  told-one i s n b h = port-put-member s i (withState (memberAt s i) (getD states i noStanding)) n b h ∙ rw (port-member s i) refl
+  told-one i s n b h = port-put s i (TheMember (withState (memberAt s i) (getD states i noStanding))) n b h ∙ rw (port-member s i) refl
 
   told-one-other : (i : ℕ) (s : List (List ℕ)) (j : ℕ) → j ≢ i → portAt (statePut states i s) j ≡ portAt s j
   unfolding statePut
-  told-one-other i s j d = port-put-member-other s i _ j d
+  told-one-other i s j d = port-put-other s i (TheMember _) j d
 
   told-beyond : (n : ℕ) (s : List (List ℕ)) (i : ℕ) → n ≤ i → portAt (statesPut states n s) i ≡ portAt s i
   unfolding statesPut

@@ -8,12 +8,18 @@ use lib.Dec.{eqb, leb, ltb}
 use lib.ListN.{length}
 use borrow.Author.Tests.{eqb-true}
 use Rattle.ground.specs.Truth.{and-left, and-right}
-use Rattle.recording.specs.declared.opening.Opening.{Opening}
-use Rattle.recording.specs.declared.opening.Opening.the-variants as O
+use Rattle.recording.specs.Opening.{Opening}
+use Rattle.recording.specs.Opening.{Opening as O}
+use Rattle.recording.specs.declared.opening.First.{First}
+use Rattle.recording.specs.declared.opening.FirstLine.the-variants as F
+use Rattle.recording.specs.declared.pairs.Awaited.{Awaited}
+use Rattle.recording.specs.declared.pairs.Awaited.the-variants as A
+use Rattle.recording.specs.declared.pairs.Pairs.{Pairs}
 use Rattle.recording.specs.declared.record.Record.{Record}
 use Rattle.recording.specs.declared.record.Record.the-variants.{Frame, Malformed, Long, Unfinished, End}
 use Rattle.recording.specs.Line.{MOST}
-use Rattle.recording.specs.Opening.{lineOpening, openingBy, settingsBy}
+use Rattle.recording.specs.Opening.{handed, lineOpening, opened, openedBy, openingBy, settingsBy}
+use Rattle.recording.specs.Pairs.{firstPairs, pairsFrom}
 use Rattle.recording.specs.Record.{flagIn, frameBy, lineRecord, recordBy}
 use Rattle.text.specs.declared.fields.Number.{Number}
 use Rattle.text.specs.declared.fields.Number.the-variants.{Value, Unreadable}
@@ -56,24 +62,34 @@ line-going ports size at n m line = go (leb (length line) MOST)
 
 -- the same of a first line
 abbrev pub opensTo : ℕ → Opening → Opening
-opensTo n (O.Settings ports size window next) = O.Settings ports size window n
+opensTo n (O.Settings settings next) = O.Settings settings n
 opensTo n O.Malformed = O.Malformed
 opensTo n O.Unfinished = O.Unfinished
 opensTo n O.End = O.End
 
-settings-opens : (a b c : Number) (n m : ℕ) → settingsBy a b c n ≡ opensTo n (settingsBy a b c m)
+opened-opens : (p : Pairs) (n m : ℕ) → opened p n ≡ opensTo n (opened p m)
+unfolding opened
+opened-opens p n m = go (p .awaited)
+  where
+    go : (a : Awaited) → openedBy a (p .settings) n ≡ opensTo n (openedBy a (p .settings) m)
+    go A.Name = refl
+    go A.Kind = refl
+    go (A.HoldOff i) = refl
+    go (A.Restore i) = refl
+    go A.Nothing = refl
+
+settings-opens : (a b c : Number) (pairs : List (List ℕ)) (n m : ℕ) → settingsBy a b c pairs n ≡ opensTo n (settingsBy a b c pairs m)
 unfolding settingsBy
-settings-opens (Value x) (Value y) (Value z) n m = refl
-settings-opens (Value x) (Value y) Unreadable n m = refl
-settings-opens (Value x) Unreadable c n m = refl
-settings-opens Unreadable b c n m = refl
+settings-opens (Value x) (Value y) (Value z) pairs n m = opened-opens (pairsFrom (firstPairs x y z) pairs) n m
+settings-opens (Value x) (Value y) Unreadable pairs n m = refl
+settings-opens (Value x) Unreadable c pairs n m = refl
+settings-opens Unreadable b c pairs n m = refl
 
 opening-opens : (n m : ℕ) (fs : List (List ℕ)) → openingBy n fs ≡ opensTo n (openingBy m fs)
 opening-opens n m [] = refl
 opening-opens n m (a ∷ []) = refl
 opening-opens n m (a ∷ b ∷ []) = refl
-opening-opens n m (a ∷ b ∷ c ∷ []) = settings-opens (numberOf 9 a) (numberOf 9 b) (numberOf 9 c) n m
-opening-opens n m (a ∷ b ∷ c ∷ d ∷ rest) = refl
+opening-opens n m (a ∷ b ∷ c ∷ pairs) = settings-opens (numberOf 9 a) (numberOf 9 b) (numberOf 9 c) pairs n m
 
 pub line-opens : (n m : ℕ) (line : List ℕ) → lineOpening n line ≡ opensTo n (lineOpening m line)
 unfolding lineOpening
@@ -82,6 +98,44 @@ line-opens n m line = go (leb (length line) MOST)
     go : (b : Bool) → cond b (openingBy n (fieldsOf line)) O.Malformed ≡ opensTo n (cond b (openingBy m (fieldsOf line)) O.Malformed)
     go true = opening-opens n m (fieldsOf line)
     go false = refl
+
+-- what is handed over of a first line tells which one it was
+module _ (x : Opening) (f : First) (e : f ≡ handed x) where
+  pub handed-set : f .line ≡ F.Settings → x ≡ O.Settings (f .settings) (f .next)
+  handed-set k = rw e (go x (rw e at k))
+    where
+      go : (x : Opening) → handed x .line ≡ F.Settings → x ≡ O.Settings (handed x .settings) (handed x .next)
+      go (O.Settings s next) m = refl
+      go O.Malformed m = let z : _≡_ {A = ℕ} 0 1 = cc in absurd (omega arith)
+      go O.Unfinished m = let z : _≡_ {A = ℕ} 0 1 = cc in absurd (omega arith)
+      go O.End m = let z : _≡_ {A = ℕ} 0 1 = cc in absurd (omega arith)
+
+  pub handed-malformed : f .line ≡ F.Malformed → x ≡ O.Malformed
+  handed-malformed k = go x (rw e at k)
+    where
+      go : (x : Opening) → handed x .line ≡ F.Malformed → x ≡ O.Malformed
+      go (O.Settings s next) m = let z : _≡_ {A = ℕ} 0 1 = cc in absurd (omega arith)
+      go O.Malformed m = refl
+      go O.Unfinished m = let z : _≡_ {A = ℕ} 0 1 = cc in absurd (omega arith)
+      go O.End m = let z : _≡_ {A = ℕ} 0 1 = cc in absurd (omega arith)
+
+  pub handed-unfinished : f .line ≡ F.Unfinished → x ≡ O.Unfinished
+  handed-unfinished k = go x (rw e at k)
+    where
+      go : (x : Opening) → handed x .line ≡ F.Unfinished → x ≡ O.Unfinished
+      go (O.Settings s next) m = let z : _≡_ {A = ℕ} 0 1 = cc in absurd (omega arith)
+      go O.Malformed m = let z : _≡_ {A = ℕ} 0 1 = cc in absurd (omega arith)
+      go O.Unfinished m = refl
+      go O.End m = let z : _≡_ {A = ℕ} 0 1 = cc in absurd (omega arith)
+
+  pub handed-end : f .line ≡ F.End → x ≡ O.End
+  handed-end k = go x (rw e at k)
+    where
+      go : (x : Opening) → handed x .line ≡ F.End → x ≡ O.End
+      go (O.Settings s next) m = let z : _≡_ {A = ℕ} 0 1 = cc in absurd (omega arith)
+      go O.Malformed m = let z : _≡_ {A = ℕ} 0 1 = cc in absurd (omega arith)
+      go O.Unfinished m = let z : _≡_ {A = ℕ} 0 1 = cc in absurd (omega arith)
+      go O.End m = refl
 
 -- a line is a frame or malformed, and names the next one
 pub data IsLine : Record → Type 0 where

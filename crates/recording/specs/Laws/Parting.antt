@@ -11,10 +11,11 @@ use borrow.Author.Tests.{eq-eqb, le-ltb, lt-ltb, ltb-true, ne-eqb}
 use Rattle.bytes.specs.Bytes.{indexOf}
 use Rattle.recording.specs.declared.line.Found.{Found}
 use Rattle.recording.specs.declared.line.Found.the-variants.{Nothing, Open, TooLong, Ends}
-use Rattle.recording.specs.declared.opening.Opening.{Opening}
-use Rattle.recording.specs.declared.opening.Opening.the-variants as O
+use Rattle.recording.specs.Opening.{Opening}
+use Rattle.recording.specs.Opening.{Opening as O}
 use Rattle.recording.specs.declared.record.Record.{Record}
 use Rattle.recording.specs.declared.record.Record.the-variants as R
+use Rattle.recording.specs.Laws.Pairs.{fields-one, fieldsFrom}
 use Rattle.recording.specs.Line.{MOST, firstLine, foundOf}
 use Rattle.recording.specs.Opening.{lineOpening, openingBy, openingIn, settingsBy}
 use Rattle.recording.specs.Record.{flagIn, frameBy, lastRecord, lineRecord, recordBy, recordIn}
@@ -130,17 +131,17 @@ module _ (l : List ℕ) (at : ℕ) (last : Bool) where
   unfolding openingIn
   opening-open f e k t = rw (sym e ∙ k, t)
 
-  pub opening-last : (f : Found) → f ≡ foundOf at (drop at l) → f ≡ Open → last ≡ true → (r : Opening) → r ≡ lineOpening (length l) (slice at (length l) l) → r ≡ openingIn at last (drop at l)
+  pub opening-last : (f : Found) → f ≡ foundOf at (drop at l) → f ≡ Open → last ≡ true → lineOpening (length l) (slice at (length l) l) ≡ openingIn at last (drop at l)
   unfolding openingIn
-  opening-last f e k t r h =
+  opening-last f e k t =
       let n = length-drop at l in
       let m = open-some l at (sym e ∙ k) in
       let s : at + length (drop at l) ≡ length l = omega arith in
-      rw (sym e ∙ k, t, s, ← rest-slice l at) h
+      rw (sym e ∙ k, t, s, ← rest-slice l at)
 
-  pub opening-ends : (f : Found) → f ≡ foundOf at (drop at l) → (end : ℕ) → f ≡ Ends end → (r : Opening) → r ≡ lineOpening (end + 1) (slice at end l) → r ≡ openingIn at last (drop at l)
+  pub opening-ends : (f : Found) → f ≡ foundOf at (drop at l) → (end : ℕ) → f ≡ Ends end → lineOpening (end + 1) (slice at end l) ≡ openingIn at last (drop at l)
   unfolding openingIn
-  opening-ends f e end k r h = rw (sym e ∙ k, ends-within l at end (sym e ∙ k) .2) h
+  opening-ends f e end k = rw (sym e ∙ k, ends-within l at end (sym e ∙ k) .2)
 
 -- a line by its length
 module _ (ports size : ℕ) (l : List ℕ) (at end next : ℕ) (h : at ≤ end) (k : end ≤ length l) where
@@ -159,9 +160,9 @@ module _ (ports size : ℕ) (l : List ℕ) (at end next : ℕ) (h : at ≤ end) 
   unfolding lineOpening
   opening-line-long m = let n = length-slice at end l k in rw (n, borrow.Author.Tests.lt-leb (end - at) MOST m)
 
-  pub opening-line-short : end - at ≤ MOST → (r : Opening) → r ≡ openingBy next (fieldsOf (slice at end l)) → r ≡ lineOpening next (slice at end l)
+  pub opening-line-short : end - at ≤ MOST → openingBy next (fieldsOf (slice at end l)) ≡ lineOpening next (slice at end l)
   unfolding lineOpening
-  opening-line-short m r e = let n = length-slice at end l k in rw (n, borrow.Author.Tests.le-leb (end - at) MOST m) e
+  opening-line-short m = let n = length-slice at end l k in rw (n, borrow.Author.Tests.le-leb (end - at) MOST m)
 
 -- a line of fields too few or too many, and one of four
 many-ahead : (ports size end next : ℕ) (a b c d : List ℕ) (x : ℕ) (ps : List (List ℕ)) → R.Malformed next ≡ recordBy ports size end next (a ∷ b ∷ c ∷ d ∷ ahead x ps)
@@ -210,20 +211,7 @@ module _ (ports size : ℕ) (l : List ℕ) (end next : ℕ) (k : end ≤ length 
         more d r q =
             rw (fields-more l at end first h k e b, fields-more l (first + 1) end second (omega arith) k f c, fields-more l (second + 1) end third (omega arith) k g d) q
 
--- a first line of fields too few or too many, and one of three
-opening-ahead : (next : ℕ) (a b c : List ℕ) (x : ℕ) (ps : List (List ℕ)) → O.Malformed ≡ openingBy next (a ∷ b ∷ c ∷ ahead x ps)
-opening-ahead next a b c x [] = refl
-opening-ahead next a b c x (p ∷ ps) = refl
-
-opening-many : (next : ℕ) (a b c l : List ℕ) → O.Malformed ≡ openingBy next (a ∷ b ∷ c ∷ fieldsOf l)
-unfolding fieldsOf
-opening-many next a b c [] = refl
-opening-many next a b c (x ∷ l) = go (eqb x TAB)
-  where
-    go : (t : Bool) → O.Malformed ≡ openingBy next (a ∷ b ∷ c ∷ cond t ([] ∷ parted TAB ([] ∷ []) l) (ahead x (parted TAB ([] ∷ []) l)))
-    go true = refl
-    go false = opening-ahead next a b c x (parted TAB ([] ∷ []) l)
-
+-- a first line of fields too few, and one of three or more
 module _ (l : List ℕ) (end next : ℕ) (k : end ≤ length l) (at first : ℕ) (h : at ≤ end) (e : first ≡ at + indexOf TAB (slice at end l)) where
   pub opening-one : end ≤ first → O.Malformed ≡ openingBy next (fieldsOf (slice at end l))
   opening-one b = rw (fields-last l at end first h k e b)
@@ -233,12 +221,7 @@ module _ (l : List ℕ) (end next : ℕ) (k : end ≤ length l) (at first : ℕ)
     opening-two c = rw (fields-more l at end first h k e b, fields-last l (first + 1) end second (omega arith) k f c)
 
     module _ (c : second < end) (third : ℕ) (g : third ≡ second + 1 + indexOf TAB (slice (second + 1) end l)) where
-      pub opening-four : third < end → O.Malformed ≡ openingBy next (fieldsOf (slice at end l))
-      opening-four d =
-          rw (fields-more l at end first h k e b, fields-more l (first + 1) end second (omega arith) k f c, fields-more l (second + 1) end third (omega arith) k g d)
-          (opening-many next (slice at first l) (slice (first + 1) second l) (slice (second + 1) third l) (slice (third + 1) end l))
-
-      pub opening-three : end ≤ third → (x y z : Number) → x ≡ numberOf 9 (slice at first l) → y ≡ numberOf 9 (slice (first + 1) second l) → z ≡ numberOf 9 (slice (second + 1) end l)
-          → (r : Opening) → r ≡ settingsBy x y z next → r ≡ openingBy next (fieldsOf (slice at end l))
-      opening-three d x y z ex ey ez r er =
-          rw (fields-more l at end first h k e b, fields-more l (first + 1) end second (omega arith) k f c, fields-last l (second + 1) end third (omega arith) k g d, ← ex, ← ey, ← ez) er
+      pub opening-three : (x y z : Number) → x ≡ numberOf 9 (slice at first l) → y ≡ numberOf 9 (slice (first + 1) second l) → z ≡ numberOf 9 (slice (second + 1) third l)
+          → settingsBy x y z (fieldsFrom (third + 1) end l) next ≡ openingBy next (fieldsOf (slice at end l))
+      opening-three x y z ex ey ez =
+          rw (fields-more l at end first h k e b, fields-more l (first + 1) end second (omega arith) k f c, fields-one l (second + 1) end third (omega arith) k g, ← ex, ← ey, ← ez)

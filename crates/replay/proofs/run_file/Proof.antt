@@ -1,5 +1,5 @@
 use mathlib.Core.Path.{_≡_}
-use Prim.Native.Nat.{_-_, _≤_, _<_}
+use Prim.Native.Nat.{_-_, _≤_}
 use native.Mathlib.Omega.{arith}
 use lib.Dec.{ltb}
 use lib.ListN.{length}
@@ -25,13 +25,24 @@ run-some-requires : tie.Need-run-some-requires Inv-loop μ-loop
 run-some-requires c κs = search needs
 
 sub-turns : tie.Need-sub-turns Inv-loop μ-loop
-sub-turns c = let h = ltb-true 0 (c .before .before .before .before .before .before .before .before .before .before .before .before .before .loop .turns) (and-right (c .before .before .before .before .before .before .before .before .before .before .before .before .before .loop .goes-on) (ltb 0 (c .before .before .before .before .before .before .before .before .before .before .before .before .before .loop .turns)) (c .before .before .before .before .before .before .before .before .before .before .before .before .loop-test .taken)) in omega arith
+sub-turns c =
+    let at-run-some = c .before .before .before .before .before .before .before in
+    let at-loop-test = at-run-some .before .before .before .before .before in
+    let at-loop = at-loop-test .before in
+    let h = ltb-true 0 (at-loop .loop .turns) (and-right (at-loop .loop .goes-on) (ltb 0 (at-loop .loop .turns)) (at-loop-test .loop-test .taken)) in omega arith
 
 loop-less : tie.Need-loop-less Inv-loop μ-loop
-loop-less c = let h = ltb-true 0 (c .before .before .before .before .before .before .before .before .before .before .before .before .before .loop .turns) (and-right (c .before .before .before .before .before .before .before .before .before .before .before .before .before .loop .goes-on) (ltb 0 (c .before .before .before .before .before .before .before .before .before .before .before .before .before .loop .turns)) (c .before .before .before .before .before .before .before .before .before .before .before .before .loop-test .taken)) in omega arith
+loop-less c =
+    let at-run-some = c .before .before .before .before .before .before .before in
+    let at-loop-test = at-run-some .before .before .before .before .before in
+    let at-loop = at-loop-test .before in
+    let h = ltb-true 0 (at-loop .loop .turns) (and-right (at-loop .loop .goes-on) (ltb 0 (at-loop .loop .turns)) (at-loop-test .loop-test .taken)) in omega arith
 
 loop-again : tie.Need-loop-again Inv-loop μ-loop
-loop-again c = (search needs, omega (arith, c .before .before .before .before .before .before .before .run-some .ensures, c .before .before .before .before .before .before .before .before .before .before .before .before .before .loop .inv .0), search needs, search needs, search needs)
+loop-again c =
+    let at-run-some = c .before .before .before .before .before .before .before in
+    let at-loop = at-run-some .before .before .before .before .before .before in
+    (search needs, omega (arith, at-run-some .run-some .ensures, at-loop .loop .inv .0), search needs, search needs, search needs)
 
 same-length : tie.Need-same-length Inv-loop μ-loop
 same-length c = search needs

@@ -1,5 +1,7 @@
+-- `run_text` meets its contract: no more of the text is used than there is.
+-- The loop keeps the lengths of what is lent and that its place is in the text; the count of turns left falls, and that is why it ends.
 use mathlib.Core.Path.{_≡_, refl}
-use Prim.Native.Nat.{_-_, _≤_, _<_}
+use Prim.Native.Nat.{_-_, _≤_}
 use native.Mathlib.Omega.{arith}
 use lib.Dec.{ltb}
 use lib.ListN.{drop, length, length-drop}
@@ -33,32 +35,48 @@ part-take-turn-end : tie.Need-part-take-turn-end Inv-loop μ-loop
 part-take-turn-end c = search needs
 
 slice-aggregate-take-turn : tie.Need-slice-aggregate-take-turn Inv-loop μ-loop
-slice-aggregate-take-turn c = c .before .before .before .before .before .before .loop .inv .4
+slice-aggregate-take-turn c =
+    let at-loop = c .before .before .before .before .before .before in
+    at-loop .loop .inv .4
 
 take-turn-requires : tie.Need-take-turn-requires Inv-loop μ-loop
 take-turn-requires c κs = search needs
 
 add-at : tie.Need-add-at Inv-loop μ-loop
 add-at c =
-    let t = c .before .before .before .before .before .before .before .before .before .before .before .before .before .before .before .before .before .before .before .before .args .text .now in
-    let a = c .before .before .before .before .before .before .before .before .before .before .before .before .before .before .before .loop .at in
+    let at-take-turn = c .before .before .before .before .before .before .before .before in
+    let at-loop = at-take-turn .before .before .before .before .before .before .before in
+    let at-start = at-loop .before .before .before .before .before in
+    let t = at-start .args .text .now in
+    let a = at-loop .loop .at in
     let d = length-drop a t in
     let e = length-take-le (length t - a) (drop a t) (omega arith) in
-    omega (arith, c .before .before .before .before .before .before .before .before .take-turn .ensures, c .before .before .before .before .before .before .before .before .before .before .before .before .before .before .before .loop .inv .0, c .before .before .before .before .before .before .before .before .before .before .before .before .before .before .before .loop .inv .5)
+    omega (arith, at-take-turn .take-turn .ensures, at-loop .loop .inv .0, at-loop .loop .inv .5)
 
 sub-turns : tie.Need-sub-turns Inv-loop μ-loop
-sub-turns c = let h = ltb-true 0 (c .before .before .before .before .before .before .before .before .before .before .before .before .before .before .before .loop .turns) (and-right (c .before .before .before .before .before .before .before .before .before .before .before .before .before .before .before .loop .goes-on) (ltb 0 (c .before .before .before .before .before .before .before .before .before .before .before .before .before .before .before .loop .turns)) (c .before .before .before .before .before .before .before .before .before .before .before .before .before .before .loop-test .taken)) in omega arith
+sub-turns c =
+    let at-take-turn = c .before .before .before .before .before .before .before .before in
+    let at-loop-test = at-take-turn .before .before .before .before .before .before in
+    let at-loop = at-loop-test .before in
+    let h = ltb-true 0 (at-loop .loop .turns) (and-right (at-loop .loop .goes-on) (ltb 0 (at-loop .loop .turns)) (at-loop-test .loop-test .taken)) in omega arith
 
 loop-less : tie.Need-loop-less Inv-loop μ-loop
-loop-less c = let h = ltb-true 0 (c .before .before .before .before .before .before .before .before .before .before .before .before .before .before .before .loop .turns) (and-right (c .before .before .before .before .before .before .before .before .before .before .before .before .before .before .before .loop .goes-on) (ltb 0 (c .before .before .before .before .before .before .before .before .before .before .before .before .before .before .before .loop .turns)) (c .before .before .before .before .before .before .before .before .before .before .before .before .before .before .loop-test .taken)) in omega arith
+loop-less c =
+    let at-take-turn = c .before .before .before .before .before .before .before .before in
+    let at-loop-test = at-take-turn .before .before .before .before .before .before in
+    let at-loop = at-loop-test .before in
+    let h = ltb-true 0 (at-loop .loop .turns) (and-right (at-loop .loop .goes-on) (ltb 0 (at-loop .loop .turns)) (at-loop-test .loop-test .taken)) in omega arith
 
 loop-again : tie.Need-loop-again Inv-loop μ-loop
 loop-again c =
-    let t = c .before .before .before .before .before .before .before .before .before .before .before .before .before .before .before .before .before .before .before .before .args .text .now in
-    let a = c .before .before .before .before .before .before .before .before .before .before .before .before .before .before .before .loop .at in
+    let at-take-turn = c .before .before .before .before .before .before .before .before in
+    let at-loop = at-take-turn .before .before .before .before .before .before .before in
+    let at-start = at-loop .before .before .before .before .before in
+    let t = at-start .args .text .now in
+    let a = at-loop .loop .at in
     let d = length-drop a t in
     let e = length-take-le (length t - a) (drop a t) (omega arith) in
-    (omega (arith, c .before .before .before .before .before .before .before .before .take-turn .ensures, c .before .before .before .before .before .before .before .before .before .before .before .before .before .before .before .loop .inv .0), search needs, search needs, search needs, search needs, c .before .before .before .before .before .before .before .before .before .before .before .before .before .before .before .loop .inv .5)
+    (omega (arith, at-take-turn .take-turn .ensures, at-loop .loop .inv .0), search needs, search needs, search needs, search needs, at-loop .loop .inv .5)
 
 same-length : tie.Need-same-length Inv-loop μ-loop
 same-length c = search needs

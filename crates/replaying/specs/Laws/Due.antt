@@ -8,10 +8,11 @@ use lib.ListN.{drop, getD, replicate, take, take-append-drop}
 use Rattle.phases.specs.Sizes.{portsIn}
 use Rattle.receiver.specs.Fetch.{dueIn, fetchOut, fetchRecord, fetchRows, fits, outIfDue, recordOf, reportIfDue, rowsIfDue}
 use Rattle.replaying.specs.declared.replay.Replay.{Replay}
-use Rattle.replaying.specs.Replay.{rowsOf, storeOf}
+use Rattle.replaying.specs.Replay.{storeOf}
 use Rattle.replaying.specs.Turn.{fetchOutBy, fetchRecordBy, fetchRowsBy, isDue}
 use Rattle.rows.specs.declared.group.Group.{Group}
 use Rattle.rows.specs.Group.{groupAt}
+use Rattle.rows.specs.Rows.{rowsFor}
 
 abbrev pub dueOf : Group → List (List ℕ) → Bool
 dueOf g s = dueIn g (portsIn g) s
@@ -40,17 +41,17 @@ module _ (s : List (List ℕ)) (store out : List ℕ) (d : dueAt s ≡ false) wh
   unfolding fetchOut outIfDue
   out-none = rw d (either-same (fits s store out (replicate 8 0)) out out refl)
 
-module _ (r : Replay) (rows : List (List ℕ)) (store out : List ℕ) (d : dueAt (take (rowsOf (r .ports)) rows) ≡ false) where
+module _ (r : Replay) (rows : List (List ℕ)) (store out : List ℕ) (d : dueAt (take (rowsFor (r .ports)) rows) ≡ false) where
   pub none-due : isDue r rows store out ≡ false
   unfolding fetchRecordBy
-  none-due = ap (ltb 0) (record-none (take (rowsOf (r .ports)) rows) (take (storeOf (r .ports) (r .size) (r .window)) store) out d)
+  none-due = ap (ltb 0) (record-none (take (rowsFor (r .ports)) rows) (take (storeOf (r .ports) (r .size) (r .window)) store) out d)
 
   pub none-rows : fetchRowsBy r rows store out ≡ rows
   unfolding fetchRowsBy
   none-rows =
-      ap (λ (x : List (List ℕ)). x ++ drop (rowsOf (r .ports)) rows) (rows-none (take (rowsOf (r .ports)) rows) (take (storeOf (r .ports) (r .size) (r .window)) store) out d)
-      ∙ take-append-drop (rowsOf (r .ports)) rows
+      ap (λ (x : List (List ℕ)). x ++ drop (rowsFor (r .ports)) rows) (rows-none (take (rowsFor (r .ports)) rows) (take (storeOf (r .ports) (r .size) (r .window)) store) out d)
+      ∙ take-append-drop (rowsFor (r .ports)) rows
 
   pub none-out : fetchOutBy r rows store out ≡ out
   unfolding fetchOutBy
-  none-out = out-none (take (rowsOf (r .ports)) rows) (take (storeOf (r .ports) (r .size) (r .window)) store) out d
+  none-out = out-none (take (rowsFor (r .ports)) rows) (take (storeOf (r .ports) (r .size) (r .window)) store) out d

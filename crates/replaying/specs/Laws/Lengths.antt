@@ -25,10 +25,12 @@ use Rattle.receiver.specs.Laws.Fresh.{length-started}
 use Rattle.receiver.specs.Laws.Lengths.{length-frames-into}
 use Rattle.receiver.specs.Laws.Told.{length-told}
 use Rattle.receiver.specs.Report.{framesInto, outputBy, outputOf, reportedOf, seenAll}
-use Rattle.receiver.specs.Starting.{emptyGroup, groupWith, sizedFits, sizedRows, startAsRows, startRight, startRows}
+use Rattle.receiver.specs.Starting.{emptyGroup, groupWith, sizedFits, sizedRows, startAsRows, startRight}
+use Rattle.recording.specs.declared.pairs.Settings.{Settings}
+use Rattle.replaying.specs.Turn.{holdOffs, restores, startedRows, storeIn}
 use Rattle.rows.specs.declared.group.Group.{Group}
 use Rattle.rows.specs.Group.{groupAt, putGroup}
-use Rattle.rows.specs.Laws.Lengths.{length-put-group}
+use Rattle.rows.specs.Laws.Port.{length-put-group}
 use Rattle.step.specs.declared.arrival.Taken.{Taken}
 use Rattle.store.specs.Laws.Stored.{length-stored}
 
@@ -98,12 +100,12 @@ module _ (s : List (List ℕ)) (store out report : List ℕ) where
   unfolding fetchRecord fits
   fetch-record-alike other e = rw e
 
-pub length-start-rows : (kind count P W store : ℕ) (s : List (List ℕ)) → length (startRows kind count P W store s) ≡ length s
-unfolding startAsRows sizedRows
-length-start-rows kind count P W store s =
-    either (startRight kind count P W [] []) _ _ (length s)
-    (either (sizedFits count P W store [] [] (length s)) _ s (length s) (length-started kind count [] [] s (groupWith kind count P W)) refl)
-    (length-put-group s (emptyGroup kind))
+pub length-started-rows : (g : Settings) (s : List (List ℕ)) → length (startedRows g s) ≡ length s
+unfolding startedRows startAsRows sizedRows
+length-started-rows g s =
+    either (startRight (g .kind) (g .ports) (g .size) (g .window) (holdOffs g) (restores g)) _ _ (length s)
+    (either (sizedFits (g .ports) (g .size) (g .window) (storeIn g) (holdOffs g) (restores g) (length s)) _ s (length s) (length-started (g .kind) (g .ports) (holdOffs g) (restores g) s (groupWith (g .kind) (g .ports) (g .size) (g .window))) refl)
+    (length-put-group s (emptyGroup (g .kind)))
 
 -- a part that keeps its length, before what is behind it
 pub length-part : {A : Type 0} (n : ℕ) (whole part : List A) → n ≤ length whole → length part ≡ length (take n whole) → length (part ++ drop n whole) ≡ length whole

@@ -7,14 +7,15 @@ use borrow.Author.Tests.{leb-true, le-leb}
 use Rattle.ground.specs.Truth.{and-left, and-right, and-true}
 use Rattle.replaying.specs.declared.replay.Replay.{Replay}
 use Rattle.replaying.specs.Output.{ROOM}
-use Rattle.replaying.specs.Replay.{outputOf, rowsOf, storeOf}
+use Rattle.replaying.specs.Replay.{outputOf, storeOf}
 use Rattle.replaying.specs.Turn.{isLent}
+use Rattle.rows.specs.Rows.{rowsFor}
 
 pub record Lent (r : Replay) (rows store out said : ℕ) : Type 0 where
   pub room : ROOM ≤ said
   pub few : r .ports ≤ 64
   pub short : r .size ≤ 2340
-  pub rows-there : rowsOf (r .ports) ≤ rows
+  pub rows-there : rowsFor (r .ports) ≤ rows
   pub store-there : storeOf (r .ports) (r .size) (r .window) ≤ store
   pub out-there : outputOf (r .ports) (r .size) ≤ out
 
@@ -29,7 +30,7 @@ module _ (r : Replay) (rows store out said : ℕ) where
   c = leb (r .size) 2340
 
   abbrev d : Bool
-  d = leb (rowsOf (r .ports)) rows
+  d = leb (rowsFor (r .ports)) rows
 
   abbrev e : Bool
   e = leb (storeOf (r .ports) (r .size) (r .window)) store
@@ -48,7 +49,7 @@ module _ (r : Replay) (rows store out said : ℕ) where
         room = leb-true ROOM said (and-left a b t2);
         few = leb-true (r .ports) 64 (and-right a b t2);
         short = leb-true (r .size) 2340 (and-right (a && b) c t3);
-        rows-there = leb-true (rowsOf (r .ports)) rows (and-right (a && b && c) d t4);
+        rows-there = leb-true (rowsFor (r .ports)) rows (and-right (a && b && c) d t4);
         store-there = leb-true (storeOf (r .ports) (r .size) (r .window)) store (and-right (a && b && c && d) e t5);
         out-there = leb-true (outputOf (r .ports) (r .size)) out (and-right (a && b && c && d && e) f t);
       }
@@ -56,4 +57,4 @@ module _ (r : Replay) (rows store out said : ℕ) where
   pub lent-is : Lent r rows store out said → isLent r rows store out said ≡ true
   unfolding isLent
   lent-is l =
-      and-true (a && b && c && d && e) f (and-true (a && b && c && d) e (and-true (a && b && c) d (and-true (a && b) c (and-true a b (le-leb ROOM said (l .room)) (le-leb (r .ports) 64 (l .few))) (le-leb (r .size) 2340 (l .short))) (le-leb (rowsOf (r .ports)) rows (l .rows-there))) (le-leb (storeOf (r .ports) (r .size) (r .window)) store (l .store-there))) (le-leb (outputOf (r .ports) (r .size)) out (l .out-there))
+      and-true (a && b && c && d && e) f (and-true (a && b && c && d) e (and-true (a && b && c) d (and-true (a && b) c (and-true a b (le-leb ROOM said (l .room)) (le-leb (r .ports) 64 (l .few))) (le-leb (r .size) 2340 (l .short))) (le-leb (rowsFor (r .ports)) rows (l .rows-there))) (le-leb (storeOf (r .ports) (r .size) (r .window)) store (l .store-there))) (le-leb (outputOf (r .ports) (r .size)) out (l .out-there))

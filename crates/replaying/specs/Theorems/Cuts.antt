@@ -10,17 +10,16 @@ use native.Mathlib.Omega.{arith}
 use lib.Dec.{eqb, leb, ltb}
 use lib.ListN.{drop, length, replicate, take, length-append, length-drop, length-replicate}
 use lib.Seq.{slice, drop-length, drop-nil, take-append-seam, take-take}
-use borrow.Author.Tests.{le-leb, leb-true, lt-leb, lt-ltb, ltb-false, ltb-true}
+use borrow.Author.Tests.{le-leb, lt-leb, lt-ltb, ltb-false, ltb-true}
 use Rattle.bytes.specs.Bytes.{indexOf}
-use Rattle.ground.specs.Truth.{and-left, and-right, and-true}
-use Rattle.packet.specs.Laws.Epochs.{h4-frames}
-use Rattle.phases.specs.Sizes.{sized}
+use Rattle.ground.specs.Truth.{and-true}
+use Rattle.packet.specs.Laws.Epochs.{nibbles-in}
 use Rattle.receiver.specs.Fetch.{fetchRows}
 use Rattle.receiver.specs.Frame.{frameRows, frameStore}
 use Rattle.receiver.specs.Laws.Sizes.{sizes-of}
-use Rattle.receiver.specs.Starting.{startRows}
-use Rattle.recording.specs.declared.opening.Opening.{Opening}
-use Rattle.recording.specs.declared.opening.Opening.the-variants as O
+use Rattle.recording.specs.Opening.{Opening}
+use Rattle.recording.specs.Opening.{Opening as O}
+use Rattle.recording.specs.declared.pairs.Settings.{Settings as GroupSettings}
 use Rattle.recording.specs.declared.record.Record.{Record}
 use Rattle.recording.specs.declared.record.Record.the-variants.{Frame, Malformed, Long, Unfinished, End}
 use Rattle.recording.specs.Line.{MOST, foundOf}
@@ -32,14 +31,16 @@ use Rattle.replaying.specs.declared.replay.Phase.{Phase}
 use Rattle.replaying.specs.declared.replay.Phase.the-variants.{Settings, Reading, Fetching, Skipping, Ended}
 use Rattle.replaying.specs.declared.replay.Replay.{Replay}
 use Rattle.replaying.specs.Laws.Lent.{Lent, lent-is}
-use Rattle.replaying.specs.Laws.Lengths.{fetch-record-alike, fetch-rows-alike, length-fetch-out, length-fetch-rows, length-frame-rows, length-frame-store, length-part, length-start-rows}
+use Rattle.replaying.specs.Laws.Lengths.{fetch-record-alike, fetch-rows-alike, length-fetch-out, length-fetch-rows, length-frame-rows, length-frame-store, length-part, length-started-rows}
+use Rattle.replaying.specs.Laws.Starts.{start-sized, start-stored}
 use Rattle.replaying.specs.Laws.Texts.{GoesOn, behind-append, behind-none, behindOf, firstOf, free-all, free-behind, goes-on, lines-first, lines-last, no-lines}
 use Rattle.replaying.specs.Output.{ROOM, answerText}
-use Rattle.replaying.specs.Replay.{beginning, nextLine, outputOf, rowsOf, storeOf}
+use Rattle.replaying.specs.Replay.{beginning, nextLine, outputOf, storeOf}
 use Rattle.replaying.specs.Runs.{Desk, Host, called, deskAfter, fetched, framed, lineIn, outputFrom, readBy, readText, reported, reports, saidTo, standing, wholeOutput}
 use Rattle.replaying.specs.Theorems.Lines.{bad-first-line, bad-settings}
 use Rattle.replaying.specs.Turn as T
 use Rattle.replaying.specs.Turn.{over, within}
+use Rattle.rows.specs.Rows.{rowsFor}
 use Rattle.text.specs.Text.{LINE-END, linesOf}
 
 -- a host between two lines
@@ -152,23 +153,23 @@ module _ (out : List ℕ) (line left ports size window : ℕ) (rows : List (List
 module _ (r : Replay) (rows : List (List ℕ)) (store lent out : List ℕ) (e : length lent ≡ length out) where
   record-alike : T.fetchRecordBy r rows store lent ≡ T.fetchRecordBy (within r Reading (r .line) 0) rows store out
   unfolding T.fetchRecordBy
-  record-alike = fetch-record-alike (take (rowsOf (r .ports)) rows) (take (storeOf (r .ports) (r .size) (r .window)) store) out _ lent e
+  record-alike = fetch-record-alike (take (rowsFor (r .ports)) rows) (take (storeOf (r .ports) (r .size) (r .window)) store) out _ lent e
 
   rows-alike : T.fetchRowsBy r rows store lent ≡ T.fetchRowsBy (within r Reading (r .line) 0) rows store out
   unfolding T.fetchRowsBy
-  rows-alike = ap (λ (x : List (List ℕ)). x ++ drop (rowsOf (r .ports)) rows) (fetch-rows-alike (take (rowsOf (r .ports)) rows) (take (storeOf (r .ports) (r .size) (r .window)) store) out _ lent e)
+  rows-alike = ap (λ (x : List (List ℕ)). x ++ drop (rowsFor (r .ports)) rows) (fetch-rows-alike (take (rowsFor (r .ports)) rows) (take (storeOf (r .ports) (r .size) (r .window)) store) out _ lent e)
 
   report-alike : T.reportOf r rows store lent ≡ T.reportOf (within r Reading (r .line) 0) rows store out
   unfolding T.reportOf
   report-alike = rw (record-alike, rows-alike)
 
-  length-rows : rowsOf (r .ports) ≤ length rows → length (T.fetchRowsBy r rows store lent) ≡ length rows
+  length-rows : rowsFor (r .ports) ≤ length rows → length (T.fetchRowsBy r rows store lent) ≡ length rows
   unfolding T.fetchRowsBy
-  length-rows h = length-part (rowsOf (r .ports)) rows (fetchRows (take (rowsOf (r .ports)) rows) (take (storeOf (r .ports) (r .size) (r .window)) store) lent (replicate 8 0)) h (length-fetch-rows (take (rowsOf (r .ports)) rows) (take (storeOf (r .ports) (r .size) (r .window)) store) lent (replicate 8 0))
+  length-rows h = length-part (rowsFor (r .ports)) rows (fetchRows (take (rowsFor (r .ports)) rows) (take (storeOf (r .ports) (r .size) (r .window)) store) lent (replicate 8 0)) h (length-fetch-rows (take (rowsFor (r .ports)) rows) (take (storeOf (r .ports) (r .size) (r .window)) store) lent (replicate 8 0))
 
   length-out : length (T.fetchOutBy r rows store lent) ≡ length lent
   unfolding T.fetchOutBy
-  length-out = length-fetch-out (take (rowsOf (r .ports)) rows) (take (storeOf (r .ports) (r .size) (r .window)) store) lent (replicate 8 0)
+  length-out = length-fetch-out (take (rowsFor (r .ports)) rows) (take (storeOf (r .ports) (r .size) (r .window)) store) lent (replicate 8 0)
 
 module _ (out : List ℕ) (line ports size window : ℕ) (rows : List (List ℕ)) (store lent buffer text said : List ℕ) where
   abbrev fetching : ℕ → Host
@@ -238,17 +239,17 @@ module _ (out : List ℕ) (line ports size window : ℕ) (rows : List (List ℕ)
 
 -- a frame keeps the lengths of rows and store
 module _ (r : Replay) (port h4 flag : ℕ) (payload : List ℕ) (rows : List (List ℕ)) (store : List ℕ) where
-  framed-rows : rowsOf (r .ports) ≤ length rows → length (T.framedRows r port h4 flag payload rows store) ≡ length rows
+  framed-rows : rowsFor (r .ports) ≤ length rows → length (T.framedRows r port h4 flag payload rows store) ≡ length rows
   unfolding T.framedRows
   framed-rows h =
-      length-part (rowsOf (r .ports)) rows (frameRows (take (rowsOf (r .ports)) rows) port (eqb flag 1) h4 payload (take (storeOf (r .ports) (r .size) (r .window)) store)) h
-      (length-frame-rows (take (rowsOf (r .ports)) rows) port (eqb flag 1) h4 payload (take (storeOf (r .ports) (r .size) (r .window)) store))
+      length-part (rowsFor (r .ports)) rows (frameRows (take (rowsFor (r .ports)) rows) port (eqb flag 1) h4 payload (take (storeOf (r .ports) (r .size) (r .window)) store)) h
+      (length-frame-rows (take (rowsFor (r .ports)) rows) port (eqb flag 1) h4 payload (take (storeOf (r .ports) (r .size) (r .window)) store))
 
   framed-store : storeOf (r .ports) (r .size) (r .window) ≤ length store → length (T.framedStore r port h4 flag payload rows store) ≡ length store
   unfolding T.framedStore
   framed-store h =
-      length-part (storeOf (r .ports) (r .size) (r .window)) store (frameStore (take (rowsOf (r .ports)) rows) port (eqb flag 1) h4 payload (take (storeOf (r .ports) (r .size) (r .window)) store)) h
-      (length-frame-store (take (rowsOf (r .ports)) rows) port (eqb flag 1) h4 payload (take (storeOf (r .ports) (r .size) (r .window)) store))
+      length-part (storeOf (r .ports) (r .size) (r .window)) store (frameStore (take (rowsFor (r .ports)) rows) port (eqb flag 1) h4 payload (take (storeOf (r .ports) (r .size) (r .window)) store)) h
+      (length-frame-store (take (rowsFor (r .ports)) rows) port (eqb flag 1) h4 payload (take (storeOf (r .ports) (r .size) (r .window)) store))
 
 -- a line is not open
 pub line-closed : {x : Record} → IsLine x → T.isOpen x ≡ false
@@ -468,32 +469,33 @@ module _ (out : List ℕ) (line left ports size window : ℕ) (rows : List (List
   -- the first line is whole
   module _ (last : Bool) (f : Fit out starting) (n : ℕ) (l : List ℕ) (now : openingIn 0 last text ≡ lineOpening n l)
       (lines : (more : List ℕ) → (last ≡ true → more ≡ []) → linesOf (text ++ more) ≡ l ∷ linesOf (drop n text ++ more)) where
-    settings-four : (p s w next : ℕ) → lineOpening n l ≡ O.Settings p s w next → T.startable p s w (length store) ≡ false → Keeps out last starting (called last starting)
+    settings-four : (s : GroupSettings) (next : ℕ) → lineOpening n l ≡ O.Settings s next → T.startable s (length store) ≡ false → Keeps out last starting (called last starting)
     unfolding called T.turnOf T.turnRows T.turnStore T.turnOut T.turnSaid T.openTurn T.openRows T.openSaid T.openWithTurn T.openWithRows T.openWithSaid T.answeredTurn T.answeredSaid
-    settings-four p s w next e b =
+    settings-four s next e b =
         let t = open-lent f in
-        let i : lineOpening 0 l ≡ O.Settings p s w 0 = line-opens 0 n l ∙ ap (opensTo 0) e in
+        let i : lineOpening 0 l ≡ O.Settings s 0 = line-opens 0 n l ∙ ap (opensTo 0) e in
         rw (t, now ∙ e, b)
         (record {
           fit = record { room = over-room (answerText 4 (nextLine line)) buffer (f .room); full = f .full; same = f .same; enough = f .enough; lent = tt };
-          whole = λ more g. written said (answerText 4 (nextLine line)) buffer [] ∙ rw (lines more g) (ap (λ (x : List ℕ). said ++ x) (sym (bad-settings out (deskOf starting) l (linesOf (drop n text ++ more)) refl p s w 0 i b)));
+          whole = λ more g. written said (answerText 4 (nextLine line)) buffer [] ∙ rw (lines more g) (ap (λ (x : List ℕ). said ++ x) (sym (bad-settings out (deskOf starting) l (linesOf (drop n text ++ more)) refl s 0 i b)));
         })
 
-    settings-set : (p s w next : ℕ) → lineOpening n l ≡ O.Settings p s w next → T.startable p s w (length store) ≡ true → Keeps out last starting (called last starting)
-    unfolding called T.turnOf T.turnRows T.turnStore T.turnOut T.turnSaid T.openTurn T.openRows T.openSaid T.openWithTurn T.openWithRows T.openWithSaid T.startable saidTo deskAfter
-    settings-set p s w next e b =
+    settings-set : (s : GroupSettings) (next : ℕ) → lineOpening n l ≡ O.Settings s next → T.startable s (length store) ≡ true → Keeps out last starting (called last starting)
+    unfolding called T.turnOf T.turnRows T.turnStore T.turnOut T.turnSaid T.openTurn T.openRows T.openSaid T.openWithTurn T.openWithRows T.openWithSaid saidTo deskAfter
+    settings-set s next e b =
         let t = open-lent f in
-        let q : O.Settings p s w next ≡ O.Settings p s w n = sym e ∙ (line-opens n n l ∙ ap (opensTo n) e) in
+        let q : O.Settings s next ≡ O.Settings s n = sym e ∙ (line-opens n n l ∙ ap (opensTo n) e) in
         let z : next ≡ n = cc in
-        let i : lineOpening 0 l ≡ O.Settings p s w 0 = line-opens 0 n l ∙ ap (opensTo 0) e in
-        let c = sizes-of 0 p s w (and-left (sized 0 p s w) (leb (storeOf p s w) (length store)) b) in
-        let d = leb-true (storeOf p s w) (length store) (and-right (sized 0 p s w) (leb (storeOf p s w) (length store)) b) in
-        let k = output-le p s w (rw h4-frames at (c .wide)) in
-        let m : rowsOf p ≤ length rows = (let x = c .few-ports in let y = f .full in omega arith) in
+        let i : lineOpening 0 l ≡ O.Settings s 0 = line-opens 0 n l ∙ ap (opensTo 0) e in
+        let p = s .ports in
+        let c = sizes-of (s .kind) p (s .size) (s .window) (start-sized s (length store) b) in
+        let d = start-stored s (length store) b in
+        let k = output-le p (s .size) (s .window) (let a = nibbles-in (s .kind) 15 (omega arith) in let b = c .wide in omega arith) in
+        let m : rowsFor p ≤ length rows = (let x = c .few-ports in let y = f .full in omega arith) in
         let zs = T.clearedRows rows in
         let lz : length zs ≡ length rows = length-replicate (length rows) _ in
-        let mz : rowsOf p ≤ length zs = rw lz m in
-        let lr = length-part (rowsOf p) zs (startRows 0 p s w (storeOf p s w) (take (rowsOf p) zs)) mz (length-start-rows 0 p s w (storeOf p s w) (take (rowsOf p) zs)) ∙ lz in
+        let mz : rowsFor p ≤ length zs = rw lz m in
+        let lr = length-part (rowsFor p) zs (T.startedRows s (take (rowsFor p) zs)) mz (length-started-rows s (take (rowsFor p) zs)) ∙ lz in
         let ls : length (T.clearedStore store) ≡ length store = length-replicate (length store) 0 in
         let o = f .same in
         let v = f .enough in
@@ -514,11 +516,11 @@ module _ (out : List ℕ) (line left ports size window : ℕ) (rows : List (List
     opened-keeps = go (lineOpening n l) refl
       where
         go : (x : Opening) → lineOpening n l ≡ x → Keeps out last starting (called last starting)
-        go (O.Settings p s w next) e = by (T.startable p s w (length store)) refl
+        go (O.Settings s next) e = by (T.startable s (length store)) refl
           where
-            by : (b : Bool) → T.startable p s w (length store) ≡ b → Keeps out last starting (called last starting)
-            by true b = settings-set p s w next e b
-            by false b = settings-four p s w next e b
+            by : (b : Bool) → T.startable s (length store) ≡ b → Keeps out last starting (called last starting)
+            by true b = settings-set s next e b
+            by false b = settings-four s next e b
         go O.Malformed e = first-refused last f (now ∙ e) (λ more g. record { line = l; rest = linesOf (drop n text ++ more); lines = lines more g; bad = line-opens 0 n l ∙ ap (opensTo 0) e })
         go O.Unfinished e = first-waits last f O.Unfinished (now ∙ e) (inl refl)
         go O.End e = first-waits last f O.End (now ∙ e) (inr refl)

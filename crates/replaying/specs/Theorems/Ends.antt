@@ -5,16 +5,14 @@ use mathlib.Core.List.{List, [], _∷_}
 use mathlib.Core.Logic.{_⊎_, inl, inr, ⊎-elim}
 use Prim.Native.Nat.{ℕ, zero, suc, _+_, _-_, _*_, _≤_, _<_}
 use native.Mathlib.Omega.{arith}
-use lib.Dec.{eqb, leb, ltb}
+use lib.Dec.{eqb, ltb}
 use lib.ListN.{drop, length, length-drop}
 use borrow.Author.Tests.{eqb-false, ltb-false, ltb-true}
 use Rattle.bytes.specs.Bytes.{indexOf}
-use Rattle.ground.specs.Truth.{and-left, or-right}
-use Rattle.packet.specs.Laws.Epochs.{half-fits}
-use Rattle.phases.specs.Sizes.{sized}
-use Rattle.receiver.specs.Laws.Sizes.{sizes-of}
-use Rattle.recording.specs.declared.opening.Opening.{Opening}
-use Rattle.recording.specs.declared.opening.Opening.the-variants as O
+use Rattle.ground.specs.Truth.{or-right}
+use Rattle.recording.specs.Opening.{Opening}
+use Rattle.recording.specs.Opening.{Opening as O}
+use Rattle.recording.specs.declared.pairs.Settings.{Settings as GroupSettings}
 use Rattle.recording.specs.declared.record.Record.{Record}
 use Rattle.recording.specs.declared.record.Record.the-variants.{Frame, Malformed, Long, Unfinished, End}
 use Rattle.recording.specs.Laws.Lines.{IsLine, goingTo, is-line, line-going}
@@ -26,7 +24,8 @@ use Rattle.replaying.specs.declared.replay.Phase.{Phase}
 use Rattle.replaying.specs.declared.replay.Phase.the-variants.{Settings, Reading, Fetching, Skipping, Ended}
 use Rattle.replaying.specs.declared.replay.Replay.{Replay}
 use Rattle.replaying.specs.declared.turns.Replayed.{Replayed}
-use Rattle.replaying.specs.Replay.{nextLine, storeOf}
+use Rattle.replaying.specs.Laws.Starts.{small, start-sized}
+use Rattle.replaying.specs.Replay.{nextLine}
 use Rattle.replaying.specs.Runs.{Host, answer, called}
 use Rattle.replaying.specs.Theorems.Cuts.{Deed, beginsWith, hasRead, line-closed, run}
 use Rattle.replaying.specs.Theorems.Cuts.Deed.{Call, Read}
@@ -103,13 +102,8 @@ shorter n k text h m e = let d = length-drop n text in omega arith
 as-long : (n : ℕ) (text : List ℕ) → length (drop n text) ≤ length text
 as-long n text = let d = length-drop n text in omega arith
 
-narrow-set : (p s v store : ℕ) → T.startable p s v store ≡ true → v ≤ 2048
-unfolding T.startable
-narrow-set p s v store t =
-    let z = sizes-of 0 p s v (and-left (sized 0 p s v) (leb (storeOf p s v) store) t) in
-    let h = half-fits 0 in
-    let n = z .narrow in
-    omega arith
+narrow-set : (g : GroupSettings) (store : ℕ) → T.startable g store ≡ true → g .window ≤ 2048
+narrow-set g store t = small g (start-sized g store t) .narrow
 
 module _ (r : Replay) (text : List ℕ) (w : r .window ≤ 2048) where
   -- the first line
@@ -117,13 +111,13 @@ module _ (r : Replay) (text : List ℕ) (w : r .window ≤ 2048) where
   unfolding T.openTurn T.openWithTurn T.answeredTurn
   open-goes last rows store said left = go (T.openLent rows said) (openingIn 0 last text)
     where
-      set : (p s v next : ℕ) (b : Bool) → T.startable p s v store ≡ b
-          → Goes (weight (length text) Settings left) text (cond b (T.turned (record { phase = Reading; line = nextLine (r .line); left = 0; ports = p; size = s; window = v }) next 0 false) (T.answeredTurn r Ended 4 0))
-      set p s v next true e = record { narrow = narrow-set p s v store e; on = inr (let d = as-long next text in omega arith) }
-      set p s v next false e = record { narrow = w; on = inr (omega arith) }
+      set : (g : GroupSettings) (next : ℕ) (b : Bool) → T.startable g store ≡ b
+          → Goes (weight (length text) Settings left) text (cond b (T.turned (record { phase = Reading; line = nextLine (r .line); left = 0; ports = g .ports; size = g .size; window = g .window }) next 0 false) (T.answeredTurn r Ended 4 0))
+      set g next true e = record { narrow = narrow-set g store e; on = inr (let d = as-long next text in omega arith) }
+      set g next false e = record { narrow = w; on = inr (omega arith) }
 
       go : (b : Bool) (x : Opening) → Goes (weight (length text) Settings left) text (cond b (T.openTurnBy r store x) (T.refusedTurn r))
-      go true (O.Settings p s v next) = set p s v next (T.startable p s v store) refl
+      go true (O.Settings g next) = set g next (T.startable g store) refl
       go true O.Malformed = record { narrow = w; on = inr (omega arith) }
       go true O.Unfinished = record { narrow = w; on = inl refl }
       go true O.End = record { narrow = w; on = inl refl }

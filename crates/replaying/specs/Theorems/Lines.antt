@@ -4,8 +4,9 @@ use mathlib.Core.Bool.{false}
 use mathlib.Core.List.{List, [], _∷_, _++_}
 use Prim.Native.Nat.{ℕ}
 use lib.ListN.{length}
-use Rattle.recording.specs.declared.opening.Opening.the-variants as O
+use Rattle.recording.specs.Opening.{Opening as O}
 use Rattle.recording.specs.declared.record.Record.the-variants.{Malformed}
+use Rattle.recording.specs.declared.pairs.Settings.{Settings as GroupSettings}
 use Rattle.recording.specs.Opening.{lineOpening}
 use Rattle.replaying.specs.declared.replay.Phase.the-variants.{Settings, Reading, Ended}
 use Rattle.replaying.specs.Output.{answerText}
@@ -34,8 +35,8 @@ unfolding saidTo deskAfter
 bad-first-line out d l ls e m = rw (e, m, ended-silent out (nextLine (d .replay .line)) 0 (d .replay .ports) (d .replay .size) (d .replay .window) (d .rows) (d .store) ls)
 
 -- 'Settings out of range, or a store above' what is lent 'are 4 and end it'
-pub bad-settings : (out : List ℕ) (d : Desk) (l : List ℕ) (ls : List (List ℕ)) → d .replay .phase ≡ Settings → (ports size window next : ℕ) → lineOpening 0 l ≡ O.Settings ports size window next
-    → startable ports size window (length (d .store)) ≡ false → outputFrom out d (l ∷ ls) ≡ answerText 4 (nextLine (d .replay .line)) ++ []
+pub bad-settings : (out : List ℕ) (d : Desk) (l : List ℕ) (ls : List (List ℕ)) → d .replay .phase ≡ Settings → (s : GroupSettings) (next : ℕ) → lineOpening 0 l ≡ O.Settings s next
+    → startable s (length (d .store)) ≡ false → outputFrom out d (l ∷ ls) ≡ answerText 4 (nextLine (d .replay .line)) ++ []
 unfolding saidTo deskAfter openWithTurn openWithRows answeredTurn
-bad-settings out d l ls e ports size window next m s =
-    rw (e, m, s, ended-silent out (nextLine (d .replay .line)) 0 (d .replay .ports) (d .replay .size) (d .replay .window) (d .rows) (d .store) ls)
+bad-settings out d l ls e s next m t =
+    rw (e, m, t, ended-silent out (nextLine (d .replay .line)) 0 (d .replay .ports) (d .replay .size) (d .replay .window) (d .rows) (d .store) ls)

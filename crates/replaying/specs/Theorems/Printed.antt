@@ -10,8 +10,8 @@ use lib.Dec.{eqb, ltb}
 use lib.ListN.{getD, length}
 use borrow.Author.Tests.{eq-eqb, le-ltb, lt-ltb, ne-eqb, not-true}
 use Rattle.ground.specs.Truth.{and-left, and-right, cond-by, eq-or-ne, le-or-lt}
-use Rattle.recording.specs.declared.opening.Opening.{Opening}
-use Rattle.recording.specs.declared.opening.Opening.the-variants as O
+use Rattle.recording.specs.Opening.{Opening}
+use Rattle.recording.specs.Opening.{Opening as O}
 use Rattle.recording.specs.declared.record.Record.{Record}
 use Rattle.recording.specs.declared.record.Record.the-variants.{Frame, Malformed, Long, Unfinished, End}
 use Rattle.recording.specs.Opening.{lineOpening}
@@ -45,7 +45,7 @@ module _ (out : List ℕ) where
   refusalOf d number = Refused number (nextLine (d .replay .line)) ∷ []
 
   abbrev pub openingEvents : Desk → Opening → List Event
-  openingEvents d (O.Settings ports size window next) = cond (startable ports size window (length (d .store))) [] (refusalOf d 4)
+  openingEvents d (O.Settings s next) = cond (startable s (length (d .store))) [] (refusalOf d 4)
   openingEvents d O.Malformed = refusalOf d 13
   openingEvents d O.Unfinished = []
   openingEvents d O.End = []
@@ -126,7 +126,7 @@ module _ (out : List ℕ) where
       go false e = refl
 
   opening-text : (d : Desk) (x : Opening) → openingText out d x ≡ allText (openingEvents out d x)
-  opening-text d (O.Settings ports size window next) = go (startable ports size window (length (d .store)))
+  opening-text d (O.Settings s next) = go (startable s (length (d .store)))
     where
       go : (b : Bool) → cond b [] (answerText 4 (nextLine (d .replay .line))) ≡ allText (cond b [] (refusalOf out d 4))
       go true = refl

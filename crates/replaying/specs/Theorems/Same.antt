@@ -4,8 +4,9 @@ use mathlib.Core.Bool.{Bool, true, false}
 use mathlib.Core.List.{List, [], _∷_}
 use Prim.Native.Nat.{ℕ}
 use lib.ListN.{length}
-use Rattle.recording.specs.declared.opening.Opening.{Opening}
-use Rattle.recording.specs.declared.opening.Opening.the-variants as O
+use Rattle.recording.specs.Opening.{Opening}
+use Rattle.recording.specs.Opening.{Opening as O}
+use Rattle.recording.specs.declared.pairs.Settings.{Settings as GroupSettings}
 use Rattle.recording.specs.Opening.{lineOpening}
 use Rattle.replaying.specs.Replay.{beginning}
 use Rattle.replaying.specs.Runs.{Desk, deskAfter, outputFrom, saidTo, wholeOutput}
@@ -18,21 +19,21 @@ fresh rows store = record { replay = beginning; rows = rows; store = store }
 
 module _ (out : List ℕ) (rows other : List (List ℕ)) (store that : List ℕ) (r : length rows ≡ length other) (s : length store ≡ length that) where
   -- a group that starts finds zeros
-  start-same : (l : List ℕ) (ls : List (List ℕ)) (p z w next : ℕ) → lineOpening 0 l ≡ O.Settings p z w next → startable p z w (length that) ≡ true
+  start-same : (l : List ℕ) (ls : List (List ℕ)) (g : GroupSettings) (next : ℕ) → lineOpening 0 l ≡ O.Settings g next → startable g (length that) ≡ true
       → outputFrom out (fresh rows store) (l ∷ ls) ≡ outputFrom out (fresh other that) (l ∷ ls)
   unfolding saidTo deskAfter openWithTurn openWithRows
-  start-same l ls p z w next e t = rw (e, s, r, t, s) refl
+  start-same l ls g next e t = rw (e, s, r, t, s) refl
 
   first-same : (l : List ℕ) (ls : List (List ℕ)) → outputFrom out (fresh rows store) ls ≡ outputFrom out (fresh other that) ls → (x : Opening) → lineOpening 0 l ≡ x
       → outputFrom out (fresh rows store) (l ∷ ls) ≡ outputFrom out (fresh other that) (l ∷ ls)
   unfolding saidTo deskAfter
-  first-same l ls same (O.Settings p z w next) e = go (startable p z w (length that)) refl
+  first-same l ls same (O.Settings g next) e = go (startable g (length that)) refl
     where
-      go : (b : Bool) → startable p z w (length that) ≡ b → outputFrom out (fresh rows store) (l ∷ ls) ≡ outputFrom out (fresh other that) (l ∷ ls)
-      go true t = start-same l ls p z w next e t
+      go : (b : Bool) → startable g (length that) ≡ b → outputFrom out (fresh rows store) (l ∷ ls) ≡ outputFrom out (fresh other that) (l ∷ ls)
+      go true t = start-same l ls g next e t
       go false t =
-          let u : startable p z w (length store) ≡ false = rw s t in
-          bad-settings out (fresh rows store) l ls refl p z w next e u ∙ sym (bad-settings out (fresh other that) l ls refl p z w next e t)
+          let u : startable g (length store) ≡ false = rw s t in
+          bad-settings out (fresh rows store) l ls refl g next e u ∙ sym (bad-settings out (fresh other that) l ls refl g next e t)
   first-same l ls same O.Malformed e = bad-first-line out (fresh rows store) l ls refl e ∙ sym (bad-first-line out (fresh other that) l ls refl e)
   first-same l ls same O.Unfinished e = rw e same
   first-same l ls same O.End e = rw e same

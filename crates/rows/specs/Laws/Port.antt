@@ -1,69 +1,107 @@
--- A port after something was put: only that part of it changes.
-use mathlib.Core.Path.{_≡_, refl}
+-- Ports, the group and the number of rows after something was put.
+use mathlib.Core.Path.{_≡_, refl, ap, _∙_}
 use mathlib.Core.Logic.{_≢_}
-use mathlib.Core.List.{List}
-use Prim.Native.Nat.{ℕ, _≤_, _<_}
-use lib.ListN.{length}
+use mathlib.Core.List.{List, [], _∷_}
+use Prim.Native.Nat.{ℕ, suc, _+_, _*_, _/_, _≤_, _<_}
+use native.Mathlib.Omega.{arith}
+use lib.ListN.{length, getD}
 use Rattle.rows.specs.declared.group.Group.{Group}
-use Rattle.rows.specs.declared.member.Member.{Member}
-use Rattle.rows.specs.declared.step.Step.{Step}
-use Rattle.rows.specs.Group.{putGroup}
-use Rattle.rows.specs.Laws.Marks.{marks-put-group, marks-put-same, marks-put-other, marks-put-step, marks-put-member, marks-put-packets}
-use Rattle.rows.specs.Laws.Member.{member-put-group, member-put-same, member-put-other, member-put-step, member-put-packets, member-put-marks}
-use Rattle.rows.specs.Laws.Packets.{packets-put-group, packets-put-rows, packets-put-other, packets-put-step, packets-put-member, packets-put-marks}
-use Rattle.rows.specs.Laws.Step.{step-put-group, step-put-same, step-put-other, step-put-member, step-put-packets, step-put-marks}
-use Rattle.rows.specs.Member.{memberAt, putMember}
-use Rattle.rows.specs.Packets.{putPackets, marksAt, putMarks}
-use Rattle.rows.specs.Port.{portAt, withStep, withMember, withPackets, withMarks}
-use Rattle.rows.specs.Rows.{rowsFor}
-use Rattle.rows.specs.Step.{stepAt, putStep}
-
-module _ (s : List (List ℕ)) where
-  pub port-step : (i : ℕ) → portAt s i .step ≡ stepAt s i
-  unfolding portAt
-  port-step i = refl
-
-  pub port-member : (i : ℕ) → portAt s i .member ≡ memberAt s i
-  unfolding portAt
-  port-member i = refl
-
-  pub port-marks : (i : ℕ) → portAt s i .marks ≡ marksAt s i
-  unfolding portAt
-  port-marks i = refl
-
-  pub port-put-group : (g : Group) (j : ℕ) → portAt (putGroup s g) j ≡ portAt s j
-  unfolding portAt
-  port-put-group g j = rw (step-put-group s g j, member-put-group s g j, packets-put-group s g j, marks-put-group s g j)
+use Rattle.rows.specs.Group.{groupAt, groupOf, groupRow, putGroup}
+use Rattle.rows.specs.Laws.Records.{group-back, step-back, member-back}
+use Rattle.rows.specs.Laws.Rows.{row-same, row-other, length-put-row}
+use Rattle.rows.specs.Member.{memberAt, memberOf, memberRow, putMember}
+use Rattle.rows.specs.Packets.{packetsAt, putPackets, marksAt, putMarks}
+use Rattle.rows.specs.Part.{Part, TheStep, TheMember, ThePackets, TheMarks, put, with, again}
+use Rattle.rows.specs.Port.{Port, portAt}
+use Rattle.rows.specs.Rows.{rowIn, putRow, rowsFor}
+use Rattle.rows.specs.Step.{stepAt, stepOf, stepRow, putStep}
 
 module _ (s : List (List ℕ)) (i : ℕ) where
-  pub port-put-step : (q : Step) (n : ℕ) → i < n → rowsFor n ≤ length s → portAt (putStep s i q) i ≡ withStep (portAt s i) q
+  pub port-step : portAt s i .step ≡ stepAt s i
   unfolding portAt
-  port-put-step q n b h = rw (step-put-same s i q n b h, member-put-step s i q i, packets-put-step s i q i, marks-put-step s i q i)
+  port-step = refl
 
-  pub port-put-step-other : (q : Step) (j : ℕ) → j ≢ i → portAt (putStep s i q) j ≡ portAt s j
+  pub port-member : portAt s i .member ≡ memberAt s i
   unfolding portAt
-  port-put-step-other q j d = rw (step-put-other s i q j d, member-put-step s i q j, packets-put-step s i q j, marks-put-step s i q j)
+  port-member = refl
 
-  pub port-put-member : (m : Member) (n : ℕ) → i < n → rowsFor n ≤ length s → portAt (putMember s i m) i ≡ withMember (portAt s i) m
+  pub port-marks : portAt s i .marks ≡ marksAt s i
   unfolding portAt
-  port-put-member m n b h = rw (step-put-member s i m i, member-put-same s i m n b h, packets-put-member s i m i, marks-put-member s i m i)
+  port-marks = refl
 
-  pub port-put-member-other : (m : Member) (j : ℕ) → j ≢ i → portAt (putMember s i m) j ≡ portAt s j
-  unfolding portAt
-  port-put-member-other m j d = rw (step-put-member s i m j, member-put-other s i m j d, packets-put-member s i m j, marks-put-member s i m j)
+-- ports are alike where their rows are
+same-port : (s t : List (List ℕ)) (i : ℕ) → ((r : ℕ) → 0 < r → r ≤ 5 → rowIn t (i * 5 + r) ≡ rowIn s (i * 5 + r)) → portAt t i ≡ portAt s i
+unfolding portAt stepAt memberAt packetsAt marksAt
+same-port s t i e = rw (e 1 (omega arith) (omega arith), e 2 (omega arith) (omega arith), e 3 (omega arith) (omega arith), e 4 (omega arith) (omega arith), e 5 (omega arith) (omega arith))
 
-  pub port-put-packets : (pair : List (List ℕ)) (n : ℕ) → i < n → rowsFor n ≤ length s → portAt (putPackets s i pair) i ≡ withPackets (portAt s i) pair
-  unfolding portAt
-  port-put-packets pair n b h = rw (step-put-packets s i pair i, member-put-packets s i pair i, packets-put-rows s i pair n b h, marks-put-packets s i pair i)
+-- The group's row.
+module _ (s : List (List ℕ)) (g : Group) where
+  pub length-put-group : length (putGroup s g) ≡ length s
+  unfolding putGroup
+  length-put-group = length-put-row s 0 (groupRow g)
 
-  pub port-put-packets-other : (pair : List (List ℕ)) (j : ℕ) → j ≢ i → portAt (putPackets s i pair) j ≡ portAt s j
-  unfolding portAt
-  port-put-packets-other pair j d = rw (step-put-packets s i pair j, member-put-packets s i pair j, packets-put-other s i pair j d, marks-put-packets s i pair j)
+  pub group-put-same : (n : ℕ) → rowsFor n ≤ length s → groupAt (putGroup s g) ≡ g
+  unfolding groupAt putGroup
+  group-put-same n h = ap groupOf (row-same s 0 (groupRow g) (omega arith)) ∙ group-back g
 
-  pub port-put-marks : (row : List ℕ) (n : ℕ) → i < n → rowsFor n ≤ length s → portAt (putMarks s i row) i ≡ withMarks (portAt s i) row
-  unfolding portAt
-  port-put-marks row n b h = rw (step-put-marks s i row i, member-put-marks s i row i, packets-put-marks s i row i, marks-put-same s i row n b h)
+  pub port-put-group : (j : ℕ) → portAt (putGroup s g) j ≡ portAt s j
+  unfolding putGroup
+  port-put-group j = same-port s (putRow s 0 (groupRow g)) j (λ r p h. row-other s 0 (groupRow g) (j * 5 + r) (omega arith))
 
-  pub port-put-marks-other : (row : List ℕ) (j : ℕ) → j ≢ i → portAt (putMarks s i row) j ≡ portAt s j
-  unfolding portAt
-  port-put-marks-other row j d = rw (step-put-marks s i row j, member-put-marks s i row j, packets-put-marks s i row j, marks-put-other s i row j d)
+-- A part of a port: whatever it is, this changes no other part of that port, no other port and not the group.
+module _ (s : List (List ℕ)) (i : ℕ) where
+  pub length-put : (x : Part) → length (put s i x) ≡ length s
+  unfolding putStep putMember putPackets putMarks
+  length-put (TheStep q) = length-put-row s (i * 5 + 1) (stepRow q)
+  length-put (TheMember m) = length-put-row s (i * 5 + 2) (memberRow m)
+  length-put (ThePackets pair) = length-put-row (putRow s (i * 5 + 3) (getD pair 0 [])) (i * 5 + 4) (getD pair 1 []) ∙ length-put-row s (i * 5 + 3) (getD pair 0 [])
+  length-put (TheMarks row) = length-put-row s (i * 5 + 5) row
+
+  -- the port's five rows are the k with (k + 4) / 5 = i + 1
+  outside : (x : Part) (k : ℕ) → (k + 4) / 5 ≢ suc i → rowIn (put s i x) k ≡ rowIn s k
+  unfolding putStep putMember putPackets putMarks
+  outside (TheStep q) k d = row-other s (i * 5 + 1) (stepRow q) k (omega arith)
+  outside (TheMember m) k d = row-other s (i * 5 + 2) (memberRow m) k (omega arith)
+  outside (ThePackets pair) k d =
+      row-other (putRow s (i * 5 + 3) (getD pair 0 [])) (i * 5 + 4) (getD pair 1 []) k (omega arith) ∙ row-other s (i * 5 + 3) (getD pair 0 []) k (omega arith)
+  outside (TheMarks row) k d = row-other s (i * 5 + 5) row k (omega arith)
+
+  pub group-put : (x : Part) → groupAt (put s i x) ≡ groupAt s
+  unfolding groupAt
+  group-put x = ap groupOf (outside x 0 (omega arith))
+
+  pub port-put-other : (x : Part) (j : ℕ) → j ≢ i → portAt (put s i x) j ≡ portAt s j
+  port-put-other x j d = same-port s (put s i x) j (λ r p h. outside x (j * 5 + r) (omega arith))
+
+  kept : (t : List (List ℕ)) (a : ℕ) (row : List ℕ) (r : ℕ) → r ≢ a → rowIn (putRow t (i * 5 + a) row) (i * 5 + r) ≡ rowIn t (i * 5 + r)
+  kept t a row r d = row-other t (i * 5 + a) row (i * 5 + r) (omega arith)
+
+  -- whether the rows are there or not
+  pub port-put-part : (x : Part) → portAt (put s i x) i ≡ with (portAt s i) (again (put s i x) i x)
+  unfolding portAt stepAt memberAt packetsAt marksAt putStep putMember putPackets putMarks
+  port-put-part (TheStep q) = rw (kept s 1 (stepRow q) 2 (omega arith), kept s 1 (stepRow q) 3 (omega arith), kept s 1 (stepRow q) 4 (omega arith), kept s 1 (stepRow q) 5 (omega arith))
+  port-put-part (TheMember m) = rw (kept s 2 (memberRow m) 1 (omega arith), kept s 2 (memberRow m) 3 (omega arith), kept s 2 (memberRow m) 4 (omega arith), kept s 2 (memberRow m) 5 (omega arith))
+  port-put-part (ThePackets pair) =
+      let a : List ℕ = getD pair 0 [] in
+      let b : List ℕ = getD pair 1 [] in
+      let low : List (List ℕ) = putRow s (i * 5 + 3) a in
+      let after : (r : ℕ) → r ≢ 3 → r ≢ 4 → rowIn (putRow low (i * 5 + 4) b) (i * 5 + r) ≡ rowIn s (i * 5 + r) = λ r d e. kept low 4 b r e ∙ kept s 3 a r d in
+      rw (after 1 (omega arith) (omega arith), after 2 (omega arith) (omega arith), after 5 (omega arith) (omega arith))
+  port-put-part (TheMarks row) = rw (kept s 5 row 1 (omega arith), kept s 5 row 2 (omega arith), kept s 5 row 3 (omega arith), kept s 5 row 4 (omega arith))
+
+  read-back : (x : Part) (n : ℕ) → i < n → rowsFor n ≤ length s → with (portAt s i) (again (put s i x) i x) ≡ with (portAt s i) x
+  unfolding stepAt memberAt packetsAt marksAt putStep putMember putPackets putMarks
+  read-back (TheStep q) n b h = rw (row-same s (i * 5 + 1) (stepRow q) (omega arith), step-back q)
+  read-back (TheMember m) n b h = rw (row-same s (i * 5 + 2) (memberRow m) (omega arith), member-back m)
+  read-back (ThePackets pair) n b h =
+      let low : List (List ℕ) = putRow s (i * 5 + 3) (getD pair 0 []) in
+      let e : length low ≡ length s = length-put-row s (i * 5 + 3) (getD pair 0 []) in
+      rw (
+        kept low 4 (getD pair 1 []) 3 (omega arith) ∙ row-same s (i * 5 + 3) (getD pair 0 []) (omega arith),
+        row-same low (i * 5 + 4) (getD pair 1 []) (omega arith),
+      )
+  read-back (TheMarks row) n b h = rw (row-same s (i * 5 + 5) row (omega arith))
+
+  -- and that part is what was put, if they are there
+  pub port-put : (x : Part) (n : ℕ) → i < n → rowsFor n ≤ length s → portAt (put s i x) i ≡ with (portAt s i) x
+  port-put x n b h = port-put-part x ∙ read-back x n b h

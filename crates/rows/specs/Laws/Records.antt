@@ -1,9 +1,9 @@
 -- A record's row reads as that record.
-use mathlib.Core.Path.{_≡_, refl, sym}
+use mathlib.Core.Path.{_≡_, refl, sym, ap}
 use mathlib.Core.List.{List}
 use Prim.Native.Nat.{ℕ, _+_, _*_, _/_, _%_, _<_}
 use native.Mathlib.Omega.{arith}
-use lib.ListN.{length, getD}
+use lib.ListN.{length, drop, getD}
 use Rattle.ground.specs.Table.{tabulate, tabulate-is}
 use Rattle.rows.specs.declared.group.Group.{Group}
 use Rattle.rows.specs.declared.member.Member.{Member}
@@ -33,10 +33,14 @@ pub member-back : (m : Member) → memberOf (memberRow m) ≡ m
 unfolding memberOf memberRow
 member-back m = simp halves
 
+pub listed : (n : ℕ) (l : List ℕ) → length l ≡ n → tabulate n (λ k. getD l k 0) ≡ l
+listed n l e = sym (tabulate-is l n (λ k. getD l k 0) 0 e (λ k h. refl))
+
 -- And a row of sixteen bytes is the row of the record that it reads as.
 module _ (row : List ℕ) (whole : length row ≡ 16) where
-  listed : tabulate 16 (λ k. getD row k 0) ≡ row
-  listed = sym (tabulate-is row 16 (λ k. getD row k 0) 0 whole (λ k h. refl))
+  -- its bytes from one on
+  pub rest : (n : ℕ) → drop n (tabulate 16 (λ k. getD row k 0)) ≡ drop n row
+  rest n = ap (drop n) (listed 16 row whole)
 
   module _ (bytes : (j : ℕ) → j < 16 → getD row j 0 < 256) where
     pub group-row-back : groupRow (groupOf row) ≡ row
@@ -49,13 +53,14 @@ module _ (row : List ℕ) (whole : length row ≡ 16) where
           low (getD row 4 0) (getD row 5 0) (bytes 5 (omega arith)),
           high (getD row 9 0) (getD row 10 0) (bytes 10 (omega arith)),
           low (getD row 9 0) (getD row 10 0) (bytes 10 (omega arith)),
+          ← rest 12,
         )
-        listed
+        (listed 16 row whole)
 
     pub step-row-back : stepRow (stepOf row) ≡ row
     unfolding stepOf stepRow
     step-row-back =
-        rw (high (getD row 3 0) (getD row 4 0) (bytes 4 (omega arith)), low (getD row 3 0) (getD row 4 0) (bytes 4 (omega arith))) listed
+        rw (high (getD row 3 0) (getD row 4 0) (bytes 4 (omega arith)), low (getD row 3 0) (getD row 4 0) (bytes 4 (omega arith)), ← rest 11) (listed 16 row whole)
 
     pub member-row-back : memberRow (memberOf row) ≡ row
     unfolding memberOf memberRow
@@ -67,5 +72,6 @@ module _ (row : List ℕ) (whole : length row ≡ 16) where
           low (getD row 8 0) (getD row 9 0) (bytes 9 (omega arith)),
           high (getD row 10 0) (getD row 11 0) (bytes 11 (omega arith)),
           low (getD row 10 0) (getD row 11 0) (bytes 11 (omega arith)),
+          ← rest 12,
         )
-        listed
+        (listed 16 row whole)

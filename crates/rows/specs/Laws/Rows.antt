@@ -35,6 +35,6 @@ pub row-other : (s : List (List ℕ)) (k : ℕ) (row : List ℕ) (m : ℕ) → m
 unfolding rowIn putRow
 row-other s k row m d = getD-set-other s k m row (replicate 16 0) d
 
-pub length-put : (s : List (List ℕ)) (k : ℕ) (row : List ℕ) → length (putRow s k row) ≡ length s
+pub length-put-row : (s : List (List ℕ)) (k : ℕ) (row : List ℕ) → length (putRow s k row) ≡ length s
 unfolding putRow
-length-put s k row = length-set s k row
+length-put-row s k row = length-set s k row

@@ -1,4 +1,4 @@
-use Prim.Native.Nat.{ℕ, _≤_, _-_}
+use Prim.Native.Nat.{_≤_, _-_}
 use native.Mathlib.Omega.{arith}
 use lib.ListN.{length}
 use borrow.Author.Needs.{needs}
@@ -28,13 +28,28 @@ feed-some-requires : tie.Need-feed-some-requires Inv-loop μ-loop
 feed-some-requires c κs = search needs
 
 add-at : tie.Need-add-at Inv-loop μ-loop
-add-at c = let p = fed-on (c .before .before .before .before .before .before .before .before .args .input .now) (c .before .before .before .before .before .before .loop .at) (c .before .before .before .feed-some .result .used) (c .before .before .before .before .before .loop-test .taken) (c .before .before .before .feed-some .ensures) in omega arith
+add-at c =
+    let at-feed-some = c .before .before .before in
+    let at-loop-test = at-feed-some .before .before in
+    let at-loop = at-loop-test .before in
+    let at-start = at-loop .before .before in
+    let p = fed-on (at-start .args .input .now) (at-loop .loop .at) (at-feed-some .feed-some .result .used) (at-loop-test .loop-test .taken) (at-feed-some .feed-some .ensures) in omega arith
 
 loop-less : tie.Need-loop-less Inv-loop μ-loop
-loop-less c = let p = fed-on (c .before .before .before .before .before .before .before .before .args .input .now) (c .before .before .before .before .before .before .loop .at) (c .before .before .before .feed-some .result .used) (c .before .before .before .before .before .loop-test .taken) (c .before .before .before .feed-some .ensures) in omega arith
+loop-less c =
+    let at-feed-some = c .before .before .before in
+    let at-loop-test = at-feed-some .before .before in
+    let at-loop = at-loop-test .before in
+    let at-start = at-loop .before .before in
+    let p = fed-on (at-start .args .input .now) (at-loop .loop .at) (at-feed-some .feed-some .result .used) (at-loop-test .loop-test .taken) (at-feed-some .feed-some .ensures) in omega arith
 
 loop-again : tie.Need-loop-again Inv-loop μ-loop
-loop-again c = let p = fed-on (c .before .before .before .before .before .before .before .before .args .input .now) (c .before .before .before .before .before .before .loop .at) (c .before .before .before .feed-some .result .used) (c .before .before .before .before .before .loop-test .taken) (c .before .before .before .feed-some .ensures) in omega arith
+loop-again c =
+    let at-feed-some = c .before .before .before in
+    let at-loop-test = at-feed-some .before .before in
+    let at-loop = at-loop-test .before in
+    let at-start = at-loop .before .before in
+    let p = fed-on (at-start .args .input .now) (at-loop .loop .at) (at-feed-some .feed-some .result .used) (at-loop-test .loop-test .taken) (at-feed-some .feed-some .ensures) in omega arith
 
 returns : tie.Need-returns Inv-loop μ-loop
 returns c = search needs

@@ -4,7 +4,7 @@ use mathlib.Core.Logic.{⊎-elim, _≢_}
 use mathlib.Core.List.{List}
 use Prim.Native.Nat.{ℕ, zero, suc, _<_}
 use native.Mathlib.Omega.{arith}
-use lib.ListN.{length, length-set, set}
+use lib.ListN.{length, length-set}
 use lib.Seq.{getD-set-other, getD-set-same}
 use Rattle.ground.specs.Truth.{eq-or-ne}
 use Rattle.sender.specs.declared.board.Row.{Row}

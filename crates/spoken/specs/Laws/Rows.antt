@@ -1,11 +1,10 @@
 -- Rows compared by a test.
-use mathlib.Core.Path.{_≡_, refl, sym, _∙_, ap}
-use mathlib.Core.Bool.{Bool, true, false, not, _&&_}
+use mathlib.Core.Path.{_≡_, _∙_, ap}
+use mathlib.Core.Bool.{true}
 use Prim.Native.Nat.{ℕ}
 use lib.Dec.{eqb}
-use borrow.Author.Tests.{eq-eqb, eqb-true, not-true, not-false}
-use Rattle.ground.specs.Truth.{and-true, and-left, and-right, clash}
-use Rattle.packet.specs.declared.words.Word.{Word}
+use borrow.Author.Tests.{eq-eqb, eqb-true}
+use Rattle.ground.specs.Truth.{and-true, and-left, and-right}
 use Rattle.sender.specs.declared.board.Row.{Row}
 use Rattle.spoken.specs.Changes.{sameRow}
 

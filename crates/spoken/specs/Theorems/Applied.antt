@@ -1,18 +1,18 @@
 -- 'Applying the changes to the old board gives the new one.'
 use mathlib.Core.Path.{_≡_, refl, sym, _∙_, ap}
 use mathlib.Core.Logic.{⊎-elim, _≢_}
-use mathlib.Core.Bool.{Bool, true, false, cond, not, _&&_}
+use mathlib.Core.Bool.{Bool, true, false, cond}
 use mathlib.Core.List.{List}
 use Prim.Native.Nat.{ℕ, _≤_, _<_}
 use native.Mathlib.Omega.{arith}
-use lib.Dec.{eqb, leb, ltb}
+use lib.Dec.{eqb}
 use lib.ListN.{length, length-replicate, replicate}
 use lib.Seq.{ext-getD}
-use borrow.Author.Tests.{eq-eqb, eqb-true, le-leb, lt-ltb, ltb-true, not-true, not-false}
-use Rattle.ground.specs.Truth.{and-true, and-left, and-right, clash, le-or-lt}
+use borrow.Author.Tests.{eq-eqb, eqb-true, le-leb, lt-ltb, not-false}
+use Rattle.ground.specs.Truth.{and-true, clash, le-or-lt}
 use Rattle.counting.specs.Each.{getD-rest, length-each}
 use Rattle.counting.specs.Laws.Numbers.{count-none}
-use Rattle.counting.specs.Laws.Tests.{One, every-all, none-at, some-one}
+use Rattle.counting.specs.Laws.Tests.{every-all, none-at, some-one}
 use Rattle.counting.specs.Words.{count, some}
 use Rattle.sender.specs.Board.{boardOf, noRow, rowOf, rowsOf}
 use Rattle.sender.specs.declared.board.Board.{Board}
@@ -21,13 +21,11 @@ use Rattle.sender.specs.declared.table.Table.{Table}
 use Rattle.sender.specs.Laws.Sizes.{size-le}
 use Rattle.sender.specs.Ranks.{rowAt}
 use Rattle.sender.specs.Table.{sizeOf}
-use Rattle.spoken.specs.declared.applying.Applied.{Applied}
 use Rattle.spoken.specs.declared.comparing.Compared.{Compared}
 use Rattle.spoken.specs.declared.lists.Answer.the-variants.{Done, Counts}
 use Rattle.spoken.specs.declared.lists.Change.{Change}
-use Rattle.spoken.specs.declared.lists.Changes.{Changes}
-use Rattle.spoken.specs.Applying.{appliedOf, changeIn, changesFit, fits, fitsBy, laidTo, risesAt, waitAfter, waitFits, withChanges}
-use Rattle.spoken.specs.Changes.{changeAt, changed, changesIn, changesOf, comparable, comparedOf, listOf, noChange, noChanges, sameRow, spokenTo, waitChange}
+use Rattle.spoken.specs.Applying.{appliedOf, changeIn, changesFit, fits, fitsBy, laidTo, withChanges}
+use Rattle.spoken.specs.Changes.{changed, changesIn, changesOf, comparable, comparedOf, listOf, noChange, noChanges, sameRow, spokenTo}
 use Rattle.spoken.specs.Laws.Laying.{laid-at, laid-other, length-laid}
 use Rattle.spoken.specs.Laws.Rising.{slotIn}
 use Rattle.spoken.specs.Laws.Rows.{row-same, same-row}

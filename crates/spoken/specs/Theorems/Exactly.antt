@@ -1,6 +1,6 @@
 -- 'Each changed slot is spoken once, EOS to NORM too, no other', 'in slot order, then the wait if it differs.'
 use mathlib.Core.Path.{_≡_, refl, sym, _∙_, ap}
-use mathlib.Core.Bool.{Bool, true, false, cond, _&&_, Bool·beq, true≢false, false≢true}
+use mathlib.Core.Bool.{Bool, true, false, cond, true≢false, false≢true}
 use mathlib.Core.List.{List}
 use Prim.Native.Nat.{ℕ, suc, _≤_, _<_}
 use native.Mathlib.Omega.{arith}
@@ -12,7 +12,6 @@ use Rattle.counting.specs.Laws.Numbers.{count-ext}
 use Rattle.counting.specs.Words.{count}
 use Rattle.sender.specs.declared.board.Board.{Board}
 use Rattle.sender.specs.declared.board.Row.{Row}
-use Rattle.spoken.specs.declared.comparing.Compared.{Compared}
 use Rattle.spoken.specs.declared.lists.Answer.the-variants.{Done, Counts}
 use Rattle.spoken.specs.declared.lists.Change.{Change}
 use Rattle.spoken.specs.declared.lists.Changes.{Changes}
@@ -23,7 +22,7 @@ use Rattle.spoken.specs.Changes.{changed, changesIn, changesOf, comparab
 use Rattle.spoken.specs.Fitting.{spoken}
 use Rattle.spoken.specs.Laws.Rising.{Rising, rising-lt, rising-next, slotIn}
 use Rattle.spoken.specs.Laws.Waits.{opened-closed, same-closed, same-opened}
-use Rattle.spoken.specs.Laws.Spoken.{Told, list-at, spoken-le, spoken-ordered, spoken-times, spoken-told}
+use Rattle.spoken.specs.Laws.Spoken.{Told, list-at, spoken-ordered, spoken-times, spoken-told}
 
 -- the wait is in the changes if it differs, and if it is in them it differs
 pub record WaitTold (old new : Bool) (w : WaitChange) : Type 0 where

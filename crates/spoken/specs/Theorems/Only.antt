@@ -1,28 +1,25 @@
 -- No other list of changes fits the old board and gives the new one; and applying refuses what does not fit, and nothing else.
 use mathlib.Core.Path.{_≡_, refl, sym, _∙_, ap}
 use mathlib.Core.Logic.{⊎-elim, _≢_}
-use mathlib.Core.Bool.{Bool, true, false, cond, not, _&&_, true≢false, false≢true}
-use mathlib.Core.List.{List, [], _∷_, _++_}
+use mathlib.Core.Bool.{Bool, true, false, cond, not, _&&_, false≢true}
+use mathlib.Core.List.{List}
 use Prim.Native.Nat.{ℕ, zero, suc, _≤_, _<_}
 use native.Mathlib.Omega.{arith}
 use lib.Dec.{eqb, leb, ltb}
 use lib.ListN.{length, take}
 use lib.Seq.{length-take-le, take-suc}
-use borrow.Author.Tests.{eq-eqb, eqb-true, le-leb, leb-true, lt-ltb, ltb-true, not-true, not-false}
+use borrow.Author.Tests.{eq-eqb, eqb-true, le-leb, leb-true, lt-ltb, ltb-true, not-true}
 use Rattle.ground.specs.Truth.{and-left, and-right, clash, eq-or-ne, fails, or-cases}
-use Rattle.counting.specs.Laws.Tests.{One, every-all, every-at, none-at, some-one}
+use Rattle.counting.specs.Laws.Tests.{every-all, every-at, none-at, some-one}
 use Rattle.counting.specs.Words.{some}
 use Rattle.sender.specs.declared.board.Board.{Board}
 use Rattle.sender.specs.declared.board.Row.{Row}
 use Rattle.sender.specs.Ranks.{rowAt}
 use Rattle.spoken.specs.declared.applying.Applied.{Applied}
-use Rattle.spoken.specs.declared.lists.Answer.{Answer}
 use Rattle.spoken.specs.declared.lists.Answer.the-variants.{Done, Unfit}
 use Rattle.spoken.specs.declared.lists.Change.{Change}
 use Rattle.spoken.specs.declared.lists.Changes.{Changes}
-use Rattle.spoken.specs.declared.lists.WaitChange.{WaitChange}
-use Rattle.spoken.specs.declared.lists.WaitChange.the-variants.{Same, Opened, Closed}
-use Rattle.spoken.specs.Applying.{appliedOf, changeIn, changesFit, fits, fitsBy, laidTo, risesAt, waitAfter, waitFits, withChanges}
+use Rattle.spoken.specs.Applying.{appliedOf, changeIn, changesFit, fits, fitsBy, risesAt, waitFits, withChanges}
 use Rattle.spoken.specs.Changes.{answerNumber, changeAt, changed, changesIn, changesOf, comparable, comparedOf, noChange, sameRow, spokenTo, waitChange}
 use Rattle.spoken.specs.Fitting.{Fits, spoken}
 use Rattle.spoken.specs.Laws.Laying.{laid-at, laid-other}
@@ -31,7 +28,6 @@ use Rattle.spoken.specs.Laws.Rows.{row-same, same-row}
 use Rattle.spoken.specs.Laws.Spoken.{Told, spoken-changed, spoken-same, take-list}
 use Rattle.spoken.specs.Laws.Waits.{wait-fits, wait-only, wait-said}
 use Rattle.spoken.specs.Theorems.Applied.{Agrees}
-use Rattle.spoken.specs.Theorems.Exactly.{comparable-said}
 
 -- What one change says that fits.
 pub record FitsOne (c : Change) (row : Row) (count : ℕ) (rises : Bool) : Type 0 where

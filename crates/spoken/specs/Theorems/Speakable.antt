@@ -1,10 +1,10 @@
 -- The changes that can be spoken are those that fit some board and whose words a board shows.
 use mathlib.Core.Path.{_≡_, refl, sym, _∙_, ap}
-use mathlib.Core.Bool.{Bool, true, false, cond, not, _&&_, _||_, false≢true}
+use mathlib.Core.Bool.{Bool, true, false, cond, not, _&&_, false≢true}
 use mathlib.Core.List.{List}
 use Prim.Native.Nat.{ℕ, _≤_, _<_}
 use native.Mathlib.Omega.{arith}
-use lib.Dec.{eqb, leb, ltb}
+use lib.Dec.{leb, ltb}
 use lib.ListN.{length, length-replicate, replicate}
 use borrow.Author.Tests.{le-leb, leb-true, lt-ltb, ltb-true, not-true}
 use Rattle.ground.specs.Table.{tabulate, getD-tabulate}
@@ -23,7 +23,7 @@ use Rattle.spoken.specs.Fitting.{Fits, spoken}
 use Rattle.spoken.specs.Laws.Laying.{laid-at}
 use Rattle.spoken.specs.Laws.Rising.{Rising, rising-by, rising-lt, slotIn}
 use Rattle.spoken.specs.Laws.Rows.{row-same, same-row}
-use Rattle.spoken.specs.Laws.Waits.{opened-closed, same-closed, same-opened}
+use Rattle.spoken.specs.Laws.Waits.{opened-closed, same-closed}
 use Rattle.spoken.specs.Speaking.{canSpeak, changesSpeak, isShown, speaksBy}
 
 pub record Speaks (cs : Changes) : Type 0 where

@@ -7,6 +7,7 @@ use native.Mathlib.Omega.{arith}
 use lib.ListN.{length, getD}
 use Rattle.ground.specs.Table.{tabulate, tabulate-ext}
 use Rattle.packet.specs.Counts.{nibbleIn}
+use Rattle.packet.specs.Kinds.{frames}
 use Rattle.rows.specs.declared.group.Group.{Group}
 use Rattle.store.specs.Frames.{byteAt, h4At, packetIn, placeIn, storedAt}
 use Rattle.store.specs.Laws.Places.{place-apart, place-moved, place-same, place-within}
@@ -62,8 +63,8 @@ stands-moved g g′ L i d payload h s p w o f =
     record { bytes = λ k m. rw e (f .bytes k (rw p at m)); last = rw (e, p) (f .last) }
 
 -- the packet of an epoch whose frames all stand
-pub packet-stands : (g : Group) (i : ℕ) (payload : ℕ → List ℕ) (h : ℕ → ℕ) (s : List ℕ) → ((k : ℕ) → k < 16 → Stands g i k (payload k) (h k) s)
-    → packetIn g i s ≡ tabulate 16 (λ k. nibbleIn (g .kind) (h k))
+pub packet-stands : (g : Group) (i : ℕ) (payload : ℕ → List ℕ) (h : ℕ → ℕ) (s : List ℕ) → ((k : ℕ) → k < frames (g .kind) → Stands g i k (payload k) (h k) s)
+    → packetIn g i s ≡ tabulate (frames (g .kind)) (λ k. nibbleIn (g .kind) (h k))
 unfolding packetIn
 packet-stands g i payload h s f =
-    tabulate-ext 16 (λ k. nibbleIn (g .kind) (h4At g i k s)) (λ k. nibbleIn (g .kind) (h k)) (λ k b. rw (stands-h4 g i k (payload k) (h k) s (f k b)))
+    tabulate-ext (frames (g .kind)) (λ k. nibbleIn (g .kind) (h4At g i k s)) (λ k. nibbleIn (g .kind) (h k)) (λ k b. rw (stands-h4 g i k (payload k) (h k) s (f k b)))

@@ -1,24 +1,16 @@
 -- What a number is as text, held against its value and against the text of a byte.
-use mathlib.Core.Path.{_≡_, refl, sym, ap, _∙_}
-use mathlib.Core.Bool.{Bool, true, false, cond, _&&_, false≢true}
+use mathlib.Core.Path.{_≡_, refl, _∙_}
+use mathlib.Core.Bool.{Bool, true, false, cond}
 use mathlib.Core.List.{List, [], _∷_, _++_}
-use mathlib.Core.Path.{ap₂}
-use Prim.Native.Nat.{ℕ, zero, suc, _+_, _*_, _/_, _%_, _^_, _<_, _≤_}
-use native.Mathlib.Nat.{pow-suc, div-lt-iff-lt-mul}
+use Prim.Native.Nat.{ℕ, zero, suc, _+_, _*_, _/_, _%_, _^_, _<_}
+use native.Mathlib.Nat.{pow-suc}
 use native.Mathlib.Omega.{arith}
 use lib.Dec.{eqb, ltb}
-use borrow.Author.Tests.{eqb-true, ltb-false, ltb-true}
+use borrow.Author.Tests.{eqb-true, ltb-false}
 use Rattle.ground.specs.Finite.{below, below-at}
-use Rattle.ground.specs.Truth.{and-left, and-right}
-use Rattle.text.specs.Fields.{areDigits, digitOf, sameBytes, valueOf}
+pub use Rattle.ground.specs.Finite.{same-bytes}
+use Rattle.text.specs.Fields.{digitOf, sameBytes, valueOf}
 use Rattle.text.specs.Output.{decimalText, digitsBefore, numberText}
-
-pub same-bytes : (l m : List ℕ) → sameBytes l m ≡ true → l ≡ m
-same-bytes [] [] t = refl
-same-bytes [] (n ∷ m) t = absurd (false≢true t)
-same-bytes (k ∷ l) [] t = absurd (false≢true t)
-same-bytes (k ∷ l) (n ∷ m) t =
-    ap₂ _∷_ (eqb-true k n (and-left (eqb k n) (sameBytes l m) t)) (same-bytes l m (and-right (eqb k n) (sameBytes l m) t))
 
 -- what stands behind the digits
 pub before-append : (most n : ℕ) (x y : List ℕ) → digitsBefore most n (x ++ y) ≡ digitsBefore most n x ++ y

@@ -26,7 +26,13 @@ same-length : tie.Need-same-length
 same-length c = search needs
 
 returns-3 : tie.Need-returns-3
-returns-3 c = shown-done 130 _ _ _ _ (c .before .before .before .before .before .before .before .before .if1 .left) (c .before .before .before .before .before .before .before .if2 .left) (c .before .before .put-board .ensures ∙ ap boardBytesOf (c .before .before .before .before .board-of .ensures ∙ ap (λ (s : Sender). boardOf (s .table)) (c .before .before .before .before .before .before .sender-of .ensures)))
+returns-3 c =
+    let at-put-board = c .before .before in
+    let at-board-of = at-put-board .before .before in
+    let at-sender-of = at-board-of .before .before in
+    let at-if2 = at-sender-of .before in
+    let at-if1 = at-if2 .before in
+    shown-done 130 _ _ _ _ (at-if1 .if1 .left) (at-if2 .if2 .left) (at-put-board .put-board .ensures ∙ ap boardBytesOf (at-board-of .board-of .ensures ∙ ap (λ (s : Sender). boardOf (s .table)) (at-sender-of .sender-of .ensures)))
 
 pub levelspruce-sender-board-spec : {M : Type 1} → statement M
 levelspruce-sender-board-spec =

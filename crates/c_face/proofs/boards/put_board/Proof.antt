@@ -1,11 +1,13 @@
+-- `put_board` meets its contract: the count, at most 64, and the wait, then each slot's word and number.
+-- Two pieces fill the whole buffer (`board-whole`).
 use borrow.Author.Needs.{needs}
 use Rattle.c_face.proofs.Showing.{board-whole}
 use Rattle.c_face.proofs.boards.put_board.Statement.{statement}
 use denote.Ref.{now}
 use Rattle.c_face.proofs.boards.put_board.Tie as tie
 
-flag-byte-requires : tie.Need-flag-byte-requires
-flag-byte-requires c κs = search needs
+one-if-requires : tie.Need-one-if-requires
+one-if-requires c κs = search needs
 
 shown-count-requires : tie.Need-shown-count-requires
 shown-count-requires c κs = search needs
@@ -24,14 +26,19 @@ same-length c = search needs
 
 returns : tie.Need-returns
 returns c =
-    board-whole (c .before .before .before .before .before .before .before .before .before .before .before .before .before .args .board) _ _ (now (c .before .before .before .before .before .before .before .before .before .before .before .before .before .args .out)) _ _ (c .before .before .before .before .before .before .before .before .before .before .before .before .before .pre) (c .before .before .before .before .before .before .before .before .before .before .shown-count .ensures)
-    (c .before .before .before .before .before .before .before .before .before .before .before .flag-byte .ensures) (c .before .before .before .before .before .before .put-bytes .ensures) (c .before .before .put-rows .ensures)
+    let at-put-rows = c .before .before in
+    let at-put-bytes = at-put-rows .before .before .before .before in
+    let at-shown-count = at-put-bytes .before .before .before .before in
+    let at-one-if = at-shown-count .before in
+    let at-start = at-one-if .before .before in
+    board-whole (at-start .args .board) _ _ (now (at-start .args .out)) _ _ (at-start .pre) (at-shown-count .shown-count .ensures)
+    (at-one-if .one-if .ensures) (at-put-bytes .put-bytes .ensures) (at-put-rows .put-rows .ensures)
 
 pub put-board-spec : {M : Type 1} → statement M
 put-board-spec =
     tie.close
     (tie.spec
-    flag-byte-requires
+    one-if-requires
     shown-count-requires
     slice-aggregate-put-bytes
     put-bytes-requires

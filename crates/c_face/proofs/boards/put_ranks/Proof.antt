@@ -1,3 +1,5 @@
+-- `put_ranks` meets its contract: four numbers, then each slot's rank.
+-- Two pieces fill the whole buffer (`ranks-whole`).
 use mathlib.Core.Path.{_≡_}
 use native.Mathlib.Omega.{arith}
 use lib.ListN.{length, length-map}
@@ -7,8 +9,8 @@ use Rattle.c_face.proofs.boards.put_ranks.Statement.{statement}
 use denote.Ref.{now}
 use Rattle.c_face.proofs.boards.put_ranks.Tie as tie
 
-flag-byte-requires : tie.Need-flag-byte-requires
-flag-byte-requires c κs = search needs
+one-if-requires : tie.Need-one-if-requires
+one-if-requires c κs = search needs
 
 slice-aggregate-put-bytes : tie.Need-slice-aggregate-put-bytes
 slice-aggregate-put-bytes c = search needs
@@ -20,19 +22,27 @@ slice-aggregate-put-bytes-2 : tie.Need-slice-aggregate-put-bytes-2
 slice-aggregate-put-bytes-2 c = search needs
 
 put-bytes-requires-2 : tie.Need-put-bytes-requires-2
-put-bytes-requires-2 c κs = let l : length (c .before .before .before .before .before .before .before .before .before .before .args .ranks .ranks) ≡ 64 = simp length-map at (c .before .before .before .before .before .before .before .before .before .before .good .0 .1 .1 .0 .1 .0 .1) in rw l (omega arith)
+put-bytes-requires-2 c κs =
+    let at-put-bytes = c .before .before .before .before in
+    let at-start = at-put-bytes .before .before .before .before .before .before in
+    let l : length (at-start .args .ranks .ranks) ≡ 64 = simp length-map at (at-start .good .0 .1 .1 .0 .1 .0 .1) in rw l (omega arith)
 
 same-length : tie.Need-same-length
 same-length c = search needs
 
 returns : tie.Need-returns
-returns c = ranks-whole (c .before .before .before .before .before .before .before .before .before .before .before .before .before .args .ranks) _ (now (c .before .before .before .before .before .before .before .before .before .before .before .before .before .args .out)) _ _ (c .before .before .before .before .before .before .before .before .before .before .before .before .before .pre) (simp length-map at (c .before .before .before .before .before .before .before .before .before .before .before .before .before .good .0 .1 .1 .0 .1 .0 .1)) (c .before .before .before .before .before .before .before .before .before .before .before .flag-byte .ensures) (c .before .before .before .before .before .before .before .put-bytes .ensures) (c .before .before .put-bytes2 .ensures)
+returns c =
+    let at-put-bytes2 = c .before .before in
+    let at-put-bytes = at-put-bytes2 .before .before .before .before .before in
+    let at-one-if = at-put-bytes .before .before .before .before in
+    let at-start = at-one-if .before .before in
+    ranks-whole (at-start .args .ranks) _ (now (at-start .args .out)) _ _ (at-start .pre) (simp length-map at (at-start .good .0 .1 .1 .0 .1 .0 .1)) (at-one-if .one-if .ensures) (at-put-bytes .put-bytes .ensures) (at-put-bytes2 .put-bytes2 .ensures)
 
 pub put-ranks-spec : {M : Type 1} → statement M
 put-ranks-spec =
     tie.close
     (tie.spec
-    flag-byte-requires
+    one-if-requires
     slice-aggregate-put-bytes
     put-bytes-requires
     slice-aggregate-put-bytes-2

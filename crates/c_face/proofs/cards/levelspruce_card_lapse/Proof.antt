@@ -1,3 +1,5 @@
+-- The call meets its contract: 9, 1, and then what the group's sender answers.
+-- Refused, the state is as given (`step-shut`). Otherwise the state is a card's (`opened`), and of what it is afterwards the owner row and the group's part are written (`step-kept`).
 use Rattle.c_face.proofs.TwoGroups.{opened, step-shut, step-kept}
 use Rattle.circuits.specs.Calls.Call.{Lapse}
 use borrow.Author.Needs.{needs}
@@ -10,22 +12,39 @@ refusal-requires : tie.Need-refusal-requires
 refusal-requires c κs = search needs
 
 returns : tie.Need-returns
-returns c = step-shut (c .before .before .before .args .state .now) (c .before .before .before .args .group) _ (c .before .refusal .ensures) (c .if1 .taken) true Lapse
+returns c =
+    let at-start = c .before .before .before in
+    step-shut (at-start .args .state .now) (at-start .args .group) _ (c .before .refusal .ensures) (c .if1 .taken) true Lapse
 
 own-card-requires : tie.Need-own-card-requires
-own-card-requires c κs = opened (c .before .before .before .before .args .state .now) (c .before .before .before .before .args .group) _ (c .before .before .refusal .ensures) (c .before .if1 .left) .sized
+own-card-requires c κs =
+    let at-refusal = c .before .before in
+    let at-start = at-refusal .before .before in
+    opened (at-start .args .state .now) (at-start .args .group) _ (at-refusal .refusal .ensures) (c .before .if1 .left) .sized
 
 lapse-requires : tie.Need-lapse-requires
 lapse-requires c κs = search needs
 
 keep-requires : tie.Need-keep-requires
-keep-requires c κs = opened (c .before .before .before .before .before .before .before .args .state .now) (c .before .before .before .before .before .before .before .args .group) _ (c .before .before .before .before .before .refusal .ensures) (c .before .before .before .before .if1 .left) .sized
+keep-requires c κs =
+    let at-if1 = c .before .before .before .before in
+    let at-refusal = at-if1 .before in
+    let at-start = at-refusal .before .before in
+    opened (at-start .args .state .now) (at-start .args .group) _ (at-refusal .refusal .ensures) (at-if1 .if1 .left) .sized
 
 same-length : tie.Need-same-length
 same-length c = search needs
 
 returns-2 : tie.Need-returns-2
-returns-2 c = step-kept (c .before .before .before .before .before .before .before .before .before .before .args .state .now) (c .before .before .before .before .before .before .before .before .before .before .args .group) (opened (c .before .before .before .before .before .before .before .before .before .before .args .state .now) (c .before .before .before .before .before .before .before .before .before .before .args .group) _ (c .before .before .before .before .before .before .before .before .refusal .ensures) (c .before .before .before .before .before .before .before .if1 .left)) _ (c .before .before .before .before .before .own-card .ensures) true Lapse _ _ _ refl (c .before .before .before .before .lapse .ensures) (c .before .before .keep .ensures)
+returns-2 c =
+    let at-keep = c .before .before in
+    let at-lapse = at-keep .before .before in
+    let at-own-card = at-lapse .before in
+    let at-if1 = at-own-card .before .before in
+    let at-refusal = at-if1 .before in
+    let at-start = at-refusal .before .before in
+    let args = at-start .args in
+    step-kept (args .state .now) (args .group) (opened (args .state .now) (args .group) _ (at-refusal .refusal .ensures) (at-if1 .if1 .left)) _ (at-own-card .own-card .ensures) true Lapse _ _ _ refl (at-lapse .lapse .ensures) (at-keep .keep .ensures)
 
 pub levelspruce-card-lapse-spec : {M : Type 1} → statement M
 levelspruce-card-lapse-spec =

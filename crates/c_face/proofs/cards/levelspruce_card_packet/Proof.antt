@@ -1,3 +1,5 @@
+-- The call meets its contract: 9, 1, and then what the card answers and writes.
+-- The state is only read: behind the refusals it is a card's (`opened`), and the packet is the one of that card.
 use Rattle.c_face.proofs.TwoGroups.{opened, packet-shut, packet-own}
 use borrow.Author.Needs.{needs}
 use Rattle.c_face.proofs.cards.levelspruce_card_packet.Statement.{statement}
@@ -7,10 +9,15 @@ refusal-requires : tie.Need-refusal-requires
 refusal-requires c κs = search needs
 
 returns : tie.Need-returns
-returns c = packet-shut (c .before .before .before .before .args .state .now) (c .before .before .before .before .args .group) _ (c .before .refusal .ensures) (c .if1 .taken) (c .before .before .before .before .args .slot) (c .before .before .before .before .args .h4 .now)
+returns c =
+    let at-start = c .before .before .before .before in
+    let args = at-start .args in
+    packet-shut (args .state .now) (args .group) _ (c .before .refusal .ensures) (c .if1 .taken) (args .slot) (args .h4 .now)
 
 own-card-requires : tie.Need-own-card-requires
-own-card-requires c κs = opened (c .before .before .before .before .args .state .now) (c .before .before .before .before .args .group) _ (c .before .refusal .ensures) (c .if1 .left) .sized
+own-card-requires c κs =
+    let at-start = c .before .before .before .before in
+    opened (at-start .args .state .now) (at-start .args .group) _ (c .before .refusal .ensures) (c .if1 .left) .sized
 
 packet-requires : tie.Need-packet-requires
 packet-requires c κs = search needs
@@ -22,7 +29,14 @@ same-length : tie.Need-same-length
 same-length c = search needs
 
 returns-2 : tie.Need-returns-2
-returns-2 c = packet-own (c .before .before .before .before .before .before .before .before .before .before .args .state .now) (c .before .before .before .before .before .before .before .before .before .before .args .group) (opened (c .before .before .before .before .before .before .before .before .before .before .args .state .now) (c .before .before .before .before .before .before .before .before .before .before .args .group) _ (c .before .before .before .before .before .before .before .refusal .ensures) (c .before .before .before .before .before .before .if1 .left)) _ (c .before .before .before .before .before .own-card .ensures) (c .before .before .before .before .before .before .before .before .before .before .args .slot) (c .before .before .before .before .before .before .before .before .before .before .args .h4 .now) _ _ _ (c .before .before .before .packet .ensures .0) (c .before .before .before .packet .ensures .1) (c .number .ensures)
+returns-2 c =
+    let at-packet = c .before .before .before in
+    let at-own-card = at-packet .before .before in
+    let at-if1 = at-own-card .before in
+    let at-refusal = at-if1 .before in
+    let at-start = at-refusal .before .before .before in
+    let args = at-start .args in
+    packet-own (args .state .now) (args .group) (opened (args .state .now) (args .group) _ (at-refusal .refusal .ensures) (at-if1 .if1 .left)) _ (at-own-card .own-card .ensures) (args .slot) (args .h4 .now) _ _ _ (at-packet .packet .ensures .0) (at-packet .packet .ensures .1) (c .number .ensures)
 
 pub levelspruce-card-packet-spec : {M : Type 1} → statement M
 levelspruce-card-packet-spec =

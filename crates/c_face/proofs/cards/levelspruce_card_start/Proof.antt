@@ -1,3 +1,5 @@
+-- The call meets its contract: 4, 9, 8, and then a card of two fresh groups.
+-- Five exits, one for each way through the length, the count and the two epoch numbers; under 4 with a right length an empty card is written. Each cites its law of TwoGroups.
 use Rattle.c_face.proofs.Stepping.{Three, three-said}
 use Rattle.c_face.proofs.TwoGroups.{start-none, start-length, start-outside, start-unfit, start-done}
 use borrow.Author.Needs.{needs}
@@ -10,10 +12,18 @@ is-outside-requires : tie.Need-is-outside-requires
 is-outside-requires c κs = search needs
 
 returns : tie.Need-returns
-returns c = start-none (c .before .before .before .before .args .count) (c .before .before .before .before .args .first-epoch-0) (c .before .before .before .before .args .first-epoch-1) _ (c .before .before .if1 .taken) (sym (c .before .is-outside .ensures) ∙ c .if2 .taken)
+returns c =
+    let at-if1 = c .before .before in
+    let at-start = at-if1 .before .before in
+    let args = at-start .args in
+    start-none (args .count) (args .first-epoch-0) (args .first-epoch-1) _ (at-if1 .if1 .taken) (sym (c .before .is-outside .ensures) ∙ c .if2 .taken)
 
 returns-2 : tie.Need-returns-2
-returns-2 c = start-length (c .before .before .before .before .args .count) (c .before .before .before .before .args .first-epoch-0) (c .before .before .before .before .args .first-epoch-1) _ (c .before .before .if1 .taken) (sym (c .before .is-outside .ensures) ∙ c .if2 .left)
+returns-2 c =
+    let at-if1 = c .before .before in
+    let at-start = at-if1 .before .before in
+    let args = at-start .args in
+    start-length (args .count) (args .first-epoch-0) (args .first-epoch-1) _ (at-if1 .if1 .taken) (sym (c .before .is-outside .ensures) ∙ c .if2 .left)
 
 is-outside-requires-2 : tie.Need-is-outside-requires-2
 is-outside-requires-2 c κs = search needs
@@ -25,19 +35,36 @@ same-length : tie.Need-same-length
 same-length c = search needs
 
 returns-3 : tie.Need-returns-3
-returns-3 c = start-outside (c .before .before .before .before .before .before .before .before .args .count) (c .before .before .before .before .before .before .before .before .args .first-epoch-0) (c .before .before .before .before .before .before .before .before .args .first-epoch-1) _ _ (c .before .before .before .before .before .before .if1 .left) (sym (c .before .before .before .before .before .is-outside2 .ensures) ∙ c .before .before .before .before .if3 .taken) (c .before .before .put-start .ensures)
+returns-3 c =
+    let at-put-start = c .before .before in
+    let at-if3 = at-put-start .before .before in
+    let at-is-outside2 = at-if3 .before in
+    let at-if1 = at-is-outside2 .before in
+    let at-start = at-if1 .before .before in
+    let args = at-start .args in
+    start-outside (args .count) (args .first-epoch-0) (args .first-epoch-1) _ _ (at-if1 .if1 .left) (sym (at-is-outside2 .is-outside2 .ensures) ∙ at-if3 .if3 .taken) (at-put-start .put-start .ensures)
 
 are-bytes-requires : tie.Need-are-bytes-requires
 are-bytes-requires c κs = search needs
 
 returns-4 : tie.Need-returns-4
-returns-4 c = start-unfit (c .before .before .before .before .before .before .args .count) (c .before .before .before .before .before .before .args .first-epoch-0) (c .before .before .before .before .before .before .args .first-epoch-1) _ (c .before .before .before .before .if1 .left) (sym (c .before .before .before .is-outside2 .ensures) ∙ c .before .before .if3 .left) (sym (c .before .are-bytes .ensures) ∙ not-true _ (c .if4 .taken))
+returns-4 c =
+    let at-if3 = c .before .before in
+    let at-is-outside2 = at-if3 .before in
+    let at-if1 = at-is-outside2 .before in
+    let at-start = at-if1 .before .before in
+    let args = at-start .args in
+    start-unfit (args .count) (args .first-epoch-0) (args .first-epoch-1) _ (at-if1 .if1 .left) (sym (at-is-outside2 .is-outside2 .ensures) ∙ at-if3 .if3 .left) (sym (c .before .are-bytes .ensures) ∙ not-true _ (c .if4 .taken))
 
 cast-put-start : tie.Need-cast-put-start
-cast-put-start c = let t : Three (c .before .before .before .before .before .before .args .first-epoch-0) (c .before .before .before .before .before .before .args .first-epoch-1) 0 = three-said _ _ _ (sym (c .before .are-bytes .ensures) ∙ not-false _ (c .if4 .left)) in record { fits = t .first }
+cast-put-start c =
+    let at-start = c .before .before .before .before .before .before in
+    let t : Three (at-start .args .first-epoch-0) (at-start .args .first-epoch-1) 0 = three-said _ _ _ (sym (c .before .are-bytes .ensures) ∙ not-false _ (c .if4 .left)) in record { fits = t .first }
 
 cast-put-start-2 : tie.Need-cast-put-start-2
-cast-put-start-2 c = let t : Three (c .before .before .before .before .before .before .args .first-epoch-0) (c .before .before .before .before .before .before .args .first-epoch-1) 0 = three-said _ _ _ (sym (c .before .are-bytes .ensures) ∙ not-false _ (c .if4 .left)) in record { fits = t .second }
+cast-put-start-2 c =
+    let at-start = c .before .before .before .before .before .before in
+    let t : Three (at-start .args .first-epoch-0) (at-start .args .first-epoch-1) 0 = three-said _ _ _ (sym (c .before .are-bytes .ensures) ∙ not-false _ (c .if4 .left)) in record { fits = t .second }
 
 put-start-requires-2 : tie.Need-put-start-requires-2
 put-start-requires-2 c κs = search needs
@@ -46,7 +73,16 @@ same-length-2 : tie.Need-same-length-2
 same-length-2 c = search needs
 
 returns-5 : tie.Need-returns-5
-returns-5 c = start-done (c .before .before .before .before .before .before .before .before .before .before .args .count) (c .before .before .before .before .before .before .before .before .before .before .args .first-epoch-0) (c .before .before .before .before .before .before .before .before .before .before .args .first-epoch-1) _ _ (c .before .before .before .before .before .before .before .before .if1 .left) (sym (c .before .before .before .before .before .before .before .is-outside2 .ensures) ∙ c .before .before .before .before .before .before .if3 .left) (sym (c .before .before .before .before .before .are-bytes .ensures) ∙ not-false _ (c .before .before .before .before .if4 .left)) (c .before .before .put-start2 .ensures)
+returns-5 c =
+    let at-put-start2 = c .before .before in
+    let at-if4 = at-put-start2 .before .before in
+    let at-are-bytes = at-if4 .before in
+    let at-if3 = at-are-bytes .before in
+    let at-is-outside2 = at-if3 .before in
+    let at-if1 = at-is-outside2 .before in
+    let at-start = at-if1 .before .before in
+    let args = at-start .args in
+    start-done (args .count) (args .first-epoch-0) (args .first-epoch-1) _ _ (at-if1 .if1 .left) (sym (at-is-outside2 .is-outside2 .ensures) ∙ at-if3 .if3 .left) (sym (at-are-bytes .are-bytes .ensures) ∙ not-false _ (at-if4 .if4 .left)) (at-put-start2 .put-start2 .ensures)
 
 pub levelspruce-card-start-spec : {M : Type 1} → statement M
 levelspruce-card-start-spec =

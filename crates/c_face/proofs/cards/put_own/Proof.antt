@@ -13,7 +13,9 @@ slice-aggregate-put-bytes : tie.Need-slice-aggregate-put-bytes
 slice-aggregate-put-bytes c = search needs
 
 put-bytes-requires : tie.Need-put-bytes-requires
-put-bytes-requires c κs = let l : length (c .before .before .before .before .before .args .card .owners) ≡ 64 = simp length-map at (c .before .before .before .before .before .good .0 .1 .1 .0 .1 .0 .1) in rw l (omega arith)
+put-bytes-requires c κs =
+    let at-start = c .before .before .before .before .before in
+    let l : length (at-start .args .card .owners) ≡ 64 = simp length-map at (at-start .good .0 .1 .1 .0 .1 .0 .1) in rw l (omega arith)
 
 put-part-requires : tie.Need-put-part-requires
 put-part-requires c κs = search needs
@@ -22,7 +24,13 @@ same-length : tie.Need-same-length
 same-length c = search needs
 
 returns : tie.Need-returns
-returns c = own-whole (c .before .before .before .before .before .before .before .before .before .before .before .before .args .group) (c .before .before .before .before .before .before .before .before .before .before .before .before .args .card) _ (c .before .before .before .before .before .before .before .before .before .before .before .before .args .state .now) _ _ (simp length-map at (c .before .before .before .before .before .before .before .before .before .before .before .before .good .0 .1 .1 .0 .1 .0 .1)) (c .before .before .before .before .before .before .put-bytes .ensures) (c .before .before .before .before .before .before .before .before .before .own-sender .ensures) (c .before .before .put-part .ensures)
+returns c =
+    let at-put-part = c .before .before in
+    let at-put-bytes = at-put-part .before .before .before .before in
+    let at-own-sender = at-put-bytes .before .before .before in
+    let at-start = at-own-sender .before .before .before in
+    let args = at-start .args in
+    own-whole (args .group) (args .card) _ (args .state .now) _ _ (simp length-map at (at-start .good .0 .1 .1 .0 .1 .0 .1)) (at-put-bytes .put-bytes .ensures) (at-own-sender .own-sender .ensures) (at-put-part .put-part .ensures)
 
 pub put-own-spec : {M : Type 1} → statement M
 put-own-spec =

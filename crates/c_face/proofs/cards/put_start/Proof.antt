@@ -16,7 +16,12 @@ same-length : tie.Need-same-length
 same-length c = search needs
 
 returns : tie.Need-returns
-returns c = start-put (c .before .before .before .before .before .before .before .before .before .before .before .args .count) (c .before .before .before .before .before .before .before .before .before .before .before .args .epoch-0) (c .before .before .before .before .before .before .before .before .before .before .before .args .epoch-1) _ (c .before .before .before .before .before .before .before .before .before .before .before .args .state .now) _ _ (c .before .before .before .before .before .before .before .before .before .start .ensures) (c .before .before .before .before .before .before .put-own .ensures) (c .before .before .put-own2 .ensures)
+returns c =
+    let at-put-own2 = c .before .before in
+    let at-put-own = at-put-own2 .before .before .before .before in
+    let at-start = at-put-own .before .before .before in
+    let at-start-11 = at-start .before .before in
+    start-put (at-start-11 .args .count) (at-start-11 .args .epoch-0) (at-start-11 .args .epoch-1) _ (at-start-11 .args .state .now) _ _ (at-start .start .ensures) (at-put-own .put-own .ensures) (at-put-own2 .put-own2 .ensures)
 
 pub put-start-spec : {M : Type 1} → statement M
 put-start-spec =

@@ -1,3 +1,5 @@
+-- The call meets its contract: 9, 2 for a wait that is none, and then what applying answers; under 0 the board is written anew.
+-- Each exit cites one law of Telling, in the order of the tests.
 use mathlib.Core.Path.{_∙_, ap}
 use Rattle.spoken.specs.Changes.{answerNumber}
 use Rattle.spoken.specs.declared.applying.Applied.{Applied}
@@ -17,7 +19,10 @@ shared-slice-read-if3 : tie.Need-shared-slice-read-if3
 shared-slice-read-if3 c = search needs
 
 returns-3 : tie.Need-returns-3
-returns-3 c = applied-wait _ _ (c .before .before .before .if1 .left) (c .before .before .if2 .left) (c .if3 .taken)
+returns-3 c =
+    let at-if2 = c .before .before in
+    let at-if1 = at-if2 .before in
+    applied-wait _ _ (at-if1 .if1 .left) (at-if2 .if2 .left) (c .if3 .taken)
 
 board-from-requires : tie.Need-board-from-requires
 board-from-requires c κs = search needs
@@ -35,7 +40,14 @@ same-length : tie.Need-same-length
 same-length c = search needs
 
 returns-4 : tie.Need-returns-4
-returns-4 c = let s = applied-both _ _ _ _ _ (c .before .before .before .before .before .board-from .ensures) (c .before .before .before .before .changes-from .ensures) (c .before .before .before .apply .ensures) in applied-refusal _ _ (c .before .before .before .before .before .before .before .before .before .before .if1 .left) (c .before .before .before .before .before .before .before .before .before .if2 .left) (c .before .before .before .before .before .before .before .if3 .left) _ (c .before .number .ensures ∙ ap (λ (r : Applied). answerNumber (r .answer)) s) (c .if4 .taken)
+returns-4 c =
+    let at-apply = c .before .before .before in
+    let at-changes-from = at-apply .before in
+    let at-board-from = at-changes-from .before in
+    let at-if3 = at-board-from .before .before in
+    let at-if2 = at-if3 .before .before in
+    let at-if1 = at-if2 .before in
+    let s = applied-both _ _ _ _ _ (at-board-from .board-from .ensures) (at-changes-from .changes-from .ensures) (at-apply .apply .ensures) in applied-refusal _ _ (at-if1 .if1 .left) (at-if2 .if2 .left) (at-if3 .if3 .left) _ (c .before .number .ensures ∙ ap (λ (r : Applied). answerNumber (r .answer)) s) (c .if4 .taken)
 
 put-board-requires : tie.Need-put-board-requires
 put-board-requires c κs = search needs
@@ -44,7 +56,17 @@ same-length-2 : tie.Need-same-length-2
 same-length-2 c = search needs
 
 returns-5 : tie.Need-returns-5
-returns-5 c = let s = applied-both _ _ _ _ _ (c .before .before .before .before .before .before .before .before .before .board-from .ensures) (c .before .before .before .before .before .before .before .before .changes-from .ensures) (c .before .before .before .before .before .before .before .apply .ensures) in applied-told _ _ (c .before .before .before .before .before .before .before .before .before .before .before .before .before .before .if1 .left) (c .before .before .before .before .before .before .before .before .before .before .before .before .before .if2 .left) (c .before .before .before .before .before .before .before .before .before .before .before .if3 .left) _ (c .before .before .before .before .before .number .ensures ∙ ap (λ (r : Applied). answerNumber (r .answer)) s) _ (c .before .before .before .before .if4 .left) (c .before .before .put-board .ensures ∙ ap (λ (r : Applied). boardBytesOf (r .board)) s)
+returns-5 c =
+    let at-put-board = c .before .before in
+    let at-if4 = at-put-board .before .before in
+    let at-number = at-if4 .before in
+    let at-apply = at-number .before .before in
+    let at-changes-from = at-apply .before in
+    let at-board-from = at-changes-from .before in
+    let at-if3 = at-board-from .before .before in
+    let at-if2 = at-if3 .before .before in
+    let at-if1 = at-if2 .before in
+    let s = applied-both _ _ _ _ _ (at-board-from .board-from .ensures) (at-changes-from .changes-from .ensures) (at-apply .apply .ensures) in applied-told _ _ (at-if1 .if1 .left) (at-if2 .if2 .left) (at-if3 .if3 .left) _ (at-number .number .ensures ∙ ap (λ (r : Applied). answerNumber (r .answer)) s) _ (at-if4 .if4 .left) (at-put-board .put-board .ensures ∙ ap (λ (r : Applied). boardBytesOf (r .board)) s)
 
 pub levelspruce-board-apply-spec : {M : Type 1} → statement M
 levelspruce-board-apply-spec = tie.close (tie.spec returns returns-2 shared-slice-read-if3 returns-3 board-from-requires changes-from-requires apply-requires number-requires same-length returns-4 put-board-requires same-length-2 returns-5)

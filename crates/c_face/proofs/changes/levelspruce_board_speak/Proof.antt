@@ -13,7 +13,10 @@ shared-slice-read-if3 : tie.Need-shared-slice-read-if3
 shared-slice-read-if3 c = search needs
 
 returns-3 : tie.Need-returns-3
-returns-3 c = spoken-wait _ _ _ (c .before .before .before .if1 .left) (c .before .before .if2 .left) (c .if3 .taken)
+returns-3 c =
+    let at-if2 = c .before .before in
+    let at-if1 = at-if2 .before in
+    spoken-wait _ _ _ (at-if1 .if1 .left) (at-if2 .if2 .left) (c .if3 .taken)
 
 changes-from-requires : tie.Need-changes-from-requires
 changes-from-requires c κs = search needs
@@ -28,13 +31,25 @@ same-length : tie.Need-same-length
 same-length c = search needs
 
 returns-4 : tie.Need-returns-4
-returns-4 c = spoken-refusal _ _ _ (c .before .before .before .before .before .before .before .before .before .before .if1 .left) (c .before .before .before .before .before .before .before .before .before .if2 .left) (c .before .before .before .before .before .before .before .if3 .left) _ _ _ (speech-is _ _ _ _ (c .before .before .before .before .before .before .changes-from .ensures) (c .before .before .before .before .speak .ensures .0)) (c .before .number .ensures) (speech-bytes _ _ _ _ (c .before .before .before .before .before .before .changes-from .ensures) (c .before .before .before .before .speak .ensures .1)) (c .if4 .taken)
+returns-4 c =
+    let at-speak = c .before .before .before .before in
+    let at-changes-from = at-speak .before .before in
+    let at-if3 = at-changes-from .before in
+    let at-if2 = at-if3 .before .before in
+    let at-if1 = at-if2 .before in
+    spoken-refusal _ _ _ (at-if1 .if1 .left) (at-if2 .if2 .left) (at-if3 .if3 .left) _ _ _ (speech-is _ _ _ _ (at-changes-from .changes-from .ensures) (at-speak .speak .ensures .0)) (c .before .number .ensures) (speech-bytes _ _ _ _ (at-changes-from .changes-from .ensures) (at-speak .speak .ensures .1)) (c .if4 .taken)
 
 same-length-2 : tie.Need-same-length-2
 same-length-2 c = search needs
 
 returns-5 : tie.Need-returns-5
-returns-5 c = spoken-told _ _ _ (c .before .before .before .before .before .before .before .before .before .before .if1 .left) (c .before .before .before .before .before .before .before .before .before .if2 .left) (c .before .before .before .before .before .before .before .if3 .left) _ _ _ (speech-is _ _ _ _ (c .before .before .before .before .before .before .changes-from .ensures) (c .before .before .before .before .speak .ensures .0)) (c .before .number .ensures) (speech-bytes _ _ _ _ (c .before .before .before .before .before .before .changes-from .ensures) (c .before .before .before .before .speak .ensures .1)) (c .if4 .left)
+returns-5 c =
+    let at-speak = c .before .before .before .before in
+    let at-changes-from = at-speak .before .before in
+    let at-if3 = at-changes-from .before in
+    let at-if2 = at-if3 .before .before in
+    let at-if1 = at-if2 .before in
+    spoken-told _ _ _ (at-if1 .if1 .left) (at-if2 .if2 .left) (at-if3 .if3 .left) _ _ _ (speech-is _ _ _ _ (at-changes-from .changes-from .ensures) (at-speak .speak .ensures .0)) (c .before .number .ensures) (speech-bytes _ _ _ _ (at-changes-from .changes-from .ensures) (at-speak .speak .ensures .1)) (c .if4 .left)
 
 pub levelspruce-board-speak-spec : {M : Type 1} → statement M
 levelspruce-board-speak-spec = tie.close (tie.spec returns returns-2 shared-slice-read-if3 returns-3 changes-from-requires speak-requires number-requires same-length returns-4 same-length-2 returns-5)

@@ -20,7 +20,12 @@ same-length : tie.Need-same-length
 same-length c = search needs
 
 returns : tie.Need-returns
-returns c = changes-whole (c .before .before .before .before .before .before .before .before .before .before .before .before .args .changes) _ (now (c .before .before .before .before .before .before .before .before .before .before .before .before .args .out)) _ _ (c .before .before .before .before .before .before .before .before .before .before .before .before .pre) (c .before .before .before .before .before .before .before .before .before .before .wait-code .ensures) (c .before .before .before .before .before .before .put-bytes .ensures) (c .before .before .put-list .ensures)
+returns c =
+    let at-put-list = c .before .before in
+    let at-put-bytes = at-put-list .before .before .before .before in
+    let at-wait-code = at-put-bytes .before .before .before .before in
+    let at-start = at-wait-code .before .before in
+    changes-whole (at-start .args .changes) _ (now (at-start .args .out)) _ _ (at-start .pre) (at-wait-code .wait-code .ensures) (at-put-bytes .put-bytes .ensures) (at-put-list .put-list .ensures)
 
 pub put-changes-spec : {M : Type 1} → statement M
 put-changes-spec = tie.close (tie.spec wait-code-requires slice-aggregate-put-bytes put-bytes-requires put-list-requires same-length returns)

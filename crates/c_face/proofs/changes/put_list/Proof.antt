@@ -37,7 +37,10 @@ add-put-bytes : tie.Need-add-put-bytes Inv-loop μ-loop
 add-put-bytes c = search needs
 
 put-bytes-requires : tie.Need-put-bytes-requires Inv-loop μ-loop
-put-bytes-requires c κs = let f = c .before .before .before .before .before .loop .inv .2 .len in let l = c .before .before .before .before .before .before .before .pre in omega arith
+put-bytes-requires c κs =
+    let at-loop = c .before .before .before .before .before in
+    let at-start = at-loop .before .before in
+    let f = at-loop .loop .inv .2 .len in let l = at-start .pre in omega arith
 
 add-i : tie.Need-add-i Inv-loop μ-loop
 add-i c = search needs
@@ -46,7 +49,12 @@ loop-less : tie.Need-loop-less Inv-loop μ-loop
 loop-less c = search needs
 
 loop-again : tie.Need-loop-again Inv-loop μ-loop
-loop-again c = (c .before .before .before .before .before .before .before .before .loop .inv .0, omega arith, five-more (c .before .before .before .before .before .before .before .before .before .before .args .t1) (c .before .before .before .before .before .before .before .before .loop .i) _ (c .before .before .before .before .before .change-bytes .ensures) (c .before .before .before .before .before .before .before .before .loop .inv .2) (c .before .before .put-bytes .ensures))
+loop-again c =
+    let at-put-bytes = c .before .before in
+    let at-change-bytes = at-put-bytes .before .before .before in
+    let at-loop = at-change-bytes .before .before .before in
+    let at-start = at-loop .before .before in
+    (at-loop .loop .inv .0, omega arith, five-more (at-start .args .t1) (at-loop .loop .i) _ (at-change-bytes .change-bytes .ensures) (at-loop .loop .inv .2) (at-put-bytes .put-bytes .ensures))
 
 same-length : tie.Need-same-length Inv-loop μ-loop
 same-length c = c .before .loop .inv .2 .len

@@ -1,5 +1,4 @@
 use borrow.Author.Tests.{ne-eqb}
-use borrow.Author.Needs.{needs}
 use Rattle.c_face.proofs.changes.wait_from.Statement.{statement}
 use Rattle.c_face.proofs.changes.wait_from.Tie as tie
 

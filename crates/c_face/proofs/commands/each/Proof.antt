@@ -1,5 +1,7 @@
+-- `each` meets its contract: every command of the list on the state, and its answer at its place.
+-- Behind i commands the state and the answers are those of the first i (`bytesAt`, `listAt`); a turn adds the next one, and at the end it is all of them.
 use mathlib.Core.Path.{_≡_, refl}
-use Prim.Native.Nat.{ℕ, _-_, _≤_}
+use Prim.Native.Nat.{_-_, _≤_}
 use native.Mathlib.Omega.{arith}
 use lib.ListN.{length}
 use borrow.Author.Needs.{needs}
@@ -26,7 +28,12 @@ one-requires : tie.Need-one-requires Inv-loop μ-loop
 one-requires c κs = search needs
 
 slice-write-answers : tie.Need-slice-write-answers Inv-loop μ-loop
-slice-write-answers c = in-list (c .before .before .before .before .before .before .before .before .before .args .state .now) (c .before .before .before .before .before .before .before .before .before .args .commands .now) (c .before .before .before .before .before .before .before .before .before .args .answers .now) (c .before .before .before .before .before .before .loop .i) _ (c .before .before .before .before .before .before .loop .inv .2) (c .before .before .before .before .before .before .before .before .before .pre) (c .before .before .before .before .before .loop-test .taken)
+slice-write-answers c =
+    let at-loop-test = c .before .before .before .before .before in
+    let at-loop = at-loop-test .before in
+    let at-start = at-loop .before .before .before in
+    let args = at-start .args in
+    in-list (args .state .now) (args .commands .now) (args .answers .now) (at-loop .loop .i) _ (at-loop .loop .inv .2) (at-start .pre) (at-loop-test .loop-test .taken)
 
 add-i : tie.Need-add-i Inv-loop μ-loop
 add-i c = search needs
@@ -35,23 +42,34 @@ loop-less : tie.Need-loop-less Inv-loop μ-loop
 loop-less c = search needs
 
 loop-again : tie.Need-loop-again Inv-loop μ-loop
-loop-again c = (
-  omega arith,
-  bytes-next (c .before .before .before .before .before .before .before .before .before .args .state .now) (c .before .before .before .before .before .before .before .before .before .args .commands .now) (c .before .before .before .before .before .before .loop .i) _ _ (c .before .before .before .before .before .before .loop .inv .1) (c .before .before .one .ensures .1),
-  list-next (c .before .before .before .before .before .before .before .before .before .args .state .now) (c .before .before .before .before .before .before .before .before .before .args .commands .now) (c .before .before .before .before .before .before .before .before .before .args .answers .now) (c .before .before .before .before .before .before .loop .i) _ _ _ (c .before .before .before .before .before .before .loop .inv .1) (c .before .before .before .before .before .before .loop .inv .2) (c .before .before .one .ensures .0),
-)
+loop-again c =
+    let at-one = c .before .before in
+    let at-loop = at-one .before .before .before .before in
+    let at-start = at-loop .before .before .before in
+    let args = at-start .args in (
+      omega arith,
+      bytes-next (args .state .now) (args .commands .now) (at-loop .loop .i) _ _ (at-loop .loop .inv .1) (at-one .one .ensures .1),
+      list-next (args .state .now) (args .commands .now) (args .answers .now) (at-loop .loop .i) _ _ _ (at-loop .loop .inv .1) (at-loop .loop .inv .2) (at-one .one .ensures .0),
+    )
 
 same-length : tie.Need-same-length Inv-loop μ-loop
-same-length c = bytes-length (c .before .before .before .before .args .state .now) (c .before .before .before .before .args .commands .now) (c .before .loop .i) _ (c .before .loop .inv .1)
+same-length c =
+    let at-start = c .before .before .before .before in
+    bytes-length (at-start .args .state .now) (at-start .args .commands .now) (c .before .loop .i) _ (c .before .loop .inv .1)
 
 same-length-2 : tie.Need-same-length-2 Inv-loop μ-loop
-same-length-2 c = list-length (c .before .before .before .before .args .state .now) (c .before .before .before .before .args .commands .now) (c .before .before .before .before .args .answers .now) (c .before .loop .i) _ (c .before .loop .inv .2)
+same-length-2 c =
+    let at-start = c .before .before .before .before in
+    let args = at-start .args in
+    list-length (args .state .now) (args .commands .now) (args .answers .now) (c .before .loop .i) _ (c .before .loop .inv .2)
 
 returns : tie.Need-returns Inv-loop μ-loop
 returns c =
-    let e : c .before .loop .i ≡ length (c .before .before .before .before .args .commands .now) = omega arith in (
-      bytes-all (c .before .before .before .before .args .state .now) (c .before .before .before .before .args .commands .now) (c .before .loop .i) _ e (c .before .loop .inv .1),
-      list-all (c .before .before .before .before .args .state .now) (c .before .before .before .before .args .commands .now) (c .before .before .before .before .args .answers .now) (c .before .loop .i) _ (c .before .before .before .before .pre) e (c .before .loop .inv .2),
+    let at-start = c .before .before .before .before in
+    let args = at-start .args in
+    let e : c .before .loop .i ≡ length (args .commands .now) = omega arith in (
+      bytes-all (args .state .now) (args .commands .now) (c .before .loop .i) _ e (c .before .loop .inv .1),
+      list-all (args .state .now) (args .commands .now) (args .answers .now) (c .before .loop .i) _ (at-start .pre) e (c .before .loop .inv .2),
     )
 
 pub each-spec : {M : Type 1} → statement M

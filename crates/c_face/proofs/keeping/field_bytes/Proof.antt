@@ -2,17 +2,17 @@ use borrow.Author.Needs.{needs}
 use Rattle.c_face.proofs.keeping.field_bytes.Statement.{statement}
 use Rattle.c_face.proofs.keeping.field_bytes.Tie as tie
 
-flag-byte-requires : tie.Need-flag-byte-requires
-flag-byte-requires c κs = search needs
+one-if-requires : tie.Need-one-if-requires
+one-if-requires c κs = search needs
 
-flag-byte-requires-2 : tie.Need-flag-byte-requires-2
-flag-byte-requires-2 c κs = search needs
+one-if-requires-2 : tie.Need-one-if-requires-2
+one-if-requires-2 c κs = search needs
 
-flag-byte-requires-3 : tie.Need-flag-byte-requires-3
-flag-byte-requires-3 c κs = search needs
+one-if-requires-3 : tie.Need-one-if-requires-3
+one-if-requires-3 c κs = search needs
 
-flag-byte-requires-4 : tie.Need-flag-byte-requires-4
-flag-byte-requires-4 c κs = search needs
+one-if-requires-4 : tie.Need-one-if-requires-4
+one-if-requires-4 c κs = search needs
 
 returns : tie.Need-returns
 returns c = cc
@@ -21,8 +21,8 @@ pub field-bytes-spec : {M : Type 1} → statement M
 field-bytes-spec =
     tie.close
     (tie.spec
-    flag-byte-requires
-    flag-byte-requires-2
-    flag-byte-requires-3
-    flag-byte-requires-4
+    one-if-requires
+    one-if-requires-2
+    one-if-requires-3
+    one-if-requires-4
     returns)

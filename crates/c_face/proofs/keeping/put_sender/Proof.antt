@@ -1,3 +1,5 @@
+-- `put_sender` meets its contract: slots, both boards' rows and the fields, at their places.
+-- Four pieces are written one behind the other and fill the whole state, so that nothing of the old one is left (`put-whole`).
 use borrow.Author.Needs.{needs}
 use Rattle.c_face.proofs.Pieces.{put-whole}
 use Rattle.c_face.proofs.keeping.put_sender.Statement.{statement}
@@ -26,7 +28,14 @@ same-length : tie.Need-same-length
 same-length c = search needs
 
 returns : tie.Need-returns
-returns c = put-whole (c .before .before .before .before .before .before .before .before .before .before .before .before .before .before .before .before .before .before .before .before .before .before .before .before .before .args .sender) _ (now (c .before .before .before .before .before .before .before .before .before .before .before .before .before .before .before .before .before .before .before .before .before .before .before .before .before .args .state)) _ _ _ _ (c .before .before .before .before .before .before .before .before .before .before .before .before .before .before .before .before .before .before .before .before .before .before .before .before .before .pre) (c .before .before .before .before .before .before .before .before .before .before .before .before .before .before .before .before .before .field-bytes .ensures) (c .before .before .before .before .before .before .before .before .before .before .before .before .before .before .before .put-slots .ensures) (c .before .before .before .before .before .before .before .before .before .before .before .put-rows .ensures) (c .before .before .before .before .before .before .before .put-rows2 .ensures) (c .before .before .put-bytes .ensures)
+returns c =
+    let at-put-bytes = c .before .before in
+    let at-put-rows2 = at-put-bytes .before .before .before .before .before in
+    let at-put-rows = at-put-rows2 .before .before .before .before in
+    let at-put-slots = at-put-rows .before .before .before .before in
+    let at-field-bytes = at-put-slots .before .before in
+    let at-start = at-field-bytes .before .before .before .before .before .before .before .before in
+    put-whole (at-start .args .sender) _ (now (at-start .args .state)) _ _ _ _ (at-start .pre) (at-field-bytes .field-bytes .ensures) (at-put-slots .put-slots .ensures) (at-put-rows .put-rows .ensures) (at-put-rows2 .put-rows2 .ensures) (at-put-bytes .put-bytes .ensures)
 
 pub put-sender-spec : {M : Type 1} → statement M
 put-sender-spec =

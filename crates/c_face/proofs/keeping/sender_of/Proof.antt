@@ -25,11 +25,11 @@ shared-slice-read-board-in-4 c = search needs
 board-in-requires-2 : tie.Need-board-in-requires-2
 board-in-requires-2 c κs = search needs
 
-shared-slice-read-flag-of : tie.Need-shared-slice-read-flag-of
-shared-slice-read-flag-of c = search needs
+shared-slice-read-is-set : tie.Need-shared-slice-read-is-set
+shared-slice-read-is-set c = search needs
 
-flag-of-requires : tie.Need-flag-of-requires
-flag-of-requires c κs = search needs
+is-set-requires : tie.Need-is-set-requires
+is-set-requires c κs = search needs
 
 shared-slice-read-t9 : tie.Need-shared-slice-read-t9
 shared-slice-read-t9 c = search needs
@@ -45,7 +45,12 @@ shared-slice-read-t18 c = search needs
 
 returns : tie.Need-returns
 unfolding senderOf
-returns c = rw (c .before .before .before .before .flag-of .ensures, c .before .before .before .before .before .before .board-in2 .ensures, c .before .before .before .before .before .before .before .before .before .board-in .ensures, c .before .before .before .before .before .before .before .before .before .before .before .before .table-in .ensures) refl
+returns c =
+    let at-is-set = c .before .before .before .before in
+    let at-board-in2 = at-is-set .before .before in
+    let at-board-in = at-board-in2 .before .before .before in
+    let at-table-in = at-board-in .before .before .before in
+    rw (at-is-set .is-set .ensures, at-board-in2 .board-in2 .ensures, at-board-in .board-in .ensures, at-table-in .table-in .ensures) refl
 
 pub sender-of-spec : {M : Type 1} → statement M
 sender-of-spec =
@@ -58,8 +63,8 @@ sender-of-spec =
     shared-slice-read-board-in-3
     shared-slice-read-board-in-4
     board-in-requires-2
-    shared-slice-read-flag-of
-    flag-of-requires
+    shared-slice-read-is-set
+    is-set-requires
     shared-slice-read-t9
     shared-slice-read-t7
     shared-slice-read-t16

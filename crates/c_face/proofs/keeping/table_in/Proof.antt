@@ -18,11 +18,11 @@ shared-slice-read-kind c = search needs
 slots-in-requires : tie.Need-slots-in-requires
 slots-in-requires c κs = search needs
 
-flag-of-requires : tie.Need-flag-of-requires
-flag-of-requires c κs = search needs
+is-set-requires : tie.Need-is-set-requires
+is-set-requires c κs = search needs
 
 returns : tie.Need-returns
-returns c = rw (c .flag-of .ensures, c .before .slots-in .ensures) refl
+returns c = rw (c .is-set .ensures, c .before .slots-in .ensures) refl
 
 pub table-in-spec : {M : Type 1} → statement M
 table-in-spec =
@@ -33,5 +33,5 @@ table-in-spec =
     shared-slice-read-bit
     shared-slice-read-kind
     slots-in-requires
-    flag-of-requires
+    is-set-requires
     returns)

@@ -1,7 +1,9 @@
+-- The call meets its contract: 4, 9, and then whether the proposal is accepted.
+-- Under 4 and 9 the byte is as given; otherwise it is written by `lent-done`.
 use mathlib.Core.Path.{_∙_, ap}
 use denote.Ref.{now}
+use Rattle.ground.specs.Flags.{oneIf}
 use Rattle.paths.specs.declared.checking.Checked.{Checked}
-use Rattle.c_face.specs.Keeping.{flagByte}
 use Rattle.c_face.proofs.Planning.{check-number, lent-done, lent-refused, lent-short, one-byte}
 use borrow.Author.Needs.{needs}
 use Rattle.c_face.proofs.plans.levelspruce_paths_check.Statement.{statement}
@@ -14,13 +16,22 @@ number-requires : tie.Need-number-requires
 number-requires c κs = search needs
 
 returns : tie.Need-returns
-returns c = lent-refused _ _ 1 _ _ (check-number (c .before .before .before .before .before .before .args .delays .now) (c .before .before .before .before .before .before .args .k) (c .before .before .before .before .before .before .args .window) (c .before .before .before .before .before .before .args .set .now) (c .before .before .check .result) (c .before .number .result) (c .before .number .ensures) (c .before .before .check .ensures)) (c .if1 .taken)
+returns c =
+    let at-check = c .before .before in
+    let at-start = at-check .before .before .before .before in
+    let args = at-start .args in
+    lent-refused _ _ 1 _ _ (check-number (args .delays .now) (args .k) (args .window) (args .set .now) (at-check .check .result) (c .before .number .result) (c .before .number .ensures) (at-check .check .ensures)) (c .if1 .taken)
 
 returns-2 : tie.Need-returns-2
-returns-2 c = lent-short _ _ 1 _ _ (check-number (c .before .before .before .before .before .before .before .args .delays .now) (c .before .before .before .before .before .before .before .args .k) (c .before .before .before .before .before .before .before .args .window) (c .before .before .before .before .before .before .before .args .set .now) (c .before .before .before .check .result) (c .before .before .number .result) (c .before .before .number .ensures) (c .before .before .before .check .ensures)) (c .before .if1 .left) (c .if2 .taken)
+returns-2 c =
+    let at-number = c .before .before in
+    let at-check = at-number .before in
+    let at-start = at-check .before .before .before .before in
+    let args = at-start .args in
+    lent-short _ _ 1 _ _ (check-number (args .delays .now) (args .k) (args .window) (args .set .now) (at-check .check .result) (at-number .number .result) (at-number .number .ensures) (at-check .check .ensures)) (c .before .if1 .left) (c .if2 .taken)
 
-flag-byte-requires : tie.Need-flag-byte-requires
-flag-byte-requires c κs = search needs
+one-if-requires : tie.Need-one-if-requires
+one-if-requires c κs = search needs
 
 slice-write-accepted : tie.Need-slice-write-accepted
 slice-write-accepted c = search needs
@@ -29,7 +40,13 @@ same-length : tie.Need-same-length
 same-length c = search needs
 
 returns-3 : tie.Need-returns-3
-returns-3 c = lent-done _ _ 1 _ _ (check-number (c .before .before .before .before .before .before .before .before .args .delays .now) (c .before .before .before .before .before .before .before .before .args .k) (c .before .before .before .before .before .before .before .before .args .window) (c .before .before .before .before .before .before .before .before .args .set .now) (c .before .before .before .before .check .result) (c .before .before .before .number .result) (c .before .before .before .number .ensures) (c .before .before .before .before .check .ensures)) (c .before .before .if1 .left) (c .before .if2 .left) _ (one-byte (now (c .before .before .before .before .before .before .before .before .args .accepted)) (c .flag-byte .result) _ (c .before .if2 .left) (c .flag-byte .ensures ∙ ap (λ (r : Checked). flagByte (r .accepted)) (c .before .before .before .before .check .ensures)))
+returns-3 c =
+    let at-if1 = c .before .before in
+    let at-number = at-if1 .before in
+    let at-check = at-number .before in
+    let at-start = at-check .before .before .before .before in
+    let args = at-start .args in
+    lent-done _ _ 1 _ _ (check-number (args .delays .now) (args .k) (args .window) (args .set .now) (at-check .check .result) (at-number .number .result) (at-number .number .ensures) (at-check .check .ensures)) (at-if1 .if1 .left) (c .before .if2 .left) _ (one-byte (now (args .accepted)) (c .one-if .result) _ (c .before .if2 .left) (c .one-if .ensures ∙ ap (λ (r : Checked). oneIf (r .accepted)) (at-check .check .ensures)))
 
 pub levelspruce-paths-check-spec : {M : Type 1} → statement M
 levelspruce-paths-check-spec =
@@ -39,7 +56,7 @@ levelspruce-paths-check-spec =
     number-requires
     returns
     returns-2
-    flag-byte-requires
+    one-if-requires
     slice-write-accepted
     same-length
     returns-3)

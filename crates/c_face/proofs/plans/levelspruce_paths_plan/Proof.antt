@@ -12,10 +12,19 @@ number-requires : tie.Need-number-requires
 number-requires c κs = search needs
 
 returns : tie.Need-returns
-returns c = lent-refused _ _ 65 _ _ (plan-number (c .before .before .before .before .before .args .delays .now) (c .before .before .before .before .before .args .k) (c .before .before .before .before .before .args .window) (c .before .before .plan .result) (c .before .number .result) (c .before .number .ensures) (c .before .before .plan .ensures)) (c .if1 .taken)
+returns c =
+    let at-plan = c .before .before in
+    let at-start = at-plan .before .before .before in
+    let args = at-start .args in
+    lent-refused _ _ 65 _ _ (plan-number (args .delays .now) (args .k) (args .window) (at-plan .plan .result) (c .before .number .result) (c .before .number .ensures) (at-plan .plan .ensures)) (c .if1 .taken)
 
 returns-2 : tie.Need-returns-2
-returns-2 c = lent-short _ _ 65 _ _ (plan-number (c .before .before .before .before .before .before .args .delays .now) (c .before .before .before .before .before .before .args .k) (c .before .before .before .before .before .before .args .window) (c .before .before .before .plan .result) (c .before .before .number .result) (c .before .before .number .ensures) (c .before .before .before .plan .ensures)) (c .before .if1 .left) (c .if2 .taken)
+returns-2 c =
+    let at-number = c .before .before in
+    let at-plan = at-number .before in
+    let at-start = at-plan .before .before .before in
+    let args = at-start .args in
+    lent-short _ _ 65 _ _ (plan-number (args .delays .now) (args .k) (args .window) (at-plan .plan .result) (at-number .number .result) (at-number .number .ensures) (at-plan .plan .ensures)) (c .before .if1 .left) (c .if2 .taken)
 
 put-plan-requires : tie.Need-put-plan-requires
 put-plan-requires c κs = search needs
@@ -24,7 +33,15 @@ same-length : tie.Need-same-length
 same-length c = search needs
 
 returns-3 : tie.Need-returns-3
-returns-3 c = lent-done _ _ 65 _ _ (plan-number (c .before .before .before .before .before .before .before .before .before .before .args .delays .now) (c .before .before .before .before .before .before .before .before .before .before .args .k) (c .before .before .before .before .before .before .before .before .before .before .args .window) (c .before .before .before .before .before .before .before .plan .result) (c .before .before .before .before .before .before .number .result) (c .before .before .before .before .before .before .number .ensures) (c .before .before .before .before .before .before .before .plan .ensures)) (c .before .before .before .before .before .if1 .left) (c .before .before .before .before .if2 .left) _ (c .before .before .put-plan .ensures ∙ ap planBytesOf (c .before .before .before .before .before .before .before .plan .ensures))
+returns-3 c =
+    let at-put-plan = c .before .before in
+    let at-if2 = at-put-plan .before .before in
+    let at-if1 = at-if2 .before in
+    let at-number = at-if1 .before in
+    let at-plan = at-number .before in
+    let at-start = at-plan .before .before .before in
+    let args = at-start .args in
+    lent-done _ _ 65 _ _ (plan-number (args .delays .now) (args .k) (args .window) (at-plan .plan .result) (at-number .number .result) (at-number .number .ensures) (at-plan .plan .ensures)) (at-if1 .if1 .left) (at-if2 .if2 .left) _ (at-put-plan .put-plan .ensures ∙ ap planBytesOf (at-plan .plan .ensures))
 
 pub levelspruce-paths-plan-spec : {M : Type 1} → statement M
 levelspruce-paths-plan-spec =

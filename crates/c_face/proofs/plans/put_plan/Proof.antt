@@ -17,13 +17,20 @@ slice-aggregate-put-bytes-2 : tie.Need-slice-aggregate-put-bytes-2
 slice-aggregate-put-bytes-2 c = search needs
 
 put-bytes-requires-2 : tie.Need-put-bytes-requires-2
-put-bytes-requires-2 c κs = let l : length (c .before .before .before .before .before .before .before .before .before .args .plan .paths) ≡ 64 = simp length-map at (c .before .before .before .before .before .before .before .before .before .good .0 .1 .1 .0 .1 .0 .1) in rw l (omega arith)
+put-bytes-requires-2 c κs =
+    let at-put-bytes = c .before .before .before .before in
+    let at-start = at-put-bytes .before .before .before .before .before in
+    let l : length (at-start .args .plan .paths) ≡ 64 = simp length-map at (at-start .good .0 .1 .1 .0 .1 .0 .1) in rw l (omega arith)
 
 same-length : tie.Need-same-length
 same-length c = search needs
 
 returns : tie.Need-returns
-returns c = plan-whole (c .before .before .before .before .before .before .before .before .before .before .before .before .args .plan) (now (c .before .before .before .before .before .before .before .before .before .before .before .before .args .out)) _ _ (c .before .before .before .before .before .before .before .before .before .before .before .before .pre) (simp length-map at (c .before .before .before .before .before .before .before .before .before .before .before .before .good .0 .1 .1 .0 .1 .0 .1)) (c .before .before .before .before .before .before .before .put-bytes .ensures) (c .before .before .put-bytes2 .ensures)
+returns c =
+    let at-put-bytes2 = c .before .before in
+    let at-put-bytes = at-put-bytes2 .before .before .before .before .before in
+    let at-start = at-put-bytes .before .before .before .before .before in
+    plan-whole (at-start .args .plan) (now (at-start .args .out)) _ _ (at-start .pre) (simp length-map at (at-start .good .0 .1 .1 .0 .1 .0 .1)) (at-put-bytes .put-bytes .ensures) (at-put-bytes2 .put-bytes2 .ensures)
 
 pub put-plan-spec : {M : Type 1} → statement M
 put-plan-spec =

@@ -7,7 +7,9 @@ number-requires : tie.Need-number-requires
 number-requires c κs = search needs
 
 returns : tie.Need-returns
-returns c = keep-refused (c .before .before .before .args .step) _ _ (c .before .number .ensures) (c .if1 .taken)
+returns c =
+    let at-start = c .before .before .before in
+    keep-refused (at-start .args .step) _ _ (c .before .number .ensures) (c .if1 .taken)
 
 put-sender-requires : tie.Need-put-sender-requires
 put-sender-requires c κs = search needs
@@ -16,7 +18,12 @@ same-length : tie.Need-same-length
 same-length c = search needs
 
 returns-2 : tie.Need-returns-2
-returns-2 c = keep-done (c .before .before .before .before .before .before .before .before .args .step) _ _ (c .before .before .before .before .before .before .number .ensures) _ (c .before .before .before .before .before .if1 .left) (c .before .before .put-sender .ensures)
+returns-2 c =
+    let at-put-sender = c .before .before in
+    let at-if1 = at-put-sender .before .before .before in
+    let at-number = at-if1 .before in
+    let at-start = at-number .before .before in
+    keep-done (at-start .args .step) _ _ (at-number .number .ensures) _ (at-if1 .if1 .left) (at-put-sender .put-sender .ensures)
 
 pub keep-spec : {M : Type 1} → statement M
 keep-spec = tie.close (tie.spec number-requires returns put-sender-requires same-length returns-2)

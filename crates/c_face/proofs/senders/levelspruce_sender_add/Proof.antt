@@ -8,7 +8,9 @@ use Rattle.sender.specs.Steps.Call.{AddSlot}
 use Rattle.c_face.proofs.senders.levelspruce_sender_add.Tie as tie
 
 returns : tie.Need-returns
-returns c = step-length _ true (OnTable (AddSlot (c .before .before .args .slot))) (c .if1 .taken)
+returns c =
+    let at-start = c .before .before in
+    step-length _ true (OnTable (AddSlot (at-start .args .slot))) (c .if1 .taken)
 
 sender-of-requires : tie.Need-sender-of-requires
 sender-of-requires c κs = search needs
@@ -23,7 +25,13 @@ same-length : tie.Need-same-length
 same-length c = search needs
 
 returns-2 : tie.Need-returns-2
-returns-2 c = step-kept _ true (OnTable (AddSlot (c .before .before .before .before .before .before .before .before .before .args .slot))) _ _ _ _ (c .before .before .before .before .before .before .before .if1 .left) refl (c .before .before .before .before .before .sender-of .ensures) (c .before .before .before .before .add .ensures) (c .before .before .keep .ensures)
+returns-2 c =
+    let at-keep = c .before .before in
+    let at-add = at-keep .before .before in
+    let at-sender-of = at-add .before in
+    let at-if1 = at-sender-of .before .before in
+    let at-start = at-if1 .before .before in
+    step-kept _ true (OnTable (AddSlot (at-start .args .slot))) _ _ _ _ (at-if1 .if1 .left) refl (at-sender-of .sender-of .ensures) (at-add .add .ensures) (at-keep .keep .ensures)
 
 pub levelspruce-sender-add-spec : {M : Type 1} → statement M
 levelspruce-sender-add-spec =

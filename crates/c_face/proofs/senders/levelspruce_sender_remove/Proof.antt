@@ -8,7 +8,9 @@ use Rattle.sender.specs.Steps.Call.{RemoveSlot}
 use Rattle.c_face.proofs.senders.levelspruce_sender_remove.Tie as tie
 
 returns : tie.Need-returns
-returns c = step-length _ true (OnTable (RemoveSlot (c .before .before .args .slot))) (c .if1 .taken)
+returns c =
+    let at-start = c .before .before in
+    step-length _ true (OnTable (RemoveSlot (at-start .args .slot))) (c .if1 .taken)
 
 sender-of-requires : tie.Need-sender-of-requires
 sender-of-requires c κs = search needs
@@ -23,7 +25,13 @@ same-length : tie.Need-same-length
 same-length c = search needs
 
 returns-2 : tie.Need-returns-2
-returns-2 c = step-kept _ true (OnTable (RemoveSlot (c .before .before .before .before .before .before .before .before .before .args .slot))) _ _ _ _ (c .before .before .before .before .before .before .before .if1 .left) refl (c .before .before .before .before .before .sender-of .ensures) (c .before .before .before .before .remove .ensures) (c .before .before .keep .ensures)
+returns-2 c =
+    let at-keep = c .before .before in
+    let at-remove = at-keep .before .before in
+    let at-sender-of = at-remove .before in
+    let at-if1 = at-sender-of .before .before in
+    let at-start = at-if1 .before .before in
+    step-kept _ true (OnTable (RemoveSlot (at-start .args .slot))) _ _ _ _ (at-if1 .if1 .left) refl (at-sender-of .sender-of .ensures) (at-remove .remove .ensures) (at-keep .keep .ensures)
 
 pub levelspruce-sender-remove-spec : {M : Type 1} → statement M
 levelspruce-sender-remove-spec =

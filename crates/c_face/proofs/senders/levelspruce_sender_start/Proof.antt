@@ -9,10 +9,16 @@ is-outside-requires : tie.Need-is-outside-requires
 is-outside-requires c κs = search needs
 
 returns : tie.Need-returns
-returns c = start-none _ (c .before .before .before .before .args .«first-epoch») _ (c .before .before .if1 .taken) (sym (c .before .is-outside .ensures) ∙ c .if2 .taken)
+returns c =
+    let at-if1 = c .before .before in
+    let at-start = at-if1 .before .before in
+    start-none _ (at-start .args .«first-epoch») _ (at-if1 .if1 .taken) (sym (c .before .is-outside .ensures) ∙ c .if2 .taken)
 
 returns-2 : tie.Need-returns-2
-returns-2 c = start-length _ (c .before .before .before .before .args .«first-epoch») _ (c .before .before .if1 .taken) (sym (c .before .is-outside .ensures) ∙ c .if2 .left)
+returns-2 c =
+    let at-if1 = c .before .before in
+    let at-start = at-if1 .before .before in
+    start-length _ (at-start .args .«first-epoch») _ (at-if1 .if1 .taken) (sym (c .before .is-outside .ensures) ∙ c .if2 .left)
 
 is-outside-requires-2 : tie.Need-is-outside-requires-2
 is-outside-requires-2 c κs = search needs
@@ -24,10 +30,19 @@ same-length : tie.Need-same-length
 same-length c = search needs
 
 returns-3 : tie.Need-returns-3
-returns-3 c = start-outside _ (c .before .before .before .before .before .before .before .before .args .«first-epoch») _ _ (c .before .before .before .before .before .before .if1 .left) (sym (c .before .before .before .before .before .is-outside2 .ensures) ∙ c .before .before .before .before .if3 .taken) (c .before .before .put-start .ensures)
+returns-3 c =
+    let at-put-start = c .before .before in
+    let at-if3 = at-put-start .before .before in
+    let at-is-outside2 = at-if3 .before in
+    let at-if1 = at-is-outside2 .before in
+    let at-start = at-if1 .before .before in
+    start-outside _ (at-start .args .«first-epoch») _ _ (at-if1 .if1 .left) (sym (at-is-outside2 .is-outside2 .ensures) ∙ at-if3 .if3 .taken) (at-put-start .put-start .ensures)
 
 returns-4 : tie.Need-returns-4
-returns-4 c = start-unfit _ _ _ (c .before .before .before .if1 .left) (sym (c .before .before .is-outside2 .ensures) ∙ c .before .if3 .left) (c .if4 .taken)
+returns-4 c =
+    let at-is-outside2 = c .before .before in
+    let at-if1 = at-is-outside2 .before in
+    start-unfit _ _ _ (at-if1 .if1 .left) (sym (at-is-outside2 .is-outside2 .ensures) ∙ c .before .if3 .left) (c .if4 .taken)
 
 cast-put-start : tie.Need-cast-put-start
 cast-put-start c = omega arith
@@ -39,7 +54,13 @@ same-length-2 : tie.Need-same-length-2
 same-length-2 c = search needs
 
 returns-5 : tie.Need-returns-5
-returns-5 c = start-done _ _ _ _ (c .before .before .before .before .before .before .before .if1 .left) (sym (c .before .before .before .before .before .before .is-outside2 .ensures) ∙ c .before .before .before .before .before .if3 .left) (c .before .before .before .before .if4 .left) (c .before .before .put-start2 .ensures)
+returns-5 c =
+    let at-put-start2 = c .before .before in
+    let at-if4 = at-put-start2 .before .before in
+    let at-if3 = at-if4 .before in
+    let at-is-outside2 = at-if3 .before in
+    let at-if1 = at-is-outside2 .before in
+    start-done _ _ _ _ (at-if1 .if1 .left) (sym (at-is-outside2 .is-outside2 .ensures) ∙ at-if3 .if3 .left) (at-if4 .if4 .left) (at-put-start2 .put-start2 .ensures)
 
 pub levelspruce-sender-start-spec : {M : Type 1} → statement M
 levelspruce-sender-start-spec =

@@ -4,14 +4,15 @@ use Prim.Native.Nat.{_≤_, _-_}
 use native.Mathlib.Omega.{arith}
 use lib.Dec.{eqb}
 use lib.ListN.{length, getD}
-use Rattle.circuits.specs.Owners.{byteOf, ownedBytes}
+use Rattle.ground.specs.Flags.{oneIf}
+use Rattle.circuits.specs.Owners.{ownedBytes}
 use Rattle.counting.specs.Each.{Done, done-none, done-more, done-table}
 use borrow.Author.Needs.{needs}
 use Rattle.circuits.proofs.owners.owned_bytes.Statement.{statement}
 use Rattle.circuits.proofs.owners.owned_bytes.Tie as tie
 
 abbrev Inv-loop : tie.InvT-loop
-Inv-loop group owners mark is-group out₀ i₀ out i = (length out₀ ≡ 64) × (i ≤ 64) × Done i (λ j. byteOf (is-group && eqb (getD owners j 0) mark)) out₀ out
+Inv-loop group owners mark is-group out₀ i₀ out i = (length out₀ ≡ 64) × (i ≤ 64) × Done i (λ j. oneIf (is-group && eqb (getD owners j 0) mark)) out₀ out
 
 abbrev μ-loop : tie.MeasureT-loop
 μ-loop group owners mark is-group out₀ i₀ out i = 64 - i
@@ -25,8 +26,8 @@ loop-holds c = (refl, omega arith, done-none _ _)
 array-read-owner : tie.Need-array-read-owner Inv-loop μ-loop
 array-read-owner c = search needs
 
-byte-of-requires : tie.Need-byte-of-requires Inv-loop μ-loop
-byte-of-requires c κs = search needs
+one-if-requires : tie.Need-one-if-requires Inv-loop μ-loop
+one-if-requires c κs = search needs
 
 array-write-out : tie.Need-array-write-out Inv-loop μ-loop
 array-write-out c = search needs
@@ -38,7 +39,7 @@ loop-less : tie.Need-loop-less Inv-loop μ-loop
 loop-less c = search needs
 
 loop-again : tie.Need-loop-again Inv-loop μ-loop
-loop-again c = (c .before .before .loop .inv .0, omega arith, done-more _ (c .before .before .loop .inv .2) (c .byte-of .ensures))
+loop-again c = (c .before .before .loop .inv .0, omega arith, done-more _ (c .before .before .loop .inv .2) (c .one-if .ensures))
 
 returns : tie.Need-returns Inv-loop μ-loop
 unfolding ownedBytes
@@ -53,7 +54,7 @@ owned-bytes-spec =
     mark-of-requires
     loop-holds
     array-read-owner
-    byte-of-requires
+    one-if-requires
     array-write-out
     add-i
     loop-less

@@ -1,4 +1,3 @@
-use mathlib.Core.Path.{ap}
 use Rattle.circuits.specs.Parts.{emptySender}
 use borrow.Author.Needs.{needs}
 use Rattle.circuits.proofs.parts.empty_sender.Statement.{statement}

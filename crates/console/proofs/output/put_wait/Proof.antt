@@ -7,8 +7,8 @@ use Rattle.console.specs.Output.{WAIT, waitText}
 use Rattle.console.proofs.output.put_wait.Statement.{statement}
 use Rattle.console.proofs.output.put_wait.Tie as tie
 
-bit-of-requires : tie.Need-bit-of-requires
-bit-of-requires c κs = search needs
+one-if-requires : tie.Need-one-if-requires
+one-if-requires c κs = search needs
 
 slice-aggregate-put : tie.Need-slice-aggregate-put
 slice-aggregate-put c = search needs
@@ -27,16 +27,16 @@ unfolding waitText
 returns c =
     let w = c .before .before .before .before .before .before .before .before .before in
     let s = w .before .before in
-    let b = ended (decimalText (w .bit-of .result)) LINE-END in
-    let h = rw (← (w .bit-of .ensures)) at (s .pre) in
+    let b = ended (decimalText (w .one-if .result)) LINE-END in
+    let h = rw (← (w .one-if .ensures)) at (s .pre) in
     let p = is-put (shorter (ended WAIT TAB) b (s .args .at) (length (s .args .out .now)) h) (c .before .before .before .before .before .before .put .ensures) in
-    rw (← (w .bit-of .ensures)) (put-then p (is-put (room p b h) (c .before .before .put-number .ensures)))
+    rw (← (w .one-if .ensures)) (put-then p (is-put (room p b h) (c .before .before .put-number .ensures)))
 
 pub put-wait-spec : {M : Type 1} → statement M
 put-wait-spec =
     tie.close
     (tie.spec
-    bit-of-requires
+    one-if-requires
     slice-aggregate-put
     put-requires
     put-number-requires

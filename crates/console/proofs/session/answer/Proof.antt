@@ -1,3 +1,5 @@
+-- `answer` meets its contract: the kept line is read, replied to by the table, and its output put.
+-- Three calls, each with the equation that the next one asks for.
 use mathlib.Core.Path.{ap}
 use borrow.Author.Needs.{needs}
 use Rattle.console.specs.declared.replies.Reply.{Reply}
@@ -12,13 +14,22 @@ reply-to-requires : tie.Need-reply-to-requires
 reply-to-requires c κs = search needs
 
 put-output-requires : tie.Need-put-output-requires
-put-output-requires c κs = (c .before .before .before .before .before .pre, ap (λ (r : Reply). r .number) (c .before .before .reply-to .ensures))
+put-output-requires c κs =
+    let at-reply-to = c .before .before in
+    let at-start = at-reply-to .before .before .before in
+    (at-start .pre, ap (λ (r : Reply). r .number) (at-reply-to .reply-to .ensures))
 
 same-length : tie.Need-same-length
 same-length c = search needs
 
 returns : tie.Need-returns
-returns c = answered (c .before .before .before .before .before .before .before .before .args .table) (c .before .before .before .before .before .before .before .before .args .kept) (c .before .before .before .before .before .before .line-in .result) (c .before .before .before .before .before .reply-to .result) (c .before .before .before .before .before .before .before .before .args .out .now) _ _ (c .before .before .before .before .before .before .line-in .ensures) (c .before .before .before .before .before .reply-to .ensures) (c .before .before .put-output .ensures)
+returns c =
+    let at-put-output = c .before .before in
+    let at-reply-to = at-put-output .before .before .before in
+    let at-line-in = at-reply-to .before in
+    let at-start = at-line-in .before .before in
+    let args = at-start .args in
+    answered (args .table) (args .kept) (at-line-in .line-in .result) (at-reply-to .reply-to .result) (args .out .now) _ _ (at-line-in .line-in .ensures) (at-reply-to .reply-to .ensures) (at-put-output .put-output .ensures)
 
 pub answer-spec : {M : Type 1} → statement M
 answer-spec =

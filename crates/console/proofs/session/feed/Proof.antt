@@ -1,10 +1,15 @@
+-- `feed` meets its contract: 9 for a buffer without room, a line answered where one ends in the input, and otherwise all of it kept.
+-- The place of the first line end is the definition's (`end-is`), and each exit cites the law of Answering for its case.
 use borrow.Author.Needs.{needs}
 use Rattle.console.proofs.Answering.{end-is, feed-short, feed-line, feed-open}
 use Rattle.console.proofs.session.feed.Statement.{statement}
 use Rattle.console.proofs.session.feed.Tie as tie
 
 returns : tie.Need-returns
-returns c = feed-short (c .before .before .before .args .session) (c .before .before .before .args .input .now) (c .before .before .before .args .out .now) (c .if1 .taken)
+returns c =
+    let at-start = c .before .before .before in
+    let args = at-start .args in
+    feed-short (args .session) (args .input .now) (args .out .now) (c .if1 .taken)
 
 find-requires : tie.Need-find-requires
 find-requires c κs = search needs
@@ -25,10 +30,23 @@ same-length : tie.Need-same-length
 same-length c = search needs
 
 returns-2 : tie.Need-returns-2
-returns-2 c = feed-line (c .before .before .before .before .before .before .before .before .before .before .before .before .before .before .args .session) (c .before .before .before .before .before .before .before .before .before .before .before .before .before .before .args .input .now) (c .before .before .before .before .before .before .before .before .before .before .before .before .before .before .args .out .now) (c .before .before .before .before .before .before .before .before .before .before .before .if1 .left) (c .before .before .before .before .before .before .before .before .find .result) (end-is (c .before .before .before .before .before .before .before .before .before .before .before .before .before .before .args .input .now) (c .before .before .before .before .before .before .before .before .find .result) (c .before .before .before .before .before .before .before .before .find .ensures .0)) (c .before .before .before .before .before .before .before .keep-all .result) (c .before .before .before .before .before .before .before .keep-all .ensures) (c .before .before .before .before .before .before .if2 .taken) _ _ _ (c .nothing .result) (c .nothing .ensures) (c .before .before .before .before .answer .ensures)
+returns-2 c =
+    let at-answer = c .before .before .before .before in
+    let at-if2 = at-answer .before .before in
+    let at-keep-all = at-if2 .before in
+    let at-find = at-keep-all .before in
+    let at-if1 = at-find .before .before .before in
+    let at-start = at-if1 .before .before .before in
+    let args = at-start .args in
+    feed-line (args .session) (args .input .now) (args .out .now) (at-if1 .if1 .left) (at-find .find .result) (end-is (args .input .now) (at-find .find .result) (at-find .find .ensures .0)) (at-keep-all .keep-all .result) (at-keep-all .keep-all .ensures) (at-if2 .if2 .taken) _ _ _ (c .nothing .result) (c .nothing .ensures) (at-answer .answer .ensures)
 
 returns-3 : tie.Need-returns-3
-returns-3 c = feed-open (c .before .before .before .before .before .before .before .before .args .session) (c .before .before .before .before .before .before .before .before .args .input .now) (c .before .before .before .before .before .before .before .before .args .out .now) (c .before .before .before .before .before .if1 .left) (c .before .before .find .result) (end-is (c .before .before .before .before .before .before .before .before .args .input .now) (c .before .before .find .result) (c .before .before .find .ensures .0)) (c .before .keep-all .result) (c .before .keep-all .ensures) (c .if2 .left)
+returns-3 c =
+    let at-find = c .before .before in
+    let at-if1 = at-find .before .before .before in
+    let at-start = at-if1 .before .before .before in
+    let args = at-start .args in
+    feed-open (args .session) (args .input .now) (args .out .now) (at-if1 .if1 .left) (at-find .find .result) (end-is (args .input .now) (at-find .find .result) (at-find .find .ensures .0)) (c .before .keep-all .result) (c .before .keep-all .ensures) (c .if2 .left)
 
 pub feed-spec : {M : Type 1} → statement M
 feed-spec =

@@ -1,10 +1,14 @@
+-- `finish` meets its contract: 9 for a buffer without room, the kept line answered, or nothing where none is kept.
+-- Each exit cites the law of Answering for its case.
 use borrow.Author.Needs.{needs}
 use Rattle.console.proofs.Answering.{finish-short, finish-line, finish-none}
 use Rattle.console.proofs.session.finish.Statement.{statement}
 use Rattle.console.proofs.session.finish.Tie as tie
 
 returns : tie.Need-returns
-returns c = finish-short (c .before .before .args .session) (c .before .before .args .out .now) (c .if1 .taken)
+returns c =
+    let at-start = c .before .before in
+    finish-short (at-start .args .session) (at-start .args .out .now) (c .if1 .taken)
 
 answer-requires : tie.Need-answer-requires
 answer-requires c κs = search needs
@@ -16,10 +20,18 @@ same-length : tie.Need-same-length
 same-length c = search needs
 
 returns-2 : tie.Need-returns-2
-returns-2 c = finish-line (c .before .before .before .before .before .before .before .before .before .before .before .before .args .session) (c .before .before .before .before .before .before .before .before .before .before .before .before .args .out .now) (c .before .before .before .before .before .before .before .before .before .before .if1 .left) (c .before .before .before .before .before .before .if2 .taken) _ _ _ (c .nothing .result) (c .nothing .ensures) (c .before .before .before .before .answer .ensures)
+returns-2 c =
+    let at-answer = c .before .before .before .before in
+    let at-if2 = at-answer .before .before in
+    let at-if1 = at-if2 .before .before .before .before in
+    let at-start = at-if1 .before .before in
+    finish-line (at-start .args .session) (at-start .args .out .now) (at-if1 .if1 .left) (at-if2 .if2 .taken) _ _ _ (c .nothing .result) (c .nothing .ensures) (at-answer .answer .ensures)
 
 returns-3 : tie.Need-returns-3
-returns-3 c = finish-none (c .before .before .before .before .before .before .args .session) (c .before .before .before .before .before .before .args .out .now) (c .before .before .before .before .if1 .left) (c .if2 .left)
+returns-3 c =
+    let at-if1 = c .before .before .before .before in
+    let at-start = at-if1 .before .before in
+    finish-none (at-start .args .session) (at-start .args .out .now) (at-if1 .if1 .left) (c .if2 .left)
 
 pub finish-spec : {M : Type 1} → statement M
 finish-spec =

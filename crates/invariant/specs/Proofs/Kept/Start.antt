@@ -106,7 +106,7 @@ fits-rows : (count P W store rows : ℕ) → startFits count P W store rows ≡ 
 unfolding startFits
 fits-rows count P W store rows e = eqb-true rows (rowsFor count) (and-left (eqb rows (rowsFor count)) (eqb store (count * W * (P + 1))) e)
 
-sized-rows : (count P W store : ℕ) (hold restore : List ℕ) (rows : ℕ) → sizedFits count P W store hold restore rows ≡ true → rows ≡ rowsFor count
+pub sized-rows : (count P W store : ℕ) (hold restore : List ℕ) (rows : ℕ) → sizedFits count P W store hold restore rows ≡ true → rows ≡ rowsFor count
 unfolding sizedFits
 sized-rows count P W store hold restore rows e =
     fits-rows count P W store rows (and-right (listFits hold count && listFits restore count) (startFits count P W store rows) e)

@@ -1,5 +1,5 @@
 -- A fixed group's packets: they count as their tags say, and each reads as said.
-use mathlib.Core.Path.{_≡_, refl}
+use mathlib.Core.Path.{_≡_, refl, sym}
 use mathlib.Core.Bool.{Bool, true, not, _&&_, _||_}
 use mathlib.Core.List.{List}
 use Prim.Native.Nat.{ℕ, zero, suc, _+_, _*_, _/_, _%_, _<_}
@@ -9,13 +9,14 @@ use lib.Dec.{eqb}
 use lib.ListN.{getD}
 use borrow.Author.Tests.{eq-eqb, eqb-true, ne-eqb}
 use Rattle.ground.specs.Truth.{and-left}
-use Rattle.packet.specs.Counts.{counts, nibbleIn}
+use Rattle.packet.specs.Counts.{counts}
 use Rattle.packet.specs.Crc.{crcOf}
 use Rattle.packet.specs.Fixed.{fixedFields, fixedNibbles, fixedRulingOf, readFixedNibbles}
 use Rattle.packet.specs.Kinds.{firstTag, fixedKind, frames}
 use Rattle.packet.specs.Laws.Bytes.{byte-back}
 use Rattle.packet.specs.Laws.Counting.{counted-as-sent}
 use Rattle.packet.specs.Laws.Nibbles.{Nibbles, highs-back}
+use Rattle.packet.specs.Laws.Writing.{nibbles-high}
 use Rattle.packet.specs.Layout.{dataOf, fieldsOf, h4Of, highsOf, nibblesOf, sealedOf}
 use Rattle.packet.specs.Theorems.Tags.{epochs-fit, epochs-some}
 use Rattle.packet.specs.Words.{FIXED}
@@ -86,8 +87,8 @@ nibbles-are e q he hq =
     (omega arith, (omega arith, (omega arith, (omega arith, (omega arith, (omega arith, (omega arith, (omega arith, (omega arith, (omega arith, (omega arith, (omega arith, (omega arith, (omega arith, (omega arith, (omega arith, tt))))))))))))))))
 
 sixteen-are : (e q : ℕ) → highsOf (h4Of (fixedNibbles e q)) ≡ nibblesIn fixedKind (h4Of (fixedNibbles e q))
-unfolding nibblesIn nibbleIn highsOf
-sixteen-are e q = refl
+unfolding nibblesIn
+sixteen-are e q = sym (nibbles-high fixedKind (h4Of (fixedNibbles e q)))
 
 back : (e q : ℕ) → e < 256 → q < 256 → highsOf (h4Of (fixedNibbles e q)) ≡ fixedNibbles e q
 unfolding fixedNibbles

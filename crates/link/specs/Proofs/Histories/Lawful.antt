@@ -7,11 +7,11 @@ use lib.Dec.{eqb}
 use lib.ListN.{length}
 use borrow.Author.Tests.{eq-eqb}
 use Rattle.ground.specs.Truth.{cond-by}
-use Rattle.packet.specs.Counts.{nibbleIn}
 use Rattle.packet.specs.declared.reader.Reading.{Reading}
 use Rattle.packet.specs.declared.reader.Reading.the-variants.{Crc, Packet}
 use Rattle.packet.specs.declared.layout.Fields.{Fields}
 use Rattle.packet.specs.Kinds.{fixedKind}
+use Rattle.packet.specs.Laws.Writing.{nibbles-high}
 use Rattle.packet.specs.Layout.{fieldsOf, highsOf}
 use Rattle.packet.specs.Reading.{readNibbles}
 use Rattle.packet.specs.declared.ruling.Ruling.{Ruling}
@@ -30,18 +30,18 @@ use Rattle.link.specs.Proofs.Histories.Sure.{sure}
 
 read-as : (kind epoch : ℕ) → eqb kind fixedKind ≡ false → (bytes : List ℕ) (f : Fields) → readNibbles (highsOf bytes) ≡ Packet f → fieldsOf (highsOf bytes) .epoch ≡ epoch
     → ownRuling kind epoch (nibblesIn kind bytes) ≡ rulingBy (Packet f)
-unfolding ownRuling ownNumber rulingIn rulingOf nibblesIn nibbleIn highsOf
-read-as kind epoch lcas bytes f e own = rw (eq-eqb (fieldsOf (highsOf bytes) .epoch) epoch own, lcas) (ap rulingBy e)
+unfolding ownRuling ownNumber rulingIn rulingOf nibblesIn
+read-as kind epoch lcas bytes f e own = rw (nibbles-high kind bytes, eq-eqb (fieldsOf (highsOf bytes) .epoch) epoch own, lcas) (ap rulingBy e)
 
 refused-as : (kind epoch : ℕ) → eqb kind fixedKind ≡ false → (bytes : List ℕ) → readNibbles (highsOf bytes) ≡ Crc → ownRuling kind epoch (nibblesIn kind bytes) .good ≡ false
-unfolding ownRuling rulingIn rulingOf nibblesIn nibbleIn highsOf
+unfolding ownRuling rulingIn rulingOf nibblesIn
 refused-as kind epoch lcas bytes e =
-    rw lcas
+    rw (nibbles-high kind bytes, lcas)
     (cond-by (λ (r : Ruling). r .good ≡ false) (ownNumber epoch (highsOf bytes)) (rulingBy (readNibbles (highsOf bytes))) refused (λ own. ap (λ (q : Reading). rulingBy q .good) e) (λ other. refl))
 
 even-as : (kind epoch : ℕ) → eqb kind fixedKind ≡ false → (bytes : List ℕ) → readNibbles (highsOf bytes) ≡ Crc → oddPacket kind epoch (nibblesIn kind bytes) ≡ false
-unfolding oddPacket rightCrc nibblesIn nibbleIn highsOf
-even-as kind epoch lcas bytes e = rw (lcas, e) refl
+unfolding oddPacket rightCrc nibblesIn
+even-as kind epoch lcas bytes e = rw (nibbles-high kind bytes, lcas, e) refl
 
 pub history-lawful : (h : History) → Allowed h → (P : ℕ) (client : Client) → Handed h P client
     → (unranked : ℕ → ℕ → List ℕ) → ((x slot : ℕ) → slot < h .slots → length (unranked x slot) ≡ P) → Lawful (sendingOf h P client unranked) P client

@@ -1,15 +1,16 @@
 -- Each report of a link is the one to come: sure with the client's bytes where all ruling packets came as sent, and otherwise held, with none.
-use mathlib.Core.Path.{_≡_, refl, _∙_, sym, ap, ap₂}
+use mathlib.Core.Path.{_≡_, refl, _∙_, sym, ap}
 use mathlib.Core.Logic.{⊎-elim}
-use mathlib.Core.Bool.{Bool, true, false, cond, false≢true, true≢false}
+use mathlib.Core.Bool.{Bool, true, false, cond, true≢false}
 use mathlib.Core.List.{List, [], _∷_}
 use Prim.Native.Nat.{ℕ, suc, _<_}
 use native.Mathlib.Omega.{arith}
 use lib.Dec.{eqb}
 use lib.ListN.{drop, length}
-use borrow.Author.Tests.{eq-eqb, eqb-true}
+use borrow.Author.Tests.{eq-eqb}
 use Rattle.counting.specs.Laws.Tests.{every-at, every-lacks}
-use Rattle.ground.specs.Truth.{and-left, and-right, and-true}
+use Rattle.ground.specs.Finite.{same-bytes}
+use Rattle.ground.specs.Truth.{and-true}
 use Rattle.judge.specs.declared.seen.Seen.{Seen}
 use Rattle.judge.specs.Theorems.Held.{refused}
 use Rattle.judge.specs.Verdict.{HELD, SURE, judgeOf}
@@ -19,13 +20,6 @@ use Rattle.link.specs.Proofs.Judged.Sure.{frames-are, sure}
 use Rattle.link.specs.Link.{AssumedOver, Damaged, Link, allAsSent, clientBytes, epochFrames, expected, kindOf, roadOf, sameBytes, sentTo}
 use Rattle.link.specs.Sending.{Covered, epochNumber, epochStart}
 use Rattle.link.specs.Told.{Told}
-
-pub same-lists : (l m : List ℕ) → sameBytes l m ≡ true → l ≡ m
-same-lists [] [] t = refl
-same-lists [] (n ∷ m) t = absurd (false≢true t)
-same-lists (k ∷ l) [] t = absurd (false≢true t)
-same-lists (k ∷ l) (n ∷ m) t =
-    ap₂ _∷_ (eqb-true k n (and-left (eqb k n) (sameBytes l m) t)) (same-lists l m (and-right (eqb k n) (sameBytes l m) t))
 
 pub same-self : (l : List ℕ) → sameBytes l l ≡ true
 same-self [] = refl
@@ -65,7 +59,7 @@ module _ (k : Link) (a : AssumedOver k) (i : ℕ) (covered : Covered (k .sending
   unfolding allAsSent
   by-test true e =
       let sent : (p : ℕ) → p < k .ports → k .came i p ≡ sentTo k i p =
-      (λ p b. same-lists (k .came i p) (sentTo k i p) (every-at (k .ports) (λ q. sameBytes (k .came i q) (sentTo k i q)) e p b)) in
+      (λ p b. same-bytes (k .came i p) (sentTo k i p) (every-at (k .ports) (λ q. sameBytes (k .came i q) (sentTo k i q)) e p b)) in
       report-is SURE (clientBytes k (suc i)) (sure k a i covered sent) (frames-are k a i covered sent (epochFrames k) (omega arith))
   by-test false e =
       let o = every-lacks (k .ports) (λ q. sameBytes (k .came i q) (sentTo k i q)) e in

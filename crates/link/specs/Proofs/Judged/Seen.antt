@@ -10,7 +10,7 @@ use Rattle.judge.specs.declared.seen.Seen.{Seen}
 use Rattle.judge.specs.Seen.{refusedSeen, seenAt}
 use Rattle.packet.specs.Counts.{nibbleIn}
 use Rattle.packet.specs.Kinds.{frames}
-use Rattle.packet.specs.Laws.Epochs.{epoch-in, nibbles-in, place-in}
+use Rattle.packet.specs.Laws.Epochs.{epoch-in, place-in}
 use Rattle.packet.specs.Theorems.Tags.{frames-some}
 use Rattle.packet.specs.declared.ruling.Ruling.{Ruling}
 use Rattle.step.specs.Own.{ownRuling}
@@ -38,8 +38,8 @@ module _ (k : Link) where
   unfolding packetOf roadOf nibblesIn
   packet-of i p =
       let kind : ℕ = kindOf k in
-      tabulate-ext 16 (λ j. nibbleIn kind (getD (k .came ((i * frames kind + j) / frames kind) p) ((i * frames kind + j) % frames kind) 0)) (λ j. nibbleIn kind (getD (k .came i p) j 0))
-      (λ j b. let l = nibbles-in kind j b in rw (epoch-in kind i j l, place-in kind i j l) refl)
+      tabulate-ext (frames kind) (λ j. nibbleIn kind (getD (k .came ((i * frames kind + j) / frames kind) p) ((i * frames kind + j) % frames kind) 0)) (λ j. nibbleIn kind (getD (k .came i p) j 0))
+      (λ j b. rw (epoch-in kind i j b, place-in kind i j b) refl)
 
   -- the reading of what came
   abbrev readIn : ℕ → List ℕ → Ruling

@@ -13,7 +13,8 @@ use Rattle.ground.specs.Truth.{eq-or-ne}
 use Rattle.packet.specs.Clock.{by}
 use Rattle.packet.specs.Counts.{nibbleIn}
 use Rattle.packet.specs.Kinds.{endsEpoch, epochOf, frames, lead, placeOf, startsEpoch}
-use Rattle.packet.specs.Laws.Epochs.{nibbles-in, place-in, place-lt, position-is}
+use Rattle.packet.specs.Laws.Epochs.{place-in, place-lt, position-is}
+use Rattle.packet.specs.Laws.Writing.{packet-sized}
 use Rattle.packet.specs.Theorems.Tags.{frames-some, tagOf}
 use Rattle.receiver.specs.Frame.{oddIn, ownTag}
 use Rattle.rows.specs.Port.{portAt}
@@ -95,11 +96,11 @@ module _ (r : Road) where
         let some = frames-some (r .kind) in
         let now : Live r p (x + 1) (set row (x % L r) (nibbleIn (r .kind) (r .h4 p x))) = live-on p x row o in
         let is = position-is (r .kind) x in
-        tabulate-is (set row (x % L r) (nibbleIn (r .kind) (r .h4 p x))) 16 (λ k. nibbleIn (r .kind) (r .h4 p (x / L r * L r + k))) 0 (now .long)
+        tabulate-is (set row (x % L r) (nibbleIn (r .kind) (r .h4 p x))) (L r) (λ k. nibbleIn (r .kind) (r .h4 p (x / L r * L r + k))) 0 (now .long ∙ sym (packet-sized (r .kind)))
         (λ k b.
-        let l = nibbles-in (r .kind) k b in
-        let e : (x / L r * L r + k) % L r ≡ k = place-in (r .kind) (x / L r) k l in
-        rw e at (now .holds (x / L r * L r + k) (omega arith) (omega arith) (omega arith) (rw e b)))
+        let e : (x / L r * L r + k) % L r ≡ k = place-in (r .kind) (x / L r) k b in
+        let small : k < 16 = rw (packet-sized (r .kind)) at b in
+        rw e at (now .holds (x / L r * L r + k) (omega arith) (omega arith) (omega arith) (rw e small)))
 
     pub live-even : (p x : ℕ) (row : List ℕ) → p < r .ports → Live r p x row → startFrom (r .kind) (r .offset) (r .first p) + L r * 2 ≤ x
         → endsOdd (r .kind) row (tagOf (r .kind) (r .offset + x)) (r .h4 p x) ≡ false

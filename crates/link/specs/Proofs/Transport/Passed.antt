@@ -10,7 +10,7 @@ use lib.ListN.{getD, length}
 use borrow.Author.Tests.{lt-leb}
 use Rattle.ground.specs.Truth.{le-or-lt}
 use Rattle.packet.specs.Kinds.{firstTag, frames}
-use Rattle.packet.specs.Laws.Epochs.{marks-enough, nibbles-in}
+use Rattle.packet.specs.Laws.Epochs.{marks-enough}
 use Rattle.packet.specs.Theorems.Tags.{epoch-after-lt, first-after, frames-some, tagOf}
 use Rattle.phases.specs.Laws.Lengths.{length-passed}
 use Rattle.phases.specs.Laws.Passed.{passed-group, passed-marks-at, passed-of-port, passed-step-at}
@@ -162,11 +162,10 @@ module _ (r : Road) (fair : Fair r) (m m′ : Moment) (coming : ℕ → ℕ) (i 
       let h = all p b in
       t .ruling p b
       ∙ rw (first-brought p b)
-      (packet-stands g p (λ k. r .bytes p (i * L r + k)) (λ k. r .h4 p (i * L r + k)) (m .store) frame ∙ rw (o .lined .kind-is) refl)
+      (packet-stands g p (λ k. r .bytes p (i * L r + k)) (λ k. r .h4 p (i * L r + k)) (m .store) (λ k c. frame k (rw (o .lined .kind-is) at c)) ∙ rw (o .lined .kind-is) refl)
     where
-      frame : (k : ℕ) → k < 16 → Stands g p k (r .bytes p (i * L r + k)) (r .h4 p (i * L r + k)) (m .store)
+      frame : (k : ℕ) → k < L r → Stands g p k (r .bytes p (i * L r + k)) (r .h4 p (i * L r + k)) (m .store)
       frame k c =
-          let d = nibbles-in (r .kind) k c in
           let h = all p b in
           let e : i * L r + k - i * L r ≡ k = omega arith in
           rw e at (o .stands p (i * L r + k) b (omega arith) (omega arith))

@@ -1,4 +1,3 @@
-use native.Mathlib.Omega.{arith}
 use Rattle.packet.proofs.Answers.{fixed-done, fixed-epoch, fixed-length, fixed-sq}
 use borrow.Author.Needs.{needs}
 use Rattle.packet.proofs.fixed.write_fixed.Statement.{statement}

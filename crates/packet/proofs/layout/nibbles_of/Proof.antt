@@ -6,8 +6,8 @@ use Rattle.packet.proofs.layout.nibbles_of.Tie as tie
 data-of-requires : tie.Need-data-of-requires
 data-of-requires c κs = search needs
 
-crc-to-write-requires : tie.Need-crc-to-write-requires
-crc-to-write-requires c κs = search needs
+crc-requires : tie.Need-crc-requires
+crc-requires c κs = search needs
 
 array-write-nibbles : tie.Need-array-write-nibbles
 array-write-nibbles c = search needs
@@ -16,9 +16,9 @@ array-write-nibbles-2 : tie.Need-array-write-nibbles-2
 array-write-nibbles-2 c = search needs
 
 returns : tie.Need-returns
-returns c = sealed-nibbles _ _ _ (c .before .data-of .ensures) (c .crc-to-write .ensures)
+returns c = sealed-nibbles _ _ _ (c .before .data-of .ensures) (c .crc .ensures)
 
 pub nibbles-of-spec : {M : Type 1} → statement M
 nibbles-of-spec =
     tie.close
-    (tie.spec data-of-requires crc-to-write-requires array-write-nibbles array-write-nibbles-2 returns)
+    (tie.spec data-of-requires crc-requires array-write-nibbles array-write-nibbles-2 returns)

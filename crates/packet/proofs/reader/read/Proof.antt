@@ -1,7 +1,9 @@
-use mathlib.Core.Path.{refl}
+use mathlib.Core.Path.{refl, _∙_}
 use borrow.Author.Needs.{needs}
 use borrow.Author.Tests.{eq-eqb, ne-eqb}
+use Rattle.packet.specs.Layout.{highsOf}
 use Rattle.packet.specs.Reading.{readAnswer}
+use Rattle.packet.proofs.Eight.{by-bytes}
 use Rattle.packet.proofs.reader.read.Statement.{statement}
 use Rattle.packet.proofs.reader.read.Tie as tie
 
@@ -9,15 +11,124 @@ returns : tie.Need-returns
 unfolding readAnswer
 returns c = rw (ne-eqb _ 16 (c .if1 .taken)) refl
 
-highs-of-requires : tie.Need-highs-of-requires
-highs-of-requires c κs = search needs
+shared-slice-read-byte-of : tie.Need-shared-slice-read-byte-of
+shared-slice-read-byte-of c = search needs
 
-read-nibbles-requires : tie.Need-read-nibbles-requires
-read-nibbles-requires c κs = search needs
+shared-slice-read-byte-of-2 : tie.Need-shared-slice-read-byte-of-2
+shared-slice-read-byte-of-2 c = search needs
+
+byte-of-requires : tie.Need-byte-of-requires
+byte-of-requires c κs = search needs
+
+shared-slice-read-byte-of-3 : tie.Need-shared-slice-read-byte-of-3
+shared-slice-read-byte-of-3 c = search needs
+
+shared-slice-read-byte-of-4 : tie.Need-shared-slice-read-byte-of-4
+shared-slice-read-byte-of-4 c = search needs
+
+byte-of-requires-2 : tie.Need-byte-of-requires-2
+byte-of-requires-2 c κs = search needs
+
+shared-slice-read-byte-of-5 : tie.Need-shared-slice-read-byte-of-5
+shared-slice-read-byte-of-5 c = search needs
+
+shared-slice-read-byte-of-6 : tie.Need-shared-slice-read-byte-of-6
+shared-slice-read-byte-of-6 c = search needs
+
+byte-of-requires-3 : tie.Need-byte-of-requires-3
+byte-of-requires-3 c κs = search needs
+
+shared-slice-read-byte-of-7 : tie.Need-shared-slice-read-byte-of-7
+shared-slice-read-byte-of-7 c = search needs
+
+shared-slice-read-byte-of-8 : tie.Need-shared-slice-read-byte-of-8
+shared-slice-read-byte-of-8 c = search needs
+
+byte-of-requires-4 : tie.Need-byte-of-requires-4
+byte-of-requires-4 c κs = search needs
+
+shared-slice-read-byte-of-9 : tie.Need-shared-slice-read-byte-of-9
+shared-slice-read-byte-of-9 c = search needs
+
+shared-slice-read-byte-of-10 : tie.Need-shared-slice-read-byte-of-10
+shared-slice-read-byte-of-10 c = search needs
+
+byte-of-requires-5 : tie.Need-byte-of-requires-5
+byte-of-requires-5 c κs = search needs
+
+shared-slice-read-byte-of-11 : tie.Need-shared-slice-read-byte-of-11
+shared-slice-read-byte-of-11 c = search needs
+
+shared-slice-read-byte-of-12 : tie.Need-shared-slice-read-byte-of-12
+shared-slice-read-byte-of-12 c = search needs
+
+byte-of-requires-6 : tie.Need-byte-of-requires-6
+byte-of-requires-6 c κs = search needs
+
+shared-slice-read-byte-of-13 : tie.Need-shared-slice-read-byte-of-13
+shared-slice-read-byte-of-13 c = search needs
+
+shared-slice-read-byte-of-14 : tie.Need-shared-slice-read-byte-of-14
+shared-slice-read-byte-of-14 c = search needs
+
+byte-of-requires-7 : tie.Need-byte-of-requires-7
+byte-of-requires-7 c κs = search needs
+
+shared-slice-read-byte-of-15 : tie.Need-shared-slice-read-byte-of-15
+shared-slice-read-byte-of-15 c = search needs
+
+shared-slice-read-byte-of-16 : tie.Need-shared-slice-read-byte-of-16
+shared-slice-read-byte-of-16 c = search needs
+
+byte-of-requires-8 : tie.Need-byte-of-requires-8
+byte-of-requires-8 c κs = search needs
+
+read-bytes-requires : tie.Need-read-bytes-requires
+read-bytes-requires c κs = search needs
 
 returns-2 : tie.Need-returns-2
-unfolding readAnswer
-returns-2 c = rw (eq-eqb _ 16 (c .before .before .if1 .left), ← c .before .highs-of .ensures) (c .read-nibbles .ensures)
+unfolding readAnswer highsOf
+returns-2 c =
+    rw (eq-eqb _ 16 (c .before .before .before .before .before .before .before .before .before .before .before .before .before .before .before .before .before .before .before .before .before .before .before .before .before .if1 .left))
+    (c .read-bytes .ensures
+    ∙ by-bytes (highsOf (c .before .before .before .before .before .before .before .before .before .before .before .before .before .before .before .before .before .before .before .before .before .before .before .before .before .before .before .args .h4 .now)) refl _ _ _ _ _ _ _ _
+    (c .before .before .before .before .before .before .before .before .before .before .before .before .before .before .before .before .before .before .before .before .before .before .byte-of .ensures)
+    (c .before .before .before .before .before .before .before .before .before .before .before .before .before .before .before .before .before .before .before .byte-of2 .ensures)
+    (c .before .before .before .before .before .before .before .before .before .before .before .before .before .before .before .before .byte-of3 .ensures)
+    (c .before .before .before .before .before .before .before .before .before .before .before .before .before .byte-of4 .ensures)
+    (c .before .before .before .before .before .before .before .before .before .before .byte-of5 .ensures)
+    (c .before .before .before .before .before .before .before .byte-of6 .ensures)
+    (c .before .before .before .before .byte-of7 .ensures)
+    (c .before .byte-of8 .ensures))
 
 pub read-spec : {M : Type 1} → statement M
-read-spec = tie.close (tie.spec returns highs-of-requires read-nibbles-requires returns-2)
+read-spec =
+    tie.close
+    (tie.spec
+    returns
+    shared-slice-read-byte-of
+    shared-slice-read-byte-of-2
+    byte-of-requires
+    shared-slice-read-byte-of-3
+    shared-slice-read-byte-of-4
+    byte-of-requires-2
+    shared-slice-read-byte-of-5
+    shared-slice-read-byte-of-6
+    byte-of-requires-3
+    shared-slice-read-byte-of-7
+    shared-slice-read-byte-of-8
+    byte-of-requires-4
+    shared-slice-read-byte-of-9
+    shared-slice-read-byte-of-10
+    byte-of-requires-5
+    shared-slice-read-byte-of-11
+    shared-slice-read-byte-of-12
+    byte-of-requires-6
+    shared-slice-read-byte-of-13
+    shared-slice-read-byte-of-14
+    byte-of-requires-7
+    shared-slice-read-byte-of-15
+    shared-slice-read-byte-of-16
+    byte-of-requires-8
+    read-bytes-requires
+    returns-2)

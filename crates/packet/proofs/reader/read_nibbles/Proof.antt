@@ -1,43 +1,125 @@
-use mathlib.Core.Path.{_∙_, sym}
+use mathlib.Core.Path.{_∙_}
+use native.Mathlib.Omega.{arith}
 use borrow.Author.Needs.{needs}
-use borrow.Author.Tests.{not-true, not-false}
-use Rattle.packet.proofs.Answers.{read-crc, read-fixed, read-unassigned, read-packet}
+use Rattle.packet.proofs.Eight.{by-bytes}
 use Rattle.packet.proofs.reader.read_nibbles.Statement.{statement}
 use Rattle.packet.proofs.reader.read_nibbles.Tie as tie
 
-carried-in-requires : tie.Need-carried-in-requires
-carried-in-requires c κs = search needs
+array-read-byte-of : tie.Need-array-read-byte-of
+array-read-byte-of c = search needs
 
-crc-requires : tie.Need-crc-requires
-crc-requires c κs = search needs
+array-read-byte-of-2 : tie.Need-array-read-byte-of-2
+array-read-byte-of-2 c = search needs
+
+byte-of-requires : tie.Need-byte-of-requires
+byte-of-requires c κs = search needs
+
+array-read-byte-of-3 : tie.Need-array-read-byte-of-3
+array-read-byte-of-3 c = search needs
+
+array-read-byte-of-4 : tie.Need-array-read-byte-of-4
+array-read-byte-of-4 c = search needs
+
+byte-of-requires-2 : tie.Need-byte-of-requires-2
+byte-of-requires-2 c κs = search needs
+
+array-read-byte-of-5 : tie.Need-array-read-byte-of-5
+array-read-byte-of-5 c = search needs
+
+array-read-byte-of-6 : tie.Need-array-read-byte-of-6
+array-read-byte-of-6 c = search needs
+
+byte-of-requires-3 : tie.Need-byte-of-requires-3
+byte-of-requires-3 c κs = search needs
+
+array-read-byte-of-7 : tie.Need-array-read-byte-of-7
+array-read-byte-of-7 c = search needs
+
+array-read-byte-of-8 : tie.Need-array-read-byte-of-8
+array-read-byte-of-8 c = search needs
+
+byte-of-requires-4 : tie.Need-byte-of-requires-4
+byte-of-requires-4 c κs = search needs
+
+array-read-byte-of-9 : tie.Need-array-read-byte-of-9
+array-read-byte-of-9 c = search needs
+
+array-read-byte-of-10 : tie.Need-array-read-byte-of-10
+array-read-byte-of-10 c = search needs
+
+byte-of-requires-5 : tie.Need-byte-of-requires-5
+byte-of-requires-5 c κs = search needs
+
+array-read-byte-of-11 : tie.Need-array-read-byte-of-11
+array-read-byte-of-11 c = search needs
+
+array-read-byte-of-12 : tie.Need-array-read-byte-of-12
+array-read-byte-of-12 c = search needs
+
+byte-of-requires-6 : tie.Need-byte-of-requires-6
+byte-of-requires-6 c κs = search needs
+
+array-read-byte-of-13 : tie.Need-array-read-byte-of-13
+array-read-byte-of-13 c = search needs
+
+array-read-byte-of-14 : tie.Need-array-read-byte-of-14
+array-read-byte-of-14 c = search needs
+
+byte-of-requires-7 : tie.Need-byte-of-requires-7
+byte-of-requires-7 c κs = search needs
+
+array-read-byte-of-15 : tie.Need-array-read-byte-of-15
+array-read-byte-of-15 c = search needs
+
+array-read-byte-of-16 : tie.Need-array-read-byte-of-16
+array-read-byte-of-16 c = search needs
+
+byte-of-requires-8 : tie.Need-byte-of-requires-8
+byte-of-requires-8 c κs = search needs
+
+read-bytes-requires : tie.Need-read-bytes-requires
+read-bytes-requires c κs = search needs
 
 returns : tie.Need-returns
-returns c = read-crc _ _ _ (c .before .crc .ensures) (c .before .before .carried-in .ensures) (c .if1 .taken)
-
-fields-of-requires : tie.Need-fields-of-requires
-fields-of-requires c κs = search needs
-
-returns-2 : tie.Need-returns-2
-returns-2 c = read-fixed _ _ _ (c .before .before .before .before .before .before .crc .ensures) (c .before .before .before .before .before .before .before .carried-in .ensures) (c .before .before .before .before .before .if1 .left) _ (c .before .before .before .before .fields-of .ensures) (c .if2 .taken)
-
-is-assigned-requires : tie.Need-is-assigned-requires
-is-assigned-requires c κs = search needs
-
-returns-3 : tie.Need-returns-3
-returns-3 c = read-unassigned _ _ _ (c .before .before .before .before .before .before .before .before .crc .ensures) (c .before .before .before .before .before .before .before .before .before .carried-in .ensures) (c .before .before .before .before .before .before .before .if1 .left) _ (c .before .before .before .before .before .before .fields-of .ensures) (c .before .before .if2 .left) (sym (c .before .is-assigned .ensures) ∙ not-true _ (c .if3 .taken))
-
-returns-4 : tie.Need-returns-4
-returns-4 c = read-packet _ _ _ (c .before .before .before .before .before .before .before .before .crc .ensures) (c .before .before .before .before .before .before .before .before .before .carried-in .ensures) (c .before .before .before .before .before .before .before .if1 .left) _ (c .before .before .before .before .before .before .fields-of .ensures) (c .before .before .if2 .left) (sym (c .before .is-assigned .ensures) ∙ not-false _ (c .if3 .left))
+returns c =
+    c .read-bytes .ensures
+    ∙ by-bytes (c .before .before .before .before .before .before .before .before .before .args .t1) (omega arith) _ _ _ _ _ _ _ _
+    (c .before .before .before .before .before .before .before .before .byte-of .ensures)
+    (c .before .before .before .before .before .before .before .byte-of2 .ensures)
+    (c .before .before .before .before .before .before .byte-of3 .ensures)
+    (c .before .before .before .before .before .byte-of4 .ensures)
+    (c .before .before .before .before .byte-of5 .ensures)
+    (c .before .before .before .byte-of6 .ensures)
+    (c .before .before .byte-of7 .ensures)
+    (c .before .byte-of8 .ensures)
 
 pub read-nibbles-spec : {M : Type 1} → statement M
 read-nibbles-spec =
     tie.close
     (tie.spec
-    carried-in-requires
-    crc-requires
-    returns
-    fields-of-requires
-    returns-2
-    is-assigned-requires
-    returns-3
-    returns-4)
+    array-read-byte-of
+    array-read-byte-of-2
+    byte-of-requires
+    array-read-byte-of-3
+    array-read-byte-of-4
+    byte-of-requires-2
+    array-read-byte-of-5
+    array-read-byte-of-6
+    byte-of-requires-3
+    array-read-byte-of-7
+    array-read-byte-of-8
+    byte-of-requires-4
+    array-read-byte-of-9
+    array-read-byte-of-10
+    byte-of-requires-5
+    array-read-byte-of-11
+    array-read-byte-of-12
+    byte-of-requires-6
+    array-read-byte-of-13
+    array-read-byte-of-14
+    byte-of-requires-7
+    array-read-byte-of-15
+    array-read-byte-of-16
+    byte-of-requires-8
+    read-bytes-requires
+    returns)

@@ -7,12 +7,12 @@ use Rattle.phases.proofs.passing.passed_step.Tie as tie
 one-less-requires : tie.Need-one-less-requires
 one-less-requires c κs = search needs
 
-flag-for-requires : tie.Need-flag-for-requires
-flag-for-requires c κs = search needs
+one-if-requires : tie.Need-one-if-requires
+one-if-requires c κs = search needs
 
 returns : tie.Need-returns
 unfolding passedStep
-returns c = rw (c .flag-for .ensures, c .before .one-less .ensures) refl
+returns c = rw (c .one-if .ensures, c .before .one-less .ensures) refl
 
 pub passed-step-spec : {M : Type 1} → statement M
-passed-step-spec = tie.close (tie.spec one-less-requires flag-for-requires returns)
+passed-step-spec = tie.close (tie.spec one-less-requires one-if-requires returns)

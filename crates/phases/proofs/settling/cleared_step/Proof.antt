@@ -4,12 +4,12 @@ use borrow.Author.Needs.{needs}
 use Rattle.phases.proofs.settling.cleared_step.Statement.{statement}
 use Rattle.phases.proofs.settling.cleared_step.Tie as tie
 
-flag-for-requires : tie.Need-flag-for-requires
-flag-for-requires c κs = search needs
+one-if-requires : tie.Need-one-if-requires
+one-if-requires c κs = search needs
 
 returns : tie.Need-returns
 unfolding clearedStep
-returns c = rw (c .flag-for .ensures) refl
+returns c = rw (c .one-if .ensures) refl
 
 pub cleared-step-spec : {M : Type 1} → statement M
-cleared-step-spec = tie.close (tie.spec flag-for-requires returns)
+cleared-step-spec = tie.close (tie.spec one-if-requires returns)

@@ -1,6 +1,6 @@
 use mathlib.Core.Path.{refl}
 use Rattle.receiver.specs.Frame.{steadyRows}
-use Rattle.rows.specs.Laws.Packets.{packets-put-step}
+use Rattle.receiver.proofs.Arriving.{packets-after-step}
 use borrow.Author.Needs.{needs}
 use Rattle.receiver.proofs.arrival.go_on.Statement.{statement}
 use Rattle.receiver.proofs.arrival.go_on.Tie as tie
@@ -25,7 +25,7 @@ same-length c = search needs
 
 returns : tie.Need-returns
 unfolding steadyRows
-returns c = rw (c .before .put-nibble .ensures, c .before .before .before .before .put-next .ensures, c .before .before .before .before .before .before .nibble-in .ensures, c .before .before .before .before .before .before .before .place-of .ensures, c .before .before .before .before .before .before .before .before .next-tag .ensures) (rw (packets-put-step _ _ _ _) refl)
+returns c = rw (c .before .put-nibble .ensures, c .before .before .before .before .put-next .ensures, c .before .before .before .before .before .before .nibble-in .ensures, c .before .before .before .before .before .before .before .place-of .ensures, c .before .before .before .before .before .before .before .before .next-tag .ensures) (rw (packets-after-step _ _ _) refl)
 
 pub go-on-spec : {M : Type 1} → statement M
 go-on-spec =

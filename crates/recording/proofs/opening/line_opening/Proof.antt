@@ -1,3 +1,5 @@
+use mathlib.Core.Path.{ap, _∙_}
+use Rattle.recording.specs.Opening.{handed}
 use borrow.Author.Needs.{needs}
 use Rattle.recording.specs.Laws.Parting.{opening-line-long, opening-line-short}
 use Rattle.recording.proofs.opening.line_opening.Statement.{statement}
@@ -6,14 +8,17 @@ use Rattle.recording.proofs.opening.line_opening.Tie as tie
 sub-if1 : tie.Need-sub-if1
 sub-if1 c = search needs
 
+none-requires : tie.Need-none-requires
+none-requires c κs = search needs
+
 returns : tie.Need-returns
-returns c = opening-line-long 0 0 (c .before .before .args .text .now) (c .before .before .args .at) (c .before .before .args .end) (c .before .before .args .next) (c .before .before .pre .0) (c .before .before .pre .1) (c .if1 .taken)
+returns c = c .none .ensures ∙ ap handed (opening-line-long 0 0 (c .before .before .before .args .text .now) (c .before .before .before .args .at) (c .before .before .before .args .end) (c .before .before .before .args .next) (c .before .before .before .pre .0) (c .before .before .before .pre .1) (c .before .if1 .taken))
 
 short-opening-requires : tie.Need-short-opening-requires
 short-opening-requires c κs = search needs
 
 returns-2 : tie.Need-returns-2
-returns-2 c = opening-line-short 0 0 (c .before .before .before .args .text .now) (c .before .before .before .args .at) (c .before .before .before .args .end) (c .before .before .before .args .next) (c .before .before .before .pre .0) (c .before .before .before .pre .1) (c .before .if1 .left) (c .short-opening .result) (c .short-opening .ensures)
+returns-2 c = c .short-opening .ensures ∙ ap handed (opening-line-short 0 0 (c .before .before .before .args .text .now) (c .before .before .before .args .at) (c .before .before .before .args .end) (c .before .before .before .args .next) (c .before .before .before .pre .0) (c .before .before .before .pre .1) (c .before .if1 .left))
 
 pub line-opening-spec : {M : Type 1} → statement M
-line-opening-spec = tie.close (tie.spec sub-if1 returns short-opening-requires returns-2)
+line-opening-spec = tie.close (tie.spec sub-if1 none-requires returns short-opening-requires returns-2)

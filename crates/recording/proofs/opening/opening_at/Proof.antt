@@ -1,4 +1,5 @@
-use mathlib.Core.Path.{sym, _∙_}
+use Rattle.recording.specs.Opening.{handed}
+use mathlib.Core.Path.{ap, sym, _∙_}
 use native.Mathlib.Omega.{arith}
 use borrow.Author.Needs.{needs}
 use Rattle.recording.specs.Laws.Parting.{ends-within, open-some, opening-ends, opening-last, opening-long, opening-nothing, opening-open}
@@ -17,8 +18,17 @@ enum-told-2 c = search needs
 line-opening-requires : tie.Need-line-opening-requires
 line-opening-requires c κs = let h = open-some (c .before .before .before .before .before .args .text .now) (c .before .before .before .before .before .args .at) (sym (c .before .before .before .find .ensures) ∙ c .before .enum-told2 .given .1) in (omega arith, omega arith)
 
+none-requires : tie.Need-none-requires
+none-requires c κs = search needs
+
+none-requires-2 : tie.Need-none-requires-2
+none-requires-2 c κs = search needs
+
+none-requires-3 : tie.Need-none-requires-3
+none-requires-3 c κs = search needs
+
 returns : tie.Need-returns
-returns c = opening-last (c .before .before .before .before .before .before .args .text .now) (c .before .before .before .before .before .before .args .at) (c .before .before .before .before .before .before .args .last) (c .before .before .before .before .find .result) (c .before .before .before .before .find .ensures) (c .before .before .enum-told2 .given .1) (c .before .if1 .taken) (c .line-opening .result) (c .line-opening .ensures)
+returns c = c .line-opening .ensures ∙ ap handed (opening-last (c .before .before .before .before .before .before .args .text .now) (c .before .before .before .before .before .before .args .at) (c .before .before .before .before .before .before .args .last) (c .before .before .before .before .find .result) (c .before .before .before .before .find .ensures) (c .before .before .enum-told2 .given .1) (c .before .if1 .taken))
 
 enum-told-3 : tie.Need-enum-told-3
 enum-told-3 c = search needs
@@ -35,16 +45,16 @@ line-opening-requires-2 c κs =
     (w .0, omega (arith, w .1))
 
 returns-2 : tie.Need-returns-2
-returns-2 c = opening-nothing (c .before .before .before .before .args .text .now) (c .before .before .before .before .args .at) (c .before .before .before .before .args .last) (c .before .before .find .result) (c .before .before .find .ensures) (c .enum-told .given .1)
+returns-2 c = c .none .ensures ∙ ap handed (opening-nothing (c .before .before .before .before .before .args .text .now) (c .before .before .before .before .before .args .at) (c .before .before .before .before .before .args .last) (c .before .before .before .find .result) (c .before .before .before .find .ensures) (c .before .enum-told .given .1))
 
 returns-3 : tie.Need-returns-3
-returns-3 c = opening-open (c .before .before .before .before .before .args .text .now) (c .before .before .before .before .before .args .at) (c .before .before .before .before .before .args .last) (c .before .before .before .find .result) (c .before .before .before .find .ensures) (c .before .enum-told2 .given .1) (c .if1 .left)
+returns-3 c = c .none2 .ensures ∙ ap handed (opening-open (c .before .before .before .before .before .before .args .text .now) (c .before .before .before .before .before .before .args .at) (c .before .before .before .before .before .before .args .last) (c .before .before .before .before .find .result) (c .before .before .before .before .find .ensures) (c .before .before .enum-told2 .given .1) (c .before .if1 .left))
 
 returns-4 : tie.Need-returns-4
-returns-4 c = opening-long (c .before .before .before .before .args .text .now) (c .before .before .before .before .args .at) (c .before .before .before .before .args .last) (c .before .before .find .result) (c .before .before .find .ensures) (c .enum-told3 .given .1)
+returns-4 c = c .none3 .ensures ∙ ap handed (opening-long (c .before .before .before .before .before .args .text .now) (c .before .before .before .before .before .args .at) (c .before .before .before .before .before .args .last) (c .before .before .before .find .result) (c .before .before .before .find .ensures) (c .before .enum-told3 .given .1))
 
 returns-5 : tie.Need-returns-5
-returns-5 c = opening-ends (c .before .before .before .before .before .before .args .text .now) (c .before .before .before .before .before .before .args .at) (c .before .before .before .before .before .before .args .last) (c .before .before .before .before .find .result) (c .before .before .before .before .find .ensures) (c .before .before .found .given .0 .0) (c .before .before .found .given .1) (c .line-opening2 .result) (c .line-opening2 .ensures)
+returns-5 c = c .line-opening2 .ensures ∙ ap handed (opening-ends (c .before .before .before .before .before .before .args .text .now) (c .before .before .before .before .before .before .args .at) (c .before .before .before .before .before .before .args .last) (c .before .before .before .before .find .result) (c .before .before .before .before .find .ensures) (c .before .before .found .given .0 .0) (c .before .before .found .given .1))
 
 pub opening-at-spec : {M : Type 1} → statement M
-opening-at-spec = tie.close (tie.spec find-requires enum-told enum-told-2 line-opening-requires returns enum-told-3 enum-known-found add-line-opening line-opening-requires-2 returns-2 returns-3 returns-4 returns-5)
+opening-at-spec = tie.close (tie.spec find-requires enum-told none-requires enum-told-2 line-opening-requires returns none-requires-2 enum-told-3 none-requires-3 enum-known-found add-line-opening line-opening-requires-2 returns-2 returns-3 returns-4 returns-5)

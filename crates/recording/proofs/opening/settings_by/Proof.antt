@@ -1,5 +1,8 @@
-use borrow.Author.Needs.{needs}
+use mathlib.Core.Path.{ap, _∙_}
+use Rattle.recording.specs.Opening.{handed}
+use Rattle.recording.specs.Laws.Pairs.{fieldsFrom}
 use Rattle.recording.proofs.Framing.{all-set, no-count, no-size, no-window}
+use borrow.Author.Needs.{needs}
 use Rattle.recording.proofs.opening.settings_by.Statement.{statement}
 use Rattle.recording.proofs.opening.settings_by.Tie as tie
 
@@ -9,8 +12,11 @@ enum-known-ports c = search needs
 enum-told : tie.Need-enum-told
 enum-told c = search needs
 
+none-requires : tie.Need-none-requires
+none-requires c κs = search needs
+
 returns : tie.Need-returns
-returns c = no-count (c .before .before .args .ports) (c .before .before .args .size) (c .before .before .args .window) (c .before .before .args .next) (c .enum-told .given .1)
+returns c = c .none .ensures ∙ ap handed (no-count (c .before .before .before .before .args .ports) (c .before .before .before .before .args .size) (c .before .before .before .before .args .window) (fieldsFrom (c .before .before .before .before .args .start) (c .before .before .before .before .args .end) (c .before .before .before .before .args .text .now)) (c .before .before .before .before .args .next) (c .before .enum-told .given .1))
 
 enum-known-size : tie.Need-enum-known-size
 enum-known-size c = search needs
@@ -18,8 +24,11 @@ enum-known-size c = search needs
 enum-told-2 : tie.Need-enum-told-2
 enum-told-2 c = search needs
 
+none-requires-2 : tie.Need-none-requires-2
+none-requires-2 c κs = search needs
+
 returns-2 : tie.Need-returns-2
-returns-2 c = no-size (c .before .before .before .before .before .args .ports) (c .before .before .before .before .before .args .size) (c .before .before .before .before .before .args .window) (c .before .before .before .before .before .args .next) (c .before .before .before .ports .given .0 .0) (c .before .before .before .ports .given .1) (c .enum-told2 .given .1)
+returns-2 c = c .none2 .ensures ∙ ap handed (no-size (c .before .before .before .before .before .before .before .args .ports) (c .before .before .before .before .before .before .before .args .size) (c .before .before .before .before .before .before .before .args .window) (fieldsFrom (c .before .before .before .before .before .before .before .args .start) (c .before .before .before .before .before .before .before .args .end) (c .before .before .before .before .before .before .before .args .text .now)) (c .before .before .before .before .before .before .before .args .next) (c .before .before .before .before .ports .given .0 .0) (c .before .before .before .before .ports .given .1) (c .before .enum-told2 .given .1))
 
 enum-known-window : tie.Need-enum-known-window
 enum-known-window c = search needs
@@ -27,11 +36,41 @@ enum-known-window c = search needs
 enum-told-3 : tie.Need-enum-told-3
 enum-told-3 c = search needs
 
+none-requires-3 : tie.Need-none-requires-3
+none-requires-3 c κs = search needs
+
 returns-3 : tie.Need-returns-3
-returns-3 c = no-window (c .before .before .before .before .before .before .before .before .args .ports) (c .before .before .before .before .before .before .before .before .args .size) (c .before .before .before .before .before .before .before .before .args .window) (c .before .before .before .before .before .before .before .before .args .next) (c .before .before .before .before .before .before .ports .given .0 .0) (c .before .before .before .size .given .0 .0) (c .before .before .before .before .before .before .ports .given .1) (c .before .before .before .size .given .1) (c .enum-told3 .given .1)
+returns-3 c = c .none3 .ensures ∙ ap handed (no-window (c .before .before .before .before .before .before .before .before .before .before .args .ports) (c .before .before .before .before .before .before .before .before .before .before .args .size) (c .before .before .before .before .before .before .before .before .before .before .args .window) (fieldsFrom (c .before .before .before .before .before .before .before .before .before .before .args .start) (c .before .before .before .before .before .before .before .before .before .before .args .end) (c .before .before .before .before .before .before .before .before .before .before .args .text .now)) (c .before .before .before .before .before .before .before .before .before .before .args .next) (c .before .before .before .before .before .before .before .ports .given .0 .0) (c .before .before .before .before .size .given .0 .0) (c .before .before .before .before .before .before .before .ports .given .1) (c .before .before .before .before .size .given .1) (c .before .enum-told3 .given .1))
+
+no-pairs-requires : tie.Need-no-pairs-requires
+no-pairs-requires c κs = search needs
+
+read-pairs-requires : tie.Need-read-pairs-requires
+read-pairs-requires c κs = search needs
+
+opened-by-requires : tie.Need-opened-by-requires
+opened-by-requires c κs = search needs
 
 returns-4 : tie.Need-returns-4
-returns-4 c = all-set (c .before .before .before .before .before .before .before .before .before .args .ports) (c .before .before .before .before .before .before .before .before .before .args .size) (c .before .before .before .before .before .before .before .before .before .args .window) (c .before .before .before .before .before .before .before .before .before .args .next) (c .before .before .before .before .before .before .before .ports .given .0 .0) (c .before .before .before .before .size .given .0 .0) (c .before .window .given .0 .0) (c .before .before .before .before .before .before .before .ports .given .1) (c .before .before .before .before .size .given .1) (c .before .window .given .1)
+returns-4 c = c .opened-by .ensures ∙ ap handed (all-set (c .before .before .before .before .before .before .before .before .before .before .before .before .before .args .ports) (c .before .before .before .before .before .before .before .before .before .before .before .before .before .args .size) (c .before .before .before .before .before .before .before .before .before .before .before .before .before .args .window) (fieldsFrom (c .before .before .before .before .before .before .before .before .before .before .before .before .before .args .start) (c .before .before .before .before .before .before .before .before .before .before .before .before .before .args .end) (c .before .before .before .before .before .before .before .before .before .before .before .before .before .args .text .now)) (c .before .before .before .before .before .before .before .before .before .before .before .before .before .args .next) (c .before .before .before .before .before .before .before .before .before .before .ports .given .0 .0) (c .before .before .before .before .before .before .before .size .given .0 .0) (c .before .before .before .before .window .given .0 .0) (c .before .before .before .before .before .before .before .before .before .before .ports .given .1) (c .before .before .before .before .before .before .before .size .given .1) (c .before .before .before .before .window .given .1) (c .before .before .no-pairs .result) (c .before .read-pairs .result) (c .before .before .no-pairs .ensures) (c .before .read-pairs .ensures))
 
 pub settings-by-spec : {M : Type 1} → statement M
-settings-by-spec = tie.close (tie.spec enum-known-ports enum-told returns enum-known-size enum-told-2 returns-2 enum-known-window enum-told-3 returns-3 returns-4)
+settings-by-spec =
+    tie.close
+    (tie.spec
+    enum-known-ports
+    enum-told
+    none-requires
+    returns
+    enum-known-size
+    enum-told-2
+    none-requires-2
+    returns-2
+    enum-known-window
+    enum-told-3
+    none-requires-3
+    returns-3
+    no-pairs-requires
+    read-pairs-requires
+    opened-by-requires
+    returns-4)

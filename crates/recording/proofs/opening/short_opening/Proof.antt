@@ -1,13 +1,21 @@
+use mathlib.Core.Path.{ap, _∙_}
+use Rattle.recording.specs.Opening.{handed}
+use Prim.Native.Nat.{_+_, _≤_}
+use native.Mathlib.Omega.{arith}
+use Rattle.recording.specs.Laws.Parting.{opening-one, opening-three, opening-two}
+use Rattle.text.specs.Laws.Slices.{first-le}
 use borrow.Author.Needs.{needs}
-use Rattle.recording.specs.Laws.Parting.{opening-four, opening-one, opening-three, opening-two}
 use Rattle.recording.proofs.opening.short_opening.Statement.{statement}
 use Rattle.recording.proofs.opening.short_opening.Tie as tie
 
 piece-end-requires : tie.Need-piece-end-requires
 piece-end-requires c κs = search needs
 
+none-requires : tie.Need-none-requires
+none-requires c κs = search needs
+
 returns : tie.Need-returns
-returns c = opening-one (c .before .before .before .args .text .now) (c .before .before .before .args .end) (c .before .before .before .args .next) (c .before .before .before .pre .1) (c .before .before .before .args .at) (c .before .piece-end .result) (c .before .before .before .pre .0) (c .before .piece-end .ensures) (c .if1 .taken)
+returns c = c .none .ensures ∙ ap handed (opening-one (c .before .before .before .before .args .text .now) (c .before .before .before .before .args .end) (c .before .before .before .before .args .next) (c .before .before .before .before .pre .1) (c .before .before .before .before .args .at) (c .before .before .piece-end .result) (c .before .before .before .before .pre .0) (c .before .before .piece-end .ensures) (c .before .if1 .taken))
 
 add-piece-end : tie.Need-add-piece-end
 add-piece-end c = search needs
@@ -15,17 +23,17 @@ add-piece-end c = search needs
 piece-end-requires-2 : tie.Need-piece-end-requires-2
 piece-end-requires-2 c κs = search needs
 
+none-requires-2 : tie.Need-none-requires-2
+none-requires-2 c κs = search needs
+
 returns-2 : tie.Need-returns-2
-returns-2 c = opening-two (c .before .before .before .before .before .args .text .now) (c .before .before .before .before .before .args .end) (c .before .before .before .before .before .args .next) (c .before .before .before .before .before .pre .1) (c .before .before .before .before .before .args .at) (c .before .before .before .piece-end .result) (c .before .before .before .before .before .pre .0) (c .before .before .before .piece-end .ensures) (c .before .before .if1 .left) (c .before .piece-end2 .result) (c .before .piece-end2 .ensures) (c .if2 .taken)
+returns-2 c = c .none2 .ensures ∙ ap handed (opening-two (c .before .before .before .before .before .before .args .text .now) (c .before .before .before .before .before .before .args .end) (c .before .before .before .before .before .before .args .next) (c .before .before .before .before .before .before .pre .1) (c .before .before .before .before .before .before .args .at) (c .before .before .before .before .piece-end .result) (c .before .before .before .before .before .before .pre .0) (c .before .before .before .before .piece-end .ensures) (c .before .before .before .if1 .left) (c .before .before .piece-end2 .result) (c .before .before .piece-end2 .ensures) (c .before .if2 .taken))
 
 add-piece-end-2 : tie.Need-add-piece-end-2
 add-piece-end-2 c = search needs
 
 piece-end-requires-3 : tie.Need-piece-end-requires-3
 piece-end-requires-3 c κs = search needs
-
-returns-3 : tie.Need-returns-3
-returns-3 c = opening-four (c .before .before .before .before .before .before .before .args .text .now) (c .before .before .before .before .before .before .before .args .end) (c .before .before .before .before .before .before .before .args .next) (c .before .before .before .before .before .before .before .pre .1) (c .before .before .before .before .before .before .before .args .at) (c .before .before .before .before .before .piece-end .result) (c .before .before .before .before .before .before .before .pre .0) (c .before .before .before .before .before .piece-end .ensures) (c .before .before .before .before .if1 .left) (c .before .before .before .piece-end2 .result) (c .before .before .before .piece-end2 .ensures) (c .before .before .if2 .left) (c .before .piece-end3 .result) (c .before .piece-end3 .ensures) (c .if3 .taken)
 
 read-number-requires : tie.Need-read-number-requires
 read-number-requires c κs = search needs
@@ -42,11 +50,33 @@ add-read-number-2 c = search needs
 read-number-requires-3 : tie.Need-read-number-requires-3
 read-number-requires-3 c κs = search needs
 
+add-settings-by : tie.Need-add-settings-by
+add-settings-by c = let h : (c .before .before .before .before .before .piece-end2 .result) + 1 ≤ (c .before .before .before .before .before .before .before .before .before .args .end) = omega arith in let m = first-le (c .before .before .before .before .before .before .before .before .before .args .text .now) ((c .before .before .before .before .before .piece-end2 .result) + 1) (c .before .before .before .before .before .before .before .before .before .args .end) (c .before .before .before .piece-end3 .result) h (c .before .before .before .before .before .before .before .before .before .pre .1) (c .before .before .before .piece-end3 .ensures) in omega arith
+
 settings-by-requires : tie.Need-settings-by-requires
 settings-by-requires c κs = search needs
 
-returns-4 : tie.Need-returns-4
-returns-4 c = opening-three (c .before .before .before .before .before .before .before .before .before .before .before .args .text .now) (c .before .before .before .before .before .before .before .before .before .before .before .args .end) (c .before .before .before .before .before .before .before .before .before .before .before .args .next) (c .before .before .before .before .before .before .before .before .before .before .before .pre .1) (c .before .before .before .before .before .before .before .before .before .before .before .args .at) (c .before .before .before .before .before .before .before .before .before .piece-end .result) (c .before .before .before .before .before .before .before .before .before .before .before .pre .0) (c .before .before .before .before .before .before .before .before .before .piece-end .ensures) (c .before .before .before .before .before .before .before .before .if1 .left) (c .before .before .before .before .before .before .before .piece-end2 .result) (c .before .before .before .before .before .before .before .piece-end2 .ensures) (c .before .before .before .before .before .before .if2 .left) (c .before .before .before .before .before .piece-end3 .result) (c .before .before .before .before .before .piece-end3 .ensures) (c .before .before .before .before .if3 .left) (c .before .before .before .read-number .result) (c .before .before .read-number2 .result) (c .before .read-number3 .result) (c .before .before .before .read-number .ensures) (c .before .before .read-number2 .ensures) (c .before .read-number3 .ensures) (c .settings-by .result) (c .settings-by .ensures)
+returns-3 : tie.Need-returns-3
+returns-3 c = c .settings-by .ensures ∙ ap handed (opening-three (c .before .before .before .before .before .before .before .before .before .before .args .text .now) (c .before .before .before .before .before .before .before .before .before .before .args .end) (c .before .before .before .before .before .before .before .before .before .before .args .next) (c .before .before .before .before .before .before .before .before .before .before .pre .1) (c .before .before .before .before .before .before .before .before .before .before .args .at) (c .before .before .before .before .before .before .before .before .piece-end .result) (c .before .before .before .before .before .before .before .before .before .before .pre .0) (c .before .before .before .before .before .before .before .before .piece-end .ensures) (c .before .before .before .before .before .before .before .if1 .left) (c .before .before .before .before .before .before .piece-end2 .result) (c .before .before .before .before .before .before .piece-end2 .ensures) (c .before .before .before .before .before .if2 .left) (c .before .before .before .before .piece-end3 .result) (c .before .before .before .before .piece-end3 .ensures) (c .before .before .before .read-number .result) (c .before .before .read-number2 .result) (c .before .read-number3 .result) (c .before .before .before .read-number .ensures) (c .before .before .read-number2 .ensures) (c .before .read-number3 .ensures))
 
 pub short-opening-spec : {M : Type 1} → statement M
-short-opening-spec = tie.close (tie.spec piece-end-requires returns add-piece-end piece-end-requires-2 returns-2 add-piece-end-2 piece-end-requires-3 returns-3 read-number-requires add-read-number read-number-requires-2 add-read-number-2 read-number-requires-3 settings-by-requires returns-4)
+short-opening-spec =
+    tie.close
+    (tie.spec
+    piece-end-requires
+    none-requires
+    returns
+    add-piece-end
+    piece-end-requires-2
+    none-requires-2
+    returns-2
+    add-piece-end-2
+    piece-end-requires-3
+    read-number-requires
+    add-read-number
+    read-number-requires-2
+    add-read-number-2
+    read-number-requires-3
+    add-settings-by
+    settings-by-requires
+    returns-3)

@@ -1,32 +1,58 @@
 use mathlib.Core.Path.{_≡_, refl, sym}
 use Prim.Native.Nat.{ℕ, _≤_}
-use lib.ListN.{length, replicate, length-replicate}
+use lib.ListN.{length, length-map, length-replicate, replicate}
 use lib.Seq.{length-take-le}
+use Rattle.replaying.specs.Turn.{clearedRows, startedRows}
 use borrow.Author.Needs.{needs}
-use Rattle.replaying.specs.Turn.{clearedRows}
 use Rattle.replaying.proofs.lent.start.Statement.{statement}
 use Rattle.replaying.proofs.lent.start.Tie as tie
 
 clear-rows-requires : tie.Need-clear-rows-requires
 clear-rows-requires c κs = search needs
 
-slice-relend-prefix-start : tie.Need-slice-relend-prefix-start
-slice-relend-prefix-start c = search needs
+cast-n : tie.Need-cast-n
+cast-n c = search needs
 
-slice-aggregate-start : tie.Need-slice-aggregate-start
-slice-aggregate-start c =
-    let n = length-replicate (length (c .before .before .before .before .args .rows .now)) (replicate {A = ℕ} 16 0) in
-    let h : c .before .before .before .before .args .count ≤ length (clearedRows (c .before .before .before .before .args .rows .now)) = rw n (c .before .before .before .before .pre) in
-    rw (c .before .before .clear-rows .ensures) (sym (length-take-le (c .before .before .before .before .args .count) (clearedRows (c .before .before .before .before .args .rows .now)) h))
+array-share-prefix-hold : tie.Need-array-share-prefix-hold
+array-share-prefix-hold c = let l : length (c .before .before .before .before .before .before .args .settings .«hold_off») ≡ 64 = simp length-map at (c .before .before .before .before .before .before .good .0 .1 .1 .0 .1 .0 .1) in rw l (c .before .before .before .before .before .before .pre .1)
 
-start-requires : tie.Need-start-requires
-start-requires c κs = search needs
+slice-aggregate-start-as : tie.Need-slice-aggregate-start-as
+slice-aggregate-start-as c = let l : length (c .before .before .before .before .before .before .before .args .settings .«hold_off») ≡ 64 = simp length-map at (c .before .before .before .before .before .before .before .good .0 .1 .1 .0 .1 .0 .1) in let h : c .before .before .before .before .before .before .before .args .settings .ports ≤ length (c .before .before .before .before .before .before .before .args .settings .«hold_off») = rw l (c .before .before .before .before .before .before .before .pre .1) in sym (length-take-le (c .before .before .before .before .before .before .before .args .settings .ports) (c .before .before .before .before .before .before .before .args .settings .«hold_off») h)
+
+array-share-prefix-restore : tie.Need-array-share-prefix-restore
+array-share-prefix-restore c = let l : length (c .before .before .before .before .before .before .before .args .settings .restore) ≡ 64 = simp length-map at (c .before .before .before .before .before .before .before .good .0 .1 .1 .1 .0 .1 .0 .1) in rw l (c .before .before .before .before .before .before .before .pre .1)
+
+slice-aggregate-start-as-2 : tie.Need-slice-aggregate-start-as-2
+slice-aggregate-start-as-2 c = let l : length (c .before .before .before .before .before .before .before .before .args .settings .restore) ≡ 64 = simp length-map at (c .before .before .before .before .before .before .before .before .good .0 .1 .1 .1 .0 .1 .0 .1) in let h : c .before .before .before .before .before .before .before .before .args .settings .ports ≤ length (c .before .before .before .before .before .before .before .before .args .settings .restore) = rw l (c .before .before .before .before .before .before .before .before .pre .1) in sym (length-take-le (c .before .before .before .before .before .before .before .before .args .settings .ports) (c .before .before .before .before .before .before .before .before .args .settings .restore) h)
+
+slice-relend-prefix-start-as : tie.Need-slice-relend-prefix-start-as
+slice-relend-prefix-start-as c = search needs
+
+slice-aggregate-start-as-3 : tie.Need-slice-aggregate-start-as-3
+slice-aggregate-start-as-3 c = let n = length-replicate (length (c .before .before .before .before .before .before .before .before .before .args .rows .now)) (replicate {A = ℕ} 16 0) in let h : c .before .before .before .before .before .before .before .before .before .args .count ≤ length (clearedRows (c .before .before .before .before .before .before .before .before .before .args .rows .now)) = rw n (c .before .before .before .before .before .before .before .before .before .pre .0) in rw (c .before .before .before .before .before .before .before .clear-rows .ensures) (sym (length-take-le (c .before .before .before .before .before .before .before .before .before .args .count) (clearedRows (c .before .before .before .before .before .before .before .before .before .args .rows .now)) h))
+
+start-as-requires : tie.Need-start-as-requires
+start-as-requires c κs = search needs
 
 same-length : tie.Need-same-length
 same-length c = search needs
 
 returns : tie.Need-returns
-returns c = rw (c .before .start .ensures .1, c .before .before .before .before .clear-rows .ensures) refl
+unfolding startedRows
+returns c = rw (c .before .start-as .ensures .1, c .before .before .before .before .before .before .before .before .before .clear-rows .ensures, c .before .before .before .before .before .before .before .before .before .before .before .pre .2) refl
 
 pub start-spec : {M : Type 1} → statement M
-start-spec = tie.close (tie.spec clear-rows-requires slice-relend-prefix-start slice-aggregate-start start-requires same-length returns)
+start-spec =
+    tie.close
+    (tie.spec
+    clear-rows-requires
+    cast-n
+    array-share-prefix-hold
+    slice-aggregate-start-as
+    array-share-prefix-restore
+    slice-aggregate-start-as-2
+    slice-relend-prefix-start-as
+    slice-aggregate-start-as-3
+    start-as-requires
+    same-length
+    returns)

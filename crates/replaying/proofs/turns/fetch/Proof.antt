@@ -3,8 +3,8 @@ use Rattle.replaying.specs.Turn.{fetchOutBy, fetchRecordBy, fetchRowsBy}
 use Rattle.replaying.proofs.turns.fetch.Statement.{statement}
 use Rattle.replaying.proofs.turns.fetch.Tie as tie
 
-rows-of-requires : tie.Need-rows-of-requires
-rows-of-requires c κs = search needs
+rows-for-requires : tie.Need-rows-for-requires
+rows-for-requires c κs = search needs
 
 store-of-requires : tie.Need-store-of-requires
 store-of-requires c κs = search needs
@@ -13,7 +13,7 @@ slice-aggregate-fetch : tie.Need-slice-aggregate-fetch
 slice-aggregate-fetch c = search needs
 
 fetch-requires : tie.Need-fetch-requires
-fetch-requires c κs = (rw (c .before .before .before .before .rows-of .ensures) (c .before .before .before .before .before .before .before .pre .0), rw (c .before .before .before .store-of .ensures) (c .before .before .before .before .before .before .before .pre .1))
+fetch-requires c κs = (rw (c .before .before .before .before .rows-for .ensures) (c .before .before .before .before .before .before .before .pre .0), rw (c .before .before .before .store-of .ensures) (c .before .before .before .before .before .before .before .pre .1))
 
 same-length : tie.Need-same-length
 same-length c = search needs
@@ -24,7 +24,7 @@ same-length-2 c = search needs
 returns : tie.Need-returns
 unfolding fetchOutBy fetchRecordBy fetchRowsBy
 returns c =
-    (rw (c .before .before .before .before .before .before .before .before .before .rows-of .ensures, c .before .before .before .before .before .before .before .before .store-of .ensures) at (c .before .before .before .before .fetch .ensures .2), rw (c .before .before .before .before .before .before .before .before .before .rows-of .ensures, c .before .before .before .before .before .before .before .before .store-of .ensures) at (c .before .before .before .before .fetch .ensures .0), rw (c .before .before .before .before .before .before .before .before .before .rows-of .ensures, c .before .before .before .before .before .before .before .before .store-of .ensures) at (c .before .before .before .before .fetch .ensures .1))
+    (rw (c .before .before .before .before .before .before .before .before .before .rows-for .ensures, c .before .before .before .before .before .before .before .before .store-of .ensures) at (c .before .before .before .before .fetch .ensures .2), rw (c .before .before .before .before .before .before .before .before .before .rows-for .ensures, c .before .before .before .before .before .before .before .before .store-of .ensures) at (c .before .before .before .before .fetch .ensures .0), rw (c .before .before .before .before .before .before .before .before .before .rows-for .ensures, c .before .before .before .before .before .before .before .before .store-of .ensures) at (c .before .before .before .before .fetch .ensures .1))
 
 pub fetch-spec : {M : Type 1} → statement M
-fetch-spec = tie.close (tie.spec rows-of-requires store-of-requires slice-aggregate-fetch fetch-requires same-length same-length-2 returns)
+fetch-spec = tie.close (tie.spec rows-for-requires store-of-requires slice-aggregate-fetch fetch-requires same-length same-length-2 returns)

@@ -3,8 +3,8 @@ use Rattle.replaying.specs.Turn.{isLent}
 use Rattle.replaying.proofs.turns.is_lent.Statement.{statement}
 use Rattle.replaying.proofs.turns.is_lent.Tie as tie
 
-rows-of-requires : tie.Need-rows-of-requires
-rows-of-requires c κs = search needs
+rows-for-requires : tie.Need-rows-for-requires
+rows-for-requires c κs = search needs
 
 store-of-requires : tie.Need-store-of-requires
 store-of-requires c κs = search needs
@@ -14,7 +14,7 @@ output-of-requires c κs = search needs
 
 returns : tie.Need-returns
 unfolding isLent
-returns c = rw (c .before .before .before .before .rows-of .ensures, c .before .before .before .store-of .ensures, c .before .before .output-of .ensures)
+returns c = rw (c .before .before .before .before .rows-for .ensures, c .before .before .before .store-of .ensures, c .before .before .output-of .ensures)
 
 pub is-lent-spec : {M : Type 1} → statement M
-is-lent-spec = tie.close (tie.spec rows-of-requires store-of-requires output-of-requires returns)
+is-lent-spec = tie.close (tie.spec rows-for-requires store-of-requires output-of-requires returns)

@@ -1,8 +1,10 @@
-use mathlib.Core.Path.{refl, sym, _∙_}
+use mathlib.Core.Path.{refl}
 use lib.ListN.{length}
-use borrow.Author.Needs.{needs}
 use borrow.Author.Tests.{le-leb, lt-leb}
+use Rattle.recording.specs.Laws.Lines.{handed-end, handed-malformed, handed-set, handed-unfinished}
+use Rattle.recording.specs.Opening.{openingIn}
 use Rattle.replaying.specs.Turn.{openRows, openSaid, openTurn}
+use borrow.Author.Needs.{needs}
 use Rattle.replaying.proofs.turns.open.Statement.{statement}
 use Rattle.replaying.proofs.turns.open.Tie as tie
 
@@ -23,26 +25,26 @@ returns-2 c = rw (le-leb 1160 (length (c .before .before .before .before .before
 opening-at-requires : tie.Need-opening-at-requires
 opening-at-requires c κs = search needs
 
-enum-known-opening : tie.Need-enum-known-opening
-enum-known-opening c = search needs
+enum-told : tie.Need-enum-told
+enum-told c = search needs
 
 open-with-requires : tie.Need-open-with-requires
 open-with-requires c κs = search needs
 
-enum-told : tie.Need-enum-told
-enum-told c = search needs
+enum-told-2 : tie.Need-enum-told-2
+enum-told-2 c = search needs
 
 answered-requires : tie.Need-answered-requires
 answered-requires c κs = search needs
 
-enum-told-2 : tie.Need-enum-told-2
-enum-told-2 c = search needs
+enum-told-3 : tie.Need-enum-told-3
+enum-told-3 c = search needs
 
 waiting-requires : tie.Need-waiting-requires
 waiting-requires c κs = search needs
 
-enum-told-3 : tie.Need-enum-told-3
-enum-told-3 c = search needs
+enum-told-4 : tie.Need-enum-told-4
+enum-told-4 c = search needs
 
 waiting-requires-2 : tie.Need-waiting-requires-2
 waiting-requires-2 c κs = search needs
@@ -55,22 +57,44 @@ same-length-2 c = search needs
 
 returns-3 : tie.Need-returns-3
 unfolding openTurn openRows openSaid
-returns-3 c = rw (le-leb 1160 (length (c .before .before .before .before .before .before .before .before .before .before .before .before .before .before .args .said .now)) (c .before .before .before .before .before .before .before .before .before .before .before .if1 .left), le-leb 321 (length (c .before .before .before .before .before .before .before .before .before .before .before .before .before .before .args .rows .now)) (c .before .before .before .before .before .before .before .before .before .before .if2 .left), sym (c .before .before .before .before .before .before .before .before .before .opening-at .ensures) ∙ c .before .before .before .before .before .before .before .opening .given .1) (c .before .before .before .open-with .ensures)
+returns-3 c = rw (le-leb 1160 (length (c .before .before .before .before .before .before .before .before .before .before .before .before .before .before .args .said .now)) (c .before .before .before .before .before .before .before .before .before .before .before .if1 .left), le-leb 321 (length (c .before .before .before .before .before .before .before .before .before .before .before .before .before .before .args .rows .now)) (c .before .before .before .before .before .before .before .before .before .before .if2 .left), handed-set (openingIn 0 (c .before .before .before .before .before .before .before .before .before .before .before .before .before .before .args .last) (c .before .before .before .before .before .before .before .before .before .before .before .before .before .before .args .text .now)) (c .before .before .before .before .before .before .before .before .before .opening-at .result) (c .before .before .before .before .before .before .before .before .before .opening-at .ensures) (c .before .before .before .before .before .before .before .enum-told .given .1)) (c .before .before .before .open-with .ensures)
 
 same-length-3 : tie.Need-same-length-3
 same-length-3 c = search needs
 
 returns-4 : tie.Need-returns-4
 unfolding openTurn openRows openSaid
-returns-4 c = rw (le-leb 1160 (length (c .before .before .before .before .before .before .before .before .before .before .before .args .said .now)) (c .before .before .before .before .before .before .before .before .if1 .left), le-leb 321 (length (c .before .before .before .before .before .before .before .before .before .before .before .args .rows .now)) (c .before .before .before .before .before .before .before .if2 .left), sym (c .before .before .before .before .before .before .opening-at .ensures) ∙ c .before .before .before .before .enum-told .given .1) (c .before .before .answered .ensures .0, refl, c .before .before .answered .ensures .1)
+returns-4 c = rw (le-leb 1160 (length (c .before .before .before .before .before .before .before .before .before .before .before .args .said .now)) (c .before .before .before .before .before .before .before .before .if1 .left), le-leb 321 (length (c .before .before .before .before .before .before .before .before .before .before .before .args .rows .now)) (c .before .before .before .before .before .before .before .if2 .left), handed-malformed (openingIn 0 (c .before .before .before .before .before .before .before .before .before .before .before .args .last) (c .before .before .before .before .before .before .before .before .before .before .before .args .text .now)) (c .before .before .before .before .before .before .opening-at .result) (c .before .before .before .before .before .before .opening-at .ensures) (c .before .before .before .before .enum-told2 .given .1)) (c .before .before .answered .ensures .0, refl, c .before .before .answered .ensures .1)
 
 returns-5 : tie.Need-returns-5
 unfolding openTurn openRows openSaid
-returns-5 c = rw (le-leb 1160 (length (c .before .before .before .before .before .before .before .before .args .said .now)) (c .before .before .before .before .before .if1 .left), le-leb 321 (length (c .before .before .before .before .before .before .before .before .args .rows .now)) (c .before .before .before .before .if2 .left), sym (c .before .before .before .opening-at .ensures) ∙ c .before .enum-told2 .given .1) (c .waiting .ensures, refl, refl)
+returns-5 c = rw (le-leb 1160 (length (c .before .before .before .before .before .before .before .before .args .said .now)) (c .before .before .before .before .before .if1 .left), le-leb 321 (length (c .before .before .before .before .before .before .before .before .args .rows .now)) (c .before .before .before .before .if2 .left), handed-unfinished (openingIn 0 (c .before .before .before .before .before .before .before .before .args .last) (c .before .before .before .before .before .before .before .before .args .text .now)) (c .before .before .before .opening-at .result) (c .before .before .before .opening-at .ensures) (c .before .enum-told3 .given .1)) (c .waiting .ensures, refl, refl)
 
 returns-6 : tie.Need-returns-6
 unfolding openTurn openRows openSaid
-returns-6 c = rw (le-leb 1160 (length (c .before .before .before .before .before .before .before .before .args .said .now)) (c .before .before .before .before .before .if1 .left), le-leb 321 (length (c .before .before .before .before .before .before .before .before .args .rows .now)) (c .before .before .before .before .if2 .left), sym (c .before .before .before .opening-at .ensures) ∙ c .before .enum-told3 .given .1) (c .waiting2 .ensures, refl, refl)
+returns-6 c = rw (le-leb 1160 (length (c .before .before .before .before .before .before .before .before .args .said .now)) (c .before .before .before .before .before .if1 .left), le-leb 321 (length (c .before .before .before .before .before .before .before .before .args .rows .now)) (c .before .before .before .before .if2 .left), handed-end (openingIn 0 (c .before .before .before .before .before .before .before .before .args .last) (c .before .before .before .before .before .before .before .before .args .text .now)) (c .before .before .before .opening-at .result) (c .before .before .before .opening-at .ensures) (c .before .enum-told4 .given .1)) (c .waiting2 .ensures, refl, refl)
 
 pub open-spec : {M : Type 1} → statement M
-open-spec = tie.close (tie.spec refused-requires returns refused-requires-2 returns-2 opening-at-requires enum-known-opening open-with-requires enum-told answered-requires enum-told-2 waiting-requires enum-told-3 waiting-requires-2 same-length same-length-2 returns-3 same-length-3 returns-4 returns-5 returns-6)
+open-spec =
+    tie.close
+    (tie.spec
+    refused-requires
+    returns
+    refused-requires-2
+    returns-2
+    opening-at-requires
+    enum-told
+    open-with-requires
+    enum-told-2
+    answered-requires
+    enum-told-3
+    waiting-requires
+    enum-told-4
+    waiting-requires-2
+    same-length
+    same-length-2
+    returns-3
+    same-length-3
+    returns-4
+    returns-5
+    returns-6)

@@ -34,11 +34,11 @@ returns-2 c =
     let z : c .before .before .before .before .before .before .before .before .args .replay .left ≤ 0 = omega (arith, c .before .if2 .taken) in
     rw (b, le-ltb 0 (c .before .before .before .before .before .before .before .before .args .replay .left) z) (c .read-on .ensures, refl, refl, refl)
 
-rows-of-requires : tie.Need-rows-of-requires
-rows-of-requires c κs = search needs
+rows-for-requires : tie.Need-rows-for-requires
+rows-for-requires c κs = search needs
 
 is-due-requires : tie.Need-is-due-requires
-is-due-requires c κs = rw (c .before .rows-of .ensures) (lent-says (c .before .before .before .before .before .before .before .before .before .args .replay) (length (c .before .before .before .before .before .before .before .before .before .args .rows .now)) (length (c .before .before .before .before .before .before .before .before .before .args .store .now)) (length (c .before .before .before .before .before .before .before .before .before .args .out .now)) (length (c .before .before .before .before .before .before .before .before .before .args .said .now)) (sym (c .before .before .before .before .before .is-lent .ensures) ∙ not-false (c .before .before .before .before .before .is-lent .result) (c .before .before .before .before .if1 .left)) .rows-there)
+is-due-requires c κs = rw (c .before .rows-for .ensures) (lent-says (c .before .before .before .before .before .before .before .before .before .args .replay) (length (c .before .before .before .before .before .before .before .before .before .args .rows .now)) (length (c .before .before .before .before .before .before .before .before .before .args .store .now)) (length (c .before .before .before .before .before .before .before .before .before .args .out .now)) (length (c .before .before .before .before .before .before .before .before .before .args .said .now)) (sym (c .before .before .before .before .before .is-lent .ensures) ∙ not-false (c .before .before .before .before .before .is-lent .result) (c .before .before .before .before .if1 .left)) .rows-there)
 
 report-now-requires : tie.Need-report-now-requires
 report-now-requires c κs = (lent-says (c .before .before .before .before .before .before .before .before .before .before .before .before .before .before .args .replay) (length (c .before .before .before .before .before .before .before .before .before .before .before .before .before .before .args .rows .now)) (length (c .before .before .before .before .before .before .before .before .before .before .before .before .before .before .args .store .now)) (length (c .before .before .before .before .before .before .before .before .before .before .before .before .before .before .args .out .now)) (length (c .before .before .before .before .before .before .before .before .before .before .before .before .before .before .args .said .now)) (sym (c .before .before .before .before .before .before .before .before .before .before .is-lent .ensures) ∙ not-false (c .before .before .before .before .before .before .before .before .before .before .is-lent .result) (c .before .before .before .before .before .before .before .before .before .if1 .left)), omega (arith, c .before .before .before .before .before .before .before .if2 .left))
@@ -70,7 +70,7 @@ unfolding reportTurn reportRows reportOut reportSaid fetchedTurn fetchedSaid
 returns-4 c =
     let b = sym (c .before .before .before .before .before .before .before .before .is-lent .ensures) ∙ not-false (c .before .before .before .before .before .before .before .before .is-lent .result) (c .before .before .before .before .before .before .before .if1 .left) in
     let z : 0 < c .before .before .before .before .before .before .before .before .before .before .before .before .args .replay .left = omega (arith, c .before .before .before .before .before .if2 .left) in
-    let d = sym (rw (c .before .before .before .before .rows-of .ensures) at (c .before .before .is-due .ensures)) ∙ c .before .if3 .left in
+    let d = sym (rw (c .before .before .before .before .rows-for .ensures) at (c .before .before .is-due .ensures)) ∙ c .before .if3 .left in
     let e : ltb 0 (getD (fetchRecordBy (c .before .before .before .before .before .before .before .before .before .before .before .before .args .replay) (c .before .before .before .before .before .before .before .before .before .before .before .before .args .rows .now) (c .before .before .before .before .before .before .before .before .before .before .before .before .args .store .now) (c .before .before .before .before .before .before .before .before .before .before .before .before .args .out .now)) 0 0) ≡ false = none-due (c .before .before .before .before .before .before .before .before .before .before .before .before .args .replay) (c .before .before .before .before .before .before .before .before .before .before .before .before .args .rows .now) (c .before .before .before .before .before .before .before .before .before .before .before .before .args .store .now) (c .before .before .before .before .before .before .before .before .before .before .before .before .args .out .now) d in
     rw (b, lt-ltb 0 (c .before .before .before .before .before .before .before .before .before .before .before .before .args .replay .left) z, e) (c .read-on2 .ensures, sym (none-rows (c .before .before .before .before .before .before .before .before .before .before .before .before .args .replay) (c .before .before .before .before .before .before .before .before .before .before .before .before .args .rows .now) (c .before .before .before .before .before .before .before .before .before .before .before .before .args .store .now) (c .before .before .before .before .before .before .before .before .before .before .before .before .args .out .now) d), sym (none-out (c .before .before .before .before .before .before .before .before .before .before .before .before .args .replay) (c .before .before .before .before .before .before .before .before .before .before .before .before .args .rows .now) (c .before .before .before .before .before .before .before .before .before .before .before .before .args .store .now) (c .before .before .before .before .before .before .before .before .before .before .before .before .args .out .now) d), refl)
 
@@ -83,7 +83,7 @@ report-spec =
     returns
     read-on-requires
     returns-2
-    rows-of-requires
+    rows-for-requires
     is-due-requires
     report-now-requires
     same-length

@@ -20,8 +20,8 @@ slice-aggregate-read-payload c = front-there (c .before .before .before .before 
 read-payload-requires : tie.Need-read-payload-requires
 read-payload-requires c κs = front-short (c .before .before .before .before .before .args .replay .size) (c .before .before .before .before .before .pre .0) (c .before .blank .result) (c .before .blank .ensures)
 
-rows-of-requires : tie.Need-rows-of-requires
-rows-of-requires c κs = search needs
+rows-for-requires : tie.Need-rows-for-requires
+rows-for-requires c κs = search needs
 
 store-of-requires : tie.Need-store-of-requires
 store-of-requires c κs = search needs
@@ -45,7 +45,7 @@ returns : tie.Need-returns
 unfolding framedRows framedStore
 returns c =
     let p = part-is (c .before .before .before .before .before .before .before .before .before .before .before .before .before .before .before .before .args .replay .size) (c .before .before .before .before .before .before .before .before .before .before .before .before .before .before .before .before .pre .0) (c .before .before .before .before .before .before .before .before .before .before .before .before .blank .result) (c .before .before .before .before .before .before .before .before .before .before .before .before .blank .ensures) (c .before .before .before .before .before .before .before .before .before .before .before .before .before .before .before .before .args .place) (c .before .before .before .before .before .before .before .before .before .before .before .before .before .before .before .before .args .text .now) _ (c .before .before .before .before .before .before .before .before .before .before .read-payload .ensures) (drop (c .before .before .before .before .before .before .before .before .before .before .before .before .before .before .before .before .args .replay .size) (c .before .before .before .before .before .before .before .before .before .before .before .before .blank .result)) in
-    (rw (c .before .before .before .before .before .before .before .before .rows-of .ensures, c .before .before .before .before .before .before .before .store-of .ensures, p) at (c .before .before .before .frame .ensures .0), rw (c .before .before .before .before .before .before .before .before .rows-of .ensures, c .before .before .before .before .before .before .before .store-of .ensures, p) at (c .before .before .before .frame .ensures .1))
+    (rw (c .before .before .before .before .before .before .before .before .rows-for .ensures, c .before .before .before .before .before .before .before .store-of .ensures, p) at (c .before .before .before .frame .ensures .0), rw (c .before .before .before .before .before .before .before .before .rows-for .ensures, c .before .before .before .before .before .before .before .store-of .ensures, p) at (c .before .before .before .frame .ensures .1))
 
 pub take-frame-spec : {M : Type 1} → statement M
 take-frame-spec =
@@ -56,7 +56,7 @@ take-frame-spec =
     array-borrow-prefix-payload
     slice-aggregate-read-payload
     read-payload-requires
-    rows-of-requires
+    rows-for-requires
     store-of-requires
     array-share-prefix-payload
     slice-aggregate-frame

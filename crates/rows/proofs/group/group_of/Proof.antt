@@ -1,13 +1,28 @@
+use native.Mathlib.Omega.{arith}
 use borrow.Author.Needs.{needs}
+use Rattle.rows.specs.Laws.Records.{rest}
 use Rattle.rows.specs.Group.{groupOf}
 use Rattle.rows.proofs.group.group_of.Statement.{statement}
 use Rattle.rows.proofs.group.group_of.Tie as tie
+use Rattle.rows.proofs.group.pair.Reads as pair-reads
 
 array-read-t5 : tie.Need-array-read-t5
 array-read-t5 c = search needs
 
 array-read-t8 : tie.Need-array-read-t8
 array-read-t8 c = search needs
+
+array-read-t11 : tie.Need-array-read-t11
+array-read-t11 c = search needs
+
+array-read-t14 : tie.Need-array-read-t14
+array-read-t14 c = search needs
+
+array-read-t18 : tie.Need-array-read-t18
+array-read-t18 c = search needs
+
+array-read-t21 : tie.Need-array-read-t21
+array-read-t21 c = search needs
 
 array-read-pair : tie.Need-array-read-pair
 array-read-pair c = search needs
@@ -27,14 +42,14 @@ array-read-pair-4 c = search needs
 pair-requires-2 : tie.Need-pair-requires-2
 pair-requires-2 c κs = search needs
 
-array-read-t25 : tie.Need-array-read-t25
-array-read-t25 c = search needs
+array-read-t38 : tie.Need-array-read-t38
+array-read-t38 c = search needs
 
-array-read-t28 : tie.Need-array-read-t28
-array-read-t28 c = search needs
+array-read-t41 : tie.Need-array-read-t41
+array-read-t41 c = search needs
 
-array-read-t31 : tie.Need-array-read-t31
-array-read-t31 c = search needs
+array-read-t44 : tie.Need-array-read-t44
+array-read-t44 c = search needs
 
 array-read-pair-5 : tie.Need-array-read-pair-5
 array-read-pair-5 c = search needs
@@ -45,24 +60,12 @@ array-read-pair-6 c = search needs
 pair-requires-3 : tie.Need-pair-requires-3
 pair-requires-3 c κs = search needs
 
-array-read-t41 : tie.Need-array-read-t41
-array-read-t41 c = search needs
-
-array-read-t44 : tie.Need-array-read-t44
-array-read-t44 c = search needs
-
-array-read-t47 : tie.Need-array-read-t47
-array-read-t47 c = search needs
-
-array-read-t50 : tie.Need-array-read-t50
-array-read-t50 c = search needs
-
-array-read-t53 : tie.Need-array-read-t53
-array-read-t53 c = search needs
+array-read-t54 : tie.Need-array-read-t54
+array-read-t54 c = search needs
 
 returns : tie.Need-returns
 unfolding groupOf
-returns c = rw (c .pair3 .ensures, c .before .pair2 .ensures, c .before .before .pair .ensures)
+returns c = rw (c .pair3 .ensures, c .before .pair2 .ensures, c .before .before .pair .ensures, ← rest (c .before .before .before .args .t1) (omega arith) 12)
 
 pub group-of-spec : {M : Type 1} → statement M
 group-of-spec =
@@ -70,21 +73,21 @@ group-of-spec =
     (tie.spec
     array-read-t5
     array-read-t8
+    array-read-t11
+    array-read-t14
+    array-read-t18
+    array-read-t21
     array-read-pair
     array-read-pair-2
     pair-requires
     array-read-pair-3
     array-read-pair-4
     pair-requires-2
-    array-read-t25
-    array-read-t28
-    array-read-t31
+    array-read-t38
+    array-read-t41
+    array-read-t44
     array-read-pair-5
     array-read-pair-6
     pair-requires-3
-    array-read-t41
-    array-read-t44
-    array-read-t47
-    array-read-t50
-    array-read-t53
+    array-read-t54
     returns)

@@ -1,7 +1,10 @@
+use native.Mathlib.Omega.{arith}
 use borrow.Author.Needs.{needs}
+use Rattle.rows.specs.Laws.Records.{rest}
 use Rattle.rows.specs.Member.{memberOf}
 use Rattle.rows.proofs.member.member_of.Statement.{statement}
 use Rattle.rows.proofs.member.member_of.Tie as tie
+use Rattle.rows.proofs.group.pair.Reads as pair-reads
 
 array-read-t5 : tie.Need-array-read-t5
 array-read-t5 c = search needs
@@ -15,11 +18,23 @@ array-read-t11 c = search needs
 array-read-t14 : tie.Need-array-read-t14
 array-read-t14 c = search needs
 
-array-read-t17 : tie.Need-array-read-t17
-array-read-t17 c = search needs
+array-read-t18 : tie.Need-array-read-t18
+array-read-t18 c = search needs
 
-array-read-t20 : tie.Need-array-read-t20
-array-read-t20 c = search needs
+array-read-t21 : tie.Need-array-read-t21
+array-read-t21 c = search needs
+
+array-read-t24 : tie.Need-array-read-t24
+array-read-t24 c = search needs
+
+array-read-t27 : tie.Need-array-read-t27
+array-read-t27 c = search needs
+
+array-read-t30 : tie.Need-array-read-t30
+array-read-t30 c = search needs
+
+array-read-t33 : tie.Need-array-read-t33
+array-read-t33 c = search needs
 
 array-read-pair : tie.Need-array-read-pair
 array-read-pair c = search needs
@@ -48,21 +63,9 @@ array-read-pair-6 c = search needs
 pair-requires-3 : tie.Need-pair-requires-3
 pair-requires-3 c κs = search needs
 
-array-read-t44 : tie.Need-array-read-t44
-array-read-t44 c = search needs
-
-array-read-t47 : tie.Need-array-read-t47
-array-read-t47 c = search needs
-
-array-read-t50 : tie.Need-array-read-t50
-array-read-t50 c = search needs
-
-array-read-t53 : tie.Need-array-read-t53
-array-read-t53 c = search needs
-
 returns : tie.Need-returns
 unfolding memberOf
-returns c = rw (c .pair3 .ensures, c .before .pair2 .ensures, c .before .before .pair .ensures)
+returns c = rw (c .pair3 .ensures, c .before .pair2 .ensures, c .before .before .pair .ensures, ← rest (c .before .before .before .args .t1) (omega arith) 12)
 
 pub member-of-spec : {M : Type 1} → statement M
 member-of-spec =
@@ -72,8 +75,12 @@ member-of-spec =
     array-read-t8
     array-read-t11
     array-read-t14
-    array-read-t17
-    array-read-t20
+    array-read-t18
+    array-read-t21
+    array-read-t24
+    array-read-t27
+    array-read-t30
+    array-read-t33
     array-read-pair
     array-read-pair-2
     pair-requires
@@ -83,8 +90,4 @@ member-of-spec =
     array-read-pair-5
     array-read-pair-6
     pair-requires-3
-    array-read-t44
-    array-read-t47
-    array-read-t50
-    array-read-t53
     returns)

@@ -1,4 +1,4 @@
-use Rattle.rows.specs.Laws.Parts.{nibble-put, nibble-past, nibble-beyond}
+use Rattle.rows.specs.Laws.Bytes.{nibble-put, nibble-past, nibble-beyond}
 use borrow.Author.Needs.{needs}
 use Rattle.rows.proofs.packets.put_nibble.Statement.{statement}
 use Rattle.rows.proofs.packets.put_nibble.Tie as tie

@@ -1,5 +1,5 @@
 use mathlib.Core.Path.{refl}
-use Rattle.rows.specs.Laws.Parts.{next-put, next-beyond}
+use Rattle.rows.specs.Laws.Bytes.{next-put, next-beyond}
 use borrow.Author.Needs.{needs}
 use Rattle.rows.proofs.step.put_next.Statement.{statement}
 use Rattle.rows.proofs.step.put_next.Tie as tie

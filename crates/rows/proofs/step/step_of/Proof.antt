@@ -1,7 +1,10 @@
+use native.Mathlib.Omega.{arith}
 use borrow.Author.Needs.{needs}
+use Rattle.rows.specs.Laws.Records.{rest}
 use Rattle.rows.specs.Step.{stepOf}
 use Rattle.rows.proofs.step.step_of.Statement.{statement}
 use Rattle.rows.proofs.step.step_of.Tie as tie
+use Rattle.rows.proofs.group.pair.Reads as pair-reads
 
 array-read-t5 : tie.Need-array-read-t5
 array-read-t5 c = search needs
@@ -12,14 +15,11 @@ array-read-t8 c = search needs
 array-read-t11 : tie.Need-array-read-t11
 array-read-t11 c = search needs
 
-array-read-pair : tie.Need-array-read-pair
-array-read-pair c = search needs
+array-read-t14 : tie.Need-array-read-t14
+array-read-t14 c = search needs
 
-array-read-pair-2 : tie.Need-array-read-pair-2
-array-read-pair-2 c = search needs
-
-pair-requires : tie.Need-pair-requires
-pair-requires c κs = search needs
+array-read-t17 : tie.Need-array-read-t17
+array-read-t17 c = search needs
 
 array-read-t21 : tie.Need-array-read-t21
 array-read-t21 c = search needs
@@ -30,33 +30,36 @@ array-read-t24 c = search needs
 array-read-t27 : tie.Need-array-read-t27
 array-read-t27 c = search needs
 
-array-read-t30 : tie.Need-array-read-t30
-array-read-t30 c = search needs
+array-read-pair : tie.Need-array-read-pair
+array-read-pair c = search needs
 
-array-read-t33 : tie.Need-array-read-t33
-array-read-t33 c = search needs
+array-read-pair-2 : tie.Need-array-read-pair-2
+array-read-pair-2 c = search needs
 
-array-read-t36 : tie.Need-array-read-t36
-array-read-t36 c = search needs
+pair-requires : tie.Need-pair-requires
+pair-requires c κs = search needs
 
-array-read-t39 : tie.Need-array-read-t39
-array-read-t39 c = search needs
+array-read-t37 : tie.Need-array-read-t37
+array-read-t37 c = search needs
 
-array-read-t42 : tie.Need-array-read-t42
-array-read-t42 c = search needs
+array-read-t40 : tie.Need-array-read-t40
+array-read-t40 c = search needs
 
-array-read-t45 : tie.Need-array-read-t45
-array-read-t45 c = search needs
+array-read-t43 : tie.Need-array-read-t43
+array-read-t43 c = search needs
 
-array-read-t48 : tie.Need-array-read-t48
-array-read-t48 c = search needs
+array-read-t46 : tie.Need-array-read-t46
+array-read-t46 c = search needs
 
-array-read-t51 : tie.Need-array-read-t51
-array-read-t51 c = search needs
+array-read-t49 : tie.Need-array-read-t49
+array-read-t49 c = search needs
+
+array-read-t52 : tie.Need-array-read-t52
+array-read-t52 c = search needs
 
 returns : tie.Need-returns
 unfolding stepOf
-returns c = rw (c .pair .ensures)
+returns c = rw (c .pair .ensures, ← rest (c .before .args .t1) (omega arith) 11)
 
 pub step-of-spec : {M : Type 1} → statement M
 step-of-spec =
@@ -65,18 +68,18 @@ step-of-spec =
     array-read-t5
     array-read-t8
     array-read-t11
-    array-read-pair
-    array-read-pair-2
-    pair-requires
+    array-read-t14
+    array-read-t17
     array-read-t21
     array-read-t24
     array-read-t27
-    array-read-t30
-    array-read-t33
-    array-read-t36
-    array-read-t39
-    array-read-t42
-    array-read-t45
-    array-read-t48
-    array-read-t51
+    array-read-pair
+    array-read-pair-2
+    pair-requires
+    array-read-t37
+    array-read-t40
+    array-read-t43
+    array-read-t46
+    array-read-t49
+    array-read-t52
     returns)

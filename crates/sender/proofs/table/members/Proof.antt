@@ -3,7 +3,8 @@ use Prim.Native.Nat.{_+_, _≤_, _-_}
 use native.Mathlib.Omega.{arith}
 use lib.ListN.{length}
 use borrow.Author.Needs.{needs}
-use Rattle.sender.specs.Table.{isMember, membersOf, one, slotAt}
+use Rattle.ground.specs.Flags.{oneIf}
+use Rattle.sender.specs.Table.{isMember, membersOf, slotAt}
 use Rattle.counting.specs.Laws.Numbers.{count-more, count-fits}
 use Rattle.sender.proofs.table.members.Statement.{statement}
 use Rattle.sender.proofs.table.members.Tie as tie
@@ -42,7 +43,7 @@ loop-less c = search needs
 
 loop-again : tie.Need-loop-again Inv-loop μ-loop
 unfolding membersOf
-loop-again c = (c .before .before .before .before .loop .inv .0, omega arith, count-more (λ i. isMember (slotAt (c .before .before .before .before .before .args .t1) i .state)) _ _ _ (c .before .before .before .before .loop .inv .2) (c .one-if .ensures ∙ ap one (c .before .is-member .ensures)))
+loop-again c = (c .before .before .before .before .loop .inv .0, omega arith, count-more (λ i. isMember (slotAt (c .before .before .before .before .before .args .t1) i .state)) _ _ _ (c .before .before .before .before .loop .inv .2) (c .one-if .ensures ∙ ap oneIf (c .before .is-member .ensures)))
 
 returns : tie.Need-returns Inv-loop μ-loop
 returns c = let e : c .before .loop .i ≡ c .before .before .args .n = omega arith in rw e at (c .before .loop .inv .2)

@@ -1,4 +1,3 @@
-use borrow.Author.Needs.{needs}
 use Rattle.spoken.proofs.comparing.wait_change.Statement.{statement}
 use Rattle.spoken.proofs.comparing.wait_change.Tie as tie
 

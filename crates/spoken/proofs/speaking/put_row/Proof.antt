@@ -1,3 +1,5 @@
+-- `put_row` meets its contract: label, word and number, one behind the other.
+-- The three have room together, so each was put whole and not left out (`three-put`).
 use Rattle.text.specs.Output.{decimalText, ended, wordText}
 use Rattle.text.specs.Text.{TAB}
 use Rattle.spoken.specs.Speaking.{rowText}
@@ -20,7 +22,13 @@ same-length c = search needs
 
 returns : tie.Need-returns
 unfolding rowText
-returns c = three-put (c .before .before .before .before .before .before .before .before .before .before .before .before .before .before .before .args .label .now) (ended (wordText (c .before .before .before .before .before .before .before .before .before .before .before .before .before .before .before .args .row .word)) TAB) (ended (decimalText (c .before .before .before .before .before .before .before .before .before .before .before .before .before .before .before .args .row .number)) (c .before .before .before .before .before .before .before .before .before .before .before .before .before .before .before .args .mark)) (c .before .before .before .before .before .before .before .before .before .before .before .before .before .before .before .pre) (c .before .before .before .before .before .before .before .before .before .before .put .ensures) (c .before .before .before .before .before .before .put-word .ensures) (c .before .before .put-number .ensures)
+returns c =
+    let at-put-number = c .before .before in
+    let at-put-word = at-put-number .before .before .before .before in
+    let at-put = at-put-word .before .before .before .before in
+    let at-start = at-put .before .before .before .before .before in
+    let args = at-start .args in
+    three-put (args .label .now) (ended (wordText (args .row .word)) TAB) (ended (decimalText (args .row .number)) (args .mark)) (at-start .pre) (at-put .put .ensures) (at-put-word .put-word .ensures) (at-put-number .put-number .ensures)
 
 pub put-row-spec : {M : Type 1} → statement M
 put-row-spec =

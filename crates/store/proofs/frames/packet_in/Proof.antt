@@ -1,6 +1,8 @@
 -- The invariant: the first k nibbles are read.
 use Rattle.packet.specs.Counts.{nibbleIn}
-use mathlib.Core.Path.{_≡_, refl}
+use Rattle.packet.specs.Kinds.{frames}
+use Rattle.packet.specs.Laws.Writing.{packet-sized}
+use mathlib.Core.Path.{_≡_, refl, sym, _∙_}
 use Prim.Native.Nat.{_≤_, _-_}
 use native.Mathlib.Omega.{arith}
 use lib.ListN.{length}
@@ -13,13 +15,23 @@ use Rattle.store.proofs.frames.packet_in.Statement.{statement}
 use Rattle.store.proofs.frames.packet_in.Tie as tie
 
 abbrev Inv-loop : tie.InvT-loop
-Inv-loop group port store nibbles₀ k₀ nibbles k = (length nibbles₀ ≡ 16) × (k ≤ 16) × Done k (λ j. nibbleIn (group .kind) (h4At group port j store)) nibbles₀ nibbles
+Inv-loop group port store n nibbles₀ k₀ nibbles k =
+    (n ≡ frames (group .kind)) × (n ≤ 16) × (length nibbles₀ ≡ 16) × (k ≤ n) × Done k (λ j. nibbleIn (group .kind) (h4At group port j store)) nibbles₀ nibbles
 
 abbrev μ-loop : tie.MeasureT-loop
-μ-loop group port store nibbles₀ k₀ nibbles k = 16 - k
+μ-loop group port store n nibbles₀ k₀ nibbles k = n - k
+
+epoch-frames-requires : tie.Need-epoch-frames-requires Inv-loop μ-loop
+epoch-frames-requires c κs = search needs
 
 loop-holds : tie.Need-loop-holds Inv-loop μ-loop
-loop-holds c = (refl, omega arith, done-none _ _)
+loop-holds c =
+    let e = c .epoch-frames .ensures in
+    let s = packet-sized (c .before .before .args .group .kind) in
+    (e, omega arith, refl, omega arith, done-none _ _)
+
+cast-place : tie.Need-cast-place Inv-loop μ-loop
+cast-place c = search needs
 
 place-requires : tie.Need-place-requires Inv-loop μ-loop
 place-requires c κs = search needs
@@ -29,9 +41,9 @@ cast-byte-at c = search needs
 
 add-byte-at : tie.Need-add-byte-at Inv-loop μ-loop
 add-byte-at c =
-    let g = c .before .before .before .before .before .args .group in
+    let p = c .before .before .before .before .before .before in
     let e = c .before .place .ensures in
-    let m = place-fits g (c .before .before .before .before .before .args .port) (c .before .before .before .loop .k) (omega arith) (omega arith) (omega arith) (omega arith) (omega arith) in
+    let m = place-fits (p .args .group) (p .args .port) (c .before .before .before .loop .k) (omega arith) (omega arith) (omega arith) (omega arith) (omega arith) in
     omega arith
 
 byte-at-requires : tie.Need-byte-at-requires Inv-loop μ-loop
@@ -54,16 +66,21 @@ loop-less c = search needs
 
 loop-again : tie.Need-loop-again Inv-loop μ-loop
 loop-again c =
-    let p = c .before .before .before .before .before .before .before in
+    let p = c .before .before .before .before .before .before .before .before in
     let l = c .before .before .before .before .before .loop in (
       l .inv .0,
+      l .inv .1,
+      l .inv .2,
       omega arith,
-      done-more _ (l .inv .2) (nibble-at (p .args .group) (p .args .port) (l .k) _ _ _ (p .args .store .now) (c .before .before .before .place .ensures) (c .before .byte-at .ensures) (c .nibble-in .ensures)),
+      done-more _ (l .inv .4) (nibble-at (p .args .group) (p .args .port) (l .k) _ _ _ (p .args .store .now) (c .before .before .before .place .ensures) (c .before .byte-at .ensures) (c .nibble-in .ensures)),
     )
 
 returns : tie.Need-returns Inv-loop μ-loop
 unfolding packetIn
-returns c = done-table (c .before .loop .inv .2) (omega arith) refl
+returns c =
+    let i = c .before .loop .inv in
+    let e = i .0 in
+    done-table (i .4) (omega arith) (i .2 ∙ sym (packet-sized (c .before .before .before .before .args .group .kind)))
 
 pub packet-in-spec : {M : Type 1} → statement M
 packet-in-spec =
@@ -71,7 +88,9 @@ packet-in-spec =
     (tie.spec
     Inv-loop
     μ-loop
+    epoch-frames-requires
     loop-holds
+    cast-place
     place-requires
     cast-byte-at
     add-byte-at

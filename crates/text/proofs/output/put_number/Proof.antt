@@ -1,3 +1,5 @@
+-- `put_number` meets its contract: the decimal digits of a byte, then its end.
+-- One, two or three digits are put as one array; each exit's law says that these are the definition's text.
 use borrow.Author.Needs.{needs}
 use Rattle.text.proofs.Writing.{decimal-one, decimal-two, decimal-three}
 use Rattle.text.proofs.output.put_number.Statement.{statement}
@@ -16,7 +18,11 @@ same-length : tie.Need-same-length
 same-length c = search needs
 
 returns : tie.Need-returns
-returns c = rw (decimal-one (c .before .before .before .before .before .before .before .args .n) (c .before .before .before .before .before .before .before .args .mark) (c .before .before .before .before .before .if1 .taken)) (c .before .before .put .ensures)
+returns c =
+    let at-put = c .before .before in
+    let at-if1 = at-put .before .before .before in
+    let at-start = at-if1 .before .before in
+    rw (decimal-one (at-start .args .n) (at-start .args .mark) (at-if1 .if1 .taken)) (at-put .put .ensures)
 
 add-t14 : tie.Need-add-t14
 add-t14 c = search needs
@@ -34,7 +40,12 @@ same-length-2 : tie.Need-same-length-2
 same-length-2 c = search needs
 
 returns-2 : tie.Need-returns-2
-returns-2 c = rw (decimal-two (c .before .before .before .before .before .before .before .before .args .n) (c .before .before .before .before .before .before .before .before .args .mark) (c .before .before .before .before .before .before .if1 .left) (c .before .before .before .before .before .if2 .taken)) (c .before .before .put2 .ensures)
+returns-2 c =
+    let at-put2 = c .before .before in
+    let at-if2 = at-put2 .before .before .before in
+    let at-if1 = at-if2 .before in
+    let at-start = at-if1 .before .before in
+    rw (decimal-two (at-start .args .n) (at-start .args .mark) (at-if1 .if1 .left) (at-if2 .if2 .taken)) (at-put2 .put2 .ensures)
 
 add-t23 : tie.Need-add-t23
 add-t23 c = search needs
@@ -55,7 +66,11 @@ same-length-3 : tie.Need-same-length-3
 same-length-3 c = search needs
 
 returns-3 : tie.Need-returns-3
-returns-3 c = rw (decimal-three (c .before .before .before .before .before .before .before .before .args .n) (c .before .before .before .before .before .before .before .before .args .mark) (c .before .before .before .before .before .if2 .left)) (c .before .before .put3 .ensures)
+returns-3 c =
+    let at-put3 = c .before .before in
+    let at-if2 = at-put3 .before .before .before in
+    let at-start = at-if2 .before .before .before in
+    rw (decimal-three (at-start .args .n) (at-start .args .mark) (at-if2 .if2 .left)) (at-put3 .put3 .ensures)
 
 pub put-number-spec : {M : Type 1} → statement M
 put-number-spec =

@@ -1,3 +1,5 @@
+-- `Sender::packet` meets its contract: 1, 9, 2, and under 0 the packet of the slot's row on the board that goes out.
+-- Each exit cites one law of Sending over plain numbers, in the order of the tests.
 use Prim.Native.Nat.{_<_}
 use native.Mathlib.Omega.{arith}
 use borrow.Author.Needs.{needs}
@@ -20,13 +22,23 @@ cast-if2 : tie.Need-cast-if2
 cast-if2 c = search needs
 
 returns-2 : tie.Need-returns-2
-returns-2 c = packet-length _ _ (c .before .before .before .size .ensures) _ (c .before .before .if1 .left) (c .before .epoch-frames .ensures) (c .if2 .taken)
+returns-2 c =
+    let at-if1 = c .before .before in
+    let at-size = at-if1 .before in
+    packet-length _ _ (at-size .size .ensures) _ (at-if1 .if1 .left) (c .before .epoch-frames .ensures) (c .if2 .taken)
 
 returns-3 : tie.Need-returns-3
-returns-3 c = packet-early _ _ (c .before .before .before .before .before .size .ensures) _ (c .before .before .before .before .if1 .left) (c .before .before .before .epoch-frames .ensures) (c .before .before .if2 .left) (not-true _ (c .if3 .taken))
+returns-3 c =
+    let at-if2 = c .before .before in
+    let at-epoch-frames = at-if2 .before in
+    let at-if1 = at-epoch-frames .before in
+    let at-size = at-if1 .before in
+    packet-early _ _ (at-size .size .ensures) _ (at-if1 .if1 .left) (at-epoch-frames .epoch-frames .ensures) (at-if2 .if2 .left) (not-true _ (c .if3 .taken))
 
 packet-fields-requires : tie.Need-packet-fields-requires
-packet-fields-requires c κs = let h : c .before .before .before .before .before .before .before .before .args .slot < 64 = omega (arith, size-le (c .before .before .before .before .before .before .before .before .args .self .table .count)) in h
+packet-fields-requires c κs =
+    let at-start = c .before .before .before .before .before .before .before .before in
+    let h : at-start .args .slot < 64 = omega (arith, size-le (at-start .args .self .table .count)) in h
 
 write-requires : tie.Need-write-requires
 write-requires c κs = search needs
@@ -38,7 +50,15 @@ same-length : tie.Need-same-length
 same-length c = search needs
 
 returns-4 : tie.Need-returns-4
-returns-4 c = packet-sent _ _ (c .before .before .before .before .before .before .before .before .before .before .before .size .ensures) _ (c .before .before .before .before .before .before .before .before .before .before .if1 .left) (c .before .before .before .before .before .before .before .before .before .epoch-frames .ensures) (c .before .before .before .before .before .before .before .before .if2 .left) (not-false _ (c .before .before .before .before .before .before .if3 .left)) (c .before .before .before .before .before .packet-fields .ensures) (c .before .before .before .write .ensures .0) (c .before .before .before .write .ensures .1) (c .written-as .ensures)
+returns-4 c =
+    let at-write = c .before .before .before in
+    let at-packet-fields = at-write .before .before in
+    let at-if3 = at-packet-fields .before in
+    let at-if2 = at-if3 .before .before in
+    let at-epoch-frames = at-if2 .before in
+    let at-if1 = at-epoch-frames .before in
+    let at-size = at-if1 .before in
+    packet-sent _ _ (at-size .size .ensures) _ (at-if1 .if1 .left) (at-epoch-frames .epoch-frames .ensures) (at-if2 .if2 .left) (not-false _ (at-if3 .if3 .left)) (at-packet-fields .packet-fields .ensures) (at-write .write .ensures .0) (at-write .write .ensures .1) (c .written-as .ensures)
 
 pub packet-spec : {M : Type 1} → statement M
 packet-spec =

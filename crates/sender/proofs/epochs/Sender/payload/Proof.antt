@@ -1,3 +1,5 @@
+-- `Sender::payload` meets its contract: 1, then what spreading answers, with 2 before the first epoch, and under 0 the slot's payload.
+-- Each exit cites one law of Sending over plain numbers, in the order of the tests; X and the rank in it are the ruling board's.
 use Prim.Native.Nat.{_<_}
 use native.Mathlib.Omega.{arith}
 use borrow.Author.Needs.{needs}
@@ -29,10 +31,21 @@ spread-early-requires : tie.Need-spread-early-requires
 spread-early-requires c κs = search needs
 
 returns-2 : tie.Need-returns-2
-returns-2 c = payload-early _ _ (c .before .before .before .before .before .before .before .before .before .size .ensures) _ _ _ (c .before .before .before .before .before .before .before .before .if1 .left) (x-is (c .before .before .before .before .before .before .before .before .before .before .before .before .before .args .self) (c .before .before .before .before .before .size2 .ensures) (c .before .before .before .before .carriers .ensures)) (not-true _ (c .before .before .if2 .taken)) (c .before .one-answer .ensures) (c .spread-early .ensures)
+returns-2 c =
+    let at-if2 = c .before .before in
+    let at-carriers = at-if2 .before .before in
+    let at-size2 = at-carriers .before in
+    let at-if1 = at-size2 .before .before .before in
+    let at-size = at-if1 .before in
+    let at-start = at-size .before .before .before .before in
+    payload-early _ _ (at-size .size .ensures) _ _ _ (at-if1 .if1 .left) (x-is (at-start .args .self) (at-size2 .size2 .ensures) (at-carriers .carriers .ensures)) (not-true _ (at-if2 .if2 .taken)) (c .before .one-answer .ensures) (c .spread-early .ensures)
 
 rank-at-requires : tie.Need-rank-at-requires
-rank-at-requires c κs = let h : c .before .before .before .before .before .before .before .before .before .before .before .args .slot < 64 = omega (arith, size-le (c .before .before .before .before .before .before .before .before .before .before .before .args .self .table .count)) in (rw (c .before .before .before .size2 .ensures) (size-le _), h)
+rank-at-requires c κs =
+    let at-size2 = c .before .before .before in
+    let at-if1 = at-size2 .before .before .before in
+    let at-start = at-if1 .before .before .before .before .before in
+    let h : at-start .args .slot < 64 = omega (arith, size-le (at-start .args .self .table .count)) in (rw (at-size2 .size2 .ensures) (size-le _), h)
 
 cast-rank : tie.Need-cast-rank
 cast-rank c = search needs
@@ -47,7 +60,16 @@ same-length : tie.Need-same-length
 same-length c = search needs
 
 returns-3 : tie.Need-returns-3
-returns-3 c = payload-sent _ _ (c .before .before .before .before .before .before .before .before .before .before .before .before .before .size .ensures) _ _ _ (c .before .before .before .before .before .before .before .before .before .before .before .before .if1 .left) (x-is (c .before .before .before .before .before .before .before .before .before .before .before .before .before .before .before .before .before .args .self) (c .before .before .before .before .before .before .before .before .before .size2 .ensures) (c .before .before .before .before .before .before .before .before .carriers .ensures)) (not-false _ (c .before .before .before .before .before .before .if2 .left)) (rank-is (c .before .before .before .before .before .before .before .before .before .before .before .before .before .before .before .before .before .args .self) _ (c .before .before .before .before .before .before .before .before .before .size2 .ensures) (c .before .before .before .before .before .rank-at .ensures)) (c .before .before .before .spread-one .ensures .0) (c .before .before .before .spread-one .ensures .1) (c .spread-told .ensures)
+returns-3 c =
+    let at-spread-one = c .before .before .before in
+    let at-rank-at = at-spread-one .before .before in
+    let at-if2 = at-rank-at .before in
+    let at-carriers = at-if2 .before .before in
+    let at-size2 = at-carriers .before in
+    let at-if1 = at-size2 .before .before .before in
+    let at-size = at-if1 .before in
+    let at-start = at-size .before .before .before .before in
+    payload-sent _ _ (at-size .size .ensures) _ _ _ (at-if1 .if1 .left) (x-is (at-start .args .self) (at-size2 .size2 .ensures) (at-carriers .carriers .ensures)) (not-false _ (at-if2 .if2 .left)) (rank-is (at-start .args .self) _ (at-size2 .size2 .ensures) (at-rank-at .rank-at .ensures)) (at-spread-one .spread-one .ensures .0) (at-spread-one .spread-one .ensures .1) (c .spread-told .ensures)
 
 pub payload-spec : {M : Type 1} → statement M
 payload-spec =

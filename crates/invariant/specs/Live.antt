@@ -1,0 +1,53 @@
+-- The packet being gathered (request 2026-04): which frames its nibbles came with.
+use mathlib.Core.Path.{_≡_}
+use mathlib.Core.Bool.{Bool, true, cond, not, _&&_}
+use mathlib.Core.List.{List, [], _∷_}
+use Prim.Native.Nat.{ℕ, zero, suc, _-_, _≤_, _<_}
+use lib.Dec.{eqb}
+use lib.ListN.{getD, length, set}
+use Rattle.ground.specs.Table.{tabulate}
+use Rattle.packet.specs.Counts.{nibbleIn}
+use Rattle.packet.specs.Kinds.{frames, placeOf, startsEpoch, tagBefore}
+use Rattle.receiver.specs.Frame.{frameAnswer}
+use Rattle.rows.specs.Port.{Port}
+use Rattle.step.specs.Run.{endsPacket, inStepAt}
+use Rattle.invariant.specs.Calls.{Fetch, Frame, Receiver, ReceiverCall, receiverStep}
+
+-- a frame to the step record (R-5), by its answer
+abbrev pub isHeard : ℕ → Bool
+isHeard answer = not (eqb answer 1) && not (eqb answer 9) && not (eqb answer 11)
+
+-- The H4 bytes of all frames of port j that were frames to its step record, the latest first: after one call more, and after some calls.
+
+abbrev pub heardWith : ℕ → Receiver → ReceiverCall → List ℕ → List ℕ
+heardWith j x (Frame i failed h payload) heard =
+    cond (eqb i j && isHeard (frameAnswer (x .rows) i failed h (length payload) (length (x .store)))) (h ∷ heard) heard
+heardWith j x (Fetch out report) heard = heard
+
+abbrev pub heardOf : ℕ → Receiver → List ReceiverCall → List ℕ → List ℕ
+heardOf j x [] heard = heard
+heardOf j x (c ∷ calls) heard = heardOf j (receiverStep x c) calls (heardWith j x c heard)
+
+-- by the own count, the tag of the frame that came d before the latest
+abbrev pub tagBack : ℕ → ℕ → ℕ → ℕ
+tagBack kind next zero = tagBefore kind next
+tagBack kind next (suc d) = tagBefore kind (tagBack kind next d)
+
+-- Of each of the last frames of the run, as many as an epoch has, its nibble stands at its own place.
+pub record LiveRow (kind count next : ℕ) (row heard : List ℕ) : Type 0 where
+  pub long : length row ≡ 16
+  pub known : count ≤ length heard
+  pub holds : (d : ℕ) → d < count → d < frames kind → placeOf kind (tagBack kind next d) < 16 → getD row (placeOf kind (tagBack kind next d)) 0 ≡ nibbleIn kind (getD heard d 0)
+
+-- the packet that came with the last frames, as many as an epoch has
+abbrev pub packetHeard : ℕ → List ℕ → List ℕ
+packetHeard kind heard = tabulate 16 (λ k. nibbleIn kind (getD heard (frames kind - 1 - k) 0))
+
+-- What holds of a port's packet being gathered, of the frames that the port has heard.
+pub record Live (kind : ℕ) (p : Port) (heard : List ℕ) : Type 0 where
+  pub row : LiveRow kind (p .step .count) (p .step .next) (p .gathering) heard
+  -- in step, after the last frame of an epoch
+  pub came : inStepAt kind (p .step .count) ≡ true → startsEpoch kind (p .step .next) ≡ true → p .gathering ≡ packetHeard kind heard
+  -- in step, as the last frame of an epoch comes: the packet that is looked at for another MFI2
+  pub judged : inStepAt kind (p .step .count) ≡ true → endsPacket kind (p .step .next) ≡ true
+      → (h : ℕ) → set (p .gathering) (placeOf kind (p .step .next)) (nibbleIn kind h) ≡ packetHeard kind (h ∷ heard)

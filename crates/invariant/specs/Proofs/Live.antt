@@ -1,0 +1,5 @@
+-- Why the packet being gathered is the one that came.
+pub mod Places
+pub mod Rows
+pub mod Runs
+pub mod Calls

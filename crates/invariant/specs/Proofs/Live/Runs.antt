@@ -1,0 +1,139 @@
+-- A frame's run and its nibble.
+use mathlib.Core.Path.{_≡_, refl}
+use mathlib.Core.Logic.{_⊎_, inl, inr, ⊎-elim, _≢_}
+use mathlib.Core.Bool.{Bool, true, false, cond, not, _&&_}
+use mathlib.Core.List.{List, _∷_}
+use Prim.Native.Nat.{ℕ, _+_, _*_, _≤_, _<_}
+use native.Mathlib.Omega.{arith}
+use lib.Dec.{eqb}
+use lib.ListN.{length, length-set, set}
+use borrow.Author.Tests.{eqb-true, leb-false}
+use Rattle.ground.specs.Truth.{cond-by}
+use Rattle.invariant.specs.Kept.Run.{RunKept}
+use Rattle.invariant.specs.Live.{LiveRow, isHeard}
+use Rattle.invariant.specs.Proofs.Laws.Flags.{true-or-false}
+use Rattle.invariant.specs.Proofs.Live.Places.{after-mod, second-mod}
+use Rattle.invariant.specs.Proofs.Live.Rows.{Further, live-none, live-put}
+use Rattle.packet.specs.Counts.{carriesLow, counts, nibbleIn, startsCount, tagByHigh, tagByLow}
+use Rattle.packet.specs.Kinds.{frames, placeOf, tagAfter}
+use Rattle.packet.specs.Laws.Counting.{low-told}
+use Rattle.packet.specs.Theorems.Tags.{frames-two}
+use Rattle.receiver.specs.Frame.{ownTag}
+use Rattle.rows.specs.declared.group.Group.{Group}
+use Rattle.rows.specs.declared.step.Step.{Step}
+use Rattle.step.specs.Arrival.{countsOn, flagged, frameDropped, joining, keeps, outside, runOf, takenOf}
+use Rattle.step.specs.declared.arrival.Taken.{Taken}
+use Rattle.step.specs.declared.run.Run.{Run}
+use Rattle.step.specs.Laws.Arrival.{ranOn, taken-by}
+use Rattle.step.specs.Run.{begunRun, breaksAfter, furtherRun, gainedRun, inStepAt, loses, noRun, oddAfter, runOn, secondRun, stayedRun}
+
+-- a run begins anew, or goes on
+abbrev pub Grows : ℕ → Run → Run → Type 0
+Grows kind r q = (q .count ≤ 1) ⊎ Further kind (r .count) (r .next) (q .count) (q .next)
+
+begun-grows : (kind : ℕ) (r : Run) (h : ℕ) → Grows kind r (begunRun kind h)
+unfolding begunRun
+begun-grows kind r h =
+    cond-by (Grows kind r) (startsCount kind h) (record { count = 1; next = tagByHigh kind h; breaks = 0; odd = 0 }) noRun (λ e. inl (omega arith)) (λ e. inl (omega arith))
+
+second-grows : (kind : ℕ) (r : Run) (h : ℕ) → r .count ≡ 1 → RunKept kind r → Grows kind r (secondRun kind r h)
+unfolding secondRun
+second-grows kind r h one k =
+    let two = frames-two kind in
+    cond-by (Grows kind r) (carriesLow kind h) (record { count = 2; next = tagByLow kind (r .next) h; breaks = 0; odd = 0 }) (begunRun kind h)
+    (λ e. inr (record { count-is = omega arith; next-is = second-mod kind (r .next) (tagByLow kind (r .next) h) (rw one at (k .goes (omega arith) (omega arith))) (low-told kind (r .next) h .1) }))
+    (λ e. begun-grows kind r h)
+
+gained-grows : (kind : ℕ) (r : Run) (h : ℕ) → RunKept kind r → Grows kind r (gainedRun kind r h)
+unfolding gainedRun furtherRun
+gained-grows kind r h k =
+    cond-by (Grows kind r) (eqb (r .count) 0) (begunRun kind h) (cond (eqb (r .count) 1) (secondRun kind r h) (furtherRun kind r h)) (λ e. begun-grows kind r h)
+    (λ e.
+    cond-by (Grows kind r) (eqb (r .count) 1) (secondRun kind r h) (furtherRun kind r h) (λ d. second-grows kind r h (eqb-true (r .count) 1 d) k)
+    (λ d.
+    cond-by (Grows kind r) (counts kind (r .next) h) (record { count = r .count + 1; next = tagAfter kind (r .next); breaks = 0; odd = 0 }) (begunRun kind h)
+    (λ c. inr (record { count-is = omega arith; next-is = after-mod kind (r .next) })) (λ c. begun-grows kind r h)))
+
+run-grows : (kind : ℕ) (r : Run) (odd : Bool) (h : ℕ) → RunKept kind r → Grows kind r (runOn kind r odd h)
+unfolding runOn stayedRun
+run-grows kind r odd h k =
+    cond-by (Grows kind r) (inStepAt kind (r .count)) (stayedRun kind r odd h) (gainedRun kind r h)
+    (λ e.
+    cond-by (Grows kind r) (loses (counts kind (r .next) h) r odd) (begunRun kind h)
+    (record { count = r .count; next = tagAfter kind (r .next); breaks = breaksAfter (counts kind (r .next) h) (r .breaks); odd = oddAfter kind r odd })
+    (λ l. begun-grows kind r h) (λ l. inr (record { count-is = omega arith; next-is = after-mod kind (r .next) })))
+    (λ e. gained-grows kind r h k)
+
+-- what a frame that is one to the step record does: the run is none, or goes with the frame's nibble
+pub record Took (kind : ℕ) (s : Step) (t : Taken) : Type 0 where
+  pub heard : isHeard (t .answer) ≡ true
+  pub run : (t .step .count ≡ 0) ⊎ ((t .counted ≡ true) × Grows kind (runOf s) (runOf (t .step)))
+
+abbrev pub TakenSo : ℕ → Step → Taken → Type 0
+TakenSo kind s t = (t .answer ≡ 11) ⊎ Took kind s t
+
+module _ (g : Group) (s : Step) (flag odd : Bool) (h : ℕ) (k : RunKept (g .kind) (runOf s)) where
+  abbrev run : Run
+  run = ranOn g s odd h
+
+  grows : Grows (g .kind) (runOf s) (ranOn g s odd h)
+  grows = run-grows (g .kind) (runOf s) odd h k
+
+  flagged-took : Took (g .kind) s (flagged g s)
+  unfolding flagged
+  flagged-took = record { heard = refl; run = inl refl }
+
+  counts-took : Took (g .kind) s (countsOn g s run)
+  unfolding countsOn
+  counts-took =
+      record {
+        heard = refl;
+        run =
+            ⊎-elim (λ (e : eqb (run .count) 0 ≡ true). inl (eqb-true (run .count) 0 e))
+            (λ (e : eqb (run .count) 0 ≡ false). inr (rw e refl, grows))
+            (true-or-false (eqb (run .count) 0));
+      }
+
+  dropped-took : Took (g .kind) s (frameDropped g s run)
+  unfolding frameDropped
+  dropped-took = record { heard = refl; run = inr (refl, grows) }
+
+  keeps-took : (d : ℕ) → Took (g .kind) s (keeps g s run d)
+  unfolding keeps
+  keeps-took d = record { heard = refl; run = inr (refl, grows) }
+
+  joining-took : (d : ℕ) → Took (g .kind) s (joining g s run d)
+  unfolding joining
+  joining-took d = record { heard = refl; run = inr (refl, grows) }
+
+  outside-so : TakenSo (g .kind) s (outside s)
+  unfolding outside
+  outside-so = inl refl
+
+  pub taken-took : TakenSo (g .kind) s (takenOf g s flag odd h)
+  taken-took =
+      taken-by (TakenSo (g .kind) s) g s flag odd h
+      (λ f. inr flagged-took)
+      (λ f e. inr counts-took)
+      (λ f e b. inr dropped-took)
+      (λ f e b j w. inr (keeps-took _))
+      (λ f e b j w. outside-so)
+      (λ f e b j w l. inr (joining-took _))
+      (λ f e b j w. inr dropped-took)
+
+-- the packet being gathered after it
+abbrev pub rowAfter : ℕ → List ℕ → Taken → ℕ → List ℕ
+rowAfter kind row t h = cond (t .counted) (set row (placeOf kind (ownTag kind t)) (nibbleIn kind h)) row
+
+row-long : (kind : ℕ) (row : List ℕ) (t : Taken) (h : ℕ) → length row ≡ 16 → length (rowAfter kind row t h) ≡ 16
+row-long kind row t h e =
+    cond-by (λ (l : List ℕ). length l ≡ 16) (t .counted) (set row (placeOf kind (ownTag kind t)) (nibbleIn kind h)) row
+    (λ c. rw (length-set row (placeOf kind (ownTag kind t)) (nibbleIn kind h)) e) (λ c. e)
+
+pub live-took : (kind : ℕ) (s : Step) (row heard : List ℕ) (t : Taken) (h : ℕ) → LiveRow kind (s .count) (s .next) row heard → Took kind s t
+    → LiveRow kind (t .step .count) (t .step .next) (rowAfter kind row t h) (h ∷ heard)
+live-took kind s row heard t h o k =
+    ⊎-elim (λ (none : t .step .count ≡ 0). live-none kind (t .step .count) (t .step .next) (rowAfter kind row t h) (h ∷ heard) (row-long kind row t h (o .long)) none)
+    (λ (goes : (t .counted ≡ true) × Grows kind (runOf s) (runOf (t .step))).
+    rw (goes .0) (live-put kind (s .count) (s .next) row heard o (t .step .count) (t .step .next) h (goes .1)))
+    (k .run)

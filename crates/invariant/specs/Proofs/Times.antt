@@ -1,0 +1,8 @@
+-- Why times change nothing but member states.
+pub mod Rows
+pub mod Settling
+pub mod Frames
+pub mod Reports
+pub mod Shown
+pub mod Start
+pub mod Calls

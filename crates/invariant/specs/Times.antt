@@ -1,0 +1,46 @@
+-- What a host hears of a receiver but for its members' states (02, 2026-03: 'Only the reply changes; the marks on epochs and demand 3 read as before.').
+use mathlib.Core.Path.{_≡_}
+use mathlib.Core.Logic.{_≢_}
+use mathlib.Core.List.{List, [], _∷_}
+use Prim.Native.Nat.{ℕ}
+use lib.ListN.{getD, length}
+use Rattle.receiver.specs.Fetch.{fetchAnswer, fetchOut, fetchRecord}
+use Rattle.receiver.specs.Frame.{frameAnswer, frameStore}
+use Rattle.receiver.specs.Shown.{portsAnswer, portsOut, replyAnswer, replyOut}
+use Rattle.invariant.specs.Calls.{Fetch, Frame, Receiver, ReceiverCall, receiverStep}
+
+-- what a call answers and leaves in all that is lent with it but the rows; a frame is lent no output and no record
+pub record Outcome : Type 0 where
+  pub answer : ℕ
+  pub store : List ℕ
+  pub out : List ℕ
+  pub report : List ℕ
+
+abbrev pub outcomeOf : Receiver → ReceiverCall → Outcome
+outcomeOf x (Frame port failed h payload) =
+    record {
+      answer = frameAnswer (x .rows) port failed h (length payload) (length (x .store));
+      store = frameStore (x .rows) port failed h payload (x .store);
+      out = [];
+      report = [];
+    }
+outcomeOf x (Fetch out report) =
+    record {
+      answer = fetchAnswer (x .rows) (x .store) out report;
+      store = x .store;
+      out = fetchOut (x .rows) (x .store) out report;
+      report = fetchRecord (x .rows) (x .store) out report;
+    }
+
+-- of each call in turn
+abbrev pub outcomesOf : Receiver → List ReceiverCall → List Outcome
+outcomesOf x [] = []
+outcomesOf x (c ∷ calls) = outcomeOf x c ∷ outcomesOf (receiverStep x c) calls
+
+-- What can be read out beside them is the same, with any output lent: RS-Ack, which is the reply's second byte, in every epoch; and what is shown of
+-- the ports, but for the state, its number and what waits, bytes 0, 1 and 7.
+pub record SameShown (s t : List (List ℕ)) : Type 0 where
+  pub reply-answer : (long : ℕ) → replyAnswer s long ≡ replyAnswer t long
+  pub ack : (epoch : ℕ) (out : List ℕ) → getD (replyOut s epoch out) 1 0 ≡ getD (replyOut t epoch out) 1 0
+  pub ports-answer : (long : ℕ) → portsAnswer s long ≡ portsAnswer t long
+  pub ports : (out : List (List ℕ)) (i byte : ℕ) → byte ≢ 0 → byte ≢ 1 → byte ≢ 7 → getD (getD (portsOut s out) i []) byte 0 ≡ getD (getD (portsOut t out) i []) byte 0

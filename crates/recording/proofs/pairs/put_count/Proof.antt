@@ -1,0 +1,19 @@
+use borrow.Author.Tests.{le-ltb, lt-ltb}
+use borrow.Author.Needs.{needs}
+use Rattle.recording.proofs.pairs.put_count.Statement.{statement}
+use Rattle.recording.proofs.pairs.put_count.Tie as tie
+
+mul-next : tie.Need-mul-next
+mul-next c = search needs
+
+array-write-next : tie.Need-array-write-next
+array-write-next c = search needs
+
+returns : tie.Need-returns
+returns c = rw (lt-ltb (c .before .args .i) 64 (c .if1 .taken))
+
+returns-2 : tie.Need-returns-2
+returns-2 c = rw (le-ltb (c .before .args .i) 64 (c .if1 .left))
+
+pub put-count-spec : {M : Type 1} → statement M
+put-count-spec = tie.close (tie.spec mul-next array-write-next returns returns-2)

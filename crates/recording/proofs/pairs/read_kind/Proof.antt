@@ -1,0 +1,38 @@
+use lib.Seq.{slice}
+use borrow.Author.Needs.{needs}
+use Rattle.recording.proofs.Reading.{kind-fixed, kind-h4, kind-none}
+use Rattle.recording.proofs.pairs.read_kind.Statement.{statement}
+use Rattle.recording.proofs.pairs.read_kind.Tie as tie
+
+slice-aggregate-same : tie.Need-slice-aggregate-same
+slice-aggregate-same c = search needs
+
+same-requires : tie.Need-same-requires
+same-requires c κs = search needs
+
+kind-to-requires : tie.Need-kind-to-requires
+kind-to-requires c κs = search needs
+
+returns : tie.Need-returns
+returns c = kind-h4 (c .before .before .before .before .before .args .pairs) (slice (c .before .before .before .before .before .args .at) (c .before .before .before .before .before .args .limit) (c .before .before .before .before .before .args .text .now)) (c .before .before .same .result) (c .before .before .same .ensures) (c .before .if1 .taken) (c .kind-to .result) (c .kind-to .ensures)
+
+slice-aggregate-same-2 : tie.Need-slice-aggregate-same-2
+slice-aggregate-same-2 c = search needs
+
+same-requires-2 : tie.Need-same-requires-2
+same-requires-2 c κs = search needs
+
+kind-to-requires-2 : tie.Need-kind-to-requires-2
+kind-to-requires-2 c κs = search needs
+
+returns-2 : tie.Need-returns-2
+returns-2 c = kind-fixed (c .before .before .before .before .before .before .before .before .args .pairs) (slice (c .before .before .before .before .before .before .before .before .args .at) (c .before .before .before .before .before .before .before .before .args .limit) (c .before .before .before .before .before .before .before .before .args .text .now)) (c .before .before .before .before .before .same .result) (c .before .before .before .before .before .same .ensures) (c .before .before .before .before .if1 .left) (c .before .before .same2 .result) (c .before .before .same2 .ensures) (c .before .if2 .taken) (c .kind-to2 .result) (c .kind-to2 .ensures)
+
+awaits-requires : tie.Need-awaits-requires
+awaits-requires c κs = search needs
+
+returns-3 : tie.Need-returns-3
+returns-3 c = kind-none (c .before .before .before .before .before .before .before .before .args .pairs) (slice (c .before .before .before .before .before .before .before .before .args .at) (c .before .before .before .before .before .before .before .before .args .limit) (c .before .before .before .before .before .before .before .before .args .text .now)) (c .before .before .before .before .before .same .result) (c .before .before .before .before .before .same .ensures) (c .before .before .before .before .if1 .left) (c .before .before .same2 .result) (c .before .before .same2 .ensures) (c .before .if2 .left) (c .awaits .result) (c .awaits .ensures)
+
+pub read-kind-spec : {M : Type 1} → statement M
+read-kind-spec = tie.close (tie.spec slice-aggregate-same same-requires kind-to-requires returns slice-aggregate-same-2 same-requires-2 kind-to-requires-2 returns-2 awaits-requires returns-3)

@@ -1,0 +1,66 @@
+use lib.Seq.{slice}
+use Rattle.recording.proofs.Reading.{name-hold, name-kind, name-none, name-restore}
+use borrow.Author.Needs.{needs}
+use Rattle.recording.proofs.pairs.read_name.Statement.{statement}
+use Rattle.recording.proofs.pairs.read_name.Tie as tie
+
+slice-aggregate-same : tie.Need-slice-aggregate-same
+slice-aggregate-same c = search needs
+
+same-requires : tie.Need-same-requires
+same-requires c κs = search needs
+
+kind-named-requires : tie.Need-kind-named-requires
+kind-named-requires c κs = search needs
+
+returns : tie.Need-returns
+returns c = name-kind (c .before .before .before .before .before .before .args .pairs) (slice (c .before .before .before .before .before .before .args .at) (c .before .before .before .before .before .before .args .limit) (c .before .before .before .before .before .before .args .text .now)) (c .before .before .before .same .result) (c .before .before .before .same .ensures) (c .before .if1 .taken) (c .kind-named .result) (c .kind-named .ensures)
+
+slice-aggregate-same-2 : tie.Need-slice-aggregate-same-2
+slice-aggregate-same-2 c = search needs
+
+same-requires-2 : tie.Need-same-requires-2
+same-requires-2 c κs = search needs
+
+hold-named-requires : tie.Need-hold-named-requires
+hold-named-requires c κs = search needs
+
+returns-2 : tie.Need-returns-2
+returns-2 c = name-hold (c .before .before .before .before .before .before .before .before .before .before .args .pairs) (slice (c .before .before .before .before .before .before .before .before .before .before .args .at) (c .before .before .before .before .before .before .before .before .before .before .args .limit) (c .before .before .before .before .before .before .before .before .before .before .args .text .now)) (c .before .before .before .before .before .before .before .same .result) (c .before .before .before .before .before .before .before .same .ensures) (c .before .before .before .before .before .if1 .left) (c .before .before .before .same2 .result) (c .before .before .before .same2 .ensures) (c .before .if2 .taken) (c .hold-named .result) (c .hold-named .ensures)
+
+slice-aggregate-same-3 : tie.Need-slice-aggregate-same-3
+slice-aggregate-same-3 c = search needs
+
+same-requires-3 : tie.Need-same-requires-3
+same-requires-3 c κs = search needs
+
+restore-named-requires : tie.Need-restore-named-requires
+restore-named-requires c κs = search needs
+
+returns-3 : tie.Need-returns-3
+returns-3 c = name-restore (c .before .before .before .before .before .before .before .before .before .before .before .before .before .before .args .pairs) (slice (c .before .before .before .before .before .before .before .before .before .before .before .before .before .before .args .at) (c .before .before .before .before .before .before .before .before .before .before .before .before .before .before .args .limit) (c .before .before .before .before .before .before .before .before .before .before .before .before .before .before .args .text .now)) (c .before .before .before .before .before .before .before .before .before .before .before .same .result) (c .before .before .before .before .before .before .before .before .before .before .before .same .ensures) (c .before .before .before .before .before .before .before .before .before .if1 .left) (c .before .before .before .before .before .before .before .same2 .result) (c .before .before .before .before .before .before .before .same2 .ensures) (c .before .before .before .before .before .if2 .left) (c .before .before .before .same3 .result) (c .before .before .before .same3 .ensures) (c .before .if3 .taken) (c .restore-named .result) (c .restore-named .ensures)
+
+awaits-requires : tie.Need-awaits-requires
+awaits-requires c κs = search needs
+
+returns-4 : tie.Need-returns-4
+returns-4 c = name-none (c .before .before .before .before .before .before .before .before .before .before .before .before .before .before .args .pairs) (slice (c .before .before .before .before .before .before .before .before .before .before .before .before .before .before .args .at) (c .before .before .before .before .before .before .before .before .before .before .before .before .before .before .args .limit) (c .before .before .before .before .before .before .before .before .before .before .before .before .before .before .args .text .now)) (c .before .before .before .before .before .before .before .before .before .before .before .same .result) (c .before .before .before .before .before .before .before .before .before .before .before .same .ensures) (c .before .before .before .before .before .before .before .before .before .if1 .left) (c .before .before .before .before .before .before .before .same2 .result) (c .before .before .before .before .before .before .before .same2 .ensures) (c .before .before .before .before .before .if2 .left) (c .before .before .before .same3 .result) (c .before .before .before .same3 .ensures) (c .before .if3 .left) (c .awaits .result) (c .awaits .ensures)
+
+pub read-name-spec : {M : Type 1} → statement M
+read-name-spec =
+    tie.close
+    (tie.spec
+    slice-aggregate-same
+    same-requires
+    kind-named-requires
+    returns
+    slice-aggregate-same-2
+    same-requires-2
+    hold-named-requires
+    returns-2
+    slice-aggregate-same-3
+    same-requires-3
+    restore-named-requires
+    returns-3
+    awaits-requires
+    returns-4)

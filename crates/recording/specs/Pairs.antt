@@ -1,0 +1,104 @@
+-- Behind the three numbers of a first line stand pairs, each a name and what it says (2026-05), 'in any order, each at most once': `kind` with the group's
+-- kind (2026-12), `hold-off` and `wait-to-restore` (2026-03) with a number for each port. The fields are taken one after the other.
+use mathlib.Core.Bool.{Bool, true, false, cond, not, _&&_}
+use mathlib.Core.List.{List, [], _∷_}
+use Prim.Native.Nat.{ℕ, _+_}
+use lib.Dec.{eqb, ltb}
+use lib.ListN.{replicate, set}
+use Rattle.recording.specs.declared.pairs.Awaited.{Awaited}
+use Rattle.recording.specs.declared.pairs.Awaited.the-variants.{Name, Kind, HoldOff, Restore, Nothing}
+use Rattle.recording.specs.declared.pairs.Pairs.{Pairs}
+use Rattle.recording.specs.declared.pairs.Settings.{Settings}
+use Rattle.packet.specs.Kinds.{fixedKind}
+use Rattle.text.specs.declared.fields.Number.{Number}
+use Rattle.text.specs.declared.fields.Number.the-variants.{Value, Unreadable}
+use Rattle.text.specs.Ascii.{ascii}
+use Rattle.text.specs.Fields.{numberOf, sameBytes}
+
+-- a group with no pair: H4, and no time for any port
+abbrev pub plainSettings : ℕ → ℕ → ℕ → Settings
+plainSettings ports size window = record { «hold_off» = replicate 64 0; restore = replicate 64 0; kind = 0; ports = ports; size = size; window = window }
+
+abbrev pub firstPairs : ℕ → ℕ → ℕ → Pairs
+firstPairs ports size window = record { settings = plainSettings ports size window; awaited = Name; «has_kind» = false; «has_hold_off» = false; «has_restore» = false }
+
+-- another field is awaited
+abbrev pub awaiting : Awaited → Pairs → Pairs
+awaiting a p = record { settings = p .settings; awaited = a; «has_kind» = p .«has_kind»; «has_hold_off» = p .«has_hold_off»; «has_restore» = p .«has_restore» }
+
+-- a field that may not stand here; what follows it is not looked at
+abbrev pub wrongField : Pairs → Pairs
+wrongField p = awaiting Nothing p
+
+-- a list has as many numbers as there are ports: the one of a port, or the next name
+abbrev pub holdFrom : ℕ → ℕ → Awaited
+holdFrom ports i = cond (ltb i ports) (HoldOff i) Name
+
+abbrev pub restoreFrom : ℕ → ℕ → Awaited
+restoreFrom ports i = cond (ltb i ports) (Restore i) Name
+
+-- a name
+
+abbrev pub kindNamed : Pairs → Pairs
+kindNamed p = record { settings = p .settings; awaited = Kind; «has_kind» = true; «has_hold_off» = p .«has_hold_off»; «has_restore» = p .«has_restore» }
+
+abbrev pub holdNamed : Pairs → Pairs
+holdNamed p = record { settings = p .settings; awaited = holdFrom (p .settings .ports) 0; «has_kind» = p .«has_kind»; «has_hold_off» = true; «has_restore» = p .«has_restore» }
+
+abbrev pub restoreNamed : Pairs → Pairs
+restoreNamed p =
+    record { settings = p .settings; awaited = restoreFrom (p .settings .ports) 0; «has_kind» = p .«has_kind»; «has_hold_off» = p .«has_hold_off»; «has_restore» = true }
+
+unfoldable pub named : Pairs → List ℕ → Pairs
+named p field =
+    cond (sameBytes field (ascii "kind") && not (p .«has_kind»)) (kindNamed p)
+    (cond (sameBytes field (ascii "hold-off") && not (p .«has_hold_off»)) (holdNamed p)
+    (cond (sameBytes field (ascii "wait-to-restore") && not (p .«has_restore»)) (restoreNamed p) (wrongField p)))
+
+-- what it says
+
+abbrev pub settingsTo : Settings → Awaited → Pairs → Pairs
+settingsTo s a p = record { settings = s; awaited = a; «has_kind» = p .«has_kind»; «has_hold_off» = p .«has_hold_off»; «has_restore» = p .«has_restore» }
+
+abbrev pub withHold : Settings → List ℕ → Settings
+withHold s counts = record { «hold_off» = counts; restore = s .restore; kind = s .kind; ports = s .ports; size = s .size; window = s .window }
+
+abbrev pub withRestore : Settings → List ℕ → Settings
+withRestore s counts = record { «hold_off» = s .«hold_off»; restore = counts; kind = s .kind; ports = s .ports; size = s .size; window = s .window }
+
+abbrev pub withKind : Settings → ℕ → Settings
+withKind s kind = record { «hold_off» = s .«hold_off»; restore = s .restore; kind = kind; ports = s .ports; size = s .size; window = s .window }
+
+-- of a group with more than 64 ports, which no receiver has, the numbers of the first 64 are kept
+abbrev pub countPut : List ℕ → ℕ → ℕ → List ℕ
+countPut counts i n = cond (ltb i 64) (set counts i n) counts
+
+abbrev pub kindTo : Pairs → ℕ → Pairs
+kindTo p kind = settingsTo (withKind (p .settings) kind) Name p
+
+unfoldable pub kindRead : Pairs → List ℕ → Pairs
+kindRead p field = cond (sameBytes field (ascii "H4")) (kindTo p 0) (cond (sameBytes field (ascii "FIXED")) (kindTo p fixedKind) (wrongField p))
+
+unfoldable pub holdRead : Pairs → ℕ → Number → Pairs
+holdRead p i (Value n) = settingsTo (withHold (p .settings) (countPut (p .settings .«hold_off») i n)) (holdFrom (p .settings .ports) (i + 1)) p
+holdRead p i Unreadable = wrongField p
+
+unfoldable pub restoreRead : Pairs → ℕ → Number → Pairs
+restoreRead p i (Value n) = settingsTo (withRestore (p .settings) (countPut (p .settings .restore) i n)) (restoreFrom (p .settings .ports) (i + 1)) p
+restoreRead p i Unreadable = wrongField p
+
+-- one field
+abbrev pub fieldBy : Awaited → Pairs → List ℕ → Pairs
+fieldBy Name p field = named p field
+fieldBy Kind p field = kindRead p field
+fieldBy (HoldOff i) p field = holdRead p i (numberOf 9 field)
+fieldBy (Restore i) p field = restoreRead p i (numberOf 9 field)
+fieldBy Nothing p field = p
+
+unfoldable pub fieldIn : Pairs → List ℕ → Pairs
+fieldIn p field = fieldBy (p .awaited) p field
+
+-- one after the other
+abbrev pub pairsFrom : Pairs → List (List ℕ) → Pairs
+pairsFrom p [] = p
+pairsFrom p (field ∷ fields) = pairsFrom (fieldIn p field) fields
