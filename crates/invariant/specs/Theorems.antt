@@ -23,8 +23,10 @@ use Rattle.receiver.specs.Laws.Bytes.{frameBytes, reportByte}
 use Rattle.receiver.specs.Report.{rulingEpoch, seenAll, seenOf}
 use Rattle.receiver.specs.Shown.{replyOf}
 use Rattle.receiver.specs.Starting.{startAsAnswer}
+use Rattle.reply.specs.Waiting.{noStanding}
 use Rattle.rows.specs.declared.group.Group.{Group}
 use Rattle.rows.specs.Group.{groupAt}
+use Rattle.rows.specs.Member.{memberAt}
 use Rattle.rows.specs.Port.{portAt}
 use Rattle.step.specs.Arrival.{flagOf}
 use Rattle.store.specs.Frames.{h4At, placeIn}
@@ -46,10 +48,11 @@ use Rattle.invariant.specs.Proofs.Reports.Order as Order
 use Rattle.invariant.specs.Proofs.Reports.Seen as Seen
 use Rattle.invariant.specs.Proofs.Ruled as Rules
 use Rattle.invariant.specs.Proofs.Settles as Settles
+use Rattle.invariant.specs.Proofs.Times.Between as Between
 use Rattle.invariant.specs.Proofs.Times.Calls as Times
 use Rattle.invariant.specs.Reports.{Given, HeldReport, Others, Refused, SameRule, Stored, Unstopped, ackIn, nextReport, reportsOf, successive}
 use Rattle.invariant.specs.Ruled.{OneEpoch}
-use Rattle.invariant.specs.Times.{SameShown, outcomesOf}
+use Rattle.invariant.specs.Times.{SameShown, outcomesOf, standingIn, standingsAfter}
 
 -- After any calls.
 
@@ -168,6 +171,21 @@ pub times-refused : (kind count P W : ℕ) (hold restore hold₂ restore₂ : Li
     → startAsAnswer kind count P W (length store) hold restore (length rows) ≢ 0
     → startedWith kind count P W hold restore rows store ≡ startedWith kind count P W hold₂ restore₂ rows store
 times-refused = Times.times-refused
+
+-- The timers of 2026-03 count reports: no frame, whatever follows from it, and no fetch with none due changes a port's state, its number, its times or its counter.
+
+pub frame-standing : (port : ℕ) (s : List (List ℕ)) (i : ℕ) (failed : Bool) (h : ℕ) (payload store : List ℕ) → standingIn (frameRows s i failed h payload store) port ≡ standingIn s port
+frame-standing = Between.frame-standing
+
+pub none-standing : (port : ℕ) (s : List (List ℕ)) (store out report : List ℕ) → (fits s store out report && dueIn (groupAt s) (portsIn (groupAt s)) s) ≡ false
+    → standingIn (fetchRows s store out report) port ≡ standingIn s port
+none-standing = Between.none-standing
+
+-- a report leaves what it works out of them, and the times as they are
+pub report-standing : (port : ℕ) (s : List (List ℕ)) (store out report : List ℕ) → Given s store out report → port < portsIn (groupAt s)
+    → standingIn (fetchRows s store out report) port
+    ≡ (let left = getD (standingsAfter s store) port noStanding in left .state ∷ left .number ∷ (memberAt s port .«hold_off») ∷ (memberAt s port .restore) ∷ left .run ∷ [])
+report-standing = Between.report-standing
 
 -- Fixed groups (request 2026-12), on every state: a due report is sure exactly where every port has a whole good ruling packet and brought its frames, and the numbers are 0 to X-1, X being the number of ports. Otherwise it is held.
 

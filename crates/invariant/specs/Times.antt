@@ -4,10 +4,19 @@ use mathlib.Core.Logic.{_≢_}
 use mathlib.Core.List.{List, [], _∷_}
 use Prim.Native.Nat.{ℕ}
 use lib.ListN.{getD, length}
+use Rattle.judge.specs.Seen.{sizeOf}
+use Rattle.phases.specs.Sizes.{portsIn}
 use Rattle.receiver.specs.Fetch.{fetchAnswer, fetchOut, fetchRecord}
 use Rattle.receiver.specs.Frame.{frameAnswer, frameStore}
+use Rattle.receiver.specs.Report.{replyPorts}
 use Rattle.receiver.specs.Shown.{portsAnswer, portsOut, replyAnswer, replyOut}
+use Rattle.reply.specs.declared.waiting.Standing.{Standing}
+use Rattle.reply.specs.Waiting.{standingsOf}
+use Rattle.rows.specs.declared.member.Member.{Member}
+use Rattle.rows.specs.Group.{groupAt}
+use Rattle.rows.specs.Member.{memberAt}
 use Rattle.invariant.specs.Calls.{Fetch, Frame, Receiver, ReceiverCall, receiverStep}
+use Rattle.invariant.specs.Reports.{passedRows}
 
 -- what a call answers and leaves in all that is lent with it but the rows; a frame is lent no output and no record
 pub record Outcome : Type 0 where
@@ -44,3 +53,14 @@ pub record SameShown (s t : List (List ℕ)) : Type 0 where
   pub ack : (epoch : ℕ) (out : List ℕ) → getD (replyOut s epoch out) 1 0 ≡ getD (replyOut t epoch out) 1 0
   pub ports-answer : (long : ℕ) → portsAnswer s long ≡ portsAnswer t long
   pub ports : (out : List (List ℕ)) (i byte : ℕ) → byte ≢ 0 → byte ≢ 1 → byte ≢ 7 → getD (getD (portsOut s out) i []) byte 0 ≡ getD (getD (portsOut t out) i []) byte 0
+
+-- What waiting goes by: a port's state, the number under which it has it, its two times and the counter.
+abbrev pub heldIn : Member → List ℕ
+heldIn m = (m .state) ∷ (m .«state_number») ∷ (m .«hold_off») ∷ (m .restore) ∷ (m .run) ∷ []
+
+abbrev pub standingIn : List (List ℕ) → ℕ → List ℕ
+standingIn s j = heldIn (memberAt s j)
+
+-- what the report works out of them, from the ports as they are when its epoch has passed
+abbrev pub standingsAfter : List (List ℕ) → List ℕ → List Standing
+standingsAfter s store = standingsOf (replyPorts (groupAt (passedRows s store)) (passedRows s store) (portsIn (groupAt s))) (sizeOf (portsIn (groupAt s)))

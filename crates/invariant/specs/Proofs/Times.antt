@@ -1,4 +1,4 @@
--- Why times change nothing but member states.
+-- Why times change nothing but member states, and why nothing but a report changes these.
 pub mod Rows
 pub mod Settling
 pub mod Frames
@@ -6,3 +6,4 @@ pub mod Reports
 pub mod Shown
 pub mod Start
 pub mod Calls
+pub mod Between
