@@ -30,13 +30,14 @@ beside() {
         # shellcheck disable=SC2030
         room=$room/$1 passed=0 failed=0
         "$1"
-        echo "$passed passed, $failed failed"
+        echo "$passed passed, $failed failed" >"$room.tally"
     ) >"$room/$1.said" 2>&1 &
     eval "process_of_$1=$!"
 }
 joined() {
     eval "wait \"\$process_of_$1\""
-    counted cat "$room/$1.said"
+    # one that broke off has left no tally, and so counts as failed
+    counted cat "$room/$1.said" "$room/$1.tally"
 }
 
 # Prints the tally of all and ends. No test at all is no success.
