@@ -86,6 +86,7 @@ build_own_link() {
 
 # build_reference: the rules a second time.
 build_reference() {
+    ! is_made target/host/libreference.rlib host/reference || return 0
     mkdir -p target/host
     rustc --edition 2021 -O --crate-type rlib --crate-name reference host/reference/lib.rs -o target/host/libreference.rlib
 }
@@ -97,11 +98,13 @@ build_reference_test() {
 
 # build_sessions: the program that holds the session program to the reference.
 build_sessions() {
+    ! is_made target/host/sessions host/sessions host/reference || return 0
     build_reference && rustc --edition 2021 -O host/sessions/main.rs --extern reference=target/host/libreference.rlib -o target/host/sessions
 }
 
 # build_replays: the program that holds the replay program to the reference and to the example link.
 build_replays() {
+    ! is_made target/host/replays host/replays host/reference || return 0
     build_reference && rustc --edition 2021 -O host/replays/main.rs --extern reference=target/host/libreference.rlib -o target/host/replays
 }
 
@@ -114,5 +117,7 @@ build_differential() {
 
 # build_link_test: the program that runs the example link over made-up links.
 build_link_test() {
+    ! is_made target/host/link-test host/link-test || return 0
+    mkdir -p target/host
     rustc --edition 2021 -O host/link-test/main.rs -o target/host/link-test
 }

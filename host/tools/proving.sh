@@ -52,10 +52,10 @@ weight() {
 }
 
 # How many crates are proved at once: a little more than there are processors, where there is memory for it. Each takes
-# some 2 GB at most.
+# some 3 GB at most.
 jobs() {
     processors=$(nproc 2>/dev/null || echo 1)
-    memory=$(awk '/^MemAvailable/ { print int($2 / 2000000) }' /proc/meminfo 2>/dev/null)
+    memory=$(awk '/^MemAvailable/ { print int($2 / 3000000) }' /proc/meminfo 2>/dev/null)
     most=$((2 * processors < 4 ? 2 * processors : 4))
     [ "${memory:-1}" -ge "$most" ] || most=${memory:-1}
     [ "$most" -ge 1 ] && echo "$most" || echo 1

@@ -22,6 +22,24 @@ counted() {
     passed=$((passed + ${tally% *})) failed=$((failed + ${tally#* }))
 }
 
+# beside FUNCTION: runs it beside what comes next, with a tally and a room of its own. joined FUNCTION waits for it, shows
+# what it printed, and adds its tally.
+beside() {
+    mkdir "$room/$1" || exit 2
+    (
+        # shellcheck disable=SC2030
+        room=$room/$1 passed=0 failed=0
+        "$1"
+        echo "$passed passed, $failed failed" >"$room.tally"
+    ) >"$room/$1.said" 2>&1 &
+    eval "process_of_$1=$!"
+}
+joined() {
+    eval "wait \"\$process_of_$1\""
+    # one that broke off has left no tally, and so counts as failed
+    counted cat "$room/$1.said" "$room/$1.tally"
+}
+
 # Prints the tally of all and ends. No test at all is no success.
 finish() {
     echo "$passed passed, $failed failed"

@@ -43,13 +43,13 @@ use Rattle.step.specs.Run.{begunRun, breaksAfter, endsPacket, furtherRun, gaine
 use Rattle.store.specs.Frames.{byteAt, h4At, packetIn, placeIn, ringOf, storedAt}
 use Rattle.store.specs.Marks.{cutByte, cutFrom, firstMark, markedAt, markedByte, passedByte, passedMarks}
 
--- one port, P is 1 and W is 64
+-- one port, P is 1 and W is 16
 abbrev openedAs : ℕ → Host
 openedAs kind =
     record {
-      answer = startAnswer kind 1 1 64 128 (rowsFor 1);
-      rows = startRows kind 1 1 64 128 (replicate (rowsFor 1) (replicate 16 0));
-      store = replicate 128 0;
+      answer = startAnswer kind 1 1 16 32 (rowsFor 1);
+      rows = startRows kind 1 1 16 32 (replicate (rowsFor 1) (replicate 16 0));
+      store = replicate 32 0;
     }
 
 -- what the host then reads: the record of the report, the port's eight bytes after it, MST of numbers 0 to 7 and RS-Ack

@@ -67,10 +67,15 @@ packetWith t = getD (h4Of (nibblesOf (record { epoch = epochOf 0 t; word = recor
 abbrev pub damagedWith : ℕ → ℕ
 damagedWith t = packetWith t + cond (eqb (t % 16) 4) 16 0
 
+-- A byte is handed on as a number. The checker would work out a packet's byte, with its CRC, again at each place that reads it.
+abbrev byNumber : ℕ → (ℕ → Host) → Host
+byNumber zero then = then zero
+byNumber (suc b) then = then (suc b)
+
 -- n frames of a port with such bytes, the first with tag t
 abbrev pub fedWith : (ℕ → ℕ) → ℕ → ℕ → ℕ → Host → Host
 fedWith h4 port zero t h = h
-fedWith h4 port (suc n) t h = fedWith h4 port n ((t + 1) % 4096) (handedAs false port (h4 t) (payloadWith t) h)
+fedWith h4 port (suc n) t h = byNumber (h4 t) (λ b. fedWith h4 port n ((t + 1) % 4096) (handedAs false port b (payloadWith t) h))
 
 -- one fetch, whose answer is left out
 abbrev pub fetched : Host → Host

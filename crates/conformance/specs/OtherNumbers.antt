@@ -42,9 +42,9 @@ use Rattle.step.specs.Run.{begunRun, breaksAfter, endsPacket, furtherRun, gaine
 use Rattle.store.specs.Frames.{byteAt, h4At, packetIn, placeIn, ringOf, storedAt}
 use Rattle.store.specs.Marks.{cutByte, cutFrom, firstMark, markedAt, markedByte, passedByte, passedMarks}
 
--- W is 64. One port in step, its latest tag 39, so that epoch 3 starts.
+-- W is 16. One port in step, its latest tag 39, so that epoch 3 starts.
 abbrev at40 : Host
-at40 = fed 0 40 0 (opened 1 64)
+at40 = fed 0 40 0 (opened 1 16)
 
 -- the sixteen nibbles of a packet with this word and number, for the frame with tag t
 abbrev nibblesFor : ℕ → ℕ → ℕ → List ℕ

@@ -47,9 +47,9 @@ each (t ∷ ts) h = let g = handed 0 t h in counting 0 g ++ each ts g
 abbrev then : Host → (Host → Host) → List ℕ
 then h more = h .answer ∷ more h .answer ∷ []
 
--- W is 64. One port in step, its latest tag 39, so that the next epoch starts.
+-- W is 32. One port in step, its latest tag 39, so that the next epoch starts.
 abbrev at40 : Host
-at40 = fed 0 40 0 (opened 1 64)
+at40 = fed 0 40 0 (opened 1 32)
 
 -- W is 16. The port has joined, the tag to come is 70, and 72 is the first outside the window.
 abbrev at70 : Host
