@@ -1,3 +1,4 @@
+pub mod Alone
 pub mod Choosing
 pub mod Laws
 pub mod Members

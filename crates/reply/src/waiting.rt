@@ -3,12 +3,14 @@ use crate::choosing;
 use crate::members;
 use crate::members::Port;
 ghost use mathlib.Core.Path.{_≡_};
-ghost use Prim.Native.Nat.{_≤_};
-ghost use lib.ListN.{replicate};
+ghost use mathlib.Core.Bool.{cond};
+ghost use Prim.Native.Nat.{_+_, _≤_};
+ghost use lib.ListN.{replicate, set};
 ghost use Rattle.counting.specs.Each.{each};
 ghost use Rattle.reply.specs.Choosing.{grant};
-ghost use Rattle.reply.specs.Members.{portAt, sizeOf};
-ghost use Rattle.reply.specs.Waiting.{chosenOf, hasClaim, joinsHeld, keepsNumber, moreHeld, mustHold, noStanding, someJoin, standingBy, standingsOf, withClaim, withoutClaim};
+ghost use Rattle.reply.specs.Alone.{aloneLeaves};
+ghost use Rattle.reply.specs.Members.{failState, hasHoldOff, okState, portAt, sizeOf};
+ghost use Rattle.reply.specs.Waiting.{chosenOf, hasClaim, joinsHeld, keepsNumber, moreHeld, mustHold, noStanding, someJoin, standing, standingBy, standingsOf, withClaim, withoutClaim};
 
 // What a report leaves of a port: its state, the number under which it has it, and at how many reports its timer has run.
 pub struct Standing {
@@ -178,10 +180,62 @@ fn standings_by(chosen: [u8; 64], ports: [Port; 64], n: usize) -> [Standing; 64]
     all
 }
 
+fn kept_alone(port: Port) -> Standing
+    ensures { λ r. ⌜ r ≡ cond (hasHoldOff port) (standing okState (port .«state_number») (port .run + 1)) (standing failState (port .number) 0) ⌝ }
+{
+    if members::has_hold_off(port) {
+        return Standing {
+            state: Port::OK,
+            number: port.state_number,
+            run: port.run + 1,
+        };
+    }
+    Standing {
+        state: Port::FAIL,
+        number: port.number,
+        run: 0,
+    }
+}
+
+// Nobody can take the number of a port alone: it has its claim where it is a candidate, and keeps its number where it has hold-off left.
+fn standing_alone(port: Port) -> Standing
+    ensures { λ r. ⌜ r ≡ aloneLeaves port ⌝ }
+{
+    if members::is_idle(port) {
+        return Standing {
+            state: Port::IDLE,
+            number: port.number,
+            run: 0,
+        };
+    }
+    if members::is_candidate(port) {
+        return with_claim(port);
+    }
+    kept_alone(port)
+}
+
+fn standings_alone(port: Port) -> [Standing; 64]
+    ensures { λ r. ⌜ r ≡ set (replicate 64 noStanding) 0 (aloneLeaves port) ⌝ }
+{
+    let none = Standing {
+        state: Port::IDLE,
+        number: 0,
+        run: 0,
+    };
+    let mut all = [none; 64];
+    let one = standing_alone(port);
+    all[0] = one;
+    all
+}
+
 // What this report leaves of each port.
 pub fn standings(ports: [Port; 64], count: u8) -> [Standing; 64]
     ensures { λ r. ⌜ r ≡ standingsOf ports (sizeOf count) ⌝ }
 {
+    if count == 1 {
+        let port = ports[0];
+        return standings_alone(port);
+    }
     let n = members::size_of(count);
     let chosen = choose_in_rounds(ports, n);
     standings_by(chosen, ports, n)
