@@ -60,7 +60,7 @@ module _ (ports : List Port) where
       let x : ℕ = holderOf (holders ports 1 (heldOf ports 1)) q in
       ⊎-elim
       (λ (e : holderOf (heldOf ports 1) q ≡ x).
-        ⊎-elim (λ (f : holderOf (heldOf ports 1) q ≡ FREE). inl (sym e ∙ f)) (λ (f : holderOf (heldOf ports 1) q ≡ 0). inr (sym e ∙ f)) (held-own q))
+      ⊎-elim (λ (f : holderOf (heldOf ports 1) q ≡ FREE). inl (sym e ∙ f)) (λ (f : holderOf (heldOf ports 1) q ≡ 0). inr (sym e ∙ f)) (held-own q))
       (λ (c : Chosen ports 1 q x). let b : x < 1 = c .below in inr (omega arith))
       (holders-from ports 1 (heldOf ports 1) q x length-held refl)
 
