@@ -1,4 +1,3 @@
-pub mod Alone
 pub mod Choosing
 pub mod Laws
 pub mod Members

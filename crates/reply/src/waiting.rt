@@ -4,11 +4,11 @@ use crate::members;
 use crate::members::Port;
 ghost use mathlib.Core.Path.{_≡_};
 ghost use mathlib.Core.Bool.{cond};
+ghost use mathlib.Core.List.{[], _∷_};
 ghost use Prim.Native.Nat.{_+_, _≤_};
-ghost use lib.ListN.{replicate, set};
+ghost use lib.ListN.{getD, replicate};
 ghost use Rattle.counting.specs.Each.{each};
 ghost use Rattle.reply.specs.Choosing.{grant};
-ghost use Rattle.reply.specs.Alone.{aloneLeaves};
 ghost use Rattle.reply.specs.Members.{failState, hasHoldOff, okState, portAt, sizeOf};
 ghost use Rattle.reply.specs.Waiting.{chosenOf, hasClaim, joinsHeld, keepsNumber, moreHeld, mustHold, noStanding, someJoin, standing, standingBy, standingsOf, withClaim, withoutClaim};
 
@@ -197,9 +197,10 @@ fn kept_alone(port: Port) -> Standing
     }
 }
 
-// Nobody can take the number of a port alone: it has its claim where it is a candidate, and keeps its number where it has hold-off left.
-fn standing_alone(port: Port) -> Standing
-    ensures { λ r. ⌜ r ≡ aloneLeaves port ⌝ }
+// What this report leaves of a port alone, with no table of 64 handed on. Nobody can take its number: it has its claim where it is a candidate, and
+// keeps its number where it has hold-off left.
+pub fn standing_alone(port: Port) -> Standing
+    ensures { λ r. ⌜ r ≡ getD (standingsOf (port ∷ []) 1) 0 noStanding ⌝ }
 {
     if members::is_idle(port) {
         return Standing {
@@ -214,28 +215,10 @@ fn standing_alone(port: Port) -> Standing
     kept_alone(port)
 }
 
-fn standings_alone(port: Port) -> [Standing; 64]
-    ensures { λ r. ⌜ r ≡ set (replicate 64 noStanding) 0 (aloneLeaves port) ⌝ }
-{
-    let none = Standing {
-        state: Port::IDLE,
-        number: 0,
-        run: 0,
-    };
-    let mut all = [none; 64];
-    let one = standing_alone(port);
-    all[0] = one;
-    all
-}
-
 // What this report leaves of each port.
 pub fn standings(ports: [Port; 64], count: u8) -> [Standing; 64]
     ensures { λ r. ⌜ r ≡ standingsOf ports (sizeOf count) ⌝ }
 {
-    if count == 1 {
-        let port = ports[0];
-        return standings_alone(port);
-    }
     let n = members::size_of(count);
     let chosen = choose_in_rounds(ports, n);
     standings_by(chosen, ports, n)

@@ -1,15 +1,14 @@
--- A port alone: what a report leaves of it hangs on itself.
+-- A port alone: what a report leaves of it hangs on itself, and so does RS-Ack.
 use mathlib.Core.Path.{_≡_, refl, sym, ap, _∙_}
 use mathlib.Core.Logic.{_⊎_, inl, inr, ⊎-elim, _≢_}
 use mathlib.Core.Bool.{Bool, true, false, cond, not, _&&_}
-use mathlib.Core.List.{List}
+use mathlib.Core.List.{List, [], _∷_}
 use Prim.Native.Nat.{ℕ, _+_, _<_}
 use native.Mathlib.Omega.{arith}
 use lib.Dec.{eqb}
-use lib.ListN.{length, length-replicate, replicate, set}
-use Rattle.counting.specs.Each.{Done, done-none, done-more, each}
+use lib.ListN.{getD, length, length-replicate, replicate, set}
+use Rattle.counting.specs.Each.{getD-each}
 use Rattle.ground.specs.Truth.{and-left, same-test}
-use Rattle.reply.specs.Alone.{aloneLeaves}
 use Rattle.reply.specs.Choosing.{FREE, chooses, claims, grant, granted, holderOf, holders, noneHeld}
 use Rattle.reply.specs.declared.members.Port.{Port}
 use Rattle.reply.specs.declared.waiting.Standing.{Standing}
@@ -18,8 +17,15 @@ use Rattle.reply.specs.Laws.Claims.{claim-free, claim-none, claim-own, k
 use Rattle.reply.specs.Laws.Granting.{grant-from, grant-holds, length-grant}
 use Rattle.reply.specs.Laws.Holding.{none-held}
 use Rattle.reply.specs.Laws.Members.{left-low, left-ok, left-runs}
-use Rattle.reply.specs.Members.{hasHoldOff, isCandidate, isIdle, portAt}
-use Rattle.reply.specs.Waiting.{chosenOf, hasClaim, heldOf, keepsNumber, moreHeld, mustHold, noStanding, rounds, someJoin, standingBy, standingsOf, withoutClaim}
+use Rattle.reply.specs.Members.{failState, hasHoldOff, idleState, isCandidate, isIdle, okState, portAt}
+use Rattle.reply.specs.Telling.{ackOf, turns}
+use Rattle.reply.specs.Waiting.{chosenOf, hasClaim, heldOf, keepsNumber, moreHeld, mustHold, noStanding, rounds, someJoin, standing, standingBy, standingsOf, withClaim}
+
+-- nobody can take its number: it has its claim where it is a candidate, and keeps its number where it has hold-off left
+unfoldable pub aloneLeaves : Port → Standing
+aloneLeaves p =
+    cond (isIdle p) (standing idleState (p .number) 0)
+    (cond (isCandidate p) (withClaim p) (cond (hasHoldOff p) (standing okState (p .«state_number») (p .run + 1)) (standing failState (p .number) 0)))
 
 twice : (b : Bool) (x y : List ℕ) → cond b (cond b x y) y ≡ cond b x y
 twice true x y = refl
@@ -113,8 +119,18 @@ module _ (ports : List Port) where
       go false false ei ec =
           left-lost (chosenOf ports 1) 0 p ei (claim-none (chosenOf ports 1) 0 p ec) ∙ rw (keeps-alone ec, ec, ei) refl
 
-  pub standings-alone : set (replicate 64 noStanding) 0 (aloneLeaves p) ≡ standingsOf ports 1
+  pub standing-alone : getD (standingsOf ports 1) 0 noStanding ≡ aloneLeaves p
   unfolding standingsOf
-  standings-alone =
-      done-more {f = λ (i : ℕ). standingBy (chosenOf ports 1) i (portAt ports i)} (aloneLeaves p)
-      (done-none (λ (i : ℕ). standingBy (chosenOf ports 1) i (portAt ports i)) (replicate 64 noStanding)) (sym leaves-alone) .is
+  standing-alone =
+      getD-each 1 (λ (i : ℕ). standingBy (chosenOf ports 1) i (portAt ports i)) (replicate 64 noStanding) 0 noStanding (omega arith)
+      (rw (length-replicate {A = Standing} 64 noStanding) (omega arith))
+      ∙ leaves-alone
+
+-- nothing but the first port is asked for
+module _ (ports : List Port) where
+  pub leaves-first : getD (standingsOf (portAt ports 0 ∷ []) 1) 0 noStanding ≡ getD (standingsOf ports 1) 0 noStanding
+  leaves-first = standing-alone (portAt ports 0 ∷ []) ∙ sym (standing-alone ports)
+
+  pub ack-first : (bit : ℕ) → ackOf (portAt ports 0 ∷ []) 1 bit ≡ ackOf ports 1 bit
+  unfolding ackOf turns
+  ack-first bit = refl
