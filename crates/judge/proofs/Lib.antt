@@ -1,3 +1,4 @@
+pub mod Alone
 pub mod Counts
 pub mod Judging
 pub mod Placing

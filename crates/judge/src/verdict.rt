@@ -4,6 +4,7 @@ use crate::seen::Seen;
 use packet::kinds;
 ghost use mathlib.Core.Path.{_≡_};
 ghost use mathlib.Core.Bool.{cond};
+ghost use mathlib.Core.List.{[], _∷_};
 ghost use Prim.Native.Nat.{_≤_, _<_};
 ghost use Rattle.judge.specs.Seen.{sizeOf};
 ghost use Rattle.judge.specs.Tally.{eosAloneBy, exactTo, fixedHeldWith, heldWith, tallyOf, tallyWith};
@@ -58,11 +59,10 @@ fn with_port(tally: Tally, port: Seen) -> Tally
     }
 }
 
-fn tallied(ports: [Seen; 64], n: usize) -> Tally
-    requires { ⌜ n ≤ 64 ⌝ }
-    ensures { λ r. ⌜ r ≡ tallyOf ports n ⌝ }
+fn no_tally() -> Tally
+    ensures { λ r. ⌜ r ≡ tallyOf [] 0 ⌝ }
 {
-    let mut sum = Tally {
+    Tally {
         refused: false,
         lacking: false,
         zero: false,
@@ -72,7 +72,14 @@ fn tallied(ports: [Seen; 64], n: usize) -> Tally
         missing: false,
         highest: 0,
         numbered: 0,
-    };
+    }
+}
+
+fn tallied(ports: [Seen; 64], n: usize) -> Tally
+    requires { ⌜ n ≤ 64 ⌝ }
+    ensures { λ r. ⌜ r ≡ tallyOf ports n ⌝ }
+{
+    let mut sum = no_tally();
     let mut i = 0;
     while i < n {
         let port = ports[i];
@@ -189,9 +196,69 @@ fn fixed_verdict(ports: [Seen; 64], n: usize) -> u8
     SURE
 }
 
+// A port alone is judged by itself: no table of 64 is handed on.
+fn tallied_alone(port: Seen) -> Tally
+    ensures { λ r. ⌜ r ≡ tallyOf (port ∷ []) 1 ⌝ }
+{
+    let none = no_tally();
+    with_port(none, port)
+}
+
+fn is_eos_last(port: Seen, highest: u8) -> bool
+    ensures { λ r. ⌜ r ≡ eosAloneBy (port ∷ []) 1 highest ⌝ }
+{
+    let last = seen::is_active(port) & (port.number == highest);
+    seen::is_eos(port) == last
+}
+
+fn has_zero(port: Seen) -> bool
+    ensures { λ r. ⌜ r ≡ takes (port ∷ []) 1 0 ⌝ }
+{
+    seen::is_numbered(port) & (port.number == 0)
+}
+
+fn lcas_alone(port: Seen) -> u8
+    ensures { λ r. ⌜ r ≡ lcasVerdict (port ∷ []) 1 ⌝ }
+{
+    let tally = tallied_alone(port);
+    let alone = is_eos_last(port, tally.highest);
+    if is_held(tally, false, alone) {
+        return HELD;
+    }
+    let zero = has_zero(port);
+    if tally.missing | !((tally.numbered == 0) | zero) {
+        return DOUBTFUL;
+    }
+    SURE
+}
+
+fn fixed_alone(port: Seen) -> u8
+    ensures { λ r. ⌜ r ≡ fixedVerdict (port ∷ []) 1 ⌝ }
+{
+    let tally = tallied_alone(port);
+    let zero = has_zero(port);
+    if is_fixed_held(tally, false, zero) {
+        return HELD;
+    }
+    SURE
+}
+
+fn judge_alone(kind: u8, port: Seen) -> u8
+    ensures { λ r. ⌜ r ≡ judgeOf kind (port ∷ []) 1 ⌝ }
+{
+    if kind == kinds::FIXED {
+        return fixed_alone(port);
+    }
+    lcas_alone(port)
+}
+
 pub fn judge(kind: u8, ports: [Seen; 64], count: u8) -> u8
     ensures { λ r. ⌜ r ≡ judgeOf kind ports (sizeOf count) ⌝ }
 {
+    if count == 1 {
+        let port = ports[0];
+        return judge_alone(kind, port);
+    }
     let n = seen::size_of(count);
     if kind == kinds::FIXED {
         return fixed_verdict(ports, n);

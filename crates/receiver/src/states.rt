@@ -8,6 +8,7 @@ ghost use mathlib.Core.Path.{_≡_};
 ghost use lib.ListN.{getD};
 ghost use Rattle.reply.specs.Waiting.{noStanding};
 ghost use Rattle.phases.specs.Passing.{groupTo};
+ghost use Rattle.rows.specs.Member.{memberAt, putMember};
 ghost use Rattle.receiver.specs.Report.{noPort, replyPort, replyPorts, reportedOf, withState, statesWorkedOut, statePut, statesPut};
 
 fn reply_port(group: Group, state: &[[u8; 16]], port: u8) -> Port
@@ -94,13 +95,19 @@ fn with_state(m: Member, left: Standing) -> Member
     }
 }
 
+fn put_standing(left: Standing, port: u8, state: &mut [[u8; 16]])
+    ensures { λ _. ⌜ now (state .exit) ≡ putMember (now (state .entry)) port (withState (memberAt (now (state .entry)) port) left) ⌝ }
+{
+    let member = rows::member::get(state, port);
+    let told = with_state(member, left);
+    rows::member::put(state, port, told);
+}
+
 fn put_state(states: [Standing; 64], port: u8, state: &mut [[u8; 16]])
     ensures { λ _. ⌜ now (state .exit) ≡ statePut states port (now (state .entry)) ⌝ }
 {
     let new = standing_at(states, port);
-    let member = rows::member::get(state, port);
-    let told = with_state(member, new);
-    rows::member::put(state, port, told);
+    put_standing(new, port, state);
 }
 
 fn put_states(states: [Standing; 64], ports: u8, state: &mut [[u8; 16]])
@@ -131,7 +138,19 @@ fn with_ack(g: Group, ack: u8) -> Group
     }
 }
 
-fn work_out_states(group: Group, ports: u8, state: &mut [[u8; 16]])
+// A port alone needs no tables of 64.
+fn work_out_alone(group: Group, state: &mut [[u8; 16]])
+    ensures { λ _. ⌜ now (state .exit) ≡ statesWorkedOut group 1 (now (state .entry)) ⌝ }
+{
+    let port = reply_port(group, state, 0);
+    let left = reply::standing_alone(port);
+    let ack = reply::ack_alone(port, group.rs_ack);
+    let told = with_ack(group, ack);
+    put_standing(left, 0, state);
+    rows::group::put(state, told);
+}
+
+fn work_out_all(group: Group, ports: u8, state: &mut [[u8; 16]])
     ensures { λ _. ⌜ now (state .exit) ≡ statesWorkedOut group ports (now (state .entry)) ⌝ }
 {
     let all = reply_ports(group, state, ports);
@@ -140,6 +159,16 @@ fn work_out_states(group: Group, ports: u8, state: &mut [[u8; 16]])
     let told = with_ack(group, ack);
     put_states(states, ports, state);
     rows::group::put(state, told);
+}
+
+fn work_out_states(group: Group, ports: u8, state: &mut [[u8; 16]])
+    ensures { λ _. ⌜ now (state .exit) ≡ statesWorkedOut group ports (now (state .entry)) ⌝ }
+{
+    if ports == 1 {
+        work_out_alone(group, state);
+    } else {
+        work_out_all(group, ports, state);
+    }
 }
 
 // The epoch passed, then states and RS-Ack from the good packets up to its own.

@@ -6,6 +6,8 @@ mod waiting;
 
 pub use members::Port;
 pub use telling::ack;
+pub use telling::ack_alone;
 pub use telling::mst;
 pub use waiting::Standing;
+pub use waiting::standing_alone;
 pub use waiting::standings;

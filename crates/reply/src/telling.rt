@@ -4,7 +4,10 @@ use crate::members::Port;
 use packet::Word;
 use packet::kinds;
 ghost use mathlib.Core.Path.{_≡_};
+ghost use mathlib.Core.Bool.{cond};
+ghost use mathlib.Core.List.{[], _∷_};
 ghost use Prim.Native.Nat.{_+_, _*_, _≤_};
+ghost use lib.Dec.{eqb};
 ghost use Rattle.reply.specs.Members.{sizeOf};
 ghost use Rattle.reply.specs.Telling.{ackOf, failBit, hasChanged, hasLeft, isListed, mstFrom, mstOf, okHolds, turns};
 
@@ -96,13 +99,28 @@ fn is_turning(ports: [Port; 64], n: usize) -> bool
     turning
 }
 
+fn turned(turning: bool, bit: u8) -> u8
+    ensures { λ r. ⌜ r ≡ cond turning (cond (eqb bit 0) 1 0) bit ⌝ }
+{
+    if turning {
+        return if bit == 0 { 1 } else { 0 };
+    }
+    bit
+}
+
 // RS-Ack after this report, from what it was.
 pub fn ack(ports: [Port; 64], count: u8, bit: u8) -> u8
     ensures { λ r. ⌜ r ≡ ackOf ports (sizeOf count) bit ⌝ }
 {
     let n = members::size_of(count);
-    if is_turning(ports, n) {
-        return if bit == 0 { 1 } else { 0 };
-    }
-    bit
+    let turning = is_turning(ports, n);
+    turned(turning, bit)
+}
+
+// Of a port alone.
+pub fn ack_alone(port: Port, bit: u8) -> u8
+    ensures { λ r. ⌜ r ≡ ackOf (port ∷ []) 1 bit ⌝ }
+{
+    let turning = has_changed(port) | has_left(port);
+    turned(turning, bit)
 }

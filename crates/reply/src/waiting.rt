@@ -3,12 +3,14 @@ use crate::choosing;
 use crate::members;
 use crate::members::Port;
 ghost use mathlib.Core.Path.{_≡_};
-ghost use Prim.Native.Nat.{_≤_};
-ghost use lib.ListN.{replicate};
+ghost use mathlib.Core.Bool.{cond};
+ghost use mathlib.Core.List.{[], _∷_};
+ghost use Prim.Native.Nat.{_+_, _≤_};
+ghost use lib.ListN.{getD, replicate};
 ghost use Rattle.counting.specs.Each.{each};
 ghost use Rattle.reply.specs.Choosing.{grant};
-ghost use Rattle.reply.specs.Members.{portAt, sizeOf};
-ghost use Rattle.reply.specs.Waiting.{chosenOf, hasClaim, joinsHeld, keepsNumber, moreHeld, mustHold, noStanding, someJoin, standingBy, standingsOf, withClaim, withoutClaim};
+ghost use Rattle.reply.specs.Members.{failState, hasHoldOff, okState, portAt, sizeOf};
+ghost use Rattle.reply.specs.Waiting.{chosenOf, hasClaim, joinsHeld, keepsNumber, moreHeld, mustHold, noStanding, someJoin, standing, standingBy, standingsOf, withClaim, withoutClaim};
 
 // What a report leaves of a port: its state, the number under which it has it, and at how many reports its timer has run.
 pub struct Standing {
@@ -176,6 +178,41 @@ fn standings_by(chosen: [u8; 64], ports: [Port; 64], n: usize) -> [Standing; 64]
         i += 1;
     }
     all
+}
+
+fn kept_alone(port: Port) -> Standing
+    ensures { λ r. ⌜ r ≡ cond (hasHoldOff port) (standing okState (port .«state_number») (port .run + 1)) (standing failState (port .number) 0) ⌝ }
+{
+    if members::has_hold_off(port) {
+        return Standing {
+            state: Port::OK,
+            number: port.state_number,
+            run: port.run + 1,
+        };
+    }
+    Standing {
+        state: Port::FAIL,
+        number: port.number,
+        run: 0,
+    }
+}
+
+// What this report leaves of a port alone, with no table of 64 handed on. Nobody can take its number: it has its claim where it is a candidate, and
+// keeps its number where it has hold-off left.
+pub fn standing_alone(port: Port) -> Standing
+    ensures { λ r. ⌜ r ≡ getD (standingsOf (port ∷ []) 1) 0 noStanding ⌝ }
+{
+    if members::is_idle(port) {
+        return Standing {
+            state: Port::IDLE,
+            number: port.number,
+            run: 0,
+        };
+    }
+    if members::is_candidate(port) {
+        return with_claim(port);
+    }
+    kept_alone(port)
 }
 
 // What this report leaves of each port.

@@ -5,22 +5,47 @@ use packet::kinds;
 use rows::Group;
 use rows::Step;
 ghost use mathlib.Core.Path.{_≡_};
+ghost use mathlib.Core.Bool.{_&&_};
+ghost use lib.Dec.{eqb};
+ghost use Rattle.packet.specs.Counts.{counts};
+ghost use Rattle.step.specs.Arrival.{flagOf, inStep};
 ghost use Rattle.step.specs.Steady.{midEpoch, steady};
 
-// Of a joined port in step, with the tag that was to come. Had, failed and breaks stand as the rule writes them, so that nothing else changes.
-pub fn is_steady(group: Group, step: Step, failed: bool, h4: u8) -> bool
-    ensures { λ r. ⌜ r ≡ steady group step failed h4 ⌝ }
+// A joined port in step. Had, failed and breaks stand as the rule writes them, so that nothing else changes. What is of the group comes first: then
+// the compiler tests byte after byte of the port's row where it stands, and none is kept for later.
+fn is_running(group: Group, step: Step) -> bool
+    ensures { λ r. ⌜ r ≡ (flagOf (group .begun) && eqb (step .had) 1 && eqb (step .failed) 0 && eqb (step .breaks) 0 && inStep group step && flagOf (step .joined)) ⌝ }
 {
     let in_step = arrival::in_step(group, step);
-    let counted = counts::is_counted(group.kind, step.next, h4);
-    !failed
+    arrival::is_set(group.begun)
         & (step.had == 1)
         & (step.failed == 0)
         & (step.breaks == 0)
         & in_step
-        & counted
-        & arrival::is_set(group.begun)
         & arrival::is_set(step.joined)
+}
+
+// From MFI1 2 on a frame counts by its MFI1 alone.
+fn is_counted(kind: u8, tag: u16, h4: u8) -> bool
+    ensures { λ r. ⌜ r ≡ counts kind tag h4 ⌝ }
+{
+    if 1 < tag % 16 {
+        return h4 % 16 == (tag % 16) as u8;
+    }
+    counts::is_counted(kind, tag, h4)
+}
+
+// Of a joined port in step, with the tag that was to come.
+pub fn is_steady(group: Group, step: Step, failed: bool, h4: u8) -> bool
+    ensures { λ r. ⌜ r ≡ steady group step failed h4 ⌝ }
+{
+    if failed {
+        return false;
+    }
+    if is_running(group, step) {
+        return is_counted(group.kind, step.next, h4);
+    }
+    false
 }
 
 // In the window and not the last frame of its epoch.

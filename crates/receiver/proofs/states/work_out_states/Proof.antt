@@ -1,43 +1,26 @@
-use mathlib.Core.Path.{refl}
-use Rattle.receiver.specs.Report.{statesWorkedOut}
+use mathlib.Core.Path.{refl, _∙_}
 use borrow.Author.Needs.{needs}
 use Rattle.receiver.proofs.states.work_out_states.Statement.{statement}
 use Rattle.receiver.proofs.states.work_out_states.Tie as tie
 
-reply-ports-requires : tie.Need-reply-ports-requires
-reply-ports-requires c κs = search needs
+work-out-alone-requires : tie.Need-work-out-alone-requires
+work-out-alone-requires c κs = search needs
 
-standings-requires : tie.Need-standings-requires
-standings-requires c κs = search needs
-
-ack-requires : tie.Need-ack-requires
-ack-requires c κs = search needs
-
-with-ack-requires : tie.Need-with-ack-requires
-with-ack-requires c κs = search needs
-
-put-states-requires : tie.Need-put-states-requires
-put-states-requires c κs = search needs
-
-put-requires : tie.Need-put-requires
-put-requires c κs = search needs
+work-out-all-requires : tie.Need-work-out-all-requires
+work-out-all-requires c κs = search needs
 
 same-length : tie.Need-same-length
 same-length c = search needs
 
 returns : tie.Need-returns
-unfolding statesWorkedOut
-returns c = rw (c .before .put .ensures, c .before .before .before .before .put-states .ensures, c .before .before .before .before .before .before .with-ack .ensures, c .before .before .before .before .before .before .before .ack .ensures, c .before .before .before .before .before .before .before .before .standings .ensures, c .before .before .before .before .before .before .before .before .before .reply-ports .ensures) refl
+returns c = rw (c .before .before .before .if1 .taken) (c .before .work-out-alone .ensures)
+
+same-length-2 : tie.Need-same-length-2
+same-length-2 c = search needs
+
+returns-2 : tie.Need-returns-2
+returns-2 c = search needs
 
 pub work-out-states-spec : {M : Type 1} → statement M
 work-out-states-spec =
-    tie.close
-    (tie.spec
-    reply-ports-requires
-    standings-requires
-    ack-requires
-    with-ack-requires
-    put-states-requires
-    put-requires
-    same-length
-    returns)
+    tie.close (tie.spec work-out-alone-requires work-out-all-requires same-length returns same-length-2 returns-2)

@@ -1,7 +1,7 @@
-use borrow.Author.Tests.{eq-eqb, ne-eqb}
-use borrow.Author.Needs.{needs}
+use mathlib.Core.Path.{_∙_, refl}
 use Rattle.reply.specs.Laws.Members.{size-le}
 use Rattle.reply.specs.Telling.{ackOf}
+use borrow.Author.Needs.{needs}
 use Rattle.reply.proofs.telling.ack.Statement.{statement}
 use Rattle.reply.proofs.telling.ack.Tie as tie
 
@@ -11,17 +11,12 @@ size-of-requires c κs = search needs
 is-turning-requires : tie.Need-is-turning-requires
 is-turning-requires c κs = rw (c .size-of .ensures) (size-le (c .before .args .count))
 
+turned-requires : tie.Need-turned-requires
+turned-requires c κs = search needs
+
 returns : tie.Need-returns
 unfolding ackOf
-returns c = rw (← c .before .before .before .size-of .ensures, ← c .before .before .is-turning .ensures, c .before .if1 .taken, eq-eqb _ 0 (c .if2 .taken))
-
-returns-2 : tie.Need-returns-2
-unfolding ackOf
-returns-2 c = rw (← c .before .before .before .size-of .ensures, ← c .before .before .is-turning .ensures, c .before .if1 .taken, ne-eqb _ 0 (c .if2 .left))
-
-returns-3 : tie.Need-returns-3
-unfolding ackOf
-returns-3 c = rw (← c .before .before .size-of .ensures, ← c .before .is-turning .ensures, c .if1 .left)
+returns c = c .turned .ensures ∙ rw (c .before .is-turning .ensures, c .before .before .size-of .ensures) refl
 
 pub ack-spec : {M : Type 1} → statement M
-ack-spec = tie.close (tie.spec size-of-requires is-turning-requires returns returns-2 returns-3)
+ack-spec = tie.close (tie.spec size-of-requires is-turning-requires turned-requires returns)

@@ -1,26 +1,25 @@
-use mathlib.Core.Path.{refl}
+use mathlib.Core.Path.{refl, sym, _∙_}
+use Rattle.step.proofs.Going.{runs, stands}
 use Rattle.step.specs.Steady.{steady}
 use borrow.Author.Needs.{needs}
 use Rattle.step.proofs.steady.is_steady.Statement.{statement}
 use Rattle.step.proofs.steady.is_steady.Tie as tie
 
-in-step-requires : tie.Need-in-step-requires
-in-step-requires c κs = search needs
+returns : tie.Need-returns
+unfolding steady
+returns c = rw (c .if1 .taken) refl
+
+is-running-requires : tie.Need-is-running-requires
+is-running-requires c κs = search needs
 
 is-counted-requires : tie.Need-is-counted-requires
 is-counted-requires c κs = search needs
 
-is-set-requires : tie.Need-is-set-requires
-is-set-requires c κs = search needs
+returns-2 : tie.Need-returns-2
+returns-2 c = c .is-counted .ensures ∙ runs _ _ _ _ (c .before .before .before .if1 .left) (sym (c .before .before .is-running .ensures) ∙ c .before .if2 .taken)
 
-is-set-requires-2 : tie.Need-is-set-requires-2
-is-set-requires-2 c κs = search needs
-
-returns : tie.Need-returns
-unfolding steady
-returns c = rw (c .is-set2 .ensures, c .before .is-set .ensures, c .before .before .before .before .before .is-counted .ensures, c .before .before .before .before .before .before .in-step .ensures) refl
+returns-3 : tie.Need-returns-3
+returns-3 c = sym (stands _ _ _ _ (c .before .before .if1 .left) (sym (c .before .is-running .ensures) ∙ c .if2 .left))
 
 pub is-steady-spec : {M : Type 1} → statement M
-is-steady-spec =
-    tie.close
-    (tie.spec in-step-requires is-counted-requires is-set-requires is-set-requires-2 returns)
+is-steady-spec = tie.close (tie.spec returns is-running-requires is-counted-requires returns-2 returns-3)

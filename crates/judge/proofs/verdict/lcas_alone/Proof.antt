@@ -1,0 +1,32 @@
+use Rattle.judge.proofs.Alone.{exact-alone, none-repeats}
+use Rattle.judge.proofs.Judging.{by-held, by-doubt, by-rest}
+use mathlib.Core.List.{[], _∷_}
+use borrow.Author.Needs.{needs}
+use Rattle.judge.proofs.verdict.lcas_alone.Statement.{statement}
+use Rattle.judge.proofs.verdict.lcas_alone.Tie as tie
+
+tallied-alone-requires : tie.Need-tallied-alone-requires
+tallied-alone-requires c κs = search needs
+
+is-eos-last-requires : tie.Need-is-eos-last-requires
+is-eos-last-requires c κs = search needs
+
+is-held-requires : tie.Need-is-held-requires
+is-held-requires c κs = search needs
+
+returns : tie.Need-returns
+returns c = by-held (c .before .before .before .before .args .port ∷ []) 1 (c .before .before .before .tallied-alone .result) _ _ _ (c .before .before .before .tallied-alone .ensures) (none-repeats _) (c .before .before .is-eos-last .ensures) (c .before .is-held .ensures) (c .if1 .taken)
+
+has-zero-requires : tie.Need-has-zero-requires
+has-zero-requires c κs = search needs
+
+returns-2 : tie.Need-returns-2
+returns-2 c = by-doubt (c .before .before .before .before .before .before .before .before .args .port ∷ []) 1 (c .before .before .before .before .before .before .before .tallied-alone .result) _ _ _ (c .before .before .before .before .before .before .before .tallied-alone .ensures) (none-repeats _) (c .before .before .before .before .before .before .is-eos-last .ensures) (c .before .before .before .before .before .is-held .ensures) _ (exact-alone _ _ _ (c .before .before .before .before .before .before .before .tallied-alone .ensures) (c .before .before .before .has-zero .ensures)) (c .before .before .before .before .if1 .left) (c .if2 .taken)
+
+returns-3 : tie.Need-returns-3
+returns-3 c = by-rest (c .before .before .before .before .before .before .before .before .args .port ∷ []) 1 (c .before .before .before .before .before .before .before .tallied-alone .result) _ _ _ (c .before .before .before .before .before .before .before .tallied-alone .ensures) (none-repeats _) (c .before .before .before .before .before .before .is-eos-last .ensures) (c .before .before .before .before .before .is-held .ensures) _ (exact-alone _ _ _ (c .before .before .before .before .before .before .before .tallied-alone .ensures) (c .before .before .before .has-zero .ensures)) (c .before .before .before .before .if1 .left) (c .if2 .left)
+
+pub lcas-alone-spec : {M : Type 1} → statement M
+lcas-alone-spec =
+    tie.close
+    (tie.spec tallied-alone-requires is-eos-last-requires is-held-requires returns has-zero-requires returns-2 returns-3)

@@ -1,0 +1,43 @@
+use mathlib.Core.Path.{refl}
+use Rattle.receiver.specs.Report.{statesWorkedOut}
+use borrow.Author.Needs.{needs}
+use Rattle.receiver.proofs.states.work_out_all.Statement.{statement}
+use Rattle.receiver.proofs.states.work_out_all.Tie as tie
+
+reply-ports-requires : tie.Need-reply-ports-requires
+reply-ports-requires c κs = search needs
+
+standings-requires : tie.Need-standings-requires
+standings-requires c κs = search needs
+
+ack-requires : tie.Need-ack-requires
+ack-requires c κs = search needs
+
+with-ack-requires : tie.Need-with-ack-requires
+with-ack-requires c κs = search needs
+
+put-states-requires : tie.Need-put-states-requires
+put-states-requires c κs = search needs
+
+put-requires : tie.Need-put-requires
+put-requires c κs = search needs
+
+same-length : tie.Need-same-length
+same-length c = search needs
+
+returns : tie.Need-returns
+unfolding statesWorkedOut
+returns c = rw (c .before .put .ensures, c .before .before .before .before .put-states .ensures, c .before .before .before .before .before .before .with-ack .ensures, c .before .before .before .before .before .before .before .ack .ensures, c .before .before .before .before .before .before .before .before .standings .ensures, c .before .before .before .before .before .before .before .before .before .reply-ports .ensures) refl
+
+pub work-out-all-spec : {M : Type 1} → statement M
+work-out-all-spec =
+    tie.close
+    (tie.spec
+    reply-ports-requires
+    standings-requires
+    ack-requires
+    with-ack-requires
+    put-states-requires
+    put-requires
+    same-length
+    returns)

@@ -1,0 +1,55 @@
+-- The steady frame's tests in the order of the code.
+use mathlib.Core.Path.{_≡_, refl, sym}
+use mathlib.Core.Bool.{Bool, true, false, _&&_, true≢false}
+use mathlib.Core.Logic.{_≢_}
+use Prim.Native.Nat.{ℕ, _%_, _<_}
+use native.Mathlib.Omega.{arith}
+use lib.Dec.{eqb}
+use borrow.Author.Tests.{ne-eqb}
+use Rattle.packet.specs.Counts.{counts}
+use Rattle.rows.specs.declared.group.Group.{Group}
+use Rattle.rows.specs.declared.step.Step.{Step}
+use Rattle.step.specs.Arrival.{flagOf, inStep}
+use Rattle.step.specs.Steady.{steady}
+
+all : (a b c d e f x : Bool) → (a && b && c && d && e && f) ≡ true → x ≡ (true && b && c && d && e && x && a && f)
+all true true true true true true true t = refl
+all true true true true true true false t = refl
+all true true true true true false x t = absurd (true≢false (sym t))
+all true true true true false f x t = absurd (true≢false (sym t))
+all true true true false e f x t = absurd (true≢false (sym t))
+all true true false d e f x t = absurd (true≢false (sym t))
+all true false c d e f x t = absurd (true≢false (sym t))
+all false b c d e f x t = absurd (true≢false (sym t))
+
+none : (a b c d e f x : Bool) → (a && b && c && d && e && f) ≡ false → (true && b && c && d && e && x && a && f) ≡ false
+none a false c d e f x t = refl
+none a true false d e f x t = refl
+none a true true false e f x t = refl
+none a true true true false f x t = refl
+none a true true true true f false t = refl
+none true true true true true f true t = t
+none false true true true true f true t = refl
+
+-- from MFI1 2 on a frame tells nothing of MFI2
+kept : (b : Bool) → b ≡ (b && true && true)
+kept true = refl
+kept false = refl
+
+pub counts-later : (kind t h : ℕ) → 1 < t % 16 → eqb (h % 16) (t % 16) ≡ counts kind t h
+unfolding counts
+counts-later kind t h b =
+    let none : t % 16 ≢ 0 = (λ (z : t % 16 ≡ 0). omega arith) in
+    let one : t % 16 ≢ 1 = (λ (z : t % 16 ≡ 1). omega arith) in
+    rw (ne-eqb (t % 16) 0 none, ne-eqb (t % 16) 1 one) (kept (eqb (h % 16) (t % 16)))
+
+module _ (g : Group) (s : Step) (flag : Bool) (h : ℕ) (left : flag ≡ false) where
+  pub runs : (flagOf (g .begun) && eqb (s .had) 1 && eqb (s .failed) 0 && eqb (s .breaks) 0 && inStep g s && flagOf (s .joined)) ≡ true
+      → counts (g .kind) (s .next) h ≡ steady g s flag h
+  unfolding steady
+  runs t = rw left (all (flagOf (g .begun)) (eqb (s .had) 1) (eqb (s .failed) 0) (eqb (s .breaks) 0) (inStep g s) (flagOf (s .joined)) (counts (g .kind) (s .next) h) t)
+
+  pub stands : (flagOf (g .begun) && eqb (s .had) 1 && eqb (s .failed) 0 && eqb (s .breaks) 0 && inStep g s && flagOf (s .joined)) ≡ false
+      → steady g s flag h ≡ false
+  unfolding steady
+  stands t = rw left (none (flagOf (g .begun)) (eqb (s .had) 1) (eqb (s .failed) 0) (eqb (s .breaks) 0) (inStep g s) (flagOf (s .joined)) (counts (g .kind) (s .next) h) t)
