@@ -1,4 +1,16 @@
 -- Clauses of definitions that the examples of 01 and of the requests do not reach, worked out apart: what refuses such a clause made wrong together with its code.
+pub mod Calls
+pub mod Cards
+pub mod Counting
+pub mod Holding
+pub mod Paths
+pub mod Receivers
+pub mod Recording
+pub mod Replaying
+pub mod Reports
+pub mod Runs
+pub mod Spoken
+pub mod Verdicts
 use mathlib.Core.Path.{_≡_, refl}
 use mathlib.Core.Bool.{Bool, true, false, cond}
 use mathlib.Core.List.{List, [], _∷_, _++_}

@@ -8,3 +8,4 @@ mod PortsSeen
 mod Step
 mod Times
 mod Live
+mod Words

@@ -1,0 +1,39 @@
+-- Hold-off and wait-to-restore (request 2026-03) where two ports want one number.
+use mathlib.Core.Path.{_≡_, refl}
+use mathlib.Core.Bool.{true, false}
+use mathlib.Core.List.{List, [], _∷_}
+use Prim.Native.Nat.{ℕ}
+use lib.ListN.{length, take}
+use Rattle.conformance.specs.Waits.{seenPort}
+use Rattle.reply.specs.Choosing.{claims, grant, granted, holders}
+use Rattle.reply.specs.declared.members.Port.{Port}
+use Rattle.reply.specs.declared.waiting.Standing.{Standing}
+use Rattle.reply.specs.Waiting.{chosenOf, heldOf, moreHeld, rounds, someJoin, standing, standingBy, standingsOf}
+
+abbrev left : List Port → List Standing
+left ports = take (length ports) (standingsOf ports (length ports))
+
+-- a port that sends NORM under a number and was OK under another, with a hold-off of 3
+abbrev moved : ℕ → ℕ → Port
+moved number was = seenPort 2 number true (standing 2 was 0) 3 0
+
+-- not readable any more
+abbrev lost : ℕ → ℕ → Port
+lost number run = seenPort 2 number false (standing 2 number run) 3 0
+
+-- FAIL under a number, with a wait-to-restore of 2
+abbrev failed : ℕ → ℕ → Port
+failed number run = seenPort 2 number true (standing 1 number run) 0 2
+
+-- Port 0 was OK under 4 and now sends 5, which port 1 has: it keeps 4 while it waits. So it does where the holder of 5 is lost and held too. Of two ports that are held under one number the first keeps it. The third report without its claim is the last; the one behind it is FAIL. A port that waits to restore takes its number from nobody, and is OK when it has waited.
+holding :
+    (left (moved 5 4 ∷ moved 5 5 ∷ []) ≡ standing 2 4 1 ∷ standing 2 5 0 ∷ [])
+    × (left (moved 5 4 ∷ lost 5 0 ∷ []) ≡ standing 2 4 1 ∷ standing 2 5 1 ∷ [])
+    × (left (lost 4 0 ∷ lost 4 0 ∷ []) ≡ standing 2 4 1 ∷ standing 1 4 0 ∷ [])
+    × (left (lost 4 2 ∷ []) ≡ standing 2 4 3 ∷ [])
+    × (left (lost 4 3 ∷ []) ≡ standing 1 4 0 ∷ [])
+    × (left (failed 4 0 ∷ moved 4 4 ∷ []) ≡ standing 1 4 0 ∷ standing 2 4 0 ∷ [])
+    × (left (failed 4 1 ∷ []) ≡ standing 1 4 2 ∷ [])
+    × (left (failed 4 2 ∷ []) ≡ standing 2 4 0 ∷ [])
+unfolding chosenOf claims grant granted heldOf holders moreHeld rounds someJoin standingBy standingsOf
+holding = (refl, refl, refl, refl, refl, refl, refl, refl)

@@ -1,0 +1,178 @@
+-- A receiver's start, and what the host reads out (01, 'The receiver', 'Member states and reply'; requests 2026-03, 2026-12), clause by clause.
+use mathlib.Core.Path.{_≡_, refl}
+use mathlib.Core.Bool.{true, false}
+use mathlib.Core.List.{List, [], _∷_}
+use Prim.Native.Nat.{ℕ}
+use lib.ListN.{replicate, take}
+use Rattle.packet.specs.Kinds.{frames, idleNumber, tags}
+use Rattle.phases.specs.Sizes.{portsIn, sized, storeFor}
+use Rattle.receiver.specs.Fetch.{recordOf}
+use Rattle.receiver.specs.Lengths.{fetchFits, frameFits, outputFor, rowsFit}
+use Rattle.receiver.specs.Report.{replyPort, replyPorts}
+use Rattle.receiver.specs.Shown.{portIn, portShown, portsAnswer, portsOut, replyAnswer, replyFit, replyOf, replyOut, shownFit, shownNumber, toldBy, waitingByte}
+use Rattle.receiver.specs.Starting.{freshPort, freshPorts, sizedAnswer, sizedFits, sizedRows, startAsAnswer, startAsRows, startFits, startRight, startRows, timeOf, timesWithin}
+use Rattle.reply.specs.Telling.{mstFrom, mstOf, okHolds}
+use Rattle.rows.specs.declared.group.Group.{Group}
+use Rattle.rows.specs.declared.member.Member.{Member}
+use Rattle.rows.specs.Group.{groupAt, groupOf, groupRow, putGroup}
+use Rattle.rows.specs.Member.{memberAt, memberOf, memberRow, putMember}
+use Rattle.rows.specs.Packets.{putMarks, putPackets}
+use Rattle.rows.specs.Rows.{putRow, rowIn}
+use Rattle.rows.specs.Step.{putStep, stepAt, stepOf, stepRow}
+use Rattle.step.specs.Arrival.{inStep, readable}
+use Rattle.step.specs.Run.{inStepAt}
+
+abbrev rows : ℕ → List (List ℕ)
+rows n = replicate n (replicate 16 9)
+
+-- two ports, P 3, W 20: 11 rows and a store of 2 x 20 x 4
+abbrev opened : List (List ℕ)
+opened = startAsRows 2 2 3 20 160 (3 ∷ 5000 ∷ []) (4 ∷ 300 ∷ []) (rows 11)
+
+-- each port's own times; no good packet, IDLE under 255, nothing told, no timer; no frame, no step; the group's settings, nothing begun, RS-Ack 0
+starts :
+    (memberAt opened 0 .«hold_off» ≡ 3)
+    × (memberAt opened 1 .«hold_off» ≡ 5000)
+    × (memberAt opened 0 .restore ≡ 4)
+    × (memberAt opened 1 .restore ≡ 300)
+    × (memberAt opened 1 .word ≡ 255)
+    × (memberAt opened 1 .number ≡ 255)
+    × (memberAt opened 1 .state ≡ 0)
+    × (memberAt opened 1 .«state_number» ≡ 255)
+    × (memberAt opened 1 .«told_word» ≡ 255)
+    × (memberAt opened 1 .«told_number» ≡ 255)
+    × (memberAt opened 1 .run ≡ 0)
+    × (stepAt opened 1 .had ≡ 0)
+    × (stepAt opened 1 .failed ≡ 0)
+    × (stepAt opened 1 .count ≡ 0)
+    × (stepAt opened 1 .joined ≡ 0)
+    × (stepAt opened 1 .whole ≡ 0)
+    × (stepAt opened 1 .later ≡ 0)
+    × (stepAt opened 1 .breaks ≡ 0)
+    × (stepAt opened 1 .odd ≡ 0)
+    × (groupAt opened .kind ≡ 2)
+    × (groupAt opened .count ≡ 2)
+    × (groupAt opened .payload ≡ 3)
+    × (groupAt opened .window ≡ 20)
+    × (groupAt opened .begun ≡ 0)
+    × (groupAt opened .gathered ≡ 0)
+    × (groupAt opened .«rs_ack» ≡ 0)
+unfolding frames freshPort freshPorts groupAt groupOf groupRow idleNumber memberAt memberOf memberRow putGroup putMarks putMember putPackets putRow putStep rowIn sized sizedFits sizedRows startAsRows startFits startRight stepAt stepOf stepRow tags timesWithin
+starts = (refl, refl, refl, refl, refl, refl, refl, refl, refl, refl, refl, refl, refl, refl, refl, refl, refl, refl, refl, refl, refl, refl, refl, refl, refl, refl)
+
+-- '4: .. an empty group': no port, and 9 leaves the rows
+refused-starts :
+    (groupAt (startRows 0 65 3 20 0 (rows 11)) .count ≡ 0)
+    × (groupAt (startRows 0 65 3 20 0 (rows 11)) .begun ≡ 0)
+    × (groupAt (startRows 0 65 3 20 0 (rows 11)) .payload ≡ 0)
+    × (groupAt (startRows 0 65 3 20 0 (rows 11)) .window ≡ 0)
+    × (startRows 0 2 3 20 159 (rows 11) ≡ rows 11)
+    × (startAsAnswer 0 2 3 20 160 [] [] 11 ≡ 0)
+    × (startAsAnswer 0 2 3 20 161 [] [] 11 ≡ 9)
+    × (startAsAnswer 0 2 3 20 160 [] [] 12 ≡ 9)
+    × (startAsAnswer 0 2 3 20 160 (1 ∷ 2 ∷ []) [] 11 ≡ 0)
+    × (startAsAnswer 0 2 3 20 160 [] (1 ∷ 2 ∷ []) 11 ≡ 0)
+    × (startAsAnswer 0 2 3 20 160 (1 ∷ []) [] 11 ≡ 9)
+    × (startAsAnswer 0 2 3 20 160 [] (1 ∷ 2 ∷ 3 ∷ []) 11 ≡ 9)
+    × (startAsAnswer 0 2 3 20 160 (1 ∷ 2 ∷ 5001 ∷ []) [] 11 ≡ 4)
+    × (startAsAnswer 0 2 3 20 160 [] (5001 ∷ []) 12 ≡ 4)
+    × (timesWithin (5000 ∷ 0 ∷ 5000 ∷ []) ≡ true)
+    × (timesWithin (5000 ∷ 0 ∷ 5001 ∷ []) ≡ false)
+    × (timeOf (3 ∷ 4 ∷ []) 1 ≡ 4)
+    × (timeOf (3 ∷ 4 ∷ []) 2 ≡ 0)
+unfolding frames groupAt groupOf groupRow putGroup putRow rowIn sized sizedAnswer sizedFits sizedRows startAsAnswer startAsRows startFits startRight tags timesWithin
+refused-starts = (refl, refl, refl, refl, refl, refl, refl, refl, refl, refl, refl, refl, refl, refl, refl, refl, refl, refl)
+
+-- lengths that are taken: an empty group has any number of rows; an output may be longer than asked, a payload, a store and a record of a report may not
+lengths :
+    (rowsFit 0 7 ≡ true)
+    × (rowsFit 2 11 ≡ true)
+    × (rowsFit 2 12 ≡ false)
+    × (rowsFit 2 10 ≡ false)
+    × (frameFits (groupAt opened) 2 11 3 160 ≡ true)
+    × (frameFits (groupAt opened) 2 11 4 160 ≡ false)
+    × (frameFits (groupAt opened) 2 11 2 160 ≡ false)
+    × (frameFits (groupAt opened) 2 11 3 159 ≡ false)
+    × (frameFits (groupAt opened) 2 11 3 161 ≡ false)
+    × (frameFits (groupAt opened) 2 12 3 160 ≡ false)
+    × (outputFor (groupAt opened) 2 ≡ 96)
+    × (fetchFits (groupAt opened) 2 11 160 96 8 ≡ true)
+    × (fetchFits (groupAt opened) 2 11 160 97 8 ≡ true)
+    × (fetchFits (groupAt opened) 2 11 160 95 8 ≡ false)
+    × (fetchFits (groupAt opened) 2 11 159 96 8 ≡ false)
+    × (fetchFits (groupAt opened) 2 10 160 96 8 ≡ false)
+    × (fetchFits (groupAt opened) 2 11 160 96 9 ≡ false)
+    × (fetchFits (groupAt opened) 2 11 160 96 7 ≡ false)
+unfolding fetchFits frameFits frames freshPort freshPorts groupAt groupOf groupRow outputFor putGroup putMarks putMember putPackets putRow putStep rowIn rowsFit sized sizedFits sizedRows startAsRows startFits startRight storeFor tags timesWithin
+lengths = (refl, refl, refl, refl, refl, refl, refl, refl, refl, refl, refl, refl, refl, refl, refl, refl, refl, refl)
+
+-- a member in a state, under a number, with a timer at so much
+abbrev member : ℕ → ℕ → Member
+member state run =
+    record {
+      spare = [];
+      word = 2;
+      number = 8;
+      state = state;
+      «state_number» = 7;
+      «told_word» = 0;
+      «told_number» = 0;
+      «hold_off» = 0;
+      restore = 0;
+      run = run;
+    }
+
+-- 'IDLE' has no number and no timer; 1 hold-off of an OK port, 2 restoring of a FAIL one
+shows :
+    (shownNumber 0 (member 0 0) ≡ 255)
+    × (shownNumber 0 (member 1 0) ≡ 7)
+    × (shownNumber 0 (member 2 0) ≡ 7)
+    × (waitingByte (member 2 0) ≡ 0)
+    × (waitingByte (member 1 0) ≡ 0)
+    × (waitingByte (member 2 3) ≡ 1)
+    × (waitingByte (member 1 3) ≡ 2)
+    × (waitingByte (member 0 3) ≡ 0)
+    × (portShown (groupAt opened) (stepAt opened 0) (member 2 3) ≡ 2 ∷ 7 ∷ 0 ∷ 0 ∷ 0 ∷ 0 ∷ 2 ∷ 1 ∷ [])
+    × (recordOf (record { mark = 2; epoch = 200; x = 64; bytes = 0x01248003 }) ≡ 2 ∷ 200 ∷ 64 ∷ 0 ∷ 0x01 ∷ 0x24 ∷ 0x80 ∷ 0x03 ∷ [])
+    × (portsAnswer opened 2 ≡ 0)
+    × (portsAnswer opened 1 ≡ 9)
+    × (portsAnswer opened 3 ≡ 9)
+    × (portsAnswer (take 10 opened) 2 ≡ 9)
+    × (portsOut opened (replicate 2 (replicate 8 9)) ≡ replicate 2 (0 ∷ 255 ∷ 0 ∷ 0 ∷ 0 ∷ 0 ∷ 255 ∷ 0 ∷ []))
+    × (portsOut opened (replicate 3 (replicate 8 9)) ≡ replicate 3 (replicate 8 9))
+    × (portsOut (take 10 opened) (replicate 2 (replicate 8 9)) ≡ replicate 2 (replicate 8 9))
+unfolding frames freshPort freshPorts groupAt groupOf groupRow idleNumber inStep inStepAt memberAt memberOf memberRow portIn portShown portsAnswer portsIn portsOut putGroup putMarks putMember putPackets putRow putStep readable recordOf rowIn rowsFit shownFit sized sizedFits sizedRows startAsRows startFits startRight stepAt stepOf stepRow tags timesWithin
+shows = (refl, refl, refl, refl, refl, refl, refl, refl, refl, refl, refl, refl, refl, refl, refl, refl, refl)
+
+-- RS-Ack has turned
+abbrev turned : Group
+turned =
+    record {
+      spare = replicate 4 0;
+      kind = 0;
+      count = 2;
+      payload = 3;
+      window = 20;
+      begun = 0;
+      gathered = 0;
+      oldest = 0;
+      origin = 0;
+      «rs_ack» = 1;
+    }
+
+-- with no port OK, MST is FF and RS-Ack 0; of a fixed group both are 0
+replies :
+    (replyOf (startRows 0 2 3 20 160 (rows 11)) 0 ≡ 255 ∷ 0 ∷ [])
+    × (replyOf opened 0 ≡ 0 ∷ 0 ∷ [])
+    × (replyOut opened 0 (9 ∷ 9 ∷ 9 ∷ []) ≡ 9 ∷ 9 ∷ 9 ∷ [])
+    × (replyOut opened 0 (9 ∷ 9 ∷ []) ≡ 0 ∷ 0 ∷ [])
+    × (replyAnswer opened 2 ≡ 0)
+    × (replyAnswer opened 3 ≡ 9)
+    × (toldBy 0 5 ≡ 5)
+    × (toldBy 1 5 ≡ 5)
+    × (toldBy 2 5 ≡ 0)
+    × (replyAnswer opened 1 ≡ 9)
+    × (replyAnswer (take 10 opened) 2 ≡ 9)
+    × (replyOf (putGroup (startRows 0 2 3 20 160 (rows 11)) turned) 0 ≡ 255 ∷ 1 ∷ [])
+unfolding frames freshPort freshPorts groupAt groupOf groupRow memberAt memberOf memberRow mstFrom mstOf okHolds portsIn putGroup putMarks putMember putPackets putRow putStep replyAnswer replyFit replyOf replyOut replyPort replyPorts rowIn rowsFit sized sizedFits sizedRows startAsRows startFits startRight tags timesWithin
+replies = (refl, refl, refl, refl, refl, refl, refl, refl, refl, refl, refl, refl)

@@ -1,0 +1,171 @@
+-- One call of a replay (request 2026-05), phase by phase: what is taken up of the text, what is written, and where it stands then. Counted on the lines as they stand.
+use mathlib.Core.Path.{_≡_, refl}
+use mathlib.Core.Bool.{Bool, true, false}
+use mathlib.Core.List.{List, [], _∷_, _++_}
+use Prim.Native.Nat.{ℕ}
+use lib.ListN.{drop, replicate, take}
+use Rattle.bytes.specs.Bytes.{indexAfter, indexOf}
+use Rattle.packet.specs.Kinds.{frames, idleNumber, tags}
+use Rattle.phases.specs.Sizes.{sized}
+use Rattle.phases.specs.Sizes.{sized as sizesSized}
+use Rattle.receiver.specs.Starting.{freshPort, freshPorts, sizedFits, sizedRows, startAsRows, startFits, startRight, startRows, timesWithin}
+use Rattle.recording.specs.declared.record.Record.the-variants as R
+use Rattle.recording.specs.Line.{foundOf}
+use Rattle.recording.specs.Opening.{lineOpening, opened, openingIn, settingsBy}
+use Rattle.recording.specs.Pairs.{fieldIn, holdRead, kindRead, named, restoreRead}
+use Rattle.recording.specs.Record.{flagIn, frameBy, lastRecord, lineRecord, recordIn}
+use Rattle.replaying.specs.declared.replay.Phase.{Phase}
+use Rattle.replaying.specs.declared.replay.Phase.the-variants.{Reading, Fetching, Skipping, Ended}
+use Rattle.replaying.specs.declared.replay.Replay.{Replay}
+use Rattle.replaying.specs.declared.turns.Replayed.{Replayed}
+use Rattle.replaying.specs.Output.{answerText, changesText, stateText}
+use Rattle.replaying.specs.Replay.{beginning, nextLine, outputOf, storeOf}
+use Rattle.replaying.specs.Turn.{answeredSaid, answeredTurn, framedTurn, isLent, openRows, openSaid, openTurn, openWithRows, openWithSaid, openWithTurn, over, readBy, readOnTurn, readSaid, readTurn, recordNow, reportTurn, reportedTurn, skipTurn, startable, startedRows, timesFit, turnOf, turnOut, turnRows, turnSaid, turnStore}
+use Rattle.rows.specs.Group.{groupRow, putGroup}
+use Rattle.rows.specs.Member.{memberRow, putMember}
+use Rattle.rows.specs.Packets.{putMarks, putPackets}
+use Rattle.rows.specs.Rows.{putRow}
+use Rattle.rows.specs.Step.{putStep, stepRow}
+use Rattle.text.specs.Ascii.{ascii}
+use Rattle.text.specs.Fields.{digitOf, hexOf, isHex, numberOf}
+use Rattle.text.specs.Output.{decimalText, numberText}
+use Rattle.text.specs.Text.{fieldsOf}
+
+-- two ports, P 1, W 16, behind line 4, with so many fetches left
+abbrev at : Phase → ℕ → Replay
+at phase left = record { phase = phase; line = 4; left = left; ports = 2; size = 1; window = 16 }
+
+abbrev after : Phase → ℕ → ℕ → Replay
+after phase line left = record { phase = phase; line = line; left = left; ports = 2; size = 1; window = 16 }
+
+-- used, written, and whether more text is wanted; 0 is the answer
+abbrev goes : Replay → ℕ → ℕ → Bool → Replayed
+goes r used written wants = record { replay = r; answer = 0; used = used; written = written; wants = wants }
+
+-- 9: nothing is used or written
+abbrev short : Replay → Replayed
+short r = record { replay = r; answer = 9; used = 0; written = 0; wants = true }
+
+-- rows of 9s, and numbers of 9s
+abbrev rows : ℕ → List (List ℕ)
+rows n = replicate n (replicate 16 9)
+
+abbrev nines : ℕ → List ℕ
+nines n = replicate n 9
+
+-- the first line, with 321 rows and a room of 1,160 or more
+abbrev first : List ℕ → Bool → ℕ → ℕ → ℕ → Replayed
+first text last r store said = turnOf beginning text last (rows r) (nines store) [] said
+
+abbrev started : ℕ → Replayed
+started used = goes (record { phase = Reading; line = 1; left = 0; ports = 1; size = 1; window = 16 }) used 0 false
+
+abbrev ends : ℕ → Replayed
+ends written = goes (record { phase = Ended; line = 1; left = 0; ports = 0; size = 0; window = 0 }) 0 written false
+
+a-first-line :
+    (first (ascii "1\t1\t16\nx") false 321 32 1160 ≡ started 7)
+    × (first (ascii "1\t1\t16") true 321 32 1160 ≡ started 6)
+    × (first (ascii "1\t1\t16") false 321 32 1160 ≡ goes beginning 0 0 true)
+    × (first [] true 321 32 1160 ≡ goes beginning 0 0 true)
+    × (first (ascii "1\t1\t16\nx") false 321 31 1160 ≡ ends 16)
+    × (first (ascii "0\t1\t16\nx") false 321 32 1160 ≡ ends 16)
+    × (first (ascii "x\n") false 321 32 1160 ≡ ends 17)
+    × (first (ascii "1\t1\t16\nx") false 320 32 1160 ≡ short beginning)
+    × (first (ascii "1\t1\t16\nx") false 321 32 1159 ≡ short beginning)
+    × (first (ascii "2\t3\t16\n") false 321 128 1160 ≡ goes (record { phase = Reading; line = 1; left = 0; ports = 2; size = 3; window = 16 }) 7 0 false)
+    × (first (ascii "2\t3\t16\n") false 321 127 1160 ≡ ends 16)
+    × (first (ascii "1\t1\t16\twait-to-restore\t5001\n") false 321 32 1160 ≡ ends 16)
+unfolding answerText answeredTurn decimalText digitOf fieldIn fieldsOf foundOf frames indexAfter indexOf lineOpening named numberOf numberText openTurn openWithTurn opened openingIn restoreRead settingsBy sized startable tags timesFit timesWithin turnOf
+a-first-line = (refl, refl, refl, refl, refl, refl, refl, refl, refl, refl, refl, refl)
+
+-- what is lent: with a group started it holds zeros, but for the group's own rows; where none has started it stays
+abbrev firstRows : List ℕ → List (List ℕ)
+firstRows text = turnRows beginning text false (rows 321) (nines 40) [] 1160
+
+what-is-lent :
+    (turnStore beginning (ascii "1\t1\t16\n") false (rows 321) (nines 40) [] 1160 ≡ replicate 40 0)
+    × (turnStore beginning (ascii "0\t1\t16\n") false (rows 321) (nines 40) [] 1160 ≡ nines 40)
+    × (turnStore beginning (ascii "1\t1\t16\n") false (rows 320) (nines 40) [] 1160 ≡ nines 40)
+    × (drop 6 (firstRows (ascii "1\t1\t16\n")) ≡ replicate 315 (replicate 16 0))
+    × (take 6 (firstRows (ascii "1\t1\t16\n")) ≡ startRows 0 1 1 16 32 (replicate 6 (replicate 16 0)))
+    × (take 6 (firstRows (ascii "1\t1\t16\tkind\tFIXED\thold-off\t3\twait-to-restore\t4\n")) ≡ startAsRows 2 1 1 16 32 (3 ∷ []) (4 ∷ []) (replicate 6 (replicate 16 0)))
+    × (take 1 (firstRows (ascii "0\t1\t16\n")) ≡ rows 1)
+    × (take 1 (firstRows (ascii "x\n")) ≡ rows 1)
+    × (turnOut beginning (rows 321) (nines 40) (nines 5) 1160 ≡ nines 5)
+    × (take 11 (turnRows beginning (ascii "2\t3\t16\thold-off\t5\t6\twait-to-restore\t7\t8\n") false (rows 321) (nines 128) [] 1160) ≡ startAsRows 0 2 3 16 128 (5 ∷ 6 ∷ []) (7 ∷ 8 ∷ []) (replicate 11 (replicate 16 0)))
+unfolding answeredTurn digitOf fieldIn fieldsOf foundOf frames freshPort freshPorts groupRow holdRead idleNumber indexAfter indexOf kindRead lineOpening memberRow named numberOf openRows openTurn openWithRows openWithTurn opened openingIn putGroup putMarks putMember putPackets putRow putStep restoreRead settingsBy sized sizedFits sizedRows startAsRows startFits startRight startable startedRows stepRow tags timesFit timesWithin turnOut turnRows turnStore
+what-is-lent = (refl, refl, refl, refl, refl, refl, refl, refl, refl, refl)
+
+-- a refusal at the front of the buffer, the rest of it as it was
+what-is-said :
+    (turnSaid beginning (ascii "x\n") false (rows 321) (nines 40) [] (nines 1160) ≡ ascii "answer\t13\tline\t1\n" ++ nines 1143)
+    × (turnSaid beginning (ascii "0\t1\t16\n") false (rows 321) (nines 40) [] (nines 1160) ≡ ascii "answer\t4\tline\t1\n" ++ nines 1144)
+    × (turnSaid beginning (ascii "1\t1\t16\n") false (rows 321) (nines 40) [] (nines 1160) ≡ nines 1160)
+    × (turnSaid beginning (ascii "x\n") false (rows 321) (nines 40) [] (nines 1159) ≡ nines 1159)
+    × (turnSaid (at Reading 0) (ascii "x\n") false (rows 11) (nines 64) (nines 32) (nines 1160) ≡ ascii "answer\t13\tline\t5\n" ++ nines 1143)
+    × (over (ascii "ab") (ascii "wxyz") ≡ ascii "abyz")
+    × (answerText 10 123 ≡ ascii "answer\t10\tline\t123\n")
+unfolding answerText answeredSaid decimalText digitOf fieldsOf foundOf frames indexAfter indexOf isLent lineOpening lineRecord numberOf numberText openSaid openWithSaid opened openingIn readSaid recordIn recordNow settingsBy sized startable tags timesFit timesWithin turnSaid
+what-is-said = (refl, refl, refl, refl, refl, refl, refl)
+
+-- a line behind the first: two ports take 11 rows, a store of 64 and an output of 32
+abbrev reads : List ℕ → Bool → ℕ → ℕ → ℕ → ℕ → Replayed
+reads text last r store out said = turnOf (at Reading 0) text last (rows r) (nines store) (nines out) said
+
+-- the answer to a line that is none, of a replay with so many ports and such a P
+abbrev answered : ℕ → ℕ → ℕ → ℕ → ℕ
+answered ports size r store = turnOf (record { phase = Reading; line = 4; left = 0; ports = ports; size = size; window = 16 }) (ascii "x\n") false (rows r) (nines store) [] 1160 .answer
+
+a-line :
+    (reads (ascii "1\tf0\t0\tAb\nx") false 11 64 32 1160 ≡ goes (after Fetching 5 16) 10 0 false)
+    × (reads (ascii "1\tf0\t0\tAb") true 11 64 32 1160 ≡ goes (after Fetching 5 16) 9 0 false)
+    × (reads (ascii "1\tf0\t0\tAb") false 11 64 32 1160 ≡ goes (at Reading 0) 0 0 true)
+    × (reads [] true 11 64 32 1160 ≡ goes (at Reading 0) 0 0 true)
+    × (reads (ascii "2\tf0\t0\tAb\nx") false 11 64 32 1160 ≡ goes (after Reading 5 0) 10 17 false)
+    × (reads (ascii "1\tf0\t0\tAb\n") false 10 64 32 1160 ≡ short (at Reading 0))
+    × (reads (ascii "1\tf0\t0\tAb\n") false 11 63 32 1160 ≡ short (at Reading 0))
+    × (reads (ascii "1\tf0\t0\tAb\n") false 11 64 31 1160 ≡ short (at Reading 0))
+    × (reads (ascii "1\tf0\t0\tAb\n") false 11 64 32 1159 ≡ short (at Reading 0))
+    × (readBy (at Reading 0) (ascii "abc") R.Long ≡ goes (after Skipping 5 0) 3 17 false)
+    × (reads (ascii "1\tf0\t0\tAb\nx") true 11 64 32 1160 ≡ goes (after Fetching 5 16) 10 0 false)
+    × (reads (ascii "2\tf0\t0\tAb\nx") true 11 64 32 1160 ≡ goes (after Reading 5 0) 10 17 false)
+    × (answered 64 0 321 1024 ≡ 0)
+    × (answered 65 0 326 1040 ≡ 9)
+    × (answered 0 2340 1 0 ≡ 0)
+    × (answered 0 2341 1 0 ≡ 9)
+unfolding answerText answeredTurn decimalText digitOf fieldsOf flagIn foundOf frameBy framedTurn hexOf indexAfter indexOf isHex isLent lastRecord lineRecord numberOf numberText readTurn recordIn recordNow turnOf
+a-line = (refl, refl, refl, refl, refl, refl, refl, refl, refl, refl, refl, refl, refl, refl, refl, refl)
+
+-- behind its last fetch a line is read next; a report leaves one fetch less
+fetches :
+    (turnOf (at Fetching 0) (ascii "x") false (rows 11) (nines 64) (nines 32) 1160 ≡ goes (at Reading 0) 0 0 false)
+    × (turnOf (at Fetching 0) (ascii "x") false (rows 11) (nines 64) (nines 32) 1159 ≡ short (at Fetching 0))
+    × (readOnTurn (at Fetching 7) ≡ goes (at Reading 0) 0 0 false)
+    × (reportedTurn (at Fetching 7) 33 ≡ goes (at Fetching 6) 0 33 false)
+unfolding isLent readOnTurn reportTurn reportedTurn turnOf
+fetches = (refl, refl, refl, refl)
+
+-- the rest of a line that is too long, to its end, or as far as there is text; then, and where the run has ended, more is wanted
+skips :
+    (turnOf (at Skipping 0) (ascii "abc\nd") false [] [] [] 0 ≡ goes (at Reading 0) 4 0 false)
+    × (turnOf (at Skipping 0) (ascii "abc") false [] [] [] 0 ≡ goes (at Skipping 0) 3 0 true)
+    × (turnOf (at Skipping 0) (ascii "abc") true [] [] [] 0 ≡ goes (at Reading 0) 3 0 true)
+    × (turnOf (at Ended 0) (ascii "abc\nd") false [] [] [] 0 ≡ goes (at Ended 0) 5 0 true)
+    × (turnSaid (at Skipping 0) (ascii "abc\nd") false (rows 1) (nines 2) (nines 3) (nines 4) ≡ nines 4)
+    × (turnRows (at Ended 0) (ascii "abc\nd") false (rows 1) (nines 2) (nines 3) 4 ≡ rows 1)
+    × (turnStore (at Skipping 0) (ascii "abc\nd") false (rows 1) (nines 2) (nines 3) 4 ≡ nines 2)
+    × (turnOut (at Ended 0) (rows 1) (nines 2) (nines 3) 4 ≡ nines 3)
+unfolding indexAfter indexOf skipTurn turnOf turnOut turnRows turnSaid turnStore
+skips = (refl, refl, refl, refl, refl, refl, refl, refl)
+
+-- lines are counted in 64 bits; a store of ports x W x (P + 1), an output of ports x 16 x P
+figures :
+    (nextLine 18446744073709551615 ≡ 0)
+    × (nextLine 41 ≡ 42)
+    × (storeOf 3 4 20 ≡ 300)
+    × (outputOf 3 4 ≡ 192)
+    × (stateText 0 ++ stateText 1 ++ stateText 2 ≡ ascii "IDLEFAILOK")
+    × (changesText (512 ∷ 255 ∷ []) (512 ∷ 255 ∷ []) 2 ≡ [])
+unfolding stateText
+figures = (refl, refl, refl, refl, refl, refl)

@@ -1,0 +1,178 @@
+-- The report of an epoch (01, 'Report of an epoch', 'Payload order'), part by part: a group of two ports, P 2, W 16, whose oldest epoch is 58, and what it reads from rows and store.
+use mathlib.Core.Path.{_≡_, refl}
+use mathlib.Core.Bool.{Bool, true, false}
+use mathlib.Core.List.{List, [], _∷_, _++_}
+use Prim.Native.Nat.{ℕ}
+use lib.ListN.{replicate, take}
+use Rattle.ground.specs.Table.{tabulate}
+use Rattle.judge.specs.declared.order.Order.{Order}
+use Rattle.judge.specs.declared.seen.Seen.{Seen}
+use Rattle.packet.specs.Counts.{nibbleIn, startsCount}
+use Rattle.packet.specs.Crc.{crcOf, divisor, nibbleBits}
+use Rattle.packet.specs.Kinds.{epochOf, firstTag, idleNumber, lead, placeOf, tagBefore, tags}
+use Rattle.packet.specs.Kinds.{frames as kindsFrames}
+use Rattle.packet.specs.Layout.{carriedIn, fieldsOf}
+use Rattle.packet.specs.Reading.{readNibbles}
+use Rattle.packet.specs.Ruling.{rulingOf}
+use Rattle.packet.specs.Words.{assigned}
+use Rattle.phases.specs.Sizes.{portsIn, sized, storeFor}
+use Rattle.receiver.specs.Fetch.{dueIn, fetchAnswer, fetchOut, fetchRecord, fetchRows, fits, outIfDue, recordOf, reportIfDue, rowsIfDue}
+use Rattle.receiver.specs.Frame.{frameAnswer, frameRows, frameStore, gatheredBy, refusalBy}
+use Rattle.receiver.specs.Lengths.{fetchFits, frameFits, outputFor, rowsFit}
+use Rattle.receiver.specs.Report.{frameInto, framesInto, outputBy, replyPort, reportBy, rulingEpoch, seenOf, startsOf, withState}
+use Rattle.receiver.specs.Starting.{freshPort, freshPorts, sizedFits, sizedRows, startAsRows, startFits, startRight, startRows, timesWithin}
+use Rattle.reply.specs.Waiting.{standing}
+use Rattle.rows.specs.declared.group.Group.{Group}
+use Rattle.rows.specs.declared.member.Member.{Member}
+use Rattle.rows.specs.Group.{groupAt, groupOf, groupRow, putGroup}
+use Rattle.rows.specs.Member.{memberAt, memberOf, memberRow, putMember}
+use Rattle.rows.specs.Packets.{marksAt, packetsAt, putMarks, putPackets}
+use Rattle.rows.specs.Rows.{putRow, rowIn}
+use Rattle.rows.specs.Step.{putStep, stepAt, stepOf, stepRow}
+use Rattle.step.specs.Arrival.{countsOn, flagged, inStep, readable, takenOf}
+use Rattle.step.specs.Own.{ownNumber, ownRuling, rulingIn}
+use Rattle.step.specs.Run.{begunRun, gainedRun, inStepAt, runOn}
+use Rattle.store.specs.Frames.{placeIn, ringOf, storedAt}
+use Rattle.store.specs.Marks.{firstMark}
+
+abbrev group : ℕ → Group
+group origin =
+    record {
+      spare = replicate 4 0;
+      kind = 0;
+      count = 2;
+      payload = 2;
+      window = 16;
+      begun = 1;
+      gathered = 1;
+      oldest = 58;
+      origin = origin;
+      «rs_ack» = 0;
+    }
+
+abbrev zeros : ℕ → List ℕ
+zeros n = replicate n 0
+
+abbrev nines : ℕ → List ℕ
+nines n = replicate n 9
+
+-- two ports, no frame yet
+abbrev rows : List (List ℕ)
+rows = startRows 0 2 2 16 96 (replicate 11 (zeros 16))
+
+-- 'The packets of one epoch rule the payload of the next'. Port 1 has a packet of epoch 57 with NORM, SQ 3, GID 1 and MST FF, CRC 1E, in the second place.
+abbrev norm : List ℕ
+norm = 15 ∷ 15 ∷ 0 ∷ 0 ∷ 0 ∷ 0 ∷ 0 ∷ 3 ∷ 3 ∷ 9 ∷ 2 ∷ 1 ∷ 0 ∷ 0 ∷ 1 ∷ 14 ∷ []
+
+abbrev seen : Bool → ℕ → ℕ → ℕ → Seen
+seen good word number gid = record { whole = false; good = good; word = word; number = number; gid = gid; here = false }
+
+ruled :
+    (rulingEpoch (group 0) ≡ 57)
+    × (seenOf (group 0) (putPackets rows 1 (zeros 16 ∷ norm ∷ [])) 1 ≡ seen true 2 3 1)
+    × (seenOf (group 0) (putPackets rows 1 (norm ∷ zeros 16 ∷ [])) 1 ≡ seen false 0 0 0)
+    × (seenOf (group 0) (putPackets rows 0 (zeros 16 ∷ norm ∷ [])) 1 ≡ seen false 0 0 0)
+unfolding assigned carriedIn crcOf divisor epochOf fieldsOf firstMark firstTag freshPort freshPorts kindsFrames lead marksAt nibbleBits ownNumber ownRuling packetsAt putGroup putMarks putMember putPackets putRow putStep readNibbles rowIn rulingEpoch rulingIn rulingOf seenOf sized sizedFits sizedRows startAsRows startFits startRight stepAt stepOf stepRow tagBefore tags timesWithin
+ruled = (refl, refl, refl, refl)
+
+-- a held report has no bytes and X 0; a doubtful and a sure one X x 16 x P
+abbrev order : Order
+order = record { ports = 1 ∷ 0 ∷ zeros 62; x = 2 }
+
+-- a store whose byte at each place is the place: port 0's sixteen frames of three bytes, then port 1's
+abbrev store : List ℕ
+store = tabulate 96 (λ i. i)
+
+-- the first group frame: port 1's first byte, port 0's, port 1's second byte, port 0's. With the window's first frame at place 15 of the ring the next stands at place 0.
+payload :
+    (reportBy (group 0) 3 order ≡ record { mark = 3; epoch = 58; x = 2; bytes = 64 })
+    × (reportBy (group 0) 2 order ≡ record { mark = 2; epoch = 58; x = 2; bytes = 64 })
+    × (reportBy (group 0) 1 order ≡ record { mark = 1; epoch = 58; x = 0; bytes = 0 })
+    × (framesInto (group 0) order store 2 (nines 10) ≡ 48 ∷ 0 ∷ 49 ∷ 1 ∷ 51 ∷ 3 ∷ 52 ∷ 4 ∷ 9 ∷ 9 ∷ [])
+    × (framesInto (group 15) order store 2 (nines 9) ≡ 93 ∷ 45 ∷ 94 ∷ 46 ∷ 48 ∷ 0 ∷ 49 ∷ 1 ∷ 9 ∷ [])
+    × (outputBy (group 0) 1 order store (nines 70) ≡ nines 70)
+    × (take 4 (outputBy (group 0) 2 order store (nines 64)) ≡ 48 ∷ 0 ∷ 49 ∷ 1 ∷ [])
+    × (ringOf 15 1 16 ≡ 0)
+    × (ringOf 3 4 16 ≡ 7)
+    × (storedAt (nines 8) 2 (5 ∷ 6 ∷ []) 7 ≡ 9 ∷ 9 ∷ 5 ∷ 6 ∷ 7 ∷ 9 ∷ 9 ∷ 9 ∷ [])
+    × (storedAt (nines 4) 2 (5 ∷ 6 ∷ []) 7 ≡ nines 4)
+unfolding frameInto framesInto kindsFrames outputBy placeIn reportBy ringOf startsOf storedAt
+payload = (refl, refl, refl, refl, refl, refl, refl, refl, refl, refl, refl)
+
+-- a member's eleven fields, each another number: what the reply is worked out from, and what a report leaves
+abbrev member : Member
+member =
+    record {
+      spare = 1 ∷ 2 ∷ 3 ∷ 4 ∷ [];
+      word = 15;
+      number = 16;
+      state = 2;
+      «state_number» = 17;
+      «told_word» = 3;
+      «told_number» = 18;
+      «hold_off» = 300;
+      restore = 400;
+      run = 500;
+    }
+
+states :
+    (replyPort (group 0) (putMember rows 1 member) 1
+    ≡ record {
+      word = 15;
+      number = 16;
+      state = 2;
+      «state_number» = 17;
+      «told_word» = 3;
+      «told_number» = 18;
+      readable = false;
+      «hold_off» = 300;
+      restore = 400;
+      run = 500;
+    })
+    × (withState member (standing 1 20 21)
+    ≡ record {
+      spare = 1 ∷ 2 ∷ 3 ∷ 4 ∷ [];
+      word = 15;
+      number = 16;
+      state = 1;
+      «state_number» = 20;
+      «told_word» = 15;
+      «told_number» = 16;
+      «hold_off» = 300;
+      restore = 400;
+      run = 21;
+    })
+unfolding freshPort freshPorts inStep inStepAt kindsFrames memberAt memberOf memberRow putGroup putMarks putMember putPackets putRow putStep readable replyPort rowIn sized sizedFits sizedRows startAsRows startFits startRight stepAt stepOf stepRow tags timesWithin withState
+states = (refl, refl)
+
+-- 'A fetch with none due answers 0, says so, and changes nothing'; 9 changes nothing either, not even the record
+fetches :
+    (fetchRecord rows (nines 96) (nines 64) (nines 8) ≡ zeros 8)
+    × (fetchAnswer rows (nines 96) (nines 64) (nines 8) ≡ 0)
+    × (fetchRows rows (nines 96) (nines 64) (nines 8) ≡ rows)
+    × (fetchOut rows (nines 96) (nines 64) (nines 8) ≡ nines 64)
+    × (fetchRecord rows (nines 96) (nines 63) (nines 8) ≡ nines 8)
+    × (fetchAnswer rows (nines 96) (nines 63) (nines 8) ≡ 9)
+    × (fetchAnswer rows (nines 96) (nines 65) (nines 8) ≡ 0)
+unfolding dueIn fetchAnswer fetchFits fetchOut fetchRecord fetchRows fits freshPort freshPorts groupAt groupOf groupRow idleNumber kindsFrames memberRow outIfDue outputFor portsIn putGroup putMarks putMember putPackets putRow putStep recordOf reportIfDue rowIn rowsFit rowsIfDue sized sizedFits sizedRows startAsRows startFits startRight stepRow storeFor tags timesWithin
+fetches = (refl, refl, refl, refl, refl, refl, refl)
+
+-- a frame: 1 for the port, then 9; both leave rows and store
+frames :
+    (frameAnswer rows 1 false 0 2 96 ≡ 12)
+    × (frameAnswer rows 2 false 0 2 96 ≡ 1)
+    × (frameAnswer rows 2 false 0 3 96 ≡ 1)
+    × (frameAnswer rows 1 false 0 3 96 ≡ 9)
+    × (frameAnswer rows 1 false 0 1 96 ≡ 9)
+    × (frameAnswer rows 1 false 0 2 95 ≡ 9)
+    × (frameAnswer rows 1 true 0 2 96 ≡ 10)
+    × (frameRows rows 2 true 0 (nines 2) (nines 96) ≡ rows)
+    × (frameRows rows 1 true 0 (nines 3) (nines 96) ≡ rows)
+    × (frameStore rows 2 false 0 (nines 2) (nines 96) ≡ nines 96)
+    × (refusalBy (group 0) 2 1 11 2 96 ≡ 0)
+    × (refusalBy (group 0) 2 2 11 2 96 ≡ 1)
+    × (refusalBy (group 0) 2 1 11 2 97 ≡ 9)
+    × (gatheredBy 0 (nines 16 ∷ zeros 16 ∷ []) true 21 0xA5 ≡ (nines 13 ++ (10 ∷ 9 ∷ 9 ∷ [])) ∷ zeros 16 ∷ [])
+    × (gatheredBy 0 (nines 16 ∷ zeros 16 ∷ []) false 21 0xA5 ≡ nines 16 ∷ zeros 16 ∷ [])
+unfolding begunRun countsOn flagged frameAnswer frameFits frameRows frameStore freshPort freshPorts gainedRun gatheredBy groupAt groupOf groupRow idleNumber inStepAt kindsFrames lead memberRow nibbleIn placeOf portsIn putGroup putMarks putMember putPackets putRow putStep refusalBy rowIn rowsFit runOn sized sizedFits sizedRows startAsRows startFits startRight startsCount stepAt stepOf stepRow storeFor tags takenOf timesWithin
+frames = (refl, refl, refl, refl, refl, refl, refl, refl, refl, refl, refl, refl, refl, refl, refl)

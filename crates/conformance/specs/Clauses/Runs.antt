@@ -1,0 +1,161 @@
+-- A sender run by its C calls alone, each on the 397 bytes that the call before it left, then read out. And what any bytes of a sender, or any 858 of a card, are answered.
+use mathlib.Core.Path.{_≡_, refl}
+use mathlib.Core.Bool.{true, false}
+use mathlib.Core.List.{List, [], _∷_, _++_}
+use Prim.Native.Nat.{ℕ}
+use lib.ListN.{replicate, take}
+use Rattle.c_face.specs.Boards.{boardByte, boardBytesC, boardBytesOf, goingBytesC, rankByte, ranksBytesC, ranksBytesOf, shownAnswerC, shownBytes}
+use Rattle.c_face.specs.Cards.{boardBytesOn, cardOf, ownedBytesOn, ownersIn, packetAnswerOn, packetBytesOn, partIn, payloadAnswerOn, payloadBytesOn, putOwn, refusalOf, shownAnswerOn, shownBytesOn, stepAnswerOn, stepStateOn}
+use Rattle.c_face.specs.Keeping.{byteAt, bytesOf, rowsIn, senderOf, slotsIn}
+use Rattle.c_face.specs.Orders.{kindAnswerOn, kindStateOn, orderAnswerOn, orderAnswersOn, orderStateOn}
+use Rattle.c_face.specs.Senders.{packetAnswerC, packetBytesC, payloadAnswerC, payloadBytesC, startStateC, stepAnswerC, stepStateC}
+use Rattle.circuits.specs.Calls.{Call as C}
+use Rattle.circuits.specs.Commands.{claimOf, commandOf, releaseOf}
+use Rattle.circuits.specs.Commands.{startOf as commandsStartOf}
+use Rattle.circuits.specs.Owners.{withOwner}
+use Rattle.circuits.specs.Parts.{isSlot, isUsed, marked, owns}
+use Rattle.circuits.specs.Parts.{senderOf as partsSenderOf}
+use Rattle.circuits.specs.Readings.{packetAnswer as readingsPacketAnswer}
+use Rattle.circuits.specs.Readings.{packetBytes as readingsPacketBytes}
+use Rattle.circuits.specs.Readings.{payloadAnswer as readingsPayloadAnswer}
+use Rattle.circuits.specs.Readings.{payloadBytes as readingsPayloadBytes}
+use Rattle.packet.specs.Crc.{crcOf, divisor, nibbleBits}
+use Rattle.packet.specs.Kinds.{frames, idleNumber}
+use Rattle.packet.specs.Layout.{dataOf, h4Of, nibblesOf, sealedOf}
+use Rattle.packet.specs.Words.{assigned}
+use Rattle.packet.specs.Writing.{fitting, writeAnswer, writeBytes}
+use Rattle.sender.specs.Board.{boardOf, rowOf, rowsOf}
+use Rattle.sender.specs.Commands.{addOf, addedTo, freshOf, idleSlot, startOf}
+use Rattle.sender.specs.Epochs.{SenderCall, beginOf, freshSender, packetAnswer, packetBytes, packetFields, payloadAnswer, payloadBytes, ranksOf, startEpochOf, startedEpoch, startedSender}
+use Rattle.sender.specs.Epochs.SenderCall.{OnTable, StartEpoch}
+use Rattle.sender.specs.Ranks.{carriersIn, rankAt, ranksIn}
+use Rattle.sender.specs.Steps.Call.{AddSlot, Lapse}
+use Rattle.sender.specs.Table.{membersOf, sizeOf}
+
+abbrev nines : ℕ → List ℕ
+nines n = replicate n 9
+
+abbrev steps : List ℕ → List SenderCall → List ℕ
+steps state [] = state
+steps state (c ∷ cs) = steps (stepStateC true c state) cs
+
+-- Three slots from epoch 7 on: slot 0 is added, epoch 7 starts, slot 1 is added.
+abbrev sender : List ℕ
+sender = steps (startStateC 3 7 (nines 397)) (OnTable (AddSlot 0) ∷ StartEpoch 1 0x3C 0 ∷ OnTable (AddSlot 1) ∷ [])
+
+abbrev readOut : List ℕ → List ℕ
+readOut s =
+    take 8 (boardBytesC s (nines 130))
+    ++ take 8 (goingBytesC s (nines 130))
+    ++ take 8 (ranksBytesC s (nines 68))
+    ++ packetBytesC s 0 (nines 16)
+    ++ packetBytesC s 1 (nines 16)
+    ++ payloadBytesC s 0 2 [] (nines 2)
+    ++ payloadBytesC s 1 2 [] (nines 2)
+
+-- the board now: ADD 0, ADD 1, IDLE; the one going out: ADD 0, IDLE, IDLE; X is 0; the packets' CRCs are B9 and 33
+a-sender :
+    readOut sender
+    ≡ 3 ∷ 0 ∷ 1 ∷ 0 ∷ 1 ∷ 1 ∷ 5 ∷ 255
+    ∷ 3 ∷ 0 ∷ 1 ∷ 0 ∷ 5 ∷ 255 ∷ 5 ∷ 255
+    ∷ 3 ∷ 1 ∷ 7 ∷ 0 ∷ 255 ∷ 255 ∷ 255 ∷ 255
+    ∷ 0x38 ∷ 0xC9 ∷ 0x0A ∷ 0x0B ∷ 0x0C ∷ 0x0D ∷ 0x0E ∷ 0x0F ∷ 0x00 ∷ 0x71 ∷ 0x12 ∷ 0x13 ∷ 0x04 ∷ 0x05 ∷ 0xB6 ∷ 0x97
+    ∷ 0x38 ∷ 0xC9 ∷ 0x0A ∷ 0x0B ∷ 0x0C ∷ 0x0D ∷ 0xFE ∷ 0xFF ∷ 0x00 ∷ 0x71 ∷ 0x52 ∷ 0x13 ∷ 0x04 ∷ 0x05 ∷ 0x36 ∷ 0x37
+    ∷ 0 ∷ 0 ∷ 0 ∷ 0 ∷ []
+unfolding addOf addedTo assigned beginOf boardByte boardBytesOf boardOf byteAt bytesOf carriersIn crcOf dataOf divisor fitting frames freshOf freshSender h4Of idleNumber idleSlot membersOf nibbleBits nibblesOf packetBytes packetBytesC packetFields payloadBytes payloadBytesC rankAt rankByte ranksBytesOf ranksIn ranksOf rowOf rowsIn rowsOf sealedOf senderOf shownBytes sizeOf slotsIn startEpochOf startOf startStateC startedEpoch startedSender stepStateC writeBytes
+a-sender = refl
+
+-- any 397 bytes: nines are nine slots and an open wait, with no member, and a GID that is none
+sender-answers :
+    (stepAnswerC true (OnTable (AddSlot 0)) (nines 397) ≡ 3)
+    × (stepAnswerC true (OnTable (AddSlot 9)) (nines 397) ≡ 1)
+    × (stepAnswerC false (OnTable (AddSlot 9)) (nines 397) ≡ 8)
+    × (stepAnswerC false (OnTable (AddSlot 9)) (nines 396) ≡ 9)
+    × (stepStateC true (OnTable (AddSlot 9)) (nines 397) ≡ nines 397)
+    × (stepStateC false (OnTable Lapse) (nines 397) ≡ nines 397)
+    × (stepStateC true (OnTable Lapse) (nines 396) ≡ nines 396)
+    × (packetAnswerC (nines 397) 0 (nines 16) ≡ 8)
+    × (packetAnswerC (nines 397) 9 (nines 16) ≡ 1)
+    × (packetAnswerC (nines 396) 9 (nines 16) ≡ 9)
+    × (packetBytesC (nines 396) 0 (nines 16) ≡ nines 16)
+    × (payloadAnswerC (nines 397) 0 2 [] (nines 2) ≡ 0)
+    × (payloadAnswerC (nines 397) 0 2 (nines 1) (nines 2) ≡ 9)
+    × (payloadAnswerC (nines 397) 0 2 [] (nines 3) ≡ 9)
+    × (payloadAnswerC (nines 397) 0 2341 [] (nines 2) ≡ 4)
+    × (payloadAnswerC (nines 397) 9 2 [] (nines 2) ≡ 1)
+    × (payloadAnswerC (nines 396) 9 2 [] (nines 2) ≡ 9)
+    × (payloadBytesC (nines 397) 0 2 [] (nines 2) ≡ 0 ∷ 0 ∷ [])
+    × (payloadBytesC (nines 396) 0 2 [] (nines 2) ≡ nines 2)
+    × (shownAnswerC 130 (nines 397) (nines 130) ≡ 0)
+    × (shownAnswerC 130 (nines 397) (nines 129) ≡ 9)
+    × (shownAnswerC 130 (nines 397) (nines 131) ≡ 9)
+    × (shownAnswerC 130 (nines 396) (nines 130) ≡ 9)
+    × (boardBytesC (nines 397) (nines 129) ≡ nines 129)
+    × (boardBytesC (nines 396) (nines 130) ≡ nines 130)
+unfolding addOf carriersIn fitting frames packetAnswer packetAnswerC packetBytesC packetFields payloadAnswer payloadAnswerC payloadBytes payloadBytesC rankAt rowsIn senderOf shownAnswerC shownBytes sizeOf stepAnswerC stepStateC writeAnswer
+sender-answers = (refl, refl, refl, refl, refl, refl, refl, refl, refl, refl, refl, refl, refl, refl, refl, refl, refl, refl, refl, refl, refl, refl, refl, refl, refl)
+
+-- any 858 bytes: nines are nine slots for each group, owned by nobody
+card-answers :
+    (packetAnswerOn (nines 858) 0 0 (nines 16) ≡ 14)
+    × (packetAnswerOn (nines 858) 0 9 (nines 16) ≡ 1)
+    × (packetAnswerOn (nines 858) 2 0 (nines 16) ≡ 1)
+    × (packetAnswerOn (nines 857) 2 0 (nines 16) ≡ 9)
+    × (packetBytesOn (nines 857) 0 0 (nines 16) ≡ nines 16)
+    × (payloadAnswerOn (nines 858) 1 0 2 [] (nines 2) ≡ 14)
+    × (payloadAnswerOn (nines 858) 1 9 2 [] (nines 2) ≡ 1)
+    × (payloadAnswerOn (nines 858) 2 0 2 [] (nines 2) ≡ 1)
+    × (payloadAnswerOn (nines 857) 2 0 2 [] (nines 2) ≡ 9)
+    × (payloadAnswerOn (1 ∷ nines 857) 0 0 2 [] (nines 2) ≡ 0)
+    × (payloadAnswerOn (1 ∷ nines 857) 0 0 2 (nines 1) (nines 2) ≡ 9)
+    × (payloadAnswerOn (1 ∷ nines 857) 0 0 2 [] (nines 1) ≡ 9)
+    × (payloadAnswerOn (1 ∷ nines 857) 0 0 2341 [] (nines 2) ≡ 4)
+    × (payloadBytesOn (1 ∷ nines 857) 0 0 2 [] (nines 2) ≡ 0 ∷ 0 ∷ [])
+    × (shownAnswerOn 130 (nines 858) 0 (nines 130) ≡ 0)
+    × (shownAnswerOn 130 (nines 858) 0 (nines 131) ≡ 9)
+    × (shownAnswerOn 130 (nines 858) 2 (nines 131) ≡ 1)
+    × (shownAnswerOn 130 (nines 857) 2 (nines 130) ≡ 9)
+    × (boardBytesOn (nines 858) 0 (nines 131) ≡ nines 131)
+    × (boardBytesOn (nines 858) 2 (nines 130) ≡ nines 130)
+    × (ownedBytesOn (nines 858) 0 (nines 63) ≡ nines 63)
+    × (stepAnswerOn true 0 (C.Claim 9) (nines 858) ≡ 1)
+    × (stepAnswerOn true 0 (C.AddSlot 0) (nines 858) ≡ 14)
+    × (stepAnswerOn false 0 (C.Claim 9) (nines 858) ≡ 8)
+    × (stepAnswerOn false 2 (C.Claim 9) (nines 858) ≡ 1)
+    × (stepAnswerOn false 2 (C.Claim 9) (nines 857) ≡ 9)
+    × (stepStateOn true 0 (C.AddSlot 0) (nines 858) ≡ nines 858)
+    × (stepStateOn false 0 (C.Claim 2) (nines 858) ≡ nines 858)
+    × (stepStateOn true 2 (C.Claim 2) (nines 858) ≡ nines 858)
+    × (stepStateOn true 0 (C.Claim 2) (nines 857) ≡ nines 857)
+    × (refusalOf 858 1 ≡ 0)
+    × (refusalOf 858 2 ≡ 1)
+    × (refusalOf 857 2 ≡ 9)
+    × (refusalOf 859 0 ≡ 9)
+    × (packetAnswerOn (nines 5 ++ (1 ∷ nines 852)) 0 5 (nines 16) ≡ 8)
+    × (payloadAnswerOn (nines 5 ++ (1 ∷ nines 852)) 0 5 2 [] (nines 2) ≡ 0)
+    × (payloadBytesOn (nines 5 ++ (1 ∷ nines 852)) 0 5 2 [] (nines 2) ≡ 0 ∷ 0 ∷ [])
+unfolding cardOf carriersIn claimOf commandOf fitting frames isSlot ownersIn owns packetAnswer packetAnswerOn packetBytesOn packetFields partIn partsSenderOf payloadAnswer payloadAnswerOn payloadBytes payloadBytesOn rankAt readingsPacketAnswer readingsPayloadAnswer readingsPayloadBytes refusalOf rowsIn senderOf shownAnswerOn shownBytesOn sizeOf stepAnswerOn stepStateOn writeAnswer
+card-answers = (refl, refl, refl, refl, refl, refl, refl, refl, refl, refl, refl, refl, refl, refl, refl, refl, refl, refl, refl, refl, refl, refl, refl, refl, refl, refl, refl, refl, refl, refl, refl, refl, refl, refl, refl, refl, refl)
+
+-- add 0 0, which nobody owns, and a kind that is none
+abbrev order : List (List ℕ)
+order = (0 ∷ 0 ∷ 0 ∷ []) ∷ (4 ∷ 0 ∷ 0 ∷ []) ∷ []
+
+orders :
+    (orderAnswersOn (nines 858) order (nines 2) ≡ 14 ∷ 8 ∷ [])
+    × (orderAnswerOn (nines 858) order (nines 2) ≡ 0)
+    × (orderAnswerOn (nines 858) order (nines 3) ≡ 9)
+    × (orderAnswerOn (nines 857) order (nines 2) ≡ 9)
+    × (orderAnswersOn (nines 858) order (nines 3) ≡ nines 3)
+    × (orderAnswersOn (nines 857) order (nines 2) ≡ nines 2)
+    × (take 2 (orderStateOn (nines 858) ((2 ∷ 1 ∷ 0 ∷ []) ∷ []) (nines 1)) ≡ 2 ∷ 9 ∷ [])
+    × (take 2 (orderStateOn (nines 858) ((2 ∷ 1 ∷ 0 ∷ []) ∷ []) (nines 2)) ≡ nines 2)
+    × (orderStateOn (nines 857) ((2 ∷ 1 ∷ 0 ∷ []) ∷ []) (nines 1) ≡ nines 857)
+    × (kindAnswerOn 3 0 0 (1 ∷ nines 857) ≡ 0)
+    × (kindAnswerOn 4 0 0 (1 ∷ nines 857) ≡ 8)
+    × (kindStateOn 4 0 0 (1 ∷ nines 857) ≡ 1 ∷ nines 857)
+    × (orderAnswersOn (nines 858) ((2 ∷ 1 ∷ 5 ∷ []) ∷ []) (nines 1) ≡ 0 ∷ [])
+    × (take 6 (orderStateOn (nines 858) ((2 ∷ 1 ∷ 5 ∷ []) ∷ []) (nines 1)) ≡ nines 5 ++ (2 ∷ []))
+    × (take 6 (kindStateOn 3 0 5 (nines 5 ++ (1 ∷ nines 852))) ≡ nines 5 ++ (0 ∷ []))
+unfolding cardOf claimOf commandOf isSlot isUsed kindAnswerOn kindStateOn marked orderAnswerOn orderAnswersOn orderStateOn ownersIn owns partIn partsSenderOf putOwn releaseOf senderOf sizeOf slotsIn stepAnswerOn stepStateOn withOwner
+orders = (refl, refl, refl, refl, refl, refl, refl, refl, refl, refl, refl, refl, refl, refl, refl)

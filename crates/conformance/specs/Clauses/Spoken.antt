@@ -1,0 +1,111 @@
+-- Changes that fit a board and changes that can be spoken (request 2026-10), and those that differ from them in one thing. The board: NORM 0, NORM 1, EOS 2, no wait.
+use mathlib.Core.Path.{_≡_, refl}
+use mathlib.Core.Bool.{Bool, true, false}
+use mathlib.Core.List.{List, [], _∷_, _++_}
+use Prim.Native.Nat.{ℕ, _-_}
+use lib.ListN.{length, replicate, take}
+use Rattle.ground.specs.Table.{tabulate}
+use Rattle.sender.specs.declared.board.Board.{Board}
+use Rattle.sender.specs.declared.board.Row.{Row}
+use Rattle.spoken.specs.Applying.{appliedOf, changesFit, fits, withChanges}
+use Rattle.spoken.specs.Changes.{answerNumber, changesIn, changesOf, comparedOf, listOf, noChanges}
+use Rattle.spoken.specs.declared.lists.Change.{Change}
+use Rattle.spoken.specs.declared.lists.Changes.{Changes}
+use Rattle.spoken.specs.declared.lists.WaitChange.{WaitChange}
+use Rattle.spoken.specs.declared.lists.WaitChange.the-variants.{Same, Opened, Closed}
+use Rattle.spoken.specs.Speaking.{canSpeak, changeText, changesSpeak, nowText, rowText, slotText, speakAnswer, speechBytes, speechOf, spokenText, waitLine, wasText}
+use Rattle.text.specs.Ascii.{ascii}
+use Rattle.text.specs.Output.{decimalText, wordText}
+
+abbrev row : ℕ → ℕ → Row
+row word number = record { word = record { 0 = word }; number = number }
+
+abbrev board : List Row → ℕ → Bool → Board
+board rows count wait = record { rows = rows ++ replicate (64 - length rows) (row 5 255); count = count; wait = wait }
+
+abbrev old : Bool → Board
+old wait = board (row 2 0 ∷ row 2 1 ∷ row 3 2 ∷ []) 3 wait
+
+abbrev change : ℕ → Row → Row → Change
+change slot was now = record { slot = slot; old = was; new = now }
+
+abbrev changes : List Change → WaitChange → Changes
+changes list wait = record { list = list ++ replicate (64 - length list) (change 0 (row 0 0) (row 0 0)); count = length list; wait = wait }
+
+-- slot 1 goes IDLE, slot 2 becomes EOS 1
+abbrev gone : Change
+gone = change 1 (row 2 1) (row 5 255)
+
+abbrev moved : Change
+moved = change 2 (row 3 2) (row 3 1)
+
+-- all of 64 slots are added
+abbrev every : Changes
+every = record { list = tabulate 64 (λ i. change i (row 5 255) (row 1 i)); count = 64; wait = Same }
+
+abbrev applied : Board → Changes → ℕ
+applied b cs = answerNumber (appliedOf b cs .answer)
+
+-- in slot order, each slot below the count, from what the board has to something else, the wait opened where there is none and closed where there is one
+fitting :
+    (appliedOf (old false) (changes (gone ∷ moved ∷ []) Opened) .board ≡ board (row 2 0 ∷ row 5 255 ∷ row 3 1 ∷ []) 3 true)
+    × (appliedOf (old true) (changes (moved ∷ []) Closed) .board ≡ board (row 2 0 ∷ row 2 1 ∷ row 3 1 ∷ []) 3 false)
+    × (appliedOf (old true) (changes [] Same) .board ≡ old true)
+    × (applied (old false) (changes (gone ∷ moved ∷ []) Opened) ≡ 0)
+    × (applied (old false) (changes (moved ∷ gone ∷ []) Opened) ≡ 2)
+    × (appliedOf (old false) (changes (moved ∷ gone ∷ []) Opened) .board ≡ old false)
+    × (applied (old false) (changes (gone ∷ gone ∷ []) Opened) ≡ 2)
+    × (applied (old true) (changes (gone ∷ moved ∷ []) Opened) ≡ 2)
+    × (applied (old false) (changes (gone ∷ moved ∷ []) Closed) ≡ 2)
+    × (applied (old false) (changes (change 3 (row 5 255) (row 1 3) ∷ []) Same) ≡ 2)
+    × (applied (old false) (changes (change 1 (row 3 1) (row 5 255) ∷ []) Same) ≡ 2)
+    × (applied (old false) (changes (change 1 (row 2 0) (row 5 255) ∷ []) Same) ≡ 2)
+    × (applied (old false) (changes (change 1 (row 2 1) (row 2 1) ∷ []) Same) ≡ 2)
+    × (applied (old false) (changes (change 1 (row 2 1) (row 3 1) ∷ []) Same) ≡ 0)
+    × (applied (old false) (changes (change 1 (row 2 1) (row 2 0) ∷ []) Same) ≡ 0)
+    × (applied (board [] 64 false) (changes [] Same) ≡ 0)
+    × (applied (board [] 65 false) (changes [] Same) ≡ 2)
+    × (applied (old false) (record { list = replicate 64 gone; count = 65; wait = Same }) ≡ 2)
+    × (applied (old true) (changes [] Same) ≡ 0)
+    × (appliedOf (old false) (changes (moved ∷ []) Same) .board ≡ board (row 2 0 ∷ row 2 1 ∷ row 3 1 ∷ []) 3 false)
+    × (applied (board [] 64 false) every ≡ 0)
+unfolding appliedOf changesFit fits withChanges
+fitting = (refl, refl, refl, refl, refl, refl, refl, refl, refl, refl, refl, refl, refl, refl, refl, refl, refl, refl, refl, refl, refl)
+
+-- told from one board to the next; boards of 65 slots, which no call returns, are 4
+comparing :
+    (comparedOf (old false) (board (row 2 0 ∷ row 5 255 ∷ row 3 1 ∷ []) 3 true) .changes ≡ changes (gone ∷ moved ∷ []) Opened)
+    × (comparedOf (old true) (board (row 2 0 ∷ row 2 1 ∷ row 3 1 ∷ []) 3 false) .changes ≡ changes (moved ∷ []) Closed)
+    × (comparedOf (old true) (old true) .changes ≡ changes [] Same)
+    × (answerNumber (comparedOf (old true) (old false) .answer) ≡ 0)
+    × (answerNumber (comparedOf (old true) (board [] 2 true) .answer) ≡ 4)
+    × (comparedOf (old true) (board [] 2 false) .changes ≡ changes [] Same)
+    × (answerNumber (comparedOf (board [] 65 true) (board [] 65 true) .answer) ≡ 4)
+    × (answerNumber (comparedOf (board [] 64 true) (board [] 64 true) .answer) ≡ 0)
+unfolding changesIn changesOf comparedOf listOf noChanges
+comparing = (refl, refl, refl, refl, refl, refl, refl, refl)
+
+abbrev told : Changes → ℕ
+told cs = answerNumber (speakAnswer cs (replicate 2188 0))
+
+-- a slot above 63, slots that do not rise, nothing changed, words that no board shows: 2; a text that is too short: 9, whatever the changes
+speaking :
+    (told (changes (gone ∷ moved ∷ []) Opened) ≡ 0)
+    × (told (changes (moved ∷ gone ∷ []) Opened) ≡ 2)
+    × (told (changes (change 63 (row 2 1) (row 5 255) ∷ []) Same) ≡ 0)
+    × (told (changes (change 64 (row 2 1) (row 5 255) ∷ []) Same) ≡ 2)
+    × (told (changes (change 1 (row 2 1) (row 2 1) ∷ []) Same) ≡ 2)
+    × (told (changes (change 1 (row 0 1) (row 2 1) ∷ []) Same) ≡ 2)
+    × (told (changes (change 1 (row 2 1) (row 4 1) ∷ []) Same) ≡ 2)
+    × (told (record { list = replicate 64 gone; count = 65; wait = Same }) ≡ 2)
+    × (answerNumber (speakAnswer (changes (moved ∷ gone ∷ []) Opened) (replicate 2187 0)) ≡ 9)
+    × (speechOf (changes [] Closed) (replicate 2188 0) .written ≡ 12)
+    × (speechOf (changes (change 64 (row 2 1) (row 5 255) ∷ []) Closed) (replicate 2188 0) .written ≡ 0)
+    × (take 13 (speechBytes (changes [] Closed) (replicate 2188 7)) ≡ ascii "wait\tclosed\n" ++ (7 ∷ []))
+    × (spokenText (changes (change 12 (row 1 10) (row 15 109) ∷ []) Same) ≡ ascii "slot\t12\twas\tADD\t10\tnow\tDNU\t109\n")
+    × (told every ≡ 0)
+    × (speechOf (changes [] Closed) (replicate 2187 0) .written ≡ 0)
+    × (take 2 (speechBytes (changes [] Closed) (replicate 2187 7)) ≡ 7 ∷ 7 ∷ [])
+    × (take 2 (speechBytes (changes (moved ∷ gone ∷ []) Same) (replicate 2188 7)) ≡ 7 ∷ 7 ∷ [])
+unfolding canSpeak changeText changesSpeak decimalText nowText rowText slotText speakAnswer speechBytes speechOf spokenText waitLine wasText wordText
+speaking = (refl, refl, refl, refl, refl, refl, refl, refl, refl, refl, refl, refl, refl, refl, refl, refl, refl)

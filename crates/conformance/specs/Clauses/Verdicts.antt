@@ -1,0 +1,95 @@
+-- Reports judged (01, 'Report of an epoch'), where a packet that did not arrive whole still reads as one; and packets of fixed groups (request 2026-12) at their limits.
+use mathlib.Core.Path.{_≡_, refl}
+use mathlib.Core.Bool.{Bool, true, false}
+use mathlib.Core.List.{List, [], _∷_}
+use Prim.Native.Nat.{ℕ}
+use lib.ListN.{length, replicate, take}
+use Rattle.judge.specs.declared.seen.Seen.{Seen}
+use Rattle.judge.specs.Order.{activeIn, orderOf, portOf, rankOf}
+use Rattle.judge.specs.Verdict.{doubtfulBy, eosAlone, eosWrong, exact, fixedExact, fixedHeld, fixedVerdict, gidDiffers, heldBy, highest, judgeOf, lcasVerdict, missing, repeats, takes}
+use Rattle.packet.specs.Fixed.{fixedNibbles, readFixedAnswer, readFixedNibbles, writeFixedAnswer, writeFixedBytes}
+use Rattle.packet.specs.Layout.{h4Of, highsOf}
+use Rattle.packet.specs.Reading.{readingNumber}
+use Rattle.packet.specs.Writing.{writingNumber}
+
+-- a port with a good packet that arrived whole, and all frames; one whose packet did not arrive whole; one whose packet was refused
+abbrev saw : ℕ → ℕ → ℕ → Seen
+saw word number gid = record { whole = true; good = true; word = word; number = number; gid = gid; here = true }
+
+abbrev torn : ℕ → ℕ → ℕ → Bool → Seen
+torn word number gid here = record { whole = false; good = true; word = word; number = number; gid = gid; here = here }
+
+abbrev bad : ℕ → ℕ → Seen
+bad word number = record { whole = true; good = false; word = word; number = number; gid = 0; here = true }
+
+abbrev verdict : List Seen → ℕ
+verdict ports = judgeOf 0 ports (length ports)
+
+-- 'all is judged on whole ruling packets': what a torn one reads as makes no epoch held, and leaves it doubtful: EOS twice, a number twice, another GID, an active port that lacks a frame
+torn-packets :
+    (verdict (saw 3 0 0 ∷ torn 3 1 0 true ∷ []) ≡ 2)
+    × (verdict (saw 3 1 0 ∷ torn 3 0 0 true ∷ []) ≡ 2)
+    × (verdict (saw 3 0 0 ∷ torn 15 0 0 true ∷ []) ≡ 2)
+    × (verdict (saw 3 0 0 ∷ torn 2 1 1 true ∷ []) ≡ 2)
+    × (verdict (saw 3 0 0 ∷ torn 2 0 0 false ∷ []) ≡ 2)
+    × (verdict (saw 3 0 0 ∷ torn 5 255 0 true ∷ []) ≡ 2)
+    × (verdict (torn 3 0 0 true ∷ []) ≡ 2)
+unfolding doubtfulBy eosAlone eosWrong gidDiffers heldBy highest judgeOf lcasVerdict missing repeats takes
+torn-packets = (refl, refl, refl, refl, refl, refl, refl)
+
+-- an IDLE port's GID counts for nothing, whichever it is; an ADD port's number does not fill a gap
+others :
+    (verdict (saw 3 0 1 ∷ saw 5 255 0 ∷ []) ≡ 3)
+    × (verdict (saw 3 0 0 ∷ saw 5 255 1 ∷ []) ≡ 3)
+    × (verdict (saw 3 0 2 ∷ saw 15 1 2 ∷ []) ≡ 3)
+    × (verdict (saw 2 0 0 ∷ saw 1 1 0 ∷ saw 3 2 0 ∷ []) ≡ 2)
+    × (judgeOf 1 (saw 3 0 0 ∷ []) 1 ≡ 3)
+    × (judgeOf 2 (saw 3 0 0 ∷ []) 1 ≡ 3)
+    × (judgeOf 2 (saw 0 0 0 ∷ saw 0 1 1 ∷ []) 2 ≡ 3)
+    × (judgeOf 2 (saw 0 0 0 ∷ saw 0 2 0 ∷ []) 2 ≡ 1)
+    × (judgeOf 2 (saw 0 0 0 ∷ torn 0 1 0 true ∷ []) 2 ≡ 1)
+    × (judgeOf 2 (saw 0 0 0 ∷ bad 0 1 ∷ []) 2 ≡ 1)
+unfolding doubtfulBy eosAlone eosWrong exact fixedExact fixedHeld fixedVerdict gidDiffers heldBy highest judgeOf lcasVerdict missing repeats takes
+others = (refl, refl, refl, refl, refl, refl, refl, refl, refl, refl)
+
+-- payload goes by the numbers of active ports, however high, and not by what a refused or a torn packet reads as
+orders :
+    (orderOf (saw 2 9 0 ∷ saw 2 5 0 ∷ saw 3 63 0 ∷ []) 3 .x ≡ 3)
+    × (take 3 (orderOf (saw 2 9 0 ∷ saw 2 5 0 ∷ saw 3 63 0 ∷ []) 3 .ports) ≡ 1 ∷ 0 ∷ 2 ∷ [])
+    × (orderOf (bad 2 0 ∷ torn 2 1 0 true ∷ saw 3 2 0 ∷ saw 15 3 0 ∷ saw 1 4 0 ∷ []) 5 .x ≡ 1)
+    × (take 1 (orderOf (bad 2 0 ∷ torn 2 1 0 true ∷ saw 3 2 0 ∷ []) 3 .ports) ≡ 2 ∷ [])
+    × (length (orderOf (saw 3 0 0 ∷ []) 1 .ports) ≡ 64)
+unfolding activeIn orderOf portOf rankOf
+orders = (refl, refl, refl, refl, refl)
+
+abbrev nines : ℕ → List ℕ
+nines n = replicate n 9
+
+abbrev wrote : ℕ → ℕ → List ℕ → ℕ
+wrote epoch sq s = writingNumber (writeFixedAnswer epoch sq s)
+
+abbrev read : List ℕ → ℕ
+read s = readingNumber (readFixedAnswer s)
+
+-- epoch 147 with SQ 180: B4 at MFI1 14 and 15, 93 at MFI1 0 and 1; and epoch 255 with SQ 255
+fixed-packets :
+    (writeFixedBytes 147 180 (nines 16) ≡ 0x08 ∷ 0x09 ∷ 0x0A ∷ 0x0B ∷ 0x0C ∷ 0x0D ∷ 0xBE ∷ 0x4F ∷ 0x90 ∷ 0x31 ∷ 0x02 ∷ 0x03 ∷ 0x04 ∷ 0x05 ∷ 0x06 ∷ 0x07 ∷ [])
+    × (writeFixedBytes 255 255 (nines 16) ≡ 0x08 ∷ 0x09 ∷ 0x0A ∷ 0x0B ∷ 0x0C ∷ 0x0D ∷ 0xFE ∷ 0xFF ∷ 0xF0 ∷ 0xF1 ∷ 0x02 ∷ 0x03 ∷ 0x04 ∷ 0x05 ∷ 0x06 ∷ 0x07 ∷ [])
+    × (writeFixedBytes 256 180 (nines 16) ≡ nines 16)
+    × (writeFixedBytes 147 256 (nines 16) ≡ nines 16)
+    × (writeFixedBytes 147 180 (nines 15) ≡ nines 15)
+    × (writeFixedBytes 147 180 (nines 17) ≡ nines 17)
+    × (wrote 255 255 (nines 16) ≡ 0)
+    × (wrote 256 255 (nines 16) ≡ 8)
+    × (wrote 255 256 (nines 16) ≡ 8)
+    × (wrote 256 255 (nines 17) ≡ 9)
+    × (wrote 255 255 (nines 15) ≡ 9)
+    × (read (replicate 16 0x0F) ≡ 0)
+    × (read (replicate 16 0x1F) ≡ 6)
+    × (read (replicate 16 0xFF) ≡ 6)
+    × (read (replicate 15 0x0F) ≡ 9)
+    × (read (replicate 17 0x0F) ≡ 9)
+    × (readingNumber (readFixedNibbles (replicate 16 16)) ≡ 0)
+    × (readingNumber (readFixedNibbles (replicate 16 15)) ≡ 6)
+unfolding fixedNibbles h4Of highsOf readFixedAnswer readFixedNibbles writeFixedAnswer writeFixedBytes
+fixed-packets = (refl, refl, refl, refl, refl, refl, refl, refl, refl, refl, refl, refl, refl, refl, refl, refl, refl, refl)

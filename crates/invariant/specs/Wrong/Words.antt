@@ -1,0 +1,98 @@
+-- Words of the theorems, worked out on a receiver of two ports, P 2 and W 16: a theorem says no more than its words do.
+use mathlib.Core.Path.{_≡_, refl}
+use mathlib.Core.Bool.{true, false}
+use mathlib.Core.List.{List, [], _∷_}
+use Prim.Native.Nat.{ℕ, _-_, _*_}
+use lib.ListN.{replicate}
+use Rattle.ground.specs.Table.{tabulate}
+use Rattle.invariant.specs.Calls.{Receiver, receiverRun, startedWith}
+use Rattle.invariant.specs.Calls.ReceiverCall.{Fetch, Frame}
+use Rattle.invariant.specs.Claims.{tagIn}
+use Rattle.invariant.specs.Live.{heardOf, isHeard, packetHeard, tagBack}
+use Rattle.invariant.specs.Reports.{ackIn, gives, nextReport, reportsOf, stopsWith, successive}
+use Rattle.invariant.specs.Times.{heldIn, outcomesOf}
+use Rattle.packet.specs.Counts.{carriesLow, nibbleIn, startsCount, tagByHigh, tagByLow}
+use Rattle.packet.specs.Kinds.{epochAfter, epochs, firstTag, frames, idleNumber, lead, tagBefore, tags}
+use Rattle.phases.specs.Beginning.{begins, ready}
+use Rattle.phases.specs.Settling.{beginBy, gatherBy, settledOf, stopBy}
+use Rattle.phases.specs.Sizes.{portsIn, sized, storeFor}
+use Rattle.receiver.specs.Fetch.{dueIn, fetchAnswer, fetchOut, fetchRecord, fetchRows, fits, outIfDue, recordOf, reportIfDue, rowsIfDue}
+use Rattle.receiver.specs.Frame.{frameAnswer, frameRows, frameStore, portRows, refusalBy, settledBy, storeBy, takenRows, takenStore}
+use Rattle.receiver.specs.Lengths.{fetchFits, frameFits, outputFor, rowsFit}
+use Rattle.receiver.specs.Starting.{freshPort, freshPorts, sizedFits, sizedRows, startAsRows, startFits, startRight, timesWithin}
+use Rattle.rows.specs.declared.group.Group.{Group}
+use Rattle.rows.specs.Group.{groupAt, groupOf, groupRow, putGroup}
+use Rattle.rows.specs.Member.{memberAt, memberOf, memberRow, putMember}
+use Rattle.rows.specs.Packets.{putMarks, putPackets}
+use Rattle.rows.specs.Rows.{putRow, rowIn}
+use Rattle.rows.specs.Step.{putStep, stepAt, stepOf, stepRow}
+use Rattle.step.specs.Arrival.{countsOn, flagged, inStep, takenOf}
+use Rattle.step.specs.Run.{begunRun, gainedRun, inStepAt, runOn, secondRun}
+
+abbrev nines : ℕ → List ℕ
+nines n = replicate n 9
+
+abbrev group : ℕ → ℕ → Group
+group gathered oldest =
+    record {
+      spare = replicate 4 0;
+      kind = 0;
+      count = 2;
+      payload = 2;
+      window = 16;
+      begun = 1;
+      gathered = gathered;
+      oldest = oldest;
+      origin = 0;
+      «rs_ack» = 1;
+    }
+
+-- Epoch 58 begins with tag 920, epoch 0 with 4,088. With the oldest epoch gathered it is the next to be reported, else the one after it.
+tags-and-epochs :
+    (tagIn (group 1 58) 3 ≡ 923)
+    × (tagIn (group 1 0) 10 ≡ 2)
+    × (tagBack 0 5 0 ≡ 4)
+    × (tagBack 0 5 2 ≡ 2)
+    × (tagBack 0 1 1 ≡ 4095)
+    × (successive 0 254 3 ≡ 254 ∷ 255 ∷ 0 ∷ [])
+    × (nextReport (group 1 58) ≡ 58)
+    × (nextReport (group 0 58) ≡ 59)
+    × (nextReport (group 0 255) ≡ 0)
+    × (packetHeard 0 (tabulate 20 (λ d. (15 - d) * 16)) ≡ tabulate 16 (λ k. k))
+unfolding epochAfter epochs firstTag frames lead nibbleIn tagBefore tagIn tags
+tags-and-epochs = (refl, refl, refl, refl, refl, refl, refl, refl, refl, refl)
+
+-- a frame to the step record: not one refused with 1 or 9, nor one outside the window, 11
+heard :
+    (isHeard 0 ≡ true) × (isHeard 1 ≡ false) × (isHeard 9 ≡ false) × (isHeard 10 ≡ true) × (isHeard 11 ≡ false) × (isHeard 12 ≡ true)
+heard = (refl, refl, refl, refl, refl, refl)
+
+abbrev fresh : Receiver
+fresh = startedWith 0 2 2 16 [] [] (replicate 11 (replicate 16 0)) (nines 96)
+
+-- port 1's frames that are heard, the latest first: not port 0's, and none with a payload of 3; a fetch is no frame
+calls :
+    (heardOf 1 fresh (Frame 1 false 0x30 (nines 2) ∷ Frame 0 false 0x40 (nines 2) ∷ Fetch (nines 64) (nines 8) ∷ Frame 1 false 0x61 (nines 3) ∷ Frame 1 false 0x51 (nines 2) ∷ []) [] ≡ 0x51 ∷ 0x30 ∷ [])
+    × (stepAt (receiverRun fresh (Frame 1 false 0x30 (nines 2) ∷ Frame 1 false 0x51 (nines 2) ∷ []) .rows) 1 .next ≡ 850)
+    × (stepAt (receiverRun fresh (Frame 1 false 0x30 (nines 2) ∷ Frame 1 false 0x51 (nines 2) ∷ []) .rows) 0 .count ≡ 0)
+    × (reportsOf fresh (Frame 1 false 0x30 (nines 2) ∷ Fetch (nines 64) (nines 8) ∷ []) ≡ [])
+    × (gives fresh (nines 64) (nines 8) ≡ false)
+    × (ackIn (fresh .rows) ≡ 0)
+    × (stopsWith (fresh .rows) 1 true 0 (nines 2) (nines 96) ≡ false)
+unfolding beginBy begins begunRun carriesLow countsOn dueIn fetchFits fetchRows fits flagged frameAnswer frameFits frameRows frameStore frames freshPort freshPorts gainedRun gatherBy groupAt groupOf groupRow inStep inStepAt outputFor portRows portsIn putGroup putMarks putMember putPackets putRow putStep ready refusalBy rowIn rowsFit rowsIfDue runOn secondRun settledBy settledOf sized sizedFits sizedRows startAsRows startFits startRight startsCount stepAt stepOf stepRow stopBy storeBy storeFor tagByHigh tagByLow tags takenOf takenRows takenStore timesWithin
+calls = (refl, refl, refl, refl, refl, refl, refl)
+
+-- what two calls answer and leave
+outcomes :
+    outcomesOf fresh (Frame 1 true 0x30 (nines 2) ∷ Fetch (nines 64) (nines 8) ∷ Fetch (nines 63) (nines 8) ∷ [])
+    ≡ record { answer = 10; store = nines 96; out = []; report = [] }
+    ∷ record { answer = 0; store = nines 96; out = nines 64; report = replicate 8 0 }
+    ∷ record { answer = 9; store = nines 96; out = nines 63; report = nines 8 }
+    ∷ []
+unfolding beginBy begins dueIn fetchAnswer fetchFits fetchOut fetchRecord fetchRows fits flagged frameAnswer frameFits frameRows frameStore frames freshPort freshPorts gatherBy groupAt groupOf groupRow outIfDue outputFor portRows portsIn putGroup putMarks putMember putPackets putRow putStep ready recordOf refusalBy reportIfDue rowIn rowsFit rowsIfDue settledBy settledOf sized sizedFits sizedRows startAsRows startFits startRight stepAt stepOf stepRow stopBy storeBy storeFor tags takenOf takenRows takenStore timesWithin
+outcomes = refl
+
+-- a port's state, its number, its times and the counter
+standing : heldIn (memberAt (startedWith 0 2 2 16 (3 ∷ 4 ∷ []) (5 ∷ 6 ∷ []) (replicate 11 (replicate 16 0)) (nines 96) .rows) 1) ≡ 0 ∷ 255 ∷ 4 ∷ 6 ∷ 0 ∷ []
+unfolding frames freshPort freshPorts idleNumber memberAt memberOf memberRow putGroup putMarks putMember putPackets putRow putStep rowIn sized sizedFits sizedRows startAsRows startFits startRight tags timesWithin
+standing = refl
