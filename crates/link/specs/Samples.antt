@@ -3,7 +3,7 @@
 pub mod Members
 pub mod Met
 pub mod Computing
-mod Tracing
+pub mod Tracing
 pub mod Reports
 mod TooWide
 mod ShutOut

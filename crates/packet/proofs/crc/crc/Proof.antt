@@ -5,64 +5,64 @@ use Rattle.packet.proofs.crc.crc.Statement.{statement}
 use Rattle.packet.proofs.crc.crc.Tie as tie
 
 array-read-byte-of : tie.Need-array-read-byte-of
-array-read-byte-of c = omega (arith, c .good)
+array-read-byte-of c = omega arith
 
 array-read-byte-of-2 : tie.Need-array-read-byte-of-2
-array-read-byte-of-2 c = omega (arith, c .good)
+array-read-byte-of-2 c = omega arith
 
 byte-of-requires : tie.Need-byte-of-requires
 byte-of-requires c κs = omega arith
 
 array-read-byte-of-3 : tie.Need-array-read-byte-of-3
-array-read-byte-of-3 c = omega (arith, c .before .good)
+array-read-byte-of-3 c = omega arith
 
 array-read-byte-of-4 : tie.Need-array-read-byte-of-4
-array-read-byte-of-4 c = omega (arith, c .before .good)
+array-read-byte-of-4 c = omega arith
 
 byte-of-requires-2 : tie.Need-byte-of-requires-2
 byte-of-requires-2 c κs = omega arith
 
 array-read-byte-of-5 : tie.Need-array-read-byte-of-5
-array-read-byte-of-5 c = omega (arith, c .before .before .good)
+array-read-byte-of-5 c = omega arith
 
 array-read-byte-of-6 : tie.Need-array-read-byte-of-6
-array-read-byte-of-6 c = omega (arith, c .before .before .good)
+array-read-byte-of-6 c = omega arith
 
 byte-of-requires-3 : tie.Need-byte-of-requires-3
 byte-of-requires-3 c κs = omega arith
 
 array-read-byte-of-7 : tie.Need-array-read-byte-of-7
-array-read-byte-of-7 c = omega (arith, c .before .before .before .good)
+array-read-byte-of-7 c = omega arith
 
 array-read-byte-of-8 : tie.Need-array-read-byte-of-8
-array-read-byte-of-8 c = omega (arith, c .before .before .before .good)
+array-read-byte-of-8 c = omega arith
 
 byte-of-requires-4 : tie.Need-byte-of-requires-4
 byte-of-requires-4 c κs = omega arith
 
 array-read-byte-of-9 : tie.Need-array-read-byte-of-9
-array-read-byte-of-9 c = omega (arith, c .before .before .before .before .good)
+array-read-byte-of-9 c = omega arith
 
 array-read-byte-of-10 : tie.Need-array-read-byte-of-10
-array-read-byte-of-10 c = omega (arith, c .before .before .before .before .good)
+array-read-byte-of-10 c = omega arith
 
 byte-of-requires-5 : tie.Need-byte-of-requires-5
 byte-of-requires-5 c κs = omega arith
 
 array-read-byte-of-11 : tie.Need-array-read-byte-of-11
-array-read-byte-of-11 c = omega (arith, c .before .before .before .before .before .good)
+array-read-byte-of-11 c = omega arith
 
 array-read-byte-of-12 : tie.Need-array-read-byte-of-12
-array-read-byte-of-12 c = omega (arith, c .before .before .before .before .before .good)
+array-read-byte-of-12 c = omega arith
 
 byte-of-requires-6 : tie.Need-byte-of-requires-6
 byte-of-requires-6 c κs = omega arith
 
 array-read-byte-of-13 : tie.Need-array-read-byte-of-13
-array-read-byte-of-13 c = omega (arith, c .before .before .before .before .before .before .good)
+array-read-byte-of-13 c = omega arith
 
 array-read-byte-of-14 : tie.Need-array-read-byte-of-14
-array-read-byte-of-14 c = omega (arith, c .before .before .before .before .before .before .good)
+array-read-byte-of-14 c = omega arith
 
 byte-of-requires-7 : tie.Need-byte-of-requires-7
 byte-of-requires-7 c κs = omega arith

@@ -12,6 +12,28 @@ returns : tie.Need-returns
 unfolding readAnswer
 returns c = rw (ne-eqb _ 16 (c .if1 .taken)) refl
 
+-- the place of the test on the length, seen from behind each byte
+abbrev test1 : tie.After-byte-of → tie.Else1
+test1 c = c .before .before .before
+
+abbrev test2 : tie.After-byte-of2 → tie.Else1
+test2 c = test1 (c .before .before .before)
+
+abbrev test3 : tie.After-byte-of3 → tie.Else1
+test3 c = test2 (c .before .before .before)
+
+abbrev test4 : tie.After-byte-of4 → tie.Else1
+test4 c = test3 (c .before .before .before)
+
+abbrev test5 : tie.After-byte-of5 → tie.Else1
+test5 c = test4 (c .before .before .before)
+
+abbrev test6 : tie.After-byte-of6 → tie.Else1
+test6 c = test5 (c .before .before .before)
+
+abbrev test7 : tie.After-byte-of7 → tie.Else1
+test7 c = test6 (c .before .before .before)
+
 shared-slice-read-byte-of : tie.Need-shared-slice-read-byte-of
 shared-slice-read-byte-of c = omega (arith, c .before .if1 .left)
 
@@ -22,64 +44,64 @@ byte-of-requires : tie.Need-byte-of-requires
 byte-of-requires c κs = omega arith
 
 shared-slice-read-byte-of-3 : tie.Need-shared-slice-read-byte-of-3
-shared-slice-read-byte-of-3 c = omega (arith, c .before .before .before .before .if1 .left)
+shared-slice-read-byte-of-3 c = omega (arith, test1 (c .before) .if1 .left)
 
 shared-slice-read-byte-of-4 : tie.Need-shared-slice-read-byte-of-4
-shared-slice-read-byte-of-4 c = omega (arith, c .before .before .before .before .before .if1 .left)
+shared-slice-read-byte-of-4 c = omega (arith, test1 (c .before .before) .if1 .left)
 
 byte-of-requires-2 : tie.Need-byte-of-requires-2
 byte-of-requires-2 c κs = omega arith
 
 shared-slice-read-byte-of-5 : tie.Need-shared-slice-read-byte-of-5
-shared-slice-read-byte-of-5 c = omega (arith, c .before .before .before .before .before .before .before .if1 .left)
+shared-slice-read-byte-of-5 c = omega (arith, test2 (c .before) .if1 .left)
 
 shared-slice-read-byte-of-6 : tie.Need-shared-slice-read-byte-of-6
-shared-slice-read-byte-of-6 c = omega (arith, c .before .before .before .before .before .before .before .before .if1 .left)
+shared-slice-read-byte-of-6 c = omega (arith, test2 (c .before .before) .if1 .left)
 
 byte-of-requires-3 : tie.Need-byte-of-requires-3
 byte-of-requires-3 c κs = omega arith
 
 shared-slice-read-byte-of-7 : tie.Need-shared-slice-read-byte-of-7
-shared-slice-read-byte-of-7 c = omega (arith, c .before .before .before .before .before .before .before .before .before .before .if1 .left)
+shared-slice-read-byte-of-7 c = omega (arith, test3 (c .before) .if1 .left)
 
 shared-slice-read-byte-of-8 : tie.Need-shared-slice-read-byte-of-8
-shared-slice-read-byte-of-8 c = omega (arith, c .before .before .before .before .before .before .before .before .before .before .before .if1 .left)
+shared-slice-read-byte-of-8 c = omega (arith, test3 (c .before .before) .if1 .left)
 
 byte-of-requires-4 : tie.Need-byte-of-requires-4
 byte-of-requires-4 c κs = omega arith
 
 shared-slice-read-byte-of-9 : tie.Need-shared-slice-read-byte-of-9
-shared-slice-read-byte-of-9 c = omega (arith, c .before .before .before .before .before .before .before .before .before .before .before .before .before .if1 .left)
+shared-slice-read-byte-of-9 c = omega (arith, test4 (c .before) .if1 .left)
 
 shared-slice-read-byte-of-10 : tie.Need-shared-slice-read-byte-of-10
-shared-slice-read-byte-of-10 c = omega (arith, c .before .before .before .before .before .before .before .before .before .before .before .before .before .before .if1 .left)
+shared-slice-read-byte-of-10 c = omega (arith, test4 (c .before .before) .if1 .left)
 
 byte-of-requires-5 : tie.Need-byte-of-requires-5
 byte-of-requires-5 c κs = omega arith
 
 shared-slice-read-byte-of-11 : tie.Need-shared-slice-read-byte-of-11
-shared-slice-read-byte-of-11 c = omega (arith, c .before .before .before .before .before .before .before .before .before .before .before .before .before .before .before .before .if1 .left)
+shared-slice-read-byte-of-11 c = omega (arith, test5 (c .before) .if1 .left)
 
 shared-slice-read-byte-of-12 : tie.Need-shared-slice-read-byte-of-12
-shared-slice-read-byte-of-12 c = omega (arith, c .before .before .before .before .before .before .before .before .before .before .before .before .before .before .before .before .before .if1 .left)
+shared-slice-read-byte-of-12 c = omega (arith, test5 (c .before .before) .if1 .left)
 
 byte-of-requires-6 : tie.Need-byte-of-requires-6
 byte-of-requires-6 c κs = omega arith
 
 shared-slice-read-byte-of-13 : tie.Need-shared-slice-read-byte-of-13
-shared-slice-read-byte-of-13 c = omega (arith, c .before .before .before .before .before .before .before .before .before .before .before .before .before .before .before .before .before .before .before .if1 .left)
+shared-slice-read-byte-of-13 c = omega (arith, test6 (c .before) .if1 .left)
 
 shared-slice-read-byte-of-14 : tie.Need-shared-slice-read-byte-of-14
-shared-slice-read-byte-of-14 c = omega (arith, c .before .before .before .before .before .before .before .before .before .before .before .before .before .before .before .before .before .before .before .before .if1 .left)
+shared-slice-read-byte-of-14 c = omega (arith, test6 (c .before .before) .if1 .left)
 
 byte-of-requires-7 : tie.Need-byte-of-requires-7
 byte-of-requires-7 c κs = omega arith
 
 shared-slice-read-byte-of-15 : tie.Need-shared-slice-read-byte-of-15
-shared-slice-read-byte-of-15 c = omega (arith, c .before .before .before .before .before .before .before .before .before .before .before .before .before .before .before .before .before .before .before .before .before .before .if1 .left)
+shared-slice-read-byte-of-15 c = omega (arith, test7 (c .before) .if1 .left)
 
 shared-slice-read-byte-of-16 : tie.Need-shared-slice-read-byte-of-16
-shared-slice-read-byte-of-16 c = omega (arith, c .before .before .before .before .before .before .before .before .before .before .before .before .before .before .before .before .before .before .before .before .before .before .before .if1 .left)
+shared-slice-read-byte-of-16 c = omega (arith, test7 (c .before .before) .if1 .left)
 
 byte-of-requires-8 : tie.Need-byte-of-requires-8
 byte-of-requires-8 c κs = omega arith
