@@ -3,6 +3,7 @@
 pub mod Members
 pub mod Met
 pub mod Computing
+pub mod Tracing
 pub mod Reports
 mod TooWide
 mod ShutOut

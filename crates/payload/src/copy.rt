@@ -20,11 +20,18 @@ fn by_bytes(from: &[u8], at: usize, n: usize, place: usize, to: &mut [u8])
     }
 }
 
+// An array for a run to go through, of which only the length is known.
+fn blank() -> [u8; 2340]
+    ensures { λ r. ⌜ length r ≡ PAYLOAD-MOST ⌝ }
+{
+    [0; 2340]
+}
+
 fn at_once(from: &[u8], at: usize, n: usize, place: usize, to: &mut [u8])
     requires { ⌜ (n ≤ PAYLOAD-MOST) × (at + n ≤ length (now from)) × (place + n ≤ length (now to)) ⌝ }
     ensures { λ _. ⌜ now (to .exit) ≡ fillAt place n (λ j. getD (now (from .entry)) (at + j) 0) (now (to .entry)) ⌝ }
 {
-    let mut run = [0; 2340];
+    let mut run = blank();
     by_bytes(from, at, n, 0, &mut run);
     by_bytes(&run, 0, n, place, to);
 }

@@ -1,5 +1,5 @@
 -- MFI2 damaged (request 2026-04): in both nibbles right after receiving has begun, which demand 3 lets be, and in one before it, which it does not. All else is as in the sample.
-use mathlib.Core.Path.{_≡_, refl}
+use mathlib.Core.Path.{_≡_, refl, ap}
 use mathlib.Core.Logic.{⊎-elim, inl, inr}
 use mathlib.Core.Bool.{Bool, true, false, cond, _&&_}
 use mathlib.Core.List.{List, [], _∷_}
@@ -7,7 +7,7 @@ use Prim.Native.Nat.{ℕ, zero, suc, _+_, _-_, _*_, _/_, _%_, _≤_, _<_}
 use native.Mathlib.Omega.{arith}
 use borrow.Author.Tests.{eqb-true, ltb-true}
 use lib.Dec.{eqb, ltb}
-use lib.ListN.{getD, length, length-replicate}
+use lib.ListN.{getD, length, length-replicate, replicate}
 use Rattle.counting.specs.Words.{every}
 use Rattle.ground.specs.Finite.{below-at}
 use Rattle.ground.specs.Table.{length-tabulate}
@@ -31,6 +31,7 @@ use Rattle.link.specs.Samples.Computing.{outcome}
 use Rattle.link.specs.Samples.Members.{came, client, history, linkOf, output, sent, unranked}
 use Rattle.link.specs.Samples.Met.{allowed, arrived, number-kept, once, only, spread-4}
 use Rattle.link.specs.Samples.Reports.{held, reportsWith}
+use Rattle.link.specs.Samples.Tracing.{begun-by, course, drainedBy, outcome-by, traced, turnBy, turnsBy}
 use Rattle.link.specs.Sending.{epochAt, epochNumber, nibblesIn}
 use Rattle.link.specs.Theorems.{demand3}
 
@@ -195,8 +196,8 @@ holds-after = demand3 after met-after
 
 -- Its run is the sample's but for the second report, which is held for the packet that rules it. No frame is answered otherwise than by 0 or 12.
 run-after : outcome after 180 ≡ record { begun = 1; told = reportsWith (held 255); strange = [] }
-unfolding outcome
-run-after = refl
+unfolding outcome course traced turnsBy turnBy drainedBy
+run-after = outcome-by after 180 _ refl
 
 -- A wrong reading: an epoch held for the MFI2 of a packet of its own. The first epoch reported is ruled by packets that came as sent, so demand 3 wants it sure.
 wrong-mark : Link → ℕ → ℕ
@@ -240,7 +241,15 @@ not-spared a =
     let same : _≡_ {A = ℕ} 10 11 = e (inr refl) in
     absurd (omega arith)
 
+-- before which frame times receiving had begun, the last one first
+before-begun : course before 88 .begun ≡ 1 ∷ replicate 88 0
+unfolding outcome course traced turnsBy turnBy drainedBy
+before-begun = refl
+
 -- The count of port 1 starts anew, and 47 frames after the last port's first receiving has not begun.
 late-then : (outcome before 68 .begun ≡ 0) × (outcome before 87 .begun ≡ 0) × (outcome before 88 .begun ≡ 1)
-unfolding outcome
-late-then = (refl, refl, refl)
+late-then = (
+  begun-by before 88 68 0 (omega arith) (ap (λ (l : List ℕ). getD l 20 0) before-begun),
+  begun-by before 88 87 0 (omega arith) (ap (λ (l : List ℕ). getD l 1 0) before-begun),
+  begun-by before 88 88 1 (omega arith) (ap (λ (l : List ℕ). getD l 0 0) before-begun),
+)

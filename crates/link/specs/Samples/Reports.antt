@@ -1,14 +1,16 @@
 -- The run of the sample link, computed to its reports.
-use mathlib.Core.Path.{_≡_, refl}
-use mathlib.Core.List.{List, [], _∷_}
+use mathlib.Core.Path.{_≡_, refl, ap}
+use mathlib.Core.List.{List, [], _∷_, _++_}
 use Prim.Native.Nat.{ℕ, _+_}
-use lib.ListN.{drop, length}
+use native.Mathlib.Omega.{arith}
+use lib.ListN.{drop, getD, length, replicate}
 use Rattle.ground.specs.Table.{tabulate}
 use Rattle.judge.specs.Verdict.{HELD, SURE}
 use Rattle.link.specs.Link.{expected}
 use Rattle.link.specs.Told.{Told}
 use Rattle.link.specs.Samples.Computing.{outcome}
 use Rattle.link.specs.Samples.Members.{link, output}
+use Rattle.link.specs.Samples.Tracing.{Course, begun-by, course, drainedBy, outcome-by, traced, turnBy, turnsBy}
 
 abbrev pub sure : ℕ → List ℕ → Told
 sure e bytes = record { epoch = e; mark = SURE; bytes = bytes; rest = drop (length bytes) output }
@@ -30,15 +32,21 @@ reportsWith second =
 unfoldable pub reports : List Told
 reports = reportsWith (sure 255 (192 ∷ 193 ∷ 194 ∷ 195 ∷ 196 ∷ 197 ∷ 198 ∷ 199 ∷ 200 ∷ 201 ∷ 202 ∷ 203 ∷ 204 ∷ 205 ∷ 206 ∷ 207 ∷ 208 ∷ 209 ∷ 210 ∷ 211 ∷ 212 ∷ 213 ∷ 214 ∷ 215 ∷ 216 ∷ 217 ∷ 218 ∷ 219 ∷ 220 ∷ 221 ∷ 222 ∷ 223 ∷ []))
 
+-- The run, computed once: its outcome after frame time 179, and before which frame times receiving had begun, the last one first.
+whole : course link 180 ≡ record { outcome = record { begun = 1; told = reports; strange = [] }; begun = replicate 125 1 ++ replicate 56 0 }
+unfolding outcome course traced turnsBy turnBy drainedBy reports
+whole = refl
+
 -- The last port's first frame comes in frame time 21. Receiving begins in frame time 55, at the 35th frame from that one.
 begins : (outcome link 55 .begun ≡ 0) × (outcome link 56 .begun ≡ 1)
-unfolding outcome
-begins = (refl, refl)
+begins = (
+  begun-by link 180 55 0 (omega arith) (ap (λ (c : Course). getD (c .begun) 125 0) whole),
+  begun-by link 180 56 1 (omega arith) (ap (λ (c : Course). getD (c .begun) 124 0) whole),
+)
 
 -- One member, two, one that has failed left out, two again, one held, and one after the removal. The output beyond their bytes is as it was lent, and where one is held all of it. No frame is answered otherwise than by 0 or 12.
 pub run : outcome link 180 ≡ record { begun = 1; told = reports; strange = [] }
-unfolding outcome reports
-run = refl
+run = outcome-by link 180 _ (ap (λ (c : Course). c .outcome) whole)
 
 -- the reports that demand 3 says are to come
 pub as-expected : tabulate 6 (λ j. expected link (4 + j) (link .output j)) ≡ reports

@@ -1,15 +1,15 @@
 use mathlib.Core.Path.{refl, sym, _∙_}
 use lib.ListN.{length}
-use borrow.Author.Needs.{needs}
+use native.Mathlib.Omega.{arith}
 use Rattle.payload.specs.Laws.Fits.{whole-fits}
 use Rattle.payload.proofs.join.Statement.{statement}
 use Rattle.payload.proofs.join.Tie as tie
 
 whole-requires : tie.Need-whole-requires
-whole-requires c κs = search needs
+whole-requires c κs = omega arith
 
 enum-told : tie.Need-enum-told
-enum-told c = search needs
+enum-told c = omega arith
 
 join-requires : tie.Need-join-requires
 join-requires c κs =
@@ -18,13 +18,13 @@ join-requires c κs =
     (f .from-is, f .to-is)
 
 enum-told-2 : tie.Need-enum-told-2
-enum-told-2 c = search needs
+enum-told-2 c = omega arith
 
 enum-told-3 : tie.Need-enum-told-3
-enum-told-3 c = search needs
+enum-told-3 c = omega arith
 
 same-length : tie.Need-same-length
-same-length c = search needs
+same-length c = omega arith
 
 returns : tie.Need-returns
 returns c = rw (sym (c .before .before .before .before .before .before .whole .ensures) ∙ c .before .before .before .before .enum-told .given .1) (refl, c .before .before .join .ensures)

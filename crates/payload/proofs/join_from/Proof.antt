@@ -1,37 +1,40 @@
+-- `join_from` meets its contract: the answer by the sizes, and under 0 the joined frame.
 use mathlib.Core.Path.{refl, sym, _∙_}
 use native.Mathlib.Omega.{arith}
 use lib.ListN.{length}
-use borrow.Author.Needs.{needs}
 use Rattle.payload.specs.Laws.Fits.{from-fits}
 use Rattle.payload.proofs.join_from.Statement.{statement}
 use Rattle.payload.proofs.join_from.Tie as tie
 
 slice-aggregate-from : tie.Need-slice-aggregate-from
-slice-aggregate-from c = search needs
+slice-aggregate-from c = omega arith
 
 from-requires : tie.Need-from-requires
-from-requires c κs = search needs
+from-requires c κs = omega arith
 
 enum-told : tie.Need-enum-told
-enum-told c = search needs
+enum-told c = omega arith
 
 slice-aggregate-join-from : tie.Need-slice-aggregate-join-from
-slice-aggregate-join-from c = search needs
+slice-aggregate-join-from c = omega arith
 
 join-from-requires : tie.Need-join-from-requires
 join-from-requires c κs =
-    let a = c .before .before .before .before .before .before .before .before .args in
-    let f = from-fits (a .x) (a .p) (a .t3) (length (a .store .now)) (a .place) (length (a .out .now)) (sym (c .before .before .before .before .from .ensures) ∙ c .before .before .enum-told .given .1) in
+    let at-enum-told = c .before .before in
+    let at-from = at-enum-told .before .before in
+    let at-start = at-from .before .before .before .before in
+    let a = at-start .args in
+    let f = from-fits (a .x) (a .p) (a .t3) (length (a .store .now)) (a .place) (length (a .out .now)) (sym (at-from .from .ensures) ∙ at-enum-told .enum-told .given .1) in
     (omega arith, f .members-in, f .frame-in)
 
 enum-told-2 : tie.Need-enum-told-2
-enum-told-2 c = search needs
+enum-told-2 c = omega arith
 
 enum-told-3 : tie.Need-enum-told-3
-enum-told-3 c = search needs
+enum-told-3 c = omega arith
 
 same-length : tie.Need-same-length
-same-length c = search needs
+same-length c = omega arith
 
 returns : tie.Need-returns
 returns c = rw (sym (c .before .before .before .before .before .before .before .from .ensures) ∙ c .before .before .before .before .before .enum-told .given .1) (refl, c .before .before .join-from .ensures)

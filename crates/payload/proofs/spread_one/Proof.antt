@@ -1,15 +1,15 @@
 use mathlib.Core.Path.{refl, sym, _∙_}
 use lib.ListN.{length}
-use borrow.Author.Needs.{needs}
+use native.Mathlib.Omega.{arith}
 use Rattle.payload.specs.Laws.Fits.{one-fits}
 use Rattle.payload.proofs.spread_one.Statement.{statement}
 use Rattle.payload.proofs.spread_one.Tie as tie
 
 one-requires : tie.Need-one-requires
-one-requires c κs = search needs
+one-requires c κs = omega arith
 
 enum-told : tie.Need-enum-told
-enum-told c = search needs
+enum-told c = omega arith
 
 spread-one-requires : tie.Need-spread-one-requires
 spread-one-requires c κs =
@@ -18,13 +18,13 @@ spread-one-requires c κs =
     (f .frame-is, f .member-is)
 
 enum-told-2 : tie.Need-enum-told-2
-enum-told-2 c = search needs
+enum-told-2 c = omega arith
 
 enum-told-3 : tie.Need-enum-told-3
-enum-told-3 c = search needs
+enum-told-3 c = omega arith
 
 same-length : tie.Need-same-length
-same-length c = search needs
+same-length c = omega arith
 
 returns : tie.Need-returns
 returns c = rw (sym (c .before .before .before .before .before .before .one .ensures) ∙ c .before .before .before .before .enum-told .given .1) (refl, c .before .before .spread-one .ensures)

@@ -1,11 +1,11 @@
 use mathlib.Core.Path.{refl}
 use Rattle.packet.specs.Counts.{nibblePlace}
-use borrow.Author.Needs.{needs}
+use native.Mathlib.Omega.{arith}
 use Rattle.packet.proofs.counts.nibble_place.Statement.{statement}
 use Rattle.packet.proofs.counts.nibble_place.Tie as tie
 
 add-result : tie.Need-add-result
-add-result c = search needs
+add-result c = omega arith
 
 returns : tie.Need-returns
 unfolding nibblePlace

@@ -1,17 +1,17 @@
 use mathlib.Core.Path.{refl}
 use Rattle.packet.specs.Counts.{tagByHigh}
-use borrow.Author.Needs.{needs}
+use native.Mathlib.Omega.{arith}
 use Rattle.packet.proofs.counts.tag_by_high.Statement.{statement}
 use Rattle.packet.proofs.counts.tag_by_high.Tie as tie
 
 cast-result : tie.Need-cast-result
-cast-result c = search needs
+cast-result c = omega arith
 
 mul-result : tie.Need-mul-result
-mul-result c = search needs
+mul-result c = omega arith
 
 add-result : tie.Need-add-result
-add-result c = search needs
+add-result c = omega arith
 
 returns : tie.Need-returns
 unfolding tagByHigh

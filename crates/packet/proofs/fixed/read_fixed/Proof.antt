@@ -1,7 +1,7 @@
 use mathlib.Core.Path.{refl}
+use native.Mathlib.Omega.{arith}
 use borrow.Author.Tests.{eq-eqb, ne-eqb}
 use Rattle.packet.specs.Fixed.{readFixedAnswer}
-use borrow.Author.Needs.{needs}
 use Rattle.packet.proofs.fixed.read_fixed.Statement.{statement}
 use Rattle.packet.proofs.fixed.read_fixed.Tie as tie
 
@@ -10,10 +10,10 @@ unfolding readFixedAnswer
 returns c = rw (ne-eqb _ 16 (c .if1 .taken)) refl
 
 highs-of-requires : tie.Need-highs-of-requires
-highs-of-requires c κs = search needs
+highs-of-requires c κs = omega arith
 
 read-fixed-nibbles-requires : tie.Need-read-fixed-nibbles-requires
-read-fixed-nibbles-requires c κs = search needs
+read-fixed-nibbles-requires c κs = omega arith
 
 returns-2 : tie.Need-returns-2
 unfolding readFixedAnswer

@@ -1,5 +1,6 @@
+-- `write_fixed` meets its contract: 9, 8, and under 0 the sixteen H4 bytes. Each exit cites one law of Answers over plain numbers, in the order of the tests.
 use Rattle.packet.proofs.Answers.{fixed-done, fixed-epoch, fixed-length, fixed-sq}
-use borrow.Author.Needs.{needs}
+use native.Mathlib.Omega.{arith}
 use Rattle.packet.proofs.fixed.write_fixed.Statement.{statement}
 use Rattle.packet.proofs.fixed.write_fixed.Tie as tie
 
@@ -13,28 +14,35 @@ returns-3 : tie.Need-returns-3
 returns-3 c = fixed-sq _ _ _ (c .before .before .if1 .left) (c .before .if2 .left) (c .if3 .taken)
 
 cast-fixed-nibbles : tie.Need-cast-fixed-nibbles
-cast-fixed-nibbles c = search needs
+cast-fixed-nibbles c = omega arith
 
 cast-fixed-nibbles-2 : tie.Need-cast-fixed-nibbles-2
-cast-fixed-nibbles-2 c = search needs
+cast-fixed-nibbles-2 c = omega arith
 
 fixed-nibbles-requires : tie.Need-fixed-nibbles-requires
-fixed-nibbles-requires c κs = search needs
+fixed-nibbles-requires c κs = omega arith
 
 h4-of-requires : tie.Need-h4-of-requires
-h4-of-requires c κs = search needs
+h4-of-requires c κs = omega arith
 
 slice-aggregate-copy : tie.Need-slice-aggregate-copy
-slice-aggregate-copy c = search needs
+slice-aggregate-copy c = omega arith
 
 copy-requires : tie.Need-copy-requires
-copy-requires c κs = search needs
+copy-requires c κs = omega arith
 
 same-length : tie.Need-same-length
-same-length c = search needs
+same-length c = omega arith
 
 returns-4 : tie.Need-returns-4
-returns-4 c = fixed-done _ _ _ (c .before .before .before .before .before .before .before .before .before .if1 .left) (c .before .before .before .before .before .before .before .before .if2 .left) (c .before .before .before .before .before .before .before .if3 .left) _ _ _ (c .before .before .before .before .before .before .fixed-nibbles .ensures) (c .before .before .before .before .before .h4-of .ensures) (c .before .before .copy .ensures .1)
+returns-4 c =
+    let at-copy = c .before .before in
+    let at-h4-of = at-copy .before .before .before in
+    let at-fixed-nibbles = at-h4-of .before in
+    let at-if3 = at-fixed-nibbles .before in
+    let at-if2 = at-if3 .before in
+    let at-if1 = at-if2 .before in
+    fixed-done _ _ _ (at-if1 .if1 .left) (at-if2 .if2 .left) (at-if3 .if3 .left) _ _ _ (at-fixed-nibbles .fixed-nibbles .ensures) (at-h4-of .h4-of .ensures) (at-copy .copy .ensures .1)
 
 pub write-fixed-spec : {M : Type 1} → statement M
 write-fixed-spec =

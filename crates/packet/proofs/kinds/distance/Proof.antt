@@ -1,13 +1,12 @@
 use mathlib.Core.Path.{sym}
 use native.Mathlib.Omega.{arith}
-use borrow.Author.Needs.{needs}
 use Rattle.ground.specs.Circle.{after-only}
 use Rattle.packet.specs.Kinds.{distanceOf, tags}
 use Rattle.packet.proofs.kinds.distance.Statement.{statement}
 use Rattle.packet.proofs.kinds.distance.Tie as tie
 
 wrapping-sub-u16-requires : tie.Need-wrapping-sub-u16-requires
-wrapping-sub-u16-requires c κs = search needs
+wrapping-sub-u16-requires c κs = omega arith
 
 returns : tie.Need-returns
 unfolding distanceOf tags

@@ -1,14 +1,13 @@
 use native.Mathlib.Omega.{arith}
-use borrow.Author.Needs.{needs}
 use Rattle.packet.specs.Kinds.{epochOf, frames, tags, lead}
 use Rattle.packet.proofs.kinds.epoch_of.Statement.{statement}
 use Rattle.packet.proofs.kinds.epoch_of.Tie as tie
 
 add-result : tie.Need-add-result
-add-result c = search needs
+add-result c = omega arith
 
 cast-result : tie.Need-cast-result
-cast-result c = search needs
+cast-result c = omega arith
 
 returns : tie.Need-returns
 unfolding epochOf frames tags lead

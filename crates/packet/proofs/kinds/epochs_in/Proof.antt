@@ -1,11 +1,11 @@
 use mathlib.Core.Path.{refl}
 use Rattle.packet.specs.Kinds.{epochsIn, epochs, frames}
-use borrow.Author.Needs.{needs}
+use native.Mathlib.Omega.{arith}
 use Rattle.packet.proofs.kinds.epochs_in.Statement.{statement}
 use Rattle.packet.proofs.kinds.epochs_in.Tie as tie
 
 cast-result : tie.Need-cast-result
-cast-result c = search needs
+cast-result c = omega arith
 
 returns : tie.Need-returns
 unfolding epochsIn frames epochs

@@ -1,14 +1,13 @@
 use native.Mathlib.Omega.{arith}
-use borrow.Author.Needs.{needs}
 use Rattle.packet.specs.Kinds.{firstTag, frames, tags, lead}
 use Rattle.packet.proofs.kinds.first_tag.Statement.{statement}
 use Rattle.packet.proofs.kinds.first_tag.Tie as tie
 
 mul-result : tie.Need-mul-result
-mul-result c = search needs
+mul-result c = omega arith
 
 add-result : tie.Need-add-result
-add-result c = search needs
+add-result c = omega arith
 
 returns : tie.Need-returns
 unfolding firstTag frames tags lead

@@ -1,14 +1,14 @@
 use mathlib.Core.Path.{refl}
-use borrow.Author.Needs.{needs}
+use native.Mathlib.Omega.{arith}
 use Rattle.packet.specs.Kinds.{mstFails}
 use Rattle.packet.proofs.kinds.mst_fails.Statement.{statement}
 use Rattle.packet.proofs.kinds.mst_fails.Tie as tie
 
 sub-result : tie.Need-sub-result
-sub-result c = search needs
+sub-result c = omega arith
 
 shr-result : tie.Need-shr-result
-shr-result c = search needs
+shr-result c = omega arith
 
 returns : tie.Need-returns
 unfolding mstFails

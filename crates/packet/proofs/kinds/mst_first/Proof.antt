@@ -1,11 +1,10 @@
 use native.Mathlib.Omega.{arith}
-use borrow.Author.Needs.{needs}
 use Rattle.packet.specs.Kinds.{mstFirst}
 use Rattle.packet.proofs.kinds.mst_first.Statement.{statement}
 use Rattle.packet.proofs.kinds.mst_first.Tie as tie
 
 mul-result : tie.Need-mul-result
-mul-result c = search needs
+mul-result c = omega arith
 
 returns : tie.Need-returns
 unfolding mstFirst

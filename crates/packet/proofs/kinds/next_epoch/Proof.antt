@@ -1,11 +1,10 @@
 use native.Mathlib.Omega.{arith}
-use borrow.Author.Needs.{needs}
 use Rattle.packet.specs.Kinds.{epochAfter, epochs}
 use Rattle.packet.proofs.kinds.next_epoch.Statement.{statement}
 use Rattle.packet.proofs.kinds.next_epoch.Tie as tie
 
 wrapping-add-u8-requires : tie.Need-wrapping-add-u8-requires
-wrapping-add-u8-requires c κs = search needs
+wrapping-add-u8-requires c κs = omega arith
 
 returns : tie.Need-returns
 unfolding epochAfter epochs

@@ -1,11 +1,10 @@
 use native.Mathlib.Omega.{arith}
-use borrow.Author.Needs.{needs}
 use Rattle.packet.specs.Kinds.{tagAfter, tags}
 use Rattle.packet.proofs.kinds.next_tag.Statement.{statement}
 use Rattle.packet.proofs.kinds.next_tag.Tie as tie
 
 add-result : tie.Need-add-result
-add-result c = search needs
+add-result c = omega arith
 
 returns : tie.Need-returns
 unfolding tagAfter tags

@@ -1,11 +1,11 @@
 use mathlib.Core.Path.{refl}
-use borrow.Author.Needs.{needs}
+use native.Mathlib.Omega.{arith}
 use Rattle.packet.specs.Kinds.{startsEpoch}
 use Rattle.packet.proofs.kinds.starts_epoch.Statement.{statement}
 use Rattle.packet.proofs.kinds.starts_epoch.Tie as tie
 
 place-of-requires : tie.Need-place-of-requires
-place-of-requires c κs = search needs
+place-of-requires c κs = omega arith
 
 returns : tie.Need-returns
 unfolding startsEpoch

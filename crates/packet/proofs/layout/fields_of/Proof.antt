@@ -1,51 +1,51 @@
 use Prim.Native.Nat.{_%_}
 use lib.ListN.{getD}
-use borrow.Author.Needs.{needs}
+use native.Mathlib.Omega.{arith}
 use Rattle.packet.specs.Layout.{fieldsOf}
 use Rattle.packet.proofs.layout.fields_of.Statement.{statement}
 use Rattle.packet.proofs.layout.fields_of.Tie as tie
 
 array-read-byte-of : tie.Need-array-read-byte-of
-array-read-byte-of c = search needs
+array-read-byte-of c = omega arith
 
 array-read-byte-of-2 : tie.Need-array-read-byte-of-2
-array-read-byte-of-2 c = search needs
+array-read-byte-of-2 c = omega arith
 
 byte-of-requires : tie.Need-byte-of-requires
-byte-of-requires c κs = search needs
+byte-of-requires c κs = omega arith
 
 array-read-from-nibble : tie.Need-array-read-from-nibble
-array-read-from-nibble c = search needs
+array-read-from-nibble c = omega arith
 
 from-nibble-requires : tie.Need-from-nibble-requires
-from-nibble-requires c κs = search needs
+from-nibble-requires c κs = omega arith
 
 array-read-t16 : tie.Need-array-read-t16
-array-read-t16 c = search needs
+array-read-t16 c = omega arith
 
 array-read-byte-of-3 : tie.Need-array-read-byte-of-3
-array-read-byte-of-3 c = search needs
+array-read-byte-of-3 c = omega arith
 
 array-read-byte-of-4 : tie.Need-array-read-byte-of-4
-array-read-byte-of-4 c = search needs
+array-read-byte-of-4 c = omega arith
 
 byte-of-requires-2 : tie.Need-byte-of-requires-2
-byte-of-requires-2 c κs = search needs
+byte-of-requires-2 c κs = omega arith
 
 array-read-t27 : tie.Need-array-read-t27
-array-read-t27 c = search needs
+array-read-t27 c = omega arith
 
 array-read-byte-of-5 : tie.Need-array-read-byte-of-5
-array-read-byte-of-5 c = search needs
+array-read-byte-of-5 c = omega arith
 
 array-read-byte-of-6 : tie.Need-array-read-byte-of-6
-array-read-byte-of-6 c = search needs
+array-read-byte-of-6 c = omega arith
 
 byte-of-requires-3 : tie.Need-byte-of-requires-3
-byte-of-requires-3 c κs = search needs
+byte-of-requires-3 c κs = omega arith
 
 reserved-of-requires : tie.Need-reserved-of-requires
-reserved-of-requires c κs = search needs
+reserved-of-requires c κs = omega arith
 
 returns : tie.Need-returns
 unfolding fieldsOf

@@ -1,3 +1,4 @@
+use native.Mathlib.Omega.{arith}
 use borrow.Author.Needs.{needs}
 use Rattle.packet.proofs.Answers.{sealed-nibbles}
 use Rattle.packet.proofs.layout.nibbles_of.Statement.{statement}
@@ -7,13 +8,13 @@ data-of-requires : tie.Need-data-of-requires
 data-of-requires c κs = search needs
 
 crc-requires : tie.Need-crc-requires
-crc-requires c κs = search needs
+crc-requires c κs = omega arith
 
 array-write-nibbles : tie.Need-array-write-nibbles
-array-write-nibbles c = search needs
+array-write-nibbles c = omega arith
 
 array-write-nibbles-2 : tie.Need-array-write-nibbles-2
-array-write-nibbles-2 c = search needs
+array-write-nibbles-2 c = omega arith
 
 returns : tie.Need-returns
 returns c = sealed-nibbles _ _ _ (c .before .data-of .ensures) (c .crc .ensures)

@@ -1,38 +1,38 @@
 use mathlib.Core.Path.{refl}
 use Rattle.packet.specs.Ruling.{rulingOf}
-use borrow.Author.Needs.{needs}
+use native.Mathlib.Omega.{arith}
 use Rattle.packet.proofs.ruling.ruling_of.Statement.{statement}
 use Rattle.packet.proofs.ruling.ruling_of.Tie as tie
 
 read-nibbles-requires : tie.Need-read-nibbles-requires
-read-nibbles-requires c κs = search needs
+read-nibbles-requires c κs = omega arith
 
 enum-known-reading : tie.Need-enum-known-reading
-enum-known-reading c = search needs
+enum-known-reading c = omega arith
 
 enum-told : tie.Need-enum-told
-enum-told c = search needs
+enum-told c = omega arith
 
 refusal-requires : tie.Need-refusal-requires
-refusal-requires c κs = search needs
+refusal-requires c κs = omega arith
 
 enum-told-2 : tie.Need-enum-told-2
-enum-told-2 c = search needs
+enum-told-2 c = omega arith
 
 refusal-requires-2 : tie.Need-refusal-requires-2
-refusal-requires-2 c κs = search needs
+refusal-requires-2 c κs = omega arith
 
 enum-told-3 : tie.Need-enum-told-3
-enum-told-3 c = search needs
+enum-told-3 c = omega arith
 
 refusal-requires-3 : tie.Need-refusal-requires-3
-refusal-requires-3 c κs = search needs
+refusal-requires-3 c κs = omega arith
 
 enum-told-4 : tie.Need-enum-told-4
-enum-told-4 c = search needs
+enum-told-4 c = omega arith
 
 refusal-requires-4 : tie.Need-refusal-requires-4
-refusal-requires-4 c κs = search needs
+refusal-requires-4 c κs = omega arith
 
 returns : tie.Need-returns
 unfolding rulingOf

@@ -1,14 +1,13 @@
 use mathlib.Core.Path.{refl}
 use Prim.Native.Nat.{_<_}
 use native.Mathlib.Omega.{arith}
-use borrow.Author.Needs.{needs}
 use borrow.Author.Tests.{lt-ltb}
 use Rattle.packet.specs.Writing.{fitting}
 use Rattle.packet.proofs.writer.fits.Statement.{statement}
 use Rattle.packet.proofs.writer.fits.Tie as tie
 
 is-assigned-requires : tie.Need-is-assigned-requires
-is-assigned-requires c κs = search needs
+is-assigned-requires c κs = omega arith
 
 returns : tie.Need-returns
 unfolding fitting

@@ -1,12 +1,11 @@
 use mathlib.Core.Path.{sym, _∙_}
 use native.Mathlib.Omega.{arith}
-use borrow.Author.Needs.{needs}
 use Rattle.payload.specs.Laws.Fits.{sizes, frame-most}
 use Rattle.payload.proofs.answer.from.Statement.{statement}
 use Rattle.payload.proofs.answer.from.Tie as tie
 
 is-sized-requires : tie.Need-is-sized-requires
-is-sized-requires c κs = search needs
+is-sized-requires c κs = omega arith
 
 mul-ends-within : tie.Need-mul-ends-within
 mul-ends-within c =
@@ -15,7 +14,7 @@ mul-ends-within c =
     omega arith
 
 ends-within-requires : tie.Need-ends-within-requires
-ends-within-requires c κs = search needs
+ends-within-requires c κs = omega arith
 
 starts-fit-requires : tie.Need-starts-fit-requires
 starts-fit-requires c κs =
@@ -24,7 +23,7 @@ starts-fit-requires c κs =
     omega arith
 
 by-lengths-requires : tie.Need-by-lengths-requires
-by-lengths-requires c κs = search needs
+by-lengths-requires c κs = omega arith
 
 returns : tie.Need-returns
 returns c =

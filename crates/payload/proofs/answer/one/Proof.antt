@@ -1,18 +1,17 @@
 use mathlib.Core.Path.{sym, _∙_}
 use native.Mathlib.Omega.{arith}
-use borrow.Author.Needs.{needs}
 use Rattle.payload.specs.Laws.Fits.{sizes, frame-most}
 use Rattle.payload.proofs.answer.one.Statement.{statement}
 use Rattle.payload.proofs.answer.one.Tie as tie
 
 is-sized-requires : tie.Need-is-sized-requires
-is-sized-requires c κs = search needs
+is-sized-requires c κs = omega arith
 
 mul-n : tie.Need-mul-n
 mul-n c = let a = c .before .before .args in let s = frame-most (a .x) (a .p) (sizes (a .x) (a .p) (sym (c .before .is-sized .ensures) ∙ c .if1 .taken)) in omega arith
 
 by-lengths-requires : tie.Need-by-lengths-requires
-by-lengths-requires c κs = search needs
+by-lengths-requires c κs = omega arith
 
 returns : tie.Need-returns
 returns c = rw (← c .before .before .is-sized .ensures, c .before .if1 .taken) (c .by-lengths .ensures)

@@ -3,7 +3,6 @@ use Prim.Native.Nat.{_≤_, _-_}
 use mathlib.Core.Path.{_≡_, refl}
 use native.Mathlib.Omega.{arith}
 use native.Mathlib.Numerals.{add-one}
-use borrow.Author.Needs.{needs}
 use Rattle.payload.specs.Joining.{startsFit}
 use Rattle.payload.proofs.answer.starts_fit.Statement.{statement}
 use Rattle.payload.proofs.answer.starts_fit.Tie as tie
@@ -18,19 +17,19 @@ loop-holds : tie.Need-loop-holds Inv-loop μ-loop
 loop-holds c = (omega arith, refl)
 
 mul-ends-within : tie.Need-mul-ends-within Inv-loop μ-loop
-mul-ends-within c = search needs
+mul-ends-within c = omega arith
 
 shared-slice-read-ends-within : tie.Need-shared-slice-read-ends-within Inv-loop μ-loop
-shared-slice-read-ends-within c = search needs
+shared-slice-read-ends-within c = omega arith
 
 ends-within-requires : tie.Need-ends-within-requires Inv-loop μ-loop
-ends-within-requires c κs = search needs
+ends-within-requires c κs = omega arith
 
 add-r : tie.Need-add-r Inv-loop μ-loop
-add-r c = search needs
+add-r c = omega arith
 
 loop-less : tie.Need-loop-less Inv-loop μ-loop
-loop-less c = search needs
+loop-less c = omega arith
 
 loop-again : tie.Need-loop-again Inv-loop μ-loop
 loop-again c = (omega arith, rw (c .before .before .before .loop .inv .1, c .ends-within .ensures, add-one))

@@ -1,8 +1,8 @@
+-- `columns_from` meets its contract: eight columns of a tile are drawn, block by block.
 -- The invariant: of the eight columns the tile's lines before c are drawn, or all.
 use Prim.Native.Nat.{ℕ, _≤_, _-_, _+_, _%_, min}
 use mathlib.Core.Path.{_≡_}
 use native.Mathlib.Omega.{arith}
-use borrow.Author.Needs.{needs}
 use Rattle.ground.specs.Drawn.{Drawing, drawing-none}
 use Rattle.payload.specs.Inner.Area.{area}
 use Rattle.payload.specs.Joining.{startedByte}
@@ -30,7 +30,7 @@ loop-holds c =
     (omega arith, omega arith, omega arith, rw e (drawing-none _ _ _ (area-no-line _ _ _ _ 8)))
 
 start-requires : tie.Need-start-requires Inv-loop μ-loop
-start-requires c κs = search needs
+start-requires c κs = omega arith
 
 read-started-requires : tie.Need-read-started-requires Inv-loop μ-loop
 read-started-requires c κs =
@@ -43,20 +43,25 @@ add-c : tie.Need-add-c Inv-loop μ-loop
 add-c c = let b = inside (c .before .before .before .before .before) in omega arith
 
 loop-less : tie.Need-loop-less Inv-loop μ-loop
-loop-less c = search needs
+loop-less c = omega arith
 
 loop-again : tie.Need-loop-again Inv-loop μ-loop
 loop-again c =
-    let a = c .before .before .before .before .before .before .before .before .before .before .before .args in
+    let at-lay = c .before .before in
+    let at-read-started = at-lay .before .before in
+    let at-start = at-read-started .before in
+    let at-loop = at-start .before .before in
+    let at-entry = at-loop .before .before .before .before in
+    let a = at-entry .args in
     let m : ℕ → ℕ → ℕ = startedByte (a .starts .now) (a .store .now) in
-    let j = c .before .before .before .before .before .start .result in
-    let i = c .before .before .before .before .before .before .before .loop .c in (
+    let j = at-start .start .result in
+    let i = at-loop .loop .c in (
       omega arith,
       omega arith,
       omega arith,
-      let n = tile-next (a .p) (a .from) i j (c .before .before .before .before .before .before .before .before .before .before .before .pre .1) (c .before .before .before .before .before .before .before .loop .inv .0) (omega arith) (c .before .before .before .before .before .start .ensures) in
-          lines-more (a .x) (a .place) m (min (a .from) (a .p - 8)) (tileLines (a .p) (a .from) i) j 8 (tileLines (a .p) (a .from) (i + 8)) (a .r) 8 _ (n .after) (n .meets) (n .covers) (n .ends) (c .before .before .before .before .before .before .before .loop .inv .3)
-          (block-is (a .x) (a .place) m j (a .r) (c .before .before .before .before .read-started .result) (c .before .before .before .before .before .before .before .loop .out) _ (c .before .before .before .before .read-started .ensures) (c .before .before .lay .ensures)),
+      let n = tile-next (a .p) (a .from) i j (at-entry .pre .1) (at-loop .loop .inv .0) (omega arith) (at-start .start .ensures) in
+          lines-more (a .x) (a .place) m (min (a .from) (a .p - 8)) (tileLines (a .p) (a .from) i) j 8 (tileLines (a .p) (a .from) (i + 8)) (a .r) 8 _ (n .after) (n .meets) (n .covers) (n .ends) (at-loop .loop .inv .3)
+          (block-is (a .x) (a .place) m j (a .r) (at-read-started .read-started .result) (at-loop .loop .out) _ (at-read-started .read-started .ensures) (at-lay .lay .ensures)),
     )
 
 same-length : tie.Need-same-length Inv-loop μ-loop

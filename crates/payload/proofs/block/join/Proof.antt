@@ -1,9 +1,9 @@
+-- `join` meets its contract: the frame is drawn, eight lines at a time. The last eight may start before c, and draw some lines a second time (`lines-more`).
 -- The invariant: the lines below c are drawn.
 use Prim.Native.Nat.{ℕ, _≤_, _-_, _+_, _*_, min}
 use mathlib.Core.Path.{_≡_, _∙_}
 use native.Mathlib.Nat.{mul-le-mul-right, one-mul}
 use native.Mathlib.Omega.{arith}
-use borrow.Author.Needs.{needs}
 use Rattle.ground.specs.Drawn.{Drawing, drawing-none, fillAt-all}
 use Rattle.payload.specs.Inner.Area.{area}
 use Rattle.payload.specs.Joining.{rankedByte}
@@ -26,28 +26,34 @@ loop-holds c =
     (omega arith, rw e (drawing-none _ _ _ (area-no-line _ _ 0 0 _)))
 
 start-requires : tie.Need-start-requires Inv-loop μ-loop
-start-requires c κs = search needs
+start-requires c κs = omega arith
 
 lines-requires : tie.Need-lines-requires Inv-loop μ-loop
 lines-requires c κs = omega arith
 
 add-c : tie.Need-add-c Inv-loop μ-loop
 add-c c =
-    let a = c .before .before .before .before .before .before .before .before .before .args in
+    let at-loop = c .before .before .before .before .before .before in
+    let at-entry = at-loop .before .before .before in
+    let a = at-entry .args in
     let one : 1 ≤ a .x = omega arith in
     omega (arith, mul-le-mul-right (a .p) one, one-mul (a .p))
 
 loop-less : tie.Need-loop-less Inv-loop μ-loop
-loop-less c = search needs
+loop-less c = omega arith
 
 loop-again : tie.Need-loop-again Inv-loop μ-loop
 loop-again c =
-    let a = c .before .before .before .before .before .before .before .before .before .args in
-    let j = c .before .before .before .before .start .result in
-    let i = c .before .before .before .before .before .before .loop .c in
-    let e = c .before .before .before .before .start .ensures in (
+    let at-lines = c .before .before in
+    let at-start = at-lines .before .before in
+    let at-loop = at-start .before .before in
+    let at-entry = at-loop .before .before .before in
+    let a = at-entry .args in
+    let j = at-start .start .result in
+    let i = at-loop .loop .c in
+    let e = at-start .start .ensures in (
       omega arith,
-      lines-more (a .x) 0 (rankedByte (a .p) (a .members .now)) 0 (min i (a .p)) j 8 (min (i + 8) (a .p)) 0 (a .x) _ (omega arith) (omega arith) (omega arith) (omega arith) (c .before .before .before .before .before .before .loop .inv .1) (c .before .before .lines .ensures),
+      lines-more (a .x) 0 (rankedByte (a .p) (a .members .now)) 0 (min i (a .p)) j 8 (min (i + 8) (a .p)) 0 (a .x) _ (omega arith) (omega arith) (omega arith) (omega arith) (at-loop .loop .inv .1) (at-lines .lines .ensures),
     )
 
 same-length : tie.Need-same-length Inv-loop μ-loop

@@ -1,8 +1,8 @@
+-- `join_from` meets its contract: the frame is drawn, a tile of 64 lines at a time (`lines-more`).
 -- The invariant: the lines below c are drawn.
 use Prim.Native.Nat.{ℕ, _≤_, _-_, _+_, min}
 use mathlib.Core.Path.{_≡_}
 use native.Mathlib.Omega.{arith}
-use borrow.Author.Needs.{needs}
 use Rattle.ground.specs.Drawn.{Drawing, drawing-none}
 use Rattle.payload.specs.Inner.Area.{area}
 use Rattle.payload.specs.Joining.{startedByte}
@@ -28,7 +28,7 @@ add-least : tie.Need-add-least Inv-loop μ-loop
 add-least c = let b = block-in (c .before .before .before .before .before .args .x) (c .before .before .before .before .before .args .p) 0 0 (c .before .before .before .before .before .pre .0) (c .before .before .before .before .before .pre .1) in omega arith
 
 least-requires : tie.Need-least-requires Inv-loop μ-loop
-least-requires c κs = search needs
+least-requires c κs = omega arith
 
 tile-from-requires : tie.Need-tile-from-requires Inv-loop μ-loop
 tile-from-requires c κs =
@@ -36,20 +36,27 @@ tile-from-requires c κs =
     (h .0, h .1, omega arith, c .before .least .ensures, h .2, h .3, omega arith)
 
 add-c : tie.Need-add-c Inv-loop μ-loop
-add-c c = let b = block-in (c .before .before .before .before .before .before .before .before .before .before .args .x) (c .before .before .before .before .before .before .before .before .before .before .args .p) 0 0 (c .before .before .before .before .before .before .before .before .before .before .pre .0) (c .before .before .before .before .before .before .before .before .before .before .pre .1) in omega arith
+add-c c =
+    let at-loop = c .before .before .before .before .before .before in
+    let at-start = at-loop .before .before .before .before in
+    let b = block-in (at-start .args .x) (at-start .args .p) 0 0 (at-start .pre .0) (at-start .pre .1) in omega arith
 
 loop-less : tie.Need-loop-less Inv-loop μ-loop
-loop-less c = search needs
+loop-less c = omega arith
 
 loop-again : tie.Need-loop-again Inv-loop μ-loop
 loop-again c =
-    let a = c .before .before .before .before .before .before .before .before .before .before .args in
-    let to = c .before .before .before .before .least .result in
-    let i = c .before .before .before .before .before .before .loop .c in
+    let at-tile-from = c .before .before in
+    let at-least = at-tile-from .before .before in
+    let at-loop = at-least .before .before in
+    let at-start = at-loop .before .before .before .before in
+    let a = at-start .args in
+    let to = at-least .least .result in
+    let i = at-loop .loop .c in
     let l : ℕ = min i (a .p - 8) in
-    let e = c .before .before .before .before .least .ensures in (
+    let e = at-least .least .ensures in (
       omega arith,
-      lines-more (a .x) (a .place) (startedByte (a .starts .now) (a .store .now)) 0 (min i (a .p)) l (to - l) (min (i + 64) (a .p)) 0 (a .x) _ (omega arith) (omega arith) (omega arith) (omega arith) (c .before .before .before .before .before .before .loop .inv .1) (c .before .before .tile-from .ensures),
+      lines-more (a .x) (a .place) (startedByte (a .starts .now) (a .store .now)) 0 (min i (a .p)) l (to - l) (min (i + 64) (a .p)) 0 (a .x) _ (omega arith) (omega arith) (omega arith) (omega arith) (at-loop .loop .inv .1) (at-tile-from .tile-from .ensures),
     )
 
 same-length : tie.Need-same-length Inv-loop μ-loop

@@ -1,16 +1,16 @@
-use borrow.Author.Needs.{needs}
+use native.Mathlib.Omega.{arith}
 use Rattle.payload.proofs.Blocks.{block-turned}
 use Rattle.payload.proofs.block.lay.Statement.{statement}
 use Rattle.payload.proofs.block.lay.Tie as tie
 
 turned-requires : tie.Need-turned-requires
-turned-requires c κs = search needs
+turned-requires c κs = omega arith
 
 write-requires : tie.Need-write-requires
-write-requires c κs = search needs
+write-requires c κs = omega arith
 
 same-length : tie.Need-same-length
-same-length c = search needs
+same-length c = omega arith
 
 returns : tie.Need-returns
 returns c =

@@ -1,8 +1,8 @@
+-- `lines` meets its contract: eight lines of the frame are drawn, a block of eight columns at a time (`columns-more`).
 -- The invariant: the ranks below c are in their columns of the eight lines.
 use Prim.Native.Nat.{ℕ, _≤_, _-_, _+_, min}
 use mathlib.Core.Path.{_≡_}
 use native.Mathlib.Omega.{arith}
-use borrow.Author.Needs.{needs}
 use Rattle.ground.specs.Drawn.{Drawing, drawing-none}
 use Rattle.payload.specs.Inner.Area.{area}
 use Rattle.payload.specs.Joining.{rankedByte}
@@ -27,7 +27,7 @@ loop-holds c =
     (omega arith, rw e (drawing-none _ _ _ (area-no-column _ _ _ 8 0)))
 
 start-requires : tie.Need-start-requires Inv-loop μ-loop
-start-requires c κs = search needs
+start-requires c κs = omega arith
 
 read-ranked-requires : tie.Need-read-ranked-requires Inv-loop μ-loop
 read-ranked-requires c κs = let b = inside c in omega arith
@@ -39,18 +39,23 @@ add-c : tie.Need-add-c Inv-loop μ-loop
 add-c c = let b = inside (c .before .before .before .before .before) in omega arith
 
 loop-less : tie.Need-loop-less Inv-loop μ-loop
-loop-less c = search needs
+loop-less c = omega arith
 
 loop-again : tie.Need-loop-again Inv-loop μ-loop
 loop-again c =
-    let a = c .before .before .before .before .before .before .before .before .before .before .args in
+    let at-lay = c .before .before in
+    let at-read-ranked = at-lay .before .before in
+    let at-start = at-read-ranked .before in
+    let at-loop = at-start .before .before in
+    let at-entry = at-loop .before .before .before in
+    let a = at-entry .args in
     let m : ℕ → ℕ → ℕ = rankedByte (a .p) (a .members .now) in
-    let r = c .before .before .before .before .before .start .result in
-    let i = c .before .before .before .before .before .before .before .loop .c in
-    let e = c .before .before .before .before .before .start .ensures in (
+    let r = at-start .start .result in
+    let i = at-loop .loop .c in
+    let e = at-start .start .ensures in (
       omega arith,
-      columns-more (a .x) 0 m (a .j) 8 (min i (a .x)) r 8 (min (i + 8) (a .x)) _ (omega arith) (omega arith) (omega arith) (c .before .before .before .before .before .before .before .loop .inv .1)
-          (block-is (a .x) 0 m (a .j) r (c .before .before .before .before .read-ranked .result) (c .before .before .before .before .before .before .before .loop .frame) _ (c .before .before .before .before .read-ranked .ensures) (c .before .before .lay .ensures)),
+      columns-more (a .x) 0 m (a .j) 8 (min i (a .x)) r 8 (min (i + 8) (a .x)) _ (omega arith) (omega arith) (omega arith) (at-loop .loop .inv .1)
+          (block-is (a .x) 0 m (a .j) r (at-read-ranked .read-ranked .result) (at-loop .loop .frame) _ (at-read-ranked .read-ranked .ensures) (at-lay .lay .ensures)),
     )
 
 same-length : tie.Need-same-length Inv-loop μ-loop

@@ -4,7 +4,6 @@ use Prim.Native.Nat.{ℕ, _≤_, _<_, _-_, _+_, _*_}
 use native.Mathlib.Nat.{not-suc-le-zero}
 use native.Mathlib.Omega.{arith}
 use lib.ListN.{length, getD, length-set}
-use borrow.Author.Needs.{needs}
 use Rattle.payload.specs.Joining.{rankedByte}
 use Rattle.payload.specs.Inner.Words.{byteOf}
 use Rattle.payload.proofs.Blocks.{RunIn, run-in, word-more}
@@ -37,16 +36,16 @@ read-requires : tie.Need-read-requires Inv-loop μ-loop
 read-requires c κs = let s = inside c in omega arith
 
 mul-q : tie.Need-mul-q Inv-loop μ-loop
-mul-q c = search needs
+mul-q c = omega arith
 
 array-write-q : tie.Need-array-write-q Inv-loop μ-loop
-array-write-q c = search needs
+array-write-q c = omega arith
 
 add-l : tie.Need-add-l Inv-loop μ-loop
-add-l c = search needs
+add-l c = omega arith
 
 loop-less : tie.Need-loop-less Inv-loop μ-loop
-loop-less c = search needs
+loop-less c = omega arith
 
 loop-again : tie.Need-loop-again Inv-loop μ-loop
 loop-again c =

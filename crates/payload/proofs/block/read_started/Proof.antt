@@ -4,7 +4,6 @@ use Prim.Native.Nat.{ℕ, _≤_, _<_, _-_, _+_}
 use native.Mathlib.Nat.{not-suc-le-zero}
 use native.Mathlib.Omega.{arith}
 use lib.ListN.{length, getD, length-set}
-use borrow.Author.Needs.{needs}
 use Rattle.payload.specs.Joining.{startedByte}
 use Rattle.payload.specs.Inner.Words.{byteOf}
 use Rattle.payload.proofs.Blocks.{word-more}
@@ -21,13 +20,13 @@ loop-holds : tie.Need-loop-holds Inv-loop μ-loop
 loop-holds c = (omega arith, refl, λ k i h b. absurd (not-suc-le-zero h))
 
 add-from : tie.Need-add-from Inv-loop μ-loop
-add-from c = search needs
+add-from c = omega arith
 
 mul-from : tie.Need-mul-from Inv-loop μ-loop
-mul-from c = search needs
+mul-from c = omega arith
 
 shared-slice-read-from : tie.Need-shared-slice-read-from Inv-loop μ-loop
-shared-slice-read-from c = search needs
+shared-slice-read-from c = omega arith
 
 add-read : tie.Need-add-read Inv-loop μ-loop
 add-read c = let s = c .before .before .before .before .before .pre .1 (c .before .before .loop .l) (c .before .loop-test .taken) in omega arith
@@ -36,16 +35,16 @@ read-requires : tie.Need-read-requires Inv-loop μ-loop
 read-requires c κs = let s = c .before .before .before .before .before .pre .1 (c .before .before .loop .l) (c .before .loop-test .taken) in omega arith
 
 mul-q : tie.Need-mul-q Inv-loop μ-loop
-mul-q c = search needs
+mul-q c = omega arith
 
 array-write-q : tie.Need-array-write-q Inv-loop μ-loop
-array-write-q c = search needs
+array-write-q c = omega arith
 
 add-l : tie.Need-add-l Inv-loop μ-loop
-add-l c = search needs
+add-l c = omega arith
 
 loop-less : tie.Need-loop-less Inv-loop μ-loop
-loop-less c = search needs
+loop-less c = omega arith
 
 loop-again : tie.Need-loop-again Inv-loop μ-loop
 loop-again c =

@@ -1,8 +1,8 @@
+-- `tile_from` meets its contract: a tile is drawn, eight columns at a time (`columns-more`).
 -- The invariant: the ranks below c are in their columns of the tile.
 use Prim.Native.Nat.{ℕ, _≤_, _-_, _+_, min}
 use mathlib.Core.Path.{_≡_}
 use native.Mathlib.Omega.{arith}
-use borrow.Author.Needs.{needs}
 use Rattle.ground.specs.Drawn.{Drawing, drawing-none}
 use Rattle.payload.specs.Inner.Area.{tile}
 use Rattle.payload.specs.Joining.{startedByte}
@@ -24,7 +24,7 @@ loop-holds c =
     (omega arith, rw e (drawing-none _ _ _ (area-no-column _ _ _ _ 0)))
 
 start-requires : tie.Need-start-requires Inv-loop μ-loop
-start-requires c κs = search needs
+start-requires c κs = omega arith
 
 columns-from-requires : tie.Need-columns-from-requires Inv-loop μ-loop
 columns-from-requires c κs =
@@ -33,22 +33,28 @@ columns-from-requires c κs =
 
 add-c : tie.Need-add-c Inv-loop μ-loop
 add-c c =
-    let a = c .before .before .before .before .before .before .before .before .before .before .args in
-    let b = block-in (a .x) (a .p) 0 0 (c .before .before .before .before .before .before .before .before .before .before .pre .0) (c .before .before .before .before .before .before .before .before .before .before .pre .1) in
+    let at-loop = c .before .before .before .before .before .before in
+    let at-entry = at-loop .before .before .before .before in
+    let a = at-entry .args in
+    let b = block-in (a .x) (a .p) 0 0 (at-entry .pre .0) (at-entry .pre .1) in
     omega arith
 
 loop-less : tie.Need-loop-less Inv-loop μ-loop
-loop-less c = search needs
+loop-less c = omega arith
 
 loop-again : tie.Need-loop-again Inv-loop μ-loop
 loop-again c =
-    let a = c .before .before .before .before .before .before .before .before .before .before .args in
+    let at-columns-from = c .before .before in
+    let at-start = at-columns-from .before .before in
+    let at-loop = at-start .before .before in
+    let at-entry = at-loop .before .before .before .before in
+    let a = at-entry .args in
     let l : ℕ = min (a .from) (a .p - 8) in
-    let r = c .before .before .before .before .start .result in
-    let i = c .before .before .before .before .before .before .loop .c in
-    let e = c .before .before .before .before .start .ensures in (
+    let r = at-start .start .result in
+    let i = at-loop .loop .c in
+    let e = at-start .start .ensures in (
       omega arith,
-      columns-more (a .x) (a .place) (startedByte (a .starts .now) (a .store .now)) l (a .to - l) (min i (a .x)) r 8 (min (i + 8) (a .x)) _ (omega arith) (omega arith) (omega arith) (c .before .before .before .before .before .before .loop .inv .1) (c .before .before .columns-from .ensures),
+      columns-more (a .x) (a .place) (startedByte (a .starts .now) (a .store .now)) l (a .to - l) (min i (a .x)) r 8 (min (i + 8) (a .x)) _ (omega arith) (omega arith) (omega arith) (at-loop .loop .inv .1) (at-columns-from .columns-from .ensures),
     )
 
 same-length : tie.Need-same-length Inv-loop μ-loop

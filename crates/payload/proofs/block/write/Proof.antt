@@ -4,7 +4,6 @@ use mathlib.Core.Path.{_≡_}
 use native.Mathlib.Nat.{le-refl}
 use native.Mathlib.Omega.{arith}
 use lib.ListN.{getD}
-use borrow.Author.Needs.{needs}
 use Rattle.ground.specs.Drawn.{Drawing, drawing-none}
 use Rattle.payload.specs.Inner.Area.{area}
 use Rattle.payload.specs.Inner.Words.{byteOf}
@@ -27,10 +26,10 @@ loop-holds : tie.Need-loop-holds Inv-loop μ-loop
 loop-holds c = (omega arith, drawing-none _ _ _ (area-no-line _ _ _ _ 8))
 
 mul-write : tie.Need-mul-write Inv-loop μ-loop
-mul-write c = search needs
+mul-write c = omega arith
 
 array-read-write : tie.Need-array-read-write Inv-loop μ-loop
-array-read-write c = search needs
+array-read-write c = omega arith
 
 add-write : tie.Need-add-write Inv-loop μ-loop
 add-write c = let s = inside c in omega arith
@@ -48,10 +47,10 @@ write-requires : tie.Need-write-requires Inv-loop μ-loop
 write-requires c κs = let s = inside (c .before) in omega arith
 
 add-i : tie.Need-add-i Inv-loop μ-loop
-add-i c = search needs
+add-i c = omega arith
 
 loop-less : tie.Need-loop-less Inv-loop μ-loop
-loop-less c = search needs
+loop-less c = omega arith
 
 loop-again : tie.Need-loop-again Inv-loop μ-loop
 loop-again c =

@@ -3,7 +3,6 @@ use Prim.Native.Nat.{_≤_, _-_, _+_}
 use mathlib.Core.Path.{_≡_}
 use native.Mathlib.Omega.{arith}
 use lib.ListN.{getD}
-use borrow.Author.Needs.{needs}
 use Rattle.ground.specs.Drawn.{Filling, filling-none, filling-more}
 use Rattle.payload.proofs.copy.by_bytes.Statement.{statement}
 use Rattle.payload.proofs.copy.by_bytes.Tie as tie
@@ -18,22 +17,22 @@ loop-holds : tie.Need-loop-holds Inv-loop μ-loop
 loop-holds c = (omega arith, filling-none _ _ _)
 
 add-to : tie.Need-add-to Inv-loop μ-loop
-add-to c = search needs
+add-to c = omega arith
 
 shared-slice-read-to : tie.Need-shared-slice-read-to Inv-loop μ-loop
-shared-slice-read-to c = search needs
+shared-slice-read-to c = omega arith
 
 add-to-2 : tie.Need-add-to-2 Inv-loop μ-loop
-add-to-2 c = search needs
+add-to-2 c = omega arith
 
 slice-write-to : tie.Need-slice-write-to Inv-loop μ-loop
 slice-write-to c = omega arith
 
 add-j : tie.Need-add-j Inv-loop μ-loop
-add-j c = search needs
+add-j c = omega arith
 
 loop-less : tie.Need-loop-less Inv-loop μ-loop
-loop-less c = search needs
+loop-less c = omega arith
 
 loop-again : tie.Need-loop-again Inv-loop μ-loop
 loop-again c = (omega arith, filling-more (c .before .before .loop .inv .1))

@@ -1,8 +1,8 @@
+-- `join` meets its contract: the frame is drawn, a member at a time (`rank-more`).
 -- The invariant: the members of the ranks below r are in their columns.
 use Prim.Native.Nat.{ℕ, _≤_, _-_, _+_, _*_}
 use mathlib.Core.Path.{_≡_, refl, _∙_}
 use native.Mathlib.Omega.{arith}
-use borrow.Author.Needs.{needs}
 use Rattle.ground.specs.Drawn.{Drawing, drawing-none, fillAt-all}
 use Rattle.payload.specs.Inner.Area.{area}
 use Rattle.payload.specs.Order.{groupByte}
@@ -31,16 +31,19 @@ column-requires : tie.Need-column-requires Inv-loop μ-loop
 column-requires c κs = omega (arith, inside (c .before))
 
 add-r : tie.Need-add-r Inv-loop μ-loop
-add-r c = search needs
+add-r c = omega arith
 
 loop-less : tie.Need-loop-less Inv-loop μ-loop
-loop-less c = search needs
+loop-less c = omega arith
 
 loop-again : tie.Need-loop-again Inv-loop μ-loop
 loop-again c =
-    let a = c .before .before .before .before .before .before .before .before .args in (
+    let at-column = c .before .before in
+    let at-loop = at-column .before .before .before in
+    let at-start = at-loop .before .before .before in
+    let a = at-start .args in (
       omega arith,
-      rank-more (a .x) (a .p) 0 (rankedByte (a .p) (a .members .now)) (c .before .before .before .before .before .loop .r) _ _ (c .before .before .before .before .before .loop .inv .1) (c .before .before .column .ensures) (λ j. refl),
+      rank-more (a .x) (a .p) 0 (rankedByte (a .p) (a .members .now)) (at-loop .loop .r) _ _ (at-loop .loop .inv .1) (at-column .column .ensures) (λ j. refl),
     )
 
 same-length : tie.Need-same-length Inv-loop μ-loop

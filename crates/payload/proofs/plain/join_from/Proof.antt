@@ -1,8 +1,8 @@
+-- `join_from` meets its contract: the frame is drawn, a member at a time (`rank-more`).
 -- The invariant: the members of the ranks below r are in their columns.
 use Prim.Native.Nat.{_≤_, _-_}
 use mathlib.Core.Path.{_≡_, refl}
 use native.Mathlib.Omega.{arith}
-use borrow.Author.Needs.{needs}
 use Rattle.ground.specs.Drawn.{Drawing, drawing-none}
 use Rattle.payload.specs.Inner.Area.{area}
 use Rattle.payload.specs.Order.{groupByte}
@@ -22,25 +22,28 @@ loop-holds : tie.Need-loop-holds Inv-loop μ-loop
 loop-holds c = (omega arith, drawing-none _ _ _ (area-no-column _ _ 0 _ 0))
 
 mul-start : tie.Need-mul-start Inv-loop μ-loop
-mul-start c = search needs
+mul-start c = omega arith
 
 shared-slice-read-start : tie.Need-shared-slice-read-start Inv-loop μ-loop
-shared-slice-read-start c = search needs
+shared-slice-read-start c = omega arith
 
 column-requires : tie.Need-column-requires Inv-loop μ-loop
 column-requires c κs = (omega arith, c .before .before .before .before .before .before .before .pre .1 _ (c .before .before .loop-test .taken), omega arith)
 
 add-r : tie.Need-add-r Inv-loop μ-loop
-add-r c = search needs
+add-r c = omega arith
 
 loop-less : tie.Need-loop-less Inv-loop μ-loop
-loop-less c = search needs
+loop-less c = omega arith
 
 loop-again : tie.Need-loop-again Inv-loop μ-loop
 loop-again c =
-    let a = c .before .before .before .before .before .before .before .before .before .before .args in (
+    let at-column = c .before .before in
+    let at-loop = at-column .before .before .before .before in
+    let at-start = at-loop .before .before .before .before in
+    let a = at-start .args in (
       omega arith,
-      rank-more (a .x) (a .p) (a .place) (startedByte (a .starts .now) (a .store .now)) (c .before .before .before .before .before .before .loop .r) _ _ (c .before .before .before .before .before .before .loop .inv .1) (c .before .before .column .ensures) (λ j. refl),
+      rank-more (a .x) (a .p) (a .place) (startedByte (a .starts .now) (a .store .now)) (at-loop .loop .r) _ _ (at-loop .loop .inv .1) (at-column .column .ensures) (λ j. refl),
     )
 
 same-length : tie.Need-same-length Inv-loop μ-loop

@@ -1,9 +1,9 @@
+-- `spread` meets its contract: the members are filled, one behind the other (`member-more`).
 -- The invariant: the members of the ranks below r are in place.
 use Prim.Native.Nat.{_≤_, _-_, _+_, _*_, _/_, _%_}
 use mathlib.Core.Path.{_≡_}
 use native.Mathlib.Nat.{zero-mul}
 use native.Mathlib.Omega.{arith}
-use borrow.Author.Needs.{needs}
 use Rattle.ground.specs.Drawn.{Filling, filling-none, filling-all}
 use Rattle.payload.specs.Order.{memberByte}
 use Rattle.payload.proofs.Frames.{member-in, member-more}
@@ -29,15 +29,18 @@ member-requires : tie.Need-member-requires Inv-loop μ-loop
 member-requires c κs = omega (arith, inside (c .before))
 
 add-r : tie.Need-add-r Inv-loop μ-loop
-add-r c = search needs
+add-r c = omega arith
 
 loop-less : tie.Need-loop-less Inv-loop μ-loop
-loop-less c = search needs
+loop-less c = omega arith
 
 loop-again : tie.Need-loop-again Inv-loop μ-loop
 loop-again c =
-    let a = c .before .before .before .before .before .before .before .before .args in
-    (omega arith, member-more (a .x) (a .p) (c .before .before .before .before .before .loop .r) (a .frame .now) _ (omega arith) (c .before .before .before .before .before .loop .inv .1) (c .before .before .member .ensures))
+    let at-member = c .before .before in
+    let at-loop = at-member .before .before .before in
+    let at-start = at-loop .before .before .before in
+    let a = at-start .args in
+    (omega arith, member-more (a .x) (a .p) (at-loop .loop .r) (a .frame .now) _ (omega arith) (at-loop .loop .inv .1) (at-member .member .ensures))
 
 same-length : tie.Need-same-length Inv-loop μ-loop
 same-length c = c .before .loop .inv .1 .len

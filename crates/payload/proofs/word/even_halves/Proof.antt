@@ -1,13 +1,13 @@
-use borrow.Author.Needs.{needs}
+use native.Mathlib.Omega.{arith}
 use Rattle.payload.proofs.Turning.{even-halves}
 use Rattle.payload.proofs.word.even_halves.Statement.{statement}
 use Rattle.payload.proofs.word.even_halves.Tie as tie
 
 mul-result : tie.Need-mul-result
-mul-result c = search needs
+mul-result c = omega arith
 
 add-result : tie.Need-add-result
-add-result c = search needs
+add-result c = omega arith
 
 returns : tie.Need-returns
 returns c = even-halves (c .args .a) (c .args .b)

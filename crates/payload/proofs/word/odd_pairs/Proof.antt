@@ -1,19 +1,19 @@
-use borrow.Author.Needs.{needs}
+use native.Mathlib.Omega.{arith}
 use Rattle.payload.proofs.Turning.{odd-pairs}
 use Rattle.payload.proofs.word.odd_pairs.Statement.{statement}
 use Rattle.payload.proofs.word.odd_pairs.Tie as tie
 
 apart-pairs-requires : tie.Need-apart-pairs-requires
-apart-pairs-requires c κs = search needs
+apart-pairs-requires c κs = omega arith
 
 apart-pairs-requires-2 : tie.Need-apart-pairs-requires-2
-apart-pairs-requires-2 c κs = search needs
+apart-pairs-requires-2 c κs = omega arith
 
 mul-result : tie.Need-mul-result
-mul-result c = search needs
+mul-result c = omega arith
 
 add-result : tie.Need-add-result
-add-result c = search needs
+add-result c = omega arith
 
 returns : tie.Need-returns
 returns c = odd-pairs (c .before .before .args .a) (c .before .before .args .b) _ _ (c .before .apart-pairs .ensures) (c .apart-pairs2 .ensures)

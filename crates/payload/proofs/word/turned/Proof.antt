@@ -1,20 +1,20 @@
 use mathlib.Core.List.{List}
 use Prim.Native.Nat.{ℕ}
 use lib.ListN.{getD}
-use borrow.Author.Needs.{needs}
+use native.Mathlib.Omega.{arith}
 use Rattle.payload.specs.Inner.Words.{byteOf}
 use Rattle.payload.proofs.Turning.{three-steps}
 use Rattle.payload.proofs.word.turned.Statement.{statement}
 use Rattle.payload.proofs.word.turned.Tie as tie
 
 by-halves-requires : tie.Need-by-halves-requires
-by-halves-requires c κs = search needs
+by-halves-requires c κs = omega arith
 
 by-pairs-requires : tie.Need-by-pairs-requires
-by-pairs-requires c κs = search needs
+by-pairs-requires c κs = omega arith
 
 by-bytes-requires : tie.Need-by-bytes-requires
-by-bytes-requires c κs = search needs
+by-bytes-requires c κs = omega arith
 
 returns : tie.Need-returns
 returns c =

@@ -14,10 +14,10 @@ join-requires c κs =
     (e .0, e .1, c .before .before .before .before .before .pre .0, c .before .before .before .before .before .pre .1)
 
 join-requires-2 : tie.Need-join-requires-2
-join-requires-2 c κs = search needs
+join-requires-2 c κs = omega arith
 
 same-length : tie.Need-same-length
-same-length c = search needs
+same-length c = omega arith
 
 returns : tie.Need-returns
 returns c =
@@ -25,13 +25,13 @@ returns c =
     one-joined (a .x) (a .p) (c .before .before .before .before .if1 .taken) (a .members .now) (a .frame .now) _ (c .before .before .before .before .before .before .before .pre .1) (c .before .before .run .ensures)
 
 same-length-2 : tie.Need-same-length-2
-same-length-2 c = search needs
+same-length-2 c = omega arith
 
 returns-2 : tie.Need-returns-2
 returns-2 c = search needs
 
 same-length-3 : tie.Need-same-length-3
-same-length-3 c = search needs
+same-length-3 c = omega arith
 
 returns-3 : tie.Need-returns-3
 returns-3 c = search needs

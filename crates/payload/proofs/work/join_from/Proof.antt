@@ -1,3 +1,4 @@
+-- `join_from` meets its contract in each of three ways: a copy of one member, blocks, plain loops. All three fill the frame with the same bytes.
 use Prim.Native.Nat.{_<_}
 use native.Mathlib.Omega.{arith}
 use borrow.Author.Needs.{needs}
@@ -7,7 +8,7 @@ use Rattle.payload.proofs.work.join_from.Statement.{statement}
 use Rattle.payload.proofs.work.join_from.Tie as tie
 
 shared-slice-read-start : tie.Need-shared-slice-read-start
-shared-slice-read-start c = search needs
+shared-slice-read-start c = omega arith
 
 run-requires : tie.Need-run-requires
 run-requires c κs =
@@ -24,21 +25,24 @@ join-from-requires-2 : tie.Need-join-from-requires-2
 join-from-requires-2 c κs = search needs
 
 same-length : tie.Need-same-length
-same-length c = search needs
+same-length c = omega arith
 
 returns : tie.Need-returns
 returns c =
-    let a = c .before .before .before .before .before .before .before .before .before .args in
-    one-from (a .x) (a .p) (c .before .before .before .before .before .if1 .taken) (a .starts .now) (a .store .now) (a .place) (a .out .now) _ (c .before .before .run .ensures)
+    let at-run = c .before .before in
+    let at-if1 = at-run .before .before .before in
+    let at-start = at-if1 .before .before .before .before in
+    let a = at-start .args in
+    one-from (a .x) (a .p) (at-if1 .if1 .taken) (a .starts .now) (a .store .now) (a .place) (a .out .now) _ (at-run .run .ensures)
 
 same-length-2 : tie.Need-same-length-2
-same-length-2 c = search needs
+same-length-2 c = omega arith
 
 returns-2 : tie.Need-returns-2
 returns-2 c = search needs
 
 same-length-3 : tie.Need-same-length-3
-same-length-3 c = search needs
+same-length-3 c = omega arith
 
 returns-3 : tie.Need-returns-3
 returns-3 c = search needs

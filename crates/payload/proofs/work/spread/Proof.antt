@@ -1,3 +1,4 @@
+-- `spread` meets its contract in each of three ways: a copy of one member, blocks, plain loops. By blocks the P lines of X bytes are joined (`spread-by-lines`).
 use mathlib.Core.Path.{_∙_}
 use native.Mathlib.Nat.{mul-comm}
 use native.Mathlib.Omega.{arith}
@@ -17,10 +18,10 @@ join-requires c κs =
     (e .1, e .0, c .before .before .before .before .before .pre .0 ∙ mul-comm (a .x) (a .p), c .before .before .before .before .before .pre .1 ∙ mul-comm (a .x) (a .p))
 
 spread-requires : tie.Need-spread-requires
-spread-requires c κs = search needs
+spread-requires c κs = omega arith
 
 same-length : tie.Need-same-length
-same-length c = search needs
+same-length c = omega arith
 
 returns : tie.Need-returns
 returns c =
@@ -28,15 +29,17 @@ returns c =
     one-spread (a .x) (a .p) (c .before .before .before .before .if1 .taken) (a .frame .now) (a .members .now) _ (c .before .before .before .before .before .before .before .pre .1) (c .before .before .run .ensures)
 
 same-length-2 : tie.Need-same-length-2
-same-length-2 c = search needs
+same-length-2 c = omega arith
 
 returns-2 : tie.Need-returns-2
 returns-2 c =
-    let a = c .before .before .before .before .before .before .before .before .args in
-    spread-by-lines (a .x) (a .p) (a .frame .now) _ (c .before .before .join .ensures)
+    let at-join = c .before .before in
+    let at-start = at-join .before .before .before .before .before .before in
+    let a = at-start .args in
+    spread-by-lines (a .x) (a .p) (a .frame .now) _ (at-join .join .ensures)
 
 same-length-3 : tie.Need-same-length-3
-same-length-3 c = search needs
+same-length-3 c = omega arith
 
 returns-3 : tie.Need-returns-3
 returns-3 c = search needs

@@ -2,7 +2,6 @@ use Prim.Native.Nat.{ℕ, _≤_, _-_}
 use mathlib.Core.Path.{_≡_, refl, sym, _∙_}
 use mathlib.Core.Bool.{Bool, true, false}
 use native.Mathlib.Omega.{arith}
-use borrow.Author.Needs.{needs}
 use borrow.Author.Tests.{not-true, not-false}
 use Rattle.counting.specs.Laws.Tests.{every-fails, every-on}
 use Rattle.counting.specs.Words.{every}
@@ -22,7 +21,7 @@ loop-holds : tie.Need-loop-holds Inv-loop μ-loop
 loop-holds c = (omega arith, refl)
 
 port-owes-nothing-requires : tie.Need-port-owes-nothing-requires Inv-loop μ-loop
-port-owes-nothing-requires c κs = search needs
+port-owes-nothing-requires c κs = omega arith
 
 returns : tie.Need-returns Inv-loop μ-loop
 unfolding brought
@@ -33,10 +32,10 @@ returns c =
     sym (every-fails (a .ports) f (c .before .before .before .loop .i) (c .before .before .loop-test .taken) e)
 
 add-i : tie.Need-add-i Inv-loop μ-loop
-add-i c = search needs
+add-i c = omega arith
 
 loop-less : tie.Need-loop-less Inv-loop μ-loop
-loop-less c = search needs
+loop-less c = omega arith
 
 loop-again : tie.Need-loop-again Inv-loop μ-loop
 loop-again c =

@@ -1,13 +1,13 @@
 use mathlib.Core.Path.{refl}
-use borrow.Author.Needs.{needs}
+use native.Mathlib.Omega.{arith}
 use Rattle.phases.proofs.due.is_unreadable.Statement.{statement}
 use Rattle.phases.proofs.due.is_unreadable.Tie as tie
 
 get-requires : tie.Need-get-requires
-get-requires c κs = search needs
+get-requires c κs = omega arith
 
 is-readable-requires : tie.Need-is-readable-requires
-is-readable-requires c κs = search needs
+is-readable-requires c κs = omega arith
 
 returns : tie.Need-returns
 returns c = rw (c .is-readable .ensures, c .before .get .ensures) refl

@@ -1,20 +1,20 @@
 use mathlib.Core.Path.{refl}
 use Rattle.phases.specs.Due.{owesNothing}
-use borrow.Author.Needs.{needs}
+use native.Mathlib.Omega.{arith}
 use Rattle.phases.proofs.due.owes_nothing.Statement.{statement}
 use Rattle.phases.proofs.due.owes_nothing.Tie as tie
 
 is-readable-requires : tie.Need-is-readable-requires
-is-readable-requires c κs = search needs
+is-readable-requires c κs = omega arith
 
 first-requires : tie.Need-first-requires
-first-requires c κs = search needs
+first-requires c κs = omega arith
 
 is-set-requires : tie.Need-is-set-requires
-is-set-requires c κs = search needs
+is-set-requires c κs = omega arith
 
 is-set-requires-2 : tie.Need-is-set-requires-2
-is-set-requires-2 c κs = search needs
+is-set-requires-2 c κs = omega arith
 
 returns : tie.Need-returns
 unfolding owesNothing

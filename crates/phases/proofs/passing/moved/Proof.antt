@@ -4,7 +4,6 @@ use native.Mathlib.Nat.{mod-lt}
 use native.Mathlib.Omega.{arith}
 use borrow.Author.Tests.{eq-eqb, ne-eqb}
 use Rattle.store.specs.Frames.{ringOf}
-use borrow.Author.Needs.{needs}
 use Rattle.phases.proofs.passing.moved.Statement.{statement}
 use Rattle.phases.proofs.passing.moved.Tie as tie
 
@@ -13,10 +12,10 @@ unfolding ringOf
 returns c = rw (eq-eqb _ 0 (c .if1 .taken)) refl
 
 add-result : tie.Need-add-result
-add-result c = search needs
+add-result c = omega arith
 
 rem-result : tie.Need-rem-result
-rem-result c = search needs
+rem-result c = omega arith
 
 cast-result : tie.Need-cast-result
 cast-result c = let h : 0 < c .before .args .window = omega arith in omega (arith, mod-lt (c .before .args .origin + c .before .args .by) h)

@@ -1,14 +1,14 @@
 use mathlib.Core.Path.{refl}
 use Rattle.phases.specs.Passing.{notedBy}
-use borrow.Author.Needs.{needs}
+use native.Mathlib.Omega.{arith}
 use Rattle.phases.proofs.passing.noted_by.Statement.{statement}
 use Rattle.phases.proofs.passing.noted_by.Tie as tie
 
 good-byte-requires : tie.Need-good-byte-requires
-good-byte-requires c κs = search needs
+good-byte-requires c κs = omega arith
 
 good-byte-requires-2 : tie.Need-good-byte-requires-2
-good-byte-requires-2 c κs = search needs
+good-byte-requires-2 c κs = omega arith
 
 returns : tie.Need-returns
 unfolding notedBy

@@ -1,20 +1,20 @@
 use mathlib.Core.Path.{refl}
 use Rattle.phases.specs.Passing.{passedOf}
-use borrow.Author.Needs.{needs}
+use native.Mathlib.Omega.{arith}
 use Rattle.phases.proofs.passing.pass.Statement.{statement}
 use Rattle.phases.proofs.passing.pass.Tie as tie
 
 passed-group-requires : tie.Need-passed-group-requires
-passed-group-requires c κs = search needs
+passed-group-requires c κs = omega arith
 
 pass-ports-requires : tie.Need-pass-ports-requires
-pass-ports-requires c κs = search needs
+pass-ports-requires c κs = omega arith
 
 put-requires : tie.Need-put-requires
-put-requires c κs = search needs
+put-requires c κs = omega arith
 
 same-length : tie.Need-same-length
-same-length c = search needs
+same-length c = omega arith
 
 returns : tie.Need-returns
 unfolding passedOf

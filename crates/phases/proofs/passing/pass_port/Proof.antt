@@ -1,55 +1,55 @@
 use Rattle.phases.proofs.Passed.{passed-is}
-use borrow.Author.Needs.{needs}
+use native.Mathlib.Omega.{arith}
 use Rattle.phases.proofs.passing.pass_port.Statement.{statement}
 use Rattle.phases.proofs.passing.pass_port.Tie as tie
 
 marks-requires : tie.Need-marks-requires
-marks-requires c κs = search needs
+marks-requires c κs = omega arith
 
 first-requires : tie.Need-first-requires
-first-requires c κs = search needs
+first-requires c κs = omega arith
 
 packet-in-requires : tie.Need-packet-in-requires
-packet-in-requires c κs = search needs
+packet-in-requires c κs = omega arith
 
 ruling-of-requires : tie.Need-ruling-of-requires
-ruling-of-requires c κs = search needs
+ruling-of-requires c κs = omega arith
 
 get-requires : tie.Need-get-requires
-get-requires c κs = search needs
+get-requires c κs = omega arith
 
 get-requires-2 : tie.Need-get-requires-2
-get-requires-2 c κs = search needs
+get-requires-2 c κs = omega arith
 
 get-requires-3 : tie.Need-get-requires-3
-get-requires-3 c κs = search needs
+get-requires-3 c κs = omega arith
 
 noted-by-requires : tie.Need-noted-by-requires
-noted-by-requires c κs = search needs
+noted-by-requires c κs = omega arith
 
 ruled-by-requires : tie.Need-ruled-by-requires
-ruled-by-requires c κs = search needs
+ruled-by-requires c κs = omega arith
 
 passed-step-requires : tie.Need-passed-step-requires
-passed-step-requires c κs = search needs
+passed-step-requires c κs = omega arith
 
 pass-requires : tie.Need-pass-requires
-pass-requires c κs = search needs
+pass-requires c κs = omega arith
 
 put-requires : tie.Need-put-requires
-put-requires c κs = search needs
+put-requires c κs = omega arith
 
 put-requires-2 : tie.Need-put-requires-2
-put-requires-2 c κs = search needs
+put-requires-2 c κs = omega arith
 
 put-requires-3 : tie.Need-put-requires-3
-put-requires-3 c κs = search needs
+put-requires-3 c κs = omega arith
 
 put-marks-requires : tie.Need-put-marks-requires
-put-marks-requires c κs = search needs
+put-marks-requires c κs = omega arith
 
 same-length : tie.Need-same-length
-same-length c = search needs
+same-length c = omega arith
 
 returns : tie.Need-returns
 returns c =

@@ -1,20 +1,20 @@
 use mathlib.Core.Path.{refl}
 use Rattle.phases.specs.Passing.{passedGroup}
-use borrow.Author.Needs.{needs}
+use native.Mathlib.Omega.{arith}
 use Rattle.phases.proofs.passing.passed_group.Statement.{statement}
 use Rattle.phases.proofs.passing.passed_group.Tie as tie
 
 next-epoch-requires : tie.Need-next-epoch-requires
-next-epoch-requires c κs = search needs
+next-epoch-requires c κs = omega arith
 
 epoch-frames-requires : tie.Need-epoch-frames-requires
-epoch-frames-requires c κs = search needs
+epoch-frames-requires c κs = omega arith
 
 moved-requires : tie.Need-moved-requires
-moved-requires c κs = search needs
+moved-requires c κs = omega arith
 
 group-to-requires : tie.Need-group-to-requires
-group-to-requires c κs = search needs
+group-to-requires c κs = omega arith
 
 returns : tie.Need-returns
 unfolding passedGroup

@@ -1,14 +1,14 @@
 use mathlib.Core.Path.{refl}
 use Rattle.phases.specs.Passing.{passedStep}
-use borrow.Author.Needs.{needs}
+use native.Mathlib.Omega.{arith}
 use Rattle.phases.proofs.passing.passed_step.Statement.{statement}
 use Rattle.phases.proofs.passing.passed_step.Tie as tie
 
 one-less-requires : tie.Need-one-less-requires
-one-less-requires c κs = search needs
+one-less-requires c κs = omega arith
 
 one-if-requires : tie.Need-one-if-requires
-one-if-requires c κs = search needs
+one-if-requires c κs = omega arith
 
 returns : tie.Need-returns
 unfolding passedStep

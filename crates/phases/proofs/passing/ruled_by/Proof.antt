@@ -1,11 +1,11 @@
 use mathlib.Core.Path.{refl}
 use Rattle.phases.specs.Passing.{ruledBy}
-use borrow.Author.Needs.{needs}
+use native.Mathlib.Omega.{arith}
 use Rattle.phases.proofs.passing.ruled_by.Statement.{statement}
 use Rattle.phases.proofs.passing.ruled_by.Tie as tie
 
 array-set-from-pair : tie.Need-array-set-from-pair
-array-set-from-pair c = search needs
+array-set-from-pair c = omega arith
 
 returns : tie.Need-returns
 unfolding ruledBy

@@ -1,27 +1,33 @@
+-- `begin_by` meets its contract: each exit is the definition at the tests that the code took.
 use mathlib.Core.Path.{refl}
 use Rattle.phases.specs.Settling.{beginBy}
-use borrow.Author.Needs.{needs}
+use native.Mathlib.Omega.{arith}
 use Rattle.phases.proofs.settling.begin_by.Statement.{statement}
 use Rattle.phases.proofs.settling.begin_by.Tie as tie
 
 is-set-requires : tie.Need-is-set-requires
-is-set-requires c κs = search needs
+is-set-requires c κs = omega arith
 
 is-begun-by-requires : tie.Need-is-begun-by-requires
-is-begun-by-requires c κs = search needs
+is-begun-by-requires c κs = omega arith
 
 begin-requires : tie.Need-begin-requires
-begin-requires c κs = search needs
+begin-requires c κs = omega arith
 
 same-length : tie.Need-same-length
-same-length c = search needs
+same-length c = omega arith
 
 returns : tie.Need-returns
 unfolding beginBy
-returns c = rw (← c .before .before .before .before .before .before .before .is-set .ensures, c .before .before .before .before .before .before .if1 .taken, ← c .before .before .before .before .is-begun-by .ensures, c .before .before .before .if2 .taken) (c .before .begin .ensures)
+returns c =
+    let at-if2 = c .before .before .before in
+    let at-is-begun-by = at-if2 .before in
+    let at-if1 = at-is-begun-by .before .before in
+    let at-is-set = at-if1 .before in
+    rw (← at-is-set .is-set .ensures, at-if1 .if1 .taken, ← at-is-begun-by .is-begun-by .ensures, at-if2 .if2 .taken) (c .before .begin .ensures)
 
 same-length-2 : tie.Need-same-length-2
-same-length-2 c = search needs
+same-length-2 c = omega arith
 
 returns-2 : tie.Need-returns-2
 unfolding beginBy

@@ -3,7 +3,6 @@ use Prim.Native.Nat.{_≤_, _-_}
 use mathlib.Core.Path.{_≡_, refl, ap, _∙_}
 use native.Mathlib.Numerals.{add-one}
 use native.Mathlib.Omega.{arith}
-use borrow.Author.Needs.{needs}
 use Rattle.phases.specs.Settling.{clearedPorts}
 use Rattle.phases.specs.Laws.Lengths.{length-cleared}
 use Rattle.phases.proofs.settling.clear_ports.Statement.{statement}
@@ -20,13 +19,13 @@ unfolding clearedPorts
 loop-holds c = (omega arith, refl)
 
 clear-port-requires : tie.Need-clear-port-requires Inv-loop μ-loop
-clear-port-requires c κs = search needs
+clear-port-requires c κs = omega arith
 
 add-i : tie.Need-add-i Inv-loop μ-loop
-add-i c = search needs
+add-i c = omega arith
 
 loop-less : tie.Need-loop-less Inv-loop μ-loop
-loop-less c = search needs
+loop-less c = omega arith
 
 loop-again : tie.Need-loop-again Inv-loop μ-loop
 unfolding clearedPorts

@@ -1,11 +1,11 @@
 use mathlib.Core.Path.{refl}
 use Rattle.phases.specs.Settling.{clearedStep}
-use borrow.Author.Needs.{needs}
+use native.Mathlib.Omega.{arith}
 use Rattle.phases.proofs.settling.cleared_step.Statement.{statement}
 use Rattle.phases.proofs.settling.cleared_step.Tie as tie
 
 one-if-requires : tie.Need-one-if-requires
-one-if-requires c κs = search needs
+one-if-requires c κs = omega arith
 
 returns : tie.Need-returns
 unfolding clearedStep

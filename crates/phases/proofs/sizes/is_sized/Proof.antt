@@ -1,20 +1,20 @@
 use mathlib.Core.Path.{refl}
 use Rattle.phases.specs.Sizes.{sized}
-use borrow.Author.Needs.{needs}
+use native.Mathlib.Omega.{arith}
 use Rattle.phases.proofs.sizes.is_sized.Statement.{statement}
 use Rattle.phases.proofs.sizes.is_sized.Tie as tie
 
 epoch-frames-requires : tie.Need-epoch-frames-requires
-epoch-frames-requires c κs = search needs
+epoch-frames-requires c κs = omega arith
 
 tag-count-requires : tie.Need-tag-count-requires
-tag-count-requires c κs = search needs
+tag-count-requires c κs = omega arith
 
 cast-result : tie.Need-cast-result
-cast-result c = search needs
+cast-result c = omega arith
 
 cast-result-2 : tie.Need-cast-result-2
-cast-result-2 c = search needs
+cast-result-2 c = omega arith
 
 returns : tie.Need-returns
 unfolding sized

@@ -1,20 +1,20 @@
 use mathlib.Core.Path.{refl}
 use Rattle.phases.specs.Sizes.{portsIn}
-use borrow.Author.Needs.{needs}
+use native.Mathlib.Omega.{arith}
 use Rattle.phases.proofs.sizes.ports_in.Statement.{statement}
 use Rattle.phases.proofs.sizes.ports_in.Tie as tie
 
 cast-is-sized : tie.Need-cast-is-sized
-cast-is-sized c = search needs
+cast-is-sized c = omega arith
 
 cast-is-sized-2 : tie.Need-cast-is-sized-2
-cast-is-sized-2 c = search needs
+cast-is-sized-2 c = omega arith
 
 cast-is-sized-3 : tie.Need-cast-is-sized-3
-cast-is-sized-3 c = search needs
+cast-is-sized-3 c = omega arith
 
 is-sized-requires : tie.Need-is-sized-requires
-is-sized-requires c κs = search needs
+is-sized-requires c κs = omega arith
 
 returns : tie.Need-returns
 unfolding portsIn

@@ -3,12 +3,11 @@ use native.Mathlib.Omega.{arith}
 use Prim.Native.Nat.{_≤_, _+_}
 use mathlib.Core.Path.{refl}
 use Rattle.phases.specs.Sizes.{storeFor}
-use borrow.Author.Needs.{needs}
 use Rattle.phases.proofs.sizes.store_for.Statement.{statement}
 use Rattle.phases.proofs.sizes.store_for.Tie as tie
 
 cast-result : tie.Need-cast-result
-cast-result c = search needs
+cast-result c = omega arith
 
 mul-result : tie.Need-mul-result
 mul-result c =
@@ -18,10 +17,10 @@ mul-result c =
     omega (arith, mul-le-mul hp hw)
 
 cast-result-2 : tie.Need-cast-result-2
-cast-result-2 c = search needs
+cast-result-2 c = omega arith
 
 add-result : tie.Need-add-result
-add-result c = search needs
+add-result c = omega arith
 
 mul-result-2 : tie.Need-mul-result-2
 mul-result-2 c =

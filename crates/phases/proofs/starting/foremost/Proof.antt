@@ -2,7 +2,6 @@ use Prim.Native.Nat.{_≤_, _-_}
 use mathlib.Core.Path.{_≡_}
 use native.Mathlib.Numerals.{add-one}
 use native.Mathlib.Omega.{arith}
-use borrow.Author.Needs.{needs}
 use Rattle.phases.specs.Beginning.{foremost}
 use Rattle.phases.proofs.starting.foremost.Statement.{statement}
 use Rattle.phases.proofs.starting.foremost.Tie as tie
@@ -14,23 +13,23 @@ abbrev μ-loop : tie.MeasureT-loop
 μ-loop group state ports fore₀ i₀ fore i = ports - i
 
 no-tag-requires : tie.Need-no-tag-requires Inv-loop μ-loop
-no-tag-requires c κs = search needs
+no-tag-requires c κs = omega arith
 
 loop-holds : tie.Need-loop-holds Inv-loop μ-loop
 unfolding foremost
 loop-holds c = (omega arith, c .no-tag .ensures)
 
 get-requires : tie.Need-get-requires Inv-loop μ-loop
-get-requires c κs = search needs
+get-requires c κs = omega arith
 
 further-requires : tie.Need-further-requires Inv-loop μ-loop
-further-requires c κs = search needs
+further-requires c κs = omega arith
 
 add-i : tie.Need-add-i Inv-loop μ-loop
-add-i c = search needs
+add-i c = omega arith
 
 loop-less : tie.Need-loop-less Inv-loop μ-loop
-loop-less c = search needs
+loop-less c = omega arith
 
 loop-again : tie.Need-loop-again Inv-loop μ-loop
 unfolding foremost

@@ -1,14 +1,14 @@
 use mathlib.Core.Path.{refl}
 use Rattle.phases.specs.Beginning.{further}
-use borrow.Author.Needs.{needs}
+use native.Mathlib.Omega.{arith}
 use Rattle.phases.proofs.starting.further.Statement.{statement}
 use Rattle.phases.proofs.starting.further.Tie as tie
 
 leads-requires : tie.Need-leads-requires
-leads-requires c κs = search needs
+leads-requires c κs = omega arith
 
 latest-requires : tie.Need-latest-requires
-latest-requires c κs = search needs
+latest-requires c κs = omega arith
 
 returns : tie.Need-returns
 unfolding further

@@ -1,25 +1,25 @@
 use mathlib.Core.Path.{refl}
+use native.Mathlib.Omega.{arith}
 use borrow.Author.Tests.{not-true, not-false}
 use Rattle.phases.specs.Beginning.{begins}
-use borrow.Author.Needs.{needs}
 use Rattle.phases.proofs.starting.is_begun_by.Statement.{statement}
 use Rattle.phases.proofs.starting.is_begun_by.Tie as tie
 
 all-ready-requires : tie.Need-all-ready-requires
-all-ready-requires c κs = search needs
+all-ready-requires c κs = omega arith
 
 returns : tie.Need-returns
 unfolding begins
 returns c = rw (← c .before .all-ready .ensures, not-true (c .before .all-ready .result) (c .if1 .taken)) refl
 
 foremost-requires : tie.Need-foremost-requires
-foremost-requires c κs = search needs
+foremost-requires c κs = omega arith
 
 no-tag-requires : tie.Need-no-tag-requires
-no-tag-requires c κs = search needs
+no-tag-requires c κs = omega arith
 
 all-within-requires : tie.Need-all-within-requires
-all-within-requires c κs = search needs
+all-within-requires c κs = omega arith
 
 returns-2 : tie.Need-returns-2
 unfolding begins

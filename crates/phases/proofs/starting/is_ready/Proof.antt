@@ -1,17 +1,17 @@
 use mathlib.Core.Path.{refl}
 use Rattle.phases.specs.Beginning.{ready}
-use borrow.Author.Needs.{needs}
+use native.Mathlib.Omega.{arith}
 use Rattle.phases.proofs.starting.is_ready.Statement.{statement}
 use Rattle.phases.proofs.starting.is_ready.Tie as tie
 
 in-step-requires : tie.Need-in-step-requires
-in-step-requires c κs = search needs
+in-step-requires c κs = omega arith
 
 is-set-requires : tie.Need-is-set-requires
-is-set-requires c κs = search needs
+is-set-requires c κs = omega arith
 
 is-set-requires-2 : tie.Need-is-set-requires-2
-is-set-requires-2 c κs = search needs
+is-set-requires-2 c κs = omega arith
 
 returns : tie.Need-returns
 unfolding ready

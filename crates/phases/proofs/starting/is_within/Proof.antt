@@ -1,32 +1,32 @@
 use mathlib.Core.Path.{refl}
 use Rattle.phases.specs.Beginning.{within}
-use borrow.Author.Needs.{needs}
+use native.Mathlib.Omega.{arith}
 use Rattle.phases.proofs.starting.is_within.Statement.{statement}
 use Rattle.phases.proofs.starting.is_within.Tie as tie
 
 in-step-requires : tie.Need-in-step-requires
-in-step-requires c κs = search needs
+in-step-requires c κs = omega arith
 
 latest-requires : tie.Need-latest-requires
-latest-requires c κs = search needs
+latest-requires c κs = omega arith
 
 distance-requires : tie.Need-distance-requires
-distance-requires c κs = search needs
+distance-requires c κs = omega arith
 
 epoch-frames-requires : tie.Need-epoch-frames-requires
-epoch-frames-requires c κs = search needs
+epoch-frames-requires c κs = omega arith
 
 cast-result : tie.Need-cast-result
-cast-result c = search needs
+cast-result c = omega arith
 
 cast-result-2 : tie.Need-cast-result-2
-cast-result-2 c = search needs
+cast-result-2 c = omega arith
 
 add-result : tie.Need-add-result
-add-result c = search needs
+add-result c = omega arith
 
 cast-result-3 : tie.Need-cast-result-3
-cast-result-3 c = search needs
+cast-result-3 c = omega arith
 
 returns : tie.Need-returns
 unfolding within

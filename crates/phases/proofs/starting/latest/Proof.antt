@@ -1,10 +1,10 @@
 use Rattle.phases.specs.Beginning.{latest}
-use borrow.Author.Needs.{needs}
+use native.Mathlib.Omega.{arith}
 use Rattle.phases.proofs.starting.latest.Statement.{statement}
 use Rattle.phases.proofs.starting.latest.Tie as tie
 
 previous-tag-requires : tie.Need-previous-tag-requires
-previous-tag-requires c κs = search needs
+previous-tag-requires c κs = omega arith
 
 returns : tie.Need-returns
 unfolding latest

@@ -1,20 +1,20 @@
 use Rattle.phases.specs.Beginning.{noTag}
 use mathlib.Core.Path.{refl}
-use borrow.Author.Needs.{needs}
+use native.Mathlib.Omega.{arith}
 use Rattle.phases.proofs.starting.leads.Statement.{statement}
 use Rattle.phases.proofs.starting.leads.Tie as tie
 
 in-step-requires : tie.Need-in-step-requires
-in-step-requires c κs = search needs
+in-step-requires c κs = omega arith
 
 latest-requires : tie.Need-latest-requires
-latest-requires c κs = search needs
+latest-requires c κs = omega arith
 
 no-tag-requires : tie.Need-no-tag-requires
-no-tag-requires c κs = search needs
+no-tag-requires c κs = omega arith
 
 distance-requires : tie.Need-distance-requires
-distance-requires c κs = search needs
+distance-requires c κs = omega arith
 
 returns : tie.Need-returns
 unfolding noTag

@@ -1,10 +1,10 @@
 use Rattle.phases.specs.Beginning.{noTag}
-use borrow.Author.Needs.{needs}
+use native.Mathlib.Omega.{arith}
 use Rattle.phases.proofs.starting.no_tag.Statement.{statement}
 use Rattle.phases.proofs.starting.no_tag.Tie as tie
 
 tag-count-requires : tie.Need-tag-count-requires
-tag-count-requires c κs = search needs
+tag-count-requires c κs = omega arith
 
 returns : tie.Need-returns
 unfolding noTag
