@@ -1,5 +1,5 @@
 use mathlib.Core.Path.{_∙_, ap}
-use borrow.Author.Needs.{needs}
+use native.Mathlib.Omega.{arith}
 use Rattle.c_face.specs.Boards.{boardBytesOf}
 use Rattle.c_face.proofs.Showing.{shown-state, shown-room, shown-done}
 use Rattle.c_face.proofs.boards.levelspruce_sender_board.Statement.{statement}
@@ -14,16 +14,16 @@ returns-2 : tie.Need-returns-2
 returns-2 c = shown-room 130 _ _ _ (c .before .if1 .left) (c .if2 .taken)
 
 sender-of-requires : tie.Need-sender-of-requires
-sender-of-requires c κs = search needs
+sender-of-requires c κs = omega arith
 
 board-of-requires : tie.Need-board-of-requires
-board-of-requires c κs = search needs
+board-of-requires c κs = omega arith
 
 put-board-requires : tie.Need-put-board-requires
-put-board-requires c κs = search needs
+put-board-requires c κs = omega arith
 
 same-length : tie.Need-same-length
-same-length c = search needs
+same-length c = omega arith
 
 returns-3 : tie.Need-returns-3
 returns-3 c =

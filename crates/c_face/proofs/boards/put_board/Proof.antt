@@ -1,28 +1,28 @@
 -- `put_board` meets its contract: the count, at most 64, and the wait, then each slot's word and number.
 -- Two pieces fill the whole buffer (`board-whole`).
-use borrow.Author.Needs.{needs}
+use native.Mathlib.Omega.{arith}
 use Rattle.c_face.proofs.Showing.{board-whole}
 use Rattle.c_face.proofs.boards.put_board.Statement.{statement}
 use denote.Ref.{now}
 use Rattle.c_face.proofs.boards.put_board.Tie as tie
 
 one-if-requires : tie.Need-one-if-requires
-one-if-requires c κs = search needs
+one-if-requires c κs = omega arith
 
 shown-count-requires : tie.Need-shown-count-requires
-shown-count-requires c κs = search needs
+shown-count-requires c κs = omega arith
 
 slice-aggregate-put-bytes : tie.Need-slice-aggregate-put-bytes
-slice-aggregate-put-bytes c = search needs
+slice-aggregate-put-bytes c = omega arith
 
 put-bytes-requires : tie.Need-put-bytes-requires
-put-bytes-requires c κs = search needs
+put-bytes-requires c κs = omega arith
 
 put-rows-requires : tie.Need-put-rows-requires
-put-rows-requires c κs = search needs
+put-rows-requires c κs = omega arith
 
 same-length : tie.Need-same-length
-same-length c = search needs
+same-length c = omega arith
 
 returns : tie.Need-returns
 returns c =

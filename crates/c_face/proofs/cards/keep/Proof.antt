@@ -1,10 +1,10 @@
 use Rattle.c_face.proofs.TwoGroups.{keep-refused, keep-done}
-use borrow.Author.Needs.{needs}
+use native.Mathlib.Omega.{arith}
 use Rattle.c_face.proofs.cards.keep.Statement.{statement}
 use Rattle.c_face.proofs.cards.keep.Tie as tie
 
 number-requires : tie.Need-number-requires
-number-requires c κs = search needs
+number-requires c κs = omega arith
 
 returns : tie.Need-returns
 returns c =
@@ -12,10 +12,10 @@ returns c =
     keep-refused (at-start .args .step) (at-start .args .group) _ _ (c .before .number .ensures) (c .if1 .taken)
 
 put-own-requires : tie.Need-put-own-requires
-put-own-requires c κs = search needs
+put-own-requires c κs = omega arith
 
 same-length : tie.Need-same-length
-same-length c = search needs
+same-length c = omega arith
 
 returns-2 : tie.Need-returns-2
 returns-2 c =

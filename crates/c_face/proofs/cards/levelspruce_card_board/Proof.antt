@@ -1,13 +1,13 @@
 -- The call meets its contract: 9, 1, 9, and then the group's board.
 -- Refused by its state or its length nothing is written. Otherwise the state is a card's (`opened`), and what is put is the definition's bytes (`shown-done`).
 use Rattle.c_face.proofs.TwoGroups.{opened, shown-shut, shown-room, shown-done, board-own}
-use borrow.Author.Needs.{needs}
+use native.Mathlib.Omega.{arith}
 use mathlib.Core.Path.{_∙_}
 use Rattle.c_face.proofs.cards.levelspruce_card_board.Statement.{statement}
 use Rattle.c_face.proofs.cards.levelspruce_card_board.Tie as tie
 
 refusal-requires : tie.Need-refusal-requires
-refusal-requires c κs = search needs
+refusal-requires c κs = omega arith
 
 returns : tie.Need-returns
 returns c =
@@ -28,13 +28,13 @@ own-card-requires c κs =
     opened (at-start .args .state .now) (at-start .args .group) _ (at-refusal .refusal .ensures) (c .before .if1 .left) .sized
 
 board-requires : tie.Need-board-requires
-board-requires c κs = search needs
+board-requires c κs = omega arith
 
 put-board-requires : tie.Need-put-board-requires
-put-board-requires c κs = search needs
+put-board-requires c κs = omega arith
 
 same-length : tie.Need-same-length
-same-length c = search needs
+same-length c = omega arith
 
 returns-3 : tie.Need-returns-3
 returns-3 c =

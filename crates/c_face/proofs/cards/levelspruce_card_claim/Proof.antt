@@ -2,14 +2,14 @@
 -- Refused, the state is as given (`step-shut`). Otherwise the state is a card's (`opened`), and of what it is afterwards the owner row and the group's part are written (`step-kept`).
 use Rattle.c_face.proofs.TwoGroups.{opened, step-shut, step-kept}
 use Rattle.circuits.specs.Calls.Call.{Claim}
-use borrow.Author.Needs.{needs}
+use native.Mathlib.Omega.{arith}
 use mathlib.Core.Bool.{true}
 use mathlib.Core.Path.{refl}
 use Rattle.c_face.proofs.cards.levelspruce_card_claim.Statement.{statement}
 use Rattle.c_face.proofs.cards.levelspruce_card_claim.Tie as tie
 
 refusal-requires : tie.Need-refusal-requires
-refusal-requires c κs = search needs
+refusal-requires c κs = omega arith
 
 returns : tie.Need-returns
 returns c =
@@ -24,7 +24,7 @@ own-card-requires c κs =
     opened (at-start .args .state .now) (at-start .args .group) _ (at-refusal .refusal .ensures) (c .before .if1 .left) .sized
 
 claim-requires : tie.Need-claim-requires
-claim-requires c κs = search needs
+claim-requires c κs = omega arith
 
 keep-requires : tie.Need-keep-requires
 keep-requires c κs =
@@ -34,7 +34,7 @@ keep-requires c κs =
     opened (at-start .args .state .now) (at-start .args .group) _ (at-refusal .refusal .ensures) (at-if1 .if1 .left) .sized
 
 same-length : tie.Need-same-length
-same-length c = search needs
+same-length c = omega arith
 
 returns-2 : tie.Need-returns-2
 returns-2 c =

@@ -1,12 +1,12 @@
 -- The call meets its contract: 9, 1, and then what the card answers and writes.
 -- The state is only read: behind the refusals it is a card's (`opened`), and the payload is the one of that card.
 use Rattle.c_face.proofs.TwoGroups.{opened, payload-shut, payload-own}
-use borrow.Author.Needs.{needs}
+use native.Mathlib.Omega.{arith}
 use Rattle.c_face.proofs.cards.levelspruce_card_payload.Statement.{statement}
 use Rattle.c_face.proofs.cards.levelspruce_card_payload.Tie as tie
 
 refusal-requires : tie.Need-refusal-requires
-refusal-requires c κs = search needs
+refusal-requires c κs = omega arith
 
 returns : tie.Need-returns
 returns c =
@@ -20,13 +20,13 @@ own-card-requires c κs =
     opened (at-start .args .state .now) (at-start .args .group) _ (c .before .refusal .ensures) (c .if1 .left) .sized
 
 payload-requires : tie.Need-payload-requires
-payload-requires c κs = search needs
+payload-requires c κs = omega arith
 
 number-requires : tie.Need-number-requires
-number-requires c κs = search needs
+number-requires c κs = omega arith
 
 same-length : tie.Need-same-length
-same-length c = search needs
+same-length c = omega arith
 
 returns-2 : tie.Need-returns-2
 returns-2 c =

@@ -1,13 +1,13 @@
 -- The call meets its contract: 9, 1, 9, and then the ranks of the group's epoch.
 -- Refused by its state or its length nothing is written. Otherwise the state is a card's (`opened`), and what is put is the definition's bytes (`shown-done`).
 use Rattle.c_face.proofs.TwoGroups.{opened, shown-shut, shown-room, shown-done, ranks-own}
-use borrow.Author.Needs.{needs}
+use native.Mathlib.Omega.{arith}
 use mathlib.Core.Path.{_∙_}
 use Rattle.c_face.proofs.cards.levelspruce_card_ranks.Statement.{statement}
 use Rattle.c_face.proofs.cards.levelspruce_card_ranks.Tie as tie
 
 refusal-requires : tie.Need-refusal-requires
-refusal-requires c κs = search needs
+refusal-requires c κs = omega arith
 
 returns : tie.Need-returns
 returns c =
@@ -28,13 +28,13 @@ own-card-requires c κs =
     opened (at-start .args .state .now) (at-start .args .group) _ (at-refusal .refusal .ensures) (c .before .if1 .left) .sized
 
 ranks-requires : tie.Need-ranks-requires
-ranks-requires c κs = search needs
+ranks-requires c κs = omega arith
 
 put-ranks-requires : tie.Need-put-ranks-requires
-put-ranks-requires c κs = search needs
+put-ranks-requires c κs = omega arith
 
 same-length : tie.Need-same-length
-same-length c = search needs
+same-length c = omega arith
 
 returns-3 : tie.Need-returns-3
 returns-3 c =

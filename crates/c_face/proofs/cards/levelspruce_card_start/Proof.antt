@@ -2,14 +2,14 @@
 -- Five exits, one for each way through the length, the count and the two epoch numbers; under 4 with a right length an empty card is written. Each cites its law of TwoGroups.
 use Rattle.c_face.proofs.Stepping.{Three, three-said}
 use Rattle.c_face.proofs.TwoGroups.{start-none, start-length, start-outside, start-unfit, start-done}
-use borrow.Author.Needs.{needs}
+use native.Mathlib.Omega.{arith}
 use borrow.Author.Tests.{not-true, not-false}
 use mathlib.Core.Path.{_∙_, sym}
 use Rattle.c_face.proofs.cards.levelspruce_card_start.Statement.{statement}
 use Rattle.c_face.proofs.cards.levelspruce_card_start.Tie as tie
 
 is-outside-requires : tie.Need-is-outside-requires
-is-outside-requires c κs = search needs
+is-outside-requires c κs = omega arith
 
 returns : tie.Need-returns
 returns c =
@@ -26,13 +26,13 @@ returns-2 c =
     start-length (args .count) (args .first-epoch-0) (args .first-epoch-1) _ (at-if1 .if1 .taken) (sym (c .before .is-outside .ensures) ∙ c .if2 .left)
 
 is-outside-requires-2 : tie.Need-is-outside-requires-2
-is-outside-requires-2 c κs = search needs
+is-outside-requires-2 c κs = omega arith
 
 put-start-requires : tie.Need-put-start-requires
-put-start-requires c κs = search needs
+put-start-requires c κs = omega arith
 
 same-length : tie.Need-same-length
-same-length c = search needs
+same-length c = omega arith
 
 returns-3 : tie.Need-returns-3
 returns-3 c =
@@ -45,7 +45,7 @@ returns-3 c =
     start-outside (args .count) (args .first-epoch-0) (args .first-epoch-1) _ _ (at-if1 .if1 .left) (sym (at-is-outside2 .is-outside2 .ensures) ∙ at-if3 .if3 .taken) (at-put-start .put-start .ensures)
 
 are-bytes-requires : tie.Need-are-bytes-requires
-are-bytes-requires c κs = search needs
+are-bytes-requires c κs = omega arith
 
 returns-4 : tie.Need-returns-4
 returns-4 c =
@@ -67,10 +67,10 @@ cast-put-start-2 c =
     let t : Three (at-start .args .first-epoch-0) (at-start .args .first-epoch-1) 0 = three-said _ _ _ (sym (c .before .are-bytes .ensures) ∙ not-false _ (c .if4 .left)) in record { fits = t .second }
 
 put-start-requires-2 : tie.Need-put-start-requires-2
-put-start-requires-2 c κs = search needs
+put-start-requires-2 c κs = omega arith
 
 same-length-2 : tie.Need-same-length-2
-same-length-2 c = search needs
+same-length-2 c = omega arith
 
 returns-5 : tie.Need-returns-5
 returns-5 c =

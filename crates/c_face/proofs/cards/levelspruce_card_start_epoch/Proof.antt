@@ -4,14 +4,14 @@ use Rattle.c_face.proofs.Stepping.{Three, three-said}
 use Rattle.c_face.proofs.TwoGroups.{opened, step-shut, step-unfit, step-kept}
 use Rattle.c_face.specs.Senders.{areBytes}
 use Rattle.circuits.specs.Calls.Call.{StartEpoch}
-use borrow.Author.Needs.{needs}
+use native.Mathlib.Omega.{arith}
 use borrow.Author.Tests.{not-true, not-false}
 use mathlib.Core.Path.{_∙_, sym}
 use Rattle.c_face.proofs.cards.levelspruce_card_start_epoch.Statement.{statement}
 use Rattle.c_face.proofs.cards.levelspruce_card_start_epoch.Tie as tie
 
 refusal-requires : tie.Need-refusal-requires
-refusal-requires c κs = search needs
+refusal-requires c κs = omega arith
 
 returns : tie.Need-returns
 returns c =
@@ -20,7 +20,7 @@ returns c =
     step-shut (args .state .now) (args .group) _ (c .before .refusal .ensures) (c .if1 .taken) (areBytes (args .gid) (args .mst) (args .rs-ack)) (StartEpoch (args .gid) (args .mst) (args .rs-ack))
 
 are-bytes-requires : tie.Need-are-bytes-requires
-are-bytes-requires c κs = search needs
+are-bytes-requires c κs = omega arith
 
 returns-2 : tie.Need-returns-2
 returns-2 c =
@@ -62,7 +62,7 @@ cast-start-epoch-3 c =
     let t : Three (args .gid) (args .mst) (args .rs-ack) = three-said _ _ _ (sym (at-are-bytes .are-bytes .ensures) ∙ not-false _ (at-if2 .if2 .left)) in record { fits = t .third }
 
 start-epoch-requires : tie.Need-start-epoch-requires
-start-epoch-requires c κs = search needs
+start-epoch-requires c κs = omega arith
 
 keep-requires : tie.Need-keep-requires
 keep-requires c κs =
@@ -72,7 +72,7 @@ keep-requires c κs =
     opened (at-start .args .state .now) (at-start .args .group) _ (at-refusal .refusal .ensures) (at-if1 .if1 .left) .sized
 
 same-length : tie.Need-same-length
-same-length c = search needs
+same-length c = omega arith
 
 returns-3 : tie.Need-returns-3
 returns-3 c =

@@ -1,13 +1,13 @@
 use Rattle.c_face.proofs.TwoGroups.{card-alone}
-use borrow.Author.Needs.{needs}
+use native.Mathlib.Omega.{arith}
 use Rattle.c_face.proofs.cards.own_card.Statement.{statement}
 use Rattle.c_face.proofs.cards.own_card.Tie as tie
 
 owners-in-requires : tie.Need-owners-in-requires
-owners-in-requires c κs = search needs
+owners-in-requires c κs = omega arith
 
 part-in-requires : tie.Need-part-in-requires
-part-in-requires c κs = search needs
+part-in-requires c κs = omega arith
 
 returns : tie.Need-returns
 returns c = card-alone (c .before .before .before .args .group) _ _ _ (c .before .owners-in .ensures) (c .part-in .ensures)

@@ -2,7 +2,6 @@ use mathlib.Core.Path.{_≡_, refl}
 use Prim.Native.Nat.{_≤_, _-_}
 use native.Mathlib.Omega.{arith}
 use lib.ListN.{length, getD}
-use borrow.Author.Needs.{needs}
 use Rattle.counting.specs.Each.{Done, done-none, done-more}
 use Rattle.c_face.specs.Cards.{ownersIn}
 use Rattle.c_face.proofs.Wholes.{done-whole}
@@ -19,16 +18,16 @@ loop-holds : tie.Need-loop-holds Inv-loop μ-loop
 loop-holds c = (refl, omega arith, done-none _ _)
 
 shared-slice-read-owners : tie.Need-shared-slice-read-owners Inv-loop μ-loop
-shared-slice-read-owners c = search needs
+shared-slice-read-owners c = omega arith
 
 array-write-owners : tie.Need-array-write-owners Inv-loop μ-loop
-array-write-owners c = search needs
+array-write-owners c = omega arith
 
 add-i : tie.Need-add-i Inv-loop μ-loop
-add-i c = search needs
+add-i c = omega arith
 
 loop-less : tie.Need-loop-less Inv-loop μ-loop
-loop-less c = search needs
+loop-less c = omega arith
 
 loop-again : tie.Need-loop-again Inv-loop μ-loop
 loop-again c = (c .before .before .loop .inv .0, omega arith, done-more _ (c .before .before .loop .inv .2) refl)

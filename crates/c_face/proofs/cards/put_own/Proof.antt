@@ -7,7 +7,7 @@ use Rattle.c_face.proofs.cards.put_own.Statement.{statement}
 use Rattle.c_face.proofs.cards.put_own.Tie as tie
 
 own-sender-requires : tie.Need-own-sender-requires
-own-sender-requires c κs = search needs
+own-sender-requires c κs = omega arith
 
 slice-aggregate-put-bytes : tie.Need-slice-aggregate-put-bytes
 slice-aggregate-put-bytes c = search needs
@@ -18,10 +18,10 @@ put-bytes-requires c κs =
     let l : length (at-start .args .card .owners) ≡ 64 = simp length-map at (at-start .good .0 .1 .1 .0 .1 .0 .1) in rw l (omega arith)
 
 put-part-requires : tie.Need-put-part-requires
-put-part-requires c κs = search needs
+put-part-requires c κs = omega arith
 
 same-length : tie.Need-same-length
-same-length c = search needs
+same-length c = omega arith
 
 returns : tie.Need-returns
 returns c =

@@ -1,17 +1,16 @@
 use Rattle.c_face.proofs.TwoGroups.{owned-whole}
-use borrow.Author.Needs.{needs}
 use native.Mathlib.Omega.{arith}
 use Rattle.c_face.proofs.cards.put_owned.Statement.{statement}
 use Rattle.c_face.proofs.cards.put_owned.Tie as tie
 
 slice-aggregate-put-bytes : tie.Need-slice-aggregate-put-bytes
-slice-aggregate-put-bytes c = search needs
+slice-aggregate-put-bytes c = omega arith
 
 put-bytes-requires : tie.Need-put-bytes-requires
-put-bytes-requires c κs = search needs
+put-bytes-requires c κs = omega arith
 
 same-length : tie.Need-same-length
-same-length c = search needs
+same-length c = omega arith
 
 returns : tie.Need-returns
 returns c = owned-whole (c .before .before .before .before .before .before .args .t1) (c .before .before .before .before .before .before .args .out .now) _ (omega arith) (c .before .before .before .before .before .before .pre) (c .before .before .put-bytes .ensures)

@@ -1,19 +1,19 @@
 use Rattle.c_face.proofs.TwoGroups.{start-put}
-use borrow.Author.Needs.{needs}
+use native.Mathlib.Omega.{arith}
 use Rattle.c_face.proofs.cards.put_start.Statement.{statement}
 use Rattle.c_face.proofs.cards.put_start.Tie as tie
 
 start-requires : tie.Need-start-requires
-start-requires c κs = search needs
+start-requires c κs = omega arith
 
 put-own-requires : tie.Need-put-own-requires
-put-own-requires c κs = search needs
+put-own-requires c κs = omega arith
 
 put-own-requires-2 : tie.Need-put-own-requires-2
-put-own-requires-2 c κs = search needs
+put-own-requires-2 c κs = omega arith
 
 same-length : tie.Need-same-length
-same-length c = search needs
+same-length c = omega arith
 
 returns : tie.Need-returns
 returns c =

@@ -1,20 +1,20 @@
 use mathlib.Core.Path.{refl}
 use Rattle.c_face.specs.Changes.{changesFrom}
-use borrow.Author.Needs.{needs}
+use native.Mathlib.Omega.{arith}
 use Rattle.c_face.proofs.changes.changes_from.Statement.{statement}
 use Rattle.c_face.proofs.changes.changes_from.Tie as tie
 
 shared-slice-read-count : tie.Need-shared-slice-read-count
-shared-slice-read-count c = search needs
+shared-slice-read-count c = omega arith
 
 shared-slice-read-wait : tie.Need-shared-slice-read-wait
-shared-slice-read-wait c = search needs
+shared-slice-read-wait c = omega arith
 
 list-from-requires : tie.Need-list-from-requires
-list-from-requires c κs = search needs
+list-from-requires c κs = omega arith
 
 wait-from-requires : tie.Need-wait-from-requires
-wait-from-requires c κs = search needs
+wait-from-requires c κs = omega arith
 
 returns : tie.Need-returns
 unfolding changesFrom

@@ -5,7 +5,7 @@ use Rattle.spoken.specs.Changes.{answerNumber}
 use Rattle.spoken.specs.declared.applying.Applied.{Applied}
 use Rattle.c_face.specs.Boards.{boardBytesOf}
 use Rattle.c_face.proofs.Telling.{applied-both, applied-first, applied-refusal, applied-second, applied-told, applied-wait}
-use borrow.Author.Needs.{needs}
+use native.Mathlib.Omega.{arith}
 use Rattle.c_face.proofs.changes.levelspruce_board_apply.Statement.{statement}
 use Rattle.c_face.proofs.changes.levelspruce_board_apply.Tie as tie
 
@@ -16,7 +16,7 @@ returns-2 : tie.Need-returns-2
 returns-2 c = applied-second _ _ (c .before .if1 .left) (c .if2 .taken)
 
 shared-slice-read-if3 : tie.Need-shared-slice-read-if3
-shared-slice-read-if3 c = search needs
+shared-slice-read-if3 c = omega arith
 
 returns-3 : tie.Need-returns-3
 returns-3 c =
@@ -25,19 +25,19 @@ returns-3 c =
     applied-wait _ _ (at-if1 .if1 .left) (at-if2 .if2 .left) (c .if3 .taken)
 
 board-from-requires : tie.Need-board-from-requires
-board-from-requires c κs = search needs
+board-from-requires c κs = omega arith
 
 changes-from-requires : tie.Need-changes-from-requires
-changes-from-requires c κs = search needs
+changes-from-requires c κs = omega arith
 
 apply-requires : tie.Need-apply-requires
-apply-requires c κs = search needs
+apply-requires c κs = omega arith
 
 number-requires : tie.Need-number-requires
-number-requires c κs = search needs
+number-requires c κs = omega arith
 
 same-length : tie.Need-same-length
-same-length c = search needs
+same-length c = omega arith
 
 returns-4 : tie.Need-returns-4
 returns-4 c =
@@ -50,10 +50,10 @@ returns-4 c =
     let s = applied-both _ _ _ _ _ (at-board-from .board-from .ensures) (at-changes-from .changes-from .ensures) (at-apply .apply .ensures) in applied-refusal _ _ (at-if1 .if1 .left) (at-if2 .if2 .left) (at-if3 .if3 .left) _ (c .before .number .ensures ∙ ap (λ (r : Applied). answerNumber (r .answer)) s) (c .if4 .taken)
 
 put-board-requires : tie.Need-put-board-requires
-put-board-requires c κs = search needs
+put-board-requires c κs = omega arith
 
 same-length-2 : tie.Need-same-length-2
-same-length-2 c = search needs
+same-length-2 c = omega arith
 
 returns-5 : tie.Need-returns-5
 returns-5 c =

@@ -5,7 +5,7 @@ use Rattle.spoken.specs.Changes.{answerNumber}
 use Rattle.spoken.specs.declared.comparing.Compared.{Compared}
 use Rattle.c_face.specs.Changes.{changesBytesOf}
 use Rattle.c_face.proofs.Telling.{compared-first, compared-both, compared-refusal, compared-second, compared-third, compared-told}
-use borrow.Author.Needs.{needs}
+use native.Mathlib.Omega.{arith}
 use Rattle.c_face.proofs.changes.levelspruce_board_changes.Statement.{statement}
 use Rattle.c_face.proofs.changes.levelspruce_board_changes.Tie as tie
 
@@ -21,16 +21,16 @@ returns-3 c =
     compared-third _ _ _ (at-if1 .if1 .left) (c .before .if2 .left) (c .if3 .taken)
 
 board-from-requires : tie.Need-board-from-requires
-board-from-requires c κs = search needs
+board-from-requires c κs = omega arith
 
 board-from-requires-2 : tie.Need-board-from-requires-2
-board-from-requires-2 c κs = search needs
+board-from-requires-2 c κs = omega arith
 
 changes-between-requires : tie.Need-changes-between-requires
-changes-between-requires c κs = search needs
+changes-between-requires c κs = omega arith
 
 number-requires : tie.Need-number-requires
-number-requires c κs = search needs
+number-requires c κs = omega arith
 
 returns-4 : tie.Need-returns-4
 returns-4 c =
@@ -43,10 +43,10 @@ returns-4 c =
     let s = compared-both _ _ _ _ _ (at-board-from .board-from .ensures) (at-board-from2 .board-from2 .ensures) (at-changes-between .changes-between .ensures) in compared-refusal _ _ _ (at-if1 .if1 .left) (at-if2 .if2 .left) (at-if3 .if3 .left) _ (c .before .number .ensures ∙ ap (λ (r : Compared). answerNumber (r .answer)) s) (c .if4 .taken)
 
 put-changes-requires : tie.Need-put-changes-requires
-put-changes-requires c κs = search needs
+put-changes-requires c κs = omega arith
 
 same-length : tie.Need-same-length
-same-length c = search needs
+same-length c = omega arith
 
 returns-5 : tie.Need-returns-5
 returns-5 c =

@@ -1,5 +1,5 @@
 use Rattle.c_face.proofs.Telling.{speech-bytes, speech-is, spoken-first, spoken-refusal, spoken-second, spoken-told, spoken-wait}
-use borrow.Author.Needs.{needs}
+use native.Mathlib.Omega.{arith}
 use Rattle.c_face.proofs.changes.levelspruce_board_speak.Statement.{statement}
 use Rattle.c_face.proofs.changes.levelspruce_board_speak.Tie as tie
 
@@ -10,7 +10,7 @@ returns-2 : tie.Need-returns-2
 returns-2 c = spoken-second _ _ _ (c .before .if1 .left) (c .if2 .taken)
 
 shared-slice-read-if3 : tie.Need-shared-slice-read-if3
-shared-slice-read-if3 c = search needs
+shared-slice-read-if3 c = omega arith
 
 returns-3 : tie.Need-returns-3
 returns-3 c =
@@ -19,16 +19,16 @@ returns-3 c =
     spoken-wait _ _ _ (at-if1 .if1 .left) (at-if2 .if2 .left) (c .if3 .taken)
 
 changes-from-requires : tie.Need-changes-from-requires
-changes-from-requires c κs = search needs
+changes-from-requires c κs = omega arith
 
 speak-requires : tie.Need-speak-requires
-speak-requires c κs = search needs
+speak-requires c κs = omega arith
 
 number-requires : tie.Need-number-requires
-number-requires c κs = search needs
+number-requires c κs = omega arith
 
 same-length : tie.Need-same-length
-same-length c = search needs
+same-length c = omega arith
 
 returns-4 : tie.Need-returns-4
 returns-4 c =
@@ -40,7 +40,7 @@ returns-4 c =
     spoken-refusal _ _ _ (at-if1 .if1 .left) (at-if2 .if2 .left) (at-if3 .if3 .left) _ _ _ (speech-is _ _ _ _ (at-changes-from .changes-from .ensures) (at-speak .speak .ensures .0)) (c .before .number .ensures) (speech-bytes _ _ _ _ (at-changes-from .changes-from .ensures) (at-speak .speak .ensures .1)) (c .if4 .taken)
 
 same-length-2 : tie.Need-same-length-2
-same-length-2 c = search needs
+same-length-2 c = omega arith
 
 returns-5 : tie.Need-returns-5
 returns-5 c =

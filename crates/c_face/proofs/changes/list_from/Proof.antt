@@ -5,7 +5,6 @@ use lib.ListN.{length}
 use Rattle.counting.specs.Each.{Done, done-more, done-none}
 use Rattle.c_face.specs.Changes.{changeFrom, listFrom}
 use Rattle.c_face.proofs.Wholes.{done-whole}
-use borrow.Author.Needs.{needs}
 use Rattle.c_face.proofs.changes.list_from.Statement.{statement}
 use Rattle.c_face.proofs.changes.list_from.Tie as tie
 
@@ -16,25 +15,25 @@ abbrev μ-loop : tie.MeasureT-loop
 μ-loop bytes list₀ i₀ list i = 64 - i
 
 change-from-requires : tie.Need-change-from-requires Inv-loop μ-loop
-change-from-requires c κs = search needs
+change-from-requires c κs = omega arith
 
 loop-holds : tie.Need-loop-holds Inv-loop μ-loop
 loop-holds c = (refl, omega arith, done-none _ _)
 
 change-from-requires-2 : tie.Need-change-from-requires-2 Inv-loop μ-loop
-change-from-requires-2 c κs = search needs
+change-from-requires-2 c κs = omega arith
 
 mul-list : tie.Need-mul-list Inv-loop μ-loop
-mul-list c = search needs
+mul-list c = omega arith
 
 array-set-from-list : tie.Need-array-set-from-list Inv-loop μ-loop
-array-set-from-list c = search needs
+array-set-from-list c = omega arith
 
 add-i : tie.Need-add-i Inv-loop μ-loop
-add-i c = search needs
+add-i c = omega arith
 
 loop-less : tie.Need-loop-less Inv-loop μ-loop
-loop-less c = search needs
+loop-less c = omega arith
 
 loop-again : tie.Need-loop-again Inv-loop μ-loop
 loop-again c = (c .before .before .loop .inv .0, omega arith, done-more _ (c .before .before .loop .inv .2) (c .change-from2 .ensures))

@@ -1,23 +1,23 @@
 use denote.Ref.{now}
 use Rattle.c_face.proofs.Telling.{changes-whole}
-use borrow.Author.Needs.{needs}
+use native.Mathlib.Omega.{arith}
 use Rattle.c_face.proofs.changes.put_changes.Statement.{statement}
 use Rattle.c_face.proofs.changes.put_changes.Tie as tie
 
 wait-code-requires : tie.Need-wait-code-requires
-wait-code-requires c κs = search needs
+wait-code-requires c κs = omega arith
 
 slice-aggregate-put-bytes : tie.Need-slice-aggregate-put-bytes
-slice-aggregate-put-bytes c = search needs
+slice-aggregate-put-bytes c = omega arith
 
 put-bytes-requires : tie.Need-put-bytes-requires
-put-bytes-requires c κs = search needs
+put-bytes-requires c κs = omega arith
 
 put-list-requires : tie.Need-put-list-requires
-put-list-requires c κs = search needs
+put-list-requires c κs = omega arith
 
 same-length : tie.Need-same-length
-same-length c = search needs
+same-length c = omega arith
 
 returns : tie.Need-returns
 returns c =

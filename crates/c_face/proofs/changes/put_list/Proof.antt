@@ -5,7 +5,6 @@ use lib.ListN.{length}
 use Rattle.ground.specs.Drawn.{Filling, filling-none}
 use Rattle.c_face.specs.Changes.{listByte}
 use Rattle.c_face.proofs.Telling.{five-more}
-use borrow.Author.Needs.{needs}
 use Rattle.c_face.proofs.changes.put_list.Statement.{statement}
 use Rattle.c_face.proofs.changes.put_list.Tie as tie
 
@@ -19,22 +18,22 @@ loop-holds : tie.Need-loop-holds Inv-loop μ-loop
 loop-holds c = (omega arith, omega arith, filling-none _ _ _)
 
 mul-change : tie.Need-mul-change Inv-loop μ-loop
-mul-change c = search needs
+mul-change c = omega arith
 
 array-copy-out-change : tie.Need-array-copy-out-change Inv-loop μ-loop
-array-copy-out-change c = search needs
+array-copy-out-change c = omega arith
 
 change-bytes-requires : tie.Need-change-bytes-requires Inv-loop μ-loop
-change-bytes-requires c κs = search needs
+change-bytes-requires c κs = omega arith
 
 slice-aggregate-put-bytes : tie.Need-slice-aggregate-put-bytes Inv-loop μ-loop
-slice-aggregate-put-bytes c = search needs
+slice-aggregate-put-bytes c = omega arith
 
 mul-put-bytes : tie.Need-mul-put-bytes Inv-loop μ-loop
-mul-put-bytes c = search needs
+mul-put-bytes c = omega arith
 
 add-put-bytes : tie.Need-add-put-bytes Inv-loop μ-loop
-add-put-bytes c = search needs
+add-put-bytes c = omega arith
 
 put-bytes-requires : tie.Need-put-bytes-requires Inv-loop μ-loop
 put-bytes-requires c κs =
@@ -43,10 +42,10 @@ put-bytes-requires c κs =
     let f = at-loop .loop .inv .2 .len in let l = at-start .pre in omega arith
 
 add-i : tie.Need-add-i Inv-loop μ-loop
-add-i c = search needs
+add-i c = omega arith
 
 loop-less : tie.Need-loop-less Inv-loop μ-loop
-loop-less c = search needs
+loop-less c = omega arith
 
 loop-again : tie.Need-loop-again Inv-loop μ-loop
 loop-again c =

@@ -1,45 +1,45 @@
 use mathlib.Core.Path.{refl}
-use borrow.Author.Needs.{needs}
+use native.Mathlib.Omega.{arith}
 use Rattle.c_face.specs.Orders.{kindAnswerOn, kindStateOn}
 use Rattle.c_face.proofs.Ordering.{no-kind}
 use Rattle.c_face.proofs.commands.by_kind.Statement.{statement}
 use Rattle.c_face.proofs.commands.by_kind.Tie as tie
 
 levelspruce-card-add-requires : tie.Need-levelspruce-card-add-requires
-levelspruce-card-add-requires c κs = search needs
+levelspruce-card-add-requires c κs = omega arith
 
 levelspruce-card-remove-requires : tie.Need-levelspruce-card-remove-requires
-levelspruce-card-remove-requires c κs = search needs
+levelspruce-card-remove-requires c κs = omega arith
 
 levelspruce-card-claim-requires : tie.Need-levelspruce-card-claim-requires
-levelspruce-card-claim-requires c κs = search needs
+levelspruce-card-claim-requires c κs = omega arith
 
 levelspruce-card-release-requires : tie.Need-levelspruce-card-release-requires
-levelspruce-card-release-requires c κs = search needs
+levelspruce-card-release-requires c κs = omega arith
 
 same-length : tie.Need-same-length
-same-length c = search needs
+same-length c = omega arith
 
 returns : tie.Need-returns
 unfolding kindAnswerOn kindStateOn
 returns c = rw (c .before .before .before .before .match .keys1) (c .before .before .levelspruce-card-add .ensures)
 
 same-length-2 : tie.Need-same-length-2
-same-length-2 c = search needs
+same-length-2 c = omega arith
 
 returns-2 : tie.Need-returns-2
 unfolding kindAnswerOn kindStateOn
 returns-2 c = rw (c .before .before .before .before .match .keys2) (c .before .before .levelspruce-card-remove .ensures)
 
 same-length-3 : tie.Need-same-length-3
-same-length-3 c = search needs
+same-length-3 c = omega arith
 
 returns-3 : tie.Need-returns-3
 unfolding kindAnswerOn kindStateOn
 returns-3 c = rw (c .before .before .before .before .match .keys3) (c .before .before .levelspruce-card-claim .ensures)
 
 same-length-4 : tie.Need-same-length-4
-same-length-4 c = search needs
+same-length-4 c = omega arith
 
 returns-4 : tie.Need-returns-4
 unfolding kindAnswerOn kindStateOn

@@ -4,7 +4,6 @@ use mathlib.Core.Path.{_≡_, refl}
 use Prim.Native.Nat.{_-_, _≤_}
 use native.Mathlib.Omega.{arith}
 use lib.ListN.{length}
-use borrow.Author.Needs.{needs}
 use Rattle.c_face.proofs.Ordering.{bytes-all, bytes-length, bytes-next, bytesAt, in-list, list-all, list-length, list-next, listAt}
 use Rattle.c_face.proofs.commands.each.Statement.{statement}
 use Rattle.c_face.proofs.commands.each.Tie as tie
@@ -19,13 +18,13 @@ loop-holds : tie.Need-loop-holds Inv-loop μ-loop
 loop-holds c = (omega arith, refl, refl)
 
 mul-command : tie.Need-mul-command Inv-loop μ-loop
-mul-command c = search needs
+mul-command c = omega arith
 
 shared-slice-copy-out-command : tie.Need-shared-slice-copy-out-command Inv-loop μ-loop
-shared-slice-copy-out-command c = search needs
+shared-slice-copy-out-command c = omega arith
 
 one-requires : tie.Need-one-requires Inv-loop μ-loop
-one-requires c κs = search needs
+one-requires c κs = omega arith
 
 slice-write-answers : tie.Need-slice-write-answers Inv-loop μ-loop
 slice-write-answers c =
@@ -36,10 +35,10 @@ slice-write-answers c =
     in-list (args .state .now) (args .commands .now) (args .answers .now) (at-loop .loop .i) _ (at-loop .loop .inv .2) (at-start .pre) (at-loop-test .loop-test .taken)
 
 add-i : tie.Need-add-i Inv-loop μ-loop
-add-i c = search needs
+add-i c = omega arith
 
 loop-less : tie.Need-loop-less Inv-loop μ-loop
-loop-less c = search needs
+loop-less c = omega arith
 
 loop-again : tie.Need-loop-again Inv-loop μ-loop
 loop-again c =

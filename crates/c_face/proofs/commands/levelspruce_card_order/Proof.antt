@@ -1,4 +1,4 @@
-use borrow.Author.Needs.{needs}
+use native.Mathlib.Omega.{arith}
 use Rattle.c_face.proofs.Ordering.{order-done, order-unequal, order-unsized}
 use Rattle.c_face.proofs.commands.levelspruce_card_order.Statement.{statement}
 use Rattle.c_face.proofs.commands.levelspruce_card_order.Tie as tie
@@ -16,13 +16,13 @@ returns-2 c =
     order-unequal (args .state .now) (args .commands .now) (args .answers .now) (c .before .if1 .left) (c .if2 .taken)
 
 each-requires : tie.Need-each-requires
-each-requires c κs = search needs
+each-requires c κs = omega arith
 
 same-length : tie.Need-same-length
-same-length c = search needs
+same-length c = omega arith
 
 same-length-2 : tie.Need-same-length-2
-same-length-2 c = search needs
+same-length-2 c = omega arith
 
 returns-3 : tie.Need-returns-3
 returns-3 c =

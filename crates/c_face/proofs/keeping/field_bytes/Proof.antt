@@ -1,18 +1,18 @@
-use borrow.Author.Needs.{needs}
+use native.Mathlib.Omega.{arith}
 use Rattle.c_face.proofs.keeping.field_bytes.Statement.{statement}
 use Rattle.c_face.proofs.keeping.field_bytes.Tie as tie
 
 one-if-requires : tie.Need-one-if-requires
-one-if-requires c κs = search needs
+one-if-requires c κs = omega arith
 
 one-if-requires-2 : tie.Need-one-if-requires-2
-one-if-requires-2 c κs = search needs
+one-if-requires-2 c κs = omega arith
 
 one-if-requires-3 : tie.Need-one-if-requires-3
-one-if-requires-3 c κs = search needs
+one-if-requires-3 c κs = omega arith
 
 one-if-requires-4 : tie.Need-one-if-requires-4
-one-if-requires-4 c κs = search needs
+one-if-requires-4 c κs = omega arith
 
 returns : tie.Need-returns
 returns c = cc

@@ -1,7 +1,6 @@
 use mathlib.Core.Path.{_≡_}
 use Prim.Native.Nat.{_≤_, _-_}
 use native.Mathlib.Omega.{arith}
-use borrow.Author.Needs.{needs}
 use Rattle.ground.specs.Drawn.{Filling, filling-none}
 use Rattle.c_face.specs.Keeping.{rowsByte}
 use Rattle.c_face.proofs.Wholes.{filling-put}
@@ -18,25 +17,25 @@ loop-holds : tie.Need-loop-holds Inv-loop μ-loop
 loop-holds c = (omega arith, filling-none _ _ _)
 
 mul-row-byte : tie.Need-mul-row-byte Inv-loop μ-loop
-mul-row-byte c = search needs
+mul-row-byte c = omega arith
 
 array-copy-out-row-byte : tie.Need-array-copy-out-row-byte Inv-loop μ-loop
-array-copy-out-row-byte c = search needs
+array-copy-out-row-byte c = omega arith
 
 row-byte-requires : tie.Need-row-byte-requires Inv-loop μ-loop
-row-byte-requires c κs = search needs
+row-byte-requires c κs = omega arith
 
 add-out : tie.Need-add-out Inv-loop μ-loop
-add-out c = search needs
+add-out c = omega arith
 
 slice-write-out : tie.Need-slice-write-out Inv-loop μ-loop
 slice-write-out c = omega arith
 
 add-k : tie.Need-add-k Inv-loop μ-loop
-add-k c = search needs
+add-k c = omega arith
 
 loop-less : tie.Need-loop-less Inv-loop μ-loop
-loop-less c = search needs
+loop-less c = omega arith
 
 loop-again : tie.Need-loop-again Inv-loop μ-loop
 loop-again c = (omega arith, filling-put _ (c .before .before .before .loop .inv .1) (c .row-byte .ensures))

@@ -1,31 +1,31 @@
 -- `put_sender` meets its contract: slots, both boards' rows and the fields, at their places.
 -- Four pieces are written one behind the other and fill the whole state, so that nothing of the old one is left (`put-whole`).
-use borrow.Author.Needs.{needs}
+use native.Mathlib.Omega.{arith}
 use Rattle.c_face.proofs.Pieces.{put-whole}
 use Rattle.c_face.proofs.keeping.put_sender.Statement.{statement}
 use denote.Ref.{now}
 use Rattle.c_face.proofs.keeping.put_sender.Tie as tie
 
 field-bytes-requires : tie.Need-field-bytes-requires
-field-bytes-requires c κs = search needs
+field-bytes-requires c κs = omega arith
 
 put-slots-requires : tie.Need-put-slots-requires
-put-slots-requires c κs = search needs
+put-slots-requires c κs = omega arith
 
 put-rows-requires : tie.Need-put-rows-requires
-put-rows-requires c κs = search needs
+put-rows-requires c κs = omega arith
 
 put-rows-requires-2 : tie.Need-put-rows-requires-2
-put-rows-requires-2 c κs = search needs
+put-rows-requires-2 c κs = omega arith
 
 slice-aggregate-put-bytes : tie.Need-slice-aggregate-put-bytes
-slice-aggregate-put-bytes c = search needs
+slice-aggregate-put-bytes c = omega arith
 
 put-bytes-requires : tie.Need-put-bytes-requires
-put-bytes-requires c κs = search needs
+put-bytes-requires c κs = omega arith
 
 same-length : tie.Need-same-length
-same-length c = search needs
+same-length c = omega arith
 
 returns : tie.Need-returns
 returns c =

@@ -1,7 +1,6 @@
 use mathlib.Core.Path.{_≡_}
 use Prim.Native.Nat.{_≤_, _-_}
 use native.Mathlib.Omega.{arith}
-use borrow.Author.Needs.{needs}
 use Rattle.ground.specs.Drawn.{Filling, filling-none}
 use Rattle.c_face.specs.Keeping.{slotsByte}
 use Rattle.c_face.proofs.Wholes.{filling-first}
@@ -18,22 +17,22 @@ loop-holds : tie.Need-loop-holds Inv-loop μ-loop
 loop-holds c = (omega arith, filling-none _ _ _)
 
 mul-slot-byte : tie.Need-mul-slot-byte Inv-loop μ-loop
-mul-slot-byte c = search needs
+mul-slot-byte c = omega arith
 
 array-copy-out-slot-byte : tie.Need-array-copy-out-slot-byte Inv-loop μ-loop
-array-copy-out-slot-byte c = search needs
+array-copy-out-slot-byte c = omega arith
 
 slot-byte-requires : tie.Need-slot-byte-requires Inv-loop μ-loop
-slot-byte-requires c κs = search needs
+slot-byte-requires c κs = omega arith
 
 slice-write-out : tie.Need-slice-write-out Inv-loop μ-loop
 slice-write-out c = omega arith
 
 add-k : tie.Need-add-k Inv-loop μ-loop
-add-k c = search needs
+add-k c = omega arith
 
 loop-less : tie.Need-loop-less Inv-loop μ-loop
-loop-less c = search needs
+loop-less c = omega arith
 
 loop-again : tie.Need-loop-again Inv-loop μ-loop
 loop-again c = (omega arith, filling-first _ (c .before .before .before .loop .inv .1) (c .slot-byte .ensures))

@@ -1,47 +1,47 @@
 use mathlib.Core.Path.{refl}
-use borrow.Author.Needs.{needs}
+use native.Mathlib.Omega.{arith}
 use Rattle.c_face.specs.Keeping.{senderOf}
 use Rattle.c_face.proofs.keeping.sender_of.Statement.{statement}
 use Rattle.c_face.proofs.keeping.sender_of.Tie as tie
 
 table-in-requires : tie.Need-table-in-requires
-table-in-requires c κs = search needs
+table-in-requires c κs = omega arith
 
 shared-slice-read-board-in : tie.Need-shared-slice-read-board-in
-shared-slice-read-board-in c = search needs
+shared-slice-read-board-in c = omega arith
 
 shared-slice-read-board-in-2 : tie.Need-shared-slice-read-board-in-2
-shared-slice-read-board-in-2 c = search needs
+shared-slice-read-board-in-2 c = omega arith
 
 board-in-requires : tie.Need-board-in-requires
-board-in-requires c κs = search needs
+board-in-requires c κs = omega arith
 
 shared-slice-read-board-in-3 : tie.Need-shared-slice-read-board-in-3
-shared-slice-read-board-in-3 c = search needs
+shared-slice-read-board-in-3 c = omega arith
 
 shared-slice-read-board-in-4 : tie.Need-shared-slice-read-board-in-4
-shared-slice-read-board-in-4 c = search needs
+shared-slice-read-board-in-4 c = omega arith
 
 board-in-requires-2 : tie.Need-board-in-requires-2
-board-in-requires-2 c κs = search needs
+board-in-requires-2 c κs = omega arith
 
 shared-slice-read-is-set : tie.Need-shared-slice-read-is-set
-shared-slice-read-is-set c = search needs
+shared-slice-read-is-set c = omega arith
 
 is-set-requires : tie.Need-is-set-requires
-is-set-requires c κs = search needs
+is-set-requires c κs = omega arith
 
 shared-slice-read-t9 : tie.Need-shared-slice-read-t9
-shared-slice-read-t9 c = search needs
+shared-slice-read-t9 c = omega arith
 
 shared-slice-read-t7 : tie.Need-shared-slice-read-t7
-shared-slice-read-t7 c = search needs
+shared-slice-read-t7 c = omega arith
 
 shared-slice-read-t16 : tie.Need-shared-slice-read-t16
-shared-slice-read-t16 c = search needs
+shared-slice-read-t16 c = omega arith
 
 shared-slice-read-t18 : tie.Need-shared-slice-read-t18
-shared-slice-read-t18 c = search needs
+shared-slice-read-t18 c = omega arith
 
 returns : tie.Need-returns
 unfolding senderOf

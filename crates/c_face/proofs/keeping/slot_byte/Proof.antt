@@ -1,11 +1,11 @@
 use mathlib.Core.Path.{refl}
-use borrow.Author.Needs.{needs}
+use native.Mathlib.Omega.{arith}
 use borrow.Author.Tests.{eq-eqb, ne-eqb}
 use Rattle.c_face.proofs.keeping.slot_byte.Statement.{statement}
 use Rattle.c_face.proofs.keeping.slot_byte.Tie as tie
 
 code-of-requires : tie.Need-code-of-requires
-code-of-requires c κs = search needs
+code-of-requires c κs = omega arith
 
 returns : tie.Need-returns
 returns c = rw (eq-eqb _ 0 (c .if1 .taken)) (c .before .code-of .ensures)

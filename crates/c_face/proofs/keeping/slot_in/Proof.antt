@@ -1,25 +1,25 @@
 use mathlib.Core.Path.{refl}
-use borrow.Author.Needs.{needs}
+use native.Mathlib.Omega.{arith}
 use Rattle.c_face.proofs.keeping.slot_in.Statement.{statement}
 use Rattle.c_face.proofs.keeping.slot_in.Tie as tie
 
 mul-code : tie.Need-mul-code
-mul-code c = search needs
+mul-code c = omega arith
 
 shared-slice-read-code : tie.Need-shared-slice-read-code
-shared-slice-read-code c = search needs
+shared-slice-read-code c = omega arith
 
 mul-number : tie.Need-mul-number
-mul-number c = search needs
+mul-number c = omega arith
 
 add-number : tie.Need-add-number
-add-number c = search needs
+add-number c = omega arith
 
 shared-slice-read-number : tie.Need-shared-slice-read-number
-shared-slice-read-number c = search needs
+shared-slice-read-number c = omega arith
 
 state-of-requires : tie.Need-state-of-requires
-state-of-requires c κs = search needs
+state-of-requires c κs = omega arith
 
 returns : tie.Need-returns
 returns c = rw (c .state-of .ensures) refl

@@ -2,7 +2,6 @@ use mathlib.Core.Path.{_≡_, refl}
 use Prim.Native.Nat.{_≤_, _-_}
 use native.Mathlib.Omega.{arith}
 use lib.ListN.{length}
-use borrow.Author.Needs.{needs}
 use Rattle.c_face.specs.Keeping.{slotIn, slotsIn}
 use Rattle.c_face.proofs.Wholes.{done-whole}
 use Rattle.c_face.proofs.keeping.slots_in.Statement.{statement}
@@ -19,19 +18,19 @@ loop-holds : tie.Need-loop-holds Inv-loop μ-loop
 loop-holds c = (refl, omega arith, done-none _ _)
 
 slot-in-requires : tie.Need-slot-in-requires Inv-loop μ-loop
-slot-in-requires c κs = search needs
+slot-in-requires c κs = omega arith
 
 mul-slots : tie.Need-mul-slots Inv-loop μ-loop
-mul-slots c = search needs
+mul-slots c = omega arith
 
 array-set-from-slots : tie.Need-array-set-from-slots Inv-loop μ-loop
-array-set-from-slots c = search needs
+array-set-from-slots c = omega arith
 
 add-i : tie.Need-add-i Inv-loop μ-loop
-add-i c = search needs
+add-i c = omega arith
 
 loop-less : tie.Need-loop-less Inv-loop μ-loop
-loop-less c = search needs
+loop-less c = omega arith
 
 loop-again : tie.Need-loop-again Inv-loop μ-loop
 loop-again c = (c .before .before .loop .inv .0, omega arith, done-more _ (c .before .before .loop .inv .2) (c .slot-in .ensures))

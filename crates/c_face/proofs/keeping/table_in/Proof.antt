@@ -1,25 +1,25 @@
 use mathlib.Core.Path.{refl}
-use borrow.Author.Needs.{needs}
+use native.Mathlib.Omega.{arith}
 use Rattle.c_face.proofs.keeping.table_in.Statement.{statement}
 use Rattle.c_face.proofs.keeping.table_in.Tie as tie
 
 shared-slice-read-count : tie.Need-shared-slice-read-count
-shared-slice-read-count c = search needs
+shared-slice-read-count c = omega arith
 
 shared-slice-read-wait : tie.Need-shared-slice-read-wait
-shared-slice-read-wait c = search needs
+shared-slice-read-wait c = omega arith
 
 shared-slice-read-bit : tie.Need-shared-slice-read-bit
-shared-slice-read-bit c = search needs
+shared-slice-read-bit c = omega arith
 
 shared-slice-read-kind : tie.Need-shared-slice-read-kind
-shared-slice-read-kind c = search needs
+shared-slice-read-kind c = omega arith
 
 slots-in-requires : tie.Need-slots-in-requires
-slots-in-requires c κs = search needs
+slots-in-requires c κs = omega arith
 
 is-set-requires : tie.Need-is-set-requires
-is-set-requires c κs = search needs
+is-set-requires c κs = omega arith
 
 returns : tie.Need-returns
 returns c = rw (c .is-set .ensures, c .before .slots-in .ensures) refl

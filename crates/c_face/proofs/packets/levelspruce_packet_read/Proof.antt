@@ -1,5 +1,5 @@
 use mathlib.Core.Path.{refl}
-use borrow.Author.Needs.{needs}
+use native.Mathlib.Omega.{arith}
 use Rattle.c_face.proofs.Answers.{read-wrong, read-right}
 use Rattle.c_face.proofs.packets.levelspruce_packet_read.Statement.{statement}
 use Rattle.c_face.proofs.packets.levelspruce_packet_read.Tie as tie
@@ -8,28 +8,28 @@ returns : tie.Need-returns
 returns c = read-wrong _ _ (c .if1 .taken)
 
 read-requires : tie.Need-read-requires
-read-requires c κs = search needs
+read-requires c κs = omega arith
 
 enum-known-reading : tie.Need-enum-known-reading
-enum-known-reading c = search needs
+enum-known-reading c = omega arith
 
 put-values-requires : tie.Need-put-values-requires
-put-values-requires c κs = search needs
+put-values-requires c κs = omega arith
 
 enum-told : tie.Need-enum-told
-enum-told c = search needs
+enum-told c = omega arith
 
 enum-told-2 : tie.Need-enum-told-2
-enum-told-2 c = search needs
+enum-told-2 c = omega arith
 
 enum-told-3 : tie.Need-enum-told-3
-enum-told-3 c = search needs
+enum-told-3 c = omega arith
 
 enum-told-4 : tie.Need-enum-told-4
-enum-told-4 c = search needs
+enum-told-4 c = omega arith
 
 same-length : tie.Need-same-length
-same-length c = search needs
+same-length c = omega arith
 
 returns-2 : tie.Need-returns-2
 returns-2 c = read-right _ _ _ _ _ (c .before .before .before .before .before .before .before .before .if1 .left) (c .before .before .before .before .before .before .before .read .ensures) (c .before .before .before .before .before .reading .given .1) (c .before .before .put-values .ensures)

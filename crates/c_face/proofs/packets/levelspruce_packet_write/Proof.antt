@@ -1,6 +1,5 @@
 use mathlib.Core.Path.{_∙_, ap, sym}
 use native.Mathlib.Omega.{arith}
-use borrow.Author.Needs.{needs}
 use borrow.Author.Tests.{not-true, not-false}
 use Rattle.c_face.proofs.Answers.{Bytes, bytes-said, write-unfit}
 use Rattle.c_face.proofs.packets.levelspruce_packet_write.Statement.{statement}
@@ -8,10 +7,10 @@ use Rattle.packet.specs.Writing.{writingNumber}
 use Rattle.c_face.proofs.packets.levelspruce_packet_write.Tie as tie
 
 are-bytes-requires : tie.Need-are-bytes-requires
-are-bytes-requires c κs = search needs
+are-bytes-requires c κs = omega arith
 
 write-refusal-requires : tie.Need-write-refusal-requires
-write-refusal-requires c κs = search needs
+write-refusal-requires c κs = omega arith
 
 returns : tie.Need-returns
 returns c = write-unfit _ _ _ _ _ _ _ _ _ (sym (c .before .before .are-bytes .ensures) ∙ not-true _ (c .before .if1 .taken)) (c .write-refusal .ensures)
@@ -39,13 +38,13 @@ cast-t20 : tie.Need-cast-t20
 cast-t20 c = let b = fit c in omega arith
 
 write-requires : tie.Need-write-requires
-write-requires c κs = search needs
+write-requires c κs = omega arith
 
 number-requires : tie.Need-number-requires
-number-requires c κs = search needs
+number-requires c κs = omega arith
 
 same-length : tie.Need-same-length
-same-length c = search needs
+same-length c = omega arith
 
 returns-2 : tie.Need-returns-2
 returns-2 c = (c .number .ensures ∙ ap writingNumber (c .before .before .before .write .ensures .0), c .before .before .before .write .ensures .1)

@@ -1,15 +1,15 @@
 use mathlib.Core.Path.{refl, sym, _∙_}
-use borrow.Author.Needs.{needs}
+use native.Mathlib.Omega.{arith}
 use borrow.Author.Tests.{eq-eqb, ne-eqb}
 use Rattle.packet.specs.Kinds.{frames}
 use Rattle.c_face.proofs.packets.write_refusal.Statement.{statement}
 use Rattle.c_face.proofs.packets.write_refusal.Tie as tie
 
 epoch-frames-requires : tie.Need-epoch-frames-requires
-epoch-frames-requires c κs = search needs
+epoch-frames-requires c κs = omega arith
 
 cast-if1 : tie.Need-cast-if1
-cast-if1 c = search needs
+cast-if1 c = omega arith
 
 returns : tie.Need-returns
 returns c = rw (eq-eqb _ (frames 0) (c .if1 .taken ∙ c .before .epoch-frames .ensures)) refl

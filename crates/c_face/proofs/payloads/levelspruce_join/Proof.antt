@@ -1,17 +1,17 @@
 use mathlib.Core.Path.{_∙_, ap}
-use borrow.Author.Needs.{needs}
+use native.Mathlib.Omega.{arith}
 use Rattle.c_face.proofs.payloads.levelspruce_join.Statement.{statement}
 use Rattle.payload.specs.Answers.{numberOf}
 use Rattle.c_face.proofs.payloads.levelspruce_join.Tie as tie
 
 join-requires : tie.Need-join-requires
-join-requires c κs = search needs
+join-requires c κs = omega arith
 
 number-requires : tie.Need-number-requires
-number-requires c κs = search needs
+number-requires c κs = omega arith
 
 same-length : tie.Need-same-length
-same-length c = search needs
+same-length c = omega arith
 
 returns : tie.Need-returns
 returns c = (c .number .ensures ∙ ap numberOf (c .before .before .before .join .ensures .0), c .before .before .before .join .ensures .1)

@@ -5,15 +5,16 @@ use denote.Ref.{now}
 use Rattle.ground.specs.Flags.{oneIf}
 use Rattle.paths.specs.declared.checking.Checked.{Checked}
 use Rattle.c_face.proofs.Planning.{check-number, lent-done, lent-refused, lent-short, one-byte}
+use native.Mathlib.Omega.{arith}
 use borrow.Author.Needs.{needs}
 use Rattle.c_face.proofs.plans.levelspruce_paths_check.Statement.{statement}
 use Rattle.c_face.proofs.plans.levelspruce_paths_check.Tie as tie
 
 check-requires : tie.Need-check-requires
-check-requires c κs = search needs
+check-requires c κs = omega arith
 
 number-requires : tie.Need-number-requires
-number-requires c κs = search needs
+number-requires c κs = omega arith
 
 returns : tie.Need-returns
 returns c =
@@ -31,10 +32,10 @@ returns-2 c =
     lent-short _ _ 1 _ _ (check-number (args .delays .now) (args .k) (args .window) (args .set .now) (at-check .check .result) (at-number .number .result) (at-number .number .ensures) (at-check .check .ensures)) (c .before .if1 .left) (c .if2 .taken)
 
 one-if-requires : tie.Need-one-if-requires
-one-if-requires c κs = search needs
+one-if-requires c κs = omega arith
 
 slice-write-accepted : tie.Need-slice-write-accepted
-slice-write-accepted c = search needs
+slice-write-accepted c = omega arith
 
 same-length : tie.Need-same-length
 same-length c = search needs

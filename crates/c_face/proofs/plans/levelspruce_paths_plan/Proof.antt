@@ -1,15 +1,15 @@
 use mathlib.Core.Path.{_∙_, ap}
 use Rattle.c_face.specs.Plans.{planBytesOf}
 use Rattle.c_face.proofs.Planning.{lent-done, lent-refused, lent-short, plan-number}
-use borrow.Author.Needs.{needs}
+use native.Mathlib.Omega.{arith}
 use Rattle.c_face.proofs.plans.levelspruce_paths_plan.Statement.{statement}
 use Rattle.c_face.proofs.plans.levelspruce_paths_plan.Tie as tie
 
 plan-requires : tie.Need-plan-requires
-plan-requires c κs = search needs
+plan-requires c κs = omega arith
 
 number-requires : tie.Need-number-requires
-number-requires c κs = search needs
+number-requires c κs = omega arith
 
 returns : tie.Need-returns
 returns c =
@@ -27,10 +27,10 @@ returns-2 c =
     lent-short _ _ 65 _ _ (plan-number (args .delays .now) (args .k) (args .window) (at-plan .plan .result) (at-number .number .result) (at-number .number .ensures) (at-plan .plan .ensures)) (c .before .if1 .left) (c .if2 .taken)
 
 put-plan-requires : tie.Need-put-plan-requires
-put-plan-requires c κs = search needs
+put-plan-requires c κs = omega arith
 
 same-length : tie.Need-same-length
-same-length c = search needs
+same-length c = omega arith
 
 returns-3 : tie.Need-returns-3
 returns-3 c =

@@ -8,10 +8,10 @@ use Rattle.c_face.proofs.plans.put_plan.Statement.{statement}
 use Rattle.c_face.proofs.plans.put_plan.Tie as tie
 
 slice-aggregate-put-bytes : tie.Need-slice-aggregate-put-bytes
-slice-aggregate-put-bytes c = search needs
+slice-aggregate-put-bytes c = omega arith
 
 put-bytes-requires : tie.Need-put-bytes-requires
-put-bytes-requires c κs = search needs
+put-bytes-requires c κs = omega arith
 
 slice-aggregate-put-bytes-2 : tie.Need-slice-aggregate-put-bytes-2
 slice-aggregate-put-bytes-2 c = search needs
@@ -23,7 +23,7 @@ put-bytes-requires-2 c κs =
     let l : length (at-start .args .plan .paths) ≡ 64 = simp length-map at (at-start .good .0 .1 .1 .0 .1 .0 .1) in rw l (omega arith)
 
 same-length : tie.Need-same-length
-same-length c = search needs
+same-length c = omega arith
 
 returns : tie.Need-returns
 returns c =

@@ -1,11 +1,10 @@
 use native.Mathlib.Omega.{arith}
 use borrow.Author.Tests.{lt-ltb, le-ltb}
-use borrow.Author.Needs.{needs}
 use Rattle.c_face.proofs.receivers.kind_byte.Statement.{statement}
 use Rattle.c_face.proofs.receivers.kind_byte.Tie as tie
 
 cast-result : tie.Need-cast-result
-cast-result c = search needs
+cast-result c = omega arith
 
 returns : tie.Need-returns
 returns c = search (lt-ltb, le-ltb, arith)

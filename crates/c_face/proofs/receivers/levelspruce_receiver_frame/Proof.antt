@@ -1,18 +1,18 @@
-use borrow.Author.Needs.{needs}
+use native.Mathlib.Omega.{arith}
 use Rattle.c_face.proofs.receivers.levelspruce_receiver_frame.Statement.{statement}
 use Rattle.c_face.proofs.receivers.levelspruce_receiver_frame.Tie as tie
 
 is-failed-requires : tie.Need-is-failed-requires
-is-failed-requires c κs = search needs
+is-failed-requires c κs = omega arith
 
 frame-requires : tie.Need-frame-requires
-frame-requires c κs = search needs
+frame-requires c κs = omega arith
 
 same-length : tie.Need-same-length
-same-length c = search needs
+same-length c = omega arith
 
 same-length-2 : tie.Need-same-length-2
-same-length-2 c = search needs
+same-length-2 c = omega arith
 
 returns : tie.Need-returns
 returns c = rw (← c .before .before .before .before .before .before .is-failed .ensures) (c .before .before .before .frame .ensures)

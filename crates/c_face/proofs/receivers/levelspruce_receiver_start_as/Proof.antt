@@ -1,15 +1,15 @@
-use borrow.Author.Needs.{needs}
+use native.Mathlib.Omega.{arith}
 use Rattle.c_face.proofs.receivers.levelspruce_receiver_start_as.Statement.{statement}
 use Rattle.c_face.proofs.receivers.levelspruce_receiver_start_as.Tie as tie
 
 kind-byte-requires : tie.Need-kind-byte-requires
-kind-byte-requires c κs = search needs
+kind-byte-requires c κs = omega arith
 
 start-as-requires : tie.Need-start-as-requires
-start-as-requires c κs = search needs
+start-as-requires c κs = omega arith
 
 same-length : tie.Need-same-length
-same-length c = search needs
+same-length c = omega arith
 
 returns : tie.Need-returns
 returns c = rw (← c .before .before .before .kind-byte .ensures) (c .before .start-as .ensures)

@@ -1,10 +1,10 @@
-use borrow.Author.Needs.{needs}
+use native.Mathlib.Omega.{arith}
 use Rattle.c_face.proofs.Stepping.{keep-refused, keep-done}
 use Rattle.c_face.proofs.senders.keep.Statement.{statement}
 use Rattle.c_face.proofs.senders.keep.Tie as tie
 
 number-requires : tie.Need-number-requires
-number-requires c κs = search needs
+number-requires c κs = omega arith
 
 returns : tie.Need-returns
 returns c =
@@ -12,10 +12,10 @@ returns c =
     keep-refused (at-start .args .step) _ _ (c .before .number .ensures) (c .if1 .taken)
 
 put-sender-requires : tie.Need-put-sender-requires
-put-sender-requires c κs = search needs
+put-sender-requires c κs = omega arith
 
 same-length : tie.Need-same-length
-same-length c = search needs
+same-length c = omega arith
 
 returns-2 : tie.Need-returns-2
 returns-2 c =

@@ -1,6 +1,6 @@
 use mathlib.Core.Bool.{true}
 use mathlib.Core.Path.{refl}
-use borrow.Author.Needs.{needs}
+use native.Mathlib.Omega.{arith}
 use Rattle.c_face.proofs.Stepping.{step-length, step-kept}
 use Rattle.c_face.proofs.senders.levelspruce_sender_lapse.Statement.{statement}
 use Rattle.sender.specs.Epochs.SenderCall.{OnTable}
@@ -11,16 +11,16 @@ returns : tie.Need-returns
 returns c = step-length _ true (OnTable Lapse) (c .if1 .taken)
 
 sender-of-requires : tie.Need-sender-of-requires
-sender-of-requires c κs = search needs
+sender-of-requires c κs = omega arith
 
 lapse-requires : tie.Need-lapse-requires
-lapse-requires c κs = search needs
+lapse-requires c κs = omega arith
 
 keep-requires : tie.Need-keep-requires
-keep-requires c κs = search needs
+keep-requires c κs = omega arith
 
 same-length : tie.Need-same-length
-same-length c = search needs
+same-length c = omega arith
 
 returns-2 : tie.Need-returns-2
 returns-2 c = step-kept _ true (OnTable Lapse) _ _ _ _ (c .before .before .before .before .before .before .before .if1 .left) refl (c .before .before .before .before .before .sender-of .ensures) (c .before .before .before .before .lapse .ensures) (c .before .before .keep .ensures)

@@ -1,6 +1,6 @@
 use mathlib.Core.Bool.{true}
 use mathlib.Core.Path.{refl}
-use borrow.Author.Needs.{needs}
+use native.Mathlib.Omega.{arith}
 use Rattle.c_face.proofs.Stepping.{step-length, step-kept}
 use Rattle.c_face.proofs.senders.levelspruce_sender_remove.Statement.{statement}
 use Rattle.sender.specs.Epochs.SenderCall.{OnTable}
@@ -13,16 +13,16 @@ returns c =
     step-length _ true (OnTable (RemoveSlot (at-start .args .slot))) (c .if1 .taken)
 
 sender-of-requires : tie.Need-sender-of-requires
-sender-of-requires c κs = search needs
+sender-of-requires c κs = omega arith
 
 remove-requires : tie.Need-remove-requires
-remove-requires c κs = search needs
+remove-requires c κs = omega arith
 
 keep-requires : tie.Need-keep-requires
-keep-requires c κs = search needs
+keep-requires c κs = omega arith
 
 same-length : tie.Need-same-length
-same-length c = search needs
+same-length c = omega arith
 
 returns-2 : tie.Need-returns-2
 returns-2 c =

@@ -2,7 +2,6 @@
 -- Each exit cites one law of Stepping, in the order of the tests; behind them the three numbers are bytes (`three-said`).
 use mathlib.Core.Path.{_∙_, sym}
 use native.Mathlib.Omega.{arith}
-use borrow.Author.Needs.{needs}
 use borrow.Author.Tests.{not-true, not-false}
 use Rattle.c_face.specs.Senders.{areBytes}
 use Rattle.c_face.proofs.Stepping.{Three, step-length, step-unfit, step-kept, three-said}
@@ -18,7 +17,7 @@ returns c =
     step-length _ (areBytes (args .epoch) (args .mst) (args .rs-ack)) (OnTable (Report (args .epoch) (args .mst) (args .rs-ack))) (c .if1 .taken)
 
 are-bytes-requires : tie.Need-are-bytes-requires
-are-bytes-requires c κs = search needs
+are-bytes-requires c κs = omega arith
 
 returns-2 : tie.Need-returns-2
 returns-2 c =
@@ -28,7 +27,7 @@ returns-2 c =
     step-unfit _ (areBytes (args .epoch) (args .mst) (args .rs-ack)) (OnTable (Report (args .epoch) (args .mst) (args .rs-ack))) (at-if1 .if1 .left) (sym (c .before .are-bytes .ensures) ∙ not-true _ (c .if2 .taken))
 
 sender-of-requires : tie.Need-sender-of-requires
-sender-of-requires c κs = search needs
+sender-of-requires c κs = omega arith
 
 cast-report : tie.Need-cast-report
 cast-report c =
@@ -55,13 +54,13 @@ cast-report-3 c =
     let t : Three (args .epoch) (args .mst) (args .rs-ack) = three-said _ _ _ (sym (at-are-bytes .are-bytes .ensures) ∙ not-false _ (at-if2 .if2 .left)) in omega (arith, t .third)
 
 report-requires : tie.Need-report-requires
-report-requires c κs = search needs
+report-requires c κs = omega arith
 
 keep-requires : tie.Need-keep-requires
-keep-requires c κs = search needs
+keep-requires c κs = omega arith
 
 same-length : tie.Need-same-length
-same-length c = search needs
+same-length c = omega arith
 
 returns-3 : tie.Need-returns-3
 returns-3 c =

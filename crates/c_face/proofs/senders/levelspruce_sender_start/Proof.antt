@@ -1,12 +1,11 @@
 use mathlib.Core.Path.{_∙_, sym}
 use native.Mathlib.Omega.{arith}
-use borrow.Author.Needs.{needs}
 use Rattle.c_face.proofs.Stepping.{start-none, start-length, start-outside, start-unfit, start-done}
 use Rattle.c_face.proofs.senders.levelspruce_sender_start.Statement.{statement}
 use Rattle.c_face.proofs.senders.levelspruce_sender_start.Tie as tie
 
 is-outside-requires : tie.Need-is-outside-requires
-is-outside-requires c κs = search needs
+is-outside-requires c κs = omega arith
 
 returns : tie.Need-returns
 returns c =
@@ -21,13 +20,13 @@ returns-2 c =
     start-length _ (at-start .args .«first-epoch») _ (at-if1 .if1 .taken) (sym (c .before .is-outside .ensures) ∙ c .if2 .left)
 
 is-outside-requires-2 : tie.Need-is-outside-requires-2
-is-outside-requires-2 c κs = search needs
+is-outside-requires-2 c κs = omega arith
 
 put-start-requires : tie.Need-put-start-requires
-put-start-requires c κs = search needs
+put-start-requires c κs = omega arith
 
 same-length : tie.Need-same-length
-same-length c = search needs
+same-length c = omega arith
 
 returns-3 : tie.Need-returns-3
 returns-3 c =
@@ -48,10 +47,10 @@ cast-put-start : tie.Need-cast-put-start
 cast-put-start c = omega arith
 
 put-start-requires-2 : tie.Need-put-start-requires-2
-put-start-requires-2 c κs = search needs
+put-start-requires-2 c κs = omega arith
 
 same-length-2 : tie.Need-same-length-2
-same-length-2 c = search needs
+same-length-2 c = omega arith
 
 returns-5 : tie.Need-returns-5
 returns-5 c =

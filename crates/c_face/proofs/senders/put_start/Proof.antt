@@ -1,18 +1,18 @@
 use mathlib.Core.Path.{_∙_, ap}
-use borrow.Author.Needs.{needs}
+use native.Mathlib.Omega.{arith}
 use Rattle.c_face.specs.Keeping.{bytesOf}
 use Rattle.c_face.proofs.senders.put_start.Statement.{statement}
 use Rattle.sender.specs.declared.epochs.SenderOutcome.{SenderOutcome}
 use Rattle.c_face.proofs.senders.put_start.Tie as tie
 
 start-requires : tie.Need-start-requires
-start-requires c κs = search needs
+start-requires c κs = omega arith
 
 put-sender-requires : tie.Need-put-sender-requires
-put-sender-requires c κs = search needs
+put-sender-requires c κs = omega arith
 
 same-length : tie.Need-same-length
-same-length c = search needs
+same-length c = omega arith
 
 returns : tie.Need-returns
 returns c = c .before .before .put-sender .ensures ∙ ap (λ (t : SenderOutcome). bytesOf (t .sender)) (c .before .before .before .before .before .start .ensures)
