@@ -55,59 +55,21 @@ bytes-past place text payload h =
     go [] e = rw e
     go (b ∷ p) e = rw (e, borrow.Author.Tests.ne-eqb 0 (2 * Prim.Native.Nat.suc (length p)) (λ z. omega arith))
 
--- the payload has as many bytes as are asked for
-length-bytes : (n : ℕ) (l : List ℕ) → length l ≡ 2 * n → length (bytesOf l) ≡ n
-length-bytes Prim.Native.Nat.zero [] h = refl
-length-bytes Prim.Native.Nat.zero (a ∷ l) h = absurd (omega arith)
-length-bytes (Prim.Native.Nat.suc n) [] h = absurd (omega arith)
-length-bytes (Prim.Native.Nat.suc n) (a ∷ []) h = absurd (omega arith)
-length-bytes (Prim.Native.Nat.suc n) (a ∷ b ∷ l) h = ap Prim.Native.Nat.suc (length-bytes n l (omega arith))
-
-length-in : (f out : List ℕ) → length (bytesIn f out) ≡ length out
-unfolding bytesIn isHex
-length-in f out = go (lib.Dec.eqb (length f) (2 * length out)) (areDigits 16 f) refl
-  where
-    go : (a b : Bool) → lib.Dec.eqb (length f) (2 * length out) ≡ a → length (cond (a && b) (bytesOf f) out) ≡ length out
-    go true true e = length-bytes (length out) f (borrow.Author.Tests.eqb-true (length f) (2 * length out) e)
-    go true false e = refl
-    go false b e = refl
-
-pub length-payload : (size place : ℕ) (text : List ℕ) → length (payloadAt size place text) ≡ size
-unfolding payloadAt
-length-payload size place text = length-in (slice place (place + size + size) text) (replicate size 0) ∙ length-replicate size 0
-
 -- zeros
-front-zeros : (n m : ℕ) → n ≤ m → _≡_ {A = List ℕ} (take n (replicate m 0)) (replicate n 0)
+pub front-zeros : (n m : ℕ) → n ≤ m → _≡_ {A = List ℕ} (take n (replicate m 0)) (replicate n 0)
 front-zeros Prim.Native.Nat.zero m h = refl
 front-zeros (Prim.Native.Nat.suc n) Prim.Native.Nat.zero h = absurd (omega arith)
 front-zeros (Prim.Native.Nat.suc n) (Prim.Native.Nat.suc m) h = ap (λ (l : List ℕ). 0 ∷ l) (front-zeros n m (omega arith))
 
--- the payload read into the front of zeros
-module _ (size : ℕ) (h : size ≤ 2340) (zeros : List ℕ) (z : zeros ≡ replicate 2340 0) where
-  front : take size zeros ≡ replicate size 0
-  front = rw z (front-zeros size 2340 h)
+-- the front of zeros, lent for a payload
+module _ (size most : ℕ) (h : size ≤ most) (all : List ℕ) (z : all ≡ replicate most 0) where
+  pub front-is : take size all ≡ replicate size 0
+  front-is = rw z (front-zeros size most h)
 
-  pub front-there : size ≡ length (take size zeros)
-  front-there = rw front (sym (length-replicate size 0))
+  pub front-there : size ≡ length (take size all)
+  front-there = rw front-is (sym (length-replicate size 0))
 
-  pub front-short : length (take size zeros) ≤ 2340
-  front-short = rw (← front-there) h
-
-  module _ (place : ℕ) (text payload : List ℕ) (e : payload ≡ bytesIn (slice place (place + length (take size zeros) + length (take size zeros)) text) (take size zeros)) where
-    pub payload-is : payload ≡ payloadAt size place text
-    unfolding payloadAt
-    payload-is =
-        let n : length (take size zeros) ≡ size = sym front-there in
-        rw (n, front) at e
-
-    payload-length : length payload ≡ size
-    payload-length = ap length payload-is ∙ length-payload size place text
-
-    pub part-there : (rest : List ℕ) → size ≤ length (payload ++ rest)
-    part-there rest = let a = lib.ListN.length-append payload rest in let b = payload-length in omega arith
-
-    pub part-is : (rest : List ℕ) → take size (payload ++ rest) ≡ payloadAt size place text
-    part-is rest = lib.Seq.take-at payload rest size payload-length ∙ payload-is
-
-    pub part-length : (rest : List ℕ) → size ≡ length (take size (payload ++ rest))
-    part-length rest = sym (ap length (part-is rest) ∙ length-payload size place text)
+-- the payload read into zeros
+pub payload-is : (size place : ℕ) (text room payload : List ℕ) → room ≡ replicate size 0 → payload ≡ bytesIn (slice place (place + length room + length room) text) room → payload ≡ payloadAt size place text
+unfolding payloadAt
+payload-is size place text room payload e f = rw (e, length-replicate {A = ℕ} size 0) at f

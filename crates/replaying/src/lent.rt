@@ -6,7 +6,6 @@ ghost use mathlib.Core.List.{[], _++_};
 ghost use Prim.Native.Nat.{_≤_};
 ghost use lib.ListN.{drop, length, take};
 ghost use Rattle.receiver.specs.Fetch.{fetchOut, fetchRecord, fetchRows};
-ghost use Rattle.receiver.specs.Frame.{frameRows, frameStore};
 ghost use Rattle.receiver.specs.Starting.{timesWithin};
 ghost use Rattle.replaying.specs.Laws.Due.{dueAt, dueOf};
 ghost use Rattle.replaying.specs.Turn.{clearedRows, clearedStore, startedRows, storeIn, timesFit};
@@ -72,30 +71,6 @@ pub(crate) fn start(settings: Settings, store: usize, rows: &mut [[u8; 16]], cou
         &hold[..n],
         &restore[..n],
         &mut rows[..count],
-    );
-}
-
-pub(crate) fn frame(
-    rows: &mut [[u8; 16]],
-    count: usize,
-    port: u32,
-    failed: bool,
-    h4: u8,
-    payload: &[u8],
-    store: &mut [u8],
-    bytes: usize,
-)
-    requires { ⌜ (count ≤ length (now rows)) × (bytes ≤ length (now store)) ⌝ }
-    ensures { λ _. ⌜ (now (rows .exit) ≡ frameRows (take count (now (rows .entry))) port failed h4 (now (payload .entry)) (take bytes (now (store .entry))) ++ drop count (now (rows .entry)))
-        × (now (store .exit) ≡ frameStore (take count (now (rows .entry))) port failed h4 (now (payload .entry)) (take bytes (now (store .entry))) ++ drop bytes (now (store .entry))) ⌝ }
-{
-    receiver::frame(
-        &mut rows[..count],
-        port,
-        failed,
-        h4,
-        payload,
-        &mut store[..bytes],
     );
 }
 

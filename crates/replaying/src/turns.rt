@@ -263,14 +263,49 @@ fn read_payload(text: &[u8], place: usize, payload: &mut [u8])
     }
 }
 
-// Room for a payload.
-fn blank() -> [u8; 2340]
+// Room for a payload of at most 64 bytes, and for any.
+fn few_zeros() -> [u8; 64]
+    ensures { λ r. ⌜ r ≡ replicate 64 0 ⌝ }
+{
+    [0u8; 64]
+}
+
+fn zeros() -> [u8; 2340]
     ensures { λ r. ⌜ r ≡ replicate 2340 0 ⌝ }
 {
     [0u8; 2340]
 }
 
-// A frame handed to the receiver.
+// A frame handed to the receiver on the parts of rows and store that are its own. Its bytes are read into lent zeros.
+fn hand(
+    replay: Replay,
+    text: &[u8],
+    port: u32,
+    h4: u8,
+    flag: u8,
+    place: usize,
+    payload: &mut [u8],
+    rows: &mut [[u8; 16]],
+    store: &mut [u8],
+)
+    requires { ⌜ (replay .size ≤ 2340) × (now payload ≡ replicate (replay .size) 0) × (rowsFor (replay .ports) ≤ length (now rows)) × (replay .ports * replay .window * (replay .size + 1) ≤ length (now store)) ⌝ }
+    ensures { λ _. ⌜ (now (rows .exit) ≡ framedRows replay port h4 flag (payloadAt (replay .size) place (now (text .entry))) (now (rows .entry)) (now (store .entry)))
+        × (now (store .exit) ≡ framedStore replay port h4 flag (payloadAt (replay .size) place (now (text .entry))) (now (rows .entry)) (now (store .entry))) ⌝ }
+{
+    read_payload(text, place, payload);
+    let n = group::rows_for(replay.ports);
+    let m = replay::store_of(replay.ports, replay.size, replay.window);
+    receiver::frame(
+        &mut rows[..n],
+        port,
+        flag == 1,
+        h4,
+        payload,
+        &mut store[..m],
+    );
+}
+
+// A frame handed to the receiver. At P 30 a line is short, and clearing room for the longest payload would take a good part of its time.
 fn take_frame(
     replay: Replay,
     text: &[u8],
@@ -286,11 +321,33 @@ fn take_frame(
         × (now (store .exit) ≡ framedStore replay port h4 flag (payloadAt (replay .size) place (now (text .entry))) (now (rows .entry)) (now (store .entry))) ⌝ }
 {
     let size = replay.size as usize;
-    let mut payload = blank();
-    read_payload(text, place, &mut payload[..size]);
-    let n = group::rows_for(replay.ports);
-    let m = replay::store_of(replay.ports, replay.size, replay.window);
-    lent::frame(rows, n, port, flag == 1, h4, &payload[..size], store, m);
+    if size <= 64 {
+        let mut few = few_zeros();
+        hand(
+            replay,
+            text,
+            port,
+            h4,
+            flag,
+            place,
+            &mut few[..size],
+            rows,
+            store,
+        );
+        return;
+    }
+    let mut payload = zeros();
+    hand(
+        replay,
+        text,
+        port,
+        h4,
+        flag,
+        place,
+        &mut payload[..size],
+        rows,
+        store,
+    );
 }
 
 fn framed(replay: Replay, next: usize) -> Replayed

@@ -1,6 +1,6 @@
-use lib.ListN.{drop}
-use Rattle.replaying.specs.Turn.{framedRows, framedStore}
-use Rattle.replaying.proofs.Deciding.{front-short, front-there, part-is, part-length, part-there}
+-- The room that is lent is zeros, as many as the payload has bytes, whichever of the two arrays it is the front of.
+use native.Mathlib.Omega.{arith}
+use Rattle.replaying.proofs.Deciding.{front-is, front-there}
 use borrow.Author.Needs.{needs}
 use Rattle.replaying.proofs.turns.take_frame.Statement.{statement}
 use Rattle.replaying.proofs.turns.take_frame.Tie as tie
@@ -8,32 +8,20 @@ use Rattle.replaying.proofs.turns.take_frame.Tie as tie
 cast-size : tie.Need-cast-size
 cast-size c = search needs
 
-array-borrow-prefix-payload : tie.Need-array-borrow-prefix-payload
-array-borrow-prefix-payload c = search needs
+few-zeros-requires : tie.Need-few-zeros-requires
+few-zeros-requires c κs = search needs
 
-blank-requires : tie.Need-blank-requires
-blank-requires c κs = search needs
+array-borrow-prefix-few : tie.Need-array-borrow-prefix-few
+array-borrow-prefix-few c = search needs
 
-slice-aggregate-read-payload : tie.Need-slice-aggregate-read-payload
-slice-aggregate-read-payload c = front-there (c .before .before .before .before .before .args .replay .size) (c .before .before .before .before .before .pre .0) (c .before .blank .result) (c .before .blank .ensures)
+slice-aggregate-hand : tie.Need-slice-aggregate-hand
+slice-aggregate-hand c = front-there (c .before .before .before .before .before .before .args .replay .size) 64 (omega arith) (c .before .few-zeros .result) (c .before .few-zeros .ensures)
 
-read-payload-requires : tie.Need-read-payload-requires
-read-payload-requires c κs = front-short (c .before .before .before .before .before .args .replay .size) (c .before .before .before .before .before .pre .0) (c .before .blank .result) (c .before .blank .ensures)
-
-rows-for-requires : tie.Need-rows-for-requires
-rows-for-requires c κs = search needs
-
-store-of-requires : tie.Need-store-of-requires
-store-of-requires c κs = search needs
-
-array-share-prefix-payload : tie.Need-array-share-prefix-payload
-array-share-prefix-payload c = part-there (c .before .before .before .before .before .before .before .before .before .before .args .replay .size) (c .before .before .before .before .before .before .before .before .before .before .pre .0) (c .before .before .before .before .before .before .blank .result) (c .before .before .before .before .before .before .blank .ensures) (c .before .before .before .before .before .before .before .before .before .before .args .place) (c .before .before .before .before .before .before .before .before .before .before .args .text .now) _ (c .before .before .before .before .read-payload .ensures) _
-
-slice-aggregate-frame : tie.Need-slice-aggregate-frame
-slice-aggregate-frame c = part-length (c .before .before .before .before .before .before .before .before .before .before .before .args .replay .size) (c .before .before .before .before .before .before .before .before .before .before .before .pre .0) (c .before .before .before .before .before .before .before .blank .result) (c .before .before .before .before .before .before .before .blank .ensures) (c .before .before .before .before .before .before .before .before .before .before .before .args .place) (c .before .before .before .before .before .before .before .before .before .before .before .args .text .now) _ (c .before .before .before .before .before .read-payload .ensures) _
-
-frame-requires : tie.Need-frame-requires
-frame-requires c κs = search needs
+hand-requires : tie.Need-hand-requires
+hand-requires c κs =
+    let start = c .before .before .before .before .before .before .before .before in
+    let few = c .before .before .before .few-zeros in
+    (start .pre .0, front-is (start .args .replay .size) 64 (omega arith) (few .result) (few .ensures), start .pre .1, start .pre .2)
 
 same-length : tie.Need-same-length
 same-length c = search needs
@@ -42,25 +30,48 @@ same-length-2 : tie.Need-same-length-2
 same-length-2 c = search needs
 
 returns : tie.Need-returns
-unfolding framedRows framedStore
-returns c =
-    let p = part-is (c .before .before .before .before .before .before .before .before .before .before .before .before .before .before .before .before .args .replay .size) (c .before .before .before .before .before .before .before .before .before .before .before .before .before .before .before .before .pre .0) (c .before .before .before .before .before .before .before .before .before .before .before .before .blank .result) (c .before .before .before .before .before .before .before .before .before .before .before .before .blank .ensures) (c .before .before .before .before .before .before .before .before .before .before .before .before .before .before .before .before .args .place) (c .before .before .before .before .before .before .before .before .before .before .before .before .before .before .before .before .args .text .now) _ (c .before .before .before .before .before .before .before .before .before .before .read-payload .ensures) (drop (c .before .before .before .before .before .before .before .before .before .before .before .before .before .before .before .before .args .replay .size) (c .before .before .before .before .before .before .before .before .before .before .before .before .blank .result)) in
-    (rw (c .before .before .before .before .before .before .before .before .rows-for .ensures, c .before .before .before .before .before .before .before .store-of .ensures, p) at (c .before .before .before .frame .ensures .0), rw (c .before .before .before .before .before .before .before .before .rows-for .ensures, c .before .before .before .before .before .before .before .store-of .ensures, p) at (c .before .before .before .frame .ensures .1))
+returns c = search needs
+
+zeros-requires : tie.Need-zeros-requires
+zeros-requires c κs = search needs
+
+array-borrow-prefix-payload : tie.Need-array-borrow-prefix-payload
+array-borrow-prefix-payload c = search needs
+
+slice-aggregate-hand-2 : tie.Need-slice-aggregate-hand-2
+slice-aggregate-hand-2 c = front-there (c .before .before .before .before .before .before .args .replay .size) 2340 (c .before .before .before .before .before .before .pre .0) (c .before .zeros .result) (c .before .zeros .ensures)
+
+hand-requires-2 : tie.Need-hand-requires-2
+hand-requires-2 c κs =
+    let start = c .before .before .before .before .before .before .before .before in
+    let all = c .before .before .before .zeros in
+    (start .pre .0, front-is (start .args .replay .size) 2340 (start .pre .0) (all .result) (all .ensures), start .pre .1, start .pre .2)
+
+same-length-3 : tie.Need-same-length-3
+same-length-3 c = search needs
+
+same-length-4 : tie.Need-same-length-4
+same-length-4 c = search needs
+
+returns-2 : tie.Need-returns-2
+returns-2 c = search needs
 
 pub take-frame-spec : {M : Type 1} → statement M
 take-frame-spec =
     tie.close
     (tie.spec
     cast-size
-    blank-requires
-    array-borrow-prefix-payload
-    slice-aggregate-read-payload
-    read-payload-requires
-    rows-for-requires
-    store-of-requires
-    array-share-prefix-payload
-    slice-aggregate-frame
-    frame-requires
+    few-zeros-requires
+    array-borrow-prefix-few
+    slice-aggregate-hand
+    hand-requires
     same-length
     same-length-2
-    returns)
+    returns
+    zeros-requires
+    array-borrow-prefix-payload
+    slice-aggregate-hand-2
+    hand-requires-2
+    same-length-3
+    same-length-4
+    returns-2)
