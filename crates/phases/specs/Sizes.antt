@@ -3,6 +3,7 @@ use mathlib.Core.Bool.{Bool, cond, _&&_, _||_}
 use Prim.Native.Nat.{ℕ, _+_, _*_, _/_}
 use lib.Dec.{eqb, leb}
 use Rattle.packet.specs.Kinds.{fixedKind, frames, tags}
+use Rattle.payload.specs.Answers.{PAYLOAD-MOST}
 use Rattle.rows.specs.declared.group.Group.{Group}
 
 -- the kinds that a receiver's group can be of: 01's own, which has the number 0, and FIXED (request 2026-12)
@@ -12,7 +13,7 @@ knownKind kind = eqb kind 0 || eqb kind fixedKind
 -- '1 to 64 ports', 'P from 1 to 2,340', 'The window W is 16 to 2,048 frames': from an epoch's frames to half the tags
 unfoldable pub sized : ℕ → ℕ → ℕ → ℕ → Bool
 sized kind count P W =
-    knownKind kind && leb 1 count && leb count 64 && leb 1 P && leb P 2340 && leb (frames kind) W && leb W (tags kind / 2)
+    knownKind kind && leb 1 count && leb count 64 && leb 1 P && leb P PAYLOAD-MOST && leb (frames kind) W && leb W (tags kind / 2)
 
 -- how many ports a group has; a group out of range, or of no kind that is known, is an empty one
 unfoldable pub portsIn : Group → ℕ

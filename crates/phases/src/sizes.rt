@@ -1,5 +1,6 @@
 // How large a group may be (01, 'Numbers that bound the work').
 use packet::kinds;
+use payload::PAYLOAD_MOST;
 use rows::Group;
 ghost use mathlib.Core.Path.{_≡_};
 ghost use Rattle.phases.specs.Sizes.{portsIn, sized, storeFor};
@@ -13,7 +14,7 @@ pub fn is_sized(kind: u8, count: u32, payload: u32, window: u32) -> bool
         & (1 <= count)
         & (count <= 64)
         & (1 <= payload)
-        & (payload <= 2340)
+        & (payload as usize <= PAYLOAD_MOST)
         & (frames as u32 <= window)
         & (window <= (tags / 2) as u32)
 }

@@ -5,6 +5,7 @@ use Prim.Native.Nat.{ℕ}
 use lib.Dec.{eqb}
 use lib.ListN.{length}
 use Rattle.counting.specs.Each.{each}
+use Rattle.ground.specs.Flags.{oneIf}
 use Rattle.judge.specs.Seen.{sizeOf}
 use Rattle.packet.specs.Kinds.{fixedKind, idleNumber}
 use Rattle.phases.specs.Sizes.{portsIn}
@@ -20,9 +21,6 @@ use Rattle.rows.specs.Member.{memberAt}
 use Rattle.rows.specs.Step.{stepAt}
 use Rattle.step.specs.Arrival.{flagOf, inStep, readable}
 
-abbrev pub flagByte : Bool → ℕ
-flagByte b = cond b 1 0
-
 -- the number that goes with a port's state; an IDLE port has none
 abbrev pub shownNumber : ℕ → Member → ℕ
 shownNumber kind m = cond (eqb (m .state) idleState) (idleNumber kind) (m .«state_number»)
@@ -36,10 +34,10 @@ unfoldable pub portShown : Group → Step → Member → List ℕ
 portShown g step m =
     (m .state)
     ∷ shownNumber (g .kind) m
-    ∷ flagByte (inStep g step)
-    ∷ flagByte (flagOf (step .joined))
-    ∷ flagByte (readable g step)
-    ∷ flagByte (flagOf (step .failed))
+    ∷ oneIf (inStep g step)
+    ∷ oneIf (flagOf (step .joined))
+    ∷ oneIf (readable g step)
+    ∷ oneIf (flagOf (step .failed))
     ∷ (m .word)
     ∷ waitingByte m
     ∷ []
@@ -67,7 +65,7 @@ toldBy kind byte = cond (eqb kind fixedKind) 0 byte
 unfoldable pub replyOf : List (List ℕ) → ℕ → List ℕ
 replyOf s e =
     let g = groupAt s in
-    toldBy (g .kind) (mstOf (g .kind) (replyPorts g s (portsIn g)) (sizeOf (portsIn g)) e) ∷ toldBy (g .kind) (flagByte (flagOf (g .«rs_ack»))) ∷ []
+    toldBy (g .kind) (mstOf (g .kind) (replyPorts g s (portsIn g)) (sizeOf (portsIn g)) e) ∷ toldBy (g .kind) (oneIf (flagOf (g .«rs_ack»))) ∷ []
 
 unfoldable pub replyFit : ℕ → ℕ → ℕ → Bool
 replyFit n rows out = rowsFit n rows && eqb out 2

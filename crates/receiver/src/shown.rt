@@ -44,10 +44,10 @@ fn port_shown(group: Group, step: Step, member: Member) -> [u8; 8]
     [
         member.state,
         shown_number(group.kind, member),
-        flags::flag_byte(in_step),
-        flags::flag_byte(flags::is_set(step.joined)),
-        flags::flag_byte(readable),
-        flags::flag_byte(flags::is_set(step.failed)),
+        ground::one_if(in_step),
+        ground::one_if(flags::is_set(step.joined)),
+        ground::one_if(readable),
+        ground::one_if(flags::is_set(step.failed)),
         member.word,
         waiting_byte(member),
     ]
@@ -128,7 +128,7 @@ pub fn reply(state: &[[u8; 16]], epoch: u8, out: &mut [u8]) -> u8
     }
     let all = states::reply_ports(group, state, count);
     let mst = reply::mst(group.kind, all, count, epoch);
-    let ack = flags::flag_byte(flags::is_set(group.rs_ack));
+    let ack = ground::one_if(flags::is_set(group.rs_ack));
     put_reply(told_by(group.kind, mst), told_by(group.kind, ack), out);
     0
 }

@@ -10,6 +10,9 @@ ghost use lib.Dec.{eqb, ltb};
 ghost use lib.ListN.{length};
 ghost use Rattle.receiver.specs.Starting.{freshMember, freshPort, freshPorts, freshStep, groupWith, sizedAnswer, sizedRows, startAnswer, startAsAnswer, startAsRows, startFits, startRight, startRows, timeOf, timerMost, timesWithin};
 
+// The longest hold-off and the longest wait-to-restore, in reports.
+const TIMER_MOST: u32 = 5000;
+
 fn group_with(kind: u8, count: u8, payload: u16, window: u16) -> Group
     ensures { λ r. ⌜ r ≡ groupWith kind count payload window ⌝ }
 {
@@ -66,7 +69,11 @@ fn fresh_member(kind: u8, hold_off: u16, restore: u16) -> Member
 fn capped(count: u32) -> u16
     ensures { λ r. ⌜ r ≡ cond (ltb count timerMost) count timerMost ⌝ }
 {
-    if count < 5000 { count as u16 } else { 5000 }
+    if count < TIMER_MOST {
+        count as u16
+    } else {
+        TIMER_MOST as u16
+    }
 }
 
 // The count of a port; an empty list is zero for every port.
@@ -108,7 +115,7 @@ fn is_within(counts: &[u32]) -> bool
     let mut all = true;
     let mut i = 0;
     while i < counts.len() {
-        all = all & (counts[i] <= 5000);
+        all = all & (counts[i] <= TIMER_MOST);
         i += 1;
     }
     all

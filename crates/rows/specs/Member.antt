@@ -3,7 +3,7 @@ use mathlib.Core.List.{List, _∷_}
 use Prim.Native.Nat.{ℕ, _+_, _*_, _/_, _%_}
 use lib.ListN.{drop, getD}
 use Rattle.rows.specs.declared.member.Member.{Member}
-use Rattle.rows.specs.Rows.{rowIn, putRow}
+use Rattle.rows.specs.Rows.{PORT-ROWS, rowIn, putRow}
 
 unfoldable pub memberOf : List ℕ → Member
 memberOf row =
@@ -37,7 +37,7 @@ memberRow m =
     ∷ (m .spare)
 
 unfoldable pub memberAt : List (List ℕ) → ℕ → Member
-memberAt s i = memberOf (rowIn s (i * 5 + 2))
+memberAt s i = memberOf (rowIn s (i * PORT-ROWS + 2))
 
 unfoldable pub putMember : List (List ℕ) → ℕ → Member → List (List ℕ)
-putMember s i m = putRow s (i * 5 + 2) (memberRow m)
+putMember s i m = putRow s (i * PORT-ROWS + 2) (memberRow m)

@@ -2,20 +2,20 @@
 use mathlib.Core.List.{List, [], _∷_}
 use Prim.Native.Nat.{ℕ, _+_, _*_}
 use lib.ListN.{getD, set}
-use Rattle.rows.specs.Rows.{rowIn, putRow}
+use Rattle.rows.specs.Rows.{PORT-ROWS, rowIn, putRow}
 
 unfoldable pub packetsAt : List (List ℕ) → ℕ → List (List ℕ)
-packetsAt s i = rowIn s (i * 5 + 3) ∷ rowIn s (i * 5 + 4) ∷ []
+packetsAt s i = rowIn s (i * PORT-ROWS + 3) ∷ rowIn s (i * PORT-ROWS + 4) ∷ []
 
 unfoldable pub putPackets : List (List ℕ) → ℕ → List (List ℕ) → List (List ℕ)
-putPackets s i pair = putRow (putRow s (i * 5 + 3) (getD pair 0 [])) (i * 5 + 4) (getD pair 1 [])
+putPackets s i pair = putRow (putRow s (i * PORT-ROWS + 3) (getD pair 0 [])) (i * PORT-ROWS + 4) (getD pair 1 [])
 
 -- two packets, the first one with another nibble
 unfoldable pub withNibble : List (List ℕ) → ℕ → ℕ → List (List ℕ)
 withNibble pair place nibble = set pair 0 (set (getD pair 0 []) place nibble)
 
 unfoldable pub marksAt : List (List ℕ) → ℕ → List ℕ
-marksAt s i = rowIn s (i * 5 + 5)
+marksAt s i = rowIn s (i * PORT-ROWS + 5)
 
 unfoldable pub putMarks : List (List ℕ) → ℕ → List ℕ → List (List ℕ)
-putMarks s i row = putRow s (i * 5 + 5) row
+putMarks s i row = putRow s (i * PORT-ROWS + 5) row

@@ -12,9 +12,13 @@ rowIn s k = getD s k (replicate 16 0)
 unfoldable pub putRow : List (List ℕ) → ℕ → List ℕ → List (List ℕ)
 putRow s k row = set s k row
 
+-- how many rows a port has
+abbrev pub PORT-ROWS : ℕ
+PORT-ROWS = 5
+
 -- how many rows a group of n ports has
 abbrev pub rowsFor : ℕ → ℕ
-rowsFor n = n * 5 + 1
+rowsFor n = n * PORT-ROWS + 1
 
 -- rows of sixteen bytes, as a host lends them
 pub record Shaped (s : List (List ℕ)) : Type 0 where

@@ -3,7 +3,7 @@ use mathlib.Core.List.{List, _∷_}
 use Prim.Native.Nat.{ℕ, _+_, _*_, _/_, _%_}
 use lib.ListN.{drop, getD}
 use Rattle.rows.specs.declared.step.Step.{Step}
-use Rattle.rows.specs.Rows.{rowIn, putRow}
+use Rattle.rows.specs.Rows.{PORT-ROWS, rowIn, putRow}
 
 unfoldable pub stepOf : List ℕ → Step
 stepOf row =
@@ -37,7 +37,7 @@ stepRow s =
     ∷ (s .spare)
 
 unfoldable pub stepAt : List (List ℕ) → ℕ → Step
-stepAt s i = stepOf (rowIn s (i * 5 + 1))
+stepAt s i = stepOf (rowIn s (i * PORT-ROWS + 1))
 
 -- a step that waits for another tag
 unfoldable pub withNext : Step → ℕ → Step
@@ -57,4 +57,4 @@ withNext q n =
     }
 
 unfoldable pub putStep : List (List ℕ) → ℕ → Step → List (List ℕ)
-putStep s i q = putRow s (i * 5 + 1) (stepRow q)
+putStep s i q = putRow s (i * PORT-ROWS + 1) (stepRow q)

@@ -107,9 +107,12 @@ pub fn put(state: &mut [[u8; 16]], group: Group)
     put_row(state, 0, row);
 }
 
+// How many rows a port has.
+pub const PORT_ROWS: usize = 5;
+
 // How many rows a group of so many ports has.
 pub fn rows_for(count: u8) -> usize
     ensures { λ r. ⌜ r ≡ rowsFor count ⌝ }
 {
-    count as usize * 5 + 1
+    count as usize * PORT_ROWS + 1
 }

@@ -67,7 +67,7 @@ fn member_row(m: Member) -> [u8; 16]
 pub fn get(state: &[[u8; 16]], port: u8) -> Member
     ensures { λ r. ⌜ r ≡ memberAt (now (state .entry)) port ⌝ }
 {
-    let row = group::row_in(state, port as usize * 5 + 2);
+    let row = group::row_in(state, port as usize * group::PORT_ROWS + 2);
     member_of(row)
 }
 
@@ -75,5 +75,5 @@ pub fn put(state: &mut [[u8; 16]], port: u8, member: Member)
     ensures { λ _. ⌜ now (state .exit) ≡ putMember (now (state .entry)) port member ⌝ }
 {
     let row = member_row(member);
-    group::put_row(state, port as usize * 5 + 2, row);
+    group::put_row(state, port as usize * group::PORT_ROWS + 2, row);
 }

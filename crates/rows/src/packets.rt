@@ -6,8 +6,8 @@ ghost use Rattle.rows.specs.Packets.{packetsAt, putPackets, marksAt, put
 pub fn get(state: &[[u8; 16]], port: u8) -> [[u8; 16]; 2]
     ensures { λ r. ⌜ r ≡ packetsAt (now (state .entry)) port ⌝ }
 {
-    let gathering = group::row_in(state, port as usize * 5 + 3);
-    let ruling = group::row_in(state, port as usize * 5 + 4);
+    let gathering = group::row_in(state, port as usize * group::PORT_ROWS + 3);
+    let ruling = group::row_in(state, port as usize * group::PORT_ROWS + 4);
     [gathering, ruling]
 }
 
@@ -16,27 +16,27 @@ pub fn put(state: &mut [[u8; 16]], port: u8, packets: [[u8; 16]; 2])
 {
     let gathering = packets[0];
     let ruling = packets[1];
-    group::put_row(state, port as usize * 5 + 3, gathering);
-    group::put_row(state, port as usize * 5 + 4, ruling);
+    group::put_row(state, port as usize * group::PORT_ROWS + 3, gathering);
+    group::put_row(state, port as usize * group::PORT_ROWS + 4, ruling);
 }
 
 pub fn marks(state: &[[u8; 16]], port: u8) -> [u8; 16]
     ensures { λ r. ⌜ r ≡ marksAt (now (state .entry)) port ⌝ }
 {
-    group::row_in(state, port as usize * 5 + 5)
+    group::row_in(state, port as usize * group::PORT_ROWS + 5)
 }
 
 pub fn put_marks(state: &mut [[u8; 16]], port: u8, row: [u8; 16])
     ensures { λ _. ⌜ now (state .exit) ≡ putMarks (now (state .entry)) port row ⌝ }
 {
-    group::put_row(state, port as usize * 5 + 5, row);
+    group::put_row(state, port as usize * group::PORT_ROWS + 5, row);
 }
 
 // One nibble of the packet being gathered.
 pub fn put_nibble(state: &mut [[u8; 16]], port: u8, place: u8, nibble: u8)
     ensures { λ _. ⌜ now (state .exit) ≡ putPackets (now (state .entry)) port (withNibble (packetsAt (now (state .entry)) port) place nibble) ⌝ }
 {
-    let at = port as usize * 5 + 3;
+    let at = port as usize * group::PORT_ROWS + 3;
     if at < state.len() {
         let row = state[at];
         group::is_whole(row);

@@ -71,7 +71,7 @@ fn step_row(s: Step) -> [u8; 16]
 pub fn get(state: &[[u8; 16]], port: u8) -> Step
     ensures { λ r. ⌜ r ≡ stepAt (now (state .entry)) port ⌝ }
 {
-    let row = group::row_in(state, port as usize * 5 + 1);
+    let row = group::row_in(state, port as usize * group::PORT_ROWS + 1);
     step_of(row)
 }
 
@@ -79,14 +79,14 @@ pub fn put(state: &mut [[u8; 16]], port: u8, step: Step)
     ensures { λ _. ⌜ now (state .exit) ≡ putStep (now (state .entry)) port step ⌝ }
 {
     let row = step_row(step);
-    group::put_row(state, port as usize * 5 + 1, row);
+    group::put_row(state, port as usize * group::PORT_ROWS + 1, row);
 }
 
 // The next tag alone: two bytes of the row.
 pub fn put_next(state: &mut [[u8; 16]], port: u8, next: u16)
     ensures { λ _. ⌜ now (state .exit) ≡ putStep (now (state .entry)) port (withNext (stepAt (now (state .entry)) port) next) ⌝ }
 {
-    let at = port as usize * 5 + 1;
+    let at = port as usize * group::PORT_ROWS + 1;
     if at < state.len() {
         let row = state[at];
         group::is_whole(row);

@@ -2,7 +2,7 @@
 use packet::counts;
 use packet::kinds;
 ghost use mathlib.Core.Path.{_≡_};
-ghost use mathlib.Core.Bool.{true, false};
+ghost use mathlib.Core.Bool.{false};
 ghost use Prim.Native.Nat.{_<_};
 ghost use Rattle.step.specs.Run.{begunRun, breaksAfter, endsPacket, furtherRun, gainedRun, inStepAt, loses, oddAfter, runOn, secondRun, stayedRun};
 

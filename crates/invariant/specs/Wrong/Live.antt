@@ -1,6 +1,6 @@
 -- The frames of a run taken to be those answered 0: but the frames with which a port comes into step are answered 12, and their nibbles stand in the packet being gathered too.
 use mathlib.Core.Path.{_≡_, refl}
-use mathlib.Core.Bool.{Bool, false, cond}
+use mathlib.Core.Bool.{false, cond}
 use mathlib.Core.List.{List, [], _∷_}
 use Prim.Native.Nat.{ℕ, _+_, _%_}
 use lib.Dec.{eqb, ltb}

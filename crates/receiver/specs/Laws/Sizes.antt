@@ -10,6 +10,7 @@ use Rattle.ground.specs.Truth.{and-left, and-right, le-or-lt}
 use Rattle.judge.specs.Seen.{sizeOf}
 use Rattle.packet.specs.Kinds.{frames, tags}
 use Rattle.packet.specs.Theorems.Tags.{frames-some}
+use Rattle.payload.specs.Answers.{PAYLOAD-MOST}
 use Rattle.phases.specs.Sizes.{knownKind, portsIn, sized}
 use Rattle.rows.specs.declared.group.Group.{Group}
 
@@ -18,7 +19,7 @@ pub record Sizes (kind count P W : ℕ) : Type 0 where
   pub some-ports : 1 ≤ count
   pub few-ports : count ≤ 64
   pub some-bytes : 1 ≤ P
-  pub few-bytes : P ≤ 2340
+  pub few-bytes : P ≤ PAYLOAD-MOST
   pub wide : frames kind ≤ W
   pub narrow : W ≤ tags kind / 2
   pub round : W * 2 ≤ tags kind
@@ -33,7 +34,7 @@ sizes-of kind count P W e =
     let a : Bool = leb 1 count in
     let b : Bool = leb count 64 in
     let c : Bool = leb 1 P in
-    let d : Bool = leb P 2340 in
+    let d : Bool = leb P PAYLOAD-MOST in
     let f : Bool = leb (frames kind) W in
     let g : Bool = leb W (tags kind / 2) in
     let e6 = and-left (k && a && b && c && d && f) g e in
@@ -47,7 +48,7 @@ sizes-of kind count P W e =
       some-ports = leb-true 1 count (and-right k a e2);
       few-ports = leb-true count 64 (and-right (k && a) b e3);
       some-bytes = leb-true 1 P (and-right (k && a && b) c e4);
-      few-bytes = leb-true P 2340 (and-right (k && a && b && c) d e5);
+      few-bytes = leb-true P PAYLOAD-MOST (and-right (k && a && b && c) d e5);
       wide = leb-true (frames kind) W (and-right (k && a && b && c && d) f e6);
       narrow = narrow;
       round = half-round kind W narrow;

@@ -1,7 +1,7 @@
 -- Ports, the group and the number of rows after something was put.
 use mathlib.Core.Path.{_≡_, refl, ap, _∙_}
 use mathlib.Core.Logic.{_≢_}
-use mathlib.Core.List.{List, [], _∷_}
+use mathlib.Core.List.{List, []}
 use Prim.Native.Nat.{ℕ, suc, _+_, _*_, _/_, _≤_, _<_}
 use native.Mathlib.Omega.{arith}
 use lib.ListN.{length, getD}
@@ -9,12 +9,12 @@ use Rattle.rows.specs.declared.group.Group.{Group}
 use Rattle.rows.specs.Group.{groupAt, groupOf, groupRow, putGroup}
 use Rattle.rows.specs.Laws.Records.{group-back, step-back, member-back}
 use Rattle.rows.specs.Laws.Rows.{row-same, row-other, length-put-row}
-use Rattle.rows.specs.Member.{memberAt, memberOf, memberRow, putMember}
+use Rattle.rows.specs.Member.{memberAt, memberRow, putMember}
 use Rattle.rows.specs.Packets.{packetsAt, putPackets, marksAt, putMarks}
 use Rattle.rows.specs.Part.{Part, TheStep, TheMember, ThePackets, TheMarks, put, with, again}
-use Rattle.rows.specs.Port.{Port, portAt}
+use Rattle.rows.specs.Port.{portAt}
 use Rattle.rows.specs.Rows.{rowIn, putRow, rowsFor}
-use Rattle.rows.specs.Step.{stepAt, stepOf, stepRow, putStep}
+use Rattle.rows.specs.Step.{stepAt, stepRow, putStep}
 
 module _ (s : List (List ℕ)) (i : ℕ) where
   pub port-step : portAt s i .step ≡ stepAt s i

@@ -12,7 +12,7 @@ use Rattle.ground.specs.Truth.{eq-or-ne}
 use Rattle.packet.specs.Clock.{by}
 use Rattle.packet.specs.Counts.{counts, nibblePlace}
 use Rattle.packet.specs.declared.layout.Fields.{Fields}
-use Rattle.packet.specs.Kinds.{epochOf, epochs, frames, lead, placeOf, tagAfter}
+use Rattle.packet.specs.Kinds.{epochOf, frames, lead, placeOf, tagAfter}
 use Rattle.packet.specs.Laws.Counting.{counted-as-sent, counts-as}
 use Rattle.packet.specs.Layout.{h4Of, nibblesOf}
 use Rattle.packet.specs.Theorems.Tags.{epoch-of, epochs-fit, epochs-some, frames-two, next-tag, place-of, tagOf}

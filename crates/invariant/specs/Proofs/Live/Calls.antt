@@ -1,6 +1,6 @@
 -- The packet being gathered after any calls.
 use mathlib.Core.Path.{_≡_, refl, sym, ap, _∙_}
-use mathlib.Core.Logic.{_⊎_, ⊎-elim, _≢_}
+use mathlib.Core.Logic.{⊎-elim, _≢_}
 use mathlib.Core.Bool.{Bool, true, false, cond, _&&_}
 use mathlib.Core.List.{List, [], _∷_}
 use Prim.Native.Nat.{ℕ, _≤_, _<_}
@@ -37,7 +37,6 @@ use Rattle.receiver.specs.Laws.Told.{told-of-port}
 use Rattle.receiver.specs.Report.{reportedOf}
 use Rattle.receiver.specs.Starting.{groupWith, startAsAnswer, startAsRows, zeroRow}
 use Rattle.rows.specs.declared.group.Group.{Group}
-use Rattle.rows.specs.declared.step.Step.{Step}
 use Rattle.rows.specs.Group.{groupAt}
 use Rattle.rows.specs.Laws.Port.{port-step}
 use Rattle.rows.specs.Port.{Port, portAt}

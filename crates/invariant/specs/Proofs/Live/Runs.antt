@@ -1,13 +1,13 @@
 -- A frame's run and its nibble.
 use mathlib.Core.Path.{_≡_, refl}
-use mathlib.Core.Logic.{_⊎_, inl, inr, ⊎-elim, _≢_}
-use mathlib.Core.Bool.{Bool, true, false, cond, not, _&&_}
+use mathlib.Core.Logic.{_⊎_, inl, inr, ⊎-elim}
+use mathlib.Core.Bool.{Bool, true, false, cond}
 use mathlib.Core.List.{List, _∷_}
-use Prim.Native.Nat.{ℕ, _+_, _*_, _≤_, _<_}
+use Prim.Native.Nat.{ℕ, _+_, _≤_}
 use native.Mathlib.Omega.{arith}
 use lib.Dec.{eqb}
 use lib.ListN.{length, length-set, set}
-use borrow.Author.Tests.{eqb-true, leb-false}
+use borrow.Author.Tests.{eqb-true}
 use Rattle.ground.specs.Truth.{cond-by}
 use Rattle.invariant.specs.Kept.Run.{RunKept}
 use Rattle.invariant.specs.Live.{LiveRow, isHeard}
@@ -15,7 +15,7 @@ use Rattle.invariant.specs.Proofs.Laws.Flags.{true-or-false}
 use Rattle.invariant.specs.Proofs.Live.Places.{after-mod, second-mod}
 use Rattle.invariant.specs.Proofs.Live.Rows.{Further, live-none, live-put}
 use Rattle.packet.specs.Counts.{carriesLow, counts, nibbleIn, startsCount, tagByHigh, tagByLow}
-use Rattle.packet.specs.Kinds.{frames, placeOf, tagAfter}
+use Rattle.packet.specs.Kinds.{placeOf, tagAfter}
 use Rattle.packet.specs.Laws.Counting.{low-told}
 use Rattle.packet.specs.Theorems.Tags.{frames-two}
 use Rattle.receiver.specs.Frame.{ownTag}

@@ -13,17 +13,16 @@ use Rattle.invariant.specs.Proofs.Kept.Calls.{Due, due-says}
 use Rattle.invariant.specs.Proofs.Reports.Groups.{fetch-none}
 use Rattle.invariant.specs.Reports.{Given, passedRows}
 use Rattle.invariant.specs.Times.{heldIn, standingIn, standingsAfter}
-use Rattle.judge.specs.Seen.{sizeOf}
 use Rattle.phases.specs.Beginning.{begins}
 use Rattle.phases.specs.Due.{brought, silent}
 use Rattle.phases.specs.Laws.Lengths.{length-passed}
-use Rattle.phases.specs.Passing.{notedBy, passedGroup, passedOf, passedPort, passedPorts, passedStep, ruledBy}
+use Rattle.phases.specs.Passing.{notedBy, passedGroup, passedOf, passedPort, passedPorts}
 use Rattle.phases.specs.Settling.{beginBy, begunOf, clearedPort, clearedPorts, gatherBy, settledOf, stopBy, stoppedOf}
 use Rattle.phases.specs.Sizes.{portsIn}
 use Rattle.receiver.specs.Fetch.{dueIn, fetchRows, fits, rowsIfDue}
-use Rattle.receiver.specs.Frame.{frameRefusal, frameRows, gatheredBy, marksBy, ownTag, portRows, settledBy, storeBy, takenIn, takenRows}
+use Rattle.receiver.specs.Frame.{frameRefusal, frameRows, portRows, settledBy, storeBy, takenIn, takenRows}
 use Rattle.receiver.specs.Laws.Answers.{lent}
-use Rattle.receiver.specs.Laws.Told.{toldOn, told-of-port}
+use Rattle.receiver.specs.Laws.Told.{told-of-port}
 use Rattle.receiver.specs.Report.{reportedOf, withState}
 use Rattle.reply.specs.Waiting.{noStanding}
 use Rattle.rows.specs.declared.group.Group.{Group}
@@ -34,10 +33,10 @@ use Rattle.rows.specs.Laws.Port.{port-member}
 use Rattle.rows.specs.Laws.Records.{member-back}
 use Rattle.rows.specs.Laws.Rows.{put-beyond, row-other, row-same}
 use Rattle.rows.specs.Member.{memberAt, memberOf, memberRow, putMember}
-use Rattle.rows.specs.Packets.{marksAt, packetsAt, putMarks, putPackets}
+use Rattle.rows.specs.Packets.{putMarks, putPackets}
 use Rattle.rows.specs.Port.{Port}
 use Rattle.rows.specs.Rows.{putRow, rowIn, rowsFor}
-use Rattle.rows.specs.Step.{putStep, stepAt, stepRow}
+use Rattle.rows.specs.Step.{putStep, stepRow}
 use Rattle.step.specs.Arrival.{flagOf}
 use Rattle.step.specs.declared.arrival.Taken.{Taken}
 

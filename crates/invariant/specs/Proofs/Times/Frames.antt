@@ -8,7 +8,7 @@ use lib.ListN.{length}
 use Rattle.invariant.specs.Proofs.Times.Rows.{SameButTimes, cond-same, group-same, marks-same, packets-same, put-marks, put-packets, put-step, step-same}
 use Rattle.invariant.specs.Proofs.Times.Settling.{settled-same}
 use Rattle.phases.specs.Sizes.{portsIn}
-use Rattle.receiver.specs.Frame.{frameAnswer, frameRefusal, frameRows, frameStore, gatheredBy, marksBy, ownTag, portRows, settledBy, storeBy, takenIn, takenRows, takenStore}
+use Rattle.receiver.specs.Frame.{frameAnswer, frameRefusal, frameRows, frameStore, gatheredBy, marksBy, ownTag, portRows, settledBy, storeBy, takenIn, takenRows}
 use Rattle.rows.specs.declared.group.Group.{Group}
 use Rattle.rows.specs.Group.{groupAt}
 use Rattle.rows.specs.Packets.{marksAt, packetsAt}

@@ -4,7 +4,7 @@ use mathlib.Core.Bool.{Bool, _||_}
 use mathlib.Core.List.{List}
 use Prim.Native.Nat.{ℕ, zero, suc, _<_}
 use native.Mathlib.Omega.{arith}
-use lib.ListN.{getD, length, length-replicate, replicate}
+use lib.ListN.{getD, length-replicate, replicate}
 use Rattle.counting.specs.Each.{each, getD-each}
 use Rattle.counting.specs.Words.{some}
 use Rattle.ground.specs.Truth.{smaller-le}

@@ -8,7 +8,7 @@ use Rattle.counting.specs.Laws.Tests.{every-ext}
 use Rattle.invariant.specs.Proofs.Times.Rows.{SameButTimes, cond-same, group-same, marks-same, member-same, packets-same, put-group, put-marks, put-member, put-packets, put-step, step-same, untimed}
 use Rattle.packet.specs.declared.ruling.Ruling.{Ruling}
 use Rattle.packet.specs.Kinds.{epochAfter, epochOf}
-use Rattle.phases.specs.Beginning.{begins, foremost, further, ready, within}
+use Rattle.phases.specs.Beginning.{begins, foremost, ready, within}
 use Rattle.phases.specs.Due.{brought, owesNothing, silent}
 use Rattle.phases.specs.Passing.{groupTo, notedBy, passedGroup, passedOf, passedPort, passedPorts, passedStep, ruledBy}
 use Rattle.phases.specs.Settling.{beginBy, begunOf, clearedPort, clearedPorts, clearedStep, gatherBy, settledOf, stopBy, stoppedOf}

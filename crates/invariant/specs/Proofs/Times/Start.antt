@@ -1,17 +1,16 @@
 -- Two starts with different times leave rows that are the same but for times, whatever stood in them.
 use mathlib.Core.Path.{_≡_, refl, sym, _∙_}
 use mathlib.Core.Logic.{⊎-elim, _≢_}
-use mathlib.Core.Bool.{Bool, true, false, cond}
-use mathlib.Core.List.{List, [], _∷_}
+use mathlib.Core.Bool.{Bool, true, false}
+use mathlib.Core.List.{List}
 use Prim.Native.Nat.{ℕ, zero, suc, _+_, _*_, _≤_, _<_}
 use native.Mathlib.Omega.{arith}
 use lib.ListN.{length, replicate}
 use Rattle.ground.specs.Truth.{eq-or-ne, le-or-lt}
 use Rattle.invariant.specs.Proofs.Laws.Started.{accepted, codeBy, leftBy}
 use Rattle.invariant.specs.Proofs.Times.Rows.{SameButTimes, SameRow, alike}
-use Rattle.receiver.specs.Starting.{emptyGroup, freshMember, freshPort, freshPorts, freshStep, groupWith, sizedAnswer, sizedFits, sizedRows, startAsAnswer, startAsRows, startRight, timeOf, zeroRow}
+use Rattle.receiver.specs.Starting.{freshMember, freshPort, freshPorts, freshStep, groupWith, sizedAnswer, sizedFits, sizedRows, startAsAnswer, startAsRows, startRight, timeOf, zeroRow}
 use Rattle.rows.specs.declared.group.Group.{Group}
-use Rattle.rows.specs.declared.member.Member.{Member}
 use Rattle.rows.specs.Group.{groupRow, putGroup}
 use Rattle.rows.specs.Laws.Records.{member-back}
 use Rattle.rows.specs.Laws.Rows.{length-put-row, row-beyond, row-other, row-same}

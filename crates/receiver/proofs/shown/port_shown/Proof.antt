@@ -13,30 +13,30 @@ is-readable-requires c κs = search needs
 shown-number-requires : tie.Need-shown-number-requires
 shown-number-requires c κs = search needs
 
-flag-byte-requires : tie.Need-flag-byte-requires
-flag-byte-requires c κs = search needs
+one-if-requires : tie.Need-one-if-requires
+one-if-requires c κs = search needs
 
 is-set-requires : tie.Need-is-set-requires
 is-set-requires c κs = search needs
 
-flag-byte-requires-2 : tie.Need-flag-byte-requires-2
-flag-byte-requires-2 c κs = search needs
+one-if-requires-2 : tie.Need-one-if-requires-2
+one-if-requires-2 c κs = search needs
 
-flag-byte-requires-3 : tie.Need-flag-byte-requires-3
-flag-byte-requires-3 c κs = search needs
+one-if-requires-3 : tie.Need-one-if-requires-3
+one-if-requires-3 c κs = search needs
 
 is-set-requires-2 : tie.Need-is-set-requires-2
 is-set-requires-2 c κs = search needs
 
-flag-byte-requires-4 : tie.Need-flag-byte-requires-4
-flag-byte-requires-4 c κs = search needs
+one-if-requires-4 : tie.Need-one-if-requires-4
+one-if-requires-4 c κs = search needs
 
 waiting-byte-requires : tie.Need-waiting-byte-requires
 waiting-byte-requires c κs = search needs
 
 returns : tie.Need-returns
 unfolding portShown
-returns c = rw (c .waiting-byte .ensures, c .before .flag-byte4 .ensures, c .before .before .is-set2 .ensures, c .before .before .before .flag-byte3 .ensures, c .before .before .before .before .flag-byte2 .ensures, c .before .before .before .before .before .is-set .ensures, c .before .before .before .before .before .before .flag-byte .ensures, c .before .before .before .before .before .before .before .shown-number .ensures, c .before .before .before .before .before .before .before .before .is-readable .ensures, c .before .before .before .before .before .before .before .before .before .in-step .ensures) refl
+returns c = rw (c .waiting-byte .ensures, c .before .one-if4 .ensures, c .before .before .is-set2 .ensures, c .before .before .before .one-if3 .ensures, c .before .before .before .before .one-if2 .ensures, c .before .before .before .before .before .is-set .ensures, c .before .before .before .before .before .before .one-if .ensures, c .before .before .before .before .before .before .before .shown-number .ensures, c .before .before .before .before .before .before .before .before .is-readable .ensures, c .before .before .before .before .before .before .before .before .before .in-step .ensures) refl
 
 pub port-shown-spec : {M : Type 1} → statement M
 port-shown-spec =
@@ -45,11 +45,11 @@ port-shown-spec =
     in-step-requires
     is-readable-requires
     shown-number-requires
-    flag-byte-requires
+    one-if-requires
     is-set-requires
-    flag-byte-requires-2
-    flag-byte-requires-3
+    one-if-requires-2
+    one-if-requires-3
     is-set-requires-2
-    flag-byte-requires-4
+    one-if-requires-4
     waiting-byte-requires
     returns)

@@ -27,8 +27,8 @@ mst-requires c κs = search needs
 is-set-requires : tie.Need-is-set-requires
 is-set-requires c κs = search needs
 
-flag-byte-requires : tie.Need-flag-byte-requires
-flag-byte-requires c κs = search needs
+one-if-requires : tie.Need-one-if-requires
+one-if-requires c κs = search needs
 
 told-by-requires : tie.Need-told-by-requires
 told-by-requires c κs = search needs
@@ -43,7 +43,7 @@ same-length : tie.Need-same-length
 same-length c = search needs
 
 returns-2 : tie.Need-returns-2
-returns-2 c = reply-shown _ _ _ _ (c .before .before .before .before .before .before .before .before .before .before .before .before .before .get .ensures) (c .before .before .before .before .before .before .before .before .before .before .before .before .ports-in .ensures) _ _ (c .before .before .before .before .before .before .before .before .before .before .before .is-reply .ensures) _ _ _ _ _ _ _ (not-false _ (c .before .before .before .before .before .before .before .before .before .before .if1 .left)) (c .before .before .before .before .before .before .before .before .before .reply-ports .ensures) (c .before .before .before .before .before .before .before .before .mst .ensures) (c .before .before .before .before .before .before .before .is-set .ensures) (c .before .before .before .before .before .before .flag-byte .ensures) (c .before .before .before .before .before .told-by .ensures) (c .before .before .before .before .told-by2 .ensures) (c .before .before .put-reply .ensures)
+returns-2 c = reply-shown _ _ _ _ (c .before .before .before .before .before .before .before .before .before .before .before .before .before .get .ensures) (c .before .before .before .before .before .before .before .before .before .before .before .before .ports-in .ensures) _ _ (c .before .before .before .before .before .before .before .before .before .before .before .is-reply .ensures) _ _ _ _ _ _ _ (not-false _ (c .before .before .before .before .before .before .before .before .before .before .if1 .left)) (c .before .before .before .before .before .before .before .before .before .reply-ports .ensures) (c .before .before .before .before .before .before .before .before .mst .ensures) (c .before .before .before .before .before .before .before .is-set .ensures) (c .before .before .before .before .before .before .one-if .ensures) (c .before .before .before .before .before .told-by .ensures) (c .before .before .before .before .told-by2 .ensures) (c .before .before .put-reply .ensures)
 
 pub reply-spec : {M : Type 1} → statement M
 reply-spec =
@@ -56,7 +56,7 @@ reply-spec =
     reply-ports-requires
     mst-requires
     is-set-requires
-    flag-byte-requires
+    one-if-requires
     told-by-requires
     told-by-requires-2
     put-reply-requires
