@@ -1,6 +1,6 @@
 -- A host may spread a group frame over all members at once and send each block from the slot with that rank: it is what the slot's own payload is.
-use mathlib.Core.Path.{_≡_, refl, sym, ap, _∙_}
-use mathlib.Core.Bool.{Bool, true, cond}
+use mathlib.Core.Path.{_≡_, sym, _∙_}
+use mathlib.Core.Bool.{true}
 use mathlib.Core.List.{List}
 use Prim.Native.Nat.{ℕ, _+_, _*_, _/_, _%_, _<_}
 use native.Mathlib.Omega.{arith}
@@ -12,7 +12,7 @@ use Rattle.ground.specs.Table.{getD-tabulate}
 use Rattle.payload.specs.declared.answer.Answer.the-variants.{Done}
 use Rattle.payload.specs.Joining.{wholeAnswer}
 use Rattle.payload.specs.Order.{memberByte}
-use Rattle.payload.specs.Spreading.{allMembers, oneAnswer, spreadAll}
+use Rattle.payload.specs.Spreading.{oneAnswer, spreadAll}
 use Rattle.sender.specs.declared.epochs.Sender.{Sender}
 use Rattle.sender.specs.Epochs.{payloadBytes, rankIn, ranksOf, xOf}
 use Rattle.sender.specs.Laws.Sizes.{size-le}

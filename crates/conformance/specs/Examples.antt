@@ -44,7 +44,7 @@ use Rattle.phases.specs.Sizes.{portsIn, storeFor}
 use Rattle.phases.specs.Sizes.{sized as sizedGroup}
 use Rattle.receiver.specs.Frame.{frameAnswer, frameRows, frameStore, gatheredBy, marksBy, portRows, refusalBy, settledBy, storeBy, takenRows, takenStore}
 use Rattle.receiver.specs.Lengths.{frameFits, rowsFit}
-use Rattle.receiver.specs.Starting.{freshPort, freshPorts, sizedAnswer, sizedFits, sizedRows, startAnswer, startAsAnswer, startAsRows, startFits, startRight, startRows, timesWithin}
+use Rattle.receiver.specs.Starting.{freshPort, freshPorts, sizedAnswer, sizedFits, sizedRows, startAnswer, startAsAnswer, startAsRows, startFits, startRight, timesWithin}
 use Rattle.rows.specs.Group.{groupAt, groupOf, groupRow, putGroup}
 use Rattle.rows.specs.Member.{memberAt, memberOf, memberRow, putMember}
 use Rattle.rows.specs.Packets.{marksAt, packetsAt, putMarks, putPackets}

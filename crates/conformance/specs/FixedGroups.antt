@@ -6,8 +6,7 @@ use Prim.Native.Nat.{ℕ}
 use lib.ListN.{length, replicate, take}
 use Rattle.c_face.specs.Receivers.{startAsAnswerC}
 use Rattle.conformance.specs.Rows.{Equal, Row, equal-rows}
-use Rattle.conformance.specs.Waits.{Sent, away, here, statesAt}
-use Rattle.judge.specs.declared.order.Order.{Order}
+use Rattle.conformance.specs.Waits.{away, here, statesAt}
 use Rattle.judge.specs.declared.seen.Seen.{Seen}
 use Rattle.judge.specs.Order.{activeIn, orderOf, portOf, rankOf}
 use Rattle.judge.specs.Verdict.{fixedExact, fixedHeld, fixedVerdict, judgeOf, missing, repeats, takes}

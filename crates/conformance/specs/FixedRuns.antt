@@ -1,7 +1,7 @@
 -- Runs of a receiver of a fixed group (request 2026-12) from its start, worked out apart: what the host reads after its first report, and when step is lost.
 use mathlib.Core.Path.{refl}
 use mathlib.Core.List.{List, [], _∷_, _++_}
-use Prim.Native.Nat.{ℕ, _*_}
+use Prim.Native.Nat.{ℕ}
 use lib.ListN.{getD, replicate}
 use Rattle.conformance.specs.Hosts.{Host, damagedWith, fed, fedWith, fetched, packetWith}
 use Rattle.conformance.specs.Rows.{Equal, Row, equal-rows}

@@ -27,7 +27,7 @@ use Rattle.receiver.specs.Frame.{frameRows, frameStore, gatheredBy, marksBy, po
 use Rattle.receiver.specs.Lengths.{fetchFits, frameFits, outputFor, rowsFit}
 use Rattle.receiver.specs.Report.{frameInto, framesInto, outputBy, outputOf, replyPort, replyPorts, reportBy, reportedOf, rulingEpoch, seenAll, seenOf, startsOf, withState, statesWorkedOut, statePut, statesPut}
 use Rattle.receiver.specs.Report.{reportOf as reportSeen}
-use Rattle.receiver.specs.Starting.{freshPort, freshPorts, sizedAnswer, sizedFits, sizedRows, startAsAnswer, startAsRows, startFits, startRight, startRows, timesWithin}
+use Rattle.receiver.specs.Starting.{freshPort, freshPorts, sizedAnswer, sizedFits, sizedRows, startAsAnswer, startAsRows, startFits, startRight, timesWithin}
 use Rattle.reply.specs.Choosing.{claims, grant, granted, holders}
 use Rattle.reply.specs.Waiting.{chosenOf, heldOf, moreHeld, rounds, someJoin, standingBy, standingsOf}
 use Rattle.reply.specs.Telling.{ackOf}

@@ -1,14 +1,12 @@
 -- Examples of request 2026-03, hold-off and wait-to-restore, worked out apart: states over some reports, and what a start answers.
 use mathlib.Core.Path.{refl}
 use mathlib.Core.List.{List, [], _∷_, _++_}
-use Prim.Native.Nat.{ℕ}
-use lib.ListN.{replicate}
 use Rattle.c_face.specs.Receivers.{startAsAnswerC}
 use Rattle.conformance.specs.Rows.{Equal, Row, equal-rows}
 use Rattle.conformance.specs.Waits.{Sent, away, each, heldFor, here, idle, leftOf, statesAt}
 use Rattle.packet.specs.Kinds.{frames, tags}
 use Rattle.phases.specs.Sizes.{sized}
-use Rattle.receiver.specs.Starting.{sizedAnswer, sizedFits, startAnswer, startAsAnswer, startFits, startRight, timesWithin}
+use Rattle.receiver.specs.Starting.{sizedAnswer, sizedFits, startAsAnswer, startFits, startRight, timesWithin}
 use Rattle.reply.specs.Choosing.{claims, grant, granted, holders}
 use Rattle.reply.specs.Waiting.{chosenOf, heldOf, moreHeld, rounds, someJoin, standing, standingBy, standingsOf}
 

@@ -1,6 +1,6 @@
 -- The refusals of a card's C calls (02, 2026-06): a state of another length is 9, a group other than the two 1, what is no byte 8, then the card's own. The state is lent, so it stands as the state and not among the lent slices: under 4 starting leaves two empty groups in it.
 use mathlib.Core.Path.{_≡_, _∙_, refl, sym}
-use mathlib.Core.Bool.{Bool, true, false, cond, _&&_, _||_, false≢true}
+use mathlib.Core.Bool.{Bool, true, false, cond, _||_, false≢true}
 use mathlib.Core.List.{List, [], _∷_}
 use Prim.Native.Nat.{ℕ}
 use native.Mathlib.Omega.{arith}

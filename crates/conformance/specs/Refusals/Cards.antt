@@ -2,7 +2,7 @@
 use mathlib.Core.Path.{_≡_, _∙_, refl, ap}
 use mathlib.Core.Bool.{Bool, true, false, cond, not, _&&_, _||_}
 use mathlib.Core.List.{List, [], _∷_}
-use Prim.Native.Nat.{ℕ, _*_}
+use Prim.Native.Nat.{ℕ}
 use lib.Dec.{eqb, ltb}
 use lib.ListN.{getD, length, replicate}
 use Rattle.circuits.specs.declared.answers.Answer.{Answer}
@@ -13,7 +13,7 @@ use Rattle.circuits.specs.Answers.{answerNumber, fromSender}
 use Rattle.circuits.specs.Calls.{stepOf}
 use Rattle.circuits.specs.Calls.Call.{AddSlot, Claim, Lapse, Release, RemoveSlot, Report, StartEpoch}
 use Rattle.circuits.specs.Commands.{claimOf, commandOf, groupCallOf, releaseOf, startOf}
-use Rattle.circuits.specs.Owners.{hasOwner, ownedBytes}
+use Rattle.circuits.specs.Owners.{ownedBytes}
 use Rattle.circuits.specs.Parts.{emptySender, isSlot, isUsed, marked, owns, refused, senderOf, shownSender, stepped, withSender}
 use Rattle.circuits.specs.Readings.{boardShown, outgoingShown, ownedShown, packetAnswer, packetBytes, payloadAnswer, payloadBytes, ranksShown}
 use Rattle.conformance.specs.Entries.{Call, Copes, If, Refusal, Unless, copes, stateful, stateless}
@@ -26,7 +26,6 @@ use Rattle.sender.specs.Board.{boardOf}
 use Rattle.sender.specs.Commands.{freshOf}
 use Rattle.sender.specs.Epochs as E
 use Rattle.sender.specs.Epochs.{SenderCall, beginOf, freshSender, senderStepOf}
-use Rattle.sender.specs.Steps.{Call as T}
 use Rattle.sender.specs.Table.{isMember, sizeOf}
 use Rattle.sender.specs.Table.{answerNumber as senderNumber}
 

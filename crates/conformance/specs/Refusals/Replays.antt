@@ -16,7 +16,7 @@ use Rattle.replaying.specs.declared.replay.Phase.{Phase}
 use Rattle.replaying.specs.declared.replay.Phase.the-variants.{Settings, Reading, Fetching, Skipping, Ended}
 use Rattle.replaying.specs.declared.replay.Replay.{Replay}
 use Rattle.replaying.specs.declared.turns.Replayed.{Replayed}
-use Rattle.replaying.specs.Turn.{answeredTurn, fetchedSaid, fetchedTurn, framedTurn, isDue, isLent, openRows, openSaid, openTurn, openTurnBy, openWithTurn, readBy, readOnTurn, readRows, readSaid, readStore, readTurn, recordNow, reportOut, reportRows, reportSaid, reportTurn, reportedTurn, skipTurn, startable, turnOf, turnOut, turnRows, turnSaid, turnStore}
+use Rattle.replaying.specs.Turn.{answeredTurn, fetchedTurn, framedTurn, isDue, isLent, openRows, openSaid, openTurn, openTurnBy, openWithTurn, readBy, readOnTurn, readRows, readSaid, readStore, readTurn, recordNow, reportOut, reportRows, reportSaid, reportTurn, reportedTurn, skipTurn, startable, turnOf, turnOut, turnRows, turnSaid, turnStore}
 use Rattle.text.specs.Text.{LINE-END}
 
 -- room for what one turn prints, and the rows of 64 ports before the first line

@@ -2,17 +2,17 @@
 use mathlib.Core.Path.{_≡_, refl}
 use mathlib.Core.Logic.{inl}
 use mathlib.Core.List.{List, [], _∷_}
-use Prim.Native.Nat.{ℕ, zero, suc, _+_, _-_, _*_, _%_, _≤_, _<_}
+use Prim.Native.Nat.{ℕ, zero, suc, _+_, _-_, _*_, _%_, _<_}
 use native.Mathlib.Omega.{arith}
-use lib.ListN.{drop, length, length-replicate, replicate}
+use lib.ListN.{length-replicate, replicate}
 use Rattle.ground.specs.Table.{tabulate}
 use Rattle.judge.specs.Verdict.{SURE}
-use Rattle.packet.specs.Kinds.{epochs, fixedKind, frames, tags}
+use Rattle.packet.specs.Kinds.{epochs, frames, tags}
 use Rattle.phases.specs.Sizes.{sized}
 use Rattle.link.specs.Demand3.{Demand3}
 use Rattle.link.specs.FixedGroup.{AssumedFixed, FixedGroup, Numbered, fixedSent, sendingFixed}
 use Rattle.link.specs.Link.{Link, expected}
-use Rattle.link.specs.Road.{Below, times}
+use Rattle.link.specs.Road.{times}
 use Rattle.link.specs.Samples.Computing.{outcome}
 use Rattle.link.specs.Samples.Tracing.{course, drainedBy, outcome-by, traced, turnBy, turnsBy}
 use Rattle.link.specs.Sending.{Client}

@@ -2,7 +2,7 @@
 use mathlib.Core.Path.{_≡_, sym, ap, subst}
 use Prim.Native.Nat.{ℕ, _<_}
 use native.Mathlib.Omega.{arith}
-use Rattle.link.specs.FixedGroup.{AssumedFixed, sendingFixed}
+use Rattle.link.specs.FixedGroup.{AssumedFixed}
 use Rattle.link.specs.Link.{AssumedOver, Link}
 use Rattle.link.specs.Proofs.FixedGroups.Sure.{fixed-lawful}
 use Rattle.link.specs.Proofs.Histories.Reaching.{all-reached}

@@ -4,7 +4,6 @@ use mathlib.Core.Bool.{true}
 use mathlib.Core.List.{List}
 use Prim.Native.Nat.{ℕ, suc, _+_, _<_}
 use native.Mathlib.Omega.{arith}
-use lib.ListN.{length}
 use Rattle.ground.specs.Table.{length-tabulate}
 use Rattle.judge.specs.declared.seen.Seen.{Seen}
 use Rattle.judge.specs.Laws.Numbers.{numberAt}
@@ -18,7 +17,7 @@ use Rattle.payload.specs.Order.{memberByte, memberFrame}
 use Rattle.link.specs.FixedGroup.{FixedGroup, Numbered, sendingFixed}
 use Rattle.link.specs.Proofs.FixedGroups.Packets.{fixed-counts, fixed-reads}
 use Rattle.link.specs.Proofs.Histories.Reaching.{count-paired}
-use Rattle.link.specs.Sending.{Client, Covered, Lawful, Pairing, Reached, Rules, Sending, epochStart, seenSent}
+use Rattle.link.specs.Sending.{Client, Covered, Lawful, Pairing, Reached, Rules, epochStart, seenSent}
 
 module _ (f : FixedGroup) (a : Numbered f) (P : ℕ) (client : Client) (i n : ℕ) (slotOf : ℕ → ℕ) (ports : List Seen) (o : Pairing n (f .x) slotOf)
     (covered : Covered (sendingFixed f P client) i n slotOf) (is-seen : (p : ℕ) → p < n → seenAt ports p ≡ seenSent (sendingFixed f P client) i (slotOf p)) where

@@ -2,12 +2,11 @@
 use mathlib.Core.Path.{_≡_, sym, ap, subst, _∙_}
 use Prim.Native.Nat.{ℕ, _*_, _<_}
 use native.Mathlib.Omega.{arith}
-use lib.ListN.{length}
 use Rattle.receiver.specs.Laws.Sizes.{sizes-of}
 use Rattle.link.specs.Assumed.{Assumed}
-use Rattle.link.specs.History.{Handed, sendingOf, xAt}
+use Rattle.link.specs.History.{Handed, sendingOf}
 use Rattle.link.specs.Link.{AssumedOver, Link, kindOf}
-use Rattle.link.specs.Sending.{Client, Lawful, Pairing, Reached, Sending, epochAt}
+use Rattle.link.specs.Sending.{Lawful, Reached, Sending, epochAt}
 use Rattle.link.specs.Proofs.Histories.Lawful.{history-lawful}
 use Rattle.link.specs.Proofs.Histories.Reaching.{all-reached}
 

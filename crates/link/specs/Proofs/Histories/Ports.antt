@@ -1,7 +1,7 @@
 -- What slots send as n ports see it, each port its own slot's words and numbers, where all that are not IDLE reach a port: the same X, the same ranks, and the numbering of demand 2.
 use mathlib.Core.Path.{_≡_, _∙_, sym, ap}
 use mathlib.Core.Logic.{_≢_}
-use mathlib.Core.Bool.{Bool, true, cond, true≢false, _&&_}
+use mathlib.Core.Bool.{true, cond, true≢false, _&&_}
 use Prim.Native.Nat.{ℕ, _≤_, _<_}
 use lib.Dec.{eqb, ltb}
 use Rattle.counting.specs.Laws.Ranks.{Apart}
