@@ -51,7 +51,7 @@ use Rattle.sender.specs.Commands.{addOf, addedTo, freshOf, idleSlot, startOf}
 use Rattle.sender.specs.Epochs.{beginOf, freshSender, ranksOf}
 use Rattle.sender.specs.Table.{membersOf, sizeOf}
 use Rattle.step.specs.declared.run.Run.{Run}
-use Rattle.step.specs.Own.{ownNumber, ownRuling, rulingIn}
+use Rattle.step.specs.OwnCount.{ownNumber, ownRuling, rulingIn}
 use Rattle.step.specs.Run.{begunRun, breaksAfter, endsPacket, inStepAt, loses, oddAfter, runOn, stayedRun}
 use Rattle.text.specs.Ascii.{ascii}
 use Rattle.text.specs.Output.{decimalText, numberText}

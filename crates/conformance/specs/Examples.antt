@@ -69,7 +69,7 @@ use Rattle.spoken.specs.Speaking.{canSpeak, changeText, changesSpeak, nowText, 
 use Rattle.spoken.specs.Speaking.{slotText as spokenSlot}
 use Rattle.spoken.specs.Taking.{takenOf as boardTaken}
 use Rattle.step.specs.Arrival.{arrives, frameDropped, byStart, byWindow, countsOn, distanceIn, flagged, inStep, joining, keeps, outside, readable, takenOf}
-use Rattle.step.specs.Own.{endsOdd, oddPacket, ownNumber, rightCrc}
+use Rattle.step.specs.OwnCount.{endsOdd, oddPacket, ownNumber, rightCrc}
 use Rattle.step.specs.Run.{begunRun, breaksAfter, endsPacket, furtherRun, gainedRun, inStepAt, loses, oddAfter, runOn, secondRun, stayedRun}
 use Rattle.store.specs.Frames.{byteAt, h4At, packetIn, placeIn, ringOf, storedAt}
 use Rattle.store.specs.Marks.{cutByte, cutFrom, firstMark, markedAt, markedByte, passedByte, passedMarks}

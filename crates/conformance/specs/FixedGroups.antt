@@ -34,7 +34,7 @@ use Rattle.rows.specs.Packets.{putMarks, putPackets}
 use Rattle.rows.specs.Rows.{putRow, rowIn}
 use Rattle.rows.specs.Step.{putStep, stepAt, stepOf, stepRow}
 use Rattle.step.specs.Arrival.{inStep, readable}
-use Rattle.step.specs.Own.{oddPacket, ownNumber, ownRuling, rightCrc, rulingIn}
+use Rattle.step.specs.OwnCount.{oddPacket, ownNumber, ownRuling, rightCrc, rulingIn}
 use Rattle.step.specs.Run.{inStepAt}
 
 -- A port with a whole good packet and all its frames, by its number. One with no whole packet, with a refused one, and one that lacks a frame.

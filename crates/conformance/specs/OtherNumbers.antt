@@ -37,7 +37,7 @@ use Rattle.rows.specs.Rows.{putRow, rowIn}
 use Rattle.rows.specs.Step.{putStep, stepAt, stepRow}
 use Rattle.rows.specs.Step.{stepOf as stepIn}
 use Rattle.step.specs.Arrival.{arrives, byStart, byWindow, countsOn, distanceIn, flagged, frameDropped, inStep, joining, keeps, outside, readable, takenOf}
-use Rattle.step.specs.Own.{endsOdd, oddPacket, ownNumber, ownRuling, rightCrc, rulingIn}
+use Rattle.step.specs.OwnCount.{endsOdd, oddPacket, ownNumber, ownRuling, rightCrc, rulingIn}
 use Rattle.step.specs.Run.{begunRun, breaksAfter, endsPacket, furtherRun, gainedRun, inStepAt, loses, oddAfter, runOn, secondRun, stayedRun}
 use Rattle.store.specs.Frames.{byteAt, h4At, packetIn, placeIn, ringOf, storedAt}
 use Rattle.store.specs.Marks.{cutByte, cutFrom, firstMark, markedAt, markedByte, passedByte, passedMarks}

@@ -9,7 +9,7 @@ use Rattle.packet.specs.declared.ruling.Ruling.{Ruling}
 use Rattle.receiver.specs.Report.{rulingEpoch, replyPorts}
 use Rattle.rows.specs.declared.group.Group.{Group}
 use Rattle.rows.specs.Port.{Port, portAt}
-use Rattle.step.specs.Own.{ownRuling}
+use Rattle.step.specs.OwnCount.{ownRuling}
 use Rattle.step.specs.Arrival.{flagOf}
 use mathlib.Core.Logic.{_≢_}
 use lib.ListN.{length}

@@ -16,7 +16,7 @@ use Rattle.packet.specs.Theorems.Damage.{changed}
 use Rattle.packet.specs.Words.{IDLE}
 use Rattle.payload.specs.Order.{memberFrame}
 use Rattle.step.specs.Laws.Sent.{SentWith}
-use Rattle.step.specs.Own.{oddPacket, ownRuling}
+use Rattle.step.specs.OwnCount.{oddPacket, ownRuling}
 
 pub record Sending : Type 0 where
   -- the kind of its packets, how many slots there are, and the number of the first epoch

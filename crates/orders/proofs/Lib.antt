@@ -1,3 +1,3 @@
-pub mod Again
+pub mod LentAgain
 pub mod Places
 pub mod Turned

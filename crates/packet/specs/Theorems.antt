@@ -1,5 +1,5 @@
 -- What 01 and requests 2026-08, 2026-02 and 2026-12 ask of packets, proved on the definitions.
-pub mod Again
+pub mod WrittenAgain
 pub mod Damage
 pub mod Distance
 pub mod Fixed

@@ -5,7 +5,7 @@ use Prim.Native.Nat.{ℕ, zero, suc, _-_}
 use lib.ListN.{set}
 use Rattle.packet.specs.Kinds.{epochAfter, frames}
 use Rattle.packet.specs.declared.ruling.Ruling.{Ruling}
-use Rattle.step.specs.Own.{ownRuling}
+use Rattle.step.specs.OwnCount.{ownRuling}
 use Rattle.rows.specs.declared.group.Group.{Group}
 use Rattle.rows.specs.declared.member.Member.{Member}
 use Rattle.rows.specs.declared.step.Step.{Step}

@@ -26,7 +26,7 @@ use Rattle.rows.specs.Step.{putStep, stepAt, withNext}
 use Rattle.step.specs.declared.arrival.Taken.{Taken}
 use Rattle.step.specs.Arrival.{distanceIn, takenOf}
 use Rattle.step.specs.Laws.Steady.{mid-epoch-goes-on, mid-even, steady-taken}
-use Rattle.step.specs.Own.{endsOdd}
+use Rattle.step.specs.OwnCount.{endsOdd}
 use Rattle.step.specs.Steady.{midEpoch, steady, steadyTaken}
 use Rattle.store.specs.Frames.{placeIn, storedAt}
 use Rattle.store.specs.Marks.{cutFrom, markedAt}

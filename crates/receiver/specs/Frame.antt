@@ -15,7 +15,7 @@ use Rattle.rows.specs.Packets.{marksAt, packetsAt, putMarks, putPackets, withNi
 use Rattle.rows.specs.Step.{putStep, stepAt, withNext}
 use Rattle.step.specs.declared.arrival.Taken.{Taken}
 use Rattle.step.specs.Arrival.{takenOf}
-use Rattle.step.specs.Own.{endsOdd}
+use Rattle.step.specs.OwnCount.{endsOdd}
 use Rattle.store.specs.Frames.{placeIn, storedAt}
 use Rattle.store.specs.Marks.{cutFrom, markedAt}
 

@@ -13,7 +13,7 @@ use Rattle.judge.specs.Verdict.{HELD, judgeOf}
 use Rattle.packet.specs.Kinds.{epochOf, firstTag, frames, tagBefore}
 use Rattle.payload.specs.Joining.{joinedFrom}
 use Rattle.phases.specs.Passing.{groupTo, passedOf}
-use Rattle.step.specs.Own.{ownRuling}
+use Rattle.step.specs.OwnCount.{ownRuling}
 use Rattle.receiver.specs.declared.report.Report.{Report}
 use Rattle.reply.specs.Telling.{ackOf}
 use Rattle.reply.specs.Waiting.{noStanding, standingsOf}

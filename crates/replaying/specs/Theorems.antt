@@ -3,4 +3,4 @@ pub mod Cuts
 pub mod Ends
 pub mod Lines
 pub mod Printed
-pub mod Same
+pub mod WhateverLent

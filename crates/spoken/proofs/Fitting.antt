@@ -17,7 +17,7 @@ use Rattle.spoken.specs.declared.lists.Answer.the-variants.{Done, Unfit}
 use Rattle.spoken.specs.declared.lists.Change.{Change}
 use Rattle.spoken.specs.declared.lists.Changes.{Changes}
 use Rattle.spoken.specs.Applying.{appliedOf, changeIn, changesFit, fits, fitsBy, laidTo, risesAt, waitAfter, waitFits, withChanges}
-use Rattle.spoken.specs.Theorems.Only.{fits-said}
+use Rattle.spoken.specs.Theorems.NoOther.{fits-said}
 
 pub rises-before : (list : List Change) (k : ℕ) → (k ≡ 0 → ⊥) → ltb (changeIn list (k - 1) .slot) (changeIn list k .slot) ≡ risesAt list k
 rises-before list zero d = absurd (d refl)

@@ -3,5 +3,5 @@ pub mod Applied
 pub mod Exactly
 pub mod Listener
 pub mod NoSecondAnswer
-pub mod Only
+pub mod NoOther
 pub mod Speakable

@@ -2,7 +2,7 @@
 pub mod Arrival
 pub mod Kept
 pub mod Lost
-pub mod Own
+pub mod FixedPackets
 pub mod Run
 pub mod Sent
 pub mod Steady

@@ -1,5 +1,5 @@
 pub mod Run
-pub mod Own
+pub mod OwnCount
 pub mod Arrival
 pub mod Steady
 pub mod Laws

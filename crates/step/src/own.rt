@@ -5,7 +5,7 @@ use packet::counts;
 use packet::kinds;
 ghost use mathlib.Core.Path.{_≡_};
 ghost use lib.ListN.{set};
-ghost use Rattle.step.specs.Own.{endsOdd, oddPacket, ownNumber, ownRuling, rightCrc, rulingIn};
+ghost use Rattle.step.specs.OwnCount.{endsOdd, oddPacket, ownNumber, ownRuling, rightCrc, rulingIn};
 
 // Whether MFI2, in the ninth and tenth nibble, is the number of the packet's epoch.
 fn is_own(epoch: u8, nibbles: [u8; 16]) -> bool

@@ -12,7 +12,7 @@ use Rattle.packet.specs.declared.reader.Reading.the-variants.{Packet, Length, C
 use Rattle.packet.specs.Crc.{bitsOf}
 use Rattle.packet.specs.Layout.{highsOf}
 use Rattle.packet.specs.Reading.{readAnswer}
-use Rattle.packet.specs.Theorems.Again.{Counted, again, again-bytes}
+use Rattle.packet.specs.Theorems.WrittenAgain.{Counted, again, again-bytes}
 use Rattle.packet.specs.Writing.{writingNumber}
 use Rattle.c_face.specs.Packets.{given, readAnswerC, readFieldsC, valuesIn, writeAnswerC, writeBytesC}
 

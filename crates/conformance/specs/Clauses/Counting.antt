@@ -12,7 +12,7 @@ use Rattle.packet.specs.Reading.{readNibbles}
 use Rattle.packet.specs.Ruling.{rulingOf}
 use Rattle.packet.specs.Words.{assigned}
 use Rattle.step.specs.declared.run.Run.{Run}
-use Rattle.step.specs.Own.{endsOdd, oddPacket, ownNumber, ownRuling, rightCrc, rulingIn}
+use Rattle.step.specs.OwnCount.{endsOdd, oddPacket, ownNumber, ownRuling, rightCrc, rulingIn}
 use Rattle.step.specs.Run.{begunRun, breaksAfter, endsPacket, furtherRun, gainedRun, inStepAt, loses, oddAfter, runOn, secondRun, stayedRun}
 
 abbrev run : ℕ → ℕ → ℕ → ℕ → Run

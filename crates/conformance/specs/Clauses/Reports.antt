@@ -30,7 +30,7 @@ use Rattle.rows.specs.Packets.{marksAt, packetsAt, putMarks, putPackets}
 use Rattle.rows.specs.Rows.{putRow, rowIn}
 use Rattle.rows.specs.Step.{putStep, stepAt, stepOf, stepRow}
 use Rattle.step.specs.Arrival.{countsOn, flagged, inStep, readable, takenOf}
-use Rattle.step.specs.Own.{ownNumber, ownRuling, rulingIn}
+use Rattle.step.specs.OwnCount.{ownNumber, ownRuling, rulingIn}
 use Rattle.step.specs.Run.{begunRun, gainedRun, inStepAt, runOn}
 use Rattle.store.specs.Frames.{placeIn, ringOf, storedAt}
 use Rattle.store.specs.Marks.{firstMark}

@@ -12,7 +12,7 @@ use Rattle.packet.specs.Ruling.{refused}
 use Rattle.receiver.specs.Report.{rulingEpoch, seenOf}
 use Rattle.rows.specs.declared.group.Group.{Group}
 use Rattle.rows.specs.Port.{portAt}
-use Rattle.step.specs.Own.{ownNumber, ownRuling, rulingIn}
+use Rattle.step.specs.OwnCount.{ownNumber, ownRuling, rulingIn}
 
 own-good : (kind epoch : ℕ) (ns : List ℕ) → ownRuling kind epoch ns .good ≡ true → fieldsOf ns .epoch ≡ epoch
 unfolding ownRuling ownNumber

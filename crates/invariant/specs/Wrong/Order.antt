@@ -18,7 +18,7 @@ use Rattle.packet.specs.Reading.{readNibbles}
 use Rattle.packet.specs.Words.{EOS, NORM, assigned}
 use Rattle.phases.specs.Due.{brought, owesNothing}
 use Rattle.packet.specs.Ruling.{rulingOf}
-use Rattle.step.specs.Own.{ownNumber, ownRuling, rulingIn}
+use Rattle.step.specs.OwnCount.{ownNumber, ownRuling, rulingIn}
 use Rattle.phases.specs.Sizes.{portsIn, sized, storeFor}
 use Rattle.receiver.specs.Fetch.{dueIn, fetchOut, fits, outIfDue, reportIfDue}
 use Rattle.receiver.specs.Lengths.{fetchFits, outputFor, rowsFit}

@@ -28,7 +28,7 @@ use Rattle.rows.specs.Packets.{marksAt, packetsAt, putMarks, putPackets}
 use Rattle.rows.specs.Rows.{putRow, rowIn}
 use Rattle.rows.specs.Step.{putStep, stepAt, stepOf, stepRow}
 use Rattle.step.specs.Arrival.{inStep, readable}
-use Rattle.step.specs.Own.{ownNumber, ownRuling, rulingIn}
+use Rattle.step.specs.OwnCount.{ownNumber, ownRuling, rulingIn}
 use Rattle.step.specs.Run.{inStepAt}
 use Rattle.store.specs.Frames.{placeIn, ringOf}
 use Rattle.store.specs.Marks.{firstMark}

@@ -13,7 +13,7 @@ use Rattle.packet.specs.Counts.{nibbleIn}
 use Rattle.packet.specs.Kinds.{epochOf}
 use Rattle.packet.specs.Theorems.Tags.{tagOf}
 use Rattle.payload.specs.Order.{groupFrame}
-use Rattle.step.specs.Own.{ownRuling}
+use Rattle.step.specs.OwnCount.{ownRuling}
 use Rattle.receiver.specs.Report.{noSeen}
 use Rattle.link.specs.Road.{L, Road}
 use Rattle.link.specs.Told.{Told}

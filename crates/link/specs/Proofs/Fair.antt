@@ -10,7 +10,7 @@ use Rattle.packet.specs.Theorems.Tags.{tagOf}
 use Rattle.phases.specs.Sizes.{sized}
 use Rattle.receiver.specs.Laws.Sizes.{Sizes, sizes-of}
 use Rattle.step.specs.Laws.Sent.{SentWith}
-use Rattle.step.specs.Own.{oddPacket}
+use Rattle.step.specs.OwnCount.{oddPacket}
 use Rattle.link.specs.Moments.{Unready}
 use Rattle.link.specs.Proofs.Contents.{numberOf, packetOf}
 use Rattle.link.specs.Road.{Below, L, Road, times}

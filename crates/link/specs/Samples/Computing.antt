@@ -49,7 +49,7 @@ use Rattle.sender.specs.Reports.{actedOn, comesBefore, mstApplied, numberAfter,
 use Rattle.sender.specs.Reports.{reportOf as reportHeard}
 use Rattle.sender.specs.Table.{holderOf, membersOf, sizeOf}
 use Rattle.step.specs.Arrival.{arrives, frameDropped, byStart, byWindow, countsOn, distanceIn, flagged, inStep, joining, keeps, outside, readable, takenOf}
-use Rattle.step.specs.Own.{endsOdd, oddPacket, ownNumber, ownRuling, rightCrc, rulingIn}
+use Rattle.step.specs.OwnCount.{endsOdd, oddPacket, ownNumber, ownRuling, rightCrc, rulingIn}
 use Rattle.step.specs.Run.{begunRun, breaksAfter, endsPacket, furtherRun, gainedRun, inStepAt, loses, oddAfter, runOn, secondRun, stayedRun}
 use Rattle.store.specs.Frames.{byteAt, h4At, packetIn, placeIn, ringOf, storedAt}
 use Rattle.store.specs.Marks.{cutByte, cutFrom, firstMark, markIn, markedAt, markedByte, passedByte, passedMarks}

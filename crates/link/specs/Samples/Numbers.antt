@@ -19,7 +19,7 @@ use Rattle.packet.specs.Layout.{highsOf}
 use Rattle.packet.specs.Theorems.Damage.{changed}
 use Rattle.phases.specs.Sizes.{sized}
 use Rattle.step.specs.Laws.Run.{startFrom}
-use Rattle.step.specs.Own.{ownNumber}
+use Rattle.step.specs.OwnCount.{ownNumber}
 use Rattle.link.specs.Assumed.{Assumed}
 use Rattle.link.specs.Demand3.{Demand3}
 use Rattle.link.specs.History.{xAt}

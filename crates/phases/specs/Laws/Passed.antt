@@ -11,7 +11,7 @@ use Rattle.ground.specs.Truth.{eq-or-ne}
 use Rattle.phases.specs.Laws.Lengths.{length-passed-ports}
 use Rattle.phases.specs.Laws.Ports.{port-put-all, port-put-all-other}
 use Rattle.phases.specs.Passing.{notedBy, passedGroup, passedOf, passedPort, passedPorts, passedStep, ruledBy}
-use Rattle.step.specs.Own.{ownRuling}
+use Rattle.step.specs.OwnCount.{ownRuling}
 use Rattle.rows.specs.declared.group.Group.{Group}
 use Rattle.rows.specs.Group.{groupAt}
 use Rattle.rows.specs.Laws.Port.{group-put-same, port-put-group}

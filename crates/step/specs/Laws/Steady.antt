@@ -17,7 +17,7 @@ use Rattle.rows.specs.Step.{withNext}
 use Rattle.step.specs.Arrival.{advanced, distanceIn, flagOf, inStep, keeps, runOf, takenOf}
 use Rattle.step.specs.Laws.Arrival.{ranOn, stepped, taken-keeps}
 use Rattle.step.specs.Laws.Run.{run-on}
-use Rattle.step.specs.Own.{endsOdd}
+use Rattle.step.specs.OwnCount.{endsOdd}
 use Rattle.step.specs.Run.{endsPacket, oddAfter}
 use Rattle.step.specs.Steady.{midEpoch, steady, steadyTaken}
 

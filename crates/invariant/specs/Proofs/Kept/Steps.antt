@@ -49,8 +49,8 @@ use Rattle.rows.specs.Step.{stepAt}
 use Rattle.step.specs.Arrival.{flagOf, inStep, takenOf}
 use Rattle.step.specs.declared.arrival.Taken.{Taken}
 use Rattle.packet.specs.Fixed.{fixedRulingOf}
-use Rattle.step.specs.Laws.Own.{fixed-word}
-use Rattle.step.specs.Own.{ownNumber, ownRuling, rulingIn}
+use Rattle.step.specs.Laws.FixedPackets.{fixed-word}
+use Rattle.step.specs.OwnCount.{ownNumber, ownRuling, rulingIn}
 use Rattle.store.specs.Frames.{packetIn}
 use Rattle.store.specs.Marks.{firstMark}
 

@@ -29,9 +29,9 @@ use Rattle.rows.specs.declared.group.Group.{Group}
 use Rattle.rows.specs.Group.{groupAt}
 use Rattle.rows.specs.Packets.{packetsAt}
 use Rattle.rows.specs.Port.{portAt}
-use Rattle.step.specs.Laws.Own.{own-fixed}
+use Rattle.step.specs.Laws.FixedPackets.{own-fixed}
 use Rattle.step.specs.Arrival.{flagOf}
-use Rattle.step.specs.Own.{ownNumber, ownRuling, rulingIn}
+use Rattle.step.specs.OwnCount.{ownNumber, ownRuling, rulingIn}
 use Rattle.invariant.specs.Calls.{Receiver, ReceiverCall, receiverRun, startedWith}
 use Rattle.invariant.specs.Kept.Group.{Kept}
 use Rattle.invariant.specs.Proofs.Calls as Calls
@@ -39,9 +39,9 @@ use Rattle.invariant.specs.Proofs.Kept.Start.{started-kept, started-with
 use Rattle.invariant.specs.Proofs.Sizes.{run-sizes}
 use Rattle.invariant.specs.Reports.{Refused}
 
-few : (g : Group) → portsIn g ≤ 64
+ports-at-most-64 : (g : Group) → portsIn g ≤ 64
 unfolding portsIn
-few g =
+ports-at-most-64 g =
     cond-by (λ (m : ℕ). m ≤ 64) (sized (g .kind) (g .count) (g .payload) (g .window)) (g .count) 0
     (λ e. sizes-of (g .kind) (g .count) (g .payload) (g .window) e .few-ports) (λ e. omega arith)
 
@@ -61,11 +61,11 @@ module _ (s : List (List ℕ)) (fixed : groupAt s .kind ≡ fixedKind) (due : du
       ap (λ (kind : ℕ). ownRuling kind (rulingEpoch g) (getD (packetsAt s i) 1 []) .word) fixed ∙ own-fixed (rulingEpoch g) (getD (packetsAt s i) 1 [])
 
   all-fixed : AllFixed seen n
-  all-fixed i b good = ap (λ (p : Seen). p .word) (seen-at g s n i (few g) b) ∙ seen-fixed i
+  all-fixed i b good = ap (λ (p : Seen). p .word) (seen-at g s n i (ports-at-most-64 g) b) ∙ seen-fixed i
 
   mark-is : reportIfDue g n s .mark ≡ fixedVerdict seen n
   unfolding reportIfDue reportOf reportBy
-  mark-is = rw due (ap (λ (m : ℕ). judgeOf (g .kind) seen m) (size-is n (few g)) ∙ ap (λ (kind : ℕ). judgeOf kind seen n) fixed ∙ fixed-judged seen n)
+  mark-is = rw due (ap (λ (m : ℕ). judgeOf (g .kind) seen m) (size-is n (ports-at-most-64 g)) ∙ ap (λ (kind : ℕ). judgeOf kind seen n) fixed ∙ fixed-judged seen n)
 
   pub fixed-sure : Standing seen n → reportIfDue g n s .mark ≡ SURE
   fixed-sure o = mark-is ∙ stands-sure seen n all-fixed o

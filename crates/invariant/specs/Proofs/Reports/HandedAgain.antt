@@ -53,7 +53,7 @@ use Rattle.step.specs.Arrival.{frameDropped, countsOn, distanceIn, flagOf, flag
 use Rattle.step.specs.declared.arrival.Taken.{Taken}
 use Rattle.step.specs.declared.run.Run.{Run}
 use Rattle.step.specs.Laws.Arrival.{ranOn, stepped, taken-by, taken-keeps}
-use Rattle.step.specs.Own.{endsOdd}
+use Rattle.step.specs.OwnCount.{endsOdd}
 use Rattle.step.specs.Run.{inStepAt, runOn}
 use Rattle.store.specs.Frames.{placeIn, storedAt}
 use Rattle.store.specs.Laws.Stands.{stands-put}
@@ -93,9 +93,9 @@ step-run : (q : Step) (w : Bool) → runOf (passedStep q w) ≡ runOf q
 unfolding passedStep
 step-run q w = refl
 
-nearer : (g : Group) (q : Step) (w : Bool) → frames (g .kind) ≤ offset g q → offset (passedGroup g) (passedStep q w) + frames (g .kind) ≡ offset g q
+offset-passed : (g : Group) (q : Step) (w : Bool) → frames (g .kind) ≤ offset g q → offset (passedGroup g) (passedStep q w) + frames (g .kind) ≡ offset g q
 unfolding passedGroup passedStep
-nearer g q w h = distance-passed g (passedGroup g) (q .next) refl refl h
+offset-passed g q w h = distance-passed g (passedGroup g) (q .next) refl refl h
 
 ack-offset : (g : Group) (ack : ℕ) (q : Step) → offset (withAck g ack) q ≡ offset g q
 unfolding distanceIn
@@ -116,7 +116,7 @@ module _ (i : ℕ) (run : Run) (gathering : List ℕ) (joined : ℕ) (on : flagO
       let j : flagOf (portAt s i .step .joined) ≡ true = rw (o .joined-is) on in
       let far-on : frames (g .kind) ≤ offset g q =
       ahead g q (portAt s i .marks) (k .ports i (let e = c in omega arith) .kept) (o .begun) (brought-owes-nothing g s n due i b) j in
-      let near = nearer g q (firstMark (portAt s i .marks)) far-on in
+      let near = offset-passed g q (firstMark (portAt s i .marks)) far-on in
       let w = o .within in
       rw (passed-group g store n s (omega arith), passed-of-port g store n s i b enough)
       (record {

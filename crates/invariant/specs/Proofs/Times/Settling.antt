@@ -19,7 +19,7 @@ use Rattle.rows.specs.Member.{memberAt}
 use Rattle.rows.specs.Packets.{marksAt, packetsAt}
 use Rattle.rows.specs.Step.{stepAt}
 use Rattle.step.specs.Arrival.{flagOf, inStep, readable}
-use Rattle.step.specs.Own.{ownRuling}
+use Rattle.step.specs.OwnCount.{ownRuling}
 use Rattle.store.specs.Frames.{packetIn}
 use Rattle.store.specs.Marks.{firstMark, passedMarks}
 

@@ -20,7 +20,7 @@ use Rattle.packet.specs.Layout.{dataOf, fieldsOf, h4Of, highsOf, nibblesOf, sea
 use Rattle.packet.specs.Theorems.Tags.{epochs-fit, epochs-some}
 use Rattle.packet.specs.Words.{FIXED}
 use Rattle.step.specs.Laws.Sent.{SentWith}
-use Rattle.step.specs.Own.{ownNumber, ownRuling, rulingIn}
+use Rattle.step.specs.OwnCount.{ownNumber, ownRuling, rulingIn}
 use Rattle.link.specs.FixedGroup.{FixedGroup, Numbered, fixedSent}
 use Rattle.link.specs.Proofs.Laws.Counts.{tag-epoch, tag-place, tagAt}
 use Rattle.link.specs.Sending.{epochNumber, epochStart, nibblesIn}

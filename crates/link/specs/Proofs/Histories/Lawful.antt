@@ -17,7 +17,7 @@ use Rattle.packet.specs.Reading.{readNibbles}
 use Rattle.packet.specs.declared.ruling.Ruling.{Ruling}
 use Rattle.packet.specs.Ruling.{refused, rulingBy, rulingOf}
 use Rattle.packet.specs.Theorems.ReadBack.{fields-back}
-use Rattle.step.specs.Own.{oddPacket, ownNumber, ownRuling, rightCrc, rulingIn}
+use Rattle.step.specs.OwnCount.{oddPacket, ownNumber, ownRuling, rightCrc, rulingIn}
 use Rattle.link.specs.History.{Allowed, Handed, History, fieldsSent, packetSent, sendingOf}
 use Rattle.link.specs.Sending.{Client, Lawful, epochNumber, nibblesIn}
 use Rattle.link.specs.Proofs.Histories.Counted.{sent-counts}

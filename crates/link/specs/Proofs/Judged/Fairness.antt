@@ -14,7 +14,7 @@ use Rattle.packet.specs.Ruling.{refused}
 use Rattle.packet.specs.Theorems.Tags.{first-of, tagOf}
 use Rattle.step.specs.Laws.Run.{sent-place}
 use Rattle.step.specs.Laws.Sent.{SentWith}
-use Rattle.step.specs.Own.{oddPacket, ownNumber, ownRuling, rightCrc, rulingIn}
+use Rattle.step.specs.OwnCount.{oddPacket, ownNumber, ownRuling, rightCrc, rulingIn}
 use Rattle.link.specs.Proofs.Laws.Counts.{kept-counts}
 use Rattle.link.specs.Link.{Arrived, AssumedOver, Damaged, Link, roadOf, sentTo}
 use Rattle.link.specs.Moments.{Unready}

@@ -13,7 +13,7 @@ use Rattle.packet.specs.Kinds.{frames}
 use Rattle.packet.specs.Laws.Epochs.{epoch-in, place-in}
 use Rattle.packet.specs.Theorems.Tags.{frames-some}
 use Rattle.packet.specs.declared.ruling.Ruling.{Ruling}
-use Rattle.step.specs.Own.{ownRuling}
+use Rattle.step.specs.OwnCount.{ownRuling}
 use Rattle.receiver.specs.Laws.Seen.{seen-each}
 use Rattle.receiver.specs.Laws.Sizes.{sizes-of}
 use Rattle.link.specs.Proofs.Contents.{allSeenAfter, numberOf, packetOf, seenAfter}

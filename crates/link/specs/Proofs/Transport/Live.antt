@@ -21,7 +21,7 @@ use Rattle.rows.specs.Port.{portAt}
 use Rattle.rows.specs.Step.{stepAt}
 use Rattle.step.specs.declared.arrival.Taken.{Taken}
 use Rattle.step.specs.Laws.Run.{startFrom}
-use Rattle.step.specs.Own.{endsOdd, oddPacket}
+use Rattle.step.specs.OwnCount.{endsOdd, oddPacket}
 use Rattle.step.specs.Run.{endsPacket}
 use Rattle.link.specs.Proofs.Contents.{numberOf, packetOf}
 use Rattle.link.specs.Proofs.Fair.{Fair}

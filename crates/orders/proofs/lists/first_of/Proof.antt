@@ -68,7 +68,7 @@ use Rattle.orders.proofs.lists.order.Symbol as order-def
 use Rattle.orders.proofs.lists.order.Symbol.{name as #order}
 use Rattle.orders.proofs.lists.order.Met as order-thm
 use Rattle.orders.proofs.Places.{in-order}
-use Rattle.orders.proofs.Again.{LentAgain, lends-again, comes-back}
+use Rattle.orders.proofs.LentAgain.{LentAgain, lends-again, comes-back}
 use Rattle.orders.proofs.lists.first_of.Key.{name as #first-of}
 use Rattle.orders.proofs.lists.first_of as first-of
 use Rattle.orders.proofs.lists.first_of.Statement as stated

@@ -64,7 +64,7 @@ use Rattle.orders.proofs.lists.Ordered as TO
 use Rattle.orders.proofs.lists.Ordered.Laws as LO
 use Rattle.orders.proofs.Turned.{cardAt, listAt, list-length, card-next, list-next, turns-left, turns-right, place-fits, card-left, list-left}
 use Rattle.orders.proofs.Places.{in-order, upward}
-use Rattle.orders.proofs.Again.{LentAgain, lends-again, comes-back}
+use Rattle.orders.proofs.LentAgain.{LentAgain, lends-again, comes-back}
 use Rattle.orders.proofs.lists.turns as turns
 use Rattle.orders.proofs.lists.turns.Symbol as turns-def
 use Rattle.orders.proofs.lists.turns.Symbol.{name as #turns}

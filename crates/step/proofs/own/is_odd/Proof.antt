@@ -1,5 +1,5 @@
 use mathlib.Core.Path.{refl}
-use Rattle.step.specs.Own.{endsOdd}
+use Rattle.step.specs.OwnCount.{endsOdd}
 use borrow.Author.Needs.{needs}
 use Rattle.step.proofs.own.is_odd.Statement.{statement}
 use Rattle.step.proofs.own.is_odd.Tie as tie

@@ -2,7 +2,7 @@ use mathlib.Core.Path.{_≡_, sym, _∙_}
 use mathlib.Core.Bool.{true, false, and-false, and-true}
 use mathlib.Core.List.{List}
 use Prim.Native.Nat.{ℕ}
-use Rattle.step.specs.Own.{oddPacket, ownNumber, rightCrc}
+use Rattle.step.specs.OwnCount.{oddPacket, ownNumber, rightCrc}
 use borrow.Author.Needs.{needs}
 use Rattle.step.proofs.own.is_odd_packet.Statement.{statement}
 use Rattle.step.proofs.own.is_odd_packet.Tie as tie

@@ -1,6 +1,6 @@
 use mathlib.Core.Path.{refl}
 use Rattle.packet.specs.Layout.{fieldsOf}
-use Rattle.step.specs.Own.{ownNumber}
+use Rattle.step.specs.OwnCount.{ownNumber}
 use borrow.Author.Needs.{needs}
 use Rattle.step.proofs.own.is_own.Statement.{statement}
 use Rattle.step.proofs.own.is_own.Tie as tie

@@ -1,6 +1,6 @@
 use mathlib.Core.Path.{refl}
 use borrow.Author.Tests.{eq-eqb, ne-eqb}
-use Rattle.step.specs.Own.{rightCrc}
+use Rattle.step.specs.OwnCount.{rightCrc}
 use borrow.Author.Needs.{needs}
 use Rattle.step.proofs.own.is_right.Statement.{statement}
 use Rattle.step.proofs.own.is_right.Tie as tie

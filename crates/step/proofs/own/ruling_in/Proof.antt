@@ -1,5 +1,5 @@
 use borrow.Author.Tests.{eq-eqb, ne-eqb}
-use Rattle.step.specs.Own.{rulingIn}
+use Rattle.step.specs.OwnCount.{rulingIn}
 use borrow.Author.Needs.{needs}
 use Rattle.step.proofs.own.ruling_in.Statement.{statement}
 use Rattle.step.proofs.own.ruling_in.Tie as tie

@@ -1,5 +1,5 @@
 use mathlib.Core.Path.{refl}
-use Rattle.step.specs.Own.{ownRuling}
+use Rattle.step.specs.OwnCount.{ownRuling}
 use borrow.Author.Needs.{needs}
 use Rattle.step.proofs.own.ruling_of.Statement.{statement}
 use Rattle.step.proofs.own.ruling_of.Tie as tie

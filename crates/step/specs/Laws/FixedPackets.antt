@@ -13,7 +13,7 @@ use Rattle.packet.specs.Kinds.{fixedKind}
 use Rattle.packet.specs.Layout.{byteOf}
 use Rattle.packet.specs.Ruling.{refused, rulingBy}
 use Rattle.packet.specs.Words.{FIXED}
-use Rattle.step.specs.Own.{ownNumber, ownRuling, rulingIn}
+use Rattle.step.specs.OwnCount.{ownNumber, ownRuling, rulingIn}
 
 pub fixed-word : (ns : List ℕ) → fixedRulingOf ns .word ≡ FIXED
 unfolding fixedRulingOf readFixedNibbles
