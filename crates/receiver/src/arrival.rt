@@ -4,6 +4,7 @@ use packet::counts;
 use packet::kinds;
 use rows::Group;
 use step::Taken;
+use step::answers;
 use store::frames;
 use store::marks;
 ghost use mathlib.Core.Path.{_≡_};
@@ -100,7 +101,7 @@ fn take(
     ensures { λ _. ⌜ (now (state .exit) ≡ takenRows group ports (now (state .entry)) port taken h4 (now (payload .entry)) (now (store .entry)))
         × (now (store .exit) ≡ takenStore group port taken h4 (now (payload .entry)) (now (store .entry))) ⌝ }
 {
-    if taken.answer != 11 {
+    if taken.answer != answers::OUTSIDE {
         put_port(group.kind, state, port, taken, h4);
         put_frame(group, port, taken, h4, payload, store);
         settle_by(taken.settles, ports, store, state);
@@ -164,7 +165,7 @@ fn arrive(
         if step::is_mid_epoch(group, at) {
             go_on(group.kind, step.next, h4, port, state);
             keep(group, port, at, h4, payload, store);
-            return 0;
+            return answers::DONE;
         }
         return decided(state, port, failed, h4, payload, store);
     }
@@ -175,12 +176,12 @@ fn refusal(group: Group, ports: u8, port: u32, rows: usize, payload: usize, stor
     ensures { λ r. ⌜ r ≡ refusalBy group ports port rows payload store ⌝ }
 {
     if ports as u32 <= port {
-        return 1;
+        return answers::NO_PORT;
     }
     if lengths::is_frame(group, ports, rows, payload, store) {
-        return 0;
+        return answers::DONE;
     }
-    9
+    answers::LENGTH
 }
 
 // A frame of a port: flagged as failed or not, its H4 byte and its payload.
@@ -199,7 +200,7 @@ pub fn frame(
     let group = rows::group::get(state);
     let ports = phases::ports_in(group);
     let refusal = refusal(group, ports, port, state.len(), payload.len(), store.len());
-    if refusal != 0 {
+    if refusal != answers::DONE {
         return refusal;
     }
     let at = port as u8;

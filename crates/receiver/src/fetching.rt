@@ -6,6 +6,7 @@ use crate::report;
 use crate::report::Report;
 use crate::states;
 use rows::Group;
+use step::answers;
 ghost use mathlib.Core.Path.{_≡_};
 ghost use lib.ListN.{length};
 ghost use Rattle.receiver.specs.Fetch.{dueIn, fetchAnswer, fetchOut, fetchRecord, fetchRows, outIfDue, reportIfDue, rowsIfDue, noneDue, recordOf};
@@ -109,9 +110,9 @@ pub fn fetch(state: &mut [[u8; 16]], store: &[u8], out: &mut [u8], report: &mut 
         out.len(),
         report.len(),
     ) {
-        return 9;
+        return answers::LENGTH;
     }
     let given = report_if_due(group, ports, state, store, out);
     put_record(given, report);
-    0
+    answers::DONE
 }

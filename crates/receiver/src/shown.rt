@@ -7,6 +7,7 @@ use reply::Port;
 use rows::Group;
 use rows::Member;
 use rows::Step;
+use step::answers;
 ghost use mathlib.Core.Path.{_≡_};
 ghost use mathlib.Core.List.{[], _∷_};
 ghost use Prim.Native.Nat.{_≤_};
@@ -88,10 +89,10 @@ pub fn ports(state: &[[u8; 16]], out: &mut [[u8; 8]]) -> u8
     let group = rows::group::get(state);
     let count = phases::ports_in(group);
     if !is_shown(count, state.len(), out.len()) {
-        return 9;
+        return answers::LENGTH;
     }
     show_ports(group, count, state, out);
-    0
+    answers::DONE
 }
 
 fn is_reply(count: u8, rows: usize, out: usize) -> bool
@@ -124,11 +125,11 @@ pub fn reply(state: &[[u8; 16]], epoch: u8, out: &mut [u8]) -> u8
     let group = rows::group::get(state);
     let count = phases::ports_in(group);
     if !is_reply(count, state.len(), out.len()) {
-        return 9;
+        return answers::LENGTH;
     }
     let all = states::reply_ports(group, state, count);
     let mst = reply::mst(group.kind, all, count, epoch);
     let ack = ground::one_if(flags::is_set(group.rs_ack));
     put_reply(told_by(group.kind, mst), told_by(group.kind, ack), out);
-    0
+    answers::DONE
 }

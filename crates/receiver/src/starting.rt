@@ -4,6 +4,7 @@ use reply::Port;
 use rows::Group;
 use rows::Member;
 use rows::Step;
+use step::answers;
 ghost use mathlib.Core.Path.{_≡_};
 ghost use mathlib.Core.Bool.{cond, _||_};
 ghost use lib.Dec.{eqb, ltb};
@@ -151,12 +152,12 @@ fn start_sized(
 {
     let lists = is_list(hold_off.len(), count) & is_list(restore.len(), count);
     if !(lists & is_fitting(count, payload, window, store, state.len())) {
-        return 9;
+        return answers::LENGTH;
     }
     let group = group_with(kind, count, payload, window);
     put_ports(kind, hold_off, restore, count, state);
     rows::group::put(state, group);
-    0
+    answers::DONE
 }
 
 fn is_right(
@@ -201,7 +202,7 @@ pub fn start_as(
     }
     let empty = group_with(kind, 0, 0, 0);
     rows::group::put(state, empty);
-    4
+    answers::OUT_OF_RANGE
 }
 
 // The same with no times.

@@ -1,4 +1,5 @@
 // What a frame does (01, 'Beginning', 'Window'), decided on the group's and the port's records.
+use crate::answers;
 use crate::run;
 use crate::run::Run;
 use packet::kinds;
@@ -89,7 +90,7 @@ fn flagged(group: Group, step: Step) -> Taken
     let settles = settles_at(group, step, now);
     Taken {
         step: now,
-        answer: 10,
+        answer: answers::FLAGGED,
         counted: false,
         kept: false,
         at: 0,
@@ -105,7 +106,7 @@ fn counts_on(group: Group, step: Step, run: Run) -> Taken
     let settles = settles_at(group, step, now);
     Taken {
         step: now,
-        answer: 12,
+        answer: answers::NOT_IN_STEP,
         counted: !(run.count == 0),
         kept: false,
         at: 0,
@@ -121,7 +122,7 @@ fn frame_dropped(group: Group, step: Step, run: Run) -> Taken
     let settles = !is_set(group.begun);
     Taken {
         step: now,
-        answer: 0,
+        answer: answers::DONE,
         counted: true,
         kept: false,
         at: 0,
@@ -135,7 +136,7 @@ fn outside(step: Step) -> Taken
 {
     Taken {
         step,
-        answer: 11,
+        answer: answers::OUTSIDE,
         counted: false,
         kept: false,
         at: 0,
@@ -153,7 +154,7 @@ fn keeps(group: Group, step: Step, run: Run, at: u16) -> Taken
     let settles = !is_set(group.gathered) & ends & (epoch == 0);
     Taken {
         step: now,
-        answer: 0,
+        answer: answers::DONE,
         counted: true,
         kept: true,
         at,
@@ -169,7 +170,7 @@ fn joining(group: Group, step: Step, run: Run, at: u16) -> Taken
     let now = step_to(step, 0, run, 1, step.since, later);
     Taken {
         step: now,
-        answer: 0,
+        answer: answers::DONE,
         counted: true,
         kept: true,
         at,

@@ -1,4 +1,5 @@
 // One frame of one port (01, 'The receiver'): the step rule, and what the frame does by the window and joining. All on numbers; nothing is stored here.
+pub mod answers;
 mod arrival;
 mod own;
 mod run;
