@@ -32,7 +32,11 @@ same-length : tie.Need-same-length
 same-length c = omega arith
 
 returns-2 : tie.Need-returns-2
-returns-2 c = read-right _ _ _ _ _ (c .before .before .before .before .before .before .before .before .if1 .left) (c .before .before .before .before .before .before .before .read .ensures) (c .before .before .before .before .before .reading .given .1) (c .before .before .put-values .ensures)
+returns-2 c =
+    let test1 = c .before .before .before .before .before .before .before .before .if1 in
+    let the-read = c .before .before .before .before .before .before .before .read in
+    let reading = c .before .before .before .before .before .reading in
+    read-right _ _ _ _ _ (test1 .left) (the-read .ensures) (reading .given .1) (c .before .before .put-values .ensures)
 
 returns-3 : tie.Need-returns-3
 returns-3 c = read-right _ _ _ _ _ (c .before .before .before .if1 .left) (c .before .before .read .ensures) (c .enum-told .given .1) refl

@@ -32,7 +32,11 @@ same-length : tie.Need-same-length
 same-length c = omega arith
 
 returns-2 : tie.Need-returns-2
-returns-2 c = fixed-right _ _ _ _ _ (c .before .before .before .before .before .before .before .before .if1 .left) (c .before .before .before .before .before .before .before .read-fixed .ensures) (c .before .before .before .before .before .reading .given .1) (c .before .before .put-values .ensures)
+returns-2 c =
+    let test1 = c .before .before .before .before .before .before .before .before .if1 in
+    let read-fixed = c .before .before .before .before .before .before .before .read-fixed in
+    let reading = c .before .before .before .before .before .reading in
+    fixed-right _ _ _ _ _ (test1 .left) (read-fixed .ensures) (reading .given .1) (c .before .before .put-values .ensures)
 
 returns-3 : tie.Need-returns-3
 returns-3 c = fixed-right _ _ _ _ _ (c .before .before .before .if1 .left) (c .before .before .read-fixed .ensures) (c .enum-told .given .1) refl

@@ -29,7 +29,10 @@ same-length c = search needs
 returns : tie.Need-returns
 unfolding slotText
 returns c =
-    let first = c .before .before .before .before .before .before .before .before .before .before .before .before .before .before in
+    let before = c .before .before .before .before .before .before .before .before .before .before .before .before .before .before in
+    let put-number = c .before .before .before .before .before .before .before .before .before .before .put-number in
+    let put-word = c .before .before .before .before .before .before .put-word in
+    let first = before in
     let s = first .before .before .before .before in
     let a = ended SLOT TAB in
     let b = ended (decimalText (s .args .slot)) TAB in
@@ -39,8 +42,8 @@ returns c =
     let two = shorter (a ++ b ++ d) e (s .args .at) n (s .pre) in
     let one = shorter (a ++ b) d (s .args .at) n two in
     let p = is-put (shorter a b (s .args .at) n one) (first .put .ensures) in
-    let q = put-then p (is-put (room p b one) (c .before .before .before .before .before .before .before .before .before .before .put-number .ensures)) in
-    let r = put-then q (is-put (room q d two) (c .before .before .before .before .before .before .put-word .ensures)) in
+    let q = put-then p (is-put (room p b one) (put-number .ensures)) in
+    let r = put-then q (is-put (room q d two) (put-word .ensures)) in
     put-then r (is-put (room r e (s .pre)) (c .before .before .put-number2 .ensures))
 
 pub put-slot-spec : {M : Type 1} → statement M

@@ -25,11 +25,13 @@ same-length c = search needs
 returns : tie.Need-returns
 unfolding waitText
 returns c =
-    let w = c .before .before .before .before .before .before .before .before .before in
+    let before = c .before .before .before .before .before .before .before .before .before in
+    let put = c .before .before .before .before .before .before .put in
+    let w = before in
     let s = w .before .before in
     let b = ended (decimalText (w .one-if .result)) LINE-END in
     let h = rw (← (w .one-if .ensures)) at (s .pre) in
-    let p = is-put (shorter (ended WAIT TAB) b (s .args .at) (length (s .args .out .now)) h) (c .before .before .before .before .before .before .put .ensures) in
+    let p = is-put (shorter (ended WAIT TAB) b (s .args .at) (length (s .args .out .now)) h) (put .ensures) in
     rw (← (w .one-if .ensures)) (put-then p (is-put (room p b h) (c .before .before .put-number .ensures)))
 
 pub put-wait-spec : {M : Type 1} → statement M

@@ -21,10 +21,22 @@ has-zero-requires : tie.Need-has-zero-requires
 has-zero-requires c κs = search needs
 
 returns-2 : tie.Need-returns-2
-returns-2 c = by-doubt (c .before .before .before .before .before .before .before .before .args .port ∷ []) 1 (c .before .before .before .before .before .before .before .tallied-alone .result) _ _ _ (c .before .before .before .before .before .before .before .tallied-alone .ensures) (none-repeats _) (c .before .before .before .before .before .before .is-eos-last .ensures) (c .before .before .before .before .before .is-held .ensures) _ (exact-alone _ _ _ (c .before .before .before .before .before .before .before .tallied-alone .ensures) (c .before .before .before .has-zero .ensures)) (c .before .before .before .before .if1 .left) (c .if2 .taken)
+returns-2 c =
+    let start = c .before .before .before .before .before .before .before .before in
+    let tallied-alone = c .before .before .before .before .before .before .before .tallied-alone in
+    let is-eos-last = c .before .before .before .before .before .before .is-eos-last in
+    let is-held = c .before .before .before .before .before .is-held in
+    let test1 = c .before .before .before .before .if1 in
+    by-doubt (start .args .port ∷ []) 1 (tallied-alone .result) _ _ _ (tallied-alone .ensures) (none-repeats _) (is-eos-last .ensures) (is-held .ensures) _ (exact-alone _ _ _ (tallied-alone .ensures) (c .before .before .before .has-zero .ensures)) (test1 .left) (c .if2 .taken)
 
 returns-3 : tie.Need-returns-3
-returns-3 c = by-rest (c .before .before .before .before .before .before .before .before .args .port ∷ []) 1 (c .before .before .before .before .before .before .before .tallied-alone .result) _ _ _ (c .before .before .before .before .before .before .before .tallied-alone .ensures) (none-repeats _) (c .before .before .before .before .before .before .is-eos-last .ensures) (c .before .before .before .before .before .is-held .ensures) _ (exact-alone _ _ _ (c .before .before .before .before .before .before .before .tallied-alone .ensures) (c .before .before .before .has-zero .ensures)) (c .before .before .before .before .if1 .left) (c .if2 .left)
+returns-3 c =
+    let start = c .before .before .before .before .before .before .before .before in
+    let tallied-alone = c .before .before .before .before .before .before .before .tallied-alone in
+    let is-eos-last = c .before .before .before .before .before .before .is-eos-last in
+    let is-held = c .before .before .before .before .before .is-held in
+    let test1 = c .before .before .before .before .if1 in
+    by-rest (start .args .port ∷ []) 1 (tallied-alone .result) _ _ _ (tallied-alone .ensures) (none-repeats _) (is-eos-last .ensures) (is-held .ensures) _ (exact-alone _ _ _ (tallied-alone .ensures) (c .before .before .before .has-zero .ensures)) (test1 .left) (c .if2 .left)
 
 pub lcas-alone-spec : {M : Type 1} → statement M
 lcas-alone-spec =

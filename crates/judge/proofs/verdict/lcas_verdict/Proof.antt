@@ -22,10 +22,22 @@ is-exact-requires : tie.Need-is-exact-requires
 is-exact-requires c κs = search needs
 
 returns-2 : tie.Need-returns-2
-returns-2 c = by-doubt (c .before .before .before .before .before .before .before .before .args .ports) (c .before .before .before .before .before .before .before .before .args .n) (c .before .before .before .before .before .before .before .tallied .result) _ _ _ (c .before .before .before .before .before .before .before .tallied .ensures) (c .before .before .before .before .before .before .has-repeats .ensures) (c .before .before .before .before .before .is-eos-alone .ensures) (c .before .before .before .before .is-held .ensures) _ (c .before .before .is-exact .ensures) (c .before .before .before .if1 .left) (c .if2 .taken)
+returns-2 c =
+    let start = c .before .before .before .before .before .before .before .before in
+    let tallied = c .before .before .before .before .before .before .before .tallied in
+    let has-repeats = c .before .before .before .before .before .before .has-repeats in
+    let is-eos-alone = c .before .before .before .before .before .is-eos-alone in
+    let is-held = c .before .before .before .before .is-held in
+    by-doubt (start .args .ports) (start .args .n) (tallied .result) _ _ _ (tallied .ensures) (has-repeats .ensures) (is-eos-alone .ensures) (is-held .ensures) _ (c .before .before .is-exact .ensures) (c .before .before .before .if1 .left) (c .if2 .taken)
 
 returns-3 : tie.Need-returns-3
-returns-3 c = by-rest (c .before .before .before .before .before .before .before .before .args .ports) (c .before .before .before .before .before .before .before .before .args .n) (c .before .before .before .before .before .before .before .tallied .result) _ _ _ (c .before .before .before .before .before .before .before .tallied .ensures) (c .before .before .before .before .before .before .has-repeats .ensures) (c .before .before .before .before .before .is-eos-alone .ensures) (c .before .before .before .before .is-held .ensures) _ (c .before .before .is-exact .ensures) (c .before .before .before .if1 .left) (c .if2 .left)
+returns-3 c =
+    let start = c .before .before .before .before .before .before .before .before in
+    let tallied = c .before .before .before .before .before .before .before .tallied in
+    let has-repeats = c .before .before .before .before .before .before .has-repeats in
+    let is-eos-alone = c .before .before .before .before .before .is-eos-alone in
+    let is-held = c .before .before .before .before .is-held in
+    by-rest (start .args .ports) (start .args .n) (tallied .result) _ _ _ (tallied .ensures) (has-repeats .ensures) (is-eos-alone .ensures) (is-held .ensures) _ (c .before .before .is-exact .ensures) (c .before .before .before .if1 .left) (c .if2 .left)
 
 pub lcas-verdict-spec : {M : Type 1} → statement M
 lcas-verdict-spec =

@@ -30,10 +30,19 @@ one-if-requires : tie.Need-one-if-requires
 one-if-requires c κs = search needs
 
 add-t25 : tie.Need-add-t25
-add-t25 c = let p : c .before .before .before .before .before .before .before .before .before .before .before .before .before .before .before .before .before .before .before .before .before .args .tally .numbered < 64 = c .before .before .before .before .before .before .before .before .before .before .before .before .before .before .before .before .before .before .before .before .before .pre in let h : c .before .one-if .result ≤ 1 = one-fits (c .before .before .is-numbered .result) _ (c .before .one-if .ensures) in omega arith
+add-t25 c =
+    let start = c .before .before .before .before .before .before .before .before .before .before .before .before .before .before .before .before .before .before .before .before .before in
+    let one-if = c .before .one-if in
+    let p : start .args .tally .numbered < 64 = start .pre in let h : one-if .result ≤ 1 = one-fits (c .before .before .is-numbered .result) _ (one-if .ensures) in omega arith
 
 returns : tie.Need-returns
-returns c = rw (c .before .before .before .choose .ensures, c .before .one-if .ensures, c .before .before .is-numbered .ensures, c .before .before .before .before .before .before .before .is-eos .ensures, c .before .before .before .before .before .before .before .before .before .before .before .before .before .before .is-lacking .ensures, c .before .before .before .before .before .before .before .before .before .before .before .before .before .before .before .before .is-refused .ensures, c .before .before .before .before .before .before .before .before .before .before .before .before .before .before .before .before .before .before .before .is-unidle .ensures, c .before .before .before .before .before .before .before .before .before .before .before .before .before .before .before .before .before .before .before .before .is-active .ensures)
+returns c =
+    let is-active = c .before .before .before .before .before .before .before .before .before .before .before .before .before .before .before .before .before .before .before .before .is-active in
+    let is-unidle = c .before .before .before .before .before .before .before .before .before .before .before .before .before .before .before .before .before .before .before .is-unidle in
+    let is-refused = c .before .before .before .before .before .before .before .before .before .before .before .before .before .before .before .before .is-refused in
+    let is-lacking = c .before .before .before .before .before .before .before .before .before .before .before .before .before .before .is-lacking in
+    let is-eos = c .before .before .before .before .before .before .before .is-eos in
+    rw (c .before .before .before .choose .ensures, c .before .one-if .ensures, c .before .before .is-numbered .ensures, is-eos .ensures, is-lacking .ensures, is-refused .ensures, is-unidle .ensures, is-active .ensures)
 
 pub with-port-spec : {M : Type 1} → statement M
 with-port-spec =

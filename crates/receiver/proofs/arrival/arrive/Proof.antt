@@ -29,7 +29,16 @@ same-length-2 : tie.Need-same-length-2
 same-length-2 c = search needs
 
 returns : tie.Need-returns
-returns c = arrive-steady _ _ _ _ _ _ _ (c .before .before .before .before .before .before .before .before .before .before .before .before .before .before .before .before .pre) _ _ _ _ (c .before .before .before .before .before .before .before .before .before .before .before .before .get .ensures) (sym (c .before .before .before .before .before .before .before .before .before .before .before .is-steady .ensures) ∙ c .before .before .before .before .before .before .before .before .before .before .if1 .taken) (c .before .before .before .before .before .before .before .before .before .distance-in .ensures) (sym (c .before .before .before .before .before .before .before .before .is-mid-epoch .ensures) ∙ c .before .before .before .before .before .before .before .if2 .taken) (c .before .before .before .before .before .go-on .ensures) (c .before .before .keep .ensures)
+returns c =
+    let start = c .before .before .before .before .before .before .before .before .before .before .before .before .before .before .before .before in
+    let get = c .before .before .before .before .before .before .before .before .before .before .before .before .get in
+    let is-steady = c .before .before .before .before .before .before .before .before .before .before .before .is-steady in
+    let test1 = c .before .before .before .before .before .before .before .before .before .before .if1 in
+    let distance-in = c .before .before .before .before .before .before .before .before .before .distance-in in
+    let is-mid-epoch = c .before .before .before .before .before .before .before .before .is-mid-epoch in
+    let test2 = c .before .before .before .before .before .before .before .if2 in
+    let go-on = c .before .before .before .before .before .go-on in
+    arrive-steady _ _ _ _ _ _ _ (start .pre) _ _ _ _ (get .ensures) (sym (is-steady .ensures) ∙ test1 .taken) (distance-in .ensures) (sym (is-mid-epoch .ensures) ∙ test2 .taken) (go-on .ensures) (c .before .before .keep .ensures)
 
 decided-requires : tie.Need-decided-requires
 decided-requires c κs = search needs

@@ -34,7 +34,15 @@ same-length-2 : tie.Need-same-length-2
 same-length-2 c = search needs
 
 returns : tie.Need-returns
-returns c = decided-by _ _ _ _ _ _ _ _ (c .before .before .before .before .before .before .before .before .before .before .before .before .before .before .get .ensures) (c .before .before .before .before .before .before .before .before .before .before .before .get2 .ensures) _ _ _ _ _ _ (c .before .before .before .before .before .before .before .before .before .before .before .before .before .ports-in .ensures) (c .before .before .before .before .before .before .before .before .before .get3 .ensures) (c .before .before .before .before .before .before .before .is-odd .ensures) (c .before .before .before .before .before .before .decide .ensures) (c .before .before .before .take .ensures .0) (c .before .before .before .take .ensures .1)
+returns c =
+    let get = c .before .before .before .before .before .before .before .before .before .before .before .before .before .before .get in
+    let ports-in = c .before .before .before .before .before .before .before .before .before .before .before .before .before .ports-in in
+    let get2 = c .before .before .before .before .before .before .before .before .before .before .before .get2 in
+    let get3 = c .before .before .before .before .before .before .before .before .before .get3 in
+    let is-odd = c .before .before .before .before .before .before .before .is-odd in
+    let decide = c .before .before .before .before .before .before .decide in
+    let take = c .before .before .before .take in
+    decided-by _ _ _ _ _ _ _ _ (get .ensures) (get2 .ensures) _ _ _ _ _ _ (ports-in .ensures) (get3 .ensures) (is-odd .ensures) (decide .ensures) (take .ensures .0) (take .ensures .1)
 
 pub decided-spec : {M : Type 1} → statement M
 decided-spec =

@@ -33,7 +33,13 @@ same-length-3 : tie.Need-same-length-3
 same-length-3 c = search needs
 
 returns-2 : tie.Need-returns-2
-returns-2 c = frame-decided _ _ _ _ _ _ _ _ _ _ _ _ (c .before .before .before .before .before .before .before .before .before .get .ensures) (c .before .before .before .before .before .before .before .before .ports-in .ensures) (c .before .before .before .before .before .before .before .refusal .ensures) (c .before .before .before .before .before .before .if1 .left) (c .before .before .before .arrive .ensures .0) (c .before .before .before .arrive .ensures .1) (c .before .before .before .arrive .ensures .2)
+returns-2 c =
+    let get = c .before .before .before .before .before .before .before .before .before .get in
+    let ports-in = c .before .before .before .before .before .before .before .before .ports-in in
+    let refusal = c .before .before .before .before .before .before .before .refusal in
+    let test1 = c .before .before .before .before .before .before .if1 in
+    let arrive = c .before .before .before .arrive in
+    frame-decided _ _ _ _ _ _ _ _ _ _ _ _ (get .ensures) (ports-in .ensures) (refusal .ensures) (test1 .left) (arrive .ensures .0) (arrive .ensures .1) (arrive .ensures .2)
 
 pub frame-spec : {M : Type 1} → statement M
 frame-spec =

@@ -25,7 +25,12 @@ same-length c = search needs
 
 returns : tie.Need-returns
 unfolding steadyRows
-returns c = rw (c .before .put-nibble .ensures, c .before .before .before .before .put-next .ensures, c .before .before .before .before .before .before .nibble-in .ensures, c .before .before .before .before .before .before .before .place-of .ensures, c .before .before .before .before .before .before .before .before .next-tag .ensures) (rw (packets-after-step _ _ _) refl)
+returns c =
+    let next-tag = c .before .before .before .before .before .before .before .before .next-tag in
+    let place-of = c .before .before .before .before .before .before .before .place-of in
+    let nibble-in = c .before .before .before .before .before .before .nibble-in in
+    let put-next = c .before .before .before .before .put-next in
+    rw (c .before .put-nibble .ensures, put-next .ensures, nibble-in .ensures, place-of .ensures, next-tag .ensures) (rw (packets-after-step _ _ _) refl)
 
 pub go-on-spec : {M : Type 1} → statement M
 go-on-spec =

@@ -19,7 +19,11 @@ same-length : tie.Need-same-length
 same-length c = search needs
 
 returns : tie.Need-returns
-returns c = port-rows _ _ _ _ _ _ _ _ _ (c .before .before .before .before .before .before .before .before .before .previous-tag .ensures) (c .before .before .before .before .before .before .before .put .ensures) (c .before .before .before .before .gather .ensures) (c .before .mark .ensures)
+returns c =
+    let previous-tag = c .before .before .before .before .before .before .before .before .before .previous-tag in
+    let put = c .before .before .before .before .before .before .before .put in
+    let gather = c .before .before .before .before .gather in
+    port-rows _ _ _ _ _ _ _ _ _ (previous-tag .ensures) (put .ensures) (gather .ensures) (c .before .mark .ensures)
 
 pub put-port-spec : {M : Type 1} → statement M
 put-port-spec = tie.close (tie.spec previous-tag-requires put-requires gather-requires mark-requires same-length returns)

@@ -22,7 +22,11 @@ same-length-2 : tie.Need-same-length-2
 same-length-2 c = search needs
 
 returns : tie.Need-returns
-returns c = (taken-rows _ _ _ _ _ _ _ _ _ _ _ (c .before .before .before .before .before .before .before .before .before .before .before .if1 .taken) (c .before .before .before .before .before .before .before .before .before .put-port .ensures) (c .before .before .before .before .before .before .put-frame .ensures) (c .before .settle-by .ensures), taken-store _ _ _ _ _ _ _ (c .before .before .before .before .before .before .before .before .before .before .before .if1 .taken) (c .before .before .before .before .before .before .put-frame .ensures))
+returns c =
+    let test1 = c .before .before .before .before .before .before .before .before .before .before .before .if1 in
+    let put-port = c .before .before .before .before .before .before .before .before .before .put-port in
+    let put-frame = c .before .before .before .before .before .before .put-frame in
+    (taken-rows _ _ _ _ _ _ _ _ _ _ _ (test1 .taken) (put-port .ensures) (put-frame .ensures) (c .before .settle-by .ensures), taken-store _ _ _ _ _ _ _ (test1 .taken) (put-frame .ensures))
 
 returns-2 : tie.Need-returns-2
 unfolding takenRows takenStore

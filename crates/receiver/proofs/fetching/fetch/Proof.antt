@@ -25,7 +25,10 @@ report-if-due-requires : tie.Need-report-if-due-requires
 report-if-due-requires c κs = search needs
 
 put-record-requires : tie.Need-put-record-requires
-put-record-requires c κs = record-length _ _ _ _ _ _ (sym (c .before .before .before .before .before .before .before .before .is-fetch .ensures) ∙ not-false _ (c .before .before .before .before .before .before .before .if1 .left))
+put-record-requires c κs =
+    let is-fetch = c .before .before .before .before .before .before .before .before .is-fetch in
+    let test1 = c .before .before .before .before .before .before .before .if1 in
+    record-length _ _ _ _ _ _ (sym (is-fetch .ensures) ∙ not-false _ (test1 .left))
 
 same-length-2 : tie.Need-same-length-2
 same-length-2 c = search needs
@@ -37,7 +40,13 @@ same-length-4 : tie.Need-same-length-4
 same-length-4 c = search needs
 
 returns-2 : tie.Need-returns-2
-returns-2 c = fetch-fit _ _ _ _ _ _ _ (c .before .before .before .before .before .before .before .before .before .before .before .before .before .get .ensures) (c .before .before .before .before .before .before .before .before .before .before .before .before .ports-in .ensures) (c .before .before .before .before .before .before .before .before .before .before .before .is-fetch .ensures) _ _ _ _ (not-false _ (c .before .before .before .before .before .before .before .before .before .before .if1 .left)) (c .before .before .before .before .before .before .before .report-if-due .ensures .0) (c .before .before .before .before .before .before .before .report-if-due .ensures .1) (c .before .before .before .before .before .before .before .report-if-due .ensures .2) (c .before .before .put-record .ensures)
+returns-2 c =
+    let get = c .before .before .before .before .before .before .before .before .before .before .before .before .before .get in
+    let ports-in = c .before .before .before .before .before .before .before .before .before .before .before .before .ports-in in
+    let is-fetch = c .before .before .before .before .before .before .before .before .before .before .before .is-fetch in
+    let test1 = c .before .before .before .before .before .before .before .before .before .before .if1 in
+    let report-if-due = c .before .before .before .before .before .before .before .report-if-due in
+    fetch-fit _ _ _ _ _ _ _ (get .ensures) (ports-in .ensures) (is-fetch .ensures) _ _ _ _ (not-false _ (test1 .left)) (report-if-due .ensures .0) (report-if-due .ensures .1) (report-if-due .ensures .2) (c .before .before .put-record .ensures)
 
 pub fetch-spec : {M : Type 1} → statement M
 fetch-spec =

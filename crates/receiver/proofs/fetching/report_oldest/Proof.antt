@@ -28,7 +28,12 @@ same-length-2 : tie.Need-same-length-2
 same-length-2 c = search needs
 
 returns : tie.Need-returns
-returns c = given-is _ _ _ _ _ _ _ _ _ _ _ (c .before .before .before .before .before .before .before .before .before .before .seen-all .ensures) (c .before .before .before .before .before .before .before .before .before .judge .ensures) (c .before .before .before .before .before .before .before .before .ordered .ensures) (c .before .before .before .before .before .before .output-by .ensures) (c .before .before .pass .ensures) (c .report-by .ensures)
+returns c =
+    let seen-all = c .before .before .before .before .before .before .before .before .before .before .seen-all in
+    let judge = c .before .before .before .before .before .before .before .before .before .judge in
+    let ordered = c .before .before .before .before .before .before .before .before .ordered in
+    let output-by = c .before .before .before .before .before .before .output-by in
+    given-is _ _ _ _ _ _ _ _ _ _ _ (seen-all .ensures) (judge .ensures) (ordered .ensures) (output-by .ensures) (c .before .before .pass .ensures) (c .report-by .ensures)
 
 pub report-oldest-spec : {M : Type 1} → statement M
 report-oldest-spec =

@@ -17,7 +17,10 @@ same-length : tie.Need-same-length
 same-length c = search needs
 
 returns : tie.Need-returns
-returns c = c .before .before .alone-into .ensures ∙ alone-frame (c .before .before .before .before .before .before .before .before .before .args .group) (c .before .before .before .before .before .before .before .before .before .args .order) (c .before .before .before .before .before .before .before .before .before .args .store .now) _ (c .before .before .before .before .before .before .before .before .before .args .k) (c .before .before .before .before .if1 .taken)
+returns c =
+    let start = c .before .before .before .before .before .before .before .before .before in
+    let test1 = c .before .before .before .before .if1 in
+    c .before .before .alone-into .ensures ∙ alone-frame (start .args .group) (start .args .order) (start .args .store .now) _ (start .args .k) (test1 .taken)
 
 starts-of-requires : tie.Need-starts-of-requires
 starts-of-requires c κs = search needs
@@ -29,10 +32,14 @@ cast-p : tie.Need-cast-p
 cast-p c = search needs
 
 mul-join-from : tie.Need-mul-join-from
-mul-join-from c = omega (arith, pair-fits (c .before .before .before .before .before .before .before .before .args .order .x) (c .before .before .before .before .before .before .before .before .args .group .payload) (omega arith) (omega arith))
+mul-join-from c =
+    let start = c .before .before .before .before .before .before .before .before in
+    omega (arith, pair-fits (start .args .order .x) (start .args .group .payload) (omega arith) (omega arith))
 
 mul-join-from-2 : tie.Need-mul-join-from-2
-mul-join-from-2 c = omega (arith, place-fits (c .before .before .before .before .before .before .before .before .args .k) (c .before .before .before .before .before .before .before .before .args .order .x) (c .before .before .before .before .before .before .before .before .args .group .payload) (omega arith) (omega arith) (omega arith))
+mul-join-from-2 c =
+    let start = c .before .before .before .before .before .before .before .before in
+    omega (arith, place-fits (start .args .k) (start .args .order .x) (start .args .group .payload) (omega arith) (omega arith) (omega arith))
 
 join-from-requires : tie.Need-join-from-requires
 join-from-requires c κs = search needs

@@ -36,7 +36,14 @@ waiting-byte-requires c κs = search needs
 
 returns : tie.Need-returns
 unfolding portShown
-returns c = rw (c .waiting-byte .ensures, c .before .one-if4 .ensures, c .before .before .is-set2 .ensures, c .before .before .before .one-if3 .ensures, c .before .before .before .before .one-if2 .ensures, c .before .before .before .before .before .is-set .ensures, c .before .before .before .before .before .before .one-if .ensures, c .before .before .before .before .before .before .before .shown-number .ensures, c .before .before .before .before .before .before .before .before .is-readable .ensures, c .before .before .before .before .before .before .before .before .before .in-step .ensures) refl
+returns c =
+    let in-step = c .before .before .before .before .before .before .before .before .before .in-step in
+    let is-readable = c .before .before .before .before .before .before .before .before .is-readable in
+    let shown-number = c .before .before .before .before .before .before .before .shown-number in
+    let one-if = c .before .before .before .before .before .before .one-if in
+    let is-set = c .before .before .before .before .before .is-set in
+    let one-if2 = c .before .before .before .before .one-if2 in
+    rw (c .waiting-byte .ensures, c .before .one-if4 .ensures, c .before .before .is-set2 .ensures, c .before .before .before .one-if3 .ensures, one-if2 .ensures, is-set .ensures, one-if .ensures, shown-number .ensures, is-readable .ensures, in-step .ensures) refl
 
 pub port-shown-spec : {M : Type 1} → statement M
 port-shown-spec =

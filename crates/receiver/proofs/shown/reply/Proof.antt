@@ -37,13 +37,27 @@ told-by-requires-2 : tie.Need-told-by-requires-2
 told-by-requires-2 c κs = search needs
 
 put-reply-requires : tie.Need-put-reply-requires
-put-reply-requires c κs = reply-length _ _ _ (sym (c .before .before .before .before .before .before .before .before .is-reply .ensures) ∙ not-false _ (c .before .before .before .before .before .before .before .if1 .left))
+put-reply-requires c κs =
+    let is-reply = c .before .before .before .before .before .before .before .before .is-reply in
+    let test1 = c .before .before .before .before .before .before .before .if1 in
+    reply-length _ _ _ (sym (is-reply .ensures) ∙ not-false _ (test1 .left))
 
 same-length : tie.Need-same-length
 same-length c = search needs
 
 returns-2 : tie.Need-returns-2
-returns-2 c = reply-shown _ _ _ _ (c .before .before .before .before .before .before .before .before .before .before .before .before .before .get .ensures) (c .before .before .before .before .before .before .before .before .before .before .before .before .ports-in .ensures) _ _ (c .before .before .before .before .before .before .before .before .before .before .before .is-reply .ensures) _ _ _ _ _ _ _ (not-false _ (c .before .before .before .before .before .before .before .before .before .before .if1 .left)) (c .before .before .before .before .before .before .before .before .before .reply-ports .ensures) (c .before .before .before .before .before .before .before .before .mst .ensures) (c .before .before .before .before .before .before .before .is-set .ensures) (c .before .before .before .before .before .before .one-if .ensures) (c .before .before .before .before .before .told-by .ensures) (c .before .before .before .before .told-by2 .ensures) (c .before .before .put-reply .ensures)
+returns-2 c =
+    let get = c .before .before .before .before .before .before .before .before .before .before .before .before .before .get in
+    let ports-in = c .before .before .before .before .before .before .before .before .before .before .before .before .ports-in in
+    let is-reply = c .before .before .before .before .before .before .before .before .before .before .before .is-reply in
+    let test1 = c .before .before .before .before .before .before .before .before .before .before .if1 in
+    let reply-ports = c .before .before .before .before .before .before .before .before .before .reply-ports in
+    let mst = c .before .before .before .before .before .before .before .before .mst in
+    let is-set = c .before .before .before .before .before .before .before .is-set in
+    let one-if = c .before .before .before .before .before .before .one-if in
+    let told-by = c .before .before .before .before .before .told-by in
+    let told-by2 = c .before .before .before .before .told-by2 in
+    reply-shown _ _ _ _ (get .ensures) (ports-in .ensures) _ _ (is-reply .ensures) _ _ _ _ _ _ _ (not-false _ (test1 .left)) (reply-ports .ensures) (mst .ensures) (is-set .ensures) (one-if .ensures) (told-by .ensures) (told-by2 .ensures) (c .before .before .put-reply .ensures)
 
 pub reply-spec : {M : Type 1} → statement M
 reply-spec =

@@ -33,7 +33,15 @@ same-length c = search needs
 
 returns : tie.Need-returns
 unfolding freshPort
-returns c = rw (c .before .put-marks .ensures, c .before .before .before .before .put3 .ensures, c .before .before .before .before .before .before .before .put2 .ensures, c .before .before .before .before .before .before .before .before .before .before .put .ensures, c .before .before .before .before .before .before .before .before .before .before .before .before .fresh-member .ensures, c .before .before .before .before .before .before .before .before .before .before .before .before .before .time-of2 .ensures, c .before .before .before .before .before .before .before .before .before .before .before .before .before .before .time-of .ensures, c .before .before .before .before .before .before .before .before .before .before .before .before .before .before .before .fresh-step .ensures) refl
+returns c =
+    let fresh-step = c .before .before .before .before .before .before .before .before .before .before .before .before .before .before .before .fresh-step in
+    let time-of = c .before .before .before .before .before .before .before .before .before .before .before .before .before .before .time-of in
+    let time-of2 = c .before .before .before .before .before .before .before .before .before .before .before .before .before .time-of2 in
+    let fresh-member = c .before .before .before .before .before .before .before .before .before .before .before .before .fresh-member in
+    let put = c .before .before .before .before .before .before .before .before .before .before .put in
+    let put2 = c .before .before .before .before .before .before .before .put2 in
+    let put3 = c .before .before .before .before .put3 in
+    rw (c .before .put-marks .ensures, put3 .ensures, put2 .ensures, put .ensures, fresh-member .ensures, time-of2 .ensures, time-of .ensures, fresh-step .ensures) refl
 
 pub put-port-spec : {M : Type 1} → statement M
 put-port-spec =

@@ -34,11 +34,18 @@ same-length c = search needs
 
 returns-2 : tie.Need-returns-2
 returns-2 c =
-    let a = c .before .before .before .before .before .before .before .before .before .before .before .before .before .args in
+    let start = c .before .before .before .before .before .before .before .before .before .before .before .before .before in
+    let is-list = c .before .before .before .before .before .before .before .before .before .before .is-list in
+    let is-list2 = c .before .before .before .before .before .before .before .before .before .is-list2 in
+    let is-fitting = c .before .before .before .before .before .before .before .before .is-fitting in
+    let test1 = c .before .before .before .before .before .before .before .if1 in
+    let group-with = c .before .before .before .before .before .before .group-with in
+    let put-ports = c .before .before .before .before .put-ports in
+    let a = start .args in
     sized-done (a .kind) (a .count) (a .payload) (a .window) (a .store) (a .hold-off .now) (a .restore .now) (a .state .now) _ _ _
-    (c .before .before .before .before .before .before .before .before .before .before .is-list .ensures) (c .before .before .before .before .before .before .before .before .before .is-list2 .ensures) (c .before .before .before .before .before .before .before .before .is-fitting .ensures) _
-    (not-false _ (c .before .before .before .before .before .before .before .if1 .left))
-    (c .before .put .ensures ∙ rw (c .before .before .before .before .put-ports .ensures, c .before .before .before .before .before .before .group-with .ensures) refl)
+    (is-list .ensures) (is-list2 .ensures) (is-fitting .ensures) _
+    (not-false _ (test1 .left))
+    (c .before .put .ensures ∙ rw (put-ports .ensures, group-with .ensures) refl)
 
 pub start-sized-spec : {M : Type 1} → statement M
 start-sized-spec =

@@ -27,7 +27,13 @@ same-length c = search needs
 
 returns : tie.Need-returns
 unfolding statesWorkedOut
-returns c = rw (c .before .put .ensures, c .before .before .before .before .put-states .ensures, c .before .before .before .before .before .before .with-ack .ensures, c .before .before .before .before .before .before .before .ack .ensures, c .before .before .before .before .before .before .before .before .standings .ensures, c .before .before .before .before .before .before .before .before .before .reply-ports .ensures) refl
+returns c =
+    let reply-ports = c .before .before .before .before .before .before .before .before .before .reply-ports in
+    let standings = c .before .before .before .before .before .before .before .before .standings in
+    let ack = c .before .before .before .before .before .before .before .ack in
+    let with-ack = c .before .before .before .before .before .before .with-ack in
+    let put-states = c .before .before .before .before .put-states in
+    rw (c .before .put .ensures, put-states .ensures, with-ack .ensures, ack .ensures, standings .ensures, reply-ports .ensures) refl
 
 pub work-out-all-spec : {M : Type 1} → statement M
 work-out-all-spec =

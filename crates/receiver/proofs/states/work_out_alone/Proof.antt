@@ -25,7 +25,13 @@ same-length : tie.Need-same-length
 same-length c = search needs
 
 returns : tie.Need-returns
-returns c = states-alone _ _ _ _ _ _ _ _ (c .before .before .before .before .before .before .before .before .before .reply-port .ensures) (c .before .before .before .before .before .before .before .before .standing-alone .ensures) (c .before .before .before .before .before .before .before .ack-alone .ensures) (c .before .before .before .before .before .before .with-ack .ensures) (c .before .before .before .before .put-standing .ensures) (c .before .put .ensures)
+returns c =
+    let reply-port = c .before .before .before .before .before .before .before .before .before .reply-port in
+    let standing-alone = c .before .before .before .before .before .before .before .before .standing-alone in
+    let ack-alone = c .before .before .before .before .before .before .before .ack-alone in
+    let with-ack = c .before .before .before .before .before .before .with-ack in
+    let put-standing = c .before .before .before .before .put-standing in
+    states-alone _ _ _ _ _ _ _ _ (reply-port .ensures) (standing-alone .ensures) (ack-alone .ensures) (with-ack .ensures) (put-standing .ensures) (c .before .put .ensures)
 
 pub work-out-alone-spec : {M : Type 1} → statement M
 work-out-alone-spec =

@@ -40,7 +40,11 @@ none-requires-3 : tie.Need-none-requires-3
 none-requires-3 c κs = search needs
 
 returns-3 : tie.Need-returns-3
-returns-3 c = c .none3 .ensures ∙ ap handed (no-window (c .before .before .before .before .before .before .before .before .before .before .args .ports) (c .before .before .before .before .before .before .before .before .before .before .args .size) (c .before .before .before .before .before .before .before .before .before .before .args .window) (fieldsFrom (c .before .before .before .before .before .before .before .before .before .before .args .start) (c .before .before .before .before .before .before .before .before .before .before .args .end) (c .before .before .before .before .before .before .before .before .before .before .args .text .now)) (c .before .before .before .before .before .before .before .before .before .before .args .next) (c .before .before .before .before .before .before .before .ports .given .0 .0) (c .before .before .before .before .size .given .0 .0) (c .before .before .before .before .before .before .before .ports .given .1) (c .before .before .before .before .size .given .1) (c .before .enum-told3 .given .1))
+returns-3 c =
+    let start = c .before .before .before .before .before .before .before .before .before .before in
+    let ports = c .before .before .before .before .before .before .before .ports in
+    let size = c .before .before .before .before .size in
+    c .none3 .ensures ∙ ap handed (no-window (start .args .ports) (start .args .size) (start .args .window) (fieldsFrom (start .args .start) (start .args .end) (start .args .text .now)) (start .args .next) (ports .given .0 .0) (size .given .0 .0) (ports .given .1) (size .given .1) (c .before .enum-told3 .given .1))
 
 no-pairs-requires : tie.Need-no-pairs-requires
 no-pairs-requires c κs = search needs
@@ -52,7 +56,14 @@ opened-by-requires : tie.Need-opened-by-requires
 opened-by-requires c κs = search needs
 
 returns-4 : tie.Need-returns-4
-returns-4 c = c .opened-by .ensures ∙ ap handed (all-set (c .before .before .before .before .before .before .before .before .before .before .before .before .before .args .ports) (c .before .before .before .before .before .before .before .before .before .before .before .before .before .args .size) (c .before .before .before .before .before .before .before .before .before .before .before .before .before .args .window) (fieldsFrom (c .before .before .before .before .before .before .before .before .before .before .before .before .before .args .start) (c .before .before .before .before .before .before .before .before .before .before .before .before .before .args .end) (c .before .before .before .before .before .before .before .before .before .before .before .before .before .args .text .now)) (c .before .before .before .before .before .before .before .before .before .before .before .before .before .args .next) (c .before .before .before .before .before .before .before .before .before .before .ports .given .0 .0) (c .before .before .before .before .before .before .before .size .given .0 .0) (c .before .before .before .before .window .given .0 .0) (c .before .before .before .before .before .before .before .before .before .before .ports .given .1) (c .before .before .before .before .before .before .before .size .given .1) (c .before .before .before .before .window .given .1) (c .before .before .no-pairs .result) (c .before .read-pairs .result) (c .before .before .no-pairs .ensures) (c .before .read-pairs .ensures))
+returns-4 c =
+    let start = c .before .before .before .before .before .before .before .before .before .before .before .before .before in
+    let ports = c .before .before .before .before .before .before .before .before .before .before .ports in
+    let size = c .before .before .before .before .before .before .before .size in
+    let window = c .before .before .before .before .window in
+    let no-pairs = c .before .before .no-pairs in
+    let read-pairs = c .before .read-pairs in
+    c .opened-by .ensures ∙ ap handed (all-set (start .args .ports) (start .args .size) (start .args .window) (fieldsFrom (start .args .start) (start .args .end) (start .args .text .now)) (start .args .next) (ports .given .0 .0) (size .given .0 .0) (window .given .0 .0) (ports .given .1) (size .given .1) (window .given .1) (no-pairs .result) (read-pairs .result) (no-pairs .ensures) (read-pairs .ensures))
 
 pub settings-by-spec : {M : Type 1} → statement M
 settings-by-spec =

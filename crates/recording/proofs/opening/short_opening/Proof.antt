@@ -51,13 +51,27 @@ read-number-requires-3 : tie.Need-read-number-requires-3
 read-number-requires-3 c κs = search needs
 
 add-settings-by : tie.Need-add-settings-by
-add-settings-by c = let h : (c .before .before .before .before .before .piece-end2 .result) + 1 ≤ (c .before .before .before .before .before .before .before .before .before .args .end) = omega arith in let m = first-le (c .before .before .before .before .before .before .before .before .before .args .text .now) ((c .before .before .before .before .before .piece-end2 .result) + 1) (c .before .before .before .before .before .before .before .before .before .args .end) (c .before .before .before .piece-end3 .result) h (c .before .before .before .before .before .before .before .before .before .pre .1) (c .before .before .before .piece-end3 .ensures) in omega arith
+add-settings-by c =
+    let start = c .before .before .before .before .before .before .before .before .before in
+    let piece-end2 = c .before .before .before .before .before .piece-end2 in
+    let piece-end3 = c .before .before .before .piece-end3 in
+    let h : (piece-end2 .result) + 1 ≤ (start .args .end) = omega arith in let m = first-le (start .args .text .now) ((piece-end2 .result) + 1) (start .args .end) (piece-end3 .result) h (start .pre .1) (piece-end3 .ensures) in omega arith
 
 settings-by-requires : tie.Need-settings-by-requires
 settings-by-requires c κs = search needs
 
 returns-3 : tie.Need-returns-3
-returns-3 c = c .settings-by .ensures ∙ ap handed (opening-three (c .before .before .before .before .before .before .before .before .before .before .args .text .now) (c .before .before .before .before .before .before .before .before .before .before .args .end) (c .before .before .before .before .before .before .before .before .before .before .args .next) (c .before .before .before .before .before .before .before .before .before .before .pre .1) (c .before .before .before .before .before .before .before .before .before .before .args .at) (c .before .before .before .before .before .before .before .before .piece-end .result) (c .before .before .before .before .before .before .before .before .before .before .pre .0) (c .before .before .before .before .before .before .before .before .piece-end .ensures) (c .before .before .before .before .before .before .before .if1 .left) (c .before .before .before .before .before .before .piece-end2 .result) (c .before .before .before .before .before .before .piece-end2 .ensures) (c .before .before .before .before .before .if2 .left) (c .before .before .before .before .piece-end3 .result) (c .before .before .before .before .piece-end3 .ensures) (c .before .before .before .read-number .result) (c .before .before .read-number2 .result) (c .before .read-number3 .result) (c .before .before .before .read-number .ensures) (c .before .before .read-number2 .ensures) (c .before .read-number3 .ensures))
+returns-3 c =
+    let start = c .before .before .before .before .before .before .before .before .before .before in
+    let piece-end = c .before .before .before .before .before .before .before .before .piece-end in
+    let test1 = c .before .before .before .before .before .before .before .if1 in
+    let piece-end2 = c .before .before .before .before .before .before .piece-end2 in
+    let test2 = c .before .before .before .before .before .if2 in
+    let piece-end3 = c .before .before .before .before .piece-end3 in
+    let read-number = c .before .before .before .read-number in
+    let read-number2 = c .before .before .read-number2 in
+    let read-number3 = c .before .read-number3 in
+    c .settings-by .ensures ∙ ap handed (opening-three (start .args .text .now) (start .args .end) (start .args .next) (start .pre .1) (start .args .at) (piece-end .result) (start .pre .0) (piece-end .ensures) (test1 .left) (piece-end2 .result) (piece-end2 .ensures) (test2 .left) (piece-end3 .result) (piece-end3 .ensures) (read-number .result) (read-number2 .result) (read-number3 .result) (read-number .ensures) (read-number2 .ensures) (read-number3 .ensures))
 
 pub short-opening-spec : {M : Type 1} → statement M
 short-opening-spec =

@@ -26,13 +26,23 @@ kind-to-requires-2 : tie.Need-kind-to-requires-2
 kind-to-requires-2 c κs = search needs
 
 returns-2 : tie.Need-returns-2
-returns-2 c = kind-fixed (c .before .before .before .before .before .before .before .before .args .pairs) (slice (c .before .before .before .before .before .before .before .before .args .at) (c .before .before .before .before .before .before .before .before .args .limit) (c .before .before .before .before .before .before .before .before .args .text .now)) (c .before .before .before .before .before .same .result) (c .before .before .before .before .before .same .ensures) (c .before .before .before .before .if1 .left) (c .before .before .same2 .result) (c .before .before .same2 .ensures) (c .before .if2 .taken) (c .kind-to2 .result) (c .kind-to2 .ensures)
+returns-2 c =
+    let start = c .before .before .before .before .before .before .before .before in
+    let same = c .before .before .before .before .before .same in
+    let test1 = c .before .before .before .before .if1 in
+    let same2 = c .before .before .same2 in
+    kind-fixed (start .args .pairs) (slice (start .args .at) (start .args .limit) (start .args .text .now)) (same .result) (same .ensures) (test1 .left) (same2 .result) (same2 .ensures) (c .before .if2 .taken) (c .kind-to2 .result) (c .kind-to2 .ensures)
 
 awaits-requires : tie.Need-awaits-requires
 awaits-requires c κs = search needs
 
 returns-3 : tie.Need-returns-3
-returns-3 c = kind-none (c .before .before .before .before .before .before .before .before .args .pairs) (slice (c .before .before .before .before .before .before .before .before .args .at) (c .before .before .before .before .before .before .before .before .args .limit) (c .before .before .before .before .before .before .before .before .args .text .now)) (c .before .before .before .before .before .same .result) (c .before .before .before .before .before .same .ensures) (c .before .before .before .before .if1 .left) (c .before .before .same2 .result) (c .before .before .same2 .ensures) (c .before .if2 .left) (c .awaits .result) (c .awaits .ensures)
+returns-3 c =
+    let start = c .before .before .before .before .before .before .before .before in
+    let same = c .before .before .before .before .before .same in
+    let test1 = c .before .before .before .before .if1 in
+    let same2 = c .before .before .same2 in
+    kind-none (start .args .pairs) (slice (start .args .at) (start .args .limit) (start .args .text .now)) (same .result) (same .ensures) (test1 .left) (same2 .result) (same2 .ensures) (c .before .if2 .left) (c .awaits .result) (c .awaits .ensures)
 
 pub read-kind-spec : {M : Type 1} → statement M
 read-kind-spec = tie.close (tie.spec slice-aggregate-same same-requires kind-to-requires returns slice-aggregate-same-2 same-requires-2 kind-to-requires-2 returns-2 awaits-requires returns-3)

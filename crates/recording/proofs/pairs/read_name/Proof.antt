@@ -26,7 +26,12 @@ hold-named-requires : tie.Need-hold-named-requires
 hold-named-requires c κs = search needs
 
 returns-2 : tie.Need-returns-2
-returns-2 c = name-hold (c .before .before .before .before .before .before .before .before .before .before .args .pairs) (slice (c .before .before .before .before .before .before .before .before .before .before .args .at) (c .before .before .before .before .before .before .before .before .before .before .args .limit) (c .before .before .before .before .before .before .before .before .before .before .args .text .now)) (c .before .before .before .before .before .before .before .same .result) (c .before .before .before .before .before .before .before .same .ensures) (c .before .before .before .before .before .if1 .left) (c .before .before .before .same2 .result) (c .before .before .before .same2 .ensures) (c .before .if2 .taken) (c .hold-named .result) (c .hold-named .ensures)
+returns-2 c =
+    let start = c .before .before .before .before .before .before .before .before .before .before in
+    let same = c .before .before .before .before .before .before .before .same in
+    let test1 = c .before .before .before .before .before .if1 in
+    let same2 = c .before .before .before .same2 in
+    name-hold (start .args .pairs) (slice (start .args .at) (start .args .limit) (start .args .text .now)) (same .result) (same .ensures) (test1 .left) (same2 .result) (same2 .ensures) (c .before .if2 .taken) (c .hold-named .result) (c .hold-named .ensures)
 
 slice-aggregate-same-3 : tie.Need-slice-aggregate-same-3
 slice-aggregate-same-3 c = search needs
@@ -38,13 +43,27 @@ restore-named-requires : tie.Need-restore-named-requires
 restore-named-requires c κs = search needs
 
 returns-3 : tie.Need-returns-3
-returns-3 c = name-restore (c .before .before .before .before .before .before .before .before .before .before .before .before .before .before .args .pairs) (slice (c .before .before .before .before .before .before .before .before .before .before .before .before .before .before .args .at) (c .before .before .before .before .before .before .before .before .before .before .before .before .before .before .args .limit) (c .before .before .before .before .before .before .before .before .before .before .before .before .before .before .args .text .now)) (c .before .before .before .before .before .before .before .before .before .before .before .same .result) (c .before .before .before .before .before .before .before .before .before .before .before .same .ensures) (c .before .before .before .before .before .before .before .before .before .if1 .left) (c .before .before .before .before .before .before .before .same2 .result) (c .before .before .before .before .before .before .before .same2 .ensures) (c .before .before .before .before .before .if2 .left) (c .before .before .before .same3 .result) (c .before .before .before .same3 .ensures) (c .before .if3 .taken) (c .restore-named .result) (c .restore-named .ensures)
+returns-3 c =
+    let start = c .before .before .before .before .before .before .before .before .before .before .before .before .before .before in
+    let same = c .before .before .before .before .before .before .before .before .before .before .before .same in
+    let test1 = c .before .before .before .before .before .before .before .before .before .if1 in
+    let same2 = c .before .before .before .before .before .before .before .same2 in
+    let test2 = c .before .before .before .before .before .if2 in
+    let same3 = c .before .before .before .same3 in
+    name-restore (start .args .pairs) (slice (start .args .at) (start .args .limit) (start .args .text .now)) (same .result) (same .ensures) (test1 .left) (same2 .result) (same2 .ensures) (test2 .left) (same3 .result) (same3 .ensures) (c .before .if3 .taken) (c .restore-named .result) (c .restore-named .ensures)
 
 awaits-requires : tie.Need-awaits-requires
 awaits-requires c κs = search needs
 
 returns-4 : tie.Need-returns-4
-returns-4 c = name-none (c .before .before .before .before .before .before .before .before .before .before .before .before .before .before .args .pairs) (slice (c .before .before .before .before .before .before .before .before .before .before .before .before .before .before .args .at) (c .before .before .before .before .before .before .before .before .before .before .before .before .before .before .args .limit) (c .before .before .before .before .before .before .before .before .before .before .before .before .before .before .args .text .now)) (c .before .before .before .before .before .before .before .before .before .before .before .same .result) (c .before .before .before .before .before .before .before .before .before .before .before .same .ensures) (c .before .before .before .before .before .before .before .before .before .if1 .left) (c .before .before .before .before .before .before .before .same2 .result) (c .before .before .before .before .before .before .before .same2 .ensures) (c .before .before .before .before .before .if2 .left) (c .before .before .before .same3 .result) (c .before .before .before .same3 .ensures) (c .before .if3 .left) (c .awaits .result) (c .awaits .ensures)
+returns-4 c =
+    let start = c .before .before .before .before .before .before .before .before .before .before .before .before .before .before in
+    let same = c .before .before .before .before .before .before .before .before .before .before .before .same in
+    let test1 = c .before .before .before .before .before .before .before .before .before .if1 in
+    let same2 = c .before .before .before .before .before .before .before .same2 in
+    let test2 = c .before .before .before .before .before .if2 in
+    let same3 = c .before .before .before .same3 in
+    name-none (start .args .pairs) (slice (start .args .at) (start .args .limit) (start .args .text .now)) (same .result) (same .ensures) (test1 .left) (same2 .result) (same2 .ensures) (test2 .left) (same3 .result) (same3 .ensures) (c .before .if3 .left) (c .awaits .result) (c .awaits .ensures)
 
 pub read-name-spec : {M : Type 1} → statement M
 read-name-spec =

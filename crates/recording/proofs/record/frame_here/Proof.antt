@@ -50,10 +50,14 @@ frame-behind-requires c κs = (omega arith, omega arith)
 
 returns-4 : tie.Need-returns-4
 returns-4 c =
+    let start = c .before .before .before .before .before .before .before .before .before in
+    let piece-end = c .before .before .before .before .before .before .piece-end in
+    let digits-of = c .before .before .before .before .before .digits-of in
+    let test2 = c .before .before .before .before .if2 in
     let e = c .frame-behind .ensures in
-    let q = c .before .before .before .before .before .before .piece-end .ensures in
-    let h : c .before .before .before .before .before .before .before .before .before .args .at ≤ c .before .before .before .before .before .before .piece-end .result = omega arith in
-    λ t. e ∙ here-is (c .before .before .before .before .before .before .before .before .before .args .ports) (c .before .before .before .before .before .before .before .before .before .args .size) (c .before .before .before .before .before .before .before .before .before .args .text .now) (c .before .before .before .before .before .before .before .before .before .args .at) (c .before .before .before .before .before .before .piece-end .result) (c .before .before .before .before .before .before .piece-end .result + 6 + c .before .before .before .before .before .digits-of .result) h (ap (λ (n : ℕ). c .before .before .before .before .before .before .piece-end .result + 6 + n) (c .before .before .before .before .before .digits-of .ensures)) (c .before .before .before .before .if2 .left) (c .before .before .before .if3 .left) (sym (c .before .before .is-parted .ensures) ∙ c .before .if4 .taken) (sym (ap isFrame e) ∙ t)
+    let q = piece-end .ensures in
+    let h : start .args .at ≤ piece-end .result = omega arith in
+    λ t. e ∙ here-is (start .args .ports) (start .args .size) (start .args .text .now) (start .args .at) (piece-end .result) (piece-end .result + 6 + digits-of .result) h (ap (λ (n : ℕ). piece-end .result + 6 + n) (digits-of .ensures)) (test2 .left) (c .before .before .before .if3 .left) (sym (c .before .before .is-parted .ensures) ∙ c .before .if4 .taken) (sym (ap isFrame e) ∙ t)
 
 returns-5 : tie.Need-returns-5
 returns-5 c = λ t. absurd (false≢true t)

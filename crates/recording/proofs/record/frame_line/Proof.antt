@@ -48,8 +48,15 @@ frame-by-requires c κs = search needs
 
 returns-2 : tie.Need-returns-2
 returns-2 c =
-    let s = c .before .before .before .before .before .before .before .before .before in
-    four (s .args .ports) (s .args .size) (s .args .text .now) (s .args .end) (s .args .next) (s .pre .3) (s .args .at) (s .args .first) (s .args .second) (s .args .third) (c .before .before .before .before .before .before .before .piece-end .result) (s .pre .2) (c .before .before .before .before .before .before .before .piece-end .ensures) (c .before .before .before .before .before .before .if1 .left) (c .before .before .before .before .before .read-number .result) (c .before .before .before .before .read-hex .result) (c .before .before .before .flag-in .result) (c .before .is-hex .result) (c .before .before .before .before .before .read-number .ensures) (c .before .before .before .before .read-hex .ensures) (c .before .before .before .flag-in .ensures) (c .before .is-hex .ensures ∙ ap (λ (n : ℕ). isHex n (slice (s .args .third + 1) (s .args .end) (s .args .text .now))) (c .before .before .digits-of .ensures)) (c .frame-by .result) (c .frame-by .ensures)
+    let before = c .before .before .before .before .before .before .before .before .before in
+    let piece-end = c .before .before .before .before .before .before .before .piece-end in
+    let test1 = c .before .before .before .before .before .before .if1 in
+    let read-number = c .before .before .before .before .before .read-number in
+    let read-hex = c .before .before .before .before .read-hex in
+    let flag-in = c .before .before .before .flag-in in
+    let is-hex = c .before .is-hex in
+    let s = before in
+    four (s .args .ports) (s .args .size) (s .args .text .now) (s .args .end) (s .args .next) (s .pre .3) (s .args .at) (s .args .first) (s .args .second) (s .args .third) (piece-end .result) (s .pre .2) (piece-end .ensures) (test1 .left) (read-number .result) (read-hex .result) (flag-in .result) (is-hex .result) (read-number .ensures) (read-hex .ensures) (flag-in .ensures) (is-hex .ensures ∙ ap (λ (n : ℕ). isHex n (slice (s .args .third + 1) (s .args .end) (s .args .text .now))) (c .before .before .digits-of .ensures)) (c .frame-by .result) (c .frame-by .ensures)
 
 pub frame-line-spec : {M : Type 1} → statement M
 frame-line-spec = tie.close (tie.spec add-piece-end piece-end-requires returns read-number-requires add-read-hex read-hex-requires add-flag-in flag-in-requires digits-of-requires add-is-hex is-hex-requires add-frame-by frame-by-requires returns-2)

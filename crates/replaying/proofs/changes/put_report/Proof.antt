@@ -31,7 +31,10 @@ same-length c = search needs
 
 returns : tie.Need-returns
 unfolding reportText
-returns c = rw (← c .before .before .before .before .before .before .before .before .count-in .ensures) (put-then (c .before .before .before .before .before .before .put-epoch .ensures) (c .before .before .put-changes .ensures))
+returns c =
+    let count-in = c .before .before .before .before .before .before .before .before .count-in in
+    let put-epoch = c .before .before .before .before .before .before .put-epoch in
+    rw (← count-in .ensures) (put-then (put-epoch .ensures) (c .before .before .put-changes .ensures))
 
 pub put-report-spec : {M : Type 1} → statement M
 put-report-spec = tie.close (tie.spec count-in-requires array-read-put-epoch array-read-put-epoch-2 put-epoch-requires put-changes-requires same-length returns)

@@ -23,13 +23,19 @@ array-share-prefix-restore : tie.Need-array-share-prefix-restore
 array-share-prefix-restore c = let l : length (c .before .before .before .before .before .before .before .args .settings .restore) ≡ 64 = simp length-map at (c .before .before .before .before .before .before .before .good .0 .1 .1 .1 .0 .1 .0 .1) in rw l (c .before .before .before .before .before .before .before .pre .1)
 
 slice-aggregate-start-as-2 : tie.Need-slice-aggregate-start-as-2
-slice-aggregate-start-as-2 c = let l : length (c .before .before .before .before .before .before .before .before .args .settings .restore) ≡ 64 = simp length-map at (c .before .before .before .before .before .before .before .before .good .0 .1 .1 .1 .0 .1 .0 .1) in let h : c .before .before .before .before .before .before .before .before .args .settings .ports ≤ length (c .before .before .before .before .before .before .before .before .args .settings .restore) = rw l (c .before .before .before .before .before .before .before .before .pre .1) in sym (length-take-le (c .before .before .before .before .before .before .before .before .args .settings .ports) (c .before .before .before .before .before .before .before .before .args .settings .restore) h)
+slice-aggregate-start-as-2 c =
+    let start = c .before .before .before .before .before .before .before .before in
+    let good = c .before .before .before .before .before .before .before .before .good in
+    let l : length (start .args .settings .restore) ≡ 64 = simp length-map at (good .0 .1 .1 .1 .0 .1 .0 .1) in let h : start .args .settings .ports ≤ length (start .args .settings .restore) = rw l (start .pre .1) in sym (length-take-le (start .args .settings .ports) (start .args .settings .restore) h)
 
 slice-relend-prefix-start-as : tie.Need-slice-relend-prefix-start-as
 slice-relend-prefix-start-as c = search needs
 
 slice-aggregate-start-as-3 : tie.Need-slice-aggregate-start-as-3
-slice-aggregate-start-as-3 c = let n = length-replicate (length (c .before .before .before .before .before .before .before .before .before .args .rows .now)) (replicate {A = ℕ} 16 0) in let h : c .before .before .before .before .before .before .before .before .before .args .count ≤ length (clearedRows (c .before .before .before .before .before .before .before .before .before .args .rows .now)) = rw n (c .before .before .before .before .before .before .before .before .before .pre .0) in rw (c .before .before .before .before .before .before .before .clear-rows .ensures) (sym (length-take-le (c .before .before .before .before .before .before .before .before .before .args .count) (clearedRows (c .before .before .before .before .before .before .before .before .before .args .rows .now)) h))
+slice-aggregate-start-as-3 c =
+    let start = c .before .before .before .before .before .before .before .before .before in
+    let clear-rows = c .before .before .before .before .before .before .before .clear-rows in
+    let n = length-replicate (length (start .args .rows .now)) (replicate {A = ℕ} 16 0) in let h : start .args .count ≤ length (clearedRows (start .args .rows .now)) = rw n (start .pre .0) in rw (clear-rows .ensures) (sym (length-take-le (start .args .count) (clearedRows (start .args .rows .now)) h))
 
 start-as-requires : tie.Need-start-as-requires
 start-as-requires c κs = search needs
@@ -39,7 +45,10 @@ same-length c = search needs
 
 returns : tie.Need-returns
 unfolding startedRows
-returns c = rw (c .before .start-as .ensures .1, c .before .before .before .before .before .before .before .before .before .clear-rows .ensures, c .before .before .before .before .before .before .before .before .before .before .before .pre .2) refl
+returns c =
+    let start = c .before .before .before .before .before .before .before .before .before .before .before in
+    let clear-rows = c .before .before .before .before .before .before .before .before .before .clear-rows in
+    rw (c .before .start-as .ensures .1, clear-rows .ensures, start .pre .2) refl
 
 pub start-spec : {M : Type 1} → statement M
 start-spec =

@@ -34,7 +34,11 @@ same-length c = search needs
 returns : tie.Need-returns
 unfolding answerText
 returns c =
-    let s = c .before .before .before .before .before .before .before .before .before .before .before .before .before .before .before .before .before .before .before in
+    let before = c .before .before .before .before .before .before .before .before .before .before .before .before .before .before .before .before .before .before .before in
+    let put = c .before .before .before .before .before .before .before .before .before .before .before .before .before .before .before .put in
+    let put-number = c .before .before .before .before .before .before .before .before .before .before .before .put-number in
+    let put2 = c .before .before .before .before .before .before .put2 in
+    let s = before in
     let a = ended (ascii "answer") TAB in
     let b = ended (decimalText (s .args .number)) TAB in
     let d = ended (ascii "line") TAB in
@@ -42,9 +46,9 @@ returns c =
     let n = length (s .args .said .now) in
     let two = shorter (a ++ b ++ d) e 0 n (s .pre) in
     let one = shorter (a ++ b) d 0 n two in
-    let p = is-put (shorter a b 0 n one) (c .before .before .before .before .before .before .before .before .before .before .before .before .before .before .before .put .ensures) in
-    let q = put-more b p one (c .before .before .before .before .before .before .before .before .before .before .before .put-number .ensures) in
-    let r = put-more d q two (c .before .before .before .before .before .before .put2 .ensures) in
+    let p = is-put (shorter a b 0 n one) (put .ensures) in
+    let q = put-more b p one (put-number .ensures) in
+    let r = put-more d q two (put2 .ensures) in
     put-more e r (s .pre) (c .before .before .put-decimal .ensures)
 
 pub put-answer-spec : {M : Type 1} → statement M

@@ -46,7 +46,14 @@ same-length c = search needs
 returns : tie.Need-returns
 unfolding epochText
 returns c =
-    let s = c .before .before .before .before .before .before .before .before .before .before .before .before .before .before .before .before .before .before .before .before .before .before .before .before .before .before .before .before .before .before .before .before in
+    let before = c .before .before .before .before .before .before .before .before .before .before .before .before .before .before .before .before .before .before .before .before .before .before .before .before .before .before .before .before .before .before .before .before in
+    let put = c .before .before .before .before .before .before .before .before .before .before .before .before .before .before .before .before .before .before .before .before .before .before .before .before .before .before .before .before .put in
+    let put-number = c .before .before .before .before .before .before .before .before .before .before .before .before .before .before .before .before .before .before .before .before .before .before .before .before .put-number in
+    let put-mark = c .before .before .before .before .before .before .before .before .before .before .before .before .before .before .before .before .before .before .before .before .put-mark in
+    let put2 = c .before .before .before .before .before .before .before .before .before .before .before .before .before .before .before .put2 in
+    let put-decimal = c .before .before .before .before .before .before .before .before .before .before .before .put-decimal in
+    let put3 = c .before .before .before .before .before .before .put3 in
+    let s = before in
     let a = ended (ascii "epoch") TAB in
     let b = ended (decimalText (s .args .epoch)) TAB in
     let d = ended (markText (s .args .mark)) TAB in
@@ -60,12 +67,12 @@ returns c =
     let three = shorter (a ++ b ++ d ++ e) f 0 n four in
     let two = shorter (a ++ b ++ d) e 0 n three in
     let one = shorter (a ++ b) d 0 n two in
-    let p = is-put (shorter a b 0 n one) (c .before .before .before .before .before .before .before .before .before .before .before .before .before .before .before .before .before .before .before .before .before .before .before .before .before .before .before .before .put .ensures) in
-    let q = put-more b p one (c .before .before .before .before .before .before .before .before .before .before .before .before .before .before .before .before .before .before .before .before .before .before .before .before .put-number .ensures) in
-    let r = put-more d q two (c .before .before .before .before .before .before .before .before .before .before .before .before .before .before .before .before .before .before .before .before .put-mark .ensures) in
-    let t = put-more e r three (c .before .before .before .before .before .before .before .before .before .before .before .before .before .before .before .put2 .ensures) in
-    let u = put-more f t four (c .before .before .before .before .before .before .before .before .before .before .before .put-decimal .ensures) in
-    let v = put-more g u five (c .before .before .before .before .before .before .put3 .ensures) in
+    let p = is-put (shorter a b 0 n one) (put .ensures) in
+    let q = put-more b p one (put-number .ensures) in
+    let r = put-more d q two (put-mark .ensures) in
+    let t = put-more e r three (put2 .ensures) in
+    let u = put-more f t four (put-decimal .ensures) in
+    let v = put-more g u five (put3 .ensures) in
     put-more h v (s .pre) (c .before .before .put-decimal2 .ensures)
 
 pub put-epoch-spec : {M : Type 1} → statement M

@@ -25,7 +25,11 @@ same-length-2 : tie.Need-same-length-2
 same-length-2 c = search needs
 
 returns-2 : tie.Need-returns-2
-returns-2 c = rw (mark-doubtful (c .before .before .before .before .before .before .before .before .args .mark) (c .before .before .before .before .before .before .if1 .left) (c .before .before .before .before .before .if2 .taken)) (c .before .before .put2 .ensures)
+returns-2 c =
+    let start = c .before .before .before .before .before .before .before .before in
+    let test1 = c .before .before .before .before .before .before .if1 in
+    let test2 = c .before .before .before .before .before .if2 in
+    rw (mark-doubtful (start .args .mark) (test1 .left) (test2 .taken)) (c .before .before .put2 .ensures)
 
 slice-aggregate-put-3 : tie.Need-slice-aggregate-put-3
 slice-aggregate-put-3 c = search needs
@@ -37,7 +41,11 @@ same-length-3 : tie.Need-same-length-3
 same-length-3 c = search needs
 
 returns-3 : tie.Need-returns-3
-returns-3 c = rw (mark-sure (c .before .before .before .before .before .before .before .before .args .mark) (c .before .before .before .before .before .before .if1 .left) (c .before .before .before .before .before .if2 .left)) (c .before .before .put3 .ensures)
+returns-3 c =
+    let start = c .before .before .before .before .before .before .before .before in
+    let test1 = c .before .before .before .before .before .before .if1 in
+    let test2 = c .before .before .before .before .before .if2 in
+    rw (mark-sure (start .args .mark) (test1 .left) (test2 .left)) (c .before .before .put3 .ensures)
 
 pub put-mark-spec : {M : Type 1} → statement M
 put-mark-spec = tie.close (tie.spec slice-aggregate-put put-requires same-length returns slice-aggregate-put-2 put-requires-2 same-length-2 returns-2 slice-aggregate-put-3 put-requires-3 same-length-3 returns-3)

@@ -31,7 +31,11 @@ same-length c = search needs
 returns : tie.Need-returns
 unfolding portText
 returns c =
-    let s = c .before .before .before .before .before .before .before .before .before .before .before .before .before .before .before .before .before .before in
+    let before = c .before .before .before .before .before .before .before .before .before .before .before .before .before .before .before .before .before .before in
+    let put = c .before .before .before .before .before .before .before .before .before .before .before .before .before .before .put in
+    let put-number = c .before .before .before .before .before .before .before .before .before .before .put-number in
+    let put-state = c .before .before .before .before .before .before .put-state in
+    let s = before in
     let a = ended (ascii "port") TAB in
     let b = ended (decimalText (s .args .port)) TAB in
     let d = ended (stateText (s .args .state)) TAB in
@@ -39,9 +43,9 @@ returns c =
     let n = length (s .args .said .now) in
     let two = shorter (a ++ b ++ d) e (s .args .at) n (s .pre) in
     let one = shorter (a ++ b) d (s .args .at) n two in
-    let p = is-put (shorter a b (s .args .at) n one) (c .before .before .before .before .before .before .before .before .before .before .before .before .before .before .put .ensures) in
-    let q = put-more b p one (c .before .before .before .before .before .before .before .before .before .before .put-number .ensures) in
-    let r = put-more d q two (c .before .before .before .before .before .before .put-state .ensures) in
+    let p = is-put (shorter a b (s .args .at) n one) (put .ensures) in
+    let q = put-more b p one (put-number .ensures) in
+    let r = put-more d q two (put-state .ensures) in
     put-more e r (s .pre) (c .before .before .put-number2 .ensures)
 
 pub put-port-spec : {M : Type 1} → statement M

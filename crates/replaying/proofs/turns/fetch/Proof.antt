@@ -24,7 +24,10 @@ same-length-2 c = search needs
 returns : tie.Need-returns
 unfolding fetchOutBy fetchRecordBy fetchRowsBy
 returns c =
-    (rw (c .before .before .before .before .before .before .before .before .before .rows-for .ensures, c .before .before .before .before .before .before .before .before .store-of .ensures) at (c .before .before .before .before .fetch .ensures .2), rw (c .before .before .before .before .before .before .before .before .before .rows-for .ensures, c .before .before .before .before .before .before .before .before .store-of .ensures) at (c .before .before .before .before .fetch .ensures .0), rw (c .before .before .before .before .before .before .before .before .before .rows-for .ensures, c .before .before .before .before .before .before .before .before .store-of .ensures) at (c .before .before .before .before .fetch .ensures .1))
+    let rows-for = c .before .before .before .before .before .before .before .before .before .rows-for in
+    let store-of = c .before .before .before .before .before .before .before .before .store-of in
+    let fetch = c .before .before .before .before .fetch in
+    (rw (rows-for .ensures, store-of .ensures) at (fetch .ensures .2), rw (rows-for .ensures, store-of .ensures) at (fetch .ensures .0), rw (rows-for .ensures, store-of .ensures) at (fetch .ensures .1))
 
 pub fetch-spec : {M : Type 1} → statement M
 fetch-spec = tie.close (tie.spec rows-for-requires store-of-requires slice-aggregate-fetch fetch-requires same-length same-length-2 returns)

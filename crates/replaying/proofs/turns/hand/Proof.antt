@@ -23,7 +23,8 @@ slice-relend-prefix-frame c = search needs
 
 slice-aggregate-frame : tie.Need-slice-aggregate-frame
 slice-aggregate-frame c =
-    let start = c .before .before .before .before .before .before .before .before .before .before in
+    let before = c .before .before .before .before .before .before .before .before .before .before in
+    let start = before in
     let count = c .before .before .rows-for in
     sym (length-take-le (count .result) (start .args .rows .now) (rw (count .ensures) (start .pre .2)))
 
@@ -32,7 +33,8 @@ slice-relend-prefix-frame-2 c = search needs
 
 slice-aggregate-frame-2 : tie.Need-slice-aggregate-frame-2
 slice-aggregate-frame-2 c =
-    let start = c .before .before .before .before .before .before .before .before .before .before .before .before in
+    let before = c .before .before .before .before .before .before .before .before .before .before .before .before in
+    let start = before in
     let bytes = c .before .before .before .store-of in
     sym (length-take-le (bytes .result) (start .args .store .now) (rw (bytes .ensures) (start .pre .3)))
 
@@ -51,10 +53,14 @@ same-length-3 c = search needs
 returns : tie.Need-returns
 unfolding framedRows framedStore
 returns c =
-    let start = c .before .before .before .before .before .before .before .before .before .before .before .before .before .before .before .before in
-    let count = c .before .before .before .before .before .before .before .before .rows-for .ensures in
-    let bytes = c .before .before .before .before .before .before .before .store-of .ensures in
-    let read = c .before .before .before .before .before .before .before .before .before .before .before .read-payload .ensures in
+    let before = c .before .before .before .before .before .before .before .before .before .before .before .before .before .before .before .before in
+    let read-payload = c .before .before .before .before .before .before .before .before .before .before .before .read-payload in
+    let rows-for = c .before .before .before .before .before .before .before .before .rows-for in
+    let store-of = c .before .before .before .before .before .before .before .store-of in
+    let start = before in
+    let count = rows-for .ensures in
+    let bytes = store-of .ensures in
+    let read = read-payload .ensures in
     let payload = payload-is (start .args .replay .size) (start .args .place) (start .args .text .now) (start .args .payload .now) _ (start .pre .1) read in
     let taken = c .before .before .before .frame .ensures in
     let rows = rw (count, bytes, payload) at (taken .1) in

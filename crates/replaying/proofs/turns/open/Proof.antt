@@ -57,22 +57,45 @@ same-length-2 c = search needs
 
 returns-3 : tie.Need-returns-3
 unfolding openTurn openRows openSaid
-returns-3 c = rw (le-leb 1160 (length (c .before .before .before .before .before .before .before .before .before .before .before .before .before .before .args .said .now)) (c .before .before .before .before .before .before .before .before .before .before .before .if1 .left), le-leb 321 (length (c .before .before .before .before .before .before .before .before .before .before .before .before .before .before .args .rows .now)) (c .before .before .before .before .before .before .before .before .before .before .if2 .left), handed-set (openingIn 0 (c .before .before .before .before .before .before .before .before .before .before .before .before .before .before .args .last) (c .before .before .before .before .before .before .before .before .before .before .before .before .before .before .args .text .now)) (c .before .before .before .before .before .before .before .before .before .opening-at .result) (c .before .before .before .before .before .before .before .before .before .opening-at .ensures) (c .before .before .before .before .before .before .before .enum-told .given .1)) (c .before .before .before .open-with .ensures)
+returns-3 c =
+    let start = c .before .before .before .before .before .before .before .before .before .before .before .before .before .before in
+    let test1 = c .before .before .before .before .before .before .before .before .before .before .before .if1 in
+    let test2 = c .before .before .before .before .before .before .before .before .before .before .if2 in
+    let opening-at = c .before .before .before .before .before .before .before .before .before .opening-at in
+    let enum-told = c .before .before .before .before .before .before .before .enum-told in
+    rw (le-leb 1160 (length (start .args .said .now)) (test1 .left), le-leb 321 (length (start .args .rows .now)) (test2 .left), handed-set (openingIn 0 (start .args .last) (start .args .text .now)) (opening-at .result) (opening-at .ensures) (enum-told .given .1)) (c .before .before .before .open-with .ensures)
 
 same-length-3 : tie.Need-same-length-3
 same-length-3 c = search needs
 
 returns-4 : tie.Need-returns-4
 unfolding openTurn openRows openSaid
-returns-4 c = rw (le-leb 1160 (length (c .before .before .before .before .before .before .before .before .before .before .before .args .said .now)) (c .before .before .before .before .before .before .before .before .if1 .left), le-leb 321 (length (c .before .before .before .before .before .before .before .before .before .before .before .args .rows .now)) (c .before .before .before .before .before .before .before .if2 .left), handed-malformed (openingIn 0 (c .before .before .before .before .before .before .before .before .before .before .before .args .last) (c .before .before .before .before .before .before .before .before .before .before .before .args .text .now)) (c .before .before .before .before .before .before .opening-at .result) (c .before .before .before .before .before .before .opening-at .ensures) (c .before .before .before .before .enum-told2 .given .1)) (c .before .before .answered .ensures .0, refl, c .before .before .answered .ensures .1)
+returns-4 c =
+    let start = c .before .before .before .before .before .before .before .before .before .before .before in
+    let test1 = c .before .before .before .before .before .before .before .before .if1 in
+    let test2 = c .before .before .before .before .before .before .before .if2 in
+    let opening-at = c .before .before .before .before .before .before .opening-at in
+    let enum-told2 = c .before .before .before .before .enum-told2 in
+    let answered = c .before .before .answered in
+    rw (le-leb 1160 (length (start .args .said .now)) (test1 .left), le-leb 321 (length (start .args .rows .now)) (test2 .left), handed-malformed (openingIn 0 (start .args .last) (start .args .text .now)) (opening-at .result) (opening-at .ensures) (enum-told2 .given .1)) (answered .ensures .0, refl, answered .ensures .1)
 
 returns-5 : tie.Need-returns-5
 unfolding openTurn openRows openSaid
-returns-5 c = rw (le-leb 1160 (length (c .before .before .before .before .before .before .before .before .args .said .now)) (c .before .before .before .before .before .if1 .left), le-leb 321 (length (c .before .before .before .before .before .before .before .before .args .rows .now)) (c .before .before .before .before .if2 .left), handed-unfinished (openingIn 0 (c .before .before .before .before .before .before .before .before .args .last) (c .before .before .before .before .before .before .before .before .args .text .now)) (c .before .before .before .opening-at .result) (c .before .before .before .opening-at .ensures) (c .before .enum-told3 .given .1)) (c .waiting .ensures, refl, refl)
+returns-5 c =
+    let start = c .before .before .before .before .before .before .before .before in
+    let test1 = c .before .before .before .before .before .if1 in
+    let test2 = c .before .before .before .before .if2 in
+    let opening-at = c .before .before .before .opening-at in
+    rw (le-leb 1160 (length (start .args .said .now)) (test1 .left), le-leb 321 (length (start .args .rows .now)) (test2 .left), handed-unfinished (openingIn 0 (start .args .last) (start .args .text .now)) (opening-at .result) (opening-at .ensures) (c .before .enum-told3 .given .1)) (c .waiting .ensures, refl, refl)
 
 returns-6 : tie.Need-returns-6
 unfolding openTurn openRows openSaid
-returns-6 c = rw (le-leb 1160 (length (c .before .before .before .before .before .before .before .before .args .said .now)) (c .before .before .before .before .before .if1 .left), le-leb 321 (length (c .before .before .before .before .before .before .before .before .args .rows .now)) (c .before .before .before .before .if2 .left), handed-end (openingIn 0 (c .before .before .before .before .before .before .before .before .args .last) (c .before .before .before .before .before .before .before .before .args .text .now)) (c .before .before .before .opening-at .result) (c .before .before .before .opening-at .ensures) (c .before .enum-told4 .given .1)) (c .waiting2 .ensures, refl, refl)
+returns-6 c =
+    let start = c .before .before .before .before .before .before .before .before in
+    let test1 = c .before .before .before .before .before .if1 in
+    let test2 = c .before .before .before .before .if2 in
+    let opening-at = c .before .before .before .opening-at in
+    rw (le-leb 1160 (length (start .args .said .now)) (test1 .left), le-leb 321 (length (start .args .rows .now)) (test2 .left), handed-end (openingIn 0 (start .args .last) (start .args .text .now)) (opening-at .result) (opening-at .ensures) (c .before .enum-told4 .given .1)) (c .waiting2 .ensures, refl, refl)
 
 pub open-spec : {M : Type 1} → statement M
 open-spec =

@@ -22,8 +22,10 @@ same-length-3 c = search needs
 
 returns : tie.Need-returns
 returns c =
-    let o = c .before .before .before .before .before .before .before .before .«open» .ensures in
-    (o .0, o .1, c .before .before .store-by .ensures ∙ ap (λ (q : Replayed). storeBy (q .replay .phase) (c .before .before .before .before .before .before .before .before .before .before .before .before .before .before .args .store .now)) (o .0), o .2)
+    let start = c .before .before .before .before .before .before .before .before .before .before .before .before .before .before in
+    let before = c .before .before .before .before .before .before .before .before in
+    let o = before .«open» .ensures in
+    (o .0, o .1, c .before .before .store-by .ensures ∙ ap (λ (q : Replayed). storeBy (q .replay .phase) (start .args .store .now)) (o .0), o .2)
 
 pub open-all-spec : {M : Type 1} → statement M
 open-all-spec = tie.close (tie.spec open-requires store-by-requires same-length same-length-2 same-length-3 returns)

@@ -27,8 +27,11 @@ enum-known-found c = search needs
 
 take-frame-requires : tie.Need-take-frame-requires
 take-frame-requires c κs =
-    let s = c .before .before .before .before .before .before .before .before .before .before .before in
-    let l = lent-says (s .args .replay) (length (s .args .rows .now)) (length (s .args .store .now)) (s .args .out) (length (s .args .said .now)) (sym (c .before .before .before .before .before .before .before .is-lent .ensures) ∙ not-false (c .before .before .before .before .before .before .before .is-lent .result) (c .before .before .before .before .before .before .if1 .left)) in
+    let before = c .before .before .before .before .before .before .before .before .before .before .before in
+    let is-lent = c .before .before .before .before .before .before .before .is-lent in
+    let test1 = c .before .before .before .before .before .before .if1 in
+    let s = before in
+    let l = lent-says (s .args .replay) (length (s .args .rows .now)) (length (s .args .store .now)) (s .args .out) (length (s .args .said .now)) (sym (is-lent .ensures) ∙ not-false (is-lent .result) (test1 .left)) in
     (l .short, l .rows-there, l .store-there)
 
 framed-requires : tie.Need-framed-requires
@@ -38,13 +41,21 @@ enum-known-found-2 : tie.Need-enum-known-found-2
 enum-known-found-2 c = search needs
 
 answered-requires : tie.Need-answered-requires
-answered-requires c κs = lent-says (c .before .before .before .before .before .before .before .before .before .before .args .replay) (length (c .before .before .before .before .before .before .before .before .before .before .args .rows .now)) (length (c .before .before .before .before .before .before .before .before .before .before .args .store .now)) (c .before .before .before .before .before .before .before .before .before .before .args .out) (length (c .before .before .before .before .before .before .before .before .before .before .args .said .now)) (sym (c .before .before .before .before .before .before .is-lent .ensures) ∙ not-false (c .before .before .before .before .before .before .is-lent .result) (c .before .before .before .before .before .if1 .left)) .room
+answered-requires c κs =
+    let start = c .before .before .before .before .before .before .before .before .before .before in
+    let is-lent = c .before .before .before .before .before .before .is-lent in
+    let test1 = c .before .before .before .before .before .if1 in
+    lent-says (start .args .replay) (length (start .args .rows .now)) (length (start .args .store .now)) (start .args .out) (length (start .args .said .now)) (sym (is-lent .ensures) ∙ not-false (is-lent .result) (test1 .left)) .room
 
 enum-told : tie.Need-enum-told
 enum-told c = search needs
 
 answered-requires-2 : tie.Need-answered-requires-2
-answered-requires-2 c κs = lent-says (c .before .before .before .before .before .before .before .before .before .args .replay) (length (c .before .before .before .before .before .before .before .before .before .args .rows .now)) (length (c .before .before .before .before .before .before .before .before .before .args .store .now)) (c .before .before .before .before .before .before .before .before .before .args .out) (length (c .before .before .before .before .before .before .before .before .before .args .said .now)) (sym (c .before .before .before .before .before .is-lent .ensures) ∙ not-false (c .before .before .before .before .before .is-lent .result) (c .before .before .before .before .if1 .left)) .room
+answered-requires-2 c κs =
+    let start = c .before .before .before .before .before .before .before .before .before in
+    let is-lent = c .before .before .before .before .before .is-lent in
+    let test1 = c .before .before .before .before .if1 in
+    lent-says (start .args .replay) (length (start .args .rows .now)) (length (start .args .store .now)) (start .args .out) (length (start .args .said .now)) (sym (is-lent .ensures) ∙ not-false (is-lent .result) (test1 .left)) .room
 
 enum-told-2 : tie.Need-enum-told-2
 enum-told-2 c = search needs
@@ -67,8 +78,13 @@ same-length-2 c = search needs
 returns-2 : tie.Need-returns-2
 unfolding readTurn readRows readStore readSaid
 returns-2 c =
-    let b = sym (c .before .before .before .before .before .before .before .before .before .before .before .before .is-lent .ensures) ∙ not-false (c .before .before .before .before .before .before .before .before .before .before .before .before .is-lent .result) (c .before .before .before .before .before .before .before .before .before .before .before .if1 .left) in
-    rw (b, sym (c .before .before .before .before .before .before .before .before .before .before .record-now .ensures) ∙ c .before .before .before .before .before .before .before .before .found .given .1) (c .framed .ensures, c .before .before .before .before .take-frame .ensures .0, c .before .before .before .before .take-frame .ensures .1, refl)
+    let is-lent = c .before .before .before .before .before .before .before .before .before .before .before .before .is-lent in
+    let test1 = c .before .before .before .before .before .before .before .before .before .before .before .if1 in
+    let record-now = c .before .before .before .before .before .before .before .before .before .before .record-now in
+    let found = c .before .before .before .before .before .before .before .before .found in
+    let take-frame = c .before .before .before .before .take-frame in
+    let b = sym (is-lent .ensures) ∙ not-false (is-lent .result) (test1 .left) in
+    rw (b, sym (record-now .ensures) ∙ found .given .1) (c .framed .ensures, take-frame .ensures .0, take-frame .ensures .1, refl)
 
 same-length-3 : tie.Need-same-length-3
 same-length-3 c = search needs
@@ -76,8 +92,13 @@ same-length-3 c = search needs
 returns-3 : tie.Need-returns-3
 unfolding readTurn readRows readStore readSaid
 returns-3 c =
-    let b = sym (c .before .before .before .before .before .before .before .before .before .is-lent .ensures) ∙ not-false (c .before .before .before .before .before .before .before .before .before .is-lent .result) (c .before .before .before .before .before .before .before .before .if1 .left) in
-    rw (b, sym (c .before .before .before .before .before .before .before .record-now .ensures) ∙ c .before .before .before .before .before .found2 .given .1) (c .before .before .answered .ensures .0, refl, refl, c .before .before .answered .ensures .1)
+    let is-lent = c .before .before .before .before .before .before .before .before .before .is-lent in
+    let test1 = c .before .before .before .before .before .before .before .before .if1 in
+    let record-now = c .before .before .before .before .before .before .before .record-now in
+    let found2 = c .before .before .before .before .before .found2 in
+    let answered = c .before .before .answered in
+    let b = sym (is-lent .ensures) ∙ not-false (is-lent .result) (test1 .left) in
+    rw (b, sym (record-now .ensures) ∙ found2 .given .1) (answered .ensures .0, refl, refl, answered .ensures .1)
 
 same-length-4 : tie.Need-same-length-4
 same-length-4 c = search needs
@@ -85,8 +106,13 @@ same-length-4 c = search needs
 returns-4 : tie.Need-returns-4
 unfolding readTurn readRows readStore readSaid
 returns-4 c =
-    let b = sym (c .before .before .before .before .before .before .before .before .is-lent .ensures) ∙ not-false (c .before .before .before .before .before .before .before .before .is-lent .result) (c .before .before .before .before .before .before .before .if1 .left) in
-    rw (b, sym (c .before .before .before .before .before .before .record-now .ensures) ∙ c .before .before .before .before .enum-told .given .1) (c .before .before .answered2 .ensures .0, refl, refl, c .before .before .answered2 .ensures .1)
+    let is-lent = c .before .before .before .before .before .before .before .before .is-lent in
+    let test1 = c .before .before .before .before .before .before .before .if1 in
+    let record-now = c .before .before .before .before .before .before .record-now in
+    let enum-told = c .before .before .before .before .enum-told in
+    let answered2 = c .before .before .answered2 in
+    let b = sym (is-lent .ensures) ∙ not-false (is-lent .result) (test1 .left) in
+    rw (b, sym (record-now .ensures) ∙ enum-told .given .1) (answered2 .ensures .0, refl, refl, answered2 .ensures .1)
 
 returns-5 : tie.Need-returns-5
 unfolding readTurn readRows readStore readSaid

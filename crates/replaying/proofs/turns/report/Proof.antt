@@ -30,18 +30,29 @@ read-on-requires c κs = search needs
 returns-2 : tie.Need-returns-2
 unfolding reportTurn reportRows reportOut reportSaid
 returns-2 c =
-    let b = sym (c .before .before .before .before .is-lent .ensures) ∙ not-false (c .before .before .before .before .is-lent .result) (c .before .before .before .if1 .left) in
-    let z : c .before .before .before .before .before .before .before .before .args .replay .left ≤ 0 = omega (arith, c .before .if2 .taken) in
-    rw (b, le-ltb 0 (c .before .before .before .before .before .before .before .before .args .replay .left) z) (c .read-on .ensures, refl, refl, refl)
+    let start = c .before .before .before .before .before .before .before .before in
+    let is-lent = c .before .before .before .before .is-lent in
+    let b = sym (is-lent .ensures) ∙ not-false (is-lent .result) (c .before .before .before .if1 .left) in
+    let z : start .args .replay .left ≤ 0 = omega (arith, c .before .if2 .taken) in
+    rw (b, le-ltb 0 (start .args .replay .left) z) (c .read-on .ensures, refl, refl, refl)
 
 rows-for-requires : tie.Need-rows-for-requires
 rows-for-requires c κs = search needs
 
 is-due-requires : tie.Need-is-due-requires
-is-due-requires c κs = rw (c .before .rows-for .ensures) (lent-says (c .before .before .before .before .before .before .before .before .before .args .replay) (length (c .before .before .before .before .before .before .before .before .before .args .rows .now)) (length (c .before .before .before .before .before .before .before .before .before .args .store .now)) (length (c .before .before .before .before .before .before .before .before .before .args .out .now)) (length (c .before .before .before .before .before .before .before .before .before .args .said .now)) (sym (c .before .before .before .before .before .is-lent .ensures) ∙ not-false (c .before .before .before .before .before .is-lent .result) (c .before .before .before .before .if1 .left)) .rows-there)
+is-due-requires c κs =
+    let start = c .before .before .before .before .before .before .before .before .before in
+    let is-lent = c .before .before .before .before .before .is-lent in
+    let test1 = c .before .before .before .before .if1 in
+    rw (c .before .rows-for .ensures) (lent-says (start .args .replay) (length (start .args .rows .now)) (length (start .args .store .now)) (length (start .args .out .now)) (length (start .args .said .now)) (sym (is-lent .ensures) ∙ not-false (is-lent .result) (test1 .left)) .rows-there)
 
 report-now-requires : tie.Need-report-now-requires
-report-now-requires c κs = (lent-says (c .before .before .before .before .before .before .before .before .before .before .before .before .before .before .args .replay) (length (c .before .before .before .before .before .before .before .before .before .before .before .before .before .before .args .rows .now)) (length (c .before .before .before .before .before .before .before .before .before .before .before .before .before .before .args .store .now)) (length (c .before .before .before .before .before .before .before .before .before .before .before .before .before .before .args .out .now)) (length (c .before .before .before .before .before .before .before .before .before .before .before .before .before .before .args .said .now)) (sym (c .before .before .before .before .before .before .before .before .before .before .is-lent .ensures) ∙ not-false (c .before .before .before .before .before .before .before .before .before .before .is-lent .result) (c .before .before .before .before .before .before .before .before .before .if1 .left)), omega (arith, c .before .before .before .before .before .before .before .if2 .left))
+report-now-requires c κs =
+    let start = c .before .before .before .before .before .before .before .before .before .before .before .before .before .before in
+    let is-lent = c .before .before .before .before .before .before .before .before .before .before .is-lent in
+    let test1 = c .before .before .before .before .before .before .before .before .before .if1 in
+    let test2 = c .before .before .before .before .before .before .before .if2 in
+    (lent-says (start .args .replay) (length (start .args .rows .now)) (length (start .args .store .now)) (length (start .args .out .now)) (length (start .args .said .now)) (sym (is-lent .ensures) ∙ not-false (is-lent .result) (test1 .left)), omega (arith, test2 .left))
 
 same-length : tie.Need-same-length
 same-length c = search needs
@@ -55,9 +66,14 @@ same-length-3 c = search needs
 returns-3 : tie.Need-returns-3
 unfolding reportTurn reportRows reportOut reportSaid
 returns-3 c =
-    let b = sym (c .before .before .before .before .before .before .before .before .before .before .before .before .before .before .before .before .is-lent .ensures) ∙ not-false (c .before .before .before .before .before .before .before .before .before .before .before .before .before .before .before .before .is-lent .result) (c .before .before .before .before .before .before .before .before .before .before .before .before .before .before .before .if1 .left) in
-    let z : 0 < c .before .before .before .before .before .before .before .before .before .before .before .before .before .before .before .before .before .before .before .before .args .replay .left = omega (arith, c .before .before .before .before .before .before .before .before .before .before .before .before .before .if2 .left) in
-    rw (b, lt-ltb 0 (c .before .before .before .before .before .before .before .before .before .before .before .before .before .before .before .before .before .before .before .before .args .replay .left) z) (c .before .before .before .before .before .report-now .ensures)
+    let start = c .before .before .before .before .before .before .before .before .before .before .before .before .before .before .before .before .before .before .before .before in
+    let is-lent = c .before .before .before .before .before .before .before .before .before .before .before .before .before .before .before .before .is-lent in
+    let test1 = c .before .before .before .before .before .before .before .before .before .before .before .before .before .before .before .if1 in
+    let test2 = c .before .before .before .before .before .before .before .before .before .before .before .before .before .if2 in
+    let report-now = c .before .before .before .before .before .report-now in
+    let b = sym (is-lent .ensures) ∙ not-false (is-lent .result) (test1 .left) in
+    let z : 0 < start .args .replay .left = omega (arith, test2 .left) in
+    rw (b, lt-ltb 0 (start .args .replay .left) z) (report-now .ensures)
 
 read-on-requires-2 : tie.Need-read-on-requires-2
 read-on-requires-2 c κs = search needs
@@ -68,11 +84,16 @@ same-length-4 c = search needs
 returns-4 : tie.Need-returns-4
 unfolding reportTurn reportRows reportOut reportSaid fetchedTurn fetchedSaid
 returns-4 c =
-    let b = sym (c .before .before .before .before .before .before .before .before .is-lent .ensures) ∙ not-false (c .before .before .before .before .before .before .before .before .is-lent .result) (c .before .before .before .before .before .before .before .if1 .left) in
-    let z : 0 < c .before .before .before .before .before .before .before .before .before .before .before .before .args .replay .left = omega (arith, c .before .before .before .before .before .if2 .left) in
-    let d = sym (rw (c .before .before .before .before .rows-for .ensures) at (c .before .before .is-due .ensures)) ∙ c .before .if3 .left in
-    let e : ltb 0 (getD (fetchRecordBy (c .before .before .before .before .before .before .before .before .before .before .before .before .args .replay) (c .before .before .before .before .before .before .before .before .before .before .before .before .args .rows .now) (c .before .before .before .before .before .before .before .before .before .before .before .before .args .store .now) (c .before .before .before .before .before .before .before .before .before .before .before .before .args .out .now)) 0 0) ≡ false = none-due (c .before .before .before .before .before .before .before .before .before .before .before .before .args .replay) (c .before .before .before .before .before .before .before .before .before .before .before .before .args .rows .now) (c .before .before .before .before .before .before .before .before .before .before .before .before .args .store .now) (c .before .before .before .before .before .before .before .before .before .before .before .before .args .out .now) d in
-    rw (b, lt-ltb 0 (c .before .before .before .before .before .before .before .before .before .before .before .before .args .replay .left) z, e) (c .read-on2 .ensures, sym (none-rows (c .before .before .before .before .before .before .before .before .before .before .before .before .args .replay) (c .before .before .before .before .before .before .before .before .before .before .before .before .args .rows .now) (c .before .before .before .before .before .before .before .before .before .before .before .before .args .store .now) (c .before .before .before .before .before .before .before .before .before .before .before .before .args .out .now) d), sym (none-out (c .before .before .before .before .before .before .before .before .before .before .before .before .args .replay) (c .before .before .before .before .before .before .before .before .before .before .before .before .args .rows .now) (c .before .before .before .before .before .before .before .before .before .before .before .before .args .store .now) (c .before .before .before .before .before .before .before .before .before .before .before .before .args .out .now) d), refl)
+    let start = c .before .before .before .before .before .before .before .before .before .before .before .before in
+    let is-lent = c .before .before .before .before .before .before .before .before .is-lent in
+    let test1 = c .before .before .before .before .before .before .before .if1 in
+    let test2 = c .before .before .before .before .before .if2 in
+    let rows-for = c .before .before .before .before .rows-for in
+    let b = sym (is-lent .ensures) ∙ not-false (is-lent .result) (test1 .left) in
+    let z : 0 < start .args .replay .left = omega (arith, test2 .left) in
+    let d = sym (rw (rows-for .ensures) at (c .before .before .is-due .ensures)) ∙ c .before .if3 .left in
+    let e : ltb 0 (getD (fetchRecordBy (start .args .replay) (start .args .rows .now) (start .args .store .now) (start .args .out .now)) 0 0) ≡ false = none-due (start .args .replay) (start .args .rows .now) (start .args .store .now) (start .args .out .now) d in
+    rw (b, lt-ltb 0 (start .args .replay .left) z, e) (c .read-on2 .ensures, sym (none-rows (start .args .replay) (start .args .rows .now) (start .args .store .now) (start .args .out .now) d), sym (none-out (start .args .replay) (start .args .rows .now) (start .args .store .now) (start .args .out .now) d), refl)
 
 pub report-spec : {M : Type 1} → statement M
 report-spec =

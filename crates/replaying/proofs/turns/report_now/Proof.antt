@@ -33,18 +33,24 @@ same-length-2 c = search needs
 returns : tie.Need-returns
 unfolding fetchedTurn fetchedSaid
 returns c =
-    let y : getD (c .before .before .before .before .before .fetch .result) 0 0 ≤ 0 = omega (arith, c .before .if1 .taken) in
-    let d : ltb 0 (getD (fetchRecordBy (c .before .before .before .before .before .before .before .before .before .before .before .before .before .args .replay) (c .before .before .before .before .before .before .before .before .before .before .before .before .before .args .rows .now) (c .before .before .before .before .before .before .before .before .before .before .before .before .before .args .store .now) (c .before .before .before .before .before .before .before .before .before .before .before .before .before .args .out .now)) 0 0) ≡ false = rw (← c .before .before .before .before .before .fetch .ensures .0) (le-ltb 0 (getD (c .before .before .before .before .before .fetch .result) 0 0) y) in
-    rw d (c .read-on .ensures, c .before .before .before .before .before .fetch .ensures .1, c .before .before .before .before .before .fetch .ensures .2, refl)
+    let start = c .before .before .before .before .before .before .before .before .before .before .before .before .before in
+    let fetch = c .before .before .before .before .before .fetch in
+    let y : getD (fetch .result) 0 0 ≤ 0 = omega (arith, c .before .if1 .taken) in
+    let d : ltb 0 (getD (fetchRecordBy (start .args .replay) (start .args .rows .now) (start .args .store .now) (start .args .out .now)) 0 0) ≡ false = rw (← fetch .ensures .0) (le-ltb 0 (getD (fetch .result) 0 0) y) in
+    rw d (c .read-on .ensures, fetch .ensures .1, fetch .ensures .2, refl)
 
 states-in-requires-2 : tie.Need-states-in-requires-2
 states-in-requires-2 c κs = search needs
 
 put-report-requires : tie.Need-put-report-requires
-put-report-requires c κs = (c .before .before .before .before .before .before .before .before .before .before .before .before .before .before .before .pre .0 .few, c .before .before .before .before .before .before .before .before .before .before .before .before .before .before .before .pre .0 .room)
+put-report-requires c κs =
+    let start = c .before .before .before .before .before .before .before .before .before .before .before .before .before .before .before in
+    (start .pre .0 .few, start .pre .0 .room)
 
 reported-requires : tie.Need-reported-requires
-reported-requires c κs = c .before .before .before .before .before .before .before .before .before .before .before .before .before .before .before .before .before .before .pre .1
+reported-requires c κs =
+    let start = c .before .before .before .before .before .before .before .before .before .before .before .before .before .before .before .before .before .before in
+    start .pre .1
 
 same-length-3 : tie.Need-same-length-3
 same-length-3 c = search needs
@@ -58,14 +64,19 @@ same-length-5 c = search needs
 returns-2 : tie.Need-returns-2
 unfolding fetchedTurn fetchedSaid reportOf
 returns-2 c =
-    let l = c .before .before .before .before .before .before .before .before .before .before .before .before .before .before .before .before .before .before .before .pre .0 in
-    let y : 0 < getD (c .before .before .before .before .before .before .before .before .before .before .before .fetch .result) 0 0 = omega (arith, c .before .before .before .before .before .before .before .if1 .left) in
-    let d : ltb 0 (getD (fetchRecordBy (c .before .before .before .before .before .before .before .before .before .before .before .before .before .before .before .before .before .before .before .args .replay) (c .before .before .before .before .before .before .before .before .before .before .before .before .before .before .before .before .before .before .before .args .rows .now) (c .before .before .before .before .before .before .before .before .before .before .before .before .before .before .before .before .before .before .before .args .store .now) (c .before .before .before .before .before .before .before .before .before .before .before .before .before .before .before .before .before .before .before .args .out .now)) 0 0) ≡ true = rw (← c .before .before .before .before .before .before .before .before .before .before .before .fetch .ensures .0) (lt-ltb 0 (getD (c .before .before .before .before .before .before .before .before .before .before .before .fetch .result) 0 0) y) in
-    let w : reportText (c .before .before .before .before .before .before .before .before .before .before .before .fetch .result) (c .before .before .before .before .before .before .before .before .before .before .before .before .before .before .before .before .before .before .before .args .replay .line) (c .before .before .before .before .before .before .before .before .before .before .before .before .before .before .states-in .result) (c .before .before .before .before .before .states-in2 .result) (c .before .before .before .before .before .before .before .before .before .before .before .before .before .before .before .before .before .before .before .args .replay .ports) ≡ reportOf (c .before .before .before .before .before .before .before .before .before .before .before .before .before .before .before .before .before .before .before .args .replay) (c .before .before .before .before .before .before .before .before .before .before .before .before .before .before .before .before .before .before .before .args .rows .now) (c .before .before .before .before .before .before .before .before .before .before .before .before .before .before .before .before .before .before .before .args .store .now) (c .before .before .before .before .before .before .before .before .before .before .before .before .before .before .before .before .before .before .before .args .out .now) = rw (c .before .before .before .before .before .states-in2 .ensures, c .before .before .before .before .before .before .before .before .before .before .before .before .before .before .states-in .ensures, c .before .before .before .before .before .before .before .before .before .before .before .fetch .ensures .1, c .before .before .before .before .before .before .before .before .before .before .before .fetch .ensures .0) in
-    let k = report-le (c .before .before .before .before .before .before .before .before .before .before .before .fetch .result) (c .before .before .before .before .before .before .before .before .before .before .before .before .before .before .before .before .before .before .before .args .replay .line) (c .before .before .before .before .before .before .before .before .before .before .before .before .before .before .states-in .result) (c .before .before .before .before .before .states-in2 .result) (c .before .before .before .before .before .before .before .before .before .before .before .before .before .before .before .before .before .before .before .args .replay .ports) (l .few) in
-    let h : length (reportText (c .before .before .before .before .before .before .before .before .before .before .before .fetch .result) (c .before .before .before .before .before .before .before .before .before .before .before .before .before .before .before .before .before .before .before .args .replay .line) (c .before .before .before .before .before .before .before .before .before .before .before .before .before .before .states-in .result) (c .before .before .before .before .before .states-in2 .result) (c .before .before .before .before .before .before .before .before .before .before .before .before .before .before .before .before .before .before .before .args .replay .ports)) ≤ length (c .before .before .before .before .before .before .before .before .before .before .before .before .before .before .before .before .before .before .before .args .said .now) = omega (arith, l .room) in
+    let start = c .before .before .before .before .before .before .before .before .before .before .before .before .before .before .before .before .before .before .before in
+    let states-in = c .before .before .before .before .before .before .before .before .before .before .before .before .before .before .states-in in
+    let fetch = c .before .before .before .before .before .before .before .before .before .before .before .fetch in
+    let test1 = c .before .before .before .before .before .before .before .if1 in
+    let states-in2 = c .before .before .before .before .before .states-in2 in
+    let l = start .pre .0 in
+    let y : 0 < getD (fetch .result) 0 0 = omega (arith, test1 .left) in
+    let d : ltb 0 (getD (fetchRecordBy (start .args .replay) (start .args .rows .now) (start .args .store .now) (start .args .out .now)) 0 0) ≡ true = rw (← fetch .ensures .0) (lt-ltb 0 (getD (fetch .result) 0 0) y) in
+    let w : reportText (fetch .result) (start .args .replay .line) (states-in .result) (states-in2 .result) (start .args .replay .ports) ≡ reportOf (start .args .replay) (start .args .rows .now) (start .args .store .now) (start .args .out .now) = rw (states-in2 .ensures, states-in .ensures, fetch .ensures .1, fetch .ensures .0) in
+    let k = report-le (fetch .result) (start .args .replay .line) (states-in .result) (states-in2 .result) (start .args .replay .ports) (l .few) in
+    let h : length (reportText (fetch .result) (start .args .replay .line) (states-in .result) (states-in2 .result) (start .args .replay .ports)) ≤ length (start .args .said .now) = omega (arith, l .room) in
     let q = rw w at (put-over (c .before .before .before .put-report .ensures) h) in
-    rw d (c .reported .ensures ∙ ap (reportedTurn (c .before .before .before .before .before .before .before .before .before .before .before .before .before .before .before .before .before .before .before .args .replay)) (q .0), c .before .before .before .before .before .before .before .before .before .before .before .fetch .ensures .1, c .before .before .before .before .before .before .before .before .before .before .before .fetch .ensures .2, q .1)
+    rw d (c .reported .ensures ∙ ap (reportedTurn (start .args .replay)) (q .0), fetch .ensures .1, fetch .ensures .2, q .1)
 
 pub report-now-spec : {M : Type 1} → statement M
 report-now-spec =

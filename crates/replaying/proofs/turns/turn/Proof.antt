@@ -47,12 +47,15 @@ same-length-3 c = search needs
 
 returns : tie.Need-returns
 returns c =
-    let s = c .before .before .before .before .before .before .before .before .before .before .before .before .before .before .before in
-    let e = c .before .before .before .before .before .before .before .before .before .enum-told .given .1 in
+    let before = c .before .before .before .before .before .before .before .before .before .before .before .before .before .before .before in
+    let enum-told = c .before .before .before .before .before .before .before .before .before .enum-told in
+    let open-all = c .before .before .before .before .before .open-all in
+    let s = before in
+    let e = enum-told .given .1 in
     let r = s .args .replay in
     let t = s .args .text .now in
     let n = length (s .args .said .now) in
-    (turn-is r Settings e t (s .args .last) (s .args .rows .now) (s .args .store .now) (s .args .out .now) n _ (c .before .before .before .before .before .open-all .ensures .0), rows-is r Settings e t (s .args .last) (s .args .rows .now) (s .args .store .now) (s .args .out .now) n _ (c .before .before .before .before .before .open-all .ensures .1), store-is r Settings e t (s .args .last) (s .args .rows .now) (s .args .store .now) (s .args .out .now) n _ (c .before .before .before .before .before .open-all .ensures .2), out-is r Settings e t (s .args .last) (s .args .rows .now) (s .args .store .now) (s .args .out .now) n _ refl, said-is r Settings e t (s .args .last) (s .args .rows .now) (s .args .store .now) (s .args .out .now) (s .args .said .now) _ (c .before .before .before .before .before .open-all .ensures .3))
+    (turn-is r Settings e t (s .args .last) (s .args .rows .now) (s .args .store .now) (s .args .out .now) n _ (open-all .ensures .0), rows-is r Settings e t (s .args .last) (s .args .rows .now) (s .args .store .now) (s .args .out .now) n _ (open-all .ensures .1), store-is r Settings e t (s .args .last) (s .args .rows .now) (s .args .store .now) (s .args .out .now) n _ (open-all .ensures .2), out-is r Settings e t (s .args .last) (s .args .rows .now) (s .args .store .now) (s .args .out .now) n _ refl, said-is r Settings e t (s .args .last) (s .args .rows .now) (s .args .store .now) (s .args .out .now) (s .args .said .now) _ (open-all .ensures .3))
 
 same-length-4 : tie.Need-same-length-4
 same-length-4 c = search needs
@@ -65,12 +68,15 @@ same-length-6 c = search needs
 
 returns-2 : tie.Need-returns-2
 returns-2 c =
-    let s = c .before .before .before .before .before .before .before .before .before .before .before .before .before .before .before in
-    let e = c .before .before .before .before .before .before .before .before .before .enum-told2 .given .1 in
+    let before = c .before .before .before .before .before .before .before .before .before .before .before .before .before .before .before in
+    let enum-told2 = c .before .before .before .before .before .before .before .before .before .enum-told2 in
+    let the-read = c .before .before .before .before .before .read in
+    let s = before in
+    let e = enum-told2 .given .1 in
     let r = s .args .replay in
     let t = s .args .text .now in
     let n = length (s .args .said .now) in
-    (turn-is r Reading e t (s .args .last) (s .args .rows .now) (s .args .store .now) (s .args .out .now) n _ (c .before .before .before .before .before .read .ensures .0), rows-is r Reading e t (s .args .last) (s .args .rows .now) (s .args .store .now) (s .args .out .now) n _ (c .before .before .before .before .before .read .ensures .1), store-is r Reading e t (s .args .last) (s .args .rows .now) (s .args .store .now) (s .args .out .now) n _ (c .before .before .before .before .before .read .ensures .2), out-is r Reading e t (s .args .last) (s .args .rows .now) (s .args .store .now) (s .args .out .now) n _ refl, said-is r Reading e t (s .args .last) (s .args .rows .now) (s .args .store .now) (s .args .out .now) (s .args .said .now) _ (c .before .before .before .before .before .read .ensures .3))
+    (turn-is r Reading e t (s .args .last) (s .args .rows .now) (s .args .store .now) (s .args .out .now) n _ (the-read .ensures .0), rows-is r Reading e t (s .args .last) (s .args .rows .now) (s .args .store .now) (s .args .out .now) n _ (the-read .ensures .1), store-is r Reading e t (s .args .last) (s .args .rows .now) (s .args .store .now) (s .args .out .now) n _ (the-read .ensures .2), out-is r Reading e t (s .args .last) (s .args .rows .now) (s .args .store .now) (s .args .out .now) n _ refl, said-is r Reading e t (s .args .last) (s .args .rows .now) (s .args .store .now) (s .args .out .now) (s .args .said .now) _ (the-read .ensures .3))
 
 same-length-7 : tie.Need-same-length-7
 same-length-7 c = search needs
@@ -86,12 +92,15 @@ same-length-10 c = search needs
 
 returns-3 : tie.Need-returns-3
 returns-3 c =
-    let s = c .before .before .before .before .before .before .before .before .before .before .before .before .before .before .before .before in
-    let e = c .before .before .before .before .before .before .before .before .before .before .enum-told3 .given .1 in
+    let before = c .before .before .before .before .before .before .before .before .before .before .before .before .before .before .before .before in
+    let enum-told3 = c .before .before .before .before .before .before .before .before .before .before .enum-told3 in
+    let report = c .before .before .before .before .before .report in
+    let s = before in
+    let e = enum-told3 .given .1 in
     let r = s .args .replay in
     let t = s .args .text .now in
     let n = length (s .args .said .now) in
-    (turn-is r Fetching e t (s .args .last) (s .args .rows .now) (s .args .store .now) (s .args .out .now) n _ (c .before .before .before .before .before .report .ensures .0), rows-is r Fetching e t (s .args .last) (s .args .rows .now) (s .args .store .now) (s .args .out .now) n _ (c .before .before .before .before .before .report .ensures .1), store-is r Fetching e t (s .args .last) (s .args .rows .now) (s .args .store .now) (s .args .out .now) n _ refl, out-is r Fetching e t (s .args .last) (s .args .rows .now) (s .args .store .now) (s .args .out .now) n _ (c .before .before .before .before .before .report .ensures .2), said-is r Fetching e t (s .args .last) (s .args .rows .now) (s .args .store .now) (s .args .out .now) (s .args .said .now) _ (c .before .before .before .before .before .report .ensures .3))
+    (turn-is r Fetching e t (s .args .last) (s .args .rows .now) (s .args .store .now) (s .args .out .now) n _ (report .ensures .0), rows-is r Fetching e t (s .args .last) (s .args .rows .now) (s .args .store .now) (s .args .out .now) n _ (report .ensures .1), store-is r Fetching e t (s .args .last) (s .args .rows .now) (s .args .store .now) (s .args .out .now) n _ refl, out-is r Fetching e t (s .args .last) (s .args .rows .now) (s .args .store .now) (s .args .out .now) n _ (report .ensures .2), said-is r Fetching e t (s .args .last) (s .args .rows .now) (s .args .store .now) (s .args .out .now) (s .args .said .now) _ (report .ensures .3))
 
 returns-4 : tie.Need-returns-4
 returns-4 c =

@@ -54,7 +54,13 @@ eight-bits-requires c κs = search needs
 
 returns : tie.Need-returns
 unfolding mstFrom
-returns c = c .eight-bits .ensures ∙ rw (c .before .before .before .before .before .before .before .before .fail-bit .ensures .0, c .before .before .before .before .before .before .before .fail-bit2 .ensures .0, c .before .before .before .before .before .before .fail-bit3 .ensures .0, c .before .before .before .before .before .fail-bit4 .ensures .0, c .before .before .before .before .fail-bit5 .ensures .0, c .before .before .before .fail-bit6 .ensures .0, c .before .before .fail-bit7 .ensures .0, c .before .fail-bit8 .ensures .0)
+returns c =
+    let fail-bit = c .before .before .before .before .before .before .before .before .fail-bit in
+    let fail-bit2 = c .before .before .before .before .before .before .before .fail-bit2 in
+    let fail-bit3 = c .before .before .before .before .before .before .fail-bit3 in
+    let fail-bit4 = c .before .before .before .before .before .fail-bit4 in
+    let fail-bit5 = c .before .before .before .before .fail-bit5 in
+    c .eight-bits .ensures ∙ rw (fail-bit .ensures .0, fail-bit2 .ensures .0, fail-bit3 .ensures .0, fail-bit4 .ensures .0, fail-bit5 .ensures .0, c .before .before .before .fail-bit6 .ensures .0, c .before .before .fail-bit7 .ensures .0, c .before .fail-bit8 .ensures .0)
 
 pub mst-from-spec : {M : Type 1} → statement M
 mst-from-spec =

@@ -17,7 +17,9 @@ changes-fit-requires : tie.Need-changes-fit-requires
 changes-fit-requires c κs = (sized-changes (c .before .before .before .before .before .before .before .args .board) (c .before .before .before .before .before .before .before .args .changes) (c .before .before .wait-fits .result) (not-false _ (c .before .if1 .left)), sized-board (c .before .before .before .before .before .before .before .args .board) (c .before .before .before .before .before .before .before .args .changes) (c .before .before .wait-fits .result) (not-false _ (c .before .if1 .left)))
 
 returns-2 : tie.Need-returns-2
-returns-2 c = fits-by-each (c .before .before .before .before .before .before .before .before .args .board) (c .before .before .before .before .before .before .before .before .args .changes) _ _ (c .before .before .before .wait-fits .ensures) (not-false _ (c .before .before .if1 .left)) (c .changes-fit .ensures)
+returns-2 c =
+    let start = c .before .before .before .before .before .before .before .before in
+    fits-by-each (start .args .board) (start .args .changes) _ _ (c .before .before .before .wait-fits .ensures) (not-false _ (c .before .before .if1 .left)) (c .changes-fit .ensures)
 
 pub does-fit-spec : {M : Type 1} → statement M
 does-fit-spec = tie.close (tie.spec wait-fits-requires returns cast-changes-fit changes-fit-requires returns-2)

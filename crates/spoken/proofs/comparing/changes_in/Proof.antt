@@ -63,7 +63,11 @@ loop-less : tie.Need-loop-less Inv-loop μ-loop
 loop-less c = search needs
 
 loop-again : tie.Need-loop-again Inv-loop μ-loop
-loop-again c = (c .before .before .before .before .before .before .loop .inv .0, c .before .before .before .before .before .before .loop .inv .1, omega arith, listing-more (c .before .before .before .before .before .before .before .before .args .t1) (c .before .before .before .before .before .before .before .before .args .t2) _ _ _ _ (c .before .before .before .before .before .before .loop .inv .3) (omega arith) (c .before .before .before .before .before .before .before .no-change .ensures) (c .before .before .same-row .ensures) (c .before .change-if .ensures) (c .one-if .ensures))
+loop-again c =
+    let start = c .before .before .before .before .before .before .before .before in
+    let no-change = c .before .before .before .before .before .before .before .no-change in
+    let loop = c .before .before .before .before .before .before .loop in
+    (loop .inv .0, loop .inv .1, omega arith, listing-more (start .args .t1) (start .args .t2) _ _ _ _ (loop .inv .3) (omega arith) (no-change .ensures) (c .before .before .same-row .ensures) (c .before .change-if .ensures) (c .one-if .ensures))
 
 returns : tie.Need-returns Inv-loop μ-loop
 returns c = let e : c .before .loop .i ≡ c .before .before .before .args .n = omega arith in listing-all (c .before .before .before .args .t1) (c .before .before .before .args .t2) _ _ (c .before .loop .inv .3) e

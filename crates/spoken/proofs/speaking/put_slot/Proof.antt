@@ -21,7 +21,10 @@ same-length c = search needs
 
 returns : tie.Need-returns
 unfolding slotText
-returns c = both-put (ended (ascii "slot") TAB) (ended (decimalText (c .before .before .before .before .before .before .before .before .before .before .args .slot)) TAB) (c .before .before .before .before .before .before .before .before .before .before .pre) (c .before .before .before .before .before .before .put .ensures) (c .before .before .put-number .ensures)
+returns c =
+    let start = c .before .before .before .before .before .before .before .before .before .before in
+    let put = c .before .before .before .before .before .before .put in
+    both-put (ended (ascii "slot") TAB) (ended (decimalText (start .args .slot)) TAB) (start .pre) (put .ensures) (c .before .before .put-number .ensures)
 
 pub put-slot-spec : {M : Type 1} → statement M
 put-slot-spec = tie.close (tie.spec slice-aggregate-put put-requires put-number-requires same-length returns)

@@ -20,7 +20,9 @@ same-length : tie.Need-same-length
 same-length c = search needs
 
 returns : tie.Need-returns
-returns c = let a = c .before .before .before .before .before .before .before .before .args in put-frame (a .store .now) (a .payload .now) _ (a .place) (a .h4) (omega arith) (c .before .before .lay .ensures)
+returns c =
+    let start = c .before .before .before .before .before .before .before .before in
+    let a = start .args in put-frame (a .store .now) (a .payload .now) _ (a .place) (a .h4) (omega arith) (c .before .before .lay .ensures)
 
 returns-2 : tie.Need-returns-2
 returns-2 c = let a = c .before .before .before .before .args in put-none (a .store .now) (a .payload .now) (a .place) (a .h4) (omega arith)
