@@ -9,6 +9,7 @@ pub mod Recording
 pub mod Replaying
 pub mod Reports
 pub mod Runs
+pub mod Senders
 pub mod Spoken
 pub mod Verdicts
 use mathlib.Core.Path.{_≡_, refl}
