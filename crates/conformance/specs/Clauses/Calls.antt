@@ -13,8 +13,6 @@ use Rattle.c_face.specs.Payloads.{joinAnswerC, joinFrameC, spreadAnswerC, sprea
 use Rattle.c_face.specs.Plans.{checkAnswerC, checkByteC, lentAnswer, lentBytes, planAnswerC, planBytesC}
 use Rattle.c_face.specs.Receivers.{failedC, kindC, startAsAnswerC, startAsRowsC}
 use Rattle.c_face.specs.Senders.{startAnswerC, startStateC}
-use Rattle.circuits.specs.Commands.{startOf as commandsStartOf}
-use Rattle.circuits.specs.Parts.{senderOf as partsSenderOf}
 use Rattle.packet.specs.Crc.{crcOf, divisor, nibbleBits}
 use Rattle.packet.specs.Fixed.{readFixedAnswer, readFixedNibbles, writeFixedAnswer}
 use Rattle.packet.specs.Kinds.{frames, tags}
@@ -113,7 +111,7 @@ before = 3 ∷ 0 ∷ 2 ∷ 0 ∷ 2 ∷ 1 ∷ 3 ∷ 2 ∷ zeros 122
 abbrev now : List ℕ
 now = 3 ∷ 1 ∷ 2 ∷ 0 ∷ 5 ∷ 255 ∷ 3 ∷ 1 ∷ zeros 122
 
--- 322 bytes: how many, 1 for a wait that has opened or 2 for one that has closed, then for each slot, old word and number, new word and number
+-- 322 bytes: how many, 1 for a wait that has opened or 2 for one that has closed, then of each change its slot, old word and number, new word and number
 abbrev told : List ℕ
 told = 2 ∷ 1 ∷ 1 ∷ 2 ∷ 1 ∷ 5 ∷ 255 ∷ 2 ∷ 3 ∷ 2 ∷ 3 ∷ 1 ∷ zeros 310
 

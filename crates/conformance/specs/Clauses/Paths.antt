@@ -1,4 +1,4 @@
--- Plans and checks (request 2026-09), whole: four candidates with delays 0, 100, 16 and 20. W 20 lets 4 frames of spread be, W 19 lets 3.
+-- Plans and checks (request 2026-09), whole: four candidates with delays 0, 100, 16 and 20. With W 20 the spread may be 4 frames, with W 19 it may be 3.
 use mathlib.Core.Path.{_≡_, refl}
 use mathlib.Core.Bool.{Bool, true, false}
 use mathlib.Core.List.{List, [], _∷_, _++_}
@@ -49,7 +49,7 @@ checks :
 unfolding accepts agree agreesWith answerOf areShort checkedOf
 checks = (refl, refl, refl, refl, refl, refl, refl, refl, refl)
 
--- 'k of 0 or above the number of candidates, more than 64 candidates, a delay above 4,095, or W outside 16 to 2,048 is 4': the last that is let be, and the first that is not
+-- 'k of 0 or above the number of candidates, more than 64 candidates, a delay above 4,095, or W outside 16 to 2,048 is 4': the last that is taken, and the first that is not
 limits :
     (numberOf (answerOf (replicate 64 4095) 64 2048) ≡ 0)
     × (numberOf (answerOf (replicate 65 4095) 64 2048) ≡ 4)

@@ -83,7 +83,7 @@ no-first-lines :
 unfolding digitOf fieldIn fieldsOf foundOf indexAfter indexOf lineOpening named numberOf opened openingIn settingsBy
 no-first-lines = (refl, refl, refl, refl, refl, refl, refl, refl, refl)
 
--- 'in any order': one port with a kind, a hold-off of 4 and a wait-to-restore of 6
+-- The pairs in any order: one port with a kind, a hold-off of 4 and a wait-to-restore of 6
 abbrev K : List (List ℕ)
 K = ascii "kind" ∷ ascii "FIXED" ∷ []
 
@@ -105,7 +105,7 @@ any-order :
 unfolding digitOf fieldIn holdRead kindRead named numberOf opened restoreRead settingsBy
 any-order = (refl, refl, refl, refl, refl, refl)
 
--- 'each at most once', whatever stands between the two
+-- Each pair at most once, whatever stands between the two
 at-most-once :
     (one (K ++ K) ≡ O.Malformed)
     × (one (K ++ H ++ K) ≡ O.Malformed)
@@ -119,7 +119,7 @@ at-most-once :
 unfolding digitOf fieldIn holdRead kindRead named numberOf opened restoreRead settingsBy
 at-most-once = (refl, refl, refl, refl, refl, refl, refl, refl, refl)
 
--- 'with a number for each port', and not for each byte of P; a number has at most nine digits
+-- A number for each port, and not for each byte of P; a number has at most nine digits
 for-each-port :
     (openingBy 7 (ascii "2" ∷ ascii "3" ∷ ascii "32" ∷ ascii "hold-off" ∷ ascii "5" ∷ ascii "6" ∷ ascii "wait-to-restore" ∷ ascii "7" ∷ ascii "8" ∷ [])
     ≡ O.Settings (settings 0 (5 ∷ 6 ∷ []) (7 ∷ 8 ∷ []) 2 3 32) 7)

@@ -7,7 +7,6 @@ use lib.ListN.{drop, replicate, take}
 use Rattle.bytes.specs.Bytes.{indexAfter, indexOf}
 use Rattle.packet.specs.Kinds.{frames, idleNumber, tags}
 use Rattle.phases.specs.Sizes.{sized}
-use Rattle.phases.specs.Sizes.{sized as sizesSized}
 use Rattle.receiver.specs.Starting.{freshPort, freshPorts, sizedFits, sizedRows, startAsRows, startFits, startRight, startRows, timesWithin}
 use Rattle.recording.specs.declared.record.Record.the-variants as R
 use Rattle.recording.specs.Line.{foundOf}

@@ -75,7 +75,6 @@ ruled :
 unfolding assigned carriedIn crcOf divisor epochOf fieldsOf firstMark firstTag freshPort freshPorts kindsFrames lead marksAt nibbleBits ownNumber ownRuling packetsAt putGroup putMarks putMember putPackets putRow putStep readNibbles rowIn rulingEpoch rulingIn rulingOf seenOf sized sizedFits sizedRows startAsRows startFits startRight stepAt stepOf stepRow tagBefore tags timesWithin
 ruled = (refl, refl, refl, refl)
 
--- a held report has no bytes and X 0; a doubtful and a sure one X x 16 x P
 abbrev order : Order
 order = record { ports = 1 ∷ 0 ∷ zeros 62; x = 2 }
 
@@ -83,6 +82,7 @@ order = record { ports = 1 ∷ 0 ∷ zeros 62; x = 2 }
 abbrev store : List ℕ
 store = tabulate 96 (λ i. i)
 
+-- a held report has no bytes and X 0; a doubtful and a sure one X x 16 x P
 -- the first group frame: port 1's first byte, port 0's, port 1's second byte, port 0's. With the window's first frame at place 15 of the ring the next stands at place 0.
 payload :
     (reportBy (group 0) 3 order ≡ record { mark = 3; epoch = 58; x = 2; bytes = 64 })
@@ -99,7 +99,7 @@ payload :
 unfolding frameInto framesInto kindsFrames outputBy placeIn reportBy ringOf startsOf storedAt
 payload = (refl, refl, refl, refl, refl, refl, refl, refl, refl, refl, refl)
 
--- a member's eleven fields, each another number: what the reply is worked out from, and what a report leaves
+-- a member's ten fields: what the reply is worked out from, and what a report leaves
 abbrev member : Member
 member =
     record {

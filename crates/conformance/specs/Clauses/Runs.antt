@@ -11,12 +11,10 @@ use Rattle.c_face.specs.Orders.{kindAnswerOn, kindStateOn, orderAnswerOn, order
 use Rattle.c_face.specs.Senders.{packetAnswerC, packetBytesC, payloadAnswerC, payloadBytesC, startStateC, stepAnswerC, stepStateC}
 use Rattle.circuits.specs.Calls.{Call as C}
 use Rattle.circuits.specs.Commands.{claimOf, commandOf, releaseOf}
-use Rattle.circuits.specs.Commands.{startOf as commandsStartOf}
 use Rattle.circuits.specs.Owners.{withOwner}
 use Rattle.circuits.specs.Parts.{isSlot, isUsed, marked, owns}
 use Rattle.circuits.specs.Parts.{senderOf as partsSenderOf}
 use Rattle.circuits.specs.Readings.{packetAnswer as readingsPacketAnswer}
-use Rattle.circuits.specs.Readings.{packetBytes as readingsPacketBytes}
 use Rattle.circuits.specs.Readings.{payloadAnswer as readingsPayloadAnswer}
 use Rattle.circuits.specs.Readings.{payloadBytes as readingsPayloadBytes}
 use Rattle.packet.specs.Crc.{crcOf, divisor, nibbleBits}

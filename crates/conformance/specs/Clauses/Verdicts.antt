@@ -25,7 +25,7 @@ bad word number = record { whole = true; good = false; word = word; number = num
 abbrev verdict : List Seen → ℕ
 verdict ports = judgeOf 0 ports (length ports)
 
--- 'all is judged on whole ruling packets': what a torn one reads as makes no epoch held, and leaves it doubtful: EOS twice, a number twice, another GID, an active port that lacks a frame
+-- All is judged on whole ruling packets (R-17): what a torn one reads as makes no epoch held, and leaves it doubtful: EOS twice, a number twice, another GID, an active port that lacks a frame
 torn-packets :
     (verdict (saw 3 0 0 ∷ torn 3 1 0 true ∷ []) ≡ 2)
     × (verdict (saw 3 1 0 ∷ torn 3 0 0 true ∷ []) ≡ 2)
@@ -44,7 +44,7 @@ others :
     × (verdict (saw 3 0 2 ∷ saw 15 1 2 ∷ []) ≡ 3)
     × (verdict (saw 2 0 0 ∷ saw 1 1 0 ∷ saw 3 2 0 ∷ []) ≡ 2)
     × (judgeOf 1 (saw 3 0 0 ∷ []) 1 ≡ 3)
-    × (judgeOf 2 (saw 3 0 0 ∷ []) 1 ≡ 3)
+    × (judgeOf 2 (saw 0 0 0 ∷ []) 1 ≡ 3)
     × (judgeOf 2 (saw 0 0 0 ∷ saw 0 1 1 ∷ []) 2 ≡ 3)
     × (judgeOf 2 (saw 0 0 0 ∷ saw 0 2 0 ∷ []) 2 ≡ 1)
     × (judgeOf 2 (saw 0 0 0 ∷ torn 0 1 0 true ∷ []) 2 ≡ 1)

@@ -82,7 +82,7 @@ calls :
 unfolding beginBy begins begunRun carriesLow countsOn dueIn fetchFits fetchRows fits flagged frameAnswer frameFits frameRows frameStore frames freshPort freshPorts gainedRun gatherBy groupAt groupOf groupRow inStep inStepAt outputFor portRows portsIn putGroup putMarks putMember putPackets putRow putStep ready refusalBy rowIn rowsFit rowsIfDue runOn secondRun settledBy settledOf sized sizedFits sizedRows startAsRows startFits startRight startsCount stepAt stepOf stepRow stopBy storeBy storeFor tagByHigh tagByLow tags takenOf takenRows takenStore timesWithin
 calls = (refl, refl, refl, refl, refl, refl, refl)
 
--- what two calls answer and leave
+-- what three calls answer and leave
 outcomes :
     outcomesOf fresh (Frame 1 true 0x30 (nines 2) ∷ Fetch (nines 64) (nines 8) ∷ Fetch (nines 63) (nines 8) ∷ [])
     ≡ record { answer = 10; store = nines 96; out = []; report = [] }

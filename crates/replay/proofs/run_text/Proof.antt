@@ -44,8 +44,7 @@ take-turn-requires c κs = search needs
 
 add-at : tie.Need-add-at Inv-loop μ-loop
 add-at c =
-    let before = c .before .before .before .before .before .before .before .before in
-    let at-take-turn = before in
+    let at-take-turn = c .before .before .before .before .before .before .before .before in
     let at-loop = at-take-turn .before .before .before .before .before .before .before in
     let at-start = at-loop .before .before .before .before .before in
     let t = at-start .args .text .now in
@@ -56,24 +55,21 @@ add-at c =
 
 sub-turns : tie.Need-sub-turns Inv-loop μ-loop
 sub-turns c =
-    let before = c .before .before .before .before .before .before .before .before in
-    let at-take-turn = before in
+    let at-take-turn = c .before .before .before .before .before .before .before .before in
     let at-loop-test = at-take-turn .before .before .before .before .before .before in
     let at-loop = at-loop-test .before in
     let h = ltb-true 0 (at-loop .loop .turns) (and-right (at-loop .loop .goes-on) (ltb 0 (at-loop .loop .turns)) (at-loop-test .loop-test .taken)) in omega arith
 
 loop-less : tie.Need-loop-less Inv-loop μ-loop
 loop-less c =
-    let before = c .before .before .before .before .before .before .before .before in
-    let at-take-turn = before in
+    let at-take-turn = c .before .before .before .before .before .before .before .before in
     let at-loop-test = at-take-turn .before .before .before .before .before .before in
     let at-loop = at-loop-test .before in
     let h = ltb-true 0 (at-loop .loop .turns) (and-right (at-loop .loop .goes-on) (ltb 0 (at-loop .loop .turns)) (at-loop-test .loop-test .taken)) in omega arith
 
 loop-again : tie.Need-loop-again Inv-loop μ-loop
 loop-again c =
-    let before = c .before .before .before .before .before .before .before .before in
-    let at-take-turn = before in
+    let at-take-turn = c .before .before .before .before .before .before .before .before in
     let at-loop = at-take-turn .before .before .before .before .before .before .before in
     let at-start = at-loop .before .before .before .before .before in
     let t = at-start .args .text .now in
