@@ -22,9 +22,8 @@ same-length c = search needs
 returns : tie.Need-returns
 unfolding answerText
 returns c =
-    let before = c .before .before .before .before .before .before .before .before .before .before in
     let put = c .before .before .before .before .before .before .put in
-    let s = before in
+    let s = c .before .before .before .before .before .before .before .before .before .before in
     let b = ended (decimalText (s .args .number)) LINE-END in
     let p = is-put (shorter (ended ANSWER TAB) b 0 (length (s .args .out .now)) (s .pre)) (put .ensures) in
     put-then p (is-put (room p b (s .pre)) (c .before .before .put-number .ensures))

@@ -29,10 +29,9 @@ same-length c = search needs
 returns : tie.Need-returns
 unfolding slotText
 returns c =
-    let before = c .before .before .before .before .before .before .before .before .before .before .before .before .before .before in
     let put-number = c .before .before .before .before .before .before .before .before .before .before .put-number in
     let put-word = c .before .before .before .before .before .before .put-word in
-    let first = before in
+    let first = c .before .before .before .before .before .before .before .before .before .before .before .before .before .before in
     let s = first .before .before .before .before in
     let a = ended SLOT TAB in
     let b = ended (decimalText (s .args .slot)) TAB in

@@ -25,9 +25,8 @@ same-length c = search needs
 returns : tie.Need-returns
 unfolding waitText
 returns c =
-    let before = c .before .before .before .before .before .before .before .before .before in
     let put = c .before .before .before .before .before .before .put in
-    let w = before in
+    let w = c .before .before .before .before .before .before .before .before .before in
     let s = w .before .before in
     let b = ended (decimalText (w .one-if .result)) LINE-END in
     let h = rw (← (w .one-if .ensures)) at (s .pre) in

@@ -54,8 +54,7 @@ packed-requires c κs = omega arith
 
 returns : tie.Need-returns
 returns c =
-    let before = c .before .before .before .before .before .before .before .before .before in
-    let at-shared-slice-known = before in
+    let at-shared-slice-known = c .before .before .before .before .before .before .before .before .before in
     let at-start = at-shared-slice-known .before in
     let a = at-start .args in read-is (a .s .now) (a .at) _ (λ k. omega (arith, at-shared-slice-known .shared-slice-known .given k)) (c .packed .ensures)
 

@@ -48,14 +48,13 @@ frame-by-requires c κs = search needs
 
 returns-2 : tie.Need-returns-2
 returns-2 c =
-    let before = c .before .before .before .before .before .before .before .before .before in
     let piece-end = c .before .before .before .before .before .before .before .piece-end in
     let test1 = c .before .before .before .before .before .before .if1 in
     let read-number = c .before .before .before .before .before .read-number in
     let read-hex = c .before .before .before .before .read-hex in
     let flag-in = c .before .before .before .flag-in in
     let is-hex = c .before .is-hex in
-    let s = before in
+    let s = c .before .before .before .before .before .before .before .before .before in
     four (s .args .ports) (s .args .size) (s .args .text .now) (s .args .end) (s .args .next) (s .pre .3) (s .args .at) (s .args .first) (s .args .second) (s .args .third) (piece-end .result) (s .pre .2) (piece-end .ensures) (test1 .left) (read-number .result) (read-hex .result) (flag-in .result) (is-hex .result) (read-number .ensures) (read-hex .ensures) (flag-in .ensures) (is-hex .ensures ∙ ap (λ (n : ℕ). isHex n (slice (s .args .third + 1) (s .args .end) (s .args .text .now))) (c .before .before .digits-of .ensures)) (c .frame-by .result) (c .frame-by .ensures)
 
 pub frame-line-spec : {M : Type 1} → statement M

@@ -34,11 +34,10 @@ same-length c = search needs
 returns : tie.Need-returns
 unfolding answerText
 returns c =
-    let before = c .before .before .before .before .before .before .before .before .before .before .before .before .before .before .before .before .before .before .before in
     let put = c .before .before .before .before .before .before .before .before .before .before .before .before .before .before .before .put in
     let put-number = c .before .before .before .before .before .before .before .before .before .before .before .put-number in
     let put2 = c .before .before .before .before .before .before .put2 in
-    let s = before in
+    let s = c .before .before .before .before .before .before .before .before .before .before .before .before .before .before .before .before .before .before .before in
     let a = ended (ascii "answer") TAB in
     let b = ended (decimalText (s .args .number)) TAB in
     let d = ended (ascii "line") TAB in

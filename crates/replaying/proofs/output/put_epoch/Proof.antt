@@ -46,14 +46,13 @@ same-length c = search needs
 returns : tie.Need-returns
 unfolding epochText
 returns c =
-    let before = c .before .before .before .before .before .before .before .before .before .before .before .before .before .before .before .before .before .before .before .before .before .before .before .before .before .before .before .before .before .before .before .before in
     let put = c .before .before .before .before .before .before .before .before .before .before .before .before .before .before .before .before .before .before .before .before .before .before .before .before .before .before .before .before .put in
     let put-number = c .before .before .before .before .before .before .before .before .before .before .before .before .before .before .before .before .before .before .before .before .before .before .before .before .put-number in
     let put-mark = c .before .before .before .before .before .before .before .before .before .before .before .before .before .before .before .before .before .before .before .before .put-mark in
     let put2 = c .before .before .before .before .before .before .before .before .before .before .before .before .before .before .before .put2 in
     let put-decimal = c .before .before .before .before .before .before .before .before .before .before .before .put-decimal in
     let put3 = c .before .before .before .before .before .before .put3 in
-    let s = before in
+    let s = c .before .before .before .before .before .before .before .before .before .before .before .before .before .before .before .before .before .before .before .before .before .before .before .before .before .before .before .before .before .before .before .before in
     let a = ended (ascii "epoch") TAB in
     let b = ended (decimalText (s .args .epoch)) TAB in
     let d = ended (markText (s .args .mark)) TAB in

@@ -31,11 +31,10 @@ same-length c = search needs
 returns : tie.Need-returns
 unfolding portText
 returns c =
-    let before = c .before .before .before .before .before .before .before .before .before .before .before .before .before .before .before .before .before .before in
     let put = c .before .before .before .before .before .before .before .before .before .before .before .before .before .before .put in
     let put-number = c .before .before .before .before .before .before .before .before .before .before .put-number in
     let put-state = c .before .before .before .before .before .before .put-state in
-    let s = before in
+    let s = c .before .before .before .before .before .before .before .before .before .before .before .before .before .before .before .before .before .before in
     let a = ended (ascii "port") TAB in
     let b = ended (decimalText (s .args .port)) TAB in
     let d = ended (stateText (s .args .state)) TAB in

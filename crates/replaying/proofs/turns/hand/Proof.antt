@@ -23,8 +23,7 @@ slice-relend-prefix-frame c = search needs
 
 slice-aggregate-frame : tie.Need-slice-aggregate-frame
 slice-aggregate-frame c =
-    let before = c .before .before .before .before .before .before .before .before .before .before in
-    let start = before in
+    let start = c .before .before .before .before .before .before .before .before .before .before in
     let count = c .before .before .rows-for in
     sym (length-take-le (count .result) (start .args .rows .now) (rw (count .ensures) (start .pre .2)))
 
@@ -33,8 +32,7 @@ slice-relend-prefix-frame-2 c = search needs
 
 slice-aggregate-frame-2 : tie.Need-slice-aggregate-frame-2
 slice-aggregate-frame-2 c =
-    let before = c .before .before .before .before .before .before .before .before .before .before .before .before in
-    let start = before in
+    let start = c .before .before .before .before .before .before .before .before .before .before .before .before in
     let bytes = c .before .before .before .store-of in
     sym (length-take-le (bytes .result) (start .args .store .now) (rw (bytes .ensures) (start .pre .3)))
 
@@ -53,11 +51,10 @@ same-length-3 c = search needs
 returns : tie.Need-returns
 unfolding framedRows framedStore
 returns c =
-    let before = c .before .before .before .before .before .before .before .before .before .before .before .before .before .before .before .before in
     let read-payload = c .before .before .before .before .before .before .before .before .before .before .before .read-payload in
     let rows-for = c .before .before .before .before .before .before .before .before .rows-for in
     let store-of = c .before .before .before .before .before .before .before .store-of in
-    let start = before in
+    let start = c .before .before .before .before .before .before .before .before .before .before .before .before .before .before .before .before in
     let count = rows-for .ensures in
     let bytes = store-of .ensures in
     let read = read-payload .ensures in

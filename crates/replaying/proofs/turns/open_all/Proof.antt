@@ -23,8 +23,7 @@ same-length-3 c = search needs
 returns : tie.Need-returns
 returns c =
     let start = c .before .before .before .before .before .before .before .before .before .before .before .before .before .before in
-    let before = c .before .before .before .before .before .before .before .before in
-    let o = before .«open» .ensures in
+    let o = c .before .before .before .before .before .before .before .before .«open» .ensures in
     (o .0, o .1, c .before .before .store-by .ensures ∙ ap (λ (q : Replayed). storeBy (q .replay .phase) (start .args .store .now)) (o .0), o .2)
 
 pub open-all-spec : {M : Type 1} → statement M

@@ -27,10 +27,9 @@ enum-known-found c = search needs
 
 take-frame-requires : tie.Need-take-frame-requires
 take-frame-requires c κs =
-    let before = c .before .before .before .before .before .before .before .before .before .before .before in
     let is-lent = c .before .before .before .before .before .before .before .is-lent in
     let test1 = c .before .before .before .before .before .before .if1 in
-    let s = before in
+    let s = c .before .before .before .before .before .before .before .before .before .before .before in
     let l = lent-says (s .args .replay) (length (s .args .rows .now)) (length (s .args .store .now)) (s .args .out) (length (s .args .said .now)) (sym (is-lent .ensures) ∙ not-false (is-lent .result) (test1 .left)) in
     (l .short, l .rows-there, l .store-there)
 

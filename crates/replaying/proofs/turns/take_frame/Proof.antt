@@ -19,8 +19,7 @@ slice-aggregate-hand c = front-there (c .before .before .before .before .before 
 
 hand-requires : tie.Need-hand-requires
 hand-requires c κs =
-    let before = c .before .before .before .before .before .before .before .before in
-    let start = before in
+    let start = c .before .before .before .before .before .before .before .before in
     let few = c .before .before .before .few-zeros in
     (start .pre .0, front-is (start .args .replay .size) 64 (omega arith) (few .result) (few .ensures), start .pre .1, start .pre .2)
 
@@ -44,8 +43,7 @@ slice-aggregate-hand-2 c = front-there (c .before .before .before .before .befor
 
 hand-requires-2 : tie.Need-hand-requires-2
 hand-requires-2 c κs =
-    let before = c .before .before .before .before .before .before .before .before in
-    let start = before in
+    let start = c .before .before .before .before .before .before .before .before in
     let all = c .before .before .before .zeros in
     (start .pre .0, front-is (start .args .replay .size) 2340 (start .pre .0) (all .result) (all .ensures), start .pre .1, start .pre .2)
 

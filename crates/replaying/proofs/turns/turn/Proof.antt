@@ -47,10 +47,9 @@ same-length-3 c = search needs
 
 returns : tie.Need-returns
 returns c =
-    let before = c .before .before .before .before .before .before .before .before .before .before .before .before .before .before .before in
     let enum-told = c .before .before .before .before .before .before .before .before .before .enum-told in
     let open-all = c .before .before .before .before .before .open-all in
-    let s = before in
+    let s = c .before .before .before .before .before .before .before .before .before .before .before .before .before .before .before in
     let e = enum-told .given .1 in
     let r = s .args .replay in
     let t = s .args .text .now in
@@ -68,10 +67,9 @@ same-length-6 c = search needs
 
 returns-2 : tie.Need-returns-2
 returns-2 c =
-    let before = c .before .before .before .before .before .before .before .before .before .before .before .before .before .before .before in
     let enum-told2 = c .before .before .before .before .before .before .before .before .before .enum-told2 in
     let the-read = c .before .before .before .before .before .read in
-    let s = before in
+    let s = c .before .before .before .before .before .before .before .before .before .before .before .before .before .before .before in
     let e = enum-told2 .given .1 in
     let r = s .args .replay in
     let t = s .args .text .now in
@@ -92,10 +90,9 @@ same-length-10 c = search needs
 
 returns-3 : tie.Need-returns-3
 returns-3 c =
-    let before = c .before .before .before .before .before .before .before .before .before .before .before .before .before .before .before .before in
     let enum-told3 = c .before .before .before .before .before .before .before .before .before .before .enum-told3 in
     let report = c .before .before .before .before .before .report in
-    let s = before in
+    let s = c .before .before .before .before .before .before .before .before .before .before .before .before .before .before .before .before in
     let e = enum-told3 .given .1 in
     let r = s .args .replay in
     let t = s .args .text .now in

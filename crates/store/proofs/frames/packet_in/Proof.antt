@@ -66,9 +66,8 @@ loop-less c = search needs
 
 loop-again : tie.Need-loop-again Inv-loop μ-loop
 loop-again c =
-    let before = c .before .before .before .before .before .before .before .before in
     let loop = c .before .before .before .before .before .loop in
-    let p = before in
+    let p = c .before .before .before .before .before .before .before .before in
     let l = loop in (
       l .inv .0,
       l .inv .1,

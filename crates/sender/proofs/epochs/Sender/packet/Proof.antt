@@ -37,8 +37,7 @@ returns-3 c =
 
 packet-fields-requires : tie.Need-packet-fields-requires
 packet-fields-requires c κs =
-    let before = c .before .before .before .before .before .before .before .before in
-    let at-start = before in
+    let at-start = c .before .before .before .before .before .before .before .before in
     let h : at-start .args .slot < 64 = omega (arith, size-le (at-start .args .self .table .count)) in h
 
 write-requires : tie.Need-write-requires
