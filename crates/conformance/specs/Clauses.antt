@@ -3,6 +3,7 @@ pub mod Calls
 pub mod Cards
 pub mod Counting
 pub mod Holding
+pub mod Passing
 pub mod Paths
 pub mod Receivers
 pub mod Recording
