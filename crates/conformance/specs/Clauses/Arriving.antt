@@ -1,4 +1,4 @@
--- What one frame of a port does (01, 'Step', 'Beginning', 'Window'), each field with a number of its own. W is 40, and the oldest epoch is 57, whose first tag is 16 x 57 - 8, which is 904.
+-- What one frame of a port does (01, 'Step', 'Beginning', 'Window'), each field with a number of its own. W is 48, three epochs, and the oldest epoch is 57, whose first tag is 16 x 57 - 8, which is 904.
 use mathlib.Core.Path.{_≡_, refl}
 use mathlib.Core.Bool.{Bool, true, false}
 use mathlib.Core.List.{[], _∷_}
@@ -19,7 +19,7 @@ group begun gathered =
       kind = 0;
       count = 3;
       payload = 9;
-      window = 40;
+      window = 48;
       begun = begun;
       gathered = gathered;
       oldest = 57;
@@ -92,8 +92,8 @@ joins = (refl, refl, refl)
 
 -- 'in the window when its tag is 0 to W-1 after the first', 11 leaves the state as given; the last frame of the epoch that is gathered is followed by the gathering
 stores :
-    (takenOf begun (step 0 1 33 943 6 7 8 2 1) false false 0x7F ≡ stored (step 1 0 33 944 6 7 8 0 1) 39 false false)
-    × (takenOf begun (step 0 1 33 944 6 7 8 2 1) false false 0x30 ≡ dropped (step 0 1 33 944 6 7 8 2 1) 11 false false)
+    (takenOf begun (step 0 1 33 951 6 7 8 2 1) false false 0x77 ≡ stored (step 1 0 33 952 6 7 8 0 0) 47 false false)
+    × (takenOf begun (step 0 1 33 952 6 7 8 2 1) false false 0x78 ≡ dropped (step 0 1 33 952 6 7 8 2 1) 11 false false)
     × (takenOf begun (step 0 1 33 903 6 7 8 2 1) false false 0x77 ≡ dropped (step 0 1 33 903 6 7 8 2 1) 11 false false)
     × (takenOf (group 1 0) (step 0 1 33 919 6 7 8 2 0) false false 0x77 ≡ stored (step 1 0 33 920 6 7 8 0 0) 15 false true)
     × (takenOf (group 1 0) (step 0 1 33 918 6 7 8 2 0) false false 0x76 ≡ stored (step 1 0 33 919 6 7 8 0 0) 14 false false)

@@ -92,9 +92,10 @@ packet :
     × (readingNumber (readAnswer (replicate 15 0)) ≡ 9)
     × (readingNumber (readAnswer (replicate 17 0)) ≡ 9)
     × (writingNumber (writeAnswer fields (replicate 15 7)) ≡ 9)
+    × (writeBytes fields (replicate 15 7) ≡ replicate 15 7)
     × (writeBytes fields (replicate 17 7) ≡ replicate 17 7)
 unfolding assigned carriedIn crcOf dataOf divisor fieldsOf fitting h4Of highsOf nibbleBits nibblesOf readAnswer readNibbles sealedOf writeAnswer writeBytes
-packet = (refl, refl, refl, refl, refl, refl, refl, refl, refl, refl, refl)
+packet = (refl, refl, refl, refl, refl, refl, refl, refl, refl, refl, refl, refl)
 
 abbrev wrote : ℕ → ℕ → ℕ → ℕ → ℕ → ℕ → ℕ → ℕ
 wrote epoch word gid mst ack sq reserved =
