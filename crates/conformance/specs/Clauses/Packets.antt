@@ -1,7 +1,7 @@
 -- The control packet's numbers (01, 'The control packet'; requests 2026-04 and 2026-08): tags, epochs, counts, words and fields, at their limits.
 use mathlib.Core.Path.{_≡_, refl}
 use mathlib.Core.Bool.{true, false}
-use mathlib.Core.List.{List, [], _∷_}
+use mathlib.Core.List.{List, [], _∷_, _++_}
 use Prim.Native.Nat.{ℕ, _+_}
 use lib.ListN.{getD, replicate}
 use Rattle.ground.specs.Table.{tabulate}
@@ -13,6 +13,7 @@ use Rattle.packet.specs.Kinds.{endsEpoch, epochOf, epochs, epochsIn, firstTag, 
 use Rattle.packet.specs.Layout.{carriedIn, dataOf, fieldsOf, h4Of, highsOf, nibblesOf, sealedOf}
 use Rattle.packet.specs.Reading.{readAnswer, readNibbles, readingNumber}
 use Rattle.packet.specs.Shares.{halvesOf}
+use Rattle.packet.specs.Theorems.Damage.{changed}
 use Rattle.packet.specs.Words.{assigned, nibbleOf, wordOf}
 use Rattle.packet.specs.Writing.{fitting, writeAnswer, writeBytes, writingNumber}
 
@@ -117,3 +118,11 @@ fits :
     × (writeBytes (record { epoch = 256; word = record { 0 = 15 }; gid = 0; mst = 0; «rs_ack» = 0; sq = 0; reserved = 0 }) (replicate 16 7) ≡ replicate 16 7)
 unfolding assigned fitting writeAnswer writeBytes
 fits = (refl, refl, refl, refl, refl, refl, refl, refl, refl, refl, refl, refl)
+
+-- 'anywhere in a packet's 64' (request 2026-04): 8 is one bit, 3 is two, F four, and the low nibbles count for nothing
+damage :
+    (changed (replicate 16 0x09) (0x89 ∷ 0x39 ∷ replicate 14 0x09) ≡ 3)
+    × (changed (replicate 16 0x39) (replicate 15 0x39 ++ (0xC7 ∷ [])) ≡ 4)
+    × (changed (replicate 16 0x39) (replicate 16 0x37) ≡ 0)
+unfolding highsOf nibbleBits
+damage = (refl, refl, refl)

@@ -2,6 +2,7 @@
 use mathlib.Core.Path.{_≡_, refl}
 use mathlib.Core.List.{[], _∷_}
 use Prim.Native.Nat.{ℕ}
+use Rattle.ground.specs.Sizes.{sizeOf}
 use Rattle.packet.specs.Kinds.{frames, tags}
 use Rattle.phases.specs.Sizes.{portsIn, sized, storeFor}
 use Rattle.rows.specs.declared.group.Group.{Group}
@@ -37,3 +38,7 @@ sizes :
     × (storeFor (group 0 3 100 40) 3 ≡ 12120)
 unfolding frames portsIn sized storeFor tags
 sizes = (refl, refl, refl, refl, refl, refl, refl, refl, refl, refl, refl, refl)
+
+-- '1 to 64 slots': a count above, which no call returns, is taken as 64
+members : (sizeOf 63 ≡ 63) × (sizeOf 64 ≡ 64) × (sizeOf 65 ≡ 64) × (sizeOf 255 ≡ 64)
+members = (refl, refl, refl, refl)
