@@ -1,16 +1,21 @@
 -- Clauses of definitions that the examples of 01 and of the requests do not reach, worked out apart: what refuses such a clause made wrong together with its code.
+pub mod Arriving
 pub mod Calls
 pub mod Cards
 pub mod Counting
 pub mod Holding
+pub mod Packets
 pub mod Passing
 pub mod Paths
 pub mod Receivers
 pub mod Recording
 pub mod Replaying
+pub mod Replying
 pub mod Reports
 pub mod Runs
 pub mod Senders
+pub mod Settling
+pub mod Sizes
 pub mod Spoken
 pub mod Verdicts
 use mathlib.Core.Path.{_≡_, refl}

@@ -1,0 +1,113 @@
+-- What one frame of a port does (01, 'Step', 'Beginning', 'Window'), each field with a number of its own. W is 48, three epochs, and the oldest epoch is 57, whose first tag is 16 x 57 - 8, which is 904.
+use mathlib.Core.Path.{_≡_, refl}
+use mathlib.Core.Bool.{Bool, true, false}
+use mathlib.Core.List.{[], _∷_}
+use Prim.Native.Nat.{ℕ}
+use Rattle.ground.specs.Circle.{after}
+use Rattle.packet.specs.Counts.{counts, startsCount, tagByHigh}
+use Rattle.packet.specs.Kinds.{distanceOf, endsEpoch, epochs, epochsIn, firstTag, frames, lead, placeOf, startsEpoch, tagAfter, tags}
+use Rattle.rows.specs.declared.group.Group.{Group}
+use Rattle.rows.specs.declared.step.Step.{Step}
+use Rattle.step.specs.Arrival.{arrives, byStart, byWindow, countsOn, distanceIn, flagged, frameDropped, inStep, joining, keeps, outside, readable, takenOf}
+use Rattle.step.specs.declared.arrival.Taken.{Taken}
+use Rattle.step.specs.Run.{begunRun, breaksAfter, endsPacket, furtherRun, gainedRun, inStepAt, loses, oddAfter, runOn, stayedRun}
+
+abbrev group : ℕ → ℕ → Group
+group begun gathered =
+    record {
+      spare = 61 ∷ 62 ∷ 63 ∷ 64 ∷ [];
+      kind = 0;
+      count = 3;
+      payload = 9;
+      window = 48;
+      begun = begun;
+      gathered = gathered;
+      oldest = 57;
+      origin = 30;
+      «rs_ack» = 1;
+    }
+
+abbrev step : ℕ → ℕ → ℕ → ℕ → ℕ → ℕ → ℕ → ℕ → ℕ → Step
+step had failed count next joined since later breaks odd =
+    record {
+      spare = 51 ∷ 52 ∷ 53 ∷ 54 ∷ 55 ∷ [];
+      had = had;
+      failed = failed;
+      count = count;
+      next = next;
+      joined = joined;
+      since = since;
+      later = later;
+      whole = 9;
+      breaks = breaks;
+      odd = odd;
+    }
+
+-- one that is not stored
+abbrev dropped : Step → ℕ → Bool → Bool → Taken
+dropped q answer counted settles = record { step = q; answer = answer; counted = counted; kept = false; at = 0; joins = false; settles = settles }
+
+abbrev stored : Step → ℕ → Bool → Bool → Taken
+stored q at joins settles = record { step = q; answer = 0; counted = true; kept = true; at = at; joins = joins; settles = settles }
+
+-- nothing follows for other ports of a frame that is passed by
+abbrev begun : Group
+begun = group 1 1
+
+-- 'port recorded unreadable, its step lost'; something can follow before the beginning, and of a port that was in step
+fails :
+    (takenOf begun (step 0 0 33 905 6 7 8 3 1) true false 0x09 ≡ dropped (step 1 1 0 0 0 0 0 0 0) 10 false true)
+    × (takenOf begun (step 0 0 31 905 6 7 8 0 0) true true 0x09 ≡ dropped (step 1 1 0 0 0 0 0 0 0) 10 false false)
+    × (takenOf (group 0 1) (step 0 0 31 905 6 7 8 0 0) true false 0x09 ≡ dropped (step 1 1 0 0 0 0 0 0 0) 10 false true)
+unfolding flagged frames inStep inStepAt takenOf
+fails = (refl, refl, refl)
+
+-- 12: the run goes on, begins anew or ends, a frame's nibble goes with the first two; 'losing step undoes' joining
+counting :
+    (takenOf begun (step 0 1 5 853 6 7 8 0 0) false false 0x75 ≡ dropped (step 1 0 6 854 0 0 0 0 0) 12 true false)
+    × (takenOf begun (step 0 1 5 853 6 7 8 0 0) false false 0x76 ≡ dropped (step 1 0 0 0 0 0 0 0 0) 12 false false)
+    × (takenOf (group 0 1) (step 0 1 5 853 6 7 8 0 0) false false 0x76 ≡ dropped (step 1 0 0 0 0 0 0 0 0) 12 false true)
+    × (takenOf begun (step 0 1 33 853 6 7 8 3 0) false false 0x40 ≡ dropped (step 1 0 1 1025 0 0 0 0 0) 12 true true)
+    × (takenOf begun (step 0 1 33 919 6 7 8 0 1) false true 0x77 ≡ dropped (step 1 0 0 0 0 0 0 0 0) 12 false true)
+unfolding begunRun breaksAfter counts countsOn endsEpoch endsPacket frames furtherRun gainedRun inStep inStepAt lead loses oddAfter placeOf runOn startsCount stayedRun tagAfter tagByHigh takenOf tags
+counting = (refl, refl, refl, refl, refl)
+
+-- 'A frame in step of a port that has not joined is answered 0 and dropped', also an epoch's first beyond the window, and every frame before the beginning; the 32nd right frame is in step
+passing :
+    (takenOf (group 0 1) (step 0 1 33 904 6 7 8 2 1) false false 0x78 ≡ dropped (step 1 0 33 905 6 7 8 0 1) 0 true true)
+    × (takenOf (group 0 1) (step 0 1 31 904 6 7 8 0 0) false false 0x78 ≡ dropped (step 1 0 32 905 6 7 8 0 0) 0 true true)
+    × (takenOf begun (step 0 1 33 905 0 7 8 2 1) false false 0x79 ≡ dropped (step 1 0 33 906 0 7 8 0 1) 0 true false)
+    × (takenOf begun (step 0 1 33 952 0 7 8 2 1) false false 0x78 ≡ dropped (step 1 0 33 953 0 7 8 0 1) 0 true false)
+    × (takenOf begun (step 0 1 33 888 0 7 8 2 1) false false 0x78 ≡ dropped (step 1 0 33 889 0 7 8 0 1) 0 true false)
+unfolding after arrives breaksAfter byStart counts distanceIn distanceOf endsEpoch endsPacket firstTag frameDropped frames furtherRun gainedRun inStepAt lead loses oddAfter placeOf runOn startsEpoch stayedRun tagAfter takenOf tags
+passing = (refl, refl, refl, refl, refl)
+
+-- 'A port joins at its first epoch start in the window': epoch 57's, or one or two epochs later
+joins :
+    (takenOf begun (step 0 1 33 904 0 7 8 2 1) false false 0x78 ≡ stored (step 1 0 33 905 1 7 0 0 1) 0 true false)
+    × (takenOf begun (step 0 1 33 920 0 7 8 2 1) false false 0x78 ≡ stored (step 1 0 33 921 1 7 1 0 1) 16 true false)
+    × (takenOf (group 1 0) (step 0 1 33 936 0 0 8 2 1) false false 0x78 ≡ stored (step 1 0 33 937 1 0 2 0 1) 32 true false)
+unfolding after arrives breaksAfter byStart counts distanceIn distanceOf endsEpoch endsPacket epochs epochsIn firstTag frames inStepAt joining lead loses oddAfter placeOf runOn startsEpoch stayedRun tagAfter takenOf tags
+joins = (refl, refl, refl)
+
+-- 'in the window when its tag is 0 to W-1 after the first', 11 leaves the state as given; the last frame of the epoch that is gathered is followed by the gathering
+stores :
+    (takenOf begun (step 0 1 33 951 6 7 8 2 1) false false 0x77 ≡ stored (step 1 0 33 952 6 7 8 0 0) 47 false false)
+    × (takenOf begun (step 0 1 33 952 6 7 8 2 1) false false 0x78 ≡ dropped (step 0 1 33 952 6 7 8 2 1) 11 false false)
+    × (takenOf begun (step 0 1 33 903 6 7 8 2 1) false false 0x77 ≡ dropped (step 0 1 33 903 6 7 8 2 1) 11 false false)
+    × (takenOf (group 1 0) (step 0 1 33 919 6 7 8 2 0) false false 0x77 ≡ stored (step 1 0 33 920 6 7 8 0 0) 15 false true)
+    × (takenOf (group 1 0) (step 0 1 33 918 6 7 8 2 0) false false 0x76 ≡ stored (step 1 0 33 919 6 7 8 0 0) 14 false false)
+    × (takenOf (group 1 0) (step 0 1 33 935 6 7 8 2 0) false false 0x77 ≡ stored (step 1 0 33 936 6 7 8 0 0) 31 false false)
+    × (takenOf begun (step 0 1 33 919 6 7 8 2 0) false false 0x77 ≡ stored (step 1 0 33 920 6 7 8 0 0) 15 false false)
+unfolding after arrives breaksAfter byWindow counts distanceIn distanceOf endsEpoch endsPacket epochs epochsIn firstTag frames inStepAt keeps lead loses oddAfter outside placeOf runOn stayedRun tagAfter takenOf tags
+stores = (refl, refl, refl, refl, refl, refl, refl)
+
+-- 'It is readable while in step, if joined or in step ever since the beginning', and not before one
+readable-ports :
+    (readable begun (step 1 0 32 853 1 0 0 0 0) ≡ true)
+    × (readable begun (step 1 0 32 853 0 1 0 0 0) ≡ true)
+    × (readable begun (step 1 0 32 853 0 0 2 0 0) ≡ false)
+    × (readable begun (step 1 0 31 853 1 1 0 0 0) ≡ false)
+    × (readable (group 0 1) (step 1 0 32 853 1 1 0 0 0) ≡ false)
+unfolding frames inStep inStepAt readable
+readable-ports = (refl, refl, refl, refl, refl)

@@ -1,0 +1,128 @@
+-- The control packet's numbers (01, 'The control packet'; requests 2026-04 and 2026-08): tags, epochs, counts, words and fields, at their limits.
+use mathlib.Core.Path.{_≡_, refl}
+use mathlib.Core.Bool.{true, false}
+use mathlib.Core.List.{List, [], _∷_, _++_}
+use Prim.Native.Nat.{ℕ, _+_}
+use lib.ListN.{getD, replicate}
+use Rattle.ground.specs.Table.{tabulate}
+use Rattle.packet.specs.Counts.{counts, nibblePlace, tagByHigh, tagByLow}
+use Rattle.packet.specs.Crc.{crcOf, divisor, nibbleBits}
+use Rattle.packet.specs.declared.layout.Fields.{Fields}
+use Rattle.packet.specs.declared.reader.Reading.the-variants.{Packet}
+use Rattle.packet.specs.Kinds.{endsEpoch, epochOf, epochs, epochsIn, firstTag, frames, lead, mstNumbers, tagAfter, tagBefore, tags}
+use Rattle.packet.specs.Layout.{carriedIn, dataOf, fieldsOf, h4Of, highsOf, nibblesOf, sealedOf}
+use Rattle.packet.specs.Reading.{readAnswer, readNibbles, readingNumber}
+use Rattle.packet.specs.Shares.{halvesOf}
+use Rattle.packet.specs.Theorems.Damage.{changed}
+use Rattle.packet.specs.Words.{assigned, nibbleOf, wordOf}
+use Rattle.packet.specs.Writing.{fitting, writeAnswer, writeBytes, writingNumber}
+
+-- 'from MFI1 8 to 15 and on to 0 to 7 of the next multiframe': epoch e has the tags from 16 x e - 8 on, sixteen of them, round 4,096; 'to that plus 7' are eight numbers
+numbering :
+    (epochOf 0 7 ≡ 0)
+    × (epochOf 0 8 ≡ 1)
+    × (epochOf 0 4087 ≡ 255)
+    × (epochOf 0 4088 ≡ 0)
+    × (firstTag 0 0 ≡ 4088)
+    × (firstTag 0 1 ≡ 8)
+    × (firstTag 0 255 ≡ 4072)
+    × (tagAfter 0 4095 ≡ 0)
+    × (tagBefore 0 0 ≡ 4095)
+    × (endsEpoch 0 15 ≡ true)
+    × (endsEpoch 0 16 ≡ false)
+    × (endsEpoch 0 30 ≡ false)
+    × (endsEpoch 0 31 ≡ true)
+    × (epochsIn 0 31 ≡ 1)
+    × (epochsIn 0 32 ≡ 2)
+    × (epochsIn 0 4095 ≡ 255)
+    × (epochsIn 0 4096 ≡ 0)
+    × (mstNumbers 0 ≡ 8)
+unfolding endsEpoch epochOf epochs epochsIn firstTag frames lead mstNumbers tagAfter tagBefore tags
+numbering = (refl, refl, refl, refl, refl, refl, refl, refl, refl, refl, refl, refl, refl, refl, refl, refl, refl, refl)
+
+-- MFI1 8 brings the packet's first nibble, MFI1 7 its last, whatever nibble comes with it.
+-- Tag 848 is the first of multiframe 35 hex: its first frame is 30 and no other, its second 51. A tag counts modulo 4,096; of that before a second frame the high nibble counts alone.
+counted :
+    (nibblePlace 0 0x38 ≡ 0)
+    × (nibblePlace 0 0xA0 ≡ 8)
+    × (nibblePlace 0 0xF7 ≡ 15)
+    × (counts 0 848 0x30 ≡ true)
+    × (counts 0 848 0x20 ≡ false)
+    × (counts 0 848 0x40 ≡ false)
+    × (counts 0 849 0x51 ≡ true)
+    × (counts 0 849 0x41 ≡ false)
+    × (counts 0 849 0x61 ≡ false)
+    × (counts 0 256 0x10 ≡ true)
+    × (counts 0 4944 0x30 ≡ true)
+    × (tagByHigh 0 0xF0 ≡ 3841)
+    × (tagByLow 0 769 0xF1 ≡ 1010)
+    × (tagByLow 0 510 0x51 ≡ 338)
+    × (tagByLow 0 4865 0x51 ≡ 850)
+unfolding counts nibblePlace tagByHigh tagByLow
+counted = (refl, refl, refl, refl, refl, refl, refl, refl, refl, refl, refl, refl, refl, refl, refl)
+
+-- 'FIXED 0, ADD 1, NORM 2, EOS 3, IDLE 5, DNU 15. All others are unassigned.' A word is the low four bits of a byte.
+words :
+    (tabulate 17 (λ n. assigned (record { 0 = n }))
+    ≡ true ∷ true ∷ true ∷ true ∷ false ∷ true ∷ false ∷ false ∷ false ∷ false ∷ false ∷ false ∷ false ∷ false ∷ false ∷ true ∷ false ∷ [])
+    × (wordOf 0x2F ≡ record { 0 = 15 })
+    × (nibbleOf (record { 0 = 0x35 }) ≡ 5)
+unfolding assigned
+words = (refl, refl, refl)
+
+-- DNU under B4 in epoch 93 with GID 1, MST 6A and RS-Ack 1. The 26 other bits, three beside RS-Ack, twelve, three beside GID, eight, are 101 0011 1100 1001 110 0010 1110, which is 29E4E2E.
+-- Seven bytes 6A B3 C9 B4 93 FD 2E with CRC 42.
+abbrev fields : Fields
+fields = record { epoch = 0x93; word = record { 0 = 15 }; gid = 1; mst = 0x6A; «rs_ack» = 1; sq = 0xB4; reserved = 0x29E4E2E }
+
+abbrev nibbles : List ℕ
+nibbles = 6 ∷ 10 ∷ 11 ∷ 3 ∷ 12 ∷ 9 ∷ 11 ∷ 4 ∷ 9 ∷ 3 ∷ 15 ∷ 13 ∷ 2 ∷ 14 ∷ []
+
+abbrev h4 : List ℕ
+h4 = 0x68 ∷ 0xA9 ∷ 0xBA ∷ 0x3B ∷ 0xCC ∷ 0x9D ∷ 0xBE ∷ 0x4F ∷ 0x90 ∷ 0x31 ∷ 0xF2 ∷ 0xD3 ∷ 0x24 ∷ 0xE5 ∷ 0x46 ∷ 0x27 ∷ []
+
+-- nibbles count by their low four bits; 9 for a length in reading and writing
+packet :
+    (dataOf fields ≡ nibbles)
+    × (writeBytes fields (replicate 16 7) ≡ h4)
+    × (readAnswer h4 ≡ Packet fields)
+    × (fieldsOf (tabulate 16 (λ i. 32 + getD nibbles i 0)) ≡ fields)
+    × (carriedIn (replicate 16 0x5A) ≡ 0xAA)
+    × (h4Of (replicate 16 0x5A) ≡ 0xA8 ∷ 0xA9 ∷ 0xAA ∷ 0xAB ∷ 0xAC ∷ 0xAD ∷ 0xAE ∷ 0xAF ∷ 0xA0 ∷ 0xA1 ∷ 0xA2 ∷ 0xA3 ∷ 0xA4 ∷ 0xA5 ∷ 0xA6 ∷ 0xA7 ∷ [])
+    × (halvesOf (0x6A ∷ 0xB3 ∷ []) ≡ 6 ∷ 10 ∷ 11 ∷ 3 ∷ [])
+    × (readingNumber (readAnswer (replicate 15 0)) ≡ 9)
+    × (readingNumber (readAnswer (replicate 17 0)) ≡ 9)
+    × (writingNumber (writeAnswer fields (replicate 15 7)) ≡ 9)
+    × (writeBytes fields (replicate 15 7) ≡ replicate 15 7)
+    × (writeBytes fields (replicate 17 7) ≡ replicate 17 7)
+unfolding assigned carriedIn crcOf dataOf divisor fieldsOf fitting h4Of highsOf nibbleBits nibblesOf readAnswer readNibbles sealedOf writeAnswer writeBytes
+packet = (refl, refl, refl, refl, refl, refl, refl, refl, refl, refl, refl, refl)
+
+abbrev wrote : ℕ → ℕ → ℕ → ℕ → ℕ → ℕ → ℕ → ℕ
+wrote epoch word gid mst ack sq reserved =
+    writingNumber (writeAnswer (record { epoch = epoch; word = record { 0 = word }; gid = gid; mst = mst; «rs_ack» = ack; sq = sq; reserved = reserved }) (replicate 16 7))
+
+-- 8: 'a field given for writing is too large, or its word is FIXED or unassigned'; each field at its largest, and one more
+fits :
+    (wrote 255 15 1 255 1 255 0x3FFFFFF ≡ 0)
+    × (wrote 256 15 1 255 1 255 0x3FFFFFF ≡ 8)
+    × (wrote 255 15 2 255 1 255 0x3FFFFFF ≡ 8)
+    × (wrote 255 15 1 256 1 255 0x3FFFFFF ≡ 8)
+    × (wrote 255 15 1 255 2 255 0x3FFFFFF ≡ 8)
+    × (wrote 255 15 1 255 1 256 0x3FFFFFF ≡ 8)
+    × (wrote 255 15 1 255 1 255 0x4000000 ≡ 8)
+    × (wrote 0 0 0 0 0 0 0 ≡ 8)
+    × (wrote 0 1 0 0 0 0 0 ≡ 0)
+    × (wrote 0 4 0 0 0 0 0 ≡ 8)
+    × (wrote 0 16 0 0 0 0 0 ≡ 8)
+    × (writeBytes (record { epoch = 256; word = record { 0 = 15 }; gid = 0; mst = 0; «rs_ack» = 0; sq = 0; reserved = 0 }) (replicate 16 7) ≡ replicate 16 7)
+unfolding assigned fitting writeAnswer writeBytes
+fits = (refl, refl, refl, refl, refl, refl, refl, refl, refl, refl, refl, refl)
+
+-- 'anywhere in a packet's 64' (request 2026-04): 8 is one bit, 3 is two, F four, and the low nibbles count for nothing
+damage :
+    (changed (replicate 16 0x09) (0x89 ∷ 0x39 ∷ replicate 14 0x09) ≡ 3)
+    × (changed (replicate 16 0x39) (replicate 15 0x39 ++ (0xC7 ∷ [])) ≡ 4)
+    × (changed (replicate 16 0x39) (replicate 16 0x37) ≡ 0)
+unfolding highsOf nibbleBits
+damage = (refl, refl, refl)

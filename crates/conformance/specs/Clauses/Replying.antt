@@ -1,0 +1,58 @@
+-- Member states and the reply (01, 'Member states and reply'; request 2026-03) where two ports want one number, at the limits of numbers, and bit by bit.
+use mathlib.Core.Path.{_≡_, refl}
+use mathlib.Core.Bool.{true, false}
+use mathlib.Core.List.{List, [], _∷_}
+use Prim.Native.Nat.{ℕ}
+use lib.ListN.{length, take}
+use Rattle.conformance.specs.Waits.{seenPort}
+use Rattle.packet.specs.Kinds.{mstFirst}
+use Rattle.reply.specs.Choosing.{claims, grant, granted, holders}
+use Rattle.reply.specs.declared.members.Port.{Port}
+use Rattle.reply.specs.declared.waiting.Standing.{Standing}
+use Rattle.reply.specs.Telling.{mstFrom, mstOf, okHolds}
+use Rattle.reply.specs.Waiting.{chosenOf, heldOf, moreHeld, rounds, someJoin, standing, standingBy, standingsOf}
+
+abbrev left : List Port → List Standing
+left ports = take (length ports) (standingsOf ports (length ports))
+
+-- a readable port that sends a word under a number, with what the last report left of it, and no times
+abbrev sends : ℕ → ℕ → Standing → Port
+sends word number last = seenPort word number true last 0 0
+
+-- ADD under a number, IDLE so far
+abbrev added : ℕ → Port
+added number = sends 1 number (standing 0 255 0)
+
+-- A port that was OK under another number does not choose first, nor does one that was FAIL under the same: then port order decides.
+-- IDLE is no candidate, whatever number it sends; NORM under 255 is not IDLE; 63 is the last number.
+choosing :
+    (left (added 5 ∷ sends 2 5 (standing 2 4 0) ∷ []) ≡ standing 2 5 0 ∷ standing 1 5 0 ∷ [])
+    × (left (added 5 ∷ sends 2 5 (standing 2 6 0) ∷ []) ≡ standing 2 5 0 ∷ standing 1 5 0 ∷ [])
+    × (left (added 5 ∷ sends 2 5 (standing 1 5 0) ∷ []) ≡ standing 2 5 0 ∷ standing 1 5 0 ∷ [])
+    × (left (added 5 ∷ sends 2 5 (standing 2 5 0) ∷ []) ≡ standing 1 5 0 ∷ standing 2 5 0 ∷ [])
+    × (left (sends 5 3 (standing 0 255 0) ∷ added 3 ∷ []) ≡ standing 0 3 0 ∷ standing 2 3 0 ∷ [])
+    × (left (sends 2 255 (standing 0 255 0) ∷ []) ≡ standing 1 255 0 ∷ [])
+    × (left (added 63 ∷ added 64 ∷ []) ≡ standing 2 63 0 ∷ standing 1 64 0 ∷ [])
+unfolding chosenOf claims grant granted heldOf holders moreHeld rounds someJoin standingBy standingsOf
+choosing = (refl, refl, refl, refl, refl, refl, refl)
+
+-- 'During hold-off the port keeps its number against others', here number 63. One that turns IDLE keeps none, nor does one that is FAIL, nor one whose hold-off of 3 is over.
+keeping :
+    (left (seenPort 2 63 false (standing 2 63 0) 3 0 ∷ added 63 ∷ []) ≡ standing 2 63 1 ∷ standing 1 63 0 ∷ [])
+    × (left (seenPort 5 255 true (standing 2 4 0) 3 0 ∷ added 4 ∷ []) ≡ standing 0 255 0 ∷ standing 2 4 0 ∷ [])
+    × (left (seenPort 2 4 false (standing 1 4 0) 3 0 ∷ added 4 ∷ []) ≡ standing 1 4 0 ∷ standing 2 4 0 ∷ [])
+    × (left (seenPort 2 4 false (standing 2 4 3) 3 0 ∷ added 4 ∷ []) ≡ standing 1 4 0 ∷ standing 2 4 0 ∷ [])
+unfolding chosenOf claims grant granted heldOf holders moreHeld rounds someJoin standingBy standingsOf
+keeping = (refl, refl, refl, refl)
+
+abbrev ok : ℕ → Port
+ok number = sends 2 number (standing 2 number 0)
+
+-- 'MST for q is 0 exactly if an OK port holds q', 'first bit the lowest': epoch 0 speaks of numbers 0 to 7, epoch 33 of 8 to 15
+bits :
+    (mstOf 0 (ok 0 ∷ ok 2 ∷ ok 4 ∷ ok 6 ∷ []) 4 0 ≡ 0x55)
+    × (mstOf 0 (ok 1 ∷ ok 3 ∷ ok 5 ∷ ok 7 ∷ []) 4 0 ≡ 0xAA)
+    × (mstOf 0 (ok 8 ∷ ok 10 ∷ ok 12 ∷ ok 14 ∷ sends 2 9 (standing 1 9 0) ∷ ok 15 ∷ []) 5 33 ≡ 0x55)
+    × (mstOf 0 (ok 9 ∷ ok 11 ∷ ok 13 ∷ ok 15 ∷ []) 4 33 ≡ 0xAA)
+unfolding mstFirst mstFrom mstOf okHolds
+bits = (refl, refl, refl, refl)
