@@ -1,4 +1,5 @@
 -- Clauses of definitions that the examples of 01 and of the requests do not reach, worked out apart: what refuses such a clause made wrong together with its code.
+pub mod Arrivals
 pub mod Calls
 pub mod Cards
 pub mod Counting
@@ -9,9 +10,12 @@ pub mod Receivers
 pub mod Recording
 pub mod Replaying
 pub mod Reports
+pub mod Rows
 pub mod Runs
 pub mod Senders
+pub mod Sessions
 pub mod Spoken
+pub mod Texts
 pub mod Verdicts
 use mathlib.Core.Path.{_≡_, refl}
 use mathlib.Core.Bool.{Bool, true, false, cond}
