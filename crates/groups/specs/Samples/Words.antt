@@ -9,7 +9,7 @@ use Rattle.circuits.specs.Calls.Call.{AddSlot, Claim, Lapse, Release, RemoveSlo
 use Rattle.circuits.specs.declared.card.Card.{Card}
 use Rattle.circuits.specs.Shown.{after, by}
 use Rattle.circuits.specs.Views.Asked.{Board, Do, Outgoing, Owned, Packet, Payload, Ranks}
-use Rattle.groups.specs.Cards.{CardHistory}
+use Rattle.groups.specs.Cards.{CardHistory, cardAt}
 use Rattle.groups.specs.Projected.{Starts, begins, isMove, isStart, madeFrom, reaching, tableCall, tableCalls}
 use Rattle.groups.specs.Samples.Calls.{card}
 use Rattle.groups.specs.Samples.Histories.{computed}
@@ -34,7 +34,9 @@ starting :
     × (begins Owned ≡ false)
     × (isStart 1 (by 1 (StartEpoch 1 0 0)) ≡ true)
     × (isStart 0 (by 1 (StartEpoch 1 0 0)) ≡ false)
-starting = (refl, refl, refl, refl, refl, refl, refl, refl, refl, refl, refl, refl, refl, refl, refl, refl, refl, refl)
+    × (isStart 1 (by 0 (StartEpoch 1 0 0)) ≡ false)
+    × (isStart 1 (by 1 Lapse) ≡ false)
+starting = (refl, refl, refl, refl, refl, refl, refl, refl, refl, refl, refl, refl, refl, refl, refl, refl, refl, refl, refl, refl)
 
 -- claims and releases of the group itself move its slots
 moving :
@@ -46,36 +48,43 @@ moving :
     × (isMove 0 (by 0 (Report 0 0 0)) ≡ false)
     × (isMove 0 (by 0 Lapse) ≡ false)
     × (isMove 0 (by 0 (StartEpoch 0 0 0)) ≡ false)
+    × (isMove 1 (by 0 (Claim 1)) ≡ false)
+    × (isMove 0 (record { group = 0; asked = Packet 1 [] }) ≡ false)
+    × (isMove 0 (record { group = 0; asked = Payload 1 1 [] [] }) ≡ false)
+    × (isMove 0 (record { group = 0; asked = Board }) ≡ false)
+    × (isMove 0 (record { group = 0; asked = Outgoing }) ≡ false)
+    × (isMove 0 (record { group = 0; asked = Ranks }) ≡ false)
     × (isMove 0 (record { group = 0; asked = Owned }) ≡ false)
-moving = (refl, refl, refl, refl, refl, refl, refl, refl, refl)
+moving = (refl, refl, refl, refl, refl, refl, refl, refl, refl, refl, refl, refl, refl, refl, refl)
 
--- two slots, of which group 0 has slot 1
+-- four slots, of which group 0 has slot 3
 abbrev claimed : Card
-claimed = after 2 (by 0 (Claim 1) ∷ [])
+claimed = after 4 (by 0 (Claim 3) ∷ [])
 
 -- what a command is answered 1 or 14 for reaches no table, nor does another group's; a report and a lapse do in any case, with their numbers
 reaching-tables :
-    (tableCall claimed 0 (Do (AddSlot 1)) ≡ T.AddSlot 1 ∷ [])
-    × (tableCall claimed 0 (Do (RemoveSlot 1)) ≡ T.RemoveSlot 1 ∷ [])
+    (tableCall claimed 0 (Do (AddSlot 3)) ≡ T.AddSlot 3 ∷ [])
+    × (tableCall claimed 0 (Do (RemoveSlot 3)) ≡ T.RemoveSlot 3 ∷ [])
     × (tableCall claimed 0 (Do (AddSlot 0)) ≡ [])
-    × (tableCall claimed 0 (Do (RemoveSlot 2)) ≡ [])
-    × (tableCall claimed 1 (Do (AddSlot 1)) ≡ [])
+    × (tableCall claimed 0 (Do (RemoveSlot 4)) ≡ [])
+    × (tableCall claimed 1 (Do (AddSlot 3)) ≡ [])
     × (tableCall claimed 0 (Do (Report 3 4 1)) ≡ T.Report 3 4 1 ∷ [])
     × (tableCall claimed 0 (Do Lapse) ≡ T.Lapse ∷ [])
-    × (tableCall claimed 0 (Do (Claim 1)) ≡ [])
-    × (tableCall claimed 0 (Do (Release 1)) ≡ [])
+    × (tableCall claimed 0 (Do (Claim 3)) ≡ [])
+    × (tableCall claimed 0 (Do (Release 3)) ≡ [])
     × (tableCall claimed 0 (Do (StartEpoch 0 0 0)) ≡ [])
     × (tableCall claimed 0 Board ≡ [])
     × (reaching 0 claimed (by 1 Lapse) ≡ [])
+    × (reaching 1 claimed (by 0 Lapse) ≡ [])
     × (reaching 1 claimed (by 1 Lapse) ≡ T.Lapse ∷ [])
     × (tableCalls 0 (after 2 []) (by 0 (AddSlot 1) ∷ by 0 (Claim 1) ∷ by 0 (AddSlot 1) ∷ by 1 Lapse ∷ by 0 (Report 5 6 0) ∷ []) ≡ T.AddSlot 1 ∷ T.Report 5 6 0 ∷ [])
     × (madeFrom card 3 5 ≡ by 0 (Claim 2) ∷ by 1 (Claim 2) ∷ [])
 unfolding computed
-reaching-tables = (refl, refl, refl, refl, refl, refl, refl, refl, refl, refl, refl, refl, refl, refl, refl)
+reaching-tables = (refl, refl, refl, refl, refl, refl, refl, refl, refl, refl, refl, refl, refl, refl, refl, refl)
 
 -- A card on which every call starts an epoch of group 0: what is lent to the starts may be any bits and any byte.
 abbrev busy : CardHistory
-busy = record { kind = 0; slots = 1; first = λ g. 255; made = λ n. by 0 (StartEpoch (n % 2) (n % 256) ((n + 1) % 2)) }
+busy = record { kind = 0; slots = 1; first = λ g. g + 7; made = λ n. by 0 (StartEpoch (n % 2) (n % 256) ((n + 1) % 2)) }
 
 any-numbers : Starts busy 0
 any-numbers =
@@ -92,3 +101,8 @@ any-numbers =
       none-before = λ n h. absurd (omega arith);
       none-between = λ i n h l. absurd (omega arith);
     }
+
+-- each group begins with its own first epoch, and the first call has started one of group 0
+firsts : (cardAt busy 0 .first .epoch ≡ 7) × (cardAt busy 0 .second .epoch ≡ 8) × (cardAt busy 1 .first .begun ≡ true) × (cardAt busy 1 .second .begun ≡ false)
+unfolding computed
+firsts = (refl, refl, refl, refl)

@@ -100,6 +100,14 @@ streams-differ : SameIn 6 link other → ⊥
 unfolding outcome
 streams-differ h = let e : _≡_ {A = ℕ} 192 193 = ap (λ (l : List ℕ). getD l 0 0) (h 0 (omega arith)) in absurd (omega arith)
 
+-- So do streams that differ in the last group frame of the epoch alone.
+abbrev lastClient : Client
+lastClient x = tabulate (xAt history (epochAt 0 x) * 1) (λ j. (x * 2 + j + cond (eqb x 111) 1 0) % 256)
+
+last-differs : SameIn 6 link (linkBy lastClient 4 (λ t. eqb (t % 2) 0)) → ⊥
+unfolding outcome
+last-differs h = let e : _≡_ {A = ℕ} 222 223 = ap (λ (l : List ℕ). getD l 0 0) (h 15 (omega arith)) in absurd (omega arith)
+
 abbrev other-then : Time other
 other-then = record { t = 180; done = []; rest = other .order 180; is-order = refl }
 

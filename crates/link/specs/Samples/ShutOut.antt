@@ -99,6 +99,12 @@ answers-early : saysThrough (roadOf link) 44 ++ says (roadOf link) 44 [] ≡ rep
 unfolding roadOf startFrom firstTag frames lead tags
 answers-early = refl
 
+-- the last port's first frame comes in frame time 21
+all-soon : (p : ℕ) → p < 2 → link .delay p + link .first p ≤ 21
+all-soon zero h = omega arith
+all-soon (suc zero) h = omega arith
+all-soon (suc (suc p)) h = absurd (omega arith)
+
 -- a property of each of some reports
 abbrev pub Each : (Told → Type 0) → List Told → Type 0
 Each P [] = Unit {0}
@@ -155,6 +161,11 @@ module _ (run : Run) (d : Promised link run) where
   pub has-begun : hasBegun (run 180 []) ≡ 1
   unfolding frames
   has-begun = d .begins-within 133 all-first
+
+  -- '48 frames of the last port's first'
+  pub begins-soon : hasBegun (run 68 []) ≡ 1
+  unfolding frames
+  begins-soon = d .begins-within 21 all-soon
 
   -- Its reports are then these six, whatever receiver it is.
   pub told-then : run 180 [] .told ≡ reports
