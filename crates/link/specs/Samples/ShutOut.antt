@@ -1,5 +1,5 @@
--- 'Shut out by name' (01, 'What the promises have to say'): on the sample, no receiver that never begins, holds all epochs or gives constant bytes has what demand 3 promises. Nor has one that begins before or after its moment, or that
--- answers every frame with 12.
+-- 'Shut out by name' (01, 'What the promises have to say'): on the sample, no receiver that never begins, holds all epochs or gives constant bytes has what demand 3 promises. Nor has one that begins before or after its moment, reports
+-- before it, or answers every frame with 12.
 use mathlib.Core.Path.{_≡_, refl, sym, ap, _∙_, subst}
 use mathlib.Core.Logic.{⊎-elim, _≢_, inl, inr}
 use mathlib.Core.List.{List, [], _∷_, _++_}
@@ -87,7 +87,10 @@ all-first zero h = omega arith
 all-first (suc zero) h = omega arith
 all-first (suc (suc p)) h = absurd (omega arith)
 
--- before frame time 56, and before frame time 44
+-- before frame times 41, 56 and 44
+abbrev early : Time link
+early = record { t = 41; done = []; rest = link .order 41; is-order = refl }
+
 abbrev ready-at : Time link
 ready-at = record { t = 56; done = []; rest = link .order 56; is-order = refl }
 
@@ -204,6 +207,24 @@ module _ (run : Run) (d : Promised link run) where
       let b : _≡_ {A = ℕ} 162 c = ap (λ (l : List ℕ). getD l 1 0) (e .0) in
       absurd (omega arith)
 
+  -- one that reports before it begins
+  pub reports-early : (run 41 [] .told ≡ [] → ⊥) → ⊥
+  unfolding frames
+  reports-early h = h (go (d .always early))
+    where
+      go : Stands link run early → run 41 [] .told ≡ []
+      go (none-yet e un t) = t
+      go (reporting e r) = rw none at (r .are)
+        where
+          fore : r .F ≡ 55
+          fore = began (r .F) (r .beginning)
+
+          none : r .many ≡ 0
+          none =
+              ⊎-elim (λ (l : r .many ≤ 0). omega arith)
+              (λ (l : 0 < r .many). let w = r .arrived 0 l 0 (omega arith) in absurd (omega (arith, fore, next-0 41 (link .order 41))))
+              (le-or-lt (r .many) 0)
+
   -- one that begins before all ports are ready
   pub begins-early : ((at : Time link) → hasBegun (run (at .t) (at .done)) ≡ 1) → ⊥
   unfolding roadOf
@@ -287,7 +308,7 @@ unready-then u earlier rest e na y =
     ⊎-elim (λ (h : u < 41). absurd (omega arith)) (λ (h : (u ≡ 41) × (length earlier ≤ 0)). (let same = h .0 in absurd (omega arith))) na
 
 not-begun : hasBegun (ownRun link (started link) 41 []) ≡ 0
-not-begun = spared-until link (ours link met) (started link) starts (record { t = 41; done = []; rest = link .order 41; is-order = refl }) .not-begun unready-then
+not-begun = spared-until link (ours link met) (started link) starts early .not-begun unready-then
 
 spared-no-longer : hasBegun (ownRun link (started link) 56 []) ≡ 0 → ⊥
 unfolding roadOf
