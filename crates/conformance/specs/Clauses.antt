@@ -3,6 +3,7 @@ pub mod Arriving
 pub mod Calls
 pub mod Cards
 pub mod Counting
+pub mod Frames
 pub mod Holding
 pub mod Packets
 pub mod Passing
@@ -12,11 +13,14 @@ pub mod Recording
 pub mod Replaying
 pub mod Replying
 pub mod Reports
+pub mod Rows
 pub mod Runs
 pub mod Senders
+pub mod Sessions
 pub mod Settling
 pub mod Sizes
 pub mod Spoken
+pub mod Texts
 pub mod Verdicts
 use mathlib.Core.Path.{_≡_, refl}
 use mathlib.Core.Bool.{Bool, true, false, cond}

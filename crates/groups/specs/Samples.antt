@@ -2,6 +2,7 @@
 pub mod Calls
 pub mod Histories
 pub mod Links
+mod Words
 mod Met
 mod Gives
 mod Reports

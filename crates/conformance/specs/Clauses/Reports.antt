@@ -3,10 +3,12 @@ use mathlib.Core.Path.{_≡_, refl}
 use mathlib.Core.Bool.{Bool, true, false}
 use mathlib.Core.List.{List, [], _∷_, _++_}
 use Prim.Native.Nat.{ℕ}
-use lib.ListN.{replicate, take}
+use lib.ListN.{length, replicate, take}
 use Rattle.ground.specs.Table.{tabulate}
 use Rattle.judge.specs.declared.order.Order.{Order}
 use Rattle.judge.specs.declared.seen.Seen.{Seen}
+use Rattle.judge.specs.Order.{activeIn, orderOf, portOf, rankOf}
+use Rattle.judge.specs.Verdict.{doubtfulBy, eosAlone, eosWrong, exact, gidDiffers, heldBy, highest, judgeOf, lcasVerdict, missing, repeats, takes}
 use Rattle.packet.specs.Counts.{nibbleIn, startsCount}
 use Rattle.packet.specs.Crc.{crcOf, divisor, nibbleBits}
 use Rattle.packet.specs.Kinds.{epochOf, firstTag, idleNumber, lead, placeOf, tagBefore, tags}
@@ -15,15 +17,18 @@ use Rattle.packet.specs.Layout.{carriedIn, fieldsOf}
 use Rattle.packet.specs.Reading.{readNibbles}
 use Rattle.packet.specs.Ruling.{rulingOf}
 use Rattle.packet.specs.Words.{assigned}
+use Rattle.phases.specs.Due.{brought, owesNothing}
 use Rattle.phases.specs.Sizes.{portsIn, sized, storeFor}
 use Rattle.receiver.specs.Fetch.{dueIn, fetchAnswer, fetchOut, fetchRecord, fetchRows, fits, outIfDue, recordOf, reportIfDue, rowsIfDue}
 use Rattle.receiver.specs.Frame.{frameAnswer, frameRows, frameStore, gatheredBy, refusalBy}
 use Rattle.receiver.specs.Lengths.{fetchFits, frameFits, outputFor, rowsFit}
-use Rattle.receiver.specs.Report.{frameInto, framesInto, outputBy, replyPort, reportBy, rulingEpoch, seenOf, startsOf, withState}
+use Rattle.receiver.specs.Report.{frameInto, framesInto, outputBy, outputOf, replyPort, replyPorts, reportBy, reportOf, rulingEpoch, seenAll, seenOf, startsOf, statesPut, statesWorkedOut, withState}
 use Rattle.receiver.specs.Starting.{freshPort, freshPorts, sizedFits, sizedRows, startAsRows, startFits, startRight, startRows, timesWithin}
-use Rattle.reply.specs.Waiting.{standing}
+use Rattle.reply.specs.Telling.{ackOf, turns}
+use Rattle.reply.specs.Waiting.{standing, standingsOf}
 use Rattle.rows.specs.declared.group.Group.{Group}
 use Rattle.rows.specs.declared.member.Member.{Member}
+use Rattle.rows.specs.declared.step.Step.{Step}
 use Rattle.rows.specs.Group.{groupAt, groupOf, groupRow, putGroup}
 use Rattle.rows.specs.Member.{memberAt, memberOf, memberRow, putMember}
 use Rattle.rows.specs.Packets.{marksAt, packetsAt, putMarks, putPackets}
@@ -176,3 +181,73 @@ frames :
     × (gatheredBy 0 (nines 16 ∷ zeros 16 ∷ []) false 21 0xA5 ≡ nines 16 ∷ zeros 16 ∷ [])
 unfolding begunRun countsOn flagged frameAnswer frameFits frameRows frameStore freshPort freshPorts gainedRun gatheredBy groupAt groupOf groupRow idleNumber inStepAt kindsFrames lead memberRow nibbleIn placeOf portsIn putGroup putMarks putMember putPackets putRow putStep refusalBy rowIn rowsFit runOn sized sizedFits sizedRows startAsRows startFits startRight startsCount stepAt stepOf stepRow storeFor tags takenOf timesWithin
 frames = (refl, refl, refl, refl, refl, refl, refl, refl, refl, refl, refl, refl, refl, refl, refl)
+
+-- A group of two ports, P 2, W 16, in which receiving has begun and an epoch was gathered, or not. Each field has a number of its own.
+abbrev phase : ℕ → ℕ → Group
+phase begun gathered =
+    record {
+      spare = 61 ∷ 62 ∷ 63 ∷ 64 ∷ [];
+      kind = 0;
+      count = 2;
+      payload = 2;
+      window = 16;
+      begun = begun;
+      gathered = gathered;
+      oldest = 58;
+      origin = 5;
+      «rs_ack» = 1;
+    }
+
+-- a count of frames; its ruling packet came whole, and it was in step ever since the beginning
+abbrev step : ℕ → Step
+step count =
+    record {
+      spare = zeros 5;
+      had = 1;
+      failed = 0;
+      count = count;
+      next = 0;
+      joined = 0;
+      since = 1;
+      later = 0;
+      whole = 1;
+      breaks = 0;
+      odd = 0;
+    }
+
+-- port 1, not in step any more, was ruled by NORM 3 and has brought the frames of epoch 58; port 0 has had no packet
+abbrev ruling : List (List ℕ)
+ruling = putMarks (putPackets (putStep rows 1 (step 0)) 1 (zeros 16 ∷ norm ∷ [])) 1 (1 ∷ zeros 15)
+
+-- 'It is due when every readable port has brought its sixteen frames', of a group that has begun and has gathered. Here it is doubtful, since port 0 has no whole packet: port 1's two bytes of each frame, from place 5 of its ring on.
+due :
+    (dueIn (phase 1 1) 2 ruling ≡ true)
+    × (dueIn (phase 0 1) 2 ruling ≡ false)
+    × (dueIn (phase 1 0) 2 ruling ≡ false)
+    × (dueIn (phase 1 1) 0 ruling ≡ false)
+    × (dueIn (phase 1 1) 2 (putStep ruling 1 (step 32)) ≡ true)
+    × (dueIn (phase 1 1) 2 (putStep ruling 0 (step 32)) ≡ false)
+    × (reportIfDue (phase 1 1) 2 ruling ≡ record { mark = 2; epoch = 58; x = 1; bytes = 32 })
+    × (reportIfDue (phase 1 0) 2 ruling ≡ record { mark = 0; epoch = 0; x = 0; bytes = 0 })
+    × (take 5 (outIfDue (phase 1 1) 2 ruling store (nines 64)) ≡ 63 ∷ 64 ∷ 66 ∷ 67 ∷ 69 ∷ [])
+    × (outIfDue (phase 1 0) 2 ruling store (nines 64) ≡ nines 64)
+    × (rowsIfDue (phase 1 0) 2 ruling store ≡ ruling)
+unfolding activeIn assigned brought carriedIn crcOf divisor doubtfulBy dueIn eosAlone eosWrong epochOf exact fieldsOf firstMark firstTag frameInto framesInto freshPort freshPorts gidDiffers heldBy highest inStep inStepAt judgeOf kindsFrames lcasVerdict lead marksAt missing nibbleBits orderOf outIfDue outputBy outputOf owesNothing ownNumber ownRuling packetsAt placeIn portOf putGroup putMarks putMember putPackets putRow putStep rankOf readNibbles readable repeats reportBy reportIfDue reportOf ringOf rowIn rowsIfDue rulingEpoch rulingIn rulingOf seenAll seenOf sized sizedFits sizedRows startAsRows startFits startRight startsOf stepAt stepOf stepRow tagBefore tags takes timesWithin
+due = (refl, refl, refl, refl, refl, refl, refl, refl, refl, refl, refl)
+
+-- Working the states out leaves the group but for RS-Ack, which stays where no port has changed. What is kept by port has 64 places.
+kept :
+    (groupAt (statesWorkedOut (phase 1 0) 0 (zeros 16 ∷ [])) ≡ phase 1 0)
+    × (groupAt (statesWorkedOut (phase 0 1) 0 (zeros 16 ∷ [])) ≡ phase 0 1)
+    × (length (seenAll (phase 1 1) [] 0) ≡ 64)
+    × (startsOf (phase 1 1) [] 0 0 ≡ zeros 64)
+    × (length (replyPorts (phase 1 1) [] 0) ≡ 64)
+unfolding ackOf groupAt groupOf groupRow putGroup putRow replyPorts rowIn seenAll standingsOf startsOf statesPut statesWorkedOut turns
+kept = (refl, refl, refl, refl, refl)
+
+-- the byte count of a record, highest byte first, up to 32 bits
+records :
+    (recordOf (record { mark = 3; epoch = 7; x = 9; bytes = 0xFEFFFFFF }) ≡ 3 ∷ 7 ∷ 9 ∷ 0 ∷ 0xFE ∷ 0xFF ∷ 0xFF ∷ 0xFF ∷ [])
+    × (recordOf (record { mark = 3; epoch = 7; x = 9; bytes = 0xFF000000 }) ≡ 3 ∷ 7 ∷ 9 ∷ 0 ∷ 0xFF ∷ 0 ∷ 0 ∷ 0 ∷ [])
+unfolding recordOf
+records = (refl, refl)

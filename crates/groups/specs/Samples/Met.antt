@@ -49,7 +49,7 @@ lines slots e before gid mst ack client pairing first whole =
 lines₀ : Lines link₀
 lines₀ = lines 4 0 _ _ _ _ client₀ pairing₀ first₀ (λ x. length-tabulate (xAt history₀ (epochAt 0 x) * 1) (λ j. (x * 2 + j) % 256))
 
-lines₁ : Lines link₁
+pub lines₁ : Lines link₁
 lines₁ = lines 4 250 _ _ _ _ client₁ pairing₁ first₁ (λ x. length-tabulate (xAt history₁ (epochAt 0 x) * 1) (λ j. (x * 3 + j + 100) % 256))
 
 -- Group 0 owns slots 0 and 1 after 34 calls, and group 1 slots 2 and 3 after one more.
@@ -75,7 +75,7 @@ owned₀ zero h = then₀ 1 (omega arith)
 owned₀ (suc zero) h = then₀ 0 (omega arith)
 owned₀ (suc (suc p)) h = absurd (omega arith)
 
-owned₁ : (p : ℕ) → p < 2 → owns (cardAt card 35) 1 (pairing₁ p) ≡ true
+pub owned₁ : (p : ℕ) → p < 2 → owns (cardAt card 35) 1 (pairing₁ p) ≡ true
 owned₁ zero h = then₁ 2 (omega arith)
 owned₁ (suc zero) h = then₁ 3 (omega arith)
 owned₁ (suc (suc p)) h = absurd (omega arith)
@@ -87,7 +87,7 @@ reaches₀ (suc (suc zero)) h e = absurd (true≢false (sym e ∙ then₀ 2 (ome
 reaches₀ (suc (suc (suc zero))) h e = absurd (true≢false (sym e ∙ then₀ 3 (omega arith)))
 reaches₀ (suc (suc (suc (suc slot)))) h e = absurd (omega arith)
 
-reaches₁ : (slot : ℕ) → slot < 4 → owns (cardAt card 35) 1 slot ≡ true → Reached 2 pairing₁ slot
+pub reaches₁ : (slot : ℕ) → slot < 4 → owns (cardAt card 35) 1 slot ≡ true → Reached 2 pairing₁ slot
 reaches₁ zero h e = absurd (true≢false (sym e ∙ then₁ 0 (omega arith)))
 reaches₁ (suc zero) h e = absurd (true≢false (sym e ∙ then₁ 1 (omega arith)))
 reaches₁ (suc (suc zero)) h e = record { port = 0; below = omega arith; is = refl }
@@ -100,7 +100,7 @@ later₀ : (i : ℕ) → 57 < epochStart 0 i → 34 ≤ starts₀ .at i
 unfolding frames starts₀
 later₀ i h = omega arith
 
-later₁ : (i : ℕ) → 58 < epochStart 0 i → 35 ≤ starts₁ .at i
+pub later₁ : (i : ℕ) → 58 < epochStart 0 i → 35 ≤ starts₁ .at i
 unfolding frames starts₁
 later₁ i h = omega arith
 
@@ -108,7 +108,7 @@ from₀ : (b : Bool) → 57 ≤ cond b 57 60
 from₀ true = omega arith
 from₀ false = omega arith
 
-from₁ : (b : Bool) → 58 ≤ cond b 66 58
+pub from₁ : (b : Bool) → 58 ≤ cond b 66 58
 from₁ true = omega arith
 from₁ false = omega arith
 
@@ -136,7 +136,7 @@ met₀ =
       each = reaches₀;
     }
 
-met₁ : AssumedEach card 1 link₁
+unfoldable pub met₁ : AssumedEach card 1 link₁
 unfolding epochs
 met₁ =
     record {

@@ -3,7 +3,7 @@ use mathlib.Core.Path.{_≡_, refl, sym, ap, subst, _∙_}
 use mathlib.Core.Logic.{inl}
 use mathlib.Core.Bool.{cond}
 use mathlib.Core.List.{List, [], _∷_}
-use Prim.Native.Nat.{ℕ, suc, _+_, _*_, _/_, _%_}
+use Prim.Native.Nat.{ℕ, suc, _+_, _*_, _/_, _%_, _<_}
 use native.Mathlib.Omega.{arith}
 use lib.Dec.{eqb}
 use lib.ListN.{getD, length, replicate}
@@ -13,17 +13,17 @@ use Rattle.packet.specs.Kinds.{frames}
 use Rattle.link.specs.Assumed.{Assumed}
 use Rattle.link.specs.Demand3.{Reported, Stands, Started, Time, ToldApart, noReport, ownRun, reportAt, standing}
 use Rattle.link.specs.Demand3.Stands.{none-yet, reporting}
-use Rattle.link.specs.History.{xAt}
+use Rattle.link.specs.History.{History, sendingOf, xAt}
 use Rattle.link.specs.Link.{Alike, Link, SameIn, epochFrames, expected}
 use Rattle.link.specs.Sending.{Client, epochAt}
 use Rattle.link.specs.Proofs.Histories.Ours.{ours}
 use Rattle.link.specs.Theorems.{demand3}
-use Rattle.link.specs.Told.{Told}
+use Rattle.link.specs.Told.{SaySame, Told}
 use Rattle.link.specs.Samples.Computing.{no-times, outcome, started}
-use Rattle.link.specs.Samples.Members.{history, link, linkBy}
+use Rattle.link.specs.Samples.Members.{history, link, linkBy, unranked}
 use Rattle.link.specs.Samples.Met.{met, met-by, spread-4}
 use Rattle.link.specs.Samples.Reports.{reports, reportsWith, sure}
-use Rattle.link.specs.Samples.ShutOut.{began, by-theorem, has-begun, itself, then}
+use Rattle.link.specs.Samples.ShutOut.{began, by-theorem, has-begun, itself, starts, then}
 use Rattle.link.specs.Samples.Tracing.{course, drainedBy, outcome-by, traced, turnBy, turnsBy}
 
 -- in the epoch at index 6, numbered 255, each byte is one more
@@ -38,6 +38,30 @@ other = linkBy otherClient 4 (λ t. eqb (t % 2) 0)
 
 alike : Alike link other
 alike = record { kind = refl; epoch = refl; payload = refl; window = refl; delay = λ p b. refl; first = λ p b. refl; order = λ t. refl }
+
+-- Nothing is asked of what is sent: a link of another history, of three slots in another pairing, whose packets came otherwise, and with other outputs and records lent, is alike too.
+abbrev quiet : History
+quiet = record { kind = 0; slots = 3; first = 249; before = λ i. []; gid = λ i. 0; mst = λ i. 0; ack = λ i. 1 }
+
+abbrev far : Link
+far =
+    record {
+      sending = sendingOf quiet 1 (λ x. []) unranked;
+      ports = 2;
+      payload = 1;
+      window = 20;
+      client = λ x. [];
+      pairing = λ p. p + 1;
+      came = λ i p. [];
+      delay = link .delay;
+      first = link .first;
+      order = link .order;
+      output = λ j. [];
+      lent = λ a j. [];
+    }
+
+alike-far : Alike link far
+alike-far = record { kind = refl; epoch = refl; payload = refl; window = refl; delay = λ p b. refl; first = λ p b. refl; order = λ t. refl }
 
 other-met : Assumed other
 other-met = met-by otherClient (λ x. length-tabulate (xAt history (epochAt 0 x) * 1) (otherBytes x)) 4 (λ t. eqb (t % 2) 0) spread-4
@@ -76,21 +100,16 @@ streams-differ : SameIn 6 link other → ⊥
 unfolding outcome
 streams-differ h = let e : _≡_ {A = ℕ} 192 193 = ap (λ (l : List ℕ). getD l 0 0) (h 0 (omega arith)) in absurd (omega arith)
 
+-- So do streams that differ in the last group frame of the epoch alone.
+abbrev lastClient : Client
+lastClient x = tabulate (xAt history (epochAt 0 x) * 1) (λ j. (x * 2 + j + cond (eqb x 111) 1 0) % 256)
+
+last-differs : SameIn 6 link (linkBy lastClient 4 (λ t. eqb (t % 2) 0)) → ⊥
+unfolding outcome
+last-differs h = let e : _≡_ {A = ℕ} 222 223 = ap (λ (l : List ℕ). getD l 0 0) (h 15 (omega arith)) in absurd (omega arith)
+
 abbrev other-then : Time other
 other-then = record { t = 180; done = []; rest = other .order 180; is-order = refl }
-
-starts : Started link (started link)
-starts = record {
-  hold = [];
-  restore = [];
-  hold-times = no-times 2;
-  restore-times = no-times 2;
-  rows = replicate 11 (replicate 16 0xFF);
-  store = replicate 80 0xFF;
-  rows-long = refl;
-  store-long = refl;
-  is = refl;
-}
 
 other-starts : Started other (started other)
 other-starts = record {
@@ -110,3 +129,24 @@ unfolding frames
 named =
     demand3 link met .never-alike other (ours other other-met) alike .never (started link) (started other) starts other-starts then other-then refl refl now 1 (omega (arith, six)) (inl sure-there)
     (λ h. streams-differ (subst (λ (F : ℕ). SameIn (suc (suc (F / 16) + 1)) link other) (began (ownRun link (started link)) itself (now .F) (now .beginning)) h))
+
+-- both have made that report
+both-made : (1 < length (ownRun link (started link) 180 [] .told)) × (1 < length (ownRun other (started other) 180 [] .told))
+both-made = (named .here, named .there)
+
+-- Two reports say the same where their marks and their bytes are equal, whichever epochs they are of and whatever stands behind the bytes.
+
+abbrev told : ℕ → ℕ → List ℕ → List ℕ → Told
+told e mark bytes rest = record { epoch = e; mark = mark; bytes = bytes; rest = rest }
+
+say-same : SaySame (told 1 3 (4 ∷ []) (5 ∷ [])) (told 2 3 (4 ∷ []) (6 ∷ []))
+say-same = (refl, refl)
+
+other-marks : SaySame (told 1 3 (4 ∷ []) []) (told 1 2 (4 ∷ []) []) → ⊥
+other-marks h = let e = h .0 in absurd (omega arith)
+
+other-bytes : SaySame (told 1 3 (4 ∷ []) []) (told 1 3 (5 ∷ []) []) → ⊥
+other-bytes h = let e : _≡_ {A = ℕ} 4 5 = ap (λ (l : List ℕ). getD l 0 0) (h .1) in absurd (omega arith)
+
+named-differ : SaySame (reportAt (ownRun link (started link) 180 []) 1) (reportAt (ownRun other (started other) 180 []) 1) → ⊥
+named-differ = named .differ

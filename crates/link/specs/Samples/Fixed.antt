@@ -26,8 +26,9 @@ group = record { x = 3; first = 249; number = λ slot. (slot + 2) % 3 }
 abbrev client : Client
 client x = tabulate 3 (λ j. (x * 3 + j) % 256)
 
+-- as short as may be: 3 x 16 x 1
 abbrev output : List ℕ
-output = replicate 49 0xEE
+output = replicate 48 0xEE
 
 -- slot 2 reaches port 0, slot 0 port 2; port 0 is late by four frames and port 1 by two
 abbrev link : Link
@@ -74,7 +75,7 @@ met =
         only = λ t. (omega arith, (omega arith, (omega arith, tt)));
         arrived = λ i p h. inl refl;
         spared = λ t p done rest h is-order come un brings. refl;
-        room = λ j. omega (arith, length-replicate {A = ℕ} 49 0xEE);
+        room = λ j. omega (arith, length-replicate {A = ℕ} 48 0xEE);
         eight = λ a j. refl;
       };
     }
@@ -84,7 +85,7 @@ demanded = demand3-fixed link met
 
 -- a sure report with 48 bytes, each one more than the one before
 abbrev sure : ℕ → ℕ → Told
-sure e from = record { epoch = e; mark = SURE; bytes = tabulate 48 (λ b. (from + b) % 256); rest = 0xEE ∷ [] }
+sure e from = record { epoch = e; mark = SURE; bytes = tabulate 48 (λ b. (from + b) % 256); rest = [] }
 
 -- The epochs 254, 255 and 0 come out in the order of the numbers. No frame is answered otherwise than by 0 or 12.
 run : outcome link 132 ≡ record { begun = 1; told = sure 254 240 ∷ sure 255 32 ∷ sure 0 80 ∷ []; strange = [] }

@@ -1,4 +1,4 @@
--- MFI2 damaged (request 2026-04): in both nibbles right after receiving has begun, which demand 3 lets be, and in one before it, which it does not. All else is as in the sample.
+-- MFI2 damaged (request 2026-04): in both nibbles right after receiving has begun, which demand 3 lets be, and in one before it, which it does not; and other bits damaged before it, which it lets be. All else is as in the sample.
 use mathlib.Core.Path.{_≡_, refl, ap}
 use mathlib.Core.Logic.{⊎-elim, inl, inr}
 use mathlib.Core.Bool.{Bool, true, false, cond, _&&_}
@@ -23,7 +23,7 @@ use Rattle.step.specs.OwnCount.{ownNumber}
 use Rattle.link.specs.Assumed.{Assumed}
 use Rattle.link.specs.Demand3.{Demand3}
 use Rattle.link.specs.History.{xAt}
-use Rattle.link.specs.Link.{Arrived, Damaged, Link, NumberKept, expected, roadOf}
+use Rattle.link.specs.Link.{Arrived, BringsMfi2, Damaged, Link, NumberKept, expected, roadOf}
 use Rattle.link.specs.Moments.{Ready, Unready, coming, nextAt}
 use Rattle.link.specs.Proofs.Transport.Times.{coming-is}
 use Rattle.link.specs.Road.{times}
@@ -166,10 +166,12 @@ spared-after t p done un brings = go (eqb (epochAt 0 x) 3 && eqb p 1) refl
     go true e = absurd (later-not t done (late 3 (omega arith) (eqb-true (epochAt 0 (t - cond (eqb p 0) 4 0)) 3 (and-left (eqb (epochAt 0 (t - cond (eqb p 0) 4 0)) 3) (eqb p 1) e))) un)
     go false e = other (eqb (epochAt 0 (t - cond (eqb p 0) 4 0)) 5 && eqb p 0) refl
 
--- It meets what demand 3 lets be so.
-met-after : Assumed after
+-- What demand 3 lets be so, whichever packets came, if they may and MFI2 is spared.
+met-with : (hits : ℕ → ℕ → List ℕ) → ((i p : ℕ) → Arrived 0 3 (sent i p) (hits i p))
+    → ((t p : ℕ) (done : List ℕ) → Unready (roadOf (linkOf hits client 4 (λ t. eqb (t % 2) 0))) t done → NumberKept (linkOf hits client 4 (λ t. eqb (t % 2) 0)) t p)
+    → Assumed (linkOf hits client 4 (λ t. eqb (t % 2) 0))
 unfolding sized frames tags
-met-after =
+met-with hits arrived spared =
     record {
       history = history;
       allowed = allowed;
@@ -184,12 +186,15 @@ met-after =
         spread = spread-4;
         once = λ t p h. once (eqb (t % 2) 0) p h;
         only = λ t. only (eqb (t % 2) 0);
-        arrived = λ i p h. arrived-after i p;
-        spared = λ t p done rest h is-order come un. spared-after t p done un;
+        arrived = λ i p h. arrived i p;
+        spared = λ t p done rest h is-order come un. spared t p done un;
         room = λ j. omega (arith, length-replicate {A = ℕ} 33 0xEE);
         eight = λ a j. refl;
       };
     }
+
+met-after : Assumed after
+met-after = met-with came-after arrived-after spared-after
 
 holds-after : Demand3 after
 holds-after = demand3 after met-after
@@ -253,3 +258,51 @@ late-then = (
   begun-by before 88 87 0 (omega arith) (ap (λ (l : List ℕ). getD l 1 0) before-begun),
   begun-by before 88 88 1 (omega arith) (ap (λ (l : List ℕ). getD l 0 0) before-begun),
 )
+
+-- Of the same packet three bits elsewhere, in MST and in the control word: this demand 3 lets be, before receiving begins too.
+
+abbrev other-hit : List ℕ
+other-hit = 0xF8 ∷ 0xE9 ∷ 0x0A ∷ 0x0B ∷ 0x0C ∷ 0x0D ∷ 0x0E ∷ 0x0F ∷ 0xF0 ∷ 0xB1 ∷ 0x02 ∷ 0x13 ∷ 0x04 ∷ 0x05 ∷ 0x26 ∷ 0x87 ∷ []
+
+other-three : changed early other-hit ≡ 3
+unfolding outcome highsOf
+other-three = refl
+
+other-damage : Damaged 0 3 early other-hit
+unfolding frames nibblePlace
+other-damage =
+    record {
+      long = refl;
+      bytes = λ k b. ltb-true (getD other-hit k 0) 256 (below-at 16 (λ i. ltb (getD other-hit i 0) 256) refl k b);
+      least = omega (arith, other-three);
+      most = omega (arith, other-three);
+      placed = λ k b. eqb-true (nibblePlace 0 (getD other-hit k 0)) (nibblePlace 0 (getD early k 0)) (below-at 16 (λ i. eqb (nibblePlace 0 (getD other-hit i 0)) (nibblePlace 0 (getD early i 0))) refl k b);
+    }
+
+abbrev came-elsewhere : ℕ → ℕ → List ℕ
+came-elsewhere i p = cond (eqb i 2 && eqb p 1) other-hit (came i p)
+
+abbrev elsewhere : Link
+elsewhere = linkOf came-elsewhere client 4 (λ t. eqb (t % 2) 0)
+
+arrived-elsewhere : (i p : ℕ) → Arrived 0 3 (sent i p) (came-elsewhere i p)
+arrived-elsewhere i p = go (eqb i 2 && eqb p 1) refl
+  where
+    go : (b : Bool) → (eqb i 2 && eqb p 1) ≡ b → Arrived 0 3 (sent i p) (cond b other-hit (came i p))
+    go true e = let hi = eqb-true i 2 (and-left (eqb i 2) (eqb p 1) e) in let hp = eqb-true p 1 (and-right (eqb i 2) (eqb p 1) e) in inr (rw (hi, hp, early-sent) other-damage)
+    go false e = arrived i p
+
+kept-elsewhere : (i p k : ℕ) → BringsMfi2 0 k → nibbleIn 0 (getD (came-elsewhere i p) k 0) ≡ nibbleIn 0 (getD (sent i p) k 0)
+unfolding lead nibbleIn
+kept-elsewhere i p k brings = go (eqb i 2 && eqb p 1) refl
+  where
+    both : BringsMfi2 0 k → nibbleIn 0 (getD other-hit k 0) ≡ nibbleIn 0 (getD early k 0)
+    both = ⊎-elim (λ (e : k ≡ lead 0). rw e refl) (λ (e : k ≡ lead 0 + 1). rw e refl)
+
+    go : (b : Bool) → (eqb i 2 && eqb p 1) ≡ b → nibbleIn 0 (getD (cond b other-hit (came i p)) k 0) ≡ nibbleIn 0 (getD (sent i p) k 0)
+    go true e = let hi = eqb-true i 2 (and-left (eqb i 2) (eqb p 1) e) in let hp = eqb-true p 1 (and-right (eqb i 2) (eqb p 1) e) in rw (hi, hp, early-sent) (both brings)
+    go false e = number-kept i p k brings
+
+holds-elsewhere : Demand3 elsewhere
+holds-elsewhere =
+    demand3 elsewhere (met-with came-elsewhere arrived-elsewhere (λ t p done un. kept-elsewhere (epochAt 0 (t - cond (eqb p 0) 4 0)) p ((t - cond (eqb p 0) 4 0) % frames 0)))

@@ -1,7 +1,8 @@
--- 'Shut out by name' (01, 'What the promises have to say'): on the sample, no receiver that never begins, holds all epochs or gives constant bytes has what demand 3 promises.
+-- 'Shut out by name' (01, 'What the promises have to say'): on the sample, no receiver that never begins, holds all epochs or gives constant bytes has what demand 3 promises. Nor has one that begins before or after its moment, reports
+-- before it, or answers every frame with 12.
 use mathlib.Core.Path.{_≡_, refl, sym, ap, _∙_, subst}
 use mathlib.Core.Logic.{⊎-elim, _≢_, inl, inr}
-use mathlib.Core.List.{List, [], _∷_}
+use mathlib.Core.List.{List, [], _∷_, _++_}
 use Prim.Native.Nat.{ℕ, zero, suc, _+_, _-_, _*_, _/_, _≤_, _<_}
 use native.Mathlib.Omega.{arith}
 use lib.ListN.{getD, length, replicate}
@@ -9,14 +10,16 @@ use Rattle.ground.specs.Truth.{eq-or-ne, le-or-lt}
 use Rattle.judge.specs.Verdict.{HELD, SURE}
 use Rattle.packet.specs.Kinds.{firstTag, frames, lead, tags}
 use Rattle.step.specs.Laws.Run.{startFrom}
-use Rattle.link.specs.Demand3.{FullyArrived, Promised, Reported, Stands, Time}
+use Rattle.link.specs.Demand3.{FullyArrived, Promised, Reported, Stands, Started, Time, ownRun}
 use Rattle.link.specs.Demand3.Stands.{none-yet, reporting}
-use Rattle.link.specs.Moments.{Beginning, NotAfter, Ready, Run, nextAt, coming, reached}
+use Rattle.link.specs.Moments.{Beginning, NotAfter, Ready, Run, Unready, nextAt, coming, reached, says, saysThrough}
 use Rattle.link.specs.Link.{roadOf}
-use Rattle.link.specs.Theorems.{demand3}
-use Rattle.link.specs.Running.{fresh, hasBegun}
+use Rattle.link.specs.Theorems.{demand3, spared-until}
+use Rattle.link.specs.Running.{fresh, hasBegun, lentAt, outputAt, recordAt}
+use Rattle.receiver.specs.Fetch.{fetchAnswer}
 use Rattle.link.specs.Told.{Told}
 use Rattle.link.specs.Road.{times}
+use Rattle.link.specs.Proofs.Histories.Ours.{ours}
 use Rattle.link.specs.Proofs.Transport.Times.{coming-is}
 use Rattle.link.specs.Samples.Computing.{no-times, some-times, started}
 use Rattle.link.specs.Samples.Members.{link}
@@ -84,6 +87,27 @@ all-first zero h = omega arith
 all-first (suc zero) h = omega arith
 all-first (suc (suc p)) h = absurd (omega arith)
 
+-- before frame times 41, 56 and 44
+abbrev early : Time link
+early = record { t = 41; done = []; rest = link .order 41; is-order = refl }
+
+abbrev ready-at : Time link
+ready-at = record { t = 56; done = []; rest = link .order 56; is-order = refl }
+
+abbrev first-in-step : Time link
+first-in-step = record { t = 44; done = []; rest = link .order 44; is-order = refl }
+
+-- Port 0's first frame comes in frame time 7 and port 1's in 21. Port 0 counts from position 8 on: the 32nd frame from there comes in frame time 43, after port 1's. So 14 frames of one port, 22 of each and one more are answered 12, and that one 0.
+answers-early : saysThrough (roadOf link) 44 ++ says (roadOf link) 44 [] ≡ replicate 59 12 ++ (0 ∷ [])
+unfolding roadOf startFrom firstTag frames lead tags
+answers-early = refl
+
+-- the last port's first frame comes in frame time 21
+all-soon : (p : ℕ) → p < 2 → link .delay p + link .first p ≤ 21
+all-soon zero h = omega arith
+all-soon (suc zero) h = omega arith
+all-soon (suc (suc p)) h = absurd (omega arith)
+
 -- a property of each of some reports
 abbrev pub Each : (Told → Type 0) → List Told → Type 0
 Each P [] = Unit {0}
@@ -141,6 +165,11 @@ module _ (run : Run) (d : Promised link run) where
   unfolding frames
   has-begun = d .begins-within 133 all-first
 
+  -- '48 frames of the last port's first'
+  pub begins-soon : hasBegun (run 68 []) ≡ 1
+  unfolding frames
+  begins-soon = d .begins-within 21 all-soon
+
   -- Its reports are then these six, whatever receiver it is.
   pub told-then : run 180 [] .told ≡ reports
   told-then = go (d .always then)
@@ -178,11 +207,57 @@ module _ (run : Run) (d : Promised link run) where
       let b : _≡_ {A = ℕ} 162 c = ap (λ (l : List ℕ). getD l 1 0) (e .0) in
       absurd (omega arith)
 
+  -- one that reports before it begins
+  pub reports-early : (run 41 [] .told ≡ [] → ⊥) → ⊥
+  unfolding frames
+  reports-early h = h (go (d .always early))
+    where
+      go : Stands link run early → run 41 [] .told ≡ []
+      go (none-yet e un t) = t
+      go (reporting e r) = rw none at (r .are)
+        where
+          fore : r .F ≡ 55
+          fore = began (r .F) (r .beginning)
+
+          none : r .many ≡ 0
+          none =
+              ⊎-elim (λ (l : r .many ≤ 0). omega arith)
+              (λ (l : 0 < r .many). let w = r .arrived 0 l 0 (omega arith) in absurd (omega (arith, fore, next-0 41 (link .order 41))))
+              (le-or-lt (r .many) 0)
+
+  -- one that begins before all ports are ready
+  pub begins-early : ((at : Time link) → hasBegun (run (at .t) (at .done)) ≡ 1) → ⊥
+  unfolding roadOf
+  begins-early h = go (d .always then)
+    where
+      go : Stands link run then → ⊥
+      go (none-yet e un t) = absurd (let b = h then in omega arith)
+      go (reporting e r) =
+          let b = r .beginning in
+          let w = h (record { t = b .time; done = b .done; rest = b .port ∷ b .rest; is-order = b .is-order }) in
+          let n = b .not-yet in
+          absurd (omega arith)
+
+  -- or when they have been ready for a while
+  pub begins-late : hasBegun (run 56 []) ≡ 0 → ⊥
+  unfolding roadOf
+  begins-late h = go (d .always ready-at)
+    where
+      go : Stands link run ready-at → ⊥
+      go (none-yet e un t) = un 56 [] (link .order 56) refl (inr (refl, omega arith)) ready-then
+      go (reporting e r) = absurd (omega arith)
+
+  -- one that answers every frame with 12
+  pub never-in-step : ((t : ℕ) (done : List ℕ) → run t done .answers ≡ replicate (length (run t done .answers)) 12) → ⊥
+  never-in-step h =
+      let e = subst (λ (l : List ℕ). l ≡ replicate (length l) 12) (d .answered first-in-step ∙ answers-early) (h 44 []) in
+      let a : _≡_ {A = ℕ} 0 12 = ap (λ (l : List ℕ). getD l 59 0) e in
+      absurd (omega arith)
+
 -- The receiver itself is held to it, and by the theorem alone its reports are the six that its run was computed to.
-pub itself : Promised link (reached (roadOf link) (started link))
-itself =
-    demand3 link met .promised (started link)
-    (record {
+pub starts : Started link (started link)
+starts =
+    record {
       hold = [];
       restore = [];
       hold-times = no-times 2;
@@ -192,7 +267,10 @@ itself =
       rows-long = refl;
       store-long = refl;
       is = refl;
-    })
+    }
+
+pub itself : Promised link (reached (roadOf link) (started link))
+itself = demand3 link met .promised (started link) starts
 
 -- so is one started with times
 pub with-times : Promised link (reached (roadOf link) (fresh (roadOf link) (0 ∷ 5000 ∷ []) (0 ∷ 5000 ∷ []) (replicate 11 (replicate 16 0xFF)) (replicate 80 0xFF)))
@@ -212,3 +290,26 @@ with-times =
 
 pub by-theorem : reached (roadOf link) (started link) 180 [] .told ≡ reports
 by-theorem = told-then (reached (roadOf link) (started link)) itself
+
+-- After each turn its fetches have ended: one more is answered 0 and says that none is due.
+fetched-out :
+    (let m = ownRun link (started link) 180 [] in fetchAnswer (m .rows) (m .store) (outputAt (roadOf link) m) (lentAt (roadOf link) m) ≡ 0)
+    × (getD (recordAt (roadOf link) (ownRun link (started link) 180 [])) 0 0 ≡ 0)
+fetched-out = demand3 link met .fetched-out (started link) starts then
+
+-- The multiframe number is spared before frame time 41, when the ports have never been ready and receiving has not begun, and no longer from frame time 56 on (request 2026-04).
+
+unready-then : Unready (roadOf link) 41 []
+unfolding roadOf frames
+unready-then u earlier rest e na y =
+    let w : startFrom 0 (firstTag 0 249) 21 + 16 * 2 ≤ coming (roadOf link) u rest 1 = y .stepped 1 (omega arith) in
+    let at = next-1 u rest in
+    let from = counts-1 in
+    ⊎-elim (λ (h : u < 41). absurd (omega arith)) (λ (h : (u ≡ 41) × (length earlier ≤ 0)). (let same = h .0 in absurd (omega arith))) na
+
+not-begun : hasBegun (ownRun link (started link) 41 []) ≡ 0
+not-begun = spared-until link (ours link met) (started link) starts early .not-begun unready-then
+
+spared-no-longer : hasBegun (ownRun link (started link) 56 []) ≡ 0 → ⊥
+unfolding roadOf
+spared-no-longer e = spared-until link (ours link met) (started link) starts ready-at .unready e 56 [] (link .order 56) refl (inr (refl, omega arith)) ready-then

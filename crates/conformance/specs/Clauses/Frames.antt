@@ -1,0 +1,141 @@
+-- What a frame leaves (01, 'Step', 'Window'; 'Lent bytes change only under 0'), part by part: port 1 of two, P 2, W 16, the window's first frame at place 5 of the ring. Each field has a number of its own.
+use mathlib.Core.Path.{_≡_, refl}
+use mathlib.Core.Bool.{Bool, true, false}
+use mathlib.Core.List.{List, [], _∷_, _++_}
+use Prim.Native.Nat.{ℕ}
+use lib.ListN.{replicate}
+use Rattle.ground.specs.Circle.{after}
+use Rattle.packet.specs.Counts.{counts, nibbleIn}
+use Rattle.packet.specs.Kinds.{distanceOf, endsEpoch, epochs, epochsIn, firstTag, frames, lead, placeOf, tagAfter, tagBefore, tags}
+use Rattle.phases.specs.Beginning.{begins, ready}
+use Rattle.phases.specs.Due.{silent}
+use Rattle.phases.specs.Settling.{beginBy, clearedPort, clearedPorts, clearedStep, gatherBy, settledOf, stopBy, stoppedOf}
+use Rattle.phases.specs.Sizes.{portsIn, sized, storeFor}
+use Rattle.receiver.specs.Frame.{frameAnswer, frameRows, frameStore, gatheredBy, marksBy, portRows, refusalBy, settledBy, steadyRows, storeBy, takenRows, takenStore}
+use Rattle.receiver.specs.Lengths.{frameFits, rowsFit}
+use Rattle.rows.specs.declared.group.Group.{Group}
+use Rattle.rows.specs.declared.step.Step.{Step}
+use Rattle.rows.specs.Group.{groupAt, groupOf, groupRow, putGroup}
+use Rattle.rows.specs.Member.{memberAt, memberOf}
+use Rattle.rows.specs.Packets.{marksAt, packetsAt, putMarks, putPackets, withNibble}
+use Rattle.rows.specs.Rows.{putRow, rowIn}
+use Rattle.rows.specs.Step.{putStep, stepAt, stepOf, stepRow, withNext}
+use Rattle.step.specs.Arrival.{arrives, byWindow, distanceIn, flagged, inStep, keeps, readable, takenOf}
+use Rattle.step.specs.declared.arrival.Taken.{Taken}
+use Rattle.step.specs.OwnCount.{endsOdd}
+use Rattle.step.specs.Run.{breaksAfter, endsPacket, inStepAt, loses, oddAfter, runOn, stayedRun}
+use Rattle.store.specs.Frames.{placeIn, ringOf, storedAt}
+use Rattle.store.specs.Marks.{cutByte, cutFrom, markedAt, markedByte}
+
+abbrev zeros : ℕ → List ℕ
+zeros n = replicate n 0
+
+abbrev nines : ℕ → List ℕ
+nines n = replicate n 9
+
+-- a count of frames, and the tag to come
+abbrev step : ℕ → ℕ → Step
+step count next =
+    record {
+      spare = 51 ∷ 52 ∷ 53 ∷ 54 ∷ 55 ∷ [];
+      had = 1;
+      failed = 4;
+      count = count;
+      next = next;
+      joined = 1;
+      since = 7;
+      later = 3;
+      whole = 1;
+      breaks = 3;
+      odd = 6;
+    }
+
+-- a port in step whose next tag is 22
+abbrev taken : ℕ → Bool → ℕ → Bool → Taken
+taken answer kept at joins = record { step = step 32 22; answer = answer; counted = true; kept = kept; at = at; joins = joins; settles = false }
+
+-- a port that has lost step
+abbrev losing : Bool → Taken
+losing settles = record { step = step 0 22; answer = 12; counted = false; kept = false; at = 0; joins = false; settles = settles }
+
+-- epochs 0 and 2 to 11 of the window are marked
+abbrev marked : List ℕ
+marked = 0xFD ∷ 0x0F ∷ zeros 14
+
+-- Joining at the window's epoch 3 leaves the marks of 0 and 2 alone. The frame 31 after the window's first is the last of epoch 1, and marks it if it is stored.
+marks :
+    (marksBy 0 marked (taken 0 true 31 true) ≡ 0x05 ∷ zeros 15)
+    × (marksBy 0 marked (taken 0 true 31 false) ≡ 0xFF ∷ 0x0F ∷ zeros 14)
+    × (marksBy 0 marked (taken 0 true 30 false) ≡ marked)
+    × (marksBy 0 marked (taken 0 true 32 false) ≡ marked)
+    × (marksBy 0 marked (taken 0 false 31 false) ≡ marked)
+unfolding cutByte cutFrom endsEpoch epochs epochsIn frames markedAt markedByte marksBy
+marks = (refl, refl, refl, refl, refl)
+
+abbrev group : Group
+group =
+    record {
+      spare = 61 ∷ 62 ∷ 63 ∷ 64 ∷ [];
+      kind = 0;
+      count = 2;
+      payload = 2;
+      window = 16;
+      begun = 1;
+      gathered = 1;
+      oldest = 58;
+      origin = 5;
+      «rs_ack» = 1;
+    }
+
+abbrev rows : List (List ℕ)
+rows = putMarks (putPackets (putStep (putGroup (replicate 11 (zeros 16)) group) 1 (step 31 21)) 1 (replicate 16 7 ∷ replicate 16 6 ∷ [])) 1 marked
+
+abbrev arrived : List (List ℕ)
+arrived = portRows 0 rows 1 (taken 0 true 31 false) 0xA2
+
+-- The frame's own tag is 21, whatever MFI1 it brings: its nibble goes to place 13 of the packet being gathered. Only the port's own rows change. A frame that changes the next tag and a nibble alone leaves the marks.
+port :
+    (stepAt arrived 1 ≡ step 32 22)
+    × (packetsAt arrived 1 ≡ (replicate 13 7 ++ (10 ∷ 7 ∷ 7 ∷ [])) ∷ replicate 16 6 ∷ [])
+    × (marksAt arrived 1 ≡ 0xFF ∷ 0x0F ∷ zeros 14)
+    × (memberAt arrived 1 ≡ memberAt rows 1)
+    × (groupAt arrived ≡ group)
+    × (stepAt arrived 0 ≡ stepAt rows 0)
+    × (packetsAt arrived 0 ≡ zeros 16 ∷ zeros 16 ∷ [])
+    × (marksAt arrived 0 ≡ zeros 16)
+    × (stepAt (steadyRows 0 21 0xA2 1 rows) 1 ≡ step 31 22)
+    × (packetsAt (steadyRows 0 21 0xA2 1 rows) 1 ≡ (replicate 13 7 ++ (10 ∷ 7 ∷ 7 ∷ [])) ∷ replicate 16 6 ∷ [])
+    × (marksAt (steadyRows 0 21 0xA2 1 rows) 1 ≡ marked)
+unfolding endsEpoch epochs epochsIn frames gatheredBy groupAt groupOf groupRow lead markedAt markedByte marksAt marksBy memberAt memberOf nibbleIn packetsAt placeOf portRows putGroup putMarks putPackets putRow putStep rowIn steadyRows stepAt stepOf stepRow tagAfter tagBefore tags withNext withNibble
+port = (refl, refl, refl, refl, refl, refl, refl, refl, refl, refl, refl)
+
+-- 12 after the window's first, at place 5 + 12 of a ring of 16: place 1 of port 1's, from byte 51 on, the payload and then the H4. Under 11 all is as given.
+stored :
+    (storeBy group 1 (taken 0 true 12 false) 0xA5 (3 ∷ 4 ∷ []) (nines 96) ≡ nines 51 ++ (3 ∷ 4 ∷ 0xA5 ∷ []) ++ nines 42)
+    × (storeBy group 1 (taken 0 false 12 false) 0xA5 (3 ∷ 4 ∷ []) (nines 96) ≡ nines 96)
+    × (takenStore group 1 (taken 0 true 12 false) 0xA5 (3 ∷ 4 ∷ []) (nines 96) ≡ nines 51 ++ (3 ∷ 4 ∷ 0xA5 ∷ []) ++ nines 42)
+    × (takenStore group 1 (taken 11 true 12 false) 0xA5 (3 ∷ 4 ∷ []) (nines 96) ≡ nines 96)
+    × (takenRows group 2 rows 1 (taken 11 true 31 false) 0xA5 (3 ∷ 4 ∷ []) (nines 96) ≡ rows)
+    × (takenRows group 2 rows 1 (taken 0 true 31 false) 0xA2 (3 ∷ 4 ∷ []) (nines 96) ≡ arrived)
+unfolding endsEpoch epochs epochsIn frames gatheredBy groupRow lead markedAt markedByte marksAt marksBy nibbleIn packetsAt placeIn placeOf portRows putGroup putMarks putPackets putRow putStep ringOf rowIn settledBy stepRow storeBy storedAt tagBefore tags takenRows takenStore
+stored = (refl, refl, refl, refl, refl, refl)
+
+-- 'When no port is readable any more, receiving stops': where something can follow from the frame, and only there
+follows :
+    (groupAt (takenRows group 2 rows 1 (losing true) 0xA5 (3 ∷ 4 ∷ []) (nines 96)) .begun ≡ 0)
+    × (groupAt (takenRows group 2 rows 1 (losing false) 0xA5 (3 ∷ 4 ∷ []) (nines 96)) .begun ≡ 1)
+unfolding beginBy begins clearedPort clearedPorts clearedStep frames gatherBy gatheredBy groupAt groupOf groupRow inStep inStepAt lead marksAt marksBy packetsAt portRows putGroup putMarks putPackets putRow putStep readable ready rowIn settledBy settledOf silent stepAt stepOf stepRow stopBy stoppedOf storeBy tagBefore tags takenRows
+follows = (refl, refl)
+
+-- Epoch 58 starts with tag 920. Port 1 is joined and waits for tag 925, which has MFI1 13: 5 after the window's first, place 10 of the ring, from byte 78 on, and place 5 of the packet.
+abbrev waits : List (List ℕ)
+waits = putStep rows 1 (step 32 925)
+
+handed :
+    (frameAnswer waits 1 false 0xAD 2 96 ≡ 0)
+    × (frameStore waits 1 false 0xAD (3 ∷ 4 ∷ []) (nines 96) ≡ nines 78 ++ (3 ∷ 4 ∷ 0xAD ∷ []) ++ nines 15)
+    × (stepAt (frameRows waits 1 false 0xAD (3 ∷ 4 ∷ []) (nines 96)) 1 .next ≡ 926)
+    × (packetsAt (frameRows waits 1 false 0xAD (3 ∷ 4 ∷ []) (nines 96)) 1 ≡ (replicate 5 7 ++ (10 ∷ replicate 10 7)) ∷ replicate 16 6 ∷ [])
+    × (frameStore waits 1 true 0xAD (3 ∷ 4 ∷ []) (nines 96) ≡ nines 96)
+unfolding after arrives beginBy begins breaksAfter byWindow clearedPort clearedPorts clearedStep counts distanceIn distanceOf endsEpoch endsOdd endsPacket epochs epochsIn firstTag flagged frameAnswer frameFits frameRows frameStore frames gatherBy gatheredBy groupAt groupOf groupRow inStep inStepAt keeps lead loses marksAt marksBy nibbleIn oddAfter packetsAt placeIn placeOf portRows portsIn putGroup putMarks putPackets putRow putStep readable ready refusalBy ringOf rowIn rowsFit runOn settledBy settledOf silent sized stayedRun stepAt stepOf stepRow stopBy stoppedOf storeBy storeFor storedAt tagAfter tagBefore tags takenOf takenRows takenStore
+handed = (refl, refl, refl, refl, refl)

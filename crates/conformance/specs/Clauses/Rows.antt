@@ -1,0 +1,125 @@
+-- The receiver's rows: what is written is read back, every field with a number of its own and each two-byte field below and at a multiple of 256, and nothing else changes. Where a field stands is free.
+use mathlib.Core.Path.{_≡_, refl}
+use mathlib.Core.List.{List, [], _∷_}
+use Prim.Native.Nat.{ℕ}
+use lib.ListN.{length, replicate}
+use Rattle.rows.specs.declared.group.Group.{Group}
+use Rattle.rows.specs.declared.member.Member.{Member}
+use Rattle.rows.specs.declared.step.Step.{Step}
+use Rattle.rows.specs.Group.{groupAt, groupOf, groupRow, putGroup}
+use Rattle.rows.specs.Member.{memberAt, memberOf, memberRow, putMember}
+use Rattle.rows.specs.Packets.{marksAt, packetsAt, putMarks, putPackets, withNibble}
+use Rattle.rows.specs.Part.{again, put, with}
+use Rattle.rows.specs.Part.Part.{TheMarks, TheMember, ThePackets, TheStep}
+use Rattle.rows.specs.Port.{Port, portAt}
+use Rattle.rows.specs.Rows.{putRow, rowIn, rowsFor}
+use Rattle.rows.specs.Step.{putStep, stepAt, stepOf, stepRow, withNext}
+
+abbrev group : ℕ → ℕ → ℕ → Group
+group payload window origin =
+    record {
+      spare = 61 ∷ 62 ∷ 63 ∷ 64 ∷ [];
+      kind = 2;
+      count = 3;
+      payload = payload;
+      window = window;
+      begun = 4;
+      gathered = 5;
+      oldest = 58;
+      origin = origin;
+      «rs_ack» = 1;
+    }
+
+abbrev step : ℕ → Step
+step next =
+    record {
+      spare = 51 ∷ 52 ∷ 53 ∷ 54 ∷ 55 ∷ [];
+      had = 31;
+      failed = 32;
+      count = 33;
+      next = next;
+      joined = 35;
+      since = 36;
+      later = 34;
+      whole = 37;
+      breaks = 38;
+      odd = 39;
+    }
+
+abbrev member : ℕ → ℕ → ℕ → Member
+member hold restore run =
+    record {
+      spare = 41 ∷ 42 ∷ 43 ∷ 44 ∷ [];
+      word = 15;
+      number = 16;
+      state = 2;
+      «state_number» = 17;
+      «told_word» = 3;
+      «told_number» = 18;
+      «hold_off» = hold;
+      restore = restore;
+      run = run;
+    }
+
+-- records as rows of sixteen bytes, and back
+back :
+    (groupOf (groupRow (group 2303 2048 511)) ≡ group 2303 2048 511)
+    × (groupOf (groupRow (group 2304 1791 1024)) ≡ group 2304 1791 1024)
+    × (length (groupRow (group 2303 2048 511)) ≡ 16)
+    × (stepOf (stepRow (step 4095)) ≡ step 4095)
+    × (stepOf (stepRow (step 3840)) ≡ step 3840)
+    × (length (stepRow (step 4095)) ≡ 16)
+    × (memberOf (memberRow (member 4863 4864 255)) ≡ member 4863 4864 255)
+    × (memberOf (memberRow (member 4608 4607 256)) ≡ member 4608 4607 256)
+    × (memberOf (memberRow (member 768 1279 1280)) ≡ member 768 1279 1280)
+    × (length (memberRow (member 4863 4864 255)) ≡ 16)
+    × (stepOf (stepRow (withNext (step 4095) 7)) ≡ step 7)
+    × (withNibble ((1 ∷ 2 ∷ 3 ∷ []) ∷ (4 ∷ 5 ∷ 6 ∷ []) ∷ []) 1 9 ≡ (1 ∷ 9 ∷ 3 ∷ []) ∷ (4 ∷ 5 ∷ 6 ∷ []) ∷ [])
+unfolding groupOf groupRow memberOf memberRow stepOf stepRow withNext withNibble
+back = (refl, refl, refl, refl, refl, refl, refl, refl, refl, refl, refl, refl)
+
+-- two ports, all rows of ones
+abbrev ones : List ℕ
+ones = replicate 16 1
+
+abbrev rows : List (List ℕ)
+rows = replicate 11 ones
+
+abbrev twos : List ℕ
+twos = replicate 16 2
+
+abbrev threes : List ℕ
+threes = replicate 16 3
+
+abbrev fours : List ℕ
+fours = replicate 16 4
+
+-- port 1 with all its parts put, and the group's row
+abbrev full : List (List ℕ)
+full = putGroup (putMarks (putPackets (putMember (putStep rows 1 (step 4095)) 1 (member 1 2 3)) 1 (twos ∷ threes ∷ [])) 1 fours) (group 2303 2048 511)
+
+abbrev port : Port
+port = record { step = step 4095; member = member 1 2 3; gathering = twos; ruling = threes; marks = fours }
+
+-- each part at its own place: port 1 has what was put, port 0 what it had; a row that is not there reads as zeros, and what is put there is dropped
+parts :
+    (rowsFor 2 ≡ 11)
+    × (portAt full 1 ≡ port)
+    × (portAt full 0 ≡ portAt rows 0)
+    × (groupAt full ≡ group 2303 2048 511)
+    × (length full ≡ 11)
+    × (packetsAt full 1 ≡ twos ∷ threes ∷ [])
+    × (rowIn rows 11 ≡ replicate 16 0)
+    × (putRow rows 11 twos ≡ rows)
+    × (portAt (put full 1 (TheStep (step 7))) 1 ≡ with port (TheStep (step 7)))
+    × (portAt (put full 1 (TheMember (member 4 5 6))) 1 ≡ with port (TheMember (member 4 5 6)))
+    × (portAt (put full 1 (ThePackets (fours ∷ ones ∷ []))) 1 ≡ with port (ThePackets (fours ∷ ones ∷ [])))
+    × (portAt (put full 1 (TheMarks ones)) 1 ≡ with port (TheMarks ones))
+    × (with port (TheMarks ones) ≡ record { step = step 4095; member = member 1 2 3; gathering = twos; ruling = threes; marks = ones })
+    × (with port (ThePackets (fours ∷ ones ∷ [])) ≡ record { step = step 4095; member = member 1 2 3; gathering = fours; ruling = ones; marks = fours })
+    × (again full 1 (TheStep (step 0)) ≡ TheStep (step 4095))
+    × (again full 1 (TheMember (member 0 0 0)) ≡ TheMember (member 1 2 3))
+    × (again full 1 (ThePackets []) ≡ ThePackets (twos ∷ threes ∷ []))
+    × (again full 1 (TheMarks []) ≡ TheMarks fours)
+unfolding groupAt groupOf groupRow marksAt memberAt memberOf memberRow packetsAt portAt putGroup putMarks putMember putPackets putRow putStep rowIn stepAt stepOf stepRow
+parts = (refl, refl, refl, refl, refl, refl, refl, refl, refl, refl, refl, refl, refl, refl, refl, refl, refl, refl)

@@ -1,0 +1,53 @@
+-- What demand 3 lets be so reaches as far as the minutes and 01 say: instances at the bounds.
+use mathlib.Core.Path.{_≡_, refl}
+use mathlib.Core.List.{List, [], _∷_}
+use Prim.Native.Nat.{ℕ, _+_, _-_, _%_}
+use native.Mathlib.Omega.{arith}
+use borrow.Author.Tests.{eqb-true, ltb-true}
+use lib.Dec.{eqb, ltb}
+use lib.ListN.{getD}
+use Rattle.ground.specs.Finite.{below-at}
+use Rattle.packet.specs.Counts.{nibblePlace}
+use Rattle.packet.specs.Crc.{nibbleBits}
+use Rattle.packet.specs.Kinds.{epochs, frames}
+use Rattle.packet.specs.Layout.{highsOf}
+use Rattle.packet.specs.Theorems.Damage.{changed}
+use Rattle.link.specs.FixedGroup.{Numbered}
+use Rattle.link.specs.History.{Allowed}
+use Rattle.link.specs.Link.{Damaged}
+
+-- 'A group has 1 to 64 slots', from any first epoch on, with GID, MST and RS-Ack that change from epoch to epoch
+allowed-most : Allowed (record { kind = 0; slots = 64; first = 255; before = λ i. []; gid = λ i. i % 2; mst = λ i. i % 256; ack = λ i. (i + 1) % 2 })
+unfolding epochs
+allowed-most = record { lcas = refl; some = omega arith; most = omega arith; first = omega arith; gid = λ i. omega arith; mst = λ i. omega arith; ack = λ i. omega arith }
+
+allowed-least : Allowed (record { kind = 0; slots = 1; first = 0; before = λ i. []; gid = λ i. 0; mst = λ i. 0; ack = λ i. 0 })
+unfolding epochs
+allowed-least = record { lcas = refl; some = omega arith; most = omega arith; first = omega arith; gid = λ i. omega arith; mst = λ i. omega arith; ack = λ i. omega arith }
+
+-- a fixed group of 64, numbered downwards (request 2026-12)
+numbered-most : Numbered (record { x = 64; first = 255; number = λ slot. 63 - slot })
+unfolding epochs
+numbered-most = record { most = omega arith; first = omega arith; low = λ slot b. omega arith; once = λ slot other hs ho e. omega arith }
+
+-- 'one to three bits changed': one, in the first nibble of the CRC
+abbrev sent : List ℕ
+sent = 0xF8 ∷ 0xF9 ∷ 0x0A ∷ 0x0B ∷ 0x0C ∷ 0x0D ∷ 0xFE ∷ 0xFF ∷ 0x00 ∷ 0x01 ∷ 0x52 ∷ 0x03 ∷ 0x04 ∷ 0x05 ∷ 0x96 ∷ 0x97 ∷ []
+
+abbrev hit : List ℕ
+hit = 0xF8 ∷ 0xF9 ∷ 0x0A ∷ 0x0B ∷ 0x0C ∷ 0x0D ∷ 0xFE ∷ 0xFF ∷ 0x00 ∷ 0x01 ∷ 0x52 ∷ 0x03 ∷ 0x04 ∷ 0x05 ∷ 0x86 ∷ 0x97 ∷ []
+
+one : changed sent hit ≡ 1
+unfolding highsOf nibbleBits
+one = refl
+
+one-bit : Damaged 0 3 sent hit
+unfolding frames nibblePlace
+one-bit =
+    record {
+      long = refl;
+      bytes = λ k b. ltb-true (getD hit k 0) 256 (below-at 16 (λ i. ltb (getD hit i 0) 256) refl k b);
+      least = omega (arith, one);
+      most = omega (arith, one);
+      placed = λ k b. eqb-true (nibblePlace 0 (getD hit k 0)) (nibblePlace 0 (getD sent k 0)) (below-at 16 (λ i. eqb (nibblePlace 0 (getD hit i 0)) (nibblePlace 0 (getD sent i 0))) refl k b);
+    }
