@@ -85,7 +85,7 @@ digit-at base (x ∷ l) zero t h = ltb-true (digitOf x) base (and-left (ltb (dig
 digit-at base (x ∷ l) (suc i) t h = digit-at base l i (and-right (ltb (digitOf x) base) (areDigits base l) t) (omega arith)
 
 module _ (base : ℕ) (l : List ℕ) (i : ℕ) (h : i < length l) where
-  pub digits-turn : (r : Bool) → r ≡ areDigits base (take i l) → (d : ℕ) → d ≡ digitOf (getD l i 0) → (r && ltb d base) ≡ areDigits base (take (i + 1) l)
+  pub digits-turn : (r : Bool) → r ≡ areDigits base (take i l) → (d : Bool) → d ≡ ltb (digitOf (getD l i 0)) base → (r && d) ≡ areDigits base (take (i + 1) l)
   digits-turn r k d e = rw (k, e, add-one, take-suc l i 0 h) (sym (digits-snoc base (take i l) (getD l i 0)))
 
   pub value-turn : (v : ℕ) → v ≡ valueOf base 0 (take i l) → (d : ℕ) → d ≡ digitOf (getD l i 0) → v * base + d ≡ valueOf base 0 (take (i + 1) l)

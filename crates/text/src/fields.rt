@@ -2,6 +2,7 @@
 ghost use mathlib.Core.Path.{_≡_};
 ghost use mathlib.Core.Bool.{true};
 ghost use Prim.Native.Nat.{_+_, _^_, _≤_, _<_};
+ghost use lib.Dec.{ltb};
 ghost use lib.ListN.{length, take};
 ghost use lib.Seq.{slice};
 ghost use Rattle.bytes.specs.Bytes.{indexOf};
@@ -45,32 +46,35 @@ pub(crate) fn size_of(text: &[u8], at: usize, limit: usize) -> usize
     end - at
 }
 
-// The value of a digit; 16 for any other byte.
+// Whether a byte is a digit below the base. Digits of a payload come by chance, and a branch on them would be guessed wrong every third time: no
+// branch goes by them here, nor in their value.
+fn is_digit(byte: u8, base: u8) -> bool
+    requires { ⌜ base ≤ 16 ⌝ }
+    ensures { λ r. ⌜ r ≡ ltb (digitOf byte) base ⌝ }
+{
+    ((48 <= byte) & (byte <= 57) & (byte < 48 + base))
+        | ((65 <= byte) & (byte <= 70) & (byte < 55 + base))
+        | ((97 <= byte) & (byte <= 102) & (byte < 87 + base))
+}
+
+// The value of a digit: its low four bits, and nine more for a letter.
 pub(crate) fn digit_of(byte: u8) -> u8
+    requires { ⌜ digitOf byte < 16 ⌝ }
     ensures { λ r. ⌜ r ≡ digitOf byte ⌝ }
 {
-    if (48 <= byte) & (byte <= 57) {
-        return byte - 48;
-    }
-    if (65 <= byte) & (byte <= 70) {
-        return byte - 55;
-    }
-    if (97 <= byte) & (byte <= 102) {
-        return byte - 87;
-    }
-    16
+    byte % 16 + byte / 64 * 9
 }
 
 // Whether the field has digits below the base alone.
 pub(crate) fn are_digits(text: &[u8], at: usize, limit: usize, base: u8) -> bool
+    requires { ⌜ base ≤ 16 ⌝ }
     ensures { λ r. ⌜ r ≡ areDigits base (slice at limit (now (text .entry))) ⌝ }
 {
     let count = size_of(text, at, limit);
     let mut good = true;
     let mut i = 0;
     while i < count {
-        let digit = digit_of(text[at + i]);
-        good = good & (digit < base);
+        good = good & is_digit(text[at + i], base);
         i += 1;
     }
     good
@@ -78,7 +82,7 @@ pub(crate) fn are_digits(text: &[u8], at: usize, limit: usize, base: u8) -> bool
 
 // Digits by value, so few of them that it fits.
 fn value_of(text: &[u8], at: usize, limit: usize, base: u8) -> u32
-    requires { ⌜ (areDigits base (slice at limit (now text)) ≡ true) × (0 < base) × (base ^ length (slice at limit (now text)) ≤ 4294967296) ⌝ }
+    requires { ⌜ (areDigits base (slice at limit (now text)) ≡ true) × (0 < base) × (base ^ length (slice at limit (now text)) ≤ 4294967296) × (base ≤ 16) ⌝ }
     ensures { λ r. ⌜ r ≡ valueOf base 0 (slice at limit (now (text .entry))) ⌝ }
 {
     let count = size_of(text, at, limit);

@@ -1,36 +1,36 @@
 use mathlib.Core.Path.{_∙_}
 use Rattle.recording.proofs.Reading.{opened-is}
 use Rattle.recording.specs.declared.pairs.Awaited.the-variants.{Name, Kind, HoldOff, Restore, Nothing}
-use borrow.Author.Needs.{needs}
+use native.Mathlib.Omega.{arith}
 use Rattle.recording.proofs.opening.opened_by.Statement.{statement}
 use Rattle.recording.proofs.opening.opened_by.Tie as tie
 
 enum-told : tie.Need-enum-told
-enum-told c = search needs
+enum-told c = omega arith
 
 enum-told-2 : tie.Need-enum-told-2
-enum-told-2 c = search needs
+enum-told-2 c = omega arith
 
 none-requires : tie.Need-none-requires
-none-requires c κs = search needs
+none-requires c κs = omega arith
 
 enum-told-3 : tie.Need-enum-told-3
-enum-told-3 c = search needs
+enum-told-3 c = omega arith
 
 none-requires-2 : tie.Need-none-requires-2
-none-requires-2 c κs = search needs
+none-requires-2 c κs = omega arith
 
 enum-told-4 : tie.Need-enum-told-4
-enum-told-4 c = search needs
+enum-told-4 c = omega arith
 
 none-requires-3 : tie.Need-none-requires-3
-none-requires-3 c κs = search needs
+none-requires-3 c κs = omega arith
 
 enum-told-5 : tie.Need-enum-told-5
-enum-told-5 c = search needs
+enum-told-5 c = omega arith
 
 none-requires-4 : tie.Need-none-requires-4
-none-requires-4 c κs = search needs
+none-requires-4 c κs = omega arith
 
 returns : tie.Need-returns
 returns c = opened-is (c .before .before .before .args .pairs) Name (c .enum-told .given .1) (c .before .before .before .args .next)

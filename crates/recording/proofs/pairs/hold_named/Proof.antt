@@ -1,9 +1,9 @@
-use borrow.Author.Needs.{needs}
+use native.Mathlib.Omega.{arith}
 use Rattle.recording.proofs.pairs.hold_named.Statement.{statement}
 use Rattle.recording.proofs.pairs.hold_named.Tie as tie
 
 hold-from-requires : tie.Need-hold-from-requires
-hold-from-requires c κs = search needs
+hold-from-requires c κs = omega arith
 
 returns : tie.Need-returns
 returns c = rw (c .hold-from .ensures)

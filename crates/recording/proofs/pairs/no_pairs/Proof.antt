@@ -1,9 +1,9 @@
-use borrow.Author.Needs.{needs}
+use native.Mathlib.Omega.{arith}
 use Rattle.recording.proofs.pairs.no_pairs.Statement.{statement}
 use Rattle.recording.proofs.pairs.no_pairs.Tie as tie
 
 plain-requires : tie.Need-plain-requires
-plain-requires c κs = search needs
+plain-requires c κs = omega arith
 
 returns : tie.Need-returns
 returns c = rw (c .plain .ensures)

@@ -1,13 +1,13 @@
 use borrow.Author.Tests.{le-ltb, lt-ltb}
-use borrow.Author.Needs.{needs}
+use native.Mathlib.Omega.{arith}
 use Rattle.recording.proofs.pairs.put_count.Statement.{statement}
 use Rattle.recording.proofs.pairs.put_count.Tie as tie
 
 mul-next : tie.Need-mul-next
-mul-next c = search needs
+mul-next c = omega arith
 
 array-write-next : tie.Need-array-write-next
-array-write-next c = search needs
+array-write-next c = omega arith
 
 returns : tie.Need-returns
 returns c = rw (lt-ltb (c .before .args .i) 64 (c .if1 .taken))

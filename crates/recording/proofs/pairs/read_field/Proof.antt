@@ -4,42 +4,42 @@ use Rattle.recording.proofs.Reading.{field-is}
 use Rattle.recording.specs.Pairs.{holdRead, restoreRead}
 use Rattle.recording.specs.declared.pairs.Awaited.the-variants.{Name, Kind, HoldOff, Restore, Nothing}
 use Rattle.text.specs.declared.fields.Number.{Number}
-use borrow.Author.Needs.{needs}
+use native.Mathlib.Omega.{arith}
 use Rattle.recording.proofs.pairs.read_field.Statement.{statement}
 use Rattle.recording.proofs.pairs.read_field.Tie as tie
 
 enum-told : tie.Need-enum-told
-enum-told c = search needs
+enum-told c = omega arith
 
 read-name-requires : tie.Need-read-name-requires
-read-name-requires c κs = search needs
+read-name-requires c κs = omega arith
 
 enum-told-2 : tie.Need-enum-told-2
-enum-told-2 c = search needs
+enum-told-2 c = omega arith
 
 read-kind-requires : tie.Need-read-kind-requires
-read-kind-requires c κs = search needs
+read-kind-requires c κs = omega arith
 
 enum-known-awaited : tie.Need-enum-known-awaited
-enum-known-awaited c = search needs
+enum-known-awaited c = omega arith
 
 read-number-requires : tie.Need-read-number-requires
-read-number-requires c κs = search needs
+read-number-requires c κs = omega arith
 
 read-hold-requires : tie.Need-read-hold-requires
-read-hold-requires c κs = search needs
+read-hold-requires c κs = omega arith
 
 enum-known-awaited-2 : tie.Need-enum-known-awaited-2
-enum-known-awaited-2 c = search needs
+enum-known-awaited-2 c = omega arith
 
 read-number-requires-2 : tie.Need-read-number-requires-2
-read-number-requires-2 c κs = search needs
+read-number-requires-2 c κs = omega arith
 
 read-restore-requires : tie.Need-read-restore-requires
-read-restore-requires c κs = search needs
+read-restore-requires c κs = omega arith
 
 enum-told-3 : tie.Need-enum-told-3
-enum-told-3 c = search needs
+enum-told-3 c = omega arith
 
 returns : tie.Need-returns
 returns c = field-is (c .before .before .before .before .args .pairs) Name (c .before .enum-told .given .1) (slice (c .before .before .before .before .args .at) (c .before .before .before .before .args .limit) (c .before .before .before .before .args .text .now)) (c .read-name .result) (c .read-name .ensures)

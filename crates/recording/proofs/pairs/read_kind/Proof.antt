@@ -1,29 +1,29 @@
 use lib.Seq.{slice}
-use borrow.Author.Needs.{needs}
+use native.Mathlib.Omega.{arith}
 use Rattle.recording.proofs.Reading.{kind-fixed, kind-h4, kind-none}
 use Rattle.recording.proofs.pairs.read_kind.Statement.{statement}
 use Rattle.recording.proofs.pairs.read_kind.Tie as tie
 
 slice-aggregate-same : tie.Need-slice-aggregate-same
-slice-aggregate-same c = search needs
+slice-aggregate-same c = omega arith
 
 same-requires : tie.Need-same-requires
-same-requires c κs = search needs
+same-requires c κs = omega arith
 
 kind-to-requires : tie.Need-kind-to-requires
-kind-to-requires c κs = search needs
+kind-to-requires c κs = omega arith
 
 returns : tie.Need-returns
 returns c = kind-h4 (c .before .before .before .before .before .args .pairs) (slice (c .before .before .before .before .before .args .at) (c .before .before .before .before .before .args .limit) (c .before .before .before .before .before .args .text .now)) (c .before .before .same .result) (c .before .before .same .ensures) (c .before .if1 .taken) (c .kind-to .result) (c .kind-to .ensures)
 
 slice-aggregate-same-2 : tie.Need-slice-aggregate-same-2
-slice-aggregate-same-2 c = search needs
+slice-aggregate-same-2 c = omega arith
 
 same-requires-2 : tie.Need-same-requires-2
-same-requires-2 c κs = search needs
+same-requires-2 c κs = omega arith
 
 kind-to-requires-2 : tie.Need-kind-to-requires-2
-kind-to-requires-2 c κs = search needs
+kind-to-requires-2 c κs = omega arith
 
 returns-2 : tie.Need-returns-2
 returns-2 c =
@@ -34,7 +34,7 @@ returns-2 c =
     kind-fixed (start .args .pairs) (slice (start .args .at) (start .args .limit) (start .args .text .now)) (same .result) (same .ensures) (test1 .left) (same2 .result) (same2 .ensures) (c .before .if2 .taken) (c .kind-to2 .result) (c .kind-to2 .ensures)
 
 awaits-requires : tie.Need-awaits-requires
-awaits-requires c κs = search needs
+awaits-requires c κs = omega arith
 
 returns-3 : tie.Need-returns-3
 returns-3 c =

@@ -1,29 +1,29 @@
 use lib.Seq.{slice}
 use Rattle.recording.proofs.Reading.{name-hold, name-kind, name-none, name-restore}
-use borrow.Author.Needs.{needs}
+use native.Mathlib.Omega.{arith}
 use Rattle.recording.proofs.pairs.read_name.Statement.{statement}
 use Rattle.recording.proofs.pairs.read_name.Tie as tie
 
 slice-aggregate-same : tie.Need-slice-aggregate-same
-slice-aggregate-same c = search needs
+slice-aggregate-same c = omega arith
 
 same-requires : tie.Need-same-requires
-same-requires c κs = search needs
+same-requires c κs = omega arith
 
 kind-named-requires : tie.Need-kind-named-requires
-kind-named-requires c κs = search needs
+kind-named-requires c κs = omega arith
 
 returns : tie.Need-returns
 returns c = name-kind (c .before .before .before .before .before .before .args .pairs) (slice (c .before .before .before .before .before .before .args .at) (c .before .before .before .before .before .before .args .limit) (c .before .before .before .before .before .before .args .text .now)) (c .before .before .before .same .result) (c .before .before .before .same .ensures) (c .before .if1 .taken) (c .kind-named .result) (c .kind-named .ensures)
 
 slice-aggregate-same-2 : tie.Need-slice-aggregate-same-2
-slice-aggregate-same-2 c = search needs
+slice-aggregate-same-2 c = omega arith
 
 same-requires-2 : tie.Need-same-requires-2
-same-requires-2 c κs = search needs
+same-requires-2 c κs = omega arith
 
 hold-named-requires : tie.Need-hold-named-requires
-hold-named-requires c κs = search needs
+hold-named-requires c κs = omega arith
 
 returns-2 : tie.Need-returns-2
 returns-2 c =
@@ -34,13 +34,13 @@ returns-2 c =
     name-hold (start .args .pairs) (slice (start .args .at) (start .args .limit) (start .args .text .now)) (same .result) (same .ensures) (test1 .left) (same2 .result) (same2 .ensures) (c .before .if2 .taken) (c .hold-named .result) (c .hold-named .ensures)
 
 slice-aggregate-same-3 : tie.Need-slice-aggregate-same-3
-slice-aggregate-same-3 c = search needs
+slice-aggregate-same-3 c = omega arith
 
 same-requires-3 : tie.Need-same-requires-3
-same-requires-3 c κs = search needs
+same-requires-3 c κs = omega arith
 
 restore-named-requires : tie.Need-restore-named-requires
-restore-named-requires c κs = search needs
+restore-named-requires c κs = omega arith
 
 returns-3 : tie.Need-returns-3
 returns-3 c =
@@ -53,7 +53,7 @@ returns-3 c =
     name-restore (start .args .pairs) (slice (start .args .at) (start .args .limit) (start .args .text .now)) (same .result) (same .ensures) (test1 .left) (same2 .result) (same2 .ensures) (test2 .left) (same3 .result) (same3 .ensures) (c .before .if3 .taken) (c .restore-named .result) (c .restore-named .ensures)
 
 awaits-requires : tie.Need-awaits-requires
-awaits-requires c κs = search needs
+awaits-requires c κs = omega arith
 
 returns-4 : tie.Need-returns-4
 returns-4 c =

@@ -5,7 +5,6 @@ use Rattle.recording.specs.declared.pairs.Pairs.{Pairs}
 use Rattle.recording.specs.Laws.Pairs.{fieldsFrom, pairs-none, pairs-one}
 use Rattle.recording.specs.Pairs.{pairsFrom}
 use Rattle.text.specs.Laws.Slices.{first-le}
-use borrow.Author.Needs.{needs}
 use Rattle.recording.proofs.pairs.read_pairs.Statement.{statement}
 use Rattle.recording.proofs.pairs.read_pairs.Tie as tie
 
@@ -19,10 +18,10 @@ loop-holds : tie.Need-loop-holds Inv-loop μ-loop
 loop-holds c = refl
 
 piece-end-requires : tie.Need-piece-end-requires Inv-loop μ-loop
-piece-end-requires c κs = search needs
+piece-end-requires c κs = omega arith
 
 read-field-requires : tie.Need-read-field-requires Inv-loop μ-loop
-read-field-requires c κs = search needs
+read-field-requires c κs = omega arith
 
 add-at : tie.Need-add-at Inv-loop μ-loop
 add-at c = let m = first-le (c .before .before .before .before .before .args .text .now) (c .before .before .before .loop .at) (c .before .before .before .before .before .args .end) (c .before .piece-end .result) (c .before .before .loop-test .taken) (c .before .before .before .before .before .pre) (c .before .piece-end .ensures) in omega arith

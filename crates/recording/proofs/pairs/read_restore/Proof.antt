@@ -1,31 +1,31 @@
 use Rattle.recording.proofs.Reading.{restore-none, restore-value}
-use borrow.Author.Needs.{needs}
+use native.Mathlib.Omega.{arith}
 use Rattle.recording.proofs.pairs.read_restore.Statement.{statement}
 use Rattle.recording.proofs.pairs.read_restore.Tie as tie
 
 enum-known-number : tie.Need-enum-known-number
-enum-known-number c = search needs
+enum-known-number c = omega arith
 
 enum-told : tie.Need-enum-told
-enum-told c = search needs
+enum-told c = omega arith
 
 awaits-requires : tie.Need-awaits-requires
-awaits-requires c κs = search needs
+awaits-requires c κs = omega arith
 
 returns : tie.Need-returns
 returns c = restore-none (c .before .before .before .args .pairs) (c .before .before .before .args .i) (c .before .before .before .args .number) (c .before .enum-told .given .1) (c .awaits .result) (c .awaits .ensures)
 
 with-restore-requires : tie.Need-with-restore-requires
-with-restore-requires c κs = search needs
+with-restore-requires c κs = omega arith
 
 add-restore-from : tie.Need-add-restore-from
-add-restore-from c = search needs
+add-restore-from c = omega arith
 
 restore-from-requires : tie.Need-restore-from-requires
-restore-from-requires c κs = search needs
+restore-from-requires c κs = omega arith
 
 with-settings-requires : tie.Need-with-settings-requires
-with-settings-requires c κs = search needs
+with-settings-requires c κs = omega arith
 
 returns-2 : tie.Need-returns-2
 returns-2 c = restore-value (c .before .before .before .before .before .before .before .args .pairs) (c .before .before .before .before .before .before .before .args .i) (c .before .before .before .before .before .before .before .args .number) (c .before .before .before .before .before .number .given .0 .0) (c .before .before .before .before .before .number .given .1) (c .before .before .with-restore .result) (c .before .restore-from .result) (c .with-settings .result) (c .with-settings .ensures) (c .before .before .with-restore .ensures) (c .before .restore-from .ensures)

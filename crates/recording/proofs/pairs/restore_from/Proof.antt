@@ -1,10 +1,10 @@
 use borrow.Author.Tests.{le-ltb, lt-ltb}
-use borrow.Author.Needs.{needs}
+use native.Mathlib.Omega.{arith}
 use Rattle.recording.proofs.pairs.restore_from.Statement.{statement}
 use Rattle.recording.proofs.pairs.restore_from.Tie as tie
 
 cast-t5 : tie.Need-cast-t5
-cast-t5 c = search needs
+cast-t5 c = omega arith
 
 returns : tie.Need-returns
 returns c = rw (lt-ltb (c .before .args .i) (c .before .args .ports) (c .if1 .taken))

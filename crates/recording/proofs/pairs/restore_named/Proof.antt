@@ -1,9 +1,9 @@
-use borrow.Author.Needs.{needs}
+use native.Mathlib.Omega.{arith}
 use Rattle.recording.proofs.pairs.restore_named.Statement.{statement}
 use Rattle.recording.proofs.pairs.restore_named.Tie as tie
 
 restore-from-requires : tie.Need-restore-from-requires
-restore-from-requires c κs = search needs
+restore-from-requires c κs = omega arith
 
 returns : tie.Need-returns
 returns c = rw (c .restore-from .ensures)

@@ -1,9 +1,9 @@
-use borrow.Author.Needs.{needs}
+use native.Mathlib.Omega.{arith}
 use Rattle.recording.proofs.pairs.with_restore.Statement.{statement}
 use Rattle.recording.proofs.pairs.with_restore.Tie as tie
 
 put-count-requires : tie.Need-put-count-requires
-put-count-requires c κs = search needs
+put-count-requires c κs = omega arith
 
 returns : tie.Need-returns
 returns c = rw (c .before .put-count .ensures)

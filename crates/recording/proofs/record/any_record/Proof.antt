@@ -1,24 +1,23 @@
 use mathlib.Core.Path.{sym, _∙_}
 use native.Mathlib.Omega.{arith}
-use borrow.Author.Needs.{needs}
 use Rattle.recording.specs.Laws.Parting.{ends-within, record-ends, record-long, record-nothing, record-open}
 use Rattle.recording.proofs.record.any_record.Statement.{statement}
 use Rattle.recording.proofs.record.any_record.Tie as tie
 
 find-requires : tie.Need-find-requires
-find-requires c κs = search needs
+find-requires c κs = omega arith
 
 enum-told : tie.Need-enum-told
-enum-told c = search needs
+enum-told c = omega arith
 
 enum-told-2 : tie.Need-enum-told-2
-enum-told-2 c = search needs
+enum-told-2 c = omega arith
 
 enum-told-3 : tie.Need-enum-told-3
-enum-told-3 c = search needs
+enum-told-3 c = omega arith
 
 enum-known-found : tie.Need-enum-known-found
-enum-known-found c = search needs
+enum-known-found c = omega arith
 
 add-line-record : tie.Need-add-line-record
 add-line-record c = omega (arith, ends-within (c .before .before .before .before .before .args .text .now) (c .before .before .before .before .before .args .at) (c .before .found .given .0 .0) (sym (c .before .before .before .find .ensures) ∙ c .before .found .given .1) .1)

@@ -1,46 +1,46 @@
-use borrow.Author.Needs.{needs}
+use native.Mathlib.Omega.{arith}
 use Rattle.recording.specs.Laws.Here.{frameBehind}
 use Rattle.recording.proofs.record.frame_behind.Statement.{statement}
 use Rattle.recording.proofs.record.frame_behind.Tie as tie
 
 read-number-requires : tie.Need-read-number-requires
-read-number-requires c κs = search needs
+read-number-requires c κs = omega arith
 
 add-read-hex : tie.Need-add-read-hex
-add-read-hex c = search needs
+add-read-hex c = omega arith
 
 add-read-hex-2 : tie.Need-add-read-hex-2
-add-read-hex-2 c = search needs
+add-read-hex-2 c = omega arith
 
 read-hex-requires : tie.Need-read-hex-requires
-read-hex-requires c κs = search needs
+read-hex-requires c κs = omega arith
 
 add-flag-in : tie.Need-add-flag-in
-add-flag-in c = search needs
+add-flag-in c = omega arith
 
 add-flag-in-2 : tie.Need-add-flag-in-2
-add-flag-in-2 c = search needs
+add-flag-in-2 c = omega arith
 
 flag-in-requires : tie.Need-flag-in-requires
-flag-in-requires c κs = search needs
+flag-in-requires c κs = omega arith
 
 digits-of-requires : tie.Need-digits-of-requires
-digits-of-requires c κs = search needs
+digits-of-requires c κs = omega arith
 
 add-is-hex : tie.Need-add-is-hex
-add-is-hex c = search needs
+add-is-hex c = omega arith
 
 is-hex-requires : tie.Need-is-hex-requires
-is-hex-requires c κs = search needs
+is-hex-requires c κs = omega arith
 
 add-frame-by : tie.Need-add-frame-by
-add-frame-by c = search needs
+add-frame-by c = omega arith
 
 add-frame-by-2 : tie.Need-add-frame-by-2
-add-frame-by-2 c = search needs
+add-frame-by-2 c = omega arith
 
 frame-by-requires : tie.Need-frame-by-requires
-frame-by-requires c κs = search needs
+frame-by-requires c κs = omega arith
 
 returns : tie.Need-returns
 unfolding frameBehind

@@ -1,23 +1,22 @@
 use native.Mathlib.Omega.{arith}
-use borrow.Author.Needs.{needs}
 use Rattle.recording.proofs.Framing.{a-frame, h4-below, no-frame, no-h4, no-port}
 use Rattle.recording.proofs.record.frame_by.Statement.{statement}
 use Rattle.recording.proofs.record.frame_by.Tie as tie
 
 enum-known-port : tie.Need-enum-known-port
-enum-known-port c = search needs
+enum-known-port c = omega arith
 
 enum-told : tie.Need-enum-told
-enum-told c = search needs
+enum-told c = omega arith
 
 returns : tie.Need-returns
 returns c = no-port (c .before .before .args .ports) (c .before .before .args .port) (c .before .before .args .h4) (c .before .before .args .flag) (c .before .before .args .payload) (c .before .before .args .place) (c .before .before .args .next) (c .enum-told .given .1)
 
 enum-known-h4 : tie.Need-enum-known-h4
-enum-known-h4 c = search needs
+enum-known-h4 c = omega arith
 
 enum-told-2 : tie.Need-enum-told-2
-enum-told-2 c = search needs
+enum-told-2 c = omega arith
 
 returns-2 : tie.Need-returns-2
 returns-2 c = no-h4 (c .before .before .before .before .before .args .ports) (c .before .before .before .before .before .args .port) (c .before .before .before .before .before .args .h4) (c .before .before .before .before .before .args .flag) (c .before .before .before .before .before .args .payload) (c .before .before .before .before .before .args .place) (c .before .before .before .before .before .args .next) (c .before .before .before .port .given .0 .0) (c .before .before .before .port .given .1) (c .enum-told2 .given .1)

@@ -2,7 +2,6 @@ use mathlib.Core.Bool.{false≢true}
 use mathlib.Core.Path.{sym, ap, _∙_}
 use Prim.Native.Nat.{ℕ, _+_, _≤_}
 use native.Mathlib.Omega.{arith}
-use borrow.Author.Needs.{needs}
 use Rattle.recording.specs.Laws.Here.{here-is, isFrame, piece-within}
 use Rattle.text.specs.Text.{TAB}
 use Rattle.recording.proofs.record.frame_here.Statement.{statement}
@@ -12,10 +11,10 @@ returns : tie.Need-returns
 returns c = λ t. absurd (false≢true t)
 
 add-piece-end : tie.Need-add-piece-end
-add-piece-end c = search needs
+add-piece-end c = omega arith
 
 piece-end-requires : tie.Need-piece-end-requires
-piece-end-requires c κs = search needs
+piece-end-requires c κs = omega arith
 
 add-end : tie.Need-add-end
 add-end c =
@@ -24,7 +23,7 @@ add-end c =
     omega arith
 
 digits-of-requires : tie.Need-digits-of-requires
-digits-of-requires c κs = search needs
+digits-of-requires c κs = omega arith
 
 add-end-2 : tie.Need-add-end-2
 add-end-2 c =
@@ -37,7 +36,7 @@ returns-2 : tie.Need-returns-2
 returns-2 c = λ t. absurd (false≢true t)
 
 sub-if3 : tie.Need-sub-if3
-sub-if3 c = search needs
+sub-if3 c = omega arith
 
 returns-3 : tie.Need-returns-3
 returns-3 c = λ t. absurd (false≢true t)

@@ -1,50 +1,50 @@
 use mathlib.Core.Path.{_≡_, sym, ap, _∙_}
 use Prim.Native.Nat.{ℕ, _+_}
 use lib.Seq.{slice}
-use borrow.Author.Needs.{needs}
+use native.Mathlib.Omega.{arith}
 use Rattle.text.specs.Fields.{isHex}
 use Rattle.recording.specs.Laws.Parting.{five, four}
 use Rattle.recording.proofs.record.frame_line.Statement.{statement}
 use Rattle.recording.proofs.record.frame_line.Tie as tie
 
 add-piece-end : tie.Need-add-piece-end
-add-piece-end c = search needs
+add-piece-end c = omega arith
 
 piece-end-requires : tie.Need-piece-end-requires
-piece-end-requires c κs = search needs
+piece-end-requires c κs = omega arith
 
 returns : tie.Need-returns
 returns c = five (c .before .before .before .args .ports) (c .before .before .before .args .size) (c .before .before .before .args .text .now) (c .before .before .before .args .end) (c .before .before .before .args .next) (c .before .before .before .pre .3) (c .before .before .before .args .at) (c .before .before .before .args .first) (c .before .before .before .args .second) (c .before .before .before .args .third) (c .before .piece-end .result) (c .before .before .before .pre .2) (c .before .piece-end .ensures) (c .if1 .taken)
 
 read-number-requires : tie.Need-read-number-requires
-read-number-requires c κs = search needs
+read-number-requires c κs = omega arith
 
 add-read-hex : tie.Need-add-read-hex
-add-read-hex c = search needs
+add-read-hex c = omega arith
 
 read-hex-requires : tie.Need-read-hex-requires
-read-hex-requires c κs = search needs
+read-hex-requires c κs = omega arith
 
 add-flag-in : tie.Need-add-flag-in
-add-flag-in c = search needs
+add-flag-in c = omega arith
 
 flag-in-requires : tie.Need-flag-in-requires
-flag-in-requires c κs = search needs
+flag-in-requires c κs = omega arith
 
 digits-of-requires : tie.Need-digits-of-requires
-digits-of-requires c κs = search needs
+digits-of-requires c κs = omega arith
 
 add-is-hex : tie.Need-add-is-hex
-add-is-hex c = search needs
+add-is-hex c = omega arith
 
 is-hex-requires : tie.Need-is-hex-requires
-is-hex-requires c κs = search needs
+is-hex-requires c κs = omega arith
 
 add-frame-by : tie.Need-add-frame-by
-add-frame-by c = search needs
+add-frame-by c = omega arith
 
 frame-by-requires : tie.Need-frame-by-requires
-frame-by-requires c κs = search needs
+frame-by-requires c κs = omega arith
 
 returns-2 : tie.Need-returns-2
 returns-2 c =

@@ -1,5 +1,4 @@
 use native.Mathlib.Omega.{arith}
-use borrow.Author.Needs.{needs}
 use Rattle.recording.specs.Laws.Parting.{record-last, record-past}
 use Rattle.recording.proofs.record.last_record.Statement.{statement}
 use Rattle.recording.proofs.record.last_record.Tie as tie

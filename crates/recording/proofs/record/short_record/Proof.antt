@@ -1,30 +1,29 @@
 use Prim.Native.Nat.{_+_, _≤_, _<_}
 use native.Mathlib.Omega.{arith}
-use borrow.Author.Needs.{needs}
 use Rattle.recording.specs.Laws.Parting.{more, one, three, two}
 use Rattle.recording.proofs.record.short_record.Statement.{statement}
 use Rattle.recording.proofs.record.short_record.Tie as tie
 
 piece-end-requires : tie.Need-piece-end-requires
-piece-end-requires c κs = search needs
+piece-end-requires c κs = omega arith
 
 returns : tie.Need-returns
 returns c = one (c .before .before .before .args .ports) (c .before .before .before .args .size) (c .before .before .before .args .text .now) (c .before .before .before .args .end) (c .before .before .before .args .next) (c .before .before .before .pre .1) (c .before .before .before .args .at) (c .before .piece-end .result) (c .before .before .before .pre .0) (c .before .piece-end .ensures) (c .if1 .taken)
 
 add-piece-end : tie.Need-add-piece-end
-add-piece-end c = search needs
+add-piece-end c = omega arith
 
 piece-end-requires-2 : tie.Need-piece-end-requires-2
-piece-end-requires-2 c κs = search needs
+piece-end-requires-2 c κs = omega arith
 
 returns-2 : tie.Need-returns-2
 returns-2 c = two (c .before .before .before .before .before .args .ports) (c .before .before .before .before .before .args .size) (c .before .before .before .before .before .args .text .now) (c .before .before .before .before .before .args .end) (c .before .before .before .before .before .args .next) (c .before .before .before .before .before .pre .1) (c .before .before .before .before .before .args .at) (c .before .before .before .piece-end .result) (c .before .before .before .before .before .pre .0) (c .before .before .before .piece-end .ensures) (c .before .before .if1 .left) (c .before .piece-end2 .result) (c .before .piece-end2 .ensures) (c .if2 .taken)
 
 add-piece-end-2 : tie.Need-add-piece-end-2
-add-piece-end-2 c = search needs
+add-piece-end-2 c = omega arith
 
 piece-end-requires-3 : tie.Need-piece-end-requires-3
-piece-end-requires-3 c κs = search needs
+piece-end-requires-3 c κs = omega arith
 
 returns-3 : tie.Need-returns-3
 returns-3 c = three (c .before .before .before .before .before .before .before .args .ports) (c .before .before .before .before .before .before .before .args .size) (c .before .before .before .before .before .before .before .args .text .now) (c .before .before .before .before .before .before .before .args .end) (c .before .before .before .before .before .before .before .args .next) (c .before .before .before .before .before .before .before .pre .1) (c .before .before .before .before .before .before .before .args .at) (c .before .before .before .before .before .piece-end .result) (c .before .before .before .before .before .before .before .pre .0) (c .before .before .before .before .before .piece-end .ensures) (c .before .before .before .before .if1 .left) (c .before .before .before .piece-end2 .result) (c .before .before .before .piece-end2 .ensures) (c .before .before .if2 .left) (c .before .piece-end3 .result) (c .before .piece-end3 .ensures) (c .if3 .taken)

@@ -1,10 +1,10 @@
-use borrow.Author.Needs.{needs}
+use native.Mathlib.Omega.{arith}
 use borrow.Author.Tests.{eq-eqb, ne-eqb}
 use Rattle.replaying.proofs.changes.number_of.Statement.{statement}
 use Rattle.replaying.proofs.changes.number_of.Tie as tie
 
 idle-number-requires : tie.Need-idle-number-requires
-idle-number-requires c κs = search needs
+idle-number-requires c κs = omega arith
 
 returns : tie.Need-returns
 returns c = rw (eq-eqb (c .before .before .before .args .member .state) 0 (c .before .if1 .taken)) (c .idle-number .ensures)

@@ -19,37 +19,37 @@ loop-holds : tie.Need-loop-holds Inv-loop μ-loop
 loop-holds c = (search needs, search needs, omega arith, changes-none (c .before .args .t1) (c .before .args .t2) (c .before .args .said .now) (c .before .args .start))
 
 cast-old : tie.Need-cast-old Inv-loop μ-loop
-cast-old c = search needs
+cast-old c = omega arith
 
 mul-old : tie.Need-mul-old Inv-loop μ-loop
-mul-old c = search needs
+mul-old c = omega arith
 
 array-read-old : tie.Need-array-read-old Inv-loop μ-loop
-array-read-old c = search needs
+array-read-old c = omega arith
 
 cast-new : tie.Need-cast-new Inv-loop μ-loop
-cast-new c = search needs
+cast-new c = omega arith
 
 mul-new : tie.Need-mul-new Inv-loop μ-loop
-mul-new c = search needs
+mul-new c = omega arith
 
 array-read-new : tie.Need-array-read-new Inv-loop μ-loop
-array-read-new c = search needs
+array-read-new c = omega arith
 
 put-change-requires : tie.Need-put-change-requires Inv-loop μ-loop
 put-change-requires c κs = (omega (arith, c .before .before .before .before .pre .0), room-for-one (c .before .before .before .before .args .t1) (c .before .before .before .before .args .t2) (c .before .before .loop .i) (c .before .before .loop .inv .3) (omega (arith, c .before .before .before .before .pre .0)) (c .before .before .before .before .pre .1))
 
 add-i : tie.Need-add-i Inv-loop μ-loop
-add-i c = search needs
+add-i c = omega arith
 
 loop-less : tie.Need-loop-less Inv-loop μ-loop
-loop-less c = search needs
+loop-less c = omega arith
 
 loop-again : tie.Need-loop-again Inv-loop μ-loop
 loop-again c = (c .before .before .before .before .before .loop .inv .0, c .before .before .before .before .before .loop .inv .1, omega arith, one-more (c .before .before .before .before .before .before .before .args .t1) (c .before .before .before .before .before .before .before .args .t2) (c .before .before .before .before .before .loop .i) (c .before .before .before .before .before .loop .inv .3) (c .before .before .put-change .ensures))
 
 same-length : tie.Need-same-length Inv-loop μ-loop
-same-length c = search needs
+same-length c = omega arith
 
 returns : tie.Need-returns Inv-loop μ-loop
 returns c =

@@ -1,6 +1,5 @@
 use native.Mathlib.Omega.{arith}
 use lib.ListN.{getD}
-use borrow.Author.Needs.{needs}
 use Rattle.text.specs.Laws.Putting.{put-then}
 use Rattle.replaying.specs.Output.{reportText}
 use Rattle.replaying.proofs.Printing.{epoch-le}
@@ -8,13 +7,13 @@ use Rattle.replaying.proofs.changes.put_report.Statement.{statement}
 use Rattle.replaying.proofs.changes.put_report.Tie as tie
 
 count-in-requires : tie.Need-count-in-requires
-count-in-requires c κs = search needs
+count-in-requires c κs = omega arith
 
 array-read-put-epoch : tie.Need-array-read-put-epoch
-array-read-put-epoch c = search needs
+array-read-put-epoch c = omega arith
 
 array-read-put-epoch-2 : tie.Need-array-read-put-epoch-2
-array-read-put-epoch-2 c = search needs
+array-read-put-epoch-2 c = omega arith
 
 put-epoch-requires : tie.Need-put-epoch-requires
 put-epoch-requires c κs = let l = epoch-le (getD (c .before .before .before .args .t1) 1 0) (getD (c .before .before .before .args .t1) 0 0) (c .before .count-in .result) (c .before .before .before .args .line) in omega arith
@@ -27,7 +26,7 @@ put-changes-requires c κs =
     (c .before .before .before .before .before .before .before .pre .0, omega arith)
 
 same-length : tie.Need-same-length
-same-length c = search needs
+same-length c = omega arith
 
 returns : tie.Need-returns
 unfolding reportText

@@ -1,22 +1,21 @@
 use native.Mathlib.Omega.{arith}
-use borrow.Author.Needs.{needs}
 use Rattle.replaying.specs.Output.{stateLine}
 use Rattle.replaying.proofs.Printing.{state-line-le}
 use Rattle.replaying.proofs.changes.put_state.Statement.{statement}
 use Rattle.replaying.proofs.changes.put_state.Tie as tie
 
 cast-put-port : tie.Need-cast-put-port
-cast-put-port c = search needs
+cast-put-port c = omega arith
 
 cast-put-port-2 : tie.Need-cast-put-port-2
-cast-put-port-2 c = search needs
+cast-put-port-2 c = omega arith
 
 put-port-requires : tie.Need-put-port-requires
 unfolding stateLine
 put-port-requires c κs = let l = state-line-le (c .before .before .args .port) (c .before .before .args .state) (omega arith) in omega arith
 
 same-length : tie.Need-same-length
-same-length c = search needs
+same-length c = omega arith
 
 returns : tie.Need-returns
 unfolding stateLine

@@ -1,23 +1,22 @@
 use native.Mathlib.Omega.{arith}
-use borrow.Author.Needs.{needs}
 use Rattle.replaying.specs.Output.{stateAt}
 use Rattle.replaying.proofs.changes.state_at.Statement.{statement}
 use Rattle.replaying.proofs.changes.state_at.Tie as tie
 
 get-requires : tie.Need-get-requires
-get-requires c κs = search needs
+get-requires c κs = omega arith
 
 number-of-requires : tie.Need-number-of-requires
-number-of-requires c κs = search needs
+number-of-requires c κs = omega arith
 
 wide-requires : tie.Need-wide-requires
-wide-requires c κs = search needs
+wide-requires c κs = omega arith
 
 mul-result : tie.Need-mul-result
 mul-result c = omega (arith, c .wide .ensures .1)
 
 wide-requires-2 : tie.Need-wide-requires-2
-wide-requires-2 c κs = search needs
+wide-requires-2 c κs = omega arith
 
 add-result : tie.Need-add-result
 add-result c = omega (arith, c .wide2 .ensures .1, c .before .wide .ensures .1)

@@ -2,7 +2,6 @@ use mathlib.Core.Path.{_≡_, refl}
 use Prim.Native.Nat.{ℕ, _+_, _-_, _≤_, _<_}
 use native.Mathlib.Omega.{arith}
 use lib.ListN.{length}
-use borrow.Author.Needs.{needs}
 use Rattle.ground.specs.Drawn.{Filling, filling-all, filling-more, filling-none}
 use Rattle.replaying.specs.Output.{stateAt, statesIn}
 use Rattle.replaying.proofs.changes.states_in.Statement.{statement}
@@ -18,22 +17,22 @@ loop-holds : tie.Need-loop-holds Inv-loop μ-loop
 loop-holds c = (omega arith, refl, filling-none 0 (stateAt (c .args .rows .now)) _)
 
 state-at-requires : tie.Need-state-at-requires Inv-loop μ-loop
-state-at-requires c κs = search needs
+state-at-requires c κs = omega arith
 
 cast-states : tie.Need-cast-states Inv-loop μ-loop
-cast-states c = search needs
+cast-states c = omega arith
 
 mul-states : tie.Need-mul-states Inv-loop μ-loop
-mul-states c = search needs
+mul-states c = omega arith
 
 array-write-states : tie.Need-array-write-states Inv-loop μ-loop
 array-write-states c = omega (arith, c .before .before .loop .inv .1, c .before .before .loop .inv .2 .len)
 
 add-i : tie.Need-add-i Inv-loop μ-loop
-add-i c = search needs
+add-i c = omega arith
 
 loop-less : tie.Need-loop-less Inv-loop μ-loop
-loop-less c = search needs
+loop-less c = omega arith
 
 loop-again : tie.Need-loop-again Inv-loop μ-loop
 loop-again c =

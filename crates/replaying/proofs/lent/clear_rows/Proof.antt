@@ -3,7 +3,6 @@ use mathlib.Core.List.{_++_}
 use Prim.Native.Nat.{_-_, _≤_, _<_}
 use native.Mathlib.Omega.{arith}
 use lib.ListN.{drop, length, replicate, length-set}
-use borrow.Author.Needs.{needs}
 use Rattle.replaying.proofs.Clearing.{clear-all, clear-turn}
 use Rattle.replaying.proofs.lent.clear_rows.Statement.{statement}
 use Rattle.replaying.proofs.lent.clear_rows.Tie as tie
@@ -18,16 +17,16 @@ loop-holds : tie.Need-loop-holds Inv-loop μ-loop
 loop-holds c = (omega arith, refl, refl)
 
 mul-t3 : tie.Need-mul-t3 Inv-loop μ-loop
-mul-t3 c = search needs
+mul-t3 c = omega arith
 
 slice-set-from-rows : tie.Need-slice-set-from-rows Inv-loop μ-loop
-slice-set-from-rows c = search needs
+slice-set-from-rows c = omega arith
 
 add-i : tie.Need-add-i Inv-loop μ-loop
-add-i c = search needs
+add-i c = omega arith
 
 loop-less : tie.Need-loop-less Inv-loop μ-loop
-loop-less c = search needs
+loop-less c = omega arith
 
 loop-again : tie.Need-loop-again Inv-loop μ-loop
 loop-again c =
@@ -35,7 +34,7 @@ loop-again c =
     (omega arith, simp length-set (c .before .loop .inv .1), clear-turn (replicate 16 0) (c .before .loop .i) (c .before .before .args .rows .now) (c .before .loop .rows) h (c .before .loop .inv .2))
 
 same-length : tie.Need-same-length Inv-loop μ-loop
-same-length c = search needs
+same-length c = omega arith
 
 returns : tie.Need-returns Inv-loop μ-loop
 returns c =

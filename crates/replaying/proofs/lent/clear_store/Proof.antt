@@ -3,7 +3,6 @@ use mathlib.Core.List.{_++_}
 use Prim.Native.Nat.{_-_, _≤_, _<_}
 use native.Mathlib.Omega.{arith}
 use lib.ListN.{drop, length, replicate, length-set}
-use borrow.Author.Needs.{needs}
 use Rattle.replaying.proofs.Clearing.{clear-all, clear-turn}
 use Rattle.replaying.proofs.lent.clear_store.Statement.{statement}
 use Rattle.replaying.proofs.lent.clear_store.Tie as tie
@@ -18,13 +17,13 @@ loop-holds : tie.Need-loop-holds Inv-loop μ-loop
 loop-holds c = (omega arith, refl, refl)
 
 slice-write-store : tie.Need-slice-write-store Inv-loop μ-loop
-slice-write-store c = search needs
+slice-write-store c = omega arith
 
 add-i : tie.Need-add-i Inv-loop μ-loop
-add-i c = search needs
+add-i c = omega arith
 
 loop-less : tie.Need-loop-less Inv-loop μ-loop
-loop-less c = search needs
+loop-less c = omega arith
 
 loop-again : tie.Need-loop-again Inv-loop μ-loop
 loop-again c =
@@ -32,7 +31,7 @@ loop-again c =
     (omega arith, simp length-set (c .before .loop .inv .1), clear-turn 0 (c .before .loop .i) (c .before .before .args .store .now) (c .before .loop .store) h (c .before .loop .inv .2))
 
 same-length : tie.Need-same-length Inv-loop μ-loop
-same-length c = search needs
+same-length c = omega arith
 
 returns : tie.Need-returns Inv-loop μ-loop
 returns c =

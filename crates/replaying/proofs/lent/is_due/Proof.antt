@@ -1,5 +1,6 @@
 use mathlib.Core.Path.{sym}
 use lib.Seq.{length-take-le}
+use native.Mathlib.Omega.{arith}
 use borrow.Author.Needs.{needs}
 use Rattle.replaying.proofs.lent.is_due.Statement.{statement}
 use Rattle.replaying.proofs.lent.is_due.Tie as tie
@@ -8,7 +9,7 @@ slice-aggregate-is-due-in : tie.Need-slice-aggregate-is-due-in
 slice-aggregate-is-due-in c = sym (length-take-le (c .before .args .count) (c .before .args .rows .now) (c .before .pre))
 
 is-due-in-requires : tie.Need-is-due-in-requires
-is-due-in-requires c κs = search needs
+is-due-in-requires c κs = omega arith
 
 returns : tie.Need-returns
 returns c = search needs

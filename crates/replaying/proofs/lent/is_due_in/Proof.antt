@@ -1,12 +1,12 @@
-use borrow.Author.Needs.{needs}
+use native.Mathlib.Omega.{arith}
 use Rattle.replaying.proofs.lent.is_due_in.Statement.{statement}
 use Rattle.replaying.proofs.lent.is_due_in.Tie as tie
 
 get-requires : tie.Need-get-requires
-get-requires c κs = search needs
+get-requires c κs = omega arith
 
 is-due-of-requires : tie.Need-is-due-of-requires
-is-due-of-requires c κs = search needs
+is-due-of-requires c κs = omega arith
 
 returns : tie.Need-returns
 returns c = rw (← c .before .get .ensures) (c .is-due-of .ensures)

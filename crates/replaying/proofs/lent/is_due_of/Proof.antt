@@ -1,14 +1,14 @@
 use mathlib.Core.Path.{refl}
 use Rattle.receiver.specs.Fetch.{dueIn}
-use borrow.Author.Needs.{needs}
+use native.Mathlib.Omega.{arith}
 use Rattle.replaying.proofs.lent.is_due_of.Statement.{statement}
 use Rattle.replaying.proofs.lent.is_due_of.Tie as tie
 
 ports-in-requires : tie.Need-ports-in-requires
-ports-in-requires c κs = search needs
+ports-in-requires c κs = omega arith
 
 is-complete-requires : tie.Need-is-complete-requires
-is-complete-requires c κs = search needs
+is-complete-requires c κs = omega arith
 
 returns : tie.Need-returns
 unfolding dueIn

@@ -6,7 +6,6 @@ use lib.Dec.{leb}
 use lib.ListN.{getD, length}
 use Rattle.counting.specs.Words.{every}
 use Rattle.receiver.specs.Starting.{timesWithin}
-use borrow.Author.Needs.{needs}
 use Rattle.replaying.proofs.lent.is_within.Statement.{statement}
 use Rattle.replaying.proofs.lent.is_within.Tie as tie
 
@@ -20,16 +19,16 @@ loop-holds : tie.Need-loop-holds Inv-loop μ-loop
 loop-holds c = (omega arith, refl)
 
 mul-all : tie.Need-mul-all Inv-loop μ-loop
-mul-all c = search needs
+mul-all c = omega arith
 
 shared-slice-read-all : tie.Need-shared-slice-read-all Inv-loop μ-loop
-shared-slice-read-all c = search needs
+shared-slice-read-all c = omega arith
 
 add-i : tie.Need-add-i Inv-loop μ-loop
-add-i c = search needs
+add-i c = omega arith
 
 loop-less : tie.Need-loop-less Inv-loop μ-loop
-loop-less c = search needs
+loop-less c = omega arith
 
 loop-again : tie.Need-loop-again Inv-loop μ-loop
 loop-again c = (omega arith, rw (c .before .before .loop .inv .1, add-one))

@@ -3,15 +3,15 @@ use Prim.Native.Nat.{ℕ, _≤_}
 use lib.ListN.{length, length-map, length-replicate, replicate}
 use lib.Seq.{length-take-le}
 use Rattle.replaying.specs.Turn.{clearedRows, startedRows}
-use borrow.Author.Needs.{needs}
+use native.Mathlib.Omega.{arith}
 use Rattle.replaying.proofs.lent.start.Statement.{statement}
 use Rattle.replaying.proofs.lent.start.Tie as tie
 
 clear-rows-requires : tie.Need-clear-rows-requires
-clear-rows-requires c κs = search needs
+clear-rows-requires c κs = omega arith
 
 cast-n : tie.Need-cast-n
-cast-n c = search needs
+cast-n c = omega arith
 
 array-share-prefix-hold : tie.Need-array-share-prefix-hold
 array-share-prefix-hold c = let l : length (c .before .before .before .before .before .before .args .settings .«hold_off») ≡ 64 = simp length-map at (c .before .before .before .before .before .before .good .0 .1 .1 .0 .1 .0 .1) in rw l (c .before .before .before .before .before .before .pre .1)
@@ -29,7 +29,7 @@ slice-aggregate-start-as-2 c =
     let l : length (start .args .settings .restore) ≡ 64 = simp length-map at (good .0 .1 .1 .1 .0 .1 .0 .1) in let h : start .args .settings .ports ≤ length (start .args .settings .restore) = rw l (start .pre .1) in sym (length-take-le (start .args .settings .ports) (start .args .settings .restore) h)
 
 slice-relend-prefix-start-as : tie.Need-slice-relend-prefix-start-as
-slice-relend-prefix-start-as c = search needs
+slice-relend-prefix-start-as c = omega arith
 
 slice-aggregate-start-as-3 : tie.Need-slice-aggregate-start-as-3
 slice-aggregate-start-as-3 c =
@@ -38,10 +38,10 @@ slice-aggregate-start-as-3 c =
     let n = length-replicate (length (start .args .rows .now)) (replicate {A = ℕ} 16 0) in let h : start .args .count ≤ length (clearedRows (start .args .rows .now)) = rw n (start .pre .0) in rw (clear-rows .ensures) (sym (length-take-le (start .args .count) (clearedRows (start .args .rows .now)) h))
 
 start-as-requires : tie.Need-start-as-requires
-start-as-requires c κs = search needs
+start-as-requires c κs = omega arith
 
 same-length : tie.Need-same-length
-same-length c = search needs
+same-length c = omega arith
 
 returns : tie.Need-returns
 unfolding startedRows

@@ -3,12 +3,12 @@ use Prim.Native.Nat.{_≤_}
 use lib.ListN.{length, length-map}
 use lib.Seq.{length-take-le}
 use Rattle.replaying.specs.Turn.{timesFit}
-use borrow.Author.Needs.{needs}
+use native.Mathlib.Omega.{arith}
 use Rattle.replaying.proofs.lent.times_fit.Statement.{statement}
 use Rattle.replaying.proofs.lent.times_fit.Tie as tie
 
 cast-n : tie.Need-cast-n
-cast-n c = search needs
+cast-n c = omega arith
 
 array-share-prefix-hold : tie.Need-array-share-prefix-hold
 array-share-prefix-hold c = let l : length (c .before .before .before .args .settings .«hold_off») ≡ 64 = simp length-map at (c .before .before .before .good .0 .1 .1 .0 .1 .0 .1) in rw l (c .before .before .before .pre)
@@ -17,7 +17,7 @@ slice-aggregate-is-within : tie.Need-slice-aggregate-is-within
 slice-aggregate-is-within c = let l : length (c .before .before .before .before .args .settings .«hold_off») ≡ 64 = simp length-map at (c .before .before .before .before .good .0 .1 .1 .0 .1 .0 .1) in let h : c .before .before .before .before .args .settings .ports ≤ length (c .before .before .before .before .args .settings .«hold_off») = rw l (c .before .before .before .before .pre) in sym (length-take-le (c .before .before .before .before .args .settings .ports) (c .before .before .before .before .args .settings .«hold_off») h)
 
 is-within-requires : tie.Need-is-within-requires
-is-within-requires c κs = search needs
+is-within-requires c κs = omega arith
 
 array-share-prefix-restore : tie.Need-array-share-prefix-restore
 array-share-prefix-restore c = let l : length (c .before .before .before .before .before .args .settings .restore) ≡ 64 = simp length-map at (c .before .before .before .before .before .good .0 .1 .1 .1 .0 .1 .0 .1) in rw l (c .before .before .before .before .before .pre)
@@ -26,7 +26,7 @@ slice-aggregate-is-within-2 : tie.Need-slice-aggregate-is-within-2
 slice-aggregate-is-within-2 c = let l : length (c .before .before .before .before .before .before .args .settings .restore) ≡ 64 = simp length-map at (c .before .before .before .before .before .before .good .0 .1 .1 .1 .0 .1 .0 .1) in let h : c .before .before .before .before .before .before .args .settings .ports ≤ length (c .before .before .before .before .before .before .args .settings .restore) = rw l (c .before .before .before .before .before .before .pre) in sym (length-take-le (c .before .before .before .before .before .before .args .settings .ports) (c .before .before .before .before .before .before .args .settings .restore) h)
 
 is-within-requires-2 : tie.Need-is-within-requires-2
-is-within-requires-2 c κs = search needs
+is-within-requires-2 c κs = omega arith
 
 returns : tie.Need-returns
 unfolding timesFit

@@ -2,7 +2,6 @@ use mathlib.Core.Path.{refl}
 use Prim.Native.Nat.{_+_, _≤_}
 use native.Mathlib.Nat.{mul-le-mul}
 use native.Mathlib.Omega.{arith}
-use borrow.Author.Needs.{needs}
 use Rattle.replaying.proofs.replay.store_of.Statement.{statement}
 use Rattle.replaying.proofs.replay.store_of.Tie as tie
 
@@ -13,7 +12,7 @@ mul-result c =
     omega (arith, mul-le-mul hp hw)
 
 add-result : tie.Need-add-result
-add-result c = search needs
+add-result c = omega arith
 
 mul-result-2 : tie.Need-mul-result-2
 mul-result-2 c =

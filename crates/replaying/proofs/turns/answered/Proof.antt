@@ -2,7 +2,6 @@ use mathlib.Core.Path.{refl}
 use Prim.Native.Nat.{_≤_}
 use native.Mathlib.Omega.{arith}
 use lib.ListN.{length}
-use borrow.Author.Needs.{needs}
 use Rattle.replaying.specs.Output.{answerText}
 use Rattle.replaying.specs.Turn.{answeredSaid, answeredTurn}
 use Rattle.replaying.proofs.Printing.{answer-le, put-over}
@@ -10,13 +9,13 @@ use Rattle.replaying.proofs.turns.answered.Statement.{statement}
 use Rattle.replaying.proofs.turns.answered.Tie as tie
 
 next-line-requires : tie.Need-next-line-requires
-next-line-requires c κs = search needs
+next-line-requires c κs = omega arith
 
 put-answer-requires : tie.Need-put-answer-requires
 put-answer-requires c κs = let l = answer-le (c .before .before .before .args .number) (c .before .next-line .result) in omega arith
 
 same-length : tie.Need-same-length
-same-length c = search needs
+same-length c = omega arith
 
 returns : tie.Need-returns
 unfolding answeredTurn answeredSaid

@@ -1,25 +1,25 @@
-use borrow.Author.Needs.{needs}
+use native.Mathlib.Omega.{arith}
 use Rattle.replaying.specs.Turn.{fetchOutBy, fetchRecordBy, fetchRowsBy}
 use Rattle.replaying.proofs.turns.fetch.Statement.{statement}
 use Rattle.replaying.proofs.turns.fetch.Tie as tie
 
 rows-for-requires : tie.Need-rows-for-requires
-rows-for-requires c κs = search needs
+rows-for-requires c κs = omega arith
 
 store-of-requires : tie.Need-store-of-requires
-store-of-requires c κs = search needs
+store-of-requires c κs = omega arith
 
 slice-aggregate-fetch : tie.Need-slice-aggregate-fetch
-slice-aggregate-fetch c = search needs
+slice-aggregate-fetch c = omega arith
 
 fetch-requires : tie.Need-fetch-requires
 fetch-requires c κs = (rw (c .before .before .before .before .rows-for .ensures) (c .before .before .before .before .before .before .before .pre .0), rw (c .before .before .before .store-of .ensures) (c .before .before .before .before .before .before .before .pre .1))
 
 same-length : tie.Need-same-length
-same-length c = search needs
+same-length c = omega arith
 
 same-length-2 : tie.Need-same-length-2
-same-length-2 c = search needs
+same-length-2 c = omega arith
 
 returns : tie.Need-returns
 unfolding fetchOutBy fetchRecordBy fetchRowsBy

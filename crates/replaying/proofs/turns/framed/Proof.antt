@@ -1,10 +1,10 @@
-use borrow.Author.Needs.{needs}
+use native.Mathlib.Omega.{arith}
 use Rattle.replaying.specs.Turn.{framedTurn}
 use Rattle.replaying.proofs.turns.framed.Statement.{statement}
 use Rattle.replaying.proofs.turns.framed.Tie as tie
 
 next-line-requires : tie.Need-next-line-requires
-next-line-requires c κs = search needs
+next-line-requires c κs = omega arith
 
 returns : tie.Need-returns
 unfolding framedTurn

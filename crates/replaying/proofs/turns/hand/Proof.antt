@@ -5,7 +5,7 @@ use lib.ListN.{length-replicate}
 use lib.Seq.{length-take-le}
 use Rattle.replaying.specs.Turn.{framedRows, framedStore}
 use Rattle.replaying.proofs.Deciding.{payload-is}
-use borrow.Author.Needs.{needs}
+use native.Mathlib.Omega.{arith}
 use Rattle.replaying.proofs.turns.hand.Statement.{statement}
 use Rattle.replaying.proofs.turns.hand.Tie as tie
 
@@ -13,13 +13,13 @@ read-payload-requires : tie.Need-read-payload-requires
 read-payload-requires c κs = rw (c .before .before .before .before .pre .1, length-replicate {A = ℕ} (c .before .before .before .before .args .replay .size) 0) (c .before .before .before .before .pre .0)
 
 rows-for-requires : tie.Need-rows-for-requires
-rows-for-requires c κs = search needs
+rows-for-requires c κs = omega arith
 
 store-of-requires : tie.Need-store-of-requires
-store-of-requires c κs = search needs
+store-of-requires c κs = omega arith
 
 slice-relend-prefix-frame : tie.Need-slice-relend-prefix-frame
-slice-relend-prefix-frame c = search needs
+slice-relend-prefix-frame c = omega arith
 
 slice-aggregate-frame : tie.Need-slice-aggregate-frame
 slice-aggregate-frame c =
@@ -28,7 +28,7 @@ slice-aggregate-frame c =
     sym (length-take-le (count .result) (start .args .rows .now) (rw (count .ensures) (start .pre .2)))
 
 slice-relend-prefix-frame-2 : tie.Need-slice-relend-prefix-frame-2
-slice-relend-prefix-frame-2 c = search needs
+slice-relend-prefix-frame-2 c = omega arith
 
 slice-aggregate-frame-2 : tie.Need-slice-aggregate-frame-2
 slice-aggregate-frame-2 c =
@@ -37,16 +37,16 @@ slice-aggregate-frame-2 c =
     sym (length-take-le (bytes .result) (start .args .store .now) (rw (bytes .ensures) (start .pre .3)))
 
 frame-requires : tie.Need-frame-requires
-frame-requires c κs = search needs
+frame-requires c κs = omega arith
 
 same-length : tie.Need-same-length
-same-length c = search needs
+same-length c = omega arith
 
 same-length-2 : tie.Need-same-length-2
-same-length-2 c = search needs
+same-length-2 c = omega arith
 
 same-length-3 : tie.Need-same-length-3
-same-length-3 c = search needs
+same-length-3 c = omega arith
 
 returns : tie.Need-returns
 unfolding framedRows framedStore

@@ -1,16 +1,16 @@
-use borrow.Author.Needs.{needs}
+use native.Mathlib.Omega.{arith}
 use Rattle.replaying.specs.Turn.{isLent}
 use Rattle.replaying.proofs.turns.is_lent.Statement.{statement}
 use Rattle.replaying.proofs.turns.is_lent.Tie as tie
 
 rows-for-requires : tie.Need-rows-for-requires
-rows-for-requires c κs = search needs
+rows-for-requires c κs = omega arith
 
 store-of-requires : tie.Need-store-of-requires
-store-of-requires c κs = search needs
+store-of-requires c κs = omega arith
 
 output-of-requires : tie.Need-output-of-requires
-output-of-requires c κs = search needs
+output-of-requires c κs = omega arith
 
 returns : tie.Need-returns
 unfolding isLent

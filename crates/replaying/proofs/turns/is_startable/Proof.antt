@@ -2,12 +2,11 @@ use mathlib.Core.Path.{sym, _∙_}
 use native.Mathlib.Omega.{arith}
 use borrow.Author.Tests.{not-false, not-true}
 use Rattle.replaying.specs.Laws.Starts.{small, start-in, start-out}
-use borrow.Author.Needs.{needs}
 use Rattle.replaying.proofs.turns.is_startable.Statement.{statement}
 use Rattle.replaying.proofs.turns.is_startable.Tie as tie
 
 is-sized-requires : tie.Need-is-sized-requires
-is-sized-requires c κs = search needs
+is-sized-requires c κs = omega arith
 
 returns : tie.Need-returns
 returns c = start-out (c .before .before .args .settings) (c .before .before .args .store) (sym (c .before .is-sized .ensures) ∙ not-true (c .before .is-sized .result) (c .if1 .taken))
@@ -25,7 +24,7 @@ cast-store-of-3 : tie.Need-cast-store-of-3
 cast-store-of-3 c = omega (arith, small (c .before .before .before .before .before .before .args .settings) (sym (c .before .before .before .before .before .is-sized .ensures) ∙ not-false (c .before .before .before .before .before .is-sized .result) (c .before .before .before .before .if1 .left)) .narrow)
 
 store-of-requires : tie.Need-store-of-requires
-store-of-requires c κs = search needs
+store-of-requires c κs = omega arith
 
 returns-2 : tie.Need-returns-2
 returns-2 c = start-in (c .before .before .before .before .before .before .before .args .settings) (c .before .before .before .before .before .before .before .args .store) (sym (c .before .before .before .before .before .before .is-sized .ensures) ∙ not-false (c .before .before .before .before .before .before .is-sized .result) (c .before .before .before .before .before .if1 .left)) (c .before .before .before .before .times-fit .result) (c .store-of .result) (c .before .before .before .before .times-fit .ensures) (c .store-of .ensures)

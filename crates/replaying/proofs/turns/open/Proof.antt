@@ -4,56 +4,56 @@ use borrow.Author.Tests.{le-leb, lt-leb}
 use Rattle.recording.specs.Laws.Lines.{handed-end, handed-malformed, handed-set, handed-unfinished}
 use Rattle.recording.specs.Opening.{openingIn}
 use Rattle.replaying.specs.Turn.{openRows, openSaid, openTurn}
-use borrow.Author.Needs.{needs}
+use native.Mathlib.Omega.{arith}
 use Rattle.replaying.proofs.turns.open.Statement.{statement}
 use Rattle.replaying.proofs.turns.open.Tie as tie
 
 refused-requires : tie.Need-refused-requires
-refused-requires c κs = search needs
+refused-requires c κs = omega arith
 
 returns : tie.Need-returns
 unfolding openTurn openRows openSaid
 returns c = rw (lt-leb 1160 (length (c .before .before .before .before .args .said .now)) (c .before .if1 .taken)) (c .refused .ensures, refl, refl)
 
 refused-requires-2 : tie.Need-refused-requires-2
-refused-requires-2 c κs = search needs
+refused-requires-2 c κs = omega arith
 
 returns-2 : tie.Need-returns-2
 unfolding openTurn openRows openSaid
 returns-2 c = rw (le-leb 1160 (length (c .before .before .before .before .before .args .said .now)) (c .before .before .if1 .left), lt-leb 321 (length (c .before .before .before .before .before .args .rows .now)) (c .before .if2 .taken)) (c .refused2 .ensures, refl, refl)
 
 opening-at-requires : tie.Need-opening-at-requires
-opening-at-requires c κs = search needs
+opening-at-requires c κs = omega arith
 
 enum-told : tie.Need-enum-told
-enum-told c = search needs
+enum-told c = omega arith
 
 open-with-requires : tie.Need-open-with-requires
-open-with-requires c κs = search needs
+open-with-requires c κs = omega arith
 
 enum-told-2 : tie.Need-enum-told-2
-enum-told-2 c = search needs
+enum-told-2 c = omega arith
 
 answered-requires : tie.Need-answered-requires
-answered-requires c κs = search needs
+answered-requires c κs = omega arith
 
 enum-told-3 : tie.Need-enum-told-3
-enum-told-3 c = search needs
+enum-told-3 c = omega arith
 
 waiting-requires : tie.Need-waiting-requires
-waiting-requires c κs = search needs
+waiting-requires c κs = omega arith
 
 enum-told-4 : tie.Need-enum-told-4
-enum-told-4 c = search needs
+enum-told-4 c = omega arith
 
 waiting-requires-2 : tie.Need-waiting-requires-2
-waiting-requires-2 c κs = search needs
+waiting-requires-2 c κs = omega arith
 
 same-length : tie.Need-same-length
-same-length c = search needs
+same-length c = omega arith
 
 same-length-2 : tie.Need-same-length-2
-same-length-2 c = search needs
+same-length-2 c = omega arith
 
 returns-3 : tie.Need-returns-3
 unfolding openTurn openRows openSaid
@@ -66,7 +66,7 @@ returns-3 c =
     rw (le-leb 1160 (length (start .args .said .now)) (test1 .left), le-leb 321 (length (start .args .rows .now)) (test2 .left), handed-set (openingIn 0 (start .args .last) (start .args .text .now)) (opening-at .result) (opening-at .ensures) (enum-told .given .1)) (c .before .before .before .open-with .ensures)
 
 same-length-3 : tie.Need-same-length-3
-same-length-3 c = search needs
+same-length-3 c = omega arith
 
 returns-4 : tie.Need-returns-4
 unfolding openTurn openRows openSaid

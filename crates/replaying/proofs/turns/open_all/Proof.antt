@@ -1,24 +1,24 @@
 use mathlib.Core.Path.{ap, _∙_}
-use borrow.Author.Needs.{needs}
+use native.Mathlib.Omega.{arith}
 use Rattle.replaying.specs.declared.turns.Replayed.{Replayed}
 use Rattle.replaying.specs.Turn.{storeBy}
 use Rattle.replaying.proofs.turns.open_all.Statement.{statement}
 use Rattle.replaying.proofs.turns.open_all.Tie as tie
 
 open-requires : tie.Need-open-requires
-open-requires c κs = search needs
+open-requires c κs = omega arith
 
 store-by-requires : tie.Need-store-by-requires
-store-by-requires c κs = search needs
+store-by-requires c κs = omega arith
 
 same-length : tie.Need-same-length
-same-length c = search needs
+same-length c = omega arith
 
 same-length-2 : tie.Need-same-length-2
-same-length-2 c = search needs
+same-length-2 c = omega arith
 
 same-length-3 : tie.Need-same-length-3
-same-length-3 c = search needs
+same-length-3 c = omega arith
 
 returns : tie.Need-returns
 returns c =

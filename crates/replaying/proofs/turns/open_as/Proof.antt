@@ -1,30 +1,30 @@
-use borrow.Author.Needs.{needs}
+use native.Mathlib.Omega.{arith}
 use Rattle.replaying.proofs.turns.open_as.Statement.{statement}
 use Rattle.replaying.proofs.turns.open_as.Tie as tie
 
 cast-ports : tie.Need-cast-ports
-cast-ports c = search needs
+cast-ports c = omega arith
 
 cast-size : tie.Need-cast-size
-cast-size c = search needs
+cast-size c = omega arith
 
 cast-window : tie.Need-cast-window
-cast-window c = search needs
+cast-window c = omega arith
 
 store-of-requires : tie.Need-store-of-requires
-store-of-requires c κs = search needs
+store-of-requires c κs = omega arith
 
 rows-for-requires : tie.Need-rows-for-requires
-rows-for-requires c κs = search needs
+rows-for-requires c κs = omega arith
 
 start-requires : tie.Need-start-requires
-start-requires c κs = search needs
+start-requires c κs = omega arith
 
 next-line-requires : tie.Need-next-line-requires
-next-line-requires c κs = search needs
+next-line-requires c κs = omega arith
 
 same-length : tie.Need-same-length
-same-length c = search needs
+same-length c = omega arith
 
 returns : tie.Need-returns
 returns c = (rw (c .next-line .ensures), rw (c .before .before .before .before .rows-for .ensures) at (c .before .before .start .ensures))

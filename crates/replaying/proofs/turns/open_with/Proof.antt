@@ -1,28 +1,28 @@
 use mathlib.Core.Path.{refl, sym, _∙_}
 use Rattle.replaying.specs.Laws.Starts.{small, start-sized}
 use Rattle.replaying.specs.Turn.{openWithRows, openWithSaid, openWithTurn}
-use borrow.Author.Needs.{needs}
+use native.Mathlib.Omega.{arith}
 use Rattle.replaying.proofs.turns.open_with.Statement.{statement}
 use Rattle.replaying.proofs.turns.open_with.Tie as tie
 
 is-startable-requires : tie.Need-is-startable-requires
-is-startable-requires c κs = search needs
+is-startable-requires c κs = omega arith
 
 open-as-requires : tie.Need-open-as-requires
 open-as-requires c κs = (small (c .before .before .before .before .args .settings) (start-sized (c .before .before .before .before .args .settings) (c .before .before .before .before .args .store) (sym (c .before .before .is-startable .ensures) ∙ c .before .if1 .taken)), c .before .before .before .before .pre .1)
 
 same-length : tie.Need-same-length
-same-length c = search needs
+same-length c = omega arith
 
 returns : tie.Need-returns
 unfolding openWithTurn openWithRows openWithSaid
 returns c = let t = sym (c .before .before .before .before .is-startable .ensures) ∙ c .before .before .before .if1 .taken in rw t (c .before .open-as .ensures .0, c .before .open-as .ensures .1, refl)
 
 answered-requires : tie.Need-answered-requires
-answered-requires c κs = search needs
+answered-requires c κs = omega arith
 
 same-length-2 : tie.Need-same-length-2
-same-length-2 c = search needs
+same-length-2 c = omega arith
 
 returns-2 : tie.Need-returns-2
 unfolding openWithTurn openWithRows openWithSaid

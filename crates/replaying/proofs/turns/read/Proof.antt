@@ -1,6 +1,6 @@
 use mathlib.Core.Path.{refl, sym, _∙_}
 use lib.ListN.{length}
-use borrow.Author.Needs.{needs}
+use native.Mathlib.Omega.{arith}
 use borrow.Author.Tests.{not-false, not-true}
 use Rattle.replaying.specs.Laws.Lent.{lent-says}
 use Rattle.replaying.specs.Turn.{readRows, readSaid, readStore, readTurn}
@@ -8,10 +8,10 @@ use Rattle.replaying.proofs.turns.read.Statement.{statement}
 use Rattle.replaying.proofs.turns.read.Tie as tie
 
 is-lent-requires : tie.Need-is-lent-requires
-is-lent-requires c κs = search needs
+is-lent-requires c κs = omega arith
 
 refused-requires : tie.Need-refused-requires
-refused-requires c κs = search needs
+refused-requires c κs = omega arith
 
 returns : tie.Need-returns
 unfolding readTurn readRows readStore readSaid
@@ -20,10 +20,10 @@ returns c =
     rw b (c .refused .ensures, refl, refl, refl)
 
 record-now-requires : tie.Need-record-now-requires
-record-now-requires c κs = search needs
+record-now-requires c κs = omega arith
 
 enum-known-found : tie.Need-enum-known-found
-enum-known-found c = search needs
+enum-known-found c = omega arith
 
 take-frame-requires : tie.Need-take-frame-requires
 take-frame-requires c κs =
@@ -34,10 +34,10 @@ take-frame-requires c κs =
     (l .short, l .rows-there, l .store-there)
 
 framed-requires : tie.Need-framed-requires
-framed-requires c κs = search needs
+framed-requires c κs = omega arith
 
 enum-known-found-2 : tie.Need-enum-known-found-2
-enum-known-found-2 c = search needs
+enum-known-found-2 c = omega arith
 
 answered-requires : tie.Need-answered-requires
 answered-requires c κs =
@@ -47,7 +47,7 @@ answered-requires c κs =
     lent-says (start .args .replay) (length (start .args .rows .now)) (length (start .args .store .now)) (start .args .out) (length (start .args .said .now)) (sym (is-lent .ensures) ∙ not-false (is-lent .result) (test1 .left)) .room
 
 enum-told : tie.Need-enum-told
-enum-told c = search needs
+enum-told c = omega arith
 
 answered-requires-2 : tie.Need-answered-requires-2
 answered-requires-2 c κs =
@@ -57,22 +57,22 @@ answered-requires-2 c κs =
     lent-says (start .args .replay) (length (start .args .rows .now)) (length (start .args .store .now)) (start .args .out) (length (start .args .said .now)) (sym (is-lent .ensures) ∙ not-false (is-lent .result) (test1 .left)) .room
 
 enum-told-2 : tie.Need-enum-told-2
-enum-told-2 c = search needs
+enum-told-2 c = omega arith
 
 waiting-requires : tie.Need-waiting-requires
-waiting-requires c κs = search needs
+waiting-requires c κs = omega arith
 
 enum-told-3 : tie.Need-enum-told-3
-enum-told-3 c = search needs
+enum-told-3 c = omega arith
 
 waiting-requires-2 : tie.Need-waiting-requires-2
-waiting-requires-2 c κs = search needs
+waiting-requires-2 c κs = omega arith
 
 same-length : tie.Need-same-length
-same-length c = search needs
+same-length c = omega arith
 
 same-length-2 : tie.Need-same-length-2
-same-length-2 c = search needs
+same-length-2 c = omega arith
 
 returns-2 : tie.Need-returns-2
 unfolding readTurn readRows readStore readSaid
@@ -86,7 +86,7 @@ returns-2 c =
     rw (b, sym (record-now .ensures) ∙ found .given .1) (c .framed .ensures, take-frame .ensures .0, take-frame .ensures .1, refl)
 
 same-length-3 : tie.Need-same-length-3
-same-length-3 c = search needs
+same-length-3 c = omega arith
 
 returns-3 : tie.Need-returns-3
 unfolding readTurn readRows readStore readSaid
@@ -100,7 +100,7 @@ returns-3 c =
     rw (b, sym (record-now .ensures) ∙ found2 .given .1) (answered .ensures .0, refl, refl, answered .ensures .1)
 
 same-length-4 : tie.Need-same-length-4
-same-length-4 c = search needs
+same-length-4 c = omega arith
 
 returns-4 : tie.Need-returns-4
 unfolding readTurn readRows readStore readSaid

@@ -1,5 +1,4 @@
 use mathlib.Core.Path.{refl}
-use borrow.Author.Needs.{needs}
 use Rattle.replaying.specs.Turn.{readOnTurn}
 use Rattle.replaying.proofs.turns.read_on.Statement.{statement}
 use Rattle.replaying.proofs.turns.read_on.Tie as tie

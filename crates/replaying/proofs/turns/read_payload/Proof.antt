@@ -1,19 +1,20 @@
 use Rattle.replaying.proofs.Deciding.{bytes-past}
+use native.Mathlib.Omega.{arith}
 use borrow.Author.Needs.{needs}
 use Rattle.replaying.proofs.turns.read_payload.Statement.{statement}
 use Rattle.replaying.proofs.turns.read_payload.Tie as tie
 
 add-read-bytes : tie.Need-add-read-bytes
-add-read-bytes c = search needs
+add-read-bytes c = omega arith
 
 add-read-bytes-2 : tie.Need-add-read-bytes-2
-add-read-bytes-2 c = search needs
+add-read-bytes-2 c = omega arith
 
 read-bytes-requires : tie.Need-read-bytes-requires
-read-bytes-requires c κs = search needs
+read-bytes-requires c κs = omega arith
 
 same-length : tie.Need-same-length
-same-length c = search needs
+same-length c = omega arith
 
 returns : tie.Need-returns
 returns c = search needs

@@ -1,16 +1,16 @@
-use borrow.Author.Needs.{needs}
+use native.Mathlib.Omega.{arith}
 use Rattle.replaying.specs.Turn.{recordNow}
 use Rattle.replaying.proofs.turns.record_now.Statement.{statement}
 use Rattle.replaying.proofs.turns.record_now.Tie as tie
 
 record-at-requires : tie.Need-record-at-requires
-record-at-requires c κs = search needs
+record-at-requires c κs = omega arith
 
 is-open-requires : tie.Need-is-open-requires
-is-open-requires c κs = search needs
+is-open-requires c κs = omega arith
 
 last-record-requires : tie.Need-last-record-requires
-last-record-requires c κs = search needs
+last-record-requires c κs = omega arith
 
 returns : tie.Need-returns
 unfolding recordNow

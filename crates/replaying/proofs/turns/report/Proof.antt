@@ -8,15 +8,14 @@ use borrow.Author.Tests.{le-ltb, lt-ltb, not-false, not-true}
 use Rattle.replaying.specs.Laws.Due.{none-due, none-out, none-rows}
 use Rattle.replaying.specs.Laws.Lent.{lent-says}
 use Rattle.replaying.specs.Turn.{fetchRecordBy, fetchedSaid, fetchedTurn, reportOut, reportRows, reportSaid, reportTurn}
-use borrow.Author.Needs.{needs}
 use Rattle.replaying.proofs.turns.report.Statement.{statement}
 use Rattle.replaying.proofs.turns.report.Tie as tie
 
 is-lent-requires : tie.Need-is-lent-requires
-is-lent-requires c κs = search needs
+is-lent-requires c κs = omega arith
 
 refused-requires : tie.Need-refused-requires
-refused-requires c κs = search needs
+refused-requires c κs = omega arith
 
 returns : tie.Need-returns
 unfolding reportTurn reportRows reportOut reportSaid
@@ -25,7 +24,7 @@ returns c =
     rw b (c .refused .ensures, refl, refl, refl)
 
 read-on-requires : tie.Need-read-on-requires
-read-on-requires c κs = search needs
+read-on-requires c κs = omega arith
 
 returns-2 : tie.Need-returns-2
 unfolding reportTurn reportRows reportOut reportSaid
@@ -37,7 +36,7 @@ returns-2 c =
     rw (b, le-ltb 0 (start .args .replay .left) z) (c .read-on .ensures, refl, refl, refl)
 
 rows-for-requires : tie.Need-rows-for-requires
-rows-for-requires c κs = search needs
+rows-for-requires c κs = omega arith
 
 is-due-requires : tie.Need-is-due-requires
 is-due-requires c κs =
@@ -55,13 +54,13 @@ report-now-requires c κs =
     (lent-says (start .args .replay) (length (start .args .rows .now)) (length (start .args .store .now)) (length (start .args .out .now)) (length (start .args .said .now)) (sym (is-lent .ensures) ∙ not-false (is-lent .result) (test1 .left)), omega (arith, test2 .left))
 
 same-length : tie.Need-same-length
-same-length c = search needs
+same-length c = omega arith
 
 same-length-2 : tie.Need-same-length-2
-same-length-2 c = search needs
+same-length-2 c = omega arith
 
 same-length-3 : tie.Need-same-length-3
-same-length-3 c = search needs
+same-length-3 c = omega arith
 
 returns-3 : tie.Need-returns-3
 unfolding reportTurn reportRows reportOut reportSaid
@@ -76,10 +75,10 @@ returns-3 c =
     rw (b, lt-ltb 0 (start .args .replay .left) z) (report-now .ensures)
 
 read-on-requires-2 : tie.Need-read-on-requires-2
-read-on-requires-2 c κs = search needs
+read-on-requires-2 c κs = omega arith
 
 same-length-4 : tie.Need-same-length-4
-same-length-4 c = search needs
+same-length-4 c = omega arith
 
 returns-4 : tie.Need-returns-4
 unfolding reportTurn reportRows reportOut reportSaid fetchedTurn fetchedSaid

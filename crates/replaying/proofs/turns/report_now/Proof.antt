@@ -8,27 +8,26 @@ use borrow.Author.Tests.{le-ltb, lt-ltb}
 use Rattle.replaying.specs.Output.{reportText}
 use Rattle.replaying.specs.Turn.{fetchRecordBy, fetchedSaid, fetchedTurn, reportOf, reportedTurn}
 use Rattle.replaying.proofs.Printing.{put-over, report-le}
-use borrow.Author.Needs.{needs}
 use Rattle.replaying.proofs.turns.report_now.Statement.{statement}
 use Rattle.replaying.proofs.turns.report_now.Tie as tie
 
 states-in-requires : tie.Need-states-in-requires
-states-in-requires c κs = search needs
+states-in-requires c κs = omega arith
 
 fetch-requires : tie.Need-fetch-requires
 fetch-requires c κs = (c .before .before .before .before .before .before .before .pre .0 .rows-there, c .before .before .before .before .before .before .before .pre .0 .store-there)
 
 array-read-if1 : tie.Need-array-read-if1
-array-read-if1 c = search needs
+array-read-if1 c = omega arith
 
 read-on-requires : tie.Need-read-on-requires
-read-on-requires c κs = search needs
+read-on-requires c κs = omega arith
 
 same-length : tie.Need-same-length
-same-length c = search needs
+same-length c = omega arith
 
 same-length-2 : tie.Need-same-length-2
-same-length-2 c = search needs
+same-length-2 c = omega arith
 
 returns : tie.Need-returns
 unfolding fetchedTurn fetchedSaid
@@ -40,7 +39,7 @@ returns c =
     rw d (c .read-on .ensures, fetch .ensures .1, fetch .ensures .2, refl)
 
 states-in-requires-2 : tie.Need-states-in-requires-2
-states-in-requires-2 c κs = search needs
+states-in-requires-2 c κs = omega arith
 
 put-report-requires : tie.Need-put-report-requires
 put-report-requires c κs =
@@ -53,13 +52,13 @@ reported-requires c κs =
     start .pre .1
 
 same-length-3 : tie.Need-same-length-3
-same-length-3 c = search needs
+same-length-3 c = omega arith
 
 same-length-4 : tie.Need-same-length-4
-same-length-4 c = search needs
+same-length-4 c = omega arith
 
 same-length-5 : tie.Need-same-length-5
-same-length-5 c = search needs
+same-length-5 c = omega arith
 
 returns-2 : tie.Need-returns-2
 unfolding fetchedTurn fetchedSaid reportOf

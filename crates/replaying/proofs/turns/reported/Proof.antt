@@ -1,11 +1,11 @@
 use mathlib.Core.Path.{refl}
-use borrow.Author.Needs.{needs}
+use native.Mathlib.Omega.{arith}
 use Rattle.replaying.specs.Turn.{reportedTurn}
 use Rattle.replaying.proofs.turns.reported.Statement.{statement}
 use Rattle.replaying.proofs.turns.reported.Tie as tie
 
 sub-t4 : tie.Need-sub-t4
-sub-t4 c = search needs
+sub-t4 c = omega arith
 
 returns : tie.Need-returns
 unfolding reportedTurn

@@ -1,6 +1,6 @@
 use mathlib.Core.Path.{refl}
 use lib.ListN.{length}
-use borrow.Author.Needs.{needs}
+use native.Mathlib.Omega.{arith}
 use borrow.Author.Tests.{le-ltb, lt-ltb}
 use Rattle.replaying.specs.Turn.{skipTurn}
 use Rattle.replaying.proofs.Deciding.{end-is}
@@ -8,10 +8,10 @@ use Rattle.replaying.proofs.turns.skip.Statement.{statement}
 use Rattle.replaying.proofs.turns.skip.Tie as tie
 
 piece-end-requires : tie.Need-piece-end-requires
-piece-end-requires c κs = search needs
+piece-end-requires c κs = omega arith
 
 add-t10 : tie.Need-add-t10
-add-t10 c = search needs
+add-t10 c = omega arith
 
 returns : tie.Need-returns
 unfolding skipTurn
@@ -20,7 +20,7 @@ returns c =
     rw (← e, lt-ltb (c .before .piece-end .result) (length (c .before .before .before .args .text .now)) (c .if1 .taken))
 
 skipped-to-requires : tie.Need-skipped-to-requires
-skipped-to-requires c κs = search needs
+skipped-to-requires c κs = omega arith
 
 returns-2 : tie.Need-returns-2
 unfolding skipTurn

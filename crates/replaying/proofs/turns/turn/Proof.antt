@@ -1,49 +1,49 @@
 use mathlib.Core.Path.{refl}
 use lib.ListN.{length}
-use borrow.Author.Needs.{needs}
+use native.Mathlib.Omega.{arith}
 use Rattle.replaying.specs.declared.replay.Phase.the-variants.{Ended, Fetching, Reading, Settings, Skipping}
 use Rattle.replaying.proofs.Deciding.{out-is, rows-is, said-is, store-is, turn-is}
 use Rattle.replaying.proofs.turns.turn.Statement.{statement}
 use Rattle.replaying.proofs.turns.turn.Tie as tie
 
 enum-told : tie.Need-enum-told
-enum-told c = search needs
+enum-told c = omega arith
 
 open-all-requires : tie.Need-open-all-requires
-open-all-requires c κs = search needs
+open-all-requires c κs = omega arith
 
 enum-told-2 : tie.Need-enum-told-2
-enum-told-2 c = search needs
+enum-told-2 c = omega arith
 
 read-requires : tie.Need-read-requires
-read-requires c κs = search needs
+read-requires c κs = omega arith
 
 enum-told-3 : tie.Need-enum-told-3
-enum-told-3 c = search needs
+enum-told-3 c = omega arith
 
 report-requires : tie.Need-report-requires
-report-requires c κs = search needs
+report-requires c κs = omega arith
 
 enum-told-4 : tie.Need-enum-told-4
-enum-told-4 c = search needs
+enum-told-4 c = omega arith
 
 skip-requires : tie.Need-skip-requires
-skip-requires c κs = search needs
+skip-requires c κs = omega arith
 
 enum-told-5 : tie.Need-enum-told-5
-enum-told-5 c = search needs
+enum-told-5 c = omega arith
 
 swallow-requires : tie.Need-swallow-requires
-swallow-requires c κs = search needs
+swallow-requires c κs = omega arith
 
 same-length : tie.Need-same-length
-same-length c = search needs
+same-length c = omega arith
 
 same-length-2 : tie.Need-same-length-2
-same-length-2 c = search needs
+same-length-2 c = omega arith
 
 same-length-3 : tie.Need-same-length-3
-same-length-3 c = search needs
+same-length-3 c = omega arith
 
 returns : tie.Need-returns
 returns c =
@@ -57,13 +57,13 @@ returns c =
     (turn-is r Settings e t (s .args .last) (s .args .rows .now) (s .args .store .now) (s .args .out .now) n _ (open-all .ensures .0), rows-is r Settings e t (s .args .last) (s .args .rows .now) (s .args .store .now) (s .args .out .now) n _ (open-all .ensures .1), store-is r Settings e t (s .args .last) (s .args .rows .now) (s .args .store .now) (s .args .out .now) n _ (open-all .ensures .2), out-is r Settings e t (s .args .last) (s .args .rows .now) (s .args .store .now) (s .args .out .now) n _ refl, said-is r Settings e t (s .args .last) (s .args .rows .now) (s .args .store .now) (s .args .out .now) (s .args .said .now) _ (open-all .ensures .3))
 
 same-length-4 : tie.Need-same-length-4
-same-length-4 c = search needs
+same-length-4 c = omega arith
 
 same-length-5 : tie.Need-same-length-5
-same-length-5 c = search needs
+same-length-5 c = omega arith
 
 same-length-6 : tie.Need-same-length-6
-same-length-6 c = search needs
+same-length-6 c = omega arith
 
 returns-2 : tie.Need-returns-2
 returns-2 c =
@@ -77,16 +77,16 @@ returns-2 c =
     (turn-is r Reading e t (s .args .last) (s .args .rows .now) (s .args .store .now) (s .args .out .now) n _ (the-read .ensures .0), rows-is r Reading e t (s .args .last) (s .args .rows .now) (s .args .store .now) (s .args .out .now) n _ (the-read .ensures .1), store-is r Reading e t (s .args .last) (s .args .rows .now) (s .args .store .now) (s .args .out .now) n _ (the-read .ensures .2), out-is r Reading e t (s .args .last) (s .args .rows .now) (s .args .store .now) (s .args .out .now) n _ refl, said-is r Reading e t (s .args .last) (s .args .rows .now) (s .args .store .now) (s .args .out .now) (s .args .said .now) _ (the-read .ensures .3))
 
 same-length-7 : tie.Need-same-length-7
-same-length-7 c = search needs
+same-length-7 c = omega arith
 
 same-length-8 : tie.Need-same-length-8
-same-length-8 c = search needs
+same-length-8 c = omega arith
 
 same-length-9 : tie.Need-same-length-9
-same-length-9 c = search needs
+same-length-9 c = omega arith
 
 same-length-10 : tie.Need-same-length-10
-same-length-10 c = search needs
+same-length-10 c = omega arith
 
 returns-3 : tie.Need-returns-3
 returns-3 c =

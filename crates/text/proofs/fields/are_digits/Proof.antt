@@ -1,6 +1,7 @@
 use mathlib.Core.Path.{_≡_, sym, _∙_, ap}
-use Prim.Native.Nat.{_-_, _≤_, _<_}
+use Prim.Native.Nat.{ℕ, _-_, _≤_, _<_}
 use native.Mathlib.Omega.{arith}
+use lib.Dec.{ltb}
 use lib.ListN.{length, take}
 use lib.Seq.{slice, take-length}
 use borrow.Author.Needs.{needs}
@@ -22,18 +23,21 @@ size-of-requires c κs = search needs
 loop-holds : tie.Need-loop-holds Inv-loop μ-loop
 loop-holds c = search needs
 
-add-digit-of : tie.Need-add-digit-of Inv-loop μ-loop
-add-digit-of c =
-    let h : c .before .loop .i < length (slice (c .before .before .before .before .args .at) (c .before .before .before .before .args .limit) (c .before .before .before .before .args .text .now)) = omega (arith, c .before .loop .inv .0) in
-    omega (arith, slice-within (c .before .before .before .before .args .text .now) (c .before .before .before .before .args .at) (c .before .before .before .before .args .limit) (c .before .loop .i) h)
+add-is-digit : tie.Need-add-is-digit Inv-loop μ-loop
+add-is-digit c =
+    let args = c .before .before .before .before .args in
+    let h : c .before .loop .i < length (slice (args .at) (args .limit) (args .text .now)) = omega (arith, c .before .loop .inv .0) in
+    omega (arith, slice-within (args .text .now) (args .at) (args .limit) (c .before .loop .i) h)
 
-shared-slice-read-digit-of : tie.Need-shared-slice-read-digit-of Inv-loop μ-loop
-shared-slice-read-digit-of c =
-    let h : c .before .before .loop .i < length (slice (c .before .before .before .before .before .args .at) (c .before .before .before .before .before .args .limit) (c .before .before .before .before .before .args .text .now)) = omega (arith, c .before .before .loop .inv .0) in
-    slice-within (c .before .before .before .before .before .args .text .now) (c .before .before .before .before .before .args .at) (c .before .before .before .before .before .args .limit) (c .before .before .loop .i) h
+shared-slice-read-is-digit : tie.Need-shared-slice-read-is-digit Inv-loop μ-loop
+shared-slice-read-is-digit c =
+    let at-loop = c .before .before in
+    let args = at-loop .before .before .before .args in
+    let h : at-loop .loop .i < length (slice (args .at) (args .limit) (args .text .now)) = omega (arith, at-loop .loop .inv .0) in
+    slice-within (args .text .now) (args .at) (args .limit) (at-loop .loop .i) h
 
-digit-of-requires : tie.Need-digit-of-requires Inv-loop μ-loop
-digit-of-requires c κs = search needs
+is-digit-requires : tie.Need-is-digit-requires Inv-loop μ-loop
+is-digit-requires c κs = search needs
 
 add-i : tie.Need-add-i Inv-loop μ-loop
 add-i c = search needs
@@ -43,16 +47,19 @@ loop-less c = search needs
 
 loop-again : tie.Need-loop-again Inv-loop μ-loop
 loop-again c =
-    let s = slice (c .before .before .before .before .before .before .args .at) (c .before .before .before .before .before .before .args .limit) (c .before .before .before .before .before .before .args .text .now) in
-    let h : c .before .before .before .loop .i < length s = omega (arith, c .before .before .before .loop .inv .0) in
-    let d = c .digit-of .ensures ∙ ap digitOf (sym (slice-at (c .before .before .before .before .before .before .args .text .now) (c .before .before .before .before .before .before .args .at) (c .before .before .before .before .before .before .args .limit) (c .before .before .before .loop .i) h)) in
-    (c .before .before .before .loop .inv .0, omega arith, digits-turn (c .before .before .before .before .before .before .args .base) s (c .before .before .before .loop .i) h (c .before .before .before .loop .good) (c .before .before .before .loop .inv .2) (c .digit-of .result) d)
+    let at-loop = c .before .before .before in
+    let args = at-loop .before .before .before .args in
+    let s = slice (args .at) (args .limit) (args .text .now) in
+    let h : at-loop .loop .i < length s = omega (arith, at-loop .loop .inv .0) in
+    let d = c .is-digit .ensures ∙ ap (λ (b : ℕ). ltb (digitOf b) (args .base)) (sym (slice-at (args .text .now) (args .at) (args .limit) (at-loop .loop .i) h)) in
+    (at-loop .loop .inv .0, omega arith, digits-turn (args .base) s (at-loop .loop .i) h (at-loop .loop .good) (at-loop .loop .inv .2) (c .is-digit .result) d)
 
 returns : tie.Need-returns Inv-loop μ-loop
 returns c =
-    let s = slice (c .before .before .before .before .args .at) (c .before .before .before .before .args .limit) (c .before .before .before .before .args .text .now) in
+    let args = c .before .before .before .before .args in
+    let s = slice (args .at) (args .limit) (args .text .now) in
     let e : c .before .loop .i ≡ length s = omega (arith, c .before .loop .inv .0) in
     rw (e, take-length) at (c .before .loop .inv .2)
 
 pub are-digits-spec : {M : Type 1} → statement M
-are-digits-spec = tie.close (tie.spec Inv-loop μ-loop size-of-requires loop-holds add-digit-of shared-slice-read-digit-of digit-of-requires add-i loop-less loop-again returns)
+are-digits-spec = tie.close (tie.spec Inv-loop μ-loop size-of-requires loop-holds add-is-digit shared-slice-read-is-digit is-digit-requires add-i loop-less loop-again returns)

@@ -38,7 +38,7 @@ returns-3 c =
     number-long (args .most) (slice (args .at) (args .limit) (args .text .now)) (λ z. at-if1 .if1 .left (e ∙ z)) (rw e at (c .before .if2 .left)) (rw e at (c .if3 .taken))
 
 are-digits-requires : tie.Need-are-digits-requires
-are-digits-requires c κs = search needs
+are-digits-requires c κs = omega arith
 
 value-of-requires : tie.Need-value-of-requires
 value-of-requires c κs =
@@ -49,7 +49,7 @@ value-of-requires c κs =
     let e = at-size-of .size-of .ensures in
     let l : length (slice (args .at) (args .limit) (args .text .now)) ≤ 9 = rw e at (at-if3 .if3 .left) in
     let p = power-le 10 (length (slice (args .at) (args .limit) (args .text .now))) 9 (lit< tt) l in
-    (sym (c .before .are-digits .ensures) ∙ c .if4 .taken, lit< tt, omega (arith, p))
+    (sym (c .before .are-digits .ensures) ∙ c .if4 .taken, lit< tt, omega (arith, p), omega arith)
 
 returns-4 : tie.Need-returns-4
 returns-4 c =

@@ -44,7 +44,14 @@ shared-slice-read-digit-of c =
     slice-within (args .text .now) (args .at) (args .limit) (at-loop .loop .i) h
 
 digit-of-requires : tie.Need-digit-of-requires Inv-loop μ-loop
-digit-of-requires c κs = search needs
+digit-of-requires c κs =
+    let at-loop = c .before .before in
+    let at-start = at-loop .before .before .before in
+    let args = at-start .args in
+    let s = slice (args .at) (args .limit) (args .text .now) in
+    let h : at-loop .loop .i < length s = omega (arith, at-loop .loop .inv .0) in
+    let k = digit-at (args .base) s (at-loop .loop .i) (at-start .pre .0) h in
+    omega (arith, rw (slice-at (args .text .now) (args .at) (args .limit) (at-loop .loop .i) h) at k)
 
 wide-requires : tie.Need-wide-requires Inv-loop μ-loop
 wide-requires c κs = search needs

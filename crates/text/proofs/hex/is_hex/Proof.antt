@@ -1,4 +1,5 @@
 use mathlib.Core.Path.{sym, _∙_}
+use native.Mathlib.Omega.{arith}
 use lib.Seq.{slice}
 use borrow.Author.Needs.{needs}
 use Rattle.text.proofs.Bytes.{hex-here, hex-other-length}
@@ -12,7 +13,7 @@ returns : tie.Need-returns
 returns c = hex-other-length (c .before .before .before .args .digits) (slice (c .before .before .before .args .at) (c .before .before .before .args .limit) (c .before .before .before .args .text .now)) (λ z. c .if1 .taken (c .before .size-of .ensures ∙ z))
 
 are-digits-requires : tie.Need-are-digits-requires
-are-digits-requires c κs = search needs
+are-digits-requires c κs = omega arith
 
 returns-2 : tie.Need-returns-2
 returns-2 c = hex-here (c .before .before .before .before .args .digits) (slice (c .before .before .before .before .args .at) (c .before .before .before .before .args .limit) (c .before .before .before .before .args .text .now)) (sym (c .before .before .size-of .ensures) ∙ c .before .if1 .left) (c .are-digits .result) (c .are-digits .ensures)
