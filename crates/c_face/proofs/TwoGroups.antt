@@ -18,16 +18,17 @@ use Rattle.circuits.specs.declared.card.RanksOutcome.{RanksOutcome}
 use Rattle.circuits.specs.Answers.{answerNumber}
 use Rattle.circuits.specs.Calls.{Call, stepOf}
 use Rattle.circuits.specs.Commands.{startOf}
-use Rattle.circuits.specs.Laws.Alike.{Alike, AlikeAfter, alike-packet, alike-payload, alike-shown, alike-step}
+use Rattle.circuits.specs.Laws.Alike.{Alike, AlikeAfter, alike-payload, alike-shown, alike-step}
 use Rattle.circuits.specs.Owners.{ownerIn}
 use Rattle.circuits.specs.Parts as P
-use Rattle.circuits.specs.Readings.{boardShown, outgoingShown, ownedShown, packetAnswer, packetBytes, payloadAnswer, payloadBytes, ranksShown}
+use Rattle.circuits.specs.Readings.{boardShown, outgoingShown, ownedShown, payloadAnswer, payloadBytes, ranksShown}
 use Rattle.sender.specs.Board.{boardOf}
 use Rattle.sender.specs.declared.epochs.Sender.{Sender}
 use Rattle.sender.specs.Epochs.{ranksOf}
 use Rattle.c_face.specs.Boards.{boardBytesOf, ranksBytesOf}
 use Rattle.c_face.specs.Cards.{alone, behind, bytesBehind, cardOf, isCard, keptCard, ownersIn, packetAnswerOn, packetBytesOn, partAt, partIn, payloadAnswerOn, payloadBytesOn, putCard, putOwn, refusalOf, shownAnswerOn, shownBytesOn, startAnswerOn, startStateOn, stepAnswerOn, stepStateOn}
 use Rattle.c_face.specs.Keeping.{byteAt, bytesOf, senderOf}
+use Rattle.c_face.specs.Laws.Slots.{slot-packet, slotPacketAnswer, slotPacketBytes}
 use Rattle.c_face.specs.Senders.{areBytes, outside}
 use Rattle.c_face.specs.Theorems.CardRuns.{part-of}
 use Rattle.c_face.proofs.Parts.{mid-is, put-is}
@@ -163,6 +164,13 @@ kept-alike g r q state a =
     ∙ ap (λ (l : List ℕ). cond (eqb (answerNumber (q .answer)) 0) l state) (put-alike g (r .card) (q .card) state (a .card))
 
 module _ (state : List ℕ) (g : ℕ) (o : Open state g) where
+  pub packet-by : (slot : ℕ) (h4 : List ℕ) (owner : ℕ) (part : List ℕ) (r : ℕ) (out : List ℕ) → owner ≡ ownerIn (ownersIn state) slot → part ≡ partIn g state
+      → r ≡ slotPacketAnswer owner g (senderOf part) slot h4 → out ≡ slotPacketBytes owner g (senderOf part) slot h4
+      → (r ≡ packetAnswerOn state g slot h4) × (out ≡ packetBytesOn state g slot h4)
+  packet-by slot h4 owner part r out eo ep er eb =
+      let e = slot-packet state g slot h4 (o .sized) (o .group) in
+      ((rw (eo, ep) at er) ∙ e .0, (rw (eo, ep) at eb) ∙ e .1)
+
   pub step-unfit : (fits : Bool) (call : Call) → fits ≡ false → (8 ≡ stepAnswerOn fits g call state) × (state ≡ stepStateOn fits g call state)
   unfolding stepAnswerOn stepStateOn
   step-unfit fits call f = rw (eq-eqb (length state) 858 (o .sized), lt-ltb g 2 (o .group), f) (refl, refl)
@@ -179,13 +187,6 @@ module _ (state : List ℕ) (g : ℕ) (o : Open state g) where
         let a : AlikeAfter g step (stepOf (cardOf state) g call) = rw es (alike-step g c (cardOf state) alike call) in
         rw (eq-eqb (length state) 858 (o .sized), lt-ltb g 2 (o .group), f)
         (k .0 ∙ ap answerNumber (a .answer), k .1 ∙ kept-alike g step (stepOf (cardOf state) g call) state a)
-
-    pub packet-own : (slot : ℕ) (h4 : List ℕ) (x : Answer) (r : ℕ) (out : List ℕ) → x ≡ packetAnswer c g slot h4 → out ≡ packetBytes c g slot h4 → r ≡ answerNumber x
-        → (r ≡ packetAnswerOn state g slot h4) × (out ≡ packetBytesOn state g slot h4)
-    unfolding packetAnswerOn packetBytesOn
-    packet-own slot h4 x r out ex eo er =
-        let a = alike-packet g c (cardOf state) alike slot h4 in
-        rw (eq-eqb (length state) 858 (o .sized), lt-ltb g 2 (o .group)) (er ∙ ap answerNumber (ex ∙ a .0), eo ∙ a .1)
 
     pub payload-own : (slot p : ℕ) (frame member : List ℕ) (x : Answer) (r : ℕ) (out : List ℕ) → x ≡ payloadAnswer c g slot p (length frame) (length member)
         → out ≡ payloadBytes c g slot p frame member → r ≡ answerNumber x

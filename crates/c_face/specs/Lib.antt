@@ -2,6 +2,7 @@ pub mod Boards
 pub mod Cards
 pub mod Changes
 pub mod Keeping
+pub mod Laws
 pub mod Orders
 pub mod Packets
 pub mod Payloads

@@ -15,7 +15,7 @@ pub(crate) const BOARD_BYTES: usize = 130;
 pub(crate) const RANKS_BYTES: usize = 68;
 
 // A count above 64 stands only in a state that does not come from a start: nobody is to read past the board by it.
-fn shown_count(count: u8) -> u8
+pub(crate) fn shown_count(count: u8) -> u8
     ensures { λ r. ⌜ r ≡ sizeOf count ⌝ }
 {
     if count < 64 { count } else { 64 }

@@ -15,10 +15,12 @@ ghost use lib.ListN.{length};
 ghost use Rattle.circuits.specs.Answers.{answerNumber};
 ghost use Rattle.circuits.specs.Calls.Call.{Claim, Release, AddSlot, RemoveSlot, Report, Lapse, StartEpoch};
 ghost use Rattle.circuits.specs.Commands.{startOf};
+ghost use Rattle.circuits.specs.Owners.{markOf, ownerIn};
 ghost use Rattle.circuits.specs.Parts as P;
 ghost use Rattle.ground.specs.Drawn.{fillAt};
 ghost use Rattle.c_face.specs.Cards.{alone, boardBytesOn, cardBytes, cardOf, keptCard, outgoingBytesOn, ownedBytesOn, ownersIn, packetAnswerOn, packetBytesOn, partAt, partIn, payloadAnswerOn, payloadBytesOn, putCard, putOwn, ranksBytesOn, refusalOf, shownAnswerOn, startAnswerOn, startStateOn, stepAnswerOn, stepStateOn};
 ghost use Rattle.c_face.specs.Keeping.{byteAt, senderOf, stateBytes};
+ghost use Rattle.c_face.specs.Laws.Slots.{slotPacketAnswer, slotPacketBytes, slotRefusal};
 ghost use Rattle.c_face.specs.Senders.{areBytes};
 
 // The state of a card with two groups.
@@ -263,6 +265,48 @@ pub extern "C" fn levelspruce_card_start_epoch(
     keep(step, group, state)
 }
 
+// The owner of a slot; nobody behind the last one.
+fn owner_at(state: &[u8], slot: u32) -> u8
+    requires { ⌜ length (now state) ≡ cardBytes ⌝ }
+    ensures { λ r. ⌜ r ≡ ownerIn (ownersIn (now (state .entry))) slot ⌝ }
+{
+    if slot < 64 { state[slot as usize] } else { 0 }
+}
+
+fn mark_of(group: u32) -> u8
+    ensures { λ r. ⌜ r ≡ markOf group ⌝ }
+{
+    if group == 0 { 1 } else { 2 }
+}
+
+// 1, then 14, of a slot whose owner is known.
+fn slot_refusal(owner: u8, group: u32, count: u8, slot: u32) -> u8
+    ensures { λ r. ⌜ r ≡ slotRefusal owner group count slot ⌝ }
+{
+    let mark = mark_of(group);
+    let size = boards::shown_count(count);
+    if size as u32 <= slot {
+        return 1;
+    }
+    if owner == mark { 0 } else { 14 }
+}
+
+// The packet of a slot by its owner and the group's own part. A whole card would be read for one slot, in four times the sender's time.
+fn packet_in(owner: u8, group: u32, part: &[u8], slot: u32, h4: &mut [u8]) -> u8
+    requires { ⌜ length (now part) ≡ stateBytes ⌝ }
+    ensures { λ r. ⌜ (r ≡ slotPacketAnswer owner group (senderOf (now (part .entry))) slot (now (h4 .entry)))
+        × (now (h4 .exit) ≡ slotPacketBytes owner group (senderOf (now (part .entry))) slot (now (h4 .entry))) ⌝ }
+{
+    let sender = keeping::sender_of(part);
+    let table = sender.table;
+    let first = slot_refusal(owner, group, table.count, slot);
+    if first != 0 {
+        return first;
+    }
+    let answer = sender.packet(slot, h4);
+    answer.number()
+}
+
 #[no_mangle]
 pub extern "C" fn levelspruce_card_packet(state: &[u8], group: u32, slot: u32, h4: &mut [u8]) -> u8
     ensures { λ r. ⌜ (r ≡ packetAnswerOn (now (state .entry)) group slot (now (h4 .entry)))
@@ -272,9 +316,11 @@ pub extern "C" fn levelspruce_card_packet(state: &[u8], group: u32, slot: u32, h
     if first != 0 {
         return first;
     }
-    let card = own_card(state, group);
-    let answer = card.packet(group, slot, h4);
-    answer.number()
+    let owner = owner_at(state, slot);
+    if group == 0 {
+        return packet_in(owner, group, &state[64..461], slot, h4);
+    }
+    packet_in(owner, group, &state[461..858], slot, h4)
 }
 
 #[no_mangle]
