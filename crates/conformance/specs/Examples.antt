@@ -58,8 +58,8 @@ use Rattle.sender.specs.Epochs.{beginOf, freshSender, senderRun, startEpochOf, 
 use Rattle.sender.specs.Epochs.SenderCall.{OnTable, StartEpoch}
 use Rattle.sender.specs.Reports.{actedOn, comesBefore, mstApplied, numberAfter, opensWait, renumbered, reportOf, slotAfter, numberApplied, turnOf, waited}
 use Rattle.sender.specs.Shown.{after, shown, started}
-use Rattle.sender.specs.Steps.{Call}
-use Rattle.sender.specs.Steps.Call.{AddSlot, Lapse, RemoveSlot, Report}
+use Rattle.sender.specs.Calls.{Call}
+use Rattle.sender.specs.Calls.Call.{AddSlot, Lapse, RemoveSlot, Report}
 use Rattle.sender.specs.Table.{holderOf, membersOf, sizeOf}
 use Rattle.spoken.specs.Applying.{appliedOf, changesFit, fits, withChanges}
 use Rattle.spoken.specs.Changes.{changesIn, changesOf, comparedOf, listOf, noChanges}

@@ -20,8 +20,8 @@ use Rattle.sender.specs.Epochs.{beginOf, freshSender, packetBytes, packe
 use Rattle.sender.specs.Ranks.{carriersIn, carries, noRank, rankAt, rankOf, rowAt}
 use Rattle.sender.specs.Reports.{actedOn, comesBefore, mstApplied, numberAfter, opensWait, renumbered, reportOf, slotAfter, becomes, numberApplied, turnOf, waited}
 use Rattle.sender.specs.Shown.{after, shown}
-use Rattle.sender.specs.Steps.{Call}
-use Rattle.sender.specs.Steps.Call.{AddSlot, Lapse, RemoveSlot, Report}
+use Rattle.sender.specs.Calls.{Call}
+use Rattle.sender.specs.Calls.Call.{AddSlot, Lapse, RemoveSlot, Report}
 use Rattle.sender.specs.Table.{holderOf, membersOf, sizeOf, slotAt}
 use Rattle.sender.specs.Theorems.Epochs.{onTable}
 

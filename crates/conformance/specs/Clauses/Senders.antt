@@ -7,8 +7,8 @@ use Rattle.sender.specs.Board.{boardOf, highest, noRow, rowOf, rowsOf}
 use Rattle.sender.specs.Commands.{addOf, addedTo, fallen, fallenIn, freshOf, idleSlot, lapseOf, removeOf, removedFrom, startOf}
 use Rattle.sender.specs.Reports.{actedOn, comesBefore, mstApplied, numberAfter, numberApplied, opensWait, renumbered, reportOf, slotAfter, turnOf, waited}
 use Rattle.sender.specs.Shown.{after, shown}
-use Rattle.sender.specs.Steps.{Call}
-use Rattle.sender.specs.Steps.Call.{AddSlot, Lapse, RemoveSlot, Report}
+use Rattle.sender.specs.Calls.{Call}
+use Rattle.sender.specs.Calls.Call.{AddSlot, Lapse, RemoveSlot, Report}
 use Rattle.sender.specs.Table.{holderOf, membersOf, sizeOf}
 
 abbrev active : ℕ → List Call

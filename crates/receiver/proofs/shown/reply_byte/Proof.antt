@@ -1,7 +1,7 @@
 use mathlib.Core.Path.{refl}
 use borrow.Author.Tests.{eq-eqb, ne-eqb}
-use Rattle.receiver.proofs.shown.told_by.Statement.{statement}
-use Rattle.receiver.proofs.shown.told_by.Tie as tie
+use Rattle.receiver.proofs.shown.reply_byte.Statement.{statement}
+use Rattle.receiver.proofs.shown.reply_byte.Tie as tie
 
 returns : tie.Need-returns
 returns c = rw (eq-eqb _ 2 (c .if1 .taken)) refl
