@@ -24,6 +24,11 @@ ghost use Rattle.c_face.specs.Senders.{areBytes};
 // The state of a card with two groups.
 pub(crate) const CARD_BYTES: usize = 858;
 
+// Where the part of each group's sender begins: behind the owners of the 64 slots, and behind the other's part.
+const FIRST_PART: usize = 64;
+
+const SECOND_PART: usize = 461;
+
 // 9 for a state of another length, then 1 for a group other than the two.
 fn refusal(length: usize, group: u32) -> u8
     ensures { λ r. ⌜ r ≡ refusalOf length group ⌝ }
@@ -52,9 +57,9 @@ fn part_in(state: &[u8], group: u32) -> Sender
     ensures { λ r. ⌜ r ≡ senderOf (partIn group (now (state .entry))) ⌝ }
 {
     if group == 0 {
-        return keeping::sender_of(&state[64..461]);
+        return keeping::sender_of(&state[FIRST_PART..SECOND_PART]);
     }
-    keeping::sender_of(&state[461..858])
+    keeping::sender_of(&state[SECOND_PART..CARD_BYTES])
 }
 
 // The card as one group may know it: its own sender stands in the other's place too, so that the other's part is not read.
@@ -82,10 +87,10 @@ fn put_part(sender: Sender, group: u32, state: &mut [u8])
     ensures { λ r. ⌜ now (state .exit) ≡ fillAt (partAt group) stateBytes (byteAt sender) (now (state .entry)) ⌝ }
 {
     if group == 0 {
-        keeping::put_sender(sender, &mut state[64..461]);
+        keeping::put_sender(sender, &mut state[FIRST_PART..SECOND_PART]);
         return;
     }
-    keeping::put_sender(sender, &mut state[461..858]);
+    keeping::put_sender(sender, &mut state[SECOND_PART..CARD_BYTES]);
 }
 
 pub(crate) fn put_own(card: Card, group: u32, state: &mut [u8])

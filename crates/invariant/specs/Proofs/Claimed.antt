@@ -1,4 +1,5 @@
 -- What stands in the store where a port claims a frame: it is the frame that was handed with that tag. As a relation between two calls: after a call a frame is claimed only if it was claimed before, or is the one just handed.
+-- The idea: each thing that a call does is looked at by itself (an epoch passed, a stop, a beginning, a frame stored). Only storing a frame puts bytes, and a place in the store belongs to one tag of the window; so what stood elsewhere stands as it did.
 use mathlib.Core.Path.{_≡_, refl, sym, ap, _∙_}
 use mathlib.Core.Logic.{_⊎_, inl, inr, ⊎-elim, _≢_}
 use mathlib.Core.Bool.{Bool, true, false, cond, false≢true}
@@ -13,7 +14,7 @@ use Rattle.invariant.specs.Proofs.Kept.Calls.{Due, due-says}
 use Rattle.invariant.specs.Kept.Group.{Kept, Lasting}
 use Rattle.invariant.specs.Kept.Port.{PortKept, Windowed}
 use Rattle.invariant.specs.Proofs.Kept.Start.{started-kept, started-with}
-use Rattle.invariant.specs.Proofs.Kept.Steps.{brought-owes-nothing, lasting-frame, windowed}
+use Rattle.invariant.specs.Proofs.Kept.WithinCall.{brought-owes-nothing, lasting-frame, windowed}
 use Rattle.invariant.specs.Proofs.Laws.Settling.{settled-by}
 use Rattle.invariant.specs.Proofs.Laws.Window.{tag-next, tag-passed}
 use Rattle.invariant.specs.Proofs.Sizes.{call-sizes}

@@ -1,4 +1,5 @@
 -- Beginning is 01's sentence: 'every port has had a frame and is in step or flagged failed, at least one is in step, and the latest tags of those in step lie within an arc of W-15 tags'.
+-- The idea of the way back (`complete`): seen from a tag that no port in step lies half a round behind, `further` is a comparison of distances; so of the ports gone through the foremost is always the least far behind (`Least`), and at the end it is the one of the sentence.
 use mathlib.Core.Path.{_≡_, refl, _∙_, sym, ap}
 use mathlib.Core.Logic.{_⊎_, inl, inr, ⊎-elim, _≢_}
 use mathlib.Core.Bool.{Bool, true, false, cond, not, _&&_, _||_, true≢false}

@@ -1,4 +1,5 @@
--- Each call keeps the numbering of the table.
+-- Each call keeps the numbering of the table (`Sound`), and so does every run of calls.
+-- The idea: a command does nothing, or changes slots as Laws/Adding and Laws/Removing have it. A report is taken in two parts, the states that its numbers make (`Heard`), which leave the numbers, and then the numbers given anew (Laws/Reporting).
 use mathlib.Core.Path.{_≡_, refl, _∙_, ap}
 use mathlib.Core.Logic.{⊎-elim, _≢_}
 use mathlib.Core.Bool.{Bool, true, false, cond, not, _||_}

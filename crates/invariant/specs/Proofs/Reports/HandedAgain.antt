@@ -1,4 +1,5 @@
 -- 'the host may hand the frame again after a report': a frame answered 11, handed again after a report, with no other frame of that port and no stop in between, is answered 0 and stored.
+-- The idea: while a port is handed nothing its step record stands still (`Still`), and each epoch passed brings the window nearer to its tag by an epoch's frames, never past it. So after a report the tag lies in the window.
 use mathlib.Core.Path.{_≡_, refl, sym, ap, _∙_}
 use mathlib.Core.Logic.{⊎-elim, _≢_}
 use mathlib.Core.Bool.{Bool, true, false, cond, _&&_, true≢false}
@@ -14,7 +15,7 @@ use Rattle.invariant.specs.Proofs.Kept.Calls.{Due, due-says}
 use Rattle.invariant.specs.Kept.Group.{Kept, Lasting}
 use Rattle.invariant.specs.Proofs.Kept.Passing.{ahead}
 use Rattle.invariant.specs.Kept.Port.{Windowed, offset}
-use Rattle.invariant.specs.Proofs.Kept.Steps.{brought-owes-nothing, lasting-frame, windowed}
+use Rattle.invariant.specs.Proofs.Kept.WithinCall.{brought-owes-nothing, lasting-frame, windowed}
 use Rattle.invariant.specs.Proofs.Laws.Flags.{true-or-false}
 use Rattle.invariant.specs.Proofs.Laws.Settling.{settled-by}
 use Rattle.invariant.specs.Proofs.Laws.Window.{distance-passed, tag-next}

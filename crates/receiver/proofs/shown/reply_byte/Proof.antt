@@ -9,5 +9,5 @@ returns c = rw (eq-eqb _ 2 (c .if1 .taken)) refl
 returns-2 : tie.Need-returns-2
 returns-2 c = rw (ne-eqb _ 2 (c .if1 .left)) refl
 
-pub told-by-spec : {M : Type 1} → statement M
-told-by-spec = tie.close (tie.spec returns returns-2)
+pub reply-byte-spec : {M : Type 1} → statement M
+reply-byte-spec = tie.close (tie.spec returns returns-2)
