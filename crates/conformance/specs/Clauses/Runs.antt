@@ -33,13 +33,13 @@ use Rattle.sender.specs.Table.{membersOf, sizeOf}
 abbrev nines : ℕ → List ℕ
 nines n = replicate n 9
 
-abbrev steps : List ℕ → List SenderCall → List ℕ
-steps state [] = state
-steps state (c ∷ cs) = steps (callStateC true c state) cs
+abbrev called : List ℕ → List SenderCall → List ℕ
+called state [] = state
+called state (c ∷ cs) = called (callStateC true c state) cs
 
 -- Three slots from epoch 7 on: slot 0 is added, epoch 7 starts, slot 1 is added.
 abbrev sender : List ℕ
-sender = steps (startStateC 3 7 (nines 397)) (OnTable (AddSlot 0) ∷ StartEpoch 1 0x3C 0 ∷ OnTable (AddSlot 1) ∷ [])
+sender = called (startStateC 3 7 (nines 397)) (OnTable (AddSlot 0) ∷ StartEpoch 1 0x3C 0 ∷ OnTable (AddSlot 1) ∷ [])
 
 abbrev readOut : List ℕ → List ℕ
 readOut s =

@@ -90,7 +90,7 @@ put-back c g = go (eqb g 0)
     go true = refl
     go false = refl
 
--- a step of the group's sender is refused as the sender has it
+-- a call of the group's sender is refused as the sender has it
 on-sender : (c : Card) (g : ℕ) (rs : List Refusal) (r : SenderOutcome) → Copes (stateful rs (senderNumber (r .answer)) [] [] (senderOf c g) (r .sender) (senderOf c g))
     → Copes (stateful rs (answerNumber (groupOutcome c g r .answer)) [] [] c (groupOutcome c g r .card) c)
 unfolding groupOutcome
