@@ -13,7 +13,7 @@ use Rattle.sender.specs.declared.table.Answer.{Answer}
 use Rattle.sender.specs.Epochs.{SenderCall, beginOf, packetAnswer, packetBytes, payloadAnswer, payloadBytes, senderOutcomeOf}
 use Rattle.sender.specs.Table.{answerNumber}
 use Rattle.c_face.specs.Keeping.{bytesOf, senderOf}
-use Rattle.c_face.specs.Senders.{areBytes, keptBytes, outside, packetAnswerC, packetBytesC, payloadAnswerC, payloadBytesC, startAnswerC, startStateC, callAnswerC, callStateC}
+use Rattle.c_face.specs.Senders.{areBytes, callAnswerC, callStateC, keptBytes, outside, packetAnswerC, packetBytesC, payloadAnswerC, payloadBytesC, startAnswerC, startStateC}
 
 pub record Three (a b c : ℕ) : Type 0 where
   pub first : a < 256

@@ -18,7 +18,7 @@ use Rattle.circuits.specs.declared.card.RanksOutcome.{RanksOutcome}
 use Rattle.circuits.specs.Answers.{answerNumber}
 use Rattle.circuits.specs.Calls.{Call, outcomeOf}
 use Rattle.circuits.specs.Commands.{startOf}
-use Rattle.circuits.specs.Laws.Alike.{Alike, AlikeAfter, alike-packet, alike-payload, alike-shown, alike-call}
+use Rattle.circuits.specs.Laws.Alike.{Alike, AlikeAfter, alike-call, alike-packet, alike-payload, alike-shown}
 use Rattle.circuits.specs.Owners.{ownerIn}
 use Rattle.circuits.specs.Parts as P
 use Rattle.circuits.specs.Readings.{boardShown, outgoingShown, ownedShown, packetAnswer, packetBytes, payloadAnswer, payloadBytes, ranksShown}
@@ -26,7 +26,7 @@ use Rattle.sender.specs.Board.{boardOf}
 use Rattle.sender.specs.declared.epochs.Sender.{Sender}
 use Rattle.sender.specs.Epochs.{ranksOf}
 use Rattle.c_face.specs.Boards.{boardBytesOf, ranksBytesOf}
-use Rattle.c_face.specs.Cards.{alone, behind, bytesBehind, cardOf, isCard, keptCard, ownersIn, packetAnswerOn, packetBytesOn, partAt, partIn, payloadAnswerOn, payloadBytesOn, putCard, putOwn, refusalOf, shownAnswerOn, shownBytesOn, startAnswerOn, startStateOn, callAnswerOn, callStateOn}
+use Rattle.c_face.specs.Cards.{alone, behind, bytesBehind, callAnswerOn, callStateOn, cardOf, isCard, keptCard, ownersIn, packetAnswerOn, packetBytesOn, partAt, partIn, payloadAnswerOn, payloadBytesOn, putCard, putOwn, refusalOf, shownAnswerOn, shownBytesOn, startAnswerOn, startStateOn}
 use Rattle.c_face.specs.Keeping.{byteAt, bytesOf, senderOf}
 use Rattle.c_face.specs.Senders.{areBytes, outside}
 use Rattle.c_face.specs.Theorems.CardRuns.{part-of}

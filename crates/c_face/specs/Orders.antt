@@ -7,7 +7,7 @@ use lib.ListN.{getD, length}
 use Rattle.orders.specs.declared.commands.Kind as K
 use Rattle.orders.specs.Folding.{Folded, folded}
 use Rattle.orders.specs.Orders.{callBy}
-use Rattle.c_face.specs.Cards.{isCard, callAnswerOn, callStateOn}
+use Rattle.c_face.specs.Cards.{callAnswerOn, callStateOn, isCard}
 
 -- the kinds by their numbers, 0 to 3
 abbrev pub kindOf : ℕ → K.Kind

@@ -17,7 +17,7 @@ ghost use Rattle.circuits.specs.Calls.Call.{Claim, Release, AddSlot, RemoveSlot
 ghost use Rattle.circuits.specs.Commands.{startOf};
 ghost use Rattle.circuits.specs.Parts as P;
 ghost use Rattle.ground.specs.Drawn.{fillAt};
-ghost use Rattle.c_face.specs.Cards.{alone, boardBytesOn, cardBytes, cardOf, keptCard, outgoingBytesOn, ownedBytesOn, ownersIn, packetAnswerOn, packetBytesOn, partAt, partIn, payloadAnswerOn, payloadBytesOn, putCard, putOwn, ranksBytesOn, refusalOf, shownAnswerOn, startAnswerOn, startStateOn, callAnswerOn, callStateOn};
+ghost use Rattle.c_face.specs.Cards.{alone, boardBytesOn, callAnswerOn, callStateOn, cardBytes, cardOf, keptCard, outgoingBytesOn, ownedBytesOn, ownersIn, packetAnswerOn, packetBytesOn, partAt, partIn, payloadAnswerOn, payloadBytesOn, putCard, putOwn, ranksBytesOn, refusalOf, shownAnswerOn, startAnswerOn, startStateOn};
 ghost use Rattle.c_face.specs.Keeping.{byteAt, senderOf, stateBytes};
 ghost use Rattle.c_face.specs.Senders.{areBytes};
 

@@ -12,7 +12,7 @@ ghost use Rattle.sender.specs.Epochs.SenderCall.{OnTable, StartEpoch};
 ghost use Rattle.sender.specs.Calls.Call.{AddSlot, RemoveSlot, Report, Lapse};
 ghost use Rattle.sender.specs.Table.{answerNumber};
 ghost use Rattle.c_face.specs.Keeping.{bytesOf, stateBytes};
-ghost use Rattle.c_face.specs.Senders.{areBytes, keptBytes, outside, packetAnswerC, packetBytesC, payloadAnswerC, payloadBytesC, startAnswerC, startStateC, callAnswerC, callStateC};
+ghost use Rattle.c_face.specs.Senders.{areBytes, callAnswerC, callStateC, keptBytes, outside, packetAnswerC, packetBytesC, payloadAnswerC, payloadBytesC, startAnswerC, startStateC};
 
 pub(crate) fn is_outside(count: u32) -> bool
     ensures { λ r. ⌜ r ≡ outside count ⌝ }

@@ -9,7 +9,7 @@ use Rattle.circuits.specs.Calls.Call.{AddSlot, Claim, Lapse, Release, RemoveSlo
 use Rattle.circuits.specs.Commands.{claimOf, commandOf, groupCallOf, releaseOf}
 use Rattle.circuits.specs.Commands.{startOf as cardStart}
 use Rattle.circuits.specs.Owners.{ownedBytes, withOwner}
-use Rattle.circuits.specs.Parts.{isSlot, isUsed, marked, owns, senderOf, groupOutcome, withSender}
+use Rattle.circuits.specs.Parts.{groupOutcome, isSlot, isUsed, marked, owns, senderOf, withSender}
 use Rattle.circuits.specs.Readings.{ownedShown}
 use Rattle.circuits.specs.Shown.{after, board, by, told}
 use Rattle.circuits.specs.Views.{Made}

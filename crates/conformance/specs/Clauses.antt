@@ -29,7 +29,7 @@ use Rattle.circuits.specs.Commands.{claimOf, commandOf}
 use Rattle.circuits.specs.Commands.{startOf as cardStart}
 use Rattle.circuits.specs.declared.card.Card.{Card}
 use Rattle.circuits.specs.Owners.{ownedBytes, withOwner}
-use Rattle.circuits.specs.Parts.{emptySender, isSlot, marked, owns, senderOf, shownSender, groupOutcome, withSender}
+use Rattle.circuits.specs.Parts.{emptySender, groupOutcome, isSlot, marked, owns, senderOf, shownSender, withSender}
 use Rattle.circuits.specs.Readings.{boardShown, outgoingShown, ownedShown, ranksShown}
 use Rattle.circuits.specs.Shown.{after, by}
 use Rattle.conformance.specs.Rows.{Equal, Row, equal-rows}

@@ -8,7 +8,7 @@ use Rattle.circuits.specs.Calls.Call.{AddSlot, Claim}
 use Rattle.circuits.specs.Commands.{claimOf, commandOf, releaseOf}
 use Rattle.circuits.specs.Commands.{startOf as cardStart}
 use Rattle.circuits.specs.Owners.{withOwner}
-use Rattle.circuits.specs.Parts.{isSlot, isUsed, marked, owns, senderOf, groupOutcome, withSender}
+use Rattle.circuits.specs.Parts.{groupOutcome, isSlot, isUsed, marked, owns, senderOf, withSender}
 use Rattle.circuits.specs.Shown.{after, board, by}
 use Rattle.conformance.specs.Rows.{Equal, Row, equal-rows}
 use Rattle.orders.specs.declared.commands.Command.{Command}

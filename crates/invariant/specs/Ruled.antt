@@ -11,7 +11,7 @@ use Rattle.rows.specs.Port.{Port, portAt}
 use Rattle.step.specs.Arrival.{flagOf}
 use Rattle.store.specs.Frames.{packetIn}
 use Rattle.store.specs.Marks.{firstMark}
-use Rattle.invariant.specs.Calls.{Fetch, Frame, Receiver, ReceiverCall, portAfter, receiverRun, receiverAfter}
+use Rattle.invariant.specs.Calls.{Fetch, Frame, Receiver, ReceiverCall, portAfter, receiverAfter, receiverRun}
 use Rattle.invariant.specs.Claims.{Claimed, HandedBy}
 
 -- Of each port, as a call takes it from p to q.

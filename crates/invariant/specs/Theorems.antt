@@ -31,7 +31,7 @@ use Rattle.rows.specs.Port.{portAt}
 use Rattle.step.specs.Arrival.{flagOf}
 use Rattle.store.specs.Frames.{h4At, placeIn}
 use Rattle.store.specs.Marks.{firstMark}
-use Rattle.invariant.specs.Calls.{Receiver, ReceiverCall, portAfter, receiverRun, receiverAfter, startedWith}
+use Rattle.invariant.specs.Calls.{Receiver, ReceiverCall, portAfter, receiverAfter, receiverRun, startedWith}
 use Rattle.invariant.specs.Claims.{Claimed, HandedBy, HandedLast, tagIn}
 use Rattle.invariant.specs.Kept.Group.{Kept}
 use Rattle.invariant.specs.Live.{Live, heardOf}

@@ -9,7 +9,7 @@ use Rattle.ground.specs.Flags.{oneIf}
 use Rattle.judge.specs.Seen.{sizeOf}
 use Rattle.phases.specs.Sizes.{portsIn}
 use Rattle.receiver.specs.Report.{replyPorts}
-use Rattle.receiver.specs.Shown.{portIn, portsAnswer, portsOut, replyAnswer, replyFit, replyOf, replyOut, shownFit, replyByte}
+use Rattle.receiver.specs.Shown.{portIn, portsAnswer, portsOut, replyAnswer, replyByte, replyFit, replyOf, replyOut, shownFit}
 use Rattle.reply.specs.declared.members.Port.{Port}
 use Rattle.reply.specs.Telling.{mstOf}
 use Rattle.rows.specs.declared.group.Group.{Group}

@@ -13,7 +13,7 @@ ghost use mathlib.Core.List.{[], _∷_};
 ghost use Prim.Native.Nat.{_≤_};
 ghost use lib.ListN.{length};
 ghost use Rattle.counting.specs.Each.{each};
-ghost use Rattle.receiver.specs.Shown.{portIn, portShown, portsAnswer, portsOut, replyAnswer, replyFit, replyOut, shownFit, shownNumber, replyByte, waitingByte};
+ghost use Rattle.receiver.specs.Shown.{portIn, portShown, portsAnswer, portsOut, replyAnswer, replyByte, replyFit, replyOut, shownFit, shownNumber, waitingByte};
 
 fn shown_number(kind: u8, member: Member) -> u8
     ensures { λ r. ⌜ r ≡ shownNumber kind member ⌝ }

@@ -25,7 +25,7 @@ use Rattle.circuits.specs.Laws.Seeing.{owners-outcome, sender-marked, sender-ot
 use Rattle.circuits.specs.Laws.Ways.{by-ways}
 use Rattle.circuits.specs.Owners.{ownerIn, withOwner}
 use Rattle.circuits.specs.Parts as P
-use Rattle.circuits.specs.Parts.{marked, groupOutcome, withSender}
+use Rattle.circuits.specs.Parts.{groupOutcome, marked, withSender}
 use Rattle.circuits.specs.Theorems.Owned.{demand2-each}
 use Rattle.circuits.specs.Views.{Asked, Made, cardAfter, run}
 use Rattle.circuits.specs.Views.Asked.{Do, Packet, Payload, Board, Outgoing, Ranks, Owned}
@@ -34,11 +34,11 @@ use Rattle.sender.specs.declared.table.Answer as S
 use Rattle.sender.specs.Epochs.{SenderCall, senderOutcomeOf}
 use Rattle.sender.specs.Table.{answerNumber as senderNumber}
 use Rattle.sender.specs.Theorems.Epochs.{Demand2Kept}
-use Rattle.c_face.specs.Cards.{cardOf, isCard, keptCard, ownersIn, partAt, partIn, putCard, putOwn, startAnswerOn, startStateOn, callAnswerOn, callStateOn}
+use Rattle.c_face.specs.Cards.{callAnswerOn, callStateOn, cardOf, isCard, keptCard, ownersIn, partAt, partIn, putCard, putOwn, startAnswerOn, startStateOn}
 use Rattle.c_face.specs.Keeping.{byteAt, bytesOf, senderOf}
 use Rattle.c_face.specs.Senders.{areBytes, outside}
 use Rattle.c_face.specs.Theorems.Round.{round}
-use Rattle.c_face.specs.Theorems.Runs.{Keepable, keepable-begin, keepable-call, keepable-whole, refuses, call-given}
+use Rattle.c_face.specs.Theorems.Runs.{Keepable, call-given, keepable-begin, keepable-call, keepable-whole, refuses}
 
 -- What is written, read again.
 

@@ -31,13 +31,13 @@ use Rattle.sender.specs.declared.table.Outcome.{Outcome}
 use Rattle.sender.specs.Epochs.{SenderCall, beginOf, packetAnswer, packetBytes, payloadAnswer, payloadBytes, ranksOf, senderOutcomeOf}
 use Rattle.sender.specs.Table.{answerNumber}
 use Rattle.c_face.specs.Boards.{boardBytesC, boardBytesOf, goingBytesC, ranksBytesC, ranksBytesOf, shownAnswerC, shownBytes}
-use Rattle.c_face.specs.Cards.{boardBytesOn, cardOf, keptCard, outgoingBytesOn, ownedBytesOn, packetAnswerOn, packetBytesOn, payloadAnswerOn, payloadBytesOn, putCard, ranksBytesOn, shownAnswerOn, shownBytesOn, startAnswerOn, startStateOn, callAnswerOn, callStateOn}
+use Rattle.c_face.specs.Cards.{boardBytesOn, callAnswerOn, callStateOn, cardOf, keptCard, outgoingBytesOn, ownedBytesOn, packetAnswerOn, packetBytesOn, payloadAnswerOn, payloadBytesOn, putCard, ranksBytesOn, shownAnswerOn, shownBytesOn, startAnswerOn, startStateOn}
 use Rattle.c_face.specs.Keeping.{bytesOf, senderOf}
 use Rattle.c_face.specs.Payloads.{joinAnswerC, joinFrameC, spreadAnswerC, spreadMembersC}
 use Rattle.c_face.specs.Packets.{readAnswerC, readFieldsC, readFixedAnswerC, readFixedFieldsC, valuesOr, writeAnswerC, writeBytesC, writeFixedAnswerC}
 use Rattle.c_face.specs.Plans.{checkAnswerC, checkByteC, lentAnswer, lentBytes, planAnswerC, planBytesC, planBytesOf}
 use Rattle.c_face.specs.Receivers.{H4, failedC, startAsAnswerC, startAsRowsC}
-use Rattle.c_face.specs.Senders.{areBytes, keptBytes, outside, packetAnswerC, packetBytesC, payloadAnswerC, payloadBytesC, startAnswerC, startStateC, callAnswerC, callStateC}
+use Rattle.c_face.specs.Senders.{areBytes, callAnswerC, callStateC, keptBytes, outside, packetAnswerC, packetBytesC, payloadAnswerC, payloadBytesC, startAnswerC, startStateC}
 
 -- levelspruce_packet_write is packet::write on fields that are bytes
 pub write-own : (f : Fields) (h4 : List ℕ)

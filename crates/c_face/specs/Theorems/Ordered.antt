@@ -20,7 +20,7 @@ use Rattle.circuits.specs.Views.Asked.{Do}
 use Rattle.orders.specs.declared.commands.Kind as K
 use Rattle.orders.specs.Laws.Folding.{cut-numbers, cut-state, stateAt}
 use Rattle.orders.specs.Orders.{callBy}
-use Rattle.c_face.specs.Cards.{cardOf, isCard, keptCard, partAt, putOwn, callAnswerOn, callStateOn}
+use Rattle.c_face.specs.Cards.{callAnswerOn, callStateOn, cardOf, isCard, keptCard, partAt, putOwn}
 use Rattle.c_face.specs.Keeping.{byteAt, stateBytes}
 use Rattle.c_face.specs.Orders.{commandAnswerOn, commandStateOn, kindAnswerOn, kindOf, kindStateOn, orderAnswerOn, orderAnswersOn, orderStateOn, ordersOn}
 use Rattle.c_face.specs.Theorems.CardRuns.{fitting, refused-stands, runOn}

@@ -32,10 +32,10 @@ use Rattle.circuits.specs.Parts.{isSlot, isUsed, marked, owns, refused}
 use Rattle.orders.specs.declared.commands.Command.{Command}
 use Rattle.orders.specs.declared.commands.Kind as K
 use Rattle.orders.specs.Orders.{callBy, ordersOf, outcomeBy}
-use Rattle.c_face.specs.Cards.{cardOf, keptCard, ownersIn, partIn, putOwn, callAnswerOn, callStateOn}
+use Rattle.c_face.specs.Cards.{callAnswerOn, callStateOn, cardOf, keptCard, ownersIn, partIn, putOwn}
 use Rattle.c_face.specs.Keeping.{rowIn, rowsIn, senderOf, slotIn, slotsIn}
 use Rattle.c_face.specs.Orders.{kindAnswerOn, kindOf, kindStateOn, ordersOn}
-use Rattle.c_face.specs.Theorems.CardRuns.{no-group, own-part, own-row, part-of, put-apart, call-refused}
+use Rattle.c_face.specs.Theorems.CardRuns.{call-refused, no-group, own-part, own-row, part-of, put-apart}
 use Rattle.c_face.specs.Theorems.Ordered.{call-length}
 use Rattle.c_face.specs.Theorems.Round.{Whole, round}
 

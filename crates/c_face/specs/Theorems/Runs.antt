@@ -16,9 +16,9 @@ use Rattle.sender.specs.declared.table.Answer.{Answer}
 use Rattle.sender.specs.declared.table.Answer.the-variants.{Done, NotAllowed, Field}
 use Rattle.sender.specs.declared.table.Table.{Table}
 use Rattle.sender.specs.Commands.{addOf, addedTo, answered, inOrder, lapseOf, removeOf, removedFrom, startOf, withSlots}
-use Rattle.sender.specs.Epochs.{SenderCall, beginOf, freshSender, senderRun, senderOutcomeOf, startEpochOf, startedSender}
+use Rattle.sender.specs.Epochs.{SenderCall, beginOf, freshSender, senderOutcomeOf, senderRun, startEpochOf, startedSender}
 use Rattle.sender.specs.Epochs.SenderCall.{OnTable, StartEpoch}
-use Rattle.sender.specs.Laws.Kept.{Sound, sound-start, sound-call}
+use Rattle.sender.specs.Laws.Kept.{Sound, sound-call, sound-start}
 use Rattle.sender.specs.Numbering.{Demand2}
 use Rattle.sender.specs.Reports.{reportOf}
 use Rattle.sender.specs.Calls.{Call, outcomeOf}
@@ -27,7 +27,7 @@ use Rattle.sender.specs.Table.{answerNumber, isMember, sizeOf, slotAt}
 use Rattle.sender.specs.Theorems.Demand2.{sound-demand2}
 use Rattle.sender.specs.Theorems.Epochs.{Demand2Kept, demand2-kept}
 use Rattle.c_face.specs.Keeping.{bytesOf, byteAt, senderOf}
-use Rattle.c_face.specs.Senders.{areBytes, isState, keptBytes, outside, startAnswerC, startStateC, callStateC}
+use Rattle.c_face.specs.Senders.{areBytes, callStateC, isState, keptBytes, outside, startAnswerC, startStateC}
 use Rattle.c_face.specs.Theorems.Round.{Whole, round}
 
 -- a C call: the sender's call, with what the C call asks of its numbers

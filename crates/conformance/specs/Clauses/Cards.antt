@@ -11,7 +11,7 @@ use Rattle.circuits.specs.Commands.{claimOf, commandOf, groupCallOf, releaseOf,
 use Rattle.circuits.specs.declared.answers.Answer.the-variants as A
 use Rattle.circuits.specs.declared.card.Card.{Card}
 use Rattle.circuits.specs.Owners.{hasOwner, isMarked, ownedBytes, withOwner}
-use Rattle.circuits.specs.Parts.{isSlot, isUsed, marked, owns, senderOf, shownSender, groupOutcome, withSender}
+use Rattle.circuits.specs.Parts.{groupOutcome, isSlot, isUsed, marked, owns, senderOf, shownSender, withSender}
 use Rattle.circuits.specs.Readings.{boardShown, outgoingShown, ownedShown, packetAnswer, packetBytes, payloadAnswer, payloadBytes, ranksShown}
 use Rattle.circuits.specs.Shown.{by}
 use Rattle.circuits.specs.Views.{Asked, Made, askedBy, bitsOf, run}

@@ -9,7 +9,7 @@ use Rattle.phases.specs.Sizes.{portsIn, sized, storeFor}
 use Rattle.receiver.specs.Fetch.{recordOf}
 use Rattle.receiver.specs.Lengths.{fetchFits, frameFits, outputFor, rowsFit}
 use Rattle.receiver.specs.Report.{replyPort, replyPorts}
-use Rattle.receiver.specs.Shown.{portIn, portShown, portsAnswer, portsOut, replyAnswer, replyFit, replyOf, replyOut, shownFit, shownNumber, replyByte, waitingByte}
+use Rattle.receiver.specs.Shown.{portIn, portShown, portsAnswer, portsOut, replyAnswer, replyByte, replyFit, replyOf, replyOut, shownFit, shownNumber, waitingByte}
 use Rattle.receiver.specs.Starting.{freshPort, freshPorts, sizedAnswer, sizedFits, sizedRows, startAsAnswer, startAsRows, startFits, startRight, startRows, timeOf, timesWithin}
 use Rattle.reply.specs.Telling.{mstFrom, mstOf, okHolds}
 use Rattle.rows.specs.declared.group.Group.{Group}

@@ -5,10 +5,10 @@ use mathlib.Core.List.{List, [], _∷_, _++_}
 use Prim.Native.Nat.{ℕ}
 use lib.ListN.{replicate, take}
 use Rattle.c_face.specs.Boards.{boardByte, boardBytesC, boardBytesOf, goingBytesC, rankByte, ranksBytesC, ranksBytesOf, shownAnswerC, shownBytes}
-use Rattle.c_face.specs.Cards.{boardBytesOn, cardOf, ownedBytesOn, ownersIn, packetAnswerOn, packetBytesOn, partIn, payloadAnswerOn, payloadBytesOn, putOwn, refusalOf, shownAnswerOn, shownBytesOn, callAnswerOn, callStateOn}
+use Rattle.c_face.specs.Cards.{boardBytesOn, callAnswerOn, callStateOn, cardOf, ownedBytesOn, ownersIn, packetAnswerOn, packetBytesOn, partIn, payloadAnswerOn, payloadBytesOn, putOwn, refusalOf, shownAnswerOn, shownBytesOn}
 use Rattle.c_face.specs.Keeping.{byteAt, bytesOf, rowsIn, senderOf, slotsIn}
 use Rattle.c_face.specs.Orders.{kindAnswerOn, kindStateOn, orderAnswerOn, orderAnswersOn, orderStateOn}
-use Rattle.c_face.specs.Senders.{packetAnswerC, packetBytesC, payloadAnswerC, payloadBytesC, startStateC, callAnswerC, callStateC}
+use Rattle.c_face.specs.Senders.{callAnswerC, callStateC, packetAnswerC, packetBytesC, payloadAnswerC, payloadBytesC, startStateC}
 use Rattle.circuits.specs.Calls.{Call as C}
 use Rattle.circuits.specs.Commands.{claimOf, commandOf, releaseOf}
 use Rattle.circuits.specs.Owners.{withOwner}

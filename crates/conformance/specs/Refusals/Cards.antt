@@ -14,7 +14,7 @@ use Rattle.circuits.specs.Calls.{outcomeOf}
 use Rattle.circuits.specs.Calls.Call.{AddSlot, Claim, Lapse, Release, RemoveSlot, Report, StartEpoch}
 use Rattle.circuits.specs.Commands.{claimOf, commandOf, groupCallOf, releaseOf, startOf}
 use Rattle.circuits.specs.Owners.{ownedBytes}
-use Rattle.circuits.specs.Parts.{emptySender, isSlot, isUsed, marked, owns, refused, senderOf, shownSender, groupOutcome, withSender}
+use Rattle.circuits.specs.Parts.{emptySender, groupOutcome, isSlot, isUsed, marked, owns, refused, senderOf, shownSender, withSender}
 use Rattle.circuits.specs.Readings.{boardShown, outgoingShown, ownedShown, packetAnswer, packetBytes, payloadAnswer, payloadBytes, ranksShown}
 use Rattle.conformance.specs.Entries.{Call, Copes, If, Refusal, Unless, copes, stateful, stateless}
 use Rattle.conformance.specs.Refusals.Epochs as sender

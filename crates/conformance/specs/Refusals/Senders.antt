@@ -9,7 +9,7 @@ use lib.Dec.{eqb, ltb}
 use lib.ListN.{length}
 use Rattle.c_face.specs.Boards.{boardBytesC, goingBytesC, ranksBytesC, shownAnswerC, shownBytes}
 use Rattle.c_face.specs.Keeping.{bytesOf, senderOf}
-use Rattle.c_face.specs.Senders.{areBytes, packetAnswerC, packetBytesC, payloadAnswerC, payloadBytesC, startAnswerC, startStateC, callAnswerC, callStateC}
+use Rattle.c_face.specs.Senders.{areBytes, callAnswerC, callStateC, packetAnswerC, packetBytesC, payloadAnswerC, payloadBytesC, startAnswerC, startStateC}
 use Rattle.conformance.specs.Entries.{Call, Copes, If, Refusal, Unless, behind, copes, first, refused, stateful, stateless}
 use Rattle.conformance.specs.Refusals.Epochs as own
 use Rattle.sender.specs.Commands.{freshOf, startOf}

@@ -7,7 +7,7 @@ use Rattle.invariant.specs.Proofs.Kept.Calls.{fetch-kept, frame-kept}
 use Rattle.invariant.specs.Kept.Group.{Kept}
 use Rattle.invariant.specs.Proofs.Kept.Start.{started-kept}
 use Rattle.receiver.specs.Starting.{startAsAnswer}
-use Rattle.invariant.specs.Calls.{Fetch, Frame, Receiver, ReceiverCall, receiverRun, receiverAfter, startedWith}
+use Rattle.invariant.specs.Calls.{Fetch, Frame, Receiver, ReceiverCall, receiverAfter, receiverRun, startedWith}
 
 pub call-kept : (x : Receiver) (c : ReceiverCall) → Kept (x .rows) → Kept (receiverAfter x c .rows)
 call-kept x (Frame port failed h payload) k = frame-kept (x .rows) k port failed h payload (x .store)

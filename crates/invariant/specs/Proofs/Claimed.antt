@@ -56,7 +56,7 @@ use Rattle.store.specs.Laws.Marks.{first-mark, mark-none}
 use Rattle.store.specs.Laws.Places.{place-moved}
 use Rattle.store.specs.Laws.Stands.{Stands, stands-put, stands-same, stored-elsewhere}
 use Rattle.store.specs.Marks.{firstMark, markIn, passedMarks}
-use Rattle.invariant.specs.Calls.{Fetch, Frame, Receiver, ReceiverCall, portAfter, receiverRun, receiverAfter, startedWith, storeAfter}
+use Rattle.invariant.specs.Calls.{Fetch, Frame, Receiver, ReceiverCall, portAfter, receiverAfter, receiverRun, startedWith, storeAfter}
 use Rattle.invariant.specs.Claims.{Claimed, ClaimedOn, Claims, Handed, HandedBy, HandedLast, Part, tagIn}
 
 -- The same content in two states: what is claimed in the second was claimed in the first.

@@ -41,7 +41,7 @@ use Rattle.rows.specs.Step.{stepAt}
 use Rattle.step.specs.Arrival.{flagOf}
 use Rattle.store.specs.Frames.{packetIn}
 use Rattle.store.specs.Marks.{firstMark}
-use Rattle.invariant.specs.Calls.{Fetch, Frame, Receiver, ReceiverCall, portAfter, receiverRun, receiverAfter, startedWith, storeAfter}
+use Rattle.invariant.specs.Calls.{Fetch, Frame, Receiver, ReceiverCall, portAfter, receiverAfter, receiverRun, startedWith, storeAfter}
 use Rattle.invariant.specs.Ruled.{Ruled, AllPassed, AllStay, AllUnruled, OneEpoch, RulesOn, none-rules, passed-in, rowsPassed}
 
 module _ (s : List (List ℕ)) (k : Kept s) (i : ℕ) (failed : Bool) (h : ℕ) (payload store : List ℕ) where

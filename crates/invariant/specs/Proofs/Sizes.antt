@@ -20,7 +20,7 @@ use Rattle.receiver.specs.Laws.Told.{told-group}
 use Rattle.receiver.specs.Report.{reportedOf, statesWorkedOut}
 use Rattle.rows.specs.declared.group.Group.{Group}
 use Rattle.rows.specs.Group.{groupAt}
-use Rattle.invariant.specs.Calls.{Fetch, Frame, Receiver, ReceiverCall, portAfter, receiverRun, receiverAfter, storeAfter}
+use Rattle.invariant.specs.Calls.{Fetch, Frame, Receiver, ReceiverCall, portAfter, receiverAfter, receiverRun, storeAfter}
 
 pub frame-sizes : (s : List (List ℕ)) → Kept s → (i : ℕ) (failed : Bool) (h : ℕ) (payload store : List ℕ) → SameSizes (groupAt (frameRows s i failed h payload store)) (groupAt s)
 frame-sizes s k i failed h payload store =

@@ -10,7 +10,7 @@ use Rattle.invariant.specs.Calls.ReceiverCall.{Fetch, Frame}
 use Rattle.invariant.specs.Claims.{tagIn}
 use Rattle.invariant.specs.Live.{heardOf, isHeard, packetHeard, tagBack}
 use Rattle.invariant.specs.Reports.{ackIn, gives, nextReport, reportsOf, stopsWith, successive}
-use Rattle.invariant.specs.Times.{waitingIn, outcomesOf}
+use Rattle.invariant.specs.Times.{outcomesOf, waitingIn}
 use Rattle.packet.specs.Counts.{carriesLow, nibbleIn, startsCount, tagByHigh, tagByLow}
 use Rattle.packet.specs.Kinds.{epochAfter, epochs, firstTag, frames, idleNumber, lead, tagBefore, tags}
 use Rattle.phases.specs.Beginning.{begins, ready}

@@ -25,10 +25,10 @@ use Rattle.link.specs.Sending.{Covered, epochStart}
 use Rattle.link.specs.Proofs.Standing.{Before}
 use Rattle.link.specs.Told.{Told}
 use Rattle.link.specs.Proofs.Transport.Answers.{answers-are}
-use Rattle.link.specs.Proofs.Transport.EachCall.{says, calls-do}
+use Rattle.link.specs.Proofs.Transport.EachCall.{calls-do, says}
 use Rattle.link.specs.Proofs.Transport.Fetches.{fetch-answered}
 use Rattle.link.specs.Proofs.Transport.Start.{start}
-use Rattle.link.specs.Proofs.Transport.Times.{Phase, CallsDo, begun-by, come-ready, phase}
+use Rattle.link.specs.Proofs.Transport.Times.{CallsDo, Phase, begun-by, come-ready, phase}
 use Rattle.link.specs.Proofs.Transport.Times.Phase.{before, first, later}
 
 module _ (k : Link) (a : AssumedOver k) where

@@ -9,7 +9,7 @@ use lib.Dec.{eqb, ltb}
 use lib.ListN.{length}
 use borrow.Author.Tests.{eq-eqb, eqb-false, eqb-true, ne-eqb}
 use Rattle.ground.specs.Truth.{cond-by, eq-or-ne}
-use Rattle.invariant.specs.Calls.{Fetch, Frame, Receiver, ReceiverCall, portAfter, receiverRun, receiverAfter, startedWith, storeAfter}
+use Rattle.invariant.specs.Calls.{Fetch, Frame, Receiver, ReceiverCall, portAfter, receiverAfter, receiverRun, startedWith, storeAfter}
 use Rattle.invariant.specs.Kept.Group.{Kept}
 use Rattle.invariant.specs.Kept.Run.{RunKept}
 use Rattle.invariant.specs.Live.{Live, LiveRow, heardOf, heardWith, isHeard}
@@ -19,7 +19,7 @@ use Rattle.invariant.specs.Proofs.Laws.Settling.{settled-by}
 use Rattle.invariant.specs.Proofs.Laws.Started.{accepted}
 use Rattle.invariant.specs.Proofs.Live.Rows.{live-none, packet-came, packet-judged}
 use Rattle.invariant.specs.Proofs.Live.Runs.{Took, live-took, taken-took}
-use Rattle.invariant.specs.Proofs.Sizes.{run-sizes, call-sizes}
+use Rattle.invariant.specs.Proofs.Sizes.{call-sizes, run-sizes}
 use Rattle.phases.specs.Laws.Cleared.{begun-port, clearedOn, stopped-port}
 use Rattle.phases.specs.Laws.Lengths.{length-passed, length-stopped}
 use Rattle.phases.specs.Laws.Passed.{passed-of-port, passedOn}

@@ -10,7 +10,7 @@ use lib.Dec.{eqb, ltb}
 use lib.ListN.{getD, length}
 use borrow.Author.Tests.{eq-eqb, ne-eqb, lt-ltb}
 use Rattle.invariant.specs.Proofs.Arriving.{Counts, after-group, frame-by}
-use Rattle.invariant.specs.Proofs.Calls.{run-kept, call-kept}
+use Rattle.invariant.specs.Proofs.Calls.{call-kept, run-kept}
 use Rattle.invariant.specs.Proofs.Kept.Calls.{Due, due-says}
 use Rattle.invariant.specs.Kept.Group.{Kept, Lasting}
 use Rattle.invariant.specs.Proofs.Kept.Passing.{ahead}
@@ -20,7 +20,7 @@ use Rattle.invariant.specs.Proofs.Laws.Flags.{true-or-false}
 use Rattle.invariant.specs.Proofs.Laws.Settling.{settled-by}
 use Rattle.invariant.specs.Proofs.Laws.Window.{distance-passed, tag-next}
 use Rattle.invariant.specs.Proofs.Reports.Groups.{fetch-none}
-use Rattle.invariant.specs.Proofs.Sizes.{run-sizes, call-sizes}
+use Rattle.invariant.specs.Proofs.Sizes.{call-sizes, run-sizes}
 use Rattle.ground.specs.Truth.{and-left, and-right, clash}
 use Rattle.judge.specs.Seen.{sizeOf}
 use Rattle.packet.specs.Kinds.{frames}
@@ -60,7 +60,7 @@ use Rattle.store.specs.Frames.{placeIn, storedAt}
 use Rattle.store.specs.Laws.Stands.{stands-put}
 use Rattle.store.specs.Laws.Stored.{length-stored}
 use Rattle.store.specs.Marks.{firstMark}
-use Rattle.invariant.specs.Calls.{Fetch, Frame, Receiver, ReceiverCall, portAfter, receiverRun, receiverAfter, storeAfter}
+use Rattle.invariant.specs.Calls.{Fetch, Frame, Receiver, ReceiverCall, portAfter, receiverAfter, receiverRun, storeAfter}
 use Rattle.invariant.specs.Reports.{Given, Others, Stored, Unstopped, epochGiven, gives, reportsOf, stopsWith}
 
 -- What 11 says of a port.

@@ -12,7 +12,7 @@ use Rattle.ground.specs.Truth.{eq-or-ne, le-or-lt}
 use Rattle.invariant.specs.Proofs.Kept.Calls.{Due, due-says}
 use Rattle.invariant.specs.Proofs.Reports.Groups.{fetch-none}
 use Rattle.invariant.specs.Reports.{Given, passedRows}
-use Rattle.invariant.specs.Times.{waitingIn, standingIn, standingsAfter}
+use Rattle.invariant.specs.Times.{standingIn, standingsAfter, waitingIn}
 use Rattle.phases.specs.Beginning.{begins}
 use Rattle.phases.specs.Due.{brought, silent}
 use Rattle.phases.specs.Laws.Lengths.{length-passed}

@@ -4,7 +4,7 @@ use mathlib.Core.Logic.{_≢_}
 use mathlib.Core.List.{List, [], _∷_}
 use Prim.Native.Nat.{ℕ}
 use lib.ListN.{length}
-use Rattle.invariant.specs.Calls.{Fetch, Frame, Receiver, ReceiverCall, receiverRun, receiverAfter, startedWith}
+use Rattle.invariant.specs.Calls.{Fetch, Frame, Receiver, ReceiverCall, receiverAfter, receiverRun, startedWith}
 use Rattle.invariant.specs.Proofs.Times.Frames.{frame-answer, frame-rows, frame-store}
 use Rattle.invariant.specs.Proofs.Times.Reports.{fetch-answer, fetch-out, fetch-record, fetch-rows}
 use Rattle.invariant.specs.Proofs.Times.Rows.{SameButTimes}

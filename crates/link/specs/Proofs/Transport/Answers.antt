@@ -16,7 +16,7 @@ use Rattle.link.specs.Proofs.Standing.{Before, First, Later, Owes}
 use Rattle.link.specs.Proofs.Transport.Fetches.{drained-answers}
 use Rattle.link.specs.Proofs.Transport.Moments.{Rest, rest-all, rest-tail, served-at}
 use Rattle.link.specs.Proofs.Transport.Served.{Reach, Served}
-use Rattle.link.specs.Proofs.Transport.Times.{Phase, CallsDo, coming-is, phase, reach-coming, served-coming, turns-more}
+use Rattle.link.specs.Proofs.Transport.Times.{CallsDo, Phase, coming-is, phase, reach-coming, served-coming, turns-more}
 use Rattle.link.specs.Proofs.Transport.Times.Phase.{before, first, later}
 
 module _ (r : Road) where
