@@ -7,9 +7,9 @@ use lib.ListN.{getD, length}
 use Rattle.ground.specs.Flags.{oneIf}
 use Rattle.ground.specs.Table.{tabulate}
 use Rattle.sender.specs.Board.{boardOf}
+use Rattle.sender.specs.Calls.{Call as T}
 use Rattle.sender.specs.Epochs as E
 use Rattle.sender.specs.Epochs.{SenderCall as S, senderOutcomeOf}
-use Rattle.sender.specs.Calls.{Call as T}
 use Rattle.sender.specs.Table.{isMember, sizeOf, slotAt}
 use Rattle.circuits.specs.declared.answers.Answer.{Answer}
 use Rattle.circuits.specs.declared.answers.Answer.the-variants as A

@@ -1,7 +1,7 @@
 -- The calls that change a card, and what each gives.
 use Prim.Native.Nat.{ℕ}
-use Rattle.sender.specs.Epochs.{SenderCall as E}
 use Rattle.sender.specs.Calls.{Call as T}
+use Rattle.sender.specs.Epochs.{SenderCall as E}
 use Rattle.circuits.specs.declared.card.Card.{Card}
 use Rattle.circuits.specs.declared.card.CardOutcome.{CardOutcome}
 use Rattle.circuits.specs.Commands.{claimOf, commandOf, groupCallOf, releaseOf}

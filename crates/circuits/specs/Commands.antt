@@ -9,7 +9,7 @@ use Rattle.circuits.specs.declared.card.Card.{Card}
 use Rattle.circuits.specs.declared.card.CardOutcome.{CardOutcome}
 use Rattle.circuits.specs.Answers.{fromSender}
 use Rattle.circuits.specs.Owners.{hasOwner, markOf}
-use Rattle.circuits.specs.Parts.{isSlot, isUsed, marked, owns, refused, senderOf, groupOutcome}
+use Rattle.circuits.specs.Parts.{groupOutcome, isSlot, isUsed, marked, owns, refused, senderOf}
 
 -- a first epoch for each group, no slot owned; a count out of range is 4, and both groups are empty
 unfoldable pub startOf : ℕ → ℕ → ℕ → ℕ → CardOutcome

@@ -22,7 +22,7 @@ use Rattle.circuits.specs.Calls.{outcomeOf}
 use Rattle.circuits.specs.Calls.Call.{AddSlot, Claim, Lapse, RemoveSlot}
 use Rattle.circuits.specs.Commands.{claimOf, commandOf, groupCallOf, startOf}
 use Rattle.circuits.specs.Owners.{hasOwner, withOwner}
-use Rattle.circuits.specs.Parts.{isSlot, marked, owns, senderOf, groupOutcome, withSender}
+use Rattle.circuits.specs.Parts.{groupOutcome, isSlot, marked, owns, senderOf, withSender}
 use Rattle.circuits.specs.Shown.{after, board, by, told}
 use Rattle.circuits.specs.Views.{Made}
 

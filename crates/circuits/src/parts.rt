@@ -11,7 +11,7 @@ use sender::State;
 ghost use mathlib.Core.Path.{_≡_};
 ghost use Prim.Native.Nat.{_<_};
 ghost use Rattle.sender.specs.Table.{isMember, sizeOf};
-ghost use Rattle.circuits.specs.Parts.{emptySender, isSlot, isUsed, marked, owns, refused, senderOf, shownSender, groupOutcome, withSender};
+ghost use Rattle.circuits.specs.Parts.{emptySender, groupOutcome, isSlot, isUsed, marked, owns, refused, senderOf, shownSender, withSender};
 
 pub(crate) fn sender_of(card: Card, group: u32) -> Sender
     ensures { λ r. ⌜ r ≡ senderOf card group ⌝ }

@@ -24,9 +24,9 @@ use Rattle.payload.specs.Laws.Fits.{Sizes, spread-one-done}
 use Rattle.payload.specs.Order.{memberFrame}
 use Rattle.payload.specs.Spreading.{spreadOne}
 use Rattle.sender.specs.declared.epochs.Sender.{Sender}
+use Rattle.sender.specs.Calls.{Call}
 use Rattle.sender.specs.Epochs.{SenderCall, beginOf, packetBytes, packetFields, payloadBytes, rankIn, senderOutcomeOf, senderRun, xOf}
 use Rattle.sender.specs.Epochs.SenderCall.{OnTable, StartEpoch}
-use Rattle.sender.specs.Calls.{Call}
 use Rattle.sender.specs.Table.{sizeOf}
 use Rattle.sender.specs.Theorems.Epochs.{fixed, onTable, senderAfter}
 

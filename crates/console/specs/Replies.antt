@@ -6,8 +6,8 @@ use lib.Dec.{eqb}
 use Rattle.sender.specs.declared.table.Outcome.{Outcome}
 use Rattle.sender.specs.declared.table.Table.{Table}
 use Rattle.sender.specs.Board.{boardOf}
-use Rattle.sender.specs.Commands.{startOf}
 use Rattle.sender.specs.Calls as S
+use Rattle.sender.specs.Commands.{startOf}
 use Rattle.sender.specs.Table.{answerNumber}
 use Rattle.console.specs.declared.line.Line.{Line}
 use Rattle.console.specs.declared.line.Line.the-variants.{Size, Add, Remove, Report, Lapse, Board, Malformed}

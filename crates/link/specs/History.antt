@@ -8,10 +8,10 @@ use lib.ListN.{length, replicate}
 use Rattle.packet.specs.declared.layout.Fields.{Fields}
 use Rattle.packet.specs.Kinds.{epochs, fixedKind, frames}
 use Rattle.sender.specs.declared.epochs.Sender.{Sender}
+use Rattle.sender.specs.Calls.{Call}
 use Rattle.sender.specs.Epochs.{beginOf, packetBytes, packetFields, payloadBytes, rankIn, senderOutcomeOf, senderRun, xOf}
 use Rattle.sender.specs.Epochs.SenderCall.{StartEpoch}
 use Rattle.sender.specs.Ranks.{noRank}
-use Rattle.sender.specs.Calls.{Call}
 use Rattle.sender.specs.Theorems.Epochs.{onTable}
 use Rattle.link.specs.Sending.{Client, Sending, epochAt}
 

@@ -12,7 +12,7 @@ use Rattle.sender.specs.Table.{membersOf, sizeOf}
 use Rattle.circuits.specs.declared.card.Card.{Card}
 use Rattle.circuits.specs.Commands.{claimOf, commandOf, releaseOf, startOf}
 use Rattle.circuits.specs.Owners.{withOwner}
-use Rattle.circuits.specs.Parts.{isSlot, isUsed, marked, owns, senderOf, groupOutcome, withSender}
+use Rattle.circuits.specs.Parts.{groupOutcome, isSlot, isUsed, marked, owns, senderOf, withSender}
 use Rattle.circuits.specs.Shown.{after}
 use Rattle.orders.specs.declared.commands.Command.{Command}
 use Rattle.orders.specs.declared.commands.Kind as K

@@ -16,10 +16,10 @@ use Rattle.sender.specs.declared.table.Answer.the-variants.{Done, NoSlot
 use Rattle.sender.specs.declared.table.Outcome.{Outcome}
 use Rattle.sender.specs.declared.table.Table.{Table}
 use Rattle.sender.specs.Board.{boardOf}
+use Rattle.sender.specs.Calls.{Call, outcomeOf}
 use Rattle.sender.specs.Commands.{startOf}
 use Rattle.sender.specs.Outcomes.{spreadEarly, spreadTold, written}
 use Rattle.sender.specs.Ranks.{carriersIn, rankAt, ranksIn, rowAt}
-use Rattle.sender.specs.Calls.{Call, outcomeOf}
 use Rattle.sender.specs.Table.{sizeOf}
 
 -- no epoch has started: nothing has gone out, so 'a sender's first epoch has X = 0'

@@ -8,9 +8,9 @@ use crate::table::Table;
 use packet::kinds;
 ghost use mathlib.Core.Path.{_≡_};
 ghost use Prim.Native.Nat.{_≤_, _<_};
-ghost use Rattle.sender.specs.Commands.{addedTo, fallen, fallenIn, freshOf, idleSlot, removedFrom, startOf};
 ghost use Rattle.sender.specs.Calls.{outcomeOf};
 ghost use Rattle.sender.specs.Calls.Call.{AddSlot, RemoveSlot, Lapse};
+ghost use Rattle.sender.specs.Commands.{addedTo, fallen, fallenIn, freshOf, idleSlot, removedFrom, startOf};
 
 fn idle_slot(kind: u8) -> Slot
     ensures { λ r. ⌜ r ≡ idleSlot kind ⌝ }

@@ -15,10 +15,10 @@ use packet::kinds;
 ghost use mathlib.Core.Path.{_≡_};
 ghost use Prim.Native.Nat.{_<_};
 ghost use lib.ListN.{length};
+ghost use Rattle.sender.specs.Calls.Call.{AddSlot, RemoveSlot, Report, Lapse};
 ghost use Rattle.sender.specs.Epochs.{beginOf, freshSender, packetAnswer, packetBytes, packetFields, payloadAnswer, payloadBytes, ranksOf, senderOutcomeOf, startedEpoch, withOutcome};
 ghost use Rattle.sender.specs.Epochs.SenderCall.{OnTable, StartEpoch};
 ghost use Rattle.sender.specs.Outcomes.{spreadEarly, spreadTold, written};
-ghost use Rattle.sender.specs.Calls.Call.{AddSlot, RemoveSlot, Report, Lapse};
 
 // outgoing: what goes out in this epoch's packets. ruling: what went out in the packets before, which rules this epoch's payload.
 // Before the first epoch starts, epoch is the number it will have.

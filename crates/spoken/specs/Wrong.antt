@@ -15,13 +15,13 @@ use Rattle.sender.specs.declared.epochs.Sender.{Sender}
 use Rattle.sender.specs.declared.table.State.{State}
 use Rattle.sender.specs.declared.table.State.the-variants.{Idle, Add, Active, Dnu}
 use Rattle.sender.specs.declared.table.Table.{Table}
-use Rattle.sender.specs.Epochs.{SenderCall, beginOf, freshSender, senderRun, senderOutcomeOf, startEpochOf, startedEpoch, startedSender}
+use Rattle.sender.specs.Calls.{Call}
+use Rattle.sender.specs.Calls.Call.{AddSlot, Lapse, RemoveSlot, Report}
+use Rattle.sender.specs.Epochs.{SenderCall, beginOf, freshSender, senderOutcomeOf, senderRun, startEpochOf, startedEpoch, startedSender}
 use Rattle.sender.specs.Epochs.SenderCall.{OnTable, StartEpoch}
 use Rattle.sender.specs.Ranks.{rowAt}
 use Rattle.sender.specs.Reports.{actedOn, comesBefore, mstApplied, numberAfter, numberApplied, opensWait, renumbered, reportOf, slotAfter, turnOf, waited}
 use Rattle.sender.specs.Shown.{after, numbers}
-use Rattle.sender.specs.Calls.{Call}
-use Rattle.sender.specs.Calls.Call.{AddSlot, Lapse, RemoveSlot, Report}
 use Rattle.sender.specs.Table.{holderOf, membersOf, sizeOf, slotAt}
 use Rattle.spoken.specs.declared.applying.Applied.{Applied}
 use Rattle.spoken.specs.declared.lists.Answer.the-variants.{Done, Unfit}

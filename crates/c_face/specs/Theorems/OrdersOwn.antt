@@ -14,9 +14,9 @@ use Rattle.ground.specs.Truth.{cond-by, eq-or-ne}
 use Rattle.sender.specs.declared.epochs.Sender.{Sender}
 use Rattle.sender.specs.declared.table.Outcome.{Outcome}
 use Rattle.sender.specs.declared.table.Table.{Table}
+use Rattle.sender.specs.Calls.{Call as T}
 use Rattle.sender.specs.Commands.{addOf, addedTo, fallen, fallenIn, idleSlot, removeOf, removedFrom}
 use Rattle.sender.specs.Epochs.{SenderCall as S, senderOutcomeOf}
-use Rattle.sender.specs.Calls.{Call as T}
 use Rattle.sender.specs.Table.{isMember, sizeOf, slotAt}
 use Rattle.circuits.specs.declared.answers.Answer.{Answer}
 use Rattle.circuits.specs.declared.answers.Answer.the-variants as A

@@ -17,7 +17,7 @@ use Rattle.circuits.specs.Calls.Call.{Claim, Release, AddSlot, RemoveSlo
 use Rattle.circuits.specs.Commands.{claimOf, commandOf, groupCallOf, ofOwn, releaseOf, sentOf}
 use Rattle.circuits.specs.Laws.Seeing.{owners-outcome, sender-marked, sender-outcome}
 use Rattle.circuits.specs.Owners.{hasOwner, isMarked, markOf, withOwner}
-use Rattle.circuits.specs.Parts.{isSlot, isUsed, marked, owns, refused, senderOf, shownSender, groupOutcome}
+use Rattle.circuits.specs.Parts.{groupOutcome, isSlot, isUsed, marked, owns, refused, senderOf, shownSender}
 use Rattle.circuits.specs.Readings.{packetAnswer, packetBytes, payloadAnswer, payloadBytes}
 
 pub record Alike (g : ℕ) (c d : Card) : Type 0 where

@@ -17,10 +17,10 @@ use Rattle.sender.specs.declared.table.Slot.{Slot}
 use Rattle.sender.specs.declared.table.State.{State}
 use Rattle.sender.specs.declared.table.State.the-variants.{Idle, Add, Active, Dnu}
 use Rattle.sender.specs.declared.table.Table.{Table}
-use Rattle.sender.specs.Commands.{addOf, addedTo, answered, fallen, fallenIn, idleSlot, inOrder, lapseOf, removeOf, removedFrom, withSlots}
-use Rattle.sender.specs.Reports.{actedOn, becomes, mstApplied, numberAfter, numberApplied, renumbered, reportOf, slotAfter, spokenTo, turnOf, waited}
 use Rattle.sender.specs.Calls.{outcomeOf}
 use Rattle.sender.specs.Calls.Call.{AddSlot, RemoveSlot, Report, Lapse}
+use Rattle.sender.specs.Commands.{addOf, addedTo, answered, fallen, fallenIn, idleSlot, inOrder, lapseOf, removeOf, removedFrom, withSlots}
+use Rattle.sender.specs.Reports.{actedOn, becomes, mstApplied, numberAfter, numberApplied, renumbered, reportOf, slotAfter, spokenTo, turnOf, waited}
 use Rattle.sender.specs.Table.{holderOf, isAdd, isMember, sizeOf, slotAt}
 
 abbrev pub memberAt : List Slot → ℕ → Bool

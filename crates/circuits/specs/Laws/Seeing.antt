@@ -15,7 +15,7 @@ use Rattle.sender.specs.Laws.Sizes.{size-le}
 use Rattle.circuits.specs.declared.card.Card.{Card}
 use Rattle.circuits.specs.Alone.{ownIn, slotIn, withOwn}
 use Rattle.circuits.specs.Owners.{hasOwner, markOf, ownerIn, withOwner}
-use Rattle.circuits.specs.Parts.{isSlot, marked, owns, senderOf, groupOutcome, withSender}
+use Rattle.circuits.specs.Parts.{groupOutcome, isSlot, marked, owns, senderOf, withSender}
 use Rattle.circuits.specs.Views.{View, viewOf}
 
 -- a slot of the card is below 64

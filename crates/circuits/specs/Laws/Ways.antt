@@ -11,7 +11,7 @@ use Rattle.circuits.specs.declared.card.CardOutcome.{CardOutcome}
 use Rattle.circuits.specs.Calls.{Call, outcomeOf}
 use Rattle.circuits.specs.Calls.Call.{Claim, Release, AddSlot, RemoveSlot, Report, Lapse, StartEpoch}
 use Rattle.circuits.specs.Commands.{claimOf, commandOf, groupCallOf, releaseOf, sentOf}
-use Rattle.circuits.specs.Laws.Stepping.{slot-group}
+use Rattle.circuits.specs.Laws.EachCall.{slot-group}
 use Rattle.circuits.specs.Owners.{hasOwner, markOf}
 use Rattle.circuits.specs.Parts.{isSlot, isUsed, marked, owns, refused}
 

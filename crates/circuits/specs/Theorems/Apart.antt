@@ -14,12 +14,12 @@ use Rattle.sender.specs.Epochs as E
 use Rattle.circuits.specs.declared.answers.Answer.{Answer}
 use Rattle.circuits.specs.declared.answers.Answer.the-variants as A
 use Rattle.circuits.specs.declared.card.Card.{Card}
-use Rattle.circuits.specs.Alone.{Seen, ownAnswer, ownBytes, ownIn, repliesSeen, replySeen, slotIn, outcomeSeen, viewAfter, viewSeen}
+use Rattle.circuits.specs.Alone.{Seen, outcomeSeen, ownAnswer, ownBytes, ownIn, repliesSeen, replySeen, slotIn, viewAfter, viewSeen}
 use Rattle.circuits.specs.Answers.{fromSender}
 use Rattle.circuits.specs.Calls.{Call, outcomeOf}
 use Rattle.circuits.specs.Calls.Call.{Claim, Release, AddSlot, RemoveSlot, Report, Lapse, StartEpoch}
+use Rattle.circuits.specs.Laws.EachCall.{choice, kept-claim, kept-command, kept-group-call, kept-release, see, see-claim, see-command, see-group-call, see-release}
 use Rattle.circuits.specs.Laws.Seeing.{own-is, slot-is, slot-low}
-use Rattle.circuits.specs.Laws.Stepping.{choice, kept-claim, kept-command, kept-group-call, kept-release, see, see-claim, see-command, see-group-call, see-release}
 use Rattle.circuits.specs.Owners.{isMarked, ownedBytes}
 use Rattle.circuits.specs.Parts.{isSlot, owns, senderOf, shownSender}
 use Rattle.circuits.specs.Readings.{boardShown, outgoingShown, ownedShown, packetAnswer, packetBytes, payloadAnswer, payloadBytes, ranksShown}

@@ -18,20 +18,20 @@ use Rattle.sender.specs.declared.table.State.{State}
 use Rattle.sender.specs.declared.table.State.the-variants.{Idle, Add, Active, Dnu}
 use Rattle.sender.specs.declared.table.Table.{Table}
 use Rattle.sender.specs.Board.{boardOf, highest, rowOf, wordOf}
+use Rattle.sender.specs.Calls.{Call as C}
 use Rattle.sender.specs.Commands as T
-use Rattle.sender.specs.Epochs.{SenderCall, beginOf, freshSender, senderRun, senderOutcomeOf, startEpochOf, startedSender}
+use Rattle.sender.specs.Epochs.{SenderCall, beginOf, freshSender, senderOutcomeOf, senderRun, startEpochOf, startedSender}
 use Rattle.sender.specs.Epochs.{SenderCall as E}
 use Rattle.sender.specs.Laws.Carrying.{board-row}
 use Rattle.sender.specs.Laws.Kept.{group-call, start-idle}
 use Rattle.sender.specs.Laws.Sizes.{size-le}
 use Rattle.sender.specs.Numbering.{slotsIn, stateIn}
 use Rattle.sender.specs.Ranks.{rowAt}
-use Rattle.sender.specs.Calls.{Call as C}
 use Rattle.sender.specs.Table.{isMember, sizeOf, slotAt}
 use Rattle.sender.specs.Theorems.Epochs.{Demand2Kept, demand2-kept}
 use Rattle.circuits.specs.declared.answers.Answer.the-variants as A
 use Rattle.circuits.specs.declared.card.Card.{Card}
-use Rattle.circuits.specs.Alone.{Seen, ownIn, ownSeen, seen, sentSeen, slotIn, outcomeSeen, viewAfter, withOwn}
+use Rattle.circuits.specs.Alone.{Seen, outcomeSeen, ownIn, ownSeen, seen, sentSeen, slotIn, viewAfter, withOwn}
 use Rattle.circuits.specs.Calls.{Call}
 use Rattle.circuits.specs.Calls.Call.{Claim, Release, AddSlot, RemoveSlot, Report, Lapse, StartEpoch}
 use Rattle.circuits.specs.Commands.{startOf}

@@ -23,11 +23,11 @@ use Rattle.packet.specs.Layout.{dataOf, h4Of, nibblesOf, sealedOf}
 use Rattle.packet.specs.Words.{assigned}
 use Rattle.packet.specs.Writing.{fitting, writeAnswer, writeBytes}
 use Rattle.sender.specs.Board.{boardOf, rowOf, rowsOf}
+use Rattle.sender.specs.Calls.Call.{AddSlot, Lapse}
 use Rattle.sender.specs.Commands.{addOf, addedTo, freshOf, idleSlot, startOf}
 use Rattle.sender.specs.Epochs.{SenderCall, beginOf, freshSender, packetAnswer, packetBytes, packetFields, payloadAnswer, payloadBytes, ranksOf, startEpochOf, startedEpoch, startedSender}
 use Rattle.sender.specs.Epochs.SenderCall.{OnTable, StartEpoch}
 use Rattle.sender.specs.Ranks.{carriersIn, rankAt, ranksIn}
-use Rattle.sender.specs.Calls.Call.{AddSlot, Lapse}
 use Rattle.sender.specs.Table.{membersOf, sizeOf}
 
 abbrev nines : ℕ → List ℕ

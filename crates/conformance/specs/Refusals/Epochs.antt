@@ -16,10 +16,10 @@ use Rattle.conformance.specs.Refusals.Tables.{commandRefusals, idle, sta
 use Rattle.sender.specs.declared.epochs.Sender.{Sender}
 use Rattle.sender.specs.declared.table.Answer.the-variants.{Length, OutOfRange}
 use Rattle.sender.specs.declared.table.Table.{Table}
+use Rattle.sender.specs.Calls.Call.{AddSlot, Lapse, RemoveSlot, Report}
 use Rattle.sender.specs.Commands.{freshOf}
 use Rattle.sender.specs.Epochs.{beginOf, freshSender, packetAnswer, packetBytes, packetFields, payloadAnswer, payloadBytes, senderOutcomeOf, startEpochOf, xOf}
 use Rattle.sender.specs.Epochs.SenderCall.{OnTable, StartEpoch}
-use Rattle.sender.specs.Calls.Call.{AddSlot, Lapse, RemoveSlot, Report}
 use Rattle.sender.specs.Table.{answerNumber, sizeOf}
 
 abbrev pub start : ℕ × ℕ × ℕ → Call

@@ -12,10 +12,10 @@ use Rattle.c_face.specs.Keeping.{bytesOf, senderOf}
 use Rattle.c_face.specs.Senders.{areBytes, callAnswerC, callStateC, packetAnswerC, packetBytesC, payloadAnswerC, payloadBytesC, startAnswerC, startStateC}
 use Rattle.conformance.specs.Entries.{Call, Copes, If, Refusal, Unless, behind, copes, first, refused, stateful, stateless}
 use Rattle.conformance.specs.Refusals.Epochs as own
+use Rattle.sender.specs.Calls.Call.{AddSlot, Lapse, RemoveSlot, Report}
 use Rattle.sender.specs.Commands.{freshOf, startOf}
 use Rattle.sender.specs.Epochs.{SenderCall, beginOf, freshSender, packetBytes, payloadBytes, senderOutcomeOf}
 use Rattle.sender.specs.Epochs.SenderCall.{OnTable, StartEpoch}
-use Rattle.sender.specs.Calls.Call.{AddSlot, Lapse, RemoveSlot, Report}
 use Rattle.sender.specs.Table.{answerNumber}
 
 -- 397 bytes

@@ -8,10 +8,10 @@ use Rattle.conformance.specs.Entries.{Call, Copes, If, Refusal, Unless, 
 use Rattle.sender.specs.declared.table.State.{State}
 use Rattle.sender.specs.declared.table.State.the-variants.{Idle, Add, Active, Dnu}
 use Rattle.sender.specs.declared.table.Table.{Table}
-use Rattle.sender.specs.Commands.{addOf, addedTo, freshOf, inOrder, lapseOf, removeOf, removedFrom, startOf}
-use Rattle.sender.specs.Reports.{reportOf}
 use Rattle.sender.specs.Calls.{outcomeOf}
 use Rattle.sender.specs.Calls.Call.{AddSlot, Lapse, RemoveSlot, Report}
+use Rattle.sender.specs.Commands.{addOf, addedTo, freshOf, inOrder, lapseOf, removeOf, removedFrom, startOf}
+use Rattle.sender.specs.Reports.{reportOf}
 use Rattle.sender.specs.Table.{answerNumber, isMember, sizeOf, slotAt}
 
 -- 4: 'group count .. out of range', 'an empty group'; there is no state before a start, so the empty group stands for it

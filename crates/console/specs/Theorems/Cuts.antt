@@ -13,7 +13,7 @@ use Rattle.console.specs.declared.line.Line.{Line}
 use Rattle.console.specs.declared.session.Session.{Session}
 use Rattle.console.specs.Kept.{lineIn, nothingKept}
 use Rattle.console.specs.Laws.Feeding.{used-some}
-use Rattle.console.specs.Laws.Holding.{Holds, kept-line, holds-more, holds-nothing}
+use Rattle.console.specs.Laws.Holding.{Holds, holds-more, holds-nothing, kept-line}
 use Rattle.text.specs.Laws.Lines.{Free, free-append, free-line, free-take, last-line, with-end}
 use Rattle.console.specs.Line.{lineOf}
 use Rattle.console.specs.Output.{ROOM}

@@ -9,9 +9,9 @@ use lib.Dec.{eqb}
 use borrow.Author.Tests.{eqb-false, eqb-true, lt-ltb}
 use Rattle.ground.specs.Table.{tabulate}
 use Rattle.sender.specs.declared.epochs.Sender.{Sender}
+use Rattle.sender.specs.Calls.{Call as T}
 use Rattle.sender.specs.Epochs.{SenderCall, beginOf, senderOutcomeOf, senderRun}
 use Rattle.sender.specs.Epochs.{SenderCall as E}
-use Rattle.sender.specs.Calls.{Call as T}
 use Rattle.sender.specs.Theorems.Epochs.{onTable, refused-start}
 use Rattle.circuits.specs.Calls.Call.{Claim, Release, AddSlot, RemoveSlot, Report, Lapse, StartEpoch}
 use Rattle.circuits.specs.Commands.{claimOf, commandOf, groupCallOf, releaseOf, sentOf, startOf}

@@ -3,8 +3,8 @@ use mathlib.Core.Path.{_≡_}
 use mathlib.Core.List.{List, [], _∷_}
 use Prim.Native.Nat.{ℕ}
 use lib.ListN.{length}
-use Rattle.invariant.specs.Proofs.Kept.Calls.{fetch-kept, frame-kept}
 use Rattle.invariant.specs.Kept.Group.{Kept}
+use Rattle.invariant.specs.Proofs.Kept.Calls.{fetch-kept, frame-kept}
 use Rattle.invariant.specs.Proofs.Kept.Start.{started-kept}
 use Rattle.receiver.specs.Starting.{startAsAnswer}
 use Rattle.invariant.specs.Calls.{Fetch, Frame, Receiver, ReceiverCall, receiverAfter, receiverRun, startedWith}

@@ -7,12 +7,12 @@ use mathlib.Core.List.{List, [], _∷_}
 use Prim.Native.Nat.{ℕ, _+_, _/_, _%_, _≤_, _<_}
 use native.Mathlib.Omega.{arith}
 use lib.ListN.{getD, length, replicate}
+use Rattle.invariant.specs.Kept.Group.{Kept, Lasting}
+use Rattle.invariant.specs.Kept.Port.{PortKept, Windowed}
 use Rattle.invariant.specs.Proofs.Arriving.{Counts, after-group, frame-by}
 use Rattle.invariant.specs.Proofs.Calls.{call-kept}
 use Rattle.invariant.specs.Proofs.Claims.{New, Old, claims-inside, passed-claims, taken-claims, taken-inside}
 use Rattle.invariant.specs.Proofs.Kept.Calls.{Due, due-says}
-use Rattle.invariant.specs.Kept.Group.{Kept, Lasting}
-use Rattle.invariant.specs.Kept.Port.{PortKept, Windowed}
 use Rattle.invariant.specs.Proofs.Kept.Start.{started-kept, started-with}
 use Rattle.invariant.specs.Proofs.Kept.WithinCall.{brought-owes-nothing, lasting-frame, windowed}
 use Rattle.invariant.specs.Proofs.Laws.Settling.{settled-by}

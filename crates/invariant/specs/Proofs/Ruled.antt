@@ -6,11 +6,11 @@ use mathlib.Core.List.{List, [], _∷_, _++_, append-assoc, append-nil}
 use Prim.Native.Nat.{ℕ, _≤_, _<_}
 use native.Mathlib.Omega.{arith}
 use lib.ListN.{length}
+use Rattle.invariant.specs.Kept.Group.{Kept}
 use Rattle.invariant.specs.Proofs.Arriving.{Counts, after-group, frame-by}
 use Rattle.invariant.specs.Proofs.Calls.{run-kept}
 use Rattle.invariant.specs.Proofs.Claimed.{taken-claimed}
 use Rattle.invariant.specs.Proofs.Kept.Calls.{due-says}
-use Rattle.invariant.specs.Kept.Group.{Kept}
 use Rattle.invariant.specs.Proofs.Kept.Start.{started-kept, started-with}
 use Rattle.invariant.specs.Proofs.Kept.Taken.{taken-whole}
 use Rattle.invariant.specs.Proofs.Laws.Flags.{off-flag}

@@ -4,9 +4,9 @@ use mathlib.Core.List.{List, [], _∷_}
 use Prim.Native.Nat.{ℕ, _<_}
 use native.Mathlib.Omega.{arith}
 use lib.ListN.{length}
+use Rattle.invariant.specs.Kept.Group.{Kept}
 use Rattle.invariant.specs.Proofs.Arriving.{Counts, after-group, frame-by}
 use Rattle.invariant.specs.Proofs.Calls.{call-kept}
-use Rattle.invariant.specs.Kept.Group.{Kept}
 use Rattle.ground.specs.Truth.{cond-by}
 use Rattle.phases.specs.Laws.Lengths.{length-passed}
 use Rattle.phases.specs.Laws.Passed.{passed-group}

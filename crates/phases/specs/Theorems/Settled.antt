@@ -6,7 +6,7 @@ use Prim.Native.Nat.{ℕ, _≤_}
 use native.Mathlib.Omega.{arith}
 use borrow.Author.Tests.{not-true}
 use lib.ListN.{length, replicate}
-use Rattle.counting.specs.Laws.Tests.{One, every-ext, every-fails, some-one, some-not-none}
+use Rattle.counting.specs.Laws.Tests.{One, every-ext, every-fails, some-not-none, some-one}
 use Rattle.ground.specs.Truth.{and-left, and-right, and-true, clash, cond-by}
 use Rattle.phases.specs.Beginning.{begins}
 use Rattle.phases.specs.Due.{brought, owesNothing, silent}

@@ -16,7 +16,7 @@ use Rattle.reply.specs.Laws.Choosing.{Chosen, holders-from}
 use Rattle.reply.specs.Laws.Claims.{claim-free, claim-none, claim-own, keeps, keeps-own, left-claim, left-idle, left-lost}
 use Rattle.reply.specs.Laws.Granting.{grant-from, grant-holds, length-grant}
 use Rattle.reply.specs.Laws.Holding.{none-held}
-use Rattle.reply.specs.Laws.Members.{left-low, left-ok, left-elapsed}
+use Rattle.reply.specs.Laws.Members.{left-elapsed, left-low, left-ok}
 use Rattle.reply.specs.Members.{failState, hasHoldOff, idleState, isCandidate, isIdle, okState, portAt}
 use Rattle.reply.specs.Telling.{ackOf, turns}
 use Rattle.reply.specs.Waiting.{chosenOf, hasClaim, heldOf, keepsNumber, moreHeld, mustHold, noStanding, rounds, someJoin, standing, standingBy, standingsOf, withClaim}

@@ -10,7 +10,7 @@ use Rattle.reply.specs.declared.members.Port.{Port}
 use Rattle.reply.specs.declared.waiting.Standing.{Standing}
 use Rattle.reply.specs.Choosing.{FREE, holderOf}
 use Rattle.reply.specs.Laws.Choosing.{holders-kept}
-use Rattle.reply.specs.Laws.Claims.{claim-alone, claim-candidate, claim-free, claim-lost, claim-own, keeps, keeps-none, keeps-not, keeps-elapsed, keeps-state, left-claim, left-idle, left-lost, with-rested, with-restoring, without-failed, without-kept}
+use Rattle.reply.specs.Laws.Claims.{claim-alone, claim-candidate, claim-free, claim-lost, claim-own, keeps, keeps-elapsed, keeps-none, keeps-not, keeps-state, left-claim, left-idle, left-lost, with-rested, with-restoring, without-failed, without-kept}
 use Rattle.reply.specs.Laws.Holding.{Apart, Low, is-held, keeps-own, held-by}
 use Rattle.reply.specs.Laws.Members.{candidate-not-idle, has-left, ok-rested, rested, restoring, restoring-fail, restoring-left, was-number, was-state}
 use Rattle.reply.specs.Members.{failState, idleState, isCandidate, isIdle, isRestoring, okState, portAt, wasOk}

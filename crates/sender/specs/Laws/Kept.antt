@@ -21,6 +21,8 @@ use Rattle.sender.specs.declared.table.Slot.{Slot}
 use Rattle.sender.specs.declared.table.State.{State}
 use Rattle.sender.specs.declared.table.State.the-variants.{Idle, Add, Active, Dnu}
 use Rattle.sender.specs.declared.table.Table.{Table}
+use Rattle.sender.specs.Calls.{Call, outcomeOf, run}
+use Rattle.sender.specs.Calls.Call.{AddSlot, RemoveSlot, Report, Lapse}
 use Rattle.sender.specs.Commands.{addOf, addedTo, answered, fallen, fallenIn, freshOf, idleSlot, inOrder, lapseOf, removeOf, removedFrom, startOf, withSlots}
 use Rattle.sender.specs.Laws.Adding.{numbered-add}
 use Rattle.sender.specs.Laws.Finding.{holder-said}
@@ -30,8 +32,6 @@ use Rattle.sender.specs.Laws.Reporting.{MayBecome, numbered-report}
 use Rattle.sender.specs.Laws.Sizes.{size-le}
 use Rattle.sender.specs.Numbering.{numberIn, slotsIn, stateIn}
 use Rattle.sender.specs.Reports.{actedOn, comesBefore, mstApplied, numberAfter, renumbered, reportOf, slotAfter, becomes, spokenTo, numberApplied, turnOf, waited}
-use Rattle.sender.specs.Calls.{Call, run, outcomeOf}
-use Rattle.sender.specs.Calls.Call.{AddSlot, RemoveSlot, Report, Lapse}
 use Rattle.sender.specs.Table.{holderOf, isAdd, isMember, membersOf, sizeOf, slotAt}
 
 -- a table that a start or a call returned

@@ -17,14 +17,14 @@ use Rattle.sender.specs.declared.epochs.SenderOutcome.{SenderOutcome}
 use Rattle.sender.specs.declared.table.Answer.the-variants.{Done, Field}
 use Rattle.sender.specs.declared.table.Table.{Table}
 use Rattle.sender.specs.Board.{boardOf}
+use Rattle.sender.specs.Calls.{Call}
 use Rattle.sender.specs.Commands.{startOf}
-use Rattle.sender.specs.Epochs.{SenderCall, beginOf, freshSender, packetAnswer, packetBytes, packetFields, payloadAnswer, payloadBytes, rankIn, senderRun, senderOutcomeOf, startEpochOf, startedSender, xOf}
+use Rattle.sender.specs.Epochs.{SenderCall, beginOf, freshSender, packetAnswer, packetBytes, packetFields, payloadAnswer, payloadBytes, rankIn, senderOutcomeOf, senderRun, startEpochOf, startedSender, xOf}
 use Rattle.sender.specs.Epochs.SenderCall.{OnTable, StartEpoch}
 use Rattle.sender.specs.Laws.Carrying.{board-size, carries-active, rank-active, x-active}
-use Rattle.sender.specs.Laws.Kept.{Sound, group-call, sound-start, sound-call, start-idle}
+use Rattle.sender.specs.Laws.Kept.{Sound, group-call, sound-call, sound-start, start-idle}
 use Rattle.sender.specs.Numbering.{Demand2, numberIn, slotsIn, stateIn}
 use Rattle.sender.specs.Ranks.{carries, carriersIn, rankAt, rowAt}
-use Rattle.sender.specs.Calls.{Call}
 use Rattle.sender.specs.Table.{isActive, sizeOf}
 use Rattle.sender.specs.Theorems.Demand2.{active-member, sound-demand2}
 

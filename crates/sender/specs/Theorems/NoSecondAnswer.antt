@@ -11,9 +11,9 @@ use Rattle.sender.specs.declared.table.Answer.{Answer}
 use Rattle.sender.specs.declared.table.Outcome.{Outcome}
 use Rattle.sender.specs.declared.table.Table.{Table}
 use Rattle.sender.specs.Board.{boardOf}
+use Rattle.sender.specs.Calls.{Call, outcomeOf}
 use Rattle.sender.specs.Commands.{startOf}
 use Rattle.sender.specs.Epochs.{SenderCall, beginOf, packetAnswer, packetBytes, payloadAnswer, payloadBytes, ranksOf, senderOutcomeOf}
-use Rattle.sender.specs.Calls.{Call, outcomeOf}
 
 pub start-only : (kind count : ℕ) (r q : Outcome) → r ≡ startOf kind count → q ≡ startOf kind count → r ≡ q
 start-only kind count r q a b = a ∙ sym b

@@ -6,12 +6,12 @@ use Prim.Native.Nat.{ℕ}
 use Rattle.packet.specs.Kinds.{idleNumber, mstFails, mstFirst, mstNumbers}
 use Rattle.sender.specs.declared.table.Outcome.{Outcome}
 use Rattle.sender.specs.declared.table.Table.{Table}
+use Rattle.sender.specs.Calls.{Call, outcomeOf}
+use Rattle.sender.specs.Calls.Call.{AddSlot, Report, Lapse}
 use Rattle.sender.specs.Commands.{addOf, addedTo, freshOf, idleSlot, lapseOf, startOf}
 use Rattle.sender.specs.Numbering.{stateIn}
 use Rattle.sender.specs.Reports.{actedOn, comesBefore, mstApplied, numberAfter, opensWait, renumbered, reportOf, slotAfter, numberApplied, turnOf, waited}
 use Rattle.sender.specs.Shown.{after}
-use Rattle.sender.specs.Calls.{Call, outcomeOf}
-use Rattle.sender.specs.Calls.Call.{AddSlot, Report, Lapse}
 use Rattle.sender.specs.Table.{holderOf, isActive, membersOf, sizeOf}
 
 -- slot 0 is active

@@ -11,9 +11,9 @@ use Rattle.sender.specs.declared.epochs.Sender.{Sender}
 use Rattle.sender.specs.declared.epochs.SenderOutcome.{SenderOutcome}
 use Rattle.sender.specs.declared.table.Answer.the-variants as A
 use Rattle.sender.specs.declared.table.Table.{Table}
-use Rattle.sender.specs.Epochs.{SenderCall, beginOf, freshSender, senderRun, senderOutcomeOf, startEpochOf, startedSender}
+use Rattle.sender.specs.Epochs.{SenderCall, beginOf, freshSender, senderOutcomeOf, senderRun, startEpochOf, startedSender}
 use Rattle.sender.specs.Epochs.SenderCall.{OnTable, StartEpoch}
-use Rattle.sender.specs.Laws.Kept.{Sound, group-call, sound-start, sound-call}
+use Rattle.sender.specs.Laws.Kept.{Sound, group-call, sound-call, sound-start}
 use Rattle.sender.specs.Numbering.{Demand2}
 use Rattle.sender.specs.Theorems.Demand2.{sound-demand2}
 use Rattle.sender.specs.Theorems.Epochs.{senderAfter}

@@ -3,8 +3,8 @@ use mathlib.Core.Path.{refl}
 use native.Mathlib.Omega.{arith}
 use Rattle.c_face.proofs.SenderCalls.{call-length, call-kept}
 use Rattle.c_face.proofs.senders.levelspruce_sender_remove.Statement.{statement}
-use Rattle.sender.specs.Epochs.SenderCall.{OnTable}
 use Rattle.sender.specs.Calls.Call.{RemoveSlot}
+use Rattle.sender.specs.Epochs.SenderCall.{OnTable}
 use Rattle.c_face.proofs.senders.levelspruce_sender_remove.Tie as tie
 
 returns : tie.Need-returns

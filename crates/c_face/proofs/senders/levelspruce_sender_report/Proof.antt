@@ -6,8 +6,8 @@ use borrow.Author.Tests.{not-true, not-false}
 use Rattle.c_face.specs.Senders.{areBytes}
 use Rattle.c_face.proofs.SenderCalls.{Three, call-length, call-unfit, call-kept, three-said}
 use Rattle.c_face.proofs.senders.levelspruce_sender_report.Statement.{statement}
-use Rattle.sender.specs.Epochs.SenderCall.{OnTable}
 use Rattle.sender.specs.Calls.Call.{Report}
+use Rattle.sender.specs.Epochs.SenderCall.{OnTable}
 use Rattle.c_face.proofs.senders.levelspruce_sender_report.Tie as tie
 
 returns : tie.Need-returns

@@ -9,12 +9,12 @@ use native.Mathlib.Omega.{arith}
 use lib.Dec.{eqb, ltb}
 use lib.ListN.{getD, length}
 use borrow.Author.Tests.{eq-eqb, ne-eqb, lt-ltb}
+use Rattle.invariant.specs.Kept.Group.{Kept, Lasting}
+use Rattle.invariant.specs.Kept.Port.{Windowed, offset}
 use Rattle.invariant.specs.Proofs.Arriving.{Counts, after-group, frame-by}
 use Rattle.invariant.specs.Proofs.Calls.{call-kept, run-kept}
 use Rattle.invariant.specs.Proofs.Kept.Calls.{Due, due-says}
-use Rattle.invariant.specs.Kept.Group.{Kept, Lasting}
 use Rattle.invariant.specs.Proofs.Kept.Passing.{ahead}
-use Rattle.invariant.specs.Kept.Port.{Windowed, offset}
 use Rattle.invariant.specs.Proofs.Kept.WithinCall.{brought-owes-nothing, lasting-frame, windowed}
 use Rattle.invariant.specs.Proofs.Laws.Flags.{true-or-false}
 use Rattle.invariant.specs.Proofs.Laws.Settling.{settled-by}

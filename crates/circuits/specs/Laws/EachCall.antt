@@ -12,9 +12,9 @@ use Rattle.circuits.specs.declared.card.Card.{Card}
 use Rattle.circuits.specs.declared.card.CardOutcome.{CardOutcome}
 use Rattle.circuits.specs.Alone.{Seen, claimSeen, ownIn, ownSeen, releaseSeen, seen, sentSeen, slotIn, withOwn}
 use Rattle.circuits.specs.Commands.{claimOf, commandOf, groupCallOf, ofOwn, releaseOf, sentOf}
-use Rattle.circuits.specs.Laws.Seeing.{mark-some, marks-apart, own-is, owner-is, owners-outcome, owns-marked, sender-marked, sender-other, slot-is, slot-low, view-marked, view-same, view-outcome}
+use Rattle.circuits.specs.Laws.Seeing.{mark-some, marks-apart, own-is, owner-is, owners-outcome, owns-marked, sender-marked, sender-other, slot-is, slot-low, view-marked, view-outcome, view-same}
 use Rattle.circuits.specs.Owners.{hasOwner, markOf, ownerIn}
-use Rattle.circuits.specs.Parts.{isSlot, isUsed, marked, owns, refused, senderOf, groupOutcome}
+use Rattle.circuits.specs.Parts.{groupOutcome, isSlot, isUsed, marked, owns, refused, senderOf}
 use Rattle.circuits.specs.Views.{View, viewOf}
 
 module _ {A : Type 0} where
