@@ -18,7 +18,7 @@ use Rattle.sender.specs.declared.table.Table.{Table}
 use Rattle.sender.specs.Calls.{Call}
 use Rattle.sender.specs.Epochs.{SenderCall, beginOf, freshSender, senderOutcomeOf, senderRun, startEpochOf, startedEpoch, startedSender}
 use Rattle.sender.specs.Epochs.SenderCall.{OnTable, StartEpoch}
-use Rattle.sender.specs.Laws.Kept.{group-step}
+use Rattle.sender.specs.Laws.Kept.{group-call}
 use Rattle.sender.specs.Laws.Sizes.{size-large, size-small}
 use Rattle.sender.specs.Table.{sizeOf}
 use Rattle.sender.specs.Theorems.Epochs.{SoundSender, onTable, sender-sound, senderAfter}
@@ -81,7 +81,7 @@ pub left : (s : Sender) (cs : List Call) → Left s (senderRun s (onTable cs))
 left s [] = record { count = refl; kind = refl; outgoing = refl; epoch = refl; begun = refl }
 left s (c ∷ cs) =
     let o = left (senderOutcomeOf s (OnTable c) .sender) cs in
-    let g = group-step (s .table) c in
+    let g = group-call (s .table) c in
     record { count = o .count ∙ g .count; kind = o .kind ∙ g .kind; outgoing = o .outgoing; epoch = o .epoch; begun = o .begun }
 
 later-epoch : (s : Sender) → s .begun ≡ true → startedEpoch s ≡ epochAfter (s .table .kind) (s .epoch)
