@@ -4,7 +4,7 @@ pub mod Parts
 pub mod Pieces
 pub mod Planning
 pub mod Showing
-pub mod Stepping
+pub mod SenderCalls
 pub mod Telling
 pub mod TwoGroups
 pub mod Wholes

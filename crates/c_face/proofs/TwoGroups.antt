@@ -16,9 +16,9 @@ use Rattle.circuits.specs.declared.card.CardOutcome.{CardOutcome}
 use Rattle.circuits.specs.declared.card.OwnedOutcome.{OwnedOutcome}
 use Rattle.circuits.specs.declared.card.RanksOutcome.{RanksOutcome}
 use Rattle.circuits.specs.Answers.{answerNumber}
-use Rattle.circuits.specs.Calls.{Call, stepOf}
+use Rattle.circuits.specs.Calls.{Call, outcomeOf}
 use Rattle.circuits.specs.Commands.{startOf}
-use Rattle.circuits.specs.Laws.Alike.{Alike, AlikeAfter, alike-payload, alike-shown, alike-step}
+use Rattle.circuits.specs.Laws.Alike.{Alike, AlikeAfter, alike-call, alike-payload, alike-shown}
 use Rattle.circuits.specs.Owners.{ownerIn}
 use Rattle.circuits.specs.Parts as P
 use Rattle.circuits.specs.Readings.{boardShown, outgoingShown, ownedShown, payloadAnswer, payloadBytes, ranksShown}
@@ -26,7 +26,7 @@ use Rattle.sender.specs.Board.{boardOf}
 use Rattle.sender.specs.declared.epochs.Sender.{Sender}
 use Rattle.sender.specs.Epochs.{ranksOf}
 use Rattle.c_face.specs.Boards.{boardBytesOf, ranksBytesOf}
-use Rattle.c_face.specs.Cards.{alone, behind, bytesBehind, cardOf, isCard, keptCard, ownersIn, packetAnswerOn, packetBytesOn, partAt, partIn, payloadAnswerOn, payloadBytesOn, putCard, putOwn, refusalOf, shownAnswerOn, shownBytesOn, startAnswerOn, startStateOn, stepAnswerOn, stepStateOn}
+use Rattle.c_face.specs.Cards.{alone, behind, bytesBehind, callAnswerOn, callStateOn, cardOf, isCard, keptCard, ownersIn, packetAnswerOn, packetBytesOn, partAt, partIn, payloadAnswerOn, payloadBytesOn, putCard, putOwn, refusalOf, shownAnswerOn, shownBytesOn, startAnswerOn, startStateOn}
 use Rattle.c_face.specs.Keeping.{byteAt, bytesOf, senderOf}
 use Rattle.c_face.specs.Laws.Slots.{slot-packet, slotPacketAnswer, slotPacketBytes}
 use Rattle.c_face.specs.Senders.{areBytes, outside}
@@ -76,17 +76,17 @@ own-whole g c s state mid out l em es eo =
 pub owned-whole : (owned d out : List ℕ) → length owned ≡ 64 → length d ≡ 64 → out ≡ fillAt 0 (length owned) (λ k. getD owned k 0) d → out ≡ owned
 owned-whole owned d out l m e = e ∙ fillAt-all (length owned) (λ k. getD owned k 0) d (m ∙ sym l) ∙ tabulate-self owned 0
 
-module _ (step : CardOutcome) (g : ℕ) (old : List ℕ) (n : ℕ) (e : n ≡ answerNumber (step .answer)) where
-  pub keep-refused : (n ≡ 0 → ⊥) → (n ≡ answerNumber (step .answer)) × (old ≡ keptCard g step old)
-  keep-refused d = (e, rw (ne-eqb (answerNumber (step .answer)) 0 (λ z. d (e ∙ z))) refl)
+module _ (outcome : CardOutcome) (g : ℕ) (old : List ℕ) (n : ℕ) (e : n ≡ answerNumber (outcome .answer)) where
+  pub keep-refused : (n ≡ 0 → ⊥) → (n ≡ answerNumber (outcome .answer)) × (old ≡ keptCard g outcome old)
+  keep-refused d = (e, rw (ne-eqb (answerNumber (outcome .answer)) 0 (λ z. d (e ∙ z))) refl)
 
-  pub keep-done : (out : List ℕ) → n ≡ 0 → out ≡ putOwn g (step .card) old → (0 ≡ answerNumber (step .answer)) × (out ≡ keptCard g step old)
-  keep-done out z h = (sym z ∙ e, rw (eq-eqb (answerNumber (step .answer)) 0 (sym e ∙ z)) h)
+  pub keep-done : (out : List ℕ) → n ≡ 0 → out ≡ putOwn g (outcome .card) old → (0 ≡ answerNumber (outcome .answer)) × (out ≡ keptCard g outcome old)
+  keep-done out z h = (sym z ∙ e, rw (eq-eqb (answerNumber (outcome .answer)) 0 (sym e ∙ z)) h)
 
-pub start-put : (count e₀ e₁ : ℕ) (step : CardOutcome) (state mid out : List ℕ) → step ≡ startOf 0 count e₀ e₁ → mid ≡ putOwn 0 (step .card) state
-    → out ≡ putOwn 1 (step .card) mid → out ≡ putCard (startOf 0 count e₀ e₁ .card) state
-start-put count e₀ e₁ step state mid out es em eo =
-    eo ∙ ap (λ (l : List ℕ). putOwn 1 (step .card) l) em ∙ ap (λ (r : CardOutcome). putCard (r .card) state) es
+pub start-put : (count e₀ e₁ : ℕ) (outcome : CardOutcome) (state mid out : List ℕ) → outcome ≡ startOf 0 count e₀ e₁ → mid ≡ putOwn 0 (outcome .card) state
+    → out ≡ putOwn 1 (outcome .card) mid → out ≡ putCard (startOf 0 count e₀ e₁ .card) state
+start-put count e₀ e₁ outcome state mid out es em eo =
+    eo ∙ ap (λ (l : List ℕ). putOwn 1 (outcome .card) l) em ∙ ap (λ (r : CardOutcome). putCard (r .card) state) es
 
 module _ (count e₀ e₁ : ℕ) (state : List ℕ) where
   pub start-none : (length state ≡ 858 → ⊥) → outside count ≡ true → (4 ≡ startAnswerOn count e₀ e₁ state) × (state ≡ startStateOn count e₀ e₁ state)
@@ -136,9 +136,9 @@ module _ (state : List ℕ) (g r : ℕ) (e : r ≡ refusalOf (length state) g) w
       go true false eb et w = absurd (omega arith)
       go false t eb et w = absurd (omega arith)
 
-  pub step-shut : (r ≡ 0 → ⊥) → (fits : Bool) (call : Call) → (r ≡ stepAnswerOn fits g call state) × (state ≡ stepStateOn fits g call state)
-  unfolding stepAnswerOn stepStateOn
-  step-shut d fits call = shut d _ _ state
+  pub call-shut : (r ≡ 0 → ⊥) → (fits : Bool) (call : Call) → (r ≡ callAnswerOn fits g call state) × (state ≡ callStateOn fits g call state)
+  unfolding callAnswerOn callStateOn
+  call-shut d fits call = shut d _ _ state
 
   pub packet-shut : (r ≡ 0 → ⊥) → (slot : ℕ) (h4 : List ℕ) → (r ≡ packetAnswerOn state g slot h4) × (h4 ≡ packetBytesOn state g slot h4)
   unfolding packetAnswerOn packetBytesOn
@@ -171,22 +171,22 @@ module _ (state : List ℕ) (g : ℕ) (o : Open state g) where
       let e = slot-packet state g slot h4 (o .sized) (o .group) in
       ((rw (eo, ep) at er) ∙ e .0, (rw (eo, ep) at eb) ∙ e .1)
 
-  pub step-unfit : (fits : Bool) (call : Call) → fits ≡ false → (8 ≡ stepAnswerOn fits g call state) × (state ≡ stepStateOn fits g call state)
-  unfolding stepAnswerOn stepStateOn
-  step-unfit fits call f = rw (eq-eqb (length state) 858 (o .sized), lt-ltb g 2 (o .group), f) (refl, refl)
+  pub call-unfit : (fits : Bool) (call : Call) → fits ≡ false → (8 ≡ callAnswerOn fits g call state) × (state ≡ callStateOn fits g call state)
+  unfolding callAnswerOn callStateOn
+  call-unfit fits call f = rw (eq-eqb (length state) 858 (o .sized), lt-ltb g 2 (o .group), f) (refl, refl)
 
   module _ (c : Card) (ec : c ≡ alone g (cardOf state)) where
     alike : Alike g c (cardOf state)
     alike = rw ec (alone-alike g (cardOf state))
 
-    pub step-kept : (fits : Bool) (call : Call) (step : CardOutcome) (r : ℕ) (out : List ℕ) → fits ≡ true → step ≡ stepOf c g call
-        → (r ≡ answerNumber (step .answer)) × (out ≡ keptCard g step state)
-        → (r ≡ stepAnswerOn fits g call state) × (out ≡ stepStateOn fits g call state)
-    unfolding stepAnswerOn stepStateOn
-    step-kept fits call step r out f es k =
-        let a : AlikeAfter g step (stepOf (cardOf state) g call) = rw es (alike-step g c (cardOf state) alike call) in
+    pub call-kept : (fits : Bool) (call : Call) (outcome : CardOutcome) (r : ℕ) (out : List ℕ) → fits ≡ true → outcome ≡ outcomeOf c g call
+        → (r ≡ answerNumber (outcome .answer)) × (out ≡ keptCard g outcome state)
+        → (r ≡ callAnswerOn fits g call state) × (out ≡ callStateOn fits g call state)
+    unfolding callAnswerOn callStateOn
+    call-kept fits call outcome r out f es k =
+        let a : AlikeAfter g outcome (outcomeOf (cardOf state) g call) = rw es (alike-call g c (cardOf state) alike call) in
         rw (eq-eqb (length state) 858 (o .sized), lt-ltb g 2 (o .group), f)
-        (k .0 ∙ ap answerNumber (a .answer), k .1 ∙ kept-alike g step (stepOf (cardOf state) g call) state a)
+        (k .0 ∙ ap answerNumber (a .answer), k .1 ∙ kept-alike g outcome (outcomeOf (cardOf state) g call) state a)
 
     pub payload-own : (slot p : ℕ) (frame member : List ℕ) (x : Answer) (r : ℕ) (out : List ℕ) → x ≡ payloadAnswer c g slot p (length frame) (length member)
         → out ≡ payloadBytes c g slot p frame member → r ≡ answerNumber x

@@ -11,7 +11,7 @@ use Rattle.ground.specs.Table.{tabulate}
 use Rattle.circuits.specs.declared.card.Card.{Card}
 use Rattle.circuits.specs.declared.card.CardOutcome.{CardOutcome}
 use Rattle.circuits.specs.Answers.{answerNumber}
-use Rattle.circuits.specs.Calls.{Call, stepOf}
+use Rattle.circuits.specs.Calls.{Call, outcomeOf}
 use Rattle.circuits.specs.Commands.{startOf}
 use Rattle.circuits.specs.Owners.{ownerIn}
 use Rattle.circuits.specs.Parts as P
@@ -57,7 +57,7 @@ putCard c state = putOwn 1 c (putOwn 0 c state)
 
 -- a refusal encodes nothing anew
 abbrev pub keptCard : ℕ → CardOutcome → List ℕ → List ℕ
-keptCard g step state = cond (eqb (answerNumber (step .answer)) 0) (putOwn g (step .card) state) state
+keptCard g outcome state = cond (eqb (answerNumber (outcome .answer)) 0) (putOwn g (outcome .card) state) state
 
 -- Starting: 4, 9, 8. 4 gives two empty groups, where there is room for them; their first epochs have the number 0.
 unfoldable pub startAnswerOn : ℕ → ℕ → ℕ → List ℕ → ℕ
@@ -78,11 +78,11 @@ abbrev pub bytesBehind : List ℕ → ℕ → List ℕ → List ℕ → List ℕ
 bytesBehind state g new old = cond (isCard state) (cond (ltb g 2) new old) old
 
 -- The calls that change a card: 9, 1, 8 where the numbers given do not fit, then the card's own.
-unfoldable pub stepAnswerOn : Bool → ℕ → Call → List ℕ → ℕ
-stepAnswerOn fits g call state = behind state g (cond fits (answerNumber (stepOf (cardOf state) g call .answer)) 8)
+unfoldable pub callAnswerOn : Bool → ℕ → Call → List ℕ → ℕ
+callAnswerOn fits g call state = behind state g (cond fits (answerNumber (outcomeOf (cardOf state) g call .answer)) 8)
 
-unfoldable pub stepStateOn : Bool → ℕ → Call → List ℕ → List ℕ
-stepStateOn fits g call state = bytesBehind state g (cond fits (keptCard g (stepOf (cardOf state) g call) state) state) state
+unfoldable pub callStateOn : Bool → ℕ → Call → List ℕ → List ℕ
+callStateOn fits g call state = bytesBehind state g (cond fits (keptCard g (outcomeOf (cardOf state) g call) state) state) state
 
 -- What a slot sends: 9, 1, then the card's own.
 unfoldable pub packetAnswerOn : List ℕ → ℕ → ℕ → List ℕ → ℕ

@@ -7,7 +7,7 @@ use lib.ListN.{getD, length}
 use Rattle.orders.specs.declared.commands.Kind as K
 use Rattle.orders.specs.Folding.{Folded, folded}
 use Rattle.orders.specs.Orders.{callBy}
-use Rattle.c_face.specs.Cards.{isCard, stepAnswerOn, stepStateOn}
+use Rattle.c_face.specs.Cards.{callAnswerOn, callStateOn, isCard}
 
 -- the kinds by their numbers, 0 to 3
 abbrev pub kindOf : ℕ → K.Kind
@@ -15,10 +15,10 @@ kindOf n = cond (eqb n 0) K.Kind.Add (cond (eqb n 1) K.Kind.Remove (cond (eqb n 
 
 -- 8 for a number that is no kind, as every other C call answers a number that it cannot take; else as the single call
 unfoldable pub kindAnswerOn : ℕ → ℕ → ℕ → List ℕ → ℕ
-kindAnswerOn kind g slot state = cond (ltb 3 kind) 8 (stepAnswerOn true g (callBy (kindOf kind) slot) state)
+kindAnswerOn kind g slot state = cond (ltb 3 kind) 8 (callAnswerOn true g (callBy (kindOf kind) slot) state)
 
 unfoldable pub kindStateOn : ℕ → ℕ → ℕ → List ℕ → List ℕ
-kindStateOn kind g slot state = cond (ltb 3 kind) state (stepStateOn true g (callBy (kindOf kind) slot) state)
+kindStateOn kind g slot state = cond (ltb 3 kind) state (callStateOn true g (callBy (kindOf kind) slot) state)
 
 abbrev pub commandAnswerOn : List ℕ → List ℕ → ℕ
 commandAnswerOn state command = kindAnswerOn (getD command 0 0) (getD command 1 0) (getD command 2 0) state

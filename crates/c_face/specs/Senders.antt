@@ -6,7 +6,7 @@ use Prim.Native.Nat.{ℕ}
 use lib.Dec.{eqb, ltb}
 use lib.ListN.{length}
 use Rattle.sender.specs.declared.epochs.SenderOutcome.{SenderOutcome}
-use Rattle.sender.specs.Epochs.{SenderCall, beginOf, packetAnswer, packetBytes, payloadAnswer, payloadBytes, senderStepOf}
+use Rattle.sender.specs.Epochs.{SenderCall, beginOf, packetAnswer, packetBytes, payloadAnswer, payloadBytes, senderOutcomeOf}
 use Rattle.sender.specs.Table.{answerNumber}
 use Rattle.c_face.specs.Keeping.{bytesOf, senderOf, stateBytes}
 
@@ -27,15 +27,15 @@ startStateC count first state =
     cond (isState state) (cond (outside count) (bytesOf (beginOf 0 count 0 .sender)) (cond (ltb 255 first) state (bytesOf (beginOf 0 count first .sender)))) state
 
 -- The calls on a started sender: 9, 8 where the numbers given do not fit, then the call's own.
-unfoldable pub stepAnswerC : Bool → SenderCall → List ℕ → ℕ
-stepAnswerC fits call state = cond (isState state) (cond fits (answerNumber (senderStepOf (senderOf state) call .answer)) 8) 9
+unfoldable pub callAnswerC : Bool → SenderCall → List ℕ → ℕ
+callAnswerC fits call state = cond (isState state) (cond fits (answerNumber (senderOutcomeOf (senderOf state) call .answer)) 8) 9
 
 -- a refusal encodes nothing anew
 abbrev pub keptBytes : SenderOutcome → List ℕ → List ℕ
-keptBytes step state = cond (eqb (answerNumber (step .answer)) 0) (bytesOf (step .sender)) state
+keptBytes outcome state = cond (eqb (answerNumber (outcome .answer)) 0) (bytesOf (outcome .sender)) state
 
-unfoldable pub stepStateC : Bool → SenderCall → List ℕ → List ℕ
-stepStateC fits call state = cond (isState state) (cond fits (keptBytes (senderStepOf (senderOf state) call) state) state) state
+unfoldable pub callStateC : Bool → SenderCall → List ℕ → List ℕ
+callStateC fits call state = cond (isState state) (cond fits (keptBytes (senderOutcomeOf (senderOf state) call) state) state) state
 
 abbrev pub areBytes : ℕ → ℕ → ℕ → Bool
 areBytes a b c = ltb a 256 && ltb b 256 && ltb c 256

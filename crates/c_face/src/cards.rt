@@ -18,13 +18,18 @@ ghost use Rattle.circuits.specs.Commands.{startOf};
 ghost use Rattle.circuits.specs.Owners.{markOf, ownerIn};
 ghost use Rattle.circuits.specs.Parts as P;
 ghost use Rattle.ground.specs.Drawn.{fillAt};
-ghost use Rattle.c_face.specs.Cards.{alone, boardBytesOn, cardBytes, cardOf, keptCard, outgoingBytesOn, ownedBytesOn, ownersIn, packetAnswerOn, packetBytesOn, partAt, partIn, payloadAnswerOn, payloadBytesOn, putCard, putOwn, ranksBytesOn, refusalOf, shownAnswerOn, startAnswerOn, startStateOn, stepAnswerOn, stepStateOn};
+ghost use Rattle.c_face.specs.Cards.{alone, boardBytesOn, callAnswerOn, callStateOn, cardBytes, cardOf, keptCard, outgoingBytesOn, ownedBytesOn, ownersIn, packetAnswerOn, packetBytesOn, partAt, partIn, payloadAnswerOn, payloadBytesOn, putCard, putOwn, ranksBytesOn, refusalOf, shownAnswerOn, startAnswerOn, startStateOn};
 ghost use Rattle.c_face.specs.Keeping.{byteAt, senderOf, stateBytes};
 ghost use Rattle.c_face.specs.Laws.Slots.{slotPacketAnswer, slotPacketBytes, slotRefusal};
 ghost use Rattle.c_face.specs.Senders.{areBytes};
 
 // The state of a card with two groups.
 pub(crate) const CARD_BYTES: usize = 858;
+
+// Where the part of each group's sender begins: behind the owners of the 64 slots, and behind the other's part.
+const FIRST_PART: usize = 64;
+
+const SECOND_PART: usize = 461;
 
 // 9 for a state of another length, then 1 for a group other than the two.
 fn refusal(length: usize, group: u32) -> u8
@@ -54,9 +59,9 @@ fn part_in(state: &[u8], group: u32) -> Sender
     ensures { λ r. ⌜ r ≡ senderOf (partIn group (now (state .entry))) ⌝ }
 {
     if group == 0 {
-        return keeping::sender_of(&state[64..461]);
+        return keeping::sender_of(&state[FIRST_PART..SECOND_PART]);
     }
-    keeping::sender_of(&state[461..858])
+    keeping::sender_of(&state[SECOND_PART..CARD_BYTES])
 }
 
 // The card as one group may know it: its own sender stands in the other's place too, so that the other's part is not read.
@@ -84,10 +89,10 @@ fn put_part(sender: Sender, group: u32, state: &mut [u8])
     ensures { λ r. ⌜ now (state .exit) ≡ fillAt (partAt group) stateBytes (byteAt sender) (now (state .entry)) ⌝ }
 {
     if group == 0 {
-        keeping::put_sender(sender, &mut state[64..461]);
+        keeping::put_sender(sender, &mut state[FIRST_PART..SECOND_PART]);
         return;
     }
-    keeping::put_sender(sender, &mut state[461..858]);
+    keeping::put_sender(sender, &mut state[SECOND_PART..CARD_BYTES]);
 }
 
 pub(crate) fn put_own(card: Card, group: u32, state: &mut [u8])
@@ -100,17 +105,17 @@ pub(crate) fn put_own(card: Card, group: u32, state: &mut [u8])
     put_part(sender, group, state);
 }
 
-// What a step leaves: under 0 the owner row and the group's part, and under a refusal the bytes as they were.
-pub(crate) fn keep(step: CardOutcome, group: u32, state: &mut [u8]) -> u8
+// What a call leaves: under 0 the owner row and the group's part, and under a refusal the bytes as they were.
+pub(crate) fn keep(outcome: CardOutcome, group: u32, state: &mut [u8]) -> u8
     requires { ⌜ length (now state) ≡ cardBytes ⌝ }
-    ensures { λ r. ⌜ (r ≡ answerNumber (step .answer)) × (now (state .exit) ≡ keptCard group step (now (state .entry))) ⌝ }
+    ensures { λ r. ⌜ (r ≡ answerNumber (outcome .answer)) × (now (state .exit) ≡ keptCard group outcome (now (state .entry))) ⌝ }
 {
-    let answer = step.answer;
+    let answer = outcome.answer;
     let number = answer.number();
     if number != 0 {
         return number;
     }
-    let card = step.card;
+    let card = outcome.card;
     put_own(card, group, state);
     0
 }
@@ -119,8 +124,8 @@ fn put_start(count: u32, epoch_0: u8, epoch_1: u8, state: &mut [u8])
     requires { ⌜ length (now state) ≡ cardBytes ⌝ }
     ensures { λ r. ⌜ now (state .exit) ≡ putCard (startOf 0 count «epoch_0» «epoch_1» .card) (now (state .entry)) ⌝ }
 {
-    let step = Card::start(kinds::H4, count, epoch_0, epoch_1);
-    let card = step.card;
+    let outcome = Card::start(kinds::H4, count, epoch_0, epoch_1);
+    let card = outcome.card;
     put_own(card, 0, state);
     put_own(card, 1, state);
 }
@@ -151,72 +156,72 @@ pub extern "C" fn levelspruce_card_start(
 
 #[no_mangle]
 pub extern "C" fn levelspruce_card_claim(state: &mut [u8], group: u32, slot: u32) -> u8
-    ensures { λ r. ⌜ (r ≡ stepAnswerOn true group (Claim slot) (now (state .entry)))
-        × (now (state .exit) ≡ stepStateOn true group (Claim slot) (now (state .entry))) ⌝ }
+    ensures { λ r. ⌜ (r ≡ callAnswerOn true group (Claim slot) (now (state .entry)))
+        × (now (state .exit) ≡ callStateOn true group (Claim slot) (now (state .entry))) ⌝ }
 {
     let first = refusal(state.len(), group);
     if first != 0 {
         return first;
     }
     let card = own_card(state, group);
-    let step = card.claim(group, slot);
-    keep(step, group, state)
+    let outcome = card.claim(group, slot);
+    keep(outcome, group, state)
 }
 
 #[no_mangle]
 pub extern "C" fn levelspruce_card_release(state: &mut [u8], group: u32, slot: u32) -> u8
-    ensures { λ r. ⌜ (r ≡ stepAnswerOn true group (Release slot) (now (state .entry)))
-        × (now (state .exit) ≡ stepStateOn true group (Release slot) (now (state .entry))) ⌝ }
+    ensures { λ r. ⌜ (r ≡ callAnswerOn true group (Release slot) (now (state .entry)))
+        × (now (state .exit) ≡ callStateOn true group (Release slot) (now (state .entry))) ⌝ }
 {
     let first = refusal(state.len(), group);
     if first != 0 {
         return first;
     }
     let card = own_card(state, group);
-    let step = card.release(group, slot);
-    keep(step, group, state)
+    let outcome = card.release(group, slot);
+    keep(outcome, group, state)
 }
 
 #[no_mangle]
 pub extern "C" fn levelspruce_card_add(state: &mut [u8], group: u32, slot: u32) -> u8
-    ensures { λ r. ⌜ (r ≡ stepAnswerOn true group (AddSlot slot) (now (state .entry)))
-        × (now (state .exit) ≡ stepStateOn true group (AddSlot slot) (now (state .entry))) ⌝ }
+    ensures { λ r. ⌜ (r ≡ callAnswerOn true group (AddSlot slot) (now (state .entry)))
+        × (now (state .exit) ≡ callStateOn true group (AddSlot slot) (now (state .entry))) ⌝ }
 {
     let first = refusal(state.len(), group);
     if first != 0 {
         return first;
     }
     let card = own_card(state, group);
-    let step = card.add(group, slot);
-    keep(step, group, state)
+    let outcome = card.add(group, slot);
+    keep(outcome, group, state)
 }
 
 #[no_mangle]
 pub extern "C" fn levelspruce_card_remove(state: &mut [u8], group: u32, slot: u32) -> u8
-    ensures { λ r. ⌜ (r ≡ stepAnswerOn true group (RemoveSlot slot) (now (state .entry)))
-        × (now (state .exit) ≡ stepStateOn true group (RemoveSlot slot) (now (state .entry))) ⌝ }
+    ensures { λ r. ⌜ (r ≡ callAnswerOn true group (RemoveSlot slot) (now (state .entry)))
+        × (now (state .exit) ≡ callStateOn true group (RemoveSlot slot) (now (state .entry))) ⌝ }
 {
     let first = refusal(state.len(), group);
     if first != 0 {
         return first;
     }
     let card = own_card(state, group);
-    let step = card.remove(group, slot);
-    keep(step, group, state)
+    let outcome = card.remove(group, slot);
+    keep(outcome, group, state)
 }
 
 #[no_mangle]
 pub extern "C" fn levelspruce_card_lapse(state: &mut [u8], group: u32) -> u8
-    ensures { λ r. ⌜ (r ≡ stepAnswerOn true group Lapse (now (state .entry)))
-        × (now (state .exit) ≡ stepStateOn true group Lapse (now (state .entry))) ⌝ }
+    ensures { λ r. ⌜ (r ≡ callAnswerOn true group Lapse (now (state .entry)))
+        × (now (state .exit) ≡ callStateOn true group Lapse (now (state .entry))) ⌝ }
 {
     let first = refusal(state.len(), group);
     if first != 0 {
         return first;
     }
     let card = own_card(state, group);
-    let step = card.lapse(group);
-    keep(step, group, state)
+    let outcome = card.lapse(group);
+    keep(outcome, group, state)
 }
 
 #[no_mangle]
@@ -227,8 +232,8 @@ pub extern "C" fn levelspruce_card_report(
     mst: u32,
     rs_ack: u32,
 ) -> u8
-    ensures { λ r. ⌜ (r ≡ stepAnswerOn (areBytes epoch mst «rs_ack») group (Report epoch mst «rs_ack») (now (state .entry)))
-        × (now (state .exit) ≡ stepStateOn (areBytes epoch mst «rs_ack») group (Report epoch mst «rs_ack») (now (state .entry))) ⌝ }
+    ensures { λ r. ⌜ (r ≡ callAnswerOn (areBytes epoch mst «rs_ack») group (Report epoch mst «rs_ack») (now (state .entry)))
+        × (now (state .exit) ≡ callStateOn (areBytes epoch mst «rs_ack») group (Report epoch mst «rs_ack») (now (state .entry))) ⌝ }
 {
     let first = refusal(state.len(), group);
     if first != 0 {
@@ -238,8 +243,8 @@ pub extern "C" fn levelspruce_card_report(
         return 8;
     }
     let card = own_card(state, group);
-    let step = card.report(group, epoch as u8, mst as u8, rs_ack as u8);
-    keep(step, group, state)
+    let outcome = card.report(group, epoch as u8, mst as u8, rs_ack as u8);
+    keep(outcome, group, state)
 }
 
 #[no_mangle]
@@ -250,8 +255,8 @@ pub extern "C" fn levelspruce_card_start_epoch(
     mst: u32,
     rs_ack: u32,
 ) -> u8
-    ensures { λ r. ⌜ (r ≡ stepAnswerOn (areBytes gid mst «rs_ack») group (StartEpoch gid mst «rs_ack») (now (state .entry)))
-        × (now (state .exit) ≡ stepStateOn (areBytes gid mst «rs_ack») group (StartEpoch gid mst «rs_ack») (now (state .entry))) ⌝ }
+    ensures { λ r. ⌜ (r ≡ callAnswerOn (areBytes gid mst «rs_ack») group (StartEpoch gid mst «rs_ack») (now (state .entry)))
+        × (now (state .exit) ≡ callStateOn (areBytes gid mst «rs_ack») group (StartEpoch gid mst «rs_ack») (now (state .entry))) ⌝ }
 {
     let first = refusal(state.len(), group);
     if first != 0 {
@@ -261,8 +266,8 @@ pub extern "C" fn levelspruce_card_start_epoch(
         return 8;
     }
     let card = own_card(state, group);
-    let step = card.start_epoch(group, gid as u8, mst as u8, rs_ack as u8);
-    keep(step, group, state)
+    let outcome = card.start_epoch(group, gid as u8, mst as u8, rs_ack as u8);
+    keep(outcome, group, state)
 }
 
 // The owner of a slot; nobody behind the last one.

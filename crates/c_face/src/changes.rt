@@ -173,9 +173,9 @@ pub extern "C" fn levelspruce_board_apply(board: &mut [u8], changes: &[u8]) -> u
     if changes[1] >= 3 {
         return 2;
     }
-    let held = board_from(board);
+    let old = board_from(board);
     let told = changes_from(changes);
-    let applied = spoken::apply(held, told);
+    let applied = spoken::apply(old, told);
     let left = applied.board;
     let answer = applied.answer;
     let number = answer.number();

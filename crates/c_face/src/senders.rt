@@ -7,12 +7,12 @@ use sender::SenderOutcome;
 ghost use mathlib.Core.Path.{_≡_};
 ghost use mathlib.Core.Bool.{true};
 ghost use lib.ListN.{length};
+ghost use Rattle.sender.specs.Calls.Call.{AddSlot, RemoveSlot, Report, Lapse};
 ghost use Rattle.sender.specs.Epochs.{beginOf};
 ghost use Rattle.sender.specs.Epochs.SenderCall.{OnTable, StartEpoch};
-ghost use Rattle.sender.specs.Steps.Call.{AddSlot, RemoveSlot, Report, Lapse};
 ghost use Rattle.sender.specs.Table.{answerNumber};
 ghost use Rattle.c_face.specs.Keeping.{bytesOf, stateBytes};
-ghost use Rattle.c_face.specs.Senders.{areBytes, keptBytes, outside, packetAnswerC, packetBytesC, payloadAnswerC, payloadBytesC, startAnswerC, startStateC, stepAnswerC, stepStateC};
+ghost use Rattle.c_face.specs.Senders.{areBytes, callAnswerC, callStateC, keptBytes, outside, packetAnswerC, packetBytesC, payloadAnswerC, payloadBytesC, startAnswerC, startStateC};
 
 pub(crate) fn is_outside(count: u32) -> bool
     ensures { λ r. ⌜ r ≡ outside count ⌝ }
@@ -30,22 +30,22 @@ fn put_start(count: u32, epoch: u8, state: &mut [u8])
     requires { ⌜ length (now state) ≡ stateBytes ⌝ }
     ensures { λ r. ⌜ now (state .exit) ≡ bytesOf (beginOf 0 count epoch .sender) ⌝ }
 {
-    let step = Sender::start(kinds::H4, count, epoch);
-    let sender = step.sender;
+    let outcome = Sender::start(kinds::H4, count, epoch);
+    let sender = outcome.sender;
     keeping::put_sender(sender, state);
 }
 
-// What a step leaves: under 0 its sender's bytes, and under a refusal the bytes as they were.
-fn keep(step: SenderOutcome, state: &mut [u8]) -> u8
+// What a call leaves: under 0 its sender's bytes, and under a refusal the bytes as they were.
+fn keep(outcome: SenderOutcome, state: &mut [u8]) -> u8
     requires { ⌜ length (now state) ≡ stateBytes ⌝ }
-    ensures { λ r. ⌜ (r ≡ answerNumber (step .answer)) × (now (state .exit) ≡ keptBytes step (now (state .entry))) ⌝ }
+    ensures { λ r. ⌜ (r ≡ answerNumber (outcome .answer)) × (now (state .exit) ≡ keptBytes outcome (now (state .entry))) ⌝ }
 {
-    let answer = step.answer;
+    let answer = outcome.answer;
     let number = answer.number();
     if number != 0 {
         return number;
     }
-    let sender = step.sender;
+    let sender = outcome.sender;
     keeping::put_sender(sender, state);
     0
 }
@@ -71,28 +71,28 @@ pub extern "C" fn levelspruce_sender_start(count: u32, first_epoch: u32, state: 
 
 #[no_mangle]
 pub extern "C" fn levelspruce_sender_add(state: &mut [u8], slot: u32) -> u8
-    ensures { λ r. ⌜ (r ≡ stepAnswerC true (OnTable (AddSlot slot)) (now (state .entry)))
-        × (now (state .exit) ≡ stepStateC true (OnTable (AddSlot slot)) (now (state .entry))) ⌝ }
+    ensures { λ r. ⌜ (r ≡ callAnswerC true (OnTable (AddSlot slot)) (now (state .entry)))
+        × (now (state .exit) ≡ callStateC true (OnTable (AddSlot slot)) (now (state .entry))) ⌝ }
 {
     if state.len() != SENDER_BYTES {
         return 9;
     }
     let sender = keeping::sender_of(state);
-    let step = sender.add(slot);
-    keep(step, state)
+    let outcome = sender.add(slot);
+    keep(outcome, state)
 }
 
 #[no_mangle]
 pub extern "C" fn levelspruce_sender_remove(state: &mut [u8], slot: u32) -> u8
-    ensures { λ r. ⌜ (r ≡ stepAnswerC true (OnTable (RemoveSlot slot)) (now (state .entry)))
-        × (now (state .exit) ≡ stepStateC true (OnTable (RemoveSlot slot)) (now (state .entry))) ⌝ }
+    ensures { λ r. ⌜ (r ≡ callAnswerC true (OnTable (RemoveSlot slot)) (now (state .entry)))
+        × (now (state .exit) ≡ callStateC true (OnTable (RemoveSlot slot)) (now (state .entry))) ⌝ }
 {
     if state.len() != SENDER_BYTES {
         return 9;
     }
     let sender = keeping::sender_of(state);
-    let step = sender.remove(slot);
-    keep(step, state)
+    let outcome = sender.remove(slot);
+    keep(outcome, state)
 }
 
 #[no_mangle]
@@ -102,8 +102,8 @@ pub extern "C" fn levelspruce_sender_report(
     mst: u32,
     rs_ack: u32,
 ) -> u8
-    ensures { λ r. ⌜ (r ≡ stepAnswerC (areBytes epoch mst «rs_ack») (OnTable (Report epoch mst «rs_ack»)) (now (state .entry)))
-        × (now (state .exit) ≡ stepStateC (areBytes epoch mst «rs_ack») (OnTable (Report epoch mst «rs_ack»)) (now (state .entry))) ⌝ }
+    ensures { λ r. ⌜ (r ≡ callAnswerC (areBytes epoch mst «rs_ack») (OnTable (Report epoch mst «rs_ack»)) (now (state .entry)))
+        × (now (state .exit) ≡ callStateC (areBytes epoch mst «rs_ack») (OnTable (Report epoch mst «rs_ack»)) (now (state .entry))) ⌝ }
 {
     if state.len() != SENDER_BYTES {
         return 9;
@@ -112,21 +112,21 @@ pub extern "C" fn levelspruce_sender_report(
         return 8;
     }
     let sender = keeping::sender_of(state);
-    let step = sender.report(epoch as u8, mst as u8, rs_ack as u8);
-    keep(step, state)
+    let outcome = sender.report(epoch as u8, mst as u8, rs_ack as u8);
+    keep(outcome, state)
 }
 
 #[no_mangle]
 pub extern "C" fn levelspruce_sender_lapse(state: &mut [u8]) -> u8
-    ensures { λ r. ⌜ (r ≡ stepAnswerC true (OnTable Lapse) (now (state .entry)))
-        × (now (state .exit) ≡ stepStateC true (OnTable Lapse) (now (state .entry))) ⌝ }
+    ensures { λ r. ⌜ (r ≡ callAnswerC true (OnTable Lapse) (now (state .entry)))
+        × (now (state .exit) ≡ callStateC true (OnTable Lapse) (now (state .entry))) ⌝ }
 {
     if state.len() != SENDER_BYTES {
         return 9;
     }
     let sender = keeping::sender_of(state);
-    let step = sender.lapse();
-    keep(step, state)
+    let outcome = sender.lapse();
+    keep(outcome, state)
 }
 
 #[no_mangle]
@@ -136,8 +136,8 @@ pub extern "C" fn levelspruce_sender_start_epoch(
     mst: u32,
     rs_ack: u32,
 ) -> u8
-    ensures { λ r. ⌜ (r ≡ stepAnswerC (areBytes gid mst «rs_ack») (StartEpoch gid mst «rs_ack») (now (state .entry)))
-        × (now (state .exit) ≡ stepStateC (areBytes gid mst «rs_ack») (StartEpoch gid mst «rs_ack») (now (state .entry))) ⌝ }
+    ensures { λ r. ⌜ (r ≡ callAnswerC (areBytes gid mst «rs_ack») (StartEpoch gid mst «rs_ack») (now (state .entry)))
+        × (now (state .exit) ≡ callStateC (areBytes gid mst «rs_ack») (StartEpoch gid mst «rs_ack») (now (state .entry))) ⌝ }
 {
     if state.len() != SENDER_BYTES {
         return 9;
@@ -146,8 +146,8 @@ pub extern "C" fn levelspruce_sender_start_epoch(
         return 8;
     }
     let sender = keeping::sender_of(state);
-    let step = sender.start_epoch(gid as u8, mst as u8, rs_ack as u8);
-    keep(step, state)
+    let outcome = sender.start_epoch(gid as u8, mst as u8, rs_ack as u8);
+    keep(outcome, state)
 }
 
 #[no_mangle]

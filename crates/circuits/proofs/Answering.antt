@@ -12,7 +12,7 @@ use Rattle.sender.specs.declared.epochs.Sender.{Sender}
 use Rattle.sender.specs.declared.epochs.SenderOutcome.{SenderOutcome}
 use Rattle.sender.specs.declared.table.Answer as S
 use Rattle.sender.specs.Epochs as E
-use Rattle.sender.specs.Epochs.{SenderCall, senderStepOf}
+use Rattle.sender.specs.Epochs.{SenderCall, senderOutcomeOf}
 use Rattle.sender.specs.Laws.Sizes.{size-le}
 use Rattle.circuits.specs.declared.answers.Answer.{Answer}
 use Rattle.circuits.specs.declared.answers.Answer.the-variants.{NoSlot, Owned, Used}
@@ -21,7 +21,7 @@ use Rattle.circuits.specs.declared.card.CardOutcome.{CardOutcome}
 use Rattle.circuits.specs.Answers.{fromSender}
 use Rattle.circuits.specs.Commands.{claimOf, commandOf, groupCallOf, releaseOf}
 use Rattle.circuits.specs.Owners.{hasOwner, markOf}
-use Rattle.circuits.specs.Parts.{isSlot, isUsed, marked, owns, refused, senderOf, stepped}
+use Rattle.circuits.specs.Parts.{groupOutcome, isSlot, isUsed, marked, owns, refused, senderOf}
 use Rattle.circuits.specs.Readings.{packetAnswer, packetBytes, payloadAnswer, payloadBytes}
 
 module _ {A : Type 0} where
@@ -123,11 +123,11 @@ module _ (c : Card) (g i : ℕ) {slot : Bool} (es : slot ≡ isSlot c g i) where
             e ∙ sym (first-no (isUsed c g i) (refused c Used) (marked c i 0) (sym eu ∙ h))
             ∙ sym (second-yes (isSlot c g i) (owns c g i) _ (refused c Owned) (refused c NoSlot) (sym es ∙ hs) (sym eo ∙ ho))
 
-        pub command-done : (k : SenderCall) {s : Sender} {step : SenderOutcome} {r : CardOutcome} → s ≡ senderOf c g → step ≡ senderStepOf s k → r ≡ stepped c g step → r ≡ commandOf c g i k
+        pub command-done : (k : SenderCall) {s : Sender} {outcome : SenderOutcome} {r : CardOutcome} → s ≡ senderOf c g → outcome ≡ senderOutcomeOf s k → r ≡ groupOutcome c g outcome → r ≡ commandOf c g i k
         unfolding commandOf
         command-done k e₀ e₁ e₂ =
-            e₂ ∙ ap (λ (x : SenderOutcome). stepped c g x) (e₁ ∙ ap (λ (x : Sender). senderStepOf x k) e₀)
-            ∙ sym (second-yes (isSlot c g i) (owns c g i) (stepped c g (senderStepOf (senderOf c g) k)) (refused c Owned) (refused c NoSlot) (sym es ∙ hs) (sym eo ∙ ho))
+            e₂ ∙ ap (λ (x : SenderOutcome). groupOutcome c g x) (e₁ ∙ ap (λ (x : Sender). senderOutcomeOf x k) e₀)
+            ∙ sym (second-yes (isSlot c g i) (owns c g i) (groupOutcome c g (senderOutcomeOf (senderOf c g) k)) (refused c Owned) (refused c NoSlot) (sym es ∙ hs) (sym eo ∙ ho))
 
         pub packet-done : (h4 : List ℕ) {s : Sender} {a : S.Answer} {r : Answer} {out : List ℕ} → s ≡ senderOf c g → a ≡ E.packetAnswer s i h4 → out ≡ E.packetBytes s i h4 → r ≡ fromSender a
             → (r ≡ packetAnswer c g i h4) × (out ≡ packetBytes c g i h4)
@@ -154,8 +154,8 @@ module _ (c : Card) (g : ℕ) (k : SenderCall) {r : CardOutcome} where
   unfolding groupCallOf
   no-group h e = e ∙ sym (first-no (ltb g 2) _ (refused c NoSlot) (le-ltb g 2 h))
 
-  pub group-done : {s : Sender} {step : SenderOutcome} → g < 2 → s ≡ senderOf c g → step ≡ senderStepOf s k → r ≡ stepped c g step → r ≡ groupCallOf c g k
+  pub group-done : {s : Sender} {outcome : SenderOutcome} → g < 2 → s ≡ senderOf c g → outcome ≡ senderOutcomeOf s k → r ≡ groupOutcome c g outcome → r ≡ groupCallOf c g k
   unfolding groupCallOf
   group-done h e₀ e₁ e₂ =
-      e₂ ∙ ap (λ (x : SenderOutcome). stepped c g x) (e₁ ∙ ap (λ (x : Sender). senderStepOf x k) e₀)
-      ∙ sym (first-yes (ltb g 2) (stepped c g (senderStepOf (senderOf c g) k)) (refused c NoSlot) (lt-ltb g 2 h))
+      e₂ ∙ ap (λ (x : SenderOutcome). groupOutcome c g x) (e₁ ∙ ap (λ (x : Sender). senderOutcomeOf x k) e₀)
+      ∙ sym (first-yes (ltb g 2) (groupOutcome c g (senderOutcomeOf (senderOf c g) k)) (refused c NoSlot) (lt-ltb g 2 h))

@@ -7,9 +7,9 @@ use lib.ListN.{getD, length}
 use Rattle.ground.specs.Flags.{oneIf}
 use Rattle.ground.specs.Table.{tabulate}
 use Rattle.sender.specs.Board.{boardOf}
+use Rattle.sender.specs.Calls.{Call as T}
 use Rattle.sender.specs.Epochs as E
-use Rattle.sender.specs.Epochs.{SenderCall as S, senderStepOf}
-use Rattle.sender.specs.Steps.{Call as T}
+use Rattle.sender.specs.Epochs.{SenderCall as S, senderOutcomeOf}
 use Rattle.sender.specs.Table.{isMember, sizeOf, slotAt}
 use Rattle.circuits.specs.declared.answers.Answer.{Answer}
 use Rattle.circuits.specs.declared.answers.Answer.the-variants as A
@@ -47,16 +47,16 @@ abbrev pub releaseSeen : View → ℕ → Seen
 releaseSeen v i = ownSeen v i (cond (isMember (slotAt (v .sender .table .slots) i .state)) (seen v A.Used) (seen (withOwn v i false) A.Done))
 
 abbrev pub sentSeen : View → S → Seen
-sentSeen v k = let r = senderStepOf (v .sender) k in seen (record { sender = r .sender; owned = v .owned }) (fromSender (r .answer))
+sentSeen v k = let r = senderOutcomeOf (v .sender) k in seen (record { sender = r .sender; owned = v .owned }) (fromSender (r .answer))
 
-abbrev pub stepSeen : View → Call → Bool → Seen
-stepSeen v (Claim i) taken = claimSeen v i taken
-stepSeen v (Release i) taken = releaseSeen v i
-stepSeen v (AddSlot i) taken = ownSeen v i (sentSeen v (S.OnTable (T.AddSlot i)))
-stepSeen v (RemoveSlot i) taken = ownSeen v i (sentSeen v (S.OnTable (T.RemoveSlot i)))
-stepSeen v (Report e mst ack) taken = sentSeen v (S.OnTable (T.Report e mst ack))
-stepSeen v Lapse taken = sentSeen v (S.OnTable T.Lapse)
-stepSeen v (StartEpoch gid mst ack) taken = sentSeen v (S.StartEpoch gid mst ack)
+abbrev pub outcomeSeen : View → Call → Bool → Seen
+outcomeSeen v (Claim i) taken = claimSeen v i taken
+outcomeSeen v (Release i) taken = releaseSeen v i
+outcomeSeen v (AddSlot i) taken = ownSeen v i (sentSeen v (S.OnTable (T.AddSlot i)))
+outcomeSeen v (RemoveSlot i) taken = ownSeen v i (sentSeen v (S.OnTable (T.RemoveSlot i)))
+outcomeSeen v (Report e mst ack) taken = sentSeen v (S.OnTable (T.Report e mst ack))
+outcomeSeen v Lapse taken = sentSeen v (S.OnTable T.Lapse)
+outcomeSeen v (StartEpoch gid mst ack) taken = sentSeen v (S.StartEpoch gid mst ack)
 
 -- of a slot that is the group's own
 abbrev pub ownAnswer : View → ℕ → Answer → Answer
@@ -66,7 +66,7 @@ abbrev pub ownBytes : View → ℕ → List ℕ → List ℕ → List ℕ
 ownBytes v i new old = cond (slotIn v i) (cond (ownIn v i) new old) old
 
 abbrev pub replySeen : View → Asked → Bool → Reply
-replySeen v (Do k) taken = Answered (stepSeen v k taken .answer)
+replySeen v (Do k) taken = Answered (outcomeSeen v k taken .answer)
 replySeen v (Packet i h4) taken = Wrote (ownAnswer v i (fromSender (E.packetAnswer (v .sender) i h4))) (ownBytes v i (E.packetBytes (v .sender) i h4) h4)
 replySeen v (Payload i p frame member) taken =
     Wrote (ownAnswer v i (fromSender (E.payloadAnswer (v .sender) i p (length frame) (length member)))) (ownBytes v i (E.payloadBytes (v .sender) i p frame member) member)
@@ -76,7 +76,7 @@ replySeen v Ranks taken = Ranked (record { ranks = E.ranksOf (v .sender); answer
 replySeen v Owned taken = Owns (record { owned = tabulate 64 (λ i. oneIf (ownIn v i)); answer = A.Done })
 
 abbrev pub viewAfter : View → Asked → Bool → View
-viewAfter v (Do k) taken = stepSeen v k taken .view
+viewAfter v (Do k) taken = outcomeSeen v k taken .view
 viewAfter v (Packet i h4) taken = v
 viewAfter v (Payload i p frame member) taken = v
 viewAfter v Board taken = v

@@ -3,13 +3,13 @@ use mathlib.Core.Bool.{cond}
 use Prim.Native.Nat.{ℕ}
 use lib.Dec.{ltb}
 use lib.ListN.{replicate}
-use Rattle.sender.specs.Epochs.{SenderCall, beginOf, senderStepOf}
+use Rattle.sender.specs.Epochs.{SenderCall, beginOf, senderOutcomeOf}
 use Rattle.circuits.specs.declared.answers.Answer.the-variants.{NoSlot, Owned, Used}
 use Rattle.circuits.specs.declared.card.Card.{Card}
 use Rattle.circuits.specs.declared.card.CardOutcome.{CardOutcome}
 use Rattle.circuits.specs.Answers.{fromSender}
 use Rattle.circuits.specs.Owners.{hasOwner, markOf}
-use Rattle.circuits.specs.Parts.{isSlot, isUsed, marked, owns, refused, senderOf, stepped}
+use Rattle.circuits.specs.Parts.{groupOutcome, isSlot, isUsed, marked, owns, refused, senderOf}
 
 -- a first epoch for each group, no slot owned; a count out of range is 4, and both groups are empty
 unfoldable pub startOf : ℕ → ℕ → ℕ → ℕ → CardOutcome
@@ -32,7 +32,7 @@ unfoldable pub releaseOf : Card → ℕ → ℕ → CardOutcome
 releaseOf c g i = ofOwn c g i (cond (isUsed c g i) (refused c Used) (marked c i 0))
 
 abbrev pub sentOf : Card → ℕ → SenderCall → CardOutcome
-sentOf c g k = stepped c g (senderStepOf (senderOf c g) k)
+sentOf c g k = groupOutcome c g (senderOutcomeOf (senderOf c g) k)
 
 -- a command on a slot: 1, 14, then the sender's 3, 2
 unfoldable pub commandOf : Card → ℕ → ℕ → SenderCall → CardOutcome

@@ -2,5 +2,5 @@
 pub mod Alike
 pub mod Members
 pub mod Seeing
-pub mod Stepping
+pub mod EachCall
 pub mod Ways

@@ -1,4 +1,4 @@
--- A group's part of the card, and what is asked of a slot before the sender's own steps (02, 2026-06).
+-- A group's part of the card, and what is asked of a slot before the sender's own calls (02, 2026-06).
 use mathlib.Core.Bool.{Bool, cond, _&&_}
 use Prim.Native.Nat.{ℕ}
 use lib.Dec.{eqb, ltb}
@@ -46,6 +46,6 @@ refused c a = record { card = c; answer = a }
 unfoldable pub marked : Card → ℕ → ℕ → CardOutcome
 marked c i m = record { card = record { owners = withOwner (c .owners) i m; first = c .first; second = c .second }; answer = Done }
 
--- a step of the group's sender, and all else stays
-unfoldable pub stepped : Card → ℕ → SenderOutcome → CardOutcome
-stepped c g r = record { card = withSender c g (r .sender); answer = fromSender (r .answer) }
+-- a call of the group's sender, and all else stays
+unfoldable pub groupOutcome : Card → ℕ → SenderOutcome → CardOutcome
+groupOutcome c g r = record { card = withSender c g (r .sender); answer = fromSender (r .answer) }

@@ -4,7 +4,7 @@ use Prim.Native.Nat.{ℕ}
 use Rattle.sender.specs.Shown.{shown}
 use Rattle.circuits.specs.declared.card.Card.{Card}
 use Rattle.circuits.specs.Answers.{answerNumber}
-use Rattle.circuits.specs.Calls.{Call, stepOf}
+use Rattle.circuits.specs.Calls.{Call, outcomeOf}
 use Rattle.circuits.specs.Commands.{startOf}
 use Rattle.circuits.specs.Parts.{senderOf}
 use Rattle.circuits.specs.Views.{Made, run}
@@ -19,7 +19,7 @@ after count ms = run (startOf 0 count 0 0 .card) ms
 
 -- the number that a call after them is answered
 abbrev pub told : ℕ → List Made → ℕ → Call → ℕ
-told count ms g k = answerNumber (stepOf (after count ms) g k .answer)
+told count ms g k = answerNumber (outcomeOf (after count ms) g k .answer)
 
 -- the word and number of each slot of a group, then its wait
 abbrev pub board : ℕ → Card → List ℕ

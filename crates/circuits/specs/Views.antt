@@ -11,7 +11,7 @@ use Rattle.circuits.specs.declared.card.BoardOutcome.{BoardOutcome}
 use Rattle.circuits.specs.declared.card.Card.{Card}
 use Rattle.circuits.specs.declared.card.OwnedOutcome.{OwnedOutcome}
 use Rattle.circuits.specs.declared.card.RanksOutcome.{RanksOutcome}
-use Rattle.circuits.specs.Calls.{Call, stepOf}
+use Rattle.circuits.specs.Calls.{Call, outcomeOf}
 use Rattle.circuits.specs.Calls.Call.{Claim, Release, AddSlot, RemoveSlot, Report, Lapse, StartEpoch}
 use Rattle.circuits.specs.Parts.{owns, senderOf}
 use Rattle.circuits.specs.Readings.{boardShown, outgoingShown, ownedShown, packetAnswer, packetBytes, payloadAnswer, payloadBytes, ranksShown}
@@ -43,7 +43,7 @@ pub data Reply : Type 0 where
   Owns : OwnedOutcome → Reply
 
 abbrev pub replyTo : Card → ℕ → Asked → Reply
-replyTo c g (Do k) = Answered (stepOf c g k .answer)
+replyTo c g (Do k) = Answered (outcomeOf c g k .answer)
 replyTo c g (Packet i h4) = Wrote (packetAnswer c g i h4) (packetBytes c g i h4)
 replyTo c g (Payload i p frame member) = Wrote (payloadAnswer c g i p (length frame) (length member)) (payloadBytes c g i p frame member)
 replyTo c g Board = Showed (boardShown c g)
@@ -52,7 +52,7 @@ replyTo c g Ranks = Ranked (ranksShown c g)
 replyTo c g Owned = Owns (ownedShown c g)
 
 abbrev pub cardAfter : Card → ℕ → Asked → Card
-cardAfter c g (Do k) = stepOf c g k .card
+cardAfter c g (Do k) = outcomeOf c g k .card
 cardAfter c g (Packet i h4) = c
 cardAfter c g (Payload i p frame member) = c
 cardAfter c g Board = c

@@ -18,11 +18,11 @@ use Rattle.circuits.specs.declared.answers.Answer.{Answer}
 use Rattle.circuits.specs.declared.answers.Answer.the-variants.{Done, NotAllowed, Owned, WaitOpen}
 use Rattle.circuits.specs.declared.card.Card.{Card}
 use Rattle.circuits.specs.Answers.{answerNumber}
-use Rattle.circuits.specs.Calls.{stepOf}
+use Rattle.circuits.specs.Calls.{outcomeOf}
 use Rattle.circuits.specs.Calls.Call.{AddSlot, Claim, Lapse, RemoveSlot}
 use Rattle.circuits.specs.Commands.{claimOf, commandOf, groupCallOf, startOf}
 use Rattle.circuits.specs.Owners.{hasOwner, withOwner}
-use Rattle.circuits.specs.Parts.{isSlot, marked, owns, senderOf, stepped, withSender}
+use Rattle.circuits.specs.Parts.{groupOutcome, isSlot, marked, owns, senderOf, withSender}
 use Rattle.circuits.specs.Shown.{after, board, by, told}
 use Rattle.circuits.specs.Views.{Made}
 
@@ -41,7 +41,7 @@ wrong-added c g i =
 number-breaks :
     (Demand2 (wrong-added (after 2 (shared (by 0 (AddSlot 0) ∷ []))) 1 1) → ⊥)
     × (board 1 (after 2 (shared (by 0 (AddSlot 0) ∷ by 1 (AddSlot 1) ∷ []))) ≡ 5 ∷ 255 ∷ 1 ∷ 0 ∷ 0 ∷ [])
-unfolding wrong-number wrong-added withOwner senderOf withSender isSlot owns marked stepped startOf claimOf commandOf beginOf freshSender T.startOf freshOf idleSlot idleNumber addOf addedTo sizeOf membersOf boardOf rowsOf rowOf noRow highest
+unfolding wrong-number wrong-added withOwner senderOf withSender isSlot owns marked groupOutcome startOf claimOf commandOf beginOf freshSender T.startOf freshOf idleSlot idleNumber addOf addedTo sizeOf membersOf boardOf rowsOf rowOf noRow highest
 number-breaks = (λ d. let h : 1 < 1 = d .last 1 (omega arith) refl in omega arith, refl)
 
 -- 3 before 14: with a wait open, a group would be told of its wait on a slot that is not its own. 'order 1, 14, 15, 3, 2'
@@ -51,7 +51,7 @@ wrong-order c g i = cond (senderOf c g .table .wait) WaitOpen (cond (owns c g i)
 order-breaks :
     (answerNumber (wrong-order (after 2 (shared (by 0 (AddSlot 0) ∷ by 0 (RemoveSlot 0) ∷ []))) 0 1) ≡ 3)
     × (told 2 (shared (by 0 (AddSlot 0) ∷ by 0 (RemoveSlot 0) ∷ [])) 0 (AddSlot 1) ≡ 14)
-unfolding wrong-order withOwner senderOf withSender isSlot owns marked stepped startOf claimOf commandOf beginOf freshSender T.startOf freshOf idleSlot idleNumber addOf addedTo removeOf removedFrom fallen fallenIn sizeOf membersOf
+unfolding wrong-order withOwner senderOf withSender isSlot owns marked groupOutcome startOf claimOf commandOf beginOf freshSender T.startOf freshOf idleSlot idleNumber addOf addedTo removeOf removedFrom fallen fallenIn sizeOf membersOf
 order-breaks = (refl, refl)
 
 -- A claim of one's own slot answered 0. 'on claim already owned by anyone'
@@ -76,15 +76,15 @@ nobody-breaks = (refl, refl, refl, refl)
 
 -- A lapse that closes both waits. 'waits are per group': the last number shown is the wait of group 1.
 wrong-lapse : Card → Card
-wrong-lapse c = stepOf (stepOf c 0 Lapse .card) 1 Lapse .card
+wrong-lapse c = outcomeOf (outcomeOf c 0 Lapse .card) 1 Lapse .card
 
 abbrev waiting : List Made
 waiting = by 0 (AddSlot 0) ∷ by 1 (AddSlot 1) ∷ by 0 (RemoveSlot 0) ∷ by 1 (RemoveSlot 1) ∷ []
 
 lapse-breaks :
     (board 1 (wrong-lapse (after 2 (shared waiting))) ≡ 5 ∷ 255 ∷ 5 ∷ 255 ∷ 0 ∷ [])
-    × (board 1 (stepOf (after 2 (shared waiting)) 0 Lapse .card) ≡ 5 ∷ 255 ∷ 5 ∷ 255 ∷ 1 ∷ [])
-unfolding wrong-lapse withOwner senderOf withSender isSlot owns marked stepped startOf claimOf commandOf groupCallOf beginOf freshSender T.startOf freshOf idleSlot idleNumber addOf addedTo removeOf removedFrom fallen fallenIn lapseOf sizeOf membersOf boardOf rowsOf rowOf noRow highest
+    × (board 1 (outcomeOf (after 2 (shared waiting)) 0 Lapse .card) ≡ 5 ∷ 255 ∷ 5 ∷ 255 ∷ 1 ∷ [])
+unfolding wrong-lapse withOwner senderOf withSender isSlot owns marked groupOutcome startOf claimOf commandOf groupCallOf beginOf freshSender T.startOf freshOf idleSlot idleNumber addOf addedTo removeOf removedFrom fallen fallenIn lapseOf sizeOf membersOf boardOf rowsOf rowOf noRow highest
 lapse-breaks = (refl, refl)
 
 -- Beside isolation, what a claim does tell: two runs alike in all calls of group 0 but for what group 1 holds.

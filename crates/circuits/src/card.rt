@@ -8,7 +8,7 @@ use sender::Ranks;
 use sender::Sender;
 ghost use mathlib.Core.Path.{_≡_};
 ghost use lib.ListN.{length};
-ghost use Rattle.circuits.specs.Calls.{stepOf};
+ghost use Rattle.circuits.specs.Calls.{outcomeOf};
 ghost use Rattle.circuits.specs.Calls.Call.{Claim, Release, AddSlot, RemoveSlot, Report, Lapse, StartEpoch};
 ghost use Rattle.circuits.specs.Commands.{startOf};
 ghost use Rattle.circuits.specs.Readings.{boardShown, outgoingShown, ownedShown, packetAnswer, packetBytes, payloadAnswer, payloadBytes, ranksShown};
@@ -62,7 +62,7 @@ impl Card {
 
     // 1, 14.
     pub fn claim(self, group: u32, slot: u32) -> CardOutcome
-        ensures { λ r. ⌜ r ≡ stepOf self group (Claim slot) ⌝ }
+        ensures { λ r. ⌜ r ≡ outcomeOf self group (Claim slot) ⌝ }
     {
         if !parts::is_slot(self, group, slot) {
             return parts::refuse(self, Answer::NoSlot);
@@ -76,7 +76,7 @@ impl Card {
 
     // 1, 14, 15.
     pub fn release(self, group: u32, slot: u32) -> CardOutcome
-        ensures { λ r. ⌜ r ≡ stepOf self group (Release slot) ⌝ }
+        ensures { λ r. ⌜ r ≡ outcomeOf self group (Release slot) ⌝ }
     {
         if !parts::is_slot(self, group, slot) {
             return parts::refuse(self, Answer::NoSlot);
@@ -92,7 +92,7 @@ impl Card {
 
     // 1, 14, 3, 2.
     pub fn add(self, group: u32, slot: u32) -> CardOutcome
-        ensures { λ r. ⌜ r ≡ stepOf self group (AddSlot slot) ⌝ }
+        ensures { λ r. ⌜ r ≡ outcomeOf self group (AddSlot slot) ⌝ }
     {
         if !parts::is_slot(self, group, slot) {
             return parts::refuse(self, Answer::NoSlot);
@@ -101,13 +101,13 @@ impl Card {
             return parts::refuse(self, Answer::Owned);
         }
         let sender = parts::sender_of(self, group);
-        let step = sender.add(slot);
-        parts::put_step(self, group, step)
+        let outcome = sender.add(slot);
+        parts::group_outcome(self, group, outcome)
     }
 
     // 1, 14, 3, 2.
     pub fn remove(self, group: u32, slot: u32) -> CardOutcome
-        ensures { λ r. ⌜ r ≡ stepOf self group (RemoveSlot slot) ⌝ }
+        ensures { λ r. ⌜ r ≡ outcomeOf self group (RemoveSlot slot) ⌝ }
     {
         if !parts::is_slot(self, group, slot) {
             return parts::refuse(self, Answer::NoSlot);
@@ -116,41 +116,41 @@ impl Card {
             return parts::refuse(self, Answer::Owned);
         }
         let sender = parts::sender_of(self, group);
-        let step = sender.remove(slot);
-        parts::put_step(self, group, step)
+        let outcome = sender.remove(slot);
+        parts::group_outcome(self, group, outcome)
     }
 
     pub fn report(self, group: u32, epoch: u8, mst: u8, rs_ack: u8) -> CardOutcome
-        ensures { λ r. ⌜ r ≡ stepOf self group (Report epoch mst «rs_ack») ⌝ }
+        ensures { λ r. ⌜ r ≡ outcomeOf self group (Report epoch mst «rs_ack») ⌝ }
     {
         if group >= 2 {
             return parts::refuse(self, Answer::NoSlot);
         }
         let sender = parts::sender_of(self, group);
-        let step = sender.report(epoch, mst, rs_ack);
-        parts::put_step(self, group, step)
+        let outcome = sender.report(epoch, mst, rs_ack);
+        parts::group_outcome(self, group, outcome)
     }
 
     pub fn lapse(self, group: u32) -> CardOutcome
-        ensures { λ r. ⌜ r ≡ stepOf self group Lapse ⌝ }
+        ensures { λ r. ⌜ r ≡ outcomeOf self group Lapse ⌝ }
     {
         if group >= 2 {
             return parts::refuse(self, Answer::NoSlot);
         }
         let sender = parts::sender_of(self, group);
-        let step = sender.lapse();
-        parts::put_step(self, group, step)
+        let outcome = sender.lapse();
+        parts::group_outcome(self, group, outcome)
     }
 
     pub fn start_epoch(self, group: u32, gid: u8, mst: u8, rs_ack: u8) -> CardOutcome
-        ensures { λ r. ⌜ r ≡ stepOf self group (StartEpoch gid mst «rs_ack») ⌝ }
+        ensures { λ r. ⌜ r ≡ outcomeOf self group (StartEpoch gid mst «rs_ack») ⌝ }
     {
         if group >= 2 {
             return parts::refuse(self, Answer::NoSlot);
         }
         let sender = parts::sender_of(self, group);
-        let step = sender.start_epoch(gid, mst, rs_ack);
-        parts::put_step(self, group, step)
+        let outcome = sender.start_epoch(gid, mst, rs_ack);
+        parts::group_outcome(self, group, outcome)
     }
 
     // 1, 14, 9, 2.

@@ -1,4 +1,4 @@
-// A group's part of the card: picked out, put back, and what is asked of a slot before the sender's own steps.
+// A group's part of the card: picked out, put back, and what is asked of a slot before the sender's own calls.
 use crate::answers;
 use crate::answers::Answer;
 use crate::card::Card;
@@ -11,7 +11,7 @@ use sender::State;
 ghost use mathlib.Core.Path.{_≡_};
 ghost use Prim.Native.Nat.{_<_};
 ghost use Rattle.sender.specs.Table.{isMember, sizeOf};
-ghost use Rattle.circuits.specs.Parts.{emptySender, isSlot, isUsed, marked, owns, refused, senderOf, shownSender, stepped, withSender};
+ghost use Rattle.circuits.specs.Parts.{emptySender, groupOutcome, isSlot, isUsed, marked, owns, refused, senderOf, shownSender, withSender};
 
 pub(crate) fn sender_of(card: Card, group: u32) -> Sender
     ensures { λ r. ⌜ r ≡ senderOf card group ⌝ }
@@ -43,8 +43,8 @@ fn with_sender(card: Card, group: u32, sender: Sender) -> Card
 fn empty_sender() -> Sender
     ensures { λ r. ⌜ r ≡ emptySender ⌝ }
 {
-    let step = Sender::start(kinds::H4, 0, 0);
-    step.sender
+    let outcome = Sender::start(kinds::H4, 0, 0);
+    outcome.sender
 }
 
 pub(crate) fn shown_sender(card: Card, group: u32) -> Sender
@@ -127,11 +127,11 @@ pub(crate) fn mark(card: Card, slot: u32, owner: u8) -> CardOutcome
     }
 }
 
-pub(crate) fn put_step(card: Card, group: u32, step: SenderOutcome) -> CardOutcome
-    ensures { λ r. ⌜ r ≡ stepped card group step ⌝ }
+pub(crate) fn group_outcome(card: Card, group: u32, outcome: SenderOutcome) -> CardOutcome
+    ensures { λ r. ⌜ r ≡ groupOutcome card group outcome ⌝ }
 {
-    let sender = step.sender;
-    let answer = step.answer;
+    let sender = outcome.sender;
+    let answer = outcome.answer;
     CardOutcome {
         card: with_sender(card, group, sender),
         answer: answers::from_sender(answer),

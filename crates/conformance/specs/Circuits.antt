@@ -9,7 +9,7 @@ use Rattle.circuits.specs.Calls.Call.{AddSlot, Claim, Lapse, Release, RemoveSlo
 use Rattle.circuits.specs.Commands.{claimOf, commandOf, groupCallOf, releaseOf}
 use Rattle.circuits.specs.Commands.{startOf as cardStart}
 use Rattle.circuits.specs.Owners.{ownedBytes, withOwner}
-use Rattle.circuits.specs.Parts.{isSlot, isUsed, marked, owns, senderOf, stepped, withSender}
+use Rattle.circuits.specs.Parts.{groupOutcome, isSlot, isUsed, marked, owns, senderOf, withSender}
 use Rattle.circuits.specs.Readings.{ownedShown}
 use Rattle.circuits.specs.Shown.{after, board, by, told}
 use Rattle.circuits.specs.Views.{Made}
@@ -83,5 +83,5 @@ table =
     ∷ []
 
 pub examples : Equal table
-unfolding table ownedShown ownedBytes putOwn byteAt withOwner senderOf withSender isSlot owns isUsed marked stepped cardStart claimOf releaseOf commandOf groupCallOf beginOf freshSender startOf freshOf idleSlot idleNumber addOf addedTo removeOf removedFrom fallen fallenIn lapseOf reportOf waited actedOn mstApplied numberApplied holderOf renumbered slotAfter numberAfter comesBefore turnOf opensWait sizeOf membersOf mstFails mstFirst mstNumbers boardOf rowsOf rowOf noRow highest
+unfolding table ownedShown ownedBytes putOwn byteAt withOwner senderOf withSender isSlot owns isUsed marked groupOutcome cardStart claimOf releaseOf commandOf groupCallOf beginOf freshSender startOf freshOf idleSlot idleNumber addOf addedTo removeOf removedFrom fallen fallenIn lapseOf reportOf waited actedOn mstApplied numberApplied holderOf renumbered slotAfter numberAfter comesBefore turnOf opensWait sizeOf membersOf mstFails mstFirst mstNumbers boardOf rowsOf rowOf noRow highest
 examples = equal-rows table refl

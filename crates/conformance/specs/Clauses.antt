@@ -38,7 +38,7 @@ use Rattle.circuits.specs.Commands.{claimOf, commandOf}
 use Rattle.circuits.specs.Commands.{startOf as cardStart}
 use Rattle.circuits.specs.declared.card.Card.{Card}
 use Rattle.circuits.specs.Owners.{ownedBytes, withOwner}
-use Rattle.circuits.specs.Parts.{emptySender, isSlot, marked, owns, senderOf, shownSender, stepped, withSender}
+use Rattle.circuits.specs.Parts.{emptySender, groupOutcome, isSlot, marked, owns, senderOf, shownSender, withSender}
 use Rattle.circuits.specs.Readings.{boardShown, outgoingShown, ownedShown, ranksShown}
 use Rattle.circuits.specs.Shown.{after, by}
 use Rattle.conformance.specs.Rows.{Equal, Row, equal-rows}
@@ -153,7 +153,7 @@ shown =
     ∷ []
 
 pub shown-rows : Equal shown
-unfolding shown reportText epochText markText portText stateText stateLine countIn decimalText numberText framedTurn boardShown outgoingShown ranksShown ownedShown ownedBytes shownSender emptySender withOwner senderOf withSender isSlot owns marked stepped cardStart claimOf commandOf beginOf freshSender startOf freshOf idleSlot idleNumber addOf addedTo sizeOf membersOf boardOf rowsOf rowOf noRow highest ranksOf
+unfolding shown reportText epochText markText portText stateText stateLine countIn decimalText numberText framedTurn boardShown outgoingShown ranksShown ownedShown ownedBytes shownSender emptySender withOwner senderOf withSender isSlot owns marked groupOutcome cardStart claimOf commandOf beginOf freshSender startOf freshOf idleSlot idleNumber addOf addedTo sizeOf membersOf boardOf rowsOf rowOf noRow highest ranksOf
 shown-rows = equal-rows shown refl
 
 -- 'Lines hold at most 8,192 bytes.' (request 2026-05) A line is read by its fields up to that, and is malformed above it, whether it has ended or not.

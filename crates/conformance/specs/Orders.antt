@@ -8,12 +8,12 @@ use Rattle.circuits.specs.Calls.Call.{AddSlot, Claim}
 use Rattle.circuits.specs.Commands.{claimOf, commandOf, releaseOf}
 use Rattle.circuits.specs.Commands.{startOf as cardStart}
 use Rattle.circuits.specs.Owners.{withOwner}
-use Rattle.circuits.specs.Parts.{isSlot, isUsed, marked, owns, senderOf, stepped, withSender}
+use Rattle.circuits.specs.Parts.{groupOutcome, isSlot, isUsed, marked, owns, senderOf, withSender}
 use Rattle.circuits.specs.Shown.{after, board, by}
 use Rattle.conformance.specs.Rows.{Equal, Row, equal-rows}
 use Rattle.orders.specs.declared.commands.Command.{Command}
 use Rattle.orders.specs.declared.commands.Kind as K
-use Rattle.orders.specs.Orders.{firstAnswers, stepBy}
+use Rattle.orders.specs.Orders.{firstAnswers, outcomeBy}
 use Rattle.orders.specs.Shown.{add, cardLeft, claim, numbersOf, remove}
 use Rattle.packet.specs.Kinds.{idleNumber, mstFails, mstFirst, mstNumbers}
 use Rattle.sender.specs.Board.{boardOf, highest, noRow, rowOf, rowsOf}
@@ -61,7 +61,7 @@ table =
     ∷ []
 
 pub examples : Equal table
-unfolding table stepBy withOwner senderOf withSender isSlot owns isUsed marked stepped cardStart claimOf releaseOf commandOf beginOf freshSender startOf freshOf idleSlot idleNumber addOf addedTo removeOf removedFrom fallen fallenIn sizeOf membersOf mstFails mstFirst mstNumbers boardOf rowsOf rowOf noRow highest
+unfolding table outcomeBy withOwner senderOf withSender isSlot owns isUsed marked groupOutcome cardStart claimOf releaseOf commandOf beginOf freshSender startOf freshOf idleSlot idleNumber addOf addedTo removeOf removedFrom fallen fallenIn sizeOf membersOf mstFails mstFirst mstNumbers boardOf rowsOf rowOf noRow highest
 examples = equal-rows table refl
 
 -- a command's kind in C, by the numbers of the header

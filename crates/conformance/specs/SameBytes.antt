@@ -24,9 +24,9 @@ use Rattle.payload.specs.Laws.Fits.{Sizes, spread-one-done}
 use Rattle.payload.specs.Order.{memberFrame}
 use Rattle.payload.specs.Spreading.{spreadOne}
 use Rattle.sender.specs.declared.epochs.Sender.{Sender}
-use Rattle.sender.specs.Epochs.{SenderCall, beginOf, packetBytes, packetFields, payloadBytes, rankIn, senderRun, senderStepOf, xOf}
+use Rattle.sender.specs.Calls.{Call}
+use Rattle.sender.specs.Epochs.{SenderCall, beginOf, packetBytes, packetFields, payloadBytes, rankIn, senderOutcomeOf, senderRun, xOf}
 use Rattle.sender.specs.Epochs.SenderCall.{OnTable, StartEpoch}
-use Rattle.sender.specs.Steps.{Call}
 use Rattle.sender.specs.Table.{sizeOf}
 use Rattle.sender.specs.Theorems.Epochs.{fixed, onTable, senderAfter}
 
@@ -54,7 +54,7 @@ all-meant (c ∷ cs) f = ap (λ (b : Bool). cond b (c ∷ meant cs) (meant cs)) 
 
 run-append : (s : Sender) (a b : List SenderCall) → senderRun s (a ++ b) ≡ senderRun (senderRun s a) b
 run-append s [] b = refl
-run-append s (c ∷ a) b = run-append (senderStepOf s c .sender) a b
+run-append s (c ∷ a) b = run-append (senderOutcomeOf s c .sender) a b
 
 -- what the two definitions of bytes sent pick where nothing is refused
 picks-packet : (b l g w f : Bool) (new old : List ℕ) → b ≡ true → l ≡ true → g ≡ true → w ≡ true → f ≡ true → cond (b && l && g) (cond w (cond f new old) old) old ≡ new

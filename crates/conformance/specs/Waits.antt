@@ -22,7 +22,7 @@ seenPort word number readable last hold restore =
       readable = readable;
       «hold_off» = hold;
       restore = restore;
-      run = last .run;
+      elapsed = last .elapsed;
     }
 
 -- what a report sees of a port: its last good word and number, and whether it is readable
@@ -70,7 +70,7 @@ statesAt i hold restore sent = statesIn i (runFrom hold restore [] sent)
 -- state, number and counter of each port after one report
 abbrev pub each : List Standing → List ℕ
 each [] = []
-each (s ∷ rest) = s .state ∷ s .number ∷ s .run ∷ each rest
+each (s ∷ rest) = s .state ∷ s .number ∷ s .elapsed ∷ each rest
 
 -- a port alone, lost after its first report and for ever: at how many of n further reports it is OK, and its state at the last
 abbrev lostFor : ℕ → ℕ → ℕ → List Standing → List ℕ

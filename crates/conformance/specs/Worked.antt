@@ -29,11 +29,11 @@ use Rattle.rows.specs.Rows.{putRow, rowIn}
 use Rattle.rows.specs.Step.{putStep, stepAt, stepRow}
 use Rattle.rows.specs.Step.{stepOf as stepIn}
 use Rattle.sender.specs.Board.{boardOf, highest, noRow, rowOf, rowsOf}
+use Rattle.sender.specs.Calls.{Call}
+use Rattle.sender.specs.Calls.Call.{AddSlot, Lapse, RemoveSlot, Report}
 use Rattle.sender.specs.Commands.{addOf, addedTo, fallen, fallenIn, freshOf, idleSlot, lapseOf, removeOf, removedFrom, startOf}
 use Rattle.sender.specs.Reports.{actedOn, comesBefore, mstApplied, numberAfter, opensWait, renumbered, reportOf, slotAfter, numberApplied, turnOf, waited}
 use Rattle.sender.specs.Shown.{after, shown}
-use Rattle.sender.specs.Steps.{Call}
-use Rattle.sender.specs.Steps.Call.{AddSlot, Lapse, RemoveSlot, Report}
 use Rattle.sender.specs.Table.{holderOf, membersOf, sizeOf}
 use Rattle.step.specs.Arrival.{arrives, frameDropped, byStart, byWindow, countsOn, distanceIn, inStep, joining, keeps, outside, readable, stepTo, takenOf}
 use Rattle.step.specs.OwnCount.{endsOdd, oddPacket, ownNumber, rightCrc}
@@ -57,8 +57,8 @@ use Rattle.sender.specs.Epochs.{beginOf, freshSender, packetBytes, packetFields
 use Rattle.sender.specs.Epochs.SenderCall.{StartEpoch}
 use Rattle.sender.specs.Ranks.{carriersIn, rankAt, rankOf, ranksIn}
 use Rattle.sender.specs.Theorems.Epochs.{onTable}
-use Rattle.conformance.specs.Waits.{seenPort}
 use Rattle.conformance.specs.Hosts.{Host, begun, fed, flagged, opened}
+use Rattle.conformance.specs.Waits.{seenPort}
 use Rattle.step.specs.Arrival.{flagged as flaggedStep}
 use Rattle.conformance.specs.Rows.{Row, Equal, equal-rows}
 

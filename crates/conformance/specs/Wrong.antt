@@ -70,11 +70,11 @@ pub skipped : Copes skips → ⊥
 skipped c = let e = c .answers in omega arith
 
 -- a condition holds, and 0 is answered
-abbrev pub passes : Call
-passes = stateless (If 9 true ∷ []) 0 [] []
+abbrev pub ignores : Call
+ignores = stateless (If 9 true ∷ []) 0 [] []
 
-pub passed : Copes passes → ⊥
-passed c = let e = c .answers in omega arith
+pub ignored : Copes ignores → ⊥
+ignored c = let e = c .answers in omega arith
 
 -- no condition holds, and a refusal is answered
 abbrev pub refuses : Call

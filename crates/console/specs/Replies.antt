@@ -6,8 +6,8 @@ use lib.Dec.{eqb}
 use Rattle.sender.specs.declared.table.Outcome.{Outcome}
 use Rattle.sender.specs.declared.table.Table.{Table}
 use Rattle.sender.specs.Board.{boardOf}
+use Rattle.sender.specs.Calls as S
 use Rattle.sender.specs.Commands.{startOf}
-use Rattle.sender.specs.Steps as S
 use Rattle.sender.specs.Table.{answerNumber}
 use Rattle.console.specs.declared.line.Line.{Line}
 use Rattle.console.specs.declared.line.Line.the-variants.{Size, Add, Remove, Report, Lapse, Board, Malformed}
@@ -27,10 +27,10 @@ sizeReply t n = cond (eqb (answerNumber (startOf (t .kind) n .answer)) 0) (repli
 -- 13: 'malformed line', 'state as given'
 unfoldable pub replyOf : Table → Line → Reply
 replyOf t (Size n) = sizeReply t n
-replyOf t (Add i) = repliedOf (S.stepOf t (S.AddSlot i))
-replyOf t (Remove i) = repliedOf (S.stepOf t (S.RemoveSlot i))
-replyOf t (Report epoch mst ack) = repliedOf (S.stepOf t (S.Report epoch mst ack))
-replyOf t Lapse = repliedOf (S.stepOf t S.Lapse)
+replyOf t (Add i) = repliedOf (S.outcomeOf t (S.AddSlot i))
+replyOf t (Remove i) = repliedOf (S.outcomeOf t (S.RemoveSlot i))
+replyOf t (Report epoch mst ack) = repliedOf (S.outcomeOf t (S.Report epoch mst ack))
+replyOf t Lapse = repliedOf (S.outcomeOf t S.Lapse)
 replyOf t Board = replied t 0
 replyOf t Malformed = replied t 13
 

@@ -28,7 +28,7 @@ number-breaks : (wrong-number (ascii "256") ≡ Unreadable) × (numberOf (ascii 
 unfolding wrong-number wrong-byte F.numberOf digitOf
 number-breaks = (refl, refl)
 
--- A refused size that hands on the empty group of the library's start. 'A refused one leaves the board as it stood.'
+-- A refused size that hands on the empty group of the library's start, where 'a refused one leaves the board as it stood'.
 wrong-size : Table → ℕ → Reply
 wrong-size t n = repliedOf (startOf (t .kind) n)
 

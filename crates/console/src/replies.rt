@@ -10,11 +10,11 @@ pub struct Reply {
     pub number: u8,
 }
 
-fn replied(step: Outcome) -> Reply
-    ensures { λ r. ⌜ r ≡ repliedOf step ⌝ }
+fn replied(outcome: Outcome) -> Reply
+    ensures { λ r. ⌜ r ≡ repliedOf outcome ⌝ }
 {
-    let table = step.table;
-    let answer = step.answer;
+    let table = outcome.table;
+    let answer = outcome.answer;
     Reply {
         table,
         number: answer.number(),

@@ -184,8 +184,8 @@ module _ (g : List Bool) (n : ℕ) (s : Strong g n) where
   length-sealed d = length-append d (check g d) ∙ ap (λ k. length d + k) (length-check g d)
 
   -- Two different messages of one length, sealed, differ in at least four bits.
-  pub far : (d e : List Bool) → length d ≡ length e → length d + length g ≤ n → (d ≡ e → ⊥) → 4 ≤ apart (sealed g d) (sealed g e)
-  far d e h b differ = go (decLe 4 (apart (sealed g d) (sealed g e)))
+  pub four-apart : (d e : List Bool) → length d ≡ length e → length d + length g ≤ n → (d ≡ e → ⊥) → 4 ≤ apart (sealed g d) (sealed g e)
+  four-apart d e h b differ = go (decLe 4 (apart (sealed g d) (sealed g e)))
     where
       front : sealed g d ≡ sealed g e → d ≡ e
       front p =

@@ -5,7 +5,7 @@ use mathlib.Core.List.{List, [], _∷_, _++_}
 use Prim.Native.Nat.{ℕ, zero, suc, _+_, _-_, _<_}
 use lib.Dec.{eqb, ltb}
 use Rattle.ground.specs.Table.{tabulate}
-use Rattle.sender.specs.Steps.{Call as T}
+use Rattle.sender.specs.Calls.{Call as T}
 use Rattle.circuits.specs.declared.card.Card.{Card}
 use Rattle.circuits.specs.Calls.Call.{Claim, Release, AddSlot, RemoveSlot, Report, Lapse, StartEpoch}
 use Rattle.circuits.specs.Parts.{isSlot, owns}

@@ -18,14 +18,14 @@ pub record Receiver : Type 0 where
   pub rows : List (List ℕ)
   pub store : List ℕ
 
-abbrev pub receiverStep : Receiver → ReceiverCall → Receiver
-receiverStep x (Frame port failed h payload) =
+abbrev pub receiverAfter : Receiver → ReceiverCall → Receiver
+receiverAfter x (Frame port failed h payload) =
     record { rows = frameRows (x .rows) port failed h payload (x .store); store = frameStore (x .rows) port failed h payload (x .store) }
-receiverStep x (Fetch out report) = record { rows = fetchRows (x .rows) (x .store) out report; store = x .store }
+receiverAfter x (Fetch out report) = record { rows = fetchRows (x .rows) (x .store) out report; store = x .store }
 
 abbrev pub receiverRun : Receiver → List ReceiverCall → Receiver
 receiverRun x [] = x
-receiverRun x (c ∷ calls) = receiverRun (receiverStep x c) calls
+receiverRun x (c ∷ calls) = receiverRun (receiverAfter x c) calls
 
 -- a receiver started with any times
 abbrev pub startedWith : ℕ → ℕ → ℕ → ℕ → List ℕ → List ℕ → List (List ℕ) → List ℕ → Receiver

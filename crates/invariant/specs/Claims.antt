@@ -15,7 +15,7 @@ use lib.ListN.{getD, length}
 use Rattle.rows.specs.Group.{groupAt}
 use Rattle.rows.specs.Port.{portAt}
 use Rattle.store.specs.Laws.Stands.{Stands}
-use Rattle.invariant.specs.Calls.{Fetch, Frame, Receiver, ReceiverCall, receiverStep}
+use Rattle.invariant.specs.Calls.{Fetch, Frame, Receiver, ReceiverCall, receiverAfter}
 
 -- of the epoch that a joined port is in the midst of: from its first frame, or the epoch joined at, up to the tag to come
 pub record Part (g : Group) (s : Step) (d : ℕ) : Type 0 where
@@ -58,9 +58,9 @@ module _ (tag : ℕ) (bytes : List ℕ) (h4 : ℕ) where
   -- the port claims this very frame before the calls and after each of them
   abbrev pub ClaimedOn : Receiver → List ReceiverCall → ℕ → Type 0
   ClaimedOn x [] j = Claimed (x .rows) (x .store) j tag bytes h4
-  ClaimedOn x (c ∷ calls) j = Claimed (x .rows) (x .store) j tag bytes h4 × ClaimedOn (receiverStep x c) calls j
+  ClaimedOn x (c ∷ calls) j = Claimed (x .rows) (x .store) j tag bytes h4 × ClaimedOn (receiverAfter x c) calls j
 
   -- One of the calls handed it, and the port has claimed it ever since: no later call has put another frame with its tag in its place.
   abbrev pub HandedLast : Receiver → List ReceiverCall → ℕ → Type 0
   HandedLast x [] j = ⊥
-  HandedLast x (c ∷ calls) j = (HandedBy x c j × ClaimedOn (receiverStep x c) calls j) ⊎ HandedLast (receiverStep x c) calls j
+  HandedLast x (c ∷ calls) j = (HandedBy x c j × ClaimedOn (receiverAfter x c) calls j) ⊎ HandedLast (receiverAfter x c) calls j

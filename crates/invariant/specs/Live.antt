@@ -11,7 +11,7 @@ use Rattle.packet.specs.Kinds.{frames, placeOf, startsEpoch, tagBefore}
 use Rattle.receiver.specs.Frame.{frameAnswer}
 use Rattle.rows.specs.Port.{Port}
 use Rattle.step.specs.Run.{endsPacket, inStepAt}
-use Rattle.invariant.specs.Calls.{Fetch, Frame, Receiver, ReceiverCall, receiverStep}
+use Rattle.invariant.specs.Calls.{Fetch, Frame, Receiver, ReceiverCall, receiverAfter}
 
 -- a frame to the step record (R-5), by its answer
 abbrev pub isHeard : ℕ → Bool
@@ -26,7 +26,7 @@ heardWith j x (Fetch out report) heard = heard
 
 abbrev pub heardOf : ℕ → Receiver → List ReceiverCall → List ℕ → List ℕ
 heardOf j x [] heard = heard
-heardOf j x (c ∷ calls) heard = heardOf j (receiverStep x c) calls (heardWith j x c heard)
+heardOf j x (c ∷ calls) heard = heardOf j (receiverAfter x c) calls (heardWith j x c heard)
 
 -- by the own count, the tag of the frame that came d before the latest
 abbrev pub tagBack : ℕ → ℕ → ℕ → ℕ

@@ -25,7 +25,7 @@ use Rattle.store.specs.Frames.{placeIn, storedAt}
 use Rattle.store.specs.Laws.Stands.{Stands}
 use Rattle.judge.specs.Verdict.{HELD}
 use Rattle.receiver.specs.declared.report.Report.{Report}
-use Rattle.invariant.specs.Calls.{Fetch, Frame, Receiver, ReceiverCall, portAfter, receiverStep}
+use Rattle.invariant.specs.Calls.{Fetch, Frame, Receiver, ReceiverCall, portAfter, receiverAfter}
 use Rattle.invariant.specs.Claims.{tagIn}
 
 -- the packet that rules a port, read
@@ -74,16 +74,16 @@ epochGiven x = reportIfDue (groupAt (x .rows)) (portsIn (groupAt (x .rows))) (x 
 -- the epochs of all reports that a list of calls gives
 abbrev pub reportsOf : Receiver → List ReceiverCall → List ℕ
 reportsOf x [] = []
-reportsOf x (Frame i failed h payload ∷ calls) = reportsOf (receiverStep x (Frame i failed h payload)) calls
+reportsOf x (Frame i failed h payload ∷ calls) = reportsOf (receiverAfter x (Frame i failed h payload)) calls
 reportsOf x (Fetch out report ∷ calls) =
-    let rest = reportsOf (receiverStep x (Fetch out report)) calls in
+    let rest = reportsOf (receiverAfter x (Fetch out report)) calls in
     cond (gives x out report) (epochGiven x ∷ rest) rest
 
 -- receiving stops in none of them
 abbrev pub Unstopped : Receiver → List ReceiverCall → Type 0
 Unstopped x [] = Unit {0}
-Unstopped x (Frame i failed h payload ∷ calls) = (stopsWith (x .rows) i failed h payload (x .store) ≡ false) × Unstopped (receiverStep x (Frame i failed h payload)) calls
-Unstopped x (Fetch out report ∷ calls) = Unstopped (receiverStep x (Fetch out report)) calls
+Unstopped x (Frame i failed h payload ∷ calls) = (stopsWith (x .rows) i failed h payload (x .store) ≡ false) × Unstopped (receiverAfter x (Frame i failed h payload)) calls
+Unstopped x (Fetch out report ∷ calls) = Unstopped (receiverAfter x (Fetch out report)) calls
 
 -- so many epochs, each the one after the one before
 abbrev pub successive : ℕ → ℕ → ℕ → List ℕ

@@ -11,7 +11,7 @@ use Rattle.rows.specs.Port.{Port, portAt}
 use Rattle.step.specs.Arrival.{flagOf}
 use Rattle.store.specs.Frames.{packetIn}
 use Rattle.store.specs.Marks.{firstMark}
-use Rattle.invariant.specs.Calls.{Fetch, Frame, Receiver, ReceiverCall, portAfter, receiverRun, receiverStep}
+use Rattle.invariant.specs.Calls.{Fetch, Frame, Receiver, ReceiverCall, portAfter, receiverAfter, receiverRun}
 use Rattle.invariant.specs.Claims.{Claimed, HandedBy}
 
 -- Of each port, as a call takes it from p to q.
@@ -60,6 +60,6 @@ pub data OneEpoch (x : Receiver) (calls : List ReceiverCall) : Type 0 where
   none-rules : ((j : ℕ) → j < groupAt (receiverRun x calls .rows) .count → flagOf (portAt (receiverRun x calls .rows) j .step .whole) ≡ false) → OneEpoch x calls
   passed-in : (earlier : List ReceiverCall) (call : ReceiverCall) (later : List ReceiverCall) → calls ≡ earlier ++ (call ∷ later)
       → ((j : ℕ) → j < groupAt (receiverRun x calls .rows) .count → flagOf (portAt (receiverRun x calls .rows) j .step .whole) ≡ true
-      → portAt (receiverRun x calls .rows) j .ruling ≡ packetIn (groupAt (receiverRun x earlier .rows)) j (receiverStep (receiverRun x earlier) call .store))
+      → portAt (receiverRun x calls .rows) j .ruling ≡ packetIn (groupAt (receiverRun x earlier .rows)) j (receiverAfter (receiverRun x earlier) call .store))
       → groupAt (receiverRun x calls .rows) .oldest ≡ epochAfter (groupAt (receiverRun x earlier .rows) .kind) (groupAt (receiverRun x earlier .rows) .oldest)
       → OneEpoch x calls

@@ -31,7 +31,7 @@ use Rattle.rows.specs.Port.{portAt}
 use Rattle.step.specs.Arrival.{flagOf}
 use Rattle.store.specs.Frames.{h4At, placeIn}
 use Rattle.store.specs.Marks.{firstMark}
-use Rattle.invariant.specs.Calls.{Receiver, ReceiverCall, portAfter, receiverRun, receiverStep, startedWith}
+use Rattle.invariant.specs.Calls.{Receiver, ReceiverCall, portAfter, receiverAfter, receiverRun, startedWith}
 use Rattle.invariant.specs.Claims.{Claimed, HandedBy, HandedLast, tagIn}
 use Rattle.invariant.specs.Kept.Group.{Kept}
 use Rattle.invariant.specs.Live.{Live, heardOf}
@@ -73,9 +73,9 @@ pub claimed-handed : (tag : ℕ) (bytes : List ℕ) (h4 kind count P W : ℕ) (h
 claimed-handed = Claims.claimed-handed
 
 -- as a relation between two calls: it was claimed before, or is the one just handed
-pub step-claimed : (tag : ℕ) (bytes : List ℕ) (h4 : ℕ) (x : Receiver) (c : ReceiverCall) → Kept (x .rows) → (j : ℕ) → j < groupAt (x .rows) .count
-    → Claimed (receiverStep x c .rows) (receiverStep x c .store) j tag bytes h4 → Claimed (x .rows) (x .store) j tag bytes h4 ⊎ HandedBy tag bytes h4 x c j
-step-claimed = Claims.step-claimed
+pub call-claimed : (tag : ℕ) (bytes : List ℕ) (h4 : ℕ) (x : Receiver) (c : ReceiverCall) → Kept (x .rows) → (j : ℕ) → j < groupAt (x .rows) .count
+    → Claimed (receiverAfter x c .rows) (receiverAfter x c .store) j tag bytes h4 → Claimed (x .rows) (x .store) j tag bytes h4 ⊎ HandedBy tag bytes h4 x c j
+call-claimed = Claims.call-claimed
 
 -- a port's first mark says that all frames of the oldest epoch stand in the store
 pub mark-claimed : (s : List (List ℕ)) (store : List ℕ) (j : ℕ) → flagOf (groupAt s .begun) ≡ true → firstMark (portAt s j .marks) ≡ true → (d : ℕ) → d < frames (groupAt s .kind)
@@ -184,7 +184,7 @@ none-standing = Between.none-standing
 -- a report leaves what it works out of them, and the times as they are
 pub report-standing : (port : ℕ) (s : List (List ℕ)) (store out report : List ℕ) → Given s store out report → port < portsIn (groupAt s)
     → standingIn (fetchRows s store out report) port
-    ≡ (let left = getD (standingsAfter s store) port noStanding in left .state ∷ left .number ∷ (memberAt s port .«hold_off») ∷ (memberAt s port .restore) ∷ left .run ∷ [])
+    ≡ (let left = getD (standingsAfter s store) port noStanding in left .state ∷ left .number ∷ (memberAt s port .«hold_off») ∷ (memberAt s port .restore) ∷ left .elapsed ∷ [])
 report-standing = Between.report-standing
 
 -- Fixed groups (request 2026-12), on every state: a due report is sure exactly where every port has a whole good ruling packet and brought its frames, and the numbers are 0 to X-1, X being the number of ports. Otherwise it is held.

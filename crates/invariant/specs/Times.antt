@@ -15,7 +15,7 @@ use Rattle.reply.specs.Waiting.{standingsOf}
 use Rattle.rows.specs.declared.member.Member.{Member}
 use Rattle.rows.specs.Group.{groupAt}
 use Rattle.rows.specs.Member.{memberAt}
-use Rattle.invariant.specs.Calls.{Fetch, Frame, Receiver, ReceiverCall, receiverStep}
+use Rattle.invariant.specs.Calls.{Fetch, Frame, Receiver, ReceiverCall, receiverAfter}
 use Rattle.invariant.specs.Reports.{passedRows}
 
 -- what a call answers and leaves in all that is lent with it but the rows; a frame is lent no output and no record
@@ -44,7 +44,7 @@ outcomeOf x (Fetch out report) =
 -- of each call in turn
 abbrev pub outcomesOf : Receiver → List ReceiverCall → List Outcome
 outcomesOf x [] = []
-outcomesOf x (c ∷ calls) = outcomeOf x c ∷ outcomesOf (receiverStep x c) calls
+outcomesOf x (c ∷ calls) = outcomeOf x c ∷ outcomesOf (receiverAfter x c) calls
 
 -- What can be read out beside them is the same, with any output lent: RS-Ack, which is the reply's second byte, in every epoch; and what is shown of
 -- the ports, but for the state, its number and what waits, bytes 0, 1 and 7.
@@ -55,11 +55,11 @@ pub record SameShown (s t : List (List ℕ)) : Type 0 where
   pub ports : (out : List (List ℕ)) (i byte : ℕ) → byte ≢ 0 → byte ≢ 1 → byte ≢ 7 → getD (getD (portsOut s out) i []) byte 0 ≡ getD (getD (portsOut t out) i []) byte 0
 
 -- What waiting goes by: a port's state, the number under which it has it, its two times and the counter.
-abbrev pub heldIn : Member → List ℕ
-heldIn m = (m .state) ∷ (m .«state_number») ∷ (m .«hold_off») ∷ (m .restore) ∷ (m .run) ∷ []
+abbrev pub waitingIn : Member → List ℕ
+waitingIn m = (m .state) ∷ (m .«state_number») ∷ (m .«hold_off») ∷ (m .restore) ∷ (m .elapsed) ∷ []
 
 abbrev pub standingIn : List (List ℕ) → ℕ → List ℕ
-standingIn s j = heldIn (memberAt s j)
+standingIn s j = waitingIn (memberAt s j)
 
 -- what the report works out of them, from the ports as they are when its epoch has passed
 abbrev pub standingsAfter : List (List ℕ) → List ℕ → List Standing

@@ -8,10 +8,10 @@ use lib.ListN.{length, replicate}
 use Rattle.packet.specs.declared.layout.Fields.{Fields}
 use Rattle.packet.specs.Kinds.{epochs, fixedKind, frames}
 use Rattle.sender.specs.declared.epochs.Sender.{Sender}
-use Rattle.sender.specs.Epochs.{beginOf, packetBytes, packetFields, payloadBytes, rankIn, senderRun, senderStepOf, xOf}
+use Rattle.sender.specs.Calls.{Call}
+use Rattle.sender.specs.Epochs.{beginOf, packetBytes, packetFields, payloadBytes, rankIn, senderOutcomeOf, senderRun, xOf}
 use Rattle.sender.specs.Epochs.SenderCall.{StartEpoch}
 use Rattle.sender.specs.Ranks.{noRank}
-use Rattle.sender.specs.Steps.{Call}
 use Rattle.sender.specs.Theorems.Epochs.{onTable}
 use Rattle.link.specs.Sending.{Client, Sending, epochAt}
 
@@ -37,7 +37,7 @@ pub record Allowed (h : History) : Type 0 where
 
 -- the i-th epoch started on a sender, after the calls before it
 abbrev pub startedOn : History → ℕ → Sender → Sender
-startedOn h i s = senderStepOf (senderRun s (onTable (h .before i))) (StartEpoch (h .gid i) (h .mst i) (h .ack i)) .sender
+startedOn h i s = senderOutcomeOf (senderRun s (onTable (h .before i))) (StartEpoch (h .gid i) (h .mst i) (h .ack i)) .sender
 
 -- the sender in its i-th epoch
 unfoldable pub senderAt : History → ℕ → Sender

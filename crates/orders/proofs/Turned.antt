@@ -13,7 +13,7 @@ use Rattle.circuits.specs.declared.card.Card.{Card}
 use Rattle.orders.specs.declared.commands.Command.{Command}
 use Rattle.orders.specs.declared.lists.Ordered.{Ordered}
 use Rattle.orders.specs.Laws.Folding as F
-use Rattle.orders.specs.Orders.{answersOf, cardBy, finishOf, numberBy, orderedOf, ordersOf, stepBy, storedBy, turnsOf}
+use Rattle.orders.specs.Orders.{answersOf, cardBy, finishOf, numberBy, orderedOf, ordersOf, outcomeBy, storedBy, turnsOf}
 use Rattle.orders.specs.Singles.{noCommand}
 
 abbrev pub cardAt : Card → List Command → ℕ → Card
@@ -26,7 +26,7 @@ listAt = F.listAt cardBy numberBy noCommand
 pub list-length : (card : Card) (cs : List Command) (ys : List ℕ) (i : ℕ) → length (listAt card cs ys i) ≡ length ys
 list-length = F.list-length cardBy numberBy noCommand
 
-pub card-next : (card : Card) (cs : List Command) (i : ℕ) → stepBy (cardAt card cs i) (getD cs i noCommand) .card ≡ cardAt card cs (i + 1)
+pub card-next : (card : Card) (cs : List Command) (i : ℕ) → outcomeBy (cardAt card cs i) (getD cs i noCommand) .card ≡ cardAt card cs (i + 1)
 card-next = F.state-next cardBy numberBy noCommand
 
 pub list-next : (card : Card) (cs : List Command) (ys : List ℕ) (i : ℕ) → storedBy (cardAt card cs i) (getD cs i noCommand) i (listAt card cs ys i) ≡ listAt card cs ys (i + 1)

@@ -8,7 +8,7 @@ use Rattle.circuits.specs.declared.answers.Answer.the-variants as A
 use Rattle.circuits.specs.declared.card.Card.{Card}
 use Rattle.circuits.specs.declared.card.CardOutcome.{CardOutcome}
 use Rattle.circuits.specs.Answers.{answerNumber}
-use Rattle.circuits.specs.Calls.{Call, stepOf}
+use Rattle.circuits.specs.Calls.{Call, outcomeOf}
 use Rattle.circuits.specs.Calls.Call.{AddSlot, Claim, Release, RemoveSlot}
 use Rattle.orders.specs.declared.commands.Command.{Command}
 use Rattle.orders.specs.declared.commands.Kind as K
@@ -22,18 +22,18 @@ callBy K.Kind.Remove i = RemoveSlot i
 callBy K.Kind.Claim i = Claim i
 callBy K.Kind.Release i = Release i
 
-unfoldable pub stepBy : Card → Command → CardOutcome
-stepBy card c = stepOf card (c .group) (callBy (c .kind) (c .slot))
+unfoldable pub outcomeBy : Card → Command → CardOutcome
+outcomeBy card c = outcomeOf card (c .group) (callBy (c .kind) (c .slot))
 
 abbrev pub numberBy : Card → Command → ℕ
-numberBy card c = answerNumber (stepBy card c .answer)
+numberBy card c = answerNumber (outcomeBy card c .answer)
 
 -- the number of command i in its place
 abbrev pub storedBy : Card → Command → ℕ → List ℕ → List ℕ
 storedBy card c i ys = set ys i (numberBy card c)
 
 abbrev pub cardBy : Card → Command → Card
-cardBy card c = stepBy card c .card
+cardBy card c = outcomeBy card c .card
 
 -- 'State and answers equal those of calling one by one in that order, refusals included. A list of no commands changes nothing.'
 abbrev pub ordersOf : Card → List Command → Folded Card

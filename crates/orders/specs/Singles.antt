@@ -7,7 +7,7 @@ use lib.ListN.{getD, length, take}
 use Rattle.ground.specs.Table.{tabulate}
 use Rattle.circuits.specs.declared.card.Card.{Card}
 use Rattle.circuits.specs.Answers.{answerNumber}
-use Rattle.circuits.specs.Calls.{stepOf}
+use Rattle.circuits.specs.Calls.{outcomeOf}
 use Rattle.circuits.specs.Views.{Made, run}
 use Rattle.circuits.specs.Views.Asked.{Do}
 use Rattle.orders.specs.declared.commands.Command.{Command}
@@ -28,7 +28,7 @@ noCommand = record { kind = Add; group = 0; slot = 0 }
 
 -- the number that a single call is answered
 abbrev pub singleNumber : Card → Command → ℕ
-singleNumber card c = answerNumber (stepOf card (c .group) (callBy (c .kind) (c .slot)) .answer)
+singleNumber card c = answerNumber (outcomeOf card (c .group) (callBy (c .kind) (c .slot)) .answer)
 
 -- what the single calls are answered, each on the card that those before it left
 abbrev pub singleNumbers : Card → List Command → List ℕ

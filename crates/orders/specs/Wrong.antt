@@ -12,12 +12,12 @@ use Rattle.sender.specs.Table.{membersOf, sizeOf}
 use Rattle.circuits.specs.declared.card.Card.{Card}
 use Rattle.circuits.specs.Commands.{claimOf, commandOf, releaseOf, startOf}
 use Rattle.circuits.specs.Owners.{withOwner}
-use Rattle.circuits.specs.Parts.{isSlot, isUsed, marked, owns, senderOf, stepped, withSender}
+use Rattle.circuits.specs.Parts.{groupOutcome, isSlot, isUsed, marked, owns, senderOf, withSender}
 use Rattle.circuits.specs.Shown.{after}
 use Rattle.orders.specs.declared.commands.Command.{Command}
 use Rattle.orders.specs.declared.commands.Kind as K
 use Rattle.orders.specs.Folding.{Folded}
-use Rattle.orders.specs.Orders.{numberBy, ordersOf, stepBy}
+use Rattle.orders.specs.Orders.{numberBy, ordersOf, outcomeBy}
 use Rattle.orders.specs.Shown.{add, claim, release, remove}
 
 -- two slots, nobody's
@@ -27,7 +27,7 @@ fresh = after 2 []
 -- Stops at the first refusal, and answers 255 from there on. 'refusals included': what comes after a refusal is done.
 wrong-stops : Card → List Command → List ℕ
 wrong-stops card [] = []
-wrong-stops card (c ∷ cs) = numberBy card c ∷ cond (eqb (numberBy card c) 0) (wrong-stops (stepBy card c .card) cs) (untried cs)
+wrong-stops card (c ∷ cs) = numberBy card c ∷ cond (eqb (numberBy card c) 0) (wrong-stops (outcomeBy card c .card) cs) (untried cs)
   where
     untried : List Command → List ℕ
     untried [] = []
@@ -36,7 +36,7 @@ wrong-stops card (c ∷ cs) = numberBy card c ∷ cond (eqb (numberBy card c) 0)
 stops-breaks :
     (wrong-stops fresh (add 0 0 ∷ claim 0 0 ∷ add 0 0 ∷ []) ≡ 14 ∷ 255 ∷ 255 ∷ [])
     × (ordersOf fresh (add 0 0 ∷ claim 0 0 ∷ add 0 0 ∷ []) .numbers ≡ 14 ∷ 0 ∷ 0 ∷ [])
-unfolding wrong-stops stepBy withOwner senderOf withSender isSlot owns marked stepped startOf claimOf commandOf beginOf freshSender T.startOf freshOf idleSlot idleNumber addOf addedTo sizeOf membersOf
+unfolding wrong-stops outcomeBy withOwner senderOf withSender isSlot owns marked groupOutcome startOf claimOf commandOf beginOf freshSender T.startOf freshOf idleSlot idleNumber addOf addedTo sizeOf membersOf
 stops-breaks = (refl, refl)
 
 -- Judges each command on the card as it was given. 'calling one by one in that order': an add sees the claim before it.
@@ -47,7 +47,7 @@ wrong-judges card (c ∷ cs) = numberBy card c ∷ wrong-judges card cs
 judges-breaks :
     (wrong-judges fresh (claim 0 0 ∷ add 0 0 ∷ claim 1 0 ∷ []) ≡ 0 ∷ 14 ∷ 0 ∷ [])
     × (ordersOf fresh (claim 0 0 ∷ add 0 0 ∷ claim 1 0 ∷ []) .numbers ≡ 0 ∷ 0 ∷ 14 ∷ [])
-unfolding wrong-judges stepBy withOwner senderOf withSender isSlot owns marked stepped startOf claimOf commandOf beginOf freshSender T.startOf freshOf idleSlot idleNumber addOf addedTo sizeOf membersOf
+unfolding wrong-judges outcomeBy withOwner senderOf withSender isSlot owns marked groupOutcome startOf claimOf commandOf beginOf freshSender T.startOf freshOf idleSlot idleNumber addOf addedTo sizeOf membersOf
 judges-breaks = (refl, refl)
 
 -- All or nothing: with one refusal the card stays as it was given. One claim is refused here, and the other slot is owned all the same.
@@ -61,7 +61,7 @@ wrong-whole card cs = cond (all-done (ordersOf card cs .numbers)) (ordersOf card
 whole-breaks :
     (owns (wrong-whole fresh (claim 0 0 ∷ claim 0 0 ∷ [])) 0 0 ≡ false)
     × (owns (ordersOf fresh (claim 0 0 ∷ claim 0 0 ∷ []) .state) 0 0 ≡ true)
-unfolding wrong-whole all-done stepBy withOwner senderOf isSlot owns marked startOf claimOf beginOf freshSender T.startOf freshOf idleSlot idleNumber sizeOf
+unfolding wrong-whole all-done outcomeBy withOwner senderOf isSlot owns marked startOf claimOf beginOf freshSender T.startOf freshOf idleSlot idleNumber sizeOf
 whole-breaks = (refl, refl)
 
 -- Takes the commands by kind, claims first and removes last, as if to help. 'in that order': here the add comes before its claim, and is refused.
@@ -99,10 +99,10 @@ wrong-groups card cs = ordersOf card (of-kind is-claim cs ++ (of-kind is-add cs 
 groups-breaks :
     (wrong-groups fresh (add 0 0 ∷ claim 0 0 ∷ []) .numbers ≡ 0 ∷ 0 ∷ [])
     × (ordersOf fresh (add 0 0 ∷ claim 0 0 ∷ []) .numbers ≡ 14 ∷ 0 ∷ [])
-unfolding wrong-groups of-kind is-claim is-add is-remove is-release stepBy withOwner senderOf withSender isSlot owns marked stepped startOf claimOf commandOf beginOf freshSender T.startOf freshOf idleSlot idleNumber addOf addedTo sizeOf membersOf
+unfolding wrong-groups of-kind is-claim is-add is-remove is-release outcomeBy withOwner senderOf withSender isSlot owns marked groupOutcome startOf claimOf commandOf beginOf freshSender T.startOf freshOf idleSlot idleNumber addOf addedTo sizeOf membersOf
 groups-breaks = (refl, refl)
 
 -- Beside them the trap, which is no wrong reading: a remove opens the group's wait, and what follows of that group is answered 3. Nothing is sorted or put off for it.
 trap : ordersOf (after 2 []) (claim 0 0 ∷ claim 0 1 ∷ add 0 0 ∷ remove 0 0 ∷ add 0 1 ∷ remove 0 0 ∷ release 0 0 ∷ []) .numbers ≡ 0 ∷ 0 ∷ 0 ∷ 0 ∷ 3 ∷ 3 ∷ 0 ∷ []
-unfolding stepBy withOwner senderOf withSender isSlot owns isUsed marked stepped startOf claimOf releaseOf commandOf beginOf freshSender T.startOf freshOf idleSlot idleNumber addOf addedTo removeOf removedFrom fallen fallenIn sizeOf membersOf
+unfolding outcomeBy withOwner senderOf withSender isSlot owns isUsed marked groupOutcome startOf claimOf releaseOf commandOf beginOf freshSender T.startOf freshOf idleSlot idleNumber addOf addedTo removeOf removedFrom fallen fallenIn sizeOf membersOf
 trap = refl

@@ -4,7 +4,7 @@ use circuits::CardOutcome;
 ghost use mathlib.Core.Path.{_≡_};
 ghost use Prim.Native.Nat.{_<_};
 ghost use lib.ListN.{length};
-ghost use Rattle.orders.specs.Orders.{stepBy, storedBy};
+ghost use Rattle.orders.specs.Orders.{outcomeBy, storedBy};
 
 pub enum Kind {
     Add,
@@ -19,8 +19,8 @@ pub struct Command {
     pub slot: u32,
 }
 
-fn step(card: Card, command: Command) -> CardOutcome
-    ensures { λ r. ⌜ r ≡ stepBy card command ⌝ }
+fn outcome_of(card: Card, command: Command) -> CardOutcome
+    ensures { λ r. ⌜ r ≡ outcomeBy card command ⌝ }
 {
     let kind = command.kind;
     let group = command.group;
@@ -36,9 +36,9 @@ fn step(card: Card, command: Command) -> CardOutcome
 // The card that one command leaves; its number stands in the list of answers.
 pub(crate) fn one(card: Card, command: Command, i: usize, answers: &mut [u8]) -> Card
     requires { ⌜ i < length (now answers) ⌝ }
-    ensures { λ r. ⌜ (r ≡ stepBy card command .card) × (now (answers .exit) ≡ storedBy card command i (now (answers .entry))) ⌝ }
+    ensures { λ r. ⌜ (r ≡ outcomeBy card command .card) × (now (answers .exit) ≡ storedBy card command i (now (answers .entry))) ⌝ }
 {
-    let done = step(card, command);
+    let done = outcome_of(card, command);
     let answer = done.answer;
     answers[i] = answer.number();
     done.card

@@ -7,7 +7,7 @@ use lib.Bits.{bitXor}
 use lib.ListN.{length, getD, take}
 use Rattle.packet.specs.Crc.{crcOf}
 use Rattle.packet.specs.Laws.Bytes.{byte-back}
-use Rattle.packet.specs.Layout.{byteOf, carriedIn, fieldsOf, reservedOf}
+use Rattle.packet.specs.Layout.{byteOf, carriedIn, fieldsOf}
 use Rattle.packet.specs.Reading.{readNibbles}
 use Rattle.packet.specs.Shares.{byteAt, halvesOf, shareOf}
 use Rattle.packet.proofs.Joining.{seven}

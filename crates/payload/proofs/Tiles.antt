@@ -12,16 +12,16 @@ tileLines P from c = min (c - from) (P - min from (P - 8))
 -- eight lines from e on meet those drawn, n from l on, and make them m
 pub record Meets (l n e m : ℕ) : Type 0 where
   pub after : l ≤ e
-  pub meets : e ≤ l + n
+  pub reaches : e ≤ l + n
   pub covers : l + n ≤ e + 8
   pub ends : e + 8 ≡ l + m
 
 -- a tile that starts with eight lines or more left, and one that does not
 next-early : (P from c e : ℕ) → from + 8 ≤ P → from ≤ c → c < P → e ≡ min c (P - 8) → Meets from (min (c - from) (P - from)) e (min (c + 8 - from) (P - from))
-next-early P from c e h hf hc is = record { after = omega arith; meets = omega arith; covers = omega arith; ends = omega arith }
+next-early P from c e h hf hc is = record { after = omega arith; reaches = omega arith; covers = omega arith; ends = omega arith }
 
 next-late : (l P from c e : ℕ) → P ≡ l + 8 → l < from → from ≤ c → e ≡ l → Meets l (min (c - from) (P - l)) e (min (c + 8 - from) (P - l))
-next-late l P from c e h hl hf is = record { after = omega arith; meets = omega arith; covers = omega arith; ends = omega arith }
+next-late l P from c e h hl hf is = record { after = omega arith; reaches = omega arith; covers = omega arith; ends = omega arith }
 
 pub tile-next : (P from c e : ℕ) → 8 ≤ P → from ≤ c → c < P → e ≡ min c (P - 8) → Meets (min from (P - 8)) (tileLines P from c) e (tileLines P from (c + 8))
 tile-next P from c e hP hf hc is =

@@ -1,4 +1,4 @@
--- A block of eight words turned: each step by its bytes, and the three together.
+-- A block of eight words turned: each exchange by its bytes, and the three together.
 use mathlib.Core.Path.{_≡_, refl, sym, ap, _∙_}
 use mathlib.Core.Bool.{Bool, true, false, cond}
 use mathlib.Core.List.{List, [], _∷_}
@@ -10,7 +10,7 @@ use lib.Dec.{eqb}
 use lib.ListN.{getD}
 use borrow.Author.Tests.{eqb-true}
 use Rattle.ground.specs.Table.{tabulate, getD-tabulate}
-use Rattle.payload.specs.Inner.Words.{byteOf, wordOf, evens, odds, step}
+use Rattle.payload.specs.Inner.Words.{byteOf, wordOf, evens, odds, exchanged}
 use Rattle.payload.proofs.Words.{eight, byte-of-word}
 
 pub byte-lt : (w i : ℕ) → byteOf w i < 256
@@ -21,7 +21,7 @@ either-lt : (b : Bool) (m n : ℕ) → m < 256 → n < 256 → cond b m n < 256
 either-lt true m n hm hn = hm
 either-lt false m n hm hn = hn
 
--- a word made of a step's bytes has these bytes
+-- a word made of an exchange's bytes has these bytes
 evens-bytes : (k a b w : ℕ) → w ≡ wordOf (evens k (byteOf a) (byteOf b)) → (i : ℕ) → i < 8 → byteOf w i ≡ evens k (byteOf a) (byteOf b) i
 evens-bytes k a b w e i l =
     rw e
@@ -63,7 +63,7 @@ bytes-apart : (w : ℕ) → w % 0x100 + w / 0x10000 % 0x100 * 0x10000 + w / 0x10
 unfolding byteOf
 bytes-apart w = rw (div-one w)
 
--- the steps, as the code computes them
+-- the exchanges, as the code computes them
 module _ (a b : ℕ) where
   pub even-halves : (i : ℕ) → i < 8 → byteOf (a % 0x100000000 + b % 0x100000000 * 0x100000000) i ≡ evens 4 (byteOf a) (byteOf b) i
   even-halves = evens-bytes 4 a b _ (rw (half a, half b) (omega arith))
@@ -127,14 +127,14 @@ module _ (a b : ℕ) where
         (omega arith))
 
 -- eight words by their bytes
-pub eight-words : (k : ℕ) (q : ℕ → ℕ → ℕ) (a b c d e f g h : ℕ) → ((i : ℕ) → i < 8 → byteOf a i ≡ step k q 0 i) → ((i : ℕ) → i < 8 → byteOf b i ≡ step k q 1 i)
-    → ((i : ℕ) → i < 8 → byteOf c i ≡ step k q 2 i) → ((i : ℕ) → i < 8 → byteOf d i ≡ step k q 3 i) → ((i : ℕ) → i < 8 → byteOf e i ≡ step k q 4 i)
-    → ((i : ℕ) → i < 8 → byteOf f i ≡ step k q 5 i) → ((i : ℕ) → i < 8 → byteOf g i ≡ step k q 6 i) → ((i : ℕ) → i < 8 → byteOf h i ≡ step k q 7 i)
-    → (l i : ℕ) → l < 8 → i < 8 → byteOf (getD (a ∷ b ∷ c ∷ d ∷ e ∷ f ∷ g ∷ h ∷ []) l 0) i ≡ step k q l i
+pub eight-words : (k : ℕ) (q : ℕ → ℕ → ℕ) (a b c d e f g h : ℕ) → ((i : ℕ) → i < 8 → byteOf a i ≡ exchanged k q 0 i) → ((i : ℕ) → i < 8 → byteOf b i ≡ exchanged k q 1 i)
+    → ((i : ℕ) → i < 8 → byteOf c i ≡ exchanged k q 2 i) → ((i : ℕ) → i < 8 → byteOf d i ≡ exchanged k q 3 i) → ((i : ℕ) → i < 8 → byteOf e i ≡ exchanged k q 4 i)
+    → ((i : ℕ) → i < 8 → byteOf f i ≡ exchanged k q 5 i) → ((i : ℕ) → i < 8 → byteOf g i ≡ exchanged k q 6 i) → ((i : ℕ) → i < 8 → byteOf h i ≡ exchanged k q 7 i)
+    → (l i : ℕ) → l < 8 → i < 8 → byteOf (getD (a ∷ b ∷ c ∷ d ∷ e ∷ f ∷ g ∷ h ∷ []) l 0) i ≡ exchanged k q l i
 eight-words k q a b c d e f g h ea eb ec ed ee ef eg eh l i hl hi =
-    eight (λ m. (j : ℕ) → j < 8 → byteOf (getD (a ∷ b ∷ c ∷ d ∷ e ∷ f ∷ g ∷ h ∷ []) m 0) j ≡ step k q m j) ea eb ec ed ee ef eg eh l hl i hi
+    eight (λ m. (j : ℕ) → j < 8 → byteOf (getD (a ∷ b ∷ c ∷ d ∷ e ∷ f ∷ g ∷ h ∷ []) m 0) j ≡ exchanged k q m j) ea eb ec ed ee ef eg eh l hl i hi
 
--- What a step reads lies in the block: the run of k bytes, or of k words, to which a place belongs has its neighbour there.
+-- What an exchange reads lies in the block: the run of k bytes, or of k words, to which a place belongs has its neighbour there.
 record Inside (k : ℕ) : Type 0 where
   up : (l : ℕ) → l < 8 → l / k % 2 ≡ 0 → l + k < 8
 
@@ -144,11 +144,11 @@ inside-2 = record { up = λ l h e. omega arith }
 inside-1 : Inside 1
 inside-1 = record { up = λ l h e. omega arith }
 
--- blocks that agree have steps that agree
-step-ext : (k : ℕ) → Inside k → (p q : ℕ → ℕ → ℕ) → ((l i : ℕ) → l < 8 → i < 8 → p l i ≡ q l i) → (l i : ℕ) → l < 8 → i < 8 → step k p l i ≡ step k q l i
-step-ext k n p q same l i hl hi = go (eqb (l / k % 2) 0) refl (eqb (i / k % 2) 0) refl
+-- blocks that agree are exchanged alike
+exchanged-ext : (k : ℕ) → Inside k → (p q : ℕ → ℕ → ℕ) → ((l i : ℕ) → l < 8 → i < 8 → p l i ≡ q l i) → (l i : ℕ) → l < 8 → i < 8 → exchanged k p l i ≡ exchanged k q l i
+exchanged-ext k n p q same l i hl hi = go (eqb (l / k % 2) 0) refl (eqb (i / k % 2) 0) refl
   where
-    go : (b : Bool) → eqb (l / k % 2) 0 ≡ b → (d : Bool) → eqb (i / k % 2) 0 ≡ d → step k p l i ≡ step k q l i
+    go : (b : Bool) → eqb (l / k % 2) 0 ≡ b → (d : Bool) → eqb (i / k % 2) 0 ≡ d → exchanged k p l i ≡ exchanged k q l i
     go true e true f = rw (e, f) (same l i hl hi)
     go true e false f = rw (e, f) (same (l + k) (i - k) (n .up l hl (eqb-true (l / k % 2) 0 e)) (omega arith))
     go false e true f = rw (e, f) (same (l - k) (i + k) (omega arith) (n .up i hi (eqb-true (i / k % 2) 0 f)))
@@ -161,16 +161,16 @@ from-table : (q : ℕ → ℕ → ℕ) (l i : ℕ) → l < 8 → i < 8 → getD 
 unfolding table
 from-table q l i hl hi = rw (getD-tabulate 8 (λ m. tabulate 8 (λ j. q m j)) l [] hl) (getD-tabulate 8 (λ j. q l j) i 0 hi)
 
-turned-table : (q : ℕ → ℕ → ℕ) → table (step 1 (step 2 (step 4 q))) ≡ table (λ l i. q i l)
+turned-table : (q : ℕ → ℕ → ℕ) → table (exchanged 1 (exchanged 2 (exchanged 4 q))) ≡ table (λ l i. q i l)
 unfolding table
 turned-table q = refl
 
--- the three steps turn a block
-pub three-steps : (q a b r : ℕ → ℕ → ℕ) → ((l i : ℕ) → l < 8 → i < 8 → a l i ≡ step 4 q l i) → ((l i : ℕ) → l < 8 → i < 8 → b l i ≡ step 2 a l i)
-    → ((l i : ℕ) → l < 8 → i < 8 → r l i ≡ step 1 b l i) → (l i : ℕ) → l < 8 → i < 8 → r l i ≡ q i l
-three-steps q a b r ha hb hr l i hl hi =
+-- the three exchanges turn a block
+pub three-exchanges : (q a b r : ℕ → ℕ → ℕ) → ((l i : ℕ) → l < 8 → i < 8 → a l i ≡ exchanged 4 q l i) → ((l i : ℕ) → l < 8 → i < 8 → b l i ≡ exchanged 2 a l i)
+    → ((l i : ℕ) → l < 8 → i < 8 → r l i ≡ exchanged 1 b l i) → (l i : ℕ) → l < 8 → i < 8 → r l i ≡ q i l
+three-exchanges q a b r ha hb hr l i hl hi =
     hr l i hl hi
-    ∙ step-ext 1 inside-1 b (step 2 (step 4 q)) (λ m j hm hj. hb m j hm hj ∙ step-ext 2 inside-2 a (step 4 q) ha m j hm hj) l i hl hi
-    ∙ sym (from-table (step 1 (step 2 (step 4 q))) l i hl hi)
+    ∙ exchanged-ext 1 inside-1 b (exchanged 2 (exchanged 4 q)) (λ m j hm hj. hb m j hm hj ∙ exchanged-ext 2 inside-2 a (exchanged 4 q) ha m j hm hj) l i hl hi
+    ∙ sym (from-table (exchanged 1 (exchanged 2 (exchanged 4 q))) l i hl hi)
     ∙ ap (λ (t : List (List ℕ)). getD (getD t l []) i 0) (turned-table q)
     ∙ from-table (λ m j. q j m) l i hl hi

@@ -21,10 +21,10 @@ fn by_bytes(from: &[u8], at: usize, n: usize, place: usize, to: &mut [u8])
 }
 
 // An array for a run to go through, of which only the length is known.
-fn blank() -> [u8; 2340]
+fn blank() -> [u8; PAYLOAD_MOST]
     ensures { λ r. ⌜ length r ≡ PAYLOAD-MOST ⌝ }
 {
-    [0; 2340]
+    [0; PAYLOAD_MOST]
 }
 
 fn at_once(from: &[u8], at: usize, n: usize, place: usize, to: &mut [u8])

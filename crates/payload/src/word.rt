@@ -3,7 +3,7 @@ ghost use mathlib.Core.Path.{_≡_};
 ghost use Prim.Native.Nat.{ℕ, _+_, _*_, _/_, _%_, _≤_, _<_};
 ghost use lib.ListN.{length, getD};
 ghost use Rattle.ground.specs.Drawn.{fillAt};
-ghost use Rattle.payload.specs.Inner.Words.{byteOf, wordOf, evens, odds, step};
+ghost use Rattle.payload.specs.Inner.Words.{byteOf, wordOf, evens, odds, exchanged};
 
 fn wide(b: u8) -> u64
     ensures { λ r. ⌜ (r ≡ b) × (r < 256) ⌝ }
@@ -62,7 +62,7 @@ pub(crate) fn write(w: u64, at: usize, to: &mut [u8])
     to[at + 7] = low(w / 0x100000000000000);
 }
 
-// The three steps by which a block is turned. Of two words: the even halves, pairs or bytes of both, and the odd ones.
+// The three exchanges by which a block is turned. Of two words: the even halves, pairs or bytes of both, and the odd ones.
 fn even_halves(a: u64, b: u64) -> u64
     ensures { λ r. ⌜ ((i : ℕ) → i < 8 → byteOf r i ≡ evens 4 (byteOf a) (byteOf b) i) ⌝ }
 {
@@ -116,7 +116,7 @@ fn odd_bytes(a: u64, b: u64) -> u64
 }
 
 fn by_halves(q: [u64; 8]) -> [u64; 8]
-    ensures { λ r. ⌜ ((l i : ℕ) → l < 8 → i < 8 → byteOf (getD r l 0) i ≡ step 4 (λ m. byteOf (getD q m 0)) l i) ⌝ }
+    ensures { λ r. ⌜ ((l i : ℕ) → l < 8 → i < 8 → byteOf (getD r l 0) i ≡ exchanged 4 (λ m. byteOf (getD q m 0)) l i) ⌝ }
 {
     [
         even_halves(q[0], q[4]),
@@ -131,7 +131,7 @@ fn by_halves(q: [u64; 8]) -> [u64; 8]
 }
 
 fn by_pairs(q: [u64; 8]) -> [u64; 8]
-    ensures { λ r. ⌜ ((l i : ℕ) → l < 8 → i < 8 → byteOf (getD r l 0) i ≡ step 2 (λ m. byteOf (getD q m 0)) l i) ⌝ }
+    ensures { λ r. ⌜ ((l i : ℕ) → l < 8 → i < 8 → byteOf (getD r l 0) i ≡ exchanged 2 (λ m. byteOf (getD q m 0)) l i) ⌝ }
 {
     [
         even_pairs(q[0], q[2]),
@@ -146,7 +146,7 @@ fn by_pairs(q: [u64; 8]) -> [u64; 8]
 }
 
 fn by_bytes(q: [u64; 8]) -> [u64; 8]
-    ensures { λ r. ⌜ ((l i : ℕ) → l < 8 → i < 8 → byteOf (getD r l 0) i ≡ step 1 (λ m. byteOf (getD q m 0)) l i) ⌝ }
+    ensures { λ r. ⌜ ((l i : ℕ) → l < 8 → i < 8 → byteOf (getD r l 0) i ≡ exchanged 1 (λ m. byteOf (getD q m 0)) l i) ⌝ }
 {
     [
         even_bytes(q[0], q[1]),

@@ -50,7 +50,7 @@ notedBy m whole r =
       «told_number» = m .«told_number»;
       «hold_off» = m .«hold_off»;
       restore = m .restore;
-      run = m .run;
+      elapsed = m .elapsed;
     }
 
 unfoldable pub passedPort : Group → List ℕ → ℕ → List (List ℕ) → List (List ℕ)

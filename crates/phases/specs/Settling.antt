@@ -57,7 +57,7 @@ beginBy g n s = cond (not (flagOf (g .begun)) && begins g s n) (begunOf g n s) s
 unfoldable pub gatherBy : Group → List ℕ → ℕ → List (List ℕ) → List (List ℕ)
 gatherBy g store n s = cond (flagOf (g .begun) && not (flagOf (g .gathered)) && brought g s n) (passedOf g store n s) s
 
--- each step on the state that the one before left
+-- each on the state that the one before left
 unfoldable pub settledOf : ℕ → List ℕ → List (List ℕ) → List (List ℕ)
 settledOf n store s =
     let a = stopBy (groupAt s) n s in

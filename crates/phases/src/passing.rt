@@ -70,7 +70,7 @@ fn noted_by(m: Member, whole: bool, r: Ruling) -> Member
         told_number: m.told_number,
         hold_off: m.hold_off,
         restore: m.restore,
-        run: m.run,
+        elapsed: m.elapsed,
     }
 }
 

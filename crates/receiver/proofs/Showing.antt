@@ -9,7 +9,7 @@ use Rattle.ground.specs.Flags.{oneIf}
 use Rattle.judge.specs.Seen.{sizeOf}
 use Rattle.phases.specs.Sizes.{portsIn}
 use Rattle.receiver.specs.Report.{replyPorts}
-use Rattle.receiver.specs.Shown.{portIn, portsAnswer, portsOut, replyAnswer, replyFit, replyOf, replyOut, shownFit, toldBy}
+use Rattle.receiver.specs.Shown.{portIn, portsAnswer, portsOut, replyAnswer, replyByte, replyFit, replyOf, replyOut, shownFit}
 use Rattle.reply.specs.declared.members.Port.{Port}
 use Rattle.reply.specs.Telling.{mstOf}
 use Rattle.rows.specs.declared.group.Group.{Group}
@@ -38,6 +38,6 @@ module _ (s : List (List ℕ)) (g : Group) (n : ℕ) (fit : Bool) (eg : g ≡ gr
     reply-unfit e = rw (← same-reply, e) (refl, refl)
 
     pub reply-shown : (all : List Port) (mst : ℕ) (set : Bool) (ack one other : ℕ) (left : List ℕ) → fit ≡ true → all ≡ replyPorts g s n → mst ≡ mstOf (g .kind) all (sizeOf n) epoch
-        → set ≡ flagOf (g .«rs_ack») → ack ≡ oneIf set → one ≡ toldBy (g .kind) mst → other ≡ toldBy (g .kind) ack → left ≡ one ∷ other ∷ [] → (0 ≡ replyAnswer s (length out)) × (left ≡ replyOut s epoch out)
+        → set ≡ flagOf (g .«rs_ack») → ack ≡ oneIf set → one ≡ replyByte (g .kind) mst → other ≡ replyByte (g .kind) ack → left ≡ one ∷ other ∷ [] → (0 ≡ replyAnswer s (length out)) × (left ≡ replyOut s epoch out)
     unfolding replyAnswer replyOut replyOf
     reply-shown all mst set ack one other left e ea em es ek eo et el = rw (← same-reply, e, ← eg, ← en, ← ea, ← em, ← es, ← ek, ← eo, ← et) (refl, el)

@@ -95,7 +95,7 @@ replyPort g s i =
       readable = readable g (stepAt s i);
       «hold_off» = m .«hold_off»;
       restore = m .restore;
-      run = m .run;
+      elapsed = m .elapsed;
     }
 
 abbrev pub noPort : Port
@@ -110,7 +110,7 @@ noPort =
       readable = false;
       «hold_off» = 0;
       restore = 0;
-      run = 0;
+      elapsed = 0;
     }
 
 unfoldable pub replyPorts : Group → List (List ℕ) → ℕ → List Port
@@ -129,7 +129,7 @@ withState m left =
       «told_number» = m .number;
       «hold_off» = m .«hold_off»;
       restore = m .restore;
-      run = left .run;
+      elapsed = left .elapsed;
     }
 
 unfoldable pub statePut : List Standing → ℕ → List (List ℕ) → List (List ℕ)

@@ -27,7 +27,7 @@ shownNumber kind m = cond (eqb (m .state) idleState) (idleNumber kind) (m .«sta
 
 -- which timer runs: 0 none, 1 hold-off, 2 restoring (02, 2026-03)
 abbrev pub waitingByte : Member → ℕ
-waitingByte m = cond (eqb (m .run) 0) 0 (cond (eqb (m .state) okState) 1 (cond (eqb (m .state) failState) 2 0))
+waitingByte m = cond (eqb (m .elapsed) 0) 0 (cond (eqb (m .state) okState) 1 (cond (eqb (m .state) failState) 2 0))
 
 -- eight bytes a port: state, number, in step, joined, readable, flagged failed, the last good word, waiting
 unfoldable pub portShown : Group → Step → Member → List ℕ
@@ -58,14 +58,14 @@ portsOut s out =
     out
 
 -- Of a fixed group 'there is no DNU, EOS, GID rule or reply' (request 2026-12): what is read is what an end without LCAS sends back.
-abbrev pub toldBy : ℕ → ℕ → ℕ
-toldBy kind byte = cond (eqb kind fixedKind) 0 byte
+abbrev pub replyByte : ℕ → ℕ → ℕ
+replyByte kind byte = cond (eqb kind fixedKind) 0 byte
 
 -- 'MST for q is 0 exactly if an OK port holds q', of the numbers that the epoch speaks of; and RS-Ack beside it
 unfoldable pub replyOf : List (List ℕ) → ℕ → List ℕ
 replyOf s e =
     let g = groupAt s in
-    toldBy (g .kind) (mstOf (g .kind) (replyPorts g s (portsIn g)) (sizeOf (portsIn g)) e) ∷ toldBy (g .kind) (oneIf (flagOf (g .«rs_ack»))) ∷ []
+    replyByte (g .kind) (mstOf (g .kind) (replyPorts g s (portsIn g)) (sizeOf (portsIn g)) e) ∷ replyByte (g .kind) (oneIf (flagOf (g .«rs_ack»))) ∷ []
 
 unfoldable pub replyFit : ℕ → ℕ → ℕ → Bool
 replyFit n rows out = rowsFit n rows && eqb out 2

@@ -74,7 +74,7 @@ freshMember kind hold restore =
       «told_number» = idleNumber kind;
       «hold_off» = hold;
       restore = restore;
-      run = 0;
+      elapsed = 0;
     }
 
 abbrev pub zeroRow : List ℕ

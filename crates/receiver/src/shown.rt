@@ -13,7 +13,7 @@ ghost use mathlib.Core.List.{[], _∷_};
 ghost use Prim.Native.Nat.{_≤_};
 ghost use lib.ListN.{length};
 ghost use Rattle.counting.specs.Each.{each};
-ghost use Rattle.receiver.specs.Shown.{portIn, portShown, portsAnswer, portsOut, replyAnswer, replyFit, replyOut, shownFit, shownNumber, toldBy, waitingByte};
+ghost use Rattle.receiver.specs.Shown.{portIn, portShown, portsAnswer, portsOut, replyAnswer, replyByte, replyFit, replyOut, shownFit, shownNumber, waitingByte};
 
 fn shown_number(kind: u8, member: Member) -> u8
     ensures { λ r. ⌜ r ≡ shownNumber kind member ⌝ }
@@ -28,7 +28,7 @@ fn shown_number(kind: u8, member: Member) -> u8
 fn waiting_byte(member: Member) -> u8
     ensures { λ r. ⌜ r ≡ waitingByte member ⌝ }
 {
-    if member.run == 0 {
+    if member.elapsed == 0 {
         return 0;
     }
     if member.state == Port::OK {
@@ -111,8 +111,8 @@ fn put_reply(mst: u8, ack: u8, out: &mut [u8])
 }
 
 // Nothing is told to the far end of a fixed group: what is read is what an end without LCAS sends back.
-fn told_by(kind: u8, byte: u8) -> u8
-    ensures { λ r. ⌜ r ≡ toldBy kind byte ⌝ }
+fn reply_byte(kind: u8, byte: u8) -> u8
+    ensures { λ r. ⌜ r ≡ replyByte kind byte ⌝ }
 {
     if kind == kinds::FIXED { 0 } else { byte }
 }
@@ -130,6 +130,10 @@ pub fn reply(state: &[[u8; 16]], epoch: u8, out: &mut [u8]) -> u8
     let all = states::reply_ports(group, state, count);
     let mst = reply::mst(group.kind, all, count, epoch);
     let ack = ground::one_if(flags::is_set(group.rs_ack));
-    put_reply(told_by(group.kind, mst), told_by(group.kind, ack), out);
+    put_reply(
+        reply_byte(group.kind, mst),
+        reply_byte(group.kind, ack),
+        out,
+    );
     answers::DONE
 }

@@ -63,7 +63,7 @@ fn fresh_member(kind: u8, hold_off: u16, restore: u16) -> Member
         told_number: none,
         hold_off,
         restore,
-        run: 0,
+        elapsed: 0,
     }
 }
 

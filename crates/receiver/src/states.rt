@@ -27,7 +27,7 @@ fn reply_port(group: Group, state: &[[u8; 16]], port: u8) -> Port
         readable,
         hold_off: member.hold_off,
         restore: member.restore,
-        run: member.run,
+        elapsed: member.elapsed,
     }
 }
 
@@ -44,7 +44,7 @@ fn no_port() -> Port
         readable: false,
         hold_off: 0,
         restore: 0,
-        run: 0,
+        elapsed: 0,
     }
 }
 
@@ -73,7 +73,7 @@ fn standing_at(states: [Standing; 64], port: u8) -> Standing
     Standing {
         state: Port::IDLE,
         number: 0,
-        run: 0,
+        elapsed: 0,
     }
 }
 
@@ -91,7 +91,7 @@ fn with_state(m: Member, left: Standing) -> Member
         told_number: m.number,
         hold_off: m.hold_off,
         restore: m.restore,
-        run: left.run,
+        elapsed: left.elapsed,
     }
 }
 

@@ -6,6 +6,9 @@ use replaying::Replay;
 ghost use Prim.Native.Nat.{_≤_};
 ghost use lib.ListN.{length};
 
+// Rows for 64 ports, the most that a recording can name: the group's own, and five to a port.
+const ROWS_MOST: usize = 321;
+
 struct Done {
     replay: Replay,
     used: usize,
@@ -199,7 +202,7 @@ fn run_all(replay: Replay, count: usize, rows: &mut [[u8; 16]], store: &mut [u8]
 }
 
 fn main() {
-    let mut rows = [[0u8; 16]; 321];
+    let mut rows = [[0u8; 16]; ROWS_MOST];
     let mut store = [0u8; 65536];
     let mut out = [0u8; 65536];
     let count = os::arg_count();

@@ -35,7 +35,7 @@ portAt ports i =
       readable = false;
       «hold_off» = 0;
       restore = 0;
-      run = 0;
+      elapsed = 0;
     })
 
 -- 'A port with no good packet yet, or whose last good word is IDLE, is IDLE.'
@@ -52,9 +52,9 @@ wasOk p = eqb (p .state) okState && eqb (p .«state_number») (p .number)
 
 -- 'A FAIL port goes OK only when its claim has stood for the wait-to-restore' (02, 2026-03): one that still waits
 abbrev pub isRestoring : Port → Bool
-isRestoring p = eqb (p .state) failState && ltb (p .run) (p .restore)
+isRestoring p = eqb (p .state) failState && ltb (p .elapsed) (p .restore)
 
 -- 'An OK port that loses its claim goes FAIL only when it has stayed so for the hold-off; one that turns IDLE does so at once' (02, 2026-03): one
 -- that has hold-off left
 abbrev pub hasHoldOff : Port → Bool
-hasHoldOff p = eqb (p .state) okState && ltb (p .run) (p .«hold_off») && ltb (p .«state_number») 64 && not (isIdle p)
+hasHoldOff p = eqb (p .state) okState && ltb (p .elapsed) (p .«hold_off») && ltb (p .«state_number») 64 && not (isIdle p)

@@ -1,5 +1,5 @@
 -- Waiting before crying failure (02, 2026-03): which numbers are held for ports that have lost their claim, and what a report leaves of each port.
-use mathlib.Core.Bool.{Bool, true, false, cond, not, _&&_, _||_}
+use mathlib.Core.Bool.{Bool, cond, not, _&&_, _||_}
 use mathlib.Core.List.{List}
 use Prim.Native.Nat.{ℕ, zero, suc, _+_}
 use lib.Dec.{eqb, ltb}
@@ -47,20 +47,20 @@ unfoldable pub chosenOf : List Port → ℕ → List ℕ
 chosenOf ports n = holders ports n (heldOf ports n)
 
 abbrev pub standing : ℕ → ℕ → ℕ → Standing
-standing state number run = record { state = state; number = number; run = run }
+standing state number elapsed = record { state = state; number = number; elapsed = elapsed }
 
 -- with its claim: 'A FAIL port goes OK only when its claim has stood for the wait-to-restore.'
 abbrev pub withClaim : Port → Standing
-withClaim p = cond (isRestoring p) (standing failState (p .number) (p .run + 1)) (standing okState (p .number) 0)
+withClaim p = cond (isRestoring p) (standing failState (p .number) (p .elapsed + 1)) (standing okState (p .number) 0)
 
 -- one that is held, under the number that it keeps
 abbrev pub keepsNumber : List ℕ → ℕ → Port → Bool
-keepsNumber chosen i p = eqb (p .state) okState && ltb (p .run) (p .«hold_off») && eqb (holderOf chosen (p .«state_number»)) i
+keepsNumber chosen i p = eqb (p .state) okState && ltb (p .elapsed) (p .«hold_off») && eqb (holderOf chosen (p .«state_number»)) i
 
--- without: 'An OK port that loses its claim goes FAIL only when it has stayed so for the hold-off.'
+-- without: 'An OK port that loses its claim goes FAIL only when it has stayed so for the hold-off'
 abbrev pub withoutClaim : List ℕ → ℕ → Port → Standing
 withoutClaim chosen i p =
-    cond (keepsNumber chosen i p) (standing okState (p .«state_number») (p .run + 1)) (standing failState (p .number) 0)
+    cond (keepsNumber chosen i p) (standing okState (p .«state_number») (p .elapsed + 1)) (standing failState (p .number) 0)
 
 -- 'one that turns IDLE does so at once'
 unfoldable pub standingBy : List ℕ → ℕ → Port → Standing

@@ -1,6 +1,6 @@
 -- Wrong readings of 01 and of 02, 2026-03, each as a definition with a run on which it breaks what they say.
 use mathlib.Core.Path.{_≡_, refl}
-use mathlib.Core.Bool.{Bool, true, false, cond, not, _&&_, _||_}
+use mathlib.Core.Bool.{Bool, true, false, cond, not, _&&_}
 use mathlib.Core.List.{List, [], _∷_}
 use Prim.Native.Nat.{ℕ, zero, suc, _+_, _-_, _%_}
 use lib.Dec.{eqb, leb, ltb}
@@ -11,7 +11,7 @@ use Rattle.packet.specs.Words.{ADD, IDLE, NORM}
 use Rattle.reply.specs.declared.members.Port.{Port}
 use Rattle.reply.specs.declared.waiting.Standing.{Standing}
 use Rattle.reply.specs.Choosing.{FREE, claims, grant, granted, holderOf, holders, noneHeld}
-use Rattle.reply.specs.Members.{failState, hasHoldOff, idleState, isCandidate, isIdle, noWord, okState, portAt}
+use Rattle.reply.specs.Members.{failState, hasHoldOff, idleState, isCandidate, okState, portAt}
 use Rattle.reply.specs.Theorems.States.{standingAt}
 use Rattle.reply.specs.Waiting.{chosenOf, hasClaim, heldOf, keepsNumber, moreHeld, rounds, someJoin, standing, standingBy, standingsOf, withClaim, withoutClaim}
 
@@ -28,7 +28,7 @@ port word number readable last hold restore =
       readable = readable;
       «hold_off» = hold;
       restore = restore;
-      run = last .run;
+      elapsed = last .elapsed;
     }
 
 -- what is left of the n ports by a table of holders, and by the definition
@@ -104,11 +104,11 @@ swap-breaks = (refl, refl)
 
 -- a port alone, OK under 0 with hold-off 2, that is not readable, with its counter
 lost : ℕ → List Port
-lost run = port NORM 0 false (standing okState 0 run) 2 0 ∷ []
+lost elapsed = port NORM 0 false (standing okState 0 elapsed) 2 0 ∷ []
 
 -- the hold-off over one report late
 wrong-late : Port → Standing
-wrong-late p = cond (leb (p .run) (p .«hold_off»)) (standing okState (p .«state_number») (p .run + 1)) (standing failState (p .number) 0)
+wrong-late p = cond (leb (p .elapsed) (p .«hold_off»)) (standing okState (p .«state_number») (p .elapsed + 1)) (standing failState (p .number) 0)
 
 late-breaks : (wrong-late (portAt (lost 2) 0) ≡ standing okState 0 3) × (standingAt (lost 2) 1 0 ≡ standing failState 0 0)
 unfolding lost wrong-late claims grant granted holders rounds someJoin moreHeld heldOf chosenOf standingBy standingsOf
@@ -129,7 +129,7 @@ idle-breaks = (refl, refl)
 
 -- a port that comes from IDLE waits to restore
 wrong-first : Port → Standing
-wrong-first p = cond (ltb (p .run) (p .restore)) (standing failState (p .number) (p .run + 1)) (withClaim p)
+wrong-first p = cond (ltb (p .elapsed) (p .restore)) (standing failState (p .number) (p .elapsed + 1)) (withClaim p)
 
 added : List Port
 added = port ADD 0 true (standing idleState 255 0) 0 3 ∷ []
@@ -140,7 +140,7 @@ first-breaks = (refl, refl)
 
 -- the number that is held is the one that the port now sends: its own is given away
 wrong-held : List ℕ → ℕ → Port → Standing
-wrong-held chosen i p = cond (hasHoldOff p && not (hasClaim chosen i p)) (standing okState (p .number) (p .run + 1)) (standingBy chosen i p)
+wrong-held chosen i p = cond (hasHoldOff p && not (hasClaim chosen i p)) (standing okState (p .number) (p .elapsed + 1)) (standingBy chosen i p)
 
 -- port 0 is lost as it goes from 0 to 1, and port 1 from 1 to 0
 renumbered : List Port

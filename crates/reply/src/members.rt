@@ -19,7 +19,7 @@ pub struct Port {
     pub hold_off: u16,
     pub restore: u16,
     // at how many reports the timer has run: hold-off in OK, restoring in FAIL
-    pub run: u16,
+    pub elapsed: u16,
 }
 
 impl Port {
@@ -57,7 +57,7 @@ pub(crate) fn was_ok(port: Port) -> bool
 pub(crate) fn is_restoring(port: Port) -> bool
     ensures { λ r. ⌜ r ≡ isRestoring port ⌝ }
 {
-    (port.state == Port::FAIL) & (port.run < port.restore)
+    (port.state == Port::FAIL) & (port.elapsed < port.restore)
 }
 
 // An OK port that can lose its claim and not go FAIL yet.
@@ -65,7 +65,7 @@ pub(crate) fn has_hold_off(port: Port) -> bool
     ensures { λ r. ⌜ r ≡ hasHoldOff port ⌝ }
 {
     (port.state == Port::OK)
-        & (port.run < port.hold_off)
+        & (port.elapsed < port.hold_off)
         & (port.state_number < 64)
         & !((port.word == Port::NO_WORD) | (port.word == Word::IDLE.0))
 }

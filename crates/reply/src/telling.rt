@@ -12,7 +12,7 @@ ghost use Rattle.reply.specs.Members.{sizeOf};
 ghost use Rattle.reply.specs.Telling.{ackOf, failBit, hasChanged, hasLeft, isListed, mstFrom, mstOf, okHolds, turns};
 
 // Whether an OK port holds a number.
-fn is_held(ports: [Port; 64], n: usize, number: u8) -> bool
+fn ok_holds(ports: [Port; 64], n: usize, number: u8) -> bool
     requires { ⌜ n ≤ 64 ⌝ }
     ensures { λ r. ⌜ r ≡ okHolds ports n number ⌝ }
 {
@@ -30,7 +30,7 @@ fn fail_bit(ports: [Port; 64], n: usize, number: u8) -> u8
     requires { ⌜ n ≤ 64 ⌝ }
     ensures { λ r. ⌜ (r ≡ failBit ports n number) × (r ≤ 1) ⌝ }
 {
-    if is_held(ports, n, number) { 0 } else { 1 }
+    if ok_holds(ports, n, number) { 0 } else { 1 }
 }
 
 fn eight_bits(a: u8, b: u8, c: u8, d: u8, e: u8, f: u8, g: u8, h: u8) -> u8

@@ -16,7 +16,7 @@ ghost use Rattle.reply.specs.Waiting.{chosenOf, hasClaim, joinsHeld, kee
 pub struct Standing {
     pub state: u8,
     pub number: u8,
-    pub run: u16,
+    pub elapsed: u16,
 }
 
 // Whether a port is a candidate whose number no other port has.
@@ -110,13 +110,13 @@ fn with_claim(port: Port) -> Standing
         return Standing {
             state: Port::FAIL,
             number: port.number,
-            run: port.run + 1,
+            elapsed: port.elapsed + 1,
         };
     }
     Standing {
         state: Port::OK,
         number: port.number,
-        run: 0,
+        elapsed: 0,
     }
 }
 
@@ -124,7 +124,7 @@ fn keeps_number(chosen: [u8; 64], i: u8, port: Port) -> bool
     ensures { λ r. ⌜ r ≡ keepsNumber chosen i port ⌝ }
 {
     let holder = choosing::holder_of(chosen, port.state_number);
-    (port.state == Port::OK) & (port.run < port.hold_off) & (holder == i)
+    (port.state == Port::OK) & (port.elapsed < port.hold_off) & (holder == i)
 }
 
 fn without_claim(chosen: [u8; 64], i: u8, port: Port) -> Standing
@@ -134,13 +134,13 @@ fn without_claim(chosen: [u8; 64], i: u8, port: Port) -> Standing
         return Standing {
             state: Port::OK,
             number: port.state_number,
-            run: port.run + 1,
+            elapsed: port.elapsed + 1,
         };
     }
     Standing {
         state: Port::FAIL,
         number: port.number,
-        run: 0,
+        elapsed: 0,
     }
 }
 
@@ -151,7 +151,7 @@ fn standing_by(chosen: [u8; 64], i: u8, port: Port) -> Standing
         return Standing {
             state: Port::IDLE,
             number: port.number,
-            run: 0,
+            elapsed: 0,
         };
     }
     if has_claim(chosen, i, port) {
@@ -167,7 +167,7 @@ fn standings_by(chosen: [u8; 64], ports: [Port; 64], n: usize) -> [Standing; 64]
     let none = Standing {
         state: Port::IDLE,
         number: 0,
-        run: 0,
+        elapsed: 0,
     };
     let mut all = [none; 64];
     let mut i = 0;
@@ -180,20 +180,20 @@ fn standings_by(chosen: [u8; 64], ports: [Port; 64], n: usize) -> [Standing; 64]
     all
 }
 
-fn kept_alone(port: Port) -> Standing
-    ensures { λ r. ⌜ r ≡ cond (hasHoldOff port) (standing okState (port .«state_number») (port .run + 1)) (standing failState (port .number) 0) ⌝ }
+fn without_claim_alone(port: Port) -> Standing
+    ensures { λ r. ⌜ r ≡ cond (hasHoldOff port) (standing okState (port .«state_number») (port .elapsed + 1)) (standing failState (port .number) 0) ⌝ }
 {
     if members::has_hold_off(port) {
         return Standing {
             state: Port::OK,
             number: port.state_number,
-            run: port.run + 1,
+            elapsed: port.elapsed + 1,
         };
     }
     Standing {
         state: Port::FAIL,
         number: port.number,
-        run: 0,
+        elapsed: 0,
     }
 }
 
@@ -206,13 +206,13 @@ pub fn standing_alone(port: Port) -> Standing
         return Standing {
             state: Port::IDLE,
             number: port.number,
-            run: 0,
+            elapsed: 0,
         };
     }
     if members::is_candidate(port) {
         return with_claim(port);
     }
-    kept_alone(port)
+    without_claim_alone(port)
 }
 
 // What this report leaves of each port.

@@ -17,7 +17,7 @@ memberOf row =
       «told_number» = getD row 5 0;
       «hold_off» = getD row 6 0 * 256 + getD row 7 0;
       restore = getD row 8 0 * 256 + getD row 9 0;
-      run = getD row 10 0 * 256 + getD row 11 0;
+      elapsed = getD row 10 0 * 256 + getD row 11 0;
     }
 
 unfoldable pub memberRow : Member → List ℕ
@@ -32,8 +32,8 @@ memberRow m =
     ∷ m .«hold_off» % 256
     ∷ m .restore / 256
     ∷ m .restore % 256
-    ∷ m .run / 256
-    ∷ m .run % 256
+    ∷ m .elapsed / 256
+    ∷ m .elapsed % 256
     ∷ (m .spare)
 
 unfoldable pub memberAt : List (List ℕ) → ℕ → Member

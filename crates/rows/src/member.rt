@@ -21,7 +21,7 @@ pub struct Member {
     pub hold_off: u16,
     pub restore: u16,
     // at how many reports the timer has run: hold-off in OK, restoring in FAIL
-    pub run: u16,
+    pub elapsed: u16,
 }
 
 fn member_of(row: [u8; 16]) -> Member
@@ -37,7 +37,7 @@ fn member_of(row: [u8; 16]) -> Member
         told_number: row[5],
         hold_off: group::pair(row[6], row[7]),
         restore: group::pair(row[8], row[9]),
-        run: group::pair(row[10], row[11]),
+        elapsed: group::pair(row[10], row[11]),
     }
 }
 
@@ -55,8 +55,8 @@ fn member_row(m: Member) -> [u8; 16]
         (m.hold_off % 256) as u8,
         (m.restore / 256) as u8,
         (m.restore % 256) as u8,
-        (m.run / 256) as u8,
-        (m.run % 256) as u8,
+        (m.elapsed / 256) as u8,
+        (m.elapsed % 256) as u8,
         m.spare[0],
         m.spare[1],
         m.spare[2],

@@ -16,10 +16,10 @@ use Rattle.sender.specs.declared.table.Answer.the-variants.{Done, NoSlot
 use Rattle.sender.specs.declared.table.Outcome.{Outcome}
 use Rattle.sender.specs.declared.table.Table.{Table}
 use Rattle.sender.specs.Board.{boardOf}
+use Rattle.sender.specs.Calls.{Call, outcomeOf}
 use Rattle.sender.specs.Commands.{startOf}
 use Rattle.sender.specs.Outcomes.{spreadEarly, spreadTold, written}
 use Rattle.sender.specs.Ranks.{carriersIn, rankAt, ranksIn, rowAt}
-use Rattle.sender.specs.Steps.{Call, stepOf}
 use Rattle.sender.specs.Table.{sizeOf}
 
 -- no epoch has started: nothing has gone out, so 'a sender's first epoch has X = 0'
@@ -55,13 +55,13 @@ pub data SenderCall : Type 0 where
   OnTable : Call → SenderCall
   StartEpoch : ℕ → ℕ → ℕ → SenderCall
 
-abbrev pub senderStepOf : Sender → SenderCall → SenderOutcome
-senderStepOf s (OnTable c) = withOutcome s (stepOf (s .table) c)
-senderStepOf s (StartEpoch gid mst ack) = startEpochOf s gid mst ack
+abbrev pub senderOutcomeOf : Sender → SenderCall → SenderOutcome
+senderOutcomeOf s (OnTable c) = withOutcome s (outcomeOf (s .table) c)
+senderOutcomeOf s (StartEpoch gid mst ack) = startEpochOf s gid mst ack
 
 abbrev pub senderRun : Sender → List SenderCall → Sender
 senderRun s [] = s
-senderRun s (c ∷ cs) = senderRun (senderStepOf s c .sender) cs
+senderRun s (c ∷ cs) = senderRun (senderOutcomeOf s c .sender) cs
 
 -- 'GID is lent by the caller and is equal in all packets of an epoch.' 'Our sender still writes zeros' for reserved bits (request 2026-08).
 unfoldable pub packetFields : Sender → ℕ → Fields

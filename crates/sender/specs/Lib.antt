@@ -7,7 +7,7 @@ pub mod Outcomes
 pub mod Ranks
 pub mod Reports
 pub mod Shown
-pub mod Steps
+pub mod Calls
 pub mod Table
 pub mod Theorems
 mod Wrong

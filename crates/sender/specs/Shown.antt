@@ -7,8 +7,8 @@ use Rattle.sender.specs.declared.board.Board.{Board}
 use Rattle.sender.specs.declared.board.Row.{Row}
 use Rattle.sender.specs.declared.table.Table.{Table}
 use Rattle.sender.specs.Board.{boardOf}
+use Rattle.sender.specs.Calls.{Call, run}
 use Rattle.sender.specs.Commands.{startOf}
-use Rattle.sender.specs.Steps.{Call, run}
 use Rattle.sender.specs.Table.{answerNumber}
 
 -- the table after calls from a start of so many slots

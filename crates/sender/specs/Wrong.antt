@@ -15,13 +15,13 @@ use Rattle.sender.specs.declared.epochs.Sender.{Sender}
 use Rattle.sender.specs.declared.table.Slot.{Slot}
 use Rattle.sender.specs.declared.table.Table.{Table}
 use Rattle.sender.specs.Board.{boardOf, highest, noRow, rowOf, rowsOf}
+use Rattle.sender.specs.Calls.{Call}
+use Rattle.sender.specs.Calls.Call.{AddSlot, Lapse, RemoveSlot, Report}
 use Rattle.sender.specs.Commands.{addOf, addedTo, fallen, fallenIn, freshOf, idleSlot, lapseOf, removeOf, removedFrom, startOf, withSlots}
 use Rattle.sender.specs.Epochs.{beginOf, freshSender, packetBytes, packetFields, rankIn, senderRun, startEpochOf, startedEpoch, startedSender, xOf}
 use Rattle.sender.specs.Ranks.{carriersIn, carries, noRank, rankAt, rankOf, rowAt}
 use Rattle.sender.specs.Reports.{actedOn, comesBefore, mstApplied, numberAfter, opensWait, renumbered, reportOf, slotAfter, becomes, numberApplied, turnOf, waited}
 use Rattle.sender.specs.Shown.{after, shown}
-use Rattle.sender.specs.Steps.{Call}
-use Rattle.sender.specs.Steps.Call.{AddSlot, Lapse, RemoveSlot, Report}
 use Rattle.sender.specs.Table.{holderOf, membersOf, sizeOf, slotAt}
 use Rattle.sender.specs.Theorems.Epochs.{onTable}
 

@@ -8,9 +8,9 @@ use crate::table::Table;
 use packet::kinds;
 ghost use mathlib.Core.Path.{_≡_};
 ghost use Prim.Native.Nat.{_≤_, _<_};
+ghost use Rattle.sender.specs.Calls.{outcomeOf};
+ghost use Rattle.sender.specs.Calls.Call.{AddSlot, RemoveSlot, Lapse};
 ghost use Rattle.sender.specs.Commands.{addedTo, fallen, fallenIn, freshOf, idleSlot, removedFrom, startOf};
-ghost use Rattle.sender.specs.Steps.{stepOf};
-ghost use Rattle.sender.specs.Steps.Call.{AddSlot, RemoveSlot, Lapse};
 
 fn idle_slot(kind: u8) -> Slot
     ensures { λ r. ⌜ r ≡ idleSlot kind ⌝ }
@@ -76,7 +76,7 @@ fn added_to(table: Table, at: usize) -> Table
 }
 
 pub fn add(table: Table, slot: u32) -> Outcome
-    ensures { λ r. ⌜ r ≡ stepOf table (AddSlot slot) ⌝ }
+    ensures { λ r. ⌜ r ≡ outcomeOf table (AddSlot slot) ⌝ }
 {
     let n = table::size(table.count);
     let at = slot as usize;
@@ -158,7 +158,7 @@ fn removed_from(table: Table, at: usize) -> Table
 }
 
 pub fn remove(table: Table, slot: u32) -> Outcome
-    ensures { λ r. ⌜ r ≡ stepOf table (RemoveSlot slot) ⌝ }
+    ensures { λ r. ⌜ r ≡ outcomeOf table (RemoveSlot slot) ⌝ }
 {
     let n = table::size(table.count);
     let at = slot as usize;
@@ -189,7 +189,7 @@ pub fn remove(table: Table, slot: u32) -> Outcome
 }
 
 pub fn lapse(table: Table) -> Outcome
-    ensures { λ r. ⌜ r ≡ stepOf table Lapse ⌝ }
+    ensures { λ r. ⌜ r ≡ outcomeOf table Lapse ⌝ }
 {
     if table.wait {
         let slots = table.slots;

@@ -15,10 +15,10 @@ use packet::kinds;
 ghost use mathlib.Core.Path.{_≡_};
 ghost use Prim.Native.Nat.{_<_};
 ghost use lib.ListN.{length};
-ghost use Rattle.sender.specs.Epochs.{beginOf, freshSender, packetAnswer, packetBytes, packetFields, payloadAnswer, payloadBytes, ranksOf, senderStepOf, startedEpoch, withOutcome};
+ghost use Rattle.sender.specs.Calls.Call.{AddSlot, RemoveSlot, Report, Lapse};
+ghost use Rattle.sender.specs.Epochs.{beginOf, freshSender, packetAnswer, packetBytes, packetFields, payloadAnswer, payloadBytes, ranksOf, senderOutcomeOf, startedEpoch, withOutcome};
 ghost use Rattle.sender.specs.Epochs.SenderCall.{OnTable, StartEpoch};
 ghost use Rattle.sender.specs.Outcomes.{spreadEarly, spreadTold, written};
-ghost use Rattle.sender.specs.Steps.Call.{AddSlot, RemoveSlot, Report, Lapse};
 
 // outgoing: what goes out in this epoch's packets. ruling: what went out in the packets before, which rules this epoch's payload.
 // Before the first epoch starts, epoch is the number it will have.
@@ -54,11 +54,11 @@ fn fresh_sender(table: Table, epoch: u8) -> Sender
     }
 }
 
-fn with_outcome(sender: Sender, step: Outcome) -> SenderOutcome
-    ensures { λ r. ⌜ r ≡ withOutcome sender step ⌝ }
+fn with_outcome(sender: Sender, outcome: Outcome) -> SenderOutcome
+    ensures { λ r. ⌜ r ≡ withOutcome sender outcome ⌝ }
 {
-    let table = step.table;
-    let answer = step.answer;
+    let table = outcome.table;
+    let answer = outcome.answer;
     let outgoing = sender.outgoing;
     let ruling = sender.ruling;
     SenderOutcome {
@@ -140,9 +140,9 @@ impl Sender {
     pub fn start(kind: u8, count: u32, epoch: u8) -> SenderOutcome
         ensures { λ r. ⌜ r ≡ beginOf kind count epoch ⌝ }
     {
-        let step = commands::start(kind, count);
-        let table = step.table;
-        let answer = step.answer;
+        let outcome = commands::start(kind, count);
+        let table = outcome.table;
+        let answer = outcome.answer;
         SenderOutcome {
             sender: fresh_sender(table, epoch),
             answer,
@@ -150,39 +150,39 @@ impl Sender {
     }
 
     pub fn add(self, slot: u32) -> SenderOutcome
-        ensures { λ r. ⌜ r ≡ senderStepOf self (OnTable (AddSlot slot)) ⌝ }
+        ensures { λ r. ⌜ r ≡ senderOutcomeOf self (OnTable (AddSlot slot)) ⌝ }
     {
         let table = self.table;
-        let step = commands::add(table, slot);
-        with_outcome(self, step)
+        let outcome = commands::add(table, slot);
+        with_outcome(self, outcome)
     }
 
     pub fn remove(self, slot: u32) -> SenderOutcome
-        ensures { λ r. ⌜ r ≡ senderStepOf self (OnTable (RemoveSlot slot)) ⌝ }
+        ensures { λ r. ⌜ r ≡ senderOutcomeOf self (OnTable (RemoveSlot slot)) ⌝ }
     {
         let table = self.table;
-        let step = commands::remove(table, slot);
-        with_outcome(self, step)
+        let outcome = commands::remove(table, slot);
+        with_outcome(self, outcome)
     }
 
     pub fn report(self, epoch: u8, mst: u8, rs_ack: u8) -> SenderOutcome
-        ensures { λ r. ⌜ r ≡ senderStepOf self (OnTable (Report epoch mst «rs_ack»)) ⌝ }
+        ensures { λ r. ⌜ r ≡ senderOutcomeOf self (OnTable (Report epoch mst «rs_ack»)) ⌝ }
     {
         let table = self.table;
-        let step = reports::report(table, epoch, mst, rs_ack);
-        with_outcome(self, step)
+        let outcome = reports::report(table, epoch, mst, rs_ack);
+        with_outcome(self, outcome)
     }
 
     pub fn lapse(self) -> SenderOutcome
-        ensures { λ r. ⌜ r ≡ senderStepOf self (OnTable Lapse) ⌝ }
+        ensures { λ r. ⌜ r ≡ senderOutcomeOf self (OnTable Lapse) ⌝ }
     {
         let table = self.table;
-        let step = commands::lapse(table);
-        with_outcome(self, step)
+        let outcome = commands::lapse(table);
+        with_outcome(self, outcome)
     }
 
     pub fn start_epoch(self, gid: u8, mst: u8, rs_ack: u8) -> SenderOutcome
-        ensures { λ r. ⌜ r ≡ senderStepOf self (StartEpoch gid mst «rs_ack») ⌝ }
+        ensures { λ r. ⌜ r ≡ senderOutcomeOf self (StartEpoch gid mst «rs_ack») ⌝ }
     {
         let fits = (gid < 2) & (rs_ack < 2);
         if !fits {

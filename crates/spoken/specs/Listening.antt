@@ -3,7 +3,7 @@ use mathlib.Core.Bool.{Bool, cond}
 use mathlib.Core.List.{List, [], _∷_}
 use Rattle.sender.specs.declared.board.Board.{Board}
 use Rattle.sender.specs.declared.epochs.Sender.{Sender}
-use Rattle.sender.specs.Epochs.{SenderCall, senderStepOf}
+use Rattle.sender.specs.Epochs.{SenderCall, senderOutcomeOf}
 use Rattle.sender.specs.Epochs.SenderCall.{OnTable, StartEpoch}
 use Rattle.spoken.specs.declared.applying.Applied.{Applied}
 use Rattle.spoken.specs.Applying.{appliedOf}
@@ -12,16 +12,16 @@ use Rattle.spoken.specs.Taking.{takenOf}
 
 -- what she does with the changes from one board to another
 abbrev pub toldFrom : Board → Board → Board → Applied
-toldFrom held old new = appliedOf held (comparedOf old new .changes)
+toldFrom known old new = appliedOf known (comparedOf old new .changes)
 
 -- At each start of an epoch: the changes from the board going out before to the one going out now. Other calls are not spoken.
 abbrev pub hearsCall : Board → Sender → SenderCall → Board
-hearsCall held s (OnTable c) = held
-hearsCall held s (StartEpoch gid mst ack) = toldFrom held (takenOf s) (takenOf (senderStepOf s (StartEpoch gid mst ack) .sender)) .board
+hearsCall known s (OnTable c) = known
+hearsCall known s (StartEpoch gid mst ack) = toldFrom known (takenOf s) (takenOf (senderOutcomeOf s (StartEpoch gid mst ack) .sender)) .board
 
-abbrev pub heldAfter : Board → Sender → List SenderCall → Board
-heldAfter held s [] = held
-heldAfter held s (c ∷ cs) = heldAfter (hearsCall held s c) (senderStepOf s c .sender) cs
+abbrev pub knownAfter : Board → Sender → List SenderCall → Board
+knownAfter known s [] = known
+knownAfter known s (c ∷ cs) = knownAfter (hearsCall known s c) (senderOutcomeOf s c .sender) cs
 
 -- One who is not always there. Where she hears, one list is told from the last board that she heard to the one going out now.
 pub record Moment : Type 0 where
@@ -32,9 +32,9 @@ abbrev pub callsIn : List Moment → List SenderCall
 callsIn [] = []
 callsIn (m ∷ ms) = m .call ∷ callsIn ms
 
-abbrev pub heldNow : Board → Sender → Bool → Board
-heldNow held s hears = cond hears (toldFrom held held (takenOf s) .board) held
+abbrev pub knownNow : Board → Sender → Bool → Board
+knownNow known s hears = cond hears (toldFrom known known (takenOf s) .board) known
 
-abbrev pub heldWith : Board → Sender → List Moment → Board
-heldWith held s [] = held
-heldWith held s (m ∷ ms) = heldWith (heldNow held (senderStepOf s (m .call) .sender) (m .hears)) (senderStepOf s (m .call) .sender) ms
+abbrev pub knownWith : Board → Sender → List Moment → Board
+knownWith known s [] = known
+knownWith known s (m ∷ ms) = knownWith (knownNow known (senderOutcomeOf s (m .call) .sender) (m .hears)) (senderOutcomeOf s (m .call) .sender) ms

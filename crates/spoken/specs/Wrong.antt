@@ -15,13 +15,13 @@ use Rattle.sender.specs.declared.epochs.Sender.{Sender}
 use Rattle.sender.specs.declared.table.State.{State}
 use Rattle.sender.specs.declared.table.State.the-variants.{Idle, Add, Active, Dnu}
 use Rattle.sender.specs.declared.table.Table.{Table}
-use Rattle.sender.specs.Epochs.{SenderCall, beginOf, freshSender, senderRun, senderStepOf, startEpochOf, startedEpoch, startedSender}
+use Rattle.sender.specs.Calls.{Call}
+use Rattle.sender.specs.Calls.Call.{AddSlot, Lapse, RemoveSlot, Report}
+use Rattle.sender.specs.Epochs.{SenderCall, beginOf, freshSender, senderOutcomeOf, senderRun, startEpochOf, startedEpoch, startedSender}
 use Rattle.sender.specs.Epochs.SenderCall.{OnTable, StartEpoch}
 use Rattle.sender.specs.Ranks.{rowAt}
 use Rattle.sender.specs.Reports.{actedOn, comesBefore, mstApplied, numberAfter, numberApplied, opensWait, renumbered, reportOf, slotAfter, turnOf, waited}
 use Rattle.sender.specs.Shown.{after, numbers}
-use Rattle.sender.specs.Steps.{Call}
-use Rattle.sender.specs.Steps.Call.{AddSlot, Lapse, RemoveSlot, Report}
 use Rattle.sender.specs.Table.{holderOf, membersOf, sizeOf, slotAt}
 use Rattle.spoken.specs.declared.applying.Applied.{Applied}
 use Rattle.spoken.specs.declared.lists.Answer.the-variants.{Done, Unfit}
@@ -86,7 +86,7 @@ wrong-taken s = boardOf (s .table)
 -- what is told with each call, where boards are taken so
 abbrev told : (Sender → Board) → Sender → List SenderCall → List (List ℕ)
 told taken s [] = []
-told taken s (c ∷ cs) = comparedNumbers (taken s) (taken (senderStepOf s c .sender)) ∷ told taken (senderStepOf s c .sender) cs
+told taken s (c ∷ cs) = comparedNumbers (taken s) (taken (senderOutcomeOf s c .sender)) ∷ told taken (senderOutcomeOf s c .sender) cs
 
 abbrev within-epoch : List SenderCall
 within-epoch = StartEpoch 0 0xFF 0 ∷ OnTable (AddSlot 0) ∷ OnTable (RemoveSlot 0) ∷ OnTable Lapse ∷ []

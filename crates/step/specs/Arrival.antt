@@ -88,7 +88,7 @@ keeps g s run d =
       settles = not (flagOf (g .gathered)) && endsEpoch (g .kind) d && eqb (epochsIn (g .kind) d) 0;
     }
 
--- 'A port joins at its first epoch start in the window.'
+-- 'A port joins at its first epoch start in the window'
 unfoldable pub joining : Group → Step → Run → ℕ → Taken
 joining g s run d =
     record { step = joinedAt s run (epochsIn (g .kind) d); answer = 0; counted = true; kept = true; at = d; joins = true; settles = false }

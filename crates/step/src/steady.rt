@@ -13,7 +13,7 @@ ghost use Rattle.step.specs.Steady.{midEpoch, steady};
 
 // A joined port in step. Had, failed and breaks stand as the rule writes them, so that nothing else changes. What is of the group comes first: then
 // the compiler tests byte after byte of the port's row where it stands, and none is kept for later.
-fn is_running(group: Group, step: Step) -> bool
+fn is_undisturbed(group: Group, step: Step) -> bool
     ensures { λ r. ⌜ r ≡ (flagOf (group .begun) && eqb (step .had) 1 && eqb (step .failed) 0 && eqb (step .breaks) 0 && inStep group step && flagOf (step .joined)) ⌝ }
 {
     let in_step = arrival::in_step(group, step);
@@ -42,7 +42,7 @@ pub fn is_steady(group: Group, step: Step, failed: bool, h4: u8) -> bool
     if failed {
         return false;
     }
-    if is_running(group, step) {
+    if is_undisturbed(group, step) {
         return is_counted(group.kind, step.next, h4);
     }
     false

@@ -1,5 +1,5 @@
-// The rows of data/packets.txt, each with its fields and its sixteen H4 bytes in columns of their own: the fields are written and held to the
-// bytes, and the bytes are read and held to the fields.
+// The rows of data/packets.txt, each with its fields and its sixteen H4 bytes in columns of their own: the fields are written and compared with
+// the bytes, and the bytes are read and compared with the fields.
 use crate::given;
 use crate::show;
 use crate::text;

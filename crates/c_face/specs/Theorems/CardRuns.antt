@@ -17,28 +17,28 @@ use Rattle.circuits.specs.declared.answers.Answer.the-variants.{Done, NoSlot, N
 use Rattle.circuits.specs.declared.card.Card.{Card}
 use Rattle.circuits.specs.declared.card.CardOutcome.{CardOutcome}
 use Rattle.circuits.specs.Answers.{answerNumber, fromSender}
-use Rattle.circuits.specs.Calls.{Call, stepOf}
+use Rattle.circuits.specs.Calls.{Call, outcomeOf}
 use Rattle.circuits.specs.Calls.Call.{Claim, Release, AddSlot, RemoveSlot, Report, Lapse, StartEpoch}
 use Rattle.circuits.specs.Commands.{sentOf, startOf}
-use Rattle.circuits.specs.Laws.Alike.{Alike, AlikeAfter, alike-step}
-use Rattle.circuits.specs.Laws.Seeing.{owners-stepped, sender-marked, sender-other, sender-stepped}
+use Rattle.circuits.specs.Laws.Alike.{Alike, AlikeAfter, alike-call}
+use Rattle.circuits.specs.Laws.Seeing.{owners-outcome, sender-marked, sender-other, sender-outcome}
 use Rattle.circuits.specs.Laws.Ways.{by-ways}
 use Rattle.circuits.specs.Owners.{ownerIn, withOwner}
 use Rattle.circuits.specs.Parts as P
-use Rattle.circuits.specs.Parts.{marked, stepped, withSender}
+use Rattle.circuits.specs.Parts.{groupOutcome, marked, withSender}
 use Rattle.circuits.specs.Theorems.Owned.{demand2-each}
 use Rattle.circuits.specs.Views.{Asked, Made, cardAfter, run}
 use Rattle.circuits.specs.Views.Asked.{Do, Packet, Payload, Board, Outgoing, Ranks, Owned}
 use Rattle.sender.specs.declared.epochs.Sender.{Sender}
 use Rattle.sender.specs.declared.table.Answer as S
-use Rattle.sender.specs.Epochs.{SenderCall, senderStepOf}
+use Rattle.sender.specs.Epochs.{SenderCall, senderOutcomeOf}
 use Rattle.sender.specs.Table.{answerNumber as senderNumber}
 use Rattle.sender.specs.Theorems.Epochs.{Demand2Kept}
-use Rattle.c_face.specs.Cards.{cardOf, isCard, keptCard, ownersIn, partAt, partIn, putCard, putOwn, startAnswerOn, startStateOn, stepAnswerOn, stepStateOn}
+use Rattle.c_face.specs.Cards.{callAnswerOn, callStateOn, cardOf, isCard, keptCard, ownersIn, partAt, partIn, putCard, putOwn, startAnswerOn, startStateOn}
 use Rattle.c_face.specs.Keeping.{byteAt, bytesOf, senderOf}
 use Rattle.c_face.specs.Senders.{areBytes, outside}
 use Rattle.c_face.specs.Theorems.Round.{round}
-use Rattle.c_face.specs.Theorems.Runs.{Held, held-begin, held-step, held-whole, refuses, step-given}
+use Rattle.c_face.specs.Theorems.Runs.{Keepable, call-given, keepable-begin, keepable-call, keepable-whole, refuses}
 
 -- What is written, read again.
 
@@ -89,8 +89,8 @@ unfolding partIn
 put-apart c state g h hg hh n = tabulate-ext 397 _ _ (beside c state g h hg hh n)
 
 -- A call of one group, and of no group, changes no byte of the other's part.
-pub others-part : (fits : Bool) (g h : ℕ) (k : Call) (state : List ℕ) → g < 2 → h ≢ g → partIn g (stepStateOn fits h k state) ≡ partIn g state
-unfolding stepStateOn
+pub others-part : (fits : Bool) (g h : ℕ) (k : Call) (state : List ℕ) → g < 2 → h ≢ g → partIn g (callStateOn fits h k state) ≡ partIn g state
+unfolding callStateOn
 others-part fits g h k state hg n =
     let Q : List ℕ → Type 0 = λ t. partIn g t ≡ partIn g state in
     cond-by Q (isCard state) _ state
@@ -98,15 +98,15 @@ others-part fits g h k state hg n =
     cond-by Q (ltb h 2) _ state
     (λ t.
     cond-by Q fits _ state
-    (λ f. cond-by Q (eqb (answerNumber (stepOf (cardOf state) h k .answer)) 0) _ state (λ d. put-apart (stepOf (cardOf state) h k .card) state g h hg (ltb-true h 2 t) n) (λ d. refl))
+    (λ f. cond-by Q (eqb (answerNumber (outcomeOf (cardOf state) h k .answer)) 0) _ state (λ d. put-apart (outcomeOf (cardOf state) h k .card) state g h hg (ltb-true h 2 t) n) (λ d. refl))
     (λ f. refl))
     (λ t. refl))
     (λ l. refl)
 
 -- A refusal changes no byte; a refused start none but under 4.
-pub refused-stands : (fits : Bool) (g : ℕ) (k : Call) (state : List ℕ) → (stepAnswerOn fits g k state ≡ 0 → ⊥) → stepStateOn fits g k state ≡ state
-unfolding stepAnswerOn stepStateOn
-refused-stands fits g k state = go (isCard state) (ltb g 2) fits (answerNumber (stepOf (cardOf state) g k .answer)) (putOwn g (stepOf (cardOf state) g k .card) state)
+pub refused-stands : (fits : Bool) (g : ℕ) (k : Call) (state : List ℕ) → (callAnswerOn fits g k state ≡ 0 → ⊥) → callStateOn fits g k state ≡ state
+unfolding callAnswerOn callStateOn
+refused-stands fits g k state = go (isCard state) (ltb g 2) fits (answerNumber (outcomeOf (cardOf state) g k .answer)) (putOwn g (outcomeOf (cardOf state) g k .card) state)
   where
     go : (b t f : Bool) (n : ℕ) (new : List ℕ) → (_≡_ {A = ℕ} (cond b (cond t (cond f n 8) 1) 9) 0 → ⊥) → cond b (cond t (cond f (cond (eqb n 0) new state) state) state) state ≡ state
     go true true true n new d = rw (ne-eqb n 0 d)
@@ -145,30 +145,30 @@ module _ (g : ℕ) (s t : List ℕ) (sized : length s ≡ length t) (row : owner
   alike : Alike g (cardOf s) (cardOf t)
   alike = record { owners = owners-of s ∙ row ∙ sym (owners-of t); sender = part-of g s ∙ ap senderOf part ∙ sym (part-of g t) }
 
-  pub same-answer : (fits : Bool) (k : Call) → stepAnswerOn fits g k s ≡ stepAnswerOn fits g k t
-  unfolding stepAnswerOn
+  pub same-answer : (fits : Bool) (k : Call) → callAnswerOn fits g k s ≡ callAnswerOn fits g k t
+  unfolding callAnswerOn
   same-answer fits k =
-      ap (λ (n : ℕ). cond (eqb n 858) (cond (ltb g 2) (cond fits (answerNumber (stepOf (cardOf s) g k .answer)) 8) 1) 9) sized
-      ∙ ap (λ (a : Answer). cond (isCard t) (cond (ltb g 2) (cond fits (answerNumber a) 8) 1) 9) (alike-step g (cardOf s) (cardOf t) alike k .answer)
+      ap (λ (n : ℕ). cond (eqb n 858) (cond (ltb g 2) (cond fits (answerNumber (outcomeOf (cardOf s) g k .answer)) 8) 1) 9) sized
+      ∙ ap (λ (a : Answer). cond (isCard t) (cond (ltb g 2) (cond fits (answerNumber a) 8) 1) 9) (alike-call g (cardOf s) (cardOf t) alike k .answer)
 
-  pub same-part : (fits : Bool) (k : Call) → partIn g (stepStateOn fits g k s) ≡ partIn g (stepStateOn fits g k t)
-  unfolding stepStateOn
-  same-part fits k = go (isCard s) (isCard t) refl (ap (λ (n : ℕ). eqb n 858) sized) (ltb g 2) fits (eqb (answerNumber (stepOf (cardOf s) g k .answer)) 0) (eqb (answerNumber (stepOf (cardOf t) g k .answer)) 0) tests
+  pub same-part : (fits : Bool) (k : Call) → partIn g (callStateOn fits g k s) ≡ partIn g (callStateOn fits g k t)
+  unfolding callStateOn
+  same-part fits k = go (isCard s) (isCard t) refl (ap (λ (n : ℕ). eqb n 858) sized) (ltb g 2) fits (eqb (answerNumber (outcomeOf (cardOf s) g k .answer)) 0) (eqb (answerNumber (outcomeOf (cardOf t) g k .answer)) 0) tests
     where
-      after : AlikeAfter g (stepOf (cardOf s) g k) (stepOf (cardOf t) g k)
-      after = alike-step g (cardOf s) (cardOf t) alike k
+      after : AlikeAfter g (outcomeOf (cardOf s) g k) (outcomeOf (cardOf t) g k)
+      after = alike-call g (cardOf s) (cardOf t) alike k
 
-      tests : eqb (answerNumber (stepOf (cardOf s) g k .answer)) 0 ≡ eqb (answerNumber (stepOf (cardOf t) g k .answer)) 0
+      tests : eqb (answerNumber (outcomeOf (cardOf s) g k .answer)) 0 ≡ eqb (answerNumber (outcomeOf (cardOf t) g k .answer)) 0
       tests = ap (λ (a : Answer). eqb (answerNumber a) 0) (after .answer)
 
-      written : isCard s ≡ true → partIn g (putOwn g (stepOf (cardOf s) g k .card) s) ≡ partIn g (putOwn g (stepOf (cardOf t) g k .card) t)
+      written : isCard s ≡ true → partIn g (putOwn g (outcomeOf (cardOf s) g k .card) s) ≡ partIn g (putOwn g (outcomeOf (cardOf t) g k .card) t)
       written e =
           let l : length s ≡ 858 = eqb-true (length s) 858 e in
-          own-part (stepOf (cardOf s) g k .card) s l g ∙ ap bytesOf (after .card .sender) ∙ sym (own-part (stepOf (cardOf t) g k .card) t (sym sized ∙ l) g)
+          own-part (outcomeOf (cardOf s) g k .card) s l g ∙ ap bytesOf (after .card .sender) ∙ sym (own-part (outcomeOf (cardOf t) g k .card) t (sym sized ∙ l) g)
 
       go : (b d : Bool) → isCard s ≡ b → b ≡ d → (u f x y : Bool) → x ≡ y
-          → partIn g (cond b (cond u (cond f (cond x (putOwn g (stepOf (cardOf s) g k .card) s) s) s) s) s)
-          ≡ partIn g (cond d (cond u (cond f (cond y (putOwn g (stepOf (cardOf t) g k .card) t) t) t) t) t)
+          → partIn g (cond b (cond u (cond f (cond x (putOwn g (outcomeOf (cardOf s) g k .card) s) s) s) s) s)
+          ≡ partIn g (cond d (cond u (cond f (cond y (putOwn g (outcomeOf (cardOf t) g k .card) t) t) t) t) t)
       go true true e z true true true true w = written e
       go true true e z true true false false w = part
       go true true e z true true true false w = absurd (true≢false w)
@@ -179,7 +179,7 @@ module _ (g : ℕ) (s t : List ℕ) (sized : length s ≡ length t) (row : owner
       go true false e z u f x y w = absurd (true≢false z)
       go false true e z u f x y w = absurd (true≢false (sym z))
 
--- What a step of the card leaves.
+-- What a call on the card leaves.
 
 sender-number : (a : S.Answer) → answerNumber (fromSender a) ≡ senderNumber a
 sender-number S.Answer.Done = refl
@@ -209,30 +209,30 @@ unfolding marked withOwner
 marked-row c i m = length-tabulate 64 (λ j. cond (eqb j i) m (ownerIn (c .owners) j))
 
 sent-given : (c : Card) (g : ℕ) (k : SenderCall) → (answerNumber (sentOf c g k .answer) ≡ 0 → ⊥) → sentOf c g k .card ≡ c
-unfolding stepped refuses
+unfolding groupOutcome refuses
 sent-given c g k d =
-    let r = senderStepOf (P.senderOf c g) k in
-    ap (λ (s : Sender). withSender c g s) (step-given (P.senderOf c g) k (ne-eqb (senderNumber (r .answer)) 0 (λ z. d (sender-number (r .answer) ∙ z)))) ∙ put-back c g
+    let r = senderOutcomeOf (P.senderOf c g) k in
+    ap (λ (s : Sender). withSender c g s) (call-given (P.senderOf c g) k (ne-eqb (senderNumber (r .answer)) 0 (λ z. d (sender-number (r .answer) ∙ z)))) ∙ put-back c g
 
-pub step-refused : (c : Card) (g : ℕ) (k : Call) → (answerNumber (stepOf c g k .answer) ≡ 0 → ⊥) → stepOf c g k .card ≡ c
-step-refused c g k =
+pub call-refused : (c : Card) (g : ℕ) (k : Call) → (answerNumber (outcomeOf c g k .answer) ≡ 0 → ⊥) → outcomeOf c g k .card ≡ c
+call-refused c g k =
     by-ways (λ r. (answerNumber (r .answer) ≡ 0 → ⊥) → r .card ≡ c) c g (λ a d. refl) (λ i m h d. absurd (d (marked-done c i m))) (λ s h d. sent-given c g s d) k
 
-pub no-group : (c : Card) (g : ℕ) (k : Call) → ltb g 2 ≡ false → stepOf c g k .card ≡ c
+pub no-group : (c : Card) (g : ℕ) (k : Call) → ltb g 2 ≡ false → outcomeOf c g k .card ≡ c
 no-group c g k e = by-ways (λ r. r .card ≡ c) c g (λ a. refl) (λ i m h. clash (ltb g 2) (lt-ltb g 2 h) e) (λ s h. clash (ltb g 2) (lt-ltb g 2 h) e) k
 
 -- a card whose senders and owner row are whole
-record HeldCard (c : Card) : Type 0 where
+record KeepableCard (c : Card) : Type 0 where
   pub row : length (c .owners) ≡ 64
-  pub part : (g : ℕ) → g < 2 → Held (P.senderOf c g)
+  pub part : (g : ℕ) → g < 2 → Keepable (P.senderOf c g)
 
 record Leaves (c : Card) (g : ℕ) (r : CardOutcome) : Type 0 where
   pub row : length (r .card .owners) ≡ 64
-  pub own : Held (P.senderOf (r .card) g)
+  pub own : Keepable (P.senderOf (r .card) g)
   pub other : (h : ℕ) → h < 2 → g ≢ h → P.senderOf (r .card) h ≡ P.senderOf c h
 
-step-leaves : (c : Card) (g : ℕ) (k : Call) → g < 2 → HeldCard c → Leaves c g (stepOf c g k)
-step-leaves c g k hg o =
+call-leaves : (c : Card) (g : ℕ) (k : Call) → g < 2 → KeepableCard c → Leaves c g (outcomeOf c g k)
+call-leaves c g k hg o =
     by-ways (Leaves c g) c g
     (λ a. record { row = o .row; own = o .part g hg; other = λ h l n. refl })
     (λ i m l.
@@ -242,10 +242,10 @@ step-leaves c g k hg o =
       other = λ h l n. sender-marked c h i m;
     })
     (λ s l.
-    let r = senderStepOf (P.senderOf c g) s in
+    let r = senderOutcomeOf (P.senderOf c g) s in
     record {
-      row = ap (λ (row : List ℕ). length row) (owners-stepped c g r) ∙ o .row;
-      own = rw (sender-stepped c g r) (held-step (P.senderOf c g) s (o .part g hg));
+      row = ap (λ (row : List ℕ). length row) (owners-outcome c g r) ∙ o .row;
+      own = rw (sender-outcome c g r) (keepable-call (P.senderOf c g) s (o .part g hg));
       other = λ h b n. sender-other c h g r b hg n;
     })
     k
@@ -255,14 +255,14 @@ record KeepsCard (state : List ℕ) (c : Card) : Type 0 where
   pub sized : length state ≡ 858
   pub row : ownersIn state ≡ c .owners
   pub part : (g : ℕ) → g < 2 → senderOf (partIn g state) ≡ P.senderOf c g
-  pub held : HeldCard c
+  pub held : KeepableCard c
 
 card-is : (state : List ℕ) (c : Card) → KeepsCard state c → cardOf state ≡ c
 unfolding cardOf P.senderOf
 card-is state c k = rw (k .row, k .part 0 (omega arith), k .part 1 (omega arith)) refl
 
 -- the part of one group written, where the other's stands
-put-keeps : (state : List ℕ) (c d : Card) (g : ℕ) → g < 2 → length state ≡ 858 → length (d .owners) ≡ 64 → ((h : ℕ) → h < 2 → Held (P.senderOf d h))
+put-keeps : (state : List ℕ) (c d : Card) (g : ℕ) → g < 2 → length state ≡ 858 → length (d .owners) ≡ 64 → ((h : ℕ) → h < 2 → Keepable (P.senderOf d h))
     → ((h : ℕ) → h < 2 → g ≢ h → senderOf (partIn h state) ≡ P.senderOf d h) → KeepsCard (putOwn g d state) d
 put-keeps state c d g hg sized row held other =
     record {
@@ -273,30 +273,30 @@ put-keeps state c d g hg sized row held other =
     }
   where
     own : (h : ℕ) → g ≡ h → senderOf (partIn g (putOwn g d state)) ≡ P.senderOf d g
-    own h e = ap senderOf (own-part d state sized g) ∙ round (P.senderOf d g) (held-whole (P.senderOf d g) (held g hg))
+    own h e = ap senderOf (own-part d state sized g) ∙ round (P.senderOf d g) (keepable-whole (P.senderOf d g) (held g hg))
 
-kept-keeps : (state : List ℕ) (c : Card) (g : ℕ) (k : Call) → g < 2 → KeepsCard state c → KeepsCard (keptCard g (stepOf c g k) state) (stepOf c g k .card)
+kept-keeps : (state : List ℕ) (c : Card) (g : ℕ) (k : Call) → g < 2 → KeepsCard state c → KeepsCard (keptCard g (outcomeOf c g k) state) (outcomeOf c g k .card)
 kept-keeps state c g k hg o =
-    cond-by (λ t. KeepsCard t (stepOf c g k .card)) (eqb (answerNumber (stepOf c g k .answer)) 0) (putOwn g (stepOf c g k .card) state) state
-    (λ e. put-keeps state c (stepOf c g k .card) g hg (o .sized) (w .row) helds (λ h l n. o .part h l ∙ sym (w .other h l n)))
-    (λ e. rw (step-refused c g k (λ z. clash (eqb (answerNumber (stepOf c g k .answer)) 0) (eq-eqb (answerNumber (stepOf c g k .answer)) 0 z) e)) o)
+    cond-by (λ t. KeepsCard t (outcomeOf c g k .card)) (eqb (answerNumber (outcomeOf c g k .answer)) 0) (putOwn g (outcomeOf c g k .card) state) state
+    (λ e. put-keeps state c (outcomeOf c g k .card) g hg (o .sized) (w .row) keepables (λ h l n. o .part h l ∙ sym (w .other h l n)))
+    (λ e. rw (call-refused c g k (λ z. clash (eqb (answerNumber (outcomeOf c g k .answer)) 0) (eq-eqb (answerNumber (outcomeOf c g k .answer)) 0 z) e)) o)
   where
-    w : Leaves c g (stepOf c g k)
-    w = step-leaves c g k hg (o .held)
+    w : Leaves c g (outcomeOf c g k)
+    w = call-leaves c g k hg (o .held)
 
-    helds : (h : ℕ) → h < 2 → Held (P.senderOf (stepOf c g k .card) h)
-    helds h l = ⊎-elim (λ (e : g ≡ h). rw (← e) (w .own)) (λ (n : g ≢ h). rw (w .other h l n) (o .held .part h l)) (eq-or-ne g h)
+    keepables : (h : ℕ) → h < 2 → Keepable (P.senderOf (outcomeOf c g k .card) h)
+    keepables h l = ⊎-elim (λ (e : g ≡ h). rw (← e) (w .own)) (λ (n : g ≢ h). rw (w .other h l n) (o .held .part h l)) (eq-or-ne g h)
 
-step-keeps : (state : List ℕ) (c : Card) (g : ℕ) (k : Call) → KeepsCard state c → KeepsCard (stepStateOn true g k state) (stepOf c g k .card)
-unfolding stepStateOn
-step-keeps state c g k o =
+fit-keeps : (state : List ℕ) (c : Card) (g : ℕ) (k : Call) → KeepsCard state c → KeepsCard (callStateOn true g k state) (outcomeOf c g k .card)
+unfolding callStateOn
+fit-keeps state c g k o =
     rw (eq-eqb (length state) 858 (o .sized), card-is state c o)
-    (cond-by (λ t. KeepsCard t (stepOf c g k .card)) (ltb g 2) (keptCard g (stepOf c g k) state) state
+    (cond-by (λ t. KeepsCard t (outcomeOf c g k .card)) (ltb g 2) (keptCard g (outcomeOf c g k) state) state
     (λ t. kept-keeps state c g k (ltb-true g 2 t) o)
     (λ t. rw (no-group c g k t) o))
 
-unfit-keeps : (state : List ℕ) (c : Card) (g : ℕ) (k : Call) → KeepsCard state c → KeepsCard (stepStateOn false g k state) c
-unfolding stepStateOn
+unfit-keeps : (state : List ℕ) (c : Card) (g : ℕ) (k : Call) → KeepsCard state c → KeepsCard (callStateOn false g k state) c
+unfolding callStateOn
 unfit-keeps state c g k o =
     rw (eq-eqb (length state) 858 (o .sized)) (cond-by (λ t. KeepsCard t c) (ltb g 2) state state (λ t. o) (λ t. o))
 
@@ -323,7 +323,7 @@ fits Owned = true
 
 -- a reading is lent the state and leaves it
 abbrev pub stateAfter : List ℕ → ℕ → Asked → List ℕ
-stateAfter state g (Do k) = stepStateOn (fitting k) g k state
+stateAfter state g (Do k) = callStateOn (fitting k) g k state
 stateAfter state g (Packet i h4) = state
 stateAfter state g (Payload i p frame member) = state
 stateAfter state g Board = state
@@ -341,8 +341,8 @@ meant [] = []
 meant (m ∷ ms) = cond (fits (m .asked)) (m ∷ meant ms) (meant ms)
 
 call-keeps : (state : List ℕ) (c : Card) (g : ℕ) (k : Call) (b : Bool) → KeepsCard state c
-    → KeepsCard (stepStateOn b g k state) (cond b (stepOf c g k .card) c)
-call-keeps state c g k true o = step-keeps state c g k o
+    → KeepsCard (callStateOn b g k state) (cond b (outcomeOf c g k .card) c)
+call-keeps state c g k true o = fit-keeps state c g k o
 call-keeps state c g k false o = unfit-keeps state c g k o
 
 asked-keeps : (state : List ℕ) (c : Card) (g : ℕ) (k : Asked) → KeepsCard state c → KeepsCard (stateAfter state g k) (cond (fits k) (cardAfter c g k) c)
@@ -364,11 +364,11 @@ run-keeps state c (m ∷ ms) o =
     chosen false = refl
 
 module _ (count e₀ e₁ : ℕ) (state : List ℕ) (ms : List Made) (done : startAnswerOn count e₀ e₁ state ≡ 0) where
-  started-held : (g : ℕ) → g < 2 → Held (P.senderOf (startOf 0 count e₀ e₁ .card) g)
+  started-keepable : (g : ℕ) → g < 2 → Keepable (P.senderOf (startOf 0 count e₀ e₁ .card) g)
   unfolding P.senderOf startOf
-  started-held zero h = held-begin count e₀
-  started-held (suc zero) h = held-begin count e₁
-  started-held (suc (suc g)) h = absurd (omega arith)
+  started-keepable zero h = keepable-begin count e₀
+  started-keepable (suc zero) h = keepable-begin count e₁
+  started-keepable (suc (suc g)) h = absurd (omega arith)
 
   started-row : length (startOf 0 count e₀ e₁ .card .owners) ≡ 64
   unfolding startOf
@@ -377,13 +377,13 @@ module _ (count e₀ e₁ : ℕ) (state : List ℕ) (ms : List Made) (done : sta
   both-put : length state ≡ 858 → KeepsCard (putCard (startOf 0 count e₀ e₁ .card) state) (startOf 0 count e₀ e₁ .card)
   both-put l =
       let d = startOf 0 count e₀ e₁ .card in
-      put-keeps (putOwn 0 d state) d d 1 (omega arith) (put-sized 0 d state ∙ l) started-row started-held
+      put-keeps (putOwn 0 d state) d d 1 (omega arith) (put-sized 0 d state ∙ l) started-row started-keepable
       (λ h b n. first h b n l)
     where
       first : (h : ℕ) → h < 2 → 1 ≢ h → length state ≡ 858 → senderOf (partIn h (putOwn 0 (startOf 0 count e₀ e₁ .card) state)) ≡ P.senderOf (startOf 0 count e₀ e₁ .card) h
       first zero b n l =
           let d = startOf 0 count e₀ e₁ .card in
-          ap senderOf (own-part d state l 0) ∙ round (P.senderOf d 0) (held-whole (P.senderOf d 0) (started-held 0 (omega arith)))
+          ap senderOf (own-part d state l 0) ∙ round (P.senderOf d 0) (keepable-whole (P.senderOf d 0) (started-keepable 0 (omega arith)))
       first (suc zero) b n l = absurd (n refl)
       first (suc (suc h)) b n l = absurd (omega arith)
 

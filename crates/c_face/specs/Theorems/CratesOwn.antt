@@ -8,7 +8,7 @@ use lib.ListN.{length}
 use borrow.Author.Tests.{eq-eqb, eqb-true, le-ltb, lt-ltb, ne-eqb}
 use Rattle.ground.specs.Flags.{oneIf}
 use Rattle.circuits.specs.Answers.{answerNumber as cardNumber, fromSender}
-use Rattle.circuits.specs.Calls.{Call, stepOf}
+use Rattle.circuits.specs.Calls.{Call, outcomeOf}
 use Rattle.circuits.specs.Commands.{startOf as cardStart}
 use Rattle.circuits.specs.Readings as card
 use Rattle.packet.specs.declared.layout.Fields.{Fields}
@@ -28,16 +28,16 @@ use Rattle.sender.specs.Board.{boardOf}
 use Rattle.sender.specs.Commands.{answered, freshOf, startOf}
 use Rattle.sender.specs.declared.table.Answer.the-variants.{Done, OutOfRange}
 use Rattle.sender.specs.declared.table.Outcome.{Outcome}
-use Rattle.sender.specs.Epochs.{SenderCall, beginOf, packetAnswer, packetBytes, payloadAnswer, payloadBytes, ranksOf, senderStepOf}
+use Rattle.sender.specs.Epochs.{SenderCall, beginOf, packetAnswer, packetBytes, payloadAnswer, payloadBytes, ranksOf, senderOutcomeOf}
 use Rattle.sender.specs.Table.{answerNumber}
 use Rattle.c_face.specs.Boards.{boardBytesC, boardBytesOf, goingBytesC, ranksBytesC, ranksBytesOf, shownAnswerC, shownBytes}
-use Rattle.c_face.specs.Cards.{boardBytesOn, cardOf, keptCard, outgoingBytesOn, ownedBytesOn, packetAnswerOn, packetBytesOn, payloadAnswerOn, payloadBytesOn, putCard, ranksBytesOn, shownAnswerOn, shownBytesOn, startAnswerOn, startStateOn, stepAnswerOn, stepStateOn}
+use Rattle.c_face.specs.Cards.{boardBytesOn, callAnswerOn, callStateOn, cardOf, keptCard, outgoingBytesOn, ownedBytesOn, packetAnswerOn, packetBytesOn, payloadAnswerOn, payloadBytesOn, putCard, ranksBytesOn, shownAnswerOn, shownBytesOn, startAnswerOn, startStateOn}
 use Rattle.c_face.specs.Keeping.{bytesOf, senderOf}
 use Rattle.c_face.specs.Payloads.{joinAnswerC, joinFrameC, spreadAnswerC, spreadMembersC}
 use Rattle.c_face.specs.Packets.{readAnswerC, readFieldsC, readFixedAnswerC, readFixedFieldsC, valuesOr, writeAnswerC, writeBytesC, writeFixedAnswerC}
 use Rattle.c_face.specs.Plans.{checkAnswerC, checkByteC, lentAnswer, lentBytes, planAnswerC, planBytesC, planBytesOf}
 use Rattle.c_face.specs.Receivers.{H4, failedC, startAsAnswerC, startAsRowsC}
-use Rattle.c_face.specs.Senders.{areBytes, keptBytes, outside, packetAnswerC, packetBytesC, payloadAnswerC, payloadBytesC, startAnswerC, startStateC, stepAnswerC, stepStateC}
+use Rattle.c_face.specs.Senders.{areBytes, callAnswerC, callStateC, keptBytes, outside, packetAnswerC, packetBytesC, payloadAnswerC, payloadBytesC, startAnswerC, startStateC}
 
 -- levelspruce_packet_write is packet::write on fields that are bytes
 pub write-own : (f : Fields) (h4 : List ℕ)
@@ -110,11 +110,11 @@ module _ (count first : ℕ) (state : List ℕ) (sized : length state ≡ 397) (
   unfolding startStateC
   start-empty-own o = rw (eq-eqb (length state) 397 sized, o) refl
 
--- levelspruce_sender_add, _remove, _report, _lapse and _start_epoch are the sender's own steps on the sender in the state; a refusal encodes nothing anew.
-pub step-own : (call : SenderCall) (state : List ℕ) → length state ≡ 397
-    → (stepAnswerC true call state ≡ answerNumber (senderStepOf (senderOf state) call .answer)) × (stepStateC true call state ≡ keptBytes (senderStepOf (senderOf state) call) state)
-unfolding stepAnswerC stepStateC
-step-own call state h = rw (eq-eqb (length state) 397 h) (refl, refl)
+-- levelspruce_sender_add, _remove, _report, _lapse and _start_epoch are the sender's own calls on the sender in the state; a refusal encodes nothing anew.
+pub call-own : (call : SenderCall) (state : List ℕ) → length state ≡ 397
+    → (callAnswerC true call state ≡ answerNumber (senderOutcomeOf (senderOf state) call .answer)) × (callStateC true call state ≡ keptBytes (senderOutcomeOf (senderOf state) call) state)
+unfolding callAnswerC callStateC
+call-own call state h = rw (eq-eqb (length state) 397 h) (refl, refl)
 
 -- levelspruce_sender_packet and levelspruce_sender_payload are Sender::packet and Sender::payload
 pub packet-own : (state : List ℕ) (slot : ℕ) (h4 : List ℕ) → length state ≡ 397
@@ -171,10 +171,10 @@ module _ (count e₀ e₁ : ℕ) (state : List ℕ) (sized : length state ≡ 85
 
 -- the other calls of a card are the card's own on the card in the state, for either group
 module _ (state : List ℕ) (g : ℕ) (sized : length state ≡ 858) (group : g < 2) where
-  pub card-step-own : (call : Call)
-      → (stepAnswerOn true g call state ≡ cardNumber (stepOf (cardOf state) g call .answer)) × (stepStateOn true g call state ≡ keptCard g (stepOf (cardOf state) g call) state)
-  unfolding stepAnswerOn stepStateOn
-  card-step-own call = rw (eq-eqb (length state) 858 sized, lt-ltb g 2 group) (refl, refl)
+  pub card-call-own : (call : Call)
+      → (callAnswerOn true g call state ≡ cardNumber (outcomeOf (cardOf state) g call .answer)) × (callStateOn true g call state ≡ keptCard g (outcomeOf (cardOf state) g call) state)
+  unfolding callAnswerOn callStateOn
+  card-call-own call = rw (eq-eqb (length state) 858 sized, lt-ltb g 2 group) (refl, refl)
 
   pub card-packet-own : (slot : ℕ) (h4 : List ℕ)
       → (packetAnswerOn state g slot h4 ≡ cardNumber (card.packetAnswer (cardOf state) g slot h4)) × (packetBytesOn state g slot h4 ≡ card.packetBytes (cardOf state) g slot h4)

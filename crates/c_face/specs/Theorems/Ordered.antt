@@ -12,7 +12,7 @@ use Rattle.ground.specs.Table.{tabulate, tabulate-ext}
 use Rattle.circuits.specs.declared.card.Card.{Card}
 use Rattle.circuits.specs.declared.card.CardOutcome.{CardOutcome}
 use Rattle.circuits.specs.Answers.{answerNumber}
-use Rattle.circuits.specs.Calls.{Call, stepOf}
+use Rattle.circuits.specs.Calls.{Call, outcomeOf}
 use Rattle.circuits.specs.Owners.{ownerIn}
 use Rattle.circuits.specs.Parts as P
 use Rattle.circuits.specs.Views.{Made}
@@ -20,7 +20,7 @@ use Rattle.circuits.specs.Views.Asked.{Do}
 use Rattle.orders.specs.declared.commands.Kind as K
 use Rattle.orders.specs.Laws.Folding.{cut-numbers, cut-state, stateAt}
 use Rattle.orders.specs.Orders.{callBy}
-use Rattle.c_face.specs.Cards.{cardOf, isCard, keptCard, partAt, putOwn, stepAnswerOn, stepStateOn}
+use Rattle.c_face.specs.Cards.{callAnswerOn, callStateOn, cardOf, isCard, keptCard, partAt, putOwn}
 use Rattle.c_face.specs.Keeping.{byteAt, stateBytes}
 use Rattle.c_face.specs.Orders.{commandAnswerOn, commandStateOn, kindAnswerOn, kindOf, kindStateOn, orderAnswerOn, orderAnswersOn, orderStateOn, ordersOn}
 use Rattle.c_face.specs.Theorems.CardRuns.{fitting, refused-stands, runOn}
@@ -37,17 +37,17 @@ put-length g c s =
     let row : List ℕ = fillAt 0 64 (ownerIn (c .owners)) s in
     length-fillAt (partAt g) stateBytes (byteAt (P.senderOf c g)) row ∙ length-fillAt 0 64 (ownerIn (c .owners)) s
 
-pub step-length : (fits : Bool) (g : ℕ) (call : Call) (s : List ℕ) → length (stepStateOn fits g call s) ≡ length s
-unfolding stepStateOn
-step-length fits g call s =
-    let step : CardOutcome = stepOf (cardOf s) g call in
-    let kept : length (keptCard g step s) ≡ length s = cond-length (eqb (answerNumber (step .answer)) 0) (putOwn g (step .card) s) s s (put-length g (step .card) s) refl in
-    let new : length (cond fits (keptCard g step s) s) ≡ length s = cond-length fits (keptCard g step s) s s kept refl in
-    cond-length (isCard s) _ s s (cond-length (ltb g 2) (cond fits (keptCard g step s) s) s s new refl) refl
+pub call-length : (fits : Bool) (g : ℕ) (call : Call) (s : List ℕ) → length (callStateOn fits g call s) ≡ length s
+unfolding callStateOn
+call-length fits g call s =
+    let outcome : CardOutcome = outcomeOf (cardOf s) g call in
+    let kept : length (keptCard g outcome s) ≡ length s = cond-length (eqb (answerNumber (outcome .answer)) 0) (putOwn g (outcome .card) s) s s (put-length g (outcome .card) s) refl in
+    let new : length (cond fits (keptCard g outcome s) s) ≡ length s = cond-length fits (keptCard g outcome s) s s kept refl in
+    cond-length (isCard s) _ s s (cond-length (ltb g 2) (cond fits (keptCard g outcome s) s) s s new refl) refl
 
 pub kind-length : (kind g slot : ℕ) (s : List ℕ) → length (kindStateOn kind g slot s) ≡ length s
 unfolding kindStateOn
-kind-length kind g slot s = cond-length (ltb 3 kind) s (stepStateOn true g (callBy (kindOf kind) slot) s) s refl (step-length true g (callBy (kindOf kind) slot) s)
+kind-length kind g slot s = cond-length (ltb 3 kind) s (callStateOn true g (callBy (kindOf kind) slot) s) s refl (call-length true g (callBy (kindOf kind) slot) s)
 
 pub turns-length : (s : List ℕ) (cs : List (List ℕ)) (i : ℕ) → length (stateAt commandStateOn commandAnswerOn [] s cs i) ≡ length s
 turns-length s cs zero = refl
@@ -63,7 +63,7 @@ singlesIn (c ∷ cs) =
 
 -- the number of each single call, on the bytes that those before it left; a host that knows no such kind says 8 by itself
 abbrev pub numberOn : List ℕ → List ℕ → ℕ
-numberOn s c = cond (ltb 3 (getD c 0 0)) 8 (stepAnswerOn true (getD c 1 0) (callBy (kindOf (getD c 0 0)) (getD c 2 0)) s)
+numberOn s c = cond (ltb 3 (getD c 0 0)) 8 (callAnswerOn true (getD c 1 0) (callBy (kindOf (getD c 0 0)) (getD c 2 0)) s)
 
 abbrev pub numbersOn : List ℕ → List (List ℕ) → List ℕ
 numbersOn s cs = tabulate (length cs) (λ i. numberOn (runOn s (singlesIn (take i cs))) (getD cs i []))
@@ -82,9 +82,9 @@ run-first s c cs = go (ltb 3 (getD c 0 0))
     call : Call
     call = callBy (kindOf (getD c 0 0)) (getD c 2 0)
 
-    go : (b : Bool) → runOn s (cond b (singlesIn cs) (record { group = getD c 1 0; asked = Do call } ∷ singlesIn cs)) ≡ runOn (cond b s (stepStateOn true (getD c 1 0) call s)) (singlesIn cs)
+    go : (b : Bool) → runOn s (cond b (singlesIn cs) (record { group = getD c 1 0; asked = Do call } ∷ singlesIn cs)) ≡ runOn (cond b s (callStateOn true (getD c 1 0) call s)) (singlesIn cs)
     go true = refl
-    go false = ap (λ (f : Bool). runOn (stepStateOn f (getD c 1 0) call s) (singlesIn cs)) (all-fit (kindOf (getD c 0 0)) (getD c 2 0))
+    go false = ap (λ (f : Bool). runOn (callStateOn f (getD c 1 0) call s) (singlesIn cs)) (all-fit (kindOf (getD c 0 0)) (getD c 2 0))
 
 bytes-single : (s : List ℕ) (cs : List (List ℕ)) → ordersOn s cs .state ≡ runOn s (singlesIn cs)
 bytes-single s [] = refl
@@ -117,7 +117,7 @@ command-refused s command = go (ltb 3 (getD command 0 0))
     call : Call
     call = callBy (kindOf (getD command 0 0)) (getD command 2 0)
 
-    go : (b : Bool) → cond b 8 (stepAnswerOn true (getD command 1 0) call s) ≢ 0 → cond b s (stepStateOn true (getD command 1 0) call s) ≡ s
+    go : (b : Bool) → cond b 8 (callAnswerOn true (getD command 1 0) call s) ≢ 0 → cond b s (callStateOn true (getD command 1 0) call s) ≡ s
     go true n = refl
     go false n = refused-stands true (getD command 1 0) call s n
 

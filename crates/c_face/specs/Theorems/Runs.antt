@@ -15,19 +15,19 @@ use Rattle.sender.specs.declared.epochs.SenderOutcome.{SenderOutcome}
 use Rattle.sender.specs.declared.table.Answer.{Answer}
 use Rattle.sender.specs.declared.table.Answer.the-variants.{Done, NotAllowed, Field}
 use Rattle.sender.specs.declared.table.Table.{Table}
+use Rattle.sender.specs.Calls.{Call, outcomeOf}
+use Rattle.sender.specs.Calls.Call.{AddSlot, RemoveSlot, Report, Lapse}
 use Rattle.sender.specs.Commands.{addOf, addedTo, answered, inOrder, lapseOf, removeOf, removedFrom, startOf, withSlots}
-use Rattle.sender.specs.Epochs.{SenderCall, beginOf, freshSender, senderRun, senderStepOf, startEpochOf, startedSender}
+use Rattle.sender.specs.Epochs.{SenderCall, beginOf, freshSender, senderOutcomeOf, senderRun, startEpochOf, startedSender}
 use Rattle.sender.specs.Epochs.SenderCall.{OnTable, StartEpoch}
-use Rattle.sender.specs.Laws.Kept.{Sound, sound-start, sound-step}
+use Rattle.sender.specs.Laws.Kept.{Sound, sound-call, sound-start}
 use Rattle.sender.specs.Numbering.{Demand2}
 use Rattle.sender.specs.Reports.{reportOf}
-use Rattle.sender.specs.Steps.{Call, stepOf}
-use Rattle.sender.specs.Steps.Call.{AddSlot, RemoveSlot, Report, Lapse}
 use Rattle.sender.specs.Table.{answerNumber, isMember, sizeOf, slotAt}
 use Rattle.sender.specs.Theorems.Demand2.{sound-demand2}
 use Rattle.sender.specs.Theorems.Epochs.{Demand2Kept, demand2-kept}
 use Rattle.c_face.specs.Keeping.{bytesOf, byteAt, senderOf}
-use Rattle.c_face.specs.Senders.{areBytes, isState, keptBytes, outside, startAnswerC, startStateC, stepStateC}
+use Rattle.c_face.specs.Senders.{areBytes, callStateC, isState, keptBytes, outside, startAnswerC, startStateC}
 use Rattle.c_face.specs.Theorems.Round.{Whole, round}
 
 -- a C call: the sender's call, with what the C call asks of its numbers
@@ -41,7 +41,7 @@ fits (StartEpoch gid mst ack) = areBytes gid mst ack
 -- the state after C calls
 abbrev pub runC : List ℕ → List SenderCall → List ℕ
 runC state [] = state
-runC state (c ∷ cs) = runC (stepStateC (fits c) c state) cs
+runC state (c ∷ cs) = runC (callStateC (fits c) c state) cs
 
 -- the calls among them that are not refused with 8 for a number that is no byte
 abbrev pub meant : List SenderCall → List SenderCall
@@ -49,35 +49,35 @@ meant [] = []
 meant (c ∷ cs) = cond (fits c) (c ∷ meant cs) (meant cs)
 
 -- what a start or a call leaves
-pub record Held (s : Sender) : Type 0 where
+pub record Keepable (s : Sender) : Type 0 where
   pub table : Sound (s .table)
   pub outgoing : length (s .outgoing .rows) ≡ 64
   pub ruling : length (s .ruling .rows) ≡ 64
 
-pub held-whole : (s : Sender) → Held s → Whole s
-held-whole s h = record { slots = h .table .whole; outgoing = h .outgoing; ruling = h .ruling }
+pub keepable-whole : (s : Sender) → Keepable s → Whole s
+keepable-whole s h = record { slots = h .table .whole; outgoing = h .outgoing; ruling = h .ruling }
 
 board-whole : (t : Table) → length (boardOf t .rows) ≡ 64
 unfolding boardOf rowsOf
 board-whole t =
     length-each (sizeOf (t .count)) (λ i. rowOf (t .slots) (sizeOf (t .count)) i) (replicate 64 (noRow (t .kind))) ∙ length-replicate 64 (noRow (t .kind))
 
-pub held-begin : (count first : ℕ) → Held (beginOf 0 count first .sender)
+pub keepable-begin : (count first : ℕ) → Keepable (beginOf 0 count first .sender)
 unfolding beginOf freshSender
-held-begin count first = record { table = sound-start 0 count; outgoing = board-whole (startOf 0 count .table); ruling = board-whole (startOf 0 count .table) }
+keepable-begin count first = record { table = sound-start 0 count; outgoing = board-whole (startOf 0 count .table); ruling = board-whole (startOf 0 count .table) }
 
-pub held-step : (s : Sender) (c : SenderCall) → Held s → Held (senderStepOf s c .sender)
+pub keepable-call : (s : Sender) (c : SenderCall) → Keepable s → Keepable (senderOutcomeOf s c .sender)
 unfolding startEpochOf startedSender
-held-step s (OnTable c) h = record { table = sound-step (s .table) c (h .table); outgoing = h .outgoing; ruling = h .ruling }
-held-step s (StartEpoch gid mst ack) h = go (ltb gid 2 && ltb ack 2)
+keepable-call s (OnTable c) h = record { table = sound-call (s .table) c (h .table); outgoing = h .outgoing; ruling = h .ruling }
+keepable-call s (StartEpoch gid mst ack) h = go (ltb gid 2 && ltb ack 2)
   where
-    go : (b : Bool) → Held (cond {A = SenderOutcome} b (record { sender = startedSender s gid mst ack; answer = Done }) (record { sender = s; answer = Field }) .sender)
+    go : (b : Bool) → Keepable (cond {A = SenderOutcome} b (record { sender = startedSender s gid mst ack; answer = Done }) (record { sender = s; answer = Field }) .sender)
     go true = record { table = h .table; outgoing = board-whole (s .table); ruling = h .outgoing }
     go false = h
 
-held-run : (s : Sender) (cs : List SenderCall) → Held s → Held (senderRun s cs)
-held-run s [] h = h
-held-run s (c ∷ cs) h = held-run (senderStepOf s c .sender) cs (held-step s c h)
+keepable-run : (s : Sender) (cs : List SenderCall) → Keepable s → Keepable (senderRun s cs)
+keepable-run s [] h = h
+keepable-run s (c ∷ cs) h = keepable-run (senderOutcomeOf s c .sender) cs (keepable-call s c h)
 
 -- a refusal leaves the sender as given
 unfoldable pub refuses : Answer → Bool
@@ -105,44 +105,44 @@ unfolding refuses
 epoch-given s next true k = absurd (true≢false k)
 epoch-given s next false k = refl
 
-table-given : (t : Table) (c : Call) → refuses (stepOf t c .answer) ≡ false → stepOf t c .table ≡ t
+table-given : (t : Table) (c : Call) → refuses (outcomeOf t c .answer) ≡ false → outcomeOf t c .table ≡ t
 unfolding addOf removeOf reportOf lapseOf refuses
 table-given t (AddSlot i) k = order-given t (addedTo t i) i (not (isMember (slotAt (t .slots) i .state))) k
 table-given t (RemoveSlot i) k = order-given t (removedFrom t i) i (isMember (slotAt (t .slots) i .state)) k
 table-given t (Report e mst ack) k = absurd (true≢false k)
 table-given t Lapse k = lapse-given t (t .wait) k
 
-pub step-given : (s : Sender) (c : SenderCall) → refuses (senderStepOf s c .answer) ≡ false → senderStepOf s c .sender ≡ s
+pub call-given : (s : Sender) (c : SenderCall) → refuses (senderOutcomeOf s c .answer) ≡ false → senderOutcomeOf s c .sender ≡ s
 unfolding startEpochOf
-step-given s (OnTable c) k =
+call-given s (OnTable c) k =
     ap (λ (t : Table). record { table = t; outgoing = s .outgoing; ruling = s .ruling; epoch = s .epoch; begun = s .begun; gid = s .gid; mst = s .mst; «rs_ack» = s .«rs_ack» })
     (table-given (s .table) c k)
-step-given s (StartEpoch gid mst ack) k = epoch-given s (startedSender s gid mst ack) (ltb gid 2 && ltb ack 2) k
+call-given s (StartEpoch gid mst ack) k = epoch-given s (startedSender s gid mst ack) (ltb gid 2 && ltb ack 2) k
 
 -- A state in which a sender is held, and what a C call makes of it.
 record Keeps (state : List ℕ) (s : Sender) : Type 0 where
   pub sized : length state ≡ 397
   pub is : senderOf state ≡ s
-  pub held : Held s
+  pub held : Keepable s
 
-bytes-keep : (s : Sender) → Held s → Keeps (bytesOf s) s
+bytes-keep : (s : Sender) → Keepable s → Keeps (bytesOf s) s
 unfolding bytesOf
-bytes-keep s h = record { sized = length-tabulate 397 (byteAt s); is = round s (held-whole s h); held = h }
+bytes-keep s h = record { sized = length-tabulate 397 (byteAt s); is = round s (keepable-whole s h); held = h }
 
-kept-step : (state : List ℕ) (s : Sender) (c : SenderCall) → Keeps state s → Keeps (keptBytes (senderStepOf s c) state) (senderStepOf s c .sender)
+kept-call : (state : List ℕ) (s : Sender) (c : SenderCall) → Keeps state s → Keeps (keptBytes (senderOutcomeOf s c) state) (senderOutcomeOf s c .sender)
 unfolding refuses
-kept-step state s c k = go (refuses (senderStepOf s c .answer)) refl
+kept-call state s c k = go (refuses (senderOutcomeOf s c .answer)) refl
   where
-    go : (b : Bool) → refuses (senderStepOf s c .answer) ≡ b → Keeps (cond b (bytesOf (senderStepOf s c .sender)) state) (senderStepOf s c .sender)
-    go true e = bytes-keep (senderStepOf s c .sender) (held-step s c (k .held))
-    go false e = rw (step-given s c e) k
+    go : (b : Bool) → refuses (senderOutcomeOf s c .answer) ≡ b → Keeps (cond b (bytesOf (senderOutcomeOf s c .sender)) state) (senderOutcomeOf s c .sender)
+    go true e = bytes-keep (senderOutcomeOf s c .sender) (keepable-call s c (k .held))
+    go false e = rw (call-given s c e) k
 
-step-keeps : (state : List ℕ) (s : Sender) (c : SenderCall) → Keeps state s → Keeps (stepStateC true c state) (senderStepOf s c .sender)
-unfolding stepStateC
-step-keeps state s c k = rw (eq-eqb (length state) 397 (k .sized), k .is) (kept-step state s c k)
+call-keeps : (state : List ℕ) (s : Sender) (c : SenderCall) → Keeps state s → Keeps (callStateC true c state) (senderOutcomeOf s c .sender)
+unfolding callStateC
+call-keeps state s c k = rw (eq-eqb (length state) 397 (k .sized), k .is) (kept-call state s c k)
 
-unfit-keeps : (state : List ℕ) (s : Sender) (c : SenderCall) → Keeps state s → Keeps (stepStateC false c state) s
-unfolding stepStateC
+unfit-keeps : (state : List ℕ) (s : Sender) (c : SenderCall) → Keeps state s → Keeps (callStateC false c state) s
+unfolding callStateC
 unfit-keeps state s c k = rw (eq-eqb (length state) 397 (k .sized)) k
 
 run-keeps : (state : List ℕ) (s : Sender) (cs : List SenderCall) → Keeps state s → Keeps (runC state cs) (senderRun s (meant cs))
@@ -150,9 +150,9 @@ run-keeps state s [] k = k
 run-keeps state s (c ∷ cs) k = go (λ t u w. run-keeps t u cs w) (fits c)
   where
     go : ((t : List ℕ) (u : Sender) → Keeps t u → Keeps (runC t cs) (senderRun u (meant cs))) → (b : Bool)
-        → Keeps (runC (stepStateC b c state) cs) (senderRun s (cond b (c ∷ meant cs) (meant cs)))
-    go rest true = rest (stepStateC true c state) (senderStepOf s c .sender) (step-keeps state s c k)
-    go rest false = rest (stepStateC false c state) s (unfit-keeps state s c k)
+        → Keeps (runC (callStateC b c state) cs) (senderRun s (cond b (c ∷ meant cs) (meant cs)))
+    go rest true = rest (callStateC true c state) (senderOutcomeOf s c .sender) (call-keeps state s c k)
+    go rest false = rest (callStateC false c state) s (unfit-keeps state s c k)
 
 module _ (count first : ℕ) (state : List ℕ) (cs : List SenderCall) (done : startAnswerC count first state ≡ 0) where
   start-keeps : Keeps (startStateC count first state) (beginOf 0 count first .sender)
@@ -164,7 +164,7 @@ module _ (count first : ℕ) (state : List ℕ) (cs : List SenderCall) (done : s
       go true l f e = absurd (omega arith)
       go false false f e = absurd (omega arith)
       go false true true e = absurd (omega arith)
-      go false true false e = bytes-keep (beginOf 0 count first .sender) (held-begin count first)
+      go false true false e = bytes-keep (beginOf 0 count first .sender) (keepable-begin count first)
 
   -- any C calls after a C start that was done: the state holds the sender's own run
   pub runs-own : senderOf (runC (startStateC count first state) cs) ≡ senderRun (beginOf 0 count first .sender) (meant cs)
@@ -177,7 +177,7 @@ module _ (count first : ℕ) (state : List ℕ) (cs : List SenderCall) (done : s
   -- and demand 2 holds of its table
   pub runs-demand2 : Demand2 (senderOf (runC (startStateC count first state) cs) .table)
   runs-demand2 =
-      rw runs-own (sound-demand2 (senderRun (beginOf 0 count first .sender) (meant cs) .table) (held-run (beginOf 0 count first .sender) (meant cs) (held-begin count first) .table))
+      rw runs-own (sound-demand2 (senderRun (beginOf 0 count first .sender) (meant cs) .table) (keepable-run (beginOf 0 count first .sender) (meant cs) (keepable-begin count first) .table))
 
   -- and of both tables that an epoch's start keeps
   pub runs-demand2-kept : Demand2Kept (senderOf (runC (startStateC count first state) cs))

@@ -5,19 +5,19 @@ use mathlib.Core.List.{List}
 use Prim.Native.Nat.{ℕ}
 use lib.Dec.{ltb}
 use Rattle.sender.specs.declared.epochs.Sender.{Sender}
-use Rattle.sender.specs.Epochs.{SenderCall, senderStepOf}
+use Rattle.sender.specs.Epochs.{SenderCall, senderOutcomeOf}
 use Rattle.sender.specs.Table.{isMember, sizeOf, slotAt}
 use Rattle.circuits.specs.declared.answers.Answer.{Answer}
 use Rattle.circuits.specs.declared.answers.Answer.the-variants.{NoSlot, Owned, Used}
 use Rattle.circuits.specs.declared.card.Card.{Card}
 use Rattle.circuits.specs.declared.card.CardOutcome.{CardOutcome}
 use Rattle.circuits.specs.Answers.{fromSender}
-use Rattle.circuits.specs.Calls.{Call, stepOf}
+use Rattle.circuits.specs.Calls.{Call, outcomeOf}
 use Rattle.circuits.specs.Calls.Call.{Claim, Release, AddSlot, RemoveSlot, Report, Lapse, StartEpoch}
 use Rattle.circuits.specs.Commands.{claimOf, commandOf, groupCallOf, ofOwn, releaseOf, sentOf}
-use Rattle.circuits.specs.Laws.Seeing.{owners-stepped, sender-marked, sender-stepped}
+use Rattle.circuits.specs.Laws.Seeing.{owners-outcome, sender-marked, sender-outcome}
 use Rattle.circuits.specs.Owners.{hasOwner, isMarked, markOf, withOwner}
-use Rattle.circuits.specs.Parts.{isSlot, isUsed, marked, owns, refused, senderOf, shownSender, stepped}
+use Rattle.circuits.specs.Parts.{groupOutcome, isSlot, isUsed, marked, owns, refused, senderOf, shownSender}
 use Rattle.circuits.specs.Readings.{packetAnswer, packetBytes, payloadAnswer, payloadBytes}
 
 pub record Alike (g : ℕ) (c d : Card) : Type 0 where
@@ -67,19 +67,19 @@ module _ (g : ℕ) (c d : Card) (a : Alike g c d) where
       }
 
   answer-sent : (k : SenderCall) → sentOf c g k .answer ≡ sentOf d g k .answer
-  unfolding stepped
-  answer-sent k = ap (λ (s : Sender). fromSender (senderStepOf s k .answer)) (a .sender)
+  unfolding groupOutcome
+  answer-sent k = ap (λ (s : Sender). fromSender (senderOutcomeOf s k .answer)) (a .sender)
 
   alike-sent : (k : SenderCall) → AlikeAfter g (sentOf c g k) (sentOf d g k)
   alike-sent k =
-      let r = senderStepOf (senderOf c g) k in
-      let q = senderStepOf (senderOf d g) k in
+      let r = senderOutcomeOf (senderOf c g) k in
+      let q = senderOutcomeOf (senderOf d g) k in
       record {
         answer = answer-sent k;
         card =
             record {
-              owners = owners-stepped c g r ∙ a .owners ∙ sym (owners-stepped d g q);
-              sender = sender-stepped c g r ∙ ap (λ (s : Sender). senderStepOf s k .sender) (a .sender) ∙ sym (sender-stepped d g q);
+              owners = owners-outcome c g r ∙ a .owners ∙ sym (owners-outcome d g q);
+              sender = sender-outcome c g r ∙ ap (λ (s : Sender). senderOutcomeOf s k .sender) (a .sender) ∙ sym (sender-outcome d g q);
             };
       }
 
@@ -94,16 +94,16 @@ module _ (g : ℕ) (c d : Card) (a : Alike g c d) where
   unfolding groupCallOf
   alike-group-call k = alike-cond {b = ltb g 2} {e = ltb g 2} refl (alike-sent k) (alike-refused NoSlot)
 
-  pub alike-step : (k : Call) → AlikeAfter g (stepOf c g k) (stepOf d g k)
+  pub alike-call : (k : Call) → AlikeAfter g (outcomeOf c g k) (outcomeOf d g k)
   unfolding claimOf releaseOf
-  alike-step (Claim i) =
+  alike-call (Claim i) =
       alike-cond (same-slot i) (alike-cond (ap (λ (row : List ℕ). hasOwner row i) (a .owners)) (alike-refused Owned) (alike-marked i (markOf g))) (alike-refused NoSlot)
-  alike-step (Release i) = alike-own i (alike-cond (same-used i) (alike-refused Used) (alike-marked i 0))
-  alike-step (AddSlot i) = alike-command i _
-  alike-step (RemoveSlot i) = alike-command i _
-  alike-step (Report e mst ack) = alike-group-call _
-  alike-step Lapse = alike-group-call _
-  alike-step (StartEpoch gid mst ack) = alike-group-call _
+  alike-call (Release i) = alike-own i (alike-cond (same-used i) (alike-refused Used) (alike-marked i 0))
+  alike-call (AddSlot i) = alike-command i _
+  alike-call (RemoveSlot i) = alike-command i _
+  alike-call (Report e mst ack) = alike-group-call _
+  alike-call Lapse = alike-group-call _
+  alike-call (StartEpoch gid mst ack) = alike-group-call _
 
   -- what is read is alike too
   pub alike-packet : (i : ℕ) (h4 : List ℕ) → (packetAnswer c g i h4 ≡ packetAnswer d g i h4) × (packetBytes c g i h4 ≡ packetBytes d g i h4)

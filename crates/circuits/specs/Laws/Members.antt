@@ -1,4 +1,4 @@
--- Which slots a sender's step makes members: the one added alone.
+-- Which slots a sender's call makes members: the one added alone.
 use mathlib.Core.Path.{_≡_, refl, _∙_, sym, ap}
 use mathlib.Core.Logic.{⊎-elim, _⊎_, inl, inr, _≢_}
 use mathlib.Core.Bool.{Bool, true, false, cond, not, false≢true}
@@ -17,10 +17,10 @@ use Rattle.sender.specs.declared.table.Slot.{Slot}
 use Rattle.sender.specs.declared.table.State.{State}
 use Rattle.sender.specs.declared.table.State.the-variants.{Idle, Add, Active, Dnu}
 use Rattle.sender.specs.declared.table.Table.{Table}
+use Rattle.sender.specs.Calls.{outcomeOf}
+use Rattle.sender.specs.Calls.Call.{AddSlot, RemoveSlot, Report, Lapse}
 use Rattle.sender.specs.Commands.{addOf, addedTo, answered, fallen, fallenIn, idleSlot, inOrder, lapseOf, removeOf, removedFrom, withSlots}
 use Rattle.sender.specs.Reports.{actedOn, becomes, mstApplied, numberAfter, numberApplied, renumbered, reportOf, slotAfter, spokenTo, turnOf, waited}
-use Rattle.sender.specs.Steps.{stepOf}
-use Rattle.sender.specs.Steps.Call.{AddSlot, RemoveSlot, Report, Lapse}
 use Rattle.sender.specs.Table.{holderOf, isAdd, isMember, sizeOf, slotAt}
 
 abbrev pub memberAt : List Slot → ℕ → Bool
@@ -124,19 +124,19 @@ removed-member t i j m =
     (λ o. absurd (false≢true (o .1)))
     (set-member (each (sizeOf (t .count)) (λ k. fallen q (slotAt (t .slots) k)) (t .slots)) i j (idleSlot (t .kind)) m)
 
-pub add-member : (t : Table) (i j : ℕ) → memberAt (stepOf t (AddSlot i) .table .slots) j ≡ true → (memberAt (t .slots) j ≡ true) ⊎ (j ≡ i)
+pub add-member : (t : Table) (i j : ℕ) → memberAt (outcomeOf t (AddSlot i) .table .slots) j ≡ true → (memberAt (t .slots) j ≡ true) ⊎ (j ≡ i)
 unfolding addOf addedTo
 add-member t i j =
     in-order-member t (addedTo t i) i (not (isMember (slotAt (t .slots) i .state))) j ((memberAt (t .slots) j ≡ true) ⊎ (j ≡ i)) (λ m. inl m)
     (λ m. ⊎-elim (λ (o : memberAt (t .slots) j ≡ true). inl o) (λ o. inr (o .0)) (set-member (t .slots) i j _ m))
 
-pub remove-member : (t : Table) (i j : ℕ) → memberAt (stepOf t (RemoveSlot i) .table .slots) j ≡ true → memberAt (t .slots) j ≡ true
+pub remove-member : (t : Table) (i j : ℕ) → memberAt (outcomeOf t (RemoveSlot i) .table .slots) j ≡ true → memberAt (t .slots) j ≡ true
 unfolding removeOf
 remove-member t i j =
     in-order-member t (removedFrom t i) i (isMember (slotAt (t .slots) i .state)) j (memberAt (t .slots) j ≡ true) (λ m. m) (removed-member t i j)
 
-pub report-keeps : (t : Table) (e mst ack j : ℕ) → memberAt (stepOf t (Report e mst ack) .table .slots) j ≡ true → memberAt (t .slots) j ≡ true
+pub report-keeps : (t : Table) (e mst ack j : ℕ) → memberAt (outcomeOf t (Report e mst ack) .table .slots) j ≡ true → memberAt (t .slots) j ≡ true
 report-keeps t e mst ack j m = report-member t e mst ack j m
 
-pub lapse-keeps : (t : Table) (j : ℕ) → memberAt (stepOf t Lapse .table .slots) j ≡ true → memberAt (t .slots) j ≡ true
+pub lapse-keeps : (t : Table) (j : ℕ) → memberAt (outcomeOf t Lapse .table .slots) j ≡ true → memberAt (t .slots) j ≡ true
 lapse-keeps t j m = lapse-member t j m

@@ -15,7 +15,7 @@ use Rattle.sender.specs.Laws.Sizes.{size-le}
 use Rattle.circuits.specs.declared.card.Card.{Card}
 use Rattle.circuits.specs.Alone.{ownIn, slotIn, withOwn}
 use Rattle.circuits.specs.Owners.{hasOwner, markOf, ownerIn, withOwner}
-use Rattle.circuits.specs.Parts.{isSlot, marked, owns, senderOf, stepped, withSender}
+use Rattle.circuits.specs.Parts.{groupOutcome, isSlot, marked, owns, senderOf, withSender}
 use Rattle.circuits.specs.Views.{View, viewOf}
 
 -- a slot of the card is below 64
@@ -74,18 +74,18 @@ pub sender-marked : (c : Card) (g i m : ℕ) → senderOf (marked c i m .card) g
 unfolding senderOf marked
 sender-marked c g i m = refl
 
-pub owners-stepped : (c : Card) (h : ℕ) (r : SenderOutcome) → stepped c h r .card .owners ≡ c .owners
-unfolding stepped withSender
-owners-stepped c h r = go (eqb h 0)
+pub owners-outcome : (c : Card) (h : ℕ) (r : SenderOutcome) → groupOutcome c h r .card .owners ≡ c .owners
+unfolding groupOutcome withSender
+owners-outcome c h r = go (eqb h 0)
   where
     go : (b : Bool)
         → cond {A = Card} b (record { owners = c .owners; first = r .sender; second = c .second }) (record { owners = c .owners; first = c .first; second = r .sender }) .owners ≡ c .owners
     go true = refl
     go false = refl
 
-pub sender-stepped : (c : Card) (g : ℕ) (r : SenderOutcome) → senderOf (stepped c g r .card) g ≡ r .sender
-unfolding stepped withSender senderOf
-sender-stepped c g r = go (eqb g 0)
+pub sender-outcome : (c : Card) (g : ℕ) (r : SenderOutcome) → senderOf (groupOutcome c g r .card) g ≡ r .sender
+unfolding groupOutcome withSender senderOf
+sender-outcome c g r = go (eqb g 0)
   where
     go : (b : Bool)
         → (let d = cond {A = Card} b (record { owners = c .owners; first = r .sender; second = c .second }) (record { owners = c .owners; first = c .first; second = r .sender }) in
@@ -93,8 +93,8 @@ sender-stepped c g r = go (eqb g 0)
     go true = refl
     go false = refl
 
-pub sender-other : (c : Card) (g h : ℕ) (r : SenderOutcome) → g < 2 → h < 2 → h ≢ g → senderOf (stepped c h r .card) g ≡ senderOf c g
-unfolding stepped withSender senderOf
+pub sender-other : (c : Card) (g h : ℕ) (r : SenderOutcome) → g < 2 → h < 2 → h ≢ g → senderOf (groupOutcome c h r .card) g ≡ senderOf c g
+unfolding groupOutcome withSender senderOf
 sender-other c zero zero r a b n = absurd (n refl)
 sender-other c zero (suc zero) r a b n = refl
 sender-other c zero (suc (suc h)) r a b n = absurd (omega arith)
@@ -120,6 +120,6 @@ view-marked c g i m =
     view-is g (marked c i m .card) (withOwn (viewOf g c) i (eqb m (markOf g))) (sender-marked c g i m ∙ own-sender c g)
     (tabulate-ext 64 _ _ (λ j h. owns-marked c g i m j h ∙ ap (λ (b : Bool). cond (eqb j i) (eqb m (markOf g)) b) (own-is c g j h)))
 
-pub view-stepped : (c : Card) (g : ℕ) (r : SenderOutcome) → viewOf g (stepped c g r .card) ≡ record { sender = r .sender; owned = viewOf g c .owned }
+pub view-outcome : (c : Card) (g : ℕ) (r : SenderOutcome) → viewOf g (groupOutcome c g r .card) ≡ record { sender = r .sender; owned = viewOf g c .owned }
 unfolding viewOf owns
-view-stepped c g r = view-is g (stepped c g r .card) _ (sender-stepped c g r) (ap (λ (row : List ℕ). tabulate 64 (λ i. eqb (ownerIn row i) (markOf g))) (owners-stepped c g r))
+view-outcome c g r = view-is g (groupOutcome c g r .card) _ (sender-outcome c g r) (ap (λ (row : List ℕ). tabulate 64 (λ i. eqb (ownerIn row i) (markOf g))) (owners-outcome c g r))

@@ -1,4 +1,4 @@
--- A call goes one of three ways: it is refused, it gives a slot another owner, or it steps the group's sender. The latter two are those of the groups 0 and 1 alone.
+-- A call goes one of three ways: it is refused, it gives a slot another owner, or it is a call of the group's sender. The latter two are those of the groups 0 and 1 alone.
 use Prim.Native.Nat.{ℕ, _<_}
 use lib.Dec.{ltb}
 use borrow.Author.Tests.{ltb-true}
@@ -8,10 +8,10 @@ use Rattle.circuits.specs.declared.answers.Answer.{Answer}
 use Rattle.circuits.specs.declared.answers.Answer.the-variants.{NoSlot, Owned, Used}
 use Rattle.circuits.specs.declared.card.Card.{Card}
 use Rattle.circuits.specs.declared.card.CardOutcome.{CardOutcome}
-use Rattle.circuits.specs.Calls.{Call, stepOf}
+use Rattle.circuits.specs.Calls.{Call, outcomeOf}
 use Rattle.circuits.specs.Calls.Call.{Claim, Release, AddSlot, RemoveSlot, Report, Lapse, StartEpoch}
 use Rattle.circuits.specs.Commands.{claimOf, commandOf, groupCallOf, releaseOf, sentOf}
-use Rattle.circuits.specs.Laws.Stepping.{slot-group}
+use Rattle.circuits.specs.Laws.EachCall.{slot-group}
 use Rattle.circuits.specs.Owners.{hasOwner, markOf}
 use Rattle.circuits.specs.Parts.{isSlot, isUsed, marked, owns, refused}
 
@@ -39,7 +39,7 @@ module _ (Q : CardOutcome → Type 0) (c : Card) (g : ℕ) (no-way : (a : Answer
   unfolding groupCallOf
   by-group-call k = cond-by Q (ltb g 2) _ _ (λ l. send k (ltb-true g 2 l)) (λ l. no-way NoSlot)
 
-  pub by-ways : (k : Call) → Q (stepOf c g k)
+  pub by-ways : (k : Call) → Q (outcomeOf c g k)
   by-ways (Claim i) = by-claim i
   by-ways (Release i) = by-release i
   by-ways (AddSlot i) = by-command i _

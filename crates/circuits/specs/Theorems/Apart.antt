@@ -14,12 +14,12 @@ use Rattle.sender.specs.Epochs as E
 use Rattle.circuits.specs.declared.answers.Answer.{Answer}
 use Rattle.circuits.specs.declared.answers.Answer.the-variants as A
 use Rattle.circuits.specs.declared.card.Card.{Card}
-use Rattle.circuits.specs.Alone.{Seen, ownAnswer, ownBytes, ownIn, repliesSeen, replySeen, slotIn, stepSeen, viewAfter, viewSeen}
+use Rattle.circuits.specs.Alone.{Seen, outcomeSeen, ownAnswer, ownBytes, ownIn, repliesSeen, replySeen, slotIn, viewAfter, viewSeen}
 use Rattle.circuits.specs.Answers.{fromSender}
-use Rattle.circuits.specs.Calls.{Call, stepOf}
+use Rattle.circuits.specs.Calls.{Call, outcomeOf}
 use Rattle.circuits.specs.Calls.Call.{Claim, Release, AddSlot, RemoveSlot, Report, Lapse, StartEpoch}
+use Rattle.circuits.specs.Laws.EachCall.{choice, kept-claim, kept-command, kept-group-call, kept-release, see, see-claim, see-command, see-group-call, see-release}
 use Rattle.circuits.specs.Laws.Seeing.{own-is, slot-is, slot-low}
-use Rattle.circuits.specs.Laws.Stepping.{choice, kept-claim, kept-command, kept-group-call, kept-release, see, see-claim, see-command, see-group-call, see-release}
 use Rattle.circuits.specs.Owners.{isMarked, ownedBytes}
 use Rattle.circuits.specs.Parts.{isSlot, owns, senderOf, shownSender}
 use Rattle.circuits.specs.Readings.{boardShown, outgoingShown, ownedShown, packetAnswer, packetBytes, payloadAnswer, payloadBytes, ranksShown}
@@ -47,14 +47,14 @@ module _ (c : Card) (g : ℕ) (hg : g < 2) where
   abbrev v : View
   v = viewOf g c
 
-  step-seen : (k : Call) → see g (stepOf c g k) ≡ stepSeen v k (bitOf c g (Do k))
-  step-seen (Claim i) = see-claim c g hg i
-  step-seen (Release i) = see-release c g hg i
-  step-seen (AddSlot i) = see-command c g hg i _
-  step-seen (RemoveSlot i) = see-command c g hg i _
-  step-seen (Report e mst ack) = see-group-call c g hg _
-  step-seen Lapse = see-group-call c g hg _
-  step-seen (StartEpoch gid mst ack) = see-group-call c g hg _
+  call-seen : (k : Call) → see g (outcomeOf c g k) ≡ outcomeSeen v k (bitOf c g (Do k))
+  call-seen (Claim i) = see-claim c g hg i
+  call-seen (Release i) = see-release c g hg i
+  call-seen (AddSlot i) = see-command c g hg i _
+  call-seen (RemoveSlot i) = see-command c g hg i _
+  call-seen (Report e mst ack) = see-group-call c g hg _
+  call-seen Lapse = see-group-call c g hg _
+  call-seen (StartEpoch gid mst ack) = see-group-call c g hg _
 
   answer-seen : (i : ℕ) (a : Answer) → cond (isSlot c g i) (cond (owns c g i) a A.Owned) A.NoSlot ≡ ownAnswer v i a
   answer-seen i a =
@@ -108,7 +108,7 @@ module _ (c : Card) (g : ℕ) (hg : g < 2) where
 
   -- (b) What a call of g gives back, and the view that it leaves, are a function of the view, the call and, in the case of a claim alone, one bit.
   pub own-reply : (k : Asked) → replyTo c g k ≡ replySeen v k (bitOf c g k)
-  own-reply (Do k) = ap (λ (s : Seen). Answered (s .answer)) (step-seen k)
+  own-reply (Do k) = ap (λ (s : Seen). Answered (s .answer)) (call-seen k)
   own-reply (Packet i h4) = packet-seen i h4
   own-reply (Payload i p frame member) = payload-seen i p frame member
   own-reply Board = board-seen
@@ -117,7 +117,7 @@ module _ (c : Card) (g : ℕ) (hg : g < 2) where
   own-reply Owned = owned-seen
 
   pub own-view : (k : Asked) → viewOf g (cardAfter c g k) ≡ viewAfter v k (bitOf c g k)
-  own-view (Do k) = ap (λ (s : Seen). s .view) (step-seen k)
+  own-view (Do k) = ap (λ (s : Seen). s .view) (call-seen k)
   own-view (Packet i h4) = refl
   own-view (Payload i p frame member) = refl
   own-view Board = refl

@@ -18,20 +18,20 @@ use Rattle.sender.specs.declared.table.State.{State}
 use Rattle.sender.specs.declared.table.State.the-variants.{Idle, Add, Active, Dnu}
 use Rattle.sender.specs.declared.table.Table.{Table}
 use Rattle.sender.specs.Board.{boardOf, highest, rowOf, wordOf}
+use Rattle.sender.specs.Calls.{Call as C}
 use Rattle.sender.specs.Commands as T
-use Rattle.sender.specs.Epochs.{SenderCall, beginOf, freshSender, senderRun, senderStepOf, startEpochOf, startedSender}
+use Rattle.sender.specs.Epochs.{SenderCall, beginOf, freshSender, senderOutcomeOf, senderRun, startEpochOf, startedSender}
 use Rattle.sender.specs.Epochs.{SenderCall as E}
 use Rattle.sender.specs.Laws.Carrying.{board-row}
-use Rattle.sender.specs.Laws.Kept.{group-step, start-idle}
+use Rattle.sender.specs.Laws.Kept.{group-call, start-idle}
 use Rattle.sender.specs.Laws.Sizes.{size-le}
 use Rattle.sender.specs.Numbering.{slotsIn, stateIn}
 use Rattle.sender.specs.Ranks.{rowAt}
-use Rattle.sender.specs.Steps.{Call as C}
 use Rattle.sender.specs.Table.{isMember, sizeOf, slotAt}
 use Rattle.sender.specs.Theorems.Epochs.{Demand2Kept, demand2-kept}
 use Rattle.circuits.specs.declared.answers.Answer.the-variants as A
 use Rattle.circuits.specs.declared.card.Card.{Card}
-use Rattle.circuits.specs.Alone.{Seen, ownIn, ownSeen, seen, sentSeen, slotIn, stepSeen, viewAfter, withOwn}
+use Rattle.circuits.specs.Alone.{Seen, outcomeSeen, ownIn, ownSeen, seen, sentSeen, slotIn, viewAfter, withOwn}
 use Rattle.circuits.specs.Calls.{Call}
 use Rattle.circuits.specs.Calls.Call.{Claim, Release, AddSlot, RemoveSlot, Report, Lapse, StartEpoch}
 use Rattle.circuits.specs.Commands.{startOf}
@@ -50,9 +50,9 @@ record Tidy (count : ℕ) (s : Sender) (v : View) : Type 0 where
   calls : List SenderCall
   is : v .sender ≡ senderRun s calls
 
-one-more : (s : Sender) (cs : List SenderCall) (k : SenderCall) → senderStepOf (senderRun s cs) k .sender ≡ senderRun s (cs ++ (k ∷ []))
+one-more : (s : Sender) (cs : List SenderCall) (k : SenderCall) → senderOutcomeOf (senderRun s cs) k .sender ≡ senderRun s (cs ++ (k ∷ []))
 one-more s [] k = refl
-one-more s (c ∷ cs) k = one-more (senderStepOf s c .sender) cs k
+one-more s (c ∷ cs) k = one-more (senderOutcomeOf s c .sender) cs k
 
 own-with : (v : View) (i j : ℕ) (b : Bool) → j < 64 → ownIn (withOwn v i b) j ≡ cond (eqb j i) b (ownIn v j)
 own-with v i j b h = getD-tabulate 64 (λ k. cond (eqb k i) b (ownIn v k)) j false h
@@ -96,43 +96,43 @@ module _ (count : ℕ) (s : Sender) (v : View) (o : Tidy count s v) where
       at j m e true same = absurd (true≢false (sym m ∙ ap (λ (k : ℕ). memberAt (v .sender .table .slots) k) (eqb-true j i same) ∙ idle))
       at j m e false same = e
 
-  tidy-sent : (k : SenderCall) → senderStepOf (v .sender) k .sender .table .count ≡ v .sender .table .count
-      → ((j : ℕ) → memberAt (senderStepOf (v .sender) k .sender .table .slots) j ≡ true → j < 64 → (memberAt (v .sender .table .slots) j ≡ true → ownIn v j ≡ true) → ownIn v j ≡ true)
+  tidy-sent : (k : SenderCall) → senderOutcomeOf (v .sender) k .sender .table .count ≡ v .sender .table .count
+      → ((j : ℕ) → memberAt (senderOutcomeOf (v .sender) k .sender .table .slots) j ≡ true → j < 64 → (memberAt (v .sender .table .slots) j ≡ true → ownIn v j ≡ true) → ownIn v j ≡ true)
       → Tidy count s (sentSeen v k .view)
   tidy-sent k still grown =
       record {
         own = λ j l h m. grown j m h (o .own j l h);
         slots = still ∙ o .slots;
         calls = o .calls ++ (k ∷ []);
-        is = ap (λ (x : Sender). senderStepOf x k .sender) (o .is) ∙ one-more s (o .calls) k;
+        is = ap (λ (x : Sender). senderOutcomeOf x k .sender) (o .is) ∙ one-more s (o .calls) k;
       }
 
   tidy-own : (i : ℕ) (r : Seen) → (ownIn v i ≡ true → Tidy count s (r .view)) → Tidy count s (ownSeen v i r .view)
   tidy-own i r t = tidy-cond (slotIn v i) _ (seen v A.NoSlot) (λ l. tidy-cond (ownIn v i) r (seen v A.Owned) t (λ n. o)) (λ l. o)
 
-  tidy-step : (k : Call) (taken : Bool) → Tidy count s (stepSeen v k taken .view)
-  tidy-step (Claim i) taken =
+  tidy-call : (k : Call) (taken : Bool) → Tidy count s (outcomeSeen v k taken .view)
+  tidy-call (Claim i) taken =
       tidy-cond (slotIn v i) _ (seen v A.NoSlot) (λ l. tidy-cond (ownIn v i || taken) (seen v A.Owned) (seen (withOwn v i true) A.Done) (λ n. o) (λ n. tidy-claim i)) (λ l. o)
-  tidy-step (Release i) taken =
+  tidy-call (Release i) taken =
       tidy-own i _ (λ n. tidy-cond (memberAt (v .sender .table .slots) i) (seen v A.Used) (seen (withOwn v i false) A.Done) (λ u. o) (λ u. tidy-release i u))
-  tidy-step (AddSlot i) taken =
+  tidy-call (AddSlot i) taken =
       tidy-own i _
       (λ mine.
-      tidy-sent (E.OnTable (C.AddSlot i)) (group-step (v .sender .table) (C.AddSlot i) .count)
+      tidy-sent (E.OnTable (C.AddSlot i)) (group-call (v .sender .table) (C.AddSlot i) .count)
       (λ j m h old.
       ⊎-elim (λ (w : memberAt (v .sender .table .slots) j ≡ true). old w) (λ (e : j ≡ i). ap (λ (k : ℕ). ownIn v k) e ∙ mine) (add-member (v .sender .table) i j m)))
-  tidy-step (RemoveSlot i) taken =
+  tidy-call (RemoveSlot i) taken =
       tidy-own i _
-      (λ mine. tidy-sent (E.OnTable (C.RemoveSlot i)) (group-step (v .sender .table) (C.RemoveSlot i) .count) (λ j m h old. old (remove-member (v .sender .table) i j m)))
-  tidy-step (Report e mst ack) taken =
-      tidy-sent (E.OnTable (C.Report e mst ack)) (group-step (v .sender .table) (C.Report e mst ack) .count) (λ j m h old. old (report-keeps (v .sender .table) e mst ack j m))
-  tidy-step Lapse taken = tidy-sent (E.OnTable C.Lapse) (group-step (v .sender .table) C.Lapse .count) (λ j m h old. old (lapse-keeps (v .sender .table) j m))
-  tidy-step (StartEpoch gid mst ack) taken =
+      (λ mine. tidy-sent (E.OnTable (C.RemoveSlot i)) (group-call (v .sender .table) (C.RemoveSlot i) .count) (λ j m h old. old (remove-member (v .sender .table) i j m)))
+  tidy-call (Report e mst ack) taken =
+      tidy-sent (E.OnTable (C.Report e mst ack)) (group-call (v .sender .table) (C.Report e mst ack) .count) (λ j m h old. old (report-keeps (v .sender .table) e mst ack j m))
+  tidy-call Lapse taken = tidy-sent (E.OnTable C.Lapse) (group-call (v .sender .table) C.Lapse .count) (λ j m h old. old (lapse-keeps (v .sender .table) j m))
+  tidy-call (StartEpoch gid mst ack) taken =
       let same = started-table (v .sender) gid mst ack in
       tidy-sent (E.StartEpoch gid mst ack) (ap (λ (t : Table). t .count) same) (λ j m h old. old (sym (ap (λ (t : Table). memberAt (t .slots) j) same) ∙ m))
 
   tidy-after : (k : Asked) (taken : Bool) → Tidy count s (viewAfter v k taken)
-  tidy-after (Do k) taken = tidy-step k taken
+  tidy-after (Do k) taken = tidy-call k taken
   tidy-after (Packet i h4) taken = o
   tidy-after (Payload i p frame member) taken = o
   tidy-after Board taken = o

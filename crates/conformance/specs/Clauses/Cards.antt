@@ -5,18 +5,18 @@ use mathlib.Core.List.{List, [], _∷_, _++_}
 use Prim.Native.Nat.{ℕ}
 use lib.ListN.{getD, replicate, take}
 use Rattle.circuits.specs.Answers.{answerNumber}
-use Rattle.circuits.specs.Calls.{Call, stepOf}
+use Rattle.circuits.specs.Calls.{Call, outcomeOf}
 use Rattle.circuits.specs.Calls.Call.{AddSlot, Claim, Lapse, Release, RemoveSlot, Report, StartEpoch}
 use Rattle.circuits.specs.Commands.{claimOf, commandOf, groupCallOf, releaseOf, startOf}
 use Rattle.circuits.specs.declared.answers.Answer.the-variants as A
 use Rattle.circuits.specs.declared.card.Card.{Card}
 use Rattle.circuits.specs.Owners.{hasOwner, isMarked, ownedBytes, withOwner}
-use Rattle.circuits.specs.Parts.{isSlot, isUsed, marked, owns, senderOf, shownSender, stepped, withSender}
+use Rattle.circuits.specs.Parts.{groupOutcome, isSlot, isUsed, marked, owns, senderOf, shownSender, withSender}
 use Rattle.circuits.specs.Readings.{boardShown, outgoingShown, ownedShown, packetAnswer, packetBytes, payloadAnswer, payloadBytes, ranksShown}
 use Rattle.circuits.specs.Shown.{by}
 use Rattle.circuits.specs.Views.{Asked, Made, askedBy, bitsOf, run}
 use Rattle.circuits.specs.Views.Asked.{Board, Do, Outgoing, Owned, Packet, Payload, Ranks}
-use Rattle.orders.specs.Orders.{finishOf, firstAnswers, firstOrdered, stepBy, turnsOf}
+use Rattle.orders.specs.Orders.{finishOf, firstAnswers, firstOrdered, outcomeBy, turnsOf}
 use Rattle.orders.specs.Shown.{add, claim, release, remove}
 use Rattle.orders.specs.Singles.{answersTo, commandsOf, singleNumbers}
 use Rattle.packet.specs.Crc.{crcOf, divisor, nibbleBits}
@@ -49,7 +49,7 @@ abbrev unlike : Card
 unlike = record { owners = replicate 64 0; first = beginOf 0 3 7 .sender; second = beginOf 0 5 9 .sender }
 
 abbrev told : Card → ℕ → Call → ℕ
-told c g k = answerNumber (stepOf c g k .answer)
+told c g k = answerNumber (outcomeOf c g k .answer)
 
 -- 1 for the group or the slot, then 14, then 15
 answers :
@@ -79,7 +79,7 @@ answers :
     × (told claimed 1 (StartEpoch 0 0 2) ≡ 8)
     × (told unlike 1 (Claim 4) ≡ 0)
     × (told unlike 0 (Claim 4) ≡ 1)
-unfolding addOf addedTo beginOf claimOf commandOf commandsStartOf freshOf freshSender groupCallOf idleSlot isSlot isUsed marked owns releaseOf removeOf senderOf sizeOf startEpochOf startOf stepped withOwner withSender
+unfolding addOf addedTo beginOf claimOf commandOf commandsStartOf freshOf freshSender groupCallOf idleSlot isSlot isUsed marked owns releaseOf removeOf senderOf sizeOf startEpochOf startOf groupOutcome withOwner withSender
 answers = (refl, refl, refl, refl, refl, refl, refl, refl, refl, refl, refl, refl, refl, refl, refl, refl, refl, refl, refl, refl, refl, refl, refl, refl, refl, refl)
 
 -- a start out of range: 4, and both groups empty; nobody owns a slot
@@ -153,7 +153,7 @@ packets :
     × (packetBytes other 1 1 (nines 16) ≡ nines 16)
     × (answerNumber (packetAnswer other 1 2 (nines 16)) ≡ 0)
     × (answerNumber (packetAnswer other 0 2 (nines 16)) ≡ 14)
-unfolding actedOn addOf addedTo assigned beginOf boardOf claimOf comesBefore commandOf commandsStartOf crcOf dataOf divisor epochAfter epochs epochsPacketAnswer epochsPacketBytes fitting frames freshOf freshSender groupCallOf h4Of highest holderOf idleSlot isSlot marked membersOf mstApplied mstFails mstFirst mstNumbers nibbleBits nibblesOf numberAfter numberApplied owns packetAnswer packetBytes packetFields renumbered reportOf rowOf rowsOf sealedOf senderOf sizeOf slotAfter startEpochOf startOf startedEpoch startedSender stepped turnOf withOwner withSender writeAnswer writeBytes
+unfolding actedOn addOf addedTo assigned beginOf boardOf claimOf comesBefore commandOf commandsStartOf crcOf dataOf divisor epochAfter epochs epochsPacketAnswer epochsPacketBytes fitting frames freshOf freshSender groupCallOf h4Of highest holderOf idleSlot isSlot marked membersOf mstApplied mstFails mstFirst mstNumbers nibbleBits nibblesOf numberAfter numberApplied owns packetAnswer packetBytes packetFields renumbered reportOf rowOf rowsOf sealedOf senderOf sizeOf slotAfter startEpochOf startOf startedEpoch startedSender groupOutcome turnOf withOwner withSender writeAnswer writeBytes
 packets = (refl, refl, refl, refl, refl, refl, refl, refl, refl, refl, refl, refl, refl, refl, refl, refl, refl, refl)
 
 -- X is 1 in group 0 and 0 in group 1, whose slot 1 has no rank yet
@@ -179,7 +179,7 @@ payloads :
     × (payloadBytes other 0 2 2 [] (nines 2) ≡ nines 2)
     × (answerNumber (payloadAnswer other 1 2 2 0 2) ≡ 0)
     × (answerNumber (payloadAnswer other 0 2 2 0 2) ≡ 14)
-unfolding actedOn addOf addedTo beginOf boardOf carriersIn claimOf comesBefore commandOf commandsStartOf epochsPayloadAnswer epochsPayloadBytes freshOf freshSender groupCallOf highest holderOf idleSlot isSlot marked membersOf mstApplied mstFails mstFirst mstNumbers numberAfter numberApplied owns payloadAnswer payloadBytes rankAt rankOf renumbered reportOf rowOf rowsOf senderOf sizeOf slotAfter startEpochOf startOf startedSender stepped turnOf withOwner withSender
+unfolding actedOn addOf addedTo beginOf boardOf carriersIn claimOf comesBefore commandOf commandsStartOf epochsPayloadAnswer epochsPayloadBytes freshOf freshSender groupCallOf highest holderOf idleSlot isSlot marked membersOf mstApplied mstFails mstFirst mstNumbers numberAfter numberApplied owns payloadAnswer payloadBytes rankAt rankOf renumbered reportOf rowOf rowsOf senderOf sizeOf slotAfter startEpochOf startOf startedSender groupOutcome turnOf withOwner withSender
 payloads = (refl, refl, refl, refl, refl, refl, refl, refl, refl, refl, refl, refl, refl, refl, refl, refl, refl, refl, refl, refl, refl)
 
 shown :
@@ -193,7 +193,7 @@ shown :
     × (answerNumber (boardShown sending 2 .answer) ≡ 1)
     × (getD (outgoingShown sending 1 .board .rows) 1 noRow .number ≡ 0)
     × (getD (boardShown claimed 1 .board .rows) 1 noRow .number ≡ 255)
-unfolding actedOn addOf addedTo beginOf boardOf boardShown carriersIn claimOf comesBefore commandOf commandsStartOf epochAfter epochs freshOf freshSender groupCallOf highest holderOf idleNumber idleSlot isSlot marked membersOf mstApplied mstFails mstFirst mstNumbers numberAfter numberApplied outgoingShown owns rankAt rankOf ranksIn ranksOf ranksShown renumbered reportOf rowOf rowsOf senderOf shownSender sizeOf slotAfter startEpochOf startOf startedEpoch startedSender stepped turnOf withOwner withSender
+unfolding actedOn addOf addedTo beginOf boardOf boardShown carriersIn claimOf comesBefore commandOf commandsStartOf epochAfter epochs freshOf freshSender groupCallOf highest holderOf idleNumber idleSlot isSlot marked membersOf mstApplied mstFails mstFirst mstNumbers numberAfter numberApplied outgoingShown owns rankAt rankOf ranksIn ranksOf ranksShown renumbered reportOf rowOf rowsOf senderOf shownSender sizeOf slotAfter startEpochOf startOf startedEpoch startedSender groupOutcome turnOf withOwner withSender
 shown = (refl, refl, refl, refl, refl, refl, refl, refl, refl, refl)
 
 abbrev asks : Asked → Made
@@ -220,7 +220,7 @@ others :
     ∷ asks Owned
     ∷ [])
     ≡ replicate 11 false)
-unfolding addOf addedTo beginOf claimOf commandOf commandsStartOf freshOf freshSender groupCallOf idleSlot isSlot marked owns senderOf sizeOf startEpochOf startOf startedSender stepped withOwner withSender
+unfolding addOf addedTo beginOf claimOf commandOf commandsStartOf freshOf freshSender groupCallOf idleSlot isSlot marked owns senderOf sizeOf startEpochOf startOf startedSender groupOutcome withOwner withSender
 others = (refl, refl, refl, refl, refl, refl)
 
 -- the first n commands of 64; 65 are 9, and nothing is done
@@ -245,5 +245,5 @@ orders :
     × (commandsOf 1 (claim 0 1 ∷ claim 1 0 ∷ []) ≡ claim 1 0 ∷ [])
     × (answersTo 1 (claim 0 1 ∷ claim 1 0 ∷ []) (4 ∷ 5 ∷ []) ≡ 5 ∷ [])
     × (firstAnswers fresh (replicate 64 (claim 0 3)) 64 (replicate 64 7) ≡ replicate 64 1)
-unfolding addOf addedTo beginOf claimOf commandOf commandsStartOf fallenIn freshOf freshSender idleSlot isSlot isUsed marked owns releaseOf removeOf removedFrom senderOf sizeOf startOf stepBy stepped withOwner withSender
+unfolding addOf addedTo beginOf claimOf commandOf commandsStartOf fallenIn freshOf freshSender idleSlot isSlot isUsed marked owns releaseOf removeOf removedFrom senderOf sizeOf startOf outcomeBy groupOutcome withOwner withSender
 orders = (refl, refl, refl, refl, refl, refl, refl, refl, refl, refl, refl, refl, refl, refl, refl, refl, refl, refl, refl, refl)

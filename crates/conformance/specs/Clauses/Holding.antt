@@ -19,11 +19,11 @@ moved number was = seenPort 2 number true (standing 2 was 0) 3 0
 
 -- not readable any more
 abbrev lost : ℕ → ℕ → Port
-lost number run = seenPort 2 number false (standing 2 number run) 3 0
+lost number elapsed = seenPort 2 number false (standing 2 number elapsed) 3 0
 
 -- FAIL under a number, with a wait-to-restore of 2
 abbrev failed : ℕ → ℕ → Port
-failed number run = seenPort 2 number true (standing 1 number run) 0 2
+failed number elapsed = seenPort 2 number true (standing 1 number elapsed) 0 2
 
 -- Port 0 was OK under 4 and now sends 5, which port 1 has: it keeps 4 while it waits. So it does where the holder of 5 is lost and held too. Of two ports that are held under one number the first keeps it. The third report without its claim is the last; the one behind it is FAIL. A port that waits to restore takes its number from nobody, and is OK when it has waited.
 holding :

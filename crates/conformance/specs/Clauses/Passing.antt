@@ -1,7 +1,7 @@
 -- An epoch passed (01, 'Report of an epoch', 'Member states and reply'): what is kept of a port and of the group, each field with a number of its own.
 use mathlib.Core.Path.{_≡_, refl}
 use mathlib.Core.Bool.{Bool, true, false}
-use mathlib.Core.List.{List, [], _∷_}
+use mathlib.Core.List.{[], _∷_}
 use Prim.Native.Nat.{ℕ}
 use Rattle.packet.specs.declared.ruling.Ruling.{Ruling}
 use Rattle.packet.specs.Kinds.{epochAfter, epochs, frames}
@@ -23,7 +23,7 @@ member word number =
       «told_number» = 13;
       «hold_off» = 21;
       restore = 22;
-      run = 23;
+      elapsed = 23;
     }
 
 abbrev ruling : Bool → Ruling

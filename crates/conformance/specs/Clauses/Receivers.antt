@@ -9,7 +9,7 @@ use Rattle.phases.specs.Sizes.{portsIn, sized, storeFor}
 use Rattle.receiver.specs.Fetch.{recordOf}
 use Rattle.receiver.specs.Lengths.{fetchFits, frameFits, outputFor, rowsFit}
 use Rattle.receiver.specs.Report.{replyPort, replyPorts}
-use Rattle.receiver.specs.Shown.{portIn, portShown, portsAnswer, portsOut, replyAnswer, replyFit, replyOf, replyOut, shownFit, shownNumber, toldBy, waitingByte}
+use Rattle.receiver.specs.Shown.{portIn, portShown, portsAnswer, portsOut, replyAnswer, replyByte, replyFit, replyOf, replyOut, shownFit, shownNumber, waitingByte}
 use Rattle.receiver.specs.Starting.{freshPort, freshPorts, sizedAnswer, sizedFits, sizedRows, startAsAnswer, startAsRows, startFits, startRight, startRows, timeOf, timesWithin}
 use Rattle.reply.specs.Telling.{mstFrom, mstOf, okHolds}
 use Rattle.rows.specs.declared.group.Group.{Group}
@@ -41,7 +41,7 @@ starts :
     × (memberAt opened 1 .«state_number» ≡ 255)
     × (memberAt opened 1 .«told_word» ≡ 255)
     × (memberAt opened 1 .«told_number» ≡ 255)
-    × (memberAt opened 1 .run ≡ 0)
+    × (memberAt opened 1 .elapsed ≡ 0)
     × (stepAt opened 1 .had ≡ 0)
     × (stepAt opened 1 .failed ≡ 0)
     × (stepAt opened 1 .count ≡ 0)
@@ -108,7 +108,7 @@ lengths = (refl, refl, refl, refl, refl, refl, refl, refl, refl, refl, refl, ref
 
 -- a member in a state, under a number, with a timer at so much
 abbrev member : ℕ → ℕ → Member
-member state run =
+member state elapsed =
     record {
       spare = [];
       word = 2;
@@ -119,7 +119,7 @@ member state run =
       «told_number» = 0;
       «hold_off» = 0;
       restore = 0;
-      run = run;
+      elapsed = elapsed;
     }
 
 -- 'IDLE' has no number and no timer; 1 hold-off of an OK port, 2 restoring of a FAIL one
@@ -168,9 +168,9 @@ replies :
     × (replyOut opened 0 (9 ∷ 9 ∷ []) ≡ 0 ∷ 0 ∷ [])
     × (replyAnswer opened 2 ≡ 0)
     × (replyAnswer opened 3 ≡ 9)
-    × (toldBy 0 5 ≡ 5)
-    × (toldBy 1 5 ≡ 5)
-    × (toldBy 2 5 ≡ 0)
+    × (replyByte 0 5 ≡ 5)
+    × (replyByte 1 5 ≡ 5)
+    × (replyByte 2 5 ≡ 0)
     × (replyAnswer opened 1 ≡ 9)
     × (replyAnswer (take 10 opened) 2 ≡ 9)
     × (replyOf (putGroup (startRows 0 2 3 20 160 (rows 11)) turned) 0 ≡ 255 ∷ 1 ∷ [])

@@ -117,7 +117,7 @@ member =
       «told_number» = 18;
       «hold_off» = 300;
       restore = 400;
-      run = 500;
+      elapsed = 500;
     }
 
 states :
@@ -132,7 +132,7 @@ states :
       readable = false;
       «hold_off» = 300;
       restore = 400;
-      run = 500;
+      elapsed = 500;
     })
     × (withState member (standing 1 20 21)
     ≡ record {
@@ -145,7 +145,7 @@ states :
       «told_number» = 16;
       «hold_off» = 300;
       restore = 400;
-      run = 21;
+      elapsed = 21;
     })
 unfolding freshPort freshPorts inStep inStepAt kindsFrames memberAt memberOf memberRow putGroup putMarks putMember putPackets putRow putStep readable replyPort rowIn sized sizedFits sizedRows startAsRows startFits startRight stepAt stepOf stepRow tags timesWithin withState
 states = (refl, refl)

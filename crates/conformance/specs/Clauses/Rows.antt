@@ -47,7 +47,7 @@ step next =
     }
 
 abbrev member : ℕ → ℕ → ℕ → Member
-member hold restore run =
+member hold restore elapsed =
     record {
       spare = 41 ∷ 42 ∷ 43 ∷ 44 ∷ [];
       word = 15;
@@ -58,7 +58,7 @@ member hold restore run =
       «told_number» = 18;
       «hold_off» = hold;
       restore = restore;
-      run = run;
+      elapsed = elapsed;
     }
 
 -- records as rows of sixteen bytes, and back

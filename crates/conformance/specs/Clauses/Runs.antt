@@ -5,10 +5,10 @@ use mathlib.Core.List.{List, [], _∷_, _++_}
 use Prim.Native.Nat.{ℕ}
 use lib.ListN.{replicate, take}
 use Rattle.c_face.specs.Boards.{boardByte, boardBytesC, boardBytesOf, goingBytesC, rankByte, ranksBytesC, ranksBytesOf, shownAnswerC, shownBytes}
-use Rattle.c_face.specs.Cards.{boardBytesOn, cardOf, ownedBytesOn, ownersIn, packetAnswerOn, packetBytesOn, partIn, payloadAnswerOn, payloadBytesOn, putOwn, refusalOf, shownAnswerOn, shownBytesOn, stepAnswerOn, stepStateOn}
+use Rattle.c_face.specs.Cards.{boardBytesOn, callAnswerOn, callStateOn, cardOf, ownedBytesOn, ownersIn, packetAnswerOn, packetBytesOn, partIn, payloadAnswerOn, payloadBytesOn, putOwn, refusalOf, shownAnswerOn, shownBytesOn}
 use Rattle.c_face.specs.Keeping.{byteAt, bytesOf, rowsIn, senderOf, slotsIn}
 use Rattle.c_face.specs.Orders.{kindAnswerOn, kindStateOn, orderAnswerOn, orderAnswersOn, orderStateOn}
-use Rattle.c_face.specs.Senders.{packetAnswerC, packetBytesC, payloadAnswerC, payloadBytesC, startStateC, stepAnswerC, stepStateC}
+use Rattle.c_face.specs.Senders.{callAnswerC, callStateC, packetAnswerC, packetBytesC, payloadAnswerC, payloadBytesC, startStateC}
 use Rattle.circuits.specs.Calls.{Call as C}
 use Rattle.circuits.specs.Commands.{claimOf, commandOf, releaseOf}
 use Rattle.circuits.specs.Owners.{withOwner}
@@ -23,23 +23,23 @@ use Rattle.packet.specs.Layout.{dataOf, h4Of, nibblesOf, sealedOf}
 use Rattle.packet.specs.Words.{assigned}
 use Rattle.packet.specs.Writing.{fitting, writeAnswer, writeBytes}
 use Rattle.sender.specs.Board.{boardOf, rowOf, rowsOf}
+use Rattle.sender.specs.Calls.Call.{AddSlot, Lapse}
 use Rattle.sender.specs.Commands.{addOf, addedTo, freshOf, idleSlot, startOf}
 use Rattle.sender.specs.Epochs.{SenderCall, beginOf, freshSender, packetAnswer, packetBytes, packetFields, payloadAnswer, payloadBytes, ranksOf, startEpochOf, startedEpoch, startedSender}
 use Rattle.sender.specs.Epochs.SenderCall.{OnTable, StartEpoch}
 use Rattle.sender.specs.Ranks.{carriersIn, rankAt, ranksIn}
-use Rattle.sender.specs.Steps.Call.{AddSlot, Lapse}
 use Rattle.sender.specs.Table.{membersOf, sizeOf}
 
 abbrev nines : ℕ → List ℕ
 nines n = replicate n 9
 
-abbrev steps : List ℕ → List SenderCall → List ℕ
-steps state [] = state
-steps state (c ∷ cs) = steps (stepStateC true c state) cs
+abbrev called : List ℕ → List SenderCall → List ℕ
+called state [] = state
+called state (c ∷ cs) = called (callStateC true c state) cs
 
 -- Three slots from epoch 7 on: slot 0 is added, epoch 7 starts, slot 1 is added.
 abbrev sender : List ℕ
-sender = steps (startStateC 3 7 (nines 397)) (OnTable (AddSlot 0) ∷ StartEpoch 1 0x3C 0 ∷ OnTable (AddSlot 1) ∷ [])
+sender = called (startStateC 3 7 (nines 397)) (OnTable (AddSlot 0) ∷ StartEpoch 1 0x3C 0 ∷ OnTable (AddSlot 1) ∷ [])
 
 abbrev readOut : List ℕ → List ℕ
 readOut s =
@@ -60,18 +60,18 @@ a-sender :
     ∷ 0x38 ∷ 0xC9 ∷ 0x0A ∷ 0x0B ∷ 0x0C ∷ 0x0D ∷ 0x0E ∷ 0x0F ∷ 0x00 ∷ 0x71 ∷ 0x12 ∷ 0x13 ∷ 0x04 ∷ 0x05 ∷ 0xB6 ∷ 0x97
     ∷ 0x38 ∷ 0xC9 ∷ 0x0A ∷ 0x0B ∷ 0x0C ∷ 0x0D ∷ 0xFE ∷ 0xFF ∷ 0x00 ∷ 0x71 ∷ 0x52 ∷ 0x13 ∷ 0x04 ∷ 0x05 ∷ 0x36 ∷ 0x37
     ∷ 0 ∷ 0 ∷ 0 ∷ 0 ∷ []
-unfolding addOf addedTo assigned beginOf boardByte boardBytesOf boardOf byteAt bytesOf carriersIn crcOf dataOf divisor fitting frames freshOf freshSender h4Of idleNumber idleSlot membersOf nibbleBits nibblesOf packetBytes packetBytesC packetFields payloadBytes payloadBytesC rankAt rankByte ranksBytesOf ranksIn ranksOf rowOf rowsIn rowsOf sealedOf senderOf shownBytes sizeOf slotsIn startEpochOf startOf startStateC startedEpoch startedSender stepStateC writeBytes
+unfolding addOf addedTo assigned beginOf boardByte boardBytesOf boardOf byteAt bytesOf carriersIn crcOf dataOf divisor fitting frames freshOf freshSender h4Of idleNumber idleSlot membersOf nibbleBits nibblesOf packetBytes packetBytesC packetFields payloadBytes payloadBytesC rankAt rankByte ranksBytesOf ranksIn ranksOf rowOf rowsIn rowsOf sealedOf senderOf shownBytes sizeOf slotsIn startEpochOf startOf startStateC startedEpoch startedSender callStateC writeBytes
 a-sender = refl
 
 -- any 397 bytes: nines are nine slots and an open wait, with no member, and a GID that is none
 sender-answers :
-    (stepAnswerC true (OnTable (AddSlot 0)) (nines 397) ≡ 3)
-    × (stepAnswerC true (OnTable (AddSlot 9)) (nines 397) ≡ 1)
-    × (stepAnswerC false (OnTable (AddSlot 9)) (nines 397) ≡ 8)
-    × (stepAnswerC false (OnTable (AddSlot 9)) (nines 396) ≡ 9)
-    × (stepStateC true (OnTable (AddSlot 9)) (nines 397) ≡ nines 397)
-    × (stepStateC false (OnTable Lapse) (nines 397) ≡ nines 397)
-    × (stepStateC true (OnTable Lapse) (nines 396) ≡ nines 396)
+    (callAnswerC true (OnTable (AddSlot 0)) (nines 397) ≡ 3)
+    × (callAnswerC true (OnTable (AddSlot 9)) (nines 397) ≡ 1)
+    × (callAnswerC false (OnTable (AddSlot 9)) (nines 397) ≡ 8)
+    × (callAnswerC false (OnTable (AddSlot 9)) (nines 396) ≡ 9)
+    × (callStateC true (OnTable (AddSlot 9)) (nines 397) ≡ nines 397)
+    × (callStateC false (OnTable Lapse) (nines 397) ≡ nines 397)
+    × (callStateC true (OnTable Lapse) (nines 396) ≡ nines 396)
     × (packetAnswerC (nines 397) 0 (nines 16) ≡ 8)
     × (packetAnswerC (nines 397) 9 (nines 16) ≡ 1)
     × (packetAnswerC (nines 396) 9 (nines 16) ≡ 9)
@@ -90,7 +90,7 @@ sender-answers :
     × (shownAnswerC 130 (nines 396) (nines 130) ≡ 9)
     × (boardBytesC (nines 397) (nines 129) ≡ nines 129)
     × (boardBytesC (nines 396) (nines 130) ≡ nines 130)
-unfolding addOf carriersIn fitting frames packetAnswer packetAnswerC packetBytesC packetFields payloadAnswer payloadAnswerC payloadBytes payloadBytesC rankAt rowsIn senderOf shownAnswerC shownBytes sizeOf stepAnswerC stepStateC writeAnswer
+unfolding addOf carriersIn fitting frames packetAnswer packetAnswerC packetBytesC packetFields payloadAnswer payloadAnswerC payloadBytes payloadBytesC rankAt rowsIn senderOf shownAnswerC shownBytes sizeOf callAnswerC callStateC writeAnswer
 sender-answers = (refl, refl, refl, refl, refl, refl, refl, refl, refl, refl, refl, refl, refl, refl, refl, refl, refl, refl, refl, refl, refl, refl, refl, refl, refl)
 
 -- any 858 bytes: nines are nine slots for each group, owned by nobody
@@ -116,15 +116,15 @@ card-answers :
     × (boardBytesOn (nines 858) 0 (nines 131) ≡ nines 131)
     × (boardBytesOn (nines 858) 2 (nines 130) ≡ nines 130)
     × (ownedBytesOn (nines 858) 0 (nines 63) ≡ nines 63)
-    × (stepAnswerOn true 0 (C.Claim 9) (nines 858) ≡ 1)
-    × (stepAnswerOn true 0 (C.AddSlot 0) (nines 858) ≡ 14)
-    × (stepAnswerOn false 0 (C.Claim 9) (nines 858) ≡ 8)
-    × (stepAnswerOn false 2 (C.Claim 9) (nines 858) ≡ 1)
-    × (stepAnswerOn false 2 (C.Claim 9) (nines 857) ≡ 9)
-    × (stepStateOn true 0 (C.AddSlot 0) (nines 858) ≡ nines 858)
-    × (stepStateOn false 0 (C.Claim 2) (nines 858) ≡ nines 858)
-    × (stepStateOn true 2 (C.Claim 2) (nines 858) ≡ nines 858)
-    × (stepStateOn true 0 (C.Claim 2) (nines 857) ≡ nines 857)
+    × (callAnswerOn true 0 (C.Claim 9) (nines 858) ≡ 1)
+    × (callAnswerOn true 0 (C.AddSlot 0) (nines 858) ≡ 14)
+    × (callAnswerOn false 0 (C.Claim 9) (nines 858) ≡ 8)
+    × (callAnswerOn false 2 (C.Claim 9) (nines 858) ≡ 1)
+    × (callAnswerOn false 2 (C.Claim 9) (nines 857) ≡ 9)
+    × (callStateOn true 0 (C.AddSlot 0) (nines 858) ≡ nines 858)
+    × (callStateOn false 0 (C.Claim 2) (nines 858) ≡ nines 858)
+    × (callStateOn true 2 (C.Claim 2) (nines 858) ≡ nines 858)
+    × (callStateOn true 0 (C.Claim 2) (nines 857) ≡ nines 857)
     × (refusalOf 858 1 ≡ 0)
     × (refusalOf 858 2 ≡ 1)
     × (refusalOf 857 2 ≡ 9)
@@ -132,7 +132,7 @@ card-answers :
     × (packetAnswerOn (nines 5 ++ (1 ∷ nines 852)) 0 5 (nines 16) ≡ 8)
     × (payloadAnswerOn (nines 5 ++ (1 ∷ nines 852)) 0 5 2 [] (nines 2) ≡ 0)
     × (payloadBytesOn (nines 5 ++ (1 ∷ nines 852)) 0 5 2 [] (nines 2) ≡ 0 ∷ 0 ∷ [])
-unfolding cardOf carriersIn claimOf commandOf fitting frames isSlot ownersIn owns packetAnswer packetAnswerOn packetBytesOn packetFields partIn partsSenderOf payloadAnswer payloadAnswerOn payloadBytes payloadBytesOn rankAt readingsPacketAnswer readingsPayloadAnswer readingsPayloadBytes refusalOf rowsIn senderOf shownAnswerOn shownBytesOn sizeOf stepAnswerOn stepStateOn writeAnswer
+unfolding cardOf carriersIn claimOf commandOf fitting frames isSlot ownersIn owns packetAnswer packetAnswerOn packetBytesOn packetFields partIn partsSenderOf payloadAnswer payloadAnswerOn payloadBytes payloadBytesOn rankAt readingsPacketAnswer readingsPayloadAnswer readingsPayloadBytes refusalOf rowsIn senderOf shownAnswerOn shownBytesOn sizeOf callAnswerOn callStateOn writeAnswer
 card-answers = (refl, refl, refl, refl, refl, refl, refl, refl, refl, refl, refl, refl, refl, refl, refl, refl, refl, refl, refl, refl, refl, refl, refl, refl, refl, refl, refl, refl, refl, refl, refl, refl, refl, refl, refl, refl, refl)
 
 -- add 0 0, which nobody owns, and a kind that is none
@@ -155,5 +155,5 @@ orders :
     × (orderAnswersOn (nines 858) ((2 ∷ 1 ∷ 5 ∷ []) ∷ []) (nines 1) ≡ 0 ∷ [])
     × (take 6 (orderStateOn (nines 858) ((2 ∷ 1 ∷ 5 ∷ []) ∷ []) (nines 1)) ≡ nines 5 ++ (2 ∷ []))
     × (take 6 (kindStateOn 3 0 5 (nines 5 ++ (1 ∷ nines 852))) ≡ nines 5 ++ (0 ∷ []))
-unfolding cardOf claimOf commandOf isSlot isUsed kindAnswerOn kindStateOn marked orderAnswerOn orderAnswersOn orderStateOn ownersIn owns partIn partsSenderOf putOwn releaseOf senderOf sizeOf slotsIn stepAnswerOn stepStateOn withOwner
+unfolding cardOf claimOf commandOf isSlot isUsed kindAnswerOn kindStateOn marked orderAnswerOn orderAnswersOn orderStateOn ownersIn owns partIn partsSenderOf putOwn releaseOf senderOf sizeOf slotsIn callAnswerOn callStateOn withOwner
 orders = (refl, refl, refl, refl, refl, refl, refl, refl, refl, refl, refl, refl, refl, refl, refl)

@@ -4,11 +4,11 @@ use mathlib.Core.List.{List, [], _∷_, _++_}
 use Prim.Native.Nat.{ℕ}
 use Rattle.packet.specs.Kinds.{idleNumber, mstFails, mstFirst, mstNumbers}
 use Rattle.sender.specs.Board.{boardOf, highest, noRow, rowOf, rowsOf}
+use Rattle.sender.specs.Calls.{Call}
+use Rattle.sender.specs.Calls.Call.{AddSlot, Lapse, RemoveSlot, Report}
 use Rattle.sender.specs.Commands.{addOf, addedTo, fallen, fallenIn, freshOf, idleSlot, lapseOf, removeOf, removedFrom, startOf}
 use Rattle.sender.specs.Reports.{actedOn, comesBefore, mstApplied, numberAfter, numberApplied, opensWait, renumbered, reportOf, slotAfter, turnOf, waited}
 use Rattle.sender.specs.Shown.{after, shown}
-use Rattle.sender.specs.Steps.{Call}
-use Rattle.sender.specs.Steps.Call.{AddSlot, Lapse, RemoveSlot, Report}
 use Rattle.sender.specs.Table.{holderOf, membersOf, sizeOf}
 
 abbrev active : ℕ → List Call

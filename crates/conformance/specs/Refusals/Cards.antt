@@ -10,11 +10,11 @@ use Rattle.circuits.specs.declared.answers.Answer.the-variants as A
 use Rattle.circuits.specs.declared.card.Card.{Card}
 use Rattle.circuits.specs.declared.card.CardOutcome.{CardOutcome}
 use Rattle.circuits.specs.Answers.{answerNumber, fromSender}
-use Rattle.circuits.specs.Calls.{stepOf}
+use Rattle.circuits.specs.Calls.{outcomeOf}
 use Rattle.circuits.specs.Calls.Call.{AddSlot, Claim, Lapse, Release, RemoveSlot, Report, StartEpoch}
 use Rattle.circuits.specs.Commands.{claimOf, commandOf, groupCallOf, releaseOf, startOf}
 use Rattle.circuits.specs.Owners.{ownedBytes}
-use Rattle.circuits.specs.Parts.{emptySender, isSlot, isUsed, marked, owns, refused, senderOf, shownSender, stepped, withSender}
+use Rattle.circuits.specs.Parts.{emptySender, groupOutcome, isSlot, isUsed, marked, owns, refused, senderOf, shownSender, withSender}
 use Rattle.circuits.specs.Readings.{boardShown, outgoingShown, ownedShown, packetAnswer, packetBytes, payloadAnswer, payloadBytes, ranksShown}
 use Rattle.conformance.specs.Entries.{Call, Copes, If, Refusal, Unless, copes, stateful, stateless}
 use Rattle.conformance.specs.Refusals.Epochs as sender
@@ -25,7 +25,7 @@ use Rattle.sender.specs.declared.table.Answer as S
 use Rattle.sender.specs.Board.{boardOf}
 use Rattle.sender.specs.Commands.{freshOf}
 use Rattle.sender.specs.Epochs as E
-use Rattle.sender.specs.Epochs.{SenderCall, beginOf, freshSender, senderStepOf}
+use Rattle.sender.specs.Epochs.{SenderCall, beginOf, freshSender, senderOutcomeOf}
 use Rattle.sender.specs.Table.{isMember, sizeOf}
 use Rattle.sender.specs.Table.{answerNumber as senderNumber}
 
@@ -90,10 +90,10 @@ put-back c g = go (eqb g 0)
     go true = refl
     go false = refl
 
--- a step of the group's sender is refused as the sender has it
+-- a call of the group's sender is refused as the sender has it
 on-sender : (c : Card) (g : ℕ) (rs : List Refusal) (r : SenderOutcome) → Copes (stateful rs (senderNumber (r .answer)) [] [] (senderOf c g) (r .sender) (senderOf c g))
-    → Copes (stateful rs (answerNumber (stepped c g r .answer)) [] [] c (stepped c g r .card) c)
-unfolding stepped
+    → Copes (stateful rs (answerNumber (groupOutcome c g r .answer)) [] [] c (groupOutcome c g r .card) c)
+unfolding groupOutcome
 on-sender c g rs r h =
     record {
       answers = sender-number (r .answer) ∙ h .answers;
@@ -108,21 +108,21 @@ gate : (b : Bool) (a : Answer) (c : Card) (rs : List Refusal) (r : CardOutcome) 
 gate true a c rs r h = record { answers = h .answers; untouched = h .untouched; as-given = h .as-given; emptied = h .emptied }
 gate false a c rs r h = record { answers = refl; untouched = λ x. refl; as-given = λ k. refl; emptied = λ k. refl }
 
-command : (c : Card) (g i : ℕ) (rs : List Refusal) (k : SenderCall) → let r = senderStepOf (senderOf c g) k in Copes (stateful rs (senderNumber (r .answer)) [] [] (senderOf c g) (r .sender) (senderOf c g))
+command : (c : Card) (g i : ℕ) (rs : List Refusal) (k : SenderCall) → let r = senderOutcomeOf (senderOf c g) k in Copes (stateful rs (senderNumber (r .answer)) [] [] (senderOf c g) (r .sender) (senderOf c g))
     → Copes (stateful (Unless 1 (isSlot c g i) ∷ Unless 14 (owns c g i) ∷ rs) (answerNumber (commandOf c g i k .answer)) [] [] c (commandOf c g i k .card) c)
 unfolding commandOf
 command c g i rs k h =
-    gate (isSlot c g i) A.NoSlot c _ _ (gate (owns c g i) A.Owned c rs (stepped c g (senderStepOf (senderOf c g) k)) (on-sender c g rs (senderStepOf (senderOf c g) k) h))
+    gate (isSlot c g i) A.NoSlot c _ _ (gate (owns c g i) A.Owned c rs (groupOutcome c g (senderOutcomeOf (senderOf c g) k)) (on-sender c g rs (senderOutcomeOf (senderOf c g) k) h))
 
-group-call : (c : Card) (g : ℕ) (rs : List Refusal) (k : SenderCall) → let r = senderStepOf (senderOf c g) k in Copes (stateful rs (senderNumber (r .answer)) [] [] (senderOf c g) (r .sender) (senderOf c g))
+group-call : (c : Card) (g : ℕ) (rs : List Refusal) (k : SenderCall) → let r = senderOutcomeOf (senderOf c g) k in Copes (stateful rs (senderNumber (r .answer)) [] [] (senderOf c g) (r .sender) (senderOf c g))
     → Copes (stateful (Unless 1 (ltb g 2) ∷ rs) (answerNumber (groupCallOf c g k .answer)) [] [] c (groupCallOf c g k .card) c)
 unfolding groupCallOf
-group-call c g rs k h = gate (ltb g 2) A.NoSlot c rs (stepped c g (senderStepOf (senderOf c g) k)) (on-sender c g rs (senderStepOf (senderOf c g) k) h)
+group-call c g rs k h = gate (ltb g 2) A.NoSlot c rs (groupOutcome c g (senderOutcomeOf (senderOf c g) k)) (on-sender c g rs (senderOutcomeOf (senderOf c g) k) h)
 
 abbrev pub claim : Card × ℕ × ℕ → Call
 claim (self, group, slot) =
     stateful (Unless 1 (isThere self group slot) ∷ If 14 (isAnyones self slot) ∷ [])
-    (answerNumber (stepOf self group (Claim slot) .answer)) [] [] self (stepOf self group (Claim slot) .card) self
+    (answerNumber (outcomeOf self group (Claim slot) .answer)) [] [] self (outcomeOf self group (Claim slot) .card) self
 
 pub claim-copes : (x : Card × ℕ × ℕ) → Copes (claim x)
 unfolding claimOf marked isSlot senderOf sizeOf
@@ -131,7 +131,7 @@ claim-copes (self, group, slot) = copes _ (λ s. (λ o. rw (s, o) (refl, refl, r
 abbrev pub release : Card × ℕ × ℕ → Call
 release (self, group, slot) =
     stateful (Unless 1 (isThere self group slot) ∷ Unless 14 (isIts self group slot) ∷ If 15 (isInUse self group slot) ∷ [])
-    (answerNumber (stepOf self group (Release slot) .answer)) [] [] self (stepOf self group (Release slot) .card) self
+    (answerNumber (outcomeOf self group (Release slot) .answer)) [] [] self (outcomeOf self group (Release slot) .card) self
 
 pub release-copes : (x : Card × ℕ × ℕ) → Copes (release x)
 unfolding releaseOf marked isSlot owns isUsed senderOf sizeOf
@@ -147,7 +147,7 @@ release-copes (self, group, slot) =
 abbrev pub add : Card × ℕ × ℕ → Call
 add (self, group, slot) =
     stateful (Unless 1 (isThere self group slot) ∷ Unless 14 (isIts self group slot) ∷ sender.add (its self group, slot) .refusals)
-    (answerNumber (stepOf self group (AddSlot slot) .answer)) [] [] self (stepOf self group (AddSlot slot) .card) self
+    (answerNumber (outcomeOf self group (AddSlot slot) .answer)) [] [] self (outcomeOf self group (AddSlot slot) .card) self
 
 pub add-copes : (x : Card × ℕ × ℕ) → Copes (add x)
 unfolding isSlot owns senderOf sizeOf
@@ -156,7 +156,7 @@ add-copes (self, group, slot) = command self group slot _ _ (sender.add-copes (s
 abbrev pub remove : Card × ℕ × ℕ → Call
 remove (self, group, slot) =
     stateful (Unless 1 (isThere self group slot) ∷ Unless 14 (isIts self group slot) ∷ sender.remove (its self group, slot) .refusals)
-    (answerNumber (stepOf self group (RemoveSlot slot) .answer)) [] [] self (stepOf self group (RemoveSlot slot) .card) self
+    (answerNumber (outcomeOf self group (RemoveSlot slot) .answer)) [] [] self (outcomeOf self group (RemoveSlot slot) .card) self
 
 pub remove-copes : (x : Card × ℕ × ℕ) → Copes (remove x)
 unfolding isSlot owns senderOf sizeOf
@@ -165,7 +165,7 @@ remove-copes (self, group, slot) = command self group slot _ _ (sender.remove-co
 abbrev pub report : Card × ℕ × ℕ × ℕ × ℕ → Call
 report (self, group, epoch, mst, «rs_ack») =
     stateful (Unless 1 (ltb group 2) ∷ [])
-    (answerNumber (stepOf self group (Report epoch mst «rs_ack») .answer)) [] [] self (stepOf self group (Report epoch mst «rs_ack») .card) self
+    (answerNumber (outcomeOf self group (Report epoch mst «rs_ack») .answer)) [] [] self (outcomeOf self group (Report epoch mst «rs_ack») .card) self
 
 pub report-copes : (x : Card × ℕ × ℕ × ℕ × ℕ) → Copes (report x)
 report-copes (self, group, epoch, mst, «rs_ack») = group-call self group _ _ (sender.report-copes (senderOf self group, epoch, mst, «rs_ack»))
@@ -173,7 +173,7 @@ report-copes (self, group, epoch, mst, «rs_ack») = group-call self group _ _ (
 abbrev pub lapse : Card × ℕ → Call
 lapse (self, group) =
     stateful (Unless 1 (ltb group 2) ∷ sender.lapse (its self group) .refusals)
-    (answerNumber (stepOf self group Lapse .answer)) [] [] self (stepOf self group Lapse .card) self
+    (answerNumber (outcomeOf self group Lapse .answer)) [] [] self (outcomeOf self group Lapse .card) self
 
 pub lapse-copes : (x : Card × ℕ) → Copes (lapse x)
 unfolding senderOf
@@ -182,7 +182,7 @@ lapse-copes (self, group) = group-call self group _ _ (sender.lapse-copes (sende
 abbrev pub startEpoch : Card × ℕ × ℕ × ℕ × ℕ → Call
 startEpoch (self, group, gid, mst, «rs_ack») =
     stateful (Unless 1 (ltb group 2) ∷ sender.startEpoch (its self group, gid, mst, «rs_ack») .refusals)
-    (answerNumber (stepOf self group (StartEpoch gid mst «rs_ack») .answer)) [] [] self (stepOf self group (StartEpoch gid mst «rs_ack») .card) self
+    (answerNumber (outcomeOf self group (StartEpoch gid mst «rs_ack») .answer)) [] [] self (outcomeOf self group (StartEpoch gid mst «rs_ack») .card) self
 
 pub startEpoch-copes : (x : Card × ℕ × ℕ × ℕ × ℕ) → Copes (startEpoch x)
 unfolding senderOf

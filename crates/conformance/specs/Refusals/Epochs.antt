@@ -16,10 +16,10 @@ use Rattle.conformance.specs.Refusals.Tables.{commandRefusals, idle, sta
 use Rattle.sender.specs.declared.epochs.Sender.{Sender}
 use Rattle.sender.specs.declared.table.Answer.the-variants.{Length, OutOfRange}
 use Rattle.sender.specs.declared.table.Table.{Table}
+use Rattle.sender.specs.Calls.Call.{AddSlot, Lapse, RemoveSlot, Report}
 use Rattle.sender.specs.Commands.{freshOf}
-use Rattle.sender.specs.Epochs.{beginOf, freshSender, packetAnswer, packetBytes, packetFields, payloadAnswer, payloadBytes, senderStepOf, startEpochOf, xOf}
+use Rattle.sender.specs.Epochs.{beginOf, freshSender, packetAnswer, packetBytes, packetFields, payloadAnswer, payloadBytes, senderOutcomeOf, startEpochOf, xOf}
 use Rattle.sender.specs.Epochs.SenderCall.{OnTable, StartEpoch}
-use Rattle.sender.specs.Steps.Call.{AddSlot, Lapse, RemoveSlot, Report}
 use Rattle.sender.specs.Table.{answerNumber, sizeOf}
 
 abbrev pub start : ℕ × ℕ × ℕ → Call
@@ -46,7 +46,7 @@ on-table self rs n t c =
 abbrev pub add : Sender × ℕ → Call
 add (self, slot) =
     stateful (commandRefusals (self .table) slot (idle (stateAt (self .table) slot)))
-    (answerNumber (senderStepOf self (OnTable (AddSlot slot)) .answer)) [] [] self (senderStepOf self (OnTable (AddSlot slot)) .sender) self
+    (answerNumber (senderOutcomeOf self (OnTable (AddSlot slot)) .answer)) [] [] self (senderOutcomeOf self (OnTable (AddSlot slot)) .sender) self
 
 pub add-copes : (x : Sender × ℕ) → Copes (add x)
 add-copes (self, slot) = on-table self _ _ _ (table.add-copes (self .table, slot))
@@ -54,7 +54,7 @@ add-copes (self, slot) = on-table self _ _ _ (table.add-copes (self .table, slot
 abbrev pub remove : Sender × ℕ → Call
 remove (self, slot) =
     stateful (commandRefusals (self .table) slot (not (idle (stateAt (self .table) slot))))
-    (answerNumber (senderStepOf self (OnTable (RemoveSlot slot)) .answer)) [] [] self (senderStepOf self (OnTable (RemoveSlot slot)) .sender) self
+    (answerNumber (senderOutcomeOf self (OnTable (RemoveSlot slot)) .answer)) [] [] self (senderOutcomeOf self (OnTable (RemoveSlot slot)) .sender) self
 
 pub remove-copes : (x : Sender × ℕ) → Copes (remove x)
 remove-copes (self, slot) = on-table self _ _ _ (table.remove-copes (self .table, slot))
@@ -62,7 +62,7 @@ remove-copes (self, slot) = on-table self _ _ _ (table.remove-copes (self .table
 abbrev pub report : Sender × ℕ × ℕ × ℕ → Call
 report (self, epoch, mst, «rs_ack») =
     stateful []
-    (answerNumber (senderStepOf self (OnTable (Report epoch mst «rs_ack»)) .answer)) [] [] self (senderStepOf self (OnTable (Report epoch mst «rs_ack»)) .sender) self
+    (answerNumber (senderOutcomeOf self (OnTable (Report epoch mst «rs_ack»)) .answer)) [] [] self (senderOutcomeOf self (OnTable (Report epoch mst «rs_ack»)) .sender) self
 
 pub report-copes : (x : Sender × ℕ × ℕ × ℕ) → Copes (report x)
 report-copes (self, epoch, mst, «rs_ack») = on-table self _ _ _ (table.report-copes (self .table, epoch, mst, «rs_ack»))
@@ -70,7 +70,7 @@ report-copes (self, epoch, mst, «rs_ack») = on-table self _ _ _ (table.report-
 abbrev pub lapse : Sender → Call
 lapse self =
     stateful (Unless 2 (self .table .wait) ∷ [])
-    (answerNumber (senderStepOf self (OnTable Lapse) .answer)) [] [] self (senderStepOf self (OnTable Lapse) .sender) self
+    (answerNumber (senderOutcomeOf self (OnTable Lapse) .answer)) [] [] self (senderOutcomeOf self (OnTable Lapse) .sender) self
 
 pub lapse-copes : (x : Sender) → Copes (lapse x)
 lapse-copes self = on-table self _ _ _ (table.lapse-copes (self .table))
@@ -79,7 +79,7 @@ lapse-copes self = on-table self _ _ _ (table.lapse-copes (self .table))
 abbrev pub startEpoch : Sender × ℕ × ℕ × ℕ → Call
 startEpoch (self, gid, mst, «rs_ack») =
     stateful (Unless 8 (ltb gid 2 && ltb «rs_ack» 2) ∷ [])
-    (answerNumber (senderStepOf self (StartEpoch gid mst «rs_ack») .answer)) [] [] self (senderStepOf self (StartEpoch gid mst «rs_ack») .sender) self
+    (answerNumber (senderOutcomeOf self (StartEpoch gid mst «rs_ack») .answer)) [] [] self (senderOutcomeOf self (StartEpoch gid mst «rs_ack») .sender) self
 
 pub startEpoch-copes : (x : Sender × ℕ × ℕ × ℕ) → Copes (startEpoch x)
 unfolding startEpochOf

@@ -8,10 +8,10 @@ use Rattle.conformance.specs.Entries.{Call, Copes, If, Refusal, Unless, 
 use Rattle.sender.specs.declared.table.State.{State}
 use Rattle.sender.specs.declared.table.State.the-variants.{Idle, Add, Active, Dnu}
 use Rattle.sender.specs.declared.table.Table.{Table}
+use Rattle.sender.specs.Calls.{outcomeOf}
+use Rattle.sender.specs.Calls.Call.{AddSlot, Lapse, RemoveSlot, Report}
 use Rattle.sender.specs.Commands.{addOf, addedTo, freshOf, inOrder, lapseOf, removeOf, removedFrom, startOf}
 use Rattle.sender.specs.Reports.{reportOf}
-use Rattle.sender.specs.Steps.{stepOf}
-use Rattle.sender.specs.Steps.Call.{AddSlot, Lapse, RemoveSlot, Report}
 use Rattle.sender.specs.Table.{answerNumber, isMember, sizeOf, slotAt}
 
 -- 4: 'group count .. out of range', 'an empty group'; there is no state before a start, so the empty group stands for it
@@ -60,7 +60,7 @@ commands t next i allowed =
 abbrev pub add : Table × ℕ → Call
 add (table, slot) =
     stateful (commandRefusals table slot (idle (stateAt table slot)))
-    (answerNumber (stepOf table (AddSlot slot) .answer)) [] [] table (stepOf table (AddSlot slot) .table) table
+    (answerNumber (outcomeOf table (AddSlot slot) .answer)) [] [] table (outcomeOf table (AddSlot slot) .table) table
 
 pub add-copes : (x : Table × ℕ) → Copes (add x)
 unfolding addOf
@@ -70,7 +70,7 @@ add-copes (table, slot) = rw (idle-is (stateAt table slot)) (commands table (add
 abbrev pub remove : Table × ℕ → Call
 remove (table, slot) =
     stateful (commandRefusals table slot (not (idle (stateAt table slot))))
-    (answerNumber (stepOf table (RemoveSlot slot) .answer)) [] [] table (stepOf table (RemoveSlot slot) .table) table
+    (answerNumber (outcomeOf table (RemoveSlot slot) .answer)) [] [] table (outcomeOf table (RemoveSlot slot) .table) table
 
 pub remove-copes : (x : Table × ℕ) → Copes (remove x)
 unfolding removeOf
@@ -78,7 +78,7 @@ remove-copes (table, slot) = rw (member-is (stateAt table slot)) (commands table
 
 -- 2: 'lapse with no wait open'
 abbrev pub lapse : Table → Call
-lapse table = stateful (Unless 2 (table .wait) ∷ []) (answerNumber (stepOf table Lapse .answer)) [] [] table (stepOf table Lapse .table) table
+lapse table = stateful (Unless 2 (table .wait) ∷ []) (answerNumber (outcomeOf table Lapse .answer)) [] [] table (outcomeOf table Lapse .table) table
 
 pub lapse-copes : (x : Table) → Copes (lapse x)
 unfolding lapseOf
@@ -87,7 +87,7 @@ lapse-copes table = copes _ (λ w. rw w, λ w. rw w (refl, refl, refl))
 -- a report is always done
 abbrev pub report : Table × ℕ × ℕ × ℕ → Call
 report (table, epoch, mst, «rs_ack») =
-    stateful [] (answerNumber (stepOf table (Report epoch mst «rs_ack») .answer)) [] [] table (stepOf table (Report epoch mst «rs_ack») .table) table
+    stateful [] (answerNumber (outcomeOf table (Report epoch mst «rs_ack») .answer)) [] [] table (outcomeOf table (Report epoch mst «rs_ack») .table) table
 
 pub report-copes : (x : Table × ℕ × ℕ × ℕ) → Copes (report x)
 unfolding reportOf

@@ -63,6 +63,6 @@ same-meaning line =
     (λ (g : length line < 81). rw (take-all 81 line (omega arith)))
     (le-or-lt 81 (length line))
 
-pub held-line : (line : List ℕ) (k : Kept) → Holds line k → lineOf (lineIn k) ≡ lineOf line
+pub kept-line : (line : List ℕ) (k : Kept) → Holds line k → lineOf (lineIn k) ≡ lineOf line
 unfolding lineIn
-held-line line k h = rw (h .bytes) (same-meaning line)
+kept-line line k h = rw (h .bytes) (same-meaning line)

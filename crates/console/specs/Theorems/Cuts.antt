@@ -13,7 +13,7 @@ use Rattle.console.specs.declared.line.Line.{Line}
 use Rattle.console.specs.declared.session.Session.{Session}
 use Rattle.console.specs.Kept.{lineIn, nothingKept}
 use Rattle.console.specs.Laws.Feeding.{used-some}
-use Rattle.console.specs.Laws.Holding.{Holds, held-line, holds-more, holds-nothing}
+use Rattle.console.specs.Laws.Holding.{Holds, holds-more, holds-nothing, kept-line}
 use Rattle.text.specs.Laws.Lines.{Free, free-append, free-line, free-take, last-line, with-end}
 use Rattle.console.specs.Line.{lineOf}
 use Rattle.console.specs.Output.{ROOM}
@@ -82,7 +82,7 @@ module _ (h : Host) (part : List ℕ) (whole : List ℕ → List ℕ) (o : Stand
       let f : Free L = free-append (o .line) (take i part) (o .free) (free-take part) in
       let k = holds-more (o .line) (h .session .kept) (take i part) (o .holds) in
       let T : Table = h .session .table in
-      let m : lineOf (lineIn (keptWith (h .session) part)) ≡ lineOf L = held-line L (keptWith (h .session) part) k in
+      let m : lineOf (lineIn (keptWith (h .session) part)) ≡ lineOf L = kept-line L (keptWith (h .session) part) k in
       stands-as (fedOnce h part)
       (freshWith (tableAfter T L))
       (over (saidTo T L) (h .buffer))
@@ -174,7 +174,7 @@ at-end h whole o =
     last (b ∷ l) f k =
         let c : 0 < h .session .kept .count = (let n = k .count in omega arith) in
         rw (lt-ltb 0 (h .session .kept .count) c, append-nil l, last-line b l f)
-        (same-said (h .session .table) (lineIn (h .session .kept)) (b ∷ l) (held-line (b ∷ l) (h .session .kept) k) ∙ sym (append-nil (saidTo (h .session .table) (b ∷ l))))
+        (same-said (h .session .table) (lineIn (h .session .kept)) (b ∷ l) (kept-line (b ∷ l) (h .session .kept) k) ∙ sym (append-nil (saidTo (h .session .table) (b ∷ l))))
 
 start : (buffer : List ℕ) → ROOM ≤ length buffer → Stands (record { session = beginning; buffer = buffer; said = [] }) wholeOutput
 unfolding beginning wholeOutput

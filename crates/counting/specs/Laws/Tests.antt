@@ -82,8 +82,8 @@ every-lacks (suc n) f e = go (f n) refl (every n f) refl (every-lacks n f)
     go true t false s rest = let o = rest s in record { at = o .at; below = (let b = o .below in omega arith); fails = o .fails }
 
 -- where not all fail a test, some pass it
-pub some-passes : (n : ℕ) (f : ℕ → Bool) → every n (λ k. not (f k)) ≡ false → some n f ≡ true
-some-passes n f e = let o = every-lacks n (λ k. not (f k)) e in some-at n f (o .at) (o .below) (not-false (f (o .at)) (o .fails))
+pub some-not-none : (n : ℕ) (f : ℕ → Bool) → every n (λ k. not (f k)) ≡ false → some n f ≡ true
+some-not-none n f e = let o = every-lacks n (λ k. not (f k)) e in some-at n f (o .at) (o .below) (not-false (f (o .at)) (o .fails))
 
 -- where the test holds at some number, the one that is found is such a one
 pub the-one : (n : ℕ) (f : ℕ → Bool) → some n f ≡ true → (the n f < n) × (f (the n f) ≡ true)

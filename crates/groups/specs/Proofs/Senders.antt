@@ -9,16 +9,16 @@ use lib.Dec.{eqb}
 use borrow.Author.Tests.{eqb-false, eqb-true, lt-ltb}
 use Rattle.ground.specs.Table.{tabulate}
 use Rattle.sender.specs.declared.epochs.Sender.{Sender}
-use Rattle.sender.specs.Epochs.{SenderCall, beginOf, senderRun, senderStepOf}
+use Rattle.sender.specs.Calls.{Call as T}
+use Rattle.sender.specs.Epochs.{SenderCall, beginOf, senderOutcomeOf, senderRun}
 use Rattle.sender.specs.Epochs.{SenderCall as E}
-use Rattle.sender.specs.Steps.{Call as T}
 use Rattle.sender.specs.Theorems.Epochs.{onTable, refused-start}
 use Rattle.circuits.specs.Calls.Call.{Claim, Release, AddSlot, RemoveSlot, Report, Lapse, StartEpoch}
 use Rattle.circuits.specs.Commands.{claimOf, commandOf, groupCallOf, releaseOf, sentOf, startOf}
 use Rattle.circuits.specs.declared.answers.Answer.the-variants as A
 use Rattle.circuits.specs.declared.card.Card.{Card}
 use Rattle.circuits.specs.declared.card.CardOutcome.{CardOutcome}
-use Rattle.circuits.specs.Laws.Seeing.{sender-marked, sender-stepped}
+use Rattle.circuits.specs.Laws.Seeing.{sender-marked, sender-outcome}
 use Rattle.circuits.specs.Owners.{hasOwner, markOf}
 use Rattle.circuits.specs.Parts.{isSlot, isUsed, marked, owns, refused, senderOf}
 use Rattle.circuits.specs.Theorems.Apart.{others-keep}
@@ -56,47 +56,47 @@ module _ (c : Card) (g : ℕ) (hg : g < 2) where
       go : (s o : Bool)
           → senderOf (cond s (cond o (sentOf c g (E.OnTable t)) (refused c A.Owned)) (refused c A.NoSlot) .card) g
           ≡ senderRun (senderOf c g) (onTable (cond (s && o) (t ∷ []) []))
-      go true true = sender-stepped c g (senderStepOf (senderOf c g) (E.OnTable t))
+      go true true = sender-outcome c g (senderOutcomeOf (senderOf c g) (E.OnTable t))
       go true false = refl
       go false o = refl
 
-  -- a call on the whole group is its sender's step
-  own-group : (k : SenderCall) → senderOf (groupCallOf c g k .card) g ≡ senderStepOf (senderOf c g) k .sender
+  -- a call on the whole group is its sender's call
+  own-group : (k : SenderCall) → senderOf (groupCallOf c g k .card) g ≡ senderOutcomeOf (senderOf c g) k .sender
   unfolding groupCallOf
   own-group k =
       ap (λ (b : Bool). senderOf (cond {A = CardOutcome} b (sentOf c g k) (refused c A.NoSlot) .card) g) (lt-ltb g 2 hg)
-      ∙ sender-stepped c g (senderStepOf (senderOf c g) k)
+      ∙ sender-outcome c g (senderOutcomeOf (senderOf c g) k)
 
-  own-step : (a : Asked) → begins a ≡ false → senderOf (cardAfter c g a) g ≡ senderRun (senderOf c g) (onTable (tableCall c g a))
-  own-step (Do (Claim i)) e = own-claim i
-  own-step (Do (Release i)) e = own-release i
-  own-step (Do (AddSlot i)) e = own-command i (T.AddSlot i)
-  own-step (Do (RemoveSlot i)) e = own-command i (T.RemoveSlot i)
-  own-step (Do (Report n mst ack)) e = own-group (E.OnTable (T.Report n mst ack))
-  own-step (Do Lapse) e = own-group (E.OnTable T.Lapse)
-  own-step (Do (StartEpoch gid mst ack)) e = own-group (E.StartEpoch gid mst ack) ∙ refused-start (senderOf c g) gid mst ack e
-  own-step (Packet i h4) e = refl
-  own-step (Payload i p frame member) e = refl
-  own-step Board e = refl
-  own-step Outgoing e = refl
-  own-step Ranks e = refl
-  own-step Owned e = refl
+  own-call : (a : Asked) → begins a ≡ false → senderOf (cardAfter c g a) g ≡ senderRun (senderOf c g) (onTable (tableCall c g a))
+  own-call (Do (Claim i)) e = own-claim i
+  own-call (Do (Release i)) e = own-release i
+  own-call (Do (AddSlot i)) e = own-command i (T.AddSlot i)
+  own-call (Do (RemoveSlot i)) e = own-command i (T.RemoveSlot i)
+  own-call (Do (Report n mst ack)) e = own-group (E.OnTable (T.Report n mst ack))
+  own-call (Do Lapse) e = own-group (E.OnTable T.Lapse)
+  own-call (Do (StartEpoch gid mst ack)) e = own-group (E.StartEpoch gid mst ack) ∙ refused-start (senderOf c g) gid mst ack e
+  own-call (Packet i h4) e = refl
+  own-call (Payload i p frame member) e = refl
+  own-call Board e = refl
+  own-call Outgoing e = refl
+  own-call Ranks e = refl
+  own-call Owned e = refl
 
-  other-step : (h : ℕ) (a : Asked) → h ≢ g → senderOf (cardAfter c h a) g ≡ senderOf c g
+  other-call : (h : ℕ) (a : Asked) → h ≢ g → senderOf (cardAfter c h a) g ≡ senderOf c g
   unfolding viewOf
-  other-step h a n = ap (λ (v : View). v .sender) (others-keep c g h a hg n)
+  other-call h a n = ap (λ (v : View). v .sender) (others-keep c g h a hg n)
 
-  step-on : (m : Made) → isStart g m ≡ false → senderOf (cardAfter c (m .group) (m .asked)) g ≡ senderRun (senderOf c g) (onTable (reaching g c m))
-  step-on m none = go (eqb (m .group) g) refl none
+  call-on : (m : Made) → isStart g m ≡ false → senderOf (cardAfter c (m .group) (m .asked)) g ≡ senderRun (senderOf c g) (onTable (reaching g c m))
+  call-on m none = go (eqb (m .group) g) refl none
     where
       go : (b : Bool) → eqb (m .group) g ≡ b → (b && begins (m .asked)) ≡ false
           → senderOf (cardAfter c (m .group) (m .asked)) g ≡ senderRun (senderOf c g) (onTable (cond b (tableCall c g (m .asked)) []))
-      go true same f = ap (λ (h : ℕ). senderOf (cardAfter c h (m .asked)) g) (eqb-true (m .group) g same) ∙ own-step (m .asked) f
-      go false other f = other-step (m .group) (m .asked) (eqb-false (m .group) g other)
+      go true same f = ap (λ (h : ℕ). senderOf (cardAfter c h (m .asked)) g) (eqb-true (m .group) g same) ∙ own-call (m .asked) f
+      go false other f = other-call (m .group) (m .asked) (eqb-false (m .group) g other)
 
 run-two : (s : Sender) (a b : List T) → senderRun s (onTable (a ++ b)) ≡ senderRun (senderRun s (onTable a)) (onTable b)
 run-two s [] b = refl
-run-two s (t ∷ a) b = run-two (senderStepOf s (E.OnTable t) .sender) a b
+run-two s (t ∷ a) b = run-two (senderOutcomeOf s (E.OnTable t) .sender) a b
 
 run-on : (g : ℕ) → g < 2 → (k : ℕ) (f : ℕ → Made) (c : Card) → ((j : ℕ) → j < k → isStart g (f j) ≡ false)
     → senderOf (run c (tabulate k f)) g ≡ senderRun (senderOf c g) (onTable (tableCalls g c (tabulate k f)))
@@ -105,7 +105,7 @@ run-on g hg (suc k) f c none =
     let d : Card = cardAfter c (f zero .group) (f zero .asked) in
     let rest : List T = tableCalls g d (tabulate k (λ j. f (suc j))) in
     run-on g hg k (λ j. f (suc j)) d (λ j b. none (suc j) (omega arith))
-    ∙ ap (λ (s : Sender). senderRun s (onTable rest)) (step-on c g hg (f zero) (none zero (omega arith)))
+    ∙ ap (λ (s : Sender). senderRun s (onTable rest)) (call-on c g hg (f zero) (none zero (omega arith)))
     ∙ sym (run-two (senderOf c g) (reaching g c (f zero)) rest)
 
 module _ (h : CardHistory) (g : ℕ) (hg : g < 2) where
@@ -126,7 +126,7 @@ module _ (h : CardHistory) (g : ℕ) (hg : g < 2) where
       go (suc (suc j)) l = absurd (omega arith)
 
   module _ (s : Starts h g) where
-    pub at-start : (i : ℕ) → senderOf (cardAt h (suc (s .at i))) g ≡ senderStepOf (senderOf (cardAt h (s .at i)) g) (E.StartEpoch (s .gid i) (s .mst i) (s .ack i)) .sender
+    pub at-start : (i : ℕ) → senderOf (cardAt h (suc (s .at i))) g ≡ senderOutcomeOf (senderOf (cardAt h (s .at i)) g) (E.StartEpoch (s .gid i) (s .mst i) (s .ack i)) .sender
     at-start i =
         ap (λ (c : Card). senderOf c g) (card-next h (s .at i))
         ∙ ap (λ (m : Made). senderOf (cardAfter (cardAt h (s .at i)) (m .group) (m .asked)) g) (s .is i)
@@ -137,11 +137,11 @@ module _ (h : CardHistory) (g : ℕ) (hg : g < 2) where
     unfolding senderAt
     sender-is zero =
         at-start zero
-        ∙ ap (λ (r : Sender). senderStepOf r (E.StartEpoch (s .gid zero) (s .mst zero) (s .ack zero)) .sender)
+        ∙ ap (λ (r : Sender). senderOutcomeOf r (E.StartEpoch (s .gid zero) (s .mst zero) (s .ack zero)) .sender)
         (sender-from zero (s .at zero) (omega arith) (λ j from b. s .none-before j b)
         ∙ ap (λ (r : Sender). senderRun r (onTable (between h g zero (s .at zero)))) at-first)
     sender-is (suc i) =
         at-start (suc i)
-        ∙ ap (λ (r : Sender). senderStepOf r (E.StartEpoch (s .gid (suc i)) (s .mst (suc i)) (s .ack (suc i))) .sender)
+        ∙ ap (λ (r : Sender). senderOutcomeOf r (E.StartEpoch (s .gid (suc i)) (s .mst (suc i)) (s .ack (suc i))) .sender)
         (sender-from (suc (s .at i)) (s .at (suc i)) (s .rising i) (λ j from b. s .none-between i j from b)
         ∙ ap (λ (r : Sender). senderRun r (onTable (between h g (suc (s .at i)) (s .at (suc i))))) (sender-is i))

@@ -6,14 +6,14 @@ use Prim.Native.Nat.{ℕ, zero, suc, _+_, _-_, _≤_, _<_}
 use native.Mathlib.Omega.{arith}
 use lib.Dec.{eqb, ltb}
 use borrow.Author.Tests.{eqb-false}
-use Rattle.sender.specs.Epochs.{SenderCall, senderStepOf}
+use Rattle.sender.specs.Epochs.{SenderCall, senderOutcomeOf}
 use Rattle.circuits.specs.Alone.{ownIn}
 use Rattle.circuits.specs.Calls.Call.{Claim, Release, AddSlot, RemoveSlot, Report, Lapse, StartEpoch}
 use Rattle.circuits.specs.Commands.{commandOf, groupCallOf, sentOf}
 use Rattle.circuits.specs.declared.answers.Answer.the-variants as A
 use Rattle.circuits.specs.declared.card.Card.{Card}
 use Rattle.circuits.specs.declared.card.CardOutcome.{CardOutcome}
-use Rattle.circuits.specs.Laws.Seeing.{own-is, owners-stepped}
+use Rattle.circuits.specs.Laws.Seeing.{own-is, owners-outcome}
 use Rattle.circuits.specs.Owners.{markOf, ownerIn}
 use Rattle.circuits.specs.Parts.{isSlot, owns, refused, senderOf}
 use Rattle.circuits.specs.Theorems.Apart.{others-keep}
@@ -25,7 +25,7 @@ use Rattle.groups.specs.Proofs.Running.{card-next}
 
 module _ (c : Card) (g : ℕ) where
   sent-owners : (k : SenderCall) → sentOf c g k .card .owners ≡ c .owners
-  sent-owners k = owners-stepped c g (senderStepOf (senderOf c g) k)
+  sent-owners k = owners-outcome c g (senderOutcomeOf (senderOf c g) k)
 
   command-owners : (i : ℕ) (k : SenderCall) → commandOf c g i k .card .owners ≡ c .owners
   unfolding commandOf

@@ -9,12 +9,12 @@ use lib.Dec.{eqb}
 use lib.ListN.{List·getD-eq-default, getD}
 use Rattle.ground.specs.Table.{getD-tabulate, tabulate}
 use Rattle.ground.specs.Truth.{le-or-lt}
-use Rattle.sender.specs.Steps.{Call}
-use Rattle.sender.specs.Steps.Call.{AddSlot, Lapse, RemoveSlot, Report}
+use Rattle.sender.specs.Calls.{Call}
+use Rattle.sender.specs.Calls.Call.{AddSlot, Lapse, RemoveSlot, Report}
 use Rattle.circuits.specs.Commands.{claimOf, commandOf, groupCallOf, releaseOf, startOf}
 use Rattle.circuits.specs.declared.card.Card.{Card}
 use Rattle.circuits.specs.Owners.{withOwner}
-use Rattle.circuits.specs.Parts.{isSlot, isUsed, marked, owns, senderOf, stepped, withSender}
+use Rattle.circuits.specs.Parts.{groupOutcome, isSlot, isUsed, marked, owns, senderOf, withSender}
 use Rattle.circuits.specs.Views.{Made, cardAfter}
 use Rattle.link.specs.History.{History}
 use Rattle.link.specs.Samples.Computing.{outcome}
@@ -24,7 +24,7 @@ use Rattle.groups.specs.Samples.Calls.{card, made, made-late, quiet, sta
 
 -- Everything that a card is made of is opened here, for the checker to compute.
 unfoldable pub computed : CardHistory → ℕ → Card
-unfolding outcome claimOf commandOf groupCallOf releaseOf startOf withOwner isSlot isUsed marked owns senderOf stepped withSender cardAt
+unfolding outcome claimOf commandOf groupCallOf releaseOf startOf withOwner isSlot isUsed marked owns senderOf groupOutcome withSender cardAt
 computed h n = cardAt h n
 
 -- the calls that reach group 0's table before each of its epochs: neither claims and releases nor what is answered 14

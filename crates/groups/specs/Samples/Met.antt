@@ -10,7 +10,7 @@ use lib.ListN.{length, length-replicate}
 use Rattle.ground.specs.Table.{length-tabulate}
 use Rattle.packet.specs.Kinds.{epochs, frames, tags}
 use Rattle.phases.specs.Sizes.{sized}
-use Rattle.sender.specs.Steps.{Call}
+use Rattle.sender.specs.Calls.{Call}
 use Rattle.circuits.specs.Parts.{owns}
 use Rattle.link.specs.Demand3.{Demand3}
 use Rattle.link.specs.History.{History, sendingOf, xAt}

@@ -1,4 +1,5 @@
 -- What stands in the store where a port claims a frame: it is the frame that was handed with that tag. As a relation between two calls: after a call a frame is claimed only if it was claimed before, or is the one just handed.
+-- The idea: each thing that a call does is looked at by itself (an epoch passed, a stop, a beginning, a frame stored). Only storing a frame puts bytes, and a place in the store belongs to one tag of the window; so what stood elsewhere stands as it did.
 use mathlib.Core.Path.{_≡_, refl, sym, ap, _∙_}
 use mathlib.Core.Logic.{_⊎_, inl, inr, ⊎-elim, _≢_}
 use mathlib.Core.Bool.{Bool, true, false, cond, false≢true}
@@ -6,17 +7,17 @@ use mathlib.Core.List.{List, [], _∷_}
 use Prim.Native.Nat.{ℕ, _+_, _/_, _%_, _≤_, _<_}
 use native.Mathlib.Omega.{arith}
 use lib.ListN.{getD, length, replicate}
-use Rattle.invariant.specs.Proofs.Arriving.{Counts, after-group, frame-by}
-use Rattle.invariant.specs.Proofs.Calls.{step-kept}
-use Rattle.invariant.specs.Proofs.Claims.{New, Old, claims-inside, passed-claims, taken-claims, taken-inside}
-use Rattle.invariant.specs.Proofs.Kept.Calls.{Due, due-says}
 use Rattle.invariant.specs.Kept.Group.{Kept, Lasting}
 use Rattle.invariant.specs.Kept.Port.{PortKept, Windowed}
+use Rattle.invariant.specs.Proofs.Arriving.{Counts, after-group, frame-by}
+use Rattle.invariant.specs.Proofs.Calls.{call-kept}
+use Rattle.invariant.specs.Proofs.Claims.{New, Old, claims-inside, passed-claims, taken-claims, taken-inside}
+use Rattle.invariant.specs.Proofs.Kept.Calls.{Due, due-says}
 use Rattle.invariant.specs.Proofs.Kept.Start.{started-kept, started-with}
-use Rattle.invariant.specs.Proofs.Kept.Steps.{brought-owes-nothing, lasting-frame, windowed}
+use Rattle.invariant.specs.Proofs.Kept.WithinCall.{brought-owes-nothing, lasting-frame, windowed}
 use Rattle.invariant.specs.Proofs.Laws.Settling.{settled-by}
 use Rattle.invariant.specs.Proofs.Laws.Window.{tag-next, tag-passed}
-use Rattle.invariant.specs.Proofs.Sizes.{step-sizes}
+use Rattle.invariant.specs.Proofs.Sizes.{call-sizes}
 use Rattle.ground.specs.Table.{getD-tabulate, tabulate}
 use Rattle.ground.specs.Truth.{cond-by, eq-or-ne}
 use Rattle.judge.specs.Seen.{sizeOf}
@@ -55,7 +56,7 @@ use Rattle.store.specs.Laws.Marks.{first-mark, mark-none}
 use Rattle.store.specs.Laws.Places.{place-moved}
 use Rattle.store.specs.Laws.Stands.{Stands, stands-put, stands-same, stored-elsewhere}
 use Rattle.store.specs.Marks.{firstMark, markIn, passedMarks}
-use Rattle.invariant.specs.Calls.{Fetch, Frame, Receiver, ReceiverCall, portAfter, receiverRun, receiverStep, startedWith, storeAfter}
+use Rattle.invariant.specs.Calls.{Fetch, Frame, Receiver, ReceiverCall, portAfter, receiverAfter, receiverRun, startedWith, storeAfter}
 use Rattle.invariant.specs.Claims.{Claimed, ClaimedOn, Claims, Handed, HandedBy, HandedLast, Part, tagIn}
 
 -- The same content in two states: what is claimed in the second was claimed in the first.
@@ -288,10 +289,10 @@ module _ (tag : ℕ) (bytes : List ℕ) (h4 : ℕ) where
       ports = ports-are (groupAt s) (k .steady .group .sizes)
 
   -- of every call
-  pub step-claimed : (x : Receiver) (c : ReceiverCall) → Kept (x .rows) → (j : ℕ) → j < groupAt (x .rows) .count
-      → Claimed (receiverStep x c .rows) (receiverStep x c .store) j tag bytes h4 → Claimed (x .rows) (x .store) j tag bytes h4 ⊎ HandedBy tag bytes h4 x c j
-  step-claimed x (Frame i failed h payload) k j b c = frame-claimed (x .rows) k i failed h payload (x .store) j b c
-  step-claimed x (Fetch out report) k j b c = inl (fetch-claimed (x .rows) k (x .store) out report j b c)
+  pub call-claimed : (x : Receiver) (c : ReceiverCall) → Kept (x .rows) → (j : ℕ) → j < groupAt (x .rows) .count
+      → Claimed (receiverAfter x c .rows) (receiverAfter x c .store) j tag bytes h4 → Claimed (x .rows) (x .store) j tag bytes h4 ⊎ HandedBy tag bytes h4 x c j
+  call-claimed x (Frame i failed h payload) k j b c = frame-claimed (x .rows) k i failed h payload (x .store) j b c
+  call-claimed x (Fetch out report) k j b c = inl (fetch-claimed (x .rows) k (x .store) out report j b c)
 
   still : (x : Receiver) (calls : List ReceiverCall) (j : ℕ) → ClaimedOn tag bytes h4 x calls j → Claimed (x .rows) (x .store) j tag bytes h4
   still x [] j c = c
@@ -301,11 +302,11 @@ module _ (tag : ℕ) (bytes : List ℕ) (h4 : ℕ) where
       → Claimed (receiverRun x calls .rows) (receiverRun x calls .store) j tag bytes h4 → ClaimedOn tag bytes h4 x calls j ⊎ HandedLast tag bytes h4 x calls j
   run-claimed x [] k j b c = inl c
   run-claimed x (call ∷ calls) k j b c =
-      let y : Receiver = receiverStep x call in
-      let rest : ClaimedOn tag bytes h4 y calls j ⊎ HandedLast tag bytes h4 y calls j = run-claimed y calls (step-kept x call k) j (rw (step-sizes x call k .count) b) c in
+      let y : Receiver = receiverAfter x call in
+      let rest : ClaimedOn tag bytes h4 y calls j ⊎ HandedLast tag bytes h4 y calls j = run-claimed y calls (call-kept x call k) j (rw (call-sizes x call k .count) b) c in
       ⊎-elim
       (λ (p : ClaimedOn tag bytes h4 y calls j).
-      ⊎-elim (λ (q : Claimed (x .rows) (x .store) j tag bytes h4). inl (q, p)) (λ (q : HandedBy tag bytes h4 x call j). inr (inl (q, p))) (step-claimed x call k j b (still y calls j p)))
+      ⊎-elim (λ (q : Claimed (x .rows) (x .store) j tag bytes h4). inl (q, p)) (λ (q : HandedBy tag bytes h4 x call j). inr (inl (q, p))) (call-claimed x call k j b (still y calls j p)))
       (λ (p : HandedLast tag bytes h4 y calls j). inr (inr p)) rest
 
   -- After a start and any calls, every frame that a port claims was handed in one of them, and has been claimed after each call since: it is the last one handed with its tag since the port joined.

@@ -2,7 +2,7 @@
 pub mod Taken
 pub mod Passing
 pub mod Clearing
-pub mod Steps
+pub mod WithinCall
 pub mod Told
 pub mod Settling
 pub mod Quiet

@@ -6,16 +6,16 @@ use mathlib.Core.List.{List, [], _∷_, _++_, append-assoc, append-nil}
 use Prim.Native.Nat.{ℕ, _≤_, _<_}
 use native.Mathlib.Omega.{arith}
 use lib.ListN.{length}
+use Rattle.invariant.specs.Kept.Group.{Kept}
 use Rattle.invariant.specs.Proofs.Arriving.{Counts, after-group, frame-by}
 use Rattle.invariant.specs.Proofs.Calls.{run-kept}
 use Rattle.invariant.specs.Proofs.Claimed.{taken-claimed}
 use Rattle.invariant.specs.Proofs.Kept.Calls.{due-says}
-use Rattle.invariant.specs.Kept.Group.{Kept}
 use Rattle.invariant.specs.Proofs.Kept.Start.{started-kept, started-with}
 use Rattle.invariant.specs.Proofs.Kept.Taken.{taken-whole}
 use Rattle.invariant.specs.Proofs.Laws.Flags.{off-flag}
 use Rattle.invariant.specs.Proofs.Laws.Settling.{settled-by}
-use Rattle.invariant.specs.Proofs.Sizes.{step-sizes}
+use Rattle.invariant.specs.Proofs.Sizes.{call-sizes}
 use Rattle.ground.specs.Truth.{cond-by, eq-or-ne}
 use Rattle.phases.specs.Laws.Cleared.{begun-port, stopped-port}
 use Rattle.phases.specs.Laws.Lengths.{length-passed, length-stopped}
@@ -41,7 +41,7 @@ use Rattle.rows.specs.Step.{stepAt}
 use Rattle.step.specs.Arrival.{flagOf}
 use Rattle.store.specs.Frames.{packetIn}
 use Rattle.store.specs.Marks.{firstMark}
-use Rattle.invariant.specs.Calls.{Fetch, Frame, Receiver, ReceiverCall, portAfter, receiverRun, receiverStep, startedWith, storeAfter}
+use Rattle.invariant.specs.Calls.{Fetch, Frame, Receiver, ReceiverCall, portAfter, receiverAfter, receiverRun, startedWith, storeAfter}
 use Rattle.invariant.specs.Ruled.{Ruled, AllPassed, AllStay, AllUnruled, OneEpoch, RulesOn, none-rules, passed-in, rowsPassed}
 
 module _ (s : List (List ℕ)) (k : Kept s) (i : ℕ) (failed : Bool) (h : ℕ) (payload store : List ℕ) where
@@ -140,32 +140,32 @@ module _ (s : List (List ℕ)) (k : Kept s) (store out report : List ℕ) where
       stays = inl (record { ports = λ j c. record { ruling = refl; whole = refl }; oldest = refl })
 
 -- of every call
-pub step-ruled : (x : Receiver) (c : ReceiverCall) → Kept (x .rows) → Ruled x c (receiverStep x c .store) (receiverStep x c .rows)
-step-ruled x (Frame i failed h payload) k = frame-ruled (x .rows) k i failed h payload (x .store)
-step-ruled x (Fetch out report) k = fetch-ruled (x .rows) k (x .store) out report
+pub call-ruled : (x : Receiver) (c : ReceiverCall) → Kept (x .rows) → Ruled x c (receiverAfter x c .store) (receiverAfter x c .rows)
+call-ruled x (Frame i failed h payload) k = frame-ruled (x .rows) k i failed h payload (x .store)
+call-ruled x (Fetch out report) k = fetch-ruled (x .rows) k (x .store) out report
 
-run-more : (x : Receiver) (calls : List ReceiverCall) (c : ReceiverCall) → receiverRun x (calls ++ (c ∷ [])) ≡ receiverStep (receiverRun x calls) c
+run-more : (x : Receiver) (calls : List ReceiverCall) (c : ReceiverCall) → receiverRun x (calls ++ (c ∷ [])) ≡ receiverAfter (receiverRun x calls) c
 run-more x [] c = refl
-run-more x (d ∷ calls) c = run-more (receiverStep x d) calls c
+run-more x (d ∷ calls) c = run-more (receiverAfter x d) calls c
 
 module _ (x : Receiver) (k₀ : Kept (x .rows)) where
   now-kept : (calls : List ReceiverCall) → Kept (receiverRun x calls .rows)
   now-kept calls = run-kept x calls k₀
 
-  step-one : (calls : List ReceiverCall) (c : ReceiverCall) → OneEpoch x calls → OneEpoch x (calls ++ (c ∷ []))
-  step-one calls c o = ⊎-elim stay (λ (u : AllUnruled (now .rows) (next .rows) ⊎ AllPassed now c (next .store) (next .rows)). ⊎-elim unruled passed u) (step-ruled now c (now-kept calls))
+  call-one : (calls : List ReceiverCall) (c : ReceiverCall) → OneEpoch x calls → OneEpoch x (calls ++ (c ∷ []))
+  call-one calls c o = ⊎-elim stay (λ (u : AllUnruled (now .rows) (next .rows) ⊎ AllPassed now c (next .store) (next .rows)). ⊎-elim unruled passed u) (call-ruled now c (now-kept calls))
     where
       now : Receiver
       now = receiverRun x calls
 
       next : Receiver
-      next = receiverStep now c
+      next = receiverAfter now c
 
       then-is : receiverRun x (calls ++ (c ∷ [])) ≡ next
       then-is = run-more x calls c
 
       count : groupAt (next .rows) .count ≡ groupAt (now .rows) .count
-      count = step-sizes now c (now-kept calls) .count
+      count = call-sizes now c (now-kept calls) .count
 
       stands-is : (b : Bool) (old : List ℕ) (j : ℕ) → flagOf (cond b 1 0) ≡ true → cond b (packetIn (groupAt (now .rows)) j (next .store)) old ≡ packetIn (groupAt (now .rows)) j (next .store)
       stands-is true old j e = refl
@@ -203,7 +203,7 @@ module _ (x : Receiver) (k₀ : Kept (x .rows)) where
 
   run-one : (done calls : List ReceiverCall) → OneEpoch x done → OneEpoch x (done ++ calls)
   run-one done [] o = rw (append-nil done) o
-  run-one done (c ∷ calls) o = subst (λ (l : List ReceiverCall). OneEpoch x l) (append-assoc done (c ∷ []) calls) (run-one (done ++ (c ∷ [])) calls (step-one done c o))
+  run-one done (c ∷ calls) o = subst (λ (l : List ReceiverCall). OneEpoch x l) (append-assoc done (c ∷ []) calls) (run-one (done ++ (c ∷ [])) calls (call-one done c o))
 
 pub one-epoch : (kind count P W : ℕ) (hold restore : List ℕ) (rows : List (List ℕ)) (store : List ℕ) → startAsAnswer kind count P W (length store) hold restore (length rows) ≡ 0 → (calls : List ReceiverCall)
     → OneEpoch (startedWith kind count P W hold restore rows store) calls

@@ -8,7 +8,7 @@ use native.Mathlib.Omega.{arith}
 use lib.ListN.{length}
 use Rattle.invariant.specs.Kept.Group.{Kept, PortIn}
 use Rattle.invariant.specs.Proofs.Kept.Quiet.{Quiet, taken-quiet}
-use Rattle.invariant.specs.Proofs.Kept.Steps.{windowed}
+use Rattle.invariant.specs.Proofs.Kept.WithinCall.{windowed}
 use Rattle.counting.specs.Laws.Tests.{every-all, every-at, every-fails}
 use Rattle.counting.specs.Words.{every}
 use Rattle.ground.specs.Truth.{clash, eq-or-ne, fails}

@@ -4,9 +4,9 @@ use mathlib.Core.List.{List, [], _∷_}
 use Prim.Native.Nat.{ℕ, _<_}
 use native.Mathlib.Omega.{arith}
 use lib.ListN.{length}
-use Rattle.invariant.specs.Proofs.Arriving.{Counts, after-group, frame-by}
-use Rattle.invariant.specs.Proofs.Calls.{step-kept}
 use Rattle.invariant.specs.Kept.Group.{Kept}
+use Rattle.invariant.specs.Proofs.Arriving.{Counts, after-group, frame-by}
+use Rattle.invariant.specs.Proofs.Calls.{call-kept}
 use Rattle.ground.specs.Truth.{cond-by}
 use Rattle.phases.specs.Laws.Lengths.{length-passed}
 use Rattle.phases.specs.Laws.Passed.{passed-group}
@@ -20,7 +20,7 @@ use Rattle.receiver.specs.Laws.Told.{told-group}
 use Rattle.receiver.specs.Report.{reportedOf, statesWorkedOut}
 use Rattle.rows.specs.declared.group.Group.{Group}
 use Rattle.rows.specs.Group.{groupAt}
-use Rattle.invariant.specs.Calls.{Fetch, Frame, Receiver, ReceiverCall, portAfter, receiverRun, receiverStep, storeAfter}
+use Rattle.invariant.specs.Calls.{Fetch, Frame, Receiver, ReceiverCall, portAfter, receiverAfter, receiverRun, storeAfter}
 
 pub frame-sizes : (s : List (List ℕ)) → Kept s → (i : ℕ) (failed : Bool) (h : ℕ) (payload store : List ℕ) → SameSizes (groupAt (frameRows s i failed h payload store)) (groupAt s)
 frame-sizes s k i failed h payload store =
@@ -54,12 +54,12 @@ fetch-sizes s k store out report =
         rw (told-group (groupAt p) m p (rw (length-passed (groupAt s) store m s) some), passed-group (groupAt s) store m s some)
         (record { kind = passed-kind (groupAt s); count = passed-count (groupAt s); payload = passed-payload (groupAt s); window = passed-window (groupAt s) })
 
-pub step-sizes : (x : Receiver) (c : ReceiverCall) → Kept (x .rows) → SameSizes (groupAt (receiverStep x c .rows)) (groupAt (x .rows))
-step-sizes x (Frame i failed h payload) k = frame-sizes (x .rows) k i failed h payload (x .store)
-step-sizes x (Fetch out report) k = fetch-sizes (x .rows) k (x .store) out report
+pub call-sizes : (x : Receiver) (c : ReceiverCall) → Kept (x .rows) → SameSizes (groupAt (receiverAfter x c .rows)) (groupAt (x .rows))
+call-sizes x (Frame i failed h payload) k = frame-sizes (x .rows) k i failed h payload (x .store)
+call-sizes x (Fetch out report) k = fetch-sizes (x .rows) k (x .store) out report
 
 pub run-sizes : (x : Receiver) (calls : List ReceiverCall) → Kept (x .rows) → SameSizes (groupAt (receiverRun x calls .rows)) (groupAt (x .rows))
 run-sizes x [] k = sizes-stay (groupAt (x .rows))
 run-sizes x (c ∷ calls) k =
-    sizes-then (groupAt (receiverRun (receiverStep x c) calls .rows)) (groupAt (receiverStep x c .rows)) (groupAt (x .rows))
-    (run-sizes (receiverStep x c) calls (step-kept x c k)) (step-sizes x c k)
+    sizes-then (groupAt (receiverRun (receiverAfter x c) calls .rows)) (groupAt (receiverAfter x c .rows)) (groupAt (x .rows))
+    (run-sizes (receiverAfter x c) calls (call-kept x c k)) (call-sizes x c k)

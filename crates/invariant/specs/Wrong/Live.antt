@@ -5,7 +5,7 @@ use mathlib.Core.List.{List, [], _∷_}
 use Prim.Native.Nat.{ℕ, _+_, _%_}
 use lib.Dec.{eqb, ltb}
 use lib.ListN.{length, replicate}
-use Rattle.invariant.specs.Calls.{Fetch, Frame, Receiver, ReceiverCall, receiverRun, receiverStep, startedWith}
+use Rattle.invariant.specs.Calls.{Fetch, Frame, Receiver, ReceiverCall, receiverAfter, receiverRun, startedWith}
 use Rattle.invariant.specs.Live.{heardOf, packetHeard}
 use Rattle.invariant.specs.Wrong.Sample.{sentH4}
 use Rattle.ground.specs.Circle.{after as afterOn}
@@ -48,9 +48,9 @@ receiver = startedWith 0 1 1 16 [] [] (replicate 6 (replicate 16 0)) (replicate 
 wrong-heard : Receiver → List ReceiverCall → List ℕ → List ℕ
 wrong-heard x [] heard = heard
 wrong-heard x (Frame i failed h payload ∷ calls) heard =
-    wrong-heard (receiverStep x (Frame i failed h payload)) calls
+    wrong-heard (receiverAfter x (Frame i failed h payload)) calls
     (cond (eqb (frameAnswer (x .rows) i failed h (length payload) (length (x .store))) 0) (h ∷ heard) heard)
-wrong-heard x (Fetch out report ∷ calls) heard = wrong-heard (receiverStep x (Fetch out report)) calls heard
+wrong-heard x (Fetch out report ∷ calls) heard = wrong-heard (receiverAfter x (Fetch out report)) calls heard
 
 came : List ℕ
 came = 5 ∷ 5 ∷ 5 ∷ 5 ∷ 5 ∷ 5 ∷ 5 ∷ 5 ∷ 0 ∷ 2 ∷ 5 ∷ 5 ∷ 5 ∷ 5 ∷ 5 ∷ 5 ∷ []

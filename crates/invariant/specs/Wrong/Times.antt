@@ -1,4 +1,4 @@
--- 'Only the reply changes' (02, 2026-03) read as if states did not: 'two receivers started alike but for their times show the same states'.
+-- 'Only the reply changes' (02, 2026-03) read as if states did not: two receivers started alike but for their times would show the same states.
 use mathlib.Core.Path.{_≡_, refl, sym, ap, _∙_}
 use mathlib.Core.Bool.{false, cond}
 use mathlib.Core.List.{List, [], _∷_, _++_}

@@ -10,7 +10,7 @@ use Rattle.invariant.specs.Calls.ReceiverCall.{Fetch, Frame}
 use Rattle.invariant.specs.Claims.{tagIn}
 use Rattle.invariant.specs.Live.{heardOf, isHeard, packetHeard, tagBack}
 use Rattle.invariant.specs.Reports.{ackIn, gives, nextReport, reportsOf, stopsWith, successive}
-use Rattle.invariant.specs.Times.{heldIn, outcomesOf}
+use Rattle.invariant.specs.Times.{outcomesOf, waitingIn}
 use Rattle.packet.specs.Counts.{carriesLow, nibbleIn, startsCount, tagByHigh, tagByLow}
 use Rattle.packet.specs.Kinds.{epochAfter, epochs, firstTag, frames, idleNumber, lead, tagBefore, tags}
 use Rattle.phases.specs.Beginning.{begins, ready}
@@ -93,6 +93,6 @@ unfolding beginBy begins dueIn fetchAnswer fetchFits fetchOut fetchRecord fetchR
 outcomes = refl
 
 -- a port's state, its number, its times and the counter
-standing : heldIn (memberAt (startedWith 0 2 2 16 (3 ∷ 4 ∷ []) (5 ∷ 6 ∷ []) (replicate 11 (replicate 16 0)) (nines 96) .rows) 1) ≡ 0 ∷ 255 ∷ 4 ∷ 6 ∷ 0 ∷ []
+standing : waitingIn (memberAt (startedWith 0 2 2 16 (3 ∷ 4 ∷ []) (5 ∷ 6 ∷ []) (replicate 11 (replicate 16 0)) (nines 96) .rows) 1) ≡ 0 ∷ 255 ∷ 4 ∷ 6 ∷ 0 ∷ []
 unfolding frames freshPort freshPorts idleNumber memberAt memberOf memberRow putGroup putMarks putMember putPackets putRow putStep rowIn sized sizedFits sizedRows startAsRows startFits startRight tags timesWithin
 standing = refl

@@ -8,14 +8,14 @@ use native.Mathlib.Omega.{arith}
 use lib.Dec.{eqb, ltb}
 use borrow.Author.Tests.{eq-eqb, eqb-true, lt-ltb, ltb-true, not-false}
 use Rattle.counting.specs.Words.{count, some}
-use Rattle.counting.specs.Laws.Ranks.{Apart, all-taken, count-taken, taken}
-use Rattle.counting.specs.Laws.Tests.{One, every-all, every-at, none-at, some-at, some-none}
+use Rattle.counting.specs.Laws.Ranks.{all-taken, count-taken, taken}
+use Rattle.counting.specs.Laws.Tests.{every-all, every-at, none-at, some-at, some-none}
 use Rattle.ground.specs.Table.{tabulate}
-use Rattle.ground.specs.Truth.{and-left, and-right, and-true, cond-by, fails}
+use Rattle.ground.specs.Truth.{and-right, and-true, cond-by, fails}
 use Rattle.packet.specs.Kinds.{fixedKind}
 use Rattle.packet.specs.Words.{FIXED}
 use Rattle.judge.specs.declared.seen.Seen.{Seen}
-use Rattle.judge.specs.Laws.Numbers.{ActiveApart, AllApart, activeAt, all-active, apart-repeats, numberAt, numberedAt, repeats-apart}
+use Rattle.judge.specs.Laws.Numbers.{AllApart, activeAt, all-active, apart-repeats, numberAt, numberedAt, repeats-apart}
 use Rattle.judge.specs.Laws.Ports.{accepted-good, active-numbered, good-accepted, here-lacks, lacks-here}
 use Rattle.judge.specs.Order.{activeIn, portOf, rankOf}
 use Rattle.judge.specs.Seen.{activeSeen, lackingSeen, refusedSeen, seenAt}

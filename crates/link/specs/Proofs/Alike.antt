@@ -1,4 +1,5 @@
 -- The last sentence of demand 3: 'over the same tags, delays, first frames and port orders, client streams that differ in an epoch reported sure never come out alike'.
+-- The idea: what the client sends moves no moment. So both links begin at the same one with the same foremost position, and at each later moment both have made as many reports; the report of the epoch in which the streams differ has been made on both, and a sure report's bytes determine the client's (Judged/Apart.antt).
 use mathlib.Core.Path.{_≡_, sym, ap, _∙_, subst}
 use mathlib.Core.Logic.{_⊎_, ⊎-elim, inl, inr, _≢_}
 use mathlib.Core.List.{List, [], _∷_, _++_, append-assoc, tail-eq-of-cons-eq}

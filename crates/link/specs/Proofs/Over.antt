@@ -25,15 +25,15 @@ use Rattle.link.specs.Sending.{Covered, epochStart}
 use Rattle.link.specs.Proofs.Standing.{Before}
 use Rattle.link.specs.Told.{Told}
 use Rattle.link.specs.Proofs.Transport.Answers.{answers-are}
-use Rattle.link.specs.Proofs.Transport.EachStep.{says, steps}
+use Rattle.link.specs.Proofs.Transport.EachCall.{calls-do, says}
 use Rattle.link.specs.Proofs.Transport.Fetches.{fetch-answered}
 use Rattle.link.specs.Proofs.Transport.Start.{start}
-use Rattle.link.specs.Proofs.Transport.Times.{Phase, Steps, begun-by, come-ready, phase}
+use Rattle.link.specs.Proofs.Transport.Times.{CallsDo, Phase, begun-by, come-ready, phase}
 use Rattle.link.specs.Proofs.Transport.Times.Phase.{before, first, later}
 
 module _ (k : Link) (a : AssumedOver k) where
-  s : Steps (roadOf k)
-  s = steps (roadOf k) (fair k a)
+  s : CallsDo (roadOf k)
+  s = calls-do (roadOf k) (fair k a)
 
   module _ (m₀ : Moment) (fresh-start : Before (roadOf k) m₀ (k .first)) where
     -- the epochs from the first one to start after the foremost position on start after every port's first frame, so that all slots that take part reach a port

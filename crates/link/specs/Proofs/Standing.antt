@@ -18,7 +18,7 @@ use Rattle.rows.specs.Rows.{rowsFor}
 use Rattle.rows.specs.Step.{stepAt}
 use Rattle.step.specs.Arrival.{runOf}
 use Rattle.step.specs.declared.run.Run.{Run}
-use Rattle.step.specs.Laws.Kept.{few}
+use Rattle.step.specs.Laws.Kept.{mostBreaks}
 use Rattle.step.specs.Laws.Run.{runAt, startFrom}
 use Rattle.step.specs.Run.{inStepAt, noRun}
 use Rattle.store.specs.Laws.Marks.{Sixteen}
@@ -44,7 +44,7 @@ module _ (r : Road) where
   pub record Stepped (x : ℕ) (s : Step) : Type 0 where
     pub count : inStepAt (r .kind) (s .count) ≡ true
     pub next : s .next ≡ tagOf (r .kind) (r .offset + x)
-    pub breaks : s .breaks ≤ few (r .kind) (tagOf (r .kind) (r .offset + x))
+    pub breaks : s .breaks ≤ mostBreaks (r .kind) (tagOf (r .kind) (r .offset + x))
     pub even : s .odd ≡ 0
 
   -- The packet being gathered, in every phase: of each of the last frames of the run its nibble stands at its own place.

@@ -5,7 +5,7 @@ pub mod Call
 pub mod Start
 pub mod StaysOpen
 pub mod Idle
-pub mod Steps
+pub mod Served
 pub mod Moments
 pub mod Times
 pub mod Before
@@ -16,4 +16,4 @@ pub mod Fetches
 pub mod Arrives
 pub mod Frames
 pub mod Answers
-pub mod EachStep
+pub mod EachCall

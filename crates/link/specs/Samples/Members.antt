@@ -5,8 +5,8 @@ use Prim.Native.Nat.{ℕ, _+_, _-_, _*_, _%_}
 use lib.Dec.{eqb}
 use lib.ListN.{getD, replicate}
 use Rattle.ground.specs.Table.{tabulate}
-use Rattle.sender.specs.Steps.{Call}
-use Rattle.sender.specs.Steps.Call.{AddSlot, Lapse, RemoveSlot, Report}
+use Rattle.sender.specs.Calls.{Call}
+use Rattle.sender.specs.Calls.Call.{AddSlot, Lapse, RemoveSlot, Report}
 use Rattle.link.specs.History.{History, packetSent, sendingOf, xAt}
 use Rattle.link.specs.Link.{Link}
 use Rattle.link.specs.Sending.{Client, epochAt}

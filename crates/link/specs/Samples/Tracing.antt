@@ -1,5 +1,5 @@
 -- A run computed once for all that is said of it: where it comes to, and whether receiving had begun before each frame time. A frame and a fetch are computed only where one comes.
-use mathlib.Core.Path.{_≡_, refl, _∙_, sym, ap}
+use mathlib.Core.Path.{_≡_, refl, _∙_, ap}
 use mathlib.Core.Logic.{⊎-elim, _≢_}
 use mathlib.Core.Bool.{Bool, true, false, cond}
 use mathlib.Core.List.{List, [], _∷_}

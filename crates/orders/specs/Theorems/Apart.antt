@@ -7,13 +7,13 @@ use lib.Dec.{eqb}
 use borrow.Author.Tests.{eqb-true}
 use Rattle.circuits.specs.declared.card.Card.{Card}
 use Rattle.circuits.specs.Answers.{answerNumber}
-use Rattle.circuits.specs.Calls.{stepOf}
+use Rattle.circuits.specs.Calls.{outcomeOf}
 use Rattle.circuits.specs.Theorems.Apart as single
 use Rattle.circuits.specs.Views.{Asked, Reply, askedBy, bitsOf, repliesTo, viewOf}
 use Rattle.circuits.specs.Views.Asked.{Do}
 use Rattle.circuits.specs.Views.Reply.{Answered, Wrote, Showed, Ranked, Owns}
 use Rattle.orders.specs.declared.commands.Command.{Command}
-use Rattle.orders.specs.Orders.{callBy, ordersOf, stepBy}
+use Rattle.orders.specs.Orders.{callBy, ordersOf, outcomeBy}
 use Rattle.orders.specs.Singles.{answersTo, commandsOf, singlesOf}
 use Rattle.orders.specs.Theorems.OneByOne.{card-single}
 
@@ -43,15 +43,15 @@ asked-is g (c ∷ cs) = go (eqb (c .group) g) refl (asked-is g cs)
     go false e rest = rw (e, rest) refl
 
 numbers-are : (g : ℕ) (card : Card) (cs : List Command) → answersTo g cs (ordersOf card cs .numbers) ≡ numbersIn (repliesTo g card (singlesOf cs))
-unfolding numbersIn numberIn stepBy
+unfolding numbersIn numberIn outcomeBy
 numbers-are g card [] = refl
-numbers-are g card (c ∷ cs) = go (eqb (c .group) g) refl (numbers-are g (stepBy card c .card) cs)
+numbers-are g card (c ∷ cs) = go (eqb (c .group) g) refl (numbers-are g (outcomeBy card c .card) cs)
   where
-    go : (b : Bool) → eqb (c .group) g ≡ b → answersTo g cs (ordersOf (stepBy card c .card) cs .numbers) ≡ numbersIn (repliesTo g (stepBy card c .card) (singlesOf cs))
+    go : (b : Bool) → eqb (c .group) g ≡ b → answersTo g cs (ordersOf (outcomeBy card c .card) cs .numbers) ≡ numbersIn (repliesTo g (outcomeBy card c .card) (singlesOf cs))
         → answersTo g (c ∷ cs) (ordersOf card (c ∷ cs) .numbers) ≡ numbersIn (repliesTo g card (singlesOf (c ∷ cs)))
     go true e rest =
-        let same : answerNumber (stepOf card (c .group) (callBy (c .kind) (c .slot)) .answer) ≡ answerNumber (stepOf card g (callBy (c .kind) (c .slot)) .answer) =
-        ap (λ (h : ℕ). answerNumber (stepOf card h (callBy (c .kind) (c .slot)) .answer)) (eqb-true (c .group) g e) in
+        let same : answerNumber (outcomeOf card (c .group) (callBy (c .kind) (c .slot)) .answer) ≡ answerNumber (outcomeOf card g (callBy (c .kind) (c .slot)) .answer) =
+        ap (λ (h : ℕ). answerNumber (outcomeOf card h (callBy (c .kind) (c .slot)) .answer)) (eqb-true (c .group) g e) in
         rw (e, rest, same) refl
     go false e rest = rw (e, rest) refl
 

@@ -9,20 +9,20 @@ use Rattle.circuits.specs.declared.answers.Answer.the-variants as A
 use Rattle.circuits.specs.declared.card.Card.{Card}
 use Rattle.circuits.specs.Views.{run}
 use Rattle.orders.specs.declared.commands.Command.{Command}
-use Rattle.orders.specs.Orders.{answersOf, orderedOf, ordersOf, stepBy}
+use Rattle.orders.specs.Orders.{answersOf, orderedOf, ordersOf, outcomeBy}
 use Rattle.orders.specs.Singles.{singleNumber, singleNumbers, singlesOf}
 
 -- the card is that of the single calls
 pub card-single : (card : Card) (cs : List Command) → ordersOf card cs .state ≡ run card (singlesOf cs)
-unfolding stepBy
+unfolding outcomeBy
 card-single card [] = refl
-card-single card (c ∷ cs) = card-single (stepBy card c .card) cs
+card-single card (c ∷ cs) = card-single (outcomeBy card c .card) cs
 
 -- and so is each number
 pub answers-single : (card : Card) (cs : List Command) → ordersOf card cs .numbers ≡ singleNumbers card cs
-unfolding stepBy
+unfolding outcomeBy
 answers-single card [] = refl
-answers-single card (c ∷ cs) = ap (λ (ns : List ℕ). singleNumber card c ∷ ns) (answers-single (stepBy card c .card) cs)
+answers-single card (c ∷ cs) = ap (λ (ns : List ℕ). singleNumber card c ∷ ns) (answers-single (outcomeBy card c .card) cs)
 
 -- as the call is promised
 pub one-by-one : (card : Card) (cs : List Command) (ys : List ℕ) → length cs ≡ length ys

@@ -6,7 +6,7 @@ use native.Mathlib.Omega.{arith}
 use lib.Dec.{lit<}
 use lib.ListN.{length}
 use Rattle.ground.specs.Bits.{bits}
-use Rattle.ground.specs.Distance.{Strong, far}
+use Rattle.ground.specs.Distance.{Strong, four-apart}
 use Rattle.ground.specs.Polynomial.{apart, sealed}
 use Rattle.packet.specs.declared.layout.Fields.{Fields}
 use Rattle.packet.specs.Crc.{bitsOf, crcOf, divisor, nibbleBits}
@@ -36,7 +36,7 @@ pub data-apart : (d e : List ℕ) → Nibbles d → Nibbles e → length d ≡ 1
 unfolding divisor
 data-apart d e nd ne hd he differ =
     rw (packet-bits d, packet-bits e)
-    (far divisor 64 strong (bitsOf d) (bitsOf e)
+    (four-apart divisor 64 strong (bitsOf d) (bitsOf e)
     (length-bits-of d ∙ ap (λ (n : ℕ). n * 4) (hd ∙ sym he) ∙ sym (length-bits-of e))
     (let h = length-bits-of d in omega arith)
     (λ same. differ (bits-tell d e nd ne (hd ∙ sym he) same)))

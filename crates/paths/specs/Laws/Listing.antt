@@ -32,19 +32,19 @@ last l n a P h older new =
     (λ (g : a < length l). rw (List·getD-append l (n ∷ []) 0 a g) (older g))
     (le-or-lt (length l) a)
 
-abbrev Held : ℕ → (ℕ → Bool) → ℕ → Type 0
-Held n f i = (i < n) × (f i ≡ true)
+abbrev Among : ℕ → (ℕ → Bool) → ℕ → Type 0
+Among n f i = (i < n) × (f i ≡ true)
 
-pub listed-at : (n : ℕ) (f : ℕ → Bool) (a : ℕ) → a < length (listed n f) → Held n f (getD (listed n f) a 0)
+pub listed-at : (n : ℕ) (f : ℕ → Bool) (a : ℕ) → a < length (listed n f) → Among n f (getD (listed n f) a 0)
 listed-at zero f a h = absurd (not-suc-le-zero h)
 listed-at (suc n) f a h = go (f n) refl (listed-at n f a) h
   where
-    wider : (i : ℕ) → Held n f i → Held (suc n) f i
+    wider : (i : ℕ) → Among n f i → Among (suc n) f i
     wider i w = (let l = w .0 in omega arith, w .1)
 
-    go : (b : Bool) → f n ≡ b → (a < length (listed n f) → Held n f (getD (listed n f) a 0)) → a < length (listed n f ++ cond b (n ∷ []) [])
-        → Held (suc n) f (getD (listed n f ++ cond b (n ∷ []) []) a 0)
-    go true e rest g = last (listed n f) n a (Held (suc n) f) g (λ l. wider _ (rest l)) (λ l. (omega arith, e))
+    go : (b : Bool) → f n ≡ b → (a < length (listed n f) → Among n f (getD (listed n f) a 0)) → a < length (listed n f ++ cond b (n ∷ []) [])
+        → Among (suc n) f (getD (listed n f ++ cond b (n ∷ []) []) a 0)
+    go true e rest g = last (listed n f) n a (Among (suc n) f) g (λ l. wider _ (rest l)) (λ l. (omega arith, e))
     go false e rest g = rw (append-nil (listed n f)) (wider _ (rest (rw (append-nil (listed n f)) at g)))
 
 pub listed-rises : (n : ℕ) (f : ℕ → Bool) (a b : ℕ) → a < b → b < length (listed n f) → getD (listed n f) a 0 < getD (listed n f) b 0

@@ -1,4 +1,5 @@
 -- The planner is sound and complete, and proposes the tightest set: for every number of candidates, delays, k and W that are not refused.
+-- The idea: candidates are ranked by delay. Any k different ranks reach over at least k in a row, so the k in a row from the lowest of them on are no further apart; hence the tightest stretch of k in a row is the tightest set.
 use mathlib.Core.Path.{_≡_, refl, sym, ap, _∙_}
 use mathlib.Core.Logic.{⊎-elim}
 use mathlib.Core.Bool.{Bool, true, false, cond, _&&_}

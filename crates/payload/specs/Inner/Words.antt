@@ -12,7 +12,7 @@ abbrev pub wordOf : (ℕ → ℕ) → ℕ
 wordOf b =
     b 0 + b 1 * 0x100 + b 2 * 0x10000 + b 3 * 0x1000000 + b 4 * 0x100000000 + b 5 * 0x10000000000 + b 6 * 0x1000000000000 + b 7 * 0x100000000000000
 
--- A block is turned in three steps, by halves, by pairs and by single bytes: k is 4, 2 or 1. A step makes two words of two, a and b, k words apart:
+-- A block is turned in three exchanges, by halves, by pairs and by single bytes: k is 4, 2 or 1. An exchange makes two words of two, a and b, k words apart:
 -- the even runs of k bytes, each of a before that of b; and the odd runs likewise.
 abbrev pub evens : ℕ → (ℕ → ℕ) → (ℕ → ℕ) → ℕ → ℕ
 evens k a b i = cond (eqb (i / k % 2) 0) (a i) (b (i - k))
@@ -20,6 +20,6 @@ evens k a b i = cond (eqb (i / k % 2) 0) (a i) (b (i - k))
 abbrev pub odds : ℕ → (ℕ → ℕ) → (ℕ → ℕ) → ℕ → ℕ
 odds k a b i = cond (eqb (i / k % 2) 0) (a (i + k)) (b i)
 
--- the step on a block: q l i is byte i of word l
-abbrev pub step : ℕ → (ℕ → ℕ → ℕ) → ℕ → ℕ → ℕ
-step k q l i = cond (eqb (l / k % 2) 0) (evens k (q l) (q (l + k)) i) (odds k (q (l - k)) (q l) i)
+-- the exchange on a block: q l i is byte i of word l
+abbrev pub exchanged : ℕ → (ℕ → ℕ → ℕ) → ℕ → ℕ → ℕ
+exchanged k q l i = cond (eqb (l / k % 2) 0) (evens k (q l) (q (l + k)) i) (odds k (q (l - k)) (q l) i)

@@ -1,4 +1,5 @@
 -- Beginning is 01's sentence: 'every port has had a frame and is in step or flagged failed, at least one is in step, and the latest tags of those in step lie within an arc of W-15 tags'.
+-- The idea of the way back (`complete`): seen from a tag that no port in step lies half a round behind, `further` is a comparison of distances; so of the ports gone through the foremost is always the least far behind (`Least`), and at the end it is the one of the sentence.
 use mathlib.Core.Path.{_≡_, refl, _∙_, sym, ap}
 use mathlib.Core.Logic.{_⊎_, inl, inr, ⊎-elim, _≢_}
 use mathlib.Core.Bool.{Bool, true, false, cond, not, _&&_, _||_, true≢false}
@@ -30,7 +31,7 @@ pub record Arc (g : Group) (s : List (List ℕ)) (n fore : ℕ) : Type 0 where
   pub behind : (j : ℕ) → j < n → inStep g (stepAt s j) ≡ true → distanceOf (g .kind) fore (latest g (stepAt s j)) + frames (g .kind) ≤ g .window
 
 -- a port in step whose latest tag it is
-record Held (g : Group) (s : List (List ℕ)) (n fore : ℕ) : Type 0 where
+record BroughtBy (g : Group) (s : List (List ℕ)) (n fore : ℕ) : Type 0 where
   port : ℕ
   below : port < n
   stepped : inStep g (stepAt s port) ≡ true
@@ -47,12 +48,12 @@ further-by g fore step P new old = go _ refl
     go true e = new (and-left (inStep g step) _ e)
     go false e = old
 
-held : (g : Group) (s : List (List ℕ)) (n : ℕ) → foremost g s n ≢ noTag g → Held g s n (foremost g s n)
+brought-by : (g : Group) (s : List (List ℕ)) (n : ℕ) → foremost g s n ≢ noTag g → BroughtBy g s n (foremost g s n)
 unfolding foremost
-held g s zero d = absurd (d refl)
-held g s (suc n) d =
-    let rest = held g s n in
-    further-by g (foremost g s n) (stepAt s n) (λ f. f ≢ noTag g → Held g s (suc n) f)
+brought-by g s zero d = absurd (d refl)
+brought-by g s (suc n) d =
+    let rest = brought-by g s n in
+    further-by g (foremost g s n) (stepAt s n) (λ f. f ≢ noTag g → BroughtBy g s (suc n) f)
     (λ e x. record { port = n; below = omega arith; stepped = e; is = refl })
     (λ x. let r = rest x in record { port = r .port; below = (let b = r .below in omega arith); stepped = r .stepped; is = r .is })
     d
@@ -69,7 +70,7 @@ sound g s n e =
     let found : Bool = not (eqb fore (noTag g)) in
     let closes : Bool = every n (λ i. within g fore (stepAt s i)) in
     let first = and-left (readies && found) closes e in
-    let h = held g s n (eqb-false fore (noTag g) (not-true (eqb fore (noTag g)) (and-right readies found first))) in
+    let h = brought-by g s n (eqb-false fore (noTag g) (not-true (eqb fore (noTag g)) (and-right readies found first))) in
     record {
       all-ready = every-at n (λ i. ready g (stepAt s i)) (and-left readies found first);
       port = h .port;

@@ -6,7 +6,7 @@ use Prim.Native.Nat.{ℕ, _≤_}
 use native.Mathlib.Omega.{arith}
 use borrow.Author.Tests.{not-true}
 use lib.ListN.{length, replicate}
-use Rattle.counting.specs.Laws.Tests.{One, every-ext, every-fails, some-one, some-passes}
+use Rattle.counting.specs.Laws.Tests.{One, every-ext, every-fails, some-not-none, some-one}
 use Rattle.ground.specs.Truth.{and-left, and-right, and-true, clash, cond-by}
 use Rattle.phases.specs.Beginning.{begins}
 use Rattle.phases.specs.Due.{brought, owesNothing, silent}
@@ -155,7 +155,7 @@ settled n store s h =
 -- where not all are unreadable, some port is readable
 pub heard-port : (g : Group) (s : List (List ℕ)) (n : ℕ) → silent g s n ≡ false → One n (λ i. readable g (stepAt s i))
 unfolding silent
-heard-port g s n e = some-one n (λ i. readable g (stepAt s i)) (some-passes n (λ i. readable g (stepAt s i)) e)
+heard-port g s n e = some-one n (λ i. readable g (stepAt s i)) (some-not-none n (λ i. readable g (stepAt s i)) e)
 
 -- Which of the three follows. On a settled state nothing does.
 

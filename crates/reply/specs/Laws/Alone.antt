@@ -1,6 +1,6 @@
 -- A port alone: what a report leaves of it hangs on itself, and so does RS-Ack.
 use mathlib.Core.Path.{_≡_, refl, sym, ap, _∙_}
-use mathlib.Core.Logic.{_⊎_, inl, inr, ⊎-elim, _≢_}
+use mathlib.Core.Logic.{_⊎_, inl, inr, ⊎-elim}
 use mathlib.Core.Bool.{Bool, true, false, cond, not, _&&_}
 use mathlib.Core.List.{List, [], _∷_}
 use Prim.Native.Nat.{ℕ, _+_, _<_}
@@ -16,7 +16,7 @@ use Rattle.reply.specs.Laws.Choosing.{Chosen, holders-from}
 use Rattle.reply.specs.Laws.Claims.{claim-free, claim-none, claim-own, keeps, keeps-own, left-claim, left-idle, left-lost}
 use Rattle.reply.specs.Laws.Granting.{grant-from, grant-holds, length-grant}
 use Rattle.reply.specs.Laws.Holding.{none-held}
-use Rattle.reply.specs.Laws.Members.{left-low, left-ok, left-runs}
+use Rattle.reply.specs.Laws.Members.{left-elapsed, left-low, left-ok}
 use Rattle.reply.specs.Members.{failState, hasHoldOff, idleState, isCandidate, isIdle, okState, portAt}
 use Rattle.reply.specs.Telling.{ackOf, turns}
 use Rattle.reply.specs.Waiting.{chosenOf, hasClaim, heldOf, keepsNumber, moreHeld, mustHold, noStanding, rounds, someJoin, standing, standingBy, standingsOf, withClaim}
@@ -25,7 +25,7 @@ use Rattle.reply.specs.Waiting.{chosenOf, hasClaim, heldOf, keepsNumber,
 unfoldable pub aloneLeaves : Port → Standing
 aloneLeaves p =
     cond (isIdle p) (standing idleState (p .number) 0)
-    (cond (isCandidate p) (withClaim p) (cond (hasHoldOff p) (standing okState (p .«state_number») (p .run + 1)) (standing failState (p .number) 0)))
+    (cond (isCandidate p) (withClaim p) (cond (hasHoldOff p) (standing okState (p .«state_number») (p .elapsed + 1)) (standing failState (p .number) 0)))
 
 twice : (b : Bool) (x y : List ℕ) → cond b (cond b x y) y ≡ cond b x y
 twice true x y = refl
@@ -103,7 +103,7 @@ module _ (ports : List Port) where
 
     back : hasHoldOff p ≡ true → keepsNumber (chosenOf ports 1) 0 p ≡ true
     back e =
-        keeps (chosenOf ports 1) 0 p (left-ok p e) (left-runs p e)
+        keeps (chosenOf ports 1) 0 p (left-ok p e) (left-elapsed p e)
         (holder ∙ grant-holds must (p .«state_number») noneHeld 0 (length-replicate {A = ℕ} 64 FREE) (left-low p e) (must-hold e) (none-held (p .«state_number»)))
 
     keeps-alone : keepsNumber (chosenOf ports 1) 0 p ≡ hasHoldOff p

@@ -1,5 +1,5 @@
 -- What it says that a port has its claim, and what a report leaves of one that has it or has it not.
-use mathlib.Core.Path.{_≡_, refl, sym, _∙_}
+use mathlib.Core.Path.{_≡_, refl, sym}
 use mathlib.Core.Logic.{_⊎_, inl, inr, ⊎-elim, _≢_}
 use mathlib.Core.Bool.{Bool, true, false, _&&_, _||_, true≢false}
 use mathlib.Core.List.{List}
@@ -8,7 +8,6 @@ use lib.Dec.{eqb, ltb}
 use borrow.Author.Tests.{eq-eqb, eqb-true, eqb-false, le-ltb, lt-ltb, ltb-true, ne-eqb}
 use Rattle.ground.specs.Truth.{and-true, and-left, and-right, neither, or-cases, or-left, or-right}
 use Rattle.reply.specs.declared.members.Port.{Port}
-use Rattle.reply.specs.declared.waiting.Standing.{Standing}
 use Rattle.reply.specs.Choosing.{FREE, holderOf}
 use Rattle.reply.specs.Members.{failState, idleState, isCandidate, isIdle, isRestoring, okState}
 use Rattle.reply.specs.Waiting.{hasClaim, keepsNumber, standing, standingBy, withClaim, withoutClaim}
@@ -60,34 +59,34 @@ module _ (chosen : List ℕ) (i : ℕ) (p : Port) where
       (eqb-false (holderOf chosen (p .number)) FREE (n .0), eqb-false (holderOf chosen (p .number)) i (n .1))
 
   -- a port that keeps its number
-  pub keeps : p .state ≡ okState → p .run < p .«hold_off» → holderOf chosen (p .«state_number») ≡ i → keepsNumber chosen i p ≡ true
+  pub keeps : p .state ≡ okState → p .elapsed < p .«hold_off» → holderOf chosen (p .«state_number») ≡ i → keepsNumber chosen i p ≡ true
   keeps s r h =
-      and-true (eqb (p .state) okState && ltb (p .run) (p .«hold_off»)) _
-      (and-true (eqb (p .state) okState) _ (eq-eqb (p .state) okState s) (lt-ltb (p .run) (p .«hold_off») r))
+      and-true (eqb (p .state) okState && ltb (p .elapsed) (p .«hold_off»)) _
+      (and-true (eqb (p .state) okState) _ (eq-eqb (p .state) okState s) (lt-ltb (p .elapsed) (p .«hold_off») r))
       (eq-eqb (holderOf chosen (p .«state_number»)) i h)
 
-  pub keeps-not : p .«hold_off» ≤ p .run → keepsNumber chosen i p ≡ false
+  pub keeps-not : p .«hold_off» ≤ p .elapsed → keepsNumber chosen i p ≡ false
   keeps-not b =
-      left-fails (eqb (p .state) okState && ltb (p .run) (p .«hold_off»)) _ (right-fails (eqb (p .state) okState) _ (le-ltb (p .run) (p .«hold_off») b))
+      left-fails (eqb (p .state) okState && ltb (p .elapsed) (p .«hold_off»)) _ (right-fails (eqb (p .state) okState) _ (le-ltb (p .elapsed) (p .«hold_off») b))
 
   -- one that was not OK has none to keep
   pub keeps-none : p .state ≢ okState → keepsNumber chosen i p ≡ false
   keeps-none d =
-      left-fails (eqb (p .state) okState && ltb (p .run) (p .«hold_off»)) _ (left-fails (eqb (p .state) okState) _ (ne-eqb (p .state) okState d))
+      left-fails (eqb (p .state) okState && ltb (p .elapsed) (p .«hold_off»)) _ (left-fails (eqb (p .state) okState) _ (ne-eqb (p .state) okState d))
 
   pub keeps-own : keepsNumber chosen i p ≡ true → holderOf chosen (p .«state_number») ≡ i
   keeps-own e =
       eqb-true (holderOf chosen (p .«state_number»)) i
-      (and-right (eqb (p .state) okState && ltb (p .run) (p .«hold_off»)) (eqb (holderOf chosen (p .«state_number»)) i) e)
+      (and-right (eqb (p .state) okState && ltb (p .elapsed) (p .«hold_off»)) (eqb (holderOf chosen (p .«state_number»)) i) e)
 
-  keeps-two : keepsNumber chosen i p ≡ true → (eqb (p .state) okState && ltb (p .run) (p .«hold_off»)) ≡ true
-  keeps-two e = and-left (eqb (p .state) okState && ltb (p .run) (p .«hold_off»)) (eqb (holderOf chosen (p .«state_number»)) i) e
+  keeps-two : keepsNumber chosen i p ≡ true → (eqb (p .state) okState && ltb (p .elapsed) (p .«hold_off»)) ≡ true
+  keeps-two e = and-left (eqb (p .state) okState && ltb (p .elapsed) (p .«hold_off»)) (eqb (holderOf chosen (p .«state_number»)) i) e
 
   pub keeps-state : keepsNumber chosen i p ≡ true → p .state ≡ okState
-  keeps-state e = eqb-true (p .state) okState (and-left (eqb (p .state) okState) (ltb (p .run) (p .«hold_off»)) (keeps-two e))
+  keeps-state e = eqb-true (p .state) okState (and-left (eqb (p .state) okState) (ltb (p .elapsed) (p .«hold_off»)) (keeps-two e))
 
-  pub keeps-runs : keepsNumber chosen i p ≡ true → p .run < p .«hold_off»
-  keeps-runs e = ltb-true (p .run) (p .«hold_off») (and-right (eqb (p .state) okState) (ltb (p .run) (p .«hold_off»)) (keeps-two e))
+  pub keeps-elapsed : keepsNumber chosen i p ≡ true → p .elapsed < p .«hold_off»
+  keeps-elapsed e = ltb-true (p .elapsed) (p .«hold_off») (and-right (eqb (p .state) okState) (ltb (p .elapsed) (p .«hold_off»)) (keeps-two e))
 
   -- what is left of a port, by the tests that it meets
   pub left-idle : isIdle p ≡ true → standingBy chosen i p ≡ standing idleState (p .number) 0
@@ -105,11 +104,11 @@ module _ (chosen : List ℕ) (i : ℕ) (p : Port) where
 pub with-rested : (p : Port) → isRestoring p ≡ false → withClaim p ≡ standing okState (p .number) 0
 with-rested p e = rw e
 
-pub with-restoring : (p : Port) → isRestoring p ≡ true → withClaim p ≡ standing failState (p .number) (p .run + 1)
+pub with-restoring : (p : Port) → isRestoring p ≡ true → withClaim p ≡ standing failState (p .number) (p .elapsed + 1)
 with-restoring p e = rw e
 
 pub without-kept : (chosen : List ℕ) (i : ℕ) (p : Port) → keepsNumber chosen i p ≡ true
-    → withoutClaim chosen i p ≡ standing okState (p .«state_number») (p .run + 1)
+    → withoutClaim chosen i p ≡ standing okState (p .«state_number») (p .elapsed + 1)
 without-kept chosen i p e = rw e
 
 pub without-failed : (chosen : List ℕ) (i : ℕ) (p : Port) → keepsNumber chosen i p ≡ false → withoutClaim chosen i p ≡ standing failState (p .number) 0

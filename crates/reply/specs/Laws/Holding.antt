@@ -1,7 +1,8 @@
 -- The rounds: who is held, that a held port has lost its claim, and that they end.
+-- The idea: taken numbers only grow from round to round, so a claim once lost comes back by no round; and a round in which some port joins holds one port more, of which there are n.
 use mathlib.Core.Path.{_≡_, refl, sym, ap, _∙_}
-use mathlib.Core.Logic.{_⊎_, inl, inr, ⊎-elim, _≢_}
-use mathlib.Core.Bool.{Bool, true, false, cond, not, _&&_, true≢false}
+use mathlib.Core.Logic.{_⊎_, ⊎-elim, _≢_}
+use mathlib.Core.Bool.{Bool, true, false, cond, not, true≢false}
 use mathlib.Core.List.{List}
 use Prim.Native.Nat.{ℕ, zero, suc, _+_, _≤_, _<_}
 use native.Mathlib.Omega.{arith}
@@ -14,11 +15,11 @@ use Rattle.counting.specs.Words.{count}
 use Rattle.ground.specs.Truth.{and-true, and-left, and-right, cond-by, eq-or-ne, fails, le-or-lt}
 use Rattle.reply.specs.declared.members.Port.{Port}
 use Rattle.reply.specs.Choosing.{FREE, holderOf, holders, noneHeld}
-use Rattle.reply.specs.Laws.Choosing.{choosing, holders-first, holders-kept, holders-same, length-holders}
+use Rattle.reply.specs.Laws.Choosing.{choosing, holders-first, holders-kept, holders-same}
 use Rattle.reply.specs.Laws.Claims.{claim-lost, claim-none, claim-other}
 use Rattle.reply.specs.Laws.Granting.{Granted, granted-after, granted-from, granted-kept, length-granted}
 use Rattle.reply.specs.Laws.Members.{left-low, left-ok, ok-rested, was-number, was-ok, was-state}
-use Rattle.reply.specs.Members.{hasHoldOff, isCandidate, okState, portAt, wasOk}
+use Rattle.reply.specs.Members.{hasHoldOff, isCandidate, okState, portAt}
 use Rattle.reply.specs.Waiting.{hasClaim, heldOf, joinsHeld, moreHeld, mustHold, rounds, someJoin}
 
 -- what the last report left: OK ports have different numbers,

@@ -31,49 +31,49 @@ was-ok p s e = and-true (eqb (p .state) okState) _ (eq-eqb (p .state) okState s)
 pub ok-rested : (p : Port) → p .state ≡ okState → isRestoring p ≡ false
 ok-rested p e = rw e
 
-pub restoring : (p : Port) → p .state ≡ failState → p .run < p .restore → isRestoring p ≡ true
-restoring p e b = and-true (eqb (p .state) failState) _ (eq-eqb (p .state) failState e) (lt-ltb (p .run) (p .restore) b)
+pub restoring : (p : Port) → p .state ≡ failState → p .elapsed < p .restore → isRestoring p ≡ true
+restoring p e b = and-true (eqb (p .state) failState) _ (eq-eqb (p .state) failState e) (lt-ltb (p .elapsed) (p .restore) b)
 
 -- nor does one whose claim has stood long enough
-pub rested : (p : Port) → p .restore ≤ p .run → isRestoring p ≡ false
-rested p b = go (eqb (p .state) failState) (le-ltb (p .run) (p .restore) b)
+pub rested : (p : Port) → p .restore ≤ p .elapsed → isRestoring p ≡ false
+rested p b = go (eqb (p .state) failState) (le-ltb (p .elapsed) (p .restore) b)
   where
-    go : (s : Bool) → ltb (p .run) (p .restore) ≡ false → (s && ltb (p .run) (p .restore)) ≡ false
+    go : (s : Bool) → ltb (p .elapsed) (p .restore) ≡ false → (s && ltb (p .elapsed) (p .restore)) ≡ false
     go true e = e
     go false e = refl
 
 pub restoring-fail : (p : Port) → isRestoring p ≡ true → p .state ≡ failState
-restoring-fail p e = eqb-true (p .state) failState (and-left (eqb (p .state) failState) (ltb (p .run) (p .restore)) e)
+restoring-fail p e = eqb-true (p .state) failState (and-left (eqb (p .state) failState) (ltb (p .elapsed) (p .restore)) e)
 
-pub restoring-left : (p : Port) → isRestoring p ≡ true → p .run < p .restore
-restoring-left p e = ltb-true (p .run) (p .restore) (and-right (eqb (p .state) failState) (ltb (p .run) (p .restore)) e)
+pub restoring-left : (p : Port) → isRestoring p ≡ true → p .elapsed < p .restore
+restoring-left p e = ltb-true (p .elapsed) (p .restore) (and-right (eqb (p .state) failState) (ltb (p .elapsed) (p .restore)) e)
 
 -- what it says that a port has hold-off left
 module _ (p : Port) (e : hasHoldOff p ≡ true) where
-  three : (eqb (p .state) okState && ltb (p .run) (p .«hold_off») && ltb (p .«state_number») 64) ≡ true
-  three = and-left (eqb (p .state) okState && ltb (p .run) (p .«hold_off») && ltb (p .«state_number») 64) (not (isIdle p)) e
+  three : (eqb (p .state) okState && ltb (p .elapsed) (p .«hold_off») && ltb (p .«state_number») 64) ≡ true
+  three = and-left (eqb (p .state) okState && ltb (p .elapsed) (p .«hold_off») && ltb (p .«state_number») 64) (not (isIdle p)) e
 
-  two : (eqb (p .state) okState && ltb (p .run) (p .«hold_off»)) ≡ true
-  two = and-left (eqb (p .state) okState && ltb (p .run) (p .«hold_off»)) (ltb (p .«state_number») 64) three
+  two : (eqb (p .state) okState && ltb (p .elapsed) (p .«hold_off»)) ≡ true
+  two = and-left (eqb (p .state) okState && ltb (p .elapsed) (p .«hold_off»)) (ltb (p .«state_number») 64) three
 
   pub left-ok : p .state ≡ okState
-  left-ok = eqb-true (p .state) okState (and-left (eqb (p .state) okState) (ltb (p .run) (p .«hold_off»)) two)
+  left-ok = eqb-true (p .state) okState (and-left (eqb (p .state) okState) (ltb (p .elapsed) (p .«hold_off»)) two)
 
-  pub left-runs : p .run < p .«hold_off»
-  left-runs = ltb-true (p .run) (p .«hold_off») (and-right (eqb (p .state) okState) (ltb (p .run) (p .«hold_off»)) two)
+  pub left-elapsed : p .elapsed < p .«hold_off»
+  left-elapsed = ltb-true (p .elapsed) (p .«hold_off») (and-right (eqb (p .state) okState) (ltb (p .elapsed) (p .«hold_off»)) two)
 
   pub left-low : p .«state_number» < 64
-  left-low = ltb-true (p .«state_number») 64 (and-right (eqb (p .state) okState && ltb (p .run) (p .«hold_off»)) (ltb (p .«state_number») 64) three)
+  left-low = ltb-true (p .«state_number») 64 (and-right (eqb (p .state) okState && ltb (p .elapsed) (p .«hold_off»)) (ltb (p .«state_number») 64) three)
 
   pub left-not-idle : isIdle p ≡ false
   left-not-idle =
       not-true (isIdle p)
-      (and-right (eqb (p .state) okState && ltb (p .run) (p .«hold_off») && ltb (p .«state_number») 64) (not (isIdle p)) e)
+      (and-right (eqb (p .state) okState && ltb (p .elapsed) (p .«hold_off») && ltb (p .«state_number») 64) (not (isIdle p)) e)
 
-pub has-left : (p : Port) → p .state ≡ okState → p .run < p .«hold_off» → p .«state_number» < 64 → isIdle p ≡ false → hasHoldOff p ≡ true
+pub has-left : (p : Port) → p .state ≡ okState → p .elapsed < p .«hold_off» → p .«state_number» < 64 → isIdle p ≡ false → hasHoldOff p ≡ true
 has-left p s r b i =
-    and-true (eqb (p .state) okState && ltb (p .run) (p .«hold_off») && ltb (p .«state_number») 64) _
-    (and-true (eqb (p .state) okState && ltb (p .run) (p .«hold_off»)) _
-    (and-true (eqb (p .state) okState) _ (eq-eqb (p .state) okState s) (lt-ltb (p .run) (p .«hold_off») r))
+    and-true (eqb (p .state) okState && ltb (p .elapsed) (p .«hold_off») && ltb (p .«state_number») 64) _
+    (and-true (eqb (p .state) okState && ltb (p .elapsed) (p .«hold_off»)) _
+    (and-true (eqb (p .state) okState) _ (eq-eqb (p .state) okState s) (lt-ltb (p .elapsed) (p .«hold_off») r))
     (lt-ltb (p .«state_number») 64 b))
     (rw i)

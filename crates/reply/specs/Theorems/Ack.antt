@@ -123,7 +123,7 @@ from toldWord toldNumber word number =
       readable = true;
       «hold_off» = 0;
       restore = 0;
-      run = 0;
+      elapsed = 0;
     }
     ∷ [])
     1 0

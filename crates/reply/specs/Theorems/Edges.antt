@@ -1,5 +1,5 @@
 -- Both edges to the report, over reports that follow one another.
-use mathlib.Core.Path.{_≡_, refl, sym, ap, _∙_}
+use mathlib.Core.Path.{_≡_, ap, _∙_}
 use mathlib.Core.Bool.{false}
 use mathlib.Core.List.{List}
 use Prim.Native.Nat.{ℕ, zero, suc, _+_, _≤_, _<_}
@@ -30,26 +30,26 @@ module _ (seen : ℕ → List Port) (n : ℕ) (all : Reports seen n) where
 
   -- what the next report sees of a port of which this one has left s
   next : (i k : ℕ) (s : Standing) → i < n → standingAt (seen k) n i ≡ s
-      → (portAt (seen (suc k)) i .state ≡ s .state) × (portAt (seen (suc k)) i .«state_number» ≡ s .number) × (portAt (seen (suc k)) i .run ≡ s .run)
+      → (portAt (seen (suc k)) i .state ≡ s .state) × (portAt (seen (suc k)) i .«state_number» ≡ s .number) × (portAt (seen (suc k)) i .elapsed ≡ s .elapsed)
   next i k s b e = (
     all .told k .state i b ∙ ap (λ (t : Standing). t .state) e,
     all .told k .number i b ∙ ap (λ (t : Standing). t .number) e,
-    all .told k .run i b ∙ ap (λ (t : Standing). t .run) e,
+    all .told k .elapsed i b ∙ ap (λ (t : Standing). t .elapsed) e,
   )
 
   module _ (i h : ℕ) (b : i < n) where
     -- The loss is first seen at report 0, with hold-off h: the port is OK at reports 0 to h - 1, under the number that it had,
-    module _ (q : ℕ) (ok : portAt (seen 0) i .state ≡ okState) (number : portAt (seen 0) i .«state_number» ≡ q) (none : portAt (seen 0) i .run ≡ 0)
+    module _ (q : ℕ) (ok : portAt (seen 0) i .state ≡ okState) (number : portAt (seen 0) i .«state_number» ≡ q) (none : portAt (seen 0) i .elapsed ≡ 0)
         (time : (k : ℕ) → k ≤ h → portAt (seen k) i .«hold_off» ≡ h)
         (lost : (k : ℕ) → k ≤ h → (isIdle (portAt (seen k) i) ≡ false) × (Claim (seen k) n i → ⊥)) where
-      left-at : (k : ℕ) → k < h → portAt (seen k) i .state ≡ okState → portAt (seen k) i .«state_number» ≡ q → portAt (seen k) i .run ≡ k
+      left-at : (k : ℕ) → k < h → portAt (seen k) i .state ≡ okState → portAt (seen k) i .«state_number» ≡ q → portAt (seen k) i .elapsed ≡ k
           → standingAt (seen k) n i ≡ standing okState q (k + 1)
       left-at k m s w r =
           let t = time k (omega arith) in
           hold-held (seen k) n (all .small) (apart-at k) i b (lost k (omega arith) .0) (low-at k) s (lost k (omega arith) .1) (omega arith)
           ∙ rw (w, r)
 
-      before : (k : ℕ) → k ≤ h → (portAt (seen k) i .state ≡ okState) × (portAt (seen k) i .«state_number» ≡ q) × (portAt (seen k) i .run ≡ k)
+      before : (k : ℕ) → k ≤ h → (portAt (seen k) i .state ≡ okState) × (portAt (seen k) i .«state_number» ≡ q) × (portAt (seen k) i .elapsed ≡ k)
       before zero m = (ok, number, none)
       before (suc k) m =
           let o = before k (omega arith) in
@@ -67,17 +67,17 @@ module _ (seen : ℕ → List Port) (n : ℕ) (all : Reports seen n) where
           hold-over (seen h) n (all .small) (apart-at h) i b (lost h (omega arith) .0) (lost h (omega arith) .1) (omega arith)
 
     -- The claim first stands at report 0, with wait-to-restore h: the port is FAIL at reports 0 to h - 1,
-    module _ (fail : portAt (seen 0) i .state ≡ failState) (none : portAt (seen 0) i .run ≡ 0)
+    module _ (fail : portAt (seen 0) i .state ≡ failState) (none : portAt (seen 0) i .elapsed ≡ 0)
         (time : (k : ℕ) → k ≤ h → portAt (seen k) i .restore ≡ h)
         (stands : (k : ℕ) → k ≤ h → (isIdle (portAt (seen k) i) ≡ false) × Claim (seen k) n i) where
-      waits-at : (k : ℕ) → k < h → portAt (seen k) i .state ≡ failState → portAt (seen k) i .run ≡ k
+      waits-at : (k : ℕ) → k < h → portAt (seen k) i .state ≡ failState → portAt (seen k) i .elapsed ≡ k
           → standingAt (seen k) n i ≡ standing failState (portAt (seen k) i .number) (k + 1)
       waits-at k m s r =
           let t = time k (omega arith) in
           restore-waits (seen k) n (all .small) (apart-at k) i b (stands k (omega arith) .0) s (stands k (omega arith) .1) (omega arith)
           ∙ rw r
 
-      since : (k : ℕ) → k ≤ h → (portAt (seen k) i .state ≡ failState) × (portAt (seen k) i .run ≡ k)
+      since : (k : ℕ) → k ≤ h → (portAt (seen k) i .state ≡ failState) × (portAt (seen k) i .elapsed ≡ k)
       since zero m = (fail, none)
       since (suc k) m =
           let o = since k (omega arith) in

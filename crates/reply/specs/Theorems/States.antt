@@ -11,11 +11,11 @@ use Rattle.ground.specs.Truth.{le-or-lt}
 use Rattle.reply.specs.declared.members.Port.{Port}
 use Rattle.reply.specs.declared.waiting.Standing.{Standing}
 use Rattle.reply.specs.Choosing.{FREE, holderOf}
-use Rattle.reply.specs.Laws.Choosing.{Chosen, holders-after, holders-from, holders-kept, length-holders}
+use Rattle.reply.specs.Laws.Choosing.{Chosen, holders-after, holders-from, length-holders}
 use Rattle.reply.specs.Laws.Claims.{claim-alone, claim-candidate, claim-own, keeps, keeps-own, left-claim, left-idle, left-lost, with-rested, with-restoring, without-failed, without-kept}
 use Rattle.reply.specs.Laws.Holding.{Apart, HeldBy, Low, held-by, held-lost}
-use Rattle.reply.specs.Laws.Members.{candidate-lt, candidate-not-idle, left-not-idle, left-ok, left-runs}
-use Rattle.reply.specs.Members.{failState, idleState, isCandidate, isIdle, isRestoring, okState, portAt}
+use Rattle.reply.specs.Laws.Members.{candidate-not-idle, left-elapsed, left-not-idle, left-ok}
+use Rattle.reply.specs.Members.{failState, idleState, isIdle, isRestoring, okState, portAt}
 use Rattle.reply.specs.Waiting.{chosenOf, hasClaim, heldOf, keepsNumber, noStanding, standing, standingBy, standingsOf, withClaim, withoutClaim}
 
 -- what a report leaves of port i
@@ -108,11 +108,11 @@ ok-after ports n q x small apart is some =
   where
     kept : HeldBy ports n q x → hasClaim (chosenOf ports n) x (portAt ports x) ≡ false → OkUnder ports n q x
     kept w lost =
-        let e : standingAt ports n x ≡ standing okState (portAt ports x .«state_number») (portAt ports x .run + 1) =
+        let e : standingAt ports n x ≡ standing okState (portAt ports x .«state_number») (portAt ports x .elapsed + 1) =
         standing-is ports n x small (w .below)
         ∙ left-lost (chosenOf ports n) x (portAt ports x) (left-not-idle (portAt ports x) (w .left)) lost
         ∙ without-kept (chosenOf ports n) x (portAt ports x)
-        (keeps (chosenOf ports n) x (portAt ports x) (left-ok (portAt ports x) (w .left)) (left-runs (portAt ports x) (w .left))
+        (keeps (chosenOf ports n) x (portAt ports x) (left-ok (portAt ports x) (w .left)) (left-elapsed (portAt ports x) (w .left))
         (ap (λ (k : ℕ). holderOf (chosenOf ports n) k) (w .same) ∙ is)) in
         record { below = w .below; ok = ap (λ (s : Standing). s .state) e; same = ap (λ (s : Standing). s .number) e ∙ w .same }
 
@@ -136,7 +136,7 @@ pub record Holder (ports : List Port) (n q : ℕ) : Type 0 where
 pub record Told (ports : List Port) (n : ℕ) (now : List Port) : Type 0 where
   pub state : (i : ℕ) → i < n → portAt now i .state ≡ standingAt ports n i .state
   pub number : (i : ℕ) → i < n → portAt now i .«state_number» ≡ standingAt ports n i .number
-  pub run : (i : ℕ) → i < n → portAt now i .run ≡ standingAt ports n i .run
+  pub elapsed : (i : ℕ) → i < n → portAt now i .elapsed ≡ standingAt ports n i .elapsed
 
 -- what every report leaves, whatever came before it: OK ports have different numbers, below 64
 pub told-below : (ports : List Port) (n : ℕ) (now : List Port) → n ≤ 64 → Told ports n now → Low now n

@@ -1,4 +1,5 @@
 -- 02, 2026-03, on the definitions: hold-off and restoring to the report, against others, never both, and IDLE at once.
+-- The idea: the definitions ask of a claim by the table of who has which number as the rounds leave it, and that is the same as asking it of the states after the report (`claim-is`, `is-claim`). With it each sentence is one case of the definitions.
 use mathlib.Core.Path.{_≡_, refl, sym, ap, _∙_}
 use mathlib.Core.Logic.{_⊎_, inl, inr, ⊎-elim, _≢_}
 use mathlib.Core.Bool.{Bool, true, false, true≢false}
@@ -10,7 +11,7 @@ use Rattle.reply.specs.declared.members.Port.{Port}
 use Rattle.reply.specs.declared.waiting.Standing.{Standing}
 use Rattle.reply.specs.Choosing.{FREE, holderOf}
 use Rattle.reply.specs.Laws.Choosing.{holders-kept}
-use Rattle.reply.specs.Laws.Claims.{claim-alone, claim-candidate, claim-free, claim-lost, claim-own, keeps, keeps-none, keeps-not, keeps-runs, keeps-state, left-claim, left-idle, left-lost, with-rested, with-restoring, without-failed, without-kept}
+use Rattle.reply.specs.Laws.Claims.{claim-alone, claim-candidate, claim-free, claim-lost, claim-own, keeps, keeps-elapsed, keeps-none, keeps-not, keeps-state, left-claim, left-idle, left-lost, with-rested, with-restoring, without-failed, without-kept}
 use Rattle.reply.specs.Laws.Holding.{Apart, Low, is-held, keeps-own, held-by}
 use Rattle.reply.specs.Laws.Members.{candidate-not-idle, has-left, ok-rested, rested, restoring, restoring-fail, restoring-left, was-number, was-state}
 use Rattle.reply.specs.Members.{failState, idleState, isCandidate, isIdle, isRestoring, okState, portAt, wasOk}
@@ -99,8 +100,8 @@ module _ (ports : List Port) (n : ℕ) (small : n ≤ 64) (apart : Apart ports n
     hold-claim s c = claimed c ∙ with-rested p (ok-rested p s)
 
     -- without it, as long as hold-off is left, it is OK under its old number, and the counter is one more;
-    pub hold-held : Low ports n → p .state ≡ okState → (Claim ports n i → ⊥) → p .run < p .«hold_off»
-        → standingAt ports n i ≡ standing okState (p .«state_number») (p .run + 1)
+    pub hold-held : Low ports n → p .state ≡ okState → (Claim ports n i → ⊥) → p .elapsed < p .«hold_off»
+        → standingAt ports n i ≡ standing okState (p .«state_number») (p .elapsed + 1)
     unfolding chosenOf
     hold-held low s d r =
         let h : holderOf (heldOf ports n) (p .«state_number») ≡ i = is-held ports n small apart i b (has-left p s r (low i b s) live) (no-claim d) in
@@ -110,30 +111,30 @@ module _ (ports : List Port) (n : ℕ) (small : n ≤ 64) (apart : Apart ports n
         unclaimed d ∙ without-kept C i p (keeps C i p s r kept)
 
     -- and FAIL at the report at which the counter has reached the hold-off.
-    pub hold-over : (Claim ports n i → ⊥) → p .«hold_off» ≤ p .run → standingAt ports n i ≡ standing failState (p .number) 0
+    pub hold-over : (Claim ports n i → ⊥) → p .«hold_off» ≤ p .elapsed → standingAt ports n i ≡ standing failState (p .number) 0
     hold-over d r = unclaimed d ∙ without-failed C i p (keeps-not C i p r)
 
     -- 'An OK port that loses its claim goes FAIL only when it has stayed so for the hold-off': then, and only then
     pub hold-exactly : Low ports n → p .state ≡ okState
-        → (standingAt ports n i .state ≡ failState → (Claim ports n i → ⊥) × (p .«hold_off» ≤ p .run))
-        × ((Claim ports n i → ⊥) × (p .«hold_off» ≤ p .run) → standingAt ports n i .state ≡ failState)
+        → (standingAt ports n i .state ≡ failState → (Claim ports n i → ⊥) × (p .«hold_off» ≤ p .elapsed))
+        × ((Claim ports n i → ⊥) × (p .«hold_off» ≤ p .elapsed) → standingAt ports n i .state ≡ failState)
     hold-exactly low s = (only, λ w. ap (λ (t : Standing). t .state) (hold-over (w .0) (w .1)))
       where
-        only : standingAt ports n i .state ≡ failState → (Claim ports n i → ⊥) × (p .«hold_off» ≤ p .run)
+        only : standingAt ports n i .state ≡ failState → (Claim ports n i → ⊥) × (p .«hold_off» ≤ p .elapsed)
         only f =
             ⊎-elim (λ (c : Claim ports n i). let w : okState ≡ failState = sym (ap (λ (t : Standing). t .state) (hold-claim s c)) ∙ f in absurd (omega arith))
             (λ (d : Claim ports n i → ⊥).
-            ⊎-elim (λ (o : p .«hold_off» ≤ p .run). (d, o))
-            (λ (r : p .run < p .«hold_off»). let w : okState ≡ failState = sym (ap (λ (t : Standing). t .state) (hold-held low s d r)) ∙ f in absurd (omega arith))
-            (le-or-lt (p .«hold_off») (p .run)))
+            ⊎-elim (λ (o : p .«hold_off» ≤ p .elapsed). (d, o))
+            (λ (r : p .elapsed < p .«hold_off»). let w : okState ≡ failState = sym (ap (λ (t : Standing). t .state) (hold-held low s d r)) ∙ f in absurd (omega arith))
+            (le-or-lt (p .«hold_off») (p .elapsed)))
             claim-or-not
 
     -- Restoring. A port that was FAIL and has had its claim long enough is OK;
-    pub restore-over : Claim ports n i → p .restore ≤ p .run → standingAt ports n i ≡ standing okState (p .number) 0
+    pub restore-over : Claim ports n i → p .restore ≤ p .elapsed → standingAt ports n i ≡ standing okState (p .number) 0
     restore-over c r = claimed c ∙ with-rested p (rested p r)
 
     -- until then it is FAIL, and the counter is one more;
-    pub restore-waits : p .state ≡ failState → Claim ports n i → p .run < p .restore → standingAt ports n i ≡ standing failState (p .number) (p .run + 1)
+    pub restore-waits : p .state ≡ failState → Claim ports n i → p .elapsed < p .restore → standingAt ports n i ≡ standing failState (p .number) (p .elapsed + 1)
     restore-waits s c r = claimed c ∙ with-restoring p (restoring p s r)
 
     -- without its claim it begins anew.
@@ -142,17 +143,17 @@ module _ (ports : List Port) (n : ℕ) (small : n ≤ 64) (apart : Apart ports n
 
     -- 'A FAIL port goes OK only when its claim has stood for the wait-to-restore': then, and only then
     pub restore-exactly : p .state ≡ failState
-        → (standingAt ports n i .state ≡ okState → Claim ports n i × (p .restore ≤ p .run))
-        × (Claim ports n i × (p .restore ≤ p .run) → standingAt ports n i .state ≡ okState)
+        → (standingAt ports n i .state ≡ okState → Claim ports n i × (p .restore ≤ p .elapsed))
+        × (Claim ports n i × (p .restore ≤ p .elapsed) → standingAt ports n i .state ≡ okState)
     restore-exactly s = (only, λ w. ap (λ (t : Standing). t .state) (restore-over (w .0) (w .1)))
       where
-        only : standingAt ports n i .state ≡ okState → Claim ports n i × (p .restore ≤ p .run)
+        only : standingAt ports n i .state ≡ okState → Claim ports n i × (p .restore ≤ p .elapsed)
         only f =
             ⊎-elim
             (λ (c : Claim ports n i).
-            ⊎-elim (λ (o : p .restore ≤ p .run). (c, o))
-            (λ (r : p .run < p .restore). let w : failState ≡ okState = sym (ap (λ (t : Standing). t .state) (restore-waits s c r)) ∙ f in absurd (omega arith))
-            (le-or-lt (p .restore) (p .run)))
+            ⊎-elim (λ (o : p .restore ≤ p .elapsed). (c, o))
+            (λ (r : p .elapsed < p .restore). let w : failState ≡ okState = sym (ap (λ (t : Standing). t .state) (restore-waits s c r)) ∙ f in absurd (omega arith))
+            (le-or-lt (p .restore) (p .elapsed)))
             (λ (d : Claim ports n i → ⊥).
             let w : failState ≡ okState = sym (ap (λ (t : Standing). t .state) (restore-lost (λ (z : p .state ≡ okState). omega arith) d)) ∙ f in
             absurd (omega arith))
@@ -195,21 +196,21 @@ module _ (ports : List Port) (n : ℕ) (small : n ≤ 64) (apart : Apart ports n
   against-others ok j bj d okj same = d (ok-apart ports n j i small bj b okj ok same)
 
 -- which timer runs
-abbrev pub HoldOffRuns : Standing → Type 0
-HoldOffRuns s = (s .state ≡ okState) × (0 < s .run)
+abbrev pub InHoldOff : Standing → Type 0
+InHoldOff s = (s .state ≡ okState) × (0 < s .elapsed)
 
-abbrev pub RestoringRuns : Standing → Type 0
-RestoringRuns s = (s .state ≡ failState) × (0 < s .run)
+abbrev pub InRestoring : Standing → Type 0
+InRestoring s = (s .state ≡ failState) × (0 < s .elapsed)
 
 -- 'Never are both running for one port (source document 002, annex C).'
-pub never-both : (s : Standing) → HoldOffRuns s → RestoringRuns s → ⊥
+pub never-both : (s : Standing) → InHoldOff s → InRestoring s → ⊥
 never-both s h r = let e = h .0 in let f = r .0 in omega arith
 
 -- the counter runs no further than the port's times, and hold-off only of a port that was OK, restoring only of one that was FAIL
 pub record Timed (p : Port) (s : Standing) : Type 0 where
-  pub idle : s .state ≡ idleState → s .run ≡ 0
-  pub holding : HoldOffRuns s → (p .state ≡ okState) × (s .number ≡ p .«state_number») × (s .run ≤ p .«hold_off»)
-  pub restoring : RestoringRuns s → (p .state ≡ failState) × (s .run ≤ p .restore)
+  pub idle : s .state ≡ idleState → s .elapsed ≡ 0
+  pub holding : InHoldOff s → (p .state ≡ okState) × (s .number ≡ p .«state_number») × (s .elapsed ≤ p .«hold_off»)
+  pub restoring : InRestoring s → (p .state ≡ failState) × (s .elapsed ≤ p .restore)
 
 still : (p : Port) (state : ℕ) → Timed p (standing state (p .number) 0)
 still p state = record { idle = λ e. refl; holding = λ w. absurd (let z = w .1 in omega arith); restoring = λ w. absurd (let z = w .1 in omega arith) }
@@ -230,7 +231,7 @@ module _ (C : List ℕ) (i : ℕ) (p : Port) where
       rw (without-kept C i p k)
       (record {
         idle = λ (e : okState ≡ idleState). absurd (omega arith);
-        holding = λ w. (keeps-state C i p k, refl, let z = keeps-runs C i p k in omega arith);
+        holding = λ w. (keeps-state C i p k, refl, let z = keeps-elapsed C i p k in omega arith);
         restoring = λ w. absurd (let z : okState ≡ failState = w .0 in omega arith);
       })
   timed-without false k = rw (without-failed C i p k) (still p failState)

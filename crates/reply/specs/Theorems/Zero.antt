@@ -1,11 +1,10 @@
 -- 'Zero and zero is today's behaviour' (02, 2026-03).
 use mathlib.Core.Path.{_≡_, refl, sym, ap, _∙_}
-use mathlib.Core.Logic.{⊎-elim, _≢_}
 use mathlib.Core.Bool.{Bool, true, false, cond, not, _&&_, Bool·beq}
 use mathlib.Core.List.{List}
-use Prim.Native.Nat.{ℕ, zero, suc, _≤_, _<_}
+use Prim.Native.Nat.{ℕ, _≤_, _<_}
 use native.Mathlib.Omega.{arith}
-use lib.Dec.{eqb, ltb}
+use lib.Dec.{eqb}
 use lib.ListN.{getD, replicate, length-replicate}
 use borrow.Author.Tests.{eq-eqb, eqb-true}
 use Rattle.counting.specs.Each.{getD-each}
@@ -14,14 +13,13 @@ use Rattle.ground.specs.Truth.{and-left, and-right, and-true, fails}
 use Rattle.reply.specs.declared.members.Port.{Port}
 use Rattle.reply.specs.declared.waiting.Standing.{Standing}
 use Rattle.reply.specs.Choosing.{FREE, chooses, claims, holderOf, holders, noneHeld}
-use Rattle.reply.specs.Laws.Choosing.{holders-after}
-use Rattle.reply.specs.Laws.Claims.{claim-alone, claim-candidate, claim-lost, keeps-not, left-claim, left-idle, left-lost, with-rested, without-failed}
+use Rattle.reply.specs.Laws.Claims.{claim-candidate, claim-lost, keeps-not, left-claim, left-idle, left-lost, with-rested, without-failed}
 use Rattle.reply.specs.Laws.Granting.{granted-ext}
 use Rattle.reply.specs.Laws.Holding.{rounds-still}
-use Rattle.reply.specs.Laws.Members.{left-runs, rested}
+use Rattle.reply.specs.Laws.Members.{left-elapsed, rested}
 use Rattle.reply.specs.Members.{failState, hasHoldOff, idleState, isCandidate, isIdle, isRestoring, okState, portAt, wasOk}
 use Rattle.reply.specs.Theorems.States.{claim-has, standing-is, standingAt}
-use Rattle.reply.specs.Waiting.{chosenOf, hasClaim, heldOf, joinsHeld, mustHold, rounds, someJoin, standing, standingBy}
+use Rattle.reply.specs.Waiting.{chosenOf, hasClaim, heldOf, joinsHeld, mustHold, someJoin, standingBy}
 use Rattle.reply.specs.Zero.{plainClaims, plainHolders, stateBy, statesOf}
 
 -- no port has a time
@@ -45,7 +43,7 @@ module _ (ports : List Port) (n : ℕ) (small : n ≤ 64) (none : NoTimes ports 
       let p : Port = portAt ports i in
       let left : hasHoldOff p ≡ true =
       and-left (hasHoldOff p) (not (hasClaim chosen i p)) (and-left (mustHold chosen i p) (eqb (holderOf held (p .«state_number»)) FREE) t) in
-      let r = left-runs p left in
+      let r = left-elapsed p left in
       let z = none i b .0 in
       omega arith)
 

@@ -1,4 +1,5 @@
--- Each call keeps the numbering of the table.
+-- Each call keeps the numbering of the table (`Sound`), and so does every run of calls.
+-- The idea: a command does nothing, or changes slots as Laws/Adding and Laws/Removing have it. A report is taken in two parts, the states that its numbers make (`Heard`), which leave the numbers, and then the numbers given anew (Laws/Reporting).
 use mathlib.Core.Path.{_≡_, refl, _∙_, ap}
 use mathlib.Core.Logic.{⊎-elim, _≢_}
 use mathlib.Core.Bool.{Bool, true, false, cond, not, _||_}
@@ -20,17 +21,17 @@ use Rattle.sender.specs.declared.table.Slot.{Slot}
 use Rattle.sender.specs.declared.table.State.{State}
 use Rattle.sender.specs.declared.table.State.the-variants.{Idle, Add, Active, Dnu}
 use Rattle.sender.specs.declared.table.Table.{Table}
+use Rattle.sender.specs.Calls.{Call, outcomeOf, run}
+use Rattle.sender.specs.Calls.Call.{AddSlot, RemoveSlot, Report, Lapse}
 use Rattle.sender.specs.Commands.{addOf, addedTo, answered, fallen, fallenIn, freshOf, idleSlot, inOrder, lapseOf, removeOf, removedFrom, startOf, withSlots}
 use Rattle.sender.specs.Laws.Adding.{numbered-add}
 use Rattle.sender.specs.Laws.Finding.{holder-said}
 use Rattle.sender.specs.Laws.Numbered.{Numbered, numbered-fresh, numbered-same}
 use Rattle.sender.specs.Laws.Removing.{lower, numbered-remove}
-use Rattle.sender.specs.Laws.Reporting.{Passes, numbered-report}
+use Rattle.sender.specs.Laws.Reporting.{MayBecome, numbered-report}
 use Rattle.sender.specs.Laws.Sizes.{size-le}
 use Rattle.sender.specs.Numbering.{numberIn, slotsIn, stateIn}
 use Rattle.sender.specs.Reports.{actedOn, comesBefore, mstApplied, numberAfter, renumbered, reportOf, slotAfter, becomes, spokenTo, numberApplied, turnOf, waited}
-use Rattle.sender.specs.Steps.{Call, run, stepOf}
-use Rattle.sender.specs.Steps.Call.{AddSlot, RemoveSlot, Report, Lapse}
 use Rattle.sender.specs.Table.{holderOf, isAdd, isMember, membersOf, sizeOf, slotAt}
 
 -- a table that a start or a call returned
@@ -147,26 +148,26 @@ sound-removed t i o h member =
     other j b d = getD-set-other low i j gone _ d ∙ getD-each n f (t .slots) j _ b (below-whole (t .count) (t .slots) j (o .whole) b)
 
 -- what a report makes of states
-passes-self : (s : State) → Passes s s
-passes-self s = record { member = refl; add = λ a. a }
+may-stay : (s : State) → MayBecome s s
+may-stay s = record { member = refl; add = λ a. a }
 
-passes-then : (a b c : State) → Passes a b → Passes b c → Passes a c
-passes-then a b c p q = record { member = q .member ∙ p .member; add = λ x. p .add (q .add x) }
+may-then : (a b c : State) → MayBecome a b → MayBecome b c → MayBecome a c
+may-then a b c p q = record { member = q .member ∙ p .member; add = λ x. p .add (q .add x) }
 
-passes-becomes : (f : Bool) (s : State) → Passes s (becomes f s)
-passes-becomes f Idle = record { member = refl; add = λ a. a }
-passes-becomes true Add = record { member = refl; add = λ a. a }
-passes-becomes false Add = record { member = refl; add = λ a. refl }
-passes-becomes true Active = record { member = refl; add = λ a. a }
-passes-becomes false Active = record { member = refl; add = λ a. a }
-passes-becomes true Dnu = record { member = refl; add = λ a. a }
-passes-becomes false Dnu = record { member = refl; add = λ a. a }
+may-become : (f : Bool) (s : State) → MayBecome s (becomes f s)
+may-become f Idle = record { member = refl; add = λ a. a }
+may-become true Add = record { member = refl; add = λ a. a }
+may-become false Add = record { member = refl; add = λ a. refl }
+may-become true Active = record { member = refl; add = λ a. a }
+may-become false Active = record { member = refl; add = λ a. a }
+may-become true Dnu = record { member = refl; add = λ a. a }
+may-become false Dnu = record { member = refl; add = λ a. a }
 
 -- the slots after some reported numbers: as many, with the numbers they had
 record Heard (slots heard : List Slot) : Type 0 where
   len : length heard ≡ length slots
   number : (j : ℕ) → slotAt heard j .number ≡ slotAt slots j .number
-  state : (j : ℕ) → Passes (slotAt slots j .state) (slotAt heard j .state)
+  state : (j : ℕ) → MayBecome (slotAt slots j .state) (slotAt heard j .state)
 
 heard-becomes : (f : Bool) (found : Found) (slots heard : List Slot) → ((i : ℕ) → found ≡ At i → i < length slots) → Heard slots heard → Heard slots (spokenTo f found heard)
 heard-becomes f Nothing slots heard b o = o
@@ -185,16 +186,16 @@ heard-becomes f (At i) slots heard b o =
         (λ (d : j ≢ i). ap (λ (s : Slot). s .number) (getD-set-other heard i j new _ d) ∙ o .number j)
         (eq-or-ne j i)
 
-    state : (j : ℕ) → Passes (slotAt slots j .state) (slotAt (set heard i new) j .state)
+    state : (j : ℕ) → MayBecome (slotAt slots j .state) (slotAt (set heard i new) j .state)
     state j =
         ⊎-elim
-        (λ (e : j ≡ i). rw (e, here) (passes-then (slotAt slots i .state) (slotAt heard i .state) _ (o .state i) (passes-becomes f (slotAt heard i .state))))
+        (λ (e : j ≡ i). rw (e, here) (may-then (slotAt slots i .state) (slotAt heard i .state) _ (o .state i) (may-become f (slotAt heard i .state))))
         (λ (d : j ≢ i). rw (getD-set-other heard i j new _ d) (o .state j))
         (eq-or-ne j i)
 
 heard-in : (slots : List Slot) (n first mst k : ℕ) → n ≤ length slots → Heard slots (mstApplied slots n first mst k)
 unfolding mstApplied numberApplied
-heard-in slots n first mst zero h = record { len = refl; number = λ j. refl; state = λ j. passes-self (slotAt slots j .state) }
+heard-in slots n first mst zero h = record { len = refl; number = λ j. refl; state = λ j. may-stay (slotAt slots j .state) }
 heard-in slots n first mst (suc k) h =
     heard-becomes (mstFails mst (first + k)) (holderOf slots n (first + k)) slots (mstApplied slots n first mst k)
     (λ i e. let l = holder-said slots (first + k) n i e .0 in omega arith) (heard-in slots n first mst k h)
@@ -278,15 +279,15 @@ sound-remove : (t : Table) (i : ℕ) → Sound t → Sound (removeOf t i .table)
 unfolding removeOf
 sound-remove t i o = sound-in-order t (removedFrom t i) i (isMember (slotAt (t .slots) i .state)) o (λ h a. sound-removed t i o h a)
 
-pub sound-step : (t : Table) (c : Call) → Sound t → Sound (stepOf t c .table)
-sound-step t (AddSlot i) o = sound-add t i o
-sound-step t (RemoveSlot i) o = sound-remove t i o
-sound-step t (Report e mst ack) o = sound-report t e mst ack o
-sound-step t Lapse o = sound-lapse t o
+pub sound-call : (t : Table) (c : Call) → Sound t → Sound (outcomeOf t c .table)
+sound-call t (AddSlot i) o = sound-add t i o
+sound-call t (RemoveSlot i) o = sound-remove t i o
+sound-call t (Report e mst ack) o = sound-report t e mst ack o
+sound-call t Lapse o = sound-lapse t o
 
 pub sound-run : (t : Table) (cs : List Call) → Sound t → Sound (run t cs)
 sound-run t [] o = o
-sound-run t (c ∷ cs) o = sound-run (stepOf t c .table) cs (sound-step t c o)
+sound-run t (c ∷ cs) o = sound-run (outcomeOf t c .table) cs (sound-call t c o)
 
 fresh-idle : (kind count i : ℕ) → i < slotsIn (freshOf kind count) → stateIn (freshOf kind count) i ≡ Idle
 unfolding freshOf
@@ -318,17 +319,17 @@ group-in-order t next i allowed d = go (ltb i (sizeOf (t .count))) (t .wait) all
     go true false false = group-self t
     go true false true = d
 
-pub group-step : (t : Table) (c : Call) → Group t (stepOf t c .table)
+pub group-call : (t : Table) (c : Call) → Group t (outcomeOf t c .table)
 unfolding addOf addedTo removeOf removedFrom reportOf waited actedOn lapseOf
-group-step t (AddSlot i) = group-in-order t (addedTo t i) i (not (isMember (slotAt (t .slots) i .state))) (record { count = refl; kind = refl })
-group-step t (RemoveSlot i) = group-in-order t (removedFrom t i) i (isMember (slotAt (t .slots) i .state)) (record { count = refl; kind = refl })
-group-step t (Report e mst ack) = go (t .wait) (eqb (ack % 2) (t .bit))
+group-call t (AddSlot i) = group-in-order t (addedTo t i) i (not (isMember (slotAt (t .slots) i .state))) (record { count = refl; kind = refl })
+group-call t (RemoveSlot i) = group-in-order t (removedFrom t i) i (isMember (slotAt (t .slots) i .state)) (record { count = refl; kind = refl })
+group-call t (Report e mst ack) = go (t .wait) (eqb (ack % 2) (t .bit))
   where
     go : (w b : Bool) → Group t (cond w (cond b t (record { slots = t .slots; count = t .count; wait = false; bit = ack % 2; kind = t .kind })) (actedOn t e mst (ack % 2)))
     go true true = group-self t
     go true false = record { count = refl; kind = refl }
     go false b = record { count = refl; kind = refl }
-group-step t Lapse = go (t .wait)
+group-call t Lapse = go (t .wait)
   where
     go : (w : Bool) → Group t (cond w (answered (withSlots t (t .slots) false) Done) (answered t NotAllowed) .table)
     go true = record { count = refl; kind = refl }

@@ -1,4 +1,4 @@
--- The numbering of members as each step keeps it, over states and numbers as functions of the slot.
+-- The numbering of members as each call keeps it, over states and numbers as functions of the slot.
 use mathlib.Core.Path.{_≡_, refl, _∙_, sym, ap}
 use mathlib.Core.Logic.{_⊎_, inl, inr}
 use mathlib.Core.Bool.{true, false, true≢false, false≢true}

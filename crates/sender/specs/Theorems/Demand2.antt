@@ -16,11 +16,11 @@ use Rattle.sender.specs.declared.table.State.{State}
 use Rattle.sender.specs.declared.table.State.the-variants.{Idle, Add, Active, Dnu}
 use Rattle.sender.specs.declared.table.Table.{Table}
 use Rattle.sender.specs.Board.{highest, rowOf, wordOf}
+use Rattle.sender.specs.Calls.{Call, run}
 use Rattle.sender.specs.Commands.{startOf}
 use Rattle.sender.specs.Laws.Kept.{Sound, sound-run, sound-start}
 use Rattle.sender.specs.Laws.Numbered.{placed-member, add-member, member-cases}
 use Rattle.sender.specs.Numbering.{Demand2, isPlaced, members, numberIn, placed, sends, slotsIn, stateIn}
-use Rattle.sender.specs.Steps.{Call, run}
 use Rattle.sender.specs.Table.{isActive, isAdd, isMember}
 
 -- the word of an active member is EOS or NORM, and that of any other neither

@@ -17,14 +17,14 @@ use Rattle.sender.specs.declared.epochs.SenderOutcome.{SenderOutcome}
 use Rattle.sender.specs.declared.table.Answer.the-variants.{Done, Field}
 use Rattle.sender.specs.declared.table.Table.{Table}
 use Rattle.sender.specs.Board.{boardOf}
+use Rattle.sender.specs.Calls.{Call}
 use Rattle.sender.specs.Commands.{startOf}
-use Rattle.sender.specs.Epochs.{SenderCall, beginOf, freshSender, packetAnswer, packetBytes, packetFields, payloadAnswer, payloadBytes, rankIn, senderRun, senderStepOf, startEpochOf, startedSender, xOf}
+use Rattle.sender.specs.Epochs.{SenderCall, beginOf, freshSender, packetAnswer, packetBytes, packetFields, payloadAnswer, payloadBytes, rankIn, senderOutcomeOf, senderRun, startEpochOf, startedSender, xOf}
 use Rattle.sender.specs.Epochs.SenderCall.{OnTable, StartEpoch}
 use Rattle.sender.specs.Laws.Carrying.{board-size, carries-active, rank-active, x-active}
-use Rattle.sender.specs.Laws.Kept.{Sound, group-step, sound-start, sound-step, start-idle}
+use Rattle.sender.specs.Laws.Kept.{Sound, group-call, sound-call, sound-start, start-idle}
 use Rattle.sender.specs.Numbering.{Demand2, numberIn, slotsIn, stateIn}
 use Rattle.sender.specs.Ranks.{carries, carriersIn, rankAt, rowAt}
-use Rattle.sender.specs.Steps.{Call}
 use Rattle.sender.specs.Table.{isActive, sizeOf}
 use Rattle.sender.specs.Theorems.Demand2.{active-member, sound-demand2}
 
@@ -58,19 +58,19 @@ started-sound s gid mst ack o = go (ltb gid 2 && ltb ack 2)
     go true = record { table = o .table; outgoing = shows (s .table) (o .table); ruling = o .outgoing }
     go false = o
 
-step-sound : (s : Sender) (c : SenderCall) → SoundSender s → SoundSender (senderStepOf s c .sender)
-step-sound s (OnTable c) o =
-    let still = group-step (s .table) c .count in
+call-sound : (s : Sender) (c : SenderCall) → SoundSender s → SoundSender (senderOutcomeOf s c .sender)
+call-sound s (OnTable c) o =
+    let still = group-call (s .table) c .count in
     record {
-      table = sound-step (s .table) c (o .table);
+      table = sound-call (s .table) c (o .table);
       outgoing = shows-still (s .outgoing) (s .table .count) _ still (o .outgoing);
       ruling = shows-still (s .ruling) (s .table .count) _ still (o .ruling);
     }
-step-sound s (StartEpoch gid mst ack) o = started-sound s gid mst ack o
+call-sound s (StartEpoch gid mst ack) o = started-sound s gid mst ack o
 
 run-sound : (s : Sender) (cs : List SenderCall) → SoundSender s → SoundSender (senderRun s cs)
 run-sound s [] o = o
-run-sound s (c ∷ cs) o = run-sound (senderStepOf s c .sender) cs (step-sound s c o)
+run-sound s (c ∷ cs) o = run-sound (senderOutcomeOf s c .sender) cs (call-sound s c o)
 
 begins : (kind count e : ℕ) → beginOf kind count e .sender .outgoing ≡ boardOf (startOf kind count .table)
 unfolding beginOf freshSender
@@ -135,8 +135,8 @@ fixed s [] =
       carried = λ i P f m. refl;
     }
 fixed s (c ∷ cs) =
-    let o = fixed (senderStepOf s (OnTable c) .sender) cs in
-    let g = group-step (s .table) c in
+    let o = fixed (senderOutcomeOf s (OnTable c) .sender) cs in
+    let g = group-call (s .table) c in
     record {
       fields = λ i. o .fields i;
       answer = λ i h. o .answer i h ∙ rw (g .count, g .kind);
@@ -164,7 +164,7 @@ rules-next s gid mst ack h = ap (λ (b : Bool). cond {A = SenderOutcome} b (reco
 
 outgoing-stays : (s : Sender) (cs : List Call) → senderRun s (onTable cs) .outgoing ≡ s .outgoing
 outgoing-stays s [] = refl
-outgoing-stays s (c ∷ cs) = outgoing-stays (senderStepOf s (OnTable c) .sender) cs
+outgoing-stays s (c ∷ cs) = outgoing-stays (senderOutcomeOf s (OnTable c) .sender) cs
 
 -- 'a sender's first epoch has X = 0'
 pub first-x : (kind count e : ℕ) (cs : List Call) (gid mst ack : ℕ) → (ltb gid 2 && ltb ack 2) ≡ true

@@ -11,15 +11,15 @@ use Rattle.sender.specs.declared.table.Answer.{Answer}
 use Rattle.sender.specs.declared.table.Outcome.{Outcome}
 use Rattle.sender.specs.declared.table.Table.{Table}
 use Rattle.sender.specs.Board.{boardOf}
+use Rattle.sender.specs.Calls.{Call, outcomeOf}
 use Rattle.sender.specs.Commands.{startOf}
-use Rattle.sender.specs.Epochs.{SenderCall, beginOf, packetAnswer, packetBytes, payloadAnswer, payloadBytes, ranksOf, senderStepOf}
-use Rattle.sender.specs.Steps.{Call, stepOf}
+use Rattle.sender.specs.Epochs.{SenderCall, beginOf, packetAnswer, packetBytes, payloadAnswer, payloadBytes, ranksOf, senderOutcomeOf}
 
 pub start-only : (kind count : ℕ) (r q : Outcome) → r ≡ startOf kind count → q ≡ startOf kind count → r ≡ q
 start-only kind count r q a b = a ∙ sym b
 
-pub step-only : (t : Table) (c : Call) (r q : Outcome) → r ≡ stepOf t c → q ≡ stepOf t c → r ≡ q
-step-only t c r q a b = a ∙ sym b
+pub call-only : (t : Table) (c : Call) (r q : Outcome) → r ≡ outcomeOf t c → q ≡ outcomeOf t c → r ≡ q
+call-only t c r q a b = a ∙ sym b
 
 pub board-only : (t : Table) (r q : Board) → r ≡ boardOf t → q ≡ boardOf t → r ≡ q
 board-only t r q a b = a ∙ sym b
@@ -27,7 +27,7 @@ board-only t r q a b = a ∙ sym b
 pub begin-only : (kind count e : ℕ) (r q : SenderOutcome) → r ≡ beginOf kind count e → q ≡ beginOf kind count e → r ≡ q
 begin-only kind count e r q a b = a ∙ sym b
 
-pub sender-only : (s : Sender) (c : SenderCall) (r q : SenderOutcome) → r ≡ senderStepOf s c → q ≡ senderStepOf s c → r ≡ q
+pub sender-only : (s : Sender) (c : SenderCall) (r q : SenderOutcome) → r ≡ senderOutcomeOf s c → q ≡ senderOutcomeOf s c → r ≡ q
 sender-only s c r q a b = a ∙ sym b
 
 pub ranks-only : (s : Sender) (r q : Ranks) → r ≡ ranksOf s → q ≡ ranksOf s → r ≡ q

@@ -25,7 +25,7 @@ use Rattle.sender.specs.declared.table.State.{State}
 use Rattle.sender.specs.declared.table.State.the-variants.{Idle, Add, Active, Dnu}
 use Rattle.sender.specs.declared.table.Table.{Table}
 use Rattle.sender.specs.Board.{boardOf, highest, rowOf, wordOf}
-use Rattle.sender.specs.Epochs.{SenderCall, beginOf, freshSender, packetAnswer, packetBytes, packetFields, senderRun, senderStepOf, startEpochOf, startedEpoch, startedSender}
+use Rattle.sender.specs.Epochs.{SenderCall, beginOf, freshSender, packetAnswer, packetBytes, packetFields, senderOutcomeOf, senderRun, startEpochOf, startedEpoch, startedSender}
 use Rattle.sender.specs.Epochs.SenderCall.{OnTable, StartEpoch}
 use Rattle.sender.specs.Laws.Carrying.{board-row, row-number}
 use Rattle.sender.specs.Laws.Kept.{Sound}
@@ -79,13 +79,13 @@ fit-started s gid mst ack h o = go (ltb gid 2 && ltb ack 2) refl
         }
     go false e = o
 
-fit-step : (s : Sender) (c : SenderCall) → Given c → Fit s → Fit (senderStepOf s c .sender)
-fit-step s (OnTable c) g o = record { epoch = o .epoch; mst = o .mst; gid = o .gid; ack = o .ack }
-fit-step s (StartEpoch gid mst ack) g o = fit-started s gid mst ack g o
+fit-call : (s : Sender) (c : SenderCall) → Given c → Fit s → Fit (senderOutcomeOf s c .sender)
+fit-call s (OnTable c) g o = record { epoch = o .epoch; mst = o .mst; gid = o .gid; ack = o .ack }
+fit-call s (StartEpoch gid mst ack) g o = fit-started s gid mst ack g o
 
 fit-run : (s : Sender) (cs : List SenderCall) → AllGiven cs → Fit s → Fit (senderRun s cs)
 fit-run s [] g o = o
-fit-run s (c ∷ cs) g o = fit-run (senderStepOf s c .sender) cs (g .1) (fit-step s c (g .0) o)
+fit-run s (c ∷ cs) g o = fit-run (senderOutcomeOf s c .sender) cs (g .1) (fit-call s c (g .0) o)
 
 -- a state's word is assigned and not FIXED
 word-fits : (s : State) (last : Bool) → (not (eqb (wordOf s last .0) FIXED) && assigned (wordOf s last)) ≡ true

@@ -25,8 +25,8 @@ module _ (list : List Change) where
   rising-lt n r i zero h b = absurd (omega arith)
   rising-lt n r i (suc j) h b =
       let before = rising-lt n r i j in
-      let step = rises-next n j r b in
-      ⊎-elim (λ (e : i ≡ j). rw e step) (λ (d : i ≢ j). let w = before (omega arith) (omega arith) in omega arith) (eq-or-ne i j)
+      let above = rises-next n j r b in
+      ⊎-elim (λ (e : i ≡ j). rw e above) (λ (d : i ≢ j). let w = before (omega arith) (omega arith) in omega arith) (eq-or-ne i j)
 
   pub rising-next : (n : ℕ) → ((k : ℕ) → suc k < n → slotIn list k < slotIn list (suc k)) → Rising list n
   rising-next n r zero h = refl

@@ -11,15 +11,15 @@ use Rattle.sender.specs.declared.epochs.Sender.{Sender}
 use Rattle.sender.specs.declared.epochs.SenderOutcome.{SenderOutcome}
 use Rattle.sender.specs.declared.table.Answer.the-variants as A
 use Rattle.sender.specs.declared.table.Table.{Table}
-use Rattle.sender.specs.Epochs.{SenderCall, beginOf, freshSender, senderRun, senderStepOf, startEpochOf, startedSender}
+use Rattle.sender.specs.Epochs.{SenderCall, beginOf, freshSender, senderOutcomeOf, senderRun, startEpochOf, startedSender}
 use Rattle.sender.specs.Epochs.SenderCall.{OnTable, StartEpoch}
-use Rattle.sender.specs.Laws.Kept.{Sound, group-step, sound-start, sound-step}
+use Rattle.sender.specs.Laws.Kept.{Sound, group-call, sound-call, sound-start}
 use Rattle.sender.specs.Numbering.{Demand2}
 use Rattle.sender.specs.Theorems.Demand2.{sound-demand2}
 use Rattle.sender.specs.Theorems.Epochs.{senderAfter}
 use Rattle.spoken.specs.declared.applying.Applied.{Applied}
 use Rattle.spoken.specs.declared.lists.Answer.the-variants.{Done}
-use Rattle.spoken.specs.Listening.{Moment, callsIn, hearsCall, heldAfter, heldNow, heldWith, toldFrom}
+use Rattle.spoken.specs.Listening.{Moment, callsIn, hearsCall, knownAfter, knownNow, knownWith, toldFrom}
 use Rattle.spoken.specs.Taking.{takenOf}
 use Rattle.spoken.specs.Theorems.Applied.{outright}
 
@@ -60,48 +60,48 @@ module _ (kind count : ℕ) where
           }
       go false = o
 
-  known-step : (s : Sender) (c : SenderCall) → Known kind count s → Known kind count (senderStepOf s c .sender)
-  known-step s (OnTable c) o =
-      let g = group-step (s .table) c in
-      record { sound = sound-step (s .table) c (o .sound); kind-is = g .kind ∙ o .kind-is; count-is = g .count ∙ o .count-is; outgoing = o .outgoing }
-  known-step s (StartEpoch gid mst ack) o = known-started s gid mst ack o
+  known-call : (s : Sender) (c : SenderCall) → Known kind count s → Known kind count (senderOutcomeOf s c .sender)
+  known-call s (OnTable c) o =
+      let g = group-call (s .table) c in
+      record { sound = sound-call (s .table) c (o .sound); kind-is = g .kind ∙ o .kind-is; count-is = g .count ∙ o .count-is; outgoing = o .outgoing }
+  known-call s (StartEpoch gid mst ack) o = known-started s gid mst ack o
 
   -- one who hears every start
-  hears-own : (s : Sender) (c : SenderCall) → Known kind count s → hearsCall (takenOf s) s c ≡ takenOf (senderStepOf s c .sender)
+  hears-own : (s : Sender) (c : SenderCall) → Known kind count s → hearsCall (takenOf s) s c ≡ takenOf (senderOutcomeOf s c .sender)
   hears-own s (OnTable c) o = refl
   hears-own s (StartEpoch gid mst ack) o =
       ap (λ (a : Applied). a .board)
       (told-whole kind count (takenOf s) (takenOf (startEpochOf s gid mst ack .sender)) (o .outgoing) (known-started s gid mst ack o .outgoing))
 
-  hears-all : (s : Sender) (cs : List SenderCall) → Known kind count s → heldAfter (takenOf s) s cs ≡ takenOf (senderRun s cs)
+  hears-all : (s : Sender) (cs : List SenderCall) → Known kind count s → knownAfter (takenOf s) s cs ≡ takenOf (senderRun s cs)
   hears-all s [] o = refl
   hears-all s (c ∷ cs) o =
-      ap (λ (b : Board). heldAfter b (senderStepOf s c .sender) cs) (hears-own s c o) ∙ hears-all (senderStepOf s c .sender) cs (known-step s c o)
+      ap (λ (b : Board). knownAfter b (senderOutcomeOf s c .sender) cs) (hears-own s c o) ∙ hears-all (senderOutcomeOf s c .sender) cs (known-call s c o)
 
   known-run : (s : Sender) (cs : List SenderCall) → Known kind count s → Known kind count (senderRun s cs)
   known-run s [] o = o
-  known-run s (c ∷ cs) o = known-run (senderStepOf s c .sender) cs (known-step s c o)
+  known-run s (c ∷ cs) o = known-run (senderOutcomeOf s c .sender) cs (known-call s c o)
 
   -- one who hears some of them
-  held-of : (held : Board) (s : Sender) (hears : Bool) → Of kind count held → Of kind count (takenOf s) → Of kind count (heldNow held s hears)
+  held-of : (held : Board) (s : Sender) (hears : Bool) → Of kind count held → Of kind count (takenOf s) → Of kind count (knownNow held s hears)
   held-of held s true h o = rw (told-whole kind count held (takenOf s) h o) o
   held-of held s false h o = h
 
-  with-of : (held : Board) (s : Sender) (ms : List Moment) → Of kind count held → Known kind count s → Of kind count (heldWith held s ms)
+  with-of : (held : Board) (s : Sender) (ms : List Moment) → Of kind count held → Known kind count s → Of kind count (knownWith held s ms)
   with-of held s [] h o = h
   with-of held s (m ∷ ms) h o =
-      let k = known-step s (m .call) o in
-      with-of (heldNow held (senderStepOf s (m .call) .sender) (m .hears)) (senderStepOf s (m .call) .sender) ms
-      (held-of held (senderStepOf s (m .call) .sender) (m .hears) h (k .outgoing)) k
+      let k = known-call s (m .call) o in
+      with-of (knownNow held (senderOutcomeOf s (m .call) .sender) (m .hears)) (senderOutcomeOf s (m .call) .sender) ms
+      (held-of held (senderOutcomeOf s (m .call) .sender) (m .hears) h (k .outgoing)) k
 
   with-last : (held : Board) (s : Sender) (ms : List Moment) (m : Moment) → Of kind count held → Known kind count s → m .hears ≡ true
-      → heldWith held s (ms ++ (m ∷ [])) ≡ takenOf (senderRun s (callsIn (ms ++ (m ∷ []))))
+      → knownWith held s (ms ++ (m ∷ [])) ≡ takenOf (senderRun s (callsIn (ms ++ (m ∷ []))))
   with-last held s [] m h o e =
-      rw e (ap (λ (a : Applied). a .board) (told-whole kind count held (takenOf (senderStepOf s (m .call) .sender)) h (known-step s (m .call) o .outgoing)))
+      rw e (ap (λ (a : Applied). a .board) (told-whole kind count held (takenOf (senderOutcomeOf s (m .call) .sender)) h (known-call s (m .call) o .outgoing)))
   with-last held s (x ∷ ms) m h o e =
-      let k = known-step s (x .call) o in
-      with-last (heldNow held (senderStepOf s (x .call) .sender) (x .hears)) (senderStepOf s (x .call) .sender) ms m
-      (held-of held (senderStepOf s (x .call) .sender) (x .hears) h (k .outgoing)) k e
+      let k = known-call s (x .call) o in
+      with-last (knownNow held (senderOutcomeOf s (x .call) .sender) (x .hears)) (senderOutcomeOf s (x .call) .sender) ms m
+      (held-of held (senderOutcomeOf s (x .call) .sender) (x .hears) h (k .outgoing)) k e
 
 module _ (kind count e : ℕ) where
   abbrev begun : Sender
@@ -118,25 +118,25 @@ module _ (kind count e : ℕ) where
   known = known-fresh sort slots (startOf kind count .table) e (sound-start kind count) refl refl
 
   -- Whatever calls come, with epochs started among them: who begins with the start's board and hears each start holds the board going out.
-  pub listener : (cs : List SenderCall) → heldAfter (takenOf begun) begun cs ≡ takenOf (senderAfter kind count e cs)
+  pub listener : (cs : List SenderCall) → knownAfter (takenOf begun) begun cs ≡ takenOf (senderAfter kind count e cs)
   listener cs = hears-all sort slots begun cs known
 
   -- and each list that she is told fits the board that she holds
   pub listener-done : (cs : List SenderCall) (c : SenderCall)
-      → toldFrom (takenOf (senderAfter kind count e cs)) (takenOf (senderAfter kind count e cs)) (takenOf (senderStepOf (senderAfter kind count e cs) c .sender))
-      ≡ record { board = takenOf (senderStepOf (senderAfter kind count e cs) c .sender); answer = Done }
+      → toldFrom (takenOf (senderAfter kind count e cs)) (takenOf (senderAfter kind count e cs)) (takenOf (senderOutcomeOf (senderAfter kind count e cs) c .sender))
+      ≡ record { board = takenOf (senderOutcomeOf (senderAfter kind count e cs) c .sender); answer = Done }
   listener-done cs c =
       let o = known-run sort slots begun cs known in
-      told-whole sort slots _ _ (o .outgoing) (known-step sort slots (senderAfter kind count e cs) c o .outgoing)
+      told-whole sort slots _ _ (o .outgoing) (known-call sort slots (senderAfter kind count e cs) c o .outgoing)
 
   -- One who missed any of them is told by one list from the last board heard, and then holds the board going out.
   pub caught-up : (ms : List Moment) (m : Moment) → m .hears ≡ true
-      → heldWith (takenOf begun) begun (ms ++ (m ∷ [])) ≡ takenOf (senderAfter kind count e (callsIn (ms ++ (m ∷ []))))
+      → knownWith (takenOf begun) begun (ms ++ (m ∷ [])) ≡ takenOf (senderAfter kind count e (callsIn (ms ++ (m ∷ []))))
   caught-up ms m h = with-last sort slots (takenOf begun) begun ms m (known .outgoing) known h
 
   -- Two who hear the same start hold the same board, whatever either missed before.
   pub both-same : (ms ns : List Moment) (m n : Moment) → m .hears ≡ true → n .hears ≡ true → callsIn (ms ++ (m ∷ [])) ≡ callsIn (ns ++ (n ∷ []))
-      → heldWith (takenOf begun) begun (ms ++ (m ∷ [])) ≡ heldWith (takenOf begun) begun (ns ++ (n ∷ []))
+      → knownWith (takenOf begun) begun (ms ++ (m ∷ [])) ≡ knownWith (takenOf begun) begun (ns ++ (n ∷ []))
   both-same ms ns m n h g same =
       caught-up ms m h ∙ ap (λ (cs : List SenderCall). takenOf (senderAfter kind count e cs)) same ∙ sym (caught-up ns n g)
 
@@ -146,7 +146,7 @@ module _ (kind count e : ℕ) where
     pub is : b ≡ boardOf source
     pub demand2 : Demand2 source
 
-  pub one-table : (ms : List Moment) → OneTable (heldWith (takenOf begun) begun ms)
+  pub one-table : (ms : List Moment) → OneTable (knownWith (takenOf begun) begun ms)
   one-table ms =
       let o = with-of sort slots (takenOf begun) begun ms (known .outgoing) known in
       record { source = o .source; is = o .is; demand2 = sound-demand2 (o .source) (o .sound) }

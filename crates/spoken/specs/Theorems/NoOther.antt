@@ -1,4 +1,5 @@
 -- No other list of changes fits the old board and gives the new one; and applying refuses what does not fit, and nothing else.
+-- The idea: a change that fits has the old row as its old side and another row as its new one, so a slot is in such a list exactly where the two boards differ. A list in which the slots rise is given by which slots are in it: going through the first n slots, it is the one that is spoken.
 use mathlib.Core.Path.{_≡_, refl, sym, _∙_, ap}
 use mathlib.Core.Logic.{⊎-elim, _≢_}
 use mathlib.Core.Bool.{Bool, true, false, cond, not, _&&_, false≢true}

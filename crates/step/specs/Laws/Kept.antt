@@ -42,8 +42,8 @@ placed-counts kind x h place d e =
     counts-as kind t h g sent (place ∙ sym (sent-place kind x g sent)) (λ z. absurd (d z)) (λ z. absurd (e z))
 
 -- so at most so many in a row break it before the frame with a tag
-unfoldable pub few : ℕ → ℕ → ℕ
-few kind t = cond (eqb (placeOf kind t) (lead kind + 1)) 1 (cond (eqb (placeOf kind t) (lead kind + 2)) 2 0)
+unfoldable pub mostBreaks : ℕ → ℕ → ℕ
+mostBreaks kind t = cond (eqb (placeOf kind t) (lead kind + 1)) 1 (cond (eqb (placeOf kind t) (lead kind + 2)) 2 0)
 
 place-next : (kind x : ℕ) → placeOf kind (tagOf kind (x + 1)) ≡ (placeOf kind (tagOf kind x) + 1) % frames kind
 place-next kind x =
@@ -56,26 +56,26 @@ third-within kind = by (λ L E N l. l + 2 < L) (omega arith) (omega arith) kind
 
 record Fewer (kind x b : ℕ) : Type 0 where
   three : b < 3
-  more : b + 1 ≤ few kind (tagOf kind (x + 1))
+  more : b + 1 ≤ mostBreaks kind (tagOf kind (x + 1))
 
-few-on : (kind x h b : ℕ) → nibblePlace kind h ≡ placeOf kind (tagOf kind x) → counts kind (tagOf kind x) h ≡ false → b ≤ few kind (tagOf kind x) → Fewer kind x b
-unfolding few
+few-on : (kind x h b : ℕ) → nibblePlace kind h ≡ placeOf kind (tagOf kind x) → counts kind (tagOf kind x) h ≡ false → b ≤ mostBreaks kind (tagOf kind x) → Fewer kind x b
+unfolding mostBreaks
 few-on kind x h b place broken l =
     let within = third-within kind in
     let p : ℕ = placeOf kind (tagOf kind x) in
     ⊎-elim
     (λ (e : placeOf kind (tagOf kind x) ≡ lead kind).
-    let none : few kind (tagOf kind x) ≡ 0 = rw (e, ne-eqb (lead kind) (lead kind + 1) (λ (z : lead kind ≡ lead kind + 1). omega arith), ne-eqb (lead kind) (lead kind + 2) (λ (z : lead kind ≡ lead kind + 2). omega arith)) refl in
+    let none : mostBreaks kind (tagOf kind x) ≡ 0 = rw (e, ne-eqb (lead kind) (lead kind + 1) (λ (z : lead kind ≡ lead kind + 1). omega arith), ne-eqb (lead kind) (lead kind + 2) (λ (z : lead kind ≡ lead kind + 2). omega arith)) refl in
     let next : placeOf kind (tagOf kind (x + 1)) ≡ lead kind + 1 = place-next kind x ∙ rw e (mod-eq-of-lt (omega arith)) in
-    let one : few kind (tagOf kind (x + 1)) ≡ 1 = rw (next, eq-eqb (lead kind + 1) (lead kind + 1) refl) refl in
+    let one : mostBreaks kind (tagOf kind (x + 1)) ≡ 1 = rw (next, eq-eqb (lead kind + 1) (lead kind + 1) refl) refl in
     let zero : b ≤ 0 = rw none at l in
     record { three = omega arith; more = rw one (omega arith) })
     (λ (d : placeOf kind (tagOf kind x) ≢ lead kind).
     ⊎-elim
     (λ (e : placeOf kind (tagOf kind x) ≡ lead kind + 1).
-    let one : few kind (tagOf kind x) ≡ 1 = rw (e, eq-eqb (lead kind + 1) (lead kind + 1) refl) refl in
+    let one : mostBreaks kind (tagOf kind x) ≡ 1 = rw (e, eq-eqb (lead kind + 1) (lead kind + 1) refl) refl in
     let next : placeOf kind (tagOf kind (x + 1)) ≡ lead kind + 2 = place-next kind x ∙ rw e (mod-eq-of-lt (omega arith) ∙ omega arith) in
-    let two : few kind (tagOf kind (x + 1)) ≡ 2 = rw (next, ne-eqb (lead kind + 2) (lead kind + 1) (λ (z : lead kind + 2 ≡ lead kind + 1). omega arith), eq-eqb (lead kind + 2) (lead kind + 2) refl) refl in
+    let two : mostBreaks kind (tagOf kind (x + 1)) ≡ 2 = rw (next, ne-eqb (lead kind + 2) (lead kind + 1) (λ (z : lead kind + 2 ≡ lead kind + 1). omega arith), eq-eqb (lead kind + 2) (lead kind + 2) refl) refl in
     let most : b ≤ 1 = rw one at l in
     record { three = omega arith; more = rw two (omega arith) })
     (λ (f : placeOf kind (tagOf kind x) ≢ lead kind + 1). absurd (true≢false (sym (placed-counts kind x h place d f) ∙ broken)))
@@ -86,7 +86,7 @@ few-on kind x h b place broken l =
 pub record Stays (kind x : ℕ) (run : Run) : Type 0 where
   pub count : inStepAt kind (run .count) ≡ true
   pub next : run .next ≡ tagOf kind x
-  pub breaks : run .breaks ≤ few kind (tagOf kind x)
+  pub breaks : run .breaks ≤ mostBreaks kind (tagOf kind x)
   pub even : run .odd ≡ 0
 
 pub kept : (kind x : ℕ) (run : Run) (odd : Bool) (h : ℕ) → Stays kind x run → nibblePlace kind h ≡ placeOf kind (tagOf kind x) → odd ≡ false → Stays kind (x + 1) (runOn kind run odd h)

@@ -1,4 +1,5 @@
--- The step rule on frames as sent: when a port comes into step, and that it stays so.
+-- The step rule on frames as sent: a port is in step exactly from the frame at which two multiframes have come since the first with MFI1 0, and stays so with the tag of its position.
+-- The idea: the run after the frame at position x is written down outright (`runAt`), and one frame more leads from it to the next (`run-goes`).
 use mathlib.Core.Path.{_≡_, refl, _∙_, sym, ap}
 use mathlib.Core.Logic.{⊎-elim, _≢_}
 use mathlib.Core.Bool.{Bool, true, false, cond, not, _&&_}

@@ -1,6 +1,6 @@
 -- The call meets its contract: 9, 1, and then what the card answers.
--- Refused, the state is as given (`step-shut`). Otherwise the state is a card's (`opened`), and of what it is afterwards the owner row and the group's part are written (`step-kept`).
-use Rattle.c_face.proofs.TwoGroups.{opened, step-shut, step-kept}
+-- Refused, the state is as given (`call-shut`). Otherwise the state is a card's (`opened`), and of what it is afterwards the owner row and the group's part are written (`call-kept`).
+use Rattle.c_face.proofs.TwoGroups.{opened, call-shut, call-kept}
 use Rattle.circuits.specs.Calls.Call.{AddSlot}
 use native.Mathlib.Omega.{arith}
 use mathlib.Core.Bool.{true}
@@ -15,7 +15,7 @@ returns : tie.Need-returns
 returns c =
     let at-start = c .before .before .before in
     let args = at-start .args in
-    step-shut (args .state .now) (args .group) _ (c .before .refusal .ensures) (c .if1 .taken) true (AddSlot (args .slot))
+    call-shut (args .state .now) (args .group) _ (c .before .refusal .ensures) (c .if1 .taken) true (AddSlot (args .slot))
 
 own-card-requires : tie.Need-own-card-requires
 own-card-requires c κs =
@@ -45,7 +45,7 @@ returns-2 c =
     let at-refusal = at-if1 .before in
     let at-start = at-refusal .before .before in
     let args = at-start .args in
-    step-kept (args .state .now) (args .group) (opened (args .state .now) (args .group) _ (at-refusal .refusal .ensures) (at-if1 .if1 .left)) _ (at-own-card .own-card .ensures) true (AddSlot (args .slot)) _ _ _ refl (at-add .add .ensures) (at-keep .keep .ensures)
+    call-kept (args .state .now) (args .group) (opened (args .state .now) (args .group) _ (at-refusal .refusal .ensures) (at-if1 .if1 .left)) _ (at-own-card .own-card .ensures) true (AddSlot (args .slot)) _ _ _ refl (at-add .add .ensures) (at-keep .keep .ensures)
 
 pub levelspruce-card-add-spec : {M : Type 1} → statement M
 levelspruce-card-add-spec =

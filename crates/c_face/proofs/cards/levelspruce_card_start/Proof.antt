@@ -1,6 +1,6 @@
 -- The call meets its contract: 4, 9, 8, and then a card of two fresh groups.
 -- Five exits, one for each way through the length, the count and the two epoch numbers; under 4 with a right length an empty card is written. Each cites its law of TwoGroups.
-use Rattle.c_face.proofs.Stepping.{Three, three-said}
+use Rattle.c_face.proofs.SenderCalls.{Three, three-said}
 use Rattle.c_face.proofs.TwoGroups.{start-none, start-length, start-outside, start-unfit, start-done}
 use native.Mathlib.Omega.{arith}
 use borrow.Author.Tests.{not-true, not-false}

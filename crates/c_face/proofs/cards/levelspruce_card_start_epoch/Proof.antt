@@ -1,7 +1,7 @@
 -- The call meets its contract: 9, 1, 8 for a field that is no byte, and then what the group's sender answers.
--- Refused, the state is as given (`step-shut`). Otherwise the state is a card's (`opened`), and of what it is afterwards the owner row and the group's part are written (`step-kept`).
-use Rattle.c_face.proofs.Stepping.{Three, three-said}
-use Rattle.c_face.proofs.TwoGroups.{opened, step-shut, step-unfit, step-kept}
+-- Refused, the state is as given (`call-shut`). Otherwise the state is a card's (`opened`), and of what it is afterwards the owner row and the group's part are written (`call-kept`).
+use Rattle.c_face.proofs.SenderCalls.{Three, three-said}
+use Rattle.c_face.proofs.TwoGroups.{opened, call-shut, call-unfit, call-kept}
 use Rattle.c_face.specs.Senders.{areBytes}
 use Rattle.circuits.specs.Calls.Call.{StartEpoch}
 use native.Mathlib.Omega.{arith}
@@ -17,7 +17,7 @@ returns : tie.Need-returns
 returns c =
     let at-start = c .before .before .before in
     let args = at-start .args in
-    step-shut (args .state .now) (args .group) _ (c .before .refusal .ensures) (c .if1 .taken) (areBytes (args .gid) (args .mst) (args .rs-ack)) (StartEpoch (args .gid) (args .mst) (args .rs-ack))
+    call-shut (args .state .now) (args .group) _ (c .before .refusal .ensures) (c .if1 .taken) (areBytes (args .gid) (args .mst) (args .rs-ack)) (StartEpoch (args .gid) (args .mst) (args .rs-ack))
 
 are-bytes-requires : tie.Need-are-bytes-requires
 are-bytes-requires c κs = omega arith
@@ -28,7 +28,7 @@ returns-2 c =
     let at-refusal = at-if1 .before in
     let at-start = at-refusal .before .before in
     let args = at-start .args in
-    step-unfit (args .state .now) (args .group) (opened (args .state .now) (args .group) _ (at-refusal .refusal .ensures) (at-if1 .if1 .left)) (areBytes (args .gid) (args .mst) (args .rs-ack)) (StartEpoch (args .gid) (args .mst) (args .rs-ack)) (sym (c .before .are-bytes .ensures) ∙ not-true _ (c .if2 .taken))
+    call-unfit (args .state .now) (args .group) (opened (args .state .now) (args .group) _ (at-refusal .refusal .ensures) (at-if1 .if1 .left)) (areBytes (args .gid) (args .mst) (args .rs-ack)) (StartEpoch (args .gid) (args .mst) (args .rs-ack)) (sym (c .before .are-bytes .ensures) ∙ not-true _ (c .if2 .taken))
 
 own-card-requires : tie.Need-own-card-requires
 own-card-requires c κs =
@@ -85,7 +85,7 @@ returns-3 c =
     let at-refusal = at-if1 .before in
     let at-start = at-refusal .before .before in
     let args = at-start .args in
-    step-kept (args .state .now) (args .group) (opened (args .state .now) (args .group) _ (at-refusal .refusal .ensures) (at-if1 .if1 .left)) _ (at-own-card .own-card .ensures) (areBytes (args .gid) (args .mst) (args .rs-ack)) (StartEpoch (args .gid) (args .mst) (args .rs-ack)) _ _ _ (sym (at-are-bytes .are-bytes .ensures) ∙ not-false _ (at-if2 .if2 .left)) (at-start-epoch .start-epoch .ensures) (at-keep .keep .ensures)
+    call-kept (args .state .now) (args .group) (opened (args .state .now) (args .group) _ (at-refusal .refusal .ensures) (at-if1 .if1 .left)) _ (at-own-card .own-card .ensures) (areBytes (args .gid) (args .mst) (args .rs-ack)) (StartEpoch (args .gid) (args .mst) (args .rs-ack)) _ _ _ (sym (at-are-bytes .are-bytes .ensures) ∙ not-false _ (at-if2 .if2 .left)) (at-start-epoch .start-epoch .ensures) (at-keep .keep .ensures)
 
 pub levelspruce-card-start-epoch-spec : {M : Type 1} → statement M
 levelspruce-card-start-epoch-spec =

@@ -1,16 +1,16 @@
 use mathlib.Core.Bool.{true}
 use mathlib.Core.Path.{refl}
 use native.Mathlib.Omega.{arith}
-use Rattle.c_face.proofs.Stepping.{step-length, step-kept}
+use Rattle.c_face.proofs.SenderCalls.{call-length, call-kept}
 use Rattle.c_face.proofs.senders.levelspruce_sender_add.Statement.{statement}
+use Rattle.sender.specs.Calls.Call.{AddSlot}
 use Rattle.sender.specs.Epochs.SenderCall.{OnTable}
-use Rattle.sender.specs.Steps.Call.{AddSlot}
 use Rattle.c_face.proofs.senders.levelspruce_sender_add.Tie as tie
 
 returns : tie.Need-returns
 returns c =
     let at-start = c .before .before in
-    step-length _ true (OnTable (AddSlot (at-start .args .slot))) (c .if1 .taken)
+    call-length _ true (OnTable (AddSlot (at-start .args .slot))) (c .if1 .taken)
 
 sender-of-requires : tie.Need-sender-of-requires
 sender-of-requires c κs = omega arith
@@ -31,7 +31,7 @@ returns-2 c =
     let at-sender-of = at-add .before in
     let at-if1 = at-sender-of .before .before in
     let at-start = at-if1 .before .before in
-    step-kept _ true (OnTable (AddSlot (at-start .args .slot))) _ _ _ _ (at-if1 .if1 .left) refl (at-sender-of .sender-of .ensures) (at-add .add .ensures) (at-keep .keep .ensures)
+    call-kept _ true (OnTable (AddSlot (at-start .args .slot))) _ _ _ _ (at-if1 .if1 .left) refl (at-sender-of .sender-of .ensures) (at-add .add .ensures) (at-keep .keep .ensures)
 
 pub levelspruce-sender-add-spec : {M : Type 1} → statement M
 levelspruce-sender-add-spec =

@@ -1,5 +1,5 @@
 use native.Mathlib.Omega.{arith}
-use Rattle.c_face.proofs.Stepping.{packet-length, packet-own}
+use Rattle.c_face.proofs.SenderCalls.{packet-length, packet-own}
 use Rattle.c_face.proofs.senders.levelspruce_sender_packet.Statement.{statement}
 use Rattle.c_face.proofs.senders.levelspruce_sender_packet.Tie as tie
 

@@ -1,5 +1,5 @@
 use native.Mathlib.Omega.{arith}
-use Rattle.c_face.proofs.Stepping.{payload-length, payload-own}
+use Rattle.c_face.proofs.SenderCalls.{payload-length, payload-own}
 use Rattle.c_face.proofs.senders.levelspruce_sender_payload.Statement.{statement}
 use Rattle.c_face.proofs.senders.levelspruce_sender_payload.Tie as tie
 

@@ -4,17 +4,17 @@ use mathlib.Core.Path.{_∙_, sym}
 use native.Mathlib.Omega.{arith}
 use borrow.Author.Tests.{not-true, not-false}
 use Rattle.c_face.specs.Senders.{areBytes}
-use Rattle.c_face.proofs.Stepping.{Three, step-length, step-unfit, step-kept, three-said}
+use Rattle.c_face.proofs.SenderCalls.{Three, call-length, call-unfit, call-kept, three-said}
 use Rattle.c_face.proofs.senders.levelspruce_sender_report.Statement.{statement}
+use Rattle.sender.specs.Calls.Call.{Report}
 use Rattle.sender.specs.Epochs.SenderCall.{OnTable}
-use Rattle.sender.specs.Steps.Call.{Report}
 use Rattle.c_face.proofs.senders.levelspruce_sender_report.Tie as tie
 
 returns : tie.Need-returns
 returns c =
     let at-start = c .before .before in
     let args = at-start .args in
-    step-length _ (areBytes (args .epoch) (args .mst) (args .rs-ack)) (OnTable (Report (args .epoch) (args .mst) (args .rs-ack))) (c .if1 .taken)
+    call-length _ (areBytes (args .epoch) (args .mst) (args .rs-ack)) (OnTable (Report (args .epoch) (args .mst) (args .rs-ack))) (c .if1 .taken)
 
 are-bytes-requires : tie.Need-are-bytes-requires
 are-bytes-requires c κs = omega arith
@@ -24,7 +24,7 @@ returns-2 c =
     let at-if1 = c .before .before in
     let at-start = at-if1 .before .before in
     let args = at-start .args in
-    step-unfit _ (areBytes (args .epoch) (args .mst) (args .rs-ack)) (OnTable (Report (args .epoch) (args .mst) (args .rs-ack))) (at-if1 .if1 .left) (sym (c .before .are-bytes .ensures) ∙ not-true _ (c .if2 .taken))
+    call-unfit _ (areBytes (args .epoch) (args .mst) (args .rs-ack)) (OnTable (Report (args .epoch) (args .mst) (args .rs-ack))) (at-if1 .if1 .left) (sym (c .before .are-bytes .ensures) ∙ not-true _ (c .if2 .taken))
 
 sender-of-requires : tie.Need-sender-of-requires
 sender-of-requires c κs = omega arith
@@ -72,7 +72,7 @@ returns-3 c =
     let at-if1 = at-are-bytes .before in
     let at-start = at-if1 .before .before in
     let args = at-start .args in
-    step-kept _ (areBytes (args .epoch) (args .mst) (args .rs-ack)) (OnTable (Report (args .epoch) (args .mst) (args .rs-ack))) _ _ _ _ (at-if1 .if1 .left) (sym (at-are-bytes .are-bytes .ensures) ∙ not-false _ (at-if2 .if2 .left)) (at-sender-of .sender-of .ensures) (at-report .report .ensures) (at-keep .keep .ensures)
+    call-kept _ (areBytes (args .epoch) (args .mst) (args .rs-ack)) (OnTable (Report (args .epoch) (args .mst) (args .rs-ack))) _ _ _ _ (at-if1 .if1 .left) (sym (at-are-bytes .are-bytes .ensures) ∙ not-false _ (at-if2 .if2 .left)) (at-sender-of .sender-of .ensures) (at-report .report .ensures) (at-keep .keep .ensures)
 
 pub levelspruce-sender-report-spec : {M : Type 1} → statement M
 levelspruce-sender-report-spec =

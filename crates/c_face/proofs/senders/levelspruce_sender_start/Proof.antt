@@ -1,6 +1,6 @@
 use mathlib.Core.Path.{_∙_, sym}
 use native.Mathlib.Omega.{arith}
-use Rattle.c_face.proofs.Stepping.{start-none, start-length, start-outside, start-unfit, start-done}
+use Rattle.c_face.proofs.SenderCalls.{start-none, start-length, start-outside, start-unfit, start-done}
 use Rattle.c_face.proofs.senders.levelspruce_sender_start.Statement.{statement}
 use Rattle.c_face.proofs.senders.levelspruce_sender_start.Tie as tie
 

@@ -9,8 +9,8 @@ use lib.ListN.{length}
 use borrow.Author.Tests.{eqb-true, ltb-true}
 use Rattle.invariant.specs.Kept.Group.{Kept, Lasting}
 use Rattle.invariant.specs.Proofs.Kept.Settling.{SteadyOf, steady-settled}
-use Rattle.invariant.specs.Proofs.Kept.Steps.{lasting-frame, lasting-passed}
 use Rattle.invariant.specs.Proofs.Kept.Told.{lasting-told}
+use Rattle.invariant.specs.Proofs.Kept.WithinCall.{lasting-frame, lasting-passed}
 use Rattle.invariant.specs.Proofs.Settles.{settles-always}
 use Rattle.counting.specs.Laws.Tests.{every-ext}
 use Rattle.ground.specs.Truth.{and-left, and-right, clash, cond-by}

@@ -6,7 +6,7 @@ use Prim.Native.Nat.{ℕ, _<_}
 use native.Mathlib.Omega.{arith}
 use lib.ListN.{length}
 use Rattle.invariant.specs.Kept.Group.{Lasting}
-use Rattle.invariant.specs.Proofs.Kept.Steps.{lasting-begun, lasting-passed, lasting-stopped}
+use Rattle.invariant.specs.Proofs.Kept.WithinCall.{lasting-begun, lasting-passed, lasting-stopped}
 use Rattle.ground.specs.Truth.{and-left, and-right, cond-by}
 use Rattle.phases.specs.Beginning.{begins}
 use Rattle.phases.specs.Due.{brought, silent}

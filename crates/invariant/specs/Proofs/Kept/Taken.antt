@@ -1,4 +1,5 @@
--- What a frame leaves of its port: each case of takenOf.
+-- What a frame leaves of its port keeps what is kept of ports (`taken-kept`): each case of takenOf.
+-- The idea: a port out of step claims nothing, so nothing is asked of it. In step the tag moves on by one, and so does the distance from the window's first; marks and joining are asked about only where that distance lies in the window.
 use mathlib.Core.Path.{_≡_, refl, sym, _∙_}
 use mathlib.Core.Logic.{⊎-elim, _≢_}
 use mathlib.Core.Bool.{Bool, true, false, cond, _&&_, true≢false, and-false}

@@ -9,17 +9,17 @@ use lib.Dec.{eqb, ltb}
 use lib.ListN.{length}
 use borrow.Author.Tests.{eq-eqb, eqb-false, eqb-true, ne-eqb}
 use Rattle.ground.specs.Truth.{cond-by, eq-or-ne}
-use Rattle.invariant.specs.Calls.{Fetch, Frame, Receiver, ReceiverCall, portAfter, receiverRun, receiverStep, startedWith, storeAfter}
+use Rattle.invariant.specs.Calls.{Fetch, Frame, Receiver, ReceiverCall, portAfter, receiverAfter, receiverRun, startedWith, storeAfter}
 use Rattle.invariant.specs.Kept.Group.{Kept}
 use Rattle.invariant.specs.Kept.Run.{RunKept}
 use Rattle.invariant.specs.Live.{Live, LiveRow, heardOf, heardWith, isHeard}
-use Rattle.invariant.specs.Proofs.Calls.{step-kept}
+use Rattle.invariant.specs.Proofs.Calls.{call-kept}
 use Rattle.invariant.specs.Proofs.Kept.Start.{started-kept, started-with}
 use Rattle.invariant.specs.Proofs.Laws.Settling.{settled-by}
 use Rattle.invariant.specs.Proofs.Laws.Started.{accepted}
 use Rattle.invariant.specs.Proofs.Live.Rows.{live-none, packet-came, packet-judged}
 use Rattle.invariant.specs.Proofs.Live.Runs.{Took, live-took, taken-took}
-use Rattle.invariant.specs.Proofs.Sizes.{run-sizes, step-sizes}
+use Rattle.invariant.specs.Proofs.Sizes.{call-sizes, run-sizes}
 use Rattle.phases.specs.Laws.Cleared.{begun-port, clearedOn, stopped-port}
 use Rattle.phases.specs.Laws.Lengths.{length-passed, length-stopped}
 use Rattle.phases.specs.Laws.Passed.{passed-of-port, passedOn}
@@ -201,16 +201,16 @@ fetch-live s k store out report j c heard live =
 abbrev LiveOf : Receiver → ℕ → List ℕ → Type 0
 LiveOf x j heard = LiveIn (groupAt (x .rows) .kind) (portAt (x .rows) j) heard
 
-step-live : (x : Receiver) (c : ReceiverCall) → Kept (x .rows) → (j : ℕ) → j < groupAt (x .rows) .count → (heard : List ℕ) → LiveOf x j heard → LiveOf (receiverStep x c) j (heardWith j x c heard)
-step-live x (Frame i failed h payload) k j b heard o =
-    rw (step-sizes x (Frame i failed h payload) k .kind) (frame-live (x .rows) k i failed h payload (x .store) j b heard o)
-step-live x (Fetch out report) k j b heard o = rw (step-sizes x (Fetch out report) k .kind) (fetch-live (x .rows) k (x .store) out report j b heard o)
+call-live : (x : Receiver) (c : ReceiverCall) → Kept (x .rows) → (j : ℕ) → j < groupAt (x .rows) .count → (heard : List ℕ) → LiveOf x j heard → LiveOf (receiverAfter x c) j (heardWith j x c heard)
+call-live x (Frame i failed h payload) k j b heard o =
+    rw (call-sizes x (Frame i failed h payload) k .kind) (frame-live (x .rows) k i failed h payload (x .store) j b heard o)
+call-live x (Fetch out report) k j b heard o = rw (call-sizes x (Fetch out report) k .kind) (fetch-live (x .rows) k (x .store) out report j b heard o)
 
 run-live : (x : Receiver) (calls : List ReceiverCall) → Kept (x .rows) → (j : ℕ) → j < groupAt (x .rows) .count → (heard : List ℕ) → LiveOf x j heard
     → LiveOf (receiverRun x calls) j (heardOf j x calls heard)
 run-live x [] k j b heard o = o
 run-live x (c ∷ calls) k j b heard o =
-    run-live (receiverStep x c) calls (step-kept x c k) j (rw (step-sizes x c k .count) b) (heardWith j x c heard) (step-live x c k j b heard o)
+    run-live (receiverAfter x c) calls (call-kept x c k) j (rw (call-sizes x c k .count) b) (heardWith j x c heard) (call-live x c k j b heard o)
 
 module _ (kind count P W : ℕ) (hold restore : List ℕ) (rows : List (List ℕ)) (store : List ℕ) (e : startAsAnswer kind count P W (length store) hold restore (length rows) ≡ 0) (calls : List ReceiverCall) (j : ℕ) (b : j < count) where
   abbrev x : Receiver

@@ -1,4 +1,5 @@
 -- 'the host may hand the frame again after a report': a frame answered 11, handed again after a report, with no other frame of that port and no stop in between, is answered 0 and stored.
+-- The idea: while a port is handed nothing its step record stands still (`Still`), and each epoch passed brings the window nearer to its tag by an epoch's frames, never past it. So after a report the tag lies in the window.
 use mathlib.Core.Path.{_≡_, refl, sym, ap, _∙_}
 use mathlib.Core.Logic.{⊎-elim, _≢_}
 use mathlib.Core.Bool.{Bool, true, false, cond, _&&_, true≢false}
@@ -8,18 +9,18 @@ use native.Mathlib.Omega.{arith}
 use lib.Dec.{eqb, ltb}
 use lib.ListN.{getD, length}
 use borrow.Author.Tests.{eq-eqb, ne-eqb, lt-ltb}
-use Rattle.invariant.specs.Proofs.Arriving.{Counts, after-group, frame-by}
-use Rattle.invariant.specs.Proofs.Calls.{run-kept, step-kept}
-use Rattle.invariant.specs.Proofs.Kept.Calls.{Due, due-says}
 use Rattle.invariant.specs.Kept.Group.{Kept, Lasting}
-use Rattle.invariant.specs.Proofs.Kept.Passing.{ahead}
 use Rattle.invariant.specs.Kept.Port.{Windowed, offset}
-use Rattle.invariant.specs.Proofs.Kept.Steps.{brought-owes-nothing, lasting-frame, windowed}
+use Rattle.invariant.specs.Proofs.Arriving.{Counts, after-group, frame-by}
+use Rattle.invariant.specs.Proofs.Calls.{call-kept, run-kept}
+use Rattle.invariant.specs.Proofs.Kept.Calls.{Due, due-says}
+use Rattle.invariant.specs.Proofs.Kept.Passing.{ahead}
+use Rattle.invariant.specs.Proofs.Kept.WithinCall.{brought-owes-nothing, lasting-frame, windowed}
 use Rattle.invariant.specs.Proofs.Laws.Flags.{true-or-false}
 use Rattle.invariant.specs.Proofs.Laws.Settling.{settled-by}
 use Rattle.invariant.specs.Proofs.Laws.Window.{distance-passed, tag-next}
 use Rattle.invariant.specs.Proofs.Reports.Groups.{fetch-none}
-use Rattle.invariant.specs.Proofs.Sizes.{run-sizes, step-sizes}
+use Rattle.invariant.specs.Proofs.Sizes.{call-sizes, run-sizes}
 use Rattle.ground.specs.Truth.{and-left, and-right, clash}
 use Rattle.judge.specs.Seen.{sizeOf}
 use Rattle.packet.specs.Kinds.{frames}
@@ -59,7 +60,7 @@ use Rattle.store.specs.Frames.{placeIn, storedAt}
 use Rattle.store.specs.Laws.Stands.{stands-put}
 use Rattle.store.specs.Laws.Stored.{length-stored}
 use Rattle.store.specs.Marks.{firstMark}
-use Rattle.invariant.specs.Calls.{Fetch, Frame, Receiver, ReceiverCall, portAfter, receiverRun, receiverStep, storeAfter}
+use Rattle.invariant.specs.Calls.{Fetch, Frame, Receiver, ReceiverCall, portAfter, receiverAfter, receiverRun, storeAfter}
 use Rattle.invariant.specs.Reports.{Given, Others, Stored, Unstopped, epochGiven, gives, reportsOf, stopsWith}
 
 -- What 11 says of a port.
@@ -199,12 +200,12 @@ module _ (i : ℕ) (run : Run) (gathering : List ℕ) (joined : ℕ) (on : flagO
       → StillIn far (receiverRun x calls .rows)
   run-still far x [] k b a u o = o
   run-still far x (Frame j failed h payload ∷ calls) k b a u o =
-      let y : Receiver = receiverStep x (Frame j failed h payload) in
-      run-still far y calls (step-kept x (Frame j failed h payload) k) (rw (step-sizes x (Frame j failed h payload) k .count) b) (a .1) (u .1)
+      let y : Receiver = receiverAfter x (Frame j failed h payload) in
+      run-still far y calls (call-kept x (Frame j failed h payload) k) (rw (call-sizes x (Frame j failed h payload) k .count) b) (a .1) (u .1)
       (frame-still far (x .rows) k b j failed h payload (x .store) (a .0) (u .0) o)
   run-still far x (Fetch out report ∷ calls) k b a u o =
-      let y : Receiver = receiverStep x (Fetch out report) in
-      run-still far y calls (step-kept x (Fetch out report) k) (rw (step-sizes x (Fetch out report) k .count) b) a u
+      let y : Receiver = receiverAfter x (Fetch out report) in
+      run-still far y calls (call-kept x (Fetch out report) k) (rw (call-sizes x (Fetch out report) k .count) b) a u
       (fetch-still far (x .rows) k b (x .store) out report o)
 
   -- with a report among the calls
@@ -213,25 +214,25 @@ module _ (i : ℕ) (run : Run) (gathering : List ℕ) (joined : ℕ) (on : flagO
   reported-still far less x [] k b a u o l some = absurd (some refl)
   reported-still far less x (Frame j failed h payload ∷ calls) k b a u o l some =
       let c : ReceiverCall = Frame j failed h payload in
-      reported-still far less (receiverStep x (Frame j failed h payload)) calls (step-kept x c k) (rw (step-sizes x c k .count) b) (a .1) (u .1)
-      (frame-still far (x .rows) k b j failed h payload (x .store) (a .0) (u .0) o) (rw (step-sizes x c k .kind) l) some
+      reported-still far less (receiverAfter x (Frame j failed h payload)) calls (call-kept x c k) (rw (call-sizes x c k .count) b) (a .1) (u .1)
+      (frame-still far (x .rows) k b j failed h payload (x .store) (a .0) (u .0) o) (rw (call-sizes x c k .kind) l) some
   reported-still far less x (Fetch out report ∷ calls) k b a u o l some =
       go (gives x out report) refl
-      (λ n. reported-still far less (receiverStep x (Fetch out report)) calls (step-kept x (Fetch out report) k) (rw (step-sizes x (Fetch out report) k .count) b) a u
-      (fetch-still far (x .rows) k b (x .store) out report o) (rw (step-sizes x (Fetch out report) k .kind) l) n)
+      (λ n. reported-still far less (receiverAfter x (Fetch out report)) calls (call-kept x (Fetch out report) k) (rw (call-sizes x (Fetch out report) k .count) b) a u
+      (fetch-still far (x .rows) k b (x .store) out report o) (rw (call-sizes x (Fetch out report) k .kind) l) n)
       some
     where
       y : Receiver
-      y = receiverStep x (Fetch out report)
+      y = receiverAfter x (Fetch out report)
 
-      go : (t : Bool) → gives x out report ≡ t → ((reportsOf (receiverStep x (Fetch out report)) calls ≡ [] → ⊥) → StillIn less (receiverRun (receiverStep x (Fetch out report)) calls .rows))
-          → (cond t (epochGiven x ∷ reportsOf (receiverStep x (Fetch out report)) calls) (reportsOf (receiverStep x (Fetch out report)) calls) ≡ [] → ⊥)
-          → StillIn less (receiverRun (receiverStep x (Fetch out report)) calls .rows)
+      go : (t : Bool) → gives x out report ≡ t → ((reportsOf (receiverAfter x (Fetch out report)) calls ≡ [] → ⊥) → StillIn less (receiverRun (receiverAfter x (Fetch out report)) calls .rows))
+          → (cond t (epochGiven x ∷ reportsOf (receiverAfter x (Fetch out report)) calls) (reportsOf (receiverAfter x (Fetch out report)) calls) ≡ [] → ⊥)
+          → StillIn less (receiverRun (receiverAfter x (Fetch out report)) calls .rows)
       go true e rest some =
           let s : List (List ℕ) = x .rows in
           let v : Given (x .rows) (x .store) out report =
           record { fitting = and-left (fits s (x .store) out report) (dueIn (groupAt s) (portsIn (groupAt s)) s) e; due = and-right (fits s (x .store) out report) (dueIn (groupAt s) (portsIn (groupAt s)) s) e } in
-          run-still less y calls (step-kept x (Fetch out report) k) (rw (step-sizes x (Fetch out report) k .count) b) a u
+          run-still less y calls (call-kept x (Fetch out report) k) (rw (call-sizes x (Fetch out report) k .count) b) a u
           (report-still far less s k b (x .store) out report v o l)
       go false e rest some = rest some
 
@@ -256,8 +257,8 @@ frame-length s i failed h payload store = go (eqb (frameRefusal s i (length payl
 pub run-length : (x : Receiver) (calls : List ReceiverCall) → length (receiverRun x calls .store) ≡ length (x .store)
 run-length x [] = refl
 run-length x (Frame i failed h payload ∷ calls) =
-    run-length (receiverStep x (Frame i failed h payload)) calls ∙ frame-length (x .rows) i failed h payload (x .store)
-run-length x (Fetch out report ∷ calls) = run-length (receiverStep x (Fetch out report)) calls
+    run-length (receiverAfter x (Frame i failed h payload)) calls ∙ frame-length (x .rows) i failed h payload (x .store)
+run-length x (Fetch out report ∷ calls) = run-length (receiverAfter x (Fetch out report)) calls
 
 -- what 11 says of the call
 answered : (s : List (List ℕ)) (i : ℕ) (failed : Bool) (h payload store : ℕ) → frameAnswer s i failed h payload store ≡ 11

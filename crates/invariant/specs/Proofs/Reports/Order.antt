@@ -23,7 +23,7 @@ use Rattle.receiver.specs.Report.{reportBy, reportOf}
 use Rattle.rows.specs.declared.group.Group.{Group}
 use Rattle.rows.specs.Group.{groupAt}
 use Rattle.step.specs.Arrival.{flagOf}
-use Rattle.invariant.specs.Calls.{Fetch, Frame, Receiver, ReceiverCall, portAfter, receiverStep, storeAfter}
+use Rattle.invariant.specs.Calls.{Fetch, Frame, Receiver, ReceiverCall, portAfter, receiverAfter, storeAfter}
 use Rattle.invariant.specs.Reports.{Gathers, Unstopped, epochGiven, gives, nextReport, reportsOf, stopsWith, successive}
 
 -- a report's epoch is the oldest one
@@ -72,33 +72,33 @@ pub in-order : (x : Receiver) (calls : List ReceiverCall) → flagOf (groupAt (x
     → reportsOf x calls ≡ successive (groupAt (x .rows) .kind) (nextReport (groupAt (x .rows))) (length (reportsOf x calls))
 in-order x [] b u = refl
 in-order x (Frame i failed h payload ∷ calls) b u =
-    let y : Receiver = receiverStep x (Frame i failed h payload) in
+    let y : Receiver = receiverAfter x (Frame i failed h payload) in
     let o = frame-goes x i failed h payload b (u .0) in
     in-order y calls (o .begun) (u .1)
     ∙ successive-same (groupAt (y .rows) .kind) (groupAt (x .rows) .kind) (nextReport (groupAt (y .rows))) (nextReport (groupAt (x .rows))) (length (reportsOf y calls)) (o .kind) (o .report)
-in-order x (Fetch out report ∷ calls) b u = go (gives x out report) refl (λ c. in-order (receiverStep x (Fetch out report)) calls c u)
+in-order x (Fetch out report ∷ calls) b u = go (gives x out report) refl (λ c. in-order (receiverAfter x (Fetch out report)) calls c u)
   where
     y : Receiver
-    y = receiverStep x (Fetch out report)
+    y = receiverAfter x (Fetch out report)
 
     rest : List ℕ
-    rest = reportsOf (receiverStep x (Fetch out report)) calls
+    rest = reportsOf (receiverAfter x (Fetch out report)) calls
 
     m : ℕ
-    m = length (reportsOf (receiverStep x (Fetch out report)) calls)
+    m = length (reportsOf (receiverAfter x (Fetch out report)) calls)
 
     next : ℕ
-    next = nextReport (groupAt (receiverStep x (Fetch out report) .rows))
+    next = nextReport (groupAt (receiverAfter x (Fetch out report) .rows))
 
     kind : ℕ
     kind = groupAt (x .rows) .kind
 
     go : (t : Bool) → gives x out report ≡ t
-        → (flagOf (groupAt (receiverStep x (Fetch out report) .rows) .begun) ≡ true → reportsOf (receiverStep x (Fetch out report)) calls
-        ≡ successive (groupAt (receiverStep x (Fetch out report) .rows) .kind) (nextReport (groupAt (receiverStep x (Fetch out report) .rows))) (length (reportsOf (receiverStep x (Fetch out report)) calls)))
-        → cond t (epochGiven x ∷ reportsOf (receiverStep x (Fetch out report)) calls) (reportsOf (receiverStep x (Fetch out report)) calls)
+        → (flagOf (groupAt (receiverAfter x (Fetch out report) .rows) .begun) ≡ true → reportsOf (receiverAfter x (Fetch out report)) calls
+        ≡ successive (groupAt (receiverAfter x (Fetch out report) .rows) .kind) (nextReport (groupAt (receiverAfter x (Fetch out report) .rows))) (length (reportsOf (receiverAfter x (Fetch out report)) calls)))
+        → cond t (epochGiven x ∷ reportsOf (receiverAfter x (Fetch out report)) calls) (reportsOf (receiverAfter x (Fetch out report)) calls)
         ≡ successive (groupAt (x .rows) .kind) (nextReport (groupAt (x .rows)))
-        (length (cond t (epochGiven x ∷ reportsOf (receiverStep x (Fetch out report)) calls) (reportsOf (receiverStep x (Fetch out report)) calls)))
+        (length (cond t (epochGiven x ∷ reportsOf (receiverAfter x (Fetch out report)) calls) (reportsOf (receiverAfter x (Fetch out report)) calls)))
     go true e r =
         let o = given-goes x out report e in
         let more = r (o .1 .begun) ∙ successive-same (groupAt (y .rows) .kind) kind next next m (o .1 .kind) refl in
@@ -109,7 +109,7 @@ in-order x (Fetch out report ∷ calls) b u = go (gives x out report) refl (λ c
         r (rw group b)
         ∙ successive-same (groupAt (y .rows) .kind) kind next (nextReport (groupAt (x .rows))) m (ap (λ (g : Group). g .kind) group) (ap nextReport group)
 
--- 'The next epoch to start after the foremost tag is gathered ..; the one after it is the first reported.'
+-- 'The next epoch to start after the foremost tag is gathered' and 'the one after it is the first reported'.
 pub first-reported : (s : List (List ℕ)) (i : ℕ) (failed : Bool) (h : ℕ) (payload store : List ℕ) → flagOf (groupAt s .begun) ≡ false
     → flagOf (groupAt (frameRows s i failed h payload store) .begun) ≡ true
     → nextReport (groupAt (frameRows s i failed h payload store))

@@ -12,7 +12,7 @@ use Rattle.ground.specs.Truth.{eq-or-ne, le-or-lt}
 use Rattle.invariant.specs.Proofs.Kept.Calls.{Due, due-says}
 use Rattle.invariant.specs.Proofs.Reports.Groups.{fetch-none}
 use Rattle.invariant.specs.Reports.{Given, passedRows}
-use Rattle.invariant.specs.Times.{heldIn, standingIn, standingsAfter}
+use Rattle.invariant.specs.Times.{standingIn, standingsAfter, waitingIn}
 use Rattle.phases.specs.Beginning.{begins}
 use Rattle.phases.specs.Due.{brought, silent}
 use Rattle.phases.specs.Laws.Lengths.{length-passed}
@@ -51,37 +51,37 @@ module _ (j : ℕ) where
   module _ (s : List (List ℕ)) where
     put-group : (g : Group) → Keeps s (putGroup s g)
     unfolding memberAt putGroup
-    put-group g = ap (λ (row : List ℕ). heldIn (memberOf row)) (row-other s 0 (groupRow g) (j * 5 + 2) (omega arith))
+    put-group g = ap (λ (row : List ℕ). waitingIn (memberOf row)) (row-other s 0 (groupRow g) (j * 5 + 2) (omega arith))
 
     module _ (i : ℕ) where
       put-step : (q : Step) → Keeps s (putStep s i q)
       unfolding memberAt putStep
-      put-step q = ap (λ (row : List ℕ). heldIn (memberOf row)) (row-other s (i * 5 + 1) (stepRow q) (j * 5 + 2) (omega arith))
+      put-step q = ap (λ (row : List ℕ). waitingIn (memberOf row)) (row-other s (i * 5 + 1) (stepRow q) (j * 5 + 2) (omega arith))
 
       put-marks : (row : List ℕ) → Keeps s (putMarks s i row)
       unfolding memberAt putMarks
-      put-marks row = ap (λ (r : List ℕ). heldIn (memberOf r)) (row-other s (i * 5 + 5) row (j * 5 + 2) (omega arith))
+      put-marks row = ap (λ (r : List ℕ). waitingIn (memberOf r)) (row-other s (i * 5 + 5) row (j * 5 + 2) (omega arith))
 
       put-packets : (pair : List (List ℕ)) → Keeps s (putPackets s i pair)
       unfolding memberAt putPackets
       put-packets pair =
-          ap (λ (row : List ℕ). heldIn (memberOf row))
+          ap (λ (row : List ℕ). waitingIn (memberOf row))
           (row-other (putRow s (i * 5 + 3) (getD pair 0 [])) (i * 5 + 4) (getD pair 1 []) (j * 5 + 2) (omega arith)
           ∙ row-other s (i * 5 + 3) (getD pair 0 []) (j * 5 + 2) (omega arith))
 
-      put-here : (m : Member) → heldIn m ≡ standingIn s i → standingIn (putMember s i m) i ≡ standingIn s i
+      put-here : (m : Member) → waitingIn m ≡ standingIn s i → standingIn (putMember s i m) i ≡ standingIn s i
       unfolding memberAt putMember
       put-here m e =
           ⊎-elim
-          (λ (b : length s ≤ i * 5 + 2). ap (λ (r : List (List ℕ)). heldIn (memberOf (rowIn r (i * 5 + 2)))) (sym (put-beyond s (i * 5 + 2) (memberRow m) b)))
-          (λ (b : i * 5 + 2 < length s). ap (λ (row : List ℕ). heldIn (memberOf row)) (row-same s (i * 5 + 2) (memberRow m) b) ∙ ap heldIn (member-back m) ∙ e)
+          (λ (b : length s ≤ i * 5 + 2). ap (λ (r : List (List ℕ)). waitingIn (memberOf (rowIn r (i * 5 + 2)))) (sym (put-beyond s (i * 5 + 2) (memberRow m) b)))
+          (λ (b : i * 5 + 2 < length s). ap (λ (row : List ℕ). waitingIn (memberOf row)) (row-same s (i * 5 + 2) (memberRow m) b) ∙ ap waitingIn (member-back m) ∙ e)
           (le-or-lt (length s) (i * 5 + 2))
 
       put-there : (m : Member) → j ≢ i → Keeps s (putMember s i m)
       unfolding memberAt putMember
-      put-there m d = ap (λ (row : List ℕ). heldIn (memberOf row)) (row-other s (i * 5 + 2) (memberRow m) (j * 5 + 2) (omega arith))
+      put-there m d = ap (λ (row : List ℕ). waitingIn (memberOf row)) (row-other s (i * 5 + 2) (memberRow m) (j * 5 + 2) (omega arith))
 
-      put-member : (m : Member) → heldIn m ≡ standingIn s i → Keeps s (putMember s i m)
+      put-member : (m : Member) → waitingIn m ≡ standingIn s i → Keeps s (putMember s i m)
       put-member m e = ⊎-elim (λ (q : j ≡ i). rw q (put-here m e)) (λ (d : j ≢ i). put-there m d) (eq-or-ne j i)
 
   -- an epoch passes
@@ -154,7 +154,7 @@ module _ (j : ℕ) where
   -- a report: state, number and counter are those that it works out, and the times stay
   pub report-standing : (s : List (List ℕ)) (store out report : List ℕ) → Given s store out report → j < portsIn (groupAt s)
       → standingIn (fetchRows s store out report) j
-      ≡ (let left = getD (standingsAfter s store) j noStanding in left .state ∷ left .number ∷ (memberAt s j .«hold_off») ∷ (memberAt s j .restore) ∷ left .run ∷ [])
+      ≡ (let left = getD (standingsAfter s store) j noStanding in left .state ∷ left .number ∷ (memberAt s j .«hold_off») ∷ (memberAt s j .restore) ∷ left .elapsed ∷ [])
   unfolding fetchRows rowsIfDue reportedOf fits withState
   report-standing s store out report o b =
       let n : ℕ = portsIn (groupAt s) in
@@ -167,5 +167,5 @@ module _ (j : ℕ) where
       let hold : memberAt p j .«hold_off» ≡ memberAt s j .«hold_off» = ap (λ (l : List ℕ). getD l 2 0) times in
       let wait : memberAt p j .restore ≡ memberAt s j .restore = ap (λ (l : List ℕ). getD l 3 0) times in
       rw (o .fitting, o .due)
-      (ap heldIn (sym (port-member _ j) ∙ ap (λ (q : Port). q .member) (told-of-port (groupAt p) n p j b whole) ∙ ap (λ (m : Member). withState m left) (port-member p j))
+      (ap waitingIn (sym (port-member _ j) ∙ ap (λ (q : Port). q .member) (told-of-port (groupAt p) n p j b whole) ∙ ap (λ (m : Member). withState m left) (port-member p j))
       ∙ rw (hold, wait) refl)

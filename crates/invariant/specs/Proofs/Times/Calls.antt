@@ -4,7 +4,7 @@ use mathlib.Core.Logic.{_≢_}
 use mathlib.Core.List.{List, [], _∷_}
 use Prim.Native.Nat.{ℕ}
 use lib.ListN.{length}
-use Rattle.invariant.specs.Calls.{Fetch, Frame, Receiver, ReceiverCall, receiverRun, receiverStep, startedWith}
+use Rattle.invariant.specs.Calls.{Fetch, Frame, Receiver, ReceiverCall, receiverAfter, receiverRun, startedWith}
 use Rattle.invariant.specs.Proofs.Times.Frames.{frame-answer, frame-rows, frame-store}
 use Rattle.invariant.specs.Proofs.Times.Reports.{fetch-answer, fetch-out, fetch-record, fetch-rows}
 use Rattle.invariant.specs.Proofs.Times.Rows.{SameButTimes}
@@ -29,20 +29,20 @@ outcome-same x y o (Fetch out report) =
     )
     refl
 
-step-same : (x y : Receiver) → Same x y → (c : ReceiverCall) → Same (receiverStep x c) (receiverStep y c)
-step-same x y o (Frame port failed h payload) =
+call-same : (x y : Receiver) → Same x y → (c : ReceiverCall) → Same (receiverAfter x c) (receiverAfter y c)
+call-same x y o (Frame port failed h payload) =
     record { rows = rw (o .store) (frame-rows (o .rows) port failed h payload (y .store)); store = rw (o .store, frame-store (o .rows) port failed h payload (y .store)) refl }
-step-same x y o (Fetch out report) = record { rows = rw (o .store) (fetch-rows (o .rows) (y .store) out report); store = o .store }
+call-same x y o (Fetch out report) = record { rows = rw (o .store) (fetch-rows (o .rows) (y .store) out report); store = o .store }
 
 run-same : (x y : Receiver) → Same x y → (calls : List ReceiverCall) → Same (receiverRun x calls) (receiverRun y calls)
 run-same x y o [] = o
-run-same x y o (c ∷ calls) = run-same (receiverStep x c) (receiverStep y c) (step-same x y o c) calls
+run-same x y o (c ∷ calls) = run-same (receiverAfter x c) (receiverAfter y c) (call-same x y o c) calls
 
 all-same : (x y : Receiver) → Same x y → (calls : List ReceiverCall) → outcomesOf x calls ≡ outcomesOf y calls
 all-same x y o [] = refl
 all-same x y o (c ∷ calls) =
-    let rest : outcomesOf (receiverStep x c) calls ≡ outcomesOf (receiverStep y c) calls = all-same (receiverStep x c) (receiverStep y c) (step-same x y o c) calls in
-    ap (λ (a : Outcome). a ∷ outcomesOf (receiverStep x c) calls) (outcome-same x y o c) ∙ ap (λ (l : List Outcome). outcomeOf y c ∷ l) rest
+    let rest : outcomesOf (receiverAfter x c) calls ≡ outcomesOf (receiverAfter y c) calls = all-same (receiverAfter x c) (receiverAfter y c) (call-same x y o c) calls in
+    ap (λ (a : Outcome). a ∷ outcomesOf (receiverAfter x c) calls) (outcome-same x y o c) ∙ ap (λ (l : List Outcome). outcomeOf y c ∷ l) rest
 
 module _ (kind count P W : ℕ) (hold restore hold₂ restore₂ : List ℕ) (rows rows₂ : List (List ℕ)) (store : List ℕ) where
   started : startAsAnswer kind count P W (length store) hold restore (length rows) ≡ 0 → startAsAnswer kind count P W (length store) hold₂ restore₂ (length rows₂) ≡ 0

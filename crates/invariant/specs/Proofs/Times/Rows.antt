@@ -31,7 +31,7 @@ untimed m =
       «told_number» = m .«told_number»;
       «hold_off» = 0;
       restore = 0;
-      run = 0;
+      elapsed = 0;
     }
 
 -- row k of both: the second row of a port is its member's

@@ -1,4 +1,4 @@
-use mathlib.Core.Path.{_∙_, sym, refl}
+use mathlib.Core.Path.{_∙_}
 use borrow.Author.Tests.{eq-eqb, ne-eqb}
 use Rattle.judge.proofs.Alone.{judge-first}
 use Rattle.judge.specs.Laws.Sizes.{size-le}

@@ -15,11 +15,11 @@ use Rattle.sender.specs.declared.epochs.Sender.{Sender}
 use Rattle.sender.specs.declared.epochs.SenderOutcome.{SenderOutcome}
 use Rattle.sender.specs.declared.table.Answer.the-variants.{Done, Field}
 use Rattle.sender.specs.declared.table.Table.{Table}
-use Rattle.sender.specs.Epochs.{SenderCall, beginOf, freshSender, senderRun, senderStepOf, startEpochOf, startedEpoch, startedSender}
+use Rattle.sender.specs.Calls.{Call}
+use Rattle.sender.specs.Epochs.{SenderCall, beginOf, freshSender, senderOutcomeOf, senderRun, startEpochOf, startedEpoch, startedSender}
 use Rattle.sender.specs.Epochs.SenderCall.{OnTable, StartEpoch}
-use Rattle.sender.specs.Laws.Kept.{group-step}
+use Rattle.sender.specs.Laws.Kept.{group-call}
 use Rattle.sender.specs.Laws.Sizes.{size-large, size-small}
-use Rattle.sender.specs.Steps.{Call}
 use Rattle.sender.specs.Table.{sizeOf}
 use Rattle.sender.specs.Theorems.Epochs.{SoundSender, onTable, sender-sound, senderAfter}
 use Rattle.sender.specs.Theorems.Packets.{AllGiven}
@@ -37,7 +37,7 @@ callsTo h (suc i) = callsTo h i ++ callsBefore h (suc i)
 
 run-append : (s : Sender) (a b : List SenderCall) → senderRun s (a ++ b) ≡ senderRun (senderRun s a) b
 run-append s [] b = refl
-run-append s (c ∷ a) b = run-append (senderStepOf s c .sender) a b
+run-append s (c ∷ a) b = run-append (senderOutcomeOf s c .sender) a b
 
 started-run : (h : History) (i : ℕ) (s : Sender) → startedOn h i s ≡ senderRun s (callsBefore h i)
 started-run h i s = sym (run-append s (onTable (h .before i)) (StartEpoch (h .gid i) (h .mst i) (h .ack i) ∷ []))
@@ -80,8 +80,8 @@ pub record Left (s r : Sender) : Type 0 where
 pub left : (s : Sender) (cs : List Call) → Left s (senderRun s (onTable cs))
 left s [] = record { count = refl; kind = refl; outgoing = refl; epoch = refl; begun = refl }
 left s (c ∷ cs) =
-    let o = left (senderStepOf s (OnTable c) .sender) cs in
-    let g = group-step (s .table) c in
+    let o = left (senderOutcomeOf s (OnTable c) .sender) cs in
+    let g = group-call (s .table) c in
     record { count = o .count ∙ g .count; kind = o .kind ∙ g .kind; outgoing = o .outgoing; epoch = o .epoch; begun = o .begun }
 
 later-epoch : (s : Sender) → s .begun ≡ true → startedEpoch s ≡ epochAfter (s .table .kind) (s .epoch)

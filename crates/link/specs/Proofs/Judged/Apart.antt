@@ -1,4 +1,4 @@
--- 'Client streams that differ in an epoch reported sure never come out alike': the bytes of a sure report determine the client's group frames.
+-- 'client streams that differ in an epoch reported sure never come out alike': the bytes of a sure report determine the client's group frames.
 use mathlib.Core.Path.{_≡_, refl, _∙_, sym, ap}
 use mathlib.Core.Logic.{⊎-elim, _⊎_, _≢_}
 use mathlib.Core.Bool.{Bool, true, false, cond}

@@ -15,8 +15,8 @@ use Rattle.link.specs.Running.{Moment, framed, through, turn, turns}
 use Rattle.link.specs.Proofs.Standing.{Before, First, Later, Owes}
 use Rattle.link.specs.Proofs.Transport.Fetches.{drained-answers}
 use Rattle.link.specs.Proofs.Transport.Moments.{Rest, rest-all, rest-tail, served-at}
-use Rattle.link.specs.Proofs.Transport.Steps.{Reach, Served}
-use Rattle.link.specs.Proofs.Transport.Times.{Phase, Steps, coming-is, phase, reach-coming, served-coming, turns-more}
+use Rattle.link.specs.Proofs.Transport.Served.{Reach, Served}
+use Rattle.link.specs.Proofs.Transport.Times.{CallsDo, Phase, coming-is, phase, reach-coming, served-coming, turns-more}
 use Rattle.link.specs.Proofs.Transport.Times.Phase.{before, first, later}
 
 module _ (r : Road) where
@@ -31,7 +31,7 @@ module _ (r : Road) where
   said-in : (p x : ℕ) → startFrom (r .kind) (r .offset) (r .first p) + L r * 2 ≤ x → said r p x ≡ 0
   said-in p x h = rw (le-leb (startFrom (r .kind) (r .offset) (r .first p) + L r * 2) (x + 1) (omega arith)) refl
 
-  module _ (m₀ : Moment) (f : Fair r) (s : Steps r) (a : Says) (start : Before r m₀ (r .first)) where
+  module _ (m₀ : Moment) (f : Fair r) (s : CallsDo r) (a : Says) (start : Before r m₀ (r .first)) where
     module _ (t p : ℕ) (done ps : List ℕ) (is-order : r .order t ≡ done ++ (p ∷ ps)) (o : Rest r (p ∷ ps)) where
       abbrev here : Moment
       here = reached r m₀ t done

@@ -1,4 +1,5 @@
 -- What a frame of an open window is: dropped before the window's first frame, joining at it, kept after it. Never is it refused.
+-- The idea: the port is in step, so the frame's tag is that of its position, and the distance of the tag from the window's first is the distance of the positions. Which of the three cases of `takenOf` it is goes by that distance alone.
 use mathlib.Core.Path.{_≡_, refl, sym, ap, _∙_}
 use mathlib.Core.Logic.{_⊎_, ⊎-elim, _≢_}
 use mathlib.Core.Bool.{Bool, true, false, cond, not, _&&_, and-false, or-false, or-true}

@@ -1,4 +1,5 @@
--- Frames before the beginning, and the beginning itself.
+-- Frames before the beginning, and the beginning itself: after each frame receiving has not begun yet, or the first epoch to start after the foremost position is being gathered (`before-frame`).
+-- The idea: what the step rule knows of a port goes by the port's position alone (`Heard`), so that the receiver's tests are tests of positions. Positions no further apart than the spread lie as their tags do: the foremost tag is that of the foremost position.
 use mathlib.Core.Path.{_≡_, refl, _∙_, sym, ap}
 use mathlib.Core.Logic.{⊎-elim, _≢_}
 use mathlib.Core.Bool.{Bool, true, false, cond, _||_, true≢false}
@@ -43,8 +44,8 @@ use Rattle.link.specs.Proofs.Standing.{Before, First, Heard, Lined, Live
 use Rattle.link.specs.Proofs.Transport.Call.{framed-is}
 use Rattle.link.specs.Proofs.Transport.Heard.{from-first, heard-dropped, heard-counts, heard-in-step, heard-next, heard-short, heard-stepped, heard-test, run-own, run-some, runFrom}
 use Rattle.link.specs.Proofs.Transport.Live.{after-long, even-now, live-early, live-taken, rowAfter}
-use Rattle.link.specs.Proofs.Transport.Steps.{Apart, Begun?, Served}
-use Rattle.link.specs.Proofs.Transport.Steps.Begun?.{comes, stays}
+use Rattle.link.specs.Proofs.Transport.Served.{Apart, Begun?, Served}
+use Rattle.link.specs.Proofs.Transport.Served.Begun?.{comes, stays}
 
 -- one of the first n numbers at which f is greatest
 record Greatest (f : ℕ → ℕ) (n : ℕ) : Type 0 where

@@ -1,4 +1,5 @@
 -- Frames after the beginning: each is answered 0 and leaves the window open, with its port one frame further; the last frame owed of the first epoch gathers it.
+-- The idea: what the frame leaves of its own port is known (`Goes` of Arrives.antt), all other ports stay as they are (`by-port`), and anything follows for all ports only where the frame was the last one owed (`framed-passes`).
 use mathlib.Core.Path.{_≡_, refl, sym, ap, _∙_}
 use mathlib.Core.Logic.{_⊎_, inl, inr, ⊎-elim, _≢_}
 use mathlib.Core.Bool.{Bool, true, false, cond, false≢true}
@@ -40,8 +41,8 @@ use Rattle.link.specs.Proofs.Transport.Call.{framed-is}
 use Rattle.link.specs.Proofs.Transport.Due.{AllCome, brought-all, brought-not, not-silent, owes-or-come}
 use Rattle.link.specs.Proofs.Transport.Live.{live-taken}
 use Rattle.link.specs.Proofs.Transport.Passed.{PassedTo, gathered-now, joined-kept, open-passed, passed-to, ruling-now, whole-now}
-use Rattle.link.specs.Proofs.Transport.Steps.{Gathered?, Reach, Served}
-use Rattle.link.specs.Proofs.Transport.Steps.Gathered?.{gathers, waits}
+use Rattle.link.specs.Proofs.Transport.Served.{Gathered?, Reach, Served}
+use Rattle.link.specs.Proofs.Transport.Served.Gathered?.{gathers, waits}
 
 module _ (r : Road) (fair : Fair r) (m : Moment) (coming coming′ : ℕ → ℕ) (i : ℕ) (o : Open r m coming i) (p : ℕ) (f : Served r p coming coming′) (near : coming p < i * L r + r .window)
     (joins : Joins r m coming i p) where

@@ -9,7 +9,7 @@ use borrow.Author.Tests.{eq-eqb, ne-eqb, eqb-true}
 use Rattle.link.specs.Moments.{nextAt}
 use Rattle.link.specs.Road.{Below, Road, times}
 use Rattle.link.specs.Proofs.Fair.{Fair}
-use Rattle.link.specs.Proofs.Transport.Steps.{Apart, Reach, Served}
+use Rattle.link.specs.Proofs.Transport.Served.{Apart, Reach, Served}
 
 module _ (r : Road) where
   -- ports still to be served: each at most once

@@ -1,4 +1,5 @@
--- All frame times: what stands at every moment of a run.
+-- All frame times: what stands at every moment of a run is one of three things, before the beginning, in the first epoch, or while reports are made (`Phase`, `phase`).
+-- The idea: what single frames and fetches do is taken from elsewhere (`CallsDo`). It goes by induction over the ports of a frame time in their order, and then over frame times; each turn leads from one of the three to one of the three.
 use mathlib.Core.Path.{_≡_, refl, sym, ap, _∙_, subst}
 use mathlib.Core.Logic.{inl, inr, ⊎-elim, _≢_}
 use mathlib.Core.Bool.{Bool, true, false, cond, true≢false}
@@ -25,16 +26,16 @@ use Rattle.link.specs.Running.{Moment, drained, fetched, framed, hasBegu
 use Rattle.link.specs.Proofs.Standing.{Before, First, Later, Owes}
 use Rattle.link.specs.Proofs.Transport.Due.{AllCome, owes-or-come}
 use Rattle.link.specs.Proofs.Transport.Moments.{Rest, apart, next-time, reach, rest-all, rest-tail, served, served-at, unserved}
-use Rattle.link.specs.Proofs.Transport.Steps.{Apart, Begun?, Gathered?, Reach, Served}
-use Rattle.link.specs.Proofs.Transport.Steps.Begun?.{comes, stays}
-use Rattle.link.specs.Proofs.Transport.Steps.Gathered?.{gathers, waits}
+use Rattle.link.specs.Proofs.Transport.Served.{Apart, Begun?, Gathered?, Reach, Served}
+use Rattle.link.specs.Proofs.Transport.Served.Begun?.{comes, stays}
+use Rattle.link.specs.Proofs.Transport.Served.Gathered?.{gathers, waits}
 
 module _ (r : Road) where
   abbrev markNext : Moment → ℕ
   markNext m = getD (recordAt r m) 0 0
 
-  -- what the single steps are proved to do
-  pub record Steps : Type 0 where
+  -- what single frames and fetches are proved to do
+  pub record CallsDo : Type 0 where
     pub on-before : (m : Moment) (p : ℕ) (coming coming′ : ℕ → ℕ) → Served r p coming coming′ → Apart r coming′ → SentWith (r .kind) (r .offset + coming p) (r .h4 p (coming p)) → Before r m coming
         → Begun? r (framed r p (coming p) m) coming′
     pub on-first : (m : Moment) (p i : ℕ) (coming coming′ : ℕ → ℕ) → Served r p coming coming′ → Reach r p coming → First r m coming i → Gathered? r (framed r p (coming p) m) coming′ i
@@ -175,7 +176,7 @@ module _ (r : Road) where
       first : (F : ℕ) (b : Beginning r (reached r m₀) F) → Come F b t done → First r m coming (suc (F / L r)) → Phase t done m coming
       later : (F i : ℕ) (b : Beginning r (reached r m₀) F) → Come F b t done → Later r m coming (suc (F / L r)) i → Owes r coming (suc i) → Phase t done m coming
 
-    module _ (f : Fair r) (s : Steps) where
+    module _ (f : Fair r) (s : CallsDo) where
       drained-wide : (w : ℕ) (m : Moment) → 0 < w → markNext m ≢ 0 → markNext (fetched r m) ≡ 0 → drained r w m ≡ fetched r m
       drained-wide zero m h d e = absurd (not-suc-le-zero h)
       drained-wide (suc k) m h d e = drained-one k m d e

@@ -51,7 +51,7 @@ use denote.Triple.Clauses.{ensured, lasts}
 use denote.Triple.Table.{entered, cited}
 use denote.Triple.Walked.{says, Stays, stay-none, stay-none-slice, stay-slice, walkOf, goes-none, goes-none-slice, goes-slice, Walks, ends-at, walked, walk-meets}
 use denote.Exit.{yes}
-use Rattle.orders.specs.Orders.{turnsOf, finishOf, stepBy, storedBy, orderedOf, answersOf}
+use Rattle.orders.specs.Orders.{turnsOf, finishOf, outcomeBy, storedBy, orderedOf, answersOf}
 use Rattle.orders.specs.Singles.{noCommand}
 use Rattle.orders.specs.declared.commands.Command.{Command}
 use Rattle.circuits.specs.declared.card.Card.{Card}
@@ -349,8 +349,8 @@ module _ {M : Type 1} (𝓤 : URA M) (H : Heap 𝓤) (A : Atoms 𝓤) (W : Given
           -- [what `one` asks; what is kept; κ's token; the shared borrow; what commands own; _15; …]
           calls-at ! fm (One 𝓤 H A mem run) known-one (to-one d c j l ν δ) (and-then ! (load ! (from ! (stop !)) (look ! (5 + at-left) refl)) (and-then ! (load ! (from ! (stop !)) (look ! (5 + at-command) refl)) (and-then ! (load ! (from ! (stop !)) (look ! (5 + at-i) refl)) (and-then ! (load ! (from ! (stop !)) (look ! (5 + at-lent) refl)) (no-more !))))) (λ w.
           use1 W (later (some (λ (r : Card). ((‵ (flft (ν ∷ []) fullShare) ⊛ ‵ ftrue) ⊛ ‵ (RC .own r (w ∷ []))) ⊛ raw (ensured 𝓤 H A one.ended (one.clauses 𝓤 H A mem run) (ν ∷ [], tt) (d, (c, (j, (y δ l, tt)))) tt r)))) (id⊢ 𝓤 _) $ await ! tt $ pick ! (λ r.
-          split ! $ move ! (1 ∷ []) $ use1 W (some (λ (zs : Unit {0} × (Unit {0} × (Unit {0} × (List ℕ × Unit {0})))). ‵ (lasts one.ended (ν ∷ [], tt) (d, (c, (j, (y δ l, tt)))) zs) ⊛ raw (fact 𝓤 ((r ≡ stepBy d c .card) × (zs .1 .1 .1 .0 ≡ storedBy d c j l))))) (id⊢ 𝓤 _) $ pick ! (λ zs.
-          split ! $ move ! (1 ∷ []) $ heard ! ((r ≡ stepBy d c .card) × (zs .1 .1 .1 .0 ≡ storedBy d c j l)) (λ e. fsplit ! $ drop ! $ fsplit ! $ drop ! $ fsplit ! $ drop ! $ fsplit ! $ fsplit ! $ move ! (1 ∷ []) $ feqL ! (λ as-long.
+          split ! $ move ! (1 ∷ []) $ use1 W (some (λ (zs : Unit {0} × (Unit {0} × (Unit {0} × (List ℕ × Unit {0})))). ‵ (lasts one.ended (ν ∷ [], tt) (d, (c, (j, (y δ l, tt)))) zs) ⊛ raw (fact 𝓤 ((r ≡ outcomeBy d c .card) × (zs .1 .1 .1 .0 ≡ storedBy d c j l))))) (id⊢ 𝓤 _) $ pick ! (λ zs.
+          split ! $ move ! (1 ∷ []) $ heard ! ((r ≡ outcomeBy d c .card) × (zs .1 .1 .1 .0 ≡ storedBy d c j l)) (λ e. fsplit ! $ drop ! $ fsplit ! $ drop ! $ fsplit ! $ drop ! $ fsplit ! $ fsplit ! $ move ! (1 ∷ []) $ feqL ! (λ as-long.
           move ! (2 ∷ []) $ split ! $ move ! (1 ∷ []) $ peeks ! RC (Is RC) (shows 𝓤 H A RC) r (w ∷ []) (λ is.
           -- [what the card owns; ν's token; the last answers; true; what is kept; κ's token; the shared borrow; what commands own; _15; …]
           land ! (from ! (stop !)) (store ! (8 + at-left) refl (LL.lawful TC.the-type LC.the-laws 𝓤 H A W .typed r _ is .0)) $

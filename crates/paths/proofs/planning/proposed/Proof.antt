@@ -1,4 +1,3 @@
-use Prim.Native.Nat.{_-_}
 use native.Mathlib.Omega.{arith}
 use Rattle.paths.proofs.Answering.{proposed-none, proposed-some, stretch-fits}
 use borrow.Author.Needs.{needs}

@@ -60,7 +60,7 @@ loop-again c =
       omega arith,
       omega arith,
       let n = tile-next (a .p) (a .from) i j (at-entry .pre .1) (at-loop .loop .inv .0) (omega arith) (at-start .start .ensures) in
-          lines-more (a .x) (a .place) m (min (a .from) (a .p - 8)) (tileLines (a .p) (a .from) i) j 8 (tileLines (a .p) (a .from) (i + 8)) (a .r) 8 _ (n .after) (n .meets) (n .covers) (n .ends) (at-loop .loop .inv .3)
+          lines-more (a .x) (a .place) m (min (a .from) (a .p - 8)) (tileLines (a .p) (a .from) i) j 8 (tileLines (a .p) (a .from) (i + 8)) (a .r) 8 _ (n .after) (n .reaches) (n .covers) (n .ends) (at-loop .loop .inv .3)
           (block-is (a .x) (a .place) m j (a .r) (at-read-started .read-started .result) (at-loop .loop .out) _ (at-read-started .read-started .ensures) (at-lay .lay .ensures)),
     )
 

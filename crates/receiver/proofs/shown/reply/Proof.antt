@@ -30,11 +30,11 @@ is-set-requires c κs = search needs
 one-if-requires : tie.Need-one-if-requires
 one-if-requires c κs = search needs
 
-told-by-requires : tie.Need-told-by-requires
-told-by-requires c κs = search needs
+reply-byte-requires : tie.Need-reply-byte-requires
+reply-byte-requires c κs = search needs
 
-told-by-requires-2 : tie.Need-told-by-requires-2
-told-by-requires-2 c κs = search needs
+reply-byte-requires-2 : tie.Need-reply-byte-requires-2
+reply-byte-requires-2 c κs = search needs
 
 put-reply-requires : tie.Need-put-reply-requires
 put-reply-requires c κs =
@@ -55,9 +55,9 @@ returns-2 c =
     let mst = c .before .before .before .before .before .before .before .before .mst in
     let is-set = c .before .before .before .before .before .before .before .is-set in
     let one-if = c .before .before .before .before .before .before .one-if in
-    let told-by = c .before .before .before .before .before .told-by in
-    let told-by2 = c .before .before .before .before .told-by2 in
-    reply-shown _ _ _ _ (get .ensures) (ports-in .ensures) _ _ (is-reply .ensures) _ _ _ _ _ _ _ (not-false _ (test1 .left)) (reply-ports .ensures) (mst .ensures) (is-set .ensures) (one-if .ensures) (told-by .ensures) (told-by2 .ensures) (c .before .before .put-reply .ensures)
+    let reply-byte = c .before .before .before .before .before .reply-byte in
+    let reply-byte2 = c .before .before .before .before .reply-byte2 in
+    reply-shown _ _ _ _ (get .ensures) (ports-in .ensures) _ _ (is-reply .ensures) _ _ _ _ _ _ _ (not-false _ (test1 .left)) (reply-ports .ensures) (mst .ensures) (is-set .ensures) (one-if .ensures) (reply-byte .ensures) (reply-byte2 .ensures) (c .before .before .put-reply .ensures)
 
 pub reply-spec : {M : Type 1} → statement M
 reply-spec =
@@ -71,8 +71,8 @@ reply-spec =
     mst-requires
     is-set-requires
     one-if-requires
-    told-by-requires
-    told-by-requires-2
+    reply-byte-requires
+    reply-byte-requires-2
     put-reply-requires
     same-length
     returns-2)

@@ -1,4 +1,3 @@
-use mathlib.Core.Path.{refl, _∙_}
 use borrow.Author.Needs.{needs}
 use Rattle.receiver.proofs.states.work_out_states.Statement.{statement}
 use Rattle.receiver.proofs.states.work_out_states.Tie as tie

@@ -1,5 +1,4 @@
 use borrow.Author.Tests.{eq-eqb, ne-eqb}
-use borrow.Author.Needs.{needs}
 use Rattle.reply.proofs.telling.turned.Statement.{statement}
 use Rattle.reply.proofs.telling.turned.Tie as tie
 

@@ -21,14 +21,14 @@ returns-2 : tie.Need-returns-2
 unfolding aloneLeaves
 returns-2 c = rw (standing-alone (c .before .before .before .before .before .args .port ∷ []), c .with-claim .ensures, ← c .before .before .is-candidate .ensures, c .before .if2 .taken, ← c .before .before .before .before .is-idle .ensures, c .before .before .before .if1 .left)
 
-kept-alone-requires : tie.Need-kept-alone-requires
-kept-alone-requires c κs = search needs
+without-claim-alone-requires : tie.Need-without-claim-alone-requires
+without-claim-alone-requires c κs = search needs
 
 returns-3 : tie.Need-returns-3
 unfolding aloneLeaves
-returns-3 c = rw (standing-alone (c .before .before .before .before .before .args .port ∷ []), c .kept-alone .ensures, ← c .before .before .is-candidate .ensures, c .before .if2 .left, ← c .before .before .before .before .is-idle .ensures, c .before .before .before .if1 .left)
+returns-3 c = rw (standing-alone (c .before .before .before .before .before .args .port ∷ []), c .without-claim-alone .ensures, ← c .before .before .is-candidate .ensures, c .before .if2 .left, ← c .before .before .before .before .is-idle .ensures, c .before .before .before .if1 .left)
 
 pub standing-alone-spec : {M : Type 1} → statement M
 standing-alone-spec =
     tie.close
-    (tie.spec is-idle-requires returns is-candidate-requires with-claim-requires returns-2 kept-alone-requires returns-3)
+    (tie.spec is-idle-requires returns is-candidate-requires with-claim-requires returns-2 without-claim-alone-requires returns-3)

@@ -12,7 +12,7 @@ is-restoring-requires c κs = search needs
 add-t3 : tie.Need-add-t3
 add-t3 c =
     let p = c .before .before .before .args .port in
-    let h : p .run < p .restore = restoring-left p (sym (c .before .before .is-restoring .ensures) ∙ c .before .if1 .taken) in
+    let h : p .elapsed < p .restore = restoring-left p (sym (c .before .before .is-restoring .ensures) ∙ c .before .if1 .taken) in
     omega arith
 
 returns : tie.Need-returns

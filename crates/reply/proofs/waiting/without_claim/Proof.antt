@@ -2,7 +2,7 @@ use mathlib.Core.Path.{sym, _∙_}
 use Prim.Native.Nat.{_<_}
 use native.Mathlib.Omega.{arith}
 use borrow.Author.Needs.{needs}
-use Rattle.reply.specs.Laws.Claims.{keeps-runs}
+use Rattle.reply.specs.Laws.Claims.{keeps-elapsed}
 use Rattle.reply.proofs.waiting.without_claim.Statement.{statement}
 use Rattle.reply.proofs.waiting.without_claim.Tie as tie
 
@@ -12,7 +12,7 @@ keeps-number-requires c κs = search needs
 add-t5 : tie.Need-add-t5
 add-t5 c =
     let a = c .before .before .before .args in
-    let h : a .port .run < a .port .«hold_off» = keeps-runs (a .chosen) (a .i) (a .port) (sym (c .before .before .keeps-number .ensures) ∙ c .before .if1 .taken) in
+    let h : a .port .elapsed < a .port .«hold_off» = keeps-elapsed (a .chosen) (a .i) (a .port) (sym (c .before .before .keeps-number .ensures) ∙ c .before .if1 .taken) in
     omega arith
 
 returns : tie.Need-returns

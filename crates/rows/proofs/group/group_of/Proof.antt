@@ -4,7 +4,6 @@ use Rattle.rows.specs.Laws.Records.{rest}
 use Rattle.rows.specs.Group.{groupOf}
 use Rattle.rows.proofs.group.group_of.Statement.{statement}
 use Rattle.rows.proofs.group.group_of.Tie as tie
-use Rattle.rows.proofs.group.pair.Reads as pair-reads
 
 array-read-t5 : tie.Need-array-read-t5
 array-read-t5 c = search needs

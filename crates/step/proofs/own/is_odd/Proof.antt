@@ -3,14 +3,6 @@ use Rattle.step.specs.OwnCount.{endsOdd}
 use borrow.Author.Needs.{needs}
 use Rattle.step.proofs.own.is_odd.Statement.{statement}
 use Rattle.step.proofs.own.is_odd.Tie as tie
-use Rattle.step.proofs.own.is_odd.Reads as reads
-use Rattle.step.proofs.own.is_odd.Lts as lts
-use Rattle.packet.proofs.counts.nibble_in.Reads as nibble-in-reads
-use Rattle.packet.proofs.kinds.epoch_of.Reads as epoch-of-reads
-use Rattle.packet.proofs.kinds.place_of.Reads as place-of-reads
-use Rattle.step.proofs.own.is_odd_packet.Reads as is-odd-packet-reads
-use Rattle.step.proofs.own.with_nibble.Reads as with-nibble-reads
-use Rattle.step.proofs.run.ends_packet.Reads as ends-packet-reads
 
 ends-packet-requires : tie.Need-ends-packet-requires
 ends-packet-requires c κs = search needs

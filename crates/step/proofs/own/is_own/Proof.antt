@@ -4,8 +4,6 @@ use Rattle.step.specs.OwnCount.{ownNumber}
 use borrow.Author.Needs.{needs}
 use Rattle.step.proofs.own.is_own.Statement.{statement}
 use Rattle.step.proofs.own.is_own.Tie as tie
-use Rattle.step.proofs.own.is_own.Reads as reads
-use Rattle.step.proofs.own.is_own.Lts as lts
 
 array-read-result : tie.Need-array-read-result
 array-read-result c = search needs

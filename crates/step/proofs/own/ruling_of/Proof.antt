@@ -3,9 +3,6 @@ use Rattle.step.specs.OwnCount.{ownRuling}
 use borrow.Author.Needs.{needs}
 use Rattle.step.proofs.own.ruling_of.Statement.{statement}
 use Rattle.step.proofs.own.ruling_of.Tie as tie
-use Rattle.step.proofs.own.ruling_of.Reads as reads
-use Rattle.step.proofs.own.ruling_of.Lts as lts
-use Rattle.step.proofs.own.is_own.Reads as is-own-reads
 
 is-own-requires : tie.Need-is-own-requires
 is-own-requires c κs = search needs

@@ -4,8 +4,6 @@ use lib.Seq.{set-out}
 use borrow.Author.Needs.{needs}
 use Rattle.step.proofs.own.with_nibble.Statement.{statement}
 use Rattle.step.proofs.own.with_nibble.Tie as tie
-use Rattle.step.proofs.own.with_nibble.Reads as reads
-use Rattle.step.proofs.own.with_nibble.Lts as lts
 
 array-write-nibbles : tie.Need-array-write-nibbles
 array-write-nibbles c = search needs

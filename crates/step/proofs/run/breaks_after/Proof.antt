@@ -3,8 +3,6 @@ use native.Mathlib.Omega.{arith}
 use Rattle.step.specs.Run.{breaksAfter}
 use Rattle.step.proofs.run.breaks_after.Statement.{statement}
 use Rattle.step.proofs.run.breaks_after.Tie as tie
-use Rattle.step.proofs.run.breaks_after.Reads as reads
-use Rattle.step.proofs.run.breaks_after.Lts as lts
 
 returns : tie.Need-returns
 unfolding breaksAfter

@@ -3,10 +3,6 @@ use Rattle.step.specs.Run.{endsPacket}
 use borrow.Author.Needs.{needs}
 use Rattle.step.proofs.run.ends_packet.Statement.{statement}
 use Rattle.step.proofs.run.ends_packet.Tie as tie
-use Rattle.step.proofs.run.ends_packet.Reads as reads
-use Rattle.step.proofs.run.ends_packet.Lts as lts
-use Rattle.packet.proofs.kinds.ends_epoch.Reads as ends-epoch-reads
-use Rattle.packet.proofs.kinds.place_of.Reads as place-of-reads
 
 place-of-requires : tie.Need-place-of-requires
 place-of-requires c κs = search needs

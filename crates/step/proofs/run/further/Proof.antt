@@ -5,11 +5,6 @@ use Rattle.step.specs.Run.{furtherRun}
 use borrow.Author.Needs.{needs}
 use Rattle.step.proofs.run.further.Statement.{statement}
 use Rattle.step.proofs.run.further.Tie as tie
-use Rattle.step.proofs.run.further.Reads as reads
-use Rattle.step.proofs.run.further.Lts as lts
-use Rattle.packet.proofs.counts.is_counted.Reads as is-counted-reads
-use Rattle.packet.proofs.kinds.next_tag.Reads as next-tag-reads
-use Rattle.step.proofs.run.begun_run.Reads as begun-run-reads
 
 is-counted-requires : tie.Need-is-counted-requires
 is-counted-requires c κs = search needs

@@ -2,8 +2,6 @@ use mathlib.Core.Path.{refl}
 use Rattle.step.specs.Run.{loses}
 use Rattle.step.proofs.run.is_lost.Statement.{statement}
 use Rattle.step.proofs.run.is_lost.Tie as tie
-use Rattle.step.proofs.run.is_lost.Reads as reads
-use Rattle.step.proofs.run.is_lost.Lts as lts
 
 returns : tie.Need-returns
 unfolding loses

@@ -3,9 +3,6 @@ use Rattle.step.specs.Run.{oddAfter}
 use borrow.Author.Needs.{needs}
 use Rattle.step.proofs.run.odd_after.Statement.{statement}
 use Rattle.step.proofs.run.odd_after.Tie as tie
-use Rattle.step.proofs.run.odd_after.Reads as reads
-use Rattle.step.proofs.run.odd_after.Lts as lts
-use Rattle.step.proofs.run.ends_packet.Reads as ends-packet-reads
 
 ends-packet-requires : tie.Need-ends-packet-requires
 ends-packet-requires c κs = search needs

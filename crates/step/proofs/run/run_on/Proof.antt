@@ -3,11 +3,6 @@ use Rattle.step.specs.Run.{runOn}
 use borrow.Author.Needs.{needs}
 use Rattle.step.proofs.run.run_on.Statement.{statement}
 use Rattle.step.proofs.run.run_on.Tie as tie
-use Rattle.step.proofs.run.run_on.Reads as reads
-use Rattle.step.proofs.run.run_on.Lts as lts
-use Rattle.step.proofs.run.gains.Reads as gains-reads
-use Rattle.step.proofs.run.is_step.Reads as is-step-reads
-use Rattle.step.proofs.run.stays.Reads as stays-reads
 
 is-step-requires : tie.Need-is-step-requires
 is-step-requires c κs = search needs

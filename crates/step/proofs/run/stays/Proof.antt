@@ -4,14 +4,6 @@ use Rattle.step.specs.Run.{stayedRun}
 use borrow.Author.Needs.{needs}
 use Rattle.step.proofs.run.stays.Statement.{statement}
 use Rattle.step.proofs.run.stays.Tie as tie
-use Rattle.step.proofs.run.stays.Reads as reads
-use Rattle.step.proofs.run.stays.Lts as lts
-use Rattle.packet.proofs.counts.is_counted.Reads as is-counted-reads
-use Rattle.packet.proofs.kinds.next_tag.Reads as next-tag-reads
-use Rattle.step.proofs.run.begun_run.Reads as begun-run-reads
-use Rattle.step.proofs.run.breaks_after.Reads as breaks-after-reads
-use Rattle.step.proofs.run.is_lost.Reads as is-lost-reads
-use Rattle.step.proofs.run.odd_after.Reads as odd-after-reads
 
 is-counted-requires : tie.Need-is-counted-requires
 is-counted-requires c κs = search needs

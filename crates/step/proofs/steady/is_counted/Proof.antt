@@ -1,5 +1,5 @@
 use native.Mathlib.Omega.{arith}
-use Rattle.step.proofs.Going.{counts-later}
+use Rattle.step.proofs.SteadyTests.{counts-later}
 use borrow.Author.Needs.{needs}
 use Rattle.step.proofs.steady.is_counted.Statement.{statement}
 use Rattle.step.proofs.steady.is_counted.Tie as tie

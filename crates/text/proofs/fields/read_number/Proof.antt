@@ -1,7 +1,7 @@
 -- `read_number` meets its contract: a field of decimal digits by value, or unreadable.
 -- It is refused for its length, then for a byte that is no digit; what is left has at most nine digits, so `value_of` may be asked.
 use mathlib.Core.Path.{sym, _∙_}
-use Prim.Native.Nat.{_≤_, _<_}
+use Prim.Native.Nat.{_≤_}
 use native.Mathlib.Omega.{arith}
 use lib.Dec.{lit<}
 use lib.ListN.{length}

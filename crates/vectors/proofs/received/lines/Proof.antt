@@ -4,8 +4,6 @@ use lib.ListN.{length}
 use borrow.Author.Needs.{needs}
 use Rattle.vectors.proofs.received.lines.Statement.{statement}
 use Rattle.vectors.proofs.received.lines.Tie as tie
-use Rattle.bytes.proofs.scan.find.Reads as find-reads
-use Rattle.vectors.proofs.received.line.Reads as line-reads
 
 abbrev Inv-loop : tie.InvT-loop
 Inv-loop file state₀ store₀ at₀ start₀ state store at start = (length state ≡ length state₀) × (length store ≡ length store₀)

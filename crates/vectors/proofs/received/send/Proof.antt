@@ -4,9 +4,6 @@ use lib.ListN.{length}
 use borrow.Author.Needs.{needs}
 use Rattle.vectors.proofs.received.send.Statement.{statement}
 use Rattle.vectors.proofs.received.send.Tie as tie
-use Rattle.packet.proofs.kinds.first_tag.Reads as first-tag-reads
-use Rattle.vectors.proofs.link.tag_after.Reads as tag-after-reads
-use Rattle.vectors.proofs.received.send_tag.Reads as send-tag-reads
 
 abbrev Inv-loop : tie.InvT-loop
 Inv-loop line ports epoch state₀ store₀ first i₀ state store i = (i ≤ 16) × (length state ≡ length state₀) × (length store ≡ length store₀)

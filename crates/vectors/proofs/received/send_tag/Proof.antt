@@ -4,8 +4,6 @@ use lib.ListN.{length}
 use borrow.Author.Needs.{needs}
 use Rattle.vectors.proofs.received.send_tag.Statement.{statement}
 use Rattle.vectors.proofs.received.send_tag.Tie as tie
-use Rattle.vectors.proofs.link.frame.Reads as frame-reads
-use Rattle.vectors.proofs.received.sent_in.Reads as sent-in-reads
 
 abbrev Inv-loop : tie.InvT-loop
 Inv-loop line ports tag state₀ store₀ port₀ state store port = (port ≤ ports) × (length state ≡ length state₀) × (length store ≡ length store₀)

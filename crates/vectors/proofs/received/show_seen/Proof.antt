@@ -3,9 +3,6 @@ use lib.ListN.{length}
 use borrow.Author.Needs.{needs}
 use Rattle.vectors.proofs.received.show_seen.Statement.{statement}
 use Rattle.vectors.proofs.received.show_seen.Tie as tie
-use Rattle.receiver.proofs.ports.Reads as ports-reads
-use Rattle.vectors.proofs.received.show_state.Reads as show-state-reads
-use Rattle.vectors.proofs.show.text.Reads as text-reads
 
 abbrev Inv-loop : tie.InvT-loop
 Inv-loop state seen i₀ i = i ≤ length seen

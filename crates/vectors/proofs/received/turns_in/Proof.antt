@@ -4,9 +4,6 @@ use lib.ListN.{length}
 use borrow.Author.Needs.{needs}
 use Rattle.vectors.proofs.received.turns_in.Statement.{statement}
 use Rattle.vectors.proofs.received.turns_in.Tie as tie
-use Rattle.std.proofs.num.wrapping_add_u8.Reads as wrapping-add-u8-reads
-use Rattle.vectors.proofs.received.turns_at.Reads as turns-at-reads
-use Rattle.vectors.proofs.text.number_at.Reads as number-at-reads
 
 abbrev Inv-loop : tie.InvT-loop
 Inv-loop line at state₀ store₀ out₀ report₀ count turns₀ i₀ state store out report turns i = (i ≤ count) × (turns ≤ i) × (length state ≡ length state₀) × (length store ≡ length store₀) × (length out ≡ length out₀) × (length report ≡ length report₀)

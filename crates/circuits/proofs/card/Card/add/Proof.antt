@@ -28,11 +28,11 @@ sender-of-requires c κs = search needs
 add-requires : tie.Need-add-requires
 add-requires c κs = search needs
 
-put-step-requires : tie.Need-put-step-requires
-put-step-requires c κs = search needs
+group-outcome-requires : tie.Need-group-outcome-requires
+group-outcome-requires c κs = search needs
 
 returns-3 : tie.Need-returns-3
-returns-3 c = command-done (c .before .before .before .before .before .before .before .args .self) (c .before .before .before .before .before .before .before .args .group) (c .before .before .before .before .before .before .before .args .slot) (c .before .before .before .before .before .before .is-slot .ensures) (not-false _ (c .before .before .before .before .before .if1 .left)) (c .before .before .before .before .is-own .ensures) (not-false _ (c .before .before .before .if2 .left)) _ (c .before .before .sender-of .ensures) (c .before .add .ensures) (c .put-step .ensures)
+returns-3 c = command-done (c .before .before .before .before .before .before .before .args .self) (c .before .before .before .before .before .before .before .args .group) (c .before .before .before .before .before .before .before .args .slot) (c .before .before .before .before .before .before .is-slot .ensures) (not-false _ (c .before .before .before .before .before .if1 .left)) (c .before .before .before .before .is-own .ensures) (not-false _ (c .before .before .before .if2 .left)) _ (c .before .before .sender-of .ensures) (c .before .add .ensures) (c .group-outcome .ensures)
 
 pub add-spec : {M : Type 1} → statement M
 add-spec =
@@ -46,5 +46,5 @@ add-spec =
     returns-2
     sender-of-requires
     add-requires
-    put-step-requires
+    group-outcome-requires
     returns-3)

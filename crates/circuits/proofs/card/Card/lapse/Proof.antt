@@ -15,11 +15,11 @@ sender-of-requires c κs = search needs
 lapse-requires : tie.Need-lapse-requires
 lapse-requires c κs = search needs
 
-put-step-requires : tie.Need-put-step-requires
-put-step-requires c κs = search needs
+group-outcome-requires : tie.Need-group-outcome-requires
+group-outcome-requires c κs = search needs
 
 returns-2 : tie.Need-returns-2
-returns-2 c = group-done (c .before .before .before .before .args .self) (c .before .before .before .before .args .group) _ (c .before .before .before .if1 .left) (c .before .before .sender-of .ensures) (c .before .lapse .ensures) (c .put-step .ensures)
+returns-2 c = group-done (c .before .before .before .before .args .self) (c .before .before .before .before .args .group) _ (c .before .before .before .if1 .left) (c .before .before .sender-of .ensures) (c .before .lapse .ensures) (c .group-outcome .ensures)
 
 pub lapse-spec : {M : Type 1} → statement M
 lapse-spec =
@@ -29,5 +29,5 @@ lapse-spec =
     returns
     sender-of-requires
     lapse-requires
-    put-step-requires
+    group-outcome-requires
     returns-2)

@@ -28,11 +28,11 @@ sender-of-requires c κs = search needs
 remove-requires : tie.Need-remove-requires
 remove-requires c κs = search needs
 
-put-step-requires : tie.Need-put-step-requires
-put-step-requires c κs = search needs
+group-outcome-requires : tie.Need-group-outcome-requires
+group-outcome-requires c κs = search needs
 
 returns-3 : tie.Need-returns-3
-returns-3 c = command-done (c .before .before .before .before .before .before .before .args .self) (c .before .before .before .before .before .before .before .args .group) (c .before .before .before .before .before .before .before .args .slot) (c .before .before .before .before .before .before .is-slot .ensures) (not-false _ (c .before .before .before .before .before .if1 .left)) (c .before .before .before .before .is-own .ensures) (not-false _ (c .before .before .before .if2 .left)) _ (c .before .before .sender-of .ensures) (c .before .remove .ensures) (c .put-step .ensures)
+returns-3 c = command-done (c .before .before .before .before .before .before .before .args .self) (c .before .before .before .before .before .before .before .args .group) (c .before .before .before .before .before .before .before .args .slot) (c .before .before .before .before .before .before .is-slot .ensures) (not-false _ (c .before .before .before .before .before .if1 .left)) (c .before .before .before .before .is-own .ensures) (not-false _ (c .before .before .before .if2 .left)) _ (c .before .before .sender-of .ensures) (c .before .remove .ensures) (c .group-outcome .ensures)
 
 pub remove-spec : {M : Type 1} → statement M
 remove-spec =
@@ -46,5 +46,5 @@ remove-spec =
     returns-2
     sender-of-requires
     remove-requires
-    put-step-requires
+    group-outcome-requires
     returns-3)

@@ -15,11 +15,11 @@ sender-of-requires c κs = search needs
 start-epoch-requires : tie.Need-start-epoch-requires
 start-epoch-requires c κs = search needs
 
-put-step-requires : tie.Need-put-step-requires
-put-step-requires c κs = search needs
+group-outcome-requires : tie.Need-group-outcome-requires
+group-outcome-requires c κs = search needs
 
 returns-2 : tie.Need-returns-2
-returns-2 c = group-done (c .before .before .before .before .args .self) (c .before .before .before .before .args .group) _ (c .before .before .before .if1 .left) (c .before .before .sender-of .ensures) (c .before .start-epoch .ensures) (c .put-step .ensures)
+returns-2 c = group-done (c .before .before .before .before .args .self) (c .before .before .before .before .args .group) _ (c .before .before .before .if1 .left) (c .before .before .sender-of .ensures) (c .before .start-epoch .ensures) (c .group-outcome .ensures)
 
 pub start-epoch-spec : {M : Type 1} → statement M
 start-epoch-spec =
@@ -29,5 +29,5 @@ start-epoch-spec =
     returns
     sender-of-requires
     start-epoch-requires
-    put-step-requires
+    group-outcome-requires
     returns-2)

@@ -6,15 +6,15 @@ use Prim.Native.Nat.{ℕ, _-_, _<_}
 use lib.Dec.{eqb, ltb}
 use borrow.Author.Tests.{eq-eqb, eqb-true, lt-ltb, ltb-true}
 use Rattle.ground.specs.Truth.{and-left, neither}
-use Rattle.sender.specs.Epochs.{SenderCall, senderStepOf}
+use Rattle.sender.specs.Epochs.{SenderCall, senderOutcomeOf}
 use Rattle.circuits.specs.declared.answers.Answer.the-variants.{Done, NoSlot, Owned, Used}
 use Rattle.circuits.specs.declared.card.Card.{Card}
 use Rattle.circuits.specs.declared.card.CardOutcome.{CardOutcome}
 use Rattle.circuits.specs.Alone.{Seen, claimSeen, ownIn, ownSeen, releaseSeen, seen, sentSeen, slotIn, withOwn}
 use Rattle.circuits.specs.Commands.{claimOf, commandOf, groupCallOf, ofOwn, releaseOf, sentOf}
-use Rattle.circuits.specs.Laws.Seeing.{mark-some, marks-apart, own-is, owner-is, owners-stepped, owns-marked, sender-marked, sender-other, slot-is, slot-low, view-marked, view-same, view-stepped}
+use Rattle.circuits.specs.Laws.Seeing.{mark-some, marks-apart, own-is, owner-is, owners-outcome, owns-marked, sender-marked, sender-other, slot-is, slot-low, view-marked, view-outcome, view-same}
 use Rattle.circuits.specs.Owners.{hasOwner, markOf, ownerIn}
-use Rattle.circuits.specs.Parts.{isSlot, isUsed, marked, owns, refused, senderOf, stepped}
+use Rattle.circuits.specs.Parts.{groupOutcome, isSlot, isUsed, marked, owns, refused, senderOf}
 use Rattle.circuits.specs.Views.{View, viewOf}
 
 module _ {A : Type 0} where
@@ -36,13 +36,13 @@ unfolding marked
 answer-marked c i m = refl
 
 sent : (c : Card) (g : ℕ) (k : SenderCall) → see g (sentOf c g k) ≡ sentSeen (viewOf g c) k
-unfolding stepped viewOf
+unfolding groupOutcome viewOf
 sent c g k =
-    let r = senderStepOf (senderOf c g) k in
-    ap (λ (w : View). seen w (stepped c g r .answer)) (view-stepped c g r) ∙ answers c g k
+    let r = senderOutcomeOf (senderOf c g) k in
+    ap (λ (w : View). seen w (groupOutcome c g r .answer)) (view-outcome c g r) ∙ answers c g k
   where
     answers : (c : Card) (g : ℕ) (k : SenderCall)
-        → seen (record { sender = senderStepOf (senderOf c g) k .sender; owned = viewOf g c .owned }) (stepped c g (senderStepOf (senderOf c g) k) .answer) ≡ sentSeen (viewOf g c) k
+        → seen (record { sender = senderOutcomeOf (senderOf c g) k .sender; owned = viewOf g c .owned }) (groupOutcome c g (senderOutcomeOf (senderOf c g) k) .answer) ≡ sentSeen (viewOf g c) k
     answers c g k = refl
 
 pub slot-group : (c : Card) (g i : ℕ) → isSlot c g i ≡ true → g < 2
@@ -120,7 +120,7 @@ module _ (c : Card) (g h : ℕ) (hg : g < 2) (n : h ≢ g) where
   unfolding owns
   kept-sent k l =
       view-same g (sentOf c h k .card) c (sender-other c g h _ hg l n)
-      (λ i b. ap (λ row. eqb (ownerIn row i) (markOf g)) (owners-stepped c h (senderStepOf (senderOf c h) k)))
+      (λ i b. ap (λ row. eqb (ownerIn row i) (markOf g)) (owners-outcome c h (senderOutcomeOf (senderOf c h) k)))
 
   below : (i : ℕ) → isSlot c h i ≡ true → h < 2
   below i s = slot-group c h i s

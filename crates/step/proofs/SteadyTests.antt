@@ -44,12 +44,12 @@ counts-later kind t h b =
     rw (ne-eqb (t % 16) 0 none, ne-eqb (t % 16) 1 one) (kept (eqb (h % 16) (t % 16)))
 
 module _ (g : Group) (s : Step) (flag : Bool) (h : ℕ) (left : flag ≡ false) where
-  pub runs : (flagOf (g .begun) && eqb (s .had) 1 && eqb (s .failed) 0 && eqb (s .breaks) 0 && inStep g s && flagOf (s .joined)) ≡ true
+  pub tests-hold : (flagOf (g .begun) && eqb (s .had) 1 && eqb (s .failed) 0 && eqb (s .breaks) 0 && inStep g s && flagOf (s .joined)) ≡ true
       → counts (g .kind) (s .next) h ≡ steady g s flag h
   unfolding steady
-  runs t = rw left (all (flagOf (g .begun)) (eqb (s .had) 1) (eqb (s .failed) 0) (eqb (s .breaks) 0) (inStep g s) (flagOf (s .joined)) (counts (g .kind) (s .next) h) t)
+  tests-hold t = rw left (all (flagOf (g .begun)) (eqb (s .had) 1) (eqb (s .failed) 0) (eqb (s .breaks) 0) (inStep g s) (flagOf (s .joined)) (counts (g .kind) (s .next) h) t)
 
-  pub stands : (flagOf (g .begun) && eqb (s .had) 1 && eqb (s .failed) 0 && eqb (s .breaks) 0 && inStep g s && flagOf (s .joined)) ≡ false
+  pub tests-fail : (flagOf (g .begun) && eqb (s .had) 1 && eqb (s .failed) 0 && eqb (s .breaks) 0 && inStep g s && flagOf (s .joined)) ≡ false
       → steady g s flag h ≡ false
   unfolding steady
-  stands t = rw left (none (flagOf (g .begun)) (eqb (s .had) 1) (eqb (s .failed) 0) (eqb (s .breaks) 0) (inStep g s) (flagOf (s .joined)) (counts (g .kind) (s .next) h) t)
+  tests-fail t = rw left (none (flagOf (g .begun)) (eqb (s .had) 1) (eqb (s .failed) 0) (eqb (s .breaks) 0) (inStep g s) (flagOf (s .joined)) (counts (g .kind) (s .next) h) t)

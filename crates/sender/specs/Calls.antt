@@ -1,4 +1,4 @@
--- The sender's calls as one step, and runs of them.
+-- The sender's calls, what each gives, and runs of them.
 use mathlib.Core.List.{List, [], _∷_}
 use Prim.Native.Nat.{ℕ}
 use Rattle.sender.specs.declared.table.Outcome.{Outcome}
@@ -12,13 +12,13 @@ pub data Call : Type 0 where
   Report : ℕ → ℕ → ℕ → Call
   Lapse : Call
 
-abbrev pub stepOf : Table → Call → Outcome
-stepOf t (AddSlot i) = addOf t i
-stepOf t (RemoveSlot i) = removeOf t i
-stepOf t (Report e mst ack) = reportOf t e mst ack
-stepOf t Lapse = lapseOf t
+abbrev pub outcomeOf : Table → Call → Outcome
+outcomeOf t (AddSlot i) = addOf t i
+outcomeOf t (RemoveSlot i) = removeOf t i
+outcomeOf t (Report e mst ack) = reportOf t e mst ack
+outcomeOf t Lapse = lapseOf t
 
 -- each call on the table that the one before returned
 abbrev pub run : Table → List Call → Table
 run t [] = t
-run t (c ∷ cs) = run (stepOf t c .table) cs
+run t (c ∷ cs) = run (outcomeOf t c .table) cs

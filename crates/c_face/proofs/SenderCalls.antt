@@ -10,10 +10,10 @@ use Rattle.ground.specs.Truth.{and-left, and-right}
 use Rattle.sender.specs.declared.epochs.Sender.{Sender}
 use Rattle.sender.specs.declared.epochs.SenderOutcome.{SenderOutcome}
 use Rattle.sender.specs.declared.table.Answer.{Answer}
-use Rattle.sender.specs.Epochs.{SenderCall, beginOf, packetAnswer, packetBytes, payloadAnswer, payloadBytes, senderStepOf}
+use Rattle.sender.specs.Epochs.{SenderCall, beginOf, packetAnswer, packetBytes, payloadAnswer, payloadBytes, senderOutcomeOf}
 use Rattle.sender.specs.Table.{answerNumber}
 use Rattle.c_face.specs.Keeping.{bytesOf, senderOf}
-use Rattle.c_face.specs.Senders.{areBytes, keptBytes, outside, packetAnswerC, packetBytesC, payloadAnswerC, payloadBytesC, startAnswerC, startStateC, stepAnswerC, stepStateC}
+use Rattle.c_face.specs.Senders.{areBytes, callAnswerC, callStateC, keptBytes, outside, packetAnswerC, packetBytesC, payloadAnswerC, payloadBytesC, startAnswerC, startStateC}
 
 pub record Three (a b c : ℕ) : Type 0 where
   pub first : a < 256
@@ -29,27 +29,27 @@ three-said a b c t =
       third = ltb-true c 256 (and-right (ltb a 256 && ltb b 256) (ltb c 256) t);
     }
 
-module _ (step : SenderOutcome) (old : List ℕ) (n : ℕ) (e : n ≡ answerNumber (step .answer)) where
-  pub keep-refused : (n ≡ 0 → ⊥) → (n ≡ answerNumber (step .answer)) × (old ≡ keptBytes step old)
-  keep-refused d = (e, rw (ne-eqb (answerNumber (step .answer)) 0 (λ z. d (e ∙ z))) refl)
+module _ (outcome : SenderOutcome) (old : List ℕ) (n : ℕ) (e : n ≡ answerNumber (outcome .answer)) where
+  pub keep-refused : (n ≡ 0 → ⊥) → (n ≡ answerNumber (outcome .answer)) × (old ≡ keptBytes outcome old)
+  keep-refused d = (e, rw (ne-eqb (answerNumber (outcome .answer)) 0 (λ z. d (e ∙ z))) refl)
 
-  pub keep-done : (out : List ℕ) → n ≡ 0 → out ≡ bytesOf (step .sender) → (0 ≡ answerNumber (step .answer)) × (out ≡ keptBytes step old)
-  keep-done out z h = (sym z ∙ e, rw (eq-eqb (answerNumber (step .answer)) 0 (sym e ∙ z)) h)
+  pub keep-done : (out : List ℕ) → n ≡ 0 → out ≡ bytesOf (outcome .sender) → (0 ≡ answerNumber (outcome .answer)) × (out ≡ keptBytes outcome old)
+  keep-done out z h = (sym z ∙ e, rw (eq-eqb (answerNumber (outcome .answer)) 0 (sym e ∙ z)) h)
 
 module _ (state : List ℕ) (fits : Bool) (call : SenderCall) where
-  pub step-length : (length state ≡ 397 → ⊥) → (9 ≡ stepAnswerC fits call state) × (state ≡ stepStateC fits call state)
-  unfolding stepAnswerC stepStateC
-  step-length d = rw (ne-eqb (length state) 397 d) (refl, refl)
+  pub call-length : (length state ≡ 397 → ⊥) → (9 ≡ callAnswerC fits call state) × (state ≡ callStateC fits call state)
+  unfolding callAnswerC callStateC
+  call-length d = rw (ne-eqb (length state) 397 d) (refl, refl)
 
-  pub step-unfit : length state ≡ 397 → fits ≡ false → (8 ≡ stepAnswerC fits call state) × (state ≡ stepStateC fits call state)
-  unfolding stepAnswerC stepStateC
-  step-unfit l f = rw (eq-eqb (length state) 397 l, f) (refl, refl)
+  pub call-unfit : length state ≡ 397 → fits ≡ false → (8 ≡ callAnswerC fits call state) × (state ≡ callStateC fits call state)
+  unfolding callAnswerC callStateC
+  call-unfit l f = rw (eq-eqb (length state) 397 l, f) (refl, refl)
 
-  pub step-kept : (s : Sender) (step : SenderOutcome) (r : ℕ) (out : List ℕ) → length state ≡ 397 → fits ≡ true → s ≡ senderOf state
-      → step ≡ senderStepOf s call → (r ≡ answerNumber (step .answer)) × (out ≡ keptBytes step state)
-      → (r ≡ stepAnswerC fits call state) × (out ≡ stepStateC fits call state)
-  unfolding stepAnswerC stepStateC
-  step-kept s step r out l f es e k = rw (eq-eqb (length state) 397 l, f, ← es, ← e) k
+  pub call-kept : (s : Sender) (outcome : SenderOutcome) (r : ℕ) (out : List ℕ) → length state ≡ 397 → fits ≡ true → s ≡ senderOf state
+      → outcome ≡ senderOutcomeOf s call → (r ≡ answerNumber (outcome .answer)) × (out ≡ keptBytes outcome state)
+      → (r ≡ callAnswerC fits call state) × (out ≡ callStateC fits call state)
+  unfolding callAnswerC callStateC
+  call-kept s outcome r out l f es e k = rw (eq-eqb (length state) 397 l, f, ← es, ← e) k
 
 module _ (count first : ℕ) (state : List ℕ) where
   pub start-none : (length state ≡ 397 → ⊥) → outside count ≡ true → (4 ≡ startAnswerC count first state) × (state ≡ startStateC count first state)

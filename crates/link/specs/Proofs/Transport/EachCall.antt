@@ -1,4 +1,4 @@
--- The single steps, gathered from where each is proved.
+-- What single frames and fetches do, gathered from where each is proved.
 use Rattle.link.specs.Road.{Road}
 use Rattle.link.specs.Proofs.Fair.{Fair}
 use Rattle.link.specs.Proofs.Transport.Answers.{Says}
@@ -6,11 +6,11 @@ use Rattle.link.specs.Proofs.Transport.Before.{before-answer, before-fra
 use Rattle.link.specs.Proofs.Transport.Fetches.{due-mark, later-fetched, owed-mark}
 use Rattle.link.specs.Proofs.Transport.Frames.{first-frame, first-says, later-frame, later-says}
 use Rattle.link.specs.Proofs.Transport.Idle.{before-none, first-none}
-use Rattle.link.specs.Proofs.Transport.Times.{Steps}
+use Rattle.link.specs.Proofs.Transport.Times.{CallsDo}
 
 module _ (r : Road) (f : Fair r) where
-  pub steps : Steps r
-  steps =
+  pub calls-do : CallsDo r
+  calls-do =
       record {
         on-before = before-frame r f;
         on-first = λ m p i n n′ s reach o. first-frame r f m p i n n′ s reach o;

@@ -1,7 +1,7 @@
 use borrow.Author.Needs.{needs}
-use Rattle.orders.specs.Orders.{stepBy}
-use Rattle.orders.proofs.commands.step.Statement.{statement}
-use Rattle.orders.proofs.commands.step.Tie as tie
+use Rattle.orders.specs.Orders.{outcomeBy}
+use Rattle.orders.proofs.commands.outcome_of.Statement.{statement}
+use Rattle.orders.proofs.commands.outcome_of.Tie as tie
 
 enum-told : tie.Need-enum-told
 enum-told c = search needs
@@ -28,23 +28,23 @@ release-requires : tie.Need-release-requires
 release-requires c κs = search needs
 
 returns : tie.Need-returns
-unfolding stepBy
+unfolding outcomeBy
 returns c = rw (c .before .enum-told .given .1) (c .add .ensures)
 
 returns-2 : tie.Need-returns-2
-unfolding stepBy
+unfolding outcomeBy
 returns-2 c = rw (c .before .enum-told2 .given .1) (c .remove .ensures)
 
 returns-3 : tie.Need-returns-3
-unfolding stepBy
+unfolding outcomeBy
 returns-3 c = rw (c .before .enum-told3 .given .1) (c .claim .ensures)
 
 returns-4 : tie.Need-returns-4
-unfolding stepBy
+unfolding outcomeBy
 returns-4 c = rw (c .before .enum-told4 .given .1) (c .release .ensures)
 
-pub step-spec : {M : Type 1} → statement M
-step-spec =
+pub outcome-of-spec : {M : Type 1} → statement M
+outcome-of-spec =
     tie.close
     (tie.spec
     enum-told

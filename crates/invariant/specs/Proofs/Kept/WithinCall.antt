@@ -1,4 +1,5 @@
--- What is kept by each thing that a call does.
+-- What is kept by each thing that a call does: a frame, a stop, a beginning, the passing of an epoch.
+-- The idea: `Lasting` is what does not go by whether something is still to be settled, so that it holds between the parts of one call; Settling.antt and Calls.antt put the parts together.
 use mathlib.Core.Path.{_≡_, refl, sym, ap, _∙_}
 use mathlib.Core.Logic.{⊎-elim, _≢_}
 use mathlib.Core.Bool.{Bool, true, false, cond, not, _&&_, _||_, true≢false, false≢true}

@@ -5,8 +5,8 @@ use native.Mathlib.Omega.{arith}
 use lib.ListN.{length}
 use borrow.Author.Needs.{needs}
 use Rattle.reply.specs.Telling.{okHolds}
-use Rattle.reply.proofs.telling.is_held.Statement.{statement}
-use Rattle.reply.proofs.telling.is_held.Tie as tie
+use Rattle.reply.proofs.telling.ok_holds.Statement.{statement}
+use Rattle.reply.proofs.telling.ok_holds.Tie as tie
 
 abbrev Inv-loop : tie.InvT-loop
 Inv-loop n number ports held₀ i₀ held i = (length ports ≡ 64) × (i ≤ n) × (held ≡ okHolds ports i number)
@@ -37,8 +37,8 @@ loop-again c = (c .before .before .before .before .loop .inv .0, omega arith, rw
 returns : tie.Need-returns Inv-loop μ-loop
 returns c = let e : c .before .loop .i ≡ c .before .before .args .n = omega arith in rw e at (c .before .loop .inv .2)
 
-pub is-held-spec : {M : Type 1} → statement M
-is-held-spec =
+pub ok-holds-spec : {M : Type 1} → statement M
+ok-holds-spec =
     tie.close
     (tie.spec
     Inv-loop
