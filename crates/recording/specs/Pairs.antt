@@ -1,9 +1,9 @@
--- Behind the three numbers of a first line stand pairs, each a name and what it says (2026-05), 'in any order, each at most once': `kind` with the group's
+-- Behind the three numbers of a first line stand pairs, each a name and what it says (2026-05), in any order, each at most once: `kind` with the group's
 -- kind (2026-12), `hold-off` and `wait-to-restore` (2026-03) with a number for each port. The fields are taken one after the other.
-use mathlib.Core.Bool.{Bool, true, false, cond, not, _&&_}
+use mathlib.Core.Bool.{true, false, cond, not, _&&_}
 use mathlib.Core.List.{List, [], _∷_}
 use Prim.Native.Nat.{ℕ, _+_}
-use lib.Dec.{eqb, ltb}
+use lib.Dec.{ltb}
 use lib.ListN.{replicate, set}
 use Rattle.recording.specs.declared.pairs.Awaited.{Awaited}
 use Rattle.recording.specs.declared.pairs.Awaited.the-variants.{Name, Kind, HoldOff, Restore, Nothing}

@@ -4,7 +4,6 @@ use mathlib.Core.List.{List, [], _∷_, _++_}
 use Prim.Native.Nat.{ℕ}
 use lib.ListN.{replicate, take}
 use Rattle.recording.specs.declared.pairs.Settings.{Settings}
-use Rattle.recording.specs.declared.record.Record.{Record}
 use Rattle.recording.specs.declared.record.Record.the-variants.{Frame, Malformed}
 use Rattle.recording.specs.Opening.{Opening, lineOpening, opened, openingBy, settingsBy}
 use Rattle.recording.specs.Opening.{Opening as O}
@@ -30,7 +29,7 @@ lines-read : (lineRecord 1 1 0 10 (ascii "0\tf0\t0\tAb") ≡ Frame 0 240 0 7 10)
 unfolding lineRecord fieldsOf frameBy numberOf hexOf flagIn isHex digitOf
 lines-read = (refl, refl, refl, refl)
 
--- A pair that is not read: then a group with times replays as one with none. 'hold-off .. each with as many numbers as ports'.
+-- A pair that is not read: then a group with times replays as one with none. `hold-off` and `wait-to-restore` have a number for each port.
 wrong-pairs : ℕ → List ℕ → Opening
 wrong-pairs next line = openingBy next (take 3 (fieldsOf line))
 

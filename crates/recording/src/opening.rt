@@ -7,7 +7,6 @@ use crate::pairs::Pairs;
 use crate::pairs::Settings;
 use text::Number;
 ghost use mathlib.Core.Path.{_≡_};
-ghost use mathlib.Core.List.{_∷_};
 ghost use Prim.Native.Nat.{_+_, _≤_, _<_};
 ghost use lib.ListN.{drop, length};
 ghost use lib.Seq.{slice};

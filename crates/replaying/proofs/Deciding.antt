@@ -1,10 +1,10 @@
 -- The ways out of a turn.
 use mathlib.Core.Path.{_≡_, refl, sym, ap, _∙_}
-use mathlib.Core.Bool.{Bool, true, false, cond, _&&_}
-use mathlib.Core.List.{List, [], _∷_, _++_}
+use mathlib.Core.Bool.{Bool, cond, _&&_}
+use mathlib.Core.List.{List, [], _∷_}
 use Prim.Native.Nat.{ℕ, _+_, _*_, _≤_, _<_}
 use native.Mathlib.Omega.{arith}
-use lib.ListN.{length, replicate, length-replicate, drop-of-length-le, take, take-append-drop, drop}
+use lib.ListN.{length, replicate, length-replicate, drop-of-length-le, take}
 use lib.Seq.{slice, take-length}
 use Rattle.bytes.specs.Bytes.{indexOf}
 use Rattle.replaying.specs.declared.replay.Phase.{Phase}

@@ -1,18 +1,18 @@
 -- The printed lines put one behind the other, and how long they are at most.
-use mathlib.Core.Path.{_≡_, refl, sym, ap, _∙_}
+use mathlib.Core.Path.{_≡_, refl, _∙_}
 use mathlib.Core.Bool.{Bool, true, false, cond}
 use mathlib.Core.List.{List, [], _∷_, _++_}
 use Prim.Native.Nat.{ℕ, zero, suc, _+_, _*_, _/_, _%_, _≤_, _<_}
 use native.Mathlib.Omega.{arith}
 use lib.Dec.{eqb, ltb}
-use lib.ListN.{drop, getD, length, length-append}
+use lib.ListN.{getD, length, length-append}
 use lib.Seq.{sets-eq}
 use borrow.Author.Tests.{eq-eqb, ne-eqb}
 use Rattle.replaying.specs.Output.{ROOM, answerText, changeText, changesText, countIn, epochText, markText, portText, reportText, stateLine, stateText}
 use Rattle.replaying.specs.Turn.{over}
 use Rattle.text.specs.Laws.Lengths.{decimal-le, small-le}
-use Rattle.text.specs.Laws.Putting.{is-put, put-then, room, shorter}
-use Rattle.text.specs.Output.{Put, decimalText, digitsBefore, ended, numberText, putBytes, putNext}
+use Rattle.text.specs.Laws.Putting.{is-put, put-then, room}
+use Rattle.text.specs.Output.{Put, digitsBefore, ended, numberText, putBytes, putNext}
 use Rattle.text.specs.Text.{TAB}
 
 -- one text more, where all have room

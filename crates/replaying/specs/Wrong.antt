@@ -28,7 +28,7 @@ use Rattle.text.specs.Text.{fieldsOf}
 abbrev fresh : Desk
 fresh = record { replay = beginning; rows = []; store = [] }
 
--- The next line taken for the first one where that is bad. 'A bad first line ends the run'.
+-- The next line taken for the first one where that is bad: 'a bad first line ends the run'.
 wrong-after : Desk → Desk
 wrong-after d = standing [] d Settings
 
@@ -36,7 +36,7 @@ ended-breaks : (saidTo [] (wrong-after fresh) (ascii "y") ≡ answerText 13 2) �
 unfolding wrong-after saidTo deskAfter lineOpening fieldsOf settingsBy numberOf digitOf
 ended-breaks = (refl, refl)
 
--- Lines numbered from 1 in each part. 'With the state carried over': the number counts on.
+-- Lines numbered from 1 in each part. The state is 'carried over', and the number counts on with it.
 wrong-part : Desk → Desk
 wrong-part d = record { replay = within (d .replay) (d .replay .phase) 0 0; rows = d .rows; store = d .store }
 
@@ -48,7 +48,7 @@ numbers-break : (saidTo [] (wrong-part opened) (ascii "y") ≡ answerText 13 1) 
 unfolding wrong-part saidTo lineRecord fieldsOf
 numbers-break = (refl, refl)
 
--- The changed states printed before their report. 'In the order they arise': they change at the report.
+-- The changed states printed before their report. They are printed 'in the order they arise', and states change at the report.
 wrong-report : List ℕ → ℕ → List ℕ → List ℕ → ℕ → List ℕ
 wrong-report rec line before after ports = changesText before after ports ++ epochText (getD rec 1 0) (getD rec 0 0) (countIn rec) line
 

@@ -2,7 +2,7 @@
 use recording::Settings;
 use rows::Group;
 ghost use mathlib.Core.Path.{_≡_};
-ghost use mathlib.Core.List.{[], _++_};
+ghost use mathlib.Core.List.{_++_};
 ghost use Prim.Native.Nat.{_≤_};
 ghost use lib.ListN.{drop, length, take};
 ghost use Rattle.receiver.specs.Fetch.{fetchOut, fetchRecord, fetchRows};

@@ -16,7 +16,7 @@ ghost use lib.Seq.{slice};
 ghost use Rattle.replaying.specs.Laws.Lent.{Lent};
 ghost use Rattle.replaying.specs.Laws.Starts.{Small};
 ghost use Rattle.replaying.specs.Output.{ROOM};
-ghost use Rattle.replaying.specs.Turn.{answeredSaid, answeredTurn, endedTurn, fetchOutBy, fetchRecordBy, fetchRowsBy, fetchedSaid, fetchedTurn, framedTurn, framedRows, framedStore, isLent, isOpen, openRows, openSaid, openTurn, openWithRows, openWithSaid, openWithTurn, payloadAt, readBy, readRows, readSaid, readStore, readTurn, recordNow, refusedTurn, reportOut, reportRows, reportSaid, reportTurn, reportedTurn, readOnTurn, rowsStarted, skipTurn, skippedTo, startable, startedTurn, storeBy, turnOf, turnOut, turnRows, turnSaid, turnStore, waitingTurn};
+ghost use Rattle.replaying.specs.Turn.{answeredSaid, answeredTurn, endedTurn, fetchOutBy, fetchRecordBy, fetchRowsBy, fetchedSaid, fetchedTurn, framedTurn, framedRows, framedStore, isLent, isOpen, openRows, openSaid, openTurn, openWithRows, openWithSaid, openWithTurn, payloadAt, readRows, readSaid, readStore, readTurn, recordNow, refusedTurn, reportOut, reportRows, reportSaid, reportTurn, reportedTurn, readOnTurn, rowsStarted, skipTurn, skippedTo, startable, startedTurn, storeBy, turnOf, turnOut, turnRows, turnSaid, turnStore, waitingTurn};
 ghost use Rattle.rows.specs.Rows.{rowsFor};
 ghost use Rattle.text.specs.Fields.{bytesIn};
 

@@ -1,7 +1,7 @@
 -- Fields and numbers of a text (01, 'Session': 'Numbers have one to three decimal digits', 'two hex digits, either case'; request 2026-05: 'payload in hex'), by the codes of ASCII, and how they are written.
 use mathlib.Core.Path.{_≡_, refl}
 use mathlib.Core.Bool.{true, false}
-use mathlib.Core.List.{List, [], _∷_}
+use mathlib.Core.List.{[], _∷_}
 use Prim.Native.Nat.{ℕ}
 use lib.ListN.{replicate}
 use Rattle.packet.specs.declared.words.Word.{Word}

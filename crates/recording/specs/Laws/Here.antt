@@ -1,8 +1,9 @@
 -- A line that has digits, tabs and its end where a frame's line has them is that frame.
+-- Its fields hold no tab and no line end, being digits; so the first line end is the one at the end, the tabs are the only ones, and parting the line gives these fields.
 use mathlib.Core.Path.{_≡_, refl, sym, ap, _∙_}
 use mathlib.Core.Bool.{Bool, true, false, cond, _&&_, false≢true}
 use mathlib.Core.List.{List, [], _∷_, _++_}
-use Prim.Native.Nat.{ℕ, zero, suc, _+_, _-_, _≤_, _<_}
+use Prim.Native.Nat.{ℕ, suc, _+_, _-_, _≤_, _<_}
 use native.Mathlib.Omega.{arith}
 use lib.Dec.{eqb, leb, ltb}
 use lib.ListN.{drop, getD, length, take, take-append-drop}
@@ -14,7 +15,7 @@ use Rattle.recording.specs.declared.record.Record.{Record}
 use Rattle.recording.specs.declared.record.Record.the-variants.{Frame, Malformed, Long, Unfinished, End}
 use Rattle.recording.specs.Laws.Parting.{found-ends, line-short, record-ends}
 use Rattle.recording.specs.Line.{MOST, foundOf}
-use Rattle.recording.specs.Record.{flagIn, frameBy, lineRecord, recordBy, recordIn}
+use Rattle.recording.specs.Record.{flagIn, frameBy, recordIn}
 use Rattle.text.specs.declared.fields.Number.{Number}
 use Rattle.text.specs.declared.fields.Number.the-variants.{Value, Unreadable}
 use Rattle.text.specs.Ascii.{ascii}

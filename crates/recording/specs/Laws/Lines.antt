@@ -1,8 +1,9 @@
 -- What a line says does not go by where the next one is, and its payload lies in it.
-use mathlib.Core.Path.{_≡_, refl, sym, ap, _∙_}
+-- The place of the next line is only handed on: each case of the definition gives the same record with another place (`goingTo`, `opensTo`). The payload's place is that of the last field, which has two digits a byte.
+use mathlib.Core.Path.{_≡_, refl}
 use mathlib.Core.Bool.{Bool, true, false, cond, _&&_}
 use mathlib.Core.List.{List, [], _∷_}
-use Prim.Native.Nat.{ℕ, zero, suc, _+_, _-_, _≤_}
+use Prim.Native.Nat.{ℕ, suc, _+_, _-_, _≤_}
 use native.Mathlib.Omega.{arith}
 use lib.Dec.{eqb, leb, ltb}
 use lib.ListN.{length}

@@ -1,5 +1,5 @@
 -- What is left of a text from a place on, its first line, and that line's fields.
-use mathlib.Core.Path.{_≡_, refl, sym, ap, _∙_}
+use mathlib.Core.Path.{_≡_, refl, sym, _∙_}
 use mathlib.Core.Bool.{Bool, true, false, cond}
 use mathlib.Core.List.{List, [], _∷_}
 use Prim.Native.Nat.{ℕ, _+_, _-_, _≤_, _<_}
@@ -11,7 +11,6 @@ use borrow.Author.Tests.{eq-eqb, le-ltb, lt-ltb, ltb-true, ne-eqb}
 use Rattle.bytes.specs.Bytes.{indexOf}
 use Rattle.recording.specs.declared.line.Found.{Found}
 use Rattle.recording.specs.declared.line.Found.the-variants.{Nothing, Open, TooLong, Ends}
-use Rattle.recording.specs.Opening.{Opening}
 use Rattle.recording.specs.Opening.{Opening as O}
 use Rattle.recording.specs.declared.record.Record.{Record}
 use Rattle.recording.specs.declared.record.Record.the-variants as R
@@ -21,7 +20,7 @@ use Rattle.recording.specs.Opening.{lineOpening, openingBy, openingIn, s
 use Rattle.recording.specs.Record.{flagIn, frameBy, lastRecord, lineRecord, recordBy, recordIn}
 use Rattle.text.specs.declared.fields.Number.{Number}
 use Rattle.text.specs.Fields.{hexOf, isHex, numberOf}
-use Rattle.text.specs.Laws.Slices.{fields-last, fields-more, first-le, take-slice}
+use Rattle.text.specs.Laws.Slices.{fields-last, fields-more, take-slice}
 use Rattle.text.specs.Text.{LINE-END, TAB, ahead, fieldsOf, parted}
 
 rest-slice : (l : List ℕ) (at : ℕ) → slice at (length l) l ≡ drop at l

@@ -1,8 +1,8 @@
 -- Frames and fetches keep the lengths of what is lent.
-use mathlib.Core.Path.{_≡_, refl, ap, _∙_}
+use mathlib.Core.Path.{_≡_, refl, _∙_}
 use mathlib.Core.Bool.{Bool, true, false, cond, not, _&&_}
-use mathlib.Core.List.{List, [], _++_}
-use Prim.Native.Nat.{ℕ, _+_, _≤_}
+use mathlib.Core.List.{List, _++_}
+use Prim.Native.Nat.{ℕ, _≤_}
 use native.Mathlib.Omega.{arith}
 use lib.Dec.{eqb}
 use lib.ListN.{drop, length, take, length-append, length-drop}
@@ -16,7 +16,7 @@ use Rattle.phases.specs.Due.{brought}
 use Rattle.phases.specs.Passing.{passedOf}
 use Rattle.step.specs.Arrival.{flagOf}
 use Rattle.phases.specs.Laws.Lengths.{length-begin, length-passed, length-stop}
-use Rattle.phases.specs.Settling.{beginBy, gatherBy, settledOf, stopBy}
+use Rattle.phases.specs.Settling.{gatherBy, settledOf}
 use Rattle.phases.specs.Sizes.{portsIn}
 use Rattle.receiver.specs.Fetch.{dueIn, fetchOut, fetchRecord, fetchRows, fits, outIfDue, rowsIfDue}
 use Rattle.receiver.specs.Frame.{frameRefusal, frameRows, frameStore, portRows, settledBy, storeBy, takenIn, takenRows, takenStore}
@@ -29,7 +29,7 @@ use Rattle.receiver.specs.Starting.{emptyGroup, groupWith, sizedFits, sizedRows
 use Rattle.recording.specs.declared.pairs.Settings.{Settings}
 use Rattle.replaying.specs.Turn.{holdOffs, restores, startedRows, storeIn}
 use Rattle.rows.specs.declared.group.Group.{Group}
-use Rattle.rows.specs.Group.{groupAt, putGroup}
+use Rattle.rows.specs.Group.{groupAt}
 use Rattle.rows.specs.Laws.Port.{length-put-group}
 use Rattle.step.specs.declared.arrival.Taken.{Taken}
 use Rattle.store.specs.Laws.Stored.{length-stored}

@@ -1,5 +1,5 @@
 -- What settings that are taken say.
-use mathlib.Core.Path.{_≡_, refl}
+use mathlib.Core.Path.{_≡_}
 use mathlib.Core.Bool.{Bool, true, false, _&&_}
 use Prim.Native.Nat.{ℕ, _≤_}
 use native.Mathlib.Omega.{arith}
@@ -7,7 +7,6 @@ use lib.Dec.{leb}
 use borrow.Author.Tests.{leb-true}
 use Rattle.ground.specs.Truth.{and-left, and-right}
 use Rattle.packet.specs.Laws.Epochs.{half-fits}
-use Rattle.phases.specs.Sizes.{sized}
 use Rattle.receiver.specs.Laws.Sizes.{sizes-of}
 use Rattle.recording.specs.declared.pairs.Settings.{Settings}
 use Rattle.replaying.specs.Turn.{isSized, startable, storeIn, timesFit}

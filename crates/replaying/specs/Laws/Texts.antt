@@ -1,8 +1,8 @@
 -- The first line of a text, what is behind it, and more text behind that.
 use mathlib.Core.Path.{_≡_, refl, sym, ap, _∙_}
 use mathlib.Core.Bool.{Bool, true, false}
-use mathlib.Core.List.{List, [], _∷_, _++_, append-assoc, append-nil}
-use Prim.Native.Nat.{ℕ, zero, suc, _+_, _≤_, _<_}
+use mathlib.Core.List.{List, [], _∷_, _++_, append-assoc}
+use Prim.Native.Nat.{ℕ, suc, _+_, _≤_, _<_}
 use native.Mathlib.Nat.{le-of-suc-le-suc, not-suc-le-zero}
 use native.Mathlib.Omega.{arith}
 use lib.Dec.{eqb, ltb}
@@ -11,7 +11,6 @@ use lib.Seq.{drop-append-add, drop-append-le, take-all}
 use borrow.Author.Tests.{ltb-false, ltb-true}
 use Rattle.bytes.specs.Bytes.{indexAfter, indexOf}
 use Rattle.text.specs.Laws.Lines.{Free, free-append, free-line, free-take, last-line, with-end}
-use Rattle.text.specs.Laws.Parted.{index-le}
 use Rattle.text.specs.Text.{LINE-END, linesOf}
 
 abbrev pub firstOf : List ℕ → List ℕ

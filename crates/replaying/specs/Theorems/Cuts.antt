@@ -1,7 +1,7 @@
 -- However a recording is cut into parts, and however often a host calls between them, the output is the same: the whole output of the joined
 -- recording. The proof goes call by call: what is printed, and what is still to come of it, stays.
 use mathlib.Core.Path.{_≡_, refl, sym, ap, _∙_}
-use mathlib.Core.Bool.{Bool, true, false, cond, _&&_, false≢true}
+use mathlib.Core.Bool.{Bool, true, false, false≢true}
 use mathlib.Core.List.{List, [], _∷_, _++_, append-assoc, append-nil}
 use mathlib.Core.Logic.{_⊎_, inl, inr}
 use Prim.Native.Nat.{ℕ, zero, suc, _+_, _-_, _*_, _≤_, _<_}
@@ -23,7 +23,7 @@ use Rattle.recording.specs.declared.pairs.Settings.{Settings as GroupSettings}
 use Rattle.recording.specs.declared.record.Record.{Record}
 use Rattle.recording.specs.declared.record.Record.the-variants.{Frame, Malformed, Long, Unfinished, End}
 use Rattle.recording.specs.Line.{MOST, foundOf}
-use Rattle.recording.specs.Laws.Lines.{IsLine, Lies, goingTo, is-line, line-going, line-lies, line-opens, opensTo}
+use Rattle.recording.specs.Laws.Lines.{IsLine, goingTo, is-line, line-going, line-lies, line-opens, opensTo}
 use Rattle.recording.specs.Laws.Lines.IsLine.{frame, malformed}
 use Rattle.recording.specs.Opening.{lineOpening, openingIn}
 use Rattle.recording.specs.Record.{lastRecord, lineRecord, recordIn}
@@ -33,10 +33,10 @@ use Rattle.replaying.specs.declared.replay.Replay.{Replay}
 use Rattle.replaying.specs.Laws.Lent.{Lent, lent-is}
 use Rattle.replaying.specs.Laws.Lengths.{fetch-record-alike, fetch-rows-alike, length-fetch-out, length-fetch-rows, length-frame-rows, length-frame-store, length-part, length-started-rows}
 use Rattle.replaying.specs.Laws.Starts.{start-sized, start-stored}
-use Rattle.replaying.specs.Laws.Texts.{GoesOn, behind-append, behind-none, behindOf, firstOf, free-all, free-behind, goes-on, lines-first, lines-last, no-lines}
+use Rattle.replaying.specs.Laws.Texts.{behind-append, behind-none, behindOf, firstOf, free-all, free-behind, goes-on, lines-first, lines-last, no-lines}
 use Rattle.replaying.specs.Output.{ROOM, answerText}
 use Rattle.replaying.specs.Replay.{beginning, nextLine, outputOf, storeOf}
-use Rattle.replaying.specs.Runs.{Desk, Host, called, deskAfter, fetched, framed, lineIn, outputFrom, readBy, readText, reported, reports, saidTo, standing, wholeOutput}
+use Rattle.replaying.specs.Runs.{Desk, Host, called, deskAfter, outputFrom, reported, reports, saidTo, wholeOutput}
 use Rattle.replaying.specs.Theorems.Lines.{bad-first-line, bad-settings}
 use Rattle.replaying.specs.Turn as T
 use Rattle.replaying.specs.Turn.{over, within}

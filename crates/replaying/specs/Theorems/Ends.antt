@@ -1,13 +1,13 @@
 -- A host that calls until more text is wanted comes to an end (2026-05): each call uses up text or one of the fetches behind a frame.
-use mathlib.Core.Path.{_≡_, refl, sym, ap, _∙_}
-use mathlib.Core.Bool.{Bool, true, false, cond, _&&_, _||_}
+use mathlib.Core.Path.{_≡_, refl}
+use mathlib.Core.Bool.{Bool, true, false, cond, _||_}
 use mathlib.Core.List.{List, [], _∷_}
 use mathlib.Core.Logic.{_⊎_, inl, inr, ⊎-elim}
-use Prim.Native.Nat.{ℕ, zero, suc, _+_, _-_, _*_, _≤_, _<_}
+use Prim.Native.Nat.{ℕ, zero, suc, _+_, _*_, _≤_, _<_}
 use native.Mathlib.Omega.{arith}
 use lib.Dec.{eqb, ltb}
 use lib.ListN.{drop, length, length-drop}
-use borrow.Author.Tests.{eqb-false, ltb-false, ltb-true}
+use borrow.Author.Tests.{eqb-false, ltb-true}
 use Rattle.bytes.specs.Bytes.{indexOf}
 use Rattle.ground.specs.Truth.{or-right}
 use Rattle.recording.specs.Opening.{Opening}
@@ -61,23 +61,23 @@ record Goes (from : ℕ) (text : List ℕ) (a : Replayed) : Type 0 where
   on : (a .wants ≡ true) ⊎ (leaves a text < from)
 
 -- a record that is a line has bytes, and leads to a place behind its first one
-abbrev Steps : ℕ → Record → Type 0
-Steps bytes (Frame port h4 flag place next) = (1 ≤ next) × (1 ≤ bytes)
-Steps bytes (Malformed next) = (1 ≤ next) × (1 ≤ bytes)
-Steps bytes Long = 1 ≤ bytes
-Steps bytes Unfinished = Unit {0}
-Steps bytes End = Unit {0}
+abbrev MovesOn : ℕ → Record → Type 0
+MovesOn bytes (Frame port h4 flag place next) = (1 ≤ next) × (1 ≤ bytes)
+MovesOn bytes (Malformed next) = (1 ≤ next) × (1 ≤ bytes)
+MovesOn bytes Long = 1 ≤ bytes
+MovesOn bytes Unfinished = Unit {0}
+MovesOn bytes End = Unit {0}
 
-going-steps : (bytes n : ℕ) → 1 ≤ n → 1 ≤ bytes → {x : Record} → IsLine x → Steps bytes (goingTo n x)
-going-steps bytes n h k frame = (h, k)
-going-steps bytes n h k malformed = (h, k)
+going-moves : (bytes n : ℕ) → 1 ≤ n → 1 ≤ bytes → {x : Record} → IsLine x → MovesOn bytes (goingTo n x)
+going-moves bytes n h k frame = (h, k)
+going-moves bytes n h k malformed = (h, k)
 
-line-steps : (bytes ports size n : ℕ) (l : List ℕ) → 1 ≤ n → 1 ≤ bytes → Steps bytes (lineRecord ports size 0 n l)
-line-steps bytes ports size n l h k = rw (line-going ports size 0 n 0 l) (going-steps bytes n h k (is-line ports size 0 0 l))
+line-moves : (bytes ports size n : ℕ) (l : List ℕ) → 1 ≤ n → 1 ≤ bytes → MovesOn bytes (lineRecord ports size 0 n l)
+line-moves bytes ports size n l h k = rw (line-going ports size 0 n 0 l) (going-moves bytes n h k (is-line ports size 0 0 l))
 
-now-steps : (ports size : ℕ) (last : Bool) (text : List ℕ) → Steps (length text) (T.recordNow ports size last text)
+now-moves : (ports size : ℕ) (last : Bool) (text : List ℕ) → MovesOn (length text) (T.recordNow ports size last text)
 unfolding T.recordNow recordIn foundOf lastRecord
-now-steps ports size last text = go (eqb (length text) 0) (ltb (indexOf LINE-END text) (length text)) (ltb MOST (length text)) last refl refl refl
+now-moves ports size last text = go (eqb (length text) 0) (ltb (indexOf LINE-END text) (length text)) (ltb MOST (length text)) last refl refl refl
   where
     some : eqb (length text) 0 ≡ false → 1 ≤ length text
     some e = by (length text) (eqb-false (length text) 0 e)
@@ -86,14 +86,14 @@ now-steps ports size last text = go (eqb (length text) 0) (ltb (indexOf LINE-END
         by zero d = absurd (d refl)
         by (suc n) d = omega arith
 
-    go : (a b c l : Bool) → eqb (length text) 0 ≡ a → ltb (indexOf LINE-END text) (length text) ≡ b → ltb MOST (length text) ≡ c → Steps (length text) (T.recordNow ports size l text)
+    go : (a b c l : Bool) → eqb (length text) 0 ≡ a → ltb (indexOf LINE-END text) (length text) ≡ b → ltb MOST (length text) ≡ c → MovesOn (length text) (T.recordNow ports size l text)
     go true b c l ea eb ec = rw ea tt
     go false true c l ea eb ec =
         rw (ea, eb, line-closed (is-line ports size 0 (0 + indexOf LINE-END text + 1) (lib.ListN.take (indexOf LINE-END text) text)))
-        (line-steps (length text) ports size (0 + indexOf LINE-END text + 1) (lib.ListN.take (indexOf LINE-END text) text) (omega arith) (some ea))
+        (line-moves (length text) ports size (0 + indexOf LINE-END text + 1) (lib.ListN.take (indexOf LINE-END text) text) (omega arith) (some ea))
     go false false true l ea eb ec = rw (ea, eb, ec) (some ea)
     go false false false false ea eb ec = rw (ea, eb, ec) tt
-    go false false false true ea eb ec = rw (ea, eb, ec) (line-steps (length text) ports size (0 + length text) text (let s = some ea in omega arith) (some ea))
+    go false false false true ea eb ec = rw (ea, eb, ec) (line-moves (length text) ports size (0 + length text) text (let s = some ea in omega arith) (some ea))
 
 -- used text is shorter text
 shorter : (n k : ℕ) (text : List ℕ) → 1 ≤ n → 1 ≤ length text → k ≤ 2049 → 2050 * length (drop n text) + k < 2050 * length text
@@ -126,9 +126,9 @@ module _ (r : Replay) (text : List ℕ) (w : r .window ≤ 2048) where
   -- a line
   read-goes : (last : Bool) (rows store out said left : ℕ) → Goes (weight (length text) Reading left) text (T.readTurn r text last rows store out said)
   unfolding T.readTurn T.framedTurn T.answeredTurn
-  read-goes last rows store out said left = go (T.isLent r rows store out said) (T.nowIn r text last) (now-steps (r .ports) (r .size) last text)
+  read-goes last rows store out said left = go (T.isLent r rows store out said) (T.nowIn r text last) (now-moves (r .ports) (r .size) last text)
     where
-      go : (b : Bool) (x : Record) → Steps (length text) x → Goes (weight (length text) Reading left) text (cond b (T.readBy r text x) (T.refusedTurn r))
+      go : (b : Bool) (x : Record) → MovesOn (length text) x → Goes (weight (length text) Reading left) text (cond b (T.readBy r text x) (T.refusedTurn r))
       go true (Frame port h4 flag place next) s = record { narrow = w; on = inr (let d = shorter next (suc (r .window)) text (s .0) (s .1) (omega arith) in omega arith) }
       go true (Malformed next) s = record { narrow = w; on = inr (let d = shorter next 0 text (s .0) (s .1) (omega arith) in omega arith) }
       go true Long s = record { narrow = w; on = inr (let d = shorter (length text) 0 text s s (omega arith) in omega arith) }

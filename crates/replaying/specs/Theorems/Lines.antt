@@ -1,5 +1,5 @@
 -- What one line does to the output of a recording (2026-05).
-use mathlib.Core.Path.{_≡_, refl, ap, _∙_}
+use mathlib.Core.Path.{_≡_, refl}
 use mathlib.Core.Bool.{false}
 use mathlib.Core.List.{List, [], _∷_, _++_}
 use Prim.Native.Nat.{ℕ}
@@ -10,10 +10,9 @@ use Rattle.recording.specs.declared.pairs.Settings.{Settings as GroupSettings}
 use Rattle.recording.specs.Opening.{lineOpening}
 use Rattle.replaying.specs.declared.replay.Phase.the-variants.{Settings, Reading, Ended}
 use Rattle.replaying.specs.Output.{answerText}
-use Rattle.replaying.specs.Replay.{beginning, nextLine}
-use Rattle.replaying.specs.Runs.{Desk, deskAfter, lineIn, outputFrom, saidTo, standing, wholeOutput}
+use Rattle.replaying.specs.Replay.{nextLine}
+use Rattle.replaying.specs.Runs.{Desk, deskAfter, lineIn, outputFrom, saidTo, standing}
 use Rattle.replaying.specs.Turn.{answeredTurn, openWithRows, openWithTurn, startable}
-use Rattle.text.specs.Text.{linesOf}
 
 -- nothing is printed once the run has ended
 pub ended-silent : (out : List ℕ) (line left ports size window : ℕ) (rows : List (List ℕ)) (store : List ℕ) (ls : List (List ℕ))

@@ -1,5 +1,5 @@
 -- `packet_in` meets its contract: 1 or 14 where the slot is refused, and then what the group's sender answers and writes.
-use mathlib.Core.Path.{_≡_, ap, _∙_}
+use mathlib.Core.Path.{ap, _∙_}
 use native.Mathlib.Omega.{arith}
 use Rattle.sender.specs.Table.{answerNumber as senderNumber}
 use Rattle.c_face.specs.Laws.Slots.{slot-refused, slot-taken}

@@ -1,4 +1,3 @@
-use Prim.Native.Nat.{_+_, _≤_, _<_}
 use native.Mathlib.Omega.{arith}
 use Rattle.recording.specs.Laws.Parting.{more, one, three, two}
 use Rattle.recording.proofs.record.short_record.Statement.{statement}
