@@ -18,7 +18,7 @@ use Rattle.sender.specs.Board.{boardOf, highest, noRow, rowOf, rowsOf}
 use Rattle.sender.specs.Commands.{addOf, addedTo, fallen, fallenIn, freshOf, idleSlot, lapseOf, removeOf, removedFrom, startOf}
 use Rattle.sender.specs.declared.table.Table.{Table}
 use Rattle.sender.specs.Shown.{after, shown}
-use Rattle.sender.specs.Steps.{Call as C}
+use Rattle.sender.specs.Calls.{Call as C}
 use Rattle.sender.specs.Table.{membersOf, sizeOf}
 use Rattle.text.specs.Ascii.{ascii}
 use Rattle.text.specs.declared.fields.Number.the-variants.{Value, Unreadable}
