@@ -5,8 +5,8 @@ use mathlib.Core.List.{List, [], _∷_}
 use Prim.Native.Nat.{ℕ, _-_, _*_}
 use lib.ListN.{replicate}
 use Rattle.ground.specs.Table.{tabulate}
-use Rattle.invariant.specs.Calls.{Receiver, receiverRun, startedWith}
 use Rattle.invariant.specs.Calls.ReceiverCall.{Fetch, Frame}
+use Rattle.invariant.specs.Calls.{Receiver, receiverRun, startedWith}
 use Rattle.invariant.specs.Claims.{tagIn}
 use Rattle.invariant.specs.Live.{heardOf, isHeard, packetHeard, tagBack}
 use Rattle.invariant.specs.Reports.{ackIn, gives, nextReport, reportsOf, stopsWith, successive}
@@ -14,11 +14,14 @@ use Rattle.invariant.specs.Times.{outcomesOf, waitingIn}
 use Rattle.packet.specs.Counts.{carriesLow, nibbleIn, startsCount, tagByHigh, tagByLow}
 use Rattle.packet.specs.Kinds.{epochAfter, epochs, firstTag, frames, idleNumber, lead, tagBefore, tags}
 use Rattle.phases.specs.Beginning.{begins, ready}
+use Rattle.phases.specs.Due.{brought, owesNothing, silent}
+use Rattle.phases.specs.Passing.{passedGroup, passedOf, passedPort, passedPorts, passedStep}
 use Rattle.phases.specs.Settling.{beginBy, gatherBy, settledOf, stopBy}
 use Rattle.phases.specs.Sizes.{portsIn, sized, storeFor}
 use Rattle.receiver.specs.Fetch.{dueIn, fetchAnswer, fetchOut, fetchRecord, fetchRows, fits, outIfDue, recordOf, reportIfDue, rowsIfDue}
 use Rattle.receiver.specs.Frame.{frameAnswer, frameRows, frameStore, portRows, refusalBy, settledBy, storeBy, takenRows, takenStore}
 use Rattle.receiver.specs.Lengths.{fetchFits, frameFits, outputFor, rowsFit}
+use Rattle.receiver.specs.Report.{reportBy, reportedOf, reportOf, statePut, statesPut, statesWorkedOut}
 use Rattle.receiver.specs.Starting.{freshPort, freshPorts, sizedFits, sizedRows, startAsRows, startFits, startRight, timesWithin}
 use Rattle.rows.specs.declared.group.Group.{Group}
 use Rattle.rows.specs.Group.{groupAt, groupOf, groupRow, putGroup}
@@ -26,7 +29,7 @@ use Rattle.rows.specs.Member.{memberAt, memberOf, memberRow, putMember}
 use Rattle.rows.specs.Packets.{putMarks, putPackets}
 use Rattle.rows.specs.Rows.{putRow, rowIn}
 use Rattle.rows.specs.Step.{putStep, stepAt, stepOf, stepRow}
-use Rattle.step.specs.Arrival.{countsOn, flagged, inStep, takenOf}
+use Rattle.step.specs.Arrival.{countsOn, flagged, inStep, readable, takenOf}
 use Rattle.step.specs.Run.{begunRun, gainedRun, inStepAt, runOn, secondRun}
 
 abbrev nines : ℕ → List ℕ
@@ -96,3 +99,55 @@ outcomes = refl
 standing : waitingIn (memberAt (startedWith 0 2 2 16 (3 ∷ 4 ∷ []) (5 ∷ 6 ∷ []) (replicate 11 (replicate 16 0)) (nines 96) .rows) 1) ≡ 0 ∷ 255 ∷ 4 ∷ 6 ∷ 0 ∷ []
 unfolding frames freshPort freshPorts idleNumber memberAt memberOf memberRow putGroup putMarks putMember putPackets putRow putStep rowIn sized sizedFits sizedRows startAsRows startFits startRight tags timesWithin
 standing = refl
+
+-- a receiver in the midst of receiving, none of whose ports is in step; count, P and RS-Ack have numbers of their own
+abbrev receiving : ℕ → ℕ → Receiver
+receiving begun gathered =
+    record {
+      rows = putGroup (startedWith 0 2 3 16 [] [] (replicate 11 (replicate 16 0)) (nines 128) .rows)
+      (record {
+        spare = replicate 4 0;
+        kind = 0;
+        count = 2;
+        payload = 3;
+        window = 16;
+        begun = begun;
+        gathered = gathered;
+        oldest = 255;
+        origin = 0;
+        «rs_ack» = 1;
+      });
+      store = nines 128;
+    }
+
+-- Two ports, P 3: an output of 96 bytes and a record of 8 fit. No port is readable, so that none owes a frame: every fetch that fits gives the next epoch. (No call leads here: with its last readable port receiving stops.)
+reports :
+    (groupAt (startedWith 0 2 3 16 [] [] (replicate 11 (replicate 16 0)) (nines 128) .rows) .count ≡ 2)
+    × (groupAt (startedWith 0 2 3 16 [] [] (replicate 11 (replicate 16 0)) (nines 128) .rows) .payload ≡ 3)
+    × (gives (receiving 1 1) (nines 96) (nines 8) ≡ true)
+    × (gives (receiving 1 1) (nines 95) (nines 8) ≡ false)
+    × (gives (receiving 1 1) (nines 96) (nines 7) ≡ false)
+    × (gives (receiving 1 0) (nines 96) (nines 8) ≡ false)
+    × (gives (receiving 0 1) (nines 96) (nines 8) ≡ false)
+    × (reportsOf (receiving 1 1) (Fetch (nines 96) (nines 8) ∷ Fetch (nines 95) (nines 8) ∷ Fetch (nines 96) (nines 8) ∷ []) ≡ 255 ∷ 0 ∷ [])
+    × (reportsOf (receiving 1 1) (Frame 2 false 0x30 (nines 3) ∷ Fetch (nines 96) (nines 8) ∷ []) ≡ 255 ∷ [])
+    × (ackIn (receiving 1 1 .rows) ≡ 1)
+unfolding begunRun brought carriesLow countsOn dueIn epochAfter epochs fetchFits fetchRows fits frameAnswer frameFits frameRows frames frameStore freshPort freshPorts gainedRun groupAt groupOf groupRow inStep inStepAt outputFor owesNothing passedGroup passedOf passedPort passedPorts passedStep portsIn putGroup putMarks putMember putPackets putRow putStep readable refusalBy reportBy reportedOf reportIfDue reportOf rowIn rowsFit rowsIfDue runOn secondRun sized sizedFits sizedRows startAsRows startFits startRight startsCount statePut statesPut statesWorkedOut stepAt stepOf stepRow storeFor tagByHigh tagByLow tags takenOf takenRows takenStore timesWithin
+reports = (refl, refl, refl, refl, refl, refl, refl, refl, refl, refl)
+
+-- a frame after which no port is readable, flagged or not; none that is refused, and none where receiving has not begun
+stops :
+    (stopsWith (receiving 1 0 .rows) 1 false 0x30 (nines 3) (nines 128) ≡ true)
+    × (stopsWith (receiving 1 0 .rows) 1 true 0x30 (nines 3) (nines 128) ≡ true)
+    × (stopsWith (receiving 1 0 .rows) 2 false 0x30 (nines 3) (nines 128) ≡ false)
+    × (stopsWith (receiving 1 0 .rows) 1 false 0x30 (nines 2) (nines 128) ≡ false)
+    × (stopsWith (receiving 1 0 .rows) 1 false 0x30 (nines 3) (nines 127) ≡ false)
+    × (stopsWith (receiving 0 1 .rows) 1 false 0x30 (nines 3) (nines 128) ≡ false)
+unfolding begunRun carriesLow countsOn flagged frameFits frames freshPort freshPorts gainedRun groupAt groupOf groupRow inStep inStepAt outputFor portRows portsIn putGroup putMarks putMember putPackets putRow putStep readable ready refusalBy rowIn rowsFit runOn secondRun silent sized sizedFits sizedRows startAsRows startFits startRight startsCount stepAt stepOf stepRow storeFor tagByHigh tagByLow tags takenOf timesWithin
+stops = (refl, refl, refl, refl, refl, refl)
+
+-- of a port's numbers those that waiting goes by
+waits :
+    waitingIn (record { spare = 41 ∷ 42 ∷ 43 ∷ 44 ∷ []; word = 15; number = 16; state = 2; «state_number» = 17; «told_word» = 3; «told_number» = 18; «hold_off» = 21; restore = 22; elapsed = 23 })
+    ≡ 2 ∷ 17 ∷ 21 ∷ 22 ∷ 23 ∷ []
+waits = refl
