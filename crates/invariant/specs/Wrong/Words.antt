@@ -105,18 +105,18 @@ abbrev receiving : ℕ → ℕ → Receiver
 receiving begun gathered =
     record {
       rows = putGroup (startedWith 0 2 3 16 [] [] (replicate 11 (replicate 16 0)) (nines 128) .rows)
-      (record {
-        spare = replicate 4 0;
-        kind = 0;
-        count = 2;
-        payload = 3;
-        window = 16;
-        begun = begun;
-        gathered = gathered;
-        oldest = 255;
-        origin = 0;
-        «rs_ack» = 1;
-      });
+          (record {
+            spare = replicate 4 0;
+            kind = 0;
+            count = 2;
+            payload = 3;
+            window = 16;
+            begun = begun;
+            gathered = gathered;
+            oldest = 255;
+            origin = 0;
+            «rs_ack» = 1;
+          });
       store = nines 128;
     }
 
