@@ -1,6 +1,6 @@
 -- Words of the theorems, worked out on a receiver of two ports, P 2 and W 16: a theorem says no more than its words do.
-use mathlib.Core.Path.{_≡_, refl}
-use mathlib.Core.Bool.{true, false}
+use mathlib.Core.Path.{_≡_, refl, sym}
+use mathlib.Core.Bool.{true, false, false≢true}
 use mathlib.Core.List.{List, [], _∷_}
 use Prim.Native.Nat.{ℕ, _-_, _*_}
 use lib.ListN.{replicate}
@@ -9,7 +9,7 @@ use Rattle.invariant.specs.Calls.ReceiverCall.{Fetch, Frame}
 use Rattle.invariant.specs.Calls.{Receiver, receiverRun, startedWith}
 use Rattle.invariant.specs.Claims.{tagIn}
 use Rattle.invariant.specs.Live.{heardOf, isHeard, packetHeard, tagBack}
-use Rattle.invariant.specs.Reports.{ackIn, gives, nextReport, reportsOf, stopsWith, successive}
+use Rattle.invariant.specs.Reports.{Unstopped, ackIn, gives, nextReport, reportsOf, stopsWith, successive}
 use Rattle.invariant.specs.Times.{outcomesOf, waitingIn}
 use Rattle.packet.specs.Counts.{carriesLow, nibbleIn, startsCount, tagByHigh, tagByLow}
 use Rattle.packet.specs.Kinds.{epochAfter, epochs, firstTag, frames, idleNumber, lead, tagBefore, tags}
@@ -135,7 +135,13 @@ reports :
 unfolding begunRun brought carriesLow countsOn dueIn epochAfter epochs fetchFits fetchRows fits frameAnswer frameFits frameRows frames frameStore freshPort freshPorts gainedRun groupAt groupOf groupRow inStep inStepAt outputFor owesNothing passedGroup passedOf passedPort passedPorts passedStep portsIn putGroup putMarks putMember putPackets putRow putStep readable refusalBy reportBy reportedOf reportIfDue reportOf rowIn rowsFit rowsIfDue runOn secondRun sized sizedFits sizedRows startAsRows startFits startRight startsCount statePut statesPut statesWorkedOut stepAt stepOf stepRow storeFor tagByHigh tagByLow tags takenOf takenRows takenStore timesWithin
 reports = (refl, refl, refl, refl, refl, refl, refl, refl, refl, refl)
 
--- a frame after which no port is readable, flagged or not; none that is refused, and none where receiving has not begun
+-- the same with port 0 in step and joined
+abbrev joined : List (List ℕ)
+joined =
+    putStep (receiving 1 0 .rows) 0
+    (record { spare = replicate 5 0; had = 1; failed = 0; count = 32; next = 853; joined = 1; since = 0; later = 0; whole = 0; breaks = 0; odd = 0 })
+
+-- a frame after which no port is readable, flagged or not; none that is refused, none where receiving has not begun, and none that leaves another port readable
 stops :
     (stopsWith (receiving 1 0 .rows) 1 false 0x30 (nines 3) (nines 128) ≡ true)
     × (stopsWith (receiving 1 0 .rows) 1 true 0x30 (nines 3) (nines 128) ≡ true)
@@ -143,8 +149,18 @@ stops :
     × (stopsWith (receiving 1 0 .rows) 1 false 0x30 (nines 2) (nines 128) ≡ false)
     × (stopsWith (receiving 1 0 .rows) 1 false 0x30 (nines 3) (nines 127) ≡ false)
     × (stopsWith (receiving 0 1 .rows) 1 false 0x30 (nines 3) (nines 128) ≡ false)
+    × (stopsWith joined 1 true 0x30 (nines 3) (nines 128) ≡ false)
+    × (stopsWith joined 0 true 0x30 (nines 3) (nines 128) ≡ true)
 unfolding begunRun carriesLow countsOn flagged frameFits frames freshPort freshPorts gainedRun groupAt groupOf groupRow inStep inStepAt outputFor portRows portsIn putGroup putMarks putMember putPackets putRow putStep readable ready refusalBy rowIn rowsFit runOn secondRun silent sized sizedFits sizedRows startAsRows startFits startRight startsCount stepAt stepOf stepRow storeFor tagByHigh tagByLow tags takenOf timesWithin
-stops = (refl, refl, refl, refl, refl, refl)
+stops = (refl, refl, refl, refl, refl, refl, refl, refl)
+
+unstopped : Unstopped (receiving 1 1) (Frame 2 false 0x30 (nines 3) ∷ Fetch (nines 95) (nines 8) ∷ [])
+unfolding begunRun carriesLow countsOn flagged frameFits frames freshPort freshPorts gainedRun groupAt groupOf groupRow inStep inStepAt outputFor portRows portsIn putGroup putMarks putMember putPackets putRow putStep readable ready refusalBy rowIn rowsFit runOn secondRun silent sized sizedFits sizedRows startAsRows startFits startRight startsCount stepAt stepOf stepRow storeFor tagByHigh tagByLow tags takenOf timesWithin
+unstopped = (refl, tt)
+
+stopped : Unstopped (receiving 1 0) (Fetch (nines 95) (nines 8) ∷ Frame 1 false 0x30 (nines 3) ∷ []) → ⊥
+unfolding begunRun carriesLow countsOn fetchFits fetchRows fits flagged frameFits frames freshPort freshPorts gainedRun groupAt groupOf groupRow inStep inStepAt outputFor portRows portsIn putGroup putMarks putMember putPackets putRow putStep readable ready refusalBy rowIn rowsFit runOn secondRun silent sized sizedFits sizedRows startAsRows startFits startRight startsCount stepAt stepOf stepRow storeFor tagByHigh tagByLow tags takenOf timesWithin
+stopped u = false≢true (sym (u .0))
 
 -- of a port's numbers those that waiting goes by
 waits :
