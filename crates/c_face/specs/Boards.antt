@@ -47,8 +47,8 @@ shownBytes n state new out = cond (bothSized n state out) new out
 abbrev pub boardBytesC : List ℕ → List ℕ → List ℕ
 boardBytesC state out = shownBytes boardBytes state (boardBytesOf (boardOf (senderOf state .table))) out
 
-abbrev pub goingBytesC : List ℕ → List ℕ → List ℕ
-goingBytesC state out = shownBytes boardBytes state (boardBytesOf (senderOf state .outgoing)) out
+abbrev pub outgoingBytesC : List ℕ → List ℕ → List ℕ
+outgoingBytesC state out = shownBytes boardBytes state (boardBytesOf (senderOf state .outgoing)) out
 
 abbrev pub ranksBytesC : List ℕ → List ℕ → List ℕ
 ranksBytesC state out = shownBytes ranksBytes state (ranksBytesOf (ranksOf (senderOf state))) out

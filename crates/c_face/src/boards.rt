@@ -6,7 +6,7 @@ use sender::Ranks;
 ghost use mathlib.Core.Path.{_≡_};
 ghost use lib.ListN.{length};
 ghost use Rattle.sender.specs.Table.{sizeOf};
-ghost use Rattle.c_face.specs.Boards.{boardBytes, boardBytesC, boardBytesOf, goingBytesC, ranksBytes, ranksBytesC, ranksBytesOf, shownAnswerC};
+ghost use Rattle.c_face.specs.Boards.{boardBytes, boardBytesC, boardBytesOf, outgoingBytesC, ranksBytes, ranksBytesC, ranksBytesOf, shownAnswerC};
 
 // A board.
 pub(crate) const BOARD_BYTES: usize = 130;
@@ -65,7 +65,7 @@ pub extern "C" fn levelspruce_sender_board(state: &[u8], board: &mut [u8]) -> u8
 #[no_mangle]
 pub extern "C" fn levelspruce_sender_board_going(state: &[u8], board: &mut [u8]) -> u8
     ensures { λ r. ⌜ (r ≡ shownAnswerC 130 (now (state .entry)) (now (board .entry)))
-        × (now (board .exit) ≡ goingBytesC (now (state .entry)) (now (board .entry))) ⌝ }
+        × (now (board .exit) ≡ outgoingBytesC (now (state .entry)) (now (board .entry))) ⌝ }
 {
     if state.len() != SENDER_BYTES {
         return 9;

@@ -323,9 +323,9 @@ pub extern "C" fn levelspruce_card_packet(state: &[u8], group: u32, slot: u32, h
     }
     let owner = owner_at(state, slot);
     if group == 0 {
-        return packet_in(owner, group, &state[64..461], slot, h4);
+        return packet_in(owner, group, &state[FIRST_PART..SECOND_PART], slot, h4);
     }
-    packet_in(owner, group, &state[461..858], slot, h4)
+    packet_in(owner, group, &state[SECOND_PART..CARD_BYTES], slot, h4)
 }
 
 #[no_mangle]

@@ -95,7 +95,7 @@ says g s failed odd h =
 
 -- a port that is not in step, and hence not readable; its flag
 pub record OutOfStep (s : List (List ℕ)) (i flag : ℕ) : Type 0 where
-  pub groupOutcome : inStep (groupAt s) (stepAt s i) ≡ false
+  pub not-in-step : inStep (groupAt s) (stepAt s i) ≡ false
   pub unreadable : readable (groupAt s) (stepAt s i) ≡ false
   pub flag-is : stepAt s i .failed ≡ flag
 
@@ -136,7 +136,7 @@ module _ (s : List (List ℕ)) (i : ℕ) (failed : Bool) (h : ℕ) (payload stor
   finish flag r c k w =
       let o : inStepAt (groupAt r .kind) (stepAt r i .count) ≡ false = rw (k, c .count) (w .0) in
       record {
-        groupOutcome = o;
+        not-in-step = o;
         unreadable = unread (flagOf (groupAt r .begun)) (inStepAt (groupAt r .kind) (stepAt r i .count)) (flagOf (stepAt r i .joined) || flagOf (stepAt r i .since)) o;
         flag-is = c .failed ∙ w .1;
       }

@@ -133,8 +133,8 @@ abbrev oks : List Port
 oks = port 2 9 2 9 ∷ port 5 255 0 255 ∷ port 3 0 2 0 ∷ port 1 2 1 2 ∷ []
 
 -- one port in step, begun
-abbrev running : Host
-running = fed 0 48 0 (opened 1 16)
+abbrev receiving : Host
+receiving = fed 0 48 0 (opened 1 16)
 
 pub table : List Row
 table =
@@ -214,13 +214,13 @@ table =
     }
     ∷ record {
       name = "a flagged frame starts no new count";
-      given = flagged 0 48 running .answer ∷ fed 0 46 49 (flagged 0 48 running) .answer ∷ fed 0 47 49 (flagged 0 48 running) .answer ∷ [];
+      given = flagged 0 48 receiving .answer ∷ fed 0 46 49 (flagged 0 48 receiving) .answer ∷ fed 0 47 49 (flagged 0 48 receiving) .answer ∷ [];
       said = 10 ∷ 12 ∷ 0 ∷ [];
     }
     ∷ record { name = "a port with no frame keeps receiving from beginning"; given = begun (fed 0 64 0 (opened 2 16)); said = 0 ∷ 0 ∷ [] }
     ∷ record { name = "a port flagged failed does not"; given = begun (flagged 1 0 (fed 0 64 0 (opened 2 16))); said = 10 ∷ 1 ∷ [] }
     ∷ record { name = "with all ports flagged nothing begins"; given = begun (flagged 0 0 (opened 1 16)); said = 10 ∷ 0 ∷ [] }
-    ∷ record { name = "with no port readable any more receiving stops"; given = begun running ++ begun (flagged 0 48 running); said = 0 ∷ 1 ∷ 10 ∷ 0 ∷ [] }
+    ∷ record { name = "with no port readable any more receiving stops"; given = begun receiving ++ begun (flagged 0 48 receiving); said = 0 ∷ 1 ∷ 10 ∷ 0 ∷ [] }
     ∷ record { name = "NORM 0, EOS 1, DNU 2 are sure"; given = verdict (saw 2 0 1 ∷ saw 3 1 1 ∷ saw 15 2 1 ∷ []) ∷ []; said = 3 ∷ [] }
     ∷ record { name = "ranks go by number among active ports"; given = ranked (saw 3 2 0 ∷ saw 2 0 0 ∷ saw 15 1 0 ∷ []); said = 2 ∷ 1 ∷ 0 ∷ [] }
     ∷ record { name = "a refused packet holds"; given = verdict (saw 3 0 0 ∷ bad ∷ []) ∷ []; said = 1 ∷ [] }
@@ -254,14 +254,14 @@ table =
     ∷ record {
       name = "what is shown of a port";
       given =
-          getD (portsOut (running .rows) (replicate 8 9 ∷ [])) 0 [] ++ getD (portsOut (flagged 0 48 running .rows) (replicate 8 9 ∷ [])) 0 [];
+          getD (portsOut (receiving .rows) (replicate 8 9 ∷ [])) 0 [] ++ getD (portsOut (flagged 0 48 receiving .rows) (replicate 8 9 ∷ [])) 0 [];
       said = 0 ∷ 255 ∷ 1 ∷ 1 ∷ 1 ∷ 0 ∷ 255 ∷ 0 ∷ 0 ∷ 255 ∷ 0 ∷ 0 ∷ 0 ∷ 1 ∷ 255 ∷ 0 ∷ [];
     }
     ∷ record {
       name = "what is shown of a port in step that has not joined, readable and not";
       given =
-          portShown (groupAt (running .rows)) (stepTo (stepAt (running .rows) 0) 0 (record { count = 32; next = 5; breaks = 0; odd = 0 }) 0 1 0) (memberOf (2 ∷ 7 ∷ 1 ∷ 5 ∷ replicate 12 0))
-          ++ portShown (groupAt (running .rows)) (stepTo (stepAt (running .rows) 0) 0 (record { count = 32; next = 5; breaks = 0; odd = 0 }) 0 0 0) (memberOf (2 ∷ 7 ∷ 1 ∷ 5 ∷ replicate 12 0));
+          portShown (groupAt (receiving .rows)) (stepTo (stepAt (receiving .rows) 0) 0 (record { count = 32; next = 5; breaks = 0; odd = 0 }) 0 1 0) (memberOf (2 ∷ 7 ∷ 1 ∷ 5 ∷ replicate 12 0))
+          ++ portShown (groupAt (receiving .rows)) (stepTo (stepAt (receiving .rows) 0) 0 (record { count = 32; next = 5; breaks = 0; odd = 0 }) 0 0 0) (memberOf (2 ∷ 7 ∷ 1 ∷ 5 ∷ replicate 12 0));
       said = 1 ∷ 5 ∷ 1 ∷ 0 ∷ 1 ∷ 0 ∷ 2 ∷ 0 ∷ 1 ∷ 5 ∷ 1 ∷ 0 ∷ 0 ∷ 0 ∷ 2 ∷ 0 ∷ [];
     }
     ∷ record {

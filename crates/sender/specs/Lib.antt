@@ -1,4 +1,5 @@
 pub mod Board
+pub mod Calls
 pub mod Commands
 pub mod Epochs
 pub mod Laws
@@ -7,7 +8,6 @@ pub mod Outcomes
 pub mod Ranks
 pub mod Reports
 pub mod Shown
-pub mod Calls
 pub mod Table
 pub mod Theorems
 mod Wrong

@@ -36,7 +36,7 @@ pub fn piece_end(text: &[u8], at: usize, limit: usize, mark: u8) -> usize
 }
 
 // How many bytes the field has.
-pub(crate) fn size_of(text: &[u8], at: usize, limit: usize) -> usize
+pub(crate) fn field_size(text: &[u8], at: usize, limit: usize) -> usize
     ensures { λ r. ⌜ r ≡ length (slice at limit (now (text .entry))) ⌝ }
 {
     let end = end_of(text, limit);
@@ -70,7 +70,7 @@ pub(crate) fn are_digits(text: &[u8], at: usize, limit: usize, base: u8) -> bool
     requires { ⌜ base ≤ 16 ⌝ }
     ensures { λ r. ⌜ r ≡ areDigits base (slice at limit (now (text .entry))) ⌝ }
 {
-    let count = size_of(text, at, limit);
+    let count = field_size(text, at, limit);
     let mut good = true;
     let mut i = 0;
     while i < count {
@@ -85,7 +85,7 @@ fn value_of(text: &[u8], at: usize, limit: usize, base: u8) -> u32
     requires { ⌜ (areDigits base (slice at limit (now text)) ≡ true) × (0 < base) × (base ^ length (slice at limit (now text)) ≤ 4294967296) × (base ≤ 16) ⌝ }
     ensures { λ r. ⌜ r ≡ valueOf base 0 (slice at limit (now (text .entry))) ⌝ }
 {
-    let count = size_of(text, at, limit);
+    let count = field_size(text, at, limit);
     let mut value = 0u32;
     let mut i = 0;
     while i < count {
@@ -106,7 +106,7 @@ fn wide(n: u8) -> u32
 pub fn read_number(text: &[u8], at: usize, limit: usize, most: usize) -> Number
     ensures { λ r. ⌜ r ≡ numberOf most (slice at limit (now (text .entry))) ⌝ }
 {
-    let count = size_of(text, at, limit);
+    let count = field_size(text, at, limit);
     if count == 0 {
         return Number::Unreadable;
     }
@@ -126,7 +126,7 @@ pub fn read_number(text: &[u8], at: usize, limit: usize, most: usize) -> Number
 pub fn read_hex(text: &[u8], at: usize, limit: usize, digits: usize) -> Number
     ensures { λ r. ⌜ r ≡ hexOf digits (slice at limit (now (text .entry))) ⌝ }
 {
-    let count = size_of(text, at, limit);
+    let count = field_size(text, at, limit);
     if count == 0 {
         return Number::Unreadable;
     }

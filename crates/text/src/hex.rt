@@ -11,7 +11,7 @@ ghost use Rattle.text.specs.Fields.{bytesIn, bytesOf, digitOf, isHex};
 pub fn is_hex(text: &[u8], at: usize, limit: usize, digits: usize) -> bool
     ensures { λ r. ⌜ r ≡ isHex digits (slice at limit (now (text .entry))) ⌝ }
 {
-    if fields::size_of(text, at, limit) != digits {
+    if fields::field_size(text, at, limit) != digits {
         return false;
     }
     fields::are_digits(text, at, limit, 16)

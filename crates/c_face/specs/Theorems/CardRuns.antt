@@ -250,12 +250,12 @@ call-leaves c g k hg o =
     })
     k
 
--- A state in which a card is held, and what a C call makes of it.
+-- A state in which a card is keepable, and what a C call makes of it.
 record KeepsCard (state : List ℕ) (c : Card) : Type 0 where
   pub sized : length state ≡ 858
   pub row : ownersIn state ≡ c .owners
   pub part : (g : ℕ) → g < 2 → senderOf (partIn g state) ≡ P.senderOf c g
-  pub held : KeepableCard c
+  pub keepable : KeepableCard c
 
 card-is : (state : List ℕ) (c : Card) → KeepsCard state c → cardOf state ≡ c
 unfolding cardOf P.senderOf
@@ -264,16 +264,16 @@ card-is state c k = rw (k .row, k .part 0 (omega arith), k .part 1 (omega arith)
 -- the part of one group written, where the other's stands
 put-keeps : (state : List ℕ) (c d : Card) (g : ℕ) → g < 2 → length state ≡ 858 → length (d .owners) ≡ 64 → ((h : ℕ) → h < 2 → Keepable (P.senderOf d h))
     → ((h : ℕ) → h < 2 → g ≢ h → senderOf (partIn h state) ≡ P.senderOf d h) → KeepsCard (putOwn g d state) d
-put-keeps state c d g hg sized row held other =
+put-keeps state c d g hg sized row keepable other =
     record {
       sized = put-sized g d state ∙ sized;
       row = own-row d state sized g row;
       part = λ h l. ⊎-elim (λ (e : g ≡ h). rw (← e) (own h e)) (λ (n : g ≢ h). ap senderOf (put-apart d state h g l hg n) ∙ other h l n) (eq-or-ne g h);
-      held = record { row = row; part = held };
+      keepable = record { row = row; part = keepable };
     }
   where
     own : (h : ℕ) → g ≡ h → senderOf (partIn g (putOwn g d state)) ≡ P.senderOf d g
-    own h e = ap senderOf (own-part d state sized g) ∙ round (P.senderOf d g) (keepable-whole (P.senderOf d g) (held g hg))
+    own h e = ap senderOf (own-part d state sized g) ∙ round (P.senderOf d g) (keepable-whole (P.senderOf d g) (keepable g hg))
 
 kept-keeps : (state : List ℕ) (c : Card) (g : ℕ) (k : Call) → g < 2 → KeepsCard state c → KeepsCard (keptCard g (outcomeOf c g k) state) (outcomeOf c g k .card)
 kept-keeps state c g k hg o =
@@ -282,10 +282,10 @@ kept-keeps state c g k hg o =
     (λ e. rw (call-refused c g k (λ z. clash (eqb (answerNumber (outcomeOf c g k .answer)) 0) (eq-eqb (answerNumber (outcomeOf c g k .answer)) 0 z) e)) o)
   where
     w : Leaves c g (outcomeOf c g k)
-    w = call-leaves c g k hg (o .held)
+    w = call-leaves c g k hg (o .keepable)
 
     keepables : (h : ℕ) → h < 2 → Keepable (P.senderOf (outcomeOf c g k .card) h)
-    keepables h l = ⊎-elim (λ (e : g ≡ h). rw (← e) (w .own)) (λ (n : g ≢ h). rw (w .other h l n) (o .held .part h l)) (eq-or-ne g h)
+    keepables h l = ⊎-elim (λ (e : g ≡ h). rw (← e) (w .own)) (λ (n : g ≢ h). rw (w .other h l n) (o .keepable .part h l)) (eq-or-ne g h)
 
 fit-keeps : (state : List ℕ) (c : Card) (g : ℕ) (k : Call) → KeepsCard state c → KeepsCard (callStateOn true g k state) (outcomeOf c g k .card)
 unfolding callStateOn

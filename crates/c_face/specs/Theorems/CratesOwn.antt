@@ -30,7 +30,7 @@ use Rattle.sender.specs.declared.table.Answer.the-variants.{Done, OutOfRange}
 use Rattle.sender.specs.declared.table.Outcome.{Outcome}
 use Rattle.sender.specs.Epochs.{SenderCall, beginOf, packetAnswer, packetBytes, payloadAnswer, payloadBytes, ranksOf, senderOutcomeOf}
 use Rattle.sender.specs.Table.{answerNumber}
-use Rattle.c_face.specs.Boards.{boardBytesC, boardBytesOf, goingBytesC, ranksBytesC, ranksBytesOf, shownAnswerC, shownBytes}
+use Rattle.c_face.specs.Boards.{boardBytesC, boardBytesOf, outgoingBytesC, ranksBytesC, ranksBytesOf, shownAnswerC, shownBytes}
 use Rattle.c_face.specs.Cards.{boardBytesOn, callAnswerOn, callStateOn, cardOf, keptCard, outgoingBytesOn, ownedBytesOn, packetAnswerOn, packetBytesOn, payloadAnswerOn, payloadBytesOn, putCard, ranksBytesOn, shownAnswerOn, shownBytesOn, startAnswerOn, startStateOn}
 use Rattle.c_face.specs.Keeping.{bytesOf, senderOf}
 use Rattle.c_face.specs.Payloads.{joinAnswerC, joinFrameC, spreadAnswerC, spreadMembersC}
@@ -130,7 +130,7 @@ payload-own state slot P frame member h = rw (eq-eqb (length state) 397 h) (refl
 
 -- levelspruce_sender_board is board_of the table, levelspruce_sender_board_going the board going out, levelspruce_sender_ranks is Sender::ranks
 pub board-own : (state board : List ℕ) → length state ≡ 397 → length board ≡ 130
-    → (shownAnswerC 130 state board ≡ 0) × (boardBytesC state board ≡ boardBytesOf (boardOf (senderOf state .table))) × (goingBytesC state board ≡ boardBytesOf (senderOf state .outgoing))
+    → (shownAnswerC 130 state board ≡ 0) × (boardBytesC state board ≡ boardBytesOf (boardOf (senderOf state .table))) × (outgoingBytesC state board ≡ boardBytesOf (senderOf state .outgoing))
 unfolding shownAnswerC shownBytes
 board-own state board h l = rw (eq-eqb (length state) 397 h, eq-eqb (length board) 130 l) (refl, refl, refl)
 

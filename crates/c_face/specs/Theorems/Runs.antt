@@ -119,22 +119,22 @@ call-given s (OnTable c) k =
     (table-given (s .table) c k)
 call-given s (StartEpoch gid mst ack) k = epoch-given s (startedSender s gid mst ack) (ltb gid 2 && ltb ack 2) k
 
--- A state in which a sender is held, and what a C call makes of it.
+-- A state in which a sender is keepable, and what a C call makes of it.
 record Keeps (state : List ℕ) (s : Sender) : Type 0 where
   pub sized : length state ≡ 397
   pub is : senderOf state ≡ s
-  pub held : Keepable s
+  pub keepable : Keepable s
 
 bytes-keep : (s : Sender) → Keepable s → Keeps (bytesOf s) s
 unfolding bytesOf
-bytes-keep s h = record { sized = length-tabulate 397 (byteAt s); is = round s (keepable-whole s h); held = h }
+bytes-keep s h = record { sized = length-tabulate 397 (byteAt s); is = round s (keepable-whole s h); keepable = h }
 
 kept-call : (state : List ℕ) (s : Sender) (c : SenderCall) → Keeps state s → Keeps (keptBytes (senderOutcomeOf s c) state) (senderOutcomeOf s c .sender)
 unfolding refuses
 kept-call state s c k = go (refuses (senderOutcomeOf s c .answer)) refl
   where
     go : (b : Bool) → refuses (senderOutcomeOf s c .answer) ≡ b → Keeps (cond b (bytesOf (senderOutcomeOf s c .sender)) state) (senderOutcomeOf s c .sender)
-    go true e = bytes-keep (senderOutcomeOf s c .sender) (keepable-call s c (k .held))
+    go true e = bytes-keep (senderOutcomeOf s c .sender) (keepable-call s c (k .keepable))
     go false e = rw (call-given s c e) k
 
 call-keeps : (state : List ℕ) (s : Sender) (c : SenderCall) → Keeps state s → Keeps (callStateC true c state) (senderOutcomeOf s c .sender)

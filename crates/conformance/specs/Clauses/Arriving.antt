@@ -73,14 +73,14 @@ unfolding begunRun breaksAfter counts countsOn endsEpoch endsPacket frames furth
 counting = (refl, refl, refl, refl, refl)
 
 -- 'A frame in step of a port that has not joined is answered 0 and dropped', also an epoch's first beyond the window, and every frame before the beginning; the 32nd right frame is in step
-passing :
+dropping :
     (takenOf (group 0 1) (step 0 1 33 904 6 7 8 2 1) false false 0x78 ≡ dropped (step 1 0 33 905 6 7 8 0 1) 0 true true)
     × (takenOf (group 0 1) (step 0 1 31 904 6 7 8 0 0) false false 0x78 ≡ dropped (step 1 0 32 905 6 7 8 0 0) 0 true true)
     × (takenOf begun (step 0 1 33 905 0 7 8 2 1) false false 0x79 ≡ dropped (step 1 0 33 906 0 7 8 0 1) 0 true false)
     × (takenOf begun (step 0 1 33 952 0 7 8 2 1) false false 0x78 ≡ dropped (step 1 0 33 953 0 7 8 0 1) 0 true false)
     × (takenOf begun (step 0 1 33 888 0 7 8 2 1) false false 0x78 ≡ dropped (step 1 0 33 889 0 7 8 0 1) 0 true false)
 unfolding after arrives breaksAfter byStart counts distanceIn distanceOf endsEpoch endsPacket firstTag frameDropped frames furtherRun gainedRun inStepAt lead loses oddAfter placeOf runOn startsEpoch stayedRun tagAfter takenOf tags
-passing = (refl, refl, refl, refl, refl)
+dropping = (refl, refl, refl, refl, refl)
 
 -- 'A port joins at its first epoch start in the window': epoch 57's, or one or two epochs later
 joins :

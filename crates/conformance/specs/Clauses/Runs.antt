@@ -4,7 +4,7 @@ use mathlib.Core.Bool.{true, false}
 use mathlib.Core.List.{List, [], _∷_, _++_}
 use Prim.Native.Nat.{ℕ}
 use lib.ListN.{replicate, take}
-use Rattle.c_face.specs.Boards.{boardByte, boardBytesC, boardBytesOf, goingBytesC, rankByte, ranksBytesC, ranksBytesOf, shownAnswerC, shownBytes}
+use Rattle.c_face.specs.Boards.{boardByte, boardBytesC, boardBytesOf, outgoingBytesC, rankByte, ranksBytesC, ranksBytesOf, shownAnswerC, shownBytes}
 use Rattle.c_face.specs.Cards.{boardBytesOn, callAnswerOn, callStateOn, cardOf, ownedBytesOn, ownersIn, packetAnswerOn, packetBytesOn, partIn, payloadAnswerOn, payloadBytesOn, putOwn, refusalOf, shownAnswerOn, shownBytesOn}
 use Rattle.c_face.specs.Keeping.{byteAt, bytesOf, rowsIn, senderOf, slotsIn}
 use Rattle.c_face.specs.Orders.{kindAnswerOn, kindStateOn, orderAnswerOn, orderAnswersOn, orderStateOn}
@@ -44,7 +44,7 @@ sender = called (startStateC 3 7 (nines 397)) (OnTable (AddSlot 0) ∷ StartEpoc
 abbrev readOut : List ℕ → List ℕ
 readOut s =
     take 8 (boardBytesC s (nines 130))
-    ++ take 8 (goingBytesC s (nines 130))
+    ++ take 8 (outgoingBytesC s (nines 130))
     ++ take 8 (ranksBytesC s (nines 68))
     ++ packetBytesC s 0 (nines 16)
     ++ packetBytesC s 1 (nines 16)

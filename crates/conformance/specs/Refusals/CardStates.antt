@@ -37,8 +37,8 @@ start-copes (count, e₀, e₁, state) =
     copes _ (λ o. rw o (refl, refl, refl), λ o. (λ l. (λ f. rw (o, l, f), λ f. rw (o, l, f) (refl, refl, refl)), λ l. rw (o, l) (refl, refl, refl)))
 
 -- A call that changes a card: 9, 1 for the group, 8 where the numbers given do not fit, then the call's own refusals.
-abbrev pub inC : List ℕ → ℕ → Bool → CardCall → List Refusal → Call
-inC state group fits call rs =
+abbrev pub cardRow : List ℕ → ℕ → Bool → CardCall → List Refusal → Call
+cardRow state group fits call rs =
     stateful (Unless 9 (isWhole state) ∷ Unless 1 (ltb group 2) ∷ Unless 8 fits ∷ rs) (callAnswerOn fits group call state) [] [] state (callStateOn fits group call state) state
 
 -- a refusal encodes nothing anew
@@ -58,51 +58,51 @@ stands true true true n new old rs e =
       emptied = λ f. kept n new old (λ z. omega arith);
     }
 
-pub call-copes : (state : List ℕ) (group : ℕ) (fits : Bool) (call : CardCall) (rs : List Refusal) → answerNumber (outcomeOf (cardOf state) group call .answer) ≡ first rs → Copes (inC state group fits call rs)
+pub call-copes : (state : List ℕ) (group : ℕ) (fits : Bool) (call : CardCall) (rs : List Refusal) → answerNumber (outcomeOf (cardOf state) group call .answer) ≡ first rs → Copes (cardRow state group fits call rs)
 unfolding callAnswerOn callStateOn
 call-copes state group fits call rs e = stands (isWhole state) (ltb group 2) fits (answerNumber (outcomeOf (cardOf state) group call .answer)) _ state rs e
 
 abbrev pub claim : List ℕ × ℕ × ℕ → Call
-claim (state, group, slot) = inC state group true (Claim slot) (own.claim (cardOf state, group, slot) .refusals)
+claim (state, group, slot) = cardRow state group true (Claim slot) (own.claim (cardOf state, group, slot) .refusals)
 
 pub claim-copes : (x : List ℕ × ℕ × ℕ) → Copes (claim x)
 claim-copes (state, group, slot) = call-copes state group true _ _ (own.claim-copes (cardOf state, group, slot) .answers)
 
 abbrev pub release : List ℕ × ℕ × ℕ → Call
-release (state, group, slot) = inC state group true (Release slot) (own.release (cardOf state, group, slot) .refusals)
+release (state, group, slot) = cardRow state group true (Release slot) (own.release (cardOf state, group, slot) .refusals)
 
 pub release-copes : (x : List ℕ × ℕ × ℕ) → Copes (release x)
 release-copes (state, group, slot) = call-copes state group true _ _ (own.release-copes (cardOf state, group, slot) .answers)
 
 abbrev pub add : List ℕ × ℕ × ℕ → Call
-add (state, group, slot) = inC state group true (AddSlot slot) (own.add (cardOf state, group, slot) .refusals)
+add (state, group, slot) = cardRow state group true (AddSlot slot) (own.add (cardOf state, group, slot) .refusals)
 
 pub add-copes : (x : List ℕ × ℕ × ℕ) → Copes (add x)
 add-copes (state, group, slot) = call-copes state group true _ _ (own.add-copes (cardOf state, group, slot) .answers)
 
 abbrev pub remove : List ℕ × ℕ × ℕ → Call
-remove (state, group, slot) = inC state group true (RemoveSlot slot) (own.remove (cardOf state, group, slot) .refusals)
+remove (state, group, slot) = cardRow state group true (RemoveSlot slot) (own.remove (cardOf state, group, slot) .refusals)
 
 pub remove-copes : (x : List ℕ × ℕ × ℕ) → Copes (remove x)
 remove-copes (state, group, slot) = call-copes state group true _ _ (own.remove-copes (cardOf state, group, slot) .answers)
 
 abbrev pub report : List ℕ × ℕ × ℕ × ℕ × ℕ → Call
 report (state, group, epoch, mst, «rs_ack») =
-    inC state group (areBytes epoch mst «rs_ack») (Report epoch mst «rs_ack») (own.report (cardOf state, group, epoch, mst, «rs_ack») .refusals)
+    cardRow state group (areBytes epoch mst «rs_ack») (Report epoch mst «rs_ack») (own.report (cardOf state, group, epoch, mst, «rs_ack») .refusals)
 
 pub report-copes : (x : List ℕ × ℕ × ℕ × ℕ × ℕ) → Copes (report x)
 report-copes (state, group, epoch, mst, «rs_ack») =
     call-copes state group (areBytes epoch mst «rs_ack») _ _ (own.report-copes (cardOf state, group, epoch, mst, «rs_ack») .answers)
 
 abbrev pub lapse : List ℕ × ℕ → Call
-lapse (state, group) = inC state group true Lapse (own.lapse (cardOf state, group) .refusals)
+lapse (state, group) = cardRow state group true Lapse (own.lapse (cardOf state, group) .refusals)
 
 pub lapse-copes : (x : List ℕ × ℕ) → Copes (lapse x)
 lapse-copes (state, group) = call-copes state group true _ _ (own.lapse-copes (cardOf state, group) .answers)
 
 abbrev pub startEpoch : List ℕ × ℕ × ℕ × ℕ × ℕ → Call
 startEpoch (state, group, gid, mst, «rs_ack») =
-    inC state group (areBytes gid mst «rs_ack») (StartEpoch gid mst «rs_ack») (own.startEpoch (cardOf state, group, gid, mst, «rs_ack») .refusals)
+    cardRow state group (areBytes gid mst «rs_ack») (StartEpoch gid mst «rs_ack») (own.startEpoch (cardOf state, group, gid, mst, «rs_ack») .refusals)
 
 pub startEpoch-copes : (x : List ℕ × ℕ × ℕ × ℕ × ℕ) → Copes (startEpoch x)
 startEpoch-copes (state, group, gid, mst, «rs_ack») =

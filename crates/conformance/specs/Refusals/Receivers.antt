@@ -42,12 +42,12 @@ unfolding startAsAnswer startAsRows startRight timesWithin sizedAnswer sizedRows
 start-copes (kind, count, payload, window, store, state) = copes _ (λ s. (λ f. rw (s, f), λ f. rw (s, f) (refl, refl, refl)), λ s. rw s (refl, refl, refl))
 
 -- 'a count above 5,000 is number 4' (02, 2026-03), and a list that is neither as long as there are ports nor empty is 9
-abbrev pub timesFit : List ℕ → Bool
-timesFit counts = every (length counts) (λ i. leb (getD counts i 0) 5000)
+abbrev pub timesInRange : List ℕ → Bool
+timesInRange counts = every (length counts) (λ i. leb (getD counts i 0) 5000)
 
 abbrev pub startAsRefusals : ℕ → ℕ → ℕ → ℕ → ℕ → List ℕ → List ℕ → ℕ → List Refusal
 startAsRefusals kind count payload window store hold restore rows =
-    Unless 4 (timesFit hold && timesFit restore && ranged kind count payload window)
+    Unless 4 (timesInRange hold && timesInRange restore && ranged kind count payload window)
     ∷ Unless 9
     ((eqb (length hold) 0 || eqb (length hold) count)
     && (eqb (length restore) 0 || eqb (length restore) count)

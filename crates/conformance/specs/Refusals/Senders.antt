@@ -7,7 +7,7 @@ use native.Mathlib.Omega.{arith}
 use borrow.Author.Tests.{ne-eqb}
 use lib.Dec.{eqb, ltb}
 use lib.ListN.{length}
-use Rattle.c_face.specs.Boards.{boardBytesC, goingBytesC, ranksBytesC, shownAnswerC, shownBytes}
+use Rattle.c_face.specs.Boards.{boardBytesC, outgoingBytesC, ranksBytesC, shownAnswerC, shownBytes}
 use Rattle.c_face.specs.Keeping.{bytesOf, senderOf}
 use Rattle.c_face.specs.Senders.{areBytes, callAnswerC, callStateC, packetAnswerC, packetBytesC, payloadAnswerC, payloadBytesC, startAnswerC, startStateC}
 use Rattle.conformance.specs.Entries.{Call, Copes, If, Refusal, Unless, behind, copes, first, refused, stateful, stateless}
@@ -34,8 +34,8 @@ start-copes (count, «first_epoch», state) =
     copes _ (λ o. rw o (refl, refl, refl), λ o. (λ l. (λ f. rw (o, l, f) (refl, refl, refl), λ f. rw (o, l, f)), λ l. rw (o, l) (refl, refl, refl)))
 
 -- A call on a started sender: 9, 8 where the numbers given do not fit, then the call's own refusals.
-abbrev pub inC : List ℕ → Bool → SenderCall → List Refusal → Call
-inC state fits call rs = stateful (Unless 9 (isWhole state) ∷ Unless 8 fits ∷ rs) (callAnswerC fits call state) [] [] state (callStateC fits call state) state
+abbrev pub senderRow : List ℕ → Bool → SenderCall → List Refusal → Call
+senderRow state fits call rs = stateful (Unless 9 (isWhole state) ∷ Unless 8 fits ∷ rs) (callAnswerC fits call state) [] [] state (callStateC fits call state) state
 
 -- a refusal encodes nothing anew
 kept : (n : ℕ) (new old : List ℕ) → (n ≡ 0 → ⊥) → cond (eqb n 0) new old ≡ old
@@ -53,37 +53,37 @@ stands true true n new old rs e =
       emptied = λ f. kept n new old (λ z. omega arith);
     }
 
-pub call-copes : (state : List ℕ) (fits : Bool) (call : SenderCall) (rs : List Refusal) → answerNumber (senderOutcomeOf (senderOf state) call .answer) ≡ first rs → Copes (inC state fits call rs)
+pub call-copes : (state : List ℕ) (fits : Bool) (call : SenderCall) (rs : List Refusal) → answerNumber (senderOutcomeOf (senderOf state) call .answer) ≡ first rs → Copes (senderRow state fits call rs)
 unfolding callAnswerC callStateC
 call-copes state fits call rs e = stands (isWhole state) fits (answerNumber (senderOutcomeOf (senderOf state) call .answer)) _ state rs e
 
 abbrev pub add : List ℕ × ℕ → Call
-add (state, slot) = inC state true (OnTable (AddSlot slot)) (own.add (senderOf state, slot) .refusals)
+add (state, slot) = senderRow state true (OnTable (AddSlot slot)) (own.add (senderOf state, slot) .refusals)
 
 pub add-copes : (x : List ℕ × ℕ) → Copes (add x)
 add-copes (state, slot) = call-copes state true _ _ (own.add-copes (senderOf state, slot) .answers)
 
 abbrev pub remove : List ℕ × ℕ → Call
-remove (state, slot) = inC state true (OnTable (RemoveSlot slot)) (own.remove (senderOf state, slot) .refusals)
+remove (state, slot) = senderRow state true (OnTable (RemoveSlot slot)) (own.remove (senderOf state, slot) .refusals)
 
 pub remove-copes : (x : List ℕ × ℕ) → Copes (remove x)
 remove-copes (state, slot) = call-copes state true _ _ (own.remove-copes (senderOf state, slot) .answers)
 
 abbrev pub report : List ℕ × ℕ × ℕ × ℕ → Call
-report (state, epoch, mst, «rs_ack») = inC state (areBytes epoch mst «rs_ack») (OnTable (Report epoch mst «rs_ack»)) []
+report (state, epoch, mst, «rs_ack») = senderRow state (areBytes epoch mst «rs_ack») (OnTable (Report epoch mst «rs_ack»)) []
 
 pub report-copes : (x : List ℕ × ℕ × ℕ × ℕ) → Copes (report x)
 report-copes (state, epoch, mst, «rs_ack») = call-copes state (areBytes epoch mst «rs_ack») _ _ (own.report-copes (senderOf state, epoch, mst, «rs_ack») .answers)
 
 abbrev pub lapse : List ℕ → Call
-lapse state = inC state true (OnTable Lapse) (own.lapse (senderOf state) .refusals)
+lapse state = senderRow state true (OnTable Lapse) (own.lapse (senderOf state) .refusals)
 
 pub lapse-copes : (x : List ℕ) → Copes (lapse x)
 lapse-copes state = call-copes state true _ _ (own.lapse-copes (senderOf state) .answers)
 
 abbrev pub startEpoch : List ℕ × ℕ × ℕ × ℕ → Call
 startEpoch (state, gid, mst, «rs_ack») =
-    inC state (areBytes gid mst «rs_ack») (StartEpoch gid mst «rs_ack») (own.startEpoch (senderOf state, gid, mst, «rs_ack») .refusals)
+    senderRow state (areBytes gid mst «rs_ack») (StartEpoch gid mst «rs_ack») (own.startEpoch (senderOf state, gid, mst, «rs_ack») .refusals)
 
 pub startEpoch-copes : (x : List ℕ × ℕ × ℕ × ℕ) → Copes (startEpoch x)
 startEpoch-copes (state, gid, mst, «rs_ack») = call-copes state (areBytes gid mst «rs_ack») _ _ (own.startEpoch-copes (senderOf state, gid, mst, «rs_ack») .answers)
@@ -102,7 +102,7 @@ pub shown-copes : (x : List ℕ × List ℕ) → Copes (shown x)
 shown-copes (state, board) = shows 130 state _ board
 
 abbrev pub outgoing : List ℕ × List ℕ → Call
-outgoing (state, board) = stateless (Unless 9 (isWhole state && eqb (length board) 130) ∷ []) (shownAnswerC 130 state board) (board ∷ []) (goingBytesC state board ∷ [])
+outgoing (state, board) = stateless (Unless 9 (isWhole state && eqb (length board) 130) ∷ []) (shownAnswerC 130 state board) (board ∷ []) (outgoingBytesC state board ∷ [])
 
 pub outgoing-copes : (x : List ℕ × List ℕ) → Copes (outgoing x)
 outgoing-copes (state, board) = shows 130 state _ board

@@ -59,5 +59,5 @@ pub record Lasting (s : List (List ℕ)) : Type 0 where
 
 -- After every call, stopping, beginning and gathering have followed: they wait for no other call.
 pub record Kept (s : List (List ℕ)) : Type 0 where
-  pub steady : Lasting s
+  pub lasting : Lasting s
   pub settled : Settled (groupAt s .count) s

@@ -62,7 +62,7 @@ frame-by P s k i failed h payload store stays goes =
     after = settledBy (takenIn s i failed h .settles) (portsIn (groupAt s)) (storeAfter s i failed h payload store) (portAfter s i failed h)
 
     ports : portsIn (groupAt s) ≡ groupAt s .count
-    ports = ports-are (groupAt s) (k .steady .group .sizes)
+    ports = ports-are (groupAt s) (k .lasting .group .sizes)
 
     taken : eqb (frameRefusal s i (length payload) (length store)) 0 ≡ true → eqb (takenIn s i failed h .answer) 11 ≡ false
         → P (settledBy (takenIn s i failed h .settles) (portsIn (groupAt s)) (storeAfter s i failed h payload store) (portAfter s i failed h)) (storeAfter s i failed h payload store)
@@ -77,7 +77,7 @@ frame-by P s k i failed h payload store stays goes =
           bytes = o .bytes;
           stored = rw ports at (o .stored);
           answer = eqb-false (takenIn s i failed h .answer) 11 f;
-          long = after-long s i failed h (groupAt s .count) (k .steady .rows);
+          long = after-long s i failed h (groupAt s .count) (k .lasting .rows);
         }))
 
 -- The same on every state: what follows may or may not be looked at.

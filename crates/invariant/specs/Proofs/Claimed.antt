@@ -1,5 +1,5 @@
 -- What stands in the store where a port claims a frame: it is the frame that was handed with that tag. As a relation between two calls: after a call a frame is claimed only if it was claimed before, or is the one just handed.
--- The idea: each thing that a call does is looked at by itself (an epoch passed, a stop, a beginning, a frame stored). Only storing a frame puts bytes, and a place in the store belongs to one tag of the window; so what stood elsewhere stands as it did.
+-- The idea: each thing that a call does is looked at by itself (an epoch passed, a stop, a beginning, a frame stored). Only storing a frame puts bytes, and a place in the store belongs to one port and one tag of the window, so what stood elsewhere stands as it did. After a stop or a beginning nothing is claimed.
 use mathlib.Core.Path.{_≡_, refl, sym, ap, _∙_}
 use mathlib.Core.Logic.{_⊎_, inl, inr, ⊎-elim, _≢_}
 use mathlib.Core.Bool.{Bool, true, false, cond, false≢true}
@@ -157,10 +157,10 @@ module _ (tag : ℕ) (bytes : List ℕ) (h4 : ℕ) where
     st = storeAfter s i failed h payload store
 
     enough : rowsFor n ≤ length s
-    enough = let r = k .steady .rows in omega arith
+    enough = let r = k .lasting .rows in omega arith
 
     W : Windowed g
-    W = windowed g (k .steady .group)
+    W = windowed g (k .lasting .group)
 
     same : groupAt a ≡ g
     same = after-group s i failed h
@@ -201,14 +201,14 @@ module _ (tag : ℕ) (bytes : List ℕ) (h4 : ℕ) where
           at = c .at;
           claims = claims;
           tag-is = rw same at (c .tag-is);
-          stands = stood j (c .at) (claims-inside g (portAt s j .step) (portAt s j .marks) (k .steady .ports j b .kept) (c .at) claims) (λ e z. absurd (d z)) stands;
+          stands = stood j (c .at) (claims-inside g (portAt s j .step) (portAt s j .marks) (k .lasting .ports j b .kept) (c .at) claims) (λ e z. absurd (d z)) stands;
         }
 
     own-claimed : Claimed a st i tag bytes h4 → Claimed s store i tag bytes h4 ⊎ Handed s i failed h payload store i tag bytes h4
     own-claimed c =
         let is : takenIn s i failed h ≡ takenOf (groupAt s) (portAt s i .step) failed (oddIn s i h) h = ap (λ (q : Step). takenOf g q failed (oddIn s i h) h) in-step in
         let port : portAt (portAfter s i failed h) i ≡ frameOn (g .kind) (portAt s i) t h = frame-port (g .kind) s i t h n (o .port) enough in
-        let kept : PortKept (groupAt s) (portAt s i .step) (portAt s i .marks) = k .steady .ports i (o .port) .kept in
+        let kept : PortKept (groupAt s) (portAt s i .step) (portAt s i .marks) = k .lasting .ports i (o .port) .kept in
         let claims : Claims (groupAt s) (t .step) (marksBy (g .kind) (portAt s i .marks) t) (c .at) = rw (same, port) at (c .claims) in
         let stands : Stands (groupAt s) i (c .at) bytes h4 st = rw same at (c .stands) in
         let tag-is : tag ≡ tagIn (groupAt s) (c .at) = rw same at (c .tag-is) in
@@ -240,8 +240,8 @@ module _ (tag : ℕ) (bytes : List ℕ) (h4 : ℕ) where
     taken-claimed j b c =
         ⊎-elim (λ (e : j ≡ i). rw e (own-claimed (rw e at c))) (λ (d : j ≢ i). inl (other-claimed j d b c)) (eq-or-ne j i)
 
-    steady : Lasting a
-    steady = lasting-frame s (k .steady) i failed h (o .port)
+    lasting : Lasting a
+    lasting = lasting-frame s (k .lasting) i failed h (o .port)
 
     count : groupAt a .count ≡ n
     count = ap (λ (x : Group). x .count) same
@@ -251,7 +251,7 @@ module _ (tag : ℕ) (bytes : List ℕ) (h4 : ℕ) where
     settled-claimed j b =
         settled-by (λ (r : List (List ℕ)). Claimed r st j tag bytes h4 → Claimed a st j tag bytes h4) n st a (o .long)
         (λ c. c)
-        (λ on q f w c. passed-claimed n a steady count st st on w j b c)
+        (λ on q f w c. passed-claimed n a lasting count st st on w j b c)
         (λ off w c. absurd (begun-none (groupAt a) n a (o .long) st j b c))
         (λ on q c. absurd (stopped-none (groupAt a) n a (o .long) st j c))
         (λ on q c.
@@ -276,8 +276,8 @@ module _ (tag : ℕ) (bytes : List ℕ) (h4 : ℕ) where
       (λ d c.
       let q : Due (groupAt s) (groupAt s .count) s = due-says (groupAt s) (groupAt s .count) s (rw ports at d) in
       let p : List (List ℕ) = passedOf (groupAt s) store (groupAt s .count) s in
-      let l : rowsFor (groupAt s .count) ≤ length p = rw (length-passed (groupAt s) store (groupAt s .count) s) (let r = k .steady .rows in omega arith) in
-      passed-claimed (groupAt s .count) s (k .steady) refl store store (q .begun) (q .brought) j b
+      let l : rowsFor (groupAt s .count) ≤ length p = rw (length-passed (groupAt s) store (groupAt s .count) s) (let r = k .lasting .rows in omega arith) in
+      passed-claimed (groupAt s .count) s (k .lasting) refl store store (q .begun) (q .brought) j b
       (told-claimed (groupAt p) (groupAt s .count) p refl l store j b (rw ports at c)))
       (λ d c. c))
       (λ e c. c)
@@ -286,7 +286,7 @@ module _ (tag : ℕ) (bytes : List ℕ) (h4 : ℕ) where
       On r = Claimed r store j tag bytes h4 → Claimed s store j tag bytes h4
 
       ports : portsIn (groupAt s) ≡ groupAt s .count
-      ports = ports-are (groupAt s) (k .steady .group .sizes)
+      ports = ports-are (groupAt s) (k .lasting .group .sizes)
 
   -- of every call
   pub call-claimed : (x : Receiver) (c : ReceiverCall) → Kept (x .rows) → (j : ℕ) → j < groupAt (x .rows) .count

@@ -68,7 +68,7 @@ module _ (s : List (List ℕ)) (k : Kept s) (i : ℕ) (failed : Bool) (h : ℕ) 
   before b j =
       ⊎-elim
       (λ (e : j ≡ i).
-      rw (e, frame-port (groupAt s .kind) s i (takenIn s i failed h) h n b (let r = k .steady .rows in omega arith))
+      rw (e, frame-port (groupAt s .kind) s i (takenIn s i failed h) h n b (let r = k .lasting .rows in omega arith))
       (record { ruling = refl; whole = taken-whole (groupAt s) (stepAt s i) failed (oddIn s i h) h ∙ ap (λ (q : Step). q .whole) (sym (port-step s i)) }))
       (λ (d : j ≢ i). rw (frame-other (groupAt s .kind) s i (takenIn s i failed h) h j d) (record { ruling = refl; whole = refl }))
       (eq-or-ne j i)
@@ -116,7 +116,7 @@ module _ (s : List (List ℕ)) (k : Kept s) (store out report : List ℕ) where
       }
     where
       enough : rowsFor (groupAt s .count) ≤ length s
-      enough = let r = k .steady .rows in omega arith
+      enough = let r = k .lasting .rows in omega arith
 
       p : List (List ℕ)
       p = passedOf (groupAt s) store (groupAt s .count) s
@@ -134,7 +134,7 @@ module _ (s : List (List ℕ)) (k : Kept s) (store out report : List ℕ) where
       g = groupAt s
 
       ports : portsIn (groupAt s) ≡ groupAt s .count
-      ports = ports-are (groupAt s) (k .steady .group .sizes)
+      ports = ports-are (groupAt s) (k .lasting .group .sizes)
 
       stays : Ruled y (Fetch out report) store s
       stays = inl (record { ports = λ j c. record { ruling = refl; whole = refl }; oldest = refl })
@@ -211,4 +211,4 @@ one-epoch kind count P W hold restore rows store e calls =
     let x : Receiver = startedWith kind count P W hold restore rows store in
     let k : Kept (x .rows) = started-kept kind count P W (length store) hold restore rows e in
     let group : groupAt (startAsRows kind count P W (length store) hold restore rows) ≡ groupWith kind count P W = started-with kind count P W (length store) hold restore rows e in
-    run-one x k [] calls (none-rules (λ j b. off-flag (portAt (x .rows) j .step .whole) (k .steady .ports j b .unruled (rw group refl))))
+    run-one x k [] calls (none-rules (λ j b. off-flag (portAt (x .rows) j .step .whole) (k .lasting .ports j b .unruled (rw group refl))))

@@ -41,7 +41,7 @@ module _ (s : List (List ℕ)) (k : Kept s) (i : ℕ) (failed : Bool) (h : ℕ) 
   after = portRows (g .kind) s i taken h
 
   enough : rowsFor n ≤ length s
-  enough = let e = k .steady .rows in omega arith
+  enough = let e = k .lasting .rows in omega arith
 
   step-now : stepAt after i ≡ taken .step
   step-now = frame-step (g .kind) s i taken h n b enough
@@ -58,8 +58,8 @@ module _ (s : List (List ℕ)) (k : Kept s) (i : ℕ) (failed : Bool) (h : ℕ) 
   module _ (quiet : taken .settles ≡ false) where
     q : Quiet g (stepAt s i) (marksAt s i) taken
     q =
-        let o : PortIn g (portAt s i) = k .steady .ports i b in
-        taken-quiet g (stepAt s i) (marksAt s i) failed (oddIn s i h) h (windowed g (k .steady .group)) (rw (port-step s i, port-marks s i) at (o .kept)) quiet
+        let o : PortIn g (portAt s i) = k .lasting .ports i b in
+        taken-quiet g (stepAt s i) (marksAt s i) failed (oddIn s i h) h (windowed g (k .lasting .group)) (rw (port-step s i, port-marks s i) at (o .kept)) quiet
 
     still-heard : silent g s n ≡ false → silent g after n ≡ false
     unfolding silent

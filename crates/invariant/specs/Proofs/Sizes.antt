@@ -44,7 +44,7 @@ fetch-sizes s k store out report =
     m = portsIn (groupAt s)
 
     some : 0 < length s
-    some = let r = k .steady .rows in omega arith
+    some = let r = k .lasting .rows in omega arith
 
     p : List (List ℕ)
     p = passedOf (groupAt s) store (portsIn (groupAt s)) s

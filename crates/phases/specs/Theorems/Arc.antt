@@ -31,7 +31,7 @@ pub record Arc (g : Group) (s : List (List ℕ)) (n fore : ℕ) : Type 0 where
   pub behind : (j : ℕ) → j < n → inStep g (stepAt s j) ≡ true → distanceOf (g .kind) fore (latest g (stepAt s j)) + frames (g .kind) ≤ g .window
 
 -- a port in step whose latest tag it is
-record BroughtBy (g : Group) (s : List (List ℕ)) (n fore : ℕ) : Type 0 where
+record LatestOf (g : Group) (s : List (List ℕ)) (n fore : ℕ) : Type 0 where
   port : ℕ
   below : port < n
   stepped : inStep g (stepAt s port) ≡ true
@@ -48,12 +48,12 @@ further-by g fore step P new old = go _ refl
     go true e = new (and-left (inStep g step) _ e)
     go false e = old
 
-brought-by : (g : Group) (s : List (List ℕ)) (n : ℕ) → foremost g s n ≢ noTag g → BroughtBy g s n (foremost g s n)
+brought-by : (g : Group) (s : List (List ℕ)) (n : ℕ) → foremost g s n ≢ noTag g → LatestOf g s n (foremost g s n)
 unfolding foremost
 brought-by g s zero d = absurd (d refl)
 brought-by g s (suc n) d =
     let rest = brought-by g s n in
-    further-by g (foremost g s n) (stepAt s n) (λ f. f ≢ noTag g → BroughtBy g s (suc n) f)
+    further-by g (foremost g s n) (stepAt s n) (λ f. f ≢ noTag g → LatestOf g s (suc n) f)
     (λ e x. record { port = n; below = omega arith; stepped = e; is = refl })
     (λ x. let r = rest x in record { port = r .port; below = (let b = r .below in omega arith); stepped = r .stepped; is = r .is })
     d

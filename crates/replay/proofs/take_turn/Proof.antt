@@ -14,7 +14,9 @@ slice-reshare-prefix-write-all : tie.Need-slice-reshare-prefix-write-all
 slice-reshare-prefix-write-all c = search needs
 
 slice-aggregate-write-all : tie.Need-slice-aggregate-write-all
-slice-aggregate-write-all c = sym (length-take-le (c .before .at-most .result) (c .before .before .before .before .before .before .before .before .before .before .turn .last .1 .1 .1 .1 .1 .1 .0) (search needs))
+slice-aggregate-write-all c =
+    let at-turn = c .before .before .before .before .before .before .before .before .before .before in
+    sym (length-take-le (c .before .at-most .result) (at-turn .turn .last .1 .1 .1 .1 .1 .1 .0) (search needs))
 
 write-all-requires : tie.Need-write-all-requires
 write-all-requires c κs = search needs

@@ -1,5 +1,5 @@
 -- The rounds: who is held, that a held port has lost its claim, and that they end.
--- The idea: taken numbers only grow from round to round, so a claim once lost comes back by no round; and a round in which some port joins holds one port more, of which there are n.
+-- The idea: taken numbers only grow from round to round, so a claim once lost comes back by no round; and a round in which some port joins holds at least one port more, and there are n.
 use mathlib.Core.Path.{_≡_, refl, sym, ap, _∙_}
 use mathlib.Core.Logic.{_⊎_, ⊎-elim, _≢_}
 use mathlib.Core.Bool.{Bool, true, false, cond, not, true≢false}

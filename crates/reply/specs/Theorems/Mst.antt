@@ -113,9 +113,9 @@ told-holds ports n now q t o =
     (and-true _ _ (eq-eqb (portAt now (o .at) .state) okState (t .state (o .at) (o .below) ∙ o .ok))
     (eq-eqb (portAt now (o .at) .«state_number») q (t .number (o .at) (o .below) ∙ o .same)))
 
-pub told-held : (ports : List Port) (n : ℕ) (now : List Port) (q : ℕ) → Told ports n now → okHolds now n q ≡ true → Holder ports n q
+pub told-holder : (ports : List Port) (n : ℕ) (now : List Port) (q : ℕ) → Told ports n now → okHolds now n q ≡ true → Holder ports n q
 unfolding okHolds
-told-held ports n now q t e =
+told-holder ports n now q t e =
     let o = some-one n (λ i. eqb (portAt now i .state) okState && eqb (portAt now i .«state_number») q) e in
     let p : Port = portAt now (o .at) in
     record {

@@ -1,5 +1,5 @@
 -- 02, 2026-03, on the definitions: hold-off and restoring to the report, against others, never both, and IDLE at once.
--- The idea: the definitions ask of a claim by the table of who has which number as the rounds leave it, and that is the same as asking it of the states after the report (`claim-is`, `is-claim`). With it each sentence is one case of the definitions.
+-- The idea: the definitions ask of a claim by the table of who has which number as the rounds leave it, and that is the same as asking it of the states after the report (`claim-is`, `is-claim`). With it most sentences are one case of the definitions; `hold-held` stands on `is-held` of Laws/Holding, `against-others` on `ok-apart`.
 use mathlib.Core.Path.{_≡_, refl, sym, ap, _∙_}
 use mathlib.Core.Logic.{_⊎_, inl, inr, ⊎-elim, _≢_}
 use mathlib.Core.Bool.{Bool, true, false, true≢false}

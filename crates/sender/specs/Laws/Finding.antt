@@ -19,9 +19,9 @@ module _ (slots : List Slot) (q : ℕ) where
   holder-none = refl
 
   -- a slot that does not hold the number is passed over
-  pub holder-pass : (i : ℕ) → holderOf slots i q ≡ Nothing → holds (slotAt slots i) q ≡ false → holderOf slots (i + 1) q ≡ Nothing
+  pub holder-on : (i : ℕ) → holderOf slots i q ≡ Nothing → holds (slotAt slots i) q ≡ false → holderOf slots (i + 1) q ≡ Nothing
   unfolding holderOf
-  holder-pass i e h = rw (add-one, e, h)
+  holder-on i e h = rw (add-one, e, h)
 
   -- the first that holds it is found
   pub holder-here : (i n : ℕ) → i < n → holderOf slots i q ≡ Nothing → holds (slotAt slots i) q ≡ true → holderOf slots n q ≡ At i

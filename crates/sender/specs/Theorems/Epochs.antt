@@ -180,12 +180,12 @@ module _ (s : Sender) (o : SoundSender s) where
   abbrev t : Table
   t = o .ruling .source
 
-  pub rank-held : (r : ℕ) → r < xOf s → One (sizeOf (s .ruling .count)) (λ i. carries (rowAt (s .ruling .rows) i) && eqb (rankIn s i) r)
-  rank-held r h = rw (o .ruling .is) (held r (rw (o .ruling .is) at h))
+  pub rank-taken : (r : ℕ) → r < xOf s → One (sizeOf (s .ruling .count)) (λ i. carries (rowAt (s .ruling .rows) i) && eqb (rankIn s i) r)
+  rank-taken r h = rw (o .ruling .is) (taken r (rw (o .ruling .is) at h))
     where
-      held : (r : ℕ) → r < carriersIn (boardOf t .rows) (sizeOf (boardOf t .count))
+      taken : (r : ℕ) → r < carriersIn (boardOf t .rows) (sizeOf (boardOf t .count))
           → One (sizeOf (boardOf t .count)) (λ i. carries (rowAt (boardOf t .rows) i) && eqb (rankAt (boardOf t .rows) (sizeOf (boardOf t .count)) i) r)
-      held r h =
+      taken r h =
           let active : ℕ → Bool = λ i. isActive (stateIn t i) in
           let w = ranked (slotsIn t) active (numberIn t)
           (λ i j hi hj ai aj e. o .ruling .sound .numbered .once i j hi hj (active-member (stateIn t i) ai) (active-member (stateIn t j) aj) e)

@@ -37,8 +37,8 @@ record Known (kind count : ℕ) (s : Sender) : Type 0 where
   count-is : s .table .count ≡ count
   outgoing : Of kind count (takenOf s)
 
-told-whole : (kind count : ℕ) (held now : Board) → Of kind count held → Of kind count now → toldFrom held held now ≡ record { board = now; answer = Done }
-told-whole kind count held now h n =
+told-whole : (kind count : ℕ) (known now : Board) → Of kind count known → Of kind count now → toldFrom known known now ≡ record { board = now; answer = Done }
+told-whole kind count known now h n =
     rw (h .is, n .is) (outright (h .source) (n .source) (h .kind-is ∙ sym (n .kind-is)) (h .count-is ∙ sym (n .count-is)))
 
 module _ (kind count : ℕ) where
@@ -83,25 +83,25 @@ module _ (kind count : ℕ) where
   known-run s (c ∷ cs) o = known-run (senderOutcomeOf s c .sender) cs (known-call s c o)
 
   -- one who hears some of them
-  held-of : (held : Board) (s : Sender) (hears : Bool) → Of kind count held → Of kind count (takenOf s) → Of kind count (knownNow held s hears)
-  held-of held s true h o = rw (told-whole kind count held (takenOf s) h o) o
-  held-of held s false h o = h
+  known-of : (known : Board) (s : Sender) (hears : Bool) → Of kind count known → Of kind count (takenOf s) → Of kind count (knownNow known s hears)
+  known-of known s true h o = rw (told-whole kind count known (takenOf s) h o) o
+  known-of known s false h o = h
 
-  with-of : (held : Board) (s : Sender) (ms : List Moment) → Of kind count held → Known kind count s → Of kind count (knownWith held s ms)
-  with-of held s [] h o = h
-  with-of held s (m ∷ ms) h o =
+  with-of : (known : Board) (s : Sender) (ms : List Moment) → Of kind count known → Known kind count s → Of kind count (knownWith known s ms)
+  with-of known s [] h o = h
+  with-of known s (m ∷ ms) h o =
       let k = known-call s (m .call) o in
-      with-of (knownNow held (senderOutcomeOf s (m .call) .sender) (m .hears)) (senderOutcomeOf s (m .call) .sender) ms
-      (held-of held (senderOutcomeOf s (m .call) .sender) (m .hears) h (k .outgoing)) k
+      with-of (knownNow known (senderOutcomeOf s (m .call) .sender) (m .hears)) (senderOutcomeOf s (m .call) .sender) ms
+      (known-of known (senderOutcomeOf s (m .call) .sender) (m .hears) h (k .outgoing)) k
 
-  with-last : (held : Board) (s : Sender) (ms : List Moment) (m : Moment) → Of kind count held → Known kind count s → m .hears ≡ true
-      → knownWith held s (ms ++ (m ∷ [])) ≡ takenOf (senderRun s (callsIn (ms ++ (m ∷ []))))
-  with-last held s [] m h o e =
-      rw e (ap (λ (a : Applied). a .board) (told-whole kind count held (takenOf (senderOutcomeOf s (m .call) .sender)) h (known-call s (m .call) o .outgoing)))
-  with-last held s (x ∷ ms) m h o e =
+  with-last : (known : Board) (s : Sender) (ms : List Moment) (m : Moment) → Of kind count known → Known kind count s → m .hears ≡ true
+      → knownWith known s (ms ++ (m ∷ [])) ≡ takenOf (senderRun s (callsIn (ms ++ (m ∷ []))))
+  with-last known s [] m h o e =
+      rw e (ap (λ (a : Applied). a .board) (told-whole kind count known (takenOf (senderOutcomeOf s (m .call) .sender)) h (known-call s (m .call) o .outgoing)))
+  with-last known s (x ∷ ms) m h o e =
       let k = known-call s (x .call) o in
-      with-last (knownNow held (senderOutcomeOf s (x .call) .sender) (x .hears)) (senderOutcomeOf s (x .call) .sender) ms m
-      (held-of held (senderOutcomeOf s (x .call) .sender) (x .hears) h (k .outgoing)) k e
+      with-last (knownNow known (senderOutcomeOf s (x .call) .sender) (x .hears)) (senderOutcomeOf s (x .call) .sender) ms m
+      (known-of known (senderOutcomeOf s (x .call) .sender) (x .hears) h (k .outgoing)) k e
 
 module _ (kind count e : ℕ) where
   abbrev begun : Sender
@@ -140,7 +140,7 @@ module _ (kind count e : ℕ) where
   both-same ms ns m n h g same =
       caught-up ms m h ∙ ap (λ (cs : List SenderCall). takenOf (senderAfter kind count e cs)) same ∙ sym (caught-up ns n g)
 
-  -- At no time does anyone hold half of an old order: what is held is the board of one table, as demand 2 asks.
+  -- At no time does anyone hold half of an old order: what is known is the board of one table, as demand 2 asks.
   pub record OneTable (b : Board) : Type 0 where
     pub source : Table
     pub is : b ≡ boardOf source

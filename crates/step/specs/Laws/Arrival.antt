@@ -76,7 +76,7 @@ pub taken-by :
     (flag ≡ false → stepped g s odd h ≡ true → flagOf (g .begun) ≡ true → flagOf (s .joined) ≡ false → (startsEpoch (g .kind) (s .next) && inWindow g s) ≡ false → P (frameDropped g s (ranOn g s odd h))) →
     P (takenOf g s flag odd h)
 unfolding takenOf arrives byWindow byStart
-taken-by P g s flag odd h whenFlagged whenCounts whenAside whenKeeps whenOutside whenJoins whenWaits =
+taken-by P g s flag odd h whenFlagged whenCounts whenDropped whenKeeps whenOutside whenJoins whenWaits =
     let run : Run = ranOn g s odd h in
     let d : ℕ = distanceIn g (s .next) in
     let start : Bool = startsEpoch (g .kind) (s .next) in
@@ -88,7 +88,7 @@ taken-by P g s flag odd h whenFlagged whenCounts whenAside whenKeeps whenOutside
     (λ (f : flag ≡ false).
     cond-by P (stepped g s odd h) arrived (countsOn g s run)
     (λ (e : stepped g s odd h ≡ true).
-    cond-by P (not (flagOf (g .begun))) (frameDropped g s run) begun (λ b. whenAside f e (not-true (flagOf (g .begun)) b))
+    cond-by P (not (flagOf (g .begun))) (frameDropped g s run) begun (λ b. whenDropped f e (not-true (flagOf (g .begun)) b))
     (λ b.
     let b : flagOf (g .begun) ≡ true = not-false (flagOf (g .begun)) b in
     cond-by P (flagOf (s .joined)) window epoch

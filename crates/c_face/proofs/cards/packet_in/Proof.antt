@@ -1,4 +1,4 @@
--- `packet_in` meets its contract: 1 or 14 where the slot is refused, and then what the group's sender answers and writes.
+-- `packet_in` meets its contract: 1 or 14 where the slot is refused, else what the group's sender answers and writes.
 use mathlib.Core.Path.{ap, _∙_}
 use native.Mathlib.Omega.{arith}
 use Rattle.sender.specs.Table.{answerNumber as senderNumber}

@@ -1,5 +1,5 @@
 -- The call meets its contract: 9, 8 for a number that is no byte, and then what the table answers.
--- Each exit cites one law of Stepping, in the order of the tests; behind them the three numbers are bytes (`three-said`).
+-- Each exit cites one law of SenderCalls, in the order of the tests; behind them the three numbers are bytes (`three-said`).
 use mathlib.Core.Path.{_∙_, sym}
 use native.Mathlib.Omega.{arith}
 use borrow.Author.Tests.{not-true, not-false}

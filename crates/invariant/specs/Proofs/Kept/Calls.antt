@@ -40,7 +40,7 @@ use Rattle.step.specs.Arrival.{flagOf, inStep, readable}
 use Rattle.step.specs.declared.arrival.Taken.{Taken}
 
 kept-of : (n : ℕ) (s : List (List ℕ)) → SteadyOf n s → Settled n s → Kept s
-kept-of n s k o = record { steady = k .steady; settled = rw (k .count) o }
+kept-of n s k o = record { lasting = k .lasting; settled = rw (k .count) o }
 
 module _ (s : List (List ℕ)) (k : Kept s) where
   abbrev g : Group
@@ -50,7 +50,7 @@ module _ (s : List (List ℕ)) (k : Kept s) where
   n = groupAt s .count
 
   ports : portsIn g ≡ n
-  ports = ports-are g (k .steady .group .sizes)
+  ports = ports-are g (k .lasting .group .sizes)
 
   -- a frame of a port of the group
   taken-kept : (i : ℕ) (failed : Bool) (h : ℕ) (store : List ℕ) → i < n
@@ -58,8 +58,8 @@ module _ (s : List (List ℕ)) (k : Kept s) where
   taken-kept i failed h store b =
       let t : Taken = takenIn s i failed h in
       let a : List (List ℕ) = portRows (g .kind) s i t h in
-      let ka : SteadyOf n a = record { steady = lasting-frame s (k .steady) i failed h b; count = ap (λ (x : Group). x .count) (frame-group (g .kind) s i t h) } in
-      let l : rowsFor n ≤ length a = (let e = ka .steady .rows in let c = ka .count in omega arith) in
+      let ka : SteadyOf n a = record { lasting = lasting-frame s (k .lasting) i failed h b; count = ap (λ (x : Group). x .count) (frame-group (g .kind) s i t h) } in
+      let l : rowsFor n ≤ length a = (let e = ka .lasting .rows in let c = ka .count in omega arith) in
       rw (settles-always s k i failed h b store) (kept-of n (settledOf n store a) (steady-settled n store a ka) (settled n store a l))
 
   pub frame-kept : (i : ℕ) (failed : Bool) (h : ℕ) (payload store : List ℕ) → Kept (frameRows s i failed h payload store)
@@ -100,7 +100,7 @@ pub reported-kept : (s : List (List ℕ)) → Kept s → (store : List ℕ) → 
     → Kept (reportedOf (groupAt s) store (groupAt s .count) s)
 unfolding reportedOf
 reported-kept s k store on due =
-    kept-of n r (record { steady = told-count (groupAt a) a (groupAt a .count) n count (lasting-told a ka); count = ap (λ (x : Group). x .count) told ∙ count })
+    kept-of n r (record { lasting = told-count (groupAt a) a (groupAt a .count) n count (lasting-told a ka); count = ap (λ (x : Group). x .count) told ∙ count })
     (record {
       heard = λ e. told-silent (groupAt a) a refl n la ∙ passed-silent (groupAt s) store n s enough ∙ k .settled .heard on;
       gathers = λ e f. clash (flagOf (groupAt r .gathered)) gathered f;
@@ -117,16 +117,16 @@ reported-kept s k store on due =
     r = statesWorkedOut (groupAt a) (groupAt s .count) a
 
     enough : rowsFor (groupAt s .count) ≤ length s
-    enough = let e = k .steady .rows in omega arith
+    enough = let e = k .lasting .rows in omega arith
 
     la : rowsFor (groupAt s .count) ≤ length a
     la = rw (length-passed (groupAt s) store (groupAt s .count) s) enough
 
     ka : Lasting a
-    ka = lasting-passed s (k .steady) store on due
+    ka = lasting-passed s (k .lasting) store on due
 
     group : groupAt a ≡ passedGroup (groupAt s)
-    group = passed-group (groupAt s) store (groupAt s .count) s (let e = k .steady .rows in omega arith)
+    group = passed-group (groupAt s) store (groupAt s .count) s (let e = k .lasting .rows in omega arith)
 
     told : groupAt r ≡ withAck (groupAt a) (ackOf (replyPorts (groupAt a) a (groupAt s .count)) (sizeOf (groupAt s .count)) (groupAt a .«rs_ack»))
     told = told-group (groupAt a) (groupAt s .count) a (let l = la in omega arith)
@@ -174,4 +174,4 @@ fetch-kept s k store out report =
     g = groupAt s
 
     ports : portsIn (groupAt s) ≡ groupAt s .count
-    ports = ports-are (groupAt s) (k .steady .group .sizes)
+    ports = ports-are (groupAt s) (k .lasting .group .sizes)

@@ -104,9 +104,9 @@ module _ (g : Group) (s : Step) (marks : List ℕ) (W : Windowed g) (k : PortKep
       unfolding owesNothing
       same-lets m e = rw (same-readable, e) refl
 
-      aside-quiet : Quiet g s marks (frameDropped g s run)
+      dropped-quiet : Quiet g s marks (frameDropped g s run)
       unfolding frameDropped marksBy
-      aside-quiet = record { begun = begun; heard = λ r. same-readable ∙ r; owesNothing = λ f l. sym (same-lets marks refl) ∙ l }
+      dropped-quiet = record { begun = begun; heard = λ r. same-readable ∙ r; owesNothing = λ f l. sym (same-lets marks refl) ∙ l }
 
       -- a frame of a joined port
       keeps-quiet : keeps g s run (offset g s) .settles ≡ false → Quiet g s marks (keeps g s run (offset g s))
@@ -164,9 +164,9 @@ module _ (g : Group) (s : Step) (marks : List ℕ) (W : Windowed g) (k : PortKep
               let e : epochsIn (g .kind) (offset g s) ≡ 0 = rw z (none-in (g .kind)) in
               rw (e, first-mark (cutFrom marks 0), mark-cut marks (k .row) 0 0, o .empty 0) refl
 
-aside-begun : (g : Group) (s : Step) (run : Run) → frameDropped g s run .settles ≡ false → flagOf (g .begun) ≡ true
+dropped-begun : (g : Group) (s : Step) (run : Run) → frameDropped g s run .settles ≡ false → flagOf (g .begun) ≡ true
 unfolding frameDropped
-aside-begun g s run q = not-false (flagOf (g .begun)) q
+dropped-begun g s run q = not-false (flagOf (g .begun)) q
 
 outside-quiet : (g : Group) (s : Step) (marks : List ℕ) → flagOf (g .begun) ≡ true → Quiet g s marks (outside s)
 unfolding outside marksBy
@@ -178,8 +178,8 @@ taken-quiet g s marks failed odd h W k =
     taken-by (λ (t : Taken). t .settles ≡ false → Quiet g s marks t) g s failed odd h
     (λ f. flagged-quiet g s marks W k)
     (λ f e. counts-quiet g s marks W k odd h e)
-    (λ f e b q. clash (flagOf (g .begun)) (aside-begun g s (ranOn g s odd h) q) b)
+    (λ f e b q. clash (flagOf (g .begun)) (dropped-begun g s (ranOn g s odd h) q) b)
     (λ f e b j w. keeps-quiet g s marks W k odd h e b)
     (λ f e b j w q. outside-quiet g s marks b)
     (λ f e b j t w q. joins-quiet g s marks W k odd h e b j w)
-    (λ f e b j w q. aside-quiet g s marks W k odd h e b)
+    (λ f e b j w q. dropped-quiet g s marks W k odd h e b)

@@ -19,9 +19,9 @@ use Rattle.rows.specs.declared.group.Group.{Group}
 use Rattle.rows.specs.Group.{groupAt}
 use Rattle.step.specs.Arrival.{flagOf}
 
--- steady, with the same ports
+-- lasting, with the same ports
 pub record SteadyOf (n : ℕ) (s : List (List ℕ)) : Type 0 where
-  pub steady : Lasting s
+  pub lasting : Lasting s
   pub count : groupAt s .count ≡ n
 
 module _ (s : List (List ℕ)) (k : Lasting s) where
@@ -38,8 +38,8 @@ module _ (s : List (List ℕ)) (k : Lasting s) where
   unfolding stopBy
   stop-steady =
       cond-by (SteadyOf n) (flagOf (g .begun) && silent g s n) (stoppedOf g n s) s
-      (λ e. record { steady = lasting-stopped s k; count = ap (λ (h : Group). h .count) (stopped-group g n s some) })
-      (λ e. record { steady = k; count = refl })
+      (λ e. record { lasting = lasting-stopped s k; count = ap (λ (h : Group). h .count) (stopped-group g n s some) })
+      (λ e. record { lasting = k; count = refl })
 
   begin-steady : SteadyOf n (beginBy g n s)
   unfolding beginBy
@@ -47,10 +47,10 @@ module _ (s : List (List ℕ)) (k : Lasting s) where
       cond-by (SteadyOf n) (not (flagOf (g .begun)) && begins g s n) (begunOf g n s) s
       (λ e.
       record {
-        steady = lasting-begun s k (and-right (not (flagOf (g .begun))) (begins g s n) e);
+        lasting = lasting-begun s k (and-right (not (flagOf (g .begun))) (begins g s n) e);
         count = ap (λ (h : Group). h .count) (begun-group g n s some);
       })
-      (λ e. record { steady = k; count = refl })
+      (λ e. record { lasting = k; count = refl })
 
   gather-steady : (store : List ℕ) → SteadyOf n (gatherBy g store n s)
   unfolding gatherBy
@@ -58,22 +58,22 @@ module _ (s : List (List ℕ)) (k : Lasting s) where
       cond-by (SteadyOf n) (flagOf (g .begun) && not (flagOf (g .gathered)) && brought g s n) (passedOf g store n s) s
       (λ e.
       record {
-        steady =
+        lasting =
             lasting-passed s k store
             (and-left (flagOf (g .begun)) (not (flagOf (g .gathered))) (and-left (flagOf (g .begun) && not (flagOf (g .gathered))) (brought g s n) e))
             (and-right (flagOf (g .begun) && not (flagOf (g .gathered))) (brought g s n) e);
         count = ap (λ (h : Group). h .count) (passed-group g store n s some) ∙ passed-count g;
       })
-      (λ e. record { steady = k; count = refl })
+      (λ e. record { lasting = k; count = refl })
 
 stop-of : (n : ℕ) (s : List (List ℕ)) → SteadyOf n s → SteadyOf n (stopBy (groupAt s) n s)
-stop-of n s k = rw (← k .count) (stop-steady s (k .steady))
+stop-of n s k = rw (← k .count) (stop-steady s (k .lasting))
 
 begin-of : (n : ℕ) (s : List (List ℕ)) → SteadyOf n s → SteadyOf n (beginBy (groupAt s) n s)
-begin-of n s k = rw (← k .count) (begin-steady s (k .steady))
+begin-of n s k = rw (← k .count) (begin-steady s (k .lasting))
 
 gather-of : (n : ℕ) (store : List ℕ) (s : List (List ℕ)) → SteadyOf n s → SteadyOf n (gatherBy (groupAt s) store n s)
-gather-of n store s k = rw (← k .count) (gather-steady s (k .steady) store)
+gather-of n store s k = rw (← k .count) (gather-steady s (k .lasting) store)
 
 pub steady-settled : (n : ℕ) (store : List ℕ) (s : List (List ℕ)) → SteadyOf n s → SteadyOf n (settledOf n store s)
 unfolding settledOf

@@ -90,7 +90,7 @@ module _ (kind count P W : ℕ) (hold restore : List ℕ) (s : List (List ℕ)) 
   kept-start : Kept started
   kept-start =
       record {
-        steady = lasting-start;
+        lasting = lasting-start;
         settled =
             rw group
             (record {

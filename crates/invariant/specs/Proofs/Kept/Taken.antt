@@ -1,5 +1,5 @@
 -- What a frame leaves of its port keeps what is kept of ports (`taken-kept`): each case of takenOf.
--- The idea: a port out of step claims nothing, so nothing is asked of it. In step the tag moves on by one, and so does the distance from the window's first; marks and joining are asked about only where that distance lies in the window.
+-- The idea: a port out of step has not joined and waits for nothing, so only what holds of every port is asked of it. In step the next tag goes on by one. Inside the window the distance from its first grows by one, and marks and joining go by it; a port still before the window is one frame nearer (`short-next`); a frame outside leaves all as it was.
 use mathlib.Core.Path.{_≡_, refl, sym, _∙_}
 use mathlib.Core.Logic.{⊎-elim, _≢_}
 use mathlib.Core.Bool.{Bool, true, false, cond, _&&_, true≢false, and-false}

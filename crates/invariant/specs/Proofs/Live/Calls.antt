@@ -130,7 +130,7 @@ module _ (s : List (List ℕ)) (k : Kept s) (i : ℕ) (failed : Bool) (h : ℕ) 
   stays answer e = rw (unheard (eqb i j) (isHeard answer) e) live
 
   enough : rowsFor n ≤ length s
-  enough = let r = k .steady .rows in omega arith
+  enough = let r = k .lasting .rows in omega arith
 
   -- the port's own frame
   own : j ≡ i → Took kind (stepAt s i) t → LiveIn kind (portAt a i) (h ∷ heard)
@@ -148,14 +148,14 @@ module _ (s : List (List ℕ)) (k : Kept s) (i : ℕ) (failed : Bool) (h : ℕ) 
 
   took-by : i < n → (t .answer ≡ 11 → ⊥) → Took kind (stepAt s i) t
   took-by b other =
-      let run : RunKept kind (runOf (stepAt s i)) = rw (port-step s i) at (k .steady .ports i b .kept .run) in
+      let run : RunKept kind (runOf (stepAt s i)) = rw (port-step s i) at (k .lasting .ports i b .kept .run) in
       ⊎-elim (λ (e : t .answer ≡ 11). absurd (other e)) (λ (o : Took kind (stepAt s i) t). o) (taken-took (groupAt s) (stepAt s i) failed (oddIn s i h) h run)
 
   said : eqb (frameRefusal s i (length payload) (length store)) 0 ≡ true → eqb (t .answer) 11 ≡ false
       → Now (settledBy (t .settles) (portsIn (groupAt s)) (storeAfter s i failed h payload store) a) (t .answer)
   unfolding settledBy
   said e f =
-      let ports : portsIn (groupAt s) ≡ n = ports-are (groupAt s) (k .steady .group .sizes) in
+      let ports : portsIn (groupAt s) ≡ n = ports-are (groupAt s) (k .lasting .group .sizes) in
       let o = unrefused (groupAt s) (portsIn (groupAt s)) i (length s) (length payload) (length store) (eqb-true (frameRefusal s i (length payload) (length store)) 0 e) in
       let b : i < n = rw ports at (o .port) in
       let now : Now a (t .answer) = after (took-by b (eqb-false (t .answer) 11 f)) in
@@ -191,12 +191,12 @@ fetch-live s k store out report j c heard live =
     Now r = LiveIn (groupAt s .kind) (portAt r j) heard
 
     ports : portsIn (groupAt s) ≡ groupAt s .count
-    ports = ports-are (groupAt s) (k .steady .group .sizes)
+    ports = ports-are (groupAt s) (k .lasting .group .sizes)
 
     reported : LiveIn (groupAt s .kind) (portAt (reportedOf (groupAt s) store (groupAt s .count) s) j) heard
     reported =
         live-same (groupAt s .kind) (portAt s j) (portAt (reportedOf (groupAt s) store (groupAt s .count) s) j) heard
-        (reported-run (groupAt s .count) store s j c (let r = k .steady .rows in omega arith)) live
+        (reported-run (groupAt s .count) store s j c (let r = k .lasting .rows in omega arith)) live
 
 abbrev LiveOf : Receiver → ℕ → List ℕ → Type 0
 LiveOf x j heard = LiveIn (groupAt (x .rows) .kind) (portAt (x .rows) j) heard

@@ -124,7 +124,7 @@ module _ (count P W : ℕ) (hold restore : List ℕ) (rows : List (List ℕ)) (s
   count-stays = run-sizes first calls first-kept .count ∙ ap (λ (g : Group). g .count) first-is
 
   pub fixed-stays : (last .kind ≡ fixedKind) × (portsIn last ≡ count)
-  fixed-stays = (kind-stays, ports-are last (Calls.kept fixedKind count P W hold restore rows store zero calls .steady .group .sizes) ∙ count-stays)
+  fixed-stays = (kind-stays, ports-are last (Calls.kept fixedKind count P W hold restore rows store zero calls .lasting .group .sizes) ∙ count-stays)
 
   pub fixed-told : (e : ℕ) → replyOf (receiverRun first calls .rows) e ≡ 0 ∷ 0 ∷ []
   fixed-told e = fixed-reply (receiverRun first calls .rows) kind-stays e

@@ -1,5 +1,5 @@
 -- 'the host may hand the frame again after a report': a frame answered 11, handed again after a report, with no other frame of that port and no stop in between, is answered 0 and stored.
--- The idea: while a port is handed nothing its step record stands still (`Still`), and each epoch passed brings the window nearer to its tag by an epoch's frames, never past it. So after a report the tag lies in the window.
+-- The idea: while a port is handed nothing, its run, its joining and the packet being gathered stand still (`Still`). Each epoch passed brings the window nearer to its tag by an epoch's frames, never past it; so after a report the tag lies in the window.
 use mathlib.Core.Path.{_≡_, refl, sym, ap, _∙_}
 use mathlib.Core.Logic.{⊎-elim, _≢_}
 use mathlib.Core.Bool.{Bool, true, false, cond, _&&_, true≢false}
@@ -139,7 +139,7 @@ module _ (i : ℕ) (run : Run) (gathering : List ℕ) (joined : ℕ) (on : flagO
       settled-by (StillIn far) n st a (c .long)
       there
       (λ e q z w.
-      passed-still far far n a (lasting-frame s (k .steady) j failed h (c .port)) (ap (λ (x : Group). x .count) same) st w b there (omega arith))
+      passed-still far far n a (lasting-frame s (k .lasting) j failed h (c .port)) (ap (λ (x : Group). x .count) same) st w b there (omega arith))
       (λ e w. clash (flagOf (groupAt s .begun)) (o .begun) (rw same at e))
       (λ e q. absurd (heard (rw same at q)))
       (λ e q. absurd (heard (rw same at q))))
@@ -160,7 +160,7 @@ module _ (i : ℕ) (run : Run) (gathering : List ℕ) (joined : ℕ) (on : flagO
       there = rw (same, frame-other (groupAt s .kind) s j (takenIn s j failed h) h i (λ e. d (sym e))) o
 
       ports : portsIn (groupAt s) ≡ groupAt s .count
-      ports = ports-are (groupAt s) (k .steady .group .sizes)
+      ports = ports-are (groupAt s) (k .lasting .group .sizes)
 
       stops : eqb (frameRefusal s j (length payload) (length store)) 0 ≡ true → eqb (takenIn s j failed h .answer) 11 ≡ false
           → silent (groupAt s) (portAfter s j failed h) (groupAt s .count) ≡ true → stopsWith s j failed h payload store ≡ true
@@ -173,11 +173,11 @@ module _ (i : ℕ) (run : Run) (gathering : List ℕ) (joined : ℕ) (on : flagO
   report-still far less s k b store out report v o l =
       let g : Group = groupAt s in
       let n : ℕ = groupAt s .count in
-      let ports : portsIn (groupAt s) ≡ groupAt s .count = ports-are g (k .steady .group .sizes) in
+      let ports : portsIn (groupAt s) ≡ groupAt s .count = ports-are g (k .lasting .group .sizes) in
       let d : Due (groupAt s) (groupAt s .count) s = due-says g n s (rw ports at (v .due)) in
       let p : List (List ℕ) = passedOf (groupAt s) store (groupAt s .count) s in
-      let long : rowsFor (groupAt s .count) ≤ length p = rw (length-passed g store n s) (let r = k .steady .rows in omega arith) in
-      let passed : Still run gathering joined less (groupAt p) (portAt p i) = passed-still far less n s (k .steady) refl store (d .brought) b o l in
+      let long : rowsFor (groupAt s .count) ≤ length p = rw (length-passed g store n s) (let r = k .lasting .rows in omega arith) in
+      let passed : Still run gathering joined less (groupAt p) (portAt p i) = passed-still far less n s (k .lasting) refl store (d .brought) b o l in
       rw (v .fitting, v .due, ports, told-group (groupAt p) n p (omega arith), told-of-port (groupAt p) n p i b long)
       (record {
         run-is = passed .run-is;
@@ -314,7 +314,7 @@ again x k i failed h payload e calls others goes some =
       answer = taken-answer r i failed h (length payload) (length (y .store)) unrefused-now ∙ left .0;
       at = d;
       inside = inside;
-      tag = tag-next (groupAt r) (portAt r i .step .next) (ky .steady .ports i now .kept .run .tag);
+      tag = tag-next (groupAt r) (portAt r i .step .next) (ky .lasting .ports i now .kept .run .tag);
       store-is = left .1;
       stands = rw (left .1) (stands-put (groupAt r) (groupAt r .count) i d payload h (y .store) (let l = inside in omega arith) now stored-now bytes-now);
     }
@@ -338,7 +338,7 @@ again x k i failed h payload e calls others goes some =
     fit = unrefused (groupAt s) (portsIn (groupAt s)) i (length s) (length payload) (length (x .store)) (said .0)
 
     ports : portsIn (groupAt (x .rows)) ≡ groupAt (x .rows) .count
-    ports = ports-are (groupAt s) (k .steady .group .sizes)
+    ports = ports-are (groupAt s) (k .lasting .group .sizes)
 
     b : i < groupAt (x .rows) .count
     b = rw ports at (fit .port)
@@ -347,7 +347,7 @@ again x k i failed h payload e calls others goes some =
     f = rw (port-step s i) (full (groupAt s) (stepAt s i) failed (oddIn s i h) h (said .1))
 
     W : Windowed (groupAt (x .rows))
-    W = windowed (groupAt s) (k .steady .group)
+    W = windowed (groupAt s) (k .lasting .group)
 
     ky : Kept (receiverRun x calls .rows)
     ky = run-kept x calls k
@@ -359,7 +359,7 @@ again x k i failed h payload e calls others goes some =
         (groupAt (receiverRun x calls .rows)) (portAt (receiverRun x calls .rows) i)
     still =
         reported-still i (runOf (portAt s i .step)) (portAt s i .gathering) (portAt s i .step .joined) (f .joined) (groupAt s .window) (groupAt s .window - frames (groupAt s .kind)) x calls k b others goes
-        (record { run-is = refl; gathering-is = refl; joined-is = refl; begun = f .begun; within = k .steady .ports i b .kept .goes (f .joined) .reach })
+        (record { run-is = refl; gathering-is = refl; joined-is = refl; begun = f .begun; within = k .lasting .ports i b .kept .goes (f .joined) .reach })
         (let least = W .least in omega arith) some
 
     inside : offset (groupAt (receiverRun x calls .rows)) (portAt (receiverRun x calls .rows) i .step) < groupAt (receiverRun x calls .rows) .window
@@ -384,9 +384,9 @@ again x k i failed h payload e calls others goes some =
 
     unrefused-now : frameRefusal (receiverRun x calls .rows) i (length payload) (length (receiverRun x calls .store)) ≡ 0
     unrefused-now =
-        rw (ports-are (groupAt r) (ky .steady .group .sizes))
+        rw (ports-are (groupAt r) (ky .lasting .group .sizes))
         (fitting-none (groupAt r) (groupAt r .count) i (length r) (length payload) (length (y .store))
-        (record { port = now; whole = ky .steady .rows; bytes = bytes-now; stored = stored-now ∙ sym (store-of (groupAt r) (groupAt r .count)) }))
+        (record { port = now; whole = ky .lasting .rows; bytes = bytes-now; stored = stored-now ∙ sym (store-of (groupAt r) (groupAt r .count)) }))
 
     left : (takenIn (receiverRun x calls .rows) i failed h .answer ≡ 0) × (frameStore r i failed h payload (receiverRun x calls .store) ≡ storedAt (receiverRun x calls .store) (placeIn (groupAt r) i d) payload h)
     left = kept-store r i failed h payload (y .store) d (ranOn (groupAt r) (stepAt r i) (oddIn r i h) h) unrefused-now taken

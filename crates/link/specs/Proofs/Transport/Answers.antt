@@ -20,7 +20,7 @@ use Rattle.link.specs.Proofs.Transport.Times.{CallsDo, Phase, coming-is,
 use Rattle.link.specs.Proofs.Transport.Times.Phase.{before, first, later}
 
 module _ (r : Road) where
-  -- what the single steps are proved to answer
+  -- what the single calls are proved to answer
   pub record Says : Type 0 where
     pub before-says : (m : Moment) (p : ℕ) (n n′ : ℕ → ℕ) → Served r p n n′ → SentWith (r .kind) (r .offset + n p) (r .h4 p (n p)) → Before r m n
         → framed r p (n p) m .answers ≡ m .answers ++ (said r p (n p) ∷ [])

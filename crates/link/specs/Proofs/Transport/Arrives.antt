@@ -1,5 +1,5 @@
--- What a frame of an open window is: dropped before the window's first frame, joining at it, kept after it. Never is it refused.
--- The idea: the port is in step, so the frame's tag is that of its position, and the distance of the tag from the window's first is the distance of the positions. Which of the three cases of `takenOf` it is goes by that distance alone.
+-- What a frame of an open window is: dropped before the window's first frame, kept from there on; a port that has not joined joins at the first. Never is it refused.
+-- The idea: the port is in step, so the frame's tag is that of its position. From the window's first on, the tag's distance is that of the positions (`distance-in`); before it the tag lies outside (`window-out`). Which of three cases of `takenOf` it is goes by that and by whether the port has joined (`Joins`).
 use mathlib.Core.Path.{_≡_, refl, sym, ap, _∙_}
 use mathlib.Core.Logic.{_⊎_, ⊎-elim, _≢_}
 use mathlib.Core.Bool.{Bool, true, false, cond, not, _&&_, and-false, or-false, or-true}

@@ -1,5 +1,5 @@
 -- Fetches after the beginning: none is due while a port owes a frame of the oldest epoch, and otherwise the epoch is told as its contents say.
--- The idea: where no port owes, all ports' marks are set, so that what the receiver sees of each port is what its packet and its store hold; the report is then worked out field by field and compared with the one that the contents give.
+-- The idea: where no port owes, all first marks are set, so what is seen of each port is given by its ruling packet (`seen-one`), and mark and order by that. The bytes stand in the store (`all-stand`). The report is compared field by field with the one that the contents give (`told-is`), and the window is an epoch further (`later-fetched`).
 use mathlib.Core.Path.{_≡_, refl, sym, ap, _∙_}
 use mathlib.Core.Logic.{_≢_}
 use mathlib.Core.Bool.{Bool, true, false, cond, or-true}

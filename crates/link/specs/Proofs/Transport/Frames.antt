@@ -1,5 +1,5 @@
 -- Frames after the beginning: each is answered 0 and leaves the window open, with its port one frame further; the last frame owed of the first epoch gathers it.
--- The idea: what the frame leaves of its own port is known (`Goes` of Arrives.antt), all other ports stay as they are (`by-port`), and anything follows for all ports only where the frame was the last one owed (`framed-passes`).
+-- The idea: what the frame leaves of its own port is known (`Goes` of Arrives.antt), all other ports stay as they are (`by-port`), and something follows for all ports only where it was the last frame owed of the first epoch (`framed-passes`; else `framed-stays`).
 use mathlib.Core.Path.{_≡_, refl, sym, ap, _∙_}
 use mathlib.Core.Logic.{_⊎_, inl, inr, ⊎-elim, _≢_}
 use mathlib.Core.Bool.{Bool, true, false, cond, false≢true}

@@ -35,7 +35,7 @@ use Rattle.link.specs.Running.{Moment}
 use Rattle.link.specs.Proofs.Standing.{Lined, Open, Stepped}
 use Rattle.link.specs.Proofs.Transport.Due.{AllCome, first-all}
 
--- of a step that passes
+-- of a step record, as an epoch passed leaves it
 stepped-passed : (r : Road) (x : ℕ) (s : Step) (whole : Bool) → Stepped r x s → Stepped r x (passedStep s whole)
 unfolding passedStep
 stepped-passed r x s whole h = record { count = h .count; next = h .next; breaks = h .breaks; even = h .even }

@@ -1,5 +1,5 @@
 -- All frame times: what stands at every moment of a run is one of three things, before the beginning, in the first epoch, or while reports are made (`Phase`, `phase`).
--- The idea: what single frames and fetches do is taken from elsewhere (`CallsDo`). It goes by induction over the ports of a frame time in their order, and then over frame times; each turn leads from one of the three to one of the three.
+-- The idea: what single frames and fetches do is taken from elsewhere (`CallsDo`). It goes by induction over the ports of a frame time in their order, and then over frame times; each turn leads from one of the three to one of the three. Where it ends: receiving has begun 47 frames after the last port's first (`begun-by`).
 use mathlib.Core.Path.{_≡_, refl, sym, ap, _∙_, subst}
 use mathlib.Core.Logic.{inl, inr, ⊎-elim, _≢_}
 use mathlib.Core.Bool.{Bool, true, false, cond, true≢false}

@@ -1,5 +1,5 @@
 -- `orders::first_of` meets its contract: a walk of its MIR, by hand, since it makes a slice of structs.
--- The idea. The array is copied into memory of its own (`in-memory`). Its elements are cut there after the first n, these are lent as a slice for a lifetime ν of the call, and come back; the answers are lent again for a second lifetime ν′ (Again.antt). `order` is called once.
+-- The idea. The array is copied into memory of its own (`in-memory`). Its elements are cut there after the first n, these are lent as a slice for a lifetime ν of the call, and come back; the answers are lent again for a second lifetime ν′ (LentAgain.antt). `order` is called once.
 -- All that the walk knows of `order` is that it meets its contract.
 -- A comment in brackets lists the context at that step. A place is the number of items before the locals and the local's own place (`at-n`). While the array is lent its cell is not among the locals, and those behind it stand one place earlier.
 -- Assumes nothing.

@@ -1,6 +1,6 @@
 -- `orders::order` meets its contract: a walk of its MIR, by hand, since a slice of structs is lent to it.
 -- The idea. The loop goes by `loops` of Types/Run.antt: what holds before a turn is the whole context `At i`, with the card and the answers as i commands leave them (`cardAt`, `listAt` of Turned.antt), and each turn comes nearer to n.
--- A turn (`more`) looks into the slice of commands and copies one out, lends the answers again to `one` for a lifetime ν made for the call, and has them back at the list that `one` left (Again.antt). At n commands (`ends`) `finish` makes the result.
+-- A turn (`more`) looks into the slice of commands and copies one out, lends the answers again to `one` for a lifetime ν made for the call, and has them back at the list that `one` left (LentAgain.antt). At n commands (`ends`) `finish` makes the result.
 -- That the card and the answers after all turns are those of `ordersOf` is a law on lists (`card-left`, `list-left`), and no part of the walk. All that the walk knows of `turns`, `one` and `finish` is that each meets its contract.
 -- A comment in brackets lists the context at that step. A place is the number of items before the locals and the local's own place (`at-i`), as in `look ! (6 + at-i)`.
 -- Assumes nothing.

@@ -3,7 +3,7 @@ use Prim.Native.Nat.{_≤_, _-_}
 use native.Mathlib.Omega.{arith}
 use lib.ListN.{length}
 use borrow.Author.Needs.{needs}
-use Rattle.sender.specs.Laws.Finding.{holder-none, holder-pass, holder-here}
+use Rattle.sender.specs.Laws.Finding.{holder-none, holder-on, holder-here}
 use Rattle.sender.specs.Table.{holderOf}
 use Rattle.sender.specs.declared.finding.Found.the-variants.{Nothing}
 use Rattle.sender.proofs.finding.find.Statement.{statement}
@@ -34,7 +34,7 @@ loop-less : tie.Need-loop-less Inv-loop μ-loop
 loop-less c = search needs
 
 loop-again : tie.Need-loop-again Inv-loop μ-loop
-loop-again c = (c .before .before .before .before .loop .inv .0, omega arith, holder-pass _ _ _ (c .before .before .before .before .loop .inv .2) (sym (c .before .is-holder .ensures) ∙ c .if2 .left))
+loop-again c = (c .before .before .before .before .loop .inv .0, omega arith, holder-on _ _ _ (c .before .before .before .before .loop .inv .2) (sym (c .before .is-holder .ensures) ∙ c .if2 .left))
 
 returns : tie.Need-returns Inv-loop μ-loop
 returns c = let e : c .before .loop .i ≡ c .before .before .args .n = omega arith in sym (rw e at (c .before .loop .inv .2))

@@ -17,8 +17,8 @@ Inv-loop text at limit base count good₀ i₀ good i = (count ≡ length (slice
 abbrev μ-loop : tie.MeasureT-loop
 μ-loop text at limit base count good₀ i₀ good i = count - i
 
-size-of-requires : tie.Need-size-of-requires Inv-loop μ-loop
-size-of-requires c κs = search needs
+field-size-requires : tie.Need-field-size-requires Inv-loop μ-loop
+field-size-requires c κs = search needs
 
 loop-holds : tie.Need-loop-holds Inv-loop μ-loop
 loop-holds c = search needs
@@ -62,4 +62,4 @@ returns c =
     rw (e, take-length) at (c .before .loop .inv .2)
 
 pub are-digits-spec : {M : Type 1} → statement M
-are-digits-spec = tie.close (tie.spec Inv-loop μ-loop size-of-requires loop-holds add-is-digit shared-slice-read-is-digit is-digit-requires add-i loop-less loop-again returns)
+are-digits-spec = tie.close (tie.spec Inv-loop μ-loop field-size-requires loop-holds add-is-digit shared-slice-read-is-digit is-digit-requires add-i loop-less loop-again returns)

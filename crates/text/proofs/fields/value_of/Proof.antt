@@ -19,14 +19,14 @@ Inv-loop text at limit base count value₀ i₀ value i = (count ≡ length (sli
 abbrev μ-loop : tie.MeasureT-loop
 μ-loop text at limit base count value₀ i₀ value i = count - i
 
-size-of-requires : tie.Need-size-of-requires Inv-loop μ-loop
-size-of-requires c κs = search needs
+field-size-requires : tie.Need-field-size-requires Inv-loop μ-loop
+field-size-requires c κs = search needs
 
 loop-holds : tie.Need-loop-holds Inv-loop μ-loop
 loop-holds c =
     let at-start = c .before .before in
     let p = pow-zero (at-start .args .base) in
-    (c .size-of .ensures, omega arith, refl, omega arith)
+    (c .field-size .ensures, omega arith, refl, omega arith)
 
 add-digit-of : tie.Need-add-digit-of Inv-loop μ-loop
 add-digit-of c =
@@ -109,4 +109,4 @@ returns c =
     rw (e, take-length) at (c .before .loop .inv .2)
 
 pub value-of-spec : {M : Type 1} → statement M
-value-of-spec = tie.close (tie.spec Inv-loop μ-loop size-of-requires loop-holds add-digit-of shared-slice-read-digit-of digit-of-requires wide-requires mul-value wide-requires-2 add-value add-i loop-less loop-again returns)
+value-of-spec = tie.close (tie.spec Inv-loop μ-loop field-size-requires loop-holds add-digit-of shared-slice-read-digit-of digit-of-requires wide-requires mul-value wide-requires-2 add-value add-i loop-less loop-again returns)

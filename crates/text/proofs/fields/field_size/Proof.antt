@@ -2,8 +2,8 @@ use mathlib.Core.Path.{sym}
 use borrow.Author.Needs.{needs}
 use Rattle.text.specs.Laws.Slices.{slice-length}
 use Rattle.text.proofs.Reading.{size-none}
-use Rattle.text.proofs.fields.size_of.Statement.{statement}
-use Rattle.text.proofs.fields.size_of.Tie as tie
+use Rattle.text.proofs.fields.field_size.Statement.{statement}
+use Rattle.text.proofs.fields.field_size.Tie as tie
 
 end-of-requires : tie.Need-end-of-requires
 end-of-requires c κs = search needs
@@ -14,5 +14,5 @@ returns c = size-none (c .before .before .before .args .text .now) (c .before .b
 returns-2 : tie.Need-returns-2
 returns-2 c = sym (slice-length (c .before .before .before .args .text .now) (c .before .before .before .args .limit) (c .before .end-of .result) (c .before .end-of .ensures) (c .before .before .before .args .at))
 
-pub size-of-spec : {M : Type 1} → statement M
-size-of-spec = tie.close (tie.spec end-of-requires returns returns-2)
+pub field-size-spec : {M : Type 1} → statement M
+field-size-spec = tie.close (tie.spec end-of-requires returns returns-2)
