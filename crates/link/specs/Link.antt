@@ -59,7 +59,7 @@ pub record Damaged (kind changes : ℕ) (sent came : List ℕ) : Type 0 where
   -- MFI1 of each frame, which tells its place
   pub placed : (k : ℕ) → k < frames kind → nibblePlace kind (getD came k 0) ≡ nibblePlace kind (getD sent k 0)
 
--- 'Let each packet arrive as sent, or ..'
+-- Each packet arrives as sent, or is damaged
 abbrev pub Arrived : ℕ → ℕ → List ℕ → List ℕ → Type 0
 Arrived kind changes sent came = (came ≡ sent) ⊎ Damaged kind changes sent came
 

@@ -50,7 +50,7 @@ dropped q answer counted settles = record { step = q; answer = answer; counted =
 abbrev stored : Step → ℕ → Bool → Bool → Taken
 stored q at joins settles = record { step = q; answer = 0; counted = true; kept = true; at = at; joins = joins; settles = settles }
 
--- nothing follows for other ports of a frame that is passed by
+-- receiving has begun, and its first epoch is gathered
 abbrev begun : Group
 begun = group 1 1
 
@@ -62,7 +62,7 @@ fails :
 unfolding flagged frames inStep inStepAt takenOf
 fails = (refl, refl, refl)
 
--- 12: the run goes on, begins anew or ends, a frame's nibble goes with the first two; 'losing step undoes' joining
+-- 12: the run goes on or begins anew, and then the frame's nibble is kept, or it ends; 'losing step undoes' joining
 counting :
     (takenOf begun (step 0 1 5 853 6 7 8 0 0) false false 0x75 ≡ dropped (step 1 0 6 854 0 0 0 0 0) 12 true false)
     × (takenOf begun (step 0 1 5 853 6 7 8 0 0) false false 0x76 ≡ dropped (step 1 0 0 0 0 0 0 0 0) 12 false false)
@@ -72,7 +72,7 @@ counting :
 unfolding begunRun breaksAfter counts countsOn endsEpoch endsPacket frames furtherRun gainedRun inStep inStepAt lead loses oddAfter placeOf runOn startsCount stayedRun tagAfter tagByHigh takenOf tags
 counting = (refl, refl, refl, refl, refl)
 
--- 'A frame in step of a port that has not joined is answered 0 and dropped', also an epoch's first beyond the window, and every frame before the beginning; the 32nd right frame is in step
+-- 'A frame in step of a port that has not joined is answered 0 and dropped', also an epoch's first frame behind the window or before it, and every frame before the beginning; the 32nd right frame is in step
 dropping :
     (takenOf (group 0 1) (step 0 1 33 904 6 7 8 2 1) false false 0x78 ≡ dropped (step 1 0 33 905 6 7 8 0 1) 0 true true)
     × (takenOf (group 0 1) (step 0 1 31 904 6 7 8 0 0) false false 0x78 ≡ dropped (step 1 0 32 905 6 7 8 0 0) 0 true true)

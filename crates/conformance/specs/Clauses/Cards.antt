@@ -14,8 +14,9 @@ use Rattle.circuits.specs.Owners.{hasOwner, isMarked, ownedBytes, withOwner}
 use Rattle.circuits.specs.Parts.{groupOutcome, isSlot, isUsed, marked, owns, senderOf, shownSender, withSender}
 use Rattle.circuits.specs.Readings.{boardShown, outgoingShown, ownedShown, packetAnswer, packetBytes, payloadAnswer, payloadBytes, ranksShown}
 use Rattle.circuits.specs.Shown.{by}
-use Rattle.circuits.specs.Views.{Asked, Made, askedBy, bitsOf, run}
+use Rattle.circuits.specs.Views.{Asked, Made, askedBy, bitsOf, replyTo, run}
 use Rattle.circuits.specs.Views.Asked.{Board, Do, Outgoing, Owned, Packet, Payload, Ranks}
+use Rattle.circuits.specs.Views.Reply.{Answered, Owns, Ranked, Showed, Wrote}
 use Rattle.orders.specs.Orders.{finishOf, firstAnswers, firstOrdered, outcomeBy, turnsOf}
 use Rattle.orders.specs.Shown.{add, claim, release, remove}
 use Rattle.orders.specs.Singles.{answersTo, commandsOf, singleNumbers}
@@ -155,6 +156,19 @@ packets :
     × (answerNumber (packetAnswer other 0 2 (nines 16)) ≡ 14)
 unfolding actedOn addOf addedTo assigned beginOf boardOf claimOf comesBefore commandOf commandsStartOf crcOf dataOf divisor epochAfter epochs epochsPacketAnswer epochsPacketBytes fitting frames freshOf freshSender groupCallOf h4Of highest holderOf idleSlot isSlot marked membersOf mstApplied mstFails mstFirst mstNumbers nibbleBits nibblesOf numberAfter numberApplied owns packetAnswer packetBytes packetFields renumbered reportOf rowOf rowsOf sealedOf senderOf sizeOf slotAfter startEpochOf startOf startedEpoch startedSender groupOutcome turnOf withOwner withSender writeAnswer writeBytes
 packets = (refl, refl, refl, refl, refl, refl, refl, refl, refl, refl, refl, refl, refl, refl, refl, refl, refl, refl)
+
+-- what each call gives back: its answer, and what it writes or shows
+replies :
+    (replyTo claimed 0 (Do (Claim 1)) ≡ Answered A.Owned)
+    × (replyTo claimed 0 (Packet 0 (replicate 15 9)) ≡ Wrote A.Length (replicate 15 9))
+    × (replyTo claimed 1 (Packet 0 (replicate 16 9)) ≡ Wrote A.Owned (replicate 16 9))
+    × (replyTo claimed 0 (Payload 0 2341 (9 ∷ []) (8 ∷ [])) ≡ Wrote A.OutOfRange (8 ∷ []))
+    × (replyTo claimed 0 Board ≡ Showed (boardShown claimed 0))
+    × (replyTo claimed 0 Outgoing ≡ Showed (outgoingShown claimed 0))
+    × (replyTo claimed 0 Ranks ≡ Ranked (ranksShown claimed 0))
+    × (replyTo claimed 0 Owned ≡ Owns (ownedShown claimed 0))
+unfolding beginOf boardOf carriersIn claimOf commandsStartOf epochsPacketAnswer epochsPacketBytes epochsPayloadAnswer epochsPayloadBytes frames freshOf freshSender idleSlot isSlot marked owns packetAnswer packetBytes payloadAnswer payloadBytes rowOf rowsOf senderOf sizeOf startOf withOwner
+replies = (refl, refl, refl, refl, refl, refl, refl, refl)
 
 -- X is 1 in group 0 and 0 in group 1, whose slot 1 has no rank yet
 payloads :

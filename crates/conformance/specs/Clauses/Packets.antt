@@ -70,7 +70,7 @@ words :
 unfolding assigned
 words = (refl, refl, refl)
 
--- DNU under B4 in epoch 93 with GID 1, MST 6A and RS-Ack 1. The 26 other bits, three beside RS-Ack, twelve, three beside GID, eight, are 101 0011 1100 1001 110 0010 1110, which is 29E4E2E.
+-- DNU under number 180 (B4) in epoch 147 (93) with GID 1, MST 6A and RS-Ack 1. The 26 other bits, three beside RS-Ack, twelve, three beside GID, eight, are 101 0011 1100 1001 110 0010 1110, which is 29E4E2E.
 -- Seven bytes 6A B3 C9 B4 93 FD 2E with CRC 42.
 abbrev fields : Fields
 fields = record { epoch = 0x93; word = record { 0 = 15 }; gid = 1; mst = 0x6A; «rs_ack» = 1; sq = 0xB4; reserved = 0x29E4E2E }

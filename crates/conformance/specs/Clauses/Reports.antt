@@ -219,6 +219,32 @@ step count =
 abbrev ruling : List (List ℕ)
 ruling = putMarks (putPackets (putStep rows 1 (step 0)) 1 (zeros 16 ∷ norm ∷ [])) 1 (1 ∷ zeros 15)
 
+-- a port in step whose ruling packet did not come whole
+abbrev unruled : Step
+unruled =
+    record {
+      spare = zeros 5;
+      had = 1;
+      failed = 0;
+      count = 32;
+      next = 0;
+      joined = 0;
+      since = 1;
+      later = 0;
+      whole = 0;
+      breaks = 0;
+      odd = 0;
+    }
+
+-- whether a port can be a candidate: readable as it is now, whatever its packet and its frames were
+candidates :
+    (replyPort (phase 1 1) ruling 1 .readable ≡ false)
+    × (replyPort (phase 1 1) (putStep ruling 1 (step 32)) 1 .readable ≡ true)
+    × (replyPort (phase 1 1) (putStep ruling 1 unruled) 1 .readable ≡ true)
+    × (replyPort (phase 0 1) (putStep ruling 1 (step 32)) 1 .readable ≡ false)
+unfolding freshPort freshPorts inStep inStepAt kindsFrames memberAt memberOf memberRow putGroup putMarks putMember putPackets putRow putStep readable replyPort rowIn sized sizedFits sizedRows startAsRows startFits startRight stepAt stepOf stepRow tags timesWithin withState
+candidates = (refl, refl, refl, refl)
+
 -- 'It is due when every readable port has brought its sixteen frames', of a group that has begun and has gathered. Here it is doubtful, since port 0 has no whole packet: port 1's two bytes of each frame, from place 5 of its ring on.
 due :
     (dueIn (phase 1 1) 2 ruling ≡ true)
@@ -227,13 +253,14 @@ due :
     × (dueIn (phase 1 1) 0 ruling ≡ false)
     × (dueIn (phase 1 1) 2 (putStep ruling 1 (step 32)) ≡ true)
     × (dueIn (phase 1 1) 2 (putStep ruling 0 (step 32)) ≡ false)
+    × (dueIn (phase 1 1) 2 (putStep rows 1 (step 32)) ≡ false)
     × (reportIfDue (phase 1 1) 2 ruling ≡ record { mark = 2; epoch = 58; x = 1; bytes = 32 })
     × (reportIfDue (phase 1 0) 2 ruling ≡ record { mark = 0; epoch = 0; x = 0; bytes = 0 })
     × (take 5 (outIfDue (phase 1 1) 2 ruling store (nines 64)) ≡ 63 ∷ 64 ∷ 66 ∷ 67 ∷ 69 ∷ [])
     × (outIfDue (phase 1 0) 2 ruling store (nines 64) ≡ nines 64)
     × (rowsIfDue (phase 1 0) 2 ruling store ≡ ruling)
 unfolding activeIn assigned brought carriedIn crcOf divisor doubtfulBy dueIn eosAlone eosWrong epochOf exact fieldsOf firstMark firstTag frameInto framesInto freshPort freshPorts gidDiffers heldBy highest inStep inStepAt judgeOf kindsFrames lcasVerdict lead marksAt missing nibbleBits orderOf outIfDue outputBy outputOf owesNothing ownNumber ownRuling packetsAt placeIn portOf putGroup putMarks putMember putPackets putRow putStep rankOf readNibbles readable repeats reportBy reportIfDue reportOf ringOf rowIn rowsIfDue rulingEpoch rulingIn rulingOf seenAll seenOf sized sizedFits sizedRows startAsRows startFits startRight startsOf stepAt stepOf stepRow tagBefore tags takes timesWithin
-due = (refl, refl, refl, refl, refl, refl, refl, refl, refl, refl, refl)
+due = (refl, refl, refl, refl, refl, refl, refl, refl, refl, refl, refl, refl)
 
 -- Working the states out leaves the group but for RS-Ack, which stays where no port has changed. What is kept by port has 64 places.
 kept :

@@ -33,6 +33,7 @@ lines :
     × (lineOf (ascii "remove\t999") ≡ Remove 999)
     × (lineOf (ascii "report\t255\taF\t1") ≡ Report 255 175 1)
     × (lineOf (ascii "report\t7\t05\t0") ≡ Report 7 5 0)
+    × (lineOf (ascii "report\t0\t00\t001") ≡ Report 0 0 1)
     × (lineOf (ascii "lapse") ≡ Lapse)
     × (lineOf (ascii "board") ≡ Board)
     × (lineOf [] ≡ Malformed)
@@ -51,7 +52,7 @@ lines :
     × (lineOf (ascii "report\t0\t00\t0\t0") ≡ Malformed)
     × (lineOf (replicate 81 65) ≡ Malformed)
 unfolding digitOf fieldsOf hexOf lineOf numberLine numberOf reportLine reportOf wordLine
-lines = (refl, refl, refl, refl, refl, refl, refl, refl, refl, refl, refl, refl, refl, refl, refl, refl, refl, refl, refl, refl, refl, refl)
+lines = (refl, refl, refl, refl, refl, refl, refl, refl, refl, refl, refl, refl, refl, refl, refl, refl, refl, refl, refl, refl, refl, refl, refl)
 
 -- the parts of a line by themselves: a word with a number that cannot be read, and a report's three numbers
 parts :

@@ -22,6 +22,10 @@ torn word number gid here = record { whole = false; good = true; word = word; nu
 abbrev bad : ℕ → ℕ → Seen
 bad word number = record { whole = true; good = false; word = word; number = number; gid = 0; here = true }
 
+-- one that has just joined: its frames are here, and what stands in its ruling row reads as refused
+abbrev joining : Seen
+joining = record { whole = false; good = false; word = 0; number = 0; gid = 0; here = true }
+
 abbrev verdict : List Seen → ℕ
 verdict ports = judgeOf 0 ports (length ports)
 
@@ -34,14 +38,17 @@ torn-packets :
     × (verdict (saw 3 0 0 ∷ torn 2 0 0 false ∷ []) ≡ 2)
     × (verdict (saw 3 0 0 ∷ torn 5 255 0 true ∷ []) ≡ 2)
     × (verdict (torn 3 0 0 true ∷ []) ≡ 2)
+    × (verdict (saw 3 0 0 ∷ joining ∷ []) ≡ 2)
 unfolding doubtfulBy eosAlone eosWrong gidDiffers heldBy highest judgeOf lcasVerdict missing repeats takes
-torn-packets = (refl, refl, refl, refl, refl, refl, refl)
+torn-packets = (refl, refl, refl, refl, refl, refl, refl, refl)
 
--- an IDLE port's GID counts for nothing, whichever it is; an ADD port's number does not fill a gap
+-- an IDLE port's GID counts for nothing, whichever it is, a DNU port's and an active one's hold the epoch where they differ; an ADD port's number does not fill a gap
 others :
     (verdict (saw 3 0 1 ∷ saw 5 255 0 ∷ []) ≡ 3)
     × (verdict (saw 3 0 0 ∷ saw 5 255 1 ∷ []) ≡ 3)
     × (verdict (saw 3 0 2 ∷ saw 15 1 2 ∷ []) ≡ 3)
+    × (verdict (saw 3 0 0 ∷ saw 15 1 1 ∷ []) ≡ 1)
+    × (verdict (saw 2 0 1 ∷ saw 3 1 0 ∷ []) ≡ 1)
     × (verdict (saw 2 0 0 ∷ saw 1 1 0 ∷ saw 3 2 0 ∷ []) ≡ 2)
     × (judgeOf 1 (saw 3 0 0 ∷ []) 1 ≡ 3)
     × (judgeOf 2 (saw 0 0 0 ∷ []) 1 ≡ 3)
@@ -50,7 +57,7 @@ others :
     × (judgeOf 2 (saw 0 0 0 ∷ torn 0 1 0 true ∷ []) 2 ≡ 1)
     × (judgeOf 2 (saw 0 0 0 ∷ bad 0 1 ∷ []) 2 ≡ 1)
 unfolding doubtfulBy eosAlone eosWrong exact fixedExact fixedHeld fixedVerdict gidDiffers heldBy highest judgeOf lcasVerdict missing repeats takes
-others = (refl, refl, refl, refl, refl, refl, refl, refl, refl, refl)
+others = (refl, refl, refl, refl, refl, refl, refl, refl, refl, refl, refl, refl)
 
 -- payload goes by the numbers of active ports, however high, and not by what a refused or a torn packet reads as
 orders :

@@ -25,7 +25,7 @@ use Rattle.groups.specs.Theorems.{given-each}
 abbrev lent : List ℕ
 lent = replicate 16 0xEE
 
--- the packet of group 1's epoch at index 7, which has number 1: EOS 1, GID 1, all FAIL, RS-Ack 1
+-- the packet of group 1's epoch at index 7, epoch 1: EOS 1, GID 1, all FAIL, RS-Ack 1
 abbrev last-of-two : List ℕ
 last-of-two = 0xF8 ∷ 0xF9 ∷ 0x1A ∷ 0x0B ∷ 0x0C ∷ 0x0D ∷ 0x0E ∷ 0x1F ∷ 0x00 ∷ 0x11 ∷ 0x32 ∷ 0x13 ∷ 0x04 ∷ 0x05 ∷ 0x46 ∷ 0xB7 ∷ []
 

@@ -14,7 +14,7 @@ use Rattle.groups.specs.Projected.{Starts, begins, isMove, isStart, made
 use Rattle.groups.specs.Samples.Calls.{card}
 use Rattle.groups.specs.Samples.Histories.{computed}
 
--- a start of an epoch with a bit as GID and as RS-Ack is one; another is refused with 8, and no other call is one
+-- a start of an epoch begins one if its GID and its RS-Ack are bits; else it is refused with 8, and no other call begins one
 starting :
     (begins (Do (StartEpoch 1 255 0)) ≡ true)
     × (begins (Do (StartEpoch 0 0 1)) ≡ true)

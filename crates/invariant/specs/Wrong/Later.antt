@@ -1,4 +1,4 @@
--- 'Joined at a later epoch' remembered as the tag joined at (R-15): the same tag comes round after 4,096 frames.
+-- That a port 'joined at a later epoch' remembered as the tag joined at (R-15): the same tag comes round after 4,096 frames.
 use mathlib.Core.Path.{_≡_, refl}
 use mathlib.Core.Bool.{Bool, true, false, not, _&&_, _||_}
 use mathlib.Core.List.{List}

@@ -3,13 +3,14 @@ use mathlib.Core.Path.{_≡_, refl, sym}
 use mathlib.Core.Bool.{true, false, false≢true}
 use mathlib.Core.List.{List, [], _∷_}
 use Prim.Native.Nat.{ℕ, _-_, _*_}
+use native.Mathlib.Omega.{arith}
 use lib.ListN.{replicate}
 use Rattle.ground.specs.Table.{tabulate}
 use Rattle.invariant.specs.Calls.ReceiverCall.{Fetch, Frame}
 use Rattle.invariant.specs.Calls.{Receiver, receiverRun, startedWith}
 use Rattle.invariant.specs.Claims.{tagIn}
 use Rattle.invariant.specs.Live.{heardOf, isHeard, packetHeard, tagBack}
-use Rattle.invariant.specs.Reports.{Unstopped, ackIn, gives, nextReport, reportsOf, stopsWith, successive}
+use Rattle.invariant.specs.Reports.{Others, Unstopped, ackIn, gives, nextReport, reportsOf, stopsWith, successive}
 use Rattle.invariant.specs.Times.{outcomesOf, waitingIn}
 use Rattle.packet.specs.Counts.{carriesLow, nibbleIn, startsCount, tagByHigh, tagByLow}
 use Rattle.packet.specs.Kinds.{epochAfter, epochs, firstTag, frames, idleNumber, lead, tagBefore, tags}
@@ -161,6 +162,13 @@ unstopped = (refl, tt)
 stopped : Unstopped (receiving 1 0) (Fetch (nines 95) (nines 8) ∷ Frame 1 false 0x30 (nines 3) ∷ []) → ⊥
 unfolding begunRun carriesLow countsOn fetchFits fetchRows fits flagged frameFits frames freshPort freshPorts gainedRun groupAt groupOf groupRow inStep inStepAt outputFor portRows portsIn putGroup putMarks putMember putPackets putRow putStep readable ready refusalBy rowIn rowsFit runOn secondRun silent sized sizedFits sizedRows startAsRows startFits startRight startsCount stepAt stepOf stepRow storeFor tagByHigh tagByLow tags takenOf timesWithin
 stopped u = false≢true (sym (u .0))
+
+-- frames of port 0 and a fetch, none of port 1
+others : Others 1 (Frame 0 false 0x30 (nines 3) ∷ Fetch (nines 95) (nines 8) ∷ [])
+others = (λ e. omega arith, tt)
+
+not-others : Others 1 (Fetch (nines 95) (nines 8) ∷ Frame 1 false 0x30 (nines 3) ∷ []) → ⊥
+not-others o = o .0 refl
 
 -- of a port's numbers those that waiting goes by
 waits :

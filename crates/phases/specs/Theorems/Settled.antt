@@ -36,7 +36,7 @@ pub record Settled (n : ℕ) (s : List (List ℕ)) : Type 0 where
   pub heard : begunAt s ≡ true → silent (groupAt s) s n ≡ false
   -- 'gathered, in the call that makes it due'
   pub gathers : begunAt s ≡ true → gatheredAt s ≡ false → brought (groupAt s) s n ≡ false
-  -- 'Receiving begins when ..'
+  -- when receiving begins
   pub waits : begunAt s ≡ false → begins (groupAt s) s n ≡ false
 
 other : (b c : Bool) → (b && c) ≡ false → b ≡ true → c ≡ false
