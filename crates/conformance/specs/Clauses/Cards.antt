@@ -159,21 +159,31 @@ packets = (refl, refl, refl, refl, refl, refl, refl, refl, refl, refl, refl, ref
 
 -- what each call gives back: its answer, and what it writes or shows
 replies :
-    (replyTo claimed 0 (Do (Claim 1)) ≡ Answered A.Owned)
-    × (replyTo claimed 0 (Packet 0 (replicate 15 9)) ≡ Wrote A.Length (replicate 15 9))
+    (replyTo claimed 1 (Do (Claim 0)) ≡ Answered A.Owned)
+    × (replyTo claimed 1 (Packet 1 (replicate 15 9)) ≡ Wrote A.Length (replicate 15 9))
     × (replyTo claimed 1 (Packet 0 (replicate 16 9)) ≡ Wrote A.Owned (replicate 16 9))
-    × (replyTo claimed 0 (Payload 0 2341 (9 ∷ []) (8 ∷ [])) ≡ Wrote A.OutOfRange (8 ∷ []))
+    × (replyTo claimed 0 (Packet 3 (replicate 16 9)) ≡ Wrote A.NoSlot (replicate 16 9))
+    × (replyTo claimed 1 (Payload 1 2341 (9 ∷ []) (8 ∷ [])) ≡ Wrote A.OutOfRange (8 ∷ []))
+    × (replyTo claimed 1 (Payload 1 2 (9 ∷ []) (8 ∷ 8 ∷ [])) ≡ Wrote A.Length (8 ∷ 8 ∷ []))
     × (replyTo claimed 0 Board ≡ Showed (boardShown claimed 0))
-    × (replyTo claimed 0 Outgoing ≡ Showed (outgoingShown claimed 0))
-    × (replyTo claimed 0 Ranks ≡ Ranked (ranksShown claimed 0))
+    × (replyTo claimed 1 Board ≡ Showed (boardShown claimed 1))
+    × (replyTo claimed 1 Outgoing ≡ Showed (outgoingShown claimed 1))
+    × (replyTo claimed 1 Ranks ≡ Ranked (ranksShown claimed 1))
     × (replyTo claimed 0 Owned ≡ Owns (ownedShown claimed 0))
+    × (replyTo claimed 1 Owned ≡ Owns (ownedShown claimed 1))
 unfolding beginOf boardOf carriersIn claimOf commandsStartOf epochsPacketAnswer epochsPacketBytes epochsPayloadAnswer epochsPayloadBytes frames freshOf freshSender idleSlot isSlot marked owns packetAnswer packetBytes payloadAnswer payloadBytes rowOf rowsOf senderOf sizeOf startOf withOwner
-replies = (refl, refl, refl, refl, refl, refl, refl, refl)
+replies = (refl, refl, refl, refl, refl, refl, refl, refl, refl, refl, refl, refl)
 
--- X is 1 in group 0 and 0 in group 1, whose slot 1 has no rank yet
+-- slots 1 and 2 are group 0's and active, slot 1 under number 0 and slot 2 under 1
+abbrev pair : Card
+pair = run fresh (by 0 (Claim 1) ∷ by 0 (Claim 2) ∷ by 0 (AddSlot 1) ∷ by 0 (AddSlot 2) ∷ by 0 (Report 0 0x00 0) ∷ by 0 (StartEpoch 0 0xFF 0) ∷ by 0 (StartEpoch 0 0xFF 0) ∷ [])
+
+-- X is 1 in group 0 and 0 in group 1, whose slot 1 has no rank yet; with two members the bytes go by turns
 payloads :
     (payloadBytes sending 0 0 2 (10 ∷ 11 ∷ []) (nines 2) ≡ 10 ∷ 11 ∷ [])
     × (payloadBytes sending 1 1 2 [] (nines 2) ≡ 0 ∷ 0 ∷ [])
+    × (payloadBytes pair 0 1 2 (10 ∷ 11 ∷ 12 ∷ 13 ∷ []) (nines 2) ≡ 10 ∷ 12 ∷ [])
+    × (payloadBytes pair 0 2 2 (10 ∷ 11 ∷ 12 ∷ 13 ∷ []) (nines 2) ≡ 11 ∷ 13 ∷ [])
     × (payloadBytes sending 1 0 2 (10 ∷ 11 ∷ []) (nines 2) ≡ nines 2)
     × (payloadBytes sending 0 3 2 (10 ∷ 11 ∷ []) (nines 2) ≡ nines 2)
     × (payloadBytes sending 2 1 2 (10 ∷ 11 ∷ []) (nines 2) ≡ nines 2)
@@ -194,7 +204,7 @@ payloads :
     × (answerNumber (payloadAnswer other 1 2 2 0 2) ≡ 0)
     × (answerNumber (payloadAnswer other 0 2 2 0 2) ≡ 14)
 unfolding actedOn addOf addedTo beginOf boardOf carriersIn claimOf comesBefore commandOf commandsStartOf epochsPayloadAnswer epochsPayloadBytes freshOf freshSender groupCallOf highest holderOf idleSlot isSlot marked membersOf mstApplied mstFails mstFirst mstNumbers numberAfter numberApplied owns payloadAnswer payloadBytes rankAt rankOf renumbered reportOf rowOf rowsOf senderOf sizeOf slotAfter startEpochOf startOf startedSender groupOutcome turnOf withOwner withSender
-payloads = (refl, refl, refl, refl, refl, refl, refl, refl, refl, refl, refl, refl, refl, refl, refl, refl, refl, refl, refl, refl, refl)
+payloads = (refl, refl, refl, refl, refl, refl, refl, refl, refl, refl, refl, refl, refl, refl, refl, refl, refl, refl, refl, refl, refl, refl, refl)
 
 shown :
     (outgoingShown sending 0 .board .count ≡ 3)
@@ -246,6 +256,7 @@ orders :
     × (firstOrdered fresh (replicate 65 (claim 0 0)) 65 65 .card .owners ≡ replicate 64 0)
     × (answerNumber (firstOrdered fresh (replicate 65 (claim 0 0)) 64 64 .answer) ≡ 0)
     × (firstAnswers fresh (claim 0 0 ∷ []) 65 (7 ∷ []) ≡ 7 ∷ [])
+    × (firstOrdered fresh (claim 1 1 ∷ []) 1 1 .card .owners ≡ 0 ∷ 2 ∷ replicate 62 0)
     × (turnsOf 3 3 ≡ 3)
     × (turnsOf 3 2 ≡ 0)
     × (finishOf fresh 3 3 .answer ≡ A.Done)
@@ -260,4 +271,4 @@ orders :
     × (answersTo 1 (claim 0 1 ∷ claim 1 0 ∷ []) (4 ∷ 5 ∷ []) ≡ 5 ∷ [])
     × (firstAnswers fresh (replicate 64 (claim 0 3)) 64 (replicate 64 7) ≡ replicate 64 1)
 unfolding addOf addedTo beginOf claimOf commandOf commandsStartOf fallenIn freshOf freshSender idleSlot isSlot isUsed marked owns releaseOf removeOf removedFrom senderOf sizeOf startOf outcomeBy groupOutcome withOwner withSender
-orders = (refl, refl, refl, refl, refl, refl, refl, refl, refl, refl, refl, refl, refl, refl, refl, refl, refl, refl, refl, refl)
+orders = (refl, refl, refl, refl, refl, refl, refl, refl, refl, refl, refl, refl, refl, refl, refl, refl, refl, refl, refl, refl, refl)

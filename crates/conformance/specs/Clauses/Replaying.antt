@@ -17,13 +17,14 @@ use Rattle.replaying.specs.declared.replay.Phase.{Phase}
 use Rattle.replaying.specs.declared.replay.Phase.the-variants.{Reading, Fetching, Skipping, Ended}
 use Rattle.replaying.specs.declared.replay.Replay.{Replay}
 use Rattle.replaying.specs.declared.turns.Replayed.{Replayed}
-use Rattle.replaying.specs.Output.{answerText, changesText, stateText}
+use Rattle.replaying.specs.Output.{answerText, changesText, stateAt, stateText, statesIn}
 use Rattle.replaying.specs.Replay.{beginning, nextLine, outputOf, storeOf}
 use Rattle.replaying.specs.Turn.{answeredSaid, answeredTurn, framedTurn, isLent, openRows, openSaid, openTurn, openWithRows, openWithSaid, openWithTurn, over, readBy, readOnTurn, readSaid, readTurn, recordNow, reportTurn, reportedTurn, skipTurn, startable, startedRows, timesFit, turnOf, turnOut, turnRows, turnSaid, turnStore}
+use Rattle.rows.specs.declared.member.Member.{Member}
 use Rattle.rows.specs.Group.{groupRow, putGroup}
-use Rattle.rows.specs.Member.{memberRow, putMember}
+use Rattle.rows.specs.Member.{memberAt, memberOf, memberRow, putMember}
 use Rattle.rows.specs.Packets.{putMarks, putPackets}
-use Rattle.rows.specs.Rows.{putRow}
+use Rattle.rows.specs.Rows.{putRow, rowIn}
 use Rattle.rows.specs.Step.{putStep, stepRow}
 use Rattle.text.specs.Ascii.{ascii}
 use Rattle.text.specs.Fields.{digitOf, hexOf, isHex, numberOf}
@@ -168,3 +169,25 @@ figures :
     × (changesText (512 ∷ 255 ∷ []) (512 ∷ 255 ∷ []) 2 ≡ [])
 unfolding stateText
 figures = (refl, refl, refl, refl, refl, refl)
+
+abbrev member : ℕ → ℕ → Member
+member state number =
+    record {
+      spare = 1 ∷ 2 ∷ 3 ∷ 4 ∷ [];
+      word = 15;
+      number = 16;
+      state = state;
+      «state_number» = number;
+      «told_word» = 3;
+      «told_number» = 18;
+      «hold_off» = 300;
+      restore = 400;
+      elapsed = 500;
+    }
+
+-- the state of each port with its number: port 0 is OK 5 (2 x 256 + 5), port 1 FAIL 7 (256 + 7), port 2 IDLE, which has 255
+states :
+    take 3 (statesIn (putMember (putMember (putMember (replicate 16 (replicate 16 0)) 0 (member 2 5)) 1 (member 1 7)) 2 (member 0 9)))
+    ≡ 517 ∷ 263 ∷ 255 ∷ []
+unfolding idleNumber memberAt memberOf memberRow putMember putRow rowIn stateAt statesIn
+states = refl

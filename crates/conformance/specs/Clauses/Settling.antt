@@ -129,7 +129,8 @@ abbrev unbegun : Group
 unbegun = group 0 1 99 30
 
 -- 'The next epoch to start after the foremost tag': tags 852 and 855 are epoch 53's, and epoch 54 starts with tag 856, behind which epoch 55 is the next.
--- Tag 4,087 is the last of epoch 255. Tags W - 16 apart begin, here 852 and 876, which is epoch 55's; W - 15 apart they don't.
+-- Tag 4,087 is the last of epoch 255. Tags W - 16 apart begin, here 852 and 876, which is epoch 55's; W - 15 apart they don't. Tags 4,090 and 5 are 11 apart, and epoch 1 starts with tag 8.
+-- Nor do they where a port has had no frame, or is neither in step nor flagged.
 beginning :
     (groupAt (beginBy unbegun 2 (rows unbegun apart failed)) ≡ group 1 0 54 30)
     × (stepAt (beginBy unbegun 2 (rows unbegun owing failed)) 0 ≡ step 1 0 33 853 0 1 0 0)
@@ -140,9 +141,14 @@ beginning :
     × (groupAt (beginBy unbegun 2 (rows unbegun failed (step 1 0 33 4088 0 0 0 1))) .oldest ≡ 0)
     × (groupAt (beginBy unbegun 2 (rows unbegun apart (step 1 0 33 877 0 0 0 1))) ≡ group 1 0 56 30)
     × (beginBy unbegun 2 (rows unbegun apart (step 1 0 33 878 0 0 0 1)) ≡ rows unbegun apart (step 1 0 33 878 0 0 0 1))
+    × (groupAt (beginBy unbegun 2 (rows unbegun (step 1 0 33 877 0 0 0 1) apart)) ≡ group 1 0 56 30)
+    × (groupAt (beginBy unbegun 2 (rows unbegun (step 1 0 33 4091 0 0 0 1) (step 1 0 33 6 0 0 0 1))) ≡ group 1 0 1 30)
+    × (groupAt (beginBy unbegun 2 (rows unbegun (step 1 0 33 6 0 0 0 1) (step 1 0 33 4091 0 0 0 1))) ≡ group 1 0 1 30)
+    × (beginBy unbegun 2 (rows unbegun apart (step 0 1 0 0 0 0 0 0)) ≡ rows unbegun apart (step 0 1 0 0 0 0 0 0))
+    × (beginBy unbegun 2 (rows unbegun apart (step 1 0 31 853 0 0 0 0)) ≡ rows unbegun apart (step 1 0 31 853 0 0 0 0))
     × (beginBy g 2 (rows g apart failed) ≡ rows g apart failed)
 unfolding after beginBy begins begunOf clearedPort clearedPorts clearedStep distanceOf epochAfter epochOf epochs foremost frames further groupAt groupOf groupRow inStep inStepAt latest lead marksAt noTag putGroup putMarks putRow putStep ready rowIn stepAt stepOf stepRow tagBefore tags within
-beginning = (refl, refl, refl, refl, refl, refl, refl, refl, refl, refl)
+beginning = (refl, refl, refl, refl, refl, refl, refl, refl, refl, refl, refl, refl, refl, refl, refl)
 
 -- 'gathered, in the call that makes it due', once, and before the beginning nothing is; the place of the window's first frame goes on by sixteen, round W of 40.
 -- Stopping comes first, and the beginning can follow in the same call.

@@ -86,14 +86,16 @@ calls :
 unfolding beginBy begins begunRun carriesLow countsOn dueIn fetchFits fetchRows fits flagged frameAnswer frameFits frameRows frameStore frames freshPort freshPorts gainedRun gatherBy groupAt groupOf groupRow inStep inStepAt outputFor portRows portsIn putGroup putMarks putMember putPackets putRow putStep ready refusalBy rowIn rowsFit rowsIfDue runOn secondRun settledBy settledOf sized sizedFits sizedRows startAsRows startFits startRight startsCount stepAt stepOf stepRow stopBy storeBy storeFor tagByHigh tagByLow tags takenOf takenRows takenStore timesWithin
 calls = (refl, refl, refl, refl, refl, refl, refl)
 
--- what three calls answer and leave
+-- what five calls answer and leave
 outcomes :
-    outcomesOf fresh (Frame 1 true 0x30 (nines 2) ∷ Fetch (nines 64) (nines 8) ∷ Fetch (nines 63) (nines 8) ∷ [])
+    outcomesOf fresh (Frame 1 true 0x30 (nines 2) ∷ Fetch (nines 64) (nines 8) ∷ Fetch (nines 63) (nines 8) ∷ Frame 2 false 0x30 (nines 2) ∷ Frame 1 false 0x30 (nines 2) ∷ [])
     ≡ record { answer = 10; store = nines 96; out = []; report = [] }
     ∷ record { answer = 0; store = nines 96; out = nines 64; report = replicate 8 0 }
     ∷ record { answer = 9; store = nines 96; out = nines 63; report = nines 8 }
+    ∷ record { answer = 1; store = nines 96; out = []; report = [] }
+    ∷ record { answer = 12; store = nines 96; out = []; report = [] }
     ∷ []
-unfolding beginBy begins dueIn fetchAnswer fetchFits fetchOut fetchRecord fetchRows fits flagged frameAnswer frameFits frameRows frameStore frames freshPort freshPorts gatherBy groupAt groupOf groupRow outIfDue outputFor portRows portsIn putGroup putMarks putMember putPackets putRow putStep ready recordOf refusalBy reportIfDue rowIn rowsFit rowsIfDue settledBy settledOf sized sizedFits sizedRows startAsRows startFits startRight stepAt stepOf stepRow stopBy storeBy storeFor tags takenOf takenRows takenStore timesWithin
+unfolding beginBy begins begunRun countsOn dueIn fetchAnswer fetchFits fetchOut fetchRecord fetchRows fits flagged frameAnswer frameFits frameRows frames frameStore freshPort freshPorts gainedRun gatherBy groupAt groupOf groupRow inStepAt outIfDue outputFor portRows portsIn putGroup putMarks putMember putPackets putRow putStep ready recordOf refusalBy reportIfDue rowIn rowsFit rowsIfDue runOn settledBy settledOf sized sizedFits sizedRows startAsRows startFits startRight startsCount stepAt stepOf stepRow stopBy storeBy storeFor tags takenOf takenRows takenStore timesWithin
 outcomes = refl
 
 -- a port's state, its number, its times and the counter
