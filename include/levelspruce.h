@@ -973,7 +973,7 @@ uint8_t levelspruce_receiver_start(uint32_t ports, uint32_t payload,
  * has its claim stays FAIL at as many as its wait-to-restore says, and is OK at
  * the next. A port whose packets say IDLE is IDLE at once. With 0 and 0 this is
  * levelspruce_receiver_start, which is this call with LEVELSPRUCE_KIND_H4 and
- * two empty lists. Give all ports of a group the same times: a held number can
+ * two empty lists. Give all ports of a group the same times: a kept number can
  * make a healthy port FAIL that is renumbered into it and has no hold-off.
  * To change the times, start anew.
  *

@@ -278,17 +278,11 @@ fn owner_at(state: &[u8], slot: u32) -> u8
     if slot < 64 { state[slot as usize] } else { 0 }
 }
 
-fn mark_of(group: u32) -> u8
-    ensures { λ r. ⌜ r ≡ markOf group ⌝ }
-{
-    if group == 0 { 1 } else { 2 }
-}
-
 // 1, then 14, of a slot whose owner is known.
 fn slot_refusal(owner: u8, group: u32, count: u8, slot: u32) -> u8
     ensures { λ r. ⌜ r ≡ slotRefusal owner group count slot ⌝ }
 {
-    let mark = mark_of(group);
+    let mark = circuits::mark_of(group);
     let size = boards::shown_count(count);
     if size as u32 <= slot {
         return 1;

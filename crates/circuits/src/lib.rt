@@ -10,3 +10,4 @@ pub use card::Card;
 pub use card::CardOutcome;
 pub use card::OwnedOutcome;
 pub use card::RanksOutcome;
+pub use owners::mark_of;

@@ -3,7 +3,8 @@ ghost use mathlib.Core.Path.{_≡_};
 ghost use Prim.Native.Nat.{_<_};
 ghost use Rattle.circuits.specs.Owners.{hasOwner, isMarked, markOf, ownedBytes, ownerIn, withOwner};
 
-pub(crate) fn mark_of(group: u32) -> u8
+// How the owner row marks a slot of this group.
+pub fn mark_of(group: u32) -> u8
     ensures { λ r. ⌜ r ≡ markOf group ⌝ }
 {
     if group == 0 { 1 } else { 2 }

@@ -5,7 +5,7 @@ use mathlib.Core.List.{List, [], _∷_, _++_}
 use Prim.Native.Nat.{ℕ, _+_}
 use lib.ListN.{length, replicate}
 use Rattle.packet.specs.declared.layout.Fields.{Fields}
-use Rattle.packet.specs.Crc.{byteBits, crcOf, divisor, nibbleBits}
+use Rattle.packet.specs.Crc.{crcOf, divisor, nibbleBits}
 use Rattle.packet.specs.Fixed.{fixedNibbles, readFixedAnswer, readFixedNibbles, writeFixedAnswer, writeFixedBytes}
 use Rattle.packet.specs.Layout.{byteOf, carriedIn, dataOf, fieldsOf, h4Of, highsOf, nibblesOf, sealedOf}
 use Rattle.packet.specs.Reading.{readAnswer, readNibbles, readingNumber, readingValues}
@@ -428,5 +428,5 @@ table =
     ∷ []
 
 pub examples : Equal table
-unfolding table comparedOf changesOf changesIn listOf noChanges appliedOf fits changesFit withChanges spokenText changeText wasText nowText rowText spokenSlot waitLine canSpeak changesSpeak beginOf freshSender startEpochOf startedSender startedEpoch nibblesOf sealedOf dataOf crcOf divisor byteBits nibbleBits writeAnswer writeBytes fitting assigned h4Of readAnswer readNibbles fieldsOf carriedIn highsOf boardOf rowsOf rowOf noRow highest startOf freshOf idleSlot idleNumber addOf addedTo removeOf removedFrom fallen fallenIn lapseOf reportOf waited actedOn mstApplied numberApplied holderOf renumbered slotAfter numberAfter comesBefore turnOf opensWait sizeOf membersOf mstFails mstFirst mstNumbers wholeOutput beginning linesOf fieldsIn lineOf wordLine numberLine reportLine reportIn numberIn digitOf hexOf replyOf sizeReply outputOf answerText boardText slotText waitText wordText decimalText afterOn nibbleIn nibblePlace startsCount tagByHigh carriesLow tagByLow counts endsEpoch epochsIn frames tagAfter tagBefore tags lead epochs epochAfter epochOf distanceOf placeOf startsEpoch firstTag settledOf clearedStep clearedPort clearedPorts stoppedOf stopBy begunOf beginBy gatherBy portsIn sizedGroup storeFor ready latest noTag further foremost within begins owesNothing brought silent ruledBy passedStep notedBy passedPort passedPorts passedGroup passedOf frameFits rowsFit frameAnswer frameRows frameStore gatheredBy marksBy portRows storeBy settledBy takenRows takenStore refusalBy startFits sizedAnswer sizedRows freshPort freshPorts groupAt groupOf groupRow putGroup rowIn putRow marksAt packetsAt putMarks putPackets memberAt putMember memberOf memberRow putStep stepAt stepIn stepRow takenOf inStep readable distanceIn flagged countsOn frameDropped outside keeps joining byWindow byStart arrives inStepAt begunRun secondRun furtherRun gainedRun stayedRun loses breaksAfter oddAfter endsPacket endsOdd oddPacket rightCrc ownNumber runOn placeIn storedAt ringOf byteAt h4At packetIn cutFrom markedAt firstMark markedByte cutByte passedByte passedMarks answerOf areShort setOf proposed tightestOf ranksOf rankOf candidateAt sortedBy checkedOf accepts agreesWith agree joinedTo shareOf fixedNibbles readFixedAnswer readFixedNibbles writeFixedAnswer writeFixedBytes startAsAnswer startRight timesWithin sizedFits startAsRows
+unfolding table comparedOf changesOf changesIn listOf noChanges appliedOf fits changesFit withChanges spokenText changeText wasText nowText rowText spokenSlot waitLine canSpeak changesSpeak beginOf freshSender startEpochOf startedSender startedEpoch nibblesOf sealedOf dataOf crcOf divisor nibbleBits writeAnswer writeBytes fitting assigned h4Of readAnswer readNibbles fieldsOf carriedIn highsOf boardOf rowsOf rowOf noRow highest startOf freshOf idleSlot idleNumber addOf addedTo removeOf removedFrom fallen fallenIn lapseOf reportOf waited actedOn mstApplied numberApplied holderOf renumbered slotAfter numberAfter comesBefore turnOf opensWait sizeOf membersOf mstFails mstFirst mstNumbers wholeOutput beginning linesOf fieldsIn lineOf wordLine numberLine reportLine reportIn numberIn digitOf hexOf replyOf sizeReply outputOf answerText boardText slotText waitText wordText decimalText afterOn nibbleIn nibblePlace startsCount tagByHigh carriesLow tagByLow counts endsEpoch epochsIn frames tagAfter tagBefore tags lead epochs epochAfter epochOf distanceOf placeOf startsEpoch firstTag settledOf clearedStep clearedPort clearedPorts stoppedOf stopBy begunOf beginBy gatherBy portsIn sizedGroup storeFor ready latest noTag further foremost within begins owesNothing brought silent ruledBy passedStep notedBy passedPort passedPorts passedGroup passedOf frameFits rowsFit frameAnswer frameRows frameStore gatheredBy marksBy portRows storeBy settledBy takenRows takenStore refusalBy startFits sizedAnswer sizedRows freshPort freshPorts groupAt groupOf groupRow putGroup rowIn putRow marksAt packetsAt putMarks putPackets memberAt putMember memberOf memberRow putStep stepAt stepIn stepRow takenOf inStep readable distanceIn flagged countsOn frameDropped outside keeps joining byWindow byStart arrives inStepAt begunRun secondRun furtherRun gainedRun stayedRun loses breaksAfter oddAfter endsPacket endsOdd oddPacket rightCrc ownNumber runOn placeIn storedAt ringOf byteAt h4At packetIn cutFrom markedAt firstMark markedByte cutByte passedByte passedMarks answerOf areShort setOf proposed tightestOf ranksOf rankOf candidateAt sortedBy checkedOf accepts agreesWith agree joinedTo shareOf fixedNibbles readFixedAnswer readFixedNibbles writeFixedAnswer writeFixedBytes startAsAnswer startRight timesWithin sizedFits startAsRows
 examples = equal-rows table refl

@@ -10,7 +10,7 @@ use Rattle.conformance.specs.Waits.{away, here, statesAt}
 use Rattle.judge.specs.declared.seen.Seen.{Seen}
 use Rattle.judge.specs.Order.{activeIn, orderOf, portOf, rankOf}
 use Rattle.judge.specs.Verdict.{fixedExact, fixedHeld, fixedVerdict, judgeOf, missing, repeats, takes}
-use Rattle.packet.specs.Crc.{byteBits, crcOf, divisor, nibbleBits}
+use Rattle.packet.specs.Crc.{crcOf, divisor, nibbleBits}
 use Rattle.packet.specs.Fixed.{fixedNibbles, fixedRulingOf, readFixedAnswer, readFixedNibbles, writeFixedAnswer, writeFixedBytes}
 use Rattle.packet.specs.Kinds.{frames, idleNumber, mstFails, mstFirst, mstNumbers, tags}
 use Rattle.packet.specs.Layout.{carriedIn, dataOf, fieldsOf, h4Of, highsOf, sealedOf}
@@ -26,7 +26,7 @@ use Rattle.receiver.specs.Shown.{portShown, replyFit, replyOf, replyOut}
 use Rattle.receiver.specs.Starting.{freshMember, freshPort, freshPorts, freshStep, groupWith, sizedAnswer, sizedFits, sizedRows, startAnswer, startAsAnswer, startAsRows, startFits, startRight, startRows, timesWithin}
 use Rattle.reply.specs.Choosing.{claims, grant, granted, holders}
 use Rattle.reply.specs.Telling.{mstFrom, mstOf, okHolds}
-use Rattle.reply.specs.Waiting.{chosenOf, heldOf, moreHeld, rounds, someJoin, standing, standingBy, standingsOf}
+use Rattle.reply.specs.Waiting.{chosenOf, keptNumbers, moreKept, rounds, someJoin, standing, standingBy, standingsOf}
 use Rattle.rows.specs.declared.member.Member.{Member}
 use Rattle.rows.specs.Group.{groupAt, groupOf, groupRow, putGroup}
 use Rattle.rows.specs.Member.{memberAt, memberOf, memberRow, putMember}
@@ -171,5 +171,5 @@ table =
     ∷ []
 
 pub fixed-groups : Equal table
-unfolding table activeIn orderOf portOf rankOf fixedExact fixedHeld fixedVerdict judgeOf missing repeats takes byteBits crcOf divisor nibbleBits fixedNibbles fixedRulingOf readFixedAnswer readFixedNibbles writeFixedAnswer writeFixedBytes h4Of frames idleNumber mstFails mstFirst mstNumbers tags carriedIn dataOf fieldsOf highsOf sealedOf readNibbles assigned notedBy portsIn sized rowsFit replyPort replyPorts withState portShown replyFit replyOf replyOut freshPort freshPorts sizedAnswer sizedFits sizedRows startAsAnswer startAsRows startFits startRight timesWithin claims grant granted holders mstFrom mstOf okHolds chosenOf heldOf moreHeld rounds someJoin standingBy standingsOf groupAt groupOf groupRow putGroup memberAt memberOf memberRow putMember putMarks putPackets putRow rowIn putStep stepAt stepOf stepRow inStep readable oddPacket ownNumber ownRuling rightCrc rulingIn rulingOf inStepAt
+unfolding table activeIn orderOf portOf rankOf fixedExact fixedHeld fixedVerdict judgeOf missing repeats takes crcOf divisor nibbleBits fixedNibbles fixedRulingOf readFixedAnswer readFixedNibbles writeFixedAnswer writeFixedBytes h4Of frames idleNumber mstFails mstFirst mstNumbers tags carriedIn dataOf fieldsOf highsOf sealedOf readNibbles assigned notedBy portsIn sized rowsFit replyPort replyPorts withState portShown replyFit replyOf replyOut freshPort freshPorts sizedAnswer sizedFits sizedRows startAsAnswer startAsRows startFits startRight timesWithin claims grant granted holders mstFrom mstOf okHolds chosenOf keptNumbers moreKept rounds someJoin standingBy standingsOf groupAt groupOf groupRow putGroup memberAt memberOf memberRow putMember putMarks putPackets putRow rowIn putStep stepAt stepOf stepRow inStep readable oddPacket ownNumber ownRuling rightCrc rulingIn rulingOf inStepAt
 fixed-groups = equal-rows table refl

@@ -9,7 +9,7 @@ use Rattle.ground.specs.Circle.{after as afterOn}
 use Rattle.judge.specs.Order.{activeIn, orderOf, portOf, rankOf}
 use Rattle.judge.specs.Verdict.{doubtfulBy, eosAlone, eosWrong, exact, fixedExact, fixedHeld, fixedVerdict, gidDiffers, heldBy, highest, judgeOf, lcasVerdict, missing, repeats, takes}
 use Rattle.packet.specs.Counts.{carriesLow, counts, nibbleIn, nibblePlace, startsCount, tagByHigh, tagByLow}
-use Rattle.packet.specs.Crc.{byteBits, crcOf, divisor, nibbleBits}
+use Rattle.packet.specs.Crc.{crcOf, divisor, nibbleBits}
 use Rattle.packet.specs.Fixed.{fixedRulingOf, readFixedNibbles}
 use Rattle.packet.specs.Kinds.{distanceOf, endsEpoch, epochAfter, epochOf, epochs, epochsIn, firstTag, frames, idleNumber, lead, mstFails, mstFirst, mstNumbers, placeOf, startsEpoch, tagAfter, tagBefore, tags}
 use Rattle.packet.specs.Layout.{carriedIn, dataOf, fieldsOf, h4Of, highsOf, nibblesOf, sealedOf}
@@ -30,7 +30,7 @@ use Rattle.receiver.specs.Shown.{portIn, portShown, portsOut, replyFit, replyOf
 use Rattle.receiver.specs.Starting.{freshPort, freshPorts, sizedAnswer, sizedFits, sizedRows, startAnswer, startAsAnswer, startAsRows, startFits, startRight, startRows, timesWithin}
 use Rattle.reply.specs.Choosing.{claims, grant, granted, holders}
 use Rattle.reply.specs.Telling.{ackOf, mstFrom, mstOf, okHolds, turns}
-use Rattle.reply.specs.Waiting.{chosenOf, heldOf, moreHeld, rounds, someJoin, standingBy, standingsOf}
+use Rattle.reply.specs.Waiting.{chosenOf, keptNumbers, moreKept, rounds, someJoin, standingBy, standingsOf}
 use Rattle.rows.specs.Group.{groupAt, groupOf, groupRow, putGroup}
 use Rattle.rows.specs.Member.{memberAt, memberOf, memberRow, putMember}
 use Rattle.rows.specs.Packets.{marksAt, packetsAt, putMarks, putPackets}
@@ -83,5 +83,5 @@ table =
     ∷ []
 
 pub fixed-runs : Equal table
-unfolding table afterOn activeIn orderOf portOf rankOf doubtfulBy eosAlone eosWrong exact fixedExact fixedHeld fixedVerdict fixedRulingOf readFixedNibbles gidDiffers heldBy highest judgeOf lcasVerdict missing repeats takes carriesLow counts nibbleIn nibblePlace startsCount tagByHigh tagByLow byteBits crcOf divisor nibbleBits distanceOf endsEpoch epochAfter epochOf epochs epochsIn firstTag frames idleNumber lead mstFails mstFirst mstNumbers placeOf startsEpoch tagAfter tagBefore tags carriedIn dataOf fieldsOf h4Of highsOf nibblesOf sealedOf readNibbles rulingOf assigned begins foremost further latest noTag ready within brought owesNothing silent notedBy passedGroup passedOf passedPort passedPorts passedStep ruledBy beginBy begunOf clearedPort clearedPorts clearedStep gatherBy settledOf stopBy stoppedOf portsIn storeFor sizedGroup dueIn fetchRecord fetchRows fits recordOf reportIfDue rowsIfDue frameAnswer frameRows frameStore gatheredBy marksBy portRows refusalBy settledBy storeBy takenRows takenStore fetchFits frameFits outputFor rowsFit replyPort replyPorts reportBy reportOf reportedOf rulingEpoch seenAll seenOf statePut statesPut statesWorkedOut withState portIn portShown portsOut replyFit replyOf replyOut shownFit freshPort freshPorts sizedAnswer sizedFits sizedRows startAsAnswer startAsRows startFits startRight timesWithin claims grant granted holders ackOf mstFrom mstOf okHolds turns chosenOf heldOf moreHeld rounds someJoin standingBy standingsOf groupAt groupOf groupRow putGroup memberAt memberOf memberRow putMember marksAt packetsAt putMarks putPackets putRow rowIn putStep stepAt stepRow stepIn arrives byStart byWindow countsOn distanceIn flagged frameDropped inStep joining keeps outside readable takenOf endsOdd oddPacket rightCrc ownNumber ownRuling rulingIn begunRun breaksAfter endsPacket furtherRun gainedRun inStepAt loses oddAfter runOn secondRun stayedRun byteAt h4At packetIn placeIn ringOf storedAt cutByte cutFrom firstMark markedAt markedByte passedByte passedMarks
+unfolding table afterOn activeIn orderOf portOf rankOf doubtfulBy eosAlone eosWrong exact fixedExact fixedHeld fixedVerdict fixedRulingOf readFixedNibbles gidDiffers heldBy highest judgeOf lcasVerdict missing repeats takes carriesLow counts nibbleIn nibblePlace startsCount tagByHigh tagByLow crcOf divisor nibbleBits distanceOf endsEpoch epochAfter epochOf epochs epochsIn firstTag frames idleNumber lead mstFails mstFirst mstNumbers placeOf startsEpoch tagAfter tagBefore tags carriedIn dataOf fieldsOf h4Of highsOf nibblesOf sealedOf readNibbles rulingOf assigned begins foremost further latest noTag ready within brought owesNothing silent notedBy passedGroup passedOf passedPort passedPorts passedStep ruledBy beginBy begunOf clearedPort clearedPorts clearedStep gatherBy settledOf stopBy stoppedOf portsIn storeFor sizedGroup dueIn fetchRecord fetchRows fits recordOf reportIfDue rowsIfDue frameAnswer frameRows frameStore gatheredBy marksBy portRows refusalBy settledBy storeBy takenRows takenStore fetchFits frameFits outputFor rowsFit replyPort replyPorts reportBy reportOf reportedOf rulingEpoch seenAll seenOf statePut statesPut statesWorkedOut withState portIn portShown portsOut replyFit replyOf replyOut shownFit freshPort freshPorts sizedAnswer sizedFits sizedRows startAsAnswer startAsRows startFits startRight timesWithin claims grant granted holders ackOf mstFrom mstOf okHolds turns chosenOf keptNumbers moreKept rounds someJoin standingBy standingsOf groupAt groupOf groupRow putGroup memberAt memberOf memberRow putMember marksAt packetsAt putMarks putPackets putRow rowIn putStep stepAt stepRow stepIn arrives byStart byWindow countsOn distanceIn flagged frameDropped inStep joining keeps outside readable takenOf endsOdd oddPacket rightCrc ownNumber ownRuling rulingIn begunRun breaksAfter endsPacket furtherRun gainedRun inStepAt loses oddAfter runOn secondRun stayedRun byteAt h4At packetIn placeIn ringOf storedAt cutByte cutFrom firstMark markedAt markedByte passedByte passedMarks
 fixed-runs = equal-rows table refl

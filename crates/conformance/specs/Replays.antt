@@ -29,7 +29,7 @@ use Rattle.receiver.specs.Report.{frameInto, framesInto, outputBy, outputOf, re
 use Rattle.receiver.specs.Report.{reportOf as reportSeen}
 use Rattle.receiver.specs.Starting.{freshPort, freshPorts, sizedAnswer, sizedFits, sizedRows, startAsAnswer, startAsRows, startFits, startRight, timesWithin}
 use Rattle.reply.specs.Choosing.{claims, grant, granted, holders}
-use Rattle.reply.specs.Waiting.{chosenOf, heldOf, moreHeld, rounds, someJoin, standingBy, standingsOf}
+use Rattle.reply.specs.Waiting.{chosenOf, keptNumbers, moreKept, rounds, someJoin, standingBy, standingsOf}
 use Rattle.reply.specs.Telling.{ackOf}
 use Rattle.reply.specs.Telling.{turns as turnsAck}
 use Rattle.rows.specs.Group.{groupAt, groupOf, groupRow, putGroup}
@@ -125,7 +125,7 @@ left t d (l ∷ ls) = left t (next t d l) ls
 
 -- Lines in two parts, the state carried over. Everything that a run is made of is opened here, for the checker to compute.
 unfoldable pub replayed : Taking → ℕ → List (List ℕ) → List (List ℕ) → List ℕ
-unfolding after reportSeen tagByHigh tagByLow counts carriesLow nibbleIn nibblePlace startsCount crcOf divisor nibbleBits distanceOf endsEpoch epochAfter epochOf epochs epochsIn firstTag frames idleNumber lead placeOf startsEpoch tagAfter tagBefore tags carriedIn dataOf fieldsOf readNibbles assigned activeIn orderOf portOf rankSeen doubtfulBy eosAlone eosWrong exact gidDiffers heldBy highestSeen judgeOf lcasVerdict missing repeats takes begins foremost further latest noTag ready within brought owesNothing silent notedBy passedGroup passedOf passedPort passedPorts passedStep ruledBy rulingOf beginBy begunOf clearedPort clearedPorts clearedStep gatherBy settledOf stopBy stoppedOf portsIn sized storeFor dueIn fetchOut fetchRecord fetchRows fits outIfDue reportIfDue rowsIfDue recordOf frameRows frameStore gatheredBy marksBy portRows refusalBy settledBy storeBy takenRows takenStore fetchFits frameFits outputFor rowsFit frameInto framesInto outputBy outputOf replyPort replyPorts reportBy reportedOf rulingEpoch seenAll seenOf startsOf withState statesWorkedOut statePut statesPut freshPort freshPorts sizedRows startFits claims holders ackOf turnsAck groupAt groupOf groupRow putGroup memberAt memberOf memberRow putMember marksAt packetsAt putMarks putPackets putRow rowIn putStep stepAt stepOf stepRow arrives frameDropped byStart byWindow countsOn distanceIn flagged inStep joining keeps outside readable takenOf endsOdd oddPacket rightCrc ownNumber ownRuling rulingIn begunRun breaksAfter endsPacket furtherRun gainedRun inStepAt loses oddAfter runOn secondRun stayedRun byteAt h4At packetIn placeIn ringOf storedAt cutByte cutFrom firstMark markIn markedAt markedByte passedByte passedMarks fixedRulingOf readFixedNibbles fixedExact fixedHeld fixedVerdict saidTo deskAfter lineOpening settingsBy opened fieldIn named kindRead holdRead restoreRead timesFit startedRows fieldsIn numberIn digitOf hexOf isHex bytesIn flagIn frameBy lineRecord startable openWithTurn openWithRows answeredTurn payloadAt framedRows framedStore fetchRecordBy fetchRowsBy reportText epochText markText countIn decimalText numberText statesIn stateAt stateLine portText stateText answerText reportIn sizedAnswer sizedFits startAsAnswer startAsRows startRight timesWithin grant granted chosenOf heldOf moreHeld rounds someJoin standingBy standingsOf
+unfolding after reportSeen tagByHigh tagByLow counts carriesLow nibbleIn nibblePlace startsCount crcOf divisor nibbleBits distanceOf endsEpoch epochAfter epochOf epochs epochsIn firstTag frames idleNumber lead placeOf startsEpoch tagAfter tagBefore tags carriedIn dataOf fieldsOf readNibbles assigned activeIn orderOf portOf rankSeen doubtfulBy eosAlone eosWrong exact gidDiffers heldBy highestSeen judgeOf lcasVerdict missing repeats takes begins foremost further latest noTag ready within brought owesNothing silent notedBy passedGroup passedOf passedPort passedPorts passedStep ruledBy rulingOf beginBy begunOf clearedPort clearedPorts clearedStep gatherBy settledOf stopBy stoppedOf portsIn sized storeFor dueIn fetchOut fetchRecord fetchRows fits outIfDue reportIfDue rowsIfDue recordOf frameRows frameStore gatheredBy marksBy portRows refusalBy settledBy storeBy takenRows takenStore fetchFits frameFits outputFor rowsFit frameInto framesInto outputBy outputOf replyPort replyPorts reportBy reportedOf rulingEpoch seenAll seenOf startsOf withState statesWorkedOut statePut statesPut freshPort freshPorts sizedRows startFits claims holders ackOf turnsAck groupAt groupOf groupRow putGroup memberAt memberOf memberRow putMember marksAt packetsAt putMarks putPackets putRow rowIn putStep stepAt stepOf stepRow arrives frameDropped byStart byWindow countsOn distanceIn flagged inStep joining keeps outside readable takenOf endsOdd oddPacket rightCrc ownNumber ownRuling rulingIn begunRun breaksAfter endsPacket furtherRun gainedRun inStepAt loses oddAfter runOn secondRun stayedRun byteAt h4At packetIn placeIn ringOf storedAt cutByte cutFrom firstMark markIn markedAt markedByte passedByte passedMarks fixedRulingOf readFixedNibbles fixedExact fixedHeld fixedVerdict saidTo deskAfter lineOpening settingsBy opened fieldIn named kindRead holdRead restoreRead timesFit startedRows fieldsIn numberIn digitOf hexOf isHex bytesIn flagIn frameBy lineRecord startable openWithTurn openWithRows answeredTurn payloadAt framedRows framedStore fetchRecordBy fetchRowsBy reportText epochText markText countIn decimalText numberText statesIn stateAt stateLine portText stateText answerText reportIn sizedAnswer sizedFits startAsAnswer startAsRows startRight timesWithin grant granted chosenOf keptNumbers moreKept rounds someJoin standingBy standingsOf
 replayed t store first second = output t (lentFor store) first ++ output t (left t (lentFor store) first) second
 
 abbrev lines : List (List ℕ)

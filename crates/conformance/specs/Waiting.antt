@@ -3,12 +3,12 @@ use mathlib.Core.Path.{refl}
 use mathlib.Core.List.{List, [], _∷_, _++_}
 use Rattle.c_face.specs.Receivers.{startAsAnswerC}
 use Rattle.conformance.specs.Rows.{Equal, Row, equal-rows}
-use Rattle.conformance.specs.Waits.{Sent, away, each, heldFor, here, idle, leftOf, statesAt}
+use Rattle.conformance.specs.Waits.{Sent, away, each, okFor, here, idle, leftOf, statesAt}
 use Rattle.packet.specs.Kinds.{frames, tags}
 use Rattle.phases.specs.Sizes.{sized}
 use Rattle.receiver.specs.Starting.{sizedAnswer, sizedFits, startAsAnswer, startFits, startRight, timesWithin}
 use Rattle.reply.specs.Choosing.{claims, grant, granted, holders}
-use Rattle.reply.specs.Waiting.{chosenOf, heldOf, moreHeld, rounds, someJoin, standing, standingBy, standingsOf}
+use Rattle.reply.specs.Waiting.{chosenOf, keptNumbers, moreKept, rounds, someJoin, standing, standingBy, standingsOf}
 
 -- NORM under 0, readable or not; states are 0 IDLE, 1 FAIL, 2 OK
 abbrev r : List Sent
@@ -38,7 +38,7 @@ table =
       said = 2 ∷ 2 ∷ 1 ∷ 1 ∷ 1 ∷ 1 ∷ 1 ∷ 2 ∷ 2 ∷ 2 ∷ 2 ∷ 2 ∷ 2 ∷ 2 ∷ 2 ∷ [];
     }
     ∷ record {
-      name = "a newcomer under a number held for 3 reports is FAIL at three and OK at the fourth, where the held port is FAIL";
+      name = "a newcomer under a number kept for 3 reports is FAIL at three and OK at the fourth, where the port that kept it is FAIL";
       given =
           statesAt 0 (3 ∷ 0 ∷ []) [] ((here 2 0 ∷ idle ∷ []) ∷ come ∷ come ∷ come ∷ come ∷ [])
           ++ statesAt 1 (3 ∷ 0 ∷ []) [] ((here 2 0 ∷ idle ∷ []) ∷ come ∷ come ∷ come ∷ come ∷ []);
@@ -57,7 +57,7 @@ table =
       said = 2 ∷ 1 ∷ 0 ∷ 2 ∷ 0 ∷ 0 ∷ [];
     }
     ∷ record {
-      name = "a chain: port 0 is lost under 0, port 1 goes from 1 to 0, port 2 from 2 to 1; all three are held, under 0, 1 and 2";
+      name = "a chain: port 0 is lost under 0, port 1 goes from 1 to 0, port 2 from 2 to 1; all three keep their numbers, 0, 1 and 2";
       given =
           each
           (leftOf (9 ∷ 9 ∷ 9 ∷ []) [] (standing 2 0 0 ∷ standing 2 1 0 ∷ standing 2 2 0 ∷ []) (away 2 0 ∷ here 2 0 ∷ here 2 1 ∷ []));
@@ -69,11 +69,11 @@ table =
       said = 1 ∷ 0 ∷ 2 ∷ 1 ∷ 0 ∷ 2 ∷ 2 ∷ 0 ∷ 0 ∷ 1 ∷ 0 ∷ 0 ∷ [];
     }
     ∷ record {
-      name = "by the letter: a healthy port with no hold-off, renumbered into a held number, is FAIL";
+      name = "by the letter: a healthy port with no hold-off, renumbered into a number that another keeps, is FAIL";
       given = each (leftOf (9 ∷ 0 ∷ []) [] (standing 2 0 0 ∷ standing 2 1 0 ∷ []) (away 2 0 ∷ here 2 0 ∷ []));
       said = 2 ∷ 0 ∷ 1 ∷ 1 ∷ 0 ∷ 0 ∷ [];
     }
-    ∷ record { name = "hold-off 300: OK at 300 reports, FAIL at the 301st"; given = heldFor 300 300 ++ heldFor 300 301; said = 300 ∷ 2 ∷ 300 ∷ 1 ∷ [] }
+    ∷ record { name = "hold-off 300: OK at 300 reports, FAIL at the 301st"; given = okFor 300 300 ++ okFor 300 301; said = 300 ∷ 2 ∷ 300 ∷ 1 ∷ [] }
     ∷ record {
       name = "5,000 starts, 5,001 is 4 wherever it stands; a list for another number of ports is 9";
       given =
@@ -95,5 +95,5 @@ table =
     ∷ []
 
 pub waited-out : Equal table
-unfolding table startAsAnswer startRight timesWithin sizedAnswer sizedFits startFits sized frames tags claims grant granted holders chosenOf heldOf moreHeld rounds someJoin standingBy standingsOf
+unfolding table startAsAnswer startRight timesWithin sizedAnswer sizedFits startFits sized frames tags claims grant granted holders chosenOf keptNumbers moreKept rounds someJoin standingBy standingsOf
 waited-out = equal-rows table refl

@@ -79,5 +79,5 @@ lostFor hold (suc n) count last =
     let now = leftOf (hold ∷ []) [] last (away 2 0 ∷ []) in
     lostFor hold n (count + cond (eqb (getD now 0 noStanding .state) 2) 1 0) now
 
-abbrev pub heldFor : ℕ → ℕ → List ℕ
-heldFor hold n = lostFor hold n 0 (standing 2 0 0 ∷ [])
+abbrev pub okFor : ℕ → ℕ → List ℕ
+okFor hold n = lostFor hold n 0 (standing 2 0 0 ∷ [])

@@ -9,9 +9,6 @@ use Rattle.ground.specs.Polynomial.{check}
 unfoldable pub divisor : List Bool
 divisor = false ∷ false ∷ false ∷ false ∷ false ∷ true ∷ true ∷ true ∷ []
 
-unfoldable pub byteBits : ℕ → List Bool
-byteBits n = bits 8 n
-
 unfoldable pub nibbleBits : ℕ → List Bool
 nibbleBits n = bits 4 n
 

@@ -15,8 +15,8 @@ abbrev pub holderOf : List ℕ → ℕ → ℕ
 holderOf holders q = getD holders q FREE
 
 -- no number is any port's
-abbrev pub noneHeld : List ℕ
-noneHeld = replicate 64 FREE
+abbrev pub allFree : List ℕ
+allFree = replicate 64 FREE
 
 -- a port that asks for a number gets it where it is still free
 unfoldable pub grant : Bool → ℕ → List ℕ → ℕ → List ℕ
@@ -35,6 +35,6 @@ chooses first p = isCandidate p && not (isRestoring p) && Bool·beq (wasOk p) fi
 unfoldable pub claims : Bool → List Port → ℕ → List ℕ → List ℕ
 claims first ports n holders = granted (λ i. chooses first (portAt ports i)) (λ i. portAt ports i .number) n holders
 
--- 'Candidates that were OK under the same number choose first, then the rest', among the numbers that are not held
+-- 'Candidates that were OK under the same number choose first, then the rest', among the numbers that no port keeps
 unfoldable pub holders : List Port → ℕ → List ℕ → List ℕ
-holders ports n held = claims false ports n (claims true ports n held)
+holders ports n kept = claims false ports n (claims true ports n kept)

@@ -1,4 +1,4 @@
--- Waiting before crying failure (02, 2026-03): which numbers are held for ports that have lost their claim, and what a report leaves of each port.
+-- Waiting before crying failure (02, 2026-03): which numbers ports that have lost their claim keep, and what a report leaves of each port.
 use mathlib.Core.Bool.{Bool, cond, not, _&&_, _||_}
 use mathlib.Core.List.{List}
 use Prim.Native.Nat.{ℕ, zero, suc, _+_}
@@ -8,7 +8,7 @@ use Rattle.counting.specs.Each.{each}
 use Rattle.counting.specs.Words.{some}
 use Rattle.reply.specs.declared.members.Port.{Port}
 use Rattle.reply.specs.declared.waiting.Standing.{Standing}
-use Rattle.reply.specs.Choosing.{FREE, granted, holderOf, holders, noneHeld}
+use Rattle.reply.specs.Choosing.{FREE, granted, holderOf, holders, allFree}
 use Rattle.reply.specs.Members.{failState, hasHoldOff, idleState, isCandidate, isIdle, isRestoring, okState, portAt}
 
 -- a candidate whose number no other port has
@@ -21,30 +21,30 @@ hasClaim chosen i p =
 abbrev pub mustHold : List ℕ → ℕ → Port → Bool
 mustHold chosen i p = hasHoldOff p && not (hasClaim chosen i p)
 
--- such a port joins the held, unless it is among them
-abbrev pub joinsHeld : List ℕ → List ℕ → ℕ → Port → Bool
-joinsHeld chosen held i p = mustHold chosen i p && eqb (holderOf held (p .«state_number»)) FREE
+-- such a port joins those that keep a number, unless it is among them
+abbrev pub joinsKept : List ℕ → List ℕ → ℕ → Port → Bool
+joinsKept chosen kept i p = mustHold chosen i p && eqb (holderOf kept (p .«state_number»)) FREE
 
 unfoldable pub someJoin : List ℕ → List ℕ → List Port → ℕ → Bool
-someJoin chosen held ports n = some n (λ i. joinsHeld chosen held i (portAt ports i))
+someJoin chosen kept ports n = some n (λ i. joinsKept chosen kept i (portAt ports i))
 
-unfoldable pub moreHeld : List ℕ → List Port → ℕ → List ℕ → List ℕ
-moreHeld chosen ports n held = granted (λ i. mustHold chosen i (portAt ports i)) (λ i. portAt ports i .«state_number») n held
+unfoldable pub moreKept : List ℕ → List Port → ℕ → List ℕ → List ℕ
+moreKept chosen ports n kept = granted (λ i. mustHold chosen i (portAt ports i)) (λ i. portAt ports i .«state_number») n kept
 
--- Whether a port has lost its claim can hang on who else holds. So it goes in rounds: the candidates choose, those that lose join the held, and
+-- Whether a port has lost its claim can hang on who else holds. So it goes in rounds: the candidates choose, those that lose keep their numbers, and
 -- again, until none joins.
 unfoldable pub rounds : List Port → ℕ → ℕ → List ℕ → List ℕ
-rounds ports n zero held = held
-rounds ports n (suc k) held =
-    let chosen = holders ports n held in
-    cond (someJoin chosen held ports n) (rounds ports n k (moreHeld chosen ports n held)) held
+rounds ports n zero kept = kept
+rounds ports n (suc k) kept =
+    let chosen = holders ports n kept in
+    cond (someJoin chosen kept ports n) (rounds ports n k (moreKept chosen ports n kept)) kept
 
--- as many rounds as ports are enough (Theorems/Rounds.antt)
-unfoldable pub heldOf : List Port → ℕ → List ℕ
-heldOf ports n = rounds ports n n noneHeld
+-- as many rounds as ports are enough (`none-joins` of Laws/Holding.antt)
+unfoldable pub keptNumbers : List Port → ℕ → List ℕ
+keptNumbers ports n = rounds ports n n allFree
 
 unfoldable pub chosenOf : List Port → ℕ → List ℕ
-chosenOf ports n = holders ports n (heldOf ports n)
+chosenOf ports n = holders ports n (keptNumbers ports n)
 
 abbrev pub standing : ℕ → ℕ → ℕ → Standing
 standing state number elapsed = record { state = state; number = number; elapsed = elapsed }
@@ -53,7 +53,7 @@ standing state number elapsed = record { state = state; number = number; elapsed
 abbrev pub withClaim : Port → Standing
 withClaim p = cond (isRestoring p) (standing failState (p .number) (p .elapsed + 1)) (standing okState (p .number) 0)
 
--- one that is held, under the number that it keeps
+-- one that keeps its number, under that number
 abbrev pub keepsNumber : List ℕ → ℕ → Port → Bool
 keepsNumber chosen i p = eqb (p .state) okState && ltb (p .elapsed) (p .«hold_off») && eqb (holderOf chosen (p .«state_number»)) i
 

@@ -10,10 +10,10 @@ use Rattle.ground.specs.Table.{tabulate}
 use Rattle.packet.specs.Words.{ADD, IDLE, NORM}
 use Rattle.reply.specs.declared.members.Port.{Port}
 use Rattle.reply.specs.declared.waiting.Standing.{Standing}
-use Rattle.reply.specs.Choosing.{FREE, claims, grant, granted, holderOf, holders, noneHeld}
+use Rattle.reply.specs.Choosing.{FREE, claims, grant, granted, holderOf, holders, allFree}
 use Rattle.reply.specs.Members.{failState, hasHoldOff, idleState, isCandidate, okState, portAt}
 use Rattle.reply.specs.Theorems.States.{standingAt}
-use Rattle.reply.specs.Waiting.{chosenOf, hasClaim, heldOf, keepsNumber, moreHeld, rounds, someJoin, standing, standingBy, standingsOf, withClaim, withoutClaim}
+use Rattle.reply.specs.Waiting.{chosenOf, hasClaim, keptNumbers, keepsNumber, moreKept, rounds, someJoin, standing, standingBy, standingsOf, withClaim, withoutClaim}
 
 -- a port that sends a word under a number, with what the last report left of it and its times
 abbrev port : ℕ → ℕ → Bool → Standing → ℕ → ℕ → Port
@@ -44,27 +44,27 @@ newcomer = port ADD 0 true (standing idleState 0 0) 0 0 ∷ port NORM 0 true (st
 
 -- 'Candidates that were OK under the same number choose first, then the rest', the other way round
 wrong-order : List Port → ℕ → List ℕ
-wrong-order ports n = claims true ports n (claims false ports n noneHeld)
+wrong-order ports n = claims true ports n (claims false ports n allFree)
 
 order-breaks :
     (leftBy (wrong-order newcomer 2) newcomer 2 ≡ standing okState 0 0 ∷ standing failState 0 0 ∷ [])
     × (left newcomer 2 ≡ standing failState 0 0 ∷ standing okState 0 0 ∷ [])
-unfolding newcomer wrong-order claims grant granted holders rounds someJoin moreHeld heldOf chosenOf standingBy standingsOf
+unfolding newcomer wrong-order claims grant granted holders rounds someJoin moreKept keptNumbers chosenOf standingBy standingsOf
 order-breaks = (refl, refl)
 
 -- one round for all, in port order alone
 wrong-round : List Port → ℕ → List ℕ
-wrong-round ports n = granted (λ i. isCandidate (portAt ports i)) (λ i. portAt ports i .number) n noneHeld
+wrong-round ports n = granted (λ i. isCandidate (portAt ports i)) (λ i. portAt ports i .number) n allFree
 
 round-breaks :
     (leftBy (wrong-round newcomer 2) newcomer 2 ≡ standing okState 0 0 ∷ standing failState 0 0 ∷ [])
     × (left newcomer 2 ≡ standing failState 0 0 ∷ standing okState 0 0 ∷ [])
-unfolding newcomer wrong-round claims grant granted holders rounds someJoin moreHeld heldOf chosenOf standingBy standingsOf
+unfolding newcomer wrong-round claims grant granted holders rounds someJoin moreKept keptNumbers chosenOf standingBy standingsOf
 round-breaks = (refl, refl)
 
 -- Every OK port that has not chosen yet reserves the number it had, whether or not it has lost its claim.
 wrong-reserve : List Port → ℕ → ℕ → List ℕ
-wrong-reserve ports n zero = noneHeld
+wrong-reserve ports n zero = allFree
 wrong-reserve ports n (suc i) =
     let h = wrong-reserve ports n i in
     let p = portAt ports i in
@@ -88,7 +88,7 @@ falling = port NORM 2 true (standing okState 3 0) 9 0 ∷ port NORM 1 true (stan
 reserve-breaks :
     (reserving falling 3 ≡ standing okState 3 1 ∷ standing okState 2 1 ∷ standing okState 0 0 ∷ [])
     × (left falling 3 ≡ standing okState 2 0 ∷ standing okState 1 0 ∷ standing okState 0 0 ∷ [])
-unfolding falling wrong-reserve claims grant granted holders rounds someJoin moreHeld heldOf chosenOf standingBy standingsOf
+unfolding falling wrong-reserve claims grant granted holders rounds someJoin moreKept keptNumbers chosenOf standingBy standingsOf
 reserve-breaks = (refl, refl)
 
 -- two members exchange numbers
@@ -99,7 +99,7 @@ swapped = port NORM 1 true (standing okState 0 0) 9 0 ∷ port NORM 0 true (stan
 swap-breaks :
     (reserving swapped 2 ≡ standing okState 0 1 ∷ standing okState 1 1 ∷ [])
     × (left swapped 2 ≡ standing okState 1 0 ∷ standing okState 0 0 ∷ [])
-unfolding swapped wrong-reserve claims grant granted holders rounds someJoin moreHeld heldOf chosenOf standingBy standingsOf
+unfolding swapped wrong-reserve claims grant granted holders rounds someJoin moreKept keptNumbers chosenOf standingBy standingsOf
 swap-breaks = (refl, refl)
 
 -- a port alone, OK under 0 with hold-off 2, that is not readable, with its counter
@@ -111,7 +111,7 @@ wrong-late : Port → Standing
 wrong-late p = cond (leb (p .elapsed) (p .«hold_off»)) (standing okState (p .«state_number») (p .elapsed + 1)) (standing failState (p .number) 0)
 
 late-breaks : (wrong-late (portAt (lost 2) 0) ≡ standing okState 0 3) × (standingAt (lost 2) 1 0 ≡ standing failState 0 0)
-unfolding lost wrong-late claims grant granted holders rounds someJoin moreHeld heldOf chosenOf standingBy standingsOf
+unfolding lost wrong-late claims grant granted holders rounds someJoin moreKept keptNumbers chosenOf standingBy standingsOf
 late-breaks = (refl, refl)
 
 -- IDLE waits for the hold-off
@@ -122,9 +122,9 @@ turned-idle : List Port
 turned-idle = port IDLE 255 true (standing okState 0 0) 2 0 ∷ []
 
 idle-breaks :
-    (wrong-idle (set noneHeld 0 0) 0 (portAt turned-idle 0) ≡ standing okState 0 1)
+    (wrong-idle (set allFree 0 0) 0 (portAt turned-idle 0) ≡ standing okState 0 1)
     × (standingAt turned-idle 1 0 ≡ standing idleState 255 0)
-unfolding turned-idle wrong-idle claims grant granted holders rounds someJoin moreHeld heldOf chosenOf standingBy standingsOf
+unfolding turned-idle wrong-idle claims grant granted holders rounds someJoin moreKept keptNumbers chosenOf standingBy standingsOf
 idle-breaks = (refl, refl)
 
 -- a port that comes from IDLE waits to restore
@@ -135,22 +135,22 @@ added : List Port
 added = port ADD 0 true (standing idleState 255 0) 0 3 ∷ []
 
 first-breaks : (wrong-first (portAt added 0) ≡ standing failState 0 1) × (standingAt added 1 0 ≡ standing okState 0 0)
-unfolding added wrong-first claims grant granted holders rounds someJoin moreHeld heldOf chosenOf standingBy standingsOf
+unfolding added wrong-first claims grant granted holders rounds someJoin moreKept keptNumbers chosenOf standingBy standingsOf
 first-breaks = (refl, refl)
 
--- the number that is held is the one that the port now sends: its own is given away
-wrong-held : List ℕ → ℕ → Port → Standing
-wrong-held chosen i p = cond (hasHoldOff p && not (hasClaim chosen i p)) (standing okState (p .number) (p .elapsed + 1)) (standingBy chosen i p)
+-- the number that a port keeps is the one that it now sends: its own is given away
+wrong-kept : List ℕ → ℕ → Port → Standing
+wrong-kept chosen i p = cond (hasHoldOff p && not (hasClaim chosen i p)) (standing okState (p .number) (p .elapsed + 1)) (standingBy chosen i p)
 
 -- port 0 is lost as it goes from 0 to 1, and port 1 from 1 to 0
 renumbered : List Port
 renumbered = port NORM 1 false (standing okState 0 0) 2 0 ∷ port NORM 0 true (standing okState 1 0) 2 0 ∷ []
 
-held-breaks :
-    (tabulate 2 (λ i. wrong-held (holders renumbered 2 noneHeld) i (portAt renumbered i)) ≡ standing okState 1 1 ∷ standing okState 0 0 ∷ [])
+kept-breaks :
+    (tabulate 2 (λ i. wrong-kept (holders renumbered 2 allFree) i (portAt renumbered i)) ≡ standing okState 1 1 ∷ standing okState 0 0 ∷ [])
     × (left renumbered 2 ≡ standing okState 0 1 ∷ standing okState 1 1 ∷ [])
-unfolding renumbered wrong-held claims grant granted holders rounds someJoin moreHeld heldOf chosenOf standingBy standingsOf
-held-breaks = (refl, refl)
+unfolding renumbered wrong-kept claims grant granted holders rounds someJoin moreKept keptNumbers chosenOf standingBy standingsOf
+kept-breaks = (refl, refl)
 
 -- The hold-off counted by the epoch's number, which goes round after 256: 300 reports after the loss at epoch 0 it is epoch 44.
 wrong-epochs : Port → ℕ → ℕ → Standing
@@ -161,5 +161,5 @@ long : List Port
 long = port NORM 0 false (standing okState 0 300) 300 0 ∷ []
 
 epochs-break : (wrong-epochs (portAt long 0) 0 44 ≡ standing okState 0 0) × (standingAt long 1 0 ≡ standing failState 0 0)
-unfolding long wrong-epochs claims grant granted holders rounds someJoin moreHeld heldOf chosenOf standingBy standingsOf
+unfolding long wrong-epochs claims grant granted holders rounds someJoin moreKept keptNumbers chosenOf standingBy standingsOf
 epochs-break = (refl, refl)

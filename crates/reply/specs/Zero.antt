@@ -6,7 +6,7 @@ use lib.Dec.{eqb}
 use lib.ListN.{replicate}
 use Rattle.counting.specs.Each.{each}
 use Rattle.reply.specs.declared.members.Port.{Port}
-use Rattle.reply.specs.Choosing.{granted, holderOf, noneHeld}
+use Rattle.reply.specs.Choosing.{granted, holderOf, allFree}
 use Rattle.reply.specs.Members.{failState, idleState, isCandidate, isIdle, okState, portAt, wasOk}
 
 unfoldable pub plainClaims : Bool → List Port → ℕ → List ℕ → List ℕ
@@ -15,7 +15,7 @@ plainClaims first ports n holders =
 
 -- 'Candidates that were OK under the same number choose first, then the rest, each in port order.'
 unfoldable pub plainHolders : List Port → ℕ → List ℕ
-plainHolders ports n = plainClaims false ports n (plainClaims true ports n noneHeld)
+plainHolders ports n = plainClaims false ports n (plainClaims true ports n allFree)
 
 -- 'One whose number is still free becomes OK; all else are FAIL.'
 unfoldable pub stateBy : List ℕ → ℕ → Port → ℕ

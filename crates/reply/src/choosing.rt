@@ -60,11 +60,11 @@ fn claim_all(first: bool, ports: [Port; 64], n: usize, before: [u8; 64]) -> [u8;
     chosen
 }
 
-// Who gets which of the numbers that are not held.
-pub(crate) fn choose(ports: [Port; 64], n: usize, held: [u8; 64]) -> [u8; 64]
+// Who gets which of the numbers that no port keeps.
+pub(crate) fn choose(ports: [Port; 64], n: usize, kept: [u8; 64]) -> [u8; 64]
     requires { ⌜ n ≤ 64 ⌝ }
-    ensures { λ r. ⌜ r ≡ holders ports n held ⌝ }
+    ensures { λ r. ⌜ r ≡ holders ports n kept ⌝ }
 {
-    let first = claim_all(true, ports, n, held);
+    let first = claim_all(true, ports, n, kept);
     claim_all(false, ports, n, first)
 }

@@ -16,14 +16,14 @@ fn ok_holds(ports: [Port; 64], n: usize, number: u8) -> bool
     requires { ⌜ n ≤ 64 ⌝ }
     ensures { λ r. ⌜ r ≡ okHolds ports n number ⌝ }
 {
-    let mut held = false;
+    let mut found = false;
     let mut i = 0;
     while i < n {
         let port = ports[i];
-        held = held | ((port.state == Port::OK) & (port.state_number == number));
+        found = found | ((port.state == Port::OK) & (port.state_number == number));
         i += 1;
     }
-    held
+    found
 }
 
 fn fail_bit(ports: [Port; 64], n: usize, number: u8) -> u8

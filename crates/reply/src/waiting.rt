@@ -10,7 +10,7 @@ ghost use lib.ListN.{getD, replicate};
 ghost use Rattle.counting.specs.Each.{each};
 ghost use Rattle.reply.specs.Choosing.{grant};
 ghost use Rattle.reply.specs.Members.{failState, hasHoldOff, okState, portAt, sizeOf};
-ghost use Rattle.reply.specs.Waiting.{chosenOf, hasClaim, joinsHeld, keepsNumber, moreHeld, mustHold, noStanding, someJoin, standing, standingBy, standingsOf, withClaim, withoutClaim};
+ghost use Rattle.reply.specs.Waiting.{chosenOf, hasClaim, joinsKept, keepsNumber, moreKept, mustHold, noStanding, someJoin, standing, standingBy, standingsOf, withClaim, withoutClaim};
 
 // What a report leaves of a port: its state, the number under which it has it, and at how many reports its timer has run.
 pub struct Standing {
@@ -34,69 +34,69 @@ fn must_hold(chosen: [u8; 64], i: u8, port: Port) -> bool
     members::has_hold_off(port) & !has_claim(chosen, i, port)
 }
 
-fn joins_held(chosen: [u8; 64], held: [u8; 64], i: u8, port: Port) -> bool
-    ensures { λ r. ⌜ r ≡ joinsHeld chosen held i port ⌝ }
+fn joins_kept(chosen: [u8; 64], kept: [u8; 64], i: u8, port: Port) -> bool
+    ensures { λ r. ⌜ r ≡ joinsKept chosen kept i port ⌝ }
 {
-    let holder = choosing::holder_of(held, port.state_number);
+    let holder = choosing::holder_of(kept, port.state_number);
     must_hold(chosen, i, port) & (holder == choosing::NO_PORT)
 }
 
-fn hold_one(chosen: [u8; 64], held: [u8; 64], i: u8, port: Port) -> [u8; 64]
-    ensures { λ r. ⌜ r ≡ grant (mustHold chosen i port) (port .«state_number») held i ⌝ }
+fn hold_one(chosen: [u8; 64], kept: [u8; 64], i: u8, port: Port) -> [u8; 64]
+    ensures { λ r. ⌜ r ≡ grant (mustHold chosen i port) (port .«state_number») kept i ⌝ }
 {
     let number = port.state_number;
-    if joins_held(chosen, held, i, port) {
-        let mut next = held;
+    if joins_kept(chosen, kept, i, port) {
+        let mut next = kept;
         next[number as usize] = i;
         return next;
     }
-    held
+    kept
 }
 
 fn hold_more(chosen: [u8; 64], ports: [Port; 64], n: usize, before: [u8; 64]) -> [u8; 64]
     requires { ⌜ n ≤ 64 ⌝ }
-    ensures { λ r. ⌜ r ≡ moreHeld chosen ports n before ⌝ }
+    ensures { λ r. ⌜ r ≡ moreKept chosen ports n before ⌝ }
 {
-    let mut held = before;
+    let mut kept = before;
     let mut i = 0;
     while i < n {
         let port = ports[i];
-        let next = hold_one(chosen, held, i as u8, port);
-        held = next;
+        let next = hold_one(chosen, kept, i as u8, port);
+        kept = next;
         i += 1;
     }
-    held
+    kept
 }
 
-fn some_join(chosen: [u8; 64], held: [u8; 64], ports: [Port; 64], n: usize) -> bool
+fn some_join(chosen: [u8; 64], kept: [u8; 64], ports: [Port; 64], n: usize) -> bool
     requires { ⌜ n ≤ 64 ⌝ }
-    ensures { λ r. ⌜ r ≡ someJoin chosen held ports n ⌝ }
+    ensures { λ r. ⌜ r ≡ someJoin chosen kept ports n ⌝ }
 {
     let mut joining = false;
     let mut i = 0;
     while i < n {
         let port = ports[i];
-        joining = joining | joins_held(chosen, held, i as u8, port);
+        joining = joining | joins_kept(chosen, kept, i as u8, port);
         i += 1;
     }
     joining
 }
 
-// The candidates choose, and those that lose join the held, until none joins.
+// The candidates choose, and those that lose keep their numbers, until none more does.
 fn choose_in_rounds(ports: [Port; 64], n: usize) -> [u8; 64]
     requires { ⌜ n ≤ 64 ⌝ }
     ensures { λ r. ⌜ r ≡ chosenOf ports n ⌝ }
 {
-    let mut held = [choosing::NO_PORT; 64];
-    let mut chosen = choosing::choose(ports, n, held);
+    let mut kept = [choosing::NO_PORT; 64];
+    let mut chosen = choosing::choose(ports, n, kept);
     let mut k = 0;
     while k < n {
-        if !some_join(chosen, held, ports, n) {
+        if !some_join(chosen, kept, ports, n) {
             break;
         }
-        let more = hold_more(chosen, ports, n, held);
-        held = more;
-        let next = choosing::choose(ports, n, held);
+        let more = hold_more(chosen, ports, n, kept);
+        kept = more;
+        let next = choosing::choose(ports, n, kept);
         chosen = next;
         k += 1;
     }

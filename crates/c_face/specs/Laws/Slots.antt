@@ -9,11 +9,11 @@ use lib.ListN.{length}
 use borrow.Author.Tests.{eq-eqb, lt-ltb}
 use Rattle.circuits.specs.Answers.{answerNumber, fromSender}
 use Rattle.circuits.specs.declared.answers.Answer.the-variants.{NoSlot, Owned}
+use Rattle.circuits.specs.Laws.GroupSender.{sender-number}
 use Rattle.circuits.specs.Owners.{markOf, ownerIn}
 use Rattle.circuits.specs.Parts as P
 use Rattle.circuits.specs.Readings.{packetAnswer, packetBytes}
 use Rattle.sender.specs.declared.epochs.Sender.{Sender}
-use Rattle.sender.specs.declared.table.Answer as S
 use Rattle.sender.specs.Epochs as E
 use Rattle.sender.specs.Table.{sizeOf}
 use Rattle.sender.specs.Table.{answerNumber as senderNumber}
@@ -51,15 +51,6 @@ module _ (owner g : ℕ) (s : Sender) (slot : ℕ) (h4 : List ℕ) (r : ℕ) (e 
       go true true w = (en, eo)
       go true false w = absurd (omega arith)
       go false t w = absurd (omega arith)
-
-sender-number : (a : S.Answer) → answerNumber (fromSender a) ≡ senderNumber a
-sender-number S.Answer.Done = refl
-sender-number S.Answer.NoSlot = refl
-sender-number S.Answer.NotAllowed = refl
-sender-number S.Answer.WaitOpen = refl
-sender-number S.Answer.OutOfRange = refl
-sender-number S.Answer.Field = refl
-sender-number S.Answer.Length = refl
 
 -- such a packet is the card's
 pub slot-packet : (state : List ℕ) (g slot : ℕ) (h4 : List ℕ) → length state ≡ 858 → g < 2

@@ -13,14 +13,14 @@ use Rattle.ground.specs.Drawn.{fillAt, getD-after, getD-before, getD-fillAt, le
 use Rattle.ground.specs.Table.{tabulate, length-tabulate, tabulate-ext, tabulate-is}
 use Rattle.ground.specs.Truth.{clash, cond-by, eq-or-ne}
 use Rattle.circuits.specs.declared.answers.Answer.{Answer}
-use Rattle.circuits.specs.declared.answers.Answer.the-variants.{Done, NoSlot, NotAllowed, WaitOpen, OutOfRange, Field, Length}
 use Rattle.circuits.specs.declared.card.Card.{Card}
 use Rattle.circuits.specs.declared.card.CardOutcome.{CardOutcome}
-use Rattle.circuits.specs.Answers.{answerNumber, fromSender}
+use Rattle.circuits.specs.Answers.{answerNumber}
 use Rattle.circuits.specs.Calls.{Call, outcomeOf}
 use Rattle.circuits.specs.Calls.Call.{Claim, Release, AddSlot, RemoveSlot, Report, Lapse, StartEpoch}
 use Rattle.circuits.specs.Commands.{sentOf, startOf}
 use Rattle.circuits.specs.Laws.Alike.{Alike, AlikeAfter, alike-call}
+use Rattle.circuits.specs.Laws.GroupSender.{put-back, sender-number}
 use Rattle.circuits.specs.Laws.Seeing.{owners-outcome, sender-marked, sender-other, sender-outcome}
 use Rattle.circuits.specs.Laws.Ways.{by-ways}
 use Rattle.circuits.specs.Owners.{ownerIn, withOwner}
@@ -30,7 +30,6 @@ use Rattle.circuits.specs.Theorems.Owned.{demand2-each}
 use Rattle.circuits.specs.Views.{Asked, Made, cardAfter, run}
 use Rattle.circuits.specs.Views.Asked.{Do, Packet, Payload, Board, Outgoing, Ranks, Owned}
 use Rattle.sender.specs.declared.epochs.Sender.{Sender}
-use Rattle.sender.specs.declared.table.Answer as S
 use Rattle.sender.specs.Epochs.{SenderCall, senderOutcomeOf}
 use Rattle.sender.specs.Table.{answerNumber as senderNumber}
 use Rattle.sender.specs.Theorems.Epochs.{Demand2Kept}
@@ -180,25 +179,6 @@ module _ (g : ℕ) (s t : List ℕ) (sized : length s ≡ length t) (row : owner
       go false true e z u f x y w = absurd (true≢false (sym z))
 
 -- What a call on the card leaves.
-
-sender-number : (a : S.Answer) → answerNumber (fromSender a) ≡ senderNumber a
-sender-number S.Answer.Done = refl
-sender-number S.Answer.NoSlot = refl
-sender-number S.Answer.NotAllowed = refl
-sender-number S.Answer.WaitOpen = refl
-sender-number S.Answer.OutOfRange = refl
-sender-number S.Answer.Field = refl
-sender-number S.Answer.Length = refl
-
-put-back : (c : Card) (g : ℕ) → withSender c g (P.senderOf c g) ≡ c
-unfolding withSender P.senderOf
-put-back c g = go (eqb g 0)
-  where
-    go : (b : Bool)
-        → (let s = cond b (c .first) (c .second) in
-        cond {A = Card} b (record { owners = c .owners; first = s; second = c .second }) (record { owners = c .owners; first = c .first; second = s })) ≡ c
-    go true = refl
-    go false = refl
 
 marked-done : (c : Card) (i m : ℕ) → answerNumber (marked c i m .answer) ≡ 0
 unfolding marked

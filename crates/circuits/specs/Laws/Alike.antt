@@ -18,7 +18,7 @@ use Rattle.circuits.specs.Commands.{claimOf, commandOf, groupCallOf, ofO
 use Rattle.circuits.specs.Laws.Seeing.{owners-outcome, sender-marked, sender-outcome}
 use Rattle.circuits.specs.Owners.{hasOwner, isMarked, markOf, withOwner}
 use Rattle.circuits.specs.Parts.{groupOutcome, isSlot, isUsed, marked, owns, refused, senderOf, shownSender}
-use Rattle.circuits.specs.Readings.{packetAnswer, packetBytes, payloadAnswer, payloadBytes}
+use Rattle.circuits.specs.Readings.{payloadAnswer, payloadBytes}
 
 pub record Alike (g : ℕ) (c d : Card) : Type 0 where
   pub owners : c .owners ≡ d .owners
@@ -106,10 +106,6 @@ module _ (g : ℕ) (c d : Card) (a : Alike g c d) where
   alike-call (StartEpoch gid mst ack) = alike-group-call _
 
   -- what is read is alike too
-  pub alike-packet : (i : ℕ) (h4 : List ℕ) → (packetAnswer c g i h4 ≡ packetAnswer d g i h4) × (packetBytes c g i h4 ≡ packetBytes d g i h4)
-  unfolding packetAnswer packetBytes
-  alike-packet i h4 = rw (same-slot i, same-own i, a .sender) (refl, refl)
-
   pub alike-payload : (i p n m : ℕ) (frame member : List ℕ)
       → (payloadAnswer c g i p n m ≡ payloadAnswer d g i p n m) × (payloadBytes c g i p frame member ≡ payloadBytes d g i p frame member)
   unfolding payloadAnswer payloadBytes

@@ -8,7 +8,7 @@ use Rattle.conformance.specs.Waits.{seenPort}
 use Rattle.reply.specs.Choosing.{claims, grant, granted, holders}
 use Rattle.reply.specs.declared.members.Port.{Port}
 use Rattle.reply.specs.declared.waiting.Standing.{Standing}
-use Rattle.reply.specs.Waiting.{chosenOf, heldOf, moreHeld, rounds, someJoin, standing, standingBy, standingsOf}
+use Rattle.reply.specs.Waiting.{chosenOf, keptNumbers, moreKept, rounds, someJoin, standing, standingBy, standingsOf}
 
 abbrev left : List Port → List Standing
 left ports = take (length ports) (standingsOf ports (length ports))
@@ -25,7 +25,7 @@ lost number elapsed = seenPort 2 number false (standing 2 number elapsed) 3 0
 abbrev failed : ℕ → ℕ → Port
 failed number elapsed = seenPort 2 number true (standing 1 number elapsed) 0 2
 
--- Port 0 was OK under 4 and now sends 5, which port 1 has: it keeps 4 while it waits. So it does where the holder of 5 is lost and held too. Of two ports that are held under one number the first keeps it. The third report without its claim is the last; the one behind it is FAIL. A port that waits to restore takes its number from nobody, and is OK when it has waited.
+-- Port 0 was OK under 4 and now sends 5, which port 1 has: it keeps 4 while it waits. So it does where the holder of 5 is lost and keeps 5 too. Of two ports that would keep one number the first does. The third report without its claim is the last; the one behind it is FAIL. A port that waits to restore takes its number from nobody, and is OK when it has waited.
 holding :
     (left (moved 5 4 ∷ moved 5 5 ∷ []) ≡ standing 2 4 1 ∷ standing 2 5 0 ∷ [])
     × (left (moved 5 4 ∷ lost 5 0 ∷ []) ≡ standing 2 4 1 ∷ standing 2 5 1 ∷ [])
@@ -35,5 +35,5 @@ holding :
     × (left (failed 4 0 ∷ moved 4 4 ∷ []) ≡ standing 1 4 0 ∷ standing 2 4 0 ∷ [])
     × (left (failed 4 1 ∷ []) ≡ standing 1 4 2 ∷ [])
     × (left (failed 4 2 ∷ []) ≡ standing 2 4 0 ∷ [])
-unfolding chosenOf claims grant granted heldOf holders moreHeld rounds someJoin standingBy standingsOf
+unfolding chosenOf claims grant granted keptNumbers holders moreKept rounds someJoin standingBy standingsOf
 holding = (refl, refl, refl, refl, refl, refl, refl, refl)

@@ -10,7 +10,7 @@ use Rattle.reply.specs.Choosing.{claims, grant, granted, holders}
 use Rattle.reply.specs.declared.members.Port.{Port}
 use Rattle.reply.specs.declared.waiting.Standing.{Standing}
 use Rattle.reply.specs.Telling.{mstFrom, mstOf, okHolds}
-use Rattle.reply.specs.Waiting.{chosenOf, heldOf, moreHeld, rounds, someJoin, standing, standingBy, standingsOf}
+use Rattle.reply.specs.Waiting.{chosenOf, keptNumbers, moreKept, rounds, someJoin, standing, standingBy, standingsOf}
 
 abbrev left : List Port → List Standing
 left ports = take (length ports) (standingsOf ports (length ports))
@@ -33,7 +33,7 @@ choosing :
     × (left (sends 5 3 (standing 0 255 0) ∷ added 3 ∷ []) ≡ standing 0 3 0 ∷ standing 2 3 0 ∷ [])
     × (left (sends 2 255 (standing 0 255 0) ∷ []) ≡ standing 1 255 0 ∷ [])
     × (left (added 63 ∷ added 64 ∷ []) ≡ standing 2 63 0 ∷ standing 1 64 0 ∷ [])
-unfolding chosenOf claims grant granted heldOf holders moreHeld rounds someJoin standingBy standingsOf
+unfolding chosenOf claims grant granted keptNumbers holders moreKept rounds someJoin standingBy standingsOf
 choosing = (refl, refl, refl, refl, refl, refl, refl)
 
 -- 'During hold-off the port keeps its number against others', here number 63. One that turns IDLE keeps none, nor does one that is FAIL, nor one whose hold-off of 3 is over.
@@ -42,7 +42,7 @@ keeping :
     × (left (seenPort 5 255 true (standing 2 4 0) 3 0 ∷ added 4 ∷ []) ≡ standing 0 255 0 ∷ standing 2 4 0 ∷ [])
     × (left (seenPort 2 4 false (standing 1 4 0) 3 0 ∷ added 4 ∷ []) ≡ standing 1 4 0 ∷ standing 2 4 0 ∷ [])
     × (left (seenPort 2 4 false (standing 2 4 3) 3 0 ∷ added 4 ∷ []) ≡ standing 1 4 0 ∷ standing 2 4 0 ∷ [])
-unfolding chosenOf claims grant granted heldOf holders moreHeld rounds someJoin standingBy standingsOf
+unfolding chosenOf claims grant granted keptNumbers holders moreKept rounds someJoin standingBy standingsOf
 keeping = (refl, refl, refl, refl)
 
 abbrev ok : ℕ → Port

@@ -42,7 +42,8 @@ torn-packets :
 unfolding doubtfulBy eosAlone eosWrong gidDiffers heldBy highest judgeOf lcasVerdict missing repeats takes
 torn-packets = (refl, refl, refl, refl, refl, refl, refl, refl)
 
--- an IDLE port's GID counts for nothing, whichever it is, a DNU port's and an active one's hold the epoch where they differ; an ADD port's number does not fill a gap
+-- an IDLE port's GID counts for nothing, whichever it is, a DNU port's and an active one's hold the epoch where they differ; an ADD port's number does not fill a gap;
+-- EOS below the highest active number holds it, whether or not that port's packet is refused or EOS stands on the highest too
 others :
     (verdict (saw 3 0 1 ∷ saw 5 255 0 ∷ []) ≡ 3)
     × (verdict (saw 3 0 0 ∷ saw 5 255 1 ∷ []) ≡ 3)
@@ -50,6 +51,9 @@ others :
     × (verdict (saw 3 0 0 ∷ saw 15 1 1 ∷ []) ≡ 1)
     × (verdict (saw 2 0 1 ∷ saw 3 1 0 ∷ []) ≡ 1)
     × (verdict (saw 2 0 0 ∷ saw 1 1 0 ∷ saw 3 2 0 ∷ []) ≡ 2)
+    × (verdict (saw 3 0 0 ∷ bad 2 1 ∷ []) ≡ 1)
+    × (verdict (saw 3 0 0 ∷ saw 2 1 0 ∷ []) ≡ 1)
+    × (verdict (saw 2 0 0 ∷ saw 3 1 0 ∷ saw 3 2 0 ∷ []) ≡ 1)
     × (judgeOf 1 (saw 3 0 0 ∷ []) 1 ≡ 3)
     × (judgeOf 2 (saw 0 0 0 ∷ []) 1 ≡ 3)
     × (judgeOf 2 (saw 0 0 0 ∷ saw 0 1 1 ∷ []) 2 ≡ 3)
@@ -57,7 +61,7 @@ others :
     × (judgeOf 2 (saw 0 0 0 ∷ torn 0 1 0 true ∷ []) 2 ≡ 1)
     × (judgeOf 2 (saw 0 0 0 ∷ bad 0 1 ∷ []) 2 ≡ 1)
 unfolding doubtfulBy eosAlone eosWrong exact fixedExact fixedHeld fixedVerdict gidDiffers heldBy highest judgeOf lcasVerdict missing repeats takes
-others = (refl, refl, refl, refl, refl, refl, refl, refl, refl, refl, refl, refl)
+others = (refl, refl, refl, refl, refl, refl, refl, refl, refl, refl, refl, refl, refl, refl, refl)
 
 -- payload goes by the numbers of active ports, however high, and not by what a refused or a torn packet reads as
 orders :

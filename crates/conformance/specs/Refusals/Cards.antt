@@ -13,6 +13,7 @@ use Rattle.circuits.specs.Answers.{answerNumber, fromSender}
 use Rattle.circuits.specs.Calls.{outcomeOf}
 use Rattle.circuits.specs.Calls.Call.{AddSlot, Claim, Lapse, Release, RemoveSlot, Report, StartEpoch}
 use Rattle.circuits.specs.Commands.{claimOf, commandOf, groupCallOf, releaseOf, startOf}
+use Rattle.circuits.specs.Laws.GroupSender.{put-back, sender-number}
 use Rattle.circuits.specs.Owners.{ownedBytes}
 use Rattle.circuits.specs.Parts.{emptySender, groupOutcome, isSlot, isUsed, marked, owns, refused, senderOf, shownSender, withSender}
 use Rattle.circuits.specs.Readings.{boardShown, outgoingShown, ownedShown, packetAnswer, packetBytes, payloadAnswer, payloadBytes, ranksShown}
@@ -28,15 +29,6 @@ use Rattle.sender.specs.Epochs as E
 use Rattle.sender.specs.Epochs.{SenderCall, beginOf, freshSender, senderOutcomeOf}
 use Rattle.sender.specs.Table.{isMember, sizeOf}
 use Rattle.sender.specs.Table.{answerNumber as senderNumber}
-
-sender-number : (a : S.Answer) → answerNumber (fromSender a) ≡ senderNumber a
-sender-number S.Answer.Done = refl
-sender-number S.Answer.NoSlot = refl
-sender-number S.Answer.NotAllowed = refl
-sender-number S.Answer.WaitOpen = refl
-sender-number S.Answer.OutOfRange = refl
-sender-number S.Answer.Field = refl
-sender-number S.Answer.Length = refl
 
 -- What is asked of a slot, in plain comparisons. Groups are 0 and 1.
 
@@ -79,16 +71,6 @@ start-copes (kind, count, e₀, e₁) =
       as-given = λ k. rw (c .as-given k, d .as-given k) refl;
       emptied = λ k. rw (c .emptied k, d .emptied k) refl;
     }
-
-put-back : (c : Card) (g : ℕ) → withSender c g (senderOf c g) ≡ c
-unfolding withSender senderOf
-put-back c g = go (eqb g 0)
-  where
-    go : (b : Bool)
-        → (let s = cond b (c .first) (c .second) in
-        cond {A = Card} b (record { owners = c .owners; first = s; second = c .second }) (record { owners = c .owners; first = c .first; second = s })) ≡ c
-    go true = refl
-    go false = refl
 
 -- a call of the group's sender is refused as the sender has it
 on-sender : (c : Card) (g : ℕ) (rs : List Refusal) (r : SenderOutcome) → Copes (stateful rs (senderNumber (r .answer)) [] [] (senderOf c g) (r .sender) (senderOf c g))

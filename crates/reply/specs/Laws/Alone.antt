@@ -9,17 +9,17 @@ use lib.Dec.{eqb}
 use lib.ListN.{getD, length, length-replicate, replicate, set}
 use Rattle.counting.specs.Each.{getD-each}
 use Rattle.ground.specs.Truth.{and-left, same-test}
-use Rattle.reply.specs.Choosing.{FREE, chooses, claims, grant, granted, holderOf, holders, noneHeld}
+use Rattle.reply.specs.Choosing.{FREE, chooses, claims, grant, granted, holderOf, holders, allFree}
 use Rattle.reply.specs.declared.members.Port.{Port}
 use Rattle.reply.specs.declared.waiting.Standing.{Standing}
 use Rattle.reply.specs.Laws.Choosing.{Chosen, holders-from}
 use Rattle.reply.specs.Laws.Claims.{claim-free, claim-none, claim-own, keeps, keeps-own, left-claim, left-idle, left-lost}
 use Rattle.reply.specs.Laws.Granting.{grant-from, grant-holds, length-grant}
-use Rattle.reply.specs.Laws.Holding.{none-held}
+use Rattle.reply.specs.Laws.Holding.{all-free}
 use Rattle.reply.specs.Laws.Members.{left-elapsed, left-low, left-ok}
 use Rattle.reply.specs.Members.{failState, hasHoldOff, idleState, isCandidate, isIdle, okState, portAt}
 use Rattle.reply.specs.Telling.{ackOf, turns}
-use Rattle.reply.specs.Waiting.{chosenOf, hasClaim, heldOf, keepsNumber, moreHeld, mustHold, noStanding, rounds, someJoin, standing, standingBy, standingsOf, withClaim}
+use Rattle.reply.specs.Waiting.{chosenOf, hasClaim, keptNumbers, keepsNumber, moreKept, mustHold, noStanding, rounds, someJoin, standing, standingBy, standingsOf, withClaim}
 
 -- nobody can take its number: it has its claim where it is a candidate, and keeps its number where it has hold-off left
 unfoldable pub aloneLeaves : Port → Standing
@@ -40,35 +40,35 @@ module _ (ports : List Port) where
   p = portAt ports 0
 
   abbrev must : Bool
-  must = mustHold (holders ports 1 noneHeld) 0 p
+  must = mustHold (holders ports 1 allFree) 0 p
 
-  held-alone : heldOf ports 1 ≡ grant must (p .«state_number») noneHeld 0
-  unfolding heldOf rounds someJoin moreHeld granted grant
-  held-alone = twice (must && eqb (holderOf noneHeld (p .«state_number»)) FREE) (set noneHeld (p .«state_number») 0) noneHeld
+  kept-alone : keptNumbers ports 1 ≡ grant must (p .«state_number») allFree 0
+  unfolding keptNumbers rounds someJoin moreKept granted grant
+  kept-alone = twice (must && eqb (holderOf allFree (p .«state_number»)) FREE) (set allFree (p .«state_number») 0) allFree
 
-  length-held : length (heldOf ports 1) ≡ 64
-  length-held = ap (λ (l : List ℕ). length l) held-alone ∙ length-grant must (p .«state_number») noneHeld 0 ∙ length-replicate {A = ℕ} 64 FREE
+  length-kept : length (keptNumbers ports 1) ≡ 64
+  length-kept = ap (λ (l : List ℕ). length l) kept-alone ∙ length-grant must (p .«state_number») allFree 0 ∙ length-replicate {A = ℕ} 64 FREE
 
   must-left : must ≡ true → hasHoldOff p ≡ true
-  must-left e = and-left (hasHoldOff p) (not (hasClaim (holders ports 1 noneHeld) 0 p)) e
+  must-left e = and-left (hasHoldOff p) (not (hasClaim (holders ports 1 allFree) 0 p)) e
 
-  held-own : (q : ℕ) → (holderOf (heldOf ports 1) q ≡ FREE) ⊎ (holderOf (heldOf ports 1) q ≡ 0)
-  held-own q =
-      let same : holderOf (heldOf ports 1) q ≡ holderOf (grant must (p .«state_number») noneHeld 0) q = ap (λ (l : List ℕ). holderOf l q) held-alone in
-      ⊎-elim (λ (e : holderOf noneHeld q ≡ holderOf (grant must (p .«state_number») noneHeld 0) q). inl (same ∙ sym e ∙ none-held q))
-      (λ (e : (0 ≡ holderOf (grant must (p .«state_number») noneHeld 0) q) × (must ≡ true) × (p .«state_number» ≡ q)). inr (same ∙ sym (e .0)))
-      (grant-from must (p .«state_number») noneHeld 0 q (holderOf (grant must (p .«state_number») noneHeld 0) q) (length-replicate {A = ℕ} 64 FREE)
+  kept-own : (q : ℕ) → (holderOf (keptNumbers ports 1) q ≡ FREE) ⊎ (holderOf (keptNumbers ports 1) q ≡ 0)
+  kept-own q =
+      let same : holderOf (keptNumbers ports 1) q ≡ holderOf (grant must (p .«state_number») allFree 0) q = ap (λ (l : List ℕ). holderOf l q) kept-alone in
+      ⊎-elim (λ (e : holderOf allFree q ≡ holderOf (grant must (p .«state_number») allFree 0) q). inl (same ∙ sym e ∙ all-free q))
+      (λ (e : (0 ≡ holderOf (grant must (p .«state_number») allFree 0) q) × (must ≡ true) × (p .«state_number» ≡ q)). inr (same ∙ sym (e .0)))
+      (grant-from must (p .«state_number») allFree 0 q (holderOf (grant must (p .«state_number») allFree 0) q) (length-replicate {A = ℕ} 64 FREE)
       (λ (m : must ≡ true). left-low p (must-left m)) refl)
 
   chosen-own : (q : ℕ) → (holderOf (chosenOf ports 1) q ≡ FREE) ⊎ (holderOf (chosenOf ports 1) q ≡ 0)
   unfolding chosenOf
   chosen-own q =
-      let x : ℕ = holderOf (holders ports 1 (heldOf ports 1)) q in
+      let x : ℕ = holderOf (holders ports 1 (keptNumbers ports 1)) q in
       ⊎-elim
-      (λ (e : holderOf (heldOf ports 1) q ≡ x).
-      ⊎-elim (λ (f : holderOf (heldOf ports 1) q ≡ FREE). inl (sym e ∙ f)) (λ (f : holderOf (heldOf ports 1) q ≡ 0). inr (sym e ∙ f)) (held-own q))
+      (λ (e : holderOf (keptNumbers ports 1) q ≡ x).
+      ⊎-elim (λ (f : holderOf (keptNumbers ports 1) q ≡ FREE). inl (sym e ∙ f)) (λ (f : holderOf (keptNumbers ports 1) q ≡ 0). inr (sym e ∙ f)) (kept-own q))
       (λ (c : Chosen ports 1 q x). let b : x < 1 = c .below in inr (omega arith))
-      (holders-from ports 1 (heldOf ports 1) q x length-held refl)
+      (holders-from ports 1 (keptNumbers ports 1) q x length-kept refl)
 
   claims-alone : isCandidate p ≡ true → hasClaim (chosenOf ports 1) 0 p ≡ true
   claims-alone c =
@@ -77,34 +77,34 @@ module _ (ports : List Port) where
       (chosen-own (p .number))
 
   module _ (lost : isCandidate p ≡ false) where
-    chosen-held : chosenOf ports 1 ≡ grant must (p .«state_number») noneHeld 0
+    chosen-kept : chosenOf ports 1 ≡ grant must (p .«state_number») allFree 0
     unfolding chosenOf holders claims granted
-    chosen-held =
-        grant-none (chooses false p) (p .number) (grant (chooses true p) (p .number) (heldOf ports 1) 0) 0 (rw lost refl)
-        ∙ grant-none (chooses true p) (p .number) (heldOf ports 1) 0 (rw lost refl)
-        ∙ held-alone
+    chosen-kept =
+        grant-none (chooses false p) (p .number) (grant (chooses true p) (p .number) (keptNumbers ports 1) 0) 0 (rw lost refl)
+        ∙ grant-none (chooses true p) (p .number) (keptNumbers ports 1) 0 (rw lost refl)
+        ∙ kept-alone
 
     must-is : must ≡ (hasHoldOff p && true)
-    must-is = rw (claim-none (holders ports 1 noneHeld) 0 p lost) refl
+    must-is = rw (claim-none (holders ports 1 allFree) 0 p lost) refl
 
     must-hold : hasHoldOff p ≡ true → must ≡ true
     must-hold e = must-is ∙ rw e refl
 
-    holder : holderOf (chosenOf ports 1) (p .«state_number») ≡ holderOf (grant must (p .«state_number») noneHeld 0) (p .«state_number»)
-    holder = ap (λ (l : List ℕ). holderOf l (p .«state_number»)) chosen-held
+    holder : holderOf (chosenOf ports 1) (p .«state_number») ≡ holderOf (grant must (p .«state_number») allFree 0) (p .«state_number»)
+    holder = ap (λ (l : List ℕ). holderOf l (p .«state_number»)) chosen-kept
 
     to : keepsNumber (chosenOf ports 1) 0 p ≡ true → hasHoldOff p ≡ true
     to k =
         ⊎-elim
-        (λ (e : holderOf noneHeld (p .«state_number») ≡ 0). absurd (let z : FREE ≡ 0 = sym (none-held (p .«state_number»)) ∙ e in omega arith))
+        (λ (e : holderOf allFree (p .«state_number») ≡ 0). absurd (let z : FREE ≡ 0 = sym (all-free (p .«state_number»)) ∙ e in omega arith))
         (λ (e : (0 ≡ 0) × (must ≡ true) × (p .«state_number» ≡ p .«state_number»)). must-left (e .1))
-        (grant-from must (p .«state_number») noneHeld 0 (p .«state_number») 0 (length-replicate {A = ℕ} 64 FREE)
+        (grant-from must (p .«state_number») allFree 0 (p .«state_number») 0 (length-replicate {A = ℕ} 64 FREE)
         (λ (m : must ≡ true). left-low p (must-left m)) (sym holder ∙ keeps-own (chosenOf ports 1) 0 p k))
 
     back : hasHoldOff p ≡ true → keepsNumber (chosenOf ports 1) 0 p ≡ true
     back e =
         keeps (chosenOf ports 1) 0 p (left-ok p e) (left-elapsed p e)
-        (holder ∙ grant-holds must (p .«state_number») noneHeld 0 (length-replicate {A = ℕ} 64 FREE) (left-low p e) (must-hold e) (none-held (p .«state_number»)))
+        (holder ∙ grant-holds must (p .«state_number») allFree 0 (length-replicate {A = ℕ} 64 FREE) (left-low p e) (must-hold e) (all-free (p .«state_number»)))
 
     keeps-alone : keepsNumber (chosenOf ports 1) 0 p ≡ hasHoldOff p
     keeps-alone = same-test _ _ to back

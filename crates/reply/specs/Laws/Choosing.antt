@@ -60,14 +60,14 @@ module _ (ports : List Port) (n : ℕ) where
   unfolding holders
   length-holders h = length-claims false (claims true ports n h) ∙ length-claims true h
 
-  -- a number that is held stays its holder's
+  -- a number that is kept stays its holder's
   pub holders-kept : (h : List ℕ) (q : ℕ) → holderOf h q ≢ FREE → holderOf (holders ports n h) q ≡ holderOf h q
   unfolding holders claims
   holders-kept h q taken =
       let first : holderOf (claims true ports n h) q ≡ holderOf h q = granted-kept (asks true) number n h q taken in
       granted-kept (asks false) number n (claims true ports n h) q (λ (e : holderOf (claims true ports n h) q ≡ FREE). taken (sym first ∙ e)) ∙ first
 
-  -- who has a number held it before, or has chosen it
+  -- who has a number had it before, or has chosen it
   pub holders-from : (h : List ℕ) (q x : ℕ) → length h ≡ 64 → holderOf (holders ports n h) q ≡ x → (holderOf h q ≡ x) ⊎ Chosen ports n q x
   unfolding holders claims
   holders-from h q x len is =
@@ -101,7 +101,7 @@ module _ (ports : List Port) (n : ℕ) where
           λ (z : holderOf (holders ports n h) (number i) ≡ FREE).
           first (sym (granted-kept (asks false) number n (claims true ports n h) (number i) first) ∙ z)
 
-  -- the first of those that were OK under a number gets it, unless it is held
+  -- the first of those that were OK under a number gets it, unless it is kept
   pub holders-first : (h : List ℕ) (i : ℕ) → length h ≡ 64 → n ≤ 64 → i < n → chooses true (portAt ports i) ≡ true → holderOf h (number i) ≡ FREE
       → ((j : ℕ) → j < i → wasOk (portAt ports j) ≡ true → number j ≢ number i)
       → holderOf (holders ports n h) (number i) ≡ i
@@ -113,7 +113,7 @@ module _ (ports : List Port) (n : ℕ) where
       (λ (z : holderOf (claims true ports n h) (number i) ≡ FREE). let w : i ≡ FREE = sym is ∙ z in omega arith)
       ∙ is
 
-  -- who gets a number hangs on whether it is held, and not on what else is
+  -- who gets a number hangs on whether it is kept, and not on what else is
   pub holders-same : (h g : List ℕ) (q : ℕ) → length h ≡ 64 → length g ≡ 64 → holderOf h q ≡ holderOf g q
       → holderOf (holders ports n h) q ≡ holderOf (holders ports n g) q
   unfolding holders claims

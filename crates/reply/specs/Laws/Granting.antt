@@ -51,7 +51,7 @@ pub grant-holds : (asks : Bool) (q : ℕ) (h : List ℕ) (i : ℕ) → length h 
 unfolding grant
 grant-holds asks q h i len b c free = rw (and-true asks _ c (eq-eqb (holderOf h q) FREE free)) (getD-set-same h q i FREE (omega arith))
 
--- the holder of a number held it before, or has just got it
+-- the holder of a number was so before, or has just got it
 pub grant-from : (asks : Bool) (q : ℕ) (h : List ℕ) (i k x : ℕ) → length h ≡ 64 → (asks ≡ true → q < 64) → holderOf (grant asks q h i) k ≡ x
     → (holderOf h k ≡ x) ⊎ ((i ≡ x) × (asks ≡ true) × (q ≡ k))
 unfolding grant
@@ -108,7 +108,7 @@ module _ (asks : ℕ → Bool) (number : ℕ → ℕ) where
       grant-kept (asks n) (number n) (granted asks number n h) n q (λ (e : holderOf (granted asks number n h) q ≡ FREE). taken (sym rest ∙ e)) ∙ rest
 
 module _ (asks : ℕ → Bool) (number : ℕ → ℕ) (low : (i : ℕ) → asks i ≡ true → number i < 64) where
-  -- the holder of a number held it before, or has asked for it
+  -- the holder of a number was so before, or has asked for it
   pub granted-from : (n : ℕ) (h : List ℕ) (q x : ℕ) → length h ≡ 64 → holderOf (granted asks number n h) q ≡ x
       → (holderOf h q ≡ x) ⊎ Granted asks number n q x
   unfolding granted

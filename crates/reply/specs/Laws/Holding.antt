@@ -1,4 +1,4 @@
--- The rounds: who is held, that a held port has lost its claim, and that they end.
+-- The rounds: who keeps a number, that such a port has lost its claim, and that they end.
 -- The idea: taken numbers only grow from round to round, so a claim once lost comes back by no round; and a round in which some port joins holds at least one port more, and there are n.
 use mathlib.Core.Path.{_≡_, refl, sym, ap, _∙_}
 use mathlib.Core.Logic.{_⊎_, ⊎-elim, _≢_}
@@ -14,13 +14,13 @@ use Rattle.counting.specs.Laws.Tests.{One, none-at, some-none, some-one}
 use Rattle.counting.specs.Words.{count}
 use Rattle.ground.specs.Truth.{and-true, and-left, and-right, cond-by, eq-or-ne, fails, le-or-lt}
 use Rattle.reply.specs.declared.members.Port.{Port}
-use Rattle.reply.specs.Choosing.{FREE, holderOf, holders, noneHeld}
+use Rattle.reply.specs.Choosing.{FREE, holderOf, holders, allFree}
 use Rattle.reply.specs.Laws.Choosing.{choosing, holders-first, holders-kept, holders-same}
 use Rattle.reply.specs.Laws.Claims.{claim-lost, claim-none, claim-other}
 use Rattle.reply.specs.Laws.Granting.{Granted, granted-after, granted-from, granted-kept, length-granted}
 use Rattle.reply.specs.Laws.Members.{left-low, left-ok, ok-rested, was-number, was-ok, was-state}
 use Rattle.reply.specs.Members.{hasHoldOff, isCandidate, okState, portAt}
-use Rattle.reply.specs.Waiting.{hasClaim, heldOf, joinsHeld, moreHeld, mustHold, rounds, someJoin}
+use Rattle.reply.specs.Waiting.{hasClaim, keptNumbers, joinsKept, moreKept, mustHold, rounds, someJoin}
 
 -- what the last report left: OK ports have different numbers,
 abbrev pub Apart : List Port → ℕ → Type 0
@@ -32,26 +32,26 @@ Apart ports n =
 abbrev pub Low : List Port → ℕ → Type 0
 Low ports n = (i : ℕ) → i < n → portAt ports i .state ≡ okState → portAt ports i .«state_number» < 64
 
-pub none-held : (q : ℕ) → holderOf noneHeld q ≡ FREE
-none-held q =
-    ⊎-elim (λ (g : 64 ≤ q). List·getD-eq-default noneHeld FREE {n = q} (rw (length-replicate {A = ℕ} 64 FREE) g))
+pub all-free : (q : ℕ) → holderOf allFree q ≡ FREE
+all-free q =
+    ⊎-elim (λ (g : 64 ≤ q). List·getD-eq-default allFree FREE {n = q} (rw (length-replicate {A = ℕ} 64 FREE) g))
     (λ (b : q < 64). getD-replicate 64 q FREE FREE b)
     (le-or-lt 64 q)
 
 -- port x, with hold-off left, holds the number under which it is OK
-pub record HeldBy (ports : List Port) (n q x : ℕ) : Type 0 where
+pub record KeptBy (ports : List Port) (n q x : ℕ) : Type 0 where
   pub below : x < n
   pub left : hasHoldOff (portAt ports x) ≡ true
   pub same : portAt ports x .«state_number» ≡ q
 
--- a table in which each number that is held is held so
-pub record Held (ports : List Port) (n : ℕ) (held : List ℕ) : Type 0 where
-  pub len : length held ≡ 64
-  pub by : (q x : ℕ) → holderOf held q ≡ x → x ≢ FREE → HeldBy ports n q x
+-- a table in which each number that is kept is kept by such a port
+pub record AllKept (ports : List Port) (n : ℕ) (kept : List ℕ) : Type 0 where
+  pub len : length kept ≡ 64
+  pub by : (q x : ℕ) → holderOf kept q ≡ x → x ≢ FREE → KeptBy ports n q x
 
--- and each port for which one is held has lost its claim
+-- and each port that keeps one has lost its claim
 abbrev pub Lost : List Port → ℕ → List ℕ → Type 0
-Lost ports n held = (q x : ℕ) → holderOf held q ≡ x → x ≢ FREE → hasClaim (holders ports n held) x (portAt ports x) ≡ false
+Lost ports n kept = (q x : ℕ) → holderOf kept q ≡ x → x ≢ FREE → hasClaim (holders ports n kept) x (portAt ports x) ≡ false
 
 module _ (ports : List Port) (n : ℕ) where
   abbrev port : ℕ → Port
@@ -62,7 +62,7 @@ module _ (ports : List Port) (n : ℕ) where
 
   -- the table after one round more
   abbrev next : List ℕ → List ℕ
-  next h = moreHeld (holders ports n h) ports n h
+  next h = moreKept (holders ports n h) ports n h
 
   abbrev must : List ℕ → ℕ → Bool
   must h i = mustHold (holders ports n h) i (port i)
@@ -94,28 +94,28 @@ module _ (ports : List Port) (n : ℕ) where
   unfolding rounds
   rounds-more k h e = rw e
 
-  held-none : Held ports n noneHeld
-  held-none = record { len = length-replicate {A = ℕ} 64 FREE; by = λ q x e d. absurd (d (sym e ∙ none-held q)) }
+  kept-none : AllKept ports n allFree
+  kept-none = record { len = length-replicate {A = ℕ} 64 FREE; by = λ q x e d. absurd (d (sym e ∙ all-free q)) }
 
-  -- the holder of a number after a round held it before, or has joined
+  -- the holder of a number after a round was so before, or has joined
   next-from : (h : List ℕ) (q x : ℕ) → length h ≡ 64 → holderOf (next h) q ≡ x → (holderOf h q ≡ x) ⊎ Granted (must h) own n q x
-  unfolding moreHeld
+  unfolding moreKept
   next-from h q x len e = granted-from (must h) own (must-low h) n h q x len e
 
   next-kept : (h : List ℕ) (q : ℕ) → holderOf h q ≢ FREE → holderOf (next h) q ≡ holderOf h q
-  unfolding moreHeld
+  unfolding moreKept
   next-kept h q taken = granted-kept (must h) own n h q taken
 
   next-after : (h : List ℕ) (i : ℕ) → length h ≡ 64 → n ≤ 64 → i < n → must h i ≡ true → holderOf (next h) (own i) ≢ FREE
-  unfolding moreHeld
+  unfolding moreKept
   next-after h i len small b e = granted-after (must h) own (must-low h) n h i len small b e
 
   next-length : (h : List ℕ) → length (next h) ≡ length h
-  unfolding moreHeld
+  unfolding moreKept
   next-length h = length-granted (must h) own n h
 
-  held-next : (h : List ℕ) → Held ports n h → Held ports n (next h)
-  held-next h o =
+  kept-next : (h : List ℕ) → AllKept ports n h → AllKept ports n (next h)
+  kept-next h o =
       record {
         len = next-length h ∙ o .len;
         by = λ q x e d.
@@ -124,13 +124,13 @@ module _ (ports : List Port) (n : ℕ) where
             (next-from h q x (o .len) e);
       }
 
-  -- 'keeps its number': whoever is held is an OK port under that number that has hold-off left
-  pub held-by : Held ports n (heldOf ports n)
-  unfolding heldOf
-  held-by = rounds-keep (λ h. Held ports n h) held-next n noneHeld held-none
+  -- 'keeps its number': whoever keeps one is an OK port under that number that has hold-off left
+  pub kept-by : AllKept ports n (keptNumbers ports n)
+  unfolding keptNumbers
+  kept-by = rounds-keep (λ h. AllKept ports n h) kept-next n allFree kept-none
 
   -- a candidate that was OK under the same number keeps it
-  pub keeps-own : (h : List ℕ) (i : ℕ) → n ≤ 64 → Apart ports n → Held ports n h → i < n → isCandidate (port i) ≡ true → port i .state ≡ okState
+  pub keeps-own : (h : List ℕ) (i : ℕ) → n ≤ 64 → Apart ports n → AllKept ports n h → i < n → isCandidate (port i) ≡ true → port i .state ≡ okState
       → own i ≡ port i .number → holderOf (holders ports n h) (port i .number) ≡ i
   keeps-own h i small apart o b c s same =
       ⊎-elim
@@ -141,12 +141,12 @@ module _ (ports : List Port) (n : ℕ) where
       omega arith))
       (λ (taken : holderOf h (port i .number) ≢ FREE).
       let x : ℕ = holderOf h (port i .number) in
-      let w : HeldBy ports n (port i .number) x = o .by (port i .number) x refl taken in
+      let w : KeptBy ports n (port i .number) x = o .by (port i .number) x refl taken in
       holders-kept ports n h (port i .number) taken ∙ apart x i (w .below) b (left-ok (port x) (w .left)) s (w .same ∙ sym same))
       (eq-or-ne (holderOf h (port i .number)) FREE)
 
   -- a port that has lost its claim gets it back by no round: taken numbers only grow
-  stays-lost : (h : List ℕ) (i : ℕ) → n ≤ 64 → Apart ports n → Held ports n h → i < n → port i .state ≡ okState
+  stays-lost : (h : List ℕ) (i : ℕ) → n ≤ 64 → Apart ports n → AllKept ports n h → i < n → port i .state ≡ okState
       → hasClaim (holders ports n h) i (port i) ≡ false → hasClaim (holders ports n (next h)) i (port i) ≡ false
   stays-lost h i small apart o b s lost = go (isCandidate (port i)) refl
     where
@@ -155,7 +155,7 @@ module _ (ports : List Port) (n : ℕ) where
       go true c =
           let q : ℕ = port i .number in
           let was = claim-lost (holders ports n h) i (port i) lost c in
-          let more : Held ports n (next h) = held-next h o in
+          let more : AllKept ports n (next h) = kept-next h o in
           ⊎-elim
           (λ (free : holderOf (next h) q ≡ FREE).
           let before : holderOf h q ≡ holderOf (next h) q =
@@ -168,39 +168,39 @@ module _ (ports : List Port) (n : ℕ) where
           let kept : holderOf (holders ports n (next h)) q ≡ holderOf (next h) q = holders-kept ports n (next h) q taken in
           claim-other (holders ports n (next h)) i (port i) (λ (z : holderOf (holders ports n (next h)) q ≡ FREE). taken (sym kept ∙ z))
           (λ (z : holderOf (holders ports n (next h)) q ≡ i).
-          let mine : HeldBy ports n q i = more .by q i (sym kept ∙ z) (λ (f : i ≡ FREE). omega arith) in
+          let mine : KeptBy ports n q i = more .by q i (sym kept ∙ z) (λ (f : i ≡ FREE). omega arith) in
           was .1 (keeps-own h i small apart o b c s (mine .same))))
           (eq-or-ne (holderOf (next h) q) FREE)
 
-  lost-next : n ≤ 64 → Apart ports n → (h : List ℕ) → Held ports n h → Lost ports n h → Lost ports n (next h)
+  lost-next : n ≤ 64 → Apart ports n → (h : List ℕ) → AllKept ports n h → Lost ports n h → Lost ports n (next h)
   lost-next small apart h o lost q x e d =
-      let w : HeldBy ports n q x = held-next h o .by q x e d in
+      let w : KeptBy ports n q x = kept-next h o .by q x e d in
       stays-lost h x small apart o (w .below) (left-ok (port x) (w .left))
       (⊎-elim (λ (was : holderOf h q ≡ x). lost q x was d) (λ (g : Granted (must h) own n q x). must-lost h x (g .asked)) (next-from h q x (o .len) e))
 
-  -- a held port has really lost its claim
-  pub held-lost : n ≤ 64 → Apart ports n → Lost ports n (heldOf ports n)
-  unfolding heldOf
-  held-lost small apart =
-      rounds-keep (λ h. Held ports n h × Lost ports n h) (λ h p. (held-next h (p .0), lost-next small apart h (p .0) (p .1))) n noneHeld
-      (held-none, λ q x e d. absurd (d (sym e ∙ none-held q)))
+  -- a port that keeps its number has really lost its claim
+  pub kept-lost : n ≤ 64 → Apart ports n → Lost ports n (keptNumbers ports n)
+  unfolding keptNumbers
+  kept-lost small apart =
+      rounds-keep (λ h. AllKept ports n h × Lost ports n h) (λ h p. (kept-next h (p .0), lost-next small apart h (p .0) (p .1))) n allFree
+      (kept-none, λ q x e d. absurd (d (sym e ∙ all-free q)))
       .1
 
-  -- how many ports are held
+  -- how many ports keep a number
   abbrev isIn : List ℕ → ℕ → Bool
   isIn h i = eqb (holderOf h (own i)) i
 
   -- a round in which some port joins holds one port more
-  counted : (h : List ℕ) → n ≤ 64 → Held ports n h → someJoin (holders ports n h) h ports n ≡ true → count n (isIn h) < count n (isIn (next h))
+  counted : (h : List ℕ) → n ≤ 64 → AllKept ports n h → someJoin (holders ports n h) h ports n ≡ true → count n (isIn h) < count n (isIn (next h))
   unfolding someJoin
   counted h small o e =
-      let one : One n (λ i. joinsHeld (holders ports n h) h i (port i)) = some-one n (λ i. joinsHeld (holders ports n h) h i (port i)) e in
+      let one : One n (λ i. joinsKept (holders ports n h) h i (port i)) = some-one n (λ i. joinsKept (holders ports n h) h i (port i)) e in
       let i : ℕ = one .at in
       let must-i : must h i ≡ true = and-left (must h i) (eqb (holderOf h (own i)) FREE) (one .holds) in
       let free : holderOf h (own i) ≡ FREE = eqb-true (holderOf h (own i)) FREE (and-right (must h i) (eqb (holderOf h (own i)) FREE) (one .holds)) in
       let x : ℕ = holderOf (next h) (own i) in
       let taken : x ≢ FREE = next-after h i (o .len) small (one .below) must-i in
-      let w : HeldBy ports n (own i) x = held-next h o .by (own i) x refl taken in
+      let w : KeptBy ports n (own i) x = kept-next h o .by (own i) x refl taken in
       count-lt n (isIn h) (isIn (next h)) x (w .below)
       (ne-eqb (holderOf h (own x)) x (λ (z : holderOf h (own x) ≡ x). taken (sym z ∙ ap (λ (q : ℕ). holderOf h q) (w .same) ∙ free)))
       (eq-eqb (holderOf (next h) (own x)) x (ap (λ (q : ℕ). holderOf (next h) q) (w .same)))
@@ -208,14 +208,14 @@ module _ (ports : List Port) (n : ℕ) where
       let is : holderOf h (own k) ≡ k = eqb-true (holderOf h (own k)) k t in
       eq-eqb (holderOf (next h) (own k)) k (next-kept h (own k) (λ (z : holderOf h (own k) ≡ FREE). let f : k ≡ FREE = sym is ∙ z in omega arith) ∙ is))
 
-  -- where all are held none is left to join
+  -- where all keep one none is left to join
   all-in : (h : List ℕ) → n ≤ 64 → n ≤ count n (isIn h) → someJoin (holders ports n h) h ports n ≡ false
   unfolding someJoin
   all-in h small full =
-      some-none n (λ i. joinsHeld (holders ports n h) h i (port i))
+      some-none n (λ i. joinsKept (holders ports n h) h i (port i))
       (λ i b.
-      fails (joinsHeld (holders ports n h) h i (port i))
-      (λ (t : joinsHeld (holders ports n h) h i (port i) ≡ true).
+      fails (joinsKept (holders ports n h) h i (port i))
+      (λ (t : joinsKept (holders ports n h) h i (port i) ≡ true).
       let free : holderOf h (own i) ≡ FREE = eqb-true (holderOf h (own i)) FREE (and-right (must h i) (eqb (holderOf h (own i)) FREE) t) in
       let less : count n (isIn h) < count n (λ k. true) =
       count-lt n (isIn h) (λ k. true) i b (ne-eqb (holderOf h (own i)) i (λ (z : holderOf h (own i) ≡ i). let f : i ≡ FREE = sym z ∙ free in omega arith)) refl
@@ -223,12 +223,12 @@ module _ (ports : List Port) (n : ℕ) where
       let most : count n (λ k. true) ≤ n = count-le n (λ k. true) in
       omega arith))
 
-  end-from : n ≤ 64 → (k : ℕ) (h : List ℕ) → Held ports n h → n ≤ k + count n (isIn h)
+  end-from : n ≤ 64 → (k : ℕ) (h : List ℕ) → AllKept ports n h → n ≤ k + count n (isIn h)
       → someJoin (holders ports n (rounds ports n k h)) (rounds ports n k h) ports n ≡ false
   unfolding rounds
   end-from small zero h o full = all-in h small (omega arith)
   end-from small (suc k) h o full =
-      let rest = end-from small k (next h) (held-next h o) in
+      let rest = end-from small k (next h) (kept-next h o) in
       go (someJoin (holders ports n h) h ports n) refl rest
     where
       go : (b : Bool) → someJoin (holders ports n h) h ports n ≡ b
@@ -238,23 +238,23 @@ module _ (ports : List Port) (n : ℕ) where
       go false e rest = e
 
   -- the rounds end: none joins after as many as there are ports
-  pub none-joins : n ≤ 64 → someJoin (holders ports n (heldOf ports n)) (heldOf ports n) ports n ≡ false
-  unfolding heldOf
-  none-joins small = end-from small n noneHeld held-none (omega arith)
+  pub none-joins : n ≤ 64 → someJoin (holders ports n (keptNumbers ports n)) (keptNumbers ports n) ports n ≡ false
+  unfolding keptNumbers
+  none-joins small = end-from small n allFree kept-none (omega arith)
 
-  -- so a port that has lost its claim and has hold-off left is held
-  pub is-held : n ≤ 64 → Apart ports n → (i : ℕ) → i < n → hasHoldOff (port i) ≡ true → hasClaim (holders ports n (heldOf ports n)) i (port i) ≡ false
-      → holderOf (heldOf ports n) (own i) ≡ i
+  -- so a port that has lost its claim and has hold-off left keeps its number
+  pub is-kept : n ≤ 64 → Apart ports n → (i : ℕ) → i < n → hasHoldOff (port i) ≡ true → hasClaim (holders ports n (keptNumbers ports n)) i (port i) ≡ false
+      → holderOf (keptNumbers ports n) (own i) ≡ i
   unfolding someJoin
-  is-held small apart i b left lost =
-      let h : List ℕ = heldOf ports n in
-      let not-joins : joinsHeld (holders ports n h) h i (port i) ≡ false = none-at n (λ k. joinsHeld (holders ports n h) h k (port k)) (none-joins small) i b in
+  is-kept small apart i b left lost =
+      let h : List ℕ = keptNumbers ports n in
+      let not-joins : joinsKept (holders ports n h) h i (port i) ≡ false = none-at n (λ k. joinsKept (holders ports n h) h k (port k)) (none-joins small) i b in
       let must-i : must h i ≡ true = and-true (hasHoldOff (port i)) _ left (rw lost) in
       ⊎-elim
       (λ (free : holderOf h (own i) ≡ FREE).
       absurd (true≢false (sym (and-true (must h i) _ must-i (eq-eqb (holderOf h (own i)) FREE free)) ∙ not-joins)))
       (λ (taken : holderOf h (own i) ≢ FREE).
       let x : ℕ = holderOf h (own i) in
-      let w : HeldBy ports n (own i) x = held-by .by (own i) x refl taken in
+      let w : KeptBy ports n (own i) x = kept-by .by (own i) x refl taken in
       apart x i (w .below) b (left-ok (port x) (w .left)) (left-ok (port i) left) (w .same))
       (eq-or-ne (holderOf h (own i)) FREE)

@@ -9,7 +9,7 @@ use Rattle.reply.specs.declared.waiting.Standing.{Standing}
 use Rattle.reply.specs.Laws.Holding.{Apart, Low}
 use Rattle.reply.specs.Members.{failState, isIdle, okState, portAt}
 use Rattle.reply.specs.Theorems.States.{Told, standingAt, told-apart, told-below}
-use Rattle.reply.specs.Theorems.Waiting.{Claim, hold-held, hold-over, restore-over, restore-waits}
+use Rattle.reply.specs.Theorems.Waiting.{Claim, hold-kept, hold-over, restore-over, restore-waits}
 use Rattle.reply.specs.Waiting.{standing}
 
 -- The ports as each of a row of reports sees them: at each what the one before has left.
@@ -46,7 +46,7 @@ module _ (seen : ℕ → List Port) (n : ℕ) (all : Reports seen n) where
           → standingAt (seen k) n i ≡ standing okState q (k + 1)
       left-at k m s w r =
           let t = time k (omega arith) in
-          hold-held (seen k) n (all .small) (apart-at k) i b (lost k (omega arith) .0) (low-at k) s (lost k (omega arith) .1) (omega arith)
+          hold-kept (seen k) n (all .small) (apart-at k) i b (lost k (omega arith) .0) (low-at k) s (lost k (omega arith) .1) (omega arith)
           ∙ rw (w, r)
 
       before : (k : ℕ) → k ≤ h → (portAt (seen k) i .state ≡ okState) × (portAt (seen k) i .«state_number» ≡ q) × (portAt (seen k) i .elapsed ≡ k)

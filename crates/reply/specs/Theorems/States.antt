@@ -13,10 +13,10 @@ use Rattle.reply.specs.declared.waiting.Standing.{Standing}
 use Rattle.reply.specs.Choosing.{FREE, holderOf}
 use Rattle.reply.specs.Laws.Choosing.{Chosen, holders-after, holders-from, length-holders}
 use Rattle.reply.specs.Laws.Claims.{claim-alone, claim-candidate, claim-own, keeps, keeps-own, left-claim, left-idle, left-lost, with-rested, with-restoring, without-failed, without-kept}
-use Rattle.reply.specs.Laws.Holding.{Apart, HeldBy, Low, held-by, held-lost}
+use Rattle.reply.specs.Laws.Holding.{Apart, KeptBy, Low, kept-by, kept-lost}
 use Rattle.reply.specs.Laws.Members.{candidate-not-idle, left-elapsed, left-not-idle, left-ok}
 use Rattle.reply.specs.Members.{failState, idleState, isIdle, isRestoring, okState, portAt}
-use Rattle.reply.specs.Waiting.{chosenOf, hasClaim, heldOf, keepsNumber, noStanding, standing, standingBy, standingsOf, withClaim, withoutClaim}
+use Rattle.reply.specs.Waiting.{chosenOf, hasClaim, keptNumbers, keepsNumber, noStanding, standing, standingBy, standingsOf, withClaim, withoutClaim}
 
 -- what a report leaves of port i
 abbrev pub standingAt : List Port → ℕ → ℕ → Standing
@@ -30,7 +30,7 @@ standing-is ports n i small b =
 
 pub length-chosen : (ports : List Port) (n : ℕ) → length (chosenOf ports n) ≡ 64
 unfolding chosenOf
-length-chosen ports n = length-holders ports n (heldOf ports n) ∙ held-by ports n .len
+length-chosen ports n = length-holders ports n (keptNumbers ports n) ∙ kept-by ports n .len
 
 -- a port that is OK has the number under which it is
 abbrev Has : List ℕ → ℕ → Standing → Type 0
@@ -49,7 +49,7 @@ module _ (ports : List Port) (n i : ℕ) (small : n ≤ 64) (b : i < n) where
   claim-has c r =
       ⊎-elim
       (λ (f : holderOf C (p .number) ≡ FREE).
-      absurd (holders-after ports n (heldOf ports n) i (held-by ports n .len) small b (claim-candidate C i p c) r f))
+      absurd (holders-after ports n (keptNumbers ports n) i (kept-by ports n .len) small b (claim-candidate C i p c) r f))
       (λ (o : holderOf C (p .number) ≡ i). o)
       (claim-alone C i p c)
 
@@ -98,15 +98,15 @@ pub record OkUnder (ports : List Port) (n q x : ℕ) : Type 0 where
   pub ok : standingAt ports n x .state ≡ okState
   pub same : standingAt ports n x .number ≡ q
 
--- whoever has a number after the rounds is OK under it: one that is held, with its old number, one that has chosen it, with its new one
+-- whoever has a number after the rounds is OK under it: one that keeps its old number, one that has chosen it, with its new one
 pub ok-after : (ports : List Port) (n q x : ℕ) → n ≤ 64 → Apart ports n → holderOf (chosenOf ports n) q ≡ x → x ≢ FREE → OkUnder ports n q x
 unfolding chosenOf
 ok-after ports n q x small apart is some =
-    ⊎-elim (λ (h : holderOf (heldOf ports n) q ≡ x). kept (held-by ports n .by q x h some) (held-lost ports n small apart q x h some))
+    ⊎-elim (λ (h : holderOf (keptNumbers ports n) q ≡ x). kept (kept-by ports n .by q x h some) (kept-lost ports n small apart q x h some))
     (λ (c : Chosen ports n q x). new c)
-    (holders-from ports n (heldOf ports n) q x (held-by ports n .len) is)
+    (holders-from ports n (keptNumbers ports n) q x (kept-by ports n .len) is)
   where
-    kept : HeldBy ports n q x → hasClaim (chosenOf ports n) x (portAt ports x) ≡ false → OkUnder ports n q x
+    kept : KeptBy ports n q x → hasClaim (chosenOf ports n) x (portAt ports x) ≡ false → OkUnder ports n q x
     kept w lost =
         let e : standingAt ports n x ≡ standing okState (portAt ports x .«state_number») (portAt ports x .elapsed + 1) =
         standing-is ports n x small (w .below)

@@ -1,5 +1,5 @@
 -- 02, 2026-03, on the definitions: hold-off and restoring to the report, against others, never both, and IDLE at once.
--- The idea: the definitions ask of a claim by the table of who has which number as the rounds leave it, and that is the same as asking it of the states after the report (`claim-is`, `is-claim`). With it most sentences are one case of the definitions; `hold-held` stands on `is-held` of Laws/Holding, `against-others` on `ok-apart`.
+-- The idea: the definitions ask of a claim by the table of who has which number as the rounds leave it, and that is the same as asking it of the states after the report (`claim-is`, `is-claim`). With it most sentences are one case of the definitions; `hold-kept` stands on `is-kept` of Laws/Holding, `against-others` on `ok-apart`.
 use mathlib.Core.Path.{_≡_, refl, sym, ap, _∙_}
 use mathlib.Core.Logic.{_⊎_, inl, inr, ⊎-elim, _≢_}
 use mathlib.Core.Bool.{Bool, true, false, true≢false}
@@ -12,11 +12,11 @@ use Rattle.reply.specs.declared.waiting.Standing.{Standing}
 use Rattle.reply.specs.Choosing.{FREE, holderOf}
 use Rattle.reply.specs.Laws.Choosing.{holders-kept}
 use Rattle.reply.specs.Laws.Claims.{claim-alone, claim-candidate, claim-free, claim-lost, claim-own, keeps, keeps-elapsed, keeps-none, keeps-not, keeps-state, left-claim, left-idle, left-lost, with-rested, with-restoring, without-failed, without-kept}
-use Rattle.reply.specs.Laws.Holding.{Apart, Low, is-held, keeps-own, held-by}
+use Rattle.reply.specs.Laws.Holding.{Apart, Low, is-kept, keeps-own, kept-by}
 use Rattle.reply.specs.Laws.Members.{candidate-not-idle, has-left, ok-rested, rested, restoring, restoring-fail, restoring-left, was-number, was-state}
 use Rattle.reply.specs.Members.{failState, idleState, isCandidate, isIdle, isRestoring, okState, portAt, wasOk}
 use Rattle.reply.specs.Theorems.States.{OkUnder, ok-after, ok-apart, ok-holds, standing-is, standingAt}
-use Rattle.reply.specs.Waiting.{chosenOf, hasClaim, heldOf, keepsNumber, standing, standingBy, withClaim, withoutClaim}
+use Rattle.reply.specs.Waiting.{chosenOf, hasClaim, keptNumbers, keepsNumber, standing, standingBy, withClaim, withoutClaim}
 
 -- the claim of port i at a report: it is a candidate, and no other port is OK under its number afterwards
 pub record Claim (ports : List Port) (n i : ℕ) : Type 0 where
@@ -100,13 +100,13 @@ module _ (ports : List Port) (n : ℕ) (small : n ≤ 64) (apart : Apart ports n
     hold-claim s c = claimed c ∙ with-rested p (ok-rested p s)
 
     -- without it, as long as hold-off is left, it is OK under its old number, and the counter is one more;
-    pub hold-held : Low ports n → p .state ≡ okState → (Claim ports n i → ⊥) → p .elapsed < p .«hold_off»
+    pub hold-kept : Low ports n → p .state ≡ okState → (Claim ports n i → ⊥) → p .elapsed < p .«hold_off»
         → standingAt ports n i ≡ standing okState (p .«state_number») (p .elapsed + 1)
     unfolding chosenOf
-    hold-held low s d r =
-        let h : holderOf (heldOf ports n) (p .«state_number») ≡ i = is-held ports n small apart i b (has-left p s r (low i b s) live) (no-claim d) in
+    hold-kept low s d r =
+        let h : holderOf (keptNumbers ports n) (p .«state_number») ≡ i = is-kept ports n small apart i b (has-left p s r (low i b s) live) (no-claim d) in
         let kept : holderOf C (p .«state_number») ≡ i =
-        holders-kept ports n (heldOf ports n) (p .«state_number») (λ (z : holderOf (heldOf ports n) (p .«state_number») ≡ FREE). let w : i ≡ FREE = sym h ∙ z in omega arith)
+        holders-kept ports n (keptNumbers ports n) (p .«state_number») (λ (z : holderOf (keptNumbers ports n) (p .«state_number») ≡ FREE). let w : i ≡ FREE = sym h ∙ z in omega arith)
         ∙ h in
         unclaimed d ∙ without-kept C i p (keeps C i p s r kept)
 
@@ -125,7 +125,7 @@ module _ (ports : List Port) (n : ℕ) (small : n ≤ 64) (apart : Apart ports n
             ⊎-elim (λ (c : Claim ports n i). let w : okState ≡ failState = sym (ap (λ (t : Standing). t .state) (hold-claim s c)) ∙ f in absurd (omega arith))
             (λ (d : Claim ports n i → ⊥).
             ⊎-elim (λ (o : p .«hold_off» ≤ p .elapsed). (d, o))
-            (λ (r : p .elapsed < p .«hold_off»). let w : okState ≡ failState = sym (ap (λ (t : Standing). t .state) (hold-held low s d r)) ∙ f in absurd (omega arith))
+            (λ (r : p .elapsed < p .«hold_off»). let w : okState ≡ failState = sym (ap (λ (t : Standing). t .state) (hold-kept low s d r)) ∙ f in absurd (omega arith))
             (le-or-lt (p .«hold_off») (p .elapsed)))
             claim-or-not
 
@@ -172,7 +172,7 @@ module _ (ports : List Port) (n : ℕ) (small : n ≤ 64) (apart : Apart ports n
   was-ok-stays c w =
       standing-is ports n i small b
       ∙ left-claim C i p (candidate-not-idle p c)
-      (claim-own C i p c (keeps-own ports n (heldOf ports n) i small apart (held-by ports n) b c (was-state p w) (was-number p w)))
+      (claim-own C i p c (keeps-own ports n (keptNumbers ports n) i small apart (kept-by ports n) b c (was-state p w) (was-number p w)))
       ∙ with-rested p (ok-rested p (was-state p w))
 
   -- 'One whose number is still free becomes OK; all else are FAIL': a candidate is FAIL only where another port is OK with its number, or where it

@@ -12,14 +12,14 @@ use Rattle.counting.specs.Laws.Tests.{some-none}
 use Rattle.ground.specs.Truth.{and-left, and-right, and-true, fails}
 use Rattle.reply.specs.declared.members.Port.{Port}
 use Rattle.reply.specs.declared.waiting.Standing.{Standing}
-use Rattle.reply.specs.Choosing.{FREE, chooses, claims, holderOf, holders, noneHeld}
+use Rattle.reply.specs.Choosing.{FREE, chooses, claims, holderOf, holders, allFree}
 use Rattle.reply.specs.Laws.Claims.{claim-candidate, claim-lost, keeps-not, left-claim, left-idle, left-lost, with-rested, without-failed}
 use Rattle.reply.specs.Laws.Granting.{granted-ext}
 use Rattle.reply.specs.Laws.Holding.{rounds-still}
 use Rattle.reply.specs.Laws.Members.{left-elapsed, rested}
 use Rattle.reply.specs.Members.{failState, hasHoldOff, idleState, isCandidate, isIdle, isRestoring, okState, portAt, wasOk}
 use Rattle.reply.specs.Theorems.States.{claim-has, standing-is, standingAt}
-use Rattle.reply.specs.Waiting.{chosenOf, hasClaim, heldOf, joinsHeld, mustHold, someJoin, standingBy}
+use Rattle.reply.specs.Waiting.{chosenOf, hasClaim, keptNumbers, joinsKept, mustHold, someJoin, standingBy}
 use Rattle.reply.specs.Zero.{plainClaims, plainHolders, stateBy, statesOf}
 
 -- no port has a time
@@ -36,23 +36,23 @@ unfolding stateBy
 same-state h i p t e k = rw (k, e)
 
 module _ (ports : List Port) (n : ℕ) (small : n ≤ 64) (none : NoTimes ports n) where
-  none-must : (chosen held : List ℕ) (i : ℕ) → i < n → joinsHeld chosen held i (portAt ports i) ≡ false
-  none-must chosen held i b =
-      fails (joinsHeld chosen held i (portAt ports i))
-      (λ (t : joinsHeld chosen held i (portAt ports i) ≡ true).
+  none-must : (chosen kept : List ℕ) (i : ℕ) → i < n → joinsKept chosen kept i (portAt ports i) ≡ false
+  none-must chosen kept i b =
+      fails (joinsKept chosen kept i (portAt ports i))
+      (λ (t : joinsKept chosen kept i (portAt ports i) ≡ true).
       let p : Port = portAt ports i in
       let left : hasHoldOff p ≡ true =
-      and-left (hasHoldOff p) (not (hasClaim chosen i p)) (and-left (mustHold chosen i p) (eqb (holderOf held (p .«state_number»)) FREE) t) in
+      and-left (hasHoldOff p) (not (hasClaim chosen i p)) (and-left (mustHold chosen i p) (eqb (holderOf kept (p .«state_number»)) FREE) t) in
       let r = left-elapsed p left in
       let z = none i b .0 in
       omega arith)
 
-  -- nobody is held
-  none-held : heldOf ports n ≡ noneHeld
-  unfolding heldOf someJoin
-  none-held =
-      rounds-still ports n n noneHeld
-      (some-none n (λ i. joinsHeld (holders ports n noneHeld) noneHeld i (portAt ports i)) (none-must (holders ports n noneHeld) noneHeld))
+  -- nobody keeps a number
+  all-free : keptNumbers ports n ≡ allFree
+  unfolding keptNumbers someJoin
+  all-free =
+      rounds-still ports n n allFree
+      (some-none n (λ i. joinsKept (holders ports n allFree) allFree i (portAt ports i)) (none-must (holders ports n allFree) allFree))
 
   none-restores : (i : ℕ) → i < n → isRestoring (portAt ports i) ≡ false
   none-restores i b = rested (portAt ports i) (let z = none i b .1 in omega arith)
@@ -68,9 +68,9 @@ module _ (ports : List Port) (n : ℕ) (small : n ≤ 64) (none : NoTimes ports 
   same-choice : chosenOf ports n ≡ plainHolders ports n
   unfolding chosenOf holders plainHolders
   same-choice =
-      ap (λ (h : List ℕ). claims false ports n (claims true ports n h)) none-held
-      ∙ same-claims false (claims true ports n noneHeld)
-      ∙ ap (λ (h : List ℕ). plainClaims false ports n h) (same-claims true noneHeld)
+      ap (λ (h : List ℕ). claims false ports n (claims true ports n h)) all-free
+      ∙ same-claims false (claims true ports n allFree)
+      ∙ ap (λ (h : List ℕ). plainClaims false ports n h) (same-claims true allFree)
 
   abbrev C : List ℕ
   C = chosenOf ports n

@@ -9,10 +9,10 @@ use Rattle.reply.proofs.telling.ok_holds.Statement.{statement}
 use Rattle.reply.proofs.telling.ok_holds.Tie as tie
 
 abbrev Inv-loop : tie.InvT-loop
-Inv-loop n number ports held₀ i₀ held i = (length ports ≡ 64) × (i ≤ n) × (held ≡ okHolds ports i number)
+Inv-loop n number ports found₀ i₀ found i = (length ports ≡ 64) × (i ≤ n) × (found ≡ okHolds ports i number)
 
 abbrev μ-loop : tie.MeasureT-loop
-μ-loop n number ports held₀ i₀ held i = n - i
+μ-loop n number ports found₀ i₀ found i = n - i
 
 loop-holds : tie.Need-loop-holds Inv-loop μ-loop
 unfolding okHolds

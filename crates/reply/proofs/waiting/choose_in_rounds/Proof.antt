@@ -4,16 +4,16 @@ use native.Mathlib.Omega.{arith}
 use borrow.Author.Needs.{needs}
 use borrow.Author.Tests.{not-true, not-false}
 use Rattle.reply.specs.Choosing.{holders}
-use Rattle.reply.specs.Waiting.{heldOf, rounds}
+use Rattle.reply.specs.Waiting.{keptNumbers, rounds}
 use Rattle.reply.proofs.Holding.{rounds-begin, rounds-end, rounds-none, rounds-on, rounds-over}
 use Rattle.reply.proofs.waiting.choose_in_rounds.Statement.{statement}
 use Rattle.reply.proofs.waiting.choose_in_rounds.Tie as tie
 
 abbrev Inv-loop : tie.InvT-loop
-Inv-loop ports n held₀ chosen₀ k₀ held chosen k = (k ≤ n) × (chosen ≡ holders ports n held) × (heldOf ports n ≡ rounds ports n (n - k) held)
+Inv-loop ports n kept₀ chosen₀ k₀ kept chosen k = (k ≤ n) × (chosen ≡ holders ports n kept) × (keptNumbers ports n ≡ rounds ports n (n - k) kept)
 
 abbrev μ-loop : tie.MeasureT-loop
-μ-loop ports n held₀ chosen₀ k₀ held chosen k = n - k
+μ-loop ports n kept₀ chosen₀ k₀ kept chosen k = n - k
 
 choose-requires : tie.Need-choose-requires Inv-loop μ-loop
 choose-requires c κs = search needs
@@ -44,20 +44,20 @@ loop-again c =
     let l = c .before .before .before .before .before .loop in
     let e : a .n - l .k ≡ suc (a .n - (l .k + 1)) = omega arith in
     let j = sym (c .before .before .before .some-join .ensures) ∙ not-false _ (c .before .before .if1 .left) in
-    (omega arith, c .choose2 .ensures, rounds-on (a .ports) (a .n) (a .n - l .k) (a .n - (l .k + 1)) (l .held) (l .chosen) _ (l .inv .1) (l .inv .2) e j (c .before .hold-more .ensures))
+    (omega arith, c .choose2 .ensures, rounds-on (a .ports) (a .n) (a .n - l .k) (a .n - (l .k + 1)) (l .kept) (l .chosen) _ (l .inv .1) (l .inv .2) e j (c .before .hold-more .ensures))
 
 returns : tie.Need-returns Inv-loop μ-loop
 returns c =
     let a = c .before .before .before .args in
     let l = c .before .loop in
     let e : a .n - l .k ≡ 0 = omega arith in
-    rounds-over (a .ports) (a .n) (a .n - l .k) (l .held) (l .chosen) (l .inv .1) (l .inv .2) (rounds-none (a .ports) (a .n) (a .n - l .k) (l .held) e)
+    rounds-over (a .ports) (a .n) (a .n - l .k) (l .kept) (l .chosen) (l .inv .1) (l .inv .2) (rounds-none (a .ports) (a .n) (a .n - l .k) (l .kept) e)
 
 returns-2 : tie.Need-returns-2 Inv-loop μ-loop
 returns-2 c =
     let a = c .before .before .before .before .before .args in
     let l = c .before .before .before .loop in
-    rounds-end (a .ports) (a .n) (a .n - l .k) (l .held) (l .chosen) (l .inv .1) (l .inv .2) (sym (c .before .some-join .ensures) ∙ not-true _ (c .if1 .taken))
+    rounds-end (a .ports) (a .n) (a .n - l .k) (l .kept) (l .chosen) (l .inv .1) (l .inv .2) (sym (c .before .some-join .ensures) ∙ not-true _ (c .if1 .taken))
 
 pub choose-in-rounds-spec : {M : Type 1} → statement M
 choose-in-rounds-spec =

@@ -5,18 +5,18 @@ use native.Mathlib.Omega.{arith}
 use lib.ListN.{length}
 use borrow.Author.Needs.{needs}
 use Rattle.reply.specs.Choosing.{granted}
-use Rattle.reply.specs.Waiting.{moreHeld}
+use Rattle.reply.specs.Waiting.{moreKept}
 use Rattle.reply.proofs.waiting.hold_more.Statement.{statement}
 use Rattle.reply.proofs.waiting.hold_more.Tie as tie
 
 abbrev Inv-loop : tie.InvT-loop
-Inv-loop chosen n ports held₀ i₀ held i = (length ports ≡ 64) × (i ≤ n) × (held ≡ moreHeld chosen ports i held₀)
+Inv-loop chosen n ports kept₀ i₀ kept i = (length ports ≡ 64) × (i ≤ n) × (kept ≡ moreKept chosen ports i kept₀)
 
 abbrev μ-loop : tie.MeasureT-loop
-μ-loop chosen n ports held₀ i₀ held i = n - i
+μ-loop chosen n ports kept₀ i₀ kept i = n - i
 
 loop-holds : tie.Need-loop-holds Inv-loop μ-loop
-unfolding moreHeld granted
+unfolding moreKept granted
 loop-holds c = (omega arith, omega arith, refl)
 
 mul-port : tie.Need-mul-port Inv-loop μ-loop
@@ -38,7 +38,7 @@ loop-less : tie.Need-loop-less Inv-loop μ-loop
 loop-less c = search needs
 
 loop-again : tie.Need-loop-again Inv-loop μ-loop
-unfolding moreHeld granted
+unfolding moreKept granted
 loop-again c = (c .before .before .before .loop .inv .0, omega arith, c .hold-one .ensures ∙ rw (c .before .before .before .loop .inv .2, add-one))
 
 returns : tie.Need-returns Inv-loop μ-loop

@@ -9,10 +9,10 @@ use Rattle.reply.proofs.waiting.some_join.Statement.{statement}
 use Rattle.reply.proofs.waiting.some_join.Tie as tie
 
 abbrev Inv-loop : tie.InvT-loop
-Inv-loop chosen held n ports joining₀ i₀ joining i = (length ports ≡ 64) × (i ≤ n) × (joining ≡ someJoin chosen held ports i)
+Inv-loop chosen kept n ports joining₀ i₀ joining i = (length ports ≡ 64) × (i ≤ n) × (joining ≡ someJoin chosen kept ports i)
 
 abbrev μ-loop : tie.MeasureT-loop
-μ-loop chosen held n ports joining₀ i₀ joining i = n - i
+μ-loop chosen kept n ports joining₀ i₀ joining i = n - i
 
 loop-holds : tie.Need-loop-holds Inv-loop μ-loop
 unfolding someJoin
@@ -24,11 +24,11 @@ mul-port c = search needs
 array-copy-out-port : tie.Need-array-copy-out-port Inv-loop μ-loop
 array-copy-out-port c = search needs
 
-cast-joins-held : tie.Need-cast-joins-held Inv-loop μ-loop
-cast-joins-held c = search needs
+cast-joins-kept : tie.Need-cast-joins-kept Inv-loop μ-loop
+cast-joins-kept c = search needs
 
-joins-held-requires : tie.Need-joins-held-requires Inv-loop μ-loop
-joins-held-requires c κs = search needs
+joins-kept-requires : tie.Need-joins-kept-requires Inv-loop μ-loop
+joins-kept-requires c κs = search needs
 
 add-i : tie.Need-add-i Inv-loop μ-loop
 add-i c = search needs
@@ -38,7 +38,7 @@ loop-less c = search needs
 
 loop-again : tie.Need-loop-again Inv-loop μ-loop
 unfolding someJoin
-loop-again c = (c .before .before .before .loop .inv .0, omega arith, rw (c .before .before .before .loop .inv .2, c .joins-held .ensures, add-one))
+loop-again c = (c .before .before .before .loop .inv .0, omega arith, rw (c .before .before .before .loop .inv .2, c .joins-kept .ensures, add-one))
 
 returns : tie.Need-returns Inv-loop μ-loop
 returns c = let e : c .before .loop .i ≡ c .before .before .args .n = omega arith in rw e at (c .before .loop .inv .2)
@@ -52,8 +52,8 @@ some-join-spec =
     loop-holds
     mul-port
     array-copy-out-port
-    cast-joins-held
-    joins-held-requires
+    cast-joins-kept
+    joins-kept-requires
     add-i
     loop-less
     loop-again

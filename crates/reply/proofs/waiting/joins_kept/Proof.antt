@@ -1,6 +1,6 @@
 use borrow.Author.Needs.{needs}
-use Rattle.reply.proofs.waiting.joins_held.Statement.{statement}
-use Rattle.reply.proofs.waiting.joins_held.Tie as tie
+use Rattle.reply.proofs.waiting.joins_kept.Statement.{statement}
+use Rattle.reply.proofs.waiting.joins_kept.Tie as tie
 
 holder-of-requires : tie.Need-holder-of-requires
 holder-of-requires c κs = search needs
@@ -11,5 +11,5 @@ must-hold-requires c κs = search needs
 returns : tie.Need-returns
 returns c = rw (c .must-hold .ensures, c .before .holder-of .ensures)
 
-pub joins-held-spec : {M : Type 1} → statement M
-joins-held-spec = tie.close (tie.spec holder-of-requires must-hold-requires returns)
+pub joins-kept-spec : {M : Type 1} → statement M
+joins-kept-spec = tie.close (tie.spec holder-of-requires must-hold-requires returns)
