@@ -6,6 +6,7 @@ use Prim.Native.Nat.{ℕ}
 use Prim.Native.String.{String}
 use native.Mathlib.Omega.{arith}
 use lib.Dec.{eqb}
+use borrow.Author.Tests.{ne-eqb}
 use Rattle.ground.specs.Truth.{cond-by}
 
 -- a number of 01, and the condition under which it is given or not given
@@ -112,3 +113,22 @@ pub behind : (m : ℕ) (b : Bool) (rs : List Refusal) (n : ℕ) (new old : List 
     → Copes (stateless (Unless m b ∷ rs) (cond b n m) (old ∷ []) (cond b new old ∷ []))
 behind m true rs n new old c = record { answers = c .answers; untouched = c .untouched; as-given = c .as-given; emptied = c .emptied }
 behind m false rs n new old c = record { answers = refl; untouched = λ d. refl; as-given = λ k. refl; emptied = λ f. refl }
+
+-- the same of a call with a state
+pub tested : {S : Type 0} (m : ℕ) (b : Bool) (rs : List Refusal) (n : ℕ) (new old : S) → Copes (stateful rs n [] [] old new old)
+    → Copes (stateful (Unless m b ∷ rs) (cond b n m) [] [] old (cond b new old) old)
+tested m true rs n new old c = record { answers = c .answers; untouched = c .untouched; as-given = c .as-given; emptied = c .emptied }
+tested m false rs n new old c = record { answers = refl; untouched = λ d. refl; as-given = λ k. refl; emptied = λ f. refl }
+
+-- a state that is put anew under 0 alone
+pub put-anew : (rs : List Refusal) (n : ℕ) (new old : List ℕ) → n ≡ first rs → Copes (stateful rs n [] [] old (cond (eqb n 0) new old) old)
+put-anew rs n new old e =
+    record { answers = e; untouched = λ d. refl; as-given = λ k. stays (λ z. false≢true (rw (sym e ∙ z) at k)); emptied = λ f. stays (λ z. omega arith) }
+  where
+    stays : (n ≡ 0 → ⊥) → cond (eqb n 0) new old ≡ old
+    stays d = rw (ne-eqb n 0 d)
+
+-- a test that both ways go the same
+pub either : {A : Type 0} (b : Bool) (x : A) → cond b x x ≡ x
+either true x = refl
+either false x = refl

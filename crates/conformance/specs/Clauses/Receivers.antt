@@ -139,10 +139,11 @@ shows :
     × (portsAnswer opened 3 ≡ 9)
     × (portsAnswer (take 10 opened) 2 ≡ 9)
     × (portsOut opened (replicate 2 (replicate 8 9)) ≡ replicate 2 (0 ∷ 255 ∷ 0 ∷ 0 ∷ 0 ∷ 0 ∷ 255 ∷ 0 ∷ []))
+    × (portsOut (putMember opened 1 (member 2 3)) (replicate 2 (replicate 8 9)) ≡ (0 ∷ 255 ∷ 0 ∷ 0 ∷ 0 ∷ 0 ∷ 255 ∷ 0 ∷ []) ∷ (2 ∷ 7 ∷ 0 ∷ 0 ∷ 0 ∷ 0 ∷ 2 ∷ 1 ∷ []) ∷ [])
     × (portsOut opened (replicate 3 (replicate 8 9)) ≡ replicate 3 (replicate 8 9))
     × (portsOut (take 10 opened) (replicate 2 (replicate 8 9)) ≡ replicate 2 (replicate 8 9))
 unfolding frames freshPort freshPorts groupAt groupOf groupRow idleNumber inStep inStepAt memberAt memberOf memberRow portIn portShown portsAnswer portsIn portsOut putGroup putMarks putMember putPackets putRow putStep readable recordOf rowIn rowsFit shownFit sized sizedFits sizedRows startAsRows startFits startRight stepAt stepOf stepRow tags timesWithin
-shows = (refl, refl, refl, refl, refl, refl, refl, refl, refl, refl, refl, refl, refl, refl, refl, refl, refl)
+shows = (refl, refl, refl, refl, refl, refl, refl, refl, refl, refl, refl, refl, refl, refl, refl, refl, refl, refl)
 
 -- RS-Ack has turned
 abbrev turned : Group
@@ -160,7 +161,11 @@ turned =
       «rs_ack» = 1;
     }
 
--- with no port OK, MST is FF and RS-Ack 0; of a fixed group both are 0
+-- port 1 is OK under 7
+abbrev seventh : List (List ℕ)
+seventh = putMember (startRows 0 2 3 20 160 (rows 11)) 1 (member 2 0)
+
+-- with no port OK, MST is FF and RS-Ack 0; of a fixed group both are 0; number 7 is the last bit of MST in epochs 0, 32, 64 and so on
 replies :
     (replyOf (startRows 0 2 3 20 160 (rows 11)) 0 ≡ 255 ∷ 0 ∷ [])
     × (replyOf opened 0 ≡ 0 ∷ 0 ∷ [])
@@ -174,5 +179,8 @@ replies :
     × (replyAnswer opened 1 ≡ 9)
     × (replyAnswer (take 10 opened) 2 ≡ 9)
     × (replyOf (putGroup (startRows 0 2 3 20 160 (rows 11)) turned) 0 ≡ 255 ∷ 1 ∷ [])
+    × (replyOf seventh 32 ≡ 0xFE ∷ 0 ∷ [])
+    × (replyOf seventh 33 ≡ 0xFF ∷ 0 ∷ [])
+    × (replyOut seventh 64 (9 ∷ 9 ∷ []) ≡ 0xFE ∷ 0 ∷ [])
 unfolding frames freshPort freshPorts groupAt groupOf groupRow memberAt memberOf memberRow mstFrom mstOf okHolds portsIn putGroup putMarks putMember putPackets putRow putStep replyAnswer replyFit replyOf replyOut replyPort replyPorts rowIn rowsFit sized sizedFits sizedRows startAsRows startFits startRight tags timesWithin
-replies = (refl, refl, refl, refl, refl, refl, refl, refl, refl, refl, refl, refl)
+replies = (refl, refl, refl, refl, refl, refl, refl, refl, refl, refl, refl, refl, refl, refl, refl)

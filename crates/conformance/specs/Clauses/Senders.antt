@@ -1,12 +1,18 @@
 -- Waits, RS-Ack and numbers of the sender's table (01, 'The sender's table'), clause by clause: word and number of each slot, then the wait.
 use mathlib.Core.Path.{_≡_, refl}
+use mathlib.Core.Bool.{true, false}
 use mathlib.Core.List.{List, [], _∷_, _++_}
 use Prim.Native.Nat.{ℕ}
+use lib.ListN.{replicate}
 use Rattle.packet.specs.Kinds.{idleNumber, mstFails, mstFirst, mstNumbers}
 use Rattle.sender.specs.Board.{boardOf, highest, noRow, rowOf, rowsOf}
 use Rattle.sender.specs.Calls.{Call}
 use Rattle.sender.specs.Calls.Call.{AddSlot, Lapse, RemoveSlot, Report}
 use Rattle.sender.specs.Commands.{addOf, addedTo, fallen, fallenIn, freshOf, idleSlot, lapseOf, removeOf, removedFrom, startOf}
+use Rattle.sender.specs.Epochs.{beginOf, freshSender, ranksOf, senderRun, startEpochOf, startedEpoch, startedSender}
+use Rattle.sender.specs.Epochs.SenderCall.{OnTable, StartEpoch}
+use Rattle.sender.specs.declared.ranks.Ranks.{Ranks}
+use Rattle.sender.specs.Ranks.{carriersIn, rankAt, ranksIn}
 use Rattle.sender.specs.Reports.{actedOn, comesBefore, mstApplied, numberAfter, numberApplied, opensWait, renumbered, reportOf, slotAfter, turnOf, waited}
 use Rattle.sender.specs.Shown.{after, shown}
 use Rattle.sender.specs.Table.{holderOf, membersOf, sizeOf}
@@ -24,15 +30,34 @@ opens :
 unfolding actedOn addOf addedTo boardOf comesBefore freshOf highest holderOf idleNumber idleSlot membersOf mstApplied mstFails mstFirst mstNumbers noRow numberAfter numberApplied opensWait renumbered reportOf rowOf rowsOf sizeOf slotAfter startOf turnOf waited
 opens = (refl, refl)
 
--- A wait closes where RS-Ack goes from 1 to 0 too. With no wait open the lowest bit of 3 is remembered, which is 1.
+-- A wait closes where RS-Ack goes from 1 to 0 too, and 0 is remembered: at the next wait another 0 leaves it open. With no wait open the lowest bit of 3 is remembered, which is 1.
 closes :
     (shown (after 2 (two ++ (Report 0 0x00 1 ∷ RemoveSlot 1 ∷ Report 0 0x00 0 ∷ []))) ≡ 3 ∷ 0 ∷ 5 ∷ 255 ∷ 0 ∷ [])
+    × (shown (after 3 (two ++ (active 2 ++ (Report 0 0x00 1 ∷ RemoveSlot 2 ∷ Report 0 0x00 0 ∷ RemoveSlot 1 ∷ Report 0 0x00 0 ∷ [])))) ≡ 3 ∷ 0 ∷ 5 ∷ 255 ∷ 5 ∷ 255 ∷ 1 ∷ [])
     × (shown (after 2 (two ++ (Report 0 0x00 3 ∷ RemoveSlot 1 ∷ Report 0 0x00 1 ∷ []))) ≡ 3 ∷ 0 ∷ 5 ∷ 255 ∷ 1 ∷ [])
     × (shown (after 2 (two ++ (Report 0 0x00 3 ∷ RemoveSlot 1 ∷ Report 0 0x00 2 ∷ []))) ≡ 3 ∷ 0 ∷ 5 ∷ 255 ∷ 0 ∷ [])
 unfolding actedOn addOf addedTo boardOf comesBefore fallen fallenIn freshOf highest holderOf idleNumber idleSlot lapseOf membersOf mstApplied mstFails mstFirst mstNumbers noRow numberAfter numberApplied opensWait removeOf removedFrom renumbered reportOf rowOf rowsOf sizeOf slotAfter startOf turnOf waited
-closes = (refl, refl, refl)
+closes = (refl, refl, refl, refl)
 
 -- Only numbers above the one that is freed fall.
 falls : shown (after 3 (two ++ (active 2 ++ (RemoveSlot 2 ∷ [])))) ≡ 2 ∷ 0 ∷ 3 ∷ 1 ∷ 5 ∷ 255 ∷ 1 ∷ []
 unfolding actedOn addOf addedTo boardOf comesBefore fallen fallenIn freshOf highest holderOf idleNumber idleSlot lapseOf membersOf mstApplied mstFails mstFirst mstNumbers noRow numberAfter numberApplied opensWait removeOf removedFrom renumbered reportOf rowOf rowsOf sizeOf slotAfter startOf turnOf waited
 falls = refl
+
+-- three slots whose first epoch is 255, slot 0 active from before its start
+abbrev ranked : ℕ → Ranks
+ranked n = ranksOf (senderRun (beginOf 0 3 255 .sender) (OnTable (AddSlot 0) ∷ OnTable (Report 0 0x00 0) ∷ replicate n (StartEpoch 0 0 0)))
+
+-- Before the first start no epoch has begun; then 255, and 0 behind it, ruled by the packets of 255.
+epochs-begun :
+    (ranked 0 .begun ≡ false)
+    × (ranked 0 .epoch ≡ 255)
+    × (ranked 0 .x ≡ 0)
+    × (ranked 1 .begun ≡ true)
+    × (ranked 1 .epoch ≡ 255)
+    × (ranked 1 .x ≡ 0)
+    × (ranked 2 .epoch ≡ 0)
+    × (ranked 2 .x ≡ 1)
+    × (ranked 2 .count ≡ 3)
+unfolding actedOn addOf addedTo beginOf boardOf carriersIn comesBefore freshOf freshSender highest holderOf idleNumber idleSlot membersOf mstApplied mstFails mstFirst mstNumbers noRow numberAfter numberApplied opensWait rankAt ranksIn ranksOf renumbered reportOf rowOf rowsOf sizeOf slotAfter startEpochOf startOf startedEpoch startedSender turnOf waited
+epochs-begun = (refl, refl, refl, refl, refl, refl, refl, refl, refl)

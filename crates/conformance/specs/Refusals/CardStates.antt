@@ -1,10 +1,8 @@
 -- The refusals of a card's C calls (02, 2026-06): a state of another length is 9, a group other than the two 1, what is no byte 8, then the card's own. The state is lent, so it stands as the state and not among the lent slices: under 4 starting leaves two empty groups in it.
-use mathlib.Core.Path.{_≡_, _∙_, refl, sym}
-use mathlib.Core.Bool.{Bool, true, false, cond, _||_, false≢true}
+use mathlib.Core.Path.{_≡_, refl}
+use mathlib.Core.Bool.{Bool, true, cond, _||_}
 use mathlib.Core.List.{List, [], _∷_}
 use Prim.Native.Nat.{ℕ}
-use native.Mathlib.Omega.{arith}
-use borrow.Author.Tests.{ne-eqb}
 use lib.Dec.{eqb, ltb}
 use lib.ListN.{length}
 use Rattle.c_face.specs.Cards.{boardBytesOn, callAnswerOn, callStateOn, cardOf, outgoingBytesOn, ownedBytesOn, packetAnswerOn, packetBytesOn, payloadAnswerOn, payloadBytesOn, putCard, ranksBytesOn, shownAnswerOn, shownBytesOn, startAnswerOn, startStateOn}
@@ -14,7 +12,7 @@ use Rattle.circuits.specs.Calls.{Call as CardCall, outcomeOf}
 use Rattle.circuits.specs.Calls.Call.{AddSlot, Claim, Lapse, Release, RemoveSlot, Report, StartEpoch}
 use Rattle.circuits.specs.Commands as card
 use Rattle.circuits.specs.Readings.{packetBytes, payloadBytes}
-use Rattle.conformance.specs.Entries.{Call, Copes, If, Refusal, Unless, behind, copes, first, refused, stateful, stateless}
+use Rattle.conformance.specs.Entries.{Call, Copes, If, Refusal, Unless, behind, copes, first, put-anew, stateful, stateless, tested}
 use Rattle.conformance.specs.Refusals.Cards as own
 use Rattle.conformance.specs.Refusals.Cards.{emptyCard}
 use Rattle.sender.specs.Commands.{startOf}
@@ -41,26 +39,11 @@ abbrev pub cardRow : List ℕ → ℕ → Bool → CardCall → List Refusal →
 cardRow state group fits call rs =
     stateful (Unless 9 (isWhole state) ∷ Unless 1 (ltb group 2) ∷ Unless 8 fits ∷ rs) (callAnswerOn fits group call state) [] [] state (callStateOn fits group call state) state
 
--- a refusal encodes nothing anew
-kept : (n : ℕ) (new old : List ℕ) → (n ≡ 0 → ⊥) → cond (eqb n 0) new old ≡ old
-kept n new old d = rw (ne-eqb n 0 d)
-
-stands : (b g f : Bool) (n : ℕ) (new old : List ℕ) (rs : List Refusal) → n ≡ first rs
-    → Copes (stateful (Unless 9 b ∷ Unless 1 g ∷ Unless 8 f ∷ rs) (cond b (cond g (cond f n 8) 1) 9) [] [] old (cond b (cond g (cond f (cond (eqb n 0) new old) old) old) old) old)
-stands false g f n new old rs e = refused _ 9 (refl, refl, refl)
-stands true false f n new old rs e = refused _ 1 (refl, refl, refl)
-stands true true false n new old rs e = refused _ 8 (refl, refl, refl)
-stands true true true n new old rs e =
-    record {
-      answers = e;
-      untouched = λ d. refl;
-      as-given = λ k. kept n new old (λ z. false≢true (rw (sym e ∙ z) at k));
-      emptied = λ f. kept n new old (λ z. omega arith);
-    }
-
 pub call-copes : (state : List ℕ) (group : ℕ) (fits : Bool) (call : CardCall) (rs : List Refusal) → answerNumber (outcomeOf (cardOf state) group call .answer) ≡ first rs → Copes (cardRow state group fits call rs)
 unfolding callAnswerOn callStateOn
-call-copes state group fits call rs e = stands (isWhole state) (ltb group 2) fits (answerNumber (outcomeOf (cardOf state) group call .answer)) _ state rs e
+call-copes state group fits call rs e =
+    tested 9 (isWhole state) _ _ _ state
+    (tested 1 (ltb group 2) _ _ _ state (tested 8 fits rs _ _ state (put-anew rs (answerNumber (outcomeOf (cardOf state) group call .answer)) _ state e)))
 
 abbrev pub claim : List ℕ × ℕ × ℕ → Call
 claim (state, group, slot) = cardRow state group true (Claim slot) (own.claim (cardOf state, group, slot) .refusals)
@@ -133,8 +116,11 @@ payload-copes (state, group, slot, p, frame, member) =
 
 -- What is read out whole: 9 for the state, 1 for the group, then 9 for the buffer.
 
-shows : (n : ℕ) (state : List ℕ) (group : ℕ) (new out : List ℕ)
-    → Copes (stateless (Unless 9 (isWhole state) ∷ Unless 1 (ltb group 2) ∷ Unless 9 (eqb (length out) n) ∷ []) (shownAnswerOn n state group out) (out ∷ []) (shownBytesOn n state group new out ∷ []))
+abbrev readRow : ℕ → List ℕ → ℕ → List ℕ → List ℕ → Call
+readRow n state group out left =
+    stateless (Unless 9 (isWhole state) ∷ Unless 1 (ltb group 2) ∷ Unless 9 (eqb (length out) n) ∷ []) (shownAnswerOn n state group out) (out ∷ []) (left ∷ [])
+
+shows : (n : ℕ) (state : List ℕ) (group : ℕ) (new out : List ℕ) → Copes (readRow n state group out (shownBytesOn n state group new out))
 unfolding shownAnswerOn shownBytesOn
 shows n state group new out =
     copes _ (
@@ -143,33 +129,25 @@ shows n state group new out =
     )
 
 abbrev pub shown : List ℕ × ℕ × List ℕ → Call
-shown (state, group, board) =
-    stateless (Unless 9 (isWhole state) ∷ Unless 1 (ltb group 2) ∷ Unless 9 (eqb (length board) 130) ∷ [])
-    (shownAnswerOn 130 state group board) (board ∷ []) (boardBytesOn state group board ∷ [])
+shown (state, group, board) = readRow 130 state group board (boardBytesOn state group board)
 
 pub shown-copes : (x : List ℕ × ℕ × List ℕ) → Copes (shown x)
 shown-copes (state, group, board) = shows 130 state group _ board
 
 abbrev pub outgoing : List ℕ × ℕ × List ℕ → Call
-outgoing (state, group, board) =
-    stateless (Unless 9 (isWhole state) ∷ Unless 1 (ltb group 2) ∷ Unless 9 (eqb (length board) 130) ∷ [])
-    (shownAnswerOn 130 state group board) (board ∷ []) (outgoingBytesOn state group board ∷ [])
+outgoing (state, group, board) = readRow 130 state group board (outgoingBytesOn state group board)
 
 pub outgoing-copes : (x : List ℕ × ℕ × List ℕ) → Copes (outgoing x)
 outgoing-copes (state, group, board) = shows 130 state group _ board
 
 abbrev pub ranked : List ℕ × ℕ × List ℕ → Call
-ranked (state, group, ranks) =
-    stateless (Unless 9 (isWhole state) ∷ Unless 1 (ltb group 2) ∷ Unless 9 (eqb (length ranks) 68) ∷ [])
-    (shownAnswerOn 68 state group ranks) (ranks ∷ []) (ranksBytesOn state group ranks ∷ [])
+ranked (state, group, ranks) = readRow 68 state group ranks (ranksBytesOn state group ranks)
 
 pub ranked-copes : (x : List ℕ × ℕ × List ℕ) → Copes (ranked x)
 ranked-copes (state, group, ranks) = shows 68 state group _ ranks
 
 abbrev pub owned : List ℕ × ℕ × List ℕ → Call
-owned (state, group, mine) =
-    stateless (Unless 9 (isWhole state) ∷ Unless 1 (ltb group 2) ∷ Unless 9 (eqb (length mine) 64) ∷ [])
-    (shownAnswerOn 64 state group mine) (mine ∷ []) (ownedBytesOn state group mine ∷ [])
+owned (state, group, mine) = readRow 64 state group mine (ownedBytesOn state group mine)
 
 pub owned-copes : (x : List ℕ × ℕ × List ℕ) → Copes (owned x)
 owned-copes (state, group, mine) = shows 64 state group _ mine

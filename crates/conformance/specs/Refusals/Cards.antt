@@ -10,7 +10,7 @@ use Rattle.circuits.specs.declared.answers.Answer.the-variants as A
 use Rattle.circuits.specs.declared.card.Card.{Card}
 use Rattle.circuits.specs.declared.card.CardOutcome.{CardOutcome}
 use Rattle.circuits.specs.Answers.{answerNumber, fromSender}
-use Rattle.circuits.specs.Calls.{outcomeOf}
+use Rattle.circuits.specs.Calls.{Call as CardCall, outcomeOf}
 use Rattle.circuits.specs.Calls.Call.{AddSlot, Claim, Lapse, Release, RemoveSlot, Report, StartEpoch}
 use Rattle.circuits.specs.Commands.{claimOf, commandOf, groupCallOf, releaseOf, startOf}
 use Rattle.circuits.specs.Laws.GroupSender.{put-back, sender-number}
@@ -101,19 +101,19 @@ group-call : (c : Card) (g : ℕ) (rs : List Refusal) (k : SenderCall) → let r
 unfolding groupCallOf
 group-call c g rs k h = gate (ltb g 2) A.NoSlot c rs (groupOutcome c g (senderOutcomeOf (senderOf c g) k)) (on-sender c g rs (senderOutcomeOf (senderOf c g) k) h)
 
+-- a call of a group: its refusals, and what it answers and leaves
+abbrev callRow : Card → ℕ → CardCall → List Refusal → Call
+callRow self group call rs = stateful rs (answerNumber (outcomeOf self group call .answer)) [] [] self (outcomeOf self group call .card) self
+
 abbrev pub claim : Card × ℕ × ℕ → Call
-claim (self, group, slot) =
-    stateful (Unless 1 (isThere self group slot) ∷ If 14 (isAnyones self slot) ∷ [])
-    (answerNumber (outcomeOf self group (Claim slot) .answer)) [] [] self (outcomeOf self group (Claim slot) .card) self
+claim (self, group, slot) = callRow self group (Claim slot) (Unless 1 (isThere self group slot) ∷ If 14 (isAnyones self slot) ∷ [])
 
 pub claim-copes : (x : Card × ℕ × ℕ) → Copes (claim x)
 unfolding claimOf marked isSlot senderOf sizeOf
 claim-copes (self, group, slot) = copes _ (λ s. (λ o. rw (s, o) (refl, refl, refl), λ o. rw (s, o) refl), λ s. rw s (refl, refl, refl))
 
 abbrev pub release : Card × ℕ × ℕ → Call
-release (self, group, slot) =
-    stateful (Unless 1 (isThere self group slot) ∷ Unless 14 (isIts self group slot) ∷ If 15 (isInUse self group slot) ∷ [])
-    (answerNumber (outcomeOf self group (Release slot) .answer)) [] [] self (outcomeOf self group (Release slot) .card) self
+release (self, group, slot) = callRow self group (Release slot) (Unless 1 (isThere self group slot) ∷ Unless 14 (isIts self group slot) ∷ If 15 (isInUse self group slot) ∷ [])
 
 pub release-copes : (x : Card × ℕ × ℕ) → Copes (release x)
 unfolding releaseOf marked isSlot owns isUsed senderOf sizeOf
@@ -127,44 +127,34 @@ release-copes (self, group, slot) =
 
 -- the refusals of the group's sender, behind the card's own
 abbrev pub add : Card × ℕ × ℕ → Call
-add (self, group, slot) =
-    stateful (Unless 1 (isThere self group slot) ∷ Unless 14 (isIts self group slot) ∷ sender.add (its self group, slot) .refusals)
-    (answerNumber (outcomeOf self group (AddSlot slot) .answer)) [] [] self (outcomeOf self group (AddSlot slot) .card) self
+add (self, group, slot) = callRow self group (AddSlot slot) (Unless 1 (isThere self group slot) ∷ Unless 14 (isIts self group slot) ∷ sender.add (its self group, slot) .refusals)
 
 pub add-copes : (x : Card × ℕ × ℕ) → Copes (add x)
 unfolding isSlot owns senderOf sizeOf
 add-copes (self, group, slot) = command self group slot _ _ (sender.add-copes (senderOf self group, slot))
 
 abbrev pub remove : Card × ℕ × ℕ → Call
-remove (self, group, slot) =
-    stateful (Unless 1 (isThere self group slot) ∷ Unless 14 (isIts self group slot) ∷ sender.remove (its self group, slot) .refusals)
-    (answerNumber (outcomeOf self group (RemoveSlot slot) .answer)) [] [] self (outcomeOf self group (RemoveSlot slot) .card) self
+remove (self, group, slot) = callRow self group (RemoveSlot slot) (Unless 1 (isThere self group slot) ∷ Unless 14 (isIts self group slot) ∷ sender.remove (its self group, slot) .refusals)
 
 pub remove-copes : (x : Card × ℕ × ℕ) → Copes (remove x)
 unfolding isSlot owns senderOf sizeOf
 remove-copes (self, group, slot) = command self group slot _ _ (sender.remove-copes (senderOf self group, slot))
 
 abbrev pub report : Card × ℕ × ℕ × ℕ × ℕ → Call
-report (self, group, epoch, mst, «rs_ack») =
-    stateful (Unless 1 (ltb group 2) ∷ [])
-    (answerNumber (outcomeOf self group (Report epoch mst «rs_ack») .answer)) [] [] self (outcomeOf self group (Report epoch mst «rs_ack») .card) self
+report (self, group, epoch, mst, «rs_ack») = callRow self group (Report epoch mst «rs_ack») (Unless 1 (ltb group 2) ∷ [])
 
 pub report-copes : (x : Card × ℕ × ℕ × ℕ × ℕ) → Copes (report x)
 report-copes (self, group, epoch, mst, «rs_ack») = group-call self group _ _ (sender.report-copes (senderOf self group, epoch, mst, «rs_ack»))
 
 abbrev pub lapse : Card × ℕ → Call
-lapse (self, group) =
-    stateful (Unless 1 (ltb group 2) ∷ sender.lapse (its self group) .refusals)
-    (answerNumber (outcomeOf self group Lapse .answer)) [] [] self (outcomeOf self group Lapse .card) self
+lapse (self, group) = callRow self group Lapse (Unless 1 (ltb group 2) ∷ sender.lapse (its self group) .refusals)
 
 pub lapse-copes : (x : Card × ℕ) → Copes (lapse x)
 unfolding senderOf
 lapse-copes (self, group) = group-call self group _ _ (sender.lapse-copes (senderOf self group))
 
 abbrev pub startEpoch : Card × ℕ × ℕ × ℕ × ℕ → Call
-startEpoch (self, group, gid, mst, «rs_ack») =
-    stateful (Unless 1 (ltb group 2) ∷ sender.startEpoch (its self group, gid, mst, «rs_ack») .refusals)
-    (answerNumber (outcomeOf self group (StartEpoch gid mst «rs_ack») .answer)) [] [] self (outcomeOf self group (StartEpoch gid mst «rs_ack») .card) self
+startEpoch (self, group, gid, mst, «rs_ack») = callRow self group (StartEpoch gid mst «rs_ack») (Unless 1 (ltb group 2) ∷ sender.startEpoch (its self group, gid, mst, «rs_ack») .refusals)
 
 pub startEpoch-copes : (x : Card × ℕ × ℕ × ℕ × ℕ) → Copes (startEpoch x)
 unfolding senderOf

@@ -1,6 +1,6 @@
 -- The refusals of a sender with its epochs: the table's calls as they are, the start of an epoch 8, the packet of a slot 1, 9, 2, the payload of a slot 1, 4, 9, 2.
 use mathlib.Core.Path.{_≡_, refl, ap}
-use mathlib.Core.Bool.{Bool, true, false, cond, not, _&&_, _||_}
+use mathlib.Core.Bool.{Bool, cond, _&&_, _||_}
 use mathlib.Core.List.{List, [], _∷_}
 use Prim.Native.Nat.{ℕ, _*_}
 use lib.Dec.{eqb, ltb}
@@ -8,17 +8,16 @@ use lib.ListN.{length}
 use Rattle.packet.specs.Kinds.{frames}
 use Rattle.packet.specs.Words.{assigned}
 use Rattle.packet.specs.Writing.{fitting, writeAnswer, writeBytes}
-use Rattle.conformance.specs.Entries.{Call, Copes, If, Refusal, Unless, copes, stateful, stateless}
+use Rattle.conformance.specs.Entries.{Call, Copes, If, Refusal, Unless, copes, either, stateful, stateless}
 use Rattle.conformance.specs.Refusals.Packets.{small}
 use Rattle.conformance.specs.Refusals.Payloads.{ranged}
 use Rattle.conformance.specs.Refusals.Tables as table
-use Rattle.conformance.specs.Refusals.Tables.{commandRefusals, idle, stateAt}
 use Rattle.sender.specs.declared.epochs.Sender.{Sender}
 use Rattle.sender.specs.declared.table.Answer.the-variants.{Length, OutOfRange}
 use Rattle.sender.specs.declared.table.Table.{Table}
 use Rattle.sender.specs.Calls.Call.{AddSlot, Lapse, RemoveSlot, Report}
 use Rattle.sender.specs.Commands.{freshOf}
-use Rattle.sender.specs.Epochs.{beginOf, freshSender, packetAnswer, packetBytes, packetFields, payloadAnswer, payloadBytes, senderOutcomeOf, startEpochOf, xOf}
+use Rattle.sender.specs.Epochs.{SenderCall, beginOf, freshSender, packetAnswer, packetBytes, packetFields, payloadAnswer, payloadBytes, senderOutcomeOf, startEpochOf, xOf}
 use Rattle.sender.specs.Epochs.SenderCall.{OnTable, StartEpoch}
 use Rattle.sender.specs.Table.{answerNumber, sizeOf}
 
@@ -33,6 +32,10 @@ start-copes (kind, count, epoch) =
     let c = table.start-copes (kind, count) in
     record { answers = c .answers; untouched = λ d. refl; as-given = λ k. ap (λ t. freshSender t epoch) (c .as-given k); emptied = λ e. ap (λ t. freshSender t epoch) (c .emptied e) }
 
+-- a call on a sender: its refusals, and what it answers and leaves
+abbrev callRow : Sender → SenderCall → List Refusal → Call
+callRow self call rs = stateful rs (answerNumber (senderOutcomeOf self call .answer)) [] [] self (senderOutcomeOf self call .sender) self
+
 -- The table's calls: their refusals are the table's, and what the epoch's start fixed stays.
 
 -- the sender with another table
@@ -44,42 +47,32 @@ on-table self rs n t c =
     record { answers = c .answers; untouched = λ d. refl; as-given = λ k. ap (over self) (c .as-given k); emptied = λ e. ap (over self) (c .emptied e) }
 
 abbrev pub add : Sender × ℕ → Call
-add (self, slot) =
-    stateful (commandRefusals (self .table) slot (idle (stateAt (self .table) slot)))
-    (answerNumber (senderOutcomeOf self (OnTable (AddSlot slot)) .answer)) [] [] self (senderOutcomeOf self (OnTable (AddSlot slot)) .sender) self
+add (self, slot) = callRow self (OnTable (AddSlot slot)) (table.add (self .table, slot) .refusals)
 
 pub add-copes : (x : Sender × ℕ) → Copes (add x)
 add-copes (self, slot) = on-table self _ _ _ (table.add-copes (self .table, slot))
 
 abbrev pub remove : Sender × ℕ → Call
-remove (self, slot) =
-    stateful (commandRefusals (self .table) slot (not (idle (stateAt (self .table) slot))))
-    (answerNumber (senderOutcomeOf self (OnTable (RemoveSlot slot)) .answer)) [] [] self (senderOutcomeOf self (OnTable (RemoveSlot slot)) .sender) self
+remove (self, slot) = callRow self (OnTable (RemoveSlot slot)) (table.remove (self .table, slot) .refusals)
 
 pub remove-copes : (x : Sender × ℕ) → Copes (remove x)
 remove-copes (self, slot) = on-table self _ _ _ (table.remove-copes (self .table, slot))
 
 abbrev pub report : Sender × ℕ × ℕ × ℕ → Call
-report (self, epoch, mst, «rs_ack») =
-    stateful []
-    (answerNumber (senderOutcomeOf self (OnTable (Report epoch mst «rs_ack»)) .answer)) [] [] self (senderOutcomeOf self (OnTable (Report epoch mst «rs_ack»)) .sender) self
+report (self, epoch, mst, «rs_ack») = callRow self (OnTable (Report epoch mst «rs_ack»)) []
 
 pub report-copes : (x : Sender × ℕ × ℕ × ℕ) → Copes (report x)
 report-copes (self, epoch, mst, «rs_ack») = on-table self _ _ _ (table.report-copes (self .table, epoch, mst, «rs_ack»))
 
 abbrev pub lapse : Sender → Call
-lapse self =
-    stateful (Unless 2 (self .table .wait) ∷ [])
-    (answerNumber (senderOutcomeOf self (OnTable Lapse) .answer)) [] [] self (senderOutcomeOf self (OnTable Lapse) .sender) self
+lapse self = callRow self (OnTable Lapse) (table.lapse (self .table) .refusals)
 
 pub lapse-copes : (x : Sender) → Copes (lapse x)
 lapse-copes self = on-table self _ _ _ (table.lapse-copes (self .table))
 
 -- 8: 'a field given for writing is too large'
 abbrev pub startEpoch : Sender × ℕ × ℕ × ℕ → Call
-startEpoch (self, gid, mst, «rs_ack») =
-    stateful (Unless 8 (ltb gid 2 && ltb «rs_ack» 2) ∷ [])
-    (answerNumber (senderOutcomeOf self (StartEpoch gid mst «rs_ack») .answer)) [] [] self (senderOutcomeOf self (StartEpoch gid mst «rs_ack») .sender) self
+startEpoch (self, gid, mst, «rs_ack») = callRow self (StartEpoch gid mst «rs_ack») (Unless 8 (ltb gid 2 && ltb «rs_ack» 2) ∷ [])
 
 pub startEpoch-copes : (x : Sender × ℕ × ℕ × ℕ) → Copes (startEpoch x)
 unfolding startEpochOf
@@ -88,10 +81,6 @@ startEpoch-copes (self, gid, mst, «rs_ack») = copes _ (λ f. rw f, λ f. rw f 
 -- the slot is below the count
 abbrev below : Sender → ℕ → Bool
 below s i = ltb i (cond (ltb (s .table .count) 64) (s .table .count) 64)
-
-either : {A : Type 0} (b : Bool) (x : A) → cond b x x ≡ x
-either true x = refl
-either false x = refl
 
 -- In a state that calls returned the packet's fields fit (crates/sender/specs/Theorems/Packets.antt); in any other, fields that do not fit are 8.
 abbrev pub packet : Sender × ℕ × List ℕ → Call

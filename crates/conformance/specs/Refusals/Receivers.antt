@@ -7,7 +7,7 @@ use native.Mathlib.Nat.{mod-mod}
 use lib.Dec.{eqb, leb, ltb}
 use lib.ListN.{getD, length}
 use Rattle.c_face.specs.Receivers.{failedC, kindC, startAsAnswerC, startAsRowsC}
-use Rattle.conformance.specs.Entries.{Call, Copes, If, Refusal, Under, Unless, copes, done, first, refused, stateful, stateless}
+use Rattle.conformance.specs.Entries.{Call, Copes, If, Refusal, Under, Unless, copes, done, either, first, refused, stateful, stateless}
 use Rattle.counting.specs.Words.{every}
 use Rattle.ground.specs.Circle.{after}
 use Rattle.packet.specs.Kinds.{distanceOf, firstTag, frames, lead, tags}
@@ -65,15 +65,11 @@ unfolding startAsAnswer startAsRows startRight timesWithin sizedAnswer sizedRows
 startAs-copes (kind, count, payload, window, store, «hold_off», restore, state) =
     copes _ (λ s. (λ f. rw (s, f), λ f. rw (s, f) (refl, refl, refl)), λ s. rw s (refl, refl, refl))
 
-no-ports : (b : Bool) → _≡_ {A = ℕ} (cond b 0 0) 0
-no-ports true = refl
-no-ports false = refl
-
 -- what is then in the rows, if there are any, is a group without ports
 pub emptied-empty : (kind : ℕ) (rows : List (List ℕ)) → portsIn (groupAt (putGroup rows (emptyGroup kind))) ≡ 0
 unfolding portsIn sized groupAt groupOf groupRow putGroup putRow rowIn
 emptied-empty kind [] = refl
-emptied-empty kind (r ∷ rs) = no-ports (sized kind 0 0 0)
+emptied-empty kind (r ∷ rs) = either (sized kind 0 0 0) 0
 
 -- for the kind H4
 abbrev pub startC : ℕ × ℕ × ℕ × ℕ × List (List ℕ) → Call

@@ -1,16 +1,14 @@
 -- The refusals of the sender's C calls: a state of another length is 9, what is no byte 8, then the sender's own. The state is lent, so it stands as the state and not among the lent slices: under 4 starting leaves an empty group in it.
-use mathlib.Core.Path.{_≡_, _∙_, refl, sym}
-use mathlib.Core.Bool.{Bool, true, false, cond, _&&_, _||_, false≢true}
+use mathlib.Core.Path.{_≡_, refl}
+use mathlib.Core.Bool.{Bool, true, cond, _&&_, _||_}
 use mathlib.Core.List.{List, [], _∷_}
 use Prim.Native.Nat.{ℕ}
-use native.Mathlib.Omega.{arith}
-use borrow.Author.Tests.{ne-eqb}
 use lib.Dec.{eqb, ltb}
 use lib.ListN.{length}
 use Rattle.c_face.specs.Boards.{boardBytesC, outgoingBytesC, ranksBytesC, shownAnswerC, shownBytes}
 use Rattle.c_face.specs.Keeping.{bytesOf, senderOf}
 use Rattle.c_face.specs.Senders.{areBytes, callAnswerC, callStateC, packetAnswerC, packetBytesC, payloadAnswerC, payloadBytesC, startAnswerC, startStateC}
-use Rattle.conformance.specs.Entries.{Call, Copes, If, Refusal, Unless, behind, copes, first, refused, stateful, stateless}
+use Rattle.conformance.specs.Entries.{Call, Copes, If, Refusal, Unless, behind, copes, first, put-anew, stateful, stateless, tested}
 use Rattle.conformance.specs.Refusals.Epochs as own
 use Rattle.sender.specs.Calls.Call.{AddSlot, Lapse, RemoveSlot, Report}
 use Rattle.sender.specs.Commands.{freshOf, startOf}
@@ -37,25 +35,9 @@ start-copes (count, «first_epoch», state) =
 abbrev pub senderRow : List ℕ → Bool → SenderCall → List Refusal → Call
 senderRow state fits call rs = stateful (Unless 9 (isWhole state) ∷ Unless 8 fits ∷ rs) (callAnswerC fits call state) [] [] state (callStateC fits call state) state
 
--- a refusal encodes nothing anew
-kept : (n : ℕ) (new old : List ℕ) → (n ≡ 0 → ⊥) → cond (eqb n 0) new old ≡ old
-kept n new old d = rw (ne-eqb n 0 d)
-
-stands : (b f : Bool) (n : ℕ) (new old : List ℕ) (rs : List Refusal) → n ≡ first rs
-    → Copes (stateful (Unless 9 b ∷ Unless 8 f ∷ rs) (cond b (cond f n 8) 9) [] [] old (cond b (cond f (cond (eqb n 0) new old) old) old) old)
-stands false f n new old rs e = refused _ 9 (refl, refl, refl)
-stands true false n new old rs e = refused _ 8 (refl, refl, refl)
-stands true true n new old rs e =
-    record {
-      answers = e;
-      untouched = λ d. refl;
-      as-given = λ k. kept n new old (λ z. false≢true (rw (sym e ∙ z) at k));
-      emptied = λ f. kept n new old (λ z. omega arith);
-    }
-
 pub call-copes : (state : List ℕ) (fits : Bool) (call : SenderCall) (rs : List Refusal) → answerNumber (senderOutcomeOf (senderOf state) call .answer) ≡ first rs → Copes (senderRow state fits call rs)
 unfolding callAnswerC callStateC
-call-copes state fits call rs e = stands (isWhole state) fits (answerNumber (senderOutcomeOf (senderOf state) call .answer)) _ state rs e
+call-copes state fits call rs e = tested 9 (isWhole state) _ _ _ state (tested 8 fits rs _ _ state (put-anew rs (answerNumber (senderOutcomeOf (senderOf state) call .answer)) _ state e))
 
 abbrev pub add : List ℕ × ℕ → Call
 add (state, slot) = senderRow state true (OnTable (AddSlot slot)) (own.add (senderOf state, slot) .refusals)

@@ -8,7 +8,7 @@ use Rattle.conformance.specs.Entries.{Call, Copes, If, Refusal, Unless, 
 use Rattle.sender.specs.declared.table.State.{State}
 use Rattle.sender.specs.declared.table.State.the-variants.{Idle, Add, Active, Dnu}
 use Rattle.sender.specs.declared.table.Table.{Table}
-use Rattle.sender.specs.Calls.{outcomeOf}
+use Rattle.sender.specs.Calls.{Call as TableCall, outcomeOf}
 use Rattle.sender.specs.Calls.Call.{AddSlot, Lapse, RemoveSlot, Report}
 use Rattle.sender.specs.Commands.{addOf, addedTo, freshOf, inOrder, lapseOf, removeOf, removedFrom, startOf}
 use Rattle.sender.specs.Reports.{reportOf}
@@ -45,6 +45,10 @@ member-is Dnu = refl
 abbrev pub stateAt : Table → ℕ → State
 stateAt t i = slotAt (t .slots) i .state
 
+-- a call on the table: its refusals, and what it answers and leaves
+abbrev callRow : Table → TableCall → List Refusal → Call
+callRow table call rs = stateful rs (answerNumber (outcomeOf table call .answer)) [] [] table (outcomeOf table call .table) table
+
 -- 'For commands: 1, 3, 2.' A count above 64, which no call returns, is taken as 64.
 abbrev pub commandRefusals : Table → ℕ → Bool → List Refusal
 commandRefusals t i allowed = Unless 1 (ltb i (cond (ltb (t .count) 64) (t .count) 64)) ∷ If 3 (t .wait) ∷ Unless 2 allowed ∷ []
@@ -58,9 +62,7 @@ commands t next i allowed =
 
 -- 'Add, from IDLE'
 abbrev pub add : Table × ℕ → Call
-add (table, slot) =
-    stateful (commandRefusals table slot (idle (stateAt table slot)))
-    (answerNumber (outcomeOf table (AddSlot slot) .answer)) [] [] table (outcomeOf table (AddSlot slot) .table) table
+add (table, slot) = callRow table (AddSlot slot) (commandRefusals table slot (idle (stateAt table slot)))
 
 pub add-copes : (x : Table × ℕ) → Copes (add x)
 unfolding addOf
@@ -68,9 +70,7 @@ add-copes (table, slot) = rw (idle-is (stateAt table slot)) (commands table (add
 
 -- 'Remove, from ADD, active or DNU'
 abbrev pub remove : Table × ℕ → Call
-remove (table, slot) =
-    stateful (commandRefusals table slot (not (idle (stateAt table slot))))
-    (answerNumber (outcomeOf table (RemoveSlot slot) .answer)) [] [] table (outcomeOf table (RemoveSlot slot) .table) table
+remove (table, slot) = callRow table (RemoveSlot slot) (commandRefusals table slot (not (idle (stateAt table slot))))
 
 pub remove-copes : (x : Table × ℕ) → Copes (remove x)
 unfolding removeOf
@@ -78,7 +78,7 @@ remove-copes (table, slot) = rw (member-is (stateAt table slot)) (commands table
 
 -- 2: 'lapse with no wait open'
 abbrev pub lapse : Table → Call
-lapse table = stateful (Unless 2 (table .wait) ∷ []) (answerNumber (outcomeOf table Lapse .answer)) [] [] table (outcomeOf table Lapse .table) table
+lapse table = callRow table Lapse (Unless 2 (table .wait) ∷ [])
 
 pub lapse-copes : (x : Table) → Copes (lapse x)
 unfolding lapseOf
@@ -86,8 +86,7 @@ lapse-copes table = copes _ (λ w. rw w, λ w. rw w (refl, refl, refl))
 
 -- a report is always done
 abbrev pub report : Table × ℕ × ℕ × ℕ → Call
-report (table, epoch, mst, «rs_ack») =
-    stateful [] (answerNumber (outcomeOf table (Report epoch mst «rs_ack») .answer)) [] [] table (outcomeOf table (Report epoch mst «rs_ack») .table) table
+report (table, epoch, mst, «rs_ack») = callRow table (Report epoch mst «rs_ack») []
 
 pub report-copes : (x : Table × ℕ × ℕ × ℕ) → Copes (report x)
 unfolding reportOf
