@@ -8,6 +8,7 @@ pub mod Holding
 pub mod Packets
 pub mod Passing
 pub mod Paths
+pub mod Ports
 pub mod Receivers
 pub mod Recording
 pub mod Replaying

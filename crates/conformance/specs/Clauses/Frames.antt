@@ -93,7 +93,7 @@ rows = putMarks (putPackets (putStep (putGroup (replicate 11 (zeros 16)) group) 
 abbrev arrived : List (List ℕ)
 arrived = portRows 0 rows 1 (taken 0 true 31 false) 0xA2
 
--- The frame's own tag is 21, whatever MFI1 it brings: its nibble goes to place 13 of the packet being gathered. Only the port's own rows change. A frame that changes the next tag and a nibble alone leaves the marks.
+-- The frame's own tag is 21, whatever MFI1 it brings: its nibble goes to place 13 of the packet being gathered. Only the port's own rows change. A frame that changes the next tag and a nibble alone leaves the marks. One that loses step brings no nibble.
 port :
     (stepAt arrived 1 ≡ step 32 22)
     × (packetsAt arrived 1 ≡ (replicate 13 7 ++ (10 ∷ 7 ∷ 7 ∷ [])) ∷ replicate 16 6 ∷ [])
@@ -106,8 +106,13 @@ port :
     × (stepAt (steadyRows 0 21 0xA2 1 rows) 1 ≡ step 31 22)
     × (packetsAt (steadyRows 0 21 0xA2 1 rows) 1 ≡ (replicate 13 7 ++ (10 ∷ 7 ∷ 7 ∷ [])) ∷ replicate 16 6 ∷ [])
     × (marksAt (steadyRows 0 21 0xA2 1 rows) 1 ≡ marked)
+    × (packetsAt (portRows 0 rows 1 (losing false) 0xA2) 1 ≡ replicate 16 7 ∷ replicate 16 6 ∷ [])
+    × (stepAt (portRows 0 rows 0 (losing false) 0xA2) 0 ≡ step 0 22)
+    × (stepAt (steadyRows 0 21 0xA2 0 (putStep rows 0 (step 30 21))) 0 ≡ step 30 22)
+    × (packetsAt (steadyRows 0 21 0xA2 0 rows) 0 ≡ (zeros 13 ++ (10 ∷ 0 ∷ 0 ∷ [])) ∷ zeros 16 ∷ [])
+    × (packetsAt (steadyRows 0 21 0xA2 0 rows) 1 ≡ replicate 16 7 ∷ replicate 16 6 ∷ [])
 unfolding endsEpoch epochs epochsIn frames gatheredBy groupAt groupOf groupRow lead markedAt markedByte marksAt marksBy memberAt memberOf nibbleIn packetsAt placeOf portRows putGroup putMarks putPackets putRow putStep rowIn steadyRows stepAt stepOf stepRow tagAfter tagBefore tags withNext withNibble
-port = (refl, refl, refl, refl, refl, refl, refl, refl, refl, refl, refl)
+port = (refl, refl, refl, refl, refl, refl, refl, refl, refl, refl, refl, refl, refl, refl, refl, refl)
 
 -- 12 after the window's first, at place 5 + 12 of a ring of 16: place 1 of port 1's, from byte 51 on, the payload and then the H4. Under 11 all is as given.
 stored :

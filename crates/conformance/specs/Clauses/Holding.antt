@@ -37,3 +37,11 @@ holding :
     × (left (failed 4 2 ∷ []) ≡ standing 2 4 0 ∷ [])
 unfolding chosenOf claims grant granted keptNumbers holders moreKept rounds someJoin standingBy standingsOf
 holding = (refl, refl, refl, refl, refl, refl, refl, refl)
+
+-- Three ports are lost and each keeps its own number; ports 1 and 2 are, and port 0 has its claim; port 2 is, and its number is port 1's wish.
+each-keeps :
+    (left (lost 4 0 ∷ lost 5 1 ∷ lost 6 2 ∷ []) ≡ standing 2 4 1 ∷ standing 2 5 2 ∷ standing 2 6 3 ∷ [])
+    × (left (moved 4 4 ∷ lost 5 1 ∷ lost 6 2 ∷ []) ≡ standing 2 4 0 ∷ standing 2 5 2 ∷ standing 2 6 3 ∷ [])
+    × (left (moved 4 4 ∷ moved 6 5 ∷ lost 6 0 ∷ []) ≡ standing 2 4 0 ∷ standing 2 5 1 ∷ standing 2 6 1 ∷ [])
+unfolding chosenOf claims grant granted keptNumbers holders moreKept rounds someJoin standingBy standingsOf
+each-keeps = (refl, refl, refl)

@@ -4,7 +4,7 @@ use mathlib.Core.Bool.{true, false}
 use mathlib.Core.List.{List, [], _∷_}
 use Prim.Native.Nat.{ℕ}
 use lib.ListN.{replicate, take}
-use Rattle.packet.specs.Kinds.{frames, idleNumber, tags}
+use Rattle.packet.specs.Kinds.{frames, idleNumber, mstFirst, tags}
 use Rattle.phases.specs.Sizes.{portsIn, sized, storeFor}
 use Rattle.receiver.specs.Fetch.{recordOf}
 use Rattle.receiver.specs.Lengths.{fetchFits, frameFits, outputFor, rowsFit}
@@ -182,5 +182,5 @@ replies :
     × (replyOf seventh 32 ≡ 0xFE ∷ 0 ∷ [])
     × (replyOf seventh 33 ≡ 0xFF ∷ 0 ∷ [])
     × (replyOut seventh 64 (9 ∷ 9 ∷ []) ≡ 0xFE ∷ 0 ∷ [])
-unfolding frames freshPort freshPorts groupAt groupOf groupRow memberAt memberOf memberRow mstFrom mstOf okHolds portsIn putGroup putMarks putMember putPackets putRow putStep replyAnswer replyFit replyOf replyOut replyPort replyPorts rowIn rowsFit sized sizedFits sizedRows startAsRows startFits startRight tags timesWithin
+unfolding frames freshPort freshPorts groupAt groupOf groupRow memberAt memberOf memberRow mstFrom mstOf okHolds portsIn putGroup putMarks putMember putPackets putRow putStep replyAnswer replyFit replyOf replyOut replyPort replyPorts rowIn rowsFit sized sizedFits sizedRows startAsRows startFits startRight tags timesWithin mstFirst
 replies = (refl, refl, refl, refl, refl, refl, refl, refl, refl, refl, refl, refl, refl, refl, refl)

@@ -9,7 +9,7 @@ use Rattle.packet.specs.Kinds.{mstFirst}
 use Rattle.reply.specs.Choosing.{claims, grant, granted, holders}
 use Rattle.reply.specs.declared.members.Port.{Port}
 use Rattle.reply.specs.declared.waiting.Standing.{Standing}
-use Rattle.reply.specs.Telling.{mstFrom, mstOf, okHolds}
+use Rattle.reply.specs.Telling.{ackOf, mstFrom, mstOf, okHolds, turns}
 use Rattle.reply.specs.Waiting.{chosenOf, keptNumbers, moreKept, rounds, someJoin, standing, standingBy, standingsOf}
 
 abbrev left : List Port → List Standing
@@ -56,3 +56,26 @@ bits :
     × (mstOf 0 (ok 9 ∷ ok 11 ∷ ok 13 ∷ ok 15 ∷ []) 4 33 ≡ 0xAA)
 unfolding mstFirst mstFrom mstOf okHolds
 bits = (refl, refl, refl, refl)
+
+-- as it was told, and ADD that has become IDLE
+abbrev stays : Port
+stays = record { word = 2; number = 0; state = 2; «state_number» = 0; «told_word» = 2; «told_number» = 0; readable = true; «hold_off» = 0; restore = 0; elapsed = 0 }
+
+abbrev left-group : Port
+left-group =
+    record { word = 5; number = 255; state = 2; «state_number» = 0; «told_word» = 1; «told_number» = 0; readable = true; «hold_off» = 0; restore = 0; elapsed = 0 }
+
+abbrev renumbered : Port
+renumbered = record { word = 2; number = 1; state = 2; «state_number» = 0; «told_word» = 2; «told_number» = 0; readable = true; «hold_off» = 0; restore = 0; elapsed = 0 }
+
+-- RS-Ack turns for any port, and once for several
+turning :
+    (ackOf (stays ∷ stays ∷ stays ∷ []) 3 1 ≡ 1)
+    × (ackOf (stays ∷ stays ∷ renumbered ∷ []) 3 0 ≡ 1)
+    × (ackOf (stays ∷ stays ∷ renumbered ∷ []) 3 1 ≡ 0)
+    × (ackOf (stays ∷ left-group ∷ stays ∷ []) 3 0 ≡ 1)
+    × (ackOf (renumbered ∷ stays ∷ left-group ∷ []) 3 0 ≡ 1)
+    × (ackOf (renumbered ∷ renumbered ∷ stays ∷ []) 3 1 ≡ 0)
+    × (mstOf 0 (stays ∷ ok 9 ∷ ok 7 ∷ []) 3 0 ≡ 0x7E)
+unfolding ackOf mstFirst mstFrom mstOf okHolds turns
+turning = (refl, refl, refl, refl, refl, refl, refl)

@@ -3,16 +3,20 @@ use mathlib.Core.Path.{_≡_, refl}
 use mathlib.Core.Bool.{true, false}
 use mathlib.Core.List.{List, [], _∷_, _++_}
 use Prim.Native.Nat.{ℕ}
-use lib.ListN.{replicate}
-use Rattle.packet.specs.Kinds.{idleNumber, mstFails, mstFirst, mstNumbers}
+use lib.ListN.{getD, length, replicate, take}
+use Rattle.ground.specs.Table.{tabulate}
+use Rattle.packet.specs.Kinds.{epochAfter, epochs, idleNumber, mstFails, mstFirst, mstNumbers}
 use Rattle.sender.specs.Board.{boardOf, highest, noRow, rowOf, rowsOf}
 use Rattle.sender.specs.Calls.{Call}
 use Rattle.sender.specs.Calls.Call.{AddSlot, Lapse, RemoveSlot, Report}
 use Rattle.sender.specs.Commands.{addOf, addedTo, fallen, fallenIn, freshOf, idleSlot, lapseOf, removeOf, removedFrom, startOf}
-use Rattle.sender.specs.Epochs.{beginOf, freshSender, ranksOf, senderRun, startEpochOf, startedEpoch, startedSender}
+use Rattle.sender.specs.Epochs.{beginOf, freshSender, packetFields, ranksOf, senderRun, startEpochOf, startedEpoch, startedSender}
 use Rattle.sender.specs.Epochs.SenderCall.{OnTable, StartEpoch}
 use Rattle.sender.specs.declared.ranks.Ranks.{Ranks}
-use Rattle.sender.specs.Ranks.{carriersIn, rankAt, ranksIn}
+use Rattle.sender.specs.Ranks.{carriersIn, rankAt, rankOf, ranksIn}
+use Rattle.sender.specs.Numbering.{isPlaced, members, numberIn, placed, sends, slotsIn, stateIn}
+use Rattle.sender.specs.declared.table.State.the-variants.{Active, Add, Dnu, Idle}
+use Rattle.sender.specs.declared.table.Table.{Table}
 use Rattle.sender.specs.Reports.{actedOn, comesBefore, mstApplied, numberAfter, numberApplied, opensWait, renumbered, reportOf, slotAfter, turnOf, waited}
 use Rattle.sender.specs.Shown.{after, shown}
 use Rattle.sender.specs.Table.{holderOf, membersOf, sizeOf}
@@ -44,11 +48,11 @@ falls : shown (after 3 (two ++ (active 2 ++ (RemoveSlot 2 ∷ [])))) ≡ 2 ∷ 0
 unfolding actedOn addOf addedTo boardOf comesBefore fallen fallenIn freshOf highest holderOf idleNumber idleSlot lapseOf membersOf mstApplied mstFails mstFirst mstNumbers noRow numberAfter numberApplied opensWait removeOf removedFrom renumbered reportOf rowOf rowsOf sizeOf slotAfter startOf turnOf waited
 falls = refl
 
--- three slots whose first epoch is 255, slot 0 active from before its start
+-- three slots whose first epoch is 255, slots 0 and 2 active from before its start
 abbrev ranked : ℕ → Ranks
-ranked n = ranksOf (senderRun (beginOf 0 3 255 .sender) (OnTable (AddSlot 0) ∷ OnTable (Report 0 0x00 0) ∷ replicate n (StartEpoch 0 0 0)))
+ranked n = ranksOf (senderRun (beginOf 0 3 255 .sender) (OnTable (AddSlot 0) ∷ OnTable (AddSlot 2) ∷ OnTable (Report 0 0x00 0) ∷ replicate n (StartEpoch 0 0 0)))
 
--- Before the first start no epoch has begun; then 255, and 0 behind it, ruled by the packets of 255.
+-- Before the first start no epoch has begun; then 255, and 0 behind it, ruled by the packets of 255. A command leaves what the start of the epoch fixed.
 epochs-begun :
     (ranked 0 .begun ≡ false)
     × (ranked 0 .epoch ≡ 255)
@@ -57,7 +61,31 @@ epochs-begun :
     × (ranked 1 .epoch ≡ 255)
     × (ranked 1 .x ≡ 0)
     × (ranked 2 .epoch ≡ 0)
-    × (ranked 2 .x ≡ 1)
+    × (ranked 2 .x ≡ 2)
     × (ranked 2 .count ≡ 3)
-unfolding actedOn addOf addedTo beginOf boardOf carriersIn comesBefore freshOf freshSender highest holderOf idleNumber idleSlot membersOf mstApplied mstFails mstFirst mstNumbers noRow numberAfter numberApplied opensWait rankAt ranksIn ranksOf renumbered reportOf rowOf rowsOf sizeOf slotAfter startEpochOf startOf startedEpoch startedSender turnOf waited
-epochs-begun = (refl, refl, refl, refl, refl, refl, refl, refl, refl)
+    × (take 4 (ranked 2 .ranks) ≡ 0 ∷ 255 ∷ 1 ∷ 255 ∷ [])
+    × (packetFields (senderRun (beginOf 0 3 255 .sender) (StartEpoch 0 0x5A 1 ∷ OnTable (AddSlot 0) ∷ [])) 0 .gid ≡ 0)
+    × (packetFields (senderRun (beginOf 0 3 255 .sender) (StartEpoch 1 0x5A 1 ∷ OnTable (AddSlot 0) ∷ [])) 0 .gid ≡ 1)
+    × (packetFields (senderRun (beginOf 0 3 255 .sender) (StartEpoch 1 0x5A 1 ∷ OnTable (AddSlot 0) ∷ [])) 0 .«rs_ack» ≡ 1)
+    × (packetFields (senderRun (beginOf 0 3 255 .sender) (StartEpoch 1 0x5A 0 ∷ OnTable (AddSlot 0) ∷ [])) 0 .«rs_ack» ≡ 0)
+unfolding actedOn addOf addedTo beginOf boardOf carriersIn comesBefore freshOf freshSender highest holderOf idleNumber idleSlot membersOf mstApplied mstFails mstFirst mstNumbers noRow numberAfter numberApplied opensWait packetFields rankAt ranksIn ranksOf renumbered reportOf rowOf rowsOf sizeOf slotAfter startEpochOf startOf startedEpoch startedSender turnOf waited epochAfter epochs rankOf
+epochs-begun = (refl, refl, refl, refl, refl, refl, refl, refl, refl, refl, refl, refl, refl, refl)
+
+-- slots 0 and 2 active, slot 1 DNU, slot 3 added and slot 4 IDLE
+abbrev all-states : Table
+all-states = after 5 (two ++ (active 2 ++ (Report 0 0x40 0 ∷ AddSlot 3 ∷ [])))
+
+-- The words of demand 2: who is placed, how many are and how many members there are, what each slot sends, its state and its number. Past the last slot a board has IDLE with 255.
+demand2-words :
+    (tabulate 5 (λ i. isPlaced (stateIn all-states i)) ≡ true ∷ true ∷ true ∷ false ∷ false ∷ [])
+    × (tabulate 6 (placed (stateIn all-states)) ≡ 0 ∷ 1 ∷ 2 ∷ 3 ∷ 3 ∷ 3 ∷ [])
+    × (tabulate 6 (members (stateIn all-states)) ≡ 0 ∷ 1 ∷ 2 ∷ 3 ∷ 4 ∷ 4 ∷ [])
+    × (tabulate 5 (sends all-states) ≡ 2 ∷ 15 ∷ 3 ∷ 1 ∷ 5 ∷ [])
+    × (tabulate 5 (stateIn all-states) ≡ Active ∷ Dnu ∷ Active ∷ Add ∷ Idle ∷ [])
+    × (tabulate 5 (numberIn all-states) ≡ 0 ∷ 1 ∷ 2 ∷ 3 ∷ 255 ∷ [])
+    × (slotsIn all-states ≡ 5)
+    × (getD (boardOf all-states .rows) 5 (noRow 0) .word .0 ≡ 5)
+    × (getD (boardOf all-states .rows) 5 (noRow 0) .number ≡ 255)
+    × (length (boardOf all-states .rows) ≡ 64)
+unfolding actedOn addOf addedTo boardOf comesBefore freshOf highest holderOf idleNumber idleSlot lapseOf membersOf mstApplied mstFails mstFirst mstNumbers noRow numberAfter numberApplied opensWait renumbered reportOf rowOf rowsOf sizeOf slotAfter startOf turnOf waited
+demand2-words = (refl, refl, refl, refl, refl, refl, refl, refl, refl, refl)

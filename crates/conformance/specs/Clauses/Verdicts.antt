@@ -1,9 +1,11 @@
 -- Reports judged (01, 'Report of an epoch'), where a packet that did not arrive whole still reads as one; and packets of fixed groups (request 2026-12) at their limits.
 use mathlib.Core.Path.{_≡_, refl}
-use mathlib.Core.Bool.{Bool, true, false}
+use mathlib.Core.Bool.{Bool, true, false, cond}
 use mathlib.Core.List.{List, [], _∷_}
-use Prim.Native.Nat.{ℕ}
-use lib.ListN.{length, replicate, take}
+use Prim.Native.Nat.{ℕ, _+_, _%_}
+use lib.Dec.{eqb}
+use lib.ListN.{length, replicate, set, take}
+use Rattle.ground.specs.Table.{tabulate}
 use Rattle.judge.specs.declared.seen.Seen.{Seen}
 use Rattle.judge.specs.Order.{activeIn, orderOf, portOf, rankOf}
 use Rattle.judge.specs.Verdict.{doubtfulBy, eosAlone, eosWrong, exact, fixedExact, fixedHeld, fixedVerdict, gidDiffers, heldBy, highest, judgeOf, lcasVerdict, missing, repeats, takes}
@@ -62,6 +64,47 @@ others :
     × (judgeOf 2 (saw 0 0 0 ∷ bad 0 1 ∷ []) 2 ≡ 1)
 unfolding doubtfulBy eosAlone eosWrong exact fixedExact fixedHeld fixedVerdict gidDiffers heldBy highest judgeOf lcasVerdict missing repeats takes
 others = (refl, refl, refl, refl, refl, refl, refl, refl, refl, refl, refl, refl, refl, refl, refl)
+
+-- four ports with the numbers 0 to 3, EOS on the last, of which the one at i is another
+abbrev word : ℕ → ℕ
+word i = cond (eqb i 3) 3 2
+
+abbrev but : (ℕ → Seen) → ℕ → List Seen
+but x i = set (tabulate 4 (λ j. saw (word j) j 0)) i (x i)
+
+abbrev each-place : (ℕ → Seen) → List ℕ
+each-place x = tabulate 4 (λ i. verdict (but x i))
+
+abbrev lacks : ℕ → ℕ → Seen
+lacks word number = record { whole = true; good = true; word = word; number = number; gid = 0; here = false }
+
+-- Whichever port it is: as it was, with another GID, refused, lacking a frame, with the next port's number, with EOS, and with no whole packet. Active ports and EOS are looked for on every port.
+any-place :
+    (each-place (λ i. saw (word i) i 0) ≡ 3 ∷ 3 ∷ 3 ∷ 3 ∷ [])
+    × (each-place (λ i. saw (word i) i 1) ≡ 1 ∷ 1 ∷ 1 ∷ 1 ∷ [])
+    × (each-place (λ i. bad (word i) i) ≡ 1 ∷ 1 ∷ 1 ∷ 1 ∷ [])
+    × (each-place (λ i. lacks (word i) i) ≡ 1 ∷ 1 ∷ 1 ∷ 1 ∷ [])
+    × (each-place (λ i. saw (word i) ((i + 1) % 4) 0) ≡ 1 ∷ 1 ∷ 1 ∷ 1 ∷ [])
+    × (each-place (λ i. saw 3 i 0) ≡ 1 ∷ 1 ∷ 1 ∷ 3 ∷ [])
+    × (each-place (λ i. torn (word i) i 0 true) ≡ 2 ∷ 2 ∷ 2 ∷ 2 ∷ [])
+    × (verdict (saw 5 255 0 ∷ saw 2 0 0 ∷ []) ≡ 1)
+    × (verdict (saw 2 1 0 ∷ saw 3 0 0 ∷ torn 2 2 0 true ∷ []) ≡ 1)
+unfolding doubtfulBy eosAlone eosWrong exact gidDiffers heldBy highest judgeOf lcasVerdict missing repeats takes
+any-place = (refl, refl, refl, refl, refl, refl, refl, refl, refl)
+
+abbrev fixed-place : (ℕ → Seen) → List ℕ
+fixed-place x = tabulate 4 (λ i. judgeOf 2 (set (tabulate 4 (λ j. saw 0 j 0)) i (x i)) 4)
+
+-- and of a fixed group: as it was, refused, lacking a frame, with the next port's number, with a number above 3, and with no whole packet
+any-fixed :
+    (fixed-place (λ i. saw 0 i 1) ≡ 3 ∷ 3 ∷ 3 ∷ 3 ∷ [])
+    × (fixed-place (λ i. bad 0 i) ≡ 1 ∷ 1 ∷ 1 ∷ 1 ∷ [])
+    × (fixed-place (λ i. lacks 0 i) ≡ 1 ∷ 1 ∷ 1 ∷ 1 ∷ [])
+    × (fixed-place (λ i. saw 0 ((i + 1) % 4) 0) ≡ 1 ∷ 1 ∷ 1 ∷ 1 ∷ [])
+    × (fixed-place (λ i. saw 0 (i + 4) 0) ≡ 1 ∷ 1 ∷ 1 ∷ 1 ∷ [])
+    × (fixed-place (λ i. torn 0 i 0 true) ≡ 1 ∷ 1 ∷ 1 ∷ 1 ∷ [])
+unfolding fixedExact fixedHeld fixedVerdict judgeOf missing repeats takes
+any-fixed = (refl, refl, refl, refl, refl, refl)
 
 -- payload goes by the numbers of active ports, however high, and not by what a refused or a torn packet reads as
 orders :

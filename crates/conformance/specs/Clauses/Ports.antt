@@ -1,0 +1,227 @@
+-- A frame and a report of three ports: each port's own tag, packet, place in the store and state, and all ports in one report.
+use mathlib.Core.Path.{_≡_, refl}
+use mathlib.Core.Bool.{false}
+use mathlib.Core.List.{List, [], _++_, _∷_}
+use Prim.Native.Nat.{ℕ}
+use lib.ListN.{drop, replicate, take}
+use Rattle.ground.specs.Circle.{after}
+use Rattle.ground.specs.Table.{tabulate}
+use Rattle.judge.specs.Order.{activeIn, orderOf, portOf, rankOf}
+use Rattle.judge.specs.Verdict.{doubtfulBy, eosAlone, eosWrong, exact, fixedExact, fixedHeld, fixedVerdict, gidDiffers, heldBy, highest, judgeOf, lcasVerdict, missing, repeats, takes}
+use Rattle.packet.specs.Counts.{carriesLow, counts, nibbleIn, nibblePlace, startsCount, tagByHigh, tagByLow}
+use Rattle.packet.specs.Crc.{crcOf, divisor, nibbleBits}
+use Rattle.packet.specs.Fixed.{fixedRulingOf, readFixedNibbles}
+use Rattle.packet.specs.Kinds.{distanceOf, endsEpoch, epochAfter, epochOf, epochs, epochsIn, firstTag, frames, idleNumber, lead, mstFails, mstFirst, mstNumbers, placeOf, startsEpoch, tagAfter, tagBefore, tags}
+use Rattle.packet.specs.Layout.{carriedIn, dataOf, fieldsOf, h4Of, highsOf, nibblesOf, sealedOf}
+use Rattle.packet.specs.Reading.{readNibbles}
+use Rattle.packet.specs.Ruling.{rulingOf}
+use Rattle.packet.specs.Words.{assigned}
+use Rattle.phases.specs.Beginning.{begins, foremost, further, latest, noTag, ready, within}
+use Rattle.phases.specs.Due.{brought, owesNothing, silent}
+use Rattle.phases.specs.Passing.{notedBy, passedGroup, passedOf, passedPort, passedPorts, passedStep, ruledBy}
+use Rattle.phases.specs.Settling.{beginBy, begunOf, clearedPort, clearedPorts, clearedStep, gatherBy, settledOf, stopBy, stoppedOf}
+use Rattle.phases.specs.Sizes.{portsIn, sized, storeFor}
+use Rattle.receiver.specs.Fetch.{dueIn, fetchAnswer, fetchOut, fetchRecord, fetchRows, fits, outIfDue, recordOf, reportIfDue, rowsIfDue}
+use Rattle.receiver.specs.Frame.{frameAnswer, frameRows, frameStore, gatheredBy, marksBy, portRows, refusalBy, settledBy, steadyRows, storeBy, takenRows, takenStore}
+use Rattle.receiver.specs.Lengths.{fetchFits, frameFits, outputFor, rowsFit}
+use Rattle.receiver.specs.Report.{frameInto, framesInto, outputBy, outputOf, replyPort, replyPorts, reportBy, reportOf, reportedOf, rulingEpoch, seenAll, seenOf, startsOf, statePut, statesPut, statesWorkedOut, withState}
+use Rattle.receiver.specs.Shown.{portIn, portShown, portsOut, replyFit, replyOf, replyOut, shownFit}
+use Rattle.receiver.specs.Starting.{freshPort, freshPorts, sizedAnswer, sizedFits, sizedRows, startAsAnswer, startAsRows, startFits, startRight, timesWithin}
+use Rattle.reply.specs.Choosing.{claims, grant, granted, holders}
+use Rattle.reply.specs.Telling.{ackOf, mstFrom, mstOf, okHolds, turns}
+use Rattle.reply.specs.Waiting.{chosenOf, keptNumbers, moreKept, rounds, someJoin, standingBy, standingsOf}
+use Rattle.rows.specs.Group.{groupAt, groupOf, groupRow, putGroup}
+use Rattle.rows.specs.Member.{memberAt, memberOf, memberRow, putMember}
+use Rattle.rows.specs.Packets.{marksAt, packetsAt, putMarks, putPackets, withNibble}
+use Rattle.rows.specs.Rows.{putRow, rowIn}
+use Rattle.rows.specs.Step.{putStep, stepAt, stepOf, stepRow, withNext}
+use Rattle.rows.specs.declared.group.Group.{Group}
+use Rattle.rows.specs.declared.member.Member.{Member}
+use Rattle.rows.specs.declared.step.Step.{Step}
+use Rattle.step.specs.Arrival.{arrives, byStart, byWindow, countsOn, distanceIn, flagged, frameDropped, inStep, joining, keeps, outside, readable, takenOf}
+use Rattle.step.specs.OwnCount.{endsOdd, oddPacket, ownNumber, ownRuling, rightCrc, rulingIn}
+use Rattle.step.specs.Run.{begunRun, breaksAfter, endsPacket, furtherRun, gainedRun, inStepAt, loses, oddAfter, runOn, secondRun, stayedRun}
+use Rattle.store.specs.Frames.{byteAt, h4At, packetIn, placeIn, ringOf, storedAt}
+use Rattle.store.specs.Marks.{cutByte, cutFrom, firstMark, markedAt, markedByte, passedByte, passedMarks}
+
+abbrev nines : ℕ → List ℕ
+nines n = replicate n 9
+
+abbrev zeros : ℕ → List ℕ
+zeros n = replicate n 0
+
+-- three ports, P 1, W 16; receiving has begun with epoch 58, whose first frame has tag 920 and stands at place 5 of each ring
+abbrev group : ℕ → Group
+group ack =
+    record {
+      spare = zeros 4;
+      kind = 0;
+      count = 3;
+      payload = 1;
+      window = 16;
+      begun = 1;
+      gathered = 1;
+      oldest = 58;
+      origin = 5;
+      «rs_ack» = ack;
+    }
+
+-- a port in step that has joined, its next tag
+abbrev step : ℕ → Step
+step next =
+    record {
+      spare = zeros 5;
+      had = 1;
+      failed = 0;
+      count = 32;
+      next = next;
+      joined = 1;
+      since = 0;
+      later = 0;
+      whole = 1;
+      breaks = 0;
+      odd = 0;
+    }
+
+-- FAIL so far under the number that it sends, and the number that was told of it
+abbrev member : ℕ → ℕ → ℕ → Member
+member word number told =
+    record {
+      spare = zeros 4;
+      word = word;
+      number = number;
+      state = 1;
+      «state_number» = number;
+      «told_word» = word;
+      «told_number» = told;
+      «hold_off» = 0;
+      restore = 0;
+      elapsed = 0;
+    }
+
+abbrev empty : List (List ℕ)
+empty = putGroup (replicate 16 (zeros 16)) (group 0)
+
+-- The packets that ports 0, 1 and 2 gather are filled with 7, 5 and 3, the ruling ones with 6, 4 and 2. They wait for tags 925, 933 and 935, at MFI1 13, 5 and 7.
+abbrev gathering : List (List ℕ)
+gathering =
+    putPackets
+    (putPackets
+    (putPackets (putStep (putStep (putStep empty 0 (step 925)) 1 (step 933)) 2 (step 935)) 0 (replicate 16 7 ∷ replicate 16 6 ∷ []))
+    1
+    (replicate 16 5 ∷ replicate 16 4 ∷ []))
+    2
+    (replicate 16 3 ∷ replicate 16 2 ∷ [])
+
+abbrev now₀ : List (List ℕ)
+now₀ = frameRows gathering 0 false 0x9D (8 ∷ []) (nines 96)
+
+abbrev now₁ : List (List ℕ)
+now₁ = frameRows gathering 1 false 0xB5 (8 ∷ []) (nines 96)
+
+abbrev now₂ : List (List ℕ)
+now₂ = frameRows gathering 2 false 0xC7 (8 ∷ []) (nines 96)
+
+-- each port's tag to come, and what it gathers
+abbrev waiting : List (List ℕ) → List ℕ
+waiting s = stepAt s 0 .next ∷ stepAt s 1 .next ∷ stepAt s 2 .next ∷ []
+
+abbrev gathered : List (List ℕ) → List (List ℕ)
+gathered s = packetsAt s 0 ++ packetsAt s 1 ++ packetsAt s 2
+
+-- A frame goes by its own port and changes that port alone. Tags 925, 933 and 935 lie 5, 13 and 15 behind the window's first, at places 10, 2 and 4 of the ports' rings of 32 bytes each; their nibbles go to places 5, 13 and 15. The last frame of the epoch marks it.
+own-frames :
+    (waiting now₀ ≡ 926 ∷ 933 ∷ 935 ∷ [])
+    × (waiting now₁ ≡ 925 ∷ 934 ∷ 935 ∷ [])
+    × (waiting now₂ ≡ 925 ∷ 933 ∷ 936 ∷ [])
+    × (gathered now₀ ≡ (replicate 5 7 ++ (9 ∷ replicate 10 7)) ∷ replicate 16 6 ∷ replicate 16 5 ∷ replicate 16 4 ∷ replicate 16 3 ∷ replicate 16 2 ∷ [])
+    × (gathered now₁ ≡ replicate 16 7 ∷ replicate 16 6 ∷ (replicate 13 5 ++ (11 ∷ 5 ∷ 5 ∷ [])) ∷ replicate 16 4 ∷ replicate 16 3 ∷ replicate 16 2 ∷ [])
+    × (gathered now₂ ≡ replicate 16 7 ∷ replicate 16 6 ∷ replicate 16 5 ∷ replicate 16 4 ∷ (replicate 15 3 ++ (12 ∷ [])) ∷ replicate 16 2 ∷ [])
+    × (marksAt now₁ 1 ≡ zeros 16)
+    × (marksAt now₂ 2 ≡ 1 ∷ zeros 15)
+    × (marksAt now₂ 0 ++ marksAt now₂ 1 ≡ zeros 32)
+    × (frameStore gathering 0 false 0x9D (8 ∷ []) (nines 96) ≡ nines 20 ++ (8 ∷ 0x9D ∷ []) ++ nines 74)
+    × (frameStore gathering 1 false 0xB5 (8 ∷ []) (nines 96) ≡ nines 36 ++ (8 ∷ 0xB5 ∷ []) ++ nines 58)
+    × (frameStore gathering 2 false 0xC7 (8 ∷ []) (nines 96) ≡ nines 72 ++ (8 ∷ 0xC7 ∷ []) ++ nines 22)
+    × (frameAnswer gathering 2 false 0xC7 1 96 ≡ 0)
+    × (frameAnswer gathering 3 false 0xC7 1 96 ≡ 1)
+    × (frameAnswer gathering 2 false 0xC7 2 96 ≡ 9)
+unfolding ackOf activeIn after arrives assigned beginBy begins begunOf begunRun breaksAfter brought byStart byWindow byteAt carriedIn carriesLow chosenOf claims clearedPort clearedPorts clearedStep counts countsOn crcOf cutByte cutFrom dataOf distanceIn distanceOf divisor doubtfulBy dueIn endsEpoch endsOdd endsPacket eosAlone eosWrong epochAfter epochOf epochs epochsIn exact fetchAnswer fetchFits fetchOut fetchRecord fetchRows fieldsOf firstMark firstTag fits fixedExact fixedHeld fixedRulingOf fixedVerdict flagged foremost frameAnswer frameDropped frameFits frameInto frameRows frameStore frames framesInto freshPort freshPorts further furtherRun gainedRun gatherBy gatheredBy gidDiffers grant granted groupAt groupOf groupRow h4At h4Of heldBy highest highsOf holders idleNumber inStep inStepAt joining judgeOf keeps keptNumbers latest lcasVerdict lead loses markedAt markedByte marksAt marksBy memberAt memberOf memberRow missing moreKept mstFails mstFirst mstFrom mstNumbers mstOf nibbleBits nibbleIn nibblePlace nibblesOf noTag notedBy oddAfter oddPacket okHolds orderOf outIfDue outputBy outputFor outputOf outside owesNothing ownNumber ownRuling packetIn packetsAt passedByte passedGroup passedMarks passedOf passedPort passedPorts passedStep placeIn placeOf portIn portOf portRows portShown portsIn portsOut putGroup putMarks putMember putPackets putRow putStep rankOf readFixedNibbles readNibbles readable ready recordOf refusalBy repeats replyFit replyOf replyOut replyPort replyPorts reportBy reportIfDue reportOf reportedOf rightCrc ringOf rounds rowIn rowsFit rowsIfDue ruledBy rulingEpoch rulingIn rulingOf runOn sealedOf secondRun seenAll seenOf settledBy settledOf shownFit silent sized sizedAnswer sizedFits sizedRows someJoin standingBy standingsOf startAsAnswer startAsRows startFits startRight startsCount startsEpoch startsOf statePut statesPut statesWorkedOut stayedRun steadyRows stepAt stepOf stepRow stopBy stoppedOf storeBy storeFor storedAt tagAfter tagBefore tagByHigh tagByLow tags takenOf takenRows takenStore takes timesWithin turns withNext withNibble withState within
+own-frames = (refl, refl, refl, refl, refl, refl, refl, refl, refl, refl, refl, refl, refl, refl, refl)
+
+-- NORM 0, NORM 1 and EOS 2 in epoch 57 with GID 1 and MST FF: CRCs 24, 32 and 5F
+abbrev packet : ℕ → ℕ → ℕ → ℕ → List ℕ
+packet word sq high low = 15 ∷ 15 ∷ 0 ∷ 0 ∷ 0 ∷ 0 ∷ 0 ∷ sq ∷ 3 ∷ 9 ∷ word ∷ 1 ∷ 0 ∷ 0 ∷ high ∷ low ∷ []
+
+-- port 1 has gathered all but the last nibble of epoch 57's packet, which comes where epoch 58's should end; port 0 and port 2 have not
+abbrev late : List (List ℕ)
+late = putPackets (putStep (putStep (putStep empty 0 (step 935)) 1 (step 935)) 2 (step 935)) 1 (packet 2 1 3 9 ∷ zeros 16 ∷ [])
+
+-- whether a port ends an odd packet is asked of what it has gathered itself
+own-odd :
+    (stepAt (frameRows late 1 false 0x27 (8 ∷ []) (nines 96)) 1 .odd ≡ 1)
+    × (stepAt (frameRows late 0 false 0x27 (8 ∷ []) (nines 96)) 0 .odd ≡ 0)
+    × (stepAt (frameRows late 2 false 0x27 (8 ∷ []) (nines 96)) 2 .odd ≡ 0)
+unfolding ackOf activeIn after arrives assigned beginBy begins begunOf begunRun breaksAfter brought byStart byWindow byteAt carriedIn carriesLow chosenOf claims clearedPort clearedPorts clearedStep counts countsOn crcOf cutByte cutFrom dataOf distanceIn distanceOf divisor doubtfulBy dueIn endsEpoch endsOdd endsPacket eosAlone eosWrong epochAfter epochOf epochs epochsIn exact fetchAnswer fetchFits fetchOut fetchRecord fetchRows fieldsOf firstMark firstTag fits fixedExact fixedHeld fixedRulingOf fixedVerdict flagged foremost frameAnswer frameDropped frameFits frameInto frameRows frameStore frames framesInto freshPort freshPorts further furtherRun gainedRun gatherBy gatheredBy gidDiffers grant granted groupAt groupOf groupRow h4At h4Of heldBy highest highsOf holders idleNumber inStep inStepAt joining judgeOf keeps keptNumbers latest lcasVerdict lead loses markedAt markedByte marksAt marksBy memberAt memberOf memberRow missing moreKept mstFails mstFirst mstFrom mstNumbers mstOf nibbleBits nibbleIn nibblePlace nibblesOf noTag notedBy oddAfter oddPacket okHolds orderOf outIfDue outputBy outputFor outputOf outside owesNothing ownNumber ownRuling packetIn packetsAt passedByte passedGroup passedMarks passedOf passedPort passedPorts passedStep placeIn placeOf portIn portOf portRows portShown portsIn portsOut putGroup putMarks putMember putPackets putRow putStep rankOf readFixedNibbles readNibbles readable ready recordOf refusalBy repeats replyFit replyOf replyOut replyPort replyPorts reportBy reportIfDue reportOf reportedOf rightCrc ringOf rounds rowIn rowsFit rowsIfDue ruledBy rulingEpoch rulingIn rulingOf runOn sealedOf secondRun seenAll seenOf settledBy settledOf shownFit silent sized sizedAnswer sizedFits sizedRows someJoin standingBy standingsOf startAsAnswer startAsRows startFits startRight startsCount startsEpoch startsOf statePut statesPut statesWorkedOut stayedRun steadyRows stepAt stepOf stepRow stopBy stoppedOf storeBy storeFor storedAt tagAfter tagBefore tagByHigh tagByLow tags takenOf takenRows takenStore takes timesWithin turns withNext withNibble withState within
+own-odd = (refl, refl, refl)
+
+-- Port 0 was ruled by EOS 2, port 1 by NORM 0 and port 2 by NORM 1, and all have brought epoch 58. Port 2's number is other than the one that was told of it.
+abbrev due : List (List ℕ)
+due =
+    putMember
+    (putMember
+    (putMember
+    (putMarks
+    (putMarks
+    (putMarks
+    (putPackets
+    (putPackets
+    (putPackets (putStep (putStep (putStep empty 0 (step 936)) 1 (step 936)) 2 (step 936)) 0 (zeros 16 ∷ packet 3 2 5 15 ∷ []))
+    1
+    (zeros 16 ∷ packet 2 0 2 4 ∷ []))
+    2
+    (zeros 16 ∷ packet 2 1 3 2 ∷ []))
+    0
+    (1 ∷ zeros 15))
+    1
+    (1 ∷ zeros 15))
+    2
+    (1 ∷ zeros 15))
+    0
+    (member 3 2 2))
+    1
+    (member 2 0 0))
+    2
+    (member 2 1 7)
+
+-- port 2 has not brought its frames yet
+abbrev early : List (List ℕ)
+early = putMarks due 2 (zeros 16)
+
+-- a store whose byte at each place is the place
+abbrev store : List ℕ
+store = tabulate 96 (λ i. i)
+
+abbrev fetched : List (List ℕ)
+fetched = fetchRows due store (nines 50) (nines 8)
+
+-- what is left of a port: its state, number and what was told of it
+abbrev told : List (List ℕ) → ℕ → List ℕ
+told s i = memberAt s i .state ∷ memberAt s i .«state_number» ∷ memberAt s i .«told_word» ∷ memberAt s i .«told_number» ∷ []
+
+-- A report is of all ports: sure, X 3, 48 bytes, those of ports 1, 2 and 0 by turns, from place 5 of each ring on. All three are OK under their numbers, and RS-Ack turns for port 2. Nothing is due while port 2 lacks its frames.
+own-reports :
+    (fetchRecord due store (nines 50) (nines 8) ≡ 3 ∷ 58 ∷ 3 ∷ 0 ∷ 0 ∷ 0 ∷ 0 ∷ 48 ∷ [])
+    × (take 6 (fetchOut due store (nines 50) (nines 8)) ≡ 42 ∷ 74 ∷ 10 ∷ 44 ∷ 76 ∷ 12 ∷ [])
+    × (drop 45 (fetchOut due store (nines 50) (nines 8)) ≡ 40 ∷ 72 ∷ 8 ∷ 9 ∷ 9 ∷ [])
+    × (told fetched 0 ≡ 2 ∷ 2 ∷ 3 ∷ 2 ∷ [])
+    × (told fetched 1 ≡ 2 ∷ 0 ∷ 2 ∷ 0 ∷ [])
+    × (told fetched 2 ≡ 2 ∷ 1 ∷ 2 ∷ 1 ∷ [])
+    × (groupAt fetched .«rs_ack» ≡ 1)
+    × (groupAt fetched .oldest ≡ 59)
+    × (marksAt fetched 0 ++ marksAt fetched 1 ++ marksAt fetched 2 ≡ zeros 48)
+    × (fetchRows early store (nines 50) (nines 8) ≡ early)
+    × (fetchRecord early store (nines 50) (nines 8) ≡ zeros 8)
+    × (fetchOut early store (nines 50) (nines 8) ≡ nines 50)
+unfolding ackOf activeIn after arrives assigned beginBy begins begunOf begunRun breaksAfter brought byStart byWindow byteAt carriedIn carriesLow chosenOf claims clearedPort clearedPorts clearedStep counts countsOn crcOf cutByte cutFrom dataOf distanceIn distanceOf divisor doubtfulBy dueIn endsEpoch endsOdd endsPacket eosAlone eosWrong epochAfter epochOf epochs epochsIn exact fetchAnswer fetchFits fetchOut fetchRecord fetchRows fieldsOf firstMark firstTag fits fixedExact fixedHeld fixedRulingOf fixedVerdict flagged foremost frameAnswer frameDropped frameFits frameInto frameRows frameStore frames framesInto freshPort freshPorts further furtherRun gainedRun gatherBy gatheredBy gidDiffers grant granted groupAt groupOf groupRow h4At h4Of heldBy highest highsOf holders idleNumber inStep inStepAt joining judgeOf keeps keptNumbers latest lcasVerdict lead loses markedAt markedByte marksAt marksBy memberAt memberOf memberRow missing moreKept mstFails mstFirst mstFrom mstNumbers mstOf nibbleBits nibbleIn nibblePlace nibblesOf noTag notedBy oddAfter oddPacket okHolds orderOf outIfDue outputBy outputFor outputOf outside owesNothing ownNumber ownRuling packetIn packetsAt passedByte passedGroup passedMarks passedOf passedPort passedPorts passedStep placeIn placeOf portIn portOf portRows portShown portsIn portsOut putGroup putMarks putMember putPackets putRow putStep rankOf readFixedNibbles readNibbles readable ready recordOf refusalBy repeats replyFit replyOf replyOut replyPort replyPorts reportBy reportIfDue reportOf reportedOf rightCrc ringOf rounds rowIn rowsFit rowsIfDue ruledBy rulingEpoch rulingIn rulingOf runOn sealedOf secondRun seenAll seenOf settledBy settledOf shownFit silent sized sizedAnswer sizedFits sizedRows someJoin standingBy standingsOf startAsAnswer startAsRows startFits startRight startsCount startsEpoch startsOf statePut statesPut statesWorkedOut stayedRun steadyRows stepAt stepOf stepRow stopBy stoppedOf storeBy storeFor storedAt tagAfter tagBefore tagByHigh tagByLow tags takenOf takenRows takenStore takes timesWithin turns withNext withNibble withState within
+own-reports = (refl, refl, refl, refl, refl, refl, refl, refl, refl, refl, refl, refl)
