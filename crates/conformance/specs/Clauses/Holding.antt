@@ -21,6 +21,10 @@ moved number was = seenPort 2 number true (standing 2 was 0) 3 0
 abbrev lost : ℕ → ℕ → Port
 lost number elapsed = seenPort 2 number false (standing 2 number elapsed) 3 0
 
+-- a newcomer
+abbrev added : ℕ → Port
+added number = seenPort 1 number true (standing 0 255 0) 0 0
+
 -- FAIL under a number, with a wait-to-restore of 2
 abbrev failed : ℕ → ℕ → Port
 failed number elapsed = seenPort 2 number true (standing 1 number elapsed) 0 2
@@ -38,10 +42,12 @@ holding :
 unfolding chosenOf claims grant granted keptNumbers holders moreKept rounds someJoin standingBy standingsOf
 holding = (refl, refl, refl, refl, refl, refl, refl, refl)
 
--- Three ports are lost and each keeps its own number; ports 1 and 2 are, and port 0 has its claim; port 2 is, and its number is port 1's wish.
+-- Three ports are lost and each keeps its own number; ports 1 and 2 are, and port 0 has its claim; port 2 is, and its number is port 1's wish; port 0 is, and port 1 leaves a number that port 2 gets; port 2 has lost to port 1, and port 3 wants what it keeps.
 each-keeps :
     (left (lost 4 0 ∷ lost 5 1 ∷ lost 6 2 ∷ []) ≡ standing 2 4 1 ∷ standing 2 5 2 ∷ standing 2 6 3 ∷ [])
     × (left (moved 4 4 ∷ lost 5 1 ∷ lost 6 2 ∷ []) ≡ standing 2 4 0 ∷ standing 2 5 2 ∷ standing 2 6 3 ∷ [])
     × (left (moved 4 4 ∷ moved 6 5 ∷ lost 6 0 ∷ []) ≡ standing 2 4 0 ∷ standing 2 5 1 ∷ standing 2 6 1 ∷ [])
+    × (left (lost 4 0 ∷ moved 5 6 ∷ added 6 ∷ []) ≡ standing 2 4 1 ∷ standing 2 5 0 ∷ standing 2 6 0 ∷ [])
+    × (left (moved 4 4 ∷ moved 5 5 ∷ moved 5 7 ∷ added 7 ∷ []) ≡ standing 2 4 0 ∷ standing 2 5 0 ∷ standing 2 7 1 ∷ standing 1 7 0 ∷ [])
 unfolding chosenOf claims grant granted keptNumbers holders moreKept rounds someJoin standingBy standingsOf
-each-keeps = (refl, refl, refl)
+each-keeps = (refl, refl, refl, refl, refl)

@@ -1,6 +1,6 @@
 -- A frame and a report of three ports: each port's own tag, packet, place in the store and state, and all ports in one report.
 use mathlib.Core.Path.{_≡_, refl}
-use mathlib.Core.Bool.{false}
+use mathlib.Core.Bool.{false, true}
 use mathlib.Core.List.{List, [], _++_, _∷_}
 use Prim.Native.Nat.{ℕ}
 use lib.ListN.{drop, replicate, take}
@@ -102,16 +102,16 @@ member word number told =
 abbrev empty : List (List ℕ)
 empty = putGroup (replicate 16 (zeros 16)) (group 0)
 
--- The packets that ports 0, 1 and 2 gather are filled with 7, 5 and 3, the ruling ones with 6, 4 and 2. They wait for tags 925, 933 and 935, at MFI1 13, 5 and 7.
+-- The packets that ports 0, 1 and 2 gather are filled with 7, 5 and 3, the ruling ones with 6, 4 and 2. They wait for tags 925, 933 and 935, at MFI1 13, 5 and 7. Each has another epoch marked.
 abbrev gathering : List (List ℕ)
 gathering =
-    putPackets
+    putMarks (putMarks (putMarks (putPackets
     (putPackets
     (putPackets (putStep (putStep (putStep empty 0 (step 925)) 1 (step 933)) 2 (step 935)) 0 (replicate 16 7 ∷ replicate 16 6 ∷ []))
     1
     (replicate 16 5 ∷ replicate 16 4 ∷ []))
     2
-    (replicate 16 3 ∷ replicate 16 2 ∷ [])
+    (replicate 16 3 ∷ replicate 16 2 ∷ [])) 0 (2 ∷ zeros 15)) 1 (4 ∷ zeros 15)) 2 (8 ∷ zeros 15)
 
 abbrev now₀ : List (List ℕ)
 now₀ = frameRows gathering 0 false 0x9D (8 ∷ []) (nines 96)
@@ -129,6 +129,10 @@ waiting s = stepAt s 0 .next ∷ stepAt s 1 .next ∷ stepAt s 2 .next ∷ []
 abbrev gathered : List (List ℕ) → List (List ℕ)
 gathered s = packetsAt s 0 ++ packetsAt s 1 ++ packetsAt s 2
 
+-- the first byte of each port's marks
+abbrev marked : List (List ℕ) → List ℕ
+marked s = take 1 (marksAt s 0) ++ take 1 (marksAt s 1) ++ take 1 (marksAt s 2)
+
 -- A frame goes by its own port and changes that port alone. Tags 925, 933 and 935 lie 5, 13 and 15 behind the window's first, at places 10, 2 and 4 of the ports' rings of 32 bytes each; their nibbles go to places 5, 13 and 15. The last frame of the epoch marks it.
 own-frames :
     (waiting now₀ ≡ 926 ∷ 933 ∷ 935 ∷ [])
@@ -137,33 +141,33 @@ own-frames :
     × (gathered now₀ ≡ (replicate 5 7 ++ (9 ∷ replicate 10 7)) ∷ replicate 16 6 ∷ replicate 16 5 ∷ replicate 16 4 ∷ replicate 16 3 ∷ replicate 16 2 ∷ [])
     × (gathered now₁ ≡ replicate 16 7 ∷ replicate 16 6 ∷ (replicate 13 5 ++ (11 ∷ 5 ∷ 5 ∷ [])) ∷ replicate 16 4 ∷ replicate 16 3 ∷ replicate 16 2 ∷ [])
     × (gathered now₂ ≡ replicate 16 7 ∷ replicate 16 6 ∷ replicate 16 5 ∷ replicate 16 4 ∷ (replicate 15 3 ++ (12 ∷ [])) ∷ replicate 16 2 ∷ [])
-    × (marksAt now₁ 1 ≡ zeros 16)
-    × (marksAt now₂ 2 ≡ 1 ∷ zeros 15)
-    × (marksAt now₂ 0 ++ marksAt now₂ 1 ≡ zeros 32)
+    × (marked now₀ ≡ 2 ∷ 4 ∷ 8 ∷ [])
+    × (marked now₁ ≡ 2 ∷ 4 ∷ 8 ∷ [])
+    × (marked now₂ ≡ 2 ∷ 4 ∷ 9 ∷ [])
     × (frameStore gathering 0 false 0x9D (8 ∷ []) (nines 96) ≡ nines 20 ++ (8 ∷ 0x9D ∷ []) ++ nines 74)
     × (frameStore gathering 1 false 0xB5 (8 ∷ []) (nines 96) ≡ nines 36 ++ (8 ∷ 0xB5 ∷ []) ++ nines 58)
     × (frameStore gathering 2 false 0xC7 (8 ∷ []) (nines 96) ≡ nines 72 ++ (8 ∷ 0xC7 ∷ []) ++ nines 22)
     × (frameAnswer gathering 2 false 0xC7 1 96 ≡ 0)
     × (frameAnswer gathering 3 false 0xC7 1 96 ≡ 1)
     × (frameAnswer gathering 2 false 0xC7 2 96 ≡ 9)
+    × (frameRows empty 3 true 0xC7 (8 ∷ []) (nines 96) ≡ empty)
 unfolding ackOf activeIn after arrives assigned beginBy begins begunOf begunRun breaksAfter brought byStart byWindow byteAt carriedIn carriesLow chosenOf claims clearedPort clearedPorts clearedStep counts countsOn crcOf cutByte cutFrom dataOf distanceIn distanceOf divisor doubtfulBy dueIn endsEpoch endsOdd endsPacket eosAlone eosWrong epochAfter epochOf epochs epochsIn exact fetchAnswer fetchFits fetchOut fetchRecord fetchRows fieldsOf firstMark firstTag fits fixedExact fixedHeld fixedRulingOf fixedVerdict flagged foremost frameAnswer frameDropped frameFits frameInto frameRows frameStore frames framesInto freshPort freshPorts further furtherRun gainedRun gatherBy gatheredBy gidDiffers grant granted groupAt groupOf groupRow h4At h4Of heldBy highest highsOf holders idleNumber inStep inStepAt joining judgeOf keeps keptNumbers latest lcasVerdict lead loses markedAt markedByte marksAt marksBy memberAt memberOf memberRow missing moreKept mstFails mstFirst mstFrom mstNumbers mstOf nibbleBits nibbleIn nibblePlace nibblesOf noTag notedBy oddAfter oddPacket okHolds orderOf outIfDue outputBy outputFor outputOf outside owesNothing ownNumber ownRuling packetIn packetsAt passedByte passedGroup passedMarks passedOf passedPort passedPorts passedStep placeIn placeOf portIn portOf portRows portShown portsIn portsOut putGroup putMarks putMember putPackets putRow putStep rankOf readFixedNibbles readNibbles readable ready recordOf refusalBy repeats replyFit replyOf replyOut replyPort replyPorts reportBy reportIfDue reportOf reportedOf rightCrc ringOf rounds rowIn rowsFit rowsIfDue ruledBy rulingEpoch rulingIn rulingOf runOn sealedOf secondRun seenAll seenOf settledBy settledOf shownFit silent sized sizedAnswer sizedFits sizedRows someJoin standingBy standingsOf startAsAnswer startAsRows startFits startRight startsCount startsEpoch startsOf statePut statesPut statesWorkedOut stayedRun steadyRows stepAt stepOf stepRow stopBy stoppedOf storeBy storeFor storedAt tagAfter tagBefore tagByHigh tagByLow tags takenOf takenRows takenStore takes timesWithin turns withNext withNibble withState within
-own-frames = (refl, refl, refl, refl, refl, refl, refl, refl, refl, refl, refl, refl, refl, refl, refl)
+own-frames = (refl, refl, refl, refl, refl, refl, refl, refl, refl, refl, refl, refl, refl, refl, refl, refl)
 
 -- NORM 0, NORM 1 and EOS 2 in epoch 57 with GID 1 and MST FF: CRCs 24, 32 and 5F
 abbrev packet : ℕ → ℕ → ℕ → ℕ → List ℕ
 packet word sq high low = 15 ∷ 15 ∷ 0 ∷ 0 ∷ 0 ∷ 0 ∷ 0 ∷ sq ∷ 3 ∷ 9 ∷ word ∷ 1 ∷ 0 ∷ 0 ∷ high ∷ low ∷ []
 
--- port 1 has gathered all but the last nibble of epoch 57's packet, which comes where epoch 58's should end; port 0 and port 2 have not
+-- port 1 has gathered all but the last nibble of epoch 57's packet, which comes where epoch 58's should end; ports 0 and 2 have gathered nothing, and port 0 is one frame behind
 abbrev late : List (List ℕ)
-late = putPackets (putStep (putStep (putStep empty 0 (step 935)) 1 (step 935)) 2 (step 935)) 1 (packet 2 1 3 9 ∷ zeros 16 ∷ [])
+late = putPackets (putStep (putStep (putStep empty 0 (step 934)) 1 (step 935)) 2 (step 935)) 1 (packet 2 1 3 9 ∷ zeros 16 ∷ [])
 
 -- whether a port ends an odd packet is asked of what it has gathered itself
 own-odd :
     (stepAt (frameRows late 1 false 0x27 (8 ∷ []) (nines 96)) 1 .odd ≡ 1)
-    × (stepAt (frameRows late 0 false 0x27 (8 ∷ []) (nines 96)) 0 .odd ≡ 0)
     × (stepAt (frameRows late 2 false 0x27 (8 ∷ []) (nines 96)) 2 .odd ≡ 0)
 unfolding ackOf activeIn after arrives assigned beginBy begins begunOf begunRun breaksAfter brought byStart byWindow byteAt carriedIn carriesLow chosenOf claims clearedPort clearedPorts clearedStep counts countsOn crcOf cutByte cutFrom dataOf distanceIn distanceOf divisor doubtfulBy dueIn endsEpoch endsOdd endsPacket eosAlone eosWrong epochAfter epochOf epochs epochsIn exact fetchAnswer fetchFits fetchOut fetchRecord fetchRows fieldsOf firstMark firstTag fits fixedExact fixedHeld fixedRulingOf fixedVerdict flagged foremost frameAnswer frameDropped frameFits frameInto frameRows frameStore frames framesInto freshPort freshPorts further furtherRun gainedRun gatherBy gatheredBy gidDiffers grant granted groupAt groupOf groupRow h4At h4Of heldBy highest highsOf holders idleNumber inStep inStepAt joining judgeOf keeps keptNumbers latest lcasVerdict lead loses markedAt markedByte marksAt marksBy memberAt memberOf memberRow missing moreKept mstFails mstFirst mstFrom mstNumbers mstOf nibbleBits nibbleIn nibblePlace nibblesOf noTag notedBy oddAfter oddPacket okHolds orderOf outIfDue outputBy outputFor outputOf outside owesNothing ownNumber ownRuling packetIn packetsAt passedByte passedGroup passedMarks passedOf passedPort passedPorts passedStep placeIn placeOf portIn portOf portRows portShown portsIn portsOut putGroup putMarks putMember putPackets putRow putStep rankOf readFixedNibbles readNibbles readable ready recordOf refusalBy repeats replyFit replyOf replyOut replyPort replyPorts reportBy reportIfDue reportOf reportedOf rightCrc ringOf rounds rowIn rowsFit rowsIfDue ruledBy rulingEpoch rulingIn rulingOf runOn sealedOf secondRun seenAll seenOf settledBy settledOf shownFit silent sized sizedAnswer sizedFits sizedRows someJoin standingBy standingsOf startAsAnswer startAsRows startFits startRight startsCount startsEpoch startsOf statePut statesPut statesWorkedOut stayedRun steadyRows stepAt stepOf stepRow stopBy stoppedOf storeBy storeFor storedAt tagAfter tagBefore tagByHigh tagByLow tags takenOf takenRows takenStore takes timesWithin turns withNext withNibble withState within
-own-odd = (refl, refl, refl)
+own-odd = (refl, refl)
 
 -- Port 0 was ruled by EOS 2, port 1 by NORM 0 and port 2 by NORM 1, and all have brought epoch 58. Port 2's number is other than the one that was told of it.
 abbrev due : List (List ℕ)
@@ -198,6 +202,10 @@ due =
 abbrev early : List (List ℕ)
 early = putMarks due 2 (zeros 16)
 
+-- nor here, where it was ruled by ADD 2 and port 0 by EOS 1: CRCs F1 and 65
+abbrev early-add : List (List ℕ)
+early-add = putPackets (putPackets early 0 (zeros 16 ∷ packet 3 1 6 5 ∷ [])) 2 (zeros 16 ∷ packet 1 2 15 1 ∷ [])
+
 -- a store whose byte at each place is the place
 abbrev store : List ℕ
 store = tabulate 96 (λ i. i)
@@ -223,5 +231,7 @@ own-reports :
     × (fetchRows early store (nines 50) (nines 8) ≡ early)
     × (fetchRecord early store (nines 50) (nines 8) ≡ zeros 8)
     × (fetchOut early store (nines 50) (nines 8) ≡ nines 50)
+    × (fetchOut early-add store (nines 50) (nines 8) ≡ nines 50)
+    × (fetchRecord (putMarks early-add 2 (1 ∷ zeros 15)) store (nines 50) (nines 8) ≡ 3 ∷ 58 ∷ 2 ∷ 0 ∷ 0 ∷ 0 ∷ 0 ∷ 32 ∷ [])
 unfolding ackOf activeIn after arrives assigned beginBy begins begunOf begunRun breaksAfter brought byStart byWindow byteAt carriedIn carriesLow chosenOf claims clearedPort clearedPorts clearedStep counts countsOn crcOf cutByte cutFrom dataOf distanceIn distanceOf divisor doubtfulBy dueIn endsEpoch endsOdd endsPacket eosAlone eosWrong epochAfter epochOf epochs epochsIn exact fetchAnswer fetchFits fetchOut fetchRecord fetchRows fieldsOf firstMark firstTag fits fixedExact fixedHeld fixedRulingOf fixedVerdict flagged foremost frameAnswer frameDropped frameFits frameInto frameRows frameStore frames framesInto freshPort freshPorts further furtherRun gainedRun gatherBy gatheredBy gidDiffers grant granted groupAt groupOf groupRow h4At h4Of heldBy highest highsOf holders idleNumber inStep inStepAt joining judgeOf keeps keptNumbers latest lcasVerdict lead loses markedAt markedByte marksAt marksBy memberAt memberOf memberRow missing moreKept mstFails mstFirst mstFrom mstNumbers mstOf nibbleBits nibbleIn nibblePlace nibblesOf noTag notedBy oddAfter oddPacket okHolds orderOf outIfDue outputBy outputFor outputOf outside owesNothing ownNumber ownRuling packetIn packetsAt passedByte passedGroup passedMarks passedOf passedPort passedPorts passedStep placeIn placeOf portIn portOf portRows portShown portsIn portsOut putGroup putMarks putMember putPackets putRow putStep rankOf readFixedNibbles readNibbles readable ready recordOf refusalBy repeats replyFit replyOf replyOut replyPort replyPorts reportBy reportIfDue reportOf reportedOf rightCrc ringOf rounds rowIn rowsFit rowsIfDue ruledBy rulingEpoch rulingIn rulingOf runOn sealedOf secondRun seenAll seenOf settledBy settledOf shownFit silent sized sizedAnswer sizedFits sizedRows someJoin standingBy standingsOf startAsAnswer startAsRows startFits startRight startsCount startsEpoch startsOf statePut statesPut statesWorkedOut stayedRun steadyRows stepAt stepOf stepRow stopBy stoppedOf storeBy storeFor storedAt tagAfter tagBefore tagByHigh tagByLow tags takenOf takenRows takenStore takes timesWithin turns withNext withNibble withState within
-own-reports = (refl, refl, refl, refl, refl, refl, refl, refl, refl, refl, refl, refl)
+own-reports = (refl, refl, refl, refl, refl, refl, refl, refl, refl, refl, refl, refl, refl, refl)

@@ -1,7 +1,7 @@
 -- A receiver's start, and what the host reads out (01, 'The receiver', 'Member states and reply'; requests 2026-03, 2026-12), clause by clause.
 use mathlib.Core.Path.{_≡_, refl}
 use mathlib.Core.Bool.{true, false}
-use mathlib.Core.List.{List, [], _∷_}
+use mathlib.Core.List.{List, [], _∷_, _++_}
 use Prim.Native.Nat.{ℕ}
 use lib.ListN.{replicate, take}
 use Rattle.packet.specs.Kinds.{frames, idleNumber, mstFirst, tags}
@@ -14,9 +14,10 @@ use Rattle.receiver.specs.Starting.{freshPort, freshPorts, sizedAnswer, sizedFi
 use Rattle.reply.specs.Telling.{mstFrom, mstOf, okHolds}
 use Rattle.rows.specs.declared.group.Group.{Group}
 use Rattle.rows.specs.declared.member.Member.{Member}
+use Rattle.rows.specs.declared.step.Step.{Step}
 use Rattle.rows.specs.Group.{groupAt, groupOf, groupRow, putGroup}
 use Rattle.rows.specs.Member.{memberAt, memberOf, memberRow, putMember}
-use Rattle.rows.specs.Packets.{putMarks, putPackets}
+use Rattle.rows.specs.Packets.{marksAt, packetsAt, putMarks, putPackets}
 use Rattle.rows.specs.Rows.{putRow, rowIn}
 use Rattle.rows.specs.Step.{putStep, stepAt, stepOf, stepRow}
 use Rattle.step.specs.Arrival.{inStep, readable}
@@ -42,6 +43,8 @@ starts :
     × (memberAt opened 1 .«told_word» ≡ 255)
     × (memberAt opened 1 .«told_number» ≡ 255)
     × (memberAt opened 1 .elapsed ≡ 0)
+    × (packetsAt opened 0 ++ packetsAt opened 1 ≡ replicate 4 (replicate 16 0))
+    × (marksAt opened 0 ++ marksAt opened 1 ≡ replicate 32 0)
     × (stepAt opened 1 .had ≡ 0)
     × (stepAt opened 1 .failed ≡ 0)
     × (stepAt opened 1 .count ≡ 0)
@@ -57,8 +60,8 @@ starts :
     × (groupAt opened .begun ≡ 0)
     × (groupAt opened .gathered ≡ 0)
     × (groupAt opened .«rs_ack» ≡ 0)
-unfolding frames freshPort freshPorts groupAt groupOf groupRow idleNumber memberAt memberOf memberRow putGroup putMarks putMember putPackets putRow putStep rowIn sized sizedFits sizedRows startAsRows startFits startRight stepAt stepOf stepRow tags timesWithin
-starts = (refl, refl, refl, refl, refl, refl, refl, refl, refl, refl, refl, refl, refl, refl, refl, refl, refl, refl, refl, refl, refl, refl, refl, refl, refl, refl)
+unfolding frames freshPort freshPorts groupAt groupOf groupRow idleNumber marksAt memberAt memberOf memberRow packetsAt putGroup putMarks putMember putPackets putRow putStep rowIn sized sizedFits sizedRows startAsRows startFits startRight stepAt stepOf stepRow tags timesWithin
+starts = (refl, refl, refl, refl, refl, refl, refl, refl, refl, refl, refl, refl, refl, refl, refl, refl, refl, refl, refl, refl, refl, refl, refl, refl, refl, refl, refl, refl)
 
 -- '4: .. an empty group': no port, and 9 leaves the rows
 refused-starts :
@@ -122,6 +125,23 @@ member state elapsed =
       elapsed = elapsed;
     }
 
+-- a port whose last frame was flagged failed, joined before
+abbrev flaggedStep : Step
+flaggedStep =
+    record {
+      spare = replicate 5 0;
+      had = 1;
+      failed = 1;
+      count = 0;
+      next = 0;
+      joined = 1;
+      since = 0;
+      later = 0;
+      whole = 0;
+      breaks = 0;
+      odd = 0;
+    }
+
 -- 'IDLE' has no number and no timer; 1 hold-off of an OK port, 2 restoring of a FAIL one
 shows :
     (shownNumber 0 (member 0 0) ≡ 255)
@@ -140,10 +160,11 @@ shows :
     × (portsAnswer (take 10 opened) 2 ≡ 9)
     × (portsOut opened (replicate 2 (replicate 8 9)) ≡ replicate 2 (0 ∷ 255 ∷ 0 ∷ 0 ∷ 0 ∷ 0 ∷ 255 ∷ 0 ∷ []))
     × (portsOut (putMember opened 1 (member 2 3)) (replicate 2 (replicate 8 9)) ≡ (0 ∷ 255 ∷ 0 ∷ 0 ∷ 0 ∷ 0 ∷ 255 ∷ 0 ∷ []) ∷ (2 ∷ 7 ∷ 0 ∷ 0 ∷ 0 ∷ 0 ∷ 2 ∷ 1 ∷ []) ∷ [])
+    × (portsOut (putStep opened 1 flaggedStep) (replicate 2 (replicate 8 9)) ≡ (0 ∷ 255 ∷ 0 ∷ 0 ∷ 0 ∷ 0 ∷ 255 ∷ 0 ∷ []) ∷ (0 ∷ 255 ∷ 0 ∷ 1 ∷ 0 ∷ 1 ∷ 255 ∷ 0 ∷ []) ∷ [])
     × (portsOut opened (replicate 3 (replicate 8 9)) ≡ replicate 3 (replicate 8 9))
     × (portsOut (take 10 opened) (replicate 2 (replicate 8 9)) ≡ replicate 2 (replicate 8 9))
 unfolding frames freshPort freshPorts groupAt groupOf groupRow idleNumber inStep inStepAt memberAt memberOf memberRow portIn portShown portsAnswer portsIn portsOut putGroup putMarks putMember putPackets putRow putStep readable recordOf rowIn rowsFit shownFit sized sizedFits sizedRows startAsRows startFits startRight stepAt stepOf stepRow tags timesWithin
-shows = (refl, refl, refl, refl, refl, refl, refl, refl, refl, refl, refl, refl, refl, refl, refl, refl, refl, refl)
+shows = (refl, refl, refl, refl, refl, refl, refl, refl, refl, refl, refl, refl, refl, refl, refl, refl, refl, refl, refl)
 
 -- RS-Ack has turned
 abbrev turned : Group
@@ -182,5 +203,7 @@ replies :
     × (replyOf seventh 32 ≡ 0xFE ∷ 0 ∷ [])
     × (replyOf seventh 33 ≡ 0xFF ∷ 0 ∷ [])
     × (replyOut seventh 64 (9 ∷ 9 ∷ []) ≡ 0xFE ∷ 0 ∷ [])
+    × (replyOut seventh 33 (9 ∷ 9 ∷ []) ≡ 0xFF ∷ 0 ∷ [])
+    × (replyOut (take 10 opened) 0 (9 ∷ 9 ∷ []) ≡ 9 ∷ 9 ∷ [])
 unfolding frames freshPort freshPorts groupAt groupOf groupRow memberAt memberOf memberRow mstFrom mstOf okHolds portsIn putGroup putMarks putMember putPackets putRow putStep replyAnswer replyFit replyOf replyOut replyPort replyPorts rowIn rowsFit sized sizedFits sizedRows startAsRows startFits startRight tags timesWithin mstFirst
-replies = (refl, refl, refl, refl, refl, refl, refl, refl, refl, refl, refl, refl, refl, refl, refl)
+replies = (refl, refl, refl, refl, refl, refl, refl, refl, refl, refl, refl, refl, refl, refl, refl, refl, refl)

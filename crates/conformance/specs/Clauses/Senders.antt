@@ -7,7 +7,7 @@ use lib.ListN.{getD, length, replicate, take}
 use Rattle.ground.specs.Table.{tabulate}
 use Rattle.packet.specs.Kinds.{epochAfter, epochs, idleNumber, mstFails, mstFirst, mstNumbers}
 use Rattle.sender.specs.Board.{boardOf, highest, noRow, rowOf, rowsOf}
-use Rattle.sender.specs.Calls.{Call}
+use Rattle.sender.specs.Calls.{Call, outcomeOf}
 use Rattle.sender.specs.Calls.Call.{AddSlot, Lapse, RemoveSlot, Report}
 use Rattle.sender.specs.Commands.{addOf, addedTo, fallen, fallenIn, freshOf, idleSlot, lapseOf, removeOf, removedFrom, startOf}
 use Rattle.sender.specs.Epochs.{beginOf, freshSender, packetFields, ranksOf, senderRun, startEpochOf, startedEpoch, startedSender}
@@ -19,7 +19,7 @@ use Rattle.sender.specs.declared.table.State.the-variants.{Active, Add, Dnu, Id
 use Rattle.sender.specs.declared.table.Table.{Table}
 use Rattle.sender.specs.Reports.{actedOn, comesBefore, mstApplied, numberAfter, numberApplied, opensWait, renumbered, reportOf, slotAfter, turnOf, waited}
 use Rattle.sender.specs.Shown.{after, shown}
-use Rattle.sender.specs.Table.{holderOf, membersOf, sizeOf}
+use Rattle.sender.specs.Table.{answerNumber, holderOf, membersOf, sizeOf}
 
 abbrev active : ℕ → List Call
 active slot = AddSlot slot ∷ Report 0 0x00 0 ∷ Lapse ∷ []
@@ -48,9 +48,21 @@ falls : shown (after 3 (two ++ (active 2 ++ (RemoveSlot 2 ∷ [])))) ≡ 2 ∷ 0
 unfolding actedOn addOf addedTo boardOf comesBefore fallen fallenIn freshOf highest holderOf idleNumber idleSlot lapseOf membersOf mstApplied mstFails mstFirst mstNumbers noRow numberAfter numberApplied opensWait removeOf removedFrom renumbered reportOf rowOf rowsOf sizeOf slotAfter startOf turnOf waited
 falls = refl
 
--- three slots whose first epoch is 255, slots 0 and 2 active from before its start
+-- 'Add, from IDLE', 'Remove, from ADD, active or DNU', of the slot that is named: slot 0 active, slot 1 IDLE, and the other way round
+commands :
+    (answerNumber (outcomeOf (after 2 (active 0)) (AddSlot 0) .answer) ≡ 2)
+    × (answerNumber (outcomeOf (after 2 (active 0)) (AddSlot 1) .answer) ≡ 0)
+    × (answerNumber (outcomeOf (after 2 (active 0)) (RemoveSlot 0) .answer) ≡ 0)
+    × (answerNumber (outcomeOf (after 2 (active 0)) (RemoveSlot 1) .answer) ≡ 2)
+    × (answerNumber (outcomeOf (after 2 (active 1)) (AddSlot 1) .answer) ≡ 2)
+    × (answerNumber (outcomeOf (after 2 (active 1)) (RemoveSlot 1) .answer) ≡ 0)
+    × (answerNumber (outcomeOf (after 2 (active 1)) (RemoveSlot 0) .answer) ≡ 2)
+unfolding actedOn addOf addedTo comesBefore freshOf holderOf idleNumber idleSlot lapseOf membersOf mstApplied mstFails mstFirst mstNumbers numberAfter numberApplied opensWait removeOf renumbered reportOf sizeOf slotAfter startOf turnOf waited
+commands = (refl, refl, refl, refl, refl, refl, refl)
+
+-- three slots whose first epoch is 255, slots 1 and 2 active from before its start
 abbrev ranked : ℕ → Ranks
-ranked n = ranksOf (senderRun (beginOf 0 3 255 .sender) (OnTable (AddSlot 0) ∷ OnTable (AddSlot 2) ∷ OnTable (Report 0 0x00 0) ∷ replicate n (StartEpoch 0 0 0)))
+ranked n = ranksOf (senderRun (beginOf 0 3 255 .sender) (OnTable (AddSlot 1) ∷ OnTable (AddSlot 2) ∷ OnTable (Report 0 0x00 0) ∷ replicate n (StartEpoch 0 0 0)))
 
 -- Before the first start no epoch has begun; then 255, and 0 behind it, ruled by the packets of 255. A command leaves what the start of the epoch fixed.
 epochs-begun :
@@ -63,7 +75,7 @@ epochs-begun :
     × (ranked 2 .epoch ≡ 0)
     × (ranked 2 .x ≡ 2)
     × (ranked 2 .count ≡ 3)
-    × (take 4 (ranked 2 .ranks) ≡ 0 ∷ 255 ∷ 1 ∷ 255 ∷ [])
+    × (take 4 (ranked 2 .ranks) ≡ 255 ∷ 0 ∷ 1 ∷ 255 ∷ [])
     × (packetFields (senderRun (beginOf 0 3 255 .sender) (StartEpoch 0 0x5A 1 ∷ OnTable (AddSlot 0) ∷ [])) 0 .gid ≡ 0)
     × (packetFields (senderRun (beginOf 0 3 255 .sender) (StartEpoch 1 0x5A 1 ∷ OnTable (AddSlot 0) ∷ [])) 0 .gid ≡ 1)
     × (packetFields (senderRun (beginOf 0 3 255 .sender) (StartEpoch 1 0x5A 1 ∷ OnTable (AddSlot 0) ∷ [])) 0 .«rs_ack» ≡ 1)

@@ -88,9 +88,12 @@ any-place :
     × (each-place (λ i. saw 3 i 0) ≡ 1 ∷ 1 ∷ 1 ∷ 3 ∷ [])
     × (each-place (λ i. torn (word i) i 0 true) ≡ 2 ∷ 2 ∷ 2 ∷ 2 ∷ [])
     × (verdict (saw 5 255 0 ∷ saw 2 0 0 ∷ []) ≡ 1)
+    × (verdict (saw 2 0 0 ∷ saw 5 255 0 ∷ []) ≡ 1)
+    × (verdict (saw 2 0 0 ∷ saw 3 1 0 ∷ saw 5 255 1 ∷ []) ≡ 3)
+    × (verdict (saw 2 0 1 ∷ saw 3 1 1 ∷ saw 5 255 0 ∷ []) ≡ 3)
     × (verdict (saw 2 1 0 ∷ saw 3 0 0 ∷ torn 2 2 0 true ∷ []) ≡ 1)
 unfolding doubtfulBy eosAlone eosWrong exact gidDiffers heldBy highest judgeOf lcasVerdict missing repeats takes
-any-place = (refl, refl, refl, refl, refl, refl, refl, refl, refl)
+any-place = (refl, refl, refl, refl, refl, refl, refl, refl, refl, refl, refl, refl)
 
 abbrev fixed-place : (ℕ → Seen) → List ℕ
 fixed-place x = tabulate 4 (λ i. judgeOf 2 (set (tabulate 4 (λ j. saw 0 j 0)) i (x i)) 4)
