@@ -12,3 +12,4 @@ mod FewerPorts
 mod Numbers
 mod Fixed
 mod Bounds
+mod Words
