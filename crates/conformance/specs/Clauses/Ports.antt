@@ -3,7 +3,7 @@ use mathlib.Core.Path.{_≡_, refl}
 use mathlib.Core.Bool.{false, true}
 use mathlib.Core.List.{List, [], _++_, _∷_}
 use Prim.Native.Nat.{ℕ}
-use lib.ListN.{drop, replicate, take}
+use lib.ListN.{drop, getD, replicate, take}
 use Rattle.ground.specs.Circle.{after}
 use Rattle.ground.specs.Table.{tabulate}
 use Rattle.judge.specs.Order.{activeIn, orderOf, portOf, rankOf}
@@ -22,7 +22,7 @@ use Rattle.phases.specs.Passing.{notedBy, passedGroup, passedOf, passedPort, pa
 use Rattle.phases.specs.Settling.{beginBy, begunOf, clearedPort, clearedPorts, clearedStep, gatherBy, settledOf, stopBy, stoppedOf}
 use Rattle.phases.specs.Sizes.{portsIn, sized, storeFor}
 use Rattle.receiver.specs.Fetch.{dueIn, fetchAnswer, fetchOut, fetchRecord, fetchRows, fits, outIfDue, recordOf, reportIfDue, rowsIfDue}
-use Rattle.receiver.specs.Frame.{frameAnswer, frameRows, frameStore, gatheredBy, marksBy, portRows, refusalBy, settledBy, steadyRows, storeBy, takenRows, takenStore}
+use Rattle.receiver.specs.Frame.{frameAnswer, frameRows, frameStore, gatheredBy, marksBy, portRows, refusalBy, settledBy, storeBy, takenRows, takenStore}
 use Rattle.receiver.specs.Lengths.{fetchFits, frameFits, outputFor, rowsFit}
 use Rattle.receiver.specs.Report.{frameInto, framesInto, outputBy, outputOf, replyPort, replyPorts, reportBy, reportOf, reportedOf, rulingEpoch, seenAll, seenOf, startsOf, statePut, statesPut, statesWorkedOut, withState}
 use Rattle.receiver.specs.Shown.{portIn, portShown, portsOut, replyFit, replyOf, replyOut, shownFit}
@@ -32,9 +32,9 @@ use Rattle.reply.specs.Telling.{ackOf, mstFrom, mstOf, okHolds, turns}
 use Rattle.reply.specs.Waiting.{chosenOf, keptNumbers, moreKept, rounds, someJoin, standingBy, standingsOf}
 use Rattle.rows.specs.Group.{groupAt, groupOf, groupRow, putGroup}
 use Rattle.rows.specs.Member.{memberAt, memberOf, memberRow, putMember}
-use Rattle.rows.specs.Packets.{marksAt, packetsAt, putMarks, putPackets, withNibble}
+use Rattle.rows.specs.Packets.{marksAt, packetsAt, putMarks, putPackets}
 use Rattle.rows.specs.Rows.{putRow, rowIn}
-use Rattle.rows.specs.Step.{putStep, stepAt, stepOf, stepRow, withNext}
+use Rattle.rows.specs.Step.{putStep, stepAt, stepOf, stepRow}
 use Rattle.rows.specs.declared.group.Group.{Group}
 use Rattle.rows.specs.declared.member.Member.{Member}
 use Rattle.rows.specs.declared.step.Step.{Step}
@@ -50,9 +50,9 @@ nines n = replicate n 9
 abbrev zeros : ℕ → List ℕ
 zeros n = replicate n 0
 
--- three ports, P 1, W 16; receiving has begun with epoch 58, whose first frame has tag 920 and stands at place 5 of each ring
+-- three ports, P 1, W 16; receiving has begun with epoch 58, whose first frame has tag 920 and stands at place 5 of each ring; it was gathered or not
 abbrev group : ℕ → Group
-group ack =
+group gathered =
     record {
       spare = zeros 4;
       kind = 0;
@@ -60,10 +60,10 @@ group ack =
       payload = 1;
       window = 16;
       begun = 1;
-      gathered = 1;
+      gathered = gathered;
       oldest = 58;
       origin = 5;
-      «rs_ack» = ack;
+      «rs_ack» = 0;
     }
 
 -- a port in step that has joined, its next tag
@@ -100,7 +100,7 @@ member word number told =
     }
 
 abbrev empty : List (List ℕ)
-empty = putGroup (replicate 16 (zeros 16)) (group 0)
+empty = putGroup (replicate 16 (zeros 16)) (group 1)
 
 -- The packets that ports 0, 1 and 2 gather are filled with 7, 5 and 3, the ruling ones with 6, 4 and 2. They wait for tags 925, 933 and 935, at MFI1 13, 5 and 7. Each has another epoch marked.
 abbrev gathering : List (List ℕ)
@@ -151,8 +151,24 @@ own-frames :
     × (frameAnswer gathering 3 false 0xC7 1 96 ≡ 1)
     × (frameAnswer gathering 2 false 0xC7 2 96 ≡ 9)
     × (frameRows empty 3 true 0xC7 (8 ∷ []) (nines 96) ≡ empty)
-unfolding ackOf activeIn after arrives assigned beginBy begins begunOf begunRun breaksAfter brought byStart byWindow byteAt carriedIn carriesLow chosenOf claims clearedPort clearedPorts clearedStep counts countsOn crcOf cutByte cutFrom dataOf distanceIn distanceOf divisor doubtfulBy dueIn endsEpoch endsOdd endsPacket eosAlone eosWrong epochAfter epochOf epochs epochsIn exact fetchAnswer fetchFits fetchOut fetchRecord fetchRows fieldsOf firstMark firstTag fits fixedExact fixedHeld fixedRulingOf fixedVerdict flagged foremost frameAnswer frameDropped frameFits frameInto frameRows frameStore frames framesInto freshPort freshPorts further furtherRun gainedRun gatherBy gatheredBy gidDiffers grant granted groupAt groupOf groupRow h4At h4Of heldBy highest highsOf holders idleNumber inStep inStepAt joining judgeOf keeps keptNumbers latest lcasVerdict lead loses markedAt markedByte marksAt marksBy memberAt memberOf memberRow missing moreKept mstFails mstFirst mstFrom mstNumbers mstOf nibbleBits nibbleIn nibblePlace nibblesOf noTag notedBy oddAfter oddPacket okHolds orderOf outIfDue outputBy outputFor outputOf outside owesNothing ownNumber ownRuling packetIn packetsAt passedByte passedGroup passedMarks passedOf passedPort passedPorts passedStep placeIn placeOf portIn portOf portRows portShown portsIn portsOut putGroup putMarks putMember putPackets putRow putStep rankOf readFixedNibbles readNibbles readable ready recordOf refusalBy repeats replyFit replyOf replyOut replyPort replyPorts reportBy reportIfDue reportOf reportedOf rightCrc ringOf rounds rowIn rowsFit rowsIfDue ruledBy rulingEpoch rulingIn rulingOf runOn sealedOf secondRun seenAll seenOf settledBy settledOf shownFit silent sized sizedAnswer sizedFits sizedRows someJoin standingBy standingsOf startAsAnswer startAsRows startFits startRight startsCount startsEpoch startsOf statePut statesPut statesWorkedOut stayedRun steadyRows stepAt stepOf stepRow stopBy stoppedOf storeBy storeFor storedAt tagAfter tagBefore tagByHigh tagByLow tags takenOf takenRows takenStore takes timesWithin turns withNext withNibble withState within
+unfolding ackOf activeIn after arrives assigned beginBy begins begunOf begunRun breaksAfter brought byStart byWindow byteAt carriedIn carriesLow chosenOf claims clearedPort clearedPorts clearedStep counts countsOn crcOf cutByte cutFrom dataOf distanceIn distanceOf divisor doubtfulBy dueIn endsEpoch endsOdd endsPacket eosAlone eosWrong epochAfter epochOf epochs epochsIn exact fetchAnswer fetchFits fetchOut fetchRecord fetchRows fieldsOf firstMark firstTag fits fixedExact fixedHeld fixedRulingOf fixedVerdict flagged foremost frameAnswer frameDropped frameFits frameInto frameRows frameStore frames framesInto freshPort freshPorts further furtherRun gainedRun gatherBy gatheredBy gidDiffers grant granted groupAt groupOf groupRow h4At h4Of heldBy highest highsOf holders idleNumber inStep inStepAt joining judgeOf keeps keptNumbers latest lcasVerdict lead loses markedAt markedByte marksAt marksBy memberAt memberOf memberRow missing moreKept mstFails mstFirst mstFrom mstNumbers mstOf nibbleBits nibbleIn nibblePlace nibblesOf noTag notedBy oddAfter oddPacket okHolds orderOf outIfDue outputBy outputFor outputOf outside owesNothing ownNumber ownRuling packetIn packetsAt passedByte passedGroup passedMarks passedOf passedPort passedPorts passedStep placeIn placeOf portIn portOf portRows portShown portsIn portsOut putGroup putMarks putMember putPackets putRow putStep rankOf readFixedNibbles readNibbles readable ready recordOf refusalBy repeats replyFit replyOf replyOut replyPort replyPorts reportBy reportIfDue reportOf reportedOf rightCrc ringOf rounds rowIn rowsFit rowsIfDue ruledBy rulingEpoch rulingIn rulingOf runOn sealedOf secondRun seenAll seenOf settledBy settledOf shownFit silent sized sizedAnswer sizedFits sizedRows someJoin standingBy standingsOf startAsAnswer startAsRows startFits startRight startsCount startsEpoch startsOf statePut statesPut statesWorkedOut stayedRun stepAt stepOf stepRow stopBy stoppedOf storeBy storeFor storedAt tagAfter tagBefore tagByHigh tagByLow tags takenOf takenRows takenStore takes timesWithin turns withState within
 own-frames = (refl, refl, refl, refl, refl, refl, refl, refl, refl, refl, refl, refl, refl, refl, refl, refl)
+
+-- Epoch 58 is the first, and not gathered yet; ports 0 and 1 have brought it. The fifteen frames that port 2 has stored carry the nibble 3.
+abbrev unfinished : List (List ℕ)
+unfinished = putMarks (putMarks (putMarks (putGroup gathering (group 0)) 0 (1 ∷ zeros 15)) 1 (1 ∷ zeros 15)) 2 (zeros 16)
+
+abbrev finished : List (List ℕ)
+finished = frameRows unfinished 2 false 0xC7 (8 ∷ []) (nines 64 ++ replicate 32 0x30)
+
+-- 'gathered, in the call that makes it due': port 2's packet is read with the frame that has just come
+own-gathering :
+    (groupAt finished .gathered ≡ 1)
+    × (groupAt finished .oldest ≡ 59)
+    × (packetsAt finished 2 ≡ (replicate 15 3 ++ (12 ∷ [])) ∷ (replicate 15 3 ++ (12 ∷ [])) ∷ [])
+    × (getD (packetsAt finished 0) 1 [] ≡ zeros 16)
+unfolding ackOf activeIn after arrives assigned beginBy begins begunOf begunRun breaksAfter brought byStart byWindow byteAt carriedIn carriesLow chosenOf claims clearedPort clearedPorts clearedStep counts countsOn crcOf cutByte cutFrom dataOf distanceIn distanceOf divisor doubtfulBy dueIn endsEpoch endsOdd endsPacket eosAlone eosWrong epochAfter epochOf epochs epochsIn exact fetchAnswer fetchFits fetchOut fetchRecord fetchRows fieldsOf firstMark firstTag fits fixedExact fixedHeld fixedRulingOf fixedVerdict flagged foremost frameAnswer frameDropped frameFits frameInto frameRows frameStore frames framesInto freshPort freshPorts further furtherRun gainedRun gatherBy gatheredBy gidDiffers grant granted groupAt groupOf groupRow h4At h4Of heldBy highest highsOf holders idleNumber inStep inStepAt joining judgeOf keeps keptNumbers latest lcasVerdict lead loses markedAt markedByte marksAt marksBy memberAt memberOf memberRow missing moreKept mstFails mstFirst mstFrom mstNumbers mstOf nibbleBits nibbleIn nibblePlace nibblesOf noTag notedBy oddAfter oddPacket okHolds orderOf outIfDue outputBy outputFor outputOf outside owesNothing ownNumber ownRuling packetIn packetsAt passedByte passedGroup passedMarks passedOf passedPort passedPorts passedStep placeIn placeOf portIn portOf portRows portShown portsIn portsOut putGroup putMarks putMember putPackets putRow putStep rankOf readFixedNibbles readNibbles readable ready recordOf refusalBy repeats replyFit replyOf replyOut replyPort replyPorts reportBy reportIfDue reportOf reportedOf rightCrc ringOf rounds rowIn rowsFit rowsIfDue ruledBy rulingEpoch rulingIn rulingOf runOn sealedOf secondRun seenAll seenOf settledBy settledOf shownFit silent sized sizedAnswer sizedFits sizedRows someJoin standingBy standingsOf startAsAnswer startAsRows startFits startRight startsCount startsEpoch startsOf statePut statesPut statesWorkedOut stayedRun stepAt stepOf stepRow stopBy stoppedOf storeBy storeFor storedAt tagAfter tagBefore tagByHigh tagByLow tags takenOf takenRows takenStore takes timesWithin turns withState within
+own-gathering = (refl, refl, refl, refl)
 
 -- NORM 0, NORM 1 and EOS 2 in epoch 57 with GID 1 and MST FF: CRCs 24, 32 and 5F
 abbrev packet : ℕ → ℕ → ℕ → ℕ → List ℕ
@@ -166,7 +182,7 @@ late = putPackets (putStep (putStep (putStep empty 0 (step 934)) 1 (step 935)) 2
 own-odd :
     (stepAt (frameRows late 1 false 0x27 (8 ∷ []) (nines 96)) 1 .odd ≡ 1)
     × (stepAt (frameRows late 2 false 0x27 (8 ∷ []) (nines 96)) 2 .odd ≡ 0)
-unfolding ackOf activeIn after arrives assigned beginBy begins begunOf begunRun breaksAfter brought byStart byWindow byteAt carriedIn carriesLow chosenOf claims clearedPort clearedPorts clearedStep counts countsOn crcOf cutByte cutFrom dataOf distanceIn distanceOf divisor doubtfulBy dueIn endsEpoch endsOdd endsPacket eosAlone eosWrong epochAfter epochOf epochs epochsIn exact fetchAnswer fetchFits fetchOut fetchRecord fetchRows fieldsOf firstMark firstTag fits fixedExact fixedHeld fixedRulingOf fixedVerdict flagged foremost frameAnswer frameDropped frameFits frameInto frameRows frameStore frames framesInto freshPort freshPorts further furtherRun gainedRun gatherBy gatheredBy gidDiffers grant granted groupAt groupOf groupRow h4At h4Of heldBy highest highsOf holders idleNumber inStep inStepAt joining judgeOf keeps keptNumbers latest lcasVerdict lead loses markedAt markedByte marksAt marksBy memberAt memberOf memberRow missing moreKept mstFails mstFirst mstFrom mstNumbers mstOf nibbleBits nibbleIn nibblePlace nibblesOf noTag notedBy oddAfter oddPacket okHolds orderOf outIfDue outputBy outputFor outputOf outside owesNothing ownNumber ownRuling packetIn packetsAt passedByte passedGroup passedMarks passedOf passedPort passedPorts passedStep placeIn placeOf portIn portOf portRows portShown portsIn portsOut putGroup putMarks putMember putPackets putRow putStep rankOf readFixedNibbles readNibbles readable ready recordOf refusalBy repeats replyFit replyOf replyOut replyPort replyPorts reportBy reportIfDue reportOf reportedOf rightCrc ringOf rounds rowIn rowsFit rowsIfDue ruledBy rulingEpoch rulingIn rulingOf runOn sealedOf secondRun seenAll seenOf settledBy settledOf shownFit silent sized sizedAnswer sizedFits sizedRows someJoin standingBy standingsOf startAsAnswer startAsRows startFits startRight startsCount startsEpoch startsOf statePut statesPut statesWorkedOut stayedRun steadyRows stepAt stepOf stepRow stopBy stoppedOf storeBy storeFor storedAt tagAfter tagBefore tagByHigh tagByLow tags takenOf takenRows takenStore takes timesWithin turns withNext withNibble withState within
+unfolding ackOf activeIn after arrives assigned beginBy begins begunOf begunRun breaksAfter brought byStart byWindow byteAt carriedIn carriesLow chosenOf claims clearedPort clearedPorts clearedStep counts countsOn crcOf cutByte cutFrom dataOf distanceIn distanceOf divisor doubtfulBy dueIn endsEpoch endsOdd endsPacket eosAlone eosWrong epochAfter epochOf epochs epochsIn exact fetchAnswer fetchFits fetchOut fetchRecord fetchRows fieldsOf firstMark firstTag fits fixedExact fixedHeld fixedRulingOf fixedVerdict flagged foremost frameAnswer frameDropped frameFits frameInto frameRows frameStore frames framesInto freshPort freshPorts further furtherRun gainedRun gatherBy gatheredBy gidDiffers grant granted groupAt groupOf groupRow h4At h4Of heldBy highest highsOf holders idleNumber inStep inStepAt joining judgeOf keeps keptNumbers latest lcasVerdict lead loses markedAt markedByte marksAt marksBy memberAt memberOf memberRow missing moreKept mstFails mstFirst mstFrom mstNumbers mstOf nibbleBits nibbleIn nibblePlace nibblesOf noTag notedBy oddAfter oddPacket okHolds orderOf outIfDue outputBy outputFor outputOf outside owesNothing ownNumber ownRuling packetIn packetsAt passedByte passedGroup passedMarks passedOf passedPort passedPorts passedStep placeIn placeOf portIn portOf portRows portShown portsIn portsOut putGroup putMarks putMember putPackets putRow putStep rankOf readFixedNibbles readNibbles readable ready recordOf refusalBy repeats replyFit replyOf replyOut replyPort replyPorts reportBy reportIfDue reportOf reportedOf rightCrc ringOf rounds rowIn rowsFit rowsIfDue ruledBy rulingEpoch rulingIn rulingOf runOn sealedOf secondRun seenAll seenOf settledBy settledOf shownFit silent sized sizedAnswer sizedFits sizedRows someJoin standingBy standingsOf startAsAnswer startAsRows startFits startRight startsCount startsEpoch startsOf statePut statesPut statesWorkedOut stayedRun stepAt stepOf stepRow stopBy stoppedOf storeBy storeFor storedAt tagAfter tagBefore tagByHigh tagByLow tags takenOf takenRows takenStore takes timesWithin turns withState within
 own-odd = (refl, refl)
 
 -- Port 0 was ruled by EOS 2, port 1 by NORM 0 and port 2 by NORM 1, and all have brought epoch 58. Port 2's number is other than the one that was told of it.
@@ -233,5 +249,5 @@ own-reports :
     × (fetchOut early store (nines 50) (nines 8) ≡ nines 50)
     × (fetchOut early-add store (nines 50) (nines 8) ≡ nines 50)
     × (fetchRecord (putMarks early-add 2 (1 ∷ zeros 15)) store (nines 50) (nines 8) ≡ 3 ∷ 58 ∷ 2 ∷ 0 ∷ 0 ∷ 0 ∷ 0 ∷ 32 ∷ [])
-unfolding ackOf activeIn after arrives assigned beginBy begins begunOf begunRun breaksAfter brought byStart byWindow byteAt carriedIn carriesLow chosenOf claims clearedPort clearedPorts clearedStep counts countsOn crcOf cutByte cutFrom dataOf distanceIn distanceOf divisor doubtfulBy dueIn endsEpoch endsOdd endsPacket eosAlone eosWrong epochAfter epochOf epochs epochsIn exact fetchAnswer fetchFits fetchOut fetchRecord fetchRows fieldsOf firstMark firstTag fits fixedExact fixedHeld fixedRulingOf fixedVerdict flagged foremost frameAnswer frameDropped frameFits frameInto frameRows frameStore frames framesInto freshPort freshPorts further furtherRun gainedRun gatherBy gatheredBy gidDiffers grant granted groupAt groupOf groupRow h4At h4Of heldBy highest highsOf holders idleNumber inStep inStepAt joining judgeOf keeps keptNumbers latest lcasVerdict lead loses markedAt markedByte marksAt marksBy memberAt memberOf memberRow missing moreKept mstFails mstFirst mstFrom mstNumbers mstOf nibbleBits nibbleIn nibblePlace nibblesOf noTag notedBy oddAfter oddPacket okHolds orderOf outIfDue outputBy outputFor outputOf outside owesNothing ownNumber ownRuling packetIn packetsAt passedByte passedGroup passedMarks passedOf passedPort passedPorts passedStep placeIn placeOf portIn portOf portRows portShown portsIn portsOut putGroup putMarks putMember putPackets putRow putStep rankOf readFixedNibbles readNibbles readable ready recordOf refusalBy repeats replyFit replyOf replyOut replyPort replyPorts reportBy reportIfDue reportOf reportedOf rightCrc ringOf rounds rowIn rowsFit rowsIfDue ruledBy rulingEpoch rulingIn rulingOf runOn sealedOf secondRun seenAll seenOf settledBy settledOf shownFit silent sized sizedAnswer sizedFits sizedRows someJoin standingBy standingsOf startAsAnswer startAsRows startFits startRight startsCount startsEpoch startsOf statePut statesPut statesWorkedOut stayedRun steadyRows stepAt stepOf stepRow stopBy stoppedOf storeBy storeFor storedAt tagAfter tagBefore tagByHigh tagByLow tags takenOf takenRows takenStore takes timesWithin turns withNext withNibble withState within
+unfolding ackOf activeIn after arrives assigned beginBy begins begunOf begunRun breaksAfter brought byStart byWindow byteAt carriedIn carriesLow chosenOf claims clearedPort clearedPorts clearedStep counts countsOn crcOf cutByte cutFrom dataOf distanceIn distanceOf divisor doubtfulBy dueIn endsEpoch endsOdd endsPacket eosAlone eosWrong epochAfter epochOf epochs epochsIn exact fetchAnswer fetchFits fetchOut fetchRecord fetchRows fieldsOf firstMark firstTag fits fixedExact fixedHeld fixedRulingOf fixedVerdict flagged foremost frameAnswer frameDropped frameFits frameInto frameRows frameStore frames framesInto freshPort freshPorts further furtherRun gainedRun gatherBy gatheredBy gidDiffers grant granted groupAt groupOf groupRow h4At h4Of heldBy highest highsOf holders idleNumber inStep inStepAt joining judgeOf keeps keptNumbers latest lcasVerdict lead loses markedAt markedByte marksAt marksBy memberAt memberOf memberRow missing moreKept mstFails mstFirst mstFrom mstNumbers mstOf nibbleBits nibbleIn nibblePlace nibblesOf noTag notedBy oddAfter oddPacket okHolds orderOf outIfDue outputBy outputFor outputOf outside owesNothing ownNumber ownRuling packetIn packetsAt passedByte passedGroup passedMarks passedOf passedPort passedPorts passedStep placeIn placeOf portIn portOf portRows portShown portsIn portsOut putGroup putMarks putMember putPackets putRow putStep rankOf readFixedNibbles readNibbles readable ready recordOf refusalBy repeats replyFit replyOf replyOut replyPort replyPorts reportBy reportIfDue reportOf reportedOf rightCrc ringOf rounds rowIn rowsFit rowsIfDue ruledBy rulingEpoch rulingIn rulingOf runOn sealedOf secondRun seenAll seenOf settledBy settledOf shownFit silent sized sizedAnswer sizedFits sizedRows someJoin standingBy standingsOf startAsAnswer startAsRows startFits startRight startsCount startsEpoch startsOf statePut statesPut statesWorkedOut stayedRun stepAt stepOf stepRow stopBy stoppedOf storeBy storeFor storedAt tagAfter tagBefore tagByHigh tagByLow tags takenOf takenRows takenStore takes timesWithin turns withState within
 own-reports = (refl, refl, refl, refl, refl, refl, refl, refl, refl, refl, refl, refl, refl, refl)

@@ -77,5 +77,6 @@ turning :
     × (ackOf (renumbered ∷ stays ∷ left-group ∷ []) 3 0 ≡ 1)
     × (ackOf (renumbered ∷ renumbered ∷ stays ∷ []) 3 1 ≡ 0)
     × (mstOf 0 (stays ∷ ok 9 ∷ ok 7 ∷ []) 3 0 ≡ 0x7E)
+    × (mstOf 0 (ok 6 ∷ ok 5 ∷ ok 4 ∷ ok 3 ∷ ok 2 ∷ ok 1 ∷ ok 0 ∷ []) 7 0 ≡ 0x01)
 unfolding ackOf mstFirst mstFrom mstOf okHolds turns
-turning = (refl, refl, refl, refl, refl, refl, refl)
+turning = (refl, refl, refl, refl, refl, refl, refl, refl)

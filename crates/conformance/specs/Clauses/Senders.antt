@@ -48,7 +48,7 @@ falls : shown (after 3 (two ++ (active 2 ++ (RemoveSlot 2 ∷ [])))) ≡ 2 ∷ 0
 unfolding actedOn addOf addedTo boardOf comesBefore fallen fallenIn freshOf highest holderOf idleNumber idleSlot lapseOf membersOf mstApplied mstFails mstFirst mstNumbers noRow numberAfter numberApplied opensWait removeOf removedFrom renumbered reportOf rowOf rowsOf sizeOf slotAfter startOf turnOf waited
 falls = refl
 
--- 'Add, from IDLE', 'Remove, from ADD, active or DNU', of the slot that is named: slot 0 active, slot 1 IDLE, and the other way round
+-- 'Add, from IDLE', 'Remove, from ADD, active or DNU', of the slot that is named: slot 0 active, slot 1 IDLE, and the other way round; there is no slot 2
 commands :
     (answerNumber (outcomeOf (after 2 (active 0)) (AddSlot 0) .answer) ≡ 2)
     × (answerNumber (outcomeOf (after 2 (active 0)) (AddSlot 1) .answer) ≡ 0)
@@ -57,8 +57,10 @@ commands :
     × (answerNumber (outcomeOf (after 2 (active 1)) (AddSlot 1) .answer) ≡ 2)
     × (answerNumber (outcomeOf (after 2 (active 1)) (RemoveSlot 1) .answer) ≡ 0)
     × (answerNumber (outcomeOf (after 2 (active 1)) (RemoveSlot 0) .answer) ≡ 2)
+    × (answerNumber (outcomeOf (after 2 (active 0)) (RemoveSlot 2) .answer) ≡ 1)
+    × (answerNumber (outcomeOf (after 2 (active 1)) (AddSlot 2) .answer) ≡ 1)
 unfolding actedOn addOf addedTo comesBefore freshOf holderOf idleNumber idleSlot lapseOf membersOf mstApplied mstFails mstFirst mstNumbers numberAfter numberApplied opensWait removeOf renumbered reportOf sizeOf slotAfter startOf turnOf waited
-commands = (refl, refl, refl, refl, refl, refl, refl)
+commands = (refl, refl, refl, refl, refl, refl, refl, refl, refl)
 
 -- three slots whose first epoch is 255, slots 1 and 2 active from before its start
 abbrev ranked : ℕ → Ranks
