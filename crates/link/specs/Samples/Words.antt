@@ -24,12 +24,12 @@ use Rattle.rows.specs.Packets.{marksAt, packetsAt, putMarks, putPackets}
 use Rattle.rows.specs.Rows.{putRow, rowIn}
 use Rattle.rows.specs.Step.{putStep, stepAt, stepOf, stepRow}
 use Rattle.rows.specs.declared.step.Step.{Step}
-use Rattle.sender.specs.Board.{boardOf, highest as highestSent, rowOf, rowsOf}
-use Rattle.sender.specs.Calls.Call.{AddSlot, Report}
-use Rattle.sender.specs.Commands.{addOf, addedTo, freshOf, idleSlot, startOf}
+use Rattle.sender.specs.Board.{boardOf, highest as highestSent, noRow, rowOf, rowsOf}
+use Rattle.sender.specs.Calls.Call.{AddSlot, Lapse, RemoveSlot, Report}
+use Rattle.sender.specs.Commands.{addOf, addedTo, fallen, fallenIn, freshOf, idleSlot, lapseOf, removeOf, removedFrom, startOf}
 use Rattle.sender.specs.Epochs.{beginOf, freshSender, packetFields, payloadBytes, startEpochOf, startedEpoch, startedSender}
 use Rattle.sender.specs.Ranks.{carriersIn, rankAt, rankOf as rankSent}
-use Rattle.sender.specs.Reports.{actedOn, comesBefore, mstApplied, numberAfter, numberApplied, renumbered, reportOf as reportHeard, slotAfter, turnOf}
+use Rattle.sender.specs.Reports.{actedOn, comesBefore, mstApplied, numberAfter, numberApplied, opensWait, renumbered, reportOf as reportHeard, slotAfter, turnOf, waited}
 use Rattle.sender.specs.Table.{holderOf, membersOf, sizeOf}
 use Rattle.step.specs.Laws.Run.{startFrom}
 use Rattle.step.specs.Arrival.{arrives, countsOn, frameDropped, inStep, readable, takenOf}
@@ -46,14 +46,14 @@ use Rattle.link.specs.Running.{Moment, drained, fetched, framed, fresh}
 use Rattle.link.specs.Samples.Members.{came, output}
 use Rattle.link.specs.Sending.{Client, Sending, epochNumber}
 
--- Three slots from epoch 255 on: slots 1 and 2 are active under 0 and 1 before it starts. GID and RS-Ack change from epoch to epoch.
+-- Three slots from epoch 255 on: slots 1 and 2 are active under 0 and 1 before it starts, and slot 2 is removed before the next. GID and RS-Ack change from epoch to epoch.
 abbrev history : History
 history =
     record {
       kind = 0;
       slots = 3;
       first = 255;
-      before = λ i. cond (eqb i 0) (AddSlot 1 ∷ AddSlot 2 ∷ Report 0 0x00 0 ∷ []) [];
+      before = λ i. cond (eqb i 0) (AddSlot 1 ∷ AddSlot 2 ∷ Report 0 0x00 0 ∷ []) (cond (eqb i 1) (Lapse ∷ RemoveSlot 2 ∷ []) []);
       gid = λ i. i % 2;
       mst = λ i. 0xF0 + i;
       ack = λ i. (i + 1) % 2;
@@ -66,27 +66,30 @@ client x = cond (ltb x 16) [] (10 ∷ 11 ∷ 12 ∷ 13 ∷ [])
 abbrev sending : Sending
 sending = sendingOf history 2 client (λ x slot. (0xD0 + slot) ∷ x ∷ [])
 
--- IDLE 255, NORM 0 and EOS 1 in each epoch. X is 0 in the first, then 2: slot 1 carries the first and third byte, slot 2 the second and fourth, slot 0 what is given.
+-- IDLE 255, NORM 0 and EOS 1 in the first epoch, then EOS 0 between two IDLE. X is 0 in the first, 2 in the second, which the first rules, and then 1. In the second slot 1 carries the first and third byte, slot 2 the second and fourth, slot 0 what is given.
 sent-words :
     (tabulate 3 (wordSent history 0) ≡ 5 ∷ 2 ∷ 3 ∷ [])
     × (tabulate 3 (numberSent history 0) ≡ 255 ∷ 0 ∷ 1 ∷ [])
-    × (tabulate 3 (numberSent history 1) ≡ 255 ∷ 0 ∷ 1 ∷ [])
+    × (tabulate 3 (wordSent history 1) ≡ 5 ∷ 3 ∷ 5 ∷ [])
+    × (tabulate 3 (numberSent history 1) ≡ 255 ∷ 0 ∷ 255 ∷ [])
+    × (tabulate 3 (wordSent history 2) ≡ 5 ∷ 3 ∷ 5 ∷ [])
+    × (numberSent history 2 2 ≡ 255)
     × (fieldsSent history 0 1 .epoch ≡ 255)
     × (fieldsSent history 1 1 .epoch ≡ 0)
     × (fieldsSent history 2 1 .mst ≡ 0xF2)
     × (tabulate 3 (λ i. fieldsSent history i 2 .«rs_ack») ≡ 1 ∷ 0 ∷ 1 ∷ [])
-    × (tabulate 3 (xAt history) ≡ 0 ∷ 2 ∷ 2 ∷ [])
+    × (tabulate 3 (xAt history) ≡ 0 ∷ 2 ∷ 1 ∷ [])
     × (tabulate 3 (hasRank history 15) ≡ false ∷ false ∷ false ∷ [])
     × (tabulate 3 (hasRank history 16) ≡ false ∷ true ∷ true ∷ [])
     × (payloadSent history 2 client 16 1 ≡ 10 ∷ 12 ∷ [])
     × (payloadSent history 2 client 31 2 ≡ 11 ∷ 13 ∷ [])
     × (tabulate 3 (λ i. sending .gid i 1) ≡ 0 ∷ 1 ∷ 0 ∷ [])
-    × (tabulate 3 (λ i. sending .word 1 i) ≡ 5 ∷ 2 ∷ 3 ∷ [])
+    × (tabulate 3 (λ i. sending .word 1 i) ≡ 5 ∷ 3 ∷ 5 ∷ [])
     × (sending .payload 16 2 ≡ 11 ∷ 13 ∷ [])
     × (sending .payload 16 0 ≡ 0xD0 ∷ 16 ∷ [])
     × (sending .payload 15 1 ≡ 0xD1 ∷ 15 ∷ [])
-unfolding actedOn addOf addedTo beginOf boardOf carriersIn comesBefore epochAfter epochs frames freshOf freshSender hasRank highestSent holderOf idleNumber idleSlot membersOf mstApplied mstFails mstFirst mstNumbers numberAfter numberApplied packetFields payloadBytes payloadSent rankAt rankSent renumbered reportHeard rowOf rowsOf senderAt sizeOf slotAfter startEpochOf startOf startedEpoch startedSender turnOf
-sent-words = (refl, refl, refl, refl, refl, refl, refl, refl, refl, refl, refl, refl, refl, refl, refl, refl, refl)
+unfolding actedOn addOf addedTo beginOf boardOf carriersIn comesBefore epochAfter epochs fallen fallenIn frames freshOf freshSender hasRank highestSent holderOf idleNumber idleSlot lapseOf membersOf mstApplied mstFails mstFirst mstNumbers noRow numberAfter numberApplied opensWait packetFields payloadBytes payloadSent rankAt rankSent removeOf removedFrom renumbered reportHeard rowOf rowsOf senderAt sizeOf slotAfter startEpochOf startOf startedEpoch startedSender turnOf waited
+sent-words = (refl, refl, refl, refl, refl, refl, refl, refl, refl, refl, refl, refl, refl, refl, refl, refl, refl, refl, refl, refl)
 
 -- two slots of a fixed group, slot 0 with number 1
 abbrev fixed : Sending
@@ -150,7 +153,7 @@ road-words :
     × (saysOne road 10 1 ≡ [])
     × (saysOne road 11 1 ≡ 12 ∷ [])
     × (says road 8 (1 ∷ 0 ∷ []) ≡ 12 ∷ [])
-unfolding actedOn addOf addedTo allAsSent beginOf boardOf carriersIn comesBefore coming epochAfter epochNumber epochs expected firstTag frames framesOf freshOf freshSender hasRank highestSent holderOf idleNumber idleSlot lead membersOf mstApplied mstFails mstFirst mstNumbers nextAt numberAfter numberApplied packetFields payloadBytes payloadSent rankAt rankSent renumbered reportHeard roadOf rowOf rowsOf senderAt sizeOf slotAfter startEpochOf startFrom startOf startedEpoch startedSender tags turnOf
+unfolding actedOn addOf addedTo allAsSent beginOf boardOf carriersIn comesBefore coming epochAfter epochNumber epochs expected fallen fallenIn firstTag frames framesOf freshOf freshSender hasRank highestSent holderOf idleNumber idleSlot lapseOf lead membersOf mstApplied mstFails mstFirst mstNumbers nextAt noRow numberAfter numberApplied opensWait packetFields payloadBytes payloadSent rankAt rankSent removeOf removedFrom renumbered reportHeard roadOf rowOf rowsOf senderAt sizeOf slotAfter startEpochOf startFrom startOf startedEpoch startedSender tags turnOf waited
 road-words = (refl, refl, refl, refl, refl, refl, refl, refl, refl, refl, refl, refl, refl, refl, refl, refl, refl, refl, refl, refl, refl)
 
 abbrev zeros : ℕ → List ℕ
