@@ -6,6 +6,7 @@ use Rattle.ground.specs.Table.{tabulate}
 use Rattle.link.specs.Link.{expected}
 use Rattle.link.specs.Samples.Computing.{outcome}
 use Rattle.link.specs.Samples.Reports.{sure}
+use Rattle.link.specs.Samples.Tracing.{course, drainedBy, outcome-by, traced, turnBy, turnsBy}
 use Rattle.link.specs.Told.{Told}
 use Rattle.groups.specs.Samples.Links.{link₀, link₁}
 
@@ -17,8 +18,8 @@ reports₀ =
     ∷ []
 
 run₀ : outcome link₀ 164 ≡ record { begun = 1; told = reports₀; strange = [] }
-unfolding outcome
-run₀ = refl
+unfolding outcome course traced turnsBy turnBy drainedBy
+run₀ = outcome-by link₀ 164 _ refl
 
 -- group 1: two members, slot 2 among them, in epochs numbered from 250 on
 abbrev reports₁ : List Told
@@ -28,8 +29,8 @@ reports₁ =
     ∷ []
 
 run₁ : outcome link₁ 164 ≡ record { begun = 1; told = reports₁; strange = [] }
-unfolding outcome
-run₁ = refl
+unfolding outcome course traced turnsBy turnBy drainedBy
+run₁ = outcome-by link₁ 164 _ refl
 
 -- the reports that demand 3 says are to come
 as-expected : (tabulate 2 (λ j. expected link₀ (7 + j) (link₀ .output j)) ≡ reports₀) × (tabulate 2 (λ j. expected link₁ (7 + j) (link₁ .output j)) ≡ reports₁)
