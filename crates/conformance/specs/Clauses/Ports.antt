@@ -102,16 +102,17 @@ member word number told =
 abbrev empty : List (List ℕ)
 empty = putGroup (replicate 16 (zeros 16)) (group 1)
 
+-- a port's step, the packet that it gathers, its ruling packet and the first byte of its marks
+abbrev withPort : ℕ → Step → List ℕ → List ℕ → ℕ → List (List ℕ) → List (List ℕ)
+withPort i now gathers ruling mark s = putMarks (putPackets (putStep s i now) i (gathers ∷ ruling ∷ [])) i (mark ∷ zeros 15)
+
+abbrev sixteen : ℕ → List ℕ
+sixteen nibble = replicate 16 nibble
+
 -- The packets that ports 0, 1 and 2 gather are filled with 7, 5 and 3, the ruling ones with 6, 4 and 2. They wait for tags 925, 933 and 935, at MFI1 13, 5 and 7. Each has another epoch marked.
 abbrev gathering : List (List ℕ)
 gathering =
-    putMarks (putMarks (putMarks (putPackets
-    (putPackets
-    (putPackets (putStep (putStep (putStep empty 0 (step 925)) 1 (step 933)) 2 (step 935)) 0 (replicate 16 7 ∷ replicate 16 6 ∷ []))
-    1
-    (replicate 16 5 ∷ replicate 16 4 ∷ []))
-    2
-    (replicate 16 3 ∷ replicate 16 2 ∷ [])) 0 (2 ∷ zeros 15)) 1 (4 ∷ zeros 15)) 2 (8 ∷ zeros 15)
+    withPort 2 (step 935) (sixteen 3) (sixteen 2) 8 (withPort 1 (step 933) (sixteen 5) (sixteen 4) 4 (withPort 0 (step 925) (sixteen 7) (sixteen 6) 2 empty))
 
 abbrev now₀ : List (List ℕ)
 now₀ = frameRows gathering 0 false 0x9D (8 ∷ []) (nines 96)
@@ -138,9 +139,9 @@ own-frames :
     (waiting now₀ ≡ 926 ∷ 933 ∷ 935 ∷ [])
     × (waiting now₁ ≡ 925 ∷ 934 ∷ 935 ∷ [])
     × (waiting now₂ ≡ 925 ∷ 933 ∷ 936 ∷ [])
-    × (gathered now₀ ≡ (replicate 5 7 ++ (9 ∷ replicate 10 7)) ∷ replicate 16 6 ∷ replicate 16 5 ∷ replicate 16 4 ∷ replicate 16 3 ∷ replicate 16 2 ∷ [])
-    × (gathered now₁ ≡ replicate 16 7 ∷ replicate 16 6 ∷ (replicate 13 5 ++ (11 ∷ 5 ∷ 5 ∷ [])) ∷ replicate 16 4 ∷ replicate 16 3 ∷ replicate 16 2 ∷ [])
-    × (gathered now₂ ≡ replicate 16 7 ∷ replicate 16 6 ∷ replicate 16 5 ∷ replicate 16 4 ∷ (replicate 15 3 ++ (12 ∷ [])) ∷ replicate 16 2 ∷ [])
+    × (gathered now₀ ≡ (replicate 5 7 ++ (9 ∷ replicate 10 7)) ∷ sixteen 6 ∷ sixteen 5 ∷ sixteen 4 ∷ sixteen 3 ∷ sixteen 2 ∷ [])
+    × (gathered now₁ ≡ sixteen 7 ∷ sixteen 6 ∷ (replicate 13 5 ++ (11 ∷ 5 ∷ 5 ∷ [])) ∷ sixteen 4 ∷ sixteen 3 ∷ sixteen 2 ∷ [])
+    × (gathered now₂ ≡ sixteen 7 ∷ sixteen 6 ∷ sixteen 5 ∷ sixteen 4 ∷ (replicate 15 3 ++ (12 ∷ [])) ∷ sixteen 2 ∷ [])
     × (marked now₀ ≡ 2 ∷ 4 ∷ 8 ∷ [])
     × (marked now₁ ≡ 2 ∷ 4 ∷ 8 ∷ [])
     × (marked now₂ ≡ 2 ∷ 4 ∷ 9 ∷ [])
@@ -176,7 +177,7 @@ packet word sq high low = 15 ∷ 15 ∷ 0 ∷ 0 ∷ 0 ∷ 0 ∷ 0 ∷ sq ∷ 3 �
 
 -- port 1 has gathered all but the last nibble of epoch 57's packet, which comes where epoch 58's should end; ports 0 and 2 have gathered nothing, and port 0 is one frame behind
 abbrev late : List (List ℕ)
-late = putPackets (putStep (putStep (putStep empty 0 (step 934)) 1 (step 935)) 2 (step 935)) 1 (packet 2 1 3 9 ∷ zeros 16 ∷ [])
+late = withPort 2 (step 935) (zeros 16) (zeros 16) 0 (withPort 1 (step 935) (packet 2 1 3 9) (zeros 16) 0 (withPort 0 (step 934) (zeros 16) (zeros 16) 0 empty))
 
 -- whether a port ends an odd packet is asked of what it has gathered itself
 own-odd :
@@ -188,31 +189,8 @@ own-odd = (refl, refl)
 -- Port 0 was ruled by EOS 2, port 1 by NORM 0 and port 2 by NORM 1, and all have brought epoch 58. Port 2's number is other than the one that was told of it.
 abbrev due : List (List ℕ)
 due =
-    putMember
-    (putMember
-    (putMember
-    (putMarks
-    (putMarks
-    (putMarks
-    (putPackets
-    (putPackets
-    (putPackets (putStep (putStep (putStep empty 0 (step 936)) 1 (step 936)) 2 (step 936)) 0 (zeros 16 ∷ packet 3 2 5 15 ∷ []))
-    1
-    (zeros 16 ∷ packet 2 0 2 4 ∷ []))
-    2
-    (zeros 16 ∷ packet 2 1 3 2 ∷ []))
-    0
-    (1 ∷ zeros 15))
-    1
-    (1 ∷ zeros 15))
-    2
-    (1 ∷ zeros 15))
-    0
-    (member 3 2 2))
-    1
-    (member 2 0 0))
-    2
-    (member 2 1 7)
+    let ports = withPort 2 (step 936) (zeros 16) (packet 2 1 3 2) 1 (withPort 1 (step 936) (zeros 16) (packet 2 0 2 4) 1 (withPort 0 (step 936) (zeros 16) (packet 3 2 5 15) 1 empty)) in
+    putMember (putMember (putMember ports 0 (member 3 2 2)) 1 (member 2 0 0)) 2 (member 2 1 7)
 
 -- port 2 has not brought its frames yet
 abbrev early : List (List ℕ)
