@@ -5,7 +5,6 @@ use sender::Board;
 use sender::Ranks;
 ghost use mathlib.Core.Path.{_≡_};
 ghost use lib.ListN.{length};
-ghost use Rattle.sender.specs.Table.{sizeOf};
 ghost use Rattle.c_face.specs.Boards.{boardBytes, boardBytesC, boardBytesOf, outgoingBytesC, ranksBytes, ranksBytesC, ranksBytesOf, shownAnswerC};
 
 // A board.
@@ -15,18 +14,12 @@ pub(crate) const BOARD_BYTES: usize = 130;
 pub(crate) const RANKS_BYTES: usize = 68;
 
 // A count above 64 stands only in a state that does not come from a start: nobody is to read past the board by it.
-pub(crate) fn shown_count(count: u8) -> u8
-    ensures { λ r. ⌜ r ≡ sizeOf count ⌝ }
-{
-    if count < 64 { count } else { 64 }
-}
-
 pub(crate) fn put_board(board: Board, out: &mut [u8])
     requires { ⌜ length (now out) ≡ boardBytes ⌝ }
     ensures { λ r. ⌜ now (out .exit) ≡ boardBytesOf board ⌝ }
 {
     let wait = ground::one_if(board.wait);
-    let count = shown_count(board.count);
+    let count = ground::size_byte(board.count);
     let head = [count, wait];
     let rows = board.rows;
     keeping::put_bytes(&head, 0, out);

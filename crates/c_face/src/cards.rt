@@ -15,7 +15,7 @@ ghost use lib.ListN.{length};
 ghost use Rattle.circuits.specs.Answers.{answerNumber};
 ghost use Rattle.circuits.specs.Calls.Call.{Claim, Release, AddSlot, RemoveSlot, Report, Lapse, StartEpoch};
 ghost use Rattle.circuits.specs.Commands.{startOf};
-ghost use Rattle.circuits.specs.Owners.{markOf, ownerIn};
+ghost use Rattle.circuits.specs.Owners.{ownerIn};
 ghost use Rattle.circuits.specs.Parts as P;
 ghost use Rattle.ground.specs.Drawn.{fillAt};
 ghost use Rattle.c_face.specs.Cards.{alone, boardBytesOn, callAnswerOn, callStateOn, cardBytes, cardOf, keptCard, outgoingBytesOn, ownedBytesOn, ownersIn, packetAnswerOn, packetBytesOn, partAt, partIn, payloadAnswerOn, payloadBytesOn, putCard, putOwn, ranksBytesOn, refusalOf, shownAnswerOn, startAnswerOn, startStateOn};
@@ -78,12 +78,6 @@ pub(crate) fn own_card(state: &[u8], group: u32) -> Card
     }
 }
 
-fn own_sender(card: Card, group: u32) -> Sender
-    ensures { λ r. ⌜ r ≡ P.senderOf card group ⌝ }
-{
-    if group == 0 { card.first } else { card.second }
-}
-
 fn put_part(sender: Sender, group: u32, state: &mut [u8])
     requires { ⌜ length (now state) ≡ cardBytes ⌝ }
     ensures { λ r. ⌜ now (state .exit) ≡ fillAt (partAt group) stateBytes (byteAt sender) (now (state .entry)) ⌝ }
@@ -100,7 +94,7 @@ pub(crate) fn put_own(card: Card, group: u32, state: &mut [u8])
     ensures { λ r. ⌜ now (state .exit) ≡ putOwn group card (now (state .entry)) ⌝ }
 {
     let owners = card.owners;
-    let sender = own_sender(card, group);
+    let sender = circuits::sender_of(card, group);
     keeping::put_bytes(&owners, 0, state);
     put_part(sender, group, state);
 }
@@ -270,7 +264,7 @@ pub extern "C" fn levelspruce_card_start_epoch(
     keep(outcome, group, state)
 }
 
-// The owner of a slot; nobody behind the last one.
+// The owner of a slot, 0 where there is no such slot.
 fn owner_at(state: &[u8], slot: u32) -> u8
     requires { ⌜ length (now state) ≡ cardBytes ⌝ }
     ensures { λ r. ⌜ r ≡ ownerIn (ownersIn (now (state .entry))) slot ⌝ }
@@ -283,14 +277,14 @@ fn slot_refusal(owner: u8, group: u32, count: u8, slot: u32) -> u8
     ensures { λ r. ⌜ r ≡ slotRefusal owner group count slot ⌝ }
 {
     let mark = circuits::mark_of(group);
-    let size = boards::shown_count(count);
+    let size = ground::size_byte(count);
     if size as u32 <= slot {
         return 1;
     }
     if owner == mark { 0 } else { 14 }
 }
 
-// The packet of a slot by its owner and the group's own part. A whole card would be read for one slot, in four times the sender's time.
+// The packet of a slot, from its owner and the group's own part. To read the whole card for it would take four times as long as the sender's call.
 fn packet_in(owner: u8, group: u32, part: &[u8], slot: u32, h4: &mut [u8]) -> u8
     requires { ⌜ length (now part) ≡ stateBytes ⌝ }
     ensures { λ r. ⌜ (r ≡ slotPacketAnswer owner group (senderOf (now (part .entry))) slot (now (h4 .entry)))

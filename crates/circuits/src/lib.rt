@@ -11,3 +11,4 @@ pub use card::CardOutcome;
 pub use card::OwnedOutcome;
 pub use card::RanksOutcome;
 pub use owners::mark_of;
+pub use parts::sender_of;

@@ -13,7 +13,8 @@ ghost use Prim.Native.Nat.{_<_};
 ghost use Rattle.sender.specs.Table.{isMember, sizeOf};
 ghost use Rattle.circuits.specs.Parts.{emptySender, groupOutcome, isSlot, isUsed, marked, owns, refused, senderOf, shownSender, withSender};
 
-pub(crate) fn sender_of(card: Card, group: u32) -> Sender
+// The group's own sender.
+pub fn sender_of(card: Card, group: u32) -> Sender
     ensures { λ r. ⌜ r ≡ senderOf card group ⌝ }
 {
     if group == 0 { card.first } else { card.second }
@@ -81,17 +82,6 @@ pub(crate) fn is_own(card: Card, group: u32, slot: u32) -> bool
     owners::is_marked(owners, group, slot)
 }
 
-fn is_member(state: State) -> bool
-    ensures { λ r. ⌜ r ≡ isMember state ⌝ }
-{
-    match state {
-        State::Idle => false,
-        State::Add => true,
-        State::Active => true,
-        State::Dnu => true,
-    }
-}
-
 // Not IDLE in the group's table.
 pub(crate) fn is_used(card: Card, group: u32, slot: u32) -> bool
     requires { ⌜ slot < 64 ⌝ }
@@ -101,7 +91,7 @@ pub(crate) fn is_used(card: Card, group: u32, slot: u32) -> bool
     let table = sender.table;
     let given = table.slots[slot as usize];
     let state = given.state;
-    is_member(state)
+    sender::is_member(state)
 }
 
 pub(crate) fn refuse(card: Card, answer: Answer) -> CardOutcome

@@ -128,7 +128,7 @@ put-anew rs n new old e =
     stays : (n ≡ 0 → ⊥) → cond (eqb n 0) new old ≡ old
     stays d = rw (ne-eqb n 0 d)
 
--- a test that both ways go the same
+-- a choice between a thing and itself
 pub either : {A : Type 0} (b : Bool) (x : A) → cond b x x ≡ x
 either true x = refl
 either false x = refl

@@ -1,8 +1,9 @@
-// Laws on lists, numbers, bits and circles of tags: they stand in specs/. The code is three small functions that crates of every floor call. Of the product's
+// Laws on lists, numbers, bits and circles of tags: they stand in specs/. The code is four small functions that crates of every floor call. Of the product's
 // rules nothing is here but how many members a group has.
 mod flags;
 mod sizes;
 
 pub use flags::is_set;
 pub use flags::one_if;
+pub use sizes::size_byte;
 pub use sizes::size_of;

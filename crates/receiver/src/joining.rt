@@ -18,7 +18,7 @@ ghost use Rattle.receiver.specs.Report.{frameInto, framesInto, outputBy,
 fn starts_of(group: Group, ports: [u8; 64], x: u8, k: u16) -> [usize; 64]
     ensures { λ r. ⌜ r ≡ startsOf group ports x k ⌝ }
 {
-    let n = lengths::size_of(x);
+    let n = ground::size_byte(x);
     let mut starts = [0; 64];
     let mut rank = 0;
     while rank < n {
@@ -66,7 +66,7 @@ fn frames_into(group: Group, order: Order, store: &[u8], count: u8, out: &mut [u
 fn is_held(mark: u8) -> bool
     ensures { λ r. ⌜ r ≡ eqb mark HELD ⌝ }
 {
-    mark == 1
+    mark == judge::HELD
 }
 
 // The group frames of an epoch that is not held.

@@ -5,13 +5,6 @@ ghost use mathlib.Core.Path.{_≡_};
 ghost use Rattle.judge.specs.Seen.{sizeOf};
 ghost use Rattle.receiver.specs.Lengths.{fetchFits, frameFits, outputFor, rowsFit};
 
-// A group has at most 64 ports.
-pub(crate) fn size_of(count: u8) -> u8
-    ensures { λ r. ⌜ r ≡ sizeOf count ⌝ }
-{
-    if count < 64 { count } else { 64 }
-}
-
 pub(crate) fn is_rows(ports: u8, rows: usize) -> bool
     ensures { λ r. ⌜ r ≡ rowsFit ports rows ⌝ }
 {

@@ -16,3 +16,4 @@ pub use shown::ports;
 pub use shown::reply;
 pub use starting::start;
 pub use starting::start_as;
+pub use starting::times_within;

@@ -63,7 +63,7 @@ pub(crate) fn seen_all(group: Group, state: &[[u8; 16]], ports: u8) -> [Seen; 64
 {
     let none = no_seen();
     let mut seen = [none; 64];
-    let n = lengths::size_of(ports);
+    let n = ground::size_byte(ports);
     let mut i = 0;
     while i < n {
         let one = seen_of(group, state, i);

@@ -110,7 +110,7 @@ fn put_ports(kind: u8, hold_off: &[u32], restore: &[u32], ports: u8, state: &mut
     }
 }
 
-fn is_within(counts: &[u32]) -> bool
+pub fn times_within(counts: &[u32]) -> bool
     ensures { λ r. ⌜ r ≡ timesWithin (now (counts .entry)) ⌝ }
 {
     let mut all = true;
@@ -170,7 +170,7 @@ fn is_right(
 ) -> bool
     ensures { λ r. ⌜ r ≡ startRight kind count payload window (now («hold_off» .entry)) (now (restore .entry)) ⌝ }
 {
-    is_within(hold_off) & is_within(restore) & phases::is_sized(kind, count, payload, window)
+    times_within(hold_off) & times_within(restore) & phases::is_sized(kind, count, payload, window)
 }
 
 // A fresh receiver with so many ports, P, W and bytes of store, and the times of its ports: hold-off and wait-to-restore, in reports. A list has a

@@ -53,7 +53,7 @@ pub(crate) fn reply_ports(group: Group, state: &[[u8; 16]], ports: u8) -> [Port;
 {
     let none = no_port();
     let mut all = [none; 64];
-    let n = lengths::size_of(ports);
+    let n = ground::size_byte(ports);
     let mut i = 0;
     while i < n {
         let one = reply_port(group, state, i);

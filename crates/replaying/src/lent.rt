@@ -6,12 +6,8 @@ ghost use mathlib.Core.List.{_++_};
 ghost use Prim.Native.Nat.{_≤_};
 ghost use lib.ListN.{drop, length, take};
 ghost use Rattle.receiver.specs.Fetch.{fetchOut, fetchRecord, fetchRows};
-ghost use Rattle.receiver.specs.Starting.{timesWithin};
 ghost use Rattle.replaying.specs.Laws.Due.{dueAt, dueOf};
 ghost use Rattle.replaying.specs.Turn.{clearedRows, clearedStore, startedRows, storeIn, timesFit};
-
-// The longest time of a port, in reports.
-const TIMER_MOST: u32 = 5000;
 
 fn clear_rows(rows: &mut [[u8; 16]])
     ensures { λ _. ⌜ now (rows .exit) ≡ clearedRows (now (rows .entry)) ⌝ }
@@ -33,18 +29,6 @@ pub(crate) fn clear_store(store: &mut [u8])
     }
 }
 
-fn is_within(counts: &[u32]) -> bool
-    ensures { λ r. ⌜ r ≡ timesWithin (now (counts .entry)) ⌝ }
-{
-    let mut all = true;
-    let mut i = 0;
-    while i < counts.len() {
-        all = all & (counts[i] <= TIMER_MOST);
-        i += 1;
-    }
-    all
-}
-
 // The times of the group's ports are in range.
 pub(crate) fn times_fit(settings: Settings) -> bool
     requires { ⌜ settings .ports ≤ 64 ⌝ }
@@ -53,7 +37,7 @@ pub(crate) fn times_fit(settings: Settings) -> bool
     let hold = settings.hold_off;
     let restore = settings.restore;
     let n = settings.ports as usize;
-    is_within(&hold[..n]) & is_within(&restore[..n])
+    receiver::times_within(&hold[..n]) & receiver::times_within(&restore[..n])
 }
 
 // All rows are cleared first.

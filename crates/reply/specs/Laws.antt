@@ -3,5 +3,5 @@ pub mod Alone
 pub mod Choosing
 pub mod Claims
 pub mod Granting
-pub mod Holding
+pub mod Keeping
 pub mod Members

@@ -18,20 +18,20 @@ hasClaim chosen i p =
 
 -- 'During hold-off the port keeps its number against others': one that has lost its claim and has hold-off left keeps the number under which it
 -- is OK
-abbrev pub mustHold : List ℕ → ℕ → Port → Bool
-mustHold chosen i p = hasHoldOff p && not (hasClaim chosen i p)
+abbrev pub mustKeep : List ℕ → ℕ → Port → Bool
+mustKeep chosen i p = hasHoldOff p && not (hasClaim chosen i p)
 
--- such a port joins those that keep a number, unless it is among them
+-- such a port joins where nobody keeps that number yet
 abbrev pub joinsKept : List ℕ → List ℕ → ℕ → Port → Bool
-joinsKept chosen kept i p = mustHold chosen i p && eqb (holderOf kept (p .«state_number»)) FREE
+joinsKept chosen kept i p = mustKeep chosen i p && eqb (holderOf kept (p .«state_number»)) FREE
 
 unfoldable pub someJoin : List ℕ → List ℕ → List Port → ℕ → Bool
 someJoin chosen kept ports n = some n (λ i. joinsKept chosen kept i (portAt ports i))
 
 unfoldable pub moreKept : List ℕ → List Port → ℕ → List ℕ → List ℕ
-moreKept chosen ports n kept = granted (λ i. mustHold chosen i (portAt ports i)) (λ i. portAt ports i .«state_number») n kept
+moreKept chosen ports n kept = granted (λ i. mustKeep chosen i (portAt ports i)) (λ i. portAt ports i .«state_number») n kept
 
--- Whether a port has lost its claim can hang on who else holds. So it goes in rounds: the candidates choose, those that lose keep their numbers, and
+-- Whether a port has lost its claim can hang on who else keeps a number. So it goes in rounds: the candidates choose, those that lose keep their numbers, and
 -- again, until none joins.
 unfoldable pub rounds : List Port → ℕ → ℕ → List ℕ → List ℕ
 rounds ports n zero kept = kept
@@ -39,7 +39,7 @@ rounds ports n (suc k) kept =
     let chosen = holders ports n kept in
     cond (someJoin chosen kept ports n) (rounds ports n k (moreKept chosen ports n kept)) kept
 
--- as many rounds as ports are enough (`none-joins` of Laws/Holding.antt)
+-- as many rounds as ports are enough (`none-joins` of Laws/Keeping.antt)
 unfoldable pub keptNumbers : List Port → ℕ → List ℕ
 keptNumbers ports n = rounds ports n n allFree
 

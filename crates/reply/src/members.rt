@@ -42,9 +42,7 @@ pub(crate) fn is_idle(port: Port) -> bool
 pub(crate) fn is_candidate(port: Port) -> bool
     ensures { λ r. ⌜ r ≡ isCandidate port ⌝ }
 {
-    !((port.word == Port::NO_WORD) | (port.word == Word::IDLE.0))
-        & port.readable
-        & (port.number < 64)
+    !is_idle(port) & port.readable & (port.number < 64)
 }
 
 pub(crate) fn was_ok(port: Port) -> bool
@@ -67,5 +65,5 @@ pub(crate) fn has_hold_off(port: Port) -> bool
     (port.state == Port::OK)
         & (port.elapsed < port.hold_off)
         & (port.state_number < 64)
-        & !((port.word == Port::NO_WORD) | (port.word == Word::IDLE.0))
+        & !is_idle(port)
 }

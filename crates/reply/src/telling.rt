@@ -103,7 +103,7 @@ fn turned(turning: bool, bit: u8) -> u8
     ensures { λ r. ⌜ r ≡ cond turning (cond (eqb bit 0) 1 0) bit ⌝ }
 {
     if turning {
-        return if bit == 0 { 1 } else { 0 };
+        return ground::one_if(bit == 0);
     }
     bit
 }

@@ -10,7 +10,7 @@ ghost use lib.ListN.{getD, replicate};
 ghost use Rattle.counting.specs.Each.{each};
 ghost use Rattle.reply.specs.Choosing.{grant};
 ghost use Rattle.reply.specs.Members.{failState, hasHoldOff, okState, portAt, sizeOf};
-ghost use Rattle.reply.specs.Waiting.{chosenOf, hasClaim, joinsKept, keepsNumber, moreKept, mustHold, noStanding, someJoin, standing, standingBy, standingsOf, withClaim, withoutClaim};
+ghost use Rattle.reply.specs.Waiting.{chosenOf, hasClaim, joinsKept, keepsNumber, moreKept, mustKeep, noStanding, someJoin, standing, standingBy, standingsOf, withClaim, withoutClaim};
 
 // What a report leaves of a port: its state, the number under which it has it, and at how many reports its timer has run.
 pub struct Standing {
@@ -28,8 +28,8 @@ fn has_claim(chosen: [u8; 64], i: u8, port: Port) -> bool
 }
 
 // Whether a port keeps the number under which it is OK, having lost its claim.
-fn must_hold(chosen: [u8; 64], i: u8, port: Port) -> bool
-    ensures { λ r. ⌜ r ≡ mustHold chosen i port ⌝ }
+fn must_keep(chosen: [u8; 64], i: u8, port: Port) -> bool
+    ensures { λ r. ⌜ r ≡ mustKeep chosen i port ⌝ }
 {
     members::has_hold_off(port) & !has_claim(chosen, i, port)
 }
@@ -38,11 +38,11 @@ fn joins_kept(chosen: [u8; 64], kept: [u8; 64], i: u8, port: Port) -> bool
     ensures { λ r. ⌜ r ≡ joinsKept chosen kept i port ⌝ }
 {
     let holder = choosing::holder_of(kept, port.state_number);
-    must_hold(chosen, i, port) & (holder == choosing::NO_PORT)
+    must_keep(chosen, i, port) & (holder == choosing::NO_PORT)
 }
 
-fn hold_one(chosen: [u8; 64], kept: [u8; 64], i: u8, port: Port) -> [u8; 64]
-    ensures { λ r. ⌜ r ≡ grant (mustHold chosen i port) (port .«state_number») kept i ⌝ }
+fn keep_one(chosen: [u8; 64], kept: [u8; 64], i: u8, port: Port) -> [u8; 64]
+    ensures { λ r. ⌜ r ≡ grant (mustKeep chosen i port) (port .«state_number») kept i ⌝ }
 {
     let number = port.state_number;
     if joins_kept(chosen, kept, i, port) {
@@ -53,7 +53,7 @@ fn hold_one(chosen: [u8; 64], kept: [u8; 64], i: u8, port: Port) -> [u8; 64]
     kept
 }
 
-fn hold_more(chosen: [u8; 64], ports: [Port; 64], n: usize, before: [u8; 64]) -> [u8; 64]
+fn keep_more(chosen: [u8; 64], ports: [Port; 64], n: usize, before: [u8; 64]) -> [u8; 64]
     requires { ⌜ n ≤ 64 ⌝ }
     ensures { λ r. ⌜ r ≡ moreKept chosen ports n before ⌝ }
 {
@@ -61,7 +61,7 @@ fn hold_more(chosen: [u8; 64], ports: [Port; 64], n: usize, before: [u8; 64]) ->
     let mut i = 0;
     while i < n {
         let port = ports[i];
-        let next = hold_one(chosen, kept, i as u8, port);
+        let next = keep_one(chosen, kept, i as u8, port);
         kept = next;
         i += 1;
     }
@@ -94,7 +94,7 @@ fn choose_in_rounds(ports: [Port; 64], n: usize) -> [u8; 64]
         if !some_join(chosen, kept, ports, n) {
             break;
         }
-        let more = hold_more(chosen, ports, n, kept);
+        let more = keep_more(chosen, ports, n, kept);
         kept = more;
         let next = choosing::choose(ports, n, kept);
         chosen = next;

@@ -38,8 +38,8 @@ module _ {A : Type 0} where
   three : (x y z : Bool) (a b : A) → x ≡ true → y ≡ true → z ≡ true → cond (x && y && z) a b ≡ a
   three x y z a b hx hy hz = rw (hx, hy, hz)
 
-pub stepped : (s : Sender) {r q : Outcome} {a : SenderOutcome} → r ≡ q → a ≡ withOutcome s r → a ≡ withOutcome s q
-stepped s e h = h ∙ ap (λ (x : Outcome). withOutcome s x) e
+pub outcome-put : (s : Sender) {r q : Outcome} {a : SenderOutcome} → r ≡ q → a ≡ withOutcome s r → a ≡ withOutcome s q
+outcome-put s e h = h ∙ ap (λ (x : Outcome). withOutcome s x) e
 
 pub begun-as : (kind count e : ℕ) {r : Outcome} {s : Sender} → r ≡ startOf kind count → s ≡ freshSender (r .table) e → record { sender = s; answer = r .answer } ≡ beginOf kind count e
 unfolding beginOf

@@ -23,3 +23,4 @@ pub use table::Outcome;
 pub use table::Slot;
 pub use table::State;
 pub use table::Table;
+pub use table::is_member;

@@ -55,7 +55,7 @@ pub struct Outcome {
     pub answer: Answer,
 }
 
-pub(crate) fn is_member(state: State) -> bool
+pub fn is_member(state: State) -> bool
     ensures { λ r. ⌜ r ≡ isMember state ⌝ }
 {
     match state {

@@ -111,7 +111,7 @@ fn odd_after(kind: u8, run: Run, odd: bool) -> u8
     ensures { λ r. ⌜ r ≡ oddAfter kind run odd ⌝ }
 {
     if ends_packet(kind, run.next) {
-        return if odd { 1 } else { 0 };
+        return ground::one_if(odd);
     }
     run.odd
 }

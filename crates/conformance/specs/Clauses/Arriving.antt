@@ -12,20 +12,23 @@ use Rattle.step.specs.Arrival.{arrives, byStart, byWindow, countsOn, distanceIn
 use Rattle.step.specs.declared.arrival.Taken.{Taken}
 use Rattle.step.specs.Run.{begunRun, breaksAfter, endsPacket, furtherRun, gainedRun, inStepAt, loses, oddAfter, runOn, stayedRun}
 
-abbrev group : ℕ → ℕ → Group
-group begun gathered =
+abbrev groupWith : ℕ → ℕ → ℕ → Group
+groupWith window begun gathered =
     record {
       spare = 61 ∷ 62 ∷ 63 ∷ 64 ∷ [];
       kind = 0;
       count = 3;
       payload = 9;
-      window = 48;
+      window = window;
       begun = begun;
       gathered = gathered;
       oldest = 57;
       origin = 30;
       «rs_ack» = 1;
     }
+
+abbrev group : ℕ → ℕ → Group
+group begun gathered = groupWith 48 begun gathered
 
 abbrev step : ℕ → ℕ → ℕ → ℕ → ℕ → ℕ → ℕ → ℕ → ℕ → Step
 step had failed count next joined since later breaks odd =
@@ -68,9 +71,10 @@ counting :
     × (takenOf begun (step 0 1 5 853 6 7 8 0 0) false false 0x76 ≡ dropped (step 1 0 0 0 0 0 0 0 0) 12 false false)
     × (takenOf (group 0 1) (step 0 1 5 853 6 7 8 0 0) false false 0x76 ≡ dropped (step 1 0 0 0 0 0 0 0 0) 12 false true)
     × (takenOf begun (step 0 1 33 853 6 7 8 3 0) false false 0x40 ≡ dropped (step 1 0 1 1025 0 0 0 0 0) 12 true true)
+    × (takenOf begun (step 0 1 33 853 0 0 8 3 0) false false 0x40 ≡ dropped (step 1 0 1 1025 0 0 0 0 0) 12 true true)
     × (takenOf begun (step 0 1 33 919 6 7 8 0 1) false true 0x77 ≡ dropped (step 1 0 0 0 0 0 0 0 0) 12 false true)
 unfolding begunRun breaksAfter counts countsOn endsEpoch endsPacket frames furtherRun gainedRun inStep inStepAt lead loses oddAfter placeOf runOn startsCount stayedRun tagAfter tagByHigh takenOf tags
-counting = (refl, refl, refl, refl, refl)
+counting = (refl, refl, refl, refl, refl, refl)
 
 -- 'A frame in step of a port that has not joined is answered 0 and dropped', also an epoch's first frame behind the window or before it, and every frame before the beginning; the 32nd right frame is in step
 dropping :
@@ -82,13 +86,16 @@ dropping :
 unfolding after arrives breaksAfter byStart counts distanceIn distanceOf endsEpoch endsPacket firstTag frameDropped frames furtherRun gainedRun inStepAt lead loses oddAfter placeOf runOn startsEpoch stayedRun tagAfter takenOf tags
 dropping = (refl, refl, refl, refl, refl)
 
--- 'A port joins at its first epoch start in the window': epoch 57's, or one or two epochs later
+-- 'A port joins at its first epoch start in the window': epoch 57's, or one or two epochs later, also where the window ends within that epoch
 joins :
     (takenOf begun (step 0 1 33 904 0 7 8 2 1) false false 0x78 ≡ stored (step 1 0 33 905 1 7 0 0 1) 0 true false)
     × (takenOf begun (step 0 1 33 920 0 7 8 2 1) false false 0x78 ≡ stored (step 1 0 33 921 1 7 1 0 1) 16 true false)
     × (takenOf (group 1 0) (step 0 1 33 936 0 0 8 2 1) false false 0x78 ≡ stored (step 1 0 33 937 1 0 2 0 1) 32 true false)
-unfolding after arrives breaksAfter byStart counts distanceIn distanceOf endsEpoch endsPacket epochs epochsIn firstTag frames inStepAt joining lead loses oddAfter placeOf runOn startsEpoch stayedRun tagAfter takenOf tags
-joins = (refl, refl, refl)
+    × (takenOf (groupWith 20 1 1) (step 0 1 33 920 0 7 8 2 1) false false 0x78 ≡ stored (step 1 0 33 921 1 7 1 0 1) 16 true false)
+    × (takenOf (groupWith 17 1 1) (step 0 1 33 920 0 7 8 2 1) false false 0x78 ≡ stored (step 1 0 33 921 1 7 1 0 1) 16 true false)
+    × (takenOf (groupWith 16 1 1) (step 0 1 33 920 0 7 8 2 1) false false 0x78 ≡ dropped (step 1 0 33 921 0 7 8 0 1) 0 true false)
+unfolding after arrives breaksAfter byStart counts distanceIn distanceOf endsEpoch endsPacket epochs epochsIn firstTag frameDropped frames inStepAt joining lead loses oddAfter placeOf runOn startsEpoch stayedRun tagAfter tags takenOf
+joins = (refl, refl, refl, refl, refl, refl)
 
 -- 'in the window when its tag is 0 to W-1 after the first', 11 leaves the state as given; the last frame of the epoch that is gathered is followed by the gathering
 stores :

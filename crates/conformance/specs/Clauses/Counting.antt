@@ -22,8 +22,12 @@ run count next breaks odd = record { count = count; next = next; breaks = breaks
 coming :
     (runOn 0 (run 0 0 0 0) false 0x30 ≡ run 1 769 0 0)
     × (runOn 0 (run 0 0 0 0) false 0x31 ≡ run 0 0 0 0)
+    × (runOn 0 (run 0 0 0 0) false 0x38 ≡ run 0 0 0 0)
     × (runOn 0 (run 1 769 0 0) false 0x51 ≡ run 2 850 0 0)
     × (runOn 0 (run 1 769 0 0) false 0x52 ≡ run 0 0 0 0)
+    × (runOn 0 (run 1 769 0 0) false 0x59 ≡ run 0 0 0 0)
+    × (runOn 0 (run 1 769 0 0) false 0x53 ≡ run 0 0 0 0)
+    × (runOn 0 (run 1 769 0 0) false 0x55 ≡ run 0 0 0 0)
     × (runOn 0 (run 1 769 0 0) false 0x40 ≡ run 1 1025 0 0)
     × (runOn 0 (run 5 853 0 0) false 0x75 ≡ run 6 854 0 0)
     × (runOn 0 (run 5 853 0 0) false 0x76 ≡ run 0 0 0 0)
@@ -36,7 +40,7 @@ coming :
     × (inStepAt 0 32 ≡ true)
     × (inStepAt 2 32 ≡ true)
 unfolding begunRun carriesLow counts frames furtherRun gainedRun inStepAt runOn secondRun startsCount tagAfter tagByHigh tagByLow tags
-coming = (refl, refl, refl, refl, refl, refl, refl, refl, refl, refl, refl, refl, refl, refl, refl)
+coming = (refl, refl, refl, refl, refl, refl, refl, refl, refl, refl, refl, refl, refl, refl, refl, refl, refl, refl, refl)
 
 -- In step: a frame that breaks the count has the tag to come all the same; the fourth in a row loses step, and can be the first of a new 32; so does the end of a second odd packet in a row.
 staying :

@@ -62,15 +62,17 @@ losing settles = record { step = step 0 22; answer = 12; counted = false; kept =
 abbrev marked : List ℕ
 marked = 0xFD ∷ 0x0F ∷ zeros 14
 
--- Joining at the window's epoch 3 leaves the marks of 0 and 2 alone. The frame 31 after the window's first is the last of epoch 1, and marks it if it is stored.
+-- Joining at the window's epoch 3 leaves the marks of 0 and 2 alone. The frame 31 after the window's first is the last of epoch 1, and marks it if it is stored; 271 and 2,047 after it are those of epochs 16 and 127.
 marks :
     (marksBy 0 marked (taken 0 true 31 true) ≡ 0x05 ∷ zeros 15)
     × (marksBy 0 marked (taken 0 true 31 false) ≡ 0xFF ∷ 0x0F ∷ zeros 14)
     × (marksBy 0 marked (taken 0 true 30 false) ≡ marked)
     × (marksBy 0 marked (taken 0 true 32 false) ≡ marked)
     × (marksBy 0 marked (taken 0 false 31 false) ≡ marked)
+    × (marksBy 0 marked (taken 0 true 271 false) ≡ 0xFD ∷ 0x0F ∷ 0x01 ∷ zeros 13)
+    × (marksBy 0 marked (taken 0 true 2047 false) ≡ 0xFD ∷ 0x0F ∷ (zeros 13 ++ (0x80 ∷ [])))
 unfolding cutByte cutFrom endsEpoch epochs epochsIn frames markedAt markedByte marksBy
-marks = (refl, refl, refl, refl, refl)
+marks = (refl, refl, refl, refl, refl, refl, refl)
 
 abbrev group : Group
 group =
@@ -111,8 +113,9 @@ port :
     × (stepAt (steadyRows 0 21 0xA2 0 (putStep rows 0 (step 30 21))) 0 ≡ step 30 22)
     × (packetsAt (steadyRows 0 21 0xA2 0 rows) 0 ≡ (zeros 13 ++ (10 ∷ 0 ∷ 0 ∷ [])) ∷ zeros 16 ∷ [])
     × (packetsAt (steadyRows 0 21 0xA2 0 rows) 1 ≡ replicate 16 7 ∷ replicate 16 6 ∷ [])
+    × (packetsAt (steadyRows 0 21 0xC2 1 rows) 1 ≡ (replicate 13 7 ++ (12 ∷ 7 ∷ 7 ∷ [])) ∷ replicate 16 6 ∷ [])
 unfolding endsEpoch epochs epochsIn frames gatheredBy groupAt groupOf groupRow lead markedAt markedByte marksAt marksBy memberAt memberOf nibbleIn packetsAt placeOf portRows putGroup putMarks putPackets putRow putStep rowIn steadyRows stepAt stepOf stepRow tagAfter tagBefore tags withNext withNibble
-port = (refl, refl, refl, refl, refl, refl, refl, refl, refl, refl, refl, refl, refl, refl, refl, refl)
+port = (refl, refl, refl, refl, refl, refl, refl, refl, refl, refl, refl, refl, refl, refl, refl, refl, refl)
 
 -- 12 after the window's first, at place 5 + 12 of a ring of 16: place 1 of port 1's, from byte 51 on, the payload and then the H4. Under 11 all is as given.
 stored :

@@ -1,4 +1,4 @@
--- Hold-off and wait-to-restore (request 2026-03) where two ports want one number.
+-- Hold-off and wait-to-restore (request 2026-03): who keeps a number, until when, and who gets one.
 use mathlib.Core.Path.{_≡_, refl}
 use mathlib.Core.Bool.{true, false}
 use mathlib.Core.List.{List, [], _∷_}
@@ -29,7 +29,7 @@ added number = seenPort 1 number true (standing 0 255 0) 0 0
 abbrev failed : ℕ → ℕ → Port
 failed number elapsed = seenPort 2 number true (standing 1 number elapsed) 0 2
 
--- Port 0 was OK under 4 and now sends 5, which port 1 has: it keeps 4 while it waits. So it does where the holder of 5 is lost and keeps 5 too. Of two ports that would keep one number the first does. The third report without its claim is the last; the one behind it is FAIL. A port that waits to restore takes its number from nobody, and is OK when it has waited.
+-- Port 0 was OK under 4 and now sends 5, which port 1 has: it keeps 4 while it waits. So it does where the holder of 5 is lost and keeps 5 too. Of two ports that would keep one number the first does. At the third report without its claim a port is OK for the last time; at the fourth it is FAIL. A port that waits to restore takes its number from nobody, and is OK when it has waited.
 holding :
     (left (moved 5 4 ∷ moved 5 5 ∷ []) ≡ standing 2 4 1 ∷ standing 2 5 0 ∷ [])
     × (left (moved 5 4 ∷ lost 5 0 ∷ []) ≡ standing 2 4 1 ∷ standing 2 5 1 ∷ [])
@@ -42,7 +42,12 @@ holding :
 unfolding chosenOf claims grant granted keptNumbers holders moreKept rounds someJoin standingBy standingsOf
 holding = (refl, refl, refl, refl, refl, refl, refl, refl)
 
--- Three ports are lost and each keeps its own number; ports 1 and 2 are, and port 0 has its claim; port 2 is, and its number is port 1's wish; port 0 is, and port 1 leaves a number that port 2 gets; port 2 has lost to port 1, and port 3 wants what it keeps.
+-- In each row:
+-- three ports are lost, and each keeps its own number;
+-- ports 1 and 2 are lost, and port 0 has its claim;
+-- port 2 is lost, and port 1 now sends the number that port 2 keeps;
+-- port 0 is lost, and port 2 gets the number that port 1 has left;
+-- port 2 has lost to port 1, and port 3 wants the number that port 2 keeps.
 each-keeps :
     (left (lost 4 0 ∷ lost 5 1 ∷ lost 6 2 ∷ []) ≡ standing 2 4 1 ∷ standing 2 5 2 ∷ standing 2 6 3 ∷ [])
     × (left (moved 4 4 ∷ lost 5 1 ∷ lost 6 2 ∷ []) ≡ standing 2 4 0 ∷ standing 2 5 2 ∷ standing 2 6 3 ∷ [])

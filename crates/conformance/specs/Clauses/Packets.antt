@@ -9,7 +9,7 @@ use Rattle.packet.specs.Counts.{counts, nibblePlace, tagByHigh, tagByLow}
 use Rattle.packet.specs.Crc.{crcOf, divisor, nibbleBits}
 use Rattle.packet.specs.declared.layout.Fields.{Fields}
 use Rattle.packet.specs.declared.reader.Reading.the-variants.{Packet}
-use Rattle.packet.specs.Kinds.{endsEpoch, epochOf, epochs, epochsIn, firstTag, frames, lead, mstNumbers, tagAfter, tagBefore, tags}
+use Rattle.packet.specs.Kinds.{endsEpoch, epochOf, epochs, epochsIn, firstTag, frames, lead, mstFails, mstFirst, mstNumbers, tagAfter, tagBefore, tags}
 use Rattle.packet.specs.Layout.{carriedIn, dataOf, fieldsOf, h4Of, highsOf, nibblesOf, sealedOf}
 use Rattle.packet.specs.Reading.{readAnswer, readNibbles, readingNumber}
 use Rattle.packet.specs.Shares.{halvesOf}
@@ -20,6 +20,7 @@ use Rattle.packet.specs.Writing.{fitting, writeAnswer, writeBytes, writingNumbe
 -- 'from MFI1 8 to 15 and on to 0 to 7 of the next multiframe': epoch e has the tags from 16 x e - 8 on, sixteen of them, round 4,096; 'to that plus 7' are eight numbers
 numbering :
     (epochOf 0 7 ≡ 0)
+    × (tabulate 7 (λ i. mstFirst 0 (getD (0 ∷ 1 ∷ 15 ∷ 16 ∷ 31 ∷ 32 ∷ 255 ∷ []) i 0)) ≡ 0 ∷ 8 ∷ 120 ∷ 128 ∷ 248 ∷ 0 ∷ 248 ∷ [])
     × (epochOf 0 8 ≡ 1)
     × (epochOf 0 4087 ≡ 255)
     × (epochOf 0 4088 ≡ 0)
@@ -27,6 +28,8 @@ numbering :
     × (firstTag 0 1 ≡ 8)
     × (firstTag 0 255 ≡ 4072)
     × (tagAfter 0 4095 ≡ 0)
+    × (tabulate 8 (mstFails 0x96) ≡ true ∷ false ∷ false ∷ true ∷ false ∷ true ∷ true ∷ false ∷ [])
+    × (tabulate 8 (λ i. mstFails 0x96 (248 + i)) ≡ true ∷ false ∷ false ∷ true ∷ false ∷ true ∷ true ∷ false ∷ [])
     × (tagBefore 0 0 ≡ 4095)
     × (endsEpoch 0 15 ≡ true)
     × (endsEpoch 0 16 ≡ false)
@@ -37,8 +40,8 @@ numbering :
     × (epochsIn 0 4095 ≡ 255)
     × (epochsIn 0 4096 ≡ 0)
     × (mstNumbers 0 ≡ 8)
-unfolding endsEpoch epochOf epochs epochsIn firstTag frames lead mstNumbers tagAfter tagBefore tags
-numbering = (refl, refl, refl, refl, refl, refl, refl, refl, refl, refl, refl, refl, refl, refl, refl, refl, refl, refl)
+unfolding endsEpoch epochOf epochs epochsIn firstTag frames lead mstFails mstFirst mstNumbers tagAfter tagBefore tags
+numbering = (refl, refl, refl, refl, refl, refl, refl, refl, refl, refl, refl, refl, refl, refl, refl, refl, refl, refl, refl, refl, refl)
 
 -- MFI1 8 brings the packet's first nibble, MFI1 7 its last, whatever nibble comes with it.
 -- Tag 848 is the first of multiframe 35 hex: its first frame is 30 and no other, its second 51. A tag counts modulo 4,096; of that before a second frame the high nibble counts alone.
@@ -65,10 +68,11 @@ counted = (refl, refl, refl, refl, refl, refl, refl, refl, refl, refl, refl, ref
 words :
     (tabulate 17 (λ n. assigned (record { 0 = n }))
     ≡ true ∷ true ∷ true ∷ true ∷ false ∷ true ∷ false ∷ false ∷ false ∷ false ∷ false ∷ false ∷ false ∷ false ∷ false ∷ true ∷ false ∷ [])
-    × (wordOf 0x2F ≡ record { 0 = 15 })
+    × (wordOf 0x3F ≡ record { 0 = 15 })
     × (nibbleOf (record { 0 = 0x35 }) ≡ 5)
+    × (nibbleOf (record { 0 = 0x1F }) ≡ 15)
 unfolding assigned
-words = (refl, refl, refl)
+words = (refl, refl, refl, refl)
 
 -- DNU under number 180 (B4) in epoch 147 (93) with GID 1, MST 6A and RS-Ack 1. The 26 other bits, three beside RS-Ack, twelve, three beside GID, eight, are 101 0011 1100 1001 110 0010 1110, which is 29E4E2E.
 -- Seven bytes 6A B3 C9 B4 93 FD 2E with CRC 42.
@@ -86,7 +90,8 @@ packet :
     (dataOf fields ≡ nibbles)
     × (writeBytes fields (replicate 16 7) ≡ h4)
     × (readAnswer h4 ≡ Packet fields)
-    × (fieldsOf (tabulate 16 (λ i. 32 + getD nibbles i 0)) ≡ fields)
+    × (fieldsOf (tabulate 16 (λ i. 48 + getD nibbles i 0)) ≡ fields)
+    × (dataOf (record { epoch = 200; word = record { 0 = 2 }; gid = 0; mst = 0xA5; «rs_ack» = 0; sq = 77; reserved = 0x3FFFFFF }) ≡ 10 ∷ 5 ∷ 14 ∷ 15 ∷ 15 ∷ 15 ∷ 4 ∷ 13 ∷ 12 ∷ 8 ∷ 2 ∷ 14 ∷ 15 ∷ 15 ∷ [])
     × (carriedIn (replicate 16 0x5A) ≡ 0xAA)
     × (h4Of (replicate 16 0x5A) ≡ 0xA8 ∷ 0xA9 ∷ 0xAA ∷ 0xAB ∷ 0xAC ∷ 0xAD ∷ 0xAE ∷ 0xAF ∷ 0xA0 ∷ 0xA1 ∷ 0xA2 ∷ 0xA3 ∷ 0xA4 ∷ 0xA5 ∷ 0xA6 ∷ 0xA7 ∷ [])
     × (halvesOf (0x6A ∷ 0xB3 ∷ []) ≡ 6 ∷ 10 ∷ 11 ∷ 3 ∷ [])
@@ -96,7 +101,7 @@ packet :
     × (writeBytes fields (replicate 15 7) ≡ replicate 15 7)
     × (writeBytes fields (replicate 17 7) ≡ replicate 17 7)
 unfolding assigned carriedIn crcOf dataOf divisor fieldsOf fitting h4Of highsOf nibbleBits nibblesOf readAnswer readNibbles sealedOf writeAnswer writeBytes
-packet = (refl, refl, refl, refl, refl, refl, refl, refl, refl, refl, refl, refl)
+packet = (refl, refl, refl, refl, refl, refl, refl, refl, refl, refl, refl, refl, refl)
 
 abbrev wrote : ℕ → ℕ → ℕ → ℕ → ℕ → ℕ → ℕ → ℕ
 wrote epoch word gid mst ack sq reserved =

@@ -50,7 +50,7 @@ nines n = replicate n 9
 abbrev zeros : ℕ → List ℕ
 zeros n = replicate n 0
 
--- three ports, P 1, W 16; receiving has begun with epoch 58, whose first frame has tag 920 and stands at place 5 of each ring; it was gathered or not
+-- three ports, P 1, W 16; receiving has begun with epoch 58, whose first frame has tag 920 and stands at place 5 of each ring; `gathered` is 1 where a first epoch has been gathered
 abbrev group : ℕ → Group
 group gathered =
     record {
@@ -66,7 +66,7 @@ group gathered =
       «rs_ack» = 0;
     }
 
--- a port in step that has joined, its next tag
+-- a port in step that has joined, with the tag that it waits for
 abbrev step : ℕ → Step
 step next =
     record {
@@ -183,8 +183,10 @@ late = withPort 2 (step 935) (zeros 16) (zeros 16) 0 (withPort 1 (step 935) (pac
 own-odd :
     (stepAt (frameRows late 1 false 0x27 (8 ∷ []) (nines 96)) 1 .odd ≡ 1)
     × (stepAt (frameRows late 2 false 0x27 (8 ∷ []) (nines 96)) 2 .odd ≡ 0)
+    × (endsOdd 0 (packet 2 1 3 9) 935 0x27 ≡ true)
+    × (endsOdd 0 (packet 2 1 3 9) 919 0x27 ≡ false)
 unfolding ackOf activeIn after arrives assigned beginBy begins begunOf begunRun breaksAfter brought byStart byWindow byteAt carriedIn carriesLow chosenOf claims clearedPort clearedPorts clearedStep counts countsOn crcOf cutByte cutFrom dataOf distanceIn distanceOf divisor doubtfulBy dueIn endsEpoch endsOdd endsPacket eosAlone eosWrong epochAfter epochOf epochs epochsIn exact fetchAnswer fetchFits fetchOut fetchRecord fetchRows fieldsOf firstMark firstTag fits fixedExact fixedHeld fixedRulingOf fixedVerdict flagged foremost frameAnswer frameDropped frameFits frameInto frameRows frameStore frames framesInto freshPort freshPorts further furtherRun gainedRun gatherBy gatheredBy gidDiffers grant granted groupAt groupOf groupRow h4At h4Of heldBy highest highsOf holders idleNumber inStep inStepAt joining judgeOf keeps keptNumbers latest lcasVerdict lead loses markedAt markedByte marksAt marksBy memberAt memberOf memberRow missing moreKept mstFails mstFirst mstFrom mstNumbers mstOf nibbleBits nibbleIn nibblePlace nibblesOf noTag notedBy oddAfter oddPacket okHolds orderOf outIfDue outputBy outputFor outputOf outside owesNothing ownNumber ownRuling packetIn packetsAt passedByte passedGroup passedMarks passedOf passedPort passedPorts passedStep placeIn placeOf portIn portOf portRows portShown portsIn portsOut putGroup putMarks putMember putPackets putRow putStep rankOf readFixedNibbles readNibbles readable ready recordOf refusalBy repeats replyFit replyOf replyOut replyPort replyPorts reportBy reportIfDue reportOf reportedOf rightCrc ringOf rounds rowIn rowsFit rowsIfDue ruledBy rulingEpoch rulingIn rulingOf runOn sealedOf secondRun seenAll seenOf settledBy settledOf shownFit silent sized sizedAnswer sizedFits sizedRows someJoin standingBy standingsOf startAsAnswer startAsRows startFits startRight startsCount startsEpoch startsOf statePut statesPut statesWorkedOut stayedRun stepAt stepOf stepRow stopBy stoppedOf storeBy storeFor storedAt tagAfter tagBefore tagByHigh tagByLow tags takenOf takenRows takenStore takes timesWithin turns withState within
-own-odd = (refl, refl)
+own-odd = (refl, refl, refl, refl)
 
 -- Port 0 was ruled by EOS 2, port 1 by NORM 0 and port 2 by NORM 1, and all have brought epoch 58. Port 2's number is other than the one that was told of it.
 abbrev due : List (List ℕ)
@@ -211,7 +213,7 @@ fetched = fetchRows due store (nines 50) (nines 8)
 abbrev told : List (List ℕ) → ℕ → List ℕ
 told s i = memberAt s i .state ∷ memberAt s i .«state_number» ∷ memberAt s i .«told_word» ∷ memberAt s i .«told_number» ∷ []
 
--- A report is of all ports: sure, X 3, 48 bytes, those of ports 1, 2 and 0 by turns, from place 5 of each ring on. All three are OK under their numbers, and RS-Ack turns for port 2. Nothing is due while port 2 lacks its frames.
+-- A report is of all ports: sure, X 3, 48 bytes, those of ports 1, 2 and 0 by turns, from place 5 of each ring on. All three are OK under their numbers, and RS-Ack turns for port 2. Nothing is due while port 2 lacks its frames, whatever rules it; with ADD it has no rank, and X is 2.
 own-reports :
     (fetchRecord due store (nines 50) (nines 8) ≡ 3 ∷ 58 ∷ 3 ∷ 0 ∷ 0 ∷ 0 ∷ 0 ∷ 48 ∷ [])
     × (take 6 (fetchOut due store (nines 50) (nines 8)) ≡ 42 ∷ 74 ∷ 10 ∷ 44 ∷ 76 ∷ 12 ∷ [])

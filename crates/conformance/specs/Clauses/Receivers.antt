@@ -30,6 +30,10 @@ rows n = replicate n (replicate 16 9)
 abbrev opened : List (List ℕ)
 opened = startAsRows 2 2 3 20 160 (3 ∷ 5000 ∷ []) (4 ∷ 300 ∷ []) (rows 11)
 
+-- and three
+abbrev three : List (List ℕ)
+three = startRows 0 3 3 20 240 (rows 16)
+
 -- each port's own times; no good packet, IDLE under 255, nothing told, no timer; no frame, no step; the group's settings, nothing begun, RS-Ack 0
 starts :
     (memberAt opened 0 .«hold_off» ≡ 3)
@@ -125,6 +129,10 @@ member state elapsed =
       elapsed = elapsed;
     }
 
+-- with times of its own, of which none runs
+abbrev timed : ℕ → Member
+timed state = record { spare = []; word = 2; number = 8; state = state; «state_number» = 7; «told_word» = 0; «told_number» = 0; «hold_off» = 7; restore = 9; elapsed = 0 }
+
 -- a port whose last frame was flagged failed, joined before
 abbrev flaggedStep : Step
 flaggedStep =
@@ -152,19 +160,23 @@ shows :
     × (waitingByte (member 2 3) ≡ 1)
     × (waitingByte (member 1 3) ≡ 2)
     × (waitingByte (member 0 3) ≡ 0)
+    × (waitingByte (timed 2) ≡ 0)
+    × (waitingByte (timed 1) ≡ 0)
     × (portShown (groupAt opened) (stepAt opened 0) (member 2 3) ≡ 2 ∷ 7 ∷ 0 ∷ 0 ∷ 0 ∷ 0 ∷ 2 ∷ 1 ∷ [])
     × (recordOf (record { mark = 2; epoch = 200; x = 64; bytes = 0x01248003 }) ≡ 2 ∷ 200 ∷ 64 ∷ 0 ∷ 0x01 ∷ 0x24 ∷ 0x80 ∷ 0x03 ∷ [])
     × (portsAnswer opened 2 ≡ 0)
     × (portsAnswer opened 1 ≡ 9)
     × (portsAnswer opened 3 ≡ 9)
     × (portsAnswer (take 10 opened) 2 ≡ 9)
+    × (portsAnswer three 3 ≡ 0)
+    × (portsAnswer three 2 ≡ 9)
     × (portsOut opened (replicate 2 (replicate 8 9)) ≡ replicate 2 (0 ∷ 255 ∷ 0 ∷ 0 ∷ 0 ∷ 0 ∷ 255 ∷ 0 ∷ []))
     × (portsOut (putMember opened 1 (member 2 3)) (replicate 2 (replicate 8 9)) ≡ (0 ∷ 255 ∷ 0 ∷ 0 ∷ 0 ∷ 0 ∷ 255 ∷ 0 ∷ []) ∷ (2 ∷ 7 ∷ 0 ∷ 0 ∷ 0 ∷ 0 ∷ 2 ∷ 1 ∷ []) ∷ [])
     × (portsOut (putStep opened 1 flaggedStep) (replicate 2 (replicate 8 9)) ≡ (0 ∷ 255 ∷ 0 ∷ 0 ∷ 0 ∷ 0 ∷ 255 ∷ 0 ∷ []) ∷ (0 ∷ 255 ∷ 0 ∷ 1 ∷ 0 ∷ 1 ∷ 255 ∷ 0 ∷ []) ∷ [])
     × (portsOut opened (replicate 3 (replicate 8 9)) ≡ replicate 3 (replicate 8 9))
     × (portsOut (take 10 opened) (replicate 2 (replicate 8 9)) ≡ replicate 2 (replicate 8 9))
 unfolding frames freshPort freshPorts groupAt groupOf groupRow idleNumber inStep inStepAt memberAt memberOf memberRow portIn portShown portsAnswer portsIn portsOut putGroup putMarks putMember putPackets putRow putStep readable recordOf rowIn rowsFit shownFit sized sizedFits sizedRows startAsRows startFits startRight stepAt stepOf stepRow tags timesWithin
-shows = (refl, refl, refl, refl, refl, refl, refl, refl, refl, refl, refl, refl, refl, refl, refl, refl, refl, refl, refl)
+shows = (refl, refl, refl, refl, refl, refl, refl, refl, refl, refl, refl, refl, refl, refl, refl, refl, refl, refl, refl, refl, refl, refl, refl)
 
 -- RS-Ack has turned
 abbrev turned : Group
@@ -198,6 +210,8 @@ replies :
     × (replyByte 1 5 ≡ 5)
     × (replyByte 2 5 ≡ 0)
     × (replyAnswer opened 1 ≡ 9)
+    × (replyAnswer three 2 ≡ 0)
+    × (replyAnswer three 3 ≡ 9)
     × (replyAnswer (take 10 opened) 2 ≡ 9)
     × (replyOf (putGroup (startRows 0 2 3 20 160 (rows 11)) turned) 0 ≡ 255 ∷ 1 ∷ [])
     × (replyOf seventh 32 ≡ 0xFE ∷ 0 ∷ [])
@@ -206,4 +220,4 @@ replies :
     × (replyOut seventh 33 (9 ∷ 9 ∷ []) ≡ 0xFF ∷ 0 ∷ [])
     × (replyOut (take 10 opened) 0 (9 ∷ 9 ∷ []) ≡ 9 ∷ 9 ∷ [])
 unfolding frames freshPort freshPorts groupAt groupOf groupRow memberAt memberOf memberRow mstFrom mstOf okHolds portsIn putGroup putMarks putMember putPackets putRow putStep replyAnswer replyFit replyOf replyOut replyPort replyPorts rowIn rowsFit sized sizedFits sizedRows startAsRows startFits startRight tags timesWithin mstFirst
-replies = (refl, refl, refl, refl, refl, refl, refl, refl, refl, refl, refl, refl, refl, refl, refl, refl, refl)
+replies = (refl, refl, refl, refl, refl, refl, refl, refl, refl, refl, refl, refl, refl, refl, refl, refl, refl, refl, refl)

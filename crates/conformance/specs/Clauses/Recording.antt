@@ -129,10 +129,16 @@ for-each-port :
     × (one (ascii "wait-to-restore" ∷ ascii "0000000005" ∷ []) ≡ O.Malformed)
     × (one (ascii "wait-to-restore" ∷ ascii "x" ∷ []) ≡ O.Malformed)
     × (one (ascii "hold-off" ∷ ascii "x" ∷ []) ≡ O.Malformed)
+    × (one (ascii "kind" ∷ ascii "H5" ∷ ascii "H4" ∷ []) ≡ O.Malformed)
+    × (one (ascii "kind" ∷ ascii "H5" ∷ ascii "5" ∷ []) ≡ O.Malformed)
+    × (one (ascii "hold-off" ∷ ascii "x" ∷ ascii "H4" ∷ []) ≡ O.Malformed)
+    × (one (ascii "hold-off" ∷ ascii "x" ∷ ascii "5" ∷ []) ≡ O.Malformed)
+    × (one (ascii "wait-to-restore" ∷ ascii "x" ∷ ascii "H4" ∷ []) ≡ O.Malformed)
+    × (one (ascii "wait-to-restore" ∷ ascii "x" ∷ ascii "5" ∷ []) ≡ O.Malformed)
     × (openingBy 7 (ascii "0" ∷ ascii "1" ∷ ascii "16" ∷ ascii "hold-off" ∷ ascii "kind" ∷ ascii "H4" ∷ []) ≡ O.Settings (settings 0 [] [] 0 1 16) 7)
     × (openingBy 7 (ascii "0" ∷ ascii "1" ∷ ascii "16" ∷ ascii "wait-to-restore" ∷ ascii "kind" ∷ ascii "H4" ∷ []) ≡ O.Settings (settings 0 [] [] 0 1 16) 7)
 unfolding digitOf fieldIn holdRead kindRead named numberOf opened restoreRead settingsBy
-for-each-port = (refl, refl, refl, refl, refl, refl, refl, refl, refl)
+for-each-port = (refl, refl, refl, refl, refl, refl, refl, refl, refl, refl, refl, refl, refl, refl, refl)
 
 -- the number of the last of 64 ports is kept
 last-port :

@@ -6,7 +6,10 @@ use Prim.Native.Nat.{ℕ}
 use lib.ListN.{drop, replicate, take}
 use Rattle.bytes.specs.Bytes.{indexAfter, indexOf}
 use Rattle.packet.specs.Kinds.{frames, idleNumber, tags}
-use Rattle.phases.specs.Sizes.{sized}
+use Rattle.phases.specs.Sizes.{portsIn, sized, storeFor}
+use Rattle.receiver.specs.Fetch.{fetchRows, fits}
+use Rattle.receiver.specs.Frame.{frameRows, refusalBy}
+use Rattle.receiver.specs.Lengths.{fetchFits, frameFits, outputFor, rowsFit}
 use Rattle.receiver.specs.Starting.{freshPort, freshPorts, sizedFits, sizedRows, startAsRows, startFits, startRight, startRows, timesWithin}
 use Rattle.recording.specs.declared.record.Record.the-variants as R
 use Rattle.recording.specs.Line.{foundOf}
@@ -17,11 +20,11 @@ use Rattle.replaying.specs.declared.replay.Phase.{Phase}
 use Rattle.replaying.specs.declared.replay.Phase.the-variants.{Reading, Fetching, Skipping, Ended}
 use Rattle.replaying.specs.declared.replay.Replay.{Replay}
 use Rattle.replaying.specs.declared.turns.Replayed.{Replayed}
-use Rattle.replaying.specs.Output.{answerText, changesText, stateAt, stateText, statesIn}
+use Rattle.replaying.specs.Output.{answerText, changesText, epochText, markText, stateAt, stateText, statesIn}
 use Rattle.replaying.specs.Replay.{beginning, nextLine, outputOf, storeOf}
-use Rattle.replaying.specs.Turn.{answeredSaid, answeredTurn, framedTurn, isLent, openRows, openSaid, openTurn, openWithRows, openWithSaid, openWithTurn, over, readBy, readOnTurn, readSaid, readTurn, recordNow, reportTurn, reportedTurn, skipTurn, startable, startedRows, timesFit, turnOf, turnOut, turnRows, turnSaid, turnStore}
+use Rattle.replaying.specs.Turn.{answeredSaid, answeredTurn, fetchRowsBy, framedRows, framedTurn, isLent, openRows, openSaid, openTurn, openWithRows, openWithSaid, openWithTurn, over, readBy, readOnTurn, readSaid, readSaidBy, readTurn, recordNow, reportTurn, reportedTurn, skipTurn, startable, startedRows, timesFit, turnOf, turnOut, turnRows, turnSaid, turnStore}
 use Rattle.rows.specs.declared.member.Member.{Member}
-use Rattle.rows.specs.Group.{groupRow, putGroup}
+use Rattle.rows.specs.Group.{groupAt, groupOf, groupRow, putGroup}
 use Rattle.rows.specs.Member.{memberAt, memberOf, memberRow, putMember}
 use Rattle.rows.specs.Packets.{putMarks, putPackets}
 use Rattle.rows.specs.Rows.{putRow, rowIn}
@@ -43,8 +46,8 @@ abbrev goes : Replay → ℕ → ℕ → Bool → Replayed
 goes r used written wants = record { replay = r; answer = 0; used = used; written = written; wants = wants }
 
 -- 9: nothing is used or written
-abbrev short : Replay → Replayed
-short r = record { replay = r; answer = 9; used = 0; written = 0; wants = true }
+abbrev tooLittle : Replay → Replayed
+tooLittle r = record { replay = r; answer = 9; used = 0; written = 0; wants = true }
 
 -- rows of 9s, and numbers of 9s
 abbrev rows : ℕ → List (List ℕ)
@@ -71,8 +74,8 @@ a-first-line :
     × (first (ascii "1\t1\t16\nx") false 321 31 1160 ≡ ends 16)
     × (first (ascii "0\t1\t16\nx") false 321 32 1160 ≡ ends 16)
     × (first (ascii "x\n") false 321 32 1160 ≡ ends 17)
-    × (first (ascii "1\t1\t16\nx") false 320 32 1160 ≡ short beginning)
-    × (first (ascii "1\t1\t16\nx") false 321 32 1159 ≡ short beginning)
+    × (first (ascii "1\t1\t16\nx") false 320 32 1160 ≡ tooLittle beginning)
+    × (first (ascii "1\t1\t16\nx") false 321 32 1159 ≡ tooLittle beginning)
     × (first (ascii "2\t3\t16\n") false 321 128 1160 ≡ goes (record { phase = Reading; line = 1; left = 0; ports = 2; size = 3; window = 16 }) 7 0 false)
     × (first (ascii "2\t3\t16\n") false 321 127 1160 ≡ ends 16)
     × (first (ascii "1\t1\t16\twait-to-restore\t5001\n") false 321 32 1160 ≡ ends 16)
@@ -106,8 +109,11 @@ what-is-said :
     × (turnSaid (at Reading 0) (ascii "x\n") false (rows 11) (nines 64) (nines 32) (nines 1160) ≡ ascii "answer\t13\tline\t5\n" ++ nines 1143)
     × (over (ascii "ab") (ascii "wxyz") ≡ ascii "abyz")
     × (answerText 10 123 ≡ ascii "answer\t10\tline\t123\n")
-unfolding answerText answeredSaid decimalText digitOf fieldsOf foundOf frames indexAfter indexOf isLent lineOpening lineRecord numberOf numberText openSaid openWithSaid opened openingIn readSaid recordIn recordNow settingsBy sized startable tags timesFit timesWithin turnSaid
-what-is-said = (refl, refl, refl, refl, refl, refl, refl)
+    × (answerText 13 1234567 ≡ ascii "answer\t13\tline\t1234567\n")
+    × (epochText 255 2 2396160 70000 ≡ ascii "epoch\t255\tdoubtful\tbytes\t2396160\tline\t70000\n")
+    × (readSaidBy (at Reading 0) (ascii "abc") (nines 18) R.Long ≡ ascii "answer\t13\tline\t5\n" ++ (9 ∷ []))
+unfolding answerText answeredSaid decimalText digitOf epochText fieldsOf foundOf frames indexAfter indexOf isLent lineOpening lineRecord markText numberOf numberText openSaid openWithSaid opened openingIn readSaid recordIn recordNow settingsBy sized startable tags timesFit timesWithin turnSaid
+what-is-said = (refl, refl, refl, refl, refl, refl, refl, refl, refl, refl)
 
 -- a line behind the first: two ports take 11 rows, a store of 64 and an output of 32
 abbrev reads : List ℕ → Bool → ℕ → ℕ → ℕ → ℕ → Replayed
@@ -123,10 +129,10 @@ a-line :
     × (reads (ascii "1\tf0\t0\tAb") false 11 64 32 1160 ≡ goes (at Reading 0) 0 0 true)
     × (reads [] true 11 64 32 1160 ≡ goes (at Reading 0) 0 0 true)
     × (reads (ascii "2\tf0\t0\tAb\nx") false 11 64 32 1160 ≡ goes (after Reading 5 0) 10 17 false)
-    × (reads (ascii "1\tf0\t0\tAb\n") false 10 64 32 1160 ≡ short (at Reading 0))
-    × (reads (ascii "1\tf0\t0\tAb\n") false 11 63 32 1160 ≡ short (at Reading 0))
-    × (reads (ascii "1\tf0\t0\tAb\n") false 11 64 31 1160 ≡ short (at Reading 0))
-    × (reads (ascii "1\tf0\t0\tAb\n") false 11 64 32 1159 ≡ short (at Reading 0))
+    × (reads (ascii "1\tf0\t0\tAb\n") false 10 64 32 1160 ≡ tooLittle (at Reading 0))
+    × (reads (ascii "1\tf0\t0\tAb\n") false 11 63 32 1160 ≡ tooLittle (at Reading 0))
+    × (reads (ascii "1\tf0\t0\tAb\n") false 11 64 31 1160 ≡ tooLittle (at Reading 0))
+    × (reads (ascii "1\tf0\t0\tAb\n") false 11 64 32 1159 ≡ tooLittle (at Reading 0))
     × (readBy (at Reading 0) (ascii "abc") R.Long ≡ goes (after Skipping 5 0) 3 17 false)
     × (reads (ascii "1\tf0\t0\tAb\nx") true 11 64 32 1160 ≡ goes (after Fetching 5 16) 10 0 false)
     × (reads (ascii "2\tf0\t0\tAb\nx") true 11 64 32 1160 ≡ goes (after Reading 5 0) 10 17 false)
@@ -137,10 +143,17 @@ a-line :
 unfolding answerText answeredTurn decimalText digitOf fieldsOf flagIn foundOf frameBy framedTurn hexOf indexAfter indexOf isHex isLent lastRecord lineRecord numberOf numberText readTurn recordIn recordNow turnOf
 a-line = (refl, refl, refl, refl, refl, refl, refl, refl, refl, refl, refl, refl, refl, refl, refl, refl)
 
+-- of more rows than the group's 11 a frame and a fetch leave the last ones as they are
+beyond :
+    (drop 11 (framedRows (at Reading 0) 1 0xF0 0 (0xAB ∷ []) (rows 13) (nines 64)) ≡ rows 2)
+    × (drop 11 (fetchRowsBy (at Fetching 1) (rows 13) (nines 64) (nines 32)) ≡ rows 2)
+unfolding fetchFits fetchRows fetchRowsBy fits frameFits frameRows framedRows frames groupAt groupOf portsIn refusalBy rowIn rowsFit sized storeFor outputFor tags
+beyond = (refl, refl)
+
 -- behind its last fetch a line is read next; a report leaves one fetch less
 fetches :
     (turnOf (at Fetching 0) (ascii "x") false (rows 11) (nines 64) (nines 32) 1160 ≡ goes (at Reading 0) 0 0 false)
-    × (turnOf (at Fetching 0) (ascii "x") false (rows 11) (nines 64) (nines 32) 1159 ≡ short (at Fetching 0))
+    × (turnOf (at Fetching 0) (ascii "x") false (rows 11) (nines 64) (nines 32) 1159 ≡ tooLittle (at Fetching 0))
     × (readOnTurn (at Fetching 7) ≡ goes (at Reading 0) 0 0 false)
     × (reportedTurn (at Fetching 7) 33 ≡ goes (at Fetching 6) 0 33 false)
 unfolding isLent readOnTurn reportTurn reportedTurn turnOf

@@ -5,6 +5,7 @@ use mathlib.Core.List.{List, [], _∷_}
 use Prim.Native.Nat.{ℕ}
 use lib.ListN.{length, take}
 use Rattle.conformance.specs.Waits.{seenPort}
+use Rattle.ground.specs.Table.{tabulate}
 use Rattle.packet.specs.Kinds.{mstFirst}
 use Rattle.reply.specs.Choosing.{claims, grant, granted, holders}
 use Rattle.reply.specs.declared.members.Port.{Port}
@@ -48,23 +49,30 @@ keeping = (refl, refl, refl, refl)
 abbrev ok : ℕ → Port
 ok number = sends 2 number (standing 2 number 0)
 
--- 'MST for q is 0 exactly if an OK port holds q', 'first bit the lowest': epoch 0 speaks of numbers 0 to 7, epoch 33 of 8 to 15
+-- 'MST for q is 0 exactly if an OK port holds q', 'first bit the lowest': epoch 0 speaks of numbers 0 to 7, epoch 33 of 8 to 15. A port that is FAIL does not count, nor one past the count of ports
 bits :
     (mstOf 0 (ok 0 ∷ ok 2 ∷ ok 4 ∷ ok 6 ∷ []) 4 0 ≡ 0x55)
     × (mstOf 0 (ok 1 ∷ ok 3 ∷ ok 5 ∷ ok 7 ∷ []) 4 0 ≡ 0xAA)
     × (mstOf 0 (ok 8 ∷ ok 10 ∷ ok 12 ∷ ok 14 ∷ sends 2 9 (standing 1 9 0) ∷ ok 15 ∷ []) 5 33 ≡ 0x55)
     × (mstOf 0 (ok 9 ∷ ok 11 ∷ ok 13 ∷ ok 15 ∷ []) 4 33 ≡ 0xAA)
+    × (mstOf 0 (ok 0 ∷ ok 9 ∷ ok 7 ∷ []) 3 0 ≡ 0x7E)
+    × (tabulate 8 (λ q. mstOf 0 (ok q ∷ []) 1 0) ≡ 0x7F ∷ 0xBF ∷ 0xDF ∷ 0xEF ∷ 0xF7 ∷ 0xFB ∷ 0xFD ∷ 0xFE ∷ [])
+    × (mstOf 0 (ok 0 ∷ []) 1 16 ≡ 0xFF)
+    × (mstOf 0 (ok 0 ∷ []) 1 32 ≡ 0x7F)
+    × (mstOf 0 (ok 6 ∷ ok 5 ∷ ok 4 ∷ ok 3 ∷ ok 2 ∷ ok 1 ∷ ok 0 ∷ []) 7 0 ≡ 0x01)
 unfolding mstFirst mstFrom mstOf okHolds
-bits = (refl, refl, refl, refl)
+bits = (refl, refl, refl, refl, refl, refl, refl, refl, refl)
 
--- as it was told, and ADD that has become IDLE
+-- a port as it was told
 abbrev stays : Port
 stays = record { word = 2; number = 0; state = 2; «state_number» = 0; «told_word» = 2; «told_number» = 0; readable = true; «hold_off» = 0; restore = 0; elapsed = 0 }
 
-abbrev left-group : Port
-left-group =
+-- ADD that has become IDLE
+abbrev departed : Port
+departed =
     record { word = 5; number = 255; state = 2; «state_number» = 0; «told_word» = 1; «told_number» = 0; readable = true; «hold_off» = 0; restore = 0; elapsed = 0 }
 
+-- with another number than was told
 abbrev renumbered : Port
 renumbered = record { word = 2; number = 1; state = 2; «state_number» = 0; «told_word» = 2; «told_number» = 0; readable = true; «hold_off» = 0; restore = 0; elapsed = 0 }
 
@@ -73,10 +81,8 @@ turning :
     (ackOf (stays ∷ stays ∷ stays ∷ []) 3 1 ≡ 1)
     × (ackOf (stays ∷ stays ∷ renumbered ∷ []) 3 0 ≡ 1)
     × (ackOf (stays ∷ stays ∷ renumbered ∷ []) 3 1 ≡ 0)
-    × (ackOf (stays ∷ left-group ∷ stays ∷ []) 3 0 ≡ 1)
-    × (ackOf (renumbered ∷ stays ∷ left-group ∷ []) 3 0 ≡ 1)
+    × (ackOf (stays ∷ departed ∷ stays ∷ []) 3 0 ≡ 1)
+    × (ackOf (renumbered ∷ stays ∷ departed ∷ []) 3 0 ≡ 1)
     × (ackOf (renumbered ∷ renumbered ∷ stays ∷ []) 3 1 ≡ 0)
-    × (mstOf 0 (stays ∷ ok 9 ∷ ok 7 ∷ []) 3 0 ≡ 0x7E)
-    × (mstOf 0 (ok 6 ∷ ok 5 ∷ ok 4 ∷ ok 3 ∷ ok 2 ∷ ok 1 ∷ ok 0 ∷ []) 7 0 ≡ 0x01)
-unfolding ackOf mstFirst mstFrom mstOf okHolds turns
-turning = (refl, refl, refl, refl, refl, refl, refl, refl)
+unfolding ackOf turns
+turning = (refl, refl, refl, refl, refl, refl)

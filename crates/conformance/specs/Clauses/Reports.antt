@@ -1,9 +1,10 @@
 -- The report of an epoch (01, 'Report of an epoch', 'Payload order'), part by part: a group of two ports, P 2, W 16, whose oldest epoch is 58, and what it reads from rows and store.
 use mathlib.Core.Path.{_≡_, refl}
-use mathlib.Core.Bool.{Bool, true, false}
+use mathlib.Core.Bool.{Bool, true, false, cond}
 use mathlib.Core.List.{List, [], _∷_, _++_}
 use Prim.Native.Nat.{ℕ}
-use lib.ListN.{length, replicate, take}
+use lib.Dec.{eqb}
+use lib.ListN.{getD, length, replicate, take}
 use Rattle.ground.specs.Table.{tabulate}
 use Rattle.judge.specs.declared.order.Order.{Order}
 use Rattle.judge.specs.declared.seen.Seen.{Seen}
@@ -22,10 +23,10 @@ use Rattle.phases.specs.Sizes.{portsIn, sized, storeFor}
 use Rattle.receiver.specs.Fetch.{dueIn, fetchAnswer, fetchOut, fetchRecord, fetchRows, fits, outIfDue, recordOf, reportIfDue, rowsIfDue}
 use Rattle.receiver.specs.Frame.{frameAnswer, frameRows, frameStore, gatheredBy, refusalBy}
 use Rattle.receiver.specs.Lengths.{fetchFits, frameFits, outputFor, rowsFit}
-use Rattle.receiver.specs.Report.{frameInto, framesInto, outputBy, outputOf, replyPort, replyPorts, reportBy, reportOf, rulingEpoch, seenAll, seenOf, startsOf, statesPut, statesWorkedOut, withState}
+use Rattle.receiver.specs.Report.{frameInto, framesInto, outputBy, outputOf, replyPort, replyPorts, reportBy, reportOf, rulingEpoch, seenAll, seenOf, startsOf, statePut, statesPut, statesWorkedOut, withState}
 use Rattle.receiver.specs.Starting.{freshPort, freshPorts, sizedFits, sizedRows, startAsRows, startFits, startRight, startRows, timesWithin}
 use Rattle.reply.specs.Telling.{ackOf, turns}
-use Rattle.reply.specs.Waiting.{standing, standingsOf}
+use Rattle.reply.specs.Waiting.{standing, standingBy, standingsOf}
 use Rattle.rows.specs.declared.group.Group.{Group}
 use Rattle.rows.specs.declared.member.Member.{Member}
 use Rattle.rows.specs.declared.step.Step.{Step}
@@ -271,6 +272,27 @@ kept :
     × (length (replyPorts (phase 1 1) [] 0) ≡ 64)
 unfolding ackOf groupAt groupOf groupRow putGroup putRow replyPorts rowIn seenAll standingsOf startsOf statesPut statesWorkedOut turns
 kept = (refl, refl, refl, refl, refl)
+
+-- OK so far, and ADD when it was told; IDLE now
+abbrev gone : Member
+gone = record { spare = zeros 4; word = 5; number = 255; state = 2; «state_number» = 0; «told_word» = 1; «told_number» = 0; «hold_off» = 0; restore = 0; elapsed = 0 }
+
+-- Of eighteen ports, more than an epoch has frames, the last one counts as any other: its packet, its rank and bytes, its state and RS-Ack.
+abbrev eighteen : List (List ℕ)
+eighteen = putMember (putPackets (replicate 91 (zeros 16)) 17 (zeros 16 ∷ norm ∷ [])) 17 gone
+
+abbrev last-active : List Seen
+last-active = tabulate 18 (λ i. record { whole = true; good = true; word = cond (eqb i 17) 3 5; number = cond (eqb i 17) 0 255; gid = 0; here = true })
+
+many :
+    (getD (seenAll (phase 1 1) eighteen 18) 17 (seen false 0 0 0) ≡ seen true 2 3 1)
+    × (reportOf (phase 1 1) last-active 18 ≡ record { mark = 3; epoch = 58; x = 1; bytes = 32 })
+    × (take 3 (outputOf (phase 1 1) last-active 18 (replicate 864 7) (nines 40)) ≡ 7 ∷ 7 ∷ 7 ∷ [])
+    × (memberAt (statesWorkedOut (phase 1 1) 18 eighteen) 17 .state ≡ 0)
+    × (memberAt (statesWorkedOut (phase 1 1) 18 eighteen) 17 .«told_word» ≡ 5)
+    × (groupAt (statesWorkedOut (phase 1 1) 18 eighteen) .«rs_ack» ≡ 0)
+unfolding ackOf activeIn assigned brought carriedIn crcOf divisor doubtfulBy dueIn eosAlone eosWrong epochOf exact fieldsOf firstMark firstTag frameInto framesInto freshPort freshPorts gidDiffers groupAt groupOf groupRow heldBy highest inStep inStepAt judgeOf kindsFrames lcasVerdict lead marksAt memberAt memberOf memberRow missing nibbleBits orderOf outIfDue outputBy outputOf owesNothing ownNumber ownRuling packetsAt placeIn portOf putGroup putMarks putMember putPackets putRow putStep rankOf readNibbles readable repeats replyPort replyPorts reportBy reportIfDue reportOf ringOf rowIn rowsIfDue rulingEpoch rulingIn rulingOf seenAll seenOf sized sizedFits sizedRows standingBy standingsOf startAsRows startFits startRight startsOf statePut statesPut statesWorkedOut stepAt stepOf stepRow storedAt tagBefore tags takes timesWithin turns withState
+many = (refl, refl, refl, refl, refl, refl)
 
 -- the byte count of a record, highest byte first, up to 32 bits
 records :

@@ -151,9 +151,10 @@ orders :
     × (orderStateOn (nines 857) ((2 ∷ 1 ∷ 0 ∷ []) ∷ []) (nines 1) ≡ nines 857)
     × (kindAnswerOn 3 0 0 (1 ∷ nines 857) ≡ 0)
     × (kindAnswerOn 4 0 0 (1 ∷ nines 857) ≡ 8)
+    × (kindAnswerOn 4 2 0 (1 ∷ nines 857) ≡ 8)
     × (kindStateOn 4 0 0 (1 ∷ nines 857) ≡ 1 ∷ nines 857)
     × (orderAnswersOn (nines 858) ((2 ∷ 1 ∷ 5 ∷ []) ∷ []) (nines 1) ≡ 0 ∷ [])
     × (take 6 (orderStateOn (nines 858) ((2 ∷ 1 ∷ 5 ∷ []) ∷ []) (nines 1)) ≡ nines 5 ++ (2 ∷ []))
     × (take 6 (kindStateOn 3 0 5 (nines 5 ++ (1 ∷ nines 852))) ≡ nines 5 ++ (0 ∷ []))
 unfolding cardOf claimOf commandOf isSlot isUsed kindAnswerOn kindStateOn marked orderAnswerOn orderAnswersOn orderStateOn ownersIn owns partIn partsSenderOf putOwn releaseOf senderOf sizeOf slotsIn callAnswerOn callStateOn withOwner
-orders = (refl, refl, refl, refl, refl, refl, refl, refl, refl, refl, refl, refl, refl, refl, refl)
+orders = (refl, refl, refl, refl, refl, refl, refl, refl, refl, refl, refl, refl, refl, refl, refl, refl)

@@ -1,4 +1,4 @@
--- Waits, RS-Ack and numbers of the sender's table (01, 'The sender's table'), clause by clause: word and number of each slot, then the wait.
+-- The sender's table (01, 'The sender's table', 'Taking effect'), clause by clause: waits, RS-Ack, numbers, what commands answer, epochs and ranks, and the words of demand 2. A table is shown by word and number of each slot, then the wait.
 use mathlib.Core.Path.{_≡_, refl}
 use mathlib.Core.Bool.{true, false}
 use mathlib.Core.List.{List, [], _∷_, _++_}
@@ -6,6 +6,8 @@ use Prim.Native.Nat.{ℕ}
 use lib.ListN.{getD, length, replicate, take}
 use Rattle.ground.specs.Table.{tabulate}
 use Rattle.packet.specs.Kinds.{epochAfter, epochs, idleNumber, mstFails, mstFirst, mstNumbers}
+use Rattle.payload.specs.Order.{memberByte}
+use Rattle.payload.specs.Spreading.{spreadOne}
 use Rattle.sender.specs.Board.{boardOf, highest, noRow, rowOf, rowsOf}
 use Rattle.sender.specs.Calls.{Call, outcomeOf}
 use Rattle.sender.specs.Calls.Call.{AddSlot, Lapse, RemoveSlot, Report}
@@ -27,12 +29,14 @@ active slot = AddSlot slot ∷ Report 0 0x00 0 ∷ Lapse ∷ []
 abbrev two : List Call
 two = active 0 ++ active 1
 
--- An ADD member that is reported FAIL stays ADD, and no wait opens; with one of two reported OK it does.
+-- An ADD member that is reported FAIL stays ADD, and no wait opens; with one of two reported OK it does. Epoch 16 speaks of numbers from 128 on, epoch 32 of 0 to 7 again.
 opens :
     (shown (after 1 (AddSlot 0 ∷ Report 0 0xFF 0 ∷ [])) ≡ 1 ∷ 0 ∷ 0 ∷ [])
     × (shown (after 2 (AddSlot 0 ∷ AddSlot 1 ∷ Report 0 0x7F 0 ∷ [])) ≡ 3 ∷ 0 ∷ 1 ∷ 1 ∷ 1 ∷ [])
+    × (shown (after 1 (AddSlot 0 ∷ Report 16 0x00 0 ∷ [])) ≡ 1 ∷ 0 ∷ 0 ∷ [])
+    × (shown (after 1 (AddSlot 0 ∷ Report 32 0x00 0 ∷ [])) ≡ 3 ∷ 0 ∷ 1 ∷ [])
 unfolding actedOn addOf addedTo boardOf comesBefore freshOf highest holderOf idleNumber idleSlot membersOf mstApplied mstFails mstFirst mstNumbers noRow numberAfter numberApplied opensWait renumbered reportOf rowOf rowsOf sizeOf slotAfter startOf turnOf waited
-opens = (refl, refl)
+opens = (refl, refl, refl, refl)
 
 -- A wait closes where RS-Ack goes from 1 to 0 too, and 0 is remembered: at the next wait another 0 leaves it open. With no wait open the lowest bit of 3 is remembered, which is 1.
 closes :
@@ -62,7 +66,7 @@ commands :
 unfolding actedOn addOf addedTo comesBefore freshOf holderOf idleNumber idleSlot lapseOf membersOf mstApplied mstFails mstFirst mstNumbers numberAfter numberApplied opensWait removeOf renumbered reportOf sizeOf slotAfter startOf turnOf waited
 commands = (refl, refl, refl, refl, refl, refl, refl, refl, refl)
 
--- three slots whose first epoch is 255, slots 1 and 2 active from before its start
+-- three slots whose first epoch is 255, slots 1 and 2 active from before its start, after n starts of an epoch
 abbrev ranked : ℕ → Ranks
 ranked n = ranksOf (senderRun (beginOf 0 3 255 .sender) (OnTable (AddSlot 1) ∷ OnTable (AddSlot 2) ∷ OnTable (Report 0 0x00 0) ∷ replicate n (StartEpoch 0 0 0)))
 
@@ -78,12 +82,13 @@ epochs-begun :
     × (ranked 2 .x ≡ 2)
     × (ranked 2 .count ≡ 3)
     × (take 4 (ranked 2 .ranks) ≡ 255 ∷ 0 ∷ 1 ∷ 255 ∷ [])
+    × (length (ranked 2 .ranks) ≡ 64)
     × (packetFields (senderRun (beginOf 0 3 255 .sender) (StartEpoch 0 0x5A 1 ∷ OnTable (AddSlot 0) ∷ [])) 0 .gid ≡ 0)
     × (packetFields (senderRun (beginOf 0 3 255 .sender) (StartEpoch 1 0x5A 1 ∷ OnTable (AddSlot 0) ∷ [])) 0 .gid ≡ 1)
     × (packetFields (senderRun (beginOf 0 3 255 .sender) (StartEpoch 1 0x5A 1 ∷ OnTable (AddSlot 0) ∷ [])) 0 .«rs_ack» ≡ 1)
     × (packetFields (senderRun (beginOf 0 3 255 .sender) (StartEpoch 1 0x5A 0 ∷ OnTable (AddSlot 0) ∷ [])) 0 .«rs_ack» ≡ 0)
 unfolding actedOn addOf addedTo beginOf boardOf carriersIn comesBefore freshOf freshSender highest holderOf idleNumber idleSlot membersOf mstApplied mstFails mstFirst mstNumbers noRow numberAfter numberApplied opensWait packetFields rankAt ranksIn ranksOf renumbered reportOf rowOf rowsOf sizeOf slotAfter startEpochOf startOf startedEpoch startedSender turnOf waited epochAfter epochs rankOf
-epochs-begun = (refl, refl, refl, refl, refl, refl, refl, refl, refl, refl, refl, refl, refl, refl)
+epochs-begun = (refl, refl, refl, refl, refl, refl, refl, refl, refl, refl, refl, refl, refl, refl, refl)
 
 -- slots 0 and 2 active, slot 1 DNU, slot 3 added and slot 4 IDLE
 abbrev all-states : Table
@@ -101,5 +106,18 @@ demand2-words :
     × (getD (boardOf all-states .rows) 5 (noRow 0) .word .0 ≡ 5)
     × (getD (boardOf all-states .rows) 5 (noRow 0) .number ≡ 255)
     × (length (boardOf all-states .rows) ≡ 64)
+    × (length (all-states .slots) ≡ 64)
+    × (stateIn (after 64 (AddSlot 63 ∷ [])) 63 ≡ Add)
+    × (numberIn (after 64 (AddSlot 63 ∷ [])) 63 ≡ 0)
+    × (slotsIn (after 64 []) ≡ 64)
+    × (slotsIn (after 65 []) ≡ 0)
 unfolding actedOn addOf addedTo boardOf comesBefore freshOf highest holderOf idleNumber idleSlot lapseOf membersOf mstApplied mstFails mstFirst mstNumbers noRow numberAfter numberApplied opensWait renumbered reportOf rowOf rowsOf sizeOf slotAfter startOf turnOf waited
-demand2-words = (refl, refl, refl, refl, refl, refl, refl, refl, refl, refl)
+demand2-words = (refl, refl, refl, refl, refl, refl, refl, refl, refl, refl, refl, refl, refl, refl, refl)
+
+-- A slot with no rank carries zeros, however long the client's frame is: rank 255 would be within it here.
+no-rank :
+    (spreadOne 1 256 255 (replicate 256 7) (replicate 256 9) ≡ replicate 256 0)
+    × (spreadOne 1 256 0 (replicate 256 7) (replicate 256 9) ≡ replicate 256 7)
+    × (memberByte 2 (1 ∷ 2 ∷ 3 ∷ 4 ∷ []) 2 0 ≡ 0)
+    × (memberByte 2 (1 ∷ 2 ∷ 3 ∷ 4 ∷ []) 1 1 ≡ 4)
+no-rank = (refl, refl, refl, refl)

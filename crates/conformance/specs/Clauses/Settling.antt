@@ -139,6 +139,8 @@ beginning :
     × (groupAt (beginBy unbegun 2 (rows unbegun failed (step 1 0 33 856 0 0 0 1))) .oldest ≡ 54)
     × (groupAt (beginBy unbegun 2 (rows unbegun failed (step 1 0 33 857 0 0 0 1))) .oldest ≡ 55)
     × (groupAt (beginBy unbegun 2 (rows unbegun failed (step 1 0 33 4088 0 0 0 1))) .oldest ≡ 0)
+    × (groupAt (beginBy unbegun 2 (rows unbegun failed (step 1 0 33 17 0 0 0 1))) ≡ group 1 0 2 30)
+    × (groupAt (beginBy unbegun 2 (rows unbegun failed (step 1 0 33 1 0 0 0 1))) ≡ group 1 0 1 30)
     × (groupAt (beginBy unbegun 2 (rows unbegun apart (step 1 0 33 877 0 0 0 1))) ≡ group 1 0 56 30)
     × (beginBy unbegun 2 (rows unbegun apart (step 1 0 33 878 0 0 0 1)) ≡ rows unbegun apart (step 1 0 33 878 0 0 0 1))
     × (groupAt (beginBy unbegun 2 (rows unbegun (step 1 0 33 877 0 0 0 1) apart)) ≡ group 1 0 56 30)
@@ -148,7 +150,7 @@ beginning :
     × (beginBy unbegun 2 (rows unbegun apart (step 1 0 31 853 0 0 0 0)) ≡ rows unbegun apart (step 1 0 31 853 0 0 0 0))
     × (beginBy g 2 (rows g apart failed) ≡ rows g apart failed)
 unfolding after beginBy begins begunOf clearedPort clearedPorts clearedStep distanceOf epochAfter epochOf epochs foremost frames further groupAt groupOf groupRow inStep inStepAt latest lead marksAt noTag putGroup putMarks putRow putStep ready rowIn stepAt stepOf stepRow tagBefore tags within
-beginning = (refl, refl, refl, refl, refl, refl, refl, refl, refl, refl, refl, refl, refl, refl, refl)
+beginning = (refl, refl, refl, refl, refl, refl, refl, refl, refl, refl, refl, refl, refl, refl, refl, refl, refl)
 
 -- 'gathered, in the call that makes it due', once, and before the beginning nothing is; the place of the window's first frame goes on by sixteen, round W of 40.
 -- Stopping comes first, and the beginning can follow in the same call.

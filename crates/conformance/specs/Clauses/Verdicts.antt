@@ -45,7 +45,8 @@ unfolding doubtfulBy eosAlone eosWrong gidDiffers heldBy highest judgeOf lcasVer
 torn-packets = (refl, refl, refl, refl, refl, refl, refl, refl)
 
 -- an IDLE port's GID counts for nothing, whichever it is, a DNU port's and an active one's hold the epoch where they differ; an ADD port's number does not fill a gap;
--- EOS below the highest active number holds it, whether or not that port's packet is refused or EOS stands on the highest too
+-- EOS below the highest active number holds it, whether or not EOS stands on the highest too, and so do no EOS with a gap in the numbers, and two beside a packet that did not come; ADD's GID counts as an
+-- active port's; where none is active there need be no EOS; DNU's number counts among 0 to n-1 and not for EOS; a kind that is not known is judged as H4
 others :
     (verdict (saw 3 0 1 ∷ saw 5 255 0 ∷ []) ≡ 3)
     × (verdict (saw 3 0 0 ∷ saw 5 255 1 ∷ []) ≡ 3)
@@ -53,17 +54,20 @@ others :
     × (verdict (saw 3 0 0 ∷ saw 15 1 1 ∷ []) ≡ 1)
     × (verdict (saw 2 0 1 ∷ saw 3 1 0 ∷ []) ≡ 1)
     × (verdict (saw 2 0 0 ∷ saw 1 1 0 ∷ saw 3 2 0 ∷ []) ≡ 2)
-    × (verdict (saw 3 0 0 ∷ bad 2 1 ∷ []) ≡ 1)
     × (verdict (saw 3 0 0 ∷ saw 2 1 0 ∷ []) ≡ 1)
+    × (verdict (saw 2 0 0 ∷ saw 2 2 0 ∷ []) ≡ 1)
+    × (verdict (saw 3 0 0 ∷ saw 3 1 0 ∷ joining ∷ []) ≡ 1)
+    × (verdict (saw 3 0 1 ∷ saw 1 1 0 ∷ []) ≡ 1)
+    × (verdict (saw 3 0 1 ∷ saw 15 1 0 ∷ []) ≡ 1)
+    × (verdict (saw 3 0 0 ∷ saw 1 1 1 ∷ []) ≡ 1)
+    × (verdict (saw 15 0 0 ∷ []) ≡ 3)
+    × (verdict (saw 1 0 0 ∷ []) ≡ 3)
+    × (verdict (saw 15 1 0 ∷ saw 3 0 0 ∷ []) ≡ 3)
+    × (verdict (saw 15 2 0 ∷ saw 3 0 0 ∷ []) ≡ 2)
     × (verdict (saw 2 0 0 ∷ saw 3 1 0 ∷ saw 3 2 0 ∷ []) ≡ 1)
     × (judgeOf 1 (saw 3 0 0 ∷ []) 1 ≡ 3)
-    × (judgeOf 2 (saw 0 0 0 ∷ []) 1 ≡ 3)
-    × (judgeOf 2 (saw 0 0 0 ∷ saw 0 1 1 ∷ []) 2 ≡ 3)
-    × (judgeOf 2 (saw 0 0 0 ∷ saw 0 2 0 ∷ []) 2 ≡ 1)
-    × (judgeOf 2 (saw 0 0 0 ∷ torn 0 1 0 true ∷ []) 2 ≡ 1)
-    × (judgeOf 2 (saw 0 0 0 ∷ bad 0 1 ∷ []) 2 ≡ 1)
-unfolding doubtfulBy eosAlone eosWrong exact fixedExact fixedHeld fixedVerdict gidDiffers heldBy highest judgeOf lcasVerdict missing repeats takes
-others = (refl, refl, refl, refl, refl, refl, refl, refl, refl, refl, refl, refl, refl, refl, refl)
+unfolding doubtfulBy eosAlone eosWrong exact gidDiffers heldBy highest judgeOf lcasVerdict missing repeats takes
+others = (refl, refl, refl, refl, refl, refl, refl, refl, refl, refl, refl, refl, refl, refl, refl, refl, refl, refl)
 
 -- four ports with the numbers 0 to 3, EOS on the last, of which the one at i is another
 abbrev word : ℕ → ℕ
@@ -78,7 +82,7 @@ each-place x = tabulate 4 (λ i. verdict (but x i))
 abbrev lacks : ℕ → ℕ → Seen
 lacks word number = record { whole = true; good = true; word = word; number = number; gid = 0; here = false }
 
--- Whichever port it is: as it was, with another GID, refused, lacking a frame, with the next port's number, with EOS, and with no whole packet. Active ports and EOS are looked for on every port.
+-- Whichever port it is: as it was, with another GID, refused, lacking a frame, with the next port's number, with EOS, and with no whole packet. Active ports and EOS are looked for on every port, EOS below the highest holds the epoch beside a torn packet too, and an IDLE port's GID counts for nothing wherever it stands.
 any-place :
     (each-place (λ i. saw (word i) i 0) ≡ 3 ∷ 3 ∷ 3 ∷ 3 ∷ [])
     × (each-place (λ i. saw (word i) i 1) ≡ 1 ∷ 1 ∷ 1 ∷ 1 ∷ [])
@@ -98,7 +102,7 @@ any-place = (refl, refl, refl, refl, refl, refl, refl, refl, refl, refl, refl, r
 abbrev fixed-place : (ℕ → Seen) → List ℕ
 fixed-place x = tabulate 4 (λ i. judgeOf 2 (set (tabulate 4 (λ j. saw 0 j 0)) i (x i)) 4)
 
--- and of a fixed group: as it was, refused, lacking a frame, with the next port's number, with a number above 3, and with no whole packet
+-- and of a fixed group: with another GID, which counts for nothing, refused, lacking a frame, with the next port's number, with a number above 3, and with no whole packet; and with one port
 any-fixed :
     (fixed-place (λ i. saw 0 i 1) ≡ 3 ∷ 3 ∷ 3 ∷ 3 ∷ [])
     × (fixed-place (λ i. bad 0 i) ≡ 1 ∷ 1 ∷ 1 ∷ 1 ∷ [])
@@ -106,8 +110,9 @@ any-fixed :
     × (fixed-place (λ i. saw 0 ((i + 1) % 4) 0) ≡ 1 ∷ 1 ∷ 1 ∷ 1 ∷ [])
     × (fixed-place (λ i. saw 0 (i + 4) 0) ≡ 1 ∷ 1 ∷ 1 ∷ 1 ∷ [])
     × (fixed-place (λ i. torn 0 i 0 true) ≡ 1 ∷ 1 ∷ 1 ∷ 1 ∷ [])
+    × (judgeOf 2 (saw 0 0 0 ∷ []) 1 ≡ 3)
 unfolding fixedExact fixedHeld fixedVerdict judgeOf missing repeats takes
-any-fixed = (refl, refl, refl, refl, refl, refl)
+any-fixed = (refl, refl, refl, refl, refl, refl, refl)
 
 -- payload goes by the numbers of active ports, however high, and not by what a refused or a torn packet reads as
 orders :
@@ -143,10 +148,11 @@ fixed-packets :
     × (wrote 255 255 (nines 15) ≡ 9)
     × (read (replicate 16 0x0F) ≡ 0)
     × (read (replicate 16 0x1F) ≡ 6)
+    × (read (replicate 16 0x8F) ≡ 6)
     × (read (replicate 16 0xFF) ≡ 6)
     × (read (replicate 15 0x0F) ≡ 9)
     × (read (replicate 17 0x0F) ≡ 9)
     × (readingNumber (readFixedNibbles (replicate 16 16)) ≡ 0)
     × (readingNumber (readFixedNibbles (replicate 16 15)) ≡ 6)
 unfolding fixedNibbles h4Of highsOf readFixedAnswer readFixedNibbles writeFixedAnswer writeFixedBytes
-fixed-packets = (refl, refl, refl, refl, refl, refl, refl, refl, refl, refl, refl, refl, refl, refl, refl, refl, refl, refl)
+fixed-packets = (refl, refl, refl, refl, refl, refl, refl, refl, refl, refl, refl, refl, refl, refl, refl, refl, refl, refl, refl)

@@ -65,7 +65,7 @@ unfolding startAsAnswer startAsRows startRight timesWithin sizedAnswer sizedRows
 startAs-copes (kind, count, payload, window, store, «hold_off», restore, state) =
     copes _ (λ s. (λ f. rw (s, f), λ f. rw (s, f) (refl, refl, refl)), λ s. rw s (refl, refl, refl))
 
--- what is then in the rows, if there are any, is a group without ports
+-- after a start answered 4 the rows, if there are any, hold a group without ports
 pub emptied-empty : (kind : ℕ) (rows : List (List ℕ)) → portsIn (groupAt (putGroup rows (emptyGroup kind))) ≡ 0
 unfolding portsIn sized groupAt groupOf groupRow putGroup putRow rowIn
 emptied-empty kind [] = refl
@@ -89,7 +89,7 @@ pub startAsC-copes : (x : ℕ × ℕ × ℕ × ℕ × ℕ × List ℕ × List �
 startAsC-copes (kind, ports, payload, window, «store_bytes», «hold_off», restore, state) =
     startAs-copes (kindC kind, ports, payload, window, «store_bytes», «hold_off», restore, state)
 
--- What a frame does to a port, which ends an odd packet or not: 10, 12, 11. 'A port is in step when 32 frames in a row' count; 'its tag is 0 to W-1 after the first frame of the oldest epoch'; '11 goes only to a joined port'.
+-- What a frame does to a port, where `odd` says whether it ends an odd packet: 10, 12, 11. 'A port is in step when 32 frames in a row' count; 'its tag is 0 to W-1 after the first frame of the oldest epoch'; '11 goes only to a joined port'.
 
 -- how far the tag to come lies after the first frame of the oldest epoch, whose tag is 8 before 16 x that epoch
 abbrev pub ahead : Group → Step → ℕ

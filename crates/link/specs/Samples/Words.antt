@@ -1,4 +1,4 @@
--- The words in which demand 3 is said, each computed on a small history, link or moment with P 2: what is sent, what reaches the receiver, what is expected, and how it is called.
+-- The words in which demand 3 is said, each computed on a small history, link or moment with P 2: what is sent, what reaches the receiver, what is expected, and how the receiver is called.
 use mathlib.Core.Path.{_≡_, refl}
 use mathlib.Core.Bool.{_&&_, _||_, cond, false, true}
 use mathlib.Core.List.{List, [], _∷_}
@@ -43,7 +43,6 @@ use Rattle.link.specs.Link.{Link, allAsSent, clientBytes, expected, fram
 use Rattle.link.specs.Moments.{coming, nextAt, says, saysOne}
 use Rattle.link.specs.Road.{Road}
 use Rattle.link.specs.Running.{Moment, drained, fetched, framed, fresh}
-use Rattle.link.specs.Samples.Members.{came, output}
 use Rattle.link.specs.Sending.{Client, Sending, epochNumber}
 
 -- Three slots from epoch 255 on: slots 1 and 2 are active under 0 and 1 before it starts, and slot 2 is removed before the next. GID and RS-Ack change from epoch to epoch.
@@ -159,7 +158,7 @@ road-words = (refl, refl, refl, refl, refl, refl, refl, refl, refl, refl, refl, 
 abbrev zeros : ℕ → List ℕ
 zeros n = replicate n 0
 
--- a port that has counted so many frames, its next tag
+-- a port that has counted so many frames, with the tag that it waits for
 abbrev step : ℕ → ℕ → Step
 step count next =
     record {

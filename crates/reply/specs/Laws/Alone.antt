@@ -15,11 +15,11 @@ use Rattle.reply.specs.declared.waiting.Standing.{Standing}
 use Rattle.reply.specs.Laws.Choosing.{Chosen, holders-from}
 use Rattle.reply.specs.Laws.Claims.{claim-free, claim-none, claim-own, keeps, keeps-own, left-claim, left-idle, left-lost}
 use Rattle.reply.specs.Laws.Granting.{grant-from, grant-holds, length-grant}
-use Rattle.reply.specs.Laws.Holding.{all-free}
+use Rattle.reply.specs.Laws.Keeping.{all-free}
 use Rattle.reply.specs.Laws.Members.{left-elapsed, left-low, left-ok}
 use Rattle.reply.specs.Members.{failState, hasHoldOff, idleState, isCandidate, isIdle, okState, portAt}
 use Rattle.reply.specs.Telling.{ackOf, turns}
-use Rattle.reply.specs.Waiting.{chosenOf, hasClaim, keptNumbers, keepsNumber, moreKept, mustHold, noStanding, rounds, someJoin, standing, standingBy, standingsOf, withClaim}
+use Rattle.reply.specs.Waiting.{chosenOf, hasClaim, keptNumbers, keepsNumber, moreKept, mustKeep, noStanding, rounds, someJoin, standing, standingBy, standingsOf, withClaim}
 
 -- nobody can take its number: it has its claim where it is a candidate, and keeps its number where it has hold-off left
 unfoldable pub aloneLeaves : Port → Standing
@@ -40,7 +40,7 @@ module _ (ports : List Port) where
   p = portAt ports 0
 
   abbrev must : Bool
-  must = mustHold (holders ports 1 allFree) 0 p
+  must = mustKeep (holders ports 1 allFree) 0 p
 
   kept-alone : keptNumbers ports 1 ≡ grant must (p .«state_number») allFree 0
   unfolding keptNumbers rounds someJoin moreKept granted grant
@@ -87,8 +87,8 @@ module _ (ports : List Port) where
     must-is : must ≡ (hasHoldOff p && true)
     must-is = rw (claim-none (holders ports 1 allFree) 0 p lost) refl
 
-    must-hold : hasHoldOff p ≡ true → must ≡ true
-    must-hold e = must-is ∙ rw e refl
+    must-keep : hasHoldOff p ≡ true → must ≡ true
+    must-keep e = must-is ∙ rw e refl
 
     holder : holderOf (chosenOf ports 1) (p .«state_number») ≡ holderOf (grant must (p .«state_number») allFree 0) (p .«state_number»)
     holder = ap (λ (l : List ℕ). holderOf l (p .«state_number»)) chosen-kept
@@ -104,7 +104,7 @@ module _ (ports : List Port) where
     back : hasHoldOff p ≡ true → keepsNumber (chosenOf ports 1) 0 p ≡ true
     back e =
         keeps (chosenOf ports 1) 0 p (left-ok p e) (left-elapsed p e)
-        (holder ∙ grant-holds must (p .«state_number») allFree 0 (length-replicate {A = ℕ} 64 FREE) (left-low p e) (must-hold e) (all-free (p .«state_number»)))
+        (holder ∙ grant-holds must (p .«state_number») allFree 0 (length-replicate {A = ℕ} 64 FREE) (left-low p e) (must-keep e) (all-free (p .«state_number»)))
 
     keeps-alone : keepsNumber (chosenOf ports 1) 0 p ≡ hasHoldOff p
     keeps-alone = same-test _ _ to back

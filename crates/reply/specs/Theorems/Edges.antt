@@ -6,7 +6,7 @@ use Prim.Native.Nat.{ℕ, zero, suc, _+_, _≤_, _<_}
 use native.Mathlib.Omega.{arith}
 use Rattle.reply.specs.declared.members.Port.{Port}
 use Rattle.reply.specs.declared.waiting.Standing.{Standing}
-use Rattle.reply.specs.Laws.Holding.{Apart, Low}
+use Rattle.reply.specs.Laws.Keeping.{Apart, Low}
 use Rattle.reply.specs.Members.{failState, isIdle, okState, portAt}
 use Rattle.reply.specs.Theorems.States.{Told, standingAt, told-apart, told-below}
 use Rattle.reply.specs.Theorems.Waiting.{Claim, hold-kept, hold-over, restore-over, restore-waits}

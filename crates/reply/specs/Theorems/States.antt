@@ -13,7 +13,7 @@ use Rattle.reply.specs.declared.waiting.Standing.{Standing}
 use Rattle.reply.specs.Choosing.{FREE, holderOf}
 use Rattle.reply.specs.Laws.Choosing.{Chosen, holders-after, holders-from, length-holders}
 use Rattle.reply.specs.Laws.Claims.{claim-alone, claim-candidate, claim-own, keeps, keeps-own, left-claim, left-idle, left-lost, with-rested, with-restoring, without-failed, without-kept}
-use Rattle.reply.specs.Laws.Holding.{Apart, KeptBy, Low, kept-by, kept-lost}
+use Rattle.reply.specs.Laws.Keeping.{Apart, KeptBy, Low, kept-by, kept-lost}
 use Rattle.reply.specs.Laws.Members.{candidate-not-idle, left-elapsed, left-not-idle, left-ok}
 use Rattle.reply.specs.Members.{failState, idleState, isIdle, isRestoring, okState, portAt}
 use Rattle.reply.specs.Waiting.{chosenOf, hasClaim, keptNumbers, keepsNumber, noStanding, standing, standingBy, standingsOf, withClaim, withoutClaim}

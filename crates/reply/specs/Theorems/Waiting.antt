@@ -1,5 +1,5 @@
 -- 02, 2026-03, on the definitions: hold-off and restoring to the report, against others, never both, and IDLE at once.
--- The idea: the definitions ask of a claim by the table of who has which number as the rounds leave it, and that is the same as asking it of the states after the report (`claim-is`, `is-claim`). With it most sentences are one case of the definitions; `hold-kept` stands on `is-kept` of Laws/Holding, `against-others` on `ok-apart`.
+-- The idea: the definitions ask of a claim by the table of who has which number as the rounds leave it, and that is the same as asking it of the states after the report (`claim-is`, `is-claim`). With it most sentences are one case of the definitions; `hold-kept` stands on `is-kept` of Laws/Keeping, `against-others` on `ok-apart`.
 use mathlib.Core.Path.{_≡_, refl, sym, ap, _∙_}
 use mathlib.Core.Logic.{_⊎_, inl, inr, ⊎-elim, _≢_}
 use mathlib.Core.Bool.{Bool, true, false, true≢false}
@@ -12,7 +12,7 @@ use Rattle.reply.specs.declared.waiting.Standing.{Standing}
 use Rattle.reply.specs.Choosing.{FREE, holderOf}
 use Rattle.reply.specs.Laws.Choosing.{holders-kept}
 use Rattle.reply.specs.Laws.Claims.{claim-alone, claim-candidate, claim-free, claim-lost, claim-own, keeps, keeps-elapsed, keeps-none, keeps-not, keeps-state, left-claim, left-idle, left-lost, with-rested, with-restoring, without-failed, without-kept}
-use Rattle.reply.specs.Laws.Holding.{Apart, Low, is-kept, keeps-own, kept-by}
+use Rattle.reply.specs.Laws.Keeping.{Apart, Low, is-kept, keeps-own, kept-by}
 use Rattle.reply.specs.Laws.Members.{candidate-not-idle, has-left, ok-rested, rested, restoring, restoring-fail, restoring-left, was-number, was-state}
 use Rattle.reply.specs.Members.{failState, idleState, isCandidate, isIdle, isRestoring, okState, portAt, wasOk}
 use Rattle.reply.specs.Theorems.States.{OkUnder, ok-after, ok-apart, ok-holds, standing-is, standingAt}

@@ -15,11 +15,11 @@ use Rattle.reply.specs.declared.waiting.Standing.{Standing}
 use Rattle.reply.specs.Choosing.{FREE, chooses, claims, holderOf, holders, allFree}
 use Rattle.reply.specs.Laws.Claims.{claim-candidate, claim-lost, keeps-not, left-claim, left-idle, left-lost, with-rested, without-failed}
 use Rattle.reply.specs.Laws.Granting.{granted-ext}
-use Rattle.reply.specs.Laws.Holding.{rounds-still}
+use Rattle.reply.specs.Laws.Keeping.{rounds-still}
 use Rattle.reply.specs.Laws.Members.{left-elapsed, rested}
 use Rattle.reply.specs.Members.{failState, hasHoldOff, idleState, isCandidate, isIdle, isRestoring, okState, portAt, wasOk}
 use Rattle.reply.specs.Theorems.States.{claim-has, standing-is, standingAt}
-use Rattle.reply.specs.Waiting.{chosenOf, hasClaim, keptNumbers, joinsKept, mustHold, someJoin, standingBy}
+use Rattle.reply.specs.Waiting.{chosenOf, hasClaim, keptNumbers, joinsKept, mustKeep, someJoin, standingBy}
 use Rattle.reply.specs.Zero.{plainClaims, plainHolders, stateBy, statesOf}
 
 -- no port has a time
@@ -42,7 +42,7 @@ module _ (ports : List Port) (n : ℕ) (small : n ≤ 64) (none : NoTimes ports 
       (λ (t : joinsKept chosen kept i (portAt ports i) ≡ true).
       let p : Port = portAt ports i in
       let left : hasHoldOff p ≡ true =
-      and-left (hasHoldOff p) (not (hasClaim chosen i p)) (and-left (mustHold chosen i p) (eqb (holderOf kept (p .«state_number»)) FREE) t) in
+      and-left (hasHoldOff p) (not (hasClaim chosen i p)) (and-left (mustKeep chosen i p) (eqb (holderOf kept (p .«state_number»)) FREE) t) in
       let r = left-elapsed p left in
       let z = none i b .0 in
       omega arith)

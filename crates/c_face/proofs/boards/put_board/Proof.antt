@@ -1,6 +1,7 @@
 -- `put_board` meets its contract: the count, at most 64, and the wait, then each slot's word and number.
 -- Two pieces fill the whole buffer (`board-whole`).
 use native.Mathlib.Omega.{arith}
+use Rattle.sender.specs.Table.{sizeOf}
 use Rattle.c_face.proofs.Showing.{board-whole}
 use Rattle.c_face.proofs.boards.put_board.Statement.{statement}
 use denote.Ref.{now}
@@ -9,8 +10,8 @@ use Rattle.c_face.proofs.boards.put_board.Tie as tie
 one-if-requires : tie.Need-one-if-requires
 one-if-requires c κs = omega arith
 
-shown-count-requires : tie.Need-shown-count-requires
-shown-count-requires c κs = omega arith
+size-byte-requires : tie.Need-size-byte-requires
+size-byte-requires c κs = omega arith
 
 slice-aggregate-put-bytes : tie.Need-slice-aggregate-put-bytes
 slice-aggregate-put-bytes c = omega arith
@@ -25,13 +26,14 @@ same-length : tie.Need-same-length
 same-length c = omega arith
 
 returns : tie.Need-returns
+unfolding sizeOf
 returns c =
     let at-put-rows = c .before .before in
     let at-put-bytes = at-put-rows .before .before .before .before in
-    let at-shown-count = at-put-bytes .before .before .before .before in
-    let at-one-if = at-shown-count .before in
+    let at-size-byte = at-put-bytes .before .before .before .before in
+    let at-one-if = at-size-byte .before in
     let at-start = at-one-if .before .before in
-    board-whole (at-start .args .board) _ _ (now (at-start .args .out)) _ _ (at-start .pre) (at-shown-count .shown-count .ensures)
+    board-whole (at-start .args .board) _ _ (now (at-start .args .out)) _ _ (at-start .pre) (at-size-byte .size-byte .ensures)
     (at-one-if .one-if .ensures) (at-put-bytes .put-bytes .ensures) (at-put-rows .put-rows .ensures)
 
 pub put-board-spec : {M : Type 1} → statement M
@@ -39,7 +41,7 @@ put-board-spec =
     tie.close
     (tie.spec
     one-if-requires
-    shown-count-requires
+    size-byte-requires
     slice-aggregate-put-bytes
     put-bytes-requires
     put-rows-requires

@@ -6,8 +6,8 @@ use native.Mathlib.Omega.{arith}
 use Rattle.c_face.proofs.cards.put_own.Statement.{statement}
 use Rattle.c_face.proofs.cards.put_own.Tie as tie
 
-own-sender-requires : tie.Need-own-sender-requires
-own-sender-requires c κs = omega arith
+sender-of-requires : tie.Need-sender-of-requires
+sender-of-requires c κs = omega arith
 
 slice-aggregate-put-bytes : tie.Need-slice-aggregate-put-bytes
 slice-aggregate-put-bytes c = search needs
@@ -27,16 +27,16 @@ returns : tie.Need-returns
 returns c =
     let at-put-part = c .before .before in
     let at-put-bytes = at-put-part .before .before .before .before in
-    let at-own-sender = at-put-bytes .before .before .before in
-    let at-start = at-own-sender .before .before .before in
+    let at-sender-of = at-put-bytes .before .before .before in
+    let at-start = at-sender-of .before .before .before in
     let args = at-start .args in
-    own-whole (args .group) (args .card) _ (args .state .now) _ _ (simp length-map at (at-start .good .0 .1 .1 .0 .1 .0 .1)) (at-put-bytes .put-bytes .ensures) (at-own-sender .own-sender .ensures) (at-put-part .put-part .ensures)
+    own-whole (args .group) (args .card) _ (args .state .now) _ _ (simp length-map at (at-start .good .0 .1 .1 .0 .1 .0 .1)) (at-put-bytes .put-bytes .ensures) (at-sender-of .sender-of .ensures) (at-put-part .put-part .ensures)
 
 pub put-own-spec : {M : Type 1} → statement M
 put-own-spec =
     tie.close
     (tie.spec
-    own-sender-requires
+    sender-of-requires
     slice-aggregate-put-bytes
     put-bytes-requires
     put-part-requires

@@ -16,11 +16,11 @@ Inv-loop group x k ports n starts₀ rank₀ starts rank = (length starts₀ ≡
 abbrev μ-loop : tie.MeasureT-loop
 μ-loop group x k ports n starts₀ rank₀ starts rank = n - rank
 
-size-of-requires : tie.Need-size-of-requires Inv-loop μ-loop
-size-of-requires c κs = search needs
+size-byte-requires : tie.Need-size-byte-requires Inv-loop μ-loop
+size-byte-requires c κs = search needs
 
 loop-holds : tie.Need-loop-holds Inv-loop μ-loop
-loop-holds c = (refl, omega arith, rw (c .size-of .ensures) (size-le (c .before .args .x)), omega arith, done-none _ _)
+loop-holds c = (refl, omega arith, rw (c .size-byte .ensures) (size-le (c .before .args .x)), omega arith, done-none _ _)
 
 cast-port : tie.Need-cast-port Inv-loop μ-loop
 cast-port c = search needs
@@ -51,7 +51,7 @@ loop-again c = (c .before .before .loop .inv .0, c .before .before .loop .inv .1
 
 returns : tie.Need-returns Inv-loop μ-loop
 unfolding startsOf
-returns c = rw (← c .before .before .size-of .ensures) (done-all {n = c .before .before .size-of .result} (c .before .loop .inv .4) (omega arith))
+returns c = rw (← c .before .before .size-byte .ensures) (done-all {n = c .before .before .size-byte .result} (c .before .loop .inv .4) (omega arith))
 
 pub starts-of-spec : {M : Type 1} → statement M
 starts-of-spec =
@@ -59,7 +59,7 @@ starts-of-spec =
     (tie.spec
     Inv-loop
     μ-loop
-    size-of-requires
+    size-byte-requires
     loop-holds
     cast-port
     array-read-port

@@ -19,11 +19,11 @@ abbrev μ-loop : tie.MeasureT-loop
 no-port-requires : tie.Need-no-port-requires Inv-loop μ-loop
 no-port-requires c κs = search needs
 
-size-of-requires : tie.Need-size-of-requires Inv-loop μ-loop
-size-of-requires c κs = search needs
+size-byte-requires : tie.Need-size-byte-requires Inv-loop μ-loop
+size-byte-requires c κs = search needs
 
 loop-holds : tie.Need-loop-holds Inv-loop μ-loop
-loop-holds c = (refl, rw (c .size-of .ensures) (size-le (c .before .before .args .ports)), omega arith, done-none _ _)
+loop-holds c = (refl, rw (c .size-byte .ensures) (size-le (c .before .before .args .ports)), omega arith, done-none _ _)
 
 reply-port-requires : tie.Need-reply-port-requires Inv-loop μ-loop
 reply-port-requires c κs = search needs
@@ -48,7 +48,7 @@ loop-again c = (c .before .before .loop .inv .0, c .before .before .loop .inv .1
 
 returns : tie.Need-returns Inv-loop μ-loop
 unfolding replyPorts
-returns c = done-all {n = c .before .before .size-of .result} (c .before .loop .inv .3) (omega arith) ∙ each-both _ _ (replyPort (c .before .before .before .before .args .group) (c .before .before .before .before .args .state .now)) _ _ (c .before .before .size-of .ensures) (c .before .before .before .no-port .ensures)
+returns c = done-all {n = c .before .before .size-byte .result} (c .before .loop .inv .3) (omega arith) ∙ each-both _ _ (replyPort (c .before .before .before .before .args .group) (c .before .before .before .before .args .state .now)) _ _ (c .before .before .size-byte .ensures) (c .before .before .before .no-port .ensures)
 
 pub reply-ports-spec : {M : Type 1} → statement M
 reply-ports-spec =
@@ -57,7 +57,7 @@ reply-ports-spec =
     Inv-loop
     μ-loop
     no-port-requires
-    size-of-requires
+    size-byte-requires
     loop-holds
     reply-port-requires
     cast-all

@@ -13,24 +13,24 @@ cast-n c = omega arith
 array-share-prefix-hold : tie.Need-array-share-prefix-hold
 array-share-prefix-hold c = let l : length (c .before .before .before .args .settings .«hold_off») ≡ 64 = simp length-map at (c .before .before .before .good .0 .1 .1 .0 .1 .0 .1) in rw l (c .before .before .before .pre)
 
-slice-aggregate-is-within : tie.Need-slice-aggregate-is-within
-slice-aggregate-is-within c = let l : length (c .before .before .before .before .args .settings .«hold_off») ≡ 64 = simp length-map at (c .before .before .before .before .good .0 .1 .1 .0 .1 .0 .1) in let h : c .before .before .before .before .args .settings .ports ≤ length (c .before .before .before .before .args .settings .«hold_off») = rw l (c .before .before .before .before .pre) in sym (length-take-le (c .before .before .before .before .args .settings .ports) (c .before .before .before .before .args .settings .«hold_off») h)
+slice-aggregate-times-within : tie.Need-slice-aggregate-times-within
+slice-aggregate-times-within c = let l : length (c .before .before .before .before .args .settings .«hold_off») ≡ 64 = simp length-map at (c .before .before .before .before .good .0 .1 .1 .0 .1 .0 .1) in let h : c .before .before .before .before .args .settings .ports ≤ length (c .before .before .before .before .args .settings .«hold_off») = rw l (c .before .before .before .before .pre) in sym (length-take-le (c .before .before .before .before .args .settings .ports) (c .before .before .before .before .args .settings .«hold_off») h)
 
-is-within-requires : tie.Need-is-within-requires
-is-within-requires c κs = omega arith
+times-within-requires : tie.Need-times-within-requires
+times-within-requires c κs = omega arith
 
 array-share-prefix-restore : tie.Need-array-share-prefix-restore
 array-share-prefix-restore c = let l : length (c .before .before .before .before .before .args .settings .restore) ≡ 64 = simp length-map at (c .before .before .before .before .before .good .0 .1 .1 .1 .0 .1 .0 .1) in rw l (c .before .before .before .before .before .pre)
 
-slice-aggregate-is-within-2 : tie.Need-slice-aggregate-is-within-2
-slice-aggregate-is-within-2 c = let l : length (c .before .before .before .before .before .before .args .settings .restore) ≡ 64 = simp length-map at (c .before .before .before .before .before .before .good .0 .1 .1 .1 .0 .1 .0 .1) in let h : c .before .before .before .before .before .before .args .settings .ports ≤ length (c .before .before .before .before .before .before .args .settings .restore) = rw l (c .before .before .before .before .before .before .pre) in sym (length-take-le (c .before .before .before .before .before .before .args .settings .ports) (c .before .before .before .before .before .before .args .settings .restore) h)
+slice-aggregate-times-within-2 : tie.Need-slice-aggregate-times-within-2
+slice-aggregate-times-within-2 c = let l : length (c .before .before .before .before .before .before .args .settings .restore) ≡ 64 = simp length-map at (c .before .before .before .before .before .before .good .0 .1 .1 .1 .0 .1 .0 .1) in let h : c .before .before .before .before .before .before .args .settings .ports ≤ length (c .before .before .before .before .before .before .args .settings .restore) = rw l (c .before .before .before .before .before .before .pre) in sym (length-take-le (c .before .before .before .before .before .before .args .settings .ports) (c .before .before .before .before .before .before .args .settings .restore) h)
 
-is-within-requires-2 : tie.Need-is-within-requires-2
-is-within-requires-2 c κs = omega arith
+times-within-requires-2 : tie.Need-times-within-requires-2
+times-within-requires-2 c κs = omega arith
 
 returns : tie.Need-returns
 unfolding timesFit
-returns c = rw (c .before .before .is-within .ensures, c .is-within2 .ensures)
+returns c = rw (c .before .before .times-within .ensures, c .times-within2 .ensures)
 
 pub times-fit-spec : {M : Type 1} → statement M
 times-fit-spec =
@@ -38,9 +38,9 @@ times-fit-spec =
     (tie.spec
     cast-n
     array-share-prefix-hold
-    slice-aggregate-is-within
-    is-within-requires
+    slice-aggregate-times-within
+    times-within-requires
     array-share-prefix-restore
-    slice-aggregate-is-within-2
-    is-within-requires-2
+    slice-aggregate-times-within-2
+    times-within-requires-2
     returns)

@@ -3,7 +3,7 @@ use Prim.Native.Nat.{_<_}
 use native.Mathlib.Omega.{arith}
 use borrow.Author.Needs.{needs}
 use Rattle.reply.specs.Choosing.{grant}
-use Rattle.reply.proofs.Holding.{taken-lt}
+use Rattle.reply.proofs.Keeping.{taken-lt}
 use Rattle.reply.proofs.choosing.claim_one.Statement.{statement}
 use Rattle.reply.proofs.choosing.claim_one.Tie as tie
 

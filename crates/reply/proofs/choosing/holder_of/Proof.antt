@@ -3,7 +3,7 @@ use native.Mathlib.Omega.{arith}
 use lib.ListN.{List·getD-eq-default}
 use borrow.Author.Needs.{needs}
 use Rattle.reply.specs.Choosing.{FREE}
-use Rattle.reply.proofs.Holding.{read-within}
+use Rattle.reply.proofs.Keeping.{read-within}
 use Rattle.reply.proofs.choosing.holder_of.Statement.{statement}
 use Rattle.reply.proofs.choosing.holder_of.Tie as tie
 

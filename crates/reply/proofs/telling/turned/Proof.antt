@@ -1,15 +1,16 @@
-use borrow.Author.Tests.{eq-eqb, ne-eqb}
+use mathlib.Core.Path.{refl}
+use borrow.Author.Needs.{needs}
 use Rattle.reply.proofs.telling.turned.Statement.{statement}
 use Rattle.reply.proofs.telling.turned.Tie as tie
 
+one-if-requires : tie.Need-one-if-requires
+one-if-requires c κs = search needs
+
 returns : tie.Need-returns
-returns c = rw (c .before .if1 .taken, eq-eqb _ 0 (c .if2 .taken))
+returns c = rw (c .one-if .ensures, c .before .if1 .taken) refl
 
 returns-2 : tie.Need-returns-2
-returns-2 c = rw (c .before .if1 .taken, ne-eqb _ 0 (c .if2 .left))
-
-returns-3 : tie.Need-returns-3
-returns-3 c = rw (c .if1 .left)
+returns-2 c = rw (c .if1 .left)
 
 pub turned-spec : {M : Type 1} → statement M
-turned-spec = tie.close (tie.spec returns returns-2 returns-3)
+turned-spec = tie.close (tie.spec one-if-requires returns returns-2)

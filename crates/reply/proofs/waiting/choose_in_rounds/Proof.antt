@@ -5,7 +5,7 @@ use borrow.Author.Needs.{needs}
 use borrow.Author.Tests.{not-true, not-false}
 use Rattle.reply.specs.Choosing.{holders}
 use Rattle.reply.specs.Waiting.{keptNumbers, rounds}
-use Rattle.reply.proofs.Holding.{rounds-begin, rounds-end, rounds-none, rounds-on, rounds-over}
+use Rattle.reply.proofs.Keeping.{rounds-begin, rounds-end, rounds-none, rounds-on, rounds-over}
 use Rattle.reply.proofs.waiting.choose_in_rounds.Statement.{statement}
 use Rattle.reply.proofs.waiting.choose_in_rounds.Tie as tie
 
@@ -26,8 +26,8 @@ loop-holds c =
 some-join-requires : tie.Need-some-join-requires Inv-loop μ-loop
 some-join-requires c κs = search needs
 
-hold-more-requires : tie.Need-hold-more-requires Inv-loop μ-loop
-hold-more-requires c κs = search needs
+keep-more-requires : tie.Need-keep-more-requires Inv-loop μ-loop
+keep-more-requires c κs = search needs
 
 choose-requires-2 : tie.Need-choose-requires-2 Inv-loop μ-loop
 choose-requires-2 c κs = search needs
@@ -44,7 +44,7 @@ loop-again c =
     let l = c .before .before .before .before .before .loop in
     let e : a .n - l .k ≡ suc (a .n - (l .k + 1)) = omega arith in
     let j = sym (c .before .before .before .some-join .ensures) ∙ not-false _ (c .before .before .if1 .left) in
-    (omega arith, c .choose2 .ensures, rounds-on (a .ports) (a .n) (a .n - l .k) (a .n - (l .k + 1)) (l .kept) (l .chosen) _ (l .inv .1) (l .inv .2) e j (c .before .hold-more .ensures))
+    (omega arith, c .choose2 .ensures, rounds-on (a .ports) (a .n) (a .n - l .k) (a .n - (l .k + 1)) (l .kept) (l .chosen) _ (l .inv .1) (l .inv .2) e j (c .before .keep-more .ensures))
 
 returns : tie.Need-returns Inv-loop μ-loop
 returns c =
@@ -68,7 +68,7 @@ choose-in-rounds-spec =
     choose-requires
     loop-holds
     some-join-requires
-    hold-more-requires
+    keep-more-requires
     choose-requires-2
     add-k
     loop-less

@@ -1,6 +1,6 @@
 use borrow.Author.Needs.{needs}
-use Rattle.reply.proofs.waiting.must_hold.Statement.{statement}
-use Rattle.reply.proofs.waiting.must_hold.Tie as tie
+use Rattle.reply.proofs.waiting.must_keep.Statement.{statement}
+use Rattle.reply.proofs.waiting.must_keep.Tie as tie
 
 has-hold-off-requires : tie.Need-has-hold-off-requires
 has-hold-off-requires c κs = search needs
@@ -11,5 +11,5 @@ has-claim-requires c κs = search needs
 returns : tie.Need-returns
 returns c = rw (c .before .has-hold-off .ensures, c .has-claim .ensures)
 
-pub must-hold-spec : {M : Type 1} → statement M
-must-hold-spec = tie.close (tie.spec has-hold-off-requires has-claim-requires returns)
+pub must-keep-spec : {M : Type 1} → statement M
+must-keep-spec = tie.close (tie.spec has-hold-off-requires has-claim-requires returns)

@@ -6,8 +6,8 @@ use lib.ListN.{length}
 use borrow.Author.Needs.{needs}
 use Rattle.reply.specs.Choosing.{granted}
 use Rattle.reply.specs.Waiting.{moreKept}
-use Rattle.reply.proofs.waiting.hold_more.Statement.{statement}
-use Rattle.reply.proofs.waiting.hold_more.Tie as tie
+use Rattle.reply.proofs.waiting.keep_more.Statement.{statement}
+use Rattle.reply.proofs.waiting.keep_more.Tie as tie
 
 abbrev Inv-loop : tie.InvT-loop
 Inv-loop chosen n ports kept₀ i₀ kept i = (length ports ≡ 64) × (i ≤ n) × (kept ≡ moreKept chosen ports i kept₀)
@@ -25,11 +25,11 @@ mul-port c = search needs
 array-copy-out-port : tie.Need-array-copy-out-port Inv-loop μ-loop
 array-copy-out-port c = search needs
 
-cast-hold-one : tie.Need-cast-hold-one Inv-loop μ-loop
-cast-hold-one c = search needs
+cast-keep-one : tie.Need-cast-keep-one Inv-loop μ-loop
+cast-keep-one c = search needs
 
-hold-one-requires : tie.Need-hold-one-requires Inv-loop μ-loop
-hold-one-requires c κs = search needs
+keep-one-requires : tie.Need-keep-one-requires Inv-loop μ-loop
+keep-one-requires c κs = search needs
 
 add-i : tie.Need-add-i Inv-loop μ-loop
 add-i c = search needs
@@ -39,13 +39,13 @@ loop-less c = search needs
 
 loop-again : tie.Need-loop-again Inv-loop μ-loop
 unfolding moreKept granted
-loop-again c = (c .before .before .before .loop .inv .0, omega arith, c .hold-one .ensures ∙ rw (c .before .before .before .loop .inv .2, add-one))
+loop-again c = (c .before .before .before .loop .inv .0, omega arith, c .keep-one .ensures ∙ rw (c .before .before .before .loop .inv .2, add-one))
 
 returns : tie.Need-returns Inv-loop μ-loop
 returns c = let e : c .before .loop .i ≡ c .before .before .args .n = omega arith in rw e at (c .before .loop .inv .2)
 
-pub hold-more-spec : {M : Type 1} → statement M
-hold-more-spec =
+pub keep-more-spec : {M : Type 1} → statement M
+keep-more-spec =
     tie.close
     (tie.spec
     Inv-loop
@@ -53,8 +53,8 @@ hold-more-spec =
     loop-holds
     mul-port
     array-copy-out-port
-    cast-hold-one
-    hold-one-requires
+    cast-keep-one
+    keep-one-requires
     add-i
     loop-less
     loop-again

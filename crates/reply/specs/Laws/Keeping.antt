@@ -1,5 +1,5 @@
 -- The rounds: who keeps a number, that such a port has lost its claim, and that they end.
--- The idea: taken numbers only grow from round to round, so a claim once lost comes back by no round; and a round in which some port joins holds at least one port more, and there are n.
+-- The idea: taken numbers only grow from round to round, so a claim once lost comes back by no round; and in a round in which some port joins at least one port more keeps a number, and there are n.
 use mathlib.Core.Path.{_≡_, refl, sym, ap, _∙_}
 use mathlib.Core.Logic.{_⊎_, ⊎-elim, _≢_}
 use mathlib.Core.Bool.{Bool, true, false, cond, not, true≢false}
@@ -20,7 +20,7 @@ use Rattle.reply.specs.Laws.Claims.{claim-lost, claim-none, claim-other}
 use Rattle.reply.specs.Laws.Granting.{Granted, granted-after, granted-from, granted-kept, length-granted}
 use Rattle.reply.specs.Laws.Members.{left-low, left-ok, ok-rested, was-number, was-ok, was-state}
 use Rattle.reply.specs.Members.{hasHoldOff, isCandidate, okState, portAt}
-use Rattle.reply.specs.Waiting.{hasClaim, keptNumbers, joinsKept, moreKept, mustHold, rounds, someJoin}
+use Rattle.reply.specs.Waiting.{hasClaim, keptNumbers, joinsKept, moreKept, mustKeep, rounds, someJoin}
 
 -- what the last report left: OK ports have different numbers,
 abbrev pub Apart : List Port → ℕ → Type 0
@@ -38,7 +38,7 @@ all-free q =
     (λ (b : q < 64). getD-replicate 64 q FREE FREE b)
     (le-or-lt 64 q)
 
--- port x, with hold-off left, holds the number under which it is OK
+-- port x, with hold-off left, keeps the number under which it is OK
 pub record KeptBy (ports : List Port) (n q x : ℕ) : Type 0 where
   pub below : x < n
   pub left : hasHoldOff (portAt ports x) ≡ true
@@ -65,7 +65,7 @@ module _ (ports : List Port) (n : ℕ) where
   next h = moreKept (holders ports n h) ports n h
 
   abbrev must : List ℕ → ℕ → Bool
-  must h i = mustHold (holders ports n h) i (port i)
+  must h i = mustKeep (holders ports n h) i (port i)
 
   must-left : (h : List ℕ) (i : ℕ) → must h i ≡ true → hasHoldOff (port i) ≡ true
   must-left h i e = and-left (hasHoldOff (port i)) (not (hasClaim (holders ports n h) i (port i))) e
@@ -190,7 +190,7 @@ module _ (ports : List Port) (n : ℕ) where
   abbrev isIn : List ℕ → ℕ → Bool
   isIn h i = eqb (holderOf h (own i)) i
 
-  -- a round in which some port joins holds one port more
+  -- in a round in which some port joins one port more keeps a number
   counted : (h : List ℕ) → n ≤ 64 → AllKept ports n h → someJoin (holders ports n h) h ports n ≡ true → count n (isIn h) < count n (isIn (next h))
   unfolding someJoin
   counted h small o e =

@@ -10,10 +10,10 @@ use Rattle.ground.specs.Truth.{and-left}
 use Rattle.reply.specs.declared.members.Port.{Port}
 use Rattle.reply.specs.Choosing.{FREE, chooses, holderOf, holders, allFree}
 use Rattle.reply.specs.Laws.Choosing.{chooses-lt}
-use Rattle.reply.specs.Laws.Holding.{rounds-more, rounds-still}
+use Rattle.reply.specs.Laws.Keeping.{rounds-more, rounds-still}
 use Rattle.reply.specs.Laws.Members.{left-low}
 use Rattle.reply.specs.Members.{hasHoldOff}
-use Rattle.reply.specs.Waiting.{chosenOf, hasClaim, keptNumbers, joinsKept, moreKept, mustHold, rounds, someJoin}
+use Rattle.reply.specs.Waiting.{chosenOf, hasClaim, keptNumbers, joinsKept, moreKept, mustKeep, rounds, someJoin}
 
 -- which default a list is read with makes no difference within it
 pub read-within : (l : List ℕ) (k d e : ℕ) → k < length l → getD l k d ≡ getD l k e
@@ -29,7 +29,7 @@ taken-lt first holder p e = chooses-lt first p (and-left (chooses first p) (eqb 
 pub kept-lt : (chosen kept : List ℕ) (i : ℕ) (p : Port) → joinsKept chosen kept i p ≡ true → p .«state_number» < 64
 kept-lt chosen kept i p e =
     left-low p
-    (and-left (hasHoldOff p) (not (hasClaim chosen i p)) (and-left (mustHold chosen i p) (eqb (holderOf kept (p .«state_number»)) FREE) e))
+    (and-left (hasHoldOff p) (not (hasClaim chosen i p)) (and-left (mustKeep chosen i p) (eqb (holderOf kept (p .«state_number»)) FREE) e))
 
 -- the rounds as the loop goes: over where there is none left or none joins, else one less
 module _ (ports : List Port) (n : ℕ) where

@@ -3,9 +3,9 @@ use Prim.Native.Nat.{_<_}
 use native.Mathlib.Omega.{arith}
 use borrow.Author.Needs.{needs}
 use Rattle.reply.specs.Choosing.{grant}
-use Rattle.reply.proofs.Holding.{kept-lt}
-use Rattle.reply.proofs.waiting.hold_one.Statement.{statement}
-use Rattle.reply.proofs.waiting.hold_one.Tie as tie
+use Rattle.reply.proofs.Keeping.{kept-lt}
+use Rattle.reply.proofs.waiting.keep_one.Statement.{statement}
+use Rattle.reply.proofs.waiting.keep_one.Tie as tie
 
 joins-kept-requires : tie.Need-joins-kept-requires
 joins-kept-requires c κs = search needs
@@ -27,5 +27,5 @@ returns-2 : tie.Need-returns-2
 unfolding grant
 returns-2 c = rw (← c .before .joins-kept .ensures, c .if1 .left)
 
-pub hold-one-spec : {M : Type 1} → statement M
-hold-one-spec = tie.close (tie.spec joins-kept-requires cast-next array-write-next returns returns-2)
+pub keep-one-spec : {M : Type 1} → statement M
+keep-one-spec = tie.close (tie.spec joins-kept-requires cast-next array-write-next returns returns-2)

@@ -5,9 +5,10 @@ use native.Mathlib.Omega.{arith}
 use lib.Dec.{leb}
 use lib.ListN.{getD, length}
 use Rattle.counting.specs.Words.{every}
 use Rattle.receiver.specs.Starting.{timesWithin}
-use Rattle.replaying.proofs.lent.is_within.Statement.{statement}
-use Rattle.replaying.proofs.lent.is_within.Tie as tie
+use borrow.Author.Needs.{needs}
+use Rattle.receiver.proofs.starting.times_within.Statement.{statement}
+use Rattle.receiver.proofs.starting.times_within.Tie as tie
 
 abbrev Inv-loop : tie.InvT-loop
 Inv-loop counts all₀ i₀ all i = (i ≤ length counts) × (all ≡ every i (λ j. leb (getD counts j 0) 5000))
@@ -19,16 +20,16 @@ loop-holds : tie.Need-loop-holds Inv-loop μ-loop
 loop-holds c = (omega arith, refl)
 
 mul-all : tie.Need-mul-all Inv-loop μ-loop
-mul-all c = omega arith
+mul-all c = search needs
 
 shared-slice-read-all : tie.Need-shared-slice-read-all Inv-loop μ-loop
-shared-slice-read-all c = omega arith
+shared-slice-read-all c = search needs
 
 add-i : tie.Need-add-i Inv-loop μ-loop
-add-i c = omega arith
+add-i c = search needs
 
 loop-less : tie.Need-loop-less Inv-loop μ-loop
-loop-less c = omega arith
+loop-less c = search needs
 
 loop-again : tie.Need-loop-again Inv-loop μ-loop
 loop-again c = (omega arith, rw (c .before .before .loop .inv .1, add-one))
@@ -37,8 +38,8 @@ returns : tie.Need-returns Inv-loop μ-loop
 unfolding timesWithin
 returns c = let e : c .before .loop .i ≡ length (c .before .before .args .counts .now) = omega arith in rw e at (c .before .loop .inv .1)
 
-pub is-within-spec : {M : Type 1} → statement M
-is-within-spec =
+pub times-within-spec : {M : Type 1} → statement M
+times-within-spec =
     tie.close
     (tie.spec
     Inv-loop
