@@ -5,15 +5,16 @@ use mathlib.Core.List.{List, [], _∷_, _++_}
 use Prim.Native.Nat.{ℕ}
 use lib.ListN.{replicate, take}
 use Rattle.c_face.specs.Boards.{boardByte, boardBytesC, boardBytesOf, outgoingBytesC, rankByte, ranksBytesC, ranksBytesOf, shownAnswerC, shownBytes}
-use Rattle.c_face.specs.Cards.{boardBytesOn, callAnswerOn, callStateOn, cardOf, ownedBytesOn, ownersIn, packetAnswerOn, packetBytesOn, partIn, payloadAnswerOn, payloadBytesOn, putOwn, refusalOf, shownAnswerOn, shownBytesOn}
+use Rattle.c_face.specs.Cards.{boardBytesOn, callAnswerOn, callStateOn, cardOf, outgoingBytesOn, ownedBytesOn, ownersIn, packetAnswerOn, packetBytesOn, partIn, payloadAnswerOn, payloadBytesOn, putCard, putOwn, ranksBytesOn, refusalOf, shownAnswerOn, shownBytesOn}
 use Rattle.c_face.specs.Keeping.{byteAt, bytesOf, rowsIn, senderOf, slotsIn}
 use Rattle.c_face.specs.Orders.{kindAnswerOn, kindStateOn, orderAnswerOn, orderAnswersOn, orderStateOn}
-use Rattle.c_face.specs.Senders.{callAnswerC, callStateC, packetAnswerC, packetBytesC, payloadAnswerC, payloadBytesC, startStateC}
+use Rattle.c_face.specs.Senders.{areBytes, callAnswerC, callStateC, packetAnswerC, packetBytesC, payloadAnswerC, payloadBytesC, startStateC}
 use Rattle.circuits.specs.Calls.{Call as C}
 use Rattle.circuits.specs.Commands.{claimOf, commandOf, releaseOf}
-use Rattle.circuits.specs.Owners.{withOwner}
-use Rattle.circuits.specs.Parts.{isSlot, isUsed, marked, owns}
+use Rattle.circuits.specs.Owners.{ownedBytes, withOwner}
+use Rattle.circuits.specs.Parts.{isSlot, isUsed, marked, owns, shownSender}
 use Rattle.circuits.specs.Parts.{senderOf as partsSenderOf}
+use Rattle.circuits.specs.Readings.{boardShown, outgoingShown, ownedShown, ranksShown}
 use Rattle.circuits.specs.Readings.{packetAnswer as readingsPacketAnswer}
 use Rattle.circuits.specs.Readings.{payloadAnswer as readingsPayloadAnswer}
 use Rattle.circuits.specs.Readings.{payloadBytes as readingsPayloadBytes}
@@ -22,12 +23,12 @@ use Rattle.packet.specs.Kinds.{frames, idleNumber}
 use Rattle.packet.specs.Layout.{dataOf, h4Of, nibblesOf, sealedOf}
 use Rattle.packet.specs.Words.{assigned}
 use Rattle.packet.specs.Writing.{fitting, writeAnswer, writeBytes}
-use Rattle.sender.specs.Board.{boardOf, rowOf, rowsOf}
+use Rattle.sender.specs.Board.{boardOf, highest, noRow, rowOf, rowsOf}
 use Rattle.sender.specs.Calls.Call.{AddSlot, Lapse}
 use Rattle.sender.specs.Commands.{addOf, addedTo, freshOf, idleSlot, startOf}
-use Rattle.sender.specs.Epochs.{SenderCall, beginOf, freshSender, packetAnswer, packetBytes, packetFields, payloadAnswer, payloadBytes, ranksOf, startEpochOf, startedEpoch, startedSender}
+use Rattle.sender.specs.Epochs.{SenderCall, beginOf, freshSender, packetAnswer, packetBytes, packetFields, payloadAnswer, payloadBytes, ranksOf, senderRun, startEpochOf, startedEpoch, startedSender}
 use Rattle.sender.specs.Epochs.SenderCall.{OnTable, StartEpoch}
-use Rattle.sender.specs.Ranks.{carriersIn, rankAt, ranksIn}
+use Rattle.sender.specs.Ranks.{carriersIn, rankAt, rankOf, ranksIn}
 use Rattle.sender.specs.Table.{membersOf, sizeOf}
 
 abbrev nines : ℕ → List ℕ
@@ -68,6 +69,10 @@ sender-answers :
     (callAnswerC true (OnTable (AddSlot 0)) (nines 397) ≡ 3)
     × (callAnswerC true (OnTable (AddSlot 9)) (nines 397) ≡ 1)
     × (callAnswerC false (OnTable (AddSlot 9)) (nines 397) ≡ 8)
+    × (areBytes 255 255 255 ≡ true)
+    × (areBytes 256 0 0 ≡ false)
+    × (areBytes 0 256 0 ≡ false)
+    × (areBytes 0 0 256 ≡ false)
     × (callAnswerC false (OnTable (AddSlot 9)) (nines 396) ≡ 9)
     × (callStateC true (OnTable (AddSlot 9)) (nines 397) ≡ nines 397)
     × (callStateC false (OnTable Lapse) (nines 397) ≡ nines 397)
@@ -91,7 +96,33 @@ sender-answers :
     × (boardBytesC (nines 397) (nines 129) ≡ nines 129)
     × (boardBytesC (nines 396) (nines 130) ≡ nines 130)
 unfolding addOf carriersIn fitting frames packetAnswer packetAnswerC packetBytesC packetFields payloadAnswer payloadAnswerC payloadBytes payloadBytesC rankAt rowsIn senderOf shownAnswerC shownBytes sizeOf callAnswerC callStateC writeAnswer
-sender-answers = (refl, refl, refl, refl, refl, refl, refl, refl, refl, refl, refl, refl, refl, refl, refl, refl, refl, refl, refl, refl, refl, refl, refl, refl, refl)
+sender-answers = (refl, refl, refl, refl, refl, refl, refl, refl, refl, refl, refl, refl, refl, refl, refl, refl, refl, refl, refl, refl, refl, refl, refl, refl, refl, refl, refl, refl, refl)
+
+-- The bytes of a card of three slots, groups 0 and 1 from epochs 7 and 9 on. Group 0 owns slots 0 and 1; it has added the first, started epoch 7 and added the second. Group 1 owns slot 2.
+abbrev card : List ℕ
+card =
+    putCard (
+    record {
+      owners = 1 ∷ 1 ∷ 2 ∷ replicate 61 0;
+      first = senderRun (beginOf 0 3 7 .sender) (OnTable (AddSlot 0) ∷ StartEpoch 1 0x3C 0 ∷ OnTable (AddSlot 1) ∷ []);
+      second = beginOf 0 3 9 .sender;
+    }
+    )
+    (nines 858)
+
+-- each group's board, the one going out, its ranks and what it owns
+a-card :
+    (take 8 (boardBytesOn card 0 (nines 130)) ≡ 3 ∷ 0 ∷ 1 ∷ 0 ∷ 1 ∷ 1 ∷ 5 ∷ 255 ∷ [])
+    × (take 8 (outgoingBytesOn card 0 (nines 130)) ≡ 3 ∷ 0 ∷ 1 ∷ 0 ∷ 5 ∷ 255 ∷ 5 ∷ 255 ∷ [])
+    × (take 8 (ranksBytesOn card 0 (nines 68)) ≡ 3 ∷ 1 ∷ 7 ∷ 0 ∷ 255 ∷ 255 ∷ 255 ∷ 255 ∷ [])
+    × (ownedBytesOn card 0 (nines 64) ≡ 1 ∷ 1 ∷ replicate 62 0)
+    × (take 8 (boardBytesOn card 1 (nines 130)) ≡ 3 ∷ 0 ∷ 5 ∷ 255 ∷ 5 ∷ 255 ∷ 5 ∷ 255 ∷ [])
+    × (take 4 (ranksBytesOn card 1 (nines 68)) ≡ 3 ∷ 0 ∷ 9 ∷ 0 ∷ [])
+    × (ownedBytesOn card 1 (nines 64) ≡ 0 ∷ 0 ∷ 1 ∷ replicate 61 0)
+    × (outgoingBytesOn card 0 (nines 129) ≡ nines 129)
+    × (ranksBytesOn card 0 (nines 67) ≡ nines 67)
+unfolding addOf addedTo assigned beginOf boardByte boardBytesOf boardOf boardShown byteAt bytesOf callAnswerOn callStateC callStateOn cardOf carriersIn claimOf commandOf crcOf dataOf divisor fitting frames freshOf freshSender h4Of highest idleNumber idleSlot isSlot membersOf nibbleBits nibblesOf noRow outgoingShown ownedBytes ownedShown ownersIn owns packetAnswer packetAnswerOn packetBytes packetBytesC packetBytesOn packetFields partIn partsSenderOf payloadAnswer payloadAnswerOn payloadBytes payloadBytesC payloadBytesOn putOwn rankAt rankByte rankOf ranksBytesOf ranksIn ranksOf ranksShown readingsPacketAnswer readingsPayloadAnswer readingsPayloadBytes refusalOf rowOf rowsIn rowsOf sealedOf senderOf shownAnswerOn shownBytes shownBytesOn shownSender sizeOf slotsIn startEpochOf startOf startStateC startedEpoch startedSender writeAnswer writeBytes
+a-card = (refl, refl, refl, refl, refl, refl, refl, refl, refl)
 
 -- any 858 bytes: nines are nine slots for each group, owned by nobody
 card-answers :

@@ -1,5 +1,5 @@
 -- The refusals of a sender with its epochs: the table's calls as they are, the start of an epoch 8, the packet of a slot 1, 9, 2, the payload of a slot 1, 4, 9, 2.
-use mathlib.Core.Path.{_≡_, refl, ap}
+use mathlib.Core.Path.{refl, ap}
 use mathlib.Core.Bool.{Bool, cond, _&&_, _||_}
 use mathlib.Core.List.{List, [], _∷_}
 use Prim.Native.Nat.{ℕ, _*_}
