@@ -1,4 +1,4 @@
--- What the code finds on its way to the verdict: one pass over the ports, then the verdict by it.
+-- What the code finds on its way to the verdict: one walk over the ports, then the verdict by it.
 use mathlib.Core.Bool.{Bool, cond, not, _&&_, _||_, Bool·beq}
 use mathlib.Core.List.{List}
 use Prim.Native.Nat.{ℕ, _+_}

@@ -17,7 +17,7 @@ pub const DOUBTFUL: u8 = 2;
 
 pub const SURE: u8 = 3;
 
-// What one pass over the ports finds.
+// What one walk over the ports finds.
 struct Tally {
     refused: bool,
     lacking: bool,

@@ -1,4 +1,4 @@
-// Spreading and joining in blocks of eight by eight bytes, for eight ranks and bytes or more. A block that would pass the end starts so much
+// Spreading and joining in blocks of eight by eight bytes, for eight ranks and bytes or more. A block that would go beyond the end starts so much
 // earlier, and stores some bytes a second time.
 use crate::word;
 ghost use mathlib.Core.Path.{_≡_};

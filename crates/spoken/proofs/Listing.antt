@@ -21,7 +21,7 @@ use Rattle.spoken.specs.Laws.Spoken.{length-list, list-more, spoken-le}
 -- what stands in the list and how many after i slots; the lengths stand beside the equations, for the arithmetic of indices
 pub record Listing (old new : List Row) (i : ℕ) (list : List Change) (n : ℕ) : Type 0 where
   pub len : length list ≡ 64
-  pub few : n ≤ i
+  pub at-most : n ≤ i
   pub many : n ≡ length (spokenTo old new i)
   pub is : list ≡ listOf (spokenTo old new i)
 
@@ -33,7 +33,7 @@ module _ (old new : List Row) where
   pub listing : (i : ℕ) (list : List Change) (n : ℕ) → i ≤ 64 → n ≡ length (spokenTo old new i) → list ≡ listOf (spokenTo old new i) → Listing old new i list n
   listing i list n h m e =
       let l = spoken-le old new i in
-      record { len = ap length e ∙ length-list (spokenTo old new i) (omega arith); few = omega arith; many = m; is = e }
+      record { len = ap length e ∙ length-list (spokenTo old new i) (omega arith); at-most = omega arith; many = m; is = e }
 
   pub listing-none : (none : Change) → none ≡ noChange → Listing old new 0 (replicate 64 none) 0
   unfolding listOf

@@ -18,7 +18,7 @@ ringOf origin d W = cond (eqb W 0) 0 ((origin + d) % W)
 unfoldable pub placeIn : Group → ℕ → ℕ → ℕ
 placeIn g port d = (port * g .window + ringOf (g .origin) d (g .window)) * (g .payload + 1)
 
--- a frame's payload, then its H4, from a place on; one that would pass the end is dropped
+-- a frame's payload, then its H4, from a place on; one that would go beyond the end is dropped
 unfoldable pub storedAt : List ℕ → ℕ → List ℕ → ℕ → List ℕ
 storedAt s place payload h = cond (ltb (place + length payload) (length s)) (fillAt place (length payload + 1) (λ j. getD payload j h) s) s
 

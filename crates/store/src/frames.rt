@@ -31,7 +31,7 @@ pub fn place(group: Group, port: u8, at: u16) -> usize
     (port as usize * group.window as usize + turn) * (group.payload as usize + 1)
 }
 
-// A frame into the store, from a place on. One that would pass the end is dropped.
+// A frame into the store, from a place on. One that would go beyond the end is dropped.
 pub fn put(store: &mut [u8], place: usize, payload: &[u8], h4: u8)
     ensures { λ _. ⌜ now (store .exit) ≡ storedAt (now (store .entry)) place (now (payload .entry)) h4 ⌝ }
 {

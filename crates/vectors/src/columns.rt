@@ -63,11 +63,11 @@ fn first(bytes: &[u8]) -> usize {
 }
 
 fn line(row: usize, column: usize, rank: usize, byte: usize) {
-    show::named(b"\trow ", short(row));
-    show::named(b"\tcolumn ", short(column));
-    show::pair(b"\trank ", short(rank), b"\tbyte ", short(byte));
+    show::named(b"\trow ", as_u16(row));
+    show::named(b"\tcolumn ", as_u16(column));
+    show::pair(b"\trank ", as_u16(rank), b"\tbyte ", as_u16(byte));
 }
 
-fn short(number: usize) -> u16 {
+fn as_u16(number: usize) -> u16 {
     (number % 65536) as u16
 }

@@ -46,7 +46,7 @@ fn line(line: &[u8], before: At, state: &mut [[u8; 16]], store: &mut [u8]) -> At
         return before;
     }
     row(line, at, &mut state[0..rows], &mut store[0..bytes]);
-    passed(line, at)
+    counted_on(line, at)
 }
 
 // A line of ports is about a group of its own.
@@ -61,7 +61,7 @@ fn at_line(line: &[u8], before: At) -> At {
 }
 
 // A line of epochs takes so many.
-fn passed(line: &[u8], at: At) -> At {
+fn counted_on(line: &[u8], at: At) -> At {
     if text::column(line, 0) == b'e' {
         return At {
             ports: at.ports,

@@ -311,9 +311,9 @@ stateAfter state g Outgoing = state
 stateAfter state g Ranks = state
 stateAfter state g Owned = state
 
-abbrev pub runOn : List ℕ → List Made → List ℕ
-runOn state [] = state
-runOn state (m ∷ ms) = runOn (stateAfter state (m .group) (m .asked)) ms
+abbrev pub stateAfterAll : List ℕ → List Made → List ℕ
+stateAfterAll state [] = state
+stateAfterAll state (m ∷ ms) = stateAfterAll (stateAfter state (m .group) (m .asked)) ms
 
 -- the calls among them that are not refused for a number that is no byte
 abbrev pub meant : List Made → List Made
@@ -334,7 +334,7 @@ asked-keeps state c g Outgoing o = o
 asked-keeps state c g Ranks o = o
 asked-keeps state c g Owned o = o
 
-run-keeps : (state : List ℕ) (c : Card) (ms : List Made) → KeepsCard state c → KeepsCard (runOn state ms) (run c (meant ms))
+run-keeps : (state : List ℕ) (c : Card) (ms : List Made) → KeepsCard state c → KeepsCard (stateAfterAll state ms) (run c (meant ms))
 run-keeps state c [] o = o
 run-keeps state c (m ∷ ms) o =
     rw (← chosen (fits (m .asked))) (run-keeps (stateAfter state (m .group) (m .asked)) (cond (fits (m .asked)) (cardAfter c (m .group) (m .asked)) c) ms (asked-keeps state c (m .group) (m .asked) o))
@@ -379,13 +379,13 @@ module _ (count e₀ e₁ : ℕ) (state : List ℕ) (ms : List Made) (done : sta
       go false true true el e = both-put (eqb-true (length state) 858 el)
 
   -- any C calls after a C start that was done: the state holds the card's own run
-  pub card-runs-own : cardOf (runOn (startStateOn count e₀ e₁ state) ms) ≡ run (startOf 0 count e₀ e₁ .card) (meant ms)
-  card-runs-own = card-is (runOn (startStateOn count e₀ e₁ state) ms) _ (run-keeps (startStateOn count e₀ e₁ state) (startOf 0 count e₀ e₁ .card) ms start-keeps)
+  pub card-runs-own : cardOf (stateAfterAll (startStateOn count e₀ e₁ state) ms) ≡ run (startOf 0 count e₀ e₁ .card) (meant ms)
+  card-runs-own = card-is (stateAfterAll (startStateOn count e₀ e₁ state) ms) _ (run-keeps (startStateOn count e₀ e₁ state) (startOf 0 count e₀ e₁ .card) ms start-keeps)
 
   -- in as many bytes
-  pub card-runs-sized : length (runOn (startStateOn count e₀ e₁ state) ms) ≡ 858
+  pub card-runs-sized : length (stateAfterAll (startStateOn count e₀ e₁ state) ms) ≡ 858
   card-runs-sized = run-keeps (startStateOn count e₀ e₁ state) (startOf 0 count e₀ e₁ .card) ms start-keeps .sized
 
   -- and demand 2 holds of each group's table, and of both tables that its epochs' starts keep
-  pub card-runs-demand2 : (g : ℕ) → g < 2 → Demand2Kept (P.senderOf (cardOf (runOn (startStateOn count e₀ e₁ state) ms)) g)
+  pub card-runs-demand2 : (g : ℕ) → g < 2 → Demand2Kept (P.senderOf (cardOf (stateAfterAll (startStateOn count e₀ e₁ state) ms)) g)
   card-runs-demand2 g h = rw card-runs-own (demand2-each 0 count e₀ e₁ (meant ms) g h)

@@ -23,7 +23,7 @@ use Rattle.orders.specs.Orders.{callBy}
 use Rattle.c_face.specs.Cards.{callAnswerOn, callStateOn, cardOf, isCard, keptCard, partAt, putOwn}
 use Rattle.c_face.specs.Keeping.{byteAt, stateBytes}
 use Rattle.c_face.specs.Orders.{commandAnswerOn, commandStateOn, kindAnswerOn, kindOf, kindStateOn, orderAnswerOn, orderAnswersOn, orderStateOn, ordersOn}
-use Rattle.c_face.specs.Theorems.CardRuns.{fitting, refused-stands, runOn}
+use Rattle.c_face.specs.Theorems.CardRuns.{fitting, refused-stands, stateAfterAll}
 
 -- ---- no call changes how many bytes there are
 
@@ -66,7 +66,7 @@ abbrev pub numberOn : List ℕ → List ℕ → ℕ
 numberOn s c = cond (ltb 3 (getD c 0 0)) 8 (callAnswerOn true (getD c 1 0) (callBy (kindOf (getD c 0 0)) (getD c 2 0)) s)
 
 abbrev pub numbersOn : List ℕ → List (List ℕ) → List ℕ
-numbersOn s cs = tabulate (length cs) (λ i. numberOn (runOn s (singlesIn (take i cs))) (getD cs i []))
+numbersOn s cs = tabulate (length cs) (λ i. numberOn (stateAfterAll s (singlesIn (take i cs))) (getD cs i []))
 
 all-fit : (k : K.Kind) (i : ℕ) → fitting (callBy k i) ≡ true
 all-fit K.Kind.Add i = refl
@@ -75,18 +75,18 @@ all-fit K.Kind.Claim i = refl
 all-fit K.Kind.Release i = refl
 
 -- one command more at the front
-run-first : (s c : List ℕ) (cs : List (List ℕ)) → runOn s (singlesIn (c ∷ cs)) ≡ runOn (commandStateOn s c) (singlesIn cs)
+run-first : (s c : List ℕ) (cs : List (List ℕ)) → stateAfterAll s (singlesIn (c ∷ cs)) ≡ stateAfterAll (commandStateOn s c) (singlesIn cs)
 unfolding kindStateOn
 run-first s c cs = go (ltb 3 (getD c 0 0))
   where
     call : Call
     call = callBy (kindOf (getD c 0 0)) (getD c 2 0)
 
-    go : (b : Bool) → runOn s (cond b (singlesIn cs) (record { group = getD c 1 0; asked = Do call } ∷ singlesIn cs)) ≡ runOn (cond b s (callStateOn true (getD c 1 0) call s)) (singlesIn cs)
+    go : (b : Bool) → stateAfterAll s (cond b (singlesIn cs) (record { group = getD c 1 0; asked = Do call } ∷ singlesIn cs)) ≡ stateAfterAll (cond b s (callStateOn true (getD c 1 0) call s)) (singlesIn cs)
     go true = refl
-    go false = ap (λ (f : Bool). runOn (callStateOn f (getD c 1 0) call s) (singlesIn cs)) (all-fit (kindOf (getD c 0 0)) (getD c 2 0))
+    go false = ap (λ (f : Bool). stateAfterAll (callStateOn f (getD c 1 0) call s) (singlesIn cs)) (all-fit (kindOf (getD c 0 0)) (getD c 2 0))
 
-bytes-single : (s : List ℕ) (cs : List (List ℕ)) → ordersOn s cs .state ≡ runOn s (singlesIn cs)
+bytes-single : (s : List ℕ) (cs : List (List ℕ)) → ordersOn s cs .state ≡ stateAfterAll s (singlesIn cs)
 bytes-single s [] = refl
 bytes-single s (c ∷ cs) = bytes-single (commandStateOn s c) cs ∙ sym (run-first s c cs)
 
@@ -100,7 +100,7 @@ numbers-single s (c ∷ cs) =
 
 -- of the call itself, on any state bytes of a card's length
 pub one-by-one : (s : List ℕ) (cs : List (List ℕ)) (ys : List ℕ) → length s ≡ 858 → length cs ≡ length ys
-    → (orderAnswerOn s cs ys ≡ 0) × (orderStateOn s cs ys ≡ runOn s (singlesIn cs)) × (orderAnswersOn s cs ys ≡ numbersOn s cs)
+    → (orderAnswerOn s cs ys ≡ 0) × (orderStateOn s cs ys ≡ stateAfterAll s (singlesIn cs)) × (orderAnswersOn s cs ys ≡ numbersOn s cs)
 unfolding orderAnswerOn orderStateOn orderAnswersOn
 one-by-one s cs ys sized e = rw (eq-eqb (length s) 858 sized, eq-eqb (length cs) (length ys) e, bytes-single s cs, numbers-single s cs) (refl, refl, refl)
 

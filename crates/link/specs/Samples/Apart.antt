@@ -43,8 +43,8 @@ alike = record { kind = refl; epoch = refl; payload = refl; window = refl; delay
 abbrev quiet : History
 quiet = record { kind = 0; slots = 3; first = 249; before = λ i. []; gid = λ i. 0; mst = λ i. 0; ack = λ i. 1 }
 
-abbrev far : Link
-far =
+abbrev otherLink : Link
+otherLink =
     record {
       sending = sendingOf quiet 1 (λ x. []) unranked;
       ports = 2;
@@ -60,8 +60,8 @@ far =
       lent = λ a j. [];
     }
 
-alike-far : Alike link far
-alike-far = record { kind = refl; epoch = refl; payload = refl; window = refl; delay = λ p b. refl; first = λ p b. refl; order = λ t. refl }
+alike-other : Alike link otherLink
+alike-other = record { kind = refl; epoch = refl; payload = refl; window = refl; delay = λ p b. refl; first = λ p b. refl; order = λ t. refl }
 
 other-met : Assumed other
 other-met = met-by otherClient (λ x. length-tabulate (xAt history (epochAt 0 x) * 1) (otherBytes x)) 4 (λ t. eqb (t % 2) 0) spread-4

@@ -30,8 +30,8 @@ module _ (g : Settings) (store : ℕ) where
     start-stored = leb-true (storeIn g) store (and-right (isSized g && timesFit g) (leb (storeIn g) store) t)
 
 pub record Small (g : Settings) : Type 0 where
-  pub few : g .ports ≤ 64
-  pub short : g .size ≤ 2340
+  pub ports-most : g .ports ≤ 64
+  pub size-most : g .size ≤ 2340
   pub narrow : g .window ≤ 2048
 
 pub small : (g : Settings) → isSized g ≡ true → Small g
@@ -39,4 +39,4 @@ small g t =
     let z = sizes-of (g .kind) (g .ports) (g .size) (g .window) t in
     let h = half-fits (g .kind) in
     let n = z .narrow in
-    record { few = z .few-ports; short = z .few-bytes; narrow = omega arith }
+    record { ports-most = z .few-ports; size-most = z .few-bytes; narrow = omega arith }

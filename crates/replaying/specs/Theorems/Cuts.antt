@@ -103,11 +103,11 @@ over-room text buffer h =
 
 -- the same settings in another phase
 same-lent : {r : Replay} {phase : Phase} {line left rows store out said : ℕ} → Lent r rows store out said → Lent (within r phase line left) rows store out said
-same-lent l = record { room = l .room; few = l .few; short = l .short; rows-there = l .rows-there; store-there = l .store-there; out-there = l .out-there }
+same-lent l = record { room = l .room; ports-most = l .ports-most; size-most = l .size-most; rows-there = l .rows-there; store-there = l .store-there; out-there = l .out-there }
 
 -- lent as much as before
 lent-again : {r : Replay} {rows store out said rows′ store′ out′ said′ : ℕ} → rows′ ≡ rows → store′ ≡ store → out′ ≡ out → ROOM ≤ said′ → Lent r rows store out said → Lent r rows′ store′ out′ said′
-lent-again a b c d l = record { room = d; few = l .few; short = l .short; rows-there = rw a (l .rows-there); store-there = rw b (l .store-there); out-there = rw c (l .out-there) }
+lent-again a b c d l = record { room = d; ports-most = l .ports-most; size-most = l .size-most; rows-there = rw a (l .rows-there); store-there = rw b (l .store-there); out-there = rw c (l .out-there) }
 
 -- what a call has written at the front of the buffer
 written : (said text buffer more : List ℕ) → (said ++ take (length text) (over text buffer)) ++ more ≡ said ++ (text ++ more)
@@ -507,7 +507,7 @@ module _ (out : List ℕ) (line left ports size window : ℕ) (rows : List (List
                 full = rw lr (f .full);
                 same = f .same;
                 enough = rw ls (f .enough);
-                lent = record { room = f .room; few = c .few-ports; short = c .few-bytes; rows-there = rw lr m; store-there = rw ls d; out-there = omega arith };
+                lent = record { room = f .room; ports-most = c .few-ports; size-most = c .few-bytes; rows-there = rw lr m; store-there = rw ls d; out-there = omega arith };
               };
           whole = λ more g. rw (lines more g, i, z, b, append-nil said);
         })

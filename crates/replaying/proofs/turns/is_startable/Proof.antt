@@ -12,13 +12,13 @@ returns : tie.Need-returns
 returns c = start-out (c .before .before .args .settings) (c .before .before .args .store) (sym (c .before .is-sized .ensures) ∙ not-true (c .before .is-sized .result) (c .if1 .taken))
 
 times-fit-requires : tie.Need-times-fit-requires
-times-fit-requires c κs = small (c .before .before .args .settings) (sym (c .before .is-sized .ensures) ∙ not-false (c .before .is-sized .result) (c .if1 .left)) .few
+times-fit-requires c κs = small (c .before .before .args .settings) (sym (c .before .is-sized .ensures) ∙ not-false (c .before .is-sized .result) (c .if1 .left)) .ports-most
 
 cast-store-of : tie.Need-cast-store-of
-cast-store-of c = omega (arith, small (c .before .before .before .before .args .settings) (sym (c .before .before .before .is-sized .ensures) ∙ not-false (c .before .before .before .is-sized .result) (c .before .before .if1 .left)) .few)
+cast-store-of c = omega (arith, small (c .before .before .before .before .args .settings) (sym (c .before .before .before .is-sized .ensures) ∙ not-false (c .before .before .before .is-sized .result) (c .before .before .if1 .left)) .ports-most)
 
 cast-store-of-2 : tie.Need-cast-store-of-2
-cast-store-of-2 c = omega (arith, small (c .before .before .before .before .before .args .settings) (sym (c .before .before .before .before .is-sized .ensures) ∙ not-false (c .before .before .before .before .is-sized .result) (c .before .before .before .if1 .left)) .short)
+cast-store-of-2 c = omega (arith, small (c .before .before .before .before .before .args .settings) (sym (c .before .before .before .before .is-sized .ensures) ∙ not-false (c .before .before .before .before .is-sized .result) (c .before .before .before .if1 .left)) .size-most)
 
 cast-store-of-3 : tie.Need-cast-store-of-3
 cast-store-of-3 c = omega (arith, small (c .before .before .before .before .before .before .args .settings) (sym (c .before .before .before .before .before .is-sized .ensures) ∙ not-false (c .before .before .before .before .before .is-sized .result) (c .before .before .before .before .if1 .left)) .narrow)

@@ -31,7 +31,7 @@ take-frame-requires c κs =
     let test1 = c .before .before .before .before .before .before .if1 in
     let s = c .before .before .before .before .before .before .before .before .before .before .before in
     let l = lent-says (s .args .replay) (length (s .args .rows .now)) (length (s .args .store .now)) (s .args .out) (length (s .args .said .now)) (sym (is-lent .ensures) ∙ not-false (is-lent .result) (test1 .left)) in
-    (l .short, l .rows-there, l .store-there)
+    (l .size-most, l .rows-there, l .store-there)
 
 framed-requires : tie.Need-framed-requires
 framed-requires c κs = omega arith

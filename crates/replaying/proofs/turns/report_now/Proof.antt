@@ -44,7 +44,7 @@ states-in-requires-2 c κs = omega arith
 put-report-requires : tie.Need-put-report-requires
 put-report-requires c κs =
     let start = c .before .before .before .before .before .before .before .before .before .before .before .before .before .before .before in
-    (start .pre .0 .few, start .pre .0 .room)
+    (start .pre .0 .ports-most, start .pre .0 .room)
 
 reported-requires : tie.Need-reported-requires
 reported-requires c κs =
@@ -72,7 +72,7 @@ returns-2 c =
     let y : 0 < getD (fetch .result) 0 0 = omega (arith, test1 .left) in
     let d : ltb 0 (getD (fetchRecordBy (start .args .replay) (start .args .rows .now) (start .args .store .now) (start .args .out .now)) 0 0) ≡ true = rw (← fetch .ensures .0) (lt-ltb 0 (getD (fetch .result) 0 0) y) in
     let w : reportText (fetch .result) (start .args .replay .line) (states-in .result) (states-in2 .result) (start .args .replay .ports) ≡ reportOf (start .args .replay) (start .args .rows .now) (start .args .store .now) (start .args .out .now) = rw (states-in2 .ensures, states-in .ensures, fetch .ensures .1, fetch .ensures .0) in
-    let k = report-le (fetch .result) (start .args .replay .line) (states-in .result) (states-in2 .result) (start .args .replay .ports) (l .few) in
+    let k = report-le (fetch .result) (start .args .replay .line) (states-in .result) (states-in2 .result) (start .args .replay .ports) (l .ports-most) in
     let h : length (reportText (fetch .result) (start .args .replay .line) (states-in .result) (states-in2 .result) (start .args .replay .ports)) ≤ length (start .args .said .now) = omega (arith, l .room) in
     let q = rw w at (put-over (c .before .before .before .put-report .ensures) h) in
     rw d (c .reported .ensures ∙ ap (reportedTurn (start .args .replay)) (q .0), fetch .ensures .1, fetch .ensures .2, q .1)

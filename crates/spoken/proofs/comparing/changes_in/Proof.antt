@@ -54,7 +54,7 @@ one-if-requires : tie.Need-one-if-requires Inv-loop μ-loop
 one-if-requires c κs = search needs
 
 add-count : tie.Need-add-count Inv-loop μ-loop
-add-count c = let h = one-le (not (c .before .before .same-row .result)) (c .one-if .result) (c .one-if .ensures) in let l = c .before .before .before .before .before .before .loop .inv .3 .few in omega arith
+add-count c = let h = one-le (not (c .before .before .same-row .result)) (c .one-if .result) (c .one-if .ensures) in let l = c .before .before .before .before .before .before .loop .inv .3 .at-most in omega arith
 
 add-i : tie.Need-add-i Inv-loop μ-loop
 add-i c = search needs
