@@ -7,10 +7,9 @@ use crate::owners;
 use packet::kinds;
 use sender::Sender;
 use sender::SenderOutcome;
-use sender::State;
 ghost use mathlib.Core.Path.{_≡_};
 ghost use Prim.Native.Nat.{_<_};
-ghost use Rattle.sender.specs.Table.{isMember, sizeOf};
+ghost use Rattle.sender.specs.Table.{sizeOf};
 ghost use Rattle.circuits.specs.Parts.{emptySender, groupOutcome, isSlot, isUsed, marked, owns, refused, senderOf, shownSender, withSender};
 
 // The group's own sender.

@@ -1,5 +1,4 @@
 // The sixteen group frames of a report, and what the report says (01, 'Report of an epoch', 'Payload order').
-use crate::lengths;
 use crate::report::Report;
 use judge::Order;
 use packet::kinds;

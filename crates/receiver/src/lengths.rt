@@ -2,7 +2,6 @@
 use packet::kinds;
 use rows::Group;
 ghost use mathlib.Core.Path.{_≡_};
-ghost use Rattle.judge.specs.Seen.{sizeOf};
 ghost use Rattle.receiver.specs.Lengths.{fetchFits, frameFits, outputFor, rowsFit};
 
 pub(crate) fn is_rows(ports: u8, rows: usize) -> bool

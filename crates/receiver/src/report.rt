@@ -1,6 +1,5 @@
 // The report of an epoch (01, 'Report of an epoch').
 use crate::flags;
-use crate::lengths;
 use judge::Seen;
 use packet::kinds;
 use rows::Group;

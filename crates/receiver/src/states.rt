@@ -1,5 +1,4 @@
 // Member states and RS-Ack worked out at a report (01, 'Member states and reply').
-use crate::lengths;
 use reply::Port;
 use reply::Standing;
 use rows::Group;
