@@ -13,6 +13,7 @@ use Rattle.c_face.specs.Payloads.{joinAnswerC, joinFrameC, spreadAnswerC, sprea
 use Rattle.c_face.specs.Plans.{checkAnswerC, checkByteC, lentAnswer, lentBytes, planAnswerC, planBytesC}
 use Rattle.c_face.specs.Receivers.{failedC, kindC, startAsAnswerC, startAsRowsC}
 use Rattle.c_face.specs.Senders.{startAnswerC, startStateC}
+use Rattle.conformance.specs.Clauses.Filled.{nines, zeros}
 use Rattle.packet.specs.Crc.{crcOf, divisor, nibbleBits}
 use Rattle.packet.specs.Fixed.{readFixedAnswer, readFixedNibbles, writeFixedAnswer}
 use Rattle.packet.specs.Kinds.{frames, tags}
@@ -41,12 +42,6 @@ use Rattle.spoken.specs.Changes.{changesIn, changesOf, comparedOf, listOf}
 use Rattle.spoken.specs.Speaking.{canSpeak, changeText, changesSpeak, nowText, rowText, slotText, speakAnswer, speechBytes, speechOf, spokenText, waitLine, wasText}
 use Rattle.text.specs.Ascii.{ascii}
 use Rattle.text.specs.Output.{decimalText, wordText}
-
-abbrev nines : ℕ → List ℕ
-nines n = replicate n 9
-
-abbrev zeros : ℕ → List ℕ
-zeros n = replicate n 0
 
 -- A packet's fields, one by one in the order of the call: epoch 200, DNU, GID 1, MST A5, RS-Ack 1, SQ 77, with no reserved bit; read, ten bytes, the last four the reserved bits.
 abbrev mixed : List ℕ

@@ -17,6 +17,7 @@ use Rattle.circuits.specs.Shown.{by}
 use Rattle.circuits.specs.Views.{Asked, Made, askedBy, bitsOf, replyTo, run}
 use Rattle.circuits.specs.Views.Asked.{Board, Do, Outgoing, Owned, Packet, Payload, Ranks}
 use Rattle.circuits.specs.Views.Reply.{Answered, Owns, Ranked, Showed, Wrote}
+use Rattle.conformance.specs.Clauses.Filled.{nines}
 use Rattle.orders.specs.Orders.{finishOf, firstAnswers, firstOrdered, outcomeBy, turnsOf}
 use Rattle.orders.specs.Shown.{add, claim, release, remove}
 use Rattle.orders.specs.Singles.{answersTo, commandsOf, singleNumbers}
@@ -127,9 +128,6 @@ other = run fresh (by 0 (Claim 1) ∷ by 1 (Claim 2) ∷ by 1 (AddSlot 2) ∷ by
 
 abbrev noRow : Row
 noRow = record { word = record { 0 = 0 }; number = 99 }
-
-abbrev nines : ℕ → List ℕ
-nines n = replicate n 9
 
 abbrev number : ℕ → ℕ → ℕ → ℕ
 number g i n = answerNumber (packetAnswer sending g i (nines n))

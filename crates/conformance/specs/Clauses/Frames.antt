@@ -4,6 +4,7 @@ use mathlib.Core.Bool.{Bool, true, false}
 use mathlib.Core.List.{List, [], _∷_, _++_}
 use Prim.Native.Nat.{ℕ}
 use lib.ListN.{replicate}
+use Rattle.conformance.specs.Clauses.Filled.{nines, zeros}
 use Rattle.ground.specs.Circle.{after}
 use Rattle.packet.specs.Counts.{counts, nibbleIn}
 use Rattle.packet.specs.Kinds.{distanceOf, endsEpoch, epochs, epochsIn, firstTag, frames, lead, placeOf, tagAfter, tagBefore, tags}
@@ -26,12 +27,6 @@ use Rattle.step.specs.OwnCount.{endsOdd}
 use Rattle.step.specs.Run.{breaksAfter, endsPacket, inStepAt, loses, oddAfter, runOn, stayedRun}
 use Rattle.store.specs.Frames.{placeIn, ringOf, storedAt}
 use Rattle.store.specs.Marks.{cutByte, cutFrom, markedAt, markedByte}
-
-abbrev zeros : ℕ → List ℕ
-zeros n = replicate n 0
-
-abbrev nines : ℕ → List ℕ
-nines n = replicate n 9
 
 -- a count of frames, and the tag to come
 abbrev step : ℕ → ℕ → Step

@@ -4,6 +4,7 @@ use mathlib.Core.Bool.{false, true}
 use mathlib.Core.List.{List, [], _++_, _∷_}
 use Prim.Native.Nat.{ℕ}
 use lib.ListN.{drop, getD, replicate, take}
+use Rattle.conformance.specs.Clauses.Filled.{nines, zeros}
 use Rattle.ground.specs.Circle.{after}
 use Rattle.ground.specs.Table.{tabulate}
 use Rattle.judge.specs.Order.{activeIn, orderOf, portOf, rankOf}
@@ -43,12 +44,6 @@ use Rattle.step.specs.OwnCount.{endsOdd, oddPacket, ownNumber, ownRuling, right
 use Rattle.step.specs.Run.{begunRun, breaksAfter, endsPacket, furtherRun, gainedRun, inStepAt, loses, oddAfter, runOn, secondRun, stayedRun}
 use Rattle.store.specs.Frames.{byteAt, h4At, packetIn, placeIn, ringOf, storedAt}
 use Rattle.store.specs.Marks.{cutByte, cutFrom, firstMark, markedAt, markedByte, passedByte, passedMarks}
-
-abbrev nines : ℕ → List ℕ
-nines n = replicate n 9
-
-abbrev zeros : ℕ → List ℕ
-zeros n = replicate n 0
 
 -- three ports, P 1, W 16; receiving has begun with epoch 58, whose first frame has tag 920 and stands at place 5 of each ring; `gathered` is 1 where a first epoch has been gathered
 abbrev group : ℕ → Group

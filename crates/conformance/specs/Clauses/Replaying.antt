@@ -5,6 +5,7 @@ use mathlib.Core.List.{List, [], _∷_, _++_}
 use Prim.Native.Nat.{ℕ}
 use lib.ListN.{drop, replicate, take}
 use Rattle.bytes.specs.Bytes.{indexAfter, indexOf}
+use Rattle.conformance.specs.Clauses.Filled.{nines}
 use Rattle.packet.specs.Kinds.{frames, idleNumber, tags}
 use Rattle.phases.specs.Sizes.{portsIn, sized, storeFor}
 use Rattle.receiver.specs.Fetch.{fetchRows, fits}
@@ -52,9 +53,6 @@ tooLittle r = record { replay = r; answer = 9; used = 0; written = 0; wants = tr
 -- rows of 9s, and numbers of 9s
 abbrev rows : ℕ → List (List ℕ)
 rows n = replicate n (replicate 16 9)
-
-abbrev nines : ℕ → List ℕ
-nines n = replicate n 9
 
 -- the first line, with 321 rows and a room of 1,160 or more
 abbrev first : List ℕ → Bool → ℕ → ℕ → ℕ → Replayed

@@ -5,6 +5,7 @@ use mathlib.Core.List.{List, [], _∷_, _++_}
 use Prim.Native.Nat.{ℕ}
 use lib.Dec.{eqb}
 use lib.ListN.{getD, length, replicate, take}
+use Rattle.conformance.specs.Clauses.Filled.{nines, zeros}
 use Rattle.ground.specs.Table.{tabulate}
 use Rattle.judge.specs.declared.order.Order.{Order}
 use Rattle.judge.specs.declared.seen.Seen.{Seen}
@@ -55,12 +56,6 @@ group origin =
       origin = origin;
       «rs_ack» = 0;
     }
-
-abbrev zeros : ℕ → List ℕ
-zeros n = replicate n 0
-
-abbrev nines : ℕ → List ℕ
-nines n = replicate n 9
 
 -- two ports, no frame yet
 abbrev rows : List (List ℕ)

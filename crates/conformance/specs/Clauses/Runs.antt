@@ -18,6 +18,7 @@ use Rattle.circuits.specs.Readings.{boardShown, outgoingShown, ownedShown, rank
 use Rattle.circuits.specs.Readings.{packetAnswer as readingsPacketAnswer}
 use Rattle.circuits.specs.Readings.{payloadAnswer as readingsPayloadAnswer}
 use Rattle.circuits.specs.Readings.{payloadBytes as readingsPayloadBytes}
+use Rattle.conformance.specs.Clauses.Filled.{nines}
 use Rattle.packet.specs.Crc.{crcOf, divisor, nibbleBits}
 use Rattle.packet.specs.Kinds.{frames, idleNumber}
 use Rattle.packet.specs.Layout.{dataOf, h4Of, nibblesOf, sealedOf}
@@ -30,9 +31,6 @@ use Rattle.sender.specs.Epochs.{SenderCall, beginOf, freshSender, packetAnswer,
 use Rattle.sender.specs.Epochs.SenderCall.{OnTable, StartEpoch}
 use Rattle.sender.specs.Ranks.{carriersIn, rankAt, rankOf, ranksIn}
 use Rattle.sender.specs.Table.{membersOf, sizeOf}
-
-abbrev nines : ℕ → List ℕ
-nines n = replicate n 9
 
 abbrev called : List ℕ → List SenderCall → List ℕ
 called state [] = state

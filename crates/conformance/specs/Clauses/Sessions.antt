@@ -5,6 +5,7 @@ use mathlib.Core.List.{List, [], _∷_, _++_}
 use Prim.Native.Nat.{ℕ}
 use lib.ListN.{replicate}
 use Rattle.bytes.specs.Bytes.{indexOf}
+use Rattle.conformance.specs.Clauses.Filled.{nines}
 use Rattle.console.specs.declared.line.Line.the-variants.{Size, Add, Remove, Report, Lapse, Board, Malformed}
 use Rattle.console.specs.declared.session.Session.{Session}
 use Rattle.console.specs.Kept.{keepAll, keepOf, lineIn, nothingKept}
@@ -96,9 +97,6 @@ answers :
     × (outputOf waiting Board ≡ ascii "slot\t0\tIDLE\t255\nslot\t1\tIDLE\t255\nwait\t1\n")
 unfolding addOf addedTo answerText boardOf boardText decimalText fallen fallenIn freshOf highest idleNumber idleSlot lapseOf membersOf noRow outputOf removeOf removedFrom replyOf rowOf rowsOf sizeOf sizeReply slotText startOf waitText wordText
 answers = (refl, refl, refl, refl, refl, refl, refl, refl, refl, refl, refl, refl, refl, refl, refl, refl, refl, refl)
-
-abbrev nines : ℕ → List ℕ
-nines n = replicate n 9
 
 -- two slots, and so much of a line has come
 abbrev holding : List ℕ → Session

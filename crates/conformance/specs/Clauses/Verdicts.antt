@@ -5,6 +5,7 @@ use mathlib.Core.List.{List, [], _∷_}
 use Prim.Native.Nat.{ℕ, _+_, _%_}
 use lib.Dec.{eqb}
 use lib.ListN.{length, replicate, set, take}
+use Rattle.conformance.specs.Clauses.Filled.{nines}
 use Rattle.ground.specs.Table.{tabulate}
 use Rattle.judge.specs.declared.seen.Seen.{Seen}
 use Rattle.judge.specs.Order.{activeIn, orderOf, portOf, rankOf}
@@ -123,9 +124,6 @@ orders :
     × (length (orderOf (saw 3 0 0 ∷ []) 1 .ports) ≡ 64)
 unfolding activeIn orderOf portOf rankOf
 orders = (refl, refl, refl, refl, refl)
-
-abbrev nines : ℕ → List ℕ
-nines n = replicate n 9
 
 abbrev wrote : ℕ → ℕ → List ℕ → ℕ
 wrote epoch sq s = writingNumber (writeFixedAnswer epoch sq s)

@@ -15,6 +15,7 @@ use Rattle.circuits.specs.Readings.{packetBytes, payloadBytes}
 use Rattle.conformance.specs.Entries.{Call, Copes, If, Refusal, Unless, behind, copes, first, put-anew, stateful, stateless, tested}
 use Rattle.conformance.specs.Refusals.Cards as own
 use Rattle.conformance.specs.Refusals.Cards.{emptyCard}
+use Rattle.conformance.specs.Refusals.Senders.{allBytes}
 use Rattle.sender.specs.Commands.{startOf}
 use Rattle.sender.specs.Epochs.{beginOf}
 
@@ -25,7 +26,7 @@ isWhole state = eqb (length state) 858
 -- Starting: 4, 9, 8.
 abbrev pub start : ℕ × ℕ × ℕ × List ℕ → Call
 start (count, «first_epoch_0», «first_epoch_1», state) =
-    stateful (If 4 (eqb count 0 || ltb 64 count) ∷ Unless 9 (isWhole state) ∷ Unless 8 (areBytes «first_epoch_0» «first_epoch_1» 0) ∷ [])
+    stateful (If 4 (eqb count 0 || ltb 64 count) ∷ Unless 9 (isWhole state) ∷ Unless 8 (allBytes «first_epoch_0» «first_epoch_1» 0) ∷ [])
     (startAnswerOn count «first_epoch_0» «first_epoch_1» state) [] []
     state (startStateOn count «first_epoch_0» «first_epoch_1» state) (cond (isWhole state) (putCard (emptyCard 0 0 0) state) state)
 
@@ -34,58 +35,58 @@ unfolding startAnswerOn startStateOn card.startOf beginOf startOf
 start-copes (count, e₀, e₁, state) =
     copes _ (λ o. rw o (refl, refl, refl), λ o. (λ l. (λ f. rw (o, l, f), λ f. rw (o, l, f) (refl, refl, refl)), λ l. rw (o, l) (refl, refl, refl)))
 
--- A call that changes a card: 9, 1 for the group, 8 where the numbers given do not fit, then the call's own refusals.
-abbrev pub cardRow : List ℕ → ℕ → Bool → CardCall → List Refusal → Call
-cardRow state group fits call rs =
-    stateful (Unless 9 (isWhole state) ∷ Unless 1 (ltb group 2) ∷ Unless 8 fits ∷ rs) (callAnswerOn fits group call state) [] [] state (callStateOn fits group call state) state
+-- A call that changes a card: 9, 1 for the group, 8 where the numbers given are no bytes, then the call's own refusals. `fits` is the contract's own test for that.
+abbrev pub cardRow : List ℕ → ℕ → Bool → Bool → CardCall → List Refusal → Call
+cardRow state group bytes fits call rs =
+    stateful (Unless 9 (isWhole state) ∷ Unless 1 (ltb group 2) ∷ Unless 8 bytes ∷ rs) (callAnswerOn fits group call state) [] [] state (callStateOn fits group call state) state
 
-pub call-copes : (state : List ℕ) (group : ℕ) (fits : Bool) (call : CardCall) (rs : List Refusal) → answerNumber (outcomeOf (cardOf state) group call .answer) ≡ first rs → Copes (cardRow state group fits call rs)
+pub call-copes : (state : List ℕ) (group : ℕ) (fits : Bool) (call : CardCall) (rs : List Refusal) → answerNumber (outcomeOf (cardOf state) group call .answer) ≡ first rs → Copes (cardRow state group fits fits call rs)
 unfolding callAnswerOn callStateOn
 call-copes state group fits call rs e =
     tested 9 (isWhole state) _ _ _ state
     (tested 1 (ltb group 2) _ _ _ state (tested 8 fits rs _ _ state (put-anew rs (answerNumber (outcomeOf (cardOf state) group call .answer)) _ state e)))
 
 abbrev pub claim : List ℕ × ℕ × ℕ → Call
-claim (state, group, slot) = cardRow state group true (Claim slot) (own.claim (cardOf state, group, slot) .refusals)
+claim (state, group, slot) = cardRow state group true true (Claim slot) (own.claim (cardOf state, group, slot) .refusals)
 
 pub claim-copes : (x : List ℕ × ℕ × ℕ) → Copes (claim x)
 claim-copes (state, group, slot) = call-copes state group true _ _ (own.claim-copes (cardOf state, group, slot) .answers)
 
 abbrev pub release : List ℕ × ℕ × ℕ → Call
-release (state, group, slot) = cardRow state group true (Release slot) (own.release (cardOf state, group, slot) .refusals)
+release (state, group, slot) = cardRow state group true true (Release slot) (own.release (cardOf state, group, slot) .refusals)
 
 pub release-copes : (x : List ℕ × ℕ × ℕ) → Copes (release x)
 release-copes (state, group, slot) = call-copes state group true _ _ (own.release-copes (cardOf state, group, slot) .answers)
 
 abbrev pub add : List ℕ × ℕ × ℕ → Call
-add (state, group, slot) = cardRow state group true (AddSlot slot) (own.add (cardOf state, group, slot) .refusals)
+add (state, group, slot) = cardRow state group true true (AddSlot slot) (own.add (cardOf state, group, slot) .refusals)
 
 pub add-copes : (x : List ℕ × ℕ × ℕ) → Copes (add x)
 add-copes (state, group, slot) = call-copes state group true _ _ (own.add-copes (cardOf state, group, slot) .answers)
 
 abbrev pub remove : List ℕ × ℕ × ℕ → Call
-remove (state, group, slot) = cardRow state group true (RemoveSlot slot) (own.remove (cardOf state, group, slot) .refusals)
+remove (state, group, slot) = cardRow state group true true (RemoveSlot slot) (own.remove (cardOf state, group, slot) .refusals)
 
 pub remove-copes : (x : List ℕ × ℕ × ℕ) → Copes (remove x)
 remove-copes (state, group, slot) = call-copes state group true _ _ (own.remove-copes (cardOf state, group, slot) .answers)
 
 abbrev pub report : List ℕ × ℕ × ℕ × ℕ × ℕ → Call
 report (state, group, epoch, mst, «rs_ack») =
-    cardRow state group (areBytes epoch mst «rs_ack») (Report epoch mst «rs_ack») (own.report (cardOf state, group, epoch, mst, «rs_ack») .refusals)
+    cardRow state group (allBytes epoch mst «rs_ack») (areBytes epoch mst «rs_ack») (Report epoch mst «rs_ack») (own.report (cardOf state, group, epoch, mst, «rs_ack») .refusals)
 
 pub report-copes : (x : List ℕ × ℕ × ℕ × ℕ × ℕ) → Copes (report x)
 report-copes (state, group, epoch, mst, «rs_ack») =
     call-copes state group (areBytes epoch mst «rs_ack») _ _ (own.report-copes (cardOf state, group, epoch, mst, «rs_ack») .answers)
 
 abbrev pub lapse : List ℕ × ℕ → Call
-lapse (state, group) = cardRow state group true Lapse (own.lapse (cardOf state, group) .refusals)
+lapse (state, group) = cardRow state group true true Lapse (own.lapse (cardOf state, group) .refusals)
 
 pub lapse-copes : (x : List ℕ × ℕ) → Copes (lapse x)
 lapse-copes (state, group) = call-copes state group true _ _ (own.lapse-copes (cardOf state, group) .answers)
 
 abbrev pub startEpoch : List ℕ × ℕ × ℕ × ℕ × ℕ → Call
 startEpoch (state, group, gid, mst, «rs_ack») =
-    cardRow state group (areBytes gid mst «rs_ack») (StartEpoch gid mst «rs_ack») (own.startEpoch (cardOf state, group, gid, mst, «rs_ack») .refusals)
+    cardRow state group (allBytes gid mst «rs_ack») (areBytes gid mst «rs_ack») (StartEpoch gid mst «rs_ack») (own.startEpoch (cardOf state, group, gid, mst, «rs_ack») .refusals)
 
 pub startEpoch-copes : (x : List ℕ × ℕ × ℕ × ℕ × ℕ) → Copes (startEpoch x)
 startEpoch-copes (state, group, gid, mst, «rs_ack») =

@@ -20,6 +20,10 @@ use Rattle.sender.specs.Table.{answerNumber}
 abbrev pub isWhole : List ℕ → Bool
 isWhole state = eqb (length state) 397
 
+-- 8: a number that is no byte
+abbrev pub allBytes : ℕ → ℕ → ℕ → Bool
+allBytes a b c = ltb a 256 && ltb b 256 && ltb c 256
+
 -- Starting: 4, 9, 8.
 abbrev pub start : ℕ × ℕ × List ℕ → Call
 start (count, «first_epoch», state) =
@@ -31,41 +35,41 @@ unfolding startAnswerC startStateC beginOf startOf
 start-copes (count, «first_epoch», state) =
     copes _ (λ o. rw o (refl, refl, refl), λ o. (λ l. (λ f. rw (o, l, f) (refl, refl, refl), λ f. rw (o, l, f)), λ l. rw (o, l) (refl, refl, refl)))
 
--- A call on a started sender: 9, 8 where the numbers given do not fit, then the call's own refusals.
-abbrev pub senderRow : List ℕ → Bool → SenderCall → List Refusal → Call
-senderRow state fits call rs = stateful (Unless 9 (isWhole state) ∷ Unless 8 fits ∷ rs) (callAnswerC fits call state) [] [] state (callStateC fits call state) state
+-- A call on a started sender: 9, 8 where the numbers given are no bytes, then the call's own refusals. `fits` is the contract's own test for that.
+abbrev pub senderRow : List ℕ → Bool → Bool → SenderCall → List Refusal → Call
+senderRow state bytes fits call rs = stateful (Unless 9 (isWhole state) ∷ Unless 8 bytes ∷ rs) (callAnswerC fits call state) [] [] state (callStateC fits call state) state
 
-pub call-copes : (state : List ℕ) (fits : Bool) (call : SenderCall) (rs : List Refusal) → answerNumber (senderOutcomeOf (senderOf state) call .answer) ≡ first rs → Copes (senderRow state fits call rs)
+pub call-copes : (state : List ℕ) (fits : Bool) (call : SenderCall) (rs : List Refusal) → answerNumber (senderOutcomeOf (senderOf state) call .answer) ≡ first rs → Copes (senderRow state fits fits call rs)
 unfolding callAnswerC callStateC
 call-copes state fits call rs e = tested 9 (isWhole state) _ _ _ state (tested 8 fits rs _ _ state (put-anew rs (answerNumber (senderOutcomeOf (senderOf state) call .answer)) _ state e))
 
 abbrev pub add : List ℕ × ℕ → Call
-add (state, slot) = senderRow state true (OnTable (AddSlot slot)) (own.add (senderOf state, slot) .refusals)
+add (state, slot) = senderRow state true true (OnTable (AddSlot slot)) (own.add (senderOf state, slot) .refusals)
 
 pub add-copes : (x : List ℕ × ℕ) → Copes (add x)
 add-copes (state, slot) = call-copes state true _ _ (own.add-copes (senderOf state, slot) .answers)
 
 abbrev pub remove : List ℕ × ℕ → Call
-remove (state, slot) = senderRow state true (OnTable (RemoveSlot slot)) (own.remove (senderOf state, slot) .refusals)
+remove (state, slot) = senderRow state true true (OnTable (RemoveSlot slot)) (own.remove (senderOf state, slot) .refusals)
 
 pub remove-copes : (x : List ℕ × ℕ) → Copes (remove x)
 remove-copes (state, slot) = call-copes state true _ _ (own.remove-copes (senderOf state, slot) .answers)
 
 abbrev pub report : List ℕ × ℕ × ℕ × ℕ → Call
-report (state, epoch, mst, «rs_ack») = senderRow state (areBytes epoch mst «rs_ack») (OnTable (Report epoch mst «rs_ack»)) []
+report (state, epoch, mst, «rs_ack») = senderRow state (allBytes epoch mst «rs_ack») (areBytes epoch mst «rs_ack») (OnTable (Report epoch mst «rs_ack»)) []
 
 pub report-copes : (x : List ℕ × ℕ × ℕ × ℕ) → Copes (report x)
 report-copes (state, epoch, mst, «rs_ack») = call-copes state (areBytes epoch mst «rs_ack») _ _ (own.report-copes (senderOf state, epoch, mst, «rs_ack») .answers)
 
 abbrev pub lapse : List ℕ → Call
-lapse state = senderRow state true (OnTable Lapse) (own.lapse (senderOf state) .refusals)
+lapse state = senderRow state true true (OnTable Lapse) (own.lapse (senderOf state) .refusals)
 
 pub lapse-copes : (x : List ℕ) → Copes (lapse x)
 lapse-copes state = call-copes state true _ _ (own.lapse-copes (senderOf state) .answers)
 
 abbrev pub startEpoch : List ℕ × ℕ × ℕ × ℕ → Call
 startEpoch (state, gid, mst, «rs_ack») =
-    senderRow state (areBytes gid mst «rs_ack») (StartEpoch gid mst «rs_ack») (own.startEpoch (senderOf state, gid, mst, «rs_ack») .refusals)
+    senderRow state (allBytes gid mst «rs_ack») (areBytes gid mst «rs_ack») (StartEpoch gid mst «rs_ack») (own.startEpoch (senderOf state, gid, mst, «rs_ack») .refusals)
 
 pub startEpoch-copes : (x : List ℕ × ℕ × ℕ × ℕ) → Copes (startEpoch x)
 startEpoch-copes (state, gid, mst, «rs_ack») = call-copes state (areBytes gid mst «rs_ack») _ _ (own.startEpoch-copes (senderOf state, gid, mst, «rs_ack») .answers)
