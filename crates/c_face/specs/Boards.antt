@@ -1,10 +1,10 @@
 -- The board and the ranks for C, each from one table and whole. A state or a buffer of another length is refused with 9.
-use mathlib.Core.Bool.{Bool, cond, _&&_}
+use mathlib.Core.Bool.{Bool, _&&_}
 use mathlib.Core.List.{List, [], _∷_}
 use Prim.Native.Nat.{ℕ, _-_}
-use lib.Dec.{eqb, ltb}
 use lib.ListN.{getD, length}
 use Rattle.ground.specs.Flags.{oneIf}
+use Rattle.ground.specs.Plain.{if_then_else_, _==_, _<?_}
 use Rattle.ground.specs.Table.{tabulate}
 use Rattle.sender.specs.Board.{boardOf}
 use Rattle.sender.specs.declared.board.Board.{Board}
@@ -16,7 +16,7 @@ use Rattle.c_face.specs.Senders.{isState}
 
 -- the count, at most 64, and the wait, then each slot's word and number
 unfoldable pub boardByte : Board → ℕ → ℕ
-boardByte b k = cond (ltb k 2) (getD (sizeOf (b .count) ∷ oneIf (b .wait) ∷ []) k 0) (rowsByte (b .rows) (k - 2))
+boardByte b k = if k <? 2 then getD (sizeOf (b .count) ∷ oneIf (b .wait) ∷ []) k 0 else rowsByte (b .rows) (k - 2)
 
 abbrev pub boardBytes : ℕ
 boardBytes = 130
@@ -26,7 +26,7 @@ boardBytesOf b = tabulate boardBytes (boardByte b)
 
 -- the count, whether an epoch has started, its number and X, then each slot's rank
 unfoldable pub rankByte : Ranks → ℕ → ℕ
-rankByte r k = cond (ltb k 4) (getD (r .count ∷ oneIf (r .begun) ∷ r .epoch ∷ r .x ∷ []) k 0) (getD (r .ranks) (k - 4) 0)
+rankByte r k = if k <? 4 then getD (r .count ∷ oneIf (r .begun) ∷ r .epoch ∷ r .x ∷ []) k 0 else getD (r .ranks) (k - 4) 0
 
 abbrev pub ranksBytes : ℕ
 ranksBytes = 68
@@ -35,14 +35,14 @@ unfoldable pub ranksBytesOf : Ranks → List ℕ
 ranksBytesOf r = tabulate ranksBytes (rankByte r)
 
 abbrev pub bothSized : ℕ → List ℕ → List ℕ → Bool
-bothSized n state out = isState state && eqb (length out) n
+bothSized n state out = isState state && length out == n
 
 unfoldable pub shownAnswerC : ℕ → List ℕ → List ℕ → ℕ
-shownAnswerC n state out = cond (bothSized n state out) 0 9
+shownAnswerC n state out = if bothSized n state out then 0 else 9
 
 -- under 9 the buffer stays
 unfoldable pub shownBytes : ℕ → List ℕ → List ℕ → List ℕ → List ℕ
-shownBytes n state new out = cond (bothSized n state out) new out
+shownBytes n state new out = if bothSized n state out then new else out
 
 abbrev pub boardBytesC : List ℕ → List ℕ → List ℕ
 boardBytesC state out = shownBytes boardBytes state (boardBytesOf (boardOf (senderOf state .table))) out

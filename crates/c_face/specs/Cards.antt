@@ -1,12 +1,12 @@
 -- Two circuits on one card (02, 2026-06) for C, in terms of the card's own calls. The state is 858 bytes: the owner row in bytes 0 to 63, then the state of each group's sender.
 -- Any bytes are a card. A state of another length is refused with 9 before all else (at starting 4 comes before it), then a group other than the two with 1, a number that is
 -- no byte with 8, and then the card's own refusals follow.
-use mathlib.Core.Bool.{Bool, cond}
+use mathlib.Core.Bool.{Bool}
 use mathlib.Core.List.{List}
 use Prim.Native.Nat.{ℕ, _+_}
-use lib.Dec.{eqb, ltb}
 use lib.ListN.{getD, length}
 use Rattle.ground.specs.Drawn.{fillAt}
+use Rattle.ground.specs.Plain.{if_then_else_, _==_, _<?_}
 use Rattle.ground.specs.Table.{tabulate}
 use Rattle.circuits.specs.declared.card.Card.{Card}
 use Rattle.circuits.specs.declared.card.CardOutcome.{CardOutcome}
@@ -25,7 +25,7 @@ abbrev pub cardBytes : ℕ
 cardBytes = 858
 
 abbrev pub isCard : List ℕ → Bool
-isCard state = eqb (length state) cardBytes
+isCard state = length state == cardBytes
 
 -- Reading.
 
@@ -34,7 +34,7 @@ ownersIn state = tabulate 64 (λ i. getD state i 0)
 
 -- where a group's part begins: the state of its sender
 abbrev pub partAt : ℕ → ℕ
-partAt g = cond (eqb g 0) 64 461
+partAt g = if g == 0 then 64 else 461
 
 unfoldable pub partIn : ℕ → List ℕ → List ℕ
 partIn g state = tabulate stateBytes (λ k. getD state (partAt g + k) 0)
@@ -57,32 +57,32 @@ putCard c state = putOwn 1 c (putOwn 0 c state)
 
 -- a refusal encodes nothing anew
 abbrev pub keptCard : ℕ → CardOutcome → List ℕ → List ℕ
-keptCard g outcome state = cond (eqb (answerNumber (outcome .answer)) 0) (putOwn g (outcome .card) state) state
+keptCard g outcome state = if answerNumber (outcome .answer) == 0 then putOwn g (outcome .card) state else state
 
 -- Starting: 4, 9, 8. 4 gives two empty groups, where there is room for them; their first epochs have the number 0.
 unfoldable pub startAnswerOn : ℕ → ℕ → ℕ → List ℕ → ℕ
-startAnswerOn count e₀ e₁ state = cond (outside count) 4 (cond (isCard state) (cond (areBytes e₀ e₁ 0) 0 8) 9)
+startAnswerOn count e₀ e₁ state = if outside count then 4 else if isCard state then (if areBytes e₀ e₁ 0 then 0 else 8) else 9
 
 unfoldable pub startStateOn : ℕ → ℕ → ℕ → List ℕ → List ℕ
 startStateOn count e₀ e₁ state =
-    cond (isCard state) (cond (outside count) (putCard (startOf 0 count 0 0 .card) state) (cond (areBytes e₀ e₁ 0) (putCard (startOf 0 count e₀ e₁ .card) state) state)) state
+    if isCard state then (if outside count then putCard (startOf 0 count 0 0 .card) state else if areBytes e₀ e₁ 0 then putCard (startOf 0 count e₀ e₁ .card) state else state) else state
 
 -- 9, then 1 for the group: what a call tests first
 unfoldable pub refusalOf : ℕ → ℕ → ℕ
-refusalOf n g = cond (eqb n cardBytes) (cond (ltb g 2) 0 1) 9
+refusalOf n g = if n == cardBytes then (if g <? 2 then 0 else 1) else 9
 
 abbrev pub behind : List ℕ → ℕ → ℕ → ℕ
-behind state g n = cond (isCard state) (cond (ltb g 2) n 1) 9
+behind state g n = if isCard state then (if g <? 2 then n else 1) else 9
 
 abbrev pub bytesBehind : List ℕ → ℕ → List ℕ → List ℕ → List ℕ
-bytesBehind state g new old = cond (isCard state) (cond (ltb g 2) new old) old
+bytesBehind state g new old = if isCard state then (if g <? 2 then new else old) else old
 
 -- The calls that change a card: 9, 1, 8 where the numbers given do not fit, then the card's own.
 unfoldable pub callAnswerOn : Bool → ℕ → Call → List ℕ → ℕ
-callAnswerOn fits g call state = behind state g (cond fits (answerNumber (outcomeOf (cardOf state) g call .answer)) 8)
+callAnswerOn fits g call state = behind state g (if fits then answerNumber (outcomeOf (cardOf state) g call .answer) else 8)
 
 unfoldable pub callStateOn : Bool → ℕ → Call → List ℕ → List ℕ
-callStateOn fits g call state = bytesBehind state g (cond fits (keptCard g (outcomeOf (cardOf state) g call) state) state) state
+callStateOn fits g call state = bytesBehind state g (if fits then keptCard g (outcomeOf (cardOf state) g call) state else state) state
 
 -- What a slot sends: 9, 1, then the card's own.
 unfoldable pub packetAnswerOn : List ℕ → ℕ → ℕ → List ℕ → ℕ
@@ -99,10 +99,10 @@ payloadBytesOn state g slot p frame member = bytesBehind state g (payloadBytes (
 
 -- The boards, the ranks and which slots the group owns, each whole into one buffer: 9, 1, then 9 for a buffer of another length.
 unfoldable pub shownAnswerOn : ℕ → List ℕ → ℕ → List ℕ → ℕ
-shownAnswerOn n state g out = behind state g (cond (eqb (length out) n) 0 9)
+shownAnswerOn n state g out = behind state g (if length out == n then 0 else 9)
 
 unfoldable pub shownBytesOn : ℕ → List ℕ → ℕ → List ℕ → List ℕ → List ℕ
-shownBytesOn n state g new out = bytesBehind state g (cond (eqb (length out) n) new out) out
+shownBytesOn n state g new out = bytesBehind state g (if length out == n then new else out) out
 
 abbrev pub boardBytesOn : List ℕ → ℕ → List ℕ → List ℕ
 boardBytesOn state g out = shownBytesOn boardBytes state g (boardBytesOf (boardShown (cardOf state) g .board)) out

@@ -1,10 +1,10 @@
 -- The spoken board for C: boards compared, changes applied and spoken. A board is 130 bytes, as the sender's calls show it; changes are 322:
 -- how many there are, the wait (0 same, 1 opened, 2 closed), then slot, old word, old number, new word, new number of each of 64.
-use mathlib.Core.Bool.{Bool, cond, not, _&&_}
+use mathlib.Core.Bool.{Bool, not, _&&_}
 use mathlib.Core.List.{List, [], _∷_}
 use Prim.Native.Nat.{ℕ, _+_, _-_, _*_, _/_, _%_}
-use lib.Dec.{eqb, ltb}
 use lib.ListN.{getD, length}
+use Rattle.ground.specs.Plain.{if_then_else_, _==_, _<?_}
 use Rattle.ground.specs.Table.{tabulate}
 use Rattle.sender.specs.Board.{word}
 use Rattle.sender.specs.declared.board.Board.{Board}
@@ -21,13 +21,13 @@ use Rattle.c_face.specs.Boards.{boardBytes, boardBytesOf}
 use Rattle.c_face.specs.Keeping.{boardIn}
 
 abbrev pub isBoard : List ℕ → Bool
-isBoard bytes = eqb (length bytes) boardBytes
+isBoard bytes = length bytes == boardBytes
 
 abbrev pub changesBytes : ℕ
 changesBytes = 322
 
 abbrev pub areChanges : List ℕ → Bool
-areChanges bytes = eqb (length bytes) changesBytes
+areChanges bytes = length bytes == changesBytes
 
 -- Reading. Any bytes are a board.
 
@@ -44,11 +44,11 @@ unfoldable pub listFrom : List ℕ → List Change
 listFrom bytes = tabulate 64 (changeFrom bytes)
 
 abbrev pub waitFrom : ℕ → WaitChange
-waitFrom byte = cond (eqb byte 1) Opened (cond (eqb byte 2) Closed Same)
+waitFrom byte = if byte == 1 then Opened else if byte == 2 then Closed else Same
 
 -- a wait byte above 2 says nothing that a board could be told
 abbrev pub isWait : List ℕ → Bool
-isWait bytes = ltb (getD bytes 1 0) 3
+isWait bytes = getD bytes 1 0 <? 3
 
 unfoldable pub changesFrom : List ℕ → Changes
 changesFrom bytes = record { list = listFrom bytes; count = getD bytes 0 0; wait = waitFrom (getD bytes 1 0) }
@@ -62,7 +62,7 @@ abbrev pub listByte : List Change → ℕ → ℕ
 listByte list k = getD (changeBytes (changeIn list (k / 5))) (k % 5) 0
 
 unfoldable pub changesByte : Changes → ℕ → ℕ
-changesByte cs k = cond (ltb k 2) (getD (cs .count ∷ waitCode (cs .wait) ∷ []) k 0) (listByte (cs .list) (k - 2))
+changesByte cs k = if k <? 2 then getD (cs .count ∷ waitCode (cs .wait) ∷ []) k 0 else listByte (cs .list) (k - 2)
 
 unfoldable pub changesBytesOf : Changes → List ℕ
 changesBytesOf cs = tabulate changesBytes (changesByte cs)
@@ -71,30 +71,30 @@ changesBytesOf cs = tabulate changesBytes (changesByte cs)
 
 unfoldable pub comparedAnswerC : List ℕ → List ℕ → List ℕ → ℕ
 comparedAnswerC old new out =
-    cond (isBoard old && isBoard new && areChanges out) (answerNumber (comparedOf (boardFrom old) (boardFrom new) .answer)) 9
+    if isBoard old && isBoard new && areChanges out then answerNumber (comparedOf (boardFrom old) (boardFrom new) .answer) else 9
 
 unfoldable pub comparedBytesC : List ℕ → List ℕ → List ℕ → List ℕ
 comparedBytesC old new out =
-    cond (eqb (comparedAnswerC old new out) 0) (changesBytesOf (comparedOf (boardFrom old) (boardFrom new) .changes)) out
+    if comparedAnswerC old new out == 0 then changesBytesOf (comparedOf (boardFrom old) (boardFrom new) .changes) else out
 
 unfoldable pub appliedAnswerC : List ℕ → List ℕ → ℕ
 appliedAnswerC board changes =
-    cond (isBoard board && areChanges changes) (cond (isWait changes) (answerNumber (appliedOf (boardFrom board) (changesFrom changes) .answer)) 2) 9
+    if isBoard board && areChanges changes then (if isWait changes then answerNumber (appliedOf (boardFrom board) (changesFrom changes) .answer) else 2) else 9
 
 unfoldable pub appliedBytesC : List ℕ → List ℕ → List ℕ
 appliedBytesC board changes =
-    cond (eqb (appliedAnswerC board changes) 0) (boardBytesOf (appliedOf (boardFrom board) (changesFrom changes) .board)) board
+    if appliedAnswerC board changes == 0 then boardBytesOf (appliedOf (boardFrom board) (changesFrom changes) .board) else board
 
 abbrev pub roomy : List ℕ → List ℕ → Bool
-roomy changes text = areChanges changes && not (ltb (length text) SPEECH-ROOM)
+roomy changes text = areChanges changes && not (length text <? SPEECH-ROOM)
 
 unfoldable pub spokenAnswerC : List ℕ → List ℕ → ℕ
 spokenAnswerC changes text =
-    cond (roomy changes text) (cond (isWait changes) (answerNumber (speechOf (changesFrom changes) text .answer)) 2) 9
+    if roomy changes text then (if isWait changes then answerNumber (speechOf (changesFrom changes) text .answer) else 2) else 9
 
 unfoldable pub spokenBytesC : List ℕ → List ℕ → List ℕ
-spokenBytesC changes text = cond (roomy changes text && isWait changes) (speechBytes (changesFrom changes) text) text
+spokenBytesC changes text = if roomy changes text && isWait changes then speechBytes (changesFrom changes) text else text
 
 -- how many bytes were written; under a refusal the number stays
 unfoldable pub writtenC : List ℕ → List ℕ → ℕ → ℕ
-writtenC changes text written = cond (eqb (spokenAnswerC changes text) 0) (speechOf (changesFrom changes) text .written) written
+writtenC changes text written = if spokenAnswerC changes text == 0 then speechOf (changesFrom changes) text .written else written

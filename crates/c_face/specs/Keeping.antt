@@ -1,11 +1,10 @@
 -- The sender's state as 397 bytes. Bytes 0 to 127 are the slots' states and numbers in turn, 128 to 255 the words and numbers now going out,
 -- 256 to 383 those that rule, then the fields. Any bytes are a sender: what no call writes is read as said here.
-use mathlib.Core.Bool.{cond}
 use mathlib.Core.List.{List, [], _∷_}
 use Prim.Native.Nat.{ℕ, _+_, _-_, _*_, _/_, _%_}
-use lib.Dec.{eqb, ltb}
 use lib.ListN.{getD}
 use Rattle.ground.specs.Flags.{flagOf, oneIf}
+use Rattle.ground.specs.Plain.{if_then_else_, _==_, _<?_}
 use Rattle.ground.specs.Table.{tabulate}
 use Rattle.sender.specs.Board.{word}
 use Rattle.sender.specs.declared.board.Board.{Board}
@@ -27,7 +26,7 @@ byteIn bytes k = getD bytes k 0
 
 -- a state byte other than 1, 2 and 3 counts as IDLE
 abbrev pub stateOf : ℕ → State
-stateOf code = cond (eqb code 1) Add (cond (eqb code 2) Active (cond (eqb code 3) Dnu Idle))
+stateOf code = if code == 1 then Add else if code == 2 then Active else if code == 3 then Dnu else Idle
 
 abbrev pub codeOf : State → ℕ
 codeOf Idle = 0
@@ -72,13 +71,13 @@ senderOf bytes =
 -- Writing.
 
 abbrev pub slotByte : Slot → ℕ → ℕ
-slotByte s side = cond (eqb side 0) (codeOf (s .state)) (s .number)
+slotByte s side = if side == 0 then codeOf (s .state) else s .number
 
 abbrev pub slotsByte : List Slot → ℕ → ℕ
 slotsByte slots k = slotByte (slotAt slots (k / 2)) (k % 2)
 
 abbrev pub rowByte : Row → ℕ → ℕ
-rowByte r side = cond (eqb side 0) (r .word .0) (r .number)
+rowByte r side = if side == 0 then r .word .0 else r .number
 
 abbrev pub rowsByte : List Row → ℕ → ℕ
 rowsByte rows k = rowByte (rowAt rows (k / 2)) (k % 2)
@@ -102,8 +101,10 @@ fieldBytes s =
 
 unfoldable pub byteAt : Sender → ℕ → ℕ
 byteAt s k =
-    cond (ltb k 128) (slotsByte (s .table .slots) k)
-    (cond (ltb k 256) (rowsByte (s .outgoing .rows) (k - 128)) (cond (ltb k 384) (rowsByte (s .ruling .rows) (k - 256)) (getD (fieldBytes s) (k - 384) 0)))
+    if k <? 128 then slotsByte (s .table .slots) k
+    else if k <? 256 then rowsByte (s .outgoing .rows) (k - 128)
+    else if k <? 384 then rowsByte (s .ruling .rows) (k - 256)
+    else getD (fieldBytes s) (k - 384) 0
 
 unfoldable pub bytesOf : Sender → List ℕ
 bytesOf s = tabulate stateBytes (byteAt s)

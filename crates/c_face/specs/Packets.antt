@@ -1,9 +1,9 @@
 -- The packet's C calls in terms of the packet's own.
-use mathlib.Core.Bool.{Bool, cond, _&&_}
+use mathlib.Core.Bool.{Bool, _&&_}
 use mathlib.Core.List.{List, [], _∷_}
 use Prim.Native.Nat.{ℕ, _/_, _%_, _^_}
-use lib.Dec.{eqb, ltb}
 use lib.ListN.{length}
+use Rattle.ground.specs.Plain.{if_then_else_, _==_, _<?_}
 use Rattle.packet.specs.declared.layout.Fields.{Fields}
 use Rattle.packet.specs.declared.reader.Reading.{Reading}
 use Rattle.packet.specs.declared.reader.Reading.the-variants.{Packet, Length, Crc, Fixed, Unassigned}
@@ -26,7 +26,7 @@ writeBytesC epoch word gid mst ack sq reserved h4 = writeBytes (given epoch word
 
 -- Reading for C: the fields go into ten lent bytes, of which another number is refused with 9 before all else.
 unfoldable pub readAnswerC : List ℕ → List ℕ → ℕ
-readAnswerC h4 fields = cond (eqb (length fields) 10) (readingNumber (readAnswer h4)) 9
+readAnswerC h4 fields = if length fields == 10 then readingNumber (readAnswer h4) else 9
 
 -- a packet's values, of the reserved bits four bytes, the highest first
 abbrev pub valuesIn : Fields → List ℕ
@@ -52,7 +52,7 @@ valuesOr Fixed fields = fields
 valuesOr Unassigned fields = fields
 
 unfoldable pub readFieldsC : List ℕ → List ℕ → List ℕ
-readFieldsC h4 fields = cond (eqb (length fields) 10) (valuesOr (readAnswer h4) fields) fields
+readFieldsC h4 fields = if length fields == 10 then valuesOr (readAnswer h4) fields else fields
 
 -- Of a fixed group (request 2026-12), by the same lent bytes.
 
@@ -60,15 +60,15 @@ abbrev pub writeFixedAnswerC : ℕ → ℕ → List ℕ → ℕ
 writeFixedAnswerC epoch sq h4 = writingNumber (writeFixedAnswer epoch sq h4)
 
 unfoldable pub readFixedAnswerC : List ℕ → List ℕ → ℕ
-readFixedAnswerC h4 fields = cond (eqb (length fields) 10) (readingNumber (readFixedAnswer h4)) 9
+readFixedAnswerC h4 fields = if length fields == 10 then readingNumber (readFixedAnswer h4) else 9
 
 unfoldable pub readFixedFieldsC : List ℕ → List ℕ → List ℕ
-readFixedFieldsC h4 fields = cond (eqb (length fields) 10) (valuesOr (readFixedAnswer h4) fields) fields
+readFixedFieldsC h4 fields = if length fields == 10 then valuesOr (readFixedAnswer h4) fields else fields
 
 -- for the functions behind the calls
 abbrev pub areBytes : ℕ → ℕ → ℕ → ℕ → ℕ → ℕ → Bool
-areBytes epoch word gid mst ack sq = ltb epoch 256 && ltb word 256 && ltb gid 256 && ltb mst 256 && ltb ack 256 && ltb sq 256
+areBytes epoch word gid mst ack sq = epoch <? 256 && word <? 256 && gid <? 256 && mst <? 256 && ack <? 256 && sq <? 256
 
 -- the packet is H4's, whose kind is 0
 abbrev pub writeRefusal : ℕ → ℕ
-writeRefusal n = cond (eqb n (frames 0)) 8 9
+writeRefusal n = if n == frames 0 then 8 else 9

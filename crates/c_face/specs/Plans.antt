@@ -1,10 +1,9 @@
 -- The planner and the check for C: their own answer, then 9 where the result's buffer has another length. Under a refusal the buffer stays.
-use mathlib.Core.Bool.{cond}
 use mathlib.Core.List.{List, [], _∷_}
 use Prim.Native.Nat.{ℕ}
-use lib.Dec.{eqb}
 use lib.ListN.{length}
 use Rattle.ground.specs.Flags.{oneIf}
+use Rattle.ground.specs.Plain.{if_then_else_, _==_}
 use Rattle.paths.specs.Answers.{answerOf, numberOf}
 use Rattle.paths.specs.Checking.{checkedOf}
 use Rattle.paths.specs.declared.planning.Proposal.{Proposal}
@@ -15,10 +14,10 @@ abbrev pub planBytesOf : Proposal → List ℕ
 planBytesOf p = p .count ∷ p .paths
 
 unfoldable pub lentAnswer : ℕ → ℕ → List ℕ → ℕ
-lentAnswer number size out = cond (eqb number 0) (cond (eqb (length out) size) 0 9) number
+lentAnswer number size out = if number == 0 then (if length out == size then 0 else 9) else number
 
 unfoldable pub lentBytes : ℕ → ℕ → List ℕ → List ℕ → List ℕ
-lentBytes number size new out = cond (eqb number 0) (cond (eqb (length out) size) new out) out
+lentBytes number size new out = if number == 0 then (if length out == size then new else out) else out
 
 abbrev pub planAnswerC : List ℕ → ℕ → ℕ → List ℕ → ℕ
 planAnswerC delays k W out = lentAnswer (numberOf (answerOf delays k W)) 65 out

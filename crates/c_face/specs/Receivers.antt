@@ -1,19 +1,19 @@
 -- The receiver's C calls are the receiver's own. A frame is flagged as failed by any number but 0.
-use mathlib.Core.Bool.{Bool, cond, not}
+use mathlib.Core.Bool.{Bool, not}
 use mathlib.Core.List.{List}
 use Prim.Native.Nat.{ℕ}
-use lib.Dec.{eqb, ltb}
+use Rattle.ground.specs.Plain.{if_then_else_, _==_, _<?_}
 use Rattle.receiver.specs.Starting.{startAsAnswer, startAsRows}
 
 abbrev pub failedC : ℕ → Bool
-failedC failed = not (eqb failed 0)
+failedC failed = not (failed == 0)
 
 -- A start says of which kind its packets are: H4, or FIXED (request 2026-12). Any other is out of range: 4, and an empty group. A number that is no byte names no kind, as 255 doesn't.
 abbrev pub H4 : ℕ
 H4 = 0
 
 abbrev pub kindC : ℕ → ℕ
-kindC kind = cond (ltb kind 256) kind 255
+kindC kind = if kind <? 256 then kind else 255
 
 abbrev pub startAsAnswerC : ℕ → ℕ → ℕ → ℕ → ℕ → List ℕ → List ℕ → ℕ → ℕ
 startAsAnswerC kind ports P W store hold restore rows = startAsAnswer (kindC kind) ports P W store hold restore rows

@@ -1,10 +1,10 @@
 -- A group by itself: what each of its calls gives back and leaves, from its view, the call and, for a claim alone, one bit: the other owns the slot asked for.
-use mathlib.Core.Bool.{Bool, true, false, cond, _||_}
+use mathlib.Core.Bool.{Bool, true, false, _||_}
 use mathlib.Core.List.{List, [], _∷_}
 use Prim.Native.Nat.{ℕ}
-use lib.Dec.{eqb, ltb}
 use lib.ListN.{getD, length}
 use Rattle.ground.specs.Flags.{oneIf}
+use Rattle.ground.specs.Plain.{if_then_else_, _==_, _<?_}
 use Rattle.ground.specs.Table.{tabulate}
 use Rattle.sender.specs.Board.{boardOf}
 use Rattle.sender.specs.Calls.{Call as T}
@@ -21,13 +21,13 @@ use Rattle.circuits.specs.Views.Asked.{Do, Packet, Payload, Board, Outgo
 use Rattle.circuits.specs.Views.Reply.{Answered, Wrote, Showed, Ranked, Owns}
 
 abbrev pub slotIn : View → ℕ → Bool
-slotIn v i = ltb i (sizeOf (v .sender .table .count))
+slotIn v i = i <? sizeOf (v .sender .table .count)
 
 abbrev pub ownIn : View → ℕ → Bool
 ownIn v i = getD (v .owned) i false
 
 abbrev pub withOwn : View → ℕ → Bool → View
-withOwn v i b = record { sender = v .sender; owned = tabulate 64 (λ j. cond (eqb j i) b (ownIn v j)) }
+withOwn v i b = record { sender = v .sender; owned = tabulate 64 (λ j. if j == i then b else ownIn v j) }
 
 -- what a call leaves and answers
 pub record Seen : Type 0 where
@@ -38,13 +38,13 @@ abbrev pub seen : View → Answer → Seen
 seen v a = record { view = v; answer = a }
 
 abbrev pub claimSeen : View → ℕ → Bool → Seen
-claimSeen v i taken = cond (slotIn v i) (cond (ownIn v i || taken) (seen v A.Owned) (seen (withOwn v i true) A.Done)) (seen v A.NoSlot)
+claimSeen v i taken = if slotIn v i then (if ownIn v i || taken then seen v A.Owned else seen (withOwn v i true) A.Done) else seen v A.NoSlot
 
 abbrev pub ownSeen : View → ℕ → Seen → Seen
-ownSeen v i r = cond (slotIn v i) (cond (ownIn v i) r (seen v A.Owned)) (seen v A.NoSlot)
+ownSeen v i r = if slotIn v i then (if ownIn v i then r else seen v A.Owned) else seen v A.NoSlot
 
 abbrev pub releaseSeen : View → ℕ → Seen
-releaseSeen v i = ownSeen v i (cond (isMember (slotAt (v .sender .table .slots) i .state)) (seen v A.Used) (seen (withOwn v i false) A.Done))
+releaseSeen v i = ownSeen v i (if isMember (slotAt (v .sender .table .slots) i .state) then seen v A.Used else seen (withOwn v i false) A.Done)
 
 abbrev pub sentSeen : View → S → Seen
 sentSeen v k = let r = senderOutcomeOf (v .sender) k in seen (record { sender = r .sender; owned = v .owned }) (fromSender (r .answer))
@@ -60,10 +60,10 @@ outcomeSeen v (StartEpoch gid mst ack) taken = sentSeen v (S.StartEpoch gid mst 
 
 -- of a slot that is the group's own
 abbrev pub ownAnswer : View → ℕ → Answer → Answer
-ownAnswer v i a = cond (slotIn v i) (cond (ownIn v i) a A.Owned) A.NoSlot
+ownAnswer v i a = if slotIn v i then (if ownIn v i then a else A.Owned) else A.NoSlot
 
 abbrev pub ownBytes : View → ℕ → List ℕ → List ℕ → List ℕ
-ownBytes v i new old = cond (slotIn v i) (cond (ownIn v i) new old) old
+ownBytes v i new old = if slotIn v i then (if ownIn v i then new else old) else old
 
 abbrev pub replySeen : View → Asked → Bool → Reply
 replySeen v (Do k) taken = Answered (outcomeSeen v k taken .answer)

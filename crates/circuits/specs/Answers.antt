@@ -1,7 +1,6 @@
 -- The answers (02, 2026-06): '14, slot owned by another group, or on claim already owned by anyone; 15, release of a slot that isn't IDLE'.
-use mathlib.Core.Bool.{cond}
 use Prim.Native.Nat.{ℕ}
-use lib.Dec.{ltb}
+use Rattle.ground.specs.Plain.{if_then_else_, _<?_}
 use Rattle.sender.specs.declared.table.Answer as S
 use Rattle.circuits.specs.declared.answers.Answer.{Answer}
 use Rattle.circuits.specs.declared.answers.Answer.the-variants.{Done, NoSlot, NotAllowed, WaitOpen, OutOfRange, Field, Length, Owned, Used}
@@ -29,4 +28,4 @@ fromSender S.Answer.Length = Length
 
 -- 'a group other than the two is 1'
 abbrev pub groupAnswer : ℕ → Answer
-groupAnswer g = cond (ltb g 2) Done NoSlot
+groupAnswer g = if g <? 2 then Done else NoSlot

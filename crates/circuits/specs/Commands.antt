@@ -1,8 +1,7 @@
 -- Start, claim and release, and what the other calls ask first (02, 2026-06): 'order 1, 14, 15, 3, 2'.
-use mathlib.Core.Bool.{cond}
 use Prim.Native.Nat.{ℕ}
-use lib.Dec.{ltb}
 use lib.ListN.{replicate}
+use Rattle.ground.specs.Plain.{if_then_else_, _<?_}
 use Rattle.sender.specs.Epochs.{SenderCall, beginOf, senderOutcomeOf}
 use Rattle.circuits.specs.declared.answers.Answer.the-variants.{NoSlot, Owned, Used}
 use Rattle.circuits.specs.declared.card.Card.{Card}
@@ -21,15 +20,15 @@ startOf kind count e₀ e₁ =
 
 -- '14, .. on claim already owned by anyone', also by the group itself
 unfoldable pub claimOf : Card → ℕ → ℕ → CardOutcome
-claimOf c g i = cond (isSlot c g i) (cond (hasOwner (c .owners) i) (refused c Owned) (marked c i (markOf g))) (refused c NoSlot)
+claimOf c g i = if isSlot c g i then (if hasOwner (c .owners) i then refused c Owned else marked c i (markOf g)) else refused c NoSlot
 
 -- 1, then 14: 'slot owned by another group', and 'A command on a slot nobody owns is 14'
 abbrev pub ofOwn : Card → ℕ → ℕ → CardOutcome → CardOutcome
-ofOwn c g i r = cond (isSlot c g i) (cond (owns c g i) r (refused c Owned)) (refused c NoSlot)
+ofOwn c g i r = if isSlot c g i then (if owns c g i then r else refused c Owned) else refused c NoSlot
 
 -- '15, release of a slot that isn't IDLE'
 unfoldable pub releaseOf : Card → ℕ → ℕ → CardOutcome
-releaseOf c g i = ofOwn c g i (cond (isUsed c g i) (refused c Used) (marked c i 0))
+releaseOf c g i = ofOwn c g i (if isUsed c g i then refused c Used else marked c i 0)
 
 abbrev pub sentOf : Card → ℕ → SenderCall → CardOutcome
 sentOf c g k = groupOutcome c g (senderOutcomeOf (senderOf c g) k)
@@ -40,4 +39,4 @@ commandOf c g i k = ofOwn c g i (sentOf c g k)
 
 -- a call on the whole group: 1 for the group, then as the sender has it
 unfoldable pub groupCallOf : Card → ℕ → SenderCall → CardOutcome
-groupCallOf c g k = cond (ltb g 2) (sentOf c g k) (refused c NoSlot)
+groupCallOf c g k = if g <? 2 then sentOf c g k else refused c NoSlot

@@ -1,7 +1,7 @@
 -- A group's part of the card, and what is asked of a slot before the sender's own calls (02, 2026-06).
-use mathlib.Core.Bool.{Bool, cond, _&&_}
+use mathlib.Core.Bool.{Bool, _&&_}
 use Prim.Native.Nat.{ℕ}
-use lib.Dec.{eqb, ltb}
+use Rattle.ground.specs.Plain.{if_then_else_, _==_, _<?_}
 use Rattle.sender.specs.declared.epochs.Sender.{Sender}
 use Rattle.sender.specs.declared.epochs.SenderOutcome.{SenderOutcome}
 use Rattle.sender.specs.Epochs.{beginOf}
@@ -15,22 +15,22 @@ use Rattle.circuits.specs.Owners.{isMarked, withOwner}
 
 -- groups are 0 and 1
 unfoldable pub senderOf : Card → ℕ → Sender
-senderOf c g = cond (eqb g 0) (c .first) (c .second)
+senderOf c g = if g == 0 then c .first else c .second
 
 unfoldable pub withSender : Card → ℕ → Sender → Card
 withSender c g s =
-    cond (eqb g 0) (record { owners = c .owners; first = s; second = c .second }) (record { owners = c .owners; first = c .first; second = s })
+    if g == 0 then (record { owners = c .owners; first = s; second = c .second }) else (record { owners = c .owners; first = c .first; second = s })
 
 -- what no group is shown
 unfoldable pub emptySender : Sender
 emptySender = beginOf 0 0 0 .sender
 
 unfoldable pub shownSender : Card → ℕ → Sender
-shownSender c g = cond (ltb g 2) (senderOf c g) emptySender
+shownSender c g = if g <? 2 then senderOf c g else emptySender
 
 -- 1: 'a group other than the two', or a slot not below that group's own count
 unfoldable pub isSlot : Card → ℕ → ℕ → Bool
-isSlot c g i = ltb g 2 && ltb i (sizeOf (senderOf c g .table .count))
+isSlot c g i = g <? 2 && i <? sizeOf (senderOf c g .table .count)
 
 unfoldable pub owns : Card → ℕ → ℕ → Bool
 owns c g i = isMarked (c .owners) g i

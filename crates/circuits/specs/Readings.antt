@@ -1,7 +1,8 @@
 -- What is read of a group: packets and payload of its own slots, its boards and ranks of all slots, and which slots it owns.
-use mathlib.Core.Bool.{cond, _&&_}
+use mathlib.Core.Bool.{_&&_}
 use mathlib.Core.List.{List}
 use Prim.Native.Nat.{ℕ}
+use Rattle.ground.specs.Plain.{if_then_else_}
 use Rattle.sender.specs.Board.{boardOf}
 use Rattle.sender.specs.Epochs as E
 use Rattle.circuits.specs.declared.answers.Answer.{Answer}
@@ -16,16 +17,16 @@ use Rattle.circuits.specs.Parts.{isSlot, owns, senderOf, shownSender}
 
 -- 1, 14, then as the sender has it
 unfoldable pub packetAnswer : Card → ℕ → ℕ → List ℕ → Answer
-packetAnswer c g i h4 = cond (isSlot c g i) (cond (owns c g i) (fromSender (E.packetAnswer (senderOf c g) i h4)) Owned) NoSlot
+packetAnswer c g i h4 = if isSlot c g i then (if owns c g i then fromSender (E.packetAnswer (senderOf c g) i h4) else Owned) else NoSlot
 
 unfoldable pub packetBytes : Card → ℕ → ℕ → List ℕ → List ℕ
-packetBytes c g i h4 = cond (isSlot c g i && owns c g i) (E.packetBytes (senderOf c g) i h4) h4
+packetBytes c g i h4 = if isSlot c g i && owns c g i then E.packetBytes (senderOf c g) i h4 else h4
 
 unfoldable pub payloadAnswer : Card → ℕ → ℕ → ℕ → ℕ → ℕ → Answer
-payloadAnswer c g i P frame member = cond (isSlot c g i) (cond (owns c g i) (fromSender (E.payloadAnswer (senderOf c g) i P frame member)) Owned) NoSlot
+payloadAnswer c g i P frame member = if isSlot c g i then (if owns c g i then fromSender (E.payloadAnswer (senderOf c g) i P frame member) else Owned) else NoSlot
 
 unfoldable pub payloadBytes : Card → ℕ → ℕ → ℕ → List ℕ → List ℕ → List ℕ
-payloadBytes c g i P frame member = cond (isSlot c g i && owns c g i) (E.payloadBytes (senderOf c g) i P frame member) member
+payloadBytes c g i P frame member = if isSlot c g i && owns c g i then E.payloadBytes (senderOf c g) i P frame member else member
 
 -- nothing is masked: in the table now a slot that the group does not own is IDLE
 unfoldable pub boardShown : Card → ℕ → BoardOutcome

@@ -1,9 +1,9 @@
 -- What one group sees of the card, and its calls with what each gives back: 'For any calls, what one group is answered and what its board shows depend on its own calls and on which slots the other holds, and on nothing else.' (02, 2026-06)
-use mathlib.Core.Bool.{Bool, false, cond}
+use mathlib.Core.Bool.{Bool, false}
 use mathlib.Core.List.{List, [], _∷_}
 use Prim.Native.Nat.{ℕ, _-_}
-use lib.Dec.{eqb}
 use lib.ListN.{length}
+use Rattle.ground.specs.Plain.{if_then_else_, _==_}
 use Rattle.ground.specs.Table.{tabulate}
 use Rattle.sender.specs.declared.epochs.Sender.{Sender}
 use Rattle.circuits.specs.declared.answers.Answer.{Answer}
@@ -88,14 +88,14 @@ run c (m ∷ ms) = run (cardAfter c (m .group) (m .asked)) ms
 -- of a list of calls: those of g, what it is given back, and its bits, in their order
 abbrev pub askedBy : ℕ → List Made → List Asked
 askedBy g [] = []
-askedBy g (m ∷ ms) = cond (eqb (m .group) g) (m .asked ∷ askedBy g ms) (askedBy g ms)
+askedBy g (m ∷ ms) = if m .group == g then m .asked ∷ askedBy g ms else askedBy g ms
 
 abbrev pub repliesTo : ℕ → Card → List Made → List Reply
 repliesTo g c [] = []
 repliesTo g c (m ∷ ms) =
-    let rest = repliesTo g (cardAfter c (m .group) (m .asked)) ms in cond (eqb (m .group) g) (replyTo c g (m .asked) ∷ rest) rest
+    let rest = repliesTo g (cardAfter c (m .group) (m .asked)) ms in if m .group == g then replyTo c g (m .asked) ∷ rest else rest
 
 abbrev pub bitsOf : ℕ → Card → List Made → List Bool
 bitsOf g c [] = []
 bitsOf g c (m ∷ ms) =
-    let rest = bitsOf g (cardAfter c (m .group) (m .asked)) ms in cond (eqb (m .group) g) (bitOf c g (m .asked) ∷ rest) rest
+    let rest = bitsOf g (cardAfter c (m .group) (m .asked)) ms in if m .group == g then bitOf c g (m .asked) ∷ rest else rest

@@ -1,10 +1,10 @@
 -- Wrong readings of request 2026-06, each as a definition with a run on which it breaks what the request says.
 use mathlib.Core.Path.{_≡_, refl}
-use mathlib.Core.Bool.{cond}
 use mathlib.Core.List.{List, [], _∷_}
 use Prim.Native.Nat.{ℕ, _+_, _<_}
 use native.Mathlib.Omega.{arith}
 use lib.ListN.{set}
+use Rattle.ground.specs.Plain.{if_then_else_}
 use Rattle.packet.specs.Kinds.{idleNumber}
 use Rattle.sender.specs.declared.table.State.the-variants.{Add}
 use Rattle.sender.specs.declared.table.Table.{Table}
@@ -46,7 +46,7 @@ number-breaks = (λ d. let h : 1 < 1 = d .last 1 (omega arith) refl in omega ari
 
 -- 3 before 14: with a wait open, a group would be told of its wait on a slot that is not its own. 'order 1, 14, 15, 3, 2'
 wrong-order : Card → ℕ → ℕ → Answer
-wrong-order c g i = cond (senderOf c g .table .wait) WaitOpen (cond (owns c g i) Done Owned)
+wrong-order c g i = if senderOf c g .table .wait then WaitOpen else if owns c g i then Done else Owned
 
 order-breaks :
     (answerNumber (wrong-order (after 2 (shared (by 0 (AddSlot 0) ∷ by 0 (RemoveSlot 0) ∷ []))) 0 1) ≡ 3)
@@ -56,7 +56,7 @@ order-breaks = (refl, refl)
 
 -- A claim of one's own slot answered 0. 'on claim already owned by anyone'
 wrong-claim : Card → ℕ → ℕ → Answer
-wrong-claim c g i = cond (owns c g i) Done (cond (hasOwner (c .owners) i) Owned Done)
+wrong-claim c g i = if owns c g i then Done else if hasOwner (c .owners) i then Owned else Done
 
 claim-breaks : (answerNumber (wrong-claim (after 2 (shared [])) 0 0) ≡ 0) × (told 2 (shared []) 0 (Claim 0) ≡ 14)
 unfolding wrong-claim withOwner senderOf isSlot owns marked startOf claimOf beginOf freshSender T.startOf freshOf idleSlot idleNumber sizeOf
@@ -64,7 +64,7 @@ claim-breaks = (refl, refl)
 
 -- Nobody's slot answered 2, and the other's 14: then an add tells what the other holds. 'A claim is the one answer through which the other's holdings show.'
 wrong-nobody : Card → ℕ → ℕ → Answer
-wrong-nobody c g i = cond (owns c g i) Done (cond (hasOwner (c .owners) i) Owned NotAllowed)
+wrong-nobody c g i = if owns c g i then Done else if hasOwner (c .owners) i then Owned else NotAllowed
 
 nobody-breaks :
     (answerNumber (wrong-nobody (after 2 (by 0 (Claim 0) ∷ [])) 0 1) ≡ 2)

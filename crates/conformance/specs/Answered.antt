@@ -1,11 +1,11 @@
 -- What 10 and 12 mean on any state: 'port recorded unreadable, its step lost', and 'port not in step after this frame', whatever follows from the frame for all ports.
 use mathlib.Core.Path.{_≡_, refl, ap, _∙_}
-use mathlib.Core.Bool.{Bool, true, false, cond, not, _&&_, _||_}
+use mathlib.Core.Bool.{Bool, true, false, not, _&&_, _||_}
 use mathlib.Core.List.{List}
 use Prim.Native.Nat.{ℕ, _≤_, _<_}
 use native.Mathlib.Omega.{arith}
-use lib.Dec.{eqb, ltb}
 use lib.ListN.{length}
+use Rattle.ground.specs.Plain.{if_then_else_, _==_, _<?_}
 use Rattle.ground.specs.Truth.{cond-by}
 use Rattle.packet.specs.Kinds.{frames}
 use Rattle.phases.specs.Beginning.{begins}
@@ -116,15 +116,15 @@ module _ (s : List (List ℕ)) (i : ℕ) (failed : Bool) (h : ℕ) (payload stor
   -- a frame answered 10 or 12 is neither 1 nor 9, and was so decided
   decided : (a : ℕ) → 9 < a → frameAnswer s i failed h (length payload) (length store) ≡ a → (frameRefusal s i (length payload) (length store) ≡ 0) × (t .answer ≡ a)
   unfolding frameAnswer refusalBy
-  decided a big e = go (ltb i (portsIn (groupAt s))) (frameFits (groupAt s) (portsIn (groupAt s)) (length s) (length payload) (length store)) e
+  decided a big e = go (i <? portsIn (groupAt s)) (frameFits (groupAt s) (portsIn (groupAt s)) (length s) (length payload) (length store)) e
     where
-      go : (b f : Bool) → cond (eqb (cond b (cond f 0 9) 1) 0) (takenIn s i failed h .answer) (cond b (cond f 0 9) 1) ≡ a → (_≡_ {A = ℕ} (cond b (cond f 0 9) 1) 0) × (takenIn s i failed h .answer ≡ a)
+      go : (b f : Bool) → (if (if b then (if f then 0 else 9) else 1) == 0 then takenIn s i failed h .answer else if b then (if f then 0 else 9) else 1) ≡ a → (_≡_ {A = ℕ} (if b then (if f then 0 else 9) else 1) 0) × (takenIn s i failed h .answer ≡ a)
       go true true e = (refl, e)
       go true false e = absurd (omega arith)
       go false f e = absurd (omega arith)
 
   -- the rows after such a frame: what follows for all ports on the port's own rows
-  rows-are : (a : ℕ) → eqb a 11 ≡ false → frameRefusal s i (length payload) (length store) ≡ 0 → t .answer ≡ a
+  rows-are : (a : ℕ) → (a == 11) ≡ false → frameRefusal s i (length payload) (length store) ≡ 0 → t .answer ≡ a
       → frameRows s i failed h payload store ≡ settledBy (t .settles) n (storeBy g i t h payload store) (portRows (g .kind) s i t h)
   unfolding frameRows takenRows
   rows-are a d r e = rw (r, e, d) refl
@@ -159,7 +159,7 @@ module _ (s : List (List ℕ)) (i : ℕ) (failed : Bool) (h : ℕ) (payload stor
       (settled-sizes (portsIn (groupAt s)) after a (rw long (omega arith)) .kind ∙ kind) w)
       (λ e. finish flag a own kind w)
 
-  out : (a flag : ℕ) → 9 < a → eqb a 11 ≡ false → (takenIn s i failed h .answer ≡ a → (inStepAt (groupAt s .kind) (takenIn s i failed h .step .count) ≡ false) × (takenIn s i failed h .step .failed ≡ flag))
+  out : (a flag : ℕ) → 9 < a → (a == 11) ≡ false → (takenIn s i failed h .answer ≡ a → (inStepAt (groupAt s .kind) (takenIn s i failed h .step .count) ≡ false) × (takenIn s i failed h .step .failed ≡ flag))
       → frameAnswer s i failed h (length payload) (length store) ≡ a → OutOfStep (frameRows s i failed h payload store) i flag
   out a flag big d tells e =
       let q = decided a big e in

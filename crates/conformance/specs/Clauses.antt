@@ -25,13 +25,13 @@ pub mod Spoken
 pub mod Texts
 pub mod Verdicts
 use mathlib.Core.Path.{_≡_, refl}
-use mathlib.Core.Bool.{Bool, true, false, cond}
+use mathlib.Core.Bool.{Bool, true, false}
 use mathlib.Core.List.{List, [], _∷_, _++_}
 use Prim.Native.Nat.{ℕ, _+_, _≤_, _<_}
 use native.Mathlib.Omega.{arith}
-use lib.Dec.{ltb}
 use lib.ListN.{length, take}
 use borrow.Author.Tests.{le-leb, le-ltb, lt-leb, lt-ltb, ne-eqb}
+use Rattle.ground.specs.Plain.{if_then_else_, _<?_}
 use Rattle.bytes.specs.Bytes.{indexOf}
 use Rattle.c_face.specs.Orders.{commandAnswerOn, commandStateOn, kindAnswerOn, kindStateOn}
 use Rattle.circuits.specs.Answers.{answerNumber}
@@ -72,7 +72,7 @@ use Rattle.text.specs.Text.{LINE-END}
 use Rattle.text.specs.Text.{fieldsOf as fieldsIn}
 
 abbrev flag : Bool → ℕ
-flag b = cond b 1 0
+flag b = if b then 1 else 0
 
 -- The receiver's own count (request 2026-04).
 
@@ -170,12 +170,12 @@ unfolding lineRecord
 line-above ports size at next line b = rw (lt-leb (length line) 8192 b)
 
 -- one that has no end yet, and so may still be a line or not
-pub open-within : (ports size at : ℕ) (rest : List ℕ) → 0 < length rest → length rest ≤ 8192 → ltb (indexOf LINE-END rest) (length rest) ≡ false
+pub open-within : (ports size at : ℕ) (rest : List ℕ) → 0 < length rest → length rest ≤ 8192 → (indexOf LINE-END rest <? length rest) ≡ false
     → recordIn ports size at rest ≡ Unfinished
 unfolding recordIn foundOf
 open-within ports size at rest some b e = rw (ne-eqb (length rest) 0 (λ z. omega arith), e, le-ltb 8192 (length rest) b)
 
-pub open-above : (ports size at : ℕ) (rest : List ℕ) → 8192 < length rest → ltb (indexOf LINE-END rest) (length rest) ≡ false → recordIn ports size at rest ≡ Long
+pub open-above : (ports size at : ℕ) (rest : List ℕ) → 8192 < length rest → (indexOf LINE-END rest <? length rest) ≡ false → recordIn ports size at rest ≡ Long
 unfolding recordIn foundOf
 open-above ports size at rest b e = rw (ne-eqb (length rest) 0 (λ z. omega arith), e, lt-ltb 8192 (length rest) b)
 

@@ -1,12 +1,12 @@
 -- Demand 1 for one call of an entry point: the answer is the first of 01's numbers, in 01's order, whose condition holds, and what is left and returned is what 01 says under that number.
 use mathlib.Core.Path.{_≡_, _∙_, refl, sym}
-use mathlib.Core.Bool.{Bool, true, false, cond, not, _||_, false≢true}
+use mathlib.Core.Bool.{Bool, true, false, not, _||_, false≢true}
 use mathlib.Core.List.{List, [], _∷_}
 use Prim.Native.Nat.{ℕ}
 use Prim.Native.String.{String}
 use native.Mathlib.Omega.{arith}
-use lib.Dec.{eqb}
 use borrow.Author.Tests.{ne-eqb}
+use Rattle.ground.specs.Plain.{if_then_else_, _==_}
 use Rattle.ground.specs.Truth.{cond-by}
 
 -- a number of 01, and the condition under which it is given or not given
@@ -17,8 +17,8 @@ pub data Refusal : Type 0 where
 -- the first number whose condition holds, 0 where none does
 abbrev pub first : List Refusal → ℕ
 first [] = 0
-first (If n b ∷ rs) = cond b n (first rs)
-first (Unless n b ∷ rs) = cond b (first rs) n
+first (If n b ∷ rs) = if b then n else first rs
+first (Unless n b ∷ rs) = if b then first rs else n
 
 -- A call: 01's refusals in 01's order at its arguments, and what its contract promises of the answer, of each lent slice and of the state.
 pub record Call : Type 1 where
@@ -42,7 +42,7 @@ stateful {S} rs answer lent left given returned empty =
 
 -- 'state as given' is returned under every number but 0, 4, 10 and 12
 abbrev pub keepsState : ℕ → Bool
-keepsState n = not (eqb n 0 || eqb n 4 || eqb n 10 || eqb n 12)
+keepsState n = not (n == 0 || n == 4 || n == 10 || n == 12)
 
 -- what 01 says under the number n: 'Lent bytes change only under 0', the state, and under 4 'an empty group'
 pub record Under (c : Call) (n : ℕ) : Type 0 where
@@ -83,7 +83,7 @@ choice false A B = B
 -- what is to be shown where the call is refused with n
 abbrev pub Refused : Call → ℕ → Type 0
 Refused c n =
-    (c .answer ≡ n) × (c .left ≡ c .lent) × choice (keepsState n) (c .returned ≡ c .given) (choice (eqb n 4) (c .returned ≡ c .empty) (Unit {0}))
+    (c .answer ≡ n) × (c .left ≡ c .lent) × choice (keepsState n) (c .returned ≡ c .given) (choice (n == 4) (c .returned ≡ c .empty) (Unit {0}))
 
 pub refused : (c : Call) (n : ℕ) → Refused c n → Under c n
 refused c n r = record { answers = r .0; untouched = λ d. r .1; as-given = λ k. rw k at (r .2); emptied = λ e. rw e at (r .2) }
@@ -110,25 +110,25 @@ answers-alone rs n e = record { answers = e; untouched = λ d. refl; as-given = 
 
 -- a call behind a test of its own: the number m unless it holds, then what the call behind it does with its lent slice
 pub behind : (m : ℕ) (b : Bool) (rs : List Refusal) (n : ℕ) (new old : List ℕ) → Copes (stateless rs n (old ∷ []) (new ∷ []))
-    → Copes (stateless (Unless m b ∷ rs) (cond b n m) (old ∷ []) (cond b new old ∷ []))
+    → Copes (stateless (Unless m b ∷ rs) (if b then n else m) (old ∷ []) ((if b then new else old) ∷ []))
 behind m true rs n new old c = record { answers = c .answers; untouched = c .untouched; as-given = c .as-given; emptied = c .emptied }
 behind m false rs n new old c = record { answers = refl; untouched = λ d. refl; as-given = λ k. refl; emptied = λ f. refl }
 
 -- the same of a call with a state
 pub tested : {S : Type 0} (m : ℕ) (b : Bool) (rs : List Refusal) (n : ℕ) (new old : S) → Copes (stateful rs n [] [] old new old)
-    → Copes (stateful (Unless m b ∷ rs) (cond b n m) [] [] old (cond b new old) old)
+    → Copes (stateful (Unless m b ∷ rs) (if b then n else m) [] [] old (if b then new else old) old)
 tested m true rs n new old c = record { answers = c .answers; untouched = c .untouched; as-given = c .as-given; emptied = c .emptied }
 tested m false rs n new old c = record { answers = refl; untouched = λ d. refl; as-given = λ k. refl; emptied = λ f. refl }
 
 -- a state that is put anew under 0 alone
-pub put-anew : (rs : List Refusal) (n : ℕ) (new old : List ℕ) → n ≡ first rs → Copes (stateful rs n [] [] old (cond (eqb n 0) new old) old)
+pub put-anew : (rs : List Refusal) (n : ℕ) (new old : List ℕ) → n ≡ first rs → Copes (stateful rs n [] [] old (if n == 0 then new else old) old)
 put-anew rs n new old e =
     record { answers = e; untouched = λ d. refl; as-given = λ k. stays (λ z. false≢true (rw (sym e ∙ z) at k)); emptied = λ f. stays (λ z. omega arith) }
   where
-    stays : (n ≡ 0 → ⊥) → cond (eqb n 0) new old ≡ old
+    stays : (n ≡ 0 → ⊥) → (if n == 0 then new else old) ≡ old
     stays d = rw (ne-eqb n 0 d)
 
 -- a choice between a thing and itself
-pub either : {A : Type 0} (b : Bool) (x : A) → cond b x x ≡ x
+pub either : {A : Type 0} (b : Bool) (x : A) → (if b then x else x) ≡ x
 either true x = refl
 either false x = refl

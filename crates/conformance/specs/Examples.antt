@@ -1,6 +1,5 @@
 -- 01's examples, marked P1 to P11, its limits, examples worked out apart for what those leave open, and those of requests that have landed, in one table under one statement. Bytes stand in hexadecimal, as 01 has them.
 use mathlib.Core.Path.{refl}
-use mathlib.Core.Bool.{cond}
 use mathlib.Core.List.{List, [], _∷_, _++_}
 use Prim.Native.Nat.{ℕ, _+_}
 use lib.ListN.{length, replicate}
@@ -32,6 +31,7 @@ use Rattle.paths.specs.Planning.{proposed, setOf, tightestOf}
 use Rattle.payload.specs.Answers.{numberOf}
 use Rattle.payload.specs.Joining.{joined, wholeAnswer}
 use Rattle.payload.specs.Spreading.{spreadAll}
+use Rattle.ground.specs.Plain.{if_then_else_}
 use Rattle.ground.specs.Table.{tabulate}
 use Rattle.ground.specs.Circle.{after as afterOn}
 use Rattle.packet.specs.Counts.{tagByHigh, tagByLow, counts, carriesLow, nibbleIn, nibblePlace, startsCount}
@@ -172,7 +172,7 @@ spokenLines old new = spokenText (comparedOf (boardTaken old) (boardTaken new) .
 
 -- 1 where changes can be spoken
 abbrev sayable : Changes → ℕ
-sayable cs = cond (canSpeak cs) 1 0
+sayable cs = if canSpeak cs then 1 else 0
 
 -- one port in step, its latest tag 4,095
 abbrev p5 : Host
@@ -196,7 +196,7 @@ plan delays k W = let set = setOf delays k W in length set ∷ set
 
 -- 1 where the check accepts two of the four with W 20
 abbrev accepted : List ℕ → ℕ
-accepted set = cond (checkedOf four 2 20 set .accepted) 1 0
+accepted set = if checkedOf four 2 20 set .accepted then 1 else 0
 
 pub table : List Row
 table =

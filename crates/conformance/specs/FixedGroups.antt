@@ -1,9 +1,10 @@
 -- Examples of request 2026-12, fixed groups, worked out apart: verdicts, what a packet rules, states and reply, and what a start answers.
 use mathlib.Core.Path.{refl}
-use mathlib.Core.Bool.{Bool, true, false, cond}
+use mathlib.Core.Bool.{Bool, true, false}
 use mathlib.Core.List.{List, [], _∷_, _++_}
 use Prim.Native.Nat.{ℕ}
 use lib.ListN.{length, replicate, take}
+use Rattle.ground.specs.Plain.{if_then_else_}
 use Rattle.c_face.specs.Receivers.{startAsAnswerC}
 use Rattle.conformance.specs.Rows.{Equal, Row, equal-rows}
 use Rattle.conformance.specs.Waits.{away, here, statesAt}
@@ -77,7 +78,7 @@ abbrev foreign : List ℕ
 foreign = 0 ∷ 0 ∷ 0 ∷ 0 ∷ 0 ∷ 0 ∷ 0 ∷ 5 ∷ 3 ∷ 10 ∷ 2 ∷ 0 ∷ 0 ∷ 0 ∷ 0 ∷ 0 ∷ []
 
 abbrev flag : Bool → ℕ
-flag b = cond b 1 0
+flag b = if b then 1 else 0
 
 -- good or not, word, number, GID
 abbrev rules : ℕ → ℕ → List ℕ → List ℕ

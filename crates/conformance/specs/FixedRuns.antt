@@ -55,8 +55,8 @@ openedAs kind =
 -- what the host then reads: the record of the report, the port's eight bytes after it, MST of numbers 0 to 7 and RS-Ack
 abbrev read : Host → List ℕ
 read h =
-    let then = fetched h in
-    fetchRecord (h .rows) (h .store) (replicate 16 0) (replicate 8 0) ++ getD (portsOut (then .rows) ([] ∷ [])) 0 [] ++ replyOut (then .rows) 0 (9 ∷ 9 ∷ [])
+    let later = fetched h in
+    fetchRecord (h .rows) (h .store) (replicate 16 0) (replicate 8 0) ++ getD (portsOut (later .rows) ([] ∷ [])) 0 [] ++ replyOut (later .rows) 0 (9 ∷ 9 ∷ [])
 
 -- 40 frames of the count and nothing else, so that epoch 3 starts; then packets carried with the tags from 56 on: the answers to their 31st frame and to the 32nd
 abbrev two : ℕ → (ℕ → ℕ) → List ℕ

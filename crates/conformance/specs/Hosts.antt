@@ -1,9 +1,9 @@
 -- Short runs of a receiver from its start, for the examples: P is 1, and frames carry their count and no good packet, but where it is said.
-use mathlib.Core.Bool.{Bool, true, false, cond}
+use mathlib.Core.Bool.{Bool, true, false}
 use mathlib.Core.List.{List, [], _∷_}
 use Prim.Native.Nat.{ℕ, zero, suc, _+_, _*_, _/_, _%_}
-use lib.Dec.{eqb}
 use lib.ListN.{getD, length, replicate}
+use Rattle.ground.specs.Plain.{if_then_else_, _==_}
 use Rattle.packet.specs.Kinds.{epochOf, placeOf}
 use Rattle.packet.specs.Layout.{h4Of, nibblesOf}
 use Rattle.packet.specs.Words.{IDLE}
@@ -32,7 +32,7 @@ opened n W =
 
 -- the H4 byte of the frame with tag t: MFI1, and MFI2's nibbles at MFI1 0 and 1
 abbrev h4With : ℕ → ℕ
-h4With t = cond (eqb (t % 16) 0) (t / 256) (cond (eqb (t % 16) 1) (t / 16 % 16) 0) * 16 + t % 16
+h4With t = (if t % 16 == 0 then t / 256 else if t % 16 == 1 then t / 16 % 16 else 0) * 16 + t % 16
 
 -- its payload
 abbrev payloadWith : ℕ → List ℕ
@@ -65,12 +65,12 @@ packetWith t = getD (h4Of (nibblesOf (record { epoch = epochOf 0 t; word = recor
 
 -- the same with a reserved bit changed, at MFI1 4
 abbrev pub damagedWith : ℕ → ℕ
-damagedWith t = packetWith t + cond (eqb (t % 16) 4) 16 0
+damagedWith t = packetWith t + (if t % 16 == 4 then 16 else 0)
 
 -- A byte is handed on as a number. The checker would work out a packet's byte, with its CRC, again at each place that reads it.
 abbrev byNumber : ℕ → (ℕ → Host) → Host
-byNumber zero then = then zero
-byNumber (suc b) then = then (suc b)
+byNumber zero next = next zero
+byNumber (suc b) next = next (suc b)
 
 -- n frames of a port with such bytes, the first with tag t
 abbrev pub fedWith : (ℕ → ℕ) → ℕ → ℕ → ℕ → Host → Host

@@ -71,12 +71,12 @@ abbrev reported : Host → List ℕ
 reported h = fetchRecord (h .rows) (h .store) (replicate 16 0) (replicate 8 0)
 
 -- the answer, and that of one frame more
-abbrev then : Host → (Host → Host) → List ℕ
-then h more = h .answer ∷ more h .answer ∷ []
+abbrev bothAnswers : Host → (Host → Host) → List ℕ
+bothAnswers h more = h .answer ∷ more h .answer ∷ []
 
 -- packets with this word from tag 40 on, carried with the tags from 56 on: after 31 frames, and after one more
 abbrev twoWith : ℕ → List ℕ
-twoWith word = then (fedWith (memberWith word 255) 0 31 56 at40) (fedWith (memberWith word 255) 0 1 87)
+twoWith word = bothAnswers (fedWith (memberWith word 255) 0 31 56 at40) (fedWith (memberWith word 255) 0 1 87)
 
 -- The same with IDLE; the last frame carries MFI1 0 in place of 7. Its nibble is the CRC's second, 9: the CRC is 59 in hex.
 abbrev anew : Host
@@ -110,7 +110,7 @@ odd =
     }
     ∷ record {
       name = "the end of a second odd packet with MFI1 0 is the first of a new 32";
-      given = counting 0 anew ++ then (fed 0 30 2305 anew) (handed 0 2335);
+      given = counting 0 anew ++ bothAnswers (fed 0 30 2305 anew) (handed 0 2335);
       said = 12 ∷ 2305 ∷ 1 ∷ 0 ∷ 12 ∷ 0 ∷ [];
     }
     ∷ []

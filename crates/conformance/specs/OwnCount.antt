@@ -44,8 +44,8 @@ each [] h = []
 each (t ∷ ts) h = let g = handed 0 t h in counting 0 g ++ each ts g
 
 -- the answer, and that of one frame more
-abbrev then : Host → (Host → Host) → List ℕ
-then h more = h .answer ∷ more h .answer ∷ []
+abbrev bothAnswers : Host → (Host → Host) → List ℕ
+bothAnswers h more = h .answer ∷ more h .answer ∷ []
 
 -- W is 32. One port in step, its latest tag 39, so that the next epoch starts.
 abbrev at40 : Host
@@ -65,7 +65,7 @@ broken =
     ∷ record { name = "4,095, then 1, then 1: the row of breaks is none again"; given = each (1 ∷ 1 ∷ []) edge; said = 0 ∷ 1 ∷ 32 ∷ 1 ∷ 0 ∷ 2 ∷ 32 ∷ 0 ∷ [] }
     ∷ record {
       name = "a fourth break with MFI1 0 is the first of a new 32";
-      given = each (1 ∷ 2 ∷ 3 ∷ 0 ∷ []) edge ++ then (fed 0 30 1 (handed 0 0 (fed 0 3 1 edge))) (handed 0 31);
+      given = each (1 ∷ 2 ∷ 3 ∷ 0 ∷ []) edge ++ bothAnswers (fed 0 30 1 (handed 0 0 (fed 0 3 1 edge))) (handed 0 31);
       said = 0 ∷ 1 ∷ 32 ∷ 1 ∷ 0 ∷ 2 ∷ 32 ∷ 2 ∷ 0 ∷ 3 ∷ 32 ∷ 3 ∷ 12 ∷ 1 ∷ 1 ∷ 0 ∷ 12 ∷ 0 ∷ [];
     }
     ∷ []
@@ -74,12 +74,12 @@ pub switched : List Row
 switched =
     record {
       name = "a switch by one multiframe at an epoch start, CRC right: 31 frames 0, the 32nd 12";
-      given = then (fedWith packetWith 0 31 56 at40) (fedWith packetWith 0 1 87);
+      given = bothAnswers (fedWith packetWith 0 31 56 at40) (fedWith packetWith 0 1 87);
       said = 0 ∷ 12 ∷ [];
     }
     ∷ record {
       name = "the same with the first packet's CRC wrong: 12 sixteen frames later";
-      given = then (fedWith packetWith 0 31 72 (fedWith damagedWith 0 16 56 at40)) (fedWith packetWith 0 1 103);
+      given = bothAnswers (fedWith packetWith 0 31 72 (fedWith damagedWith 0 16 56 at40)) (fedWith packetWith 0 1 103);
       said = 0 ∷ 12 ∷ [];
     }
     ∷ []

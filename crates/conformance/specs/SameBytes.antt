@@ -1,16 +1,16 @@
 -- Demand 3 begins at the sender's own packets and payload. Here they are the bytes that its C calls write: after the C calls of a history up to its i-th epoch, and any calls on the table after it, each slot's packet and payload are those that the history sends.
 use mathlib.Core.Path.{_≡_, refl, sym, ap, _∙_}
-use mathlib.Core.Bool.{Bool, true, cond, _&&_}
+use mathlib.Core.Bool.{Bool, true, _&&_}
 use mathlib.Core.List.{List, [], _∷_, _++_}
 use Prim.Native.Nat.{ℕ, zero, suc, _<_}
 use native.Mathlib.Omega.{arith}
-use lib.Dec.{eqb, ltb}
 use lib.ListN.{length, length-replicate, replicate}
 use borrow.Author.Tests.{eq-eqb, lt-ltb}
 use Rattle.c_face.specs.Keeping.{senderOf}
 use Rattle.c_face.specs.Senders.{packetBytesC, payloadBytesC, startAnswerC, startStateC}
 use Rattle.c_face.specs.Theorems.CratesOwn.{packet-own, payload-own}
 use Rattle.c_face.specs.Theorems.Runs.{fits, meant, runC, runs-own, runs-sized}
+use Rattle.ground.specs.Plain.{if_then_else_, _==_, _<?_}
 use Rattle.ground.specs.Truth.{and-true}
 use Rattle.link.specs.History.{Allowed, Handed, History, fieldsSent, packetSent, payloadSent, senderAt}
 use Rattle.link.specs.Sending.{Client, epochAt}
@@ -50,17 +50,17 @@ fit-table (c ∷ cs) f = (f .0, fit-table cs (f .1))
 -- so none is refused for its numbers
 all-meant : (cs : List SenderCall) → AllFit cs → meant cs ≡ cs
 all-meant [] f = refl
-all-meant (c ∷ cs) f = ap (λ (b : Bool). cond b (c ∷ meant cs) (meant cs)) (f .0) ∙ ap (λ (l : List SenderCall). c ∷ l) (all-meant cs (f .1))
+all-meant (c ∷ cs) f = ap (λ (b : Bool). if b then c ∷ meant cs else meant cs) (f .0) ∙ ap (λ (l : List SenderCall). c ∷ l) (all-meant cs (f .1))
 
 run-append : (s : Sender) (a b : List SenderCall) → senderRun s (a ++ b) ≡ senderRun (senderRun s a) b
 run-append s [] b = refl
 run-append s (c ∷ a) b = run-append (senderOutcomeOf s c .sender) a b
 
 -- what the two definitions of bytes sent pick where nothing is refused
-picks-packet : (b l g w f : Bool) (new old : List ℕ) → b ≡ true → l ≡ true → g ≡ true → w ≡ true → f ≡ true → cond (b && l && g) (cond w (cond f new old) old) old ≡ new
+picks-packet : (b l g w f : Bool) (new old : List ℕ) → b ≡ true → l ≡ true → g ≡ true → w ≡ true → f ≡ true → (if b && l && g then (if w then (if f then new else old) else old) else old) ≡ new
 picks-packet b l g w f new old eb el eg ew ef = rw (eb, el, eg, ew, ef) refl
 
-picks-payload : (b g : Bool) (new old : List ℕ) → b ≡ true → g ≡ true → cond (b && g) new old ≡ new
+picks-payload : (b g : Bool) (new old : List ℕ) → b ≡ true → g ≡ true → (if b && g then new else old) ≡ new
 picks-payload b g new old eb eg = rw (eb, eg) refl
 
 -- A history of the kind H4 with reports of bytes, and a C start of its slots and first epoch that was done.
@@ -74,8 +74,8 @@ module _ (h : History) (a : Allowed h) (kind : h .kind ≡ 0) (bytes : (i : ℕ)
       let g = a .gid i in
       let k = a .ack i in
       fit-append (onTable (h .before i)) (StartEpoch (h .gid i) (h .mst i) (h .ack i) ∷ []) (fit-table (h .before i) (bytes i)) (
-        and-true (ltb (h .gid i) 256 && ltb (h .mst i) 256) (ltb (h .ack i) 256)
-            (and-true (ltb (h .gid i) 256) (ltb (h .mst i) 256) (lt-ltb (h .gid i) 256 (omega arith)) (lt-ltb (h .mst i) 256 (a .mst i))) (lt-ltb (h .ack i) 256 (omega arith)),
+        and-true (h .gid i <? 256 && h .mst i <? 256) (h .ack i <? 256)
+            (and-true (h .gid i <? 256) (h .mst i <? 256) (lt-ltb (h .gid i) 256 (omega arith)) (lt-ltb (h .mst i) 256 (a .mst i))) (lt-ltb (h .ack i) 256 (omega arith)),
         tt,
       )
 
@@ -98,7 +98,7 @@ module _ (h : History) (a : Allowed h) (kind : h .kind ≡ 0) (bytes : (i : ℕ)
   packet-written : (i slot : ℕ) → slot < h .slots → (h4 : List ℕ) → length h4 ≡ 16 → packetBytes (senderAt h i) slot h4 ≡ h4Of (nibblesOf (fieldsSent h i slot))
   unfolding packetBytes writeBytes frames
   packet-written i slot b h4 l =
-      picks-packet (ltb slot (sizeOf (senderAt h i .table .count))) (eqb (length h4) (frames (senderAt h i .table .kind))) (senderAt h i .begun) (eqb (length h4) 16)
+      picks-packet (slot <? sizeOf (senderAt h i .table .count)) (length h4 == frames (senderAt h i .table .kind)) (senderAt h i .begun) (length h4 == 16)
       (fitting (packetFields (senderAt h i) slot)) (h4Of (nibblesOf (packetFields (senderAt h i) slot))) h4 (lt-ltb slot (sizeOf (senderAt h i .table .count)) (rw (size-at h a i) b))
       (eq-eqb (length h4) 16 l) (sender-in h a i .begun) (eq-eqb (length h4) 16 l) (fields-fit h a i slot b)
 
@@ -121,7 +121,7 @@ module _ (h : History) (a : Allowed h) (kind : h .kind ≡ 0) (bytes : (i : ℕ)
     unfolding payloadBytes
     payload-written x slot b member l =
         let s : Sender = senderAt h (epochAt (h .kind) x) in
-        picks-payload (ltb slot (sizeOf (senderAt h (epochAt (h .kind) x) .table .count))) (senderAt h (epochAt (h .kind) x) .begun)
+        picks-payload (slot <? sizeOf (senderAt h (epochAt (h .kind) x) .table .count)) (senderAt h (epochAt (h .kind) x) .begun)
         (spreadOne (xOf (senderAt h (epochAt (h .kind) x))) P (rankIn (senderAt h (epochAt (h .kind) x)) slot) (client x) member) member
         (lt-ltb slot (sizeOf (senderAt h (epochAt (h .kind) x) .table .count)) (rw (size-at h a (epochAt (h .kind) x)) b)) (sender-in h a (epochAt (h .kind) x) .begun)
         ∙ spread-one-done (xOf s) P (rankIn s slot) (client x) member (sizes x) (c .whole x) l

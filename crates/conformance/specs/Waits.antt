@@ -1,9 +1,9 @@
 -- Short runs of reports with a hold-off and a wait-to-restore, for the examples of 02, 2026-03: what each report leaves goes into the next.
-use mathlib.Core.Bool.{Bool, true, false, cond}
+use mathlib.Core.Bool.{Bool, true, false}
 use mathlib.Core.List.{List, [], _∷_}
 use Prim.Native.Nat.{ℕ, zero, suc, _+_}
-use lib.Dec.{eqb}
 use lib.ListN.{getD, length}
+use Rattle.ground.specs.Plain.{if_then_else_, _==_}
 use Rattle.ground.specs.Table.{tabulate}
 use Rattle.reply.specs.declared.members.Port.{Port}
 use Rattle.reply.specs.declared.waiting.Standing.{Standing}
@@ -77,7 +77,7 @@ abbrev lostFor : ℕ → ℕ → ℕ → List Standing → List ℕ
 lostFor hold zero count last = count ∷ getD last 0 noStanding .state ∷ []
 lostFor hold (suc n) count last =
     let now = leftOf (hold ∷ []) [] last (away 2 0 ∷ []) in
-    lostFor hold n (count + cond (eqb (getD now 0 noStanding .state) 2) 1 0) now
+    lostFor hold n (count + (if getD now 0 noStanding .state == 2 then 1 else 0)) now
 
 abbrev pub okFor : ℕ → ℕ → List ℕ
 okFor hold n = lostFor hold n 0 (standing 2 0 0 ∷ [])

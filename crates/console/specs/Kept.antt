@@ -1,9 +1,8 @@
 -- The line that the input has begun and not ended.
-use mathlib.Core.Bool.{cond}
 use mathlib.Core.List.{List, [], _∷_}
 use Prim.Native.Nat.{ℕ, _+_}
-use lib.Dec.{ltb}
 use lib.ListN.{replicate, set, take}
+use Rattle.ground.specs.Plain.{if_then_else_, _<?_}
 use Rattle.console.specs.declared.kept.Kept.{Kept}
 
 unfoldable pub nothingKept : Kept
@@ -11,7 +10,7 @@ nothingKept = record { bytes = replicate 81 0; count = 0 }
 
 -- a byte more, as long as there is room
 unfoldable pub keepOf : Kept → ℕ → Kept
-keepOf k b = cond (ltb (k .count) 81) (record { bytes = set (k .bytes) (k .count) b; count = k .count + 1 }) k
+keepOf k b = if k .count <? 81 then (record { bytes = set (k .bytes) (k .count) b; count = k .count + 1 }) else k
 
 abbrev pub keepAll : Kept → List ℕ → Kept
 keepAll k [] = k

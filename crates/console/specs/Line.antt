@@ -1,9 +1,9 @@
 -- What a line means (01, 'Session').
-use mathlib.Core.Bool.{cond, _&&_}
+use mathlib.Core.Bool.{_&&_}
 use mathlib.Core.List.{List, [], _∷_}
 use Prim.Native.Nat.{ℕ}
-use lib.Dec.{leb, ltb}
 use lib.ListN.{length}
+use Rattle.ground.specs.Plain.{if_then_else_, _<?_, _≤?_}
 use Rattle.text.specs.declared.fields.Number.{Number}
 use Rattle.text.specs.declared.fields.Number.the-variants.{Value, Unreadable}
 use Rattle.console.specs.declared.line.Line.{Line}
@@ -41,22 +41,22 @@ hexOf field = F.hexOf 2 field
 
 -- a line of one field
 unfoldable pub wordLine : List ℕ → Line
-wordLine word = cond (sameBytes word LAPSE) Lapse (cond (sameBytes word BOARD) Board Malformed)
+wordLine word = if sameBytes word LAPSE then Lapse else if sameBytes word BOARD then Board else Malformed
 
 -- a line of a word and a number
 unfoldable pub numberLine : List ℕ → Number → Line
-numberLine word (Value n) = cond (sameBytes word SIZE) (Size n) (cond (sameBytes word ADD) (Add n) (cond (sameBytes word REMOVE) (Remove n) Malformed))
+numberLine word (Value n) = if sameBytes word SIZE then Size n else if sameBytes word ADD then Add n else if sameBytes word REMOVE then Remove n else Malformed
 numberLine word Unreadable = Malformed
 
 -- 'an epoch above 255 or an RS-Ack other than 0 or 1 is malformed'
 unfoldable pub reportOf : Number → Number → Number → Line
-reportOf (Value epoch) (Value mst) (Value ack) = cond (ltb epoch 256 && ltb mst 256 && ltb ack 2) (Report epoch mst ack) Malformed
+reportOf (Value epoch) (Value mst) (Value ack) = if epoch <? 256 && mst <? 256 && ack <? 2 then Report epoch mst ack else Malformed
 reportOf (Value epoch) (Value mst) Unreadable = Malformed
 reportOf (Value epoch) Unreadable ack = Malformed
 reportOf Unreadable mst ack = Malformed
 
 unfoldable pub reportLine : List ℕ → Number → Number → Number → Line
-reportLine word epoch mst ack = cond (sameBytes word REPORT) (reportOf epoch mst ack) Malformed
+reportLine word epoch mst ack = if sameBytes word REPORT then reportOf epoch mst ack else Malformed
 
 -- by the number of fields
 abbrev pub meaningOf : List (List ℕ) → Line
@@ -69,4 +69,4 @@ meaningOf (word ∷ a ∷ b ∷ c ∷ d ∷ rest) = Malformed
 
 -- 'Input lines are at most 80 bytes; a longer one is malformed.'
 unfoldable pub lineOf : List ℕ → Line
-lineOf line = cond (leb (length line) 80) (meaningOf (fieldsOf line)) Malformed
+lineOf line = if length line ≤? 80 then meaningOf (fieldsOf line) else Malformed

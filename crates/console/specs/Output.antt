@@ -1,8 +1,9 @@
 -- The lines of the output: 'spaces standing for tabs, no header' (01, 'Session').
-use mathlib.Core.Bool.{Bool, cond}
+use mathlib.Core.Bool.{Bool}
 use mathlib.Core.List.{List, [], _++_}
 use Prim.Native.Nat.{ℕ, zero, suc}
 use lib.ListN.{getD}
+use Rattle.ground.specs.Plain.{if_then_else_}
 use Rattle.packet.specs.declared.words.Word.{Word}
 use Rattle.sender.specs.declared.board.Board.{Board}
 use Rattle.sender.specs.declared.board.Row.{Row}
@@ -30,7 +31,7 @@ slotText i w n = ended SLOT TAB ++ ended (decimalText i) TAB ++ ended (wordText 
 
 -- 1 if a wait is open
 unfoldable pub waitText : Bool → List ℕ
-waitText b = ended WAIT TAB ++ ended (decimalText (cond b 1 0)) LINE-END
+waitText b = ended WAIT TAB ++ ended (decimalText (if b then 1 else 0)) LINE-END
 
 -- the lines of the first n slots, in order
 abbrev pub slotsText : List Row → ℕ → List ℕ

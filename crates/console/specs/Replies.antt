@@ -1,8 +1,8 @@
 -- What a line is answered (01, 'Session').
-use mathlib.Core.Bool.{Bool, true, false, cond}
+use mathlib.Core.Bool.{Bool, true, false}
 use mathlib.Core.List.{List}
 use Prim.Native.Nat.{ℕ}
-use lib.Dec.{eqb}
+use Rattle.ground.specs.Plain.{if_then_else_, _==_}
 use Rattle.sender.specs.declared.table.Outcome.{Outcome}
 use Rattle.sender.specs.declared.table.Table.{Table}
 use Rattle.sender.specs.Board.{boardOf}
@@ -22,7 +22,7 @@ repliedOf s = replied (s .table) (answerNumber (s .answer))
 
 -- 'A second size starts afresh; a refused one leaves the board as it stood.'
 unfoldable pub sizeReply : Table → ℕ → Reply
-sizeReply t n = cond (eqb (answerNumber (startOf (t .kind) n .answer)) 0) (repliedOf (startOf (t .kind) n)) (replied t (answerNumber (startOf (t .kind) n .answer)))
+sizeReply t n = if answerNumber (startOf (t .kind) n .answer) == 0 then repliedOf (startOf (t .kind) n) else replied t (answerNumber (startOf (t .kind) n .answer))
 
 -- 13: 'malformed line', 'state as given'
 unfoldable pub replyOf : Table → Line → Reply
@@ -45,4 +45,4 @@ isBoard Malformed = false
 
 -- the output of a line: the board with no answer line, or the answer
 unfoldable pub outputOf : Table → Line → List ℕ
-outputOf t l = cond (isBoard l) (boardText (boardOf t)) (answerText (replyOf t l .number))
+outputOf t l = if isBoard l then boardText (boardOf t) else answerText (replyOf t l .number)

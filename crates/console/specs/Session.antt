@@ -1,9 +1,9 @@
 -- A session (01, 'Session'), fed in parts cut anywhere.
-use mathlib.Core.Bool.{Bool, cond}
+use mathlib.Core.Bool.{Bool}
 use mathlib.Core.List.{List, [], _++_}
 use Prim.Native.Nat.{ℕ, _+_}
-use lib.Dec.{ltb}
 use lib.ListN.{drop, length, take}
+use Rattle.ground.specs.Plain.{if_then_else_, _<?_}
 use Rattle.bytes.specs.Bytes.{indexOf}
 use Rattle.sender.specs.declared.table.Table.{Table}
 use Rattle.sender.specs.Commands.{startOf}
@@ -36,18 +36,18 @@ abbrev pub keptWith : Session → List ℕ → Kept
 keptWith s input = keepAll (s .kept) (take (indexOf LINE-END input) input)
 
 abbrev pub hasEnd : List ℕ → Bool
-hasEnd input = ltb (indexOf LINE-END input) (length input)
+hasEnd input = indexOf LINE-END input <? length input
 
 -- used is the line and its end, or all
 unfoldable pub usedOf : List ℕ → ℕ
-usedOf input = cond (hasEnd input) (indexOf LINE-END input + 1) (indexOf LINE-END input)
+usedOf input = if hasEnd input then indexOf LINE-END input + 1 else indexOf LINE-END input
 
 unfoldable pub fedSession : Session → List ℕ → Session
 fedSession s input =
-    cond (hasEnd input) (record { table = tableAfter (s .table) (lineIn (keptWith s input)); kept = nothingKept }) (record { table = s .table; kept = keptWith s input })
+    if hasEnd input then (record { table = tableAfter (s .table) (lineIn (keptWith s input)); kept = nothingKept }) else (record { table = s .table; kept = keptWith s input })
 
 unfoldable pub fedText : Session → List ℕ → List ℕ
-fedText s input = cond (hasEnd input) (saidTo (s .table) (lineIn (keptWith s input))) []
+fedText s input = if hasEnd input then saidTo (s .table) (lineIn (keptWith s input)) else []
 
 -- 9: 'output .. length wrong', 'state as given'
 abbrev pub refused : Session → Fed
@@ -55,25 +55,25 @@ refused s = record { session = s; answer = 9; used = 0; written = 0 }
 
 unfoldable pub feedOf : Session → List ℕ → List ℕ → Fed
 feedOf s input out =
-    cond (ltb (length out) ROOM) (refused s)
-    (record { session = fedSession s input; answer = 0; used = usedOf input; written = length (fedText s input) })
+    if length out <? ROOM then refused s
+    else (record { session = fedSession s input; answer = 0; used = usedOf input; written = length (fedText s input) })
 
 unfoldable pub feedBytes : Session → List ℕ → List ℕ → List ℕ
-feedBytes s input out = cond (ltb (length out) ROOM) out (over (fedText s input) out)
+feedBytes s input out = if length out <? ROOM then out else over (fedText s input) out
 
 -- the end of the input: the last line may lack its end
 abbrev pub hasLine : Session → Bool
-hasLine s = ltb 0 (s .kept .count)
+hasLine s = 0 <? s .kept .count
 
 unfoldable pub lastSession : Session → Session
-lastSession s = cond (hasLine s) (record { table = tableAfter (s .table) (lineIn (s .kept)); kept = nothingKept }) s
+lastSession s = if hasLine s then (record { table = tableAfter (s .table) (lineIn (s .kept)); kept = nothingKept }) else s
 
 unfoldable pub lastText : Session → List ℕ
-lastText s = cond (hasLine s) (saidTo (s .table) (lineIn (s .kept))) []
+lastText s = if hasLine s then saidTo (s .table) (lineIn (s .kept)) else []
 
 unfoldable pub finishOf : Session → List ℕ → Fed
 finishOf s out =
-    cond (ltb (length out) ROOM) (refused s) (record { session = lastSession s; answer = 0; used = 0; written = length (lastText s) })
+    if length out <? ROOM then refused s else (record { session = lastSession s; answer = 0; used = 0; written = length (lastText s) })
 
 unfoldable pub finishBytes : Session → List ℕ → List ℕ
-finishBytes s out = cond (ltb (length out) ROOM) out (over (lastText s) out)
+finishBytes s out = if length out <? ROOM then out else over (lastText s) out

@@ -1,9 +1,8 @@
 -- Wrong readings of 01, each as a definition with a run on which it breaks what 01 says.
 use mathlib.Core.Path.{_≡_, refl}
-use mathlib.Core.Bool.{cond}
 use mathlib.Core.List.{List}
 use Prim.Native.Nat.{ℕ}
-use lib.Dec.{ltb}
+use Rattle.ground.specs.Plain.{if_then_else_, _<?_}
 use Rattle.packet.specs.Kinds.{idleNumber}
 use Rattle.sender.specs.declared.table.Table.{Table}
 use Rattle.sender.specs.Commands.{freshOf, idleSlot, startOf}
@@ -18,7 +17,7 @@ use Rattle.text.specs.Fields as F
 
 -- A number that does not fit a byte as malformed. 'Numbers have one to three decimal digits': `size 256` is refused by its range, with 4.
 wrong-byte : Number → Number
-wrong-byte (Value n) = cond (ltb n 256) (Value n) Unreadable
+wrong-byte (Value n) = if n <? 256 then Value n else Unreadable
 wrong-byte Unreadable = Unreadable
 
 wrong-number : List ℕ → Number

@@ -1,7 +1,7 @@
 -- Some, every, how many, the one that, and the greatest, over the numbers below n. Each goes from the end, so that a loop from 0 up works out one more with each turn.
-use mathlib.Core.Bool.{Bool, true, false, cond, _&&_, _||_}
+use mathlib.Core.Bool.{Bool, true, false, _&&_, _||_}
 use Prim.Native.Nat.{ℕ, zero, suc, _+_}
-use lib.Dec.{ltb}
+use Rattle.ground.specs.Plain.{if_then_else_, _<?_}
 
 -- the test f holds at some number below n
 abbrev pub some : ℕ → (ℕ → Bool) → Bool
@@ -16,14 +16,14 @@ every (suc n) f = every n f && f n
 -- at how many numbers below n the test f holds
 abbrev pub count : ℕ → (ℕ → Bool) → ℕ
 count zero f = 0
-count (suc n) f = count n f + cond (f n) 1 0
+count (suc n) f = count n f + (if f n then 1 else 0)
 
 -- the last number below n at which the test f holds, 0 where it holds at none
 abbrev pub the : ℕ → (ℕ → Bool) → ℕ
 the zero f = 0
-the (suc n) f = cond (f n) n (the n f)
+the (suc n) f = if f n then n else the n f
 
 -- the greatest m of a number below n at which the test f holds, 0 where it holds at none
 abbrev pub greatest : ℕ → (ℕ → Bool) → (ℕ → ℕ) → ℕ
 greatest zero f m = 0
-greatest (suc n) f m = cond (f n && ltb (greatest n f m) (m n)) (m n) (greatest n f m)
+greatest (suc n) f m = if f n && greatest n f m <? m n then m n else greatest n f m

@@ -1,17 +1,17 @@
 -- Numbers and their bits, the first bit the highest.
 use mathlib.Core.Path.{_≡_, refl, _∙_, sym, ap, ap₂}
-use mathlib.Core.Bool.{Bool, true, false, cond}
+use mathlib.Core.Bool.{Bool, true, false}
 use mathlib.Core.List.{List, [], _∷_, _++_}
 use Prim.Native.Nat.{ℕ, zero, suc, _+_, _*_, _/_, _%_, _^_, _<_}
 use native.Mathlib.Nat.{zero-add, mod-one, add-comm, add-suc, suc-add, mul-assoc, mul-add-div-right, two-pow-succ, two-mul}
 use native.Mathlib.Numerals.{one-add}
 use native.Mathlib.Omega.{arith}
-use lib.Dec.{eqb}
 use lib.Pow.{pow-pos, pow-add, mod-pow-add, high, shr-shr, split}
 use lib.ListN.{length}
+use Rattle.ground.specs.Plain.{if_then_else_, _==_}
 
 abbrev pub odd : ℕ → Bool
-odd n = eqb (n % 2) 1
+odd n = n % 2 == 1
 
 -- the lowest k bits of n
 abbrev pub bits : ℕ → ℕ → List Bool
@@ -21,16 +21,16 @@ bits (suc k) n = odd (n / 2 ^ k) ∷ bits k n
 -- the number that the bits spell
 abbrev pub number : List Bool → ℕ
 number [] = 0
-number (b ∷ l) = cond b 1 0 * 2 ^ length l + number l
+number (b ∷ l) = (if b then 1 else 0) * 2 ^ length l + number l
 
 pub length-bits : (k n : ℕ) → length (bits k n) ≡ k
 length-bits zero n = refl
 length-bits (suc k) n = rw (length-bits k n)
 
-bit-number : (n : ℕ) → cond (odd n) 1 0 ≡ n % 2
+bit-number : (n : ℕ) → (if odd n then 1 else 0) ≡ n % 2
 bit-number n = go (n % 2) refl
   where
-    go : (m : ℕ) → n % 2 ≡ m → cond (eqb m 1) 1 0 ≡ m
+    go : (m : ℕ) → n % 2 ≡ m → (if m == 1 then 1 else 0) ≡ m
     go zero e = refl
     go (suc zero) e = refl
     go (suc (suc m)) e = absurd (omega arith)
@@ -65,12 +65,12 @@ pub bits-number : (l : List Bool) → bits (length l) (number l) ≡ l
 bits-number [] = refl
 bits-number (b ∷ l) =
     ap₂ _∷_
-    (ap odd (high (cond b 1 0) (length l) (number-lt l)) ∙ odd-bit b)
-    (ap (λ (n : ℕ). bits (length l) (cond b 1 0 * 2 ^ n + number l)) (sym (zero-add (length l)))
-    ∙ bits-above (length l) 0 (cond b 1 0) (number l)
+    (ap odd (high (if b then 1 else 0) (length l) (number-lt l)) ∙ odd-bit b)
+    (ap (λ (n : ℕ). bits (length l) ((if b then 1 else 0) * 2 ^ n + number l)) (sym (zero-add (length l)))
+    ∙ bits-above (length l) 0 (if b then 1 else 0) (number l)
     ∙ bits-number l)
   where
-    odd-bit : (a : Bool) → odd (cond a 1 0) ≡ a
+    odd-bit : (a : Bool) → odd (if a then 1 else 0) ≡ a
     odd-bit true = refl
     odd-bit false = refl
 

@@ -6,11 +6,11 @@ use Prim.Native.Nat.{ℕ, zero, suc, _+_, _%_, _≤_, _<_}
 use native.Mathlib.Nat.{suc-inj}
 use native.Mathlib.Decide.{decLe}
 use native.Mathlib.Omega.{arith}
-use lib.Dec.{eqb}
 use lib.ListN.{length, take, length-append, length-replicate}
 use lib.Seq.{take-at}
 use Rattle.ground.specs.Bits.{odd}
 use Rattle.ground.specs.Finite.{below, below-at, lists, lists-at}
+use Rattle.ground.specs.Plain.{_==_}
 use Rattle.ground.specs.Polynomial.{plus, sum, zeros, bring, remainder, check, sealed, weight, apart}
 use Rattle.ground.specs.Division.{length-bring, length-check, remainder-sum, sound}
 use Rattle.ground.specs.Sums.{length-sum, plus-assoc, plus-cross, plus-swap, sum-apart, sum-self, sum-zeros}
@@ -76,7 +76,7 @@ parity-remainder g r (b ∷ m) h o e =
 odd-suc : (n : ℕ) → odd (suc n) ≡ not (odd n)
 odd-suc n = go (n % 2) (suc n % 2) refl refl
   where
-    go : (k m : ℕ) → n % 2 ≡ k → suc n % 2 ≡ m → eqb m 1 ≡ not (eqb k 1)
+    go : (k m : ℕ) → n % 2 ≡ k → suc n % 2 ≡ m → (m == 1) ≡ not (k == 1)
     go zero zero e f = absurd (omega arith)
     go zero (suc zero) e f = refl
     go zero (suc (suc m)) e f = absurd (omega arith)

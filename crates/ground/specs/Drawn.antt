@@ -3,30 +3,31 @@
 -- starts anywhere (`fillAt`) is the instance that most loops want.
 use mathlib.Core.Path.{_≡_, refl, sym, ap, _∙_}
 use mathlib.Core.Logic.{⊎-elim, _≢_}
-use mathlib.Core.Bool.{Bool, true, false, cond, _&&_, _||_, or-false, or-true}
+use mathlib.Core.Bool.{Bool, true, false, _&&_, _||_, or-false, or-true}
 use mathlib.Core.List.{List, [], _∷_}
 use Prim.Native.Nat.{ℕ, zero, suc, _+_, _-_, _≤_, _<_, suc-le-suc}
 use native.Mathlib.Nat.{not-suc-le-zero, le-of-suc-le-suc, zero-lt-suc}
 use native.Mathlib.Omega.{arith}
-use lib.Dec.{eqb, leb, ltb, eqb·zero-suc, eqb·suc-zero, eqb·suc-suc}
+use lib.Dec.{eqb·zero-suc, eqb·suc-zero, eqb·suc-suc}
 use lib.ListN.{length, getD, set}
 use borrow.Author.Tests.{le-leb, lt-ltb, leb-true, ltb-true, eqb-true, eq-eqb}
+use Rattle.ground.specs.Plain.{if_then_else_, _==_, _<?_, _≤?_}
 use Rattle.ground.specs.Table.{tabulate, tabulate-ext}
 use Rattle.ground.specs.Truth.{and-true, and-left, and-right, or-left, or-right, or-cases, same-test, fails, le-or-lt, eq-or-ne}
 
 -- a place of the n from a on
 abbrev pub within : ℕ → ℕ → ℕ → Bool
-within a n k = leb a k && ltb k (a + n)
+within a n k = a ≤? k && k <? a + n
 
 pub within-true : (a n k : ℕ) → a ≤ k → k < a + n → within a n k ≡ true
 within-true a n k h b = and-true _ _ (le-leb a k h) (lt-ltb k (a + n) b)
 
 pub within-said : (a n k : ℕ) → within a n k ≡ true → (a ≤ k) × (k < a + n)
-within-said a n k e = (leb-true a k (and-left (leb a k) (ltb k (a + n)) e), ltb-true k (a + n) (and-right (leb a k) (ltb k (a + n)) e))
+within-said a n k e = (leb-true a k (and-left (a ≤? k) (k <? a + n) e), ltb-true k (a + n) (and-right (a ≤? k) (k <? a + n) e))
 
-pub within-one : (p k : ℕ) → eqb k p ≡ within p 1 k
+pub within-one : (p k : ℕ) → (k == p) ≡ within p 1 k
 within-one p k =
-    same-test (eqb k p) (within p 1 k) (λ e. let i = eqb-true k p e in within-true p 1 k (omega arith) (omega arith))
+    same-test (k == p) (within p 1 k) (λ e. let i = eqb-true k p e in within-true p 1 k (omega arith) (omega arith))
     (λ e. let w = within-said p 1 k e in eq-eqb k p (omega arith))
 
 pub within-none : (a k : ℕ) → within a 0 k ≡ false
@@ -35,13 +36,13 @@ within-none a k = fails (within a 0 k) (λ e. let w = within-said a 0 k e in ome
 module _ {A : Type 0} where
   abbrev pub drawn : (ℕ → Bool) → (ℕ → A) → List A → List A
   drawn t f [] = []
-  drawn t f (x ∷ xs) = let r = drawn (λ k. t (suc k)) (λ k. f (suc k)) xs in cond (t zero) (f zero) x ∷ r
+  drawn t f (x ∷ xs) = let r = drawn (λ k. t (suc k)) (λ k. f (suc k)) xs in (if t zero then f zero else x) ∷ r
 
   pub length-drawn : (t : ℕ → Bool) (f : ℕ → A) (d : List A) → length (drawn t f d) ≡ length d
   length-drawn t f [] = refl
   length-drawn t f (x ∷ xs) = ap suc (length-drawn (λ k. t (suc k)) (λ k. f (suc k)) xs)
 
-  pub getD-drawn : (t : ℕ → Bool) (f : ℕ → A) (d : List A) (k : ℕ) (z : A) → k < length d → getD (drawn t f d) k z ≡ cond (t k) (f k) (getD d k z)
+  pub getD-drawn : (t : ℕ → Bool) (f : ℕ → A) (d : List A) (k : ℕ) (z : A) → k < length d → getD (drawn t f d) k z ≡ (if t k then f k else getD d k z)
   getD-drawn t f [] k z h = absurd (not-suc-le-zero h)
   getD-drawn t f (x ∷ xs) zero z h = refl
   getD-drawn t f (x ∷ xs) (suc k) z h = getD-drawn (λ i. t (suc i)) (λ i. f (suc i)) xs k z (le-of-suc-le-suc h)
@@ -60,7 +61,7 @@ module _ {A : Type 0} where
       λ i. first (u zero) refl i ∷ drawn-by (λ k. t (suc k)) (λ k. u (suc k)) (λ k. f (suc k)) (λ k. g (suc k)) xs
       (λ k b. ht (suc k) (suc-le-suc b)) (λ k b. hf (suc k) (suc-le-suc b)) i
     where
-      first : (b : Bool) → u zero ≡ b → cond (t zero) (f zero) x ≡ cond (u zero) (g zero) x
+      first : (b : Bool) → u zero ≡ b → (if t zero then f zero else x) ≡ (if u zero then g zero else x)
       first true e = rw (ht zero (zero-lt-suc (length xs)), e) (hf zero (zero-lt-suc (length xs)) e)
       first false e = rw (ht zero (zero-lt-suc (length xs)), e)
 
@@ -77,11 +78,11 @@ module _ {A : Type 0} where
       rw (h zero (zero-lt-suc (length xs))) (ap (λ (r : List A). f zero ∷ r) (drawn-all (λ k. t (suc k)) (λ k. f (suc k)) xs (λ k b. h (suc k) (suc-le-suc b))))
 
   -- one place more
-  pub drawn-put : (t : ℕ → Bool) (f : ℕ → A) (d : List A) (p : ℕ) → set (drawn t f d) p (f p) ≡ drawn (λ k. t k || eqb k p) f d
+  pub drawn-put : (t : ℕ → Bool) (f : ℕ → A) (d : List A) (p : ℕ) → set (drawn t f d) p (f p) ≡ drawn (λ k. t k || k == p) f d
   drawn-put t f [] p = refl
   drawn-put t f (x ∷ xs) zero = simp (or-true, eqb·suc-zero, or-false)
   drawn-put t f (x ∷ xs) (suc p) =
-      simp (eqb·zero-suc, eqb·suc-suc, or-false) (ap (λ (r : List A). cond (t zero) (f zero) x ∷ r) (drawn-put (λ k. t (suc k)) (λ k. f (suc k)) xs p))
+      simp (eqb·zero-suc, eqb·suc-suc, or-false) (ap (λ (r : List A). (if t zero then f zero else x) ∷ r) (drawn-put (λ k. t (suc k)) (λ k. f (suc k)) xs p))
 
   -- one drawing after another
   pub drawn-then : (t u : ℕ → Bool) (f : ℕ → A) (d : List A) → drawn u f (drawn t f d) ≡ drawn (λ k. t k || u k) f d
@@ -89,7 +90,7 @@ module _ {A : Type 0} where
   drawn-then t u f (x ∷ xs) =
       λ i. first (t zero) (u zero) i ∷ drawn-then (λ k. t (suc k)) (λ k. u (suc k)) (λ k. f (suc k)) xs i
     where
-      first : (b c : Bool) → cond c (f zero) (cond b (f zero) x) ≡ cond (b || c) (f zero) x
+      first : (b c : Bool) → (if c then f zero else if b then f zero else x) ≡ (if b || c then f zero else x)
       first true true = refl
       first true false = refl
       first false true = refl
@@ -108,11 +109,11 @@ module _ {A : Type 0} where
 
   -- a store at p
   pub drawing-put : {t : ℕ → Bool} {f : ℕ → A} {d out : List A} (u : ℕ → Bool) (p : ℕ) (v : A) → Drawing t f d out
-      → v ≡ f p → ((k : ℕ) → (t k || eqb k p) ≡ u k) → Drawing u f d (set out p v)
+      → v ≡ f p → ((k : ℕ) → (t k || k == p) ≡ u k) → Drawing u f d (set out p v)
   drawing-put {t} {f} {d} {out} u p v h e same =
       drawing u f d (set out p v)
       (ap (λ (l : List A). set l p v) (h .is) ∙ ap (λ (w : A). set (drawn t f d) p w) e ∙ drawn-put t f d p
-      ∙ drawn-by (λ k. t k || eqb k p) u f f d (λ k b. same k) (λ k b w. refl))
+      ∙ drawn-by (λ k. t k || k == p) u f f d (λ k b. same k) (λ k b w. refl))
 
   -- the drawing of another loop
   pub drawing-then : {t : ℕ → Bool} {f : ℕ → A} {d mid : List A} (v u : ℕ → Bool) (g : ℕ → A) (out : List A) → Drawing t f d mid
@@ -160,20 +161,20 @@ module _ {A : Type 0} where
       let e : f n ≡ f (a + n - a) = (let m : a + n - a ≡ n = omega arith in rw m) in
       ap (λ (v : A). set (fillAt a n f d) (a + n) v) e
       ∙ drawn-put (within a n) (λ k. f (k - a)) d (a + n)
-      ∙ drawn-by (λ k. within a n k || eqb k (a + n)) (within a (n + 1)) (λ k. f (k - a)) (λ k. f (k - a)) d
+      ∙ drawn-by (λ k. within a n k || k == a + n) (within a (n + 1)) (λ k. f (k - a)) (λ k. f (k - a)) d
       (λ k b. same-test _ _ (to k) (back k)) (λ k b w. refl)
     where
-      to : (k : ℕ) → (within a n k || eqb k (a + n)) ≡ true → within a (n + 1) k ≡ true
+      to : (k : ℕ) → (within a n k || k == a + n) ≡ true → within a (n + 1) k ≡ true
       to k e =
           ⊎-elim (λ (g : within a n k ≡ true). let w = within-said a n k g in within-true a (n + 1) k (omega arith) (omega arith))
-          (λ (g : eqb k (a + n) ≡ true). let w = eqb-true k (a + n) g in within-true a (n + 1) k (omega arith) (omega arith))
-          (or-cases (within a n k) (eqb k (a + n)) e)
+          (λ (g : (k == a + n) ≡ true). let w = eqb-true k (a + n) g in within-true a (n + 1) k (omega arith) (omega arith))
+          (or-cases (within a n k) (k == a + n) e)
 
-      back : (k : ℕ) → within a (n + 1) k ≡ true → (within a n k || eqb k (a + n)) ≡ true
+      back : (k : ℕ) → within a (n + 1) k ≡ true → (within a n k || k == a + n) ≡ true
       back k e =
           let w = within-said a (n + 1) k e in
           ⊎-elim (λ (g : k ≡ a + n). or-right (within a n k) _ (eq-eqb k (a + n) g))
-          (λ (g : k ≢ a + n). or-left _ (eqb k (a + n)) (within-true a n k (omega arith) (omega arith)))
+          (λ (g : k ≢ a + n). or-left _ (k == a + n) (within-true a n k (omega arith) (omega arith)))
           (eq-or-ne k (a + n))
 
   -- a piece more at the end

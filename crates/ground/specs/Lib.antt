@@ -6,6 +6,7 @@ pub mod Division
 pub mod Drawn
 pub mod Finite
 pub mod Flags
+pub mod Plain
 pub mod Polynomial
 pub mod Sizes
 pub mod Sums

@@ -6,9 +6,9 @@ use Prim.Native.Nat.{ℕ, zero, suc, _+_, _*_, _/_, _%_, _^_, _<_}
 use native.Mathlib.Nat.{suc-inj}
 use native.Mathlib.Omega.{arith}
 use lib.Bits.{bitXor, differ, xor-step, xor-shr}
-use lib.Dec.{eqb}
 use lib.ListN.{length}
 use Rattle.ground.specs.Bits.{odd, bits, even-odd}
+use Rattle.ground.specs.Plain.{_==_}
 use Rattle.ground.specs.Polynomial.{plus, sum, zeros}
 
 plus-comm : (a b : Bool) → plus a b ≡ plus b a
@@ -105,7 +105,7 @@ sum-apart (a ∷ l) (b ∷ m) e z = ap₂ _∷_ (plus-apart a b (cc)) (sum-apart
 odd-xor : (a b : ℕ) → odd (bitXor a b) ≡ plus (odd a) (odd b)
 odd-xor a b = ap odd (xor-step a b) ∙ go (a % 2) (b % 2) (omega arith) (omega arith)
   where
-    go : (x y : ℕ) → x < 2 → y < 2 → odd (bitXor (a / 2) (b / 2) * 2 + differ x y) ≡ plus (eqb x 1) (eqb y 1)
+    go : (x y : ℕ) → x < 2 → y < 2 → odd (bitXor (a / 2) (b / 2) * 2 + differ x y) ≡ plus (x == 1) (y == 1)
     go zero zero hx hy = even-odd (bitXor (a / 2) (b / 2)) 0
     go zero (suc zero) hx hy = even-odd (bitXor (a / 2) (b / 2)) 1
     go (suc zero) zero hx hy = even-odd (bitXor (a / 2) (b / 2)) 1

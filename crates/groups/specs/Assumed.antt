@@ -3,8 +3,8 @@ use mathlib.Core.Path.{_≡_}
 use mathlib.Core.Bool.{true, false}
 use mathlib.Core.List.{List}
 use Prim.Native.Nat.{ℕ, _≤_, _<_}
-use lib.Dec.{eqb}
 use lib.ListN.{length}
+use Rattle.ground.specs.Plain.{_==_}
 use Rattle.packet.specs.Kinds.{epochs, fixedKind}
 use Rattle.circuits.specs.Parts.{owns}
 use Rattle.link.specs.History.{sendingOf}
@@ -16,7 +16,7 @@ use Rattle.groups.specs.Projected.{Starts, historyOf}
 pub record AssumedEach (h : CardHistory) (g : ℕ) (k : Link) : Type 0 where
   -- one of the two groups, of a card whose start was answered 0; a fixed group (request 2026-12) is none of our sender's
   pub group : g < 2
-  pub lcas : eqb (h .kind) fixedKind ≡ false
+  pub lcas : (h .kind == fixedKind) ≡ false
   pub some : 1 ≤ h .slots
   pub most : h .slots ≤ 64
   pub first : h .first g < epochs (h .kind)

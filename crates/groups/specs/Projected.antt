@@ -1,9 +1,9 @@
 -- What of a card's history is one group's: the starts of its epochs, and between them the calls that reach its sender's table. That is a history of our sender's.
 use mathlib.Core.Path.{_≡_}
-use mathlib.Core.Bool.{Bool, true, false, cond, _&&_}
+use mathlib.Core.Bool.{Bool, true, false, _&&_}
 use mathlib.Core.List.{List, [], _∷_, _++_}
 use Prim.Native.Nat.{ℕ, zero, suc, _+_, _-_, _<_}
-use lib.Dec.{eqb, ltb}
+use Rattle.ground.specs.Plain.{if_then_else_, _==_, _<?_}
 use Rattle.ground.specs.Table.{tabulate}
 use Rattle.sender.specs.Calls.{Call as T}
 use Rattle.circuits.specs.declared.card.Card.{Card}
@@ -22,7 +22,7 @@ begins (Do (AddSlot i)) = false
 begins (Do (RemoveSlot i)) = false
 begins (Do (Report e mst ack)) = false
 begins (Do Lapse) = false
-begins (Do (StartEpoch gid mst ack)) = ltb gid 2 && ltb ack 2
+begins (Do (StartEpoch gid mst ack)) = gid <? 2 && ack <? 2
 begins (Packet i h4) = false
 begins (Payload i p frame member) = false
 begins Board = false
@@ -32,7 +32,7 @@ begins Owned = false
 
 -- the call starts an epoch of g
 abbrev pub isStart : ℕ → Made → Bool
-isStart g m = eqb (m .group) g && begins (m .asked)
+isStart g m = m .group == g && begins (m .asked)
 
 -- a claim or a release, whatever it is answered
 abbrev pub claimsOrReleases : Asked → Bool
@@ -52,7 +52,7 @@ claimsOrReleases Owned = false
 
 -- the call is one of g
 abbrev pub isMove : ℕ → Made → Bool
-isMove g m = eqb (m .group) g && claimsOrReleases (m .asked)
+isMove g m = m .group == g && claimsOrReleases (m .asked)
 
 -- the calls that start the epochs of g, one after the other without end, and what is lent to each
 pub record Starts (h : CardHistory) (g : ℕ) : Type 0 where
@@ -72,7 +72,7 @@ pub record Starts (h : CardHistory) (g : ℕ) : Type 0 where
 
 -- a command that is not answered 1 or 14
 abbrev pub onOwn : Card → ℕ → ℕ → T → List T
-onOwn c g i t = cond (isSlot c g i && owns c g i) (t ∷ []) []
+onOwn c g i t = if isSlot c g i && owns c g i then t ∷ [] else []
 
 -- what a call of g hands to its sender's table
 abbrev pub tableCall : Card → ℕ → Asked → List T
@@ -92,7 +92,7 @@ tableCall c g Owned = []
 
 -- any call, of g or not
 abbrev pub reaching : ℕ → Card → Made → List T
-reaching g c m = cond (eqb (m .group) g) (tableCall c g (m .asked)) []
+reaching g c m = if m .group == g then tableCall c g (m .asked) else []
 
 -- a list of calls on a card
 abbrev pub tableCalls : ℕ → Card → List Made → List T

@@ -1,12 +1,12 @@
 -- Wrong readings of 'demand 3 per group with its own ports, one for each slot it owns' (02, 2026-06), each with a run of the sample's card on which it breaks.
 use mathlib.Core.Path.{_≡_, refl}
 use mathlib.Core.Logic.{_≢_}
-use mathlib.Core.Bool.{true, false, cond}
+use mathlib.Core.Bool.{true, false}
 use mathlib.Core.List.{[], _∷_}
 use Prim.Native.Nat.{ℕ}
 use native.Mathlib.Omega.{arith}
-use lib.Dec.{eqb}
 use lib.ListN.{replicate}
+use Rattle.ground.specs.Plain.{if_then_else_, _==_}
 use Rattle.judge.specs.Verdict.{HELD}
 use Rattle.packet.specs.Words.{IDLE}
 use Rattle.circuits.specs.Parts.{owns}
@@ -33,12 +33,12 @@ wrong-sending other =
       kind = 0;
       slots = 4;
       first = 0;
-      packet = λ i slot. cond (eqb slot 2) (packetSent other i slot) (packetSent history₀ i slot);
-      word = λ i slot. cond (eqb slot 2) (wordSent other i slot) (wordSent history₀ i slot);
-      number = λ i slot. cond (eqb slot 2) (numberSent other i slot) (numberSent history₀ i slot);
-      gid = λ i slot. cond (eqb slot 2) (other .gid i) (history₀ .gid i);
+      packet = λ i slot. if slot == 2 then packetSent other i slot else packetSent history₀ i slot;
+      word = λ i slot. if slot == 2 then wordSent other i slot else wordSent history₀ i slot;
+      number = λ i slot. if slot == 2 then numberSent other i slot else numberSent history₀ i slot;
+      gid = λ i slot. if slot == 2 then other .gid i else history₀ .gid i;
       x = xAt history₀;
-      payload = λ x slot. cond (eqb slot 2) (unranked x slot) (link₀ .sending .payload x slot);
+      payload = λ x slot. if slot == 2 then unranked x slot else link₀ .sending .payload x slot;
       changes = 3;
     }
 

@@ -1,10 +1,10 @@
 -- The packet being gathered (request 2026-04): which frames its nibbles came with.
 use mathlib.Core.Path.{_≡_}
-use mathlib.Core.Bool.{Bool, true, cond, not, _&&_}
+use mathlib.Core.Bool.{Bool, true, not, _&&_}
 use mathlib.Core.List.{List, [], _∷_}
 use Prim.Native.Nat.{ℕ, zero, suc, _-_, _≤_, _<_}
-use lib.Dec.{eqb}
 use lib.ListN.{getD, length, set}
+use Rattle.ground.specs.Plain.{if_then_else_, _==_}
 use Rattle.ground.specs.Table.{tabulate}
 use Rattle.packet.specs.Counts.{nibbleIn}
 use Rattle.packet.specs.Kinds.{frames, placeOf, startsEpoch, tagBefore}
@@ -15,13 +15,13 @@ use Rattle.invariant.specs.Calls.{Fetch, Frame, Receiver, ReceiverCall, 
 
 -- a frame to the step record (R-5), by its answer
 abbrev pub isHeard : ℕ → Bool
-isHeard answer = not (eqb answer 1) && not (eqb answer 9) && not (eqb answer 11)
+isHeard answer = not (answer == 1) && not (answer == 9) && not (answer == 11)
 
 -- The H4 bytes of all frames of port j that were frames to its step record, the latest first: after one call more, and after some calls.
 
 abbrev pub heardWith : ℕ → Receiver → ReceiverCall → List ℕ → List ℕ
 heardWith j x (Frame i failed h payload) heard =
-    cond (eqb i j && isHeard (frameAnswer (x .rows) i failed h (length payload) (length (x .store)))) (h ∷ heard) heard
+    if i == j && isHeard (frameAnswer (x .rows) i failed h (length payload) (length (x .store))) then h ∷ heard else heard
 heardWith j x (Fetch out report) heard = heard
 
 abbrev pub heardOf : ℕ → Receiver → List ReceiverCall → List ℕ → List ℕ

@@ -1,9 +1,9 @@
 -- What 01 and the minutes say of reports, as the theorems say it.
 use mathlib.Core.Path.{_≡_}
-use mathlib.Core.Bool.{Bool, _&&_, true, false, cond, not}
+use mathlib.Core.Bool.{Bool, _&&_, true, false, not}
 use mathlib.Core.List.{List, [], _∷_}
 use Prim.Native.Nat.{ℕ, _<_, zero, suc}
-use lib.Dec.{eqb}
+use Rattle.ground.specs.Plain.{if_then_else_, _==_}
 use Rattle.judge.specs.Seen.{sizeOf}
 use Rattle.packet.specs.declared.ruling.Ruling.{Ruling}
 use Rattle.receiver.specs.Report.{rulingEpoch, replyPorts}
@@ -40,8 +40,8 @@ pub record SameRule (n : ℕ) (s t : List (List ℕ)) : Type 0 where
 -- receiving stops in this call: the frame counts, and after it no port is readable
 abbrev pub stopsWith : List (List ℕ) → ℕ → Bool → ℕ → List ℕ → List ℕ → Bool
 stopsWith s i failed h payload store =
-    eqb (frameRefusal s i (length payload) (length store)) 0
-    && not (eqb (takenIn s i failed h .answer) 11)
+    frameRefusal s i (length payload) (length store) == 0
+    && not (takenIn s i failed h .answer == 11)
     && flagOf (groupAt s .begun)
     && silent (groupAt s) (portAfter s i failed h) (portsIn (groupAt s))
 
@@ -77,7 +77,7 @@ reportsOf x [] = []
 reportsOf x (Frame i failed h payload ∷ calls) = reportsOf (receiverAfter x (Frame i failed h payload)) calls
 reportsOf x (Fetch out report ∷ calls) =
     let rest = reportsOf (receiverAfter x (Fetch out report)) calls in
-    cond (gives x out report) (epochGiven x ∷ rest) rest
+    if gives x out report then epochGiven x ∷ rest else rest
 
 -- receiving stops in none of them
 abbrev pub Unstopped : Receiver → List ReceiverCall → Type 0
@@ -92,7 +92,7 @@ successive kind e (suc n) = e ∷ successive kind (epochAfter kind e) n
 
 -- the first epoch to be reported: the one after the epoch that is still to be gathered, or the oldest
 abbrev pub nextReport : Group → ℕ
-nextReport g = cond (flagOf (g .gathered)) (g .oldest) (epochAfter (g .kind) (g .oldest))
+nextReport g = if flagOf (g .gathered) then g .oldest else epochAfter (g .kind) (g .oldest)
 
 -- no frame of port i
 abbrev pub Others : ℕ → List ReceiverCall → Type 0

@@ -1,9 +1,10 @@
 -- Where the packet that rules a port comes from (R-12): it is read from the store when its epoch is passed, and stays until the next one is.
 use mathlib.Core.Path.{_≡_}
 use mathlib.Core.Logic.{_⊎_}
-use mathlib.Core.Bool.{true, false, cond}
+use mathlib.Core.Bool.{true, false}
 use mathlib.Core.List.{List, _∷_, _++_}
 use Prim.Native.Nat.{ℕ, _<_}
+use Rattle.ground.specs.Plain.{if_then_else_}
 use Rattle.packet.specs.Kinds.{epochAfter}
 use Rattle.rows.specs.declared.group.Group.{Group}
 use Rattle.rows.specs.Group.{groupAt}
@@ -27,8 +28,8 @@ pub record Unruled (q : Port) : Type 0 where
 
 -- the oldest epoch is passed: the packet that came with its frames rules, if they all stand in the store, which is what the first mark says
 pub record Passed (g : Group) (store : List ℕ) (i : ℕ) (p q : Port) : Type 0 where
-  pub ruling : q .ruling ≡ cond (firstMark (p .marks)) (packetIn g i store) (p .ruling)
-  pub whole : q .step .whole ≡ cond (firstMark (p .marks)) 1 0
+  pub ruling : q .ruling ≡ (if firstMark (p .marks) then packetIn g i store else p .ruling)
+  pub whole : q .step .whole ≡ (if firstMark (p .marks) then 1 else 0)
 
 -- Of all ports at once: all stays, or receiving stops or begins, or the oldest epoch is passed.
 

@@ -1,8 +1,8 @@
 -- What the code finds on its way to the verdict: one walk over the ports, then the verdict by it.
-use mathlib.Core.Bool.{Bool, cond, not, _&&_, _||_, Bool·beq}
+use mathlib.Core.Bool.{Bool, not, _&&_, _||_, Bool·beq}
 use mathlib.Core.List.{List}
 use Prim.Native.Nat.{ℕ, _+_}
-use lib.Dec.{eqb, ltb}
+use Rattle.ground.specs.Plain.{if_then_else_, _==_, _<?_}
 use Rattle.counting.specs.Words.{some, every, count, greatest}
 use Rattle.judge.specs.declared.seen.Seen.{Seen}
 use Rattle.judge.specs.declared.verdict.Tally.{Tally}
@@ -14,8 +14,8 @@ tallyOf ports n =
     record {
       refused = some n (λ i. refusedSeen (seenAt ports i));
       lacking = some n (λ i. lackingSeen (seenAt ports i));
-      zero = some n (λ i. unidleSeen (seenAt ports i) && eqb (seenAt ports i .gid) 0);
-      other = some n (λ i. unidleSeen (seenAt ports i) && not (eqb (seenAt ports i .gid) 0));
+      zero = some n (λ i. unidleSeen (seenAt ports i) && seenAt ports i .gid == 0);
+      other = some n (λ i. unidleSeen (seenAt ports i) && not (seenAt ports i .gid == 0));
       active = some n (λ i. activeSeen (seenAt ports i));
       eos = some n (λ i. eosSeen (seenAt ports i));
       missing = some n (λ i. not (seenAt ports i .whole));
@@ -29,17 +29,17 @@ tallyWith t p =
     record {
       refused = t .refused || refusedSeen p;
       lacking = t .lacking || lackingSeen p;
-      zero = t .zero || (unidleSeen p && eqb (p .gid) 0);
-      other = t .other || (unidleSeen p && not (eqb (p .gid) 0));
+      zero = t .zero || (unidleSeen p && p .gid == 0);
+      other = t .other || (unidleSeen p && not (p .gid == 0));
       active = t .active || activeSeen p;
       eos = t .eos || eosSeen p;
       missing = t .missing || not (p .whole);
-      highest = cond (activeSeen p && ltb (t .highest) (p .number)) (p .number) (t .highest);
-      numbered = t .numbered + cond (numberedSeen p) 1 0;
+      highest = if activeSeen p && t .highest <? p .number then p .number else t .highest;
+      numbered = t .numbered + (if numberedSeen p then 1 else 0);
     }
 
 unfoldable pub eosAloneBy : List Seen → ℕ → ℕ → Bool
-eosAloneBy ports n top = every n (λ i. Bool·beq (eosSeen (seenAt ports i)) (activeSeen (seenAt ports i) && eqb (seenAt ports i .number) top))
+eosAloneBy ports n top = every n (λ i. Bool·beq (eosSeen (seenAt ports i)) (activeSeen (seenAt ports i) && seenAt ports i .number == top))
 
 unfoldable pub exactTo : List Seen → ℕ → ℕ → Bool
 exactTo ports n limit = every limit (λ q. takes ports n q)

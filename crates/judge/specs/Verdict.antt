@@ -1,8 +1,8 @@
 -- Held, doubtful, sure (01, 'Report of an epoch').
-use mathlib.Core.Bool.{Bool, cond, not, _&&_, _||_, Bool·beq}
+use mathlib.Core.Bool.{Bool, not, _&&_, _||_, Bool·beq}
 use mathlib.Core.List.{List}
 use Prim.Native.Nat.{ℕ}
-use lib.Dec.{eqb}
+use Rattle.ground.specs.Plain.{if_then_else_, _==_}
 use Rattle.counting.specs.Words.{some, every, count, greatest}
 use Rattle.packet.specs.Kinds.{fixedKind}
 use Rattle.judge.specs.declared.seen.Seen.{Seen}
@@ -10,7 +10,7 @@ use Rattle.judge.specs.Seen.{activeSeen, eosSeen, lackingSeen, numberedS
 
 -- one of the first k active and DNU ports has the number q
 unfoldable pub takes : List Seen → ℕ → ℕ → Bool
-takes ports k q = some k (λ j. numberedSeen (seenAt ports j) && eqb (seenAt ports j .number) q)
+takes ports k q = some k (λ j. numberedSeen (seenAt ports j) && seenAt ports j .number == q)
 
 -- 'numbers of active and DNU ports repeat'
 unfoldable pub repeats : List Seen → ℕ → Bool
@@ -19,8 +19,8 @@ repeats ports n = some n (λ i. numberedSeen (seenAt ports i) && takes ports i (
 -- 'GID differs among ports that are not IDLE': one has 0, another has not
 unfoldable pub gidDiffers : List Seen → ℕ → Bool
 gidDiffers ports n =
-    some n (λ i. unidleSeen (seenAt ports i) && eqb (seenAt ports i .gid) 0)
-    && some n (λ i. unidleSeen (seenAt ports i) && not (eqb (seenAt ports i .gid) 0))
+    some n (λ i. unidleSeen (seenAt ports i) && seenAt ports i .gid == 0)
+    && some n (λ i. unidleSeen (seenAt ports i) && not (seenAt ports i .gid == 0))
 
 unfoldable pub highest : List Seen → ℕ → ℕ
 highest ports n = greatest n (λ i. activeSeen (seenAt ports i)) (λ i. seenAt ports i .number)
@@ -28,7 +28,7 @@ highest ports n = greatest n (λ i. activeSeen (seenAt ports i)) (λ i. seenAt p
 -- EOS is on the highest active port alone
 unfoldable pub eosAlone : List Seen → ℕ → Bool
 eosAlone ports n =
-    every n (λ i. Bool·beq (eosSeen (seenAt ports i)) (activeSeen (seenAt ports i) && eqb (seenAt ports i .number) (highest ports n)))
+    every n (λ i. Bool·beq (eosSeen (seenAt ports i)) (activeSeen (seenAt ports i) && seenAt ports i .number == highest ports n))
 
 -- 'some port has no whole ruling packet'
 unfoldable pub missing : List Seen → ℕ → Bool
@@ -68,7 +68,7 @@ SURE = 3
 
 -- by 01
 unfoldable pub lcasVerdict : List Seen → ℕ → ℕ
-lcasVerdict ports n = cond (heldBy ports n) HELD (cond (doubtfulBy ports n) DOUBTFUL SURE)
+lcasVerdict ports n = if heldBy ports n then HELD else if doubtfulBy ports n then DOUBTFUL else SURE
 
 -- A fixed group (request 2026-12). X is how many ports were set at the start: 'A set number of ports never changes while running'.
 
@@ -86,8 +86,8 @@ fixedHeld ports n =
     || not (fixedExact ports n)
 
 unfoldable pub fixedVerdict : List Seen → ℕ → ℕ
-fixedVerdict ports n = cond (fixedHeld ports n) HELD SURE
+fixedVerdict ports n = if fixedHeld ports n then HELD else SURE
 
 -- by the kind of packet
 unfoldable pub judgeOf : ℕ → List Seen → ℕ → ℕ
-judgeOf kind ports n = cond (eqb kind fixedKind) (fixedVerdict ports n) (lcasVerdict ports n)
+judgeOf kind ports n = if kind == fixedKind then fixedVerdict ports n else lcasVerdict ports n

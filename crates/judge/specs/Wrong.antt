@@ -1,10 +1,10 @@
 -- Wrong readings of 01 and of request 2026-12, each as a definition with a run on which it breaks what 01 says.
 use mathlib.Core.Path.{_≡_, refl}
-use mathlib.Core.Bool.{true, false, cond, not, _&&_, _||_}
+use mathlib.Core.Bool.{true, false, not, _&&_, _||_}
 use mathlib.Core.List.{List, [], _∷_}
 use Prim.Native.Nat.{ℕ}
-use lib.Dec.{eqb}
 use Rattle.counting.specs.Words.{some, the}
+use Rattle.ground.specs.Plain.{if_then_else_, _==_}
 use Rattle.ground.specs.Table.{tabulate}
 use Rattle.packet.specs.Kinds.{fixedKind}
 use Rattle.packet.specs.Words.{DNU, EOS, FIXED, NORM}
@@ -18,7 +18,7 @@ sent word number = record { whole = true; good = true; word = word; number = num
 
 -- Slip 1: 'Ranking by number and not by place among active members, so a DNU member leaves a hole.' By DNU 0, NORM 1, EOS 2 no port is found for rank 0, so that port 0 stands there, which is DNU; and EOS 2 is not below X.
 wrong-port : List Seen → ℕ → ℕ → ℕ
-wrong-port ports n r = the n (λ i. activeSeen (seenAt ports i) && eqb (seenAt ports i .number) r)
+wrong-port ports n r = the n (λ i. activeSeen (seenAt ports i) && seenAt ports i .number == r)
 
 abbrev hole : List Seen
 hole = sent DNU 0 ∷ sent NORM 1 ∷ sent EOS 2 ∷ []
@@ -31,7 +31,7 @@ port-breaks = (refl, refl, refl)
 
 -- EOS asked for: no fixed group would ever be sure.
 wrong-eos : List Seen → ℕ → ℕ
-wrong-eos ports n = cond (fixedHeld ports n || eosWrong ports n) HELD SURE
+wrong-eos ports n = if fixedHeld ports n || eosWrong ports n then HELD else SURE
 
 abbrev three : List Seen
 three = sent FIXED 2 ∷ sent FIXED 0 ∷ sent FIXED 1 ∷ []
@@ -43,8 +43,9 @@ eos-breaks = (refl, refl)
 -- Doubtful kept: a gap in the numbers, or a dark port, would give out bytes that are surely not the client's.
 wrong-doubt : List Seen → ℕ → ℕ
 wrong-doubt ports n =
-    cond (some n (λ i. refusedSeen (seenAt ports i)) || some n (λ i. lackingSeen (seenAt ports i)) || repeats ports n) HELD
-    (cond (missing ports n || not (fixedExact ports n)) DOUBTFUL SURE)
+    if some n (λ i. refusedSeen (seenAt ports i)) || some n (λ i. lackingSeen (seenAt ports i)) || repeats ports n then HELD
+    else if missing ports n || not (fixedExact ports n) then DOUBTFUL
+    else SURE
 
 abbrev unseen : Seen
 unseen = record { whole = false; good = false; word = 0; number = 0; gid = 0; here = false }

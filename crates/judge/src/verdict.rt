@@ -3,9 +3,9 @@ use crate::seen;
 use crate::seen::Seen;
 use packet::kinds;
 ghost use mathlib.Core.Path.{_≡_};
-ghost use mathlib.Core.Bool.{cond};
 ghost use mathlib.Core.List.{[], _∷_};
 ghost use Prim.Native.Nat.{_≤_, _<_};
+ghost use Rattle.ground.specs.Plain.{if_then_else_};
 ghost use Rattle.judge.specs.Seen.{sizeOf};
 ghost use Rattle.judge.specs.Tally.{eosAloneBy, exactTo, fixedHeldWith, heldWith, tallyOf, tallyWith};
 ghost use Rattle.judge.specs.Verdict.{fixedVerdict, judgeOf, lcasVerdict, repeats, takes};
@@ -34,7 +34,7 @@ struct Tally {
 }
 
 fn choose(test: bool, one: u8, other: u8) -> u8
-    ensures { λ r. ⌜ r ≡ cond test one other ⌝ }
+    ensures { λ r. ⌜ r ≡ (if test then one else other) ⌝ }
 {
     if test { one } else { other }
 }

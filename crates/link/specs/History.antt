@@ -1,10 +1,10 @@
 -- Our sender's side of demand 3: 'any client bytes and any history of members our sender allows from one start', and what each slot then sends.
 use mathlib.Core.Path.{_≡_}
-use mathlib.Core.Bool.{Bool, false, cond, not}
+use mathlib.Core.Bool.{Bool, false, not}
 use mathlib.Core.List.{List}
 use Prim.Native.Nat.{ℕ, zero, suc, _*_, _≤_, _<_}
-use lib.Dec.{eqb}
 use lib.ListN.{length, replicate}
+use Rattle.ground.specs.Plain.{if_then_else_, _==_}
 use Rattle.packet.specs.declared.layout.Fields.{Fields}
 use Rattle.packet.specs.Kinds.{epochs, fixedKind, frames}
 use Rattle.sender.specs.declared.epochs.Sender.{Sender}
@@ -27,7 +27,7 @@ pub record History : Type 0 where
 
 -- 'A group has 1 to 64 slots at the sender'; a fixed group (request 2026-12) is none of our sender's; the numbers lent are a byte's or a bit's. Which commands and reports come is free: one that is refused changes nothing.
 pub record Allowed (h : History) : Type 0 where
-  pub lcas : eqb (h .kind) fixedKind ≡ false
+  pub lcas : (h .kind == fixedKind) ≡ false
   pub some : 1 ≤ h .slots
   pub most : h .slots ≤ 64
   pub first : h .first < epochs (h .kind)
@@ -74,7 +74,7 @@ payloadSent h P client x slot = payloadBytes (senderAt h (epochAt (h .kind) x)) 
 
 -- the slot has a rank in the epoch of the frame at x
 unfoldable pub hasRank : History → ℕ → ℕ → Bool
-hasRank h x slot = not (eqb (rankIn (senderAt h (epochAt (h .kind) x)) slot) noRank)
+hasRank h x slot = not (rankIn (senderAt h (epochAt (h .kind) x)) slot == noRank)
 
 -- What a history sends. A slot with no rank carries none of the client's bytes: whatever else it carries is given.
 abbrev pub sendingOf : History → ℕ → Client → (ℕ → ℕ → List ℕ) → Sending
@@ -88,6 +88,6 @@ sendingOf h P client unranked =
       number = numberSent h;
       gid = λ i slot. fieldsSent h i slot .gid;
       x = xAt h;
-      payload = λ x slot. cond (hasRank h x slot) (payloadSent h P client x slot) (unranked x slot);
+      payload = λ x slot. if hasRank h x slot then payloadSent h P client x slot else unranked x slot;
       changes = 3;
     }

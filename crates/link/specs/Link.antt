@@ -1,12 +1,13 @@
 -- Demand 3's environment: what is sent, its lines and one receiver (the minutes, item 3), and the reports that are then to come.
 use mathlib.Core.Path.{_≡_}
 use mathlib.Core.Logic.{_⊎_}
-use mathlib.Core.Bool.{Bool, true, cond}
+use mathlib.Core.Bool.{Bool, true}
 use mathlib.Core.List.{List, [], _∷_, _++_}
 use Prim.Native.Nat.{ℕ, zero, suc, _+_, _-_, _*_, _%_, _≤_, _<_}
 use lib.ListN.{drop, getD, length}
 use Rattle.counting.specs.Words.{every}
 pub use Rattle.ground.specs.Finite.{sameBytes}
+use Rattle.ground.specs.Plain.{if_then_else_}
 use Rattle.judge.specs.Verdict.{HELD, SURE}
 use Rattle.packet.specs.Counts.{nibbleIn, nibblePlace}
 use Rattle.packet.specs.Kinds.{firstTag, frames, lead}
@@ -142,10 +143,10 @@ clientBytes k i = framesOf (k .client) (epochStart (kindOf k) i) (epochFrames k)
 -- stands as it was lent: where it is held, the whole output.
 unfoldable pub expected : Link → ℕ → List ℕ → Told
 expected k i out =
-    let bytes = cond (allAsSent k i) (clientBytes k (suc i)) [] in
+    let bytes = if allAsSent k i then clientBytes k (suc i) else [] in
     record {
       epoch = epochNumber (kindOf k) (k .sending .first) (suc i);
-      mark = cond (allAsSent k i) SURE HELD;
+      mark = if allAsSent k i then SURE else HELD;
       bytes = bytes;
       rest = drop (length bytes) out;
     }

@@ -1,11 +1,10 @@
 -- The moments of a run, by which demand 3 is said: in frame time t the ports of `done` have been served, those of `rest` are still to come.
 use mathlib.Core.Path.{_≡_}
 use mathlib.Core.Logic.{_⊎_}
-use mathlib.Core.Bool.{cond}
 use mathlib.Core.List.{List, [], _∷_, _++_}
 use Prim.Native.Nat.{ℕ, zero, suc, _+_, _-_, _*_, _≤_, _<_}
-use lib.Dec.{leb, ltb}
 use lib.ListN.{length}
+use Rattle.ground.specs.Plain.{if_then_else_, _<?_, _≤?_}
 use Rattle.step.specs.Laws.Run.{startFrom}
 use Rattle.link.specs.Road.{L, Road, times}
 use Rattle.link.specs.Running.{Moment, hasBegun, through, turns}
@@ -24,7 +23,7 @@ module _ (r : Road) where
   nextAt t rest p = r .first p + (t + 1 - times p rest - (r .delay p + r .first p))
 
   unfoldable pub coming : ℕ → List ℕ → ℕ → ℕ
-  coming t rest p = cond (ltb p (r .ports)) (nextAt t rest p) (r .first p)
+  coming t rest p = if p <? r .ports then nextAt t rest p else r .first p
 
   -- the foremost position that has come
   pub record Foremost (coming : ℕ → ℕ) (F : ℕ) : Type 0 where
@@ -61,11 +60,11 @@ module _ (r : Road) where
 
   -- the answer to port p's frame at position x: 12 until the port has had two multiframes, the first of which starts at MFI1 0
   abbrev pub said : ℕ → ℕ → ℕ
-  said p x = cond (leb (startFrom (r .kind) (r .offset) (r .first p) + L r * 2) (x + 1)) 0 12
+  said p x = if startFrom (r .kind) (r .offset) (r .first p) + L r * 2 ≤? x + 1 then 0 else 12
 
   -- of a port's turn in frame time t
   abbrev pub saysOne : ℕ → ℕ → List ℕ
-  saysOne t p = cond (leb (r .delay p + r .first p) t) (said p (t - r .delay p) ∷ []) []
+  saysOne t p = if r .delay p + r .first p ≤? t then said p (t - r .delay p) ∷ [] else []
 
   -- of some ports, one after the other, and of all frame times before t
   abbrev pub says : ℕ → List ℕ → List ℕ

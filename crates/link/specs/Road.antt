@@ -1,9 +1,8 @@
 -- What reaches the receiver, and when (the minutes, demand 3). Nothing here knows what the frames mean.
 -- A line's frames have positions 0, 1, 2, .. in an endless count; the frame at position x has the tag of x + offset.
-use mathlib.Core.Bool.{cond}
 use mathlib.Core.List.{List, [], _∷_}
 use Prim.Native.Nat.{ℕ, _+_, _<_}
-use lib.Dec.{eqb}
+use Rattle.ground.specs.Plain.{if_then_else_, _==_}
 use Rattle.packet.specs.Kinds.{frames}
 
 pub record Road : Type 0 where
@@ -34,7 +33,7 @@ L r = frames (r .kind)
 -- how often a port stands in a list
 abbrev pub times : ℕ → List ℕ → ℕ
 times p [] = 0
-times p (q ∷ qs) = cond (eqb p q) 1 0 + times p qs
+times p (q ∷ qs) = (if p == q then 1 else 0) + times p qs
 
 -- all ports of a list are below n
 abbrev pub Below : ℕ → List ℕ → Type 0

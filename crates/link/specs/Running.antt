@@ -1,9 +1,9 @@
 -- The receiver on a road: its own definitions, called frame by frame, each with the state and the store that the last call left.
-use mathlib.Core.Bool.{false, cond}
+use mathlib.Core.Bool.{false}
 use mathlib.Core.List.{List, [], _∷_, _++_}
 use Prim.Native.Nat.{ℕ, zero, suc, _+_, _-_, _*_}
-use lib.Dec.{eqb, leb}
 use lib.ListN.{drop, getD, length, take}
+use Rattle.ground.specs.Plain.{if_then_else_, _==_, _≤?_}
 use Rattle.receiver.specs.Fetch.{fetchOut, fetchRecord, fetchRows}
 use Rattle.receiver.specs.Frame.{frameAnswer, frameRows, frameStore}
 use Rattle.receiver.specs.Starting.{startAsRows}
@@ -74,11 +74,11 @@ module _ (r : Road) where
   -- 'reports fetched after each frame until none is due': at most k of them (the theorem says that none is due then)
   unfoldable pub drained : ℕ → Moment → Moment
   drained zero m = m
-  drained (suc k) m = cond (eqb (getD (recordAt m) 0 0) 0) m (drained k (fetched m))
+  drained (suc k) m = if getD (recordAt m) 0 0 == 0 then m else drained k (fetched m)
 
   -- port p's turn in frame time t: its frame, if its first one is not still to come, and then the reports
   unfoldable pub turn : ℕ → ℕ → Moment → Moment
-  turn t p m = cond (leb (r .delay p + r .first p) t) (drained (r .window) (framed p (t - r .delay p) m)) m
+  turn t p m = if r .delay p + r .first p ≤? t then drained (r .window) (framed p (t - r .delay p) m) else m
 
   unfoldable pub turns : ℕ → List ℕ → Moment → Moment
   turns t [] m = m

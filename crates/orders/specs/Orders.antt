@@ -1,9 +1,8 @@
 -- A whole work order at once (02, 2026-07): 'Take a list of commands, each a small record of kind, group and slot, and answer each in a lent list of numbers.'
-use mathlib.Core.Bool.{cond}
 use mathlib.Core.List.{List}
 use Prim.Native.Nat.{ℕ}
-use lib.Dec.{eqb, ltb}
 use lib.ListN.{length, set, take}
+use Rattle.ground.specs.Plain.{if_then_else_, _==_, _<?_}
 use Rattle.circuits.specs.declared.answers.Answer.the-variants as A
 use Rattle.circuits.specs.declared.card.Card.{Card}
 use Rattle.circuits.specs.declared.card.CardOutcome.{CardOutcome}
@@ -41,21 +40,21 @@ ordersOf card cs = folded cardBy numberBy card cs
 
 -- 'answers list of a different length than the commands is 9, and nothing is done'
 abbrev pub orderedOf : Card → List Command → ℕ → Ordered
-orderedOf card cs k = cond (eqb (length cs) k) (record { card = ordersOf card cs .state; answer = A.Done }) (record { card = card; answer = A.Length })
+orderedOf card cs k = if length cs == k then (record { card = ordersOf card cs .state; answer = A.Done }) else (record { card = card; answer = A.Length })
 
 abbrev pub answersOf : Card → List Command → List ℕ → List ℕ
-answersOf card cs ys = cond (eqb (length cs) (length ys)) (ordersOf card cs .numbers) ys
+answersOf card cs ys = if length cs == length ys then ordersOf card cs .numbers else ys
 
 -- the parts of the code: how many turns its loop has, and what it ends with
 abbrev pub turnsOf : ℕ → ℕ → ℕ
-turnsOf m k = cond (eqb m k) m 0
+turnsOf m k = if m == k then m else 0
 
 abbrev pub finishOf : Card → ℕ → ℕ → Ordered
-finishOf card m k = cond (eqb m k) (record { card = card; answer = A.Done }) (record { card = card; answer = A.Length })
+finishOf card m k = if m == k then (record { card = card; answer = A.Done }) else (record { card = card; answer = A.Length })
 
 -- the first n of an array of 64; where n is more than there are, 9
 abbrev pub firstOrdered : Card → List Command → ℕ → ℕ → Ordered
-firstOrdered card cs n k = cond (ltb 64 n) (record { card = card; answer = A.Length }) (orderedOf card (take n cs) k)
+firstOrdered card cs n k = if 64 <? n then (record { card = card; answer = A.Length }) else orderedOf card (take n cs) k
 
 abbrev pub firstAnswers : Card → List Command → ℕ → List ℕ → List ℕ
-firstAnswers card cs n ys = cond (ltb 64 n) ys (answersOf card (take n cs) ys)
+firstAnswers card cs n ys = if 64 <? n then ys else answersOf card (take n cs) ys

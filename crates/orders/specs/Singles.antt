@@ -1,9 +1,8 @@
 -- The commands of an order as single calls of the card, and what one group has of an order: what the theorems speak of.
-use mathlib.Core.Bool.{cond}
 use mathlib.Core.List.{List, [], _∷_}
 use Prim.Native.Nat.{ℕ}
-use lib.Dec.{eqb}
 use lib.ListN.{getD, length, take}
+use Rattle.ground.specs.Plain.{if_then_else_, _==_}
 use Rattle.ground.specs.Table.{tabulate}
 use Rattle.circuits.specs.declared.card.Card.{Card}
 use Rattle.circuits.specs.Answers.{answerNumber}
@@ -37,9 +36,9 @@ singleNumbers card cs = tabulate (length cs) (λ i. singleNumber (run card (sing
 -- of a list of commands: those of group g, and the answers to them, in their order
 abbrev pub commandsOf : ℕ → List Command → List Command
 commandsOf g [] = []
-commandsOf g (c ∷ cs) = cond (eqb (c .group) g) (c ∷ commandsOf g cs) (commandsOf g cs)
+commandsOf g (c ∷ cs) = if c .group == g then c ∷ commandsOf g cs else commandsOf g cs
 
 abbrev pub answersTo : ℕ → List Command → List ℕ → List ℕ
 answersTo g [] ns = []
 answersTo g (c ∷ cs) [] = []
-answersTo g (c ∷ cs) (n ∷ ns) = cond (eqb (c .group) g) (n ∷ answersTo g cs ns) (answersTo g cs ns)
+answersTo g (c ∷ cs) (n ∷ ns) = if c .group == g then n ∷ answersTo g cs ns else answersTo g cs ns

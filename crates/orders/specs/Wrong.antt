@@ -1,9 +1,9 @@
 -- Wrong readings of request 2026-07, each as a definition with an order on which it breaks what the request says.
 use mathlib.Core.Path.{_≡_, refl}
-use mathlib.Core.Bool.{Bool, true, false, cond, _&&_}
+use mathlib.Core.Bool.{Bool, true, false, _&&_}
 use mathlib.Core.List.{List, [], _∷_, _++_}
 use Prim.Native.Nat.{ℕ}
-use lib.Dec.{eqb}
+use Rattle.ground.specs.Plain.{if_then_else_, _==_}
 use Rattle.packet.specs.Kinds.{idleNumber}
 use Rattle.sender.specs.Commands.{addOf, addedTo, fallen, fallenIn, freshOf, idleSlot, removeOf, removedFrom}
 use Rattle.sender.specs.Commands as T
@@ -27,7 +27,7 @@ fresh = after 2 []
 -- Stops at the first refusal, and answers 255 from there on. 'refusals included': what comes after a refusal is done.
 wrong-stops : Card → List Command → List ℕ
 wrong-stops card [] = []
-wrong-stops card (c ∷ cs) = numberBy card c ∷ cond (eqb (numberBy card c) 0) (wrong-stops (outcomeBy card c .card) cs) (untried cs)
+wrong-stops card (c ∷ cs) = numberBy card c ∷ (if numberBy card c == 0 then wrong-stops (outcomeBy card c .card) cs else untried cs)
   where
     untried : List Command → List ℕ
     untried [] = []
@@ -53,10 +53,10 @@ judges-breaks = (refl, refl)
 -- All or nothing: with one refusal the card stays as it was given. One claim is refused here, and the other slot is owned all the same.
 all-done : List ℕ → Bool
 all-done [] = true
-all-done (n ∷ ns) = eqb n 0 && all-done ns
+all-done (n ∷ ns) = n == 0 && all-done ns
 
 wrong-whole : Card → List Command → Card
-wrong-whole card cs = cond (all-done (ordersOf card cs .numbers)) (ordersOf card cs .state) card
+wrong-whole card cs = if all-done (ordersOf card cs .numbers) then ordersOf card cs .state else card
 
 whole-breaks :
     (owns (wrong-whole fresh (claim 0 0 ∷ claim 0 0 ∷ [])) 0 0 ≡ false)
@@ -67,7 +67,7 @@ whole-breaks = (refl, refl)
 -- Takes the commands by kind, claims first and removes last, as if to help. 'in that order': here the add comes before its claim, and is refused.
 of-kind : (K.Kind → Bool) → List Command → List Command
 of-kind is [] = []
-of-kind is (c ∷ cs) = cond (is (c .kind)) (c ∷ of-kind is cs) (of-kind is cs)
+of-kind is (c ∷ cs) = if is (c .kind) then c ∷ of-kind is cs else of-kind is cs
 
 is-claim : K.Kind → Bool
 is-claim K.Kind.Claim = true

@@ -1,9 +1,9 @@
 -- Fixed groups (request 2026-12): 'H4 carries MFI1, MFI2 and SQ in their places. All other nibbles are written zero and, but for the control word, not looked at in reading; no CRC is checked.'
-use mathlib.Core.Bool.{Bool, cond, _&&_}
+use mathlib.Core.Bool.{Bool, _&&_}
 use mathlib.Core.List.{List, [], _∷_}
 use Prim.Native.Nat.{ℕ, _/_, _%_}
-use lib.Dec.{eqb, ltb}
 use lib.ListN.{getD, length}
+use Rattle.ground.specs.Plain.{if_then_else_, _==_, _<?_}
 use Rattle.packet.specs.declared.layout.Fields.{Fields}
 use Rattle.packet.specs.declared.reader.Reading.{Reading}
 use Rattle.packet.specs.declared.reader.Reading.the-variants.{Packet, Length, Unassigned}
@@ -24,25 +24,25 @@ abbrev pub fixedFields : ℕ → ℕ → Fields
 fixedFields epoch sq = record { epoch = epoch; word = record { 0 = FIXED }; gid = 0; mst = 0; «rs_ack» = 0; sq = sq; reserved = 0 }
 
 abbrev pub fixedFits : ℕ → ℕ → Bool
-fixedFits epoch sq = ltb epoch 256 && ltb sq 256
+fixedFits epoch sq = epoch <? 256 && sq <? 256
 
 -- 'For writing: 9, 8' (01); 'the word FIXED is no cause for 8'
 unfoldable pub writeFixedAnswer : ℕ → ℕ → List ℕ → Writing
-writeFixedAnswer epoch sq s = cond (eqb (length s) 16) (cond (fixedFits epoch sq) Done Field) Short
+writeFixedAnswer epoch sq s = if length s == 16 then (if fixedFits epoch sq then Done else Field) else Short
 
 -- the lent H4 bytes afterwards: the packet, or as they were
 unfoldable pub writeFixedBytes : ℕ → ℕ → List ℕ → List ℕ
-writeFixedBytes epoch sq s = cond (eqb (length s) 16) (cond (fixedFits epoch sq) (h4Of (fixedNibbles epoch sq)) s) s
+writeFixedBytes epoch sq s = if length s == 16 then (if fixedFits epoch sq then h4Of (fixedNibbles epoch sq) else s) else s
 
 -- 'Number 7 is not given; a word other than FIXED is 6.'
 unfoldable pub readFixedNibbles : List ℕ → Reading
 readFixedNibbles ns =
-    cond (eqb (getD ns 10 0 % 16) FIXED)
-    (Packet (fixedFields (byteOf (getD ns 8 0) (getD ns 9 0)) (byteOf (getD ns 6 0) (getD ns 7 0))))
-    Unassigned
+    if getD ns 10 0 % 16 == FIXED
+    then Packet (fixedFields (byteOf (getD ns 8 0) (getD ns 9 0)) (byteOf (getD ns 6 0) (getD ns 7 0)))
+    else Unassigned
 
 unfoldable pub readFixedAnswer : List ℕ → Reading
-readFixedAnswer s = cond (eqb (length s) 16) (readFixedNibbles (highsOf s)) Length
+readFixedAnswer s = if length s == 16 then readFixedNibbles (highsOf s) else Length
 
 -- what it rules; whether it is of the receiver's own epoch is the step rule's to judge (request 2026-04)
 unfoldable pub fixedRulingOf : List ℕ → Ruling

@@ -1,9 +1,9 @@
 -- Epochs, tags and MST (01, 'The control packet'), by the kind of packet. There are two kinds of one clock, H4 and FIXED (request 2026-12); any other number counts as H4.
 use mathlib.Core.Bool.{Bool}
 use Prim.Native.Nat.{ℕ, _+_, _-_, _*_, _/_, _%_, _^_}
-use lib.Dec.{eqb}
 use Rattle.ground.specs.Bits.{odd}
 use Rattle.ground.specs.Circle.{after}
+use Rattle.ground.specs.Plain.{_==_}
 
 abbrev pub fixedKind : ℕ
 fixedKind = 2
@@ -43,7 +43,7 @@ unfoldable pub placeOf : ℕ → ℕ → ℕ
 placeOf kind t = (t + lead kind) % frames kind
 
 unfoldable pub startsEpoch : ℕ → ℕ → Bool
-startsEpoch kind t = eqb (placeOf kind t) 0
+startsEpoch kind t = placeOf kind t == 0
 
 unfoldable pub epochOf : ℕ → ℕ → ℕ
 epochOf kind t = (t + lead kind) % tags kind / frames kind
@@ -53,7 +53,7 @@ unfoldable pub epochsIn : ℕ → ℕ → ℕ
 epochsIn kind d = d / frames kind % epochs kind
 
 unfoldable pub endsEpoch : ℕ → ℕ → Bool
-endsEpoch kind d = eqb (d % frames kind) (frames kind - 1)
+endsEpoch kind d = d % frames kind == frames kind - 1
 
 -- the tag with which an epoch starts
 unfoldable pub firstTag : ℕ → ℕ → ℕ

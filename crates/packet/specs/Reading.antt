@@ -1,9 +1,8 @@
 -- A packet read (01, 'Answer numbers').
-use mathlib.Core.Bool.{cond}
 use mathlib.Core.List.{List, [], _∷_}
 use Prim.Native.Nat.{ℕ}
-use lib.Dec.{eqb}
 use lib.ListN.{length, take}
+use Rattle.ground.specs.Plain.{if_then_else_, _==_}
 use Rattle.packet.specs.declared.reader.Reading.{Reading}
 use Rattle.packet.specs.declared.reader.Reading.the-variants.{Packet, Length, Crc, Fixed, Unassigned}
 use Rattle.packet.specs.Crc.{crcOf}
@@ -29,9 +28,9 @@ readingValues Unassigned = []
 -- 'For reading a packet: 9, 5, 7, 6'
 unfoldable pub readNibbles : List ℕ → Reading
 readNibbles ns =
-    cond (eqb (crcOf (take 14 ns)) (carriedIn ns))
-    (cond (eqb (fieldsOf ns .word .0) FIXED) Fixed (cond (assigned (fieldsOf ns .word)) (Packet (fieldsOf ns)) Unassigned))
-    Crc
+    if crcOf (take 14 ns) == carriedIn ns
+    then (if fieldsOf ns .word .0 == FIXED then Fixed else if assigned (fieldsOf ns .word) then Packet (fieldsOf ns) else Unassigned)
+    else Crc
 
 unfoldable pub readAnswer : List ℕ → Reading
-readAnswer s = cond (eqb (length s) 16) (readNibbles (highsOf s)) Length
+readAnswer s = if length s == 16 then readNibbles (highsOf s) else Length

@@ -1,7 +1,7 @@
 -- Control words (01, 'The control packet'): FIXED 0, ADD 1, NORM 2, EOS 3, IDLE 5, DNU 15. All others are unassigned.
 use mathlib.Core.Bool.{Bool, _||_}
 use Prim.Native.Nat.{ℕ, _%_}
-use lib.Dec.{eqb}
+use Rattle.ground.specs.Plain.{_==_}
 use Rattle.packet.specs.declared.words.Word.{Word}
 
 abbrev pub FIXED : ℕ
@@ -24,7 +24,7 @@ DNU = 15
 
 unfoldable pub assigned : Word → Bool
 assigned w =
-    eqb (w .0) FIXED || eqb (w .0) ADD || eqb (w .0) NORM || eqb (w .0) EOS || eqb (w .0) IDLE || eqb (w .0) DNU
+    w .0 == FIXED || w .0 == ADD || w .0 == NORM || w .0 == EOS || w .0 == IDLE || w .0 == DNU
 
 -- a nibble's word, and a word's nibble: the low four bits of any byte
 abbrev pub wordOf : ℕ → Word

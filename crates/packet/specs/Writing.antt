@@ -1,9 +1,9 @@
 -- A packet written (01, 'Answer numbers').
-use mathlib.Core.Bool.{Bool, cond, _&&_, not}
+use mathlib.Core.Bool.{Bool, _&&_, not}
 use mathlib.Core.List.{List}
 use Prim.Native.Nat.{ℕ, _^_}
-use lib.Dec.{eqb, ltb}
 use lib.ListN.{length}
+use Rattle.ground.specs.Plain.{if_then_else_, _==_, _<?_}
 use Rattle.packet.specs.declared.layout.Fields.{Fields}
 use Rattle.packet.specs.declared.writer.Writing.{Writing}
 use Rattle.packet.specs.declared.writer.Writing.the-variants.{Done, Length, Field}
@@ -19,19 +19,19 @@ writingNumber Field = 8
 -- 8: 'a field given for writing is too large, or its word is FIXED or unassigned'
 unfoldable pub fitting : Fields → Bool
 fitting f =
-    ltb (f .epoch) 256
-    && ltb (f .mst) 256
-    && ltb (f .sq) 256
-    && ltb (f .gid) 2
-    && ltb (f .«rs_ack») 2
-    && ltb (f .reserved) (2 ^ 26)
-    && not (eqb (f .word .0) FIXED)
+    f .epoch <? 256
+    && f .mst <? 256
+    && f .sq <? 256
+    && f .gid <? 2
+    && f .«rs_ack» <? 2
+    && f .reserved <? 2 ^ 26
+    && not (f .word .0 == FIXED)
     && assigned (f .word)
 
 -- 'For writing: 9, 8.'
 unfoldable pub writeAnswer : Fields → List ℕ → Writing
-writeAnswer f s = cond (eqb (length s) 16) (cond (fitting f) Done Field) Length
+writeAnswer f s = if length s == 16 then (if fitting f then Done else Field) else Length
 
 -- the lent H4 bytes afterwards: the packet, or as they were
 unfoldable pub writeBytes : Fields → List ℕ → List ℕ
-writeBytes f s = cond (eqb (length s) 16) (cond (fitting f) (h4Of (nibblesOf f)) s) s
+writeBytes f s = if length s == 16 then (if fitting f then h4Of (nibblesOf f) else s) else s

@@ -1,12 +1,12 @@
 -- Wrong readings of 01 and of requests 2026-08, 2026-02 and 2026-12, each as a definition with a run on which it breaks what these say.
 use mathlib.Core.Path.{_≡_, refl}
-use mathlib.Core.Bool.{Bool, true, false, cond}
+use mathlib.Core.Bool.{Bool, true, false}
 use mathlib.Core.List.{List, [], _∷_, _++_}
 use Prim.Native.Nat.{ℕ, zero, suc, _+_, _-_, _*_, _/_, _%_, _^_}
 use lib.Bits.{bitXor}
-use lib.Dec.{eqb}
 use lib.ListN.{getD, take, replicate}
 use Rattle.ground.specs.Bits.{odd}
+use Rattle.ground.specs.Plain.{if_then_else_, _==_}
 use Rattle.packet.specs.declared.layout.Fields.{Fields}
 use Rattle.packet.specs.declared.reader.Reading.{Reading}
 use Rattle.packet.specs.declared.reader.Reading.the-variants.{Packet, Crc, Fixed, Unassigned}
@@ -45,8 +45,9 @@ fails-breaks = (refl, refl)
 -- The word judged before the CRC. 'For reading a packet: 9, 5, 7, 6': a word FIXED under a wrong CRC is 5.
 wrong-read : List ℕ → Reading
 wrong-read ns =
-    cond (eqb (fieldsOf ns .word .0) FIXED) Fixed
-    (cond (assigned (fieldsOf ns .word)) (cond (eqb (crcOf (take 14 ns)) (carriedIn ns)) (Packet (fieldsOf ns)) Crc) Unassigned)
+    if fieldsOf ns .word .0 == FIXED then Fixed
+    else if assigned (fieldsOf ns .word) then (if crcOf (take 14 ns) == carriedIn ns then Packet (fieldsOf ns) else Crc)
+    else Unassigned
 
 read-breaks : (wrong-read (1 ∷ replicate 15 0) ≡ Fixed) × (readNibbles (1 ∷ replicate 15 0) ≡ Crc)
 unfolding wrong-read readNibbles fieldsOf carriedIn crcOf divisor nibbleBits

@@ -1,9 +1,9 @@
 -- The small check of a proposal.
-use mathlib.Core.Bool.{Bool, cond, not, _&&_}
+use mathlib.Core.Bool.{Bool, not, _&&_}
 use mathlib.Core.List.{List}
 use Prim.Native.Nat.{ℕ, _-_}
-use lib.Dec.{eqb, leb, ltb}
 use lib.ListN.{length}
+use Rattle.ground.specs.Plain.{if_then_else_, _==_, _<?_, _≤?_}
 use Rattle.counting.specs.Words.{every}
 use Rattle.paths.specs.declared.checking.Checked.{Checked}
 use Rattle.paths.specs.Answers.{answerOf, inRange}
@@ -11,22 +11,22 @@ use Rattle.paths.specs.Paths.{delayAt, pathAt}
 
 -- how far two delays lie apart
 abbrev pub apart : ℕ → ℕ → ℕ
-apart x y = cond (ltb x y) (y - x) (x - y)
+apart x y = if x <? y then y - x else x - y
 
 -- two candidates are different and at most s apart
 unfoldable pub agree : List ℕ → ℕ → ℕ → ℕ → Bool
-agree delays s i j = not (eqb i j) && leb (apart (delayAt delays i) (delayAt delays j)) s
+agree delays s i j = not (i == j) && apart (delayAt delays i) (delayAt delays j) ≤? s
 
 -- entry a agrees with every entry before it
 unfoldable pub agreesWith : List ℕ → List ℕ → ℕ → ℕ → Bool
 agreesWith delays set s a = every a (λ b. agree delays s (pathAt set b) (pathAt set a))
 
 abbrev pub fits : List ℕ → List ℕ → ℕ → ℕ → Bool
-fits delays set s a = ltb (pathAt set a) (length delays) && agreesWith delays set s a
+fits delays set s a = pathAt set a <? length delays && agreesWith delays set s a
 
 -- there are k entries, and each names a candidate and agrees with those before it
 unfoldable pub accepts : List ℕ → ℕ → ℕ → List ℕ → Bool
-accepts delays k s set = eqb (length set) k && every (length set) (fits delays set s)
+accepts delays k s set = length set == k && every (length set) (fits delays set s)
 
 unfoldable pub checkedOf : List ℕ → ℕ → ℕ → List ℕ → Checked
 checkedOf delays k W set = record { accepted = inRange delays k W && accepts delays k (W - 16) set; answer = answerOf delays k W }

@@ -1,11 +1,11 @@
 -- The planner: of the candidates in order, the k in a row with the least spread, of several such the first.
 -- So it is always the same set, of the tightest the one with the least delays, and the receiver's window may be smallest.
-use mathlib.Core.Bool.{Bool, cond}
+use mathlib.Core.Bool.{Bool}
 use mathlib.Core.List.{List, [], _∷_, _++_}
 use Prim.Native.Nat.{ℕ, zero, suc, _+_, _-_}
-use lib.Dec.{leb, ltb}
 use lib.ListN.{length, getD, replicate}
 use Rattle.ground.specs.Drawn.{within}
+use Rattle.ground.specs.Plain.{if_then_else_, _<?_, _≤?_}
 use Rattle.paths.specs.declared.answers.Answer.{Answer}
 use Rattle.paths.specs.declared.answers.Answer.the-variants.{Done}
 use Rattle.paths.specs.declared.planning.Proposal.{Proposal}
@@ -18,7 +18,7 @@ abbrev pub stretchFrom : List ℕ → ℕ → ℕ → Stretch
 stretchFrom sorted far first = record { first = first; spread = getD sorted (first + far) 0 - getD sorted first 0 }
 
 abbrev pub tighter : Stretch → Stretch → Stretch
-tighter one other = cond (ltb (other .spread) (one .spread)) other one
+tighter one other = if other .spread <? one .spread then other else one
 
 -- of the stretches from rank 0 and from each of the first m ranks the tightest, of several the first
 abbrev pub tightest : List ℕ → ℕ → ℕ → Stretch
@@ -28,7 +28,7 @@ tightest sorted far (suc m) = tighter (tightest sorted far m) (stretchFrom sorte
 -- the numbers below n at which the test holds, rising
 abbrev pub listed : ℕ → (ℕ → Bool) → List ℕ
 listed zero f = []
-listed (suc n) f = listed n f ++ cond (f n) (n ∷ []) []
+listed (suc n) f = listed n f ++ (if f n then n ∷ [] else [])
 
 -- k in a row are k - 1 ranks from first to last, and begin at the latest where k are left
 unfoldable pub tightestOf : List ℕ → ℕ → Stretch
@@ -39,11 +39,11 @@ inStretch ranks first k i = within first k (getD ranks i 0)
 
 unfoldable pub proposed : List ℕ → ℕ → ℕ → List ℕ
 proposed delays k s =
-    cond (leb (tightestOf delays k .spread) s) (listed (length delays) (inStretch (ranksOf delays) (tightestOf delays k .first) k)) []
+    if tightestOf delays k .spread ≤? s then listed (length delays) (inStretch (ranksOf delays) (tightestOf delays k .first) k) else []
 
 -- what the planner proposes; the empty list says none
 unfoldable pub setOf : List ℕ → ℕ → ℕ → List ℕ
-setOf delays k W = cond (inRange delays k W) (proposed delays k (W - 16)) []
+setOf delays k W = if inRange delays k W then proposed delays k (W - 16) else []
 
 -- in a plan's 64 bytes the rest is 255
 abbrev pub padded : List ℕ → List ℕ

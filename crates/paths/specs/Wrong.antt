@@ -3,10 +3,10 @@ use mathlib.Core.Path.{_≡_, refl}
 use mathlib.Core.Bool.{Bool, true, false, not, _&&_, _||_}
 use mathlib.Core.List.{List, [], _∷_}
 use Prim.Native.Nat.{ℕ, _+_, _-_}
-use lib.Dec.{eqb, leb, ltb}
 use lib.ListN.{length}
 use Rattle.counting.specs.Words.{every}
 use Rattle.ground.specs.Circle.{after}
+use Rattle.ground.specs.Plain.{_==_, _<?_, _≤?_}
 use Rattle.paths.specs.Checking.{accepts, agree, agreesWith, apart}
 use Rattle.paths.specs.Order.{candidateAt, rankOf, ranksOf, sortedBy}
 use Rattle.paths.specs.Paths.{delayAt, pathAt}
@@ -25,7 +25,7 @@ room-breaks = (refl, refl)
 
 -- Delays counted round 4,096: 4,095 and 0 lie 1 apart there, and here 4,095.
 wrong-agree : List ℕ → ℕ → ℕ → ℕ → Bool
-wrong-agree delays s i j = not (eqb i j) && (leb (after 4096 (delayAt delays i) (delayAt delays j)) s || leb (after 4096 (delayAt delays j) (delayAt delays i)) s)
+wrong-agree delays s i j = not (i == j) && (after 4096 (delayAt delays i) (delayAt delays j) ≤? s || after 4096 (delayAt delays j) (delayAt delays i) ≤? s)
 
 round-breaks : (wrong-agree (4095 ∷ 0 ∷ []) 2032 0 1 ≡ true) × (agree (4095 ∷ 0 ∷ []) 2032 0 1 ≡ false)
 unfolding wrong-agree agree after
@@ -34,7 +34,7 @@ round-breaks = (refl, refl)
 -- A set with a candidate twice: k entries within the spread, and only one path.
 wrong-different : List ℕ → ℕ → ℕ → List ℕ → Bool
 wrong-different delays k s set =
-    eqb (length set) k && every (length set) (λ a. ltb (pathAt set a) (length delays) && every a (λ b. leb (apart (delayAt delays (pathAt set b)) (delayAt delays (pathAt set a))) s))
+    length set == k && every (length set) (λ a. pathAt set a <? length delays && every a (λ b. apart (delayAt delays (pathAt set b)) (delayAt delays (pathAt set a)) ≤? s))
 
 twice-breaks : (wrong-different (5 ∷ 90 ∷ []) 2 0 (0 ∷ 0 ∷ []) ≡ true) × (accepts (5 ∷ 90 ∷ []) 2 0 (0 ∷ 0 ∷ []) ≡ false)
 unfolding wrong-different accepts agreesWith agree
@@ -42,7 +42,7 @@ twice-breaks = (refl, refl)
 
 -- The k earliest alone: with the first candidate far before the rest it says none where there is a set.
 wrong-earliest : List ℕ → ℕ → ℕ → Bool
-wrong-earliest delays k s = leb (stretchFrom (sortedBy delays (ranksOf delays)) (k - 1) 0 .spread) s
+wrong-earliest delays k s = stretchFrom (sortedBy delays (ranksOf delays)) (k - 1) 0 .spread ≤? s
 
 earliest-breaks : (wrong-earliest (0 ∷ 100 ∷ 101 ∷ []) 2 4 ≡ false) × (proposed (0 ∷ 100 ∷ 101 ∷ []) 2 4 ≡ 1 ∷ 2 ∷ [])
 unfolding wrong-earliest proposed tightestOf sortedBy ranksOf rankOf candidateAt

@@ -1,6 +1,6 @@
 // What the planner and the check refuse, both alike: 4, 'before any search'.
 ghost use mathlib.Core.Path.{_≡_};
-ghost use mathlib.Core.Bool.{cond};
+ghost use Rattle.ground.specs.Plain.{if_then_else_};
 ghost use Rattle.paths.specs.Answers.{answerOf, areShort, numberOf, sized};
 
 pub enum Answer {
@@ -39,7 +39,7 @@ fn are_short(delays: &[u32]) -> bool
 }
 
 fn by_delays(short: bool) -> Answer
-    ensures { λ r. ⌜ r ≡ cond short Answer.Done Answer.Range ⌝ }
+    ensures { λ r. ⌜ r ≡ (if short then Answer.Done else Answer.Range) ⌝ }
 {
     if short { Answer::Done } else { Answer::Range }
 }

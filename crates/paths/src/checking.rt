@@ -4,8 +4,8 @@ use crate::answers::Answer;
 use crate::order;
 ghost use mathlib.Core.Path.{_≡_};
 ghost use Prim.Native.Nat.{_<_};
-ghost use lib.Dec.{ltb};
 ghost use lib.ListN.{length};
+ghost use Rattle.ground.specs.Plain.{_<?_};
 ghost use Rattle.paths.specs.Checking.{accepts, agree, agreesWith, apart, checkedOf};
 
 pub struct Checked {
@@ -21,7 +21,7 @@ fn apart(x: u32, y: u32) -> u32
 }
 
 fn is_named(delays: &[u32], path: u8) -> bool
-    ensures { λ r. ⌜ r ≡ ltb path (length (now (delays .entry))) ⌝ }
+    ensures { λ r. ⌜ r ≡ (path <? length (now (delays .entry))) ⌝ }
 {
     (path as usize) < delays.len()
 }

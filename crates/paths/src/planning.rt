@@ -3,11 +3,11 @@ use crate::answers;
 use crate::answers::Answer;
 use crate::order;
 ghost use mathlib.Core.Path.{_≡_};
-ghost use mathlib.Core.Bool.{cond, _&&_};
+ghost use mathlib.Core.Bool.{_&&_};
 ghost use Prim.Native.Nat.{_+_, _-_, _≤_, _<_};
-ghost use lib.Dec.{ltb};
 ghost use lib.ListN.{length, set};
 ghost use Rattle.ground.specs.Drawn.{within};
+ghost use Rattle.ground.specs.Plain.{if_then_else_, _<?_};
 ghost use Rattle.paths.specs.Planning.{listedPlan, nothing, planOf, proposedPlan, stretchFrom, tighter, tightest};
 
 pub struct Proposal {
@@ -82,7 +82,7 @@ fn is_within(rank: u8, first: usize, k: usize) -> bool
 }
 
 fn put_path(paths: [u8; 64], at: u8, chosen: bool, path: u8) -> [u8; 64]
-    ensures { λ r. ⌜ r ≡ cond (chosen && ltb at 64) (set paths at path) paths ⌝ }
+    ensures { λ r. ⌜ r ≡ (if chosen && at <? 64 then set paths at path else paths) ⌝ }
 {
     let mut next = paths;
     if chosen & (at < 64) {

@@ -1,7 +1,7 @@
 -- What spreading and joining answer (01, 'Answer numbers'): 4, then 9.
-use mathlib.Core.Bool.{Bool, cond, _&&_}
+use mathlib.Core.Bool.{Bool, _&&_}
 use Prim.Native.Nat.{ℕ}
-use lib.Dec.{leb}
+use Rattle.ground.specs.Plain.{if_then_else_, _≤?_}
 use Rattle.payload.specs.declared.answer.Answer.{Answer}
 use Rattle.payload.specs.declared.answer.Answer.the-variants.{Done, Range, Length}
 
@@ -24,8 +24,8 @@ PAYLOAD-MOST = 2340
 
 -- 4 is for 'X above 64, or P'.
 abbrev pub sized : ℕ → ℕ → Bool
-sized X P = leb X 64 && leb 1 P && leb P PAYLOAD-MOST
+sized X P = X ≤? 64 && 1 ≤? P && P ≤? PAYLOAD-MOST
 
 -- The order of 01's numbers: first the sizes, then the lengths.
 abbrev pub answerBy : Bool → Bool → Answer
-answerBy sizes lengths = cond sizes (cond lengths Done Length) Range
+answerBy sizes lengths = if sizes then (if lengths then Done else Length) else Range

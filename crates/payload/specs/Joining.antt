@@ -2,17 +2,17 @@
 use mathlib.Core.Bool.{Bool, _&&_}
 use mathlib.Core.List.{List}
 use Prim.Native.Nat.{ℕ, _+_, _*_}
-use lib.Dec.{eqb, leb}
 use lib.ListN.{length, getD}
 use Rattle.ground.specs.Drawn.{fillAt}
 use Rattle.ground.specs.Finite.{below}
+use Rattle.ground.specs.Plain.{_==_, _≤?_}
 use Rattle.payload.specs.declared.answer.Answer.{Answer}
 use Rattle.payload.specs.Answers.{sized, answerBy, underDone}
 use Rattle.payload.specs.Order.{groupByte, groupFrame}
 
 -- The group frame and the members have exactly X x P bytes each.
 abbrev pub wholeAnswer : ℕ → ℕ → ℕ → ℕ → Answer
-wholeAnswer X P from to = answerBy (sized X P) (eqb from (X * P) && eqb to (X * P))
+wholeAnswer X P from to = answerBy (sized X P) (from == X * P && to == X * P)
 
 -- the member ranked r lies at r x P
 abbrev pub rankedByte : ℕ → List ℕ → ℕ → ℕ → ℕ
@@ -27,10 +27,10 @@ startedByte starts store r j = getD store (getD starts r 0 + j) 0
 
 -- Each ranked member ends within the store, and the group frame from its place on within the output.
 abbrev pub startsFit : ℕ → ℕ → List ℕ → ℕ → Bool
-startsFit X P starts store = below X (λ r. leb (getD starts r 0 + P) store)
+startsFit X P starts store = below X (λ r. getD starts r 0 + P ≤? store)
 
 abbrev pub fromAnswer : ℕ → ℕ → List ℕ → ℕ → ℕ → ℕ → Answer
-fromAnswer X P starts store place out = answerBy (sized X P) (leb (place + X * P) out && startsFit X P starts store)
+fromAnswer X P starts store place out = answerBy (sized X P) (place + X * P ≤? out && startsFit X P starts store)
 
 -- What lies outside the group frame stays.
 abbrev pub joinedFrom : ℕ → ℕ → List ℕ → List ℕ → ℕ → List ℕ → List ℕ

@@ -2,8 +2,8 @@
 use mathlib.Core.Bool.{_&&_}
 use mathlib.Core.List.{List}
 use Prim.Native.Nat.{ℕ, _*_, _/_, _%_}
-use lib.Dec.{eqb}
 use lib.ListN.{length}
+use Rattle.ground.specs.Plain.{_==_}
 use Rattle.ground.specs.Table.{tabulate}
 use Rattle.payload.specs.declared.answer.Answer.{Answer}
 use Rattle.payload.specs.Answers.{sized, answerBy, underDone}
@@ -19,7 +19,7 @@ spreadAll X P frame members = underDone (wholeAnswer X P (length frame) (length 
 
 -- One member: the group frame has exactly X x P bytes and the member P.
 abbrev pub oneAnswer : ℕ → ℕ → ℕ → ℕ → Answer
-oneAnswer X P frame member = answerBy (sized X P) (eqb frame (X * P) && eqb member P)
+oneAnswer X P frame member = answerBy (sized X P) (frame == X * P && member == P)
 
 abbrev pub spreadOne : ℕ → ℕ → ℕ → List ℕ → List ℕ → List ℕ
 spreadOne X P r frame member = underDone (oneAnswer X P (length frame) (length member)) (memberFrame X P frame r) member

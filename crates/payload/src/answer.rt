@@ -1,9 +1,8 @@
 // What spreading and joining answer (01, 'Answer numbers': 4, then 9).
 ghost use mathlib.Core.Path.{_≡_};
-ghost use mathlib.Core.Bool.{cond};
 ghost use Prim.Native.Nat.{_+_, _≤_};
-ghost use lib.Dec.{leb};
 ghost use lib.ListN.{length};
+ghost use Rattle.ground.specs.Plain.{if_then_else_, _≤?_};
 ghost use Rattle.payload.specs.Answers.{numberOf, sized};
 ghost use Rattle.payload.specs.Joining.{wholeAnswer, fromAnswer, startsFit};
 ghost use Rattle.payload.specs.Spreading.{oneAnswer};
@@ -37,7 +36,7 @@ fn is_sized(x: usize, p: usize) -> bool
 }
 
 fn by_lengths(right: bool) -> Answer
-    ensures { λ r. ⌜ r ≡ cond right Answer.Done Answer.Length ⌝ }
+    ensures { λ r. ⌜ r ≡ (if right then Answer.Done else Answer.Length) ⌝ }
 {
     if right { Answer::Done } else { Answer::Length }
 }
@@ -68,7 +67,7 @@ pub(crate) fn one(x: usize, p: usize, frame: usize, member: usize) -> Answer
 
 // Whether n bytes from a place on end within a slice of the given length.
 fn ends_within(place: usize, n: usize, len: usize) -> bool
-    ensures { λ r. ⌜ r ≡ leb (place + n) len ⌝ }
+    ensures { λ r. ⌜ r ≡ (place + n ≤? len) ⌝ }
 {
     if n <= len { place <= len - n } else { false }
 }

@@ -1,8 +1,8 @@
 -- When receiving begins (01, 'Beginning'). That this is 01's sentence is proved in Theorems/Arc.
-use mathlib.Core.Bool.{Bool, cond, not, _&&_, _||_}
+use mathlib.Core.Bool.{Bool, not, _&&_, _||_}
 use mathlib.Core.List.{List}
 use Prim.Native.Nat.{ℕ, zero, suc, _+_, _/_}
-use lib.Dec.{eqb, leb, ltb}
+use Rattle.ground.specs.Plain.{if_then_else_, _==_, _<?_, _≤?_}
 use Rattle.counting.specs.Words.{every}
 use Rattle.packet.specs.Kinds.{distanceOf, frames, tagBefore, tags}
 use Rattle.rows.specs.declared.group.Group.{Group}
@@ -25,7 +25,7 @@ noTag g = tags (g .kind)
 -- the foremost of the latest tags: a tag takes the place of one that it follows within half a round
 unfoldable pub further : Group → ℕ → Step → ℕ
 further g fore step =
-    cond (inStep g step && (eqb fore (noTag g) || ltb (distanceOf (g .kind) (latest g step) fore) (tags (g .kind) / 2))) (latest g step) fore
+    if inStep g step && (fore == noTag g || distanceOf (g .kind) (latest g step) fore <? tags (g .kind) / 2) then latest g step else fore
 
 unfoldable pub foremost : Group → List (List ℕ) → ℕ → ℕ
 foremost g s zero = noTag g
@@ -33,10 +33,10 @@ foremost g s (suc n) = further g (foremost g s n) (stepAt s n)
 
 -- 'the latest tags of those in step lie within an arc of W-15 tags': none more than W - 16 behind the foremost
 unfoldable pub within : Group → ℕ → Step → Bool
-within g fore step = not (inStep g step) || leb (distanceOf (g .kind) fore (latest g step) + frames (g .kind)) (g .window)
+within g fore step = not (inStep g step) || distanceOf (g .kind) fore (latest g step) + frames (g .kind) ≤? g .window
 
 unfoldable pub begins : Group → List (List ℕ) → ℕ → Bool
 begins g s n =
     every n (λ i. ready g (stepAt s i))
-    && not (eqb (foremost g s n) (noTag g))
+    && not (foremost g s n == noTag g)
     && every n (λ i. within g (foremost g s n) (stepAt s i))

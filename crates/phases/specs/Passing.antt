@@ -1,8 +1,9 @@
 -- The oldest epoch passed: gathered, or reported (01, 'Beginning', 'Report of an epoch'). Each port's packet of that epoch comes to rule, if it stands whole in the store.
-use mathlib.Core.Bool.{Bool, cond}
+use mathlib.Core.Bool.{Bool}
 use mathlib.Core.List.{List}
 use Prim.Native.Nat.{ℕ, zero, suc, _-_}
 use lib.ListN.{set}
+use Rattle.ground.specs.Plain.{if_then_else_}
 use Rattle.packet.specs.Kinds.{epochAfter, frames}
 use Rattle.packet.specs.declared.ruling.Ruling.{Ruling}
 use Rattle.step.specs.OwnCount.{ownRuling}
@@ -18,7 +19,7 @@ use Rattle.store.specs.Marks.{firstMark, passedMarks}
 
 -- 'Each port keeps sixteen nibbles of the packet being gathered beside those of the packet that rules': the second is the one that rules
 unfoldable pub ruledBy : List (List ℕ) → Bool → List ℕ → List (List ℕ)
-ruledBy pair whole nibbles = cond whole (set pair 1 nibbles) pair
+ruledBy pair whole nibbles = if whole then set pair 1 nibbles else pair
 
 -- 'joined at a later epoch' comes nearer by one epoch
 unfoldable pub passedStep : Step → Bool → Step
@@ -32,7 +33,7 @@ passedStep s whole =
       joined = s .joined;
       since = s .since;
       later = s .later - 1;
-      whole = cond whole 1 0;
+      whole = if whole then 1 else 0;
       breaks = s .breaks;
       odd = s .odd;
     }
@@ -42,8 +43,8 @@ unfoldable pub notedBy : Member → Bool → Ruling → Member
 notedBy m whole r =
     record {
       spare = m .spare;
-      word = cond whole (cond (r .good) (r .word) (m .word)) (m .word);
-      number = cond whole (cond (r .good) (r .number) (m .number)) (m .number);
+      word = if whole then (if r .good then r .word else m .word) else m .word;
+      number = if whole then (if r .good then r .number else m .number) else m .number;
       state = m .state;
       «state_number» = m .«state_number»;
       «told_word» = m .«told_word»;

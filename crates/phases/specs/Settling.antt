@@ -1,8 +1,9 @@
 -- What follows from a frame for all ports (01, 'Beginning'): stopping comes first, then the beginning, then gathering.
-use mathlib.Core.Bool.{Bool, true, false, cond, not, _&&_}
+use mathlib.Core.Bool.{Bool, true, false, not, _&&_}
 use mathlib.Core.List.{List}
 use Prim.Native.Nat.{ℕ, zero, suc}
 use lib.ListN.{replicate}
+use Rattle.ground.specs.Plain.{if_then_else_}
 use Rattle.packet.specs.Kinds.{epochAfter, epochOf}
 use Rattle.phases.specs.Beginning.{begins, foremost}
 use Rattle.phases.specs.Due.{brought, silent}
@@ -24,7 +25,7 @@ clearedStep s since =
       count = s .count;
       next = s .next;
       joined = 0;
-      since = cond since 1 0;
+      since = if since then 1 else 0;
       later = 0;
       whole = 0;
       breaks = s .breaks;
@@ -43,7 +44,7 @@ unfoldable pub stoppedOf : Group → ℕ → List (List ℕ) → List (List ℕ)
 stoppedOf g n s = putGroup (clearedPorts g false n s) (groupTo g 0 0 0 (g .origin) (g .«rs_ack»))
 
 unfoldable pub stopBy : Group → ℕ → List (List ℕ) → List (List ℕ)
-stopBy g n s = cond (flagOf (g .begun) && silent g s n) (stoppedOf g n s) s
+stopBy g n s = if flagOf (g .begun) && silent g s n then stoppedOf g n s else s
 
 -- 'The next epoch to start after the foremost tag is gathered'
 unfoldable pub begunOf : Group → ℕ → List (List ℕ) → List (List ℕ)
@@ -51,11 +52,11 @@ begunOf g n s =
     putGroup (clearedPorts g true n s) (groupTo g 1 0 (epochAfter (g .kind) (epochOf (g .kind) (foremost g s n))) (g .origin) (g .«rs_ack»))
 
 unfoldable pub beginBy : Group → ℕ → List (List ℕ) → List (List ℕ)
-beginBy g n s = cond (not (flagOf (g .begun)) && begins g s n) (begunOf g n s) s
+beginBy g n s = if not (flagOf (g .begun)) && begins g s n then begunOf g n s else s
 
 -- 'gathered, in the call that makes it due, and not reported'
 unfoldable pub gatherBy : Group → List ℕ → ℕ → List (List ℕ) → List (List ℕ)
-gatherBy g store n s = cond (flagOf (g .begun) && not (flagOf (g .gathered)) && brought g s n) (passedOf g store n s) s
+gatherBy g store n s = if flagOf (g .begun) && not (flagOf (g .gathered)) && brought g s n then passedOf g store n s else s
 
 -- each on the state that the one before left
 unfoldable pub settledOf : ℕ → List ℕ → List (List ℕ) → List (List ℕ)

@@ -8,8 +8,8 @@ use rows::Step;
 use store::frames;
 use store::marks;
 ghost use mathlib.Core.Path.{_≡_};
-ghost use mathlib.Core.Bool.{cond};
 ghost use Prim.Native.Nat.{_-_};
+ghost use Rattle.ground.specs.Plain.{if_then_else_};
 ghost use Rattle.store.specs.Frames.{ringOf};
 ghost use Rattle.phases.specs.Passing.{groupTo, notedBy, passedGroup, passedOf, passedPort, passedPorts, passedStep, ruledBy};
 
@@ -51,7 +51,7 @@ fn passed_step(s: Step, whole: bool) -> Step
 
 // A good packet's byte where the packet is whole and good.
 fn good_byte(whole: bool, good: bool, new: u8, old: u8) -> u8
-    ensures { λ r. ⌜ r ≡ cond whole (cond good new old) old ⌝ }
+    ensures { λ r. ⌜ r ≡ (if whole then (if good then new else old) else old) ⌝ }
 {
     if whole & good { new } else { old }
 }

@@ -6,7 +6,7 @@ use rows::Step;
 ghost use mathlib.Core.Path.{_≡_};
 ghost use mathlib.Core.Bool.{_&&_, _||_};
 ghost use Prim.Native.Nat.{_/_};
-ghost use lib.Dec.{eqb, ltb};
+ghost use Rattle.ground.specs.Plain.{_==_, _<?_};
 ghost use Rattle.counting.specs.Words.{every};
 ghost use Rattle.packet.specs.Kinds.{distanceOf, tags};
 ghost use Rattle.rows.specs.Step.{stepAt};
@@ -34,7 +34,7 @@ fn no_tag(group: Group) -> u16
 }
 
 fn leads(group: Group, fore: u16, step: Step) -> bool
-    ensures { λ r. ⌜ r ≡ (inStep group step && (eqb fore (noTag group) || ltb (distanceOf (group .kind) (latest group step) fore) (tags (group .kind) / 2))) ⌝ }
+    ensures { λ r. ⌜ r ≡ (inStep group step && (fore == noTag group || distanceOf (group .kind) (latest group step) fore <? tags (group .kind) / 2)) ⌝ }
 {
     let in_step = step::in_step(group, step);
     let tag = latest(group, step);

@@ -1,9 +1,9 @@
 -- A report fetched (01, 'Report of an epoch'; 'For fetching: 9 first').
-use mathlib.Core.Bool.{Bool, cond, _&&_}
+use mathlib.Core.Bool.{Bool, _&&_}
 use mathlib.Core.List.{List, [], _∷_}
 use Prim.Native.Nat.{ℕ, _/_, _%_}
-use lib.Dec.{ltb}
 use lib.ListN.{length}
+use Rattle.ground.specs.Plain.{if_then_else_, _<?_}
 use Rattle.phases.specs.Due.{brought}
 use Rattle.phases.specs.Sizes.{portsIn}
 use Rattle.receiver.specs.declared.report.Report.{Report}
@@ -15,7 +15,7 @@ use Rattle.step.specs.Arrival.{flagOf}
 
 -- a report is due
 unfoldable pub dueIn : Group → ℕ → List (List ℕ) → Bool
-dueIn g n s = ltb 0 n && flagOf (g .begun) && flagOf (g .gathered) && brought g s n
+dueIn g n s = 0 <? n && flagOf (g .begun) && flagOf (g .gathered) && brought g s n
 
 abbrev pub noneDue : Report
 noneDue = record { mark = 0; epoch = 0; x = 0; bytes = 0 }
@@ -36,26 +36,26 @@ recordOf r =
 -- 'A fetch with none due answers 0, says so, and changes nothing.'
 
 unfoldable pub reportIfDue : Group → ℕ → List (List ℕ) → Report
-reportIfDue g n s = cond (dueIn g n s) (reportOf g (seenAll g s n) n) noneDue
+reportIfDue g n s = if dueIn g n s then reportOf g (seenAll g s n) n else noneDue
 
 unfoldable pub rowsIfDue : Group → ℕ → List (List ℕ) → List ℕ → List (List ℕ)
-rowsIfDue g n s store = cond (dueIn g n s) (reportedOf g store n s) s
+rowsIfDue g n s store = if dueIn g n s then reportedOf g store n s else s
 
 unfoldable pub outIfDue : Group → ℕ → List (List ℕ) → List ℕ → List ℕ → List ℕ
-outIfDue g n s store out = cond (dueIn g n s) (outputOf g (seenAll g s n) n store out) out
+outIfDue g n s store out = if dueIn g n s then outputOf g (seenAll g s n) n store out else out
 
 module _ (s : List (List ℕ)) (store out report : List ℕ) where
   unfoldable pub fits : Bool
   fits = fetchFits (groupAt s) (portsIn (groupAt s)) (length s) (length store) (length out) (length report)
 
   unfoldable pub fetchAnswer : ℕ
-  fetchAnswer = cond fits 0 9
+  fetchAnswer = if fits then 0 else 9
 
   unfoldable pub fetchRows : List (List ℕ)
-  fetchRows = cond fits (rowsIfDue (groupAt s) (portsIn (groupAt s)) s store) s
+  fetchRows = if fits then rowsIfDue (groupAt s) (portsIn (groupAt s)) s store else s
 
   unfoldable pub fetchOut : List ℕ
-  fetchOut = cond fits (outIfDue (groupAt s) (portsIn (groupAt s)) s store out) out
+  fetchOut = if fits then outIfDue (groupAt s) (portsIn (groupAt s)) s store out else out
 
   unfoldable pub fetchRecord : List ℕ
-  fetchRecord = cond fits (recordOf (reportIfDue (groupAt s) (portsIn (groupAt s)) s)) report
+  fetchRecord = if fits then recordOf (reportIfDue (groupAt s) (portsIn (groupAt s)) s) else report

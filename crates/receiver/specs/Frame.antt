@@ -1,9 +1,9 @@
 -- A frame's arrival (01, 'The receiver'; 'For frames: 1, 9, 10, 12, 11').
-use mathlib.Core.Bool.{Bool, cond}
+use mathlib.Core.Bool.{Bool}
 use mathlib.Core.List.{List, []}
 use Prim.Native.Nat.{ℕ}
-use lib.Dec.{eqb, ltb}
 use lib.ListN.{getD, length, set}
+use Rattle.ground.specs.Plain.{if_then_else_, _==_, _<?_}
 use Rattle.packet.specs.Counts.{nibbleIn}
 use Rattle.packet.specs.Kinds.{endsEpoch, epochsIn, placeOf, tagAfter, tagBefore}
 use Rattle.phases.specs.Settling.{settledOf}
@@ -25,12 +25,12 @@ ownTag kind t = tagBefore kind (t .step .next)
 
 -- 'sixteen nibbles of the packet being gathered': a counted frame's nibble goes to the place of its tag there
 unfoldable pub gatheredBy : ℕ → List (List ℕ) → Bool → ℕ → ℕ → List (List ℕ)
-gatheredBy kind pair counted tag h = cond counted (set pair 0 (set (getD pair 0 []) (placeOf kind tag) (nibbleIn kind h))) pair
+gatheredBy kind pair counted tag h = if counted then set pair 0 (set (getD pair 0 []) (placeOf kind tag) (nibbleIn kind h)) else pair
 
 -- joining at an epoch drops what the port had stored from that epoch on; the last frame of an epoch marks it
 unfoldable pub marksBy : ℕ → List ℕ → Taken → List ℕ
 marksBy kind marks t =
-    cond (t .joins) (cutFrom marks (t .step .later)) (cond (t .kept) (cond (endsEpoch kind (t .at)) (markedAt marks (epochsIn kind (t .at))) marks) marks)
+    if t .joins then cutFrom marks (t .step .later) else if t .kept then (if endsEpoch kind (t .at) then markedAt marks (epochsIn kind (t .at)) else marks) else marks
 
 -- the port's rows after a frame
 unfoldable pub portRows : ℕ → List (List ℕ) → ℕ → Taken → ℕ → List (List ℕ)
@@ -44,18 +44,18 @@ steadyRows kind next h i s =
 
 -- the store after a frame
 unfoldable pub storeBy : Group → ℕ → Taken → ℕ → List ℕ → List ℕ → List ℕ
-storeBy g i t h payload store = cond (t .kept) (storedAt store (placeIn g i (t .at)) payload h) store
+storeBy g i t h payload store = if t .kept then storedAt store (placeIn g i (t .at)) payload h else store
 
 unfoldable pub settledBy : Bool → ℕ → List ℕ → List (List ℕ) → List (List ℕ)
-settledBy settles n store s = cond settles (settledOf n store s) s
+settledBy settles n store s = if settles then settledOf n store s else s
 
 -- A frame in step outside the window leaves all as given.
 unfoldable pub takenRows : Group → ℕ → List (List ℕ) → ℕ → Taken → ℕ → List ℕ → List ℕ → List (List ℕ)
 takenRows g n s i t h payload store =
-    cond (eqb (t .answer) 11) s (settledBy (t .settles) n (storeBy g i t h payload store) (portRows (g .kind) s i t h))
+    if t .answer == 11 then s else settledBy (t .settles) n (storeBy g i t h payload store) (portRows (g .kind) s i t h)
 
 unfoldable pub takenStore : Group → ℕ → Taken → ℕ → List ℕ → List ℕ → List ℕ
-takenStore g i t h payload store = cond (eqb (t .answer) 11) store (storeBy g i t h payload store)
+takenStore g i t h payload store = if t .answer == 11 then store else storeBy g i t h payload store
 
 -- whether the frame ends an odd packet, by the packet being gathered and the tag to come
 abbrev pub oddIn : List (List ℕ) → ℕ → ℕ → Bool
@@ -76,21 +76,21 @@ decidedStore s i failed h payload store = takenStore (groupAt s) i (takenIn s i 
 
 -- 1: 'port not below the group's count'; 9: 'payload, store .. length wrong'
 unfoldable pub refusalBy : Group → ℕ → ℕ → ℕ → ℕ → ℕ → ℕ
-refusalBy g n i rows payload store = cond (ltb i n) (cond (frameFits g n rows payload store) 0 9) 1
+refusalBy g n i rows payload store = if i <? n then (if frameFits g n rows payload store then 0 else 9) else 1
 
 abbrev pub frameRefusal : List (List ℕ) → ℕ → ℕ → ℕ → ℕ
 frameRefusal s i payload store = refusalBy (groupAt s) (portsIn (groupAt s)) i (length s) payload store
 
 unfoldable pub frameAnswer : List (List ℕ) → ℕ → Bool → ℕ → ℕ → ℕ → ℕ
 frameAnswer s i failed h payload store =
-    cond (eqb (frameRefusal s i payload store) 0) (takenIn s i failed h .answer) (frameRefusal s i payload store)
+    if frameRefusal s i payload store == 0 then takenIn s i failed h .answer else frameRefusal s i payload store
 
 unfoldable pub frameRows : List (List ℕ) → ℕ → Bool → ℕ → List ℕ → List ℕ → List (List ℕ)
 frameRows s i failed h payload store =
-    cond (eqb (frameRefusal s i (length payload) (length store)) 0)
-    (takenRows (groupAt s) (portsIn (groupAt s)) s i (takenIn s i failed h) h payload store)
-    s
+    if frameRefusal s i (length payload) (length store) == 0
+    then takenRows (groupAt s) (portsIn (groupAt s)) s i (takenIn s i failed h) h payload store
+    else s
 
 unfoldable pub frameStore : List (List ℕ) → ℕ → Bool → ℕ → List ℕ → List ℕ → List ℕ
 frameStore s i failed h payload store =
-    cond (eqb (frameRefusal s i (length payload) (length store)) 0) (takenStore (groupAt s) i (takenIn s i failed h) h payload store) store
+    if frameRefusal s i (length payload) (length store) == 0 then takenStore (groupAt s) i (takenIn s i failed h) h payload store else store

@@ -1,7 +1,7 @@
 -- Lengths of what is lent (01, 'Answer numbers': 9).
 use mathlib.Core.Bool.{Bool, _&&_, _||_}
 use Prim.Native.Nat.{ℕ, _*_}
-use lib.Dec.{eqb, leb}
+use Rattle.ground.specs.Plain.{_==_, _≤?_}
 use Rattle.packet.specs.Kinds.{frames}
 use Rattle.phases.specs.Sizes.{storeFor}
 use Rattle.rows.specs.declared.group.Group.{Group}
@@ -9,11 +9,11 @@ use Rattle.rows.specs.Rows.{rowsFor}
 
 -- the state's rows fit the count; an empty group has any
 unfoldable pub rowsFit : ℕ → ℕ → Bool
-rowsFit n rows = eqb n 0 || eqb rows (rowsFor n)
+rowsFit n rows = n == 0 || rows == rowsFor n
 
 -- 'payload, store .. length'
 unfoldable pub frameFits : Group → ℕ → ℕ → ℕ → ℕ → Bool
-frameFits g n rows payload store = rowsFit n rows && eqb payload (g .payload) && eqb store (storeFor g n)
+frameFits g n rows payload store = rowsFit n rows && payload == g .payload && store == storeFor g n
 
 -- 'The lent output holds at least ports x 16 x P bytes.'
 unfoldable pub outputFor : Group → ℕ → ℕ
@@ -25,4 +25,4 @@ reportBytes = 8
 
 unfoldable pub fetchFits : Group → ℕ → ℕ → ℕ → ℕ → ℕ → Bool
 fetchFits g n rows store out report =
-    rowsFit n rows && eqb store (storeFor g n) && leb (outputFor g n) out && eqb report reportBytes
+    rowsFit n rows && store == storeFor g n && outputFor g n ≤? out && report == reportBytes

@@ -1,9 +1,9 @@
 -- The report of an epoch (01, 'Report of an epoch', 'Member states and reply').
-use mathlib.Core.Bool.{false, cond}
+use mathlib.Core.Bool.{false}
 use mathlib.Core.List.{List, []}
 use Prim.Native.Nat.{ℕ, zero, suc, _*_}
-use lib.Dec.{eqb}
 use lib.ListN.{getD, replicate}
+use Rattle.ground.specs.Plain.{if_then_else_, _==_}
 use Rattle.counting.specs.Each.{each}
 use Rattle.judge.specs.declared.order.Order.{Order}
 use Rattle.judge.specs.declared.seen.Seen.{Seen}
@@ -68,7 +68,7 @@ framesInto g o store (suc k) out = frameInto g o store k (framesInto g o store k
 -- what the fetched report says
 unfoldable pub reportBy : Group → ℕ → Order → Report
 reportBy g mark o =
-    let x = cond (eqb mark HELD) 0 (o .x) in
+    let x = if mark == HELD then 0 else o .x in
     record { mark = mark; epoch = g .oldest; x = x; bytes = x * frames (g .kind) * g .payload }
 
 unfoldable pub reportOf : Group → List Seen → ℕ → Report
@@ -76,7 +76,7 @@ reportOf g seen n = reportBy g (judgeOf (g .kind) seen (sizeOf n)) (orderOf seen
 
 -- held: 'No bytes.' Otherwise 'Sixteen group frames from the active ports seen.' 'Output beyond those bytes stays.'
 unfoldable pub outputBy : Group → ℕ → Order → List ℕ → List ℕ → List ℕ
-outputBy g mark o store out = cond (eqb mark HELD) out (framesInto g o store (frames (g .kind)) out)
+outputBy g mark o store out = if mark == HELD then out else framesInto g o store (frames (g .kind)) out
 
 unfoldable pub outputOf : Group → List Seen → ℕ → List ℕ → List ℕ → List ℕ
 outputOf g seen n store out = outputBy g (judgeOf (g .kind) seen (sizeOf n)) (orderOf seen (sizeOf n)) store out

@@ -1,11 +1,11 @@
 -- What the host reads out: the ports, and the reply (01, 'Member states and reply').
-use mathlib.Core.Bool.{Bool, cond, _&&_}
+use mathlib.Core.Bool.{Bool, _&&_}
 use mathlib.Core.List.{List, [], _∷_}
 use Prim.Native.Nat.{ℕ}
-use lib.Dec.{eqb}
 use lib.ListN.{length}
 use Rattle.counting.specs.Each.{each}
 use Rattle.ground.specs.Flags.{oneIf}
+use Rattle.ground.specs.Plain.{if_then_else_, _==_}
 use Rattle.judge.specs.Seen.{sizeOf}
 use Rattle.packet.specs.Kinds.{fixedKind, idleNumber}
 use Rattle.phases.specs.Sizes.{portsIn}
@@ -23,11 +23,11 @@ use Rattle.step.specs.Arrival.{flagOf, inStep, readable}
 
 -- the number that goes with a port's state; an IDLE port has none
 abbrev pub shownNumber : ℕ → Member → ℕ
-shownNumber kind m = cond (eqb (m .state) idleState) (idleNumber kind) (m .«state_number»)
+shownNumber kind m = if m .state == idleState then idleNumber kind else m .«state_number»
 
 -- which timer runs: 0 none, 1 hold-off, 2 restoring (02, 2026-03)
 abbrev pub waitingByte : Member → ℕ
-waitingByte m = cond (eqb (m .elapsed) 0) 0 (cond (eqb (m .state) okState) 1 (cond (eqb (m .state) failState) 2 0))
+waitingByte m = if m .elapsed == 0 then 0 else if m .state == okState then 1 else if m .state == failState then 2 else 0
 
 -- eight bytes a port: state, number, in step, joined, readable, flagged failed, the last good word, waiting
 unfoldable pub portShown : Group → Step → Member → List ℕ
@@ -46,20 +46,20 @@ unfoldable pub portIn : Group → List (List ℕ) → ℕ → List ℕ
 portIn g s i = portShown g (stepAt s i) (memberAt s i)
 
 unfoldable pub shownFit : ℕ → ℕ → ℕ → Bool
-shownFit n rows out = rowsFit n rows && eqb out n
+shownFit n rows out = rowsFit n rows && out == n
 
 unfoldable pub portsAnswer : List (List ℕ) → ℕ → ℕ
-portsAnswer s out = cond (shownFit (portsIn (groupAt s)) (length s) out) 0 9
+portsAnswer s out = if shownFit (portsIn (groupAt s)) (length s) out then 0 else 9
 
 unfoldable pub portsOut : List (List ℕ) → List (List ℕ) → List (List ℕ)
 portsOut s out =
-    cond (shownFit (portsIn (groupAt s)) (length s) (length out))
-    (each (portsIn (groupAt s)) (portIn (groupAt s) s) out)
-    out
+    if shownFit (portsIn (groupAt s)) (length s) (length out)
+    then each (portsIn (groupAt s)) (portIn (groupAt s) s) out
+    else out
 
 -- Of a fixed group 'there is no DNU, EOS, GID rule or reply' (request 2026-12): what is read is what an end without LCAS sends back.
 abbrev pub replyByte : ℕ → ℕ → ℕ
-replyByte kind byte = cond (eqb kind fixedKind) 0 byte
+replyByte kind byte = if kind == fixedKind then 0 else byte
 
 -- 'MST for q is 0 exactly if an OK port holds q', of the numbers that the epoch speaks of; and RS-Ack beside it
 unfoldable pub replyOf : List (List ℕ) → ℕ → List ℕ
@@ -68,10 +68,10 @@ replyOf s e =
     replyByte (g .kind) (mstOf (g .kind) (replyPorts g s (portsIn g)) (sizeOf (portsIn g)) e) ∷ replyByte (g .kind) (oneIf (flagOf (g .«rs_ack»))) ∷ []
 
 unfoldable pub replyFit : ℕ → ℕ → ℕ → Bool
-replyFit n rows out = rowsFit n rows && eqb out 2
+replyFit n rows out = rowsFit n rows && out == 2
 
 unfoldable pub replyAnswer : List (List ℕ) → ℕ → ℕ
-replyAnswer s out = cond (replyFit (portsIn (groupAt s)) (length s) out) 0 9
+replyAnswer s out = if replyFit (portsIn (groupAt s)) (length s) out then 0 else 9
 
 unfoldable pub replyOut : List (List ℕ) → ℕ → List ℕ → List ℕ
-replyOut s e out = cond (replyFit (portsIn (groupAt s)) (length s) (length out)) (replyOf s e) out
+replyOut s e out = if replyFit (portsIn (groupAt s)) (length s) (length out) then replyOf s e else out

@@ -1,9 +1,9 @@
 -- A receiver's start (01, 'Answer numbers': 'At starting, 4 comes before 9').
-use mathlib.Core.Bool.{Bool, cond, _&&_, _||_}
+use mathlib.Core.Bool.{Bool, _&&_, _||_}
 use mathlib.Core.List.{List, [], _∷_}
 use Prim.Native.Nat.{ℕ, zero, suc, _+_, _*_}
-use lib.Dec.{eqb, leb, ltb}
 use lib.ListN.{getD, length, replicate}
+use Rattle.ground.specs.Plain.{if_then_else_, _==_, _<?_, _≤?_}
 use Rattle.counting.specs.Words.{every}
 use Rattle.packet.specs.Kinds.{idleNumber}
 use Rattle.phases.specs.Sizes.{sized}
@@ -59,7 +59,7 @@ timerMost = 5000
 
 -- the count of port i; an empty list is zero for every port
 abbrev pub timeOf : List ℕ → ℕ → ℕ
-timeOf counts i = cond (ltb (getD counts i 0) timerMost) (getD counts i 0) timerMost
+timeOf counts i = if getD counts i 0 <? timerMost then getD counts i 0 else timerMost
 
 -- no good packet yet, and no timer runs
 abbrev pub freshMember : ℕ → ℕ → ℕ → Member
@@ -91,24 +91,24 @@ freshPorts kind hold restore (suc n) s = freshPort kind hold restore n (freshPor
 
 -- 'a count above 5,000 is number 4' (02, 2026-03), wherever in the list it stands
 unfoldable pub timesWithin : List ℕ → Bool
-timesWithin counts = every (length counts) (λ i. leb (getD counts i 0) timerMost)
+timesWithin counts = every (length counts) (λ i. getD counts i 0 ≤? timerMost)
 
 -- a list has a count for each port, or none at all
 abbrev pub listFits : List ℕ → ℕ → Bool
-listFits counts ports = eqb (length counts) 0 || eqb (length counts) ports
+listFits counts ports = length counts == 0 || length counts == ports
 
 unfoldable pub startFits : ℕ → ℕ → ℕ → ℕ → ℕ → Bool
-startFits count P W store rows = eqb rows (rowsFor count) && eqb store (count * W * (P + 1))
+startFits count P W store rows = rows == rowsFor count && store == count * W * (P + 1)
 
 unfoldable pub sizedFits : ℕ → ℕ → ℕ → ℕ → List ℕ → List ℕ → ℕ → Bool
 sizedFits count P W store hold restore rows = listFits hold count && listFits restore count && startFits count P W store rows
 
 unfoldable pub sizedAnswer : ℕ → ℕ → ℕ → ℕ → List ℕ → List ℕ → ℕ → ℕ
-sizedAnswer count P W store hold restore rows = cond (sizedFits count P W store hold restore rows) 0 9
+sizedAnswer count P W store hold restore rows = if sizedFits count P W store hold restore rows then 0 else 9
 
 unfoldable pub sizedRows : ℕ → ℕ → ℕ → ℕ → ℕ → List ℕ → List ℕ → List (List ℕ) → List (List ℕ)
 sizedRows kind count P W store hold restore s =
-    cond (sizedFits count P W store hold restore (length s)) (putGroup (freshPorts kind hold restore count s) (groupWith kind count P W)) s
+    if sizedFits count P W store hold restore (length s) then putGroup (freshPorts kind hold restore count s) (groupWith kind count P W) else s
 
 unfoldable pub startRight : ℕ → ℕ → ℕ → ℕ → List ℕ → List ℕ → Bool
 startRight kind count P W hold restore = timesWithin hold && timesWithin restore && sized kind count P W
@@ -116,11 +116,11 @@ startRight kind count P W hold restore = timesWithin hold && timesWithin restore
 -- A start with a hold-off and a wait-to-restore for each port.
 unfoldable pub startAsAnswer : ℕ → ℕ → ℕ → ℕ → ℕ → List ℕ → List ℕ → ℕ → ℕ
 startAsAnswer kind count P W store hold restore rows =
-    cond (startRight kind count P W hold restore) (sizedAnswer count P W store hold restore rows) 4
+    if startRight kind count P W hold restore then sizedAnswer count P W store hold restore rows else 4
 
 unfoldable pub startAsRows : ℕ → ℕ → ℕ → ℕ → ℕ → List ℕ → List ℕ → List (List ℕ) → List (List ℕ)
 startAsRows kind count P W store hold restore s =
-    cond (startRight kind count P W hold restore) (sizedRows kind count P W store hold restore s) (putGroup s (emptyGroup kind))
+    if startRight kind count P W hold restore then sizedRows kind count P W store hold restore s else putGroup s (emptyGroup kind)
 
 -- A start with none.
 abbrev pub startAnswer : ℕ → ℕ → ℕ → ℕ → ℕ → ℕ → ℕ

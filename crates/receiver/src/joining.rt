@@ -5,10 +5,9 @@ use packet::kinds;
 use rows::Group;
 use store::frames;
 ghost use mathlib.Core.Path.{_≡_};
-ghost use mathlib.Core.Bool.{cond};
 ghost use Prim.Native.Nat.{_*_};
-ghost use lib.Dec.{eqb};
 ghost use lib.ListN.{replicate, set};
+ghost use Rattle.ground.specs.Plain.{if_then_else_, _==_};
 ghost use Rattle.judge.specs.Verdict.{HELD};
 ghost use Rattle.payload.specs.Joining.{joinedFrom};
 ghost use Rattle.store.specs.Frames.{placeIn};
@@ -63,7 +62,7 @@ fn frames_into(group: Group, order: Order, store: &[u8], count: u8, out: &mut [u
 }
 
 fn is_held(mark: u8) -> bool
-    ensures { λ r. ⌜ r ≡ eqb mark HELD ⌝ }
+    ensures { λ r. ⌜ r ≡ (mark == HELD) ⌝ }
 {
     mark == judge::HELD
 }
@@ -79,7 +78,7 @@ pub(crate) fn output_by(group: Group, mark: u8, order: Order, store: &[u8], out:
 }
 
 fn joined_members(mark: u8, x: u8) -> u8
-    ensures { λ r. ⌜ r ≡ cond (eqb mark HELD) 0 x ⌝ }
+    ensures { λ r. ⌜ r ≡ (if mark == HELD then 0 else x) ⌝ }
 {
     if is_held(mark) { 0 } else { x }
 }

@@ -6,9 +6,9 @@ use rows::Member;
 use rows::Step;
 use step::answers;
 ghost use mathlib.Core.Path.{_≡_};
-ghost use mathlib.Core.Bool.{cond, _||_};
-ghost use lib.Dec.{eqb, ltb};
+ghost use mathlib.Core.Bool.{_||_};
 ghost use lib.ListN.{length};
+ghost use Rattle.ground.specs.Plain.{if_then_else_, _==_, _<?_};
 ghost use Rattle.receiver.specs.Starting.{freshMember, freshPort, freshPorts, freshStep, groupWith, sizedAnswer, sizedRows, startAnswer, startAsAnswer, startAsRows, startFits, startRight, startRows, timeOf, timerMost, timesWithin};
 
 // The longest hold-off and the longest wait-to-restore, in reports.
@@ -68,7 +68,7 @@ fn fresh_member(kind: u8, hold_off: u16, restore: u16) -> Member
 }
 
 fn capped(count: u32) -> u16
-    ensures { λ r. ⌜ r ≡ cond (ltb count timerMost) count timerMost ⌝ }
+    ensures { λ r. ⌜ r ≡ (if count <? timerMost then count else timerMost) ⌝ }
 {
     if count < TIMER_MOST {
         count as u16
@@ -123,7 +123,7 @@ pub fn times_within(counts: &[u32]) -> bool
 }
 
 fn is_list(counts: usize, ports: u8) -> bool
-    ensures { λ r. ⌜ r ≡ (eqb counts 0 || eqb counts ports) ⌝ }
+    ensures { λ r. ⌜ r ≡ (counts == 0 || counts == ports) ⌝ }
 {
     (counts == 0) | (counts == ports as usize)
 }

@@ -1,9 +1,9 @@
 -- Where a line of a recording ends (2026-05).
-use mathlib.Core.Bool.{Bool, cond}
+use mathlib.Core.Bool.{Bool}
 use mathlib.Core.List.{List}
 use Prim.Native.Nat.{ℕ, _+_}
-use lib.Dec.{eqb, ltb}
 use lib.ListN.{length, take}
+use Rattle.ground.specs.Plain.{if_then_else_, _==_, _<?_}
 use Rattle.bytes.specs.Bytes.{indexOf}
 use Rattle.recording.specs.declared.line.Found.{Found}
 use Rattle.recording.specs.declared.line.Found.the-variants.{Nothing, Open, TooLong, Ends}
@@ -14,7 +14,7 @@ abbrev pub MOST : ℕ
 MOST = 8192
 
 abbrev pub hasEnd : List ℕ → Bool
-hasEnd rest = ltb (indexOf LINE-END rest) (length rest)
+hasEnd rest = indexOf LINE-END rest <? length rest
 
 -- the first line of a text, without its end
 abbrev pub firstLine : List ℕ → List ℕ
@@ -23,5 +23,7 @@ firstLine rest = take (indexOf LINE-END rest) rest
 -- of what is left of a text from a place on
 unfoldable pub foundOf : ℕ → List ℕ → Found
 foundOf at rest =
-    cond (eqb (length rest) 0) Nothing
-    (cond (hasEnd rest) (Ends (at + indexOf LINE-END rest)) (cond (ltb MOST (length rest)) TooLong Open))
+    if length rest == 0 then Nothing
+    else if hasEnd rest then Ends (at + indexOf LINE-END rest)
+    else if MOST <? length rest then TooLong
+    else Open

@@ -1,9 +1,9 @@
 -- The first line of a recording (2026-05): 'the group's settings in the first line'.
-use mathlib.Core.Bool.{Bool, cond}
+use mathlib.Core.Bool.{Bool}
 use mathlib.Core.List.{List, [], _∷_}
 use Prim.Native.Nat.{ℕ, _+_}
-use lib.Dec.{leb}
 use lib.ListN.{length}
+use Rattle.ground.specs.Plain.{if_then_else_, _≤?_}
 use Rattle.recording.specs.declared.opening.First.{First}
 use Rattle.recording.specs.declared.opening.FirstLine.{FirstLine}
 use Rattle.recording.specs.declared.opening.FirstLine.the-variants as F
@@ -63,12 +63,12 @@ openingBy next (a ∷ b ∷ []) = Malformed
 openingBy next (ports ∷ size ∷ window ∷ pairs) = settingsBy (numberOf 9 ports) (numberOf 9 size) (numberOf 9 window) pairs next
 
 unfoldable pub lineOpening : ℕ → List ℕ → Opening
-lineOpening next line = cond (leb (length line) MOST) (openingBy next (fieldsOf line)) Malformed
+lineOpening next line = if length line ≤? MOST then openingBy next (fieldsOf line) else Malformed
 
 -- what is left of a text from a place on; its last line may lack its end
 abbrev pub openingFound : ℕ → Bool → List ℕ → Found → Opening
 openingFound at last rest Nothing = End
-openingFound at last rest Open = cond last (lineOpening (at + length rest) rest) Unfinished
+openingFound at last rest Open = if last then lineOpening (at + length rest) rest else Unfinished
 openingFound at last rest TooLong = Malformed
 openingFound at last rest (Ends end) = lineOpening (end + 1) (firstLine rest)
 

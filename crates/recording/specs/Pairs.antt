@@ -1,10 +1,10 @@
 -- Behind the three numbers of a first line stand pairs, each a name and what it says (2026-05), in any order, each at most once: `kind` with the group's
 -- kind (2026-12), `hold-off` and `wait-to-restore` (2026-03) with a number for each port. The fields are taken one after the other.
-use mathlib.Core.Bool.{true, false, cond, not, _&&_}
+use mathlib.Core.Bool.{true, false, not, _&&_}
 use mathlib.Core.List.{List, [], _∷_}
 use Prim.Native.Nat.{ℕ, _+_}
-use lib.Dec.{ltb}
 use lib.ListN.{replicate, set}
+use Rattle.ground.specs.Plain.{if_then_else_, _<?_}
 use Rattle.recording.specs.declared.pairs.Awaited.{Awaited}
 use Rattle.recording.specs.declared.pairs.Awaited.the-variants.{Name, Kind, HoldOff, Restore, Nothing}
 use Rattle.recording.specs.declared.pairs.Pairs.{Pairs}
@@ -32,10 +32,10 @@ wrongField p = awaiting Nothing p
 
 -- a list has as many numbers as there are ports: the one of a port, or the next name
 abbrev pub holdFrom : ℕ → ℕ → Awaited
-holdFrom ports i = cond (ltb i ports) (HoldOff i) Name
+holdFrom ports i = if i <? ports then HoldOff i else Name
 
 abbrev pub restoreFrom : ℕ → ℕ → Awaited
-restoreFrom ports i = cond (ltb i ports) (Restore i) Name
+restoreFrom ports i = if i <? ports then Restore i else Name
 
 -- a name
 
@@ -51,9 +51,10 @@ restoreNamed p =
 
 unfoldable pub named : Pairs → List ℕ → Pairs
 named p field =
-    cond (sameBytes field (ascii "kind") && not (p .«has_kind»)) (kindNamed p)
-    (cond (sameBytes field (ascii "hold-off") && not (p .«has_hold_off»)) (holdNamed p)
-    (cond (sameBytes field (ascii "wait-to-restore") && not (p .«has_restore»)) (restoreNamed p) (wrongField p)))
+    if sameBytes field (ascii "kind") && not (p .«has_kind») then kindNamed p
+    else if sameBytes field (ascii "hold-off") && not (p .«has_hold_off») then holdNamed p
+    else if sameBytes field (ascii "wait-to-restore") && not (p .«has_restore») then restoreNamed p
+    else wrongField p
 
 -- what it says
 
@@ -71,13 +72,13 @@ withKind s kind = record { «hold_off» = s .«hold_off»; restore = s .restore;
 
 -- of a group with more than 64 ports, which no receiver has, the numbers of the first 64 are kept
 abbrev pub countPut : List ℕ → ℕ → ℕ → List ℕ
-countPut counts i n = cond (ltb i 64) (set counts i n) counts
+countPut counts i n = if i <? 64 then set counts i n else counts
 
 abbrev pub kindTo : Pairs → ℕ → Pairs
 kindTo p kind = settingsTo (withKind (p .settings) kind) Name p
 
 unfoldable pub kindRead : Pairs → List ℕ → Pairs
-kindRead p field = cond (sameBytes field (ascii "H4")) (kindTo p 0) (cond (sameBytes field (ascii "FIXED")) (kindTo p fixedKind) (wrongField p))
+kindRead p field = if sameBytes field (ascii "H4") then kindTo p 0 else if sameBytes field (ascii "FIXED") then kindTo p fixedKind else wrongField p
 
 unfoldable pub holdRead : Pairs → ℕ → Number → Pairs
 holdRead p i (Value n) = settingsTo (withHold (p .settings) (countPut (p .settings .«hold_off») i n)) (holdFrom (p .settings .ports) (i + 1)) p

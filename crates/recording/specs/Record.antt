@@ -1,9 +1,9 @@
 -- A frame's line (2026-05): 'port, H4 in two hex digits, fail flag, payload in hex'.
-use mathlib.Core.Bool.{Bool, cond, _&&_}
+use mathlib.Core.Bool.{Bool, _&&_}
 use mathlib.Core.List.{List, [], _∷_}
 use Prim.Native.Nat.{ℕ, _+_, _-_}
-use lib.Dec.{eqb, leb, ltb}
 use lib.ListN.{length}
+use Rattle.ground.specs.Plain.{if_then_else_, _==_, _<?_, _≤?_}
 use Rattle.recording.specs.declared.record.Record.{Record}
 use Rattle.recording.specs.declared.record.Record.the-variants.{Frame, Malformed, Long, Unfinished, End}
 use Rattle.recording.specs.declared.line.Found.{Found}
@@ -17,12 +17,12 @@ use Rattle.text.specs.Text.{fieldsOf}
 
 -- the flag is 0 or 1 and nothing else
 unfoldable pub flagIn : List ℕ → ℕ
-flagIn field = cond (sameBytes field (ascii "0")) 0 (cond (sameBytes field (ascii "1")) 1 2)
+flagIn field = if sameBytes field (ascii "0") then 0 else if sameBytes field (ascii "1") then 1 else 2
 
 -- a port below the count, an H4 byte, a flag and the payload of P bytes
 unfoldable pub frameBy : ℕ → Number → Number → ℕ → Bool → ℕ → ℕ → Record
 frameBy ports (Value port) (Value h4) flag payload place next =
-    cond (ltb port ports && ltb h4 256 && ltb flag 2 && payload) (Frame port h4 flag place next) (Malformed next)
+    if port <? ports && h4 <? 256 && flag <? 2 && payload then Frame port h4 flag place next else Malformed next
 frameBy ports (Value port) Unreadable flag payload place next = Malformed next
 frameBy ports Unreadable h4 flag payload place next = Malformed next
 
@@ -38,7 +38,7 @@ recordBy ports size end next (a ∷ b ∷ c ∷ d ∷ e ∷ rest) = Malformed ne
 
 -- a line that begins at a place, and the place of the next one
 unfoldable pub lineRecord : ℕ → ℕ → ℕ → ℕ → List ℕ → Record
-lineRecord ports size at next line = cond (leb (length line) MOST) (recordBy ports size (at + length line) next (fieldsOf line)) (Malformed next)
+lineRecord ports size at next line = if length line ≤? MOST then recordBy ports size (at + length line) next (fieldsOf line) else Malformed next
 
 -- what is left of a text from a place on, by its first line's end
 abbrev pub recordFound : ℕ → ℕ → ℕ → List ℕ → Found → Record
@@ -52,4 +52,4 @@ recordIn ports size at rest = recordFound ports size at rest (foundOf at rest)
 
 -- a last line that lacks its end
 unfoldable pub lastRecord : ℕ → ℕ → ℕ → List ℕ → Record
-lastRecord ports size at rest = cond (eqb (length rest) 0) End (lineRecord ports size at (at + length rest) rest)
+lastRecord ports size at rest = if length rest == 0 then End else lineRecord ports size at (at + length rest) rest

@@ -1,9 +1,8 @@
 -- The lines that are printed (2026-05): 'each epoch's report with mark and byte count, and each change of port state, in the order they arise'.
-use mathlib.Core.Bool.{cond}
 use mathlib.Core.List.{List, [], _++_}
 use Prim.Native.Nat.{ℕ, zero, suc, _+_, _*_, _/_, _%_}
-use lib.Dec.{eqb}
 use lib.ListN.{getD}
+use Rattle.ground.specs.Plain.{if_then_else_, _==_}
 use Rattle.ground.specs.Table.{tabulate}
 use Rattle.receiver.specs.Shown.{shownNumber}
 use Rattle.rows.specs.Member.{memberAt}
@@ -13,11 +12,11 @@ use Rattle.text.specs.Text.{LINE-END, TAB}
 
 -- held 1, doubtful 2, sure 3
 unfoldable pub markText : ℕ → List ℕ
-markText mark = cond (eqb mark 1) (ascii "held") (cond (eqb mark 2) (ascii "doubtful") (ascii "sure"))
+markText mark = if mark == 1 then ascii "held" else if mark == 2 then ascii "doubtful" else ascii "sure"
 
 -- IDLE 0, FAIL 1, OK 2
 unfoldable pub stateText : ℕ → List ℕ
-stateText state = cond (eqb state 0) (ascii "IDLE") (cond (eqb state 1) (ascii "FAIL") (ascii "OK"))
+stateText state = if state == 0 then ascii "IDLE" else if state == 1 then ascii "FAIL" else ascii "OK"
 
 -- a refusal 'is printed with its line number'
 unfoldable pub answerText : ℕ → ℕ → List ℕ
@@ -42,7 +41,7 @@ stateLine port state = portText port (state / 256) (state % 256)
 
 -- nothing for a port whose state stayed
 abbrev pub changeText : ℕ → ℕ → ℕ → List ℕ
-changeText port old new = cond (eqb old new) [] (stateLine port new)
+changeText port old new = if old == new then [] else stateLine port new
 
 -- a line for each of the first n ports whose state is another, in order
 abbrev pub changesText : List ℕ → List ℕ → ℕ → List ℕ

@@ -1,8 +1,9 @@
 -- The whole output of a recording (2026-05), and a host's run over its parts.
-use mathlib.Core.Bool.{Bool, cond}
+use mathlib.Core.Bool.{Bool}
 use mathlib.Core.List.{List, [], _∷_, _++_}
 use Prim.Native.Nat.{ℕ, zero, suc}
 use lib.ListN.{drop, length, take}
+use Rattle.ground.specs.Plain.{if_then_else_}
 use Rattle.recording.specs.Opening.{Opening}
 use Rattle.recording.specs.Opening.{Opening as O}
 use Rattle.recording.specs.declared.record.Record.{Record}
@@ -33,11 +34,11 @@ module _ (out : List ℕ) where
   -- reports until none is due, at most so many
   abbrev pub reports : ℕ → Desk → List ℕ
   reports zero d = []
-  reports (suc k) d = cond (isDue (d .replay) (d .rows) (d .store) out) (reportOf (d .replay) (d .rows) (d .store) out ++ reports k (fetched d)) []
+  reports (suc k) d = if isDue (d .replay) (d .rows) (d .store) out then reportOf (d .replay) (d .rows) (d .store) out ++ reports k (fetched d) else []
 
   abbrev pub reported : ℕ → Desk → Desk
   reported zero d = d
-  reported (suc k) d = cond (isDue (d .replay) (d .rows) (d .store) out) (reported k (fetched d)) (fetched d)
+  reported (suc k) d = if isDue (d .replay) (d .rows) (d .store) out then reported k (fetched d) else fetched d
 
   -- in another phase
   abbrev pub standing : Desk → Phase → Desk
@@ -60,7 +61,7 @@ module _ (out : List ℕ) where
   openedBy d O.End = d
 
   abbrev pub openingText : Desk → Opening → List ℕ
-  openingText d (O.Settings s next) = cond (startable s (length (d .store))) [] (refusal d 4)
+  openingText d (O.Settings s next) = if startable s (length (d .store)) then [] else refusal d 4
   openingText d O.Malformed = refusal d 13
   openingText d O.Unfinished = []
   openingText d O.End = []
@@ -159,4 +160,4 @@ module _ (last : Bool) (h : Host) where
 -- calls until one wants more text, at most n of them
 unfoldable pub calls : ℕ → Bool → Host → Host
 calls zero last h = h
-calls (suc n) last h = cond (answer last h .wants) (called last h) (calls n last (called last h))
+calls (suc n) last h = if answer last h .wants then called last h else calls n last (called last h)

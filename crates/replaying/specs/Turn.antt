@@ -1,10 +1,10 @@
 -- One turn of a replay (2026-05): a line read, or a report fetched.
-use mathlib.Core.Bool.{Bool, true, false, cond, _&&_}
+use mathlib.Core.Bool.{Bool, true, false, _&&_}
 use mathlib.Core.List.{List, _++_}
 use Prim.Native.Nat.{ℕ, _+_, _-_}
-use lib.Dec.{eqb, leb, ltb}
 use lib.ListN.{drop, getD, length, replicate, take}
 use lib.Seq.{slice}
+use Rattle.ground.specs.Plain.{if_then_else_, _==_, _<?_, _≤?_}
 use Rattle.bytes.specs.Bytes.{indexOf}
 use Rattle.phases.specs.Sizes.{sized}
 use Rattle.receiver.specs.Fetch.{fetchOut, fetchRecord, fetchRows}
@@ -81,7 +81,7 @@ unfoldable pub timesFit : GroupSettings → Bool
 timesFit s = timesWithin (holdOffs s) && timesWithin (restores s)
 
 unfoldable pub startable : GroupSettings → ℕ → Bool
-startable s store = isSized s && timesFit s && leb (storeIn s) store
+startable s store = isSized s && timesFit s && storeIn s ≤? store
 
 -- the group's own rows, as a receiver's start with these times leaves them
 unfoldable pub startedRows : GroupSettings → List (List ℕ) → List (List ℕ)
@@ -95,13 +95,13 @@ abbrev pub rowsStarted : GroupSettings → List (List ℕ) → List (List ℕ)
 rowsStarted s rows = startedRows s (take (rowsFor (s .ports)) (clearedRows rows)) ++ drop (rowsFor (s .ports)) (clearedRows rows)
 
 unfoldable pub openWithTurn : Replay → GroupSettings → ℕ → ℕ → Replayed
-openWithTurn r s next store = cond (startable s store) (startedTurn r s next) (answeredTurn r Ended 4 0)
+openWithTurn r s next store = if startable s store then startedTurn r s next else answeredTurn r Ended 4 0
 
 unfoldable pub openWithRows : GroupSettings → ℕ → List (List ℕ) → List (List ℕ)
-openWithRows s store rows = cond (startable s store) (rowsStarted s rows) rows
+openWithRows s store rows = if startable s store then rowsStarted s rows else rows
 
 unfoldable pub openWithSaid : Replay → GroupSettings → ℕ → List ℕ → List ℕ
-openWithSaid r s store said = cond (startable s store) said (answeredSaid r 4 said)
+openWithSaid r s store said = if startable s store then said else answeredSaid r 4 said
 
 abbrev pub openTurnBy : Replay → ℕ → Opening → Replayed
 openTurnBy r store (O.Settings s next) = openWithTurn r s next store
@@ -123,16 +123,16 @@ openSaidBy r store said O.End = said
 
 -- rows are lent for 64 ports
 abbrev pub openLent : ℕ → ℕ → Bool
-openLent rows said = leb ROOM said && leb 321 rows
+openLent rows said = ROOM ≤? said && 321 ≤? rows
 
 unfoldable pub openTurn : Replay → List ℕ → Bool → ℕ → ℕ → ℕ → Replayed
-openTurn r text last rows store said = cond (openLent rows said) (openTurnBy r store (openingIn 0 last text)) (refusedTurn r)
+openTurn r text last rows store said = if openLent rows said then openTurnBy r store (openingIn 0 last text) else refusedTurn r
 
 unfoldable pub openRows : List ℕ → Bool → List (List ℕ) → ℕ → ℕ → List (List ℕ)
-openRows text last rows store said = cond (openLent (length rows) said) (openRowsBy store rows (openingIn 0 last text)) rows
+openRows text last rows store said = if openLent (length rows) said then openRowsBy store rows (openingIn 0 last text) else rows
 
 unfoldable pub openSaid : Replay → List ℕ → Bool → ℕ → ℕ → List ℕ → List ℕ
-openSaid r text last rows store said = cond (openLent rows (length said)) (openSaidBy r store said (openingIn 0 last text)) said
+openSaid r text last rows store said = if openLent rows (length said) then openSaidBy r store said (openingIn 0 last text) else said
 
 -- lines are read next where a group has started
 abbrev pub storeBy : Phase → List ℕ → List ℕ
@@ -146,7 +146,7 @@ storeBy Ended store = store
 
 unfoldable pub isLent : Replay → ℕ → ℕ → ℕ → ℕ → Bool
 isLent r rows store out said =
-    leb ROOM said && leb (r .ports) 64 && leb (r .size) 2340 && leb (rowsFor (r .ports)) rows && leb (storeOf (r .ports) (r .size) (r .window)) store && leb (outputOf (r .ports) (r .size)) out
+    ROOM ≤? said && r .ports ≤? 64 && r .size ≤? 2340 && rowsFor (r .ports) ≤? rows && storeOf (r .ports) (r .size) (r .window) ≤? store && outputOf (r .ports) (r .size) ≤? out
 
 abbrev pub isOpen : Record → Bool
 isOpen (Frame port h4 flag place next) = false
@@ -157,7 +157,7 @@ isOpen End = false
 
 -- the record at the beginning of a text; the last line may lack its end
 unfoldable pub recordNow : ℕ → ℕ → Bool → List ℕ → Record
-recordNow ports size last text = cond (isOpen (recordIn ports size 0 text) && last) (lastRecord ports size 0 text) (recordIn ports size 0 text)
+recordNow ports size last text = if isOpen (recordIn ports size 0 text) && last then lastRecord ports size 0 text else recordIn ports size 0 text
 
 -- the payload's digits as bytes
 unfoldable pub payloadAt : ℕ → ℕ → List ℕ → List ℕ
@@ -167,11 +167,11 @@ payloadAt size place text = bytesIn (slice place (place + size + size) text) (re
 module _ (r : Replay) (port h4 flag : ℕ) (payload : List ℕ) (rows : List (List ℕ)) (store : List ℕ) where
   unfoldable pub framedRows : List (List ℕ)
   framedRows =
-      frameRows (take (rowsFor (r .ports)) rows) port (eqb flag 1) h4 payload (take (storeOf (r .ports) (r .size) (r .window)) store) ++ drop (rowsFor (r .ports)) rows
+      frameRows (take (rowsFor (r .ports)) rows) port (flag == 1) h4 payload (take (storeOf (r .ports) (r .size) (r .window)) store) ++ drop (rowsFor (r .ports)) rows
 
   unfoldable pub framedStore : List ℕ
   framedStore =
-      frameStore (take (rowsFor (r .ports)) rows) port (eqb flag 1) h4 payload (take (storeOf (r .ports) (r .size) (r .window)) store)
+      frameStore (take (rowsFor (r .ports)) rows) port (flag == 1) h4 payload (take (storeOf (r .ports) (r .size) (r .window)) store)
       ++ drop (storeOf (r .ports) (r .size) (r .window)) store
 
 -- reports are fetched then, at most W of them
@@ -212,16 +212,16 @@ abbrev pub nowIn : Replay → List ℕ → Bool → Record
 nowIn r text last = recordNow (r .ports) (r .size) last text
 
 unfoldable pub readTurn : Replay → List ℕ → Bool → ℕ → ℕ → ℕ → ℕ → Replayed
-readTurn r text last rows store out said = cond (isLent r rows store out said) (readBy r text (nowIn r text last)) (refusedTurn r)
+readTurn r text last rows store out said = if isLent r rows store out said then readBy r text (nowIn r text last) else refusedTurn r
 
 unfoldable pub readRows : Replay → List ℕ → Bool → List (List ℕ) → List ℕ → ℕ → ℕ → List (List ℕ)
-readRows r text last rows store out said = cond (isLent r (length rows) (length store) out said) (readRowsBy r text rows store (nowIn r text last)) rows
+readRows r text last rows store out said = if isLent r (length rows) (length store) out said then readRowsBy r text rows store (nowIn r text last) else rows
 
 unfoldable pub readStore : Replay → List ℕ → Bool → List (List ℕ) → List ℕ → ℕ → ℕ → List ℕ
-readStore r text last rows store out said = cond (isLent r (length rows) (length store) out said) (readStoreBy r text rows store (nowIn r text last)) store
+readStore r text last rows store out said = if isLent r (length rows) (length store) out said then readStoreBy r text rows store (nowIn r text last) else store
 
 unfoldable pub readSaid : Replay → List ℕ → Bool → ℕ → ℕ → ℕ → List ℕ → List ℕ
-readSaid r text last rows store out said = cond (isLent r rows store out (length said)) (readSaidBy r text said (nowIn r text last)) said
+readSaid r text last rows store out said = if isLent r rows store out (length said) then readSaidBy r text said (nowIn r text last) else said
 
 -- a report
 
@@ -244,47 +244,47 @@ module _ (r : Replay) (rows : List (List ℕ)) (store out : List ℕ) where
 
   -- none is due where the mark is 0
   abbrev pub isDue : Bool
-  isDue = ltb 0 (getD fetchRecordBy 0 0)
+  isDue = 0 <? getD fetchRecordBy 0 0
 
   unfoldable pub reportOf : List ℕ
   reportOf = reportText fetchRecordBy (r .line) (statesIn rows) (statesIn fetchRowsBy) (r .ports)
 
   -- a fetch, and its report if it gave one
   unfoldable pub fetchedTurn : Replayed
-  fetchedTurn = cond isDue (reportedTurn r (length reportOf)) (readOnTurn r)
+  fetchedTurn = if isDue then reportedTurn r (length reportOf) else readOnTurn r
 
   unfoldable pub fetchedSaid : List ℕ → List ℕ
-  fetchedSaid said = cond isDue (over reportOf said) said
+  fetchedSaid said = if isDue then over reportOf said else said
 
   module _ (said : ℕ) where
     -- a fetch is made
     abbrev pub fetches : Bool
-    fetches = isLent r (length rows) (length store) (length out) said && ltb 0 (r .left)
+    fetches = isLent r (length rows) (length store) (length out) said && 0 <? r .left
 
     unfoldable pub reportTurn : Replayed
     reportTurn =
-        cond (isLent r (length rows) (length store) (length out) said)
-        (cond (ltb 0 (r .left)) fetchedTurn (readOnTurn r))
-        (refusedTurn r)
+        if isLent r (length rows) (length store) (length out) said
+        then (if 0 <? r .left then fetchedTurn else readOnTurn r)
+        else refusedTurn r
 
     unfoldable pub reportRows : List (List ℕ)
-    reportRows = cond fetches fetchRowsBy rows
+    reportRows = if fetches then fetchRowsBy else rows
 
     unfoldable pub reportOut : List ℕ
-    reportOut = cond fetches fetchOutBy out
+    reportOut = if fetches then fetchOutBy else out
 
   unfoldable pub reportSaid : List ℕ → List ℕ
-  reportSaid said = cond (fetches (length said)) (fetchedSaid said) said
+  reportSaid said = if fetches (length said) then fetchedSaid said else said
 
 -- the rest of a line that is too long
 
 abbrev pub skippedTo : Bool → Phase
-skippedTo last = cond last Reading Skipping
+skippedTo last = if last then Reading else Skipping
 
 unfoldable pub skipTurn : Replay → List ℕ → Bool → Replayed
 skipTurn r text last =
-    cond (ltb (indexOf LINE-END text) (length text)) (turned (within r Reading (r .line) 0) (indexOf LINE-END text + 1) 0 false)
-    (turned (within r (skippedTo last) (r .line) 0) (length text) 0 true)
+    if indexOf LINE-END text <? length text then turned (within r Reading (r .line) 0) (indexOf LINE-END text + 1) 0 false
+    else turned (within r (skippedTo last) (r .line) 0) (length text) 0 true
 
 -- nothing more is printed
 abbrev pub endedTurn : Replay → ℕ → Replayed

@@ -1,9 +1,9 @@
 -- Candidates choose their numbers (01, 'Member states and reply').
-use mathlib.Core.Bool.{Bool, true, false, cond, not, _&&_, Bool·beq}
+use mathlib.Core.Bool.{Bool, true, false, not, _&&_, Bool·beq}
 use mathlib.Core.List.{List}
 use Prim.Native.Nat.{ℕ, zero, suc}
-use lib.Dec.{eqb}
 use lib.ListN.{getD, set, replicate}
+use Rattle.ground.specs.Plain.{if_then_else_, _==_}
 use Rattle.reply.specs.declared.members.Port.{Port}
 use Rattle.reply.specs.Members.{isCandidate, isRestoring, portAt, wasOk}
 
@@ -20,7 +20,7 @@ allFree = replicate 64 FREE
 
 -- a port that asks for a number gets it where it is still free
 unfoldable pub grant : Bool → ℕ → List ℕ → ℕ → List ℕ
-grant asks q holders i = cond (asks && eqb (holderOf holders q) FREE) (set holders q i) holders
+grant asks q holders i = if asks && holderOf holders q == FREE then set holders q i else holders
 
 -- 'each in port order': those of the first n ports that ask, each for its number
 unfoldable pub granted : (ℕ → Bool) → (ℕ → ℕ) → ℕ → List ℕ → List ℕ

@@ -2,9 +2,9 @@
 use mathlib.Core.Bool.{Bool, false, not, _&&_, _||_}
 use mathlib.Core.List.{List}
 use Prim.Native.Nat.{ℕ}
-use lib.Dec.{eqb, ltb}
 use lib.ListN.{getD}
 pub use Rattle.ground.specs.Sizes.{sizeOf}
+use Rattle.ground.specs.Plain.{_==_, _<?_}
 use Rattle.packet.specs.Words.{IDLE}
 use Rattle.reply.specs.declared.members.Port.{Port}
 
@@ -40,21 +40,21 @@ portAt ports i =
 
 -- 'A port with no good packet yet, or whose last good word is IDLE, is IDLE.'
 abbrev pub isIdle : Port → Bool
-isIdle p = eqb (p .word) noWord || eqb (p .word) IDLE
+isIdle p = p .word == noWord || p .word == IDLE
 
 -- 'Others are candidates when readable with a number below 64.'
 abbrev pub isCandidate : Port → Bool
-isCandidate p = not (isIdle p) && p .readable && ltb (p .number) 64
+isCandidate p = not (isIdle p) && p .readable && p .number <? 64
 
 -- 'were OK under the same number'
 abbrev pub wasOk : Port → Bool
-wasOk p = eqb (p .state) okState && eqb (p .«state_number») (p .number)
+wasOk p = p .state == okState && p .«state_number» == p .number
 
 -- 'A FAIL port goes OK only when its claim has stood for the wait-to-restore' (02, 2026-03): one that still waits
 abbrev pub isRestoring : Port → Bool
-isRestoring p = eqb (p .state) failState && ltb (p .elapsed) (p .restore)
+isRestoring p = p .state == failState && p .elapsed <? p .restore
 
 -- 'An OK port that loses its claim goes FAIL only when it has stayed so for the hold-off; one that turns IDLE does so at once' (02, 2026-03): one
 -- that has hold-off left
 abbrev pub hasHoldOff : Port → Bool
-hasHoldOff p = eqb (p .state) okState && ltb (p .elapsed) (p .«hold_off») && ltb (p .«state_number») 64 && not (isIdle p)
+hasHoldOff p = p .state == okState && p .elapsed <? p .«hold_off» && p .«state_number» <? 64 && not (isIdle p)

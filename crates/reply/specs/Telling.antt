@@ -1,8 +1,8 @@
 -- What is told to the far end: MST and RS-Ack (01, 'Member states and reply').
-use mathlib.Core.Bool.{Bool, cond, not, _&&_, _||_, Bool·beq}
+use mathlib.Core.Bool.{Bool, not, _&&_, _||_, Bool·beq}
 use mathlib.Core.List.{List}
 use Prim.Native.Nat.{ℕ, _+_, _*_}
-use lib.Dec.{eqb}
+use Rattle.ground.specs.Plain.{if_then_else_, _==_}
 use Rattle.counting.specs.Words.{some}
 use Rattle.packet.specs.Kinds.{mstFirst}
 use Rattle.packet.specs.Words.{ADD, DNU, EOS, IDLE, NORM}
@@ -11,11 +11,11 @@ use Rattle.reply.specs.Members.{okState, portAt}
 
 -- an OK port holds q
 unfoldable pub okHolds : List Port → ℕ → ℕ → Bool
-okHolds ports n q = some n (λ i. eqb (portAt ports i .state) okState && eqb (portAt ports i .«state_number») q)
+okHolds ports n q = some n (λ i. portAt ports i .state == okState && portAt ports i .«state_number» == q)
 
 -- 'MST for q is 0 exactly if an OK port holds q.'
 abbrev pub failBit : List Port → ℕ → ℕ → ℕ
-failBit ports n q = cond (okHolds ports n q) 0 1
+failBit ports n q = if okHolds ports n q then 0 else 1
 
 -- eight numbers, 'first bit the lowest' (01, 'The control packet')
 unfoldable pub mstFrom : List Port → ℕ → ℕ → ℕ
@@ -34,21 +34,21 @@ mstOf kind ports n e = mstFrom ports n (mstFirst kind e)
 
 -- 'the list of active and DNU ports'
 abbrev pub isListed : ℕ → Bool
-isListed word = eqb word NORM || eqb word EOS || eqb word DNU
+isListed word = word == NORM || word == EOS || word == DNU
 
 -- 'with their numbers changes'
 abbrev pub hasChanged : Port → Bool
 hasChanged p =
     not (Bool·beq (isListed (p .word)) (isListed (p .«told_word»)))
-    || isListed (p .word) && not (eqb (p .number) (p .«told_number»))
+    || isListed (p .word) && not (p .number == p .«told_number»)
 
 -- 'an ADD port becomes IDLE'
 abbrev pub hasLeft : Port → Bool
-hasLeft p = eqb (p .«told_word») ADD && eqb (p .word) IDLE
+hasLeft p = p .«told_word» == ADD && p .word == IDLE
 
 unfoldable pub turns : List Port → ℕ → Bool
 turns ports n = some n (λ i. hasChanged (portAt ports i) || hasLeft (portAt ports i))
 
 -- 'RS-Ack, 0 at first, turns over'
 unfoldable pub ackOf : List Port → ℕ → ℕ → ℕ
-ackOf ports n bit = cond (turns ports n) (cond (eqb bit 0) 1 0) bit
+ackOf ports n bit = if turns ports n then (if bit == 0 then 1 else 0) else bit

@@ -1,9 +1,9 @@
 -- Waiting before crying failure (02, 2026-03): which numbers ports that have lost their claim keep, and what a report leaves of each port.
-use mathlib.Core.Bool.{Bool, cond, not, _&&_, _||_}
+use mathlib.Core.Bool.{Bool, not, _&&_, _||_}
 use mathlib.Core.List.{List}
 use Prim.Native.Nat.{ℕ, zero, suc, _+_}
-use lib.Dec.{eqb, ltb}
 use lib.ListN.{replicate}
+use Rattle.ground.specs.Plain.{if_then_else_, _==_, _<?_}
 use Rattle.counting.specs.Each.{each}
 use Rattle.counting.specs.Words.{some}
 use Rattle.reply.specs.declared.members.Port.{Port}
@@ -14,7 +14,7 @@ use Rattle.reply.specs.Members.{failState, hasHoldOff, idleState, isCand
 -- a candidate whose number no other port has
 abbrev pub hasClaim : List ℕ → ℕ → Port → Bool
 hasClaim chosen i p =
-    isCandidate p && (eqb (holderOf chosen (p .number)) FREE || eqb (holderOf chosen (p .number)) i)
+    isCandidate p && (holderOf chosen (p .number) == FREE || holderOf chosen (p .number) == i)
 
 -- 'During hold-off the port keeps its number against others': one that has lost its claim and has hold-off left keeps the number under which it
 -- is OK
@@ -23,7 +23,7 @@ mustKeep chosen i p = hasHoldOff p && not (hasClaim chosen i p)
 
 -- such a port joins where nobody keeps that number yet
 abbrev pub joinsKept : List ℕ → List ℕ → ℕ → Port → Bool
-joinsKept chosen kept i p = mustKeep chosen i p && eqb (holderOf kept (p .«state_number»)) FREE
+joinsKept chosen kept i p = mustKeep chosen i p && holderOf kept (p .«state_number») == FREE
 
 unfoldable pub someJoin : List ℕ → List ℕ → List Port → ℕ → Bool
 someJoin chosen kept ports n = some n (λ i. joinsKept chosen kept i (portAt ports i))
@@ -37,7 +37,7 @@ unfoldable pub rounds : List Port → ℕ → ℕ → List ℕ → List ℕ
 rounds ports n zero kept = kept
 rounds ports n (suc k) kept =
     let chosen = holders ports n kept in
-    cond (someJoin chosen kept ports n) (rounds ports n k (moreKept chosen ports n kept)) kept
+    if someJoin chosen kept ports n then rounds ports n k (moreKept chosen ports n kept) else kept
 
 -- as many rounds as ports are enough (`none-joins` of Laws/Keeping.antt)
 unfoldable pub keptNumbers : List Port → ℕ → List ℕ
@@ -51,21 +51,21 @@ standing state number elapsed = record { state = state; number = number; elapsed
 
 -- with its claim: 'A FAIL port goes OK only when its claim has stood for the wait-to-restore.'
 abbrev pub withClaim : Port → Standing
-withClaim p = cond (isRestoring p) (standing failState (p .number) (p .elapsed + 1)) (standing okState (p .number) 0)
+withClaim p = if isRestoring p then standing failState (p .number) (p .elapsed + 1) else standing okState (p .number) 0
 
 -- one that keeps its number, under that number
 abbrev pub keepsNumber : List ℕ → ℕ → Port → Bool
-keepsNumber chosen i p = eqb (p .state) okState && ltb (p .elapsed) (p .«hold_off») && eqb (holderOf chosen (p .«state_number»)) i
+keepsNumber chosen i p = p .state == okState && p .elapsed <? p .«hold_off» && holderOf chosen (p .«state_number») == i
 
 -- without: 'An OK port that loses its claim goes FAIL only when it has stayed so for the hold-off'
 abbrev pub withoutClaim : List ℕ → ℕ → Port → Standing
 withoutClaim chosen i p =
-    cond (keepsNumber chosen i p) (standing okState (p .«state_number») (p .elapsed + 1)) (standing failState (p .number) 0)
+    if keepsNumber chosen i p then standing okState (p .«state_number») (p .elapsed + 1) else standing failState (p .number) 0
 
 -- 'one that turns IDLE does so at once'
 unfoldable pub standingBy : List ℕ → ℕ → Port → Standing
 standingBy chosen i p =
-    cond (isIdle p) (standing idleState (p .number) 0) (cond (hasClaim chosen i p) (withClaim p) (withoutClaim chosen i p))
+    if isIdle p then standing idleState (p .number) 0 else if hasClaim chosen i p then withClaim p else withoutClaim chosen i p
 
 abbrev pub noStanding : Standing
 noStanding = standing idleState 0 0

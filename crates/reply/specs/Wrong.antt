@@ -1,11 +1,11 @@
 -- Wrong readings of 01 and of 02, 2026-03, each as a definition with a run on which it breaks what they say.
 use mathlib.Core.Path.{_≡_, refl}
-use mathlib.Core.Bool.{Bool, true, false, cond, not, _&&_}
+use mathlib.Core.Bool.{Bool, true, false, not, _&&_}
 use mathlib.Core.List.{List, [], _∷_}
 use Prim.Native.Nat.{ℕ, zero, suc, _+_, _-_, _%_}
-use lib.Dec.{eqb, leb, ltb}
 use lib.ListN.{set}
 use Rattle.counting.specs.Words.{some}
+use Rattle.ground.specs.Plain.{if_then_else_, _==_, _<?_, _≤?_}
 use Rattle.ground.specs.Table.{tabulate}
 use Rattle.packet.specs.Words.{ADD, IDLE, NORM}
 use Rattle.reply.specs.declared.members.Port.{Port}
@@ -68,9 +68,10 @@ wrong-reserve ports n zero = allFree
 wrong-reserve ports n (suc i) =
     let h = wrong-reserve ports n i in
     let p = portAt ports i in
-    let reserved = some n (λ j. ltb i j && hasHoldOff (portAt ports j) && eqb (portAt ports j .«state_number») (p .number)) in
-    cond (isCandidate p && eqb (holderOf h (p .number)) FREE && not reserved) (set h (p .number) i)
-    (cond (hasHoldOff p) (set h (p .«state_number») i) h)
+    let reserved = some n (λ j. i <? j && hasHoldOff (portAt ports j) && portAt ports j .«state_number» == p .number) in
+    if isCandidate p && holderOf h (p .number) == FREE && not reserved then set h (p .number) i
+    else if hasHoldOff p then set h (p .«state_number») i
+    else h
 
 abbrev reserving : List Port → ℕ → List Standing
 reserving ports n =
@@ -78,7 +79,7 @@ reserving ports n =
     tabulate n
     (λ i.
     let p = portAt ports i in
-    cond (isCandidate p && eqb (holderOf h (p .number)) i) (standing okState (p .number) 0) (withoutClaim h i p))
+    if isCandidate p && holderOf h (p .number) == i then standing okState (p .number) 0 else withoutClaim h i p)
 
 -- an ordinary removal, with the ports in reverse order: each number falls by one
 falling : List Port
@@ -108,7 +109,7 @@ lost elapsed = port NORM 0 false (standing okState 0 elapsed) 2 0 ∷ []
 
 -- the hold-off over one report late
 wrong-late : Port → Standing
-wrong-late p = cond (leb (p .elapsed) (p .«hold_off»)) (standing okState (p .«state_number») (p .elapsed + 1)) (standing failState (p .number) 0)
+wrong-late p = if p .elapsed ≤? p .«hold_off» then standing okState (p .«state_number») (p .elapsed + 1) else standing failState (p .number) 0
 
 late-breaks : (wrong-late (portAt (lost 2) 0) ≡ standing okState 0 3) × (standingAt (lost 2) 1 0 ≡ standing failState 0 0)
 unfolding lost wrong-late claims grant granted holders rounds someJoin moreKept keptNumbers chosenOf standingBy standingsOf
@@ -116,7 +117,7 @@ late-breaks = (refl, refl)
 
 -- IDLE waits for the hold-off
 wrong-idle : List ℕ → ℕ → Port → Standing
-wrong-idle chosen i p = cond (keepsNumber chosen i p) (withoutClaim chosen i p) (standingBy chosen i p)
+wrong-idle chosen i p = if keepsNumber chosen i p then withoutClaim chosen i p else standingBy chosen i p
 
 turned-idle : List Port
 turned-idle = port IDLE 255 true (standing okState 0 0) 2 0 ∷ []
@@ -129,7 +130,7 @@ idle-breaks = (refl, refl)
 
 -- a port that comes from IDLE waits to restore
 wrong-first : Port → Standing
-wrong-first p = cond (ltb (p .elapsed) (p .restore)) (standing failState (p .number) (p .elapsed + 1)) (withClaim p)
+wrong-first p = if p .elapsed <? p .restore then standing failState (p .number) (p .elapsed + 1) else withClaim p
 
 added : List Port
 added = port ADD 0 true (standing idleState 255 0) 0 3 ∷ []
@@ -140,7 +141,7 @@ first-breaks = (refl, refl)
 
 -- the number that a port keeps is the one that it now sends: its own is given away
 wrong-kept : List ℕ → ℕ → Port → Standing
-wrong-kept chosen i p = cond (hasHoldOff p && not (hasClaim chosen i p)) (standing okState (p .number) (p .elapsed + 1)) (standingBy chosen i p)
+wrong-kept chosen i p = if hasHoldOff p && not (hasClaim chosen i p) then standing okState (p .number) (p .elapsed + 1) else standingBy chosen i p
 
 -- port 0 is lost as it goes from 0 to 1, and port 1 from 1 to 0
 renumbered : List Port
@@ -155,7 +156,7 @@ kept-breaks = (refl, refl)
 -- The hold-off counted by the epoch's number, which goes round after 256: 300 reports after the loss at epoch 0 it is epoch 44.
 wrong-epochs : Port → ℕ → ℕ → Standing
 wrong-epochs p since now =
-    cond (ltb ((now + 256 - since) % 256) (p .«hold_off»)) (standing okState (p .«state_number») 0) (standing failState (p .number) 0)
+    if (now + 256 - since) % 256 <? p .«hold_off» then standing okState (p .«state_number») 0 else standing failState (p .number) 0
 
 long : List Port
 long = port NORM 0 false (standing okState 0 300) 300 0 ∷ []

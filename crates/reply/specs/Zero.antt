@@ -1,9 +1,9 @@
 -- 01's own rule of member states, which knows no times: 'Zero and zero is today's behaviour' (02, 2026-03) is said of it in Theorems/Zero.antt.
-use mathlib.Core.Bool.{Bool, true, false, cond, _&&_, Bool·beq}
+use mathlib.Core.Bool.{Bool, true, false, _&&_, Bool·beq}
 use mathlib.Core.List.{List}
 use Prim.Native.Nat.{ℕ}
-use lib.Dec.{eqb}
 use lib.ListN.{replicate}
+use Rattle.ground.specs.Plain.{if_then_else_, _==_}
 use Rattle.counting.specs.Each.{each}
 use Rattle.reply.specs.declared.members.Port.{Port}
 use Rattle.reply.specs.Choosing.{granted, holderOf, allFree}
@@ -20,7 +20,7 @@ plainHolders ports n = plainClaims false ports n (plainClaims true ports n allFr
 -- 'One whose number is still free becomes OK; all else are FAIL.'
 unfoldable pub stateBy : List ℕ → ℕ → Port → ℕ
 stateBy chosen i p =
-    cond (isIdle p) idleState (cond (isCandidate p && eqb (holderOf chosen (p .number)) i) okState failState)
+    if isIdle p then idleState else if isCandidate p && holderOf chosen (p .number) == i then okState else failState
 
 unfoldable pub statesOf : List Port → ℕ → List ℕ
 statesOf ports n = each n (λ i. stateBy (plainHolders ports n) i (portAt ports i)) (replicate 64 idleState)

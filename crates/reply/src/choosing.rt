@@ -4,7 +4,7 @@ use crate::members::Port;
 ghost use mathlib.Core.Path.{_≡_};
 ghost use mathlib.Core.Bool.{_&&_};
 ghost use Prim.Native.Nat.{_≤_};
-ghost use lib.Dec.{eqb};
+ghost use Rattle.ground.specs.Plain.{_==_};
 ghost use Rattle.reply.specs.Choosing.{FREE, chooses, claims, grant, holderOf, holders};
 
 // Stands for the holder of a number that no port has.
@@ -23,7 +23,7 @@ pub(crate) fn holder_of(chosen: [u8; 64], number: u8) -> u8
 
 // Whether a port chooses in this round and finds its number free.
 fn takes(first: bool, holder: u8, port: Port) -> bool
-    ensures { λ r. ⌜ r ≡ (chooses first port && eqb holder FREE) ⌝ }
+    ensures { λ r. ⌜ r ≡ (chooses first port && holder == FREE) ⌝ }
 {
     members::is_candidate(port)
         & !members::is_restoring(port)

@@ -4,10 +4,9 @@ use crate::members::Port;
 use packet::Word;
 use packet::kinds;
 ghost use mathlib.Core.Path.{_≡_};
-ghost use mathlib.Core.Bool.{cond};
 ghost use mathlib.Core.List.{[], _∷_};
 ghost use Prim.Native.Nat.{_+_, _*_, _≤_};
-ghost use lib.Dec.{eqb};
+ghost use Rattle.ground.specs.Plain.{if_then_else_, _==_};
 ghost use Rattle.reply.specs.Members.{sizeOf};
 ghost use Rattle.reply.specs.Telling.{ackOf, failBit, hasChanged, hasLeft, isListed, mstFrom, mstOf, okHolds, turns};
 
@@ -100,7 +99,7 @@ fn is_turning(ports: [Port; 64], n: usize) -> bool
 }
 
 fn turned(turning: bool, bit: u8) -> u8
-    ensures { λ r. ⌜ r ≡ cond turning (cond (eqb bit 0) 1 0) bit ⌝ }
+    ensures { λ r. ⌜ r ≡ (if turning then (if bit == 0 then 1 else 0) else bit) ⌝ }
 {
     if turning {
         return ground::one_if(bit == 0);

@@ -3,10 +3,10 @@ use crate::choosing;
 use crate::members;
 use crate::members::Port;
 ghost use mathlib.Core.Path.{_≡_};
-ghost use mathlib.Core.Bool.{cond};
 ghost use mathlib.Core.List.{[], _∷_};
 ghost use Prim.Native.Nat.{_+_, _≤_};
 ghost use lib.ListN.{getD, replicate};
+ghost use Rattle.ground.specs.Plain.{if_then_else_};
 ghost use Rattle.counting.specs.Each.{each};
 ghost use Rattle.reply.specs.Choosing.{grant};
 ghost use Rattle.reply.specs.Members.{failState, hasHoldOff, okState, portAt, sizeOf};
@@ -181,7 +181,7 @@ fn standings_by(chosen: [u8; 64], ports: [Port; 64], n: usize) -> [Standing; 64]
 }
 
 fn without_claim_alone(port: Port) -> Standing
-    ensures { λ r. ⌜ r ≡ cond (hasHoldOff port) (standing okState (port .«state_number») (port .elapsed + 1)) (standing failState (port .number) 0) ⌝ }
+    ensures { λ r. ⌜ r ≡ (if hasHoldOff port then standing okState (port .«state_number») (port .elapsed + 1) else standing failState (port .number) 0) ⌝ }
 {
     if members::has_hold_off(port) {
         return Standing {

@@ -1,9 +1,9 @@
 -- The board: what the table sends, read whole (01, 'The sender's table').
-use mathlib.Core.Bool.{Bool, cond, not, _&&_}
+use mathlib.Core.Bool.{Bool, not, _&&_}
 use mathlib.Core.List.{List}
 use Prim.Native.Nat.{ℕ}
-use lib.Dec.{ltb}
 use lib.ListN.{replicate}
+use Rattle.ground.specs.Plain.{if_then_else_, _<?_}
 use Rattle.counting.specs.Each.{each}
 use Rattle.counting.specs.Words.{some}
 use Rattle.packet.specs.declared.words.Word.{Word}
@@ -19,7 +19,7 @@ use Rattle.sender.specs.Table.{isActive, sizeOf, slotAt}
 
 -- no active slot has a number above q
 unfoldable pub highest : List Slot → ℕ → ℕ → Bool
-highest slots n q = not (some n (λ j. isActive (slotAt slots j .state) && ltb q (slotAt slots j .number)))
+highest slots n q = not (some n (λ j. isActive (slotAt slots j .state) && q <? slotAt slots j .number))
 
 abbrev pub word : ℕ → Word
 word w = record { 0 = w }
@@ -28,7 +28,7 @@ word w = record { 0 = w }
 abbrev pub wordOf : State → Bool → Word
 wordOf Idle last = word IDLE
 wordOf Add last = word ADD
-wordOf Active last = cond last (word EOS) (word NORM)
+wordOf Active last = if last then word EOS else word NORM
 wordOf Dnu last = word DNU
 
 unfoldable pub rowOf : List Slot → ℕ → ℕ → Row

@@ -1,9 +1,9 @@
 -- Start, add, remove and lapse (01, 'The sender's table').
-use mathlib.Core.Bool.{Bool, true, false, cond, not, _&&_, _||_}
+use mathlib.Core.Bool.{Bool, true, false, not, _&&_, _||_}
 use mathlib.Core.List.{List}
 use Prim.Native.Nat.{ℕ, _-_}
-use lib.Dec.{eqb, ltb}
 use lib.ListN.{replicate, set}
+use Rattle.ground.specs.Plain.{if_then_else_, _==_, _<?_}
 use Rattle.counting.specs.Each.{each}
 use Rattle.packet.specs.Kinds.{idleNumber}
 use Rattle.sender.specs.declared.table.Answer.{Answer}
@@ -31,14 +31,14 @@ freshOf kind count = record { slots = replicate 64 (idleSlot kind); count = coun
 
 -- 4: 'group count .. out of range', 'an empty group'
 unfoldable pub startOf : ℕ → ℕ → Outcome
-startOf kind count = cond (eqb count 0 || ltb 64 count) (answered (freshOf kind 0) OutOfRange) (answered (freshOf kind count) Done)
+startOf kind count = if count == 0 || 64 <? count then answered (freshOf kind 0) OutOfRange else answered (freshOf kind count) Done
 
 -- 'For commands: 1, 3, 2.' What a command allowed makes of the table is given.
 abbrev pub inOrder : Table → ℕ → Bool → Table → Outcome
 inOrder t i allowed next =
-    cond (ltb i (sizeOf (t .count)))
-    (cond (t .wait) (answered t WaitOpen) (cond allowed (answered next Done) (answered t NotAllowed)))
-    (answered t NoSlot)
+    if i <? sizeOf (t .count)
+    then (if t .wait then answered t WaitOpen else if allowed then answered next Done else answered t NotAllowed)
+    else answered t NoSlot
 
 -- 'state ADD, next free number. No wait opens.'
 unfoldable pub addedTo : Table → ℕ → Table
@@ -50,7 +50,7 @@ addOf t i = inOrder t i (not (isMember (slotAt (t .slots) i .state))) (addedTo t
 
 -- 'Higher numbers fall by one': those of members alone, an IDLE slot's 255 stays
 unfoldable pub fallen : ℕ → Slot → Slot
-fallen q s = record { state = s .state; number = cond (isMember (s .state) && ltb q (s .number)) (s .number - 1) (s .number) }
+fallen q s = record { state = s .state; number = if isMember (s .state) && q <? s .number then s .number - 1 else s .number }
 
 unfoldable pub fallenIn : List Slot → ℕ → ℕ → List Slot
 fallenIn slots n q = each n (λ j. fallen q (slotAt slots j)) slots
@@ -65,4 +65,4 @@ removeOf t i = inOrder t i (isMember (slotAt (t .slots) i .state)) (removedFrom 
 
 -- 'Lapse: closes an open wait'; 2: 'lapse with no wait open'
 unfoldable pub lapseOf : Table → Outcome
-lapseOf t = cond (t .wait) (answered (withSlots t (t .slots) false) Done) (answered t NotAllowed)
+lapseOf t = if t .wait then answered (withSlots t (t .slots) false) Done else answered t NotAllowed

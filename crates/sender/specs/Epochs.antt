@@ -1,9 +1,9 @@
 -- The start of an epoch (01, 'Taking effect'), and what each slot sends in it.
-use mathlib.Core.Bool.{true, false, cond, _&&_}
+use mathlib.Core.Bool.{true, false, _&&_}
 use mathlib.Core.List.{List, [], _∷_}
 use Prim.Native.Nat.{ℕ}
-use lib.Dec.{eqb, ltb}
 use lib.ListN.{length}
+use Rattle.ground.specs.Plain.{if_then_else_, _==_, _<?_}
 use Rattle.packet.specs.declared.layout.Fields.{Fields}
 use Rattle.packet.specs.Kinds.{epochAfter, frames}
 use Rattle.packet.specs.Writing.{writeAnswer, writeBytes}
@@ -39,7 +39,7 @@ withOutcome s r =
 
 -- the number of the epoch that starts: the first one's is given, then each is one more
 unfoldable pub startedEpoch : Sender → ℕ
-startedEpoch s = cond (s .begun) (epochAfter (s .table .kind) (s .epoch)) (s .epoch)
+startedEpoch s = if s .begun then epochAfter (s .table .kind) (s .epoch) else s .epoch
 
 -- 'The packets of one epoch rule the payload of the next epoch'
 unfoldable pub startedSender : Sender → ℕ → ℕ → ℕ → Sender
@@ -49,7 +49,7 @@ startedSender s gid mst ack =
 -- 8: 'a field given for writing is too large'
 unfoldable pub startEpochOf : Sender → ℕ → ℕ → ℕ → SenderOutcome
 startEpochOf s gid mst ack =
-    cond (ltb gid 2 && ltb ack 2) (record { sender = startedSender s gid mst ack; answer = Done }) (record { sender = s; answer = Field })
+    if gid <? 2 && ack <? 2 then (record { sender = startedSender s gid mst ack; answer = Done }) else (record { sender = s; answer = Field })
 
 pub data SenderCall : Type 0 where
   OnTable : Call → SenderCall
@@ -72,13 +72,13 @@ packetFields s i =
 -- The packet of a slot: 1, 9, 2.
 unfoldable pub packetAnswer : Sender → ℕ → List ℕ → Answer
 packetAnswer s i h4 =
-    cond (ltb i (sizeOf (s .table .count)))
-    (cond (eqb (length h4) (frames (s .table .kind))) (cond (s .begun) (written (writeAnswer (packetFields s i) h4)) NotAllowed) Length)
-    NoSlot
+    if i <? sizeOf (s .table .count)
+    then (if length h4 == frames (s .table .kind) then (if s .begun then written (writeAnswer (packetFields s i) h4) else NotAllowed) else Length)
+    else NoSlot
 
 unfoldable pub packetBytes : Sender → ℕ → List ℕ → List ℕ
 packetBytes s i h4 =
-    cond (ltb i (sizeOf (s .table .count)) && eqb (length h4) (frames (s .table .kind)) && s .begun) (writeBytes (packetFields s i) h4) h4
+    if i <? sizeOf (s .table .count) && length h4 == frames (s .table .kind) && s .begun then writeBytes (packetFields s i) h4 else h4
 
 -- X of this epoch, and the rank of a slot in it
 abbrev pub xOf : Sender → ℕ
@@ -90,13 +90,13 @@ rankIn s i = rankAt (s .ruling .rows) (sizeOf (s .ruling .count)) i
 -- The payload of a slot: 1, 4, 9, 2.
 unfoldable pub payloadAnswer : Sender → ℕ → ℕ → ℕ → ℕ → Answer
 payloadAnswer s i P frame member =
-    cond (ltb i (sizeOf (s .table .count)))
-    (cond (s .begun) (spreadTold (oneAnswer (xOf s) P frame member)) (spreadEarly (oneAnswer (xOf s) P frame member)))
-    NoSlot
+    if i <? sizeOf (s .table .count)
+    then (if s .begun then spreadTold (oneAnswer (xOf s) P frame member) else spreadEarly (oneAnswer (xOf s) P frame member))
+    else NoSlot
 
 unfoldable pub payloadBytes : Sender → ℕ → ℕ → List ℕ → List ℕ → List ℕ
 payloadBytes s i P frame member =
-    cond (ltb i (sizeOf (s .table .count)) && s .begun) (spreadOne (xOf s) P (rankIn s i) frame member) member
+    if i <? sizeOf (s .table .count) && s .begun then spreadOne (xOf s) P (rankIn s i) frame member else member
 
 -- this epoch's number, X and each slot's rank
 unfoldable pub ranksOf : Sender → Ranks

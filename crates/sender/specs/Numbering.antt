@@ -2,7 +2,7 @@
 use mathlib.Core.Path.{_≡_}
 use mathlib.Core.Bool.{Bool, true, false, _&&_}
 use Prim.Native.Nat.{ℕ, _≤_, _<_}
-use lib.Dec.{eqb}
+use Rattle.ground.specs.Plain.{_==_}
 use Rattle.counting.specs.Laws.Ranks.{Apart}
 use Rattle.counting.specs.Laws.Tests.{One}
 use Rattle.counting.specs.Words.{count, some}
@@ -47,18 +47,18 @@ pub record Demand2 (t : Table) : Type 0 where
   pub once : Apart (slotsIn t) (λ i. isMember (stateIn t i)) (numberIn t)
   -- active and DNU members hold 0 to n-1
   pub low : (i : ℕ) → i < slotsIn t → isPlaced (stateIn t i) ≡ true → numberIn t i < placed (stateIn t) (slotsIn t)
-  pub each : (q : ℕ) → q < placed (stateIn t) (slotsIn t) → One (slotsIn t) (λ i. isPlaced (stateIn t i) && eqb (numberIn t i) q)
+  pub each : (q : ℕ) → q < placed (stateIn t) (slotsIn t) → One (slotsIn t) (λ i. isPlaced (stateIn t i) && numberIn t i == q)
   -- ADD members follow: n to m-1
   pub follow : (i : ℕ) → i < slotsIn t → isAdd (stateIn t i) ≡ true → placed (stateIn t) (slotsIn t) ≤ numberIn t i
   pub last : (i : ℕ) → i < slotsIn t → isAdd (stateIn t i) ≡ true → numberIn t i < members (stateIn t) (slotsIn t)
-  pub each-add : (q : ℕ) → placed (stateIn t) (slotsIn t) ≤ q → q < members (stateIn t) (slotsIn t) → One (slotsIn t) (λ i. isAdd (stateIn t i) && eqb (numberIn t i) q)
+  pub each-add : (q : ℕ) → placed (stateIn t) (slotsIn t) ≤ q → q < members (stateIn t) (slotsIn t) → One (slotsIn t) (λ i. isAdd (stateIn t i) && numberIn t i == q)
   -- IDLE is 255
   pub idle : (i : ℕ) → i < slotsIn t → isMember (stateIn t i) ≡ false → numberIn t i ≡ idleNumber (t .kind)
   -- EOS is on the highest active member
   pub eos : (i : ℕ) → i < slotsIn t → sends t i ≡ EOS → (isActive (stateIn t i) ≡ true) × ((j : ℕ) → j < slotsIn t → isActive (stateIn t j) ≡ true → numberIn t j ≤ numberIn t i)
   pub highest-eos : (i : ℕ) → i < slotsIn t → isActive (stateIn t i) ≡ true → ((j : ℕ) → j < slotsIn t → isActive (stateIn t j) ≡ true → numberIn t j ≤ numberIn t i) → sends t i ≡ EOS
   -- where some member is active there is one, and nowhere else a second
-  pub some-eos : some (slotsIn t) (λ i. isActive (stateIn t i)) ≡ true → One (slotsIn t) (λ i. eqb (sends t i) EOS)
+  pub some-eos : some (slotsIn t) (λ i. isActive (stateIn t i)) ≡ true → One (slotsIn t) (λ i. sends t i == EOS)
   pub one-eos : (i j : ℕ) → i < slotsIn t → j < slotsIn t → sends t i ≡ EOS → sends t j ≡ EOS → i ≡ j
   -- with none active, nowhere
   pub no-eos : some (slotsIn t) (λ i. isActive (stateIn t i)) ≡ false → (i : ℕ) → i < slotsIn t → sends t i ≡ EOS → ⊥

@@ -1,8 +1,8 @@
 -- Tables made by calls, and what their boards and answers show as numbers: what an example of 01 is compared by.
-use mathlib.Core.Bool.{cond}
 use mathlib.Core.List.{List, [], _∷_, _++_}
 use Prim.Native.Nat.{ℕ}
 use lib.ListN.{take}
+use Rattle.ground.specs.Plain.{if_then_else_}
 use Rattle.sender.specs.declared.board.Board.{Board}
 use Rattle.sender.specs.declared.board.Row.{Row}
 use Rattle.sender.specs.declared.table.Table.{Table}
@@ -21,7 +21,7 @@ rowNumbers (r ∷ rs) = r .word .0 ∷ r .number ∷ rowNumbers rs
 
 -- a board: word and number of each slot, then the wait
 abbrev pub numbers : Board → List ℕ
-numbers b = rowNumbers (take (b .count) (b .rows)) ++ (cond (b .wait) 1 0 ∷ [])
+numbers b = rowNumbers (take (b .count) (b .rows)) ++ ((if b .wait then 1 else 0) ∷ [])
 
 abbrev pub shown : Table → List ℕ
 shown t = numbers (boardOf t)

@@ -1,9 +1,9 @@
 -- 'States: IDLE (number 255), ADD, active, DNU.' (01, 'The sender's table')
-use mathlib.Core.Bool.{Bool, true, false, cond, _&&_}
+use mathlib.Core.Bool.{Bool, true, false, _&&_}
 use mathlib.Core.List.{List}
 use Prim.Native.Nat.{ℕ, zero, suc}
-use lib.Dec.{eqb, ltb}
 use lib.ListN.{getD}
+use Rattle.ground.specs.Plain.{if_then_else_, _==_, _<?_}
 use Rattle.counting.specs.Words.{count}
 use Rattle.sender.specs.declared.finding.Found.{Found}
 use Rattle.sender.specs.declared.finding.Found.the-variants.{At, Nothing}
@@ -44,7 +44,7 @@ isActive Dnu = false
 
 -- how many slots there are; a count above 64, which no call returns, is taken as 64
 unfoldable pub sizeOf : ℕ → ℕ
-sizeOf c = cond (ltb c 64) c 64
+sizeOf c = if c <? 64 then c else 64
 
 abbrev pub slotAt : List Slot → ℕ → Slot
 slotAt slots i = getD slots i (record { state = Idle; number = 0 })
@@ -54,7 +54,7 @@ unfoldable pub membersOf : List Slot → ℕ → ℕ
 membersOf slots n = count n (λ i. isMember (slotAt slots i .state))
 
 abbrev pub holds : Slot → ℕ → Bool
-holds s q = isMember (s .state) && eqb (s .number) q
+holds s q = isMember (s .state) && s .number == q
 
 abbrev pub earlier : Found → Found → Found
 earlier (At i) f = At i
@@ -63,4 +63,4 @@ earlier Nothing f = f
 -- 'the slot that holds that number is found, if there is one'. IDLE slots are passed over; where several hold it, the first.
 unfoldable pub holderOf : List Slot → ℕ → ℕ → Found
 holderOf slots zero q = Nothing
-holderOf slots (suc n) q = earlier (holderOf slots n q) (cond (holds (slotAt slots n) q) (At n) Nothing)
+holderOf slots (suc n) q = earlier (holderOf slots n q) (if holds (slotAt slots n) q then At n else Nothing)

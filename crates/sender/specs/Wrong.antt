@@ -1,9 +1,10 @@
 -- Wrong readings of 01 and of request 2026-08, each as a definition with a run on which it breaks what these say.
 use mathlib.Core.Path.{_≡_, refl}
-use mathlib.Core.Bool.{true, cond}
+use mathlib.Core.Bool.{true}
 use mathlib.Core.List.{List, [], _∷_}
 use Prim.Native.Nat.{ℕ, zero, suc, _/_}
 use lib.ListN.{getD, replicate, set}
+use Rattle.ground.specs.Plain.{if_then_else_}
 use Rattle.ground.specs.Table.{tabulate}
 use Rattle.packet.specs.declared.layout.Fields.{Fields}
 use Rattle.packet.specs.Crc.{crcOf, divisor, nibbleBits}
@@ -65,7 +66,7 @@ joined slot cs = AddSlot slot ∷ Report 0 0x00 0 ∷ Lapse ∷ cs
 
 -- Slip 1: 'Ranking by number and not by place among active members, so a DNU member leaves a hole.' The payload of an epoch is ruled by DNU 0, NORM 1, EOS 2: rank 2 is not below X.
 wrong-rank : Sender → ℕ → ℕ
-wrong-rank s i = cond (carries (rowAt (s .ruling .rows) i)) (rowAt (s .ruling .rows) i .number) noRank
+wrong-rank s i = if carries (rowAt (s .ruling .rows) i) then rowAt (s .ruling .rows) i .number else noRank
 
 rank-breaks :
     (told wrong-rank 3 (twice (joined 0 (joined 1 (joined 2 (Report 0 0x80 0 ∷ [])))) []) ≡ 2 ∷ 255 ∷ 1 ∷ 2 ∷ [])

@@ -1,9 +1,9 @@
 -- Changes applied to a board: 'changes that don't fit the board they are applied to is 2, and the board stays.' (02, 2026-10)
-use mathlib.Core.Bool.{Bool, true, false, cond, not, _&&_}
+use mathlib.Core.Bool.{Bool, true, false, not, _&&_}
 use mathlib.Core.List.{List}
 use Prim.Native.Nat.{ℕ, zero, suc}
-use lib.Dec.{leb, ltb}
 use lib.ListN.{getD, set}
+use Rattle.ground.specs.Plain.{if_then_else_, _<?_, _≤?_}
 use Rattle.counting.specs.Words.{every}
 use Rattle.sender.specs.declared.board.Board.{Board}
 use Rattle.sender.specs.declared.board.Row.{Row}
@@ -22,11 +22,11 @@ changeIn list k = getD list k noChange
 -- slots rise strictly
 abbrev pub risesAt : List Change → ℕ → Bool
 risesAt list zero = true
-risesAt list (suc k) = ltb (changeIn list k .slot) (changeIn list (suc k) .slot)
+risesAt list (suc k) = changeIn list k .slot <? changeIn list (suc k) .slot
 
 -- The slot is below the board's count and above the slot before; the old word and number are the board's; the new ones are others.
 abbrev pub fitsBy : Change → Row → ℕ → Bool → Bool
-fitsBy c row count rises = ltb (c .slot) count && rises && sameRow (c .old) row && not (sameRow (c .old) (c .new))
+fitsBy c row count rises = c .slot <? count && rises && sameRow (c .old) row && not (sameRow (c .old) (c .new))
 
 -- each of the first n changes, against the board as it stood before all of them
 unfoldable pub changesFit : List Row → ℕ → List Change → ℕ → Bool
@@ -45,7 +45,7 @@ waitAfter wait Closed = false
 
 unfoldable pub fits : Board → Changes → Bool
 fits b cs =
-    cond (leb (b .count) 64 && leb (cs .count) 64 && waitFits (b .wait) (cs .wait)) (changesFit (b .rows) (b .count) (cs .list) (cs .count)) false
+    if b .count ≤? 64 && cs .count ≤? 64 && waitFits (b .wait) (cs .wait) then changesFit (b .rows) (b .count) (cs .list) (cs .count) else false
 
 -- the rows with the first n changes laid on them
 abbrev pub laidTo : List Row → List Change → ℕ → List Row
@@ -56,4 +56,4 @@ unfoldable pub withChanges : Board → Changes → Board
 withChanges b cs = record { rows = laidTo (b .rows) (cs .list) (cs .count); count = b .count; wait = waitAfter (b .wait) (cs .wait) }
 
 unfoldable pub appliedOf : Board → Changes → Applied
-appliedOf b cs = cond (fits b cs) (record { board = withChanges b cs; answer = Done }) (record { board = b; answer = Unfit })
+appliedOf b cs = if fits b cs then (record { board = withChanges b cs; answer = Done }) else (record { board = b; answer = Unfit })

@@ -1,9 +1,9 @@
 -- The spoken changes: 'slot, old state and number, new state and number, in slot order, then the wait if it differs.' (02, 2026-10)
-use mathlib.Core.Bool.{Bool, cond, not, _&&_, Bool·beq}
+use mathlib.Core.Bool.{Bool, not, _&&_, Bool·beq}
 use mathlib.Core.List.{List, [], _∷_, _++_}
 use Prim.Native.Nat.{ℕ, zero, suc}
-use lib.Dec.{eqb, leb}
 use lib.ListN.{drop, length, replicate}
+use Rattle.ground.specs.Plain.{if_then_else_, _==_, _≤?_}
 use Rattle.sender.specs.declared.board.Board.{Board}
 use Rattle.sender.specs.declared.board.Row.{Row}
 use Rattle.sender.specs.Ranks.{rowAt}
@@ -23,7 +23,7 @@ answerNumber Counts = 4
 answerNumber Length = 9
 
 abbrev pub sameRow : Row → Row → Bool
-sameRow a b = eqb (a .word .0) (b .word .0) && eqb (a .number) (b .number)
+sameRow a b = a .word .0 == b .word .0 && a .number == b .number
 
 -- a slot has changed where its word or its number differs, 'EOS to NORM too'
 abbrev pub changed : List Row → List Row → ℕ → Bool
@@ -35,7 +35,7 @@ changeAt old new i = record { slot = i; old = rowAt old i; new = rowAt new i }
 -- 'Each changed slot is spoken once, .. no other', 'in slot order': of the first n slots
 abbrev pub spokenTo : List Row → List Row → ℕ → List Change
 spokenTo old new zero = []
-spokenTo old new (suc n) = spokenTo old new n ++ cond (changed old new n) (changeAt old new n ∷ []) []
+spokenTo old new (suc n) = spokenTo old new n ++ (if changed old new n then changeAt old new n ∷ [] else [])
 
 abbrev pub noChange : Change
 noChange = record { slot = 0; old = record { word = record { 0 = 0 }; number = 0 }; new = record { word = record { 0 = 0 }; number = 0 } }
@@ -49,7 +49,7 @@ changesIn old new n wait = record { list = listOf (spokenTo old new n); count = 
 
 -- 'the wait if it differs'
 abbrev pub waitChange : Bool → Bool → WaitChange
-waitChange old new = cond (Bool·beq old new) Same (cond new Opened Closed)
+waitChange old new = if Bool·beq old new then Same else if new then Opened else Closed
 
 unfoldable pub changesOf : Board → Board → Changes
 changesOf old new = changesIn (old .rows) (new .rows) (old .count) (waitChange (old .wait) (new .wait))
@@ -59,7 +59,7 @@ noChanges = record { list = replicate 64 noChange; count = 0; wait = Same }
 
 -- 'different counts is 4', and a count above 64, which no call returns
 abbrev pub comparable : Board → Board → Bool
-comparable old new = eqb (old .count) (new .count) && leb (old .count) 64
+comparable old new = old .count == new .count && old .count ≤? 64
 
 unfoldable pub comparedOf : Board → Board → Compared
-comparedOf old new = cond (comparable old new) (record { changes = changesOf old new; answer = Done }) (record { changes = noChanges; answer = Counts })
+comparedOf old new = if comparable old new then (record { changes = changesOf old new; answer = Done }) else (record { changes = noChanges; answer = Counts })

@@ -1,6 +1,7 @@
 -- Someone who listens (item 1 of the minutes): she holds a board, and at the start of an epoch she is told the changes to the board that goes out.
-use mathlib.Core.Bool.{Bool, cond}
+use mathlib.Core.Bool.{Bool}
 use mathlib.Core.List.{List, [], _∷_}
+use Rattle.ground.specs.Plain.{if_then_else_}
 use Rattle.sender.specs.declared.board.Board.{Board}
 use Rattle.sender.specs.declared.epochs.Sender.{Sender}
 use Rattle.sender.specs.Epochs.{SenderCall, senderOutcomeOf}
@@ -33,7 +34,7 @@ callsIn [] = []
 callsIn (m ∷ ms) = m .call ∷ callsIn ms
 
 abbrev pub knownNow : Board → Sender → Bool → Board
-knownNow known s hears = cond hears (toldFrom known known (takenOf s) .board) known
+knownNow known s hears = if hears then toldFrom known known (takenOf s) .board else known
 
 abbrev pub knownWith : Board → Sender → List Moment → Board
 knownWith known s [] = known

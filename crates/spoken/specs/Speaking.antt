@@ -1,9 +1,9 @@
 -- The spoken lines: one change a line, fields parted by tabs, the words first; then the wait. No line where nothing has changed.
-use mathlib.Core.Bool.{Bool, false, cond, not, _&&_, _||_}
+use mathlib.Core.Bool.{Bool, false, not, _&&_, _||_}
 use mathlib.Core.List.{List, [], _++_}
 use Prim.Native.Nat.{ℕ, zero, suc}
-use lib.Dec.{eqb, leb, ltb}
 use lib.ListN.{drop, length}
+use Rattle.ground.specs.Plain.{if_then_else_, _==_, _<?_, _≤?_}
 use Rattle.counting.specs.Words.{every}
 use Rattle.packet.specs.declared.words.Word.{Word}
 use Rattle.packet.specs.Words.{ADD, DNU, EOS, IDLE, NORM}
@@ -59,28 +59,28 @@ SPEECH-ROOM = 2188
 
 -- a board shows no other words
 abbrev pub isShown : Word → Bool
-isShown w = eqb (w .0) ADD || eqb (w .0) NORM || eqb (w .0) EOS || eqb (w .0) DNU || eqb (w .0) IDLE
+isShown w = w .0 == ADD || w .0 == NORM || w .0 == EOS || w .0 == DNU || w .0 == IDLE
 
 -- Changes that fit some board and whose words can be said: nobody is to hear IDLE for a word that has no name.
 abbrev pub speaksBy : Change → Bool → Bool
-speaksBy c rises = ltb (c .slot) 64 && rises && not (sameRow (c .old) (c .new)) && isShown (c .old .word) && isShown (c .new .word)
+speaksBy c rises = c .slot <? 64 && rises && not (sameRow (c .old) (c .new)) && isShown (c .old .word) && isShown (c .new .word)
 
 unfoldable pub changesSpeak : List Change → ℕ → Bool
 changesSpeak list n = every n (λ k. speaksBy (changeIn list k) (risesAt list k))
 
 unfoldable pub canSpeak : Changes → Bool
-canSpeak cs = cond (leb (cs .count) 64) (changesSpeak (cs .list) (cs .count)) false
+canSpeak cs = if cs .count ≤? 64 then changesSpeak (cs .list) (cs .count) else false
 
 -- 9, 2
 unfoldable pub speakAnswer : Changes → List ℕ → Answer
-speakAnswer cs out = cond (ltb (length out) SPEECH-ROOM) Length (cond (canSpeak cs) Done Unfit)
+speakAnswer cs out = if length out <? SPEECH-ROOM then Length else if canSpeak cs then Done else Unfit
 
 abbrev pub isSpoken : Changes → List ℕ → Bool
-isSpoken cs out = cond (ltb (length out) SPEECH-ROOM) false (canSpeak cs)
+isSpoken cs out = if length out <? SPEECH-ROOM then false else canSpeak cs
 
 unfoldable pub speechOf : Changes → List ℕ → Speech
-speechOf cs out = record { answer = speakAnswer cs out; written = cond (isSpoken cs out) (length (spokenText cs)) 0 }
+speechOf cs out = record { answer = speakAnswer cs out; written = if isSpoken cs out then length (spokenText cs) else 0 }
 
 -- the lines at the front of the buffer; the rest stays
 unfoldable pub speechBytes : Changes → List ℕ → List ℕ
-speechBytes cs out = cond (isSpoken cs out) (spokenText cs ++ drop (length (spokenText cs)) out) out
+speechBytes cs out = if isSpoken cs out then spokenText cs ++ drop (length (spokenText cs)) out else out

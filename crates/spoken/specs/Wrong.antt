@@ -1,10 +1,10 @@
 -- Wrong readings of 02, each as a definition with a run on which it breaks what 02 says.
 use mathlib.Core.Path.{_≡_, refl}
-use mathlib.Core.Bool.{Bool, cond, not, _&&_}
+use mathlib.Core.Bool.{Bool, not, _&&_}
 use mathlib.Core.List.{List, [], _∷_, _++_}
 use Prim.Native.Nat.{ℕ, zero, suc}
-use lib.Dec.{eqb}
 use lib.ListN.{replicate, set}
+use Rattle.ground.specs.Plain.{if_then_else_, _==_}
 use Rattle.packet.specs.Kinds.{idleNumber, mstFails, mstFirst, mstNumbers}
 use Rattle.packet.specs.Words.{ADD, DNU, EOS, IDLE, NORM}
 use Rattle.sender.specs.Board.{boardOf, highest, noRow, rowOf, rowsOf, word}
@@ -37,7 +37,7 @@ use Rattle.spoken.specs.Taking.{takenOf}
 -- the slots below n at which a test holds
 abbrev slotsWhere : ℕ → (ℕ → Bool) → List ℕ
 slotsWhere zero f = []
-slotsWhere (suc n) f = slotsWhere n f ++ cond (f n) (n ∷ []) []
+slotsWhere (suc n) f = slotsWhere n f ++ (if f n then n ∷ [] else [])
 
 -- a member added and made active, its wait lapsed
 abbrev active : ℕ → List Call
@@ -61,7 +61,7 @@ wrong-states : Table → Table → ℕ → Bool
 wrong-states old new i =
     let a = slotAt (old .slots) i in
     let b = slotAt (new .slots) i in
-    not (eqb (stateCode (a .state)) (stateCode (b .state)) && eqb (a .number) (b .number))
+    not (stateCode (a .state) == stateCode (b .state) && a .number == b .number)
 
 states-break :
     (slotsWhere 2 (wrong-states p10-before p10-after) ≡ 1 ∷ [])
@@ -71,7 +71,7 @@ states-break = (refl, refl)
 
 -- Numbers alone. Then a member that is set aside is not spoken, since DNU keeps its number.
 wrong-numbers : List Row → List Row → ℕ → Bool
-wrong-numbers old new i = not (eqb (rowAt old i .number) (rowAt new i .number))
+wrong-numbers old new i = not (rowAt old i .number == rowAt new i .number)
 
 numbers-break :
     (slotsWhere 2 (wrong-numbers (boardOf p10-before .rows) (boardOf p10-after .rows)) ≡ [])
@@ -110,9 +110,9 @@ sides-break = refl
 abbrev wrong-one : Applied → Change → Bool → Applied
 wrong-one r c rises =
     let b = r .board in
-    cond (eqb (answerNumber (r .answer)) 0 && fitsBy c (rowAt (b .rows) (c .slot)) (b .count) rises)
-    (record { board = record { rows = set (b .rows) (c .slot) (c .new); count = b .count; wait = b .wait }; answer = Done })
-    (record { board = b; answer = Unfit })
+    if answerNumber (r .answer) == 0 && fitsBy c (rowAt (b .rows) (c .slot)) (b .count) rises
+    then (record { board = record { rows = set (b .rows) (c .slot) (c .new); count = b .count; wait = b .wait }; answer = Done })
+    else (record { board = b; answer = Unfit })
 
 wrong-apply : Board → List Change → ℕ → Applied
 wrong-apply b list zero = record { board = b; answer = Done }
@@ -138,7 +138,7 @@ apply-breaks = (refl, refl)
 
 -- The wait spoken always. Then equal boards are not silent, and what is told does not fit.
 wrong-wait : Bool → Bool → WaitChange
-wrong-wait old new = cond new Opened Closed
+wrong-wait old new = if new then Opened else Closed
 
 abbrev wrong-same : Board → Changes
 wrong-same b = changesIn (b .rows) (b .rows) (b .count) (wrong-wait (b .wait) (b .wait))

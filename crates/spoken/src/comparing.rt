@@ -7,8 +7,8 @@ use crate::lists::WaitChange;
 use sender::Board;
 use sender::Row;
 ghost use mathlib.Core.Path.{_≡_};
-ghost use mathlib.Core.Bool.{cond};
 ghost use Prim.Native.Nat.{_≤_};
+ghost use Rattle.ground.specs.Plain.{if_then_else_};
 ghost use Rattle.spoken.specs.Changes.{changesIn, comparedOf, waitChange};
 
 pub struct Compared {
@@ -29,7 +29,7 @@ fn wait_change(old: bool, new: bool) -> WaitChange
 }
 
 fn change_if(test: bool, change: Change, other: Change) -> Change
-    ensures { λ r. ⌜ r ≡ cond test change other ⌝ }
+    ensures { λ r. ⌜ r ≡ (if test then change else other) ⌝ }
 {
     if test { change } else { other }
 }

@@ -1,8 +1,8 @@
 -- What one frame of a port does (01, 'Step', 'Beginning', 'Window'), decided on the group's and the port's records.
-use mathlib.Core.Bool.{Bool, true, false, cond, not, _&&_, _||_}
+use mathlib.Core.Bool.{Bool, true, false, not, _&&_, _||_}
 use Prim.Native.Nat.{ℕ}
-use lib.Dec.{eqb, ltb}
 pub use Rattle.ground.specs.Flags.{flagOf}
+use Rattle.ground.specs.Plain.{if_then_else_, _==_, _<?_}
 use Rattle.packet.specs.Kinds.{distanceOf, endsEpoch, epochsIn, firstTag, startsEpoch}
 use Rattle.rows.specs.declared.group.Group.{Group}
 use Rattle.rows.specs.declared.step.Step.{Step}
@@ -65,7 +65,7 @@ flagged g s =
 unfoldable pub countsOn : Group → Step → Run → Taken
 countsOn g s run =
     let now = lost s 0 run in
-    record { step = now; answer = 12; counted = not (eqb (run .count) 0); kept = false; at = 0; joins = false; settles = settlesAt g s now }
+    record { step = now; answer = 12; counted = not (run .count == 0); kept = false; at = 0; joins = false; settles = settlesAt g s now }
 
 -- 'A frame in step of a port that has not joined is answered 0 and dropped.'
 unfoldable pub frameDropped : Group → Step → Run → Taken
@@ -85,7 +85,7 @@ keeps g s run d =
       kept = true;
       at = d;
       joins = false;
-      settles = not (flagOf (g .gathered)) && endsEpoch (g .kind) d && eqb (epochsIn (g .kind) d) 0;
+      settles = not (flagOf (g .gathered)) && endsEpoch (g .kind) d && epochsIn (g .kind) d == 0;
     }
 
 -- 'A port joins at its first epoch start in the window'
@@ -95,20 +95,21 @@ joining g s run d =
 
 -- 'A frame lies in the window when its tag is 0 to W-1 after the first frame of the oldest epoch'; '11 goes only to a joined port'
 unfoldable pub byWindow : Group → Step → Run → ℕ → Taken
-byWindow g s run d = cond (ltb d (g .window)) (keeps g s run d) (outside s)
+byWindow g s run d = if d <? g .window then keeps g s run d else outside s
 
 unfoldable pub byStart : Group → Step → Run → ℕ → Taken
-byStart g s run d = cond (startsEpoch (g .kind) (s .next) && ltb d (g .window)) (joining g s run d) (frameDropped g s run)
+byStart g s run d = if startsEpoch (g .kind) (s .next) && d <? g .window then joining g s run d else frameDropped g s run
 
 -- a frame in step: 'Frames take their tag from the receiver's own count' (request 2026-04), which is the tag that was to come next
 unfoldable pub arrives : Group → Step → Run → Taken
 arrives g s run =
-    cond (not (flagOf (g .begun))) (frameDropped g s run)
-    (cond (flagOf (s .joined)) (byWindow g s run (distanceIn g (s .next))) (byStart g s run (distanceIn g (s .next))))
+    if not (flagOf (g .begun)) then frameDropped g s run
+    else if flagOf (s .joined) then byWindow g s run (distanceIn g (s .next))
+    else byStart g s run (distanceIn g (s .next))
 
 -- 'For frames: .. 10, 12, 11.' The H4 byte of a flagged frame is not looked at. By another it ends an odd packet or not.
 unfoldable pub takenOf : Group → Step → Bool → Bool → ℕ → Taken
 takenOf g s flag odd h =
-    cond flag (flagged g s)
-    (let run = runOn (g .kind) (runOf s) odd h in
-    cond (inStepAt (g .kind) (run .count)) (arrives g s run) (countsOn g s run))
+    if flag then flagged g s
+    else (let run = runOn (g .kind) (runOf s) odd h in
+    if inStepAt (g .kind) (run .count) then arrives g s run else countsOn g s run)

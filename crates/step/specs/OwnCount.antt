@@ -1,9 +1,9 @@
 -- A packet by the receiver's own count (request 2026-04), and by the kind of packet (request 2026-12).
-use mathlib.Core.Bool.{Bool, cond, not, _&&_, _||_}
+use mathlib.Core.Bool.{Bool, not, _&&_, _||_}
 use mathlib.Core.List.{List}
 use Prim.Native.Nat.{ℕ}
-use lib.Dec.{eqb}
 use lib.ListN.{set}
+use Rattle.ground.specs.Plain.{if_then_else_, _==_}
 use Rattle.packet.specs.Counts.{nibbleIn}
 use Rattle.packet.specs.declared.ruling.Ruling.{Ruling}
 use Rattle.packet.specs.Fixed.{fixedRulingOf}
@@ -15,19 +15,19 @@ use Rattle.step.specs.Run.{endsPacket}
 
 -- the packet's MFI2 is the number of its epoch by that count
 unfoldable pub ownNumber : ℕ → List ℕ → Bool
-ownNumber epoch nibbles = eqb (fieldsOf nibbles .epoch) epoch
+ownNumber epoch nibbles = fieldsOf nibbles .epoch == epoch
 
 -- the packet read by its kind
 unfoldable pub rulingIn : ℕ → ℕ → List ℕ → Ruling
-rulingIn kind epoch nibbles = cond (eqb kind fixedKind) (fixedRulingOf nibbles) (rulingOf kind epoch nibbles)
+rulingIn kind epoch nibbles = if kind == fixedKind then fixedRulingOf nibbles else rulingOf kind epoch nibbles
 
 -- 'a packet whose carried MFI2 differs from that count is treated as a CRC difference'
 unfoldable pub ownRuling : ℕ → ℕ → List ℕ → Ruling
-ownRuling kind epoch nibbles = cond (ownNumber epoch nibbles) (rulingIn kind epoch nibbles) refused
+ownRuling kind epoch nibbles = if ownNumber epoch nibbles then rulingIn kind epoch nibbles else refused
 
 -- 5 is 'CRC differs'. Of a fixed group 'no CRC is checked': each packet counts as one of right CRC.
 unfoldable pub rightCrc : ℕ → List ℕ → Bool
-rightCrc kind nibbles = eqb kind fixedKind || not (eqb (readingNumber (readNibbles nibbles)) 5)
+rightCrc kind nibbles = kind == fixedKind || not (readingNumber (readNibbles nibbles) == 5)
 
 -- 'right CRC and a differing MFI2'. The word is not looked at.
 unfoldable pub oddPacket : ℕ → ℕ → List ℕ → Bool

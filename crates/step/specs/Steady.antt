@@ -2,7 +2,7 @@
 -- Of the port's records it changes the next tag and one nibble alone.
 use mathlib.Core.Bool.{Bool, true, false, not, _&&_}
 use Prim.Native.Nat.{ℕ}
-use lib.Dec.{eqb, ltb}
+use Rattle.ground.specs.Plain.{_==_, _<?_}
 use Rattle.packet.specs.Counts.{counts}
 use Rattle.packet.specs.Kinds.{endsEpoch, tagAfter}
 use Rattle.rows.specs.declared.group.Group.{Group}
@@ -14,9 +14,9 @@ use Rattle.step.specs.declared.arrival.Taken.{Taken}
 unfoldable pub steady : Group → Step → Bool → ℕ → Bool
 steady g s flag h =
     not flag
-    && eqb (s .had) 1
-    && eqb (s .failed) 0
-    && eqb (s .breaks) 0
+    && s .had == 1
+    && s .failed == 0
+    && s .breaks == 0
     && inStep g s
     && counts (g .kind) (s .next) h
     && flagOf (g .begun)
@@ -24,7 +24,7 @@ steady g s flag h =
 
 -- of a frame d after the window's first
 unfoldable pub midEpoch : Group → ℕ → Bool
-midEpoch g d = ltb d (g .window) && not (endsEpoch (g .kind) d)
+midEpoch g d = d <? g .window && not (endsEpoch (g .kind) d)
 
 unfoldable pub steadyTaken : Group → Step → Taken
 steadyTaken g s =

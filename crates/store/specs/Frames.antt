@@ -1,10 +1,9 @@
 -- Frames in the lent store (01, 'Numbers that bound the work': 'exactly ports x W x (P+1) bytes, a frame's payload and its H4').
-use mathlib.Core.Bool.{cond}
 use mathlib.Core.List.{List}
 use Prim.Native.Nat.{ℕ, _+_, _*_, _%_}
-use lib.Dec.{eqb, ltb}
 use lib.ListN.{length, getD}
 use Rattle.ground.specs.Drawn.{fillAt}
+use Rattle.ground.specs.Plain.{if_then_else_, _==_, _<?_}
 use Rattle.ground.specs.Table.{tabulate}
 use Rattle.packet.specs.Counts.{nibbleIn}
 use Rattle.packet.specs.Kinds.{frames}
@@ -12,7 +11,7 @@ use Rattle.rows.specs.declared.group.Group.{Group}
 
 -- a port's W places go round; the window's first frame stands at the origin
 unfoldable pub ringOf : ℕ → ℕ → ℕ → ℕ
-ringOf origin d W = cond (eqb W 0) 0 ((origin + d) % W)
+ringOf origin d W = if W == 0 then 0 else (origin + d) % W
 
 -- where the frame of a port stands that lies d after the window's first
 unfoldable pub placeIn : Group → ℕ → ℕ → ℕ
@@ -20,7 +19,7 @@ placeIn g port d = (port * g .window + ringOf (g .origin) d (g .window)) * (g .p
 
 -- a frame's payload, then its H4, from a place on; one that would go beyond the end is dropped
 unfoldable pub storedAt : List ℕ → ℕ → List ℕ → ℕ → List ℕ
-storedAt s place payload h = cond (ltb (place + length payload) (length s)) (fillAt place (length payload + 1) (λ j. getD payload j h) s) s
+storedAt s place payload h = if place + length payload <? length s then fillAt place (length payload + 1) (λ j. getD payload j h) s else s
 
 unfoldable pub byteAt : List ℕ → ℕ → ℕ
 byteAt s place = getD s place 0

@@ -1,11 +1,11 @@
 -- Texts put into a buffer, and what a number and a word are as text.
 use mathlib.Core.Path.{_≡_}
-use mathlib.Core.Bool.{Bool, cond}
+use mathlib.Core.Bool.{Bool}
 use mathlib.Core.List.{List, [], _∷_, _++_}
 use Prim.Native.Nat.{ℕ, zero, suc, _+_, _/_, _%_}
-use lib.Dec.{eqb, leb, ltb}
 use lib.ListN.{length}
 use lib.Seq.{sets}
+use Rattle.ground.specs.Plain.{if_then_else_, _==_, _<?_, _≤?_}
 use Rattle.packet.specs.declared.words.Word.{Word}
 use Rattle.packet.specs.Words.{ADD, DNU, EOS, NORM}
 use Rattle.text.specs.Ascii.{ascii}
@@ -13,13 +13,14 @@ use Rattle.text.specs.Ascii.{ascii}
 -- a byte in decimal, with no zero before it
 unfoldable pub decimalText : ℕ → List ℕ
 decimalText n =
-    cond (ltb n 10) ((48 + n) ∷ [])
-    (cond (ltb n 100) ((48 + n / 10) ∷ (48 + n % 10) ∷ []) ((48 + n / 100) ∷ (48 + n / 10 % 10) ∷ (48 + n % 10) ∷ []))
+    if n <? 10 then (48 + n) ∷ []
+    else if n <? 100 then (48 + n / 10) ∷ (48 + n % 10) ∷ []
+    else (48 + n / 100) ∷ (48 + n / 10 % 10) ∷ (48 + n % 10) ∷ []
 
 -- the digits of a number before a text, none for 0, and at most so many
 abbrev pub digitsBefore : ℕ → ℕ → List ℕ → List ℕ
 digitsBefore zero n text = text
-digitsBefore (suc most) n text = cond (ltb 0 n) (digitsBefore most (n / 10) ((48 + n % 10) ∷ text)) text
+digitsBefore (suc most) n text = if 0 <? n then digitsBefore most (n / 10) ((48 + n % 10) ∷ text) else text
 
 -- a number of at most twenty digits in decimal, with no zero before it
 unfoldable pub numberText : ℕ → List ℕ
@@ -28,9 +29,11 @@ numberText n = digitsBefore 19 (n / 10) ((48 + n % 10) ∷ [])
 -- five control words by name: ADD, NORM, EOS, DNU, IDLE
 unfoldable pub wordText : Word → List ℕ
 wordText w =
-    cond (eqb (w .0) ADD) (ascii "ADD")
-    (cond (eqb (w .0) NORM) (ascii "NORM")
-    (cond (eqb (w .0) EOS) (ascii "EOS") (cond (eqb (w .0) DNU) (ascii "DNU") (ascii "IDLE"))))
+    if w .0 == ADD then ascii "ADD"
+    else if w .0 == NORM then ascii "NORM"
+    else if w .0 == EOS then ascii "EOS"
+    else if w .0 == DNU then ascii "DNU"
+    else ascii "IDLE"
 
 -- a field with the mark behind it
 abbrev pub ended : List ℕ → ℕ → List ℕ
@@ -44,10 +47,10 @@ pub record Put (text : List ℕ) (at : ℕ) (out : List ℕ) (next : ℕ) (new :
 
 -- the same for any place and any buffer: a text that does not fit is left out
 abbrev pub fits : List ℕ → ℕ → List ℕ → Bool
-fits text at out = leb (at + length text) (length out)
+fits text at out = at + length text ≤? length out
 
 unfoldable pub putNext : List ℕ → ℕ → List ℕ → ℕ
-putNext text at out = cond (fits text at out) (at + length text) at
+putNext text at out = if fits text at out then at + length text else at
 
 unfoldable pub putBytes : List ℕ → ℕ → List ℕ → List ℕ
-putBytes text at out = cond (fits text at out) (sets out at text) out
+putBytes text at out = if fits text at out then sets out at text else out

@@ -1,8 +1,7 @@
 -- 'Lines of text, fields parted by tabs.' (01, 'Session')
-use mathlib.Core.Bool.{cond}
 use mathlib.Core.List.{List, [], _∷_}
 use Prim.Native.Nat.{ℕ}
-use lib.Dec.{eqb}
+use Rattle.ground.specs.Plain.{if_then_else_, _==_}
 
 abbrev pub TAB : ℕ
 TAB = 9
@@ -18,7 +17,7 @@ ahead b (p ∷ ps) = (b ∷ p) ∷ ps
 -- a text parted at each mark; an empty text has the pieces z
 abbrev pub parted : ℕ → List (List ℕ) → List ℕ → List (List ℕ)
 parted mark z [] = z
-parted mark z (b ∷ text) = cond (eqb b mark) ([] ∷ parted mark z text) (ahead b (parted mark z text))
+parted mark z (b ∷ text) = if b == mark then [] ∷ parted mark z text else ahead b (parted mark z text)
 
 -- the fields of a line; an empty line has one, which is empty
 unfoldable pub fieldsOf : List ℕ → List (List ℕ)

@@ -2,9 +2,9 @@
 ghost use mathlib.Core.Path.{_≡_};
 ghost use mathlib.Core.Bool.{true};
 ghost use Prim.Native.Nat.{_+_, _^_, _≤_, _<_};
-ghost use lib.Dec.{ltb};
 ghost use lib.ListN.{length, take};
 ghost use lib.Seq.{slice};
+ghost use Rattle.ground.specs.Plain.{_<?_};
 ghost use Rattle.bytes.specs.Bytes.{indexOf};
 ghost use Rattle.text.specs.Fields.{areDigits, digitOf, hexOf, numberOf, sameBytes, valueOf};
 
@@ -50,7 +50,7 @@ pub(crate) fn field_size(text: &[u8], at: usize, limit: usize) -> usize
 // branch goes by them here, nor in their value.
 fn is_digit(byte: u8, base: u8) -> bool
     requires { ⌜ base ≤ 16 ⌝ }
-    ensures { λ r. ⌜ r ≡ ltb (digitOf byte) base ⌝ }
+    ensures { λ r. ⌜ r ≡ (digitOf byte <? base) ⌝ }
 {
     ((48 <= byte) & (byte <= 57) & (byte < 48 + base))
         | ((65 <= byte) & (byte <= 70) & (byte < 55 + base))

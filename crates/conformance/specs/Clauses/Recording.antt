@@ -4,9 +4,9 @@ use mathlib.Core.Bool.{Bool, true, false}
 use mathlib.Core.List.{List, [], _∷_, _++_}
 use Prim.Native.Nat.{ℕ, _-_, _≤_, _<_}
 use native.Mathlib.Omega.{arith}
-use lib.Dec.{ltb}
 use lib.ListN.{length, replicate}
 use borrow.Author.Tests.{le-leb, le-ltb, lt-leb, lt-ltb, ne-eqb}
+use Rattle.ground.specs.Plain.{_<?_}
 use Rattle.bytes.specs.Bytes.{indexAfter, indexOf}
 use Rattle.recording.specs.declared.opening.FirstLine.the-variants as F
 use Rattle.recording.specs.declared.pairs.Settings.{Settings}
@@ -164,11 +164,11 @@ pub opening-above : (next : ℕ) (line : List ℕ) → 8192 < length line → li
 unfolding lineOpening
 opening-above next line b = rw (lt-leb (length line) 8192 b)
 
-pub opening-open : (at : ℕ) (rest : List ℕ) → 0 < length rest → length rest ≤ 8192 → ltb (indexOf LINE-END rest) (length rest) ≡ false
+pub opening-open : (at : ℕ) (rest : List ℕ) → 0 < length rest → length rest ≤ 8192 → (indexOf LINE-END rest <? length rest) ≡ false
     → openingIn at false rest ≡ O.Unfinished
 unfolding openingIn foundOf
 opening-open at rest some b e = rw (ne-eqb (length rest) 0 (λ z. omega arith), e, le-ltb 8192 (length rest) b)
 
-pub opening-long : (at : ℕ) (last : Bool) (rest : List ℕ) → 8192 < length rest → ltb (indexOf LINE-END rest) (length rest) ≡ false → openingIn at last rest ≡ O.Malformed
+pub opening-long : (at : ℕ) (last : Bool) (rest : List ℕ) → 8192 < length rest → (indexOf LINE-END rest <? length rest) ≡ false → openingIn at last rest ≡ O.Malformed
 unfolding openingIn foundOf
 opening-long at last rest b e = rw (ne-eqb (length rest) 0 (λ z. omega arith), e, lt-ltb 8192 (length rest) b)

@@ -1,11 +1,11 @@
 -- The report of an epoch (01, 'Report of an epoch', 'Payload order'), part by part: a group of two ports, P 2, W 16, whose oldest epoch is 58, and what it reads from rows and store.
 use mathlib.Core.Path.{_≡_, refl}
-use mathlib.Core.Bool.{Bool, true, false, cond}
+use mathlib.Core.Bool.{Bool, true, false}
 use mathlib.Core.List.{List, [], _∷_, _++_}
 use Prim.Native.Nat.{ℕ}
-use lib.Dec.{eqb}
 use lib.ListN.{getD, length, replicate, take}
 use Rattle.conformance.specs.Clauses.Filled.{nines, zeros}
+use Rattle.ground.specs.Plain.{if_then_else_, _==_}
 use Rattle.ground.specs.Table.{tabulate}
 use Rattle.judge.specs.declared.order.Order.{Order}
 use Rattle.judge.specs.declared.seen.Seen.{Seen}
@@ -277,7 +277,7 @@ abbrev eighteen : List (List ℕ)
 eighteen = putMember (putPackets (replicate 91 (zeros 16)) 17 (zeros 16 ∷ norm ∷ [])) 17 gone
 
 abbrev last-active : List Seen
-last-active = tabulate 18 (λ i. record { whole = true; good = true; word = cond (eqb i 17) 3 5; number = cond (eqb i 17) 0 255; gid = 0; here = true })
+last-active = tabulate 18 (λ i. record { whole = true; good = true; word = if i == 17 then 3 else 5; number = if i == 17 then 0 else 255; gid = 0; here = true })
 
 many :
     (getD (seenAll (phase 1 1) eighteen 18) 17 (seen false 0 0 0) ≡ seen true 2 3 1)

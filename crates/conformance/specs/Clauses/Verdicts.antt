@@ -1,11 +1,11 @@
 -- Reports judged (01, 'Report of an epoch'), where a packet that did not arrive whole still reads as one; and packets of fixed groups (request 2026-12) at their limits.
 use mathlib.Core.Path.{_≡_, refl}
-use mathlib.Core.Bool.{Bool, true, false, cond}
+use mathlib.Core.Bool.{Bool, true, false}
 use mathlib.Core.List.{List, [], _∷_}
 use Prim.Native.Nat.{ℕ, _+_, _%_}
-use lib.Dec.{eqb}
 use lib.ListN.{length, replicate, set, take}
 use Rattle.conformance.specs.Clauses.Filled.{nines}
+use Rattle.ground.specs.Plain.{if_then_else_, _==_}
 use Rattle.ground.specs.Table.{tabulate}
 use Rattle.judge.specs.declared.seen.Seen.{Seen}
 use Rattle.judge.specs.Order.{activeIn, orderOf, portOf, rankOf}
@@ -72,7 +72,7 @@ others = (refl, refl, refl, refl, refl, refl, refl, refl, refl, refl, refl, refl
 
 -- four ports with the numbers 0 to 3, EOS on the last, of which the one at i is another
 abbrev word : ℕ → ℕ
-word i = cond (eqb i 3) 3 2
+word i = if i == 3 then 3 else 2
 
 abbrev but : (ℕ → Seen) → ℕ → List Seen
 but x i = set (tabulate 4 (λ j. saw (word j) j 0)) i (x i)

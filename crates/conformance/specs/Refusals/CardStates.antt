@@ -1,10 +1,10 @@
 -- The refusals of a card's C calls (02, 2026-06): a state of another length is 9, a group other than the two 1, what is no byte 8, then the card's own. The state is lent, so it stands as the state and not among the lent slices: under 4 starting leaves two empty groups in it.
 use mathlib.Core.Path.{_≡_, refl}
-use mathlib.Core.Bool.{Bool, true, cond, _||_}
+use mathlib.Core.Bool.{Bool, true, _||_}
 use mathlib.Core.List.{List, [], _∷_}
 use Prim.Native.Nat.{ℕ}
-use lib.Dec.{eqb, ltb}
 use lib.ListN.{length}
+use Rattle.ground.specs.Plain.{if_then_else_, _==_, _<?_}
 use Rattle.c_face.specs.Cards.{boardBytesOn, callAnswerOn, callStateOn, cardOf, outgoingBytesOn, ownedBytesOn, packetAnswerOn, packetBytesOn, payloadAnswerOn, payloadBytesOn, putCard, ranksBytesOn, shownAnswerOn, shownBytesOn, startAnswerOn, startStateOn}
 use Rattle.c_face.specs.Senders.{areBytes}
 use Rattle.circuits.specs.Answers.{answerNumber}
@@ -21,14 +21,14 @@ use Rattle.sender.specs.Epochs.{beginOf}
 
 -- 858 bytes
 abbrev pub isWhole : List ℕ → Bool
-isWhole state = eqb (length state) 858
+isWhole state = length state == 858
 
 -- Starting: 4, 9, 8.
 abbrev pub start : ℕ × ℕ × ℕ × List ℕ → Call
 start (count, «first_epoch_0», «first_epoch_1», state) =
-    stateful (If 4 (eqb count 0 || ltb 64 count) ∷ Unless 9 (isWhole state) ∷ Unless 8 (allBytes «first_epoch_0» «first_epoch_1» 0) ∷ [])
+    stateful (If 4 (count == 0 || 64 <? count) ∷ Unless 9 (isWhole state) ∷ Unless 8 (allBytes «first_epoch_0» «first_epoch_1» 0) ∷ [])
     (startAnswerOn count «first_epoch_0» «first_epoch_1» state) [] []
-    state (startStateOn count «first_epoch_0» «first_epoch_1» state) (cond (isWhole state) (putCard (emptyCard 0 0 0) state) state)
+    state (startStateOn count «first_epoch_0» «first_epoch_1» state) (if isWhole state then putCard (emptyCard 0 0 0) state else state)
 
 pub start-copes : (x : ℕ × ℕ × ℕ × List ℕ) → Copes (start x)
 unfolding startAnswerOn startStateOn card.startOf beginOf startOf
@@ -38,13 +38,13 @@ start-copes (count, e₀, e₁, state) =
 -- A call that changes a card: 9, 1 for the group, 8 where the numbers given are no bytes, then the call's own refusals. `fits` is the contract's own test for that.
 abbrev pub cardRow : List ℕ → ℕ → Bool → Bool → CardCall → List Refusal → Call
 cardRow state group bytes fits call rs =
-    stateful (Unless 9 (isWhole state) ∷ Unless 1 (ltb group 2) ∷ Unless 8 bytes ∷ rs) (callAnswerOn fits group call state) [] [] state (callStateOn fits group call state) state
+    stateful (Unless 9 (isWhole state) ∷ Unless 1 (group <? 2) ∷ Unless 8 bytes ∷ rs) (callAnswerOn fits group call state) [] [] state (callStateOn fits group call state) state
 
 pub call-copes : (state : List ℕ) (group : ℕ) (fits : Bool) (call : CardCall) (rs : List Refusal) → answerNumber (outcomeOf (cardOf state) group call .answer) ≡ first rs → Copes (cardRow state group fits fits call rs)
 unfolding callAnswerOn callStateOn
 call-copes state group fits call rs e =
     tested 9 (isWhole state) _ _ _ state
-    (tested 1 (ltb group 2) _ _ _ state (tested 8 fits rs _ _ state (put-anew rs (answerNumber (outcomeOf (cardOf state) group call .answer)) _ state e)))
+    (tested 1 (group <? 2) _ _ _ state (tested 8 fits rs _ _ state (put-anew rs (answerNumber (outcomeOf (cardOf state) group call .answer)) _ state e)))
 
 abbrev pub claim : List ℕ × ℕ × ℕ → Call
 claim (state, group, slot) = cardRow state group true true (Claim slot) (own.claim (cardOf state, group, slot) .refusals)
@@ -96,30 +96,30 @@ startEpoch-copes (state, group, gid, mst, «rs_ack») =
 
 abbrev pub packet : List ℕ × ℕ × ℕ × List ℕ → Call
 packet (state, group, slot, h4) =
-    stateless (Unless 9 (isWhole state) ∷ Unless 1 (ltb group 2) ∷ own.packet (cardOf state, group, slot, h4) .refusals)
+    stateless (Unless 9 (isWhole state) ∷ Unless 1 (group <? 2) ∷ own.packet (cardOf state, group, slot, h4) .refusals)
     (packetAnswerOn state group slot h4) (h4 ∷ []) (packetBytesOn state group slot h4 ∷ [])
 
 pub packet-copes : (x : List ℕ × ℕ × ℕ × List ℕ) → Copes (packet x)
 unfolding packetAnswerOn packetBytesOn
 packet-copes (state, group, slot, h4) =
-    behind 9 (isWhole state) _ _ _ h4 (behind 1 (ltb group 2) _ _ (packetBytes (cardOf state) group slot h4) h4 (own.packet-copes (cardOf state, group, slot, h4)))
+    behind 9 (isWhole state) _ _ _ h4 (behind 1 (group <? 2) _ _ (packetBytes (cardOf state) group slot h4) h4 (own.packet-copes (cardOf state, group, slot, h4)))
 
 abbrev pub payload : List ℕ × ℕ × ℕ × ℕ × List ℕ × List ℕ → Call
 payload (state, group, slot, p, frame, member) =
-    stateless (Unless 9 (isWhole state) ∷ Unless 1 (ltb group 2) ∷ own.payload (cardOf state, group, slot, p, frame, member) .refusals)
+    stateless (Unless 9 (isWhole state) ∷ Unless 1 (group <? 2) ∷ own.payload (cardOf state, group, slot, p, frame, member) .refusals)
     (payloadAnswerOn state group slot p frame member) (member ∷ []) (payloadBytesOn state group slot p frame member ∷ [])
 
 pub payload-copes : (x : List ℕ × ℕ × ℕ × ℕ × List ℕ × List ℕ) → Copes (payload x)
 unfolding payloadAnswerOn payloadBytesOn
 payload-copes (state, group, slot, p, frame, member) =
     behind 9 (isWhole state) _ _ _ member
-    (behind 1 (ltb group 2) _ _ (payloadBytes (cardOf state) group slot p frame member) member (own.payload-copes (cardOf state, group, slot, p, frame, member)))
+    (behind 1 (group <? 2) _ _ (payloadBytes (cardOf state) group slot p frame member) member (own.payload-copes (cardOf state, group, slot, p, frame, member)))
 
 -- What is read out whole: 9 for the state, 1 for the group, then 9 for the buffer.
 
 abbrev readRow : ℕ → List ℕ → ℕ → List ℕ → List ℕ → Call
 readRow n state group out left =
-    stateless (Unless 9 (isWhole state) ∷ Unless 1 (ltb group 2) ∷ Unless 9 (eqb (length out) n) ∷ []) (shownAnswerOn n state group out) (out ∷ []) (left ∷ [])
+    stateless (Unless 9 (isWhole state) ∷ Unless 1 (group <? 2) ∷ Unless 9 (length out == n) ∷ []) (shownAnswerOn n state group out) (out ∷ []) (left ∷ [])
 
 shows : (n : ℕ) (state : List ℕ) (group : ℕ) (new out : List ℕ) → Copes (readRow n state group out (shownBytesOn n state group new out))
 unfolding shownAnswerOn shownBytesOn

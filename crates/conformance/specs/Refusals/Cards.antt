@@ -1,10 +1,10 @@
 -- The refusals of a card with two circuits (02, 2026-06): 'order 1, 14, 15, 3, 2'; a claim 1, 14, a release 1, 14, 15, and the others 1, 14 or 1, then as the group's sender has it.
 use mathlib.Core.Path.{_≡_, _∙_, refl, ap}
-use mathlib.Core.Bool.{Bool, true, false, cond, not, _&&_, _||_}
+use mathlib.Core.Bool.{Bool, true, false, not, _&&_, _||_}
 use mathlib.Core.List.{List, [], _∷_}
 use Prim.Native.Nat.{ℕ}
-use lib.Dec.{eqb, ltb}
 use lib.ListN.{getD, length, replicate}
+use Rattle.ground.specs.Plain.{if_then_else_, _==_, _<?_}
 use Rattle.circuits.specs.declared.answers.Answer.{Answer}
 use Rattle.circuits.specs.declared.answers.Answer.the-variants as A
 use Rattle.circuits.specs.declared.card.Card.{Card}
@@ -33,18 +33,18 @@ use Rattle.sender.specs.Table.{answerNumber as senderNumber}
 -- What is asked of a slot, in plain comparisons. Groups are 0 and 1.
 
 abbrev its : Card → ℕ → Sender
-its c g = cond (eqb g 0) (c .first) (c .second)
+its c g = if g == 0 then c .first else c .second
 
 -- 1: 'a group other than the two', or a slot not below its count; one above 64, which no call returns, is taken as 64
 abbrev isThere : Card → ℕ → ℕ → Bool
-isThere c g i = ltb g 2 && ltb i (cond (ltb (its c g .table .count) 64) (its c g .table .count) 64)
+isThere c g i = g <? 2 && i <? (if its c g .table .count <? 64 then its c g .table .count else 64)
 
 -- 14: the owner row has 1 for group 0 and 2 for group 1
 abbrev isIts : Card → ℕ → ℕ → Bool
-isIts c g i = eqb (getD (c .owners) i 0) (cond (eqb g 0) 1 2)
+isIts c g i = getD (c .owners) i 0 == (if g == 0 then 1 else 2)
 
 abbrev isAnyones : Card → ℕ → Bool
-isAnyones c i = eqb (getD (c .owners) i 0) 1 || eqb (getD (c .owners) i 0) 2
+isAnyones c i = getD (c .owners) i 0 == 1 || getD (c .owners) i 0 == 2
 
 -- 15: not IDLE in the group's table
 abbrev isInUse : Card → ℕ → ℕ → Bool
@@ -56,7 +56,7 @@ emptyCard kind e₀ e₁ = record { owners = replicate 64 0; first = freshSender
 
 abbrev pub start : ℕ × ℕ × ℕ × ℕ → Call
 start (kind, count, «epoch_0», «epoch_1») =
-    stateful (If 4 (eqb count 0 || ltb 64 count) ∷ [])
+    stateful (If 4 (count == 0 || 64 <? count) ∷ [])
     (answerNumber (startOf kind count «epoch_0» «epoch_1» .answer)) [] []
     (emptyCard kind «epoch_0» «epoch_1») (startOf kind count «epoch_0» «epoch_1» .card) (emptyCard kind «epoch_0» «epoch_1»)
 
@@ -86,7 +86,7 @@ on-sender c g rs r h =
 
 -- one test more before it
 gate : (b : Bool) (a : Answer) (c : Card) (rs : List Refusal) (r : CardOutcome) → Copes (stateful rs (answerNumber (r .answer)) [] [] c (r .card) c)
-    → Copes (stateful (Unless (answerNumber a) b ∷ rs) (answerNumber (cond b r (refused c a) .answer)) [] [] c (cond b r (refused c a) .card) c)
+    → Copes (stateful (Unless (answerNumber a) b ∷ rs) (answerNumber ((if b then r else refused c a) .answer)) [] [] c ((if b then r else refused c a) .card) c)
 gate true a c rs r h = record { answers = h .answers; untouched = h .untouched; as-given = h .as-given; emptied = h .emptied }
 gate false a c rs r h = record { answers = refl; untouched = λ x. refl; as-given = λ k. refl; emptied = λ k. refl }
 
@@ -97,9 +97,9 @@ command c g i rs k h =
     gate (isSlot c g i) A.NoSlot c _ _ (gate (owns c g i) A.Owned c rs (groupOutcome c g (senderOutcomeOf (senderOf c g) k)) (on-sender c g rs (senderOutcomeOf (senderOf c g) k) h))
 
 group-call : (c : Card) (g : ℕ) (rs : List Refusal) (k : SenderCall) → let r = senderOutcomeOf (senderOf c g) k in Copes (stateful rs (senderNumber (r .answer)) [] [] (senderOf c g) (r .sender) (senderOf c g))
-    → Copes (stateful (Unless 1 (ltb g 2) ∷ rs) (answerNumber (groupCallOf c g k .answer)) [] [] c (groupCallOf c g k .card) c)
+    → Copes (stateful (Unless 1 (g <? 2) ∷ rs) (answerNumber (groupCallOf c g k .answer)) [] [] c (groupCallOf c g k .card) c)
 unfolding groupCallOf
-group-call c g rs k h = gate (ltb g 2) A.NoSlot c rs (groupOutcome c g (senderOutcomeOf (senderOf c g) k)) (on-sender c g rs (senderOutcomeOf (senderOf c g) k) h)
+group-call c g rs k h = gate (g <? 2) A.NoSlot c rs (groupOutcome c g (senderOutcomeOf (senderOf c g) k)) (on-sender c g rs (senderOutcomeOf (senderOf c g) k) h)
 
 -- a call of a group: its refusals, and what it answers and leaves
 abbrev callRow : Card → ℕ → CardCall → List Refusal → Call
@@ -141,20 +141,20 @@ unfolding isSlot owns senderOf sizeOf
 remove-copes (self, group, slot) = command self group slot _ _ (sender.remove-copes (senderOf self group, slot))
 
 abbrev pub report : Card × ℕ × ℕ × ℕ × ℕ → Call
-report (self, group, epoch, mst, «rs_ack») = callRow self group (Report epoch mst «rs_ack») (Unless 1 (ltb group 2) ∷ [])
+report (self, group, epoch, mst, «rs_ack») = callRow self group (Report epoch mst «rs_ack») (Unless 1 (group <? 2) ∷ [])
 
 pub report-copes : (x : Card × ℕ × ℕ × ℕ × ℕ) → Copes (report x)
 report-copes (self, group, epoch, mst, «rs_ack») = group-call self group _ _ (sender.report-copes (senderOf self group, epoch, mst, «rs_ack»))
 
 abbrev pub lapse : Card × ℕ → Call
-lapse (self, group) = callRow self group Lapse (Unless 1 (ltb group 2) ∷ sender.lapse (its self group) .refusals)
+lapse (self, group) = callRow self group Lapse (Unless 1 (group <? 2) ∷ sender.lapse (its self group) .refusals)
 
 pub lapse-copes : (x : Card × ℕ) → Copes (lapse x)
 unfolding senderOf
 lapse-copes (self, group) = group-call self group _ _ (sender.lapse-copes (senderOf self group))
 
 abbrev pub startEpoch : Card × ℕ × ℕ × ℕ × ℕ → Call
-startEpoch (self, group, gid, mst, «rs_ack») = callRow self group (StartEpoch gid mst «rs_ack») (Unless 1 (ltb group 2) ∷ sender.startEpoch (its self group, gid, mst, «rs_ack») .refusals)
+startEpoch (self, group, gid, mst, «rs_ack») = callRow self group (StartEpoch gid mst «rs_ack») (Unless 1 (group <? 2) ∷ sender.startEpoch (its self group, gid, mst, «rs_ack») .refusals)
 
 pub startEpoch-copes : (x : Card × ℕ × ℕ × ℕ × ℕ) → Copes (startEpoch x)
 unfolding senderOf
@@ -162,7 +162,7 @@ startEpoch-copes (self, group, gid, mst, «rs_ack») = group-call self group _ _
 
 -- a lent slice of an own slot
 lent : (s o : Bool) (a : S.Answer) (rs : List Refusal) (new old : List ℕ) → Copes (stateless rs (senderNumber a) (old ∷ []) (new ∷ []))
-    → Copes (stateless (Unless 1 s ∷ Unless 14 o ∷ rs) (answerNumber (cond s (cond o (fromSender a) A.Owned) A.NoSlot)) (old ∷ []) (cond (s && o) new old ∷ []))
+    → Copes (stateless (Unless 1 s ∷ Unless 14 o ∷ rs) (answerNumber (if s then (if o then fromSender a else A.Owned) else A.NoSlot)) (old ∷ []) ((if s && o then new else old) ∷ []))
 lent true true a rs new old h = record { answers = sender-number a ∙ h .answers; untouched = h .untouched; as-given = h .as-given; emptied = h .emptied }
 lent true false a rs new old h = record { answers = refl; untouched = λ x. refl; as-given = λ k. refl; emptied = λ k. refl }
 lent false o a rs new old h = record { answers = refl; untouched = λ x. refl; as-given = λ k. refl; emptied = λ k. refl }
@@ -193,7 +193,7 @@ payload-copes (self, group, slot, p, frame, member) =
 
 abbrev pub board : Card × ℕ → Call
 board (self, group) =
-    stateful (Unless 1 (ltb group 2) ∷ [])
+    stateful (Unless 1 (group <? 2) ∷ [])
     (answerNumber (boardShown self group .answer)) [] [] (boardOf (emptySender .table)) (boardShown self group .board) (boardOf (emptySender .table))
 
 pub board-copes : (x : Card × ℕ) → Copes (board x)
@@ -202,7 +202,7 @@ board-copes (self, group) = copes _ (λ g. rw g, λ g. rw g (refl, refl, refl))
 
 abbrev pub outgoing : Card × ℕ → Call
 outgoing (self, group) =
-    stateful (Unless 1 (ltb group 2) ∷ [])
+    stateful (Unless 1 (group <? 2) ∷ [])
     (answerNumber (outgoingShown self group .answer)) [] [] (emptySender .outgoing) (outgoingShown self group .board) (emptySender .outgoing)
 
 pub outgoing-copes : (x : Card × ℕ) → Copes (outgoing x)
@@ -211,7 +211,7 @@ outgoing-copes (self, group) = copes _ (λ g. rw g, λ g. rw g (refl, refl, refl
 
 abbrev pub ranks : Card × ℕ → Call
 ranks (self, group) =
-    stateful (Unless 1 (ltb group 2) ∷ [])
+    stateful (Unless 1 (group <? 2) ∷ [])
     (answerNumber (ranksShown self group .answer)) [] [] (E.ranksOf emptySender) (ranksShown self group .ranks) (E.ranksOf emptySender)
 
 pub ranks-copes : (x : Card × ℕ) → Copes (ranks x)
@@ -220,7 +220,7 @@ ranks-copes (self, group) = copes _ (λ g. rw g, λ g. rw g (refl, refl, refl))
 
 abbrev pub owned : Card × ℕ → Call
 owned (self, group) =
-    stateful (Unless 1 (ltb group 2) ∷ [])
+    stateful (Unless 1 (group <? 2) ∷ [])
     (answerNumber (ownedShown self group .answer)) [] [] (replicate 64 0) (ownedShown self group .owned) (replicate 64 0)
 
 pub owned-copes : (x : Card × ℕ) → Copes (owned x)

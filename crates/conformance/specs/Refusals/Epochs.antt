@@ -1,10 +1,10 @@
 -- The refusals of a sender with its epochs: the table's calls as they are, the start of an epoch 8, the packet of a slot 1, 9, 2, the payload of a slot 1, 4, 9, 2.
 use mathlib.Core.Path.{refl, ap}
-use mathlib.Core.Bool.{Bool, cond, _&&_, _||_}
+use mathlib.Core.Bool.{Bool, _&&_, _||_}
 use mathlib.Core.List.{List, [], _∷_}
 use Prim.Native.Nat.{ℕ, _*_}
-use lib.Dec.{eqb, ltb}
 use lib.ListN.{length}
+use Rattle.ground.specs.Plain.{if_then_else_, _==_, _<?_}
 use Rattle.packet.specs.Kinds.{frames}
 use Rattle.packet.specs.Words.{assigned}
 use Rattle.packet.specs.Writing.{fitting, writeAnswer, writeBytes}
@@ -23,7 +23,7 @@ use Rattle.sender.specs.Table.{answerNumber, sizeOf}
 
 abbrev pub start : ℕ × ℕ × ℕ → Call
 start (kind, count, epoch) =
-    stateful (If 4 (eqb count 0 || ltb 64 count) ∷ [])
+    stateful (If 4 (count == 0 || 64 <? count) ∷ [])
     (answerNumber (beginOf kind count epoch .answer)) [] [] (freshSender (freshOf kind 0) epoch) (beginOf kind count epoch .sender) (freshSender (freshOf kind 0) epoch)
 
 pub start-copes : (x : ℕ × ℕ × ℕ) → Copes (start x)
@@ -72,7 +72,7 @@ lapse-copes self = on-table self _ _ _ (table.lapse-copes (self .table))
 
 -- 8: 'a field given for writing is too large'
 abbrev pub startEpoch : Sender × ℕ × ℕ × ℕ → Call
-startEpoch (self, gid, mst, «rs_ack») = callRow self (StartEpoch gid mst «rs_ack») (Unless 8 (ltb gid 2 && ltb «rs_ack» 2) ∷ [])
+startEpoch (self, gid, mst, «rs_ack») = callRow self (StartEpoch gid mst «rs_ack») (Unless 8 (gid <? 2 && «rs_ack» <? 2) ∷ [])
 
 pub startEpoch-copes : (x : Sender × ℕ × ℕ × ℕ) → Copes (startEpoch x)
 unfolding startEpochOf
@@ -80,12 +80,12 @@ startEpoch-copes (self, gid, mst, «rs_ack») = copes _ (λ f. rw f, λ f. rw f 
 
 -- the slot is below the count
 abbrev below : Sender → ℕ → Bool
-below s i = ltb i (cond (ltb (s .table .count) 64) (s .table .count) 64)
+below s i = i <? (if s .table .count <? 64 then s .table .count else 64)
 
 -- In a state that calls returned the packet's fields fit (crates/sender/specs/Theorems/Packets.antt); in any other, fields that do not fit are 8.
 abbrev pub packet : Sender × ℕ × List ℕ → Call
 packet (self, slot, h4) =
-    stateless (Unless 1 (below self slot) ∷ Unless 9 (eqb (length h4) 16) ∷ Unless 2 (self .begun) ∷ Unless 8 (small (packetFields self slot)) ∷ [])
+    stateless (Unless 1 (below self slot) ∷ Unless 9 (length h4 == 16) ∷ Unless 2 (self .begun) ∷ Unless 8 (small (packetFields self slot)) ∷ [])
     (answerNumber (packetAnswer self slot h4)) (h4 ∷ []) (packetBytes self slot h4 ∷ [])
 
 pub packet-copes : (x : Sender × ℕ × List ℕ) → Copes (packet x)
@@ -99,7 +99,7 @@ packet-copes (self, slot, h4) =
 abbrev pub payload : Sender × ℕ × ℕ × List ℕ × List ℕ → Call
 payload (self, slot, p, frame, member) =
     stateless
-    (Unless 1 (below self slot) ∷ Unless 4 (ranged (xOf self) p) ∷ Unless 9 (eqb (length frame) (xOf self * p) && eqb (length member) p) ∷ Unless 2 (self .begun) ∷ [])
+    (Unless 1 (below self slot) ∷ Unless 4 (ranged (xOf self) p) ∷ Unless 9 (length frame == xOf self * p && length member == p) ∷ Unless 2 (self .begun) ∷ [])
     (answerNumber (payloadAnswer self slot p (length frame) (length member))) (member ∷ []) (payloadBytes self slot p frame member ∷ [])
 
 pub payload-copes : (x : Sender × ℕ × ℕ × List ℕ × List ℕ) → Copes (payload x)

@@ -3,8 +3,8 @@ use mathlib.Core.Path.{refl}
 use mathlib.Core.Bool.{true, _||_, true≢false}
 use mathlib.Core.List.{List, [], _∷_}
 use Prim.Native.Nat.{ℕ}
-use lib.Dec.{eqb, ltb}
 use lib.ListN.{length}
+use Rattle.ground.specs.Plain.{_==_, _<?_}
 use Rattle.console.specs.declared.line.Line.{Line}
 use Rattle.console.specs.declared.line.Line.the-variants.{Size, Add, Remove, Report, Lapse, Board, Malformed}
 use Rattle.console.specs.declared.session.Session.{Session}
@@ -18,7 +18,7 @@ use Rattle.sender.specs.Commands.{startOf}
 -- 9 where the output has less room than the longest board's 1,095 bytes
 abbrev pub feed : Session × List ℕ × List ℕ → Call
 feed (session, input, out) =
-    stateful (If 9 (ltb (length out) 1095) ∷ [])
+    stateful (If 9 (length out <? 1095) ∷ [])
     (feedOf session input out .answer) (out ∷ []) (feedBytes session input out ∷ []) session (feedOf session input out .session) session
 
 pub feed-copes : (x : Session × List ℕ × List ℕ) → Copes (feed x)
@@ -27,7 +27,7 @@ feed-copes (session, input, out) = copes _ (λ s. rw s (refl, refl, refl), λ s.
 
 abbrev pub finish : Session × List ℕ → Call
 finish (session, out) =
-    stateful (If 9 (ltb (length out) 1095) ∷ [])
+    stateful (If 9 (length out <? 1095) ∷ [])
     (finishOf session out .answer) (out ∷ []) (finishBytes session out ∷ []) session (finishOf session out .session) session
 
 pub finish-copes : (x : Session × List ℕ) → Copes (finish x)
@@ -35,7 +35,7 @@ unfolding finishOf finishBytes
 finish-copes (session, out) = copes _ (λ s. rw s (refl, refl, refl), λ s. rw s)
 
 abbrev lineRefusals : Table → Line → List Refusal
-lineRefusals t (Size n) = If 4 (eqb n 0 || ltb 64 n) ∷ []
+lineRefusals t (Size n) = If 4 (n == 0 || 64 <? n) ∷ []
 lineRefusals t (Add i) = add (t, i) .refusals
 lineRefusals t (Remove i) = remove (t, i) .refusals
 lineRefusals t (Report e m a) = []

@@ -2,8 +2,8 @@
 use mathlib.Core.Path.{refl}
 use mathlib.Core.List.{List, [], _∷_}
 use Prim.Native.Nat.{ℕ}
-use lib.Dec.{eqb, ltb}
 use lib.ListN.{length, take}
+use Rattle.ground.specs.Plain.{_==_, _<?_}
 use Rattle.c_face.specs.Orders.{orderAnswerOn, orderAnswersOn, orderStateOn}
 use Rattle.circuits.specs.declared.card.Card.{Card}
 use Rattle.circuits.specs.Answers.{answerNumber}
@@ -13,7 +13,7 @@ use Rattle.orders.specs.Orders.{answersOf, firstAnswers, firstOrdered, orderedO
 
 abbrev pub order : Card × List Command × List ℕ → Call
 order (card, commands, answers) =
-    stateful (Unless 9 (eqb (length commands) (length answers)) ∷ [])
+    stateful (Unless 9 (length commands == length answers) ∷ [])
     (answerNumber (orderedOf card commands (length answers) .answer)) (answers ∷ []) (answersOf card commands answers ∷ []) card (orderedOf card commands (length answers) .card) card
 
 pub order-copes : (x : Card × List Command × List ℕ) → Copes (order x)
@@ -22,7 +22,7 @@ order-copes (card, commands, answers) = copes _ (λ e. rw e refl, λ e. rw e (re
 -- 9 also where n is more than there are
 abbrev pub orderOf : Card × List Command × ℕ × List ℕ → Call
 orderOf (card, commands, n, answers) =
-    stateful (If 9 (ltb 64 n) ∷ Unless 9 (eqb (length (take n commands)) (length answers)) ∷ [])
+    stateful (If 9 (64 <? n) ∷ Unless 9 (length (take n commands) == length answers) ∷ [])
     (answerNumber (firstOrdered card commands n (length answers) .answer)) (answers ∷ []) (firstAnswers card commands n answers ∷ []) card (firstOrdered card commands n (length answers) .card) card
 
 pub orderOf-copes : (x : Card × List Command × ℕ × List ℕ) → Copes (orderOf x)
@@ -31,7 +31,7 @@ orderOf-copes (card, commands, n, answers) = copes _ (λ m. rw m (refl, refl, re
 -- through C: a state of another length is 9 as everywhere
 abbrev pub orderC : List ℕ × List (List ℕ) × List ℕ → Call
 orderC (state, commands, answers) =
-    stateful (Unless 9 (eqb (length state) 858) ∷ Unless 9 (eqb (length commands) (length answers)) ∷ [])
+    stateful (Unless 9 (length state == 858) ∷ Unless 9 (length commands == length answers) ∷ [])
     (orderAnswerOn state commands answers) (answers ∷ []) (orderAnswersOn state commands answers ∷ []) state (orderStateOn state commands answers) state
 
 pub orderC-copes : (x : List ℕ × List (List ℕ) × List ℕ) → Copes (orderC x)

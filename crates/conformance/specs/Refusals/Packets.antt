@@ -3,8 +3,8 @@ use mathlib.Core.Path.{refl}
 use mathlib.Core.Bool.{Bool, not, _&&_, _||_}
 use mathlib.Core.List.{List, [], _∷_}
 use Prim.Native.Nat.{ℕ, _+_, _*_, _%_}
-use lib.Dec.{eqb, ltb}
 use lib.ListN.{getD, length, take}
+use Rattle.ground.specs.Plain.{_==_, _<?_}
 use Rattle.c_face.specs.Packets.{given, readAnswerC, readFieldsC, readFixedAnswerC, readFixedFieldsC, valuesOr, writeAnswerC, writeBytesC, writeFixedAnswerC}
 use Rattle.packet.specs.declared.layout.Fields.{Fields}
 use Rattle.packet.specs.Crc.{crcOf}
@@ -17,15 +17,15 @@ use Rattle.conformance.specs.Entries.{Call, Copes, If, Refusal, Unless, 
 
 -- 'FIXED 0, ADD 1, NORM 2, EOS 3, IDLE 5, DNU 15. All others are unassigned.'
 abbrev pub named : ℕ → Bool
-named w = eqb w 0 || eqb w 1 || eqb w 2 || eqb w 3 || eqb w 5 || eqb w 15
+named w = w == 0 || w == 1 || w == 2 || w == 3 || w == 5 || w == 15
 
 -- 8: 'a field given for writing is too large, or its word is FIXED or unassigned'; the reserved bits are 26 (request 2026-08)
 abbrev pub small : Fields → Bool
-small f = ltb (f .epoch) 256 && ltb (f .mst) 256 && ltb (f .sq) 256 && ltb (f .gid) 2 && ltb (f .«rs_ack») 2 && ltb (f .reserved) 67108864 && not (eqb (f .word .0) 0) && named (f .word .0)
+small f = f .epoch <? 256 && f .mst <? 256 && f .sq <? 256 && f .gid <? 2 && f .«rs_ack» <? 2 && f .reserved <? 67108864 && not (f .word .0 == 0) && named (f .word .0)
 
 abbrev pub write : Fields × List ℕ → Call
 write (fields, h4) =
-    stateless (Unless 9 (eqb (length h4) 16) ∷ Unless 8 (small fields) ∷ [])
+    stateless (Unless 9 (length h4 == 16) ∷ Unless 8 (small fields) ∷ [])
     (writingNumber (writeAnswer fields h4)) (h4 ∷ []) (writeBytes fields h4 ∷ [])
 
 pub write-copes : (x : Fields × List ℕ) → Copes (write x)
@@ -34,7 +34,7 @@ write-copes (fields, h4) = copes _ (λ l. (λ f. rw (l, f), λ f. rw (l, f) (ref
 
 abbrev pub writeC : ℕ × ℕ × ℕ × ℕ × ℕ × ℕ × ℕ × List ℕ → Call
 writeC (epoch, word, gid, mst, «rs_ack», sq, reserved, h4) =
-    stateless (Unless 9 (eqb (length h4) 16) ∷ Unless 8 (small (given epoch word gid mst «rs_ack» sq reserved)) ∷ [])
+    stateless (Unless 9 (length h4 == 16) ∷ Unless 8 (small (given epoch word gid mst «rs_ack» sq reserved)) ∷ [])
     (writeAnswerC epoch word gid mst «rs_ack» sq reserved h4) (h4 ∷ []) (writeBytesC epoch word gid mst «rs_ack» sq reserved h4 ∷ [])
 
 pub writeC-copes : (x : ℕ × ℕ × ℕ × ℕ × ℕ × ℕ × ℕ × List ℕ) → Copes (writeC x)
@@ -43,13 +43,13 @@ writeC-copes (epoch, word, gid, mst, «rs_ack», sq, reserved, h4) = write-copes
 -- of sixteen nibbles: the CRC is the last two, CTRL that of MFI1 2
 abbrev pub readRefusals : List ℕ → List Refusal
 readRefusals ns =
-    Unless 5 (eqb (crcOf (take 14 ns)) (getD ns 14 0 % 16 * 16 + getD ns 15 0 % 16))
-    ∷ If 7 (eqb (getD ns 10 0 % 16) 0)
+    Unless 5 (crcOf (take 14 ns) == getD ns 14 0 % 16 * 16 + getD ns 15 0 % 16)
+    ∷ If 7 (getD ns 10 0 % 16 == 0)
     ∷ Unless 6 (named (getD ns 10 0 % 16))
     ∷ []
 
 -- what a reading leaves of lent bytes for the values
-reads : (h4 fields : List ℕ) → Copes (stateless (Unless 9 (eqb (length h4) 16) ∷ readRefusals (highsOf h4)) (readingNumber (readAnswer h4)) (fields ∷ []) (valuesOr (readAnswer h4) fields ∷ []))
+reads : (h4 fields : List ℕ) → Copes (stateless (Unless 9 (length h4 == 16) ∷ readRefusals (highsOf h4)) (readingNumber (readAnswer h4)) (fields ∷ []) (valuesOr (readAnswer h4) fields ∷ []))
 unfolding readAnswer readNibbles carriedIn fieldsOf assigned
 reads h4 fields =
     copes _ (
@@ -66,7 +66,7 @@ readSixteen-copes nibbles =
     copes _ (λ c. (λ f. rw (c, f) (refl, refl, refl), λ f. (λ a. rw (c, f, rw f at a), λ a. rw (c, f, rw f at a) (refl, refl, refl))), λ c. rw c (refl, refl, refl))
 
 abbrev pub read : List ℕ → Call
-read h4 = stateless (Unless 9 (eqb (length h4) 16) ∷ readRefusals (highsOf h4)) (readingNumber (readAnswer h4)) [] []
+read h4 = stateless (Unless 9 (length h4 == 16) ∷ readRefusals (highsOf h4)) (readingNumber (readAnswer h4)) [] []
 
 pub read-copes : (x : List ℕ) → Copes (read x)
 read-copes h4 = answers-alone _ _ (reads h4 [] .answers)
@@ -74,17 +74,17 @@ read-copes h4 = answers-alone _ _ (reads h4 [] .answers)
 -- the values go into ten lent bytes
 abbrev pub readC : List ℕ × List ℕ → Call
 readC (h4, fields) =
-    stateless (Unless 9 (eqb (length fields) 10) ∷ Unless 9 (eqb (length h4) 16) ∷ readRefusals (highsOf h4))
+    stateless (Unless 9 (length fields == 10) ∷ Unless 9 (length h4 == 16) ∷ readRefusals (highsOf h4))
     (readAnswerC h4 fields) (fields ∷ []) (readFieldsC h4 fields ∷ [])
 
 pub readC-copes : (x : List ℕ × List ℕ) → Copes (readC x)
 unfolding readAnswerC readFieldsC
-readC-copes (h4, fields) = behind 9 (eqb (length fields) 10) _ _ (valuesOr (readAnswer h4) fields) fields (reads h4 fields)
+readC-copes (h4, fields) = behind 9 (length fields == 10) _ _ (valuesOr (readAnswer h4) fields) fields (reads h4 fields)
 
 -- 'the word FIXED is no cause for 8': an epoch or an SQ above 255 is
 abbrev pub writeFixed : ℕ × ℕ × List ℕ → Call
 writeFixed (epoch, sq, h4) =
-    stateless (Unless 9 (eqb (length h4) 16) ∷ Unless 8 (ltb epoch 256 && ltb sq 256) ∷ [])
+    stateless (Unless 9 (length h4 == 16) ∷ Unless 8 (epoch <? 256 && sq <? 256) ∷ [])
     (writingNumber (writeFixedAnswer epoch sq h4)) (h4 ∷ []) (writeFixedBytes epoch sq h4 ∷ [])
 
 pub writeFixed-copes : (x : ℕ × ℕ × List ℕ) → Copes (writeFixed x)
@@ -93,7 +93,7 @@ writeFixed-copes (epoch, sq, h4) = copes _ (λ l. (λ f. rw (l, f), λ f. rw (l,
 
 abbrev pub writeFixedC : ℕ × ℕ × List ℕ → Call
 writeFixedC (epoch, sq, h4) =
-    stateless (Unless 9 (eqb (length h4) 16) ∷ Unless 8 (ltb epoch 256 && ltb sq 256) ∷ [])
+    stateless (Unless 9 (length h4 == 16) ∷ Unless 8 (epoch <? 256 && sq <? 256) ∷ [])
     (writeFixedAnswerC epoch sq h4) (h4 ∷ []) (writeFixedBytes epoch sq h4 ∷ [])
 
 pub writeFixedC-copes : (x : ℕ × ℕ × List ℕ) → Copes (writeFixedC x)
@@ -101,9 +101,9 @@ writeFixedC-copes x = writeFixed-copes x
 
 -- 'Number 7 is not given; a word other than FIXED is 6.'
 abbrev pub readFixedRefusals : List ℕ → List Refusal
-readFixedRefusals ns = Unless 6 (eqb (getD ns 10 0 % 16) 0) ∷ []
+readFixedRefusals ns = Unless 6 (getD ns 10 0 % 16 == 0) ∷ []
 
-fixedReads : (h4 fields : List ℕ) → Copes (stateless (Unless 9 (eqb (length h4) 16) ∷ readFixedRefusals (highsOf h4)) (readingNumber (readFixedAnswer h4)) (fields ∷ []) (valuesOr (readFixedAnswer h4) fields ∷ []))
+fixedReads : (h4 fields : List ℕ) → Copes (stateless (Unless 9 (length h4 == 16) ∷ readFixedRefusals (highsOf h4)) (readingNumber (readFixedAnswer h4)) (fields ∷ []) (valuesOr (readFixedAnswer h4) fields ∷ []))
 unfolding readFixedAnswer readFixedNibbles
 fixedReads h4 fields = copes _ (λ l. (λ w. rw (l, w), λ w. rw (l, w) (refl, refl, refl)), λ l. rw l (refl, refl, refl))
 
@@ -115,16 +115,16 @@ unfolding readFixedNibbles
 readFixedSixteen-copes nibbles = copes _ (λ w. rw w, λ w. rw w (refl, refl, refl))
 
 abbrev pub readFixed : List ℕ → Call
-readFixed h4 = stateless (Unless 9 (eqb (length h4) 16) ∷ readFixedRefusals (highsOf h4)) (readingNumber (readFixedAnswer h4)) [] []
+readFixed h4 = stateless (Unless 9 (length h4 == 16) ∷ readFixedRefusals (highsOf h4)) (readingNumber (readFixedAnswer h4)) [] []
 
 pub readFixed-copes : (x : List ℕ) → Copes (readFixed x)
 readFixed-copes h4 = answers-alone _ _ (fixedReads h4 [] .answers)
 
 abbrev pub readFixedC : List ℕ × List ℕ → Call
 readFixedC (h4, fields) =
-    stateless (Unless 9 (eqb (length fields) 10) ∷ Unless 9 (eqb (length h4) 16) ∷ readFixedRefusals (highsOf h4))
+    stateless (Unless 9 (length fields == 10) ∷ Unless 9 (length h4 == 16) ∷ readFixedRefusals (highsOf h4))
     (readFixedAnswerC h4 fields) (fields ∷ []) (readFixedFieldsC h4 fields ∷ [])
 
 pub readFixedC-copes : (x : List ℕ × List ℕ) → Copes (readFixedC x)
 unfolding readFixedAnswerC readFixedFieldsC
-readFixedC-copes (h4, fields) = behind 9 (eqb (length fields) 10) _ _ (valuesOr (readFixedAnswer h4) fields) fields (fixedReads h4 fields)
+readFixedC-copes (h4, fields) = behind 9 (length fields == 10) _ _ (valuesOr (readFixedAnswer h4) fields) fields (fixedReads h4 fields)

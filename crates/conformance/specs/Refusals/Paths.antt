@@ -1,10 +1,10 @@
 -- The refusals of the planner and of the check (request 2026-09): 4, 'before any search', then 9 of the result's buffer.
 use mathlib.Core.Path.{_≡_, refl}
-use mathlib.Core.Bool.{Bool, true, false, cond, _&&_}
+use mathlib.Core.Bool.{Bool, true, false, _&&_}
 use mathlib.Core.List.{List, [], _∷_}
 use Prim.Native.Nat.{ℕ}
-use lib.Dec.{eqb, leb}
 use lib.ListN.{getD, length, replicate}
+use Rattle.ground.specs.Plain.{if_then_else_, _==_, _≤?_}
 use Rattle.c_face.specs.Plans.{checkAnswerC, checkByteC, lentAnswer, lentBytes, planAnswerC, planBytesC}
 use Rattle.counting.specs.Words.{every}
 use Rattle.paths.specs.Answers.{answerOf, areShort, numberOf}
@@ -16,13 +16,13 @@ use Rattle.conformance.specs.Entries.{Call, Copes, Unless, copes, statef
 -- 'k of 0 or above the number of candidates, more than 64 candidates, a delay above 4,095, or W outside 16 to 2,048 is 4'
 abbrev pub ranged : List ℕ → ℕ → ℕ → Bool
 ranged delays k W =
-    leb (length delays) 64 && leb 1 k && leb k (length delays) && leb 16 W && leb W 2048 && every (length delays) (λ i. leb (getD delays i 0) 4095)
+    length delays ≤? 64 && 1 ≤? k && k ≤? length delays && 16 ≤? W && W ≤? 2048 && every (length delays) (λ i. getD delays i 0 ≤? 4095)
 
-number-is : (delays : List ℕ) (k W : ℕ) → numberOf (answerOf delays k W) ≡ cond (ranged delays k W) 0 4
+number-is : (delays : List ℕ) (k W : ℕ) → numberOf (answerOf delays k W) ≡ (if ranged delays k W then 0 else 4)
 unfolding answerOf areShort
 number-is delays k W = go (ranged delays k W)
   where
-    go : (b : Bool) → numberOf (cond b Done Range) ≡ cond b 0 4
+    go : (b : Bool) → numberOf (if b then Done else Range) ≡ (if b then 0 else 4)
     go true = refl
     go false = refl
 
@@ -44,21 +44,21 @@ pub check-copes : (x : List ℕ × ℕ × ℕ × List ℕ) → Copes (check x)
 unfolding checkedOf answerOf areShort
 check-copes (delays, k, W, set) = copes _ (λ s. rw s, λ s. rw s (refl, refl, refl))
 
-lends : (b : Bool) (number size : ℕ) (new out : List ℕ) → number ≡ cond b 0 4
-    → Copes (stateless (Unless 4 b ∷ Unless 9 (eqb (length out) size) ∷ []) (lentAnswer number size out) (out ∷ []) (lentBytes number size new out ∷ []))
+lends : (b : Bool) (number size : ℕ) (new out : List ℕ) → number ≡ (if b then 0 else 4)
+    → Copes (stateless (Unless 4 b ∷ Unless 9 (length out == size) ∷ []) (lentAnswer number size out) (out ∷ []) (lentBytes number size new out ∷ []))
 unfolding lentAnswer lentBytes
 lends b number size new out e = copes _ (λ s. (λ l. rw (e, s, l), λ l. rw (e, s, l) (refl, refl, refl)), λ s. rw (e, s) (refl, refl, refl))
 
 abbrev pub planC : List ℕ × ℕ × ℕ × List ℕ → Call
 planC (delays, k, W, out) =
-    stateless (Unless 4 (ranged delays k W) ∷ Unless 9 (eqb (length out) 65) ∷ []) (planAnswerC delays k W out) (out ∷ []) (planBytesC delays k W out ∷ [])
+    stateless (Unless 4 (ranged delays k W) ∷ Unless 9 (length out == 65) ∷ []) (planAnswerC delays k W out) (out ∷ []) (planBytesC delays k W out ∷ [])
 
 pub planC-copes : (x : List ℕ × ℕ × ℕ × List ℕ) → Copes (planC x)
 planC-copes (delays, k, W, out) = lends (ranged delays k W) (numberOf (answerOf delays k W)) 65 _ out (number-is delays k W)
 
 abbrev pub checkC : List ℕ × ℕ × ℕ × List ℕ × List ℕ → Call
 checkC (delays, k, W, set, out) =
-    stateless (Unless 4 (ranged delays k W) ∷ Unless 9 (eqb (length out) 1) ∷ []) (checkAnswerC delays k W out) (out ∷ []) (checkByteC delays k W set out ∷ [])
+    stateless (Unless 4 (ranged delays k W) ∷ Unless 9 (length out == 1) ∷ []) (checkAnswerC delays k W out) (out ∷ []) (checkByteC delays k W set out ∷ [])
 
 pub checkC-copes : (x : List ℕ × ℕ × ℕ × List ℕ × List ℕ) → Copes (checkC x)
 checkC-copes (delays, k, W, set, out) = lends (ranged delays k W) (numberOf (answerOf delays k W)) 1 _ out (number-is delays k W)

@@ -1,15 +1,15 @@
 -- The refusals of the receiver: a start 4, 9; a frame 1, 9, 10, 12, 11; a fetch and what is read out 9. The state's rows stand as the state and not among the lent slices. Under 10 and 12 the state changes and no lent byte does.
 use mathlib.Core.Path.{_≡_, refl, ap}
-use mathlib.Core.Bool.{Bool, true, false, cond, not, _&&_, _||_}
+use mathlib.Core.Bool.{Bool, true, false, not, _&&_, _||_}
 use mathlib.Core.List.{List, [], _∷_}
 use Prim.Native.Nat.{ℕ, _+_, _-_, _*_, _%_}
 use native.Mathlib.Nat.{mod-mod}
-use lib.Dec.{eqb, leb, ltb}
 use lib.ListN.{getD, length}
 use Rattle.c_face.specs.Receivers.{failedC, kindC, startAsAnswerC, startAsRowsC}
 use Rattle.conformance.specs.Entries.{Call, Copes, If, Refusal, Under, Unless, copes, done, either, first, refused, stateful, stateless}
 use Rattle.counting.specs.Words.{every}
 use Rattle.ground.specs.Circle.{after}
+use Rattle.ground.specs.Plain.{if_then_else_, _==_, _<?_, _≤?_}
 use Rattle.packet.specs.Kinds.{distanceOf, firstTag, frames, lead, tags}
 use Rattle.phases.specs.Sizes.{portsIn, sized, storeFor}
 use Rattle.receiver.specs.Fetch.{fetchAnswer, fetchOut, fetchRecord, fetchRows, fits}
@@ -29,12 +29,12 @@ use Rattle.step.specs.Run.{inStepAt, runOn}
 
 -- of kind H4 or FIXED; '1 to 64 ports', 'P from 1 to 2,340', 'The window W is 16 to 2,048 frames'
 abbrev pub ranged : ℕ → ℕ → ℕ → ℕ → Bool
-ranged kind count payload window = (eqb kind 0 || eqb kind 2) && leb 1 count && leb count 64 && leb 1 payload && leb payload 2340 && leb 16 window && leb window 2048
+ranged kind count payload window = (kind == 0 || kind == 2) && 1 ≤? count && count ≤? 64 && 1 ≤? payload && payload ≤? 2340 && 16 ≤? window && window ≤? 2048
 
 -- Starting. 'The lent store is exactly ports x W x (P+1) bytes', and the state has five rows a port and one.
 abbrev pub start : ℕ × ℕ × ℕ × ℕ × ℕ × List (List ℕ) → Call
 start (kind, count, payload, window, store, state) =
-    stateful (Unless 4 (ranged kind count payload window) ∷ Unless 9 (eqb (length state) (count * 5 + 1) && eqb store (count * window * (payload + 1))) ∷ [])
+    stateful (Unless 4 (ranged kind count payload window) ∷ Unless 9 (length state == count * 5 + 1 && store == count * window * (payload + 1)) ∷ [])
     (startAnswer kind count payload window store (length state)) [] [] state (startRows kind count payload window store state) (putGroup state (emptyGroup kind))
 
 pub start-copes : (x : ℕ × ℕ × ℕ × ℕ × ℕ × List (List ℕ)) → Copes (start x)
@@ -43,15 +43,15 @@ start-copes (kind, count, payload, window, store, state) = copes _ (λ s. (λ f.
 
 -- 'a count above 5,000 is number 4' (02, 2026-03), and a list that is neither as long as there are ports nor empty is 9
 abbrev pub timesInRange : List ℕ → Bool
-timesInRange counts = every (length counts) (λ i. leb (getD counts i 0) 5000)
+timesInRange counts = every (length counts) (λ i. getD counts i 0 ≤? 5000)
 
 abbrev pub startAsRefusals : ℕ → ℕ → ℕ → ℕ → ℕ → List ℕ → List ℕ → ℕ → List Refusal
 startAsRefusals kind count payload window store hold restore rows =
     Unless 4 (timesInRange hold && timesInRange restore && ranged kind count payload window)
     ∷ Unless 9
-    ((eqb (length hold) 0 || eqb (length hold) count)
-    && (eqb (length restore) 0 || eqb (length restore) count)
-    && (eqb rows (count * 5 + 1) && eqb store (count * window * (payload + 1))))
+    ((length hold == 0 || length hold == count)
+    && (length restore == 0 || length restore == count)
+    && (rows == count * 5 + 1 && store == count * window * (payload + 1)))
     ∷ []
 
 abbrev pub startAs : ℕ × ℕ × ℕ × ℕ × ℕ × List ℕ × List ℕ × List (List ℕ) → Call
@@ -99,14 +99,14 @@ ahead-is : (g : Group) (s : Step) → distanceIn g (s .next) ≡ ahead g s
 unfolding distanceIn distanceOf after firstTag frames tags lead
 ahead-is g s = ap (λ (n : ℕ). (s .next + (4096 - n)) % 4096) (mod-mod (g .oldest * 16 + 4088) 4096)
 
-window-is : (g : Group) (s : Step) (b : Bool) → ltb (distanceIn g (s .next)) (g .window) ≡ b → ltb (ahead g s) (g .window) ≡ b
+window-is : (g : Group) (s : Step) (b : Bool) → (distanceIn g (s .next) <? g .window) ≡ b → (ahead g s <? g .window) ≡ b
 window-is g s b e = rw (ahead-is g s) at e
 
 abbrev pub portRefusals : Group → Step → Bool → Bool → ℕ → List Refusal
 portRefusals g s failed odd h4 =
     If 10 failed
-    ∷ Unless 12 (leb 32 (runOn (g .kind) (runOf s) odd h4 .count))
-    ∷ If 11 (not (eqb (g .begun) 0) && not (eqb (s .joined) 0) && not (ltb (ahead g s) (g .window)))
+    ∷ Unless 12 (32 ≤? runOn (g .kind) (runOf s) odd h4 .count)
+    ∷ If 11 (not (g .begun == 0) && not (s .joined == 0) && not (ahead g s <? g .window))
     ∷ []
 
 -- what holds of each way a frame can go, with its number, holds of the frame
@@ -139,11 +139,11 @@ decide-copes (group, step, failed, odd, h4) =
 
 -- how many ports there are: of a group out of range, which no start leaves, none
 abbrev pub portsOf : Group → ℕ
-portsOf g = cond (ranged (g .kind) (g .count) (g .payload) (g .window)) (g .count) 0
+portsOf g = if ranged (g .kind) (g .count) (g .payload) (g .window) then g .count else 0
 
 -- an empty group has any number of rows
 abbrev pub rowsOf : ℕ → ℕ → Bool
-rowsOf n rows = eqb n 0 || eqb rows (n * 5 + 1)
+rowsOf n rows = n == 0 || rows == n * 5 + 1
 
 abbrev pub storeOf : Group → ℕ
 storeOf g = portsOf g * g .window * (g .payload + 1)
@@ -151,19 +151,19 @@ storeOf g = portsOf g * g .window * (g .payload + 1)
 abbrev pub frame : List (List ℕ) × ℕ × Bool × ℕ × List ℕ × List ℕ → Call
 frame (state, port, failed, h4, payload, store) =
     stateful
-    (Unless 1 (ltb port (portsOf (groupAt state)))
-    ∷ Unless 9 (rowsOf (portsOf (groupAt state)) (length state) && eqb (length payload) (groupAt state .payload) && eqb (length store) (storeOf (groupAt state)))
+    (Unless 1 (port <? portsOf (groupAt state))
+    ∷ Unless 9 (rowsOf (portsOf (groupAt state)) (length state) && length payload == groupAt state .payload && length store == storeOf (groupAt state))
     ∷ portRefusals (groupAt state) (stepAt state port) failed (oddIn state port h4) h4)
     (frameAnswer state port failed h4 (length payload) (length store)) (store ∷ []) (frameStore state port failed h4 payload store ∷ [])
     state (frameRows state port failed h4 payload store) state
 
 frames-on : (b l : Bool) (g : Group) (n : ℕ) (s : List (List ℕ)) (i : ℕ) (failed odd : Bool) (h4 : ℕ) (payload store : List ℕ)
     → Copes (stateful (Unless 1 b ∷ Unless 9 l ∷ portRefusals g (stepAt s i) failed odd h4)
-    (cond (eqb (cond b (cond l 0 9) 1) 0) (takenOf g (stepAt s i) failed odd h4 .answer) (cond b (cond l 0 9) 1))
+    (if (if b then (if l then 0 else 9) else 1) == 0 then takenOf g (stepAt s i) failed odd h4 .answer else if b then (if l then 0 else 9) else 1)
     (store ∷ [])
-    (cond (eqb (cond b (cond l 0 9) 1) 0) (takenStore g i (takenOf g (stepAt s i) failed odd h4) h4 payload store) store ∷ [])
+    ((if (if b then (if l then 0 else 9) else 1) == 0 then takenStore g i (takenOf g (stepAt s i) failed odd h4) h4 payload store else store) ∷ [])
     s
-    (cond (eqb (cond b (cond l 0 9) 1) 0) (takenRows g n s i (takenOf g (stepAt s i) failed odd h4) h4 payload store) s)
+    (if (if b then (if l then 0 else 9) else 1) == 0 then takenRows g n s i (takenOf g (stepAt s i) failed odd h4) h4 payload store else s)
     s)
 unfolding takenRows takenStore storeBy flagged countsOn frameDropped keeps outside joining
 frames-on false l g n s i failed odd h4 payload store = refused _ 1 (refl, refl, refl)
@@ -189,9 +189,9 @@ fetch (state, store, out, report) =
     stateful
     (Unless 9
     (rowsOf (portsOf (groupAt state)) (length state)
-    && eqb (length store) (storeOf (groupAt state))
-    && leb (portsOf (groupAt state) * 16 * groupAt state .payload) (length out)
-    && eqb (length report) 8)
+    && length store == storeOf (groupAt state)
+    && portsOf (groupAt state) * 16 * groupAt state .payload ≤? length out
+    && length report == 8)
     ∷ [])
     (fetchAnswer state store out report) (out ∷ report ∷ []) (fetchOut state store out report ∷ fetchRecord state store out report ∷ [])
     state (fetchRows state store out report) state
@@ -204,7 +204,7 @@ fetch-copes (state, store, out, report) = copes _ (λ l. rw l, λ l. rw l (refl,
 
 abbrev pub ports : List (List ℕ) × List (List ℕ) → Call
 ports (state, out) =
-    stateless (Unless 9 (rowsOf (portsOf (groupAt state)) (length state) && eqb (length out) (portsOf (groupAt state))) ∷ [])
+    stateless (Unless 9 (rowsOf (portsOf (groupAt state)) (length state) && length out == portsOf (groupAt state)) ∷ [])
     (portsAnswer state (length out)) out (portsOut state out)
 
 pub ports-copes : (x : List (List ℕ) × List (List ℕ)) → Copes (ports x)
@@ -213,7 +213,7 @@ ports-copes (state, out) = copes _ (λ l. rw l, λ l. rw l (refl, refl, refl))
 
 abbrev pub reply : List (List ℕ) × ℕ × List ℕ → Call
 reply (state, epoch, out) =
-    stateless (Unless 9 (rowsOf (portsOf (groupAt state)) (length state) && eqb (length out) 2) ∷ [])
+    stateless (Unless 9 (rowsOf (portsOf (groupAt state)) (length state) && length out == 2) ∷ [])
     (replyAnswer state (length out)) (out ∷ []) (replyOut state epoch out ∷ [])
 
 pub reply-copes : (x : List (List ℕ) × ℕ × List ℕ) → Copes (reply x)

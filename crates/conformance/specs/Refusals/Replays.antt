@@ -1,10 +1,10 @@
 -- The refusals of a replay's turn: 9 where what is lent is too short for the line that is to come. 13 and 4 are of lines, and are printed.
 use mathlib.Core.Path.{_≡_, refl}
-use mathlib.Core.Bool.{Bool, true, false, cond, _&&_}
+use mathlib.Core.Bool.{Bool, true, false, _&&_}
 use mathlib.Core.List.{List, [], _∷_}
 use Prim.Native.Nat.{ℕ, _+_, _*_}
-use lib.Dec.{leb, ltb}
 use lib.ListN.{length}
+use Rattle.ground.specs.Plain.{if_then_else_, _<?_, _≤?_}
 use Rattle.bytes.specs.Bytes.{indexOf}
 use Rattle.conformance.specs.Entries.{Call, Copes, Refusal, Unless, copes, done, stateful}
 use Rattle.recording.specs.Opening.{Opening}
@@ -21,12 +21,12 @@ use Rattle.text.specs.Text.{LINE-END}
 
 -- room for what one turn prints, and the rows of 64 ports before the first line
 abbrev openLent : ℕ → ℕ → Bool
-openLent rows said = leb 1160 said && leb 321 rows
+openLent rows said = 1160 ≤? said && 321 ≤? rows
 
 -- then those of the group, its store and the output of an epoch
 abbrev groupLent : Replay → ℕ → ℕ → ℕ → ℕ → Bool
 groupLent r rows store out said =
-    leb 1160 said && leb (r .ports) 64 && leb (r .size) 2340 && leb (r .ports * 5 + 1) rows && leb (r .ports * r .window * (r .size + 1)) store && leb (r .ports * 16 * r .size) out
+    1160 ≤? said && r .ports ≤? 64 && r .size ≤? 2340 && r .ports * 5 + 1 ≤? rows && r .ports * r .window * (r .size + 1) ≤? store && r .ports * 16 * r .size ≤? out
 
 abbrev lentRefusals : Phase → Replay → ℕ → ℕ → ℕ → ℕ → List Refusal
 lentRefusals Settings r rows store out said = Unless 9 (openLent rows said) ∷ []
@@ -45,7 +45,7 @@ turn (replay, text, last, rows, store, out, said) =
     (turnRows replay text last rows store out (length said))
     rows
 
-either-done : (b : Bool) (x y : Replayed) → x .answer ≡ 0 → y .answer ≡ 0 → cond b x y .answer ≡ 0
+either-done : (b : Bool) (x y : Replayed) → x .answer ≡ 0 → y .answer ≡ 0 → (if b then x else y) .answer ≡ 0
 either-done true x y e f = e
 either-done false x y e f = f
 
@@ -74,7 +74,7 @@ on-done r = refl
 
 skip-done : (r : Replay) (text : List ℕ) (last : Bool) → skipTurn r text last .answer ≡ 0
 unfolding skipTurn
-skip-done r text last = either-done (ltb (indexOf LINE-END text) (length text)) _ _ refl refl
+skip-done r text last = either-done (indexOf LINE-END text <? length text) _ _ refl refl
 
 by-phase : (phase : Phase) (line left ports size window : ℕ) (text : List ℕ) (last : Bool) (rows : List (List ℕ)) (store out said : List ℕ)
     → Copes (turn (record { phase = phase; line = line; left = left; ports = ports; size = size; window = window }, text, last, rows, store, out, said))
@@ -82,7 +82,7 @@ unfolding turnOf turnRows turnStore turnOut turnSaid openTurn openRows openSaid 
 by-phase Settings line left ports size window text last rows store out said = copes _ (λ b. rw b (open-done _ (length store) (openingIn 0 last text)), λ b. rw b (refl, refl, refl))
 by-phase Reading line left ports size window text last rows store out said = copes _ (λ b. rw b (read-done _ text (recordNow ports size last text)), λ b. rw b (refl, refl, refl))
 by-phase Fetching line left ports size window text last rows store out said =
-    copes _ (λ b. rw b (either-done (ltb 0 left) _ _ (fetched-done _ rows store out) (on-done _)), λ b. rw b (refl, refl, refl))
+    copes _ (λ b. rw b (either-done (0 <? left) _ _ (fetched-done _ rows store out) (on-done _)), λ b. rw b (refl, refl, refl))
 by-phase Skipping line left ports size window text last rows store out said = done _ (skip-done _ text last)
 by-phase Ended line left ports size window text last rows store out said = done _ refl
 

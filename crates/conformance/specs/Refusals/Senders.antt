@@ -1,10 +1,10 @@
 -- The refusals of the sender's C calls: a state of another length is 9, what is no byte 8, then the sender's own. The state is lent, so it stands as the state and not among the lent slices: under 4 starting leaves an empty group in it.
 use mathlib.Core.Path.{_≡_, refl}
-use mathlib.Core.Bool.{Bool, true, cond, _&&_, _||_}
+use mathlib.Core.Bool.{Bool, true, _&&_, _||_}
 use mathlib.Core.List.{List, [], _∷_}
 use Prim.Native.Nat.{ℕ}
-use lib.Dec.{eqb, ltb}
 use lib.ListN.{length}
+use Rattle.ground.specs.Plain.{if_then_else_, _==_, _<?_}
 use Rattle.c_face.specs.Boards.{boardBytesC, outgoingBytesC, ranksBytesC, shownAnswerC, shownBytes}
 use Rattle.c_face.specs.Keeping.{bytesOf, senderOf}
 use Rattle.c_face.specs.Senders.{areBytes, callAnswerC, callStateC, packetAnswerC, packetBytesC, payloadAnswerC, payloadBytesC, startAnswerC, startStateC}
@@ -18,17 +18,17 @@ use Rattle.sender.specs.Table.{answerNumber}
 
 -- 397 bytes
 abbrev pub isWhole : List ℕ → Bool
-isWhole state = eqb (length state) 397
+isWhole state = length state == 397
 
 -- 8: a number that is no byte
 abbrev pub allBytes : ℕ → ℕ → ℕ → Bool
-allBytes a b c = ltb a 256 && ltb b 256 && ltb c 256
+allBytes a b c = a <? 256 && b <? 256 && c <? 256
 
 -- Starting: 4, 9, 8.
 abbrev pub start : ℕ × ℕ × List ℕ → Call
 start (count, «first_epoch», state) =
-    stateful (If 4 (eqb count 0 || ltb 64 count) ∷ Unless 9 (isWhole state) ∷ If 8 (ltb 255 «first_epoch») ∷ [])
-    (startAnswerC count «first_epoch» state) [] [] state (startStateC count «first_epoch» state) (cond (isWhole state) (bytesOf (freshSender (freshOf 0 0) 0)) state)
+    stateful (If 4 (count == 0 || 64 <? count) ∷ Unless 9 (isWhole state) ∷ If 8 (255 <? «first_epoch») ∷ [])
+    (startAnswerC count «first_epoch» state) [] [] state (startStateC count «first_epoch» state) (if isWhole state then bytesOf (freshSender (freshOf 0 0) 0) else state)
 
 pub start-copes : (x : ℕ × ℕ × List ℕ) → Copes (start x)
 unfolding startAnswerC startStateC beginOf startOf
@@ -77,24 +77,24 @@ startEpoch-copes (state, gid, mst, «rs_ack») = call-copes state (areBytes gid 
 -- The board, the board going out and the ranks: 9 unless both lengths are right.
 
 shows : (n : ℕ) (state new out : List ℕ)
-    → Copes (stateless (Unless 9 (isWhole state && eqb (length out) n) ∷ []) (shownAnswerC n state out) (out ∷ []) (shownBytes n state new out ∷ []))
+    → Copes (stateless (Unless 9 (isWhole state && length out == n) ∷ []) (shownAnswerC n state out) (out ∷ []) (shownBytes n state new out ∷ []))
 unfolding shownAnswerC shownBytes
 shows n state new out = copes _ (λ l. rw l, λ l. rw l (refl, refl, refl))
 
 abbrev pub shown : List ℕ × List ℕ → Call
-shown (state, board) = stateless (Unless 9 (isWhole state && eqb (length board) 130) ∷ []) (shownAnswerC 130 state board) (board ∷ []) (boardBytesC state board ∷ [])
+shown (state, board) = stateless (Unless 9 (isWhole state && length board == 130) ∷ []) (shownAnswerC 130 state board) (board ∷ []) (boardBytesC state board ∷ [])
 
 pub shown-copes : (x : List ℕ × List ℕ) → Copes (shown x)
 shown-copes (state, board) = shows 130 state _ board
 
 abbrev pub outgoing : List ℕ × List ℕ → Call
-outgoing (state, board) = stateless (Unless 9 (isWhole state && eqb (length board) 130) ∷ []) (shownAnswerC 130 state board) (board ∷ []) (outgoingBytesC state board ∷ [])
+outgoing (state, board) = stateless (Unless 9 (isWhole state && length board == 130) ∷ []) (shownAnswerC 130 state board) (board ∷ []) (outgoingBytesC state board ∷ [])
 
 pub outgoing-copes : (x : List ℕ × List ℕ) → Copes (outgoing x)
 outgoing-copes (state, board) = shows 130 state _ board
 
 abbrev pub ranked : List ℕ × List ℕ → Call
-ranked (state, ranks) = stateless (Unless 9 (isWhole state && eqb (length ranks) 68) ∷ []) (shownAnswerC 68 state ranks) (ranks ∷ []) (ranksBytesC state ranks ∷ [])
+ranked (state, ranks) = stateless (Unless 9 (isWhole state && length ranks == 68) ∷ []) (shownAnswerC 68 state ranks) (ranks ∷ []) (ranksBytesC state ranks ∷ [])
 
 pub ranked-copes : (x : List ℕ × List ℕ) → Copes (ranked x)
 ranked-copes (state, ranks) = shows 68 state _ ranks

@@ -2,8 +2,8 @@
 use mathlib.Core.Path.{refl}
 use mathlib.Core.List.{List, [], _∷_}
 use Prim.Native.Nat.{ℕ}
-use lib.Dec.{eqb, leb, ltb}
 use lib.ListN.{getD, length}
+use Rattle.ground.specs.Plain.{_==_, _<?_, _≤?_}
 use Rattle.c_face.specs.Changes.{appliedAnswerC, appliedBytesC, boardFrom, changesFrom, comparedAnswerC, comparedBytesC, spokenAnswerC, spokenBytesC, writtenC}
 use Rattle.conformance.specs.Entries.{Call, Copes, If, Refusal, Unless, copes, stateful, stateless}
 use Rattle.sender.specs.declared.board.Board.{Board}
@@ -14,7 +14,7 @@ use Rattle.spoken.specs.Speaking.{canSpeak, speakAnswer, speechBytes, speechOf}
 
 -- 4 also where both counts are above 64. There are no changes before the call, so none stand for what is given.
 abbrev countRefusals : Board → Board → List Refusal
-countRefusals old new = Unless 4 (eqb (old .count) (new .count)) ∷ Unless 4 (leb (old .count) 64) ∷ []
+countRefusals old new = Unless 4 (old .count == new .count) ∷ Unless 4 (old .count ≤? 64) ∷ []
 
 abbrev pub changes : Board × Board → Call
 changes (old, new) = stateful (countRefusals old new) (answerNumber (comparedOf old new .answer)) [] [] noChanges (comparedOf old new .changes) noChanges
@@ -33,7 +33,7 @@ apply-copes (board, changes) = copes _ (λ f. rw f, λ f. rw f (refl, refl, refl
 -- nothing is written under a refusal, so 0 stands for what is given
 abbrev pub speak : Changes × List ℕ → Call
 speak (changes, out) =
-    stateful (If 9 (ltb (length out) 2188) ∷ Unless 2 (canSpeak changes) ∷ [])
+    stateful (If 9 (length out <? 2188) ∷ Unless 2 (canSpeak changes) ∷ [])
     (answerNumber (speechOf changes out .answer)) (out ∷ []) (speechBytes changes out ∷ []) 0 (speechOf changes out .written) 0
 
 pub speak-copes : (x : Changes × List ℕ) → Copes (speak x)
@@ -42,7 +42,7 @@ speak-copes (changes, out) = copes _ (λ l. rw l (refl, refl, refl), λ l. (λ s
 
 abbrev pub changesC : List ℕ × List ℕ × List ℕ → Call
 changesC (before, after, changes) =
-    stateless (Unless 9 (eqb (length before) 130) ∷ Unless 9 (eqb (length after) 130) ∷ Unless 9 (eqb (length changes) 322) ∷ countRefusals (boardFrom before) (boardFrom after))
+    stateless (Unless 9 (length before == 130) ∷ Unless 9 (length after == 130) ∷ Unless 9 (length changes == 322) ∷ countRefusals (boardFrom before) (boardFrom after))
     (comparedAnswerC before after changes) (changes ∷ []) (comparedBytesC before after changes ∷ [])
 
 pub changesC-copes : (x : List ℕ × List ℕ × List ℕ) → Copes (changesC x)
@@ -62,7 +62,7 @@ changesC-copes (before, after, changes) =
 -- a wait that is none of 0, 1 and 2 does not fit
 abbrev pub applyC : List ℕ × List ℕ → Call
 applyC (board, changes) =
-    stateless (Unless 9 (eqb (length board) 130) ∷ Unless 9 (eqb (length changes) 322) ∷ Unless 2 (ltb (getD changes 1 0) 3) ∷ Unless 2 (fits (boardFrom board) (changesFrom changes)) ∷ [])
+    stateless (Unless 9 (length board == 130) ∷ Unless 9 (length changes == 322) ∷ Unless 2 (getD changes 1 0 <? 3) ∷ Unless 2 (fits (boardFrom board) (changesFrom changes)) ∷ [])
     (appliedAnswerC board changes) (board ∷ []) (appliedBytesC board changes ∷ [])
 
 pub applyC-copes : (x : List ℕ × List ℕ) → Copes (applyC x)
@@ -73,7 +73,7 @@ applyC-copes (board, changes) =
 
 abbrev pub speakC : List ℕ × List ℕ × ℕ → Call
 speakC (changes, text, written) =
-    stateful (Unless 9 (eqb (length changes) 322) ∷ If 9 (ltb (length text) 2188) ∷ Unless 2 (ltb (getD changes 1 0) 3) ∷ Unless 2 (canSpeak (changesFrom changes)) ∷ [])
+    stateful (Unless 9 (length changes == 322) ∷ If 9 (length text <? 2188) ∷ Unless 2 (getD changes 1 0 <? 3) ∷ Unless 2 (canSpeak (changesFrom changes)) ∷ [])
     (spokenAnswerC changes text) (text ∷ []) (spokenBytesC changes text ∷ []) written (writtenC changes text written) written
 
 pub speakC-copes : (x : List ℕ × List ℕ × ℕ) → Copes (speakC x)

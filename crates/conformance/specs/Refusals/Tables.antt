@@ -1,9 +1,9 @@
 -- The refusals of the sender's table: starting 4; for commands 1, 3, 2; lapse 2; a report has none.
 use mathlib.Core.Path.{_≡_, refl}
-use mathlib.Core.Bool.{Bool, true, false, cond, not, _||_}
+use mathlib.Core.Bool.{Bool, true, false, not, _||_}
 use mathlib.Core.List.{List, [], _∷_}
 use Prim.Native.Nat.{ℕ}
-use lib.Dec.{eqb, ltb}
+use Rattle.ground.specs.Plain.{if_then_else_, _==_, _<?_}
 use Rattle.conformance.specs.Entries.{Call, Copes, If, Refusal, Unless, copes, done, stateful}
 use Rattle.sender.specs.declared.table.State.{State}
 use Rattle.sender.specs.declared.table.State.the-variants.{Idle, Add, Active, Dnu}
@@ -17,7 +17,7 @@ use Rattle.sender.specs.Table.{answerNumber, isMember, sizeOf, slotAt}
 -- 4: 'group count .. out of range', 'an empty group'; there is no state before a start, so the empty group stands for it
 abbrev pub start : ℕ × ℕ → Call
 start (kind, count) =
-    stateful (If 4 (eqb count 0 || ltb 64 count) ∷ [])
+    stateful (If 4 (count == 0 || 64 <? count) ∷ [])
     (answerNumber (startOf kind count .answer)) [] [] (freshOf kind 0) (startOf kind count .table) (freshOf kind 0)
 
 pub start-copes : (x : ℕ × ℕ) → Copes (start x)
@@ -51,7 +51,7 @@ callRow table call rs = stateful rs (answerNumber (outcomeOf table call .answer)
 
 -- 'For commands: 1, 3, 2.' A count above 64, which no call returns, is taken as 64.
 abbrev pub commandRefusals : Table → ℕ → Bool → List Refusal
-commandRefusals t i allowed = Unless 1 (ltb i (cond (ltb (t .count) 64) (t .count) 64)) ∷ If 3 (t .wait) ∷ Unless 2 allowed ∷ []
+commandRefusals t i allowed = Unless 1 (i <? (if t .count <? 64 then t .count else 64)) ∷ If 3 (t .wait) ∷ Unless 2 allowed ∷ []
 
 commands : (t next : Table) (i : ℕ) (allowed : Bool)
     → Copes (stateful (commandRefusals t i allowed) (answerNumber (inOrder t i allowed next .answer)) [] [] t (inOrder t i allowed next .table) t)

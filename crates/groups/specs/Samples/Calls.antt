@@ -1,14 +1,14 @@
 -- Two groups on one card of four slots, their calls interleaved: in each round up to six calls, and then each group starts an epoch.
 use mathlib.Core.Path.{_≡_, refl, _∙_, sym, ap}
 use mathlib.Core.Logic.{⊎-elim, _≢_}
-use mathlib.Core.Bool.{Bool, true, false, cond, not, _||_}
+use mathlib.Core.Bool.{Bool, true, false, not, _||_}
 use mathlib.Core.List.{List, [], _∷_}
 use Prim.Native.Nat.{ℕ, _+_, _*_, _/_, _%_, _≤_, _<_}
 use native.Mathlib.Omega.{arith}
-use lib.Dec.{eqb, ltb}
 use lib.ListN.{List·getD-eq-default, getD}
 use borrow.Author.Tests.{le-ltb, ne-eqb}
 use Rattle.ground.specs.Finite.{below, below-at}
+use Rattle.ground.specs.Plain.{if_then_else_, _==_, _<?_}
 use Rattle.ground.specs.Truth.{le-or-lt}
 use Rattle.circuits.specs.Calls.Call.{AddSlot, Claim, Lapse, Release, RemoveSlot, Report, StartEpoch}
 use Rattle.circuits.specs.Shown.{by}
@@ -49,14 +49,14 @@ quiet = record { group = 0; asked = Board }
 
 -- of round j the call at place k: the last two start the groups' epochs
 abbrev placed : ℕ → ℕ → Made
-placed j k = cond (eqb k 6) start₀ (cond (eqb k 7) start₁ (getD (getD rounds j []) k quiet))
+placed j k = if k == 6 then start₀ else if k == 7 then start₁ else getD (getD rounds j []) k quiet
 
 abbrev pub made : ℕ → Made
 made n = placed (n / 8) (n % 8)
 
 -- group 0's first epoch is 0, and group 1's is 250
 abbrev pub card : CardHistory
-card = record { kind = 0; slots = 4; first = λ g. cond (eqb g 0) 0 250; made = made }
+card = record { kind = 0; slots = 4; first = λ g. if g == 0 then 0 else 250; made = made }
 
 -- what is tested at each call of the rounds holds of every one
 
@@ -77,19 +77,19 @@ each-call f q t j k b = ⊎-elim late early (le-or-lt 9 j)
         (below-at 8 (λ i. not (f (getD (getD rounds j []) i quiet))) (below-at 9 (λ i. below 8 (λ m. not (f (getD (getD rounds i []) m quiet)))) t j l) k b)
 
 -- from the call numbered 72 on nothing is done but to start epochs
-pub made-late : (n : ℕ) → 72 ≤ n → made n ≡ cond (eqb (n % 8) 6) start₀ (cond (eqb (n % 8) 7) start₁ quiet)
+pub made-late : (n : ℕ) → 72 ≤ n → made n ≡ (if n % 8 == 6 then start₀ else if n % 8 == 7 then start₁ else quiet)
 made-late n h =
     let late : 9 ≤ n / 8 = omega arith in
-    ap (λ (row : List Made). cond (eqb (n % 8) 6) start₀ (cond (eqb (n % 8) 7) start₁ (getD row (n % 8) quiet))) (List·getD-eq-default rounds [] late)
+    ap (λ (row : List Made). if n % 8 == 6 then start₀ else if n % 8 == 7 then start₁ else getD row (n % 8) quiet) (List·getD-eq-default rounds [] late)
 
 -- the starts of each group's epochs are at their places, and nowhere else
 
 pub placed-last : (n : ℕ) → n % 8 ≢ 6 → isStart 0 (made n) ≡ false
 placed-last n d =
-    ap (λ (b : Bool). isStart 0 (cond b start₀ (cond (eqb (n % 8) 7) start₁ (getD (getD rounds (n / 8) []) (n % 8) quiet)))) (ne-eqb (n % 8) 6 d)
-    ∙ go (eqb (n % 8) 7) (getD (getD rounds (n / 8) []) (n % 8) quiet) (each-call (isStart 0) refl refl (n / 8) (n % 8) (omega arith))
+    ap (λ (b : Bool). isStart 0 (if b then start₀ else if n % 8 == 7 then start₁ else getD (getD rounds (n / 8) []) (n % 8) quiet)) (ne-eqb (n % 8) 6 d)
+    ∙ go (n % 8 == 7) (getD (getD rounds (n / 8) []) (n % 8) quiet) (each-call (isStart 0) refl refl (n / 8) (n % 8) (omega arith))
   where
-    go : (b : Bool) (m : Made) → isStart 0 m ≡ false → isStart 0 (cond b start₁ m) ≡ false
+    go : (b : Bool) (m : Made) → isStart 0 m ≡ false → isStart 0 (if b then start₁ else m) ≡ false
     go true m e = refl
     go false m e = e
 
@@ -111,10 +111,10 @@ starts₀ =
 
 pub placed-very-last : (n : ℕ) → n % 8 ≢ 7 → isStart 1 (made n) ≡ false
 placed-very-last n d =
-    ap (λ (b : Bool). isStart 1 (cond (eqb (n % 8) 6) start₀ (cond b start₁ (getD (getD rounds (n / 8) []) (n % 8) quiet)))) (ne-eqb (n % 8) 7 d)
-    ∙ go (eqb (n % 8) 6) (getD (getD rounds (n / 8) []) (n % 8) quiet) (each-call (isStart 1) refl refl (n / 8) (n % 8) (omega arith))
+    ap (λ (b : Bool). isStart 1 (if n % 8 == 6 then start₀ else if b then start₁ else getD (getD rounds (n / 8) []) (n % 8) quiet)) (ne-eqb (n % 8) 7 d)
+    ∙ go (n % 8 == 6) (getD (getD rounds (n / 8) []) (n % 8) quiet) (each-call (isStart 1) refl refl (n / 8) (n % 8) (omega arith))
   where
-    go : (b : Bool) (m : Made) → isStart 1 m ≡ false → isStart 1 (cond b start₀ m) ≡ false
+    go : (b : Bool) (m : Made) → isStart 1 m ≡ false → isStart 1 (if b then start₀ else m) ≡ false
     go true m e = refl
     go false m e = e
 
@@ -136,17 +136,17 @@ starts₁ =
 
 -- after slot 2 is released group 0 makes no claim and no release, and after its claim group 1 makes none
 
-module _ (g from : ℕ) (early : below 72 (λ n. ltb n from || not (isMove g (made n))) ≡ true) (late : (a b : Bool) → isMove g (cond a start₀ (cond b start₁ quiet)) ≡ false) where
+module _ (g from : ℕ) (early : below 72 (λ n. n <? from || not (isMove g (made n))) ≡ true) (late : (a b : Bool) → isMove g (if a then start₀ else if b then start₁ else quiet) ≡ false) where
   no-moves : (n : ℕ) → from ≤ n → isMove g (made n) ≡ false
   no-moves n h =
-      ⊎-elim (λ (l : 72 ≤ n). ap (isMove g) (made-late n l) ∙ late (eqb (n % 8) 6) (eqb (n % 8) 7))
-      (λ (l : n < 72). not-so (isMove g (made n)) (sym (ap (λ (b : Bool). b || not (isMove g (made n))) (le-ltb n from h)) ∙ below-at 72 (λ i. ltb i from || not (isMove g (made i))) early n l))
+      ⊎-elim (λ (l : 72 ≤ n). ap (isMove g) (made-late n l) ∙ late (n % 8 == 6) (n % 8 == 7))
+      (λ (l : n < 72). not-so (isMove g (made n)) (sym (ap (λ (b : Bool). b || not (isMove g (made n))) (le-ltb n from h)) ∙ below-at 72 (λ i. i <? from || not (isMove g (made i))) early n l))
       (le-or-lt 72 n)
 
 pub still₀ : (n : ℕ) → 34 ≤ n → isMove 0 (made n) ≡ false
 still₀ = no-moves 0 34 refl go
   where
-    go : (a b : Bool) → isMove 0 (cond a start₀ (cond b start₁ quiet)) ≡ false
+    go : (a b : Bool) → isMove 0 (if a then start₀ else if b then start₁ else quiet) ≡ false
     go true b = refl
     go false true = refl
     go false false = refl
@@ -154,7 +154,7 @@ still₀ = no-moves 0 34 refl go
 pub still₁ : (n : ℕ) → 35 ≤ n → isMove 1 (made n) ≡ false
 still₁ = no-moves 1 35 refl go
   where
-    go : (a b : Bool) → isMove 1 (cond a start₀ (cond b start₁ quiet)) ≡ false
+    go : (a b : Bool) → isMove 1 (if a then start₀ else if b then start₁ else quiet) ≡ false
     go true b = refl
     go false true = refl
     go false false = refl

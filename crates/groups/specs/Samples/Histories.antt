@@ -1,12 +1,12 @@
 -- The history that each group of the sample has by itself, written out.
 use mathlib.Core.Path.{_≡_, refl, _∙_, sym, ap}
 use mathlib.Core.Logic.{⊎-elim}
-use mathlib.Core.Bool.{Bool, true, false, cond}
+use mathlib.Core.Bool.{Bool, true, false}
 use mathlib.Core.List.{List, [], _∷_, _++_}
 use Prim.Native.Nat.{ℕ, zero, suc, _+_, _-_, _*_, _%_, _≤_, _<_}
 use native.Mathlib.Omega.{arith}
-use lib.Dec.{eqb}
 use lib.ListN.{List·getD-eq-default, getD}
+use Rattle.ground.specs.Plain.{if_then_else_, _==_}
 use Rattle.ground.specs.Table.{getD-tabulate, tabulate}
 use Rattle.ground.specs.Truth.{le-or-lt}
 use Rattle.sender.specs.Calls.{Call}
@@ -80,15 +80,15 @@ none-reach g (suc k) f c none =
     let d : Card = cardAfter c (f zero .group) (f zero .asked) in
     ap (λ (l : List Call). l ++ tableCalls g d (tabulate k (λ j. f (suc j)))) (none zero c) ∙ none-reach g k (λ j. f (suc j)) d (λ j e. none (suc j) e)
 
-late-call : (g n : ℕ) (d : Card) → 72 ≤ n → ((a b : Bool) → reaching g d (cond a start₀ (cond b start₁ quiet)) ≡ []) → reaching g d (made n) ≡ []
-late-call g n d h none = ap (λ (m : Made). reaching g d m) (made-late n h) ∙ none (eqb (n % 8) 6) (eqb (n % 8) 7)
+late-call : (g n : ℕ) (d : Card) → 72 ≤ n → ((a b : Bool) → reaching g d (if a then start₀ else if b then start₁ else quiet) ≡ []) → reaching g d (made n) ≡ []
+late-call g n d h none = ap (λ (m : Made). reaching g d m) (made-late n h) ∙ none (n % 8 == 6) (n % 8 == 7)
 
-none₀ : (d : Card) (a b : Bool) → reaching 0 d (cond a start₀ (cond b start₁ quiet)) ≡ []
+none₀ : (d : Card) (a b : Bool) → reaching 0 d (if a then start₀ else if b then start₁ else quiet) ≡ []
 none₀ d true b = refl
 none₀ d false true = refl
 none₀ d false false = refl
 
-none₁ : (d : Card) (a b : Bool) → reaching 1 d (cond a start₀ (cond b start₁ quiet)) ≡ []
+none₁ : (d : Card) (a b : Bool) → reaching 1 d (if a then start₀ else if b then start₁ else quiet) ≡ []
 none₁ d true b = refl
 none₁ d false true = refl
 none₁ d false false = refl

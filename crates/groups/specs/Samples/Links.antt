@@ -1,8 +1,7 @@
 -- Each group's link: two ports, for the two slots that it owns once slot 2 has changed hands.
-use mathlib.Core.Bool.{cond}
 use mathlib.Core.List.{List, [], _∷_}
 use Prim.Native.Nat.{ℕ, _+_, _-_, _*_, _%_}
-use lib.Dec.{eqb}
+use Rattle.ground.specs.Plain.{if_then_else_, _==_}
 use Rattle.ground.specs.Table.{tabulate}
 use Rattle.link.specs.History.{History, packetSent, sendingOf, xAt}
 use Rattle.link.specs.Link.{Link}
@@ -25,13 +24,13 @@ abbrev pub pairing₁ : ℕ → ℕ
 pairing₁ p = 2 + p
 
 abbrev pub first₀ : ℕ → ℕ
-first₀ p = cond (eqb p 0) 57 60
+first₀ p = if p == 0 then 57 else 60
 
 abbrev pub first₁ : ℕ → ℕ
-first₁ p = cond (eqb p 0) 66 58
+first₁ p = if p == 0 then 66 else 58
 
 abbrev pub order : ℕ → List ℕ
-order t = cond (eqb (t % 2) 0) (0 ∷ 1 ∷ []) (1 ∷ 0 ∷ [])
+order t = if t % 2 == 0 then 0 ∷ 1 ∷ [] else 1 ∷ 0 ∷ []
 
 -- P is 1 and W is 20. Port 0 is late by four frames.
 abbrev pub linkOf : History → Client → (ℕ → ℕ) → (ℕ → ℕ) → Link
@@ -44,7 +43,7 @@ linkOf history client pairing first =
       client = client;
       pairing = pairing;
       came = λ i p. packetSent history i (pairing p);
-      delay = λ p. cond (eqb p 0) 4 0;
+      delay = λ p. if p == 0 then 4 else 0;
       first = first;
       order = order;
       output = λ j. output;

@@ -1,12 +1,12 @@
 -- Each group's link is one that demand 3 per group speaks of.
 use mathlib.Core.Path.{_≡_, refl, sym, ap, _∙_}
 use mathlib.Core.Logic.{inl}
-use mathlib.Core.Bool.{Bool, true, false, cond, not, true≢false}
+use mathlib.Core.Bool.{Bool, true, false, not, true≢false}
 use mathlib.Core.List.{List}
 use Prim.Native.Nat.{ℕ, zero, suc, _+_, _*_, _%_, _≤_, _<_}
 use native.Mathlib.Omega.{arith}
-use lib.Dec.{eqb, ltb}
 use lib.ListN.{length, length-replicate}
+use Rattle.ground.specs.Plain.{if_then_else_, _==_, _<?_}
 use Rattle.ground.specs.Table.{length-tabulate}
 use Rattle.packet.specs.Kinds.{epochs, frames, tags}
 use Rattle.phases.specs.Sizes.{sized}
@@ -25,7 +25,7 @@ use Rattle.groups.specs.Samples.Histories.{computed, history₀, history
 use Rattle.groups.specs.Samples.Links.{client₀, client₁, first₀, first₁, link₀, link₁, linkOf, pairing₀, pairing₁}
 use Rattle.groups.specs.Theorems.{demand3-each, stays-still}
 
-late : (b : Bool) → cond b 4 0 ≤ 4
+late : (b : Bool) → (if b then 4 else 0) ≤ 4
 late true = omega arith
 late false = omega arith
 
@@ -37,9 +37,9 @@ lines slots e before gid mst ack client pairing first whole =
     record {
       sizes = refl;
       client = whole;
-      spread = λ p q hp hq. (let h = late (eqb p 0) in omega arith);
-      once = λ t p h. once (eqb (t % 2) 0) p h;
-      only = λ t. only (eqb (t % 2) 0);
+      spread = λ p q hp hq. (let h = late (p == 0) in omega arith);
+      once = λ t p h. once (t % 2 == 0) p h;
+      only = λ t. only (t % 2 == 0);
       arrived = λ i p h. inl refl;
       spared = λ t p done rest h is-order come un brings. refl;
       room = λ j. omega (arith, length-replicate {A = ℕ} 33 0xEE);
@@ -54,7 +54,7 @@ lines₁ = lines 4 250 _ _ _ _ client₁ pairing₁ first₁ (λ x. length-tabul
 
 -- Group 0 owns slots 0 and 1 after 34 calls, and group 1 slots 2 and 3 after one more.
 
-then₀ : (slot : ℕ) → slot < 4 → owns (cardAt card 34) 0 slot ≡ ltb slot 2
+then₀ : (slot : ℕ) → slot < 4 → owns (cardAt card 34) 0 slot ≡ (slot <? 2)
 unfolding computed
 then₀ zero h = refl
 then₀ (suc zero) h = refl
@@ -62,7 +62,7 @@ then₀ (suc (suc zero)) h = refl
 then₀ (suc (suc (suc zero))) h = refl
 then₀ (suc (suc (suc (suc slot)))) h = absurd (omega arith)
 
-then₁ : (slot : ℕ) → slot < 4 → owns (cardAt card 35) 1 slot ≡ not (ltb slot 2)
+then₁ : (slot : ℕ) → slot < 4 → owns (cardAt card 35) 1 slot ≡ not (slot <? 2)
 unfolding computed
 then₁ zero h = refl
 then₁ (suc zero) h = refl
@@ -104,11 +104,11 @@ pub later₁ : (i : ℕ) → 58 < epochStart 0 i → 35 ≤ starts₁ .at i
 unfolding frames starts₁
 later₁ i h = omega arith
 
-from₀ : (b : Bool) → 57 ≤ cond b 57 60
+from₀ : (b : Bool) → 57 ≤ (if b then 57 else 60)
 from₀ true = omega arith
 from₀ false = omega arith
 
-pub from₁ : (b : Bool) → 58 ≤ cond b 66 58
+pub from₁ : (b : Bool) → 58 ≤ (if b then 66 else 58)
 from₁ true = omega arith
 from₁ false = omega arith
 
@@ -128,7 +128,7 @@ met₀ =
       lines = lines₀;
       earliest = 57;
       calls-then = 34;
-      not-before = λ p h. from₀ (eqb p 0);
+      not-before = λ p h. from₀ (p == 0);
       started-later = later₀;
       stay = λ n slot h b. stays-still card 0 (omega arith) 34 still₀ n slot h (omega arith);
       paired = record { below = λ p h. omega arith; once = λ p q hp hq e. omega arith };
@@ -152,7 +152,7 @@ met₁ =
       lines = lines₁;
       earliest = 58;
       calls-then = 35;
-      not-before = λ p h. from₁ (eqb p 0);
+      not-before = λ p h. from₁ (p == 0);
       started-later = later₁;
       stay = λ n slot h b. stays-still card 1 (omega arith) 35 still₁ n slot h (omega arith);
       paired = record { below = λ p h. omega arith; once = λ p q hp hq e. omega arith };

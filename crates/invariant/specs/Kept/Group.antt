@@ -1,10 +1,10 @@
 -- What holds of the receiver's rows after any calls.
 use mathlib.Core.Path.{_≡_}
-use mathlib.Core.Bool.{Bool, true, false, cond, _||_}
+use mathlib.Core.Bool.{Bool, true, false, _||_}
 use mathlib.Core.List.{List}
 use Prim.Native.Nat.{ℕ, _≤_, _<_}
-use lib.Dec.{eqb}
 use lib.ListN.{length}
+use Rattle.ground.specs.Plain.{if_then_else_, _==_}
 use Rattle.invariant.specs.Kept.Port.{PortKept}
 use Rattle.packet.specs.Kinds.{epochs, fixedKind}
 use Rattle.packet.specs.Words.{ADD, DNU, EOS, FIXED, IDLE, NORM}
@@ -32,11 +32,11 @@ pub record GroupKept (g : Group) : Type 0 where
 
 -- the word of a good packet, or none yet
 abbrev pub lcasWord : ℕ → Bool
-lcasWord w = eqb w noWord || eqb w ADD || eqb w NORM || eqb w EOS || eqb w IDLE || eqb w DNU
+lcasWord w = w == noWord || w == ADD || w == NORM || w == EOS || w == IDLE || w == DNU
 
 -- of a fixed group FIXED, or none yet (request 2026-12)
 abbrev pub knownWord : ℕ → ℕ → Bool
-knownWord kind w = cond (eqb kind fixedKind) (eqb w noWord || eqb w FIXED) (lcasWord w)
+knownWord kind w = if kind == fixedKind then w == noWord || w == FIXED else lcasWord w
 
 -- of one port
 pub record PortIn (g : Group) (p : Port) : Type 0 where

@@ -4,7 +4,7 @@ use mathlib.Core.Logic.{_≢_}
 use mathlib.Core.Bool.{true, false}
 use mathlib.Core.List.{List}
 use Prim.Native.Nat.{ℕ, _+_, _*_, _≤_, _<_}
-use lib.Dec.{leb}
+use Rattle.ground.specs.Plain.{_≤?_}
 use Rattle.packet.specs.Kinds.{distanceOf, firstTag, frames, tags}
 use Rattle.rows.specs.declared.group.Group.{Group}
 use Rattle.rows.specs.declared.step.Step.{Step}
@@ -47,7 +47,7 @@ pub record Joined (g : Group) (s : Step) (marks : List ℕ) : Type 0 where
   pub within : frames (g .kind) * s .later < g .window
   pub passed : s .later ≢ 0 → frames (g .kind) * s .later < offset g s
   -- from the epoch joined at on, the epochs that are marked are those that the port has gone through
-  pub marked : (i : ℕ) → s .later ≤ i → markIn marks i ≡ leb (endOf g i) (offset g s)
+  pub marked : (i : ℕ) → s .later ≤ i → markIn marks i ≡ (endOf g i ≤? offset g s)
 
 -- of a port in step ever since the beginning that has not joined yet: the window's first frame is less than W frames ahead of it
 pub record Waiting (g : Group) (s : Step) (marks : List ℕ) : Type 0 where

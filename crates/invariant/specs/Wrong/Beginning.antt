@@ -1,11 +1,12 @@
 -- Two wrong rules of the beginning (R-7).
 use mathlib.Core.Path.{_≡_, refl}
-use mathlib.Core.Bool.{Bool, true, false, cond, not, _&&_}
+use mathlib.Core.Bool.{Bool, true, false, not, _&&_}
 use mathlib.Core.List.{List, [], _∷_}
 use Prim.Native.Nat.{ℕ, zero, suc, _+_}
 use lib.ListN.{replicate}
 use Rattle.invariant.specs.Wrong.Sample.{sampleGroup, sampleStep, sentH4}
 use Rattle.ground.specs.Circle.{after}
+use Rattle.ground.specs.Plain.{if_then_else_}
 use Rattle.packet.specs.Counts.{tagByHigh, tagByLow, counts, carriesLow, nibbleIn, nibblePlace, startsCount}
 use Rattle.packet.specs.Kinds.{distanceOf, endsEpoch, epochAfter, epochOf, epochs, epochsIn, firstTag, frames, lead, placeOf, startsEpoch, tagAfter, tagBefore, tags}
 use Rattle.packet.specs.Crc.{crcOf, divisor, nibbleBits}
@@ -44,7 +45,7 @@ comes-in : List (List ℕ) → ℕ → ℕ → Bool
 comes-in s i h = not (inStep (groupAt s) (stepAt s i)) && inStep (groupAt s) (stepAt (portAfter s i false h) i)
 
 wrong-frame : List (List ℕ) → ℕ → ℕ → List (List ℕ)
-wrong-frame s i h = cond (comes-in s i h) (settledOf 2 [] (portAfter s i false h)) (portAfter s i false h)
+wrong-frame s i h = if comes-in s i h then settledOf 2 [] (portAfter s i false h) else portAfter s i false h
 
 right-frame : List (List ℕ) → ℕ → ℕ → List (List ℕ)
 right-frame s i h = settledOf 2 [] (portAfter s i false h)
@@ -62,13 +63,13 @@ tested-breaks = (refl, refl, refl)
 -- then port 1's first frame comes flagged failed, and receiving begins. Epoch 1 is to be gathered, but its first frame is gone.
 
 weak-epoch : ℕ → ℕ → ℕ
-weak-epoch kind fore = cond (startsEpoch kind fore) (epochOf kind fore) (epochAfter kind (epochOf kind fore))
+weak-epoch kind fore = if startsEpoch kind fore then epochOf kind fore else epochAfter kind (epochOf kind fore)
 
 weak-begun : Group → ℕ → List (List ℕ) → List (List ℕ)
 weak-begun g n s = putGroup (clearedPorts g true n s) (groupTo g 1 0 (weak-epoch (g .kind) (foremost g s n)) (g .origin) (g .«rs_ack»))
 
 weak-begin : Group → ℕ → List (List ℕ) → List (List ℕ)
-weak-begin g n s = cond (not (flagOf (g .begun)) && begins g s n) (weak-begun g n s) s
+weak-begin g n s = if not (flagOf (g .begun)) && begins g s n then weak-begun g n s else s
 
 weak-settled : ℕ → List ℕ → List (List ℕ) → List (List ℕ)
 weak-settled n store s =

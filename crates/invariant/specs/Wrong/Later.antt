@@ -3,10 +3,10 @@ use mathlib.Core.Path.{_≡_, refl}
 use mathlib.Core.Bool.{Bool, true, false, not, _&&_, _||_}
 use mathlib.Core.List.{List}
 use Prim.Native.Nat.{ℕ, zero, suc}
-use lib.Dec.{ltb}
 use lib.ListN.{replicate}
 use Rattle.invariant.specs.Wrong.Sample.{sampleGroup, sampleStep}
 use Rattle.ground.specs.Circle.{after}
+use Rattle.ground.specs.Plain.{_<?_}
 use Rattle.packet.specs.Kinds.{distanceOf, epochAfter, epochs, firstTag, frames, lead, tags}
 use Rattle.phases.specs.Due.{owesNothing}
 use Rattle.phases.specs.Passing.{passedGroup, passedStep}
@@ -19,7 +19,7 @@ use Rattle.store.specs.Marks.{firstMark}
 
 -- the tag joined at lies in the window, after its first frame
 wrong-later : Group → ℕ → Bool
-wrong-later g tag = ltb 0 (distanceIn g tag) && ltb (distanceIn g tag) (g .window)
+wrong-later g tag = 0 <? distanceIn g tag && distanceIn g tag <? g .window
 
 wrong-lets : Group → Step → ℕ → List ℕ → Bool
 wrong-lets g s tag marks = not (readable g s) || firstMark marks || flagOf (s .joined) && wrong-later g tag

@@ -1,14 +1,14 @@
 -- The frames of a run taken to be those answered 0: but the frames with which a port comes into step are answered 12, and their nibbles stand in the packet being gathered too.
 use mathlib.Core.Path.{_≡_, refl}
-use mathlib.Core.Bool.{false, cond}
+use mathlib.Core.Bool.{false}
 use mathlib.Core.List.{List, [], _∷_}
 use Prim.Native.Nat.{ℕ, _+_, _%_}
-use lib.Dec.{eqb, ltb}
 use lib.ListN.{length, replicate}
 use Rattle.invariant.specs.Calls.{Fetch, Frame, Receiver, ReceiverCall, receiverAfter, receiverRun, startedWith}
 use Rattle.invariant.specs.Live.{heardOf, packetHeard}
 use Rattle.invariant.specs.Wrong.Sample.{sentH4}
 use Rattle.ground.specs.Circle.{after as afterOn}
+use Rattle.ground.specs.Plain.{if_then_else_, _==_, _<?_}
 use Rattle.ground.specs.Table.{tabulate}
 use Rattle.packet.specs.Counts.{carriesLow, counts, nibbleIn, nibblePlace, startsCount, tagByHigh, tagByLow}
 use Rattle.packet.specs.Crc.{crcOf, divisor, nibbleBits}
@@ -39,7 +39,7 @@ use Rattle.rows.specs.Port.{portAt}
 
 -- One port is handed the tags 0 to 39, so that the next frame starts an epoch. Each frame carries the nibble 5, but for MFI2's.
 calls : List ReceiverCall
-calls = tabulate 40 (λ t. Frame 0 false (sentH4 t + cond (ltb 1 (t % 16)) 80 0) (0 ∷ []))
+calls = tabulate 40 (λ t. Frame 0 false (sentH4 t + (if 1 <? t % 16 then 80 else 0)) (0 ∷ []))
 
 receiver : Receiver
 receiver = startedWith 0 1 1 16 [] [] (replicate 6 (replicate 16 0)) (replicate 32 0)
@@ -49,7 +49,7 @@ wrong-heard : Receiver → List ReceiverCall → List ℕ → List ℕ
 wrong-heard x [] heard = heard
 wrong-heard x (Frame i failed h payload ∷ calls) heard =
     wrong-heard (receiverAfter x (Frame i failed h payload)) calls
-    (cond (eqb (frameAnswer (x .rows) i failed h (length payload) (length (x .store))) 0) (h ∷ heard) heard)
+    (if frameAnswer (x .rows) i failed h (length payload) (length (x .store)) == 0 then h ∷ heard else heard)
 wrong-heard x (Fetch out report ∷ calls) heard = wrong-heard (receiverAfter x (Fetch out report)) calls heard
 
 came : List ℕ

@@ -1,11 +1,10 @@
 -- Slip 2: 'Using a new packet's numbers for its own epoch.'
 use mathlib.Core.Path.{_≡_, refl}
-use mathlib.Core.Bool.{cond}
 use mathlib.Core.List.{List, [], _∷_, _++_}
 use Prim.Native.Nat.{ℕ, _/_, _%_}
-use lib.Dec.{eqb}
 use lib.ListN.{getD, replicate}
 use Rattle.invariant.specs.Wrong.Sample.{sampleGroup, sampleStep}
+use Rattle.ground.specs.Plain.{if_then_else_, _==_}
 use Rattle.ground.specs.Table.{tabulate}
 use Rattle.judge.specs.declared.seen.Seen.{Seen}
 use Rattle.judge.specs.Order.{activeIn, orderOf, portOf, rankOf}
@@ -49,7 +48,7 @@ rows = putGroup (port 1 (packet 0 EOS 1) (port 0 (packet 0 NORM 0) (replicate 11
 
 -- the frames of epoch 1: port 0 brings the byte 10, port 1 the byte 11
 sent : ℕ → List ℕ → List ℕ
-sent byte ns = tabulate 32 (λ k. cond (eqb (k % 2) 0) byte (getD (h4Of ns) (k / 2) 0))
+sent byte ns = tabulate 32 (λ k. if k % 2 == 0 then byte else getD (h4Of ns) (k / 2) 0)
 
 store : List ℕ
 store = sent 10 (packet 1 EOS 1) ++ sent 11 (packet 1 NORM 0)
@@ -65,7 +64,7 @@ wrong-out = framesInto group (orderOf (wrong-seen group rows store 0 ∷ wrong-s
 
 -- sixteen group frames of two bytes
 sixteen : ℕ → ℕ → List ℕ
-sixteen a b = tabulate 32 (λ k. cond (eqb (k % 2) 0) a b)
+sixteen a b = tabulate 32 (λ k. if k % 2 == 0 then a else b)
 
 order-breaks :
     (fetchOut rows store (replicate 32 0) (replicate 8 0) ≡ sixteen 10 11)

@@ -1,12 +1,12 @@
 -- A fixed group (request 2026-12): X by the ports seen. The port with the highest number is dark, and the other two have exactly 0 and 1: the report would be sure, with bytes that are not the client's.
 use mathlib.Core.Path.{_≡_, refl}
-use mathlib.Core.Bool.{cond, not, _||_}
+use mathlib.Core.Bool.{not, _||_}
 use mathlib.Core.List.{List, [], _∷_, _++_}
 use Prim.Native.Nat.{ℕ, _/_, _%_}
-use lib.Dec.{eqb}
 use lib.ListN.{getD, replicate}
 use Rattle.counting.specs.Words.{count, every, some}
 use Rattle.invariant.specs.Wrong.Sample.{sampleStep}
+use Rattle.ground.specs.Plain.{if_then_else_, _==_}
 use Rattle.ground.specs.Table.{tabulate}
 use Rattle.judge.specs.declared.seen.Seen.{Seen}
 use Rattle.judge.specs.Order.{activeIn, orderOf, portOf, rankOf}
@@ -47,7 +47,7 @@ rows = putGroup (putStep (port 1 (port 0 (replicate 16 (replicate 16 0)))) 2 (sa
 
 -- the frames of epoch 1: the client's bytes are 10, 11, 12 and so on again, of which port 2 would have brought 12
 sent : ℕ → ℕ → List ℕ
-sent byte i = tabulate 32 (λ k. cond (eqb (k % 2) 0) byte (getD (h4Of (fixedNibbles 1 i)) (k / 2) 0))
+sent byte i = tabulate 32 (λ k. if k % 2 == 0 then byte else getD (h4Of (fixedNibbles 1 i)) (k / 2) 0)
 
 store : List ℕ
 store = sent 10 0 ++ sent 11 1 ++ replicate 32 0
@@ -55,13 +55,12 @@ store = sent 10 0 ++ sent 11 1 ++ replicate 32 0
 -- the verdict without its test for a missing port, and with the numbers 0 to as many as were seen
 wrong-mark : List Seen → ℕ → ℕ
 wrong-mark ports n =
-    cond
-    (some n (λ i. refusedSeen (seenAt ports i))
+    if some n (λ i. refusedSeen (seenAt ports i))
     || some n (λ i. lackingSeen (seenAt ports i))
     || repeats ports n
-    || not (every (count n (λ i. numberedSeen (seenAt ports i))) (λ q. takes ports n q)))
-    HELD
-    SURE
+    || not (every (count n (λ i. numberedSeen (seenAt ports i))) (λ q. takes ports n q))
+    then HELD
+    else SURE
 
 seen : List Seen
 seen = seenAll group rows 3
@@ -72,7 +71,7 @@ wrong-out = framesInto group (orderOf seen 3) store 16 (replicate 48 0)
 
 ports-seen-breaks :
     (wrong-mark seen 3 ≡ SURE)
-    × (wrong-out ≡ tabulate 32 (λ k. cond (eqb (k % 2) 0) 10 11) ++ replicate 16 0)
+    × (wrong-out ≡ tabulate 32 (λ k. if k % 2 == 0 then 10 else 11) ++ replicate 16 0)
     × (reportIfDue group 3 rows .mark ≡ HELD)
     × (fetchOut rows store (replicate 48 0) (replicate 8 0) ≡ replicate 48 0)
 unfolding group port rows sent store wrong-mark seen wrong-out fixedNibbles fixedRulingOf readFixedNibbles h4Of fieldsOf ownRuling rulingIn ownNumber rulingEpoch seenOf seenAll orderOf activeIn portOf rankOf judgeOf fixedVerdict fixedHeld fixedExact missing repeats takes fetchOut fits fetchFits rowsFit storeFor outputFor portsIn sized outIfDue reportIfDue reportOf reportBy dueIn brought owesNothing readable inStep inStepAt outputOf outputBy framesInto frameInto startsOf placeIn ringOf firstMark epochOf firstTag frames lead tagBefore tags groupAt groupOf groupRow putGroup marksAt packetsAt putMarks putPackets rowIn putRow stepAt stepOf stepRow putStep

@@ -1,8 +1,7 @@
 -- Small groups and ports, and H4 bytes as sent.
-use mathlib.Core.Bool.{cond}
 use Prim.Native.Nat.{ℕ, _+_, _*_, _/_, _%_}
-use lib.Dec.{eqb}
 use lib.ListN.{replicate}
+use Rattle.ground.specs.Plain.{if_then_else_, _==_}
 use Rattle.receiver.specs.Starting.{groupWith}
 use Rattle.rows.specs.declared.group.Group.{Group}
 use Rattle.rows.specs.declared.step.Step.{Step}
@@ -30,4 +29,4 @@ sampleStep count next joined since later whole =
 
 -- the H4 byte of a frame with this tag, with a packet's nibble where MFI2 does not stand
 abbrev pub sentH4 : ℕ → ℕ
-sentH4 t = cond (eqb (t % 16) 0) (t / 256 * 16) (cond (eqb (t % 16) 1) (t / 16 % 16 * 16 + 1) (t % 16))
+sentH4 t = if t % 16 == 0 then t / 256 * 16 else if t % 16 == 1 then t / 16 % 16 * 16 + 1 else t % 16

@@ -1,10 +1,10 @@
 -- The step rule of request 2026-04 read wrongly, each with a run on which it breaks.
 use mathlib.Core.Path.{_≡_, refl}
-use mathlib.Core.Bool.{Bool, true, false, cond, not, _&&_}
+use mathlib.Core.Bool.{Bool, true, false, not, _&&_}
 use mathlib.Core.List.{List, [], _∷_}
 use Prim.Native.Nat.{ℕ, zero, suc, _+_, _%_}
-use lib.Dec.{eqb}
 use lib.ListN.{getD, replicate, set}
+use Rattle.ground.specs.Plain.{if_then_else_, _==_}
 use Rattle.packet.specs.Counts.{counts, nibbleIn, nibblePlace, startsCount, tagByHigh}
 use Rattle.packet.specs.Crc.{crcOf, divisor, nibbleBits}
 use Rattle.packet.specs.Kinds.{endsEpoch, frames, lead, placeOf, tagAfter, tags}
@@ -23,7 +23,7 @@ at t = record { count = 32; next = t; breaks = 0; odd = 0 }
 -- A frame with MFI1 0 amid the count taken as a new start at once. One hit makes MFI1 4 a 0, and the port is out.
 
 wrong-start : Run → Bool → ℕ → Run
-wrong-start run odd h = cond (startsCount 0 h && not (counts 0 (run .next) h)) (begunRun 0 h) (runOn 0 run odd h)
+wrong-start run odd h = if startsCount 0 h && not (counts 0 (run .next) h) then begunRun 0 h else runOn 0 run odd h
 
 start-breaks : (wrong-start (at 4) false 0x00 .count ≡ 1) × (runOn 0 (at 4) false 0x00 ≡ record { count = 32; next = 5; breaks = 1; odd = 0 })
 unfolding at wrong-start runOn stayedRun gainedRun loses breaksAfter oddAfter endsPacket begunRun inStepAt counts startsCount tagByHigh placeOf endsEpoch tagAfter tags frames lead
@@ -34,11 +34,11 @@ start-breaks = (refl, refl)
 wrong-breaks : Run → Bool → ℕ → Run
 wrong-breaks run odd h =
     let counted = counts 0 (run .next) h in
-    cond (loses counted run odd) noRun
-    (record { count = run .count; next = tagAfter 0 (run .next); breaks = run .breaks + cond counted 0 1; odd = oddAfter 0 run odd })
+    if loses counted run odd then noRun
+    else (record { count = run .count; next = tagAfter 0 (run .next); breaks = run .breaks + (if counted then 0 else 1); odd = oddAfter 0 run odd })
 
 hit : ℕ → ℕ
-hit t = cond (eqb (t % 2) 0) (sentH4 (t + 1)) (sentH4 t)
+hit t = if t % 2 == 0 then sentH4 (t + 1) else sentH4 t
 
 -- n frames from tag 8 on by a rule
 by : (Run → Bool → ℕ → Run) → ℕ → Run
@@ -53,7 +53,7 @@ row-breaks = (refl, refl)
 
 wrong-odd : Run → Bool → ℕ → Run
 wrong-odd run odd h =
-    cond (loses (counts 0 (run .next) h) run odd) noRun (record { count = run .count; next = tagAfter 0 (run .next); breaks = 0; odd = cond odd 1 (run .odd) })
+    if loses (counts 0 (run .next) h) run odd then noRun else (record { count = run .count; next = tagAfter 0 (run .next); breaks = 0; odd = if odd then 1 else run .odd })
 
 -- the last frames of three packets, each as the rule finds the row of odd packets
 three : (Run → Bool → ℕ → Run) → Run
@@ -73,7 +73,7 @@ packet = nibblesOf (record { epoch = 1; word = record { 0 = NORM }; gid = 0; mst
 
 -- the frame at place k of it
 frame : ℕ → ℕ
-frame k = getD (h4Of packet) k 0 + cond (eqb k 10) 1 0
+frame k = getD (h4Of packet) k 0 + (if k == 10 then 1 else 0)
 
 -- n frames of it, after a packet of zeros
 gathered : (List (List ℕ) → ℕ → ℕ → List (List ℕ)) → ℕ → List (List ℕ)

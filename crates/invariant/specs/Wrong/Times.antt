@@ -1,12 +1,12 @@
 -- 'Only the reply changes' (02, 2026-03) read as if states did not: two receivers started alike but for their times would show the same states.
 use mathlib.Core.Path.{_≡_, refl, sym, ap, _∙_}
-use mathlib.Core.Bool.{false, cond}
+use mathlib.Core.Bool.{false}
 use mathlib.Core.List.{List, [], _∷_, _++_}
 use Prim.Native.Nat.{ℕ}
 use native.Mathlib.Omega.{arith}
-use lib.Dec.{eqb}
 use lib.ListN.{getD, length, replicate}
 use Rattle.ground.specs.Circle.{after as afterOn}
+use Rattle.ground.specs.Plain.{if_then_else_, _==_}
 use Rattle.ground.specs.Table.{tabulate}
 use Rattle.invariant.specs.Calls.{Fetch, Frame, Receiver, ReceiverCall, receiverRun, startedWith}
 use Rattle.invariant.specs.Times.{Outcome, outcomesOf}
@@ -68,7 +68,7 @@ after wait = receiverRun (receiver wait) calls .rows
 -- the records and the bytes of all reports
 reports : List Outcome → List (List ℕ)
 reports [] = []
-reports (o ∷ l) = cond (eqb (length (o .report)) 0) (reports l) ((o .report ++ o .out) ∷ reports l)
+reports (o ∷ l) = if length (o .report) == 0 then reports l else (o .report ++ o .out) ∷ reports l
 
 both : List (List ℕ)
 both = (SURE ∷ 4 ∷ 1 ∷ 0 ∷ 0 ∷ 0 ∷ 0 ∷ 16 ∷ replicate 16 4) ∷ (DOUBTFUL ∷ 5 ∷ 1 ∷ 0 ∷ 0 ∷ 0 ∷ 0 ∷ 16 ∷ replicate 16 5) ∷ []

@@ -1,12 +1,11 @@
 -- Two links that are alike but for the client's bytes of one epoch: the last sentence of demand 3, computed. It is that epoch's report in which the two runs differ, the second one of six.
 use mathlib.Core.Path.{_≡_, refl, sym, ap, subst, _∙_}
 use mathlib.Core.Logic.{inl}
-use mathlib.Core.Bool.{cond}
 use mathlib.Core.List.{List, [], _∷_}
 use Prim.Native.Nat.{ℕ, suc, _+_, _*_, _/_, _%_, _<_}
 use native.Mathlib.Omega.{arith}
-use lib.Dec.{eqb}
 use lib.ListN.{getD, length, replicate}
+use Rattle.ground.specs.Plain.{if_then_else_, _==_}
 use Rattle.ground.specs.Table.{length-tabulate, tabulate}
 use Rattle.judge.specs.Verdict.{SURE}
 use Rattle.packet.specs.Kinds.{frames}
@@ -23,18 +22,18 @@ use Rattle.link.specs.Samples.Computing.{no-times, outcome, started}
 use Rattle.link.specs.Samples.Members.{history, link, linkBy, unranked}
 use Rattle.link.specs.Samples.Met.{met, met-by, spread-4}
 use Rattle.link.specs.Samples.Reports.{reports, reportsWith, sure}
-use Rattle.link.specs.Samples.ShutOut.{began, by-theorem, has-begun, itself, starts, then}
+use Rattle.link.specs.Samples.ShutOut.{at-180, began, by-theorem, has-begun, itself, starts}
 use Rattle.link.specs.Samples.Tracing.{course, drainedBy, outcome-by, traced, turnBy, turnsBy}
 
 -- in the epoch at index 6, numbered 255, each byte is one more
 abbrev otherBytes : ℕ → ℕ → ℕ
-otherBytes x j = (x * 2 + j + cond (eqb (epochAt 0 x) 6) 1 0) % 256
+otherBytes x j = (x * 2 + j + (if epochAt 0 x == 6 then 1 else 0)) % 256
 
 abbrev otherClient : Client
 otherClient x = tabulate (xAt history (epochAt 0 x) * 1) (otherBytes x)
 
 abbrev other : Link
-other = linkBy otherClient 4 (λ t. eqb (t % 2) 0)
+other = linkBy otherClient 4 (λ t. t % 2 == 0)
 
 alike : Alike link other
 alike = record { kind = refl; epoch = refl; payload = refl; window = refl; delay = λ p b. refl; first = λ p b. refl; order = λ t. refl }
@@ -64,7 +63,7 @@ alike-other : Alike link otherLink
 alike-other = record { kind = refl; epoch = refl; payload = refl; window = refl; delay = λ p b. refl; first = λ p b. refl; order = λ t. refl }
 
 other-met : Assumed other
-other-met = met-by otherClient (λ x. length-tabulate (xAt history (epochAt 0 x) * 1) (otherBytes x)) 4 (λ t. eqb (t % 2) 0) spread-4
+other-met = met-by otherClient (λ x. length-tabulate (xAt history (epochAt 0 x) * 1) (otherBytes x)) 4 (λ t. t % 2 == 0) spread-4
 
 -- The runs: that of the first is `run` of Reports.
 other-run
@@ -79,10 +78,10 @@ other-run = outcome-by other 180 _ refl
 
 -- By the theorem it is that report too.
 
-now : Reported link (ownRun link (started link)) then
-now = go (itself .always then)
+now : Reported link (ownRun link (started link)) at-180
+now = go (itself .always at-180)
   where
-    go : Stands link (ownRun link (started link)) then → Reported link (ownRun link (started link)) then
+    go : Stands link (ownRun link (started link)) at-180 → Reported link (ownRun link (started link)) at-180
     go (none-yet e un t) = absurd (let b = has-begun (ownRun link (started link)) itself in omega arith)
     go (reporting e r) = r
 
@@ -92,7 +91,7 @@ six =
     sym (length-tabulate (now .many) (λ j. expected link (suc (now .F / epochFrames link) + j) (link .output j)))
     ∙ ap length (sym (now .are) ∙ by-theorem)
 
-sure-there : reportAt (standing link (ownRun link (started link)) then) 1 .mark ≡ SURE
+sure-there : reportAt (standing link (ownRun link (started link)) at-180) 1 .mark ≡ SURE
 unfolding reports
 sure-there = ap (λ (l : List Told). getD l 1 noReport .mark) by-theorem
 
@@ -102,14 +101,14 @@ streams-differ h = let e : _≡_ {A = ℕ} 192 193 = ap (λ (l : List ℕ). getD
 
 -- So do streams that differ in the last group frame of the epoch alone.
 abbrev lastClient : Client
-lastClient x = tabulate (xAt history (epochAt 0 x) * 1) (λ j. (x * 2 + j + cond (eqb x 111) 1 0) % 256)
+lastClient x = tabulate (xAt history (epochAt 0 x) * 1) (λ j. (x * 2 + j + (if x == 111 then 1 else 0)) % 256)
 
-last-differs : SameIn 6 link (linkBy lastClient 4 (λ t. eqb (t % 2) 0)) → ⊥
+last-differs : SameIn 6 link (linkBy lastClient 4 (λ t. t % 2 == 0)) → ⊥
 unfolding outcome
 last-differs h = let e : _≡_ {A = ℕ} 222 223 = ap (λ (l : List ℕ). getD l 0 0) (h 15 (omega arith)) in absurd (omega arith)
 
-abbrev other-then : Time other
-other-then = record { t = 180; done = []; rest = other .order 180; is-order = refl }
+abbrev other-at-180 : Time other
+other-at-180 = record { t = 180; done = []; rest = other .order 180; is-order = refl }
 
 other-starts : Started other (started other)
 other-starts = record {
@@ -124,10 +123,10 @@ other-starts = record {
   is = refl;
 }
 
-named : ToldApart (standing link (ownRun link (started link)) then) (standing other (ownRun other (started other)) other-then) 1
+named : ToldApart (standing link (ownRun link (started link)) at-180) (standing other (ownRun other (started other)) other-at-180) 1
 unfolding frames
 named =
-    demand3 link met .never-alike other (ours other other-met) alike .never (started link) (started other) starts other-starts then other-then refl refl now 1 (omega (arith, six)) (inl sure-there)
+    demand3 link met .never-alike other (ours other other-met) alike .never (started link) (started other) starts other-starts at-180 other-at-180 refl refl now 1 (omega (arith, six)) (inl sure-there)
     (λ h. streams-differ (subst (λ (F : ℕ). SameIn (suc (suc (F / 16) + 1)) link other) (began (ownRun link (started link)) itself (now .F) (now .beginning)) h))
 
 -- both have made that report

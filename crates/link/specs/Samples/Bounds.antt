@@ -4,9 +4,9 @@ use mathlib.Core.List.{List, [], _∷_}
 use Prim.Native.Nat.{ℕ, _+_, _-_, _%_}
 use native.Mathlib.Omega.{arith}
 use borrow.Author.Tests.{eqb-true, ltb-true}
-use lib.Dec.{eqb, ltb}
 use lib.ListN.{getD}
 use Rattle.ground.specs.Finite.{below-at}
+use Rattle.ground.specs.Plain.{_==_, _<?_}
 use Rattle.packet.specs.Counts.{nibblePlace}
 use Rattle.packet.specs.Crc.{nibbleBits}
 use Rattle.packet.specs.Kinds.{epochs, frames}
@@ -46,8 +46,8 @@ unfolding frames nibblePlace
 one-bit =
     record {
       long = refl;
-      bytes = λ k b. ltb-true (getD hit k 0) 256 (below-at 16 (λ i. ltb (getD hit i 0) 256) refl k b);
+      bytes = λ k b. ltb-true (getD hit k 0) 256 (below-at 16 (λ i. getD hit i 0 <? 256) refl k b);
       least = omega (arith, one);
       most = omega (arith, one);
-      placed = λ k b. eqb-true (nibblePlace 0 (getD hit k 0)) (nibblePlace 0 (getD sent k 0)) (below-at 16 (λ i. eqb (nibblePlace 0 (getD hit i 0)) (nibblePlace 0 (getD sent i 0))) refl k b);
+      placed = λ k b. eqb-true (nibblePlace 0 (getD hit k 0)) (nibblePlace 0 (getD sent k 0)) (below-at 16 (λ i. nibblePlace 0 (getD hit i 0) == nibblePlace 0 (getD sent i 0)) refl k b);
     }

@@ -1,11 +1,11 @@
 -- What the runs of a link come to. Everything that they are made of is opened here, for the checker to compute.
 use mathlib.Core.Path.{refl}
-use mathlib.Core.Bool.{cond, _||_}
+use mathlib.Core.Bool.{_||_}
 use mathlib.Core.List.{List, [], _∷_}
 use Prim.Native.Nat.{ℕ, _+_, _*_}
-use lib.Dec.{eqb}
 use lib.ListN.{replicate}
 use Rattle.ground.specs.Circle.{after}
+use Rattle.ground.specs.Plain.{if_then_else_, _==_}
 use Rattle.judge.specs.Order.{activeIn, orderOf, portOf}
 use Rattle.judge.specs.Order.{rankOf as rankSeen}
 use Rattle.judge.specs.Verdict.{doubtfulBy, eosAlone, eosWrong, exact, fixedExact, fixedHeld, fixedVerdict, gidDiffers, heldBy, judgeOf, lcasVerdict, missing, repeats, takes}
@@ -77,7 +77,7 @@ some-times = record { within = refl; fits = refl }
 -- of some answers those that are neither 0 nor 12
 abbrev pub strange : List ℕ → List ℕ
 strange [] = []
-strange (n ∷ ns) = cond (eqb n 0 || eqb n 12) (strange ns) (n ∷ strange ns)
+strange (n ∷ ns) = if n == 0 || n == 12 then strange ns else n ∷ strange ns
 
 -- what is to be seen of a moment
 pub record Outcome : Type 0 where

@@ -1,14 +1,14 @@
 -- A link with fewer ports than slots. Of three slots one was a member and is removed while the first frames come; the receiver has two ports, for the other two.
 use mathlib.Core.Path.{_≡_, refl, ap, _∙_}
 use mathlib.Core.Logic.{⊎-elim, _≢_, inl}
-use mathlib.Core.Bool.{Bool, true, false, cond, _||_}
+use mathlib.Core.Bool.{Bool, true, false, _||_}
 use mathlib.Core.List.{List, [], _∷_}
 use Prim.Native.Nat.{ℕ, zero, suc, _+_, _-_, _*_, _%_, _≤_, _<_}
 use native.Mathlib.Omega.{arith}
-use lib.Dec.{eqb, ltb}
 use lib.ListN.{getD, length, length-replicate}
 use borrow.Author.Tests.{eqb-true, le-ltb}
 use Rattle.ground.specs.Finite.{below-at}
+use Rattle.ground.specs.Plain.{if_then_else_, _==_, _<?_}
 use Rattle.ground.specs.Table.{length-tabulate, tabulate}
 use Rattle.ground.specs.Truth.{le-or-lt}
 use Rattle.packet.specs.Kinds.{epochs, frames, tags}
@@ -72,9 +72,9 @@ link =
       client = client;
       pairing = pairing;
       came = λ i p. packetSent history i (pairing p);
-      delay = λ p. cond (eqb p 0) 4 0;
-      first = λ p. cond (eqb p 0) 57 60;
-      order = λ t. cond (eqb (t % 2) 0) (0 ∷ 1 ∷ []) (1 ∷ 0 ∷ []);
+      delay = λ p. if p == 0 then 4 else 0;
+      first = λ p. if p == 0 then 57 else 60;
+      order = λ t. if t % 2 == 0 then 0 ∷ 1 ∷ [] else 1 ∷ 0 ∷ [];
       output = λ j. output;
       lent = λ a j. lent;
     }
@@ -107,9 +107,9 @@ then-sent : (i : ℕ) → 9 ≤ i → idleIn (senderAt history i) → wordSent h
 unfolding senderAt startEpochOf startedSender packetFields
 then-sent i h w = ap (λ (cs : List Call). rowAt (boardOf (senderRun (senderAt history i) (onTable cs) .table) .rows) 2 .word .0) (no-more calls (suc i) [] (omega arith)) ∙ w
 
-sent-early : (i : ℕ) → i < 10 → (ltb i 4 || eqb (wordSent history i 2) IDLE) ≡ true
+sent-early : (i : ℕ) → i < 10 → (i <? 4 || wordSent history i 2 == IDLE) ≡ true
 unfolding outcome
-sent-early = below-at 10 (λ i. ltb i 4 || eqb (wordSent history i 2) IDLE) refl
+sent-early = below-at 10 (λ i. i <? 4 || wordSent history i 2 == IDLE) refl
 
 idle-later : (i : ℕ) → 4 ≤ i → wordSent history i 2 ≡ IDLE
 idle-later i h = ⊎-elim late early (le-or-lt 10 i)
@@ -136,11 +136,11 @@ allowed = record { lcas = refl; some = omega arith; most = omega arith; first = 
 handed : Handed history 1 client
 handed = record { least = omega arith; most = omega arith; whole = λ x. length-tabulate (xAt history (epochAt 0 x) * 1) (λ j. (x * 2 + j) % 256) }
 
-late : (b : Bool) → cond b 4 0 ≤ 4
+late : (b : Bool) → (if b then 4 else 0) ≤ 4
 late true = omega arith
 late false = omega arith
 
-first-from : (b : Bool) → 57 ≤ cond b 57 60
+first-from : (b : Bool) → 57 ≤ (if b then 57 else 60)
 first-from true = omega arith
 first-from false = omega arith
 
@@ -153,9 +153,9 @@ met =
       lines = record {
         sizes = refl;
         client = handed .whole;
-        spread = λ p q hp hq. (let h = late (eqb p 0) in omega arith);
-        once = λ t p h. once (eqb (t % 2) 0) p h;
-        only = λ t. only (eqb (t % 2) 0);
+        spread = λ p q hp hq. (let h = late (p == 0) in omega arith);
+        once = λ t p h. once (t % 2 == 0) p h;
+        only = λ t. only (t % 2 == 0);
         arrived = λ i p h. inl refl;
         spared = λ t p done rest h is-order come un brings. refl;
         room = λ j. omega (arith, length-replicate {A = ℕ} 33 0xEE);
@@ -163,7 +163,7 @@ met =
       };
       paired = record { below = λ p h. omega arith; once = λ p q hp hq e. omega arith };
       earliest = 57;
-      not-before = λ p h. first-from (eqb p 0);
+      not-before = λ p h. first-from (p == 0);
       covered = covered;
     }
 

@@ -1,9 +1,9 @@
 -- A link with two members: they are added one after the other, one fails, is restored and is removed.
-use mathlib.Core.Bool.{Bool, cond, _&&_}
+use mathlib.Core.Bool.{Bool, _&&_}
 use mathlib.Core.List.{List, [], _∷_}
 use Prim.Native.Nat.{ℕ, _+_, _-_, _*_, _%_}
-use lib.Dec.{eqb}
 use lib.ListN.{getD, replicate}
+use Rattle.ground.specs.Plain.{if_then_else_, _==_}
 use Rattle.ground.specs.Table.{tabulate}
 use Rattle.sender.specs.Calls.{Call}
 use Rattle.sender.specs.Calls.Call.{AddSlot, Lapse, RemoveSlot, Report}
@@ -57,7 +57,7 @@ abbrev pub damaged : List ℕ
 damaged = 0xF8 ∷ 0xF9 ∷ 0x0A ∷ 0x1B ∷ 0x0C ∷ 0x0D ∷ 0x0E ∷ 0x0F ∷ 0x00 ∷ 0x11 ∷ 0x22 ∷ 0x13 ∷ 0x04 ∷ 0x05 ∷ 0xD6 ∷ 0x57 ∷ []
 
 abbrev pub came : ℕ → ℕ → List ℕ
-came i p = cond (eqb i 8 && eqb p 0) damaged (sent i p)
+came i p = if i == 8 && p == 0 then damaged else sent i p
 
 -- the output lent for a report, a byte longer than need be, and the record lent to a fetch
 abbrev pub output : List ℕ
@@ -77,9 +77,9 @@ linkOf came client late lateFirst =
       client = client;
       pairing = pairing;
       came = came;
-      delay = λ p. cond (eqb p 0) late 0;
-      first = λ p. cond (eqb p 0) 3 21;
-      order = λ t. cond (lateFirst t) (0 ∷ 1 ∷ []) (1 ∷ 0 ∷ []);
+      delay = λ p. if p == 0 then late else 0;
+      first = λ p. if p == 0 then 3 else 21;
+      order = λ t. if lateFirst t then 0 ∷ 1 ∷ [] else 1 ∷ 0 ∷ [];
       output = λ j. output;
       lent = λ a j. lent;
     }
@@ -92,4 +92,4 @@ linkWith late lateFirst = linkBy client late lateFirst
 
 -- W is 20, so port 0 is as late as demand 3 lets it be.
 abbrev pub link : Link
-link = linkWith 4 (λ t. eqb (t % 2) 0)
+link = linkWith 4 (λ t. t % 2 == 0)

@@ -1,14 +1,14 @@
 -- The sample link is one that demand 3 speaks of.
 use mathlib.Core.Path.{_≡_, refl}
 use mathlib.Core.Logic.{inl, inr, ⊎-elim}
-use mathlib.Core.Bool.{Bool, true, false, cond, _&&_}
+use mathlib.Core.Bool.{Bool, true, false, _&&_}
 use mathlib.Core.List.{List, [], _∷_}
 use Prim.Native.Nat.{ℕ, zero, suc, _+_, _-_, _*_, _%_, _≤_, _<_}
 use native.Mathlib.Omega.{arith}
 use borrow.Author.Tests.{eqb-true, ltb-true}
-use lib.Dec.{eqb, ltb}
 use lib.ListN.{getD, length, length-replicate}
 use Rattle.ground.specs.Finite.{below-at}
+use Rattle.ground.specs.Plain.{if_then_else_, _==_, _<?_}
 use Rattle.ground.specs.Table.{length-tabulate}
 use Rattle.ground.specs.Truth.{and-left, and-right}
 use Rattle.packet.specs.Counts.{nibbleIn, nibblePlace}
@@ -45,32 +45,32 @@ unfolding frames nibblePlace
 damage =
     record {
       long = refl;
-      bytes = λ k b. ltb-true (getD damaged k 0) 256 (below-at 16 (λ i. ltb (getD damaged i 0) 256) refl k b);
+      bytes = λ k b. ltb-true (getD damaged k 0) 256 (below-at 16 (λ i. getD damaged i 0 <? 256) refl k b);
       least = omega (arith, three);
       most = omega (arith, three);
-      placed = λ k b. eqb-true (nibblePlace 0 (getD damaged k 0)) (nibblePlace 0 (getD whole k 0)) (below-at 16 (λ i. eqb (nibblePlace 0 (getD damaged i 0)) (nibblePlace 0 (getD whole i 0))) refl k b);
+      placed = λ k b. eqb-true (nibblePlace 0 (getD damaged k 0)) (nibblePlace 0 (getD whole k 0)) (below-at 16 (λ i. nibblePlace 0 (getD damaged i 0) == nibblePlace 0 (getD whole i 0)) refl k b);
     }
 
 pub arrived : (i p : ℕ) → Arrived 0 3 (sent i p) (came i p)
-arrived i p = go (eqb i 8 && eqb p 0) refl
+arrived i p = go (i == 8 && p == 0) refl
   where
-    go : (b : Bool) → (eqb i 8 && eqb p 0) ≡ b → Arrived 0 3 (sent i p) (cond b damaged (sent i p))
-    go true e = let hi = eqb-true i 8 (and-left (eqb i 8) (eqb p 0) e) in let hp = eqb-true p 0 (and-right (eqb i 8) (eqb p 0) e) in inr (rw (hi, hp, was-sent) damage)
+    go : (b : Bool) → (i == 8 && p == 0) ≡ b → Arrived 0 3 (sent i p) (if b then damaged else sent i p)
+    go true e = let hi = eqb-true i 8 (and-left (i == 8) (p == 0) e) in let hp = eqb-true p 0 (and-right (i == 8) (p == 0) e) in inr (rw (hi, hp, was-sent) damage)
     go false e = inl refl
 
 -- its MFI2 came as sent, and so did that of all others
 pub number-kept : (i p k : ℕ) → BringsMfi2 0 k → nibbleIn 0 (getD (came i p) k 0) ≡ nibbleIn 0 (getD (sent i p) k 0)
 unfolding lead nibbleIn
-number-kept i p k brings = go (eqb i 8 && eqb p 0) refl
+number-kept i p k brings = go (i == 8 && p == 0) refl
   where
     both : BringsMfi2 0 k → nibbleIn 0 (getD damaged k 0) ≡ nibbleIn 0 (getD whole k 0)
     both = ⊎-elim (λ (e : k ≡ lead 0). rw e refl) (λ (e : k ≡ lead 0 + 1). rw e refl)
 
-    go : (b : Bool) → (eqb i 8 && eqb p 0) ≡ b → nibbleIn 0 (getD (cond b damaged (sent i p)) k 0) ≡ nibbleIn 0 (getD (sent i p) k 0)
-    go true e = let hi = eqb-true i 8 (and-left (eqb i 8) (eqb p 0) e) in let hp = eqb-true p 0 (and-right (eqb i 8) (eqb p 0) e) in rw (hi, hp, was-sent) (both brings)
+    go : (b : Bool) → (i == 8 && p == 0) ≡ b → nibbleIn 0 (getD (if b then damaged else sent i p) k 0) ≡ nibbleIn 0 (getD (sent i p) k 0)
+    go true e = let hi = eqb-true i 8 (and-left (i == 8) (p == 0) e) in let hp = eqb-true p 0 (and-right (i == 8) (p == 0) e) in rw (hi, hp, was-sent) (both brings)
     go false e = refl
 
-pub once : (b : Bool) (p : ℕ) → p < 2 → times p (cond b (0 ∷ 1 ∷ []) (1 ∷ 0 ∷ [])) ≡ 1
+pub once : (b : Bool) (p : ℕ) → p < 2 → times p (if b then 0 ∷ 1 ∷ [] else 1 ∷ 0 ∷ []) ≡ 1
 once true zero h = refl
 once true (suc zero) h = refl
 once true (suc (suc p)) h = absurd (omega arith)
@@ -78,13 +78,13 @@ once false zero h = refl
 once false (suc zero) h = refl
 once false (suc (suc p)) h = absurd (omega arith)
 
-pub only : (b : Bool) → Below 2 (cond b (0 ∷ 1 ∷ []) (1 ∷ 0 ∷ []))
+pub only : (b : Bool) → Below 2 (if b then 0 ∷ 1 ∷ [] else 1 ∷ 0 ∷ [])
 only true = (omega arith, (omega arith, tt))
 only false = (omega arith, (omega arith, tt))
 
 -- all but the spread, for all group frames that are long enough, for every delay of port 0 and for every order of the ports
 pub met-by : (client : Client) → ((x : ℕ) → length (client x) ≡ xAt history (epochAt 0 x) * 1) → (late : ℕ) (lateFirst : ℕ → Bool)
-    → ((p q : ℕ) → p < 2 → q < 2 → cond (eqb p 0) late 0 + frames 0 ≤ cond (eqb q 0) late 0 + 20) → Assumed (linkBy client late lateFirst)
+    → ((p q : ℕ) → p < 2 → q < 2 → (if p == 0 then late else 0) + frames 0 ≤ (if q == 0 then late else 0) + 20) → Assumed (linkBy client late lateFirst)
 unfolding sized frames tags
 met-by client whole late lateFirst spread =
     record {
@@ -102,23 +102,23 @@ met-by client whole late lateFirst spread =
         once = λ t p h. once (lateFirst t) p h;
         only = λ t. only (lateFirst t);
         arrived = λ i p h. arrived i p;
-        spared = λ t p done rest h is-order come un. number-kept (epochAt 0 (t - cond (eqb p 0) late 0)) p ((t - cond (eqb p 0) late 0) % frames 0);
+        spared = λ t p done rest h is-order come un. number-kept (epochAt 0 (t - (if p == 0 then late else 0))) p ((t - (if p == 0 then late else 0)) % frames 0);
         room = λ j. omega (arith, length-replicate {A = ℕ} 33 0xEE);
         eight = λ a j. refl;
       };
     }
 
-pub met-but : (late : ℕ) (lateFirst : ℕ → Bool) → ((p q : ℕ) → p < 2 → q < 2 → cond (eqb p 0) late 0 + frames 0 ≤ cond (eqb q 0) late 0 + 20) → Assumed (linkWith late lateFirst)
+pub met-but : (late : ℕ) (lateFirst : ℕ → Bool) → ((p q : ℕ) → p < 2 → q < 2 → (if p == 0 then late else 0) + frames 0 ≤ (if q == 0 then late else 0) + 20) → Assumed (linkWith late lateFirst)
 met-but = met-by client (λ x. length-tabulate (xAt history (epochAt 0 x) * 1) (λ j. (x * 2 + j) % 256))
 
-late : (b : Bool) → cond b 4 0 ≤ 4
+late : (b : Bool) → (if b then 4 else 0) ≤ 4
 late true = omega arith
 late false = omega arith
 
 -- as late as may be
-pub spread-4 : (p q : ℕ) → p < 2 → q < 2 → cond (eqb p 0) 4 0 + frames 0 ≤ cond (eqb q 0) 4 0 + 20
+pub spread-4 : (p q : ℕ) → p < 2 → q < 2 → (if p == 0 then 4 else 0) + frames 0 ≤ (if q == 0 then 4 else 0) + 20
 unfolding frames
-spread-4 p q hp hq = let h = late (eqb p 0) in omega arith
+spread-4 p q hp hq = let h = late (p == 0) in omega arith
 
 pub met : Assumed link
-met = met-but 4 (λ t. eqb (t % 2) 0) spread-4
+met = met-but 4 (λ t. t % 2 == 0) spread-4

@@ -1,15 +1,15 @@
 -- MFI2 damaged (request 2026-04): in both nibbles right after receiving has begun, which demand 3 lets be, and in one before it, which it does not; and other bits damaged before it, which it lets be. All else is as in the sample.
 use mathlib.Core.Path.{_≡_, refl, ap}
 use mathlib.Core.Logic.{⊎-elim, inl, inr}
-use mathlib.Core.Bool.{Bool, true, false, cond, _&&_}
+use mathlib.Core.Bool.{Bool, true, false, _&&_}
 use mathlib.Core.List.{List, [], _∷_}
 use Prim.Native.Nat.{ℕ, zero, suc, _+_, _-_, _*_, _/_, _%_, _≤_, _<_}
 use native.Mathlib.Omega.{arith}
 use borrow.Author.Tests.{eqb-true, ltb-true}
-use lib.Dec.{eqb, ltb}
 use lib.ListN.{getD, length, length-replicate, replicate}
 use Rattle.counting.specs.Words.{every}
 use Rattle.ground.specs.Finite.{below-at}
+use Rattle.ground.specs.Plain.{if_then_else_, _==_, _<?_}
 use Rattle.ground.specs.Table.{length-tabulate}
 use Rattle.ground.specs.Truth.{and-left, and-right}
 use Rattle.judge.specs.Verdict.{HELD, SURE}
@@ -70,10 +70,10 @@ unfolding frames nibblePlace
 half-damage =
     record {
       long = refl;
-      bytes = λ k b. ltb-true (getD half-hit k 0) 256 (below-at 16 (λ i. ltb (getD half-hit i 0) 256) refl k b);
+      bytes = λ k b. ltb-true (getD half-hit k 0) 256 (below-at 16 (λ i. getD half-hit i 0 <? 256) refl k b);
       least = omega (arith, half-two);
       most = omega (arith, half-two);
-      placed = λ k b. eqb-true (nibblePlace 0 (getD half-hit k 0)) (nibblePlace 0 (getD half k 0)) (below-at 16 (λ i. eqb (nibblePlace 0 (getD half-hit i 0)) (nibblePlace 0 (getD half i 0))) refl k b);
+      placed = λ k b. eqb-true (nibblePlace 0 (getD half-hit k 0)) (nibblePlace 0 (getD half k 0)) (below-at 16 (λ i. nibblePlace 0 (getD half-hit i 0) == nibblePlace 0 (getD half i 0)) refl k b);
     }
 
 next-damage : Damaged 0 3 next next-hit
@@ -81,28 +81,28 @@ unfolding frames nibblePlace
 next-damage =
     record {
       long = refl;
-      bytes = λ k b. ltb-true (getD next-hit k 0) 256 (below-at 16 (λ i. ltb (getD next-hit i 0) 256) refl k b);
+      bytes = λ k b. ltb-true (getD next-hit k 0) 256 (below-at 16 (λ i. getD next-hit i 0 <? 256) refl k b);
       least = omega (arith, next-two);
       most = omega (arith, next-two);
-      placed = λ k b. eqb-true (nibblePlace 0 (getD next-hit k 0)) (nibblePlace 0 (getD next k 0)) (below-at 16 (λ i. eqb (nibblePlace 0 (getD next-hit i 0)) (nibblePlace 0 (getD next i 0))) refl k b);
+      placed = λ k b. eqb-true (nibblePlace 0 (getD next-hit k 0)) (nibblePlace 0 (getD next k 0)) (below-at 16 (λ i. nibblePlace 0 (getD next-hit i 0) == nibblePlace 0 (getD next i 0)) refl k b);
     }
 
 abbrev came-after : ℕ → ℕ → List ℕ
-came-after i p = cond (eqb i 3 && eqb p 1) half-hit (cond (eqb i 5 && eqb p 0) next-hit (came i p))
+came-after i p = if i == 3 && p == 1 then half-hit else if i == 5 && p == 0 then next-hit else came i p
 
 abbrev after : Link
-after = linkOf came-after client 4 (λ t. eqb (t % 2) 0)
+after = linkOf came-after client 4 (λ t. t % 2 == 0)
 
 arrived-after : (i p : ℕ) → Arrived 0 3 (sent i p) (came-after i p)
-arrived-after i p = go (eqb i 3 && eqb p 1) refl
+arrived-after i p = go (i == 3 && p == 1) refl
   where
-    other : (b : Bool) → (eqb i 5 && eqb p 0) ≡ b → Arrived 0 3 (sent i p) (cond b next-hit (came i p))
-    other true e = let hi = eqb-true i 5 (and-left (eqb i 5) (eqb p 0) e) in let hp = eqb-true p 0 (and-right (eqb i 5) (eqb p 0) e) in inr (rw (hi, hp, next-sent) next-damage)
+    other : (b : Bool) → (i == 5 && p == 0) ≡ b → Arrived 0 3 (sent i p) (if b then next-hit else came i p)
+    other true e = let hi = eqb-true i 5 (and-left (i == 5) (p == 0) e) in let hp = eqb-true p 0 (and-right (i == 5) (p == 0) e) in inr (rw (hi, hp, next-sent) next-damage)
     other false e = arrived i p
 
-    go : (b : Bool) → (eqb i 3 && eqb p 1) ≡ b → Arrived 0 3 (sent i p) (cond b half-hit (cond (eqb i 5 && eqb p 0) next-hit (came i p)))
-    go true e = let hi = eqb-true i 3 (and-left (eqb i 3) (eqb p 1) e) in let hp = eqb-true p 1 (and-right (eqb i 3) (eqb p 1) e) in inr (rw (hi, hp, half-sent) half-damage)
-    go false e = other (eqb i 5 && eqb p 0) refl
+    go : (b : Bool) → (i == 3 && p == 1) ≡ b → Arrived 0 3 (sent i p) (if b then half-hit else if i == 5 && p == 0 then next-hit else came i p)
+    go true e = let hi = eqb-true i 3 (and-left (i == 3) (p == 1) e) in let hp = eqb-true p 1 (and-right (i == 3) (p == 1) e) in inr (rw (hi, hp, half-sent) half-damage)
+    go false e = other (i == 5 && p == 0) refl
 
 -- After frame time 55 all ports were ready.
 
@@ -144,32 +144,32 @@ later-not t done late un = un 55 (1 ∷ 0 ∷ []) [] refl (inl late) ready-then
 
 spared-after : (t p : ℕ) (done : List ℕ) → Unready (roadOf after) t done → NumberKept after t p
 unfolding frames lead
-spared-after t p done un brings = go (eqb (epochAt 0 x) 3 && eqb p 1) refl
+spared-after t p done un brings = go (epochAt 0 x == 3 && p == 1) refl
   where
     x : ℕ
-    x = t - cond (eqb p 0) 4 0
+    x = t - (if p == 0 then 4 else 0)
 
     -- a frame that brings MFI2 of the epoch at index 3 or of a later one to a port
-    late : (i : ℕ) → 3 ≤ i → (t - cond (eqb p 0) 4 0) / 16 ≡ i → 55 < t
+    late : (i : ℕ) → 3 ≤ i → (t - (if p == 0 then 4 else 0)) / 16 ≡ i → 55 < t
     late i l e =
-        let low : 48 ≤ t - cond (eqb p 0) 4 0 = omega arith in
-        ⊎-elim (λ (b : (t - cond (eqb p 0) 4 0) % 16 ≡ 8). omega arith) (λ (b : (t - cond (eqb p 0) 4 0) % 16 ≡ 8 + 1). omega arith) brings
+        let low : 48 ≤ t - (if p == 0 then 4 else 0) = omega arith in
+        ⊎-elim (λ (b : (t - (if p == 0 then 4 else 0)) % 16 ≡ 8). omega arith) (λ (b : (t - (if p == 0 then 4 else 0)) % 16 ≡ 8 + 1). omega arith) brings
 
-    other : (b : Bool) → (eqb (epochAt 0 (t - cond (eqb p 0) 4 0)) 5 && eqb p 0) ≡ b
-        → nibbleIn 0 (getD (cond b next-hit (came (epochAt 0 (t - cond (eqb p 0) 4 0)) p)) ((t - cond (eqb p 0) 4 0) % 16) 0) ≡ nibbleIn 0 (getD (sent (epochAt 0 (t - cond (eqb p 0) 4 0)) p) ((t - cond (eqb p 0) 4 0) % 16) 0)
-    other true e = absurd (later-not t done (late 5 (omega arith) (eqb-true (epochAt 0 (t - cond (eqb p 0) 4 0)) 5 (and-left (eqb (epochAt 0 (t - cond (eqb p 0) 4 0)) 5) (eqb p 0) e))) un)
-    other false e = number-kept (epochAt 0 (t - cond (eqb p 0) 4 0)) p ((t - cond (eqb p 0) 4 0) % 16) brings
+    other : (b : Bool) → (epochAt 0 (t - (if p == 0 then 4 else 0)) == 5 && p == 0) ≡ b
+        → nibbleIn 0 (getD (if b then next-hit else came (epochAt 0 (t - (if p == 0 then 4 else 0))) p) ((t - (if p == 0 then 4 else 0)) % 16) 0) ≡ nibbleIn 0 (getD (sent (epochAt 0 (t - (if p == 0 then 4 else 0))) p) ((t - (if p == 0 then 4 else 0)) % 16) 0)
+    other true e = absurd (later-not t done (late 5 (omega arith) (eqb-true (epochAt 0 (t - (if p == 0 then 4 else 0))) 5 (and-left (epochAt 0 (t - (if p == 0 then 4 else 0)) == 5) (p == 0) e))) un)
+    other false e = number-kept (epochAt 0 (t - (if p == 0 then 4 else 0))) p ((t - (if p == 0 then 4 else 0)) % 16) brings
 
-    go : (b : Bool) → (eqb (epochAt 0 (t - cond (eqb p 0) 4 0)) 3 && eqb p 1) ≡ b
-        → nibbleIn 0 (getD (cond b half-hit (cond (eqb (epochAt 0 (t - cond (eqb p 0) 4 0)) 5 && eqb p 0) next-hit (came (epochAt 0 (t - cond (eqb p 0) 4 0)) p))) ((t - cond (eqb p 0) 4 0) % 16) 0)
-        ≡ nibbleIn 0 (getD (sent (epochAt 0 (t - cond (eqb p 0) 4 0)) p) ((t - cond (eqb p 0) 4 0) % 16) 0)
-    go true e = absurd (later-not t done (late 3 (omega arith) (eqb-true (epochAt 0 (t - cond (eqb p 0) 4 0)) 3 (and-left (eqb (epochAt 0 (t - cond (eqb p 0) 4 0)) 3) (eqb p 1) e))) un)
-    go false e = other (eqb (epochAt 0 (t - cond (eqb p 0) 4 0)) 5 && eqb p 0) refl
+    go : (b : Bool) → (epochAt 0 (t - (if p == 0 then 4 else 0)) == 3 && p == 1) ≡ b
+        → nibbleIn 0 (getD (if b then half-hit else if epochAt 0 (t - (if p == 0 then 4 else 0)) == 5 && p == 0 then next-hit else came (epochAt 0 (t - (if p == 0 then 4 else 0))) p) ((t - (if p == 0 then 4 else 0)) % 16) 0)
+        ≡ nibbleIn 0 (getD (sent (epochAt 0 (t - (if p == 0 then 4 else 0))) p) ((t - (if p == 0 then 4 else 0)) % 16) 0)
+    go true e = absurd (later-not t done (late 3 (omega arith) (eqb-true (epochAt 0 (t - (if p == 0 then 4 else 0))) 3 (and-left (epochAt 0 (t - (if p == 0 then 4 else 0)) == 3) (p == 1) e))) un)
+    go false e = other (epochAt 0 (t - (if p == 0 then 4 else 0)) == 5 && p == 0) refl
 
 -- What demand 3 lets be so, whichever packets came, if they may and MFI2 is spared.
 met-with : (hits : ℕ → ℕ → List ℕ) → ((i p : ℕ) → Arrived 0 3 (sent i p) (hits i p))
-    → ((t p : ℕ) (done : List ℕ) → Unready (roadOf (linkOf hits client 4 (λ t. eqb (t % 2) 0))) t done → NumberKept (linkOf hits client 4 (λ t. eqb (t % 2) 0)) t p)
-    → Assumed (linkOf hits client 4 (λ t. eqb (t % 2) 0))
+    → ((t p : ℕ) (done : List ℕ) → Unready (roadOf (linkOf hits client 4 (λ t. t % 2 == 0))) t done → NumberKept (linkOf hits client 4 (λ t. t % 2 == 0)) t p)
+    → Assumed (linkOf hits client 4 (λ t. t % 2 == 0))
 unfolding sized frames tags
 met-with hits arrived spared =
     record {
@@ -184,8 +184,8 @@ met-with hits arrived spared =
         sizes = refl;
         client = λ x. length-tabulate (xAt history (epochAt 0 x) * 1) (λ j. (x * 2 + j) % 256);
         spread = spread-4;
-        once = λ t p h. once (eqb (t % 2) 0) p h;
-        only = λ t. only (eqb (t % 2) 0);
+        once = λ t p h. once (t % 2 == 0) p h;
+        only = λ t. only (t % 2 == 0);
         arrived = λ i p h. arrived i p;
         spared = λ t p done rest h is-order come un. spared t p done un;
         room = λ j. omega (arith, length-replicate {A = ℕ} 33 0xEE);
@@ -206,7 +206,7 @@ run-after = outcome-by after 180 _ refl
 
 -- A wrong reading: an epoch held for the MFI2 of a packet of its own. The first epoch reported is ruled by packets that came as sent, so demand 3 wants it sure.
 wrong-mark : Link → ℕ → ℕ
-wrong-mark k i = cond (every 2 (λ p. ownNumber (epochNumber 0 249 i) (nibblesIn 0 (k .came i p)))) SURE HELD
+wrong-mark k i = if every 2 (λ p. ownNumber (epochNumber 0 249 i) (nibblesIn 0 (k .came i p))) then SURE else HELD
 
 own-breaks : (wrong-mark after 5 ≡ HELD) × (expected after 4 output .mark ≡ SURE)
 unfolding outcome wrong-mark nibblesIn frames
@@ -225,10 +225,10 @@ unfolding outcome
 early-sent = refl
 
 abbrev came-before : ℕ → ℕ → List ℕ
-came-before i p = cond (eqb i 2 && eqb p 1) early-hit (came i p)
+came-before i p = if i == 2 && p == 1 then early-hit else came i p
 
 abbrev before : Link
-before = linkOf came-before client 4 (λ t. eqb (t % 2) 0)
+before = linkOf came-before client 4 (λ t. t % 2 == 0)
 
 unready-then : Unready (roadOf before) 41 []
 unfolding roadOf frames nextAt
@@ -273,36 +273,36 @@ unfolding frames nibblePlace
 other-damage =
     record {
       long = refl;
-      bytes = λ k b. ltb-true (getD other-hit k 0) 256 (below-at 16 (λ i. ltb (getD other-hit i 0) 256) refl k b);
+      bytes = λ k b. ltb-true (getD other-hit k 0) 256 (below-at 16 (λ i. getD other-hit i 0 <? 256) refl k b);
       least = omega (arith, other-three);
       most = omega (arith, other-three);
-      placed = λ k b. eqb-true (nibblePlace 0 (getD other-hit k 0)) (nibblePlace 0 (getD early k 0)) (below-at 16 (λ i. eqb (nibblePlace 0 (getD other-hit i 0)) (nibblePlace 0 (getD early i 0))) refl k b);
+      placed = λ k b. eqb-true (nibblePlace 0 (getD other-hit k 0)) (nibblePlace 0 (getD early k 0)) (below-at 16 (λ i. nibblePlace 0 (getD other-hit i 0) == nibblePlace 0 (getD early i 0)) refl k b);
     }
 
 abbrev came-elsewhere : ℕ → ℕ → List ℕ
-came-elsewhere i p = cond (eqb i 2 && eqb p 1) other-hit (came i p)
+came-elsewhere i p = if i == 2 && p == 1 then other-hit else came i p
 
 abbrev elsewhere : Link
-elsewhere = linkOf came-elsewhere client 4 (λ t. eqb (t % 2) 0)
+elsewhere = linkOf came-elsewhere client 4 (λ t. t % 2 == 0)
 
 arrived-elsewhere : (i p : ℕ) → Arrived 0 3 (sent i p) (came-elsewhere i p)
-arrived-elsewhere i p = go (eqb i 2 && eqb p 1) refl
+arrived-elsewhere i p = go (i == 2 && p == 1) refl
   where
-    go : (b : Bool) → (eqb i 2 && eqb p 1) ≡ b → Arrived 0 3 (sent i p) (cond b other-hit (came i p))
-    go true e = let hi = eqb-true i 2 (and-left (eqb i 2) (eqb p 1) e) in let hp = eqb-true p 1 (and-right (eqb i 2) (eqb p 1) e) in inr (rw (hi, hp, early-sent) other-damage)
+    go : (b : Bool) → (i == 2 && p == 1) ≡ b → Arrived 0 3 (sent i p) (if b then other-hit else came i p)
+    go true e = let hi = eqb-true i 2 (and-left (i == 2) (p == 1) e) in let hp = eqb-true p 1 (and-right (i == 2) (p == 1) e) in inr (rw (hi, hp, early-sent) other-damage)
     go false e = arrived i p
 
 kept-elsewhere : (i p k : ℕ) → BringsMfi2 0 k → nibbleIn 0 (getD (came-elsewhere i p) k 0) ≡ nibbleIn 0 (getD (sent i p) k 0)
 unfolding lead nibbleIn
-kept-elsewhere i p k brings = go (eqb i 2 && eqb p 1) refl
+kept-elsewhere i p k brings = go (i == 2 && p == 1) refl
   where
     both : BringsMfi2 0 k → nibbleIn 0 (getD other-hit k 0) ≡ nibbleIn 0 (getD early k 0)
     both = ⊎-elim (λ (e : k ≡ lead 0). rw e refl) (λ (e : k ≡ lead 0 + 1). rw e refl)
 
-    go : (b : Bool) → (eqb i 2 && eqb p 1) ≡ b → nibbleIn 0 (getD (cond b other-hit (came i p)) k 0) ≡ nibbleIn 0 (getD (sent i p) k 0)
-    go true e = let hi = eqb-true i 2 (and-left (eqb i 2) (eqb p 1) e) in let hp = eqb-true p 1 (and-right (eqb i 2) (eqb p 1) e) in rw (hi, hp, early-sent) (both brings)
+    go : (b : Bool) → (i == 2 && p == 1) ≡ b → nibbleIn 0 (getD (if b then other-hit else came i p) k 0) ≡ nibbleIn 0 (getD (sent i p) k 0)
+    go true e = let hi = eqb-true i 2 (and-left (i == 2) (p == 1) e) in let hp = eqb-true p 1 (and-right (i == 2) (p == 1) e) in rw (hi, hp, early-sent) (both brings)
     go false e = number-kept i p k brings
 
 holds-elsewhere : Demand3 elsewhere
 holds-elsewhere =
-    demand3 elsewhere (met-with came-elsewhere arrived-elsewhere (λ t p done un. kept-elsewhere (epochAt 0 (t - cond (eqb p 0) 4 0)) p ((t - cond (eqb p 0) 4 0) % frames 0)))
+    demand3 elsewhere (met-with came-elsewhere arrived-elsewhere (λ t p done un. kept-elsewhere (epochAt 0 (t - (if p == 0 then 4 else 0))) p ((t - (if p == 0 then 4 else 0)) % frames 0)))

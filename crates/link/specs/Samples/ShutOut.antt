@@ -73,8 +73,8 @@ ready-then = record { stepped = stepped; near = near }
     near (suc (suc p)) (suc q) hp hq = absurd (omega arith)
 
 -- the moment after frame time 179
-abbrev pub then : Time link
-then = record { t = 180; done = []; rest = link .order 180; is-order = refl }
+abbrev pub at-180 : Time link
+at-180 = record { t = 180; done = []; rest = link .order 180; is-order = refl }
 
 come-0 : coming (roadOf link) 180 (link .order 180) 0 ≡ 176
 come-0 = next-0 180 (link .order 180)
@@ -141,7 +141,7 @@ module _ (run : Run) (d : Promised link run) where
           go (suc zero) h e = let n = next-1 (b .time) (b .rest) in omega (arith, soon)
           go (suc (suc p)) h e = absurd (omega arith)
 
-  reported : Reported link run then → run 180 [] .told ≡ reports
+  reported : Reported link run at-180 → run 180 [] .told ≡ reports
   unfolding frames
   reported r = rw (six, fore) at (r .are) ∙ as-expected
     where
@@ -153,7 +153,7 @@ module _ (run : Run) (d : Promised link run) where
           ⊎-elim (λ (h : r .many ≤ 6). h)
           (λ (h : 6 < r .many). let w = r .arrived 6 h 0 (omega arith) in absurd (omega (arith, fore, come-0))) (le-or-lt (r .many) 6)
 
-      all : r .many < 6 → FullyArrived link then (suc (suc (r .F / 16) + r .many))
+      all : r .many < 6 → FullyArrived link at-180 (suc (suc (r .F / 16) + r .many))
       all h zero b = omega (arith, fore, come-0)
       all h (suc zero) b = omega (arith, fore, come-1)
       all h (suc (suc p)) b = absurd (omega arith)
@@ -172,9 +172,9 @@ module _ (run : Run) (d : Promised link run) where
 
   -- Its reports are then these six, whatever receiver it is.
   pub told-then : run 180 [] .told ≡ reports
-  told-then = go (d .always then)
+  told-then = go (d .always at-180)
     where
-      go : Stands link run then → run 180 [] .told ≡ reports
+      go : Stands link run at-180 → run 180 [] .told ≡ reports
       go (none-yet e un t) = absurd (omega (arith, has-begun))
       go (reporting e r) = reported r
 
@@ -228,10 +228,10 @@ module _ (run : Run) (d : Promised link run) where
   -- one that begins before all ports are ready
   pub begins-early : ((at : Time link) → hasBegun (run (at .t) (at .done)) ≡ 1) → ⊥
   unfolding roadOf
-  begins-early h = go (d .always then)
+  begins-early h = go (d .always at-180)
     where
-      go : Stands link run then → ⊥
-      go (none-yet e un t) = absurd (let b = h then in omega arith)
+      go : Stands link run at-180 → ⊥
+      go (none-yet e un t) = absurd (let b = h at-180 in omega arith)
       go (reporting e r) =
           let b = r .beginning in
           let w = h (record { t = b .time; done = b .done; rest = b .port ∷ b .rest; is-order = b .is-order }) in
@@ -295,7 +295,7 @@ by-theorem = told-then (reached (roadOf link) (started link)) itself
 fetched-out :
     (let m = ownRun link (started link) 180 [] in fetchAnswer (m .rows) (m .store) (outputAt (roadOf link) m) (lentAt (roadOf link) m) ≡ 0)
     × (getD (recordAt (roadOf link) (ownRun link (started link) 180 [])) 0 0 ≡ 0)
-fetched-out = demand3 link met .fetched-out (started link) starts then
+fetched-out = demand3 link met .fetched-out (started link) starts at-180
 
 -- The multiframe number is spared before frame time 41, when the ports have never been ready and receiving has not begun, and no longer from frame time 56 on (request 2026-04).
 

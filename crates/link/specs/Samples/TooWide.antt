@@ -4,8 +4,8 @@ use mathlib.Core.Bool.{Bool, false}
 use mathlib.Core.List.{List, [], _∷_}
 use Prim.Native.Nat.{ℕ, _%_}
 use native.Mathlib.Omega.{arith}
-use lib.Dec.{eqb}
 use lib.ListN.{drop, length}
+use Rattle.ground.specs.Plain.{_==_}
 use Rattle.judge.specs.Verdict.{DOUBTFUL}
 use Rattle.packet.specs.Kinds.{frames}
 use Rattle.link.specs.Assumed.{Assumed}
@@ -32,7 +32,7 @@ never-begins = outcome-by late-last 90 _ refl
 -- Where the late port comes first in every other frame time, receiving begins in the midst of one. Then a frame of the other port lies outside the window and is answered 11, and is lost with its epoch: of the
 -- first two epochs, which are to be sure with 16 and with 32 bytes, one is held and one doubtful with half its bytes.
 abbrev late-in-turn : Link
-late-in-turn = linkWith 5 (λ t. eqb (t % 2) 1)
+late-in-turn = linkWith 5 (λ t. t % 2 == 1)
 
 abbrev doubtful : ℕ → List ℕ → Told
 doubtful e bytes = record { epoch = e; mark = DOUBTFUL; bytes = bytes; rest = drop (length bytes) output }

@@ -1,23 +1,23 @@
 -- A run computed once for all that is said of it: where it comes to, and whether receiving had begun before each frame time. A frame and a fetch are computed only where one comes.
 use mathlib.Core.Path.{_≡_, refl, _∙_, ap}
 use mathlib.Core.Logic.{⊎-elim, _≢_}
-use mathlib.Core.Bool.{Bool, true, false, cond}
+use mathlib.Core.Bool.{Bool, true, false}
 use mathlib.Core.List.{List, [], _∷_}
 use Prim.Native.Nat.{ℕ, zero, suc, _+_, _-_, _≤_}
 use native.Mathlib.Omega.{arith}
-use lib.Dec.{eqb, leb}
 use lib.ListN.{getD}
+use Rattle.ground.specs.Plain.{if_then_else_, _==_, _≤?_}
 use Rattle.ground.specs.Truth.{eq-or-ne}
 use Rattle.link.specs.Link.{Link, roadOf}
 use Rattle.link.specs.Road.{Road}
 use Rattle.link.specs.Running.{Moment, drained, fetched, framed, hasBegun, recordAt, through, turn, turns}
 use Rattle.link.specs.Samples.Computing.{Outcome, outcome, outcomeOf, started}
 
-first-by : (b : Bool) (m x y : Moment) → x ≡ y → cond b m x ≡ elim b [ true ↦ m | false ↦ y ]
+first-by : (b : Bool) (m x y : Moment) → x ≡ y → (if b then m else x) ≡ elim b [ true ↦ m | false ↦ y ]
 first-by true m x y e = refl
 first-by false m x y e = e
 
-second-by : (b : Bool) (m x y : Moment) → x ≡ y → cond b x m ≡ elim b [ true ↦ y | false ↦ m ]
+second-by : (b : Bool) (m x y : Moment) → x ≡ y → (if b then x else m) ≡ elim b [ true ↦ y | false ↦ m ]
 second-by true m x y e = e
 second-by false m x y e = refl
 
@@ -29,20 +29,20 @@ pub record Trace : Type 0 where
 module _ (r : Road) where
   unfoldable pub drainedBy : ℕ → Moment → Moment
   drainedBy zero m = m
-  drainedBy (suc k) m = elim (eqb (getD (recordAt r m) 0 0) 0) [ true ↦ m | false ↦ drainedBy k (fetched r m) ]
+  drainedBy (suc k) m = elim (getD (recordAt r m) 0 0 == 0) [ true ↦ m | false ↦ drainedBy k (fetched r m) ]
 
   drained-by : (k : ℕ) (m : Moment) → drained r k m ≡ drainedBy k m
   unfolding drained drainedBy
   drained-by zero m = refl
-  drained-by (suc k) m = first-by (eqb (getD (recordAt r m) 0 0) 0) m (drained r k (fetched r m)) (drainedBy k (fetched r m)) (drained-by k (fetched r m))
+  drained-by (suc k) m = first-by (getD (recordAt r m) 0 0 == 0) m (drained r k (fetched r m)) (drainedBy k (fetched r m)) (drained-by k (fetched r m))
 
   unfoldable pub turnBy : ℕ → ℕ → Moment → Moment
-  turnBy t p m = elim (leb (r .delay p + r .first p) t) [ true ↦ drainedBy (r .window) (framed r p (t - r .delay p) m) | false ↦ m ]
+  turnBy t p m = elim (r .delay p + r .first p ≤? t) [ true ↦ drainedBy (r .window) (framed r p (t - r .delay p) m) | false ↦ m ]
 
   turn-by : (t p : ℕ) (m : Moment) → turn r t p m ≡ turnBy t p m
   unfolding turn turnBy
   turn-by t p m =
-      second-by (leb (r .delay p + r .first p) t) m (drained r (r .window) (framed r p (t - r .delay p) m)) (drainedBy (r .window) (framed r p (t - r .delay p) m))
+      second-by (r .delay p + r .first p ≤? t) m (drained r (r .window) (framed r p (t - r .delay p) m)) (drainedBy (r .window) (framed r p (t - r .delay p) m))
       (drained-by (r .window) (framed r p (t - r .delay p) m))
 
   unfoldable pub turnsBy : ℕ → List ℕ → Moment → Moment

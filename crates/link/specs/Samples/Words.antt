@@ -1,10 +1,10 @@
 -- The words in which demand 3 is said, each computed on a small history, link or moment with P 2: what is sent, what reaches the receiver, what is expected, and how the receiver is called.
 use mathlib.Core.Path.{_≡_, refl}
-use mathlib.Core.Bool.{_&&_, _||_, cond, false, true}
+use mathlib.Core.Bool.{_&&_, _||_, false, true}
 use mathlib.Core.List.{List, [], _∷_}
 use Prim.Native.Nat.{_%_, _*_, _+_, _-_, ℕ}
-use lib.Dec.{eqb, ltb}
 use lib.ListN.{length, replicate}
+use Rattle.ground.specs.Plain.{if_then_else_, _==_, _<?_}
 use Rattle.ground.specs.Table.{tabulate}
 use Rattle.judge.specs.Verdict.{doubtfulBy, eosWrong, gidDiffers, heldBy, judgeOf, lcasVerdict, missing, repeats}
 use Rattle.packet.specs.Counts.{counts, nibbleIn, startsCount}
@@ -52,7 +52,7 @@ history =
       kind = 0;
       slots = 3;
       first = 255;
-      before = λ i. cond (eqb i 0) (AddSlot 1 ∷ AddSlot 2 ∷ Report 0 0x00 0 ∷ []) (cond (eqb i 1) (Lapse ∷ RemoveSlot 2 ∷ []) []);
+      before = λ i. if i == 0 then AddSlot 1 ∷ AddSlot 2 ∷ Report 0 0x00 0 ∷ [] else if i == 1 then Lapse ∷ RemoveSlot 2 ∷ [] else [];
       gid = λ i. i % 2;
       mst = λ i. 0xF0 + i;
       ack = λ i. (i + 1) % 2;
@@ -60,7 +60,7 @@ history =
 
 -- what each slot sends and carries, P 2; the group frame at position x is 10, 11, 12, 13 from the second epoch on
 abbrev client : Client
-client x = cond (ltb x 16) [] (10 ∷ 11 ∷ 12 ∷ 13 ∷ [])
+client x = if x <? 16 then [] else 10 ∷ 11 ∷ 12 ∷ 13 ∷ []
 
 abbrev sending : Sending
 sending = sendingOf history 2 client (λ x slot. (0xD0 + slot) ∷ x ∷ [])
@@ -118,7 +118,7 @@ link =
       window = 32;
       client = client;
       pairing = λ p. 2 - p;
-      came = λ i p. cond ((eqb i 1 && eqb p 1) || (eqb i 2 && eqb p 0)) (replicate 16 0) (packet i (2 - p));
+      came = λ i p. if (i == 1 && p == 1) || (i == 2 && p == 0) then replicate 16 0 else packet i (2 - p);
       delay = λ p. 3 + p * 2;
       first = λ p. 5 + p;
       order = λ t. 1 ∷ 0 ∷ [];

@@ -1,7 +1,6 @@
 -- Eight bytes as one number, the first byte lowest, and eight such words as a block of eight by eight bytes.
-use mathlib.Core.Bool.{cond}
 use Prim.Native.Nat.{ℕ, _+_, _-_, _*_, _/_, _%_, _^_}
-use lib.Dec.{eqb}
+use Rattle.ground.specs.Plain.{if_then_else_, _==_}
 
 -- byte i of a word
 unfoldable pub byteOf : ℕ → ℕ → ℕ
@@ -15,11 +14,11 @@ wordOf b =
 -- A block is turned in three exchanges, by halves, by pairs and by single bytes: k is 4, 2 or 1. An exchange makes two words of two, a and b, k words apart:
 -- the even runs of k bytes, each of a before that of b; and the odd runs likewise.
 abbrev pub evens : ℕ → (ℕ → ℕ) → (ℕ → ℕ) → ℕ → ℕ
-evens k a b i = cond (eqb (i / k % 2) 0) (a i) (b (i - k))
+evens k a b i = if i / k % 2 == 0 then a i else b (i - k)
 
 abbrev pub odds : ℕ → (ℕ → ℕ) → (ℕ → ℕ) → ℕ → ℕ
-odds k a b i = cond (eqb (i / k % 2) 0) (a (i + k)) (b i)
+odds k a b i = if i / k % 2 == 0 then a (i + k) else b i
 
 -- the exchange on a block: q l i is byte i of word l
 abbrev pub exchanged : ℕ → (ℕ → ℕ → ℕ) → ℕ → ℕ → ℕ
-exchanged k q l i = cond (eqb (l / k % 2) 0) (evens k (q l) (q (l + k)) i) (odds k (q (l - k)) (q l) i)
+exchanged k q l i = if l / k % 2 == 0 then evens k (q l) (q (l + k)) i else odds k (q (l - k)) (q l) i
