@@ -12,13 +12,13 @@ const char *levelspruce_answer_text(uint32_t answer)
     case LEVELSPRUCE_ANSWER_DONE:
         return "done";
     case LEVELSPRUCE_ANSWER_SLOT:
-        return "the slot or port is not below the group's count, or there is no such group";
+        return "no such slot, port or group";
     case LEVELSPRUCE_ANSWER_STATE:
-        return "not allowed now: by the slot's state, no wait open, no epoch started, or changes that do not fit";
+        return "not allowed now";
     case LEVELSPRUCE_ANSWER_WAIT:
         return "a wait is open";
     case LEVELSPRUCE_ANSWER_RANGE:
-        return "a count, P, W, X, delay, time or kind is out of range";
+        return "a number is out of range";
     case LEVELSPRUCE_ANSWER_CRC:
         return "the packet's CRC differs";
     case LEVELSPRUCE_ANSWER_UNASSIGNED:

@@ -29,6 +29,7 @@ struct text {
 struct path {
     char name[NAME_MOST];
     size_t length;
+    unsigned long line;
 };
 
 static struct path paths[PATHS_KEPT];
@@ -79,7 +80,7 @@ static int take_first(struct text line)
         && line.at == NULL;
 }
 
-static int take_path(struct text line)
+static int take_path(struct text line, unsigned long number)
 {
     struct text name;
     uint32_t delay;
@@ -90,6 +91,7 @@ static int take_path(struct text line)
     if (count < PATHS_KEPT) {
         memcpy(paths[count].name, name.at, name.length);
         paths[count].length = name.length;
+        paths[count].line = number;
         delays[count] = delay;
         count++;
     }
@@ -118,7 +120,7 @@ static unsigned long read_lines(void)
 
     for (number = 1; read_line(kept, &line.length) == 0; number++) {
         line.at = kept;
-        if (line.length > LINE_MOST || !(number == 1 ? take_first(line) : take_path(line)))
+        if (line.length > LINE_MOST || !(number == 1 ? take_first(line) : take_path(line, number)))
             return number;
     }
     return number == 1 ? 1 : 0;
@@ -175,6 +177,33 @@ static int says_plan(const uint8_t *plan)
     return PLANNED;
 }
 
+/* Says which number is out of range: of several the first in the order of the input. */
+static void says_range(void)
+{
+    size_t i;
+
+    printf("answer\t%d\t", LEVELSPRUCE_ANSWER_RANGE);
+    if (wanted == 0) {
+        printf("line\t1\tjoin\t0\tnone wanted\n");
+        return;
+    }
+    if (window < LEVELSPRUCE_WINDOW_LEAST || window > LEVELSPRUCE_WINDOW_MOST) {
+        printf("line\t1\twindow\t%" PRIu32 "\tnot %d to %d\n", window, LEVELSPRUCE_WINDOW_LEAST, LEVELSPRUCE_WINDOW_MOST);
+        return;
+    }
+    for (i = 0; i < count && i < LEVELSPRUCE_PATHS_MOST; i++)
+        if (delays[i] > LEVELSPRUCE_DELAY_MOST) {
+            printf("line\t%lu\tdelay\t%" PRIu32 "\tabove %d\n", paths[i].line, delays[i], LEVELSPRUCE_DELAY_MOST);
+            return;
+        }
+    if (count > LEVELSPRUCE_PATHS_MOST)
+        printf("line\t%lu\tmore than %d paths\n", paths[LEVELSPRUCE_PATHS_MOST].line, LEVELSPRUCE_PATHS_MOST);
+    else if (count == 0)
+        printf("no path\n");
+    else
+        printf("line\t1\tjoin\t%" PRIu32 "\tpaths\t%lu\n", wanted, (unsigned long)count);
+}
+
 int main(void)
 {
     uint8_t plan[LEVELSPRUCE_PLAN_BYTES], answer;
@@ -187,12 +216,12 @@ int main(void)
     }
     /* a plan from half the paths would mislead */
     if (malformed != 0) {
-        printf("answer\t13\tline\t%lu\n", malformed);
+        printf("answer\t13\tline\t%lu\tmalformed\n", malformed);
         return REFUSED;
     }
     answer = levelspruce_paths_plan(delays, count, wanted, window, plan, sizeof plan);
     if (answer != LEVELSPRUCE_ANSWER_DONE) {
-        printf("answer\t%d\n", answer);
+        says_range();
         return REFUSED;
     }
     status = plan[LEVELSPRUCE_PLAN_COUNT] == 0 ? says_none() : says_plan(plan);
