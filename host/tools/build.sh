@@ -31,9 +31,10 @@ build_shared() {
 # build_choices: the program that only reads the example link's choices.
 build_choices() {
     mkdir -p target/host
+    # another run may be at it too: what is built is put in its place whole
     # shellcheck disable=SC2086
-    $archive_compiler -std=c99 $strict host/choices/main.c host/link/choices.c host/link/client.c host/link/drawing.c host/link/random.c \
-        -o target/host/choices
+    $archive_compiler -std=c99 $strict host/choices/main.c host/link/choices.c host/link/client.c host/link/drawing.c host/link/files.c \
+        host/link/random.c -o "target/host/choices.$$" && mv "target/host/choices.$$" target/host/choices
 }
 
 # build_c NAME SOURCE WORD..: a C program over the archive.

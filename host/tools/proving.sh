@@ -7,6 +7,19 @@ has_toolchain() {
     return 1
 }
 
+# alone: from here to this script's end nothing else is proved or built below target/. Where another run is at it, this one waits
+# and says so. What was to be made may be there then.
+alone() {
+    mkdir -p target
+    exec 9>target/lock
+    if command -v flock >/dev/null && ! flock -n 9; then
+        echo 'another run is proving and building here: waiting until it is done' >&2
+        until flock -w 30 9; do
+            echo "still waiting: $(cat target/proving.now 2>/dev/null || echo the other run builds)" >&2
+        done
+    fi
+}
+
 # The file that says which toolchain it is; none where it is not here, since then nothing can be proved again.
 kit_id() { command -v rt >/dev/null && echo "$(dirname "$(dirname "$(rt doc)")")/KIT-ID"; }
 
@@ -116,10 +129,10 @@ proving() {
     while sleep 30 >/dev/null 2>&1 && kill -0 $$ 2>/dev/null; do
         seconds=$((seconds + 30))
         echo "$(cat target/proving.now), $seconds seconds so far" >&2
-    done &
+    done 9>&- &
     says=$!
     {
-        prove_all "$@" 2>&1
+        prove_all "$@" 2>&1 9>&-
         echo $? >target/proving.status
     } | tee target/proving.out | grep --line-buffered '^proving \|^rt: .*[0-9] s)$\|NOT PROVED' >&2
     kill "$says" 2>/dev/null
