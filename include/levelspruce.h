@@ -5,7 +5,7 @@
  * levelspruce, or find_package(levelspruce) in CMake. docs/MANUAL.md says how a
  * host uses the calls.
  *
- * For every call (but those three that only give a text):
+ * For every call (but those that only give a text):
  * - The result is the answer number. Any answer but 0 is a refusal.
  * - A refusal changes no byte of any buffer, but for these, which change the
  *   state and nothing else: 4 of levelspruce_sender_start, of
@@ -182,6 +182,24 @@ const char *levelspruce_answer_text(uint32_t answer);
  * The name of a control word, as ADD; of any other number, unassigned.
  */
 const char *levelspruce_word_name(uint32_t word);
+
+/*
+ * The name of a report's mark: none, held, doubtful or sure; of any other
+ * number, unknown.
+ */
+const char *levelspruce_mark_name(uint32_t mark);
+
+/*
+ * The name of a port's member state: IDLE, FAIL or OK; of any other number,
+ * unknown.
+ */
+const char *levelspruce_state_name(uint32_t state);
+
+/*
+ * The name of what a port waits for: none, hold-off or restore; of any other
+ * number, unknown.
+ */
+const char *levelspruce_waiting_name(uint32_t waiting);
 
 /*
  * Writes one control packet as the sixteen H4 bytes that carry it.
