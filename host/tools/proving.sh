@@ -1,10 +1,14 @@
 # Sourced at the repository's top: what is built from proved crates, once and again when a crate has changed.
 
-# Whether the Rattle toolchain is here; a line says so if not.
+# Whether the Rattle toolchain is here; a line says so if not, and if it is another than the one of the file toolchain, with which
+# all was proved.
 has_toolchain() {
-    command -v rt >/dev/null && return
-    echo 'the Rattle toolchain is not here: its command rt is not among the programs on PATH' >&2
-    return 1
+    if ! command -v rt >/dev/null; then
+        echo "the Rattle toolchain is not here: its command rt is not among the programs on PATH (wanted: $(cat toolchain))" >&2
+        return 1
+    fi
+    [ "$(rt version)" = "$(cat toolchain)" ] ||
+        echo "the toolchain here is '$(rt version)', and this was proved with '$(cat toolchain)': what holds there may not be proved here" >&2
 }
 
 # alone: from here to this script's end nothing else is proved or built below target/. Where another run is at it, this one waits
