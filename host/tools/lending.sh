@@ -29,11 +29,19 @@ lent() {
         echo "a $what has one file, and not also '$2'" >&2
         exit 2
     fi
-    if [ "$input" != - ] && { [ ! -r "$input" ] || [ -d "$input" ]; }; then
-        echo "cannot read the file '$1'" >&2
+    reads "$input" "${1:-}"
+}
+
+# reads FILE NAMED: goes on where the file can be read, or is standard input (-)
+reads() {
+    if [ "$1" != - ] && { [ ! -r "$1" ] || [ -d "$1" ]; }; then
+        echo "cannot read the file '$2'" >&2
         exit 2
     fi
 }
+
+# greets CALLED: says at a terminal how lines are typed
+greets() { echo "type a line with a tab between its fields, as: size, tab, 2. Ctrl-D ends; $1 --help names the lines" >&2; }
 
 # written WORD..: runs a proved program and ends with its status. Such a program has none to say by that an answer could not
 # be written; what its answers are passed on by has one.
