@@ -22,9 +22,10 @@ build_archive() {
 # The first two numbers of the version: with another of them calls may have changed.
 series() { version | cut -d . -f 1,2; }
 
-# build_shared FILE: the shared library. Its name for programs that were linked with it goes by the version's first two numbers.
+# build_shared FILE: the shared library. Its name for programs that were linked with it goes by the version's first two numbers. Names
+# that it does not show are left out, so that no packager has to take them out and change its bytes.
 build_shared() {
-    "$shared_compiler" -shared -o "$1" -Wl,-soname,"liblevelspruce.so.$(series)" \
+    "$shared_compiler" -shared -s -o "$1" -Wl,-soname,"liblevelspruce.so.$(series)" \
         -Wl,--version-script=host/library/exports -Wl,-z,defs -Wl,--whole-archive "$archive" -Wl,--no-whole-archive
 }
 
