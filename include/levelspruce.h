@@ -1,11 +1,11 @@
 /*
  * levelspruce.h: the calls of Levelspruce for a C or C++ host.
  *
- * ./install puts the library below a prefix: pkg-config --cflags --libs
- * levelspruce, or find_package(levelspruce) in CMake. docs/MANUAL.md says how a
+ * Where the library is installed, pkg-config --cflags --libs levelspruce finds
+ * it, and find_package(levelspruce) in CMake. The manual, MANUAL.md, says how a
  * host uses the calls.
  *
- * For every call (but those three that only give a text):
+ * For every call (but those that only give a text):
  * - The result is the answer number. Any answer but 0 is a refusal.
  * - A refusal changes no byte of any buffer, but for these, which change the
  *   state and nothing else: 4 of levelspruce_sender_start, of
@@ -20,8 +20,8 @@
  *   of levelspruce_receiver_reply.
  * - A buffer is a pointer and its length in bytes; where the pointer is to rows
  *   (a receiver's state, its ports), the length counts rows, and where it is to
- *   numbers (delays, times), numbers. The whole length must be the caller's to use. NULL with
- *   length 0 is an empty buffer.
+ *   numbers (delays, times), numbers. The whole length must be the caller's to
+ *   use. NULL with length 0 is an empty buffer.
  * - A buffer is lent for the time of the call.
  * - The buffers of one call must not overlap.
  * - Nothing is kept between calls, so different threads may call at once with
@@ -182,6 +182,24 @@ const char *levelspruce_answer_text(uint32_t answer);
  * The name of a control word, as ADD; of any other number, unassigned.
  */
 const char *levelspruce_word_name(uint32_t word);
+
+/*
+ * The name of a report's mark: none, held, doubtful or sure; of any other
+ * number, unknown.
+ */
+const char *levelspruce_mark_name(uint32_t mark);
+
+/*
+ * The name of a port's member state: IDLE, FAIL or OK; of any other number,
+ * unknown.
+ */
+const char *levelspruce_state_name(uint32_t state);
+
+/*
+ * The name of what a port waits for: none, hold-off or restore; of any other
+ * number, unknown.
+ */
+const char *levelspruce_waiting_name(uint32_t waiting);
 
 /*
  * Writes one control packet as the sixteen H4 bytes that carry it.
@@ -1073,8 +1091,9 @@ uint8_t levelspruce_receiver_frame(uint8_t (*state)[LEVELSPRUCE_ROW_BYTES],
  *              nor out changes
  *   HELD       X and the count are 0, and no byte of out changes; the window
  *              moves on, and member states and RS-Ack are worked out
- *   DOUBTFUL,  the first 16 * X * P bytes of out are sixteen group frames of
- *   SURE       X * P bytes, and the rest of out stays; for the state as HELD
+ *   DOUBTFUL   the first 16 * X * P bytes of out are sixteen group frames of
+ *              X * P bytes, and the rest of out stays; for the state as HELD
+ *   SURE       as DOUBTFUL
  */
 LEVELSPRUCE_MUST_USE
 uint8_t levelspruce_receiver_fetch(uint8_t (*state)[LEVELSPRUCE_ROW_BYTES],

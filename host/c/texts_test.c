@@ -1,4 +1,4 @@
-/* The texts of the library: its version, what answers mean, the names of control words. */
+/* The texts of the library: its version, what answers mean, the names of control words, marks, states and waits. */
 #include <levelspruce.h>
 
 #include <string.h>
@@ -21,6 +21,36 @@ static int all_differ(const char *(*text)(uint32_t), uint32_t limit)
             if (strcmp(text(i), text(j)) == 0)
                 return 0;
     return 1;
+}
+
+/* Whether the numbers from 0 on have these names, and all others are unknown. */
+static int named_so(const char *(*name)(uint32_t), const char *const *names, uint32_t count)
+{
+    static const uint32_t beyond[] = { 255, 256, 257, 0xFFFFFFFFu };
+    uint32_t i;
+
+    for (i = 0; i < count; i++)
+        if (strcmp(name(i), names[i]) != 0)
+            return 0;
+    for (i = 0; i < COUNT(beyond); i++)
+        if (strcmp(name(beyond[i]), "unknown") != 0)
+            return 0;
+    return strcmp(name(count), "unknown") == 0;
+}
+
+static void names(void)
+{
+    static const char *const marks[] = { "none", "held", "doubtful", "sure" };
+    static const char *const states[] = { "IDLE", "FAIL", "OK" };
+    static const char *const waits[] = { "none", "hold-off", "restore" };
+
+    check("the marks have their names, and all others none", named_so(levelspruce_mark_name, marks, COUNT(marks))
+                                                                 && strcmp(levelspruce_mark_name(LEVELSPRUCE_MARK_HELD), "held") == 0
+                                                                 && strcmp(levelspruce_mark_name(LEVELSPRUCE_MARK_SURE), "sure") == 0);
+    check("so have the states", named_so(levelspruce_state_name, states, COUNT(states))
+                                    && strcmp(levelspruce_state_name(LEVELSPRUCE_PORT_FAIL), "FAIL") == 0);
+    check("so has what a port waits for", named_so(levelspruce_waiting_name, waits, COUNT(waits))
+                                              && strcmp(levelspruce_waiting_name(LEVELSPRUCE_WAITING_HOLD_OFF), "hold-off") == 0);
 }
 
 int main(void)
@@ -49,5 +79,6 @@ int main(void)
     for (i = 0; i < COUNT(words); i++)
         named = named && strcmp(levelspruce_word_name(words[i].word), words[i].name) == 0;
     check("the control words have their names, and all others none", named);
+    names();
     return tally();
 }

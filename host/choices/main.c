@@ -6,6 +6,7 @@
 
 #include "../link/choices.h"
 #include "../link/client.h"
+#include "../link/files.h"
 
 /* Whether a file can be written, if one is named. */
 static int can_write(const char *file)
@@ -28,8 +29,8 @@ int main(int count, char **words)
 
     if (choices_read(&c, count - 1, words + 1) != 0)
         return 2;
-    if (client_open(&client, c.file) != 0)
+    if (client_open(&client, &c) != 0)
         return 2;
     client_close(&client);
-    return can_write(c.out) && can_write(c.record) ? 0 : 2;
+    return can_write(c.out) && can_write(c.record) && can_write(c.heads) && files_differ(&c) == 0 ? 0 : 2;
 }

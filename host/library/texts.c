@@ -1,4 +1,5 @@
-/* The texts of the library: its version, what an answer means, the name of a control word. Nothing else of it is C. */
+/* The texts of the library: its version, what an answer means, the names of control words, marks, states and waits. Nothing
+ * else of it is C. */
 #include <levelspruce.h>
 
 const char *levelspruce_version(void)
@@ -12,13 +13,13 @@ const char *levelspruce_answer_text(uint32_t answer)
     case LEVELSPRUCE_ANSWER_DONE:
         return "done";
     case LEVELSPRUCE_ANSWER_SLOT:
-        return "the slot or port is not below the group's count, or there is no such group";
+        return "no such slot, port or group";
     case LEVELSPRUCE_ANSWER_STATE:
-        return "not allowed now: by the slot's state, no wait open, no epoch started, or changes that do not fit";
+        return "not allowed now";
     case LEVELSPRUCE_ANSWER_WAIT:
         return "a wait is open";
     case LEVELSPRUCE_ANSWER_RANGE:
-        return "a count, P, W, X, delay, time or kind is out of range";
+        return "a number is out of range";
     case LEVELSPRUCE_ANSWER_CRC:
         return "the packet's CRC differs";
     case LEVELSPRUCE_ANSWER_UNASSIGNED:
@@ -62,4 +63,31 @@ const char *levelspruce_word_name(uint32_t word)
     default:
         return "unassigned";
     }
+}
+
+/* The name of a number below a limit. */
+static const char *name_of(const char *const *names, uint32_t limit, uint32_t number)
+{
+    return number < limit ? names[number] : "unknown";
+}
+
+const char *levelspruce_mark_name(uint32_t mark)
+{
+    static const char *const names[] = { "none", "held", "doubtful", "sure" };
+
+    return name_of(names, LEVELSPRUCE_MARK_SURE + 1, mark);
+}
+
+const char *levelspruce_state_name(uint32_t state)
+{
+    static const char *const names[] = { "IDLE", "FAIL", "OK" };
+
+    return name_of(names, LEVELSPRUCE_PORT_OK + 1, state);
+}
+
+const char *levelspruce_waiting_name(uint32_t waiting)
+{
+    static const char *const names[] = { "none", "hold-off", "restore" };
+
+    return name_of(names, LEVELSPRUCE_WAITING_RESTORE + 1, waiting);
 }

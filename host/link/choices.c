@@ -4,6 +4,7 @@
 #include <string.h>
 
 #include "drawing.h"
+#include "files.h"
 #include "random.h"
 
 enum { FRAME_MOST = 1000000000, EPOCH_MOST = FRAME_MOST / LEVELSPRUCE_EPOCH_FRAMES, EPOCHS_USUAL = 160 };
@@ -11,7 +12,7 @@ enum { FRAME_MOST = 1000000000, EPOCH_MOST = FRAME_MOST / LEVELSPRUCE_EPOCH_FRAM
 enum choice {
     SLOTS, PAYLOAD, WINDOW, PORTS, DELAYS, FIRST, NUMBERS, FIXED, BACK, NUMBER,
     ADD, REMOVE, DAMAGE, FAIL, HOLD_OFF, RESTORE, LAPSE, LATE, AT_ONCE, SEED, EPOCHS,
-    FILE_IN, FILE_OUT, RECORD, DOUBTFUL, EACH, QUIET, HELP, CHOICES
+    FILE_IN, FILE_OUT, RECORD, HEADS, DOUBTFUL, EACH, QUIET, HELP, VERSION, CHOICES
 };
 
 /* Those up to EPOCHS shape the link, so that with one of them the default run's shape is not taken. */
@@ -22,8 +23,8 @@ static const struct {
     { "--slots", 1 }, { "--payload", 1 }, { "--window", 1 }, { "--ports", 1 }, { "--delays", 1 }, { "--first", 1 },
     { "--numbers", 1 }, { "--fixed", 0 }, { "--back", 1 }, { "--number", 1 }, { "--add", 1 }, { "--remove", 1 }, { "--damage", 1 }, { "--fail", 1 },
     { "--hold-off", 1 }, { "--restore", 1 }, { "--lapse", 1 }, { "--late", 1 }, { "--at-once", 0 }, { "--seed", 1 },
-    { "--epochs", 1 }, { "--file", 1 }, { "--out", 1 }, { "--record", 1 },
-    { "--doubtful", 0 }, { "--each", 0 }, { "--quiet", 0 }, { "--help", 0 }
+    { "--epochs", 1 }, { "--file", 1 }, { "--out", 1 }, { "--record", 1 }, { "--record-heads", 1 },
+    { "--doubtful", 0 }, { "--each", 0 }, { "--quiet", 0 }, { "--help", 0 }, { "--version", 0 }
 };
 
 /* The word given with each choice, or NULL. */
@@ -336,12 +337,14 @@ int choices_read(struct choices *c, int count, char **words)
     c->whole_file = c->file != NULL && g.word[EPOCHS] == NULL;
     c->out = g.word[FILE_OUT];
     c->record = g.word[RECORD];
+    c->heads = g.word[HEADS];
     c->doubtful = g.word[DOUBTFUL] != NULL;
     c->fixed = g.word[FIXED] != NULL;
     c->each = g.word[EACH] != NULL;
     c->quiet = g.word[QUIET] != NULL;
     c->help = g.word[HELP] != NULL;
-    if (c->help)
+    c->version = g.word[VERSION] != NULL;
+    if (c->help || c->version)
         return 0;
     if (c->doubtful && c->out == NULL) {
         fprintf(stderr, "link: --doubtful adds to the file of --out, and there is no --out\n");
@@ -368,5 +371,6 @@ int choices_read(struct choices *c, int count, char **words)
         c->adds.count = c->removes.count = c->back = 0;
     if (g.word[EPOCHS] == NULL && (g.word[DELAYS] != NULL || g.word[BACK] != NULL))
         c->epochs += epochs_on_the_way(c);
-    return 0;
+    c->carried = c->epochs * LEVELSPRUCE_EPOCH_FRAMES * c->slots * c->payload;
+    return files_differ(c);
 }

@@ -6,6 +6,9 @@
 
 #include "text.h"
 
+/* The most bytes of a file whose length is not known beforehand. */
+enum { UNKNOWN_MOST = 1 << 26 };
+
 static int no_memory(void)
 {
     fprintf(stderr, "link: there is not enough memory for the file\n");
@@ -23,42 +26,75 @@ static int open_text(struct client *c)
     return 0;
 }
 
-/* Reads a file to its end, of whatever length it is. */
-static int open_file(struct client *c, const char *file)
+static int cannot_read(const char *file)
 {
-    FILE *from = fopen(file, "rb");
+    fprintf(stderr, "link: cannot read the file '%s'\n", file);
+    return -1;
+}
+
+/* Whether a file's length can be told beforehand: not that of a pipe or of a device. */
+static int length_is_known(FILE *from)
+{
+    int known = fseek(from, 0, SEEK_END) == 0 && ftell(from) > 0;
+
+    rewind(from);
+    return known;
+}
+
+/* How many bytes of a file are read at most. So many epochs carry no more than that; where it is to be as many epochs as it takes, and
+ * the file may have no end, there is a limit. */
+static uint64_t most_of(const struct choices *choices, FILE *from)
+{
+    if (!choices->whole_file)
+        return choices->carried;
+    return length_is_known(from) ? SIZE_MAX - 1 : UNKNOWN_MOST;
+}
+
+/* Reads to the file's end, and not past so many bytes and one more. */
+static int read_bytes(struct client *c, FILE *from, uint64_t most)
+{
     size_t room = 0, got = 1;
 
-    if (from == NULL) {
-        fprintf(stderr, "link: cannot read the file '%s'\n", file);
-        return -1;
-    }
-    while (got > 0) {
+    while (got > 0 && c->length <= most) {
         if (c->length == room) {
             uint8_t *more = realloc(c->bytes, room = 2 * room + 65536);
 
-            if (more == NULL) {
-                fclose(from);
+            if (more == NULL)
                 return no_memory();
-            }
             c->bytes = more;
         }
-        got = fread(c->bytes + c->length, 1, room - c->length, from);
+        got = fread(c->bytes + c->length, 1, most + 1 - c->length < room - c->length ? (size_t)(most + 1 - c->length) : room - c->length, from);
         c->length += got;
     }
-    if (ferror(from)) {
-        fprintf(stderr, "link: cannot read the file '%s'\n", file);
-        fclose(from);
-        return -1;
-    }
-    fclose(from);
     return 0;
 }
 
-int client_open(struct client *c, const char *file)
+static int open_file(struct client *c, const struct choices *choices)
+{
+    FILE *from = fopen(choices->file, "rb");
+    uint64_t most;
+    int failed;
+
+    if (from == NULL)
+        return cannot_read(choices->file);
+    most = most_of(choices, from);
+    failed = read_bytes(c, from, most) != 0 ? -1 : ferror(from) ? cannot_read(choices->file) : 0;
+    fclose(from);
+    c->cut = c->length > most;
+    if (failed != 0 || !c->cut)
+        return failed;
+    c->length = (size_t)most;
+    if (!choices->whole_file)
+        return 0;
+    fprintf(stderr, "link: the file '%s' has more than %d bytes, and its end is not known: --epochs N sends what N epochs carry\n",
+            choices->file, UNKNOWN_MOST);
+    return -1;
+}
+
+int client_open(struct client *c, const struct choices *choices)
 {
     memset(c, 0, sizeof *c);
-    if ((file == NULL ? open_text(c) : open_file(c, file)) != 0)
+    if ((choices->file == NULL ? open_text(c) : open_file(c, choices)) != 0)
         return -1;
     c->came = malloc(c->length + 1);
     c->has_come = calloc(c->length + 1, 1);
@@ -144,7 +180,7 @@ void client_came(struct client *c, uint64_t from, const uint8_t *bytes, size_t c
 
 int client_all_came(const struct client *c)
 {
-    return memchr(c->has_come, 0, c->length) == NULL;
+    return !c->cut && memchr(c->has_come, 0, c->length) == NULL;
 }
 
 void client_close(struct client *c)

@@ -5,16 +5,19 @@
 #include <stddef.h>
 #include <stdint.h>
 
+#include "choices.h"
+
 struct client {
     uint8_t *bytes;
     size_t length;
     int repeats; /* the built-in text, over and over; a file is followed by zeros */
+    int cut; /* the file has more bytes than these */
     uint64_t sent;
     uint8_t *came, *has_come; /* bytes of the text or file that came out sure, and which did */
 };
 
-/* The built-in text where the file is NULL. -1 where it cannot be read: then a line on standard error says so. */
-int client_open(struct client *c, const char *file);
+/* The file that was chosen, or the built-in text. -1 where it cannot be read: then a line on standard error says so. */
+int client_open(struct client *c, const struct choices *choices);
 
 /* Whether all of a file is sent. */
 int client_is_sent(const struct client *c);

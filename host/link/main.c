@@ -11,6 +11,7 @@
 #include "choices.h"
 #include "client.h"
 #include "damage.h"
+#include "files.h"
 #include "line.h"
 #include "receiving.h"
 #include "says.h"
@@ -19,9 +20,10 @@
 
 enum { EPOCH_FRAMES = LEVELSPRUCE_EPOCH_FRAMES, WITH_NOTHING_MOST = 4096 };
 
-static const char help[] =
+/* In parts, since a compiler need not take one string of such a length. */
+static const char *const help[] = {
 #include "help.h"
-    ;
+};
 
 struct link {
     struct choices choices;
@@ -44,7 +46,7 @@ static int link_open(struct link *l)
     uint32_t slot, least_delay = c->delay[0], most_delay = 0;
     int opened;
 
-    if (client_open(&l->client, c->file) != 0 || tally_open(&l->tally, c->out, c->doubtful) != 0)
+    if (client_open(&l->client, c) != 0 || tally_open(&l->tally, c->out, c->doubtful) != 0)
         return -1;
     for (slot = 0; slot < c->slots; slot++) {
         l->slot_of[c->port[slot]] = slot;
@@ -57,9 +59,11 @@ static int link_open(struct link *l)
     }
     opened = slot < c->slots || sending_open(&l->sending, c) != 0 ? -1 : receiving_open(&l->receiving, c);
     if (opened == -2) {
-        fprintf(stderr, "link: the file '%s' cannot be written\n", c->record);
+        fprintf(stderr, "link: the recording cannot be written\n");
         return -1;
     }
+    if (files_differ(c) != 0)
+        return -1;
     if (opened != 0) {
         fprintf(stderr, "link: there is not enough memory for a link of this size\n");
         return -1;
@@ -268,12 +272,17 @@ static void run(struct link *l)
 int main(int count, char **words)
 {
     static struct link l;
+    size_t part;
     int status;
 
     if (choices_read(&l.choices, count - 1, words + 1) != 0)
         return 2;
-    if (l.choices.help) {
-        fputs(help, stdout);
+    for (part = 0; l.choices.help && part < sizeof help / sizeof *help; part++)
+        fputs(help[part], stdout);
+    if (l.choices.help)
+        return 0;
+    if (l.choices.version) {
+        printf("levelspruce %s\n", levelspruce_version());
         return 0;
     }
     if (link_open(&l) != 0)

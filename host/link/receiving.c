@@ -6,38 +6,69 @@
 #include "says.h"
 
 /* A line of a recording: port, H4, flag and payload, in the order in which frames are handed over. */
-static void record_frame(struct receiving *r, uint32_t port, int failed, uint8_t h4, const uint8_t *payload)
+static void record_line(const struct recording *r, uint32_t port, int failed, uint8_t h4, const uint8_t *payload)
 {
     size_t i;
 
-    if (r->record == NULL)
+    if (r->to == NULL)
         return;
-    fprintf(r->record, "%lu\t%02X\t%d\t", (unsigned long)port, (unsigned)h4, failed);
+    fprintf(r->to, "%lu\t%02X\t%d\t", (unsigned long)port, (unsigned)h4, failed);
     for (i = 0; i < r->payload; i++)
-        fprintf(r->record, "%02X", (unsigned)payload[i]);
-    putc('\n', r->record);
+        fprintf(r->to, "%02X", (unsigned)payload[i]);
+    putc('\n', r->to);
+}
+
+static void record_frame(const struct receiving *r, uint32_t port, int failed, uint8_t h4, const uint8_t *payload)
+{
+    size_t i;
+
+    for (i = 0; i < sizeof r->recordings / sizeof *r->recordings; i++)
+        record_line(&r->recordings[i], port, failed, h4, payload);
 }
 
 /* A list of a recording's first line: the number of every port, where it is not 0. */
-static void record_times(struct receiving *r, const char *name, uint32_t time)
+static void record_times(const struct recording *r, const char *name, uint32_t ports, uint32_t time)
 {
     uint32_t port;
 
     if (time == 0)
         return;
-    fprintf(r->record, "\t%s", name);
-    for (port = 0; port < r->ports; port++)
-        fprintf(r->record, "\t%lu", (unsigned long)time);
+    fprintf(r->to, "\t%s", name);
+    for (port = 0; port < ports; port++)
+        fprintf(r->to, "\t%lu", (unsigned long)time);
 }
 
-static void record_settings(struct receiving *r, const struct choices *c)
+static void record_settings(const struct recording *r, const struct choices *c)
 {
-    fprintf(r->record, "%lu\t%lu\t%lu", (unsigned long)c->slots, (unsigned long)c->payload, (unsigned long)c->window);
+    fprintf(r->to, "%lu\t%lu\t%lu", (unsigned long)c->slots, (unsigned long)r->payload, (unsigned long)c->window);
     if (c->fixed)
-        fputs("\tkind\tFIXED", r->record);
-    record_times(r, "hold-off", c->hold_off);
-    record_times(r, "wait-to-restore", c->restore);
-    putc('\n', r->record);
+        fputs("\tkind\tFIXED", r->to);
+    record_times(r, "hold-off", c->slots, c->hold_off);
+    record_times(r, "wait-to-restore", c->slots, c->restore);
+    putc('\n', r->to);
+}
+
+/* Begins a recording with so many bytes of each payload, where a file is named. -1 where it cannot be written. */
+static int record_to(struct recording *r, const char *file, size_t payload, const struct choices *c)
+{
+    r->payload = payload;
+    if (file == NULL)
+        return 0;
+    r->to = fopen(file, "w");
+    if (r->to == NULL)
+        return -1;
+    record_settings(r, c);
+    return 0;
+}
+
+/* 0, or -1 where it could not be written whole. */
+static int record_end(struct recording *r)
+{
+    int written = r->to == NULL || (fflush(r->to) == 0 && !ferror(r->to));
+
+    if (r->to != NULL)
+        written = fclose(r->to) == 0 && written;
+    return written ? 0 : -1;
 }
 
 /* All ports have the same times. */
@@ -68,12 +99,9 @@ int receiving_open(struct receiving *r, const struct choices *c)
     r->nothing = calloc(r->payload, 1);
     if (r->state == NULL || r->store == NULL || r->out == NULL || r->nothing == NULL)
         return -1;
-    if (c->record != NULL) {
-        r->record = fopen(c->record, "w");
-        if (r->record == NULL)
-            return -2;
-        record_settings(r, c);
-    }
+    /* marks and states do not go by the payload, so one byte of it is enough to replay them */
+    if (record_to(&r->recordings[0], c->record, r->payload, c) != 0 || record_to(&r->recordings[1], c->heads, 1, c) != 0)
+        return -2;
     start(r, c);
     return 0;
 }
@@ -140,13 +168,11 @@ void receiving_reply(const struct receiving *r, uint8_t number, uint8_t *reply)
 
 int receiving_close(struct receiving *r)
 {
-    int written = r->record == NULL || (fflush(r->record) == 0 && !ferror(r->record));
+    int whole = record_end(&r->recordings[0]), heads = record_end(&r->recordings[1]);
 
-    if (r->record != NULL)
-        written = fclose(r->record) == 0 && written;
     free(r->state);
     free(r->store);
     free(r->out);
     free(r->nothing);
-    return written ? 0 : -1;
+    return whole == 0 && heads == 0 ? 0 : -1;
 }

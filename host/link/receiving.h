@@ -7,6 +7,12 @@
 
 #include "choices.h"
 
+/* Where what the receiver is handed is written, or NULL, and how many bytes of each payload are. */
+struct recording {
+    FILE *to;
+    size_t payload;
+};
+
 struct receiving {
     uint32_t ports;
     size_t payload;
@@ -17,7 +23,7 @@ struct receiving {
     uint8_t *out;
     size_t out_bytes;
     uint8_t *nothing; /* the payload of a frame that came flagged */
-    FILE *record; /* where what the receiver is handed is written, or NULL */
+    struct recording recordings[2]; /* what the receiver is handed, whole and its heads */
 };
 
 struct report {

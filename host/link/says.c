@@ -17,7 +17,6 @@ void must(uint8_t answer, const char *call)
 
 void says_end(struct says *s)
 {
-    static const char *const marks[] = { "none", "held", "doubtful", "sure" };
     const struct alike *a = &s->alike;
 
     if (!a->some)
@@ -26,7 +25,7 @@ void says_end(struct says *s)
         printf("epoch\t%" PRIu64, a->first);
     else
         printf("epochs\t%" PRIu64 "\tto\t%" PRIu64, a->first, a->last);
-    printf("\t%s", marks[a->mark]);
+    printf("\t%s", levelspruce_mark_name(a->mark));
     if (a->mark != LEVELSPRUCE_MARK_HELD)
         printf("\t%s\t%lu\t%s", a->first == a->last ? "bytes" : "bytes each", (unsigned long)a->bytes, a->right ? "as sent" : "not as sent");
     printf("\n");
@@ -163,7 +162,6 @@ static int some_readable(const struct says *s, const uint8_t (*ports)[LEVELSPRUC
 
 void says_ports(struct says *s, const uint8_t (*ports)[LEVELSPRUCE_PORT_BYTES], uint8_t rs_ack, uint64_t time)
 {
-    static const char *const states[] = { "IDLE", "FAIL", "OK" }, *const waits[] = { "none", "hold-off", "restore" };
     int reads = some_readable(s, ports);
     uint32_t i;
 
@@ -176,9 +174,9 @@ void says_ports(struct says *s, const uint8_t (*ports)[LEVELSPRUCE_PORT_BYTES], 
             printf("port\t%" PRIu32 "\t%s\tframe\t%" PRIu64 "\n", i, condition(now), time);
         if ((now[LEVELSPRUCE_PORT_STATE] != before[LEVELSPRUCE_PORT_STATE] || now[LEVELSPRUCE_PORT_NUMBER] != before[LEVELSPRUCE_PORT_NUMBER])
             && talks(s))
-            printf("port\t%" PRIu32 "\t%s\t%d\n", i, states[now[LEVELSPRUCE_PORT_STATE]], now[LEVELSPRUCE_PORT_NUMBER]);
+            printf("port\t%" PRIu32 "\t%s\t%d\n", i, levelspruce_state_name(now[LEVELSPRUCE_PORT_STATE]), now[LEVELSPRUCE_PORT_NUMBER]);
         if (now[LEVELSPRUCE_PORT_WAITING] != before[LEVELSPRUCE_PORT_WAITING] && talks(s))
-            printf("port\t%" PRIu32 "\twaiting\t%s\n", i, waits[now[LEVELSPRUCE_PORT_WAITING]]);
+            printf("port\t%" PRIu32 "\twaiting\t%s\n", i, levelspruce_waiting_name(now[LEVELSPRUCE_PORT_WAITING]));
     }
     if (rs_ack != s->rs_ack && talks(s))
         printf("reply\tRS-Ack\t%d\n", rs_ack);

@@ -58,7 +58,8 @@ int tally_close(struct tally *t, const struct client *client)
     if (client->repeats && all_came)
         says_text(client);
     if (!client->repeats)
-        printf("file\tbytes\t%lu\t%s\n", (unsigned long)client->length, all_came ? "all came out sure" : "not all came out sure");
+        printf("file\t%s\t%lu\t%s\n", client->cut ? "bytes more than" : "bytes", (unsigned long)client->length,
+               all_came ? "all came out sure" : "not all came out sure");
     printf("held\tepochs\t%" PRIu64 "\n", t->epochs[LEVELSPRUCE_MARK_HELD]);
     printf("doubtful\tepochs\t%" PRIu64 "\n", t->epochs[LEVELSPRUCE_MARK_DOUBTFUL]);
     printf("doubtful\tbytes\t%" PRIu64 "\n", t->bytes[LEVELSPRUCE_MARK_DOUBTFUL]);

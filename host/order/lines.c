@@ -35,21 +35,40 @@ static int command(const struct field *f, struct line *line)
     return 0;
 }
 
+/* The lines with a group alone behind their word. */
+static enum line_kind of_group(const struct field *f, struct line *line)
+{
+    static const struct {
+        const char *word;
+        enum line_kind kind;
+    } known[] = { { "lapse", LINE_LAPSE }, { "board", LINE_BOARD }, { "owned", LINE_OWNED } };
+    size_t i;
+
+    for (i = 0; i < sizeof known / sizeof *known; i++)
+        if (is(&f[0], known[i].word)) {
+            line->word = known[i].word;
+            return decimal(&f[1], &line->group) ? known[i].kind : LINE_MALFORMED;
+        }
+    return LINE_MALFORMED;
+}
+
 static enum line_kind meant(const char *text, size_t length, struct line *line)
 {
     struct field f[FIELDS_MOST];
     size_t count = parted(text, length, f);
 
-    if (count == 2 && is(&f[0], "size") && decimal(&f[1], &line->a))
+    if (count == 2 && is(&f[0], "size") && decimal(&f[1], &line->a)) {
+        line->word = "size";
         return LINE_SIZE;
-    if (count == 2 && is(&f[0], "lapse") && decimal(&f[1], &line->group))
-        return LINE_LAPSE;
-    if (count == 2 && is(&f[0], "board") && decimal(&f[1], &line->group))
-        return LINE_BOARD;
+    }
+    if (count == 2)
+        return of_group(f, line);
     if (count == 3 && command(f, line))
         return LINE_COMMAND;
-    if (count == 5 && is(&f[0], "report") && report(f, line))
+    if (count == 5 && is(&f[0], "report") && report(f, line)) {
+        line->word = "report";
         return LINE_REPORT;
+    }
     return LINE_MALFORMED;
 }
 

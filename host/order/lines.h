@@ -5,12 +5,12 @@
 #include <stdint.h>
 #include <stdio.h>
 
-enum line_kind { LINE_MALFORMED, LINE_SIZE, LINE_COMMAND, LINE_REPORT, LINE_LAPSE, LINE_BOARD };
+enum line_kind { LINE_MALFORMED, LINE_SIZE, LINE_COMMAND, LINE_REPORT, LINE_LAPSE, LINE_BOARD, LINE_OWNED };
 
 struct line {
     enum line_kind kind;
-    const char *word; /* of a command */
-    uint32_t command; /* its kind, as the call has it */
+    const char *word; /* its first */
+    uint32_t command; /* the kind of a command, as the call has it */
     uint32_t group, a, b, c;
 };
 

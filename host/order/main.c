@@ -1,6 +1,6 @@
 /*
  * order: a planner's lines over a card with two circuits. Commands up to the next line of another kind are one order, given
- * in one call; each line is answered in its place, and the last line says how many commands were refused
+ * in one call; each line is answered in its place, and the last two lines say how many were refused and how many malformed
  * (docs/MANUAL.md, 'Work orders').
  *
  *   size    8
@@ -9,14 +9,17 @@
  *   report  0    32    BF    1
  *   lapse   0
  *   board   0
+ *   owned   0
  *
- * Fields are parted by tabs. Status 0; 2 for an input that cannot be read or an output that cannot be written.
+ * Fields are parted by tabs. Status 0: every line was done; 1: some were not; 2: an input that cannot be read or an output
+ * that cannot be written.
  */
 #include <levelspruce.h>
 
 #include <stdio.h>
 #include <stdlib.h>
 
+#include "../fields/answers.h"
 #include "../fields/fields.h"
 #include "lines.h"
 
@@ -31,7 +34,7 @@ static uint32_t (*commands)[LEVELSPRUCE_COMMAND_NUMBERS];
 static struct waiting *waiting;
 static uint8_t *answers;
 static size_t count, room;
-static unsigned long refused;
+static unsigned long refused, malformed;
 
 /* Ends the program where it cannot go on. */
 static void stop(const char *why)
@@ -66,6 +69,21 @@ static void keep(const struct line *l, unsigned long number)
     count++;
 }
 
+static void says(uint8_t answer, unsigned long number, const char *word)
+{
+    printf("answer\t%d\tline\t%lu\t%s", answer, number, word);
+}
+
+/* Ends a line that says() began. What was refused is counted, and the words behind it say why. */
+static void says_why(uint8_t answer, const char *word, uint32_t group)
+{
+    if (answer != LEVELSPRUCE_ANSWER_DONE) {
+        printf("\t%s", answer == LEVELSPRUCE_ANSWER_SLOT && group >= LEVELSPRUCE_GROUPS ? "no such group" : refusal(word, answer));
+        refused++;
+    }
+    putchar('\n');
+}
+
 /* Gives the commands that wait as one order, and says what each is answered. */
 static void give(void)
 {
@@ -77,9 +95,10 @@ static void give(void)
         != LEVELSPRUCE_ANSWER_DONE)
         stop("an order was refused whole");
     for (i = 0; i < count; i++) {
-        printf("answer\t%d\tline\t%lu\t%s\tgroup\t%lu\tslot\t%lu\n", answers[i], waiting[i].line, waiting[i].word,
-               (unsigned long)commands[i][LEVELSPRUCE_COMMAND_GROUP], (unsigned long)commands[i][LEVELSPRUCE_COMMAND_SLOT]);
-        refused += answers[i] != LEVELSPRUCE_ANSWER_DONE;
+        says(answers[i], waiting[i].line, waiting[i].word);
+        printf("\tgroup\t%lu\tslot\t%lu", (unsigned long)commands[i][LEVELSPRUCE_COMMAND_GROUP],
+               (unsigned long)commands[i][LEVELSPRUCE_COMMAND_SLOT]);
+        says_why(answers[i], waiting[i].word, commands[i][LEVELSPRUCE_COMMAND_GROUP]);
     }
     count = 0;
 }
@@ -96,23 +115,78 @@ static uint8_t size(uint32_t slots)
     return answer;
 }
 
-/* The group's table as it stands now, or the answer 1 for a group that is none. */
-static void board(uint32_t group)
+/* The group's table as it stands now. */
+static uint8_t board(uint32_t group)
 {
     uint8_t now[LEVELSPRUCE_BOARD_BYTES];
     uint8_t answer = levelspruce_card_board(card, sizeof card, group, now, sizeof now);
     uint32_t slot;
 
-    if (answer != LEVELSPRUCE_ANSWER_DONE) {
-        printf("answer\t%d\n", answer);
-        return;
-    }
+    if (answer != LEVELSPRUCE_ANSWER_DONE)
+        return answer;
     for (slot = 0; slot < now[LEVELSPRUCE_BOARD_COUNT]; slot++) {
         const uint8_t *row = now + LEVELSPRUCE_BOARD_ROWS + 2 * slot;
 
         printf("slot\t%lu\t%s\t%d\n", (unsigned long)slot, levelspruce_word_name(row[0]), row[1]);
     }
     printf("wait\t%d\n", now[LEVELSPRUCE_BOARD_WAIT]);
+    return answer;
+}
+
+/* The slots that the group owns, those next to each other in one line. */
+static uint8_t owned(uint32_t group)
+{
+    uint8_t own[LEVELSPRUCE_OWNED_BYTES];
+    uint8_t answer = levelspruce_card_owned(card, sizeof card, group, own, sizeof own);
+    size_t first, end, some = 0;
+
+    if (answer != LEVELSPRUCE_ANSWER_DONE)
+        return answer;
+    for (first = 0; first < sizeof own; first = end + 1) {
+        for (end = first; end < sizeof own && own[end]; end++)
+            ;
+        if (end == first + 1)
+            printf("group\t%lu\towns\tslot\t%lu\n", (unsigned long)group, (unsigned long)first);
+        else if (end > first)
+            printf("group\t%lu\towns\tslots\t%lu\tto\t%lu\n", (unsigned long)group, (unsigned long)first, (unsigned long)end - 1);
+        some += end - first;
+    }
+    if (some == 0)
+        printf("group\t%lu\towns\tnone\n", (unsigned long)group);
+    return answer;
+}
+
+/* A line with a group behind its word. What shows something is answered only where it is refused. */
+static void take_of_group(const struct line *l, unsigned long number)
+{
+    uint8_t answer;
+
+    switch (l->kind) {
+    case LINE_REPORT: answer = levelspruce_card_report(card, sizeof card, l->group, l->a, l->b, l->c); break;
+    case LINE_LAPSE: answer = levelspruce_card_lapse(card, sizeof card, l->group); break;
+    case LINE_BOARD: answer = board(l->group); break;
+    default: answer = owned(l->group); break;
+    }
+    if (answer == LEVELSPRUCE_ANSWER_DONE && (l->kind == LINE_BOARD || l->kind == LINE_OWNED))
+        return;
+    says(answer, number, l->word);
+    printf("\tgroup\t%lu", (unsigned long)l->group);
+    says_why(answer, l->word, l->group);
+}
+
+static void take_size(const struct line *l, unsigned long number)
+{
+    uint8_t answer = size(l->a);
+
+    says(answer, number, l->word);
+    printf("\t%lu", (unsigned long)l->a);
+    says_why(answer, l->word, 0);
+}
+
+static void take_malformed(unsigned long number)
+{
+    printf("answer\t%d\tline\t%lu\t%s\n", ANSWER_MALFORMED, number, refusal("", ANSWER_MALFORMED));
+    malformed++;
 }
 
 static void take(const struct line *l, unsigned long number)
@@ -123,12 +197,17 @@ static void take(const struct line *l, unsigned long number)
     }
     give();
     switch (l->kind) {
-    case LINE_SIZE: printf("answer\t%d\n", size(l->a)); break;
-    case LINE_REPORT: printf("answer\t%d\n", levelspruce_card_report(card, sizeof card, l->group, l->a, l->b, l->c)); break;
-    case LINE_LAPSE: printf("answer\t%d\n", levelspruce_card_lapse(card, sizeof card, l->group)); break;
-    case LINE_BOARD: board(l->group); break;
-    default: printf("answer\t%d\tline\t%lu\n", ANSWER_MALFORMED, number); break;
+    case LINE_MALFORMED: take_malformed(number); break;
+    case LINE_SIZE: take_size(l, number); break;
+    default: take_of_group(l, number); break;
     }
+}
+
+/* Whoever waits for an answer has it when its line is done. */
+static void flush(void)
+{
+    if (fflush(stdout) != 0)
+        stop("the output cannot be written");
 }
 
 int main(void)
@@ -139,13 +218,14 @@ int main(void)
     /* before any size there are no slots: two empty groups, under 4 */
     if (levelspruce_card_start(0, 0, 0, card, sizeof card) != LEVELSPRUCE_ANSWER_RANGE)
         stop("a card cannot be started");
-    for (number = 1; next_line(stdin, &line); number++)
+    for (number = 1; next_line(stdin, &line); number++) {
         take(&line, number);
+        flush();
+    }
     if (ferror(stdin))
         stop("the input cannot be read");
     give();
-    printf("refused\t%lu\n", refused);
-    if (fflush(stdout) != 0)
-        stop("the output cannot be written");
-    return 0;
+    printf("refused\t%lu\nmalformed\t%lu\n", refused, malformed);
+    flush();
+    return refused + malformed > 0;
 }

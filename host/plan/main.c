@@ -1,11 +1,13 @@
 /*
  * Which paths to join: reads how many and with which window, then the candidates with their measured delays, a line each,
- * and prints the ones that the planner proposes (docs/MANUAL.md, 'Choosing paths').
+ * and prints the ones that the planner proposes; or with --check whether the paths that a proposal takes may be joined
+ * (docs/MANUAL.md, 'Choosing paths').
  *
  *   join    3    window    64
  *   path    NAME    delay    17
+ *   take    NAME
  *
- * Fields are parted by tabs. Status 0: a plan; 1: none; 2: anything else.
+ * Fields are parted by tabs. Status 0: a plan, or a proposal that is accepted; 1: none, or not accepted; 2: anything else.
  */
 #include <inttypes.h>
 #include <stdio.h>
@@ -14,115 +16,11 @@
 
 #include <levelspruce.h>
 
+#include "lines.h"
+
 enum { PLANNED = 0, NOTHING = 1, REFUSED = 2 };
 
-enum { NAME_MOST = 60, DIGITS_MOST = 9, LINE_MOST = 96 };
-
-/* One more than can be planned, so that the planner itself refuses too many. */
-enum { PATHS_KEPT = LEVELSPRUCE_PATHS_MOST + 1 };
-
-struct text {
-    const char *at;
-    size_t length;
-};
-
-struct path {
-    char name[NAME_MOST];
-    size_t length;
-};
-
-static struct path paths[PATHS_KEPT];
-static uint32_t delays[PATHS_KEPT];
-static size_t count;
-static uint32_t wanted, window;
-
-/* Takes the next field of a line, up to a tab or the end, and goes past the tab. */
-static int take_field(struct text *line, struct text *field)
-{
-    const char *tab;
-
-    if (line->at == NULL)
-        return 0;
-    tab = memchr(line->at, '\t', line->length);
-    field->at = line->at;
-    field->length = tab == NULL ? line->length : (size_t)(tab - line->at);
-    line->length -= field->length + (tab == NULL ? 0 : 1);
-    line->at = tab == NULL ? NULL : tab + 1;
-    return 1;
-}
-
-static int take_word(struct text *line, const char *word)
-{
-    struct text field;
-
-    return take_field(line, &field) && field.length == strlen(word) && memcmp(field.at, word, field.length) == 0;
-}
-
-static int take_number(struct text *line, uint32_t *number)
-{
-    struct text field;
-    size_t i;
-
-    if (!take_field(line, &field) || field.length < 1 || field.length > DIGITS_MOST)
-        return 0;
-    for (*number = 0, i = 0; i < field.length; i++) {
-        if (field.at[i] < '0' || field.at[i] > '9')
-            return 0;
-        *number = 10 * *number + (uint32_t)(field.at[i] - '0');
-    }
-    return 1;
-}
-
-static int take_first(struct text line)
-{
-    return take_word(&line, "join") && take_number(&line, &wanted) && take_word(&line, "window") && take_number(&line, &window)
-        && line.at == NULL;
-}
-
-static int take_path(struct text line)
-{
-    struct text name;
-    uint32_t delay;
-
-    if (!take_word(&line, "path") || !take_field(&line, &name) || name.length < 1 || name.length > NAME_MOST
-        || !take_word(&line, "delay") || !take_number(&line, &delay) || line.at != NULL)
-        return 0;
-    if (count < PATHS_KEPT) {
-        memcpy(paths[count].name, name.at, name.length);
-        paths[count].length = name.length;
-        delays[count] = delay;
-        count++;
-    }
-    return 1;
-}
-
-/* Reads one line without its end. Of a line that is too long to be right, one byte too many is kept. -1: no line is left. */
-static int read_line(char *kept, size_t *length)
-{
-    int c = getchar();
-
-    if (c == EOF)
-        return -1;
-    for (*length = 0; c != EOF && c != '\n'; c = getchar())
-        if (*length <= LINE_MOST)
-            kept[(*length)++] = (char)c;
-    return 0;
-}
-
-/* Reads all lines. Gives the number of the first malformed one, counted from 1, or 0. */
-static unsigned long read_lines(void)
-{
-    char kept[LINE_MOST + 1];
-    unsigned long number;
-    struct text line;
-
-    for (number = 1; read_line(kept, &line.length) == 0; number++) {
-        line.at = kept;
-        if (line.length > LINE_MOST || !(number == 1 ? take_first(line) : take_path(line)))
-            return number;
-    }
-    return number == 1 ? 1 : 0;
-}
+static struct lines lines;
 
 static int rising(const void *one, const void *other)
 {
@@ -137,65 +35,181 @@ static uint32_t least_spread(void)
     uint32_t sorted[PATHS_KEPT], least = UINT32_MAX;
     size_t last;
 
-    memcpy(sorted, delays, sizeof sorted);
-    qsort(sorted, count, sizeof *sorted, rising);
-    for (last = wanted - 1; last < count; last++)
-        if (sorted[last] - sorted[last - (wanted - 1)] < least)
-            least = sorted[last] - sorted[last - (wanted - 1)];
+    memcpy(sorted, lines.delays, sizeof sorted);
+    qsort(sorted, lines.count, sizeof *sorted, rising);
+    for (last = lines.wanted - 1; last < lines.count; last++)
+        if (sorted[last] - sorted[last - (lines.wanted - 1)] < least)
+            least = sorted[last] - sorted[last - (lines.wanted - 1)];
     return least;
 }
 
-static int says_none(void)
+/* How far delays differ, and the window that would do. */
+static void says_needed(uint32_t spread)
 {
-    uint32_t spread = least_spread(), needed = spread + LEVELSPRUCE_EPOCH_FRAMES;
+    uint32_t needed = spread + LEVELSPRUCE_EPOCH_FRAMES;
 
-    printf("none\n");
     if (needed <= LEVELSPRUCE_WINDOW_MOST)
         printf("spread\t%" PRIu32 "\twindow\t%" PRIu32 "\twould\tdo\n", spread, needed);
     else
         printf("spread\t%" PRIu32 "\tno\twindow\twould\tdo\n", spread);
-    return NOTHING;
+}
+
+static void says_name(const struct named *named)
+{
+    fwrite(named->name, 1, named->length, stdout);
 }
 
 /* The candidates' numbers rise, so the order is that of the input. */
-static int says_plan(const uint8_t *plan)
+static void says_plan(const uint8_t *plan)
 {
     uint32_t least = UINT32_MAX, most = 0;
     size_t i, path;
 
     for (i = 0; i < plan[LEVELSPRUCE_PLAN_COUNT]; i++) {
         path = plan[LEVELSPRUCE_PLAN_EACH + i];
-        least = delays[path] < least ? delays[path] : least;
-        most = delays[path] > most ? delays[path] : most;
+        least = lines.delays[path] < least ? lines.delays[path] : least;
+        most = lines.delays[path] > most ? lines.delays[path] : most;
         printf("path\t");
-        fwrite(paths[path].name, 1, paths[path].length, stdout);
-        printf("\tdelay\t%" PRIu32 "\n", delays[path]);
+        says_name(&lines.paths[path]);
+        printf("\tdelay\t%" PRIu32 "\n", lines.delays[path]);
     }
     printf("spread\t%" PRIu32 "\n", most - least);
-    return PLANNED;
 }
 
-int main(void)
+/* Says which number is out of range: of several the first in the order of the input. */
+static int says_range(void)
 {
-    uint8_t plan[LEVELSPRUCE_PLAN_BYTES], answer;
-    unsigned long malformed = read_lines();
-    int status;
+    size_t i;
 
+    printf("answer\t%d\t", LEVELSPRUCE_ANSWER_RANGE);
+    if (lines.wanted == 0) {
+        printf("line\t1\tjoin\t0\tnone wanted\n");
+        return REFUSED;
+    }
+    if (lines.window < LEVELSPRUCE_WINDOW_LEAST || lines.window > LEVELSPRUCE_WINDOW_MOST) {
+        printf("line\t1\twindow\t%" PRIu32 "\tnot %d to %d\n", lines.window, LEVELSPRUCE_WINDOW_LEAST, LEVELSPRUCE_WINDOW_MOST);
+        return REFUSED;
+    }
+    for (i = 0; i < lines.count && i < LEVELSPRUCE_PATHS_MOST; i++)
+        if (lines.delays[i] > LEVELSPRUCE_DELAY_MOST) {
+            printf("line\t%lu\tdelay\t%" PRIu32 "\tabove %d\n", lines.paths[i].line, lines.delays[i], LEVELSPRUCE_DELAY_MOST);
+            return REFUSED;
+        }
+    if (lines.count > LEVELSPRUCE_PATHS_MOST)
+        printf("line\t%lu\tmore than %d paths\n", lines.paths[LEVELSPRUCE_PATHS_MOST].line, LEVELSPRUCE_PATHS_MOST);
+    else if (lines.count == 0)
+        printf("no path\n");
+    else
+        printf("line\t1\tjoin\t%" PRIu32 "\tpaths\t%lu\n", lines.wanted, (unsigned long)lines.count);
+    return REFUSED;
+}
+
+/* A plan from half the paths would mislead, so nothing is planned or checked. */
+static int says_wrong(const struct wrong *wrong)
+{
+    printf("answer\t13\tline\t%lu\t%s", wrong->line, wrong->why);
+    if (wrong->other != 0)
+        printf("\t%lu", wrong->other);
+    printf("\n");
+    return REFUSED;
+}
+
+static int plan(void)
+{
+    uint8_t plan[LEVELSPRUCE_PLAN_BYTES];
+
+    if (levelspruce_paths_plan(lines.delays, lines.count, lines.wanted, lines.window, plan, sizeof plan) != LEVELSPRUCE_ANSWER_DONE)
+        return says_range();
+    if (plan[LEVELSPRUCE_PLAN_COUNT] != 0) {
+        says_plan(plan);
+        return PLANNED;
+    }
+    printf("none\n");
+    says_needed(least_spread());
+    return NOTHING;
+}
+
+/* The number of the path of a name, or LEVELSPRUCE_PATH_NONE. */
+static uint8_t number_of(const struct named *taken)
+{
+    size_t i;
+
+    for (i = 0; i < lines.count; i++)
+        if (same_name(&lines.paths[i], taken))
+            return (uint8_t)i;
+    return LEVELSPRUCE_PATH_NONE;
+}
+
+static void says_taken(size_t i, const char *why)
+{
+    printf("take\t");
+    says_name(&lines.taken[i]);
+    printf("\tline\t%lu\t%s\n", lines.taken[i].line, why);
+}
+
+/* The spread of the paths that a proposal takes. */
+static uint32_t spread_of(const uint8_t *set)
+{
+    uint32_t least = UINT32_MAX, most = 0;
+    size_t i;
+
+    for (i = 0; i < lines.taken_count; i++)
+        if (set[i] != LEVELSPRUCE_PATH_NONE) {
+            least = lines.delays[set[i]] < least ? lines.delays[set[i]] : least;
+            most = lines.delays[set[i]] > most ? lines.delays[set[i]] : most;
+        }
+    return most > least ? most - least : 0;
+}
+
+/* What is wrong with a proposal, each cause in a line. */
+static void says_why_not(const uint8_t *set)
+{
+    size_t i;
+
+    for (i = 0; i < lines.taken_count; i++)
+        if (set[i] == LEVELSPRUCE_PATH_NONE)
+            says_taken(i, "no such path");
+        else if (memchr(set, set[i], i) != NULL)
+            says_taken(i, "twice");
+    if (lines.takes != lines.wanted)
+        printf("takes\t%lu\twanted\t%" PRIu32 "\n", lines.takes, lines.wanted);
+    if (spread_of(set) > lines.window - LEVELSPRUCE_EPOCH_FRAMES)
+        says_needed(spread_of(set));
+}
+
+static int check(void)
+{
+    uint8_t set[PATHS_KEPT], accepted = 0;
+    size_t i;
+
+    for (i = 0; i < lines.taken_count; i++)
+        set[i] = number_of(&lines.taken[i]);
+    if (levelspruce_paths_check(lines.delays, lines.count, lines.wanted, lines.window, set, lines.taken_count, &accepted, 1)
+        != LEVELSPRUCE_ANSWER_DONE)
+        return says_range();
+    printf(accepted ? "accepted\n" : "not accepted\n");
+    if (accepted)
+        printf("spread\t%" PRIu32 "\n", spread_of(set));
+    else
+        says_why_not(set);
+    return accepted ? PLANNED : NOTHING;
+}
+
+int main(int count, char **words)
+{
+    struct wrong wrong;
+    int proposal = count > 1 && strcmp(words[1], "--check") == 0, status, read;
+
+    if (count > 1 + proposal) {
+        fprintf(stderr, "plan: there is no choice '%s'\n", words[1 + proposal]);
+        return REFUSED;
+    }
+    read = lines_read(stdin, proposal, &lines, &wrong);
     if (ferror(stdin)) {
         fprintf(stderr, "plan: the input cannot be read\n");
         return REFUSED;
     }
-    /* a plan from half the paths would mislead */
-    if (malformed != 0) {
-        printf("answer\t13\tline\t%lu\n", malformed);
-        return REFUSED;
-    }
-    answer = levelspruce_paths_plan(delays, count, wanted, window, plan, sizeof plan);
-    if (answer != LEVELSPRUCE_ANSWER_DONE) {
-        printf("answer\t%d\n", answer);
-        return REFUSED;
-    }
-    status = plan[LEVELSPRUCE_PLAN_COUNT] == 0 ? says_none() : says_plan(plan);
+    status = read != 0 ? says_wrong(&wrong) : proposal ? check() : plan();
     if (fflush(stdout) != 0) {
         fprintf(stderr, "plan: the output cannot be written\n");
         return REFUSED;

@@ -114,13 +114,29 @@ pub fn run(input: &[u8]) -> String {
     lines(input).iter().map(|l| answered(&mut table, l)).collect()
 }
 
+/// A refused line in words: its place, what it was, and why.
+fn refused(at: usize, bytes: &[u8], answer: u8) -> String {
+    let (what, why) = match (line(bytes), answer) {
+        (Some(Line::Size(count)), _) => (format!("size\t{}\t", count), "not 1 to 64"),
+        (Some(Line::Add(slot)), 1) => (format!("add\tslot\t{}\t", slot), "no such slot"),
+        (Some(Line::Add(slot)), 3) => (format!("add\tslot\t{}\t", slot), "a wait is open"),
+        (Some(Line::Add(slot)), _) => (format!("add\tslot\t{}\t", slot), "in use already"),
+        (Some(Line::Remove(slot)), 1) => (format!("remove\tslot\t{}\t", slot), "no such slot"),
+        (Some(Line::Remove(slot)), 3) => (format!("remove\tslot\t{}\t", slot), "a wait is open"),
+        (Some(Line::Remove(slot)), _) => (format!("remove\tslot\t{}\t", slot), "not in use"),
+        (Some(Line::Lapse), _) => ("lapse\t".to_string(), "no wait is open"),
+        _ => (String::new(), "malformed"),
+    };
+    format!("answer\t{}\tline\t{}\t{}{}\n", answer, at, what, why)
+}
+
 /// The whole output for a listener: `epoch` tells what has changed since the one before, a size that she begins anew, and
 /// of other lines only the refused ones are answered.
 pub fn told(input: &[u8]) -> String {
     let mut table = Table::default();
     let mut heard = table.board().bytes();
     let mut output = String::new();
-    for bytes in lines(input) {
+    for (place, bytes) in lines(input).into_iter().enumerate() {
         if bytes == b"epoch" {
             let now = table.board().bytes();
             output += &spoken::told(&heard, &now).expect("boards of one group");
@@ -128,12 +144,15 @@ pub fn told(input: &[u8]) -> String {
             continue;
         }
         let said = answered(&mut table, bytes);
-        let done = said == "answer\t0\n";
-        if done && bytes.starts_with(b"size") {
-            heard = table.board().bytes();
-            output += &format!("size\t{}\n", table.count());
-        } else if !done {
-            output += &said;
+        let answer = said.strip_prefix("answer\t").and_then(|number| number.trim_end().parse().ok());
+        match answer {
+            Some(DONE) if bytes.starts_with(b"size") => {
+                heard = table.board().bytes();
+                output += &format!("size\t{}\n", table.count());
+            }
+            Some(DONE) => {}
+            Some(answer) => output += &refused(place + 1, bytes, answer),
+            None => output += &said,
         }
     }
     output

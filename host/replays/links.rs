@@ -1,13 +1,13 @@
 //! The example link with --record and --at-once beside the replay of what it recorded: their lines of epochs and of port
 //! states say the same. The link says states once all frames of a frame time are handed, so that reports which come together
-//! have one list of changes there.
+//! have one list of changes there. And beside the replay of its heads, one byte of each payload: the same but for how many bytes.
 
 use crate::random::Random;
 use std::collections::BTreeMap;
 use std::process::Command;
 
 /// A report as both say it, and the states that are said behind it.
-#[derive(Default)]
+#[derive(Default, PartialEq)]
 struct Report {
     epoch: u64,
     mark: String,
@@ -65,17 +65,25 @@ pub fn compared(folder: &str, link: &[String], replay: &[String], seed: u64) -> 
     let payload = random.one_of(&[1, 7, 30]);
     let window = random.one_of(&[32, 48, 64, 100]);
     let choices = format!(
-        "--at-once --each{} --seed {} --slots {} --payload {} --window {} --number {} --epochs 60 --record {}",
+        "--at-once --each{} --seed {} --slots {} --payload {} --window {} --number {} --epochs 60 --record {} --record-heads {}.heads",
         if seed % 4 == 0 { " --fixed" } else { "" },
-        seed, slots, payload, window, first, file
+        seed, slots, payload, window, first, file, file
     );
-    let said = Command::new(&link[0]).args(&link[1..]).args(choices.split(' ')).output().expect("the example link starts");
-    let run_again = Command::new(&replay[0]).args(&replay[1..]).arg(&file).output().expect("the replay program starts");
-    let (link_text, replay_text) = (String::from_utf8_lossy(&said.stdout), String::from_utf8_lossy(&run_again.stdout));
+    let run = |command: &[String], words: &[&str]| {
+        let output = Command::new(&command[0]).args(&command[1..]).args(words).output().expect("a program starts");
+        String::from_utf8_lossy(&output.stdout).into_owned()
+    };
+    let link_text = run(link, &choices.split(' ').collect::<Vec<_>>());
+    let (replay_text, heads_text) = (run(replay, &[&file]), run(replay, &[&format!("{}.heads", file)]));
     let (of_link, of_replay) = (reports(&link_text, first), reports(&replay_text, 0));
+    let mut of_heads = reports(&heads_text, 0);
+    for report in &mut of_heads {
+        report.bytes *= payload;
+    }
 
     let alike = |(a, b): (&Report, &Report)| a.epoch == b.epoch && a.mark == b.mark && a.bytes == b.bytes;
     let mut same = of_link.len() == of_replay.len() && of_link.iter().zip(&of_replay).all(alike) && !replay_text.contains("answer");
+    same &= of_heads == of_replay && !heads_text.contains("answer");
     // up to each report behind which the link says states, and at the end
     let (mut before, mut start, mut together) = (BTreeMap::new(), 0, 0);
     for end in 1..=of_link.len().min(of_replay.len()) {

@@ -170,7 +170,7 @@ fn main() {
         let total = |f: fn(&links::Compared) -> usize| compared.iter().map(f).sum::<usize>();
         let (reports, states, together) = (total(|c| c.reports), total(|c| c.states), total(|c| c.together));
         println!("links\t{}\treports {}\tstates {}\twhere several reports came together {}", LINKS, reports, states, together);
-        count.note("what the example link said at once, replayed from its recording", compared.iter().all(|c| c.same));
+        count.note("what the example link said at once, replayed from its recording and from its heads", compared.iter().all(|c| c.same));
         count.note("it said many reports and states", reports > 4000 && states > 500);
     }
 

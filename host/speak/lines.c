@@ -2,38 +2,46 @@
 
 #include "../fields/fields.h"
 
-static enum line_kind one_number(enum line_kind kind, const struct field *f, struct line *line)
-{
-    return decimal(f, &line->a) ? kind : LINE_MALFORMED;
-}
+/* The fields of a line of each kind, and what stands in the second, if there is one. */
+enum behind { NOTHING, A_NUMBER, A_REPORT };
 
-static enum line_kind report(const struct field *f, struct line *line)
+static const struct {
+    const char *word;
+    enum line_kind kind;
+    size_t fields;
+    enum behind behind;
+} known[] = {
+    { "size", LINE_SIZE, 2, A_NUMBER },     { "add", LINE_ADD, 2, A_NUMBER },    { "remove", LINE_REMOVE, 2, A_NUMBER },
+    { "report", LINE_REPORT, 4, A_REPORT }, { "lapse", LINE_LAPSE, 1, NOTHING }, { "epoch", LINE_EPOCH, 1, NOTHING },
+    { "board", LINE_BOARD, 1, NOTHING },
+};
+
+static int report(const struct field *f, struct line *line)
 {
     int reads = decimal(&f[1], &line->a) && hex_byte(&f[2], &line->b) && decimal(&f[3], &line->c);
 
-    return reads && line->a <= 255 && line->c <= 1 ? LINE_REPORT : LINE_MALFORMED;
+    return reads && line->a <= 255 && line->c <= 1;
 }
 
-static enum line_kind meant(const char *text, size_t length, struct line *line)
+static int reads(enum behind behind, const struct field *f, struct line *line)
+{
+    switch (behind) {
+    case A_NUMBER: return decimal(&f[1], &line->a);
+    case A_REPORT: return report(f, line);
+    default: return 1;
+    }
+}
+
+static void mean(const char *text, size_t length, struct line *line)
 {
     struct field f[FIELDS_MOST];
-    size_t count = parted(text, length, f);
+    size_t count = parted(text, length, f), i;
 
-    if (count == 1 && is(&f[0], "lapse"))
-        return LINE_LAPSE;
-    if (count == 1 && is(&f[0], "epoch"))
-        return LINE_EPOCH;
-    if (count == 1 && is(&f[0], "board"))
-        return LINE_BOARD;
-    if (count == 2 && is(&f[0], "size"))
-        return one_number(LINE_SIZE, &f[1], line);
-    if (count == 2 && is(&f[0], "add"))
-        return one_number(LINE_ADD, &f[1], line);
-    if (count == 2 && is(&f[0], "remove"))
-        return one_number(LINE_REMOVE, &f[1], line);
-    if (count == 4 && is(&f[0], "report"))
-        return report(f, line);
-    return LINE_MALFORMED;
+    for (i = 0; i < sizeof known / sizeof *known; i++)
+        if (count == known[i].fields && is(&f[0], known[i].word) && reads(known[i].behind, f, line)) {
+            line->kind = known[i].kind;
+            line->word = known[i].word;
+        }
 }
 
 int next_line(FILE *file, struct line *line)
@@ -43,6 +51,9 @@ int next_line(FILE *file, struct line *line)
 
     if (!next_text(file, text, &length))
         return 0;
-    line->kind = length > LINE_MOST ? LINE_MALFORMED : meant(text, length, line);
+    line->kind = LINE_MALFORMED;
+    line->word = "";
+    if (length <= LINE_MOST)
+        mean(text, length, line);
     return 1;
 }

@@ -9,6 +9,7 @@ enum line_kind { LINE_MALFORMED, LINE_SIZE, LINE_ADD, LINE_REMOVE, LINE_REPORT, 
 
 struct line {
     enum line_kind kind;
+    const char *word; /* its first, or an empty one where it is malformed */
     uint32_t a, b, c;
 };
 

@@ -1,6 +1,8 @@
 /*
  * speak: the session over a sender, told to someone who listens. Reads lines on standard input. At each `epoch` it prints
- * the changes of the board going out, and nothing where nothing has changed.
+ * the changes of the board going out, and nothing where nothing has changed. A line that is refused is named, with why.
+ *
+ * Status 0; 2: an input that cannot be read or an output that cannot be written.
  */
 #include <levelspruce.h>
 
@@ -8,26 +10,32 @@
 #include <stdlib.h>
 #include <string.h>
 
+#include "../fields/answers.h"
 #include "../fields/fields.h"
 #include "lines.h"
 
 static uint8_t sender[LEVELSPRUCE_SENDER_BYTES];
 static uint8_t heard[LEVELSPRUCE_BOARD_BYTES]; /* the board that the listener holds */
 
-/* Ends the program where a call is refused that cannot be. */
+/* Ends the program where it cannot go on. */
+static void stop(const char *why)
+{
+    fflush(stdout);
+    fprintf(stderr, "speak: %s\n", why);
+    exit(2);
+}
+
+/* Ends it where a call is refused that cannot be. */
 static void must(uint8_t answer, const char *call)
 {
-    if (answer == LEVELSPRUCE_ANSWER_DONE)
-        return;
-    fflush(stdout);
-    fprintf(stderr, "speak: %s was answered %d\n", call, answer);
-    exit(2);
+    if (answer != LEVELSPRUCE_ANSWER_DONE)
+        stop(call);
 }
 
 /* The board going out, which the last start of an epoch has fixed. */
 static void take(uint8_t *board)
 {
-    must(levelspruce_sender_board_going(sender, sizeof sender, board, LEVELSPRUCE_BOARD_BYTES), "the board going out");
+    must(levelspruce_sender_board_going(sender, sizeof sender, board, LEVELSPRUCE_BOARD_BYTES), "the board going out was refused");
 }
 
 static uint8_t size(uint32_t count)
@@ -50,11 +58,11 @@ static void epoch(void)
     uint8_t now[LEVELSPRUCE_BOARD_BYTES], changes[LEVELSPRUCE_CHANGES_BYTES];
     size_t written;
 
-    must(levelspruce_sender_start_epoch(sender, sizeof sender, 0, 0xFF, 0), "the start of an epoch");
+    must(levelspruce_sender_start_epoch(sender, sizeof sender, 0, 0xFF, 0), "the start of an epoch was refused");
     take(now);
-    must(levelspruce_board_changes(heard, sizeof heard, now, sizeof now, changes, sizeof changes), "the changes of a board");
-    must(levelspruce_board_speak(changes, sizeof changes, text, sizeof text, &written), "the lines of changes");
-    must(levelspruce_board_apply(heard, sizeof heard, changes, sizeof changes), "applying changes");
+    must(levelspruce_board_changes(heard, sizeof heard, now, sizeof now, changes, sizeof changes), "the changes of a board were refused");
+    must(levelspruce_board_speak(changes, sizeof changes, text, sizeof text, &written), "the lines of changes were refused");
+    must(levelspruce_board_apply(heard, sizeof heard, changes, sizeof changes), "applying changes was refused");
     fwrite(text, 1, written, stdout);
 }
 
@@ -64,7 +72,7 @@ static void board(void)
     uint8_t now[LEVELSPRUCE_BOARD_BYTES];
     uint32_t slot;
 
-    must(levelspruce_sender_board(sender, sizeof sender, now, sizeof now), "the board");
+    must(levelspruce_sender_board(sender, sizeof sender, now, sizeof now), "the board was refused");
     for (slot = 0; slot < now[LEVELSPRUCE_BOARD_COUNT]; slot++) {
         const uint8_t *row = now + LEVELSPRUCE_BOARD_ROWS + 2 * slot;
 
@@ -88,21 +96,37 @@ static uint8_t done(const struct line *l)
     }
 }
 
+/* Which line was refused, and why: what it was in the words of the board. */
+static void says_refused(const struct line *l, unsigned long number, uint8_t answer)
+{
+    printf("answer\t%d\tline\t%lu", answer, number);
+    if (l->kind == LINE_SIZE)
+        printf("\tsize\t%lu", (unsigned long)l->a);
+    else if (l->kind == LINE_ADD || l->kind == LINE_REMOVE)
+        printf("\t%s\tslot\t%lu", l->word, (unsigned long)l->a);
+    else if (l->kind != LINE_MALFORMED)
+        printf("\t%s", l->word);
+    printf("\t%s\n", refusal(l->word, answer));
+}
+
 int main(void)
 {
     struct line line;
+    unsigned long number;
     uint8_t answer;
 
     /* before any size there are no slots: an empty group, under 4 */
     if (levelspruce_sender_start(0, 0, sender, sizeof sender) != LEVELSPRUCE_ANSWER_RANGE)
-        return 2;
+        stop("a group cannot be started");
     take(heard);
-    while (next_line(stdin, &line)) {
+    for (number = 1; next_line(stdin, &line); number++) {
         answer = done(&line);
         if (answer != LEVELSPRUCE_ANSWER_DONE)
-            printf("answer\t%d\n", answer);
+            says_refused(&line, number, answer);
         if (fflush(stdout) != 0)
-            return 2;
+            stop("the output cannot be written");
     }
-    return ferror(stdin) ? 2 : 0;
+    if (ferror(stdin))
+        stop("the input cannot be read");
+    return 0;
 }

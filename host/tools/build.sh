@@ -22,18 +22,20 @@ build_archive() {
 # The first two numbers of the version: with another of them calls may have changed.
 series() { version | cut -d . -f 1,2; }
 
-# build_shared FILE: the shared library. Its name for programs that were linked with it goes by the version's first two numbers.
+# build_shared FILE: the shared library. Its name for programs that were linked with it goes by the version's first two numbers. Names
+# that it does not show are left out, so that no packager has to take them out and change its bytes.
 build_shared() {
-    "$shared_compiler" -shared -o "$1" -Wl,-soname,"liblevelspruce.so.$(series)" \
+    "$shared_compiler" -shared -s -o "$1" -Wl,-soname,"liblevelspruce.so.$(series)" \
         -Wl,--version-script=host/library/exports -Wl,-z,defs -Wl,--whole-archive "$archive" -Wl,--no-whole-archive
 }
 
 # build_choices: the program that only reads the example link's choices.
 build_choices() {
     mkdir -p target/host
+    # another run may be at it too: what is built is put in its place whole
     # shellcheck disable=SC2086
-    $archive_compiler -std=c99 $strict host/choices/main.c host/link/choices.c host/link/client.c host/link/drawing.c host/link/random.c \
-        -o target/host/choices
+    $archive_compiler -std=c99 $strict host/choices/main.c host/link/choices.c host/link/client.c host/link/drawing.c host/link/files.c \
+        host/link/random.c -o "target/host/choices.$$" && mv "target/host/choices.$$" target/host/choices
 }
 
 # build_c NAME SOURCE WORD..: a C program over the archive.

@@ -1,10 +1,27 @@
 # Sourced at the repository's top: what is built from proved crates, once and again when a crate has changed.
 
-# Whether the Rattle toolchain is here; a line says so if not.
+# Whether the Rattle toolchain is here; a line says so if not, and if it is another than the one of the file toolchain, with which
+# all was proved.
 has_toolchain() {
-    command -v rt >/dev/null && return
-    echo 'the Rattle toolchain is not here: its command rt is not among the programs on PATH' >&2
-    return 1
+    if ! command -v rt >/dev/null; then
+        echo "the Rattle toolchain is not here: its command rt is not among the programs on PATH (wanted: $(cat toolchain))" >&2
+        return 1
+    fi
+    [ "$(rt version)" = "$(cat toolchain)" ] ||
+        echo "the toolchain here is '$(rt version)', and this was proved with '$(cat toolchain)': what holds there may not be proved here" >&2
+}
+
+# alone: from here to this script's end nothing else is proved or built below target/. Where another run is at it, this one waits
+# and says so. What was to be made may be there then.
+alone() {
+    mkdir -p target
+    exec 9>target/lock
+    if command -v flock >/dev/null && ! flock -n 9; then
+        echo 'another run is proving and building here: waiting until it is done' >&2
+        until flock -w 30 9; do
+            echo "still waiting: $(cat target/proving.now 2>/dev/null || echo the other run builds)" >&2
+        done
+    fi
 }
 
 # The file that says which toolchain it is; none where it is not here, since then nothing can be proved again.
@@ -116,10 +133,10 @@ proving() {
     while sleep 30 >/dev/null 2>&1 && kill -0 $$ 2>/dev/null; do
         seconds=$((seconds + 30))
         echo "$(cat target/proving.now), $seconds seconds so far" >&2
-    done &
+    done 9>&- &
     says=$!
     {
-        prove_all "$@" 2>&1
+        prove_all "$@" 2>&1 9>&-
         echo $? >target/proving.status
     } | tee target/proving.out | grep --line-buffered '^proving \|^rt: .*[0-9] s)$\|NOT PROVED' >&2
     kill "$says" 2>/dev/null

@@ -1,0 +1,108 @@
+# Sourced by ./run and by the installed programs, which say by $helps where the helps are, by $from from where the caller
+# names files, and by version which version it is: a program's help, the file that it is lent, and whether its answers could be
+# written.
+
+# helped NAME CALLED WORD: where the word asks for it, prints the help of a program that is called so, or the version, and ends.
+helped() {
+    case $3 in
+    --help | -h)
+        sed "s|@program@|$2|g" "$helps/$1.txt"
+        exit
+        ;;
+    --version)
+        version
+        exit
+        ;;
+    esac
+}
+
+# lent WHAT EXAMPLE [FILE|-]: $input is one of the caller's files, named from where the caller is, or an example
+lent() {
+    what=$1 example=$2
+    shift 2
+    case ${1:-} in
+    '') input=$example ;;
+    - | /*) input=$1 ;;
+    *) input=$from/$1 ;;
+    esac
+    if [ $# -gt 1 ]; then
+        echo "a $what has one file, and not also '$2'" >&2
+        exit 2
+    fi
+    reads "$input" "${1:-}"
+}
+
+# reads FILE NAMED: goes on where the file can be read, or is standard input (-)
+reads() {
+    if [ "$1" != - ] && { [ ! -r "$1" ] || [ -d "$1" ]; }; then
+        echo "cannot read the file '$2'" >&2
+        exit 2
+    fi
+}
+
+# greets CALLED: says at a terminal how lines are typed
+greets() { echo "type a line with a tab between its fields, as: size, tab, 2. Ctrl-D ends; $1 --help names the lines" >&2; }
+
+# written WORD..: runs a proved program and ends with its status. Such a program has none to say by that an answer could not
+# be written; what its answers are passed on by has one.
+written() {
+    passing "$@"
+    exit
+}
+passing() (
+    ended=$(mktemp) || exit 2
+    trap 'rm -f "$ended"' EXIT
+    trap 'exit 130' INT
+    {
+        "$@"
+        echo $? >"$ended"
+    } | passed_on
+    status=$?
+    [ "$status" != 0 ] || status=$(cat "$ended")
+    exit "$status"
+)
+passed_on() { cat; }
+
+# replayed FILE WORD..: the same of the replay program, whose recording begins in that file, or on standard input (-). Its
+# refusals are said in words, and where there is one the status is not 0.
+replayed() {
+    replaying "$@"
+    exit
+}
+replaying() (
+    recording=$1
+    shift
+    refused=$(mktemp) || exit 2
+    trap 'rm -f "$refused"' EXIT
+    trap 'exit 130' INT
+    passed_on() { in_words "$recording"; }
+    passing "$@"
+    status=$?
+    [ "$status" != 0 ] || [ ! -s "$refused" ] || status=1
+    exit "$status"
+)
+in_words() {
+    tab=$(printf '\t')
+    sed -u -e "s/^answer${tab}13${tab}line${tab}[0-9]*\$/&${tab}malformed/" \
+        -e "s/^answer${tab}4${tab}line${tab}1\$/&${tab}$(out_of_range "$1")/" -e "/^answer${tab}/w $refused"
+}
+
+# out_of_range FILE: which of a recording's settings is, in words.
+out_of_range() {
+    if [ "$1" = - ]; then
+        printf 'settings out of range, or a store above 65536 bytes\n'
+        return
+    fi
+    head -n 1 "$1" | awk -F '\t' '
+        function out(name, n, least, most) {
+            if (said == "" && (n + 0 < least || n + 0 > most)) said = name "\t" (n + 0) "\tnot " least " to " most
+        }
+        {
+            out("ports", $1, 1, 64)
+            out("P", $2, 1, 2340)
+            out("W", $3, 16, 2048)
+            for (i = 4; i <= NF; i++) if ($i ~ /^[0-9]+$/) out("time", $i, 0, 5000)
+            if (said == "") said = "store\t" $1 * $3 * ($2 + 1) "\tabove 65536"
+            print said
+        }'
+}
