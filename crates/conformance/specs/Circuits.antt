@@ -4,22 +4,12 @@ use mathlib.Core.List.{List, [], _∷_, _++_}
 use Prim.Native.Nat.{ℕ}
 use lib.ListN.{getD, replicate, take}
 use Rattle.c_face.specs.Cards.{putOwn}
-use Rattle.c_face.specs.Keeping.{byteAt}
 use Rattle.circuits.specs.Calls.Call.{AddSlot, Claim, Lapse, Release, RemoveSlot, Report}
-use Rattle.circuits.specs.Commands.{claimOf, commandOf, groupCallOf, releaseOf}
-use Rattle.circuits.specs.Commands.{startOf as cardStart}
-use Rattle.circuits.specs.Owners.{ownedBytes, withOwner}
-use Rattle.circuits.specs.Parts.{groupOutcome, isSlot, isUsed, marked, owns, senderOf, withSender}
 use Rattle.circuits.specs.Readings.{ownedShown}
 use Rattle.circuits.specs.Shown.{after, board, by, told}
 use Rattle.circuits.specs.Views.{Made}
 use Rattle.conformance.specs.Rows.{Equal, Row, equal-rows}
-use Rattle.packet.specs.Kinds.{idleNumber, mstFails, mstFirst, mstNumbers}
-use Rattle.sender.specs.Board.{boardOf, highest, noRow, rowOf, rowsOf}
-use Rattle.sender.specs.Commands.{addOf, addedTo, fallen, fallenIn, freshOf, idleSlot, lapseOf, removeOf, removedFrom, startOf}
-use Rattle.sender.specs.Epochs.{beginOf, freshSender}
-use Rattle.sender.specs.Reports.{actedOn, comesBefore, mstApplied, numberAfter, numberApplied, opensWait, renumbered, reportOf, slotAfter, turnOf, waited}
-use Rattle.sender.specs.Table.{holderOf, membersOf, sizeOf}
+use Rattle.conformance.specs.Opened.{allOpen}
 
 -- group 0 has slot 3
 abbrev third : List Made
@@ -83,5 +73,5 @@ table =
     ∷ []
 
 pub examples : Equal table
-unfolding table ownedShown ownedBytes putOwn byteAt withOwner senderOf withSender isSlot owns isUsed marked groupOutcome cardStart claimOf releaseOf commandOf groupCallOf beginOf freshSender startOf freshOf idleSlot idleNumber addOf addedTo removeOf removedFrom fallen fallenIn lapseOf reportOf waited actedOn mstApplied numberApplied holderOf renumbered slotAfter numberAfter comesBefore turnOf opensWait sizeOf membersOf mstFails mstFirst mstNumbers boardOf rowsOf rowOf noRow highest
+unfolding allOpen table
 examples = equal-rows table refl

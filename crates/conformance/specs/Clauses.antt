@@ -36,40 +36,25 @@ use Rattle.bytes.specs.Bytes.{indexOf}
 use Rattle.c_face.specs.Orders.{commandAnswerOn, commandStateOn, kindAnswerOn, kindStateOn}
 use Rattle.circuits.specs.Answers.{answerNumber}
 use Rattle.circuits.specs.Calls.Call.{AddSlot, Claim}
-use Rattle.circuits.specs.Commands.{claimOf, commandOf}
 use Rattle.circuits.specs.Commands.{startOf as cardStart}
 use Rattle.circuits.specs.declared.card.Card.{Card}
-use Rattle.circuits.specs.Owners.{ownedBytes, withOwner}
-use Rattle.circuits.specs.Parts.{emptySender, groupOutcome, isSlot, marked, owns, senderOf, shownSender, withSender}
 use Rattle.circuits.specs.Readings.{boardShown, outgoingShown, ownedShown, ranksShown}
 use Rattle.circuits.specs.Shown.{after, by}
 use Rattle.conformance.specs.Rows.{Equal, Row, equal-rows}
-use Rattle.packet.specs.Counts.{carriesLow, counts, startsCount, tagByHigh, tagByLow}
-use Rattle.packet.specs.Crc.{crcOf, divisor, nibbleBits}
 use Rattle.packet.specs.declared.ruling.Ruling.{Ruling}
-use Rattle.packet.specs.Kinds.{endsEpoch, frames, idleNumber, lead, placeOf, tagAfter, tags}
-use Rattle.packet.specs.Layout.{carriedIn, fieldsOf}
-use Rattle.packet.specs.Reading.{readNibbles}
-use Rattle.packet.specs.Ruling.{rulingOf}
-use Rattle.packet.specs.Words.{assigned}
 use Rattle.recording.specs.declared.record.Record.the-variants.{Long, Malformed, Unfinished}
-use Rattle.recording.specs.Line.{foundOf}
 use Rattle.recording.specs.Record.{lineRecord, recordBy, recordIn}
 use Rattle.replaying.specs.declared.replay.Phase.the-variants as P
 use Rattle.replaying.specs.declared.replay.Replay.{Replay}
-use Rattle.replaying.specs.Output.{countIn, epochText, markText, portText, reportText, stateLine, stateText}
+use Rattle.replaying.specs.Output.{reportText}
 use Rattle.replaying.specs.Turn.{framedTurn}
-use Rattle.sender.specs.Board.{boardOf, highest, noRow, rowOf, rowsOf}
-use Rattle.sender.specs.Commands.{addOf, addedTo, freshOf, idleSlot, startOf}
-use Rattle.sender.specs.Epochs.{beginOf, freshSender, ranksOf}
-use Rattle.sender.specs.Table.{membersOf, sizeOf}
 use Rattle.step.specs.declared.run.Run.{Run}
-use Rattle.step.specs.OwnCount.{ownNumber, ownRuling, rulingIn}
-use Rattle.step.specs.Run.{begunRun, breaksAfter, endsPacket, inStepAt, loses, oddAfter, runOn, stayedRun}
+use Rattle.step.specs.OwnCount.{ownRuling}
+use Rattle.step.specs.Run.{runOn}
 use Rattle.text.specs.Ascii.{ascii}
-use Rattle.text.specs.Output.{decimalText, numberText}
 use Rattle.text.specs.Text.{LINE-END}
 use Rattle.text.specs.Text.{fieldsOf as fieldsIn}
+use Rattle.conformance.specs.Opened.{allOpen}
 
 abbrev flag : Bool → ℕ
 flag b = if b then 1 else 0
@@ -106,7 +91,7 @@ own =
     ∷ []
 
 pub own-rows : Equal own
-unfolding own ownNumber ownRuling rulingIn rulingOf readNibbles fieldsOf carriedIn crcOf divisor nibbleBits assigned runOn stayedRun begunRun breaksAfter endsPacket inStepAt loses oddAfter startsCount tagByHigh carriesLow tagByLow counts endsEpoch frames lead placeOf tagAfter tags
+unfolding allOpen own
 own-rows = equal-rows own refl
 
 -- Two circuits on one card (request 2026-06), and a replay (request 2026-05).
@@ -155,28 +140,28 @@ shown =
     ∷ []
 
 pub shown-rows : Equal shown
-unfolding shown reportText epochText markText portText stateText stateLine countIn decimalText numberText framedTurn boardShown outgoingShown ranksShown ownedShown ownedBytes shownSender emptySender withOwner senderOf withSender isSlot owns marked groupOutcome cardStart claimOf commandOf beginOf freshSender startOf freshOf idleSlot idleNumber addOf addedTo sizeOf membersOf boardOf rowsOf rowOf noRow highest ranksOf
+unfolding allOpen shown
 shown-rows = equal-rows shown refl
 
 -- 'Lines hold at most 8,192 bytes.' (request 2026-05) A line is read by its fields up to that, and is malformed above it, whether it has ended or not.
 
 pub line-within : (ports size at next : ℕ) (line : List ℕ) → length line ≤ 8192
     → lineRecord ports size at next line ≡ recordBy ports size (at + length line) next (fieldsIn line)
-unfolding lineRecord
+unfolding allOpen
 line-within ports size at next line b = rw (le-leb (length line) 8192 b)
 
 pub line-above : (ports size at next : ℕ) (line : List ℕ) → 8192 < length line → lineRecord ports size at next line ≡ Malformed next
-unfolding lineRecord
+unfolding allOpen
 line-above ports size at next line b = rw (lt-leb (length line) 8192 b)
 
 -- one that has no end yet, and so may still be a line or not
 pub open-within : (ports size at : ℕ) (rest : List ℕ) → 0 < length rest → length rest ≤ 8192 → (indexOf LINE-END rest <? length rest) ≡ false
     → recordIn ports size at rest ≡ Unfinished
-unfolding recordIn foundOf
+unfolding allOpen
 open-within ports size at rest some b e = rw (ne-eqb (length rest) 0 (λ z. omega arith), e, le-ltb 8192 (length rest) b)
 
 pub open-above : (ports size at : ℕ) (rest : List ℕ) → 8192 < length rest → (indexOf LINE-END rest <? length rest) ≡ false → recordIn ports size at rest ≡ Long
-unfolding recordIn foundOf
+unfolding allOpen
 open-above ports size at rest b e = rw (ne-eqb (length rest) 0 (λ z. omega arith), e, lt-ltb 8192 (length rest) b)
 
 -- A command in C is its kind, its group and its slot (request 2026-07).

@@ -4,77 +4,41 @@ use mathlib.Core.List.{List, [], _∷_, _++_}
 use Prim.Native.Nat.{ℕ, _+_}
 use lib.ListN.{length, replicate}
 use Rattle.packet.specs.declared.layout.Fields.{Fields}
-use Rattle.packet.specs.Crc.{crcOf, divisor, nibbleBits}
-use Rattle.packet.specs.Fixed.{fixedNibbles, readFixedAnswer, readFixedNibbles, writeFixedAnswer, writeFixedBytes}
-use Rattle.packet.specs.Layout.{byteOf, carriedIn, dataOf, fieldsOf, h4Of, highsOf, nibblesOf, sealedOf}
-use Rattle.packet.specs.Reading.{readAnswer, readNibbles, readingNumber, readingValues}
+use Rattle.packet.specs.Crc.{crcOf}
+use Rattle.packet.specs.Fixed.{readFixedAnswer, writeFixedAnswer, writeFixedBytes}
+use Rattle.packet.specs.Layout.{byteOf, nibblesOf}
+use Rattle.packet.specs.Reading.{readAnswer, readingNumber, readingValues}
 use Rattle.packet.specs.Shares.{joinedTo, shareOf}
-use Rattle.packet.specs.Words.{FIXED, ADD, NORM, EOS, IDLE, DNU, assigned}
-use Rattle.packet.specs.Writing.{fitting, writeAnswer, writeBytes, writingNumber}
+use Rattle.packet.specs.Words.{FIXED, ADD, NORM, EOS, IDLE, DNU}
+use Rattle.packet.specs.Writing.{writeAnswer, writeBytes, writingNumber}
 use Rattle.text.specs.Ascii.{ascii}
-use Rattle.text.specs.Fields.{digitOf, hexOf}
-use Rattle.text.specs.Fields.{numberOf as numberIn}
-use Rattle.text.specs.Output.{decimalText, wordText}
-use Rattle.text.specs.Text.{linesOf}
-use Rattle.text.specs.Text.{fieldsOf as fieldsIn}
-use Rattle.console.specs.Line.{lineOf, numberLine, reportLine, wordLine}
-use Rattle.console.specs.Line.{reportOf as reportIn}
-use Rattle.console.specs.Output.{answerText, boardText, slotText, waitText}
-use Rattle.console.specs.Replies.{outputOf, replyOf, sizeReply}
 use Rattle.console.specs.Runs.{wholeOutput}
-use Rattle.console.specs.Session.{beginning}
-use Rattle.paths.specs.Answers.{answerOf, areShort}
+use Rattle.paths.specs.Answers.{answerOf}
 use Rattle.paths.specs.Answers.{numberOf as planNumber}
-use Rattle.paths.specs.Checking.{accepts, agree, agreesWith, checkedOf}
-use Rattle.paths.specs.Order.{candidateAt, rankOf, ranksOf, sortedBy}
-use Rattle.paths.specs.Planning.{proposed, setOf, tightestOf}
+use Rattle.paths.specs.Checking.{checkedOf}
+use Rattle.paths.specs.Planning.{setOf}
 use Rattle.payload.specs.Answers.{numberOf}
 use Rattle.payload.specs.Joining.{joined, wholeAnswer}
 use Rattle.payload.specs.Spreading.{spreadAll}
 use Rattle.ground.specs.Plain.{if_then_else_}
 use Rattle.ground.specs.Table.{tabulate}
-use Rattle.ground.specs.Circle.{after as afterOn}
-use Rattle.packet.specs.Counts.{tagByHigh, tagByLow, counts, carriesLow, nibbleIn, nibblePlace, startsCount}
-use Rattle.packet.specs.Kinds.{distanceOf, endsEpoch, epochAfter, epochOf, epochs, epochsIn, firstTag, frames, idleNumber, lead, mstFails, mstFirst, mstNumbers, placeOf, startsEpoch, tagAfter, tagBefore, tags}
-use Rattle.phases.specs.Beginning.{begins, foremost, further, latest, noTag, ready, within}
-use Rattle.phases.specs.Due.{brought, owesNothing, silent}
-use Rattle.phases.specs.Passing.{notedBy, passedGroup, passedOf, passedPort, passedPorts, passedStep, ruledBy}
-use Rattle.phases.specs.Settling.{beginBy, begunOf, clearedPort, clearedPorts, clearedStep, gatherBy, settledOf, stopBy, stoppedOf}
-use Rattle.phases.specs.Sizes.{portsIn, storeFor}
-use Rattle.phases.specs.Sizes.{sized as sizedGroup}
-use Rattle.receiver.specs.Frame.{frameAnswer, frameRows, frameStore, gatheredBy, marksBy, portRows, refusalBy, settledBy, storeBy, takenRows, takenStore}
-use Rattle.receiver.specs.Lengths.{frameFits, rowsFit}
-use Rattle.receiver.specs.Starting.{freshPort, freshPorts, sizedAnswer, sizedFits, sizedRows, startAnswer, startAsAnswer, startAsRows, startFits, startRight, timesWithin}
-use Rattle.rows.specs.Group.{groupAt, groupOf, groupRow, putGroup}
-use Rattle.rows.specs.Member.{memberAt, memberOf, memberRow, putMember}
-use Rattle.rows.specs.Packets.{marksAt, packetsAt, putMarks, putPackets}
-use Rattle.rows.specs.Rows.{putRow, rowIn}
-use Rattle.rows.specs.Step.{putStep, stepAt, stepRow}
-use Rattle.rows.specs.Step.{stepOf as stepIn}
-use Rattle.sender.specs.Board.{boardOf, highest, noRow, rowOf, rowsOf}
-use Rattle.sender.specs.Commands.{addOf, addedTo, fallen, fallenIn, freshOf, idleSlot, lapseOf, removeOf, removedFrom, startOf}
+use Rattle.packet.specs.Kinds.{frames}
+use Rattle.receiver.specs.Starting.{startAnswer}
+use Rattle.sender.specs.Board.{boardOf}
 use Rattle.sender.specs.declared.epochs.Sender.{Sender}
 use Rattle.sender.specs.Calls.{Call}
 use Rattle.sender.specs.Calls.Call.{AddSlot, Lapse, RemoveSlot, Report}
-use Rattle.sender.specs.Epochs.{beginOf, freshSender, senderRun, startEpochOf, startedEpoch, startedSender}
+use Rattle.sender.specs.Epochs.{beginOf, senderRun}
 use Rattle.sender.specs.Epochs.SenderCall.{OnTable, StartEpoch}
-use Rattle.sender.specs.Reports.{actedOn, comesBefore, mstApplied, numberAfter, opensWait, renumbered, reportOf, slotAfter, numberApplied, turnOf, waited}
 use Rattle.sender.specs.Shown.{after, shown, started}
-use Rattle.sender.specs.Table.{holderOf, membersOf, sizeOf}
-use Rattle.spoken.specs.Applying.{appliedOf, changesFit, fits, withChanges}
-use Rattle.spoken.specs.Changes.{changesIn, changesOf, comparedOf, listOf, noChanges}
+use Rattle.spoken.specs.Changes.{comparedOf}
 use Rattle.spoken.specs.declared.lists.Changes.{Changes}
 use Rattle.spoken.specs.Shown.{appliedNumbers, comparedNumbers}
-use Rattle.spoken.specs.Speaking.{canSpeak, changeText, changesSpeak, nowText, rowText, spokenText, waitLine, wasText}
-use Rattle.spoken.specs.Speaking.{slotText as spokenSlot}
+use Rattle.spoken.specs.Speaking.{canSpeak, spokenText}
 use Rattle.spoken.specs.Taking.{takenOf as boardTaken}
-use Rattle.step.specs.Arrival.{arrives, frameDropped, byStart, byWindow, countsOn, distanceIn, flagged, inStep, joining, keeps, outside, readable, takenOf}
-use Rattle.step.specs.OwnCount.{endsOdd, oddPacket, ownNumber, rightCrc}
-use Rattle.step.specs.Run.{begunRun, breaksAfter, endsPacket, furtherRun, gainedRun, inStepAt, loses, oddAfter, runOn, secondRun, stayedRun}
-use Rattle.store.specs.Frames.{byteAt, h4At, packetIn, placeIn, ringOf, storedAt}
-use Rattle.store.specs.Marks.{cutByte, cutFrom, firstMark, markedAt, markedByte, passedByte, passedMarks}
 use Rattle.conformance.specs.Hosts.{Host, begun, counting, fed, handed, opened, openedWith, stored}
 use Rattle.conformance.specs.Rows.{Row, Equal, equal-rows}
+use Rattle.conformance.specs.Opened.{allOpen}
 
 -- nibbles two by two, as 01 writes a packet's data and CRC
 abbrev bytes : List ℕ → List ℕ
@@ -428,5 +392,5 @@ table =
     ∷ []
 
 pub examples : Equal table
-unfolding table comparedOf changesOf changesIn listOf noChanges appliedOf fits changesFit withChanges spokenText changeText wasText nowText rowText spokenSlot waitLine canSpeak changesSpeak beginOf freshSender startEpochOf startedSender startedEpoch nibblesOf sealedOf dataOf crcOf divisor nibbleBits writeAnswer writeBytes fitting assigned h4Of readAnswer readNibbles fieldsOf carriedIn highsOf boardOf rowsOf rowOf noRow highest startOf freshOf idleSlot idleNumber addOf addedTo removeOf removedFrom fallen fallenIn lapseOf reportOf waited actedOn mstApplied numberApplied holderOf renumbered slotAfter numberAfter comesBefore turnOf opensWait sizeOf membersOf mstFails mstFirst mstNumbers wholeOutput beginning linesOf fieldsIn lineOf wordLine numberLine reportLine reportIn numberIn digitOf hexOf replyOf sizeReply outputOf answerText boardText slotText waitText wordText decimalText afterOn nibbleIn nibblePlace startsCount tagByHigh carriesLow tagByLow counts endsEpoch epochsIn frames tagAfter tagBefore tags lead epochs epochAfter epochOf distanceOf placeOf startsEpoch firstTag settledOf clearedStep clearedPort clearedPorts stoppedOf stopBy begunOf beginBy gatherBy portsIn sizedGroup storeFor ready latest noTag further foremost within begins owesNothing brought silent ruledBy passedStep notedBy passedPort passedPorts passedGroup passedOf frameFits rowsFit frameAnswer frameRows frameStore gatheredBy marksBy portRows storeBy settledBy takenRows takenStore refusalBy startFits sizedAnswer sizedRows freshPort freshPorts groupAt groupOf groupRow putGroup rowIn putRow marksAt packetsAt putMarks putPackets memberAt putMember memberOf memberRow putStep stepAt stepIn stepRow takenOf inStep readable distanceIn flagged countsOn frameDropped outside keeps joining byWindow byStart arrives inStepAt begunRun secondRun furtherRun gainedRun stayedRun loses breaksAfter oddAfter endsPacket endsOdd oddPacket rightCrc ownNumber runOn placeIn storedAt ringOf byteAt h4At packetIn cutFrom markedAt firstMark markedByte cutByte passedByte passedMarks answerOf areShort setOf proposed tightestOf ranksOf rankOf candidateAt sortedBy checkedOf accepts agreesWith agree joinedTo shareOf fixedNibbles readFixedAnswer readFixedNibbles writeFixedAnswer writeFixedBytes startAsAnswer startRight timesWithin sizedFits startAsRows
+unfolding allOpen table
 examples = equal-rows table refl

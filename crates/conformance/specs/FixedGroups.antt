@@ -9,34 +9,19 @@ use Rattle.c_face.specs.Receivers.{startAsAnswerC}
 use Rattle.conformance.specs.Rows.{Equal, Row, equal-rows}
 use Rattle.conformance.specs.Waits.{away, here, statesAt}
 use Rattle.judge.specs.declared.seen.Seen.{Seen}
-use Rattle.judge.specs.Order.{activeIn, orderOf, portOf, rankOf}
-use Rattle.judge.specs.Verdict.{fixedExact, fixedHeld, fixedVerdict, judgeOf, missing, repeats, takes}
-use Rattle.packet.specs.Crc.{crcOf, divisor, nibbleBits}
-use Rattle.packet.specs.Fixed.{fixedNibbles, fixedRulingOf, readFixedAnswer, readFixedNibbles, writeFixedAnswer, writeFixedBytes}
-use Rattle.packet.specs.Kinds.{frames, idleNumber, mstFails, mstFirst, mstNumbers, tags}
-use Rattle.packet.specs.Layout.{carriedIn, dataOf, fieldsOf, h4Of, highsOf, sealedOf}
-use Rattle.packet.specs.Reading.{readNibbles, readingNumber, readingValues}
-use Rattle.packet.specs.Ruling.{rulingOf}
-use Rattle.packet.specs.Words.{assigned}
+use Rattle.judge.specs.Order.{orderOf}
+use Rattle.judge.specs.Verdict.{judgeOf}
+use Rattle.packet.specs.Fixed.{readFixedAnswer, writeFixedAnswer, writeFixedBytes}
+use Rattle.packet.specs.Reading.{readingNumber, readingValues}
 use Rattle.packet.specs.Writing.{writingNumber}
 use Rattle.phases.specs.Passing.{notedBy}
-use Rattle.phases.specs.Sizes.{portsIn, sized}
-use Rattle.receiver.specs.Lengths.{rowsFit}
-use Rattle.receiver.specs.Report.{replyPort, replyPorts, withState}
-use Rattle.receiver.specs.Shown.{portShown, replyFit, replyOf, replyOut}
-use Rattle.receiver.specs.Starting.{freshMember, freshPort, freshPorts, freshStep, groupWith, sizedAnswer, sizedFits, sizedRows, startAnswer, startAsAnswer, startAsRows, startFits, startRight, startRows, timesWithin}
-use Rattle.reply.specs.Choosing.{claims, grant, granted, holders}
-use Rattle.reply.specs.Telling.{mstFrom, mstOf, okHolds}
-use Rattle.reply.specs.Waiting.{chosenOf, keptNumbers, moreKept, rounds, someJoin, standing, standingBy, standingsOf}
+use Rattle.receiver.specs.Report.{withState}
+use Rattle.receiver.specs.Shown.{portShown, replyOut}
+use Rattle.receiver.specs.Starting.{freshMember, freshStep, groupWith, startAnswer, startRows}
+use Rattle.reply.specs.Waiting.{standing}
 use Rattle.rows.specs.declared.member.Member.{Member}
-use Rattle.rows.specs.Group.{groupAt, groupOf, groupRow, putGroup}
-use Rattle.rows.specs.Member.{memberAt, memberOf, memberRow, putMember}
-use Rattle.rows.specs.Packets.{putMarks, putPackets}
-use Rattle.rows.specs.Rows.{putRow, rowIn}
-use Rattle.rows.specs.Step.{putStep, stepAt, stepOf, stepRow}
-use Rattle.step.specs.Arrival.{inStep, readable}
-use Rattle.step.specs.OwnCount.{oddPacket, ownNumber, ownRuling, rightCrc, rulingIn}
-use Rattle.step.specs.Run.{inStepAt}
+use Rattle.step.specs.OwnCount.{oddPacket, ownRuling}
+use Rattle.conformance.specs.Opened.{allOpen}
 
 -- A port with a whole good packet and all its frames, by its number. One with no whole packet, with a refused one, and one that lacks a frame.
 abbrev saw : ℕ → Seen
@@ -172,5 +157,5 @@ table =
     ∷ []
 
 pub fixed-groups : Equal table
-unfolding table activeIn orderOf portOf rankOf fixedExact fixedHeld fixedVerdict judgeOf missing repeats takes crcOf divisor nibbleBits fixedNibbles fixedRulingOf readFixedAnswer readFixedNibbles writeFixedAnswer writeFixedBytes h4Of frames idleNumber mstFails mstFirst mstNumbers tags carriedIn dataOf fieldsOf highsOf sealedOf readNibbles assigned notedBy portsIn sized rowsFit replyPort replyPorts withState portShown replyFit replyOf replyOut freshPort freshPorts sizedAnswer sizedFits sizedRows startAsAnswer startAsRows startFits startRight timesWithin claims grant granted holders mstFrom mstOf okHolds chosenOf keptNumbers moreKept rounds someJoin standingBy standingsOf groupAt groupOf groupRow putGroup memberAt memberOf memberRow putMember putMarks putPackets putRow rowIn putStep stepAt stepOf stepRow inStep readable oddPacket ownNumber ownRuling rightCrc rulingIn rulingOf inStepAt
+unfolding allOpen table
 fixed-groups = equal-rows table refl

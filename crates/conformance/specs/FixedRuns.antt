@@ -5,43 +5,11 @@ use Prim.Native.Nat.{ℕ}
 use lib.ListN.{getD, replicate}
 use Rattle.conformance.specs.Hosts.{Host, damagedWith, fed, fedWith, fetched, packetWith}
 use Rattle.conformance.specs.Rows.{Equal, Row, equal-rows}
-use Rattle.ground.specs.Circle.{after as afterOn}
-use Rattle.judge.specs.Order.{activeIn, orderOf, portOf, rankOf}
-use Rattle.judge.specs.Verdict.{doubtfulBy, eosAlone, eosWrong, exact, fixedExact, fixedHeld, fixedVerdict, gidDiffers, heldBy, highest, judgeOf, lcasVerdict, missing, repeats, takes}
-use Rattle.packet.specs.Counts.{carriesLow, counts, nibbleIn, nibblePlace, startsCount, tagByHigh, tagByLow}
-use Rattle.packet.specs.Crc.{crcOf, divisor, nibbleBits}
-use Rattle.packet.specs.Fixed.{fixedRulingOf, readFixedNibbles}
-use Rattle.packet.specs.Kinds.{distanceOf, endsEpoch, epochAfter, epochOf, epochs, epochsIn, firstTag, frames, idleNumber, lead, mstFails, mstFirst, mstNumbers, placeOf, startsEpoch, tagAfter, tagBefore, tags}
-use Rattle.packet.specs.Layout.{carriedIn, dataOf, fieldsOf, h4Of, highsOf, nibblesOf, sealedOf}
-use Rattle.packet.specs.Reading.{readNibbles}
-use Rattle.packet.specs.Ruling.{rulingOf}
-use Rattle.packet.specs.Words.{assigned}
-use Rattle.phases.specs.Beginning.{begins, foremost, further, latest, noTag, ready, within}
-use Rattle.phases.specs.Due.{brought, owesNothing, silent}
-use Rattle.phases.specs.Passing.{notedBy, passedGroup, passedOf, passedPort, passedPorts, passedStep, ruledBy}
-use Rattle.phases.specs.Settling.{beginBy, begunOf, clearedPort, clearedPorts, clearedStep, gatherBy, settledOf, stopBy, stoppedOf}
-use Rattle.phases.specs.Sizes.{portsIn, storeFor}
-use Rattle.phases.specs.Sizes.{sized as sizedGroup}
-use Rattle.receiver.specs.Fetch.{dueIn, fetchRecord, fetchRows, fits, recordOf, reportIfDue, rowsIfDue}
-use Rattle.receiver.specs.Frame.{frameAnswer, frameRows, frameStore, gatheredBy, marksBy, portRows, refusalBy, settledBy, storeBy, takenRows, takenStore}
-use Rattle.receiver.specs.Lengths.{fetchFits, frameFits, outputFor, rowsFit}
-use Rattle.receiver.specs.Report.{replyPort, replyPorts, reportBy, reportOf, reportedOf, rulingEpoch, seenAll, seenOf, statePut, statesPut, statesWorkedOut, withState}
-use Rattle.receiver.specs.Shown.{portIn, portShown, portsOut, replyFit, replyOf, replyOut, shownFit}
-use Rattle.receiver.specs.Starting.{freshPort, freshPorts, sizedAnswer, sizedFits, sizedRows, startAnswer, startAsAnswer, startAsRows, startFits, startRight, startRows, timesWithin}
-use Rattle.reply.specs.Choosing.{claims, grant, granted, holders}
-use Rattle.reply.specs.Telling.{ackOf, mstFrom, mstOf, okHolds, turns}
-use Rattle.reply.specs.Waiting.{chosenOf, keptNumbers, moreKept, rounds, someJoin, standingBy, standingsOf}
-use Rattle.rows.specs.Group.{groupAt, groupOf, groupRow, putGroup}
-use Rattle.rows.specs.Member.{memberAt, memberOf, memberRow, putMember}
-use Rattle.rows.specs.Packets.{marksAt, packetsAt, putMarks, putPackets}
-use Rattle.rows.specs.Rows.{putRow, rowIn, rowsFor}
-use Rattle.rows.specs.Step.{putStep, stepAt, stepRow}
-use Rattle.rows.specs.Step.{stepOf as stepIn}
-use Rattle.step.specs.Arrival.{arrives, byStart, byWindow, countsOn, distanceIn, flagged, frameDropped, inStep, joining, keeps, outside, readable, takenOf}
-use Rattle.step.specs.OwnCount.{endsOdd, oddPacket, ownNumber, ownRuling, rightCrc, rulingIn}
-use Rattle.step.specs.Run.{begunRun, breaksAfter, endsPacket, furtherRun, gainedRun, inStepAt, loses, oddAfter, runOn, secondRun, stayedRun}
-use Rattle.store.specs.Frames.{byteAt, h4At, packetIn, placeIn, ringOf, storedAt}
-use Rattle.store.specs.Marks.{cutByte, cutFrom, firstMark, markedAt, markedByte, passedByte, passedMarks}
+use Rattle.receiver.specs.Fetch.{fetchRecord}
+use Rattle.receiver.specs.Shown.{portsOut, replyOut}
+use Rattle.receiver.specs.Starting.{startAnswer, startRows}
+use Rattle.rows.specs.Rows.{rowsFor}
+use Rattle.conformance.specs.Opened.{allOpen}
 
 -- one port, P is 1 and W is 16
 abbrev openedAs : ℕ → Host
@@ -83,5 +51,5 @@ table =
     ∷ []
 
 pub fixed-runs : Equal table
-unfolding table afterOn activeIn orderOf portOf rankOf doubtfulBy eosAlone eosWrong exact fixedExact fixedHeld fixedVerdict fixedRulingOf readFixedNibbles gidDiffers heldBy highest judgeOf lcasVerdict missing repeats takes carriesLow counts nibbleIn nibblePlace startsCount tagByHigh tagByLow crcOf divisor nibbleBits distanceOf endsEpoch epochAfter epochOf epochs epochsIn firstTag frames idleNumber lead mstFails mstFirst mstNumbers placeOf startsEpoch tagAfter tagBefore tags carriedIn dataOf fieldsOf h4Of highsOf nibblesOf sealedOf readNibbles rulingOf assigned begins foremost further latest noTag ready within brought owesNothing silent notedBy passedGroup passedOf passedPort passedPorts passedStep ruledBy beginBy begunOf clearedPort clearedPorts clearedStep gatherBy settledOf stopBy stoppedOf portsIn storeFor sizedGroup dueIn fetchRecord fetchRows fits recordOf reportIfDue rowsIfDue frameAnswer frameRows frameStore gatheredBy marksBy portRows refusalBy settledBy storeBy takenRows takenStore fetchFits frameFits outputFor rowsFit replyPort replyPorts reportBy reportOf reportedOf rulingEpoch seenAll seenOf statePut statesPut statesWorkedOut withState portIn portShown portsOut replyFit replyOf replyOut shownFit freshPort freshPorts sizedAnswer sizedFits sizedRows startAsAnswer startAsRows startFits startRight timesWithin claims grant granted holders ackOf mstFrom mstOf okHolds turns chosenOf keptNumbers moreKept rounds someJoin standingBy standingsOf groupAt groupOf groupRow putGroup memberAt memberOf memberRow putMember marksAt packetsAt putMarks putPackets putRow rowIn putStep stepAt stepRow stepIn arrives byStart byWindow countsOn distanceIn flagged frameDropped inStep joining keeps outside readable takenOf endsOdd oddPacket rightCrc ownNumber ownRuling rulingIn begunRun breaksAfter endsPacket furtherRun gainedRun inStepAt loses oddAfter runOn secondRun stayedRun byteAt h4At packetIn placeIn ringOf storedAt cutByte cutFrom firstMark markedAt markedByte passedByte passedMarks
+unfolding allOpen table
 fixed-runs = equal-rows table refl

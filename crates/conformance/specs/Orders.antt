@@ -5,21 +5,13 @@ use Prim.Native.Nat.{ℕ}
 use Rattle.c_face.specs.Orders.{kindOf}
 use Rattle.circuits.specs.declared.card.Card.{Card}
 use Rattle.circuits.specs.Calls.Call.{AddSlot, Claim}
-use Rattle.circuits.specs.Commands.{claimOf, commandOf, releaseOf}
-use Rattle.circuits.specs.Commands.{startOf as cardStart}
-use Rattle.circuits.specs.Owners.{withOwner}
-use Rattle.circuits.specs.Parts.{groupOutcome, isSlot, isUsed, marked, owns, senderOf, withSender}
 use Rattle.circuits.specs.Shown.{after, board, by}
 use Rattle.conformance.specs.Rows.{Equal, Row, equal-rows}
 use Rattle.orders.specs.declared.commands.Command.{Command}
 use Rattle.orders.specs.declared.commands.Kind as K
-use Rattle.orders.specs.Orders.{firstAnswers, outcomeBy}
+use Rattle.orders.specs.Orders.{firstAnswers}
 use Rattle.orders.specs.Shown.{add, cardLeft, claim, numbersOf, remove}
-use Rattle.packet.specs.Kinds.{idleNumber, mstFails, mstFirst, mstNumbers}
-use Rattle.sender.specs.Board.{boardOf, highest, noRow, rowOf, rowsOf}
-use Rattle.sender.specs.Commands.{addOf, addedTo, fallen, fallenIn, freshOf, idleSlot, removeOf, removedFrom, startOf}
-use Rattle.sender.specs.Epochs.{beginOf, freshSender}
-use Rattle.sender.specs.Table.{membersOf, sizeOf}
+use Rattle.conformance.specs.Opened.{allOpen}
 
 -- two slots; group 0 has slot 0, which is being added
 abbrev adding : Card
@@ -61,7 +53,7 @@ table =
     ∷ []
 
 pub examples : Equal table
-unfolding table outcomeBy withOwner senderOf withSender isSlot owns isUsed marked groupOutcome cardStart claimOf releaseOf commandOf beginOf freshSender startOf freshOf idleSlot idleNumber addOf addedTo removeOf removedFrom fallen fallenIn sizeOf membersOf mstFails mstFirst mstNumbers boardOf rowsOf rowOf noRow highest
+unfolding allOpen table
 examples = equal-rows table refl
 
 -- a command's kind in C, by the numbers of the header

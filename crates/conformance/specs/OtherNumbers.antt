@@ -5,42 +5,13 @@ use Prim.Native.Nat.{ℕ, _/_, _*_}
 use lib.ListN.{getD, replicate}
 use Rattle.conformance.specs.Hosts.{Host, counting, fed, fedWith, fetched, handed, opened, packetWith}
 use Rattle.conformance.specs.Rows.{Equal, Row, equal-rows}
-use Rattle.ground.specs.Circle.{after as afterOn}
-use Rattle.judge.specs.Order.{activeIn, orderOf, portOf, rankOf}
-use Rattle.judge.specs.Verdict.{doubtfulBy, eosAlone, eosWrong, exact, gidDiffers, heldBy, highest, judgeOf, lcasVerdict, missing, repeats, takes}
-use Rattle.packet.specs.Counts.{carriesLow, counts, nibbleIn, nibblePlace, startsCount, tagByHigh, tagByLow}
-use Rattle.packet.specs.Crc.{crcOf, divisor, nibbleBits}
-use Rattle.packet.specs.Kinds.{distanceOf, endsEpoch, epochAfter, epochOf, epochs, epochsIn, firstTag, frames, idleNumber, lead, mstFails, mstFirst, mstNumbers, placeOf, startsEpoch, tagAfter, tagBefore, tags}
-use Rattle.packet.specs.Layout.{carriedIn, dataOf, fieldsOf, h4Of, highsOf, nibblesOf, sealedOf}
+use Rattle.packet.specs.Kinds.{epochOf, placeOf}
+use Rattle.packet.specs.Layout.{h4Of, nibblesOf}
 use Rattle.packet.specs.Reading.{readNibbles, readingNumber}
-use Rattle.packet.specs.Ruling.{rulingOf}
-use Rattle.packet.specs.Words.{EOS, FIXED, assigned}
-use Rattle.phases.specs.Beginning.{begins, foremost, further, latest, noTag, ready, within}
-use Rattle.phases.specs.Due.{brought, owesNothing, silent}
-use Rattle.phases.specs.Passing.{notedBy, passedGroup, passedOf, passedPort, passedPorts, passedStep, ruledBy}
-use Rattle.phases.specs.Settling.{beginBy, begunOf, clearedPort, clearedPorts, clearedStep, gatherBy, settledOf, stopBy, stoppedOf}
-use Rattle.phases.specs.Sizes.{portsIn, storeFor}
-use Rattle.phases.specs.Sizes.{sized as sizedGroup}
-use Rattle.receiver.specs.Fetch.{dueIn, fetchRecord, fetchRows, fits, recordOf, reportIfDue, rowsIfDue}
-use Rattle.receiver.specs.Frame.{frameAnswer, frameRows, frameStore, gatheredBy, marksBy, portRows, refusalBy, settledBy, storeBy, takenRows, takenStore}
-use Rattle.receiver.specs.Lengths.{fetchFits, frameFits, outputFor, rowsFit}
-use Rattle.receiver.specs.Report.{replyPort, replyPorts, reportBy, reportOf, reportedOf, rulingEpoch, seenAll, seenOf, statePut, statesPut, statesWorkedOut, withState}
-use Rattle.receiver.specs.Shown.{portIn, portShown, portsOut, replyFit, replyOf, replyOut, shownFit}
-use Rattle.receiver.specs.Starting.{freshPort, freshPorts, sizedAnswer, sizedFits, sizedRows, startAsAnswer, startAsRows, startFits, startRight, timesWithin}
-use Rattle.reply.specs.Choosing.{claims, grant, granted, holders}
-use Rattle.reply.specs.Telling.{ackOf, mstFrom, mstOf, okHolds, turns}
-use Rattle.reply.specs.Waiting.{chosenOf, keptNumbers, moreKept, rounds, someJoin, standingBy, standingsOf}
-use Rattle.rows.specs.Group.{groupAt, groupOf, groupRow, putGroup}
-use Rattle.rows.specs.Member.{memberAt, memberOf, memberRow, putMember}
-use Rattle.rows.specs.Packets.{marksAt, packetsAt, putMarks, putPackets}
-use Rattle.rows.specs.Rows.{putRow, rowIn}
-use Rattle.rows.specs.Step.{putStep, stepAt, stepRow}
-use Rattle.rows.specs.Step.{stepOf as stepIn}
-use Rattle.step.specs.Arrival.{arrives, byStart, byWindow, countsOn, distanceIn, flagged, frameDropped, inStep, joining, keeps, outside, readable, takenOf}
-use Rattle.step.specs.OwnCount.{endsOdd, oddPacket, ownNumber, ownRuling, rightCrc, rulingIn}
-use Rattle.step.specs.Run.{begunRun, breaksAfter, endsPacket, furtherRun, gainedRun, inStepAt, loses, oddAfter, runOn, secondRun, stayedRun}
-use Rattle.store.specs.Frames.{byteAt, h4At, packetIn, placeIn, ringOf, storedAt}
-use Rattle.store.specs.Marks.{cutByte, cutFrom, firstMark, markedAt, markedByte, passedByte, passedMarks}
+use Rattle.packet.specs.Words.{EOS, FIXED}
+use Rattle.receiver.specs.Fetch.{fetchRecord}
+use Rattle.receiver.specs.Shown.{portsOut, replyOut}
+use Rattle.conformance.specs.Opened.{allOpen}
 
 -- W is 16. One port in step, its latest tag 39, so that epoch 3 starts.
 abbrev at40 : Host
@@ -116,13 +87,13 @@ odd =
     ∷ []
 
 pub members-rows : Equal members
-unfolding members afterOn activeIn orderOf portOf rankOf doubtfulBy eosAlone eosWrong exact gidDiffers heldBy highest judgeOf lcasVerdict missing repeats takes carriesLow counts nibbleIn nibblePlace startsCount tagByHigh tagByLow crcOf divisor nibbleBits distanceOf endsEpoch epochAfter epochOf epochs epochsIn firstTag frames idleNumber lead mstFails mstFirst mstNumbers placeOf startsEpoch tagAfter tagBefore tags carriedIn dataOf fieldsOf h4Of highsOf nibblesOf sealedOf readNibbles rulingOf assigned begins foremost further latest noTag ready within brought owesNothing silent notedBy passedGroup passedOf passedPort passedPorts passedStep ruledBy beginBy begunOf clearedPort clearedPorts clearedStep gatherBy settledOf stopBy stoppedOf portsIn storeFor sizedGroup dueIn fetchRecord fetchRows fits recordOf reportIfDue rowsIfDue frameAnswer frameRows frameStore gatheredBy marksBy portRows refusalBy settledBy storeBy takenRows takenStore fetchFits frameFits outputFor rowsFit replyPort replyPorts reportBy reportOf reportedOf rulingEpoch seenAll seenOf statePut statesPut statesWorkedOut withState portIn portShown portsOut replyFit replyOf replyOut shownFit freshPort freshPorts sizedAnswer sizedFits sizedRows startAsAnswer startAsRows startFits startRight timesWithin claims grant granted holders ackOf mstFrom mstOf okHolds turns chosenOf keptNumbers moreKept rounds someJoin standingBy standingsOf groupAt groupOf groupRow putGroup memberAt memberOf memberRow putMember marksAt packetsAt putMarks putPackets putRow rowIn putStep stepAt stepRow stepIn arrives byStart byWindow countsOn distanceIn flagged frameDropped inStep joining keeps outside readable takenOf endsOdd oddPacket rightCrc ownNumber ownRuling rulingIn begunRun breaksAfter endsPacket furtherRun gainedRun inStepAt loses oddAfter runOn secondRun stayedRun byteAt h4At packetIn placeIn ringOf storedAt cutByte cutFrom firstMark markedAt markedByte passedByte passedMarks
+unfolding allOpen members
 members-rows = equal-rows members refl
 
 pub ruled-rows : Equal ruled
-unfolding ruled afterOn activeIn orderOf portOf rankOf doubtfulBy eosAlone eosWrong exact gidDiffers heldBy highest judgeOf lcasVerdict missing repeats takes carriesLow counts nibbleIn nibblePlace startsCount tagByHigh tagByLow crcOf divisor nibbleBits distanceOf endsEpoch epochAfter epochOf epochs epochsIn firstTag frames idleNumber lead mstFails mstFirst mstNumbers placeOf startsEpoch tagAfter tagBefore tags carriedIn dataOf fieldsOf h4Of highsOf nibblesOf sealedOf readNibbles rulingOf assigned begins foremost further latest noTag ready within brought owesNothing silent notedBy passedGroup passedOf passedPort passedPorts passedStep ruledBy beginBy begunOf clearedPort clearedPorts clearedStep gatherBy settledOf stopBy stoppedOf portsIn storeFor sizedGroup dueIn fetchRecord fetchRows fits recordOf reportIfDue rowsIfDue frameAnswer frameRows frameStore gatheredBy marksBy portRows refusalBy settledBy storeBy takenRows takenStore fetchFits frameFits outputFor rowsFit replyPort replyPorts reportBy reportOf reportedOf rulingEpoch seenAll seenOf statePut statesPut statesWorkedOut withState portIn portShown portsOut replyFit replyOf replyOut shownFit freshPort freshPorts sizedAnswer sizedFits sizedRows startAsAnswer startAsRows startFits startRight timesWithin claims grant granted holders ackOf mstFrom mstOf okHolds turns chosenOf keptNumbers moreKept rounds someJoin standingBy standingsOf groupAt groupOf groupRow putGroup memberAt memberOf memberRow putMember marksAt packetsAt putMarks putPackets putRow rowIn putStep stepAt stepRow stepIn arrives byStart byWindow countsOn distanceIn flagged frameDropped inStep joining keeps outside readable takenOf endsOdd oddPacket rightCrc ownNumber ownRuling rulingIn begunRun breaksAfter endsPacket furtherRun gainedRun inStepAt loses oddAfter runOn secondRun stayedRun byteAt h4At packetIn placeIn ringOf storedAt cutByte cutFrom firstMark markedAt markedByte passedByte passedMarks
+unfolding allOpen ruled
 ruled-rows = equal-rows ruled refl
 
 pub odd-rows : Equal odd
-unfolding odd afterOn activeIn orderOf portOf rankOf doubtfulBy eosAlone eosWrong exact gidDiffers heldBy highest judgeOf lcasVerdict missing repeats takes carriesLow counts nibbleIn nibblePlace startsCount tagByHigh tagByLow crcOf divisor nibbleBits distanceOf endsEpoch epochAfter epochOf epochs epochsIn firstTag frames idleNumber lead mstFails mstFirst mstNumbers placeOf startsEpoch tagAfter tagBefore tags carriedIn dataOf fieldsOf h4Of highsOf nibblesOf sealedOf readNibbles rulingOf assigned begins foremost further latest noTag ready within brought owesNothing silent notedBy passedGroup passedOf passedPort passedPorts passedStep ruledBy beginBy begunOf clearedPort clearedPorts clearedStep gatherBy settledOf stopBy stoppedOf portsIn storeFor sizedGroup dueIn fetchRecord fetchRows fits recordOf reportIfDue rowsIfDue frameAnswer frameRows frameStore gatheredBy marksBy portRows refusalBy settledBy storeBy takenRows takenStore fetchFits frameFits outputFor rowsFit replyPort replyPorts reportBy reportOf reportedOf rulingEpoch seenAll seenOf statePut statesPut statesWorkedOut withState portIn portShown portsOut replyFit replyOf replyOut shownFit freshPort freshPorts sizedAnswer sizedFits sizedRows startAsAnswer startAsRows startFits startRight timesWithin claims grant granted holders ackOf mstFrom mstOf okHolds turns chosenOf keptNumbers moreKept rounds someJoin standingBy standingsOf groupAt groupOf groupRow putGroup memberAt memberOf memberRow putMember marksAt packetsAt putMarks putPackets putRow rowIn putStep stepAt stepRow stepIn arrives byStart byWindow countsOn distanceIn flagged frameDropped inStep joining keeps outside readable takenOf endsOdd oddPacket rightCrc ownNumber ownRuling rulingIn begunRun breaksAfter endsPacket furtherRun gainedRun inStepAt loses oddAfter runOn secondRun stayedRun byteAt h4At packetIn placeIn ringOf storedAt cutByte cutFrom firstMark markedAt markedByte passedByte passedMarks
+unfolding allOpen odd
 odd-rows = equal-rows odd refl

@@ -4,63 +4,16 @@ use mathlib.Core.Path.{_≡_, refl}
 use mathlib.Core.List.{List, [], _∷_, _++_}
 use Prim.Native.Nat.{ℕ}
 use lib.ListN.{drop, replicate, take}
-use Rattle.ground.specs.Circle.{after}
-use Rattle.judge.specs.Order.{activeIn, orderOf, portOf}
-use Rattle.judge.specs.Order.{rankOf as rankSeen}
-use Rattle.judge.specs.Verdict.{doubtfulBy, eosAlone, eosWrong, exact, fixedExact, fixedHeld, fixedVerdict, gidDiffers, heldBy, judgeOf, lcasVerdict, missing, repeats, takes}
-use Rattle.judge.specs.Verdict.{highest as highestSeen}
-use Rattle.packet.specs.Counts.{tagByHigh, tagByLow, counts, carriesLow, nibbleIn, nibblePlace, startsCount}
-use Rattle.packet.specs.Crc.{crcOf, divisor, nibbleBits}
-use Rattle.packet.specs.Fixed.{fixedRulingOf, readFixedNibbles}
-use Rattle.packet.specs.Kinds.{distanceOf, endsEpoch, epochAfter, epochOf, epochs, epochsIn, firstTag, frames, idleNumber, lead, placeOf, startsEpoch, tagAfter, tagBefore, tags}
-use Rattle.packet.specs.Layout.{carriedIn, dataOf, fieldsOf}
-use Rattle.packet.specs.Reading.{readNibbles}
-use Rattle.packet.specs.Words.{assigned}
-use Rattle.phases.specs.Beginning.{begins, foremost, further, latest, noTag, ready, within}
-use Rattle.phases.specs.Due.{brought, owesNothing, silent}
-use Rattle.phases.specs.Passing.{notedBy, passedGroup, passedOf, passedPort, passedPorts, passedStep, ruledBy}
-use Rattle.packet.specs.Ruling.{rulingOf}
-use Rattle.phases.specs.Settling.{beginBy, begunOf, clearedPort, clearedPorts, clearedStep, gatherBy, settledOf, stopBy, stoppedOf}
-use Rattle.phases.specs.Sizes.{portsIn, sized, storeFor}
-use Rattle.receiver.specs.Fetch.{dueIn, fetchOut, fetchRecord, fetchRows, fits, outIfDue, reportIfDue, rowsIfDue, recordOf}
-use Rattle.receiver.specs.Frame.{frameRows, frameStore, gatheredBy, marksBy, portRows, refusalBy, settledBy, storeBy, takenRows, takenStore}
-use Rattle.receiver.specs.Lengths.{fetchFits, frameFits, outputFor, rowsFit}
-use Rattle.receiver.specs.Report.{frameInto, framesInto, outputBy, outputOf, replyPort, replyPorts, reportBy, reportedOf, rulingEpoch, seenAll, seenOf, startsOf, withState, statesWorkedOut, statePut, statesPut}
-use Rattle.receiver.specs.Report.{reportOf as reportSeen}
-use Rattle.receiver.specs.Starting.{freshPort, freshPorts, sizedAnswer, sizedFits, sizedRows, startAsAnswer, startAsRows, startFits, startRight, timesWithin}
-use Rattle.reply.specs.Choosing.{claims, grant, granted, holders}
-use Rattle.reply.specs.Waiting.{chosenOf, keptNumbers, moreKept, rounds, someJoin, standingBy, standingsOf}
-use Rattle.reply.specs.Telling.{ackOf}
-use Rattle.reply.specs.Telling.{turns as turnsAck}
-use Rattle.rows.specs.Group.{groupAt, groupOf, groupRow, putGroup}
-use Rattle.rows.specs.Member.{memberAt, memberOf, memberRow, putMember}
-use Rattle.rows.specs.Packets.{marksAt, packetsAt, putMarks, putPackets}
-use Rattle.rows.specs.Rows.{putRow, rowIn}
-use Rattle.rows.specs.Step.{putStep, stepAt, stepOf, stepRow}
-use Rattle.step.specs.Arrival.{arrives, frameDropped, byStart, byWindow, countsOn, distanceIn, flagged, inStep, joining, keeps, outside, readable, takenOf}
-use Rattle.step.specs.OwnCount.{endsOdd, oddPacket, ownNumber, ownRuling, rightCrc, rulingIn}
-use Rattle.step.specs.Run.{begunRun, breaksAfter, endsPacket, furtherRun, gainedRun, inStepAt, loses, oddAfter, runOn, secondRun, stayedRun}
-use Rattle.store.specs.Frames.{byteAt, h4At, packetIn, placeIn, ringOf, storedAt}
-use Rattle.store.specs.Marks.{cutByte, cutFrom, firstMark, markIn, markedAt, markedByte, passedByte, passedMarks}
 use Rattle.recording.specs.declared.record.Record.{Record}
 use Rattle.recording.specs.declared.record.Record.the-variants as R
-use Rattle.recording.specs.Opening.{lineOpening, opened, settingsBy}
-use Rattle.recording.specs.Pairs.{fieldIn, holdRead, kindRead, named, restoreRead}
-use Rattle.recording.specs.Record.{flagIn, frameBy, lineRecord}
 use Rattle.replaying.specs.declared.replay.Phase.{Phase}
 use Rattle.replaying.specs.declared.replay.Phase.the-variants as P
-use Rattle.replaying.specs.Output.{answerText, countIn, epochText, markText, portText, reportText, stateAt, stateLine, stateText, statesIn}
 use Rattle.replaying.specs.Replay.{beginning}
 use Rattle.replaying.specs.Runs.{Desk, deskAfter, framed, lineIn, reported, saidTo, standing}
-use Rattle.replaying.specs.Turn.{answeredTurn, fetchRecordBy, fetchRowsBy, framedRows, framedStore, openWithRows, openWithTurn, payloadAt, startable, startedRows, timesFit}
-use Rattle.replaying.specs.Turn.{reportOf as reportIn}
 use Rattle.text.specs.Ascii.{ascii}
-use Rattle.text.specs.Fields.{bytesIn, digitOf, hexOf, isHex}
-use Rattle.text.specs.Fields.{numberOf as numberIn}
-use Rattle.text.specs.Output.{decimalText, numberText}
 use Rattle.text.specs.Text.{linesOf}
-use Rattle.text.specs.Text.{fieldsOf as fieldsIn}
 use Rattle.conformance.specs.Rows.{Equal, Row, equal-rows}
+use Rattle.conformance.specs.Opened.{allOpen}
 
 -- what is lent: rows of one port, its store for P 1 and W 16, and the output
 abbrev out : List ℕ
@@ -125,7 +78,7 @@ left t d (l ∷ ls) = left t (next t d l) ls
 
 -- Lines in two parts, the state carried over. Everything that a run is made of is opened here, for the checker to compute.
 unfoldable pub replayed : Taking → ℕ → List (List ℕ) → List (List ℕ) → List ℕ
-unfolding after reportSeen tagByHigh tagByLow counts carriesLow nibbleIn nibblePlace startsCount crcOf divisor nibbleBits distanceOf endsEpoch epochAfter epochOf epochs epochsIn firstTag frames idleNumber lead placeOf startsEpoch tagAfter tagBefore tags carriedIn dataOf fieldsOf readNibbles assigned activeIn orderOf portOf rankSeen doubtfulBy eosAlone eosWrong exact gidDiffers heldBy highestSeen judgeOf lcasVerdict missing repeats takes begins foremost further latest noTag ready within brought owesNothing silent notedBy passedGroup passedOf passedPort passedPorts passedStep ruledBy rulingOf beginBy begunOf clearedPort clearedPorts clearedStep gatherBy settledOf stopBy stoppedOf portsIn sized storeFor dueIn fetchOut fetchRecord fetchRows fits outIfDue reportIfDue rowsIfDue recordOf frameRows frameStore gatheredBy marksBy portRows refusalBy settledBy storeBy takenRows takenStore fetchFits frameFits outputFor rowsFit frameInto framesInto outputBy outputOf replyPort replyPorts reportBy reportedOf rulingEpoch seenAll seenOf startsOf withState statesWorkedOut statePut statesPut freshPort freshPorts sizedRows startFits claims holders ackOf turnsAck groupAt groupOf groupRow putGroup memberAt memberOf memberRow putMember marksAt packetsAt putMarks putPackets putRow rowIn putStep stepAt stepOf stepRow arrives frameDropped byStart byWindow countsOn distanceIn flagged inStep joining keeps outside readable takenOf endsOdd oddPacket rightCrc ownNumber ownRuling rulingIn begunRun breaksAfter endsPacket furtherRun gainedRun inStepAt loses oddAfter runOn secondRun stayedRun byteAt h4At packetIn placeIn ringOf storedAt cutByte cutFrom firstMark markIn markedAt markedByte passedByte passedMarks fixedRulingOf readFixedNibbles fixedExact fixedHeld fixedVerdict saidTo deskAfter lineOpening settingsBy opened fieldIn named kindRead holdRead restoreRead timesFit startedRows fieldsIn numberIn digitOf hexOf isHex bytesIn flagIn frameBy lineRecord startable openWithTurn openWithRows answeredTurn payloadAt framedRows framedStore fetchRecordBy fetchRowsBy reportText epochText markText countIn decimalText numberText statesIn stateAt stateLine portText stateText answerText reportIn sizedAnswer sizedFits startAsAnswer startAsRows startRight timesWithin grant granted chosenOf keptNumbers moreKept rounds someJoin standingBy standingsOf
+unfolding allOpen
 replayed t store first second = output t (lentFor store) first ++ output t (left t (lentFor store) first) second
 
 abbrev lines : List (List ℕ)
@@ -157,15 +110,15 @@ table =
     ∷ []
 
 pub examples : Equal table
-unfolding table replayed linesOf
+unfolding allOpen table replayed
 examples = equal-rows table refl
 
 -- 'with the state carried over': a report that is due at the cut is part of it
 forgetful-breaks : (replayed Forgetful 32 lines [] ≡ []) × (replayed Right 32 lines [] ≡ ascii "epoch\t4\tsure\tbytes\t0\tline\t73\n")
-unfolding replayed linesOf
+unfolding allOpen replayed
 forgetful-breaks = (refl, refl)
 
 -- 'and changes nothing else': a flagged frame would lose the port's step, and no report comes
 flagging-breaks : (replayed Flagging 32 torn [] ≡ ascii "answer\t13\tline\t42\n") × (replayed Right 32 torn [] ≡ ascii "answer\t13\tline\t42\nepoch\t4\tsure\tbytes\t0\tline\t74\n")
-unfolding replayed linesOf
+unfolding allOpen replayed
 flagging-breaks = (refl, refl)

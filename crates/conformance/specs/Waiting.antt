@@ -4,11 +4,9 @@ use mathlib.Core.List.{List, [], _∷_, _++_}
 use Rattle.c_face.specs.Receivers.{startAsAnswerC}
 use Rattle.conformance.specs.Rows.{Equal, Row, equal-rows}
 use Rattle.conformance.specs.Waits.{Sent, away, each, okFor, here, idle, leftOf, statesAt}
-use Rattle.packet.specs.Kinds.{frames, tags}
-use Rattle.phases.specs.Sizes.{sized}
-use Rattle.receiver.specs.Starting.{sizedAnswer, sizedFits, startAsAnswer, startFits, startRight, timesWithin}
-use Rattle.reply.specs.Choosing.{claims, grant, granted, holders}
-use Rattle.reply.specs.Waiting.{chosenOf, keptNumbers, moreKept, rounds, someJoin, standing, standingBy, standingsOf}
+use Rattle.receiver.specs.Starting.{startAsAnswer}
+use Rattle.reply.specs.Waiting.{standing}
+use Rattle.conformance.specs.Opened.{allOpen}
 
 -- NORM under 0, readable or not; states are 0 IDLE, 1 FAIL, 2 OK
 abbrev r : List Sent
@@ -95,5 +93,5 @@ table =
     ∷ []
 
 pub waited-out : Equal table
-unfolding table startAsAnswer startRight timesWithin sizedAnswer sizedFits startFits sized frames tags claims grant granted holders chosenOf keptNumbers moreKept rounds someJoin standingBy standingsOf
+unfolding allOpen table
 waited-out = equal-rows table refl

@@ -5,62 +5,32 @@ use mathlib.Core.List.{List, [], _∷_, _++_}
 use Prim.Native.Nat.{ℕ}
 use lib.ListN.{getD, length, replicate, take}
 use Rattle.ground.specs.Table.{tabulate}
-use Rattle.packet.specs.Crc.{crcOf, divisor, nibbleBits}
-use Rattle.packet.specs.Layout.{carriedIn, dataOf, fieldsOf, h4Of, nibblesOf, sealedOf}
-use Rattle.packet.specs.Reading.{readNibbles}
-use Rattle.packet.specs.Words.{assigned}
-use Rattle.packet.specs.Writing.{fitting, writeAnswer, writeBytes}
-use Rattle.ground.specs.Circle.{after as afterOn}
-use Rattle.packet.specs.Counts.{tagByHigh, tagByLow, counts, carriesLow, nibbleIn, nibblePlace, startsCount}
-use Rattle.packet.specs.Kinds.{distanceOf, endsEpoch, epochAfter, epochOf, epochs, epochsIn, firstTag, frames, idleNumber, lead, mstFails, mstFirst, mstNumbers, placeOf, startsEpoch, tagAfter, tagBefore, tags}
-use Rattle.phases.specs.Beginning.{begins, foremost, further, latest, noTag, ready, within}
-use Rattle.phases.specs.Due.{brought, owesNothing, silent}
-use Rattle.phases.specs.Passing.{notedBy, passedGroup, passedOf, passedPort, passedPorts, passedStep, ruledBy}
-use Rattle.phases.specs.Settling.{beginBy, begunOf, clearedPort, clearedPorts, clearedStep, gatherBy, settledOf, stopBy, stoppedOf}
-use Rattle.phases.specs.Sizes.{portsIn, storeFor}
-use Rattle.phases.specs.Sizes.{sized as sizedGroup}
-use Rattle.receiver.specs.Frame.{frameAnswer, frameRows, frameStore, gatheredBy, marksBy, portRows, refusalBy, settledBy, storeBy, takenRows, takenStore}
-use Rattle.receiver.specs.Lengths.{frameFits, rowsFit}
-use Rattle.receiver.specs.Starting.{freshPort, freshPorts, sizedAnswer, sizedFits, sizedRows, startAsAnswer, startAsRows, startFits, startRight, timesWithin}
-use Rattle.rows.specs.Group.{groupAt, groupOf, groupRow, putGroup}
-use Rattle.rows.specs.Member.{memberAt, memberOf, memberRow, putMember}
-use Rattle.rows.specs.Packets.{marksAt, packetsAt, putMarks, putPackets}
-use Rattle.rows.specs.Rows.{putRow, rowIn}
-use Rattle.rows.specs.Step.{putStep, stepAt, stepRow}
-use Rattle.rows.specs.Step.{stepOf as stepIn}
-use Rattle.sender.specs.Board.{boardOf, highest, noRow, rowOf, rowsOf}
+use Rattle.packet.specs.Kinds.{epochs}
+use Rattle.rows.specs.Group.{groupAt}
+use Rattle.rows.specs.Member.{memberOf}
+use Rattle.rows.specs.Step.{stepAt}
+use Rattle.sender.specs.Board.{boardOf}
 use Rattle.sender.specs.Calls.{Call}
 use Rattle.sender.specs.Calls.Call.{AddSlot, Lapse, RemoveSlot, Report}
-use Rattle.sender.specs.Commands.{addOf, addedTo, fallen, fallenIn, freshOf, idleSlot, lapseOf, removeOf, removedFrom, startOf}
-use Rattle.sender.specs.Reports.{actedOn, comesBefore, mstApplied, numberAfter, opensWait, renumbered, reportOf, slotAfter, numberApplied, turnOf, waited}
 use Rattle.sender.specs.Shown.{after, shown}
-use Rattle.sender.specs.Table.{holderOf, membersOf, sizeOf}
-use Rattle.step.specs.Arrival.{arrives, frameDropped, byStart, byWindow, countsOn, distanceIn, inStep, joining, keeps, outside, readable, stepTo, takenOf}
-use Rattle.step.specs.OwnCount.{endsOdd, oddPacket, ownNumber, rightCrc}
-use Rattle.step.specs.Run.{begunRun, breaksAfter, endsPacket, furtherRun, gainedRun, inStepAt, loses, oddAfter, runOn, secondRun, stayedRun}
-use Rattle.store.specs.Frames.{byteAt, h4At, packetIn, placeIn, ringOf, storedAt}
-use Rattle.store.specs.Marks.{cutByte, cutFrom, firstMark, markedAt, markedByte, passedByte, passedMarks}
-use Rattle.c_face.specs.Boards.{boardByte, boardBytesOf, rankByte, ranksBytesOf}
+use Rattle.step.specs.Arrival.{stepTo}
+use Rattle.c_face.specs.Boards.{boardBytesOf, ranksBytesOf}
 use Rattle.judge.specs.declared.seen.Seen.{Seen}
-use Rattle.judge.specs.Order.{activeIn, orderOf, portOf}
-use Rattle.judge.specs.Order.{rankOf as rankSeen}
-use Rattle.judge.specs.Verdict.{doubtfulBy, eosAlone, eosWrong, exact, gidDiffers, heldBy, judgeOf, lcasVerdict, missing, repeats, takes}
-use Rattle.judge.specs.Verdict.{highest as highestSeen}
+use Rattle.judge.specs.Order.{orderOf}
+use Rattle.judge.specs.Verdict.{judgeOf}
 use Rattle.receiver.specs.Fetch.{recordOf}
-use Rattle.receiver.specs.Shown.{portIn, portShown, portsOut, shownFit}
+use Rattle.receiver.specs.Shown.{portShown, portsOut}
 use Rattle.reply.specs.declared.members.Port.{Port}
-use Rattle.reply.specs.Choosing.{claims, grant, granted, holders}
-use Rattle.reply.specs.Waiting.{chosenOf, keptNumbers, moreKept, noStanding, rounds, someJoin, standing, standingBy, standingsOf}
-use Rattle.reply.specs.Telling.{mstFrom, mstOf, okHolds}
+use Rattle.reply.specs.Waiting.{noStanding, standing, standingsOf}
+use Rattle.reply.specs.Telling.{mstOf}
 use Rattle.sender.specs.declared.epochs.Sender.{Sender}
-use Rattle.sender.specs.Epochs.{beginOf, freshSender, packetBytes, packetFields, payloadBytes, ranksOf, senderRun, startEpochOf, startedEpoch, startedSender, xOf}
+use Rattle.sender.specs.Epochs.{beginOf, packetBytes, payloadBytes, ranksOf, senderRun, xOf}
 use Rattle.sender.specs.Epochs.SenderCall.{StartEpoch}
-use Rattle.sender.specs.Ranks.{carriersIn, rankAt, rankOf, ranksIn}
 use Rattle.sender.specs.Theorems.Epochs.{onTable}
 use Rattle.conformance.specs.Hosts.{Host, begun, fed, flagged, opened}
 use Rattle.conformance.specs.Waits.{seenPort}
-use Rattle.step.specs.Arrival.{flagged as flaggedStep}
 use Rattle.conformance.specs.Rows.{Row, Equal, equal-rows}
+use Rattle.conformance.specs.Opened.{allOpen}
 
 -- The sender's table. A member added and made active, its wait lapsed:
 abbrev active : ℕ → List Call
@@ -272,5 +242,5 @@ table =
     ∷ []
 
 pub worked-out : Equal table
-unfolding table recordOf portIn portShown portsOut shownFit nibblesOf sealedOf dataOf crcOf divisor nibbleBits writeAnswer writeBytes fitting assigned h4Of boardOf rowsOf rowOf noRow highest startOf freshOf idleSlot idleNumber addOf addedTo removeOf removedFrom fallen fallenIn lapseOf reportOf waited actedOn mstApplied numberApplied holderOf renumbered slotAfter numberAfter comesBefore turnOf opensWait sizeOf membersOf mstFails mstFirst mstNumbers afterOn nibbleIn nibblePlace startsCount tagByHigh carriesLow tagByLow counts endsEpoch epochsIn frames tagAfter tagBefore tags lead epochs epochAfter epochOf distanceOf placeOf startsEpoch firstTag settledOf clearedStep clearedPort clearedPorts stoppedOf stopBy begunOf beginBy gatherBy portsIn sizedGroup storeFor ready latest noTag further foremost within begins owesNothing brought silent ruledBy passedStep notedBy passedPort passedPorts passedGroup passedOf frameFits rowsFit frameAnswer frameRows frameStore gatheredBy marksBy portRows storeBy settledBy takenRows takenStore refusalBy startAsAnswer startRight timesWithin sizedFits startAsRows startFits sizedAnswer sizedRows freshPort freshPorts groupAt groupOf groupRow putGroup rowIn putRow marksAt packetsAt putMarks putPackets memberAt putMember memberOf memberRow putStep stepAt stepIn stepRow takenOf inStep readable distanceIn flaggedStep countsOn frameDropped outside keeps joining byWindow byStart arrives inStepAt begunRun secondRun furtherRun gainedRun stayedRun loses breaksAfter oddAfter endsPacket endsOdd oddPacket rightCrc ownNumber readNibbles fieldsOf carriedIn runOn placeIn storedAt ringOf byteAt h4At packetIn cutFrom markedAt firstMark markedByte cutByte passedByte passedMarks boardByte boardBytesOf rankByte ranksBytesOf activeIn orderOf portOf rankSeen doubtfulBy eosAlone eosWrong exact gidDiffers heldBy judgeOf lcasVerdict missing repeats takes highestSeen claims grant granted holders chosenOf keptNumbers moreKept rounds someJoin standingBy standingsOf mstFrom mstOf okHolds beginOf freshSender packetBytes packetFields payloadBytes ranksOf startEpochOf startedEpoch startedSender carriersIn rankAt rankOf ranksIn
+unfolding allOpen table
 worked-out = equal-rows table refl

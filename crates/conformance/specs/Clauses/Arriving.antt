@@ -3,14 +3,11 @@ use mathlib.Core.Path.{_≡_, refl}
 use mathlib.Core.Bool.{Bool, true, false}
 use mathlib.Core.List.{[], _∷_}
 use Prim.Native.Nat.{ℕ}
-use Rattle.ground.specs.Circle.{after}
-use Rattle.packet.specs.Counts.{counts, startsCount, tagByHigh}
-use Rattle.packet.specs.Kinds.{distanceOf, endsEpoch, epochs, epochsIn, firstTag, frames, lead, placeOf, startsEpoch, tagAfter, tags}
 use Rattle.rows.specs.declared.group.Group.{Group}
 use Rattle.rows.specs.declared.step.Step.{Step}
-use Rattle.step.specs.Arrival.{arrives, byStart, byWindow, countsOn, distanceIn, flagged, frameDropped, inStep, joining, keeps, outside, readable, takenOf}
+use Rattle.step.specs.Arrival.{readable, takenOf}
 use Rattle.step.specs.declared.arrival.Taken.{Taken}
-use Rattle.step.specs.Run.{begunRun, breaksAfter, endsPacket, furtherRun, gainedRun, inStepAt, loses, oddAfter, runOn, stayedRun}
+use Rattle.conformance.specs.Opened.{allOpen}
 
 abbrev groupWith : ℕ → ℕ → ℕ → Group
 groupWith window begun gathered =
@@ -62,7 +59,7 @@ fails :
     (takenOf begun (step 0 0 33 905 6 7 8 3 1) true false 0x09 ≡ dropped (step 1 1 0 0 0 0 0 0 0) 10 false true)
     × (takenOf begun (step 0 0 31 905 6 7 8 0 0) true true 0x09 ≡ dropped (step 1 1 0 0 0 0 0 0 0) 10 false false)
     × (takenOf (group 0 1) (step 0 0 31 905 6 7 8 0 0) true false 0x09 ≡ dropped (step 1 1 0 0 0 0 0 0 0) 10 false true)
-unfolding flagged frames inStep inStepAt takenOf
+unfolding allOpen
 fails = (refl, refl, refl)
 
 -- 12: the run goes on or begins anew, and then the frame's nibble is kept, or it ends; 'losing step undoes' joining
@@ -73,7 +70,7 @@ counting :
     × (takenOf begun (step 0 1 33 853 6 7 8 3 0) false false 0x40 ≡ dropped (step 1 0 1 1025 0 0 0 0 0) 12 true true)
     × (takenOf begun (step 0 1 33 853 0 0 8 3 0) false false 0x40 ≡ dropped (step 1 0 1 1025 0 0 0 0 0) 12 true true)
     × (takenOf begun (step 0 1 33 919 6 7 8 0 1) false true 0x77 ≡ dropped (step 1 0 0 0 0 0 0 0 0) 12 false true)
-unfolding begunRun breaksAfter counts countsOn endsEpoch endsPacket frames furtherRun gainedRun inStep inStepAt lead loses oddAfter placeOf runOn startsCount stayedRun tagAfter tagByHigh takenOf tags
+unfolding allOpen
 counting = (refl, refl, refl, refl, refl, refl)
 
 -- 'A frame in step of a port that has not joined is answered 0 and dropped', also an epoch's first frame behind the window or before it, and every frame before the beginning; the 32nd right frame is in step
@@ -83,7 +80,7 @@ dropping :
     × (takenOf begun (step 0 1 33 905 0 7 8 2 1) false false 0x79 ≡ dropped (step 1 0 33 906 0 7 8 0 1) 0 true false)
     × (takenOf begun (step 0 1 33 952 0 7 8 2 1) false false 0x78 ≡ dropped (step 1 0 33 953 0 7 8 0 1) 0 true false)
     × (takenOf begun (step 0 1 33 888 0 7 8 2 1) false false 0x78 ≡ dropped (step 1 0 33 889 0 7 8 0 1) 0 true false)
-unfolding after arrives breaksAfter byStart counts distanceIn distanceOf endsEpoch endsPacket firstTag frameDropped frames furtherRun gainedRun inStepAt lead loses oddAfter placeOf runOn startsEpoch stayedRun tagAfter takenOf tags
+unfolding allOpen
 dropping = (refl, refl, refl, refl, refl)
 
 -- 'A port joins at its first epoch start in the window': epoch 57's, or one or two epochs later, also where the window ends within that epoch
@@ -94,7 +91,7 @@ joins :
     × (takenOf (groupWith 20 1 1) (step 0 1 33 920 0 7 8 2 1) false false 0x78 ≡ stored (step 1 0 33 921 1 7 1 0 1) 16 true false)
     × (takenOf (groupWith 17 1 1) (step 0 1 33 920 0 7 8 2 1) false false 0x78 ≡ stored (step 1 0 33 921 1 7 1 0 1) 16 true false)
     × (takenOf (groupWith 16 1 1) (step 0 1 33 920 0 7 8 2 1) false false 0x78 ≡ dropped (step 1 0 33 921 0 7 8 0 1) 0 true false)
-unfolding after arrives breaksAfter byStart counts distanceIn distanceOf endsEpoch endsPacket epochs epochsIn firstTag frameDropped frames inStepAt joining lead loses oddAfter placeOf runOn startsEpoch stayedRun tagAfter tags takenOf
+unfolding allOpen
 joins = (refl, refl, refl, refl, refl, refl)
 
 -- 'in the window when its tag is 0 to W-1 after the first', 11 leaves the state as given; the last frame of the epoch that is gathered is followed by the gathering
@@ -106,7 +103,7 @@ stores :
     × (takenOf (group 1 0) (step 0 1 33 918 6 7 8 2 0) false false 0x76 ≡ stored (step 1 0 33 919 6 7 8 0 0) 14 false false)
     × (takenOf (group 1 0) (step 0 1 33 935 6 7 8 2 0) false false 0x77 ≡ stored (step 1 0 33 936 6 7 8 0 0) 31 false false)
     × (takenOf begun (step 0 1 33 919 6 7 8 2 0) false false 0x77 ≡ stored (step 1 0 33 920 6 7 8 0 0) 15 false false)
-unfolding after arrives breaksAfter byWindow counts distanceIn distanceOf endsEpoch endsPacket epochs epochsIn firstTag frames inStepAt keeps lead loses oddAfter outside placeOf runOn stayedRun tagAfter takenOf tags
+unfolding allOpen
 stores = (refl, refl, refl, refl, refl, refl, refl)
 
 -- 'It is readable while in step, if joined or in step ever since the beginning', and not before one
@@ -116,5 +113,5 @@ readable-ports :
     × (readable begun (step 1 0 32 853 0 0 2 0 0) ≡ false)
     × (readable begun (step 1 0 31 853 1 1 0 0 0) ≡ false)
     × (readable (group 0 1) (step 1 0 32 853 1 1 0 0 0) ≡ false)
-unfolding frames inStep inStepAt readable
+unfolding allOpen
 readable-ports = (refl, refl, refl, refl, refl)

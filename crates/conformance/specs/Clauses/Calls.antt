@@ -4,44 +4,22 @@ use mathlib.Core.Bool.{true, false}
 use mathlib.Core.List.{List, [], _∷_, _++_}
 use Prim.Native.Nat.{ℕ}
 use lib.ListN.{drop, length, replicate, take}
-use Rattle.c_face.specs.Boards.{boardByte, boardBytesOf, rankByte, ranksBytesOf}
+use Rattle.c_face.specs.Boards.{boardBytesOf, ranksBytesOf}
 use Rattle.c_face.specs.Cards.{startAnswerOn, startStateOn}
-use Rattle.c_face.specs.Changes.{appliedAnswerC, appliedBytesC, changesByte, changesBytesOf, changesFrom, comparedAnswerC, comparedBytesC, listFrom, spokenAnswerC, spokenBytesC, writtenC}
-use Rattle.c_face.specs.Keeping.{byteAt, bytesOf, rowsIn, senderOf}
+use Rattle.c_face.specs.Changes.{appliedAnswerC, appliedBytesC, comparedAnswerC, comparedBytesC, spokenAnswerC, spokenBytesC, writtenC}
+use Rattle.c_face.specs.Keeping.{senderOf}
 use Rattle.c_face.specs.Packets.{given, readAnswerC, readFieldsC, readFixedAnswerC, readFixedFieldsC, valuesIn, writeAnswerC, writeBytesC, writeFixedAnswerC}
 use Rattle.c_face.specs.Payloads.{joinAnswerC, joinFrameC, spreadAnswerC, spreadMembersC}
-use Rattle.c_face.specs.Plans.{checkAnswerC, checkByteC, lentAnswer, lentBytes, planAnswerC, planBytesC}
+use Rattle.c_face.specs.Plans.{checkAnswerC, checkByteC, planAnswerC, planBytesC}
 use Rattle.c_face.specs.Receivers.{failedC, kindC, startAsAnswerC, startAsRowsC}
 use Rattle.c_face.specs.Senders.{startAnswerC, startStateC}
 use Rattle.conformance.specs.Clauses.Filled.{nines, zeros}
-use Rattle.packet.specs.Crc.{crcOf, divisor, nibbleBits}
-use Rattle.packet.specs.Fixed.{readFixedAnswer, readFixedNibbles, writeFixedAnswer}
-use Rattle.packet.specs.Kinds.{frames, tags}
-use Rattle.packet.specs.Layout.{carriedIn, dataOf, fieldsOf, h4Of, highsOf, nibblesOf, sealedOf}
-use Rattle.packet.specs.Reading.{readAnswer, readNibbles}
-use Rattle.packet.specs.Words.{assigned}
-use Rattle.packet.specs.Writing.{fitting, writeAnswer, writeBytes}
-use Rattle.paths.specs.Answers.{answerOf, areShort}
-use Rattle.paths.specs.Checking.{accepts, agree, agreesWith, checkedOf}
-use Rattle.paths.specs.Order.{candidateAt, rankOf, ranksOf, sortedBy}
-use Rattle.paths.specs.Planning.{planOf, proposed, setOf, tightestOf}
-use Rattle.phases.specs.Sizes.{sized}
-use Rattle.receiver.specs.Starting.{freshPort, freshPorts, sizedAnswer, sizedFits, sizedRows, startAsAnswer, startAsRows, startFits, startRight, timesWithin}
-use Rattle.rows.specs.Group.{groupAt, groupOf, groupRow, putGroup}
-use Rattle.rows.specs.Member.{memberAt, memberOf, memberRow, putMember}
-use Rattle.rows.specs.Packets.{putMarks, putPackets}
-use Rattle.rows.specs.Rows.{putRow, rowIn}
-use Rattle.rows.specs.Step.{putStep}
-use Rattle.sender.specs.Commands.{freshOf, startOf}
+use Rattle.rows.specs.Group.{groupAt}
+use Rattle.rows.specs.Member.{memberAt}
 use Rattle.sender.specs.declared.board.Board.{Board}
 use Rattle.sender.specs.declared.ranks.Ranks.{Ranks}
-use Rattle.sender.specs.Epochs.{beginOf, freshSender}
-use Rattle.sender.specs.Table.{sizeOf}
-use Rattle.spoken.specs.Applying.{appliedOf, changesFit, fits, withChanges}
-use Rattle.spoken.specs.Changes.{changesIn, changesOf, comparedOf, listOf}
-use Rattle.spoken.specs.Speaking.{canSpeak, changeText, changesSpeak, nowText, rowText, slotText, speakAnswer, speechBytes, speechOf, spokenText, waitLine, wasText}
 use Rattle.text.specs.Ascii.{ascii}
-use Rattle.text.specs.Output.{decimalText, wordText}
+use Rattle.conformance.specs.Opened.{allOpen}
 
 -- A packet's fields, one by one in the order of the call: epoch 200, DNU, GID 1, MST A5, RS-Ack 1, SQ 77, with no reserved bit; read, ten bytes, the last four the reserved bits.
 abbrev mixed : List ℕ
@@ -75,7 +53,7 @@ packets-in-c :
     × (writeFixedAnswerC 58 5 (nines 15) ≡ 9)
     × (readFixedFieldsC fixed (nines 9) ≡ nines 9)
     × (readFixedAnswerC (nines 15) (nines 10) ≡ 9)
-unfolding assigned carriedIn crcOf dataOf divisor fieldsOf fitting h4Of highsOf nibbleBits nibblesOf readAnswer readAnswerC readFieldsC readFixedAnswer readFixedAnswerC readFixedFieldsC readFixedNibbles readNibbles sealedOf writeAnswer writeBytes writeFixedAnswer
+unfolding allOpen
 packets-in-c = (refl, refl, refl, refl, refl, refl, refl, refl, refl, refl, refl, refl, refl, refl, refl, refl, refl, refl, refl, refl)
 
 -- A plan's 65 bytes: how many, then the candidates, the rest 255. A check's byte is 1 or 0.
@@ -96,7 +74,7 @@ plans-in-c :
     × (checkAnswerC delays 0 20 [] ≡ 4)
     × (planBytesC delays 3 36 (nines 64) ≡ nines 64)
     × (checkByteC (0 ∷ 100 ∷ []) 1 16 (1 ∷ []) (9 ∷ []) ≡ 1 ∷ [])
-unfolding accepts agree agreesWith answerOf areShort candidateAt checkedOf lentAnswer lentBytes planOf proposed rankOf ranksOf setOf sortedBy tightestOf
+unfolding allOpen
 plans-in-c = (refl, refl, refl, refl, refl, refl, refl, refl, refl, refl, refl, refl, refl)
 
 -- P9's two boards, 130 bytes each: the count, the wait, then word and number of each slot. Slot 1 was NORM 1 and is IDLE 255, slot 2 was EOS 2 and is EOS 1, and a wait has opened.
@@ -134,7 +112,7 @@ changes-in-c :
     × (appliedAnswerC (drop 1 before) told ≡ 9)
     × (take 10 (appliedBytesC before (zeros 322)) ≡ take 10 before)
     × (take 10 (appliedBytesC now (zeros 322)) ≡ take 10 now)
-unfolding appliedAnswerC appliedBytesC appliedOf boardByte boardBytesOf changesByte changesBytesOf changesFit changesFrom changesIn changesOf comparedAnswerC comparedBytesC comparedOf fits listFrom listOf rowsIn sizeOf withChanges
+unfolding allOpen
 changes-in-c = (refl, refl, refl, refl, refl, refl, refl, refl, refl, refl, refl, refl, refl, refl, refl, refl, refl, refl, refl, refl)
 
 abbrev lines : List ℕ
@@ -151,7 +129,7 @@ spoken-in-c :
     × (spokenAnswerC (2 ∷ 3 ∷ drop 2 told) (nines 2188) ≡ 2)
     × (take 2 (spokenBytesC (2 ∷ 3 ∷ drop 2 told) (nines 2188)) ≡ nines 2)
     × (spokenAnswerC (drop 1 told) (nines 2188) ≡ 9)
-unfolding canSpeak changeText changesFrom changesSpeak decimalText listFrom nowText rowText slotText speakAnswer speechBytes speechOf spokenAnswerC spokenBytesC spokenText waitLine wasText wordText writtenC
+unfolding allOpen
 spoken-in-c = (refl, refl, refl, refl, refl, refl, refl, refl, refl, refl)
 
 -- a count above 64 is shown as 64; ranks' bytes are count, begun, epoch, X, then the ranks
@@ -171,7 +149,7 @@ shown-in-c :
     × (kindC 2 ≡ 2)
     × (kindC 255 ≡ 255)
     × (kindC 256 ≡ 255)
-unfolding boardByte boardBytesOf rankByte ranksBytesOf sizeOf
+unfolding allOpen
 shown-in-c = (refl, refl, refl, refl, refl, refl, refl, refl, refl)
 
 -- A start: 4 for the count, 9 for the state, 8 for the epochs. 4 leaves an empty group, 8 and 9 leave the bytes.
@@ -204,7 +182,7 @@ starts-in-c :
     × (memberAt (startAsRowsC 2 2 3 20 160 (3 ∷ 5000 ∷ []) (4 ∷ 300 ∷ []) (replicate 11 (nines 16))) 1 .restore ≡ 300)
     × (groupAt (startAsRowsC 2 2 3 20 160 [] [] (replicate 11 (nines 16))) .kind ≡ 2)
     × (groupAt (startAsRowsC 2 2 3 20 160 [] [] (replicate 11 (nines 16))) .payload ≡ 3)
-unfolding beginOf byteAt bytesOf frames freshOf freshPort freshPorts freshSender groupAt groupOf groupRow memberAt memberOf memberRow putGroup putMarks putMember putPackets putRow putStep rowIn senderOf sized sizedAnswer sizedFits sizedRows startAnswerC startAnswerOn startAsAnswer startAsRows startFits startOf startRight startStateC startStateOn tags timesWithin
+unfolding allOpen
 starts-in-c = (refl, refl, refl, refl, refl, refl, refl, refl, refl, refl, refl, refl, refl, refl, refl, refl, refl, refl, refl, refl, refl, refl, refl, refl, refl, refl, refl, refl)
 
 -- P6 through the C calls: X 3, P 2, a group frame of the bytes 0 to 5, and the three members one after the other

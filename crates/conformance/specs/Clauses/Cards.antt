@@ -1,43 +1,28 @@
 -- Two circuits on one card (request 2026-06) and work orders (request 2026-07), call by call: three slots, group 0 from epoch 7 on, group 1 from epoch 9 on.
 use mathlib.Core.Path.{_≡_, refl}
 use mathlib.Core.Bool.{true, false}
-use mathlib.Core.List.{List, [], _∷_, _++_}
+use mathlib.Core.List.{[], _∷_, _++_}
 use Prim.Native.Nat.{ℕ}
 use lib.ListN.{getD, replicate, take}
 use Rattle.circuits.specs.Answers.{answerNumber}
 use Rattle.circuits.specs.Calls.{Call, outcomeOf}
 use Rattle.circuits.specs.Calls.Call.{AddSlot, Claim, Lapse, Release, RemoveSlot, Report, StartEpoch}
-use Rattle.circuits.specs.Commands.{claimOf, commandOf, groupCallOf, releaseOf, startOf}
+use Rattle.circuits.specs.Commands.{startOf}
 use Rattle.circuits.specs.declared.answers.Answer.the-variants as A
 use Rattle.circuits.specs.declared.card.Card.{Card}
-use Rattle.circuits.specs.Owners.{hasOwner, isMarked, ownedBytes, withOwner}
-use Rattle.circuits.specs.Parts.{groupOutcome, isSlot, isUsed, marked, owns, senderOf, shownSender, withSender}
+use Rattle.circuits.specs.Owners.{hasOwner, isMarked, withOwner}
 use Rattle.circuits.specs.Readings.{boardShown, outgoingShown, ownedShown, packetAnswer, packetBytes, payloadAnswer, payloadBytes, ranksShown}
 use Rattle.circuits.specs.Shown.{by}
 use Rattle.circuits.specs.Views.{Asked, Made, askedBy, bitsOf, replyTo, run}
 use Rattle.circuits.specs.Views.Asked.{Board, Do, Outgoing, Owned, Packet, Payload, Ranks}
 use Rattle.circuits.specs.Views.Reply.{Answered, Owns, Ranked, Showed, Wrote}
 use Rattle.conformance.specs.Clauses.Filled.{nines}
-use Rattle.orders.specs.Orders.{finishOf, firstAnswers, firstOrdered, outcomeBy, turnsOf}
+use Rattle.orders.specs.Orders.{finishOf, firstAnswers, firstOrdered, turnsOf}
 use Rattle.orders.specs.Shown.{add, claim, release, remove}
 use Rattle.orders.specs.Singles.{answersTo, commandsOf, singleNumbers}
-use Rattle.packet.specs.Crc.{crcOf, divisor, nibbleBits}
-use Rattle.packet.specs.Kinds.{epochAfter, epochs, frames, idleNumber, mstFails, mstFirst, mstNumbers}
-use Rattle.packet.specs.Layout.{dataOf, h4Of, nibblesOf, sealedOf}
-use Rattle.packet.specs.Words.{assigned}
-use Rattle.packet.specs.Writing.{fitting, writeAnswer, writeBytes}
-use Rattle.sender.specs.Board.{boardOf, highest, rowOf, rowsOf}
-use Rattle.sender.specs.Commands.{addOf, addedTo, fallenIn, freshOf, idleSlot, removeOf, removedFrom}
-use Rattle.sender.specs.Commands.{startOf as commandsStartOf}
 use Rattle.sender.specs.declared.board.Row.{Row}
-use Rattle.sender.specs.Epochs.{beginOf, freshSender, packetFields, ranksOf, startEpochOf, startedEpoch, startedSender}
-use Rattle.sender.specs.Epochs.{packetAnswer as epochsPacketAnswer}
-use Rattle.sender.specs.Epochs.{packetBytes as epochsPacketBytes}
-use Rattle.sender.specs.Epochs.{payloadAnswer as epochsPayloadAnswer}
-use Rattle.sender.specs.Epochs.{payloadBytes as epochsPayloadBytes}
-use Rattle.sender.specs.Ranks.{carriersIn, rankAt, rankOf, ranksIn}
-use Rattle.sender.specs.Reports.{actedOn, comesBefore, mstApplied, numberAfter, numberApplied, renumbered, reportOf, slotAfter, turnOf}
-use Rattle.sender.specs.Table.{holderOf, membersOf, sizeOf}
+use Rattle.sender.specs.Epochs.{beginOf}
+use Rattle.conformance.specs.Opened.{allOpen}
 
 abbrev fresh : Card
 fresh = startOf 0 3 7 9 .card
@@ -81,7 +66,7 @@ answers :
     × (told claimed 1 (StartEpoch 0 0 2) ≡ 8)
     × (told unlike 1 (Claim 4) ≡ 0)
     × (told unlike 0 (Claim 4) ≡ 1)
-unfolding addOf addedTo beginOf claimOf commandOf commandsStartOf freshOf freshSender groupCallOf idleSlot isSlot isUsed marked owns releaseOf removeOf senderOf sizeOf startEpochOf startOf groupOutcome withOwner withSender
+unfolding allOpen
 answers = (refl, refl, refl, refl, refl, refl, refl, refl, refl, refl, refl, refl, refl, refl, refl, refl, refl, refl, refl, refl, refl, refl, refl, refl, refl, refl)
 
 -- a start out of range: 4, and both groups empty; nobody owns a slot
@@ -95,7 +80,7 @@ starts :
     × (startOf 0 64 7 9 .card .second .epoch ≡ 9)
     × (startOf 1 64 7 9 .card .first .table .kind ≡ 1)
     × (startOf 1 64 7 9 .card .second .table .kind ≡ 1)
-unfolding beginOf commandsStartOf freshOf freshSender startOf
+unfolding allOpen
 starts = (refl, refl, refl, refl, refl, refl, refl, refl, refl)
 
 -- 0 nobody, 1 group 0, 2 group 1, any other byte nobody
@@ -113,7 +98,7 @@ owners :
     × (ownedShown claimed 0 .owned ≡ 1 ∷ replicate 63 0)
     × (ownedShown claimed 1 .owned ≡ 0 ∷ 1 ∷ replicate 62 0)
     × (ownedShown claimed 2 .owned ≡ replicate 64 0)
-unfolding beginOf claimOf commandsStartOf freshOf freshSender idleSlot isSlot isUsed marked ownedBytes ownedShown owns releaseOf senderOf sizeOf startOf withOwner
+unfolding allOpen
 owners = (refl, refl, refl, refl, refl, refl, refl, refl, refl, refl, refl, refl, refl)
 
 -- group 0's slot 0 is active and in its second epoch, 8; group 1's slot 1 is ADD and in its first, 9
@@ -152,7 +137,7 @@ packets :
     × (packetBytes other 1 1 (nines 16) ≡ nines 16)
     × (answerNumber (packetAnswer other 1 2 (nines 16)) ≡ 0)
     × (answerNumber (packetAnswer other 0 2 (nines 16)) ≡ 14)
-unfolding actedOn addOf addedTo assigned beginOf boardOf claimOf comesBefore commandOf commandsStartOf crcOf dataOf divisor epochAfter epochs epochsPacketAnswer epochsPacketBytes fitting frames freshOf freshSender groupCallOf h4Of highest holderOf idleSlot isSlot marked membersOf mstApplied mstFails mstFirst mstNumbers nibbleBits nibblesOf numberAfter numberApplied owns packetAnswer packetBytes packetFields renumbered reportOf rowOf rowsOf sealedOf senderOf sizeOf slotAfter startEpochOf startOf startedEpoch startedSender groupOutcome turnOf withOwner withSender writeAnswer writeBytes
+unfolding allOpen
 packets = (refl, refl, refl, refl, refl, refl, refl, refl, refl, refl, refl, refl, refl, refl, refl, refl, refl, refl)
 
 -- what each call gives back: its answer, and what it writes or shows
@@ -169,7 +154,7 @@ replies :
     × (replyTo claimed 1 Ranks ≡ Ranked (ranksShown claimed 1))
     × (replyTo claimed 0 Owned ≡ Owns (ownedShown claimed 0))
     × (replyTo claimed 1 Owned ≡ Owns (ownedShown claimed 1))
-unfolding beginOf boardOf carriersIn claimOf commandsStartOf epochsPacketAnswer epochsPacketBytes epochsPayloadAnswer epochsPayloadBytes frames freshOf freshSender idleSlot isSlot marked owns packetAnswer packetBytes payloadAnswer payloadBytes rowOf rowsOf senderOf sizeOf startOf withOwner
+unfolding allOpen
 replies = (refl, refl, refl, refl, refl, refl, refl, refl, refl, refl, refl, refl)
 
 -- slots 1 and 2 are group 0's and active, slot 1 under number 0 and slot 2 under 1
@@ -201,7 +186,7 @@ payloads :
     × (payloadBytes other 0 2 2 [] (nines 2) ≡ nines 2)
     × (answerNumber (payloadAnswer other 1 2 2 0 2) ≡ 0)
     × (answerNumber (payloadAnswer other 0 2 2 0 2) ≡ 14)
-unfolding actedOn addOf addedTo beginOf boardOf carriersIn claimOf comesBefore commandOf commandsStartOf epochsPayloadAnswer epochsPayloadBytes freshOf freshSender groupCallOf highest holderOf idleSlot isSlot marked membersOf mstApplied mstFails mstFirst mstNumbers numberAfter numberApplied owns payloadAnswer payloadBytes rankAt rankOf renumbered reportOf rowOf rowsOf senderOf sizeOf slotAfter startEpochOf startOf startedSender groupOutcome turnOf withOwner withSender
+unfolding allOpen
 payloads = (refl, refl, refl, refl, refl, refl, refl, refl, refl, refl, refl, refl, refl, refl, refl, refl, refl, refl, refl, refl, refl, refl, refl)
 
 shown :
@@ -215,7 +200,7 @@ shown :
     × (answerNumber (boardShown sending 2 .answer) ≡ 1)
     × (getD (outgoingShown sending 1 .board .rows) 1 noRow .number ≡ 0)
     × (getD (boardShown claimed 1 .board .rows) 1 noRow .number ≡ 255)
-unfolding actedOn addOf addedTo beginOf boardOf boardShown carriersIn claimOf comesBefore commandOf commandsStartOf epochAfter epochs freshOf freshSender groupCallOf highest holderOf idleNumber idleSlot isSlot marked membersOf mstApplied mstFails mstFirst mstNumbers numberAfter numberApplied outgoingShown owns rankAt rankOf ranksIn ranksOf ranksShown renumbered reportOf rowOf rowsOf senderOf shownSender sizeOf slotAfter startEpochOf startOf startedEpoch startedSender groupOutcome turnOf withOwner withSender
+unfolding allOpen
 shown = (refl, refl, refl, refl, refl, refl, refl, refl, refl, refl)
 
 abbrev asks : Asked → Made
@@ -242,7 +227,7 @@ others :
     ∷ asks Owned
     ∷ [])
     ≡ replicate 11 false)
-unfolding addOf addedTo beginOf claimOf commandOf commandsStartOf freshOf freshSender groupCallOf idleSlot isSlot marked owns senderOf sizeOf startEpochOf startOf startedSender groupOutcome withOwner withSender
+unfolding allOpen
 others = (refl, refl, refl, refl, refl, refl)
 
 -- the first n commands of 64; 65 are 9, and nothing is done
@@ -268,5 +253,5 @@ orders :
     × (commandsOf 1 (claim 0 1 ∷ claim 1 0 ∷ []) ≡ claim 1 0 ∷ [])
     × (answersTo 1 (claim 0 1 ∷ claim 1 0 ∷ []) (4 ∷ 5 ∷ []) ≡ 5 ∷ [])
     × (firstAnswers fresh (replicate 64 (claim 0 3)) 64 (replicate 64 7) ≡ replicate 64 1)
-unfolding addOf addedTo beginOf claimOf commandOf commandsStartOf fallenIn freshOf freshSender idleSlot isSlot isUsed marked owns releaseOf removeOf removedFrom senderOf sizeOf startOf outcomeBy groupOutcome withOwner withSender
+unfolding allOpen
 orders = (refl, refl, refl, refl, refl, refl, refl, refl, refl, refl, refl, refl, refl, refl, refl, refl, refl, refl, refl, refl, refl)

@@ -3,17 +3,10 @@ use mathlib.Core.Path.{_≡_, refl}
 use mathlib.Core.Bool.{true, false}
 use mathlib.Core.List.{List, [], _∷_}
 use Prim.Native.Nat.{ℕ}
-use Rattle.packet.specs.Counts.{carriesLow, counts, nibbleIn, startsCount, tagByHigh, tagByLow}
-use Rattle.packet.specs.Crc.{crcOf, divisor, nibbleBits}
-use Rattle.packet.specs.Fixed.{fixedRulingOf, readFixedNibbles}
-use Rattle.packet.specs.Kinds.{endsEpoch, epochOf, frames, lead, placeOf, tagAfter, tags}
-use Rattle.packet.specs.Layout.{carriedIn, fieldsOf}
-use Rattle.packet.specs.Reading.{readNibbles}
-use Rattle.packet.specs.Ruling.{rulingOf}
-use Rattle.packet.specs.Words.{assigned}
 use Rattle.step.specs.declared.run.Run.{Run}
 use Rattle.step.specs.OwnCount.{endsOdd, oddPacket, ownNumber, ownRuling, rightCrc, rulingIn}
-use Rattle.step.specs.Run.{begunRun, breaksAfter, endsPacket, furtherRun, gainedRun, inStepAt, loses, oddAfter, runOn, secondRun, stayedRun}
+use Rattle.step.specs.Run.{breaksAfter, endsPacket, inStepAt, loses, oddAfter, runOn}
+use Rattle.conformance.specs.Opened.{allOpen}
 
 abbrev run : ℕ → ℕ → ℕ → ℕ → Run
 run count next breaks odd = record { count = count; next = next; breaks = breaks; odd = odd }
@@ -39,7 +32,7 @@ coming :
     × (inStepAt 0 31 ≡ false)
     × (inStepAt 0 32 ≡ true)
     × (inStepAt 2 32 ≡ true)
-unfolding begunRun carriesLow counts frames furtherRun gainedRun inStepAt runOn secondRun startsCount tagAfter tagByHigh tagByLow tags
+unfolding allOpen
 coming = (refl, refl, refl, refl, refl, refl, refl, refl, refl, refl, refl, refl, refl, refl, refl, refl, refl, refl, refl)
 
 -- In step: a frame that breaks the count has the tag to come all the same; the fourth in a row loses step, and can be the first of a new 32; so does the end of a second odd packet in a row.
@@ -64,7 +57,7 @@ staying :
     × (loses true (run 32 0 3 0) true ≡ false)
     × (loses true (run 32 0 0 1) true ≡ true)
     × (oddAfter 0 (run 32 855 0 0) true ≡ 1)
-unfolding begunRun breaksAfter counts endsEpoch endsPacket frames inStepAt lead loses oddAfter placeOf runOn startsCount stayedRun tagAfter tagByHigh tags
+unfolding allOpen
 staying = (refl, refl, refl, refl, refl, refl, refl, refl, refl, refl, refl, refl, refl, refl, refl, refl, refl, refl, refl, refl)
 
 -- a packet of epoch 57 with NORM, SQ 3, GID 1 and MST FF; its CRC is 1E. With another last nibble, as a fixed group's it has the wrong word.
@@ -91,7 +84,7 @@ own :
     × (oddPacket 0 57 (norm 14) ≡ false)
     × (oddPacket 0 58 (norm 13) ≡ false)
     × (oddPacket 2 58 (norm 13) ≡ true)
-unfolding assigned carriedIn crcOf divisor fieldsOf fixedRulingOf nibbleBits oddPacket ownNumber ownRuling readFixedNibbles readNibbles rightCrc rulingIn rulingOf
+unfolding allOpen
 own = (refl, refl, refl, refl, refl, refl, refl, refl, refl, refl, refl, refl, refl, refl, refl, refl)
 
 -- The packet's last nibble comes with MFI1 7, tag 16 x 57 + 7 or 16 x 58 + 7 by the own count: the packet of epoch 57 ends with 919, that of epoch 58 with 935.
@@ -101,5 +94,5 @@ ending :
     × (endsOdd 0 (norm 0) 935 0xD7 ≡ false)
     × (endsOdd 0 (norm 14) 934 0x16 ≡ false)
     × (endsOdd 2 (norm 0) 935 0xD7 ≡ true)
-unfolding assigned carriedIn crcOf divisor endsEpoch endsOdd endsPacket epochOf fieldsOf frames lead nibbleBits nibbleIn oddPacket ownNumber placeOf readNibbles rightCrc tags
+unfolding allOpen
 ending = (refl, refl, refl, refl, refl)

@@ -5,28 +5,15 @@ use mathlib.Core.List.{List, [], _∷_, _++_}
 use Prim.Native.Nat.{ℕ}
 use lib.ListN.{replicate}
 use Rattle.conformance.specs.Clauses.Filled.{nines, zeros}
-use Rattle.ground.specs.Circle.{after}
-use Rattle.packet.specs.Counts.{counts, nibbleIn}
-use Rattle.packet.specs.Kinds.{distanceOf, endsEpoch, epochs, epochsIn, firstTag, frames, lead, placeOf, tagAfter, tagBefore, tags}
-use Rattle.phases.specs.Beginning.{begins, ready}
-use Rattle.phases.specs.Due.{silent}
-use Rattle.phases.specs.Settling.{beginBy, clearedPort, clearedPorts, clearedStep, gatherBy, settledOf, stopBy, stoppedOf}
-use Rattle.phases.specs.Sizes.{portsIn, sized, storeFor}
-use Rattle.receiver.specs.Frame.{frameAnswer, frameRows, frameStore, gatheredBy, marksBy, portRows, refusalBy, settledBy, steadyRows, storeBy, takenRows, takenStore}
-use Rattle.receiver.specs.Lengths.{frameFits, rowsFit}
+use Rattle.receiver.specs.Frame.{frameAnswer, frameRows, frameStore, marksBy, portRows, steadyRows, storeBy, takenRows, takenStore}
 use Rattle.rows.specs.declared.group.Group.{Group}
 use Rattle.rows.specs.declared.step.Step.{Step}
-use Rattle.rows.specs.Group.{groupAt, groupOf, groupRow, putGroup}
-use Rattle.rows.specs.Member.{memberAt, memberOf}
-use Rattle.rows.specs.Packets.{marksAt, packetsAt, putMarks, putPackets, withNibble}
-use Rattle.rows.specs.Rows.{putRow, rowIn}
-use Rattle.rows.specs.Step.{putStep, stepAt, stepOf, stepRow, withNext}
-use Rattle.step.specs.Arrival.{arrives, byWindow, distanceIn, flagged, inStep, keeps, readable, takenOf}
+use Rattle.rows.specs.Group.{groupAt, putGroup}
+use Rattle.rows.specs.Member.{memberAt}
+use Rattle.rows.specs.Packets.{marksAt, packetsAt, putMarks, putPackets}
+use Rattle.rows.specs.Step.{putStep, stepAt}
 use Rattle.step.specs.declared.arrival.Taken.{Taken}
-use Rattle.step.specs.OwnCount.{endsOdd}
-use Rattle.step.specs.Run.{breaksAfter, endsPacket, inStepAt, loses, oddAfter, runOn, stayedRun}
-use Rattle.store.specs.Frames.{placeIn, ringOf, storedAt}
-use Rattle.store.specs.Marks.{cutByte, cutFrom, markedAt, markedByte}
+use Rattle.conformance.specs.Opened.{allOpen}
 
 -- a count of frames, and the tag to come
 abbrev step : ℕ → ℕ → Step
@@ -66,7 +53,7 @@ marks :
     × (marksBy 0 marked (taken 0 false 31 false) ≡ marked)
     × (marksBy 0 marked (taken 0 true 271 false) ≡ 0xFD ∷ 0x0F ∷ 0x01 ∷ zeros 13)
     × (marksBy 0 marked (taken 0 true 2047 false) ≡ 0xFD ∷ 0x0F ∷ (zeros 13 ++ (0x80 ∷ [])))
-unfolding cutByte cutFrom endsEpoch epochs epochsIn frames markedAt markedByte marksBy
+unfolding allOpen
 marks = (refl, refl, refl, refl, refl, refl, refl)
 
 abbrev group : Group
@@ -109,7 +96,7 @@ port :
     × (packetsAt (steadyRows 0 21 0xA2 0 rows) 0 ≡ (zeros 13 ++ (10 ∷ 0 ∷ 0 ∷ [])) ∷ zeros 16 ∷ [])
     × (packetsAt (steadyRows 0 21 0xA2 0 rows) 1 ≡ replicate 16 7 ∷ replicate 16 6 ∷ [])
     × (packetsAt (steadyRows 0 21 0xC2 1 rows) 1 ≡ (replicate 13 7 ++ (12 ∷ 7 ∷ 7 ∷ [])) ∷ replicate 16 6 ∷ [])
-unfolding endsEpoch epochs epochsIn frames gatheredBy groupAt groupOf groupRow lead markedAt markedByte marksAt marksBy memberAt memberOf nibbleIn packetsAt placeOf portRows putGroup putMarks putPackets putRow putStep rowIn steadyRows stepAt stepOf stepRow tagAfter tagBefore tags withNext withNibble
+unfolding allOpen
 port = (refl, refl, refl, refl, refl, refl, refl, refl, refl, refl, refl, refl, refl, refl, refl, refl, refl)
 
 -- 12 after the window's first, at place 5 + 12 of a ring of 16: place 1 of port 1's, from byte 51 on, the payload and then the H4. Under 11 all is as given.
@@ -120,14 +107,14 @@ stored :
     × (takenStore group 1 (taken 11 true 12 false) 0xA5 (3 ∷ 4 ∷ []) (nines 96) ≡ nines 96)
     × (takenRows group 2 rows 1 (taken 11 true 31 false) 0xA5 (3 ∷ 4 ∷ []) (nines 96) ≡ rows)
     × (takenRows group 2 rows 1 (taken 0 true 31 false) 0xA2 (3 ∷ 4 ∷ []) (nines 96) ≡ arrived)
-unfolding endsEpoch epochs epochsIn frames gatheredBy groupRow lead markedAt markedByte marksAt marksBy nibbleIn packetsAt placeIn placeOf portRows putGroup putMarks putPackets putRow putStep ringOf rowIn settledBy stepRow storeBy storedAt tagBefore tags takenRows takenStore
+unfolding allOpen
 stored = (refl, refl, refl, refl, refl, refl)
 
 -- 'When no port is readable any more, receiving stops': where something can follow from the frame, and only there
 follows :
     (groupAt (takenRows group 2 rows 1 (losing true) 0xA5 (3 ∷ 4 ∷ []) (nines 96)) .begun ≡ 0)
     × (groupAt (takenRows group 2 rows 1 (losing false) 0xA5 (3 ∷ 4 ∷ []) (nines 96)) .begun ≡ 1)
-unfolding beginBy begins clearedPort clearedPorts clearedStep frames gatherBy gatheredBy groupAt groupOf groupRow inStep inStepAt lead marksAt marksBy packetsAt portRows putGroup putMarks putPackets putRow putStep readable ready rowIn settledBy settledOf silent stepAt stepOf stepRow stopBy stoppedOf storeBy tagBefore tags takenRows
+unfolding allOpen
 follows = (refl, refl)
 
 -- Epoch 58 starts with tag 920. Port 1 is joined and waits for tag 925, which has MFI1 13: 5 after the window's first, place 10 of the ring, from byte 78 on, and place 5 of the packet.
@@ -140,5 +127,5 @@ handed :
     × (stepAt (frameRows waits 1 false 0xAD (3 ∷ 4 ∷ []) (nines 96)) 1 .next ≡ 926)
     × (packetsAt (frameRows waits 1 false 0xAD (3 ∷ 4 ∷ []) (nines 96)) 1 ≡ (replicate 5 7 ++ (10 ∷ replicate 10 7)) ∷ replicate 16 6 ∷ [])
     × (frameStore waits 1 true 0xAD (3 ∷ 4 ∷ []) (nines 96) ≡ nines 96)
-unfolding after arrives beginBy begins breaksAfter byWindow clearedPort clearedPorts clearedStep counts distanceIn distanceOf endsEpoch endsOdd endsPacket epochs epochsIn firstTag flagged frameAnswer frameFits frameRows frameStore frames gatherBy gatheredBy groupAt groupOf groupRow inStep inStepAt keeps lead loses marksAt marksBy nibbleIn oddAfter packetsAt placeIn placeOf portRows portsIn putGroup putMarks putPackets putRow putStep readable ready refusalBy ringOf rowIn rowsFit runOn settledBy settledOf silent sized stayedRun stepAt stepOf stepRow stopBy stoppedOf storeBy storeFor storedAt tagAfter tagBefore tags takenOf takenRows takenStore
+unfolding allOpen
 handed = (refl, refl, refl, refl, refl)

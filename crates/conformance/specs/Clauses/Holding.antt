@@ -5,10 +5,10 @@ use mathlib.Core.List.{List, [], _∷_}
 use Prim.Native.Nat.{ℕ}
 use lib.ListN.{length, take}
 use Rattle.conformance.specs.Waits.{seenPort}
-use Rattle.reply.specs.Choosing.{claims, grant, granted, holders}
 use Rattle.reply.specs.declared.members.Port.{Port}
 use Rattle.reply.specs.declared.waiting.Standing.{Standing}
-use Rattle.reply.specs.Waiting.{chosenOf, keptNumbers, moreKept, rounds, someJoin, standing, standingBy, standingsOf}
+use Rattle.reply.specs.Waiting.{standing, standingsOf}
+use Rattle.conformance.specs.Opened.{allOpen}
 
 abbrev left : List Port → List Standing
 left ports = take (length ports) (standingsOf ports (length ports))
@@ -39,7 +39,7 @@ holding :
     × (left (failed 4 0 ∷ moved 4 4 ∷ []) ≡ standing 1 4 0 ∷ standing 2 4 0 ∷ [])
     × (left (failed 4 1 ∷ []) ≡ standing 1 4 2 ∷ [])
     × (left (failed 4 2 ∷ []) ≡ standing 2 4 0 ∷ [])
-unfolding chosenOf claims grant granted keptNumbers holders moreKept rounds someJoin standingBy standingsOf
+unfolding allOpen
 holding = (refl, refl, refl, refl, refl, refl, refl, refl)
 
 -- In each row:
@@ -54,5 +54,5 @@ each-keeps :
     × (left (moved 4 4 ∷ moved 6 5 ∷ lost 6 0 ∷ []) ≡ standing 2 4 0 ∷ standing 2 5 1 ∷ standing 2 6 1 ∷ [])
     × (left (lost 4 0 ∷ moved 5 6 ∷ added 6 ∷ []) ≡ standing 2 4 1 ∷ standing 2 5 0 ∷ standing 2 6 0 ∷ [])
     × (left (moved 4 4 ∷ moved 5 5 ∷ moved 5 7 ∷ added 7 ∷ []) ≡ standing 2 4 0 ∷ standing 2 5 0 ∷ standing 2 7 1 ∷ standing 1 7 0 ∷ [])
-unfolding chosenOf claims grant granted keptNumbers holders moreKept rounds someJoin standingBy standingsOf
+unfolding allOpen
 each-keeps = (refl, refl, refl, refl, refl)

@@ -6,16 +6,16 @@ use Prim.Native.Nat.{ℕ, _+_}
 use lib.ListN.{getD, replicate}
 use Rattle.ground.specs.Table.{tabulate}
 use Rattle.packet.specs.Counts.{counts, nibblePlace, tagByHigh, tagByLow}
-use Rattle.packet.specs.Crc.{crcOf, divisor, nibbleBits}
 use Rattle.packet.specs.declared.layout.Fields.{Fields}
 use Rattle.packet.specs.declared.reader.Reading.the-variants.{Packet}
-use Rattle.packet.specs.Kinds.{endsEpoch, epochOf, epochs, epochsIn, firstTag, frames, lead, mstFails, mstFirst, mstNumbers, tagAfter, tagBefore, tags}
-use Rattle.packet.specs.Layout.{carriedIn, dataOf, fieldsOf, h4Of, highsOf, nibblesOf, sealedOf}
-use Rattle.packet.specs.Reading.{readAnswer, readNibbles, readingNumber}
+use Rattle.packet.specs.Kinds.{endsEpoch, epochOf, epochsIn, firstTag, mstFails, mstFirst, mstNumbers, tagAfter, tagBefore}
+use Rattle.packet.specs.Layout.{carriedIn, dataOf, fieldsOf, h4Of}
+use Rattle.packet.specs.Reading.{readAnswer, readingNumber}
 use Rattle.packet.specs.Shares.{halvesOf}
 use Rattle.packet.specs.Theorems.Damage.{changed}
 use Rattle.packet.specs.Words.{assigned, nibbleOf, wordOf}
-use Rattle.packet.specs.Writing.{fitting, writeAnswer, writeBytes, writingNumber}
+use Rattle.packet.specs.Writing.{writeAnswer, writeBytes, writingNumber}
+use Rattle.conformance.specs.Opened.{allOpen}
 
 -- 'from MFI1 8 to 15 and on to 0 to 7 of the next multiframe': epoch e has the tags from 16 x e - 8 on, sixteen of them, round 4,096; 'to that plus 7' are eight numbers
 numbering :
@@ -40,7 +40,7 @@ numbering :
     × (epochsIn 0 4095 ≡ 255)
     × (epochsIn 0 4096 ≡ 0)
     × (mstNumbers 0 ≡ 8)
-unfolding endsEpoch epochOf epochs epochsIn firstTag frames lead mstFails mstFirst mstNumbers tagAfter tagBefore tags
+unfolding allOpen
 numbering = (refl, refl, refl, refl, refl, refl, refl, refl, refl, refl, refl, refl, refl, refl, refl, refl, refl, refl, refl, refl, refl)
 
 -- MFI1 8 brings the packet's first nibble, MFI1 7 its last, whatever nibble comes with it.
@@ -61,7 +61,7 @@ counted :
     × (tagByLow 0 769 0xF1 ≡ 1010)
     × (tagByLow 0 510 0x51 ≡ 338)
     × (tagByLow 0 4865 0x51 ≡ 850)
-unfolding counts nibblePlace tagByHigh tagByLow
+unfolding allOpen
 counted = (refl, refl, refl, refl, refl, refl, refl, refl, refl, refl, refl, refl, refl, refl, refl)
 
 -- 'FIXED 0, ADD 1, NORM 2, EOS 3, IDLE 5, DNU 15. All others are unassigned.' A word is the low four bits of a byte.
@@ -71,7 +71,7 @@ words :
     × (wordOf 0x3F ≡ record { 0 = 15 })
     × (nibbleOf (record { 0 = 0x35 }) ≡ 5)
     × (nibbleOf (record { 0 = 0x1F }) ≡ 15)
-unfolding assigned
+unfolding allOpen
 words = (refl, refl, refl, refl)
 
 -- DNU under number 180 (B4) in epoch 147 (93) with GID 1, MST 6A and RS-Ack 1. The 26 other bits, three beside RS-Ack, twelve, three beside GID, eight, are 101 0011 1100 1001 110 0010 1110, which is 29E4E2E.
@@ -100,7 +100,7 @@ packet :
     × (writingNumber (writeAnswer fields (replicate 15 7)) ≡ 9)
     × (writeBytes fields (replicate 15 7) ≡ replicate 15 7)
     × (writeBytes fields (replicate 17 7) ≡ replicate 17 7)
-unfolding assigned carriedIn crcOf dataOf divisor fieldsOf fitting h4Of highsOf nibbleBits nibblesOf readAnswer readNibbles sealedOf writeAnswer writeBytes
+unfolding allOpen
 packet = (refl, refl, refl, refl, refl, refl, refl, refl, refl, refl, refl, refl, refl)
 
 abbrev wrote : ℕ → ℕ → ℕ → ℕ → ℕ → ℕ → ℕ → ℕ
@@ -121,7 +121,7 @@ fits :
     × (wrote 0 4 0 0 0 0 0 ≡ 8)
     × (wrote 0 16 0 0 0 0 0 ≡ 8)
     × (writeBytes (record { epoch = 256; word = record { 0 = 15 }; gid = 0; mst = 0; «rs_ack» = 0; sq = 0; reserved = 0 }) (replicate 16 7) ≡ replicate 16 7)
-unfolding assigned fitting writeAnswer writeBytes
+unfolding allOpen
 fits = (refl, refl, refl, refl, refl, refl, refl, refl, refl, refl, refl, refl)
 
 -- 'anywhere in a packet's 64' (request 2026-04): 8 is one bit, 3 is two, F four, and the low nibbles count for nothing
@@ -129,5 +129,5 @@ damage :
     (changed (replicate 16 0x09) (0x89 ∷ 0x39 ∷ replicate 14 0x09) ≡ 3)
     × (changed (replicate 16 0x39) (replicate 15 0x39 ++ (0xC7 ∷ [])) ≡ 4)
     × (changed (replicate 16 0x39) (replicate 16 0x37) ≡ 0)
-unfolding highsOf nibbleBits
+unfolding allOpen
 damage = (refl, refl, refl)

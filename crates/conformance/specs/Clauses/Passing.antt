@@ -4,12 +4,11 @@ use mathlib.Core.Bool.{Bool, true, false}
 use mathlib.Core.List.{[], _∷_}
 use Prim.Native.Nat.{ℕ}
 use Rattle.packet.specs.declared.ruling.Ruling.{Ruling}
-use Rattle.packet.specs.Kinds.{epochAfter, epochs, frames}
 use Rattle.phases.specs.Passing.{notedBy, passedGroup, passedStep}
 use Rattle.rows.specs.declared.group.Group.{Group}
 use Rattle.rows.specs.declared.member.Member.{Member}
 use Rattle.rows.specs.declared.step.Step.{Step}
-use Rattle.store.specs.Frames.{ringOf}
+use Rattle.conformance.specs.Opened.{allOpen}
 
 abbrev member : ℕ → ℕ → Member
 member word number =
@@ -34,7 +33,7 @@ noted :
     (notedBy (member 2 11) true (ruling true) ≡ member 3 7)
     × (notedBy (member 2 11) true (ruling false) ≡ member 2 11)
     × (notedBy (member 2 11) false (ruling true) ≡ member 2 11)
-unfolding notedBy
+unfolding allOpen
 noted = (refl, refl, refl)
 
 abbrev step : ℕ → ℕ → Step
@@ -55,7 +54,7 @@ step later whole =
 
 -- an epoch that was joined at comes nearer by one, and not below none
 passed : (passedStep (step 5 37) true ≡ step 4 1) × (passedStep (step 0 37) false ≡ step 0 0)
-unfolding passedStep
+unfolding allOpen
 passed = (refl, refl)
 
 abbrev group : ℕ → ℕ → ℕ → Group
@@ -75,5 +74,5 @@ group gathered oldest origin =
 
 -- an epoch has been gathered, epoch 255 is followed by epoch 0, and the place of the window's first frame goes on by sixteen, round W of 40
 goes-on : (passedGroup (group 0 255 30) ≡ group 1 0 6) × (passedGroup (group 1 7 0) ≡ group 1 8 16)
-unfolding epochAfter epochs frames passedGroup ringOf
+unfolding allOpen
 goes-on = (refl, refl)

@@ -4,15 +4,16 @@ use mathlib.Core.Bool.{Bool, true, false}
 use mathlib.Core.List.{List, [], _∷_, _++_}
 use Prim.Native.Nat.{ℕ, _-_}
 use lib.ListN.{length, replicate, take}
-use Rattle.paths.specs.Answers.{answerOf, areShort, numberOf}
-use Rattle.paths.specs.Checking.{accepts, agree, agreesWith, apart, checkedOf}
+use Rattle.paths.specs.Answers.{answerOf, numberOf}
+use Rattle.paths.specs.Checking.{apart, checkedOf}
 use Rattle.paths.specs.declared.answers.Answer.{Answer}
 use Rattle.paths.specs.declared.answers.Answer.the-variants.{Done, Range}
 use Rattle.paths.specs.declared.checking.Checked.{Checked}
 use Rattle.paths.specs.declared.planning.Proposal.{Proposal}
-use Rattle.paths.specs.Order.{candidateAt, rankOf, ranksOf, sortedBy}
+use Rattle.paths.specs.Order.{ranksOf}
 use Rattle.paths.specs.Paths.{spreadOf}
-use Rattle.paths.specs.Planning.{planOf, proposed, setOf, tightestOf}
+use Rattle.paths.specs.Planning.{planOf, setOf}
+use Rattle.conformance.specs.Opened.{allOpen}
 
 abbrev delays : List ℕ
 delays = 0 ∷ 100 ∷ 16 ∷ 20 ∷ []
@@ -29,7 +30,7 @@ plans :
     × (planOf (7 ∷ []) 1 16 ≡ plan (0 ∷ []) Done)
     × (planOf (7 ∷ []) 1 15 ≡ plan [] Range)
     × (setOf (7 ∷ []) 1 15 ≡ [])
-unfolding answerOf areShort candidateAt planOf proposed rankOf ranksOf setOf sortedBy tightestOf
+unfolding allOpen
 plans = (refl, refl, refl, refl, refl, refl, refl, refl)
 
 abbrev check : Bool → Answer → Checked
@@ -46,7 +47,7 @@ checks :
     × (checkedOf delays 1 16 (2 ∷ []) ≡ check true Done)
     × (checkedOf delays 1 15 (2 ∷ []) ≡ check false Range)
     × (checkedOf (4096 ∷ []) 1 16 (0 ∷ []) ≡ check false Range)
-unfolding accepts agree agreesWith answerOf areShort checkedOf
+unfolding allOpen
 checks = (refl, refl, refl, refl, refl, refl, refl, refl, refl)
 
 -- 'k of 0 or above the number of candidates, more than 64 candidates, a delay above 4,095, or W outside 16 to 2,048 is 4': the last that is taken, and the first that is not
@@ -60,7 +61,7 @@ limits :
     × (numberOf (answerOf (1 ∷ 2 ∷ []) 3 16) ≡ 4)
     × (numberOf (answerOf (1 ∷ 2 ∷ []) 2 15) ≡ 4)
     × (numberOf (answerOf (1 ∷ 2 ∷ []) 2 2049) ≡ 4)
-unfolding answerOf areShort
+unfolding allOpen
 limits = (refl, refl, refl, refl, refl, refl, refl, refl, refl)
 
 -- the greatest delay less the least, whichever comes first; of one delay the lower number first
@@ -71,5 +72,5 @@ orders :
     × (apart 5 3 ≡ 2)
     × (take 4 (ranksOf (20 ∷ 0 ∷ 20 ∷ [])) ≡ 1 ∷ 0 ∷ 2 ∷ 0 ∷ [])
     × (length (ranksOf (20 ∷ [])) ≡ 64)
-unfolding rankOf ranksOf
+unfolding allOpen
 orders = (refl, refl, refl, refl, refl, refl)

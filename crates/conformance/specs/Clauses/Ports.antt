@@ -5,45 +5,18 @@ use mathlib.Core.List.{List, [], _++_, _∷_}
 use Prim.Native.Nat.{ℕ}
 use lib.ListN.{drop, getD, replicate, take}
 use Rattle.conformance.specs.Clauses.Filled.{nines, zeros}
-use Rattle.ground.specs.Circle.{after}
 use Rattle.ground.specs.Table.{tabulate}
-use Rattle.judge.specs.Order.{activeIn, orderOf, portOf, rankOf}
-use Rattle.judge.specs.Verdict.{doubtfulBy, eosAlone, eosWrong, exact, fixedExact, fixedHeld, fixedVerdict, gidDiffers, heldBy, highest, judgeOf, lcasVerdict, missing, repeats, takes}
-use Rattle.packet.specs.Counts.{carriesLow, counts, nibbleIn, nibblePlace, startsCount, tagByHigh, tagByLow}
-use Rattle.packet.specs.Crc.{crcOf, divisor, nibbleBits}
-use Rattle.packet.specs.Fixed.{fixedRulingOf, readFixedNibbles}
-use Rattle.packet.specs.Kinds.{distanceOf, endsEpoch, epochAfter, epochOf, epochs, epochsIn, firstTag, frames, idleNumber, lead, mstFails, mstFirst, mstNumbers, placeOf, startsEpoch, tagAfter, tagBefore, tags}
-use Rattle.packet.specs.Layout.{carriedIn, dataOf, fieldsOf, h4Of, highsOf, nibblesOf, sealedOf}
-use Rattle.packet.specs.Reading.{readNibbles}
-use Rattle.packet.specs.Ruling.{rulingOf}
-use Rattle.packet.specs.Words.{assigned}
-use Rattle.phases.specs.Beginning.{begins, foremost, further, latest, noTag, ready, within}
-use Rattle.phases.specs.Due.{brought, owesNothing, silent}
-use Rattle.phases.specs.Passing.{notedBy, passedGroup, passedOf, passedPort, passedPorts, passedStep, ruledBy}
-use Rattle.phases.specs.Settling.{beginBy, begunOf, clearedPort, clearedPorts, clearedStep, gatherBy, settledOf, stopBy, stoppedOf}
-use Rattle.phases.specs.Sizes.{portsIn, sized, storeFor}
-use Rattle.receiver.specs.Fetch.{dueIn, fetchAnswer, fetchOut, fetchRecord, fetchRows, fits, outIfDue, recordOf, reportIfDue, rowsIfDue}
-use Rattle.receiver.specs.Frame.{frameAnswer, frameRows, frameStore, gatheredBy, marksBy, portRows, refusalBy, settledBy, storeBy, takenRows, takenStore}
-use Rattle.receiver.specs.Lengths.{fetchFits, frameFits, outputFor, rowsFit}
-use Rattle.receiver.specs.Report.{frameInto, framesInto, outputBy, outputOf, replyPort, replyPorts, reportBy, reportOf, reportedOf, rulingEpoch, seenAll, seenOf, startsOf, statePut, statesPut, statesWorkedOut, withState}
-use Rattle.receiver.specs.Shown.{portIn, portShown, portsOut, replyFit, replyOf, replyOut, shownFit}
-use Rattle.receiver.specs.Starting.{freshPort, freshPorts, sizedAnswer, sizedFits, sizedRows, startAsAnswer, startAsRows, startFits, startRight, timesWithin}
-use Rattle.reply.specs.Choosing.{claims, grant, granted, holders}
-use Rattle.reply.specs.Telling.{ackOf, mstFrom, mstOf, okHolds, turns}
-use Rattle.reply.specs.Waiting.{chosenOf, keptNumbers, moreKept, rounds, someJoin, standingBy, standingsOf}
-use Rattle.rows.specs.Group.{groupAt, groupOf, groupRow, putGroup}
-use Rattle.rows.specs.Member.{memberAt, memberOf, memberRow, putMember}
+use Rattle.receiver.specs.Fetch.{fetchOut, fetchRecord, fetchRows}
+use Rattle.receiver.specs.Frame.{frameAnswer, frameRows, frameStore}
+use Rattle.rows.specs.Group.{groupAt, putGroup}
+use Rattle.rows.specs.Member.{memberAt, putMember}
 use Rattle.rows.specs.Packets.{marksAt, packetsAt, putMarks, putPackets}
-use Rattle.rows.specs.Rows.{putRow, rowIn}
-use Rattle.rows.specs.Step.{putStep, stepAt, stepOf, stepRow}
+use Rattle.rows.specs.Step.{putStep, stepAt}
 use Rattle.rows.specs.declared.group.Group.{Group}
 use Rattle.rows.specs.declared.member.Member.{Member}
 use Rattle.rows.specs.declared.step.Step.{Step}
-use Rattle.step.specs.Arrival.{arrives, byStart, byWindow, countsOn, distanceIn, flagged, frameDropped, inStep, joining, keeps, outside, readable, takenOf}
-use Rattle.step.specs.OwnCount.{endsOdd, oddPacket, ownNumber, ownRuling, rightCrc, rulingIn}
-use Rattle.step.specs.Run.{begunRun, breaksAfter, endsPacket, furtherRun, gainedRun, inStepAt, loses, oddAfter, runOn, secondRun, stayedRun}
-use Rattle.store.specs.Frames.{byteAt, h4At, packetIn, placeIn, ringOf, storedAt}
-use Rattle.store.specs.Marks.{cutByte, cutFrom, firstMark, markedAt, markedByte, passedByte, passedMarks}
+use Rattle.step.specs.OwnCount.{endsOdd}
+use Rattle.conformance.specs.Opened.{allOpen}
 
 -- three ports, P 1, W 16; receiving has begun with epoch 58, whose first frame has tag 920 and stands at place 5 of each ring; `gathered` is 1 where a first epoch has been gathered
 abbrev group : ℕ → Group
@@ -147,7 +120,7 @@ own-frames :
     × (frameAnswer gathering 3 false 0xC7 1 96 ≡ 1)
     × (frameAnswer gathering 2 false 0xC7 2 96 ≡ 9)
     × (frameRows empty 3 true 0xC7 (8 ∷ []) (nines 96) ≡ empty)
-unfolding ackOf activeIn after arrives assigned beginBy begins begunOf begunRun breaksAfter brought byStart byWindow byteAt carriedIn carriesLow chosenOf claims clearedPort clearedPorts clearedStep counts countsOn crcOf cutByte cutFrom dataOf distanceIn distanceOf divisor doubtfulBy dueIn endsEpoch endsOdd endsPacket eosAlone eosWrong epochAfter epochOf epochs epochsIn exact fetchAnswer fetchFits fetchOut fetchRecord fetchRows fieldsOf firstMark firstTag fits fixedExact fixedHeld fixedRulingOf fixedVerdict flagged foremost frameAnswer frameDropped frameFits frameInto frameRows frameStore frames framesInto freshPort freshPorts further furtherRun gainedRun gatherBy gatheredBy gidDiffers grant granted groupAt groupOf groupRow h4At h4Of heldBy highest highsOf holders idleNumber inStep inStepAt joining judgeOf keeps keptNumbers latest lcasVerdict lead loses markedAt markedByte marksAt marksBy memberAt memberOf memberRow missing moreKept mstFails mstFirst mstFrom mstNumbers mstOf nibbleBits nibbleIn nibblePlace nibblesOf noTag notedBy oddAfter oddPacket okHolds orderOf outIfDue outputBy outputFor outputOf outside owesNothing ownNumber ownRuling packetIn packetsAt passedByte passedGroup passedMarks passedOf passedPort passedPorts passedStep placeIn placeOf portIn portOf portRows portShown portsIn portsOut putGroup putMarks putMember putPackets putRow putStep rankOf readFixedNibbles readNibbles readable ready recordOf refusalBy repeats replyFit replyOf replyOut replyPort replyPorts reportBy reportIfDue reportOf reportedOf rightCrc ringOf rounds rowIn rowsFit rowsIfDue ruledBy rulingEpoch rulingIn rulingOf runOn sealedOf secondRun seenAll seenOf settledBy settledOf shownFit silent sized sizedAnswer sizedFits sizedRows someJoin standingBy standingsOf startAsAnswer startAsRows startFits startRight startsCount startsEpoch startsOf statePut statesPut statesWorkedOut stayedRun stepAt stepOf stepRow stopBy stoppedOf storeBy storeFor storedAt tagAfter tagBefore tagByHigh tagByLow tags takenOf takenRows takenStore takes timesWithin turns withState within
+unfolding allOpen
 own-frames = (refl, refl, refl, refl, refl, refl, refl, refl, refl, refl, refl, refl, refl, refl, refl, refl)
 
 -- Epoch 58 is the first, and not gathered yet; ports 0 and 1 have brought it. The fifteen frames that port 2 has stored carry the nibble 3.
@@ -163,7 +136,7 @@ own-gathering :
     × (groupAt finished .oldest ≡ 59)
     × (packetsAt finished 2 ≡ (replicate 15 3 ++ (12 ∷ [])) ∷ (replicate 15 3 ++ (12 ∷ [])) ∷ [])
     × (getD (packetsAt finished 0) 1 [] ≡ zeros 16)
-unfolding ackOf activeIn after arrives assigned beginBy begins begunOf begunRun breaksAfter brought byStart byWindow byteAt carriedIn carriesLow chosenOf claims clearedPort clearedPorts clearedStep counts countsOn crcOf cutByte cutFrom dataOf distanceIn distanceOf divisor doubtfulBy dueIn endsEpoch endsOdd endsPacket eosAlone eosWrong epochAfter epochOf epochs epochsIn exact fetchAnswer fetchFits fetchOut fetchRecord fetchRows fieldsOf firstMark firstTag fits fixedExact fixedHeld fixedRulingOf fixedVerdict flagged foremost frameAnswer frameDropped frameFits frameInto frameRows frameStore frames framesInto freshPort freshPorts further furtherRun gainedRun gatherBy gatheredBy gidDiffers grant granted groupAt groupOf groupRow h4At h4Of heldBy highest highsOf holders idleNumber inStep inStepAt joining judgeOf keeps keptNumbers latest lcasVerdict lead loses markedAt markedByte marksAt marksBy memberAt memberOf memberRow missing moreKept mstFails mstFirst mstFrom mstNumbers mstOf nibbleBits nibbleIn nibblePlace nibblesOf noTag notedBy oddAfter oddPacket okHolds orderOf outIfDue outputBy outputFor outputOf outside owesNothing ownNumber ownRuling packetIn packetsAt passedByte passedGroup passedMarks passedOf passedPort passedPorts passedStep placeIn placeOf portIn portOf portRows portShown portsIn portsOut putGroup putMarks putMember putPackets putRow putStep rankOf readFixedNibbles readNibbles readable ready recordOf refusalBy repeats replyFit replyOf replyOut replyPort replyPorts reportBy reportIfDue reportOf reportedOf rightCrc ringOf rounds rowIn rowsFit rowsIfDue ruledBy rulingEpoch rulingIn rulingOf runOn sealedOf secondRun seenAll seenOf settledBy settledOf shownFit silent sized sizedAnswer sizedFits sizedRows someJoin standingBy standingsOf startAsAnswer startAsRows startFits startRight startsCount startsEpoch startsOf statePut statesPut statesWorkedOut stayedRun stepAt stepOf stepRow stopBy stoppedOf storeBy storeFor storedAt tagAfter tagBefore tagByHigh tagByLow tags takenOf takenRows takenStore takes timesWithin turns withState within
+unfolding allOpen
 own-gathering = (refl, refl, refl, refl)
 
 -- NORM 0, NORM 1 and EOS 2 in epoch 57 with GID 1 and MST FF: CRCs 24, 32 and 5F
@@ -180,7 +153,7 @@ own-odd :
     × (stepAt (frameRows late 2 false 0x27 (8 ∷ []) (nines 96)) 2 .odd ≡ 0)
     × (endsOdd 0 (packet 2 1 3 9) 935 0x27 ≡ true)
     × (endsOdd 0 (packet 2 1 3 9) 919 0x27 ≡ false)
-unfolding ackOf activeIn after arrives assigned beginBy begins begunOf begunRun breaksAfter brought byStart byWindow byteAt carriedIn carriesLow chosenOf claims clearedPort clearedPorts clearedStep counts countsOn crcOf cutByte cutFrom dataOf distanceIn distanceOf divisor doubtfulBy dueIn endsEpoch endsOdd endsPacket eosAlone eosWrong epochAfter epochOf epochs epochsIn exact fetchAnswer fetchFits fetchOut fetchRecord fetchRows fieldsOf firstMark firstTag fits fixedExact fixedHeld fixedRulingOf fixedVerdict flagged foremost frameAnswer frameDropped frameFits frameInto frameRows frameStore frames framesInto freshPort freshPorts further furtherRun gainedRun gatherBy gatheredBy gidDiffers grant granted groupAt groupOf groupRow h4At h4Of heldBy highest highsOf holders idleNumber inStep inStepAt joining judgeOf keeps keptNumbers latest lcasVerdict lead loses markedAt markedByte marksAt marksBy memberAt memberOf memberRow missing moreKept mstFails mstFirst mstFrom mstNumbers mstOf nibbleBits nibbleIn nibblePlace nibblesOf noTag notedBy oddAfter oddPacket okHolds orderOf outIfDue outputBy outputFor outputOf outside owesNothing ownNumber ownRuling packetIn packetsAt passedByte passedGroup passedMarks passedOf passedPort passedPorts passedStep placeIn placeOf portIn portOf portRows portShown portsIn portsOut putGroup putMarks putMember putPackets putRow putStep rankOf readFixedNibbles readNibbles readable ready recordOf refusalBy repeats replyFit replyOf replyOut replyPort replyPorts reportBy reportIfDue reportOf reportedOf rightCrc ringOf rounds rowIn rowsFit rowsIfDue ruledBy rulingEpoch rulingIn rulingOf runOn sealedOf secondRun seenAll seenOf settledBy settledOf shownFit silent sized sizedAnswer sizedFits sizedRows someJoin standingBy standingsOf startAsAnswer startAsRows startFits startRight startsCount startsEpoch startsOf statePut statesPut statesWorkedOut stayedRun stepAt stepOf stepRow stopBy stoppedOf storeBy storeFor storedAt tagAfter tagBefore tagByHigh tagByLow tags takenOf takenRows takenStore takes timesWithin turns withState within
+unfolding allOpen
 own-odd = (refl, refl, refl, refl)
 
 -- Port 0 was ruled by EOS 2, port 1 by NORM 0 and port 2 by NORM 1, and all have brought epoch 58. Port 2's number is other than the one that was told of it.
@@ -224,5 +197,5 @@ own-reports :
     × (fetchOut early store (nines 50) (nines 8) ≡ nines 50)
     × (fetchOut early-add store (nines 50) (nines 8) ≡ nines 50)
     × (fetchRecord (putMarks early-add 2 (1 ∷ zeros 15)) store (nines 50) (nines 8) ≡ 3 ∷ 58 ∷ 2 ∷ 0 ∷ 0 ∷ 0 ∷ 0 ∷ 32 ∷ [])
-unfolding ackOf activeIn after arrives assigned beginBy begins begunOf begunRun breaksAfter brought byStart byWindow byteAt carriedIn carriesLow chosenOf claims clearedPort clearedPorts clearedStep counts countsOn crcOf cutByte cutFrom dataOf distanceIn distanceOf divisor doubtfulBy dueIn endsEpoch endsOdd endsPacket eosAlone eosWrong epochAfter epochOf epochs epochsIn exact fetchAnswer fetchFits fetchOut fetchRecord fetchRows fieldsOf firstMark firstTag fits fixedExact fixedHeld fixedRulingOf fixedVerdict flagged foremost frameAnswer frameDropped frameFits frameInto frameRows frameStore frames framesInto freshPort freshPorts further furtherRun gainedRun gatherBy gatheredBy gidDiffers grant granted groupAt groupOf groupRow h4At h4Of heldBy highest highsOf holders idleNumber inStep inStepAt joining judgeOf keeps keptNumbers latest lcasVerdict lead loses markedAt markedByte marksAt marksBy memberAt memberOf memberRow missing moreKept mstFails mstFirst mstFrom mstNumbers mstOf nibbleBits nibbleIn nibblePlace nibblesOf noTag notedBy oddAfter oddPacket okHolds orderOf outIfDue outputBy outputFor outputOf outside owesNothing ownNumber ownRuling packetIn packetsAt passedByte passedGroup passedMarks passedOf passedPort passedPorts passedStep placeIn placeOf portIn portOf portRows portShown portsIn portsOut putGroup putMarks putMember putPackets putRow putStep rankOf readFixedNibbles readNibbles readable ready recordOf refusalBy repeats replyFit replyOf replyOut replyPort replyPorts reportBy reportIfDue reportOf reportedOf rightCrc ringOf rounds rowIn rowsFit rowsIfDue ruledBy rulingEpoch rulingIn rulingOf runOn sealedOf secondRun seenAll seenOf settledBy settledOf shownFit silent sized sizedAnswer sizedFits sizedRows someJoin standingBy standingsOf startAsAnswer startAsRows startFits startRight startsCount startsEpoch startsOf statePut statesPut statesWorkedOut stayedRun stepAt stepOf stepRow stopBy stoppedOf storeBy storeFor storedAt tagAfter tagBefore tagByHigh tagByLow tags takenOf takenRows takenStore takes timesWithin turns withState within
+unfolding allOpen
 own-reports = (refl, refl, refl, refl, refl, refl, refl, refl, refl, refl, refl, refl, refl, refl)

@@ -4,24 +4,18 @@ use mathlib.Core.Bool.{true, false}
 use mathlib.Core.List.{List, [], _∷_, _++_}
 use Prim.Native.Nat.{ℕ}
 use lib.ListN.{replicate, take}
-use Rattle.packet.specs.Kinds.{frames, idleNumber, mstFirst, tags}
-use Rattle.phases.specs.Sizes.{portsIn, sized, storeFor}
 use Rattle.receiver.specs.Fetch.{recordOf}
 use Rattle.receiver.specs.Lengths.{fetchFits, frameFits, outputFor, rowsFit}
-use Rattle.receiver.specs.Report.{replyPort, replyPorts}
-use Rattle.receiver.specs.Shown.{portIn, portShown, portsAnswer, portsOut, replyAnswer, replyByte, replyFit, replyOf, replyOut, shownFit, shownNumber, waitingByte}
-use Rattle.receiver.specs.Starting.{freshPort, freshPorts, sizedAnswer, sizedFits, sizedRows, startAsAnswer, startAsRows, startFits, startRight, startRows, timeOf, timesWithin}
-use Rattle.reply.specs.Telling.{mstFrom, mstOf, okHolds}
+use Rattle.receiver.specs.Shown.{portShown, portsAnswer, portsOut, replyAnswer, replyByte, replyOf, replyOut, shownNumber, waitingByte}
+use Rattle.receiver.specs.Starting.{startAsAnswer, startAsRows, startRows, timeOf, timesWithin}
 use Rattle.rows.specs.declared.group.Group.{Group}
 use Rattle.rows.specs.declared.member.Member.{Member}
 use Rattle.rows.specs.declared.step.Step.{Step}
-use Rattle.rows.specs.Group.{groupAt, groupOf, groupRow, putGroup}
-use Rattle.rows.specs.Member.{memberAt, memberOf, memberRow, putMember}
-use Rattle.rows.specs.Packets.{marksAt, packetsAt, putMarks, putPackets}
-use Rattle.rows.specs.Rows.{putRow, rowIn}
-use Rattle.rows.specs.Step.{putStep, stepAt, stepOf, stepRow}
-use Rattle.step.specs.Arrival.{inStep, readable}
-use Rattle.step.specs.Run.{inStepAt}
+use Rattle.rows.specs.Group.{groupAt, putGroup}
+use Rattle.rows.specs.Member.{memberAt, putMember}
+use Rattle.rows.specs.Packets.{marksAt, packetsAt}
+use Rattle.rows.specs.Step.{putStep, stepAt}
+use Rattle.conformance.specs.Opened.{allOpen}
 
 abbrev rows : ℕ → List (List ℕ)
 rows n = replicate n (replicate 16 9)
@@ -64,7 +58,7 @@ starts :
     × (groupAt opened .begun ≡ 0)
     × (groupAt opened .gathered ≡ 0)
     × (groupAt opened .«rs_ack» ≡ 0)
-unfolding frames freshPort freshPorts groupAt groupOf groupRow idleNumber marksAt memberAt memberOf memberRow packetsAt putGroup putMarks putMember putPackets putRow putStep rowIn sized sizedFits sizedRows startAsRows startFits startRight stepAt stepOf stepRow tags timesWithin
+unfolding allOpen
 starts = (refl, refl, refl, refl, refl, refl, refl, refl, refl, refl, refl, refl, refl, refl, refl, refl, refl, refl, refl, refl, refl, refl, refl, refl, refl, refl, refl, refl)
 
 -- '4: .. an empty group': no port, and 9 leaves the rows
@@ -87,7 +81,7 @@ refused-starts :
     × (timesWithin (5000 ∷ 0 ∷ 5001 ∷ []) ≡ false)
     × (timeOf (3 ∷ 4 ∷ []) 1 ≡ 4)
     × (timeOf (3 ∷ 4 ∷ []) 2 ≡ 0)
-unfolding frames groupAt groupOf groupRow putGroup putRow rowIn sized sizedAnswer sizedFits sizedRows startAsAnswer startAsRows startFits startRight tags timesWithin
+unfolding allOpen
 refused-starts = (refl, refl, refl, refl, refl, refl, refl, refl, refl, refl, refl, refl, refl, refl, refl, refl, refl, refl)
 
 -- lengths that are taken: an empty group has any number of rows; an output may be longer than asked, a payload, a store and a record of a report may not
@@ -110,7 +104,7 @@ lengths :
     × (fetchFits (groupAt opened) 2 10 160 96 8 ≡ false)
     × (fetchFits (groupAt opened) 2 11 160 96 9 ≡ false)
     × (fetchFits (groupAt opened) 2 11 160 96 7 ≡ false)
-unfolding fetchFits frameFits frames freshPort freshPorts groupAt groupOf groupRow outputFor putGroup putMarks putMember putPackets putRow putStep rowIn rowsFit sized sizedFits sizedRows startAsRows startFits startRight storeFor tags timesWithin
+unfolding allOpen
 lengths = (refl, refl, refl, refl, refl, refl, refl, refl, refl, refl, refl, refl, refl, refl, refl, refl, refl, refl)
 
 -- a member in a state, under a number, with a timer at so much
@@ -175,7 +169,7 @@ shows :
     × (portsOut (putStep opened 1 flaggedStep) (replicate 2 (replicate 8 9)) ≡ (0 ∷ 255 ∷ 0 ∷ 0 ∷ 0 ∷ 0 ∷ 255 ∷ 0 ∷ []) ∷ (0 ∷ 255 ∷ 0 ∷ 1 ∷ 0 ∷ 1 ∷ 255 ∷ 0 ∷ []) ∷ [])
     × (portsOut opened (replicate 3 (replicate 8 9)) ≡ replicate 3 (replicate 8 9))
     × (portsOut (take 10 opened) (replicate 2 (replicate 8 9)) ≡ replicate 2 (replicate 8 9))
-unfolding frames freshPort freshPorts groupAt groupOf groupRow idleNumber inStep inStepAt memberAt memberOf memberRow portIn portShown portsAnswer portsIn portsOut putGroup putMarks putMember putPackets putRow putStep readable recordOf rowIn rowsFit shownFit sized sizedFits sizedRows startAsRows startFits startRight stepAt stepOf stepRow tags timesWithin
+unfolding allOpen
 shows = (refl, refl, refl, refl, refl, refl, refl, refl, refl, refl, refl, refl, refl, refl, refl, refl, refl, refl, refl, refl, refl, refl, refl)
 
 -- RS-Ack has turned
@@ -219,5 +213,5 @@ replies :
     × (replyOut seventh 64 (9 ∷ 9 ∷ []) ≡ 0xFE ∷ 0 ∷ [])
     × (replyOut seventh 33 (9 ∷ 9 ∷ []) ≡ 0xFF ∷ 0 ∷ [])
     × (replyOut (take 10 opened) 0 (9 ∷ 9 ∷ []) ≡ 9 ∷ 9 ∷ [])
-unfolding frames freshPort freshPorts groupAt groupOf groupRow memberAt memberOf memberRow mstFrom mstOf okHolds portsIn putGroup putMarks putMember putPackets putRow putStep replyAnswer replyFit replyOf replyOut replyPort replyPorts rowIn rowsFit sized sizedFits sizedRows startAsRows startFits startRight tags timesWithin mstFirst
+unfolding allOpen
 replies = (refl, refl, refl, refl, refl, refl, refl, refl, refl, refl, refl, refl, refl, refl, refl, refl, refl, refl, refl)

@@ -7,18 +7,17 @@ use native.Mathlib.Omega.{arith}
 use lib.ListN.{length, replicate}
 use borrow.Author.Tests.{le-leb, le-ltb, lt-leb, lt-ltb, ne-eqb}
 use Rattle.ground.specs.Plain.{_<?_}
-use Rattle.bytes.specs.Bytes.{indexAfter, indexOf}
+use Rattle.bytes.specs.Bytes.{indexOf}
 use Rattle.recording.specs.declared.opening.FirstLine.the-variants as F
 use Rattle.recording.specs.declared.pairs.Settings.{Settings}
 use Rattle.recording.specs.declared.record.Record.the-variants.{Frame, Malformed, Unfinished, End}
-use Rattle.recording.specs.Line.{foundOf}
-use Rattle.recording.specs.Opening.{Opening, handed, lineOpening, opened, openingBy, openingIn, settingsBy}
+use Rattle.recording.specs.Opening.{Opening, handed, lineOpening, openingBy, openingIn}
 use Rattle.recording.specs.Opening.{Opening as O}
-use Rattle.recording.specs.Pairs.{fieldIn, firstPairs, holdRead, kindRead, named, pairsFrom, restoreRead}
-use Rattle.recording.specs.Record.{flagIn, frameBy, lastRecord, lineRecord, recordIn}
+use Rattle.recording.specs.Pairs.{firstPairs, pairsFrom}
+use Rattle.recording.specs.Record.{lastRecord, recordIn}
 use Rattle.text.specs.Ascii.{ascii}
-use Rattle.text.specs.Fields.{digitOf, hexOf, isHex, numberOf}
 use Rattle.text.specs.Text.{LINE-END, fieldsOf}
+use Rattle.conformance.specs.Opened.{allOpen}
 
 -- a frame's line of eleven bytes, its payload of four digits at 107, with its end and without
 a-frame :
@@ -28,7 +27,7 @@ a-frame :
     × (recordIn 3 2 100 [] ≡ End)
     × (lastRecord 3 2 100 [] ≡ End)
     × (recordIn 3 2 100 (ascii "000000002\t0F\t0\tffff\n") ≡ Frame 2 15 0 115 120)
-unfolding digitOf fieldsOf flagIn foundOf frameBy hexOf indexAfter indexOf isHex lastRecord lineRecord numberOf recordIn
+unfolding allOpen
 a-frame = (refl, refl, refl, refl, refl, refl)
 
 -- lines that are none, each passed over to its end: no field, one, two, three and five fields, a port above, no port, three digits of H4, no H4, a flag of 2, a payload of three digits, a port of ten digits
@@ -45,12 +44,12 @@ no-frames :
     × (recordIn 3 2 100 (ascii "2\tf0\t2\tAb0C\n") ≡ Malformed 112)
     × (recordIn 3 2 100 (ascii "2\tf0\t1\tAb0\n") ≡ Malformed 111)
     × (recordIn 3 2 100 (ascii "0000000002\tf0\t1\tAb0C\n") ≡ Malformed 121)
-unfolding digitOf fieldsOf flagIn foundOf frameBy hexOf indexAfter indexOf isHex lineRecord numberOf recordIn
+unfolding allOpen
 no-frames = (refl, refl, refl, refl, refl, refl, refl, refl, refl, refl, refl, refl)
 
 -- one with more than a line behind it, from the next place on
 in-a-row : (recordIn 3 2 5 (ascii "0\t1a\t0\t0000\n1\t2b\t1\tffff\n") ≡ Frame 0 26 0 12 17) × (recordIn 3 2 17 (ascii "1\t2b\t1\tffff\n") ≡ Frame 1 43 1 24 29)
-unfolding digitOf fieldsOf flagIn foundOf frameBy hexOf indexAfter indexOf isHex lineRecord numberOf recordIn
+unfolding allOpen
 in-a-row = (refl, refl)
 
 -- the first line
@@ -66,7 +65,7 @@ first-lines :
     × (openingIn 50 true [] ≡ O.End)
     × (openingIn 50 false [] ≡ O.End)
     × (openingIn 0 false (ascii "000000003\t000000002\t000000032\n") ≡ O.Settings (settings 0 [] [] 3 2 32) 30)
-unfolding digitOf fieldsOf foundOf indexAfter indexOf lineOpening numberOf opened openingIn settingsBy
+unfolding allOpen
 first-lines = (refl, refl, refl, refl, refl, refl)
 
 -- no field, one and two; each number none; a pair left half
@@ -80,7 +79,7 @@ no-first-lines :
     × (openingIn 0 false (ascii "1\t2\t32\tkind\n") ≡ O.Malformed)
     × (openingIn 0 false (ascii "1\t2\t32\thold-off\n") ≡ O.Malformed)
     × (openingIn 0 false (ascii "1\t2\t32\twait-to-restore\n") ≡ O.Malformed)
-unfolding digitOf fieldIn fieldsOf foundOf indexAfter indexOf lineOpening named numberOf opened openingIn settingsBy
+unfolding allOpen
 no-first-lines = (refl, refl, refl, refl, refl, refl, refl, refl, refl)
 
 -- The pairs in any order: one port with a kind, a hold-off of 4 and a wait-to-restore of 6
@@ -102,7 +101,7 @@ all = O.Settings (settings 2 (4 ∷ []) (6 ∷ []) 1 2 32) 7
 
 any-order :
     (one (K ++ H ++ R) ≡ all) × (one (K ++ R ++ H) ≡ all) × (one (H ++ K ++ R) ≡ all) × (one (H ++ R ++ K) ≡ all) × (one (R ++ K ++ H) ≡ all) × (one (R ++ H ++ K) ≡ all)
-unfolding digitOf fieldIn holdRead kindRead named numberOf opened restoreRead settingsBy
+unfolding allOpen
 any-order = (refl, refl, refl, refl, refl, refl)
 
 -- Each pair at most once, whatever stands between the two
@@ -116,7 +115,7 @@ at-most-once :
     × (one (R ++ R) ≡ O.Malformed)
     × (one (R ++ K ++ R) ≡ O.Malformed)
     × (one (R ++ H ++ R) ≡ O.Malformed)
-unfolding digitOf fieldIn holdRead kindRead named numberOf opened restoreRead settingsBy
+unfolding allOpen
 at-most-once = (refl, refl, refl, refl, refl, refl, refl, refl, refl)
 
 -- A number for each port, and not for each byte of P; a number has at most nine digits
@@ -137,14 +136,14 @@ for-each-port :
     × (one (ascii "wait-to-restore" ∷ ascii "x" ∷ ascii "5" ∷ []) ≡ O.Malformed)
     × (openingBy 7 (ascii "0" ∷ ascii "1" ∷ ascii "16" ∷ ascii "hold-off" ∷ ascii "kind" ∷ ascii "H4" ∷ []) ≡ O.Settings (settings 0 [] [] 0 1 16) 7)
     × (openingBy 7 (ascii "0" ∷ ascii "1" ∷ ascii "16" ∷ ascii "wait-to-restore" ∷ ascii "kind" ∷ ascii "H4" ∷ []) ≡ O.Settings (settings 0 [] [] 0 1 16) 7)
-unfolding digitOf fieldIn holdRead kindRead named numberOf opened restoreRead settingsBy
+unfolding allOpen
 for-each-port = (refl, refl, refl, refl, refl, refl, refl, refl, refl, refl, refl, refl, refl, refl, refl)
 
 -- the number of the last of 64 ports is kept
 last-port :
     (pairsFrom (firstPairs 64 1 16) (ascii "hold-off" ∷ replicate 64 (ascii "7")) .settings .«hold_off» ≡ replicate 64 7)
     × (pairsFrom (firstPairs 64 1 16) (ascii "wait-to-restore" ∷ replicate 64 (ascii "7")) .settings .restore ≡ replicate 64 7)
-unfolding digitOf fieldIn holdRead named numberOf restoreRead
+unfolding allOpen
 last-port = (refl, refl)
 
 -- as it is handed over, with the place of the next line
@@ -157,18 +156,18 @@ handed-over = (refl, refl, refl, refl)
 
 -- 'Lines hold at most 8,192 bytes.' The first line too, whether it has ended or not.
 pub opening-within : (next : ℕ) (line : List ℕ) → length line ≤ 8192 → lineOpening next line ≡ openingBy next (fieldsOf line)
-unfolding lineOpening
+unfolding allOpen
 opening-within next line b = rw (le-leb (length line) 8192 b)
 
 pub opening-above : (next : ℕ) (line : List ℕ) → 8192 < length line → lineOpening next line ≡ O.Malformed
-unfolding lineOpening
+unfolding allOpen
 opening-above next line b = rw (lt-leb (length line) 8192 b)
 
 pub opening-open : (at : ℕ) (rest : List ℕ) → 0 < length rest → length rest ≤ 8192 → (indexOf LINE-END rest <? length rest) ≡ false
     → openingIn at false rest ≡ O.Unfinished
-unfolding openingIn foundOf
+unfolding allOpen
 opening-open at rest some b e = rw (ne-eqb (length rest) 0 (λ z. omega arith), e, le-ltb 8192 (length rest) b)
 
 pub opening-long : (at : ℕ) (last : Bool) (rest : List ℕ) → 8192 < length rest → (indexOf LINE-END rest <? length rest) ≡ false → openingIn at last rest ≡ O.Malformed
-unfolding openingIn foundOf
+unfolding allOpen
 opening-long at last rest b e = rw (ne-eqb (length rest) 0 (λ z. omega arith), e, lt-ltb 8192 (length rest) b)

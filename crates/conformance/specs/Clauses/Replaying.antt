@@ -4,36 +4,20 @@ use mathlib.Core.Bool.{Bool, true, false}
 use mathlib.Core.List.{List, [], _∷_, _++_}
 use Prim.Native.Nat.{ℕ}
 use lib.ListN.{drop, replicate, take}
-use Rattle.bytes.specs.Bytes.{indexAfter, indexOf}
 use Rattle.conformance.specs.Clauses.Filled.{nines}
-use Rattle.packet.specs.Kinds.{frames, idleNumber, tags}
-use Rattle.phases.specs.Sizes.{portsIn, sized, storeFor}
-use Rattle.receiver.specs.Fetch.{fetchRows, fits}
-use Rattle.receiver.specs.Frame.{frameRows, refusalBy}
-use Rattle.receiver.specs.Lengths.{fetchFits, frameFits, outputFor, rowsFit}
-use Rattle.receiver.specs.Starting.{freshPort, freshPorts, sizedFits, sizedRows, startAsRows, startFits, startRight, startRows, timesWithin}
+use Rattle.receiver.specs.Starting.{startAsRows, startRows}
 use Rattle.recording.specs.declared.record.Record.the-variants as R
-use Rattle.recording.specs.Line.{foundOf}
-use Rattle.recording.specs.Opening.{lineOpening, opened, openingIn, settingsBy}
-use Rattle.recording.specs.Pairs.{fieldIn, holdRead, kindRead, named, restoreRead}
-use Rattle.recording.specs.Record.{flagIn, frameBy, lastRecord, lineRecord, recordIn}
 use Rattle.replaying.specs.declared.replay.Phase.{Phase}
 use Rattle.replaying.specs.declared.replay.Phase.the-variants.{Reading, Fetching, Skipping, Ended}
 use Rattle.replaying.specs.declared.replay.Replay.{Replay}
 use Rattle.replaying.specs.declared.turns.Replayed.{Replayed}
-use Rattle.replaying.specs.Output.{answerText, changesText, epochText, markText, stateAt, stateText, statesIn}
+use Rattle.replaying.specs.Output.{answerText, changesText, epochText, stateText, statesIn}
 use Rattle.replaying.specs.Replay.{beginning, nextLine, outputOf, storeOf}
-use Rattle.replaying.specs.Turn.{answeredSaid, answeredTurn, fetchRowsBy, framedRows, framedTurn, isLent, openRows, openSaid, openTurn, openWithRows, openWithSaid, openWithTurn, over, readBy, readOnTurn, readSaid, readSaidBy, readTurn, recordNow, reportTurn, reportedTurn, skipTurn, startable, startedRows, timesFit, turnOf, turnOut, turnRows, turnSaid, turnStore}
+use Rattle.replaying.specs.Turn.{fetchRowsBy, framedRows, over, readBy, readOnTurn, readSaidBy, reportedTurn, turnOf, turnOut, turnRows, turnSaid, turnStore}
 use Rattle.rows.specs.declared.member.Member.{Member}
-use Rattle.rows.specs.Group.{groupAt, groupOf, groupRow, putGroup}
-use Rattle.rows.specs.Member.{memberAt, memberOf, memberRow, putMember}
-use Rattle.rows.specs.Packets.{putMarks, putPackets}
-use Rattle.rows.specs.Rows.{putRow, rowIn}
-use Rattle.rows.specs.Step.{putStep, stepRow}
+use Rattle.rows.specs.Member.{putMember}
 use Rattle.text.specs.Ascii.{ascii}
-use Rattle.text.specs.Fields.{digitOf, hexOf, isHex, numberOf}
-use Rattle.text.specs.Output.{decimalText, numberText}
-use Rattle.text.specs.Text.{fieldsOf}
+use Rattle.conformance.specs.Opened.{allOpen}
 
 -- two ports, P 1, W 16, behind line 4, with so many fetches left
 abbrev at : Phase → ℕ → Replay
@@ -77,7 +61,7 @@ a-first-line :
     × (first (ascii "2\t3\t16\n") false 321 128 1160 ≡ goes (record { phase = Reading; line = 1; left = 0; ports = 2; size = 3; window = 16 }) 7 0 false)
     × (first (ascii "2\t3\t16\n") false 321 127 1160 ≡ ends 16)
     × (first (ascii "1\t1\t16\twait-to-restore\t5001\n") false 321 32 1160 ≡ ends 16)
-unfolding answerText answeredTurn decimalText digitOf fieldIn fieldsOf foundOf frames indexAfter indexOf lineOpening named numberOf numberText openTurn openWithTurn opened openingIn restoreRead settingsBy sized startable tags timesFit timesWithin turnOf
+unfolding allOpen
 a-first-line = (refl, refl, refl, refl, refl, refl, refl, refl, refl, refl, refl, refl)
 
 -- what is lent: with a group started it holds zeros, but for the group's own rows; where none has started it stays
@@ -95,7 +79,7 @@ what-is-lent :
     × (take 1 (firstRows (ascii "x\n")) ≡ rows 1)
     × (turnOut beginning (rows 321) (nines 40) (nines 5) 1160 ≡ nines 5)
     × (take 11 (turnRows beginning (ascii "2\t3\t16\thold-off\t5\t6\twait-to-restore\t7\t8\n") false (rows 321) (nines 128) [] 1160) ≡ startAsRows 0 2 3 16 128 (5 ∷ 6 ∷ []) (7 ∷ 8 ∷ []) (replicate 11 (replicate 16 0)))
-unfolding answeredTurn digitOf fieldIn fieldsOf foundOf frames freshPort freshPorts groupRow holdRead idleNumber indexAfter indexOf kindRead lineOpening memberRow named numberOf openRows openTurn openWithRows openWithTurn opened openingIn putGroup putMarks putMember putPackets putRow putStep restoreRead settingsBy sized sizedFits sizedRows startAsRows startFits startRight startable startedRows stepRow tags timesFit timesWithin turnOut turnRows turnStore
+unfolding allOpen
 what-is-lent = (refl, refl, refl, refl, refl, refl, refl, refl, refl, refl)
 
 -- a refusal at the front of the buffer, the rest of it as it was
@@ -110,7 +94,7 @@ what-is-said :
     × (answerText 13 1234567 ≡ ascii "answer\t13\tline\t1234567\n")
     × (epochText 255 2 2396160 70000 ≡ ascii "epoch\t255\tdoubtful\tbytes\t2396160\tline\t70000\n")
     × (readSaidBy (at Reading 0) (ascii "abc") (nines 18) R.Long ≡ ascii "answer\t13\tline\t5\n" ++ (9 ∷ []))
-unfolding answerText answeredSaid decimalText digitOf epochText fieldsOf foundOf frames indexAfter indexOf isLent lineOpening lineRecord markText numberOf numberText openSaid openWithSaid opened openingIn readSaid recordIn recordNow settingsBy sized startable tags timesFit timesWithin turnSaid
+unfolding allOpen
 what-is-said = (refl, refl, refl, refl, refl, refl, refl, refl, refl, refl)
 
 -- a line behind the first: two ports take 11 rows, a store of 64 and an output of 32
@@ -138,14 +122,14 @@ a-line :
     × (answered 65 0 326 1040 ≡ 9)
     × (answered 0 2340 1 0 ≡ 0)
     × (answered 0 2341 1 0 ≡ 9)
-unfolding answerText answeredTurn decimalText digitOf fieldsOf flagIn foundOf frameBy framedTurn hexOf indexAfter indexOf isHex isLent lastRecord lineRecord numberOf numberText readTurn recordIn recordNow turnOf
+unfolding allOpen
 a-line = (refl, refl, refl, refl, refl, refl, refl, refl, refl, refl, refl, refl, refl, refl, refl, refl)
 
 -- of more rows than the group's 11 a frame and a fetch leave the last ones as they are
 beyond :
     (drop 11 (framedRows (at Reading 0) 1 0xF0 0 (0xAB ∷ []) (rows 13) (nines 64)) ≡ rows 2)
     × (drop 11 (fetchRowsBy (at Fetching 1) (rows 13) (nines 64) (nines 32)) ≡ rows 2)
-unfolding fetchFits fetchRows fetchRowsBy fits frameFits frameRows framedRows frames groupAt groupOf portsIn refusalBy rowIn rowsFit sized storeFor outputFor tags
+unfolding allOpen
 beyond = (refl, refl)
 
 -- behind its last fetch a line is read next; a report leaves one fetch less
@@ -154,7 +138,7 @@ fetches :
     × (turnOf (at Fetching 0) (ascii "x") false (rows 11) (nines 64) (nines 32) 1159 ≡ tooLittle (at Fetching 0))
     × (readOnTurn (at Fetching 7) ≡ goes (at Reading 0) 0 0 false)
     × (reportedTurn (at Fetching 7) 33 ≡ goes (at Fetching 6) 0 33 false)
-unfolding isLent readOnTurn reportTurn reportedTurn turnOf
+unfolding allOpen
 fetches = (refl, refl, refl, refl)
 
 -- the rest of a line that is too long, to its end, or as far as there is text; then, and where the run has ended, more is wanted
@@ -167,7 +151,7 @@ skips :
     × (turnRows (at Ended 0) (ascii "abc\nd") false (rows 1) (nines 2) (nines 3) 4 ≡ rows 1)
     × (turnStore (at Skipping 0) (ascii "abc\nd") false (rows 1) (nines 2) (nines 3) 4 ≡ nines 2)
     × (turnOut (at Ended 0) (rows 1) (nines 2) (nines 3) 4 ≡ nines 3)
-unfolding indexAfter indexOf skipTurn turnOf turnOut turnRows turnSaid turnStore
+unfolding allOpen
 skips = (refl, refl, refl, refl, refl, refl, refl, refl)
 
 -- lines are counted in 64 bits; a store of ports x W x (P + 1), an output of ports x 16 x P
@@ -178,7 +162,7 @@ figures :
     × (outputOf 3 4 ≡ 192)
     × (stateText 0 ++ stateText 1 ++ stateText 2 ≡ ascii "IDLEFAILOK")
     × (changesText (512 ∷ 255 ∷ []) (512 ∷ 255 ∷ []) 2 ≡ [])
-unfolding stateText
+unfolding allOpen
 figures = (refl, refl, refl, refl, refl, refl)
 
 abbrev member : ℕ → ℕ → Member
@@ -200,5 +184,5 @@ member state number =
 states :
     take 3 (statesIn (putMember (putMember (putMember (replicate 16 (replicate 16 0)) 0 (member 2 5)) 1 (member 1 7)) 2 (member 0 9)))
     ≡ 517 ∷ 263 ∷ 255 ∷ []
-unfolding idleNumber memberAt memberOf memberRow putMember putRow rowIn stateAt statesIn
+unfolding allOpen
 states = refl

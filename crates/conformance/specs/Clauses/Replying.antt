@@ -6,12 +6,11 @@ use Prim.Native.Nat.{ℕ}
 use lib.ListN.{length, take}
 use Rattle.conformance.specs.Waits.{seenPort}
 use Rattle.ground.specs.Table.{tabulate}
-use Rattle.packet.specs.Kinds.{mstFirst}
-use Rattle.reply.specs.Choosing.{claims, grant, granted, holders}
 use Rattle.reply.specs.declared.members.Port.{Port}
 use Rattle.reply.specs.declared.waiting.Standing.{Standing}
-use Rattle.reply.specs.Telling.{ackOf, mstFrom, mstOf, okHolds, turns}
-use Rattle.reply.specs.Waiting.{chosenOf, keptNumbers, moreKept, rounds, someJoin, standing, standingBy, standingsOf}
+use Rattle.reply.specs.Telling.{ackOf, mstOf}
+use Rattle.reply.specs.Waiting.{standing, standingsOf}
+use Rattle.conformance.specs.Opened.{allOpen}
 
 abbrev left : List Port → List Standing
 left ports = take (length ports) (standingsOf ports (length ports))
@@ -34,7 +33,7 @@ choosing :
     × (left (sends 5 3 (standing 0 255 0) ∷ added 3 ∷ []) ≡ standing 0 3 0 ∷ standing 2 3 0 ∷ [])
     × (left (sends 2 255 (standing 0 255 0) ∷ []) ≡ standing 1 255 0 ∷ [])
     × (left (added 63 ∷ added 64 ∷ []) ≡ standing 2 63 0 ∷ standing 1 64 0 ∷ [])
-unfolding chosenOf claims grant granted keptNumbers holders moreKept rounds someJoin standingBy standingsOf
+unfolding allOpen
 choosing = (refl, refl, refl, refl, refl, refl, refl)
 
 -- 'During hold-off the port keeps its number against others', here number 63. One that turns IDLE keeps none, nor does one that is FAIL, nor one whose hold-off of 3 is over.
@@ -43,7 +42,7 @@ keeping :
     × (left (seenPort 5 255 true (standing 2 4 0) 3 0 ∷ added 4 ∷ []) ≡ standing 0 255 0 ∷ standing 2 4 0 ∷ [])
     × (left (seenPort 2 4 false (standing 1 4 0) 3 0 ∷ added 4 ∷ []) ≡ standing 1 4 0 ∷ standing 2 4 0 ∷ [])
     × (left (seenPort 2 4 false (standing 2 4 3) 3 0 ∷ added 4 ∷ []) ≡ standing 1 4 0 ∷ standing 2 4 0 ∷ [])
-unfolding chosenOf claims grant granted keptNumbers holders moreKept rounds someJoin standingBy standingsOf
+unfolding allOpen
 keeping = (refl, refl, refl, refl)
 
 abbrev ok : ℕ → Port
@@ -60,7 +59,7 @@ bits :
     × (mstOf 0 (ok 0 ∷ []) 1 16 ≡ 0xFF)
     × (mstOf 0 (ok 0 ∷ []) 1 32 ≡ 0x7F)
     × (mstOf 0 (ok 6 ∷ ok 5 ∷ ok 4 ∷ ok 3 ∷ ok 2 ∷ ok 1 ∷ ok 0 ∷ []) 7 0 ≡ 0x01)
-unfolding mstFirst mstFrom mstOf okHolds
+unfolding allOpen
 bits = (refl, refl, refl, refl, refl, refl, refl, refl, refl)
 
 -- a port as it was told
@@ -84,5 +83,5 @@ turning :
     × (ackOf (stays ∷ departed ∷ stays ∷ []) 3 0 ≡ 1)
     × (ackOf (renumbered ∷ stays ∷ departed ∷ []) 3 0 ≡ 1)
     × (ackOf (renumbered ∷ renumbered ∷ stays ∷ []) 3 1 ≡ 0)
-unfolding ackOf turns
+unfolding allOpen
 turning = (refl, refl, refl, refl, refl, refl)

@@ -9,38 +9,21 @@ use Rattle.ground.specs.Plain.{if_then_else_, _==_}
 use Rattle.ground.specs.Table.{tabulate}
 use Rattle.judge.specs.declared.order.Order.{Order}
 use Rattle.judge.specs.declared.seen.Seen.{Seen}
-use Rattle.judge.specs.Order.{activeIn, orderOf, portOf, rankOf}
-use Rattle.judge.specs.Verdict.{doubtfulBy, eosAlone, eosWrong, exact, gidDiffers, heldBy, highest, judgeOf, lcasVerdict, missing, repeats, takes}
-use Rattle.packet.specs.Counts.{nibbleIn, startsCount}
-use Rattle.packet.specs.Crc.{crcOf, divisor, nibbleBits}
-use Rattle.packet.specs.Kinds.{epochOf, firstTag, idleNumber, lead, placeOf, tagBefore, tags}
-use Rattle.packet.specs.Kinds.{frames as kindsFrames}
-use Rattle.packet.specs.Layout.{carriedIn, fieldsOf}
-use Rattle.packet.specs.Reading.{readNibbles}
-use Rattle.packet.specs.Ruling.{rulingOf}
-use Rattle.packet.specs.Words.{assigned}
-use Rattle.phases.specs.Due.{brought, owesNothing}
-use Rattle.phases.specs.Sizes.{portsIn, sized, storeFor}
-use Rattle.receiver.specs.Fetch.{dueIn, fetchAnswer, fetchOut, fetchRecord, fetchRows, fits, outIfDue, recordOf, reportIfDue, rowsIfDue}
+use Rattle.receiver.specs.Fetch.{dueIn, fetchAnswer, fetchOut, fetchRecord, fetchRows, outIfDue, recordOf, reportIfDue, rowsIfDue}
 use Rattle.receiver.specs.Frame.{frameAnswer, frameRows, frameStore, gatheredBy, refusalBy}
-use Rattle.receiver.specs.Lengths.{fetchFits, frameFits, outputFor, rowsFit}
-use Rattle.receiver.specs.Report.{frameInto, framesInto, outputBy, outputOf, replyPort, replyPorts, reportBy, reportOf, rulingEpoch, seenAll, seenOf, startsOf, statePut, statesPut, statesWorkedOut, withState}
-use Rattle.receiver.specs.Starting.{freshPort, freshPorts, sizedFits, sizedRows, startAsRows, startFits, startRight, startRows, timesWithin}
-use Rattle.reply.specs.Telling.{ackOf, turns}
-use Rattle.reply.specs.Waiting.{standing, standingBy, standingsOf}
+use Rattle.receiver.specs.Report.{framesInto, outputBy, outputOf, replyPort, replyPorts, reportBy, reportOf, rulingEpoch, seenAll, seenOf, startsOf, statesWorkedOut, withState}
+use Rattle.receiver.specs.Starting.{startRows}
+use Rattle.reply.specs.Waiting.{standing}
 use Rattle.rows.specs.declared.group.Group.{Group}
 use Rattle.rows.specs.declared.member.Member.{Member}
 use Rattle.rows.specs.declared.step.Step.{Step}
-use Rattle.rows.specs.Group.{groupAt, groupOf, groupRow, putGroup}
-use Rattle.rows.specs.Member.{memberAt, memberOf, memberRow, putMember}
-use Rattle.rows.specs.Packets.{marksAt, packetsAt, putMarks, putPackets}
-use Rattle.rows.specs.Rows.{putRow, rowIn}
-use Rattle.rows.specs.Step.{putStep, stepAt, stepOf, stepRow}
-use Rattle.step.specs.Arrival.{countsOn, flagged, inStep, readable, takenOf}
-use Rattle.step.specs.OwnCount.{ownNumber, ownRuling, rulingIn}
-use Rattle.step.specs.Run.{begunRun, gainedRun, inStepAt, runOn}
-use Rattle.store.specs.Frames.{placeIn, ringOf, storedAt}
-use Rattle.store.specs.Marks.{firstMark}
+use Rattle.rows.specs.Group.{groupAt}
+use Rattle.rows.specs.Member.{memberAt, putMember}
+use Rattle.rows.specs.Packets.{putMarks, putPackets}
+use Rattle.rows.specs.Step.{putStep}
+use Rattle.step.specs.Arrival.{readable}
+use Rattle.store.specs.Frames.{ringOf, storedAt}
+use Rattle.conformance.specs.Opened.{allOpen}
 
 abbrev group : ℕ → Group
 group origin =
@@ -73,7 +56,7 @@ ruled :
     × (seenOf (group 0) (putPackets rows 1 (zeros 16 ∷ norm ∷ [])) 1 ≡ seen true 2 3 1)
     × (seenOf (group 0) (putPackets rows 1 (norm ∷ zeros 16 ∷ [])) 1 ≡ seen false 0 0 0)
     × (seenOf (group 0) (putPackets rows 0 (zeros 16 ∷ norm ∷ [])) 1 ≡ seen false 0 0 0)
-unfolding assigned carriedIn crcOf divisor epochOf fieldsOf firstMark firstTag freshPort freshPorts kindsFrames lead marksAt nibbleBits ownNumber ownRuling packetsAt putGroup putMarks putMember putPackets putRow putStep readNibbles rowIn rulingEpoch rulingIn rulingOf seenOf sized sizedFits sizedRows startAsRows startFits startRight stepAt stepOf stepRow tagBefore tags timesWithin
+unfolding allOpen
 ruled = (refl, refl, refl, refl)
 
 abbrev order : Order
@@ -97,7 +80,7 @@ payload :
     × (ringOf 3 4 16 ≡ 7)
     × (storedAt (nines 8) 2 (5 ∷ 6 ∷ []) 7 ≡ 9 ∷ 9 ∷ 5 ∷ 6 ∷ 7 ∷ 9 ∷ 9 ∷ 9 ∷ [])
     × (storedAt (nines 4) 2 (5 ∷ 6 ∷ []) 7 ≡ nines 4)
-unfolding frameInto framesInto kindsFrames outputBy placeIn reportBy ringOf startsOf storedAt
+unfolding allOpen
 payload = (refl, refl, refl, refl, refl, refl, refl, refl, refl, refl, refl)
 
 -- a member's ten fields: what the reply is worked out from, and what a report leaves
@@ -143,7 +126,7 @@ states :
       restore = 400;
       elapsed = 21;
     })
-unfolding freshPort freshPorts inStep inStepAt kindsFrames memberAt memberOf memberRow putGroup putMarks putMember putPackets putRow putStep readable replyPort rowIn sized sizedFits sizedRows startAsRows startFits startRight stepAt stepOf stepRow tags timesWithin withState
+unfolding allOpen
 states = (refl, refl)
 
 -- 'A fetch with none due answers 0, says so, and changes nothing'; 9 changes nothing either, not even the record
@@ -155,7 +138,7 @@ fetches :
     × (fetchRecord rows (nines 96) (nines 63) (nines 8) ≡ nines 8)
     × (fetchAnswer rows (nines 96) (nines 63) (nines 8) ≡ 9)
     × (fetchAnswer rows (nines 96) (nines 65) (nines 8) ≡ 0)
-unfolding dueIn fetchAnswer fetchFits fetchOut fetchRecord fetchRows fits freshPort freshPorts groupAt groupOf groupRow idleNumber kindsFrames memberRow outIfDue outputFor portsIn putGroup putMarks putMember putPackets putRow putStep recordOf reportIfDue rowIn rowsFit rowsIfDue sized sizedFits sizedRows startAsRows startFits startRight stepRow storeFor tags timesWithin
+unfolding allOpen
 fetches = (refl, refl, refl, refl, refl, refl, refl)
 
 -- a frame: 1 for the port, then 9; both leave rows and store
@@ -175,7 +158,7 @@ frames :
     × (refusalBy (group 0) 2 1 11 2 97 ≡ 9)
     × (gatheredBy 0 (nines 16 ∷ zeros 16 ∷ []) true 21 0xA5 ≡ (nines 13 ++ (10 ∷ 9 ∷ 9 ∷ [])) ∷ zeros 16 ∷ [])
     × (gatheredBy 0 (nines 16 ∷ zeros 16 ∷ []) false 21 0xA5 ≡ nines 16 ∷ zeros 16 ∷ [])
-unfolding begunRun countsOn flagged frameAnswer frameFits frameRows frameStore freshPort freshPorts gainedRun gatheredBy groupAt groupOf groupRow idleNumber inStepAt kindsFrames lead memberRow nibbleIn placeOf portsIn putGroup putMarks putMember putPackets putRow putStep refusalBy rowIn rowsFit runOn sized sizedFits sizedRows startAsRows startFits startRight startsCount stepAt stepOf stepRow storeFor tags takenOf timesWithin
+unfolding allOpen
 frames = (refl, refl, refl, refl, refl, refl, refl, refl, refl, refl, refl, refl, refl, refl, refl)
 
 -- A group of two ports, P 2, W 16, in which receiving has begun and an epoch was gathered, or not. Each field has a number of its own.
@@ -238,7 +221,7 @@ candidates :
     × (replyPort (phase 1 1) (putStep ruling 1 (step 32)) 1 .readable ≡ true)
     × (replyPort (phase 1 1) (putStep ruling 1 unruled) 1 .readable ≡ true)
     × (replyPort (phase 0 1) (putStep ruling 1 (step 32)) 1 .readable ≡ false)
-unfolding freshPort freshPorts inStep inStepAt kindsFrames memberAt memberOf memberRow putGroup putMarks putMember putPackets putRow putStep readable replyPort rowIn sized sizedFits sizedRows startAsRows startFits startRight stepAt stepOf stepRow tags timesWithin withState
+unfolding allOpen
 candidates = (refl, refl, refl, refl)
 
 -- 'It is due when every readable port has brought its sixteen frames', of a group that has begun and has gathered. Here it is doubtful, since port 0 has no whole packet: port 1's two bytes of each frame, from place 5 of its ring on.
@@ -255,7 +238,7 @@ due :
     × (take 5 (outIfDue (phase 1 1) 2 ruling store (nines 64)) ≡ 63 ∷ 64 ∷ 66 ∷ 67 ∷ 69 ∷ [])
     × (outIfDue (phase 1 0) 2 ruling store (nines 64) ≡ nines 64)
     × (rowsIfDue (phase 1 0) 2 ruling store ≡ ruling)
-unfolding activeIn assigned brought carriedIn crcOf divisor doubtfulBy dueIn eosAlone eosWrong epochOf exact fieldsOf firstMark firstTag frameInto framesInto freshPort freshPorts gidDiffers heldBy highest inStep inStepAt judgeOf kindsFrames lcasVerdict lead marksAt missing nibbleBits orderOf outIfDue outputBy outputOf owesNothing ownNumber ownRuling packetsAt placeIn portOf putGroup putMarks putMember putPackets putRow putStep rankOf readNibbles readable repeats reportBy reportIfDue reportOf ringOf rowIn rowsIfDue rulingEpoch rulingIn rulingOf seenAll seenOf sized sizedFits sizedRows startAsRows startFits startRight startsOf stepAt stepOf stepRow tagBefore tags takes timesWithin
+unfolding allOpen
 due = (refl, refl, refl, refl, refl, refl, refl, refl, refl, refl, refl, refl)
 
 -- Working the states out leaves the group but for RS-Ack, which stays where no port has changed. What is kept by port has 64 places.
@@ -265,7 +248,7 @@ kept :
     × (length (seenAll (phase 1 1) [] 0) ≡ 64)
     × (startsOf (phase 1 1) [] 0 0 ≡ zeros 64)
     × (length (replyPorts (phase 1 1) [] 0) ≡ 64)
-unfolding ackOf groupAt groupOf groupRow putGroup putRow replyPorts rowIn seenAll standingsOf startsOf statesPut statesWorkedOut turns
+unfolding allOpen
 kept = (refl, refl, refl, refl, refl)
 
 -- OK so far, and ADD when it was told; IDLE now
@@ -286,12 +269,12 @@ many :
     × (memberAt (statesWorkedOut (phase 1 1) 18 eighteen) 17 .state ≡ 0)
     × (memberAt (statesWorkedOut (phase 1 1) 18 eighteen) 17 .«told_word» ≡ 5)
     × (groupAt (statesWorkedOut (phase 1 1) 18 eighteen) .«rs_ack» ≡ 0)
-unfolding ackOf activeIn assigned brought carriedIn crcOf divisor doubtfulBy dueIn eosAlone eosWrong epochOf exact fieldsOf firstMark firstTag frameInto framesInto freshPort freshPorts gidDiffers groupAt groupOf groupRow heldBy highest inStep inStepAt judgeOf kindsFrames lcasVerdict lead marksAt memberAt memberOf memberRow missing nibbleBits orderOf outIfDue outputBy outputOf owesNothing ownNumber ownRuling packetsAt placeIn portOf putGroup putMarks putMember putPackets putRow putStep rankOf readNibbles readable repeats replyPort replyPorts reportBy reportIfDue reportOf ringOf rowIn rowsIfDue rulingEpoch rulingIn rulingOf seenAll seenOf sized sizedFits sizedRows standingBy standingsOf startAsRows startFits startRight startsOf statePut statesPut statesWorkedOut stepAt stepOf stepRow storedAt tagBefore tags takes timesWithin turns withState
+unfolding allOpen
 many = (refl, refl, refl, refl, refl, refl)
 
 -- the byte count of a record, highest byte first, up to 32 bits
 records :
     (recordOf (record { mark = 3; epoch = 7; x = 9; bytes = 0xFEFFFFFF }) ≡ 3 ∷ 7 ∷ 9 ∷ 0 ∷ 0xFE ∷ 0xFF ∷ 0xFF ∷ 0xFF ∷ [])
     × (recordOf (record { mark = 3; epoch = 7; x = 9; bytes = 0xFF000000 }) ≡ 3 ∷ 7 ∷ 9 ∷ 0 ∷ 0xFF ∷ 0 ∷ 0 ∷ 0 ∷ [])
-unfolding recordOf
+unfolding allOpen
 records = (refl, refl)

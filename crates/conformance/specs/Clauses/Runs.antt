@@ -4,33 +4,16 @@ use mathlib.Core.Bool.{true, false}
 use mathlib.Core.List.{List, [], _∷_, _++_}
 use Prim.Native.Nat.{ℕ}
 use lib.ListN.{replicate, take}
-use Rattle.c_face.specs.Boards.{boardByte, boardBytesC, boardBytesOf, outgoingBytesC, rankByte, ranksBytesC, ranksBytesOf, shownAnswerC, shownBytes}
-use Rattle.c_face.specs.Cards.{boardBytesOn, callAnswerOn, callStateOn, cardOf, outgoingBytesOn, ownedBytesOn, ownersIn, packetAnswerOn, packetBytesOn, partIn, payloadAnswerOn, payloadBytesOn, putCard, putOwn, ranksBytesOn, refusalOf, shownAnswerOn, shownBytesOn}
-use Rattle.c_face.specs.Keeping.{byteAt, bytesOf, rowsIn, senderOf, slotsIn}
+use Rattle.c_face.specs.Boards.{boardBytesC, outgoingBytesC, ranksBytesC, shownAnswerC}
+use Rattle.c_face.specs.Cards.{boardBytesOn, callAnswerOn, callStateOn, outgoingBytesOn, ownedBytesOn, packetAnswerOn, packetBytesOn, payloadAnswerOn, payloadBytesOn, putCard, ranksBytesOn, refusalOf, shownAnswerOn}
 use Rattle.c_face.specs.Orders.{kindAnswerOn, kindStateOn, orderAnswerOn, orderAnswersOn, orderStateOn}
 use Rattle.c_face.specs.Senders.{areBytes, callAnswerC, callStateC, packetAnswerC, packetBytesC, payloadAnswerC, payloadBytesC, startStateC}
 use Rattle.circuits.specs.Calls.{Call as C}
-use Rattle.circuits.specs.Commands.{claimOf, commandOf, releaseOf}
-use Rattle.circuits.specs.Owners.{ownedBytes, withOwner}
-use Rattle.circuits.specs.Parts.{isSlot, isUsed, marked, owns, shownSender}
-use Rattle.circuits.specs.Parts.{senderOf as partsSenderOf}
-use Rattle.circuits.specs.Readings.{boardShown, outgoingShown, ownedShown, ranksShown}
-use Rattle.circuits.specs.Readings.{packetAnswer as readingsPacketAnswer}
-use Rattle.circuits.specs.Readings.{payloadAnswer as readingsPayloadAnswer}
-use Rattle.circuits.specs.Readings.{payloadBytes as readingsPayloadBytes}
 use Rattle.conformance.specs.Clauses.Filled.{nines}
-use Rattle.packet.specs.Crc.{crcOf, divisor, nibbleBits}
-use Rattle.packet.specs.Kinds.{frames, idleNumber}
-use Rattle.packet.specs.Layout.{dataOf, h4Of, nibblesOf, sealedOf}
-use Rattle.packet.specs.Words.{assigned}
-use Rattle.packet.specs.Writing.{fitting, writeAnswer, writeBytes}
-use Rattle.sender.specs.Board.{boardOf, highest, noRow, rowOf, rowsOf}
 use Rattle.sender.specs.Calls.Call.{AddSlot, Lapse}
-use Rattle.sender.specs.Commands.{addOf, addedTo, freshOf, idleSlot, startOf}
-use Rattle.sender.specs.Epochs.{SenderCall, beginOf, freshSender, packetAnswer, packetBytes, packetFields, payloadAnswer, payloadBytes, ranksOf, senderRun, startEpochOf, startedEpoch, startedSender}
+use Rattle.sender.specs.Epochs.{SenderCall, beginOf, senderRun}
 use Rattle.sender.specs.Epochs.SenderCall.{OnTable, StartEpoch}
-use Rattle.sender.specs.Ranks.{carriersIn, rankAt, rankOf, ranksIn}
-use Rattle.sender.specs.Table.{membersOf, sizeOf}
+use Rattle.conformance.specs.Opened.{allOpen}
 
 abbrev called : List ℕ → List SenderCall → List ℕ
 called state [] = state
@@ -59,7 +42,7 @@ a-sender :
     ∷ 0x38 ∷ 0xC9 ∷ 0x0A ∷ 0x0B ∷ 0x0C ∷ 0x0D ∷ 0x0E ∷ 0x0F ∷ 0x00 ∷ 0x71 ∷ 0x12 ∷ 0x13 ∷ 0x04 ∷ 0x05 ∷ 0xB6 ∷ 0x97
     ∷ 0x38 ∷ 0xC9 ∷ 0x0A ∷ 0x0B ∷ 0x0C ∷ 0x0D ∷ 0xFE ∷ 0xFF ∷ 0x00 ∷ 0x71 ∷ 0x52 ∷ 0x13 ∷ 0x04 ∷ 0x05 ∷ 0x36 ∷ 0x37
     ∷ 0 ∷ 0 ∷ 0 ∷ 0 ∷ []
-unfolding addOf addedTo assigned beginOf boardByte boardBytesOf boardOf byteAt bytesOf carriersIn crcOf dataOf divisor fitting frames freshOf freshSender h4Of idleNumber idleSlot membersOf nibbleBits nibblesOf packetBytes packetBytesC packetFields payloadBytes payloadBytesC rankAt rankByte ranksBytesOf ranksIn ranksOf rowOf rowsIn rowsOf sealedOf senderOf shownBytes sizeOf slotsIn startEpochOf startOf startStateC startedEpoch startedSender callStateC writeBytes
+unfolding allOpen
 a-sender = refl
 
 -- any 397 bytes: nines are nine slots and an open wait, with no member, and a GID that is none
@@ -93,7 +76,7 @@ sender-answers :
     × (shownAnswerC 130 (nines 396) (nines 130) ≡ 9)
     × (boardBytesC (nines 397) (nines 129) ≡ nines 129)
     × (boardBytesC (nines 396) (nines 130) ≡ nines 130)
-unfolding addOf carriersIn fitting frames packetAnswer packetAnswerC packetBytesC packetFields payloadAnswer payloadAnswerC payloadBytes payloadBytesC rankAt rowsIn senderOf shownAnswerC shownBytes sizeOf callAnswerC callStateC writeAnswer
+unfolding allOpen
 sender-answers = (refl, refl, refl, refl, refl, refl, refl, refl, refl, refl, refl, refl, refl, refl, refl, refl, refl, refl, refl, refl, refl, refl, refl, refl, refl, refl, refl, refl, refl)
 
 -- The bytes of a card of three slots, groups 0 and 1 from epochs 7 and 9 on. Group 0 owns slots 0 and 1; it has added the first, started epoch 7 and added the second. Group 1 owns slot 2.
@@ -119,7 +102,7 @@ a-card :
     × (ownedBytesOn card 1 (nines 64) ≡ 0 ∷ 0 ∷ 1 ∷ replicate 61 0)
     × (outgoingBytesOn card 0 (nines 129) ≡ nines 129)
     × (ranksBytesOn card 0 (nines 67) ≡ nines 67)
-unfolding addOf addedTo assigned beginOf boardByte boardBytesOf boardOf boardShown byteAt bytesOf callAnswerOn callStateC callStateOn cardOf carriersIn claimOf commandOf crcOf dataOf divisor fitting frames freshOf freshSender h4Of highest idleNumber idleSlot isSlot membersOf nibbleBits nibblesOf noRow outgoingShown ownedBytes ownedShown ownersIn owns packetAnswer packetAnswerOn packetBytes packetBytesC packetBytesOn packetFields partIn partsSenderOf payloadAnswer payloadAnswerOn payloadBytes payloadBytesC payloadBytesOn putOwn rankAt rankByte rankOf ranksBytesOf ranksIn ranksOf ranksShown readingsPacketAnswer readingsPayloadAnswer readingsPayloadBytes refusalOf rowOf rowsIn rowsOf sealedOf senderOf shownAnswerOn shownBytes shownBytesOn shownSender sizeOf slotsIn startEpochOf startOf startStateC startedEpoch startedSender writeAnswer writeBytes
+unfolding allOpen
 a-card = (refl, refl, refl, refl, refl, refl, refl, refl, refl)
 
 -- any 858 bytes: nines are nine slots for each group, owned by nobody
@@ -161,7 +144,7 @@ card-answers :
     × (packetAnswerOn (nines 5 ++ (1 ∷ nines 852)) 0 5 (nines 16) ≡ 8)
     × (payloadAnswerOn (nines 5 ++ (1 ∷ nines 852)) 0 5 2 [] (nines 2) ≡ 0)
     × (payloadBytesOn (nines 5 ++ (1 ∷ nines 852)) 0 5 2 [] (nines 2) ≡ 0 ∷ 0 ∷ [])
-unfolding cardOf carriersIn claimOf commandOf fitting frames isSlot ownersIn owns packetAnswer packetAnswerOn packetBytesOn packetFields partIn partsSenderOf payloadAnswer payloadAnswerOn payloadBytes payloadBytesOn rankAt readingsPacketAnswer readingsPayloadAnswer readingsPayloadBytes refusalOf rowsIn senderOf shownAnswerOn shownBytesOn sizeOf callAnswerOn callStateOn writeAnswer
+unfolding allOpen
 card-answers = (refl, refl, refl, refl, refl, refl, refl, refl, refl, refl, refl, refl, refl, refl, refl, refl, refl, refl, refl, refl, refl, refl, refl, refl, refl, refl, refl, refl, refl, refl, refl, refl, refl, refl, refl, refl, refl)
 
 -- add 0 0, which nobody owns, and a kind that is none
@@ -185,5 +168,5 @@ orders :
     × (orderAnswersOn (nines 858) ((2 ∷ 1 ∷ 5 ∷ []) ∷ []) (nines 1) ≡ 0 ∷ [])
     × (take 6 (orderStateOn (nines 858) ((2 ∷ 1 ∷ 5 ∷ []) ∷ []) (nines 1)) ≡ nines 5 ++ (2 ∷ []))
     × (take 6 (kindStateOn 3 0 5 (nines 5 ++ (1 ∷ nines 852))) ≡ nines 5 ++ (0 ∷ []))
-unfolding cardOf claimOf commandOf isSlot isUsed kindAnswerOn kindStateOn marked orderAnswerOn orderAnswersOn orderStateOn ownersIn owns partIn partsSenderOf putOwn releaseOf senderOf sizeOf slotsIn callAnswerOn callStateOn withOwner
+unfolding allOpen
 orders = (refl, refl, refl, refl, refl, refl, refl, refl, refl, refl, refl, refl, refl, refl, refl, refl)

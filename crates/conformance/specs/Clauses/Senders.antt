@@ -5,23 +5,20 @@ use mathlib.Core.List.{List, [], _∷_, _++_}
 use Prim.Native.Nat.{ℕ}
 use lib.ListN.{getD, length, replicate, take}
 use Rattle.ground.specs.Table.{tabulate}
-use Rattle.packet.specs.Kinds.{epochAfter, epochs, idleNumber, mstFails, mstFirst, mstNumbers}
 use Rattle.payload.specs.Order.{memberByte}
 use Rattle.payload.specs.Spreading.{spreadOne}
-use Rattle.sender.specs.Board.{boardOf, highest, noRow, rowOf, rowsOf}
+use Rattle.sender.specs.Board.{boardOf, noRow}
 use Rattle.sender.specs.Calls.{Call, outcomeOf}
 use Rattle.sender.specs.Calls.Call.{AddSlot, Lapse, RemoveSlot, Report}
-use Rattle.sender.specs.Commands.{addOf, addedTo, fallen, fallenIn, freshOf, idleSlot, lapseOf, removeOf, removedFrom, startOf}
-use Rattle.sender.specs.Epochs.{beginOf, freshSender, packetFields, ranksOf, senderRun, startEpochOf, startedEpoch, startedSender}
+use Rattle.sender.specs.Epochs.{beginOf, packetFields, ranksOf, senderRun}
 use Rattle.sender.specs.Epochs.SenderCall.{OnTable, StartEpoch}
 use Rattle.sender.specs.declared.ranks.Ranks.{Ranks}
-use Rattle.sender.specs.Ranks.{carriersIn, rankAt, rankOf, ranksIn}
 use Rattle.sender.specs.Numbering.{isPlaced, members, numberIn, placed, sends, slotsIn, stateIn}
 use Rattle.sender.specs.declared.table.State.the-variants.{Active, Add, Dnu, Idle}
 use Rattle.sender.specs.declared.table.Table.{Table}
-use Rattle.sender.specs.Reports.{actedOn, comesBefore, mstApplied, numberAfter, numberApplied, opensWait, renumbered, reportOf, slotAfter, turnOf, waited}
 use Rattle.sender.specs.Shown.{after, shown}
-use Rattle.sender.specs.Table.{answerNumber, holderOf, membersOf, sizeOf}
+use Rattle.sender.specs.Table.{answerNumber}
+use Rattle.conformance.specs.Opened.{allOpen}
 
 abbrev active : ℕ → List Call
 active slot = AddSlot slot ∷ Report 0 0x00 0 ∷ Lapse ∷ []
@@ -35,7 +32,7 @@ opens :
     × (shown (after 2 (AddSlot 0 ∷ AddSlot 1 ∷ Report 0 0x7F 0 ∷ [])) ≡ 3 ∷ 0 ∷ 1 ∷ 1 ∷ 1 ∷ [])
     × (shown (after 1 (AddSlot 0 ∷ Report 16 0x00 0 ∷ [])) ≡ 1 ∷ 0 ∷ 0 ∷ [])
     × (shown (after 1 (AddSlot 0 ∷ Report 32 0x00 0 ∷ [])) ≡ 3 ∷ 0 ∷ 1 ∷ [])
-unfolding actedOn addOf addedTo boardOf comesBefore freshOf highest holderOf idleNumber idleSlot membersOf mstApplied mstFails mstFirst mstNumbers noRow numberAfter numberApplied opensWait renumbered reportOf rowOf rowsOf sizeOf slotAfter startOf turnOf waited
+unfolding allOpen
 opens = (refl, refl, refl, refl)
 
 -- A wait closes where RS-Ack goes from 1 to 0 too, and 0 is remembered: at the next wait another 0 leaves it open. With no wait open the lowest bit of 3 is remembered, which is 1.
@@ -44,12 +41,12 @@ closes :
     × (shown (after 3 (two ++ (active 2 ++ (Report 0 0x00 1 ∷ RemoveSlot 2 ∷ Report 0 0x00 0 ∷ RemoveSlot 1 ∷ Report 0 0x00 0 ∷ [])))) ≡ 3 ∷ 0 ∷ 5 ∷ 255 ∷ 5 ∷ 255 ∷ 1 ∷ [])
     × (shown (after 2 (two ++ (Report 0 0x00 3 ∷ RemoveSlot 1 ∷ Report 0 0x00 1 ∷ []))) ≡ 3 ∷ 0 ∷ 5 ∷ 255 ∷ 1 ∷ [])
     × (shown (after 2 (two ++ (Report 0 0x00 3 ∷ RemoveSlot 1 ∷ Report 0 0x00 2 ∷ []))) ≡ 3 ∷ 0 ∷ 5 ∷ 255 ∷ 0 ∷ [])
-unfolding actedOn addOf addedTo boardOf comesBefore fallen fallenIn freshOf highest holderOf idleNumber idleSlot lapseOf membersOf mstApplied mstFails mstFirst mstNumbers noRow numberAfter numberApplied opensWait removeOf removedFrom renumbered reportOf rowOf rowsOf sizeOf slotAfter startOf turnOf waited
+unfolding allOpen
 closes = (refl, refl, refl, refl)
 
 -- Only numbers above the one that is freed fall.
 falls : shown (after 3 (two ++ (active 2 ++ (RemoveSlot 2 ∷ [])))) ≡ 2 ∷ 0 ∷ 3 ∷ 1 ∷ 5 ∷ 255 ∷ 1 ∷ []
-unfolding actedOn addOf addedTo boardOf comesBefore fallen fallenIn freshOf highest holderOf idleNumber idleSlot lapseOf membersOf mstApplied mstFails mstFirst mstNumbers noRow numberAfter numberApplied opensWait removeOf removedFrom renumbered reportOf rowOf rowsOf sizeOf slotAfter startOf turnOf waited
+unfolding allOpen
 falls = refl
 
 -- 'Add, from IDLE', 'Remove, from ADD, active or DNU', of the slot that is named: slot 0 active, slot 1 IDLE, and the other way round; there is no slot 2
@@ -63,7 +60,7 @@ commands :
     × (answerNumber (outcomeOf (after 2 (active 1)) (RemoveSlot 0) .answer) ≡ 2)
     × (answerNumber (outcomeOf (after 2 (active 0)) (RemoveSlot 2) .answer) ≡ 1)
     × (answerNumber (outcomeOf (after 2 (active 1)) (AddSlot 2) .answer) ≡ 1)
-unfolding actedOn addOf addedTo comesBefore freshOf holderOf idleNumber idleSlot lapseOf membersOf mstApplied mstFails mstFirst mstNumbers numberAfter numberApplied opensWait removeOf renumbered reportOf sizeOf slotAfter startOf turnOf waited
+unfolding allOpen
 commands = (refl, refl, refl, refl, refl, refl, refl, refl, refl)
 
 -- three slots whose first epoch is 255, slots 1 and 2 active from before its start, after n starts of an epoch
@@ -87,7 +84,7 @@ epochs-begun :
     × (packetFields (senderRun (beginOf 0 3 255 .sender) (StartEpoch 1 0x5A 1 ∷ OnTable (AddSlot 0) ∷ [])) 0 .gid ≡ 1)
     × (packetFields (senderRun (beginOf 0 3 255 .sender) (StartEpoch 1 0x5A 1 ∷ OnTable (AddSlot 0) ∷ [])) 0 .«rs_ack» ≡ 1)
     × (packetFields (senderRun (beginOf 0 3 255 .sender) (StartEpoch 1 0x5A 0 ∷ OnTable (AddSlot 0) ∷ [])) 0 .«rs_ack» ≡ 0)
-unfolding actedOn addOf addedTo beginOf boardOf carriersIn comesBefore freshOf freshSender highest holderOf idleNumber idleSlot membersOf mstApplied mstFails mstFirst mstNumbers noRow numberAfter numberApplied opensWait packetFields rankAt ranksIn ranksOf renumbered reportOf rowOf rowsOf sizeOf slotAfter startEpochOf startOf startedEpoch startedSender turnOf waited epochAfter epochs rankOf
+unfolding allOpen
 epochs-begun = (refl, refl, refl, refl, refl, refl, refl, refl, refl, refl, refl, refl, refl, refl, refl)
 
 -- slots 0 and 2 active, slot 1 DNU, slot 3 added and slot 4 IDLE
@@ -111,7 +108,7 @@ demand2-words :
     × (numberIn (after 64 (AddSlot 63 ∷ [])) 63 ≡ 0)
     × (slotsIn (after 64 []) ≡ 64)
     × (slotsIn (after 65 []) ≡ 0)
-unfolding actedOn addOf addedTo boardOf comesBefore freshOf highest holderOf idleNumber idleSlot lapseOf membersOf mstApplied mstFails mstFirst mstNumbers noRow numberAfter numberApplied opensWait renumbered reportOf rowOf rowsOf sizeOf slotAfter startOf turnOf waited
+unfolding allOpen
 demand2-words = (refl, refl, refl, refl, refl, refl, refl, refl, refl, refl, refl, refl, refl, refl, refl)
 
 -- A slot with no rank carries zeros, however long the client's frame is: rank 255 would be within it here.

@@ -4,28 +4,21 @@ use mathlib.Core.Bool.{false}
 use mathlib.Core.List.{List, [], _∷_, _++_}
 use Prim.Native.Nat.{ℕ}
 use lib.ListN.{replicate}
-use Rattle.bytes.specs.Bytes.{indexOf}
 use Rattle.conformance.specs.Clauses.Filled.{nines}
 use Rattle.console.specs.declared.line.Line.the-variants.{Size, Add, Remove, Report, Lapse, Board, Malformed}
 use Rattle.console.specs.declared.session.Session.{Session}
-use Rattle.console.specs.Kept.{keepAll, keepOf, lineIn, nothingKept}
-use Rattle.console.specs.Line.{lineOf, numberLine, reportLine, reportOf, wordLine}
-use Rattle.console.specs.Output.{answerText, boardText, slotText, waitText}
+use Rattle.console.specs.Kept.{keepAll, lineIn, nothingKept}
+use Rattle.console.specs.Line.{lineOf, numberLine, reportOf}
 use Rattle.console.specs.Replies.{outputOf, replyOf, sizeReply}
-use Rattle.console.specs.Runs.{endedRun, fedOnce, hostOutput, joined, leftOf}
+use Rattle.console.specs.Runs.{hostOutput, joined}
 use Rattle.console.specs.Session.{beginning, fedSession, fedText, feedBytes, feedOf, finishBytes, finishOf, lastSession, lastText, usedOf}
-use Rattle.packet.specs.Kinds.{idleNumber}
-use Rattle.sender.specs.Board.{boardOf, highest, noRow, rowOf, rowsOf}
-use Rattle.sender.specs.Commands.{addOf, addedTo, fallen, fallenIn, freshOf, idleSlot, lapseOf, removeOf, removedFrom, startOf}
+use Rattle.sender.specs.Commands.{freshOf}
 use Rattle.sender.specs.declared.table.Table.{Table}
 use Rattle.sender.specs.Shown.{after, shown}
 use Rattle.sender.specs.Calls.{Call as C}
-use Rattle.sender.specs.Table.{membersOf, sizeOf}
 use Rattle.text.specs.Ascii.{ascii}
 use Rattle.text.specs.declared.fields.Number.the-variants.{Value, Unreadable}
-use Rattle.text.specs.Fields.{digitOf, hexOf, numberOf}
-use Rattle.text.specs.Output.{decimalText, wordText}
-use Rattle.text.specs.Text.{fieldsOf}
+use Rattle.conformance.specs.Opened.{allOpen}
 
 -- 'Input lines': six words, each with its own fields and no others. 'Numbers have one to three decimal digits; an epoch above 255 or an RS-Ack other than 0 or 1 is malformed.' MST has 'two hex digits, either case': aF is 175.
 lines :
@@ -52,7 +45,7 @@ lines :
     × (lineOf (ascii "report\t0\t00\t") ≡ Malformed)
     × (lineOf (ascii "report\t0\t00\t0\t0") ≡ Malformed)
     × (lineOf (replicate 81 65) ≡ Malformed)
-unfolding digitOf fieldsOf hexOf lineOf numberLine numberOf reportLine reportOf wordLine
+unfolding allOpen
 lines = (refl, refl, refl, refl, refl, refl, refl, refl, refl, refl, refl, refl, refl, refl, refl, refl, refl, refl, refl, refl, refl, refl, refl)
 
 -- the parts of a line by themselves: a word with a number that cannot be read, and a report's three numbers
@@ -68,7 +61,7 @@ parts :
     × (reportOf (Value 0) (Value 0) Unreadable ≡ Malformed)
     × (reportOf (Value 0) Unreadable (Value 0) ≡ Malformed)
     × (reportOf Unreadable (Value 0) (Value 0) ≡ Malformed)
-unfolding numberLine reportOf
+unfolding allOpen
 parts = (refl, refl, refl, refl, refl, refl, refl, refl, refl, refl, refl)
 
 -- slot 1 was added and removed: a wait is open
@@ -95,7 +88,7 @@ answers :
     × (outputOf waiting Malformed ≡ ascii "answer\t13\n")
     × (outputOf waiting Lapse ≡ ascii "answer\t0\n")
     × (outputOf waiting Board ≡ ascii "slot\t0\tIDLE\t255\nslot\t1\tIDLE\t255\nwait\t1\n")
-unfolding addOf addedTo answerText boardOf boardText decimalText fallen fallenIn freshOf highest idleNumber idleSlot lapseOf membersOf noRow outputOf removeOf removedFrom replyOf rowOf rowsOf sizeOf sizeReply slotText startOf waitText wordText
+unfolding allOpen
 answers = (refl, refl, refl, refl, refl, refl, refl, refl, refl, refl, refl, refl, refl, refl, refl, refl, refl, refl)
 
 -- two slots, and so much of a line has come
@@ -120,7 +113,7 @@ fed :
     × (feedOf (holding (ascii "ad")) (ascii "d\t2\nlapse\n") (nines 1095) ≡ record { session = holding []; answer = 0; used = 4; written = 9 })
     × (feedOf (holding (ascii "ad")) (ascii "d\t2\nlapse\n") (nines 1094) ≡ record { session = holding (ascii "ad"); answer = 9; used = 0; written = 0 })
     × (feedBytes (holding (ascii "ad")) (ascii "d\t2\nlapse\n") (nines 1095) ≡ ascii "answer\t1\n" ++ nines 1086)
-unfolding addOf addedTo answerText beginning boardOf decimalText digitOf fedSession fedText feedBytes feedOf fieldsOf freshOf highest idleNumber idleSlot indexOf keepOf lineIn lineOf membersOf noRow nothingKept numberLine numberOf outputOf replyOf rowOf rowsOf sizeOf startOf usedOf wordLine
+unfolding allOpen
 fed = (refl, refl, refl, refl, refl, refl, refl, refl, refl, refl, refl, refl, refl, refl, refl, refl)
 
 -- at the end of the input a line that lacks its end is answered; where there is none nothing is said
@@ -134,7 +127,7 @@ ended :
     × (finishOf (holding (ascii "add\t2")) (nines 1095) ≡ record { session = holding []; answer = 0; used = 0; written = 9 })
     × (finishOf (holding (ascii "add\t2")) (nines 1094) ≡ record { session = holding (ascii "add\t2"); answer = 9; used = 0; written = 0 })
     × (finishBytes (holding (ascii "add\t2")) (nines 1095) ≡ ascii "answer\t1\n" ++ nines 1086)
-unfolding addOf addedTo answerText boardOf decimalText digitOf fieldsOf finishBytes finishOf freshOf highest idleNumber idleSlot keepOf lastSession lastText lineIn lineOf membersOf noRow nothingKept numberLine numberOf outputOf replyOf rowOf rowsOf sizeOf startOf wordLine
+unfolding allOpen
 ended = (refl, refl, refl, refl, refl, refl, refl, refl, refl)
 
 abbrev fourParts : List (List ℕ)
@@ -144,5 +137,5 @@ fourParts = ascii "si" ∷ ascii "ze\t1\nadd\t1\nbo" ∷ [] ∷ ascii "ard" ∷ 
 whole :
     (joined fourParts ≡ ascii "size\t1\nadd\t1\nboard")
     × (hostOutput (nines 1095) fourParts ≡ ascii "answer\t0\nanswer\t1\nslot\t0\tIDLE\t255\nwait\t0\n")
-unfolding addOf answerText beginning boardOf boardText decimalText digitOf endedRun fedOnce fedSession fedText feedBytes feedOf fieldsOf finishBytes finishOf freshOf highest hostOutput idleNumber idleSlot indexOf keepOf lastText leftOf lineIn lineOf noRow nothingKept numberLine numberOf outputOf replyOf rowOf rowsOf sizeOf sizeReply slotText startOf usedOf waitText wordLine wordText
+unfolding allOpen
 whole = (refl, refl)

@@ -4,30 +4,15 @@ use mathlib.Core.Bool.{true, false}
 use mathlib.Core.List.{List, [], _∷_}
 use Prim.Native.Nat.{ℕ}
 use lib.ListN.{replicate}
-use Rattle.ground.specs.Circle.{after}
-use Rattle.packet.specs.Counts.{nibbleIn}
-use Rattle.packet.specs.Crc.{crcOf, divisor, nibbleBits}
-use Rattle.packet.specs.Kinds.{distanceOf, epochAfter, epochOf, epochs, frames, lead, tagBefore, tags}
-use Rattle.packet.specs.Layout.{carriedIn, fieldsOf}
-use Rattle.packet.specs.Reading.{readNibbles}
-use Rattle.packet.specs.Ruling.{rulingOf}
-use Rattle.packet.specs.Words.{assigned}
-use Rattle.phases.specs.Beginning.{begins, foremost, further, latest, noTag, ready, within}
 use Rattle.phases.specs.Due.{brought, owesNothing, silent}
-use Rattle.phases.specs.Passing.{notedBy, passedGroup, passedOf, passedPort, passedPorts, passedStep, ruledBy}
-use Rattle.phases.specs.Settling.{beginBy, begunOf, clearedPort, clearedPorts, clearedStep, gatherBy, settledOf, stopBy, stoppedOf}
+use Rattle.phases.specs.Settling.{beginBy, clearedStep, gatherBy, settledOf, stopBy}
 use Rattle.rows.specs.declared.group.Group.{Group}
 use Rattle.rows.specs.declared.step.Step.{Step}
-use Rattle.rows.specs.Group.{groupAt, groupOf, groupRow, putGroup}
-use Rattle.rows.specs.Member.{memberAt, memberOf, memberRow, putMember}
-use Rattle.rows.specs.Packets.{marksAt, packetsAt, putMarks, putPackets}
-use Rattle.rows.specs.Rows.{putRow, rowIn}
-use Rattle.rows.specs.Step.{putStep, stepAt, stepOf, stepRow}
-use Rattle.step.specs.Arrival.{inStep, readable}
-use Rattle.step.specs.OwnCount.{ownNumber, ownRuling, rulingIn}
-use Rattle.step.specs.Run.{inStepAt}
-use Rattle.store.specs.Frames.{byteAt, h4At, packetIn, placeIn, ringOf}
-use Rattle.store.specs.Marks.{firstMark, passedByte, passedMarks}
+use Rattle.rows.specs.Group.{groupAt, putGroup}
+use Rattle.rows.specs.Member.{memberAt, memberOf}
+use Rattle.rows.specs.Packets.{marksAt, packetsAt}
+use Rattle.rows.specs.Step.{putStep, stepAt}
+use Rattle.conformance.specs.Opened.{allOpen}
 
 -- a port that has counted so many frames, with the tag to come
 abbrev step : ℕ → ℕ → ℕ → ℕ → ℕ → ℕ → ℕ → ℕ → Step
@@ -50,7 +35,7 @@ step had failed count next joined since later whole =
 cleared :
     (clearedStep (step 6 7 33 853 8 9 10 11) true ≡ step 6 7 33 853 0 1 0 0)
     × (clearedStep (step 6 7 33 853 8 9 10 11) false ≡ step 6 7 33 853 0 0 0 0)
-unfolding clearedStep
+unfolding allOpen
 cleared = (refl, refl)
 
 abbrev group : ℕ → ℕ → ℕ → ℕ → Group
@@ -108,7 +93,7 @@ due :
     × (silent g (rows g coming failed) 2 ≡ false)
     × (silent g (rows g failed coming) 2 ≡ false)
     × (silent g (rows g apart failed) 2 ≡ true)
-unfolding brought firstMark frames groupRow inStep inStepAt marksAt owesNothing putGroup putRow putStep readable rowIn silent stepAt stepOf stepRow
+unfolding allOpen
 due = (refl, refl, refl, refl, refl, refl, refl, refl, refl, refl, refl, refl)
 
 -- 'receiving stops, unreported epochs are dropped': the place of the window's first frame and RS-Ack stay, the members and the packets too
@@ -122,7 +107,7 @@ stopping :
     × (memberAt (stopBy g 2 (rows g apart failed)) 1 ≡ memberOf eights)
     × (stopBy g 2 (rows g coming failed) ≡ rows g coming failed)
     × (stopBy (group 0 0 57 30) 2 (rows g apart failed) ≡ rows g apart failed)
-unfolding clearedPort clearedPorts clearedStep frames groupAt groupOf groupRow inStep inStepAt marksAt memberAt memberOf packetsAt putGroup putMarks putRow putStep readable rowIn silent stepAt stepOf stepRow stopBy stoppedOf
+unfolding allOpen
 stopping = (refl, refl, refl, refl, refl, refl, refl, refl, refl)
 
 abbrev unbegun : Group
@@ -149,7 +134,7 @@ beginning :
     × (beginBy unbegun 2 (rows unbegun apart (step 0 1 0 0 0 0 0 0)) ≡ rows unbegun apart (step 0 1 0 0 0 0 0 0))
     × (beginBy unbegun 2 (rows unbegun apart (step 1 0 31 853 0 0 0 0)) ≡ rows unbegun apart (step 1 0 31 853 0 0 0 0))
     × (beginBy g 2 (rows g apart failed) ≡ rows g apart failed)
-unfolding after beginBy begins begunOf clearedPort clearedPorts clearedStep distanceOf epochAfter epochOf epochs foremost frames further groupAt groupOf groupRow inStep inStepAt latest lead marksAt noTag putGroup putMarks putRow putStep ready rowIn stepAt stepOf stepRow tagBefore tags within
+unfolding allOpen
 beginning = (refl, refl, refl, refl, refl, refl, refl, refl, refl, refl, refl, refl, refl, refl, refl, refl, refl)
 
 -- 'gathered, in the call that makes it due', once, and before the beginning nothing is; the place of the window's first frame goes on by sixteen, round W of 40.
@@ -164,5 +149,5 @@ settling :
     × (groupAt (settledOf 2 [] (rows g apart failed)) ≡ group 1 0 54 30)
     × (stepAt (settledOf 2 [] (rows g apart failed)) 0 ≡ step 1 0 33 853 0 1 0 0)
     × (settledOf 2 [] (rows g coming owing) ≡ rows g coming owing)
-unfolding after assigned beginBy begins begunOf brought byteAt carriedIn clearedPort clearedPorts clearedStep crcOf distanceOf divisor epochAfter epochOf epochs fieldsOf firstMark foremost frames further gatherBy groupAt groupOf groupRow h4At inStep inStepAt latest lead marksAt memberAt memberOf memberRow nibbleBits nibbleIn noTag notedBy owesNothing ownNumber ownRuling packetIn packetsAt passedByte passedGroup passedMarks passedOf passedPort passedPorts passedStep placeIn putGroup putMarks putMember putPackets putRow putStep readNibbles readable ready ringOf rowIn ruledBy rulingIn rulingOf settledOf silent stepAt stepOf stepRow stopBy stoppedOf tagBefore tags within
+unfolding allOpen
 settling = (refl, refl, refl, refl, refl, refl, refl, refl, refl)

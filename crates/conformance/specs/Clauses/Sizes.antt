@@ -3,9 +3,9 @@ use mathlib.Core.Path.{_≡_, refl}
 use mathlib.Core.List.{[], _∷_}
 use Prim.Native.Nat.{ℕ}
 use Rattle.ground.specs.Sizes.{sizeOf}
-use Rattle.packet.specs.Kinds.{frames, tags}
-use Rattle.phases.specs.Sizes.{portsIn, sized, storeFor}
+use Rattle.phases.specs.Sizes.{portsIn, storeFor}
 use Rattle.rows.specs.declared.group.Group.{Group}
+use Rattle.conformance.specs.Opened.{allOpen}
 
 abbrev group : ℕ → ℕ → ℕ → ℕ → Group
 group kind count payload window =
@@ -36,7 +36,7 @@ sizes :
     × (portsIn (group 0 3 100 15) ≡ 0)
     × (portsIn (group 0 3 100 2049) ≡ 0)
     × (storeFor (group 0 3 100 40) 3 ≡ 12120)
-unfolding frames portsIn sized storeFor tags
+unfolding allOpen
 sizes = (refl, refl, refl, refl, refl, refl, refl, refl, refl, refl, refl, refl)
 
 -- '1 to 64 slots': a count above, which no call returns, is taken as 64

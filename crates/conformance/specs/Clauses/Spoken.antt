@@ -7,15 +7,15 @@ use lib.ListN.{length, replicate, take}
 use Rattle.ground.specs.Table.{tabulate}
 use Rattle.sender.specs.declared.board.Board.{Board}
 use Rattle.sender.specs.declared.board.Row.{Row}
-use Rattle.spoken.specs.Applying.{appliedOf, changesFit, fits, withChanges}
-use Rattle.spoken.specs.Changes.{answerNumber, changesIn, changesOf, comparedOf, listOf, noChanges}
+use Rattle.spoken.specs.Applying.{appliedOf}
+use Rattle.spoken.specs.Changes.{answerNumber, comparedOf}
 use Rattle.spoken.specs.declared.lists.Change.{Change}
 use Rattle.spoken.specs.declared.lists.Changes.{Changes}
 use Rattle.spoken.specs.declared.lists.WaitChange.{WaitChange}
 use Rattle.spoken.specs.declared.lists.WaitChange.the-variants.{Same, Opened, Closed}
-use Rattle.spoken.specs.Speaking.{canSpeak, changeText, changesSpeak, nowText, rowText, slotText, speakAnswer, speechBytes, speechOf, spokenText, waitLine, wasText}
+use Rattle.spoken.specs.Speaking.{speakAnswer, speechBytes, speechOf, spokenText}
 use Rattle.text.specs.Ascii.{ascii}
-use Rattle.text.specs.Output.{decimalText, wordText}
+use Rattle.conformance.specs.Opened.{allOpen}
 
 abbrev row : ℕ → ℕ → Row
 row word number = record { word = record { 0 = word }; number = number }
@@ -69,7 +69,7 @@ fitting :
     × (applied (old true) (changes [] Same) ≡ 0)
     × (appliedOf (old false) (changes (moved ∷ []) Same) .board ≡ board (row 2 0 ∷ row 2 1 ∷ row 3 1 ∷ []) 3 false)
     × (applied (board [] 64 false) every ≡ 0)
-unfolding appliedOf changesFit fits withChanges
+unfolding allOpen
 fitting = (refl, refl, refl, refl, refl, refl, refl, refl, refl, refl, refl, refl, refl, refl, refl, refl, refl, refl, refl, refl, refl)
 
 -- told from one board to the next; boards of 65 slots, which no call returns, are 4
@@ -82,7 +82,7 @@ comparing :
     × (comparedOf (old true) (board [] 2 false) .changes ≡ changes [] Same)
     × (answerNumber (comparedOf (board [] 65 true) (board [] 65 true) .answer) ≡ 4)
     × (answerNumber (comparedOf (board [] 64 true) (board [] 64 true) .answer) ≡ 0)
-unfolding changesIn changesOf comparedOf listOf noChanges
+unfolding allOpen
 comparing = (refl, refl, refl, refl, refl, refl, refl, refl)
 
 abbrev told : Changes → ℕ
@@ -107,5 +107,5 @@ speaking :
     × (speechOf (changes [] Closed) (replicate 2187 0) .written ≡ 0)
     × (take 2 (speechBytes (changes [] Closed) (replicate 2187 7)) ≡ 7 ∷ 7 ∷ [])
     × (take 2 (speechBytes (changes (moved ∷ gone ∷ []) Same) (replicate 2188 7)) ≡ 7 ∷ 7 ∷ [])
-unfolding canSpeak changeText changesSpeak decimalText nowText rowText slotText speakAnswer speechBytes speechOf spokenText waitLine wasText wordText
+unfolding allOpen
 speaking = (refl, refl, refl, refl, refl, refl, refl, refl, refl, refl, refl, refl, refl, refl, refl, refl, refl)

@@ -10,6 +10,7 @@ use Rattle.text.specs.declared.fields.Number.the-variants.{Value, Unreadable}
 use Rattle.text.specs.Fields.{bytesIn, bytesOf, digitOf, hexOf, isHex, numberOf}
 use Rattle.text.specs.Output.{decimalText, numberText, putBytes, putNext, wordText}
 use Rattle.text.specs.Text.{fieldsOf, linesOf}
+use Rattle.conformance.specs.Opened.{allOpen}
 
 -- 0 to 9 are 48 to 57, A to F 65 to 70, a to f 97 to 102; what stands right before and behind them is no digit
 digits :
@@ -27,7 +28,7 @@ digits :
     × (digitOf 102 ≡ 15)
     × (digitOf 103 ≡ 16)
     × (digitOf 104 ≡ 16)
-unfolding digitOf
+unfolding allOpen
 digits = (refl, refl, refl, refl, refl, refl, refl, refl, refl, refl, refl, refl, refl, refl)
 
 -- decimal numbers of one digit to so many, nine at the very most; hex ones of exactly so many, one to eight
@@ -47,7 +48,7 @@ numbers :
     × (hexOf 0 [] ≡ Unreadable)
     × (hexOf 8 (ascii "01234567") ≡ Value 19088743)
     × (hexOf 9 (ascii "012345678") ≡ Unreadable)
-unfolding digitOf hexOf numberOf
+unfolding allOpen
 numbers = (refl, refl, refl, refl, refl, refl, refl, refl, refl, refl, refl, refl, refl, refl, refl)
 
 -- two hex digits a byte, all or none
@@ -61,7 +62,7 @@ payloads :
     × (bytesIn (ascii "3A1") (9 ∷ 9 ∷ []) ≡ 9 ∷ 9 ∷ [])
     × (bytesIn (ascii "3A1b00") (9 ∷ 9 ∷ []) ≡ 9 ∷ 9 ∷ [])
     × (bytesIn (ascii "3A1g") (9 ∷ 9 ∷ []) ≡ 9 ∷ 9 ∷ [])
-unfolding bytesIn digitOf isHex
+unfolding allOpen
 payloads = (refl, refl, refl, refl, refl, refl, refl, refl, refl)
 
 -- 'fields parted by tabs': a tab at the end has an empty field behind it, an empty line one field; a line end has no line behind it, and the last line may lack its end
@@ -71,7 +72,7 @@ parting :
     × (linesOf (97 ∷ 9 ∷ 10 ∷ 10 ∷ 98 ∷ 10 ∷ []) ≡ (97 ∷ 9 ∷ []) ∷ [] ∷ (98 ∷ []) ∷ [])
     × (linesOf (97 ∷ 10 ∷ 98 ∷ []) ≡ (97 ∷ []) ∷ (98 ∷ []) ∷ [])
     × (linesOf [] ≡ [])
-unfolding fieldsOf linesOf
+unfolding allOpen
 parting = (refl, refl, refl, refl, refl)
 
 abbrev word : ℕ → Word
@@ -102,5 +103,5 @@ written :
     × (putBytes (1 ∷ 2 ∷ []) 2 (replicate 5 9) ≡ 9 ∷ 9 ∷ 1 ∷ 2 ∷ 9 ∷ [])
     × (putBytes (1 ∷ 2 ∷ []) 3 (replicate 5 9) ≡ 9 ∷ 9 ∷ 9 ∷ 1 ∷ 2 ∷ [])
     × (putBytes (1 ∷ 2 ∷ []) 4 (replicate 5 9) ≡ replicate 5 9)
-unfolding decimalText numberText putBytes putNext wordText
+unfolding allOpen
 written = (refl, refl, refl, refl, refl, refl, refl, refl, refl, refl, refl, refl, refl, refl, refl, refl, refl, refl, refl, refl, refl, refl, refl)

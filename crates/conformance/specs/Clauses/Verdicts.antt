@@ -8,12 +8,12 @@ use Rattle.conformance.specs.Clauses.Filled.{nines}
 use Rattle.ground.specs.Plain.{if_then_else_, _==_}
 use Rattle.ground.specs.Table.{tabulate}
 use Rattle.judge.specs.declared.seen.Seen.{Seen}
-use Rattle.judge.specs.Order.{activeIn, orderOf, portOf, rankOf}
-use Rattle.judge.specs.Verdict.{doubtfulBy, eosAlone, eosWrong, exact, fixedExact, fixedHeld, fixedVerdict, gidDiffers, heldBy, highest, judgeOf, lcasVerdict, missing, repeats, takes}
-use Rattle.packet.specs.Fixed.{fixedNibbles, readFixedAnswer, readFixedNibbles, writeFixedAnswer, writeFixedBytes}
-use Rattle.packet.specs.Layout.{h4Of, highsOf}
+use Rattle.judge.specs.Order.{orderOf}
+use Rattle.judge.specs.Verdict.{judgeOf}
+use Rattle.packet.specs.Fixed.{readFixedAnswer, readFixedNibbles, writeFixedAnswer, writeFixedBytes}
 use Rattle.packet.specs.Reading.{readingNumber}
 use Rattle.packet.specs.Writing.{writingNumber}
+use Rattle.conformance.specs.Opened.{allOpen}
 
 -- a port with a good packet that arrived whole, and all frames; one whose packet did not arrive whole; one whose packet was refused
 abbrev saw : ℕ → ℕ → ℕ → Seen
@@ -42,7 +42,7 @@ torn-packets :
     × (verdict (saw 3 0 0 ∷ torn 5 255 0 true ∷ []) ≡ 2)
     × (verdict (torn 3 0 0 true ∷ []) ≡ 2)
     × (verdict (saw 3 0 0 ∷ joining ∷ []) ≡ 2)
-unfolding doubtfulBy eosAlone eosWrong gidDiffers heldBy highest judgeOf lcasVerdict missing repeats takes
+unfolding allOpen
 torn-packets = (refl, refl, refl, refl, refl, refl, refl, refl)
 
 -- an IDLE port's GID counts for nothing, whichever it is, a DNU port's and an active one's hold the epoch where they differ; an ADD port's number does not fill a gap;
@@ -67,7 +67,7 @@ others :
     × (verdict (saw 15 2 0 ∷ saw 3 0 0 ∷ []) ≡ 2)
     × (verdict (saw 2 0 0 ∷ saw 3 1 0 ∷ saw 3 2 0 ∷ []) ≡ 1)
     × (judgeOf 1 (saw 3 0 0 ∷ []) 1 ≡ 3)
-unfolding doubtfulBy eosAlone eosWrong exact gidDiffers heldBy highest judgeOf lcasVerdict missing repeats takes
+unfolding allOpen
 others = (refl, refl, refl, refl, refl, refl, refl, refl, refl, refl, refl, refl, refl, refl, refl, refl, refl, refl)
 
 -- four ports with the numbers 0 to 3, EOS on the last, of which the one at i is another
@@ -97,7 +97,7 @@ any-place :
     × (verdict (saw 2 0 0 ∷ saw 3 1 0 ∷ saw 5 255 1 ∷ []) ≡ 3)
     × (verdict (saw 2 0 1 ∷ saw 3 1 1 ∷ saw 5 255 0 ∷ []) ≡ 3)
     × (verdict (saw 2 1 0 ∷ saw 3 0 0 ∷ torn 2 2 0 true ∷ []) ≡ 1)
-unfolding doubtfulBy eosAlone eosWrong exact gidDiffers heldBy highest judgeOf lcasVerdict missing repeats takes
+unfolding allOpen
 any-place = (refl, refl, refl, refl, refl, refl, refl, refl, refl, refl, refl, refl)
 
 abbrev fixed-place : (ℕ → Seen) → List ℕ
@@ -112,7 +112,7 @@ any-fixed :
     × (fixed-place (λ i. saw 0 (i + 4) 0) ≡ 1 ∷ 1 ∷ 1 ∷ 1 ∷ [])
     × (fixed-place (λ i. torn 0 i 0 true) ≡ 1 ∷ 1 ∷ 1 ∷ 1 ∷ [])
     × (judgeOf 2 (saw 0 0 0 ∷ []) 1 ≡ 3)
-unfolding fixedExact fixedHeld fixedVerdict judgeOf missing repeats takes
+unfolding allOpen
 any-fixed = (refl, refl, refl, refl, refl, refl, refl)
 
 -- payload goes by the numbers of active ports, however high, and not by what a refused or a torn packet reads as
@@ -122,7 +122,7 @@ orders :
     × (orderOf (bad 2 0 ∷ torn 2 1 0 true ∷ saw 3 2 0 ∷ saw 15 3 0 ∷ saw 1 4 0 ∷ []) 5 .x ≡ 1)
     × (take 1 (orderOf (bad 2 0 ∷ torn 2 1 0 true ∷ saw 3 2 0 ∷ []) 3 .ports) ≡ 2 ∷ [])
     × (length (orderOf (saw 3 0 0 ∷ []) 1 .ports) ≡ 64)
-unfolding activeIn orderOf portOf rankOf
+unfolding allOpen
 orders = (refl, refl, refl, refl, refl)
 
 abbrev wrote : ℕ → ℕ → List ℕ → ℕ
@@ -152,5 +152,5 @@ fixed-packets :
     × (read (replicate 17 0x0F) ≡ 9)
     × (readingNumber (readFixedNibbles (replicate 16 16)) ≡ 0)
     × (readingNumber (readFixedNibbles (replicate 16 15)) ≡ 6)
-unfolding fixedNibbles h4Of highsOf readFixedAnswer readFixedNibbles writeFixedAnswer writeFixedBytes
+unfolding allOpen
 fixed-packets = (refl, refl, refl, refl, refl, refl, refl, refl, refl, refl, refl, refl, refl, refl, refl, refl, refl, refl, refl)
