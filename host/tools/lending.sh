@@ -75,7 +75,7 @@ replaying() (
     refused=$(mktemp) || exit 2
     trap 'rm -f "$refused"' EXIT
     trap 'exit 130' INT
-    passed_on() { in_words "$recording"; }
+    passed_on() { in_words "$recording" || return 2; }
     passing "$@"
     status=$?
     [ "$status" != 0 ] || [ ! -s "$refused" ] || status=1
@@ -87,9 +87,9 @@ in_words() {
         -e "s/^answer${tab}4${tab}line${tab}1\$/&${tab}$(out_of_range "$1")/" -e "/^answer${tab}/w $refused"
 }
 
-# out_of_range FILE: which of a recording's settings is, in words.
+# out_of_range FILE: which of a recording's settings is, in words. What is no plain file can be read but once, and not here.
 out_of_range() {
-    if [ "$1" = - ]; then
+    if [ ! -f "$1" ] || [ ! -s "$1" ]; then
         printf 'settings out of range, or a store above 65536 bytes\n'
         return
     fi

@@ -11,15 +11,15 @@ has_toolchain() {
         echo "the toolchain here is '$(rt version)', and this was proved with '$(cat toolchain)': what holds there may not be proved here" >&2
 }
 
-# alone: from here to this script's end nothing else is proved or built below target/. Where another run is at it, this one waits
-# and says so. What was to be made may be there then.
+# alone proving|building: from here to this script's end, or to the other of the two, nobody else does so below target/. Where
+# another run is at it, this one waits and says so. What was to be made may be there then.
 alone() {
     mkdir -p target
-    exec 9>target/lock
+    exec 9>"target/$1.lock"
     if command -v flock >/dev/null && ! flock -n 9; then
-        echo 'another run is proving and building here: waiting until it is done' >&2
+        echo "another run is $1 here: waiting until it is done" >&2
         until flock -w 30 9; do
-            echo "still waiting: $(cat target/proving.now 2>/dev/null || echo the other run builds)" >&2
+            echo "still waiting for the other run: $(cat "target/$1.now" 2>/dev/null || echo "$1")" >&2
         done
     fi
 }
