@@ -10,6 +10,7 @@ mod count;
 #[allow(dead_code)] // nor of this
 mod random;
 
+mod adds;
 mod lines;
 mod manners;
 
@@ -144,6 +145,7 @@ fn main() {
     let mut count = Count::default();
 
     manners::check(&program, &mut count);
+    adds::check(&program, &mut count);
 
     let crossed: Vec<Crossed> = (1..=LINKS).map(|seed| cross(&program, seed, false)).collect();
     let total = |f: fn(&Crossed) -> usize| crossed.iter().map(f).sum::<usize>();

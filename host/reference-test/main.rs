@@ -4,6 +4,7 @@
 #[path = "../differential/count.rs"]
 #[allow(dead_code)] // not all of it is used here
 mod count;
+mod adds;
 mod fixed;
 mod histories;
 mod invariant;
@@ -27,6 +28,7 @@ fn main() {
     waiting::check(&mut count);
     link::check(&mut count);
     fixed::check(&mut count);
+    adds::check(&mut count);
     histories::check(&mut count);
     std::process::exit(count.tally());
 }

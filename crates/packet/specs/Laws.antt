@@ -4,5 +4,6 @@ pub mod Bytes
 pub mod Counting
 pub mod Distances
 pub mod Epochs
+pub mod Mst
 pub mod Nibbles
 pub mod Writing

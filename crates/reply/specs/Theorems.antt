@@ -3,5 +3,6 @@ pub mod Ack
 pub mod Edges
 pub mod Mst
 pub mod States
+pub mod Undisputed
 pub mod Waiting
 pub mod Zero

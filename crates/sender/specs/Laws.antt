@@ -7,3 +7,4 @@ pub mod Numbered
 pub mod Removing
 pub mod Reporting
 pub mod Sizes
+pub mod Speaking

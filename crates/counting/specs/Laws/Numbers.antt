@@ -36,6 +36,10 @@ pub count-none : (n : ℕ) (f : ℕ → Bool) → ((k : ℕ) → k < n → f k �
 count-none zero f h = refl
 count-none (suc n) f h = rw (count-none n f (λ k b. h k (omega arith)), h n (omega arith))
 
+pub count-all : (n : ℕ) (f : ℕ → Bool) → ((k : ℕ) → k < n → f k ≡ true) → count n f ≡ n
+count-all zero f h = refl
+count-all (suc n) f h = rw (count-all n f (λ k b. h k (omega arith)), h n (omega arith)) (omega arith)
+
 -- where f holds g does
 pub count-mono : (n : ℕ) (f g : ℕ → Bool) → ((k : ℕ) → k < n → f k ≡ true → g k ≡ true) → count n f ≤ count n g
 count-mono zero f g h = omega arith

@@ -66,6 +66,10 @@ pub every-ext : (n : ℕ) (f g : ℕ → Bool) → ((k : ℕ) → k < n → f k 
 every-ext zero f g h = refl
 every-ext (suc n) f g h = rw (every-ext n f g (λ k b. h k (omega arith)), h n (omega arith)) refl
 
+pub some-ext : (n : ℕ) (f g : ℕ → Bool) → ((k : ℕ) → k < n → f k ≡ g k) → some n f ≡ some n g
+some-ext zero f g h = refl
+some-ext (suc n) f g h = rw (some-ext n f g (λ k b. h k (omega arith)), h n (omega arith)) refl
+
 -- one at which the test fails
 pub record Lacks (n : ℕ) (f : ℕ → Bool) : Type 0 where
   pub at : ℕ

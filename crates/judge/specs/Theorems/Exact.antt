@@ -8,17 +8,13 @@ use native.Mathlib.Omega.{arith}
 use lib.Dec.{eqb}
 use borrow.Author.Tests.{eq-eqb}
 use Rattle.counting.specs.Words.{count, greatest}
-use Rattle.counting.specs.Laws.Numbers.{greatest-above}
+use Rattle.counting.specs.Laws.Numbers.{count-all, greatest-above}
 use Rattle.counting.specs.Laws.Ranks.{Apart, all-taken, count-taken, taken}
 use Rattle.counting.specs.Laws.Tests.{every-all, every-at, some-at}
 use Rattle.ground.specs.Truth.{and-true, eq-or-ne, le-or-lt}
 use Rattle.judge.specs.declared.seen.Seen.{Seen}
 use Rattle.judge.specs.Laws.Numbers.{AllApart, numberAt, numberedAt}
 use Rattle.judge.specs.Verdict.{exact, takes}
-
-pub count-all : (n : ℕ) (g : ℕ → Bool) → ((k : ℕ) → k < n → g k ≡ true) → count n g ≡ n
-count-all zero g h = refl
-count-all (suc n) g h = rw (count-all n g (λ k b. h k (omega arith)), h n (omega arith)) (omega arith)
 
 count-more : (n : ℕ) (g : ℕ → Bool) → count n g ≤ count (suc n) g
 count-more n g = go (g n)

@@ -1,17 +1,18 @@
 -- Fixed groups (request 2026-12): a report is sure exactly where every port has a whole good ruling packet and its frames, and the numbers are 0 to X-1, X being how many ports were set at the start. Otherwise it is held, and never doubtful.
 use mathlib.Core.Path.{_≡_, refl, sym, _∙_}
 use mathlib.Core.Logic.{_≢_}
-use mathlib.Core.Bool.{Bool, true, false, not, _&&_}
+use mathlib.Core.Bool.{true, false, not, _&&_}
 use mathlib.Core.List.{List, [], _∷_}
 use Prim.Native.Nat.{ℕ, _≤_, _<_}
 use native.Mathlib.Omega.{arith}
-use lib.Dec.{eqb, ltb}
-use borrow.Author.Tests.{eq-eqb, eqb-true, lt-ltb, ltb-true, not-false}
+use lib.Dec.{eqb}
+use borrow.Author.Tests.{not-false}
 use Rattle.counting.specs.Words.{count, some}
-use Rattle.counting.specs.Laws.Ranks.{all-taken, count-taken, taken}
+use Rattle.counting.specs.Laws.Numbers.{count-all}
+use Rattle.counting.specs.Laws.Ranks.{all-taken, full-below, taken}
 use Rattle.counting.specs.Laws.Tests.{every-all, every-at, none-at, some-at, some-none}
 use Rattle.ground.specs.Table.{tabulate}
-use Rattle.ground.specs.Truth.{and-right, and-true, cond-by, fails}
+use Rattle.ground.specs.Truth.{cond-by, fails}
 use Rattle.packet.specs.Kinds.{fixedKind}
 use Rattle.packet.specs.Words.{FIXED}
 use Rattle.judge.specs.declared.seen.Seen.{Seen}
@@ -19,7 +20,7 @@ use Rattle.judge.specs.Laws.Numbers.{AllApart, activeAt, all-active, apa
 use Rattle.judge.specs.Laws.Ports.{accepted-good, active-numbered, good-accepted, here-lacks, lacks-here}
 use Rattle.judge.specs.Order.{activeIn, portOf, rankOf}
 use Rattle.judge.specs.Seen.{activeSeen, lackingSeen, refusedSeen, seenAt}
-use Rattle.judge.specs.Theorems.Exact.{all-below, count-all}
+use Rattle.judge.specs.Theorems.Exact.{all-below}
 use Rattle.judge.specs.Theorems.Held.{none}
 use Rattle.judge.specs.Theorems.Ranks.{Ranked, port-ranked}
 use Rattle.judge.specs.Verdict.{DOUBTFUL, HELD, SURE, fixedExact, fixedHeld, fixedVerdict, judgeOf, missing, repeats, takes}
@@ -123,21 +124,9 @@ module _ (ports : List Seen) (n : ℕ) (fixed : AllFixed ports n) (o : Standing 
   -- and a number is its rank
   rank-number : (q : ℕ) → q ≤ n → rankOf ports n q ≡ q
   unfolding rankOf
-  rank-number q l = sym (count-taken n q below (numberAt ports) (λ i j bi bj ti tj e. o .once i j bi bj e) under) ∙ count-all q (taken n below (numberAt ports)) each
-    where
-      below : ℕ → Bool
-      below j = activeAt ports j && ltb (numberAt ports j) q
-
-      under : (i : ℕ) → i < n → below i ≡ true → numberAt ports i < q
-      under i b t = ltb-true (numberAt ports i) q (and-right (activeAt ports i) (ltb (numberAt ports i) q) t)
-
-      each : (k : ℕ) → k < q → taken n below (numberAt ports) k ≡ true
-      each k h =
-          let w = all-taken n n (numberedAt ports) (numberAt ports) stands-apart (λ i b t. o .low i b) (count-all n (numberedAt ports) stands-numbered) k (omega arith) in
-          let i : ℕ = w .at in
-          let e : numberAt ports i ≡ k = eqb-true (numberAt ports i) k (and-right (numberedAt ports i) (eqb (numberAt ports i) k) (w .holds)) in
-          some-at n (λ j. below j && eqb (numberAt ports j) k) i (w .below)
-          (and-true (below i) _ (and-true (activeAt ports i) _ (stands-active i (w .below)) (lt-ltb (numberAt ports i) q (omega arith))) (eq-eqb (numberAt ports i) k e))
+  rank-number q l =
+      let all : count n (activeAt ports) ≡ n = count-all n (activeAt ports) stands-active in
+      full-below n (activeAt ports) (numberAt ports) (λ i j bi bj ti tj e. o .once i j bi bj e) (λ i b t. rw all (o .low i b)) q (rw all l)
 
   stands-ranked : (r : ℕ) → r < n → Ranked ports n r (portOf ports n r)
   stands-ranked r h = port-ranked ports n (all-active ports n stands-apart) r (rw fixed-members h)

@@ -1,6 +1,6 @@
 -- The last sentence of demand 3: 'over the same tags, delays, first frames and port orders, client streams that differ in an epoch reported sure never come out alike'.
 -- The idea: what the client sends moves no moment. So both links begin at the same one with the same foremost position, and at each later moment both have made as many reports; the report of the epoch in which the streams differ has been made on both, and a sure report's bytes determine the client's (Judged/Apart.antt).
-use mathlib.Core.Path.{_≡_, sym, ap, _∙_, subst}
+use mathlib.Core.Path.{_≡_, refl, sym, ap, _∙_, subst}
 use mathlib.Core.Logic.{_⊎_, ⊎-elim, inl, inr, _≢_}
 use mathlib.Core.List.{List, [], _∷_, _++_, append-assoc, tail-eq-of-cons-eq}
 use Prim.Native.Nat.{ℕ, suc, _+_, _*_, _/_, _≤_, _<_}
@@ -274,3 +274,8 @@ module _ (k j : Link) (l : Alike k j) (n : k .ports ≡ j .ports) (ak : AssumedO
       (⊎-elim (λ (h : b .time < at .t). inl (rw (← same-t) h)) (λ (h : (b .time ≡ at .t) × (length done ≤ length (at .done))). inr (h .0 ∙ same-t, rw (← done-long) (h .1)))
       (begun-before k ak rk at ok m some))
       (ready-too k j l n (b .time) (b .rest) (b .ready))
+
+-- a run has one beginning
+pub one-beginning : (k : Link) (run : Run) (F G : ℕ) → Beginning (roadOf k) run F → Beginning (roadOf k) run G → F ≡ G
+one-beginning k run F G b c =
+    same-foremost k k (record { kind = refl; epoch = refl; payload = refl; window = refl; delay = λ p h. refl; first = λ p h. refl; order = λ t. refl }) refl run run F G b c

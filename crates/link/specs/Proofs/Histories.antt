@@ -1,4 +1,5 @@
 -- Our sender's histories are a lawful sending side. Nothing here knows the transport.
+pub mod Carried
 pub mod Counted
 pub mod Damage
 pub mod Lawful
@@ -11,3 +12,4 @@ pub mod Reaching
 pub mod Ruling
 pub mod Senders
 pub mod Sure
+pub mod Tables

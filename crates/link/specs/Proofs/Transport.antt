@@ -17,3 +17,4 @@ pub mod Arrives
 pub mod Frames
 pub mod Answers
 pub mod EachCall
+pub mod Starts

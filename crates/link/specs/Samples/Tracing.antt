@@ -49,7 +49,7 @@ module _ (r : Road) where
   turnsBy t [] m = m
   turnsBy t (p ∷ ps) m = turnsBy t ps (turnBy t p m)
 
-  turns-by : (t : ℕ) (ps : List ℕ) (m : Moment) → turns r t ps m ≡ turnsBy t ps m
+  pub turns-by : (t : ℕ) (ps : List ℕ) (m : Moment) → turns r t ps m ≡ turnsBy t ps m
   unfolding turns turnsBy
   turns-by t [] m = refl
   turns-by t (p ∷ ps) m = ap (λ (n : Moment). turns r t ps n) (turn-by t p m) ∙ turns-by t ps (turnBy t p m)

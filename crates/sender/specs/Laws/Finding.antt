@@ -1,7 +1,7 @@
 -- The slot that holds a number, as a loop finds it.
-use mathlib.Core.Path.{_≡_, refl, _∙_}
+use mathlib.Core.Path.{_≡_, refl, sym, ap, _∙_}
 use mathlib.Core.Logic.{⊎-elim, _≢_}
-use mathlib.Core.Bool.{Bool, true, false}
+use mathlib.Core.Bool.{Bool, true, false, true≢false}
 use mathlib.Core.List.{List}
 use Prim.Native.Nat.{ℕ, zero, suc, _+_, _<_}
 use native.Mathlib.Nat.{not-suc-le-zero}
@@ -51,3 +51,22 @@ module _ (slots : List Slot) (q : ℕ) where
       go Nothing g false h rest =
           let same : Nothing ≡ At i = rw (g, h) at e in
           absurd (let z : _≡_ {A = ℕ} 0 1 = cc in omega arith)
+
+  -- a number that a slot holds is found
+  holder-some : (n i : ℕ) → i < n → holds (slotAt slots i) q ≡ true → holderOf slots n q ≡ Nothing → ⊥
+  unfolding holderOf
+  holder-some zero i b h e = not-suc-le-zero b
+  holder-some (suc n) i b h e = go (holderOf slots n q) refl (holds (slotAt slots n) q) refl (holder-some n i)
+    where
+      go : (f : Found) → holderOf slots n q ≡ f → (c : Bool) → holds (slotAt slots n) q ≡ c → (i < n → holds (slotAt slots i) q ≡ true → holderOf slots n q ≡ Nothing → ⊥) → ⊥
+      go (At j) g c w rest = let same : At j ≡ Nothing = rw g at e in absurd (let z : _≡_ {A = ℕ} 0 1 = cc in omega arith)
+      go Nothing g true w rest = let same : At n ≡ Nothing = rw (g, w) at e in absurd (let z : _≡_ {A = ℕ} 0 1 = cc in omega arith)
+      go Nothing g false w rest = ⊎-elim (λ (same : i ≡ n). true≢false (sym h ∙ rw same w)) (λ (d : i ≢ n). rest (omega arith) h g) (eq-or-ne i n)
+
+  -- and it is that slot, where no other holds it
+  pub holder-is : (n i : ℕ) → i < n → holds (slotAt slots i) q ≡ true → ((j : ℕ) → j < n → holds (slotAt slots j) q ≡ true → j ≡ i) → holderOf slots n q ≡ At i
+  holder-is n i b h one = go (holderOf slots n q) refl
+    where
+      go : (f : Found) → holderOf slots n q ≡ f → holderOf slots n q ≡ At i
+      go (At j) g = let s = holder-said n j g in g ∙ ap At (one j (s .0) (s .1))
+      go Nothing g = absurd (holder-some n i b h g)

@@ -148,7 +148,7 @@ sound-removed t i o h member =
     other j b d = getD-set-other low i j gone _ d ∙ getD-each n f (t .slots) j _ b (below-whole (t .count) (t .slots) j (o .whole) b)
 
 -- what a report makes of states
-may-stay : (s : State) → MayBecome s s
+pub may-stay : (s : State) → MayBecome s s
 may-stay s = record { member = refl; add = λ a. a }
 
 may-then : (a b c : State) → MayBecome a b → MayBecome b c → MayBecome a c
@@ -164,10 +164,10 @@ may-become true Dnu = record { member = refl; add = λ a. a }
 may-become false Dnu = record { member = refl; add = λ a. a }
 
 -- the slots after some reported numbers: as many, with the numbers they had
-record Heard (slots heard : List Slot) : Type 0 where
-  len : length heard ≡ length slots
-  number : (j : ℕ) → slotAt heard j .number ≡ slotAt slots j .number
-  state : (j : ℕ) → MayBecome (slotAt slots j .state) (slotAt heard j .state)
+pub record Heard (slots heard : List Slot) : Type 0 where
+  pub len : length heard ≡ length slots
+  pub number : (j : ℕ) → slotAt heard j .number ≡ slotAt slots j .number
+  pub state : (j : ℕ) → MayBecome (slotAt slots j .state) (slotAt heard j .state)
 
 heard-becomes : (f : Bool) (found : Found) (slots heard : List Slot) → ((i : ℕ) → found ≡ At i → i < length slots) → Heard slots heard → Heard slots (spokenTo f found heard)
 heard-becomes f Nothing slots heard b o = o
@@ -193,7 +193,7 @@ heard-becomes f (At i) slots heard b o =
         (λ (d : j ≢ i). rw (getD-set-other heard i j new _ d) (o .state j))
         (eq-or-ne j i)
 
-heard-in : (slots : List Slot) (n first mst k : ℕ) → n ≤ length slots → Heard slots (mstApplied slots n first mst k)
+pub heard-in : (slots : List Slot) (n first mst k : ℕ) → n ≤ length slots → Heard slots (mstApplied slots n first mst k)
 unfolding mstApplied numberApplied
 heard-in slots n first mst zero h = record { len = refl; number = λ j. refl; state = λ j. may-stay (slotAt slots j .state) }
 heard-in slots n first mst (suc k) h =
@@ -202,7 +202,7 @@ heard-in slots n first mst (suc k) h =
 
 -- a slot after a report
 module _ (was is : List Slot) (n i : ℕ) where
-  after-state : slotAfter was is n i .state ≡ slotAt is i .state
+  pub after-state : slotAfter was is n i .state ≡ slotAt is i .state
   unfolding slotAfter
   after-state = go (isAdd (slotAt was i .state))
     where
@@ -210,7 +210,7 @@ module _ (was is : List Slot) (n i : ℕ) where
       go true = refl
       go false = refl
 
-  after-anew : isAdd (slotAt was i .state) ≡ true
+  pub after-anew : isAdd (slotAt was i .state) ≡ true
       → slotAfter was is n i .number ≡ count n (λ j. comesBefore (slotAt was j) (slotAt is j) (slotAt was i .number) (turnOf (slotAt was i .state) (slotAt is i .state)))
   unfolding slotAfter numberAfter
   after-anew a = rw a
@@ -334,3 +334,15 @@ group-call t Lapse = go (t .wait)
     go : (w : Bool) → Group t (cond w (answered (withSlots t (t .slots) false) Done) (answered t NotAllowed) .table)
     go true = record { count = refl; kind = refl }
     go false = group-self t
+
+pub kind-run : (t : Table) (cs : List Call) → run t cs .kind ≡ t .kind
+kind-run t [] = refl
+kind-run t (c ∷ cs) = kind-run (outcomeOf t c .table) cs ∙ group-call t c .kind
+
+pub start-kind : (kind count : ℕ) → startOf kind count .table .kind ≡ kind
+unfolding startOf freshOf
+start-kind kind c = go (eqb c 0 || ltb 64 c)
+  where
+    go : (b : Bool) → cond b (answered (freshOf kind 0) OutOfRange) (answered (freshOf kind c) Done) .table .kind ≡ kind
+    go true = refl
+    go false = refl

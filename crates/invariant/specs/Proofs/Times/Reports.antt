@@ -6,7 +6,7 @@ use Prim.Native.Nat.{ℕ, zero, suc, _<_}
 use native.Mathlib.Omega.{arith}
 use lib.ListN.{getD, length-replicate, replicate}
 use Rattle.counting.specs.Each.{each, getD-each}
-use Rattle.counting.specs.Words.{some}
+use Rattle.counting.specs.Laws.Tests.{some-ext}
 use Rattle.ground.specs.Truth.{smaller-le}
 use Rattle.invariant.specs.Proofs.Times.Rows.{SameButTimes, cond-same, group-same, marks-same, member-same, packets-same, put-group, put-member, step-same, untimed}
 use Rattle.invariant.specs.Proofs.Times.Settling.{brought-same, passed-same}
@@ -42,10 +42,6 @@ states-put left other (suc n) {s} {t} h =
 -- what RS-Ack looks at
 abbrev moves : Port → Bool
 moves p = hasChanged p || hasLeft p
-
-some-ext : (n : ℕ) (f g : ℕ → Bool) → ((k : ℕ) → k < n → f k ≡ g k) → some n f ≡ some n g
-some-ext zero f g e = refl
-some-ext (suc n) f g e = let rest = some-ext n f g (λ k b. e k (omega arith)) in rw (rest, e n (omega arith)) refl
 
 -- a port in the list that a report works with
 port-listed : (n : ℕ) (f : ℕ → Port) (i : ℕ) → i < sizeOf n → portAt (each (sizeOf n) f (replicate 64 noPort)) i ≡ f i

@@ -9,7 +9,7 @@ use Rattle.judge.specs.declared.seen.Seen.{Seen}
 use Rattle.judge.specs.Laws.Numbers.{numberAt}
 use Rattle.judge.specs.Order.{activeIn, portOf}
 use Rattle.judge.specs.Seen.{seenAt}
-use Rattle.judge.specs.Theorems.Exact.{count-all}
+use Rattle.counting.specs.Laws.Numbers.{count-all}
 use Rattle.judge.specs.Theorems.Fixed.{AllFixed, Standing, fixed-judged, fixed-members, fixed-port, stands-sure}
 use Rattle.packet.specs.Kinds.{fixedKind, frames}
 use Rattle.packet.specs.Words.{FIXED, IDLE}

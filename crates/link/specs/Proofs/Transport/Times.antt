@@ -377,3 +377,75 @@ module _ (r : Road) where
             go (before b un) = absurd (true≢false (sym (s .must-begin (reached r m₀ by []) (coming r by (r .order by)) b (record { stepped = stepped; near = near })) ∙ b .unfit))
             go (first F b come c) = c .open-at .begun
             go (later F i b come c w) = c .open-at .begun
+
+      -- What every frame keeps, and every report of an epoch that all ports have brought, holds at every moment.
+      module _ (P : Moment → Type 0) (frame : (p x : ℕ) (m : Moment) → P m → P (framed r p x m))
+          (report : (F i : ℕ) (m : Moment) (n : ℕ → ℕ) → Beginning r (reached r m₀) F → Later r m n (suc (F / L r)) i → AllCome r n (suc i) → P m → P (fetched r m)) where
+        -- one port's turn with a frame
+        module _ (t p : ℕ) (done ps : List ℕ) (is-order : r .order t ≡ done ++ (p ∷ ps)) (o : Rest r (p ∷ ps)) (late : r .delay p + r .first p ≤ t) (held : P (reached r m₀ t done)) where
+          abbrev now : Moment
+          now = reached r m₀ t done
+
+          abbrev served-now : Moment
+          served-now = framed r p (t - r .delay p) now
+
+          abbrev from : ℕ → ℕ
+          from = coming r t (p ∷ ps)
+
+          abbrev to : ℕ → ℕ
+          to = coming r t ps
+
+          holds : P served-now
+          holds = frame p (t - r .delay p) now held
+
+          none-due : markNext served-now ≡ 0 → P (turn r t p now)
+          none-due e = subst P (sym (quiet t p done ps is-order o late e)) holds
+
+          serves : Served r p from to
+          serves = moved t p done ps is-order o late
+
+          at-place : from p ≡ t - r .delay p
+          at-place = position t p done ps is-order o late
+
+          keeps-frame : Phase t done now from → P (turn r t p now)
+          keeps-frame (before b un) = go (rw at-place at (s .on-before now p from to serves (apart-coming f t ps (rest-tail r p ps o)) (sent-then t p done ps is-order o late un) b))
+            where
+              go : Begun? r served-now to → P (turn r t p now)
+              go (stays c) = none-due (s .before-none served-now to c)
+              go (comes F fore y c) = none-due (s .first-none served-now (suc (F / L r)) to c)
+          keeps-frame (first F b come c) = go (rw at-place at (s .on-first now p (suc (F / L r)) from to serves (reach-coming f t p ps o late) c))
+            where
+              go : Gathered? r served-now to (suc (F / L r)) → P (turn r t p now)
+              go (waits d) = none-due (s .first-none served-now (suc (F / L r)) to d)
+              go (gathers d v) = none-due (s .later-none served-now (suc (F / L r)) (suc (F / L r)) to d v)
+          keeps-frame (later F i b come c v) = go (rw at-place at (s .on-later now p (suc (F / L r)) i from to serves (reach-coming f t p ps o late) c v))
+            where
+              go : Later r served-now to (suc (F / L r)) i → P (turn r t p now)
+              go d =
+                  ⊎-elim (λ (x : Owes r to (suc i)). none-due (s .later-none served-now (suc (F / L r)) i to d x))
+                  (λ (all : AllCome r to (suc i)).
+                  let l = s .later-one served-now (suc (F / L r)) i to d all in
+                  let x : Owes r to (suc (suc i)) = owes-next p (suc i) from to serves v all in
+                  let e = s .later-none (fetched r served-now) (suc (F / L r)) (suc i) to (l .1) x in
+                  subst P (sym (one-turn t p done ps is-order o late ∙ drained-wide (r .window) served-now wide (l .0) e)) (report F i served-now to b d all holds))
+                  (owes-or-come r to (suc i))
+
+        module _ (fresh-start : Before r m₀ (r .first)) (at-first : P m₀) where
+          keeps-all : (t : ℕ) (done ps rest : List ℕ) → r .order t ≡ done ++ (ps ++ rest) → Rest r (ps ++ rest) → P (reached r m₀ t done) → P (reached r m₀ t (done ++ ps))
+          keeps-all t done [] rest is-order o w = rw (append-nil done) w
+          keeps-all t done (p ∷ ps) rest is-order o w =
+              let more : P (turn r t p (reached r m₀ t done)) =
+              ⊎-elim (λ (late : r .delay p + r .first p ≤ t). keeps-frame t p done (ps ++ rest) is-order o late w (phase fresh-start t done (p ∷ (ps ++ rest)) is-order))
+              (λ (early : t < r .delay p + r .first p). subst P (sym (no-frame t p (reached r m₀ t done) early)) w)
+              (le-or-lt (r .delay p + r .first p) t) in
+              let e : r .order t ≡ done ++ (p ∷ []) ++ (ps ++ rest) = is-order ∙ sym (append-assoc done (p ∷ []) (ps ++ rest)) in
+              subst (λ (l : List ℕ). P (reached r m₀ t l)) (append-assoc done (p ∷ []) ps)
+              (keeps-all t (done ++ (p ∷ [])) ps rest e (rest-tail r p (ps ++ rest) o) (subst P (sym (turns-more t p done (through r t m₀))) more))
+
+          keeps-from : (t : ℕ) → P (reached r m₀ t [])
+          unfolding turns through
+          keeps-from zero = at-first
+          keeps-from (suc t) = keeps-all t [] (r .order t) [] (sym (append-nil (r .order t))) (rw (append-nil (r .order t)) (rest-all r f t)) (keeps-from t)
+
+          pub along : (t : ℕ) (done rest : List ℕ) → r .order t ≡ done ++ rest → P (reached r m₀ t done)
+          along t done rest e = keeps-all t [] done rest e (rw e at (rest-all r f t)) (keeps-from t)

@@ -1,0 +1,32 @@
+-- When MST speaks of a number: within 32 epochs, whichever comes first.
+use mathlib.Core.Path.{_≡_}
+use mathlib.Core.Logic.{_⊎_, inl, inr, ⊎-elim, _≢_}
+use Prim.Native.Nat.{ℕ, _+_, _-_, _*_, _/_, _%_, _≤_, _<_}
+use native.Mathlib.Omega.{arith}
+use Rattle.ground.specs.Truth.{le-or-lt}
+use Rattle.packet.specs.Kinds.{epochs, mstFirst, mstNumbers}
+
+-- MST of epoch e speaks of q: it is one of the numbers from the first on
+pub record Spoken (kind e q : ℕ) : Type 0 where
+  pub place : ℕ
+  pub below : place < mstNumbers kind
+  pub is : mstFirst kind e + place ≡ q
+
+pub spoken-or-not : (kind e q : ℕ) → Spoken kind e q ⊎ ((m : ℕ) → m < mstNumbers kind → mstFirst kind e + m ≢ q)
+spoken-or-not kind e q = ⊎-elim from (λ (h : q < mstFirst kind e). inr (λ m l z. omega arith)) (le-or-lt (mstFirst kind e) q)
+  where
+    from : mstFirst kind e ≤ q → Spoken kind e q ⊎ ((m : ℕ) → m < mstNumbers kind → mstFirst kind e + m ≢ q)
+    from h =
+        ⊎-elim (λ (t : mstFirst kind e + mstNumbers kind ≤ q). inr (λ m l z. omega arith))
+        (λ (t : q < mstFirst kind e + mstNumbers kind). inl (record { place = q - mstFirst kind e; below = omega arith; is = omega arith }))
+        (le-or-lt (mstFirst kind e + mstNumbers kind) q)
+
+-- of 32 epochs in a row, the first of which has number x, one speaks of q
+pub record SpokenSoon (kind x q : ℕ) : Type 0 where
+  pub after : ℕ
+  pub soon : after < 32
+  pub spoken : Spoken kind ((x + after) % epochs kind) q
+
+pub spoken-soon : (kind x q : ℕ) → q < 64 → SpokenSoon kind x q
+unfolding mstFirst mstNumbers epochs
+spoken-soon kind x q low = record { after = (q / 8 + 31 * x) % 32; soon = omega arith; spoken = record { place = q % 8; below = omega arith; is = omega arith } }

@@ -1,0 +1,22 @@
+-- 'Then the member is active within 34 + a + b epochs of the add. With a wait-to-restore of r epochs the bound is 34 + a + b + r' (02, 2026-13).
+use mathlib.Core.Path.{_≡_}
+use mathlib.Core.Bool.{true}
+use Prim.Native.Nat.{ℕ, _+_, _≤_, _<_}
+use Rattle.sender.specs.declared.table.Table.{Table}
+use Rattle.sender.specs.Numbering.{stateIn}
+use Rattle.sender.specs.Table.{isActive}
+
+-- after how many epochs MST has spoken of every number: 'numbers 8 x (e mod 32)' (01, 'The control packet')
+abbrev pub blocks : ℕ → ℕ
+blocks kind = 32
+
+-- 34 is 32 + 2. One start until the ADD goes out, a on its way, one until its epoch is reported, r, at most 31 until MST speaks of its number, b on the way back, and one until that packet is whole.
+unfoldable pub bound : (kind a b r : ℕ) → ℕ
+bound kind a b r = blocks kind + 2 + a + b + r
+
+-- the slot is active in the table at some start after t, at most so many after it
+pub record ActiveWithin (table : ℕ → Table) (slot t most : ℕ) : Type 0 where
+  pub at : ℕ
+  pub after : t < at
+  pub within : at ≤ t + most
+  pub active : isActive (stateIn (table at) slot) ≡ true
