@@ -3,3 +3,4 @@ pub mod Loop
 pub mod Opened
 pub mod Rows
 mod OneSlot
+mod Failed
