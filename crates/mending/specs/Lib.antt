@@ -1,0 +1,5 @@
+pub mod Follow
+pub mod Following
+pub mod Lines
+pub mod Mending
+mod Rows
