@@ -1,5 +1,7 @@
 pub mod Follow
 pub mod Following
+pub mod Laws
 pub mod Lines
 pub mod Mending
 mod Rows
+mod Wrong

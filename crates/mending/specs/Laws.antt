@@ -1,0 +1,3 @@
+-- Laws on the definitions, for the theorems and the proofs above them.
+pub mod Automaton
+pub mod Counts
