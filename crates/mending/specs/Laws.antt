@@ -1,3 +1,5 @@
 -- Laws on the definitions, for the theorems and the proofs above them.
 pub mod Automaton
 pub mod Counts
+pub mod Digits
+pub mod Layout

@@ -37,7 +37,7 @@ Broken v (o ∷ os) = (eqb o v ≡ false) × Broken v os
 
 -- Setting counts behind others
 
-set-behind : (s xs : List ℕ) (i y : ℕ) → set (s ++ xs) (length s + i) y ≡ s ++ set xs i y
+pub set-behind : (s xs : List ℕ) (i y : ℕ) → set (s ++ xs) (length s + i) y ≡ s ++ set xs i y
 set-behind [] xs i y = let e : 0 + i ≡ i = omega arith in rw e
 set-behind (x ∷ s) xs i y = let e : suc (length s) + i ≡ suc (length s + i) = omega arith in rw e (ap (λ (l : List ℕ). x ∷ l) (set-behind s xs i y))
 
