@@ -3,3 +3,6 @@ pub mod Automaton
 pub mod Counts
 pub mod Digits
 pub mod Layout
+pub mod Lines
+pub mod Opened
+pub mod Texts

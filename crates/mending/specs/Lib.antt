@@ -1,7 +1,9 @@
+pub mod Beside
 pub mod Follow
 pub mod Following
 pub mod Laws
 pub mod Lines
 pub mod Mending
 mod Rows
+pub mod Theorems
 mod Wrong

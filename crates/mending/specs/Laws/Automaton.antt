@@ -297,7 +297,7 @@ pend-length (suc (suc zero)) a b c q l = omega arith
 pend-length (suc (suc (suc zero))) a b c q l = omega arith
 pend-length (suc (suc (suc (suc n)))) a b c q l = absurd (omega arith)
 
-nothing : (l : List ℕ) → l ++ [] ≡ l
+pub nothing : (l : List ℕ) → l ++ [] ≡ l
 nothing [] = refl
 nothing (x ∷ l) = ap (λ (t : List ℕ). x ∷ t) (nothing l)
 

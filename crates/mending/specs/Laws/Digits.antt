@@ -182,6 +182,10 @@ module _ (ports size : ℕ) (l : Line) (port h4 flag place next : ℕ) (e : reco
   unfolding digitPlace
   digit-within = let w = layout .whole in omega arith
 
+  pub digit-some : 1 < digitPlace size l
+  unfolding digitPlace
+  digit-some = let w = layout .whole in omega arith
+
   -- with another count
   pub with-count : (n : ℕ) → n < 16 → recordOf ports size (withDigit size l (capital n)) ≡ Frame port (h4 / 16 * 16 + n) flag place next
   unfolding recordOf digitPlace

@@ -74,7 +74,7 @@ frame-said ports (Value x) (Value y) flag payload place n p h f q m e = go (ltb 
           next-is = (cc);
           below = omega arith;
           flag-below = omega arith;
-          payload-is = and-right (ltb x ports && ltb y 256 && ltb flag 2) payload t
+          payload-is = and-right (ltb x ports && ltb y 256 && ltb flag 2) payload t;
         }
     go false t e = let z : _≡_ {A = ℕ} 0 1 = cc in absurd (omega arith)
 frame-said ports (Value x) Unreadable flag payload place n p h f q m e = let z : _≡_ {A = ℕ} 0 1 = cc in absurd (omega arith)
@@ -167,9 +167,9 @@ four-fields ports size end next port h4 flag place n line a b c d j k m e =
     let one = flag-one c (let x = s .flag-is in let y = s .flag-below in omega arith) in
     let dl = hex-length (size + size) d (s .payload-is) in
     let is : line ≡ a ++ (TAB ∷ two .high ∷ two .low ∷ TAB ∷ one .byte ∷ TAB ∷ d) =
-        sym j ∙ ap (λ (x : List ℕ). a ++ (TAB ∷ (x ++ (TAB ∷ (c ++ (TAB ∷ d)))))) (two .is) ∙ ap (λ (x : List ℕ). a ++ (TAB ∷ two .high ∷ two .low ∷ TAB ∷ (x ++ (TAB ∷ d)))) (one .is) in
+    sym j ∙ ap (λ (x : List ℕ). a ++ (TAB ∷ (x ++ (TAB ∷ (c ++ (TAB ∷ d)))))) (two .is) ∙ ap (λ (x : List ℕ). a ++ (TAB ∷ two .high ∷ two .low ∷ TAB ∷ (x ++ (TAB ∷ d)))) (one .is) in
     let w : length line ≡ length a + length (TAB ∷ two .high ∷ two .low ∷ TAB ∷ one .byte ∷ TAB ∷ d) =
-        ap length is ∙ length-append a (TAB ∷ two .high ∷ two .low ∷ TAB ∷ one .byte ∷ TAB ∷ d) in
+    ap length is ∙ length-append a (TAB ∷ two .high ∷ two .low ∷ TAB ∷ one .byte ∷ TAB ∷ d) in
     let q = s .place-is in
     record {
       layout = record {
@@ -189,10 +189,10 @@ four-fields ports size end next port h4 flag place n line a b c d j k m e =
         payload-is = s .payload-is;
         payload-length = dl;
         whole = omega arith;
-        most = m
+        most = m;
       };
       place-is = omega arith;
-      next-is = sym (s .next-is)
+      next-is = sym (s .next-is);
     }
 
 fields-framed : (ports size end next port h4 flag place n : ℕ) (line : List ℕ) (fs : List (List ℕ)) → joined fs ≡ line → length line ≤ end → length line ≤ MOST
