@@ -6,4 +6,5 @@ pub mod Lines
 pub mod Mending
 mod Rows
 pub mod Theorems
+pub mod Undone
 mod Wrong

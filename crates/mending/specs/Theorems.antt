@@ -3,3 +3,4 @@ pub mod Again
 pub mod Follows
 pub mod OwnLines
 pub mod Unchanged
+pub mod Undone

@@ -24,7 +24,7 @@ use Rattle.text.specs.Text.{LINE-END, TAB, ahead, fieldsOf}
 
 -- Fields hold no tab
 
-abbrev NoTab : List ℕ → Type 0
+abbrev pub NoTab : List ℕ → Type 0
 NoTab [] = Unit {0}
 NoTab (b ∷ l) = (eqb b TAB ≡ false) × NoTab l
 
@@ -38,7 +38,7 @@ unfolding fieldsOf
 field-last [] f = refl
 field-last (b ∷ x) f = rw (f .0) (ap (ahead b) (field-last x (f .1)))
 
-digit-no-tab : (b : ℕ) → digitOf b < 16 → eqb b TAB ≡ false
+pub digit-no-tab : (b : ℕ) → digitOf b < 16 → eqb b TAB ≡ false
 unfolding digitOf
 digit-no-tab b h = go (eqb b TAB) refl
   where
@@ -46,7 +46,7 @@ digit-no-tab b h = go (eqb b TAB) refl
     go true e = let s : digitOf b ≡ 16 = ap digitOf (eqb-true b TAB e) in absurd (omega arith)
     go false e = refl
 
-digits-no-tab : (base : ℕ) (l : List ℕ) → base ≤ 16 → areDigits base l ≡ true → NoTab l
+pub digits-no-tab : (base : ℕ) (l : List ℕ) → base ≤ 16 → areDigits base l ≡ true → NoTab l
 digits-no-tab base [] h t = tt
 digits-no-tab base (b ∷ l) h t =
     let d = ltb-true (digitOf b) base (and-left (ltb (digitOf b) base) (areDigits base l) t) in
@@ -111,6 +111,12 @@ module _ (ports size port h4 flag : ℕ) (line : List ℕ) (l : Layout ports siz
 
   digit-is : getD line (length line - (size + size + 4)) 0 ≡ l .low
   digit-is = ap (λ (n : ℕ). getD line n 0) digit-at ∙ (ap (λ (t : List ℕ). getD t (length (l .front) + 2) 0) (l .line-is) ∙ getD-append-add (l .front) (TAB ∷ l .high ∷ l .low ∷ TAB ∷ l .flagged ∷ TAB ∷ l .payload) 2 0)
+
+  high-is : getD line (length line - (size + size + 4) - 1) 0 ≡ l .high
+  high-is =
+      let e : length line - (size + size + 4) - 1 ≡ length (l .front) + 1 = (let w = l .whole in omega arith) in
+      ap (λ (n : ℕ). getD line n 0) e
+      ∙ (ap (λ (t : List ℕ). getD t (length (l .front) + 1) 0) (l .line-is) ∙ getD-append-add (l .front) (TAB ∷ l .high ∷ l .low ∷ TAB ∷ l .flagged ∷ TAB ∷ l .payload) 1 0)
 
   -- another one there
   layout-with : (d : ℕ) → digitOf d < 16 → Layout ports size port (digitOf (l .high) * 16 + digitOf d) flag (set line (length line - (size + size + 4)) d)
@@ -185,6 +191,14 @@ module _ (ports size : ℕ) (l : Line) (port h4 flag place next : ℕ) (e : reco
   pub digit-some : 1 < digitPlace size l
   unfolding digitPlace
   digit-some = let w = layout .whole in omega arith
+
+  -- so is the first digit one
+  pub high-digit : digitOf (getD (l .bytes) (digitPlace size l - 1) 0) < 16
+  unfolding digitPlace
+  high-digit =
+      let d = layout .high-digit in
+      let c = ap digitOf (high-is ports size port h4 flag (l .bytes) layout) in
+      omega arith
 
   -- with another count
   pub with-count : (n : ℕ) → n < 16 → recordOf ports size (withDigit size l (capital n)) ≡ Frame port (h4 / 16 * 16 + n) flag place next
