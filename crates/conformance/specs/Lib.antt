@@ -8,6 +8,7 @@ pub mod FixedGroups
 pub mod FixedRuns
 pub mod Hosts
 pub mod Joining
+pub mod MendedReplays
 pub mod Orders
 pub mod OtherNumbers
 pub mod OwnCount

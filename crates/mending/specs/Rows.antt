@@ -6,6 +6,7 @@ use Rattle.mending.specs.Follow.{beginning, countBack, fed, finished, fo
 use Rattle.mending.specs.Following.{followed}
 use Rattle.mending.specs.Lines.{capital, digitPlace, judged, linesWith, recordOf}
 use Rattle.mending.specs.Mending.{fitting, mendAnswer, mendedOf, notesOf, readAnswer}
+use Rattle.mending.specs.Undone.{noteOf, toldAgain}
 use Rattle.packet.specs.Kinds.{frames, tags}
 use Rattle.phases.specs.Sizes.{sized}
 use Rattle.receiver.specs.Starting.{timesWithin}
@@ -100,6 +101,15 @@ no-end-kept = refl
 no-end-dropped : told (ascii "1\t1\t16\n0\t00\t0\tAA\n0\t0") ≡ bothOf (ascii "1\t1\t16\n0\t00\t0\tAA\n") (ascii "3\tline\t0\t0\t\n")
 unfolding linesOf linesWith fieldsOf mendedOf notesOf lineOpening settingsBy opened numberOf digitOf recordOf lineRecord frameBy hexOf isHex flagIn judged followed digitPlace capital numberText
 no-end-dropped = refl
+
+-- the torn recording told again; a dropped last line gets an end
+abbrev again : List ℕ → List ℕ
+again text = toldAgain (mendedOf text) (notesOf text)
+
+told-again : (again (ascii "1\t1\t16\n0\tfa\t0\taa\nx\t\ty\n0\tfc\t0\taa\n0\tfc\t0\taa") ≡ ascii "1\t1\t16\n0\tfa\t0\taa\nx\t\ty\n0\tfc\t0\taa\n0\tfc\t0\taa")
+    × (again (ascii "1\t1\t16\n\n0\t0") ≡ ascii "1\t1\t16\n\n0\t0\n")
+unfolding toldAgain noteOf linesOf linesWith fieldsOf mendedOf notesOf lineOpening settingsBy opened numberOf digitOf recordOf lineRecord frameBy hexOf isHex flagIn judged followed digitPlace capital numberText
+told-again = (refl, refl)
 
 -- First lines
 

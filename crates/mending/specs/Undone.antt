@@ -55,12 +55,12 @@ module _ (size : ℕ) where
   withOld l old = record { bytes = sets (l .bytes) (digitPlace size l - 1) old; end = l .end }
 
   -- lines numbered from n: as many as stand before the next note's number, then the line that was dropped, or the one that was altered
-  abbrev pub undoneFrom : ℕ → List Note → List Line → List ℕ
-  undoneFrom n [] ls = textOf ls
-  undoneFrom n (note ∷ notes) ls =
+  abbrev pub againFrom : ℕ → List Note → List Line → List ℕ
+  againFrom n [] ls = textOf ls
+  againFrom n (note ∷ notes) ls =
       textOf (take (note .number - n) ls)
-      ++ cond (sameBytes (note .field) (ascii "line")) (note .old ++ (LINE-END ∷ undoneFrom (suc (note .number)) notes (drop (note .number - n) ls)))
-      (lineText (withOld (getD ls (note .number - n) noLine) (note .old)) ++ undoneFrom (suc (note .number)) notes (drop (suc (note .number - n)) ls))
+      ++ cond (sameBytes (note .field) (ascii "line")) (note .old ++ (LINE-END ∷ againFrom (suc (note .number)) notes (drop (note .number - n) ls)))
+      (lineText (withOld (getD ls (note .number - n) noLine) (note .old)) ++ againFrom (suc (note .number)) notes (drop (suc (note .number - n)) ls))
 
 abbrev pub sizeBy : Opening → ℕ
 sizeBy (O.Settings s next) = s .size
@@ -69,8 +69,8 @@ sizeBy O.Unfinished = 0
 sizeBy O.End = 0
 
 -- by the mended recording and the notes alone
-unfoldable pub undone : List ℕ → List ℕ → List ℕ
-undone mended notes = undoneFrom (sizeBy (openingOf (linesWith mended))) 1 (notesRead (linesOf notes)) (linesWith mended)
+unfoldable pub toldAgain : List ℕ → List ℕ → List ℕ
+toldAgain mended notes = againFrom (sizeBy (openingOf (linesWith mended))) 1 (notesRead (linesOf notes)) (linesWith mended)
 
 -- What is not told: whether a dropped last line had its end. It gets one.
 abbrev pub owedBy : Fate → List ℕ → List ℕ

@@ -19,7 +19,7 @@ use Rattle.mending.specs.Laws.Texts.{Ended, Stands, lines-le, text-with}
 use Rattle.mending.specs.Lines.{Fate, Judged, Line, capital, digitIn, digitPlace, fateBy, fateTo, judged, judgedBy, leftBy, lineText, linesWith, mendedLines, outBy, recordOf, textOf, withDigit}
 use Rattle.mending.specs.Lines.{Fate as F}
 use Rattle.mending.specs.Mending.{h4With, mendedOf, noteBy, noteText, notesFrom, notesOf, openingOf}
-use Rattle.mending.specs.Undone.{Note, before, beforeLast, behind, hasTab, noteOf, notesRead, owed, owedBy, sizeBy, undone, undoneFrom, withOld}
+use Rattle.mending.specs.Undone.{Note, before, beforeLast, behind, hasTab, noteOf, notesRead, owed, owedBy, sizeBy, toldAgain, againFrom, withOld}
 use Rattle.recording.specs.declared.record.Record.{Record}
 use Rattle.text.specs.Ascii.{ascii}
 use Rattle.text.specs.Fields.{areDigits, digitOf, valueOf}
@@ -159,7 +159,7 @@ module _ (size : ℕ) where
   later-more n (note ∷ notes) h = omega arith
 
   -- a line that no note names
-  pass-line : (n : ℕ) (notes : List Note) (l : Line) (ls : List Line) → Later (suc n) notes → undoneFrom size n notes (l ∷ ls) ≡ lineText l ++ undoneFrom size (suc n) notes ls
+  pass-line : (n : ℕ) (notes : List Note) (l : Line) (ls : List Line) → Later (suc n) notes → againFrom size n notes (l ∷ ls) ≡ lineText l ++ againFrom size (suc n) notes ls
   pass-line n [] l ls h = refl
   pass-line n (note ∷ notes) l ls h =
       let e : note .number - n ≡ suc (note .number - suc n) = omega arith in
@@ -196,21 +196,21 @@ module _ (size : ℕ) where
   later n [] r h = tt
   later n (j ∷ js) r h = later-by n (j .line) (j .fate) js (omega arith) (r .0) (r .1 .0) (later (suc n) js (r .2) (omega arith))
 
-  -- undone line by line
-  undone-by : (n : ℕ) (l : Line) (f : Fate) (js : List Judged) → n < 10 ^ 20 → RightBy l f → Stands l (tornOf js) → Later (suc n) (notesOn (suc n) js)
-      → undoneFrom size (suc n) (notesOn (suc n) js) (mendedLines size js) ≡ textOf (tornOf js) ++ owed js
-      → undoneFrom size n (notesOn n (record { line = l; fate = f } ∷ js)) (outBy size l f ++ mendedLines size js) ≡ (lineText l ++ textOf (tornOf js)) ++ owed (record { line = l; fate = f } ∷ js)
-  undone-by n l F.Kept js h r s k i =
+  -- line by line
+  again-by : (n : ℕ) (l : Line) (f : Fate) (js : List Judged) → n < 10 ^ 20 → RightBy l f → Stands l (tornOf js) → Later (suc n) (notesOn (suc n) js)
+      → againFrom size (suc n) (notesOn (suc n) js) (mendedLines size js) ≡ textOf (tornOf js) ++ owed js
+      → againFrom size n (notesOn n (record { line = l; fate = f } ∷ js)) (outBy size l f ++ mendedLines size js) ≡ (lineText l ++ textOf (tornOf js)) ++ owed (record { line = l; fate = f } ∷ js)
+  again-by n l F.Kept js h r s k i =
       pass-line n (notesOn (suc n) js) l (mendedLines size js) k
       ∙ (ap (λ (t : List ℕ). lineText l ++ t) i ∙ (sym (append-assoc (lineText l) (textOf (tornOf js)) (owed js)) ∙ ap (λ (t : List ℕ). (lineText l ++ textOf (tornOf js)) ++ t) (sym (owed-kept l F.Kept js refl))))
-  undone-by n l (F.Restored old new) js h r s k i =
+  again-by n l (F.Restored old new) js h r s k i =
       let z : n - n ≡ 0 = omega arith in
-      ap (λ (t : List Note). undoneFrom size n t (withDigit size l new ∷ mendedLines size js)) (set-notes n l old new js h r)
-      ∙ (rw z (ap (λ (x : Line). lineText x ++ undoneFrom size (suc n) (notesOn (suc n) js) (mendedLines size js)) (old-again l old new r))
+      ap (λ (t : List Note). againFrom size n t (withDigit size l new ∷ mendedLines size js)) (set-notes n l old new js h r)
+      ∙ (rw z (ap (λ (x : Line). lineText x ++ againFrom size (suc n) (notesOn (suc n) js) (mendedLines size js)) (old-again l old new r))
       ∙ (ap (λ (t : List ℕ). lineText l ++ t) i ∙ (sym (append-assoc (lineText l) (textOf (tornOf js)) (owed js)) ∙ ap (λ (t : List ℕ). (lineText l ++ textOf (tornOf js)) ++ t) (sym (owed-kept l (F.Restored old new) js refl)))))
-  undone-by n l F.Dropped js h r s k i =
+  again-by n l F.Dropped js h r s k i =
       let z : n - n ≡ 0 = omega arith in
-      ap (λ (t : List Note). undoneFrom size n t (mendedLines size js)) (dropped-notes n l js h (s .0))
+      ap (λ (t : List Note). againFrom size n t (mendedLines size js)) (dropped-notes n l js h (s .0))
       ∙ (rw z (ap (λ (t : List ℕ). l .bytes ++ (LINE-END ∷ t)) i) ∙ go (s .1))
     where
       go : (l .end ≡ LINE-END ∷ []) ⊎ ((l .end ≡ []) × (0 < length (l .bytes)) × (tornOf js ≡ []))
@@ -223,15 +223,15 @@ module _ (size : ℕ) where
         where
           last : (ks : List Judged) → l .end ≡ [] → tornOf ks ≡ [] → l .bytes ++ (LINE-END ∷ (textOf (tornOf ks) ++ owed ks)) ≡ (lineText l ++ textOf (tornOf ks)) ++ owed (record { line = l; fate = F.Dropped } ∷ ks)
           last [] e0 e2 =
-              sym (ap (λ (t : List ℕ). t ++ (LINE-END ∷ [])) (nothing (lineText l) ∙ (ap (λ (end : List ℕ). l .bytes ++ end) e0 ∙ nothing (l .bytes))) )
+              sym (ap (λ (t : List ℕ). t ++ (LINE-END ∷ [])) (nothing (lineText l) ∙ (ap (λ (end : List ℕ). l .bytes ++ end) e0 ∙ nothing (l .bytes))))
               ∙ ap (λ (t : List ℕ). (lineText l ++ []) ++ t) (sym (ap (owedBy F.Dropped) e0))
           last (j ∷ ks) e0 e2 = let z : _≡_ {A = ℕ} 0 1 = cc in absurd (omega arith)
 
-  undone-on : (js : List Judged) → Rights js → (n : ℕ) → n + length js ≤ 10 ^ 20 → undoneFrom size n (notesOn n js) (mendedLines size js) ≡ textOf (tornOf js) ++ owed js
+  again-on : (js : List Judged) → Rights js → (n : ℕ) → n + length js ≤ 10 ^ 20 → againFrom size n (notesOn n js) (mendedLines size js) ≡ textOf (tornOf js) ++ owed js
   unfolding linesOf
-  undone-on [] r n h = refl
-  undone-on (j ∷ js) r n h =
-      undone-by n (j .line) (j .fate) js (omega arith) (r .0) (r .1) (later (suc n) js (r .2) (omega arith)) (undone-on js (r .2) (suc n) (omega arith))
+  again-on [] r n h = refl
+  again-on (j ∷ js) r n h =
+      again-by n (j .line) (j .fate) js (omega arith) (r .0) (r .1) (later (suc n) js (r .2) (omega arith)) (again-on js (r .2) (suc n) (omega arith))
 
 -- Lines that are judged
 
@@ -262,19 +262,20 @@ module _ (ports size : ℕ) where
 
   rights : (ls : List Line) (left : ℕ → List ℕ) → Fits ports size left ls → Ended ls → Rights size (judgedBy ports size left ls)
   rights [] left h d = tt
-  rights (l ∷ ls) left h d =
-      (right-by left l ls h (readOf ports size l),
-      (d .0 .0, rw (torn-is ls (leftBy left (recordOf ports size l))) (d .0 .1)),
-      rights ls (leftBy left (recordOf ports size l)) (fits-next ports size left l ls h) (d .1))
+  rights (l ∷ ls) left h d = (
+    right-by left l ls h (readOf ports size l),
+    (d .0 .0, rw (torn-is ls (leftBy left (recordOf ports size l))) (d .0 .1)),
+    rights ls (leftBy left (recordOf ports size l)) (fits-next ports size left l ls h) (d .1),
+  )
 
 judged-length : (ports size : ℕ) (left : ℕ → List ℕ) (ls : List Line) → length (judgedBy ports size left ls) ≡ length ls
 judged-length ports size left [] = refl
 judged-length ports size left (l ∷ ls) = ap suc (judged-length ports size (leftBy left (recordOf ports size l)) ls)
 
 -- Of every recording that is answered 0; a lent text is shorter than 10 to the 20th.
-pub undone-is : (t : List ℕ) (o : Opened t) → length t < 10 ^ 20 → undone (mendedOf t) (notesOf t) ≡ t ++ owed (judged (o .settings .ports) (o .settings .size) (o .rest))
-unfolding undone judged
-undone-is t o h =
+pub undone : (t : List ℕ) (o : Opened t) → length t < 10 ^ 20 → toldAgain (mendedOf t) (notesOf t) ≡ t ++ owed (judged (o .settings .ports) (o .settings .size) (o .rest))
+unfolding toldAgain judged
+undone t o h =
     let ports = portsIn t o in
     let size = sizeIn t o in
     let js = judgedBy ports size (followedLeft ports size (o .rest)) (o .rest) in
@@ -285,9 +286,9 @@ undone-is t o h =
     (let a = judged-length ports size (followedLeft ports size (o .rest)) (o .rest) in let b : suc (length (o .rest)) ≤ length t = rw (o .lines) at (lines-le t) in omega arith) in
     let sized : sizeBy (openingOf (linesWith (mendedOf t))) ≡ size = ap (λ (ls : List Line). sizeBy (openingOf ls)) (mended-lines t o) ∙ ap sizeBy (o .opening) in
     let text : lineText (o .first) ++ textOf (o .rest) ≡ t = ap textOf (sym (o .lines)) ∙ text-with t in
-    let told : undoneFrom (sizeBy (openingOf (linesWith (mendedOf t)))) 1 (notesRead (linesOf (notesOf t))) (linesWith (mendedOf t)) ≡ undoneFrom size 1 (notesOn size 2 js) (o .first ∷ mendedLines size js) =
+    let told : againFrom (sizeBy (openingOf (linesWith (mendedOf t)))) 1 (notesRead (linesOf (notesOf t))) (linesWith (mendedOf t)) ≡ againFrom size 1 (notesOn size 2 js) (o .first ∷ mendedLines size js) =
     rw (sized, mended-lines t o, notes-are t o) in
     told
     ∙ (pass-line size 1 (notesOn size 2 js) (o .first) (mendedLines size js) (later size 2 js right few)
-    ∙ (ap (λ (x : List ℕ). lineText (o .first) ++ x) (undone-on size js right 2 few ∙ ap (λ (ls : List Line). textOf ls ++ owed js) (torn-is ports size (o .rest) (followedLeft ports size (o .rest))))
+    ∙ (ap (λ (x : List ℕ). lineText (o .first) ++ x) (again-on size js right 2 few ∙ ap (λ (ls : List Line). textOf ls ++ owed js) (torn-is ports size (o .rest) (followedLeft ports size (o .rest))))
     ∙ (sym (append-assoc (lineText (o .first)) (textOf (o .rest)) (owed js)) ∙ ap (λ (x : List ℕ). x ++ owed js) text)))
