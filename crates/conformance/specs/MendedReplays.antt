@@ -9,10 +9,10 @@ use native.Mathlib.Omega.{arith}
 use lib.Dec.{leb}
 use lib.ListN.{length, take}
 use Rattle.mending.specs.Laws.Lines.{Frames, fits-followed, followedLeft, frames-out}
-use Rattle.mending.specs.Laws.Opened.{Opened, mended-lines, mendedRest, portsIn, sizeIn}
+use Rattle.mending.specs.Laws.Opened.{mended-lines, mendedRest, portsIn, sizeIn}
 use Rattle.mending.specs.Laws.Texts.{bytes-with, bytesOf}
-use Rattle.mending.specs.Lines.{Line, linesWith, recordOf}
-use Rattle.mending.specs.Mending.{fitting, mendedOf}
+use Rattle.mending.specs.Lines.{Line, recordOf}
+use Rattle.mending.specs.Mending.{Opened, fitting, mendedOf}
 use Rattle.phases.specs.Sizes.{sized}
 use Rattle.receiver.specs.Starting.{timesWithin}
 use Rattle.recording.specs.declared.pairs.Settings.{Settings as GroupSettings}
@@ -23,9 +23,9 @@ use Rattle.recording.specs.Opening.{Opening, lineOpening}
 use Rattle.recording.specs.Opening.{Opening as O}
 use Rattle.recording.specs.Record.{lineRecord}
 use Rattle.replaying.specs.declared.replay.Phase.{Phase}
-use Rattle.replaying.specs.declared.replay.Phase.the-variants.{Settings, Reading, Fetching, Skipping, Ended}
-use Rattle.replaying.specs.Replay.{beginning, nextLine}
-use Rattle.replaying.specs.Runs.{Desk, deskAfter, deskBy, deskThrough, fetched, framed, lineIn, openedBy, readBy, reported}
+use Rattle.replaying.specs.declared.replay.Phase.the-variants.{Settings, Reading, Ended}
+use Rattle.replaying.specs.Replay.{beginning}
+use Rattle.replaying.specs.Runs.{Desk, deskAfter, deskBy, deskThrough, fetched, framed, lineIn, readBy, reported}
 use Rattle.replaying.specs.Turn.{answeredTurn, isDue, openWithTurn, startable, startedTurn, storeIn, timesFit}
 use Rattle.text.specs.Text.{linesOf}
 

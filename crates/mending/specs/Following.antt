@@ -1,8 +1,13 @@
 -- The H4 count of one port followed (2026-11), on the counts of its lines one behind the other.
 use mathlib.Core.Bool.{Bool, false, cond, _||_}
 use mathlib.Core.List.{List, [], _∷_}
-use Prim.Native.Nat.{ℕ, zero, suc, _+_, _-_, _%_}
+use Prim.Native.Nat.{ℕ, zero, suc, _+_, _-_, _%_, _<_}
 use lib.Dec.{eqb}
+
+-- a count is one hex digit
+abbrev pub Counts : List ℕ → Type 0
+Counts [] = Unit {0}
+Counts (c ∷ cs) = (c < 16) × Counts cs
 
 -- 'the last good one plus the lines of that port since, modulo 16'
 abbrev pub countDue : ℕ → ℕ → ℕ

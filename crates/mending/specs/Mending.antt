@@ -1,5 +1,6 @@
 -- A recording mended (2026-11): what is answered, the mended recording, and the notes of what was dropped or altered.
-use mathlib.Core.Bool.{Bool, cond, _&&_}
+use mathlib.Core.Path.{_≡_}
+use mathlib.Core.Bool.{Bool, true, cond, _&&_}
 use mathlib.Core.List.{List, [], _∷_, _++_}
 use Prim.Native.Nat.{ℕ, suc, _-_}
 use lib.Dec.{eqb}
@@ -87,3 +88,13 @@ unfoldable pub mendAnswer : List ℕ → ℕ → ℕ → ℕ
 mendAnswer text mended notes =
     cond (eqb (readAnswer text) 0)
     (cond (eqb mended (length (mendedOf text)) && eqb notes (length (notesOf text))) 0 9) (readAnswer text)
+
+-- a recording that is answered 0: its first line, the settings in it, and the other lines
+pub record Opened (t : List ℕ) : Type 0 where
+  pub first : Line
+  pub rest : List Line
+  pub settings : Settings
+  pub next : ℕ
+  pub lines : linesWith t ≡ first ∷ rest
+  pub opening : lineOpening 0 (first .bytes) ≡ O.Settings settings next
+  pub fits : fitting settings ≡ true

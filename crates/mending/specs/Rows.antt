@@ -1,6 +1,6 @@
 -- Recordings torn and mended, worked out apart from the definitions.
 use mathlib.Core.Path.{_≡_, refl}
-use mathlib.Core.List.{List, [], _∷_, _++_}
+use mathlib.Core.List.{List, [], _∷_}
 use Prim.Native.Nat.{ℕ}
 use Rattle.mending.specs.Follow.{beginning, countBack, fed, finished, following, restoredBack, restoresFirst, restoresLast, restoresSecond, restoresThird}
 use Rattle.mending.specs.Following.{followed}

@@ -5,8 +5,8 @@ use mathlib.Core.List.{List, [], _∷_, _++_}
 use Prim.Native.Nat.{ℕ, zero, suc, _+_, _-_, _%_}
 use lib.Dec.{eqb, leb}
 use lib.ListN.{length}
-use Rattle.mending.specs.Following.{countDue, followed, followedFrom, goodAmong, isGood}
-use Rattle.mending.specs.Lines.{Fate, Judged, Line, countBy, countsOf, digitPlace, judged, linesWith, recordOf}
+use Rattle.mending.specs.Following.{countDue, followed, goodAmong, isGood}
+use Rattle.mending.specs.Lines.{Fate, Judged, Line, countsOf, judged, linesWith, recordOf}
 use Rattle.mending.specs.Lines.{Fate as F}
 use Rattle.mending.specs.Mending.{noteBy, noteText, notesFrom}
 use Rattle.recording.specs.declared.record.Record.{Record}

@@ -13,7 +13,7 @@ use Rattle.ground.specs.Truth.{and-left, or-left, or-right}
 use Rattle.mending.specs.declared.follow.Follow.{Follow}
 use Rattle.mending.specs.Follow.{afresh, beginning, countBack, fed, fedBy, finished, following, going, lessPlace, restoredBack, restores, restoresFirst, restoresLast, restoresSecond, restoresThird, setBack}
 use Rattle.mending.specs.Following.{followed}
-use Rattle.mending.specs.Laws.Counts.{Counts, among, back-at, followed-is, offsets, placed, settle, settle-in, settle-out, settled}
+use Rattle.mending.specs.Laws.Counts.{Counts, among, back-at, followed-is, offsets, placed, settle, settle-in, settle-out}
 
 -- a port that has begun, k lines behind its first, n of them pending
 abbrev at : ℕ → ℕ → ℕ → ℕ → ℕ → ℕ → Follow

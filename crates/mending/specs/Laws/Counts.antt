@@ -2,22 +2,18 @@
 -- Where it was followed once, the lines that were good or restored have it; those of a fresh start have another one, and are only ever set to that of one
 -- of themselves, so that they break again at the same places.
 use mathlib.Core.Path.{_≡_, refl, sym, ap, ap₂, _∙_}
-use mathlib.Core.Bool.{Bool, true, false, cond, _||_, false≢true, true≢false}
-use mathlib.Core.List.{List, [], _∷_, _++_}
+use mathlib.Core.Bool.{Bool, true, false, cond, _||_, false≢true}
+use mathlib.Core.List.{List, [], _∷_}
 use mathlib.Core.Logic.{_⊎_, inl, inr}
 use Prim.Native.Nat.{ℕ, zero, suc, _+_, _-_, _%_, _≤_, _<_}
 use native.Mathlib.Omega.{arith}
 use lib.Dec.{eqb}
 use lib.ListN.{length}
-use borrow.Author.Tests.{eq-eqb, eqb-false, eqb-true}
+use borrow.Author.Tests.{eq-eqb, eqb-true}
 use Rattle.ground.specs.Truth.{le-or-lt, neither, or-left, or-right, same-test}
 use Rattle.mending.specs.Follow.{lessPlace}
+pub use Rattle.mending.specs.Following.{Counts}
 use Rattle.mending.specs.Following.{countDue, followed, followedFrom, goodAmong, isGood}
-
--- each is a count
-abbrev pub Counts : List ℕ → Type 0
-Counts [] = Unit {0}
-Counts (c ∷ cs) = (c < 16) × Counts cs
 
 -- counts less their places, the first of which is k, and back
 abbrev pub offsets : ℕ → List ℕ → List ℕ

@@ -2,11 +2,11 @@
 use mathlib.Core.Path.{_≡_, refl, sym, ap, ap₂, _∙_}
 use mathlib.Core.Bool.{Bool, true, false, cond, _&&_}
 use mathlib.Core.List.{List, [], _∷_, _++_}
-use Prim.Native.Nat.{ℕ, suc, _+_, _-_, _*_, _/_, _%_, _≤_, _<_}
+use Prim.Native.Nat.{ℕ, _+_, _-_, _*_, _/_, _%_, _≤_, _<_}
 use native.Mathlib.Omega.{arith}
 use lib.Dec.{eqb, leb, ltb}
 use lib.ListN.{getD, length, set, length-set}
-use lib.Seq.{getD-append-add, getD-set-same}
+use lib.Seq.{getD-append-add}
 use borrow.Author.Tests.{eqb-true, le-leb, lt-ltb, ltb-true}
 use Rattle.ground.specs.Finite.{below, below-at}
 use Rattle.ground.specs.Truth.{and-left, and-right}
@@ -14,10 +14,9 @@ use Rattle.mending.specs.Laws.Automaton.{set-behind}
 use Rattle.mending.specs.Laws.Layout.{Layout, frame-layout}
 use Rattle.mending.specs.Lines.{Line, capital, digitIn, digitPlace, recordOf, withDigit}
 use Rattle.recording.specs.declared.record.Record.{Record}
-use Rattle.recording.specs.declared.record.Record.the-variants.{Frame, Malformed, Long, Unfinished, End}
+use Rattle.recording.specs.declared.record.Record.the-variants.{Frame}
 use Rattle.recording.specs.Line.{MOST}
-use Rattle.recording.specs.Record.{flagIn, frameBy, lineRecord, recordBy}
-use Rattle.text.specs.declared.fields.Number.{Number}
+use Rattle.recording.specs.Record.{flagIn, frameBy, lineRecord}
 use Rattle.text.specs.declared.fields.Number.the-variants.{Value, Unreadable}
 use Rattle.text.specs.Fields.{areDigits, digitOf, hexOf, isHex, numberOf, valueOf}
 use Rattle.text.specs.Text.{LINE-END, TAB, ahead, fieldsOf}
@@ -214,10 +213,3 @@ module _ (ports size : ℕ) (l : Line) (port h4 flag place next : ℕ) (e : reco
       layout-frame ports size port (digitOf (layout .high) * 16 + digitOf (capital n)) flag (set (l .bytes) (length (l .bytes) - (size + size + 4)) (capital n))
       (layout-with ports size port h4 flag (l .bytes) layout (capital n) (omega arith)) place (omega arith)
       ∙ ap₂ (λ (x y : ℕ). Frame port x flag place y) k (sym (f .next-is))
-
--- the digit that was set
-pub digit-set : (size : ℕ) (l : Line) (d : ℕ) → digitPlace size l < length (l .bytes) → digitIn size (withDigit size l d) ≡ d
-unfolding digitPlace
-digit-set size l d h =
-    ap (λ (n : ℕ). getD (set (l .bytes) (length (l .bytes) - (size + size + 4)) d) (n - (size + size + 4)) 0) (length-set (l .bytes) (length (l .bytes) - (size + size + 4)) d)
-    ∙ getD-set-same (l .bytes) (length (l .bytes) - (size + size + 4)) d 0 h

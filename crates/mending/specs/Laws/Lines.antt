@@ -3,7 +3,7 @@ use mathlib.Core.Path.{_≡_, refl, sym, ap, ap₂, _∙_}
 use mathlib.Core.Bool.{Bool, true, false, cond, true≢false}
 use mathlib.Core.List.{List, [], _∷_, _++_}
 use mathlib.Core.Logic.{_⊎_, inl, inr, _≢_}
-use Prim.Native.Nat.{ℕ, suc, _+_, _-_, _*_, _/_, _%_, _≤_, _<_}
+use Prim.Native.Nat.{ℕ, suc, _+_, _-_, _*_, _/_, _%_, _<_}
 use native.Mathlib.Omega.{arith}
 use lib.Dec.{eqb}
 use lib.ListN.{drop, getD, length, set, length-drop, length-set}
@@ -15,8 +15,8 @@ use Rattle.mending.specs.Beside.{alteredNote, h4In}
 use Rattle.mending.specs.Following.{followed}
 use Rattle.mending.specs.Laws.Counts.{Counts, followed-counts, followed-length, followed-twice}
 use Rattle.mending.specs.Laws.Digits.{capital-digit, digit-count, digit-no-end, digit-some, digit-within, with-count}
-use Rattle.mending.specs.Laws.Texts.{Ended, Stands, free-set}
-use Rattle.mending.specs.Lines.{Fate, Judged, Line, capital, countBy, countsOf, digitIn, digitPlace, fateBy, fateTo, judged, judgedBy, leftBy, mendedLines, outBy, recordOf, withDigit}
+use Rattle.mending.specs.Laws.Texts.{Ended, free-set}
+use Rattle.mending.specs.Lines.{Fate, Line, capital, countBy, countsOf, digitIn, digitPlace, fateBy, fateTo, judged, judgedBy, leftBy, mendedLines, outBy, recordOf, withDigit}
 use Rattle.mending.specs.Lines.{Fate as F}
 use Rattle.mending.specs.Mending.{noteBy, noteText, notesFrom}
 use Rattle.recording.specs.declared.record.Record.{Record}
@@ -42,13 +42,6 @@ readOf ports size l = go (recordOf ports size l) refl
     go Long e = other (ap isFrame e)
     go Unfinished e = other (ap isFrame e)
     go End e = other (ap isFrame e)
-
-pub count-other : (port : ℕ) (r : Record) (counts : List ℕ) → isFrame r ≡ false → countBy port r counts ≡ counts
-count-other port (Frame p h4 flag place next) counts e = absurd (true≢false e)
-count-other port (Malformed next) counts e = refl
-count-other port Long counts e = refl
-count-other port Unfinished counts e = refl
-count-other port End counts e = refl
 
 pub left-other : (left : ℕ → List ℕ) (r : Record) (port : ℕ) → isFrame r ≡ false → leftBy left r port ≡ left port
 left-other left (Frame p h4 flag place next) port e = absurd (true≢false e)

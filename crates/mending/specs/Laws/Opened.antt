@@ -1,5 +1,5 @@
 -- A recording that is answered 0: its first line, the settings in it, and the other lines.
-use mathlib.Core.Path.{_≡_, refl, sym, ap, _∙_}
+use mathlib.Core.Path.{_≡_, refl, ap, _∙_}
 use mathlib.Core.Bool.{Bool, true, false, cond}
 use mathlib.Core.List.{List, [], _∷_, _++_}
 use mathlib.Core.Logic.{_⊎_, inl, inr}
@@ -8,21 +8,13 @@ use native.Mathlib.Omega.{arith}
 use lib.ListN.{length}
 use Rattle.mending.specs.Laws.Lines.{ended-out, fits-followed, followedLeft, outOf}
 use Rattle.mending.specs.Laws.Texts.{Ended, lines-text, with-ended}
-use Rattle.mending.specs.Lines.{Line, judged, judgedBy, lineText, linesWith, mendedLines, textOf}
+use Rattle.mending.specs.Lines.{Line, judged, judgedBy, lineText, linesWith, textOf}
+pub use Rattle.mending.specs.Mending.{Opened}
 use Rattle.mending.specs.Mending.{answerBy, fitting, mendedBy, mendedIn, mendedOf, notesBy, notesFrom, notesIn, notesOf, openingOf, readAnswer}
 use Rattle.recording.specs.declared.pairs.Settings.{Settings}
 use Rattle.recording.specs.Opening.{Opening, lineOpening}
 use Rattle.recording.specs.Opening.{Opening as O}
 use Rattle.text.specs.Text.{LINE-END}
-
-pub record Opened (t : List ℕ) : Type 0 where
-  pub first : Line
-  pub rest : List Line
-  pub settings : Settings
-  pub next : ℕ
-  pub lines : linesWith t ≡ first ∷ rest
-  pub opening : lineOpening 0 (first .bytes) ≡ O.Settings settings next
-  pub fits : fitting settings ≡ true
 
 answer-fits : (b : Bool) → cond {A = ℕ} b 0 4 ≡ 0 → b ≡ true
 answer-fits true e = refl

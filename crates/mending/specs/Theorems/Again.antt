@@ -1,5 +1,5 @@
 -- 'Mending a mended recording changes nothing.'
-use mathlib.Core.Path.{_≡_, refl, sym, ap, _∙_}
+use mathlib.Core.Path.{_≡_, sym, ap, _∙_}
 use mathlib.Core.List.{List, [], _∷_}
 use Prim.Native.Nat.{ℕ}
 use Rattle.mending.specs.Laws.Lines.{lines-again}

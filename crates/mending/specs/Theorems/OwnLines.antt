@@ -10,7 +10,9 @@ use Rattle.mending.specs.Beside.{isPort, portLines}
 use Rattle.mending.specs.Following.{followed}
 use Rattle.mending.specs.Laws.Lines.{Came, Fits, Read, came, fits-followed, fits-next, followedLeft, left-other, next-count, out-frame, out-other, outOf, readOf}
 use Rattle.mending.specs.Laws.Lines.{Read as R}
-use Rattle.mending.specs.Lines.{Fate, Line, countBy, countsOf, fateBy, fateTo, judged, leftBy, mendedLines, outBy, recordOf}
+use Rattle.mending.specs.Laws.Opened.{mended-lines}
+use Rattle.mending.specs.Lines.{Line, countBy, countsOf, fateBy, fateTo, judged, leftBy, linesWith, mendedLines, outBy, recordOf}
+use Rattle.mending.specs.Mending.{Opened, mendedOf}
 use Rattle.recording.specs.declared.record.Record.{Record}
 use Rattle.recording.specs.declared.record.Record.the-variants.{Frame, Malformed, Long, Unfinished, End}
 use Rattle.recording.specs.Laws.Here.{isFrame}
@@ -87,3 +89,9 @@ pub own-lines : (ports size port : ℕ) (ls : List Line)
 unfolding judged
 own-lines ports size port ls =
     own-out ports size port ls (followedLeft ports size ls) (followedLeft ports size (portLines ports size port ls)) (fits-followed ports size ls) (ap followed (own-counts ports size port ls))
+
+-- the same of the lines behind the first of a recording that is answered 0
+pub own-lines-out : (t : List ℕ) (o : Opened t) (port : ℕ) → portLines (o .settings .ports) (o .settings .size) port (drop 1 (linesWith (mendedOf t)))
+    ≡ mendedLines (o .settings .size) (judged (o .settings .ports) (o .settings .size) (portLines (o .settings .ports) (o .settings .size) port (o .rest)))
+unfolding judged
+own-lines-out t o port = rw (mended-lines t o) (own-lines (o .settings .ports) (o .settings .size) port (o .rest))

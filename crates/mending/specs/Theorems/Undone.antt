@@ -1,28 +1,26 @@
 -- From the mended recording and the notes the torn one is told again.
-use mathlib.Core.Path.{_≡_, refl, sym, ap, ap₂, _∙_}
+use mathlib.Core.Path.{_≡_, refl, sym, ap, _∙_}
 use mathlib.Core.Bool.{Bool, true, false, cond, _||_}
 use mathlib.Core.List.{List, [], _∷_, _++_, append-assoc}
-use mathlib.Core.Logic.{_⊎_, inl, inr, _≢_}
-use Prim.Native.Nat.{ℕ, zero, suc, _+_, _-_, _*_, _/_, _%_, _^_, _≤_, _<_}
+use mathlib.Core.Logic.{_⊎_, inl, inr}
+use Prim.Native.Nat.{ℕ, zero, suc, _+_, _-_, _/_, _%_, _^_, _≤_, _<_}
 use native.Mathlib.Omega.{arith}
 use lib.Dec.{eqb, ltb}
 use lib.ListN.{drop, getD, length, set, take, length-set}
-use lib.Seq.{getD-set-other, set-comm, set-getD, set-set, sets}
-use borrow.Author.Tests.{eqb-false, eqb-true, lt-ltb}
-use Rattle.ground.specs.Finite.{below, below-at, sameBytes}
+use lib.Seq.{getD-set-other, set-getD, set-set}
+use Rattle.ground.specs.Finite.{below, below-at}
 use Rattle.mending.specs.Laws.Automaton.{nothing}
 use Rattle.mending.specs.Laws.Digits.{NoTab, capital-digit, digit-count, digit-no-end, digit-no-tab, digit-some, digit-within, digits-no-tab, high-digit}
 use Rattle.mending.specs.Laws.Lines.{Fits, Read, fate-other, fits-followed, fits-next, followedLeft, next-count, readOf}
 use Rattle.mending.specs.Laws.Lines.{Read as R}
-use Rattle.mending.specs.Laws.Opened.{Opened, lines-ended, mended-is, mended-lines, notes-are, portsIn, sizeIn}
+use Rattle.mending.specs.Laws.Opened.{lines-ended, mended-lines, notes-are, portsIn, sizeIn}
 use Rattle.mending.specs.Laws.Texts.{Ended, Stands, lines-le, text-with}
-use Rattle.mending.specs.Lines.{Fate, Judged, Line, capital, digitIn, digitPlace, fateBy, fateTo, judged, judgedBy, leftBy, lineText, linesWith, mendedLines, outBy, recordOf, textOf, withDigit}
+use Rattle.mending.specs.Lines.{Fate, Judged, Line, capital, digitIn, digitPlace, fateBy, judged, judgedBy, leftBy, lineText, linesWith, mendedLines, outBy, recordOf, textOf, withDigit}
 use Rattle.mending.specs.Lines.{Fate as F}
-use Rattle.mending.specs.Mending.{h4With, mendedOf, noteBy, noteText, notesFrom, notesOf, openingOf}
+use Rattle.mending.specs.Mending.{Opened, h4With, mendedOf, noteText, notesFrom, notesOf, openingOf}
 use Rattle.mending.specs.Undone.{Note, before, beforeLast, behind, hasTab, noteOf, notesRead, owed, owedBy, sizeBy, toldAgain, againFrom, withOld}
-use Rattle.recording.specs.declared.record.Record.{Record}
 use Rattle.text.specs.Ascii.{ascii}
-use Rattle.text.specs.Fields.{areDigits, digitOf, valueOf}
+use Rattle.text.specs.Fields.{areDigits, digitOf}
 use Rattle.text.specs.Laws.Decimal.{number-value}
 use Rattle.text.specs.Laws.Lines.{Free, free-append, free-line}
 use Rattle.text.specs.Output.{digitsBefore, numberText}
