@@ -9,6 +9,7 @@ pub mod FixedRuns
 pub mod Hosts
 pub mod Joining
 pub mod Opened
+pub mod MendedReplays
 pub mod Orders
 pub mod OtherNumbers
 pub mod OwnCount

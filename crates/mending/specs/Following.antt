@@ -1,0 +1,39 @@
+-- The H4 count of one port followed (2026-11), on the counts of its lines one behind the other.
+use mathlib.Core.Bool.{Bool, false, cond, _||_}
+use mathlib.Core.List.{List, [], _∷_}
+use Prim.Native.Nat.{ℕ, zero, suc, _+_, _-_, _%_, _<_}
+use lib.Dec.{eqb}
+
+-- a count is one hex digit
+abbrev pub Counts : List ℕ → Type 0
+Counts [] = Unit {0}
+Counts (c ∷ cs) = (c < 16) × Counts cs
+
+-- 'the last good one plus the lines of that port since, modulo 16'
+abbrev pub countDue : ℕ → ℕ → ℕ
+countDue last since = (last + since) % 16
+
+-- 'A line is good when its count is' that
+abbrev pub isGood : ℕ → ℕ → ℕ → Bool
+isGood last since count = eqb count (countDue last since)
+
+-- whether one of the next n lines is good, the first of which is so many lines since the last good one
+abbrev pub goodAmong : ℕ → ℕ → ℕ → List ℕ → Bool
+goodAmong zero last since counts = false
+goodAmong (suc n) last since [] = false
+goodAmong (suc n) last since (c ∷ cs) = isGood last since c || goodAmong n last (suc since) cs
+
+-- Lines of which the first is so many lines since the last good one; all between are broken.
+-- 'One to three broken lines followed by a good one get their counts restored': this is the broken one of number `since`, so that a good one is
+-- among the next 4 - since. 'After four broken lines in a row, or at the end of the recording, nothing is restored and the following starts afresh
+-- at the first broken line, now taken as good': where no good one follows, this is the first.
+abbrev pub followedFrom : ℕ → ℕ → List ℕ → List ℕ
+followedFrom last since [] = []
+followedFrom last since (c ∷ cs) =
+    cond (isGood last since c) (c ∷ followedFrom c 1 cs)
+    (cond (goodAmong (4 - since) last (suc since) cs) (countDue last since ∷ followedFrom last (suc since) cs) (c ∷ followedFrom c 1 cs))
+
+-- 'follows the H4 count of each port from its first line'
+unfoldable pub followed : List ℕ → List ℕ
+followed [] = []
+followed (c ∷ cs) = c ∷ followedFrom c 1 cs

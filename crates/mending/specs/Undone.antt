@@ -1,0 +1,85 @@
+-- The torn recording told again from the mended one and its notes (2026-11).
+use mathlib.Core.Bool.{Bool, false, cond, _||_}
+use mathlib.Core.List.{List, [], _∷_, _++_}
+use Prim.Native.Nat.{ℕ, suc, _-_}
+use lib.Dec.{eqb}
+use lib.ListN.{drop, getD, take}
+use lib.Seq.{sets}
+use Rattle.ground.specs.Finite.{sameBytes}
+use Rattle.mending.specs.Lines.{Fate, Judged, Line, digitPlace, lineText, linesWith, textOf}
+use Rattle.mending.specs.Lines.{Fate as F}
+use Rattle.mending.specs.Mending.{openingOf}
+use Rattle.recording.specs.Opening.{Opening}
+use Rattle.recording.specs.Opening.{Opening as O}
+use Rattle.text.specs.Ascii.{ascii}
+use Rattle.text.specs.Fields.{valueOf}
+use Rattle.text.specs.Text.{LINE-END, TAB, linesOf}
+
+-- up to the first tab, and behind it
+abbrev pub before : List ℕ → List ℕ
+before [] = []
+before (b ∷ l) = cond (eqb b TAB) [] (b ∷ before l)
+
+abbrev pub behind : List ℕ → List ℕ
+behind [] = []
+behind (b ∷ l) = cond (eqb b TAB) l (behind l)
+
+abbrev pub hasTab : List ℕ → Bool
+hasTab [] = false
+hasTab (b ∷ l) = eqb b TAB || hasTab l
+
+-- up to the last tab
+abbrev pub beforeLast : List ℕ → List ℕ
+beforeLast [] = []
+beforeLast (b ∷ l) = cond (hasTab l) (b ∷ beforeLast l) []
+
+-- a note: its number, its field, and as old text what stands between the second tab and the last
+pub record Note : Type 0 where
+  pub number : ℕ
+  pub field : List ℕ
+  pub old : List ℕ
+
+unfoldable pub noteOf : List ℕ → Note
+noteOf line = record { number = valueOf 10 0 (before line); field = before (behind line); old = beforeLast (behind (behind line)) }
+
+abbrev pub notesRead : List (List ℕ) → List Note
+notesRead [] = []
+notesRead (l ∷ ls) = noteOf l ∷ notesRead ls
+
+abbrev noLine : Line
+noLine = record { bytes = []; end = [] }
+
+module _ (size : ℕ) where
+  -- a line with its old H4
+  abbrev pub withOld : Line → List ℕ → Line
+  withOld l old = record { bytes = sets (l .bytes) (digitPlace size l - 1) old; end = l .end }
+
+  -- lines numbered from n: as many as stand before the next note's number, then the line that was dropped, or the one that was altered
+  abbrev pub againFrom : ℕ → List Note → List Line → List ℕ
+  againFrom n [] ls = textOf ls
+  againFrom n (note ∷ notes) ls =
+      textOf (take (note .number - n) ls)
+      ++ cond (sameBytes (note .field) (ascii "line")) (note .old ++ (LINE-END ∷ againFrom (suc (note .number)) notes (drop (note .number - n) ls)))
+      (lineText (withOld (getD ls (note .number - n) noLine) (note .old)) ++ againFrom (suc (note .number)) notes (drop (suc (note .number - n)) ls))
+
+abbrev pub sizeBy : Opening → ℕ
+sizeBy (O.Settings s next) = s .size
+sizeBy O.Malformed = 0
+sizeBy O.Unfinished = 0
+sizeBy O.End = 0
+
+-- by the mended recording and the notes alone
+unfoldable pub toldAgain : List ℕ → List ℕ → List ℕ
+toldAgain mended notes = againFrom (sizeBy (openingOf (linesWith mended))) 1 (notesRead (linesOf notes)) (linesWith mended)
+
+-- What is not told: whether a dropped last line had its end. It gets one.
+abbrev pub owedBy : Fate → List ℕ → List ℕ
+owedBy F.Kept end = []
+owedBy (F.Restored old new) end = []
+owedBy F.Dropped [] = LINE-END ∷ []
+owedBy F.Dropped (b ∷ end) = []
+
+abbrev pub owed : List Judged → List ℕ
+owed [] = []
+owed (j ∷ []) = owedBy (j .fate) (j .line .end)
+owed (j ∷ k ∷ js) = owed (k ∷ js)
