@@ -1,8 +1,20 @@
 -- Laws on the definitions, for the theorems and the proofs above them.
 pub mod Automaton
+pub mod Beside
+pub mod Copies
+pub mod Counting
 pub mod Counts
 pub mod Digits
 pub mod Layout
+pub mod Lengths
 pub mod Lines
+pub mod Noting
 pub mod Opened
+pub mod Passed
+pub mod Passes
+pub mod Reads
+pub mod Restored
+pub mod Seen
+pub mod Starts
 pub mod Texts
+pub mod Whole

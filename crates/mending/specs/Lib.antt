@@ -6,5 +6,6 @@ pub mod Laws
 pub mod Lines
 pub mod Mending
 pub mod Theorems
+pub mod Told
 pub mod Undone
 mod Wrong

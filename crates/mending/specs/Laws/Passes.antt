@@ -1,0 +1,162 @@
+-- What the code does, line by line on lists: a pass that copies the lines of frames and restores counts at their places in what is written already, one that
+-- counts how much would come out, and one that walks the recording and the mended one side by side and writes the notes.
+use mathlib.Core.Bool.{Bool, cond}
+use mathlib.Core.List.{List, [], _∷_, _++_}
+use Prim.Native.Nat.{ℕ, zero, suc, _+_, _%_}
+use lib.Dec.{eqb}
+use lib.ListN.{getD, length, set}
+use Rattle.mending.specs.declared.follow.Follow.{Follow}
+use Rattle.mending.specs.declared.follow.Keys.{Keys}
+use Rattle.mending.specs.Follow.{beginning, countBack, fed, restoresFirst, restoresLast, restoresSecond, restoresThird}
+use Rattle.mending.specs.Lines.{Line, capital, digitIn, digitPlace, lineText, recordOf}
+use Rattle.mending.specs.Mending.{h4With, noteText}
+use Rattle.recording.specs.declared.record.Record.{Record}
+use Rattle.recording.specs.declared.record.Record.the-variants.{Frame, Malformed, Long, Unfinished, End}
+use Rattle.text.specs.Ascii.{ascii}
+
+-- what is remembered of a port's last three lines: the places of their digits, or their numbers
+abbrev pub noKeys : Keys
+noKeys = record { first = 0; second = 0; third = 0 }
+
+abbrev pub withKey : Keys → ℕ → Keys
+withKey k key = record { first = k .second; second = k .third; third = key }
+
+-- what a port has, where one of them gets another
+abbrev pub given {ℓ} : {A : Type ℓ} → (ℕ → A) → ℕ → A → ℕ → A
+given f p x q = cond (eqb p q) x (f q)
+
+-- a byte set at its place, if it is to be
+abbrev pub setIf : Bool → ℕ → ℕ → List ℕ → List ℕ
+setIf b place byte text = cond b (set text place byte) text
+
+-- the counts that a port's next line lets be restored, at the places of their digits
+unfoldable pub restoredIn : Follow → Follow → Keys → List ℕ → List ℕ
+restoredIn f g k text =
+    setIf (restoresThird f g) (k .third) (capital (countBack f (g .v) 1))
+    (setIf (restoresSecond f g) (k .second) (capital (countBack f (g .v) 2)) (setIf (restoresFirst f g) (k .first) (capital (countBack f (g .v) 3)) text))
+
+-- The first pass.
+
+pub record Pass : Type 0 where
+  pub follows : ℕ → Follow
+  pub keys : ℕ → Keys
+  pub written : List ℕ
+
+abbrev pub passStart : List ℕ → Pass
+passStart first = record { follows = λ p. beginning; keys = λ p. noKeys; written = first }
+
+module _ (size : ℕ) where
+  abbrev pub passFrame : Pass → Line → ℕ → ℕ → Pass
+  passFrame s l p count =
+      record {
+        follows = given (s .follows) p (fed (s .follows p) count);
+        keys = given (s .keys) p (withKey (s .keys p) (length (s .written) + digitPlace size l));
+        written = restoredIn (s .follows p) (fed (s .follows p) count) (s .keys p) (s .written) ++ lineText l;
+      }
+
+  abbrev pub passBy : Pass → Line → Record → Pass
+  passBy s l (Frame p h4 flag place next) = passFrame s l p (h4 % 16)
+  passBy s l (Malformed next) = s
+  passBy s l Long = s
+  passBy s l Unfinished = s
+  passBy s l End = s
+
+module _ (ports size : ℕ) where
+  abbrev pub passed : Pass → List Line → Pass
+  passed s [] = s
+  passed s (l ∷ ls) = passed (passBy size s l (recordOf ports size l)) ls
+
+-- at the end, for the ports below n
+abbrev pub passEnd : ℕ → Pass → List ℕ
+passEnd zero s = s .written
+passEnd (suc n) s =
+    let written = passEnd n s in
+    setIf (restoresLast (s .follows n)) (s .keys n .second) (capital (countBack (s .follows n) (s .follows n .first) 2)) written
+
+-- How much would come out.
+
+pub record Count : Type 0 where
+  pub follows : ℕ → Follow
+  pub keys : ℕ → Keys
+  pub number : ℕ
+
+abbrev pub countStart : Count
+countStart = record { follows = λ p. beginning; keys = λ p. noKeys; number = 2 }
+
+-- the note of a restored line of this number, and of a dropped one of so many bytes, in bytes
+unfoldable pub restoredLength : Bool → ℕ → ℕ
+restoredLength b n = cond b (length (noteText n (ascii "H4") (0 ∷ 0 ∷ []) (0 ∷ 0 ∷ []))) 0
+
+unfoldable pub droppedLength : ℕ → ℕ → ℕ
+droppedLength n bytes = length (noteText n (ascii "line") [] []) + bytes
+
+unfoldable pub restoredLengths : Follow → Follow → Keys → ℕ
+restoredLengths f g k =
+    restoredLength (restoresFirst f g) (k .first) + restoredLength (restoresSecond f g) (k .second) + restoredLength (restoresThird f g) (k .third)
+
+abbrev pub countFrame : Count → ℕ → ℕ → Count
+countFrame s p count =
+    record { follows = given (s .follows) p (fed (s .follows p) count); keys = given (s .keys) p (withKey (s .keys p) (s .number)); number = suc (s .number) }
+
+abbrev pub countDropped : Count → Count
+countDropped s = record { follows = s .follows; keys = s .keys; number = suc (s .number) }
+
+abbrev pub countBy : Count → Record → Count
+countBy s (Frame p h4 flag place next) = countFrame s p (h4 % 16)
+countBy s (Malformed next) = countDropped s
+countBy s Long = countDropped s
+countBy s Unfinished = countDropped s
+countBy s End = countDropped s
+
+-- the bytes of notes that a line brings: of lines before it that are restored now, or its own
+abbrev pub lengthBy : Count → Line → Record → ℕ
+lengthBy s l (Frame p h4 flag place next) = restoredLengths (s .follows p) (fed (s .follows p) (h4 % 16)) (s .keys p)
+lengthBy s l (Malformed next) = droppedLength (s .number) (length (l .bytes))
+lengthBy s l Long = droppedLength (s .number) (length (l .bytes))
+lengthBy s l Unfinished = droppedLength (s .number) (length (l .bytes))
+lengthBy s l End = droppedLength (s .number) (length (l .bytes))
+
+-- at the end, for the ports below n
+abbrev pub lengthEnd : ℕ → Count → ℕ
+lengthEnd zero s = 0
+lengthEnd (suc n) s = let notes = lengthEnd n s in notes + restoredLength (restoresLast (s .follows n)) (s .keys n .second)
+
+abbrev pub keptBy : Line → Record → ℕ
+keptBy l (Frame p h4 flag place next) = length (lineText l)
+keptBy l (Malformed next) = 0
+keptBy l Long = 0
+keptBy l Unfinished = 0
+keptBy l End = 0
+
+module _ (ports size : ℕ) where
+  abbrev pub keptLength : List Line → ℕ
+  keptLength [] = 0
+  keptLength (l ∷ ls) = keptBy l (recordOf ports size l) + keptLength ls
+
+  abbrev pub notesLength : Count → List Line → ℕ
+  notesLength s [] = lengthEnd 64 s
+  notesLength s (l ∷ ls) = lengthBy s l (recordOf ports size l) + notesLength (countBy s (recordOf ports size l)) ls
+
+-- The notes, beside the mended recording, in which the next line lies from `to` on.
+
+module _ (ports size : ℕ) (mended : List ℕ) where
+  abbrev pub noteFrame : ℕ → Line → ℕ → List ℕ
+  noteFrame n l new = cond (eqb (digitIn size l) new) [] (noteText n (ascii "H4") (h4With size l (digitIn size l)) (h4With size l new))
+
+  abbrev pub noteBeside : ℕ → ℕ → Line → Record → List ℕ
+  noteBeside n to l (Frame p h4 flag place next) = noteFrame n l (getD mended (to + digitPlace size l) 0)
+  noteBeside n to l (Malformed next) = noteText n (ascii "line") (l .bytes) []
+  noteBeside n to l Long = noteText n (ascii "line") (l .bytes) []
+  noteBeside n to l Unfinished = noteText n (ascii "line") (l .bytes) []
+  noteBeside n to l End = noteText n (ascii "line") (l .bytes) []
+
+  abbrev pub toBeside : ℕ → Line → Record → ℕ
+  toBeside to l (Frame p h4 flag place next) = to + length (lineText l)
+  toBeside to l (Malformed next) = to
+  toBeside to l Long = to
+  toBeside to l Unfinished = to
+  toBeside to l End = to
+
+  abbrev pub notesBeside : ℕ → ℕ → List Line → List ℕ
+  notesBeside n to [] = []
+  notesBeside n to (l ∷ ls) = noteBeside n to l (recordOf ports size l) ++ notesBeside (suc n) (toBeside to l (recordOf ports size l)) ls
