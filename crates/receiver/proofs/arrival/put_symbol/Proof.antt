@@ -23,8 +23,8 @@ same-length c = search needs
 
 returns : tie.Need-returns
 returns c =
-    symbol-put _ _ _ _ _ _ _ _ _ _ (c .before .before .before .before .before .place-of .ensures) (c .before .before .before .before .entry-at .ensures)
-    (c .before .before .before .entry .ensures) (c .before .before .entry-with .ensures) (c .before .put-entry .ensures)
+    symbol-put _ _ _ _ _ _ _ _ _ _ (c .before .before .before .before .before .before .before .place-of .ensures) (c .before .before .before .before .before .before .entry-at .ensures)
+    (c .before .before .before .before .entry .ensures) (c .before .before .before .entry-with .ensures) (c .before .put-entry .ensures)
 
 pub put-symbol-spec : {M : Type 1} → statement M
 put-symbol-spec =
