@@ -68,7 +68,7 @@ module _ (h : History) (a : Allowed h) (i slot : ℕ) (b : slot < h .slots) wher
     sent-as =
         bytes-are (senderAt h i) slot h4 below room (sender-in h a i .begun) ∙ ap (λ (kind : ℕ). sentBytes kind (fieldsSent h i slot) h4) (sender-in h a i .kind)
 
-  blank-long : length (replicate (frames (h .kind)) 0) ≡ frames (h .kind)
+  blank-long : length {A = ℕ} (replicate (frames (h .kind)) 0) ≡ frames (h .kind)
   blank-long = length-replicate (frames (h .kind)) 0
 
   pub packet-wrote : sentAnswer (h .kind) (fieldsSent h i slot) (replicate (frames (h .kind)) 0) ≡ W.Done
