@@ -38,7 +38,8 @@ use Rattle.judge.specs.Order.{rankOf as rankOf-judge-Order}
 use Rattle.judge.specs.Verdict.{doubtfulBy, eosAlone, eosWrong, exact, fixedExact, fixedHeld, fixedVerdict, gidDiffers, heldBy, judgeOf, lcasVerdict, missing, repeats, takes}
 use Rattle.judge.specs.Verdict.{highest as highest-judge-Verdict}
 use Rattle.orders.specs.Orders.{outcomeBy}
-use Rattle.packet.specs.Counts.{carriesLow, counts, nibbleIn, nibblePlace, startsCount, tagByHigh, tagByLow}
+use Rattle.packet.specs.Changes.{bringsMfi2, changed, keptPart, mostChanges}
+use Rattle.packet.specs.Counts.{carriesLow, counts, startsCount, tagByHigh, tagByLow}
 use Rattle.packet.specs.Crc.{crcOf, divisor, nibbleBits}
 use Rattle.packet.specs.Fixed.{fixedNibbles, fixedRulingOf, readFixedAnswer, readFixedNibbles, writeFixedAnswer, writeFixedBytes}
 use Rattle.packet.specs.Kinds.{distanceOf, endsEpoch, epochAfter, epochOf, epochs, epochsIn, firstTag, frames, idleNumber, lead, mstFails, mstFirst, mstNumbers, placeOf, startsEpoch, tagAfter, tagBefore, tags}
@@ -47,6 +48,7 @@ use Rattle.packet.specs.Layout.{fieldsOf as fieldsOf-packet-Layout}
 use Rattle.packet.specs.Reading.{readAnswer, readNibbles}
 use Rattle.packet.specs.Ruling.{rulingOf}
 use Rattle.packet.specs.Shares.{joinedTo, shareOf}
+use Rattle.packet.specs.Symbols.{entryAt, entryFrom, entryWith, rowFrom, symbolAt, symbolIn, symbolOf, withSymbol}
 use Rattle.packet.specs.Words.{assigned}
 use Rattle.packet.specs.Writing.{fitting, writeAnswer, writeBytes}
 use Rattle.paths.specs.Answers.{answerOf, areShort}
@@ -85,7 +87,7 @@ use Rattle.reply.specs.Telling.{ackOf, mstFrom, mstOf, okHolds, turns}
 use Rattle.reply.specs.Waiting.{chosenOf, keptNumbers, moreKept, rounds, someJoin, standingBy, standingsOf}
 use Rattle.rows.specs.Group.{groupAt, groupOf, groupRow, putGroup}
 use Rattle.rows.specs.Member.{memberAt, memberOf, memberRow, putMember}
-use Rattle.rows.specs.Packets.{marksAt, packetsAt, putMarks, putPackets, withNibble}
+use Rattle.rows.specs.Packets.{marksAt, packetsAt, putMarks, putPackets, entryIn, withEntry}
 use Rattle.rows.specs.Rows.{putRow, rowIn}
 use Rattle.rows.specs.Step.{putStep, stepAt, stepOf, stepRow, withNext}
 use Rattle.sender.specs.Board.{boardOf, noRow, rowOf, rowsOf}
@@ -133,7 +135,7 @@ unfolding indexAfter indexOf boardByte boardBytesOf rankByte ranksBytesOf shownA
     waitText outputOf-console-Replies replyOf-console-Replies sizeReply endedRun fedOnce hostOutput leftOf wholeOutput beginning fedSession fedText
     feedBytes feedOf finishBytes finishOf lastSession lastText usedOf after activeIn orderOf portOf rankOf-judge-Order doubtfulBy eosAlone eosWrong
     exact fixedExact fixedHeld fixedVerdict gidDiffers heldBy highest-judge-Verdict judgeOf lcasVerdict missing repeats takes outcomeBy carriesLow
-    counts nibbleIn nibblePlace startsCount tagByHigh tagByLow crcOf divisor nibbleBits fixedNibbles fixedRulingOf readFixedAnswer readFixedNibbles
+    counts bringsMfi2 changed keptPart mostChanges entryAt entryFrom entryWith rowFrom symbolAt symbolIn symbolOf withSymbol startsCount tagByHigh tagByLow crcOf divisor nibbleBits fixedNibbles fixedRulingOf readFixedAnswer readFixedNibbles
     writeFixedAnswer writeFixedBytes distanceOf endsEpoch epochAfter epochOf epochs epochsIn firstTag frames idleNumber lead mstFails mstFirst
     mstNumbers placeOf startsEpoch tagAfter tagBefore tags carriedIn dataOf fieldsOf-packet-Layout h4Of highsOf nibblesOf sealedOf readAnswer
     readNibbles rulingOf joinedTo shareOf assigned fitting writeAnswer writeBytes answerOf areShort accepts agree agreesWith checkedOf candidateAt
@@ -150,7 +152,7 @@ unfolding indexAfter indexOf boardByte boardBytesOf rankByte ranksBytesOf shownA
     openWithRows openWithSaid openWithTurn payloadAt readOnTurn readSaid readTurn recordNow reportOf-replaying-Turn reportTurn reportedTurn skipTurn
     startable startedRows timesFit turnOf-replaying-Turn turnOut turnRows turnSaid turnStore claims grant granted holders ackOf mstFrom mstOf okHolds
     turns chosenOf keptNumbers moreKept rounds someJoin standingBy standingsOf groupAt groupOf groupRow putGroup memberAt memberOf memberRow putMember
-    marksAt packetsAt putMarks putPackets withNibble putRow rowIn putStep stepAt stepOf stepRow withNext boardOf highest-sender-Board noRow rowOf
+    marksAt packetsAt putMarks putPackets entryIn withEntry putRow rowIn putStep stepAt stepOf stepRow withNext boardOf highest-sender-Board noRow rowOf
     rowsOf addOf addedTo fallen fallenIn freshOf idleSlot lapseOf removeOf removedFrom startOf-sender-Commands beginOf freshSender
     packetAnswer-sender-Epochs packetBytes-sender-Epochs packetFields payloadAnswer-sender-Epochs payloadBytes-sender-Epochs ranksOf-sender-Epochs
     startEpochOf startedEpoch startedSender carriersIn rankAt rankOf-sender-Ranks ranksIn actedOn comesBefore mstApplied numberAfter numberApplied

@@ -5,27 +5,26 @@ use mathlib.Core.List.{List, [], _∷_, _++_}
 use Prim.Native.Nat.{ℕ, zero, suc, _<_}
 use native.Mathlib.Omega.{arith}
 use lib.ListN.{length, length-replicate, replicate}
-use borrow.Author.Tests.{eq-eqb, lt-ltb}
+use borrow.Author.Tests.{lt-ltb}
 use Rattle.c_face.specs.Keeping.{senderOf}
 use Rattle.c_face.specs.Senders.{packetBytesC, payloadBytesC, startAnswerC, startStateC}
 use Rattle.c_face.specs.Theorems.CratesOwn.{packet-own, payload-own}
 use Rattle.c_face.specs.Theorems.Runs.{fits, meant, runC, runs-own, runs-sized}
-use Rattle.ground.specs.Plain.{if_then_else_, _==_, _<?_}
+use Rattle.ground.specs.Plain.{if_then_else_, _<?_}
 use Rattle.ground.specs.Truth.{and-true}
-use Rattle.link.specs.History.{Allowed, Handed, History, fieldsSent, packetSent, payloadSent, senderAt}
+use Rattle.link.specs.History.{Allowed, Handed, History, packetSent, payloadSent, senderAt}
 use Rattle.link.specs.Sending.{Client, epochAt}
-use Rattle.link.specs.Proofs.Histories.Packets.{fields-fit, packet-is}
+use Rattle.link.specs.Proofs.Histories.Packets.{packet-any}
 use Rattle.link.specs.Proofs.Histories.Ruling.{x-le}
 use Rattle.link.specs.Proofs.Histories.Senders.{callsTo, sender-in, sender-run, size-at}
 use Rattle.packet.specs.Kinds.{frames}
-use Rattle.packet.specs.Layout.{h4Of, nibblesOf}
-use Rattle.packet.specs.Writing.{fitting, writeBytes}
+use Rattle.packet.specs.Laws.Epochs.{h4-frames}
 use Rattle.payload.specs.Laws.Fits.{Sizes, spread-one-done}
 use Rattle.payload.specs.Order.{memberFrame}
 use Rattle.payload.specs.Spreading.{spreadOne}
 use Rattle.sender.specs.declared.epochs.Sender.{Sender}
 use Rattle.sender.specs.Calls.{Call}
-use Rattle.sender.specs.Epochs.{SenderCall, beginOf, packetBytes, packetFields, payloadBytes, rankIn, senderOutcomeOf, senderRun, xOf}
+use Rattle.sender.specs.Epochs.{SenderCall, beginOf, packetBytes, payloadBytes, rankIn, senderOutcomeOf, senderRun, xOf}
 use Rattle.sender.specs.Epochs.SenderCall.{OnTable, StartEpoch}
 use Rattle.sender.specs.Table.{sizeOf}
 use Rattle.sender.specs.Theorems.Epochs.{fixed, onTable, senderAfter}
@@ -56,10 +55,7 @@ run-append : (s : Sender) (a b : List SenderCall) → senderRun s (a ++ b) ≡ s
 run-append s [] b = refl
 run-append s (c ∷ a) b = run-append (senderOutcomeOf s c .sender) a b
 
--- what the two definitions of bytes sent pick where nothing is refused
-picks-packet : (b l g w f : Bool) (new old : List ℕ) → b ≡ true → l ≡ true → g ≡ true → w ≡ true → f ≡ true → (if b && l && g then (if w then (if f then new else old) else old) else old) ≡ new
-picks-packet b l g w f new old eb el eg ew ef = rw (eb, el, eg, ew, ef) refl
-
+-- what a payload call picks where nothing is refused
 picks-payload : (b g : Bool) (new old : List ℕ) → b ≡ true → g ≡ true → (if b && g then new else old) ≡ new
 picks-payload b g new old eb eg = rw (eb, eg) refl
 
@@ -95,12 +91,8 @@ module _ (h : History) (a : Allowed h) (kind : h .kind ≡ 0) (bytes : (i : ℕ)
   sized : (i : ℕ) (after : List Call) → length (stateC i after) ≡ 397
   sized i after = runs-sized (h .slots) (h .first) state (callsTo h i ++ onTable after) done
 
-  packet-written : (i slot : ℕ) → slot < h .slots → (h4 : List ℕ) → length h4 ≡ 16 → packetBytes (senderAt h i) slot h4 ≡ h4Of (nibblesOf (fieldsSent h i slot))
-  unfolding packetBytes writeBytes frames
-  packet-written i slot b h4 l =
-      picks-packet (slot <? sizeOf (senderAt h i .table .count)) (length h4 == frames (senderAt h i .table .kind)) (senderAt h i .begun) (length h4 == 16)
-      (fitting (packetFields (senderAt h i) slot)) (h4Of (nibblesOf (packetFields (senderAt h i) slot))) h4 (lt-ltb slot (sizeOf (senderAt h i .table .count)) (rw (size-at h a i) b))
-      (eq-eqb (length h4) 16 l) (sender-in h a i .begun) (eq-eqb (length h4) 16 l) (fields-fit h a i slot b)
+  packet-written : (i slot : ℕ) → slot < h .slots → (h4 : List ℕ) → length h4 ≡ 16 → packetBytes (senderAt h i) slot h4 ≡ packetSent h i slot
+  packet-written i slot b h4 l = packet-any h a i slot b h4 (l ∙ sym (ap frames kind ∙ h4-frames))
 
   -- levelspruce_sender_packet writes what the history sends
   pub packet-same : (i slot : ℕ) (after : List Call) → Bytes after → slot < h .slots → (h4 : List ℕ) → length h4 ≡ 16 → packetBytesC (stateC i after) slot h4 ≡ packetSent h i slot
@@ -109,7 +101,6 @@ module _ (h : History) (a : Allowed h) (kind : h .kind ≡ 0) (bytes : (i : ℕ)
       ∙ ap (λ (s : Sender). packetBytes s slot h4) (sender-is i after f)
       ∙ fixed (senderAt h i) after .bytes slot h4
       ∙ packet-written i slot b h4 l
-      ∙ sym (packet-is h a i slot b)
 
   module _ (P : ℕ) (client : Client) (c : Handed h P client) where
     sizes : (x : ℕ) → Sizes (xOf (senderAt h (epochAt (h .kind) x))) P

@@ -1,13 +1,12 @@
--- The packet being gathered (request 2026-04): which frames its nibbles came with.
+-- The packet being gathered (request 2026-04): which frames its symbols came with.
 use mathlib.Core.Path.{_≡_}
 use mathlib.Core.Bool.{Bool, true, not, _&&_}
 use mathlib.Core.List.{List, [], _∷_}
 use Prim.Native.Nat.{ℕ, zero, suc, _-_, _≤_, _<_}
-use lib.ListN.{getD, length, set}
+use lib.ListN.{getD, length}
 use Rattle.ground.specs.Plain.{if_then_else_, _==_}
-use Rattle.ground.specs.Table.{tabulate}
-use Rattle.packet.specs.Counts.{nibbleIn}
 use Rattle.packet.specs.Kinds.{frames, placeOf, startsEpoch, tagBefore}
+use Rattle.packet.specs.Symbols.{rowFrom, symbolAt, symbolOf, withSymbol}
 use Rattle.receiver.specs.Frame.{frameAnswer}
 use Rattle.rows.specs.Port.{Port}
 use Rattle.step.specs.Run.{endsPacket, inStepAt}
@@ -33,15 +32,15 @@ abbrev pub tagBack : ℕ → ℕ → ℕ → ℕ
 tagBack kind next zero = tagBefore kind next
 tagBack kind next (suc d) = tagBefore kind (tagBack kind next d)
 
--- Of each of the last frames of the run, as many as an epoch has, its nibble stands at its own place.
+-- Of each of the last frames of the run, as many as an epoch has, its symbol stands at its own place.
 pub record LiveRow (kind count next : ℕ) (row heard : List ℕ) : Type 0 where
   pub long : length row ≡ 16
   pub known : count ≤ length heard
-  pub holds : (d : ℕ) → d < count → d < frames kind → placeOf kind (tagBack kind next d) < 16 → getD row (placeOf kind (tagBack kind next d)) 0 ≡ nibbleIn kind (getD heard d 0)
+  pub holds : (d : ℕ) → d < count → d < frames kind → symbolAt kind row (placeOf kind (tagBack kind next d)) ≡ symbolOf kind (getD heard d 0)
 
 -- the packet that came with the last frames, as many as an epoch has
 abbrev pub packetHeard : ℕ → List ℕ → List ℕ
-packetHeard kind heard = tabulate 16 (λ k. nibbleIn kind (getD heard (frames kind - 1 - k) 0))
+packetHeard kind heard = rowFrom kind (λ k. getD heard (frames kind - 1 - k) 0)
 
 -- What holds of a port's packet being gathered, of the frames that the port has heard.
 pub record Live (kind : ℕ) (p : Port) (heard : List ℕ) : Type 0 where
@@ -50,4 +49,4 @@ pub record Live (kind : ℕ) (p : Port) (heard : List ℕ) : Type 0 where
   pub came : inStepAt kind (p .step .count) ≡ true → startsEpoch kind (p .step .next) ≡ true → p .gathering ≡ packetHeard kind heard
   -- in step, as the last frame of an epoch comes: the packet that is looked at for another MFI2
   pub judged : inStepAt kind (p .step .count) ≡ true → endsPacket kind (p .step .next) ≡ true
-      → (h : ℕ) → set (p .gathering) (placeOf kind (p .step .next)) (nibbleIn kind h) ≡ packetHeard kind (h ∷ heard)
+      → (h : ℕ) → withSymbol kind (p .gathering) (placeOf kind (p .step .next)) h ≡ packetHeard kind (h ∷ heard)

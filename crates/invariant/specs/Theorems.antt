@@ -91,7 +91,7 @@ one-epoch = Rules.one-epoch
 pub own-number : (g : Group) (s : List (List ℕ)) (i : ℕ) → seenOf g s i .good ≡ true → fieldsOf (portAt s i .ruling) .epoch ≡ rulingEpoch g
 own-number = Numbered.own-number
 
--- The packet being gathered (request 2026-04): in every phase the nibbles of a run's last frames stand at their own places, and at own MFI1 7 of a port in step it is the packet that came.
+-- The packet being gathered (request 2026-04): in every phase the symbols of a run's last frames stand at their own places, and at own MFI1 7 of a port in step it is the packet that came.
 pub live-row : (kind count P W : ℕ) (hold restore : List ℕ) (rows : List (List ℕ)) (store : List ℕ) → startAsAnswer kind count P W (length store) hold restore (length rows) ≡ 0
     → (calls : List ReceiverCall) (j : ℕ) → j < count
     → Live kind (portAt (receiverRun (startedWith kind count P W hold restore rows store) calls .rows) j) (heardOf j (startedWith kind count P W hold restore rows store) calls [])

@@ -2,6 +2,7 @@
 use mathlib.Core.Path.{_≡_}
 use mathlib.Core.List.{List}
 use Prim.Native.Nat.{ℕ, _≤_, _<_}
+use Rattle.packet.specs.Changes.{mostChanges}
 use Rattle.packet.specs.Fixed.{fixedNibbles}
 use Rattle.packet.specs.Kinds.{epochs, fixedKind}
 use Rattle.packet.specs.Layout.{h4Of}
@@ -40,7 +41,7 @@ sendingFixed f P client =
       gid = λ i slot. 0;
       x = λ i. f .x;
       payload = λ x slot. memberFrame (f .x) P (client x) (f .number slot);
-      changes = 0;
+      changes = mostChanges fixedKind;
     }
 
 -- What demand 3 then lets be so.

@@ -5,6 +5,7 @@ use mathlib.Core.List.{List}
 use Prim.Native.Nat.{ℕ, zero, suc, _*_, _≤_, _<_}
 use lib.ListN.{length, replicate}
 use Rattle.ground.specs.Plain.{if_then_else_, _==_}
+use Rattle.packet.specs.Changes.{mostChanges}
 use Rattle.packet.specs.declared.layout.Fields.{Fields}
 use Rattle.packet.specs.Kinds.{epochs, fixedKind, frames}
 use Rattle.sender.specs.declared.epochs.Sender.{Sender}
@@ -89,5 +90,5 @@ sendingOf h P client unranked =
       gid = λ i slot. fieldsSent h i slot .gid;
       x = xAt h;
       payload = λ x slot. if hasRank h x slot then payloadSent h P client x slot else unranked x slot;
-      changes = 3;
+      changes = mostChanges (h .kind);
     }

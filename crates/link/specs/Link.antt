@@ -9,9 +9,9 @@ use Rattle.counting.specs.Words.{every}
 pub use Rattle.ground.specs.Finite.{sameBytes}
 use Rattle.ground.specs.Plain.{if_then_else_}
 use Rattle.judge.specs.Verdict.{HELD, SURE}
-use Rattle.packet.specs.Counts.{nibbleIn, nibblePlace}
-use Rattle.packet.specs.Kinds.{firstTag, frames, lead}
-use Rattle.packet.specs.Theorems.Damage.{changed}
+use Rattle.packet.specs.Changes.{bringsMfi2, changed, keptPart}
+use Rattle.packet.specs.Kinds.{firstTag, frames}
+use Rattle.packet.specs.Symbols.{symbolOf}
 use Rattle.phases.specs.Sizes.{sized}
 use Rattle.link.specs.Moments.{Unready}
 use Rattle.link.specs.Road.{Below, Road, times}
@@ -55,10 +55,10 @@ sentTo k i p = k .sending .packet i (k .pairing p)
 pub record Damaged (kind changes : ℕ) (sent came : List ℕ) : Type 0 where
   pub long : length came ≡ frames kind
   pub bytes : (k : ℕ) → k < frames kind → getD came k 0 < 256
-  pub least : 1 ≤ changed sent came
-  pub most : changed sent came ≤ changes
-  -- MFI1 of each frame, which tells its place
-  pub placed : (k : ℕ) → k < frames kind → nibblePlace kind (getD came k 0) ≡ nibblePlace kind (getD sent k 0)
+  pub least : 1 ≤ changed kind sent came
+  pub most : changed kind sent came ≤ changes
+  -- what of each frame is never changed: MFI1, which tells its place
+  pub placed : (k : ℕ) → k < frames kind → keptPart kind k (getD came k 0) ≡ keptPart kind k (getD sent k 0)
 
 -- Each packet arrives as sent, or is damaged
 abbrev pub Arrived : ℕ → ℕ → List ℕ → List ℕ → Type 0
@@ -84,14 +84,14 @@ roadOf k =
 
 -- the frame at a place of a packet brings a nibble of MFI2, the high or the low one
 abbrev pub BringsMfi2 : ℕ → ℕ → Type 0
-BringsMfi2 kind place = (place ≡ lead kind) ⊎ (place ≡ lead kind + 1)
+BringsMfi2 kind place = bringsMfi2 kind place ≡ true
 
 -- port p's frame in frame time t brings, if one of MFI2, the nibble that was sent
 abbrev pub NumberKept : Link → ℕ → ℕ → Type 0
 NumberKept k t p =
     let x = t - k .delay p in
     BringsMfi2 (kindOf k) (x % epochFrames k)
-    → nibbleIn (kindOf k) (getD (k .came (epochAt (kindOf k) x) p) (x % epochFrames k) 0) ≡ nibbleIn (kindOf k) (getD (sentTo k (epochAt (kindOf k) x) p) (x % epochFrames k) 0)
+    → symbolOf (kindOf k) (getD (k .came (epochAt (kindOf k) x) p) (x % epochFrames k) 0) ≡ symbolOf (kindOf k) (getD (sentTo k (epochAt (kindOf k) x) p) (x % epochFrames k) 0)
 
 -- What demand 3 lets be so of the client, the lines and what is lent. That each frame comes once, with its payload undamaged and not flagged failed, that reports are fetched after each frame, and that the receiver's
 -- state and the store stay untouched between calls is said by how the receiver is called on this road.

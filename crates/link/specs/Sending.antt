@@ -5,14 +5,13 @@ use mathlib.Core.Bool.{true, false}
 use mathlib.Core.List.{List}
 use Prim.Native.Nat.{ℕ, suc, _+_, _*_, _/_, _%_, _≤_, _<_}
 use lib.ListN.{getD, length}
-use Rattle.ground.specs.Table.{tabulate}
 use Rattle.judge.specs.declared.seen.Seen.{Seen}
 use Rattle.judge.specs.Order.{activeIn, portOf}
 use Rattle.judge.specs.Seen.{seenAt}
 use Rattle.judge.specs.Verdict.{SURE, judgeOf}
-use Rattle.packet.specs.Counts.{nibbleIn}
+use Rattle.packet.specs.Changes.{changed}
 use Rattle.packet.specs.Kinds.{epochs, firstTag, frames}
-use Rattle.packet.specs.Theorems.Damage.{changed}
+use Rattle.packet.specs.Symbols.{packetRow}
 use Rattle.packet.specs.Words.{IDLE}
 use Rattle.payload.specs.Order.{memberFrame}
 use Rattle.step.specs.Laws.Sent.{SentWith}
@@ -68,10 +67,6 @@ pub record Reached (n : ℕ) (slotOf : ℕ → ℕ) (slot : ℕ) : Type 0 where
 abbrev pub Covered : Sending → ℕ → ℕ → (ℕ → ℕ) → Type 0
 Covered s i n slotOf = (slot : ℕ) → slot < s .slots → s .word i slot ≢ IDLE → Reached n slotOf slot
 
--- the nibbles of a packet's bytes
-unfoldable pub nibblesIn : ℕ → List ℕ → List ℕ
-nibblesIn kind bytes = tabulate (frames kind) (λ k. nibbleIn kind (getD bytes k 0))
-
 -- what is seen of a slot's packet of the i-th epoch where it came as sent, and the next epoch's frames came too
 abbrev pub seenSent : Sending → ℕ → ℕ → Seen
 seenSent s i slot = record { whole = true; good = true; word = s .word i slot; number = s .number i slot; gid = s .gid i slot; here = true }
@@ -91,14 +86,14 @@ pub record Lawful (s : Sending) (P : ℕ) (client : Client) : Type 0 where
       → SentWith (s .kind) (firstTag (s .kind) (s .first) + (epochStart (s .kind) i + k)) (getD (s .packet i slot) k 0)
   -- each reads as said
   pub reads : (i slot : ℕ) → slot < s .slots
-      → ownRuling (s .kind) (epochNumber (s .kind) (s .first) i) (nibblesIn (s .kind) (s .packet i slot))
+      → ownRuling (s .kind) (epochNumber (s .kind) (s .first) i) (packetRow (s .kind) (s .packet i slot))
       ≡ record { good = true; word = s .word i slot; number = s .number i slot; gid = s .gid i slot }
   -- a changed one is refused
-  pub refused : (i slot : ℕ) (came : List ℕ) → slot < s .slots → 1 ≤ changed (s .packet i slot) came → changed (s .packet i slot) came ≤ s .changes
-      → ownRuling (s .kind) (epochNumber (s .kind) (s .first) i) (nibblesIn (s .kind) came) .good ≡ false
+  pub refused : (i slot : ℕ) (came : List ℕ) → slot < s .slots → 1 ≤ changed (s .kind) (s .packet i slot) came → changed (s .kind) (s .packet i slot) came ≤ s .changes
+      → ownRuling (s .kind) (epochNumber (s .kind) (s .first) i) (packetRow (s .kind) came) .good ≡ false
   -- and shows by its CRC that it is
-  pub even : (i slot : ℕ) (came : List ℕ) → slot < s .slots → 1 ≤ changed (s .packet i slot) came → changed (s .packet i slot) came ≤ s .changes
-      → oddPacket (s .kind) (epochNumber (s .kind) (s .first) i) (nibblesIn (s .kind) came) ≡ false
+  pub even : (i slot : ℕ) (came : List ℕ) → slot < s .slots → 1 ≤ changed (s .kind) (s .packet i slot) came → changed (s .kind) (s .packet i slot) came ≤ s .changes
+      → oddPacket (s .kind) (epochNumber (s .kind) (s .first) i) (packetRow (s .kind) came) ≡ false
   -- all as said rule
   pub rules : (i n : ℕ) (slotOf : ℕ → ℕ) (ports : List Seen) → Pairing n (s .slots) slotOf → Covered s i n slotOf
       → ((p : ℕ) → p < n → seenAt ports p ≡ seenSent s i (slotOf p)) → Rules s P client i n slotOf ports

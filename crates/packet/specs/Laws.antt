@@ -1,9 +1,12 @@
 -- Laws on the definitions, for the proofs above them.
 pub mod Bounds
 pub mod Bytes
+pub mod Changes
 pub mod Counting
 pub mod Distances
 pub mod Epochs
 pub mod Mst
 pub mod Nibbles
+pub mod Sent
+pub mod Symbols
 pub mod Writing

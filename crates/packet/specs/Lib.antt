@@ -1,3 +1,4 @@
+pub mod Changes
 pub mod Clock
 pub mod Counts
 pub mod Crc
@@ -7,7 +8,9 @@ pub mod Laws
 pub mod Layout
 pub mod Reading
 pub mod Ruling
+pub mod Sent
 pub mod Shares
+pub mod Symbols
 pub mod Theorems
 pub mod Words
 pub mod Writing

@@ -1,19 +1,6 @@
-// What one H4 byte says (01, 'The control packet'): its count, and the packet's nibble that it carries.
+// What one H4 byte says of its count (01, 'The control packet').
 ghost use mathlib.Core.Path.{_≡_};
-ghost use Rattle.packet.specs.Counts.{nibbleIn, nibblePlace, startsCount, tagByHigh, carriesLow, tagByLow, counts};
-
-pub fn nibble_in(kind: u8, h4: u8) -> u8
-    ensures { λ r. ⌜ r ≡ nibbleIn kind h4 ⌝ }
-{
-    h4 / 16
-}
-
-// The place of that nibble in the packet.
-pub fn nibble_place(kind: u8, h4: u8) -> u8
-    ensures { λ r. ⌜ r ≡ nibblePlace kind h4 ⌝ }
-{
-    (h4 % 16 + 8) % 16
-}
+ghost use Rattle.packet.specs.Counts.{startsCount, tagByHigh, carriesLow, tagByLow, counts};
 
 // Whether a multiframe starts with this frame.
 pub fn starts_count(kind: u8, h4: u8) -> bool

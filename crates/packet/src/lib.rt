@@ -7,6 +7,7 @@ mod layout;
 mod reader;
 mod ruling;
 mod shares;
+pub mod symbols;
 mod words;
 mod writer;
 

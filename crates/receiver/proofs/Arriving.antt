@@ -5,12 +5,13 @@ use mathlib.Core.List.{List, [], _∷_}
 use Prim.Native.Nat.{ℕ, _+_, _*_, _<_}
 use native.Mathlib.Omega.{arith}
 use lib.Dec.{ltb}
-use lib.ListN.{getD, length, replicate}
+use lib.ListN.{getD, length, replicate, set}
 use lib.Seq.{set-getD}
 use borrow.Author.Tests.{eq-eqb, ltb-true, ne-eqb}
-use Rattle.packet.specs.Counts.{nibbleIn}
 use Rattle.packet.specs.Kinds.{endsEpoch, epochsIn, placeOf, tagAfter}
 use Rattle.packet.specs.Laws.Distances.{place-back}
+use Rattle.packet.specs.Laws.Symbols.{with-parts}
+use Rattle.packet.specs.Symbols.{entryAt, entryWith}
 use Rattle.phases.specs.Sizes.{portsIn}
 use Rattle.receiver.specs.Frame.{decidedAnswer, decidedRows, decidedStore, frameAnswer, frameRefusal, frameRows, frameStore, gatheredBy, marksBy, ownTag, portRows, refusalBy, settledBy, steadyRows, storeBy, takenIn, takenRows, takenStore}
 use Rattle.receiver.specs.Lengths.{frameFits}
@@ -18,7 +19,7 @@ use Rattle.rows.specs.declared.group.Group.{Group}
 use Rattle.rows.specs.declared.step.Step.{Step}
 use Rattle.rows.specs.Group.{groupAt}
 use Rattle.rows.specs.Laws.Port.{port-put-part}
-use Rattle.rows.specs.Packets.{marksAt, packetsAt, putMarks, putPackets, withNibble}
+use Rattle.rows.specs.Packets.{marksAt, packetsAt, putMarks, putPackets, entryIn, withEntry}
 use Rattle.rows.specs.Part.{ThePackets, TheStep}
 use Rattle.rows.specs.Port.{Port, portAt}
 use Rattle.rows.specs.Rows.{putRow, rowIn}
@@ -100,12 +101,17 @@ module _ (s : List (List ℕ)) (i : ℕ) where
   unfolding putPackets putRow packetsAt rowIn
   same-packets = sym (rw (set-getD s (i * 5 + 3) (replicate 16 0)) (set-getD s (i * 5 + 4) (replicate 16 0)))
 
--- Gathering: a frame that is not counted leaves the packets.
-pub gather-counted : (kind : ℕ) (s : List (List ℕ)) (i : ℕ) (counted : Bool) (tag h place nibble : ℕ) (rows : List (List ℕ)) → counted ≡ true
-    → place ≡ placeOf kind tag → nibble ≡ nibbleIn kind h → rows ≡ putPackets s i (withNibble (packetsAt s i) place nibble)
-    → rows ≡ putPackets s i (gatheredBy kind (packetsAt s i) counted tag h)
-unfolding gatheredBy withNibble
-gather-counted kind s i counted tag h place nibble rows e ep en er = er ∙ rw (e, ep, en) refl
+-- Gathering: a symbol put by its entry; a frame that is not counted leaves the packets.
+pub symbol-put : (kind : ℕ) (s : List (List ℕ)) (i tag h place at old entry : ℕ) (rows : List (List ℕ)) → place ≡ placeOf kind tag → at ≡ entryAt kind place
+    → old ≡ entryIn (packetsAt s i) at → entry ≡ entryWith kind old place h → rows ≡ putPackets s i (withEntry (packetsAt s i) at entry)
+    → rows ≡ putPackets s i (gatheredBy kind (packetsAt s i) true tag h)
+unfolding gatheredBy withEntry entryIn
+symbol-put kind s i tag h place at old entry rows ep ea eo en er =
+    er ∙ ap (λ (row : List ℕ). putPackets s i (set (packetsAt s i) 0 row)) (with-parts kind (getD (packetsAt s i) 0 []) place h at old entry ea eo en) ∙ rw ep refl
+
+pub gather-counted : (kind : ℕ) (s : List (List ℕ)) (i : ℕ) (counted : Bool) (tag h : ℕ) (rows : List (List ℕ)) → counted ≡ true
+    → rows ≡ putPackets s i (gatheredBy kind (packetsAt s i) true tag h) → rows ≡ putPackets s i (gatheredBy kind (packetsAt s i) counted tag h)
+gather-counted kind s i counted tag h rows e er = rw e er
 
 pub gather-none : (kind : ℕ) (s : List (List ℕ)) (i : ℕ) (counted : Bool) (tag h : ℕ) → counted ≡ false → s ≡ putPackets s i (gatheredBy kind (packetsAt s i) counted tag h)
 unfolding gatheredBy
@@ -142,12 +148,12 @@ module _ (s : List (List ℕ)) (i h : ℕ) (g : Group) where
   unfolding steadyRows
   steady-marks =
       let low : List (List ℕ) = putStep s i (withNext (stepAt s i) (tagAfter (g .kind) (stepAt s i .next))) in
-      marks-after-packets low i (withNibble (packetsAt s i) (placeOf (g .kind) (stepAt s i .next)) (nibbleIn (g .kind) h))
+      marks-after-packets low i (gatheredBy (g .kind) (packetsAt s i) true (stepAt s i .next) h)
       ∙ marks-after-step s i (withNext (stepAt s i) (tagAfter (g .kind) (stepAt s i .next)))
 
   steady-parts : endsEpoch (g .kind) (distanceIn g (stepAt s i .next)) ≡ false
       → portRows (g .kind) s i (steadyTaken g (stepAt s i)) h ≡ putMarks (steadyRows (g .kind) (stepAt s i .next) h i s) i (marksAt s i)
-  unfolding portRows steadyTaken marksBy gatheredBy withNibble withNext steadyRows
+  unfolding portRows steadyTaken marksBy gatheredBy withNext steadyRows
   steady-parts e = rw (e, place-back (g .kind) (stepAt s i .next)) refl
 
   pub steady-rows : midEpoch g (distanceIn g (stepAt s i .next)) ≡ true → portRows (g .kind) s i (steadyTaken g (stepAt s i)) h ≡ steadyRows (g .kind) (stepAt s i .next) h i s

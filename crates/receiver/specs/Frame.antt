@@ -1,17 +1,17 @@
 -- A frame's arrival (01, 'The receiver'; 'For frames: 1, 9, 10, 12, 11').
-use mathlib.Core.Bool.{Bool}
+use mathlib.Core.Bool.{Bool, true}
 use mathlib.Core.List.{List, []}
 use Prim.Native.Nat.{ℕ}
 use lib.ListN.{getD, length, set}
 use Rattle.ground.specs.Plain.{if_then_else_, _==_, _<?_}
-use Rattle.packet.specs.Counts.{nibbleIn}
 use Rattle.packet.specs.Kinds.{endsEpoch, epochsIn, placeOf, tagAfter, tagBefore}
+use Rattle.packet.specs.Symbols.{withSymbol}
 use Rattle.phases.specs.Settling.{settledOf}
 use Rattle.phases.specs.Sizes.{portsIn}
 use Rattle.receiver.specs.Lengths.{frameFits}
 use Rattle.rows.specs.declared.group.Group.{Group}
 use Rattle.rows.specs.Group.{groupAt}
-use Rattle.rows.specs.Packets.{marksAt, packetsAt, putMarks, putPackets, withNibble}
+use Rattle.rows.specs.Packets.{marksAt, packetsAt, putMarks, putPackets}
 use Rattle.rows.specs.Step.{putStep, stepAt, withNext}
 use Rattle.step.specs.declared.arrival.Taken.{Taken}
 use Rattle.step.specs.Arrival.{takenOf}
@@ -23,9 +23,9 @@ use Rattle.store.specs.Marks.{cutFrom, markedAt}
 abbrev pub ownTag : ℕ → Taken → ℕ
 ownTag kind t = tagBefore kind (t .step .next)
 
--- 'sixteen nibbles of the packet being gathered': a counted frame's nibble goes to the place of its tag there
+-- 'sixteen nibbles of the packet being gathered': a counted frame's symbol goes to the place of its tag there
 unfoldable pub gatheredBy : ℕ → List (List ℕ) → Bool → ℕ → ℕ → List (List ℕ)
-gatheredBy kind pair counted tag h = if counted then set pair 0 (set (getD pair 0 []) (placeOf kind tag) (nibbleIn kind h)) else pair
+gatheredBy kind pair counted tag h = if counted then set pair 0 (withSymbol kind (getD pair 0 []) (placeOf kind tag) h) else pair
 
 -- joining at an epoch drops what the port had stored from that epoch on; the last frame of an epoch marks it
 unfoldable pub marksBy : ℕ → List ℕ → Taken → List ℕ
@@ -37,10 +37,10 @@ unfoldable pub portRows : ℕ → List (List ℕ) → ℕ → Taken → ℕ → 
 portRows kind s i t h =
     putMarks (putPackets (putStep s i (t .step)) i (gatheredBy kind (packetsAt s i) (t .counted) (ownTag kind t) h)) i (marksBy kind (marksAt s i) t)
 
--- the port's rows after a frame that changes its next tag and one nibble alone
+-- the port's rows after a frame that changes its next tag and one symbol alone
 unfoldable pub steadyRows : ℕ → ℕ → ℕ → ℕ → List (List ℕ) → List (List ℕ)
 steadyRows kind next h i s =
-    putPackets (putStep s i (withNext (stepAt s i) (tagAfter kind next))) i (withNibble (packetsAt s i) (placeOf kind next) (nibbleIn kind h))
+    putPackets (putStep s i (withNext (stepAt s i) (tagAfter kind next))) i (gatheredBy kind (packetsAt s i) true next h)
 
 -- the store after a frame
 unfoldable pub storeBy : Group → ℕ → Taken → ℕ → List ℕ → List ℕ → List ℕ

@@ -1,27 +1,37 @@
 // A frame's arrival (01, 'The receiver'; 'For frames: 1, 9, 10, 12, 11').
 use crate::lengths;
-use packet::counts;
 use packet::kinds;
+use packet::symbols;
 use rows::Group;
 use step::Taken;
 use step::answers;
 use store::frames;
 use store::marks;
 ghost use mathlib.Core.Path.{_≡_};
+ghost use mathlib.Core.Bool.{true};
 ghost use lib.ListN.{length};
 ghost use Rattle.receiver.specs.Frame.{decidedAnswer, decidedRows, decidedStore, frameAnswer, frameRows, frameStore, gatheredBy, marksBy, portRows, refusalBy, settledBy, steadyRows, storeBy, takenRows, takenStore};
 ghost use Rattle.rows.specs.Group.{groupAt};
 ghost use Rattle.rows.specs.Packets.{marksAt, packetsAt, putMarks, putPackets};
 ghost use Rattle.store.specs.Frames.{placeIn, storedAt};
 
-// A counted frame's nibble into the packet being gathered, at the place of its tag.
+// A frame's symbol into the packet being gathered, at the place of its tag.
+fn put_symbol(kind: u8, state: &mut [[u8; 16]], port: u8, tag: u16, h4: u8)
+    ensures { λ _. ⌜ now (state .exit) ≡ putPackets (now (state .entry)) port (gatheredBy kind (packetsAt (now (state .entry)) port) true tag h4) ⌝ }
+{
+    let place = kinds::place_of(kind, tag);
+    let at = symbols::entry_at(kind, place);
+    let old = rows::packets::entry(state, port, at);
+    let entry = symbols::entry_with(kind, old, place, h4);
+    rows::packets::put_entry(state, port, at, entry);
+}
+
+// Of a counted frame alone.
 fn gather(kind: u8, state: &mut [[u8; 16]], port: u8, counted: bool, tag: u16, h4: u8)
     ensures { λ _. ⌜ now (state .exit) ≡ putPackets (now (state .entry)) port (gatheredBy kind (packetsAt (now (state .entry)) port) counted tag h4) ⌝ }
 {
     if counted {
-        let place = kinds::place_of(kind, tag);
-        let nibble = counts::nibble_in(kind, h4);
-        rows::packets::put_nibble(state, port, place, nibble);
+        put_symbol(kind, state, port, tag, h4);
     }
 }
 
@@ -137,10 +147,8 @@ fn go_on(kind: u8, next: u16, h4: u8, port: u8, state: &mut [[u8; 16]])
     ensures { λ _. ⌜ now (state .exit) ≡ steadyRows kind next h4 port (now (state .entry)) ⌝ }
 {
     let after = kinds::next_tag(kind, next);
-    let place = kinds::place_of(kind, next);
-    let nibble = counts::nibble_in(kind, h4);
     rows::step::put_next(state, port, after);
-    rows::packets::put_nibble(state, port, place, nibble);
+    put_symbol(kind, state, port, next, h4);
 }
 
 // A frame that is neither 1 nor 9. The one that comes most often goes the short way, which touches three bytes of the rows; two calls of

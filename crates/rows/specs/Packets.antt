@@ -10,9 +10,13 @@ packetsAt s i = rowIn s (i * PORT-ROWS + 3) ∷ rowIn s (i * PORT-ROWS + 4) ∷ 
 unfoldable pub putPackets : List (List ℕ) → ℕ → List (List ℕ) → List (List ℕ)
 putPackets s i pair = putRow (putRow s (i * PORT-ROWS + 3) (getD pair 0 [])) (i * PORT-ROWS + 4) (getD pair 1 [])
 
--- two packets, the first one with another nibble
-unfoldable pub withNibble : List (List ℕ) → ℕ → ℕ → List (List ℕ)
-withNibble pair place nibble = set pair 0 (set (getD pair 0 []) place nibble)
+-- an entry of the first of two packets
+unfoldable pub entryIn : List (List ℕ) → ℕ → ℕ
+entryIn pair k = getD (getD pair 0 []) k 0
+
+-- two packets, the first one with another entry
+unfoldable pub withEntry : List (List ℕ) → ℕ → ℕ → List (List ℕ)
+withEntry pair k entry = set pair 0 (set (getD pair 0 []) k entry)
 
 unfoldable pub marksAt : List (List ℕ) → ℕ → List ℕ
 marksAt s i = rowIn s (i * PORT-ROWS + 5)

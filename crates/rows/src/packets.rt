@@ -1,7 +1,7 @@
 // The rows of a port's two packets, the one being gathered and the one that rules, and of its marks.
 use crate::group;
 ghost use mathlib.Core.Path.{_≡_};
-ghost use Rattle.rows.specs.Packets.{packetsAt, putPackets, marksAt, putMarks, withNibble};
+ghost use Rattle.rows.specs.Packets.{packetsAt, putPackets, marksAt, putMarks, entryIn, withEntry};
 
 pub fn get(state: &[[u8; 16]], port: u8) -> [[u8; 16]; 2]
     ensures { λ r. ⌜ r ≡ packetsAt (now (state .entry)) port ⌝ }
@@ -32,16 +32,24 @@ pub fn put_marks(state: &mut [[u8; 16]], port: u8, row: [u8; 16])
     group::put_row(state, port as usize * group::PORT_ROWS + 5, row);
 }
 
-// One nibble of the packet being gathered.
-pub fn put_nibble(state: &mut [[u8; 16]], port: u8, place: u8, nibble: u8)
-    ensures { λ _. ⌜ now (state .exit) ≡ putPackets (now (state .entry)) port (withNibble (packetsAt (now (state .entry)) port) place nibble) ⌝ }
+// One entry of the packet being gathered.
+pub fn entry(state: &[[u8; 16]], port: u8, at: u8) -> u8
+    ensures { λ r. ⌜ r ≡ entryIn (packetsAt (now (state .entry)) port) at ⌝ }
 {
-    let at = port as usize * group::PORT_ROWS + 3;
-    if at < state.len() {
-        let row = state[at];
+    let row = group::row_in(state, port as usize * group::PORT_ROWS + 3);
+    group::is_whole(row);
+    if at < 16 { row[at as usize] } else { 0 }
+}
+
+pub fn put_entry(state: &mut [[u8; 16]], port: u8, at: u8, entry: u8)
+    ensures { λ _. ⌜ now (state .exit) ≡ putPackets (now (state .entry)) port (withEntry (packetsAt (now (state .entry)) port) at entry) ⌝ }
+{
+    let index = port as usize * group::PORT_ROWS + 3;
+    if index < state.len() {
+        let row = state[index];
         group::is_whole(row);
-        if place < 16 {
-            state[at][place as usize] = nibble;
+        if at < 16 {
+            state[index][at as usize] = entry;
         }
     }
 }

@@ -6,7 +6,7 @@ use lib.ListN.{length}
 use Rattle.ground.specs.Plain.{if_then_else_, _==_, _<?_}
 use Rattle.packet.specs.declared.layout.Fields.{Fields}
 use Rattle.packet.specs.Kinds.{epochAfter, frames}
-use Rattle.packet.specs.Writing.{writeAnswer, writeBytes}
+use Rattle.packet.specs.Sent.{sentAnswer, sentBytes}
 use Rattle.payload.specs.Spreading.{oneAnswer, spreadOne}
 use Rattle.sender.specs.declared.epochs.Sender.{Sender}
 use Rattle.sender.specs.declared.epochs.SenderOutcome.{SenderOutcome}
@@ -73,12 +73,12 @@ packetFields s i =
 unfoldable pub packetAnswer : Sender → ℕ → List ℕ → Answer
 packetAnswer s i h4 =
     if i <? sizeOf (s .table .count)
-    then (if length h4 == frames (s .table .kind) then (if s .begun then written (writeAnswer (packetFields s i) h4) else NotAllowed) else Length)
+    then (if length h4 == frames (s .table .kind) then (if s .begun then written (sentAnswer (s .table .kind) (packetFields s i) h4) else NotAllowed) else Length)
     else NoSlot
 
 unfoldable pub packetBytes : Sender → ℕ → List ℕ → List ℕ
 packetBytes s i h4 =
-    if i <? sizeOf (s .table .count) && length h4 == frames (s .table .kind) && s .begun then writeBytes (packetFields s i) h4 else h4
+    if i <? sizeOf (s .table .count) && length h4 == frames (s .table .kind) && s .begun then sentBytes (s .table .kind) (packetFields s i) h4 else h4
 
 -- X of this epoch, and the rank of a slot in it
 abbrev pub xOf : Sender → ℕ

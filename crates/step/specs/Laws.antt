@@ -3,6 +3,7 @@ pub mod Arrival
 pub mod Kept
 pub mod Lost
 pub mod FixedPackets
+pub mod Packets
 pub mod Run
 pub mod Sent
 pub mod Steady

@@ -2,15 +2,14 @@
 use mathlib.Core.Bool.{Bool, not, _&&_, _||_}
 use mathlib.Core.List.{List}
 use Prim.Native.Nat.{ℕ}
-use lib.ListN.{set}
 use Rattle.ground.specs.Plain.{if_then_else_, _==_}
-use Rattle.packet.specs.Counts.{nibbleIn}
 use Rattle.packet.specs.declared.ruling.Ruling.{Ruling}
 use Rattle.packet.specs.Fixed.{fixedRulingOf}
 use Rattle.packet.specs.Kinds.{epochOf, fixedKind, placeOf}
 use Rattle.packet.specs.Layout.{fieldsOf}
 use Rattle.packet.specs.Reading.{readNibbles, readingNumber}
 use Rattle.packet.specs.Ruling.{refused, rulingOf}
+use Rattle.packet.specs.Symbols.{withSymbol}
 use Rattle.step.specs.Run.{endsPacket}
 
 -- the packet's MFI2 is the number of its epoch by that count
@@ -33,6 +32,6 @@ rightCrc kind nibbles = kind == fixedKind || not (readingNumber (readNibbles nib
 unfoldable pub oddPacket : ℕ → ℕ → List ℕ → Bool
 oddPacket kind epoch nibbles = rightCrc kind nibbles && not (ownNumber epoch nibbles)
 
--- whether the frame with this tag ends an odd packet, the one being gathered with the frame's nibble put in
+-- whether the frame with this tag ends an odd packet, the one being gathered with the frame's symbol put in
 unfoldable pub endsOdd : ℕ → List ℕ → ℕ → ℕ → Bool
-endsOdd kind gathering tag h = endsPacket kind tag && oddPacket kind (epochOf kind tag) (set gathering (placeOf kind tag) (nibbleIn kind h))
+endsOdd kind gathering tag h = endsPacket kind tag && oddPacket kind (epochOf kind tag) (withSymbol kind gathering (placeOf kind tag) h)

@@ -1,10 +1,9 @@
 // A packet by the receiver's own count (request 2026-04), and by the kind of packet (request 2026-12).
 use crate::run;
 use packet::Ruling;
-use packet::counts;
 use packet::kinds;
+use packet::symbols;
 ghost use mathlib.Core.Path.{_≡_};
-ghost use lib.ListN.{set};
 ghost use Rattle.step.specs.OwnCount.{endsOdd, oddPacket, ownNumber, ownRuling, rightCrc, rulingIn};
 
 // Whether MFI2, in the ninth and tenth nibble, is the number of the packet's epoch.
@@ -60,26 +59,15 @@ fn is_odd_packet(kind: u8, epoch: u8, nibbles: [u8; 16]) -> bool
     is_right(kind, nibbles)
 }
 
-fn with_nibble(row: [u8; 16], place: u8, nibble: u8) -> [u8; 16]
-    ensures { λ r. ⌜ r ≡ set row place nibble ⌝ }
-{
-    let mut nibbles = row;
-    if place < 16 {
-        nibbles[place as usize] = nibble;
-    }
-    nibbles
-}
-
-// Whether the frame with this tag ends an odd packet: the one being gathered, with the frame's nibble put in.
+// Whether the frame with this tag ends an odd packet: the one being gathered, with the frame's symbol put in.
 pub fn is_odd(kind: u8, gathering: [u8; 16], tag: u16, h4: u8) -> bool
     ensures { λ r. ⌜ r ≡ endsOdd kind gathering tag h4 ⌝ }
 {
     if run::ends_packet(kind, tag) {
         let place = kinds::place_of(kind, tag);
-        let nibble = counts::nibble_in(kind, h4);
-        let nibbles = with_nibble(gathering, place, nibble);
+        let row = symbols::with_symbol(kind, gathering, place, h4);
         let epoch = kinds::epoch_of(kind, tag);
-        return is_odd_packet(kind, epoch, nibbles);
+        return is_odd_packet(kind, epoch, row);
     }
     false
 }

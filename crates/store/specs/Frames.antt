@@ -4,9 +4,7 @@ use Prim.Native.Nat.{ℕ, _+_, _*_, _%_}
 use lib.ListN.{length, getD}
 use Rattle.ground.specs.Drawn.{fillAt}
 use Rattle.ground.specs.Plain.{if_then_else_, _==_, _<?_}
-use Rattle.ground.specs.Table.{tabulate}
-use Rattle.packet.specs.Counts.{nibbleIn}
-use Rattle.packet.specs.Kinds.{frames}
+use Rattle.packet.specs.Symbols.{rowFrom}
 use Rattle.rows.specs.declared.group.Group.{Group}
 
 -- a port's W places go round; the window's first frame stands at the origin
@@ -30,4 +28,4 @@ h4At g port d s = byteAt s (placeIn g port d + g .payload)
 
 -- the packet that came with the frames of the oldest epoch
 unfoldable pub packetIn : Group → ℕ → List ℕ → List ℕ
-packetIn g port s = tabulate (frames (g .kind)) (λ k. nibbleIn (g .kind) (h4At g port k s))
+packetIn g port s = rowFrom (g .kind) (λ k. h4At g port k s)

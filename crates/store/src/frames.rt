@@ -1,6 +1,6 @@
 // Frames in the lent store: each has its payload, then its H4 byte.
-use packet::counts;
 use packet::kinds;
+use packet::symbols;
 use rows::Group;
 ghost use mathlib.Core.Path.{_≡_};
 ghost use Rattle.store.specs.Frames.{byteAt, packetIn, placeIn, ringOf, storedAt};
@@ -55,13 +55,15 @@ pub fn packet_in(group: Group, port: u8, store: &[u8]) -> [u8; 16]
     ensures { λ r. ⌜ r ≡ packetIn group port (now (store .entry)) ⌝ }
 {
     let frames = kinds::epoch_frames(group.kind);
-    let mut nibbles = [0; 16];
+    let mut row = [0; 16];
     let mut k = 0;
     while k < frames {
         let at = place(group, port, k as u16);
         let h4 = byte_at(store, at + group.payload as usize);
-        nibbles[k as usize] = counts::nibble_in(group.kind, h4);
+        let entry = symbols::entry_at(group.kind, k);
+        let old = row[entry as usize];
+        row[entry as usize] = symbols::entry_with(group.kind, old, k, h4);
         k += 1;
     }
-    nibbles
+    row
 }

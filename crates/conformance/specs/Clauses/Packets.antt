@@ -2,17 +2,18 @@
 use mathlib.Core.Path.{_≡_, refl}
 use mathlib.Core.Bool.{true, false}
 use mathlib.Core.List.{List, [], _∷_, _++_}
-use Prim.Native.Nat.{ℕ, _+_}
+use Prim.Native.Nat.{ℕ, _+_, _-_, _*_}
 use lib.ListN.{getD, replicate}
 use Rattle.ground.specs.Table.{tabulate}
-use Rattle.packet.specs.Counts.{counts, nibblePlace, tagByHigh, tagByLow}
+use Rattle.packet.specs.Changes.{bringsMfi2, changed, keptPart, mostChanges}
+use Rattle.packet.specs.Counts.{counts, tagByHigh, tagByLow}
 use Rattle.packet.specs.declared.layout.Fields.{Fields}
 use Rattle.packet.specs.declared.reader.Reading.the-variants.{Packet}
-use Rattle.packet.specs.Kinds.{endsEpoch, epochOf, epochsIn, firstTag, mstFails, mstFirst, mstNumbers, tagAfter, tagBefore}
+use Rattle.packet.specs.Kinds.{endsEpoch, epochOf, epochsIn, firstTag, mstFails, mstFirst, mstNumbers, placeOf, tagAfter, tagBefore}
 use Rattle.packet.specs.Layout.{carriedIn, dataOf, fieldsOf, h4Of}
 use Rattle.packet.specs.Reading.{readAnswer, readingNumber}
 use Rattle.packet.specs.Shares.{halvesOf}
-use Rattle.packet.specs.Theorems.Damage.{changed}
+use Rattle.packet.specs.Symbols.{packetRow, symbolAt, symbolOf, withSymbol}
 use Rattle.packet.specs.Words.{assigned, nibbleOf, wordOf}
 use Rattle.packet.specs.Writing.{writeAnswer, writeBytes, writingNumber}
 use Rattle.conformance.specs.Opened.{allOpen}
@@ -43,13 +44,9 @@ numbering :
 unfolding allOpen
 numbering = (refl, refl, refl, refl, refl, refl, refl, refl, refl, refl, refl, refl, refl, refl, refl, refl, refl, refl, refl, refl, refl)
 
--- MFI1 8 brings the packet's first nibble, MFI1 7 its last, whatever nibble comes with it.
 -- Tag 848 is the first of multiframe 35 hex: its first frame is 30 and no other, its second 51. A tag counts modulo 4,096; of that before a second frame the high nibble counts alone.
 counted :
-    (nibblePlace 0 0x38 ≡ 0)
-    × (nibblePlace 0 0xA0 ≡ 8)
-    × (nibblePlace 0 0xF7 ≡ 15)
-    × (counts 0 848 0x30 ≡ true)
+    (counts 0 848 0x30 ≡ true)
     × (counts 0 848 0x20 ≡ false)
     × (counts 0 848 0x40 ≡ false)
     × (counts 0 849 0x51 ≡ true)
@@ -62,7 +59,23 @@ counted :
     × (tagByLow 0 510 0x51 ≡ 338)
     × (tagByLow 0 4865 0x51 ≡ 850)
 unfolding allOpen
-counted = (refl, refl, refl, refl, refl, refl, refl, refl, refl, refl, refl, refl, refl, refl, refl)
+counted = (refl, refl, refl, refl, refl, refl, refl, refl, refl, refl, refl, refl)
+
+-- MFI1 8 brings the packet's first nibble, MFI1 7 its last. The nibble is the byte's high one, and stands in the row at its place; what never comes changed is the low one. Of the sixteen places 8 and 9 bring MFI2.
+symbols :
+    (placeOf 0 40 ≡ 0)
+    × (placeOf 0 32 ≡ 8)
+    × (placeOf 0 39 ≡ 15)
+    × (symbolOf 0 0xA7 ≡ 10)
+    × (withSymbol 0 (1 ∷ 2 ∷ 3 ∷ []) 1 0xA7 ≡ 1 ∷ 10 ∷ 3 ∷ [])
+    × (symbolAt 0 (1 ∷ 2 ∷ 3 ∷ []) 2 ≡ 3)
+    × (packetRow 0 (tabulate 16 (λ k. 0xF9 - 16 * k)) ≡ 15 ∷ 14 ∷ 13 ∷ 12 ∷ 11 ∷ 10 ∷ 9 ∷ 8 ∷ 7 ∷ 6 ∷ 5 ∷ 4 ∷ 3 ∷ 2 ∷ 1 ∷ 0 ∷ [])
+    × (keptPart 0 3 0xA7 ≡ 7)
+    × (tabulate 16 (bringsMfi2 0) ≡ replicate 8 false ++ (true ∷ true ∷ replicate 6 false))
+    × (mostChanges 0 ≡ 3)
+    × (mostChanges 2 ≡ 0)
+unfolding allOpen
+symbols = (refl, refl, refl, refl, refl, refl, refl, refl, refl, refl, refl)
 
 -- 'FIXED 0, ADD 1, NORM 2, EOS 3, IDLE 5, DNU 15. All others are unassigned.' A word is the low four bits of a byte.
 words :
@@ -126,8 +139,8 @@ fits = (refl, refl, refl, refl, refl, refl, refl, refl, refl, refl, refl, refl)
 
 -- 'anywhere in a packet's 64' (request 2026-04): 8 is one bit, 3 is two, F four, and the low nibbles count for nothing
 damage :
-    (changed (replicate 16 0x09) (0x89 ∷ 0x39 ∷ replicate 14 0x09) ≡ 3)
-    × (changed (replicate 16 0x39) (replicate 15 0x39 ++ (0xC7 ∷ [])) ≡ 4)
-    × (changed (replicate 16 0x39) (replicate 16 0x37) ≡ 0)
+    (changed 0 (replicate 16 0x09) (0x89 ∷ 0x39 ∷ replicate 14 0x09) ≡ 3)
+    × (changed 0 (replicate 16 0x39) (replicate 15 0x39 ++ (0xC7 ∷ [])) ≡ 4)
+    × (changed 0 (replicate 16 0x39) (replicate 16 0x37) ≡ 0)
 unfolding allOpen
 damage = (refl, refl, refl)

@@ -8,7 +8,7 @@ use Rattle.rows.specs.declared.member.Member.{Member}
 use Rattle.rows.specs.declared.step.Step.{Step}
 use Rattle.rows.specs.Group.{groupAt, groupOf, groupRow, putGroup}
 use Rattle.rows.specs.Member.{memberAt, memberOf, memberRow, putMember}
-use Rattle.rows.specs.Packets.{marksAt, packetsAt, putMarks, putPackets, withNibble}
+use Rattle.rows.specs.Packets.{marksAt, packetsAt, putMarks, putPackets, entryIn, withEntry}
 use Rattle.rows.specs.Part.{again, put, with}
 use Rattle.rows.specs.Part.Part.{TheMarks, TheMember, ThePackets, TheStep}
 use Rattle.rows.specs.Port.{Port, portAt}
@@ -74,9 +74,10 @@ back :
     × (memberOf (memberRow (member 768 1279 1280)) ≡ member 768 1279 1280)
     × (length (memberRow (member 4863 4864 255)) ≡ 16)
     × (stepOf (stepRow (withNext (step 4095) 7)) ≡ step 7)
-    × (withNibble ((1 ∷ 2 ∷ 3 ∷ []) ∷ (4 ∷ 5 ∷ 6 ∷ []) ∷ []) 1 9 ≡ (1 ∷ 9 ∷ 3 ∷ []) ∷ (4 ∷ 5 ∷ 6 ∷ []) ∷ [])
-unfolding groupOf groupRow memberOf memberRow stepOf stepRow withNext withNibble
-back = (refl, refl, refl, refl, refl, refl, refl, refl, refl, refl, refl, refl)
+    × (withEntry ((1 ∷ 2 ∷ 3 ∷ []) ∷ (4 ∷ 5 ∷ 6 ∷ []) ∷ []) 1 9 ≡ (1 ∷ 9 ∷ 3 ∷ []) ∷ (4 ∷ 5 ∷ 6 ∷ []) ∷ [])
+    × (entryIn ((1 ∷ 2 ∷ 3 ∷ []) ∷ (4 ∷ 5 ∷ 6 ∷ []) ∷ []) 1 ≡ 2)
+unfolding entryIn groupOf groupRow memberOf memberRow stepOf stepRow withNext withEntry
+back = (refl, refl, refl, refl, refl, refl, refl, refl, refl, refl, refl, refl, refl)
 
 -- two ports, all rows of ones
 abbrev ones : List ℕ

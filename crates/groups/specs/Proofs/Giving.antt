@@ -7,25 +7,20 @@ use Prim.Native.Nat.{ℕ, suc, _*_, _≤_, _<_}
 use native.Mathlib.Omega.{arith}
 use lib.Dec.{eqb, ltb}
 use lib.ListN.{length, length-replicate, replicate}
-use borrow.Author.Tests.{eq-eqb, lt-ltb, ne-eqb}
+use borrow.Author.Tests.{lt-ltb, ne-eqb}
 use Rattle.ground.specs.Truth.{and-true}
 use Rattle.packet.specs.Kinds.{frames}
-use Rattle.packet.specs.Layout.{h4Of, nibblesOf}
-use Rattle.packet.specs.Theorems.ReadBack.{written-as}
-use Rattle.packet.specs.Theorems.Tags.{epochs-fit}
-use Rattle.packet.specs.Writing.{writeAnswer, writeBytes}
 use Rattle.payload.specs.Laws.Fits.{Sizes, one-done, spread-one-done}
 use Rattle.payload.specs.Order.{memberFrame}
 use Rattle.payload.specs.Spreading.{oneAnswer, spreadOne}
 use Rattle.sender.specs.declared.epochs.Sender.{Sender}
 use Rattle.sender.specs.declared.table.Answer.the-variants.{Done}
 use Rattle.sender.specs.Epochs as E
-use Rattle.sender.specs.Epochs.{packetFields, rankIn, senderRun, xOf}
-use Rattle.sender.specs.Outcomes.{spreadTold, written}
+use Rattle.sender.specs.Epochs.{rankIn, senderRun, xOf}
+use Rattle.sender.specs.Outcomes.{spreadTold}
 use Rattle.sender.specs.Ranks.{noRank}
 use Rattle.sender.specs.Table.{sizeOf}
 use Rattle.sender.specs.Theorems.Epochs.{Fixed, fixed, onTable}
-use Rattle.sender.specs.Theorems.Packets.{packet-done, written-done}
 use Rattle.circuits.specs.Answers.{fromSender}
 use Rattle.circuits.specs.declared.answers.Answer.the-variants as A
 use Rattle.circuits.specs.declared.card.Card.{Card}
@@ -33,9 +28,9 @@ use Rattle.circuits.specs.Parts.{isSlot, owns, senderOf}
 use Rattle.circuits.specs.Readings as R
 use Rattle.link.specs.History.{History, hasRank, packetSent, payloadSent, senderAt, xAt}
 use Rattle.link.specs.Link.{Link}
-use Rattle.link.specs.Proofs.Histories.Packets.{packet-is}
+use Rattle.link.specs.Proofs.Histories.Packets.{packet-answered, packet-any}
 use Rattle.link.specs.Proofs.Histories.Ruling.{x-le}
-use Rattle.link.specs.Proofs.Histories.Senders.{callsTo, given-to, sender-in, sender-run, size-at}
+use Rattle.link.specs.Proofs.Histories.Senders.{sender-in, size-at}
 use Rattle.link.specs.Sending.{Sending, epochAt}
 use Rattle.groups.specs.Assumed.{AssumedEach}
 use Rattle.groups.specs.Cards.{CardHistory, cardAt}
@@ -64,20 +59,6 @@ module _ (c : Card) (g slot : ℕ) (there : isSlot c g slot ≡ true) (mine : ow
 
 -- a sender in an epoch, of a slot that it has
 module _ (s : Sender) (slot : ℕ) (below : slot < sizeOf (s .table .count)) (begun : s .begun ≡ true) where
-  module _ (h4 : List ℕ) (room : length h4 ≡ frames (s .table .kind)) where
-    bytes-are : E.packetBytes s slot h4 ≡ writeBytes (packetFields s slot) h4
-    unfolding E.packetBytes
-    bytes-are = rw (lt-ltb slot (sizeOf (s .table .count)) below, eq-eqb (length h4) (frames (s .table .kind)) room, begun) refl
-
-    answer-is : E.packetAnswer s slot h4 ≡ written (writeAnswer (packetFields s slot) h4)
-    unfolding E.packetAnswer
-    answer-is = rw (lt-ltb slot (sizeOf (s .table .count)) below, eq-eqb (length h4) (frames (s .table .kind)) room, begun) refl
-
-    -- the bytes lent do not matter
-    written-bytes : E.packetAnswer s slot h4 ≡ Done → E.packetBytes s slot h4 ≡ h4Of (nibblesOf (packetFields s slot))
-    written-bytes e =
-        bytes-are ∙ written-as (packetFields s slot) h4 (written-done (writeAnswer (packetFields s slot) h4) (sym answer-is ∙ e)) .bytes
-
   spread-is : (P : ℕ) (frame member : List ℕ) → E.payloadBytes s slot P frame member ≡ spreadOne (xOf s) P (rankIn s slot) frame member
   unfolding E.payloadBytes
   spread-is P frame member = rw (lt-ltb slot (sizeOf (s .table .count)) below, begun) refl
@@ -124,19 +105,11 @@ module _ (h : CardHistory) (g : ℕ) (k : Link) (a : AssumedEach h g k) (n i p :
   slot-in : slot < sizeOf (s .table .count)
   slot-in = rw (size-at history (allowed h g k a) i) below
 
-  room-in : (h4 : List ℕ) → length h4 ≡ frames (h .kind) → length h4 ≡ frames (s .table .kind)
-  room-in h4 l = l ∙ ap frames (sym (sender-in history (allowed h g k a) i .kind))
-
   answered : (h4 : List ℕ) → length h4 ≡ frames (h .kind) → E.packetAnswer s slot h4 ≡ Done
-  answered h4 l =
-      let below-first = a .first in
-      let fit = epochs-fit (h .kind) in
-      rw (sender-run history i)
-      (packet-done (h .kind) (h .slots) (h .first g) (callsTo history i) (omega arith) (given-to history (allowed h g k a) i) (rw (sender-run history i) at begun) slot
-      (rw (sender-run history i) at slot-in) h4 (rw (sender-run history i) at (room-in h4 l)))
+  answered h4 l = packet-answered history (allowed h g k a) i slot below h4 l
 
   written-is : (h4 : List ℕ) → length h4 ≡ frames (h .kind) → E.packetBytes s slot h4 ≡ packetSent history i slot
-  written-is h4 l = written-bytes s slot slot-in begun h4 (room-in h4 l) (answered h4 l) ∙ sym (packet-is history (allowed h g k a) i slot below)
+  written-is h4 l = packet-any history (allowed h g k a) i slot below h4 l
 
   packet-gives : (h4 : List ℕ) → length h4 ≡ frames (h .kind) → R.packetBytes c g slot h4 ≡ k .sending .packet i slot
   packet-gives h4 l =

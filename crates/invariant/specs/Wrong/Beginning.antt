@@ -7,7 +7,7 @@ use lib.ListN.{replicate}
 use Rattle.invariant.specs.Wrong.Sample.{sampleGroup, sampleStep, sentH4}
 use Rattle.ground.specs.Circle.{after}
 use Rattle.ground.specs.Plain.{if_then_else_}
-use Rattle.packet.specs.Counts.{tagByHigh, tagByLow, counts, carriesLow, nibbleIn, nibblePlace, startsCount}
+use Rattle.packet.specs.Counts.{tagByHigh, tagByLow, counts, carriesLow, startsCount}
 use Rattle.packet.specs.Kinds.{distanceOf, endsEpoch, epochAfter, epochOf, epochs, epochsIn, firstTag, frames, lead, placeOf, startsEpoch, tagAfter, tagBefore, tags}
 use Rattle.packet.specs.Crc.{crcOf, divisor, nibbleBits}
 use Rattle.packet.specs.Layout.{carriedIn, fieldsOf}
@@ -17,6 +17,7 @@ use Rattle.phases.specs.Beginning.{begins, foremost, further, latest, noTag, re
 use Rattle.phases.specs.Due.{brought, owesNothing, silent}
 use Rattle.phases.specs.Passing.{groupTo, notedBy, passedGroup, passedOf, passedPort, passedPorts, passedStep, ruledBy}
 use Rattle.packet.specs.Ruling.{rulingOf}
+use Rattle.packet.specs.Symbols.{entryAt, entryFrom, entryWith, rowFrom, symbolOf, withSymbol}
 use Rattle.phases.specs.Settling.{beginBy, begunOf, clearedPort, clearedPorts, clearedStep, gatherBy, settledOf, stopBy, stoppedOf}
 use Rattle.receiver.specs.Frame.{gatheredBy, marksBy, portRows, storeBy}
 use Rattle.receiver.specs.Starting.{freshStep}
@@ -56,7 +57,7 @@ times frame zero = two (sampleGroup 2 16 0 0 0) (sampleStep 32 15 0 0 0 0) (samp
 times frame (suc n) = frame (frame (times frame n) 1 (sentH4 (15 + n))) 0 (sentH4 (15 + n))
 
 tested-breaks : (groupAt (times wrong-frame 1) .begun ≡ 0) × (groupAt (times wrong-frame 8) .begun ≡ 0) × (groupAt (times right-frame 1) .begun ≡ 1)
-unfolding two comes-in wrong-frame right-frame times portRows gatheredBy marksBy settledOf stopBy stoppedOf beginBy begunOf clearedPorts clearedPort clearedStep gatherBy silent brought owesNothing begins foremost further latest noTag ready within passedOf passedPorts passedPort passedStep passedGroup notedBy ruledBy ownRuling rulingIn ownNumber rulingOf endsOdd oddPacket rightCrc takenOf arrives frameDropped byStart byWindow countsOn flagged joining keeps outside readable inStep distanceIn runOn stayedRun gainedRun loses breaksAfter oddAfter endsPacket begunRun secondRun furtherRun inStepAt counts startsCount tagByHigh carriesLow tagByLow nibbleIn nibblePlace distanceOf after endsEpoch epochAfter epochOf epochs epochsIn firstTag frames lead placeOf startsEpoch tagAfter tagBefore tags groupAt groupOf groupRow putGroup memberAt memberOf memberRow putMember marksAt packetsAt putMarks putPackets rowIn putRow stepAt stepOf stepRow putStep packetIn h4At byteAt placeIn ringOf firstMark passedMarks passedByte markedAt markedByte cutFrom cutByte
+unfolding two comes-in wrong-frame right-frame times portRows gatheredBy marksBy settledOf stopBy stoppedOf beginBy begunOf clearedPorts clearedPort clearedStep gatherBy silent brought owesNothing begins foremost further latest noTag ready within passedOf passedPorts passedPort passedStep passedGroup notedBy ruledBy ownRuling rulingIn ownNumber rulingOf endsOdd oddPacket rightCrc takenOf arrives frameDropped byStart byWindow countsOn flagged joining keeps outside readable inStep distanceIn runOn stayedRun gainedRun loses breaksAfter oddAfter endsPacket begunRun secondRun furtherRun inStepAt counts startsCount tagByHigh carriesLow tagByLow entryAt entryFrom entryWith rowFrom symbolOf withSymbol distanceOf after endsEpoch epochAfter epochOf epochs epochsIn firstTag frames lead placeOf startsEpoch tagAfter tagBefore tags groupAt groupOf groupRow putGroup memberAt memberOf memberRow putMember marksAt packetsAt putMarks putPackets rowIn putRow stepAt stepOf stepRow putStep packetIn h4At byteAt placeIn ringOf firstMark passedMarks passedByte markedAt markedByte cutFrom cutByte
 tested-breaks = (refl, refl, refl)
 
 -- A weak 'after the foremost tag': an epoch that starts with the foremost tag itself. The window is 32 frames. Port 0 is in step and its latest tag is 8, the start of epoch 1;
@@ -96,5 +97,5 @@ weak-breaks :
     × (stepAt (brings weak-settled 31 .rows) 0 .whole ≡ 0)
     × (groupAt (brings settledOf 31 .rows) .gathered ≡ 1)
     × (stepAt (brings settledOf 31 .rows) 0 .whole ≡ 1)
-unfolding two weak-epoch weak-begun weak-begin weak-settled brings storeBy storedAt readNibbles divisor nibbleBits crcOf carriedIn fieldsOf assigned portRows gatheredBy marksBy settledOf stopBy stoppedOf beginBy begunOf clearedPorts clearedPort clearedStep gatherBy silent brought owesNothing begins foremost further latest noTag ready within passedOf passedPorts passedPort passedStep passedGroup notedBy ruledBy ownRuling rulingIn ownNumber rulingOf endsOdd oddPacket rightCrc takenOf arrives frameDropped byStart byWindow countsOn flagged joining keeps outside readable inStep distanceIn runOn stayedRun gainedRun loses breaksAfter oddAfter endsPacket begunRun secondRun furtherRun inStepAt counts startsCount tagByHigh carriesLow tagByLow nibbleIn nibblePlace distanceOf after endsEpoch epochAfter epochOf epochs epochsIn firstTag frames lead placeOf startsEpoch tagAfter tagBefore tags groupAt groupOf groupRow putGroup memberAt memberOf memberRow putMember marksAt packetsAt putMarks putPackets rowIn putRow stepAt stepOf stepRow putStep packetIn h4At byteAt placeIn ringOf firstMark passedMarks passedByte markedAt markedByte cutFrom cutByte
+unfolding two weak-epoch weak-begun weak-begin weak-settled brings storeBy storedAt readNibbles divisor nibbleBits crcOf carriedIn fieldsOf assigned portRows gatheredBy marksBy settledOf stopBy stoppedOf beginBy begunOf clearedPorts clearedPort clearedStep gatherBy silent brought owesNothing begins foremost further latest noTag ready within passedOf passedPorts passedPort passedStep passedGroup notedBy ruledBy ownRuling rulingIn ownNumber rulingOf endsOdd oddPacket rightCrc takenOf arrives frameDropped byStart byWindow countsOn flagged joining keeps outside readable inStep distanceIn runOn stayedRun gainedRun loses breaksAfter oddAfter endsPacket begunRun secondRun furtherRun inStepAt counts startsCount tagByHigh carriesLow tagByLow entryAt entryFrom entryWith rowFrom symbolOf withSymbol distanceOf after endsEpoch epochAfter epochOf epochs epochsIn firstTag frames lead placeOf startsEpoch tagAfter tagBefore tags groupAt groupOf groupRow putGroup memberAt memberOf memberRow putMember marksAt packetsAt putMarks putPackets rowIn putRow stepAt stepOf stepRow putStep packetIn h4At byteAt placeIn ringOf firstMark passedMarks passedByte markedAt markedByte cutFrom cutByte
 weak-breaks = (refl, refl, refl, refl, refl, refl)

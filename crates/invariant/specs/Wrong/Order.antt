@@ -9,7 +9,6 @@ use Rattle.ground.specs.Table.{tabulate}
 use Rattle.judge.specs.declared.seen.Seen.{Seen}
 use Rattle.judge.specs.Order.{activeIn, orderOf, portOf, rankOf}
 use Rattle.judge.specs.Verdict.{SURE, doubtfulBy, eosAlone, eosWrong, exact, gidDiffers, heldBy, highest, judgeOf, missing, repeats, takes, lcasVerdict}
-use Rattle.packet.specs.Counts.{nibbleIn}
 use Rattle.packet.specs.Crc.{crcOf, divisor, nibbleBits}
 use Rattle.packet.specs.Kinds.{epochOf, firstTag, frames, lead, tagBefore, tags}
 use Rattle.packet.specs.Layout.{carriedIn, dataOf, fieldsOf, h4Of, nibblesOf, sealedOf}
@@ -17,6 +16,7 @@ use Rattle.packet.specs.Reading.{readNibbles}
 use Rattle.packet.specs.Words.{EOS, NORM, assigned}
 use Rattle.phases.specs.Due.{brought, owesNothing}
 use Rattle.packet.specs.Ruling.{rulingOf}
+use Rattle.packet.specs.Symbols.{entryAt, entryFrom, entryWith, rowFrom, symbolOf, withSymbol}
 use Rattle.step.specs.OwnCount.{ownNumber, ownRuling, rulingIn}
 use Rattle.phases.specs.Sizes.{portsIn, sized, storeFor}
 use Rattle.receiver.specs.Fetch.{dueIn, fetchOut, fits, outIfDue, reportIfDue}
@@ -70,5 +70,5 @@ order-breaks :
     (fetchOut rows store (replicate 32 0) (replicate 8 0) ≡ sixteen 10 11)
     × (reportIfDue group 2 rows .mark ≡ SURE)
     × (wrong-out ≡ sixteen 11 10)
-unfolding divisor nibbleBits packet group port rows sent store wrong-seen wrong-out sixteen dataOf sealedOf nibblesOf crcOf h4Of carriedIn fieldsOf assigned readNibbles ownRuling rulingIn ownNumber rulingOf rulingEpoch seenOf seenAll orderOf activeIn portOf rankOf judgeOf lcasVerdict heldBy doubtfulBy missing exact repeats takes gidDiffers eosWrong eosAlone highest fetchOut fits fetchFits rowsFit storeFor outputFor portsIn sized outIfDue reportIfDue reportOf reportBy dueIn brought owesNothing readable inStep inStepAt outputOf outputBy framesInto frameInto startsOf placeIn ringOf packetIn h4At byteAt nibbleIn firstMark epochOf firstTag frames lead tagBefore tags groupAt groupOf groupRow putGroup marksAt packetsAt putMarks putPackets rowIn putRow stepAt stepOf stepRow putStep
+unfolding divisor nibbleBits packet group port rows sent store wrong-seen wrong-out sixteen dataOf sealedOf nibblesOf crcOf h4Of carriedIn fieldsOf assigned readNibbles ownRuling rulingIn ownNumber rulingOf rulingEpoch seenOf seenAll orderOf activeIn portOf rankOf judgeOf lcasVerdict heldBy doubtfulBy missing exact repeats takes gidDiffers eosWrong eosAlone highest fetchOut fits fetchFits rowsFit storeFor outputFor portsIn sized outIfDue reportIfDue reportOf reportBy dueIn brought owesNothing readable inStep inStepAt outputOf outputBy framesInto frameInto startsOf placeIn ringOf packetIn h4At byteAt entryAt entryFrom entryWith rowFrom symbolOf withSymbol firstMark epochOf firstTag frames lead tagBefore tags groupAt groupOf groupRow putGroup marksAt packetsAt putMarks putPackets rowIn putRow stepAt stepOf stepRow putStep
 order-breaks = (refl, refl, refl)

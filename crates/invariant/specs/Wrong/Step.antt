@@ -5,11 +5,12 @@ use mathlib.Core.List.{List, [], _∷_}
 use Prim.Native.Nat.{ℕ, zero, suc, _+_, _%_}
 use lib.ListN.{getD, replicate, set}
 use Rattle.ground.specs.Plain.{if_then_else_, _==_}
-use Rattle.packet.specs.Counts.{counts, nibbleIn, nibblePlace, startsCount, tagByHigh}
+use Rattle.packet.specs.Counts.{counts, startsCount, tagByHigh}
 use Rattle.packet.specs.Crc.{crcOf, divisor, nibbleBits}
 use Rattle.packet.specs.Kinds.{endsEpoch, frames, lead, placeOf, tagAfter, tags}
 use Rattle.packet.specs.Layout.{carriedIn, dataOf, fieldsOf, h4Of, nibblesOf, sealedOf}
 use Rattle.packet.specs.Reading.{readNibbles, readingNumber}
+use Rattle.packet.specs.Symbols.{entryAt, entryWith, symbolOf, withSymbol}
 use Rattle.packet.specs.Words.{NORM, assigned}
 use Rattle.receiver.specs.Frame.{gatheredBy}
 use Rattle.step.specs.declared.run.Run.{Run}
@@ -66,7 +67,7 @@ odd-breaks = (refl, refl)
 -- The packet being gathered put together by the MFI1 that frames carry. One hit makes MFI1 2, which brings the word, a 3: the word stays that of the packet before, and what is read is no longer the packet that came.
 
 wrong-gathered : List (List ℕ) → ℕ → List (List ℕ)
-wrong-gathered pair h = set pair 0 (set (getD pair 0 []) (nibblePlace 0 h) (nibbleIn 0 h))
+wrong-gathered pair h = set pair 0 (withSymbol 0 (getD pair 0 []) ((h % 16 + 8) % 16) h)
 
 packet : List ℕ
 packet = nibblesOf (record { epoch = 1; word = record { 0 = NORM }; gid = 0; mst = 255; «rs_ack» = 0; sq = 3; reserved = 0 })
@@ -87,5 +88,5 @@ gathered-breaks :
     (row-of (gathered (λ pair tag h. gatheredBy 0 pair true tag h) 16) ≡ packet)
     × (readingNumber (readNibbles (row-of (gathered (λ pair tag h. gatheredBy 0 pair true tag h) 16))) ≡ 0)
     × (readingNumber (readNibbles (row-of (gathered (λ pair tag h. wrong-gathered pair h) 16))) ≡ 5)
-unfolding wrong-gathered packet frame gathered row-of gatheredBy nibblePlace nibbleIn placeOf lead frames nibblesOf sealedOf dataOf h4Of crcOf divisor nibbleBits readNibbles fieldsOf carriedIn assigned
+unfolding wrong-gathered packet frame gathered row-of gatheredBy entryAt entryWith symbolOf withSymbol placeOf lead frames nibblesOf sealedOf dataOf h4Of crcOf divisor nibbleBits readNibbles fieldsOf carriedIn assigned
 gathered-breaks = (refl, refl, refl)

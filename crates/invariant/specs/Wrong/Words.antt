@@ -12,8 +12,9 @@ use Rattle.invariant.specs.Claims.{tagIn}
 use Rattle.invariant.specs.Live.{heardOf, isHeard, packetHeard, tagBack}
 use Rattle.invariant.specs.Reports.{Others, Unstopped, ackIn, gives, nextReport, reportsOf, stopsWith, successive}
 use Rattle.invariant.specs.Times.{outcomesOf, waitingIn}
-use Rattle.packet.specs.Counts.{carriesLow, nibbleIn, startsCount, tagByHigh, tagByLow}
+use Rattle.packet.specs.Counts.{carriesLow, startsCount, tagByHigh, tagByLow}
 use Rattle.packet.specs.Kinds.{epochAfter, epochs, firstTag, frames, idleNumber, lead, tagBefore, tags}
+use Rattle.packet.specs.Symbols.{entryAt, entryFrom, entryWith, rowFrom, symbolOf, withSymbol}
 use Rattle.phases.specs.Beginning.{begins, ready}
 use Rattle.phases.specs.Due.{brought, owesNothing, silent}
 use Rattle.phases.specs.Passing.{passedGroup, passedOf, passedPort, passedPorts, passedStep}
@@ -63,7 +64,7 @@ tags-and-epochs :
     × (nextReport (group 0 58) ≡ 59)
     × (nextReport (group 0 255) ≡ 0)
     × (packetHeard 0 (tabulate 20 (λ d. (15 - d) * 16)) ≡ tabulate 16 (λ k. k))
-unfolding epochAfter epochs firstTag frames lead nibbleIn tagBefore tagIn tags
+unfolding epochAfter epochs firstTag frames lead entryAt entryFrom entryWith rowFrom symbolOf withSymbol tagBefore tagIn tags
 tags-and-epochs = (refl, refl, refl, refl, refl, refl, refl, refl, refl, refl)
 
 -- a frame to the step record: not one refused with 1 or 9, nor one outside the window, 11

@@ -5,12 +5,11 @@ use Prim.Native.Nat.{ℕ, zero, suc, _+_, _*_}
 use lib.Dec.{eqb}
 use lib.ListN.{drop, getD, length, replicate}
 use Rattle.counting.specs.Each.{each}
-use Rattle.ground.specs.Table.{tabulate}
 use Rattle.judge.specs.declared.seen.Seen.{Seen}
 use Rattle.judge.specs.Order.{activeIn, portOf}
 use Rattle.judge.specs.Verdict.{HELD, judgeOf}
-use Rattle.packet.specs.Counts.{nibbleIn}
 use Rattle.packet.specs.Kinds.{epochOf}
+use Rattle.packet.specs.Symbols.{rowFrom}
 use Rattle.packet.specs.Theorems.Tags.{tagOf}
 use Rattle.payload.specs.Order.{groupFrame}
 use Rattle.step.specs.OwnCount.{ownRuling}
@@ -25,7 +24,7 @@ module _ (r : Road) where
 
   -- the packet that came to port p in epoch i
   unfoldable pub packetOf : ℕ → ℕ → List ℕ
-  packetOf i p = tabulate (L r) (λ k. nibbleIn (r .kind) (r .h4 p (i * L r + k)))
+  packetOf i p = rowFrom (r .kind) (λ k. r .h4 p (i * L r + k))
 
   -- what is seen of port p in the epoch after epoch i, which the packets of epoch i rule
   unfoldable pub seenAfter : ℕ → ℕ → Seen

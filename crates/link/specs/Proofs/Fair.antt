@@ -4,12 +4,10 @@ use mathlib.Core.Bool.{true, false}
 use mathlib.Core.List.{List, _∷_, _++_}
 use Prim.Native.Nat.{ℕ, _+_, _-_, _*_, _≤_, _<_}
 use lib.ListN.{length}
-use Rattle.packet.specs.Counts.{nibblePlace}
-use Rattle.packet.specs.Kinds.{placeOf, startsEpoch}
-use Rattle.packet.specs.Theorems.Tags.{tagOf}
+use Rattle.packet.specs.Kinds.{startsEpoch}
 use Rattle.phases.specs.Sizes.{sized}
 use Rattle.receiver.specs.Laws.Sizes.{Sizes, sizes-of}
-use Rattle.step.specs.Laws.Sent.{SentWith}
+use Rattle.step.specs.Laws.Sent.{KeptAs, SentWith}
 use Rattle.step.specs.OwnCount.{oddPacket}
 use Rattle.link.specs.Moments.{Unready}
 use Rattle.link.specs.Proofs.Contents.{numberOf, packetOf}
@@ -18,8 +16,8 @@ use Rattle.link.specs.Road.{Below, L, Road, times}
 pub record Fair (r : Road) : Type 0 where
   -- 01, 'Numbers that bound the work'
   pub sizes : sized (r .kind) (r .ports) (r .payload) (r .window) ≡ true
-  -- MFI1 comes as sent
-  pub placed : (p x : ℕ) → p < r .ports → r .first p ≤ x → nibblePlace (r .kind) (r .h4 p x) ≡ placeOf (r .kind) (tagOf (r .kind) (r .offset + x))
+  -- what lines never change comes as sent
+  pub placed : (p x : ℕ) → p < r .ports → r .first p ≤ x → KeptAs (r .kind) (r .offset + x) (r .h4 p x)
   -- and with it MFI2, of every frame that is handed before receiving has begun, and of the one with which it begins
   pub counted : (t p : ℕ) (done rest : List ℕ) → p < r .ports → r .order t ≡ done ++ (p ∷ rest) → r .delay p + r .first p ≤ t → Unready r t done
       → SentWith (r .kind) (r .offset + (t - r .delay p)) (r .h4 p (t - r .delay p))

@@ -1,7 +1,5 @@
 -- Our sender's histories are a lawful sending side. Nothing here knows the transport.
 pub mod Carried
-pub mod Counted
-pub mod Damage
 pub mod Lawful
 pub mod Numbering
 pub mod Ours

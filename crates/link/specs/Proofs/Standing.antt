@@ -6,8 +6,8 @@ use Prim.Native.Nat.{ℕ, suc, _+_, _-_, _*_, _%_, _≤_, _<_}
 use lib.Dec.{leb, ltb}
 use lib.ListN.{getD, length}
 use Rattle.ground.specs.Table.{tabulate}
-use Rattle.packet.specs.Counts.{nibbleIn}
 use Rattle.packet.specs.Kinds.{epochs, firstTag}
+use Rattle.packet.specs.Symbols.{symbolAt, symbolOf}
 use Rattle.packet.specs.Theorems.Tags.{tagOf}
 use Rattle.phases.specs.Beginning.{begins}
 use Rattle.rows.specs.declared.step.Step.{Step}
@@ -18,9 +18,9 @@ use Rattle.rows.specs.Rows.{rowsFor}
 use Rattle.rows.specs.Step.{stepAt}
 use Rattle.step.specs.Arrival.{runOf}
 use Rattle.step.specs.declared.run.Run.{Run}
-use Rattle.step.specs.Laws.Kept.{mostBreaks}
+use Rattle.step.specs.Laws.Kept.{Stays}
 use Rattle.step.specs.Laws.Run.{runAt, startFrom}
-use Rattle.step.specs.Run.{inStepAt, noRun}
+use Rattle.step.specs.Run.{noRun}
 use Rattle.store.specs.Laws.Marks.{Sixteen}
 use Rattle.store.specs.Laws.Stands.{Stands}
 use Rattle.store.specs.Marks.{markIn}
@@ -40,17 +40,14 @@ module _ (r : Road) where
     pub failed : s .failed ≡ 0
     pub run : runOf s ≡ heardRun p x
 
-  -- In step: that it is, the tag to come, that few frames in a row have broken the count, and that no packet was odd.
-  pub record Stepped (x : ℕ) (s : Step) : Type 0 where
-    pub count : inStepAt (r .kind) (s .count) ≡ true
-    pub next : s .next ≡ tagOf (r .kind) (r .offset + x)
-    pub breaks : s .breaks ≤ mostBreaks (r .kind) (tagOf (r .kind) (r .offset + x))
-    pub even : s .odd ≡ 0
+  -- In step: what the step rule says of a run in step that stays so.
+  abbrev pub Stepped : ℕ → Step → Type 0
+  Stepped x s = Stays (r .kind) (r .offset + x) (runOf s)
 
-  -- The packet being gathered, in every phase: of each of the last frames of the run its nibble stands at its own place.
+  -- The packet being gathered, in every phase: of each of the last frames of the run its symbol stands at its own place.
   pub record Live (p x : ℕ) (row : List ℕ) : Type 0 where
     pub long : length row ≡ 16
-    pub holds : (y : ℕ) → startFrom (r .kind) (r .offset) (r .first p) ≤ y → y < x → x ≤ y + L r → y % L r < 16 → getD row (y % L r) 0 ≡ nibbleIn (r .kind) (r .h4 p y)
+    pub holds : (y : ℕ) → startFrom (r .kind) (r .offset) (r .first p) ≤ y → y < x → x ≤ y + L r → symbolAt (r .kind) row (y % L r) ≡ symbolOf (r .kind) (r .h4 p y)
 
   -- the rows and the store are the road's
   pub record Lined (m : Moment) : Type 0 where

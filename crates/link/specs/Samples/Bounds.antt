@@ -7,11 +7,10 @@ use borrow.Author.Tests.{eqb-true, ltb-true}
 use lib.ListN.{getD}
 use Rattle.ground.specs.Finite.{below-at}
 use Rattle.ground.specs.Plain.{_==_, _<?_}
-use Rattle.packet.specs.Counts.{nibblePlace}
+use Rattle.packet.specs.Changes.{changed, keptPart}
 use Rattle.packet.specs.Crc.{nibbleBits}
 use Rattle.packet.specs.Kinds.{epochs, frames}
 use Rattle.packet.specs.Layout.{highsOf}
-use Rattle.packet.specs.Theorems.Damage.{changed}
 use Rattle.link.specs.FixedGroup.{Numbered}
 use Rattle.link.specs.History.{Allowed}
 use Rattle.link.specs.Link.{Damaged}
@@ -37,17 +36,17 @@ sent = 0xF8 ∷ 0xF9 ∷ 0x0A ∷ 0x0B ∷ 0x0C ∷ 0x0D ∷ 0xFE ∷ 0xFF ∷ 0
 abbrev hit : List ℕ
 hit = 0xF8 ∷ 0xF9 ∷ 0x0A ∷ 0x0B ∷ 0x0C ∷ 0x0D ∷ 0xFE ∷ 0xFF ∷ 0x00 ∷ 0x01 ∷ 0x52 ∷ 0x03 ∷ 0x04 ∷ 0x05 ∷ 0x86 ∷ 0x97 ∷ []
 
-one : changed sent hit ≡ 1
-unfolding highsOf nibbleBits
+one : changed 0 sent hit ≡ 1
+unfolding highsOf nibbleBits changed
 one = refl
 
 one-bit : Damaged 0 3 sent hit
-unfolding frames nibblePlace
+unfolding frames keptPart
 one-bit =
     record {
       long = refl;
       bytes = λ k b. ltb-true (getD hit k 0) 256 (below-at 16 (λ i. getD hit i 0 <? 256) refl k b);
       least = omega (arith, one);
       most = omega (arith, one);
-      placed = λ k b. eqb-true (nibblePlace 0 (getD hit k 0)) (nibblePlace 0 (getD sent k 0)) (below-at 16 (λ i. nibblePlace 0 (getD hit i 0) == nibblePlace 0 (getD sent i 0)) refl k b);
+      placed = λ k b. eqb-true (keptPart 0 k (getD hit k 0)) (keptPart 0 k (getD sent k 0)) (below-at 16 (λ i. keptPart 0 i (getD hit i 0) == keptPart 0 i (getD sent i 0)) refl k b);
     }

@@ -1,6 +1,6 @@
 -- The sample link is one that demand 3 speaks of.
 use mathlib.Core.Path.{_≡_, refl}
-use mathlib.Core.Logic.{inl, inr, ⊎-elim}
+use mathlib.Core.Logic.{_⊎_, inl, inr, ⊎-elim}
 use mathlib.Core.Bool.{Bool, true, false, _&&_}
 use mathlib.Core.List.{List, [], _∷_}
 use Prim.Native.Nat.{ℕ, zero, suc, _+_, _-_, _*_, _%_, _≤_, _<_}
@@ -10,11 +10,11 @@ use lib.ListN.{getD, length, length-replicate}
 use Rattle.ground.specs.Finite.{below-at}
 use Rattle.ground.specs.Plain.{if_then_else_, _==_, _<?_}
 use Rattle.ground.specs.Table.{length-tabulate}
-use Rattle.ground.specs.Truth.{and-left, and-right}
-use Rattle.packet.specs.Counts.{nibbleIn, nibblePlace}
+use Rattle.ground.specs.Truth.{and-left, and-right, or-cases}
+use Rattle.packet.specs.Changes.{bringsMfi2, changed, keptPart, mostChanges}
 use Rattle.packet.specs.Kinds.{epochs, frames, lead, tags}
 use Rattle.packet.specs.Layout.{highsOf}
-use Rattle.packet.specs.Theorems.Damage.{changed}
+use Rattle.packet.specs.Symbols.{symbolOf}
 use Rattle.phases.specs.Sizes.{sized}
 use Rattle.link.specs.Assumed.{Assumed}
 use Rattle.link.specs.History.{Allowed, xAt}
@@ -36,19 +36,19 @@ was-sent : sent 8 0 ≡ whole
 unfolding outcome
 was-sent = refl
 
-three : changed whole damaged ≡ 3
-unfolding outcome highsOf
+three : changed 0 whole damaged ≡ 3
+unfolding outcome highsOf changed
 three = refl
 
 damage : Damaged 0 3 whole damaged
-unfolding frames nibblePlace
+unfolding frames keptPart
 damage =
     record {
       long = refl;
       bytes = λ k b. ltb-true (getD damaged k 0) 256 (below-at 16 (λ i. getD damaged i 0 <? 256) refl k b);
       least = omega (arith, three);
       most = omega (arith, three);
-      placed = λ k b. eqb-true (nibblePlace 0 (getD damaged k 0)) (nibblePlace 0 (getD whole k 0)) (below-at 16 (λ i. nibblePlace 0 (getD damaged i 0) == nibblePlace 0 (getD whole i 0)) refl k b);
+      placed = λ k b. eqb-true (keptPart 0 k (getD damaged k 0)) (keptPart 0 k (getD whole k 0)) (below-at 16 (λ i. keptPart 0 i (getD damaged i 0) == keptPart 0 i (getD whole i 0)) refl k b);
     }
 
 pub arrived : (i p : ℕ) → Arrived 0 3 (sent i p) (came i p)
@@ -58,15 +58,20 @@ arrived i p = go (i == 8 && p == 0) refl
     go true e = let hi = eqb-true i 8 (and-left (i == 8) (p == 0) e) in let hp = eqb-true p 0 (and-right (i == 8) (p == 0) e) in inr (rw (hi, hp, was-sent) damage)
     go false e = inl refl
 
+-- the two places of MFI2
+pub mfi2-places : (k : ℕ) → BringsMfi2 0 k → (k ≡ 8) ⊎ (k ≡ 9)
+unfolding bringsMfi2 lead
+mfi2-places k brings = ⊎-elim (λ (e : (k == 8) ≡ true). inl (eqb-true k 8 e)) (λ (e : (k == 9) ≡ true). inr (eqb-true k 9 e)) (or-cases (k == 8) (k == 9) brings)
+
 -- its MFI2 came as sent, and so did that of all others
-pub number-kept : (i p k : ℕ) → BringsMfi2 0 k → nibbleIn 0 (getD (came i p) k 0) ≡ nibbleIn 0 (getD (sent i p) k 0)
-unfolding lead nibbleIn
+pub number-kept : (i p k : ℕ) → BringsMfi2 0 k → symbolOf 0 (getD (came i p) k 0) ≡ symbolOf 0 (getD (sent i p) k 0)
+unfolding symbolOf
 number-kept i p k brings = go (i == 8 && p == 0) refl
   where
-    both : BringsMfi2 0 k → nibbleIn 0 (getD damaged k 0) ≡ nibbleIn 0 (getD whole k 0)
-    both = ⊎-elim (λ (e : k ≡ lead 0). rw e refl) (λ (e : k ≡ lead 0 + 1). rw e refl)
+    both : BringsMfi2 0 k → symbolOf 0 (getD damaged k 0) ≡ symbolOf 0 (getD whole k 0)
+    both b = ⊎-elim (λ (e : k ≡ 8). rw e refl) (λ (e : k ≡ 9). rw e refl) (mfi2-places k b)
 
-    go : (b : Bool) → (i == 8 && p == 0) ≡ b → nibbleIn 0 (getD (if b then damaged else sent i p) k 0) ≡ nibbleIn 0 (getD (sent i p) k 0)
+    go : (b : Bool) → (i == 8 && p == 0) ≡ b → symbolOf 0 (getD (if b then damaged else sent i p) k 0) ≡ symbolOf 0 (getD (sent i p) k 0)
     go true e = let hi = eqb-true i 8 (and-left (i == 8) (p == 0) e) in let hp = eqb-true p 0 (and-right (i == 8) (p == 0) e) in rw (hi, hp, was-sent) (both brings)
     go false e = refl
 
@@ -85,7 +90,7 @@ only false = (omega arith, (omega arith, tt))
 -- all but the spread, for all group frames that are long enough, for every delay of port 0 and for every order of the ports
 pub met-by : (client : Client) → ((x : ℕ) → length (client x) ≡ xAt history (epochAt 0 x) * 1) → (late : ℕ) (lateFirst : ℕ → Bool)
     → ((p q : ℕ) → p < 2 → q < 2 → (if p == 0 then late else 0) + frames 0 ≤ (if q == 0 then late else 0) + 20) → Assumed (linkBy client late lateFirst)
-unfolding sized frames tags
+unfolding sized frames tags mostChanges
 met-by client whole late lateFirst spread =
     record {
       history = history;

@@ -13,10 +13,10 @@ use Rattle.ground.specs.Plain.{if_then_else_, _==_, _<?_}
 use Rattle.ground.specs.Table.{length-tabulate}
 use Rattle.ground.specs.Truth.{and-left, and-right}
 use Rattle.judge.specs.Verdict.{HELD, SURE}
-use Rattle.packet.specs.Counts.{nibbleIn, nibblePlace}
+use Rattle.packet.specs.Changes.{bringsMfi2, changed, keptPart, mostChanges}
 use Rattle.packet.specs.Kinds.{firstTag, frames, lead, tags}
 use Rattle.packet.specs.Layout.{highsOf}
-use Rattle.packet.specs.Theorems.Damage.{changed}
+use Rattle.packet.specs.Symbols.{packetRow, symbolOf}
 use Rattle.phases.specs.Sizes.{sized}
 use Rattle.step.specs.Laws.Run.{startFrom}
 use Rattle.step.specs.OwnCount.{ownNumber}
@@ -29,10 +29,10 @@ use Rattle.link.specs.Proofs.Transport.Times.{coming-is}
 use Rattle.link.specs.Road.{times}
 use Rattle.link.specs.Samples.Computing.{outcome}
 use Rattle.link.specs.Samples.Members.{came, client, history, linkOf, output, sent, unranked}
-use Rattle.link.specs.Samples.Met.{allowed, arrived, number-kept, once, only, spread-4}
+use Rattle.link.specs.Samples.Met.{allowed, arrived, mfi2-places, number-kept, once, only, spread-4}
 use Rattle.link.specs.Samples.Reports.{held, reportsWith}
 use Rattle.link.specs.Samples.Tracing.{begun-by, course, drainedBy, outcome-by, traced, turnBy, turnsBy}
-use Rattle.link.specs.Sending.{epochAt, epochNumber, nibblesIn}
+use Rattle.link.specs.Sending.{epochAt, epochNumber}
 use Rattle.link.specs.Theorems.{demand3}
 
 -- Receiving begins in frame time 55. Port 1's packet of the epoch at index 3 is then half there: its MFI2 comes in frame times 56 and 57. Port 0's of the epoch at index 5 comes later: it stands in the first epoch that is reported, and rules the second.
@@ -57,34 +57,34 @@ next-sent : sent 5 0 ≡ next
 unfolding outcome
 next-sent = refl
 
-half-two : changed half half-hit ≡ 2
-unfolding outcome highsOf
+half-two : changed 0 half half-hit ≡ 2
+unfolding outcome highsOf changed
 half-two = refl
 
-next-two : changed next next-hit ≡ 2
-unfolding outcome highsOf
+next-two : changed 0 next next-hit ≡ 2
+unfolding outcome highsOf changed
 next-two = refl
 
 half-damage : Damaged 0 3 half half-hit
-unfolding frames nibblePlace
+unfolding frames keptPart
 half-damage =
     record {
       long = refl;
       bytes = λ k b. ltb-true (getD half-hit k 0) 256 (below-at 16 (λ i. getD half-hit i 0 <? 256) refl k b);
       least = omega (arith, half-two);
       most = omega (arith, half-two);
-      placed = λ k b. eqb-true (nibblePlace 0 (getD half-hit k 0)) (nibblePlace 0 (getD half k 0)) (below-at 16 (λ i. nibblePlace 0 (getD half-hit i 0) == nibblePlace 0 (getD half i 0)) refl k b);
+      placed = λ k b. eqb-true (keptPart 0 k (getD half-hit k 0)) (keptPart 0 k (getD half k 0)) (below-at 16 (λ i. keptPart 0 i (getD half-hit i 0) == keptPart 0 i (getD half i 0)) refl k b);
     }
 
 next-damage : Damaged 0 3 next next-hit
-unfolding frames nibblePlace
+unfolding frames keptPart
 next-damage =
     record {
       long = refl;
       bytes = λ k b. ltb-true (getD next-hit k 0) 256 (below-at 16 (λ i. getD next-hit i 0 <? 256) refl k b);
       least = omega (arith, next-two);
       most = omega (arith, next-two);
-      placed = λ k b. eqb-true (nibblePlace 0 (getD next-hit k 0)) (nibblePlace 0 (getD next k 0)) (below-at 16 (λ i. nibblePlace 0 (getD next-hit i 0) == nibblePlace 0 (getD next i 0)) refl k b);
+      placed = λ k b. eqb-true (keptPart 0 k (getD next-hit k 0)) (keptPart 0 k (getD next k 0)) (below-at 16 (λ i. keptPart 0 i (getD next-hit i 0) == keptPart 0 i (getD next i 0)) refl k b);
     }
 
 abbrev came-after : ℕ → ℕ → List ℕ
@@ -143,7 +143,7 @@ unfolding roadOf
 later-not t done late un = un 55 (1 ∷ 0 ∷ []) [] refl (inl late) ready-then
 
 spared-after : (t p : ℕ) (done : List ℕ) → Unready (roadOf after) t done → NumberKept after t p
-unfolding frames lead
+unfolding frames
 spared-after t p done un brings = go (epochAt 0 x == 3 && p == 1) refl
   where
     x : ℕ
@@ -153,16 +153,16 @@ spared-after t p done un brings = go (epochAt 0 x == 3 && p == 1) refl
     late : (i : ℕ) → 3 ≤ i → (t - (if p == 0 then 4 else 0)) / 16 ≡ i → 55 < t
     late i l e =
         let low : 48 ≤ t - (if p == 0 then 4 else 0) = omega arith in
-        ⊎-elim (λ (b : (t - (if p == 0 then 4 else 0)) % 16 ≡ 8). omega arith) (λ (b : (t - (if p == 0 then 4 else 0)) % 16 ≡ 8 + 1). omega arith) brings
+        ⊎-elim (λ (b : (t - (if p == 0 then 4 else 0)) % 16 ≡ 8). omega arith) (λ (b : (t - (if p == 0 then 4 else 0)) % 16 ≡ 9). omega arith) (mfi2-places ((t - (if p == 0 then 4 else 0)) % 16) brings)
 
     other : (b : Bool) → (epochAt 0 (t - (if p == 0 then 4 else 0)) == 5 && p == 0) ≡ b
-        → nibbleIn 0 (getD (if b then next-hit else came (epochAt 0 (t - (if p == 0 then 4 else 0))) p) ((t - (if p == 0 then 4 else 0)) % 16) 0) ≡ nibbleIn 0 (getD (sent (epochAt 0 (t - (if p == 0 then 4 else 0))) p) ((t - (if p == 0 then 4 else 0)) % 16) 0)
+        → symbolOf 0 (getD (if b then next-hit else came (epochAt 0 (t - (if p == 0 then 4 else 0))) p) ((t - (if p == 0 then 4 else 0)) % 16) 0) ≡ symbolOf 0 (getD (sent (epochAt 0 (t - (if p == 0 then 4 else 0))) p) ((t - (if p == 0 then 4 else 0)) % 16) 0)
     other true e = absurd (later-not t done (late 5 (omega arith) (eqb-true (epochAt 0 (t - (if p == 0 then 4 else 0))) 5 (and-left (epochAt 0 (t - (if p == 0 then 4 else 0)) == 5) (p == 0) e))) un)
     other false e = number-kept (epochAt 0 (t - (if p == 0 then 4 else 0))) p ((t - (if p == 0 then 4 else 0)) % 16) brings
 
     go : (b : Bool) → (epochAt 0 (t - (if p == 0 then 4 else 0)) == 3 && p == 1) ≡ b
-        → nibbleIn 0 (getD (if b then half-hit else if epochAt 0 (t - (if p == 0 then 4 else 0)) == 5 && p == 0 then next-hit else came (epochAt 0 (t - (if p == 0 then 4 else 0))) p) ((t - (if p == 0 then 4 else 0)) % 16) 0)
-        ≡ nibbleIn 0 (getD (sent (epochAt 0 (t - (if p == 0 then 4 else 0))) p) ((t - (if p == 0 then 4 else 0)) % 16) 0)
+        → symbolOf 0 (getD (if b then half-hit else if epochAt 0 (t - (if p == 0 then 4 else 0)) == 5 && p == 0 then next-hit else came (epochAt 0 (t - (if p == 0 then 4 else 0))) p) ((t - (if p == 0 then 4 else 0)) % 16) 0)
+        ≡ symbolOf 0 (getD (sent (epochAt 0 (t - (if p == 0 then 4 else 0))) p) ((t - (if p == 0 then 4 else 0)) % 16) 0)
     go true e = absurd (later-not t done (late 3 (omega arith) (eqb-true (epochAt 0 (t - (if p == 0 then 4 else 0))) 3 (and-left (epochAt 0 (t - (if p == 0 then 4 else 0)) == 3) (p == 1) e))) un)
     go false e = other (epochAt 0 (t - (if p == 0 then 4 else 0)) == 5 && p == 0) refl
 
@@ -170,7 +170,7 @@ spared-after t p done un brings = go (epochAt 0 x == 3 && p == 1) refl
 met-with : (hits : ℕ → ℕ → List ℕ) → ((i p : ℕ) → Arrived 0 3 (sent i p) (hits i p))
     → ((t p : ℕ) (done : List ℕ) → Unready (roadOf (linkOf hits client 4 (λ t. t % 2 == 0))) t done → NumberKept (linkOf hits client 4 (λ t. t % 2 == 0)) t p)
     → Assumed (linkOf hits client 4 (λ t. t % 2 == 0))
-unfolding sized frames tags
+unfolding sized frames tags mostChanges
 met-with hits arrived spared =
     record {
       history = history;
@@ -206,10 +206,10 @@ run-after = outcome-by after 180 _ refl
 
 -- A wrong reading: an epoch held for the MFI2 of a packet of its own. The first epoch reported is ruled by packets that came as sent, so demand 3 wants it sure.
 wrong-mark : Link → ℕ → ℕ
-wrong-mark k i = if every 2 (λ p. ownNumber (epochNumber 0 249 i) (nibblesIn 0 (k .came i p))) then SURE else HELD
+wrong-mark k i = if every 2 (λ p. ownNumber (epochNumber 0 249 i) (packetRow 0 (k .came i p))) then SURE else HELD
 
 own-breaks : (wrong-mark after 5 ≡ HELD) × (expected after 4 output .mark ≡ SURE)
-unfolding outcome wrong-mark nibblesIn frames
+unfolding outcome wrong-mark
 own-breaks = (refl, refl)
 
 -- Before it begins: the low nibble of MFI2 in port 1's packet of the epoch at index 2 comes in frame time 41.
@@ -240,10 +240,10 @@ unready-then u earlier rest e na y =
 
 -- Of what demand 3 lets be so this alone lacks.
 not-spared : Assumed before → ⊥
-unfolding outcome
+unfolding outcome bringsMfi2
 not-spared a =
     let e : NumberKept before 41 1 = a .lines .spared 41 1 [] (0 ∷ []) (omega arith) refl (omega arith) unready-then in
-    let same : _≡_ {A = ℕ} 10 11 = e (inr refl) in
+    let same : _≡_ {A = ℕ} 10 11 = e refl in
     absurd (omega arith)
 
 -- before which frame times receiving had begun, the last one first
@@ -264,19 +264,19 @@ late-then = (
 abbrev other-hit : List ℕ
 other-hit = 0xF8 ∷ 0xE9 ∷ 0x0A ∷ 0x0B ∷ 0x0C ∷ 0x0D ∷ 0x0E ∷ 0x0F ∷ 0xF0 ∷ 0xB1 ∷ 0x02 ∷ 0x13 ∷ 0x04 ∷ 0x05 ∷ 0x26 ∷ 0x87 ∷ []
 
-other-three : changed early other-hit ≡ 3
-unfolding outcome highsOf
+other-three : changed 0 early other-hit ≡ 3
+unfolding outcome highsOf changed
 other-three = refl
 
 other-damage : Damaged 0 3 early other-hit
-unfolding frames nibblePlace
+unfolding frames keptPart
 other-damage =
     record {
       long = refl;
       bytes = λ k b. ltb-true (getD other-hit k 0) 256 (below-at 16 (λ i. getD other-hit i 0 <? 256) refl k b);
       least = omega (arith, other-three);
       most = omega (arith, other-three);
-      placed = λ k b. eqb-true (nibblePlace 0 (getD other-hit k 0)) (nibblePlace 0 (getD early k 0)) (below-at 16 (λ i. nibblePlace 0 (getD other-hit i 0) == nibblePlace 0 (getD early i 0)) refl k b);
+      placed = λ k b. eqb-true (keptPart 0 k (getD other-hit k 0)) (keptPart 0 k (getD early k 0)) (below-at 16 (λ i. keptPart 0 i (getD other-hit i 0) == keptPart 0 i (getD early i 0)) refl k b);
     }
 
 abbrev came-elsewhere : ℕ → ℕ → List ℕ
@@ -292,14 +292,14 @@ arrived-elsewhere i p = go (i == 2 && p == 1) refl
     go true e = let hi = eqb-true i 2 (and-left (i == 2) (p == 1) e) in let hp = eqb-true p 1 (and-right (i == 2) (p == 1) e) in inr (rw (hi, hp, early-sent) other-damage)
     go false e = arrived i p
 
-kept-elsewhere : (i p k : ℕ) → BringsMfi2 0 k → nibbleIn 0 (getD (came-elsewhere i p) k 0) ≡ nibbleIn 0 (getD (sent i p) k 0)
-unfolding lead nibbleIn
+kept-elsewhere : (i p k : ℕ) → BringsMfi2 0 k → symbolOf 0 (getD (came-elsewhere i p) k 0) ≡ symbolOf 0 (getD (sent i p) k 0)
+unfolding symbolOf
 kept-elsewhere i p k brings = go (i == 2 && p == 1) refl
   where
-    both : BringsMfi2 0 k → nibbleIn 0 (getD other-hit k 0) ≡ nibbleIn 0 (getD early k 0)
-    both = ⊎-elim (λ (e : k ≡ lead 0). rw e refl) (λ (e : k ≡ lead 0 + 1). rw e refl)
+    both : BringsMfi2 0 k → symbolOf 0 (getD other-hit k 0) ≡ symbolOf 0 (getD early k 0)
+    both b = ⊎-elim (λ (e : k ≡ 8). rw e refl) (λ (e : k ≡ 9). rw e refl) (mfi2-places k b)
 
-    go : (b : Bool) → (i == 2 && p == 1) ≡ b → nibbleIn 0 (getD (if b then other-hit else came i p) k 0) ≡ nibbleIn 0 (getD (sent i p) k 0)
+    go : (b : Bool) → (i == 2 && p == 1) ≡ b → symbolOf 0 (getD (if b then other-hit else came i p) k 0) ≡ symbolOf 0 (getD (sent i p) k 0)
     go true e = let hi = eqb-true i 2 (and-left (i == 2) (p == 1) e) in let hp = eqb-true p 1 (and-right (i == 2) (p == 1) e) in rw (hi, hp, early-sent) (both brings)
     go false e = number-kept i p k brings
 

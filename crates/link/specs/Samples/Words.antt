@@ -7,9 +7,10 @@ use lib.ListN.{length, replicate}
 use Rattle.ground.specs.Plain.{if_then_else_, _==_, _<?_}
 use Rattle.ground.specs.Table.{tabulate}
 use Rattle.judge.specs.Verdict.{doubtfulBy, eosWrong, gidDiffers, heldBy, judgeOf, lcasVerdict, missing, repeats}
-use Rattle.packet.specs.Counts.{counts, nibbleIn, startsCount}
+use Rattle.packet.specs.Counts.{counts, startsCount}
 use Rattle.packet.specs.Kinds.{epochAfter, epochOf, epochs, firstTag, frames, idleNumber, lead, mstFails, mstFirst, mstNumbers, tagBefore, tags}
 use Rattle.packet.specs.Layout.{fieldsOf}
+use Rattle.packet.specs.Symbols.{entryAt, entryFrom, entryWith, rowFrom, symbolOf, withSymbol}
 use Rattle.phases.specs.Due.{brought, owesNothing}
 use Rattle.phases.specs.Passing.{passedGroup, passedOf, passedPort, passedPorts, passedStep, ruledBy}
 use Rattle.phases.specs.Sizes.{portsIn, sized, storeFor}
@@ -230,5 +231,5 @@ run-words :
     × (length (drained alone 1 both-due .told) ≡ 1)
     × (length (drained alone 2 both-due .told) ≡ 2)
     × (length (drained alone 3 both-due .told) ≡ 2)
-unfolding arrives beginOf begunRun boardOf brought byteAt counts countsOn doubtfulBy drained dueIn eosWrong epochAfter epochOf epochs fetchFits fetchRecord fetchRows fetched fieldsOf firstMark firstTag fits frameAnswer frameDropped frameFits framed frames fresh freshOf freshPort freshPorts freshSender furtherRun gainedRun gidDiffers groupAt groupOf groupRow h4At hasRank heldBy idleSlot inStep inStepAt judgeOf lcasVerdict lead marksAt missing nibbleIn outputFor owesNothing ownNumber ownRuling packetIn packetsAt passedByte passedGroup passedMarks passedOf passedPort passedPorts passedStep placeIn portsIn putGroup putMarks putMember putPackets putRow putStep rankAt readable recordOf refusalBy repeats reportBy reportIfDue reportSeen reportedOf ringOf roadOf rowIn rowOf rowsFit rowsIfDue rowsOf ruledBy rulingEpoch runOn seenAll seenOf senderAt sizeOf sized sizedFits sizedRows startAsRows startEpochOf startFits startOf startRight startedSender startsCount statePut statesPut statesWorkedOut stepAt stepOf stepRow storeFor tagBefore tags takenOf timesWithin
+unfolding arrives beginOf begunRun boardOf brought byteAt counts countsOn doubtfulBy drained dueIn eosWrong epochAfter epochOf epochs fetchFits fetchRecord fetchRows fetched fieldsOf firstMark firstTag fits frameAnswer frameDropped frameFits framed frames fresh freshOf freshPort freshPorts freshSender furtherRun gainedRun gidDiffers groupAt groupOf groupRow h4At hasRank heldBy idleSlot inStep inStepAt judgeOf lcasVerdict lead marksAt missing entryAt entryFrom entryWith rowFrom symbolOf withSymbol outputFor owesNothing ownNumber ownRuling packetIn packetsAt passedByte passedGroup passedMarks passedOf passedPort passedPorts passedStep placeIn portsIn putGroup putMarks putMember putPackets putRow putStep rankAt readable recordOf refusalBy repeats reportBy reportIfDue reportSeen reportedOf ringOf roadOf rowIn rowOf rowsFit rowsIfDue rowsOf ruledBy rulingEpoch runOn seenAll seenOf senderAt sizeOf sized sizedFits sizedRows startAsRows startEpochOf startFits startOf startRight startedSender startsCount statePut statesPut statesWorkedOut stepAt stepOf stepRow storeFor tagBefore tags takenOf timesWithin
 run-words = (refl, refl, refl, refl, refl, refl, refl, refl)

@@ -87,6 +87,11 @@ module _ (kind x h : ℕ) (sent : counts kind (tagOf kind x) h ≡ true) where
 same-low-nibble : (t : ℕ) → t % 16 ≡ 0 → (t + 1) / 16 % 16 % 16 ≡ t / 16 % 16
 same-low-nibble t z = omega arith
 
+-- the tag before the one that it tells of is at its own place
+pub told-place : (kind x : ℕ) → x % frames kind ≡ 0 → placeOf kind (tagBefore kind (toldFirst kind x)) ≡ placeOf kind (tagOf kind x)
+unfolding toldFirst tagBefore placeOf lead frames tags
+told-place kind x z = omega arith
+
 nibbles-told : (t n : ℕ) → t < 4096 → t % 16 ≡ 0 → n ≡ t / 16 % 16 → (t / 256 * 256 + 1) / 256 % 16 * 256 + n * 16 + 2 ≡ t + 2
 nibbles-told t n below z e =
     let q : (t / 256 * 256 + 1) / 256 % 16 ≡ t / 256 = omega arith in

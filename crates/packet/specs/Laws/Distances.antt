@@ -117,7 +117,7 @@ unfolding firstTag epochAfter epochOf placeOf
 next-start kind f =
     by (λ L E N l. (((f + l) % N / L + 1) % E * L + (N - l)) % N ≡ (f + (L - (f + l) % L)) % N) (omega arith) (omega arith) kind
 
-place-below : (kind f : ℕ) → placeOf kind f < frames kind
+pub place-below : (kind f : ℕ) → placeOf kind f < frames kind
 unfolding placeOf
 place-below kind f = mod-lt (f + lead kind) (frames-some kind)
 

@@ -12,6 +12,7 @@ use Rattle.ground.specs.Polynomial.{apart, check}
 use Rattle.packet.specs.declared.layout.Fields.{Fields}
 use Rattle.packet.specs.declared.reader.Reading.the-variants.{Crc}
 use Rattle.packet.specs.declared.writer.Writing.the-variants.{Done}
+use Rattle.packet.specs.Changes.{changedBits}
 use Rattle.packet.specs.Crc.{bitsOf, crcOf, divisor, nibbleBits}
 use Rattle.packet.specs.Laws.Bounds.{bounds}
 use Rattle.packet.specs.Laws.Bytes.{bits-append, byte-bits, crc-bits, length-bits-of}
@@ -21,10 +22,6 @@ use Rattle.packet.specs.Reading.{readAnswer, readNibbles}
 use Rattle.packet.specs.Theorems.Distance.{packet-bits, strong}
 use Rattle.packet.specs.Theorems.ReadBack.{length-nibbles, written-as}
 use Rattle.packet.specs.Writing.{writeAnswer, writeBytes}
-
--- in how many of its 64 bits a packet arrived otherwise than it was sent, both as H4 bytes
-abbrev pub changed : List ℕ → List ℕ → ℕ
-changed sent came = apart (bitsOf (highsOf sent)) (bitsOf (highsOf came))
 
 -- where the CRC fits, the last two nibbles are the check of the fourteen before them
 fitted : (a b : ℕ) (d : List ℕ) → crcOf d ≡ byteOf a b → check divisor (bitsOf d) ≡ nibbleBits a ++ nibbleBits b
@@ -65,7 +62,7 @@ nibbles-damaged d ns hd hn low high = rw (ne-eqb (crcOf (take 14 ns)) (byteOf a 
         (let h = length-bits-of d in omega arith)
         (rw (packet-bits d, tail) at low) (rw (packet-bits d, tail) at high) (fitted a b (take 14 ns) same)
 
-sent : (f : Fields) (s : List ℕ) → writeAnswer f s ≡ Done → highsOf (writeBytes f s) ≡ sealedOf (dataOf f)
+pub sent : (f : Fields) (s : List ℕ) → writeAnswer f s ≡ Done → highsOf (writeBytes f s) ≡ sealedOf (dataOf f)
 unfolding nibblesOf
 sent f s e =
     let w = written-as f s e in
@@ -80,7 +77,7 @@ unfolding dataOf
 length-data f = refl
 
 pub damaged : (f : Fields) (s came : List ℕ) → writeAnswer f s ≡ Done → length came ≡ 16
-    → 1 ≤ changed (writeBytes f s) came → changed (writeBytes f s) came ≤ 3 → readAnswer came ≡ Crc
+    → 1 ≤ changedBits (writeBytes f s) came → changedBits (writeBytes f s) came ≤ 3 → readAnswer came ≡ Crc
 unfolding readAnswer
 damaged f s came e h low high =
     rw (eq-eqb (length came) 16 h)

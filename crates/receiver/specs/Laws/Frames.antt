@@ -4,10 +4,10 @@ use mathlib.Core.Logic.{⊎-elim, _≢_}
 use mathlib.Core.Bool.{Bool, true, false, cond}
 use mathlib.Core.List.{List, [], _∷_}
 use Prim.Native.Nat.{ℕ, _≤_, _<_}
-use lib.ListN.{getD, length, set}
+use lib.ListN.{getD, length}
 use Rattle.ground.specs.Truth.{eq-or-ne}
-use Rattle.packet.specs.Counts.{nibbleIn}
 use Rattle.packet.specs.Kinds.{placeOf}
+use Rattle.packet.specs.Symbols.{withSymbol}
 use Rattle.receiver.specs.Frame.{gatheredBy, marksBy, ownTag, portRows}
 use Rattle.rows.specs.Group.{groupAt}
 use Rattle.rows.specs.Laws.Port.{group-put, length-put, port-put, port-put-other}
@@ -34,8 +34,8 @@ unfolding gatheredBy
 ruling-stays kind a b true tag h = refl
 ruling-stays kind a b false tag h = refl
 
--- a counted frame's nibble goes to the place of its own tag
-gathers : (kind : ℕ) (a b : List ℕ) (counted : Bool) (tag h : ℕ) → getD (gatheredBy kind (a ∷ b ∷ []) counted tag h) 0 [] ≡ cond counted (set a (placeOf kind tag) (nibbleIn kind h)) a
+-- a counted frame's symbol goes to the place of its own tag
+gathers : (kind : ℕ) (a b : List ℕ) (counted : Bool) (tag h : ℕ) → getD (gatheredBy kind (a ∷ b ∷ []) counted tag h) 0 [] ≡ cond counted (withSymbol kind a (placeOf kind tag) h) a
 unfolding gatheredBy
 gathers kind a b true tag h = refl
 gathers kind a b false tag h = refl
@@ -85,7 +85,7 @@ module _ (kind : ℕ) (s : List (List ℕ)) (i : ℕ) (t : Taken) (h : ℕ) wher
 
   -- the packet being gathered
   pub frame-gathering : (n : ℕ) → i < n → rowsFor n ≤ length s
-      → portAt (portRows kind s i t h) i .gathering ≡ cond (t .counted) (set (portAt s i .gathering) (placeOf kind (ownTag kind t)) (nibbleIn kind h)) (portAt s i .gathering)
+      → portAt (portRows kind s i t h) i .gathering ≡ cond (t .counted) (withSymbol kind (portAt s i .gathering) (placeOf kind (ownTag kind t)) h) (portAt s i .gathering)
   frame-gathering n b l = ap (λ (p : Port). p .gathering) (frame-port n b l) ∙ gathers kind (portAt s i .gathering) (portAt s i .ruling) (t .counted) (ownTag kind t) h
 
   -- no frame changes which packet rules

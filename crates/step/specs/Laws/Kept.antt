@@ -1,45 +1,28 @@
--- A port in step is kept (request 2026-04): through every frame whose MFI1 is as the own count says, if no packet of it that ends has a right CRC and another MFI2. It comes into step as before.
+-- A port in step is kept (request 2026-04): through every frame of which what lines never change came as sent, if no packet of it that ends has a right CRC and another MFI2. It comes into step as before.
 use mathlib.Core.Path.{_≡_, refl, _∙_, sym, ap}
 use mathlib.Core.Logic.{⊎-elim, _≢_}
 use mathlib.Core.Bool.{Bool, true, false, cond, true≢false}
-use Prim.Native.Nat.{ℕ, _+_, _*_, _/_, _%_, _≤_, _<_}
-use native.Mathlib.Nat.{mod-eq-of-lt, mod-lt}
+use Prim.Native.Nat.{ℕ, _+_, _*_, _%_, _≤_, _<_}
+use native.Mathlib.Nat.{mod-eq-of-lt}
 use native.Mathlib.Omega.{arith}
 use lib.Dec.{eqb}
-use lib.ListN.{getD}
 use borrow.Author.Tests.{eq-eqb, ne-eqb}
 use Rattle.ground.specs.Truth.{eq-or-ne}
+use Rattle.packet.specs.Changes.{bringsMfi2}
 use Rattle.packet.specs.Clock.{by}
-use Rattle.packet.specs.Counts.{counts, nibblePlace}
-use Rattle.packet.specs.declared.layout.Fields.{Fields}
-use Rattle.packet.specs.Kinds.{epochOf, frames, lead, placeOf, tagAfter}
-use Rattle.packet.specs.Laws.Counting.{counted-as-sent, counts-as}
-use Rattle.packet.specs.Layout.{h4Of, nibblesOf}
-use Rattle.packet.specs.Theorems.Tags.{epoch-of, epochs-fit, epochs-some, frames-two, next-tag, place-of, tagOf}
+use Rattle.packet.specs.Counts.{counts}
+use Rattle.packet.specs.Kinds.{frames, lead, placeOf, tagAfter}
+use Rattle.packet.specs.Laws.Changes.{counts-kept}
+use Rattle.packet.specs.Theorems.Tags.{frames-two, next-tag, place-of, tagOf}
 use Rattle.step.specs.declared.run.Run.{Run}
-use Rattle.step.specs.Laws.Run.{RunAt, at-after, odd-none, run-broken, run-in-step, run-next, run-on, sent-place}
-use Rattle.step.specs.Laws.Sent.{SentWith}
+use Rattle.step.specs.Laws.Run.{RunAt, at-after, odd-none, run-broken, run-in-step, run-next, run-on}
+use Rattle.step.specs.Laws.Sent.{KeptAs, SentWith}
 use Rattle.step.specs.Run.{inStepAt, runOn}
 
--- With MFI1 as it should be, a frame breaks the count only where it brings a nibble of MFI2.
+-- With its kept part as sent a frame breaks the count only where it brings a nibble of MFI2.
 
--- a packet of an epoch, whatever else it says
-abbrev sample : ℕ → Fields
-sample e = record { epoch = e; word = record { 0 = 0 }; gid = 0; mst = 0; «rs_ack» = 0; sq = 0; reserved = 0 }
-
-epoch-byte : (kind x : ℕ) → epochOf kind (tagOf kind x) < 256
-epoch-byte kind x =
-    let most = epochs-fit kind in
-    let below = mod-lt ((x + lead kind) / frames kind) (epochs-some kind) in
-    rw (epoch-of kind x) (omega arith)
-
-pub placed-counts : (kind x h : ℕ) → nibblePlace kind h ≡ placeOf kind (tagOf kind x) → placeOf kind (tagOf kind x) ≢ lead kind → placeOf kind (tagOf kind x) ≢ lead kind + 1
-    → SentWith kind x h
-placed-counts kind x h place d e =
-    let t : ℕ = tagOf kind x in
-    let g : ℕ = getD (h4Of (nibblesOf (sample (epochOf kind t)))) (placeOf kind t) 0 in
-    let sent : counts kind t g ≡ true = counted-as-sent kind x (sample (epochOf kind t)) (epoch-byte kind x) refl in
-    counts-as kind t h g sent (place ∙ sym (sent-place kind x g sent)) (λ z. absurd (d z)) (λ z. absurd (e z))
+spared-counts : (kind x h : ℕ) → KeptAs kind x h → bringsMfi2 kind (placeOf kind (tagOf kind x)) ≡ false → SentWith kind x h
+spared-counts kind x h k none = counts-kept kind (tagOf kind x) h (k .byte) (k .sent) (k .same) (λ z. absurd (true≢false (sym z ∙ none)))
 
 -- so at most so many in a row break it before the frame with a tag
 unfoldable pub mostBreaks : ℕ → ℕ → ℕ
@@ -58,9 +41,9 @@ record Fewer (kind x b : ℕ) : Type 0 where
   three : b < 3
   more : b + 1 ≤ mostBreaks kind (tagOf kind (x + 1))
 
-few-on : (kind x h b : ℕ) → nibblePlace kind h ≡ placeOf kind (tagOf kind x) → counts kind (tagOf kind x) h ≡ false → b ≤ mostBreaks kind (tagOf kind x) → Fewer kind x b
-unfolding mostBreaks
-few-on kind x h b place broken l =
+few-on : (kind x h b : ℕ) → KeptAs kind x h → counts kind (tagOf kind x) h ≡ false → b ≤ mostBreaks kind (tagOf kind x) → Fewer kind x b
+unfolding mostBreaks bringsMfi2
+few-on kind x h b as-kept broken l =
     let within = third-within kind in
     let p : ℕ = placeOf kind (tagOf kind x) in
     ⊎-elim
@@ -78,7 +61,8 @@ few-on kind x h b place broken l =
     let two : mostBreaks kind (tagOf kind (x + 1)) ≡ 2 = rw (next, ne-eqb (lead kind + 2) (lead kind + 1) (λ (z : lead kind + 2 ≡ lead kind + 1). omega arith), eq-eqb (lead kind + 2) (lead kind + 2) refl) refl in
     let most : b ≤ 1 = rw one at l in
     record { three = omega arith; more = rw two (omega arith) })
-    (λ (f : placeOf kind (tagOf kind x) ≢ lead kind + 1). absurd (true≢false (sym (placed-counts kind x h place d f) ∙ broken)))
+    (λ (f : placeOf kind (tagOf kind x) ≢ lead kind + 1).
+    absurd (true≢false (sym (spared-counts kind x h as-kept (rw (ne-eqb (placeOf kind (tagOf kind x)) (lead kind) d, ne-eqb (placeOf kind (tagOf kind x)) (lead kind + 1) f) refl)) ∙ broken)))
     (eq-or-ne (placeOf kind (tagOf kind x)) (lead kind + 1)))
     (eq-or-ne (placeOf kind (tagOf kind x)) (lead kind))
 
@@ -89,8 +73,8 @@ pub record Stays (kind x : ℕ) (run : Run) : Type 0 where
   pub breaks : run .breaks ≤ mostBreaks kind (tagOf kind x)
   pub even : run .odd ≡ 0
 
-pub kept : (kind x : ℕ) (run : Run) (odd : Bool) (h : ℕ) → Stays kind x run → nibblePlace kind h ≡ placeOf kind (tagOf kind x) → odd ≡ false → Stays kind (x + 1) (runOn kind run odd h)
-kept kind x run odd h o place even = go (counts kind (run .next) h) refl
+pub kept : (kind x : ℕ) (run : Run) (odd : Bool) (h : ℕ) → Stays kind x run → KeptAs kind x h → odd ≡ false → Stays kind (x + 1) (runOn kind run odd h)
+kept kind x run odd h o as-kept even = go (counts kind (run .next) h) refl
   where
     on : tagAfter kind (run .next) ≡ tagOf kind (x + 1)
     on = ap (tagAfter kind) (o .next) ∙ next-tag kind x
@@ -98,7 +82,7 @@ kept kind x run odd h o place even = go (counts kind (run .next) h) refl
     go : (c : Bool) → counts kind (run .next) h ≡ c → Stays kind (x + 1) (runOn kind run odd h)
     go true e = rw (run-on kind run odd h (o .count) e even) (record { count = o .count; next = on; breaks = omega arith; even = odd-none kind run (o .even) })
     go false e =
-        let f : Fewer kind x (run .breaks) = few-on kind x h (run .breaks) place (rw (o .next) at e) (o .breaks) in
+        let f : Fewer kind x (run .breaks) = few-on kind x h (run .breaks) as-kept (rw (o .next) at e) (o .breaks) in
         rw (run-broken kind run odd h (o .count) e even (f .three)) (record { count = o .count; next = on; breaks = f .more; even = odd-none kind run (o .even) })
 
 -- and so is the run of frames as sent, once it is a step

@@ -1,6 +1,6 @@
 -- The step rule on frames as sent: a port is in step exactly from the frame at which two multiframes have come since the first with MFI1 0, and stays so with the tag of its position.
 -- The idea: the run after the frame at position x is written down outright (`runAt`), and one frame more leads from it to the next (`run-goes`).
-use mathlib.Core.Path.{_≡_, refl, _∙_, sym, ap}
+use mathlib.Core.Path.{_≡_, refl, _∙_, ap}
 use mathlib.Core.Logic.{⊎-elim, _≢_}
 use mathlib.Core.Bool.{Bool, true, false, cond, not, _&&_}
 use Prim.Native.Nat.{ℕ, _+_, _-_, _*_, _%_, _≤_, _<_, min}
@@ -8,10 +8,9 @@ use native.Mathlib.Omega.{arith}
 use lib.Dec.{eqb, leb, ltb}
 use borrow.Author.Tests.{eq-eqb, ne-eqb, lt-ltb, le-ltb, le-leb, leb-true, lt-leb, leb-false}
 use Rattle.ground.specs.Truth.{eq-or-ne, le-or-lt, neither}
-use Rattle.packet.specs.Counts.{counts, nibblePlace}
+use Rattle.packet.specs.Counts.{counts}
 use Rattle.packet.specs.Kinds.{frames, placeOf, tagAfter, tagBefore}
-use Rattle.packet.specs.Laws.Counting.{counted-place, sent-first, sent-second, sent-starts, sent-starts-not, sent-told, starts-place, toldFirst}
-use Rattle.packet.specs.Laws.Distances.{place-back}
+use Rattle.packet.specs.Laws.Counting.{sent-first, sent-second, sent-starts, sent-starts-not, sent-told, told-place, toldFirst}
 use Rattle.packet.specs.Laws.Epochs.{run-fits, start-least, to-start, to-start-lt}
 use Rattle.packet.specs.Theorems.Tags.{frames-two, next-tag, tag-before, tagOf}
 use Rattle.step.specs.declared.run.Run.{Run}
@@ -103,6 +102,19 @@ run-short kind c0 a x run is near =
     (eq-or-ne x a))
     (λ (g : x < a). rw (is, at-before kind c0 a x g) (lt-leb (frames kind * 2) 0 (omega arith)))
     (le-or-lt a x)
+
+-- it has a frame from a on
+pub run-counted : (kind c0 a x : ℕ) (run : Run) → RunAt kind c0 a x run → a ≤ x → run .count ≢ 0
+run-counted kind c0 a x run is late none =
+    ⊎-elim
+    (λ (e : x ≡ a).
+    let one : run .count ≡ 1 = ap (λ (q : Run). q .count) is ∙ rw e (ap (λ (q : Run). q .count) (at-first kind c0 a)) in
+    absurd (omega arith))
+    (λ (n : x ≢ a).
+    let more = frames-two kind in
+    let many : run .count ≡ min (x - a + 1) (frames kind * 2) = ap (λ (q : Run). q .count) (is ∙ at-after kind c0 a x (omega arith)) in
+    absurd (omega arith))
+    (eq-or-ne x a)
 
 pub run-next : (kind c0 a x : ℕ) (run : Run) → RunAt kind c0 a x run → a < x → run .next ≡ tagOf kind (c0 + (x + 1))
 run-next kind c0 a x run is b = rw (is, at-after kind c0 a x b) refl
@@ -235,21 +247,14 @@ run-goes kind c0 f a x h run odd o low is even sent =
     rw (is, at-before kind c0 a x g) (none-on kind noRun odd h refl ∙ begun-at kind c0 f a (x + 1) h o (omega arith) (omega arith) sent))
     (le-or-lt a x)
 
--- A frame as sent carries the place of its tag, and from the run's first on that is the place of the receiver's own tag of it, the one before the tag to come.
+-- From the run's first frame on the receiver's own tag of a frame, the one before the tag to come, is at the place of the frame's own.
 
-pub sent-place : (kind x h : ℕ) → SentWith kind x h → nibblePlace kind h ≡ placeOf kind (tagOf kind x)
-sent-place kind x h sent = sym (counted-place kind (tagOf kind x) h sent) ∙ place-back kind (tagOf kind x)
-
-pub run-place : (kind c0 f a x h : ℕ) (run : Run) → Starts kind c0 f a → a ≤ x → RunAt kind c0 a x run → SentWith kind (c0 + x) h
-    → placeOf kind (tagBefore kind (run .next)) ≡ placeOf kind (tagOf kind (c0 + x))
-run-place kind c0 f a x h run o late is sent =
+pub run-place : (kind c0 f a x : ℕ) (run : Run) → Starts kind c0 f a → a ≤ x → RunAt kind c0 a x run → placeOf kind (tagBefore kind (run .next)) ≡ placeOf kind (tagOf kind (c0 + x))
+run-place kind c0 f a x run o late is =
     ⊎-elim
     (λ (e : x ≡ a).
-    let z : (c0 + x) % frames kind ≡ 0 = rw e (o .starts) in
     let told : run .next ≡ toldFirst kind (c0 + x) = ap (λ (q : Run). q .next) is ∙ rw e (ap (λ (q : Run). q .next) (at-first kind c0 a)) in
-    ap (λ (t : ℕ). placeOf kind (tagBefore kind t)) (told ∙ sym (sent-first kind (c0 + x) h sent z))
-    ∙ starts-place kind h (sent-starts kind (c0 + x) h sent z)
-    ∙ sent-place kind (c0 + x) h sent)
+    rw told (told-place kind (c0 + x) (rw e (o .starts))))
     (λ (n : x ≢ a).
     let q : c0 + (x + 1) ≡ c0 + x + 1 = omega arith in
     rw (run-next kind c0 a x run is (omega arith), q, tag-before kind (c0 + x)) refl)

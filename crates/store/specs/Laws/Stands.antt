@@ -5,9 +5,9 @@ use mathlib.Core.List.{List}
 use Prim.Native.Nat.{ℕ, _+_, _*_, _%_, _≤_, _<_}
 use native.Mathlib.Omega.{arith}
 use lib.ListN.{length, getD}
-use Rattle.ground.specs.Table.{tabulate, tabulate-ext}
-use Rattle.packet.specs.Counts.{nibbleIn}
 use Rattle.packet.specs.Kinds.{frames}
+use Rattle.packet.specs.Laws.Symbols.{row-ext}
+use Rattle.packet.specs.Symbols.{rowFrom}
 use Rattle.rows.specs.declared.group.Group.{Group}
 use Rattle.store.specs.Frames.{byteAt, h4At, packetIn, placeIn, storedAt}
 use Rattle.store.specs.Laws.Places.{place-apart, place-moved, place-same, place-within}
@@ -64,7 +64,6 @@ stands-moved g g′ L i d payload h s p w o f =
 
 -- the packet of an epoch whose frames all stand
 pub packet-stands : (g : Group) (i : ℕ) (payload : ℕ → List ℕ) (h : ℕ → ℕ) (s : List ℕ) → ((k : ℕ) → k < frames (g .kind) → Stands g i k (payload k) (h k) s)
-    → packetIn g i s ≡ tabulate (frames (g .kind)) (λ k. nibbleIn (g .kind) (h k))
+    → packetIn g i s ≡ rowFrom (g .kind) h
 unfolding packetIn
-packet-stands g i payload h s f =
-    tabulate-ext (frames (g .kind)) (λ k. nibbleIn (g .kind) (h4At g i k s)) (λ k. nibbleIn (g .kind) (h k)) (λ k b. rw (stands-h4 g i k (payload k) (h k) s (f k b)))
+packet-stands g i payload h s f = row-ext (g .kind) (λ k. h4At g i k s) h (λ k b. stands-h4 g i k (payload k) (h k) s (f k b))

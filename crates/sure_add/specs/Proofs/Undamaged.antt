@@ -17,6 +17,7 @@ use Rattle.counting.specs.Words.{some}
 use Rattle.packet.specs.declared.ruling.Ruling.{Ruling}
 use Rattle.packet.specs.Kinds.{epochOf, fixedKind, mstFails}
 use Rattle.packet.specs.Laws.Mst.{Spoken}
+use Rattle.packet.specs.Symbols.{packetRow}
 use Rattle.packet.specs.Theorems.Tags.{first-of}
 use Rattle.packet.specs.Words.{IDLE}
 use Rattle.phases.specs.Passing.{passedOf}
@@ -82,7 +83,7 @@ use Rattle.link.specs.Proofs.Transport.Start.{start}
 use Rattle.link.specs.Proofs.Transport.Times.{CallsDo, along}
 use Rattle.link.specs.Road.{L, Road}
 use Rattle.link.specs.Running.{Moment, fetched, framed, fresh, lentAt, outputAt}
-use Rattle.link.specs.Sending.{Reached, Sending, epochNumber, nibblesIn}
+use Rattle.link.specs.Sending.{Reached, Sending, epochNumber}
 use Rattle.link.specs.Told.{Told}
 use Rattle.sure_add.specs.AsSent.{AsSent, hasHolder}
 use Rattle.sure_add.specs.Proofs.Reported.{left-state, left-under, mst-in, okIn, seen-number, seen-state, seen-word, sees}
@@ -191,7 +192,7 @@ module _ (k : Link) (a : Assumed k) (as-sent : AsSent k) where
   read-is i p b =
       ap (λ (n : ℕ). ownRuling (kindOf k) n (packetOf r i p)) (number-of k i)
       ∙ ap (λ (l : List ℕ). ownRuling (kindOf k) (epochNumber (kindOf k) (k .sending .first) i) l) (packet-of k i p)
-      ∙ ap (λ (l : List ℕ). ownRuling (kindOf k) (epochNumber (kindOf k) (k .sending .first) i) (nibblesIn (kindOf k) l)) (as-sent i p b)
+      ∙ ap (λ (l : List ℕ). ownRuling (kindOf k) (epochNumber (kindOf k) (k .sending .first) i) (packetRow (kindOf k) l)) (as-sent i p b)
       ∙ ov .lawful .reads i (slotOf p) (ov .paired .below p b)
 
   word-is : (i p : ℕ) → p < k .ports → k .sending .word i (slotOf p) ≡ wordOf (stateIn (table i) (slotOf p)) (highest (table i .slots) (slotsIn (table i)) (numberIn (table i) (slotOf p))) .0

@@ -1,4 +1,4 @@
--- A frame's run and its nibble.
+-- A frame's run and its symbol.
 use mathlib.Core.Path.{_≡_, refl}
 use mathlib.Core.Logic.{_⊎_, inl, inr, ⊎-elim}
 use mathlib.Core.Bool.{Bool, true, false, cond}
@@ -6,7 +6,7 @@ use mathlib.Core.List.{List, _∷_}
 use Prim.Native.Nat.{ℕ, _+_, _≤_}
 use native.Mathlib.Omega.{arith}
 use lib.Dec.{eqb}
-use lib.ListN.{length, length-set, set}
+use lib.ListN.{length}
 use borrow.Author.Tests.{eqb-true}
 use Rattle.ground.specs.Truth.{cond-by}
 use Rattle.invariant.specs.Kept.Run.{RunKept}
@@ -14,9 +14,11 @@ use Rattle.invariant.specs.Live.{LiveRow, isHeard}
 use Rattle.invariant.specs.Proofs.Laws.Flags.{true-or-false}
 use Rattle.invariant.specs.Proofs.Live.Places.{after-mod, second-mod}
 use Rattle.invariant.specs.Proofs.Live.Rows.{Further, live-none, live-put}
-use Rattle.packet.specs.Counts.{carriesLow, counts, nibbleIn, startsCount, tagByHigh, tagByLow}
+use Rattle.packet.specs.Counts.{carriesLow, counts, startsCount, tagByHigh, tagByLow}
 use Rattle.packet.specs.Kinds.{placeOf, tagAfter}
 use Rattle.packet.specs.Laws.Counting.{low-told}
+use Rattle.packet.specs.Laws.Symbols.{length-with}
+use Rattle.packet.specs.Symbols.{withSymbol}
 use Rattle.packet.specs.Theorems.Tags.{frames-two}
 use Rattle.receiver.specs.Frame.{ownTag}
 use Rattle.rows.specs.declared.group.Group.{Group}
@@ -64,7 +66,7 @@ run-grows kind r odd h k =
     (λ l. begun-grows kind r h) (λ l. inr (record { count-is = omega arith; next-is = after-mod kind (r .next) })))
     (λ e. gained-grows kind r h k)
 
--- what a frame that is one to the step record does: the run is none, or goes with the frame's nibble
+-- what a frame that is one to the step record does: the run is none, or goes with the frame's symbol
 pub record Took (kind : ℕ) (s : Step) (t : Taken) : Type 0 where
   pub heard : isHeard (t .answer) ≡ true
   pub run : (t .step .count ≡ 0) ⊎ ((t .counted ≡ true) × Grows kind (runOf s) (runOf (t .step)))
@@ -123,12 +125,12 @@ module _ (g : Group) (s : Step) (flag odd : Bool) (h : ℕ) (k : RunKept (g .kin
 
 -- the packet being gathered after it
 abbrev pub rowAfter : ℕ → List ℕ → Taken → ℕ → List ℕ
-rowAfter kind row t h = cond (t .counted) (set row (placeOf kind (ownTag kind t)) (nibbleIn kind h)) row
+rowAfter kind row t h = cond (t .counted) (withSymbol kind row (placeOf kind (ownTag kind t)) h) row
 
 row-long : (kind : ℕ) (row : List ℕ) (t : Taken) (h : ℕ) → length row ≡ 16 → length (rowAfter kind row t h) ≡ 16
 row-long kind row t h e =
-    cond-by (λ (l : List ℕ). length l ≡ 16) (t .counted) (set row (placeOf kind (ownTag kind t)) (nibbleIn kind h)) row
-    (λ c. rw (length-set row (placeOf kind (ownTag kind t)) (nibbleIn kind h)) e) (λ c. e)
+    cond-by (λ (l : List ℕ). length l ≡ 16) (t .counted) (withSymbol kind row (placeOf kind (ownTag kind t)) h) row
+    (λ c. rw (length-with kind row (placeOf kind (ownTag kind t)) h) e) (λ c. e)
 
 pub live-took : (kind : ℕ) (s : Step) (row heard : List ℕ) (t : Taken) (h : ℕ) → LiveRow kind (s .count) (s .next) row heard → Took kind s t
     → LiveRow kind (t .step .count) (t .step .next) (rowAfter kind row t h) (h ∷ heard)

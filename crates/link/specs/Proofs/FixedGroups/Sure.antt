@@ -11,6 +11,7 @@ use Rattle.judge.specs.Order.{activeIn, portOf}
 use Rattle.judge.specs.Seen.{seenAt}
 use Rattle.counting.specs.Laws.Numbers.{count-all}
 use Rattle.judge.specs.Theorems.Fixed.{AllFixed, Standing, fixed-judged, fixed-members, fixed-port, stands-sure}
+use Rattle.packet.specs.Changes.{mostChanges}
 use Rattle.packet.specs.Kinds.{fixedKind, frames}
 use Rattle.packet.specs.Words.{FIXED, IDLE}
 use Rattle.payload.specs.Order.{memberByte, memberFrame}
@@ -61,6 +62,7 @@ module _ (f : FixedGroup) (a : Numbered f) (P : ℕ) (client : Client) (i n : �
   sure = record { mark = fixed-judged ports n ∙ stands-sure ports n all-fixed standing; members = members; carried = carried-by }
 
 pub fixed-lawful : (f : FixedGroup) → Numbered f → (P : ℕ) (client : Client) → Lawful (sendingFixed f P client) P client
+unfolding mostChanges
 fixed-lawful f a P client =
     record {
       first = a .first;

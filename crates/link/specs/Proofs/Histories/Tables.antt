@@ -1,10 +1,12 @@
 -- The tables of a history: each is made of the one before by the calls before its epoch's start, and its board goes out in that epoch's packets.
-use mathlib.Core.Path.{_≡_, refl, ap, subst, _∙_}
+use mathlib.Core.Path.{_≡_, refl, ap, _∙_}
 use mathlib.Core.List.{List, [], _∷_}
 use Prim.Native.Nat.{ℕ, zero, suc, _<_}
+use lib.ListN.{replicate}
 use Rattle.packet.specs.declared.reader.Reading.the-variants.{Packet}
-use Rattle.packet.specs.Layout.{h4Of, highsOf}
-use Rattle.packet.specs.Reading.{readAnswer, readNibbles}
+use Rattle.packet.specs.Kinds.{frames}
+use Rattle.packet.specs.Reading.{readAnswer}
+use Rattle.packet.specs.Theorems.ReadBack.{written-back}
 use Rattle.sender.specs.declared.board.Board.{Board}
 use Rattle.sender.specs.declared.board.Row.{Row}
 use Rattle.sender.specs.declared.epochs.Sender.{Sender}
@@ -17,7 +19,7 @@ use Rattle.sender.specs.Numbering.{numberIn, slotsIn, stateIn}
 use Rattle.sender.specs.Ranks.{rowAt}
 use Rattle.sender.specs.Theorems.Epochs.{onTable}
 use Rattle.link.specs.History.{Allowed, History, fieldsSent, numberSent, packetSent, senderAt, startedOn, wordSent}
-use Rattle.link.specs.Proofs.Histories.Packets.{packet-is, packet-reads}
+use Rattle.link.specs.Proofs.Histories.Packets.{packet-is, packet-wrote}
 use Rattle.link.specs.Proofs.Histories.Senders.{sender-in, started-is}
 
 -- calls on the table alone
@@ -55,9 +57,7 @@ module _ (h : History) (al : Allowed h) where
 
   -- a packet is read as it was written, with the MST and the RS-Ack lent to its epoch
   pub packet-read : (i slot : ℕ) → slot < h .slots → readAnswer (packetSent h i slot) ≡ Packet (fieldsSent h i slot)
-  unfolding readAnswer h4Of
-  packet-read i slot b =
-      rw (packet-is h al i slot b) (subst (λ (l : List ℕ). readNibbles (highsOf l) ≡ Packet (fieldsSent h i slot)) (packet-is h al i slot b) (packet-reads h al i slot b))
+  packet-read i slot b = ap readAnswer (packet-is h al i slot b) ∙ written-back (fieldsSent h i slot) (replicate (frames (h .kind)) 0) (packet-wrote h al i slot b)
 
   pub mst-at : (i slot : ℕ) → fieldsSent h i slot .mst ≡ h .mst i
   unfolding packetFields

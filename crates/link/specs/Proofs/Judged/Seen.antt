@@ -5,12 +5,12 @@ use mathlib.Core.List.{List}
 use Prim.Native.Nat.{ℕ, _+_, _*_, _/_, _%_, _<_}
 use native.Mathlib.Omega.{arith}
 use lib.ListN.{getD}
-use Rattle.ground.specs.Table.{tabulate-ext}
 use Rattle.judge.specs.declared.seen.Seen.{Seen}
 use Rattle.judge.specs.Seen.{refusedSeen, seenAt}
-use Rattle.packet.specs.Counts.{nibbleIn}
 use Rattle.packet.specs.Kinds.{frames}
 use Rattle.packet.specs.Laws.Epochs.{epoch-in, place-in}
+use Rattle.packet.specs.Laws.Symbols.{row-ext}
+use Rattle.packet.specs.Symbols.{packetRow}
 use Rattle.packet.specs.Theorems.Tags.{frames-some}
 use Rattle.packet.specs.declared.ruling.Ruling.{Ruling}
 use Rattle.step.specs.OwnCount.{ownRuling}
@@ -19,7 +19,7 @@ use Rattle.receiver.specs.Laws.Sizes.{sizes-of}
 use Rattle.link.specs.Proofs.Contents.{allSeenAfter, numberOf, packetOf, seenAfter}
 use Rattle.link.specs.Proofs.Laws.Counts.{tag-epoch}
 use Rattle.link.specs.Link.{AssumedOver, Damaged, Link, kindOf, roadOf, sentTo}
-use Rattle.link.specs.Sending.{epochNumber, epochStart, nibblesIn, seenSent}
+use Rattle.link.specs.Sending.{epochNumber, epochStart, seenSent}
 
 -- what a port is by its ruling packet, where it came whole and so did the frames
 abbrev seenBy : Ruling → Seen
@@ -34,16 +34,16 @@ module _ (k : Link) where
       rw z at (tag-epoch (kindOf k) (k .sending .first) i 0 (frames-some (kindOf k)))
 
   -- the packet that came, as its frames bring it
-  pub packet-of : (i p : ℕ) → packetOf (roadOf k) i p ≡ nibblesIn (kindOf k) (k .came i p)
-  unfolding packetOf roadOf nibblesIn
+  pub packet-of : (i p : ℕ) → packetOf (roadOf k) i p ≡ packetRow (kindOf k) (k .came i p)
+  unfolding packetOf roadOf
   packet-of i p =
       let kind : ℕ = kindOf k in
-      tabulate-ext (frames kind) (λ j. nibbleIn kind (getD (k .came ((i * frames kind + j) / frames kind) p) ((i * frames kind + j) % frames kind) 0)) (λ j. nibbleIn kind (getD (k .came i p) j 0))
+      row-ext kind (λ j. getD (k .came ((i * frames kind + j) / frames kind) p) ((i * frames kind + j) % frames kind) 0) (λ j. getD (k .came i p) j 0)
       (λ j b. rw (epoch-in kind i j b, place-in kind i j b) refl)
 
   -- the reading of what came
   abbrev readIn : ℕ → List ℕ → Ruling
-  readIn i bytes = ownRuling (kindOf k) (epochNumber (kindOf k) (k .sending .first) i) (nibblesIn (kindOf k) bytes)
+  readIn i bytes = ownRuling (kindOf k) (epochNumber (kindOf k) (k .sending .first) i) (packetRow (kindOf k) bytes)
 
   seen-is : (i p : ℕ) → seenAfter (roadOf k) i p ≡ seenBy (readIn i (k .came i p))
   unfolding seenAfter roadOf

@@ -1,12 +1,12 @@
 -- Positions and tags from the first epoch on, and bytes that came with their multiframe numbers as sent: they count as what was sent counts.
-use mathlib.Core.Path.{_≡_, _∙_, sym}
-use mathlib.Core.Logic.{inl, inr}
+use mathlib.Core.Path.{_≡_}
 use mathlib.Core.List.{List}
 use Prim.Native.Nat.{ℕ, _+_, _<_}
 use lib.ListN.{getD}
-use Rattle.packet.specs.Counts.{nibbleIn, nibblePlace}
-use Rattle.packet.specs.Kinds.{epochOf, firstTag, frames, lead, placeOf}
-use Rattle.packet.specs.Laws.Counting.{counts-as}
+use Rattle.packet.specs.Changes.{keptPart}
+use Rattle.packet.specs.Kinds.{epochOf, firstTag, frames, placeOf}
+use Rattle.packet.specs.Laws.Changes.{counts-kept}
+use Rattle.packet.specs.Symbols.{symbolOf}
 use Rattle.packet.specs.Theorems.Tags.{epoch-each, place-each, tagOf}
 use Rattle.step.specs.Laws.Sent.{SentWith}
 use Rattle.link.specs.Link.{BringsMfi2}
@@ -24,11 +24,10 @@ pub tag-epoch : (kind first i k : ℕ) → k < frames kind → epochOf kind (tag
 unfolding epochNumber
 tag-epoch kind first i k b = epoch-each kind first i k b
 
--- what came with MFI1 as sent, and with the nibble that was sent where that is one of MFI2, counts
-pub kept-counts : (kind first i k : ℕ) (sent came : List ℕ) → k < frames kind → nibblePlace kind (getD came k 0) ≡ nibblePlace kind (getD sent k 0)
-    → (BringsMfi2 kind k → nibbleIn kind (getD came k 0) ≡ nibbleIn kind (getD sent k 0))
+-- what came with its kept part as sent, and with the symbol that was sent where that is a nibble of MFI2, counts
+pub kept-counts : (kind first i k : ℕ) (sent came : List ℕ) → k < frames kind → keptPart kind k (getD came k 0) ≡ keptPart kind k (getD sent k 0)
+    → (BringsMfi2 kind k → symbolOf kind (getD came k 0) ≡ symbolOf kind (getD sent k 0))
     → SentWith kind (firstTag kind first + (epochStart kind i + k)) (getD sent k 0) → SentWith kind (firstTag kind first + (epochStart kind i + k)) (getD came k 0)
-kept-counts kind first i k sent came l place same e =
-    counts-as kind (tagAt kind first i k) (getD came k 0) (getD sent k 0) e place
-    (λ (z : placeOf kind (tagAt kind first i k) ≡ lead kind). same (inl (sym (tag-place kind first i k l) ∙ z)))
-    (λ (z : placeOf kind (tagAt kind first i k) ≡ lead kind + 1). same (inr (sym (tag-place kind first i k l) ∙ z)))
+kept-counts kind first i k sent came l kept same e =
+    let place = tag-place kind first i k l in
+    counts-kept kind (tagAt kind first i k) (getD came k 0) (getD sent k 0) e (rw place kept) (rw place same)

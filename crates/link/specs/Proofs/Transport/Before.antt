@@ -265,9 +265,7 @@ module _ (r : Road) (f : Fair r) where
 
       stepped-begun : (q : ℕ) → q < r .ports → Stepped r (coming q) (clearedStep (stepAt (m .rows) q) true)
       unfolding clearedStep
-      stepped-begun q b =
-          let o = heard-stepped r q (coming q) (stepAt (m .rows) q) (heard q b) (all-in q b) in
-          record { count = o .count; next = o .next; breaks = o .breaks; even = o .even }
+      stepped-begun q b = heard-stepped r q (coming q) (stepAt (m .rows) q) (heard q b) (all-in q b)
 
       gathering-begun : (q : ℕ) → q < r .ports → portAt rows-begun q .gathering ≡ portAt (m .rows) q .gathering
       unfolding rows-begun

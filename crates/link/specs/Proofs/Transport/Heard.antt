@@ -6,7 +6,7 @@ use Prim.Native.Nat.{ℕ, _+_, _-_, _*_, _≤_, _<_}
 use native.Mathlib.Omega.{arith}
 use lib.Dec.{leb}
 use borrow.Author.Tests.{le-leb, le-ltb, lt-leb, lt-ltb}
-use Rattle.ground.specs.Truth.{eq-or-ne, le-or-lt}
+use Rattle.ground.specs.Truth.{le-or-lt}
 use Rattle.packet.specs.Kinds.{epochsIn, placeOf, tagBefore}
 use Rattle.packet.specs.Theorems.Tags.{frames-two, tagOf}
 use Rattle.rows.specs.declared.group.Group.{Group}
@@ -15,7 +15,7 @@ use Rattle.step.specs.Arrival.{advanced, frameDropped, countsOn, joinedAt, join
 use Rattle.step.specs.declared.run.Run.{Run}
 use Rattle.step.specs.Laws.Arrival.{ranOn}
 use Rattle.step.specs.Laws.Kept.{Stays, gained, kept}
-use Rattle.step.specs.Laws.Run.{at-after, at-first, run-goes, run-in-step, run-next, run-place, run-short, run-starts, runAt, start-from, startFrom}
+use Rattle.step.specs.Laws.Run.{run-counted, run-goes, run-in-step, run-next, run-place, run-short, run-starts, runAt, start-from, startFrom}
 use Rattle.step.specs.Laws.Sent.{SentWith}
 use Rattle.step.specs.Run.{inStepAt, noRun, runOn}
 use Rattle.link.specs.Road.{L, Road}
@@ -83,20 +83,13 @@ module _ (r : Road) where
 
   -- all that is known of a port in step
 
-  stays-of : (x : ℕ) (s : Step) → Stepped r x s → Stays (r .kind) (r .offset + x) (runOf s)
-  stays-of x s o = record { count = o .count; next = o .next; breaks = o .breaks; even = o .even }
-
-  stepped-by : (x : ℕ) (s : Step) → Stays (r .kind) (r .offset + x) (runOf s) → Stepped r x s
-  stepped-by x s o = record { count = o .count; next = o .next; breaks = o .breaks; even = o .even }
-
   pub heard-stepped : (p x : ℕ) (s : Step) → Heard r p x s → runFrom p + L r * 2 ≤ x → Stepped r x s
   heard-stepped p x s o far =
       let a = from-first p in
       let n = frames-two (r .kind) in
       let e : x - 1 + 1 ≡ x = omega arith in
-      let g : Stays (r .kind) (r .offset + (x - 1 + 1)) (runOf s) =
-      gained (r .kind) (r .offset) (runFrom p) (x - 1) (runOf s) (heard-run p x s o (omega arith)) (omega arith) in
-      stepped-by x s (rw e at g)
+      let g : Stepped r (x - 1 + 1) s = gained (r .kind) (r .offset) (runFrom p) (x - 1) (runOf s) (heard-run p x s o (omega arith)) (omega arith) in
+      rw e at g
 
   -- One frame more, as sent, which ends no odd packet if its port is in step.
 
@@ -153,30 +146,20 @@ module _ (r : Road) where
 
       -- from the run's first frame on it counts, at the place of its own tag
       pub run-some : runFrom p ≤ x → ranOn g s odd (r .h4 p x) .count ≢ 0
-      run-some late z =
-          ⊎-elim
-          (λ (e : x ≡ runFrom p).
-          let one : ranOn g s odd (r .h4 p x) .count ≡ 1 = ap (λ (q : Run). q .count) ran ∙ rw e (ap (λ (q : Run). q .count) (at-first (r .kind) (r .offset) (runFrom p))) in
-          absurd (omega arith))
-          (λ (n : x ≢ runFrom p).
-          let more = frames-two (r .kind) in
-          let many = ap (λ (q : Run). q .count) (ran ∙ at-after (r .kind) (r .offset) (runFrom p) x (omega arith)) in
-          absurd (omega arith))
-          (eq-or-ne x (runFrom p))
+      run-some late = run-counted (r .kind) (r .offset) (runFrom p) x (ranOn g s odd (r .h4 p x)) ran late
 
       pub run-own : runFrom p ≤ x → placeOf (r .kind) (tagBefore (r .kind) (ranOn g s odd (r .h4 p x) .next)) ≡ placeOf (r .kind) (tagOf (r .kind) (r .offset + x))
       run-own late =
-          run-place (r .kind) (r .offset) (r .first p) (runFrom p) x (r .h4 p x) (ranOn g s odd (r .h4 p x)) (start-from (r .kind) (r .offset) (r .first p)) late ran sent
+          run-place (r .kind) (r .offset) (r .first p) (runFrom p) x (ranOn g s odd (r .h4 p x)) (start-from (r .kind) (r .offset) (r .first p)) late ran
 
   -- A port in step stays so, and the tag to come is the one after.
 
   module _ (f : Fair r) where
     stepped-on : (p x : ℕ) (s t : Step) (odd : Bool) → p < r .ports → r .first p ≤ x → odd ≡ false → Stepped r x s → runOf t ≡ runOn (r .kind) (runOf s) odd (r .h4 p x) → Stepped r (x + 1) t
     stepped-on p x s t odd b low even o run =
-        let k = kept (r .kind) (r .offset + x) (runOf s) odd (r .h4 p x) (stays-of x s o) (f .placed p x b low) even in
+        let k = kept (r .kind) (r .offset + x) (runOf s) odd (r .h4 p x) o (f .placed p x b low) even in
         let e : r .offset + x + 1 ≡ r .offset + (x + 1) = omega arith in
-        stepped-by (x + 1) t
-        (subst (λ (n : ℕ). Stays (r .kind) n (runOf t)) e (subst (λ (q : Run). Stays (r .kind) (r .offset + x + 1) q) (sym run) k))
+        subst (λ (n : ℕ). Stays (r .kind) n (runOf t)) e (subst (λ (q : Run). Stays (r .kind) (r .offset + x + 1) q) (sym run) k)
 
     module _ (g : Group) (p x : ℕ) (s : Step) (odd : Bool) (k : g .kind ≡ r .kind) (b : p < r .ports) (low : r .first p ≤ x) (even : odd ≡ false) (o : Stepped r x s) where
       ran-on : ranOn g s odd (r .h4 p x) ≡ runOn (r .kind) (runOf s) odd (r .h4 p x)

@@ -5,16 +5,14 @@ use mathlib.Core.Bool.{Bool, true, false, cond}
 use mathlib.Core.List.{List}
 use Prim.Native.Nat.{ℕ, _+_, _-_, _*_, _/_, _%_, _≤_, _<_}
 use native.Mathlib.Omega.{arith}
-use lib.ListN.{length, length-set, set}
-use lib.Seq.{getD-set-other, getD-set-same}
+use lib.ListN.{length}
 use borrow.Author.Tests.{eqb-true}
-use Rattle.ground.specs.Table.{tabulate-is}
 use Rattle.ground.specs.Truth.{eq-or-ne}
 use Rattle.packet.specs.Clock.{by}
-use Rattle.packet.specs.Counts.{nibbleIn}
 use Rattle.packet.specs.Kinds.{endsEpoch, epochOf, frames, lead, placeOf, startsEpoch}
 use Rattle.packet.specs.Laws.Epochs.{place-in, place-lt, position-is}
-use Rattle.packet.specs.Laws.Writing.{packet-sized}
+use Rattle.packet.specs.Laws.Symbols.{length-with, row-is, symbol-other, symbol-same}
+use Rattle.packet.specs.Symbols.{withSymbol}
 use Rattle.packet.specs.Theorems.Tags.{frames-some, tagOf}
 use Rattle.receiver.specs.Frame.{oddIn, ownTag}
 use Rattle.rows.specs.Port.{portAt}
@@ -55,52 +53,49 @@ twice kind x = by (λ L E N l. x % L % L ≡ x % L) (omega arith) (omega arith) 
 module _ (r : Road) where
   -- the row after a frame
   abbrev pub rowAfter : List ℕ → Taken → ℕ → List ℕ
-  rowAfter row t h = cond (t .counted) (set row (placeOf (r .kind) (ownTag (r .kind) t)) (nibbleIn (r .kind) h)) row
+  rowAfter row t h = cond (t .counted) (withSymbol (r .kind) row (placeOf (r .kind) (ownTag (r .kind) t)) h) row
 
   pub after-long : (row : List ℕ) (t : Taken) (h : ℕ) → length row ≡ 16 → length (rowAfter row t h) ≡ 16
   after-long row t h e = go (t .counted)
     where
-      go : (b : Bool) → length (cond b (set row (placeOf (r .kind) (ownTag (r .kind) t)) (nibbleIn (r .kind) h)) row) ≡ 16
-      go true = length-set row (placeOf (r .kind) (ownTag (r .kind) t)) (nibbleIn (r .kind) h) ∙ e
+      go : (b : Bool) → length (cond b (withSymbol (r .kind) row (placeOf (r .kind) (ownTag (r .kind) t)) h) row) ≡ 16
+      go true = length-with (r .kind) row (placeOf (r .kind) (ownTag (r .kind) t)) h ∙ e
       go false = e
 
   -- before the run's first frame nothing is said of it
   pub live-early : (p x : ℕ) (row : List ℕ) → x < startFrom (r .kind) (r .offset) (r .first p) → length row ≡ 16 → Live r p (x + 1) row
-  live-early p x row early e = record { long = e; holds = λ y from upto near small. absurd (omega arith) }
+  live-early p x row early e = record { long = e; holds = λ y from upto near. absurd (omega arith) }
 
-  live-on : (p x : ℕ) (row : List ℕ) → Live r p x row → Live r p (x + 1) (set row (x % L r) (nibbleIn (r .kind) (r .h4 p x)))
+  live-on : (p x : ℕ) (row : List ℕ) → Live r p x row → Live r p (x + 1) (withSymbol (r .kind) row (x % L r) (r .h4 p x))
   live-on p x row o =
-      let n : ℕ = nibbleIn (r .kind) (r .h4 p x) in
+      let within = place-lt (r .kind) x in
       record {
-        long = length-set row (x % L r) (nibbleIn (r .kind) (r .h4 p x)) ∙ o .long;
-        holds = λ y from upto near small.
+        long = length-with (r .kind) row (x % L r) (r .h4 p x) ∙ o .long;
+        holds = λ y from upto near.
             ⊎-elim
-            (λ (e : y ≡ x). rw e (getD-set-same row (x % L r) (nibbleIn (r .kind) (r .h4 p x)) 0 (rw (o .long) (rw e at small))))
+            (λ (e : y ≡ x). rw e (symbol-same (r .kind) row (o .long) (x % L r) (r .h4 p x) within))
             (λ (d : y ≢ x).
-            getD-set-other row (x % L r) (y % L r) (nibbleIn (r .kind) (r .h4 p x)) 0 (apart-places (r .kind) x y (omega arith) (omega arith))
-            ∙ o .holds y from (omega arith) (omega arith) small)
+            symbol-other (r .kind) row (o .long) (x % L r) (r .h4 p x) within (y % L r) (apart-places (r .kind) x y (omega arith) (omega arith))
+            ∙ o .holds y from (omega arith) (omega arith))
             (eq-or-ne y x);
       }
 
   module _ (f : Fair r) where
-    -- a frame that counts puts its nibble at its own place
+    -- a frame that counts puts its symbol at its own place
     pub live-taken : (p x : ℕ) (row : List ℕ) (t : Taken) → t .counted ≡ true → placeOf (r .kind) (ownTag (r .kind) t) ≡ placeOf (r .kind) (tagOf (r .kind) (r .offset + x))
         → Live r p x row → Live r p (x + 1) (rowAfter row t (r .h4 p x))
     live-taken p x row t counted place o = rw (counted, place, place-from (r .kind) (r .offset) x (f .starts)) (live-on p x row o)
 
     -- at a packet's end the row is the packet that came
     packet-live : (p x : ℕ) (row : List ℕ) → Live r p x row → startFrom (r .kind) (r .offset) (r .first p) + L r * 2 ≤ x → x % L r ≡ L r - 1
-        → set row (x % L r) (nibbleIn (r .kind) (r .h4 p x)) ≡ packetOf r (x / L r) p
+        → withSymbol (r .kind) row (x % L r) (r .h4 p x) ≡ packetOf r (x / L r) p
     unfolding packetOf
     packet-live p x row o far last =
         let some = frames-some (r .kind) in
-        let now : Live r p (x + 1) (set row (x % L r) (nibbleIn (r .kind) (r .h4 p x))) = live-on p x row o in
+        let now : Live r p (x + 1) (withSymbol (r .kind) row (x % L r) (r .h4 p x)) = live-on p x row o in
         let is = position-is (r .kind) x in
-        tabulate-is (set row (x % L r) (nibbleIn (r .kind) (r .h4 p x))) (L r) (λ k. nibbleIn (r .kind) (r .h4 p (x / L r * L r + k))) 0 (now .long ∙ sym (packet-sized (r .kind)))
-        (λ k b.
-        let e : (x / L r * L r + k) % L r ≡ k = place-in (r .kind) (x / L r) k b in
-        let small : k < 16 = rw (packet-sized (r .kind)) at b in
-        rw e at (now .holds (x / L r * L r + k) (omega arith) (omega arith) (omega arith) (rw e small)))
+        row-is (r .kind) (withSymbol (r .kind) row (x % L r) (r .h4 p x)) (λ k. r .h4 p (x / L r * L r + k)) (now .long)
+        (λ k b. rw (place-in (r .kind) (x / L r) k b) at (now .holds (x / L r * L r + k) (omega arith) (omega arith) (omega arith)))
 
     pub live-even : (p x : ℕ) (row : List ℕ) → p < r .ports → Live r p x row → startFrom (r .kind) (r .offset) (r .first p) + L r * 2 ≤ x
         → endsOdd (r .kind) row (tagOf (r .kind) (r .offset + x)) (r .h4 p x) ≡ false
@@ -114,8 +109,8 @@ module _ (r : Road) where
             let number : epochOf (r .kind) (tagOf (r .kind) (r .offset + x)) ≡ numberOf r (x / L r) =
             ap (λ (n : ℕ). epochOf (r .kind) (tagOf (r .kind) (r .offset + n))) (sym (position-is (r .kind) x)) ∙ epoch-from (r .kind) (r .offset) (x / L r) (x % L r) (f .starts) (place-lt (r .kind) x) in
             rw e
-            (ap (λ (n : ℕ). oddPacket (r .kind) n (set row (placeOf (r .kind) (tagOf (r .kind) (r .offset + x))) (nibbleIn (r .kind) (r .h4 p x)))) number
-            ∙ ap (λ (k : ℕ). oddPacket (r .kind) (numberOf r (x / L r)) (set row k (nibbleIn (r .kind) (r .h4 p x)))) place
+            (ap (λ (n : ℕ). oddPacket (r .kind) n (withSymbol (r .kind) row (placeOf (r .kind) (tagOf (r .kind) (r .offset + x))) (r .h4 p x))) number
+            ∙ ap (λ (k : ℕ). oddPacket (r .kind) (numberOf r (x / L r)) (withSymbol (r .kind) row k (r .h4 p x))) place
             ∙ ap (λ (ns : List ℕ). oddPacket (r .kind) (numberOf r (x / L r)) ns) (packet-live p x row o far last)
             ∙ f .even (x / L r) p b)
         go false e = rw e refl

@@ -38,7 +38,7 @@ use Rattle.link.specs.Proofs.Transport.Due.{AllCome, first-all}
 -- of a step record, as an epoch passed leaves it
 stepped-passed : (r : Road) (x : ℕ) (s : Step) (whole : Bool) → Stepped r x s → Stepped r x (passedStep s whole)
 unfolding passedStep
-stepped-passed r x s whole h = record { count = h .count; next = h .next; breaks = h .breaks; even = h .even }
+stepped-passed r x s whole h = h
 
 -- what passing the oldest epoch does to the rows that an open window looks at
 pub record PassedTo (r : Road) (m m′ : Moment) : Type 0 where

@@ -70,7 +70,7 @@ module _ (r : Road) (f : Fair r) (hold restore : List ℕ) (hold-times : Times h
               origin-in = rw group-is (omega arith);
             };
         heard = λ p b. rw (step-is p b) (started-heard p);
-        live = λ p b. rw (gathering-is p b) (record { long = refl; holds = λ y from upto near small. absurd (let first = from-first r p in omega arith) });
+        live = λ p b. rw (gathering-is p b) (record { long = refl; holds = λ y from upto near. absurd (let first = from-first r p in omega arith) });
         begun = ap (λ (g : Group). g .begun) group-is;
         unfit = waits-for (groupAt started) started (r .ports) 0 (omega arith) (rw (step-is 0 (omega arith)) refl);
         told = refl;

@@ -8,17 +8,11 @@ use Rattle.receiver.proofs.arrival.go_on.Tie as tie
 next-tag-requires : tie.Need-next-tag-requires
 next-tag-requires c κs = search needs
 
-place-of-requires : tie.Need-place-of-requires
-place-of-requires c κs = search needs
-
-nibble-in-requires : tie.Need-nibble-in-requires
-nibble-in-requires c κs = search needs
-
 put-next-requires : tie.Need-put-next-requires
 put-next-requires c κs = search needs
 
-put-nibble-requires : tie.Need-put-nibble-requires
-put-nibble-requires c κs = search needs
+put-symbol-requires : tie.Need-put-symbol-requires
+put-symbol-requires c κs = search needs
 
 same-length : tie.Need-same-length
 same-length c = search needs
@@ -26,20 +20,9 @@ same-length c = search needs
 returns : tie.Need-returns
 unfolding steadyRows
 returns c =
-    let next-tag = c .before .before .before .before .before .before .before .before .next-tag in
-    let place-of = c .before .before .before .before .before .before .before .place-of in
-    let nibble-in = c .before .before .before .before .before .before .nibble-in in
+    let next-tag = c .before .before .before .before .before .before .next-tag in
     let put-next = c .before .before .before .before .put-next in
-    rw (c .before .put-nibble .ensures, put-next .ensures, nibble-in .ensures, place-of .ensures, next-tag .ensures) (rw (packets-after-step _ _ _) refl)
+    rw (c .before .put-symbol .ensures, put-next .ensures, next-tag .ensures) (rw (packets-after-step _ _ _) refl)
 
 pub go-on-spec : {M : Type 1} → statement M
-go-on-spec =
-    tie.close
-    (tie.spec
-    next-tag-requires
-    place-of-requires
-    nibble-in-requires
-    put-next-requires
-    put-nibble-requires
-    same-length
-    returns)
+go-on-spec = tie.close (tie.spec next-tag-requires put-next-requires put-symbol-requires same-length returns)

@@ -10,11 +10,8 @@ ends-packet-requires c κs = search needs
 place-of-requires : tie.Need-place-of-requires
 place-of-requires c κs = search needs
 
-nibble-in-requires : tie.Need-nibble-in-requires
-nibble-in-requires c κs = search needs
-
-with-nibble-requires : tie.Need-with-nibble-requires
-with-nibble-requires c κs = search needs
+with-symbol-requires : tie.Need-with-symbol-requires
+with-symbol-requires c κs = search needs
 
 epoch-of-requires : tie.Need-epoch-of-requires
 epoch-of-requires c κs = search needs
@@ -24,7 +21,14 @@ is-odd-packet-requires c κs = search needs
 
 returns : tie.Need-returns
 unfolding endsOdd
-returns c = rw (← c .before .before .before .before .before .before .ends-packet .ensures, c .before .before .before .before .before .if1 .taken, ← c .before .before .before .before .place-of .ensures, ← c .before .before .before .nibble-in .ensures, ← c .before .before .with-nibble .ensures, ← c .before .epoch-of .ensures) (c .is-odd-packet .ensures)
+returns c =
+    rw (
+      ← c .before .before .before .before .before .ends-packet .ensures,
+      c .before .before .before .before .if1 .taken,
+      ← c .before .before .before .place-of .ensures,
+      ← c .before .before .with-symbol .ensures,
+      ← c .before .epoch-of .ensures,
+    ) (c .is-odd-packet .ensures)
 
 returns-2 : tie.Need-returns-2
 unfolding endsOdd
@@ -36,8 +40,7 @@ is-odd-spec =
     (tie.spec
     ends-packet-requires
     place-of-requires
-    nibble-in-requires
-    with-nibble-requires
+    with-symbol-requires
     epoch-of-requires
     is-odd-packet-requires
     returns

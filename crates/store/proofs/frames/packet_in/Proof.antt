@@ -1,34 +1,28 @@
--- The invariant: the first k nibbles are read.
-use Rattle.packet.specs.Counts.{nibbleIn}
+-- The invariant: the symbols of the first k frames are read.
 use Rattle.packet.specs.Kinds.{frames}
-use Rattle.packet.specs.Laws.Writing.{packet-sized}
-use mathlib.Core.Path.{_≡_, refl, sym, _∙_}
+use Rattle.packet.specs.Laws.Symbols.{entry-in, row-is}
+use mathlib.Core.Path.{_≡_, refl}
 use Prim.Native.Nat.{_≤_, _-_}
 use native.Mathlib.Omega.{arith}
 use lib.ListN.{length}
 use borrow.Author.Needs.{needs}
-use Rattle.counting.specs.Each.{Done, done-none, done-more, done-table}
-use Rattle.store.specs.Frames.{h4At, packetIn}
+use Rattle.store.specs.Frames.{packetIn}
 use Rattle.store.specs.Laws.Places.{place-fits}
-use Rattle.store.proofs.Packets.{nibble-at}
+use Rattle.store.proofs.Packets.{Read, read-more, read-none}
 use Rattle.store.proofs.frames.packet_in.Statement.{statement}
 use Rattle.store.proofs.frames.packet_in.Tie as tie
 
 abbrev Inv-loop : tie.InvT-loop
-Inv-loop group port store n nibbles₀ k₀ nibbles k =
-    (n ≡ frames (group .kind)) × (n ≤ 16) × (length nibbles₀ ≡ 16) × (k ≤ n) × Done k (λ j. nibbleIn (group .kind) (h4At group port j store)) nibbles₀ nibbles
+Inv-loop group port store n row₀ k₀ row k = (n ≡ frames (group .kind)) × (n ≤ 255) × (k ≤ n) × Read group port store k row
 
 abbrev μ-loop : tie.MeasureT-loop
-μ-loop group port store n nibbles₀ k₀ nibbles k = n - k
+μ-loop group port store n row₀ k₀ row k = n - k
 
 epoch-frames-requires : tie.Need-epoch-frames-requires Inv-loop μ-loop
 epoch-frames-requires c κs = search needs
 
 loop-holds : tie.Need-loop-holds Inv-loop μ-loop
-loop-holds c =
-    let e = c .epoch-frames .ensures in
-    let s = packet-sized (c .before .before .args .group .kind) in
-    (e, omega arith, refl, omega arith, done-none _ _)
+loop-holds c = (c .epoch-frames .ensures, omega arith, omega arith, read-none _ _ _ _ refl)
 
 cast-place : tie.Need-cast-place Inv-loop μ-loop
 cast-place c = search needs
@@ -49,14 +43,37 @@ add-byte-at c =
 byte-at-requires : tie.Need-byte-at-requires Inv-loop μ-loop
 byte-at-requires c κs = search needs
 
-nibble-in-requires : tie.Need-nibble-in-requires Inv-loop μ-loop
-nibble-in-requires c κs = search needs
+entry-at-requires : tie.Need-entry-at-requires Inv-loop μ-loop
+entry-at-requires c κs = search needs
 
-cast-nibbles : tie.Need-cast-nibbles Inv-loop μ-loop
-cast-nibbles c = search needs
+cast-old : tie.Need-cast-old Inv-loop μ-loop
+cast-old c = search needs
 
-array-write-nibbles : tie.Need-array-write-nibbles Inv-loop μ-loop
-array-write-nibbles c = search needs
+array-read-old : tie.Need-array-read-old Inv-loop μ-loop
+array-read-old c =
+    let l = c .before .before .before .before .before .loop in
+    let p = c .before .before .before .before .before .before .before .before in
+    let e = c .entry-at .ensures in
+    let n = l .inv .0 in
+    let long = l .inv .3 .long in
+    let b = entry-in (p .args .group .kind) (l .k) (omega arith) in
+    omega arith
+
+entry-with-requires : tie.Need-entry-with-requires Inv-loop μ-loop
+entry-with-requires c κs = search needs
+
+cast-row : tie.Need-cast-row Inv-loop μ-loop
+cast-row c = search needs
+
+array-write-row : tie.Need-array-write-row Inv-loop μ-loop
+array-write-row c =
+    let l = c .before .before .before .before .before .before .loop in
+    let p = c .before .before .before .before .before .before .before .before .before in
+    let e = c .before .entry-at .ensures in
+    let n = l .inv .0 in
+    let long = l .inv .3 .long in
+    let b = entry-in (p .args .group .kind) (l .k) (omega arith) in
+    omega arith
 
 add-k : tie.Need-add-k Inv-loop μ-loop
 add-k c = search needs
@@ -66,14 +83,14 @@ loop-less c = search needs
 
 loop-again : tie.Need-loop-again Inv-loop μ-loop
 loop-again c =
-    let loop = c .before .before .before .before .before .loop in
-    let p = c .before .before .before .before .before .before .before .before in
-    let l = loop in (
+    let l = c .before .before .before .before .before .before .loop in
+    let p = c .before .before .before .before .before .before .before .before .before in
+    let n = l .inv .0 in (
       l .inv .0,
       l .inv .1,
-      l .inv .2,
       omega arith,
-      done-more _ (l .inv .4) (nibble-at (p .args .group) (p .args .port) (l .k) _ _ _ (p .args .store .now) (c .before .before .before .place .ensures) (c .before .byte-at .ensures) (c .nibble-in .ensures)),
+      read-more (p .args .group) (p .args .port) (l .k) _ _ _ _ _ (p .args .store .now) _ (omega arith) (l .inv .3) (c .before .before .before .before .place .ensures) (c .before .before .byte-at .ensures)
+          (c .before .entry-at .ensures) refl (c .entry-with .ensures),
     )
 
 returns : tie.Need-returns Inv-loop μ-loop
@@ -81,7 +98,8 @@ unfolding packetIn
 returns c =
     let i = c .before .loop .inv in
     let e = i .0 in
-    done-table (i .4) (omega arith) (i .2 ∙ sym (packet-sized (c .before .before .before .before .args .group .kind)))
+    let o = i .3 in
+    row-is _ _ _ (o .long) (λ j b. o .has j (omega arith))
 
 pub packet-in-spec : {M : Type 1} → statement M
 packet-in-spec =
@@ -96,9 +114,12 @@ packet-in-spec =
     cast-byte-at
     add-byte-at
     byte-at-requires
-    nibble-in-requires
-    cast-nibbles
-    array-write-nibbles
+    entry-at-requires
+    cast-old
+    array-read-old
+    entry-with-requires
+    cast-row
+    array-write-row
     add-k
     loop-less
     loop-again

@@ -1,13 +1,13 @@
-use Rattle.rows.specs.Laws.Bytes.{nibble-put, nibble-past, nibble-beyond}
+use Rattle.rows.specs.Laws.Bytes.{entry-put, entry-past, entry-beyond}
 use borrow.Author.Needs.{needs}
-use Rattle.rows.proofs.packets.put_nibble.Statement.{statement}
-use Rattle.rows.proofs.packets.put_nibble.Tie as tie
+use Rattle.rows.proofs.packets.put_entry.Statement.{statement}
+use Rattle.rows.proofs.packets.put_entry.Tie as tie
 
-mul-at : tie.Need-mul-at
-mul-at c = search needs
+mul-index : tie.Need-mul-index
+mul-index c = search needs
 
-add-at : tie.Need-add-at
-add-at c = search needs
+add-index : tie.Need-add-index
+add-index c = search needs
 
 mul-row : tie.Need-mul-row
 mul-row c = search needs
@@ -31,20 +31,20 @@ same-length : tie.Need-same-length
 same-length c = search needs
 
 returns : tie.Need-returns
-returns c = nibble-put _ _ _ _ (c .before .before .before .if1 .taken)
+returns c = entry-put _ _ _ _ (c .before .before .before .if1 .taken)
 
 returns-2 : tie.Need-returns-2
-returns-2 c = nibble-past _ _ _ _ (c .before .before .before .if1 .taken) (c .before .is-whole .ensures) (c .if2 .left)
+returns-2 c = entry-past _ _ _ _ (c .before .before .before .if1 .taken) (c .before .is-whole .ensures) (c .if2 .left)
 
 returns-3 : tie.Need-returns-3
-returns-3 c = nibble-beyond _ _ _ _ (c .if1 .left)
+returns-3 c = entry-beyond _ _ _ _ (c .if1 .left)
 
-pub put-nibble-spec : {M : Type 1} → statement M
-put-nibble-spec =
+pub put-entry-spec : {M : Type 1} → statement M
+put-entry-spec =
     tie.close
     (tie.spec
-    mul-at
-    add-at
+    mul-index
+    add-index
     mul-row
     slice-copy-out-row
     is-whole-requires
