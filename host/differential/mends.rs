@@ -4,7 +4,7 @@ use crate::card;
 use crate::count::{Count, Test};
 use crate::random::Random;
 use crate::torn;
-use reference::mend::{mended, undone};
+use reference::mend::{fast, mended, undone};
 
 const MARGIN: usize = 16;
 
@@ -42,6 +42,7 @@ pub fn compare(count: &mut Count) {
 /// Lengths and mending, with buffers of the lengths told or of others. Under a refusal no byte changes.
 fn mend(test: &mut Test, random: &mut Random, text: &[u8]) {
     let expected = mended(text);
+    test.case(0, &expected, &fast::mended(text), &text);
     let answer = expected.as_ref().map_or_else(|answer| *answer, |_| 0);
     let lengths = expected.as_ref().map_or((7, 7), |out| (out.recording.len(), out.notes.len()));
     let mut told = (7, 7);

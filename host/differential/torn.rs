@@ -99,13 +99,20 @@ pub fn tear_all(random: &mut Random, text: &mut Vec<u8>) {
             return;
         }
         let at = first + random.below((text.len() - first) as u64) as usize;
-        match random.below(5) {
+        match random.below(8) {
             0 => text[at] = random.below(256) as u8,
             1 => text[at] = random.one_of(b"0123456789ABCDEF\t\n"),
             2 => {
                 text.remove(at);
             }
             3 => text.insert(at, random.one_of(b"\t\n0")),
+            // the count of a line, two bytes behind its first tab
+            4..=6 => {
+                let tab = text[at..].iter().position(|b| *b == b'\n').and_then(|end| text[at + end..].iter().position(|b| *b == b'\t').map(|tab| at + end + tab));
+                if let Some(digit) = tab.and_then(|tab| text.get_mut(tab + 2)) {
+                    *digit = random.one_of(b"0123456789abcdefABCDEF");
+                }
+            }
             _ => {
                 let end = text.len().min(at + random.below(200) as usize);
                 text.drain(at..end).for_each(drop);

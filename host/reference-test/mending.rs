@@ -2,7 +2,7 @@
 
 use crate::count::Count;
 use crate::random::Random;
-use reference::mend::{followed, mended, undone, Mended};
+use reference::mend::{fast, followed, mended, undone, Mended};
 
 pub fn check(count: &mut Count) {
     count.note("the counts of one port", counts());
@@ -13,7 +13,7 @@ pub fn check(count: &mut Count) {
     count.note("first lines", first_lines());
     count.note("lines of 8,192 and 8,193 bytes", long_lines());
     count.note("a last line without its end, kept and dropped", no_last_end());
-    count.note("made-up recordings, mended twice and undone", twice_and_undone());
+    count.note("made-up recordings, plain and fast alike, mended twice and undone", twice_and_undone());
 }
 
 fn counts() -> bool {
@@ -48,7 +48,8 @@ fn text(lines: &[&str]) -> Vec<u8> {
 }
 
 fn is(torn: &[&str], lines: &[&str], notes: &[&str], dropped: usize, restored: usize) -> bool {
-    mended(&text(torn)) == Ok(Mended { recording: text(lines), notes: text(notes), dropped, restored })
+    let wanted = Ok(Mended { recording: text(lines), notes: text(notes), dropped, restored });
+    mended(&text(torn)) == wanted && fast::mended(&text(torn)) == wanted
 }
 
 fn two_ports() -> bool {
@@ -135,7 +136,9 @@ fn twice_and_undone() -> bool {
     let (mut dropped, mut restored) = (0, 0);
     let held = (0..20_000).all(|_| {
         let torn = made_up(&mut random);
-        match mended(&torn) {
+        let plain = mended(&torn);
+        let alike = fast::mended(&torn) == plain;
+        alike && match plain {
             Ok(once) => {
                 dropped += once.dropped;
                 restored += once.restored;

@@ -1,5 +1,7 @@
 //! A torn recording mended. Written from the request (2026-11) and its readings, as lists of lines.
 
+pub mod fast;
+
 use crate::receiver::{Receiver, TIMER_MOST};
 use crate::replay::{frame, settings, MALFORMED, OUT_OF_RANGE};
 

@@ -148,7 +148,7 @@ fn mending(count: &mut Count, program: &Program, link: &[String], words: &[Strin
     let mut seen = mends::Seen::default();
     let held = (0..LINKS).all(|_| mender.replays_on(link, &program.words, &mut random, &mut seen));
     println!("links torn\t{}\tdropped {}\trestored {}", LINKS, seen.dropped, seen.restored);
-    count.note("recordings of the example link, torn and mended, replayed with no line refused", held && seen.dropped > 200 && seen.restored > 50);
+    count.note("recordings of the example link, torn and mended, replayed with no line refused", held && seen.dropped > 500 && seen.restored > 200);
 }
 
 fn main() {
