@@ -36,7 +36,7 @@ fn without_end(line: &[u8]) -> &[u8] {
 }
 
 /// What comes out, with one note for each line that was dropped or altered, and how many of each there are.
-#[derive(Debug, PartialEq, Eq)]
+#[derive(Debug, Default, PartialEq, Eq)]
 pub struct Mended {
     pub recording: Vec<u8>,
     pub notes: Vec<u8>,

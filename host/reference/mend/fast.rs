@@ -61,7 +61,7 @@ impl Port {
 
 /// Whether all of these are hex digits, with no branch in the loop.
 fn all_hex(digits: &[u8]) -> bool {
-    digits.iter().fold(true, |all, b| all & ((b.wrapping_sub(b'0') < 10) | ((b | 0x20).wrapping_sub(b'a') < 6)))
+    digits.iter().fold(0, |bad, b| bad | u8::from((b.wrapping_sub(b'0') > 9) & ((b | 0x20).wrapping_sub(b'a') > 5))) == 0
 }
 
 fn value(digit: u8) -> u8 {
@@ -82,6 +82,12 @@ fn at_its_places(text: &[u8], ports: u32, digits: usize) -> Option<(u32, usize, 
 }
 
 pub fn mended(torn: &[u8]) -> Result<Mended, u8> {
+    let mut out = Mended::default();
+    mend(torn, &mut out).map(|()| out)
+}
+
+/// The same into what is lent, whose memory is used again. Under a refusal it is as it was.
+pub fn mend(torn: &[u8], to: &mut Mended) -> Result<(), u8> {
     let end_of = |from: usize| torn[from..].iter().position(|b| *b == b'\n').map_or(torn.len(), |end| from + end + 1);
     let first = end_of(0);
     let group = settings(without_end(&torn[..first])).ok_or(MALFORMED)?;
@@ -92,8 +98,10 @@ pub fn mended(torn: &[u8]) -> Result<Mended, u8> {
     let digits = 2 * group.payload as usize;
     let mut payload = vec![0; group.payload as usize];
     let mut ports = vec![Port::default(); group.ports as usize];
-    let mut out = Vec::with_capacity(torn.len());
+    let out = &mut to.recording;
     let mut notes = Vec::new();
+    out.clear();
+    out.reserve(torn.len());
     out.extend(&torn[..first]);
     let (mut at, mut number) = (first, 2);
     while at < torn.len() {
@@ -112,23 +120,25 @@ pub fn mended(torn: &[u8]) -> Result<Mended, u8> {
             let line = Broken { number, torn: at + low, out: out.len() + low, offset: (count + 16 - follow.lines) % 16, place: follow.lines };
             follow.lines = (follow.lines + 1) % 16;
             out.extend(&torn[at..end]);
-            follow.take(line, &mut out, &mut notes);
+            follow.take(line, out, &mut notes);
         }
         at = end;
         number += 1;
     }
     for port in &mut ports {
         while port.count > 0 {
-            port.afresh(&mut out, &mut notes);
+            port.afresh(out, &mut notes);
         }
     }
-    Ok(written(torn, out, notes))
+    write_notes(torn, notes, to);
+    Ok(())
 }
 
 /// The notes as lines, in the order of the recording.
-fn written(torn: &[u8], recording: Vec<u8>, mut notes: Vec<(usize, Noted)>) -> Mended {
+fn write_notes(torn: &[u8], mut notes: Vec<(usize, Noted)>, out: &mut Mended) {
     notes.sort_unstable_by_key(|(number, _)| *number);
-    let mut out = Mended { recording, notes: Vec::new(), dropped: 0, restored: 0 };
+    out.notes.clear();
+    (out.dropped, out.restored) = (0, 0);
     for (number, noted) in notes {
         out.notes.extend(number.to_string().bytes());
         match noted {
@@ -144,5 +154,4 @@ fn written(torn: &[u8], recording: Vec<u8>, mut notes: Vec<(usize, Noted)>) -> M
             }
         }
     }
-    out
 }
