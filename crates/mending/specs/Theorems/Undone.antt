@@ -157,9 +157,9 @@ module _ (size : ℕ) where
   later-more n (note ∷ notes) h = omega arith
 
   -- a line that no note names
-  pass-line : (n : ℕ) (notes : List Note) (l : Line) (ls : List Line) → Later (suc n) notes → againFrom size n notes (l ∷ ls) ≡ lineText l ++ againFrom size (suc n) notes ls
-  pass-line n [] l ls h = refl
-  pass-line n (note ∷ notes) l ls h =
+  unnoted-line : (n : ℕ) (notes : List Note) (l : Line) (ls : List Line) → Later (suc n) notes → againFrom size n notes (l ∷ ls) ≡ lineText l ++ againFrom size (suc n) notes ls
+  unnoted-line n [] l ls h = refl
+  unnoted-line n (note ∷ notes) l ls h =
       let e : note .number - n ≡ suc (note .number - suc n) = omega arith in
       rw e (append-assoc (lineText l) (textOf (take (note .number - suc n) ls)) _)
 
@@ -199,7 +199,7 @@ module _ (size : ℕ) where
       → againFrom size (suc n) (notesOn (suc n) js) (mendedLines size js) ≡ textOf (tornOf js) ++ owed js
       → againFrom size n (notesOn n (record { line = l; fate = f } ∷ js)) (outBy size l f ++ mendedLines size js) ≡ (lineText l ++ textOf (tornOf js)) ++ owed (record { line = l; fate = f } ∷ js)
   again-by n l F.Kept js h r s k i =
-      pass-line n (notesOn (suc n) js) l (mendedLines size js) k
+      unnoted-line n (notesOn (suc n) js) l (mendedLines size js) k
       ∙ (ap (λ (t : List ℕ). lineText l ++ t) i ∙ (sym (append-assoc (lineText l) (textOf (tornOf js)) (owed js)) ∙ ap (λ (t : List ℕ). (lineText l ++ textOf (tornOf js)) ++ t) (sym (owed-kept l F.Kept js refl))))
   again-by n l (F.Restored old new) js h r s k i =
       let z : n - n ≡ 0 = omega arith in
@@ -287,6 +287,6 @@ undone t o h =
     let told : againFrom (sizeBy (openingOf (linesWith (mendedOf t)))) 1 (notesRead (linesOf (notesOf t))) (linesWith (mendedOf t)) ≡ againFrom size 1 (notesOn size 2 js) (o .first ∷ mendedLines size js) =
     rw (sized, mended-lines t o, notes-are t o) in
     told
-    ∙ (pass-line size 1 (notesOn size 2 js) (o .first) (mendedLines size js) (later size 2 js right few)
+    ∙ (unnoted-line size 1 (notesOn size 2 js) (o .first) (mendedLines size js) (later size 2 js right few)
     ∙ (ap (λ (x : List ℕ). lineText (o .first) ++ x) (again-on size js right 2 few ∙ ap (λ (ls : List Line). textOf ls ++ owed js) (torn-is ports size (o .rest) (followedLeft ports size (o .rest))))
     ∙ (sym (append-assoc (lineText (o .first)) (textOf (o .rest)) (owed js)) ∙ ap (λ (x : List ℕ). x ++ owed js) text)))
