@@ -16,7 +16,7 @@ unfolding lengthsOf
 answer-is text = go (eqb (readAnswer text) 0) refl
   where
     go : (t : Bool) → eqb (readAnswer text) 0 ≡ t
-        → cond t (record { mended = length (mendedOf text); notes = told (length (notesOf text)); answer = 0 }) (record { mended = 0; notes = 0; answer = readAnswer text }) .answer ≡ readAnswer text
+        → cond {A = Lengths} t (record { mended = length (mendedOf text); notes = told (length (notesOf text)); answer = 0 }) (record { mended = 0; notes = 0; answer = readAnswer text }) .answer ≡ readAnswer text
     go true t = sym (eqb-true (readAnswer text) 0 t)
     go false t = refl
 

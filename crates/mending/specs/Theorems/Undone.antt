@@ -18,6 +18,7 @@ use Rattle.mending.specs.Laws.Texts.{Ended, Stands, lines-le, text-with}
 use Rattle.mending.specs.Lines.{Fate, Judged, Line, capital, digitIn, digitPlace, fateBy, judged, judgedBy, leftBy, lineText, linesWith, mendedLines, outBy, recordOf, textOf, withDigit}
 use Rattle.mending.specs.Lines.{Fate as F}
 use Rattle.mending.specs.Mending.{Opened, h4With, mendedOf, noteText, notesFrom, notesOf, openingOf}
+use Rattle.mending.specs.Told.{LARGEST}
 use Rattle.mending.specs.Undone.{Note, before, beforeLast, behind, hasTab, noteOf, notesRead, owed, owedBy, sizeBy, toldAgain, againFrom, withOld}
 use Rattle.text.specs.Ascii.{ascii}
 use Rattle.text.specs.Fields.{areDigits, digitOf}
@@ -270,7 +271,8 @@ judged-length : (ports size : ℕ) (left : ℕ → List ℕ) (ls : List Line) �
 judged-length ports size left [] = refl
 judged-length ports size left (l ∷ ls) = ap suc (judged-length ports size (leftBy left (recordOf ports size l)) ls)
 
--- Of every recording that is answered 0; a lent text is shorter than 10 to the 20th.
+-- Of every recording that is answered 0, of fewer than 10 to the 20th bytes: a line's number is written with at most 20 digits. Every text that can be lent is
+-- shorter (`undone-lent`).
 pub undone : (t : List ℕ) (o : Opened t) → length t < 10 ^ 20 → toldAgain (mendedOf t) (notesOf t) ≡ t ++ owed (judged (o .settings .ports) (o .settings .size) (o .rest))
 unfolding toldAgain judged
 undone t o h =
@@ -290,3 +292,7 @@ undone t o h =
     ∙ (unnoted-line size 1 (notesOn size 2 js) (o .first) (mendedLines size js) (later size 2 js right few)
     ∙ (ap (λ (x : List ℕ). lineText (o .first) ++ x) (again-on size js right 2 few ∙ ap (λ (ls : List Line). textOf ls ++ owed js) (torn-is ports size (o .rest) (followedLeft ports size (o .rest))))
     ∙ (sym (append-assoc (lineText (o .first)) (textOf (o .rest)) (owed js)) ∙ ap (λ (x : List ℕ). x ++ owed js) text)))
+
+-- A length is a number of 64 bits, so this is of every recording that is lent and answered 0.
+pub undone-lent : (t : List ℕ) (o : Opened t) → length t ≤ LARGEST → toldAgain (mendedOf t) (notesOf t) ≡ t ++ owed (judged (o .settings .ports) (o .settings .size) (o .rest))
+undone-lent t o h = undone t o (omega arith)
