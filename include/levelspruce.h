@@ -38,9 +38,9 @@ extern "C" {
 #endif
 
 /* The version of this header. levelspruce_version gives that of the library. */
-#define LEVELSPRUCE_VERSION "0.2.0"
+#define LEVELSPRUCE_VERSION "0.3.0"
 #define LEVELSPRUCE_VERSION_MAJOR 0
-#define LEVELSPRUCE_VERSION_MINOR 2
+#define LEVELSPRUCE_VERSION_MINOR 3
 #define LEVELSPRUCE_VERSION_PATCH 0
 
 /* The mark of a call whose answer must be looked at, where the compiler has one. */
@@ -75,6 +75,7 @@ extern "C" {
 #define LEVELSPRUCE_ANSWER_FAILED 10    /* the frame came flagged as failed */
 #define LEVELSPRUCE_ANSWER_OUTSIDE 11   /* the frame is in step, but outside the window: hand it again after a report */
 #define LEVELSPRUCE_ANSWER_STEP 12      /* the port is not in step after this frame */
+#define LEVELSPRUCE_ANSWER_LINE 13      /* the first line of a recording cannot be read */
 #define LEVELSPRUCE_ANSWER_OWNED 14     /* the slot is not the group's own, or a slot to be claimed is owned already */
 #define LEVELSPRUCE_ANSWER_USED 15      /* a slot to be released is not IDLE */
 
@@ -1195,6 +1196,58 @@ uint8_t levelspruce_paths_check(const uint32_t *delays, size_t delays_length,
                                 uint32_t k, uint32_t window,
                                 const uint8_t *set, size_t set_length,
                                 uint8_t *accepted, size_t accepted_length);
+
+/*
+ * A torn recording: a recorder that lost power, or a transfer that stopped, has
+ * left lines that nobody wrote. The manual, 'At the desk', has the form of a
+ * recording. Mending copies it without the lines that are malformed, and
+ * follows the second digit of H4 in the lines of each port, from the first: one
+ * to three lines that break the count, before one that is good again, get their
+ * digit restored, as a capital. Nothing else is altered, and frames that were
+ * lost stay lost. What comes out, mended again, is the same, without notes.
+ *
+ * For each line that was dropped or altered there is a note, a line of four
+ * fields parted by tabs: the number of the line in the recording, whose first
+ * line is 1; the field, 'H4' or 'line'; its old text; its new text, which of a
+ * dropped line is empty. A dropped line may hold tabs: its old text is what
+ * stands between the second tab and the last.
+ */
+
+/*
+ * How many bytes the mended recording and its notes have.
+ *
+ *   recording       the whole recording, of any length and any bytes
+ *   mended_length   the bytes of the mended recording
+ *   notes_length    the bytes of its notes; of more than a size_t holds, its
+ *                   largest number, with which levelspruce_mend answers 9
+ *
+ * Answers, the first that fits:
+ *   13  the first line cannot be read, or there is none
+ *   4   the first line's settings are out of range
+ *   0   mended_length and notes_length are written
+ */
+LEVELSPRUCE_MUST_USE
+uint8_t levelspruce_mend_lengths(const uint8_t *recording,
+                                 size_t recording_length,
+                                 size_t *mended_length, size_t *notes_length);
+
+/*
+ * Mends a recording.
+ *
+ *   recording   the whole recording, of any length and any bytes
+ *   mended      as many bytes as levelspruce_mend_lengths says
+ *   notes       as many bytes as it says
+ *
+ * Answers, the first that fits:
+ *   13  the first line cannot be read, or there is none
+ *   4   the first line's settings are out of range
+ *   9   mended_length or notes_length is another than the one told
+ *   0   all of mended and of notes is written
+ */
+LEVELSPRUCE_MUST_USE
+uint8_t levelspruce_mend(const uint8_t *recording, size_t recording_length,
+                         uint8_t *mended, size_t mended_length,
+                         uint8_t *notes, size_t notes_length);
 
 #ifdef __cplusplus
 }

@@ -75,17 +75,44 @@ static int read_at_edges(uint8_t *open_h4, uint8_t *open_fields)
     return held;
 }
 
+/* A recording of any beginning of this one, mended with the lengths told and with others. */
+static int mend_at_edges(uint8_t *open_recording, uint8_t *open_mended, uint8_t *open_notes)
+{
+    static const char torn[] = "2\t1\t16\n0\t05\t0\tAB\n1\t0\n0\t2f\t0\tAB\n\n0\t07\t1\tAB\n1\t0A\t0\tCD\n1\t0B\t0\tC";
+    size_t length, more;
+    int at_end, held = 1;
+
+    for (length = 0; length < sizeof torn; length++)
+        for (at_end = 0; at_end < 8; at_end++)
+            for (more = 0; more < 2; more++) {
+                uint8_t *recording = buffer_in(open_recording, length, at_end % 2);
+                size_t mended = 3, notes = 5;
+                uint8_t told, answer;
+
+                memcpy(recording, torn, length);
+                told = levelspruce_mend_lengths(recording, length, &mended, &notes);
+                answer = levelspruce_mend(recording, length, buffer_in(open_mended, mended + more, at_end / 2 % 2), mended + more,
+                                          buffer_in(open_notes, notes, at_end / 4), notes);
+                /* of five bytes the window is 1 */
+                held = held && told == (length < 5 ? LEVELSPRUCE_ANSWER_LINE : length == 5 ? LEVELSPRUCE_ANSWER_RANGE : LEVELSPRUCE_ANSWER_DONE)
+                    && answer == (told != LEVELSPRUCE_ANSWER_DONE ? told : more == 0 ? LEVELSPRUCE_ANSWER_DONE : LEVELSPRUCE_ANSWER_LENGTH);
+            }
+    return held;
+}
+
 int main(void)
 {
-    uint8_t *first, *second;
+    uint8_t *first, *second, *third;
 
     page = (size_t)sysconf(_SC_PAGESIZE);
     first = open_page();
     second = open_page();
-    check("pages with shut neighbours are to be had", first != NULL && second != NULL);
-    if (first != NULL && second != NULL) {
+    third = open_page();
+    check("pages with shut neighbours are to be had", first != NULL && second != NULL && third != NULL);
+    if (first != NULL && second != NULL && third != NULL) {
         check("writing touches nothing beside its buffer", write_at_edges(first));
         check("reading touches nothing beside its buffers", read_at_edges(first, second));
+        check("mending touches nothing beside its buffers", mend_at_edges(first, second, third));
     }
     return tally();
 }

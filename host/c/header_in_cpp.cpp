@@ -35,6 +35,13 @@ int main()
     check("a C++ program starts a receiver of a fixed group",
           levelspruce_receiver_start_as(LEVELSPRUCE_KIND_FIXED, 1, 2, 16, LEVELSPRUCE_STORE_BYTES(1, 2, 16), nullptr, 0, nullptr, 0, receiver,
                                         LEVELSPRUCE_RECEIVER_ROWS(1)) == LEVELSPRUCE_ANSWER_DONE);
+    const uint8_t torn[] = { '1', '\t', '1', '\t', '1', '6', '\n', 'x' };
+    uint8_t mended[7], notes[10];
+    std::size_t mended_length, notes_length;
+    check("a C++ program mends a recording",
+          levelspruce_mend_lengths(torn, sizeof torn, &mended_length, &notes_length) == LEVELSPRUCE_ANSWER_DONE && mended_length == sizeof mended
+              && notes_length == sizeof notes && levelspruce_mend(torn, sizeof torn, mended, sizeof mended, notes, sizeof notes) == LEVELSPRUCE_ANSWER_DONE
+              && std::memcmp(mended, torn, sizeof mended) == 0 && notes[0] == '2');
     char version[32];
     std::snprintf(version, sizeof version, "%d.%d.%d", LEVELSPRUCE_VERSION_MAJOR, LEVELSPRUCE_VERSION_MINOR, LEVELSPRUCE_VERSION_PATCH);
     check("the version's text has its numbers, and the library has it", std::strcmp(version, LEVELSPRUCE_VERSION) == 0

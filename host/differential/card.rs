@@ -64,6 +64,10 @@ extern "C" {
     fn levelspruce_board_speak(
         changes: *const u8, changes_length: usize, text: *mut u8, text_length: usize, written: *mut usize,
     ) -> u8;
+    fn levelspruce_mend_lengths(recording: *const u8, recording_length: usize, mended_length: *mut usize, notes_length: *mut usize) -> u8;
+    fn levelspruce_mend(
+        recording: *const u8, recording_length: usize, mended: *mut u8, mended_length: usize, notes: *mut u8, notes_length: usize,
+    ) -> u8;
     fn levelspruce_receiver_start(
         ports: u32, payload: u32, window: u32, store_bytes: usize, state: *mut Row, state_length: usize,
     ) -> u8;
@@ -297,4 +301,12 @@ pub fn receiver_ports(state: &[Row], ports: &mut [[u8; 8]]) -> u8 {
 
 pub fn receiver_reply(state: &[Row], epoch: u8, reply: &mut [u8]) -> u8 {
     unsafe { levelspruce_receiver_reply(state.as_ptr(), state.len(), epoch, reply.as_mut_ptr(), reply.len()) }
+}
+
+pub fn mend_lengths(recording: &[u8], mended: &mut usize, notes: &mut usize) -> u8 {
+    unsafe { levelspruce_mend_lengths(recording.as_ptr(), recording.len(), mended, notes) }
+}
+
+pub fn mend(recording: &[u8], mended: &mut [u8], notes: &mut [u8]) -> u8 {
+    unsafe { levelspruce_mend(recording.as_ptr(), recording.len(), mended.as_mut_ptr(), mended.len(), notes.as_mut_ptr(), notes.len()) }
 }

@@ -6,6 +6,7 @@ mod boards;
 mod card;
 mod circuits;
 mod count;
+mod mends;
 mod orders;
 mod packets;
 mod path;
@@ -14,6 +15,7 @@ mod plans;
 mod random;
 mod receivers;
 mod senders;
+mod torn;
 
 fn main() {
     let hosts = std::env::args().nth(1).map_or(500, |word| word.parse().expect("a number of hosts"));
@@ -25,6 +27,7 @@ fn main() {
     circuits::compare(&mut count);
     orders::compare(&mut count);
     boards::compare(&mut count);
+    mends::compare(&mut count);
     receivers::compare(&mut count, hosts);
     std::process::exit(count.tally());
 }

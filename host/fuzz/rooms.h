@@ -26,7 +26,7 @@ static uint32_t byte_of(struct program *g)
 }
 
 /* Any number, more often a small one. */
-static uint32_t number_of(struct program *g)
+static inline uint32_t number_of(struct program *g)
 {
     uint32_t first = byte_of(g);
 
@@ -121,7 +121,7 @@ static void put_back(struct kept k, struct block b)
         memcpy(k.bytes, b.bytes, some);
 }
 
-static void fill(uint8_t *bytes, size_t length, uint32_t seed)
+static inline void fill(uint8_t *bytes, size_t length, uint32_t seed)
 {
     size_t i;
 

@@ -36,6 +36,8 @@ const char *levelspruce_answer_text(uint32_t answer)
         return "the frame lies outside the window; hand it again after a report";
     case LEVELSPRUCE_ANSWER_STEP:
         return "the port is not in step after this frame";
+    case LEVELSPRUCE_ANSWER_LINE:
+        return "the first line of the recording cannot be read";
     case LEVELSPRUCE_ANSWER_OWNED:
         return "the slot is not the group's own, or a slot to be claimed is owned already";
     case LEVELSPRUCE_ANSWER_USED:

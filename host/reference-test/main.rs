@@ -1,5 +1,5 @@
 //! Checks the reference's receiver by itself: 01's limits, links from the reference's sender, and long histories of
-//! unruly hosts. Every run makes the same ones.
+//! unruly hosts; and its mending of recordings. Every run makes the same ones.
 
 #[path = "../differential/count.rs"]
 #[allow(dead_code)] // not all of it is used here
@@ -11,6 +11,7 @@ mod invariant;
 mod judgements;
 mod limits;
 mod link;
+mod mending;
 mod source;
 mod steps;
 mod waiting;
@@ -29,6 +30,7 @@ fn main() {
     link::check(&mut count);
     fixed::check(&mut count);
     adds::check(&mut count);
+    mending::check(&mut count);
     histories::check(&mut count);
     std::process::exit(count.tally());
 }

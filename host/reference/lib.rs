@@ -2,6 +2,7 @@
 //! the plainest way and with no thought for speed (but for receiver/fast.rs). Differential tests hold the archive to it.
 
 pub mod circuits;
+pub mod mend;
 pub mod packet;
 pub mod paths;
 pub mod payload;

@@ -6,17 +6,17 @@ use crate::receiver::{
 };
 
 const LINE_MOST: usize = 8192;
-const OUT_OF_RANGE: u8 = 4;
-const MALFORMED: u8 = 13;
+pub const OUT_OF_RANGE: u8 = 4;
+pub const MALFORMED: u8 = 13;
 
 /// What a first line says. A list has a number for each port, or none at all.
 pub struct Settings {
-    kind: u32,
-    ports: u32,
-    payload: u32,
-    window: u32,
-    hold_off: Vec<u32>,
-    restore: Vec<u32>,
+    pub(crate) kind: u32,
+    pub(crate) ports: u32,
+    pub(crate) payload: u32,
+    pub(crate) window: u32,
+    pub(crate) hold_off: Vec<u32>,
+    pub(crate) restore: Vec<u32>,
 }
 
 /// A receiver in one of the reference's forms, with what it is lent.
@@ -118,7 +118,7 @@ fn states<R: Receives>(receiver: &R) -> Vec<(u8, u8)> {
 }
 
 /// Ports, P and W, and behind them pairs in any order, each at most once: a kind, or a list with as many numbers as ports.
-fn settings(line: &[u8]) -> Option<Settings> {
+pub(crate) fn settings(line: &[u8]) -> Option<Settings> {
     if line.len() > LINE_MOST {
         return None;
     }
@@ -171,27 +171,27 @@ fn opened<R: Receives>(line: &[u8], store_most: usize) -> Result<Group<R>, u8> {
     })
 }
 
-impl<R: Receives> Group<R> {
-    /// Port, H4 and flag of a frame's line, with its bytes in `payload`; None if it is malformed.
-    fn frame(&mut self, line: &[u8]) -> Option<(u32, u8, bool)> {
-        if line.len() > LINE_MOST {
-            return None;
-        }
-        let mut fields = line.split(|b| *b == b'\t');
-        let (port, h4, flag, digits) = (fields.next()?, fields.next()?, fields.next()?, fields.next()?);
-        if fields.next().is_some() {
-            return None;
-        }
-        let port = number(port).filter(|port| *port < self.ports)?;
-        let mut byte = [0];
-        let flag = match flag {
-            b"0" => false,
-            b"1" => true,
-            _ => return None,
-        };
-        (hex(h4, &mut byte) && hex(digits, &mut self.payload)).then(|| (port, byte[0], flag))
+/// Port, H4 and flag of a frame's line in a group of so many ports, with its bytes in `payload`; None if it is malformed.
+pub(crate) fn frame(line: &[u8], ports: u32, payload: &mut [u8]) -> Option<(u32, u8, bool)> {
+    if line.len() > LINE_MOST {
+        return None;
     }
+    let mut fields = line.split(|b| *b == b'\t');
+    let (port, h4, flag, digits) = (fields.next()?, fields.next()?, fields.next()?, fields.next()?);
+    if fields.next().is_some() {
+        return None;
+    }
+    let port = number(port).filter(|port| *port < ports)?;
+    let mut byte = [0];
+    let flag = match flag {
+        b"0" => false,
+        b"1" => true,
+        _ => return None,
+    };
+    (hex(h4, &mut byte) && hex(digits, payload)).then(|| (port, byte[0], flag))
+}
 
+impl<R: Receives> Group<R> {
     /// A frame handed once, then reports until none is due.
     fn take(&mut self, frame: (u32, u8, bool), number: u64, said: &mut Vec<u8>) {
         let (port, h4, flagged) = frame;
@@ -252,7 +252,7 @@ impl<R: Receives> Replay<R> {
                     self.phase = Phase::Ended;
                 }
             },
-            Phase::Running(group) => match group.frame(line) {
+            Phase::Running(group) => match frame(line, group.ports, &mut group.payload) {
                 Some(frame) => group.take(frame, number, said),
                 None => refuse(MALFORMED),
             },

@@ -1,8 +1,9 @@
 //! Holds the built replay program to the reference's replay: made-up recordings, torn and whole, each as one file, cut before
-//! every line, and cut at single lines, and read from standard input. Every run makes the same ones.
+//! every line, and cut at single lines, and read from standard input; and the program that mends recordings to the reference's mending.
+//! Every run makes the same ones.
 //!
-//! Usage: replays FOLDER COMMAND WORD.. [-- COMMAND WORD..], where FOLDER takes files, the first command runs the program and
-//! the second one the example link, whose recordings are then compared with what it said.
+//! Usage: replays FOLDER COMMAND WORD.. [-- COMMAND WORD.. [-- COMMAND WORD..]], where FOLDER takes files, the first command runs the
+//! program, the second one the example link, whose recordings are then compared with what it said, and the third one the program that mends.
 
 #[path = "../differential/count.rs"]
 #[allow(dead_code)] // not all of it is used here
@@ -11,7 +12,12 @@ mod count;
 #[allow(dead_code)] // nor of this
 mod random;
 
+#[path = "../differential/torn.rs"]
+#[allow(dead_code)] // nor of this
+mod torn;
+
 mod links;
+mod mends;
 mod recordings;
 
 use count::Count;
@@ -26,6 +32,7 @@ const STORE_MOST: usize = 65536;
 
 const RECORDINGS: usize = 80;
 const LINKS: u64 = 200;
+const TORN: usize = 400;
 
 struct Program {
     folder: String,
@@ -122,6 +129,28 @@ impl Held<'_> {
     }
 }
 
+/// The program that mends, beside the reference and before the replay program.
+fn mending(count: &mut Count, program: &Program, link: &[String], words: &[String]) {
+    let mender = mends::Mender { folder: &program.folder, words };
+    let mut random = Random::new(11);
+    let mut seen = mends::Seen::default();
+    let held = (0..TORN).all(|_| {
+        let lines = random.one_of(&[3, 30, 300]);
+        mender.held(&torn::recording(&mut random, lines), &mut seen)
+    });
+    println!("torn\t{}\trefused {}\tdropped {}\trestored {}", seen.recordings, seen.refused, seen.dropped, seen.restored);
+    count.note("torn recordings mended, mended again, and told again from their notes", held);
+    count.note("many lines were dropped and restored", seen.dropped > 3000 && seen.restored > 3000 && seen.refused > 20);
+
+    let openings = recordings::openings();
+    let held = openings.iter().all(|first| mender.held(first, &mut seen));
+    count.note("first lines alone, mended or refused", held);
+    let mut seen = mends::Seen::default();
+    let held = (0..LINKS).all(|_| mender.replays_on(link, &program.words, &mut random, &mut seen));
+    println!("links torn\t{}\tdropped {}\trestored {}", LINKS, seen.dropped, seen.restored);
+    count.note("recordings of the example link, torn and mended, replayed with no line refused", held && seen.dropped > 500 && seen.restored > 200);
+}
+
 fn main() {
     let words: Vec<String> = std::env::args().skip(1).collect();
     let mut commands = words[1..].split(|word| word == "--");
@@ -172,6 +201,10 @@ fn main() {
         println!("links\t{}\treports {}\tstates {}\twhere several reports came together {}", LINKS, reports, states, together);
         count.note("what the example link said at once, replayed from its recording and from its heads", compared.iter().all(|c| c.same));
         count.note("it said many reports and states", reports > 4000 && states > 500);
+
+        if let Some(words) = commands.next() {
+            mending(&mut count, &program, link, words);
+        }
     }
 
     std::process::exit(count.tally());

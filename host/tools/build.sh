@@ -68,6 +68,13 @@ build_order() {
     $archive_compiler -std=c99 $strict -O2 host/order/*.c host/fields/*.c "$archive" -o target/host/order
 }
 
+# build_mend: a torn recording mended.
+build_mend() {
+    mkdir -p target/host
+    # shellcheck disable=SC2086
+    $archive_compiler -std=c99 $strict -O2 host/mend/*.c "$archive" -o target/host/mend
+}
+
 # build_own NAME SOURCE COMPILER WORD..: a C or C++ program for this machine's own processor.
 build_own() {
     own_name=$1 own_source=$2

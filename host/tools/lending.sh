@@ -40,6 +40,33 @@ reads() {
     fi
 }
 
+# torn_and_mended EXAMPLE [IN OUT]: $torn is the caller's file IN and $mended is OUT, which must not be there yet; or $torn is an
+# example, and $mended a file that is gone at the end.
+torn_and_mended() {
+    case $# in
+    1)
+        torn=$1 own=$(mktemp -d) || exit 2
+        trap 'rm -rf "$own"' EXIT
+        trap 'exit 130' INT
+        mended=$own/mended
+        ;;
+    3)
+        case $2 in /*) torn=$2 ;; *) torn=$from/$2 ;; esac
+        case $3 in /*) mended=$3 ;; *) mended=$from/$3 ;; esac
+        reads "$torn" "$2"
+        if [ -e "$mended" ] || [ -L "$mended" ]; then
+            echo "there is a file '$3' already, and mending writes over none" >&2
+            exit 2
+        fi
+        ;;
+    *)
+        shift
+        echo "mending wants two files, the recording and the one to write, and not '$*'" >&2
+        exit 2
+        ;;
+    esac
+}
+
 # greets CALLED: says at a terminal how lines are typed
 greets() { echo "type a line with a tab between its fields, as: size, tab, 2. Ctrl-D ends; $1 --help names the lines" >&2; }
 

@@ -22,6 +22,7 @@ example_of() {
     plan) echo host/data/plan.txt ;;
     proposal) echo host/data/proposal.txt ;;
     order) echo host/order/order.txt ;;
+    mend) echo host/mend/torn.txt ;;
     *) echo "crates/$1/stdin" ;;
     esac
 }

@@ -1,10 +1,11 @@
 pub mod Answers
+pub mod LengthsTold
 pub mod Ordering
 pub mod Parts
 pub mod Pieces
 pub mod Planning
-pub mod Showing
 pub mod SenderCalls
+pub mod Showing
 pub mod Telling
 pub mod TwoGroups
 pub mod Wholes

@@ -3,6 +3,7 @@ pub mod Cards
 pub mod Changes
 pub mod Keeping
 pub mod Laws
+pub mod Mends
 pub mod Orders
 pub mod Packets
 pub mod Payloads

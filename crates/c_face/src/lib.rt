@@ -4,6 +4,7 @@ mod cards;
 mod changes;
 mod commands;
 mod keeping;
+mod mends;
 mod packets;
 mod payloads;
 mod plans;

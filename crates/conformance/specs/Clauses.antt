@@ -6,6 +6,7 @@ pub mod Counting
 pub mod Filled
 pub mod Frames
 pub mod Holding
+pub mod Mending
 pub mod Packets
 pub mod Passing
 pub mod Paths

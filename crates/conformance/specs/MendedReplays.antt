@@ -8,6 +8,7 @@ use Prim.Native.Nat.{ℕ, zero, suc}
 use native.Mathlib.Omega.{arith}
 use lib.Dec.{leb}
 use lib.ListN.{length, take}
+use Rattle.ground.specs.Plain.{if_then_else_}
 use Rattle.mending.specs.Laws.Lines.{Frames, fits-followed, followedLeft, frames-out}
 use Rattle.mending.specs.Laws.Opened.{mended-lines, mendedRest, portsIn, sizeIn}
 use Rattle.mending.specs.Laws.Texts.{bytes-with, bytesOf}
@@ -23,9 +24,9 @@ use Rattle.recording.specs.Opening.{Opening, lineOpening}
 use Rattle.recording.specs.Opening.{Opening as O}
 use Rattle.recording.specs.Record.{lineRecord}
 use Rattle.replaying.specs.declared.replay.Phase.{Phase}
-use Rattle.replaying.specs.declared.replay.Phase.the-variants.{Settings, Reading, Ended}
+use Rattle.replaying.specs.declared.replay.Phase.the-variants.{Settings, Reading, Fetching, Skipping, Ended}
 use Rattle.replaying.specs.Replay.{beginning}
-use Rattle.replaying.specs.Runs.{Desk, deskAfter, deskBy, deskThrough, fetched, framed, lineIn, readBy, reported}
+use Rattle.replaying.specs.Runs.{Desk, deskAfter, deskBy, deskThrough, fetched, framed, lineIn, outputFrom, readBy, readText, refusal, reported, reports, saidTo, textBy, wholeOutput}
 use Rattle.replaying.specs.Turn.{answeredTurn, isDue, openWithTurn, startable, startedTurn, storeIn, timesFit}
 use Rattle.text.specs.Text.{linesOf}
 
@@ -41,6 +42,38 @@ canRead (O.Settings s next) = true
 canRead O.Malformed = false
 canRead O.Unfinished = false
 canRead O.End = false
+
+-- A replay that has no `answer 13` to print: each line says what it says else, the same reports and the same `answer 4`.
+module _ (out : List ℕ) where
+  abbrev quietOpening : Desk → Opening → List ℕ
+  quietOpening d (O.Settings s next) = if startable s (length (d .store)) then [] else refusal out d 4
+  quietOpening d O.Malformed = []
+  quietOpening d O.Unfinished = []
+  quietOpening d O.End = []
+
+  abbrev quietRead : Desk → List ℕ → Record → List ℕ
+  quietRead d line (Frame port h4 flag place next) = reports out (d .replay .window) (framed out d line port h4 flag place)
+  quietRead d line (Malformed next) = []
+  quietRead d line Long = []
+  quietRead d line Unfinished = []
+  quietRead d line End = []
+
+  abbrev quietBy : Phase → Desk → List ℕ → List ℕ
+  quietBy Settings d line = quietOpening d (lineOpening 0 line)
+  quietBy Reading d line = quietRead d line (lineIn out d line)
+  quietBy Fetching d line = []
+  quietBy Skipping d line = []
+  quietBy Ended d line = []
+
+  unfoldable pub quietTo : Desk → List ℕ → List ℕ
+  quietTo d line = quietBy (d .replay .phase) d line
+
+  abbrev pub quietFrom : Desk → List (List ℕ) → List ℕ
+  quietFrom d [] = []
+  quietFrom d (l ∷ ls) = quietTo d l ++ quietFrom (deskAfter out d l) ls
+
+  unfoldable pub quietOutput : List (List ℕ) → List ℕ → List ℕ → List ℕ
+  quietOutput rows store recording = quietFrom (record { replay = beginning; rows = rows; store = store }) (linesOf recording)
 
 module _ (out : List ℕ) where
   -- not answered 13: the settings can be read, and a line that is to be a frame is one
@@ -103,6 +136,31 @@ module _ (out : List ℕ) where
         go true = inl (refl, p, q)
         go false = inr refl
 
+    -- what is said to a line is what is said where no line is answered 13
+
+    said-in : (d : Desk) (l : List ℕ) (p : Phase) → d .replay .phase ≡ p → (saidTo out d l ≡ textBy out p d l) × (quietTo out d l ≡ quietBy out p d l)
+    unfolding saidTo quietTo
+    said-in d l p e = (ap (λ (x : Phase). textBy out x d l) e, ap (λ (x : Phase). quietBy out x d l) e)
+
+    quiet-frame : (d : Desk) (l : List ℕ) (r : Record) → isFrame r ≡ true → readText out d l r ≡ quietRead out d l r
+    quiet-frame d l (Frame port h4 flag place next) f = refl
+    quiet-frame d l (Malformed next) f = absurd (false≢true f)
+    quiet-frame d l Long f = absurd (false≢true f)
+    quiet-frame d l Unfinished f = absurd (false≢true f)
+    quiet-frame d l End f = absurd (false≢true f)
+
+    quiet-line : (d : Desk) (l : List ℕ) → On d → isFrame (lineRecord ports size 0 0 l) ≡ true → saidTo out d l ≡ quietTo out d l
+    quiet-line d l (inl h) f =
+        let e = said-in d l Reading (h .0) in
+        e .0 ∙ (quiet-frame d l (lineIn out d l) (ap isFrame (line-is d l (h .1) (h .2)) ∙ f) ∙ sym (e .1))
+    quiet-line d l (inr h) f = let e = said-in d l Ended h in e .0 ∙ sym (e .1)
+
+    quiet-through : (ls : List (List ℕ)) (d : Desk) → On d → AllFrames ls → outputFrom out d ls ≡ quietFrom out d ls
+    quiet-through [] d h f = refl
+    quiet-through (l ∷ ls) d h f =
+        ap (λ (x : List ℕ). x ++ outputFrom out (deskAfter out d l) ls) (quiet-line d l h (f .0))
+        ∙ ap (λ (x : List ℕ). quietTo out d l ++ x) (quiet-through ls (deskAfter out d l) (on-after d l h (f .0)) (f .1))
+
     frames-split : (xs ys zs : List (List ℕ)) → zs ≡ xs ++ ys → AllFrames zs → AllFrames xs × AllFrames ys
     frames-split [] ys zs e f = (tt, rw e at f)
     frames-split (x ∷ xs) ys zs e f = (let g : AllFrames (x ∷ (xs ++ ys)) = rw e at f in let r = frames-split xs ys (xs ++ ys) refl (g .1) in ((g .0, r .0), r .1))
@@ -135,3 +193,25 @@ replays-on t o out rows store before l after e = go before (sym lines ∙ e)
         on-first out (portsIn t o) (sizeIn t o) (record { replay = beginning; rows = rows; store = store }) b (o .settings) (o .next) refl (ap (lineOpening 0) (sym x) ∙ o .opening) refl refl in
         on-taken out (portsIn t o) (sizeIn t o) (deskThrough out (deskAfter out (record { replay = beginning; rows = rows; store = store }) b) bs) l
         (on-through out (portsIn t o) (sizeIn t o) bs (deskAfter out (record { replay = beginning; rows = rows; store = store }) b) first (f .0)) (f .1 .0)
+
+-- what is said to the first line, whose settings can be read
+quiet-first : (out : List ℕ) (d : Desk) (l : List ℕ) (s : GroupSettings) (next : ℕ) → d .replay .phase ≡ Settings → lineOpening 0 l ≡ O.Settings s next → saidTo out d l ≡ quietTo out d l
+unfolding saidTo quietTo
+quiet-first out d l s next e k = rw (e, k) refl
+
+-- Of what is printed: the whole output of a mended recording is that of a replay which has no `answer 13` to print.
+pub printed-on : (t : List ℕ) → Opened t → (out : List ℕ) (rows : List (List ℕ)) (store : List ℕ) → wholeOutput out rows store (mendedOf t) ≡ quietOutput out rows store (mendedOf t)
+unfolding wholeOutput quietOutput
+printed-on t o out rows store = rw lines (both (quiet-first out (record { replay = beginning; rows = rows; store = store }) (o .first .bytes) (o .settings) (o .next) refl (o .opening)) rest)
+  where
+    lines : linesOf (mendedOf t) ≡ (o .first .bytes) ∷ bytesOf (mendedRest t o)
+    lines = sym (bytes-with (mendedOf t)) ∙ ap bytesOf (mended-lines t o)
+
+    rest : outputFrom out (deskAfter out (record { replay = beginning; rows = rows; store = store }) (o .first .bytes)) (bytesOf (mendedRest t o)) ≡ quietFrom out (deskAfter out (record { replay = beginning; rows = rows; store = store }) (o .first .bytes)) (bytesOf (mendedRest t o))
+    rest =
+        quiet-through out (portsIn t o) (sizeIn t o) (bytesOf (mendedRest t o)) (deskAfter out (record { replay = beginning; rows = rows; store = store }) (o .first .bytes))
+        (on-first out (portsIn t o) (sizeIn t o) (record { replay = beginning; rows = rows; store = store }) (o .first .bytes) (o .settings) (o .next) refl (o .opening) refl refl)
+        (bytes-frames out (portsIn t o) (sizeIn t o) (mendedRest t o) (frames-out (portsIn t o) (sizeIn t o) (o .rest) (followedLeft (portsIn t o) (sizeIn t o) (o .rest)) (fits-followed (portsIn t o) (sizeIn t o) (o .rest))))
+
+    both : {a b c d : List ℕ} → a ≡ b → c ≡ d → a ++ c ≡ b ++ d
+    both {a} {b} {c} {d} p q = ap (λ (x : List ℕ). x ++ c) p ∙ ap (λ (x : List ℕ). b ++ x) q

@@ -7,6 +7,7 @@ use Rattle.c_face.specs.Changes.{appliedAnswerC, appliedBytesC, changesByte, ch
 use Rattle.c_face.specs.Keeping.{bytesOf, rowsIn, slotsIn}
 use Rattle.c_face.specs.Keeping.{byteAt as byteAt-c_face-Keeping}
 use Rattle.c_face.specs.Keeping.{senderOf as senderOf-c_face-Keeping}
+use Rattle.c_face.specs.Mends.{mendedLengthC, notesLengthC}
 use Rattle.c_face.specs.Orders.{kindAnswerOn, kindStateOn, orderAnswerOn, orderAnswersOn, orderStateOn}
 use Rattle.c_face.specs.Packets.{readAnswerC, readFieldsC, readFixedAnswerC, readFixedFieldsC}
 use Rattle.c_face.specs.Plans.{lentAnswer, lentBytes}
@@ -37,6 +38,13 @@ use Rattle.judge.specs.Order.{activeIn, orderOf, portOf}
 use Rattle.judge.specs.Order.{rankOf as rankOf-judge-Order}
 use Rattle.judge.specs.Verdict.{doubtfulBy, eosAlone, eosWrong, exact, fixedExact, fixedHeld, fixedVerdict, gidDiffers, heldBy, judgeOf, lcasVerdict, missing, repeats, takes}
 use Rattle.judge.specs.Verdict.{highest as highest-judge-Verdict}
+use Rattle.mending.specs.Following.{followed}
+use Rattle.mending.specs.Lines.{capital, digitPlace, judged, linesWith}
+use Rattle.mending.specs.Lines.{recordOf as recordOf-mending-Lines}
+use Rattle.mending.specs.Mending.{mendAnswer, mendedOf, notesOf}
+use Rattle.mending.specs.Mending.{fitting as fitting-mending-Mending}
+use Rattle.mending.specs.Mending.{readAnswer as readAnswer-mending-Mending}
+use Rattle.mending.specs.Told.{lengthsOf, mendedLeft, notesLeft}
 use Rattle.orders.specs.Orders.{outcomeBy}
 use Rattle.packet.specs.Changes.{bringsMfi2, changed, keptPart, mostChanges}
 use Rattle.packet.specs.Counts.{carriesLow, counts, startsCount, tagByHigh, tagByLow}
@@ -126,7 +134,7 @@ unfoldable pub allOpen : ℕ
 unfolding indexAfter indexOf boardByte boardBytesOf rankByte ranksBytesOf shownAnswerC shownBytes callAnswerOn callStateOn cardOf ownersIn
     packetAnswerOn packetBytesOn partIn payloadAnswerOn payloadBytesOn putOwn refusalOf shownAnswerOn shownBytesOn startAnswerOn startStateOn
     appliedAnswerC appliedBytesC changesByte changesBytesOf changesFrom comparedAnswerC comparedBytesC listFrom spokenAnswerC spokenBytesC writtenC
-    byteAt-c_face-Keeping bytesOf rowsIn senderOf-c_face-Keeping slotsIn kindAnswerOn kindStateOn orderAnswerOn orderAnswersOn orderStateOn
+    byteAt-c_face-Keeping bytesOf rowsIn senderOf-c_face-Keeping slotsIn mendedLengthC notesLengthC kindAnswerOn kindStateOn orderAnswerOn orderAnswersOn orderStateOn
     readAnswerC readFieldsC readFixedAnswerC readFixedFieldsC lentAnswer lentBytes callAnswerC callStateC packetAnswerC packetBytesC payloadAnswerC
     payloadBytesC startAnswerC startStateC claimOf commandOf groupCallOf releaseOf startOf-circuits-Commands ownedBytes withOwner emptySender
     groupOutcome isSlot isUsed marked owns senderOf-circuits-Parts shownSender withSender boardShown outgoingShown ownedShown
@@ -134,7 +142,8 @@ unfolding indexAfter indexOf boardByte boardBytesOf rankByte ranksBytesOf shownA
     lineIn nothingKept lineOf numberLine reportLine reportOf-console-Line wordLine answerText-console-Output boardText slotText-console-Output
     waitText outputOf-console-Replies replyOf-console-Replies sizeReply endedRun fedOnce hostOutput leftOf wholeOutput beginning fedSession fedText
     feedBytes feedOf finishBytes finishOf lastSession lastText usedOf after activeIn orderOf portOf rankOf-judge-Order doubtfulBy eosAlone eosWrong
-    exact fixedExact fixedHeld fixedVerdict gidDiffers heldBy highest-judge-Verdict judgeOf lcasVerdict missing repeats takes outcomeBy carriesLow
+    exact fixedExact fixedHeld fixedVerdict gidDiffers heldBy highest-judge-Verdict judgeOf lcasVerdict missing repeats takes followed capital digitPlace judged linesWith recordOf-mending-Lines mendAnswer mendedOf notesOf
+    fitting-mending-Mending readAnswer-mending-Mending lengthsOf mendedLeft notesLeft outcomeBy carriesLow
     counts bringsMfi2 changed keptPart mostChanges entryAt entryFrom entryWith rowFrom symbolAt symbolIn symbolOf withSymbol startsCount tagByHigh tagByLow crcOf divisor nibbleBits fixedNibbles fixedRulingOf readFixedAnswer readFixedNibbles
     writeFixedAnswer writeFixedBytes distanceOf endsEpoch epochAfter epochOf epochs epochsIn firstTag frames idleNumber lead mstFails mstFirst
     mstNumbers placeOf startsEpoch tagAfter tagBefore tags carriedIn dataOf fieldsOf-packet-Layout h4Of highsOf nibblesOf sealedOf readAnswer

@@ -3,6 +3,7 @@ pub mod Cards
 pub mod CardStates
 pub mod Epochs
 pub mod Lines
+pub mod Mending
 pub mod Orders
 pub mod Packets
 pub mod Paths
@@ -18,6 +19,7 @@ use Cards as card
 use CardStates as cardState
 use Epochs as sender
 use Lines as console
+use Mending as mending
 use Orders as orders
 use Packets as packet
 use Paths as paths
@@ -86,6 +88,8 @@ entries =
     ∷ row "receiver::ports" receiver.ports receiver.ports-copes
     ∷ row "receiver::reply" receiver.reply receiver.reply-copes
     ∷ row "replaying::turn" replay.turn replay.turn-copes
+    ∷ row "mending::mend_lengths" mending.lengths mending.lengths-copes
+    ∷ row "mending::mend" mending.mend mending.mend-copes
     ∷ row "levelspruce_packet_write" packet.writeC packet.writeC-copes
     ∷ row "levelspruce_packet_read" packet.readC packet.readC-copes
     ∷ row "levelspruce_packet_write_fixed" packet.writeFixedC packet.writeFixedC-copes
@@ -123,6 +127,8 @@ entries =
     ∷ row "levelspruce_board_changes" spoken.changesC spoken.changesC-copes
     ∷ row "levelspruce_board_apply" spoken.applyC spoken.applyC-copes
     ∷ row "levelspruce_board_speak" spoken.speakC spoken.speakC-copes
+    ∷ row "levelspruce_mend_lengths" mending.lengthsC mending.lengthsC-copes
+    ∷ row "levelspruce_mend" mending.mendC mending.mend-copes
     ∷ row "levelspruce_receiver_start" receiver.startC receiver.startC-copes
     ∷ row "levelspruce_receiver_start_as" receiver.startAsC receiver.startAsC-copes
     ∷ row "levelspruce_receiver_frame" receiver.frameC receiver.frameC-copes

@@ -1,4 +1,4 @@
--- Equations that the calls of the first pass promise, put together.
+-- Equations that the calls of the first sweep promise, put together.
 use mathlib.Core.Path.{_≡_, refl, ap, _∙_}
 use mathlib.Core.Bool.{Bool, true, false}
 use mathlib.Core.List.{List}
@@ -10,8 +10,9 @@ use Rattle.mending.specs.declared.follow.Follow.{Follow}
 use Rattle.mending.specs.declared.follow.Keys.{Keys}
 use Rattle.mending.specs.declared.line.Read.{Read}
 use Rattle.mending.specs.Follow.{beginning, countBack, fed, restoresFirst, restoresLast, restoresSecond, restoresThird}
-use Rattle.mending.specs.Laws.Copies.{Copying, copying-dropped, copying-kept, length-setIf, passIn}
-use Rattle.mending.specs.Laws.Passes.{noKeys, passEnd, passStart, passed, restoredIn, setIf, withKey}
+use Rattle.mending.specs.Laws.Copies.{Copying, copying-dropped, copying-kept, sweepIn}
+use Rattle.mending.specs.Laws.Restored.{length-setIf}
+use Rattle.mending.specs.Laws.Sweeps.{noKeys, sweepEnd, sweepStart, swept, restoredIn, setIf, withKey}
 use Rattle.mending.specs.Laws.Reads.{readAt}
 use Rattle.mending.specs.Lines.{capital, linesWith}
 use Rattle.payload.specs.Laying.{laid}
@@ -22,9 +23,9 @@ pub restored-by : (f g : Follow) (k : Keys) (out : List ℕ) {first second third
 unfolding restoredIn
 restored-by f g k out a b c d e h p q r = rw (r, q, p, a, b, c, d, e, h) refl
 
--- a turn of the first pass
+-- a turn of the first sweep
 
-module _ (ports size start : ℕ) (text out₀ : List ℕ) (room : length out₀ ≡ length (passed ports size (passStart (take start out₀)) (linesWith (drop start text)) .written))
+module _ (ports size start : ℕ) (text out₀ : List ℕ) (room : length out₀ ≡ length (swept ports size (sweepStart (take start out₀)) (linesWith (drop start text)) .written))
     (follows : List Follow) (keys : List Keys) (at to : ℕ) (out : List ℕ) (c : Copying ports size start text out₀ follows keys at to out) (more : at < length text)
     (r : Read) (er : r ≡ readAt ports size at text) where
   pub copy-kept : r .kept ≡ true → r .port < 64 → (after : Follow) → after ≡ fed (getD follows (r .port) beginning) (r .count)
@@ -41,7 +42,7 @@ module _ (ports size start : ℕ) (text out₀ : List ℕ) (room : length out₀
 
 -- and of its end
 
-pub ended-by : (follows : List Follow) (keys : List Keys) (i : ℕ) (out₀ out new : List ℕ) (is : Bool) (count : ℕ) → out ≡ passEnd i (passIn follows keys out₀) → is ≡ restoresLast (getD follows i beginning)
+pub ended-by : (follows : List Follow) (keys : List Keys) (i : ℕ) (out₀ out new : List ℕ) (is : Bool) (count : ℕ) → out ≡ sweepEnd i (sweepIn follows keys out₀) → is ≡ restoresLast (getD follows i beginning)
     → count ≡ countBack (getD follows i beginning) (getD follows i beginning .first) 2 → new ≡ setIf is (getD keys i noKeys .second) (capital count) out
-    → (new ≡ passEnd (i + 1) (passIn follows keys out₀)) × (length new ≡ length out)
+    → (new ≡ sweepEnd (i + 1) (sweepIn follows keys out₀)) × (length new ≡ length out)
 ended-by follows keys i out₀ out new is count e a b d = (rw (add-one, d, a, b, e) refl, ap length d ∙ length-setIf is (getD keys i noKeys .second) (capital count) out)

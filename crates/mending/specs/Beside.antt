@@ -1,12 +1,12 @@
 -- A torn recording's lines beside the mended ones (2026-11), for the theorems: what must be the same, and which lines a note must name.
 use mathlib.Core.Path.{_≡_}
-use mathlib.Core.Bool.{Bool, false, cond}
+use mathlib.Core.Bool.{Bool, false}
 use mathlib.Core.List.{List, [], _∷_, _++_}
 use mathlib.Core.Logic.{_≢_}
 use Prim.Native.Nat.{ℕ, suc, _-_}
-use lib.Dec.{eqb}
 use lib.ListN.{getD, length}
 use Rattle.ground.specs.Finite.{sameBytes}
+use Rattle.ground.specs.Plain.{if_then_else_, _==_}
 use Rattle.mending.specs.Lines.{Line, digitPlace, recordOf}
 use Rattle.mending.specs.Mending.{noteText}
 use Rattle.recording.specs.declared.record.Record.{Record}
@@ -16,7 +16,7 @@ use Rattle.text.specs.Ascii.{ascii}
 
 -- whether a record is a port's
 abbrev pub isPort : ℕ → Record → Bool
-isPort port (Frame p h4 flag place next) = eqb p port
+isPort port (Frame p h4 flag place next) = p == port
 isPort port (Malformed next) = false
 isPort port Long = false
 isPort port Unfinished = false
@@ -42,23 +42,23 @@ module _ (size : ℕ) where
 
   -- a note exactly if the line is another one now, with the old text and the new
   abbrev pub alteredNote : ℕ → Line → Line → List ℕ
-  alteredNote n l m = cond (sameBytes (l .bytes) (m .bytes)) [] (noteText n (ascii "H4") (h4In l) (h4In m))
+  alteredNote n l m = if sameBytes (l .bytes) (m .bytes) then [] else noteText n (ascii "H4") (h4In l) (h4In m)
 
 module _ (ports size : ℕ) where
   -- the lines that are not malformed
   abbrev pub wellFormed : List Line → List Line
   wellFormed [] = []
-  wellFormed (l ∷ ls) = cond (isFrame (recordOf ports size l)) (l ∷ wellFormed ls) (wellFormed ls)
+  wellFormed (l ∷ ls) = if isFrame (recordOf ports size l) then l ∷ wellFormed ls else wellFormed ls
 
   -- the notes of lines numbered from n, by the lines alone, torn and mended: a malformed line has been dropped
   abbrev pub notesBeside : ℕ → List Line → List Line → List ℕ
   notesBeside n [] ms = []
-  notesBeside n (l ∷ ls) [] = cond (isFrame (recordOf ports size l)) [] (noteText n (ascii "line") (l .bytes) [] ++ notesBeside (suc n) ls [])
+  notesBeside n (l ∷ ls) [] = if isFrame (recordOf ports size l) then [] else noteText n (ascii "line") (l .bytes) [] ++ notesBeside (suc n) ls []
   notesBeside n (l ∷ ls) (m ∷ ms) =
-      cond (isFrame (recordOf ports size l)) (alteredNote size n l m ++ notesBeside (suc n) ls ms)
-      (noteText n (ascii "line") (l .bytes) [] ++ notesBeside (suc n) ls (m ∷ ms))
+      if isFrame (recordOf ports size l) then alteredNote size n l m ++ notesBeside (suc n) ls ms
+      else noteText n (ascii "line") (l .bytes) [] ++ notesBeside (suc n) ls (m ∷ ms)
 
   -- the lines of one port
   abbrev pub portLines : ℕ → List Line → List Line
   portLines port [] = []
-  portLines port (l ∷ ls) = cond (isPort port (recordOf ports size l)) (l ∷ portLines port ls) (portLines port ls)
+  portLines port (l ∷ ls) = if isPort port (recordOf ports size l) then l ∷ portLines port ls else portLines port ls

@@ -1,10 +1,10 @@
 -- The following of one port as an automaton, a line a step. Count less place, modulo 16, stays the same from line to line where the count goes on: a
 -- line is good where it is that of the last good line, and a restored line gets it. Broken lines that wait for a good one are the port's last ones.
-use mathlib.Core.Bool.{Bool, true, false, cond, not, _&&_}
+use mathlib.Core.Bool.{Bool, true, false, not, _&&_}
 use mathlib.Core.List.{List, [], _∷_, _++_}
 use Prim.Native.Nat.{ℕ, _+_, _-_, _%_}
-use lib.Dec.{eqb, leb, ltb}
 use lib.ListN.{length, set}
+use Rattle.ground.specs.Plain.{if_then_else_, _==_, _<?_, _≤?_}
 use Rattle.mending.specs.declared.follow.Follow.{Follow}
 
 -- before a port's first line
@@ -25,14 +25,15 @@ going f v pending o =
 
 -- afresh at the first of four broken lines: how many of them are still pending, which is those behind the last one that is good by the first
 abbrev pub afresh : Follow → ℕ → ℕ
-afresh f o = cond (eqb o (f .first)) 0 (cond (eqb (f .third) (f .first)) 1 (cond (eqb (f .second) (f .first)) 2 3))
+afresh f o = if o == f .first then 0 else if f .third == f .first then 1 else if f .second == f .first then 2 else 3
 
 abbrev pub fedBy : Follow → ℕ → Follow
 fedBy f o =
-    cond (f .begun)
-    (cond (eqb o (f .v)) (going f (f .v) 0 o)
-    (cond (ltb (f .pending) 3) (going f (f .v) (f .pending + 1) o) (going f (f .first) (afresh f o) o)))
-    (going f o 0 o)
+    if f .begun
+    then (if o == f .v then going f (f .v) 0 o
+    else if f .pending <? 3 then going f (f .v) (f .pending + 1) o
+    else going f (f .first) (afresh f o) o)
+    else going f o 0 o
 
 -- the next line of the port
 unfoldable pub fed : Follow → ℕ → Follow
@@ -40,7 +41,7 @@ fed f count = fedBy f (lessPlace count (f .place))
 
 -- A line that was pending and is no more is restored, unless it has what it would get: so many lines back (1 to 3), with this count less place.
 abbrev pub restores : Follow → Follow → ℕ → ℕ → Bool
-restores before after back o = leb back (before .pending) && leb (after .pending) back && not (eqb o (after .v))
+restores before after back o = back ≤? before .pending && after .pending ≤? back && not (o == after .v)
 
 unfoldable pub restoresFirst : Follow → Follow → Bool
 restoresFirst before after = restores before after 3 (before .first)
@@ -53,11 +54,11 @@ restoresThird before after = restores before after 1 (before .third)
 
 -- at the end, afresh again and again: of at most three pending lines only the second can be restored, where the third is good by the first
 unfoldable pub restoresLast : Follow → Bool
-restoresLast f = leb 3 (f .pending) && eqb (f .third) (f .first) && not (eqb (f .second) (f .first))
+restoresLast f = 3 ≤? f .pending && f .third == f .first && not (f .second == f .first)
 
 -- the port's counts so far, one of them set where it is restored
 abbrev pub setBack : Bool → ℕ → ℕ → List ℕ → List ℕ
-setBack b back count counts = cond b (set counts (length counts - back) count) counts
+setBack b back count counts = if b then set counts (length counts - back) count else counts
 
 unfoldable pub restoredBack : Follow → Follow → List ℕ → List ℕ
 restoredBack f g counts =

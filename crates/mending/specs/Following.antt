@@ -1,8 +1,8 @@
 -- The H4 count of one port followed (2026-11), on the counts of its lines one behind the other.
-use mathlib.Core.Bool.{Bool, false, cond, _||_}
+use mathlib.Core.Bool.{Bool, false, _||_}
 use mathlib.Core.List.{List, [], _∷_}
 use Prim.Native.Nat.{ℕ, zero, suc, _+_, _-_, _%_, _<_}
-use lib.Dec.{eqb}
+use Rattle.ground.specs.Plain.{if_then_else_, _==_}
 
 -- a count is one hex digit
 abbrev pub Counts : List ℕ → Type 0
@@ -15,7 +15,7 @@ countDue last since = (last + since) % 16
 
 -- 'A line is good when its count is' that
 abbrev pub isGood : ℕ → ℕ → ℕ → Bool
-isGood last since count = eqb count (countDue last since)
+isGood last since count = count == countDue last since
 
 -- whether one of the next n lines is good, the first of which is so many lines since the last good one
 abbrev pub goodAmong : ℕ → ℕ → ℕ → List ℕ → Bool
@@ -30,8 +30,9 @@ goodAmong (suc n) last since (c ∷ cs) = isGood last since c || goodAmong n las
 abbrev pub followedFrom : ℕ → ℕ → List ℕ → List ℕ
 followedFrom last since [] = []
 followedFrom last since (c ∷ cs) =
-    cond (isGood last since c) (c ∷ followedFrom c 1 cs)
-    (cond (goodAmong (4 - since) last (suc since) cs) (countDue last since ∷ followedFrom last (suc since) cs) (c ∷ followedFrom c 1 cs))
+    if isGood last since c then c ∷ followedFrom c 1 cs
+    else if goodAmong (4 - since) last (suc since) cs then countDue last since ∷ followedFrom last (suc since) cs
+    else c ∷ followedFrom c 1 cs
 
 -- 'follows the H4 count of each port from its first line'
 unfoldable pub followed : List ℕ → List ℕ

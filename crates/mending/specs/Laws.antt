@@ -1,6 +1,5 @@
 -- Laws on the definitions, for the theorems and the proofs above them.
 pub mod Automaton
-pub mod Beside
 pub mod Copies
 pub mod Counting
 pub mod Counts
@@ -8,13 +7,14 @@ pub mod Digits
 pub mod Layout
 pub mod Lengths
 pub mod Lines
+pub mod Noted
 pub mod Noting
 pub mod Opened
-pub mod Passed
-pub mod Passes
 pub mod Reads
 pub mod Restored
 pub mod Seen
 pub mod Starts
+pub mod Sweeps
+pub mod Swept
 pub mod Texts
 pub mod Whole

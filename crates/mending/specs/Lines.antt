@@ -1,9 +1,8 @@
 -- The lines of a torn recording, each with what became of it (2026-11).
-use mathlib.Core.Bool.{cond}
 use mathlib.Core.List.{List, [], _∷_, _++_}
 use Prim.Native.Nat.{ℕ, suc, _+_, _-_, _%_}
-use lib.Dec.{eqb, ltb}
 use lib.ListN.{drop, getD, length, set, take}
+use Rattle.ground.specs.Plain.{if_then_else_, _==_, _<?_}
 use Rattle.mending.specs.Following.{followed}
 use Rattle.recording.specs.declared.record.Record.{Record}
 use Rattle.recording.specs.declared.record.Record.the-variants.{Frame, Malformed, Long, Unfinished, End}
@@ -41,11 +40,11 @@ pub record Judged : Type 0 where
 
 -- a digit as a capital
 unfoldable pub capital : ℕ → ℕ
-capital n = cond (ltb n 10) (48 + n) (55 + n)
+capital n = if n <? 10 then 48 + n else 55 + n
 
 -- 'the H4 count' is MFI1, the second digit of H4
 abbrev pub countBy : ℕ → Record → List ℕ → List ℕ
-countBy port (Frame p h4 flag place next) counts = cond (eqb p port) (h4 % 16 ∷ counts) counts
+countBy port (Frame p h4 flag place next) counts = if p == port then h4 % 16 ∷ counts else counts
 countBy port (Malformed next) counts = counts
 countBy port Long counts = counts
 countBy port Unfinished counts = counts
@@ -53,7 +52,7 @@ countBy port End counts = counts
 
 -- the counts that a port has left behind a line
 abbrev pub leftBy : (ℕ → List ℕ) → Record → ℕ → List ℕ
-leftBy left (Frame p h4 flag place next) port = cond (eqb p port) (drop 1 (left port)) (left port)
+leftBy left (Frame p h4 flag place next) port = if p == port then drop 1 (left port) else left port
 leftBy left (Malformed next) port = left port
 leftBy left Long port = left port
 leftBy left Unfinished port = left port
@@ -72,7 +71,7 @@ module _ (size : ℕ) where
 
   -- a broken line gets its count restored
   abbrev pub fateTo : Line → ℕ → ℕ → Fate
-  fateTo l old new = cond (eqb old new) Kept (Restored (digitIn l) (capital new))
+  fateTo l old new = if old == new then Kept else Restored (digitIn l) (capital new)
 
   -- 'drops malformed lines'; a port's line gets the next of the counts that its port has left
   abbrev pub fateBy : (ℕ → List ℕ) → Line → Record → Fate

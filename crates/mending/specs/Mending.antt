@@ -1,10 +1,10 @@
 -- A recording mended (2026-11): what is answered, the mended recording, and the notes of what was dropped or altered.
 use mathlib.Core.Path.{_≡_}
-use mathlib.Core.Bool.{Bool, true, cond, _&&_}
+use mathlib.Core.Bool.{Bool, true, _&&_}
 use mathlib.Core.List.{List, [], _∷_, _++_}
 use Prim.Native.Nat.{ℕ, suc, _-_}
-use lib.Dec.{eqb}
 use lib.ListN.{getD, length, take}
+use Rattle.ground.specs.Plain.{if_then_else_, _==_}
 use Rattle.mending.specs.Lines.{Fate, Judged, Line, digitPlace, judged, lineText, linesWith, mendedLines, textOf}
 use Rattle.mending.specs.Lines.{Fate as F}
 use Rattle.phases.specs.Sizes.{sized}
@@ -22,7 +22,7 @@ fitting s =
     sized (s .kind) (s .ports) (s .size) (s .window) && timesWithin (take (s .ports) (s .«hold_off»)) && timesWithin (take (s .ports) (s .restore))
 
 abbrev pub answerBy : Opening → ℕ
-answerBy (O.Settings s next) = cond (fitting s) 0 4
+answerBy (O.Settings s next) = if fitting s then 0 else 4
 answerBy O.Malformed = 13
 answerBy O.Unfinished = 13
 answerBy O.End = 13
@@ -86,8 +86,9 @@ notesOf text = notesIn (linesWith text)
 -- 9: a length is not the one told
 unfoldable pub mendAnswer : List ℕ → ℕ → ℕ → ℕ
 mendAnswer text mended notes =
-    cond (eqb (readAnswer text) 0)
-    (cond (eqb mended (length (mendedOf text)) && eqb notes (length (notesOf text))) 0 9) (readAnswer text)
+    if readAnswer text == 0
+    then (if mended == length (mendedOf text) && notes == length (notesOf text) then 0 else 9)
+    else readAnswer text
 
 -- a recording that is answered 0: its first line, the settings in it, and the other lines
 pub record Opened (t : List ℕ) : Type 0 where

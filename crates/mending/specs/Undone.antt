@@ -1,11 +1,11 @@
 -- The torn recording told again from the mended one and its notes (2026-11).
-use mathlib.Core.Bool.{Bool, false, cond, _||_}
+use mathlib.Core.Bool.{Bool, false, _||_}
 use mathlib.Core.List.{List, [], _∷_, _++_}
 use Prim.Native.Nat.{ℕ, suc, _-_}
-use lib.Dec.{eqb}
 use lib.ListN.{drop, getD, take}
 use lib.Seq.{sets}
 use Rattle.ground.specs.Finite.{sameBytes}
+use Rattle.ground.specs.Plain.{if_then_else_, _==_}
 use Rattle.mending.specs.Lines.{Fate, Judged, Line, digitPlace, lineText, linesWith, textOf}
 use Rattle.mending.specs.Lines.{Fate as F}
 use Rattle.mending.specs.Mending.{openingOf}
@@ -18,20 +18,20 @@ use Rattle.text.specs.Text.{LINE-END, TAB, linesOf}
 -- up to the first tab, and behind it
 abbrev pub before : List ℕ → List ℕ
 before [] = []
-before (b ∷ l) = cond (eqb b TAB) [] (b ∷ before l)
+before (b ∷ l) = if b == TAB then [] else b ∷ before l
 
 abbrev pub behind : List ℕ → List ℕ
 behind [] = []
-behind (b ∷ l) = cond (eqb b TAB) l (behind l)
+behind (b ∷ l) = if b == TAB then l else behind l
 
 abbrev pub hasTab : List ℕ → Bool
 hasTab [] = false
-hasTab (b ∷ l) = eqb b TAB || hasTab l
+hasTab (b ∷ l) = b == TAB || hasTab l
 
 -- up to the last tab
 abbrev pub beforeLast : List ℕ → List ℕ
 beforeLast [] = []
-beforeLast (b ∷ l) = cond (hasTab l) (b ∷ beforeLast l) []
+beforeLast (b ∷ l) = if hasTab l then b ∷ beforeLast l else []
 
 -- a note: its number, its field, and as old text what stands between the second tab and the last
 pub record Note : Type 0 where
@@ -59,8 +59,9 @@ module _ (size : ℕ) where
   againFrom n [] ls = textOf ls
   againFrom n (note ∷ notes) ls =
       textOf (take (note .number - n) ls)
-      ++ cond (sameBytes (note .field) (ascii "line")) (note .old ++ (LINE-END ∷ againFrom (suc (note .number)) notes (drop (note .number - n) ls)))
-      (lineText (withOld (getD ls (note .number - n) noLine) (note .old)) ++ againFrom (suc (note .number)) notes (drop (suc (note .number - n)) ls))
+      ++ (if sameBytes (note .field) (ascii "line")
+      then note .old ++ (LINE-END ∷ againFrom (suc (note .number)) notes (drop (note .number - n) ls))
+      else lineText (withOld (getD ls (note .number - n) noLine) (note .old)) ++ againFrom (suc (note .number)) notes (drop (suc (note .number - n)) ls))
 
 abbrev pub sizeBy : Opening → ℕ
 sizeBy (O.Settings s next) = s .size

@@ -1,10 +1,10 @@
 -- Wrong readings of 2026-11, each as a definition with a recording on which it differs.
 use mathlib.Core.Path.{_≡_, refl}
-use mathlib.Core.Bool.{Bool, true, false, cond, _||_}
+use mathlib.Core.Bool.{Bool, true, false, _||_}
 use mathlib.Core.List.{List, [], _∷_, _++_}
 use Prim.Native.Nat.{ℕ, zero, suc, _+_, _-_, _%_}
-use lib.Dec.{eqb, leb}
 use lib.ListN.{length}
+use Rattle.ground.specs.Plain.{if_then_else_, _==_, _≤?_}
 use Rattle.mending.specs.Following.{countDue, followed, goodAmong, isGood}
 use Rattle.mending.specs.Lines.{Fate, Judged, Line, countsOf, judged, linesWith, recordOf}
 use Rattle.mending.specs.Lines.{Fate as F}
@@ -26,8 +26,9 @@ lineAmong (suc n) before (c ∷ cs) = isGood before 1 c || lineAmong n c cs
 abbrev byLine : ℕ → ℕ → ℕ → List ℕ → List ℕ
 byLine before last since [] = []
 byLine before last since (c ∷ cs) =
-    cond (isGood before 1 c) (c ∷ byLine c c 1 cs)
-    (cond (lineAmong (4 - since) c cs) (countDue last since ∷ byLine c last (suc since) cs) (c ∷ byLine c c 1 cs))
+    if isGood before 1 c then c ∷ byLine c c 1 cs
+    else if lineAmong (4 - since) c cs then countDue last since ∷ byLine c last (suc since) cs
+    else c ∷ byLine c c 1 cs
 
 wrong-line : List ℕ → List ℕ
 wrong-line [] = []
@@ -37,18 +38,27 @@ line-breaks : (wrong-line (0 ∷ 0 ∷ 1 ∷ 2 ∷ []) ≡ 0 ∷ 1 ∷ 1 ∷ 2 �
 unfolding wrong-line followed
 line-breaks = (refl, refl, refl)
 
--- The lines since not counted: then no line behind a broken one is good.
-abbrev notSince : ℕ → List ℕ → List ℕ
-notSince last [] = []
-notSince last (c ∷ cs) = c ∷ notSince (cond (isGood last 1 c) c last) cs
+-- The lines since not counted: good is the last good one plus one, however many broken lines lie between, and a restored one gets the same.
+abbrev nextAmong : ℕ → ℕ → List ℕ → Bool
+nextAmong zero last counts = false
+nextAmong (suc n) last [] = false
+nextAmong (suc n) last (c ∷ cs) = isGood last 1 c || nextAmong n last cs
+
+abbrev uncountedFrom : ℕ → ℕ → List ℕ → List ℕ
+uncountedFrom last since [] = []
+uncountedFrom last since (c ∷ cs) =
+    if isGood last 1 c then c ∷ uncountedFrom c 1 cs
+    else if nextAmong (4 - since) last cs then countDue last 1 ∷ uncountedFrom last (suc since) cs
+    else c ∷ uncountedFrom c 1 cs
 
 wrong-since : List ℕ → List ℕ
 wrong-since [] = []
-wrong-since (c ∷ cs) = c ∷ notSince c cs
+wrong-since (c ∷ cs) = c ∷ uncountedFrom c 1 cs
 
-since-breaks : (wrong-since (5 ∷ 6 ∷ 0 ∷ 8 ∷ []) ≡ 5 ∷ 6 ∷ 0 ∷ 8 ∷ []) × (followed (5 ∷ 6 ∷ 0 ∷ 8 ∷ []) ≡ 5 ∷ 6 ∷ 7 ∷ 8 ∷ [])
+since-breaks : (wrong-since (5 ∷ 6 ∷ 0 ∷ 7 ∷ 8 ∷ []) ≡ 5 ∷ 6 ∷ 7 ∷ 7 ∷ 8 ∷ []) × (followed (5 ∷ 6 ∷ 0 ∷ 7 ∷ 8 ∷ []) ≡ 5 ∷ 6 ∷ 0 ∷ 7 ∷ 8 ∷ [])
+    × (wrong-since (5 ∷ 6 ∷ 0 ∷ 8 ∷ []) ≡ 5 ∷ 6 ∷ 0 ∷ 8 ∷ []) × (followed (5 ∷ 6 ∷ 0 ∷ 8 ∷ []) ≡ 5 ∷ 6 ∷ 7 ∷ 8 ∷ [])
 unfolding wrong-since followed
-since-breaks = (refl, refl)
+since-breaks = (refl, refl, refl, refl)
 
 -- Another number of broken lines at most, and the end taken for a good line or not.
 abbrev among : Bool → ℕ → ℕ → ℕ → List ℕ → Bool
@@ -59,8 +69,9 @@ among atEnd (suc n) last since (c ∷ cs) = isGood last since c || among atEnd n
 abbrev mostFrom : Bool → ℕ → ℕ → ℕ → List ℕ → List ℕ
 mostFrom atEnd most last since [] = []
 mostFrom atEnd most last since (c ∷ cs) =
-    cond (isGood last since c) (c ∷ mostFrom atEnd most c 1 cs)
-    (cond (among atEnd (suc most - since) last (suc since) cs) (countDue last since ∷ mostFrom atEnd most last (suc since) cs) (c ∷ mostFrom atEnd most c 1 cs))
+    if isGood last since c then c ∷ mostFrom atEnd most c 1 cs
+    else if among atEnd (suc most - since) last (suc since) cs then countDue last since ∷ mostFrom atEnd most last (suc since) cs
+    else c ∷ mostFrom atEnd most c 1 cs
 
 abbrev most : Bool → ℕ → List ℕ → List ℕ
 most atEnd n [] = []
@@ -93,8 +104,9 @@ two-breaks = (refl, refl)
 abbrev behindFour : ℕ → ℕ → ℕ → List ℕ → List ℕ
 behindFour left last since [] = []
 behindFour zero last since (c ∷ cs) =
-    cond (isGood last since c) (c ∷ behindFour 0 c 1 cs)
-    (cond (goodAmong (4 - since) last (suc since) cs) (countDue last since ∷ behindFour 0 last (suc since) cs) (c ∷ behindFour 4 last since cs))
+    if isGood last since c then c ∷ behindFour 0 c 1 cs
+    else if goodAmong (4 - since) last (suc since) cs then countDue last since ∷ behindFour 0 last (suc since) cs
+    else c ∷ behindFour 4 last since cs
 behindFour (suc zero) last since (c ∷ cs) = c ∷ behindFour 0 c 1 cs
 behindFour (suc (suc left)) last since (c ∷ cs) = c ∷ behindFour (suc left) last since cs
 
@@ -109,8 +121,9 @@ behind-breaks = (refl, refl)
 abbrev unjudgedFrom : ℕ → ℕ → ℕ → List ℕ → List ℕ
 unjudgedFrom left last since [] = []
 unjudgedFrom zero last since (c ∷ cs) =
-    cond (isGood last since c) (c ∷ unjudgedFrom 0 c 1 cs)
-    (cond (goodAmong (4 - since) last (suc since) cs) (countDue last since ∷ unjudgedFrom 0 last (suc since) cs) (c ∷ unjudgedFrom 3 c 1 cs))
+    if isGood last since c then c ∷ unjudgedFrom 0 c 1 cs
+    else if goodAmong (4 - since) last (suc since) cs then countDue last since ∷ unjudgedFrom 0 last (suc since) cs
+    else c ∷ unjudgedFrom 3 c 1 cs
 unjudgedFrom (suc left) last since (c ∷ cs) = c ∷ unjudgedFrom left last (suc since) cs
 
 wrong-unjudged : List ℕ → List ℕ
@@ -125,9 +138,10 @@ unjudged-breaks = (refl, refl)
 abbrev leftFrom : ℕ → ℕ → List ℕ → List ℕ
 leftFrom last since [] = []
 leftFrom last since (c ∷ cs) =
-    cond (isGood last since c) (c ∷ leftFrom c 1 cs)
-    (cond (goodAmong (4 - since) last (suc since) cs) (countDue last since ∷ leftFrom last (suc since) cs)
-    (cond (leb 3 (length cs)) (c ∷ leftFrom c 1 cs) (c ∷ cs)))
+    if isGood last since c then c ∷ leftFrom c 1 cs
+    else if goodAmong (4 - since) last (suc since) cs then countDue last since ∷ leftFrom last (suc since) cs
+    else if 3 ≤? length cs then c ∷ leftFrom c 1 cs
+    else c ∷ cs
 
 wrong-left : List ℕ → List ℕ
 wrong-left [] = []
@@ -163,7 +177,7 @@ together-breaks = (refl, refl, refl)
 abbrev countDropped : Record → List ℕ → List ℕ
 countDropped (Frame p h4 flag place next) counts = h4 % 16 ∷ counts
 countDropped (Malformed next) counts = 16 ∷ counts
-countDropped Long counts = counts
+countDropped Long counts = 16 ∷ counts
 countDropped Unfinished counts = counts
 countDropped End counts = counts
 
@@ -179,7 +193,7 @@ dropped-breaks = (refl, refl)
 
 -- Flagged lines not counted: they are lines of the port, and every flag would break its count. Here a good line becomes a broken one.
 abbrev countPlain : Record → List ℕ → List ℕ
-countPlain (Frame p h4 flag place next) counts = cond (eqb flag 0) (h4 % 16 ∷ counts) counts
+countPlain (Frame p h4 flag place next) counts = if flag == 0 then h4 % 16 ∷ counts else counts
 countPlain (Malformed next) counts = counts
 countPlain Long counts = counts
 countPlain Unfinished counts = counts

@@ -6,8 +6,8 @@ use crate::line;
 ghost use mathlib.Core.Path.{_≡_};
 ghost use Prim.Native.Nat.{_≤_, _<_};
 ghost use lib.ListN.{drop, length, take};
-ghost use Rattle.mending.specs.Laws.Copies.{passIn};
-ghost use Rattle.mending.specs.Laws.Passes.{passEnd, passStart, passed, restoredIn, setIf};
+ghost use Rattle.mending.specs.Laws.Copies.{sweepIn};
+ghost use Rattle.mending.specs.Laws.Sweeps.{sweepEnd, sweepStart, swept, restoredIn, setIf};
 ghost use Rattle.mending.specs.Lines.{capital, linesWith};
 
 // A digit as a capital.
@@ -59,7 +59,7 @@ fn restore(before: Follow, after: Follow, places: Keys, mended: &mut [u8])
 
 // What is restored at the end.
 fn finish(follows: [Follow; 64], keys: [Keys; 64], mended: &mut [u8])
-    ensures { λ _. ⌜ now (mended .exit) ≡ passEnd 64 (passIn follows keys (now (mended .entry))) ⌝ }
+    ensures { λ _. ⌜ now (mended .exit) ≡ sweepEnd 64 (sweepIn follows keys (now (mended .entry))) ⌝ }
 {
     let mut i = 0;
     while i < 64 {
@@ -75,8 +75,8 @@ fn finish(follows: [Follow; 64], keys: [Keys; 64], mended: &mut [u8])
 // The lines behind the first, which lies up to `start` and is written already.
 fn copy_lines(text: &[u8], start: usize, ports: u32, size: u32, mended: &mut [u8])
     requires { ⌜ (start ≤ length (now text)) × (ports ≤ 64) × (start ≤ length (now mended))
-        × (length (now mended) ≡ length (passed ports size (passStart (take start (now mended))) (linesWith (drop start (now text))) .written)) ⌝ }
-    ensures { λ _. ⌜ now (mended .exit) ≡ passEnd 64 (passed ports size (passStart (take start (now (mended .entry)))) (linesWith (drop start (now (text .entry))))) ⌝ }
+        × (length (now mended) ≡ length (swept ports size (sweepStart (take start (now mended))) (linesWith (drop start (now text))) .written)) ⌝ }
+    ensures { λ _. ⌜ now (mended .exit) ≡ sweepEnd 64 (swept ports size (sweepStart (take start (now (mended .entry)))) (linesWith (drop start (now (text .entry))))) ⌝ }
 {
     let begun = follow::none_yet();
     let none = follow::no_keys();
@@ -108,8 +108,8 @@ fn copy_lines(text: &[u8], start: usize, ports: u32, size: u32, mended: &mut [u8
 // The first line, which lies up to `start`, as it is, and the others.
 pub(crate) fn copy_all(text: &[u8], start: usize, ports: u32, size: u32, mended: &mut [u8])
     requires { ⌜ (start ≤ length (now text)) × (ports ≤ 64)
-        × (length (now mended) ≡ length (passed ports size (passStart (take start (now text))) (linesWith (drop start (now text))) .written)) ⌝ }
-    ensures { λ _. ⌜ now (mended .exit) ≡ passEnd 64 (passed ports size (passStart (take start (now (text .entry)))) (linesWith (drop start (now (text .entry))))) ⌝ }
+        × (length (now mended) ≡ length (swept ports size (sweepStart (take start (now text))) (linesWith (drop start (now text))) .written)) ⌝ }
+    ensures { λ _. ⌜ now (mended .exit) ≡ sweepEnd 64 (swept ports size (sweepStart (take start (now (text .entry)))) (linesWith (drop start (now (text .entry))))) ⌝ }
 {
     payload::lay(&text[..start], 0, mended);
     copy_lines(text, start, ports, size, mended);

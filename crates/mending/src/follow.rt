@@ -2,7 +2,7 @@
 ghost use mathlib.Core.Path.{_≡_};
 ghost use Prim.Native.Nat.{_≤_, _<_};
 ghost use Rattle.mending.specs.Follow.{afresh, beginning, countBack, fed, fedBy, going, lessPlace, restoresFirst, restoresLast, restoresSecond, restoresThird};
-ghost use Rattle.mending.specs.Laws.Passes.{noKeys, withKey};
+ghost use Rattle.mending.specs.Laws.Sweeps.{noKeys, withKey};
 
 // begun: the port has had a line. v: the count less the place, modulo 16, of the last good line. place: that of the port's next line, modulo 16.
 // pending: broken lines in a row, which are the port's last ones. first, second, third: count less place of its last three lines, third the latest.

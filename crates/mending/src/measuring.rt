@@ -8,7 +8,7 @@ ghost use mathlib.Core.Path.{_≡_};
 ghost use Prim.Native.Nat.{_+_, _≤_};
 ghost use lib.ListN.{drop, length};
 ghost use Rattle.mending.specs.Laws.Counting.{countIn, notedBy};
-ghost use Rattle.mending.specs.Laws.Passes.{countStart, droppedLength, keptLength, lengthEnd, notesLength, restoredLength, restoredLengths};
+ghost use Rattle.mending.specs.Laws.Sweeps.{countStart, droppedLength, keptLength, lengthEnd, notesLength, restoredLength, restoredLengths};
 ghost use Rattle.mending.specs.Lines.{linesWith};
 ghost use Rattle.mending.specs.Told.{told};
 ghost use Rattle.text.specs.Output.{ended, numberText};

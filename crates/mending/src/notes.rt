@@ -7,7 +7,7 @@ ghost use Prim.Native.Nat.{_+_, _-_, _≤_, _<_};
 ghost use lib.ListN.{drop, getD, length};
 ghost use lib.Seq.{slice};
 ghost use Rattle.mending.specs.Laws.Noting.{noteRead, toRead};
-ghost use Rattle.mending.specs.Laws.Passes.{notesBeside};
+ghost use Rattle.mending.specs.Laws.Sweeps.{notesSwept};
 ghost use Rattle.mending.specs.Laws.Reads.{Bounds};
 ghost use Rattle.mending.specs.Lines.{linesWith};
 ghost use Rattle.mending.specs.Mending.{noteText};
@@ -97,8 +97,8 @@ pub(crate) fn put_notes(
     mended: &[u8],
     notes: &mut [u8],
 )
-    requires { ⌜ (start ≤ length (now text)) × (ports ≤ 64) × (length (now notes) ≡ length (notesBeside ports size (now mended) 2 start (linesWith (drop start (now text))))) ⌝ }
-    ensures { λ _. ⌜ now (notes .exit) ≡ notesBeside ports size (now (mended .entry)) 2 start (linesWith (drop start (now (text .entry)))) ⌝ }
+    requires { ⌜ (start ≤ length (now text)) × (ports ≤ 64) × (length (now notes) ≡ length (notesSwept ports size (now mended) 2 start (linesWith (drop start (now text))))) ⌝ }
+    ensures { λ _. ⌜ now (notes .exit) ≡ notesSwept ports size (now (mended .entry)) 2 start (linesWith (drop start (now (text .entry)))) ⌝ }
 {
     let mut at = start;
     let mut to = start;

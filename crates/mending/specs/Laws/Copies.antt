@@ -1,4 +1,4 @@
--- The first pass over lent slices: arrays for what the ports have, and a buffer whose front is what is written.
+-- The first sweep over lent slices: arrays for what the ports have, and a buffer whose front is what is written.
 use mathlib.Core.Path.{_≡_, refl, sym, ap, _∙_}
 use mathlib.Core.Bool.{Bool, true, false, cond, false≢true}
 use mathlib.Core.List.{List, [], _∷_, _++_}
@@ -15,15 +15,16 @@ use Rattle.mending.specs.declared.follow.Follow.{Follow}
 use Rattle.mending.specs.declared.follow.Keys.{Keys}
 use Rattle.mending.specs.declared.line.Read.{Read}
 use Rattle.mending.specs.Follow.{beginning, countBack, fed, restoresFirst, restoresSecond, restoresThird}
-use Rattle.mending.specs.Laws.Passes.{Pass, given, keptBy, keptLength, noKeys, passBy, passEnd, passFrame, passStart, passed, restoredIn, setIf, withKey}
+use Rattle.mending.specs.Laws.Sweeps.{Sweep, given, keptBy, keptLength, noKeys, sweepBy, sweepEnd, sweepFrame, sweepStart, swept, restoredIn, setIf, withKey}
+use Rattle.mending.specs.Laws.Restored.{length-setIf}
 use Rattle.mending.specs.Laws.Reads.{line-lies, lineAt, no-lines, readAt, readBy, slice-here}
 use Rattle.mending.specs.Lines.{Line, capital, digitPlace, lineText, linesWith, recordOf}
 use Rattle.payload.specs.Laying.{laid}
 use Rattle.recording.specs.declared.record.Record.{Record}
 use Rattle.recording.specs.declared.record.Record.the-variants.{Frame, Malformed, Long, Unfinished, End}
 
-abbrev pub passIn : List Follow → List Keys → List ℕ → Pass
-passIn follows keys written = record { follows = λ p. getD follows p beginning; keys = λ p. getD keys p noKeys; written = written }
+abbrev pub sweepIn : List Follow → List Keys → List ℕ → Sweep
+sweepIn follows keys written = record { follows = λ p. getD follows p beginning; keys = λ p. getD keys p noKeys; written = written }
 
 -- Lists.
 
@@ -45,10 +46,6 @@ take-set n l i v =
 take-setIf : (b : Bool) (n : ℕ) (l : List ℕ) (i v : ℕ) → take n (setIf b i v l) ≡ setIf b i v (take n l)
 take-setIf true n l i v = take-set n l i v
 take-setIf false n l i v = refl
-
-pub length-setIf : (b : Bool) (i v : ℕ) (l : List ℕ) → length (setIf b i v l) ≡ length l
-length-setIf true i v l = length-set l i v
-length-setIf false i v l = refl
 
 restored-take : (f g : Follow) (k : Keys) (n : ℕ) (l : List ℕ) → take n (restoredIn f g k l) ≡ restoredIn f g k (take n l)
 unfolding restoredIn
@@ -115,52 +112,52 @@ part-is at next l h k =
 
 -- What is written only grows.
 
-frame-longer : (size : ℕ) (s : Pass) (l : Line) (p count : ℕ) → length (s .written) + length (lineText l) ≡ length (passFrame size s l p count .written)
+frame-longer : (size : ℕ) (s : Sweep) (l : Line) (p count : ℕ) → length (s .written) + length (lineText l) ≡ length (sweepFrame size s l p count .written)
 frame-longer size s l p count =
     let a = length-append (restoredIn (s .follows p) (fed (s .follows p) count) (s .keys p) (s .written)) (lineText l) in
     let b = restored-length (s .follows p) (fed (s .follows p) count) (s .keys p) (s .written) in
     omega arith
 
-by-longer : (size : ℕ) (s : Pass) (l : Line) (r : Record) → length (s .written) ≤ length (passBy size s l r .written)
+by-longer : (size : ℕ) (s : Sweep) (l : Line) (r : Record) → length (s .written) ≤ length (sweepBy size s l r .written)
 by-longer size s l (Frame p h4 flag place next) = let a = frame-longer size s l p (h4 % 16) in omega arith
 by-longer size s l (Malformed next) = omega arith
 by-longer size s l Long = omega arith
 by-longer size s l Unfinished = omega arith
 by-longer size s l End = omega arith
 
-pub passed-longer : (ports size : ℕ) (s : Pass) (ls : List Line) → length (s .written) ≤ length (passed ports size s ls .written)
-passed-longer ports size s [] = omega arith
-passed-longer ports size s (l ∷ ls) =
+pub swept-longer : (ports size : ℕ) (s : Sweep) (ls : List Line) → length (s .written) ≤ length (swept ports size s ls .written)
+swept-longer ports size s [] = omega arith
+swept-longer ports size s (l ∷ ls) =
     let a = by-longer size s l (recordOf ports size l) in
-    let b = passed-longer ports size (passBy size s l (recordOf ports size l)) ls in
+    let b = swept-longer ports size (sweepBy size s l (recordOf ports size l)) ls in
     omega arith
 
 -- by the lines that are kept
 
-by-length : (size : ℕ) (s : Pass) (l : Line) (r : Record) → length (passBy size s l r .written) ≡ length (s .written) + keptBy l r
+by-length : (size : ℕ) (s : Sweep) (l : Line) (r : Record) → length (sweepBy size s l r .written) ≡ length (s .written) + keptBy l r
 by-length size s l (Frame p h4 flag place next) = sym (frame-longer size s l p (h4 % 16))
 by-length size s l (Malformed next) = omega arith
 by-length size s l Long = omega arith
 by-length size s l Unfinished = omega arith
 by-length size s l End = omega arith
 
-pub written-length : (ports size : ℕ) (s : Pass) (ls : List Line) → length (passed ports size s ls .written) ≡ length (s .written) + keptLength ports size ls
+pub written-length : (ports size : ℕ) (s : Sweep) (ls : List Line) → length (swept ports size s ls .written) ≡ length (s .written) + keptLength ports size ls
 written-length ports size s [] = omega arith
 written-length ports size s (l ∷ ls) =
     let a = by-length size s l (recordOf ports size l) in
-    let b = written-length ports size (passBy size s l (recordOf ports size l)) ls in
+    let b = written-length ports size (sweepBy size s l (recordOf ports size l)) ls in
     omega arith
 
 -- One line.
 
-by-kept : (size at : ℕ) (s : Pass) (l : Line) (r : Record) → readBy size at l r .kept ≡ true → passBy size s l r ≡ passFrame size s l (readBy size at l r .port) (readBy size at l r .count)
+by-kept : (size at : ℕ) (s : Sweep) (l : Line) (r : Record) → readBy size at l r .kept ≡ true → sweepBy size s l r ≡ sweepFrame size s l (readBy size at l r .port) (readBy size at l r .count)
 by-kept size at s l (Frame p h4 flag place next) k = refl
 by-kept size at s l (Malformed next) k = absurd (false≢true k)
 by-kept size at s l Long k = absurd (false≢true k)
 by-kept size at s l Unfinished k = absurd (false≢true k)
 by-kept size at s l End k = absurd (false≢true k)
 
-by-dropped : (size at : ℕ) (s : Pass) (l : Line) (r : Record) → readBy size at l r .kept ≡ false → passBy size s l r ≡ s
+by-dropped : (size at : ℕ) (s : Sweep) (l : Line) (r : Record) → readBy size at l r .kept ≡ false → sweepBy size s l r ≡ s
 by-dropped size at s l (Frame p h4 flag place next) k = absurd (false≢true (sym k))
 by-dropped size at s l (Malformed next) k = refl
 by-dropped size at s l Long k = refl
@@ -207,21 +204,21 @@ pub record Copying (ports size start : ℕ) (text out₀ : List ℕ) (follows : 
   pub follows-long : length follows ≡ 64
   pub keys-long : length keys ≡ 64
   pub long : length out ≡ length out₀
-  pub goes : passed ports size (passIn follows keys (take to out)) (linesWith (drop at text)) ≡ passed ports size (passStart (take start out₀)) (linesWith (drop start text))
+  pub goes : swept ports size (sweepIn follows keys (take to out)) (linesWith (drop at text)) ≡ swept ports size (sweepStart (take start out₀)) (linesWith (drop start text))
 
-module _ (ports size start : ℕ) (text out₀ : List ℕ) (room : length out₀ ≡ length (passed ports size (passStart (take start out₀)) (linesWith (drop start text)) .written))
+module _ (ports size start : ℕ) (text out₀ : List ℕ) (room : length out₀ ≡ length (swept ports size (sweepStart (take start out₀)) (linesWith (drop start text)) .written))
     (follows : List Follow) (keys : List Keys) (at to : ℕ) (out : List ℕ) (c : Copying ports size start text out₀ follows keys at to out) (more : at < length text) where
   abbrev r : Read
   r = readAt ports size at text
 
-  abbrev state : Pass
-  state = passIn follows keys (take to out)
+  abbrev state : Sweep
+  state = sweepIn follows keys (take to out)
 
   abbrev l : Line
   l = lineAt at text
 
-  stepped : passed ports size (passBy size state l (recordOf ports size l)) (linesWith (drop (r .next) text)) ≡ passed ports size (passStart (take start out₀)) (linesWith (drop start text))
-  stepped = sym (ap (passed ports size state) (lines-read ports size at text more)) ∙ c .goes
+  stepped : swept ports size (sweepBy size state l (recordOf ports size l)) (linesWith (drop (r .next) text)) ≡ swept ports size (sweepStart (take start out₀)) (linesWith (drop start text))
+  stepped = sym (ap (swept ports size state) (lines-read ports size at text more)) ∙ c .goes
 
   pub copying-dropped : r .kept ≡ false → Copying ports size start text out₀ follows keys (r .next) to out
   unfolding readAt
@@ -236,7 +233,7 @@ module _ (ports size start : ℕ) (text out₀ : List ℕ) (room : length out₀
         follows-long = c .follows-long;
         keys-long = c .keys-long;
         long = c .long;
-        goes = ap (λ (s : Pass). passed ports size s (linesWith (drop (r .next) text))) (sym (by-dropped size at state l (recordOf ports size l) k)) ∙ stepped;
+        goes = ap (λ (s : Sweep). swept ports size s (linesWith (drop (r .next) text))) (sym (by-dropped size at state l (recordOf ports size l) k)) ∙ stepped;
       }
 
   module _ (k : r .kept ≡ true) (few : r .port < 64) where
@@ -266,15 +263,15 @@ module _ (ports size start : ℕ) (text out₀ : List ℕ) (room : length out₀
     unfolding readAt
     fits =
         let a = frame-longer size state l p (r .count) in
-        let b = passed-longer ports size (passFrame size state l p (r .count)) (linesWith (drop (r .next) text)) in
-        let e : length (passed ports size (passFrame size state l p (r .count)) (linesWith (drop (r .next) text)) .written) ≡ length out₀ =
-        ap (λ (s : Pass). length (passed ports size s (linesWith (drop (r .next) text)) .written)) (sym (by-kept size at state l (recordOf ports size l) k)) ∙ (ap (λ (s : Pass). length (s .written)) stepped ∙ sym room) in
+        let b = swept-longer ports size (sweepFrame size state l p (r .count)) (linesWith (drop (r .next) text)) in
+        let e : length (swept ports size (sweepFrame size state l p (r .count)) (linesWith (drop (r .next) text)) .written) ≡ length out₀ =
+        ap (λ (s : Sweep). length (swept ports size s (linesWith (drop (r .next) text)) .written)) (sym (by-kept size at state l (recordOf ports size l) k)) ∙ (ap (λ (s : Sweep). length (s .written)) stepped ∙ sym room) in
         let w = length-take-le to out (c .inside) in
         let z = ap length piece-is in
         let q = c .long in
         omega arith
 
-    frame-is : (key : ℕ) → key ≡ to + digitPlace size l → passIn (set follows p g) (set keys p (withKey places key)) (take (to + length piece) new) ≡ passFrame size state l p (r .count)
+    frame-is : (key : ℕ) → key ≡ to + digitPlace size l → sweepIn (set follows p g) (set keys p (withKey places key)) (take (to + length piece) new) ≡ sweepFrame size state l p (r .count)
     frame-is key e =
         let w : length (take to out) ≡ to = length-take-le to out (c .inside) in
         let wr : take (to + length piece) new ≡ restoredIn f g places (take to out) ++ lineText l =
@@ -308,7 +305,7 @@ module _ (ports size start : ℕ) (text out₀ : List ℕ) (room : length out₀
           long = nl ∙ c .long;
           goes =
               rw x
-              (ap (λ (s : Pass). passed ports size s (linesWith (drop (r .next) text))) (frame-is key w ∙ sym (by-kept size at state l (recordOf ports size l) k)) ∙ stepped);
+              (ap (λ (s : Sweep). swept ports size s (linesWith (drop (r .next) text))) (frame-is key w ∙ sym (by-kept size at state l (recordOf ports size l) k)) ∙ stepped);
         }
 
 pub copying-starts : (ports size start : ℕ) (text out : List ℕ) → start ≤ length text → start ≤ length out → (follows : List Follow) (keys : List Keys)
@@ -323,18 +320,18 @@ copying-starts ports size start text out h k follows keys e d =
       follows-long = ap length e ∙ length-replicate 64 beginning;
       keys-long = ap length d ∙ length-replicate 64 noKeys;
       long = refl;
-      goes = ap (λ (s : Pass). passed ports size s (linesWith (drop start text))) (λ i. record { follows = fl i; keys = kl i; written = take start out });
+      goes = ap (λ (s : Sweep). swept ports size s (linesWith (drop start text))) (λ i. record { follows = fl i; keys = kl i; written = take start out });
     }
 
-pub copying-ends : (ports size start : ℕ) (text out₀ : List ℕ) → length out₀ ≡ length (passed ports size (passStart (take start out₀)) (linesWith (drop start text)) .written)
+pub copying-ends : (ports size start : ℕ) (text out₀ : List ℕ) → length out₀ ≡ length (swept ports size (sweepStart (take start out₀)) (linesWith (drop start text)) .written)
     → (follows : List Follow) (keys : List Keys) (at to : ℕ) (out : List ℕ) → Copying ports size start text out₀ follows keys at to out → length text ≤ at
-    → passIn follows keys out ≡ passed ports size (passStart (take start out₀)) (linesWith (drop start text))
+    → sweepIn follows keys out ≡ swept ports size (sweepStart (take start out₀)) (linesWith (drop start text))
 copying-ends ports size start text out₀ room follows keys at to out c h =
-    let e : passIn follows keys (take to out) ≡ passed ports size (passStart (take start out₀)) (linesWith (drop start text)) =
-    sym (ap (passed ports size (passIn follows keys (take to out))) (ap linesWith (drop-of-length-le text {i = at} h) ∙ no-lines)) ∙ c .goes in
-    let w : length (take to out) ≡ length out = ap (λ (s : Pass). length (s .written)) e ∙ (sym room ∙ sym (c .long)) in
+    let e : sweepIn follows keys (take to out) ≡ swept ports size (sweepStart (take start out₀)) (linesWith (drop start text)) =
+    sym (ap (swept ports size (sweepIn follows keys (take to out))) (ap linesWith (drop-of-length-le text {i = at} h) ∙ no-lines)) ∙ c .goes in
+    let w : length (take to out) ≡ length out = ap (λ (s : Sweep). length (s .written)) e ∙ (sym room ∙ sym (c .long)) in
     let l = length-take to out in
-    ap (passIn follows keys) (sym (take-all to out (omega arith))) ∙ e
+    ap (sweepIn follows keys) (sym (take-all to out (omega arith))) ∙ e
 
 -- The first line is written before the others.
 
@@ -344,23 +341,23 @@ first-laid start text out h k =
     let z : start ≡ 0 + length (take start text) = omega arith in
     ap (λ (m : ℕ). take m (laid 0 (take start text) out)) z ∙ laid-take 0 (take start text) out (omega arith)
 
-pub first-fits : (ports size start : ℕ) (text : List ℕ) (ls : List Line) → start ≤ length text → start ≤ length (passed ports size (passStart (take start text)) ls .written)
-first-fits ports size start text ls h = let n = length-take-le start text h in let m = passed-longer ports size (passStart (take start text)) ls in omega arith
+pub first-fits : (ports size start : ℕ) (text : List ℕ) (ls : List Line) → start ≤ length text → start ≤ length (swept ports size (sweepStart (take start text)) ls .written)
+first-fits ports size start text ls h = let n = length-take-le start text h in let m = swept-longer ports size (sweepStart (take start text)) ls in omega arith
 
--- what the pass asks, and what it leaves
+-- what the sweep asks, and what it leaves
 
 module _ (ports size start : ℕ) (text out new : List ℕ) (h : start ≤ length text) (e : new ≡ laid 0 (take start text) out)
-    (room : length out ≡ length (passed ports size (passStart (take start text)) (linesWith (drop start text)) .written)) where
+    (room : length out ≡ length (swept ports size (sweepStart (take start text)) (linesWith (drop start text)) .written)) where
   laid-front : take start new ≡ take start text
   laid-front = rw e (first-laid start text out h (let m = first-fits ports size start text (linesWith (drop start text)) h in omega arith))
 
   pub lines-asked : ports ≤ 64
-      → (start ≤ length text) × (ports ≤ 64) × (start ≤ length new) × (length new ≡ length (passed ports size (passStart (take start new)) (linesWith (drop start text)) .written))
+      → (start ≤ length text) × (ports ≤ 64) × (start ≤ length new) × (length new ≡ length (swept ports size (sweepStart (take start new)) (linesWith (drop start text)) .written))
   lines-asked few =
       let m = first-fits ports size start text (linesWith (drop start text)) h in
       let l : length new ≡ length out = ap length e ∙ laid-length 0 (take start text) out in
       (h, few, omega arith, rw laid-front (l ∙ room))
 
-  pub lines-left : (last : List ℕ) → last ≡ passEnd 64 (passed ports size (passStart (take start new)) (linesWith (drop start text)))
-      → last ≡ passEnd 64 (passed ports size (passStart (take start text)) (linesWith (drop start text)))
-  lines-left last a = a ∙ ap (λ (x : List ℕ). passEnd 64 (passed ports size (passStart x) (linesWith (drop start text)))) laid-front
+  pub lines-left : (last : List ℕ) → last ≡ sweepEnd 64 (swept ports size (sweepStart (take start new)) (linesWith (drop start text)))
+      → last ≡ sweepEnd 64 (swept ports size (sweepStart (take start text)) (linesWith (drop start text)))
+  lines-left last a = a ∙ ap (λ (x : List ℕ). sweepEnd 64 (swept ports size (sweepStart x) (linesWith (drop start text)))) laid-front

@@ -16,7 +16,7 @@ use Rattle.mending.specs.declared.measuring.Lengths.{Lengths}
 use Rattle.mending.specs.Follow.{beginning, fed, restoresFirst, restoresLast, restoresSecond, restoresThird}
 use Rattle.mending.specs.Laws.Copies.{lines-read, read-next, replicated, set-given}
 use Rattle.mending.specs.Laws.Lengths.{note-length}
-use Rattle.mending.specs.Laws.Passes.{Count, countBy, countFrame, countStart, droppedLength, given, keptBy, keptLength, lengthBy, lengthEnd, noKeys, notesLength, restoredLength, restoredLengths, withKey}
+use Rattle.mending.specs.Laws.Sweeps.{Count, countWith, countFrame, countStart, droppedLength, given, keptBy, keptLength, lengthBy, lengthEnd, noKeys, notesLength, restoredLength, restoredLengths, withKey}
 use Rattle.mending.specs.Laws.Reads.{line-lies, lineAt, no-lines, readAt, readBy}
 use Rattle.mending.specs.Lines.{Line, lineText, linesWith, recordOf}
 use Rattle.mending.specs.Told.{LARGEST, told}
@@ -106,7 +106,7 @@ length-kept size at s l Long k = absurd (false≢true k)
 length-kept size at s l Unfinished k = absurd (false≢true k)
 length-kept size at s l End k = absurd (false≢true k)
 
-count-kept : (size at : ℕ) (s : Count) (l : Line) (r : Record) → readBy size at l r .kept ≡ true → countBy s r ≡ countFrame s (readBy size at l r .port) (readBy size at l r .count)
+count-kept : (size at : ℕ) (s : Count) (l : Line) (r : Record) → readBy size at l r .kept ≡ true → countWith s r ≡ countFrame s (readBy size at l r .port) (readBy size at l r .count)
 count-kept size at s l (Frame p h4 flag place next) k = refl
 count-kept size at s l (Malformed next) k = absurd (false≢true k)
 count-kept size at s l Long k = absurd (false≢true k)
@@ -123,7 +123,7 @@ kept-kept size at l End k = absurd (false≢true k)
 -- a line that is dropped
 record Drops (size at : ℕ) (s : Count) (l : Line) (r : Record) : Type 0 where
   length-is : lengthBy s l r ≡ droppedLength (s .number) (readBy size at l r .end - at)
-  count-is : countBy s r ≡ record { follows = s .follows; keys = s .keys; number = suc (s .number) }
+  count-is : countWith s r ≡ record { follows = s .follows; keys = s .keys; number = suc (s .number) }
   kept-is : keptBy l r ≡ 0
 
 drops : (size at : ℕ) (s : Count) (l : Line) (r : Record) → readBy size at l r .kept ≡ false → Drops size at s l r
@@ -160,7 +160,7 @@ module _ (ports size start : ℕ) (text : List ℕ) (follows : List Follow) (key
   kept-step : mended + (keptBy l (recordOf ports size l) + keptLength ports size rest) ≡ start + keptLength ports size (linesWith (drop start text))
   kept-step = ap (λ (ls : List Line). mended + keptLength ports size ls) (sym (lines-read ports size at text more)) ∙ c .mended-is
 
-  notes-step : told (notes + (lengthBy state l (recordOf ports size l) + notesLength ports size (countBy state (recordOf ports size l)) rest)) ≡ told (notesLength ports size countStart (linesWith (drop start text)))
+  notes-step : told (notes + (lengthBy state l (recordOf ports size l) + notesLength ports size (countWith state (recordOf ports size l)) rest)) ≡ told (notesLength ports size countStart (linesWith (drop start text)))
   notes-step = ap (λ (ls : List Line). told (notes + notesLength ports size state ls)) (sym (lines-read ports size at text more)) ∙ c .notes-is
 
   -- a sum, and what comes behind it

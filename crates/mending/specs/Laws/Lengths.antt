@@ -12,8 +12,8 @@ use Rattle.ground.specs.Truth.{and-left, cond-by}
 use Rattle.mending.specs.declared.follow.Follow.{Follow}
 use Rattle.mending.specs.Following.{followed}
 use Rattle.mending.specs.Follow.{afresh, countBack, fed, going, lessPlace, restores, restoresFirst, restoresLast, restoresSecond, restoresThird}
-use Rattle.mending.specs.Laws.Passed.{Good, enough, fed-small, framesBy, framesIn, good-by, in-order, inOrder, judged-is, left, leftIn, left-behind, newsBy, newsFrom, onto, seenBy, seenFrom}
-use Rattle.mending.specs.Laws.Passes.{Count, countBy, countStart, droppedLength, keptBy, keptLength, lengthBy, lengthEnd, notesLength, restoredLength, restoredLengths, setIf}
+use Rattle.mending.specs.Laws.Swept.{Good, enough, fed-small, framesBy, framesIn, good-by, in-order, inOrder, judged-is, left, leftIn, left-behind, newsBy, newsFrom, onto, seenBy, seenFrom}
+use Rattle.mending.specs.Laws.Sweeps.{Count, countWith, countStart, droppedLength, keptBy, keptLength, lengthBy, lengthEnd, notesLength, restoredLength, restoredLengths, setIf}
 use Rattle.mending.specs.Laws.Restored.{altered-here, altered-old, altered-suc, altered-zero, endedNews, ended-length, length-setIf, restoredNews}
 use Rattle.mending.specs.Laws.Seen.{Altered, Seen, afresh-most, altered-first, altered-last, altered-second, altered-third, back, followIn, indexBack, keyed, keysIn, known, numberKey, oldKey, restores-said}
 use Rattle.mending.specs.Lines.{Fate, Judged, Line, capital, countsOf, digitIn, digitPlace, fateBy, fateTo, judged, judgedBy, leftBy, lineText, mendedLines, outBy, recordOf, textOf, withDigit}
@@ -261,7 +261,7 @@ untouched-by size n es ns l Long g u = u
 untouched-by size n es ns l Unfinished g u = u
 untouched-by size n es ns l End g u = u
 
-count-by : (n : ℕ) (es : List Seen) (l : Line) (r : Record) → countBy (countSeen n es) r ≡ countSeen (suc n) (seenBy n es l r)
+count-by : (n : ℕ) (es : List Seen) (l : Line) (r : Record) → countWith (countSeen n es) r ≡ countSeen (suc n) (seenBy n es l r)
 count-by n es l (Frame p h4 flag place next) = refl
 count-by n es l (Malformed next) = refl
 count-by n es l Long = refl

@@ -1,4 +1,4 @@
--- The second pass over lent slices: a note by what is read at a place, and a buffer whose front is what is written.
+-- The second sweep over lent slices: a note by what is read at a place, and a buffer whose front is what is written.
 use mathlib.Core.Path.{_≡_, refl, sym, ap, _∙_}
 use mathlib.Core.Bool.{Bool, true, false, cond, false≢true}
 use mathlib.Core.List.{List, [], _∷_, _++_, append-assoc, append-nil}
@@ -12,7 +12,7 @@ use Rattle.ground.specs.Truth.{cond-by}
 use Rattle.mending.specs.declared.line.Read.{Read}
 use Rattle.mending.specs.Laws.Copies.{lines-read, read-next}
 use Rattle.mending.specs.Laws.Layout.{frame-layout}
-use Rattle.mending.specs.Laws.Passes.{noteBeside, notesBeside, toBeside}
+use Rattle.mending.specs.Laws.Sweeps.{noteSwept, notesSwept, toSwept}
 use Rattle.mending.specs.Laws.Reads.{LiesAt, line-lies, lineAt, no-lines, readAt, readBy, slice-here}
 use Rattle.mending.specs.Lines.{Line, digitIn, digitPlace, lineText, linesWith, recordOf}
 use Rattle.mending.specs.Mending.{h4With, noteText}
@@ -51,7 +51,7 @@ module _ (ports size : ℕ) (mended : List ℕ) (at : ℕ) (text : List ℕ) (mo
   l = lineAt at text
 
   note-frame : (p h4 flag place next : ℕ) → recordOf ports size l ≡ Frame p h4 flag place next
-      → noteRead n text at mended to (readBy size at l (Frame p h4 flag place next)) ≡ noteBeside ports size mended n to l (Frame p h4 flag place next)
+      → noteRead n text at mended to (readBy size at l (Frame p h4 flag place next)) ≡ noteSwept ports size mended n to l (Frame p h4 flag place next)
   unfolding noteRead recordOf digitPlace
   note-frame p h4 flag place next e =
       let f = frame-layout ports size 0 0 p h4 flag place next (l .bytes) e in
@@ -68,14 +68,14 @@ module _ (ports size : ℕ) (mended : List ℕ) (at : ℕ) (text : List ℕ) (mo
   unfolding noteRead
   note-dropped = rw (bytes-here at text l (omega arith) (line-lies at text more)) refl
 
-  note-by : (r : Record) → recordOf ports size l ≡ r → noteRead n text at mended to (readBy size at l r) ≡ noteBeside ports size mended n to l r
+  note-by : (r : Record) → recordOf ports size l ≡ r → noteRead n text at mended to (readBy size at l r) ≡ noteSwept ports size mended n to l r
   note-by (Frame p h4 flag place next) e = note-frame p h4 flag place next e
   note-by (Malformed next) e = note-dropped
   note-by Long e = note-dropped
   note-by Unfinished e = note-dropped
   note-by End e = note-dropped
 
-  to-by : (r : Record) → toRead at to (readBy size at l r) ≡ toBeside ports size mended to l r
+  to-by : (r : Record) → toRead at to (readBy size at l r) ≡ toSwept ports size mended to l r
   to-by (Frame p h4 flag place next) = omega arith
   to-by (Malformed next) = refl
   to-by Long = refl
@@ -94,8 +94,8 @@ pub record Noting (ports size start : ℕ) (text mended : List ℕ) (at to numbe
   pub behind : to ≤ at
   pub few : number ≤ at + 2
   pub inside : written ≤ length notes
-  pub long : length notes ≡ length (notesBeside ports size mended 2 start (linesWith (drop start text)))
-  pub goes : take written notes ++ notesBeside ports size mended number to (linesWith (drop at text)) ≡ notesBeside ports size mended 2 start (linesWith (drop start text))
+  pub long : length notes ≡ length (notesSwept ports size mended 2 start (linesWith (drop start text)))
+  pub goes : take written notes ++ notesSwept ports size mended number to (linesWith (drop at text)) ≡ notesSwept ports size mended 2 start (linesWith (drop start text))
 
 module _ (ports size start : ℕ) (text mended : List ℕ) (at to number written : ℕ) (notes : List ℕ) (c : Noting ports size start text mended at to number written notes) (more : at < length text) where
   abbrev r : Read
@@ -104,22 +104,22 @@ module _ (ports size start : ℕ) (text mended : List ℕ) (at to number written
   abbrev note : List ℕ
   note = noteRead number text at mended to r
 
-  note-is : note ≡ noteBeside ports size mended number to (lineAt at text) (recordOf ports size (lineAt at text))
+  note-is : note ≡ noteSwept ports size mended number to (lineAt at text) (recordOf ports size (lineAt at text))
   unfolding readAt
   note-is = note-by ports size mended at text more number to (recordOf ports size (lineAt at text)) refl
 
-  stepped : take written notes ++ (note ++ notesBeside ports size mended (suc number) (toRead at to r) (linesWith (drop (r .next) text))) ≡ notesBeside ports size mended 2 start (linesWith (drop start text))
+  stepped : take written notes ++ (note ++ notesSwept ports size mended (suc number) (toRead at to r) (linesWith (drop (r .next) text))) ≡ notesSwept ports size mended 2 start (linesWith (drop start text))
   unfolding readAt
   stepped =
       rw (note-is, to-by ports size mended at text more number to (recordOf ports size (lineAt at text)))
-      (ap (λ (ls : List Line). take written notes ++ notesBeside ports size mended number to ls) (sym (lines-read ports size at text more)) ∙ c .goes)
+      (ap (λ (ls : List Line). take written notes ++ notesSwept ports size mended number to ls) (sym (lines-read ports size at text more)) ∙ c .goes)
 
   -- there is room for the note
   pub note-fits : written + length note ≤ length notes
   note-fits =
       let a = ap length stepped in
-      let b = length-append (take written notes) (note ++ notesBeside ports size mended (suc number) (toRead at to r) (linesWith (drop (r .next) text))) in
-      let d = length-append note (notesBeside ports size mended (suc number) (toRead at to r) (linesWith (drop (r .next) text))) in
+      let b = length-append (take written notes) (note ++ notesSwept ports size mended (suc number) (toRead at to r) (linesWith (drop (r .next) text))) in
+      let d = length-append note (notesSwept ports size mended (suc number) (toRead at to r) (linesWith (drop (r .next) text))) in
       let e = length-take-le written notes (c .inside) in
       let f = c .long in
       omega arith
@@ -142,19 +142,19 @@ module _ (ports size start : ℕ) (text mended : List ℕ) (at to number written
         few = omega arith;
         inside = omega arith;
         long = k ∙ c .long;
-        goes = rw (put-take f p, e, z) (append-assoc (take written notes) note (notesBeside ports size mended (suc number) (toRead at to r) (linesWith (drop (r .next) text))) ∙ stepped);
+        goes = rw (put-take f p, e, z) (append-assoc (take written notes) note (notesSwept ports size mended (suc number) (toRead at to r) (linesWith (drop (r .next) text))) ∙ stepped);
       }
 
-pub noting-starts : (ports size start : ℕ) (text mended notes : List ℕ) → start ≤ length text → length notes ≡ length (notesBeside ports size mended 2 start (linesWith (drop start text)))
+pub noting-starts : (ports size start : ℕ) (text mended notes : List ℕ) → start ≤ length text → length notes ≡ length (notesSwept ports size mended 2 start (linesWith (drop start text)))
     → Noting ports size start text mended start start 2 0 notes
 noting-starts ports size start text mended notes h k = record { within = h; behind = omega arith; few = omega arith; inside = omega arith; long = k; goes = refl }
 
 pub noting-ends : (ports size start : ℕ) (text mended : List ℕ) (at to number written : ℕ) (notes : List ℕ) → Noting ports size start text mended at to number written notes → length text ≤ at
-    → notes ≡ notesBeside ports size mended 2 start (linesWith (drop start text))
+    → notes ≡ notesSwept ports size mended 2 start (linesWith (drop start text))
 noting-ends ports size start text mended at to number written notes c h =
     let e : linesWith (drop at text) ≡ [] = ap linesWith (drop-of-length-le text {i = at} h) ∙ no-lines in
-    let g : take written notes ≡ notesBeside ports size mended 2 start (linesWith (drop start text)) =
-    sym (append-nil (take written notes)) ∙ (ap (λ (ls : List Line). take written notes ++ notesBeside ports size mended number to ls) (sym e) ∙ c .goes) in
+    let g : take written notes ≡ notesSwept ports size mended 2 start (linesWith (drop start text)) =
+    sym (append-nil (take written notes)) ∙ (ap (λ (ls : List Line). take written notes ++ notesSwept ports size mended number to ls) (sym e) ∙ c .goes) in
     let w = ap length g in
     let k = c .long in
     let l = length-take-le written notes (c .inside) in

@@ -14,7 +14,7 @@ use Rattle.ground.specs.Truth.{le-or-lt}
 use Rattle.mending.specs.declared.follow.Follow.{Follow}
 use Rattle.mending.specs.declared.follow.Keys.{Keys}
 use Rattle.mending.specs.Follow.{countBack, finished, restoredBack, restoresFirst, restoresLast, restoresSecond, restoresThird, setBack}
-use Rattle.mending.specs.Laws.Passes.{restoredIn, setIf}
+use Rattle.mending.specs.Laws.Sweeps.{restoredIn, setIf}
 use Rattle.mending.specs.Laws.Seen.{Altered, Keyed, Known, Seen, altered-first, altered-last, altered-second, altered-third, back, followIn, indexBack, keyed, keysIn, known, manyIn, oldKey}
 use Rattle.mending.specs.Lines.{Line, capital, digitPlace, lineText, withDigit}
 

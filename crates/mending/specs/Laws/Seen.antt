@@ -1,4 +1,4 @@
--- The frames' lines that a pass has come by, the latest first, and their counts as they are now. What the pass knows of a port (its Follow, the keys of its last
+-- The frames' lines that a sweep has come by, the latest first, and their counts as they are now. What the sweep knows of a port (its Follow, the keys of its last
 -- three lines) is read off the lines, and a count restored is one count set.
 use mathlib.Core.Path.{_≡_, refl, sym, ap, _∙_}
 use mathlib.Core.Bool.{Bool, true, false, cond, not, _&&_, false≢true}
@@ -15,7 +15,7 @@ use Rattle.ground.specs.Truth.{and-left, and-right, cond-by, le-or-lt}
 use Rattle.mending.specs.declared.follow.Follow.{Follow}
 use Rattle.mending.specs.declared.follow.Keys.{Keys}
 use Rattle.mending.specs.Follow.{afresh, beginning, countBack, fed, fedBy, finished, going, lessPlace, restoredBack, restores, restoresFirst, restoresLast, restoresSecond, restoresThird, setBack}
-use Rattle.mending.specs.Laws.Passes.{noKeys, restoredIn, setIf, withKey}
+use Rattle.mending.specs.Laws.Sweeps.{noKeys, restoredIn, setIf, withKey}
 use Rattle.mending.specs.Lines.{Line, capital, digitPlace, lineText, withDigit}
 
 pub record Seen : Type 0 where

@@ -11,11 +11,11 @@ use borrow.Author.Tests.{eq-eqb, eqb-true, leb-false, ne-eqb}
 use Rattle.ground.specs.Truth.{and-left, and-right}
 use Rattle.mending.specs.declared.measuring.Lengths.{Lengths}
 use Rattle.mending.specs.declared.opening.Start.{Start}
-use Rattle.mending.specs.Laws.Beside.{beside-is}
+use Rattle.mending.specs.Laws.Noted.{noted-is}
 use Rattle.mending.specs.Laws.Copies.{written-length}
 use Rattle.mending.specs.Laws.Lengths.{kept-length-is, notes-length-is}
-use Rattle.mending.specs.Laws.Passed.{pass-is}
-use Rattle.mending.specs.Laws.Passes.{countStart, keptLength, notesBeside, notesLength, passEnd, passStart, passed}
+use Rattle.mending.specs.Laws.Swept.{sweep-is}
+use Rattle.mending.specs.Laws.Sweeps.{countStart, keptLength, notesSwept, notesLength, sweepEnd, sweepStart, swept}
 use Rattle.mending.specs.Laws.Starts.{Opens, opens, start-answer, startOf}
 use Rattle.mending.specs.Lines.{Line, judged, linesWith, mendedLines, textOf}
 use Rattle.mending.specs.Mending.{mendAnswer, mendedOf, notesFrom, notesOf, readAnswer}
@@ -105,29 +105,29 @@ module _ (text : List ℕ) (s : Start) (e : s ≡ startOf text) (z : s .answer �
       notes-long : length notes ≡ length (notesOf text)
       notes-long = eqb-true (length notes) (length (notesOf text)) (and-right (eqb (length mended) (length (mendedOf text))) (eqb (length notes) (length (notesOf text))) lengths-are)
 
-      -- what the first pass asks
-      pub copy-asked : (s .next ≤ length text) × (s .ports ≤ 64) × (length mended ≡ length (passed (s .ports) (s .size) (passStart (take (s .next) text)) (linesBehind s text) .written))
+      -- what the first sweep asks
+      pub copy-asked : (s .next ≤ length text) × (s .ports ≤ 64) × (length mended ≡ length (swept (s .ports) (s .size) (sweepStart (take (s .next) text)) (linesBehind s text) .written))
       copy-asked = (
         taken .within,
         taken .few,
-        mended-long ∙ (mended-length ∙ sym (written-length (s .ports) (s .size) (passStart (take (s .next) text)) (linesBehind s text) ∙ ap (λ (n : ℕ). n + keptLength (s .ports) (s .size) (linesBehind s text)) front)),
+        mended-long ∙ (mended-length ∙ sym (written-length (s .ports) (s .size) (sweepStart (take (s .next) text)) (linesBehind s text) ∙ ap (λ (n : ℕ). n + keptLength (s .ports) (s .size) (linesBehind s text)) front)),
       )
 
-      module _ (new : List ℕ) (k : new ≡ passEnd 64 (passed (s .ports) (s .size) (passStart (take (s .next) text)) (linesBehind s text))) where
+      module _ (new : List ℕ) (k : new ≡ sweepEnd 64 (swept (s .ports) (s .size) (sweepStart (take (s .next) text)) (linesBehind s text))) where
         mended-is : new ≡ mendedOf text
-        mended-is = k ∙ (pass-is (s .ports) (s .size) (linesBehind s text) (taken .few) (take (s .next) text) ∙ sym (taken .mended-is))
+        mended-is = k ∙ (sweep-is (s .ports) (s .size) (linesBehind s text) (taken .few) (take (s .next) text) ∙ sym (taken .mended-is))
 
-        beside : notesBeside (s .ports) (s .size) new 2 (s .next) (linesBehind s text) ≡ notesOf text
+        beside : notesSwept (s .ports) (s .size) new 2 (s .next) (linesBehind s text) ≡ notesOf text
         beside =
-            ap (λ (x : List ℕ). notesBeside (s .ports) (s .size) x 2 (s .next) (linesBehind s text)) (mended-is ∙ taken .mended-is)
-            ∙ (ap (λ (n : ℕ). notesBeside (s .ports) (s .size) (take (s .next) text ++ textOf (mendedLines (s .size) (judged (s .ports) (s .size) (linesBehind s text)))) 2 n (linesBehind s text)) (sym front)
-            ∙ (beside-is (s .ports) (s .size) (take (s .next) text) (linesBehind s text) ∙ sym (taken .notes-is)))
+            ap (λ (x : List ℕ). notesSwept (s .ports) (s .size) x 2 (s .next) (linesBehind s text)) (mended-is ∙ taken .mended-is)
+            ∙ (ap (λ (n : ℕ). notesSwept (s .ports) (s .size) (take (s .next) text ++ textOf (mendedLines (s .size) (judged (s .ports) (s .size) (linesBehind s text)))) 2 n (linesBehind s text)) (sym front)
+            ∙ (noted-is (s .ports) (s .size) (take (s .next) text) (linesBehind s text) ∙ sym (taken .notes-is)))
 
-        -- what the second pass asks
-        pub notes-asked : (s .next ≤ length text) × (s .ports ≤ 64) × (length notes ≡ length (notesBeside (s .ports) (s .size) new 2 (s .next) (linesBehind s text)))
+        -- what the second sweep asks
+        pub notes-asked : (s .next ≤ length text) × (s .ports ≤ 64) × (length notes ≡ length (notesSwept (s .ports) (s .size) new 2 (s .next) (linesBehind s text)))
         notes-asked = (taken .within, taken .few, rw beside notes-long)
 
-        pub mend-done : (written : List ℕ) → written ≡ notesBeside (s .ports) (s .size) new 2 (s .next) (linesBehind s text)
+        pub mend-done : (written : List ℕ) → written ≡ notesSwept (s .ports) (s .size) new 2 (s .next) (linesBehind s text)
             → (0 ≡ mendAnswer text (length mended) (length notes)) × (new ≡ mendedLeft text mended notes) × (written ≡ notesLeft text mended notes)
         unfolding mendAnswer mendedLeft notesLeft
         mend-done written w =

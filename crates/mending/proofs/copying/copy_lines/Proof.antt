@@ -1,4 +1,4 @@
-use Rattle.mending.specs.Laws.Passes.{passEnd}
+use Rattle.mending.specs.Laws.Sweeps.{sweepEnd}
 use mathlib.Core.Path.{_∙_}
 use Rattle.mending.specs.Laws.Copies.{part-is}
 use Rattle.mending.proofs.Promised.{copy-dropped, copy-kept}
@@ -177,7 +177,7 @@ returns : tie.Need-returns Inv-loop μ-loop
 returns c =
     let s = c .before .before .before .before .before .before .before .before .before .before in
     let l = c .before .before .before .before .before .loop in
-    c .before .before .finish .ensures ∙ ap (passEnd 64) (copying-ends (s .args .ports) (s .args .size) (s .args .start) (s .args .text .now) (s .args .mended .now) (s .pre .3) (l .follows) (l .keys) (l .at) (l .to) (l .mended) (l .inv) (c .before .before .before .before .loop-test .left))
+    c .before .before .finish .ensures ∙ ap (sweepEnd 64) (copying-ends (s .args .ports) (s .args .size) (s .args .start) (s .args .text .now) (s .args .mended .now) (s .pre .3) (l .follows) (l .keys) (l .at) (l .to) (l .mended) (l .inv) (c .before .before .before .before .loop-test .left))
 
 pub copy-lines-spec : {M : Type 1} → statement M
 copy-lines-spec =

@@ -1,6 +1,6 @@
 use Rattle.mending.proofs.Promised.{ended-by}
-use Rattle.mending.specs.Laws.Passes.{passEnd}
-use Rattle.mending.specs.Laws.Copies.{passIn}
+use Rattle.mending.specs.Laws.Sweeps.{sweepEnd}
+use Rattle.mending.specs.Laws.Copies.{sweepIn}
 use lib.ListN.{length}
 use Prim.Native.Nat.{_-_, _≤_}
 use mathlib.Core.Path.{_≡_, refl, _∙_}
@@ -15,7 +15,7 @@ use Rattle.mending.proofs.follow.count_back.Reads as count-back-reads
 use Rattle.mending.proofs.follow.is_last.Reads as is-last-reads
 
 abbrev Inv-loop : tie.InvT-loop
-Inv-loop mended₀ follows keys i₀ mended i = (i ≤ 64) × (length follows ≡ 64) × (length keys ≡ 64) × (length mended ≡ length mended₀) × (mended ≡ passEnd i (passIn follows keys mended₀))
+Inv-loop mended₀ follows keys i₀ mended i = (i ≤ 64) × (length follows ≡ 64) × (length keys ≡ 64) × (length mended ≡ length mended₀) × (mended ≡ sweepEnd i (sweepIn follows keys mended₀))
 
 abbrev μ-loop : tie.MeasureT-loop
 μ-loop mended₀ follows keys i₀ mended i = 64 - i

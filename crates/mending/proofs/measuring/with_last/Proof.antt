@@ -1,5 +1,5 @@
 use Rattle.mending.specs.Told.{told}
-use Rattle.mending.specs.Laws.Passes.{lengthEnd}
+use Rattle.mending.specs.Laws.Sweeps.{lengthEnd}
 use Rattle.mending.specs.Laws.Counting.{countIn, end-turn, told-none}
 use lib.ListN.{length}
 use Prim.Native.Nat.{_+_, _-_, _≤_}

@@ -1,4 +1,4 @@
--- The first pass gives the mended recording: what it has written is the text of the lines that it has seen, with counts that each port's following gives.
+-- The first sweep gives the mended recording: what it has written is the text of the lines that it has seen, with counts that each port's following gives.
 use mathlib.Core.Path.{_≡_, refl, sym, ap, _∙_}
 use mathlib.Core.Bool.{Bool, true, false, cond, _&&_}
 use mathlib.Core.List.{List, [], _∷_, _++_, append-assoc, append-nil}
@@ -15,7 +15,7 @@ use Rattle.mending.specs.Following.{followed}
 use Rattle.mending.specs.Laws.Automaton.{following-is}
 use Rattle.mending.specs.Laws.Counts.{Counts}
 use Rattle.mending.specs.Laws.Layout.{frame-layout}
-use Rattle.mending.specs.Laws.Passes.{Pass, passBy, passEnd, passStart, passed}
+use Rattle.mending.specs.Laws.Sweeps.{Sweep, sweepBy, sweepEnd, sweepStart, swept}
 use Rattle.mending.specs.Laws.Restored.{Sound, countsIn, endedNews, ended-counts, ended-later, ended-length, lineNow, news-counts, news-length, news-other, news-text, placeKey, restoredNews, text-length, text-setIf, textIn}
 use Rattle.mending.specs.Laws.Seen.{Seen, altered-last, followIn, keyed, keysIn, known, manyIn}
 use Rattle.mending.specs.Lines.{Fate, Judged, Line, capital, countBy, countsOf, digitIn, digitPlace, fateBy, fateTo, judged, judgedBy, leftBy, lineText, mendedLines, outBy, recordOf, textOf, withDigit}
@@ -74,30 +74,30 @@ good-from ports size n es ns [] few g = g
 good-from ports size n es ns (l ∷ ls) few g =
     good-from ports size (suc n) (seenBy n es l (recordOf ports size l)) (newsBy es ns (recordOf ports size l)) ls few (good-by ports size n es ns l (recordOf ports size l) few refl g)
 
--- The pass, by what it has seen.
+-- The sweep, by what it has seen.
 
-abbrev passSeen : ℕ → List ℕ → List Seen → List ℕ → Pass
-passSeen size base es ns = record { follows = λ p. followIn p es; keys = λ p. keysIn (placeKey size base) p es; written = textIn size base es ns }
+abbrev sweepSeen : ℕ → List ℕ → List Seen → List ℕ → Sweep
+sweepSeen size base es ns = record { follows = λ p. followIn p es; keys = λ p. keysIn (placeKey size base) p es; written = textIn size base es ns }
 
-pass-by : (size : ℕ) (base : List ℕ) (n : ℕ) (es : List Seen) (ns : List ℕ) (l : Line) (r : Record) → Good size es ns → passBy size (passSeen size base es ns) l r ≡ passSeen size base (seenBy n es l r) (newsBy es ns r)
-pass-by size base n es ns l (Frame p h4 flag place next) g =
+sweep-by : (size : ℕ) (base : List ℕ) (n : ℕ) (es : List Seen) (ns : List ℕ) (l : Line) (r : Record) → Good size es ns → sweepBy size (sweepSeen size base es ns) l r ≡ sweepSeen size base (seenBy n es l r) (newsBy es ns r)
+sweep-by size base n es ns l (Frame p h4 flag place next) g =
     rw (text-length size base es ns (g .long), news-text p es ns (g .long) (fed (followIn p es) (h4 % 16)) (fed-small p l n (h4 % 16) es) size base (g .sound), eq-eqb (h4 % 16) (h4 % 16) refl) refl
-pass-by size base n es ns l (Malformed next) g = refl
-pass-by size base n es ns l Long g = refl
-pass-by size base n es ns l Unfinished g = refl
-pass-by size base n es ns l End g = refl
+sweep-by size base n es ns l (Malformed next) g = refl
+sweep-by size base n es ns l Long g = refl
+sweep-by size base n es ns l Unfinished g = refl
+sweep-by size base n es ns l End g = refl
 
-pass-from : (ports size : ℕ) (base : List ℕ) (n : ℕ) (es : List Seen) (ns : List ℕ) (ls : List Line) → ports ≤ 64 → Good size es ns
-    → passed ports size (passSeen size base es ns) ls ≡ passSeen size base (seenFrom ports size n es ls) (newsFrom ports size n es ns ls)
-pass-from ports size base n es ns [] few g = refl
-pass-from ports size base n es ns (l ∷ ls) few g =
-    ap (λ (s : Pass). passed ports size s ls) (pass-by size base n es ns l (recordOf ports size l) g)
-    ∙ pass-from ports size base (suc n) (seenBy n es l (recordOf ports size l)) (newsBy es ns (recordOf ports size l)) ls few (good-by ports size n es ns l (recordOf ports size l) few refl g)
+sweep-from : (ports size : ℕ) (base : List ℕ) (n : ℕ) (es : List Seen) (ns : List ℕ) (ls : List Line) → ports ≤ 64 → Good size es ns
+    → swept ports size (sweepSeen size base es ns) ls ≡ sweepSeen size base (seenFrom ports size n es ls) (newsFrom ports size n es ns ls)
+sweep-from ports size base n es ns [] few g = refl
+sweep-from ports size base n es ns (l ∷ ls) few g =
+    ap (λ (s : Sweep). swept ports size s ls) (sweep-by size base n es ns l (recordOf ports size l) g)
+    ∙ sweep-from ports size base (suc n) (seenBy n es l (recordOf ports size l)) (newsBy es ns (recordOf ports size l)) ls few (good-by ports size n es ns l (recordOf ports size l) few refl g)
 
-pass-end : (size : ℕ) (base : List ℕ) (m : ℕ) (es : List Seen) (ns : List ℕ) → Good size es ns → passEnd m (passSeen size base es ns) ≡ textIn size base es (endedNews m es ns)
-pass-end size base zero es ns g = refl
-pass-end size base (suc m) es ns g =
-    rw (pass-end size base m es ns g)
+sweep-end : (size : ℕ) (base : List ℕ) (m : ℕ) (es : List Seen) (ns : List ℕ) → Good size es ns → sweepEnd m (sweepSeen size base es ns) ≡ textIn size base es (endedNews m es ns)
+sweep-end size base zero es ns g = refl
+sweep-end size base (suc m) es ns g =
+    rw (sweep-end size base m es ns g)
     (text-setIf size base (restoresLast (followIn m es)) m es (endedNews m es ns) 1 (countBack (followIn m es) (followIn m es .first) 2) (keysIn (placeKey size base) m es .second)
     (ended-length m es ns ∙ g .long) (g .sound) (keyed (placeKey size base) m es .second-is) (altered-last m es (followIn m es) (known m es)))
 
@@ -311,10 +311,10 @@ module _ (ports size : ℕ) (ls : List Line) (few : ports ≤ 64) where
   unfolding judged
   judged-is = ap (λ (f : ℕ → List ℕ). judgedBy ports size f ls) (λ i q. left-is q i)
 
-  pub pass-is : (first : List ℕ) → passEnd 64 (passed ports size (passStart first) ls) ≡ first ++ textOf (mendedLines size (judged ports size ls))
-  pass-is first =
-      ap (passEnd 64) (pass-from ports size first 2 [] [] ls few (record { long = refl; sound = tt }))
-      ∙ (pass-end size first 64 (seen ports size ls few) (newsFrom ports size 2 [] [] ls) (all-good ports size ls few)
+  pub sweep-is : (first : List ℕ) → sweepEnd 64 (swept ports size (sweepStart first) ls) ≡ first ++ textOf (mendedLines size (judged ports size ls))
+  sweep-is first =
+      ap (sweepEnd 64) (sweep-from ports size first 2 [] [] ls few (record { long = refl; sound = tt }))
+      ∙ (sweep-end size first 64 (seen ports size ls few) (newsFrom ports size 2 [] [] ls) (all-good ports size ls few)
       ∙ (ap (textIn size first (seen ports size ls few)) (sym in-order)
       ∙ (left-text ports size first 2 [] [] ls inOrder enough
       ∙ ap (λ (js : List Judged). first ++ textOf (mendedLines size js)) judged-is)))

@@ -11,8 +11,8 @@ use borrow.Author.Tests.{eq-eqb, eqb-false, ne-eqb}
 use Rattle.mending.specs.Following.{followed}
 use Rattle.mending.specs.Laws.Counts.{Counts, followed-counts}
 use Rattle.mending.specs.Laws.Digits.{capital-digit, digit-count, digit-within}
-use Rattle.mending.specs.Laws.Passed.{counts-small}
-use Rattle.mending.specs.Laws.Passes.{noteBeside, noteFrame, notesBeside, toBeside}
+use Rattle.mending.specs.Laws.Swept.{counts-small}
+use Rattle.mending.specs.Laws.Sweeps.{noteSwept, noteFrame, notesSwept, toSwept}
 use Rattle.mending.specs.Lines.{Fate, Judged, Line, capital, countsOf, digitIn, digitPlace, fateBy, judged, judgedBy, leftBy, lineText, mendedLines, outBy, recordOf, textOf, withDigit}
 use Rattle.mending.specs.Lines.{Fate as F}
 use Rattle.mending.specs.Mending.{h4With, noteBy, noteText, notesFrom}
@@ -79,12 +79,12 @@ module _ (ports size : ℕ) (mended : List ℕ) (l : Line) (p h4 flag place next
 Rest : ℕ → ℕ → List ℕ → List Line → Type 0
 Rest ports size mended ls =
     (n : ℕ) (pre : List ℕ) (lf : ℕ → List ℕ) → ((q : ℕ) → Counts (lf q)) → mended ≡ pre ++ textOf (mendedLines size (judgedBy ports size lf ls))
-    → notesBeside ports size mended n (length pre) ls ≡ notesFrom size n (judgedBy ports size lf ls)
+    → notesSwept ports size mended n (length pre) ls ≡ notesFrom size n (judgedBy ports size lf ls)
 
 module _ (ports size : ℕ) (mended : List ℕ) (l : Line) (ls : List Line) (rest : Rest ports size mended ls) (n : ℕ) (pre : List ℕ) (lf : ℕ → List ℕ) (c : (q : ℕ) → Counts (lf q)) where
   frame-beside : (p h4 flag place next : ℕ) → recordOf ports size l ≡ Frame p h4 flag place next → (t : Bool) → eqb (h4 % 16) (getD (lf p) 0 0) ≡ t
       → mended ≡ pre ++ textOf (outBy size l (cond t F.Kept (F.Restored (digitIn size l) (capital (getD (lf p) 0 0)))) ++ mendedLines size (judgedBy ports size (leftBy lf (Frame p h4 flag place next)) ls))
-      → noteFrame ports size mended n l (getD mended (length pre + digitPlace size l) 0) ++ notesBeside ports size mended (suc n) (length pre + length (lineText l)) ls
+      → noteFrame ports size mended n l (getD mended (length pre + digitPlace size l) 0) ++ notesSwept ports size mended (suc n) (length pre + length (lineText l)) ls
       ≡ noteBy size n l (cond t F.Kept (F.Restored (digitIn size l) (capital (getD (lf p) 0 0)))) ++ notesFrom size (suc n) (judgedBy ports size (leftBy lf (Frame p h4 flag place next)) ls)
   unfolding Rest
   frame-beside p h4 flag place next e true t m =
@@ -102,7 +102,7 @@ module _ (ports size : ℕ) (mended : List ℕ) (l : Line) (ls : List Line) (res
       (rest (suc n) (pre ++ lineText o) (leftBy lf (Frame p h4 flag place next)) (small-left lf (Frame p h4 flag place next) c) (m ∙ sym (append-assoc pre (lineText o) more))))
 
   line-beside : (r : Record) → recordOf ports size l ≡ r → mended ≡ pre ++ textOf (outBy size l (fateBy size lf l r) ++ mendedLines size (judgedBy ports size (leftBy lf r) ls))
-      → noteBeside ports size mended n (length pre) l r ++ notesBeside ports size mended (suc n) (toBeside ports size mended (length pre) l r) ls
+      → noteSwept ports size mended n (length pre) l r ++ notesSwept ports size mended (suc n) (toSwept ports size mended (length pre) l r) ls
       ≡ noteBy size n l (fateBy size lf l r) ++ notesFrom size (suc n) (judgedBy ports size (leftBy lf r) ls)
   unfolding Rest
   line-beside (Frame p h4 flag place next) e m = frame-beside p h4 flag place next e (eqb (h4 % 16) (getD (lf p) 0 0)) refl m
@@ -116,9 +116,9 @@ unfolding Rest
 all-beside ports size mended [] n pre lf c m = refl
 all-beside ports size mended (l ∷ ls) n pre lf c m = line-beside ports size mended l ls (all-beside ports size mended ls) n pre lf c (recordOf ports size l) refl m
 
-pub beside-is : (ports size : ℕ) (first : List ℕ) (ls : List Line)
-    → notesBeside ports size (first ++ textOf (mendedLines size (judged ports size ls))) 2 (length first) ls ≡ notesFrom size 2 (judged ports size ls)
+pub noted-is : (ports size : ℕ) (first : List ℕ) (ls : List Line)
+    → notesSwept ports size (first ++ textOf (mendedLines size (judged ports size ls))) 2 (length first) ls ≡ notesFrom size 2 (judged ports size ls)
 unfolding judged Rest
-beside-is ports size first ls =
+noted-is ports size first ls =
     all-beside ports size (first ++ textOf (mendedLines size (judgedBy ports size (λ q. followed (countsOf ports size q ls)) ls))) ls 2 first (λ q. followed (countsOf ports size q ls))
     (λ q. followed-counts (countsOf ports size q ls) (counts-small ports size q ls)) refl

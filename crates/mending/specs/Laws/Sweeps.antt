@@ -1,4 +1,4 @@
--- What the code does, line by line on lists: a pass that copies the lines of frames and restores counts at their places in what is written already, one that
+-- What the code does, line by line on lists: a sweep that copies the lines of frames and restores counts at their places in what is written already, one that
 -- counts how much would come out, and one that walks the recording and the mended one side by side and writes the notes.
 use mathlib.Core.Bool.{Bool, cond}
 use mathlib.Core.List.{List, [], _∷_, _++_}
@@ -35,42 +35,42 @@ restoredIn f g k text =
     setIf (restoresThird f g) (k .third) (capital (countBack f (g .v) 1))
     (setIf (restoresSecond f g) (k .second) (capital (countBack f (g .v) 2)) (setIf (restoresFirst f g) (k .first) (capital (countBack f (g .v) 3)) text))
 
--- The first pass.
+-- The first sweep.
 
-pub record Pass : Type 0 where
+pub record Sweep : Type 0 where
   pub follows : ℕ → Follow
   pub keys : ℕ → Keys
   pub written : List ℕ
 
-abbrev pub passStart : List ℕ → Pass
-passStart first = record { follows = λ p. beginning; keys = λ p. noKeys; written = first }
+abbrev pub sweepStart : List ℕ → Sweep
+sweepStart first = record { follows = λ p. beginning; keys = λ p. noKeys; written = first }
 
 module _ (size : ℕ) where
-  abbrev pub passFrame : Pass → Line → ℕ → ℕ → Pass
-  passFrame s l p count =
+  abbrev pub sweepFrame : Sweep → Line → ℕ → ℕ → Sweep
+  sweepFrame s l p count =
       record {
         follows = given (s .follows) p (fed (s .follows p) count);
         keys = given (s .keys) p (withKey (s .keys p) (length (s .written) + digitPlace size l));
         written = restoredIn (s .follows p) (fed (s .follows p) count) (s .keys p) (s .written) ++ lineText l;
       }
 
-  abbrev pub passBy : Pass → Line → Record → Pass
-  passBy s l (Frame p h4 flag place next) = passFrame s l p (h4 % 16)
-  passBy s l (Malformed next) = s
-  passBy s l Long = s
-  passBy s l Unfinished = s
-  passBy s l End = s
+  abbrev pub sweepBy : Sweep → Line → Record → Sweep
+  sweepBy s l (Frame p h4 flag place next) = sweepFrame s l p (h4 % 16)
+  sweepBy s l (Malformed next) = s
+  sweepBy s l Long = s
+  sweepBy s l Unfinished = s
+  sweepBy s l End = s
 
 module _ (ports size : ℕ) where
-  abbrev pub passed : Pass → List Line → Pass
-  passed s [] = s
-  passed s (l ∷ ls) = passed (passBy size s l (recordOf ports size l)) ls
+  abbrev pub swept : Sweep → List Line → Sweep
+  swept s [] = s
+  swept s (l ∷ ls) = swept (sweepBy size s l (recordOf ports size l)) ls
 
 -- at the end, for the ports below n
-abbrev pub passEnd : ℕ → Pass → List ℕ
-passEnd zero s = s .written
-passEnd (suc n) s =
-    let written = passEnd n s in
+abbrev pub sweepEnd : ℕ → Sweep → List ℕ
+sweepEnd zero s = s .written
+sweepEnd (suc n) s =
+    let written = sweepEnd n s in
     setIf (restoresLast (s .follows n)) (s .keys n .second) (capital (countBack (s .follows n) (s .follows n .first) 2)) written
 
 -- How much would come out.
@@ -101,12 +101,12 @@ countFrame s p count =
 abbrev pub countDropped : Count → Count
 countDropped s = record { follows = s .follows; keys = s .keys; number = suc (s .number) }
 
-abbrev pub countBy : Count → Record → Count
-countBy s (Frame p h4 flag place next) = countFrame s p (h4 % 16)
-countBy s (Malformed next) = countDropped s
-countBy s Long = countDropped s
-countBy s Unfinished = countDropped s
-countBy s End = countDropped s
+abbrev pub countWith : Count → Record → Count
+countWith s (Frame p h4 flag place next) = countFrame s p (h4 % 16)
+countWith s (Malformed next) = countDropped s
+countWith s Long = countDropped s
+countWith s Unfinished = countDropped s
+countWith s End = countDropped s
 
 -- the bytes of notes that a line brings: of lines before it that are restored now, or its own
 abbrev pub lengthBy : Count → Line → Record → ℕ
@@ -135,7 +135,7 @@ module _ (ports size : ℕ) where
 
   abbrev pub notesLength : Count → List Line → ℕ
   notesLength s [] = lengthEnd 64 s
-  notesLength s (l ∷ ls) = lengthBy s l (recordOf ports size l) + notesLength (countBy s (recordOf ports size l)) ls
+  notesLength s (l ∷ ls) = lengthBy s l (recordOf ports size l) + notesLength (countWith s (recordOf ports size l)) ls
 
 -- The notes, beside the mended recording, in which the next line lies from `to` on.
 
@@ -143,20 +143,20 @@ module _ (ports size : ℕ) (mended : List ℕ) where
   abbrev pub noteFrame : ℕ → Line → ℕ → List ℕ
   noteFrame n l new = cond (eqb (digitIn size l) new) [] (noteText n (ascii "H4") (h4With size l (digitIn size l)) (h4With size l new))
 
-  abbrev pub noteBeside : ℕ → ℕ → Line → Record → List ℕ
-  noteBeside n to l (Frame p h4 flag place next) = noteFrame n l (getD mended (to + digitPlace size l) 0)
-  noteBeside n to l (Malformed next) = noteText n (ascii "line") (l .bytes) []
-  noteBeside n to l Long = noteText n (ascii "line") (l .bytes) []
-  noteBeside n to l Unfinished = noteText n (ascii "line") (l .bytes) []
-  noteBeside n to l End = noteText n (ascii "line") (l .bytes) []
+  abbrev pub noteSwept : ℕ → ℕ → Line → Record → List ℕ
+  noteSwept n to l (Frame p h4 flag place next) = noteFrame n l (getD mended (to + digitPlace size l) 0)
+  noteSwept n to l (Malformed next) = noteText n (ascii "line") (l .bytes) []
+  noteSwept n to l Long = noteText n (ascii "line") (l .bytes) []
+  noteSwept n to l Unfinished = noteText n (ascii "line") (l .bytes) []
+  noteSwept n to l End = noteText n (ascii "line") (l .bytes) []
 
-  abbrev pub toBeside : ℕ → Line → Record → ℕ
-  toBeside to l (Frame p h4 flag place next) = to + length (lineText l)
-  toBeside to l (Malformed next) = to
-  toBeside to l Long = to
-  toBeside to l Unfinished = to
-  toBeside to l End = to
+  abbrev pub toSwept : ℕ → Line → Record → ℕ
+  toSwept to l (Frame p h4 flag place next) = to + length (lineText l)
+  toSwept to l (Malformed next) = to
+  toSwept to l Long = to
+  toSwept to l Unfinished = to
+  toSwept to l End = to
 
-  abbrev pub notesBeside : ℕ → ℕ → List Line → List ℕ
-  notesBeside n to [] = []
-  notesBeside n to (l ∷ ls) = noteBeside n to l (recordOf ports size l) ++ notesBeside (suc n) (toBeside to l (recordOf ports size l)) ls
+  abbrev pub notesSwept : ℕ → ℕ → List Line → List ℕ
+  notesSwept n to [] = []
+  notesSwept n to (l ∷ ls) = noteSwept n to l (recordOf ports size l) ++ notesSwept (suc n) (toSwept to l (recordOf ports size l)) ls
