@@ -3,8 +3,8 @@ use mathlib.Core.Path.{_≡_}
 use mathlib.Core.Logic.{_≢_}
 use mathlib.Core.Bool.{true, false, not}
 use Prim.Native.Nat.{ℕ, suc, _+_, _/_, _≤_, _<_}
-use lib.Dec.{eqb}
 use lib.ListN.{getD}
+use Rattle.ground.specs.Plain.{_==_}
 use Rattle.packet.specs.Kinds.{fixedKind, mstFails}
 use Rattle.packet.specs.Laws.Mst.{Spoken}
 use Rattle.receiver.specs.Shown.{replyOf}
@@ -41,22 +41,22 @@ pub heard-back : (k : Link) (a : Assumed k) → AsSent k → (m₀ : Moment) →
 heard-back = Frames.hears-back
 
 -- Over calls: whatever befalls the other ports, and with a wait-to-restore.
-pub sure-add-over : (r : Rounds) (a b slot port restore : ℕ) → eqb (r .kind) fixedKind ≡ false → Path r a b slot port (bound (r .kind) a b restore) → Asked r a slot port restore (bound (r .kind) a b restore)
+pub sure-add-over : (r : Rounds) (a b slot port restore : ℕ) → (r .kind == fixedKind) ≡ false → Path r a b slot port (bound (r .kind) a b restore) → Asked r a slot port restore (bound (r .kind) a b restore)
     → ActiveWithin (tableOf r slot) slot 0 (bound (r .kind) a b restore)
 sure-add-over = Over.joins
 
 -- where no other slot is ADD at the add, none is while it lasts
 pub settled-at-once : (r : Rounds) (slot : ℕ) → addOf (before r) slot .answer ≡ Done → ((j : ℕ) → j < slotsIn (before r) → j ≢ slot → isAdd (stateIn (before r) j) ≡ false)
     → (k j : ℕ) → j < slotsIn (tableOf r slot k) → j ≢ slot → isAdd (stateIn (tableOf r slot k) j) ≡ false
-settled-at-once = Settled.none-added
+settled-at-once = Settled.none-since
 
 -- the request's first sentences, word for word
-pub as-asked : (r : Rounds) (a b slot port : ℕ) → eqb (r .kind) fixedKind ≡ false → Path r a b slot port (bound (r .kind) a b 0) → AsAsked r a slot port (bound (r .kind) a b 0)
+pub as-asked : (r : Rounds) (a b slot port : ℕ) → (r .kind == fixedKind) ≡ false → Path r a b slot port (bound (r .kind) a b 0) → AsAsked r a slot port (bound (r .kind) a b 0)
     → ActiveWithin (tableOf r slot) slot 0 (bound (r .kind) a b 0)
 as-asked = Settled.asked-so
 
 -- where no other OK port has the number and no OK of it was under way, the port itself is OK under it at the report whose reply makes the slot active
-pub own-ok : (r : Rounds) (a b slot port restore : ℕ) → eqb (r .kind) fixedKind ≡ false → Path r a b slot port (bound (r .kind) a b restore) → Asked r a slot port restore (bound (r .kind) a b restore)
+pub own-ok : (r : Rounds) (a b slot port restore : ℕ) → (r .kind == fixedKind) ≡ false → Path r a b slot port (bound (r .kind) a b restore) → Asked r a slot port restore (bound (r .kind) a b restore)
     → NumberFree r a b slot port (bound (r .kind) a b restore) → OwnOk r a b slot port (bound (r .kind) a b restore)
 own-ok = Owning.owns
 

@@ -31,7 +31,7 @@ module _ (r : Rounds) (a b slot port restore : ℕ) (lcas : eqb (r .kind) fixedK
   -- it was none that was under way
   late : a + 2 + b ≤ c .last
   late =
-      ⊎-elim (λ (h : a + 2 + b ≤ c .last). h) (λ (h : c .last < a + 2 + b). absurd (true≢false (sym (o .none-under-way (c .last) h spoken) ∙ c .comes .ok))) (le-or-lt (a + 2 + b) (c .last))
+      ⊎-elim (λ (h : a + 2 + b ≤ c .last). h) (λ (h : c .last < a + 2 + b). absurd (true≢false (sym (o .none-under-way (c .last) h (c .given) spoken) ∙ c .comes .ok))) (le-or-lt (a + 2 + b) (c .last))
 
   abbrev k : ℕ
   k = c .last - b

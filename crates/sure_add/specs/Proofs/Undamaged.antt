@@ -87,7 +87,7 @@ use Rattle.link.specs.Told.{Told}
 use Rattle.sure_add.specs.AsSent.{AsSent, hasHolder}
 use Rattle.sure_add.specs.Proofs.Reported.{left-state, left-under, mst-in, okIn, seen-number, seen-state, seen-word, sees}
 
-empty : (l : List Told) → length l ≡ 0 → l ≡ []
+pub empty : {A : Type 0} (l : List A) → length l ≡ 0 → l ≡ []
 empty [] e = refl
 empty (x ∷ l) e = absurd (omega arith)
 

@@ -7,10 +7,10 @@ use mathlib.Core.List.{List, [], _∷_, _++_}
 use Prim.Native.Nat.{ℕ, zero, suc, _+_, _-_, _%_, _≤_, _<_}
 use native.Mathlib.Nat.{not-suc-le-zero}
 use native.Mathlib.Omega.{arith}
-use lib.Dec.{eqb}
 use lib.ListN.{getD, length, replicate}
 use borrow.Author.Tests.{eqb-true}
 use Rattle.ground.specs.Finite.{below, below-at}
+use Rattle.ground.specs.Plain.{_==_}
 use Rattle.ground.specs.Truth.{and-left, and-right, eq-or-ne}
 use Rattle.packet.specs.declared.ruling.Ruling.{Ruling}
 use Rattle.packet.specs.Kinds.{epochs}
@@ -94,6 +94,7 @@ rounds =
       kind = 0;
       slots = 1;
       calls = [];
+      handed = λ k. true;
       first = 30;
       mst = λ k. getD msts k 255;
       ack = λ k. 0;
@@ -118,15 +119,15 @@ tests x y k =
     let seen = sees x in
     fits (x .rows) (x .store) output lent
     ∷ dueIn (groupAt (x .rows)) (portsIn (groupAt (x .rows))) (x .rows)
-    ∷ eqb (portsIn (groupAt (x .rows))) 1
-    ∷ eqb (groupAt (x .rows) .kind) 0
+    ∷ (portsIn (groupAt (x .rows)) == 1)
+    ∷ (groupAt (x .rows) .kind == 0)
     ∷ firstMark (marksAt (x .rows) 0)
     ∷ (heard .good)
-    ∷ eqb (heard .word) ADD
-    ∷ eqb (heard .number) 0
+    ∷ (heard .word == ADD)
+    ∷ (heard .number == 0)
     ∷ (seen .readable)
-    ∷ eqb (seen .restore) 1
-    ∷ eqb (getD msts k 255) (getD (replyOf (y .rows) ((30 + k) % 256)) 0 0)
+    ∷ (seen .restore == 1)
+    ∷ (getD msts k 255 == getD (replyOf (y .rows) ((30 + k) % 256)) 0 0)
     ∷ []
 
 abbrev allOf : List Bool → Bool
@@ -224,7 +225,7 @@ abbrev table : ℕ → Table
 table k = tableOf rounds 0 k
 
 abbrev tableRight : ℕ → Bool
-tableRight k = eqb (rowAt (boardOf (table k) .rows) 0 .word .0) ADD && (eqb (rowAt (boardOf (table k) .rows) 0 .number) 0 && eqb (slotsIn (table k)) 1)
+tableRight k = (rowAt (boardOf (table k) .rows) 0 .word .0 == ADD) && ((rowAt (boardOf (table k) .rows) 0 .number == 0) && (slotsIn (table k) == 1))
 
 tables-right : below 35 tableRight ≡ true
 unfolding outcome tableOf
@@ -232,9 +233,9 @@ tables-right = refl
 
 table-at : (k : ℕ) → k < 35 → (rowAt (boardOf (table k) .rows) 0 .word .0 ≡ ADD) × (rowAt (boardOf (table k) .rows) 0 .number ≡ 0) × (slotsIn (table k) ≡ 1)
 table-at k h =
-    let w : Bool = eqb (rowAt (boardOf (table k) .rows) 0 .word .0) ADD in
-    let n : Bool = eqb (rowAt (boardOf (table k) .rows) 0 .number) 0 in
-    let s : Bool = eqb (slotsIn (table k)) 1 in
+    let w : Bool = rowAt (boardOf (table k) .rows) 0 .word .0 == ADD in
+    let n : Bool = rowAt (boardOf (table k) .rows) 0 .number == 0 in
+    let s : Bool = slotsIn (table k) == 1 in
     let t : tableRight k ≡ true = below-at 35 tableRight tables-right k h in (
       eqb-true (rowAt (boardOf (table k) .rows) 0 .word .0) ADD (and-left w (n && s) t),
       eqb-true (rowAt (boardOf (table k) .rows) 0 .number) 0 (and-left n s (and-right w (n && s) t)),
@@ -273,6 +274,7 @@ path =
       given = λ k from to. record { fitting = test-at k from to 0 (omega arith); due = test-at k from to 1 (omega arith) };
       next = λ k from to. (let e : suc k - 2 ≡ suc (k - 2) = omega arith in rw e refl);
       none-between = λ k from to. frames-none (reported rounds k) (packet 0 (7 + (k - 2)));
+      handed-is = λ k from to. refl;
       mst-is = λ k from to. (let e : k + 0 ≡ k = omega arith in rw e (eqb-true (getD msts k 255) _ (test-at k from (omega arith) 10 (omega arith))));
       whole = λ k one to. test-at (k + 0 + 1) (omega arith) (omega arith) 4 (omega arith);
       good = λ k one to. test-at (k + 0 + 1) (omega arith) (omega arith) 5 (omega arith);
