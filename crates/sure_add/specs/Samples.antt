@@ -6,4 +6,6 @@ pub mod Opened
 pub mod Rows
 mod OneSlot
 mod Delayed
+pub mod Trial
 mod Failed
+mod TwoSlots

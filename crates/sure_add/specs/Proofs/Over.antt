@@ -66,7 +66,7 @@ unfolding portsIn
 ports-same g h s = rw (s .kind, s .count, s .payload, s .window) refl
 
 -- of rows that calls have made
-kept-few : (s : List (List ℕ)) → Kept s → portsIn (groupAt s) ≤ 64
+pub kept-few : (s : List (List ℕ)) → Kept s → portsIn (groupAt s) ≤ 64
 kept-few s k =
     let f = sizes-of (groupAt s .kind) (groupAt s .count) (groupAt s .payload) (groupAt s .window) (k .lasting .group .sizes) .few-ports in
     let c = ports-are (groupAt s) (k .lasting .group .sizes) in
