@@ -4,9 +4,9 @@ use mathlib.Core.Logic.{_≢_}
 use mathlib.Core.Bool.{true, false}
 use Prim.Native.Nat.{ℕ, _+_, _≤_, _<_}
 use Rattle.packet.specs.Kinds.{mstFails}
-use Rattle.packet.specs.Laws.Mst.{Spoken}
+use Rattle.packet.specs.Mst.{Spoken}
 use Rattle.reply.specs.Members.{okState}
-use Rattle.reply.specs.Theorems.States.{standingAt}
+use Rattle.reply.specs.Waiting.{standingAt}
 use Rattle.sender.specs.Numbering.{numberIn, stateIn}
 use Rattle.sender.specs.Table.{isActive}
 use Rattle.sure_add.specs.Rounds.{Rounds, numberOf, ports, seen, tableOf}

@@ -15,7 +15,7 @@ use Rattle.receiver.specs.Shown.{replyOf}
 use Rattle.receiver.specs.Starting.{startAsAnswer}
 use Rattle.reply.specs.declared.members.Port.{Port}
 use Rattle.reply.specs.Members.{okState, portAt}
-use Rattle.reply.specs.Theorems.States.{standingAt}
+use Rattle.reply.specs.Waiting.{standingAt}
 use Rattle.rows.specs.Group.{groupAt}
 use Rattle.rows.specs.Packets.{marksAt}
 use Rattle.sender.specs.declared.table.Answer.the-variants.{Done}

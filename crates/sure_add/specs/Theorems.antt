@@ -6,7 +6,7 @@ use Prim.Native.Nat.{ℕ, suc, _+_, _/_, _≤_, _<_}
 use lib.ListN.{getD}
 use Rattle.ground.specs.Plain.{_==_}
 use Rattle.packet.specs.Kinds.{fixedKind, mstFails}
-use Rattle.packet.specs.Laws.Mst.{Spoken}
+use Rattle.packet.specs.Mst.{Spoken}
 use Rattle.receiver.specs.Shown.{replyOf}
 use Rattle.sender.specs.declared.table.Answer.the-variants.{Done}
 use Rattle.sender.specs.Commands.{addOf}
@@ -28,7 +28,7 @@ use Rattle.sure_add.specs.Proofs.Over as Over
 use Rattle.sure_add.specs.Proofs.Owning as Owning
 use Rattle.sure_add.specs.Proofs.Settled as Settled
 use Rattle.sure_add.specs.Rounds.{Asked, Path, Rounds, before, tableOf}
-use Rattle.sure_add.specs.Within.{ActiveWithin, bound}
+use Rattle.sure_add.specs.Within.{ActiveWithin, CarriesWithin, bound}
 
 -- Over frames: sender, lines, receiver, reply, back packets and reports, closed. Whatever the ports' times, on undamaged lines no port is ever FAIL, so that none waits to restore.
 pub sure-add : (k : Link) (m₀ : Moment) (a b slot t : ℕ) (j : Joined k m₀ a b (t + bound (kindOf k) a b 0)) → Adding k m₀ a b (t + bound (kindOf k) a b 0) j slot t
@@ -64,3 +64,8 @@ own-ok = Owning.owns
 pub carries-next : (h : History) → Allowed h → (t slot : ℕ) → slot < slotsIn (senderAt h t .table) → isActive (stateIn (senderAt h t .table) slot) ≡ true
     → (x : ℕ) → epochStart (h .kind) (suc t) ≤ x → x < epochStart (h .kind) (suc (suc t)) → hasRank h x slot ≡ true
 carries-next = Carried.carries-next
+
+-- so it carries traffic in an epoch at most one later, 35 + a + b after the add
+pub sure-traffic : (k : Link) (m₀ : Moment) (a b slot t : ℕ) (j : Joined k m₀ a b (t + bound (kindOf k) a b 0)) → Adding k m₀ a b (t + bound (kindOf k) a b 0) j slot t
+    → CarriesWithin (j .out .history) slot t (bound (kindOf k) a b 0 + 1)
+sure-traffic = Frames.carries

@@ -13,7 +13,8 @@ use Rattle.ground.specs.Table.{length-tabulate}
 use Rattle.ground.specs.Truth.{and-true, eq-or-ne}
 use Rattle.counting.specs.Laws.Tests.{some-at}
 use Rattle.packet.specs.Kinds.{epochs, mstFails}
-use Rattle.packet.specs.Laws.Mst.{Spoken, SpokenSoon, spoken-soon}
+use Rattle.packet.specs.Laws.Mst.{SpokenSoon, spoken-soon}
+use Rattle.packet.specs.Mst.{Spoken}
 use Rattle.packet.specs.Reading.{readAnswer}
 use Rattle.receiver.specs.Shown.{replyOf}
 use Rattle.sender.specs.declared.table.State.the-variants.{Active}
@@ -21,17 +22,18 @@ use Rattle.sender.specs.declared.table.Table.{Table}
 use Rattle.sender.specs.Calls.{Call, outcomeOf, run}
 use Rattle.sender.specs.Calls.Call.{AddSlot, Report}
 use Rattle.sender.specs.Commands.{addOf}
-use Rattle.sender.specs.Laws.Kept.{Sound, sound-run}
+use Rattle.sender.specs.Laws.Kept.{Sound, group-call, sound-run}
 use Rattle.sender.specs.Laws.Speaking.{BecomesActive, Pending, acts, added-pending, active-or-pending, pending-low}
-use Rattle.sender.specs.Numbering.{numberIn, stateIn}
+use Rattle.sender.specs.Numbering.{numberIn, slotsIn, stateIn}
 use Rattle.sender.specs.Reports.{reportOf}
-use Rattle.sender.specs.Table.{isActive, isMember}
+use Rattle.sender.specs.Table.{isActive, isMember, sizeOf}
 use Rattle.link.specs.Demand3.{Reported, Started, Time, ownRun, standing}
 use Rattle.link.specs.History.{Allowed, History, fieldsSent, packetSent, senderAt}
 use Rattle.link.specs.Assumed.{Assumed}
 use Rattle.link.specs.Link.{Link, epochFrames, expected, kindOf, roadOf}
 use Rattle.link.specs.Moments.{coming, reached}
 use Rattle.link.specs.Proofs.Fair.{Fair}
+use Rattle.link.specs.Proofs.Histories.Carried.{carries-next}
 use Rattle.link.specs.Proofs.Histories.Ours.{ours}
 use Rattle.link.specs.Proofs.Histories.Packets.{packet-epoch}
 use Rattle.link.specs.Proofs.Histories.Senders.{sender-at-sound, sender-in, size-at}
@@ -49,7 +51,7 @@ use Rattle.sure_add.specs.AsSent.{AsSent, hasHolder}
 use Rattle.sure_add.specs.Joined.{Adding, Joined, atStart, comeBack, reportBy, tableAt}
 use Rattle.sure_add.specs.Proofs.Others.{NoOther, none-added, none-told}
 use Rattle.sure_add.specs.Proofs.Undamaged.{AsTable, empty, from-start, heard-last, mst-table}
-use Rattle.sure_add.specs.Within.{ActiveWithin, bound}
+use Rattle.sure_add.specs.Within.{ActiveWithin, CarriesWithin, bound}
 
 -- After each report MST says OK of exactly the numbers that are held in its epoch.
 module _ (k : Link) (a : Assumed k) (as-sent : AsSent k) (m₀ : Moment) (o : Started k m₀) where
@@ -90,6 +92,10 @@ behind (x ∷ xs) ys zs e l = inr (empty ys (let n : suc (length (xs ++ ys)) ≡
 run-then : (t : Table) (xs ys : List Call) → run t (xs ++ ys) ≡ run (run t xs) ys
 run-then t [] ys = refl
 run-then t (c ∷ xs) ys = run-then (outcomeOf t c .table) xs ys
+
+count-run : (t : Table) (cs : List Call) → run t cs .count ≡ t .count
+count-run t [] = refl
+count-run t (c ∷ cs) = count-run (outcomeOf t c .table) cs ∙ group-call t c .count
 
 -- our slot is ADD, and no other
 record Lone (t : Table) (i q : ℕ) : Type 0 where
@@ -283,3 +289,18 @@ module _ (k : Link) (m₀ : Moment) (a b slot t : ℕ) (j : Joined k m₀ a b (t
       (λ (w : (i : ℕ) → suc t ≤ i → i ≤ suc t + (a + 1 + soon .after + b) → Lone (tab i) slot q).
       record { at = suc (told-at + b); after = omega arith; within = omega arith; active = ap isActive (acted (λ i lo hi. w i lo (omega arith))) })
       (far-as (a + 1 + soon .after + b) (omega arith))
+
+  -- and carries traffic in the next epoch
+  slot-below : (u : ℕ) → slot < slotsIn (tab u)
+  slot-below u =
+      subst (λ (n : ℕ). slot < n) (ap sizeOf (group-call found (AddSlot slot) .count) ∙ ap sizeOf (count-run (tab t) (add .earlier)) ∙ size-at h al t ∙ sym (size-at h al u)) (lone-first .pending .below)
+
+  pub carries : CarriesWithin (j .out .history) slot t (bound (kindOf k) a b 0 + 1)
+  carries =
+      let w = joins in
+      record {
+        epoch = suc (w .at);
+        after = let l = w .after in omega arith;
+        within = let l = w .within in omega arith;
+        carries = carries-next h al (w .at) slot (slot-below (w .at)) (w .active);
+      }

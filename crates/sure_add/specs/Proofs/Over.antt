@@ -12,7 +12,8 @@ use borrow.Author.Tests.{eq-eqb, eqb-true, lt-ltb}
 use Rattle.ground.specs.Truth.{and-left, and-right, and-true, eq-or-ne}
 use Rattle.counting.specs.Laws.Tests.{some-at, some-one}
 use Rattle.packet.specs.Kinds.{epochs, fixedKind, mstFails}
-use Rattle.packet.specs.Laws.Mst.{Spoken, SpokenSoon, spoken-soon}
+use Rattle.packet.specs.Laws.Mst.{SpokenSoon, spoken-soon}
+use Rattle.packet.specs.Mst.{Spoken}
 use Rattle.packet.specs.Words.{ADD}
 use Rattle.phases.specs.Laws.Sizes.{SameSizes}
 use Rattle.phases.specs.Sizes.{portsIn}
@@ -22,8 +23,8 @@ use Rattle.reply.specs.declared.waiting.Standing.{Standing}
 use Rattle.reply.specs.Laws.Keeping.{Apart}
 use Rattle.reply.specs.Members.{isCandidate, okState}
 use Rattle.reply.specs.Members as R
-use Rattle.reply.specs.Theorems.States.{Holder, standingAt}
-use Rattle.reply.specs.Waiting.{standing, withClaim}
+use Rattle.reply.specs.Theorems.States.{Holder}
+use Rattle.reply.specs.Waiting.{standing, standingAt, withClaim}
 use Rattle.rows.specs.declared.group.Group.{Group}
 use Rattle.rows.specs.declared.member.Member.{Member}
 use Rattle.rows.specs.Group.{groupAt}

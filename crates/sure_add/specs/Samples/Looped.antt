@@ -1,5 +1,5 @@
 -- Links of H4 with P 1 and W 16 of which `sure-add` speaks, made of a few numbers, the calls at each start and the replies as they are computed. Port p carries the last slot but p.
-use mathlib.Core.Path.{_≡_, refl, sym, ap, _∙_}
+use mathlib.Core.Path.{_≡_, refl, sym, ap}
 use mathlib.Core.Logic.{inl}
 use mathlib.Core.Bool.{true}
 use mathlib.Core.List.{List, [], _∷_}

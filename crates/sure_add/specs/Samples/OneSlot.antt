@@ -2,7 +2,7 @@
 use mathlib.Core.Path.{_≡_, refl, sym, ap, _∙_}
 use mathlib.Core.Logic.{_≢_}
 use mathlib.Core.Bool.{Bool, true, false}
-use mathlib.Core.List.{List, [], _∷_}
+use mathlib.Core.List.{[], _∷_}
 use Prim.Native.Nat.{ℕ, _<_}
 use native.Mathlib.Omega.{arith}
 use lib.ListN.{replicate}
@@ -13,7 +13,6 @@ use Rattle.receiver.specs.Shown.{replyOf}
 use Rattle.receiver.specs.Starting.{timesWithin}
 use Rattle.reply.specs.Telling.{mstFrom, mstOf, okHolds}
 use Rattle.sender.specs.declared.table.Answer.the-variants.{Done}
-use Rattle.sender.specs.Calls.{Call}
 use Rattle.sender.specs.Calls.Call.{AddSlot}
 use Rattle.sender.specs.Commands.{addOf}
 use Rattle.sender.specs.Numbering.{slotsIn, stateIn}

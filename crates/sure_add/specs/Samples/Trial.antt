@@ -2,7 +2,7 @@
 use mathlib.Core.Path.{_≡_, refl, sym, ap, subst, _∙_}
 use mathlib.Core.Logic.{⊎-elim, inl, _≢_}
 use mathlib.Core.Bool.{Bool, true, false, not, _&&_}
-use mathlib.Core.List.{List, [], _∷_, _++_}
+use mathlib.Core.List.{List, [], _∷_}
 use Prim.Native.Nat.{ℕ, zero, suc, _+_, _-_, _*_, _%_, _≤_, _<_}
 use native.Mathlib.Nat.{not-suc-le-zero}
 use native.Mathlib.Omega.{arith}
@@ -21,7 +21,7 @@ use Rattle.receiver.specs.Shown.{replyOf}
 use Rattle.receiver.specs.Starting.{startAsAnswer}
 use Rattle.reply.specs.declared.members.Port.{Port}
 use Rattle.reply.specs.Members.{okState, portAt}
-use Rattle.reply.specs.Theorems.States.{standingAt}
+use Rattle.reply.specs.Waiting.{standingAt}
 use Rattle.rows.specs.Group.{groupAt}
 use Rattle.rows.specs.Member.{memberAt}
 use Rattle.rows.specs.Packets.{marksAt}
