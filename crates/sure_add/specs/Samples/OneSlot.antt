@@ -7,7 +7,8 @@ use Prim.Native.Nat.{ℕ, _<_}
 use native.Mathlib.Omega.{arith}
 use lib.ListN.{replicate}
 use borrow.Author.Tests.{ne-eqb}
-use Rattle.ground.specs.Plain.{if_then_else_, _==_}
+use Rattle.ground.specs.Plain.{if_then_else_, _==_, _<?_}
+use Rattle.packet.specs.Words.{ADD, EOS, IDLE}
 use Rattle.phases.specs.Sizes.{sized}
 use Rattle.receiver.specs.Shown.{replyOf}
 use Rattle.receiver.specs.Starting.{timesWithin}
@@ -41,6 +42,8 @@ case =
       order = 0 ∷ [];
       hold = 3 ∷ [];
       restore = 5000 ∷ [];
+      word = λ i p. if i <? 6 then IDLE else if i <? 39 then ADD else EOS;
+      number = λ i p. if i <? 6 then 255 else 0;
       said = (255 ∷ 0 ∷ []) ∷ (127 ∷ 0 ∷ []) ∷ replicate 38 (255 ∷ 0 ∷ []);
     }
 
@@ -61,6 +64,7 @@ right =
       restore-times = record { within = refl; fits = refl };
       fits = refl;
       bits = refl;
+      sent = refl;
       replied = refl;
     }
 
