@@ -6,6 +6,7 @@ pub mod Fixed
 pub mod Kinds
 pub mod Laws
 pub mod Layout
+pub mod Mst
 pub mod Reading
 pub mod Ruling
 pub mod Sent

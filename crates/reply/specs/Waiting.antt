@@ -2,7 +2,7 @@
 use mathlib.Core.Bool.{Bool, not, _&&_, _||_}
 use mathlib.Core.List.{List}
 use Prim.Native.Nat.{ℕ, zero, suc, _+_}
-use lib.ListN.{replicate}
+use lib.ListN.{getD, replicate}
 use Rattle.ground.specs.Plain.{if_then_else_, _==_, _<?_}
 use Rattle.counting.specs.Each.{each}
 use Rattle.counting.specs.Words.{some}
@@ -73,3 +73,7 @@ noStanding = standing idleState 0 0
 -- what a report leaves of each port: its state, the number under which it has it, and at how many reports its timer has run
 unfoldable pub standingsOf : List Port → ℕ → List Standing
 standingsOf ports n = each n (λ i. standingBy (chosenOf ports n) i (portAt ports i)) (replicate 64 noStanding)
+
+-- and of one port
+abbrev pub standingAt : List Port → ℕ → ℕ → Standing
+standingAt ports n i = getD (standingsOf ports n) i noStanding

@@ -12,8 +12,7 @@ use Rattle.reply.specs.declared.members.Port.{Port}
 use Rattle.reply.specs.declared.waiting.Standing.{Standing}
 use Rattle.reply.specs.Choosing.{FREE, claims, grant, granted, holderOf, holders, allFree}
 use Rattle.reply.specs.Members.{failState, hasHoldOff, idleState, isCandidate, okState, portAt}
-use Rattle.reply.specs.Theorems.States.{standingAt}
-use Rattle.reply.specs.Waiting.{chosenOf, hasClaim, keptNumbers, keepsNumber, moreKept, rounds, someJoin, standing, standingBy, standingsOf, withClaim, withoutClaim}
+use Rattle.reply.specs.Waiting.{chosenOf, hasClaim, keepsNumber, keptNumbers, moreKept, rounds, someJoin, standing, standingAt, standingBy, standingsOf, withClaim, withoutClaim}
 
 -- a port that sends a word under a number, with what the last report left of it and its times
 abbrev port : ℕ → ℕ → Bool → Standing → ℕ → ℕ → Port

@@ -2,7 +2,7 @@
 use mathlib.Core.Path.{_≡_}
 use mathlib.Core.Bool.{Bool, _&&_}
 use Prim.Native.Nat.{ℕ, _<_}
-use lib.Dec.{eqb}
+use Rattle.ground.specs.Plain.{_==_}
 use Rattle.counting.specs.Words.{some}
 use Rattle.sender.specs.Numbering.{numberIn, stateIn}
 use Rattle.sender.specs.Table.{isMember}
@@ -14,4 +14,4 @@ AsSent k = (i p : ℕ) → p < k .ports → k .came i p ≡ sentTo k i p
 
 -- a slot that is not IDLE in the i-th epoch holds the number q
 abbrev pub hasHolder : History → ℕ → ℕ → Bool
-hasHolder h i q = some (h .slots) (λ slot. isMember (stateIn (senderAt h i .table) slot) && eqb (numberIn (senderAt h i .table) slot) q)
+hasHolder h i q = some (h .slots) (λ slot. isMember (stateIn (senderAt h i .table) slot) && numberIn (senderAt h i .table) slot == q)

@@ -2,18 +2,18 @@
 -- another sender of ours, whose MST and RS-Ack are the receiver's reply.
 use mathlib.Core.Path.{_≡_}
 use mathlib.Core.Logic.{_≢_}
-use mathlib.Core.Bool.{false, cond}
+use mathlib.Core.Bool.{false}
 use mathlib.Core.List.{List, [], _∷_, _++_}
 use Prim.Native.Nat.{ℕ, suc, _+_, _-_, _*_, _≤_, _<_}
-use lib.Dec.{leb}
 use lib.ListN.{getD}
+use Rattle.ground.specs.Plain.{if_then_else_, _≤?_}
 use Rattle.packet.specs.declared.reader.Reading.{Reading}
 use Rattle.packet.specs.declared.reader.Reading.the-variants.{Packet, Length, Crc, Fixed, Unassigned}
 use Rattle.packet.specs.Reading.{readAnswer}
 use Rattle.receiver.specs.Shown.{replyOf}
 use Rattle.sender.specs.declared.table.Answer.the-variants.{Done}
 use Rattle.sender.specs.declared.table.Table.{Table}
-use Rattle.sender.specs.Calls.{Call}
+use Rattle.sender.specs.Calls.{Call, run}
 use Rattle.sender.specs.Calls.Call.{AddSlot, Report}
 use Rattle.sender.specs.Commands.{addOf}
 use Rattle.sender.specs.Numbering.{slotsIn, stateIn}
@@ -60,22 +60,27 @@ pub record Joined (k : Link) (m₀ : Moment) (a b until : ℕ) : Type 0 where
   -- each start reads the reply and lends it to the epoch
   pub mst : (t : ℕ) → t ≤ until → back .mst t ≡ getD (replyAt k m₀ t (epochNumber (back .kind) (back .first) t)) 0 0
   pub ack : (t : ℕ) → t ≤ until → back .ack t ≡ getD (replyAt k m₀ t (epochNumber (back .kind) (back .first) t)) 1 0
-  -- before its epoch's start the host gives commands, and then hands over the back packet that has wholly come: that of b + 1 epochs ago
-  pub commands : ℕ → List Call
-  pub handed : (t : ℕ) → t ≤ until → out .history .before t ≡ commands t ++ cond (leb (b + 1) t) (reportBy (readAnswer (packetSent back (t - (b + 1)) from))) []
+
+-- the back packet that has wholly come by the start of the t-th epoch, that of b + 1 epochs ago, as it is handed over
+abbrev pub comeBack : {k : Link} {m₀ : Moment} {a b until : ℕ} → Joined k m₀ a b until → ℕ → List Call
+comeBack {k} {m₀} {a} {b} {until} j t = if b + 1 ≤? t then reportBy (readAnswer (packetSent (j .back) (t - (b + 1)) (j .from))) else []
 
 -- the table at the start of the t-th epoch
 abbrev pub tableAt : {k : Link} {m₀ : Moment} {a b until : ℕ} → Joined k m₀ a b until → ℕ → Table
 tableAt j t = senderAt (j .out .history) t .table
 
--- The add: between the starts of the t-th epoch and of the next.
+-- The add: between the starts of the t-th epoch and of the next. What was handed and commanded before is anything.
 pub record Adding (k : Link) (m₀ : Moment) (a b until : ℕ) (j : Joined k m₀ a b until) (slot t : ℕ) : Type 0 where
-  pub command : j .commands (suc t) ≡ AddSlot slot ∷ []
+  -- the back packet of that start is handed over before the add or behind it
+  pub earlier : List Call
+  pub later : List Call
+  pub one-report : earlier ++ later ≡ comeBack j (suc t)
+  pub command : j .out .history .before (suc t) ≡ earlier ++ (AddSlot slot ∷ later)
   -- 'the add is accepted', which with a wait open it is not
-  pub accepted : addOf (tableAt j t) slot .answer ≡ Done
-  -- 'no other commands'
-  pub no-other : (u : ℕ) → suc t < u → u ≤ until → j .commands u ≡ []
+  pub accepted : addOf (run (tableAt j t) earlier) slot .answer ≡ Done
+  -- 'no other commands': from then on back packets alone are handed over
+  pub no-other : (u : ℕ) → suc t < u → u ≤ until → j .out .history .before u ≡ comeBack j u
   -- 'Let the new member's port be readable': on undamaged lines all ports are from the beginning on, so receiving has begun
   pub readable : hasBegun (atStart k m₀ t) ≡ 1
   -- 'every other port in a settled state': of IDLE, ADD, active and DNU, ADD is the one that is on its way to another
-  pub settled : (s : ℕ) → s < slotsIn (tableAt j t) → s ≢ slot → isAdd (stateIn (tableAt j t) s) ≡ false
+  pub settled : (s : ℕ) → s < slotsIn (run (tableAt j t) earlier) → s ≢ slot → isAdd (stateIn (run (tableAt j t) earlier) s) ≡ false

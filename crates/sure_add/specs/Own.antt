@@ -4,9 +4,9 @@ use mathlib.Core.Logic.{_≢_}
 use mathlib.Core.Bool.{true, false}
 use Prim.Native.Nat.{ℕ, _+_, _≤_, _<_}
 use Rattle.packet.specs.Kinds.{mstFails}
-use Rattle.packet.specs.Laws.Mst.{Spoken}
+use Rattle.packet.specs.Mst.{Spoken}
 use Rattle.reply.specs.Members.{okState}
-use Rattle.reply.specs.Theorems.States.{standingAt}
+use Rattle.reply.specs.Waiting.{standingAt}
 use Rattle.sender.specs.Numbering.{numberIn, stateIn}
 use Rattle.sender.specs.Table.{isActive}
 use Rattle.sure_add.specs.Rounds.{Rounds, numberOf, ports, seen, tableOf}
@@ -20,7 +20,7 @@ module _ (r : Rounds) (a b slot port most : ℕ) where
     -- at no report from that of the first ADD on is another port OK under it
     pub alone : (k other : ℕ) → a + 2 ≤ k → k ≤ most → other < ports r k → other ≢ port → standingAt (seen r k) (ports r k) other .state ≡ okState → standingAt (seen r k) (ports r k) other .number ≢ own
     -- and no OK of it was under way: what is handed before the first such reply says none
-    pub none-under-way : (k : ℕ) → k < a + 2 + b → Spoken (r .kind) (numberOf r k) own → mstFails (r .mst k) own ≡ true
+    pub none-under-way : (k : ℕ) → k < a + 2 + b → r .handed k ≡ true → Spoken (r .kind) (numberOf r k) own → mstFails (r .mst k) own ≡ true
 
   -- the first start at which the slot is active, and the report whose reply was handed then
   pub record OwnOk : Type 0 where

@@ -1,4 +1,5 @@
 -- Why an add is sure to finish. Nothing here has to be believed: Theorems states what comes of it.
+pub mod Others
 pub mod Reported
 pub mod Claiming
 pub mod Restoring

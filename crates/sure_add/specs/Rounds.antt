@@ -2,10 +2,11 @@
 -- last one before it. What was under way then is anything.
 use mathlib.Core.Path.{_≡_}
 use mathlib.Core.Logic.{_≢_}
-use mathlib.Core.Bool.{true, false}
+use mathlib.Core.Bool.{Bool, true, false}
 use mathlib.Core.List.{List, []}
 use Prim.Native.Nat.{ℕ, zero, suc, _+_, _%_, _≤_, _<_}
 use lib.ListN.{getD, length}
+use Rattle.ground.specs.Plain.{if_then_else_}
 use Rattle.packet.specs.Kinds.{epochs}
 use Rattle.packet.specs.declared.ruling.Ruling.{Ruling}
 use Rattle.phases.specs.Sizes.{portsIn}
@@ -14,7 +15,7 @@ use Rattle.receiver.specs.Shown.{replyOf}
 use Rattle.receiver.specs.Starting.{startAsAnswer}
 use Rattle.reply.specs.declared.members.Port.{Port}
 use Rattle.reply.specs.Members.{okState, portAt}
-use Rattle.reply.specs.Theorems.States.{standingAt}
+use Rattle.reply.specs.Waiting.{standingAt}
 use Rattle.rows.specs.Group.{groupAt}
 use Rattle.rows.specs.Packets.{marksAt}
 use Rattle.sender.specs.declared.table.Answer.the-variants.{Done}
@@ -38,7 +39,9 @@ pub record Rounds : Type 0 where
   pub slots : ℕ
   -- the table before the add, made by any calls from a start
   pub calls : List Call
-  -- the number of the back packet that is handed at start 1
+  -- whether a back packet is handed at start k + 1 behind the add: none is at start 1 where it was handed before the add
+  pub handed : ℕ → Bool
+  -- the number of that of start 1
   pub first : ℕ
   -- what stands in it, and in those behind it
   pub mst : ℕ → ℕ
@@ -71,10 +74,10 @@ module _ (r : Rounds) where
   abbrev pub numberOf : ℕ → ℕ
   numberOf k = (r .first + k) % epochs (r .kind)
 
-  -- the table at start k, of a slot added: 'no other commands', and a report at each start
+  -- the table at start k, of a slot added: 'no other commands', and what is handed at each start
   unfoldable pub tableOf : ℕ → ℕ → Table
   tableOf slot zero = addOf before slot .table
-  tableOf slot (suc k) = reportOf (tableOf slot k) (numberOf k) (r .mst k) (r .ack k) .table
+  tableOf slot (suc k) = if r .handed k then reportOf (tableOf slot k) (numberOf k) (r .mst k) (r .ack k) .table else tableOf slot k
 
   -- after the report fetched by start k
   abbrev pub reported : ℕ → Receiver
@@ -101,6 +104,7 @@ module _ (r : Rounds) where
     pub next : (k : ℕ) → a + 2 ≤ k → k < until → r .far (suc k) ≡ receiverRun (reported k) (r .between k)
     pub none-between : (k : ℕ) → a + 2 ≤ k → k < until → reportsOf (reported k) (r .between k) ≡ []
     -- back: what is handed at start k + b + 1 is the reply as it was read at start k
+    pub handed-is : (k : ℕ) → a + 2 ≤ k → k + b < until → r .handed (k + b) ≡ true
     pub mst-is : (k : ℕ) → a + 2 ≤ k → k + b < until → r .mst (k + b) ≡ getD (replyOf (reported k .rows) (numberOf (k + b))) 0 0
     -- out: the report by start k + a + 1 takes in what the slot sent in the k-th epoch, from the first that starts after the add on
     pub whole : (k : ℕ) → 1 ≤ k → k + a < until → firstMark (marksAt (r .far (k + a + 1) .rows) port) ≡ true

@@ -1,10 +1,12 @@
 -- 'Then the member is active within 34 + a + b epochs of the add. With a wait-to-restore of r epochs the bound is 34 + a + b + r' (02, 2026-13).
 use mathlib.Core.Path.{_≡_}
 use mathlib.Core.Bool.{true}
-use Prim.Native.Nat.{ℕ, _+_, _≤_, _<_}
+use Prim.Native.Nat.{ℕ, suc, _+_, _≤_, _<_}
 use Rattle.sender.specs.declared.table.Table.{Table}
 use Rattle.sender.specs.Numbering.{stateIn}
 use Rattle.sender.specs.Table.{isActive}
+use Rattle.link.specs.History.{History, hasRank}
+use Rattle.link.specs.Sending.{epochStart}
 
 -- after how many epochs MST has spoken of every number: 'numbers 8 x (e mod 32)' (01, 'The control packet')
 abbrev pub blocks : ℕ → ℕ
@@ -20,3 +22,10 @@ pub record ActiveWithin (table : ℕ → Table) (slot t most : ℕ) : Type 0 whe
   pub after : t < at
   pub within : at ≤ t + most
   pub active : isActive (stateIn (table at) slot) ≡ true
+
+-- the slot carries traffic, having a rank, in all frames of some epoch after t, at most so many after it
+pub record CarriesWithin (h : History) (slot t most : ℕ) : Type 0 where
+  pub epoch : ℕ
+  pub after : t < epoch
+  pub within : epoch ≤ t + most
+  pub carries : (x : ℕ) → epochStart (h .kind) epoch ≤ x → x < epochStart (h .kind) (suc epoch) → hasRank h x slot ≡ true

@@ -5,12 +5,7 @@ use Prim.Native.Nat.{ℕ, _+_, _-_, _*_, _/_, _%_, _≤_, _<_}
 use native.Mathlib.Omega.{arith}
 use Rattle.ground.specs.Truth.{le-or-lt}
 use Rattle.packet.specs.Kinds.{epochs, mstFirst, mstNumbers}
-
--- MST of epoch e speaks of q: it is one of the numbers from the first on
-pub record Spoken (kind e q : ℕ) : Type 0 where
-  pub place : ℕ
-  pub below : place < mstNumbers kind
-  pub is : mstFirst kind e + place ≡ q
+use Rattle.packet.specs.Mst.{Spoken}
 
 pub spoken-or-not : (kind e q : ℕ) → Spoken kind e q ⊎ ((m : ℕ) → m < mstNumbers kind → mstFirst kind e + m ≢ q)
 spoken-or-not kind e q = ⊎-elim from (λ (h : q < mstFirst kind e). inr (λ m l z. omega arith)) (le-or-lt (mstFirst kind e) q)

@@ -8,9 +8,9 @@ use Rattle.reply.specs.declared.members.Port.{Port}
 use Rattle.reply.specs.declared.waiting.Standing.{Standing}
 use Rattle.reply.specs.Laws.Keeping.{Apart, Low}
 use Rattle.reply.specs.Members.{failState, isIdle, okState, portAt}
-use Rattle.reply.specs.Theorems.States.{Told, standingAt, told-apart, told-below}
+use Rattle.reply.specs.Theorems.States.{Told, told-apart, told-below}
 use Rattle.reply.specs.Theorems.Waiting.{Claim, hold-kept, hold-over, restore-over, restore-waits}
-use Rattle.reply.specs.Waiting.{standing}
+use Rattle.reply.specs.Waiting.{standing, standingAt}
 
 -- The ports as each of a row of reports sees them: at each what the one before has left.
 pub record Reports (seen : ℕ → List Port) (n : ℕ) : Type 0 where

@@ -16,11 +16,7 @@ use Rattle.reply.specs.Laws.Claims.{claim-alone, claim-candidate, claim-
 use Rattle.reply.specs.Laws.Keeping.{Apart, KeptBy, Low, kept-by, kept-lost}
 use Rattle.reply.specs.Laws.Members.{candidate-not-idle, left-elapsed, left-not-idle, left-ok}
 use Rattle.reply.specs.Members.{failState, idleState, isIdle, isRestoring, okState, portAt}
-use Rattle.reply.specs.Waiting.{chosenOf, hasClaim, keptNumbers, keepsNumber, noStanding, standing, standingBy, standingsOf, withClaim, withoutClaim}
-
--- what a report leaves of port i
-abbrev pub standingAt : List Port → ℕ → ℕ → Standing
-standingAt ports n i = getD (standingsOf ports n) i noStanding
+use Rattle.reply.specs.Waiting.{chosenOf, hasClaim, keptNumbers, keepsNumber, noStanding, standing, standingAt, standingBy, standingsOf, withClaim, withoutClaim}
 
 pub standing-is : (ports : List Port) (n i : ℕ) → n ≤ 64 → i < n → standingAt ports n i ≡ standingBy (chosenOf ports n) i (portAt ports i)
 unfolding standingsOf

@@ -15,8 +15,8 @@ use Rattle.reply.specs.Laws.Claims.{claim-own, left-claim, with-rested}
 use Rattle.reply.specs.Laws.Keeping.{all-free, rounds-still}
 use Rattle.reply.specs.Laws.Members.{candidate-not-idle, left-not-idle}
 use Rattle.reply.specs.Members.{hasHoldOff, isCandidate, isIdle, isRestoring, okState, portAt}
-use Rattle.reply.specs.Theorems.States.{standing-is, standingAt}
-use Rattle.reply.specs.Waiting.{chosenOf, hasClaim, joinsKept, keptNumbers, mustKeep, someJoin, standing}
+use Rattle.reply.specs.Theorems.States.{standing-is}
+use Rattle.reply.specs.Waiting.{chosenOf, hasClaim, joinsKept, keptNumbers, mustKeep, someJoin, standing, standingAt}
 
 pub record Undisputed (ports : List Port) (n : ℕ) : Type 0 where
   pub candidate : (i : ℕ) → i < n → isIdle (portAt ports i) ≡ false → isCandidate (portAt ports i) ≡ true

@@ -15,8 +15,8 @@ use Rattle.reply.specs.Laws.Claims.{claim-alone, claim-candidate, claim-
 use Rattle.reply.specs.Laws.Keeping.{Apart, Low, is-kept, keeps-own, kept-by}
 use Rattle.reply.specs.Laws.Members.{candidate-not-idle, has-left, ok-rested, rested, restoring, restoring-fail, restoring-left, was-number, was-state}
 use Rattle.reply.specs.Members.{failState, idleState, isCandidate, isIdle, isRestoring, okState, portAt, wasOk}
-use Rattle.reply.specs.Theorems.States.{OkUnder, ok-after, ok-apart, ok-holds, standing-is, standingAt}
-use Rattle.reply.specs.Waiting.{chosenOf, hasClaim, keptNumbers, keepsNumber, standing, standingBy, withClaim, withoutClaim}
+use Rattle.reply.specs.Theorems.States.{OkUnder, ok-after, ok-apart, ok-holds, standing-is}
+use Rattle.reply.specs.Waiting.{chosenOf, hasClaim, keepsNumber, keptNumbers, standing, standingAt, standingBy, withClaim, withoutClaim}
 
 -- the claim of port i at a report: it is a candidate, and no other port is OK under its number afterwards
 pub record Claim (ports : List Port) (n i : ℕ) : Type 0 where

@@ -18,8 +18,8 @@ use Rattle.reply.specs.Laws.Granting.{granted-ext}
 use Rattle.reply.specs.Laws.Keeping.{rounds-still}
 use Rattle.reply.specs.Laws.Members.{left-elapsed, rested}
 use Rattle.reply.specs.Members.{failState, hasHoldOff, idleState, isCandidate, isIdle, isRestoring, okState, portAt, wasOk}
-use Rattle.reply.specs.Theorems.States.{claim-has, standing-is, standingAt}
-use Rattle.reply.specs.Waiting.{chosenOf, hasClaim, keptNumbers, joinsKept, mustKeep, someJoin, standingBy}
+use Rattle.reply.specs.Theorems.States.{claim-has, standing-is}
+use Rattle.reply.specs.Waiting.{chosenOf, hasClaim, joinsKept, keptNumbers, mustKeep, someJoin, standingAt, standingBy}
 use Rattle.reply.specs.Zero.{plainClaims, plainHolders, stateBy, statesOf}
 
 -- no port has a time

@@ -18,7 +18,8 @@ use Rattle.counting.specs.Laws.Ranks.{full-below}
 use Rattle.counting.specs.Laws.Tests.{some-none}
 use Rattle.counting.specs.Words.{count}
 use Rattle.packet.specs.Kinds.{mstFails, mstFirst, mstNumbers}
-use Rattle.packet.specs.Laws.Mst.{Spoken, spoken-or-not}
+use Rattle.packet.specs.Laws.Mst.{spoken-or-not}
+use Rattle.packet.specs.Mst.{Spoken}
 use Rattle.sender.specs.declared.finding.Found.{Found}
 use Rattle.sender.specs.declared.finding.Found.the-variants.{At, Nothing}
 use Rattle.sender.specs.declared.table.Answer.the-variants.{Done, NoSlot, NotAllowed, WaitOpen}

@@ -11,9 +11,9 @@ use Rattle.reply.specs.Laws.Claims.{left-claim}
 use Rattle.reply.specs.Laws.Keeping.{Apart}
 use Rattle.reply.specs.Laws.Members.{candidate-not-idle}
 use Rattle.reply.specs.Members.{isCandidate, portAt}
-use Rattle.reply.specs.Theorems.States.{Holder, standing-is, standingAt}
+use Rattle.reply.specs.Theorems.States.{Holder, standing-is}
 use Rattle.reply.specs.Theorems.Waiting.{Claim, Other, claim-is, claim-or-not, really-lost, restore-over}
-use Rattle.reply.specs.Waiting.{chosenOf, withClaim}
+use Rattle.reply.specs.Waiting.{chosenOf, standingAt, withClaim}
 
 module _ (ports : List Port) (n : ℕ) (small : n ≤ 64) (apart : Apart ports n) (i : ℕ) (b : i < n) where
   abbrev p : Port

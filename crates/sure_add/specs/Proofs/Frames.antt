@@ -7,31 +7,33 @@ use mathlib.Core.List.{List, [], _∷_, _++_}
 use Prim.Native.Nat.{ℕ, zero, suc, _+_, _-_, _*_, _/_, _%_, _≤_, _<_}
 use native.Mathlib.Omega.{arith}
 use lib.Dec.{eqb, leb}
-use lib.ListN.{getD, length}
+use lib.ListN.{getD, length, length-append}
 use borrow.Author.Tests.{eq-eqb, le-leb}
 use Rattle.ground.specs.Table.{length-tabulate}
-use Rattle.ground.specs.Truth.{and-true, eq-or-ne, fails}
+use Rattle.ground.specs.Truth.{and-true, eq-or-ne}
 use Rattle.counting.specs.Laws.Tests.{some-at}
 use Rattle.packet.specs.Kinds.{epochs, mstFails}
-use Rattle.packet.specs.Laws.Mst.{Spoken, SpokenSoon, spoken-soon}
+use Rattle.packet.specs.Laws.Mst.{SpokenSoon, spoken-soon}
+use Rattle.packet.specs.Mst.{Spoken}
 use Rattle.packet.specs.Reading.{readAnswer}
 use Rattle.receiver.specs.Shown.{replyOf}
 use Rattle.sender.specs.declared.table.State.the-variants.{Active}
 use Rattle.sender.specs.declared.table.Table.{Table}
-use Rattle.sender.specs.Calls.{Call, run}
+use Rattle.sender.specs.Calls.{Call, outcomeOf, run}
 use Rattle.sender.specs.Calls.Call.{AddSlot, Report}
 use Rattle.sender.specs.Commands.{addOf}
-use Rattle.sender.specs.Laws.Kept.{Sound, group-call}
-use Rattle.sender.specs.Laws.Speaking.{BecomesActive, Pending, acts, added-other, added-pending, active-or-pending, report-may, pending-low}
+use Rattle.sender.specs.Laws.Kept.{Sound, group-call, sound-run}
+use Rattle.sender.specs.Laws.Speaking.{BecomesActive, Pending, acts, added-pending, active-or-pending, pending-low}
 use Rattle.sender.specs.Numbering.{numberIn, slotsIn, stateIn}
 use Rattle.sender.specs.Reports.{reportOf}
-use Rattle.sender.specs.Table.{isActive, isAdd, isMember, sizeOf}
+use Rattle.sender.specs.Table.{isActive, isMember, sizeOf}
 use Rattle.link.specs.Demand3.{Reported, Started, Time, ownRun, standing}
 use Rattle.link.specs.History.{Allowed, History, fieldsSent, packetSent, senderAt}
 use Rattle.link.specs.Assumed.{Assumed}
 use Rattle.link.specs.Link.{Link, epochFrames, expected, kindOf, roadOf}
 use Rattle.link.specs.Moments.{coming, reached}
 use Rattle.link.specs.Proofs.Fair.{Fair}
+use Rattle.link.specs.Proofs.Histories.Carried.{carries-next}
 use Rattle.link.specs.Proofs.Histories.Ours.{ours}
 use Rattle.link.specs.Proofs.Histories.Packets.{packet-epoch}
 use Rattle.link.specs.Proofs.Histories.Senders.{sender-at-sound, sender-in, size-at}
@@ -46,9 +48,10 @@ use Rattle.link.specs.Road.{L}
 use Rattle.link.specs.Running.{Moment, hasBegun}
 use Rattle.link.specs.Sending.{Sending, epochNumber}
 use Rattle.sure_add.specs.AsSent.{AsSent, hasHolder}
-use Rattle.sure_add.specs.Joined.{Adding, Joined, atStart, reportBy, tableAt}
-use Rattle.sure_add.specs.Proofs.Undamaged.{AsTable, from-start, heard-last, mst-table}
-use Rattle.sure_add.specs.Within.{ActiveWithin, bound}
+use Rattle.sure_add.specs.Joined.{Adding, Joined, atStart, comeBack, reportBy, tableAt}
+use Rattle.sure_add.specs.Proofs.Others.{NoOther, none-added, none-told}
+use Rattle.sure_add.specs.Proofs.Undamaged.{AsTable, empty, from-start, heard-last, mst-table}
+use Rattle.sure_add.specs.Within.{ActiveWithin, CarriesWithin, bound}
 
 -- After each report MST says OK of exactly the numbers that are held in its epoch.
 module _ (k : Link) (a : Assumed k) (as-sent : AsSent k) (m₀ : Moment) (o : Started k m₀) where
@@ -81,21 +84,30 @@ report-at h al i slot b =
     ∙ ap (λ (m : ℕ). Report (epochNumber (h .kind) (h .first) i) m (fieldsSent h i slot .«rs_ack») ∷ []) (mst-at h al i slot)
     ∙ ap (λ (c : ℕ). Report (epochNumber (h .kind) (h .first) i) (h .mst i) c ∷ []) (ack-at h al i slot)
 
+-- of a list that is at most one long all stands behind a place in it, or nothing
+behind : (xs ys zs : List Call) → xs ++ ys ≡ zs → length zs ≤ 1 → (ys ≡ zs) ⊎ (ys ≡ [])
+behind [] ys zs e l = inl e
+behind (x ∷ xs) ys zs e l = inr (empty ys (let n : suc (length (xs ++ ys)) ≡ length zs = ap length e in let m = length-append xs ys in omega arith))
+
+run-then : (t : Table) (xs ys : List Call) → run t (xs ++ ys) ≡ run (run t xs) ys
+run-then t [] ys = refl
+run-then t (c ∷ xs) ys = run-then (outcomeOf t c .table) xs ys
+
+count-run : (t : Table) (cs : List Call) → run t cs .count ≡ t .count
+count-run t [] = refl
+count-run t (c ∷ cs) = count-run (outcomeOf t c .table) cs ∙ group-call t c .count
+
 -- our slot is ADD, and no other
 record Lone (t : Table) (i q : ℕ) : Type 0 where
   pending : Pending t i q
-  none : (j : ℕ) → j < slotsIn t → j ≢ i → isAdd (stateIn t j) ≡ false
+  none : NoOther i t
 
 -- a report leaves it so or makes it active
 told : (t : Table) (i q : ℕ) → Lone t i q → (e mst ack : ℕ) → (stateIn (reportOf t e mst ack .table) i ≡ Active) ⊎ Lone (reportOf t e mst ack .table) i q
 told t i q l e mst ack =
-    ⊎-elim (λ (c : BecomesActive t i q e mst (reportOf t e mst ack .table)). inl (c .active)) (λ (w : Pending (reportOf t e mst ack .table) i q). inr (record { pending = w; none = none-after }))
+    ⊎-elim (λ (c : BecomesActive t i q e mst (reportOf t e mst ack .table)). inl (c .active))
+    (λ (w : Pending (reportOf t e mst ack .table) i q). inr (record { pending = w; none = none-told i t (l .pending .sound) (l .none) e mst ack }))
     (active-or-pending t i q (l .pending) e mst ack (λ j h d x. absurd (true≢false (sym x ∙ l .none j h d))))
-  where
-    none-after : (j : ℕ) → j < slotsIn (reportOf t e mst ack .table) → j ≢ i → isAdd (stateIn (reportOf t e mst ack .table) j) ≡ false
-    none-after j h d =
-        let b : j < slotsIn t = rw (ap sizeOf (group-call t (Report e mst ack) .count)) at h in
-        fails (isAdd (stateIn (reportOf t e mst ack .table) j)) (λ x. true≢false (sym (report-may t (l .pending .sound) e mst ack j b .add x) ∙ l .none j b d))
 
 module _ (k : Link) (m₀ : Moment) (a b slot t : ℕ) (j : Joined k m₀ a b (t + bound (kindOf k) a b 0)) (add : Adding k m₀ a b (t + bound (kindOf k) a b 0) j slot t) where
   abbrev h : History
@@ -117,21 +129,24 @@ module _ (k : Link) (m₀ : Moment) (a b slot t : ℕ) (j : Joined k m₀ a b (t
   unfolding bound
   until-is = omega arith
 
-  -- the table just after the add
+  -- the table that the add finds, and leaves
+  abbrev found : Table
+  found = run (tab t) (add .earlier)
+
   abbrev new : Table
-  new = addOf (tab t) slot .table
+  new = addOf found slot .table
 
   abbrev q : ℕ
   q = numberIn new slot
 
-  sound-at : Sound (tab t)
-  sound-at = sender-at-sound h t .table
+  sound-at : Sound found
+  sound-at = sound-run (tab t) (add .earlier) (sender-at-sound h t .table)
 
   lone-first : Lone new slot q
   lone-first =
       record {
-        pending = added-pending (tab t) slot sound-at (add .accepted);
-        none = λ i l d. ap isAdd (added-other (tab t) slot sound-at (add .accepted) i d) ∙ add .settled i (rw (ap sizeOf (group-call (tab t) (AddSlot slot) .count)) at l) d;
+        pending = added-pending found slot sound-at (add .accepted);
+        none = none-added slot found sound-at (add .settled) (add .accepted);
       }
 
   low : q < 64
@@ -139,7 +154,7 @@ module _ (k : Link) (m₀ : Moment) (a b slot t : ℕ) (j : Joined k m₀ a b (t
 
   -- what is handed at a start
   abbrev rep : ℕ → List Call
-  rep u = cond (leb (b + 1) u) (reportBy (readAnswer (packetSent (j .back) (u - (b + 1)) (j .from)))) []
+  rep u = comeBack j u
 
   abbrev Out : Table → Type 0
   Out v = (stateIn v slot ≡ Active) ⊎ Lone v slot q
@@ -153,14 +168,22 @@ module _ (k : Link) (m₀ : Moment) (a b slot t : ℕ) (j : Joined k m₀ a b (t
           subst (λ (cs : List Call). Out (run v cs)) (sym (report-at (j .back) (j .back-allowed) (u - (b + 1)) (j .from) (j .from-below)))
           (told v slot q l (number (u - (b + 1))) (j .back .mst (u - (b + 1))) (j .back .ack (u - (b + 1))))
 
-  tab-first : tab (suc t) ≡ run new (rep (suc t))
-  tab-first =
-      let m = until-is in
-      table-next h al t ∙ ap (λ (cs : List Call). run (tab t) cs) (j .handed (suc t) (omega arith) ∙ ap (λ (cs : List Call). cs ++ rep (suc t)) (add .command))
+  -- behind the add that report, or nothing
+  after-add : Out (run new (add .later))
+  after-add =
+      ⊎-elim (λ (e : add .later ≡ rep (suc t)). subst (λ (cs : List Call). Out (run new cs)) (sym e) (after-rep new lone-first (suc t)))
+      (λ (e : add .later ≡ []). subst (λ (cs : List Call). Out (run new cs)) (sym e) (inr lone-first))
+      (behind (add .earlier) (add .later) (rep (suc t)) (add .one-report) (one (leb (b + 1) (suc t))))
+    where
+      one : (c : Bool) → length (cond c (reportBy (readAnswer (packetSent (j .back) (suc t - (b + 1)) (j .from)))) []) ≤ 1
+      one false = omega arith
+      one true = let e = ap length (report-at (j .back) (j .back-allowed) (suc t - (b + 1)) (j .from) (j .from-below)) in omega arith
+
+  tab-first : tab (suc t) ≡ run new (add .later)
+  tab-first = table-next h al t ∙ ap (λ (cs : List Call). run (tab t) cs) (add .command) ∙ run-then (tab t) (add .earlier) (AddSlot slot ∷ add .later)
 
   tab-next : (u : ℕ) → suc t ≤ u → suc u ≤ until → tab (suc u) ≡ run (tab u) (rep (suc u))
-  tab-next u from l =
-      table-next h al u ∙ ap (λ (cs : List Call). run (tab u) cs) (j .handed (suc u) l ∙ ap (λ (cs : List Call). cs ++ rep (suc u)) (add .no-other (suc u) (omega arith) l))
+  tab-next u from l = table-next h al u ∙ ap (λ (cs : List Call). run (tab u) cs) (add .no-other (suc u) (omega arith) l)
 
   -- active at a start up to u, or waiting at every start from t + 1 to u
   abbrev Come : ℕ → Type 0
@@ -169,11 +192,11 @@ module _ (k : Link) (m₀ : Moment) (a b slot t : ℕ) (j : Joined k m₀ a b (t
   far-as : (n : ℕ) → suc t + n ≤ until → Come (suc n) ⊎ ((i : ℕ) → suc t ≤ i → i ≤ suc t + n → Lone (tab i) slot q)
   far-as zero l =
       ⊎-elim
-      (λ (x : stateIn (run new (rep (suc t))) slot ≡ Active).
+      (λ (x : stateIn (run new (add .later)) slot ≡ Active).
       inl (record { at = suc t; after = omega arith; within = omega arith; active = ap (λ (v : Table). isActive (stateIn v slot)) tab-first ∙ ap isActive x }))
-      (λ (x : Lone (run new (rep (suc t))) slot q).
+      (λ (x : Lone (run new (add .later)) slot q).
       inr (λ i lo hi. let z : suc t ≡ i = omega arith in subst (λ (n : ℕ). Lone (tab n) slot q) z (subst (λ (v : Table). Lone v slot q) (sym tab-first) x)))
-      (after-rep new lone-first (suc t))
+      after-add
   far-as (suc n) l =
       ⊎-elim (λ (c : Come (suc n)). inl (record { at = c .at; after = c .after; within = let w = c .within in omega arith; active = c .active }))
       (λ (w : (i : ℕ) → suc t ≤ i → i ≤ suc t + n → Lone (tab i) slot q). on w)
@@ -266,3 +289,18 @@ module _ (k : Link) (m₀ : Moment) (a b slot t : ℕ) (j : Joined k m₀ a b (t
       (λ (w : (i : ℕ) → suc t ≤ i → i ≤ suc t + (a + 1 + soon .after + b) → Lone (tab i) slot q).
       record { at = suc (told-at + b); after = omega arith; within = omega arith; active = ap isActive (acted (λ i lo hi. w i lo (omega arith))) })
       (far-as (a + 1 + soon .after + b) (omega arith))
+
+  -- and carries traffic in the next epoch
+  slot-below : (u : ℕ) → slot < slotsIn (tab u)
+  slot-below u =
+      subst (λ (n : ℕ). slot < n) (ap sizeOf (group-call found (AddSlot slot) .count) ∙ ap sizeOf (count-run (tab t) (add .earlier)) ∙ size-at h al t ∙ sym (size-at h al u)) (lone-first .pending .below)
+
+  pub carries : CarriesWithin (j .out .history) slot t (bound (kindOf k) a b 0 + 1)
+  carries =
+      let w = joins in
+      record {
+        epoch = suc (w .at);
+        after = let l = w .after in omega arith;
+        within = let l = w .within in omega arith;
+        carries = carries-next h al (w .at) slot (slot-below (w .at)) (w .active);
+      }

@@ -2,7 +2,7 @@
 -- The idea: at each report from that of the first ADD on the port is a candidate under the slot's number, so after its wait-to-restore an OK port holds that number, and the reply says so; until one has come back the slot stays ADD under its number, since no other ADD becomes active.
 use mathlib.Core.Path.{_≡_, refl, sym, ap, subst, _∙_}
 use mathlib.Core.Logic.{_⊎_, inl, inr, ⊎-elim, _≢_}
-use mathlib.Core.Bool.{Bool, true, false, not, _&&_}
+use mathlib.Core.Bool.{Bool, true, false, cond, not, _&&_}
 use mathlib.Core.List.{List}
 use Prim.Native.Nat.{ℕ, zero, suc, _+_, _-_, _%_, _≤_, _<_}
 use native.Mathlib.Omega.{arith}
@@ -12,7 +12,8 @@ use borrow.Author.Tests.{eq-eqb, eqb-true, lt-ltb}
 use Rattle.ground.specs.Truth.{and-left, and-right, and-true, eq-or-ne}
 use Rattle.counting.specs.Laws.Tests.{some-at, some-one}
 use Rattle.packet.specs.Kinds.{epochs, fixedKind, mstFails}
-use Rattle.packet.specs.Laws.Mst.{Spoken, SpokenSoon, spoken-soon}
+use Rattle.packet.specs.Laws.Mst.{SpokenSoon, spoken-soon}
+use Rattle.packet.specs.Mst.{Spoken}
 use Rattle.packet.specs.Words.{ADD}
 use Rattle.phases.specs.Laws.Sizes.{SameSizes}
 use Rattle.phases.specs.Sizes.{portsIn}
@@ -22,8 +23,8 @@ use Rattle.reply.specs.declared.waiting.Standing.{Standing}
 use Rattle.reply.specs.Laws.Keeping.{Apart}
 use Rattle.reply.specs.Members.{isCandidate, okState}
 use Rattle.reply.specs.Members as R
-use Rattle.reply.specs.Theorems.States.{Holder, standingAt}
-use Rattle.reply.specs.Waiting.{standing, withClaim}
+use Rattle.reply.specs.Theorems.States.{Holder}
+use Rattle.reply.specs.Waiting.{standing, standingAt, withClaim}
 use Rattle.rows.specs.declared.group.Group.{Group}
 use Rattle.rows.specs.declared.member.Member.{Member}
 use Rattle.rows.specs.Group.{groupAt}
@@ -66,7 +67,7 @@ unfolding portsIn
 ports-same g h s = rw (s .kind, s .count, s .payload, s .window) refl
 
 -- of rows that calls have made
-kept-few : (s : List (List ℕ)) → Kept s → portsIn (groupAt s) ≤ 64
+pub kept-few : (s : List (List ℕ)) → Kept s → portsIn (groupAt s) ≤ 64
 kept-few s k =
     let f = sizes-of (groupAt s .kind) (groupAt s .count) (groupAt s .payload) (groupAt s .window) (k .lasting .group .sizes) .few-ports in
     let c = ports-are (groupAt s) (k .lasting .group .sizes) in
@@ -78,6 +79,16 @@ kept-rows s k = rw (ports-are (groupAt s) (k .lasting .group .sizes)) (let l = k
 word-add : (t : Table) (i : ℕ) → i < slotsIn t → stateIn t i ≡ Add → rowAt (boardOf t .rows) i .word .0 ≡ ADD
 unfolding rowOf
 word-add t i h e = ap (λ (w : Row). w .word .0) (board-row t i h) ∙ ap (λ (s : State). wordOf s (highest (t .slots) (slotsIn t) (numberIn t i)) .0) e
+
+-- what a report keeps holds of the table at every start
+pub along : (r : Rounds) (slot : ℕ) (P : Table → Type 0) → ((t : Table) (e mst ack : ℕ) → P t → P (reportOf t e mst ack .table)) → P (tableOf r slot 0) → (k : ℕ) → P (tableOf r slot k)
+unfolding tableOf
+along r slot P keeps first zero = first
+along r slot P keeps first (suc k) = go (r .handed k) (along r slot P keeps first k)
+  where
+    go : (c : Bool) → P (tableOf r slot k) → P (cond c (reportOf (tableOf r slot k) (numberOf r k) (r .mst k) (r .ack k) .table) (tableOf r slot k))
+    go true so = keeps (tableOf r slot k) (numberOf r k) (r .mst k) (r .ack k) so
+    go false so = so
 
 module _ (r : Rounds) (a b slot port restore : ℕ) (lcas : eqb (r .kind) fixedKind ≡ false) (path : Path r a b slot port (bound (r .kind) a b restore)) (asked : Asked r a slot port restore (bound (r .kind) a b restore)) where
   abbrev table : ℕ → Table
@@ -102,27 +113,45 @@ module _ (r : Rounds) (a b slot port restore : ℕ) (lcas : eqb (r .kind) fixedK
   low : q < 64
   low = pending-low (table 0) slot q pending-first
 
-  next-is : (k : ℕ) → table (suc k) ≡ reportOf (table k) (numberOf r k) (r .mst k) (r .ack k) .table
+  next-is : (k : ℕ) → r .handed k ≡ true → table (suc k) ≡ reportOf (table k) (numberOf r k) (r .mst k) (r .ack k) .table
   unfolding tableOf
-  next-is k = refl
+  next-is k c = rw c refl
 
-  step : (k : ℕ) → k < most → Pending (table k) slot q → BecomesActive (table k) slot q (numberOf r k) (r .mst k) (table (suc k)) ⊎ Pending (table (suc k)) slot q
+  next-none : (k : ℕ) → r .handed k ≡ false → table (suc k) ≡ table k
   unfolding tableOf
-  step k in-time w = active-or-pending (table k) slot q w (numberOf r k) (r .mst k) (r .ack k) (λ j h d x. asked .settled k j in-time h d x)
+  next-none k c = rw c refl
+
+  -- by what is handed at a start
+  record Becomes (k : ℕ) : Type 0 where
+    given : r .handed k ≡ true
+    comes : BecomesActive (table k) slot q (numberOf r k) (r .mst k) (table (suc k))
+
+  step : (k : ℕ) → k < most → Pending (table k) slot q → Becomes k ⊎ Pending (table (suc k)) slot q
+  step k in-time w = go (r .handed k) refl
+    where
+      go : (c : Bool) → r .handed k ≡ c → Becomes k ⊎ Pending (table (suc k)) slot q
+      go false c = inr (subst (λ (v : Table). Pending v slot q) (sym (next-none k c)) w)
+      go true c =
+          ⊎-elim
+          (λ (x : BecomesActive (table k) slot q (numberOf r k) (r .mst k) (reportOf (table k) (numberOf r k) (r .mst k) (r .ack k) .table)).
+          inl (record { given = c; comes = subst (BecomesActive (table k) slot q (numberOf r k) (r .mst k)) (sym (next-is k c)) x }))
+          (λ (x : Pending (reportOf (table k) (numberOf r k) (r .mst k) (r .ack k) .table) slot q). inr (subst (λ (v : Table). Pending v slot q) (sym (next-is k c)) x))
+          (active-or-pending (table k) slot q w (numberOf r k) (r .mst k) (r .ack k) (λ j h d x. ap (λ (v : Table). isActive (stateIn v j)) (sym (next-is k c)) ∙ asked .settled k j in-time h d x))
 
   -- it is ADD at every start up to `last`, and active at the next
   pub record Come (k : ℕ) : Type 0 where
     pub last : ℕ
     pub by : suc last ≤ k
+    pub given : r .handed last ≡ true
     pub pending : (j : ℕ) → j ≤ last → Pending (table j) slot q
     pub comes : BecomesActive (table last) slot q (numberOf r last) (r .mst last) (table (suc last))
 
   far-as : (k : ℕ) → k ≤ most → Come k ⊎ ((j : ℕ) → j ≤ k → Pending (table j) slot q)
   far-as zero l = inr (λ j h. let e : j ≡ 0 = omega arith in rw e pending-first)
   far-as (suc k) l =
-      ⊎-elim (λ (c : Come k). inl (record { last = c .last; by = let w = c .by in omega arith; pending = c .pending; comes = c .comes }))
+      ⊎-elim (λ (c : Come k). inl (record { last = c .last; by = let w = c .by in omega arith; given = c .given; pending = c .pending; comes = c .comes }))
       (λ (w : (j : ℕ) → j ≤ k → Pending (table j) slot q).
-      ⊎-elim (λ (c : BecomesActive (table k) slot q (numberOf r k) (r .mst k) (table (suc k))). inl (record { last = k; by = omega arith; pending = w; comes = c }))
+      ⊎-elim (λ (c : Becomes k). inl (record { last = k; by = omega arith; given = c .given; pending = w; comes = c .comes }))
       (λ (n : Pending (table (suc k)) slot q). inr (λ j h. ⊎-elim (λ (e : j ≡ suc k). rw e n) (λ (d : j ≢ suc k). w j (omega arith)) (eq-or-ne j (suc k))))
       (step k (omega arith) (w k (omega arith))))
       (far-as k (omega arith))
@@ -339,25 +368,28 @@ module _ (r : Rounds) (a b slot port restore : ℕ) (lcas : eqb (r .kind) fixedK
 
   pub kind-of : (k : ℕ) → table k .kind ≡ r .kind
   unfolding tableOf
-  kind-of zero = group-call (before r) (AddSlot slot) .kind ∙ kind-run (startOf (r .kind) (r .slots) .table) (r .calls) ∙ start-kind (r .kind) (r .slots)
-  kind-of (suc k) = group-call (table k) (Report (numberOf r k) (r .mst k) (r .ack k)) .kind ∙ kind-of k
+  kind-of k =
+      along r slot (λ (t : Table). t .kind ≡ r .kind) (λ t e mst ack is. group-call t (Report e mst ack) .kind ∙ is)
+      (group-call (before r) (AddSlot slot) .kind ∙ kind-run (startOf (r .kind) (r .slots) .table) (r .calls) ∙ start-kind (r .kind) (r .slots)) k
 
   pub come : Come most
   come =
       let m = most-is in
       let n = soon .soon in
-      ⊎-elim (λ (c : Come (told-at + b)). record { last = c .last; by = let w = c .by in omega arith; pending = c .pending; comes = c .comes })
+      ⊎-elim (λ (c : Come (told-at + b)). record { last = c .last; by = let w = c .by in omega arith; given = c .given; pending = c .pending; comes = c .comes })
       (λ (w : (j : ℕ) → j ≤ told-at + b → Pending (table j) slot q).
       let h : ℕ = told-at + b in
       let ok : mstFails (r .mst h) q ≡ false =
       mst-then told-at (omega arith) (omega arith) (omega arith) (numberOf r h) q refl spoken-then
       ∙ ap not (ok-holder told-at (omega arith) (omega arith) q (holder-from h w told-at (omega arith) (omega arith) (omega arith))) in
+      let given : r .handed h ≡ true = path .handed-is told-at (omega arith) (omega arith) in
       let sp : Spoken (table h .kind) (numberOf r h) q = subst (λ (n : ℕ). Spoken n (numberOf r h) q) (sym (kind-of h)) spoken-then in
       record {
         last = h;
         by = omega arith;
+        given = given;
         pending = w;
-        comes = record { active = ap (λ (t : Table). stateIn t slot) (next-is h) ∙ acts (table h) slot q (w h (omega arith)) (numberOf r h) (r .mst h) (r .ack h) sp ok; spoken = sp; ok = ok };
+        comes = record { active = ap (λ (t : Table). stateIn t slot) (next-is h given) ∙ acts (table h) slot q (w h (omega arith)) (numberOf r h) (r .mst h) (r .ack h) sp ok; spoken = sp; ok = ok };
       })
       (far-as (told-at + b) (omega arith))
 

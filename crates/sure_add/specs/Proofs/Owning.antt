@@ -8,9 +8,10 @@ use lib.Dec.{eqb}
 use borrow.Author.Tests.{not-false}
 use Rattle.ground.specs.Truth.{eq-or-ne, le-or-lt}
 use Rattle.packet.specs.Kinds.{fixedKind, mstFails}
-use Rattle.packet.specs.Laws.Mst.{Spoken}
+use Rattle.packet.specs.Mst.{Spoken}
 use Rattle.reply.specs.Members.{okState}
-use Rattle.reply.specs.Theorems.States.{Holder, standingAt}
+use Rattle.reply.specs.Theorems.States.{Holder}
+use Rattle.reply.specs.Waiting.{standingAt}
 use Rattle.sender.specs.Table.{isActive}
 use Rattle.sure_add.specs.Own.{OwnOk, NumberFree, own}
 use Rattle.sure_add.specs.Proofs.Over.{Come, come, holder-ok, kind-of, mst-then}
@@ -31,7 +32,7 @@ module _ (r : Rounds) (a b slot port restore : ℕ) (lcas : eqb (r .kind) fixedK
   -- it was none that was under way
   late : a + 2 + b ≤ c .last
   late =
-      ⊎-elim (λ (h : a + 2 + b ≤ c .last). h) (λ (h : c .last < a + 2 + b). absurd (true≢false (sym (o .none-under-way (c .last) h spoken) ∙ c .comes .ok))) (le-or-lt (a + 2 + b) (c .last))
+      ⊎-elim (λ (h : a + 2 + b ≤ c .last). h) (λ (h : c .last < a + 2 + b). absurd (true≢false (sym (o .none-under-way (c .last) h (c .given) spoken) ∙ c .comes .ok))) (le-or-lt (a + 2 + b) (c .last))
 
   abbrev k : ℕ
   k = c .last - b

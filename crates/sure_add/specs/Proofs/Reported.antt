@@ -9,7 +9,7 @@ use Rattle.counting.specs.Laws.Tests.{some-ext}
 use Rattle.counting.specs.Words.{some}
 use Rattle.packet.specs.declared.ruling.Ruling.{Ruling}
 use Rattle.packet.specs.Kinds.{fixedKind, mstFails, mstFirst, mstNumbers}
-use Rattle.packet.specs.Laws.Mst.{Spoken}
+use Rattle.packet.specs.Mst.{Spoken}
 use Rattle.phases.specs.Laws.Passed.{passed-of-port}
 use Rattle.phases.specs.Passing.{notedBy}
 use Rattle.phases.specs.Sizes.{portsIn}
@@ -23,7 +23,7 @@ use Rattle.reply.specs.Members.{okState}
 use Rattle.reply.specs.Members as R
 use Rattle.reply.specs.Telling.{okHolds}
 use Rattle.reply.specs.Theorems.Mst.{mst-says}
-use Rattle.reply.specs.Theorems.States.{standingAt}
+use Rattle.reply.specs.Waiting.{standingAt}
 use Rattle.rows.specs.declared.group.Group.{Group}
 use Rattle.rows.specs.declared.member.Member.{Member}
 use Rattle.rows.specs.Group.{groupAt}

@@ -16,7 +16,7 @@ use Rattle.counting.specs.Laws.Tests.{some-at, some-one}
 use Rattle.counting.specs.Words.{some}
 use Rattle.packet.specs.declared.ruling.Ruling.{Ruling}
 use Rattle.packet.specs.Kinds.{epochOf, fixedKind, mstFails}
-use Rattle.packet.specs.Laws.Mst.{Spoken}
+use Rattle.packet.specs.Mst.{Spoken}
 use Rattle.packet.specs.Symbols.{packetRow}
 use Rattle.packet.specs.Theorems.Tags.{first-of}
 use Rattle.packet.specs.Words.{IDLE}
@@ -32,7 +32,7 @@ use Rattle.reply.specs.declared.members.Port.{Port as ReplyPort}
 use Rattle.reply.specs.declared.waiting.Standing.{Standing}
 use Rattle.reply.specs.Members.{failState, idleState, isIdle, okState}
 use Rattle.reply.specs.Members as R
-use Rattle.reply.specs.Theorems.States.{standingAt}
+use Rattle.reply.specs.Waiting.{standingAt}
 use Rattle.reply.specs.Theorems.Undisputed.{Undisputed, ok-at-once}
 use Rattle.reply.specs.Theorems.Waiting.{idle-at-once}
 use Rattle.rows.specs.declared.group.Group.{Group}
@@ -84,11 +84,10 @@ use Rattle.link.specs.Proofs.Transport.Times.{CallsDo, along}
 use Rattle.link.specs.Road.{L, Road}
 use Rattle.link.specs.Running.{Moment, fetched, framed, fresh, lentAt, outputAt}
 use Rattle.link.specs.Sending.{Reached, Sending, epochNumber}
-use Rattle.link.specs.Told.{Told}
 use Rattle.sure_add.specs.AsSent.{AsSent, hasHolder}
 use Rattle.sure_add.specs.Proofs.Reported.{left-state, left-under, mst-in, okIn, seen-number, seen-state, seen-word, sees}
 
-empty : (l : List Told) → length l ≡ 0 → l ≡ []
+pub empty : {A : Type 0} (l : List A) → length l ≡ 0 → l ≡ []
 empty [] e = refl
 empty (x ∷ l) e = absurd (omega arith)
 

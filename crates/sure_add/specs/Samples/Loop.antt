@@ -1,9 +1,9 @@
 -- The loop by epochs, on the definitions of sender and reply: what each slot sends, what each port hears a epochs later, the states and the reply that come of it, and the report that is handed b epochs later. For rows and wrong readings.
-use mathlib.Core.Bool.{Bool, cond}
+use mathlib.Core.Bool.{Bool, true, _&&_}
 use mathlib.Core.List.{List, [], _∷_}
 use Prim.Native.Nat.{ℕ, zero, suc, _+_, _-_, _%_}
-use lib.Dec.{leb}
 use lib.ListN.{getD}
+use Rattle.ground.specs.Plain.{if_then_else_, _==_}
 use Rattle.ground.specs.Table.{tabulate}
 use Rattle.receiver.specs.Starting.{timeOf}
 use Rattle.reply.specs.declared.members.Port.{Port}
@@ -47,8 +47,8 @@ module _ (s : Setting) where
   abbrev hears : Port → Row → Bool → ℕ → Port
   hears p row readable i =
       record {
-        word = cond readable (row .word .0) (p .word);
-        number = cond readable (row .number) (p .number);
+        word = if readable then row .word .0 else p .word;
+        number = if readable then row .number else p .number;
         state = p .state;
         «state_number» = p .«state_number»;
         «told_word» = p .«told_word»;
@@ -76,19 +76,22 @@ module _ (s : Setting) where
       }
 
   -- a report that takes in what a table has sent
-  abbrev reported : (start : ℕ) → Table → At → Table → At
-  reported start sent was next =
+  abbrev reported : (ℕ → Bool) → Table → At → Table → At
+  reported readable sent was next =
       let n = slotsIn next in
-      let heard = tabulate n (λ i. hears (portAt (was .ports) i) (rowAt (boardOf sent .rows) i) (s .readable start i) i) in
+      let heard = tabulate n (λ i. hears (portAt (was .ports) i) (rowAt (boardOf sent .rows) i) (readable i) i) in
       let left = standingsOf heard n in
       record { table = next; ports = tabulate n (λ i. told (portAt heard i) (getD left i noStanding)); ack = ackOf heard n (was .ack) }
 
-  -- before any report, and at start 0: the table before the add has been sent for long, and heard
+  -- before any report; when all ports have heard the table before the add, which has been sent for long; and at start 0
   abbrev fresh : At
   fresh = record { table = s .before; ports = []; ack = 0 }
 
+  abbrev heard : At
+  heard = reported (λ i. true) (s .before) fresh (s .before)
+
   abbrev first : At
-  first = reported 0 (s .before) fresh (s .before)
+  first = reported (s .readable 0) (s .before) heard (s .before)
 
   -- all starts up to k, the last one first
   unfoldable pub starts : ℕ → List At
@@ -100,12 +103,12 @@ module _ (s : Setting) where
       let number = (s .number + 256 + k - s .back) % 256 in
       let asked = run (now .table) (s .calls k) in
       let next = reportOf asked ((number + 256 - s .late) % 256) (mstOf 0 (answer .ports) (slotsIn asked) number) (answer .ack) .table in
-      reported (suc k) (getD all (s .out) first .table) now next ∷ all
+      reported (s .readable (suc k)) (getD all (s .out) first .table) now next ∷ all
 
   -- the first start at which a slot is active; 0 where it is none up to k
   abbrev pub firstOf : ℕ → ℕ → List At → ℕ
   firstOf slot k [] = 0
-  firstOf slot k (x ∷ rest) = let sooner = firstOf slot (k - 1) rest in cond (isActive (stateIn (x .table) slot)) (cond (leb 1 sooner) sooner k) sooner
+  firstOf slot k (x ∷ rest) = let sooner = firstOf slot (k - 1) rest in if isActive (stateIn (x .table) slot) && (sooner == 0) then k else sooner
 
   abbrev pub activeAt : (slot most : ℕ) → ℕ
   activeAt slot most = firstOf slot most (starts most)

@@ -1,14 +1,15 @@
 -- When the added slot is active, computed on the loop by epochs against starts worked out apart: of the starts j from a + 2 + r on the first with (e + j) mod 32 = q / 8, where e is the number of the back epoch that runs at the add and q the slot's number, and then b + 1.
 use mathlib.Core.Path.{_≡_, refl}
-use mathlib.Core.Bool.{true, cond}
+use mathlib.Core.Bool.{true}
 use mathlib.Core.List.{List, [], _∷_, _++_}
 use Prim.Native.Nat.{ℕ, zero, suc, _+_}
-use lib.Dec.{eqb, leb}
+use Rattle.ground.specs.Plain.{if_then_else_, _==_, _≤?_}
 use Rattle.sender.specs.declared.table.Table.{Table}
 use Rattle.sender.specs.Calls.{Call}
 use Rattle.sender.specs.Calls.Call.{AddSlot, Lapse, RemoveSlot, Report}
 use Rattle.sender.specs.Shown.{after}
-use Rattle.sure_add.specs.Samples.Loop.{Setting, activeAt}
+use Rattle.reply.specs.Members.{portAt}
+use Rattle.sure_add.specs.Samples.Loop.{At, Setting, activeAt, starts}
 use Rattle.sure_add.specs.Samples.Opened.{opened}
 
 -- adds of slots from the first on, so many
@@ -25,7 +26,7 @@ abbrev pub plain : (slots n a b e slot : ℕ) → Setting
 plain slots n a b e slot =
     record {
       before = withActive slots 0 n;
-      calls = λ k. cond (eqb k 0) (AddSlot slot ∷ []) [];
+      calls = λ k. if k == 0 then AddSlot slot ∷ [] else [];
       out = a;
       back = b;
       ahead = 0;
@@ -36,12 +37,12 @@ plain slots n a b e slot =
       readable = λ k p. true;
     }
 
--- port 1 is dark and FAIL until the report by start 2, with which its claim first stands: its slot is removed, lapsed and added again between two starts, so that it is never heard to be IDLE
+-- port 1 was OK, is dark at the reports by starts 0 and 1 and so FAIL, and is heard again with the report by start 2, with which its claim first stands: its slot is removed, lapsed and added again between two starts, so that it is never heard to be IDLE
 abbrev pub failed : (r e : ℕ) → Setting
 failed r e =
     record {
       before = withActive 2 0 2;
-      calls = λ k. cond (eqb k 0) (RemoveSlot 1 ∷ Lapse ∷ AddSlot 1 ∷ []) [];
+      calls = λ k. if k == 0 then RemoveSlot 1 ∷ Lapse ∷ AddSlot 1 ∷ [] else [];
       out = 0;
       back = 0;
       ahead = 0;
@@ -49,7 +50,7 @@ failed r e =
       number = e;
       hold = [];
       restore = 0 ∷ r ∷ [];
-      readable = λ k p. cond (eqb p 1) (leb 2 k) true;
+      readable = λ k p. if p == 1 then 2 ≤? k else true;
     }
 
 record Row : Type 0 where
@@ -71,8 +72,21 @@ rows =
 -- the rows that come out otherwise, by the start that is computed
 failing : List Row → List ℕ
 failing [] = []
-failing (r ∷ rest) = let at = activeAt (r .setting) (r .slot) (r .start + 1) in cond (eqb at (r .start)) (failing rest) (at ∷ failing rest)
+failing (r ∷ rest) = let at = activeAt (r .setting) (r .slot) (r .start + 1) in if at == r .start then failing rest else at ∷ failing rest
 
 all-come : failing rows ≡ []
 unfolding opened failing rows
 all-come = refl
+
+-- port 1's state, number and counter at starts 8 to 0 of the last row: FAIL by having been dark, restoring for five reports, OK
+abbrev second : At → List ℕ
+second x = let p = portAt (x .ports) 1 in (p .state) ∷ (p .«state_number») ∷ (p .elapsed) ∷ []
+
+abbrev seconds : List At → List (List ℕ)
+seconds [] = []
+seconds (x ∷ rest) = second x ∷ seconds rest
+
+dark-then : seconds (starts (failed 5 26) 8)
+    ≡ (2 ∷ 1 ∷ 0 ∷ []) ∷ (2 ∷ 1 ∷ 0 ∷ []) ∷ (1 ∷ 1 ∷ 5 ∷ []) ∷ (1 ∷ 1 ∷ 4 ∷ []) ∷ (1 ∷ 1 ∷ 3 ∷ []) ∷ (1 ∷ 1 ∷ 2 ∷ []) ∷ (1 ∷ 1 ∷ 1 ∷ []) ∷ (1 ∷ 1 ∷ 0 ∷ []) ∷ (1 ∷ 1 ∷ 0 ∷ []) ∷ []
+unfolding opened starts
+dark-then = refl

@@ -11,8 +11,8 @@ use Rattle.receiver.specs.Laws.Sizes.{size-is, sizes-of}
 use Rattle.receiver.specs.Laws.Told.{ack-le, length-told, statesIn, told-group, told-of-port, toldOn, withAck}
 use Rattle.receiver.specs.Report.{replyPorts, withState, statesWorkedOut}
 use Rattle.reply.specs.Telling.{ackOf}
-use Rattle.reply.specs.Theorems.States.{ok-apart, ok-below, standingAt}
-use Rattle.reply.specs.Waiting.{noStanding}
+use Rattle.reply.specs.Theorems.States.{ok-apart, ok-below}
+use Rattle.reply.specs.Waiting.{noStanding, standingAt}
 use Rattle.reply.specs.declared.waiting.Standing.{Standing}
 use Rattle.rows.specs.declared.group.Group.{Group}
 use Rattle.rows.specs.declared.member.Member.{Member}
