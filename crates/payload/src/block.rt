@@ -5,7 +5,7 @@ ghost use mathlib.Core.Path.{_≡_};
 ghost use Prim.Native.Nat.{ℕ, _+_, _-_, _*_, _/_, _%_, _≤_, _<_, min};
 ghost use lib.ListN.{length, getD};
 ghost use Rattle.ground.specs.Drawn.{drawn, fillAt};
-ghost use Rattle.payload.specs.Inner.Area.{area, tile};
+ghost use Rattle.payload.specs.Inner.Area.{area};
 ghost use Rattle.payload.specs.Joining.{rankedByte, startedByte};
 ghost use Rattle.payload.specs.Order.{groupByte, groupFrame};
 ghost use Rattle.payload.specs.Inner.Words.{byteOf};
@@ -95,23 +95,21 @@ pub(crate) fn join(x: usize, p: usize, members: &[u8], frame: &mut [u8])
     }
 }
 
-// Eight columns of a tile, from members that start anywhere.
+// All lines of eight columns, from members that start anywhere.
 fn columns_from(
     x: usize,
     p: usize,
     starts: &[usize],
     store: &[u8],
     r: usize,
-    from: usize,
-    to: usize,
     place: usize,
     out: &mut [u8],
 )
-    requires { ⌜ (r + 8 ≤ x) × (8 ≤ p) × (from < p) × (to ≡ min (from + 64) p) × (x ≤ length (now starts)) × ((i : ℕ) → i < x → getD (now starts) i 0 + p ≤ length (now store)) × (place + x * p ≤ length (now out)) ⌝ }
-    ensures { λ _. ⌜ now (out .exit) ≡ drawn (tile x p place from to r 8) (λ k. groupByte x (startedByte (now (starts .entry)) (now (store .entry))) (k - place)) (now (out .entry)) ⌝ }
+    requires { ⌜ (r + 8 ≤ x) × (8 ≤ p) × (x ≤ length (now starts)) × ((i : ℕ) → i < x → getD (now starts) i 0 + p ≤ length (now store)) × (place + x * p ≤ length (now out)) ⌝ }
+    ensures { λ _. ⌜ now (out .exit) ≡ drawn (area x place 0 p r 8) (λ k. groupByte x (startedByte (now (starts .entry)) (now (store .entry))) (k - place)) (now (out .entry)) ⌝ }
 {
-    let mut c = from;
-    while c < to {
+    let mut c = 0;
+    while c < p {
         let j = start(c, p);
         let q = read_started(starts, store, r, j);
         lay(q, x, place, j, r, out);
@@ -119,36 +117,8 @@ fn columns_from(
     }
 }
 
-// A tile: all columns of 64 lines, or of those that are left.
-fn tile_from(
-    x: usize,
-    p: usize,
-    starts: &[usize],
-    store: &[u8],
-    from: usize,
-    to: usize,
-    place: usize,
-    out: &mut [u8],
-)
-    requires { ⌜ (8 ≤ x) × (8 ≤ p) × (from < p) × (to ≡ min (from + 64) p) × (x ≤ length (now starts)) × ((r : ℕ) → r < x → getD (now starts) r 0 + p ≤ length (now store)) × (place + x * p ≤ length (now out)) ⌝ }
-    ensures { λ _. ⌜ now (out .exit) ≡ drawn (tile x p place from to 0 x) (λ k. groupByte x (startedByte (now (starts .entry)) (now (store .entry))) (k - place)) (now (out .entry)) ⌝ }
-{
-    let mut c = 0;
-    while c < x {
-        let r = start(c, x);
-        columns_from(x, p, starts, store, r, from, to, place, out);
-        c += 8;
-    }
-}
-
-fn least(a: usize, b: usize) -> usize
-    ensures { λ r. ⌜ r ≡ min a b ⌝ }
-{
-    if a < b { a } else { b }
-}
-
-// Members that start anywhere in a store, into a frame that lies from a place on. It goes by tiles of 64 bytes of each member: a cache line of
-// a member is read at once, before those of 64 members can drive each other out.
+// Members that start anywhere in a store, into a frame that lies from a place on. All lines of eight members go before the next eight: so few members
+// are read in their order, where a store that no near cache holds would be fetched anew for each line of all.
 pub(crate) fn join_from(
     x: usize,
     p: usize,
@@ -161,9 +131,9 @@ pub(crate) fn join_from(
     ensures { λ _. ⌜ now (out .exit) ≡ fillAt place (x * p) (groupByte x (startedByte (now (starts .entry)) (now (store .entry)))) (now (out .entry)) ⌝ }
 {
     let mut c = 0;
-    while c < p {
-        let to = least(c + 64, p);
-        tile_from(x, p, starts, store, c, to, place, out);
-        c += 64;
+    while c < x {
+        let r = start(c, x);
+        columns_from(x, p, starts, store, r, place, out);
+        c += 8;
     }
 }
