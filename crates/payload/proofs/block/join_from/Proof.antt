@@ -1,7 +1,7 @@
--- `join_from` meets its contract: the frame is drawn, eight columns at a time (`columns-more`).
+-- `join_from` meets its contract: the frame is drawn, h columns at a time (`columns-more`).
 -- The invariant: the ranks below c are in their columns.
-use Prim.Native.Nat.{ℕ, _≤_, _-_, _+_, min}
-use mathlib.Core.Path.{_≡_}
+use mathlib.Core.Path.{_≡_, _∙_}
+use Prim.Native.Nat.{ℕ, _≤_, _-_, _+_, _*_, min}
 use native.Mathlib.Omega.{arith}
 use Rattle.ground.specs.Drawn.{Drawing, drawing-none}
 use Rattle.payload.specs.Inner.Area.{area}
@@ -14,10 +14,10 @@ use Rattle.payload.proofs.block.join_from.Statement.{statement}
 use Rattle.payload.proofs.block.join_from.Tie as tie
 
 abbrev Inv-loop : tie.InvT-loop
-Inv-loop x p starts store place out₀ c₀ out c = (c ≤ x + 7) × Drawing (area x place 0 p 0 (min c x)) (λ k. groupByte x (startedByte starts store) (k - place)) out₀ out
+Inv-loop h x p starts store place out₀ c₀ out c = (c ≤ x + h) × Drawing (area x place 0 p 0 (min c x)) (λ k. groupByte x (startedByte starts store) (k - place)) out₀ out
 
 abbrev μ-loop : tie.MeasureT-loop
-μ-loop x p starts store place out₀ c₀ out c = x - c
+μ-loop h x p starts store place out₀ c₀ out c = x - c
 
 loop-holds : tie.Need-loop-holds Inv-loop μ-loop
 loop-holds c =
@@ -30,23 +30,22 @@ start-requires c κs = omega arith
 columns-from-requires : tie.Need-columns-from-requires Inv-loop μ-loop
 columns-from-requires c κs =
     let h = c .before .before .before .before .before .before .before .pre in
-    (omega (arith, c .before .start .ensures), h .1, h .2, h .3, omega arith)
+    (h .0, omega (arith, c .before .start .ensures), h .2, h .3, h .4, omega (arith, c .before .before .before .loop .inv .1 .len))
 
 add-c : tie.Need-add-c Inv-loop μ-loop
 add-c c =
-    let at-loop = c .before .before .before .before .before .before in
-    let at-entry = at-loop .before .before .before .before in
-    let a = at-entry .args in
-    let b = block-in (a .x) (a .p) 0 0 (at-entry .pre .0) (at-entry .pre .1) in
+    let a = c .before .before .before .before .before .before .before .before .before .before .args in
+    let s = c .before .before .before .before .before .before .before .before .before .before .pre .0 in
+    let b = block-in (a .x) (a .p) 0 0 (a .h) 16 (omega arith) (omega arith) (omega arith) (omega arith) in
     omega arith
 
 loop-less : tie.Need-loop-less Inv-loop μ-loop
-loop-less c = omega arith
+loop-less c = let s = c .before .before .before .before .before .before .before .before .before .before .pre .0 in omega arith
 
 loop-again : tie.Need-loop-again Inv-loop μ-loop
 loop-again c =
-    let at-columns-from = c .before .before in
-    let at-start = at-columns-from .before .before in
+    let at-columns = c .before .before in
+    let at-start = at-columns .before .before in
     let at-loop = at-start .before .before in
     let at-entry = at-loop .before .before .before .before in
     let a = at-entry .args in
@@ -54,7 +53,7 @@ loop-again c =
     let i = at-loop .loop .c in
     let e = at-start .start .ensures in (
       omega arith,
-      columns-more (a .x) (a .place) (startedByte (a .starts .now) (a .store .now)) 0 (a .p) (min i (a .x)) r 8 (min (i + 8) (a .x)) _ (omega arith) (omega arith) (omega arith) (at-loop .loop .inv .1) (at-columns-from .columns-from .ensures),
+      columns-more (a .x) (a .place) (startedByte (a .starts .now) (a .store .now)) 0 (a .p) (min i (a .x)) r (a .h) (min (i + a .h) (a .x)) _ (omega arith) (omega arith) (omega arith) (at-loop .loop .inv .1) (at-columns .columns-from .ensures),
     )
 
 same-length : tie.Need-same-length Inv-loop μ-loop
