@@ -4,9 +4,14 @@
  * It is the code of host/link but for its tally. Timed are the client's bytes put into group frames, the sender's calls, the
  * lines, the receiver's calls, the reply and the way back. Nothing is printed while timing, and what comes out is only
  * counted then; before and after, it is compared with what was sent. Time is that for which the process had a processor.
+ * CALLS says what it is linked with: the proved calls, or C in the place of spreading and of the receiver.
  */
 #define _POSIX_C_SOURCE 199309L
 #include "times.h"
+
+#ifndef CALLS
+#define CALLS "proved"
+#endif
 
 #define main link_main
 #include "../link/main.c"
@@ -113,8 +118,8 @@ static void measure(const char *name, char *slots, char *payload)
     link_close(&l);
 
     each = median(times, ROUNDS) / 1e6;
-    printf("link\t%s\tW %d\tepochs %lu\tepoch %.3f ms\ttimes real time %.2f\n", name, WINDOW, (unsigned long)(ROUNDS * epochs),
-           each, 2 / each);
+    printf("link\t%s\tW %d\tcalls %s\tepochs %lu\tepoch %.3f ms\ttimes real time %.2f\n", name, WINDOW, CALLS,
+           (unsigned long)(ROUNDS * epochs), each, 2 / each);
     fflush(stdout);
 }
 

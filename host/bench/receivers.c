@@ -1,7 +1,8 @@
-/* receivers ROUNDS LIBRARY..: times frame and fetch of receivers of several commits, each a shared library of its object, one after the
- * other in one process, round by round, at all sizes of docs/BENCH.md. A line for each size and library: the medians of the rounds in
- * nanoseconds a call, and of the ratios to the first library, taken round by round. Time is that for which the process had a
- * processor. Started with no times; all ports are active, with no delays, and all libraries give the same bytes.
+/* receivers ROUNDS LIBRARY..: times frame, fetch and a fetch with none due of several receivers, each a shared library: of other commits'
+ * objects, or the one in C with the least state (least.c). They run one after the other in one process, round by round, at all sizes of
+ * docs/BENCH.md. A line for each size and library: the medians of the rounds in nanoseconds a call, and of the ratios to the first
+ * library, taken round by round. Time is that for which the process had a processor. Started with no times; all ports are active, with no
+ * delays, and all libraries give the same bytes.
  */
 #define _POSIX_C_SOURCE 200809L
 #include "levelspruce.h"
@@ -11,7 +12,7 @@
 
 #include "times.h"
 
-enum { MOST = 8, TAGS = 4096, EPOCH = 16, EPOCHS = 4, ROW = LEVELSPRUCE_ROW_BYTES, PACKET = LEVELSPRUCE_PACKET_BYTES };
+enum { MOST = 8, CALLS = 3, NONE_DUE = 2000, TAGS = 4096, EPOCH = 16, EPOCHS = 4, ROW = LEVELSPRUCE_ROW_BYTES, PACKET = LEVELSPRUCE_PACKET_BYTES };
 
 struct library {
     const char *name;
@@ -20,7 +21,7 @@ struct library {
     uint8_t (*fetch)(uint8_t (*)[ROW], size_t, const uint8_t *, size_t, uint8_t *, size_t, uint8_t *, size_t);
     uint8_t (*rows)[ROW], *store, *out;
     uint32_t next;
-    double *times[2], *ratios[2];
+    double *times[CALLS], *ratios[CALLS];
 };
 
 static struct library libraries[MOST];
@@ -110,18 +111,23 @@ static void begin(struct library *l)
     l->next = 8 + 4 * EPOCH;
 }
 
-static void round_of(struct library *l, double cost, double *frame, double *fetched)
+/* the times of a round, nanoseconds a call */
+static void round_of(struct library *l, double cost, double *each)
 {
-    double begun = now(CLOCK_PROCESS_CPUTIME_ID), handed, ended;
+    double begun = now(CLOCK_PROCESS_CPUTIME_ID), handed, fetched;
     hand(l, l->next, l->next + EPOCHS * EPOCH, 0);
     handed = now(CLOCK_PROCESS_CPUTIME_ID);
     for (int k = 0; k < EPOCHS; k++)
         if (fetch(l) != LEVELSPRUCE_MARK_SURE)
             must(NULL, "the mark of a report");
-    ended = now(CLOCK_PROCESS_CPUTIME_ID);
+    fetched = now(CLOCK_PROCESS_CPUTIME_ID);
+    for (int k = 0; k < NONE_DUE; k++)
+        if (fetch(l) != LEVELSPRUCE_MARK_NONE)
+            must(NULL, "none due");
+    each[0] = (handed - begun - cost) / (EPOCHS * EPOCH * ports);
+    each[1] = (fetched - handed - cost) / EPOCHS;
+    each[2] = (now(CLOCK_PROCESS_CPUTIME_ID) - fetched - cost) / NONE_DUE;
     l->next = (l->next + EPOCHS * EPOCH) % TAGS;
-    *frame = (handed - begun - cost) / (EPOCHS * EPOCH * ports);
-    *fetched = (ended - handed - cost) / EPOCHS;
 }
 
 static double clock_cost(void)
@@ -136,7 +142,7 @@ static double clock_cost(void)
 
 static void measure(void)
 {
-    static const char *what[] = {"frame", "fetch"};
+    static const char *what[CALLS] = {"frame", "fetch", "none due"};
     double cost = clock_cost();
     int warm = (int)(window / EPOCH / EPOCHS + 1); /* the first time round brings the store into memory */
     row_count = LEVELSPRUCE_RECEIVER_ROWS(ports);
@@ -148,18 +154,16 @@ static void measure(void)
     for (int k = -warm; k < rounds; k++)
         for (int i = 0; i < count; i++) {
             struct library *l = &libraries[(i + k + warm) % count];
-            double frame, fetched;
-            round_of(l, cost, &frame, &fetched);
-            if (k >= 0) {
-                l->times[0][k] = frame;
-                l->times[1][k] = fetched;
-            }
+            double each[CALLS];
+            round_of(l, cost, each);
+            for (int w = 0; w < CALLS && k >= 0; w++)
+                l->times[w][k] = each[w];
         }
-    for (int w = 0; w < 2; w++)
+    for (int w = 0; w < CALLS; w++)
         for (int i = 0; i < count; i++)
             for (int k = 0; k < rounds; k++)
                 libraries[i].ratios[w][k] = libraries[i].times[w][k] / libraries[0].times[w][k];
-    for (int w = 0; w < 2; w++)
+    for (int w = 0; w < CALLS; w++)
         for (int i = 0; i < count; i++)
             printf("%s\tports %u\tP %u\tW %u\t%s\t%.1f ns\tto the first %.3f\n", what[w], ports, payload, window, libraries[i].name,
                    median(libraries[i].times[w], (size_t)rounds), median(libraries[i].ratios[w], (size_t)rounds));
@@ -178,7 +182,11 @@ static void measure(void)
 
 int main(int words, char **word)
 {
-    static const uint32_t payloads[] = {756, 2340}, sizes[] = {1, 8, 64}, windows[] = {64, 2048};
+    static const uint32_t sizes[][3] = {
+        {1, 756, 64},  {1, 756, 2048},  {2, 756, 64},  {8, 756, 64},  {8, 756, 2048},  {64, 756, 64},  {64, 756, 2048},
+        {1, 2340, 64}, {1, 2340, 2048}, {8, 2340, 64}, {8, 2340, 2048}, {64, 2340, 64}, {64, 2340, 2048},
+        {1, 136, 64},  {8, 136, 64},    {64, 136, 64}, {64, 1, 64},
+    };
     if (words < 3 || words - 2 > MOST || (rounds = atoi(word[1])) < 1)
         must(NULL, "receivers ROUNDS LIBRARY..");
     for (int i = 2; i < words; i++) {
@@ -188,18 +196,16 @@ int main(int words, char **word)
         find(from, "levelspruce_receiver_start", &l->start);
         find(from, "levelspruce_receiver_frame", &l->frame);
         find(from, "levelspruce_receiver_fetch", &l->fetch);
-        for (int w = 0; w < 2; w++) {
+        for (int w = 0; w < CALLS; w++) {
             l->times[w] = must(malloc(sizeof(double) * (size_t)rounds), "memory");
             l->ratios[w] = must(malloc(sizeof(double) * (size_t)rounds), "memory");
         }
     }
-    for (size_t a = 0; a < 2; a++)
-        for (size_t b = 0; b < 3; b++)
-            for (size_t c = 0; c < 2; c++) {
-                payload = payloads[a];
-                ports = sizes[b];
-                window = windows[c];
-                measure();
-            }
+    for (size_t k = 0; k < sizeof sizes / sizeof *sizes; k++) {
+        ports = sizes[k][0];
+        payload = sizes[k][1];
+        window = sizes[k][2];
+        measure();
+    }
     return 0;
 }

@@ -21,6 +21,7 @@ case $(uname -m) in
 aarch64)
     archive_compiler='x86_64-linux-gnu-gcc -static'
     archive_ar=x86_64-linux-gnu-ar
+    archive_objdump=x86_64-linux-gnu-objdump
     archive_packages='gcc-x86-64-linux-gnu libc6-dev-amd64-cross'
     shared_compiler=x86_64-linux-gnu-gcc
     emulator="$(kit)/on/aarch64/toolchain/bin/qemu-x86_64"
@@ -42,6 +43,7 @@ aarch64)
 *)
     archive_compiler=gcc
     archive_ar=ar
+    archive_objdump=objdump
     archive_packages='gcc libc6-dev'
     shared_compiler=gcc
     emulator=''

@@ -1,42 +1,78 @@
--- A group frame drawn in blocks: words gathered, a turned block stored, and blocks put together to lines and lines to the frame.
+-- A group frame drawn in blocks: rows gathered, a turned block stored, and blocks put together to lines and lines to the frame.
 use mathlib.Core.Path.{_≡_, refl, sym, ap, ap₂, _∙_}
-use mathlib.Core.Logic.{⊎-elim, _≢_}
+use mathlib.Core.Logic.{⊎-elim}
 use mathlib.Core.List.{List}
 use mathlib.Core.Bool.{true, _||_}
 use Prim.Native.Nat.{ℕ, _+_, _-_, _*_, _/_, _%_, _≤_, _<_}
-use native.Mathlib.Nat.{div-add-mod', mul-le-mul-left, mul-le-mul-right, mul-one, one-mul, mul-comm}
+use native.Mathlib.Nat.{div-add-mod', mul-le-mul-left, mul-le-mul-right, mul-one, one-mul, mul-comm, not-suc-le-zero}
 use native.Mathlib.Omega.{arith}
-use lib.ListN.{length, getD, set}
-use lib.Seq.{getD-set-same, getD-set-other}
-use Rattle.ground.specs.Drawn.{drawn, drawn-by, fillAt, Drawing, drawing-then, within}
-use Rattle.ground.specs.Truth.{eq-or-ne}
+use lib.Arith.{digits-lt, digits-div, digits-mod}
+use lib.ListN.{length, getD}
+use Rattle.ground.specs.Drawn.{drawn, drawn-by, fillAt, length-fillAt, getD-fillAt, getD-before, Drawing, drawing-then, within}
+use Rattle.ground.specs.Table.{getD-tabulate}
+use Rattle.ground.specs.Truth.{le-or-lt}
 use Rattle.payload.specs.Inner.Area.{area}
+use Rattle.payload.specs.Inner.Block.{Rows, lineByte, rowByte, turned}
 use Rattle.payload.specs.Order.{groupByte}
-use Rattle.payload.specs.Inner.Words.{byteOf}
 use Rattle.payload.proofs.Areas.{area-said, area-run, area-lines, area-columns}
 use Rattle.payload.proofs.Frames.{member-in}
 
--- a run of eight in one of eight lines
-pub record RunIn (n at l : ℕ) : Type 0 where
-  pub run : at + 8 ≤ n
-  pub line : l ≤ n
+-- no row is read
+pub rows-none : (w : ℕ) (m : ℕ → ℕ → ℕ) (r j : ℕ) (d : List ℕ) → Rows 0 w m r j d d
+rows-none w m r j d = record { len = refl; is = λ l i h b. absurd (not-suc-le-zero h) }
 
-pub run-in : (P r j l n : ℕ) → (r + 8) * P ≤ n → j + 8 ≤ P → l < 8 → RunIn n ((r + l) * P + j) (r + l)
-run-in P r j l n h hj hl =
+-- one row more
+pub row-more : (l w r j : ℕ) (m : ℕ → ℕ → ℕ) (g : ℕ → ℕ) {d mid : List ℕ} (out : List ℕ) → l * w + w ≤ length d → Rows l w m r j d mid
+    → out ≡ fillAt (l * w) w g mid → ((i : ℕ) → i < w → g i ≡ m (r + l) (j + i)) → Rows (l + 1) w m r j d out
+row-more l w r j m g {d} {mid} out fits old e agree =
     record {
-      run = omega (arith, member-in (r + 8) P (r + l) (omega arith));
-      line = let one : 1 ≤ P = omega arith in omega (arith, member-in (r + 8) P (r + l) (omega arith), mul-le-mul-left (r + l) one, mul-one (r + l));
+      len = ap length e ∙ length-fillAt (l * w) w g mid ∙ old .len;
+      is = λ k i hk hi. ap (λ (q : List ℕ). getD q (k * w + i) 0) e
+          ∙ ⊎-elim (λ (u : l ≤ k). new k i hk hi u) (λ (u : k < l). getD-before (l * w) w g mid (k * w + i) 0 (digits-lt u hi) ∙ old .is k i u hi) (le-or-lt l k);
+    }
+  where
+    new : (k i : ℕ) → k < l + 1 → i < w → l ≤ k → getD (fillAt (l * w) w g mid) (k * w + i) 0 ≡ m (r + k) (j + i)
+    new k i hk hi u = let same : k ≡ l = omega arith in rw same (getD-fillAt (l * w) w g mid i 0 hi (omega (arith, old .len)) ∙ agree i hi)
+
+-- a row lies within the members that are read and within the block
+pub record RowIn (n k p r l j w : ℕ) : Type 0 where
+  pub from : (r + l) * p + j + w ≤ n
+  pub line : r + l ≤ n
+  pub to : l * w + w ≤ k
+
+pub row-in : (n k p r l j h w : ℕ) → 1 ≤ p → h * w ≤ k → l < h → (r + l) * p + (j + w) ≤ n → RowIn n k p r l j w
+row-in n k p r l j h w one fits hl row =
+    record {
+      from = omega (arith, row);
+      line = omega (arith, row, mul-le-mul-left (r + l) one, mul-one (r + l));
+      to = omega (arith, fits, member-in h w l hl);
     }
 
--- a block of eight ranks from r on and eight bytes from j on
-pub record BlockIn (X P r j : ℕ) : Type 0 where
-  pub members : (r + 8) * P ≤ X * P
-  pub lines : (j + 8) * X ≤ X * P
+-- each row of a block of members that lie one after the other
+pub ranked-in : (X P r j h w n : ℕ) → r + h ≤ X → j + w ≤ P → n ≡ X * P → (l : ℕ) → l < h → (r + l) * P + (j + w) ≤ n
+ranked-in X P r j h w n hr hj e l hl = omega (arith, e, member-in X P (r + l) (omega arith))
+
+-- a run of h bytes in one of w lines
+pub record RunIn (n at l : ℕ) (h : ℕ) : Type 0 where
+  pub run : at + h ≤ n
+  pub line : l ≤ n
+
+pub run-in : (X j w i r h n : ℕ) → (j + w) * X ≤ n → 1 ≤ h → r + h ≤ X → i < w → RunIn n ((j + i) * X + r) (j + i) h
+run-in X j w i r h n fits hh hr hi =
+    record {
+      run = omega (arith, member-in (j + w) X (j + i) (omega arith));
+      line = let one : 1 ≤ X = omega arith in omega (arith, member-in (j + w) X (j + i) (omega arith), mul-le-mul-left (j + i) one, mul-one (j + i));
+    }
+
+-- a block of h ranks from r on and w bytes from j on
+pub record BlockIn (X P r j h w : ℕ) : Type 0 where
+  pub members : (r + h) * P ≤ X * P
+  pub lines : (j + w) * X ≤ X * P
   pub ranks : X ≤ X * P
   pub bytes : P ≤ X * P
 
-pub block-in : (X P r j : ℕ) → r + 8 ≤ X → j + 8 ≤ P → BlockIn X P r j
-block-in X P r j hr hj =
+pub block-in : (X P r j h w : ℕ) → 1 ≤ h → 1 ≤ w → r + h ≤ X → j + w ≤ P → BlockIn X P r j h w
+block-in X P r j h w hh hw hr hj =
     let one : 1 ≤ P = omega arith in
     let rank : 1 ≤ X = omega arith in
     record {
@@ -46,63 +82,59 @@ block-in X P r j hr hj =
       bytes = omega (arith, mul-le-mul-right P rank, one-mul P);
     }
 
--- one word more
-pub word-more : (m : ℕ → ℕ → ℕ) (q : List ℕ) (l w : ℕ) → length q ≡ 8 → l < 8 → ((k i : ℕ) → k < l → i < 8 → byteOf (getD q k 0) i ≡ m k i)
-    → ((i : ℕ) → i < 8 → byteOf w i ≡ m l i) → (k i : ℕ) → k < l + 1 → i < 8 → byteOf (getD (set q l w) k 0) i ≡ m k i
-word-more m q l w len hl old new k i hk hi =
-    ⊎-elim (λ (e : k ≡ l). rw (e, getD-set-same q l w 0 (omega arith)) (new i hi))
-    (λ (d : k ≢ l). rw (getD-set-other q l k w 0 d) (old k i (omega arith) hi)) (eq-or-ne k l)
-
 -- one line more of a block
-pub line-more : (X place j i r : ℕ) (q : List ℕ) {d mid : List ℕ} (out : List ℕ) → r + 8 ≤ X
-    → Drawing (area X place j i r 8) (λ k. byteOf (getD q ((k - place) / X - j) 0) ((k - place) % X - r)) d mid
-    → out ≡ fillAt (place + ((j + i) * X + r)) 8 (byteOf (getD q i 0)) mid
-    → Drawing (area X place j (i + 1) r 8) (λ k. byteOf (getD q ((k - place) / X - j) 0) ((k - place) % X - r)) d out
-line-more X place j i r q out h old e =
-    drawing-then (area X place j (i + 1) r 8) (within at 8) (λ k. byteOf (getD q i 0) (k - at)) out old e agree same
+pub line-more : (h X place j i r : ℕ) (q : List ℕ) {d mid : List ℕ} (out : List ℕ) → r + h ≤ X
+    → Drawing (area X place j i r h) (lineByte h X place j r q) d mid → out ≡ fillAt (place + ((j + i) * X + r)) h (λ b. getD q (i * h + b) 0) mid
+    → Drawing (area X place j (i + 1) r h) (lineByte h X place j r q) d out
+line-more h X place j i r q out fits old e =
+    drawing-then (area X place j (i + 1) r h) (within at h) (λ k. getD q (i * h + (k - at)) 0) out old e agree same
   where
     at : ℕ
     at = place + ((j + i) * X + r)
 
-    agree : (k : ℕ) → within at 8 k ≡ true → byteOf (getD q i 0) (k - at) ≡ byteOf (getD q ((k - place) / X - j) 0) ((k - place) % X - r)
+    agree : (k : ℕ) → within at h k ≡ true → getD q (i * h + (k - at)) 0 ≡ lineByte h X place j r q k
     agree k w =
-        let s = area-said X place (j + i) 1 r 8 k (rw (area-run X place (j + i) r 8 k h) w) in
+        let s = area-said X place (j + i) 1 r h k (rw (area-run X place (j + i) r h k fits) w) in
         let line : (k - place) / X ≡ j + i = omega arith in
         let whole = ap (λ (l : ℕ). l * X + (k - place) % X) (sym line) ∙ div-add-mod' (k - place) X in
         let first : i ≡ (k - place) / X - j = omega arith in
         let byte : k - at ≡ (k - place) % X - r = omega arith in
-        ap₂ (λ (l b : ℕ). byteOf (getD q l 0) b) first byte
+        ap₂ (λ (l b : ℕ). getD q (l * h + b) 0) first byte
 
-    same : (k : ℕ) → (area X place j i r 8 k || within at 8 k) ≡ area X place j (i + 1) r 8 k
+    same : (k : ℕ) → (area X place j i r h k || within at h k) ≡ area X place j (i + 1) r h k
     same k =
-        rw (← area-run X place (j + i) r 8 k h) (area-lines X place j i (j + i) 1 (i + 1) r 8 k (omega arith) (omega arith) (omega arith) (omega arith))
+        rw (← area-run X place (j + i) r h k fits) (area-lines X place j i (j + i) 1 (i + 1) r h k (omega arith) (omega arith) (omega arith) (omega arith))
 
 -- a turned block
-pub block-turned : (X place j r : ℕ) (q t d out : List ℕ) → ((l i : ℕ) → l < 8 → i < 8 → byteOf (getD t l 0) i ≡ byteOf (getD q i 0) l)
-    → out ≡ drawn (area X place j 8 r 8) (λ k. byteOf (getD t ((k - place) / X - j) 0) ((k - place) % X - r)) d
-    → out ≡ drawn (area X place j 8 r 8) (λ k. byteOf (getD q ((k - place) % X - r) 0) ((k - place) / X - j)) d
-block-turned X place j r q t d out h e =
+pub block-turned : (h w X place j r : ℕ) (q t d out : List ℕ) → t ≡ turned h w q → out ≡ drawn (area X place j w r h) (lineByte h X place j r t) d
+    → out ≡ drawn (area X place j w r h) (rowByte w X place j r q) d
+block-turned h w X place j r q t d out turns e =
     e
-    ∙ drawn-by (area X place j 8 r 8) (area X place j 8 r 8) (λ k. byteOf (getD t ((k - place) / X - j) 0) ((k - place) % X - r))
-    (λ k. byteOf (getD q ((k - place) % X - r) 0) ((k - place) / X - j)) d (λ k b. refl)
-    (λ k b w. let s = area-said X place j 8 r 8 k w in h ((k - place) / X - j) ((k - place) % X - r) (omega arith) (omega arith))
+    ∙ drawn-by (area X place j w r h) (area X place j w r h) (lineByte h X place j r t) (rowByte w X place j r q) d (λ k b. refl)
+    (λ k b s. let a = area-said X place j w r h k s in same ((k - place) / X - j) ((k - place) % X - r) (omega arith) (omega arith))
+  where
+    same : (l c : ℕ) → l < w → c < h → getD t (l * h + c) 0 ≡ getD q (c * w + l) 0
+    same l c hl hc =
+        ap (λ (s : List ℕ). getD s (l * h + c) 0) turns
+        ∙ getD-tabulate (h * w) (λ k. getD q (k % h * w + k / h) 0) (l * h + c) 0 (rw (mul-comm h w) (digits-lt hl hc))
+        ∙ ap₂ (λ (a b : ℕ). getD q (a * w + b) 0) (digits-mod l hc) (digits-div l hc)
 
 module _ (X place : ℕ) (m : ℕ → ℕ → ℕ) where
-  -- eight bytes from j on of eight ranks from r on, laid into the frame, are the frame's own
-  pub block-is : (j r : ℕ) (q mid out : List ℕ) → ((l i : ℕ) → l < 8 → i < 8 → byteOf (getD q l 0) i ≡ m (r + l) (j + i))
-      → out ≡ drawn (area X place j 8 r 8) (λ k. byteOf (getD q ((k - place) % X - r) 0) ((k - place) / X - j)) mid
-      → out ≡ drawn (area X place j 8 r 8) (λ k. groupByte X m (k - place)) mid
-  block-is j r q mid out bytes e =
-      e
-      ∙ drawn-by (area X place j 8 r 8) (area X place j 8 r 8) (λ k. byteOf (getD q ((k - place) % X - r) 0) ((k - place) / X - j)) (λ k. groupByte X m (k - place)) mid
-      (λ k b. refl) (λ k b w. same k w)
+  -- W bytes from j on of H ranks from r on, laid into the frame, are the frame's own
+  pub block-is : (h w H W j r : ℕ) (before q mid out : List ℕ) → h ≡ H → w ≡ W → Rows H W m r j before q
+      → out ≡ drawn (area X place j W r H) (rowByte W X place j r q) mid → out ≡ drawn (area X place j w r h) (λ k. groupByte X m (k - place)) mid
+  block-is h w H W j r before q mid out high wide rows e =
+      rw (high, wide)
+      (e
+      ∙ drawn-by (area X place j W r H) (area X place j W r H) (rowByte W X place j r q) (λ k. groupByte X m (k - place)) mid
+      (λ k b. refl) (λ k b s. same k s))
     where
-      same : (k : ℕ) → area X place j 8 r 8 k ≡ true → byteOf (getD q ((k - place) % X - r) 0) ((k - place) / X - j) ≡ m ((k - place) % X) ((k - place) / X)
-      same k w =
-          let s = area-said X place j 8 r 8 k w in
+      same : (k : ℕ) → area X place j W r H k ≡ true → rowByte W X place j r q k ≡ m ((k - place) % X) ((k - place) / X)
+      same k s =
+          let a = area-said X place j W r H k s in
           let column : r + ((k - place) % X - r) ≡ (k - place) % X = omega arith in
           let line : j + ((k - place) / X - j) ≡ (k - place) / X = omega arith in
-          bytes ((k - place) % X - r) ((k - place) / X - j) (omega arith) (omega arith) ∙ ap₂ m column line
+          rows .is ((k - place) % X - r) ((k - place) / X - j) (omega arith) (omega arith) ∙ ap₂ m column line
 
   -- more columns of some lines, from b on
   pub columns-more : (l n a b i j : ℕ) {d mid : List ℕ} (out : List ℕ) → b ≤ a → a ≤ b + i → b + i ≡ j

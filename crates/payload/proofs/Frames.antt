@@ -73,5 +73,5 @@ spread-by-lines X P frame out e =
     same : (k : ℕ) → k < X * P → groupByte P (rankedByte X frame) k ≡ memberByte X frame (k / P) (k % P)
     same k b = rw (lt-ltb (k / P) X (ranked P X k (rw (mul-comm X P) at b) .byte))
 
-pub eights : (X P : ℕ) → (leb 8 X && leb 8 P) ≡ true → (8 ≤ X) × (8 ≤ P)
-eights X P e = (leb-true 8 X (and-left (leb 8 X) (leb 8 P) e), leb-true 8 P (and-right (leb 8 X) (leb 8 P) e))
+pub blocks-fit : (X P : ℕ) → (leb 8 X && leb 16 P) ≡ true → (8 ≤ X) × (16 ≤ P)
+blocks-fit X P e = (leb-true 8 X (and-left (leb 8 X) (leb 16 P) e), leb-true 16 P (and-right (leb 8 X) (leb 16 P) e))

@@ -2,6 +2,4 @@ pub mod Areas
 pub mod Blocks
 pub mod Copies
 pub mod Frames
-pub mod Tiles
-pub mod Turning
-pub mod Words
+pub mod Shuffles

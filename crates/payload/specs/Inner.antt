@@ -1,3 +1,3 @@
 -- What inner functions say of each other. No entry point's promise names these.
 pub mod Area
-pub mod Words
+pub mod Block

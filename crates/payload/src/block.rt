@@ -1,169 +1,213 @@
-// Spreading and joining in blocks of eight by eight bytes, for eight ranks and bytes or more. A block that would go beyond the end starts so much
-// earlier, and stores some bytes a second time.
-use crate::word;
+// Spreading and joining in blocks of eight by sixteen bytes and of sixteen by sixteen, for eight ranks and sixteen bytes or more. A block that would go beyond
+// the end starts so much earlier, and stores some bytes a second time.
+use crate::copy;
+use crate::shuffle;
 ghost use mathlib.Core.Path.{_≡_};
-ghost use Prim.Native.Nat.{ℕ, _+_, _-_, _*_, _/_, _%_, _≤_, _<_, min};
+ghost use Prim.Native.Nat.{ℕ, _+_, _-_, _*_, _%_, _≤_, _<_, min};
 ghost use lib.ListN.{length, getD};
 ghost use Rattle.ground.specs.Drawn.{drawn, fillAt};
-ghost use Rattle.payload.specs.Inner.Area.{area, tile};
+ghost use Rattle.payload.specs.Inner.Area.{area};
+ghost use Rattle.payload.specs.Inner.Block.{Rows, Sizes, lineByte, rowByte};
 ghost use Rattle.payload.specs.Joining.{rankedByte, startedByte};
 ghost use Rattle.payload.specs.Order.{groupByte, groupFrame};
-ghost use Rattle.payload.specs.Inner.Words.{byteOf};
 
-fn start(c: usize, n: usize) -> usize
-    requires { ⌜ 8 ≤ n ⌝ }
-    ensures { λ r. ⌜ r ≡ min c (n - 8) ⌝ }
+fn start(c: usize, n: usize, w: usize) -> usize
+    requires { ⌜ w ≤ n ⌝ }
+    ensures { λ r. ⌜ r ≡ min c (n - w) ⌝ }
 {
-    if c <= n - 8 { c } else { n - 8 }
+    if c <= n - w { c } else { n - w }
 }
 
-// Eight bytes of eight members that lie one after the other.
-fn read_ranked(p: usize, members: &[u8], r: usize, j: usize) -> [u64; 8]
-    requires { ⌜ (r + 8) * p ≤ length (now members) ⌝ }
-    requires { ⌜ j + 8 ≤ p ⌝ }
-    ensures { λ q. ⌜ ((l i : ℕ) → l < 8 → i < 8 → byteOf (getD q l 0) i ≡ rankedByte p (now (members .entry)) (r + l) (j + i)) ⌝ }
+// The bytes of some members that lie one after the other, a row of each.
+fn read_ranked(h: usize, w: usize, p: usize, members: &[u8], r: usize, j: usize, q: &mut [u8])
+    requires { ⌜ (1 ≤ p) × (h * w ≤ length (now q)) × ((l : ℕ) → l < h → (r + l) * p + (j + w) ≤ length (now members)) ⌝ }
+    ensures { λ _. ⌜ Rows h w (rankedByte p (now (members .entry))) r j (now (q .entry)) (now (q .exit)) ⌝ }
 {
-    let mut q = [0; 8];
     let mut l = 0;
-    while l < 8 {
-        q[l] = word::read(members, (r + l) * p + j);
+    while l < h {
+        copy::by_bytes(members, (r + l) * p + j, w, l * w, q);
         l += 1;
     }
-    q
 }
 
-// Eight bytes of eight members that start anywhere.
-fn read_started(starts: &[usize], store: &[u8], r: usize, j: usize) -> [u64; 8]
-    requires { ⌜ (r + 8 ≤ length (now starts)) × ((l : ℕ) → l < 8 → getD (now starts) (r + l) 0 + (j + 8) ≤ length (now store)) ⌝ }
-    ensures { λ q. ⌜ ((l i : ℕ) → l < 8 → i < 8 → byteOf (getD q l 0) i ≡ startedByte (now (starts .entry)) (now (store .entry)) (r + l) (j + i)) ⌝ }
+// The bytes of some members that start anywhere, a row of each.
+fn read_started(
+    h: usize,
+    w: usize,
+    starts: &[usize],
+    store: &[u8],
+    r: usize,
+    j: usize,
+    q: &mut [u8],
+)
+    requires { ⌜ (h * w ≤ length (now q)) × (r + h ≤ length (now starts)) × ((l : ℕ) → l < h → getD (now starts) (r + l) 0 + (j + w) ≤ length (now store)) ⌝ }
+    ensures { λ _. ⌜ Rows h w (startedByte (now (starts .entry)) (now (store .entry))) r j (now (q .entry)) (now (q .exit)) ⌝ }
 {
-    let mut q = [0; 8];
     let mut l = 0;
-    while l < 8 {
+    while l < h {
         let from = starts[r + l];
-        q[l] = word::read(store, from + j);
+        copy::by_bytes(store, from + j, w, l * w, q);
         l += 1;
     }
-    q
 }
 
-// A turned block into the frame, from a line and a column on.
-fn write(q: [u64; 8], x: usize, place: usize, j: usize, r: usize, out: &mut [u8])
-    requires { ⌜ (r + 8 ≤ x) × (place + (j + 8) * x ≤ length (now out)) ⌝ }
-    ensures { λ _. ⌜ now (out .exit) ≡ drawn (area x place j 8 r 8) (λ k. byteOf (getD q ((k - place) / x - j) 0) ((k - place) % x - r)) (now (out .entry)) ⌝ }
+// The w lines of h bytes of a block into the frame, from a line and a column on.
+fn write(q: &[u8], h: usize, w: usize, x: usize, place: usize, j: usize, r: usize, out: &mut [u8])
+    requires { ⌜ (1 ≤ h) × (r + h ≤ x) × (w * h ≤ length (now q)) × (place + (j + w) * x ≤ length (now out)) ⌝ }
+    ensures { λ _. ⌜ now (out .exit) ≡ drawn (area x place j w r h) (lineByte h x place j r (now (q .entry))) (now (out .entry)) ⌝ }
 {
     let mut i = 0;
-    while i < 8 {
-        word::write(q[i], place + ((j + i) * x + r), out);
+    while i < w {
+        copy::by_bytes(q, i * h, h, place + ((j + i) * x + r), out);
         i += 1;
     }
 }
 
-// Eight bytes of eight members, read as words, into the frame.
-fn lay(q: [u64; 8], x: usize, place: usize, j: usize, r: usize, out: &mut [u8])
-    requires { ⌜ (r + 8 ≤ x) × (place + (j + 8) * x ≤ length (now out)) ⌝ }
-    ensures { λ _. ⌜ now (out .exit) ≡ drawn (area x place j 8 r 8) (λ k. byteOf (getD q ((k - place) % x - r) 0) ((k - place) / x - j)) (now (out .entry)) ⌝ }
+// Blocks in rows, into the frame.
+fn lay_eight(q: [u8; 128], x: usize, place: usize, j: usize, r: usize, out: &mut [u8])
+    requires { ⌜ (r + 8 ≤ x) × (place + (j + 16) * x ≤ length (now out)) ⌝ }
+    ensures { λ _. ⌜ now (out .exit) ≡ drawn (area x place j 16 r 8) (rowByte 16 x place j r q) (now (out .entry)) ⌝ }
 {
-    let t = word::turned(q);
-    write(t, x, place, j, r, out);
+    let t = shuffle::eight_rows(q);
+    write(&t, 8, 16, x, place, j, r, out);
 }
 
-// Eight lines of the frame, from members that lie one after the other.
-fn lines(x: usize, p: usize, members: &[u8], j: usize, frame: &mut [u8])
-    requires { ⌜ (8 ≤ x) × (j + 8 ≤ p) × (length (now members) ≡ x * p) × (length (now frame) ≡ x * p) ⌝ }
-    ensures { λ _. ⌜ now (frame .exit) ≡ drawn (area x 0 j 8 0 x) (λ k. groupByte x (rankedByte p (now (members .entry))) (k - 0)) (now (frame .entry)) ⌝ }
+fn lay_sixteen(q: [u8; 128], x: usize, place: usize, j: usize, r: usize, out: &mut [u8])
+    requires { ⌜ (r + 16 ≤ x) × (place + (j + 8) * x ≤ length (now out)) ⌝ }
+    ensures { λ _. ⌜ now (out .exit) ≡ drawn (area x place j 8 r 16) (rowByte 8 x place j r q) (now (out .entry)) ⌝ }
 {
-    let mut c = 0;
-    while c < x {
-        let r = start(c, x);
-        let q = read_ranked(p, members, r, j);
-        lay(q, x, 0, j, r, frame);
-        c += 8;
+    let t = shuffle::sixteen_rows(q);
+    write(&t, 16, 8, x, place, j, r, out);
+}
+
+fn lay_wide(q: [u8; 256], x: usize, place: usize, j: usize, r: usize, out: &mut [u8])
+    requires { ⌜ (r + 16 ≤ x) × (place + (j + 16) * x ≤ length (now out)) ⌝ }
+    ensures { λ _. ⌜ now (out .exit) ≡ drawn (area x place j 16 r 16) (rowByte 16 x place j r q) (now (out .entry)) ⌝ }
+{
+    let t = shuffle::sixteen_wide(q);
+    write(&t, 16, 16, x, place, j, r, out);
+}
+
+// A block of members that lie one after the other.
+fn block(
+    h: usize,
+    w: usize,
+    x: usize,
+    p: usize,
+    members: &[u8],
+    r: usize,
+    j: usize,
+    frame: &mut [u8],
+)
+    requires { ⌜ Sizes h w × (r + h ≤ x) × (j + w ≤ p) × (length (now members) ≡ x * p) × (length (now frame) ≡ x * p) ⌝ }
+    ensures { λ _. ⌜ now (frame .exit) ≡ drawn (area x 0 j w r h) (λ k. groupByte x (rankedByte p (now (members .entry))) (k - 0)) (now (frame .entry)) ⌝ }
+{
+    if h == 8 {
+        let mut q = [0; 128];
+        read_ranked(8, 16, p, members, r, j, &mut q);
+        lay_eight(q, x, 0, j, r, frame);
+    } else if w == 8 {
+        let mut q = [0; 128];
+        read_ranked(16, 8, p, members, r, j, &mut q);
+        lay_sixteen(q, x, 0, j, r, frame);
+    } else {
+        let mut q = [0; 256];
+        read_ranked(16, 16, p, members, r, j, &mut q);
+        lay_wide(q, x, 0, j, r, frame);
     }
 }
 
-// Members one after the other, into a frame.
-pub(crate) fn join(x: usize, p: usize, members: &[u8], frame: &mut [u8])
-    requires { ⌜ (8 ≤ x) × (8 ≤ p) × (length (now members) ≡ x * p) × (length (now frame) ≡ x * p) ⌝ }
-    ensures { λ _. ⌜ now (frame .exit) ≡ groupFrame x p (rankedByte p (now (members .entry))) ⌝ }
+// A block of sixteen bytes of members that start anywhere.
+fn block_from(
+    h: usize,
+    x: usize,
+    starts: &[usize],
+    store: &[u8],
+    r: usize,
+    j: usize,
+    place: usize,
+    out: &mut [u8],
+)
+    requires { ⌜ Sizes h 16 × (r + h ≤ x) × (x ≤ length (now starts)) × ((l : ℕ) → l < h → getD (now starts) (r + l) 0 + (j + 16) ≤ length (now store)) × (place + (j + 16) * x ≤ length (now out)) ⌝ }
+    ensures { λ _. ⌜ now (out .exit) ≡ drawn (area x place j 16 r h) (λ k. groupByte x (startedByte (now (starts .entry)) (now (store .entry))) (k - place)) (now (out .entry)) ⌝ }
+{
+    if h == 8 {
+        let mut q = [0; 128];
+        read_started(8, 16, starts, store, r, j, &mut q);
+        lay_eight(q, x, place, j, r, out);
+    } else {
+        let mut q = [0; 256];
+        read_started(16, 16, starts, store, r, j, &mut q);
+        lay_wide(q, x, place, j, r, out);
+    }
+}
+
+// All lines of h columns, from members that lie one after the other.
+fn columns(h: usize, w: usize, x: usize, p: usize, members: &[u8], r: usize, frame: &mut [u8])
+    requires { ⌜ Sizes h w × (r + h ≤ x) × (w ≤ p) × (length (now members) ≡ x * p) × (length (now frame) ≡ x * p) ⌝ }
+    ensures { λ _. ⌜ now (frame .exit) ≡ drawn (area x 0 0 p r h) (λ k. groupByte x (rankedByte p (now (members .entry))) (k - 0)) (now (frame .entry)) ⌝ }
 {
     let mut c = 0;
     while c < p {
-        let j = start(c, p);
-        lines(x, p, members, j, frame);
-        c += 8;
+        let j = start(c, p, w);
+        block(h, w, x, p, members, r, j, frame);
+        c += w;
     }
 }
 
-// Eight columns of a tile, from members that start anywhere.
+// Members one after the other, into a frame, by blocks of h ranks and w bytes.
+pub(crate) fn join(h: usize, w: usize, x: usize, p: usize, members: &[u8], frame: &mut [u8])
+    requires { ⌜ Sizes h w × (h ≤ x) × (w ≤ p) × (length (now members) ≡ x * p) × (length (now frame) ≡ x * p) ⌝ }
+    ensures { λ _. ⌜ now (frame .exit) ≡ groupFrame x p (rankedByte p (now (members .entry))) ⌝ }
+{
+    let mut c = 0;
+    while c < x {
+        let r = start(c, x, h);
+        columns(h, w, x, p, members, r, frame);
+        c += h;
+    }
+}
+
+// All lines of h columns, from members that start anywhere.
 fn columns_from(
+    h: usize,
     x: usize,
     p: usize,
     starts: &[usize],
     store: &[u8],
     r: usize,
-    from: usize,
-    to: usize,
     place: usize,
     out: &mut [u8],
 )
-    requires { ⌜ (r + 8 ≤ x) × (8 ≤ p) × (from < p) × (to ≡ min (from + 64) p) × (x ≤ length (now starts)) × ((i : ℕ) → i < x → getD (now starts) i 0 + p ≤ length (now store)) × (place + x * p ≤ length (now out)) ⌝ }
-    ensures { λ _. ⌜ now (out .exit) ≡ drawn (tile x p place from to r 8) (λ k. groupByte x (startedByte (now (starts .entry)) (now (store .entry))) (k - place)) (now (out .entry)) ⌝ }
-{
-    let mut c = from;
-    while c < to {
-        let j = start(c, p);
-        let q = read_started(starts, store, r, j);
-        lay(q, x, place, j, r, out);
-        c += 8;
-    }
-}
-
-// A tile: all columns of 64 lines, or of those that are left.
-fn tile_from(
-    x: usize,
-    p: usize,
-    starts: &[usize],
-    store: &[u8],
-    from: usize,
-    to: usize,
-    place: usize,
-    out: &mut [u8],
-)
-    requires { ⌜ (8 ≤ x) × (8 ≤ p) × (from < p) × (to ≡ min (from + 64) p) × (x ≤ length (now starts)) × ((r : ℕ) → r < x → getD (now starts) r 0 + p ≤ length (now store)) × (place + x * p ≤ length (now out)) ⌝ }
-    ensures { λ _. ⌜ now (out .exit) ≡ drawn (tile x p place from to 0 x) (λ k. groupByte x (startedByte (now (starts .entry)) (now (store .entry))) (k - place)) (now (out .entry)) ⌝ }
-{
-    let mut c = 0;
-    while c < x {
-        let r = start(c, x);
-        columns_from(x, p, starts, store, r, from, to, place, out);
-        c += 8;
-    }
-}
-
-fn least(a: usize, b: usize) -> usize
-    ensures { λ r. ⌜ r ≡ min a b ⌝ }
-{
-    if a < b { a } else { b }
-}
-
-// Members that start anywhere in a store, into a frame that lies from a place on. It goes by tiles of 64 bytes of each member: a cache line of
-// a member is read at once, before those of 64 members can drive each other out.
-pub(crate) fn join_from(
-    x: usize,
-    p: usize,
-    starts: &[usize],
-    store: &[u8],
-    place: usize,
-    out: &mut [u8],
-)
-    requires { ⌜ (8 ≤ x) × (8 ≤ p) × (x ≤ length (now starts)) × ((r : ℕ) → r < x → getD (now starts) r 0 + p ≤ length (now store)) × (place + x * p ≤ length (now out)) ⌝ }
-    ensures { λ _. ⌜ now (out .exit) ≡ fillAt place (x * p) (groupByte x (startedByte (now (starts .entry)) (now (store .entry)))) (now (out .entry)) ⌝ }
+    requires { ⌜ Sizes h 16 × (r + h ≤ x) × (16 ≤ p) × (x ≤ length (now starts)) × ((i : ℕ) → i < x → getD (now starts) i 0 + p ≤ length (now store)) × (place + x * p ≤ length (now out)) ⌝ }
+    ensures { λ _. ⌜ now (out .exit) ≡ drawn (area x place 0 p r h) (λ k. groupByte x (startedByte (now (starts .entry)) (now (store .entry))) (k - place)) (now (out .entry)) ⌝ }
 {
     let mut c = 0;
     while c < p {
-        let to = least(c + 64, p);
-        tile_from(x, p, starts, store, c, to, place, out);
-        c += 64;
+        let j = start(c, p, 16);
+        block_from(h, x, starts, store, r, j, place, out);
+        c += 16;
+    }
+}
+
+// Members that start anywhere in a store, into a frame that lies from a place on. All lines of h members go before the next h: so few members
+// are read in their order, where a store that no near cache holds would be fetched anew for each line of all.
+pub(crate) fn join_from(
+    h: usize,
+    x: usize,
+    p: usize,
+    starts: &[usize],
+    store: &[u8],
+    place: usize,
+    out: &mut [u8],
+)
+    requires { ⌜ Sizes h 16 × (h ≤ x) × (16 ≤ p) × (x ≤ length (now starts)) × ((r : ℕ) → r < x → getD (now starts) r 0 + p ≤ length (now store)) × (place + x * p ≤ length (now out)) ⌝ }
+    ensures { λ _. ⌜ now (out .exit) ≡ fillAt place (x * p) (groupByte x (startedByte (now (starts .entry)) (now (store .entry)))) (now (out .entry)) ⌝ }
+{
+    let mut c = 0;
+    while c < x {
+        let r = start(c, x, h);
+        columns_from(h, x, p, starts, store, r, place, out);
+        c += h;
     }
 }

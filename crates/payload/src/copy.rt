@@ -9,7 +9,7 @@ ghost use lib.ListN.{length, getD};
 ghost use Rattle.ground.specs.Drawn.{fillAt};
 ghost use Rattle.payload.specs.Answers.{PAYLOAD-MOST};
 
-fn by_bytes(from: &[u8], at: usize, n: usize, place: usize, to: &mut [u8])
+pub(crate) fn by_bytes(from: &[u8], at: usize, n: usize, place: usize, to: &mut [u8])
     requires { ⌜ (at + n ≤ length (now from)) × (place + n ≤ length (now to)) ⌝ }
     ensures { λ _. ⌜ now (to .exit) ≡ fillAt place n (λ j. getD (now (from .entry)) (at + j) 0) (now (to .entry)) ⌝ }
 {

@@ -4,7 +4,7 @@ mod answer;
 mod block;
 mod copy;
 mod plain;
-mod word;
+mod shuffle;
 mod work;
 
 pub use answer::Answer;

@@ -1,4 +1,4 @@
-// The work under 0: a copy where there is one member, by blocks where a block of eight by eight fits, else by plain loops.
+// The work under 0: a copy where there is one member, by blocks where one of eight ranks and sixteen bytes fits, else by plain loops.
 use crate::block;
 use crate::copy;
 use crate::plain;
@@ -6,9 +6,18 @@ ghost use mathlib.Core.Path.{_≡_};
 ghost use Prim.Native.Nat.{ℕ, _+_, _*_, _≤_, _<_};
 ghost use lib.ListN.{length, getD};
 ghost use Rattle.ground.specs.Drawn.{fillAt};
+ghost use Rattle.payload.specs.Inner.Block.{Sizes};
 ghost use Rattle.payload.specs.Joining.{rankedByte, startedByte};
 ghost use Rattle.payload.specs.Order.{groupByte, groupFrame};
 ghost use Rattle.payload.specs.Spreading.{allMembers};
+
+// How many ranks a block has.
+fn rows(x: usize) -> usize
+    requires { ⌜ 8 ≤ x ⌝ }
+    ensures { λ h. ⌜ Sizes h 16 × (h ≤ x) ⌝ }
+{
+    if x < 16 { 8 } else { 16 }
+}
 
 pub(crate) fn join(x: usize, p: usize, members: &[u8], frame: &mut [u8])
     requires { ⌜ (length (now members) ≡ x * p) × (length (now frame) ≡ x * p) ⌝ }
@@ -16,8 +25,8 @@ pub(crate) fn join(x: usize, p: usize, members: &[u8], frame: &mut [u8])
 {
     if x == 1 {
         copy::run(members, 0, p, 0, frame);
-    } else if (8 <= x) & (8 <= p) {
-        block::join(x, p, members, frame);
+    } else if (8 <= x) & (16 <= p) {
+        block::join(rows(x), 16, x, p, members, frame);
     } else {
         plain::join(x, p, members, frame);
     }
@@ -30,8 +39,8 @@ pub(crate) fn spread(x: usize, p: usize, frame: &[u8], members: &mut [u8])
 {
     if x == 1 {
         copy::run(frame, 0, p, 0, members);
-    } else if (8 <= x) & (8 <= p) {
-        block::join(p, x, frame, members);
+    } else if (8 <= x) & (16 <= p) {
+        block::join(16, 8, p, x, frame, members);
     } else {
         plain::spread(x, p, frame, members);
     }
@@ -51,8 +60,8 @@ pub(crate) fn join_from(
     if x == 1 {
         let start = starts[0];
         copy::run(store, start, p, place, out);
-    } else if (8 <= x) & (8 <= p) {
-        block::join_from(x, p, starts, store, place, out);
+    } else if (8 <= x) & (16 <= p) {
+        block::join_from(rows(x), x, p, starts, store, place, out);
     } else {
         plain::join_from(x, p, starts, store, place, out);
     }

@@ -1,17 +1,22 @@
 use native.Mathlib.Omega.{arith}
-use borrow.Author.Needs.{needs}
 use Rattle.payload.proofs.Copies.{one-times, one-joined}
-use Rattle.payload.proofs.Frames.{eights}
+use Rattle.payload.proofs.Frames.{blocks-fit}
+use borrow.Author.Needs.{needs}
 use Rattle.payload.proofs.work.join.Statement.{statement}
 use Rattle.payload.proofs.work.join.Tie as tie
 
 run-requires : tie.Need-run-requires
 run-requires c κs = omega (arith, one-times (c .before .before .before .before .args .x) (c .before .before .before .before .args .p) (c .before .if1 .taken))
 
+rows-requires : tie.Need-rows-requires
+rows-requires c κs = blocks-fit (c .before .before .before .before .args .x) (c .before .before .before .before .args .p) (c .if2 .taken) .0
+
 join-requires : tie.Need-join-requires
 join-requires c κs =
-    let e = eights (c .before .before .before .before .before .args .x) (c .before .before .before .before .before .args .p) (c .before .if2 .taken) in
-    (e .0, e .1, c .before .before .before .before .before .pre .0, c .before .before .before .before .before .pre .1)
+    let a = c .before .before .before .before .before .before .args in
+    let h = c .before .before .before .before .before .before .pre in
+    let s = c .before .rows .ensures in
+    (s .0, s .1, blocks-fit (a .x) (a .p) (c .before .before .if2 .taken) .1, h .0, h .1)
 
 join-requires-2 : tie.Need-join-requires-2
 join-requires-2 c κs = omega arith
@@ -41,6 +46,7 @@ join-spec =
     tie.close
     (tie.spec
     run-requires
+    rows-requires
     join-requires
     join-requires-2
     same-length

@@ -1,9 +1,9 @@
 -- `join_from` meets its contract in each of three ways: a copy of one member, blocks, plain loops. All three fill the frame with the same bytes.
 use Prim.Native.Nat.{_<_}
 use native.Mathlib.Omega.{arith}
-use borrow.Author.Needs.{needs}
 use Rattle.payload.proofs.Copies.{one-times, one-from}
-use Rattle.payload.proofs.Frames.{eights}
+use Rattle.payload.proofs.Frames.{blocks-fit}
+use borrow.Author.Needs.{needs}
 use Rattle.payload.proofs.work.join_from.Statement.{statement}
 use Rattle.payload.proofs.work.join_from.Tie as tie
 
@@ -16,10 +16,15 @@ run-requires c κs =
     let h : 0 < a .x = omega arith in
     omega (arith, c .before .before .before .before .before .before .pre .1 0 h, one-times (a .x) (a .p) (c .before .before .if1 .taken))
 
+rows-requires : tie.Need-rows-requires
+rows-requires c κs = blocks-fit (c .before .before .before .before .before .args .x) (c .before .before .before .before .before .args .p) (c .if2 .taken) .0
+
 join-from-requires : tie.Need-join-from-requires
 join-from-requires c κs =
-    let e = eights (c .before .before .before .before .before .before .args .x) (c .before .before .before .before .before .before .args .p) (c .before .if2 .taken) in
-    (e .0, e .1, c .before .before .before .before .before .before .pre .0, c .before .before .before .before .before .before .pre .1, c .before .before .before .before .before .before .pre .2)
+    let a = c .before .before .before .before .before .before .before .args in
+    let h = c .before .before .before .before .before .before .before .pre in
+    let s = c .before .rows .ensures in
+    (s .0, s .1, blocks-fit (a .x) (a .p) (c .before .before .if2 .taken) .1, h .0, h .1, h .2)
 
 join-from-requires-2 : tie.Need-join-from-requires-2
 join-from-requires-2 c κs = search needs
@@ -31,8 +36,7 @@ returns : tie.Need-returns
 returns c =
     let at-run = c .before .before in
     let at-if1 = at-run .before .before .before in
-    let at-start = at-if1 .before .before .before .before in
-    let a = at-start .args in
+    let a = c .before .before .before .before .before .before .before .before .before .args in
     one-from (a .x) (a .p) (at-if1 .if1 .taken) (a .starts .now) (a .store .now) (a .place) (a .out .now) _ (at-run .run .ensures)
 
 same-length-2 : tie.Need-same-length-2
@@ -53,6 +57,7 @@ join-from-spec =
     (tie.spec
     shared-slice-read-start
     run-requires
+    rows-requires
     join-from-requires
     join-from-requires-2
     same-length

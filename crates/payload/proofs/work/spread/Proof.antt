@@ -1,10 +1,10 @@
 -- `spread` meets its contract in each of three ways: a copy of one member, blocks, plain loops. By blocks the P lines of X bytes are joined (`spread-by-lines`).
-use mathlib.Core.Path.{_∙_}
+use mathlib.Core.Path.{refl, _∙_}
 use native.Mathlib.Nat.{mul-comm}
 use native.Mathlib.Omega.{arith}
-use borrow.Author.Needs.{needs}
 use Rattle.payload.proofs.Copies.{one-times, one-spread}
-use Rattle.payload.proofs.Frames.{eights, spread-by-lines}
+use Rattle.payload.proofs.Frames.{blocks-fit, spread-by-lines}
+use borrow.Author.Needs.{needs}
 use Rattle.payload.proofs.work.spread.Statement.{statement}
 use Rattle.payload.proofs.work.spread.Tie as tie
 
@@ -14,8 +14,9 @@ run-requires c κs = omega (arith, one-times (c .before .before .before .before 
 join-requires : tie.Need-join-requires
 join-requires c κs =
     let a = c .before .before .before .before .before .args in
-    let e = eights (a .x) (a .p) (c .before .if2 .taken) in
-    (e .1, e .0, c .before .before .before .before .before .pre .0 ∙ mul-comm (a .x) (a .p), c .before .before .before .before .before .pre .1 ∙ mul-comm (a .x) (a .p))
+    let h = c .before .before .before .before .before .pre in
+    let e = blocks-fit (a .x) (a .p) (c .before .if2 .taken) in
+    (record { rows = refl; bytes = refl; rows-most = omega arith; bytes-most = omega arith; both = omega arith }, e .1, e .0, h .0 ∙ mul-comm (a .x) (a .p), h .1 ∙ mul-comm (a .x) (a .p))
 
 spread-requires : tie.Need-spread-requires
 spread-requires c κs = omega arith
@@ -33,10 +34,8 @@ same-length-2 c = omega arith
 
 returns-2 : tie.Need-returns-2
 returns-2 c =
-    let at-join = c .before .before in
-    let at-start = at-join .before .before .before .before .before .before in
-    let a = at-start .args in
-    spread-by-lines (a .x) (a .p) (a .frame .now) _ (at-join .join .ensures)
+    let a = c .before .before .before .before .before .before .before .before .args in
+    spread-by-lines (a .x) (a .p) (a .frame .now) _ (c .before .before .join .ensures)
 
 same-length-3 : tie.Need-same-length-3
 same-length-3 c = omega arith
