@@ -32,6 +32,7 @@ use Rattle.console.specs.Replies.{outputOf as outputOf-console-Replies}
 use Rattle.console.specs.Replies.{replyOf as replyOf-console-Replies}
 use Rattle.console.specs.Runs.{endedRun, fedOnce, hostOutput, leftOf, wholeOutput}
 use Rattle.console.specs.Session.{beginning, fedSession, fedText, feedBytes, feedOf, finishBytes, finishOf, lastSession, lastText, usedOf}
+use Rattle.console.specs.Told.{toldTable}
 use Rattle.ground.specs.Circle.{after}
 use Rattle.judge.specs.Order.{activeIn, orderOf, portOf}
 use Rattle.judge.specs.Order.{rankOf as rankOf-judge-Order}
@@ -131,7 +132,7 @@ unfolding indexAfter indexOf boardByte boardBytesOf rankByte ranksBytesOf shownA
     packetAnswer-circuits-Readings packetBytes-circuits-Readings payloadAnswer-circuits-Readings payloadBytes-circuits-Readings ranksShown keepOf
     lineIn nothingKept lineOf numberLine reportLine reportOf-console-Line wordLine answerText-console-Output boardText slotText-console-Output
     waitText outputOf-console-Replies replyOf-console-Replies sizeReply endedRun fedOnce hostOutput leftOf wholeOutput beginning fedSession fedText
-    feedBytes feedOf finishBytes finishOf lastSession lastText usedOf after activeIn orderOf portOf rankOf-judge-Order doubtfulBy eosAlone eosWrong
+    feedBytes feedOf finishBytes finishOf lastSession lastText usedOf toldTable after activeIn orderOf portOf rankOf-judge-Order doubtfulBy eosAlone eosWrong
     exact fixedExact fixedHeld fixedVerdict gidDiffers heldBy highest-judge-Verdict judgeOf lcasVerdict missing repeats takes outcomeBy carriesLow
     counts nibbleIn nibblePlace startsCount tagByHigh tagByLow crcOf divisor nibbleBits fixedNibbles fixedRulingOf readFixedAnswer readFixedNibbles
     writeFixedAnswer writeFixedBytes distanceOf endsEpoch epochAfter epochOf epochs epochsIn firstTag frames idleNumber lead mstFails mstFirst
