@@ -77,8 +77,9 @@ use Rattle.recording.specs.Pairs.{fieldIn, holdRead, kindRead, named, restoreRe
 use Rattle.recording.specs.Record.{flagIn, frameBy, lastRecord, lineRecord, recordIn}
 use Rattle.replaying.specs.Output.{countIn, epochText, markText, portText, reportText, stateAt, stateLine, stateText, statesIn}
 use Rattle.replaying.specs.Output.{answerText as answerText-replaying-Output}
-use Rattle.replaying.specs.Runs.{deskAfter, saidTo}
-use Rattle.replaying.specs.Turn.{answeredSaid, answeredTurn, fetchRecordBy, fetchRowsBy, framedRows, framedStore, framedTurn, isLent, openRows, openSaid, openTurn, openWithRows, openWithSaid, openWithTurn, payloadAt, readOnTurn, readSaid, readTurn, recordNow, reportTurn, reportedTurn, skipTurn, startable, startedRows, timesFit, turnOut, turnRows, turnSaid, turnStore}
+use Rattle.replaying.specs.Runs.{called, calls, deskAfter, saidTo}
+use Rattle.replaying.specs.Runs.{wholeOutput as wholeOutput-replaying-Runs}
+use Rattle.replaying.specs.Turn.{answeredSaid, answeredTurn, fetchRecordBy, fetchRowsBy, framedRows, framedStore, framedTurn, isLent, openRows, openSaid, openTurn, openWithRows, openWithSaid, openWithTurn, payloadAt, readOnTurn, readRows, readSaid, readStore, readTurn, recordNow, reportTurn, reportedTurn, skipTurn, startable, startedRows, timesFit, turnOut, turnRows, turnSaid, turnStore}
 use Rattle.replaying.specs.Turn.{reportOf as reportOf-replaying-Turn}
 use Rattle.replaying.specs.Turn.{turnOf as turnOf-replaying-Turn}
 use Rattle.reply.specs.Choosing.{claims, grant, granted, holders}
@@ -147,8 +148,8 @@ unfolding indexAfter indexOf boardByte boardBytesOf rankByte ranksBytesOf shownA
     portsOut replyAnswer replyFit replyOf-receiver-Shown replyOut shownFit freshPort freshPorts sizedAnswer sizedFits sizedRows startAsAnswer
     startAsRows startFits startRight timesWithin foundOf lineOpening opened openingIn settingsBy fieldIn holdRead kindRead named restoreRead flagIn
     frameBy lastRecord lineRecord recordIn answerText-replaying-Output countIn epochText markText portText reportText stateAt stateLine stateText
-    statesIn deskAfter saidTo answeredSaid answeredTurn fetchRecordBy fetchRowsBy framedRows framedStore framedTurn isLent openRows openSaid openTurn
-    openWithRows openWithSaid openWithTurn payloadAt readOnTurn readSaid readTurn recordNow reportOf-replaying-Turn reportTurn reportedTurn skipTurn
+    statesIn called calls deskAfter saidTo wholeOutput-replaying-Runs answeredSaid answeredTurn fetchRecordBy fetchRowsBy framedRows framedStore framedTurn isLent openRows openSaid openTurn
+    openWithRows openWithSaid openWithTurn payloadAt readOnTurn readRows readSaid readStore readTurn recordNow reportOf-replaying-Turn reportTurn reportedTurn skipTurn
     startable startedRows timesFit turnOf-replaying-Turn turnOut turnRows turnSaid turnStore claims grant granted holders ackOf mstFrom mstOf okHolds
     turns chosenOf keptNumbers moreKept rounds someJoin standingBy standingsOf groupAt groupOf groupRow putGroup memberAt memberOf memberRow putMember
     marksAt packetsAt putMarks putPackets withNibble putRow rowIn putStep stepAt stepOf stepRow withNext boardOf highest-sender-Board noRow rowOf
