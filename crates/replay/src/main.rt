@@ -28,7 +28,7 @@ fn at_most(n: usize, most: usize) -> usize
 }
 
 // One turn on a text, and what it prints. Where that cannot be written there is nobody to go on for.
-// Each function below carries the replay on by turns alone, so that no file is begun anew.
+// Each function below gives the replay that it is handed, carried on by turns alone.
 fn take_turn(
     replay: Replay,
     text: &[u8],

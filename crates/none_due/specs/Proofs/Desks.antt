@@ -1,7 +1,7 @@
 -- A frame's line and its fetches leave a receiver that is kept; of W fetches behind a frame one finds none, and then nothing changes any more.
 use mathlib.Core.Path.{_≡_, refl, sym, ap, subst, _∙_}
 use mathlib.Core.Logic.{_⊎_, inl, inr, ⊎-elim}
-use mathlib.Core.Bool.{Bool, true, false, cond, _&&_, false≢true, true≢false}
+use mathlib.Core.Bool.{Bool, true, false, cond, _&&_, false≢true}
 use mathlib.Core.List.{List, [], _∷_, _++_}
 use Prim.Native.Nat.{ℕ, zero, suc, _+_, _*_, _≤_, _<_}
 use native.Mathlib.Nat.{mul-le-mul-left}
@@ -10,7 +10,7 @@ use lib.Dec.{eqb, ltb}
 use lib.ListN.{drop, getD, length, replicate, take, length-replicate, take-append-drop}
 use lib.Seq.{length-take-le, take-append-seam}
 use borrow.Author.Tests.{lt-ltb}
-use Rattle.invariant.specs.Calls.{Fetch, Frame, Receiver, ReceiverCall}
+use Rattle.invariant.specs.Calls.{Fetch, Frame}
 use Rattle.invariant.specs.Kept.Group.{Kept}
 use Rattle.invariant.specs.Proofs.Calls.{call-kept}
 use Rattle.invariant.specs.Proofs.Kept.Calls.{fetch-kept}

@@ -8,9 +8,9 @@ use native.Mathlib.Nat.{suc-mul, zero-mul}
 use native.Mathlib.Omega.{arith}
 use lib.ListN.{length}
 use Rattle.counting.specs.Laws.Tests.{One, some-not-none, some-one}
-use Rattle.ground.specs.Truth.{and-left, and-right, or-cases}
+use Rattle.ground.specs.Truth.{and-right, or-cases}
 use Rattle.invariant.specs.Calls.{Fetch, Frame, Receiver, ReceiverCall, receiverAfter}
-use Rattle.invariant.specs.Kept.Group.{Kept, Lasting}
+use Rattle.invariant.specs.Kept.Group.{Kept}
 use Rattle.invariant.specs.Kept.Port.{offset}
 use Rattle.invariant.specs.Proofs.Calls.{call-kept}
 use Rattle.invariant.specs.Proofs.Kept.Calls.{Due, due-says}

@@ -1,11 +1,11 @@
 -- From the first line on: settings that are taken leave a replay that is ready, and every other first line ends it.
 use mathlib.Core.Path.{_≡_, refl, sym, ap, _∙_}
-use mathlib.Core.Bool.{Bool, true, false, cond, _&&_, false≢true}
+use mathlib.Core.Bool.{Bool, true, false, _&&_, false≢true}
 use mathlib.Core.List.{List, [], _∷_, _++_}
 use Prim.Native.Nat.{ℕ, _≤_}
 use native.Mathlib.Omega.{arith}
 use lib.Dec.{eqb, leb, ltb}
-use lib.ListN.{drop, length, replicate, take, length-replicate}
+use lib.ListN.{drop, length, take, length-replicate}
 use lib.Seq.{length-take-le, take-append-seam}
 use borrow.Author.Tests.{eq-eqb}
 use Rattle.ground.specs.Truth.{and-left, and-right, or-right}
