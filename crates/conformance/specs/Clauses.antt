@@ -3,6 +3,7 @@ pub mod Arriving
 pub mod Calls
 pub mod Cards
 pub mod Counting
+pub mod Files
 pub mod Filled
 pub mod Frames
 pub mod Holding

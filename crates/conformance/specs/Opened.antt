@@ -33,6 +33,7 @@ use Rattle.console.specs.Replies.{outputOf as outputOf-console-Replies}
 use Rattle.console.specs.Replies.{replyOf as replyOf-console-Replies}
 use Rattle.console.specs.Runs.{endedRun, fedOnce, hostOutput, leftOf, wholeOutput}
 use Rattle.console.specs.Session.{beginning, fedSession, fedText, feedBytes, feedOf, finishBytes, finishOf, lastSession, lastText, usedOf}
+use Rattle.console.specs.Told.{toldTable}
 use Rattle.ground.specs.Circle.{after}
 use Rattle.judge.specs.Order.{activeIn, orderOf, portOf}
 use Rattle.judge.specs.Order.{rankOf as rankOf-judge-Order}
@@ -86,8 +87,9 @@ use Rattle.recording.specs.Pairs.{fieldIn, holdRead, kindRead, named, restoreRe
 use Rattle.recording.specs.Record.{flagIn, frameBy, lastRecord, lineRecord, recordIn}
 use Rattle.replaying.specs.Output.{countIn, epochText, markText, portText, reportText, stateAt, stateLine, stateText, statesIn}
 use Rattle.replaying.specs.Output.{answerText as answerText-replaying-Output}
-use Rattle.replaying.specs.Runs.{deskAfter, saidTo}
-use Rattle.replaying.specs.Turn.{answeredSaid, answeredTurn, fetchRecordBy, fetchRowsBy, framedRows, framedStore, framedTurn, isLent, openRows, openSaid, openTurn, openWithRows, openWithSaid, openWithTurn, payloadAt, readOnTurn, readSaid, readTurn, recordNow, reportTurn, reportedTurn, skipTurn, startable, startedRows, timesFit, turnOut, turnRows, turnSaid, turnStore}
+use Rattle.replaying.specs.Runs.{called, calls, deskAfter, saidTo}
+use Rattle.replaying.specs.Runs.{wholeOutput as wholeOutput-replaying-Runs}
+use Rattle.replaying.specs.Turn.{answeredSaid, answeredTurn, fetchRecordBy, fetchRowsBy, framedRows, framedStore, framedTurn, isLent, openRows, openSaid, openTurn, openWithRows, openWithSaid, openWithTurn, payloadAt, readOnTurn, readRows, readSaid, readStore, readTurn, recordNow, reportTurn, reportedTurn, skipTurn, startable, startedRows, timesFit, turnOut, turnRows, turnSaid, turnStore}
 use Rattle.replaying.specs.Turn.{reportOf as reportOf-replaying-Turn}
 use Rattle.replaying.specs.Turn.{turnOf as turnOf-replaying-Turn}
 use Rattle.reply.specs.Choosing.{claims, grant, granted, holders}
@@ -141,7 +143,7 @@ unfolding indexAfter indexOf boardByte boardBytesOf rankByte ranksBytesOf shownA
     packetAnswer-circuits-Readings packetBytes-circuits-Readings payloadAnswer-circuits-Readings payloadBytes-circuits-Readings ranksShown keepOf
     lineIn nothingKept lineOf numberLine reportLine reportOf-console-Line wordLine answerText-console-Output boardText slotText-console-Output
     waitText outputOf-console-Replies replyOf-console-Replies sizeReply endedRun fedOnce hostOutput leftOf wholeOutput beginning fedSession fedText
-    feedBytes feedOf finishBytes finishOf lastSession lastText usedOf after activeIn orderOf portOf rankOf-judge-Order doubtfulBy eosAlone eosWrong
+    feedBytes feedOf finishBytes finishOf lastSession lastText usedOf toldTable after activeIn orderOf portOf rankOf-judge-Order doubtfulBy eosAlone eosWrong
     exact fixedExact fixedHeld fixedVerdict gidDiffers heldBy highest-judge-Verdict judgeOf lcasVerdict missing repeats takes followed capital digitPlace judged linesWith recordOf-mending-Lines mendAnswer mendedOf notesOf
     fitting-mending-Mending readAnswer-mending-Mending lengthsOf mendedLeft notesLeft outcomeBy carriesLow
     counts bringsMfi2 changed keptPart mostChanges entryAt entryFrom entryWith rowFrom symbolAt symbolIn symbolOf withSymbol startsCount tagByHigh tagByLow crcOf divisor nibbleBits fixedNibbles fixedRulingOf readFixedAnswer readFixedNibbles
@@ -157,8 +159,8 @@ unfolding indexAfter indexOf boardByte boardBytesOf rankByte ranksBytesOf shownA
     portsOut replyAnswer replyFit replyOf-receiver-Shown replyOut shownFit freshPort freshPorts sizedAnswer sizedFits sizedRows startAsAnswer
     startAsRows startFits startRight timesWithin foundOf lineOpening opened openingIn settingsBy fieldIn holdRead kindRead named restoreRead flagIn
     frameBy lastRecord lineRecord recordIn answerText-replaying-Output countIn epochText markText portText reportText stateAt stateLine stateText
-    statesIn deskAfter saidTo answeredSaid answeredTurn fetchRecordBy fetchRowsBy framedRows framedStore framedTurn isLent openRows openSaid openTurn
-    openWithRows openWithSaid openWithTurn payloadAt readOnTurn readSaid readTurn recordNow reportOf-replaying-Turn reportTurn reportedTurn skipTurn
+    statesIn called calls deskAfter saidTo wholeOutput-replaying-Runs answeredSaid answeredTurn fetchRecordBy fetchRowsBy framedRows framedStore framedTurn isLent openRows openSaid openTurn
+    openWithRows openWithSaid openWithTurn payloadAt readOnTurn readRows readSaid readStore readTurn recordNow reportOf-replaying-Turn reportTurn reportedTurn skipTurn
     startable startedRows timesFit turnOf-replaying-Turn turnOut turnRows turnSaid turnStore claims grant granted holders ackOf mstFrom mstOf okHolds
     turns chosenOf keptNumbers moreKept rounds someJoin standingBy standingsOf groupAt groupOf groupRow putGroup memberAt memberOf memberRow putMember
     marksAt packetsAt putMarks putPackets entryIn withEntry putRow rowIn putStep stepAt stepOf stepRow withNext boardOf highest-sender-Board noRow rowOf

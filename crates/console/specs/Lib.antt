@@ -6,4 +6,5 @@ pub mod Replies
 pub mod Runs
 pub mod Session
 pub mod Theorems
+pub mod Told
 mod Wrong

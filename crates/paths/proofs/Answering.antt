@@ -13,9 +13,10 @@ use Rattle.paths.specs.declared.planning.Proposal.{Proposal}
 use Rattle.paths.specs.declared.planning.Stretch.{Stretch}
 use Rattle.paths.specs.Answers.{answerOf, inRange, numberOf}
 use Rattle.paths.specs.Checking.{accepts, checkedOf}
-use Rattle.paths.specs.Laws.Answers.{Sized, done-in, in-sizes}
+use Rattle.paths.specs.Laws.Answers.{done-in, in-asked}
 use Rattle.paths.specs.Laws.Stretches.{tightest-first}
 use Rattle.paths.specs.Order.{ranksOf, sortedBy}
+use Rattle.paths.specs.Paths.{Asked}
 use Rattle.paths.specs.Planning.{listedPlan, nothing, planOf, proposed, proposedPlan, setOf, tightest, tightestOf}
 
 range-out : (delays : List ℕ) (k W : ℕ) → answerOf delays k W ≡ Range → inRange delays k W ≡ false
@@ -26,8 +27,8 @@ range-out delays k W e = go (inRange delays k W) (ap numberOf e)
     go true z = absurd (omega arith)
     go false z = refl
 
-pub done-sizes : (delays : List ℕ) (k W : ℕ) → Done ≡ answerOf delays k W → Sized (length delays) k W
-done-sizes delays k W e = in-sizes delays k W (done-in delays k W (sym (ap numberOf e)))
+pub done-sizes : (delays : List ℕ) (k W : ℕ) → Done ≡ answerOf delays k W → Asked delays k W
+done-sizes delays k W e = in-asked delays k W (done-in delays k W (sym (ap numberOf e)))
 
 module _ (delays : List ℕ) (k W : ℕ) (answer : Answer) (is : answer ≡ answerOf delays k W) where
   pub plan-done : answer ≡ Done → (p : Proposal) → p ≡ proposedPlan delays k (W - 16) → p ≡ planOf delays k W

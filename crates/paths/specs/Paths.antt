@@ -26,6 +26,15 @@ pub record Good (delays : List ℕ) (k W : ℕ) (set : List ℕ) : Type 0 where
   pub different : (a b : ℕ) → a < length set → b < length set → pathAt set a ≡ pathAt set b → a ≡ b
   pub near : Within delays (W - 16) set
 
+-- what is not refused: 'k of 0 or above the number of candidates, more than 64 candidates, a delay above 4,095, or W outside 16 to 2,048 is 4'
+pub record Asked (delays : List ℕ) (k W : ℕ) : Type 0 where
+  pub one : 1 ≤ k
+  pub enough : k ≤ length delays
+  pub few : length delays ≤ 64
+  pub short : (i : ℕ) → i < length delays → delayAt delays i ≤ 4095
+  pub low : 16 ≤ W
+  pub high : W ≤ 2048
+
 -- the spread of a set: the most by which one of its delays is above another, which is the greatest less the least
 abbrev pub spreadOf : List ℕ → List ℕ → ℕ
 spreadOf delays set =

@@ -3,7 +3,7 @@
 use mathlib.Core.Bool.{Bool}
 use mathlib.Core.List.{List, [], _∷_, _++_}
 use Prim.Native.Nat.{ℕ, zero, suc, _+_, _-_}
-use lib.ListN.{length, getD, replicate}
+use lib.ListN.{length, getD, replicate, take}
 use Rattle.ground.specs.Drawn.{within}
 use Rattle.ground.specs.Plain.{if_then_else_, _<?_, _≤?_}
 use Rattle.paths.specs.declared.answers.Answer.{Answer}
@@ -54,6 +54,10 @@ planWith answer set = record { paths = padded set; count = length set; answer = 
 
 unfoldable pub planOf : List ℕ → ℕ → ℕ → Proposal
 planOf delays k W = planWith (answerOf delays k W) (setOf delays k W)
+
+-- the candidates that a plan names
+abbrev pub planned : Proposal → List ℕ
+planned p = take (p .count) (p .paths)
 
 -- for the functions behind it
 abbrev pub nothing : Answer → Proposal

@@ -3,3 +3,4 @@ pub mod Here
 pub mod Lines
 pub mod Pairs
 pub mod Parting
+pub mod Times

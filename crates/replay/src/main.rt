@@ -3,11 +3,17 @@
 use libc::STDIN_FILENO;
 use libc::STDOUT_FILENO;
 use replaying::Replay;
+ghost use mathlib.Core.Path.{_≡_};
 ghost use Prim.Native.Nat.{_≤_};
 ghost use lib.ListN.{length};
+ghost use Rattle.replaying.specs.Deeds.{Carried};
+ghost use Rattle.replaying.specs.Replay.{STORE};
 
 // Rows for 64 ports, the most that a recording can name: the group's own, and five to a port.
 const ROWS_MOST: usize = 321;
+
+// 'a store above 65,536 bytes in the program' is 4. No other length is lent: `run_file` asks for STORE.
+const STORE_BYTES: usize = 65536;
 
 struct Done {
     replay: Replay,
@@ -22,6 +28,7 @@ fn at_most(n: usize, most: usize) -> usize
 }
 
 // One turn on a text, and what it prints. Where that cannot be written there is nobody to go on for.
+// Each function below gives the replay that it is handed, carried on by turns alone.
 fn take_turn(
     replay: Replay,
     text: &[u8],
@@ -31,7 +38,7 @@ fn take_turn(
     out: &mut [u8],
     said: &mut [u8],
 ) -> Done
-    ensures { λ r. ⌜ r .used ≤ length (now (text .entry)) ⌝ }
+    ensures { λ r. ⌜ (r .used ≤ length (now (text .entry))) × Carried replay (r .replay) ⌝ }
 {
     let turn = replaying::turn(replay, text, last, rows, store, out, said);
     let after = turn.replay;
@@ -54,7 +61,7 @@ fn run_text(
     store: &mut [u8],
     out: &mut [u8],
 ) -> Done
-    ensures { λ r. ⌜ r .used ≤ length (now (text .entry)) ⌝ }
+    ensures { λ r. ⌜ (r .used ≤ length (now (text .entry))) × Carried replay (r .replay) ⌝ }
 {
     let mut said = io::buffer();
     let mut now = replay;
@@ -101,6 +108,7 @@ fn run_front(
     out: &mut [u8],
 ) -> Done
     requires { ⌜ end ≤ length (now buffer) ⌝ }
+    ensures { λ r. ⌜ Carried replay (r .replay) ⌝ }
 {
     run_text(replay, &buffer[..end], last, rows, store, out)
 }
@@ -122,7 +130,7 @@ fn run_some(
     out: &mut [u8],
 ) -> Part
     requires { ⌜ kept ≤ length (now buffer) ⌝ }
-    ensures { λ r. ⌜ r .kept ≤ length (now (buffer .entry)) ⌝ }
+    ensures { λ r. ⌜ (r .kept ≤ length (now (buffer .entry))) × Carried replay (r .replay) ⌝ }
 {
     let got = io::read_full(fd, &mut buffer[kept..]);
     let end = at_most(kept + got, buffer.len());
@@ -144,7 +152,10 @@ fn run_file(
     rows: &mut [[u8; 16]],
     store: &mut [u8],
     out: &mut [u8],
-) -> Replay {
+) -> Replay
+    requires { ⌜ length (now store) ≡ STORE ⌝ }
+    ensures { λ r. ⌜ Carried replay r ⌝ }
+{
     let mut buffer = [0u8; 65536];
     let mut now = replay;
     let mut kept = 0;
@@ -175,7 +186,10 @@ fn run_named(
     rows: &mut [[u8; 16]],
     store: &mut [u8],
     out: &mut [u8],
-) -> Replay {
+) -> Replay
+    requires { ⌜ length (now store) ≡ STORE ⌝ }
+    ensures { λ r. ⌜ Carried replay r ⌝ }
+{
     let mut path = io::buffer();
     let length = os::arg(place, &mut path);
     if is_standard_input(&path[..length]) {
@@ -191,7 +205,17 @@ fn run_named(
     after
 }
 
-fn run_all(replay: Replay, count: usize, rows: &mut [[u8; 16]], store: &mut [u8], out: &mut [u8]) {
+// The files that the arguments name, one behind the other.
+fn run_all(
+    replay: Replay,
+    count: usize,
+    rows: &mut [[u8; 16]],
+    store: &mut [u8],
+    out: &mut [u8],
+) -> Replay
+    requires { ⌜ length (now store) ≡ STORE ⌝ }
+    ensures { λ r. ⌜ Carried replay r ⌝ }
+{
     let mut now = replay;
     let mut i = 1;
     while i < count {
@@ -199,11 +223,12 @@ fn run_all(replay: Replay, count: usize, rows: &mut [[u8; 16]], store: &mut [u8]
         now = next;
         i += 1;
     }
+    now
 }
 
 fn main() {
     let mut rows = [[0u8; 16]; ROWS_MOST];
-    let mut store = [0u8; 65536];
+    let mut store = [0u8; STORE_BYTES];
     let mut out = [0u8; 65536];
     let count = os::arg_count();
     if count < 2 {

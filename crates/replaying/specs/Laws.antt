@@ -1,4 +1,5 @@
 -- Laws on the definitions, for the proofs above them.
+pub mod Carrying
 pub mod Due
 pub mod Lengths
 pub mod Lent

@@ -17,3 +17,7 @@ storeOf ports size window = ports * window * (size + 1)
 
 abbrev pub outputOf : ℕ → ℕ → ℕ
 outputOf ports size = ports * 16 * size
+
+-- 'a store above 65,536 bytes in the program'
+abbrev pub STORE : ℕ
+STORE = 65536

@@ -2,7 +2,7 @@
 use mathlib.Core.Path.{_≡_, refl}
 use mathlib.Core.Bool.{false}
 use mathlib.Core.List.{List, [], _∷_, _++_}
-use Prim.Native.Nat.{ℕ}
+use Prim.Native.Nat.{ℕ, zero, suc}
 use lib.ListN.{replicate}
 use Rattle.conformance.specs.Clauses.Filled.{nines}
 use Rattle.console.specs.declared.line.Line.the-variants.{Size, Add, Remove, Report, Lapse, Board, Malformed}
@@ -10,13 +10,15 @@ use Rattle.console.specs.declared.session.Session.{Session}
 use Rattle.console.specs.Kept.{keepAll, lineIn, nothingKept}
 use Rattle.console.specs.Line.{lineOf, numberLine, reportOf}
 use Rattle.console.specs.Replies.{outputOf, replyOf, sizeReply}
-use Rattle.console.specs.Runs.{hostOutput, joined}
+use Rattle.console.specs.Runs.{hostOutput, joined, wholeOutput}
 use Rattle.console.specs.Session.{beginning, fedSession, fedText, feedBytes, feedOf, finishBytes, finishOf, lastSession, lastText, usedOf}
+use Rattle.console.specs.Told.{callsIn, endedIn, fedBy, lastSize, meant, sinceSize, toldTable, usedBy}
 use Rattle.sender.specs.Commands.{freshOf}
 use Rattle.sender.specs.declared.table.Table.{Table}
 use Rattle.sender.specs.Shown.{after, shown}
 use Rattle.sender.specs.Calls.{Call as C}
 use Rattle.text.specs.Ascii.{ascii}
+use Rattle.text.specs.Text.{linesOf}
 use Rattle.text.specs.declared.fields.Number.the-variants.{Value, Unreadable}
 use Rattle.conformance.specs.Opened.{allOpen}
 
@@ -139,3 +141,47 @@ whole :
     × (hostOutput (nines 1095) fourParts ≡ ascii "answer\t0\nanswer\t1\nslot\t0\tIDLE\t255\nwait\t0\n")
 unfolding allOpen
 whole = (refl, refl)
+
+-- ten slots added, and the last removed: a wait is open, and the ADD numbers are 0 to 8
+abbrev tenSlots : List ℕ
+tenSlots = ascii "size\t10\nadd\t0\nadd\t1\nadd\t2\nadd\t3\nadd\t4\nadd\t5\nadd\t6\nadd\t7\nadd\t8\nadd\t9\nremove\t9\n"
+
+-- lines are fed, and all of them answered 0
+abbrev accepted : ℕ → List ℕ
+accepted zero = []
+accepted (suc n) = accepted n ++ ascii "answer\t0\n"
+
+-- 'MST in epoch e speaks of numbers 8 x (e mod 32) to that plus 7, first bit the lowest': in epoch 33 the first bit of 7F is number 8's, and says OK. The first report finds the wait open and closes it, since its
+-- RS-Ack is not the 0 remembered; 'in either case MST is ignored'. The second makes the member with ADD number 8 active: it 'takes the next number', 0, and the ADD members left follow; 'A wait opens'.
+report-lines :
+    (wholeOutput (tenSlots ++ ascii "report\t33\t7F\t1\nboard\n") ≡ accepted 13 ++ ascii "slot\t0\tADD\t0\nslot\t1\tADD\t1\nslot\t2\tADD\t2\nslot\t3\tADD\t3\nslot\t4\tADD\t4\nslot\t5\tADD\t5\nslot\t6\tADD\t6\nslot\t7\tADD\t7\nslot\t8\tADD\t8\nslot\t9\tIDLE\t255\nwait\t0\n")
+    × (wholeOutput (tenSlots ++ ascii "report\t33\t7F\t1\nreport\t33\t7F\t1\nboard\n") ≡ accepted 14 ++ ascii "slot\t0\tADD\t1\nslot\t1\tADD\t2\nslot\t2\tADD\t3\nslot\t3\tADD\t4\nslot\t4\tADD\t5\nslot\t5\tADD\t6\nslot\t6\tADD\t7\nslot\t7\tADD\t8\nslot\t8\tEOS\t0\nslot\t9\tIDLE\t255\nwait\t1\n")
+    × (wholeOutput (tenSlots ++ ascii "report\t33\t7F\t0\nboard\n") ≡ accepted 13 ++ ascii "slot\t0\tADD\t0\nslot\t1\tADD\t1\nslot\t2\tADD\t2\nslot\t3\tADD\t3\nslot\t4\tADD\t4\nslot\t5\tADD\t5\nslot\t6\tADD\t6\nslot\t7\tADD\t7\nslot\t8\tADD\t8\nslot\t9\tIDLE\t255\nwait\t1\n")
+unfolding allOpen
+report-lines = (refl, refl, refl)
+
+-- 'A second size starts afresh', the remembered bit too: it is 0 again, so the report with 1 closes the wait
+abbrev sizedTwice : List ℕ
+sizedTwice = ascii "size\t1\nreport\t0\tFF\t1\nsize\t1\nadd\t0\nremove\t0\nreport\t0\tFF\t1\nboard\n"
+
+second-size :
+    (wholeOutput sizedTwice ≡ accepted 6 ++ ascii "slot\t0\tIDLE\t255\nwait\t0\n")
+    × (toldTable (linesOf sizedTwice) .bit ≡ 1)
+    × (toldTable (linesOf (ascii "size\t1\nreport\t0\tFF\t1\nsize\t1\n")) .bit ≡ 0)
+    × (toldTable (linesOf (ascii "size\t1\nreport\t0\tFF\t1\nsize\t65\n")) .bit ≡ 1)
+unfolding allOpen
+second-size = (refl, refl, refl, refl)
+
+-- what lines tell: sizes of 1 to 64 alone are accepted, calls are those behind the last, and a line is told when its end has come
+telling :
+    (lastSize (Size 2 ∷ Size 65 ∷ Size 0 ∷ []) ≡ 2)
+    × (lastSize (Size 64 ∷ Add 1 ∷ Size 1 ∷ []) ≡ 1)
+    × (lastSize (Add 1 ∷ []) ≡ 0)
+    × (callsIn (sinceSize (meant (linesOf sizedTwice))) ≡ C.AddSlot 0 ∷ C.RemoveSlot 0 ∷ C.Report 0 255 1 ∷ [])
+    × (callsIn (sinceSize (Add 1 ∷ Board ∷ Lapse ∷ Malformed ∷ [])) ≡ C.AddSlot 1 ∷ C.Lapse ∷ [])
+    × (endedIn (ascii "size\t2\n\nadd") ≡ ascii "size\t2" ∷ [] ∷ [])
+    × (endedIn (ascii "lapse") ≡ [])
+    × (usedBy beginning (record { part = ascii "size\t2\nadd"; out = nines 1095 } ∷ record { part = ascii "x"; out = [] } ∷ []) ≡ ascii "size\t2\n")
+    × (shown (fedBy beginning (record { part = ascii "size\t2\nadd"; out = nines 1095 } ∷ record { part = ascii "add\t1\n"; out = nines 1095 } ∷ []) .table) ≡ 5 ∷ 255 ∷ 1 ∷ 0 ∷ 0 ∷ [])
+unfolding allOpen
+telling = (refl, refl, refl, refl, refl, refl, refl, refl, refl)

@@ -2,37 +2,49 @@
 use mathlib.Core.Path.{_≡_, refl}
 use mathlib.Core.Bool.{Bool, true, false, cond, _&&_}
 use mathlib.Core.List.{List}
-use Prim.Native.Nat.{ℕ, _≤_}
+use Prim.Native.Nat.{ℕ}
 use native.Mathlib.Omega.{arith}
 use lib.Dec.{leb}
 use lib.ListN.{length}
-use borrow.Author.Tests.{leb-true}
+use borrow.Author.Tests.{le-leb, leb-true}
+use Rattle.counting.specs.Laws.Tests.{every-all, every-at}
 use Rattle.ground.specs.Truth.{and-left, and-right}
 use Rattle.paths.specs.declared.answers.Answer.the-variants.{Done, Range}
 use Rattle.paths.specs.Answers.{answerOf, areShort, inRange, numberOf, sized}
+use Rattle.paths.specs.Paths.{Asked, delayAt}
 
-pub record Sized (n k W : ℕ) : Type 0 where
-  pub few : n ≤ 64
-  pub one : 1 ≤ k
-  pub enough : k ≤ n
-  pub low : 16 ≤ W
-  pub high : W ≤ 2048
-
-sizes : (n k W : ℕ) → sized n k W ≡ true → Sized n k W
-sizes n k W e =
-    let d = and-left (leb n 64 && leb 1 k && leb k n && leb 16 W) (leb W 2048) e in
+-- nothing is out of range exactly where the number is 0
+pub in-asked : (delays : List ℕ) (k W : ℕ) → inRange delays k W ≡ true → Asked delays k W
+unfolding areShort
+in-asked delays k W e =
+    let n = length delays in
+    let f = and-left (sized n k W) (areShort delays) e in
+    let d = and-left (leb n 64 && leb 1 k && leb k n && leb 16 W) (leb W 2048) f in
     let c = and-left (leb n 64 && leb 1 k && leb k n) (leb 16 W) d in
     let b = and-left (leb n 64 && leb 1 k) (leb k n) c in
     record {
-      few = leb-true n 64 (and-left (leb n 64) (leb 1 k) b);
       one = leb-true 1 k (and-right (leb n 64) (leb 1 k) b);
       enough = leb-true k n (and-right (leb n 64 && leb 1 k) (leb k n) c);
+      few = leb-true n 64 (and-left (leb n 64) (leb 1 k) b);
+      short = λ i h. leb-true (delayAt delays i) 4095 (every-at n (λ j. leb (delayAt delays j) 4095) (and-right (sized n k W) (areShort delays) e) i h);
       low = leb-true 16 W (and-right (leb n 64 && leb 1 k && leb k n) (leb 16 W) d);
-      high = leb-true W 2048 (and-right (leb n 64 && leb 1 k && leb k n && leb 16 W) (leb W 2048) e);
+      high = leb-true W 2048 (and-right (leb n 64 && leb 1 k && leb k n && leb 16 W) (leb W 2048) f);
     }
 
-pub in-sizes : (delays : List ℕ) (k W : ℕ) → inRange delays k W ≡ true → Sized (length delays) k W
-in-sizes delays k W e = sizes (length delays) k W (and-left (sized (length delays) k W) (areShort delays) e)
+pub asked-in : (delays : List ℕ) (k W : ℕ) → Asked delays k W → inRange delays k W ≡ true
+unfolding areShort
+asked-in delays k W a =
+    let n = length delays in
+    rw (le-leb n 64 (a .few), le-leb 1 k (a .one), le-leb k n (a .enough), le-leb 16 W (a .low), le-leb W 2048 (a .high))
+    (every-all n (λ i. leb (delayAt delays i) 4095) (λ i h. le-leb (delayAt delays i) 4095 (a .short i h)))
+
+pub in-done : (delays : List ℕ) (k W : ℕ) → inRange delays k W ≡ true → numberOf (answerOf delays k W) ≡ 0
+unfolding answerOf
+in-done delays k W e = rw e
+
+pub out-range : (delays : List ℕ) (k W : ℕ) → inRange delays k W ≡ false → numberOf (answerOf delays k W) ≡ 4
+unfolding answerOf
+out-range delays k W e = rw e
 
 pub done-in : (delays : List ℕ) (k W : ℕ) → numberOf (answerOf delays k W) ≡ 0 → inRange delays k W ≡ true
 unfolding answerOf

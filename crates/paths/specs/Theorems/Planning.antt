@@ -18,13 +18,13 @@ use Rattle.ground.specs.Drawn.{within-said, within-true}
 use Rattle.ground.specs.Truth.{and-true, le-or-lt}
 use Rattle.paths.specs.Answers.{answerOf, inRange, numberOf}
 use Rattle.paths.specs.Checking.{checkedOf}
-use Rattle.paths.specs.Laws.Answers.{Sized, done-in, in-sizes}
+use Rattle.paths.specs.Laws.Answers.{done-in, in-asked}
 use Rattle.paths.specs.Laws.Listing.{length-listed, listed-apart, listed-at, listed-rises}
 use Rattle.paths.specs.Laws.Ranks.{candidate, candidate-below, candidate-rank, count-every, rank-apart, rank-below, rank-order, ranks-at, sorted-at}
 use Rattle.paths.specs.Laws.Spreads.{spread-least, within-spread}
 use Rattle.paths.specs.Laws.Stretches.{tightest-first, tightest-least, tightest-spread}
 use Rattle.paths.specs.Order.{rankOf, ranksOf, sortedBy}
-use Rattle.paths.specs.Paths.{Good, Within, delayAt, pathAt, spreadOf}
+use Rattle.paths.specs.Paths.{Asked, Good, Within, delayAt, pathAt, spreadOf}
 use Rattle.paths.specs.Planning.{inStretch, listed, planOf, proposed, setOf, tightestOf}
 use Rattle.paths.specs.Theorems.Checking.{good-accepts}
 
@@ -206,8 +206,8 @@ module _ (delays : List ℕ) (k W : ℕ) (done : numberOf (answerOf delays k W) 
   ranged : inRange delays k W ≡ true
   ranged = done-in delays k W done
 
-  z : Sized (length delays) k W
-  z = in-sizes delays k W ranged
+  z : Asked delays k W
+  z = in-asked delays k W ranged
 
   abbrev spread : ℕ
   spread = tightestOf delays k .spread

@@ -100,6 +100,45 @@ line-opens n m line = go (leb (length line) MOST)
     go true = opening-opens n m (fieldsOf line)
     go false = refl
 
+-- a first line that is whole is settings or malformed
+abbrev pub isSettled : Opening → Bool
+isSettled (O.Settings settings next) = true
+isSettled O.Malformed = true
+isSettled O.Unfinished = false
+isSettled O.End = false
+
+opened-settled : (p : Pairs) (n : ℕ) → isSettled (opened p n) ≡ true
+unfolding opened
+opened-settled p n = go (p .awaited)
+  where
+    go : (a : Awaited) → isSettled (openedBy a (p .settings) n) ≡ true
+    go A.Name = refl
+    go A.Kind = refl
+    go (A.HoldOff i) = refl
+    go (A.Restore i) = refl
+    go A.Nothing = refl
+
+settings-settled : (a b c : Number) (pairs : List (List ℕ)) (n : ℕ) → isSettled (settingsBy a b c pairs n) ≡ true
+unfolding settingsBy
+settings-settled (Value x) (Value y) (Value z) pairs n = opened-settled (pairsFrom (firstPairs x y z) pairs) n
+settings-settled (Value x) (Value y) Unreadable pairs n = refl
+settings-settled (Value x) Unreadable c pairs n = refl
+settings-settled Unreadable b c pairs n = refl
+
+fields-settled : (n : ℕ) (fs : List (List ℕ)) → isSettled (openingBy n fs) ≡ true
+fields-settled n [] = refl
+fields-settled n (a ∷ []) = refl
+fields-settled n (a ∷ b ∷ []) = refl
+fields-settled n (a ∷ b ∷ c ∷ pairs) = settings-settled (numberOf 9 a) (numberOf 9 b) (numberOf 9 c) pairs n
+
+pub opening-settled : (n : ℕ) (line : List ℕ) → isSettled (lineOpening n line) ≡ true
+unfolding lineOpening
+opening-settled n line = go (leb (length line) MOST)
+  where
+    go : (b : Bool) → isSettled (cond b (openingBy n (fieldsOf line)) O.Malformed) ≡ true
+    go true = fields-settled n (fieldsOf line)
+    go false = refl
+
 -- what is handed over of a first line tells which one it was
 module _ (x : Opening) (f : First) (e : f ≡ handed x) where
   pub handed-set : f .line ≡ F.Settings → x ≡ O.Settings (f .settings) (f .next)

@@ -2,17 +2,20 @@ use mathlib.Core.Path.{_≡_}
 use Prim.Native.Nat.{_-_}
 use lib.ListN.{length}
 use borrow.Author.Needs.{needs}
+use Rattle.replaying.specs.Deeds.{Carried}
+use Rattle.replaying.specs.Deeds.Carried.{same}
+use Rattle.replaying.specs.Laws.Carrying.{carried-on}
 use Rattle.replay.proofs.run_all.Statement.{statement}
 use Rattle.replay.proofs.run_all.Tie as tie
 
 abbrev Inv-loop : tie.InvT-loop
-Inv-loop count rows₀ store₀ out₀ now₀ i₀ rows store out now i = (length rows ≡ length rows₀) × (length store ≡ length store₀) × (length out ≡ length out₀)
+Inv-loop count rows₀ store₀ out₀ now₀ i₀ rows store out now i = (length rows ≡ length rows₀) × (length store ≡ length store₀) × (length out ≡ length out₀) × Carried now₀ now
 
 abbrev μ-loop : tie.MeasureT-loop
 μ-loop count rows₀ store₀ out₀ now₀ i₀ rows store out now i = count - i
 
 loop-holds : tie.Need-loop-holds Inv-loop μ-loop
-loop-holds c = search needs
+loop-holds c = (search needs, search needs, search needs, same)
 
 run-named-requires : tie.Need-run-named-requires Inv-loop μ-loop
 run-named-requires c κs = search needs
@@ -24,7 +27,10 @@ loop-less : tie.Need-loop-less Inv-loop μ-loop
 loop-less c = search needs
 
 loop-again : tie.Need-loop-again Inv-loop μ-loop
-loop-again c = search needs
+loop-again c =
+    let at-run-named = c .before .before .before .before .before in
+    let at-loop = at-run-named .before .before .before .before .before in
+    (search needs, search needs, search needs, carried-on (at-loop .loop .inv .3) (at-run-named .run-named .ensures))
 
 same-length : tie.Need-same-length Inv-loop μ-loop
 same-length c = search needs

@@ -6,17 +6,20 @@ use lib.ListN.{length}
 use borrow.Author.Needs.{needs}
 use borrow.Author.Tests.{ltb-true}
 use Rattle.ground.specs.Truth.{and-right}
+use Rattle.replaying.specs.Deeds.{Carried}
+use Rattle.replaying.specs.Deeds.Carried.{same}
+use Rattle.replaying.specs.Laws.Carrying.{carried-on}
 use Rattle.replay.proofs.run_file.Statement.{statement}
 use Rattle.replay.proofs.run_file.Tie as tie
 
 abbrev Inv-loop : tie.InvT-loop
-Inv-loop fd rows₀ store₀ out₀ buffer₀ now₀ kept₀ goes₀ turns₀ rows store out buffer now kept goes turns = (length buffer ≡ 65536) × (kept ≤ 65536) × (length rows ≡ length rows₀) × (length store ≡ length store₀) × (length out ≡ length out₀)
+Inv-loop fd rows₀ store₀ out₀ buffer₀ now₀ kept₀ goes₀ turns₀ rows store out buffer now kept goes turns = (length buffer ≡ 65536) × (kept ≤ 65536) × (length rows ≡ length rows₀) × (length store ≡ length store₀) × (length out ≡ length out₀) × Carried now₀ now
 
 abbrev μ-loop : tie.MeasureT-loop
 μ-loop fd rows₀ store₀ out₀ buffer₀ now₀ kept₀ goes₀ turns₀ rows store out buffer now kept goes turns = turns
 
 loop-holds : tie.Need-loop-holds Inv-loop μ-loop
-loop-holds c = search needs
+loop-holds c = (search needs, search needs, search needs, search needs, search needs, same)
 
 slice-aggregate-run-some : tie.Need-slice-aggregate-run-some Inv-loop μ-loop
 slice-aggregate-run-some c = search needs
@@ -42,7 +45,7 @@ loop-again : tie.Need-loop-again Inv-loop μ-loop
 loop-again c =
     let at-run-some = c .before .before .before .before .before .before .before in
     let at-loop = at-run-some .before .before .before .before .before .before in
-    (search needs, omega (arith, at-run-some .run-some .ensures, at-loop .loop .inv .0), search needs, search needs, search needs)
+    (search needs, omega (arith, at-run-some .run-some .ensures .0, at-loop .loop .inv .0), search needs, search needs, search needs, carried-on (at-loop .loop .inv .5) (at-run-some .run-some .ensures .1))
 
 same-length : tie.Need-same-length Inv-loop μ-loop
 same-length c = search needs

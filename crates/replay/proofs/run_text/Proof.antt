@@ -9,12 +9,15 @@ use lib.Seq.{length-take-le}
 use borrow.Author.Needs.{needs}
 use borrow.Author.Tests.{ltb-true}
 use Rattle.ground.specs.Truth.{and-right}
+use Rattle.replaying.specs.Deeds.{Carried}
+use Rattle.replaying.specs.Deeds.Carried.{same}
+use Rattle.replaying.specs.Laws.Carrying.{carried-on}
 use Rattle.replay.proofs.run_text.Statement.{statement}
 use Rattle.replay.proofs.run_text.Tie as tie
 
 abbrev Inv-loop : tie.InvT-loop
 Inv-loop text last rows₀ store₀ out₀ said₀ now₀ at₀ goes₀ turns₀ rows store out said now at goes turns =
-    (at ≤ length text) × (length rows ≡ length rows₀) × (length store ≡ length store₀) × (length out ≡ length out₀) × (4096 ≡ length said) × (length text ≤ 18446744073709551615)
+    (at ≤ length text) × (length rows ≡ length rows₀) × (length store ≡ length store₀) × (length out ≡ length out₀) × (4096 ≡ length said) × (length text ≤ 18446744073709551615) × Carried now₀ now
 
 abbrev μ-loop : tie.MeasureT-loop
 μ-loop text last rows₀ store₀ out₀ said₀ now₀ at₀ goes₀ turns₀ rows store out said now at goes turns = turns
@@ -23,7 +26,7 @@ buffer-requires : tie.Need-buffer-requires Inv-loop μ-loop
 buffer-requires c κs = search needs
 
 loop-holds : tie.Need-loop-holds Inv-loop μ-loop
-loop-holds c = (omega arith, refl, refl, refl, c .buffer .ensures, omega arith)
+loop-holds c = (omega arith, refl, refl, refl, c .buffer .ensures, omega arith, same)
 
 sub-take-turn : tie.Need-sub-take-turn Inv-loop μ-loop
 sub-take-turn c = search needs
@@ -51,7 +54,7 @@ add-at c =
     let a = at-loop .loop .at in
     let d = length-drop a t in
     let e = length-take-le (length t - a) (drop a t) (omega arith) in
-    omega (arith, at-take-turn .take-turn .ensures, at-loop .loop .inv .0, at-loop .loop .inv .5)
+    omega (arith, at-take-turn .take-turn .ensures .0, at-loop .loop .inv .0, at-loop .loop .inv .5)
 
 sub-turns : tie.Need-sub-turns Inv-loop μ-loop
 sub-turns c =
@@ -76,7 +79,7 @@ loop-again c =
     let a = at-loop .loop .at in
     let d = length-drop a t in
     let e = length-take-le (length t - a) (drop a t) (omega arith) in
-    (omega (arith, at-take-turn .take-turn .ensures, at-loop .loop .inv .0), search needs, search needs, search needs, search needs, at-loop .loop .inv .5)
+    (omega (arith, at-take-turn .take-turn .ensures .0, at-loop .loop .inv .0), search needs, search needs, search needs, search needs, at-loop .loop .inv .5, carried-on (at-loop .loop .inv .6) (at-take-turn .take-turn .ensures .1))
 
 same-length : tie.Need-same-length Inv-loop μ-loop
 same-length c = search needs

@@ -1,6 +1,7 @@
 use mathlib.Core.Path.{sym}
 use lib.Seq.{length-take-le}
 use borrow.Author.Needs.{needs}
+use Rattle.replaying.specs.Laws.Carrying.{carried-once}
 use Rattle.replay.proofs.take_turn.Statement.{statement}
 use Rattle.replay.proofs.take_turn.Tie as tie
 
@@ -37,7 +38,9 @@ same-length-4 : tie.Need-same-length-4
 same-length-4 c = search needs
 
 returns : tie.Need-returns
-returns c = search needs
+returns c =
+    let at-turn = c .before .before .before .before .before .before .before .before .before .before .before .before .before in
+    (search needs, carried-once _ _ _ _ _ _ _ _ (at-turn .turn .ensures .0))
 
 pub take-turn-spec : {M : Type 1} → statement M
 take-turn-spec = tie.close (tie.spec turn-requires at-most-requires slice-reshare-prefix-write-all slice-aggregate-write-all write-all-requires at-most-requires-2 same-length same-length-2 same-length-3 same-length-4 returns)

@@ -1,7 +1,7 @@
 -- However a recording is cut into parts, and however often a host calls between them, the output is the same: the whole output of the joined
 -- recording. The proof goes call by call: what is printed, and what is still to come of it, stays.
 use mathlib.Core.Path.{_≡_, refl, sym, ap, _∙_}
-use mathlib.Core.Bool.{Bool, true, false, false≢true}
+use mathlib.Core.Bool.{Bool, true, false, cond, false≢true}
 use mathlib.Core.List.{List, [], _∷_, _++_, append-assoc, append-nil}
 use mathlib.Core.Logic.{_⊎_, inl, inr}
 use Prim.Native.Nat.{ℕ, zero, suc, _+_, _-_, _*_, _≤_, _<_}
@@ -23,25 +23,28 @@ use Rattle.recording.specs.declared.pairs.Settings.{Settings as GroupSettings}
 use Rattle.recording.specs.declared.record.Record.{Record}
 use Rattle.recording.specs.declared.record.Record.the-variants.{Frame, Malformed, Long, Unfinished, End}
 use Rattle.recording.specs.Line.{MOST, foundOf}
-use Rattle.recording.specs.Laws.Lines.{IsLine, goingTo, is-line, line-going, line-lies, line-opens, opensTo}
+use Rattle.recording.specs.Laws.Lines.{IsLine, goingTo, is-line, isSettled, line-going, line-lies, line-opens, opening-settled, opensTo}
 use Rattle.recording.specs.Laws.Lines.IsLine.{frame, malformed}
 use Rattle.recording.specs.Opening.{lineOpening, openingIn}
 use Rattle.recording.specs.Record.{lastRecord, lineRecord, recordIn}
 use Rattle.replaying.specs.declared.replay.Phase.{Phase}
 use Rattle.replaying.specs.declared.replay.Phase.the-variants.{Settings, Reading, Fetching, Skipping, Ended}
 use Rattle.replaying.specs.declared.replay.Replay.{Replay}
+use Rattle.replaying.specs.Deeds.{Deed, beginsWith, closed, does, hasRead, joined, joinedFrom, lastCalls, run, turnsLeft, wantsWithin, withEnd}
+use Rattle.replaying.specs.Deeds.Deed.{Call, Close, Read}
 use Rattle.replaying.specs.Laws.Lent.{Lent, lent-is}
 use Rattle.replaying.specs.Laws.Lengths.{fetch-record-alike, fetch-rows-alike, length-fetch-out, length-fetch-rows, length-frame-rows, length-frame-store, length-part, length-started-rows}
 use Rattle.replaying.specs.Laws.Starts.{start-sized, start-stored}
 use Rattle.replaying.specs.Laws.Texts.{behind-append, behind-none, behindOf, firstOf, free-all, free-behind, goes-on, lines-first, lines-last, no-lines}
 use Rattle.replaying.specs.Output.{ROOM, answerText}
-use Rattle.replaying.specs.Replay.{beginning, nextLine, outputOf, storeOf}
-use Rattle.replaying.specs.Runs.{Desk, Host, called, deskAfter, outputFrom, reported, reports, saidTo, wholeOutput}
+use Rattle.replaying.specs.Replay.{nextLine, outputOf, storeOf}
+use Rattle.replaying.specs.Runs.{Desk, Host, answer, called, calls, deskAfter, outputFrom, reported, reports, saidTo, wholeOutput}
+use Rattle.replaying.specs.Theorems.Ends.{called-narrow, calls-narrow, ends, line-closed}
 use Rattle.replaying.specs.Theorems.Lines.{bad-first-line, bad-settings}
 use Rattle.replaying.specs.Turn as T
 use Rattle.replaying.specs.Turn.{over, within}
 use Rattle.rows.specs.Rows.{rowsFor}
-use Rattle.text.specs.Text.{LINE-END, linesOf}
+use Rattle.text.specs.Text.{LINE-END, ahead, linesOf}
 
 -- a host between two lines
 abbrev pub between : Host → Desk
@@ -51,16 +54,16 @@ abbrev pub deskOf : Host → Desk
 deskOf h = record { replay = h .replay; rows = h .rows; store = h .store }
 
 module _ (out : List ℕ) where
-  -- what is still to come of a host that has this text left, and more behind it
-  abbrev pub toComeBy : Phase → Host → List ℕ → List ℕ
-  toComeBy Settings h more = outputFrom out (deskOf h) (linesOf (h .text ++ more))
-  toComeBy Reading h more = outputFrom out (deskOf h) (linesOf (h .text ++ more))
-  toComeBy Fetching h more = reports out (h .replay .left) (between h) ++ outputFrom out (reported out (h .replay .left) (between h)) (linesOf (h .text ++ more))
-  toComeBy Skipping h more = outputFrom out (between h) (linesOf (behindOf (h .text ++ more)))
-  toComeBy Ended h more = []
+  -- what is still to come of a host that has this text left, and more behind it, and behind that the lines of later parts
+  abbrev pub toComeBy : Phase → Host → List ℕ → List (List ℕ) → List ℕ
+  toComeBy Settings h more later = outputFrom out (deskOf h) (linesOf (h .text ++ more) ++ later)
+  toComeBy Reading h more later = outputFrom out (deskOf h) (linesOf (h .text ++ more) ++ later)
+  toComeBy Fetching h more later = reports out (h .replay .left) (between h) ++ outputFrom out (reported out (h .replay .left) (between h)) (linesOf (h .text ++ more) ++ later)
+  toComeBy Skipping h more later = outputFrom out (between h) (linesOf (behindOf (h .text ++ more)) ++ later)
+  toComeBy Ended h more later = []
 
-  abbrev pub toCome : Host → List ℕ → List ℕ
-  toCome h more = toComeBy (h .replay .phase) h more
+  abbrev pub toCome : Host → List ℕ → List (List ℕ) → List ℕ
+  toCome h more later = toComeBy (h .replay .phase) h more later
 
   -- buffers of the right lengths
   abbrev pub LentBy : Phase → Host → Type 0
@@ -80,7 +83,7 @@ module _ (out : List ℕ) where
   -- one call keeps what is printed and still to come; the last text has no more behind it
   pub record Keeps (last : Bool) (h g : Host) : Type 0 where
     pub fit : Fit g
-    pub whole : (more : List ℕ) → (last ≡ true → more ≡ []) → g .said ++ toCome g more ≡ h .said ++ toCome h more
+    pub whole : (more : List ℕ) (later : List (List ℕ)) → (last ≡ true → more ≡ []) → g .said ++ toCome g more later ≡ h .said ++ toCome h more later
 
 -- a host by its parts
 abbrev host : Phase → ℕ → ℕ → ℕ → ℕ → ℕ → List (List ℕ) → List ℕ → List ℕ → List ℕ → List ℕ → List ℕ → Host
@@ -120,7 +123,7 @@ module _ (out : List ℕ) (line left ports size window : ℕ) (rows : List (List
   ended-keeps last f =
       record {
         fit = record { room = f .room; full = f .full; same = f .same; enough = f .enough; lent = tt };
-        whole = λ more g. rw append-nil;
+        whole = λ more later g. rw append-nil;
       }
 
   abbrev skipping : Host
@@ -133,20 +136,20 @@ module _ (out : List ℕ) (line left ports size window : ℕ) (rows : List (List
       go : (b l : Bool) → ltb (indexOf LINE-END text) (length text) ≡ b → Keeps out l skipping (called l skipping)
       go true l e =
           let h = ltb-true (indexOf LINE-END text) (length text) e in
-          rw e (record { fit = record { room = f .room; full = f .full; same = f .same; enough = f .enough; lent = same-lent (f .lent) }; whole = λ more g. rw (behind-append text more h, append-nil said) })
+          rw e (record { fit = record { room = f .room; full = f .full; same = f .same; enough = f .enough; lent = same-lent (f .lent) }; whole = λ more later g. rw (behind-append text more h, append-nil said) })
       go false true e =
           let h = ltb-false (indexOf LINE-END text) (length text) e in
           rw e
           (record {
             fit = record { room = f .room; full = f .full; same = f .same; enough = f .enough; lent = same-lent (f .lent) };
-            whole = λ more g. rw (g refl, drop-length text, append-nil said, append-nil text, behind-none text h);
+            whole = λ more later g. rw (g refl, drop-length text, append-nil said, append-nil text, behind-none text h);
           })
       go false false e =
           let h = ltb-false (indexOf LINE-END text) (length text) e in
           rw e
           (record {
             fit = record { room = f .room; full = f .full; same = f .same; enough = f .enough; lent = same-lent (f .lent) };
-            whole = λ more g. rw (free-behind text more (free-all text h), drop-length text, append-nil said);
+            whole = λ more later g. rw (free-behind text more (free-all text h), drop-length text, append-nil said);
           })
 
 -- a fetch into another output of the same length
@@ -179,7 +182,7 @@ module _ (out : List ℕ) (line ports size window : ℕ) (rows : List (List ℕ)
   unfolding called T.turnOf T.turnRows T.turnStore T.turnOut T.turnSaid T.reportTurn T.reportRows T.reportOut T.reportSaid T.fetchedTurn T.fetchedSaid T.readOnTurn T.reportedTurn
   report-keeps zero last f =
       let t = lent-is (fetching zero .replay) (length rows) (length store) (length lent) (length buffer) (f .lent) in
-      rw t (record { fit = record { room = f .room; full = f .full; same = f .same; enough = f .enough; lent = same-lent (f .lent) }; whole = λ more g. rw (append-nil said) })
+      rw t (record { fit = record { room = f .room; full = f .full; same = f .same; enough = f .enough; lent = same-lent (f .lent) }; whole = λ more later g. rw (append-nil said) })
   report-keeps (suc k) last f = go (T.isDue (fetching (suc k) .replay) rows store lent) refl
     where
       r : Replay
@@ -225,7 +228,7 @@ module _ (out : List ℕ) (line ports size window : ℕ) (rows : List (List ℕ)
                   enough = f .enough;
                   lent = same-lent (lent-again lr refl lo (over-room (T.reportOf (fetching (suc k) .replay) rows store lent) buffer (f .room)) (f .lent));
                 };
-            whole = λ more g.
+            whole = λ more later g.
                 written said (T.reportOf (fetching (suc k) .replay) rows store lent) buffer _
                 ∙ rw (d, ra, pa) (ap (λ (x : List ℕ). said ++ x) (sym (append-assoc (T.reportOf (within (fetching (suc k) .replay) Reading line 0) rows store out) _ _)));
           })
@@ -234,7 +237,7 @@ module _ (out : List ℕ) (line ports size window : ℕ) (rows : List (List ℕ)
           rw (t, some, e)
           (record {
             fit = record { room = f .room; full = rw lr (f .full); same = lo ∙ f .same; enough = f .enough; lent = same-lent (lent-again lr refl lo (f .room) (f .lent)) };
-            whole = λ more g. rw (d, ra, append-nil said);
+            whole = λ more later g. rw (d, ra, append-nil said);
           })
 
 -- a frame keeps the lengths of rows and store
@@ -250,11 +253,6 @@ module _ (r : Replay) (port h4 flag : ℕ) (payload : List ℕ) (rows : List (Li
   framed-store h =
       length-part (storeOf (r .ports) (r .size) (r .window)) store (frameStore (take (rowsFor (r .ports)) rows) port (eqb flag 1) h4 payload (take (storeOf (r .ports) (r .size) (r .window)) store)) h
       (length-frame-store (take (rowsFor (r .ports)) rows) port (eqb flag 1) h4 payload (take (storeOf (r .ports) (r .size) (r .window)) store))
-
--- a line is not open
-pub line-closed : {x : Record} → IsLine x → T.isOpen x ≡ false
-line-closed frame = refl
-line-closed malformed = refl
 
 long-line : (ports size : ℕ) (l : List ℕ) → MOST < length l → lineRecord ports size 0 0 l ≡ Malformed 0
 unfolding lineRecord
@@ -279,13 +277,13 @@ module _ (out : List ℕ) (line left ports size window : ℕ) (rows : List (List
   unfolding called T.turnOf T.turnRows T.turnStore T.turnOut T.turnSaid T.readTurn T.readRows T.readStore T.readSaid
   wait-keeps last f e =
       let t = lent-is (reading .replay) (length rows) (length store) (length lent) (length buffer) (f .lent) in
-      rw (t, e) (record { fit = record { room = f .room; full = f .full; same = f .same; enough = f .enough; lent = f .lent }; whole = λ more g. rw (append-nil said) })
+      rw (t, e) (record { fit = record { room = f .room; full = f .full; same = f .same; enough = f .enough; lent = f .lent }; whole = λ more later g. rw (append-nil said) })
 
   open-keeps : (last : Bool) → Fit out reading → T.nowIn (reading .replay) text last ≡ Unfinished → Keeps out last reading (called last reading)
   unfolding called T.turnOf T.turnRows T.turnStore T.turnOut T.turnSaid T.readTurn T.readRows T.readStore T.readSaid
   open-keeps last f e =
       let t = lent-is (reading .replay) (length rows) (length store) (length lent) (length buffer) (f .lent) in
-      rw (t, e) (record { fit = record { room = f .room; full = f .full; same = f .same; enough = f .enough; lent = f .lent }; whole = λ more g. rw (append-nil said) })
+      rw (t, e) (record { fit = record { room = f .room; full = f .full; same = f .same; enough = f .enough; lent = f .lent }; whole = λ more later g. rw (append-nil said) })
 
   -- a line too long: it is malformed however it goes on
   long-keeps : (last : Bool) → Fit out reading → T.nowIn (reading .replay) text last ≡ Long → length text ≤ indexOf LINE-END text → MOST < length text → Keeps out last reading (called last reading)
@@ -302,7 +300,7 @@ module _ (out : List ℕ) (line left ports size window : ℕ) (rows : List (List
               enough = f .enough;
               lent = same-lent (lent-again refl refl refl (over-room (answerText 13 (nextLine line)) buffer (f .room)) (f .lent));
             };
-        whole = λ more g.
+        whole = λ more later g.
             let w = goes-on text more (free-all text h) (omega arith) in
             written said (answerText 13 (nextLine line)) buffer _ ∙ rw (w .lines, long-line ports size (w .line) (let q = w .long in omega arith), drop-length text);
       })
@@ -325,7 +323,7 @@ module _ (out : List ℕ) (line left ports size window : ℕ) (rows : List (List
         rw (t, q)
         (record {
           fit = record { room = f .room; full = framed-full lr; same = f .same; enough = framed-enough ls; lent = framed-lent lr ls };
-          whole = λ more g. rw (lines more g, i, z, y, append-nil said);
+          whole = λ more later g. rw (lines more g, i, z, y, append-nil said);
         })
       where
         framed-full : length (T.framedRows (reading .replay) port h4 flag (T.payloadAt size place text) rows store) ≡ length rows → 321 ≤ length (T.framedRows (reading .replay) port h4 flag (T.payloadAt size place text) rows store)
@@ -357,7 +355,7 @@ module _ (out : List ℕ) (line left ports size window : ℕ) (rows : List (List
                 enough = f .enough;
                 lent = same-lent (lent-again refl refl refl (over-room (answerText 13 (nextLine line)) buffer (f .room)) (f .lent));
               };
-          whole = λ more g. written said (answerText 13 (nextLine line)) buffer _ ∙ rw (lines more g, i, z);
+          whole = λ more later g. written said (answerText 13 (nextLine line)) buffer _ ∙ rw (lines more g, i, z);
         })
 
     line-keeps : Keeps out last reading (called last reading)
@@ -446,10 +444,10 @@ module _ (out : List ℕ) (line left ports size window : ℕ) (rows : List (List
   unfolding called T.turnOf T.turnRows T.turnStore T.turnOut T.turnSaid T.openTurn T.openRows T.openSaid
   first-waits last f x e (inl u) =
       let t = open-lent f in
-      rw (t, e ∙ u) (record { fit = record { room = f .room; full = f .full; same = f .same; enough = f .enough; lent = tt }; whole = λ more g. rw (append-nil said) })
+      rw (t, e ∙ u) (record { fit = record { room = f .room; full = f .full; same = f .same; enough = f .enough; lent = tt }; whole = λ more later g. rw (append-nil said) })
   first-waits last f x e (inr u) =
       let t = open-lent f in
-      rw (t, e ∙ u) (record { fit = record { room = f .room; full = f .full; same = f .same; enough = f .enough; lent = tt }; whole = λ more g. rw (append-nil said) })
+      rw (t, e ∙ u) (record { fit = record { room = f .room; full = f .full; same = f .same; enough = f .enough; lent = tt }; whole = λ more later g. rw (append-nil said) })
 
   -- the first line is refused, whatever follows
   first-refused : (last : Bool) → Fit out starting → openingIn 0 last text ≡ O.Malformed
@@ -461,9 +459,9 @@ module _ (out : List ℕ) (line left ports size window : ℕ) (rows : List (List
       rw (t, e)
       (record {
         fit = record { room = over-room (answerText 13 (nextLine line)) buffer (f .room); full = f .full; same = f .same; enough = f .enough; lent = tt };
-        whole = λ more g.
+        whole = λ more later g.
             let w = lines more g in
-            written said (answerText 13 (nextLine line)) buffer [] ∙ rw (w .lines) (ap (λ (x : List ℕ). said ++ x) (sym (bad-first-line out (deskOf starting) (w .line) (w .rest) refl (w .bad))));
+            written said (answerText 13 (nextLine line)) buffer [] ∙ rw (w .lines) (ap (λ (x : List ℕ). said ++ x) (sym (bad-first-line out (deskOf starting) (w .line) (w .rest ++ later) refl (w .bad))));
       })
 
   -- the first line is whole
@@ -477,7 +475,7 @@ module _ (out : List ℕ) (line left ports size window : ℕ) (rows : List (List
         rw (t, now ∙ e, b)
         (record {
           fit = record { room = over-room (answerText 4 (nextLine line)) buffer (f .room); full = f .full; same = f .same; enough = f .enough; lent = tt };
-          whole = λ more g. written said (answerText 4 (nextLine line)) buffer [] ∙ rw (lines more g) (ap (λ (x : List ℕ). said ++ x) (sym (bad-settings out (deskOf starting) l (linesOf (drop n text ++ more)) refl s 0 i b)));
+          whole = λ more later g. written said (answerText 4 (nextLine line)) buffer [] ∙ rw (lines more g) (ap (λ (x : List ℕ). said ++ x) (sym (bad-settings out (deskOf starting) l (linesOf (drop n text ++ more) ++ later) refl s 0 i b)));
         })
 
     settings-set : (s : GroupSettings) (next : ℕ) → lineOpening n l ≡ O.Settings s next → T.startable s (length store) ≡ true → Keeps out last starting (called last starting)
@@ -509,7 +507,7 @@ module _ (out : List ℕ) (line left ports size window : ℕ) (rows : List (List
                 enough = rw ls (f .enough);
                 lent = record { room = f .room; ports-most = c .few-ports; size-most = c .few-bytes; rows-there = rw lr m; store-there = rw ls d; out-there = omega arith };
               };
-          whole = λ more g. rw (lines more g, i, z, b, append-nil said);
+          whole = λ more later g. rw (lines more g, i, z, b, append-nil said);
         })
 
     opened-keeps : Keeps out last starting (called last starting)
@@ -587,39 +585,155 @@ call-keeps out last h = by (h .replay .phase) (h .replay .line) (h .replay .left
     by Skipping line left ports size window rows store lent buffer text said f = skip-keeps out line left ports size window rows store lent buffer text said last f
     by Ended line left ports size window rows store lent buffer text said f = ended-keeps out line left ports size window rows store lent buffer text said last f
 
--- what a host does: it reads a part of the recording behind the text that is left, or it calls
-pub data Deed : Type 0 where
-  Read : List ℕ → Deed
-  Call : Deed
+-- between two parts: all text is used, and no line is half read
+abbrev pub isBetween : Phase → Bool
+isBetween Settings = true
+isBetween Reading = true
+isBetween Fetching = false
+isBetween Skipping = false
+isBetween Ended = true
 
-abbrev pub hasRead : Host → List ℕ → Host
-hasRead h part = record { replay = h .replay; rows = h .rows; store = h .store; out = h .out; buffer = h .buffer; text = h .text ++ part; said = h .said }
+pub record Closed (h : Host) : Type 0 where
+  pub used : h .text ≡ []
+  pub between-parts : isBetween (h .replay .phase) ≡ true
 
-abbrev pub does : Host → Deed → Host
-does h (Read part) = hasRead h part
-does h Call = called false h
+no-text : (text : List ℕ) → eqb (length text) 0 ≡ true → text ≡ []
+no-text [] e = refl
+no-text (b ∷ text) e = absurd (let z = borrow.Author.Tests.eqb-true (length (b ∷ text)) 0 e in omega arith)
 
-abbrev pub run : Host → List Deed → Host
-run h [] = h
-run h (d ∷ ds) = run (does h d) ds
+-- a call with the last text that wants more leaves nothing half read
+module _ (out : List ℕ) (line left ports size window : ℕ) (rows : List (List ℕ)) (store lent buffer text said : List ℕ) where
+  abbrev hostIn : Phase → Host
+  hostIn phase = host phase line left ports size window rows store lent buffer text said
 
--- the parts that it has read, one behind the other
-abbrev pub joined : List Deed → List ℕ
-joined [] = []
-joined (Read part ∷ ds) = part ++ joined ds
-joined (Call ∷ ds) = joined ds
+  ended-closes : Closed (called true (hostIn Ended))
+  unfolding called T.turnOf
+  ended-closes = record { used = drop-length text; between-parts = refl }
 
--- and at the end of the recording it calls so often, with the last text
-abbrev pub lastCalls : ℕ → Host → Host
-lastCalls zero h = h
-lastCalls (suc n) h = lastCalls n (called true h)
+  skip-closes : answer true (hostIn Skipping) .wants ≡ true → Closed (called true (hostIn Skipping))
+  unfolding called T.turnOf T.skipTurn
+  skip-closes w = go (ltb (indexOf LINE-END text) (length text)) refl w
+    where
+      go : (b : Bool) → ltb (indexOf LINE-END text) (length text) ≡ b → answer true (hostIn Skipping) .wants ≡ true → Closed (called true (hostIn Skipping))
+      go true e w = absurd (false≢true (rw e at w))
+      go false e w = rw e (record { used = drop-length text; between-parts = refl })
 
-read-same : (out : List ℕ) (phase : Phase) (h : Host) (part more : List ℕ) → toComeBy out phase (hasRead h part) more ≡ toComeBy out phase h (part ++ more)
-read-same out Settings h part more = rw append-assoc
-read-same out Reading h part more = rw append-assoc
-read-same out Fetching h part more = rw append-assoc
-read-same out Skipping h part more = rw append-assoc
-read-same out Ended h part more = refl
+  report-goes-on : Fit out (hostIn Fetching) → answer true (hostIn Fetching) .wants ≡ true → ⊥
+  unfolding T.turnOf T.reportTurn T.fetchedTurn T.readOnTurn T.reportedTurn
+  report-goes-on f w =
+      let t = lent-is (hostIn Fetching .replay) (length rows) (length store) (length lent) (length buffer) (f .lent) in
+      go (ltb 0 left) (T.isDue (hostIn Fetching .replay) rows store lent) (rw t at w)
+    where
+      go : (a b : Bool) → cond a (cond b (T.reportedTurn (hostIn Fetching .replay) (length (T.reportOf (hostIn Fetching .replay) rows store lent))) (T.readOnTurn (hostIn Fetching .replay))) (T.readOnTurn (hostIn Fetching .replay)) .wants ≡ true → ⊥
+      go true true e = false≢true e
+      go true false e = false≢true e
+      go false b e = false≢true e
+
+  read-closes : Fit out (hostIn Reading) → answer true (hostIn Reading) .wants ≡ true → Closed (called true (hostIn Reading))
+  unfolding called T.turnOf T.readTurn T.framedTurn T.answeredTurn
+  read-closes f w = go (eqb (length text) 0) (ltb (indexOf LINE-END text) (length text)) (ltb MOST (length text)) refl refl refl
+    where
+      t : T.isLent (hostIn Reading .replay) (length rows) (length store) (length lent) (length buffer) ≡ true
+      t = lent-is (hostIn Reading .replay) (length rows) (length store) (length lent) (length buffer) (f .lent)
+
+      no-line : (x : Record) → IsLine x → T.nowIn (hostIn Reading .replay) text true ≡ x → ⊥
+      no-line (Frame port h4 flag place next) frame e = false≢true (rw (t, e) at w)
+      no-line (Malformed next) malformed e = false≢true (rw (t, e) at w)
+
+      go : (a b c : Bool) → eqb (length text) 0 ≡ a → ltb (indexOf LINE-END text) (length text) ≡ b → ltb MOST (length text) ≡ c → Closed (called true (hostIn Reading))
+      go true b c ea eb ec =
+          let n = now-nothing out line left ports size window rows store lent buffer text said true ea in
+          rw (t, n) (record { used = no-text text ea; between-parts = refl })
+      go false true c ea eb ec =
+          absurd
+          (no-line (lineRecord ports size 0 (0 + indexOf LINE-END text + 1) (firstOf text)) (is-line ports size 0 (0 + indexOf LINE-END text + 1) (firstOf text)) (now-line out line left ports size window rows store lent buffer text said true ea eb))
+      go false false true ea eb ec =
+          let n = now-long out line left ports size window rows store lent buffer text said true ea eb ec in
+          absurd (false≢true (rw (t, n) at w))
+      go false false false ea eb ec =
+          absurd
+          (no-line (lineRecord ports size 0 (0 + length text) text) (is-line ports size 0 (0 + length text) text) (now-last out line left ports size window rows store lent buffer text said true ea eb ec refl))
+
+  first-closes : Fit out (hostIn Settings) → answer true (hostIn Settings) .wants ≡ true → Closed (called true (hostIn Settings))
+  unfolding called T.turnOf T.openTurn T.openWithTurn T.answeredTurn
+  first-closes f w = go (eqb (length text) 0) (ltb (indexOf LINE-END text) (length text)) (ltb MOST (length text)) refl refl refl
+    where
+      t : T.openLent (length rows) (length buffer) ≡ true
+      t = open-lent out line left ports size window rows store lent buffer text said f
+
+      set : (s : GroupSettings) (next : ℕ) (b : Bool) → T.startable s (length store) ≡ b → openingIn 0 true text ≡ O.Settings s next → ⊥
+      set s next true b e = false≢true (rw (t, e, b) at w)
+      set s next false b e = false≢true (rw (t, e, b) at w)
+
+      settled : (x : Opening) → isSettled x ≡ true → openingIn 0 true text ≡ x → ⊥
+      settled (O.Settings s next) k e = set s next (T.startable s (length store)) refl e
+      settled O.Malformed k e = false≢true (rw (t, e) at w)
+      settled O.Unfinished k e = false≢true k
+      settled O.End k e = false≢true k
+
+      go : (a b c : Bool) → eqb (length text) 0 ≡ a → ltb (indexOf LINE-END text) (length text) ≡ b → ltb MOST (length text) ≡ c → Closed (called true (hostIn Settings))
+      go true b c ea eb ec =
+          let n = first-nothing out line left ports size window rows store lent buffer text said true ea in
+          rw (t, n) (record { used = no-text text ea; between-parts = refl })
+      go false true c ea eb ec =
+          absurd
+          (settled (lineOpening (0 + indexOf LINE-END text + 1) (firstOf text)) (opening-settled (0 + indexOf LINE-END text + 1) (firstOf text)) (first-line out line left ports size window rows store lent buffer text said true ea eb))
+      go false false true ea eb ec = absurd (settled O.Malformed refl (first-long out line left ports size window rows store lent buffer text said true ea eb ec))
+      go false false false ea eb ec =
+          absurd
+          (settled (lineOpening (0 + length text) text) (opening-settled (0 + length text) text) (first-last out line left ports size window rows store lent buffer text said true ea eb ec refl))
+
+call-closes : (out : List ℕ) (h : Host) → Fit out h → answer true h .wants ≡ true → Closed (called true h)
+call-closes out h = by (h .replay .phase) (h .replay .line) (h .replay .left) (h .replay .ports) (h .replay .size) (h .replay .window) (h .rows) (h .store) (h .out) (h .buffer) (h .text) (h .said)
+  where
+    by : (phase : Phase) (line left ports size window : ℕ) (rows : List (List ℕ)) (store lent buffer text said : List ℕ) → Fit out (host phase line left ports size window rows store lent buffer text said)
+        → answer true (host phase line left ports size window rows store lent buffer text said) .wants ≡ true → Closed (called true (host phase line left ports size window rows store lent buffer text said))
+    by Settings line left ports size window rows store lent buffer text said f w = first-closes out line left ports size window rows store lent buffer text said f w
+    by Reading line left ports size window rows store lent buffer text said f w = read-closes out line left ports size window rows store lent buffer text said f w
+    by Fetching line left ports size window rows store lent buffer text said f w = absurd (report-goes-on out line left ports size window rows store lent buffer text said f w)
+    by Skipping line left ports size window rows store lent buffer text said f w = skip-closes out line left ports size window rows store lent buffer text said w
+    by Ended line left ports size window rows store lent buffer text said f w = ended-closes out line left ports size window rows store lent buffer text said
+
+-- calls with the last text until one wants more
+record Closes (out : List ℕ) (h g : Host) : Type 0 where
+  fit : Fit out g
+  closed-up : Closed g
+  whole : (later : List (List ℕ)) → g .said ++ toCome out g [] later ≡ h .said ++ toCome out h [] later
+
+closes : (out : List ℕ) (n : ℕ) (h : Host) → Fit out h → wantsWithin n true h ≡ true → Closes out h (calls (suc n) true h)
+unfolding calls wantsWithin
+closes out zero h f e =
+    let k = call-keeps out true h f in
+    rw e (record { fit = k .fit; closed-up = call-closes out h f e; whole = λ later. k .whole [] later (λ t. refl) })
+closes out (suc n) h f e =
+    let k = call-keeps out true h f in
+    go (answer true h .wants) refl (λ w. closes out n (called true h) (k .fit) w)
+  where
+    go : (b : Bool) → answer true h .wants ≡ b → (wantsWithin n true (called true h) ≡ true → Closes out (called true h) (calls (suc n) true (called true h)))
+        → Closes out h (cond (answer true h .wants) (called true h) (calls (suc n) true (called true h)))
+    go true b on =
+        let k = call-keeps out true h f in
+        rw b (record { fit = k .fit; closed-up = call-closes out h f b; whole = λ later. k .whole [] later (λ t. refl) })
+    go false b on =
+        let k = call-keeps out true h f in
+        let c = on (rw b at e) in
+        rw b (record { fit = c .fit; closed-up = c .closed-up; whole = λ later. c .whole later ∙ k .whole [] later (λ t. refl) })
+
+-- between two parts nothing is still to come but later lines
+closed-comes : (out : List ℕ) (phase : Phase) (h : Host) (more : List ℕ) (later : List (List ℕ)) → h .text ≡ [] → isBetween phase ≡ true
+    → toComeBy out phase h more later ≡ toComeBy out phase h [] (linesOf more ++ later)
+closed-comes out Settings h more later e b = rw (e, no-lines)
+closed-comes out Reading h more later e b = rw (e, no-lines)
+closed-comes out Fetching h more later e b = absurd (false≢true b)
+closed-comes out Skipping h more later e b = absurd (false≢true b)
+closed-comes out Ended h more later e b = refl
+
+read-same : (out : List ℕ) (phase : Phase) (h : Host) (part more : List ℕ) (later : List (List ℕ)) → toComeBy out phase (hasRead h part) more later ≡ toComeBy out phase h (part ++ more) later
+read-same out Settings h part more later = rw append-assoc
+read-same out Reading h part more later = rw append-assoc
+read-same out Fetching h part more later = rw append-assoc
+read-same out Skipping h part more later = rw append-assoc
+read-same out Ended h part more later = refl
 
 read-lent : (out : List ℕ) (phase : Phase) (h : Host) (part : List ℕ) → LentBy out phase h → LentBy out phase (hasRead h part)
 read-lent out Settings h part l = tt
@@ -628,41 +742,100 @@ read-lent out Fetching h part l = l
 read-lent out Skipping h part l = l
 read-lent out Ended h part l = tt
 
-record Stands (out : List ℕ) (h : Host) (whole : List ℕ → List ℕ) : Type 0 where
+-- the lines of a part that is closed, and of what is behind it
+some-lines : (b : ℕ) (t : List ℕ) (a : ℕ) (ls : List (List ℕ)) → ahead a (linesOf (b ∷ t) ++ ls) ≡ ahead a (linesOf (b ∷ t)) ++ ls
+unfolding linesOf
+some-lines b t a ls = go (eqb b LINE-END) (linesOf t)
+  where
+    go : (x : Bool) (ps : List (List ℕ)) → ahead a (cond x ([] ∷ ps) (ahead b ps) ++ ls) ≡ ahead a (cond x ([] ∷ ps) (ahead b ps)) ++ ls
+    go true ps = refl
+    go false [] = refl
+    go false (p ∷ ps) = refl
+
+with-end-lines : (t rest : List ℕ) → linesOf (withEnd t ++ rest) ≡ linesOf t ++ linesOf rest
+unfolding linesOf
+with-end-lines [] rest = refl
+with-end-lines (b ∷ []) rest = go (eqb b LINE-END) refl
+  where
+    go : (x : Bool) → eqb b LINE-END ≡ x → linesOf (withEnd (b ∷ []) ++ rest) ≡ linesOf (b ∷ []) ++ linesOf rest
+    go true e = rw (e, e) refl
+    go false e = rw (e, e) refl
+with-end-lines (b ∷ c ∷ t) rest = go (eqb b LINE-END) refl (with-end-lines (c ∷ t) rest)
+  where
+    go : (x : Bool) → eqb b LINE-END ≡ x → linesOf (withEnd (c ∷ t) ++ rest) ≡ linesOf (c ∷ t) ++ linesOf rest
+        → linesOf (withEnd (b ∷ c ∷ t) ++ rest) ≡ linesOf (b ∷ c ∷ t) ++ linesOf rest
+    go true e i = rw e (ap (λ (ls : List (List ℕ)). [] ∷ ls) i)
+    go false e i = rw e (ap (ahead b) i ∙ some-lines c t b (linesOf rest))
+
+record Stands (out : List ℕ) (h : Host) (whole : List ℕ → List (List ℕ) → List ℕ) : Type 0 where
   fit : Fit out h
-  same : (more : List ℕ) → h .said ++ toCome out h more ≡ whole more
+  narrow : h .replay .window ≤ 2048
+  same : (more : List ℕ) (later : List (List ℕ)) → h .said ++ toCome out h more later ≡ whole more later
 
-run-stands : (out : List ℕ) (h : Host) (ds : List Deed) (whole : List ℕ → List ℕ) → Stands out h whole → Stands out (run h ds) (λ more. whole (joined ds ++ more))
-run-stands out h [] whole s = s
-run-stands out h (Read part ∷ ds) whole s =
+-- what is printed of the lines G, where `part` has been read since the last part was closed
+run-stands : (out : List ℕ) (h : Host) (ds : List Deed) (G : List (List ℕ) → List ℕ) (part : List ℕ) → Stands out h (λ more later. G (linesOf (part ++ more) ++ later))
+    → Stands out (run h ds) (λ more later. G (linesOf (joinedFrom part ds ++ more) ++ later))
+run-stands out h [] G part s = s
+run-stands out h (Read p ∷ ds) G part s =
     let f = s .fit in
-    let t : Stands out (hasRead h part) (λ more. whole (part ++ more)) =
-    record {
-      fit = record { room = f .room; full = f .full; same = f .same; enough = f .enough; lent = read-lent out (h .replay .phase) h part (f .lent) };
-      same = λ more. ap (λ (x : List ℕ). h .said ++ x) (read-same out (h .replay .phase) h part more) ∙ s .same (part ++ more);
-    } in
-    let u = run-stands out (hasRead h part) ds (λ more. whole (part ++ more)) t in
-    record { fit = u .fit; same = λ more. u .same more ∙ rw append-assoc }
-run-stands out h (Call ∷ ds) whole s =
+    run-stands out (hasRead h p) ds G (part ++ p)
+    (record {
+      fit = record { room = f .room; full = f .full; same = f .same; enough = f .enough; lent = read-lent out (h .replay .phase) h p (f .lent) };
+      narrow = s .narrow;
+      same = λ more later.
+          ap (λ (x : List ℕ). h .said ++ x) (read-same out (h .replay .phase) h p more later)
+          ∙ s .same (p ++ more) later
+          ∙ ap (λ (x : List ℕ). G (linesOf x ++ later)) (sym (append-assoc part p more));
+    })
+run-stands out h (Call ∷ ds) G part s =
     let k = call-keeps out false h (s .fit) in
-    run-stands out (called false h) ds whole (record { fit = k .fit; same = λ more. k .whole more (λ e. absurd (false≢true e)) ∙ s .same more })
+    run-stands out (called false h) ds G part
+    (record { fit = k .fit; narrow = called-narrow false h (s .narrow); same = λ more later. k .whole more later (λ e. absurd (false≢true e)) ∙ s .same more later })
+run-stands out h (Close ∷ ds) G part s =
+    let g = closed h in
+    let c = closes out (turnsLeft h) h (s .fit) (ends (turnsLeft h) true h (s .narrow) (omega arith)) in
+    let t : Stands out g (λ more later. G (linesOf part ++ (linesOf more ++ later))) =
+    record {
+      fit = c .fit;
+      narrow = calls-narrow (suc (turnsLeft h)) true h (s .narrow);
+      same = λ more later.
+          ap (λ (x : List ℕ). g .said ++ x) (closed-comes out (g .replay .phase) g more later (c .closed-up .used) (c .closed-up .between-parts))
+          ∙ c .whole (linesOf more ++ later)
+          ∙ s .same [] (linesOf more ++ later)
+          ∙ ap (λ (x : List ℕ). G (linesOf x ++ (linesOf more ++ later))) (append-nil part);
+    } in
+    let u = run-stands out g ds (λ ls. G (linesOf part ++ ls)) [] t in
+    record {
+      fit = u .fit;
+      narrow = u .narrow;
+      same = λ more later.
+          let J : List ℕ = joinedFrom [] ds in
+          let e : linesOf ((withEnd part ++ J) ++ more) ≡ linesOf part ++ linesOf (J ++ more) = ap linesOf (append-assoc (withEnd part) J more) ∙ with-end-lines part (J ++ more) in
+          u .same more later ∙ ap G (sym (append-assoc (linesOf part) (linesOf (J ++ more)) later) ∙ ap (λ (ls : List (List ℕ)). ls ++ later) (sym e));
+    }
 
-last-stands : (out : List ℕ) (n : ℕ) (h : Host) (whole : List ℕ) → Fit out h → h .said ++ toCome out h [] ≡ whole → lastCalls n h .said ++ toCome out (lastCalls n h) [] ≡ whole
+last-stands : (out : List ℕ) (n : ℕ) (h : Host) (whole : List ℕ) → Fit out h → h .said ++ toCome out h [] [] ≡ whole → lastCalls n h .said ++ toCome out (lastCalls n h) [] [] ≡ whole
 last-stands out zero h whole f e = e
-last-stands out (suc n) h whole f e = let k = call-keeps out true h f in last-stands out n (called true h) whole (k .fit) (k .whole [] (λ t. refl) ∙ e)
+last-stands out (suc n) h whole f e = let k = call-keeps out true h f in last-stands out n (called true h) whole (k .fit) (k .whole [] [] (λ t. refl) ∙ e)
 
--- a host that begins
-abbrev pub beginsWith : List (List ℕ) → List ℕ → List ℕ → List ℕ → Host
-beginsWith rows store out buffer = record { replay = beginning; rows = rows; store = store; out = out; buffer = buffer; text = []; said = [] }
+module _ (rows : List (List ℕ)) (store out buffer : List ℕ) (a : 321 ≤ length rows) (b : length store ≤ length out) (c : ROOM ≤ length buffer) where
+  abbrev start : Host
+  start = beginsWith rows store out buffer
 
--- 'Running a recording cut between any two lines, with the state carried over, gives the joined output', and cut anywhere: whatever a host reads and calls, and
--- however often it calls at the end, what it has written and what is still to come is the whole output of the joined recording
-pub cut-anywhere : (rows : List (List ℕ)) (store out buffer : List ℕ) → 321 ≤ length rows → length store ≤ length out → ROOM ≤ length buffer → (ds : List Deed) (n : ℕ)
-    → lastCalls n (run (beginsWith rows store out buffer) ds) .said ++ toCome out (lastCalls n (run (beginsWith rows store out buffer) ds)) [] ≡ wholeOutput out rows store (joined ds)
-unfolding wholeOutput
-cut-anywhere rows store out buffer a b c ds n =
-    let s = run-stands out (beginsWith rows store out buffer) ds (wholeOutput out rows store) (record { fit = record { room = c; full = a; same = refl; enough = b; lent = tt }; same = λ more. refl }) in
-    last-stands out n (run (beginsWith rows store out buffer) ds) (wholeOutput out rows store (joined ds)) (s .fit) (s .same [] ∙ rw append-nil)
+  stands : (ds : List Deed) → Stands out (run start ds) (λ more later. outputFrom out (deskOf start) (linesOf (joined ds ++ more) ++ later))
+  stands ds =
+      run-stands out start ds (outputFrom out (deskOf start)) []
+      (record { fit = record { room = c; full = a; same = refl; enough = b; lent = tt }; narrow = omega arith; same = λ more later. refl })
+
+  at-end : (ds : List Deed) → run start ds .said ++ toCome out (run start ds) [] [] ≡ wholeOutput out rows store (joined ds)
+  unfolding wholeOutput
+  at-end ds =
+      stands ds .same [] [] ∙ ap (outputFrom out (deskOf start)) (append-nil (linesOf (joined ds ++ [])) ∙ ap linesOf (append-nil (joined ds)))
+
+  -- 'Running a recording cut between any two lines, with the state carried over, gives the joined output', and cut anywhere: whatever a host reads, calls and closes, and
+  -- however often it calls at the end, what it has written and what is still to come is the whole output of the joined recording
+  pub cut-anywhere : (ds : List Deed) (n : ℕ) → lastCalls n (run start ds) .said ++ toCome out (lastCalls n (run start ds)) [] [] ≡ wholeOutput out rows store (joined ds)
+  cut-anywhere ds n = last-stands out n (run start ds) (wholeOutput out rows store (joined ds)) (stands ds .fit) (at-end ds)
 
 -- no report may be due, and all text is used
 abbrev pub isDone : Phase → Bool
@@ -672,17 +845,38 @@ isDone Fetching = false
 isDone Skipping = true
 isDone Ended = true
 
-nothing-comes : (out : List ℕ) (phase : Phase) (h : Host) → h .text ≡ [] → isDone phase ≡ true → toComeBy out phase h [] ≡ []
+nothing-comes : (out : List ℕ) (phase : Phase) (h : Host) → h .text ≡ [] → isDone phase ≡ true → toComeBy out phase h [] [] ≡ []
 nothing-comes out Settings h e t = rw (e, no-lines)
 nothing-comes out Reading h e t = rw (e, no-lines)
 nothing-comes out Fetching h e t = absurd (false≢true t)
 nothing-comes out Skipping h e t = rw (e, drop-nil, no-lines)
 nothing-comes out Ended h e t = refl
 
--- then the host has written the whole output of the joined recording
-pub cut-whole : (rows : List (List ℕ)) (store out buffer : List ℕ) → 321 ≤ length rows → length store ≤ length out → ROOM ≤ length buffer → (ds : List Deed) (n : ℕ)
-    → lastCalls n (run (beginsWith rows store out buffer) ds) .text ≡ [] → isDone (lastCalls n (run (beginsWith rows store out buffer) ds) .replay .phase) ≡ true
-    → lastCalls n (run (beginsWith rows store out buffer) ds) .said ≡ wholeOutput out rows store (joined ds)
-cut-whole rows store out buffer a b c ds n e t =
-    let g = lastCalls n (run (beginsWith rows store out buffer) ds) in
-    sym (append-nil (g .said)) ∙ (ap (λ (x : List ℕ). g .said ++ x) (sym (nothing-comes out (g .replay .phase) g e t)) ∙ cut-anywhere rows store out buffer a b c ds n)
+between-done : (phase : Phase) → isBetween phase ≡ true → isDone phase ≡ true
+between-done Settings e = refl
+between-done Reading e = refl
+between-done Fetching e = e
+between-done Skipping e = refl
+between-done Ended e = refl
+
+run-append : (h : Host) (ds es : List Deed) → run h (ds ++ es) ≡ run (run h ds) es
+run-append h [] es = refl
+run-append h (d ∷ ds) es = run-append (does h d) ds es
+
+module _ (rows : List (List ℕ)) (store out buffer : List ℕ) (a : 321 ≤ length rows) (b : length store ≤ length out) (c : ROOM ≤ length buffer) where
+  -- then the host has written the whole output of the joined recording
+  pub cut-whole : (ds : List Deed) (n : ℕ) → lastCalls n (run (beginsWith rows store out buffer) ds) .text ≡ []
+      → isDone (lastCalls n (run (beginsWith rows store out buffer) ds) .replay .phase) ≡ true
+      → lastCalls n (run (beginsWith rows store out buffer) ds) .said ≡ wholeOutput out rows store (joined ds)
+  cut-whole ds n e t =
+      let g = lastCalls n (run (beginsWith rows store out buffer) ds) in
+      sym (append-nil (g .said)) ∙ (ap (λ (x : List ℕ). g .said ++ x) (sym (nothing-comes out (g .replay .phase) g e t)) ∙ cut-anywhere rows store out buffer a b c ds n)
+
+  -- So it has when it has closed the last part, whatever came before, with no more said of it.
+  pub closed-whole : (ds : List Deed) → run (beginsWith rows store out buffer) (ds ++ (Close ∷ [])) .said ≡ wholeOutput out rows store (joined (ds ++ (Close ∷ [])))
+  closed-whole ds =
+      let h = run (beginsWith rows store out buffer) ds in
+      let s = stands rows store out buffer a b c ds in
+      let k = closes out (turnsLeft h) h (s .fit) (ends (turnsLeft h) true h (s .narrow) (omega arith)) .closed-up in
+      let r = run-append (beginsWith rows store out buffer) ds (Close ∷ []) in
+      cut-whole (ds ++ (Close ∷ [])) 0 (rw r (k .used)) (rw r (between-done (closed h .replay .phase) (k .between-parts)))

@@ -24,33 +24,18 @@ use Rattle.replaying.specs.declared.replay.Phase.{Phase}
 use Rattle.replaying.specs.declared.replay.Phase.the-variants.{Settings, Reading, Fetching, Skipping, Ended}
 use Rattle.replaying.specs.declared.replay.Replay.{Replay}
 use Rattle.replaying.specs.declared.turns.Replayed.{Replayed}
+use Rattle.replaying.specs.Deeds.{Deed, beginsWith, hasRead, run, turnsLeft, wantsWithin, weight}
+use Rattle.replaying.specs.Deeds.Deed.{Call, Close, Read}
 use Rattle.replaying.specs.Laws.Starts.{small, start-sized}
 use Rattle.replaying.specs.Replay.{nextLine}
-use Rattle.replaying.specs.Runs.{Host, answer, called}
-use Rattle.replaying.specs.Theorems.Cuts.{Deed, beginsWith, hasRead, line-closed, run}
-use Rattle.replaying.specs.Theorems.Cuts.Deed.{Call, Read}
+use Rattle.replaying.specs.Runs.{Host, answer, called, calls}
 use Rattle.replaying.specs.Turn as T
 use Rattle.text.specs.Text.{LINE-END}
 
--- a call wants more text, at the latest after so many others
-unfoldable pub wantsWithin : ℕ → Bool → Host → Bool
-wantsWithin zero last h = answer last h .wants
-wantsWithin (suc n) last h = answer last h .wants || wantsWithin n last (called last h)
-
--- what a phase asks for before the next line
-abbrev pub stage : Phase → ℕ → ℕ
-stage Settings left = 1
-stage Reading left = 0
-stage Fetching left = suc left
-stage Skipping left = 0
-stage Ended left = 0
-
--- W is at most 2,048: a frame, so many fetches, and one that gives nothing
-abbrev pub weight : ℕ → Phase → ℕ → ℕ
-weight bytes phase left = 2050 * bytes + stage phase left
-
-abbrev pub turnsLeft : Host → ℕ
-turnsLeft h = weight (length (h .text)) (h .replay .phase) (h .replay .left)
+-- a line is not open
+pub line-closed : {x : Record} → IsLine x → T.isOpen x ≡ false
+line-closed frame = refl
+line-closed malformed = refl
 
 -- what a call leaves of it
 abbrev leaves : Replayed → List ℕ → ℕ
@@ -190,17 +175,27 @@ ends (suc n) last h w e =
     (λ (k : leaves (answer last h) (h .text) < turnsLeft h). or-right (answer last h .wants) (wantsWithin n last (called last h)) (ends n last (called last h) v (let q = a .0 in omega arith)))
     (g .on)
 
+-- a call leaves no wider window
+pub called-narrow : (last : Bool) (h : Host) → h .replay .window ≤ 2048 → called last h .replay .window ≤ 2048
+called-narrow last h w = let g = call-goes last h w in let a = after-call last h in rw (a .1) (g .narrow)
+
+pub calls-narrow : (n : ℕ) (last : Bool) (h : Host) → h .replay .window ≤ 2048 → calls n last h .replay .window ≤ 2048
+unfolding calls
+calls-narrow zero last h w = w
+calls-narrow (suc n) last h w = go (answer last h .wants) (calls-narrow n last (called last h) (called-narrow last h w))
+  where
+    go : (b : Bool) → calls n last (called last h) .replay .window ≤ 2048 → cond b (called last h) (calls n last (called last h)) .replay .window ≤ 2048
+    go true v = called-narrow last h w
+    go false v = v
+
 -- no replay that began has a wider window
 run-narrow : (h : Host) (ds : List Deed) → h .replay .window ≤ 2048 → run h ds .replay .window ≤ 2048
 run-narrow h [] w = w
 run-narrow h (Read part ∷ ds) w = run-narrow (hasRead h part) ds w
-run-narrow h (Call ∷ ds) w =
-    let g = call-goes false h w in
-    let a = after-call false h in
-    let v : called false h .replay .window ≤ 2048 = rw (a .1) (g .narrow) in
-    run-narrow (called false h) ds v
+run-narrow h (Call ∷ ds) w = run-narrow (called false h) ds (called-narrow false h w)
+run-narrow h (Close ∷ ds) w = run-narrow (calls (suc (turnsLeft h)) true h) ds (calls-narrow (suc (turnsLeft h)) true h w)
 
--- Whatever a host has read and called since the beginning: if it calls on until more text is wanted, it calls at most 2,050 times for each byte that is left, and as often
+-- Whatever a host has read, called and closed since the beginning: if it calls on until more text is wanted, it calls at most 2,050 times for each byte that is left, and as often
 -- as fetches are open.
 pub comes-to-end : (rows : List (List ℕ)) (store out buffer : List ℕ) (ds : List Deed) (last : Bool)
     → wantsWithin (turnsLeft (run (beginsWith rows store out buffer) ds)) last (run (beginsWith rows store out buffer) ds) ≡ true

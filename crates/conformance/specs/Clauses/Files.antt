@@ -1,0 +1,72 @@
+-- A recording in files, each closed (request 2026-05): what a host has written is worked out on the lines as they stand, and the theorems on it are used there, so that a statement that lost a part would be seen.
+use mathlib.Core.Path.{_≡_, refl}
+use mathlib.Core.Bool.{true, false}
+use mathlib.Core.List.{List, [], _∷_, _++_}
+use Prim.Native.Nat.{ℕ, _≤_}
+use native.Mathlib.Omega.{arith}
+use lib.ListN.{length, replicate}
+use Rattle.conformance.specs.Clauses.Filled.{nines}
+use Rattle.recording.specs.Pairs.{plainSettings}
+use Rattle.replaying.specs.Deeds.{Deed, beginsWith, joined, lastCalls, run, withEnd}
+use Rattle.replaying.specs.Deeds.Deed.{Call, Close, Read}
+use Rattle.replaying.specs.Replay.{STORE}
+use Rattle.replaying.specs.Runs.{Host}
+use Rattle.replaying.specs.Theorems.Cuts.{closed-whole, cut-anywhere}
+use Rattle.replaying.specs.Theorems.Printed.{allLines, eventsOf, printed}
+use Rattle.replaying.specs.Theorems.Printed.Event.{Refused}
+use Rattle.replaying.specs.Turn.{startable}
+use Rattle.text.specs.Ascii.{ascii}
+use Rattle.conformance.specs.Opened.{allOpen}
+
+-- 'a store above 65,536 bytes in the program': 1 x 2,048 x (31+1) is 65,536, with P 32 it is 67,584
+stores : (startable (plainSettings 1 31 2048) STORE ≡ true) × (startable (plainSettings 1 32 2048) STORE ≡ false)
+unfolding allOpen
+stores = (refl, refl)
+
+-- the last line of a part, with and without its end
+ends :
+    (withEnd [] ≡ [])
+    × (withEnd (ascii "a") ≡ ascii "a\n")
+    × (withEnd (ascii "a\n") ≡ ascii "a\n")
+    × (withEnd (ascii "a\n\n") ≡ ascii "a\n\n")
+    × (withEnd (ascii "a\nb") ≡ ascii "a\nb\n")
+ends = (refl, refl, refl, refl, refl)
+
+-- one port, P 1, W 16
+abbrev rows : List (List ℕ)
+rows = replicate 321 (replicate 16 9)
+
+abbrev host : Host
+host = beginsWith rows (nines 32) (nines 32) (nines 1160)
+
+-- two files, of which neither ends in a line end
+abbrev twoFiles : List Deed
+twoFiles = Read (ascii "1\t1\t16\nx") ∷ Close ∷ Read (ascii "y") ∷ Close ∷ []
+
+-- an empty file, one cut within its first line and not closed there, an empty one again, and one with its end
+abbrev fourFiles : List Deed
+fourFiles = Close ∷ Read (ascii "1\t1\t") ∷ Call ∷ Read (ascii "16") ∷ Close ∷ Close ∷ Read (ascii "x\n") ∷ Close ∷ []
+
+written :
+    (joined twoFiles ≡ ascii "1\t1\t16\nx\ny\n")
+    × (run host twoFiles .said ≡ ascii "answer\t13\tline\t2\nanswer\t13\tline\t3\n")
+    × (joined fourFiles ≡ ascii "1\t1\t16\nx\n")
+    × (run host fourFiles .said ≡ ascii "answer\t13\tline\t2\n")
+    × (joined (Read (ascii "a") ∷ Call ∷ Read (ascii "b") ∷ []) ≡ ascii "ab")
+unfolding allOpen
+written = (refl, refl, refl, refl, refl)
+
+-- The theorems used: each side is worked out by itself.
+
+closed-used : run host twoFiles .said ≡ ascii "answer\t13\tline\t2\nanswer\t13\tline\t3\n"
+unfolding allOpen
+closed-used = closed-whole rows (nines 32) (nines 32) (nines 1160) (omega arith) (omega arith) (omega arith) (Read (ascii "1\t1\t16\nx") ∷ Close ∷ Read (ascii "y") ∷ [])
+
+-- `x` is not closed: 13 for line 2 is still to come
+cut-used : [] ++ ascii "answer\t13\tline\t2\n" ≡ ascii "answer\t13\tline\t2\n"
+unfolding allOpen
+cut-used = cut-anywhere rows (nines 32) (nines 32) (nines 1160) (omega arith) (omega arith) (omega arith) (Read (ascii "1\t1\t16\nx") ∷ Call ∷ []) 0
+
+printed-used : ascii "answer\t13\tline\t2" ∷ ascii "answer\t13\tline\t3" ∷ [] ≡ allLines (Refused 13 2 ∷ Refused 13 3 ∷ [])
+unfolding allOpen eventsOf
+printed-used = printed (nines 32) rows (nines 32) (ascii "1\t1\t16\nx\ny")

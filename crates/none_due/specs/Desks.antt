@@ -1,0 +1,32 @@
+-- A replay between two lines, and the receiver that it runs.
+use mathlib.Core.Path.{_≡_}
+use mathlib.Core.Bool.{Bool, false}
+use mathlib.Core.List.{List}
+use Prim.Native.Nat.{ℕ, _≤_}
+use lib.ListN.{length, take}
+use Rattle.invariant.specs.Kept.Group.{Kept}
+use Rattle.replaying.specs.declared.replay.Phase.the-variants.{Reading}
+use Rattle.replaying.specs.Replay.{storeOf}
+use Rattle.replaying.specs.Runs.{Desk}
+use Rattle.replaying.specs.Turn.{isDue}
+use Rattle.rows.specs.Group.{groupAt}
+use Rattle.rows.specs.Rows.{rowsFor}
+
+-- the parts of the lent rows and store that are the group's own
+abbrev pub ownRows : Desk → List (List ℕ)
+ownRows d = take (rowsFor (d .replay .ports)) (d .rows)
+
+abbrev pub ownStore : Desk → List ℕ
+ownStore d = take (storeOf (d .replay .ports) (d .replay .size) (d .replay .window)) (d .store)
+
+-- a fetch would give a report
+abbrev pub isDueAt : List ℕ → Desk → Bool
+isDueAt out d = isDue (d .replay) (d .rows) (d .store) out
+
+-- lines are read, the receiver is as calls have left it since a start, and no report is due
+pub record Ready (out : List ℕ) (d : Desk) : Type 0 where
+  pub reading : d .replay .phase ≡ Reading
+  pub enough : rowsFor (d .replay .ports) ≤ length (d .rows)
+  pub kept : Kept (ownRows d)
+  pub window : groupAt (ownRows d) .window ≡ d .replay .window
+  pub none : isDueAt out d ≡ false

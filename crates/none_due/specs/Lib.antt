@@ -1,0 +1,4 @@
+pub mod Fetches
+pub mod Desks
+pub mod Proofs
+pub mod Theorems
