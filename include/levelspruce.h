@@ -75,7 +75,7 @@ extern "C" {
 #define LEVELSPRUCE_ANSWER_FAILED 10    /* the frame came flagged as failed */
 #define LEVELSPRUCE_ANSWER_OUTSIDE 11   /* the frame is in step, but outside the window: hand it again after a report */
 #define LEVELSPRUCE_ANSWER_STEP 12      /* the port is not in step after this frame */
-#define LEVELSPRUCE_ANSWER_LINE 13      /* the first line of a recording cannot be read */
+#define LEVELSPRUCE_ANSWER_LINE 13      /* the first line of a recording cannot be read, or there is none */
 #define LEVELSPRUCE_ANSWER_OWNED 14     /* the slot is not the group's own, or a slot to be claimed is owned already */
 #define LEVELSPRUCE_ANSWER_USED 15      /* a slot to be released is not IDLE */
 
@@ -1203,8 +1203,10 @@ uint8_t levelspruce_paths_check(const uint32_t *delays, size_t delays_length,
  * recording. Mending copies it without the lines that are malformed, and
  * follows the second digit of H4 in the lines of each port, from the first: one
  * to three lines that break the count, before one that is good again, get their
- * digit restored, as a capital. Nothing else is altered, and frames that were
- * lost stay lost. What comes out, mended again, is the same, without notes.
+ * digit restored, as a capital. With four, or at the end, the port is followed
+ * afresh from the first of them, and by it another can be restored. Nothing
+ * else is altered, and frames that were lost stay lost. What comes out, mended
+ * again, is the same, without notes.
  *
  * For each line that was dropped or altered there is a note, a line of four
  * fields parted by tabs: the number of the line in the recording, whose first
@@ -1220,6 +1222,9 @@ uint8_t levelspruce_paths_check(const uint32_t *delays, size_t delays_length,
  *   mended_length   the bytes of the mended recording
  *   notes_length    the bytes of its notes; of more than a size_t holds, its
  *                   largest number, with which levelspruce_mend answers 9
+ *
+ * mended_length and notes_length are two numbers apart, and neither is NULL.
+ * Under 13 and 4 both stay as they were.
  *
  * Answers, the first that fits:
  *   13  the first line cannot be read, or there is none

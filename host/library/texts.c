@@ -37,7 +37,7 @@ const char *levelspruce_answer_text(uint32_t answer)
     case LEVELSPRUCE_ANSWER_STEP:
         return "the port is not in step after this frame";
     case LEVELSPRUCE_ANSWER_LINE:
-        return "the first line of the recording cannot be read";
+        return "the first line of the recording cannot be read, or there is none";
     case LEVELSPRUCE_ANSWER_OWNED:
         return "the slot is not the group's own, or a slot to be claimed is owned already";
     case LEVELSPRUCE_ANSWER_USED:

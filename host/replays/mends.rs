@@ -23,7 +23,7 @@ pub struct Seen {
 fn words_of(answer: u8) -> &'static str {
     match answer {
         4 => "a number is out of range",
-        _ => "the first line of the recording cannot be read",
+        _ => "the first line of the recording cannot be read, or there is none",
     }
 }
 

@@ -1,4 +1,4 @@
--- The request's first sentences word for word (02, 2026-13), with all that they let be so asked at the add and, of the ports, at the reports from that of the first ADD on.
+-- The request's first sentences (02, 2026-13), with all that they let be so asked at the add and, of the ports, at the reports from that of the first ADD on.
 use mathlib.Core.Path.{_≡_}
 use mathlib.Core.Logic.{_⊎_, _≢_}
 use mathlib.Core.Bool.{true, false}

@@ -69,7 +69,7 @@ comeBack {k} {m₀} {a} {b} {until} j t = if b + 1 ≤? t then reportBy (readAns
 abbrev pub tableAt : {k : Link} {m₀ : Moment} {a b until : ℕ} → Joined k m₀ a b until → ℕ → Table
 tableAt j t = senderAt (j .out .history) t .table
 
--- The add: between the starts of the t-th epoch and of the next. What was handed and commanded before is anything.
+-- The add: between the starts of the t-th epoch and of the next. What was handed and commanded before start t is anything.
 pub record Adding (k : Link) (m₀ : Moment) (a b until : ℕ) (j : Joined k m₀ a b until) (slot t : ℕ) : Type 0 where
   -- the back packet of that start is handed over before the add or behind it
   pub earlier : List Call
@@ -78,7 +78,7 @@ pub record Adding (k : Link) (m₀ : Moment) (a b until : ℕ) (j : Joined k m�
   pub command : j .out .history .before (suc t) ≡ earlier ++ (AddSlot slot ∷ later)
   -- 'the add is accepted', which with a wait open it is not
   pub accepted : addOf (run (tableAt j t) earlier) slot .answer ≡ Done
-  -- 'no other commands': from then on back packets alone are handed over
+  -- 'no other commands': from start t on, but for the add, back packets alone are handed over
   pub no-other : (u : ℕ) → suc t < u → u ≤ until → j .out .history .before u ≡ comeBack j u
   -- 'Let the new member's port be readable': on undamaged lines all ports are from the beginning on, so receiving has begun
   pub readable : hasBegun (atStart k m₀ t) ≡ 1

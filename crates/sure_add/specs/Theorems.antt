@@ -50,7 +50,7 @@ pub settled-at-once : (r : Rounds) (slot : ℕ) → addOf (before r) slot .answe
     → (k j : ℕ) → j < slotsIn (tableOf r slot k) → j ≢ slot → isAdd (stateIn (tableOf r slot k) j) ≡ false
 settled-at-once = Settled.none-since
 
--- the request's first sentences, word for word
+-- the request's first sentences, with all that they let be so asked at the add and, of the ports, at the reports from that of the first ADD on
 pub as-asked : (r : Rounds) (a b slot port : ℕ) → (r .kind == fixedKind) ≡ false → Path r a b slot port (bound (r .kind) a b 0) → AsAsked r a slot port (bound (r .kind) a b 0)
     → ActiveWithin (tableOf r slot) slot 0 (bound (r .kind) a b 0)
 as-asked = Settled.asked-so
