@@ -5,6 +5,7 @@ pub mod Claiming
 pub mod Restoring
 pub mod Over
 pub mod Owning
+pub mod Ranked
 pub mod Settled
 pub mod Undamaged
 pub mod Frames

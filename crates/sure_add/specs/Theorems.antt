@@ -26,9 +26,10 @@ use Rattle.sure_add.specs.Own.{OwnOk, NumberFree}
 use Rattle.sure_add.specs.Proofs.Frames as Frames
 use Rattle.sure_add.specs.Proofs.Over as Over
 use Rattle.sure_add.specs.Proofs.Owning as Owning
+use Rattle.sure_add.specs.Proofs.Ranked as Ranked
 use Rattle.sure_add.specs.Proofs.Settled as Settled
 use Rattle.sure_add.specs.Rounds.{Asked, Path, Rounds, before, tableOf}
-use Rattle.sure_add.specs.Within.{ActiveWithin, CarriesWithin, bound}
+use Rattle.sure_add.specs.Within.{ActiveWithin, CarriesWithin, RankWithin, bound}
 
 -- Over frames: sender, lines, receiver, reply, back packets and reports, closed. Whatever the ports' times, on undamaged lines no port is ever FAIL, so that none waits to restore.
 pub sure-add : (k : Link) (m₀ : Moment) (a b slot t : ℕ) (j : Joined k m₀ a b (t + bound (kindOf k) a b 0)) → Adding k m₀ a b (t + bound (kindOf k) a b 0) j slot t
@@ -69,3 +70,8 @@ carries-next = Carried.carries-next
 pub sure-traffic : (k : Link) (m₀ : Moment) (a b slot t : ℕ) (j : Joined k m₀ a b (t + bound (kindOf k) a b 0)) → Adding k m₀ a b (t + bound (kindOf k) a b 0) j slot t
     → CarriesWithin (j .out .history) slot t (bound (kindOf k) a b 0 + 1)
 sure-traffic = Frames.carries
+
+-- and over calls, 35 + a + b + r after it
+pub sure-traffic-over : (r : Rounds) (a b slot port restore : ℕ) → (r .kind == fixedKind) ≡ false → Path r a b slot port (bound (r .kind) a b restore) → Asked r a slot port restore (bound (r .kind) a b restore)
+    → RankWithin (tableOf r slot) slot 0 (bound (r .kind) a b restore + 1)
+sure-traffic-over = Ranked.carries

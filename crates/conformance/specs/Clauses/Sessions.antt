@@ -3,6 +3,7 @@ use mathlib.Core.Path.{_≡_, refl}
 use mathlib.Core.Bool.{false}
 use mathlib.Core.List.{List, [], _∷_, _++_}
 use Prim.Native.Nat.{ℕ, zero, suc}
+use native.Mathlib.Omega.{arith}
 use lib.ListN.{replicate}
 use Rattle.conformance.specs.Clauses.Filled.{nines}
 use Rattle.console.specs.declared.line.Line.the-variants.{Size, Add, Remove, Report, Lapse, Board, Malformed}
@@ -12,7 +13,9 @@ use Rattle.console.specs.Line.{lineOf, numberLine, reportOf}
 use Rattle.console.specs.Replies.{outputOf, replyOf, sizeReply}
 use Rattle.console.specs.Runs.{hostOutput, joined, wholeOutput}
 use Rattle.console.specs.Session.{beginning, fedSession, fedText, feedBytes, feedOf, finishBytes, finishOf, lastSession, lastText, usedOf}
-use Rattle.console.specs.Told.{callsIn, endedIn, fedBy, lastSize, meant, sinceSize, toldTable, usedBy}
+use Rattle.console.specs.Theorems.Cuts.{cut-anywhere}
+use Rattle.console.specs.Theorems.Told.{table-told}
+use Rattle.console.specs.Told.{Feed, callsIn, endedIn, fedBy, lastSize, meant, sinceSize, toldTable, usedBy}
 use Rattle.sender.specs.Commands.{freshOf}
 use Rattle.sender.specs.declared.table.Table.{Table}
 use Rattle.sender.specs.Shown.{after, shown}
@@ -185,3 +188,16 @@ telling :
     × (shown (fedBy beginning (record { part = ascii "size\t2\nadd"; out = nines 1095 } ∷ record { part = ascii "add\t1\n"; out = nines 1095 } ∷ []) .table) ≡ 5 ∷ 255 ∷ 1 ∷ 0 ∷ 0 ∷ [])
 unfolding allOpen
 telling = (refl, refl, refl, refl, refl, refl, refl, refl, refl)
+
+-- Two theorems used, so that a statement that lost a part would be seen: each side is worked out by itself.
+
+abbrev twoFeeds : List Feed
+twoFeeds = record { part = ascii "size\t2\nadd"; out = nines 1095 } ∷ record { part = ascii "add\t1\nlapse"; out = nines 1095 } ∷ []
+
+told-used : fedBy beginning twoFeeds .table ≡ after 2 (C.AddSlot 1 ∷ [])
+unfolding allOpen
+told-used = table-told twoFeeds
+
+cut-used : hostOutput (nines 1095) fourParts ≡ ascii "answer\t0\nanswer\t1\nslot\t0\tIDLE\t255\nwait\t0\n"
+unfolding allOpen
+cut-used = cut-anywhere (nines 1095) (omega arith) fourParts

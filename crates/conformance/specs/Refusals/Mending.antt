@@ -3,13 +3,17 @@ use mathlib.Core.Path.{_≡_, refl}
 use mathlib.Core.Bool.{Bool, true, false, _&&_}
 use mathlib.Core.List.{List, [], _∷_}
 use Prim.Native.Nat.{ℕ}
-use lib.ListN.{length}
+use lib.ListN.{length, take}
 use Rattle.ground.specs.Plain.{if_then_else_, _==_}
 use Rattle.c_face.specs.Mends.{lengthsAnswerC, mendAnswerC, mendedC, mendedLengthC, notesC, notesLengthC}
 use Rattle.conformance.specs.Entries.{Call, Copes, Refusal, Unless, copes, stateful, stateless}
+use Rattle.conformance.specs.Refusals.Receivers.{ranged, timesInRange}
 use Rattle.mending.specs.Lines.{linesWith}
 use Rattle.mending.specs.Mending.{answerBy, fitting, mendAnswer, mendedOf, notesOf, openingOf, readAnswer}
 use Rattle.mending.specs.Told.{lengthsOf, mendedLeft, notesLeft}
+use Rattle.packet.specs.Kinds.{frames, tags}
+use Rattle.phases.specs.Sizes.{sized}
+use Rattle.receiver.specs.Starting.{timesWithin}
 use Rattle.recording.specs.Opening.{Opening}
 use Rattle.recording.specs.Opening.{Opening as O}
 
@@ -20,32 +24,33 @@ reads O.Malformed = false
 reads O.Unfinished = false
 reads O.End = false
 
--- and its settings are in range
-abbrev ranged : Opening → Bool
-ranged (O.Settings s next) = fitting s
-ranged O.Malformed = false
-ranged O.Unfinished = false
-ranged O.End = false
+-- and its settings are in range, as of a receiver's start; times are asked of as many ports as there are
+abbrev settingsRanged : Opening → Bool
+settingsRanged (O.Settings s next) =
+    ranged (s .kind) (s .ports) (s .size) (s .window) && timesInRange (take (s .ports) (s .«hold_off»)) && timesInRange (take (s .ports) (s .restore))
+settingsRanged O.Malformed = false
+settingsRanged O.Unfinished = false
+settingsRanged O.End = false
 
 abbrev opening : List ℕ → Opening
 opening recording = openingOf (linesWith recording)
 
-answer-is : (recording : List ℕ) → readAnswer recording ≡ (if reads (opening recording) then (if ranged (opening recording) then 0 else 4) else 13)
-unfolding readAnswer
+answer-is : (recording : List ℕ) → readAnswer recording ≡ (if reads (opening recording) then (if settingsRanged (opening recording) then 0 else 4) else 13)
+unfolding readAnswer fitting timesWithin sized frames tags
 answer-is recording = go (opening recording)
   where
-    go : (o : Opening) → answerBy o ≡ (if reads o then (if ranged o then 0 else 4) else 13)
+    go : (o : Opening) → answerBy o ≡ (if reads o then (if settingsRanged o then 0 else 4) else 13)
     go (O.Settings s next) = refl
     go O.Malformed = refl
     go O.Unfinished = refl
     go O.End = refl
 
 abbrev firstRefusals : List ℕ → List Refusal
-firstRefusals recording = Unless 13 (reads (opening recording)) ∷ Unless 4 (ranged (opening recording)) ∷ []
+firstRefusals recording = Unless 13 (reads (opening recording)) ∷ Unless 4 (settingsRanged (opening recording)) ∷ []
 
 abbrev mendRefusals : List ℕ → List ℕ → List ℕ → List Refusal
 mendRefusals recording mended notes =
-    Unless 13 (reads (opening recording)) ∷ Unless 4 (ranged (opening recording))
+    Unless 13 (reads (opening recording)) ∷ Unless 4 (settingsRanged (opening recording))
     ∷ Unless 9 (length mended == length (mendedOf recording) && length notes == length (notesOf recording)) ∷ []
 
 -- There are no lengths before the call, so noughts stand for what is given.

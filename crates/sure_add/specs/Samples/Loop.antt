@@ -26,9 +26,10 @@ pub record Setting : Type 0 where
   pub calls : ℕ → List Call
   pub out : ℕ
   pub back : ℕ
-  -- wrong readings: by how many starts the reply is read before the report is fetched, and by how many epochs the back packet's number is taken too low
+  -- wrong readings: by how many starts the reply is read before the report is fetched, by how many epochs the back packet's number is taken too low, and whether the epoch is started before that packet is handed over
   pub ahead : ℕ
   pub late : ℕ
+  pub startsFirst : Bool
   -- the number of the back epoch that runs from start 0 on
   pub number : ℕ
   -- each port's times, and whether it is readable at the report by a start
@@ -36,9 +37,10 @@ pub record Setting : Type 0 where
   pub restore : List ℕ
   pub readable : ℕ → ℕ → Bool
 
--- what stands at a start: the table, the ports as the report by it leaves them, and RS-Ack
+-- what stands at a start: the table that the epoch starts with, the one that the calls behind it find, the ports as the report by it leaves them, and RS-Ack
 pub record At : Type 0 where
   pub table : Table
+  pub found : Table
   pub ports : List Port
   pub ack : ℕ
 
@@ -76,22 +78,22 @@ module _ (s : Setting) where
       }
 
   -- a report that takes in what a table has sent
-  abbrev reported : (ℕ → Bool) → Table → At → Table → At
-  reported readable sent was next =
+  abbrev reported : (ℕ → Bool) → Table → At → Table → Table → At
+  reported readable sent was next found =
       let n = slotsIn next in
       let heard = tabulate n (λ i. hears (portAt (was .ports) i) (rowAt (boardOf sent .rows) i) (readable i) i) in
       let left = standingsOf heard n in
-      record { table = next; ports = tabulate n (λ i. told (portAt heard i) (getD left i noStanding)); ack = ackOf heard n (was .ack) }
+      record { table = next; found = found; ports = tabulate n (λ i. told (portAt heard i) (getD left i noStanding)); ack = ackOf heard n (was .ack) }
 
   -- before any report; when all ports have heard the table before the add, which has been sent for long; and at start 0
   abbrev fresh : At
-  fresh = record { table = s .before; ports = []; ack = 0 }
+  fresh = record { table = s .before; found = s .before; ports = []; ack = 0 }
 
   abbrev heard : At
-  heard = reported (λ i. true) (s .before) fresh (s .before)
+  heard = reported (λ i. true) (s .before) fresh (s .before) (s .before)
 
   abbrev first : At
-  first = reported (s .readable 0) (s .before) heard (s .before)
+  first = reported (s .readable 0) (s .before) heard (s .before) (s .before)
 
   -- all starts up to k, the last one first
   unfoldable pub starts : ℕ → List At
@@ -101,9 +103,9 @@ module _ (s : Setting) where
       let now = getD all 0 first in
       let answer = getD all (s .back + s .ahead) first in
       let number = (s .number + 256 + k - s .back) % 256 in
-      let asked = run (now .table) (s .calls k) in
-      let next = reportOf asked ((number + 256 - s .late) % 256) (mstOf 0 (answer .ports) (slotsIn asked) number) (answer .ack) .table in
-      reported (s .readable (suc k)) (getD all (s .out) first .table) now next ∷ all
+      let asked = run (now .found) (s .calls k) in
+      let handed = reportOf asked ((number + 256 - s .late) % 256) (mstOf 0 (answer .ports) (slotsIn asked) number) (answer .ack) .table in
+      reported (s .readable (suc k)) (getD all (s .out) first .table) now (if s .startsFirst then asked else handed) handed ∷ all
 
   -- the first start at which a slot is active; 0 where it is none up to k
   abbrev pub firstOf : ℕ → ℕ → List At → ℕ

@@ -10,6 +10,7 @@ use Rattle.sender.specs.Reports.{actedOn, comesBefore, mstApplied, numberAfter,
 use Rattle.sender.specs.Table.{holderOf, membersOf, sizeOf}
 use Rattle.sure_add.specs.Samples.Loop.{Setting, activeAt, starts}
 
-unfoldable pub opened : Setting → ℕ → ℕ → ℕ
+-- the first start at which a slot is active; 0 where it is none up to `most`
+unfoldable pub activeAtStart : (s : Setting) (slot most : ℕ) → ℕ
 unfolding idleNumber mstFails mstFirst mstNumbers claims grant granted holders ackOf mstFrom mstOf okHolds turns chosenOf keptNumbers moreKept rounds someJoin standingBy standingsOf boardOf highest noRow rowOf rowsOf addOf addedTo fallen fallenIn freshOf idleSlot lapseOf removeOf removedFrom startOf actedOn comesBefore mstApplied numberAfter numberApplied opensWait renumbered reportOf slotAfter turnOf waited holderOf membersOf sizeOf starts
-opened s slot most = activeAt s slot most
+activeAtStart s slot most = activeAt s slot most

@@ -1,6 +1,6 @@
 -- When the added slot is active, computed on the loop by epochs against starts worked out apart: of the starts j from a + 2 + r on the first with (e + j) mod 32 = q / 8, where e is the number of the back epoch that runs at the add and q the slot's number, and then b + 1.
 use mathlib.Core.Path.{_≡_, refl}
-use mathlib.Core.Bool.{true}
+use mathlib.Core.Bool.{true, false}
 use mathlib.Core.List.{List, [], _∷_, _++_}
 use Prim.Native.Nat.{ℕ, zero, suc, _+_}
 use Rattle.ground.specs.Plain.{if_then_else_, _==_, _≤?_}
@@ -10,7 +10,7 @@ use Rattle.sender.specs.Calls.Call.{AddSlot, Lapse, RemoveSlot, Report}
 use Rattle.sender.specs.Shown.{after}
 use Rattle.reply.specs.Members.{portAt}
 use Rattle.sure_add.specs.Samples.Loop.{At, Setting, activeAt, starts}
-use Rattle.sure_add.specs.Samples.Opened.{opened}
+use Rattle.sure_add.specs.Samples.Opened.{activeAtStart}
 
 -- adds of slots from the first on, so many
 abbrev pub adds : ℕ → ℕ → List Call
@@ -31,6 +31,7 @@ plain slots n a b e slot =
       back = b;
       ahead = 0;
       late = 0;
+      startsFirst = false;
       number = e;
       hold = [];
       restore = [];
@@ -47,6 +48,7 @@ failed r e =
       back = 0;
       ahead = 0;
       late = 0;
+      startsFirst = false;
       number = e;
       hold = [];
       restore = 0 ∷ r ∷ [];
@@ -75,7 +77,7 @@ failing [] = []
 failing (r ∷ rest) = let at = activeAt (r .setting) (r .slot) (r .start + 1) in if at == r .start then failing rest else at ∷ failing rest
 
 all-come : failing rows ≡ []
-unfolding opened failing rows
+unfolding activeAtStart failing rows
 all-come = refl
 
 -- port 1's state, number and counter at starts 8 to 0 of the last row: FAIL by having been dark, restoring for five reports, OK
@@ -88,5 +90,5 @@ seconds (x ∷ rest) = second x ∷ seconds rest
 
 dark-then : seconds (starts (failed 5 26) 8)
     ≡ (2 ∷ 1 ∷ 0 ∷ []) ∷ (2 ∷ 1 ∷ 0 ∷ []) ∷ (1 ∷ 1 ∷ 5 ∷ []) ∷ (1 ∷ 1 ∷ 4 ∷ []) ∷ (1 ∷ 1 ∷ 3 ∷ []) ∷ (1 ∷ 1 ∷ 2 ∷ []) ∷ (1 ∷ 1 ∷ 1 ∷ []) ∷ (1 ∷ 1 ∷ 0 ∷ []) ∷ (1 ∷ 1 ∷ 0 ∷ []) ∷ []
-unfolding opened starts
+unfolding activeAtStart starts
 dark-then = refl
