@@ -1,0 +1,2 @@
+-- Theorems on the step rule.
+pub mod Words
