@@ -8,6 +8,7 @@ pub mod Sizes
 pub mod Claims
 pub mod Claimed
 pub mod Ruled
+pub mod OwnBits
 pub mod Numbered
 pub mod Reports
 pub mod Times

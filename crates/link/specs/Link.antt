@@ -12,7 +12,7 @@ use Rattle.judge.specs.Verdict.{HELD, SURE}
 use Rattle.packet.specs.Changes.{bringsMfi2, changed, keptPart}
 use Rattle.packet.specs.Kinds.{firstTag, frames}
 use Rattle.packet.specs.Symbols.{symbolOf}
-use Rattle.phases.specs.Sizes.{sized}
+use Rattle.phases.specs.Sizes.{startSized}
 use Rattle.link.specs.Moments.{Unready}
 use Rattle.link.specs.Road.{Below, Road, times}
 use Rattle.link.specs.Sending.{Client, Covered, Lawful, Pairing, Sending, epochAt, epochNumber, epochStart}
@@ -96,8 +96,8 @@ NumberKept k t p =
 -- What demand 3 lets be so of the client, the lines and what is lent. That each frame comes once, with its payload undamaged and not flagged failed, that reports are fetched after each frame, and that the receiver's
 -- state and the store stay untouched between calls is said by how the receiver is called on this road.
 pub record Lines (k : Link) : Type 0 where
-  -- 01, 'Numbers that bound the work'
-  pub sizes : sized (kindOf k) (k .ports) (k .payload) (k .window) ≡ true
+  -- 01, 'Numbers that bound the work'; of VC-12 'P is 136' (02, 2026-01)
+  pub sizes : startSized (kindOf k) (k .ports) (k .payload) (k .window) ≡ true
   -- 'any client bytes'; 'a group frame has X x P bytes'
   pub client : (x : ℕ) → length (k .client x) ≡ k .sending .x (epochAt (kindOf k) x) * k .payload
   -- 'spread at most the window less 16 frames'
