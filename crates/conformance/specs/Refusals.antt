@@ -41,6 +41,8 @@ entries =
     ∷ row "packet::write_vc12" packet.writeVc12 packet.writeVc12-copes
     ∷ row "packet::read_vc12" packet.readVc12 packet.readVc12-copes
     ∷ row "packet::read_vc12_row" packet.readVc12Entries packet.readVc12Entries-copes
+    ∷ row "packet::write_by" packet.writeBy packet.writeBy-copes
+    ∷ row "packet::read_row" packet.readRowBy packet.readRowBy-copes
     ∷ row "payload::spread" payload.spread payload.spread-copes
     ∷ row "payload::join" payload.join payload.join-copes
     ∷ row "payload::spread_one" payload.spreadOneMember payload.spreadOne-copes

@@ -1,9 +1,12 @@
 -- Groups of VC-12 (request 2026-01), clause by clause: the packet through C, the clock, starts at their limits, MST and the number of an IDLE slot. The figures were worked out apart. Packets and the step rule by themselves are tried in crates/packet/specs/Samples.antt and crates/step/specs/Samples.antt.
 use mathlib.Core.Path.{_≡_, refl}
-use mathlib.Core.Bool.{true, false}
+use mathlib.Core.Bool.{Bool, true, false, not, _||_}
 use mathlib.Core.List.{List, [], _∷_, _++_}
-use Prim.Native.Nat.{ℕ, _+_}
+use Prim.Native.Nat.{ℕ, _+_, _-_, _%_}
 use lib.ListN.{drop, getD, replicate, take}
+use Rattle.ground.specs.Finite.{below, sameBits}
+use Rattle.ground.specs.Plain.{if_then_else_, _==_}
+use Rattle.ground.specs.Polynomial.{check}
 use Rattle.ground.specs.Table.{tabulate}
 use Rattle.c_face.specs.Cards.{cardOf, startAnswerOn, startStateOn}
 use Rattle.c_face.specs.Keeping.{senderOf}
@@ -12,6 +15,7 @@ use Rattle.c_face.specs.Receivers.{startAsAnswerC}
 use Rattle.c_face.specs.Senders.{callStateC, packetAnswerC, packetBytesC, payloadAnswerC, payloadBytesC, startAnswerC, startStateC}
 use Rattle.packet.specs.Kinds.{endsEpoch, epochAfter, epochOf, epochsIn, firstTag, idleNumber, mstFirst, placeOf, tagAfter, tagBefore}
 use Rattle.packet.specs.Symbols.{packetRow}
+use Rattle.packet.specs.Vc12.{vc12Divisor}
 use Rattle.step.specs.OwnCount.{oddPacket, ownRuling}
 use Rattle.sender.specs.Calls.{Call, outcomeOf, run}
 use Rattle.sender.specs.Calls.Call.{AddSlot, Lapse, RemoveSlot, Report}
@@ -76,6 +80,14 @@ read-in-c :
     × (readVc12FieldsC idle (nines 9) ≡ nines 9)
 unfolding allOpen
 read-in-c = (refl, refl, refl, refl, refl, refl, refl, refl, refl, refl, refl)
+
+-- 'two changed bits seven places apart pass this CRC': of the packet of zeros, whose CRC is right, with the bits at two places changed it is right exactly where they stand 7, 14, 21 or 28 places apart.
+abbrev passes : ℕ → ℕ → Bool
+passes i j = let l = tabulate 32 (λ k. k == i || k == j) in sameBits (check vc12Divisor (take 29 l)) (drop 29 l)
+
+two-pass : below 32 (λ j. below j (λ i. if (j - i) % 7 == 0 then passes i j else not (passes i j))) ≡ true
+unfolding allOpen
+two-pass = refl
 
 -- 'An epoch is 32 frames', 'Tags run 0 to 1,023', and an epoch starts with its count. 'MST speaks of numbers 8 x (count mod 8) onward', and an epoch's number that no count has is taken modulo 8 too.
 clock :

@@ -1,6 +1,6 @@
 -- The refusals of the packet's entry points, of H4 and of VC-12 (request 2026-01): writing 9, 8; reading 9, 5, 7, 6. Of a fixed group (request 2026-12) writing 9, 8; reading 9, 6.
-use mathlib.Core.Path.{refl}
-use mathlib.Core.Bool.{Bool, not, _&&_, _||_}
+use mathlib.Core.Path.{_≡_, refl}
+use mathlib.Core.Bool.{Bool, true, false, not, _&&_, _||_}
 use mathlib.Core.List.{List, [], _∷_}
 use Prim.Native.Nat.{ℕ, _+_, _*_, _%_}
 use lib.ListN.{drop, getD, length, take}
@@ -14,6 +14,8 @@ use Rattle.packet.specs.Crc.{crcOf}
 use Rattle.packet.specs.Fixed.{readFixedAnswer, readFixedNibbles, writeFixedAnswer, writeFixedBytes}
 use Rattle.packet.specs.Layout.{carriedIn, fieldsOf, highsOf}
 use Rattle.packet.specs.Reading.{readAnswer, readNibbles, readingNumber}
+use Rattle.packet.specs.Ruling.{readRow}
+use Rattle.packet.specs.Sent.{sentAnswer, sentBytes}
 use Rattle.packet.specs.Vc12.{lowestOf, readVc12Answer, readVc12Bits, readVc12Row, rowBits, vc12Divisor, vc12Fields, vc12Fits, writeVc12Answer, writeVc12Bytes}
 use Rattle.packet.specs.Words.{assigned}
 use Rattle.packet.specs.Writing.{fitting, writeAnswer, writeBytes, writingNumber}
@@ -147,6 +149,32 @@ pub readVc12Entries-copes : (x : List ℕ) → Copes (readVc12Entries x)
 unfolding readVc12Row readVc12Bits vc12Fields assigned
 readVc12Entries-copes row =
     copes _ (λ c. (λ f. rw (c, f) (refl, refl, refl), λ f. (λ a. rw (c, f, rw f at a), λ a. rw (c, f, rw f at a) (refl, refl, refl))), λ c. rw c (refl, refl, refl))
+
+-- By the kind, as our sender writes and a receiver reads.
+
+abbrev pub writeBy : ℕ × Fields × List ℕ → Call
+writeBy (kind, fields, bytes) =
+    stateless (Unless 9 (length bytes == (if kind == 1 then 32 else 16)) ∷ Unless 8 (smallOf kind fields) ∷ [])
+    (writingNumber (sentAnswer kind fields bytes)) (bytes ∷ []) (sentBytes kind fields bytes ∷ [])
+
+pub writeBy-copes : (x : ℕ × Fields × List ℕ) → Copes (writeBy x)
+unfolding sentAnswer sentBytes
+writeBy-copes (kind, fields, bytes) = go (kind == 1) refl
+  where
+    go : (b : Bool) → (kind == 1) ≡ b → Copes (writeBy (kind, fields, bytes))
+    go true e = rw e (writeVc12-copes (fields, bytes))
+    go false e = rw e (write-copes (fields, bytes))
+
+abbrev pub readRowBy : ℕ × List ℕ → Call
+readRowBy (kind, row) = stateless (if kind == 1 then bitsRefusals (rowBits row) else readRefusals row) (readingNumber (readRow kind row)) [] []
+
+pub readRowBy-copes : (x : ℕ × List ℕ) → Copes (readRowBy x)
+unfolding readRow
+readRowBy-copes (kind, row) = go (kind == 1) refl
+  where
+    go : (b : Bool) → (kind == 1) ≡ b → Copes (readRowBy (kind, row))
+    go true e = rw e (readVc12Entries-copes row)
+    go false e = rw e (readSixteen-copes row)
 
 abbrev pub readVc12C : List ℕ × List ℕ → Call
 readVc12C (bits, fields) =
