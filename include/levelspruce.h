@@ -1185,17 +1185,17 @@ uint8_t levelspruce_receiver_start_as(uint32_t kind, uint32_t ports, uint32_t pa
  *   9  state_length, payload_length or store_length is wrong
  *  10  the frame is flagged: the port is unreadable, and its step is lost
  *  12  the port is not in step after this frame: its count of frames goes on
- *      or starts anew. A port in step counts by itself and takes up to three
- *      frames in a row that break the count of MFI1 and MFI2; the fourth is 12,
- *      and so is the end of a second packet in a row with a right CRC (of a
- *      fixed group with any) and another MFI2 than that count's. Of VC-12 a
- *      port comes into step with two whole packets in a row, each start said
- *      where it is due, whose counts differ by one, 0 after 31. A packet whose
- *      count is not the next one is 12 from the fifth bit of its count on, and
- *      the first of a new two; so is every frame from a start said early or
- *      left out on, and a frame said to be a start is a first bit. Hand one
- *      flagged frame at every known switch of a path: until step is lost,
- *      frames of the new path are taken under the tags of the old one
+ *      or starts anew. Of H4 and FIXED a port in step counts by itself and
+ *      takes up to three frames in a row that break the count of MFI1 and MFI2;
+ *      the fourth is 12, and so is the end of a second packet in a row with a
+ *      right CRC (of a fixed group with any) and another MFI2 than that
+ *      count's. Of VC-12 a port comes into step with two whole packets in a
+ *      row, each start said where it is due, whose counts differ by one, 0
+ *      after 31. It loses step at the fifth bit of a count that is not the next
+ *      one, and that packet is the first of a new two; and at a start said
+ *      early or left out. A frame said to be a start is always a first bit.
+ *      Hand one flagged frame at every known switch of a path: until step is
+ *      lost, frames of the new path are taken under the tags of the old one
  *  11  the frame is in step, but lies outside the window, and the port has
  *      joined: nothing changes; hand the same frame again after a report
  *   0  taken: its payload and its byte h4 are stored, or dropped where the port
