@@ -35,6 +35,9 @@ use Rattle.store.specs.Marks.{firstMark}
 use Rattle.invariant.specs.Calls.{Receiver, ReceiverCall, portAfter, receiverAfter, receiverRun, startedWith}
 use Rattle.invariant.specs.Claims.{Claimed, HandedBy, HandedLast, tagIn}
 use Rattle.invariant.specs.Kept.Group.{Kept}
+use Rattle.invariant.specs.Words.{Unflagged}
+use Rattle.invariant.specs.Proofs.Stepping as Stepping
+use Rattle.step.specs.Theorems.Heard.{HeardStep}
 use Rattle.invariant.specs.Live.{Live, heardOf}
 use Rattle.invariant.specs.Proofs.Calls as Calls
 use Rattle.invariant.specs.Proofs.Claimed as Claims
@@ -105,6 +108,12 @@ pub ruling-number : (kind count P W : ℕ) (hold restore : List ℕ) (rows : Lis
     → (let s = receiverRun (startedWith kind count P W hold restore rows store) calls .rows in
     seenOf (groupAt s) s j .whole ≡ true → seenOf (groupAt s) s j .good ≡ true → fieldsIn kind (portAt s j .ruling) .epoch ≡ rulingEpoch (groupAt s))
 ruling-number = Numbered.ruling-number
+
+-- VC-12's step rule in the request's words: 'in step after two whole packets in a row whose counts differ by one'. After any calls with no flagged frame of the port, it is in step exactly if the bytes that it has heard end so.
+pub step-words : (kind count P W : ℕ) (hold restore : List ℕ) (rows : List (List ℕ)) (store : List ℕ) → startAsAnswer kind count P W (length store) hold restore (length rows) ≡ 0
+    → withoutMfi2 kind ≡ true → (calls : List ReceiverCall) (j : ℕ) → j < count → Unflagged j calls
+    → HeardStep kind (heardOf j (startedWith kind count P W hold restore rows store) calls []) (portAt (receiverRun (startedWith kind count P W hold restore rows store) calls .rows) j .step .count)
+step-words = Stepping.step-words
 
 -- The packet being gathered (request 2026-04): in every phase the symbols of a run's last frames stand at their own places, and at own MFI1 7 of a port in step it is the packet that came.
 pub live-row : (kind count P W : ℕ) (hold restore : List ℕ) (rows : List (List ℕ)) (store : List ℕ) → startAsAnswer kind count P W (length store) hold restore (length rows) ≡ 0
