@@ -9,10 +9,10 @@
  * - The result is the answer number. Any answer but 0 is a refusal.
  * - A refusal changes no byte of any buffer, but for these, which change the
  *   state and nothing else: 4 of levelspruce_sender_start, of
- *   levelspruce_card_start, of levelspruce_receiver_start and of
- *   levelspruce_receiver_start_as writes an empty group (of a card, two), and
- *   10 and 12 of levelspruce_receiver_frame record that the port is not in
- *   step, with all that follows from it.
+ *   levelspruce_card_start, of levelspruce_receiver_start and of the three
+ *   calls of these names with _as behind them writes an empty group (of a card,
+ *   two), and 10 and 12 of levelspruce_receiver_frame record that the port is
+ *   not in step, with all that follows from it.
  * - Numbers pass as uint32_t, so a number that is too large is refused by its
  *   answer and never cut down to one that fits (but of rs_ack in
  *   levelspruce_sender_report and levelspruce_card_report the lowest bit
@@ -87,11 +87,25 @@ extern "C" {
 #define LEVELSPRUCE_WORD_IDLE 5
 #define LEVELSPRUCE_WORD_DNU 15
 
-/* The frames of an epoch, and so of a packet. */
+/* The kinds of a group. H4 is VC-3 and VC-4 with LCAS, whose packets go in the
+ * H4 bytes; VC12 is VC-12 with LCAS, whose packets go bit by bit in K4; FIXED
+ * is VC-3 and VC-4 without LCAS (a fixed group), of which there are receivers
+ * alone. Where a comment names no kind, it holds of all. */
+#define LEVELSPRUCE_KIND_H4 0
+#define LEVELSPRUCE_KIND_VC12 1
+#define LEVELSPRUCE_KIND_FIXED 2
+
+/* The frames of an epoch, and so of a packet: of H4 and FIXED, and of VC-12. */
 #define LEVELSPRUCE_EPOCH_FRAMES 16
+#define LEVELSPRUCE_EPOCH_FRAMES_VC12 32
+
+/* What a frame's byte has beside its bit of K4, where the host says that a
+ * packet of VC-12 starts with this frame. */
+#define LEVELSPRUCE_VC12_START 2
 
 /* Sizes of buffers, in bytes. */
 #define LEVELSPRUCE_PACKET_BYTES 16 /* the H4 bytes of one packet */
+#define LEVELSPRUCE_PACKET_BYTES_VC12 32 /* the bytes of one packet's frames, of VC-12 */
 #define LEVELSPRUCE_FIELDS_BYTES 10 /* the fields of one packet */
 #define LEVELSPRUCE_SENDER_BYTES 397 /* a sender's state */
 #define LEVELSPRUCE_CARD_BYTES 858  /* the state of a card with two groups */
@@ -113,15 +127,19 @@ extern "C" {
     (LEVELSPRUCE_SIZE(ports) * LEVELSPRUCE_SIZE(window) * (LEVELSPRUCE_SIZE(payload) + 1))
 #define LEVELSPRUCE_OUTPUT_BYTES(ports, payload) \
     (LEVELSPRUCE_SIZE(ports) * LEVELSPRUCE_EPOCH_FRAMES * LEVELSPRUCE_SIZE(payload))
+#define LEVELSPRUCE_OUTPUT_BYTES_VC12(ports) \
+    (LEVELSPRUCE_SIZE(ports) * LEVELSPRUCE_EPOCH_FRAMES_VC12 * LEVELSPRUCE_PAYLOAD_VC12)
 
 /* Payload: members of a group, and bytes of a member frame. */
 #define LEVELSPRUCE_MEMBERS_MOST 64
 #define LEVELSPRUCE_PAYLOAD_MOST 2340
 #define LEVELSPRUCE_PAYLOAD_VC3 756
 #define LEVELSPRUCE_PAYLOAD_VC4 2340
+#define LEVELSPRUCE_PAYLOAD_VC12 136
 
 /* The place of each field among the ten bytes that reading gives, and the
- * greatest number that the reserved bits make. */
+ * greatest number that the reserved bits of H4's packets make; those of VC-12's
+ * make 15. */
 #define LEVELSPRUCE_FIELD_EPOCH 0
 #define LEVELSPRUCE_FIELD_WORD 1
 #define LEVELSPRUCE_FIELD_GID 2
@@ -132,10 +150,12 @@ extern "C" {
 #define LEVELSPRUCE_RESERVED_MOST 67108863
 
 /* A sender's slots, the groups of a card, and the number of a slot that is
- * IDLE. */
+ * IDLE: of H4 and FIXED, and of VC-12, where a member may have that number too:
+ * the word decides. */
 #define LEVELSPRUCE_SLOTS_MOST 64
 #define LEVELSPRUCE_GROUPS 2
 #define LEVELSPRUCE_NUMBER_IDLE 255
+#define LEVELSPRUCE_NUMBER_IDLE_VC12 63
 
 /* The bytes of a board: slot s has its word at ROWS + 2 * s and its number
  * right after it. */
@@ -293,6 +313,60 @@ uint8_t levelspruce_packet_read_fixed(const uint8_t *h4, size_t h4_length,
                                       uint8_t *fields, size_t fields_length);
 
 /*
+ * Writes one control packet of VC-12 as the bytes of the 32 frames that carry
+ * it, one bit of K4 each: the bit in the lowest place, and in the first byte
+ * LEVELSPRUCE_VC12_START beside it. So what is written can be handed to
+ * levelspruce_receiver_frame, frame by frame. On the line goes the lowest bit.
+ *
+ *   epoch         the multiframe count, 0 to 31
+ *   word          ADD, NORM, EOS, IDLE or DNU
+ *   gid, rs_ack   0 or 1
+ *   mst           0 to 255
+ *   sq            0 to 63
+ *   reserved      0 to 15: the four bits that no other field has, the first one
+ *                 highest; 0 but for a relay
+ *   bits          LEVELSPRUCE_PACKET_BYTES_VC12 bytes, in the order of sending
+ *
+ * Answers, the first that fits:
+ *   9  bits_length is not 32
+ *   8  a field is above its limit, or the word is FIXED or unassigned
+ *   0  all 32 bytes are written; levelspruce_packet_read_vc12 gives the same
+ *      fields back
+ */
+LEVELSPRUCE_MUST_USE
+uint8_t levelspruce_packet_write_vc12(uint32_t epoch, uint32_t word,
+                                      uint32_t gid, uint32_t mst,
+                                      uint32_t rs_ack, uint32_t sq,
+                                      uint32_t reserved,
+                                      uint8_t *bits, size_t bits_length);
+
+/*
+ * Reads one control packet of VC-12 from the bytes of the 32 frames that carry
+ * it.
+ *
+ *   bits     LEVELSPRUCE_PACKET_BYTES_VC12 bytes, from the first bit of the
+ *            count on; only their lowest bits are looked at
+ *   fields   LEVELSPRUCE_FIELDS_BYTES bytes for the result, each at its
+ *            LEVELSPRUCE_FIELD_ place
+ *
+ * What is answered 0 can always be written, and levelspruce_packet_write_vc12
+ * with the same fields gives the same lowest bits again. A written packet with
+ * one of its 32 bits changed is always answered 5. With two changed that stand
+ * 7, 14, 21 or 28 places apart its CRC is right, and it can read well as
+ * another packet.
+ *
+ * Answers, the first that fits:
+ *   9  bits_length is not 32, or fields_length is not 10
+ *   5  the CRC differs
+ *   7  the control word is FIXED
+ *   6  the control word is unassigned
+ *   0  all ten bytes of fields are written
+ */
+LEVELSPRUCE_MUST_USE
+uint8_t levelspruce_packet_read_vc12(const uint8_t *bits, size_t bits_length,
+                                     uint8_t *fields, size_t fields_length);
+
+/*
  * Spreads a group frame over its members: byte p of the frame becomes byte
  * p / x of the member ranked p % x.
  *
@@ -331,18 +405,18 @@ uint8_t levelspruce_join(uint32_t x, uint32_t p,
 /*
  * The sender. Its whole state is one buffer of LEVELSPRUCE_SENDER_BYTES bytes
  * that the host lends to each call and keeps between calls. Begin with
- * levelspruce_sender_start. The state may be copied, stored and lent from
- * another place; what its bytes mean is the library's own affair. Any bytes
- * are coped with: a state that does not come from levelspruce_sender_start is
- * answered like any other, and no call reads or writes outside its buffers;
- * what boards, ranks and payload then show need not agree.
+ * levelspruce_sender_start, or with levelspruce_sender_start_as for VC-12. The
+ * state may be copied, stored and lent from another place; what its bytes mean
+ * is the library's own affair. Any bytes are coped with: a state that does not
+ * come from a start is answered like any other, and no call reads or writes
+ * outside its buffers; what boards, ranks and payload then show need not agree.
  *
  * A state_length other than LEVELSPRUCE_SENDER_BYTES is answered 9 before all
  * else (but 4 at starting).
  */
 
 /*
- * Starts a group: all slots IDLE, no wait open, no epoch started.
+ * Starts a group of H4: all slots IDLE, no wait open, no epoch started.
  *
  *   count         slots of the group, 1 to 64
  *   first_epoch   the number of the first epoch, 0 to 255
@@ -358,6 +432,28 @@ uint8_t levelspruce_join(uint32_t x, uint32_t p,
 LEVELSPRUCE_MUST_USE
 uint8_t levelspruce_sender_start(uint32_t count, uint32_t first_epoch,
                                  uint8_t *state, size_t state_length);
+
+/*
+ * Starts a group of a kind. With LEVELSPRUCE_KIND_H4 this is
+ * levelspruce_sender_start.
+ *
+ *   kind          LEVELSPRUCE_KIND_H4 or LEVELSPRUCE_KIND_VC12
+ *   count         slots of the group, 1 to 64
+ *   first_epoch   the number of the first epoch, 0 to 255, of VC-12 0 to 31
+ *   state         LEVELSPRUCE_SENDER_BYTES bytes, of any content
+ *
+ * Answers, the first that fits:
+ *   4  count is 0 or above 64, or kind is neither; where state_length is right,
+ *      all of state is written with an empty group of H4, in which every slot
+ *      is answered 1
+ *   9  state_length is wrong
+ *   8  first_epoch is above 255, of VC-12 above 31
+ *   0  all of state is written
+ */
+LEVELSPRUCE_MUST_USE
+uint8_t levelspruce_sender_start_as(uint32_t kind, uint32_t count,
+                                    uint32_t first_epoch,
+                                    uint8_t *state, size_t state_length);
 
 /*
  * Adds an IDLE slot: it is ADD with the next free number.
@@ -392,7 +488,8 @@ uint8_t levelspruce_sender_remove(uint8_t *state, size_t state_length,
  * Takes what the far end reports.
  *
  *   epoch    the epoch of the packet that reports, 0 to 255: the MST speaks of
- *            the numbers 8 * (epoch % 32) to that plus 7
+ *            the numbers 8 * (epoch % 32) to that plus 7, of VC-12 of
+ *            8 * (epoch % 8) to that plus 7
  *   mst      the eight MST bits, first bit highest; 0 is OK, 1 is FAIL
  *   rs_ack   0 or 1; of a larger number up to 255 the lowest bit counts
  *
@@ -426,7 +523,8 @@ uint8_t levelspruce_sender_lapse(uint8_t *state, size_t state_length);
  * Starts an epoch. From here to the next start, packets go out from the table
  * as it stands now, and payload goes by the packets of the epoch before,
  * whatever other calls come in between. The first epoch has the number given
- * to levelspruce_sender_start, and each next one is one more, 0 after 255.
+ * at the group's start, and each next one is one more, 0 after 255, of VC-12 0
+ * after 31.
  *
  *   gid, rs_ack   0 or 1, for all packets of the epoch
  *   mst           0 to 255, for all packets of the epoch
@@ -444,16 +542,18 @@ uint8_t levelspruce_sender_start_epoch(uint8_t *state, size_t state_length,
 /*
  * Writes the packet of a slot in this epoch.
  *
- *   h4   LEVELSPRUCE_PACKET_BYTES bytes, in the order of sending
+ *   h4   LEVELSPRUCE_PACKET_BYTES bytes, of VC-12
+ *        LEVELSPRUCE_PACKET_BYTES_VC12 as levelspruce_packet_write_vc12 writes
+ *        them, in the order of sending
  *
  * Answers, the first that fits:
  *   9  state_length is wrong
  *   1  slot is not below the group's count
- *   9  h4_length is not 16
+ *   9  h4_length is not 16, of VC-12 not 32
  *   2  no epoch has started
- *   8  only with a state that does not come from levelspruce_sender_start:
- *      what it keeps makes no packet
- *   0  all sixteen bytes are written
+ *   8  only with a state that does not come from a start: what it keeps makes
+ *      no packet
+ *   0  all of these bytes are written
  */
 LEVELSPRUCE_MUST_USE
 uint8_t levelspruce_sender_packet(const uint8_t *state, size_t state_length,
@@ -465,7 +565,7 @@ uint8_t levelspruce_sender_packet(const uint8_t *state, size_t state_length,
  * of its rank, or zeros where it has none. For many slots it is faster to
  * spread the frame once (levelspruce_sender_ranks, levelspruce_spread).
  *
- *   p        payload of a member frame in bytes, 1 to 2340
+ *   p        payload of a member frame in bytes, 1 to 2340, of VC-12 136
  *   frame    the group frame, x * p bytes with the x of this epoch
  *   member   p bytes for the slot's payload
  *
@@ -486,7 +586,7 @@ uint8_t levelspruce_sender_payload(const uint8_t *state, size_t state_length,
 /*
  * Reads the board whole: the count, 1 for an open wait or 0, and the word and
  * number of each slot, all of one table, as it stands now. The count is at
- * most 64. Past the count slots are shown IDLE.
+ * most 64. Past the count slots are shown IDLE, with 255, of VC-12 with 63.
  *
  *   board   LEVELSPRUCE_BOARD_BYTES bytes, by the LEVELSPRUCE_BOARD_ places
  *
@@ -534,15 +634,16 @@ uint8_t levelspruce_sender_ranks(const uint8_t *state, size_t state_length,
  * the other owns; a claim is the one answer that tells of the latter.
  *
  * The card's whole state is one buffer of LEVELSPRUCE_CARD_BYTES bytes, lent
- * and kept as a sender's is. Begin with levelspruce_card_start. Any bytes are
- * coped with. A call changes no byte of the other group's part of the state.
+ * and kept as a sender's is. Begin with levelspruce_card_start, or with
+ * levelspruce_card_start_as where both groups are of VC-12. Any bytes are coped
+ * with. A call changes no byte of the other group's part of the state.
  *
  * A state_length other than LEVELSPRUCE_CARD_BYTES is answered 9 before all
  * else (but 4 at starting), then a group other than 0 and 1 is answered 1.
  */
 
 /*
- * Starts a card: two groups with all slots IDLE, and no slot owned.
+ * Starts a card: two groups of H4 with all slots IDLE, and no slot owned.
  *
  *   count           slots of the card, 1 to 64
  *   first_epoch_0   the number of the first epoch of group 0, 0 to 255
@@ -560,6 +661,31 @@ LEVELSPRUCE_MUST_USE
 uint8_t levelspruce_card_start(uint32_t count, uint32_t first_epoch_0,
                                uint32_t first_epoch_1,
                                uint8_t *state, size_t state_length);
+
+/*
+ * Starts a card whose two groups are of a kind. With LEVELSPRUCE_KIND_H4 this
+ * is levelspruce_card_start.
+ *
+ *   kind            LEVELSPRUCE_KIND_H4 or LEVELSPRUCE_KIND_VC12
+ *   count           slots of the card, 1 to 64
+ *   first_epoch_0   the number of the first epoch of group 0, 0 to 255, of
+ *                   VC-12 0 to 31
+ *   first_epoch_1   that of group 1
+ *   state           LEVELSPRUCE_CARD_BYTES bytes, of any content
+ *
+ * Answers, the first that fits:
+ *   4  count is 0 or above 64, or kind is neither; where state_length is right,
+ *      all of state is written with two empty groups of H4, in which every slot
+ *      is answered 1
+ *   9  state_length is wrong
+ *   8  a first epoch is above 255, of VC-12 above 31
+ *   0  all of state is written
+ */
+LEVELSPRUCE_MUST_USE
+uint8_t levelspruce_card_start_as(uint32_t kind, uint32_t count,
+                                  uint32_t first_epoch_0,
+                                  uint32_t first_epoch_1,
+                                  uint8_t *state, size_t state_length);
 
 /*
  * Claims a slot that nobody owns for the group.
@@ -671,17 +797,18 @@ uint8_t levelspruce_card_start_epoch(uint8_t *state, size_t state_length,
  * packets right after the start of an epoch: once a slot is released, its
  * packet is answered 14.
  *
- *   h4   LEVELSPRUCE_PACKET_BYTES bytes, in the order of sending
+ *   h4   LEVELSPRUCE_PACKET_BYTES bytes, of VC-12
+ *        LEVELSPRUCE_PACKET_BYTES_VC12, in the order of sending
  *
  * Answers, the first that fits:
  *   9   state_length is wrong
  *   1   there is no such group, or slot is not below its count
  *   14  the slot is not the group's own
- *   9   h4_length is not 16
+ *   9   h4_length is not 16, of VC-12 not 32
  *   2   no epoch of the group has started
- *   8   only with a state that does not come from levelspruce_card_start:
- *       what it keeps makes no packet
- *   0   all sixteen bytes are written
+ *   8   only with a state that does not come from a start: what it keeps makes
+ *       no packet
+ *   0   all of these bytes are written
  */
 LEVELSPRUCE_MUST_USE
 uint8_t levelspruce_card_packet(const uint8_t *state, size_t state_length,
@@ -692,7 +819,7 @@ uint8_t levelspruce_card_packet(const uint8_t *state, size_t state_length,
  * Writes the payload of a slot of the group for one frame of the group, as
  * levelspruce_sender_payload does.
  *
- *   p        payload of a member frame in bytes, 1 to 2340
+ *   p        payload of a member frame in bytes, 1 to 2340, of VC-12 136
  *   frame    the group frame, x * p bytes with the x of this epoch
  *   member   p bytes for the slot's payload
  *
@@ -902,18 +1029,20 @@ uint8_t levelspruce_board_speak(const uint8_t *changes, size_t changes_length,
  * Any bytes are coped with: a state that does not come from
  * levelspruce_receiver_start is answered like any other, and no call reads or
  * writes outside its buffers. A state with no row, or whose kind, count, P or W
- * is out of range, is that of an empty group: it has 0 ports, a store of 0 bytes
- * and any number of rows, and none of its reports is ever due.
+ * is out of range, is that of an empty group: it has 0 ports, a store of 0
+ * bytes and any number of rows, and none of its reports is ever due.
  *
  * The calls that only read the state take rows of const bytes. A strict C
  * compiler (before C23) wants a cast there:
  * (const uint8_t (*)[LEVELSPRUCE_ROW_BYTES])state.
  */
 
-/* Ports and windows, in frames. */
+/* Ports and windows, in frames: of H4 and FIXED, and of VC-12. */
 #define LEVELSPRUCE_PORTS_MOST 64
 #define LEVELSPRUCE_WINDOW_LEAST 16
 #define LEVELSPRUCE_WINDOW_MOST 2048
+#define LEVELSPRUCE_WINDOW_LEAST_VC12 32
+#define LEVELSPRUCE_WINDOW_MOST_VC12 512
 
 /* The marks of a report. */
 #define LEVELSPRUCE_MARK_NONE 0     /* none is due */
@@ -937,7 +1066,7 @@ uint8_t levelspruce_board_speak(const uint8_t *changes, size_t changes_length,
  * and OK is shown as it is. It is there only in a state that has bytes which no
  * call returned. */
 #define LEVELSPRUCE_PORT_STATE 0    /* at the last report; IDLE before the first */
-#define LEVELSPRUCE_PORT_NUMBER 1   /* with that state; LEVELSPRUCE_NUMBER_IDLE where it is IDLE */
+#define LEVELSPRUCE_PORT_NUMBER 1   /* with that state; where it is IDLE LEVELSPRUCE_NUMBER_IDLE, of VC-12 LEVELSPRUCE_NUMBER_IDLE_VC12 */
 #define LEVELSPRUCE_PORT_STEP 2     /* 1 while in step */
 #define LEVELSPRUCE_PORT_JOINED 3   /* 1 while joined */
 #define LEVELSPRUCE_PORT_READABLE 4 /* 1 while readable */
@@ -950,10 +1079,7 @@ uint8_t levelspruce_board_speak(const uint8_t *changes, size_t changes_length,
 #define LEVELSPRUCE_WAITING_HOLD_OFF 1 /* OK without its claim; FAIL when the hold-off is over */
 #define LEVELSPRUCE_WAITING_RESTORE 2  /* FAIL with its claim; OK when the wait-to-restore is over */
 
-/* The kinds of packets of a group: with LCAS, and without it (a fixed group);
- * and the greatest count of a timer, in epochs. */
-#define LEVELSPRUCE_KIND_H4 0
-#define LEVELSPRUCE_KIND_FIXED 2
+/* The greatest count of a timer, in epochs. */
 #define LEVELSPRUCE_TIMER_MOST 5000
 
 /* The bytes of a reply. */
@@ -961,7 +1087,7 @@ uint8_t levelspruce_board_speak(const uint8_t *changes, size_t changes_length,
 #define LEVELSPRUCE_REPLY_RS_ACK 1
 
 /*
- * Starts a receiver: no port has had a frame, all are IDLE, RS-Ack is 0.
+ * Starts a receiver of H4: no port has had a frame, all are IDLE, RS-Ack is 0.
  *
  *   ports         1 to 64
  *   payload       P, bytes of a member frame, 1 to 2340
@@ -988,13 +1114,13 @@ uint8_t levelspruce_receiver_start(uint32_t ports, uint32_t payload,
  *
  * A port that is OK and loses its claim (it is not readable, or another port
  * has its number) stays OK under the number it has, against others, at as many
- * reports as its hold-off says, and is FAIL at the next; a port that is FAIL and
- * has its claim stays FAIL at as many as its wait-to-restore says, and is OK at
- * the next. A port whose packets say IDLE is IDLE at once. With 0 and 0 this is
- * levelspruce_receiver_start, which is this call with LEVELSPRUCE_KIND_H4 and
- * two empty lists. Give all ports of a group the same times: a kept number can
- * make a healthy port FAIL that is renumbered into it and has no hold-off.
- * To change the times, start anew.
+ * reports as its hold-off says, and is FAIL at the next; a port that is FAIL
+ * and has its claim stays FAIL at as many as its wait-to-restore says, and is
+ * OK at the next. A port whose packets say IDLE is IDLE at once. With 0 and 0
+ * this is levelspruce_receiver_start, which is this call with
+ * LEVELSPRUCE_KIND_H4 and two empty lists. Give all ports of a group the same
+ * times: a kept number can make a healthy port FAIL that is renumbered into it
+ * and has no hold-off. To change the times, start anew.
  *
  * A receiver of LEVELSPRUCE_KIND_FIXED is for a far end without LCAS, whose
  * packets levelspruce_packet_read_fixed reads. All ports carry payload, always:
@@ -1007,15 +1133,22 @@ uint8_t levelspruce_receiver_start(uint32_t ports, uint32_t payload,
  * are as with LCAS, but that two packets in a row with another MFI2 than the
  * receiver's count lose step whatever their CRC.
  *
- *   kind          LEVELSPRUCE_KIND_H4 or LEVELSPRUCE_KIND_FIXED
- *   ports, payload, window, store_bytes, state
+ * A receiver of LEVELSPRUCE_KIND_VC12 is handed frames of VC-12, a bit of K4
+ * each. Its P is 136 and its W 32 to 512: delays may differ by W - 32 frames.
+ * Its epochs are 32 frames and 0 to 31, and two changed bits of a packet can
+ * pass its CRC, so sure is as good as the line.
+ *
+ *   kind          LEVELSPRUCE_KIND_H4, _VC12 or _FIXED
+ *   ports, store_bytes, state
  *                 as for levelspruce_receiver_start
+ *   payload       1 to 2340, of VC-12 136
+ *   window        16 to 2048, of VC-12 32 to 512
  *   hold_off      a count for each port, 0 to LEVELSPRUCE_TIMER_MOST; an empty
  *                 list is 0 for every port
  *   restore       the same for wait-to-restore
  *
  * Answers, the first that fits:
- *   4  kind is neither, ports, payload or window is out of range, or a count
+ *   4  kind is no such, ports, payload or window is out of range, or a count
  *      is above LEVELSPRUCE_TIMER_MOST, wherever in its list; the first row of
  *      state, if it has one, is written with an empty group
  *   9  state_length or store_bytes is wrong, or a list is neither empty nor as
@@ -1039,8 +1172,11 @@ uint8_t levelspruce_receiver_start_as(uint32_t kind, uint32_t ports, uint32_t pa
  *
  *   port      the port, below the group's count
  *   failed    not 0 where the line has failed (a flagged frame): neither its
- *             H4 byte nor its payload is looked at, but P bytes must be there
- *   h4        its H4 byte
+ *             byte h4, with what it says of a start, nor its payload is looked
+ *             at, but P bytes must be there
+ *   h4        its H4 byte; of VC-12 its bit of K4 in the lowest place, and
+ *             LEVELSPRUCE_VC12_START more where the host says that a packet
+ *             starts with this frame, other bits not being looked at
  *   payload   its P bytes
  *   store     the store
  *
@@ -1049,16 +1185,21 @@ uint8_t levelspruce_receiver_start_as(uint32_t kind, uint32_t ports, uint32_t pa
  *   9  state_length, payload_length or store_length is wrong
  *  10  the frame is flagged: the port is unreadable, and its step is lost
  *  12  the port is not in step after this frame: its count of frames goes on
- *      or starts anew. A port in step counts by itself and takes up to three
- *      frames in a row that break the count of MFI1 and MFI2; the fourth is 12,
- *      and so is the end of a second packet in a row with a right CRC (of a
- *      fixed group with any) and another MFI2 than that count's. Hand one
- *      flagged frame at every known switch of a path: until step is lost, frames
- *      of the new path are taken under the tags of the old one
+ *      or starts anew. Of H4 and FIXED a port in step counts by itself and
+ *      takes up to three frames in a row that break the count of MFI1 and MFI2;
+ *      the fourth is 12, and so is the end of a second packet in a row with a
+ *      right CRC (of a fixed group with any) and another MFI2 than that
+ *      count's. Of VC-12 a port comes into step with two whole packets in a
+ *      row, each start said where it is due, whose counts differ by one, 0
+ *      after 31. It loses step at the fifth bit of a count that is not the next
+ *      one, and that packet is the first of a new two; and at a start said
+ *      early or left out. A frame said to be a start is always a first bit.
+ *      Hand one flagged frame at every known switch of a path: until step is
+ *      lost, frames of the new path are taken under the tags of the old one
  *  11  the frame is in step, but lies outside the window, and the port has
  *      joined: nothing changes; hand the same frame again after a report
- *   0  taken: its payload and H4 are stored, or dropped where the port has not
- *      joined yet
+ *   0  taken: its payload and its byte h4 are stored, or dropped where the port
+ *      has not joined yet
  *
  * Under 10 and 12 no byte of store changes, but state does. What follows from a
  * frame by the rules of beginning is done in the same call, whether the answer
@@ -1079,7 +1220,8 @@ uint8_t levelspruce_receiver_frame(uint8_t (*state)[LEVELSPRUCE_ROW_BYTES],
  * order of epochs.
  *
  *   store    the store, which is only read
- *   out      at least LEVELSPRUCE_OUTPUT_BYTES(ports, payload) bytes
+ *   out      at least LEVELSPRUCE_OUTPUT_BYTES(ports, payload) bytes, of VC-12
+ *            LEVELSPRUCE_OUTPUT_BYTES_VC12(ports)
  *   report   LEVELSPRUCE_REPORT_BYTES bytes, by the LEVELSPRUCE_REPORT_ places
  *
  * Answers, the first that fits:
@@ -1093,7 +1235,8 @@ uint8_t levelspruce_receiver_frame(uint8_t (*state)[LEVELSPRUCE_ROW_BYTES],
  *   HELD       X and the count are 0, and no byte of out changes; the window
  *              moves on, and member states and RS-Ack are worked out
  *   DOUBTFUL   the first 16 * X * P bytes of out are sixteen group frames of
- *              X * P bytes, and the rest of out stays; for the state as HELD
+ *              X * P bytes, of VC-12 the first 32 * X * P are 32 of them, and
+ *              the rest of out stays; for the state as HELD
  *   SURE       as DOUBTFUL
  */
 LEVELSPRUCE_MUST_USE
@@ -1121,10 +1264,10 @@ uint8_t levelspruce_receiver_ports(const uint8_t (*state)[LEVELSPRUCE_ROW_BYTES]
 
 /*
  * Reads the reply to send back with the packets of an epoch: MST for the
- * numbers 8 * (epoch % 32) to that plus 7, the lowest number in the highest
- * bit, 0 for OK and 1 for FAIL; and RS-Ack, 0 or 1. Both are as the last report
- * left them. Of a fixed group both are 0 in every epoch, which is what an end
- * without LCAS sends back.
+ * numbers 8 * (epoch % 32) to that plus 7, of VC-12 8 * (epoch % 8) to that
+ * plus 7, the lowest number in the highest bit, 0 for OK and 1 for FAIL; and
+ * RS-Ack, 0 or 1. Both are as the last report left them. Of a fixed group both
+ * are 0 in every epoch, which is what an end without LCAS sends back.
  *
  *   epoch   the epoch of the packets that will carry it
  *   reply   LEVELSPRUCE_REPLY_BYTES bytes, by the LEVELSPRUCE_REPLY_ places
@@ -1142,7 +1285,8 @@ uint8_t levelspruce_receiver_reply(const uint8_t (*state)[LEVELSPRUCE_ROW_BYTES]
  * Which paths to join. Candidates are numbered as they are handed over, from 0,
  * each with its measured delay in frames. Delays count plainly, never round
  * 4096. A group whose delays lie at most window - 16 apart is joined by a
- * receiver with that window.
+ * receiver with that window. For VC-12 hand over the receiver's window less 16:
+ * delays then lie at most that window less 32 apart.
  */
 
 /* Candidates, and the greatest delay. */
@@ -1163,7 +1307,7 @@ uint8_t levelspruce_receiver_reply(const uint8_t (*state)[LEVELSPRUCE_ROW_BYTES]
  *
  *   delays   a delay for each candidate, 0 to 4095; 1 to 64 candidates
  *   k        how many to join, 1 to the number of candidates
- *   window   the receiver's window in frames, 16 to 2048
+ *   window   the receiver's window in frames, of VC-12 less 16; 16 to 2048
  *   plan     LEVELSPRUCE_PLAN_BYTES bytes, by the LEVELSPRUCE_PLAN_ places
  *
  * Answers, the first that fits:

@@ -50,11 +50,11 @@ int tally_close(struct tally *t, const struct client *client)
 /* So many more epochs, as run does them. */
 static void go_on(struct link *l, uint64_t *time, uint64_t epochs)
 {
-    uint64_t end = *time + epochs * EPOCH_FRAMES;
+    uint64_t end = *time + epochs * LEVELSPRUCE_EPOCH_FRAMES;
 
     for (; *time < end; ++*time) {
-        if (*time % EPOCH_FRAMES == 0)
-            start_epoch(l, *time / EPOCH_FRAMES);
+        if (*time % LEVELSPRUCE_EPOCH_FRAMES == 0)
+            start_epoch(l, *time / LEVELSPRUCE_EPOCH_FRAMES);
         sending_frame(&l->sending, *time, &l->client, l->lines);
         receive(l, *time);
     }
@@ -71,7 +71,7 @@ static void check(int right, const char *what)
 /* Whether since then each epoch was reported, sure and with all members' bytes. */
 static int all_sure(const struct link *l, const struct tally *before, uint64_t epochs)
 {
-    uint64_t bytes = epochs * EPOCH_FRAMES * l->choices.slots * l->choices.payload;
+    uint64_t bytes = epochs * LEVELSPRUCE_EPOCH_FRAMES * l->choices.slots * l->choices.payload;
 
     return l->tally.epochs[LEVELSPRUCE_MARK_SURE] - before->epochs[LEVELSPRUCE_MARK_SURE] == epochs
         && l->tally.bytes[LEVELSPRUCE_MARK_SURE] - before->bytes[LEVELSPRUCE_MARK_SURE] == bytes;
@@ -98,7 +98,7 @@ static void measure(const char *name, char *slots, char *payload)
     do {
         before = l.tally;
         go_on(&l, &time, 4);
-    } while (!all_sure(&l, &before, 4) && time < (uint64_t)EPOCHS_TO_BEGIN * EPOCH_FRAMES);
+    } while (!all_sure(&l, &before, 4) && time < (uint64_t)EPOCHS_TO_BEGIN * LEVELSPRUCE_EPOCH_FRAMES);
     check(all_sure(&l, &before, 4), "beginning");
 
     epochs = BYTES_A_ROUND / (l.choices.slots * l.choices.payload);

@@ -13,7 +13,7 @@
 
 static const uint8_t p1_h4[LEVELSPRUCE_PACKET_BYTES] = { 0xF8, 0xF9, 0x0A, 0x0B, 0x0C, 0x0D, 0xFE, 0xFF,
                                                          0x00, 0x01, 0x52, 0x03, 0x04, 0x05, 0x96, 0x97 };
-static const size_t h4_lengths[] = { 0, 1, 15, 16, 17, 64 };
+static const size_t h4_lengths[] = { 0, 1, 15, 16, 17, 31, 32, 33, 64 };
 static const size_t fields_lengths[] = { 0, 1, 6, 9, 10, 11, 64 };
 static size_t page;
 
@@ -41,10 +41,13 @@ static int write_at_edges(uint8_t *open)
     for (i = 0; i < COUNT(h4_lengths); i++)
         for (at_end = 0; at_end < 2; at_end++) {
             uint8_t expected = h4_lengths[i] == LEVELSPRUCE_PACKET_BYTES ? LEVELSPRUCE_ANSWER_DONE : LEVELSPRUCE_ANSWER_LENGTH;
+            uint8_t expected_vc12 = h4_lengths[i] == LEVELSPRUCE_PACKET_BYTES_VC12 ? LEVELSPRUCE_ANSWER_DONE : LEVELSPRUCE_ANSWER_LENGTH;
 
             held = held && levelspruce_packet_write(0, LEVELSPRUCE_WORD_IDLE, 0, 255, 0, 255, 0,
                                                     buffer_in(open, h4_lengths[i], at_end), h4_lengths[i]) == expected
-                && levelspruce_packet_write_fixed(58, 5, buffer_in(open, h4_lengths[i], at_end), h4_lengths[i]) == expected;
+                && levelspruce_packet_write_fixed(58, 5, buffer_in(open, h4_lengths[i], at_end), h4_lengths[i]) == expected
+                && levelspruce_packet_write_vc12(0, LEVELSPRUCE_WORD_IDLE, 0, 255, 0, 63, 0, buffer_in(open, h4_lengths[i], at_end), h4_lengths[i])
+                    == expected_vc12;
         }
     return held;
 }
@@ -60,6 +63,7 @@ static int read_at_edges(uint8_t *open_h4, uint8_t *open_fields)
                 uint8_t *h4 = buffer_in(open_h4, h4_lengths[i], at_end % 2);
                 uint8_t *fields = buffer_in(open_fields, fields_lengths[j], at_end / 2);
                 int right = h4_lengths[i] == LEVELSPRUCE_PACKET_BYTES && fields_lengths[j] == LEVELSPRUCE_FIELDS_BYTES;
+                int right_vc12 = h4_lengths[i] == LEVELSPRUCE_PACKET_BYTES_VC12 && fields_lengths[j] == LEVELSPRUCE_FIELDS_BYTES;
 
                 memcpy(h4, p1_h4, h4_lengths[i] < sizeof p1_h4 ? h4_lengths[i] : sizeof p1_h4);
                 held = held && levelspruce_packet_read(h4, h4_lengths[i], fields, fields_lengths[j])
@@ -71,6 +75,11 @@ static int read_at_edges(uint8_t *open_h4, uint8_t *open_fields)
                     h4[10] = 0;
                 held = held && levelspruce_packet_read_fixed(h4, h4_lengths[i], fields, fields_lengths[j])
                     == (right ? LEVELSPRUCE_ANSWER_DONE : LEVELSPRUCE_ANSWER_LENGTH);
+                if (right_vc12)
+                    held = held
+                        && levelspruce_packet_write_vc12(0, LEVELSPRUCE_WORD_IDLE, 0, 255, 0, 63, 0, h4, h4_lengths[i]) == LEVELSPRUCE_ANSWER_DONE;
+                held = held && levelspruce_packet_read_vc12(h4, h4_lengths[i], fields, fields_lengths[j])
+                    == (right_vc12 ? LEVELSPRUCE_ANSWER_DONE : LEVELSPRUCE_ANSWER_LENGTH);
             }
     return held;
 }

@@ -210,7 +210,7 @@ static int replies_nothing(void)
 
 static void starting(void)
 {
-    static const uint32_t others[] = { 1, 3, 4, 255, 256, 258, 65538, 0x80000002u, UINT32_MAX };
+    static const uint32_t others[] = { 3, 4, 255, 256, 258, 65538, 0x80000002u, UINT32_MAX };
     static const uint32_t times[] = { 0, 5000, 5001 };
     const size_t bytes = LEVELSPRUCE_STORE_BYTES(2, P, W), rows = LEVELSPRUCE_RECEIVER_ROWS(2);
     uint8_t nothing[P] = { 0 };

@@ -35,12 +35,27 @@ int main()
     check("a C++ program starts a receiver of a fixed group",
           levelspruce_receiver_start_as(LEVELSPRUCE_KIND_FIXED, 1, 2, 16, LEVELSPRUCE_STORE_BYTES(1, 2, 16), nullptr, 0, nullptr, 0, receiver,
                                         LEVELSPRUCE_RECEIVER_ROWS(1)) == LEVELSPRUCE_ANSWER_DONE);
+    uint8_t bits[LEVELSPRUCE_PACKET_BYTES_VC12];
+    check("a C++ program writes and reads a packet of VC-12",
+          levelspruce_packet_write_vc12(0, LEVELSPRUCE_WORD_IDLE, 0, 255, 0, LEVELSPRUCE_NUMBER_IDLE_VC12, 0, bits, sizeof bits) == LEVELSPRUCE_ANSWER_DONE
+              && bits[0] == LEVELSPRUCE_VC12_START && bits[30] == 1
+              && levelspruce_packet_read_vc12(bits, sizeof bits, fields, sizeof fields) == LEVELSPRUCE_ANSWER_DONE
+              && fields[LEVELSPRUCE_FIELD_SQ] == 63);
+    uint8_t sender[LEVELSPRUCE_SENDER_BYTES], card[LEVELSPRUCE_CARD_BYTES];
+    check("a C++ program starts sender, card and receiver of VC-12",
+          levelspruce_sender_start_as(LEVELSPRUCE_KIND_VC12, 1, 31, sender, sizeof sender) == LEVELSPRUCE_ANSWER_DONE
+              && levelspruce_card_start_as(LEVELSPRUCE_KIND_VC12, 1, 31, 0, card, sizeof card) == LEVELSPRUCE_ANSWER_DONE
+              && levelspruce_receiver_start_as(LEVELSPRUCE_KIND_VC12, 1, LEVELSPRUCE_PAYLOAD_VC12, LEVELSPRUCE_WINDOW_LEAST_VC12,
+                                               LEVELSPRUCE_STORE_BYTES(1, LEVELSPRUCE_PAYLOAD_VC12, LEVELSPRUCE_WINDOW_LEAST_VC12), nullptr, 0, nullptr, 0,
+                                               receiver, LEVELSPRUCE_RECEIVER_ROWS(1)) == LEVELSPRUCE_ANSWER_DONE
+              && LEVELSPRUCE_OUTPUT_BYTES_VC12(1) == 4352);
     const uint8_t torn[] = { '1', '\t', '1', '\t', '1', '6', '\n', 'x' };
     uint8_t mended[7], notes[10];
     std::size_t mended_length, notes_length;
     check("a C++ program mends a recording",
           levelspruce_mend_lengths(torn, sizeof torn, &mended_length, &notes_length) == LEVELSPRUCE_ANSWER_DONE && mended_length == sizeof mended
-              && notes_length == sizeof notes && levelspruce_mend(torn, sizeof torn, mended, sizeof mended, notes, sizeof notes) == LEVELSPRUCE_ANSWER_DONE
+              && notes_length == sizeof notes
+              && levelspruce_mend(torn, sizeof torn, mended, sizeof mended, notes, sizeof notes) == LEVELSPRUCE_ANSWER_DONE
               && std::memcmp(mended, torn, sizeof mended) == 0 && notes[0] == '2');
     char version[32];
     std::snprintf(version, sizeof version, "%d.%d.%d", LEVELSPRUCE_VERSION_MAJOR, LEVELSPRUCE_VERSION_MINOR, LEVELSPRUCE_VERSION_PATCH);

@@ -14,7 +14,7 @@ enum { CARD = 5120, DESK = 8192 }; /* what a call on a card may take, and one at
 
 static uint8_t card[LEVELSPRUCE_CARD_BYTES], owned[LEVELSPRUCE_OWNED_BYTES];
 static uint8_t sender[LEVELSPRUCE_SENDER_BYTES], receiver[LEVELSPRUCE_RECEIVER_ROWS(PORTS)][LEVELSPRUCE_ROW_BYTES];
-static uint8_t h4[LEVELSPRUCE_PACKET_BYTES], frame[PORTS * P], member[PORTS * P], ports[PORTS][LEVELSPRUCE_PORT_BYTES];
+static uint8_t h4[LEVELSPRUCE_PACKET_BYTES], bits[LEVELSPRUCE_PACKET_BYTES_VC12], frame[PORTS * P], member[PORTS * P], ports[PORTS][LEVELSPRUCE_PORT_BYTES];
 static uint8_t board[LEVELSPRUCE_BOARD_BYTES], ranks[LEVELSPRUCE_RANKS_BYTES], reply[LEVELSPRUCE_REPLY_BYTES];
 static uint8_t fields[LEVELSPRUCE_FIELDS_BYTES], report[LEVELSPRUCE_REPORT_BYTES];
 static uint8_t store[LEVELSPRUCE_STORE_BYTES(PORTS, P, W)], out[LEVELSPRUCE_OUTPUT_BYTES(PORTS, P)];
@@ -31,6 +31,8 @@ static void packets(void)
     answers |= levelspruce_packet_read(h4, sizeof h4, fields, sizeof fields);
     answers |= levelspruce_packet_write_fixed(58, 5, h4, sizeof h4);
     answers |= levelspruce_packet_read_fixed(h4, sizeof h4, fields, sizeof fields);
+    answers |= levelspruce_packet_write_vc12(7, LEVELSPRUCE_WORD_NORM, 1, 0x5A, 1, 9, 5, bits, sizeof bits);
+    answers |= levelspruce_packet_read_vc12(bits, sizeof bits, fields, sizeof fields);
 }
 
 static void payloads(void)
@@ -40,11 +42,11 @@ static void payloads(void)
 }
 
 /* 64 members that become active and are removed, with all that is read of them. */
-static void sending(void)
+static void sending_as(uint32_t kind, uint32_t p, uint8_t *packet, size_t packet_bytes)
 {
     uint32_t slot, epoch;
 
-    answers |= levelspruce_sender_start(PORTS, 0, sender, sizeof sender);
+    answers |= levelspruce_sender_start_as(kind, PORTS, 0, sender, sizeof sender);
     for (slot = 0; slot < PORTS; slot++)
         answers |= levelspruce_sender_add(sender, sizeof sender, slot);
     for (epoch = 0; epoch < 40; epoch++) {
@@ -54,13 +56,25 @@ static void sending(void)
     answers |= levelspruce_sender_board(sender, sizeof sender, board, sizeof board);
     answers |= levelspruce_sender_board_going(sender, sizeof sender, board, sizeof board);
     answers |= levelspruce_sender_ranks(sender, sizeof sender, ranks, sizeof ranks);
-    answers |= levelspruce_sender_packet(sender, sizeof sender, 3, h4, sizeof h4);
-    answers |= levelspruce_sender_payload(sender, sizeof sender, 3, P, frame, (size_t)ranks[LEVELSPRUCE_RANKS_X] * P, member, P);
+    answers |= levelspruce_sender_packet(sender, sizeof sender, 3, packet, packet_bytes);
+    answers |= levelspruce_sender_payload(sender, sizeof sender, 3, p, frame, (size_t)ranks[LEVELSPRUCE_RANKS_X] * p, member, p);
     while (board[LEVELSPRUCE_BOARD_WAIT]) {
         answers |= levelspruce_sender_lapse(sender, sizeof sender);
         answers |= levelspruce_sender_board(sender, sizeof sender, board, sizeof board);
     }
     answers |= levelspruce_sender_remove(sender, sizeof sender, 5);
+}
+
+static void sending(void)
+{
+    answers |= levelspruce_sender_start(PORTS, 0, sender, sizeof sender);
+    sending_as(LEVELSPRUCE_KIND_H4, P, h4, sizeof h4);
+}
+
+static void sending_vc12(void)
+{
+    answers |= levelspruce_card_start_as(LEVELSPRUCE_KIND_VC12, PORTS, 0, 31, card, sizeof card);
+    sending_as(LEVELSPRUCE_KIND_VC12, LEVELSPRUCE_PAYLOAD_VC12, bits, sizeof bits);
 }
 
 /* 64 members of one of two groups on a card, with all that is read of them. */
@@ -99,7 +113,9 @@ static void sharing(void)
 
 static void write_packet(uint32_t kind, uint32_t epoch, uint32_t port)
 {
-    if (kind == LEVELSPRUCE_KIND_FIXED)
+    if (kind == LEVELSPRUCE_KIND_VC12)
+        answers |= levelspruce_packet_write_vc12(epoch, port + 1 < PORTS ? LEVELSPRUCE_WORD_NORM : LEVELSPRUCE_WORD_EOS, 0, 0, 0, port, 0, bits, sizeof bits);
+    else if (kind == LEVELSPRUCE_KIND_FIXED)
         answers |= levelspruce_packet_write_fixed(epoch, port, h4, sizeof h4);
     else
         answers |= levelspruce_packet_write(epoch, port + 1 < PORTS ? LEVELSPRUCE_WORD_NORM : LEVELSPRUCE_WORD_EOS, 0, 0, 0, port, 0, h4, sizeof h4);
@@ -109,21 +125,24 @@ static void write_packet(uint32_t kind, uint32_t epoch, uint32_t port)
 static void receiving_as(uint32_t kind)
 {
     static uint32_t times[PORTS];
+    const int vc12 = kind == LEVELSPRUCE_KIND_VC12;
+    const uint32_t epoch = vc12 ? LEVELSPRUCE_EPOCH_FRAMES_VC12 : LEVELSPRUCE_EPOCH_FRAMES, p = vc12 ? LEVELSPRUCE_PAYLOAD_VC12 : P;
+    const size_t stored = LEVELSPRUCE_STORE_BYTES(PORTS, p, W);
     uint32_t port, n;
 
     for (port = 0; port < PORTS; port++)
         times[port] = LEVELSPRUCE_TIMER_MOST;
-    answers |= levelspruce_receiver_start_as(kind, PORTS, P, W, sizeof store, times, PORTS, times, PORTS, receiver, LEVELSPRUCE_RECEIVER_ROWS(PORTS));
-    for (n = 0; n < 10 * LEVELSPRUCE_EPOCH_FRAMES; n++)
+    answers |= levelspruce_receiver_start_as(kind, PORTS, p, W, stored, times, PORTS, times, PORTS, receiver, LEVELSPRUCE_RECEIVER_ROWS(PORTS));
+    for (n = 0; n < 10 * epoch; n++)
         for (port = 0; port < PORTS; port++) {
             uint8_t answer;
 
-            write_packet(kind, n / LEVELSPRUCE_EPOCH_FRAMES, port);
-            answer = levelspruce_receiver_frame(receiver, LEVELSPRUCE_RECEIVER_ROWS(PORTS), port, n > 150 && port == 1, h4[n % LEVELSPRUCE_EPOCH_FRAMES],
-                                                member, P, store, sizeof store);
+            write_packet(kind, n / epoch, port);
+            answer = levelspruce_receiver_frame(receiver, LEVELSPRUCE_RECEIVER_ROWS(PORTS), port, n > 10 * epoch - 10 && port == 1,
+                                                (vc12 ? bits : h4)[n % epoch], member, p, store, stored);
             if (answer != LEVELSPRUCE_ANSWER_STEP && answer != LEVELSPRUCE_ANSWER_FAILED)
                 answers |= answer;
-            answers |= levelspruce_receiver_fetch(receiver, LEVELSPRUCE_RECEIVER_ROWS(PORTS), store, sizeof store, out, sizeof out, report, sizeof report);
+            answers |= levelspruce_receiver_fetch(receiver, LEVELSPRUCE_RECEIVER_ROWS(PORTS), store, stored, out, sizeof out, report, sizeof report);
             reported += report[LEVELSPRUCE_REPORT_MARK] == LEVELSPRUCE_MARK_SURE && report[LEVELSPRUCE_REPORT_X] == PORTS;
         }
     answers |= levelspruce_receiver_ports((const uint8_t(*)[LEVELSPRUCE_ROW_BYTES])receiver, LEVELSPRUCE_RECEIVER_ROWS(PORTS), ports, PORTS);
@@ -138,6 +157,11 @@ static void receiving(void)
 static void receiving_fixed(void)
 {
     receiving_as(LEVELSPRUCE_KIND_FIXED);
+}
+
+static void receiving_vc12(void)
+{
+    receiving_as(LEVELSPRUCE_KIND_VC12);
 }
 
 /* 64 slots that all change, told and applied. */
@@ -221,7 +245,8 @@ int main(void)
         void (*calls)(void);
         size_t limit;
     } groups[] = { { "packets", packets, CARD }, { "payload", payloads, CARD }, { "sender", sending, CARD }, { "card", sharing, CARD },
-                 { "receiver", receiving, CARD }, { "receiver of a fixed group", receiving_fixed, CARD }, { "paths", planning, CARD },
+                 { "receiver", receiving, CARD }, { "receiver of a fixed group", receiving_fixed, CARD },
+                 { "sender of VC-12", sending_vc12, CARD }, { "receiver of VC-12", receiving_vc12, CARD }, { "paths", planning, CARD },
                  { "spoken board", telling, CARD }, { "mending", mending, DESK } };
     size_t own, i;
     int within = 1;
@@ -234,7 +259,7 @@ int main(void)
         printf("stack\t%s\tbytes\t%lu\n", groups[i].name, (unsigned long)used);
         within &= used > 0 && used <= groups[i].limit;
     }
-    check("every call was done, and epochs of 64 members were reported", answers == 0 && reported > 6);
+    check("every call was done, and epochs of 64 members were reported", answers == 0 && reported > 14);
     check("no call takes more than 5,120 bytes of stack, mending no more than 8,192", within);
     return tally();
 }

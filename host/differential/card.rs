@@ -10,6 +10,10 @@ extern "C" {
     fn levelspruce_packet_read(h4: *const u8, h4_length: usize, fields: *mut u8, fields_length: usize) -> u8;
     fn levelspruce_packet_write_fixed(epoch: u32, sq: u32, h4: *mut u8, h4_length: usize) -> u8;
     fn levelspruce_packet_read_fixed(h4: *const u8, h4_length: usize, fields: *mut u8, fields_length: usize) -> u8;
+    fn levelspruce_packet_write_vc12(
+        epoch: u32, word: u32, gid: u32, mst: u32, rs_ack: u32, sq: u32, reserved: u32, bits: *mut u8, bits_length: usize,
+    ) -> u8;
+    fn levelspruce_packet_read_vc12(bits: *const u8, bits_length: usize, fields: *mut u8, fields_length: usize) -> u8;
     fn levelspruce_spread(
         x: u32, p: u32, frame: *const u8, frame_length: usize, members: *mut u8, members_length: usize,
     ) -> u8;
@@ -24,6 +28,7 @@ extern "C" {
         accepted_length: usize,
     ) -> u8;
     fn levelspruce_sender_start(count: u32, first_epoch: u32, state: *mut u8, state_length: usize) -> u8;
+    fn levelspruce_sender_start_as(kind: u32, count: u32, first_epoch: u32, state: *mut u8, state_length: usize) -> u8;
     fn levelspruce_sender_add(state: *mut u8, state_length: usize, slot: u32) -> u8;
     fn levelspruce_sender_remove(state: *mut u8, state_length: usize, slot: u32) -> u8;
     fn levelspruce_sender_report(state: *mut u8, state_length: usize, epoch: u32, mst: u32, rs_ack: u32) -> u8;
@@ -38,6 +43,9 @@ extern "C" {
     fn levelspruce_sender_board_going(state: *const u8, state_length: usize, board: *mut u8, board_length: usize) -> u8;
     fn levelspruce_sender_ranks(state: *const u8, state_length: usize, ranks: *mut u8, ranks_length: usize) -> u8;
     fn levelspruce_card_start(count: u32, first_epoch_0: u32, first_epoch_1: u32, state: *mut u8, state_length: usize) -> u8;
+    fn levelspruce_card_start_as(
+        kind: u32, count: u32, first_epoch_0: u32, first_epoch_1: u32, state: *mut u8, state_length: usize,
+    ) -> u8;
     fn levelspruce_card_claim(state: *mut u8, state_length: usize, group: u32, slot: u32) -> u8;
     fn levelspruce_card_release(state: *mut u8, state_length: usize, group: u32, slot: u32) -> u8;
     fn levelspruce_card_add(state: *mut u8, state_length: usize, group: u32, slot: u32) -> u8;
@@ -103,6 +111,14 @@ pub fn packet_read_fixed(h4: &[u8], fields: &mut [u8]) -> u8 {
     unsafe { levelspruce_packet_read_fixed(h4.as_ptr(), h4.len(), fields.as_mut_ptr(), fields.len()) }
 }
 
+pub fn packet_write_vc12(f: &Fields, bits: &mut [u8]) -> u8 {
+    unsafe { levelspruce_packet_write_vc12(f.epoch, f.word, f.gid, f.mst, f.rs_ack, f.sq, f.reserved, bits.as_mut_ptr(), bits.len()) }
+}
+
+pub fn packet_read_vc12(bits: &[u8], fields: &mut [u8]) -> u8 {
+    unsafe { levelspruce_packet_read_vc12(bits.as_ptr(), bits.len(), fields.as_mut_ptr(), fields.len()) }
+}
+
 pub fn spread(x: u32, p: u32, frame: &[u8], members: &mut [u8]) -> u8 {
     unsafe { levelspruce_spread(x, p, frame.as_ptr(), frame.len(), members.as_mut_ptr(), members.len()) }
 }
@@ -125,6 +141,10 @@ pub fn paths_check(delays: &[u32], k: u32, window: u32, set: &[u8], accepted: &m
 
 pub fn sender_start(count: u32, first_epoch: u32, state: &mut [u8]) -> u8 {
     unsafe { levelspruce_sender_start(count, first_epoch, state.as_mut_ptr(), state.len()) }
+}
+
+pub fn sender_start_as(kind: u32, count: u32, first_epoch: u32, state: &mut [u8]) -> u8 {
+    unsafe { levelspruce_sender_start_as(kind, count, first_epoch, state.as_mut_ptr(), state.len()) }
 }
 
 pub fn sender_add(state: &mut [u8], slot: u32) -> u8 {
@@ -173,6 +193,10 @@ pub fn sender_ranks(state: &[u8], ranks: &mut [u8]) -> u8 {
 
 pub fn card_start(count: u32, first_epochs: [u32; 2], state: &mut [u8]) -> u8 {
     unsafe { levelspruce_card_start(count, first_epochs[0], first_epochs[1], state.as_mut_ptr(), state.len()) }
+}
+
+pub fn card_start_as(kind: u32, count: u32, first: [u32; 2], state: &mut [u8]) -> u8 {
+    unsafe { levelspruce_card_start_as(kind, count, first[0], first[1], state.as_mut_ptr(), state.len()) }
 }
 
 pub fn card_claim(state: &mut [u8], group: u32, slot: u32) -> u8 {

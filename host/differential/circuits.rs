@@ -5,7 +5,9 @@
 use crate::card;
 use crate::count::{Count, Test};
 use crate::random::Random;
+use crate::senders::{epoch_most, sizes};
 use reference::circuits::{answered, Card};
+use reference::receiver::{KIND_H4, KIND_VC12};
 
 const STATE_BYTES: usize = 858;
 const ROW_BYTES: usize = 64;
@@ -16,7 +18,15 @@ pub fn compare(count: &mut Count) {
     let mut calls = Test::new("histories of a card's calls");
     let mut sent = Test::new("what a card's slots send over these histories");
     for _ in 0..300 {
-        history(&mut random, &mut calls, &mut sent);
+        history(&mut random, KIND_H4, &mut calls, &mut sent);
+    }
+    calls.end(count, &[0, 1, 2, 3, 8, 9, 14, 15]);
+    sent.end(count, &[0, 1, 2, 4, 9, 14]);
+
+    let mut calls = Test::new("histories of the calls of a card of VC-12");
+    let mut sent = Test::new("what its slots send over these histories");
+    for _ in 0..300 {
+        history(&mut random, KIND_VC12, &mut calls, &mut sent);
     }
     calls.end(count, &[0, 1, 2, 3, 8, 9, 14, 15]);
     sent.end(count, &[0, 1, 2, 4, 9, 14]);
@@ -25,7 +35,19 @@ pub fn compare(count: &mut Count) {
     for given in (0..300).chain([65536, 65600, u32::MAX]) {
         for first in [[0, 0], [7, 200], [255, 0], [256, 0], [0, 256], [u32::MAX, u32::MAX]] {
             for length in [0, STATE_BYTES - 1, STATE_BYTES, STATE_BYTES + 1] {
-                start(&mut starts, given, first, length);
+                start(&mut starts, None, given, first, length);
+            }
+        }
+    }
+    starts.end(count, &[4, 9]);
+
+    let mut starts = Test::new("starts of a card of a kind");
+    for kind in [0, 1, 2, 3, 256, 257, u32::MAX] {
+        for given in (0..70).chain([u32::MAX]) {
+            for first in [[0, 0], [31, 31], [32, 0], [0, 32], [255, 255], [256, 0], [0, 256], [u32::MAX, u32::MAX]] {
+                for length in [0, STATE_BYTES - 1, STATE_BYTES, STATE_BYTES + 1] {
+                    start(&mut starts, Some(kind), given, first, length);
+                }
             }
         }
     }
@@ -58,22 +80,31 @@ fn wanted(reference: &mut Card, group: u32) -> Shown {
     (vec![0; 4], vec![sender.table.board().bytes(), sender.going.bytes(), sender.ranks(), owned])
 }
 
-/// One start: its answer, and what is read out afterwards.
-fn start(starts: &mut Test, given: u32, first: [u32; 2], length: usize) {
+/// One start, of a kind or by the call that has none: its answer, and what is read out afterwards. That of H4 leaves the same bytes as
+/// the call that has no kind.
+fn start(starts: &mut Test, of: Option<u32>, given: u32, first: [u32; 2], length: usize) {
     let mut state = vec![0xA5u8; length];
-    let answer = card::card_start(given, first, &mut state);
-    let (expected, reference) = match Card::start(given, first) {
+    let kind = of.unwrap_or(KIND_H4);
+    let answer = match of {
+        Some(kind) => card::card_start_as(kind, given, first, &mut state),
+        None => card::card_start(given, first, &mut state),
+    };
+    if of == Some(KIND_H4) {
+        let mut plain = vec![0xA5u8; length];
+        assert_eq!((card::card_start(given, first, &mut plain), &plain), (answer, &state));
+    }
+    let (expected, reference) = match Card::start_as(kind, given, first) {
         Err(number) => (number, Some(Card::empty())),
         Ok(_) if length != STATE_BYTES => (9, None),
-        Ok(_) if first.iter().any(|epoch| *epoch > 255) => (8, None),
+        Ok(_) if first.iter().any(|epoch| *epoch > epoch_most(kind)) => (8, None),
         Ok(reference) => (0, Some(reference)),
     };
     match reference {
         Some(mut r) if length == STATE_BYTES => {
             let all = (expected, wanted(&mut r, 0), wanted(&mut r, 1));
-            starts.case(expected, &all, &(answer, shown(&state, 0), shown(&state, 1)), &(given, first, length));
+            starts.case(expected, &all, &(answer, shown(&state, 0), shown(&state, 1)), &(kind, given, first, length));
         }
-        _ => starts.case(expected, &(expected, vec![0xA5u8; length]), &(answer, state), &(given, first, length)),
+        _ => starts.case(expected, &(expected, vec![0xA5u8; length]), &(answer, state), &(kind, given, first, length)),
     }
 }
 
@@ -144,12 +175,13 @@ fn part(state: &[u8], group: u32) -> &[u8] {
     &state[at..at + PART_BYTES]
 }
 
-fn history(random: &mut Random, calls: &mut Test, sent: &mut Test) {
+fn history(random: &mut Random, kind: u32, calls: &mut Test, sent: &mut Test) {
     let slots = random.one_of(&[1u32, 2, 3, 5, 8, 20, 64]);
-    let first = [random.below(256) as u32, random.below(256) as u32];
+    let epochs = u64::from(epoch_most(kind)) + 1;
+    let first = [random.below(epochs) as u32, random.below(epochs) as u32];
     let mut state = vec![0u8; STATE_BYTES];
-    let mut reference = Card::start(slots, first).expect("the count fits");
-    assert_eq!(card::card_start(slots, first, &mut state), 0);
+    let mut reference = Card::start_as(kind, slots, first).expect("the count fits");
+    assert_eq!(card::card_start_as(kind, slots, first, &mut state), 0);
     for turn in 0..400 {
         let before = state.clone();
         let group = match random.below(40) {
@@ -166,20 +198,19 @@ fn history(random: &mut Random, calls: &mut Test, sent: &mut Test) {
         let untouched = if right == 0 { part(&state, 1 - group) == part(&before, 1 - group) } else { state == before };
         let all = (right, wanted(&mut reference, 0), wanted(&mut reference, 1), true);
         calls.case(right, &all, &(answer, shown(&state, 0), shown(&state, 1), untouched), &(slots, turn, group, call));
-        sends(random, sent, &mut reference, &state, group, slots);
+        sends(random, kind, sent, &mut reference, &state, group, slots);
     }
 }
 
-fn sends(random: &mut Random, sent: &mut Test, reference: &mut Card, state: &[u8], group: u32, slots: u32) {
+fn sends(random: &mut Random, kind: u32, sent: &mut Test, reference: &mut Card, state: &[u8], group: u32, slots: u32) {
     let slot = about(random, slots);
-    let length = random.one_of(&[16, 16, 16, 15, 17, 0]);
+    let (length, p) = sizes(random, kind);
     let mut by_reference = vec![0x5A; length];
     let mut by_card = by_reference.clone();
     let right = answered(reference.own(group, slot), |sender| sender.packet(slot, &mut by_reference));
     let answer = card::card_packet(state, group, slot, &mut by_card);
     sent.case(right, &(right, by_reference), &(answer, by_card), &("packet", group, slot, length));
 
-    let p = random.one_of(&[1, 2, 3, 8, 0, 2341]);
     let x = reference.of(group).map_or(0, |sender| sender.ranked().len());
     let mut frame = vec![0u8; x * p as usize + usize::from(random.below(10) == 0)];
     random.fill(&mut frame);

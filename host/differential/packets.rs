@@ -3,7 +3,7 @@
 use crate::card;
 use crate::count::{Count, Test};
 use crate::random::Random;
-use reference::packet::{self, Fields, FIELDS_BYTES, PACKET_BYTES, RESERVED_MOST};
+use reference::packet::{self, Fields, FIELDS_BYTES, PACKET_BYTES, RESERVED_MOST, VC12_BITS};
 
 /// A lent buffer stands in the middle of an area, so that bytes written beside it show.
 const MARGIN: usize = 16;
@@ -30,6 +30,8 @@ pub fn compare(count: &mut Count) {
     relaying_each_bit(count);
     writing_fixed(count);
     reading_fixed(count);
+    writing_vc12(count);
+    reading_vc12(count);
 }
 
 // ---- one case
@@ -279,6 +281,88 @@ fn reading_fixed(count: &mut Count) {
         test.case(answer, &(answer, by_reference), &(card_answer, by_card), &(area, h4_length, fields_length));
     }
     test.end(count, &[packet::DONE, packet::WORD_UNASSIGNED, packet::LENGTH_WRONG]);
+}
+
+// ---- packets of VC-12
+
+/// Fields that fit VC-12's packet, often but for one or more.
+fn vc12_fields(random: &mut Random) -> Fields {
+    let mut below = |n: u64| random.below(n) as u32;
+    let (epoch, sq, mst) = (below(32), below(64), below(256));
+    let (gid, rs_ack, reserved) = (below(2), below(2), below(16));
+    let mut f = Fields { epoch, word: random.one_of(&packet::WORDS), gid, mst, rs_ack, sq, reserved };
+    for _ in 0..random.below(4) / 2 {
+        let near = random.one_of(&[2, 16, 31, 32, 63, 64, 255, 256]);
+        let number = if random.below(2) == 0 { near } else { any_number(random) };
+        match random.below(7) {
+            0 => f.epoch = number,
+            1 => f.word = number,
+            2 => f.gid = number,
+            3 => f.mst = number,
+            4 => f.rs_ack = number,
+            5 => f.sq = number,
+            _ => f.reserved = number,
+        }
+    }
+    f
+}
+
+fn writing_vc12(count: &mut Count) {
+    let mut random = Random::new(50);
+    let mut writing = Test::new("packets of VC-12, with any fields and length, written as by the reference");
+    let mut back = Test::new("those that the card wrote read back as given, with other bits of the bytes set too");
+    for _ in 0..2_000_000 {
+        let f = vc12_fields(&mut random);
+        let length = any_length(&mut random, VC12_BITS);
+        let mut by_reference = any_area(&mut random);
+        let mut by_card = by_reference;
+        let answer = packet::write_vc12(&f, lent_mut(&mut by_reference, length));
+        let card_answer = card::packet_write_vc12(&f, lent_mut(&mut by_card, length));
+        writing.case(answer, &(answer, by_reference), &(card_answer, by_card), &(f, length));
+        if card_answer == packet::DONE {
+            let mut fields = [0xA5; FIELDS_BYTES];
+            let others = random.next() as u8 & !1;
+            lent_mut(&mut by_card, length).iter_mut().for_each(|byte| *byte ^= others);
+            let answer = card::packet_read_vc12(lent(&by_card, length), &mut fields);
+            back.case(answer, &field_bytes(&f), &fields, &f);
+        }
+    }
+    writing.end(count, &[packet::DONE, packet::FIELD_REFUSED, packet::LENGTH_WRONG]);
+    back.end(count, &[packet::DONE]);
+}
+
+/// Any bytes, packets with any data under the right CRC, and packets with up to three bits changed, under any lengths. What reads well
+/// is written again as the same bits.
+fn reading_vc12(count: &mut Count) {
+    let mut random = Random::new(51);
+    let mut test = Test::new("packets of VC-12, damaged or any bytes, read as by the reference");
+    let mut again = Test::new("those that read well are written again as the same bits");
+    for case in 0..3_000_000u32 {
+        let mut area = any_area(&mut random);
+        if case % 3 > 0 {
+            let mut f = vc12_fields(&mut random);
+            (f.epoch, f.sq, f.gid, f.rs_ack, f.reserved, f.mst) = (f.epoch % 32, f.sq % 64, f.gid % 2, f.rs_ack % 2, f.reserved % 16, f.mst % 256);
+            f.word = random.one_of(&packet::WORDS);
+            assert_eq!(packet::write_vc12(&f, lent_mut(&mut area, VC12_BITS)), packet::DONE);
+            for _ in 0..random.below(4) {
+                lent_mut(&mut area, VC12_BITS)[random.below(32) as usize] ^= 1 << random.below(2);
+            }
+        }
+        let (length, fields_length) = (any_length(&mut random, VC12_BITS), any_length(&mut random, FIELDS_BYTES));
+        let mut by_reference = any_area(&mut random);
+        let mut by_card = by_reference;
+        let answer = packet::read_vc12(lent(&area, length), lent_mut(&mut by_reference, fields_length));
+        let card_answer = card::packet_read_vc12(lent(&area, length), lent_mut(&mut by_card, fields_length));
+        test.case(answer, &(answer, by_reference), &(card_answer, by_card), &(area, length, fields_length));
+        if card_answer == packet::DONE {
+            let mut bits = [0; VC12_BITS];
+            let written = card::packet_write_vc12(&fields_in(lent(&by_card, FIELDS_BYTES)), &mut bits);
+            let came: Vec<u8> = lent(&area, VC12_BITS).iter().enumerate().map(|(k, byte)| byte & 1 | if k == 0 { 2 } else { 0 }).collect();
+            again.case(written, &came, &bits.to_vec(), &area);
+        }
+    }
+    test.end(count, &[packet::DONE, packet::CRC_DIFFERS, packet::WORD_FIXED, packet::WORD_UNASSIGNED, packet::LENGTH_WRONG]);
+    again.end(count, &[packet::DONE]);
 }
 
 // ---- a relay, for which no reference is needed: what it read and what it writes on are the same bits

@@ -1,7 +1,7 @@
 //! The archive's receiver against the reference on long made-up histories. After each call the answers, all rows of the
 //! state, the store, the output, the record, the ports and the reply are compared. On states that calls returned the
-//! reference is the plain form; where state bytes are damaged between calls it is the one on rows. All of it for groups with LCAS
-//! and for those that are FIXED.
+//! reference is the plain form; where state bytes are damaged between calls it is the one on rows. All of it for groups with LCAS,
+//! for those of VC-12, and for those that are FIXED.
 
 mod damage;
 mod host;
@@ -13,7 +13,7 @@ use crate::path::Frame;
 use crate::random::Random;
 use host::Host;
 use reference::receiver::rows::{self, rows_for, Row, ROWS_A_PORT};
-use reference::receiver::{Receiver, Report, Shown, DOUBTFUL, HELD, KIND_FIXED, KIND_H4, STATE_FAIL, STATE_OK, STEP_FRAMES, SURE};
+use reference::receiver::{clock, Receiver, Report, Shown, DOUBTFUL, HELD, KIND_FIXED, KIND_H4, KIND_VC12, PAYLOAD_VC12, STATE_FAIL, STATE_OK, SURE};
 
 enum Reference {
     Plain(Receiver),
@@ -23,6 +23,7 @@ enum Reference {
 /// Both, with lent bytes of their own.
 struct Both {
     reference: Reference,
+    kind: u32,
     ports: usize,
     payload: usize,
     window: usize,
@@ -48,6 +49,10 @@ struct Seen {
     odd_packets: u64,
     fourth_breaks: u64,
     second_odd_packets: u64,
+    /// Of VC-12: steps lost by a fifth bit, by a start said early, and by one left out.
+    other_counts: u64,
+    early_starts: u64,
+    left_out_starts: u64,
     /// Ports that a report leaves waiting: for the end of their hold-off, and to restore; and waits that ended in FAIL and in OK.
     held_off: u64,
     restoring: u64,
@@ -57,8 +62,16 @@ struct Seen {
 
 impl Seen {
     /// What a frame did to a port's step row.
-    fn step(&mut self, was: &Row, is: &Row) {
-        let in_step = |row: &Row| row[2] >= STEP_FRAMES;
+    fn step(&mut self, kind: u32, was: &Row, is: &Row) {
+        let in_step = |row: &Row| row[2] >= clock(kind).step;
+        if kind == KIND_VC12 {
+            if in_step(was) && !in_step(is) && is[1] == 0 {
+                self.other_counts += u64::from(is[2] == 5);
+                self.early_starts += u64::from(is[2] == 1);
+                self.left_out_starts += u64::from(is[2] == 0);
+            }
+            return;
+        }
         if in_step(was) && in_step(is) && was != is {
             self.breaks[usize::from(is[9] % 4)] += 1;
             self.odd_packets += u64::from(is[10] != 0 && is[4] % 16 == 8);
@@ -115,8 +128,10 @@ fn first_difference<T: PartialEq>(a: &[T], b: &[T]) -> usize {
 
 impl Both {
     fn start(random: &mut Random, kind: u32, ports: usize, payload: usize, window: usize, damaged: bool) -> Both {
-        let length = ports * window * (payload + 1);
-        let (n, p, w) = (ports as u32, payload as u32, window as u32);
+        // of VC-12 no start takes another P than 136, but rows that no call wrote may have one
+        let started = if kind == KIND_VC12 { PAYLOAD_VC12 as usize } else { payload };
+        let length = ports * window * (started + 1);
+        let (n, p, w) = (ports as u32, started as u32, window as u32);
         let (hold_off, restore) = (times(random, ports), times(random, ports));
         let start = Start { kind, ports: n, payload: p, window: w, store_bytes: length, hold_off: &hold_off, restore: &restore };
         let mut plain = Receiver::empty();
@@ -124,11 +139,16 @@ impl Both {
         let mut by_rows = vec![[0xEE; 16]; rows_for(ports)];
         let mut by_card = by_rows.clone();
         assert_eq!((start_rows(&start, &mut by_rows), card::receiver_start_as(&start, &mut by_card)), (0, 0));
-        let mut store = vec![0; length];
+        if payload != started {
+            for rows in [&mut by_rows, &mut by_card] {
+                rows[0][2..4].copy_from_slice(&(payload as u16).to_be_bytes());
+            }
+        }
+        let mut store = vec![0; ports * window * (payload + 1)];
         random.fill(&mut store);
-        let output = vec![0x5A; ports * 16 * payload + random.below(4) as usize];
+        let output = vec![0x5A; ports * clock(kind).frames * payload + random.below(4) as usize];
         let reference = if damaged { Reference::Rows } else { Reference::Plain(plain) };
-        Both { reference, ports, payload, window, rows: [by_rows, by_card], stores: [store.clone(), store], outputs: [output.clone(), output] }
+        Both { reference, kind, ports, payload, window, rows: [by_rows, by_card], stores: [store.clone(), store], outputs: [output.clone(), output] }
     }
 
     /// What both give after a call: ports and reply are read out, and all that is lent is compared.
@@ -188,7 +208,7 @@ impl Both {
         test.case(answer, &reference, &card, &input);
         let group = &self.rows[0][0];
         if let (Some(was), Some(is)) = (&given, self.rows[0].get(rows_for(port))) {
-            seen.step(was, is);
+            seen.step(self.kind, was, is);
         }
         if !matches!(self.reference, Reference::Rows) {
             seen.begins += u64::from(group[6] > before.0[6] || before.0[7] > group[7] && group[6] == 1);
@@ -205,7 +225,7 @@ impl Both {
     fn fetch(&mut self, test: &mut Test, random: &mut Random, seen: &mut Seen) -> Report {
         let ack = self.rows[0][0][11];
         let members: Vec<Row> = self.rows[0].iter().skip(2).step_by(ROWS_A_PORT).copied().collect();
-        let least = self.ports * 16 * self.payload;
+        let least = self.ports * clock(self.kind).frames * self.payload;
         let (mut rows, mut store, mut out) = (self.rows[0].len(), self.stores[0].len(), self.outputs[0].len());
         let mut record_length = 8;
         match random.below(160) {
@@ -266,17 +286,22 @@ struct Tests {
 }
 
 fn history(tests: &mut Tests, random: &mut Random, seen: &mut Seen, kind: u32, damaged: bool, calls: u64) {
-    let window = random.one_of(&[16, 16, 17, 31, 32, 64, 64, 160, 2048]);
-    let wide = window == 2048;
+    let of_vc12 = kind == KIND_VC12;
+    let window = if of_vc12 { random.one_of(&[32, 32, 33, 63, 64, 64, 100, 160, 512]) } else { random.one_of(&[16, 16, 17, 31, 32, 64, 64, 160, 2048]) };
+    let wide = window == 2048 || window == 512;
     let ports = if wide { random.one_of(&[1, 2]) } else { random.one_of(&[1, 2, 2, 3, 4, 5, 9, 64]) };
-    let payload = if ports < 5 && random.below(12) == 0 { 756 } else { 1 + random.below(5) as usize };
+    let payload = match kind {
+        KIND_VC12 if !damaged => PAYLOAD_VC12 as usize,
+        _ if ports < 5 && random.below(12) == 0 => 756,
+        _ => 1 + random.below(5) as usize,
+    };
     let mut both = Both::start(random, kind, ports, payload, window, damaged);
     let mut host = Host::new(random, kind, ports, window);
     // one frame time in so many is followed by fetches, and one frame answered 11 in so many
     let (fetches, full_fetches) = (random.one_of(&[1, 4, 20, 1000]), random.one_of(&[2, 3, 60]));
     // one frame in so many finds state bytes damaged before it, and one goes on from what the state says
     let (damages, follows) = (random.one_of(&[40, 400, 2000]), random.one_of(&[2, 50, 2000]));
-    let end = seen.calls + calls * if wide { 4 } else { 1 };
+    let end = seen.calls + calls * if wide { 4 } else { 1 } * if of_vc12 { 2 } else { 1 };
     while seen.calls < end {
         host.frame_time(random);
         for port in 0..ports {
@@ -347,6 +372,50 @@ pub fn compare(count: &mut Count, hosts: u64) {
     states::compare(count, &mut random);
     starts(count, &mut random);
     fixed(count, hosts);
+    vc12(count, hosts);
+}
+
+/// The same of groups of VC-12.
+fn vc12(count: &mut Count, hosts: u64) {
+    let mut seen = Seen::default();
+    let mut random = Random::new(52);
+    let mut tests = Tests { frames: Test::new("frames of made-up hosts of VC-12"), fetches: Test::new("fetches beside these, of VC-12") };
+    for _ in 0..hosts {
+        history(&mut tests, &mut random, &mut seen, KIND_VC12, false, 1500);
+    }
+    println!("seen\t{:?}", seen);
+    tests.frames.end(count, &[0, 9, 10, 11, 12]);
+    tests.fetches.end(count, &[0]);
+    let events = [seen.begins, seen.stops, seen.joins_later, seen.turns].iter().all(|times| *times > 100) && seen.old_marks > 5;
+    let steps = [seen.other_counts, seen.early_starts, seen.left_out_starts].iter().all(|times| *times > 100);
+    let waits = [seen.held_off, seen.restoring, seen.fell, seen.restored].iter().all(|times| *times > 20);
+    count.note("all that can happen to a group of VC-12 happens there", events && steps && waits && seen.marks.iter().all(|times| *times > 200));
+
+    let mut seen = Seen::default();
+    let mut tests = Tests { frames: Test::new("frames on states of VC-12 that no call wrote"), fetches: Test::new("fetches from these, of VC-12") };
+    for _ in 0..hosts {
+        history(&mut tests, &mut random, &mut seen, KIND_VC12, true, 1500);
+    }
+    println!("seen\t{:?}", seen);
+    tests.frames.end(count, &[0, 9, 10, 11, 12]);
+    tests.fetches.end(count, &[0]);
+    count.note("reports of each mark come from such states of VC-12", seen.marks.iter().all(|times| *times > 200) && seen.damages > 1000);
+
+    let mut test = Test::new("starts of a receiver of a kind, with sizes about VC-12's");
+    for _ in 0..60_000 {
+        let kind = random.one_of(&[1, 1, 1, 1, 1, 1, 0, 2, 3, 257]);
+        let ports = random.one_of(&[1, 2, 3, 63, 64, 65, 0]);
+        let (payload, window) = (random.one_of(&[136, 136, 136, 136, 135, 137, 1, 0]), random.one_of(&[32, 33, 64, 64, 511, 512, 31, 16, 513, 2048]));
+        let store_bytes = ports as usize * window as usize * (payload as usize + 1) + random.below(16) as usize / 15;
+        let right = rows_for(ports as usize);
+        let mut by_reference = vec![[random.next() as u8; 16]; random.one_of(&[right, right, right, right, right + 1, right - 1, 0])];
+        let mut by_card = by_reference.clone();
+        let start = Start { kind, ports, payload, window, store_bytes, hold_off: &[], restore: &[] };
+        let expected = start_rows(&start, &mut by_reference);
+        let answer = card::receiver_start_as(&start, &mut by_card);
+        test.case(expected, &(expected, by_reference), &(answer, by_card), &(&start, right));
+    }
+    test.end(count, &[0, 4, 9]);
 }
 
 /// The same of FIXED groups, of which no report is doubtful, and whose RS-Ack never turns.

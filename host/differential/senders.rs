@@ -3,6 +3,7 @@
 use crate::card;
 use crate::count::{Count, Test};
 use crate::random::Random;
+use reference::receiver::{clock, KIND_H4, KIND_VC12};
 use reference::sender::Sender;
 
 const STATE_BYTES: usize = 397;
@@ -12,7 +13,15 @@ pub fn compare(count: &mut Count) {
     let mut calls = Test::new("histories of the sender's calls");
     let mut sent = Test::new("what slots send over these histories");
     for _ in 0..400 {
-        history(&mut random, &mut calls, &mut sent);
+        history(&mut random, KIND_H4, &mut calls, &mut sent);
+    }
+    calls.end(count, &[0, 1, 2, 3, 8, 9]);
+    sent.end(count, &[0, 1, 2, 4, 9]);
+
+    let mut calls = Test::new("histories of a VC-12 sender's calls");
+    let mut sent = Test::new("what its slots send over these histories");
+    for _ in 0..400 {
+        history(&mut random, KIND_VC12, &mut calls, &mut sent);
     }
     calls.end(count, &[0, 1, 2, 3, 8, 9]);
     sent.end(count, &[0, 1, 2, 4, 9]);
@@ -21,21 +30,47 @@ pub fn compare(count: &mut Count) {
     for given in (0..300).chain([65536, 65600, u32::MAX]) {
         for first in [0, 1, 7, 42, 128, 254, 255, 256, 511, u32::MAX] {
             for length in [0, STATE_BYTES - 1, STATE_BYTES, STATE_BYTES, STATE_BYTES + 1] {
-                start(&mut starts, given, first, length);
+                start(&mut starts, None, given, first, length);
             }
         }
     }
     starts.end(count, &[4]);
+
+    let mut starts = Test::new("starts of a sender of a kind");
+    for kind in [0, 1, 2, 3, 256, 257, u32::MAX] {
+        for given in (0..70).chain([256, 257, u32::MAX]) {
+            for first in [0, 1, 30, 31, 32, 33, 255, 256, 287, u32::MAX] {
+                for length in [0, STATE_BYTES - 1, STATE_BYTES, STATE_BYTES, STATE_BYTES + 1] {
+                    start(&mut starts, Some(kind), given, first, length);
+                }
+            }
+        }
+    }
+    starts.end(count, &[0, 4, 8, 9]);
 }
 
-/// One start: its answer, and what stands in the state afterwards, by its boards and ranks.
-fn start(starts: &mut Test, given: u32, first: u32, length: usize) {
+/// The greatest first epoch of a kind.
+pub fn epoch_most(kind: u32) -> u32 {
+    if kind == KIND_VC12 { 31 } else { 255 }
+}
+
+/// One start, of a kind or by the call that has none: its answer, and what stands in the state afterwards, by its boards and ranks.
+/// That of H4 leaves the same bytes as the call that has no kind.
+fn start(starts: &mut Test, of: Option<u32>, given: u32, first: u32, length: usize) {
     let mut state = vec![0xA5u8; length];
-    let answer = card::sender_start(given, first, &mut state);
-    let (expected, sender) = match Sender::start(given, first) {
+    let kind = of.unwrap_or(KIND_H4);
+    let answer = match of {
+        Some(kind) => card::sender_start_as(kind, given, first, &mut state),
+        None => card::sender_start(given, first, &mut state),
+    };
+    if of == Some(KIND_H4) {
+        let mut plain = vec![0xA5u8; length];
+        assert_eq!((card::sender_start(given, first, &mut plain), &plain), (answer, &state));
+    }
+    let (expected, sender) = match Sender::start_as(kind, given, first) {
         Err(number) => (number, Some(Sender::empty())),
         Ok(_) if length != STATE_BYTES => (9, None),
-        Ok(_) if first > 255 => (8, None),
+        Ok(_) if first > epoch_most(kind) => (8, None),
         Ok(sender) => (0, Some(sender)),
     };
     let shown = |state: &[u8]| {
@@ -48,9 +83,9 @@ fn start(starts: &mut Test, given: u32, first: u32, length: usize) {
     match sender {
         Some(s) if length == STATE_BYTES => {
             let wanted = vec![s.table.board().bytes(), s.going.bytes(), s.ranks()];
-            starts.case(expected, &(expected, wanted), &(answer, shown(&state)), &(given, first, length));
+            starts.case(expected, &(expected, wanted), &(answer, shown(&state)), &(kind, given, first, length));
         }
-        _ => starts.case(expected, &(expected, vec![vec![0xA5u8; length]]), &(answer, vec![state]), &(given, first, length)),
+        _ => starts.case(expected, &(expected, vec![vec![0xA5u8; length]]), &(answer, vec![state]), &(kind, given, first, length)),
     }
 }
 
@@ -69,12 +104,12 @@ fn any_slot(random: &mut Random, slots: u64) -> u32 {
     }
 }
 
-fn history(random: &mut Random, calls: &mut Test, sent: &mut Test) {
+fn history(random: &mut Random, kind: u32, calls: &mut Test, sent: &mut Test) {
     let slots = random.one_of(&[1u64, 2, 3, 5, 8, 20, 64]);
-    let first = random.below(256) as u32;
+    let first = random.below(u64::from(epoch_most(kind)) + 1) as u32;
     let mut state = vec![0u8; STATE_BYTES];
-    let mut sender = Sender::start(slots as u32, first).expect("the count fits");
-    assert_eq!(card::sender_start(slots as u32, first, &mut state), 0);
+    let mut sender = Sender::start_as(kind, slots as u32, first).expect("the count fits");
+    assert_eq!(card::sender_start_as(kind, slots as u32, first, &mut state), 0);
     for turn in 0..300 {
         let before = state.clone();
         let (expected, answer) = match random.below(20) {
@@ -110,20 +145,26 @@ fn history(random: &mut Random, calls: &mut Test, sent: &mut Test) {
         let untouched = expected == 0 || state == before;
         let wanted = (expected, (0, 0, 0), sender.table.board().bytes(), sender.going.bytes(), sender.ranks(), true);
         calls.case(expected, &wanted, &(answer, read, board, going, ranks, untouched), &(slots, turn));
-        sends(random, sent, &sender, &state, slots);
+        sends(random, kind, sent, &sender, &state, slots);
     }
 }
 
-fn sends(random: &mut Random, sent: &mut Test, sender: &Sender, state: &[u8], slots: u64) {
+/// A length of packets that is right most often, and a P: of VC-12 mostly 136.
+pub fn sizes(random: &mut Random, kind: u32) -> (usize, u32) {
+    let right = clock(kind).frames;
+    let p = if kind == KIND_VC12 { random.one_of(&[136, 136, 136, 136, 1, 135, 137, 0, 2341]) } else { random.one_of(&[1, 2, 3, 8, 0, 2341]) };
+    (random.one_of(&[right, right, right, 48 - right, right - 1, right + 1, 0]), p)
+}
+
+fn sends(random: &mut Random, kind: u32, sent: &mut Test, sender: &Sender, state: &[u8], slots: u64) {
     let slot = any_slot(random, slots);
-    let length = random.one_of(&[16, 16, 16, 15, 17, 0]);
+    let (length, p) = sizes(random, kind);
     let mut by_reference = vec![0x5A; length];
     let mut by_card = by_reference.clone();
     let expected = sender.packet(slot, &mut by_reference);
     let answer = card::sender_packet(state, slot, &mut by_card);
     sent.case(expected, &(expected, by_reference), &(answer, by_card), &("packet", slot, length));
 
-    let p = random.one_of(&[1, 2, 3, 8, 0, 2341]);
     let right = sender.ranked().len() * p as usize;
     let mut frame = vec![0u8; right + usize::from(random.below(10) == 0)];
     random.fill(&mut frame);

@@ -34,6 +34,8 @@ static uint8_t make(int which, uint32_t g, const uint32_t *n, struct block s, st
     }
 }
 
+static uint32_t kind; /* of the latest start that was done */
+
 /* X of the group's epoch, as its ranks have it. */
 static size_t x_of(struct kept card, uint32_t g)
 {
@@ -53,10 +55,13 @@ static void any_call(struct kept card, struct program *p, int which)
     n[0] = number_of(p);
     n[1] = which == MEMBER || which == REPORT || which == EPOCH ? number_of(p) : 0;
     n[2] = which == REPORT || which == EPOCH ? number_of(p) : 0;
-    small = n[1] < 64 ? n[1] : 1;
+    if (which == MEMBER && kind == LEVELSPRUCE_KIND_VC12 && n[1] < 128)
+        n[1] = LEVELSPRUCE_PAYLOAD_VC12;
+    small = n[1] < 64 || n[1] == LEVELSPRUCE_PAYLOAD_VC12 ? n[1] : 1;
     state = lend(STATE, card, about(p, card.length));
     frame = lend(PAYLOAD, nothing, which == MEMBER ? about(p, x_of(card, g) * small) : 0);
-    out = lend(RESULT, nothing, about(p, which == MEMBER ? small : results[which]));
+    out = lend(RESULT, nothing,
+               about(p, which == MEMBER ? small : which == PACKET && kind == LEVELSPRUCE_KIND_VC12 ? LEVELSPRUCE_PACKET_BYTES_VC12 : results[which]));
     answer = make(which, g, n, state, frame, out);
     if (answer > 15 || !(answers[which] >> answer & 1))
         fail("an answer that the call does not have");
@@ -73,12 +78,16 @@ static void any_call(struct kept card, struct program *p, int which)
 
 static void start(struct kept card, struct program *p)
 {
-    uint32_t count = number_of(p), first = number_of(p), second = number_of(p);
+    uint32_t count = number_of(p), first = number_of(p), second = number_of(p), as = byte_of(p), asked = as % 32 ? as % 2 : number_of(p);
     struct block state = lend(STATE, card, about(p, card.length));
-    uint8_t answer = levelspruce_card_start(count, first, second, state.bytes, state.length);
+    uint32_t most = asked == LEVELSPRUCE_KIND_VC12 ? 31 : 255;
+    uint8_t answer = as >= 128 && asked == LEVELSPRUCE_KIND_H4 ? levelspruce_card_start(count, first, second, state.bytes, state.length)
+                                                               : levelspruce_card_start_as(asked, count, first, second, state.bytes, state.length);
     int right = state.length == LEVELSPRUCE_CARD_BYTES;
 
-    if (answer != (count < 1 || count > 64 ? 4 : !right ? 9 : first > 255 || second > 255 ? 8 : 0))
+    if (answer == 0)
+        kind = asked;
+    if (answer != (count < 1 || count > 64 || asked > 1 ? 4 : !right ? 9 : first > most || second > most ? 8 : 0))
         fail("start answers another number than the first that fits");
     stands(state, right && (answer == 0 || answer == 4) ? state.length : 0, "start changed what it must leave");
     put_back(card, state);
@@ -100,6 +109,7 @@ int LLVMFuzzerTestOneInput(const uint8_t *data, size_t size)
 
     open_rooms();
     turn = 0;
+    kind = LEVELSPRUCE_KIND_H4;
     while (p.at < p.end) {
         uint32_t which = byte_of(&p) % (CALLS + 3);
 

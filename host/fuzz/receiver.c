@@ -1,4 +1,4 @@
-/* Any calls of the receiver, of either kind, and of a fixed group's packets, by libFuzzer. */
+/* Any calls of the receiver, of each kind, and of the packets of a fixed group and of VC-12, by libFuzzer. */
 #define _DEFAULT_SOURCE /* for mmap's MAP_ANONYMOUS */
 #include <levelspruce.h>
 
@@ -33,11 +33,17 @@ static void note(const struct lent *l, int call, uint32_t what)
     counters[phase * 64 + (uint32_t)call * 16 + what % 16] = 1;
 }
 
-/* Notes the breaks in a row of a port in step, and whether its last packet was odd. */
+/* Notes the breaks in a row of a port in step, and whether its last packet was odd; of VC-12 how far its run is. */
 static void note_step(const struct lent *l, uint32_t port)
 {
     size_t row = LEVELSPRUCE_RECEIVER_ROWS((size_t)port) * LEVELSPRUCE_ROW_BYTES;
 
+    if (l->kind == LEVELSPRUCE_KIND_VC12) {
+        uint32_t run = port < l->ports && row + LEVELSPRUCE_ROW_BYTES <= l->state.length ? l->state.bytes[row + 2] : 0;
+
+        note(l, 3, 8 + (run > 0) + (run > 4) + (run > 32) + (run > 63));
+        return;
+    }
     if (port < l->ports && row + LEVELSPRUCE_ROW_BYTES <= l->state.length && l->state.bytes[row + 2] >= 32)
         note(l, 3, l->state.bytes[row + 9] % 4u + 4 * (l->state.bytes[row + 10] != 0));
 }
@@ -58,14 +64,27 @@ static int times_of(struct program *g, uint32_t ports, struct kept *times)
     return too_large;
 }
 
-/* H4 or FIXED, and seldom none that there is. */
+/* H4, FIXED or VC-12, and seldom none that there is. */
 static uint32_t kind_of(struct program *g)
 {
     uint32_t byte = byte_of(g);
 
-    if (byte < 240)
+    if (byte < 200)
         return byte < 128 ? LEVELSPRUCE_KIND_H4 : LEVELSPRUCE_KIND_FIXED;
-    return byte < 248 ? 1 : byte;
+    return byte < 248 ? LEVELSPRUCE_KIND_VC12 : byte;
+}
+
+/* Whether a group of a kind can have this P and W. */
+static int fits_kind(uint32_t kind, uint32_t payload, uint32_t window)
+{
+    if (kind == LEVELSPRUCE_KIND_VC12)
+        return payload == LEVELSPRUCE_PAYLOAD_VC12 && window >= LEVELSPRUCE_WINDOW_LEAST_VC12 && window <= LEVELSPRUCE_WINDOW_MOST_VC12;
+    return (kind == LEVELSPRUCE_KIND_H4 || kind == LEVELSPRUCE_KIND_FIXED) && payload >= 1 && payload <= 2340 && window >= 16 && window <= 2048;
+}
+
+static uint32_t epoch_frames(const struct lent *l)
+{
+    return l->kind == LEVELSPRUCE_KIND_VC12 ? LEVELSPRUCE_EPOCH_FRAMES_VC12 : LEVELSPRUCE_EPOCH_FRAMES;
 }
 
 static void start(struct lent *l, struct program *g, int with_times)
@@ -73,10 +92,9 @@ static void start(struct lent *l, struct program *g, int with_times)
     uint32_t ports = number_of(g), payload = number_of(g), window = number_of(g), kind = with_times ? kind_of(g) : LEVELSPRUCE_KIND_H4;
     struct kept hold_off = { NULL, 0 }, restore = { NULL, 0 };
     int long_hold_off = with_times && times_of(g, ports, &hold_off), long_restore = with_times && times_of(g, ports, &restore);
-    int fits = !long_hold_off && !long_restore && (kind == LEVELSPRUCE_KIND_H4 || kind == LEVELSPRUCE_KIND_FIXED) && ports >= 1 && ports <= 64 && payload >= 1 && payload <= 2340
-        && window >= 16 && window <= 2048;
+    int fits = !long_hold_off && !long_restore && ports >= 1 && ports <= 64 && fits_kind(kind, payload, window);
     /* small enough for many calls a second */
-    int small = fits && ports <= 8 && payload <= 40 && window <= 80;
+    int small = fits && window <= 80 && (kind == LEVELSPRUCE_KIND_VC12 ? ports <= 4 : ports <= 8 && payload <= 40);
     size_t right = small ? LEVELSPRUCE_RECEIVER_ROWS(ports) : 6;
     size_t store = fits ? LEVELSPRUCE_STORE_BYTES(ports, payload, window) : number_of(g);
     struct kept fresh = keep(about(g, right) * 16);
@@ -145,18 +163,35 @@ static void frame(struct lent *l, struct program *g, uint32_t port, uint32_t fai
         l->tag[port] = (l->tag[port] + 1) % 4096;
 }
 
+static const uint32_t words[] = { LEVELSPRUCE_WORD_NORM, LEVELSPRUCE_WORD_EOS, LEVELSPRUCE_WORD_ADD, LEVELSPRUCE_WORD_IDLE, LEVELSPRUCE_WORD_DNU };
+
+/* The byte of a frame of VC-12; a start is said wrongly now and then. */
+static uint8_t vc12_byte(const struct lent *l, uint32_t port, uint32_t word)
+{
+    uint32_t tag = l->tag[port] % 1024, place = tag % LEVELSPRUCE_PACKET_BYTES_VC12;
+    uint8_t bits[LEVELSPRUCE_PACKET_BYTES_VC12];
+
+    if (levelspruce_packet_write_vc12(tag / 32, word < 200 ? words[port + 1 == l->ports] : words[word % 5], 0, 0, 0, port, word % 16, bits, sizeof bits)
+        != LEVELSPRUCE_ANSWER_DONE)
+        fail("a packet of VC-12 was refused");
+    return word >= 250 && place == word % 32 ? bits[place] ^ LEVELSPRUCE_VC12_START : bits[place];
+}
+
 /* Frames as a sender sends them, of all ports, each behind the tag it has come to. */
 static void frames(struct lent *l, struct program *g)
 {
     uint32_t times = byte_of(g), word = byte_of(g), port;
     uint8_t h4[LEVELSPRUCE_PACKET_BYTES];
-    static const uint32_t words[] = { LEVELSPRUCE_WORD_NORM, LEVELSPRUCE_WORD_EOS, LEVELSPRUCE_WORD_ADD, LEVELSPRUCE_WORD_IDLE, LEVELSPRUCE_WORD_DNU };
     struct program right = { NULL, NULL };
 
     while (times-- > 0)
         for (port = 0; port < l->ports; port++) {
             uint32_t tag = l->tag[port], epoch = (tag + 8) % 4096 / 16, last = port + 1 == l->ports;
 
+            if (l->kind == LEVELSPRUCE_KIND_VC12) {
+                frame(l, &right, port, 0, vc12_byte(l, port, word));
+                continue;
+            }
             /* a packet of the group's kind, and of the other one now and then */
             if ((l->kind == LEVELSPRUCE_KIND_FIXED) != (word >= 250)) {
                 if (levelspruce_packet_write_fixed(epoch, word < 220 ? l->ports - 1 - port : word, h4, sizeof h4) != LEVELSPRUCE_ANSWER_DONE)
@@ -173,7 +208,7 @@ static void fetch(struct lent *l, struct program *g)
 {
     static const struct kept nothing;
     struct block state = lend_state(l, g), store = lend(STORE, l->store, about(g, l->store.length));
-    struct block out = lend(OUT, nothing, about(g, LEVELSPRUCE_OUTPUT_BYTES(l->ports, l->payload)));
+    struct block out = lend(OUT, nothing, about(g, (size_t)l->ports * epoch_frames(l) * l->payload));
     struct block report = lend(RESULT, nothing, about(g, LEVELSPRUCE_REPORT_BYTES));
     uint8_t answer, mark;
     size_t bytes;
@@ -194,7 +229,7 @@ static void fetch(struct lent *l, struct program *g)
     stands(state, mark != LEVELSPRUCE_MARK_NONE ? state.length : 0, "a fetch with no report changed the state");
     put_back(l->state, state);
     note(l, 1, answer ? answer : mark);
-    note(l, 2, (uint32_t)(bytes / (1 + 16 * l->payload)));
+    note(l, 2, (uint32_t)(bytes / (1 + epoch_frames(l) * l->payload)));
 }
 
 static void read_out(struct lent *l, struct program *g)
@@ -255,6 +290,35 @@ static void packets(struct program *g)
     stands(h4, 0, "reading changed a packet");
 }
 
+/* The same of VC-12's packets. */
+static void packets_vc12(struct program *g)
+{
+    static const struct kept nothing;
+    uint32_t epoch = number_of(g), word = byte_of(g) % 16, gid = byte_of(g) % 4, mst = number_of(g), sq = number_of(g), reserved = byte_of(g) % 32;
+    struct block bits = lend(STATE, nothing, about(g, LEVELSPRUCE_PACKET_BYTES_VC12)), fields = lend(RESULT, nothing, about(g, LEVELSPRUCE_FIELDS_BYTES));
+    uint8_t answer = levelspruce_packet_write_vc12(epoch, word, gid, mst, gid / 2, sq, reserved, bits.bytes, bits.length);
+    int assigned = word == 1 || word == 2 || word == 3 || word == 5 || word == 15;
+    int right = bits.length == LEVELSPRUCE_PACKET_BYTES_VC12 && fields.length == LEVELSPRUCE_FIELDS_BYTES;
+
+    if (answer != (bits.length != LEVELSPRUCE_PACKET_BYTES_VC12 ? 9 : epoch > 31 || gid > 1 || mst > 255 || sq > 63 || reserved > 15 || !assigned ? 8 : 0))
+        fail("an answer that writing a packet of VC-12 does not have");
+    stands(bits, answer == 0 ? bits.length : 0, "a packet that is refused was written");
+    if (byte_of(g) < 64) {
+        fill(bits.bytes, bits.length, byte_of(g));
+        answer = LEVELSPRUCE_ANSWER_FIELD;
+    }
+    memcpy(before[STATE], bits.bytes, bits.length);
+    epoch = right && answer == 0 ? epoch : 256;
+    answer = levelspruce_packet_read_vc12(bits.bytes, bits.length, fields.bytes, fields.length);
+    if (right ? answer != 0 && answer != 5 && answer != 6 && answer != 7 : answer != 9)
+        fail("an answer that reading a packet of VC-12 does not have");
+    if (epoch < 256 && (answer != 0 || fields.bytes[LEVELSPRUCE_FIELD_EPOCH] != epoch || fields.bytes[LEVELSPRUCE_FIELD_SQ] != sq
+                        || fields.bytes[LEVELSPRUCE_FIELD_MST] != mst || fields.bytes[LEVELSPRUCE_FIELD_WORD] != word))
+        fail("a written packet of VC-12 does not read as given");
+    stands(fields, answer == 0 ? fields.length : 0, "fields of a refused packet were written");
+    stands(bits, 0, "reading changed a packet");
+}
+
 int LLVMFuzzerTestOneInput(const uint8_t *data, size_t size)
 {
     struct program g = { data, data + size };
@@ -269,7 +333,7 @@ int LLVMFuzzerTestOneInput(const uint8_t *data, size_t size)
         case 2: frames(&l, &g); break;
         case 3: fetch(&l, &g); break;
         case 4: read_out(&l, &g); break;
-        case 5: { uint32_t which = byte_of(&g); if (which < 128) damage(&l, &g); else if (which < 240) start(&l, &g, 1); else packets(&g); break; }
+        case 5: { uint32_t which = byte_of(&g); if (which < 128) damage(&l, &g); else if (which < 240) start(&l, &g, 1); else if (which < 248) packets(&g); else packets_vc12(&g); break; }
         case 6: { uint32_t port = byte_of(&g) % LEVELSPRUCE_PORTS_MOST; l.tag[port] = number_of(&g) % 4096; break; }
         default: fetch(&l, &g); fetch(&l, &g); break;
         }

@@ -18,6 +18,8 @@ pub struct Report {
 #[derive(Default)]
 pub struct Lines {
     pub payload: u64,
+    /// Whether the group is of VC-12, whose epochs have 32 frames.
+    pub vc12: bool,
     pub window: u64,
     pub lines: Vec<Line>,
     /// The epochs in which packets are damaged.
@@ -53,6 +55,7 @@ pub fn read(text: &str) -> Lines {
         let fields: Vec<&str> = line.split('\t').collect();
         match (fields[0], fields.get(1).copied().unwrap_or("")) {
             ("link", "payload") => read.payload = number(&fields, "payload"),
+            ("link", "VC-12") => read.vc12 = true,
             ("link", "window") => read.window = number(&fields, "window"),
             ("line", _) => read.lines.push(Line { delay: number(&fields, "delay"), first: number(&fields, "first frame") }),
             ("plan", "damage") => read.damaged.push(number(&fields, "epoch")),
@@ -79,7 +82,17 @@ impl Lines {
     /// The bytes that an epoch carried.
     pub fn carried(&self, epoch: u64) -> u64 {
         let members = self.members.range(..=epoch).next_back().map_or(0, |(_, members)| *members);
-        16 * members * self.payload
+        self.frames() * members * self.payload
+    }
+
+    /// The frames of an epoch.
+    pub fn frames(&self) -> u64 {
+        if self.vc12 { 32 } else { 16 }
+    }
+
+    /// The most frames that bring a port into step.
+    pub fn to_step(&self) -> u64 {
+        if self.vc12 { 95 } else { 47 }
     }
 
     /// The latest frame time in which a port gets its first frame.

@@ -61,15 +61,15 @@ fn in_order(lines: &Lines) -> bool {
 /// The first epoch reported is the second to start after the foremost frame at the beginning, which came in that frame
 /// time or, where the beginning came before it, in the one before.
 fn first_right(lines: &Lines, time: u64) -> bool {
-    let second = |foremost: u64| foremost / 16 + 2;
+    let second = |foremost: u64| foremost / lines.frames() + 2;
     let newest = time - lines.least_delay();
     lines.reports.first().map_or(false, |r| r.epoch == second(newest) || r.epoch == second(newest - 1))
 }
 
-/// Where no port failed: begun within 47 frames, every epoch from the first reported on is reported, and all are sure but
+/// Where no port failed: begun within 47 frames (of VC-12 95), every epoch from the first reported on is reported, and all are sure but
 /// those that a damaged packet rules, which are held. Without LCAS damage may show nowhere.
 fn whole(lines: &Lines, epochs: u64, fixed: bool) -> bool {
-    let begun = lines.begun.len() == 1 && lines.begun[0].0 <= lines.last_first_frame() + 46 && first_right(lines, lines.begun[0].0);
+    let begun = lines.begun.len() == 1 && lines.begun[0].0 < lines.last_first_frame() + lines.to_step() && first_right(lines, lines.begun[0].0);
     let to_the_end = lines.reports.last().map_or(false, |r| r.epoch == epochs - 1);
     let marked = |r: &lines::Report| {
         let damaged = lines.damaged.iter().any(|e| e + 1 == r.epoch) && (!fixed || r.mark == "held");
@@ -92,8 +92,9 @@ struct Crossed {
     bytes: usize,
 }
 
-/// One file through one link, with LCAS or without.
-fn cross(program: &Program, seed: u64, fixed: bool) -> Crossed {
+/// One file through one link: with LCAS, without it, or of VC-12.
+fn cross(program: &Program, seed: u64, kind: Option<&str>) -> Crossed {
+    let fixed = kind == Some("--fixed");
     let mut random = Random::new(seed);
     let mut file = vec![0; random.below(400_000) as usize];
     random.fill(&mut file);
@@ -103,9 +104,7 @@ fn cross(program: &Program, seed: u64, fixed: bool) -> Crossed {
     if random.below(3) == 0 {
         choices.extend(["--fail".into(), "none".into()]);
     }
-    if fixed {
-        choices.push("--fixed".into());
-    }
+    choices.extend(kind.map(String::from));
     // enough for the slowest answers
     let epochs = EPOCHS + random.below(4) * 64;
     choices.extend(["--epochs".into(), epochs.to_string()]);
@@ -119,8 +118,9 @@ fn cross(program: &Program, seed: u64, fixed: bool) -> Crossed {
     // status 0 where each byte of the file came out sure, and 1 where not
     let status = i32::from(text.contains("\tnot all came out sure\n"));
     let ended = output.status.code() == Some(status) && ["each sure byte was right", "no byte was sure"].contains(&lines.last.as_str());
-    let bears = lines.failures > 0 || lines.spread() + 16 > lines.window || whole(&lines, epochs, fixed);
-    let held = right && ended && in_order(&lines) && bears && (!fixed || unlike_lcas(&text, &lines));
+    let bears = lines.failures > 0 || lines.spread() + lines.frames() > lines.window || whole(&lines, epochs, fixed);
+    let named = lines.vc12 == (kind == Some("--vc12"));
+    let held = right && ended && named && in_order(&lines) && bears && (!fixed || unlike_lcas(&text, &lines));
     if !held {
         println!("differs\tseed {seed}\tbytes right {right}\tended {ended}\tin order {}\twhole {bears}\t{}", in_order(&lines), choices.join(" "));
     }
@@ -147,7 +147,7 @@ fn main() {
     manners::check(&program, &mut count);
     adds::check(&program, &mut count);
 
-    let crossed: Vec<Crossed> = (1..=LINKS).map(|seed| cross(&program, seed, false)).collect();
+    let crossed: Vec<Crossed> = (1..=LINKS).map(|seed| cross(&program, seed, None)).collect();
     let total = |f: fn(&Crossed) -> usize| crossed.iter().map(f).sum::<usize>();
     tell("crossed", &crossed);
     count.note("files cross made-up links byte for byte", crossed.iter().all(|c| c.held));
@@ -155,13 +155,20 @@ fn main() {
     count.note("some files come out whole, some do not", (20..=280).contains(&total(|c| usize::from(c.whole))));
     count.note("many have failures, many have none", (60..=240).contains(&total(|c| usize::from(c.failures > 0))));
 
-    let fixed: Vec<Crossed> = (1001..=1000 + LINKS / 2).map(|seed| cross(&program, seed, true)).collect();
+    let fixed: Vec<Crossed> = (1001..=1000 + LINKS / 2).map(|seed| cross(&program, seed, Some("--fixed"))).collect();
     tell("without LCAS", &fixed);
     // a short file is sent before receiving begins
     let carry = fixed.iter().filter(|c| c.sure > 0).count();
     let failing = fixed.iter().filter(|c| c.failures > 0).count();
     count.note("files cross made-up links without LCAS byte for byte", fixed.iter().all(|c| c.held));
     count.note("nearly all of these have sure epochs, many have failures, many none", carry > 140 && (30..=120).contains(&failing));
+
+    let vc12: Vec<Crossed> = (2001..=2000 + LINKS / 2).map(|seed| cross(&program, seed, Some("--vc12"))).collect();
+    tell("of VC-12", &vc12);
+    let carry = vc12.iter().filter(|c| c.bytes > 0).count();
+    let failing = vc12.iter().filter(|c| c.failures > 0).count();
+    count.note("files cross made-up links of VC-12 byte for byte", vc12.iter().all(|c| c.held));
+    count.note("most of these carry bytes, many have failures, many none", 4 * carry > 3 * vc12.len() && (30..=120).contains(&failing));
 
     std::process::exit(count.tally());
 }

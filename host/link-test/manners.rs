@@ -4,7 +4,7 @@ use crate::count::Count;
 use crate::{lines, Program};
 
 /// Wrong choices, and a word that the answer must have.
-const WRONG: [(&[&str], &str); 33] = [
+const WRONG: [(&[&str], &str); 40] = [
     (&["--slot", "3"], "no choice '--slot'"),
     (&["file"], "no choice 'file'"),
     (&["--slots"], "--slots wants a value"),
@@ -34,6 +34,13 @@ const WRONG: [(&[&str], &str); 33] = [
     (&["--fixed", "--remove", "none"], "--remove is of LCAS"),
     (&["--fixed", "--lapse", "3"], "--lapse is of LCAS"),
     (&["--fixed", "--back", "0"], "--back is of LCAS"),
+    (&["--vc12", "--fixed"], "--fixed does not go with --vc12"),
+    (&["--vc12", "--record", "none"], "--record does not go with --vc12"),
+    (&["--vc12", "--record-heads", "none"], "--record-heads does not go with --vc12"),
+    (&["--vc12", "--payload", "756"], "from 136 to 136"),
+    (&["--vc12", "--window", "31"], "from 32 to 512"),
+    (&["--vc12", "--window", "513"], "from 32 to 512"),
+    (&["--vc12", "--number", "32"], "from 0 to 31"),
     (&["--seed", "99999999999999999999999"], "--seed"),
     (&["--doubtful"], "there is no --out"),
     (&["--file", "/no/such/file"], "cannot read"),
@@ -60,7 +67,7 @@ pub fn check(program: &Program, count: &mut Count) {
     count.note("wrong choices get one clear line and status 2", held == WRONG.len());
 
     let (status, help) = said(program, &["--help"]);
-    let named = ["--slots", "--payload", "--window", "--delays", "--first", "--seed", "--epochs", "--damage", "--fail", "--hold-off", "--restore", "--fixed", "--numbers", "--file", "--out", "--each", "--quiet"];
+    let named = ["--slots", "--payload", "--window", "--delays", "--first", "--seed", "--epochs", "--damage", "--fail", "--hold-off", "--restore", "--fixed", "--vc12", "--numbers", "--file", "--out", "--each", "--quiet"];
     count.note("--help names the choices", status == Some(0) && named.iter().all(|n| help.contains(n)));
 
     let (status, text) = said(program, &[]);
@@ -137,6 +144,7 @@ pub fn check(program: &Program, count: &mut Count) {
     count.note("epochs are told rightly behind a line that failed and would be far ahead", lines::read(&behind).reports.first().map_or(false, |r| r.epoch < 10));
 
     fixed(program, count);
+    vc12(program, count);
 
     let file = program.path("gone.in");
     std::fs::write(&file, vec![7; 1_000_000]).expect("the file is written");
@@ -149,6 +157,32 @@ pub fn check(program: &Program, count: &mut Count) {
 
     let (_, unheard) = said(program, &["--slots", "2", "--back", "8000", "--lapse", "3", "--epochs", "40", "--remove", "9:0,9:1"]);
     count.note("a wait that nobody answers lapses, and the line says so", unheard.contains("wait\tclosed\tby lapse\n") && unheard.contains("remove\tslot\t1\tanswer\t0\n"));
+}
+
+/// Groups of VC-12: members come and go, every packet of some epochs has a bit changed, and a port fails and comes back.
+fn vc12(program: &Program, count: &mut Count) {
+    let damages: Vec<String> = (40..80).step_by(2).map(|epoch| format!("{}:{}", epoch, epoch / 2 % 3)).collect();
+    let (status, hit) = said(program, &["--vc12", "--delays", "32,0,17", "--damage", &damages.join(",")]);
+    let read = lines::read(&hit);
+    let held: Vec<u64> = read.reports.iter().filter(|r| r.mark == "held").map(|r| r.epoch).collect();
+    count.note(
+        "VC-12: a packet with one bit changed holds the epoch that it rules, and costs no port its step",
+        status == Some(0) && read.last == "each sure byte was right" && held == (41..80).step_by(2).collect::<Vec<u64>>() && !hit.contains("out of step"),
+    );
+    let (status, text) = said(program, &["--vc12", "--slots", "3", "--add", "0:0,0:1,60:2", "--remove", "100:0", "--fail", "1:1500-1560"]);
+    let told = |line: &str| text.lines().any(|l| l == line);
+    count.note(
+        "VC-12: a slot that is added, one removed, and a port that fails and comes back",
+        status == Some(0)
+            && told("slot\t2\twas\tIDLE\t63\tnow\tADD\t2")
+            && told("slot\t0\twas\tNORM\t0\tnow\tIDLE\t63")
+            && told("port\t1\tFAIL\t1")
+            && text.ends_with("each sure byte was right\n"),
+    );
+    // the port that is ahead gets its frame first in each frame time, so that the latest tags are never nearer; when all is sent they are
+    let begins = |delays: &str| lines::read(&said(program, &["--vc12", "--delays", delays, "--epochs", "100"]).1).begun.first().map(|(time, _)| *time);
+    let (near, far) = (begins("0,32"), begins("0,33"));
+    count.note("VC-12: delays W-32 apart begin, W-31 apart need not", near == Some(95) && far.map_or(true, |time| time >= 3200));
 }
 
 /// Groups without LCAS: any order of numbers, wrong ones, a dark port, and damage that nothing detects.

@@ -12,7 +12,9 @@ struct back {
     uint8_t state[LEVELSPRUCE_SENDER_BYTES]; /* the far end's sender: one slot, which stays IDLE */
     uint64_t delay;
     uint64_t next, end; /* the epochs whose packets are on their way */
-    uint8_t packets[BACK_MOST][LEVELSPRUCE_PACKET_BYTES];
+    int vc12;
+    size_t packet_bytes;
+    uint8_t packets[BACK_MOST][LEVELSPRUCE_PACKET_BYTES_VC12]; /* the longer of the two */
 };
 
 void back_open(struct back *b, const struct choices *c);

@@ -10,7 +10,7 @@
 enum { FRAME_MOST = 1000000000, EPOCH_MOST = FRAME_MOST / LEVELSPRUCE_EPOCH_FRAMES, EPOCHS_USUAL = 160 };
 
 enum choice {
-    SLOTS, PAYLOAD, WINDOW, PORTS, DELAYS, FIRST, NUMBERS, FIXED, BACK, NUMBER,
+    SLOTS, PAYLOAD, WINDOW, PORTS, DELAYS, FIRST, NUMBERS, FIXED, VC12, BACK, NUMBER,
     ADD, REMOVE, DAMAGE, FAIL, HOLD_OFF, RESTORE, LAPSE, LATE, AT_ONCE, SEED, EPOCHS,
     FILE_IN, FILE_OUT, RECORD, HEADS, DOUBTFUL, EACH, QUIET, HELP, VERSION, CHOICES
 };
@@ -21,7 +21,7 @@ static const struct {
     int valued;
 } known[CHOICES] = {
     { "--slots", 1 }, { "--payload", 1 }, { "--window", 1 }, { "--ports", 1 }, { "--delays", 1 }, { "--first", 1 },
-    { "--numbers", 1 }, { "--fixed", 0 }, { "--back", 1 }, { "--number", 1 }, { "--add", 1 }, { "--remove", 1 }, { "--damage", 1 }, { "--fail", 1 },
+    { "--numbers", 1 }, { "--fixed", 0 }, { "--vc12", 0 }, { "--back", 1 }, { "--number", 1 }, { "--add", 1 }, { "--remove", 1 }, { "--damage", 1 }, { "--fail", 1 },
     { "--hold-off", 1 }, { "--restore", 1 }, { "--lapse", 1 }, { "--late", 1 }, { "--at-once", 0 }, { "--seed", 1 },
     { "--epochs", 1 }, { "--file", 1 }, { "--out", 1 }, { "--record", 1 }, { "--record-heads", 1 },
     { "--doubtful", 0 }, { "--each", 0 }, { "--quiet", 0 }, { "--help", 0 }, { "--version", 0 }
@@ -256,6 +256,27 @@ static void shape_by_default(struct choices *c)
     c->epochs = 128;
 }
 
+/* What goes by the kind of the group. */
+static void shape_kind(struct choices *c)
+{
+    c->kind = c->fixed ? LEVELSPRUCE_KIND_FIXED : c->vc12 ? LEVELSPRUCE_KIND_VC12 : LEVELSPRUCE_KIND_H4;
+    c->payload = c->vc12 ? LEVELSPRUCE_PAYLOAD_VC12 : LEVELSPRUCE_PAYLOAD_VC3;
+    c->frames = c->vc12 ? LEVELSPRUCE_EPOCH_FRAMES_VC12 : LEVELSPRUCE_EPOCH_FRAMES;
+    c->numbers = c->vc12 ? 32 : 256;
+    c->least = c->vc12 ? LEVELSPRUCE_WINDOW_LEAST_VC12 : LEVELSPRUCE_WINDOW_LEAST;
+}
+
+static int read_sizes(const struct given *g, struct choices *c)
+{
+    if (read_size(g, SLOTS, 1, LEVELSPRUCE_SLOTS_MOST, &c->slots) != 0)
+        return -1;
+    if (c->vc12)
+        return read_size(g, PAYLOAD, LEVELSPRUCE_PAYLOAD_VC12, LEVELSPRUCE_PAYLOAD_VC12, &c->payload) != 0
+            || read_size(g, WINDOW, LEVELSPRUCE_WINDOW_LEAST_VC12, LEVELSPRUCE_WINDOW_MOST_VC12, &c->window) != 0 ? -1 : 0;
+    return read_size(g, PAYLOAD, 1, LEVELSPRUCE_PAYLOAD_MOST, &c->payload) != 0
+        || read_size(g, WINDOW, LEVELSPRUCE_WINDOW_LEAST, LEVELSPRUCE_WINDOW_MOST, &c->window) != 0 ? -1 : 0;
+}
+
 /* Shapes the link from the sizes given, the seed, or neither. */
 static int shape(struct choices *c, const struct given *g)
 {
@@ -276,9 +297,7 @@ static int shape(struct choices *c, const struct given *g)
     for (which = PORTS; which <= NUMBERS; which++)
         if (g->word[which] != NULL && parts_of(g->word[which]) <= LINES_MOST)
             c->slots = parts_of(g->word[which]);
-    if (read_size(g, SLOTS, 1, LEVELSPRUCE_SLOTS_MOST, &c->slots) != 0
-        || read_size(g, PAYLOAD, 1, LEVELSPRUCE_PAYLOAD_MOST, &c->payload) != 0
-        || read_size(g, WINDOW, LEVELSPRUCE_WINDOW_LEAST, LEVELSPRUCE_WINDOW_MOST, &c->window) != 0)
+    if (read_sizes(g, c) != 0)
         return -1;
     shape_plainly(c);
     if (drawn) {
@@ -290,12 +309,17 @@ static int shape(struct choices *c, const struct given *g)
     return 0;
 }
 
-/* Choices that go with LCAS alone, or with a group without it alone. */
+/* Choices that go with LCAS alone, or with a group without it alone; and with H4 alone. */
 static int choices_agree(const struct given *g)
 {
-    static const enum choice lcas[] = { BACK, ADD, REMOVE, LAPSE };
+    static const enum choice lcas[] = { BACK, ADD, REMOVE, LAPSE }, h4[] = { FIXED, RECORD, HEADS };
     size_t i;
 
+    for (i = 0; g->word[VC12] != NULL && i < sizeof h4 / sizeof h4[0]; i++)
+        if (g->word[h4[i]] != NULL) {
+            fprintf(stderr, "link: %s does not go with --vc12\n", known[h4[i]].name);
+            return -1;
+        }
     if (g->word[FIXED] == NULL) {
         if (g->word[NUMBERS] == NULL)
             return 0;
@@ -318,7 +342,7 @@ static uint64_t epochs_on_the_way(const struct choices *c)
     for (slot = 0; slot < c->slots; slot++)
         if (c->delay[slot] > most)
             most = c->delay[slot];
-    return (most + c->back) / LEVELSPRUCE_EPOCH_FRAMES;
+    return (most + c->back) / c->frames;
 }
 
 int choices_read(struct choices *c, int count, char **words)
@@ -330,7 +354,6 @@ int choices_read(struct choices *c, int count, char **words)
         return -1;
     c->epochs = EPOCHS_USUAL;
     c->slots = 4;
-    c->payload = LEVELSPRUCE_PAYLOAD_VC3;
     c->window = 64;
     c->lapse = 64;
     c->file = g.word[FILE_IN];
@@ -340,6 +363,8 @@ int choices_read(struct choices *c, int count, char **words)
     c->heads = g.word[HEADS];
     c->doubtful = g.word[DOUBTFUL] != NULL;
     c->fixed = g.word[FIXED] != NULL;
+    c->vc12 = g.word[VC12] != NULL;
+    shape_kind(c);
     c->each = g.word[EACH] != NULL;
     c->quiet = g.word[QUIET] != NULL;
     c->help = g.word[HELP] != NULL;
@@ -356,7 +381,7 @@ int choices_read(struct choices *c, int count, char **words)
         || read_each(&g, NUMBERS, c->slots, 255, c->sq) != 0
         || read_each(&g, DELAYS, c->slots, DELAY_MOST, c->delay) != 0
         || read_each(&g, FIRST, c->slots, FRAME_MOST, c->first) != 0
-        || read_size(&g, BACK, 0, DELAY_MOST, &c->back) != 0 || read_size(&g, NUMBER, 0, 255, &c->number) != 0
+        || read_size(&g, BACK, 0, DELAY_MOST, &c->back) != 0 || read_size(&g, NUMBER, 0, c->numbers - 1, &c->number) != 0
         || read_events(&g, ADD, c->slots, &c->adds) != 0 || read_events(&g, REMOVE, c->slots, &c->removes) != 0
         || read_events(&g, DAMAGE, c->slots, &c->damages) != 0 || read_failures(&g, c->slots, &c->failures) != 0
         || read_size(&g, HOLD_OFF, 0, LEVELSPRUCE_TIMER_MOST, &c->hold_off) != 0
@@ -371,6 +396,6 @@ int choices_read(struct choices *c, int count, char **words)
         c->adds.count = c->removes.count = c->back = 0;
     if (g.word[EPOCHS] == NULL && (g.word[DELAYS] != NULL || g.word[BACK] != NULL))
         c->epochs += epochs_on_the_way(c);
-    c->carried = c->epochs * LEVELSPRUCE_EPOCH_FRAMES * c->slots * c->payload;
+    c->carried = c->epochs * c->frames * c->slots * c->payload;
     return files_differ(c);
 }

@@ -20,18 +20,27 @@ static uint64_t bits_of(uint64_t epoch)
     return changed;
 }
 
-uint8_t damage(const struct events *damages, uint32_t slot, uint64_t n)
+/* The one place of a VC-12 packet, behind its count of five bits. */
+static uint64_t place_of(uint64_t epoch)
 {
-    uint64_t epoch = n / LEVELSPRUCE_EPOCH_FRAMES, place = n % LEVELSPRUCE_EPOCH_FRAMES;
+    struct random random;
+
+    random.now = epoch;
+    return 5 + random_below(&random, LEVELSPRUCE_PACKET_BYTES_VC12 - 5);
+}
+
+uint8_t damage(const struct choices *c, uint32_t slot, uint64_t n)
+{
+    uint64_t epoch = n / c->frames, place = n % c->frames;
     size_t i;
 
-    for (i = 0; i < damages->count; i++)
-        if (damages->each[i].epoch == epoch && damages->each[i].slot == slot)
-            return (uint8_t)((bits_of(epoch) >> 4 * place & 15) << 4);
+    for (i = 0; i < c->damages.count; i++)
+        if (c->damages.each[i].epoch == epoch && c->damages.each[i].slot == slot)
+            return c->vc12 ? place == place_of(epoch) : (uint8_t)((bits_of(epoch) >> 4 * place & 15) << 4);
     return 0;
 }
 
-int damage_is_of_number(uint64_t n)
+int damage_is_of_number(const struct choices *c, uint64_t n)
 {
-    return n % LEVELSPRUCE_EPOCH_FRAMES / 2 == 4;
+    return !c->vc12 && n % LEVELSPRUCE_EPOCH_FRAMES / 2 == 4;
 }

@@ -9,10 +9,14 @@ static uint32_t number_below(struct random *r, uint64_t limit)
 
 void draw_sizes(struct choices *c, struct random *r)
 {
-    static const uint32_t windows[] = { 16, 17, 31, 64, 100, 2048 };
+    static const uint32_t windows[] = { 16, 17, 31, 64, 100, 2048 }, vc12_windows[] = { 32, 33, 64, 100, 512 };
     uint32_t payload_most;
 
     c->slots = 1 + number_below(r, random_below(r, 4) == 0 ? LEVELSPRUCE_SLOTS_MOST : 8);
+    if (c->vc12) {
+        c->window = random_below(r, 2) == 0 ? vc12_windows[random_below(r, 5)] : LEVELSPRUCE_WINDOW_LEAST_VC12 + number_below(r, 200);
+        return;
+    }
     c->window = random_below(r, 2) == 0 ? windows[random_below(r, 6)] : LEVELSPRUCE_WINDOW_LEAST + number_below(r, 500);
     payload_most = STORE_MOST / (c->slots * c->window) - 1;
     if (payload_most > LEVELSPRUCE_PAYLOAD_MOST)
@@ -45,11 +49,11 @@ void draw_lines(struct choices *c, struct random *r)
     if (c->fixed)
         draw_order(r, c->slots, c->sq);
     for (slot = 0; slot < c->slots; slot++) {
-        c->delay[slot] = number_below(r, c->window - LEVELSPRUCE_WINDOW_LEAST + 1);
+        c->delay[slot] = number_below(r, c->window - c->least + 1);
         c->first[slot] = number_below(r, 64);
     }
     c->back = number_below(r, 100);
-    c->number = number_below(r, 256);
+    c->number = number_below(r, c->numbers);
     c->late = random_below(r, 2) == 0 ? 0 : number_below(r, c->window);
     c->at_once = random_below(r, 4) == 0;
 }
@@ -79,7 +83,7 @@ void draw_events(struct choices *c, struct random *r, uint64_t epochs)
         struct failure *failure = &c->failures.each[c->failures.count++];
 
         failure->port = number_below(r, c->slots);
-        failure->from = random_below(r, epochs * LEVELSPRUCE_EPOCH_FRAMES);
+        failure->from = random_below(r, epochs * c->frames);
         failure->to = failure->from + random_below(r, 1000);
     }
     c->hold_off = random_below(r, 2) == 0 ? 0 : number_below(r, 60);

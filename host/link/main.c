@@ -1,7 +1,7 @@
 /*
  * An example host: a file or a text crosses a link of one to sixty-four lines.
  *
- * Time is counted in frames, 125 microseconds each on a real card. In each frame time every slot sends a frame, every line
+ * Time is counted in frames, 125 microseconds each on a real card, and 500 of VC-12. In each frame time every slot sends a frame, every line
  * brings one to its port, the receiver is asked for reports, and what the far end replied comes back to the sender.
  */
 #include <stdio.h>
@@ -18,7 +18,7 @@
 #include "sending.h"
 #include "tally.h"
 
-enum { EPOCH_FRAMES = LEVELSPRUCE_EPOCH_FRAMES, WITH_NOTHING_MOST = 4096 };
+enum { WITH_NOTHING_MOST = 4096 };
 
 /* In parts, since a compiler need not take one string of such a length. */
 static const char *const help[] = {
@@ -68,12 +68,12 @@ static int link_open(struct link *l)
         fprintf(stderr, "link: there is not enough memory for a link of this size\n");
         return -1;
     }
-    if (most_delay - least_delay > c->window - LEVELSPRUCE_WINDOW_LEAST)
-        fprintf(stderr, "link: the delays differ by more than the window less %d frames, so receiving may not begin, or bytes may be wrong\n",
-                LEVELSPRUCE_WINDOW_LEAST);
-    else if (!c->at_once && most_delay - least_delay + c->late > c->window - LEVELSPRUCE_WINDOW_LEAST)
-        fprintf(stderr, "link: --late and the difference of the delays are more than the window less %d frames, so reports come earlier than that\n",
-                LEVELSPRUCE_WINDOW_LEAST);
+    if (most_delay - least_delay > c->window - c->least)
+        fprintf(stderr, "link: the delays differ by more than the window less %lu frames, so receiving may not begin, or bytes may be wrong\n",
+                (unsigned long)c->least);
+    else if (!c->at_once && most_delay - least_delay + c->late > c->window - c->least)
+        fprintf(stderr, "link: --late and the difference of the delays are more than the window less %lu frames, so reports come earlier than that\n",
+                (unsigned long)c->least);
     if (!c->fixed)
         back_open(&l->back, c);
     says_link(&l->says, c);
@@ -95,18 +95,19 @@ static int link_close(struct link *l)
 }
 
 /* The epoch that a report's number means: the last one of that number of which a readable port has brought a frame. Every
- * readable port has, and none is as far ahead of a report as the 256 epochs in which numbers go round. */
+ * readable port has, and none is as far ahead of a report as the 256 epochs (of VC-12 32) in which numbers go round. */
 static uint64_t epoch_of(const struct link *l, uint8_t number)
 {
     uint8_t ports[LINES_MOST][LEVELSPRUCE_PORT_BYTES];
+    const uint32_t round = l->choices.numbers;
     uint32_t port = 0;
     uint64_t latest;
 
     receiving_ports(&l->receiving, ports);
     while (port + 1 < l->choices.slots && !ports[port][LEVELSPRUCE_PORT_READABLE])
         port++;
-    latest = line_last(&l->lines[l->slot_of[port]]) / EPOCH_FRAMES;
-    return latest - (latest + l->choices.number + 256 - number) % 256;
+    latest = line_last(&l->lines[l->slot_of[port]]) / l->choices.frames;
+    return latest - (latest + l->choices.number + round - number) % round;
 }
 
 /* Fetches a report if one is due. */
@@ -120,13 +121,13 @@ static int fetch(struct link *l, uint64_t time)
     epoch = epoch_of(l, report.number);
     tally_report(&l->tally, epoch, &report, l->receiving.out, &l->sending, &l->client, &l->says);
     /* epochs are left out where receiving began anew */
-    l->next_fetch = time + EPOCH_FRAMES + (epoch == l->next_epoch ? 0 : l->choices.late);
+    l->next_fetch = time + l->choices.frames + (epoch == l->next_epoch ? 0 : l->choices.late);
     l->next_epoch = epoch + 1;
     return 1;
 }
 
 /*
- * Fetches what is due, at an even pace of one report in sixteen frames, as a client is clocked out. Each report fetched
+ * Fetches what is due, at an even pace of one report in an epoch's frames, as a client is clocked out. Each report fetched
  * moves the window on, so a host that fetches as soon as it can moves with the slowest port that it hears: then a slower
  * one that failed comes back behind the window and cannot join any more.
  */
@@ -151,9 +152,9 @@ static int has_failed(const struct choices *c, uint32_t port, uint64_t time)
 static uint8_t damage_now(const struct link *l, uint32_t slot)
 {
     uint64_t n = line_number(&l->lines[slot]);
-    uint8_t bits = damage(&l->choices.damages, slot, n);
+    uint8_t bits = damage(&l->choices, slot, n);
 
-    return bits != 0 && damage_is_of_number(n) && !receiving_has_begun(&l->receiving) ? 0 : bits;
+    return bits != 0 && damage_is_of_number(&l->choices, n) && !receiving_has_begun(&l->receiving) ? 0 : bits;
 }
 
 /* Hands a frame over: its payload, and its H4 byte behind it. Where it lies outside the window, a report makes room for it: 0 if
@@ -252,12 +253,13 @@ static void tell_progress(const struct link *l, uint64_t epoch)
 
 static void run(struct link *l)
 {
+    const uint32_t frames = l->choices.frames;
     uint64_t time, last;
 
-    for (time = 0; time % EPOCH_FRAMES != 0 || goes_on(l, time / EPOCH_FRAMES); time++) {
-        if (time % EPOCH_FRAMES == 0) {
-            start_epoch(l, time / EPOCH_FRAMES);
-            tell_progress(l, time / EPOCH_FRAMES);
+    for (time = 0; time % frames != 0 || goes_on(l, time / frames); time++) {
+        if (time % frames == 0) {
+            start_epoch(l, time / frames);
+            tell_progress(l, time / frames);
         }
         sending_frame(&l->sending, time, &l->client, l->lines);
         receive(l, time);

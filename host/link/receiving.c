@@ -80,8 +80,8 @@ static void start(struct receiving *r, const struct choices *c)
         hold_off[port] = c->hold_off;
         restore[port] = c->restore;
     }
-    must(levelspruce_receiver_start_as(c->fixed ? LEVELSPRUCE_KIND_FIXED : LEVELSPRUCE_KIND_H4, c->slots, c->payload, c->window, r->store_bytes,
-                                       hold_off, c->slots, restore, c->slots, r->state, r->rows),
+    must(levelspruce_receiver_start_as(c->kind, c->slots, c->payload, c->window, r->store_bytes, hold_off, c->slots, restore, c->slots, r->state,
+                                       r->rows),
          "levelspruce_receiver_start_as");
 }
 
@@ -92,7 +92,7 @@ int receiving_open(struct receiving *r, const struct choices *c)
     r->payload = c->payload;
     r->rows = LEVELSPRUCE_RECEIVER_ROWS(c->slots);
     r->store_bytes = LEVELSPRUCE_STORE_BYTES(c->slots, c->payload, c->window);
-    r->out_bytes = LEVELSPRUCE_OUTPUT_BYTES(c->slots, c->payload);
+    r->out_bytes = c->vc12 ? LEVELSPRUCE_OUTPUT_BYTES_VC12(c->slots) : LEVELSPRUCE_OUTPUT_BYTES(c->slots, c->payload);
     r->state = malloc(r->rows * sizeof r->state[0]);
     r->store = malloc(r->store_bytes);
     r->out = malloc(r->out_bytes);

@@ -50,6 +50,7 @@ static void says_events(const char *what, const struct events *events)
 
 void says_link(struct says *s, const struct choices *c)
 {
+    const uint8_t idle = c->vc12 ? LEVELSPRUCE_NUMBER_IDLE_VC12 : LEVELSPRUCE_NUMBER_IDLE;
     uint32_t slot;
     size_t i;
 
@@ -61,8 +62,8 @@ void says_link(struct says *s, const struct choices *c)
     s->going[LEVELSPRUCE_BOARD_COUNT] = (uint8_t)c->slots;
     for (slot = 0; slot < LINES_MOST; slot++) {
         s->going[LEVELSPRUCE_BOARD_ROWS + 2 * slot] = LEVELSPRUCE_WORD_IDLE;
-        s->going[LEVELSPRUCE_BOARD_ROWS + 2 * slot + 1] = LEVELSPRUCE_NUMBER_IDLE;
-        s->ports[slot][LEVELSPRUCE_PORT_NUMBER] = LEVELSPRUCE_NUMBER_IDLE;
+        s->going[LEVELSPRUCE_BOARD_ROWS + 2 * slot + 1] = idle;
+        s->ports[slot][LEVELSPRUCE_PORT_NUMBER] = idle;
     }
     if (s->quiet)
         return;
@@ -70,6 +71,8 @@ void says_link(struct says *s, const struct choices *c)
     printf("link\tpayload\t%" PRIu32 "\n", c->payload);
     printf("link\twindow\t%" PRIu32 "\n", c->window);
     printf("link\tnumber of epoch 0\t%" PRIu32 "\n", c->number);
+    if (c->vc12)
+        printf("link\tVC-12\n");
     if (c->fixed)
         printf("link\tFIXED\n");
     else
@@ -79,7 +82,7 @@ void says_link(struct says *s, const struct choices *c)
     if (c->at_once)
         printf("reports\tat once\n");
     else
-        printf("reports\tone in sixteen frames\tlate\t%" PRIu32 "\n", c->late);
+        printf("reports\tone in %s frames\tlate\t%" PRIu32 "\n", c->vc12 ? "32" : "sixteen", c->late);
     for (slot = 0; slot < c->slots; slot++)
         printf("line\tslot\t%" PRIu32 "\tport\t%" PRIu32 "\tdelay\t%" PRIu32 "\tfirst frame\t%" PRIu32 "\n", slot, c->port[slot],
                c->delay[slot], c->first[slot]);

@@ -14,7 +14,7 @@ int sending_open(struct sending *s, const struct choices *c)
     if (s->frame == NULL || s->members == NULL)
         return -1;
     if (!c->fixed)
-        must(levelspruce_sender_start(c->slots, c->number, s->state, sizeof s->state), "levelspruce_sender_start");
+        must(levelspruce_sender_start_as(c->kind, c->slots, c->number, s->state, sizeof s->state), "levelspruce_sender_start_as");
     return 0;
 }
 
@@ -77,7 +77,7 @@ static void write_packets(struct sending *s)
     uint32_t slot;
 
     for (slot = 0; slot < s->choices->slots; slot++)
-        must(levelspruce_sender_packet(s->state, sizeof s->state, slot, s->packets[slot], LEVELSPRUCE_PACKET_BYTES), "levelspruce_sender_packet");
+        must(levelspruce_sender_packet(s->state, sizeof s->state, slot, s->packets[slot], s->choices->frames), "levelspruce_sender_packet");
 }
 
 /* An epoch of a group with LCAS; the board that goes out with it. */
@@ -127,7 +127,7 @@ void sending_start_epoch(struct sending *s, uint64_t epoch, const struct client 
     s->frame_bytes = (size_t)s->ranks[LEVELSPRUCE_RANKS_X] * s->choices->payload;
     carried->epoch = epoch;
     carried->from = client->sent;
-    carried->bytes = LEVELSPRUCE_EPOCH_FRAMES * s->frame_bytes;
+    carried->bytes = s->choices->frames * s->frame_bytes;
     says_start(says, epoch, s->ranks[LEVELSPRUCE_RANKS_X], carried->bytes, board);
 }
 
@@ -160,7 +160,7 @@ void sending_frame(struct sending *s, uint64_t n, struct client *client, struct 
 
         if (place != NULL) {
             write_payload(s, slot, place);
-            place[s->choices->payload] = s->packets[slot][n % LEVELSPRUCE_EPOCH_FRAMES];
+            place[s->choices->payload] = s->packets[slot][n % s->choices->frames];
         }
     }
 }

@@ -21,7 +21,7 @@ struct carried {
 struct sending {
     const struct choices *choices;
     uint8_t state[LEVELSPRUCE_SENDER_BYTES];
-    uint8_t packets[LINES_MOST][LEVELSPRUCE_PACKET_BYTES];
+    uint8_t packets[LINES_MOST][LEVELSPRUCE_PACKET_BYTES_VC12]; /* the longer of the two */
     uint8_t added[EVENTS_MOST], removed[EVENTS_MOST]; /* which commands are done */
     uint32_t gid; /* fifteen bits that go round */
     uint32_t waited; /* starts of epochs at which the wait stood open */

@@ -67,8 +67,7 @@ fn spares(rows: &mut [Row]) -> Vec<&mut u8> {
     let mut bytes = Vec::new();
     for (i, row) in rows.iter_mut().enumerate() {
         match (i, i % 5) {
-            (0, _) | (_, 2) => bytes.extend(&mut row[12..]),
-            (_, 1) => bytes.extend(&mut row[11..]),
+            (0, _) | (_, 1) | (_, 2) => bytes.extend(&mut row[12..]),
             _ => {}
         }
     }

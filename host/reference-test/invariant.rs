@@ -1,6 +1,6 @@
 //! What holds of every state that calls can reach.
 
-use reference::receiver::{after, first_tag, Port, Receiver, KIND_FIXED, NONE, STATE_FAIL, STATE_OK, TAGS};
+use reference::receiver::{Port, Receiver, KIND_FIXED, KIND_VC12, NONE, STATE_FAIL, STATE_OK};
 
 /// The first of these that does not hold.
 pub fn broken(r: &Receiver) -> Option<&'static str> {
@@ -16,6 +16,7 @@ pub fn broken(r: &Receiver) -> Option<&'static str> {
     ];
     for p in &r.ports {
         claims.extend(of_step(r.kind, p));
+        claims.extend(if r.kind == KIND_VC12 { of_bits(p) } else { of_nibbles(p) });
         claims.extend(of_window(r, p));
     }
     claims.into_iter().find(|(_, holds)| !holds).map(|(name, _)| name)
@@ -37,29 +38,53 @@ fn runs_to(p: &Port) -> u16 {
 
 fn of_step(kind: u32, p: &Port) -> Vec<(&'static str, bool)> {
     let (count, next) = (p.count, usize::from(p.next));
+    let clock = p.clock();
     vec![
-        ("count and tag are in range", count <= 32 && next < TAGS),
+        ("count and tag are in range", count <= clock.step && next < clock.tags),
         ("who joined is in step", !(p.joined.is_set() || p.since.is_set()) || p.in_step()),
         ("who failed has no count", !p.failed.is_set() || count == 0),
         ("who failed or counts had a frame", !(p.failed.is_set() || count > 0) || p.had.is_set()),
         ("no count, no tag", count > 0 || next == 0),
-        ("after one frame the low nibble is open", count != 1 || next % 256 == 1),
-        ("three breaks at most stand, and one odd packet", p.breaks < 4 && p.odd.0 < 2),
         ("breaks and odd packets are of who is in step", p.in_step() || p.breaks == 0 && !p.odd.is_set()),
-        ("the count started at MFI1 0", count == 0 || count >= 32 || next % 16 == usize::from(count) % 16),
+        ("the count started at MFI1 0, or with a start", count == 0 || p.in_step() || next % clock.frames == usize::from(count) % clock.frames),
         ("times are in range, and one of them runs at most", p.hold_off <= 5000 && p.restore <= 5000 && p.run <= runs_to(p)),
         ("words are known", if kind == KIND_FIXED { [0, NONE].contains(&p.word) } else { [1, 2, 3, 5, 15, NONE].contains(&p.word) }),
+    ]
+}
+
+/// Of H4 and FIXED.
+fn of_nibbles(p: &Port) -> Vec<(&'static str, bool)> {
+    vec![
+        ("after one frame the low nibble is open", p.count != 1 || p.next % 256 == 1),
+        ("three breaks at most stand, and one odd packet", p.breaks < 4 && p.odd.0 < 2),
+        ("no bits of a count", p.bits == 0),
+    ]
+}
+
+/// Of VC-12: what the bits of the latest packet's count say, in the midst of them and behind them.
+fn of_bits(p: &Port) -> Vec<(&'static str, bool)> {
+    let (count, place) = (p.count, p.next % 32);
+    let whole = place == 0 || place > 4;
+    vec![
+        ("neither breaks nor odd packets", p.breaks == 0 && !p.odd.is_set()),
+        ("the bits make an epoch, and where neither a run is nor the latest frame came flagged they are 0",
+            p.bits < 32 && (count > 0 || p.failed.is_set() || p.bits == 0)),
+        ("before the fifth bit the next tag is the count of frames", count == 0 || count > 4 || p.next == u16::from(count)),
+        ("so many bits as have come", count == 0 || whole || p.bits < 1 << place),
+        ("behind the fifth they are the packet's epoch", count == 0 || !whole || p.bits == p.clock().epoch_of(p.latest_tag())),
     ]
 }
 
 fn of_window(r: &Receiver, p: &Port) -> Vec<(&'static str, bool)> {
     let (joined, since) = (p.joined.is_set(), p.since.is_set());
     let later = usize::from(p.later);
-    let base = first_tag(r.oldest);
-    let off = after(p.next_tag(), base);
+    let clock = r.clock();
+    let frames = clock.frames;
+    let base = clock.first_tag(r.oldest);
+    let off = clock.after(p.next_tag(), base);
     // the marks from the i-th on, the first lowest
     let marks_from = |i: usize| p.marks.checked_shr(i as u32).unwrap_or(0);
-    let brought = (off / 16).saturating_sub(later) as u32;
+    let brought = (off / frames).saturating_sub(later) as u32;
     let so_many = 1u128.checked_shl(brought).map_or(u128::MAX, |bit| bit - 1);
     vec![
         (
@@ -68,17 +93,17 @@ fn of_window(r: &Receiver, p: &Port) -> Vec<(&'static str, bool)> {
         ),
         (
             "who joined is in the window or right after it",
-            !joined || off <= r.window && 16 * later < r.window && (later == 0 || 16 * later < off),
+            !joined || off <= r.window && frames * later < r.window && (later == 0 || frames * later < off),
         ),
         (
             "from where it joined a port has marks up to where it is",
             !joined || marks_from(later) == so_many,
         ),
-        ("marks are of the window", marks_from(r.window / 16) == 0),
+        ("marks are of the window", marks_from(r.window / frames) == 0),
         ("who has not joined has joined nowhere later", joined || later == 0),
         (
             "who has not joined since the beginning is right before the window",
-            !since || joined || !r.gathered.is_set() && after(base, p.next_tag()) < r.window && p.marks == 0,
+            !since || joined || !r.gathered.is_set() && clock.after(base, p.next_tag()) < r.window && p.marks == 0,
         ),
         ("who was there at the beginning joins at the oldest", !since || later == 0),
     ]
@@ -89,7 +114,8 @@ pub fn stored(r: &Receiver, p: &Port) -> Vec<usize> {
     if !r.begun.is_set() {
         return Vec::new();
     }
-    let off = after(p.next_tag(), first_tag(r.oldest));
-    let from = 16 * usize::from(p.later).max(off / 16);
-    (0..r.window).filter(|o| p.marks >> (o / 16) & 1 == 1 || p.joined.is_set() && (from..off).contains(o)).collect()
+    let (clock, frames) = (r.clock(), r.clock().frames);
+    let off = clock.after(p.next_tag(), clock.first_tag(r.oldest));
+    let from = frames * usize::from(p.later).max(off / frames);
+    (0..r.window).filter(|o| p.marks >> (o / frames) & 1 == 1 || p.joined.is_set() && (from..off).contains(o)).collect()
 }

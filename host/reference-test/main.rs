@@ -1,5 +1,5 @@
-//! Checks the reference's receiver by itself: 01's limits, links from the reference's sender, and long histories of
-//! unruly hosts; and its mending of recordings. Every run makes the same ones.
+//! Checks the reference by itself: 01's limits, links from the reference's sender, VC-12's packets and groups, long histories of
+//! unruly hosts, and its mending of recordings. Every run makes the same ones.
 
 #[path = "../differential/count.rs"]
 #[allow(dead_code)] // not all of it is used here
@@ -14,6 +14,8 @@ mod link;
 mod mending;
 mod source;
 mod steps;
+mod vc12;
+mod vc12_groups;
 mod waiting;
 
 #[path = "../differential/path.rs"]
@@ -30,6 +32,8 @@ fn main() {
     link::check(&mut count);
     fixed::check(&mut count);
     adds::check(&mut count);
+    vc12::check(&mut count);
+    vc12_groups::check(&mut count);
     mending::check(&mut count);
     histories::check(&mut count);
     std::process::exit(count.tally());

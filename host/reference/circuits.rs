@@ -1,6 +1,7 @@
 //! Two circuits on one card (02, 2026-06): one list of who owns each slot, and a sender for each of the two groups.
 //! Written from the request, its readings and the header.
 
+use crate::receiver::KIND_H4;
 use crate::sender::Sender;
 
 pub const GROUPS: u32 = 2;
@@ -20,7 +21,12 @@ impl Card {
     /// A card of so many slots that nobody owns, or the answer that refuses its count. To refuse a first epoch above 255
     /// is left to the caller, who has to look at lengths before that.
     pub fn start(count: u32, first_epochs: [u32; 2]) -> Result<Card, u8> {
-        let groups = [Sender::start(count, first_epochs[0])?, Sender::start(count, first_epochs[1])?];
+        Card::start_as(KIND_H4, count, first_epochs)
+    }
+
+    /// The same with groups of a kind (request 2026-01).
+    pub fn start_as(kind: u32, count: u32, first_epochs: [u32; 2]) -> Result<Card, u8> {
+        let groups = [Sender::start_as(kind, count, first_epochs[0])?, Sender::start_as(kind, count, first_epochs[1])?];
         Ok(Card { owners: vec![None; count as usize], groups })
     }
 

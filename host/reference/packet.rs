@@ -1,4 +1,4 @@
-//! The H4 control packet, and that of a fixed group (request 2026-12).
+//! The H4 control packet, that of a fixed group (request 2026-12), and that of VC-12 (request 2026-01).
 
 pub const PACKET_BYTES: usize = 16;
 pub const FIELDS_BYTES: usize = 10;
@@ -175,5 +175,70 @@ pub fn read_fixed(h4: &[u8], fields: &mut [u8]) -> u8 {
     fields.fill(0);
     fields[0] = nibble(0) * 16 + nibble(1);
     fields[5] = nibble(14) * 16 + nibble(15);
+    DONE
+}
+
+/// The frames of a VC-12 packet, one bit each; a frame's byte is its bit, and 2 more where the packet starts.
+pub const VC12_BITS: usize = 32;
+pub const VC12_START: u8 = 2;
+
+/// "5 multiframe count, 6 SQ, 4 CTRL, GID, 4 reserved, RS-Ack, 8 MST", and how many bits each has.
+fn vc12_parts(f: &Fields) -> [(u32, u32); 7] {
+    [(f.epoch, 5), (f.sq, 6), (f.word, 4), (f.gid, 1), (f.reserved, 4), (f.rs_ack, 1), (f.mst, 8)]
+}
+
+/// "3 CRC by x^3+x+1 over the first 29": long division of the polynomial that they make, times x^3.
+fn vc12_crc(bits: &[u8]) -> [u8; 3] {
+    let mut dividend: Vec<u8> = bits[..29].to_vec();
+    dividend.extend([0; 3]);
+    for place in 0..29 {
+        if dividend[place] == 1 {
+            for (offset, coefficient) in [1, 0, 1, 1].into_iter().enumerate() {
+                dividend[place + offset] ^= coefficient;
+            }
+        }
+    }
+    [dividend[29], dividend[30], dividend[31]]
+}
+
+pub fn write_vc12(f: &Fields, frames: &mut [u8]) -> u8 {
+    if frames.len() != VC12_BITS {
+        return LENGTH_WRONG;
+    }
+    let too_large = vc12_parts(f).into_iter().any(|(value, width)| value >= 1 << width);
+    if too_large || !WORDS.contains(&f.word) {
+        return FIELD_REFUSED;
+    }
+    let mut bits = Vec::new();
+    for (value, width) in vc12_parts(f) {
+        bits.extend((0..width).rev().map(|bit| (value >> bit & 1) as u8));
+    }
+    let check = vc12_crc(&bits);
+    bits.extend(check);
+    bits[0] += VC12_START;
+    frames.copy_from_slice(&bits);
+    DONE
+}
+
+/// Of each byte the lowest bit alone is looked at. Puts the fields as `read` does.
+pub fn read_vc12(frames: &[u8], fields: &mut [u8]) -> u8 {
+    if frames.len() != VC12_BITS || fields.len() != FIELDS_BYTES {
+        return LENGTH_WRONG;
+    }
+    let bits: Vec<u8> = frames.iter().map(|byte| byte & 1).collect();
+    if bits[29..] != vc12_crc(&bits) {
+        return CRC_DIFFERS;
+    }
+    let mut left = bits.iter();
+    let mut part = |width: usize| left.by_ref().take(width).fold(0, |value, bit| value << 1 | u32::from(*bit));
+    let (epoch, sq, word, gid, reserved, rs_ack, mst) = (part(5), part(6), part(4), part(1), part(4), part(1), part(8));
+    if word == FIXED {
+        return WORD_FIXED;
+    }
+    if !WORDS.contains(&word) {
+        return WORD_UNASSIGNED;
+    }
+    fields[..6].copy_from_slice(&[epoch, word, gid, mst, rs_ack, sq].map(|value| value as u8));
+    fields[6..].copy_from_slice(&reserved.to_be_bytes());
     DONE
 }

@@ -2,6 +2,7 @@
 
 pub mod fast;
 pub mod rows;
+mod vc12;
 
 use crate::packet;
 use crate::payload::PAYLOAD_MOST;
@@ -10,12 +11,9 @@ pub const PORTS_MOST: u32 = 64;
 pub const WINDOW_LEAST: u32 = 16;
 pub const WINDOW_MOST: u32 = 2048;
 
-/// Tags and epochs go round.
+/// H4's tags, the frames of its epochs, and how many counted rightly in a row bring a port into step.
 pub const TAGS: usize = 4096;
-pub const EPOCHS: usize = 256;
-/// The frames of an epoch.
 pub const EPOCH_FRAMES: usize = 16;
-/// The frames counted rightly in a row that bring a port into step.
 pub const STEP_FRAMES: u8 = 32;
 /// "Step is lost at the fourth frame in a row that breaks the count"
 pub const BREAKS_LOSE: u8 = 4;
@@ -27,10 +25,13 @@ pub const STATE_IDLE: u8 = 0;
 pub const STATE_FAIL: u8 = 1;
 pub const STATE_OK: u8 = 2;
 
-/// The kinds of packets: LCAS, and those of a group that is FIXED (request 2026-12), which have the same clock.
+/// The kinds of packets: LCAS in H4, LCAS in K4 (request 2026-01), and those of a group that is FIXED (request 2026-12).
 pub const KIND_H4: u32 = 0;
+pub const KIND_VC12: u32 = 1;
 pub const KIND_FIXED: u32 = 2;
-pub const KINDS: [u32; 2] = [KIND_H4, KIND_FIXED];
+pub const KINDS: [u32; 3] = [KIND_H4, KIND_VC12, KIND_FIXED];
+/// "P is 136" for VC-12.
+pub const PAYLOAD_VC12: u32 = 136;
 /// The most reports for which a port waits.
 pub const TIMER_MOST: u32 = 5000;
 
@@ -67,40 +68,95 @@ impl From<bool> for Flag {
     }
 }
 
-/// How far a tag lies after another, on the circle.
+/// How frames of a kind are counted. H4 and FIXED have one clock, VC-12 another.
+#[derive(Clone, Copy, PartialEq, Eq, Debug)]
+pub struct Clock {
+    /// "An epoch is 32 frames, also wherever 01 says sixteen"
+    pub frames: usize,
+    /// Tags go round, and so do epochs: "tags run 0 to 1,023".
+    pub tags: usize,
+    /// How many frames of an epoch come before its multiframe's first: H4's starts with MFI1 8 of the multiframe before.
+    pub lead: usize,
+    /// "W is 32 to 512"
+    pub window: (usize, usize),
+    /// The frames in a row that bring a port into step: of VC-12 "two whole packets".
+    pub step: u8,
+    /// After how many epochs MST speaks of the same numbers again: of VC-12 "8 x (count mod 8) onward".
+    pub mst_epochs: u8,
+    /// The number that IDLE shows: "idle SQ is 63".
+    pub idle: u8,
+}
+
+const H4_CLOCK: Clock =
+    Clock { frames: EPOCH_FRAMES, tags: TAGS, lead: 8, window: (16, 2048), step: STEP_FRAMES, mst_epochs: 32, idle: 255 };
+const VC12_CLOCK: Clock = Clock { frames: 32, tags: 1024, lead: 0, window: (32, 512), step: 64, mst_epochs: 8, idle: 63 };
+
+pub fn clock(kind: u32) -> Clock {
+    if kind == KIND_VC12 { VC12_CLOCK } else { H4_CLOCK }
+}
+
+impl Clock {
+    /// How far a tag lies after another, on the circle.
+    pub fn after(&self, tag: usize, other: usize) -> usize {
+        (tag + self.tags - other) % self.tags
+    }
+
+    /// The tag of an epoch's first frame.
+    pub fn first_tag(&self, epoch: u8) -> usize {
+        (usize::from(epoch) * self.frames + self.tags - self.lead) % self.tags
+    }
+
+    /// The place of a tag's frame in its epoch.
+    pub fn place(&self, tag: usize) -> usize {
+        (tag + self.lead) % self.frames
+    }
+
+    pub fn epoch_of(&self, tag: usize) -> u8 {
+        ((tag + self.lead) % self.tags / self.frames) as u8
+    }
+
+    pub fn next_epoch(&self, epoch: u8) -> u8 {
+        ((usize::from(epoch) + 1) % (self.tags / self.frames)) as u8
+    }
+}
+
+/// The same of H4: how far a tag lies after another, an epoch's first tag, and a tag's epoch.
 pub fn after(tag: usize, other: usize) -> usize {
-    (tag + TAGS - other) % TAGS
+    H4_CLOCK.after(tag, other)
 }
 
-/// The tag of an epoch's first frame, which has MFI1 8 of the multiframe before.
 pub fn first_tag(epoch: u8) -> usize {
-    (usize::from(epoch) * EPOCH_FRAMES + TAGS - 8) % TAGS
+    H4_CLOCK.first_tag(epoch)
 }
 
-/// The epoch of a tag.
 pub fn epoch_of(tag: usize) -> u8 {
-    ((tag + 8) % TAGS / EPOCH_FRAMES) as u8
+    H4_CLOCK.epoch_of(tag)
 }
 
 #[derive(Clone, PartialEq, Eq, Debug)]
 pub struct Port {
+    /// That of its group.
+    pub kind: u32,
     /// Had a frame, and the latest came flagged.
     pub had: Flag,
     pub failed: Flag,
-    /// Frames counted rightly in a row, up to 32, and the tag that the next one should have. In step it is the receiver's own
-    /// count, whatever frames carry.
+    /// Frames counted rightly in a row, up to 32 (of VC-12 64), and the tag that the next one should have. In step of H4 it is the
+    /// receiver's own count, whatever frames carry.
     pub count: u8,
     pub next: u16,
-    /// In step: the frames that broke the count in a row, and whether the last packet was odd.
+    /// In step of H4: the frames that broke the count in a row, and whether the last packet was odd.
     pub breaks: u8,
     pub odd: Flag,
+    /// Of VC-12: what the bits of the latest packet's count say that have come. H4 leaves it, and a flagged frame does in every kind.
+    pub bits: u8,
     /// Joined; in step ever since the beginning; the epochs from the oldest to the one joined at.
     pub joined: Flag,
     pub since: Flag,
     pub later: u8,
-    /// Mark i: the sixteen frames of the i-th epoch, counted from the oldest, stand in the store.
+    /// Mark i: all frames of the i-th epoch, counted from the oldest, stand in the store.
     pub marks: u128,
-    /// The packet now arriving; the packet that rules, and whether it arrived whole. Nibbles in the order of sending.
+    /// The packet now arriving; the packet that rules, and whether it arrived whole. Nibbles in the order of sending, of VC-12 two
+    /// frames' bits in each, the earlier one's higher.
     pub gathering: [u8; 16],
     pub ruling: [u8; 16],
     pub whole: Flag,
@@ -122,14 +178,17 @@ pub struct Port {
 }
 
 impl Port {
-    fn new() -> Port {
+    fn new(kind: u32) -> Port {
+        let idle = clock(kind).idle;
         Port {
+            kind,
             had: Flag(0),
             failed: Flag(0),
             count: 0,
             next: 0,
             breaks: 0,
             odd: Flag(0),
+            bits: 0,
             joined: Flag(0),
             since: Flag(0),
             later: 0,
@@ -138,28 +197,32 @@ impl Port {
             ruling: [0; 16],
             whole: Flag(0),
             word: NONE,
-            number: NONE,
+            number: idle,
             state: STATE_IDLE,
-            state_number: NONE,
+            state_number: idle,
             hold_off: 0,
             restore: 0,
             run: 0,
             told_word: NONE,
-            told_number: NONE,
+            told_number: idle,
         }
     }
 
+    pub fn clock(&self) -> Clock {
+        clock(self.kind)
+    }
+
     pub fn in_step(&self) -> bool {
-        self.count >= STEP_FRAMES
+        self.count >= self.clock().step
     }
 
     pub fn next_tag(&self) -> usize {
-        usize::from(self.next) % TAGS
+        usize::from(self.next) % self.clock().tags
     }
 
     /// The tag of the frame counted last.
     pub fn latest_tag(&self) -> usize {
-        after(self.next_tag(), 1)
+        self.clock().after(self.next_tag(), 1)
     }
 
     /// Step is lost, and with it that the port has joined. What it stored stays brought.
@@ -195,13 +258,15 @@ impl Port {
         mfi1 == next % 16 && mfi2_right
     }
 
-    /// The step record over a frame that is not flagged, of a group of a kind.
-    fn count(&mut self, h4: u8, kind: u32) {
+    /// The step record over a frame that is not flagged.
+    fn count(&mut self, h4: u8) {
         let (nibble, mfi1) = (usize::from(h4 / 16), usize::from(h4 % 16));
         self.had = Flag(1);
         self.failed = Flag(0);
-        if self.in_step() {
-            self.stay(mfi1, nibble, kind);
+        if self.kind == KIND_VC12 {
+            self.count_bit(h4);
+        } else if self.in_step() {
+            self.stay(mfi1, nibble);
         } else {
             self.gain(mfi1, nibble);
         }
@@ -222,10 +287,10 @@ impl Port {
     }
 
     /// "The receiver goes on counting by itself": a frame in step has the tag to come.
-    fn stay(&mut self, mfi1: usize, nibble: usize, kind: u32) {
+    fn stay(&mut self, mfi1: usize, nibble: usize) {
         let breaks = if self.is_right(mfi1, nibble) { 0 } else { self.breaks.saturating_add(1) };
         let ends = self.next_tag() % 16 == 7;
-        let odd = if ends { Flag::from(self.ends_odd(nibble, kind)) } else { self.odd };
+        let odd = if ends { Flag::from(self.ends_odd(nibble)) } else { self.odd };
         if breaks >= BREAKS_LOSE || ends && odd.is_set() && self.odd.is_set() {
             self.start_over(mfi1, nibble);
         } else {
@@ -237,12 +302,12 @@ impl Port {
 
     /// Whether the packet that ends with this nibble has a right CRC and the MFI2 of another epoch than the own count's. Of a FIXED
     /// group "no CRC is checked", so none is wrong.
-    fn ends_odd(&self, nibble: usize, kind: u32) -> bool {
+    fn ends_odd(&self, nibble: usize) -> bool {
         let mut packet = self.gathering.map(|n| n % 16);
         packet[15] = nibble as u8;
         let check = usize::from(packet[14]) * 16 + usize::from(packet[15]);
         let mfi2 = usize::from(packet[8]) * 16 + usize::from(packet[9]);
-        (kind == KIND_FIXED || check == usize::from(packet::crc(&packet))) && mfi2 != self.next_tag() / 16
+        (self.kind == KIND_FIXED || check == usize::from(packet::crc(&packet))) && mfi2 != self.next_tag() / 16
     }
 
     /// The frame has the tag to come, and its nibble goes to that tag's place.
@@ -275,7 +340,7 @@ impl Port {
         self.marks &= (1 << i) - 1;
     }
 
-    /// Brought the sixteen frames of the oldest epoch.
+    /// Brought all frames of the oldest epoch.
     fn brought(&self) -> bool {
         self.marks & 1 == 1
     }
@@ -327,8 +392,11 @@ fn is_active(word: u8) -> bool {
 }
 
 /// Word, GID and number of the packet of an epoch by the own count, if it is read with 0. "A packet whose carried MFI2 differs
-/// from that count is treated as a CRC difference", of either kind.
+/// from that count is treated as a CRC difference", which "is for H4 alone", LCAS and FIXED.
 fn read(kind: u32, nibbles: &[u8; 16], epoch: u8) -> Option<(u8, u8, u8)> {
+    if kind == KIND_VC12 {
+        return vc12::read(nibbles);
+    }
     let h4 = nibbles.map(|n| n % 16 * 16);
     let mut fields = [0u8; packet::FIELDS_BYTES];
     let answer = if kind == KIND_FIXED { packet::read_fixed(&h4, &mut fields) } else { packet::read(&h4, &mut fields) };
@@ -388,8 +456,16 @@ impl Receiver {
         Receiver::default()
     }
 
+    /// Whether a group of H4 or FIXED can be so large.
     pub fn fits(ports: u32, payload: u32, window: u32) -> bool {
-        (1..=PORTS_MOST).contains(&ports) && (1..=PAYLOAD_MOST).contains(&payload) && (WINDOW_LEAST..=WINDOW_MOST).contains(&window)
+        Receiver::fits_as(KIND_H4, ports, payload, window)
+    }
+
+    /// The same of any kind. Of VC-12 no start takes another P than 136, but rows may have one.
+    pub fn fits_as(kind: u32, ports: u32, payload: u32, window: u32) -> bool {
+        let (least, most) = clock(kind).window;
+        let in_window = (least..=most).contains(&(window as usize));
+        KINDS.contains(&kind) && (1..=PORTS_MOST).contains(&ports) && (1..=PAYLOAD_MOST).contains(&payload) && in_window
     }
 
     pub fn start(&mut self, ports: u32, payload: u32, window: u32, store_length: usize) -> u8 {
@@ -401,12 +477,13 @@ impl Receiver {
         &mut self, kind: u32, ports: u32, payload: u32, window: u32, store_length: usize, hold_off: &[u32], restore: &[u32],
     ) -> u8 {
         let times_fit = hold_off.iter().chain(restore).all(|time| *time <= TIMER_MOST);
-        if !KINDS.contains(&kind) || !Receiver::fits(ports, payload, window) || !times_fit {
+        let payload_fits = kind != KIND_VC12 || payload == PAYLOAD_VC12;
+        if !Receiver::fits_as(kind, ports, payload, window) || !payload_fits || !times_fit {
             *self = Receiver { kind, ..Receiver::empty() };
             return 4;
         }
         let time = |list: &[u32], port: usize| list.get(port).map_or(0, |time| *time as u16);
-        let port = |i: usize| Port { hold_off: time(hold_off, i), restore: time(restore, i), ..Port::new() };
+        let port = |i: usize| Port { hold_off: time(hold_off, i), restore: time(restore, i), ..Port::new(kind) };
         let started = Receiver {
             kind,
             ports: (0..ports as usize).map(port).collect(),
@@ -428,7 +505,11 @@ impl Receiver {
 
     /// The output holds at least this.
     pub fn output_least(&self) -> usize {
-        self.ports.len() * EPOCH_FRAMES * self.payload
+        self.ports.len() * self.clock().frames * self.payload
+    }
+
+    pub fn clock(&self) -> Clock {
+        clock(self.kind)
     }
 
     /// Where a port's frame so far after the window's first stands in the store.
@@ -469,25 +550,26 @@ impl Receiver {
             advanced.flag();
             10
         } else {
-            advanced.count(h4, self.kind);
+            advanced.count(h4);
             if advanced.in_step() { 0 } else { 12 }
         };
         if answer == 0 && self.begun.is_set() {
+            let clock = self.clock();
             let tag = advanced.latest_tag();
-            let distance = after(tag, first_tag(self.oldest));
+            let distance = clock.after(tag, clock.first_tag(self.oldest));
             let in_window = distance < self.window;
             if advanced.joined.is_set() && !in_window {
                 return 11;
             }
-            if !advanced.joined.is_set() && in_window && tag % EPOCH_FRAMES == 8 {
-                advanced.join(distance / EPOCH_FRAMES);
+            if !advanced.joined.is_set() && in_window && clock.place(tag) == 0 {
+                advanced.join(distance / clock.frames);
             }
             if advanced.joined.is_set() {
                 let at = self.place(port, distance);
                 store[at..at + self.payload].copy_from_slice(payload);
                 store[at + self.payload] = h4;
-                if distance % EPOCH_FRAMES == EPOCH_FRAMES - 1 {
-                    advanced.marks |= 1 << (distance / EPOCH_FRAMES);
+                if distance % clock.frames == clock.frames - 1 {
+                    advanced.marks |= 1 << (distance / clock.frames);
                 }
             }
         }
@@ -520,14 +602,15 @@ impl Receiver {
         self.oldest = 0;
     }
 
-    /// The foremost of the latest tags, if receiving is to begin: the one that all others lie within W-16 behind.
+    /// The foremost of the latest tags, if receiving is to begin: the one that all others lie within W-16 (of VC-12 W-32)
+    /// behind.
     pub fn foremost_to_begin(&self) -> Option<usize> {
         if !self.ports.iter().all(|p| p.had.is_set() && (p.in_step() || p.failed.is_set())) {
             return None;
         }
         let tags: Vec<usize> = self.ports.iter().filter(|p| p.in_step()).map(Port::latest_tag).collect();
-        let behind = self.window - WINDOW_LEAST as usize;
-        tags.iter().copied().find(|foremost| tags.iter().all(|t| after(*foremost, *t) <= behind))
+        let behind = self.window - self.clock().frames;
+        tags.iter().copied().find(|foremost| tags.iter().all(|t| self.clock().after(*foremost, *t) <= behind))
     }
 
     fn begin(&mut self, foremost: usize) {
@@ -538,7 +621,7 @@ impl Receiver {
         self.begun = Flag(1);
         self.gathered = Flag(0);
         // an epoch that starts at the foremost tag has started
-        self.oldest = epoch_of(foremost).wrapping_add(1);
+        self.oldest = self.clock().next_epoch(self.clock().epoch_of(foremost));
     }
 
     /// The packets of the oldest epoch come to rule, read back from the store where they arrived whole.
@@ -547,8 +630,11 @@ impl Receiver {
             let brought = self.ports[i].brought();
             self.ports[i].whole = Flag::from(brought);
             if brought {
-                let nibble = |k: usize| store[self.place(i, k) + self.payload] / 16;
-                let ruling: [u8; 16] = std::array::from_fn(nibble);
+                let frame = |k: usize| store[self.place(i, k) + self.payload];
+                let ruling: [u8; 16] = match self.kind {
+                    KIND_VC12 => std::array::from_fn(|k| frame(2 * k) % 2 * 2 + frame(2 * k + 1) % 2),
+                    _ => std::array::from_fn(|k| frame(k) / 16),
+                };
                 let p = &mut self.ports[i];
                 p.ruling = ruling;
                 if let Some((word, _, number)) = read(self.kind, &ruling, self.oldest) {
@@ -566,8 +652,8 @@ impl Receiver {
             p.marks >>= 1;
             p.later = p.later.saturating_sub(1);
         }
-        self.oldest = self.oldest.wrapping_add(1);
-        self.origin = ((usize::from(self.origin) + EPOCH_FRAMES) % self.window) as u16;
+        self.oldest = self.clock().next_epoch(self.oldest);
+        self.origin = ((usize::from(self.origin) + self.clock().frames) % self.window) as u16;
     }
 
     pub fn fetch(&mut self, store: &[u8], output: &mut [u8]) -> (u8, Report) {
@@ -579,12 +665,13 @@ impl Receiver {
         }
         let (mark, ranked) = self.judge();
         let x = ranked.len();
-        for k in 0..EPOCH_FRAMES {
+        let frames = self.clock().frames;
+        for k in 0..frames {
             for p in 0..x * self.payload {
                 output[k * x * self.payload + p] = store[self.place(ranked[p % x], k) + p / x];
             }
         }
-        let report = Report { mark, epoch: self.oldest, x, bytes: EPOCH_FRAMES * x * self.payload };
+        let report = Report { mark, epoch: self.oldest, x, bytes: frames * x * self.payload };
         self.take_packets(store);
         self.work_out_states();
         self.pass();
@@ -723,7 +810,7 @@ impl Receiver {
     pub fn ports(&self) -> Vec<Shown> {
         let shown = |p: &Port| Shown {
             state: p.state,
-            number: if p.state == STATE_IDLE { NONE } else { p.state_number },
+            number: if p.state == STATE_IDLE { self.clock().idle } else { p.state_number },
             in_step: p.in_step(),
             joined: p.joined.is_set(),
             readable: self.is_readable(p),
@@ -741,7 +828,7 @@ impl Receiver {
             return (0, 0);
         }
         let is_ok = |q: u8| self.ports.iter().any(|p| p.state == STATE_OK && p.state_number == q);
-        let mst = (0..8).filter(|bit| !is_ok(8 * (epoch % 32) + bit)).map(|bit| 0x80 >> bit).sum();
+        let mst = (0..8).filter(|bit| !is_ok(8 * (epoch % self.clock().mst_epochs) + bit)).map(|bit| 0x80 >> bit).sum();
         (mst, u8::from(self.rs_ack.is_set()))
     }
 }

@@ -5,11 +5,9 @@
 
 use crate::packet::{self, Fields, ADD, DNU, DONE, EOS, FIELD_REFUSED, IDLE, LENGTH_WRONG, NORM};
 use crate::payload::PAYLOAD_MOST;
+use crate::receiver::{clock, KIND_H4, KIND_VC12, PAYLOAD_VC12};
 
 pub const SLOTS_MOST: u32 = 64;
-/// The number that an IDLE slot shows.
-pub const NUMBER_IDLE: u32 = 255;
-
 const NO_SUCH_SLOT: u8 = 1;
 const NOT_NOW: u8 = 2;
 const WAIT_OPEN: u8 = 3;
@@ -32,6 +30,8 @@ struct Member {
 /// The table. By default it is that of an empty group.
 #[derive(Clone, Debug, Default)]
 pub struct Table {
+    /// H4 or VC-12 (request 2026-01).
+    kind: u32,
     count: u32,
     /// The slots that are not IDLE. The first has number 0, the next one 1. Those in ADD stand last.
     members: Vec<Member>,
@@ -42,9 +42,9 @@ pub struct Table {
 }
 
 /// What an MST says of a number, if it speaks of it: true for OK. Its first bit is the highest, and speaks of the lowest
-/// number.
-fn said(epoch: u32, mst: u32, number: usize) -> Option<bool> {
-    let first = 8 * (epoch as usize % 32);
+/// number. Of H4 that is 8 x (epoch mod 32), of VC-12 "8 x (count mod 8)".
+fn said(kind: u32, epoch: u32, mst: u32, number: usize) -> Option<bool> {
+    let first = 8 * (epoch as usize % usize::from(clock(kind).mst_epochs));
     let place = number.checked_sub(first).filter(|place| *place < 8)?;
     Some(mst & (0x80 >> place) == 0)
 }
@@ -52,10 +52,14 @@ fn said(epoch: u32, mst: u32, number: usize) -> Option<bool> {
 impl Table {
     /// A group of so many slots, all IDLE, or the answer that refuses it.
     pub fn start(count: u32) -> Result<Table, u8> {
-        if count == 0 || count > SLOTS_MOST {
+        Table::start_as(KIND_H4, count)
+    }
+
+    pub fn start_as(kind: u32, count: u32) -> Result<Table, u8> {
+        if count == 0 || count > SLOTS_MOST || ![KIND_H4, KIND_VC12].contains(&kind) {
             return Err(OUT_OF_RANGE);
         }
-        Ok(Table { count, ..Table::default() })
+        Ok(Table { kind, count, ..Table::default() })
     }
 
     /// How many slots there are.
@@ -144,7 +148,7 @@ impl Table {
         let (mut settled, mut added, mut left) = (Vec::new(), Vec::new(), Vec::new());
         for (number, member) in self.members.iter().enumerate() {
             let as_kind = |kind| Member { kind, ..*member };
-            match (member.kind, said(epoch, mst, number)) {
+            match (member.kind, said(self.kind, epoch, mst, number)) {
                 (Kind::Add, Some(true)) => added.push(as_kind(Kind::Active)),
                 (Kind::Add, _) => left.push(*member),
                 (Kind::Active, Some(false)) => settled.push(as_kind(Kind::Dnu)),
@@ -160,7 +164,8 @@ impl Table {
 
     /// What the table shows now. The last active member of the list has EOS.
     pub fn board(&self) -> Board {
-        let mut rows = vec![Row { word: IDLE, number: NUMBER_IDLE }; self.count as usize];
+        let idle = clock(self.kind).idle;
+        let mut rows = vec![Row { word: IDLE, number: idle.into() }; self.count as usize];
         let last_active = self.members.iter().rposition(|m| m.kind == Kind::Active);
         for (number, member) in self.members.iter().enumerate() {
             let word = match member.kind {
@@ -171,7 +176,7 @@ impl Table {
             };
             rows[member.slot as usize] = Row { word, number: number as u32 };
         }
-        Board { rows, wait: self.waits() }
+        Board { rows, idle, wait: self.waits() }
     }
 }
 
@@ -186,6 +191,8 @@ pub struct Row {
 #[derive(Clone, PartialEq, Debug)]
 pub struct Board {
     pub rows: Vec<Row>,
+    /// The number that IDLE shows: 255, of VC-12 "63".
+    pub idle: u8,
     pub wait: bool,
 }
 
@@ -205,7 +212,7 @@ impl Board {
             bytes.extend([row.word as u8, row.number as u8]);
         }
         for _ in self.rows.len()..SLOTS_MOST as usize {
-            bytes.extend([IDLE as u8, NUMBER_IDLE as u8]);
+            bytes.extend([IDLE as u8, self.idle]);
         }
         bytes
     }
@@ -233,13 +240,17 @@ pub struct Sender {
 }
 
 impl Sender {
-    /// A sender with no epoch started, or the answer that refuses its count. To refuse a first epoch above 255 is left
-    /// to the caller, who has to look at lengths before that.
+    /// A sender with no epoch started, or the answer that refuses its count. To refuse a first epoch above 255, of VC-12 above 31, is
+    /// left to the caller, who has to look at lengths before that.
     pub fn start(count: u32, first_epoch: u32) -> Result<Sender, u8> {
-        Ok(Sender::of(Table::start(count)?, first_epoch))
+        Sender::start_as(KIND_H4, count, first_epoch)
     }
 
-    /// The sender of an empty group.
+    pub fn start_as(kind: u32, count: u32, first_epoch: u32) -> Result<Sender, u8> {
+        Ok(Sender::of(Table::start_as(kind, count)?, first_epoch))
+    }
+
+    /// The sender of an empty group, which is one of H4 whatever kind was refused.
     pub fn empty() -> Sender {
         Sender::of(Table::default(), 0)
     }
@@ -255,7 +266,7 @@ impl Sender {
             return FIELD_REFUSED;
         }
         if self.lent.is_some() {
-            self.epoch = (self.epoch + 1) % 256;
+            self.epoch = clock(self.table.kind).next_epoch(self.epoch as u8).into();
         }
         self.lent = Some(Lent { gid, mst, rs_ack });
         self.ruling = std::mem::replace(&mut self.going, self.table.board());
@@ -272,14 +283,15 @@ impl Sender {
         if slot >= self.table.count {
             return NO_SUCH_SLOT;
         }
-        if h4.len() != packet::PACKET_BYTES {
+        if h4.len() != clock(self.table.kind).frames {
             return LENGTH_WRONG;
         }
         match self.lent {
             None => NOT_NOW,
             Some(Lent { gid, mst, rs_ack }) => {
                 let Row { word, number } = self.going.rows[slot as usize];
-                packet::write(&Fields { epoch: self.epoch, word, gid, mst, rs_ack, sq: number, reserved: 0 }, h4)
+                let fields = Fields { epoch: self.epoch, word, gid, mst, rs_ack, sq: number, reserved: 0 };
+                if self.table.kind == KIND_VC12 { packet::write_vc12(&fields, h4) } else { packet::write(&fields, h4) }
             }
         }
     }
@@ -289,7 +301,7 @@ impl Sender {
         if slot >= self.table.count {
             return NO_SUCH_SLOT;
         }
-        if p == 0 || p > PAYLOAD_MOST {
+        if p == 0 || p > PAYLOAD_MOST || self.table.kind == KIND_VC12 && p != PAYLOAD_VC12 {
             return OUT_OF_RANGE;
         }
         let ranked = self.ranked();

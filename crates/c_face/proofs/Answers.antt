@@ -8,14 +8,18 @@ use borrow.Author.Tests.{eq-eqb, ne-eqb, lt-ltb, ltb-true}
 use lib.Dec.{ltb}
 use lib.ListN.{length, drop, drop-of-length-le}
 use Rattle.ground.specs.Truth.{and-left, and-right, fails}
+use Rattle.packet.specs.Clock.{by-kind}
 use Rattle.packet.specs.declared.layout.Fields.{Fields}
 use Rattle.packet.specs.declared.reader.Reading.{Reading}
-use Rattle.packet.specs.Laws.Bounds.{bounds}
+use Rattle.packet.specs.declared.reader.Reading.the-variants.{Packet}
+use Rattle.packet.specs.Laws.Bounds.{bounds, vc12-bounds}
 use Rattle.packet.specs.Laws.Writing.{unfit-answer, unfit-bytes}
 use Rattle.packet.specs.Reading.{readAnswer, readingNumber}
-use Rattle.packet.specs.Writing.{fitting, writeAnswer, writeBytes, writingNumber}
+use Rattle.packet.specs.Sent.{sentAnswer, sentBytes, sentFits}
+use Rattle.packet.specs.Vc12.{readVc12Answer, writeVc12Answer, writeVc12Bytes}
+use Rattle.packet.specs.Writing.{writeAnswer, writeBytes, writingNumber}
 use Rattle.packet.specs.Fixed.{readFixedAnswer}
-use Rattle.c_face.specs.Packets.{areBytes, given, readAnswerC, readFieldsC, readFixedAnswerC, readFixedFieldsC, valuesIn, valuesOr, writeRefusal}
+use Rattle.c_face.specs.Packets.{areBytes, given, readAnswerC, readFieldsC, readFixedAnswerC, readFixedFieldsC, readVc12AnswerC, readVc12FieldsC, valuesIn, valuesOr, writeRefusal}
 
 module _ (epoch word gid mst ack sq : ℕ) where
   pub record Bytes : Type 0 where
@@ -59,37 +63,66 @@ module _ (epoch word gid mst ack sq : ℕ) where
       S : Bool
       S = ltb sq 256
 
-  -- where a field is no byte, the fields do not fit
-  pub unfit : (reserved : ℕ) → areBytes epoch word gid mst ack sq ≡ false → fitting (given epoch word gid mst ack sq reserved) ≡ false
-  unfit reserved e =
-      fails (fitting (given epoch word gid mst ack sq reserved))
-      (λ t. let b = bounds (given epoch word gid mst ack sq reserved) t in
-      false≢true (sym e ∙ rw (lt-ltb epoch 256 (omega arith), lt-ltb word 256 (omega arith), lt-ltb gid 256 (omega arith), lt-ltb mst 256 (omega arith), lt-ltb ack 256 (omega arith), lt-ltb sq 256 (omega arith)) refl))
+  -- where a field is no byte, the fields fit no packet
+  pub unfit : (kind reserved : ℕ) → areBytes epoch word gid mst ack sq ≡ false → sentFits kind (given epoch word gid mst ack sq reserved) ≡ false
+  unfolding sentFits
+  unfit kind reserved e =
+      fails (sentFits kind (given epoch word gid mst ack sq reserved))
+      (by-kind (λ (k : ℕ). sentFits k f ≡ true → ⊥) (λ t. let b = vc12-bounds f t in wide (omega arith) (omega arith) (omega arith) (omega arith) (omega arith) (omega arith))
+      (λ k clock t. let b = bounds f (rw clock at t) in wide (omega arith) (omega arith) (omega arith) (omega arith) (omega arith) (omega arith)) kind)
+    where
+      f : Fields
+      f = given epoch word gid mst ack sq reserved
 
-  pub write-unfit : (reserved : ℕ) (s : List ℕ) (r : ℕ) → areBytes epoch word gid mst ack sq ≡ false → r ≡ writeRefusal (length s)
-      → (r ≡ writingNumber (writeAnswer (given epoch word gid mst ack sq reserved) s)) × (s ≡ writeBytes (given epoch word gid mst ack sq reserved) s)
-  write-unfit reserved s r e h =
-      (h ∙ sym (unfit-answer 0 (given epoch word gid mst ack sq reserved) s (unfit reserved e)), sym (unfit-bytes (given epoch word gid mst ack sq reserved) s (unfit reserved e)))
+      wide : epoch < 256 → word < 256 → gid < 256 → mst < 256 → ack < 256 → sq < 256 → ⊥
+      wide be bw bg bm ba bs = false≢true (sym e ∙ rw (lt-ltb epoch 256 be, lt-ltb word 256 bw, lt-ltb gid 256 bg, lt-ltb mst 256 bm, lt-ltb ack 256 ba, lt-ltb sq 256 bs) refl)
 
+  pub write-unfit : (kind reserved : ℕ) (s : List ℕ) (r : ℕ) → areBytes epoch word gid mst ack sq ≡ false → r ≡ writeRefusal kind (length s)
+      → (r ≡ writingNumber (sentAnswer kind (given epoch word gid mst ack sq reserved) s)) × (s ≡ sentBytes kind (given epoch word gid mst ack sq reserved) s)
+  write-unfit kind reserved s r e h =
+      (h ∙ sym (unfit-answer kind (given epoch word gid mst ack sq reserved) s (unfit kind reserved e)), sym (unfit-bytes kind (given epoch word gid mst ack sq reserved) s (unfit kind reserved e)))
+
+-- H4's packet and VC-12's, by their kinds
+module _ (f : Fields) (s : List ℕ) (r : ℕ) (out : List ℕ) where
+  pub write-h4 : (r ≡ writingNumber (sentAnswer 0 f s)) × (out ≡ sentBytes 0 f s) → (r ≡ writingNumber (writeAnswer f s)) × (out ≡ writeBytes f s)
+  unfolding sentAnswer sentBytes
+  write-h4 e = e
+
+  pub write-vc12 : (r ≡ writingNumber (sentAnswer 1 f s)) × (out ≡ sentBytes 1 f s) → (r ≡ writingNumber (writeVc12Answer f s)) × (out ≡ writeVc12Bytes f s)
+  unfolding sentAnswer sentBytes
+  write-vc12 e = e
+
+-- ten lent bytes for what is read, and any other number of them
 module _ (h4 s : List ℕ) where
   pub read-wrong : (length s ≡ 10 → ⊥) → (9 ≡ readAnswerC h4 s) × (s ≡ readFieldsC h4 s)
   unfolding readAnswerC readFieldsC
   read-wrong d = rw (ne-eqb (length s) 10 d) (refl, refl)
 
-  pub read-right : (r t : Reading) (v : List ℕ) → length s ≡ 10 → t ≡ readAnswer h4 → t ≡ r → v ≡ valuesOr r s
-      → (readingNumber r ≡ readAnswerC h4 s) × (v ≡ readFieldsC h4 s)
+  pub read-right : (t : Reading) (r : ℕ) (v : List ℕ) → length s ≡ 10 → t ≡ readAnswer h4 → (r ≡ readingNumber t) × (v ≡ valuesOr t s) → (r ≡ readAnswerC h4 s) × (v ≡ readFieldsC h4 s)
   unfolding readAnswerC readFieldsC
-  read-right r t v h e q k = rw (eq-eqb (length s) 10 h, ← e, q) (refl, k)
+  read-right t r v h e k = rw (eq-eqb (length s) 10 h, ← e) k
 
-module _ (h4 s : List ℕ) where
   pub fixed-wrong : (length s ≡ 10 → ⊥) → (9 ≡ readFixedAnswerC h4 s) × (s ≡ readFixedFieldsC h4 s)
   unfolding readFixedAnswerC readFixedFieldsC
   fixed-wrong d = rw (ne-eqb (length s) 10 d) (refl, refl)
 
-  pub fixed-right : (r t : Reading) (v : List ℕ) → length s ≡ 10 → t ≡ readFixedAnswer h4 → t ≡ r → v ≡ valuesOr r s
-      → (readingNumber r ≡ readFixedAnswerC h4 s) × (v ≡ readFixedFieldsC h4 s)
+  pub fixed-right : (t : Reading) (r : ℕ) (v : List ℕ) → length s ≡ 10 → t ≡ readFixedAnswer h4 → (r ≡ readingNumber t) × (v ≡ valuesOr t s)
+      → (r ≡ readFixedAnswerC h4 s) × (v ≡ readFixedFieldsC h4 s)
   unfolding readFixedAnswerC readFixedFieldsC
-  fixed-right r t v h e q k = rw (eq-eqb (length s) 10 h, ← e, q) (refl, k)
+  fixed-right t r v h e k = rw (eq-eqb (length s) 10 h, ← e) k
+
+  pub vc12-wrong : (length s ≡ 10 → ⊥) → (9 ≡ readVc12AnswerC h4 s) × (s ≡ readVc12FieldsC h4 s)
+  unfolding readVc12AnswerC readVc12FieldsC
+  vc12-wrong d = rw (ne-eqb (length s) 10 d) (refl, refl)
+
+  pub vc12-right : (t : Reading) (r : ℕ) (v : List ℕ) → length s ≡ 10 → t ≡ readVc12Answer h4 → (r ≡ readingNumber t) × (v ≡ valuesOr t s)
+      → (r ≡ readVc12AnswerC h4 s) × (v ≡ readVc12FieldsC h4 s)
+  unfolding readVc12AnswerC readVc12FieldsC
+  vc12-right t r v h e k = rw (eq-eqb (length s) 10 h, ← e) k
+
+-- a packet's values put for a reading that is this packet
+pub reading-put : (t : Reading) (f : Fields) (s v : List ℕ) → t ≡ Packet f → v ≡ valuesIn f → (0 ≡ readingNumber t) × (v ≡ valuesOr t s)
+reading-put t f s v e h = rw e (refl, h)
 
 -- ten bytes copied over ten
 pub put : (f : Fields) (s t : List ℕ) → length s ≡ 10 → t ≡ valuesIn f ++ drop 10 s → t ≡ valuesIn f

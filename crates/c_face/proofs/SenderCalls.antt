@@ -1,19 +1,25 @@
 -- Each way out of the sender's C calls, as the definitions have it.
 use mathlib.Core.Path.{_≡_, refl, _∙_, sym, ap}
-use mathlib.Core.Bool.{Bool, true, false, _&&_}
+use mathlib.Core.Bool.{Bool, true, false, not, _&&_, _||_, true≢false}
 use mathlib.Core.List.{List}
-use Prim.Native.Nat.{ℕ, _≤_, _<_}
-use lib.Dec.{ltb}
+use mathlib.Core.Logic.{⊎-elim}
+use Prim.Native.Nat.{ℕ, _/_, _≤_, _<_}
+use native.Mathlib.Omega.{arith}
+use lib.Dec.{eqb, ltb}
 use lib.ListN.{length}
-use borrow.Author.Tests.{eq-eqb, ne-eqb, lt-ltb, le-ltb, ltb-true}
-use Rattle.ground.specs.Truth.{and-left, and-right}
+use borrow.Author.Tests.{eq-eqb, ne-eqb, ltb-true, not-false}
+use Rattle.ground.specs.Truth.{and-left, and-right, le-or-lt}
+use Rattle.packet.specs.Clock.{by}
+use Rattle.packet.specs.Kinds as K
+use Rattle.packet.specs.Kinds.{epochs, knownKind}
+use Rattle.packet.specs.Theorems.Tags.{epochs-fit}
 use Rattle.sender.specs.declared.epochs.Sender.{Sender}
 use Rattle.sender.specs.declared.epochs.SenderOutcome.{SenderOutcome}
 use Rattle.sender.specs.declared.table.Answer.{Answer}
 use Rattle.sender.specs.Epochs.{SenderCall, beginOf, packetAnswer, packetBytes, payloadAnswer, payloadBytes, senderOutcomeOf}
 use Rattle.sender.specs.Table.{answerNumber}
 use Rattle.c_face.specs.Keeping.{bytesOf, senderOf}
-use Rattle.c_face.specs.Senders.{areBytes, callAnswerC, callStateC, keptBytes, outside, packetAnswerC, packetBytesC, payloadAnswerC, payloadBytesC, startAnswerC, startStateC}
+use Rattle.c_face.specs.Senders.{areBytes, callAnswerC, callStateC, isEpoch, keptBytes, noStart, outside, packetAnswerC, packetBytesC, payloadAnswerC, payloadBytesC, sends, startAnswerC, startStateC}
 
 pub record Three (a b c : ℕ) : Type 0 where
   pub first : a < 256
@@ -51,28 +57,55 @@ module _ (state : List ℕ) (fits : Bool) (call : SenderCall) where
   unfolding callAnswerC callStateC
   call-kept s outcome r out l f es e k = rw (eq-eqb (length state) 397 l, f, ← es, ← e) k
 
-module _ (count first : ℕ) (state : List ℕ) where
-  pub start-none : (length state ≡ 397 → ⊥) → outside count ≡ true → (4 ≡ startAnswerC count first state) × (state ≡ startStateC count first state)
+-- a number that is no byte is no kind
+pub unknown : (kind : ℕ) → 255 < kind → false ≡ sends kind
+unfolding sends knownKind
+unknown kind h = rw (ne-eqb kind 0 (omega arith), ne-eqb kind 1 (omega arith), ne-eqb kind 2 (omega arith)) refl
+
+pub known-sent : (kind : ℕ) (known : Bool) → known ≡ knownKind kind → (known && not (eqb kind 2)) ≡ sends kind
+unfolding sends
+known-sent kind known e = ap (λ (b : Bool). b && not (eqb kind 2)) e
+
+pub sent-byte : (kind : ℕ) → sends kind ≡ true → kind < 256
+sent-byte kind t = ⊎-elim (λ (h : 256 ≤ kind). absurd (true≢false (sym t ∙ sym (unknown kind (omega arith))))) (λ (h : kind < 256). h) (le-or-lt 256 kind)
+
+neither : (b c : Bool) → (b || c) ≡ false → c ≡ false
+neither true c h = absurd (true≢false h)
+neither false c h = h
+
+-- a start that is not refused with 4 has a kind that is a byte
+pub kind-byte : (kind count : ℕ) → noStart kind count ≡ false → kind < 256
+kind-byte kind count o = sent-byte kind (not-false (sends kind) (neither (outside count) (not (sends kind)) o))
+
+-- how many epochs a kind has, by how many frames they and it have
+pub epochs-by : (kind tags frames : ℕ) → tags ≡ K.tags kind → frames ≡ K.frames kind → tags / frames ≡ epochs kind
+epochs-by kind tags frames t f = rw (t, f) (by (λ f e t l. t / f ≡ e) refl refl kind)
+
+pub epoch-byte : (kind e : ℕ) → isEpoch kind e ≡ true → e < 256
+epoch-byte kind e t = let l = ltb-true e (epochs kind) t in let m = epochs-fit kind in omega arith
+
+module _ (kind count first : ℕ) (state : List ℕ) where
+  pub start-none : (length state ≡ 397 → ⊥) → noStart kind count ≡ true → (4 ≡ startAnswerC kind count first state) × (state ≡ startStateC kind count first state)
   unfolding startAnswerC startStateC
   start-none d o = rw (ne-eqb (length state) 397 d, o) (refl, refl)
 
-  pub start-length : (length state ≡ 397 → ⊥) → outside count ≡ false → (9 ≡ startAnswerC count first state) × (state ≡ startStateC count first state)
+  pub start-length : (length state ≡ 397 → ⊥) → noStart kind count ≡ false → (9 ≡ startAnswerC kind count first state) × (state ≡ startStateC kind count first state)
   unfolding startAnswerC startStateC
   start-length d o = rw (ne-eqb (length state) 397 d, o) (refl, refl)
 
-  pub start-outside : (out : List ℕ) → length state ≡ 397 → outside count ≡ true → out ≡ bytesOf (beginOf 0 count 0 .sender)
-      → (4 ≡ startAnswerC count first state) × (out ≡ startStateC count first state)
+  pub start-outside : (out : List ℕ) → length state ≡ 397 → noStart kind count ≡ true → out ≡ bytesOf (beginOf 0 0 0 .sender)
+      → (4 ≡ startAnswerC kind count first state) × (out ≡ startStateC kind count first state)
   unfolding startAnswerC startStateC
   start-outside out l o h = rw (eq-eqb (length state) 397 l, o) (refl, h)
 
-  pub start-unfit : length state ≡ 397 → outside count ≡ false → 255 < first → (8 ≡ startAnswerC count first state) × (state ≡ startStateC count first state)
+  pub start-unfit : length state ≡ 397 → noStart kind count ≡ false → isEpoch kind first ≡ false → (8 ≡ startAnswerC kind count first state) × (state ≡ startStateC kind count first state)
   unfolding startAnswerC startStateC
-  start-unfit l o b = rw (eq-eqb (length state) 397 l, o, lt-ltb 255 first b) (refl, refl)
+  start-unfit l o b = rw (eq-eqb (length state) 397 l, o, b) (refl, refl)
 
-  pub start-done : (out : List ℕ) → length state ≡ 397 → outside count ≡ false → first ≤ 255 → out ≡ bytesOf (beginOf 0 count first .sender)
-      → (0 ≡ startAnswerC count first state) × (out ≡ startStateC count first state)
+  pub start-done : (out : List ℕ) → length state ≡ 397 → noStart kind count ≡ false → isEpoch kind first ≡ true → out ≡ bytesOf (beginOf kind count first .sender)
+      → (0 ≡ startAnswerC kind count first state) × (out ≡ startStateC kind count first state)
   unfolding startAnswerC startStateC
-  start-done out l o b h = rw (eq-eqb (length state) 397 l, o, le-ltb 255 first b) (refl, h)
+  start-done out l o b h = rw (eq-eqb (length state) 397 l, o, b) (refl, h)
 
 module _ (state : List ℕ) (slot : ℕ) (h4 : List ℕ) where
   pub packet-length : (length state ≡ 397 → ⊥) → (9 ≡ packetAnswerC state slot h4) × (h4 ≡ packetBytesC state slot h4)

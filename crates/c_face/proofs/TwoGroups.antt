@@ -26,10 +26,10 @@ use Rattle.sender.specs.Board.{boardOf}
 use Rattle.sender.specs.declared.epochs.Sender.{Sender}
 use Rattle.sender.specs.Epochs.{ranksOf}
 use Rattle.c_face.specs.Boards.{boardBytesOf, ranksBytesOf}
-use Rattle.c_face.specs.Cards.{alone, behind, bytesBehind, callAnswerOn, callStateOn, cardOf, isCard, keptCard, ownersIn, packetAnswerOn, packetBytesOn, partAt, partIn, payloadAnswerOn, payloadBytesOn, putCard, putOwn, refusalOf, shownAnswerOn, shownBytesOn, startAnswerOn, startStateOn}
+use Rattle.c_face.specs.Cards.{alone, areEpochs, behind, bytesBehind, callAnswerOn, callStateOn, cardOf, isCard, keptCard, ownersIn, packetAnswerOn, packetBytesOn, partAt, partIn, payloadAnswerOn, payloadBytesOn, putCard, putOwn, refusalOf, shownAnswerOn, shownBytesOn, startAnswerOn, startStateOn}
 use Rattle.c_face.specs.Keeping.{byteAt, bytesOf, senderOf}
 use Rattle.c_face.specs.Laws.Slots.{slot-packet, slotPacketAnswer, slotPacketBytes}
-use Rattle.c_face.specs.Senders.{areBytes, outside}
+use Rattle.c_face.specs.Senders.{noStart}
 use Rattle.c_face.specs.Theorems.CardRuns.{part-of}
 use Rattle.c_face.proofs.Parts.{mid-is, put-is}
 
@@ -83,32 +83,32 @@ module _ (outcome : CardOutcome) (g : ℕ) (old : List ℕ) (n : ℕ) (e : n ≡
   pub keep-done : (out : List ℕ) → n ≡ 0 → out ≡ putOwn g (outcome .card) old → (0 ≡ answerNumber (outcome .answer)) × (out ≡ keptCard g outcome old)
   keep-done out z h = (sym z ∙ e, rw (eq-eqb (answerNumber (outcome .answer)) 0 (sym e ∙ z)) h)
 
-pub start-put : (count e₀ e₁ : ℕ) (outcome : CardOutcome) (state mid out : List ℕ) → outcome ≡ startOf 0 count e₀ e₁ → mid ≡ putOwn 0 (outcome .card) state
-    → out ≡ putOwn 1 (outcome .card) mid → out ≡ putCard (startOf 0 count e₀ e₁ .card) state
-start-put count e₀ e₁ outcome state mid out es em eo =
+pub start-put : (kind count e₀ e₁ : ℕ) (outcome : CardOutcome) (state mid out : List ℕ) → outcome ≡ startOf kind count e₀ e₁ → mid ≡ putOwn 0 (outcome .card) state
+    → out ≡ putOwn 1 (outcome .card) mid → out ≡ putCard (startOf kind count e₀ e₁ .card) state
+start-put kind count e₀ e₁ outcome state mid out es em eo =
     eo ∙ ap (λ (l : List ℕ). putOwn 1 (outcome .card) l) em ∙ ap (λ (r : CardOutcome). putCard (r .card) state) es
 
-module _ (count e₀ e₁ : ℕ) (state : List ℕ) where
-  pub start-none : (length state ≡ 858 → ⊥) → outside count ≡ true → (4 ≡ startAnswerOn count e₀ e₁ state) × (state ≡ startStateOn count e₀ e₁ state)
+module _ (kind count e₀ e₁ : ℕ) (state : List ℕ) where
+  pub start-none : (length state ≡ 858 → ⊥) → noStart kind count ≡ true → (4 ≡ startAnswerOn kind count e₀ e₁ state) × (state ≡ startStateOn kind count e₀ e₁ state)
   unfolding startAnswerOn startStateOn
   start-none d o = rw (ne-eqb (length state) 858 d, o) (refl, refl)
 
-  pub start-length : (length state ≡ 858 → ⊥) → outside count ≡ false → (9 ≡ startAnswerOn count e₀ e₁ state) × (state ≡ startStateOn count e₀ e₁ state)
+  pub start-length : (length state ≡ 858 → ⊥) → noStart kind count ≡ false → (9 ≡ startAnswerOn kind count e₀ e₁ state) × (state ≡ startStateOn kind count e₀ e₁ state)
   unfolding startAnswerOn startStateOn
   start-length d o = rw (ne-eqb (length state) 858 d, o) (refl, refl)
 
-  pub start-outside : (out : List ℕ) → length state ≡ 858 → outside count ≡ true → out ≡ putCard (startOf 0 count 0 0 .card) state
-      → (4 ≡ startAnswerOn count e₀ e₁ state) × (out ≡ startStateOn count e₀ e₁ state)
+  pub start-outside : (out : List ℕ) → length state ≡ 858 → noStart kind count ≡ true → out ≡ putCard (startOf 0 0 0 0 .card) state
+      → (4 ≡ startAnswerOn kind count e₀ e₁ state) × (out ≡ startStateOn kind count e₀ e₁ state)
   unfolding startAnswerOn startStateOn
   start-outside out l o h = rw (eq-eqb (length state) 858 l, o) (refl, h)
 
-  pub start-unfit : length state ≡ 858 → outside count ≡ false → areBytes e₀ e₁ 0 ≡ false
-      → (8 ≡ startAnswerOn count e₀ e₁ state) × (state ≡ startStateOn count e₀ e₁ state)
+  pub start-unfit : length state ≡ 858 → noStart kind count ≡ false → areEpochs kind e₀ e₁ ≡ false
+      → (8 ≡ startAnswerOn kind count e₀ e₁ state) × (state ≡ startStateOn kind count e₀ e₁ state)
   unfolding startAnswerOn startStateOn
   start-unfit l o b = rw (eq-eqb (length state) 858 l, o, b) (refl, refl)
 
-  pub start-done : (out : List ℕ) → length state ≡ 858 → outside count ≡ false → areBytes e₀ e₁ 0 ≡ true → out ≡ putCard (startOf 0 count e₀ e₁ .card) state
-      → (0 ≡ startAnswerOn count e₀ e₁ state) × (out ≡ startStateOn count e₀ e₁ state)
+  pub start-done : (out : List ℕ) → length state ≡ 858 → noStart kind count ≡ false → areEpochs kind e₀ e₁ ≡ true → out ≡ putCard (startOf kind count e₀ e₁ .card) state
+      → (0 ≡ startAnswerOn kind count e₀ e₁ state) × (out ≡ startStateOn kind count e₀ e₁ state)
   unfolding startAnswerOn startStateOn
   start-done out l o b h = rw (eq-eqb (length state) 858 l, o, b) (refl, h)
 

@@ -1,7 +1,7 @@
 -- Two circuits on one card (02, 2026-06) for C, in terms of the card's own calls. The state is 858 bytes: the owner row in bytes 0 to 63, then the state of each group's sender.
 -- Any bytes are a card. A state of another length is refused with 9 before all else (at starting 4 comes before it), then a group other than the two with 1, a number that is
 -- no byte with 8, and then the card's own refusals follow.
-use mathlib.Core.Bool.{Bool}
+use mathlib.Core.Bool.{Bool, _&&_}
 use mathlib.Core.List.{List}
 use Prim.Native.Nat.{ℕ, _+_}
 use lib.ListN.{getD, length}
@@ -18,7 +18,7 @@ use Rattle.circuits.specs.Parts as P
 use Rattle.circuits.specs.Readings.{boardShown, outgoingShown, ownedShown, packetAnswer, packetBytes, payloadAnswer, payloadBytes, ranksShown}
 use Rattle.c_face.specs.Boards.{boardBytes, boardBytesOf, ranksBytes, ranksBytesOf}
 use Rattle.c_face.specs.Keeping.{byteAt, senderOf, stateBytes}
-use Rattle.c_face.specs.Senders.{areBytes, outside}
+use Rattle.c_face.specs.Senders.{isEpoch, noStart}
 
 -- how many bytes a card's state has
 abbrev pub cardBytes : ℕ
@@ -59,13 +59,18 @@ putCard c state = putOwn 1 c (putOwn 0 c state)
 abbrev pub keptCard : ℕ → CardOutcome → List ℕ → List ℕ
 keptCard g outcome state = if answerNumber (outcome .answer) == 0 then putOwn g (outcome .card) state else state
 
--- Starting: 4, 9, 8. 4 gives two empty groups, where there is room for them; their first epochs have the number 0.
-unfoldable pub startAnswerOn : ℕ → ℕ → ℕ → List ℕ → ℕ
-startAnswerOn count e₀ e₁ state = if outside count then 4 else if isCard state then (if areBytes e₀ e₁ 0 then 0 else 8) else 9
+abbrev pub areEpochs : ℕ → ℕ → ℕ → Bool
+areEpochs kind e₀ e₁ = isEpoch kind e₀ && isEpoch kind e₁
 
-unfoldable pub startStateOn : ℕ → ℕ → ℕ → List ℕ → List ℕ
-startStateOn count e₀ e₁ state =
-    if isCard state then (if outside count then putCard (startOf 0 count 0 0 .card) state else if areBytes e₀ e₁ 0 then putCard (startOf 0 count e₀ e₁ .card) state else state) else state
+-- Starting, both groups of a kind: 4, 9, 8. 4 gives two empty groups of H4, where there is room for them; their first epochs have the number 0.
+unfoldable pub startAnswerOn : ℕ → ℕ → ℕ → ℕ → List ℕ → ℕ
+startAnswerOn kind count e₀ e₁ state = if noStart kind count then 4 else if isCard state then (if areEpochs kind e₀ e₁ then 0 else 8) else 9
+
+unfoldable pub startStateOn : ℕ → ℕ → ℕ → ℕ → List ℕ → List ℕ
+startStateOn kind count e₀ e₁ state =
+    if isCard state
+    then (if noStart kind count then putCard (startOf 0 0 0 0 .card) state else if areEpochs kind e₀ e₁ then putCard (startOf kind count e₀ e₁ .card) state else state)
+    else state
 
 -- 9, then 1 for the group: what a call tests first
 unfoldable pub refusalOf : ℕ → ℕ → ℕ

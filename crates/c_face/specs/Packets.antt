@@ -10,6 +10,8 @@ use Rattle.packet.specs.declared.reader.Reading.the-variants.{Packet, Length, C
 use Rattle.packet.specs.Fixed.{readFixedAnswer, writeFixedAnswer}
 use Rattle.packet.specs.Kinds.{frames}
 use Rattle.packet.specs.Reading.{readAnswer, readingNumber}
+use Rattle.packet.specs.Sent.{sentAnswer, sentBytes}
+use Rattle.packet.specs.Vc12.{readVc12Answer, writeVc12Answer, writeVc12Bytes}
 use Rattle.packet.specs.Writing.{writeAnswer, writeBytes, writingNumber}
 
 -- the fields that a C call gives, in its order
@@ -65,10 +67,30 @@ readFixedAnswerC h4 fields = if length fields == 10 then readingNumber (readFixe
 unfoldable pub readFixedFieldsC : List ℕ → List ℕ → List ℕ
 readFixedFieldsC h4 fields = if length fields == 10 then valuesOr (readFixedAnswer h4) fields else fields
 
+-- Of VC-12 (request 2026-01), by the same fields and the same lent bytes.
+
+abbrev pub writeVc12AnswerC : ℕ → ℕ → ℕ → ℕ → ℕ → ℕ → ℕ → List ℕ → ℕ
+writeVc12AnswerC epoch word gid mst ack sq reserved bits = writingNumber (writeVc12Answer (given epoch word gid mst ack sq reserved) bits)
+
+abbrev pub writeVc12BytesC : ℕ → ℕ → ℕ → ℕ → ℕ → ℕ → ℕ → List ℕ → List ℕ
+writeVc12BytesC epoch word gid mst ack sq reserved bits = writeVc12Bytes (given epoch word gid mst ack sq reserved) bits
+
+unfoldable pub readVc12AnswerC : List ℕ → List ℕ → ℕ
+readVc12AnswerC bits fields = if length fields == 10 then readingNumber (readVc12Answer bits) else 9
+
+unfoldable pub readVc12FieldsC : List ℕ → List ℕ → List ℕ
+readVc12FieldsC bits fields = if length fields == 10 then valuesOr (readVc12Answer bits) fields else fields
+
 -- for the functions behind the calls
 abbrev pub areBytes : ℕ → ℕ → ℕ → ℕ → ℕ → ℕ → Bool
 areBytes epoch word gid mst ack sq = epoch <? 256 && word <? 256 && gid <? 256 && mst <? 256 && ack <? 256 && sq <? 256
 
--- the packet is H4's, whose kind is 0
-abbrev pub writeRefusal : ℕ → ℕ
-writeRefusal n = if n == frames 0 then 8 else 9
+-- by the kind of the packet, which has a byte for each frame of its epoch
+abbrev pub writeRefusal : ℕ → ℕ → ℕ
+writeRefusal kind n = if n == frames kind then 8 else 9
+
+abbrev pub sentAnswerC : ℕ → ℕ → ℕ → ℕ → ℕ → ℕ → ℕ → ℕ → List ℕ → ℕ
+sentAnswerC kind epoch word gid mst ack sq reserved bytes = writingNumber (sentAnswer kind (given epoch word gid mst ack sq reserved) bytes)
+
+abbrev pub sentBytesC : ℕ → ℕ → ℕ → ℕ → ℕ → ℕ → ℕ → ℕ → List ℕ → List ℕ
+sentBytesC kind epoch word gid mst ack sq reserved bytes = sentBytes kind (given epoch word gid mst ack sq reserved) bytes

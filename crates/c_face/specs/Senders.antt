@@ -1,10 +1,11 @@
 -- The sender's C calls in terms of the sender's own. A state of another length is refused with 9 before all else (at starting 4 comes before it),
 -- a number that is no byte with 8, and then the sender's own refusals follow.
-use mathlib.Core.Bool.{Bool, _&&_, _||_}
+use mathlib.Core.Bool.{Bool, not, _&&_, _||_}
 use mathlib.Core.List.{List}
 use Prim.Native.Nat.{ℕ}
 use lib.ListN.{length}
 use Rattle.ground.specs.Plain.{if_then_else_, _==_, _<?_}
+use Rattle.packet.specs.Kinds.{epochs, fixedKind, knownKind}
 use Rattle.sender.specs.declared.epochs.SenderOutcome.{SenderOutcome}
 use Rattle.sender.specs.Epochs.{SenderCall, beginOf, packetAnswer, packetBytes, payloadAnswer, payloadBytes, senderOutcomeOf}
 use Rattle.sender.specs.Table.{answerNumber}
@@ -17,14 +18,25 @@ isState state = length state == stateBytes
 abbrev pub outside : ℕ → Bool
 outside count = count == 0 || 64 <? count
 
--- Starting: 4, 9, 8.
-unfoldable pub startAnswerC : ℕ → ℕ → List ℕ → ℕ
-startAnswerC count first state = if outside count then 4 else if isState state then (if 255 <? first then 8 else 0) else 9
+-- the kinds of which there are senders: H4, and VC-12 (request 2026-01); of FIXED there are receivers alone
+unfoldable pub sends : ℕ → Bool
+sends kind = knownKind kind && not (kind == fixedKind)
 
--- 4 returns 'an empty group', where there is room for one. Its first epoch has the number 0, whatever was asked for, so that a number above 255 beside it needs no second rule.
-unfoldable pub startStateC : ℕ → ℕ → List ℕ → List ℕ
-startStateC count first state =
-    if isState state then (if outside count then bytesOf (beginOf 0 count 0 .sender) else if 255 <? first then state else bytesOf (beginOf 0 count first .sender)) else state
+abbrev pub noStart : ℕ → ℕ → Bool
+noStart kind count = outside count || not (sends kind)
+
+-- an epoch of H4 is 0 to 255, one of VC-12 0 to 31
+abbrev pub isEpoch : ℕ → ℕ → Bool
+isEpoch kind e = e <? epochs kind
+
+-- Starting, of a kind: 4, 9, 8.
+unfoldable pub startAnswerC : ℕ → ℕ → ℕ → List ℕ → ℕ
+startAnswerC kind count first state = if noStart kind count then 4 else if isState state then (if isEpoch kind first then 0 else 8) else 9
+
+-- 4 returns 'an empty group', where there is room for one. It is of H4, and its first epoch has the number 0, whatever was asked for, so that what is out of range beside it needs no second rule.
+unfoldable pub startStateC : ℕ → ℕ → ℕ → List ℕ → List ℕ
+startStateC kind count first state =
+    if isState state then (if noStart kind count then bytesOf (beginOf 0 0 0 .sender) else if isEpoch kind first then bytesOf (beginOf kind count first .sender) else state) else state
 
 -- The calls on a started sender: 9, 8 where the numbers given do not fit, then the call's own.
 unfoldable pub callAnswerC : Bool → SenderCall → List ℕ → ℕ

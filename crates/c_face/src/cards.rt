@@ -18,7 +18,7 @@ ghost use Rattle.circuits.specs.Commands.{startOf};
 ghost use Rattle.circuits.specs.Owners.{ownerIn};
 ghost use Rattle.circuits.specs.Parts as P;
 ghost use Rattle.ground.specs.Drawn.{fillAt};
-ghost use Rattle.c_face.specs.Cards.{alone, boardBytesOn, callAnswerOn, callStateOn, cardBytes, cardOf, keptCard, outgoingBytesOn, ownedBytesOn, ownersIn, packetAnswerOn, packetBytesOn, partAt, partIn, payloadAnswerOn, payloadBytesOn, putCard, putOwn, ranksBytesOn, refusalOf, shownAnswerOn, startAnswerOn, startStateOn};
+ghost use Rattle.c_face.specs.Cards.{alone, areEpochs, boardBytesOn, callAnswerOn, callStateOn, cardBytes, cardOf, keptCard, outgoingBytesOn, ownedBytesOn, ownersIn, packetAnswerOn, packetBytesOn, partAt, partIn, payloadAnswerOn, payloadBytesOn, putCard, putOwn, ranksBytesOn, refusalOf, shownAnswerOn, startAnswerOn, startStateOn};
 ghost use Rattle.c_face.specs.Keeping.{byteAt, senderOf, stateBytes};
 ghost use Rattle.c_face.specs.Laws.Slots.{slotPacketAnswer, slotPacketBytes, slotRefusal};
 ghost use Rattle.c_face.specs.Senders.{areBytes};
@@ -114,14 +114,50 @@ pub(crate) fn keep(outcome: CardOutcome, group: u32, state: &mut [u8]) -> u8
     0
 }
 
-fn put_start(count: u32, epoch_0: u8, epoch_1: u8, state: &mut [u8])
+fn put_start(kind: u8, count: u32, epoch_0: u8, epoch_1: u8, state: &mut [u8])
     requires { ⌜ length (now state) ≡ cardBytes ⌝ }
-    ensures { λ r. ⌜ now (state .exit) ≡ putCard (startOf 0 count «epoch_0» «epoch_1» .card) (now (state .entry)) ⌝ }
+    ensures { λ r. ⌜ now (state .exit) ≡ putCard (startOf kind count «epoch_0» «epoch_1» .card) (now (state .entry)) ⌝ }
 {
-    let outcome = Card::start(kinds::H4, count, epoch_0, epoch_1);
+    let outcome = Card::start(kind, count, epoch_0, epoch_1);
     let card = outcome.card;
     put_own(card, 0, state);
     put_own(card, 1, state);
+}
+
+fn are_epochs(kind: u8, epoch_0: u32, epoch_1: u32) -> bool
+    ensures { λ r. ⌜ r ≡ areEpochs kind «epoch_0» «epoch_1» ⌝ }
+{
+    let first = senders::is_epoch(kind, epoch_0);
+    let second = senders::is_epoch(kind, epoch_1);
+    first & second
+}
+
+fn start_by(kind: u32, count: u32, first_epoch_0: u32, first_epoch_1: u32, state: &mut [u8]) -> u8
+    ensures { λ r. ⌜ (r ≡ startAnswerOn kind count «first_epoch_0» «first_epoch_1» (now (state .entry)))
+        × (now (state .exit) ≡ startStateOn kind count «first_epoch_0» «first_epoch_1» (now (state .entry))) ⌝ }
+{
+    if state.len() != CARD_BYTES {
+        return if senders::is_no_start(kind, count) {
+            4
+        } else {
+            9
+        };
+    }
+    if senders::is_no_start(kind, count) {
+        put_start(kinds::H4, 0, 0, 0, state);
+        return 4;
+    }
+    if !are_epochs(kind as u8, first_epoch_0, first_epoch_1) {
+        return 8;
+    }
+    put_start(
+        kind as u8,
+        count,
+        first_epoch_0 as u8,
+        first_epoch_1 as u8,
+        state,
+    );
+    0
 }
 
 #[no_mangle]
@@ -131,21 +167,24 @@ pub extern "C" fn levelspruce_card_start(
     first_epoch_1: u32,
     state: &mut [u8],
 ) -> u8
-    ensures { λ r. ⌜ (r ≡ startAnswerOn count «first_epoch_0» «first_epoch_1» (now (state .entry)))
-        × (now (state .exit) ≡ startStateOn count «first_epoch_0» «first_epoch_1» (now (state .entry))) ⌝ }
+    ensures { λ r. ⌜ (r ≡ startAnswerOn 0 count «first_epoch_0» «first_epoch_1» (now (state .entry)))
+        × (now (state .exit) ≡ startStateOn 0 count «first_epoch_0» «first_epoch_1» (now (state .entry))) ⌝ }
 {
-    if state.len() != CARD_BYTES {
-        return if senders::is_outside(count) { 4 } else { 9 };
-    }
-    if senders::is_outside(count) {
-        put_start(count, 0, 0, state);
-        return 4;
-    }
-    if !senders::are_bytes(first_epoch_0, first_epoch_1, 0) {
-        return 8;
-    }
-    put_start(count, first_epoch_0 as u8, first_epoch_1 as u8, state);
-    0
+    start_by(kinds::H4 as u32, count, first_epoch_0, first_epoch_1, state)
+}
+
+#[no_mangle]
+pub extern "C" fn levelspruce_card_start_as(
+    kind: u32,
+    count: u32,
+    first_epoch_0: u32,
+    first_epoch_1: u32,
+    state: &mut [u8],
+) -> u8
+    ensures { λ r. ⌜ (r ≡ startAnswerOn kind count «first_epoch_0» «first_epoch_1» (now (state .entry)))
+        × (now (state .exit) ≡ startStateOn kind count «first_epoch_0» «first_epoch_1» (now (state .entry))) ⌝ }
+{
+    start_by(kind, count, first_epoch_0, first_epoch_1, state)
 }
 
 #[no_mangle]

@@ -3,11 +3,11 @@ use packet::Fields;
 use packet::Reading;
 use packet::Word;
 use packet::kinds;
-use packet::kinds::H4;
 ghost use mathlib.Core.Path.{_≡_};
 ghost use lib.ListN.{length};
-ghost use Rattle.c_face.specs.Packets.{areBytes, readAnswerC, readFieldsC, readFixedAnswerC, readFixedFieldsC, valuesIn, writeAnswerC, writeBytesC, writeFixedAnswerC, writeRefusal};
+ghost use Rattle.c_face.specs.Packets.{areBytes, readAnswerC, readFieldsC, readFixedAnswerC, readFixedFieldsC, readVc12AnswerC, readVc12FieldsC, sentAnswerC, sentBytesC, valuesIn, valuesOr, writeAnswerC, writeBytesC, writeFixedAnswerC, writeRefusal, writeVc12AnswerC, writeVc12BytesC};
 ghost use Rattle.packet.specs.Fixed.{writeFixedBytes};
+ghost use Rattle.packet.specs.Reading.{readingNumber};
 
 fn are_bytes(epoch: u32, word: u32, gid: u32, mst: u32, rs_ack: u32, sq: u32) -> bool
     ensures { λ r. ⌜ r ≡ areBytes epoch word gid mst «rs_ack» sq ⌝ }
@@ -15,11 +15,42 @@ fn are_bytes(epoch: u32, word: u32, gid: u32, mst: u32, rs_ack: u32, sq: u32) ->
     (epoch < 256) & (word < 256) & (gid < 256) & (mst < 256) & (rs_ack < 256) & (sq < 256)
 }
 
-fn write_refusal(length: usize) -> u8
-    ensures { λ r. ⌜ r ≡ writeRefusal length ⌝ }
+fn write_refusal(kind: u8, length: usize) -> u8
+    ensures { λ r. ⌜ r ≡ writeRefusal kind length ⌝ }
 {
-    let frames = kinds::epoch_frames(H4);
+    let frames = kinds::epoch_frames(kind);
     if length == frames as usize { 8 } else { 9 }
+}
+
+// A packet of a kind, of any 32 bits as fields.
+fn put_packet(
+    kind: u8,
+    epoch: u32,
+    word: u32,
+    gid: u32,
+    mst: u32,
+    rs_ack: u32,
+    sq: u32,
+    reserved: u32,
+    frames: &mut [u8],
+) -> u8
+    ensures { λ r. ⌜ (r ≡ sentAnswerC kind epoch word gid mst «rs_ack» sq reserved (now (frames .entry)))
+        × (now (frames .exit) ≡ sentBytesC kind epoch word gid mst «rs_ack» sq reserved (now (frames .entry))) ⌝ }
+{
+    if !are_bytes(epoch, word, gid, mst, rs_ack, sq) {
+        return write_refusal(kind, frames.len());
+    }
+    let fields = Fields {
+        epoch: epoch as u8,
+        word: Word(word as u8),
+        gid: gid as u8,
+        mst: mst as u8,
+        rs_ack: rs_ack as u8,
+        sq: sq as u8,
+        reserved,
+    };
+    let written = packet::write_by(kind, fields, frames);
+    written.number()
 }
 
 #[no_mangle]
@@ -36,20 +67,34 @@ pub extern "C" fn levelspruce_packet_write(
     ensures { λ r. ⌜ (r ≡ writeAnswerC epoch word gid mst «rs_ack» sq reserved (now (h4 .entry)))
         × (now (h4 .exit) ≡ writeBytesC epoch word gid mst «rs_ack» sq reserved (now (h4 .entry))) ⌝ }
 {
-    if !are_bytes(epoch, word, gid, mst, rs_ack, sq) {
-        return write_refusal(h4.len());
-    }
-    let fields = Fields {
-        epoch: epoch as u8,
-        word: Word(word as u8),
-        gid: gid as u8,
-        mst: mst as u8,
-        rs_ack: rs_ack as u8,
-        sq: sq as u8,
+    put_packet(kinds::H4, epoch, word, gid, mst, rs_ack, sq, reserved, h4)
+}
+
+#[no_mangle]
+pub extern "C" fn levelspruce_packet_write_vc12(
+    epoch: u32,
+    word: u32,
+    gid: u32,
+    mst: u32,
+    rs_ack: u32,
+    sq: u32,
+    reserved: u32,
+    bits: &mut [u8],
+) -> u8
+    ensures { λ r. ⌜ (r ≡ writeVc12AnswerC epoch word gid mst «rs_ack» sq reserved (now (bits .entry)))
+        × (now (bits .exit) ≡ writeVc12BytesC epoch word gid mst «rs_ack» sq reserved (now (bits .entry))) ⌝ }
+{
+    put_packet(
+        kinds::VC12,
+        epoch,
+        word,
+        gid,
+        mst,
+        rs_ack,
+        sq,
         reserved,
-    };
-    let written = packet::write(fields, h4);
-    written.number()
+        bits,
+    )
 }
 
 fn put_values(values: Fields, fields: &mut [u8])
@@ -73,15 +118,11 @@ fn put_values(values: Fields, fields: &mut [u8])
     bytes::copy(&image, fields);
 }
 
-#[no_mangle]
-pub extern "C" fn levelspruce_packet_read(h4: &[u8], fields: &mut [u8]) -> u8
-    ensures { λ r. ⌜ (r ≡ readAnswerC (now (h4 .entry)) (now (fields .entry)))
-        × (now (fields .exit) ≡ readFieldsC (now (h4 .entry)) (now (fields .entry))) ⌝ }
+// A reading by its number. Under 0 its values go into the lent bytes.
+fn put_reading(reading: Reading, fields: &mut [u8]) -> u8
+    requires { ⌜ length (now fields) ≡ 10 ⌝ }
+    ensures { λ r. ⌜ (r ≡ readingNumber reading) × (now (fields .exit) ≡ valuesOr reading (now (fields .entry))) ⌝ }
 {
-    if fields.len() != 10 {
-        return 9;
-    }
-    let reading = packet::read(h4);
     match reading {
         Reading::Packet(values) => {
             put_values(values, fields);
@@ -92,6 +133,18 @@ pub extern "C" fn levelspruce_packet_read(h4: &[u8], fields: &mut [u8]) -> u8
         Reading::Fixed => 7,
         Reading::Unassigned => 6,
     }
+}
+
+#[no_mangle]
+pub extern "C" fn levelspruce_packet_read(h4: &[u8], fields: &mut [u8]) -> u8
+    ensures { λ r. ⌜ (r ≡ readAnswerC (now (h4 .entry)) (now (fields .entry)))
+        × (now (fields .exit) ≡ readFieldsC (now (h4 .entry)) (now (fields .entry))) ⌝ }
+{
+    if fields.len() != 10 {
+        return 9;
+    }
+    let reading = packet::read(h4);
+    put_reading(reading, fields)
 }
 
 #[no_mangle]
@@ -112,14 +165,17 @@ pub extern "C" fn levelspruce_packet_read_fixed(h4: &[u8], fields: &mut [u8]) ->
         return 9;
     }
     let reading = packet::read_fixed(h4);
-    match reading {
-        Reading::Packet(values) => {
-            put_values(values, fields);
-            0
-        }
-        Reading::Length => 9,
-        Reading::Crc => 5,
-        Reading::Fixed => 7,
-        Reading::Unassigned => 6,
+    put_reading(reading, fields)
+}
+
+#[no_mangle]
+pub extern "C" fn levelspruce_packet_read_vc12(bits: &[u8], fields: &mut [u8]) -> u8
+    ensures { λ r. ⌜ (r ≡ readVc12AnswerC (now (bits .entry)) (now (fields .entry)))
+        × (now (fields .exit) ≡ readVc12FieldsC (now (bits .entry)) (now (fields .entry))) ⌝ }
+{
+    if fields.len() != 10 {
+        return 9;
     }
+    let reading = packet::read_vc12(bits);
+    put_reading(reading, fields)
 }

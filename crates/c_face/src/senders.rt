@@ -12,7 +12,7 @@ ghost use Rattle.sender.specs.Epochs.{beginOf};
 ghost use Rattle.sender.specs.Epochs.SenderCall.{OnTable, StartEpoch};
 ghost use Rattle.sender.specs.Table.{answerNumber};
 ghost use Rattle.c_face.specs.Keeping.{bytesOf, stateBytes};
-ghost use Rattle.c_face.specs.Senders.{areBytes, callAnswerC, callStateC, keptBytes, outside, packetAnswerC, packetBytesC, payloadAnswerC, payloadBytesC, startAnswerC, startStateC};
+ghost use Rattle.c_face.specs.Senders.{areBytes, callAnswerC, callStateC, isEpoch, keptBytes, noStart, outside, packetAnswerC, packetBytesC, payloadAnswerC, payloadBytesC, sends, startAnswerC, startStateC};
 
 pub(crate) fn is_outside(count: u32) -> bool
     ensures { λ r. ⌜ r ≡ outside count ⌝ }
@@ -26,13 +26,59 @@ pub(crate) fn are_bytes(a: u32, b: u32, c: u32) -> bool
     (a < 256) & (b < 256) & (c < 256)
 }
 
-fn put_start(count: u32, epoch: u8, state: &mut [u8])
-    requires { ⌜ length (now state) ≡ stateBytes ⌝ }
-    ensures { λ r. ⌜ now (state .exit) ≡ bytesOf (beginOf 0 count epoch .sender) ⌝ }
+// Any number may come as a kind; of a fixed group there are receivers alone.
+fn is_sent(kind: u32) -> bool
+    ensures { λ r. ⌜ r ≡ sends kind ⌝ }
 {
-    let outcome = Sender::start(kinds::H4, count, epoch);
+    if kind > 255 {
+        return false;
+    }
+    let named = kind as u8;
+    let known = kinds::is_known(named);
+    known & !(named == kinds::FIXED)
+}
+
+pub(crate) fn is_no_start(kind: u32, count: u32) -> bool
+    ensures { λ r. ⌜ r ≡ noStart kind count ⌝ }
+{
+    let out = is_outside(count);
+    let sent = is_sent(kind);
+    out | !sent
+}
+
+pub(crate) fn is_epoch(kind: u8, epoch: u32) -> bool
+    ensures { λ r. ⌜ r ≡ isEpoch kind epoch ⌝ }
+{
+    let tags = kinds::tag_count(kind);
+    let frames = kinds::epoch_frames(kind);
+    epoch < (tags / frames as u16) as u32
+}
+
+fn put_start(kind: u8, count: u32, epoch: u8, state: &mut [u8])
+    requires { ⌜ length (now state) ≡ stateBytes ⌝ }
+    ensures { λ r. ⌜ now (state .exit) ≡ bytesOf (beginOf kind count epoch .sender) ⌝ }
+{
+    let outcome = Sender::start(kind, count, epoch);
     let sender = outcome.sender;
     keeping::put_sender(sender, state);
+}
+
+fn start_by(kind: u32, count: u32, first_epoch: u32, state: &mut [u8]) -> u8
+    ensures { λ r. ⌜ (r ≡ startAnswerC kind count «first_epoch» (now (state .entry)))
+        × (now (state .exit) ≡ startStateC kind count «first_epoch» (now (state .entry))) ⌝ }
+{
+    if state.len() != SENDER_BYTES {
+        return if is_no_start(kind, count) { 4 } else { 9 };
+    }
+    if is_no_start(kind, count) {
+        put_start(kinds::H4, 0, 0, state);
+        return 4;
+    }
+    if !is_epoch(kind as u8, first_epoch) {
+        return 8;
+    }
+    put_start(kind as u8, count, first_epoch as u8, state);
+    0
 }
 
 // What a call leaves: under 0 its sender's bytes, and under a refusal the bytes as they were.
@@ -52,21 +98,23 @@ fn keep(outcome: SenderOutcome, state: &mut [u8]) -> u8
 
 #[no_mangle]
 pub extern "C" fn levelspruce_sender_start(count: u32, first_epoch: u32, state: &mut [u8]) -> u8
-    ensures { λ r. ⌜ (r ≡ startAnswerC count «first_epoch» (now (state .entry)))
-        × (now (state .exit) ≡ startStateC count «first_epoch» (now (state .entry))) ⌝ }
+    ensures { λ r. ⌜ (r ≡ startAnswerC 0 count «first_epoch» (now (state .entry)))
+        × (now (state .exit) ≡ startStateC 0 count «first_epoch» (now (state .entry))) ⌝ }
 {
-    if state.len() != SENDER_BYTES {
-        return if is_outside(count) { 4 } else { 9 };
-    }
-    if is_outside(count) {
-        put_start(count, 0, state);
-        return 4;
-    }
-    if first_epoch > 255 {
-        return 8;
-    }
-    put_start(count, first_epoch as u8, state);
-    0
+    start_by(kinds::H4 as u32, count, first_epoch, state)
+}
+
+#[no_mangle]
+pub extern "C" fn levelspruce_sender_start_as(
+    kind: u32,
+    count: u32,
+    first_epoch: u32,
+    state: &mut [u8],
+) -> u8
+    ensures { λ r. ⌜ (r ≡ startAnswerC kind count «first_epoch» (now (state .entry)))
+        × (now (state .exit) ≡ startStateC kind count «first_epoch» (now (state .entry))) ⌝ }
+{
+    start_by(kind, count, first_epoch, state)
 }
 
 #[no_mangle]

@@ -2,12 +2,14 @@
 use mathlib.Core.Path.{_≡_, refl, ap, _∙_}
 use mathlib.Core.Bool.{Bool, true, false, not, _&&_, _||_}
 use mathlib.Core.List.{List}
-use Prim.Native.Nat.{ℕ, _≤_, _<_}
+use Prim.Native.Nat.{ℕ, _*_, _≤_, _<_}
 use native.Mathlib.Omega.{arith}
 use lib.ListN.{length}
+use borrow.Author.Tests.{lt-leb}
 use Rattle.ground.specs.Plain.{if_then_else_, _==_, _<?_}
 use Rattle.ground.specs.Truth.{cond-by}
 use Rattle.packet.specs.Kinds.{frames}
+use Rattle.packet.specs.Theorems.Tags.{frames-some}
 use Rattle.phases.specs.Beginning.{begins}
 use Rattle.phases.specs.Due.{brought, silent}
 use Rattle.phases.specs.Laws.Cleared.{begun-step-at, stopped-port}
@@ -81,11 +83,15 @@ record Says (g : Group) (t : Taken) : Type 0 where
   ten : t .answer ≡ 10 → (inStepAt (g .kind) (t .step .count) ≡ false) × (t .step .failed ≡ 1)
   twelve : t .answer ≡ 12 → (inStepAt (g .kind) (t .step .count) ≡ false) × (t .step .failed ≡ 0)
 
+none-in-step : (kind : ℕ) → inStepAt kind 0 ≡ false
+unfolding inStepAt
+none-in-step kind = let some = frames-some kind in lt-leb (frames kind * 2) 0 (omega arith)
+
 says : (g : Group) (s : Step) (failed odd : Bool) (h : ℕ) → Says g (takenOf g s failed odd h)
-unfolding flagged countsOn frameDropped keeps outside joining inStepAt frames
+unfolding flagged countsOn frameDropped keeps outside joining
 says g s failed odd h =
     taken-by (Says g) g s failed odd h
-    (λ f. record { ten = λ e. (refl, refl); twelve = λ e. absurd (omega arith) })
+    (λ f. record { ten = λ e. (none-in-step (g .kind), refl); twelve = λ e. absurd (omega arith) })
     (λ f e. record { ten = λ a. absurd (omega arith); twelve = λ a. (e, refl) })
     (λ f e b. record { ten = λ a. absurd (omega arith); twelve = λ a. absurd (omega arith) })
     (λ f e b j w. record { ten = λ a. absurd (omega arith); twelve = λ a. absurd (omega arith) })

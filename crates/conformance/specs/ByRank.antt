@@ -7,6 +7,7 @@ use native.Mathlib.Omega.{arith}
 use lib.Arith.{digits-lt, digits-div, digits-mod}
 use lib.ListN.{getD, length, replicate}
 use borrow.Author.Tests.{lt-ltb}
+use Rattle.packet.specs.Kinds.{payloadRight}
 use Rattle.counting.specs.Each.{getD-each}
 use Rattle.ground.specs.Table.{getD-tabulate}
 use Rattle.payload.specs.declared.answer.Answer.the-variants.{Done}
@@ -28,14 +29,14 @@ ranks-told s slot b =
     getD-each n (λ i. rankAt (s .ruling .rows) n i) (replicate 64 noRank) slot 0 b (omega arith)
 
 -- block r of all members is the payload of the slot whose rank is r, byte by byte
-pub by-rank : (s : Sender) (slot r P : ℕ) (frame members member : List ℕ) → s .begun ≡ true → slot < sizeOf (s .table .count) → slot < ranksOf s .count
+pub by-rank : (s : Sender) (slot r P : ℕ) (frame members member : List ℕ) → s .begun ≡ true → payloadRight (s .table .kind) P ≡ true → slot < sizeOf (s .table .count) → slot < ranksOf s .count
     → getD (ranksOf s .ranks) slot 0 ≡ r → r < xOf s → wholeAnswer (xOf s) P (length frame) (length members) ≡ Done → oneAnswer (xOf s) P (length frame) (length member) ≡ Done
     → (k : ℕ) → k < P → getD (spreadAll (xOf s) P frame members) (r * P + k) 0 ≡ getD (payloadBytes s slot P frame member) k 0
 unfolding payloadBytes
-by-rank s slot r P frame members member begun below told rank inside whole one k b =
+by-rank s slot r P frame members member begun own below told rank inside whole one k b =
     let X : ℕ = xOf s in
     let is : rankIn s slot ≡ r = sym (ranks-told s slot told) ∙ rank in
-    rw (whole, lt-ltb slot (sizeOf (s .table .count)) below, begun, one, is)
+    rw (whole, lt-ltb slot (sizeOf (s .table .count)) below, own, begun, one, is)
     (getD-tabulate (X * P) (λ j. memberByte X frame (j / P) (j % P)) (r * P + k) 0 (digits-lt inside b)
     ∙ rw (digits-div r b, digits-mod r b)
     (sym (getD-tabulate P (memberByte X frame r) k 0 b)))

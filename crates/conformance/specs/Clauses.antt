@@ -25,6 +25,9 @@ pub mod Settling
 pub mod Sizes
 pub mod Spoken
 pub mod Texts
+pub mod Vc12
+pub mod Vc12Ports
+pub mod Vc12Step
 pub mod Verdicts
 use mathlib.Core.Path.{_≡_, refl}
 use mathlib.Core.Bool.{Bool, true, false}
@@ -72,7 +75,7 @@ ruled r = flag (r .good) ∷ r .word ∷ r .number ∷ r .gid ∷ []
 
 -- a port in step: the tag to come, the breaks in a row, and whether the latest packet was odd
 abbrev standing : ℕ → ℕ → ℕ → Run
-standing next breaks odd = record { count = 32; next = next; breaks = breaks; odd = odd }
+standing next breaks odd = record { count = 32; next = next; breaks = breaks; odd = odd; bits = 0 }
 
 abbrev ran : Run → List ℕ
 ran r = r .count ∷ r .next ∷ r .breaks ∷ r .odd ∷ []

@@ -129,18 +129,19 @@ table =
     }
     ∷ record { name = "a fixed group's reply is MST 00 and RS-Ack 0; by 01 MST is FF before a member is OK"; given = told 2 ++ told 0; said = 0 ∷ 0 ∷ 255 ∷ 0 ∷ [] }
     ∷ record {
-      name = "a start takes the kinds 0 and 2; any other is 4, in C and in the library";
+      name = "a start with P 1 and W 16 takes the kinds 0 and 2; kind 1 asks for P 136 and W 32, and any other kind is 4, in C and in the library";
       given =
           startAsAnswerC 0 1 1 16 32 [] [] 6
           ∷ startAsAnswerC 2 1 1 16 32 [] [] 6
           ∷ startAsAnswerC 1 1 1 16 32 [] [] 6
+          ∷ startAsAnswerC 1 1 136 32 4384 [] [] 6
           ∷ startAsAnswerC 255 1 1 16 32 [] [] 6
           ∷ startAsAnswerC 256 1 1 16 32 [] [] 6
           ∷ startAsAnswerC 258 1 1 16 32 [] [] 6
           ∷ startAnswer 1 1 1 16 32 6
           ∷ startAnswer 3 1 1 16 32 6
           ∷ [];
-      said = 0 ∷ 0 ∷ 4 ∷ 4 ∷ 4 ∷ 4 ∷ 4 ∷ 4 ∷ [];
+      said = 0 ∷ 0 ∷ 4 ∷ 0 ∷ 4 ∷ 4 ∷ 4 ∷ 4 ∷ 4 ∷ [];
     }
     ∷ record {
       name = "a fixed start: 4 before 9, with times as any other";

@@ -17,6 +17,7 @@ pub mod Refusals
 pub mod Replays
 pub mod Rows
 pub mod SameBytes
+pub mod SentInC
 pub mod Waiting
 pub mod Waits
 pub mod Worked

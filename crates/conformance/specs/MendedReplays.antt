@@ -14,7 +14,7 @@ use Rattle.mending.specs.Laws.Opened.{mended-lines, mendedRest, portsIn, sizeIn
 use Rattle.mending.specs.Laws.Texts.{bytes-with, bytesOf}
 use Rattle.mending.specs.Lines.{Line, recordOf}
 use Rattle.mending.specs.Mending.{Opened, fitting, mendedOf}
-use Rattle.phases.specs.Sizes.{sized}
+use Rattle.phases.specs.Sizes.{startSized}
 use Rattle.receiver.specs.Starting.{timesWithin}
 use Rattle.recording.specs.declared.pairs.Settings.{Settings as GroupSettings}
 use Rattle.recording.specs.declared.record.Record.{Record}
@@ -35,7 +35,7 @@ pub startable-is : (s : GroupSettings) (store : ℕ) → startable s store ≡ (
 unfolding startable fitting timesFit
 startable-is s store =
     ap (λ (b : Bool). b && leb (storeIn s) store)
-    (sym (and-assoc (sized (s .kind) (s .ports) (s .size) (s .window)) (timesWithin (take (s .ports) (s .«hold_off»))) (timesWithin (take (s .ports) (s .restore)))))
+    (sym (and-assoc (startSized (s .kind) (s .ports) (s .size) (s .window)) (timesWithin (take (s .ports) (s .«hold_off»))) (timesWithin (take (s .ports) (s .restore)))))
 
 abbrev canRead : Opening → Bool
 canRead (O.Settings s next) = true

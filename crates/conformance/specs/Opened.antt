@@ -9,9 +9,9 @@ use Rattle.c_face.specs.Keeping.{byteAt as byteAt-c_face-Keeping}
 use Rattle.c_face.specs.Keeping.{senderOf as senderOf-c_face-Keeping}
 use Rattle.c_face.specs.Mends.{mendedLengthC, notesLengthC}
 use Rattle.c_face.specs.Orders.{kindAnswerOn, kindStateOn, orderAnswerOn, orderAnswersOn, orderStateOn}
-use Rattle.c_face.specs.Packets.{readAnswerC, readFieldsC, readFixedAnswerC, readFixedFieldsC}
+use Rattle.c_face.specs.Packets.{readAnswerC, readFieldsC, readFixedAnswerC, readFixedFieldsC, readVc12AnswerC, readVc12FieldsC}
 use Rattle.c_face.specs.Plans.{lentAnswer, lentBytes}
-use Rattle.c_face.specs.Senders.{callAnswerC, callStateC, packetAnswerC, packetBytesC, payloadAnswerC, payloadBytesC, startAnswerC, startStateC}
+use Rattle.c_face.specs.Senders.{callAnswerC, callStateC, packetAnswerC, packetBytesC, payloadAnswerC, payloadBytesC, sends, startAnswerC, startStateC}
 use Rattle.circuits.specs.Commands.{claimOf, commandOf, groupCallOf, releaseOf}
 use Rattle.circuits.specs.Commands.{startOf as startOf-circuits-Commands}
 use Rattle.circuits.specs.Owners.{ownedBytes, withOwner}
@@ -48,16 +48,18 @@ use Rattle.mending.specs.Mending.{readAnswer as readAnswer-mending-Mending}
 use Rattle.mending.specs.Told.{lengthsOf, mendedLeft, notesLeft}
 use Rattle.orders.specs.Orders.{outcomeBy}
 use Rattle.packet.specs.Changes.{bringsMfi2, changed, keptPart, mostChanges}
-use Rattle.packet.specs.Counts.{carriesLow, counts, startsCount, tagByHigh, tagByLow}
+use Rattle.packet.specs.Counts.{carriesLow, counts, h4Counts, saysStart, startsCount, tagByHigh, tagByLow, toldBits, vc12Counts}
 use Rattle.packet.specs.Crc.{crcOf, divisor, nibbleBits}
 use Rattle.packet.specs.Fixed.{fixedNibbles, fixedRulingOf, readFixedAnswer, readFixedNibbles, writeFixedAnswer, writeFixedBytes}
-use Rattle.packet.specs.Kinds.{distanceOf, endsEpoch, epochAfter, epochOf, epochs, epochsIn, firstTag, frames, idleNumber, lead, mstFails, mstFirst, mstNumbers, placeOf, startsEpoch, tagAfter, tagBefore, tags}
+use Rattle.packet.specs.Kinds.{distanceOf, endsEpoch, epochAfter, epochOf, epochs, epochsIn, firstTag, frames, idleNumber, knownKind, lead, mstEpochs, mstFails, mstFirst, mstNumbers, payloadRight, placeOf, startsEpoch, tagAfter, tagBefore, tags}
 use Rattle.packet.specs.Layout.{carriedIn, dataOf, h4Of, highsOf, nibblesOf, sealedOf}
 use Rattle.packet.specs.Layout.{fieldsOf as fieldsOf-packet-Layout}
 use Rattle.packet.specs.Reading.{readAnswer, readNibbles}
-use Rattle.packet.specs.Ruling.{rulingOf}
+use Rattle.packet.specs.Ruling.{readRow, rulingOf}
+use Rattle.packet.specs.Sent.{sentAnswer, sentBytes, sentFits}
 use Rattle.packet.specs.Shares.{joinedTo, shareOf}
 use Rattle.packet.specs.Symbols.{entryAt, entryFrom, entryWith, rowFrom, symbolAt, symbolIn, symbolOf, withSymbol}
+use Rattle.packet.specs.Vc12.{lowestOf, readVc12Answer, readVc12Bits, readVc12Row, rowBits, vc12Bits, vc12Bytes, vc12Data, vc12Divisor, vc12Fields, vc12Fits, writeVc12Answer, writeVc12Bytes}
 use Rattle.packet.specs.Words.{assigned}
 use Rattle.packet.specs.Writing.{fitting, writeAnswer, writeBytes}
 use Rattle.paths.specs.Answers.{answerOf, areShort}
@@ -70,7 +72,7 @@ use Rattle.phases.specs.Beginning.{begins, foremost, further, latest, noTag, re
 use Rattle.phases.specs.Due.{brought, owesNothing, silent}
 use Rattle.phases.specs.Passing.{notedBy, passedGroup, passedOf, passedPort, passedPorts, passedStep, ruledBy}
 use Rattle.phases.specs.Settling.{beginBy, begunOf, clearedPort, clearedPorts, clearedStep, gatherBy, settledOf, stopBy, stoppedOf}
-use Rattle.phases.specs.Sizes.{portsIn, sized, storeFor}
+use Rattle.phases.specs.Sizes.{portsIn, sized, startSized, storeFor}
 use Rattle.receiver.specs.Fetch.{dueIn, fetchAnswer, fetchOut, fetchRecord, fetchRows, outIfDue, recordOf, reportIfDue, rowsIfDue}
 use Rattle.receiver.specs.Fetch.{fits as fits-receiver-Fetch}
 use Rattle.receiver.specs.Frame.{frameAnswer, frameRows, frameStore, gatheredBy, marksBy, portRows, refusalBy, settledBy, steadyRows, storeBy, takenRows, takenStore}
@@ -123,7 +125,8 @@ use Rattle.spoken.specs.Speaking.{canSpeak, changeText, changesSpeak, nowText, 
 use Rattle.spoken.specs.Speaking.{slotText as slotText-spoken-Speaking}
 use Rattle.step.specs.Arrival.{arrives, byStart, byWindow, countsOn, distanceIn, flagged, frameDropped, inStep, joining, keeps, outside, readable, takenOf}
 use Rattle.step.specs.OwnCount.{endsOdd, oddPacket, ownNumber, ownRuling, rightCrc, rulingIn}
-use Rattle.step.specs.Run.{begunRun, breaksAfter, endsPacket, furtherRun, gainedRun, inStepAt, loses, oddAfter, runOn, secondRun, stayedRun}
+use Rattle.step.specs.Run.{begunRun, breaksAfter, endsPacket, furtherRun, gainedRun, h4RunOn, inStepAt, loses, oddAfter, runOn, secondRun, stayedRun}
+use Rattle.step.specs.Starts.{begunPacket, bitsAfter, countAfter, fifthBit, firstOfTwo, goesOn, startsRun}
 use Rattle.store.specs.Frames.{h4At, packetIn, placeIn, ringOf, storedAt}
 use Rattle.store.specs.Frames.{byteAt as byteAt-store-Frames}
 use Rattle.store.specs.Marks.{cutByte, cutFrom, firstMark, markIn, markedAt, markedByte, passedByte, passedMarks}
@@ -137,8 +140,8 @@ unfolding indexAfter indexOf boardByte boardBytesOf rankByte ranksBytesOf shownA
     packetAnswerOn packetBytesOn partIn payloadAnswerOn payloadBytesOn putOwn refusalOf shownAnswerOn shownBytesOn startAnswerOn startStateOn
     appliedAnswerC appliedBytesC changesByte changesBytesOf changesFrom comparedAnswerC comparedBytesC listFrom spokenAnswerC spokenBytesC writtenC
     byteAt-c_face-Keeping bytesOf rowsIn senderOf-c_face-Keeping slotsIn mendedLengthC notesLengthC kindAnswerOn kindStateOn orderAnswerOn orderAnswersOn orderStateOn
-    readAnswerC readFieldsC readFixedAnswerC readFixedFieldsC lentAnswer lentBytes callAnswerC callStateC packetAnswerC packetBytesC payloadAnswerC
-    payloadBytesC startAnswerC startStateC claimOf commandOf groupCallOf releaseOf startOf-circuits-Commands ownedBytes withOwner emptySender
+    readAnswerC readFieldsC readFixedAnswerC readFixedFieldsC readVc12AnswerC readVc12FieldsC lentAnswer lentBytes callAnswerC callStateC packetAnswerC packetBytesC payloadAnswerC
+    payloadBytesC sends startAnswerC startStateC claimOf commandOf groupCallOf releaseOf startOf-circuits-Commands ownedBytes withOwner emptySender
     groupOutcome isSlot isUsed marked owns senderOf-circuits-Parts shownSender withSender boardShown outgoingShown ownedShown
     packetAnswer-circuits-Readings packetBytes-circuits-Readings payloadAnswer-circuits-Readings payloadBytes-circuits-Readings ranksShown keepOf
     lineIn nothingKept lineOf numberLine reportLine reportOf-console-Line wordLine answerText-console-Output boardText slotText-console-Output
@@ -146,10 +149,11 @@ unfolding indexAfter indexOf boardByte boardBytesOf rankByte ranksBytesOf shownA
     feedBytes feedOf finishBytes finishOf lastSession lastText usedOf toldTable after activeIn orderOf portOf rankOf-judge-Order doubtfulBy eosAlone eosWrong
     exact fixedExact fixedHeld fixedVerdict gidDiffers heldBy highest-judge-Verdict judgeOf lcasVerdict missing repeats takes followed capital digitPlace judged linesWith recordOf-mending-Lines mendAnswer mendedOf notesOf
     fitting-mending-Mending readAnswer-mending-Mending lengthsOf mendedLeft notesLeft outcomeBy carriesLow
-    counts bringsMfi2 changed keptPart mostChanges entryAt entryFrom entryWith rowFrom symbolAt symbolIn symbolOf withSymbol startsCount tagByHigh tagByLow crcOf divisor nibbleBits fixedNibbles fixedRulingOf readFixedAnswer readFixedNibbles
-    writeFixedAnswer writeFixedBytes distanceOf endsEpoch epochAfter epochOf epochs epochsIn firstTag frames idleNumber lead mstFails mstFirst
-    mstNumbers placeOf startsEpoch tagAfter tagBefore tags carriedIn dataOf fieldsOf-packet-Layout h4Of highsOf nibblesOf sealedOf readAnswer
-    readNibbles rulingOf joinedTo shareOf assigned fitting writeAnswer writeBytes answerOf areShort accepts agree agreesWith checkedOf candidateAt
+    counts h4Counts saysStart toldBits vc12Counts bringsMfi2 changed keptPart mostChanges entryAt entryFrom entryWith rowFrom symbolAt symbolIn symbolOf withSymbol startsCount tagByHigh tagByLow crcOf divisor nibbleBits fixedNibbles fixedRulingOf readFixedAnswer readFixedNibbles
+    writeFixedAnswer writeFixedBytes distanceOf endsEpoch epochAfter epochOf epochs epochsIn firstTag frames idleNumber knownKind lead mstEpochs mstFails mstFirst
+    mstNumbers payloadRight placeOf startsEpoch tagAfter tagBefore tags carriedIn dataOf fieldsOf-packet-Layout h4Of highsOf nibblesOf sealedOf readAnswer
+    readNibbles readRow rulingOf sentAnswer sentBytes sentFits lowestOf readVc12Answer readVc12Bits readVc12Row rowBits vc12Bits vc12Bytes vc12Data
+    vc12Divisor vc12Fields vc12Fits writeVc12Answer writeVc12Bytes joinedTo shareOf assigned fitting writeAnswer writeBytes answerOf areShort accepts agree agreesWith checkedOf candidateAt
     rankOf-paths-Order ranksOf-paths-Order sortedBy planOf proposed setOf tightestOf begins foremost further latest noTag ready within brought
     owesNothing silent notedBy passedGroup passedOf passedPort passedPorts passedStep ruledBy beginBy begunOf clearedPort clearedPorts clearedStep
     gatherBy settledOf stopBy stoppedOf portsIn sized storeFor dueIn fetchAnswer fetchOut fetchRecord fetchRows fits-receiver-Fetch outIfDue recordOf
@@ -157,7 +161,7 @@ unfolding indexAfter indexOf boardByte boardBytesOf rankByte ranksBytesOf shownA
     fetchFits frameFits outputFor rowsFit frameInto framesInto outputBy outputOf-receiver-Report replyPort replyPorts reportBy
     reportOf-receiver-Report reportedOf rulingEpoch seenAll seenOf startsOf statePut statesPut statesWorkedOut withState portIn portShown portsAnswer
     portsOut replyAnswer replyFit replyOf-receiver-Shown replyOut shownFit freshPort freshPorts sizedAnswer sizedFits sizedRows startAsAnswer
-    startAsRows startFits startRight timesWithin foundOf lineOpening opened openingIn settingsBy fieldIn holdRead kindRead named restoreRead flagIn
+    startAsRows startFits startRight startSized timesWithin foundOf lineOpening opened openingIn settingsBy fieldIn holdRead kindRead named restoreRead flagIn
     frameBy lastRecord lineRecord recordIn answerText-replaying-Output countIn epochText markText portText reportText stateAt stateLine stateText
     statesIn called calls deskAfter saidTo wholeOutput-replaying-Runs answeredSaid answeredTurn fetchRecordBy fetchRowsBy framedRows framedStore framedTurn isLent openRows openSaid openTurn
     openWithRows openWithSaid openWithTurn payloadAt readOnTurn readRows readSaid readStore readTurn recordNow reportOf-replaying-Turn reportTurn reportedTurn skipTurn
@@ -171,7 +175,8 @@ unfolding indexAfter indexOf boardByte boardBytesOf rankByte ranksBytesOf shownA
     fits-spoken-Applying withChanges changesIn changesOf comparedOf listOf noChanges canSpeak changeText changesSpeak nowText rowText
     slotText-spoken-Speaking speakAnswer speechBytes speechOf spokenText waitLine wasText arrives byStart byWindow countsOn distanceIn flagged
     frameDropped inStep joining keeps outside readable takenOf endsOdd oddPacket ownNumber ownRuling rightCrc rulingIn begunRun breaksAfter endsPacket
-    furtherRun gainedRun inStepAt loses oddAfter runOn secondRun stayedRun byteAt-store-Frames h4At packetIn placeIn ringOf storedAt cutByte cutFrom
+    furtherRun gainedRun h4RunOn inStepAt loses oddAfter runOn secondRun stayedRun begunPacket bitsAfter countAfter fifthBit firstOfTwo goesOn startsRun
+    byteAt-store-Frames h4At packetIn placeIn ringOf storedAt cutByte cutFrom
     firstMark markIn markedAt markedByte passedByte passedMarks bytesIn digitOf hexOf isHex numberOf decimalText numberText putBytes putNext wordText
     fieldsOf-text-Text linesOf
 allOpen = 0

@@ -38,6 +38,11 @@ entries =
     ∷ row "packet::write_fixed" packet.writeFixed packet.writeFixed-copes
     ∷ row "packet::read_fixed" packet.readFixed packet.readFixed-copes
     ∷ row "packet::read_fixed_nibbles" packet.readFixedSixteen packet.readFixedSixteen-copes
+    ∷ row "packet::write_vc12" packet.writeVc12 packet.writeVc12-copes
+    ∷ row "packet::read_vc12" packet.readVc12 packet.readVc12-copes
+    ∷ row "packet::read_vc12_row" packet.readVc12Entries packet.readVc12Entries-copes
+    ∷ row "packet::write_by" packet.writeBy packet.writeBy-copes
+    ∷ row "packet::read_row" packet.readRowBy packet.readRowBy-copes
     ∷ row "payload::spread" payload.spread payload.spread-copes
     ∷ row "payload::join" payload.join payload.join-copes
     ∷ row "payload::spread_one" payload.spreadOneMember payload.spreadOne-copes
@@ -94,11 +99,14 @@ entries =
     ∷ row "levelspruce_packet_read" packet.readC packet.readC-copes
     ∷ row "levelspruce_packet_write_fixed" packet.writeFixedC packet.writeFixedC-copes
     ∷ row "levelspruce_packet_read_fixed" packet.readFixedC packet.readFixedC-copes
+    ∷ row "levelspruce_packet_write_vc12" packet.writeVc12C packet.writeVc12C-copes
+    ∷ row "levelspruce_packet_read_vc12" packet.readVc12C packet.readVc12C-copes
     ∷ row "levelspruce_spread" payload.spreadC payload.spread-copes
     ∷ row "levelspruce_join" payload.joinC payload.join-copes
     ∷ row "levelspruce_paths_plan" paths.planC paths.planC-copes
     ∷ row "levelspruce_paths_check" paths.checkC paths.checkC-copes
     ∷ row "levelspruce_sender_start" state.start state.start-copes
+    ∷ row "levelspruce_sender_start_as" state.startAs state.startAs-copes
     ∷ row "levelspruce_sender_add" state.add state.add-copes
     ∷ row "levelspruce_sender_remove" state.remove state.remove-copes
     ∷ row "levelspruce_sender_report" state.report state.report-copes
@@ -110,6 +118,7 @@ entries =
     ∷ row "levelspruce_sender_board_going" state.outgoing state.outgoing-copes
     ∷ row "levelspruce_sender_ranks" state.ranked state.ranked-copes
     ∷ row "levelspruce_card_start" cardState.start cardState.start-copes
+    ∷ row "levelspruce_card_start_as" cardState.startAs cardState.startAs-copes
     ∷ row "levelspruce_card_claim" cardState.claim cardState.claim-copes
     ∷ row "levelspruce_card_release" cardState.release cardState.release-copes
     ∷ row "levelspruce_card_add" cardState.add cardState.add-copes

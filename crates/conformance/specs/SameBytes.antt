@@ -17,8 +17,7 @@ use Rattle.link.specs.Sending.{Client, epochAt}
 use Rattle.link.specs.Proofs.Histories.Packets.{packet-any}
 use Rattle.link.specs.Proofs.Histories.Ruling.{x-le}
 use Rattle.link.specs.Proofs.Histories.Senders.{callsTo, sender-in, sender-run, size-at}
-use Rattle.packet.specs.Kinds.{frames}
-use Rattle.packet.specs.Laws.Epochs.{h4-frames}
+use Rattle.packet.specs.Kinds.{frames, payloadRight}
 use Rattle.payload.specs.Laws.Fits.{Sizes, spread-one-done}
 use Rattle.payload.specs.Order.{memberFrame}
 use Rattle.payload.specs.Spreading.{spreadOne}
@@ -27,7 +26,7 @@ use Rattle.sender.specs.Calls.{Call}
 use Rattle.sender.specs.Epochs.{SenderCall, beginOf, packetBytes, payloadBytes, rankIn, senderOutcomeOf, senderRun, xOf}
 use Rattle.sender.specs.Epochs.SenderCall.{OnTable, StartEpoch}
 use Rattle.sender.specs.Table.{sizeOf}
-use Rattle.sender.specs.Theorems.Epochs.{fixed, onTable, senderAfter}
+use Rattle.sender.specs.Theorems.Epochs.{fixed, onTable}
 
 -- calls on the table that a C host can make: each number of a report is a byte
 abbrev pub Bytes : List Call → Type 0
@@ -56,14 +55,14 @@ run-append s [] b = refl
 run-append s (c ∷ a) b = run-append (senderOutcomeOf s c .sender) a b
 
 -- what a payload call picks where nothing is refused
-picks-payload : (b g : Bool) (new old : List ℕ) → b ≡ true → g ≡ true → (if b && g then new else old) ≡ new
-picks-payload b g new old eb eg = rw (eb, eg) refl
+picks-payload : (b c g : Bool) (new old : List ℕ) → b ≡ true → c ≡ true → g ≡ true → (if b && c && g then new else old) ≡ new
+picks-payload b c g new old eb ec eg = rw (eb, ec, eg) refl
 
--- A history of the kind H4 with reports of bytes, and a C start of its slots and first epoch that was done.
-module _ (h : History) (a : Allowed h) (kind : h .kind ≡ 0) (bytes : (i : ℕ) → Bytes (h .before i)) (state : List ℕ) (done : startAnswerC (h .slots) (h .first) state ≡ 0) where
+-- A history with reports of bytes, and a C start of its kind, slots and first epoch that was done.
+module _ (h : History) (a : Allowed h) (bytes : (i : ℕ) → Bytes (h .before i)) (state : List ℕ) (done : startAnswerC (h .kind) (h .slots) (h .first) state ≡ 0) where
   -- the state after the C calls of the history up to the start of its i-th epoch, and those on the table after it
   abbrev pub stateC : ℕ → List Call → List ℕ
-  stateC i after = runC (startStateC (h .slots) (h .first) state) (callsTo h i ++ onTable after)
+  stateC i after = runC (startStateC (h .kind) (h .slots) (h .first) state) (callsTo h i ++ onTable after)
 
   fit-before : (i : ℕ) → AllFit (onTable (h .before i) ++ (StartEpoch (h .gid i) (h .mst i) (h .ack i) ∷ []))
   fit-before i =
@@ -83,19 +82,19 @@ module _ (h : History) (a : Allowed h) (kind : h .kind ≡ 0) (bytes : (i : ℕ)
   -- the sender in the state is the history's, with the calls after its start
   pub sender-is : (i : ℕ) (after : List Call) → Bytes after → senderOf (stateC i after) ≡ senderRun (senderAt h i) (onTable after)
   sender-is i after f =
-      runs-own (h .slots) (h .first) state (callsTo h i ++ onTable after) done
-      ∙ ap (senderRun (beginOf 0 (h .slots) (h .first) .sender)) (all-meant (callsTo h i ++ onTable after) (fit-append (callsTo h i) (onTable after) (fit-to i) (fit-table after f)))
-      ∙ run-append (beginOf 0 (h .slots) (h .first) .sender) (callsTo h i) (onTable after)
-      ∙ ap (λ (s : Sender). senderRun s (onTable after)) (sym (sender-run h i ∙ ap (λ (k : ℕ). senderAfter k (h .slots) (h .first) (callsTo h i)) kind))
+      runs-own (h .kind) (h .slots) (h .first) state (callsTo h i ++ onTable after) done
+      ∙ ap (senderRun (beginOf (h .kind) (h .slots) (h .first) .sender)) (all-meant (callsTo h i ++ onTable after) (fit-append (callsTo h i) (onTable after) (fit-to i) (fit-table after f)))
+      ∙ run-append (beginOf (h .kind) (h .slots) (h .first) .sender) (callsTo h i) (onTable after)
+      ∙ ap (λ (s : Sender). senderRun s (onTable after)) (sym (sender-run h i))
 
   sized : (i : ℕ) (after : List Call) → length (stateC i after) ≡ 397
-  sized i after = runs-sized (h .slots) (h .first) state (callsTo h i ++ onTable after) done
+  sized i after = runs-sized (h .kind) (h .slots) (h .first) state (callsTo h i ++ onTable after) done
 
-  packet-written : (i slot : ℕ) → slot < h .slots → (h4 : List ℕ) → length h4 ≡ 16 → packetBytes (senderAt h i) slot h4 ≡ packetSent h i slot
-  packet-written i slot b h4 l = packet-any h a i slot b h4 (l ∙ sym (ap frames kind ∙ h4-frames))
+  packet-written : (i slot : ℕ) → slot < h .slots → (h4 : List ℕ) → length h4 ≡ frames (h .kind) → packetBytes (senderAt h i) slot h4 ≡ packetSent h i slot
+  packet-written i slot b h4 l = packet-any h a i slot b h4 l
 
   -- levelspruce_sender_packet writes what the history sends
-  pub packet-same : (i slot : ℕ) (after : List Call) → Bytes after → slot < h .slots → (h4 : List ℕ) → length h4 ≡ 16 → packetBytesC (stateC i after) slot h4 ≡ packetSent h i slot
+  pub packet-same : (i slot : ℕ) (after : List Call) → Bytes after → slot < h .slots → (h4 : List ℕ) → length h4 ≡ frames (h .kind) → packetBytesC (stateC i after) slot h4 ≡ packetSent h i slot
   packet-same i slot after f b h4 l =
       packet-own (stateC i after) slot h4 (sized i after) .1
       ∙ ap (λ (s : Sender). packetBytes s slot h4) (sender-is i after f)
@@ -112,9 +111,9 @@ module _ (h : History) (a : Allowed h) (kind : h .kind ≡ 0) (bytes : (i : ℕ)
     unfolding payloadBytes
     payload-written x slot b member l =
         let s : Sender = senderAt h (epochAt (h .kind) x) in
-        picks-payload (slot <? sizeOf (senderAt h (epochAt (h .kind) x) .table .count)) (senderAt h (epochAt (h .kind) x) .begun)
+        picks-payload (slot <? sizeOf (senderAt h (epochAt (h .kind) x) .table .count)) (payloadRight (senderAt h (epochAt (h .kind) x) .table .kind) P) (senderAt h (epochAt (h .kind) x) .begun)
         (spreadOne (xOf (senderAt h (epochAt (h .kind) x))) P (rankIn (senderAt h (epochAt (h .kind) x)) slot) (client x) member) member
-        (lt-ltb slot (sizeOf (senderAt h (epochAt (h .kind) x) .table .count)) (rw (size-at h a (epochAt (h .kind) x)) b)) (sender-in h a (epochAt (h .kind) x) .begun)
+        (lt-ltb slot (sizeOf (senderAt h (epochAt (h .kind) x) .table .count)) (rw (size-at h a (epochAt (h .kind) x)) b)) (rw (sender-in h a (epochAt (h .kind) x) .kind) (c .payload-right)) (sender-in h a (epochAt (h .kind) x) .begun)
         ∙ spread-one-done (xOf s) P (rankIn s slot) (client x) member (sizes x) (c .whole x) l
 
     -- and levelspruce_sender_payload, frame by frame

@@ -230,8 +230,8 @@ table =
     ∷ record {
       name = "what is shown of a port in step that has not joined, readable and not";
       given =
-          portShown (groupAt (receiving .rows)) (stepTo (stepAt (receiving .rows) 0) 0 (record { count = 32; next = 5; breaks = 0; odd = 0 }) 0 1 0) (memberOf (2 ∷ 7 ∷ 1 ∷ 5 ∷ replicate 12 0))
-          ++ portShown (groupAt (receiving .rows)) (stepTo (stepAt (receiving .rows) 0) 0 (record { count = 32; next = 5; breaks = 0; odd = 0 }) 0 0 0) (memberOf (2 ∷ 7 ∷ 1 ∷ 5 ∷ replicate 12 0));
+          portShown (groupAt (receiving .rows)) (stepTo (stepAt (receiving .rows) 0) 0 (record { count = 32; next = 5; breaks = 0; odd = 0; bits = 0 }) 0 1 0) (memberOf (2 ∷ 7 ∷ 1 ∷ 5 ∷ replicate 12 0))
+          ++ portShown (groupAt (receiving .rows)) (stepTo (stepAt (receiving .rows) 0) 0 (record { count = 32; next = 5; breaks = 0; odd = 0; bits = 0 }) 0 0 0) (memberOf (2 ∷ 7 ∷ 1 ∷ 5 ∷ replicate 12 0));
       said = 1 ∷ 5 ∷ 1 ∷ 0 ∷ 1 ∷ 0 ∷ 2 ∷ 0 ∷ 1 ∷ 5 ∷ 1 ∷ 0 ∷ 0 ∷ 0 ∷ 2 ∷ 0 ∷ [];
     }
     ∷ record {

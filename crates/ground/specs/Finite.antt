@@ -73,6 +73,11 @@ same-bits (a ∷ l) [] t = absurd (false≢true t)
 same-bits (a ∷ l) (b ∷ m) t =
     ap₂ _∷_ (same-bit a b (and-left (Bool·beq a b) (sameBits l m) t)) (same-bits l m (and-right (Bool·beq a b) (sameBits l m) t))
 
+pub bits-same : (l : List Bool) → sameBits l l ≡ true
+bits-same [] = refl
+bits-same (true ∷ l) = bits-same l
+bits-same (false ∷ l) = bits-same l
+
 -- two lists of bytes compared by a test
 abbrev pub sameBytes : List ℕ → List ℕ → Bool
 sameBytes [] [] = true

@@ -1,5 +1,6 @@
 pub mod Arcs
 pub mod Bits
+pub mod Catching
 pub mod Circle
 pub mod Distance
 pub mod Division

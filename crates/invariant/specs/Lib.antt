@@ -5,6 +5,7 @@ pub mod Ruled
 pub mod Reports
 pub mod Times
 pub mod Live
+pub mod Words
 pub mod Proofs
 pub mod Theorems
 mod Wrong

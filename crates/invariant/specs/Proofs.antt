@@ -8,7 +8,9 @@ pub mod Sizes
 pub mod Claims
 pub mod Claimed
 pub mod Ruled
+pub mod OwnBits
 pub mod Numbered
 pub mod Reports
 pub mod Times
 pub mod Live
+pub mod Stepping

@@ -13,6 +13,7 @@ use Rattle.judge.specs.Theorems.Fixed.{Standing}
 use Rattle.judge.specs.Verdict.{HELD, SURE, judgeOf}
 use Rattle.packet.specs.Kinds.{epochAfter, epochOf, fixedKind, frames}
 use Rattle.packet.specs.Layout.{fieldsOf}
+use Rattle.packet.specs.Ruling.{fieldsIn}
 use Rattle.packet.specs.Words.{FIXED}
 use Rattle.phases.specs.Beginning.{foremost}
 use Rattle.phases.specs.Settling.{settledOf}
@@ -34,11 +35,15 @@ use Rattle.store.specs.Marks.{firstMark}
 use Rattle.invariant.specs.Calls.{Receiver, ReceiverCall, portAfter, receiverAfter, receiverRun, startedWith}
 use Rattle.invariant.specs.Claims.{Claimed, HandedBy, HandedLast, tagIn}
 use Rattle.invariant.specs.Kept.Group.{Kept}
+use Rattle.invariant.specs.Words.{Unflagged}
+use Rattle.invariant.specs.Proofs.Stepping as Stepping
+use Rattle.step.specs.Theorems.Heard.{HeardStep}
 use Rattle.invariant.specs.Live.{Live, heardOf}
 use Rattle.invariant.specs.Proofs.Calls as Calls
 use Rattle.invariant.specs.Proofs.Claimed as Claims
 use Rattle.invariant.specs.Proofs.Live.Calls as Lives
 use Rattle.invariant.specs.Proofs.Numbered as Numbered
+use Rattle.invariant.specs.Proofs.OwnBits.Calls as OwnBits
 use Rattle.invariant.specs.Proofs.Reports.Ack as Ack
 use Rattle.invariant.specs.Proofs.Reports.Bytes as Bytes
 use Rattle.invariant.specs.Proofs.Reports.Fixed as Fixed
@@ -52,6 +57,7 @@ use Rattle.invariant.specs.Proofs.Times.Between as Between
 use Rattle.invariant.specs.Proofs.Times.Calls as Times
 use Rattle.invariant.specs.Reports.{Given, HeldReport, Others, Refused, SameRule, Stored, Unstopped, ackIn, nextReport, reportsOf, successive}
 use Rattle.invariant.specs.Ruled.{OneEpoch}
+use Rattle.step.specs.OwnCount.{withoutMfi2}
 use Rattle.invariant.specs.Times.{SameShown, outcomesOf, standingIn, standingsAfter}
 
 -- After any calls.
@@ -87,9 +93,27 @@ pub one-epoch : (kind count P W : ℕ) (hold restore : List ℕ) (rows : List (L
     → OneEpoch (startedWith kind count P W hold restore rows store) calls
 one-epoch = Rules.one-epoch
 
--- on every state a packet that rules and is read as good carries that epoch's number (request 2026-04)
-pub own-number : (g : Group) (s : List (List ℕ)) (i : ℕ) → seenOf g s i .good ≡ true → fieldsOf (portAt s i .ruling) .epoch ≡ rulingEpoch g
+-- of H4, on every state, a packet that rules and is read as good carries that epoch's number (request 2026-04)
+pub own-number : (g : Group) (s : List (List ℕ)) (i : ℕ) → withoutMfi2 (g .kind) ≡ false → seenOf g s i .good ≡ true → fieldsOf (portAt s i .ruling) .epoch ≡ rulingEpoch g
 own-number = Numbered.own-number
+
+-- of a packet without MFI2 the step rule sees to it: after any calls each whole one that rules carries that number, whatever else it says (request 2026-01)
+pub own-count : (kind count P W : ℕ) (hold restore : List ℕ) (rows : List (List ℕ)) (store : List ℕ) → startAsAnswer kind count P W (length store) hold restore (length rows) ≡ 0 → (calls : List ReceiverCall) (j : ℕ) → j < count
+    → (let s = receiverRun (startedWith kind count P W hold restore rows store) calls .rows in
+    withoutMfi2 kind ≡ true → seenOf (groupAt s) s j .whole ≡ true → fieldsIn kind (portAt s j .ruling) .epoch ≡ rulingEpoch (groupAt s))
+own-count = OwnBits.own-count
+
+-- so of every kind after any calls: a packet that rules, is whole and read as good carries its epoch's number
+pub ruling-number : (kind count P W : ℕ) (hold restore : List ℕ) (rows : List (List ℕ)) (store : List ℕ) → startAsAnswer kind count P W (length store) hold restore (length rows) ≡ 0 → (calls : List ReceiverCall) (j : ℕ) → j < count
+    → (let s = receiverRun (startedWith kind count P W hold restore rows store) calls .rows in
+    seenOf (groupAt s) s j .whole ≡ true → seenOf (groupAt s) s j .good ≡ true → fieldsIn kind (portAt s j .ruling) .epoch ≡ rulingEpoch (groupAt s))
+ruling-number = Numbered.ruling-number
+
+-- VC-12's step rule in the request's words: 'in step after two whole packets in a row whose counts differ by one'. After any calls with no flagged frame of the port, it is in step exactly if the bytes that it has heard end so.
+pub step-words : (kind count P W : ℕ) (hold restore : List ℕ) (rows : List (List ℕ)) (store : List ℕ) → startAsAnswer kind count P W (length store) hold restore (length rows) ≡ 0
+    → withoutMfi2 kind ≡ true → (calls : List ReceiverCall) (j : ℕ) → j < count → Unflagged j calls
+    → HeardStep kind (heardOf j (startedWith kind count P W hold restore rows store) calls []) (portAt (receiverRun (startedWith kind count P W hold restore rows store) calls .rows) j .step .count)
+step-words = Stepping.step-words
 
 -- The packet being gathered (request 2026-04): in every phase the symbols of a run's last frames stand at their own places, and at own MFI1 7 of a port in step it is the packet that came.
 pub live-row : (kind count P W : ℕ) (hold restore : List ℕ) (rows : List (List ℕ)) (store : List ℕ) → startAsAnswer kind count P W (length store) hold restore (length rows) ≡ 0

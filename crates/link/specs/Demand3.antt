@@ -48,7 +48,7 @@ module _ (k : Link) (run : Run) where
     reporting : hasBegun (standing at) ≡ 1 → Reported at → Stands at
 
   pub record Promised : Type 0 where
-    -- 'A fresh receiver begins within 48 frames of the last port's first': T is the frame time of the last port's first frame, and before frame time T + 47 it has had 47 frames
+    -- 'A fresh receiver begins within 48 frames of the last port's first': T is the frame time of the last port's first frame, and before frame time T + 47 it has had 47 frames. Of VC-12 '96 frames', 95 here: three epochs less one frame.
     pub begins-within : (T : ℕ) → ((p : ℕ) → p < k .ports → k .delay p + k .first p ≤ T) → hasBegun (run (T + (epochFrames k * 3 - 1)) []) ≡ 1
     -- at every moment of the run, for ever: nothing is reported before the beginning, and then each epoch as it has fully arrived
     pub always : (at : Time k) → Stands at

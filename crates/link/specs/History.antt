@@ -1,13 +1,13 @@
 -- Our sender's side of demand 3: 'any client bytes and any history of members our sender allows from one start', and what each slot then sends.
 use mathlib.Core.Path.{_≡_}
-use mathlib.Core.Bool.{Bool, false, not}
+use mathlib.Core.Bool.{Bool, true, false, not}
 use mathlib.Core.List.{List}
 use Prim.Native.Nat.{ℕ, zero, suc, _*_, _≤_, _<_}
 use lib.ListN.{length, replicate}
 use Rattle.ground.specs.Plain.{if_then_else_, _==_}
 use Rattle.packet.specs.Changes.{mostChanges}
 use Rattle.packet.specs.declared.layout.Fields.{Fields}
-use Rattle.packet.specs.Kinds.{epochs, fixedKind, frames}
+use Rattle.packet.specs.Kinds.{epochs, fixedKind, frames, payloadRight}
 use Rattle.sender.specs.declared.epochs.Sender.{Sender}
 use Rattle.sender.specs.Calls.{Call}
 use Rattle.sender.specs.Epochs.{beginOf, packetBytes, packetFields, payloadBytes, rankIn, senderOutcomeOf, senderRun, xOf}
@@ -67,6 +67,8 @@ packetSent h i slot = packetBytes (senderAt h i) slot (replicate (frames (h .kin
 pub record Handed (h : History) (P : ℕ) (client : Client) : Type 0 where
   pub least : 1 ≤ P
   pub most : P ≤ 2340
+  -- of VC-12 'P is 136' (02, 2026-01)
+  pub payload-right : payloadRight (h .kind) P ≡ true
   pub whole : (x : ℕ) → length (client x) ≡ xAt h (epochAt (h .kind) x) * P
 
 -- the payload bytes of a slot in the frame at x

@@ -12,7 +12,7 @@ use Rattle.judge.specs.Verdict.{HELD, SURE}
 use Rattle.packet.specs.Changes.{bringsMfi2, changed, keptPart}
 use Rattle.packet.specs.Kinds.{firstTag, frames}
 use Rattle.packet.specs.Symbols.{symbolOf}
-use Rattle.phases.specs.Sizes.{sized}
+use Rattle.phases.specs.Sizes.{startSized}
 use Rattle.link.specs.Moments.{Unready}
 use Rattle.link.specs.Road.{Below, Road, times}
 use Rattle.link.specs.Sending.{Client, Covered, Lawful, Pairing, Sending, epochAt, epochNumber, epochStart}
@@ -96,11 +96,11 @@ NumberKept k t p =
 -- What demand 3 lets be so of the client, the lines and what is lent. That each frame comes once, with its payload undamaged and not flagged failed, that reports are fetched after each frame, and that the receiver's
 -- state and the store stay untouched between calls is said by how the receiver is called on this road.
 pub record Lines (k : Link) : Type 0 where
-  -- 01, 'Numbers that bound the work'
-  pub sizes : sized (kindOf k) (k .ports) (k .payload) (k .window) ≡ true
+  -- 01, 'Numbers that bound the work'; of VC-12 'P is 136' (02, 2026-01)
+  pub sizes : startSized (kindOf k) (k .ports) (k .payload) (k .window) ≡ true
   -- 'any client bytes'; 'a group frame has X x P bytes'
   pub client : (x : ℕ) → length (k .client x) ≡ k .sending .x (epochAt (kindOf k) x) * k .payload
-  -- 'spread at most the window less 16 frames'
+  -- 'spread at most the window less 16 frames', of VC-12 32: an epoch's
   pub spread : (p q : ℕ) → p < k .ports → q < k .ports → k .delay p + epochFrames k ≤ k .delay q + k .window
   -- 'in any port order within a frame time': every port once in each
   pub once : (t p : ℕ) → p < k .ports → times p (k .order t) ≡ 1
@@ -110,7 +110,7 @@ pub record Lines (k : Link) : Type 0 where
   -- 'Demand 3 then spares the multiframe number only until receiving begins' (request 2026-04): the frame of port p comes in frame time t, after those of `done`, and up to then not all ports were ready. So it is handed before receiving
   -- has begun, or receiving begins with it.
   pub spared : (t p : ℕ) (done rest : List ℕ) → p < k .ports → k .order t ≡ done ++ (p ∷ rest) → k .delay p + k .first p ≤ t → Unready (roadOf k) t done → NumberKept k t p
-  -- 'The lent output holds at least ports x 16 x P bytes'
+  -- 'The lent output holds at least ports x 16 x P bytes', of VC-12 32
   pub room : (j : ℕ) → k .ports * epochFrames k * k .payload ≤ length (k .output j)
   -- and the record any eight
   pub eight : (a j : ℕ) → length (k .lent a j) ≡ 8

@@ -9,8 +9,8 @@ use Rattle.mending.specs.Following.{followed}
 use Rattle.mending.specs.Lines.{capital, digitPlace, judged, linesWith, recordOf}
 use Rattle.mending.specs.Mending.{fitting, mendAnswer, mendedOf, notesOf, readAnswer}
 use Rattle.mending.specs.Undone.{noteOf, toldAgain}
-use Rattle.packet.specs.Kinds.{frames, tags}
-use Rattle.phases.specs.Sizes.{sized}
+use Rattle.packet.specs.Kinds.{frames, payloadRight, tags}
+use Rattle.phases.specs.Sizes.{knownKind, sized, startSized}
 use Rattle.receiver.specs.Starting.{timesWithin}
 use Rattle.recording.specs.Laws.Here.{isFrame}
 use Rattle.recording.specs.Opening.{lineOpening, opened, settingsBy}
@@ -23,7 +23,7 @@ use Rattle.text.specs.Text.{fieldsOf, linesOf}
 
 -- all that the texts below compute with
 unfoldable allOpen : ℕ
-unfolding capital digitOf digitPlace fieldIn fieldsOf fitting flagIn followed frameBy frames hexOf holdRead isHex judged kindRead lineOpening lineRecord linesOf linesWith mendAnswer mendedOf named noteOf notesOf numberOf numberText opened readAnswer recordOf restoreRead settingsBy sized tags timesWithin toldAgain
+unfolding capital digitOf digitPlace fieldIn fieldsOf fitting flagIn followed frameBy frames hexOf holdRead isHex judged kindRead lineOpening lineRecord linesOf linesWith mendAnswer mendedOf named noteOf notesOf numberOf numberText opened readAnswer recordOf restoreRead settingsBy knownKind payloadRight sized startSized tags timesWithin toldAgain
 allOpen = 0
 
 -- Counts of one port, by the request's sentences and by the automaton

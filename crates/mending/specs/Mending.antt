@@ -7,7 +7,7 @@ use lib.ListN.{getD, length, take}
 use Rattle.ground.specs.Plain.{if_then_else_, _==_}
 use Rattle.mending.specs.Lines.{Fate, Judged, Line, digitPlace, judged, lineText, linesWith, mendedLines, textOf}
 use Rattle.mending.specs.Lines.{Fate as F}
-use Rattle.phases.specs.Sizes.{sized}
+use Rattle.phases.specs.Sizes.{startSized}
 use Rattle.receiver.specs.Starting.{timesWithin}
 use Rattle.recording.specs.declared.pairs.Settings.{Settings}
 use Rattle.recording.specs.Opening.{Opening, lineOpening}
@@ -19,7 +19,7 @@ use Rattle.text.specs.Text.{LINE-END, TAB}
 -- 'Settings out of range' are 4, as in 2026-05; how much store a replay has is not asked
 unfoldable pub fitting : Settings → Bool
 fitting s =
-    sized (s .kind) (s .ports) (s .size) (s .window) && timesWithin (take (s .ports) (s .«hold_off»)) && timesWithin (take (s .ports) (s .restore))
+    startSized (s .kind) (s .ports) (s .size) (s .window) && timesWithin (take (s .ports) (s .«hold_off»)) && timesWithin (take (s .ports) (s .restore))
 
 abbrev pub answerBy : Opening → ℕ
 answerBy (O.Settings s next) = if fitting s then 0 else 4

@@ -39,7 +39,7 @@ fn times_fit(settings: Settings) -> bool
 fn is_fitting(settings: Settings) -> bool
     ensures { λ r. ⌜ r ≡ fitting settings ⌝ }
 {
-    if phases::is_sized(
+    if phases::is_startable(
         settings.kind,
         settings.ports,
         settings.size,

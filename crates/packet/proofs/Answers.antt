@@ -7,12 +7,13 @@ use borrow.Author.Tests.{eq-eqb, le-ltb, lt-ltb, ne-eqb}
 use lib.ListN.{length, getD, take, drop, set, drop-of-length-le}
 use native.Mathlib.Omega.{arith}
 use Rattle.packet.specs.declared.layout.Fields.{Fields}
+use Rattle.packet.specs.declared.reader.Reading.{Reading}
 use Rattle.packet.specs.declared.reader.Reading.the-variants.{Packet, Crc, Fixed, Unassigned}
 use Rattle.packet.specs.declared.writer.Writing.the-variants.{Done, Length, Field}
 use Rattle.packet.specs.Crc.{crcOf}
 use Rattle.packet.specs.Fixed.{fixedFields, fixedNibbles, readFixedNibbles, writeFixedAnswer, writeFixedBytes}
 use Rattle.packet.specs.Layout.{byteOf, carriedIn, dataOf, fieldsOf, h4Of, nibblesOf, sealedOf}
-use Rattle.packet.specs.Reading.{readNibbles}
+use Rattle.packet.specs.Reading.{readFields, readNibbles}
 use Rattle.packet.specs.Words.{assigned}
 use Rattle.packet.specs.Writing.{fitting, writeAnswer, writeBytes}
 
@@ -21,18 +22,19 @@ module _ (ns : List ℕ) (sum carried : ℕ) (e : sum ≡ crcOf (take 14 ns)) (h
   unfolding readNibbles
   read-crc d = rw (← e, ← h, ne-eqb sum carried d)
 
-  module _ (same : sum ≡ carried) (f : Fields) (is : f ≡ fieldsOf ns) where
-    pub read-fixed : f .word .0 ≡ 0 → Fixed ≡ readNibbles ns
-    unfolding readNibbles
-    read-fixed w = rw (← e, ← h, eq-eqb sum carried same, ← is, eq-eqb (f .word .0) 0 w)
+  pub read-good : sum ≡ carried → (f : Fields) (r : Reading) → f ≡ fieldsOf ns → r ≡ readFields f → r ≡ readNibbles ns
+  unfolding readNibbles
+  read-good same f r is by = by ∙ rw (← e, ← h, eq-eqb sum carried same, ← is) refl
 
-    pub read-unassigned : (f .word .0 ≡ 0 → ⊥) → assigned (f .word) ≡ false → Unassigned ≡ readNibbles ns
-    unfolding readNibbles
-    read-unassigned w a = rw (← e, ← h, eq-eqb sum carried same, ← is, ne-eqb (f .word .0) 0 w, a)
+module _ (f : Fields) where
+  pub by-fixed : f .word .0 ≡ 0 → Fixed ≡ readFields f
+  by-fixed w = rw (eq-eqb (f .word .0) 0 w) refl
 
-    pub read-packet : (f .word .0 ≡ 0 → ⊥) → assigned (f .word) ≡ true → Packet f ≡ readNibbles ns
-    unfolding readNibbles
-    read-packet w a = rw (← e, ← h, eq-eqb sum carried same, ← is, ne-eqb (f .word .0) 0 w, a)
+  pub by-unassigned : (f .word .0 ≡ 0 → ⊥) → assigned (f .word) ≡ false → Unassigned ≡ readFields f
+  by-unassigned w a = rw (ne-eqb (f .word .0) 0 w, a) refl
+
+  pub by-packet : (f .word .0 ≡ 0 → ⊥) → assigned (f .word) ≡ true → Packet f ≡ readFields f
+  by-packet w a = rw (ne-eqb (f .word .0) 0 w, a) refl
 
 -- the CRC in its two places
 pub sealed-nibbles : (f : Fields) (d : List ℕ) (c : ℕ) → d ≡ dataOf f ++ (0 ∷ 0 ∷ []) → c ≡ crcOf (take 14 d) → set (set d 14 (c / 16)) 15 (c % 16) ≡ nibblesOf f

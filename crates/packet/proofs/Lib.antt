@@ -1,4 +1,5 @@
 pub mod Answers
 pub mod Eight
 pub mod Joining
+pub mod OneNumber
 pub mod Table

@@ -1,28 +1,34 @@
--- Epochs, tags and MST (01, 'The control packet'), by the kind of packet. There are two kinds of one clock, H4 and FIXED (request 2026-12); any other number counts as H4.
-use mathlib.Core.Bool.{Bool}
+-- Epochs, tags and MST (01, 'The control packet'), by the kind of packet. H4 and FIXED (request 2026-12) have one clock, VC-12 (request 2026-01) another; any other number counts as H4.
+use mathlib.Core.Bool.{Bool, not, _||_}
 use Prim.Native.Nat.{ℕ, _+_, _-_, _*_, _/_, _%_, _^_}
 use Rattle.ground.specs.Bits.{odd}
 use Rattle.ground.specs.Circle.{after}
-use Rattle.ground.specs.Plain.{_==_}
+use Rattle.ground.specs.Plain.{if_then_else_, _==_}
+
+abbrev pub vc12Kind : ℕ
+vc12Kind = 1
 
 abbrev pub fixedKind : ℕ
 fixedKind = 2
 
--- 'The sixteen frames are an epoch'
+unfoldable pub knownKind : ℕ → Bool
+knownKind kind = kind == 0 || kind == vc12Kind || kind == fixedKind
+
+-- 'The sixteen frames are an epoch'; of VC-12 'An epoch is 32 frames, also wherever 01 says sixteen'
 unfoldable pub frames : ℕ → ℕ
-frames kind = 16
+frames kind = if kind == vc12Kind then 32 else 16
 
--- 'named by the MFI2 in it. Epoch 255 is followed by epoch 0'
+-- 'named by the MFI2 in it. Epoch 255 is followed by epoch 0'; VC-12 has '5 multiframe count'
 unfoldable pub epochs : ℕ → ℕ
-epochs kind = 256
+epochs kind = if kind == vc12Kind then 32 else 256
 
--- 'A frame's tag is 16 x MFI2 + MFI1, from 0 to 4,095'
+-- 'A frame's tag is 16 x MFI2 + MFI1, from 0 to 4,095'; of VC-12 'Tags run 0 to 1,023'
 unfoldable pub tags : ℕ → ℕ
-tags kind = 4096
+tags kind = if kind == vc12Kind then 1024 else 4096
 
--- 'from MFI1 8 to 15 and on to 0 to 7 of the next multiframe': how many frames of an epoch stand before its MFI1 0
+-- 'from MFI1 8 to 15 and on to 0 to 7 of the next multiframe': how many frames of an epoch stand before its MFI1 0. VC-12's starts with its count.
 unfoldable pub lead : ℕ → ℕ
-lead kind = 8
+lead kind = if kind == vc12Kind then 0 else 8
 
 unfoldable pub epochAfter : ℕ → ℕ → ℕ
 epochAfter kind e = (e + 1) % epochs kind
@@ -59,9 +65,13 @@ endsEpoch kind d = d % frames kind == frames kind - 1
 unfoldable pub firstTag : ℕ → ℕ → ℕ
 firstTag kind e = (e * frames kind + (tags kind - lead kind)) % tags kind
 
--- 'MST in epoch e speaks of numbers 8 x (e mod 32)': the first of them
+-- how many epochs MST takes to speak of every number
+unfoldable pub mstEpochs : ℕ → ℕ
+mstEpochs kind = if kind == vc12Kind then 8 else 32
+
+-- 'MST in epoch e speaks of numbers 8 x (e mod 32)', of VC-12 'of numbers 8 x (count mod 8) onward': the first of them
 unfoldable pub mstFirst : ℕ → ℕ → ℕ
-mstFirst kind e = 8 * (e % 32)
+mstFirst kind e = 8 * (e % mstEpochs kind)
 
 -- 'to that plus 7': how many numbers these are
 unfoldable pub mstNumbers : ℕ → ℕ
@@ -71,6 +81,10 @@ mstNumbers kind = 8
 unfoldable pub mstFails : ℕ → ℕ → Bool
 mstFails mst q = odd (mst / 2 ^ (7 - q % 8))
 
--- 'IDLE (number 255)' (01, 'The sender's table')
+-- 'IDLE (number 255)' (01, 'The sender's table'); of VC-12 'idle SQ is 63'
 unfoldable pub idleNumber : ℕ → ℕ
-idleNumber kind = 255
+idleNumber kind = if kind == vc12Kind then 63 else 255
+
+-- how many bytes of payload a member frame may have, among those that any group may: VC-12's 'P is 136'
+unfoldable pub payloadRight : ℕ → ℕ → Bool
+payloadRight kind P = not (kind == vc12Kind) || P == 136

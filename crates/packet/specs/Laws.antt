@@ -7,6 +7,9 @@ pub mod Distances
 pub mod Epochs
 pub mod Mst
 pub mod Nibbles
+pub mod OwnBits
 pub mod Sent
 pub mod Symbols
+pub mod Vc12
+pub mod Vc12Clock
 pub mod Writing

@@ -9,10 +9,12 @@ pub mod Layout
 pub mod Mst
 pub mod Reading
 pub mod Ruling
+mod Samples
 pub mod Sent
 pub mod Shares
 pub mod Symbols
 pub mod Theorems
+pub mod Vc12
 pub mod Words
 pub mod Writing
 mod Wrong

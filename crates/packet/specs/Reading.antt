@@ -3,6 +3,7 @@ use mathlib.Core.List.{List, [], _∷_}
 use Prim.Native.Nat.{ℕ}
 use lib.ListN.{length, take}
 use Rattle.ground.specs.Plain.{if_then_else_, _==_}
+use Rattle.packet.specs.declared.layout.Fields.{Fields}
 use Rattle.packet.specs.declared.reader.Reading.{Reading}
 use Rattle.packet.specs.declared.reader.Reading.the-variants.{Packet, Length, Crc, Fixed, Unassigned}
 use Rattle.packet.specs.Crc.{crcOf}
@@ -25,12 +26,12 @@ readingValues Crc = []
 readingValues Fixed = []
 readingValues Unassigned = []
 
--- 'For reading a packet: 9, 5, 7, 6'
+-- 'For reading a packet: 9, 5, 7, 6'. Of the fields of one whose CRC is right: 7, 6.
+abbrev pub readFields : Fields → Reading
+readFields f = if f .word .0 == FIXED then Fixed else if assigned (f .word) then Packet f else Unassigned
+
 unfoldable pub readNibbles : List ℕ → Reading
-readNibbles ns =
-    if crcOf (take 14 ns) == carriedIn ns
-    then (if fieldsOf ns .word .0 == FIXED then Fixed else if assigned (fieldsOf ns .word) then Packet (fieldsOf ns) else Unassigned)
-    else Crc
+readNibbles ns = if crcOf (take 14 ns) == carriedIn ns then readFields (fieldsOf ns) else Crc
 
 unfoldable pub readAnswer : List ℕ → Reading
 readAnswer s = if length s == 16 then readNibbles (highsOf s) else Length

@@ -1,4 +1,4 @@
--- What 01 and requests 2026-08, 2026-02 and 2026-12 ask of packets, proved on the definitions.
+-- What 01 and requests 2026-08, 2026-02, 2026-12 and 2026-01 ask of packets, proved on the definitions.
 pub mod WrittenAgain
 pub mod Damage
 pub mod Distance
@@ -9,3 +9,4 @@ pub mod RefusesAll
 pub mod Reserved
 pub mod Shares
 pub mod Tags
+pub mod Vc12

@@ -16,17 +16,20 @@ writingNumber Done = 0
 writingNumber Length = 9
 writingNumber Field = 8
 
--- 8: 'a field given for writing is too large, or its word is FIXED or unassigned'
-unfoldable pub fitting : Fields → Bool
-fitting f =
-    f .epoch <? 256
-    && f .mst <? 256
-    && f .sq <? 256
+-- 8: 'a field given for writing is too large, or its word is FIXED or unassigned', by how many epochs, numbers and values of the reserved bits a packet has room for
+abbrev pub fitsWithin : ℕ → ℕ → ℕ → Fields → Bool
+fitsWithin epochs numbers values f =
+    f .mst <? 256
+    && f .epoch <? epochs
+    && f .sq <? numbers
     && f .gid <? 2
     && f .«rs_ack» <? 2
-    && f .reserved <? 2 ^ 26
+    && f .reserved <? values
     && not (f .word .0 == FIXED)
     && assigned (f .word)
+
+unfoldable pub fitting : Fields → Bool
+fitting f = fitsWithin 256 256 (2 ^ 26) f
 
 -- 'For writing: 9, 8.'
 unfoldable pub writeAnswer : Fields → List ℕ → Writing

@@ -1,22 +1,25 @@
--- Wrong readings of 01 and of requests 2026-08, 2026-02 and 2026-12, each as a definition with a run on which it breaks what these say.
+-- Wrong readings of 01 and of requests 2026-08, 2026-02, 2026-12 and 2026-01, each as a definition with a run on which it breaks what these say.
 use mathlib.Core.Path.{_≡_, refl}
-use mathlib.Core.Bool.{Bool, true, false}
+use mathlib.Core.Bool.{Bool, true, false, _||_}
 use mathlib.Core.List.{List, [], _∷_, _++_}
 use Prim.Native.Nat.{ℕ, zero, suc, _+_, _-_, _*_, _/_, _%_, _^_}
 use lib.Bits.{bitXor}
 use lib.ListN.{getD, take, replicate}
 use Rattle.ground.specs.Bits.{odd}
 use Rattle.ground.specs.Plain.{if_then_else_, _==_}
+use Rattle.ground.specs.Polynomial.{check, plus}
+use Rattle.ground.specs.Table.{tabulate}
 use Rattle.packet.specs.declared.layout.Fields.{Fields}
 use Rattle.packet.specs.declared.reader.Reading.{Reading}
 use Rattle.packet.specs.declared.reader.Reading.the-variants.{Packet, Crc, Fixed, Unassigned}
 use Rattle.packet.specs.Crc.{crcOf, divisor, nibbleBits}
 use Rattle.packet.specs.Fixed.{fixedFields, fixedNibbles, readFixedNibbles}
-use Rattle.packet.specs.Kinds.{epochOf, frames, lead, mstFails, mstFirst, tags}
+use Rattle.packet.specs.Kinds.{epochOf, frames, idleNumber, lead, mstEpochs, mstFails, mstFirst, tags, vc12Kind}
 use Rattle.packet.specs.Layout.{byteOf, carriedIn, dataOf, fieldsOf, h4Of, nibblesOf, sealedOf}
 use Rattle.packet.specs.Reading.{readNibbles}
 use Rattle.packet.specs.Shares.{byteAt, joinedTo, shareOf}
-use Rattle.packet.specs.Words.{FIXED, NORM, assigned}
+use Rattle.packet.specs.Vc12.{lowestOf, readVc12Bits, vc12Bits, vc12Bytes, vc12Data, vc12Divisor, vc12Fields}
+use Rattle.packet.specs.Words.{FIXED, IDLE, NORM, assigned}
 
 -- The epoch as the multiframe. 'A packet is sixteen nibbles, from MFI1 8 to 15 and on to 0 to 7 of the next multiframe': tag 8 is epoch 1's.
 wrong-epoch : ℕ → ℕ
@@ -31,7 +34,7 @@ wrong-first : ℕ → ℕ
 wrong-first e = 8 * ((e + 255) % 32)
 
 first-breaks : (wrong-first 0 ≡ 248) × (mstFirst 0 0 ≡ 0)
-unfolding wrong-first mstFirst
+unfolding wrong-first mstFirst mstEpochs
 first-breaks = (refl, refl)
 
 -- MST's last bit as the lowest number. In P8 the byte BF says OK of number 1 alone.
@@ -125,3 +128,63 @@ checked-breaks = (refl, refl)
 judged-breaks : (readNibbles (fixedNibbles 0 0) ≡ Fixed) × (readFixedNibbles (fixedNibbles 0 0) ≡ Packet (fixedFields 0 0))
 unfolding fixedNibbles readFixedNibbles readNibbles fieldsOf carriedIn crcOf divisor nibbleBits assigned
 judged-breaks = (refl, refl)
+
+-- Wrong readings of request 2026-01.
+
+-- IDLE, SQ 63, count 0, MST all FAIL
+vc12-idle : Fields
+vc12-idle = record { epoch = 0; word = record { 0 = IDLE }; gid = 0; mst = 0xFF; «rs_ack» = 0; sq = 63; reserved = 0 }
+
+-- The divisor taken the other way round, x^3+x^2+1: CRC 101 in place of 010.
+wrong-divisor : List Bool
+wrong-divisor = true ∷ false ∷ true ∷ []
+
+divisor-breaks : (check wrong-divisor (vc12Data vc12-idle) ≡ true ∷ false ∷ true ∷ []) × (check vc12Divisor (vc12Data vc12-idle) ≡ false ∷ true ∷ false ∷ [])
+unfolding wrong-divisor vc12-idle vc12Data vc12Divisor
+divisor-breaks = (refl, refl)
+
+-- A frame's whole byte taken for its bit: the first one's 2, which says the start, loses the bit beside it. NORM 63 of count 31 is refused with 5.
+vc12-last : Fields
+vc12-last = record { epoch = 31; word = record { 0 = NORM }; gid = 1; mst = 0; «rs_ack» = 1; sq = 63; reserved = 0 }
+
+wrong-lowest : List ℕ → List Bool
+wrong-lowest s = tabulate 32 (λ k. getD s k 0 == 1)
+
+lowest-breaks : (readVc12Bits (wrong-lowest (vc12Bytes (vc12Bits vc12-last))) ≡ Crc) × (readVc12Bits (lowestOf (vc12Bytes (vc12Bits vc12-last))) ≡ Packet vc12-last)
+unfolding wrong-lowest vc12-last vc12Bytes vc12Bits vc12Data vc12Divisor lowestOf readVc12Bits vc12Fields assigned
+lowest-breaks = (refl, refl)
+
+-- Two changed bits taken for none that passes, as of H4's packets up to three: bits 11 and 18 of NORM 0 and of NORM 1, seven places apart, make each read as the other, with a reserved bit.
+vc12-norm : ℕ → ℕ → Fields
+vc12-norm sq reserved = record { epoch = 3; word = record { 0 = NORM }; gid = 0; mst = 0; «rs_ack» = 0; sq = sq; reserved = reserved }
+
+two-changed : List Bool → List Bool
+two-changed l = tabulate 32 (λ k. plus (k == 10 || k == 17) (getD l k false))
+
+changes-pass : (readVc12Bits (two-changed (vc12Bits (vc12-norm 0 0))) ≡ Packet (vc12-norm 1 4)) × (readVc12Bits (two-changed (vc12Bits (vc12-norm 1 0))) ≡ Packet (vc12-norm 0 4))
+unfolding two-changed vc12-norm vc12Bits vc12Data vc12Divisor readVc12Bits vc12Fields assigned
+changes-pass = (refl, refl)
+
+-- MST's block one count late: in count 0 it 'speaks of numbers 8 x (count mod 8) onward', from 0 on and not from 56.
+wrong-vc12-first : ℕ → ℕ
+wrong-vc12-first count = 8 * ((count + 7) % 8)
+
+vc12-first-breaks : (tabulate 3 wrong-vc12-first ≡ 56 ∷ 0 ∷ 8 ∷ []) × (tabulate 3 (mstFirst vc12Kind) ≡ 0 ∷ 8 ∷ 16 ∷ [])
+unfolding wrong-vc12-first mstFirst mstEpochs
+vc12-first-breaks = (refl, refl)
+
+-- The epoch led by 8, as H4's is: the last eight frames of a packet would be of the next epoch. 'An epoch is 32 frames .. the host says where it starts', and that is where its packet does.
+wrong-vc12-epoch : ℕ → ℕ
+wrong-vc12-epoch t = (t + 8) % 1024 / 32
+
+vc12-epoch-breaks : (tabulate 32 wrong-vc12-epoch ≡ replicate 24 0 ++ replicate 8 1) × (tabulate 32 (epochOf vc12Kind) ≡ replicate 32 0)
+unfolding wrong-vc12-epoch epochOf lead frames tags
+vc12-epoch-breaks = (refl, refl)
+
+-- 63 taken for IDLE by its number: the last of 64 members would be none. 'idle SQ is 63 and the word decides'.
+wrong-word : Fields → ℕ
+wrong-word f = if f .sq == idleNumber vc12Kind then IDLE else f .word .0
+
+word-breaks : (wrong-word (vc12Fields (lowestOf (vc12Bytes (vc12Bits vc12-last)))) ≡ IDLE) × (vc12Fields (lowestOf (vc12Bytes (vc12Bits vc12-last))) .word .0 ≡ NORM)
+unfolding wrong-word idleNumber vc12-last vc12Bytes vc12Bits vc12Data vc12Divisor lowestOf vc12Fields
+word-breaks = (refl, refl)

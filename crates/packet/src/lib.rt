@@ -1,4 +1,4 @@
-// The H4 control packet of virtual concatenation with LCAS (01, 'The control packet'): control words, epochs and tags, the packet written and read.
+// The control packets of virtual concatenation with LCAS (01, 'The control packet'; request 2026-01): control words, epochs and tags, the packet of H4 and of VC-12 written and read.
 pub mod counts;
 mod crc;
 mod fixed;
@@ -6,8 +6,10 @@ pub mod kinds;
 mod layout;
 mod reader;
 mod ruling;
+mod sending;
 mod shares;
 pub mod symbols;
+mod vc12;
 mod words;
 mod writer;
 
@@ -20,7 +22,12 @@ pub use reader::Reading;
 pub use reader::read;
 pub use reader::read_nibbles;
 pub use ruling::Ruling;
+pub use ruling::read_row;
 pub use ruling::ruling_of;
+pub use sending::write_by;
+pub use vc12::read_vc12;
+pub use vc12::read_vc12_row;
+pub use vc12::write_vc12;
 pub use words::Word;
 pub use writer::Writing;
 pub use writer::write;

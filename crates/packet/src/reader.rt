@@ -8,7 +8,7 @@ ghost use mathlib.Core.Path.{_≡_};
 ghost use mathlib.Core.List.{[], _∷_};
 ghost use lib.ListN.{length};
 ghost use Rattle.packet.specs.Layout.{highsOf};
-ghost use Rattle.packet.specs.Reading.{readNibbles, readAnswer, readingNumber};
+ghost use Rattle.packet.specs.Reading.{readAnswer, readFields, readNibbles, readingNumber};
 ghost use Rattle.packet.specs.Shares.{halvesOf};
 
 pub enum Reading {
@@ -33,6 +33,20 @@ impl Reading {
     }
 }
 
+// The fields of a packet whose CRC is right.
+pub(crate) fn by_word(fields: Fields) -> Reading
+    ensures { λ r. ⌜ r ≡ readFields fields ⌝ }
+{
+    let word = fields.word;
+    if word.0 == Word::FIXED.0 {
+        return Reading::Fixed;
+    }
+    if !word.is_assigned() {
+        return Reading::Unassigned;
+    }
+    Reading::Packet(fields)
+}
+
 // A packet of seven bytes and their CRC. Takes bytes and no array, so that the compiler puts it into both callers and they stay in registers.
 fn read_bytes(
     at_0: u8,
@@ -51,15 +65,7 @@ fn read_bytes(
         return Reading::Crc;
     }
     let nibbles = layout::halves_of(at_0, at_1, at_2, at_3, at_4, at_5, at_6, carried);
-    let fields = layout::fields_of(nibbles);
-    let word = fields.word;
-    if word.0 == Word::FIXED.0 {
-        return Reading::Fixed;
-    }
-    if !word.is_assigned() {
-        return Reading::Unassigned;
-    }
-    Reading::Packet(fields)
+    by_word(layout::fields_of(nibbles))
 }
 
 // Sixteen nibbles read, each in the low four bits of its byte.

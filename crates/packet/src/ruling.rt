@@ -1,8 +1,10 @@
 // A packet read for what it rules.
+use crate::kinds;
 use crate::reader;
 use crate::reader::Reading;
+use crate::vc12;
 ghost use mathlib.Core.Path.{_≡_};
-ghost use Rattle.packet.specs.Ruling.{refused, rulingOf};
+ghost use Rattle.packet.specs.Ruling.{readRow, refused, rulingOf};
 
 pub struct Ruling {
     // whether it was read with 0; only then the rest says something
@@ -23,11 +25,21 @@ pub(crate) fn refusal() -> Ruling
     }
 }
 
-// The packet of an epoch by the receiver's own count, which the rule of today does not look at.
-pub fn ruling_of(kind: u8, epoch: u8, nibbles: [u8; 16]) -> Ruling
-    ensures { λ r. ⌜ r ≡ rulingOf kind epoch nibbles ⌝ }
+// The sixteen entries of a packet, by its kind.
+pub fn read_row(kind: u8, row: [u8; 16]) -> Reading
+    ensures { λ r. ⌜ r ≡ readRow kind row ⌝ }
 {
-    let reading = reader::read_nibbles(nibbles);
+    if kind == kinds::VC12 {
+        return vc12::read_vc12_row(row);
+    }
+    reader::read_nibbles(row)
+}
+
+// The packet of an epoch by the receiver's own count, which the rule of today does not look at.
+pub fn ruling_of(kind: u8, epoch: u8, row: [u8; 16]) -> Ruling
+    ensures { λ r. ⌜ r ≡ rulingOf kind epoch row ⌝ }
+{
+    let reading = read_row(kind, row);
     match reading {
         Reading::Packet(fields) => {
             let word = fields.word;

@@ -31,7 +31,7 @@ unfoldable pub foremost : Group → List (List ℕ) → ℕ → ℕ
 foremost g s zero = noTag g
 foremost g s (suc n) = further g (foremost g s n) (stepAt s n)
 
--- 'the latest tags of those in step lie within an arc of W-15 tags': none more than W - 16 behind the foremost
+-- 'the latest tags of those in step lie within an arc of W-15 tags': none more than W - 16 behind the foremost. Of VC-12 'Latest tags within W-31 begin', and 32 in place of 16: an epoch's frames.
 unfoldable pub within : Group → ℕ → Step → Bool
 within g fore step = not (inStep g step) || distanceOf (g .kind) fore (latest g step) + frames (g .kind) ≤? g .window
 

@@ -36,6 +36,7 @@ passedStep s whole =
       whole = if whole then 1 else 0;
       breaks = s .breaks;
       odd = s .odd;
+      bits = s .bits;
     }
 
 -- 'the good packets up to that epoch's own'

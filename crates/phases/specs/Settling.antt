@@ -30,6 +30,7 @@ clearedStep s since =
       whole = 0;
       breaks = s .breaks;
       odd = s .odd;
+      bits = s .bits;
     }
 
 unfoldable pub clearedPort : Group → Bool → ℕ → List (List ℕ) → List (List ℕ)

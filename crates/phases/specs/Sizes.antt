@@ -1,19 +1,22 @@
 -- How large a group may be (01, 'Numbers that bound the work').
-use mathlib.Core.Bool.{Bool, _&&_, _||_}
+use mathlib.Core.Bool.{Bool, _&&_}
 use Prim.Native.Nat.{ℕ, _+_, _*_, _/_}
-use Rattle.ground.specs.Plain.{if_then_else_, _==_, _≤?_}
-use Rattle.packet.specs.Kinds.{fixedKind, frames, tags}
+use Rattle.ground.specs.Plain.{if_then_else_, _≤?_}
+use Rattle.packet.specs.Kinds.{frames, payloadRight, tags}
+unfoldable pub use Rattle.packet.specs.Kinds.{knownKind}
 use Rattle.payload.specs.Answers.{PAYLOAD-MOST}
 use Rattle.rows.specs.declared.group.Group.{Group}
 
--- the kinds that a receiver's group can be of: 01's own, which has the number 0, and FIXED (request 2026-12)
-abbrev pub knownKind : ℕ → Bool
-knownKind kind = kind == 0 || kind == fixedKind
+-- '1 to 64 ports', 'P from 1 to 2,340', 'The window W is 16 to 2,048 frames', of VC-12 '32 to 512': from an epoch's frames to half the tags
+abbrev pub sizedAs : Bool → ℕ → ℕ → ℕ → ℕ → Bool
+sizedAs known kind count P W = known && 1 ≤? count && count ≤? 64 && 1 ≤? P && P ≤? PAYLOAD-MOST && frames kind ≤? W && W ≤? tags kind / 2
 
--- '1 to 64 ports', 'P from 1 to 2,340', 'The window W is 16 to 2,048 frames': from an epoch's frames to half the tags
 unfoldable pub sized : ℕ → ℕ → ℕ → ℕ → Bool
-sized kind count P W =
-    knownKind kind && 1 ≤? count && count ≤? 64 && 1 ≤? P && P ≤? PAYLOAD-MOST && frames kind ≤? W && W ≤? tags kind / 2
+sized kind count P W = sizedAs (knownKind kind) kind count P W
+
+-- What a start takes: of VC-12 'P is 136' (02, 2026-01). A group in rows that no call returned may have another P, and is no empty one for it.
+unfoldable pub startSized : ℕ → ℕ → ℕ → ℕ → Bool
+startSized kind count P W = sized kind count P W && payloadRight kind P
 
 -- how many ports a group has; a group out of range, or of no kind that is known, is an empty one
 unfoldable pub portsIn : Group → ℕ

@@ -9,6 +9,6 @@ mod starting;
 pub use due::is_complete;
 pub use passing::pass;
 pub use settling::settle;
-pub use sizes::is_sized;
+pub use sizes::is_startable;
 pub use sizes::ports_in;
 pub use sizes::store_for;

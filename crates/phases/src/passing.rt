@@ -46,6 +46,7 @@ fn passed_step(s: Step, whole: bool) -> Step
         whole: flag_for(whole),
         breaks: s.breaks,
         odd: s.odd,
+        bits: s.bits,
     }
 }
 

@@ -26,6 +26,7 @@ fn cleared_step(s: Step, since: bool) -> Step
         whole: 0,
         breaks: s.breaks,
         odd: s.odd,
+        bits: s.bits,
     }
 }
 

@@ -4,11 +4,11 @@ use mathlib.Core.Bool.{Bool, true, false, cond, _&&_, _||_, true≢false}
 use mathlib.Core.List.{List, [], _∷_}
 use Prim.Native.Nat.{ℕ, _+_, _*_, _<_}
 use native.Mathlib.Omega.{arith}
-use lib.Dec.{ltb}
+use lib.Dec.{eqb, ltb}
 use lib.ListN.{getD, length, replicate, set}
 use lib.Seq.{set-getD}
 use borrow.Author.Tests.{eq-eqb, ltb-true, ne-eqb}
-use Rattle.packet.specs.Kinds.{endsEpoch, epochsIn, placeOf, tagAfter}
+use Rattle.packet.specs.Kinds.{endsEpoch, epochsIn, placeOf, tagAfter, vc12Kind}
 use Rattle.packet.specs.Laws.Distances.{place-back}
 use Rattle.packet.specs.Laws.Symbols.{with-parts}
 use Rattle.packet.specs.Symbols.{entryAt, entryWith}
@@ -160,22 +160,22 @@ module _ (s : List (List ℕ)) (i h : ℕ) (g : Group) where
   steady-rows w = steady-parts (mid-epoch-goes-on g (distanceIn g (stepAt s i .next)) w) ∙ same-marks s i (steadyRows (g .kind) (stepAt s i .next) h i s) steady-marks
 
 module _ (s : List (List ℕ)) (i : ℕ) (failed : Bool) (h : ℕ) (payload store : List ℕ) (g : Group) (eg : g ≡ groupAt s) where
-  steady-arrives : (rows : List (List ℕ)) (kept : List ℕ) → steady g (stepAt s i) failed h ≡ true → midEpoch g (distanceIn g (stepAt s i .next)) ≡ true
+  steady-arrives : (rows : List (List ℕ)) (kept : List ℕ) → eqb (g .kind) vc12Kind ≡ false → steady g (stepAt s i) failed h ≡ true → midEpoch g (distanceIn g (stepAt s i .next)) ≡ true
       → rows ≡ steadyRows (g .kind) (stepAt s i .next) h i s → kept ≡ storedAt store (placeIn g i (distanceIn g (stepAt s i .next))) payload h
       → (0 ≡ takenIn s i failed h .answer)
       × (rows ≡ takenRows (groupAt s) (portsIn (groupAt s)) s i (takenIn s i failed h) h payload store)
       × (kept ≡ takenStore (groupAt s) i (takenIn s i failed h) h payload store)
   unfolding takenRows takenStore storeBy settledBy steadyTaken
-  steady-arrives rows kept st w er ek =
-      rw (← eg, steady-taken g (stepAt s i) failed (endsOdd (g .kind) (getD (packetsAt s i) 0 []) (stepAt s i .next) h) h st w (mid-even g (stepAt s i) (getD (packetsAt s i) 0 []) h w))
+  steady-arrives rows kept clock st w er ek =
+      rw (← eg, steady-taken g (stepAt s i) failed (endsOdd (g .kind) (getD (packetsAt s i) 0 []) (stepAt s i .next) h) h clock st w (mid-even g (stepAt s i) (getD (packetsAt s i) 0 []) h w))
       (refl, er ∙ sym (steady-rows s i h g w), ek)
 
-  pub arrive-steady : (step : Step) (at : ℕ) (rows : List (List ℕ)) (kept : List ℕ) → step ≡ stepAt s i → steady g step failed h ≡ true → at ≡ distanceIn g (step .next) → midEpoch g at ≡ true
+  pub arrive-steady : (step : Step) (at : ℕ) (rows : List (List ℕ)) (kept : List ℕ) → eqb (g .kind) vc12Kind ≡ false → step ≡ stepAt s i → steady g step failed h ≡ true → at ≡ distanceIn g (step .next) → midEpoch g at ≡ true
       → rows ≡ steadyRows (g .kind) (step .next) h i s → kept ≡ storedAt store (placeIn g i at) payload h
       → (0 ≡ takenIn s i failed h .answer)
       × (rows ≡ takenRows (groupAt s) (portsIn (groupAt s)) s i (takenIn s i failed h) h payload store)
       × (kept ≡ takenStore (groupAt s) i (takenIn s i failed h) h payload store)
-  arrive-steady step at rows kept es st ea w er ek =
-      steady-arrives rows kept (subst (λ q. steady g q failed h ≡ true) es st) (subst (λ q. midEpoch g (distanceIn g (q .next)) ≡ true) es (subst (λ d. midEpoch g d ≡ true) ea w))
+  arrive-steady step at rows kept clock es st ea w er ek =
+      steady-arrives rows kept clock (subst (λ q. steady g q failed h ≡ true) es st) (subst (λ q. midEpoch g (distanceIn g (q .next)) ≡ true) es (subst (λ d. midEpoch g d ≡ true) ea w))
       (subst (λ q. rows ≡ steadyRows (g .kind) (q .next) h i s) es er)
       (subst (λ q. kept ≡ storedAt store (placeIn g i (distanceIn g (q .next))) payload h) es (subst (λ d. kept ≡ storedAt store (placeIn g i d) payload h) ea ek))

@@ -4,16 +4,12 @@ use mathlib.Core.Bool.{Bool, true, false, _&&_}
 use mathlib.Core.List.{List}
 use Prim.Native.Nat.{ℕ}
 use lib.ListN.{length}
-use Rattle.ground.specs.Truth.{and-right}
-use Rattle.phases.specs.Sizes.{sized}
-use Rattle.receiver.specs.Laws.Sizes.{Sizes, sizes-of}
-use Rattle.receiver.specs.Starting.{freshPorts, groupWith, listFits, sizedAnswer, sizedFits, sizedRows, startFits, startRight, timesWithin}
+use Rattle.receiver.specs.Laws.Sizes.{Sizes, right-sized, start-sizes-of}
+use Rattle.receiver.specs.Starting.{freshPorts, groupWith, listFits, sizedAnswer, sizedFits, sizedRows, startFits, startRight}
 use Rattle.rows.specs.Group.{putGroup}
 
 pub right-sizes : (kind count P W : ℕ) (hold restore : List ℕ) → startRight kind count P W hold restore ≡ true → Sizes kind count P W
-unfolding startRight
-right-sizes kind count P W hold restore e =
-    sizes-of kind count P W (and-right (timesWithin hold && timesWithin restore) (sized kind count P W) e)
+right-sizes kind count P W hold restore e = start-sizes-of kind count P W (right-sized kind count P W hold restore e)
 
 module _ (kind count P W store : ℕ) (hold restore : List ℕ) (s : List (List ℕ)) (a b f : Bool) (ea : a ≡ listFits hold count) (eb : b ≡ listFits restore count)
     (ef : f ≡ startFits count P W store (length s)) where

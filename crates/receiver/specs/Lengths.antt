@@ -15,7 +15,7 @@ rowsFit n rows = n == 0 || rows == rowsFor n
 unfoldable pub frameFits : Group → ℕ → ℕ → ℕ → ℕ → Bool
 frameFits g n rows payload store = rowsFit n rows && payload == g .payload && store == storeFor g n
 
--- 'The lent output holds at least ports x 16 x P bytes.'
+-- 'The lent output holds at least ports x 16 x P bytes.' Of VC-12 32: an epoch's frames.
 unfoldable pub outputFor : Group → ℕ → ℕ
 outputFor g n = n * frames (g .kind) * g .payload
 

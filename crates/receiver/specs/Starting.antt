@@ -6,7 +6,7 @@ use lib.ListN.{getD, length, replicate}
 use Rattle.ground.specs.Plain.{if_then_else_, _==_, _<?_, _≤?_}
 use Rattle.counting.specs.Words.{every}
 use Rattle.packet.specs.Kinds.{idleNumber}
-use Rattle.phases.specs.Sizes.{sized}
+use Rattle.phases.specs.Sizes.{startSized}
 use Rattle.rows.specs.declared.group.Group.{Group}
 use Rattle.rows.specs.declared.member.Member.{Member}
 use Rattle.rows.specs.declared.step.Step.{Step}
@@ -40,7 +40,7 @@ emptyGroup kind = groupWith kind 0 0 0
 abbrev pub freshStep : Step
 freshStep =
     record {
-      spare = replicate 5 0;
+      spare = replicate 4 0;
       had = 0;
       failed = 0;
       count = 0;
@@ -51,6 +51,7 @@ freshStep =
       whole = 0;
       breaks = 0;
       odd = 0;
+      bits = 0;
     }
 
 -- 'each 0 to 5,000 epochs' (02, 2026-03)
@@ -111,7 +112,7 @@ sizedRows kind count P W store hold restore s =
     if sizedFits count P W store hold restore (length s) then putGroup (freshPorts kind hold restore count s) (groupWith kind count P W) else s
 
 unfoldable pub startRight : ℕ → ℕ → ℕ → ℕ → List ℕ → List ℕ → Bool
-startRight kind count P W hold restore = timesWithin hold && timesWithin restore && sized kind count P W
+startRight kind count P W hold restore = timesWithin hold && timesWithin restore && startSized kind count P W
 
 -- A start with a hold-off and a wait-to-restore for each port.
 unfoldable pub startAsAnswer : ℕ → ℕ → ℕ → ℕ → ℕ → List ℕ → List ℕ → ℕ → ℕ

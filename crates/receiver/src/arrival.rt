@@ -11,6 +11,7 @@ ghost use mathlib.Core.Path.{_≡_};
 ghost use mathlib.Core.Bool.{true};
 ghost use lib.ListN.{length};
 ghost use Rattle.receiver.specs.Frame.{decidedAnswer, decidedRows, decidedStore, frameAnswer, frameRows, frameStore, gatheredBy, marksBy, portRows, refusalBy, settledBy, steadyRows, storeBy, takenRows, takenStore};
+ghost use Rattle.phases.specs.Sizes.{portsIn};
 ghost use Rattle.rows.specs.Group.{groupAt};
 ghost use Rattle.rows.specs.Packets.{marksAt, packetsAt, putMarks, putPackets};
 ghost use Rattle.store.specs.Frames.{placeIn, storedAt};
@@ -89,10 +90,12 @@ fn put_frame(group: Group, port: u8, taken: Taken, h4: u8, payload: &[u8], store
     }
 }
 
-fn settle_by(settles: bool, ports: u8, store: &[u8], state: &mut [[u8; 16]])
-    ensures { λ _. ⌜ now (state .exit) ≡ settledBy settles ports (now (store .entry)) (now (state .entry)) ⌝ }
+// The ports are counted where something follows for them, which few frames bring.
+fn settle_by(settles: bool, group: Group, store: &[u8], state: &mut [[u8; 16]])
+    ensures { λ _. ⌜ now (state .exit) ≡ settledBy settles (portsIn group) (now (store .entry)) (now (state .entry)) ⌝ }
 {
     if settles {
+        let ports = phases::ports_in(group);
         phases::settle(ports, store, state);
     }
 }
@@ -100,7 +103,6 @@ fn settle_by(settles: bool, ports: u8, store: &[u8], state: &mut [[u8; 16]])
 // A frame that is neither 1 nor 9.
 fn take(
     group: Group,
-    ports: u8,
     state: &mut [[u8; 16]],
     port: u8,
     taken: Taken,
@@ -108,13 +110,13 @@ fn take(
     payload: &[u8],
     store: &mut [u8],
 )
-    ensures { λ _. ⌜ (now (state .exit) ≡ takenRows group ports (now (state .entry)) port taken h4 (now (payload .entry)) (now (store .entry)))
+    ensures { λ _. ⌜ (now (state .exit) ≡ takenRows group (portsIn group) (now (state .entry)) port taken h4 (now (payload .entry)) (now (store .entry)))
         × (now (store .exit) ≡ takenStore group port taken h4 (now (payload .entry)) (now (store .entry))) ⌝ }
 {
     if taken.answer != answers::OUTSIDE {
         put_port(group.kind, state, port, taken, h4);
         put_frame(group, port, taken, h4, payload, store);
-        settle_by(taken.settles, ports, store, state);
+        settle_by(taken.settles, group, store, state);
     }
 }
 
@@ -132,13 +134,12 @@ fn decided(
         × (now (store .exit) ≡ decidedStore (now (state .entry)) port failed h4 (now (payload .entry)) (now (store .entry))) ⌝ }
 {
     let group = rows::group::get(state);
-    let ports = phases::ports_in(group);
     let step = rows::step::get(state, port);
     let packets = rows::packets::get(state, port);
     let gathering = packets[0];
     let odd = step::is_odd(group.kind, gathering, step.next, h4);
     let taken = step::decide(group, step, failed, odd, h4);
-    take(group, ports, state, port, taken, h4, payload, store);
+    take(group, state, port, taken, h4, payload, store);
     taken.answer
 }
 
@@ -151,8 +152,8 @@ fn go_on(kind: u8, next: u16, h4: u8, port: u8, state: &mut [[u8; 16]])
     put_symbol(kind, state, port, next, h4);
 }
 
-// A frame that is neither 1 nor 9. The one that comes most often goes the short way, which touches three bytes of the rows; two calls of
-// the long way keep the compiler from joining it to the short one.
+// A frame that is neither 1 nor 9. The one of H4 that comes most often goes the short way, which touches three bytes of the rows; three calls of
+// the long way keep the compiler from joining it to the short one. VC-12 is asked for once, so that the short way knows its clock.
 fn arrive(
     group: Group,
     state: &mut [[u8; 16]],
@@ -167,6 +168,9 @@ fn arrive(
         × (now (state .exit) ≡ decidedRows (now (state .entry)) port failed h4 (now (payload .entry)) (now (store .entry)))
         × (now (store .exit) ≡ decidedStore (now (state .entry)) port failed h4 (now (payload .entry)) (now (store .entry))) ⌝ }
 {
+    if group.kind == kinds::VC12 {
+        return decided(state, port, failed, h4, payload, store);
+    }
     let step = rows::step::get(state, port);
     if step::is_steady(group, step, failed, h4) {
         let at = step::distance_in(group, step.next);

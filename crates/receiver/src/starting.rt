@@ -35,7 +35,7 @@ fn fresh_step() -> Step
     ensures { λ r. ⌜ r ≡ freshStep ⌝ }
 {
     Step {
-        spare: [0; 5],
+        spare: [0; 4],
         had: 0,
         failed: 0,
         count: 0,
@@ -46,6 +46,7 @@ fn fresh_step() -> Step
         whole: 0,
         breaks: 0,
         odd: 0,
+        bits: 0,
     }
 }
 
@@ -170,7 +171,9 @@ fn is_right(
 ) -> bool
     ensures { λ r. ⌜ r ≡ startRight kind count payload window (now («hold_off» .entry)) (now (restore .entry)) ⌝ }
 {
-    times_within(hold_off) & times_within(restore) & phases::is_sized(kind, count, payload, window)
+    times_within(hold_off)
+        & times_within(restore)
+        & phases::is_startable(kind, count, payload, window)
 }
 
 // A fresh receiver with so many ports, P, W and bytes of store, and the times of its ports: hold-off and wait-to-restore, in reports. A list has a

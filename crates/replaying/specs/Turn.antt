@@ -6,7 +6,7 @@ use lib.ListN.{drop, getD, length, replicate, take}
 use lib.Seq.{slice}
 use Rattle.ground.specs.Plain.{if_then_else_, _==_, _<?_, _≤?_}
 use Rattle.bytes.specs.Bytes.{indexOf}
-use Rattle.phases.specs.Sizes.{sized}
+use Rattle.phases.specs.Sizes.{startSized}
 use Rattle.receiver.specs.Fetch.{fetchOut, fetchRecord, fetchRows}
 use Rattle.receiver.specs.Frame.{frameRows, frameStore}
 use Rattle.receiver.specs.Starting.{startAsRows, timesWithin}
@@ -74,7 +74,7 @@ abbrev pub storeIn : GroupSettings → ℕ
 storeIn s = storeOf (s .ports) (s .size) (s .window)
 
 abbrev pub isSized : GroupSettings → Bool
-isSized s = sized (s .kind) (s .ports) (s .size) (s .window)
+isSized s = startSized (s .kind) (s .ports) (s .size) (s .window)
 
 -- 'a count above 5,000 is number 4' (02, 2026-03)
 unfoldable pub timesFit : GroupSettings → Bool

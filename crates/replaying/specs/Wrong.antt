@@ -4,8 +4,8 @@ use mathlib.Core.Path.{_≡_, refl}
 use mathlib.Core.List.{List, [], _∷_, _++_}
 use Prim.Native.Nat.{ℕ}
 use lib.ListN.{getD, replicate, take}
-use Rattle.packet.specs.Kinds.{frames, idleNumber, tags}
-use Rattle.phases.specs.Sizes.{sized}
+use Rattle.packet.specs.Kinds.{frames, idleNumber, payloadRight, tags}
+use Rattle.phases.specs.Sizes.{knownKind, sized, startSized}
 use Rattle.receiver.specs.Starting.{freshPort, freshPorts, sizedFits, sizedRows, startAsRows, startFits, startRight, timesWithin}
 use Rattle.rows.specs.Group.{groupAt, groupOf, groupRow, putGroup}
 use Rattle.rows.specs.Member.{memberAt, memberOf, memberRow, putMember}
@@ -76,5 +76,5 @@ abbrev timesIn : List (List ℕ) → List ℕ
 timesIn rows = (groupAt rows .kind) ∷ (memberAt rows 0 .«hold_off») ∷ (memberAt rows 0 .restore) ∷ []
 
 times-break : (timesIn (startedRows timed (replicate 6 (replicate 16 0))) ≡ 2 ∷ 5 ∷ 2 ∷ []) × (timesIn (wrong-started timed (replicate 6 (replicate 16 0))) ≡ 2 ∷ 2 ∷ 5 ∷ [])
-unfolding wrong-started frames idleNumber tags sized freshPort freshPorts sizedFits sizedRows startAsRows startFits startRight timesWithin groupAt groupOf groupRow putGroup memberAt memberOf memberRow putMember putMarks putPackets putRow rowIn putStep stepRow startedRows
+unfolding wrong-started frames idleNumber tags knownKind sized freshPort freshPorts sizedFits sizedRows startAsRows startFits payloadRight startRight startSized timesWithin groupAt groupOf groupRow putGroup memberAt memberOf memberRow putMember putMarks putPackets putRow rowIn putStep stepRow startedRows
 times-break = (refl, refl)

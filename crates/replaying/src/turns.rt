@@ -90,7 +90,7 @@ fn answered(replay: Replay, phase: Phase, number: u8, used: usize, said: &mut [u
 fn is_startable(settings: Settings, store: usize) -> bool
     ensures { λ r. ⌜ r ≡ startable settings store ⌝ }
 {
-    if !phases::is_sized(
+    if !phases::is_startable(
         settings.kind,
         settings.ports,
         settings.size,

@@ -8,7 +8,7 @@ use Rattle.rows.specs.Rows.{PORT-ROWS, rowIn, putRow}
 unfoldable pub stepOf : List ℕ → Step
 stepOf row =
     record {
-      spare = drop 11 row;
+      spare = drop 12 row;
       had = getD row 0 0;
       failed = getD row 1 0;
       count = getD row 2 0;
@@ -19,6 +19,7 @@ stepOf row =
       whole = getD row 8 0;
       breaks = getD row 9 0;
       odd = getD row 10 0;
+      bits = getD row 11 0;
     }
 
 unfoldable pub stepRow : Step → List ℕ
@@ -34,6 +35,7 @@ stepRow s =
     ∷ (s .whole)
     ∷ (s .breaks)
     ∷ (s .odd)
+    ∷ (s .bits)
     ∷ (s .spare)
 
 unfoldable pub stepAt : List (List ℕ) → ℕ → Step
@@ -54,6 +56,7 @@ withNext q n =
       whole = q .whole;
       breaks = q .breaks;
       odd = q .odd;
+      bits = q .bits;
     }
 
 unfoldable pub putStep : List (List ℕ) → ℕ → Step → List (List ℕ)

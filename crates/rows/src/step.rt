@@ -5,7 +5,7 @@ ghost use Rattle.rows.specs.Step.{stepAt, stepOf, stepRow, putStep, with
 
 pub struct Step {
     // bytes of the row that nothing is in yet
-    pub spare: [u8; 5],
+    pub spare: [u8; 4],
     // 0 until the port has had a frame
     pub had: u8,
     // not 0 where its latest frame came flagged
@@ -25,13 +25,15 @@ pub struct Step {
     pub breaks: u8,
     // not 0 where the latest packet had a right CRC and another MFI2 than the count says
     pub odd: u8,
+    // of VC-12: what the bits of the latest packet's count say, as far as they have come
+    pub bits: u8,
 }
 
 fn step_of(row: [u8; 16]) -> Step
     ensures { λ r. ⌜ r ≡ stepOf row ⌝ }
 {
     Step {
-        spare: [row[11], row[12], row[13], row[14], row[15]],
+        spare: [row[12], row[13], row[14], row[15]],
         had: row[0],
         failed: row[1],
         count: row[2],
@@ -42,6 +44,7 @@ fn step_of(row: [u8; 16]) -> Step
         whole: row[8],
         breaks: row[9],
         odd: row[10],
+        bits: row[11],
     }
 }
 
@@ -60,11 +63,11 @@ fn step_row(s: Step) -> [u8; 16]
         s.whole,
         s.breaks,
         s.odd,
+        s.bits,
         s.spare[0],
         s.spare[1],
         s.spare[2],
         s.spare[3],
-        s.spare[4],
     ]
 }
 

@@ -8,15 +8,15 @@ use lib.ListN.{length}
 use borrow.Author.Tests.{eq-eqb, ne-eqb, lt-ltb, le-ltb}
 use Rattle.packet.specs.declared.layout.Fields.{Fields}
 use Rattle.packet.specs.declared.writer.Writing.{Writing}
-use Rattle.packet.specs.Kinds.{epochAfter, frames}
-use Rattle.packet.specs.Writing.{writeAnswer, writeBytes}
+use Rattle.packet.specs.Kinds.{epochAfter, frames, payloadRight}
+use Rattle.packet.specs.Sent.{sentAnswer, sentBytes}
 use Rattle.payload.specs.declared.answer.Answer as P
 use Rattle.payload.specs.Spreading.{oneAnswer, spreadOne}
 use Rattle.sender.specs.declared.board.Board.{Board}
 use Rattle.sender.specs.declared.epochs.Sender.{Sender}
 use Rattle.sender.specs.declared.epochs.SenderOutcome.{SenderOutcome}
 use Rattle.sender.specs.declared.table.Answer.{Answer}
-use Rattle.sender.specs.declared.table.Answer.the-variants.{Done, NoSlot, NotAllowed, Field, Length}
+use Rattle.sender.specs.declared.table.Answer.the-variants.{Done, NoSlot, NotAllowed, OutOfRange, Field, Length}
 use Rattle.sender.specs.declared.table.Outcome.{Outcome}
 use Rattle.sender.specs.Board.{boardOf}
 use Rattle.sender.specs.Commands.{startOf}
@@ -82,13 +82,13 @@ module _ (s : Sender) (i : ℕ) {n : ℕ} (e : n ≡ sizeOf (s .table .count)) w
         unfolding packetAnswer packetBytes
         packet-early b = rw (← e, lt-ltb i n h, ← ef, eq-eqb (length h4) f l, b) (refl, refl)
 
-        pub packet-sent : {fields : Fields} {w : Writing} {a : Answer} {out : List ℕ} → s .begun ≡ true → fields ≡ packetFields s i → w ≡ writeAnswer fields h4 → out ≡ writeBytes fields h4
+        pub packet-sent : {fields : Fields} {w : Writing} {a : Answer} {out : List ℕ} → s .begun ≡ true → fields ≡ packetFields s i → w ≡ sentAnswer (s .table .kind) fields h4 → out ≡ sentBytes (s .table .kind) fields h4
             → a ≡ written w → (a ≡ packetAnswer s i h4) × (out ≡ packetBytes s i h4)
         unfolding packetAnswer packetBytes
         packet-sent {fields} {w} {a} {out} b k ew eo ea =
             let right : eqb (length h4) (frames (s .table .kind)) ≡ true = rw (← ef) (eq-eqb (length h4) f l) in (
-              ea ∙ ap written (ew ∙ ap (λ (x : Fields). writeAnswer x h4) k) ∙ sym (third _ _ _ (written (writeAnswer (packetFields s i) h4)) NotAllowed Length NoSlot (there h) right b),
-              eo ∙ ap (λ (x : Fields). writeBytes x h4) k ∙ sym (three _ _ _ (writeBytes (packetFields s i) h4) h4 (there h) right b),
+              ea ∙ ap written (ew ∙ ap (λ (x : Fields). sentAnswer (s .table .kind) x h4) k) ∙ sym (third _ _ _ (written (sentAnswer (s .table .kind) (packetFields s i) h4)) NotAllowed Length NoSlot (there h) right b),
+              eo ∙ ap (λ (x : Fields). sentBytes (s .table .kind) x h4) k ∙ sym (three _ _ _ (sentBytes (s .table .kind) (packetFields s i) h4) h4 (there h) right b),
             )
 
   module _ (p : ℕ) (frame member : List ℕ) where
@@ -96,13 +96,18 @@ module _ (s : Sender) (i : ℕ) {n : ℕ} (e : n ≡ sizeOf (s .table .count)) w
     unfolding payloadAnswer payloadBytes
     payload-no-slot h = rw (← e, le-ltb i n h) (refl, refl)
 
-    module _ (h : i < n) {x : ℕ} (ex : x ≡ xOf s) where
+    pub payload-other : i < n → payloadRight (s .table .kind) p ≡ false
+        → (OutOfRange ≡ payloadAnswer s i p (length frame) (length member)) × (member ≡ payloadBytes s i p frame member)
+    unfolding payloadAnswer payloadBytes
+    payload-other h other = rw (← e, lt-ltb i n h, other) (refl, refl)
+
+    module _ (h : i < n) (own : payloadRight (s .table .kind) p ≡ true) {x : ℕ} (ex : x ≡ xOf s) where
       pub payload-early : {r : P.Answer} {a : Answer} → s .begun ≡ false → r ≡ oneAnswer x p (length frame) (length member) → a ≡ spreadEarly r
           → (a ≡ payloadAnswer s i p (length frame) (length member)) × (member ≡ payloadBytes s i p frame member)
       unfolding payloadAnswer payloadBytes
       payload-early b er ea = (
-        ea ∙ ap spreadEarly (er ∙ ap (λ (y : ℕ). oneAnswer y p (length frame) (length member)) ex) ∙ rw (← e, lt-ltb i n h, b) refl,
-        rw (← e, lt-ltb i n h, b) refl,
+        ea ∙ ap spreadEarly (er ∙ ap (λ (y : ℕ). oneAnswer y p (length frame) (length member)) ex) ∙ rw (← e, lt-ltb i n h, own, b) refl,
+        rw (← e, lt-ltb i n h, own, b) refl,
       )
 
       pub payload-sent : {rank : ℕ} {r : P.Answer} {a : Answer} {out : List ℕ} → s .begun ≡ true → rank ≡ rankIn s i → r ≡ oneAnswer x p (length frame) (length member) → out ≡ spreadOne x p rank frame member
@@ -110,8 +115,8 @@ module _ (s : Sender) (i : ℕ) {n : ℕ} (e : n ≡ sizeOf (s .table .count)) w
       unfolding payloadAnswer payloadBytes
       payload-sent {rank} {r} {a} {out} b k er eo ea = (
         ea ∙ ap spreadTold (er ∙ ap (λ (y : ℕ). oneAnswer y p (length frame) (length member)) ex)
-            ∙ sym (second _ _ (spreadTold (oneAnswer (xOf s) p (length frame) (length member))) (spreadEarly (oneAnswer (xOf s) p (length frame) (length member))) NoSlot (there h) b),
-        eo ∙ rw (ex, k) refl ∙ sym (both _ _ (spreadOne (xOf s) p (rankIn s i) frame member) member (there h) b),
+            ∙ sym (third _ _ _ (spreadTold (oneAnswer (xOf s) p (length frame) (length member))) (spreadEarly (oneAnswer (xOf s) p (length frame) (length member))) OutOfRange NoSlot (there h) own b),
+        eo ∙ rw (ex, k) refl ∙ sym (three _ _ _ (spreadOne (xOf s) p (rankIn s i) frame member) member (there h) own b),
       )
 
 pub x-is : (s : Sender) {n x : ℕ} → n ≡ sizeOf (s .ruling .count) → x ≡ carriersIn (s .ruling .rows) n → x ≡ xOf s

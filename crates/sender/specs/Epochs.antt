@@ -5,14 +5,14 @@ use Prim.Native.Nat.{ℕ}
 use lib.ListN.{length}
 use Rattle.ground.specs.Plain.{if_then_else_, _==_, _<?_}
 use Rattle.packet.specs.declared.layout.Fields.{Fields}
-use Rattle.packet.specs.Kinds.{epochAfter, frames}
+use Rattle.packet.specs.Kinds.{epochAfter, frames, payloadRight}
 use Rattle.packet.specs.Sent.{sentAnswer, sentBytes}
 use Rattle.payload.specs.Spreading.{oneAnswer, spreadOne}
 use Rattle.sender.specs.declared.epochs.Sender.{Sender}
 use Rattle.sender.specs.declared.epochs.SenderOutcome.{SenderOutcome}
 use Rattle.sender.specs.declared.ranks.Ranks.{Ranks}
 use Rattle.sender.specs.declared.table.Answer.{Answer}
-use Rattle.sender.specs.declared.table.Answer.the-variants.{Done, NoSlot, NotAllowed, Field, Length}
+use Rattle.sender.specs.declared.table.Answer.the-variants.{Done, NoSlot, NotAllowed, Field, Length, OutOfRange}
 use Rattle.sender.specs.declared.table.Outcome.{Outcome}
 use Rattle.sender.specs.declared.table.Table.{Table}
 use Rattle.sender.specs.Board.{boardOf}
@@ -87,16 +87,18 @@ xOf s = carriersIn (s .ruling .rows) (sizeOf (s .ruling .count))
 abbrev pub rankIn : Sender → ℕ → ℕ
 rankIn s i = rankAt (s .ruling .rows) (sizeOf (s .ruling .count)) i
 
--- The payload of a slot: 1, 4, 9, 2.
+-- The payload of a slot: 1, 4, 9, 2. A P that is not the kind's own (02, 2026-01: 'P is 136') is 4.
 unfoldable pub payloadAnswer : Sender → ℕ → ℕ → ℕ → ℕ → Answer
 payloadAnswer s i P frame member =
     if i <? sizeOf (s .table .count)
+    then (if payloadRight (s .table .kind) P
     then (if s .begun then spreadTold (oneAnswer (xOf s) P frame member) else spreadEarly (oneAnswer (xOf s) P frame member))
+    else OutOfRange)
     else NoSlot
 
 unfoldable pub payloadBytes : Sender → ℕ → ℕ → List ℕ → List ℕ → List ℕ
 payloadBytes s i P frame member =
-    if i <? sizeOf (s .table .count) && s .begun then spreadOne (xOf s) P (rankIn s i) frame member else member
+    if i <? sizeOf (s .table .count) && payloadRight (s .table .kind) P && s .begun then spreadOne (xOf s) P (rankIn s i) frame member else member
 
 -- this epoch's number, X and each slot's rank
 unfoldable pub ranksOf : Sender → Ranks

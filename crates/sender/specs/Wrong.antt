@@ -8,8 +8,9 @@ use Rattle.ground.specs.Plain.{if_then_else_}
 use Rattle.ground.specs.Table.{tabulate}
 use Rattle.packet.specs.declared.layout.Fields.{Fields}
 use Rattle.packet.specs.Crc.{crcOf, divisor, nibbleBits}
-use Rattle.packet.specs.Kinds.{epochAfter, epochs, frames, idleNumber, mstFails, mstFirst, mstNumbers}
+use Rattle.packet.specs.Kinds.{epochAfter, epochs, frames, idleNumber, mstEpochs, mstFails, mstFirst, mstNumbers}
 use Rattle.packet.specs.Layout.{dataOf, h4Of, nibblesOf, sealedOf}
+use Rattle.packet.specs.Sent.{sentBytes}
 use Rattle.packet.specs.Words.{ADD, EOS, NORM, assigned}
 use Rattle.packet.specs.Writing.{fitting, writeBytes}
 use Rattle.sender.specs.declared.epochs.Sender.{Sender}
@@ -33,7 +34,7 @@ wrong-numbers t e mst = withSlots t (mstApplied (t .slots) (sizeOf (t .count)) (
 numbers-break :
     (shown (wrong-numbers (after 2 (AddSlot 0 ∷ AddSlot 1 ∷ [])) 0 0xBF) ≡ ADD ∷ 0 ∷ EOS ∷ 1 ∷ 1 ∷ [])
     × (shown (after 2 (AddSlot 0 ∷ AddSlot 1 ∷ Report 0 0xBF 0 ∷ [])) ≡ ADD ∷ 1 ∷ EOS ∷ 0 ∷ 1 ∷ [])
-unfolding wrong-numbers boardOf rowsOf rowOf noRow highest startOf freshOf idleSlot idleNumber addOf addedTo reportOf actedOn mstApplied numberApplied holderOf renumbered slotAfter numberAfter comesBefore turnOf opensWait sizeOf membersOf mstFails mstFirst mstNumbers
+unfolding wrong-numbers boardOf rowsOf rowOf noRow highest startOf freshOf idleSlot idleNumber addOf addedTo reportOf actedOn mstApplied numberApplied holderOf renumbered slotAfter numberAfter comesBefore turnOf opensWait sizeOf membersOf mstFails mstFirst mstEpochs mstNumbers
 numbers-break = (refl, refl)
 
 -- Slip 4: 'Reading MST through numbers already moved by the same report.' Slot by slot, each by the number it has by then, and numbered anew at once.
@@ -48,7 +49,7 @@ wrong-reading slots n mst (suc i) =
 reading-breaks :
     (let t = after 2 (AddSlot 1 ∷ AddSlot 0 ∷ []) in shown (withSlots t (wrong-reading (t .slots) 2 0xBF 2) true) ≡ NORM ∷ 0 ∷ EOS ∷ 1 ∷ 1 ∷ [])
     × (shown (after 2 (AddSlot 1 ∷ AddSlot 0 ∷ Report 0 0xBF 0 ∷ [])) ≡ EOS ∷ 0 ∷ ADD ∷ 1 ∷ 1 ∷ [])
-unfolding wrong-reading boardOf rowsOf rowOf noRow highest startOf freshOf idleSlot idleNumber addOf addedTo reportOf actedOn mstApplied numberApplied holderOf renumbered slotAfter numberAfter comesBefore turnOf opensWait sizeOf membersOf mstFails mstFirst mstNumbers
+unfolding wrong-reading boardOf rowsOf rowOf noRow highest startOf freshOf idleSlot idleNumber addOf addedTo reportOf actedOn mstApplied numberApplied holderOf renumbered slotAfter numberAfter comesBefore turnOf opensWait sizeOf membersOf mstFails mstFirst mstEpochs mstNumbers
 reading-breaks = (refl, refl)
 
 -- this epoch's X, then the rank of each of n slots
@@ -71,7 +72,7 @@ wrong-rank s i = if carries (rowAt (s .ruling .rows) i) then rowAt (s .ruling .r
 rank-breaks :
     (told wrong-rank 3 (twice (joined 0 (joined 1 (joined 2 (Report 0 0x80 0 ∷ [])))) []) ≡ 2 ∷ 255 ∷ 1 ∷ 2 ∷ [])
     × (told rankIn 3 (twice (joined 0 (joined 1 (joined 2 (Report 0 0x80 0 ∷ [])))) []) ≡ 2 ∷ 255 ∷ 0 ∷ 1 ∷ [])
-unfolding wrong-rank beginOf freshSender startEpochOf startedSender startedEpoch carriersIn rankAt rankOf boardOf rowsOf rowOf noRow highest startOf freshOf idleSlot idleNumber addOf addedTo lapseOf reportOf waited actedOn mstApplied numberApplied holderOf renumbered slotAfter numberAfter comesBefore turnOf opensWait sizeOf membersOf mstFails mstFirst mstNumbers
+unfolding wrong-rank beginOf freshSender startEpochOf startedSender startedEpoch carriersIn rankAt rankOf boardOf rowsOf rowOf noRow highest startOf freshOf idleSlot idleNumber addOf addedTo lapseOf reportOf waited actedOn mstApplied numberApplied holderOf renumbered slotAfter numberAfter comesBefore turnOf opensWait sizeOf membersOf mstFails mstFirst mstEpochs mstNumbers
 rank-breaks = (refl, refl)
 
 -- Slip 2: 'Using a new packet's numbers for its own epoch.' Three members carry by packets of the epoch before; the middle one is removed, which shows in this epoch's packets and rules the next.
@@ -81,7 +82,7 @@ wrong-epoch s i = rankAt (s .outgoing .rows) (sizeOf (s .outgoing .count)) i
 epoch-breaks :
     (told wrong-epoch 3 (twice (joined 0 (joined 1 (joined 2 []))) (RemoveSlot 1 ∷ [])) ≡ 3 ∷ 0 ∷ 255 ∷ 1 ∷ [])
     × (told rankIn 3 (twice (joined 0 (joined 1 (joined 2 []))) (RemoveSlot 1 ∷ [])) ≡ 3 ∷ 0 ∷ 1 ∷ 2 ∷ [])
-unfolding wrong-epoch beginOf freshSender startEpochOf startedSender startedEpoch carriersIn rankAt rankOf boardOf rowsOf rowOf noRow highest startOf freshOf idleSlot idleNumber addOf addedTo removeOf removedFrom fallen fallenIn lapseOf reportOf waited actedOn mstApplied numberApplied holderOf renumbered slotAfter numberAfter comesBefore turnOf opensWait sizeOf membersOf mstFails mstFirst mstNumbers
+unfolding wrong-epoch beginOf freshSender startEpochOf startedSender startedEpoch carriersIn rankAt rankOf boardOf rowsOf rowOf noRow highest startOf freshOf idleSlot idleNumber addOf addedTo removeOf removedFrom fallen fallenIn lapseOf reportOf waited actedOn mstApplied numberApplied holderOf renumbered slotAfter numberAfter comesBefore turnOf opensWait sizeOf membersOf mstFails mstFirst mstEpochs mstNumbers
 epoch-breaks = (refl, refl)
 
 -- The reserved bits kept by the sender from the last packet read. 'Our sender still writes zeros' (request 2026-08): of the byte of MFI1 3 the first three bits are 0.
@@ -96,5 +97,5 @@ last-read = record { epoch = 5; word = record { 0 = NORM }; gid = 1; mst = 0xBF;
 packet-breaks :
     (let s = twice (joined 0 []) [] in getD (wrong-packet last-read s 0) 11 0 / 32 ≡ 7)
     × (let s = twice (joined 0 []) [] in getD (packetBytes s 0 (replicate 16 0)) 11 0 / 32 ≡ 0)
-unfolding wrong-packet packetFields packetBytes writeBytes fitting assigned frames h4Of nibblesOf sealedOf dataOf crcOf divisor nibbleBits beginOf freshSender startEpochOf startedSender startedEpoch epochAfter epochs boardOf rowsOf rowOf noRow highest startOf freshOf idleSlot idleNumber addOf addedTo lapseOf reportOf waited actedOn mstApplied numberApplied holderOf renumbered slotAfter numberAfter comesBefore turnOf opensWait sizeOf membersOf mstFails mstFirst mstNumbers
+unfolding wrong-packet packetFields packetBytes sentBytes writeBytes fitting assigned frames h4Of nibblesOf sealedOf dataOf crcOf divisor nibbleBits beginOf freshSender startEpochOf startedSender startedEpoch epochAfter epochs boardOf rowsOf rowOf noRow highest startOf freshOf idleSlot idleNumber addOf addedTo lapseOf reportOf waited actedOn mstApplied numberApplied holderOf renumbered slotAfter numberAfter comesBefore turnOf opensWait sizeOf membersOf mstFails mstEpochs mstFirst mstNumbers
 packet-breaks = (refl, refl)

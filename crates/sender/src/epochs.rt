@@ -223,10 +223,10 @@ impl Sender {
         if !self.begun {
             return Answer::NotAllowed;
         }
-        written_as(packet::write(packet_fields(self, at), h4))
+        written_as(packet::write_by(table.kind, packet_fields(self, at), h4))
     }
 
-    // The payload of a slot in a frame of this epoch: 1, 4, 9, 2. Slots with no rank send zeros.
+    // The payload of a slot in a frame of this epoch: 1, 4, 9, 2. Slots with no rank send zeros. VC-12 has one P alone.
     pub fn payload(self, slot: u32, p: u32, frame: &[u8], member: &mut [u8]) -> Answer
         ensures { λ r. ⌜ (r ≡ payloadAnswer self slot p (length (now (frame .entry))) (length (now (member .entry))))
             × (now (member .exit) ≡ payloadBytes self slot p (now (frame .entry)) (now (member .entry))) ⌝ }
@@ -235,6 +235,9 @@ impl Sender {
         let at = slot as usize;
         if at >= table::size(table.count) {
             return Answer::NoSlot;
+        }
+        if !kinds::is_payload(table.kind, p) {
+            return Answer::OutOfRange;
         }
         let board = self.ruling;
         let rows = board.rows;

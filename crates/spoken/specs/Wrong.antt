@@ -5,7 +5,7 @@ use mathlib.Core.List.{List, [], _∷_, _++_}
 use Prim.Native.Nat.{ℕ, zero, suc}
 use lib.ListN.{replicate, set}
 use Rattle.ground.specs.Plain.{if_then_else_, _==_}
-use Rattle.packet.specs.Kinds.{idleNumber, mstFails, mstFirst, mstNumbers}
+use Rattle.packet.specs.Kinds.{idleNumber, mstEpochs, mstFails, mstFirst, mstNumbers}
 use Rattle.packet.specs.Words.{ADD, DNU, EOS, IDLE, NORM}
 use Rattle.sender.specs.Board.{boardOf, highest, noRow, rowOf, rowsOf, word}
 use Rattle.sender.specs.Commands.{addOf, addedTo, fallen, fallenIn, freshOf, idleSlot, lapseOf, removeOf, removedFrom, startOf}
@@ -66,7 +66,7 @@ wrong-states old new i =
 states-break :
     (slotsWhere 2 (wrong-states p10-before p10-after) ≡ 1 ∷ [])
     × (slotsWhere 2 (changed (boardOf p10-before .rows) (boardOf p10-after .rows)) ≡ 0 ∷ 1 ∷ [])
-unfolding wrong-states boardOf rowsOf rowOf noRow highest startOf freshOf idleSlot idleNumber addOf addedTo lapseOf reportOf waited actedOn mstApplied numberApplied holderOf renumbered slotAfter numberAfter comesBefore turnOf opensWait sizeOf membersOf mstFails mstFirst mstNumbers
+unfolding wrong-states boardOf rowsOf rowOf noRow highest startOf freshOf idleSlot idleNumber addOf addedTo lapseOf reportOf waited actedOn mstApplied numberApplied holderOf renumbered slotAfter numberAfter comesBefore turnOf opensWait sizeOf membersOf mstFails mstFirst mstEpochs mstNumbers
 states-break = (refl, refl)
 
 -- Numbers alone. Then a member that is set aside is not spoken, since DNU keeps its number.
@@ -76,7 +76,7 @@ wrong-numbers old new i = not (rowAt old i .number == rowAt new i .number)
 numbers-break :
     (slotsWhere 2 (wrong-numbers (boardOf p10-before .rows) (boardOf p10-after .rows)) ≡ [])
     × (slotsWhere 2 (changed (boardOf p10-before .rows) (boardOf p10-after .rows)) ≡ 0 ∷ 1 ∷ [])
-unfolding wrong-numbers boardOf rowsOf rowOf noRow highest startOf freshOf idleSlot idleNumber addOf addedTo lapseOf reportOf waited actedOn mstApplied numberApplied holderOf renumbered slotAfter numberAfter comesBefore turnOf opensWait sizeOf membersOf mstFails mstFirst mstNumbers
+unfolding wrong-numbers boardOf rowsOf rowOf noRow highest startOf freshOf idleSlot idleNumber addOf addedTo lapseOf reportOf waited actedOn mstApplied numberApplied holderOf renumbered slotAfter numberAfter comesBefore turnOf opensWait sizeOf membersOf mstFails mstFirst mstEpochs mstNumbers
 numbers-break = (refl, refl)
 
 -- Boards of the table now, and not of what goes out. Then a slot that is added and removed within one epoch is spoken forth and back, and the wait with it.
@@ -95,7 +95,7 @@ taken-breaks :
     (told wrong-taken (beginOf 0 1 0 .sender) within-epoch
     ≡ (0 ∷ 0 ∷ []) ∷ (0 ∷ 0 ∷ IDLE ∷ 255 ∷ ADD ∷ 0 ∷ 0 ∷ []) ∷ (0 ∷ 0 ∷ ADD ∷ 0 ∷ IDLE ∷ 255 ∷ 1 ∷ []) ∷ (0 ∷ 2 ∷ []) ∷ [])
     × (told takenOf (beginOf 0 1 0 .sender) within-epoch ≡ (0 ∷ 0 ∷ []) ∷ (0 ∷ 0 ∷ []) ∷ (0 ∷ 0 ∷ []) ∷ (0 ∷ 0 ∷ []) ∷ [])
-unfolding wrong-taken comparedOf changesOf changesIn listOf beginOf freshSender startEpochOf startedSender startedEpoch removeOf removedFrom fallen fallenIn boardOf rowsOf rowOf noRow highest startOf freshOf idleSlot idleNumber addOf addedTo lapseOf reportOf waited actedOn mstApplied numberApplied holderOf renumbered slotAfter numberAfter comesBefore turnOf opensWait sizeOf membersOf mstFails mstFirst mstNumbers
+unfolding wrong-taken comparedOf changesOf changesIn listOf beginOf freshSender startEpochOf startedSender startedEpoch removeOf removedFrom fallen fallenIn boardOf rowsOf rowOf noRow highest startOf freshOf idleSlot idleNumber addOf addedTo lapseOf reportOf waited actedOn mstApplied numberApplied holderOf renumbered slotAfter numberAfter comesBefore turnOf opensWait sizeOf membersOf mstFails mstFirst mstEpochs mstNumbers
 taken-breaks = (refl, refl)
 
 -- The old board of the table now, the new one going out. Then what is asked for and has not gone out is spoken backwards.
@@ -103,7 +103,7 @@ wrong-sides : Sender → List ℕ
 wrong-sides s = comparedNumbers (boardOf (s .table)) (takenOf s)
 
 sides-break : wrong-sides (senderRun (beginOf 0 1 0 .sender) (StartEpoch 0 0xFF 0 ∷ OnTable (AddSlot 0) ∷ [])) ≡ 0 ∷ 0 ∷ ADD ∷ 0 ∷ IDLE ∷ 255 ∷ 0 ∷ []
-unfolding wrong-sides comparedOf changesOf changesIn listOf beginOf freshSender startEpochOf startedSender startedEpoch boardOf rowsOf rowOf noRow highest startOf freshOf idleSlot idleNumber addOf addedTo lapseOf reportOf waited actedOn mstApplied numberApplied holderOf renumbered slotAfter numberAfter comesBefore turnOf opensWait sizeOf membersOf mstFails mstFirst mstNumbers
+unfolding wrong-sides comparedOf changesOf changesIn listOf beginOf freshSender startEpochOf startedSender startedEpoch boardOf rowsOf rowOf noRow highest startOf freshOf idleSlot idleNumber addOf addedTo lapseOf reportOf waited actedOn mstApplied numberApplied holderOf renumbered slotAfter numberAfter comesBefore turnOf opensWait sizeOf membersOf mstFails mstFirst mstEpochs mstNumbers
 sides-break = refl
 
 -- Each change judged and laid on at once. Then one that does not fit is answered 2 with those before it laid on: half a board.
@@ -133,7 +133,7 @@ half =
 apply-breaks :
     (let r = wrong-apply (boardOf p10-before) (half .list) 2 in answerNumber (r .answer) ∷ numbers (r .board) ≡ 2 ∷ EOS ∷ 0 ∷ EOS ∷ 1 ∷ 0 ∷ [])
     × (appliedNumbers (boardOf p10-before) half ≡ 2 ∷ NORM ∷ 0 ∷ EOS ∷ 1 ∷ 0 ∷ [])
-unfolding wrong-apply appliedOf fits changesFit withChanges boardOf rowsOf rowOf noRow highest startOf freshOf idleSlot idleNumber addOf addedTo lapseOf reportOf waited actedOn mstApplied numberApplied holderOf renumbered slotAfter numberAfter comesBefore turnOf opensWait sizeOf membersOf mstFails mstFirst mstNumbers
+unfolding wrong-apply appliedOf fits changesFit withChanges boardOf rowsOf rowOf noRow highest startOf freshOf idleSlot idleNumber addOf addedTo lapseOf reportOf waited actedOn mstApplied numberApplied holderOf renumbered slotAfter numberAfter comesBefore turnOf opensWait sizeOf membersOf mstFails mstFirst mstEpochs mstNumbers
 apply-breaks = (refl, refl)
 
 -- The wait spoken always. Then equal boards are not silent, and what is told does not fit.
@@ -147,5 +147,5 @@ wait-breaks :
     (spokenNumbers (wrong-same (boardOf p10-before)) ≡ 2 ∷ [])
     × (appliedNumbers (boardOf p10-before) (wrong-same (boardOf p10-before)) ≡ 2 ∷ NORM ∷ 0 ∷ EOS ∷ 1 ∷ 0 ∷ [])
     × (comparedNumbers (boardOf p10-before) (boardOf p10-before) ≡ 0 ∷ 0 ∷ [])
-unfolding wrong-wait comparedOf changesOf changesIn listOf appliedOf fits changesFit withChanges boardOf rowsOf rowOf noRow highest startOf freshOf idleSlot idleNumber addOf addedTo lapseOf reportOf waited actedOn mstApplied numberApplied holderOf renumbered slotAfter numberAfter comesBefore turnOf opensWait sizeOf membersOf mstFails mstFirst mstNumbers
+unfolding wrong-wait comparedOf changesOf changesIn listOf appliedOf fits changesFit withChanges boardOf rowsOf rowOf noRow highest startOf freshOf idleSlot idleNumber addOf addedTo lapseOf reportOf waited actedOn mstApplied numberApplied holderOf renumbered slotAfter numberAfter comesBefore turnOf opensWait sizeOf membersOf mstFails mstFirst mstEpochs mstNumbers
 wait-breaks = (refl, refl, refl)

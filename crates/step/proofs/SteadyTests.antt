@@ -6,7 +6,7 @@ use Prim.Native.Nat.{ℕ, _%_, _<_}
 use native.Mathlib.Omega.{arith}
 use lib.Dec.{eqb}
 use borrow.Author.Tests.{ne-eqb}
-use Rattle.packet.specs.Counts.{counts}
+use Rattle.packet.specs.Counts.{h4Counts}
 use Rattle.rows.specs.declared.group.Group.{Group}
 use Rattle.rows.specs.declared.step.Step.{Step}
 use Rattle.step.specs.Arrival.{flagOf, inStep}
@@ -36,20 +36,20 @@ kept : (b : Bool) → b ≡ (b && true && true)
 kept true = refl
 kept false = refl
 
-pub counts-later : (kind t h : ℕ) → 1 < t % 16 → eqb (h % 16) (t % 16) ≡ counts kind t h
-unfolding counts
-counts-later kind t h b =
+pub counts-later : (t h : ℕ) → 1 < t % 16 → eqb (h % 16) (t % 16) ≡ h4Counts t h
+unfolding h4Counts
+counts-later t h b =
     let none : t % 16 ≢ 0 = (λ (z : t % 16 ≡ 0). omega arith) in
     let one : t % 16 ≢ 1 = (λ (z : t % 16 ≡ 1). omega arith) in
     rw (ne-eqb (t % 16) 0 none, ne-eqb (t % 16) 1 one) (kept (eqb (h % 16) (t % 16)))
 
 module _ (g : Group) (s : Step) (flag : Bool) (h : ℕ) (left : flag ≡ false) where
   pub tests-hold : (flagOf (g .begun) && eqb (s .had) 1 && eqb (s .failed) 0 && eqb (s .breaks) 0 && inStep g s && flagOf (s .joined)) ≡ true
-      → counts (g .kind) (s .next) h ≡ steady g s flag h
+      → h4Counts (s .next) h ≡ steady g s flag h
   unfolding steady
-  tests-hold t = rw left (all (flagOf (g .begun)) (eqb (s .had) 1) (eqb (s .failed) 0) (eqb (s .breaks) 0) (inStep g s) (flagOf (s .joined)) (counts (g .kind) (s .next) h) t)
+  tests-hold t = rw left (all (flagOf (g .begun)) (eqb (s .had) 1) (eqb (s .failed) 0) (eqb (s .breaks) 0) (inStep g s) (flagOf (s .joined)) (h4Counts (s .next) h) t)
 
   pub tests-fail : (flagOf (g .begun) && eqb (s .had) 1 && eqb (s .failed) 0 && eqb (s .breaks) 0 && inStep g s && flagOf (s .joined)) ≡ false
       → steady g s flag h ≡ false
   unfolding steady
-  tests-fail t = rw left (none (flagOf (g .begun)) (eqb (s .had) 1) (eqb (s .failed) 0) (eqb (s .breaks) 0) (inStep g s) (flagOf (s .joined)) (counts (g .kind) (s .next) h) t)
+  tests-fail t = rw left (none (flagOf (g .begun)) (eqb (s .had) 1) (eqb (s .failed) 0) (eqb (s .breaks) 0) (inStep g s) (flagOf (s .joined)) (h4Counts (s .next) h) t)

@@ -8,10 +8,10 @@ use Rattle.rows.specs.declared.group.Group.{Group}
 use Rattle.rows.specs.declared.step.Step.{Step}
 use Rattle.step.specs.declared.arrival.Taken.{Taken}
 use Rattle.step.specs.declared.run.Run.{Run}
-use Rattle.step.specs.Run.{inStepAt, noRun, runOn}
+use Rattle.step.specs.Run.{inStepAt, noRun, runOn, withBits}
 
 abbrev pub runOf : Step → Run
-runOf s = record { count = s .count; next = s .next; breaks = s .breaks; odd = s .odd }
+runOf s = record { count = s .count; next = s .next; breaks = s .breaks; odd = s .odd; bits = s .bits }
 
 unfoldable pub inStep : Group → Step → Bool
 inStep g s = inStepAt (g .kind) (s .count)
@@ -40,6 +40,7 @@ stepTo s failed run joined since later =
       whole = s .whole;
       breaks = run .breaks;
       odd = run .odd;
+      bits = run .bits;
     }
 
 abbrev pub lost : Step → ℕ → Run → Step
@@ -58,7 +59,7 @@ settlesAt g before now = not (flagOf (g .begun)) || inStep g before && not (inSt
 -- 10: 'signal-fail flag set on the frame', 'port recorded unreadable, its step lost'
 unfoldable pub flagged : Group → Step → Taken
 flagged g s =
-    let now = lost s 1 noRun in
+    let now = lost s 1 (withBits (s .bits) noRun) in
     record { step = now; answer = 10; counted = false; kept = false; at = 0; joins = false; settles = settlesAt g s now }
 
 -- 12: 'port not in step after this frame', 'step record advanced, frame not stored'

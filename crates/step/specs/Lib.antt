@@ -1,5 +1,9 @@
 pub mod Run
+pub mod RunKept
+mod Samples
+pub mod Starts
 pub mod OwnCount
 pub mod Arrival
 pub mod Steady
 pub mod Laws
+pub mod Theorems

@@ -1,33 +1,31 @@
--- The step rule (01, 'Step'; request 2026-04). This file alone says when a port comes into step and when it loses it.
+-- The step rule (01, 'Step'; request 2026-04), by the kind of packet. This file says when a port comes into step and when it loses it; of VC-12 Starts does.
 use mathlib.Core.Bool.{Bool, not, _&&_, _||_}
 use Prim.Native.Nat.{ℕ, _+_, _*_}
 use Rattle.ground.specs.Plain.{if_then_else_, _==_, _≤?_}
-use Rattle.packet.specs.Counts.{startsCount, tagByHigh, carriesLow, tagByLow, counts}
-use Rattle.packet.specs.Kinds.{endsEpoch, frames, placeOf, tagAfter}
+use Rattle.packet.specs.Counts.{startsCount, tagByHigh, carriesLow, tagByLow, h4Counts}
+use Rattle.packet.specs.Kinds.{endsEpoch, frames, placeOf, tagAfter, vc12Kind}
 use Rattle.step.specs.declared.run.Run.{Run}
+pub use Rattle.step.specs.Starts.{noRun}
+use Rattle.step.specs.Starts.{startsRun}
 
--- 'A port is in step when 32 frames in a row .. count MFI1 rightly': two multiframes
+-- 'A port is in step when 32 frames in a row .. count MFI1 rightly': two multiframes. Of VC-12 two whole packets.
 unfoldable pub inStepAt : ℕ → ℕ → Bool
 inStepAt kind count = frames kind * 2 ≤? count
 
--- no frame counted
-abbrev pub noRun : Run
-noRun = record { count = 0; next = 0; breaks = 0; odd = 0 }
-
 -- 'starting at MFI1 0': a frame as the first of a new run, if it can be
 unfoldable pub begunRun : ℕ → ℕ → Run
-begunRun kind h = if startsCount kind h then (record { count = 1; next = tagByHigh kind h; breaks = 0; odd = 0 }) else noRun
+begunRun kind h = if startsCount kind h then (record { count = 1; next = tagByHigh kind h; breaks = 0; odd = 0; bits = 0 }) else noRun
 
 -- Coming into step: 'One frame that breaks the count .. can be the first of a new 32.'
 
 -- a run's MFI2 is what its first two frames say
 unfoldable pub secondRun : ℕ → Run → ℕ → Run
-secondRun kind run h = if carriesLow kind h then (record { count = 2; next = tagByLow kind (run .next) h; breaks = 0; odd = 0 }) else begunRun kind h
+secondRun kind run h = if carriesLow kind h then (record { count = 2; next = tagByLow kind (run .next) h; breaks = 0; odd = 0; bits = 0 }) else begunRun kind h
 
 -- 'count MFI1 rightly and their second MFI2 is the first plus one': each frame has the tag after the one before
 unfoldable pub furtherRun : ℕ → Run → ℕ → Run
 furtherRun kind run h =
-    if counts kind (run .next) h then (record { count = run .count + 1; next = tagAfter kind (run .next); breaks = 0; odd = 0 }) else begunRun kind h
+    if h4Counts (run .next) h then (record { count = run .count + 1; next = tagAfter kind (run .next); breaks = 0; odd = 0; bits = 0 }) else begunRun kind h
 
 unfoldable pub gainedRun : ℕ → Run → ℕ → Run
 gainedRun kind run h = if run .count == 0 then begunRun kind h else if run .count == 1 then secondRun kind run h else furtherRun kind run h
@@ -53,10 +51,17 @@ loses counted run odd = (not counted && 3 ≤? run .breaks) || (odd && not (run 
 -- one that loses step can be the first of a new 32
 unfoldable pub stayedRun : ℕ → Run → Bool → ℕ → Run
 stayedRun kind run odd h =
-    let counted = counts kind (run .next) h in
+    let counted = h4Counts (run .next) h in
     if loses counted run odd then begunRun kind h
-    else (record { count = run .count; next = tagAfter kind (run .next); breaks = breaksAfter counted (run .breaks); odd = oddAfter kind run odd })
+    else (record { count = run .count; next = tagAfter kind (run .next); breaks = breaksAfter counted (run .breaks); odd = oddAfter kind run odd; bits = run .bits })
 
 -- a frame more, which ends an odd packet or not
+unfoldable pub h4RunOn : ℕ → Run → Bool → ℕ → Run
+h4RunOn kind run odd h = if inStepAt kind (run .count) then stayedRun kind run odd h else gainedRun kind run h
+
+-- the bits of a count are VC-12's: H4 leaves them
+abbrev pub withBits : ℕ → Run → Run
+withBits bits run = record { count = run .count; next = run .next; breaks = run .breaks; odd = run .odd; bits = bits }
+
 unfoldable pub runOn : ℕ → Run → Bool → ℕ → Run
-runOn kind run odd h = if inStepAt kind (run .count) then stayedRun kind run odd h else gainedRun kind run h
+runOn kind run odd h = if kind == vc12Kind then startsRun run h else withBits (run .bits) (h4RunOn kind run odd h)

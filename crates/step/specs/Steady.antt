@@ -1,9 +1,9 @@
--- The frame that comes most often: steady, with the tag that was to come, of a joined port in step; and in mid-epoch, which is in the window and not the last of its epoch.
+-- The frame of H4 that comes most often: steady, with the tag that was to come, of a joined port in step; and in mid-epoch, which is in the window and not the last of its epoch.
 -- Of the port's records it changes the next tag and one nibble alone.
 use mathlib.Core.Bool.{Bool, true, false, not, _&&_}
 use Prim.Native.Nat.{ℕ}
 use Rattle.ground.specs.Plain.{_==_, _<?_}
-use Rattle.packet.specs.Counts.{counts}
+use Rattle.packet.specs.Counts.{h4Counts}
 use Rattle.packet.specs.Kinds.{endsEpoch, tagAfter}
 use Rattle.rows.specs.declared.group.Group.{Group}
 use Rattle.rows.specs.declared.step.Step.{Step}
@@ -18,7 +18,7 @@ steady g s flag h =
     && s .failed == 0
     && s .breaks == 0
     && inStep g s
-    && counts (g .kind) (s .next) h
+    && h4Counts (s .next) h
     && flagOf (g .begun)
     && flagOf (s .joined)
 

@@ -66,6 +66,7 @@ fn step_to(step: Step, failed: u8, run: Run, joined: u8, since: u8, later: u8) -
         whole: step.whole,
         breaks: run.breaks,
         odd: run.odd,
+        bits: run.bits,
     }
 }
 
@@ -85,6 +86,7 @@ fn flagged(group: Group, step: Step) -> Taken
         next: 0,
         breaks: 0,
         odd: 0,
+        bits: step.bits,
     };
     let now = step_to(step, 1, run, 0, 0, 0);
     let settles = settles_at(group, step, now);
@@ -225,6 +227,7 @@ pub fn decide(group: Group, step: Step, failed: bool, odd: bool, h4: u8) -> Take
         next: step.next,
         breaks: step.breaks,
         odd: step.odd,
+        bits: step.bits,
     };
     let run = run::run_on(group.kind, before, odd, h4);
     if run::is_step(group.kind, run.count) {

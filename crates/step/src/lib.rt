@@ -3,6 +3,7 @@ pub mod answers;
 mod arrival;
 mod own;
 mod run;
+mod starts;
 mod steady;
 
 pub use arrival::Taken;

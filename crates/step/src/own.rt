@@ -1,4 +1,4 @@
-// A packet by the receiver's own count (request 2026-04), and by the kind of packet (request 2026-12).
+// A packet by the receiver's own count (request 2026-04), and by the kind of packet (requests 2026-01 and 2026-12).
 use crate::run;
 use packet::Ruling;
 use packet::kinds;
@@ -26,7 +26,7 @@ fn ruling_in(kind: u8, epoch: u8, nibbles: [u8; 16]) -> Ruling
 pub fn ruling_of(kind: u8, epoch: u8, nibbles: [u8; 16]) -> Ruling
     ensures { λ r. ⌜ r ≡ ownRuling kind epoch nibbles ⌝ }
 {
-    if is_own(epoch, nibbles) {
+    if (kind == kinds::VC12) | is_own(epoch, nibbles) {
         return ruling_in(kind, epoch, nibbles);
     }
     Ruling {
@@ -53,7 +53,7 @@ fn is_right(kind: u8, nibbles: [u8; 16]) -> bool
 fn is_odd_packet(kind: u8, epoch: u8, nibbles: [u8; 16]) -> bool
     ensures { λ r. ⌜ r ≡ oddPacket kind epoch nibbles ⌝ }
 {
-    if is_own(epoch, nibbles) {
+    if (kind == kinds::VC12) | is_own(epoch, nibbles) {
         return false;
     }
     is_right(kind, nibbles)

@@ -1,10 +1,11 @@
 // The step rule (01, 'Step'; request 2026-04): frames that count rightly in a row, from one with MFI1 0 on, and in step the receiver's own count.
+use crate::starts;
 use packet::counts;
 use packet::kinds;
 ghost use mathlib.Core.Path.{_≡_};
 ghost use mathlib.Core.Bool.{false};
 ghost use Prim.Native.Nat.{_<_};
-ghost use Rattle.step.specs.Run.{begunRun, breaksAfter, endsPacket, furtherRun, gainedRun, inStepAt, loses, oddAfter, runOn, secondRun, stayedRun};
+ghost use Rattle.step.specs.Run.{begunRun, breaksAfter, endsPacket, furtherRun, gainedRun, h4RunOn, inStepAt, loses, oddAfter, runOn, secondRun, stayedRun};
 
 pub struct Run {
     // how many frames, up to the number that makes a step
@@ -15,6 +16,8 @@ pub struct Run {
     pub breaks: u8,
     // and not 0 where the latest packet had a right CRC and another MFI2
     pub odd: u8,
+    // of VC-12: what the bits of the latest packet's count say, as far as they have come
+    pub bits: u8,
 }
 
 // How many frames in a row bring a port into step: two multiframes.
@@ -35,6 +38,7 @@ pub(crate) fn begun_run(kind: u8, h4: u8) -> Run
             next: counts::tag_by_high(kind, h4),
             breaks: 0,
             odd: 0,
+            bits: 0,
         };
     }
     Run {
@@ -42,6 +46,7 @@ pub(crate) fn begun_run(kind: u8, h4: u8) -> Run
         next: 0,
         breaks: 0,
         odd: 0,
+        bits: 0,
     }
 }
 
@@ -54,6 +59,7 @@ fn second(kind: u8, run: Run, h4: u8) -> Run
             next: counts::tag_by_low(kind, run.next, h4),
             breaks: 0,
             odd: 0,
+            bits: 0,
         };
     }
     begun_run(kind, h4)
@@ -63,12 +69,13 @@ fn further(kind: u8, run: Run, h4: u8) -> Run
     requires { ⌜ inStepAt kind (run .count) ≡ false ⌝ }
     ensures { λ r. ⌜ r ≡ furtherRun kind run h4 ⌝ }
 {
-    if counts::is_counted(kind, run.next, h4) {
+    if counts::is_counted(run.next, h4) {
         return Run {
             count: run.count + 1,
             next: kinds::next_tag(kind, run.next),
             breaks: 0,
             odd: 0,
+            bits: 0,
         };
     }
     begun_run(kind, h4)
@@ -127,7 +134,7 @@ fn is_lost(counted: bool, run: Run, odd: bool) -> bool
 fn stays(kind: u8, run: Run, odd: bool, h4: u8) -> Run
     ensures { λ r. ⌜ r ≡ stayedRun kind run odd h4 ⌝ }
 {
-    let counted = counts::is_counted(kind, run.next, h4);
+    let counted = counts::is_counted(run.next, h4);
     if is_lost(counted, run, odd) {
         return begun_run(kind, h4);
     }
@@ -136,15 +143,33 @@ fn stays(kind: u8, run: Run, odd: bool, h4: u8) -> Run
         next: kinds::next_tag(kind, run.next),
         breaks: breaks_after(counted, run.breaks),
         odd: odd_after(kind, run, odd),
+        bits: run.bits,
     }
 }
 
-// A frame more, which ends an odd packet or not.
-pub(crate) fn run_on(kind: u8, run: Run, odd: bool, h4: u8) -> Run
-    ensures { λ r. ⌜ r ≡ runOn kind run odd h4 ⌝ }
+// A frame of H4 more, which ends an odd packet or not.
+fn h4_run_on(kind: u8, run: Run, odd: bool, h4: u8) -> Run
+    ensures { λ r. ⌜ r ≡ h4RunOn kind run odd h4 ⌝ }
 {
     if is_step(kind, run.count) {
         return stays(kind, run, odd, h4);
     }
     gains(kind, run, h4)
+}
+
+// A frame more.
+pub(crate) fn run_on(kind: u8, run: Run, odd: bool, h4: u8) -> Run
+    ensures { λ r. ⌜ r ≡ runOn kind run odd h4 ⌝ }
+{
+    if kind == kinds::VC12 {
+        return starts::starts_run(run, h4);
+    }
+    let after = h4_run_on(kind, run, odd, h4);
+    Run {
+        count: after.count,
+        next: after.next,
+        breaks: after.breaks,
+        odd: after.odd,
+        bits: run.bits,
+    }
 }

@@ -1,4 +1,4 @@
-// The frame that comes most often: it changes a port's next tag and one nibble alone.
+// The frame of H4 that comes most often: it changes a port's next tag and one nibble alone.
 use crate::arrival;
 use packet::counts;
 use packet::kinds;
@@ -7,7 +7,7 @@ use rows::Step;
 ghost use mathlib.Core.Path.{_≡_};
 ghost use mathlib.Core.Bool.{_&&_};
 ghost use Rattle.ground.specs.Plain.{_==_};
-ghost use Rattle.packet.specs.Counts.{counts};
+ghost use Rattle.packet.specs.Counts.{h4Counts};
 ghost use Rattle.step.specs.Arrival.{flagOf, inStep};
 ghost use Rattle.step.specs.Steady.{midEpoch, steady};
 
@@ -26,13 +26,13 @@ fn is_undisturbed(group: Group, step: Step) -> bool
 }
 
 // From MFI1 2 on a frame counts by its MFI1 alone.
-fn is_counted(kind: u8, tag: u16, h4: u8) -> bool
-    ensures { λ r. ⌜ r ≡ counts kind tag h4 ⌝ }
+fn is_counted(tag: u16, h4: u8) -> bool
+    ensures { λ r. ⌜ r ≡ h4Counts tag h4 ⌝ }
 {
     if 1 < tag % 16 {
         return h4 % 16 == (tag % 16) as u8;
     }
-    counts::is_counted(kind, tag, h4)
+    counts::is_counted(tag, h4)
 }
 
 // Of a joined port in step, with the tag that was to come.
@@ -43,7 +43,7 @@ pub fn is_steady(group: Group, step: Step, failed: bool, h4: u8) -> bool
         return false;
     }
     if is_undisturbed(group, step) {
-        return is_counted(group.kind, step.next, h4);
+        return is_counted(step.next, h4);
     }
     false
 }
@@ -52,6 +52,8 @@ pub fn is_steady(group: Group, step: Step, failed: bool, h4: u8) -> bool
 pub fn is_mid_epoch(group: Group, at: u16) -> bool
     ensures { λ r. ⌜ r ≡ midEpoch group at ⌝ }
 {
-    let ends = kinds::ends_epoch(group.kind, at);
-    (at < group.window) & !ends
+    if kinds::ends_epoch(group.kind, at) {
+        return false;
+    }
+    at < group.window
 }

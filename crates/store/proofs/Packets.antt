@@ -13,25 +13,25 @@ use Rattle.rows.specs.declared.group.Group.{Group}
 use Rattle.store.specs.Frames.{byteAt, h4At, placeIn}
 
 -- the symbols of the first k frames are in
-pub record Read (g : Group) (port : ℕ) (store : List ℕ) (k : ℕ) (row : List ℕ) : Type 0 where
+pub record Read (kind : ℕ) (g : Group) (port : ℕ) (store : List ℕ) (k : ℕ) (row : List ℕ) : Type 0 where
   pub long : length row ≡ 16
-  pub has : (j : ℕ) → j < k → symbolAt (g .kind) row j ≡ symbolOf (g .kind) (h4At g port j store)
+  pub has : (j : ℕ) → j < k → symbolAt kind row j ≡ symbolOf kind (h4At g port j store)
 
-pub read-none : (g : Group) (port : ℕ) (store row : List ℕ) → length row ≡ 16 → Read g port store 0 row
-read-none g port store row long = record { long = long; has = λ j b. absurd (omega arith) }
+pub read-none : (kind : ℕ) (g : Group) (port : ℕ) (store row : List ℕ) → length row ≡ 16 → Read kind g port store 0 row
+read-none kind g port store row long = record { long = long; has = λ j b. absurd (omega arith) }
 
 -- one more, by way of its place, its H4 and its entry
-pub read-more : (g : Group) (port k place h at old new : ℕ) (store row : List ℕ) → k < frames (g .kind) → Read g port store k row → place ≡ placeIn g port k → h ≡ byteAt store (place + g .payload)
-    → at ≡ entryAt (g .kind) k → old ≡ getD row at 0 → new ≡ entryWith (g .kind) old k h → Read g port store (k + 1) (set row at new)
+pub read-more : (kind : ℕ) (g : Group) (port k place h at old new : ℕ) (store row : List ℕ) → k < frames kind → Read kind g port store k row → place ≡ placeIn g port k → h ≡ byteAt store (place + g .payload)
+    → at ≡ entryAt kind k → old ≡ getD row at 0 → new ≡ entryWith kind old k h → Read kind g port store (k + 1) (set row at new)
 unfolding h4At
-read-more g port k place h at old new store row within o p b is-at is-old is-new =
+read-more kind g port k place h at old new store row within o p b is-at is-old is-new =
     let here : h ≡ h4At g port k store = rw (← p) b in
-    rw (with-parts (g .kind) row k h at old new is-at is-old is-new)
+    rw (with-parts kind row k h at old new is-at is-old is-new)
     (record {
-      long = length-with (g .kind) row k h ∙ o .long;
+      long = length-with kind row k h ∙ o .long;
       has = λ j l.
           ⊎-elim
-          (λ (e : j ≡ k). rw (e, ← here) (symbol-same (g .kind) row (o .long) k h within))
-          (λ (d : j ≢ k). symbol-other (g .kind) row (o .long) k h within j d ∙ o .has j (omega arith))
+          (λ (e : j ≡ k). rw (e, ← here) (symbol-same kind row (o .long) k h within))
+          (λ (d : j ≢ k). symbol-other kind row (o .long) k h within j d ∙ o .has j (omega arith))
           (eq-or-ne j k);
     })

@@ -3,7 +3,8 @@ use packet::kinds;
 use packet::symbols;
 use rows::Group;
 ghost use mathlib.Core.Path.{_≡_};
-ghost use Rattle.store.specs.Frames.{byteAt, packetIn, placeIn, ringOf, storedAt};
+ghost use Rattle.packet.specs.Symbols.{rowFrom};
+ghost use Rattle.store.specs.Frames.{byteAt, h4At, packetIn, placeIn, ringOf, storedAt};
 
 // With origin and distance below the window, as a running receiver has them, it takes no division.
 fn ring(origin: u16, at: u16, window: u16) -> usize
@@ -50,20 +51,29 @@ fn byte_at(store: &[u8], place: usize) -> u8
     if place < store.len() { store[place] } else { 0 }
 }
 
-// The packet that came with the frames of the oldest epoch, out of their H4 bytes.
-pub fn packet_in(group: Group, port: u8, store: &[u8]) -> [u8; 16]
-    ensures { λ r. ⌜ r ≡ packetIn group port (now (store .entry)) ⌝ }
+fn packet_by(kind: u8, group: Group, port: u8, store: &[u8]) -> [u8; 16]
+    ensures { λ r. ⌜ r ≡ rowFrom kind (λ k. h4At group port k (now (store .entry))) ⌝ }
 {
-    let frames = kinds::epoch_frames(group.kind);
+    let frames = kinds::epoch_frames(kind);
     let mut row = [0; 16];
     let mut k = 0;
     while k < frames {
         let at = place(group, port, k as u16);
         let h4 = byte_at(store, at + group.payload as usize);
-        let entry = symbols::entry_at(group.kind, k);
+        let entry = symbols::entry_at(kind, k);
         let old = row[entry as usize];
-        row[entry as usize] = symbols::entry_with(group.kind, old, k, h4);
+        row[entry as usize] = symbols::entry_with(kind, old, k, h4);
         k += 1;
     }
     row
+}
+
+// The packet that came with the frames of the oldest epoch, out of their H4 bytes. The kind is asked for once, so that the loop knows it.
+pub fn packet_in(group: Group, port: u8, store: &[u8]) -> [u8; 16]
+    ensures { λ r. ⌜ r ≡ packetIn group port (now (store .entry)) ⌝ }
+{
+    if group.kind == kinds::VC12 {
+        return packet_by(kinds::VC12, group, port, store);
+    }
+    packet_by(kinds::H4, group, port, store)
 }

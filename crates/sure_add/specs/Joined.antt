@@ -9,7 +9,8 @@ use lib.ListN.{getD}
 use Rattle.ground.specs.Plain.{if_then_else_, _≤?_}
 use Rattle.packet.specs.declared.reader.Reading.{Reading}
 use Rattle.packet.specs.declared.reader.Reading.the-variants.{Packet, Length, Crc, Fixed, Unassigned}
-use Rattle.packet.specs.Reading.{readAnswer}
+use Rattle.packet.specs.Ruling.{readRow}
+use Rattle.packet.specs.Symbols.{packetRow}
 use Rattle.receiver.specs.Shown.{replyOf}
 use Rattle.sender.specs.declared.table.Answer.the-variants.{Done}
 use Rattle.sender.specs.declared.table.Table.{Table}
@@ -63,7 +64,7 @@ pub record Joined (k : Link) (m₀ : Moment) (a b until : ℕ) : Type 0 where
 
 -- the back packet that has wholly come by the start of the t-th epoch, that of b + 1 epochs ago, as it is handed over
 abbrev pub comeBack : {k : Link} {m₀ : Moment} {a b until : ℕ} → Joined k m₀ a b until → ℕ → List Call
-comeBack {k} {m₀} {a} {b} {until} j t = if b + 1 ≤? t then reportBy (readAnswer (packetSent (j .back) (t - (b + 1)) (j .from))) else []
+comeBack {k} {m₀} {a} {b} {until} j t = if b + 1 ≤? t then reportBy (readRow (j .back .kind) (packetRow (j .back .kind) (packetSent (j .back) (t - (b + 1)) (j .from)))) else []
 
 -- the table at the start of the t-th epoch
 abbrev pub tableAt : {k : Link} {m₀ : Moment} {a b until : ℕ} → Joined k m₀ a b until → ℕ → Table

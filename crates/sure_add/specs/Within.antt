@@ -3,6 +3,7 @@ use mathlib.Core.Path.{_≡_}
 use mathlib.Core.Logic.{_≢_}
 use mathlib.Core.Bool.{true}
 use Prim.Native.Nat.{ℕ, suc, _+_, _≤_, _<_}
+use Rattle.packet.specs.Kinds.{mstEpochs}
 use Rattle.sender.specs.declared.epochs.Sender.{Sender}
 use Rattle.sender.specs.declared.table.Table.{Table}
 use Rattle.sender.specs.Board.{boardOf}
@@ -13,13 +14,9 @@ use Rattle.sender.specs.Table.{isActive}
 use Rattle.link.specs.History.{History, hasRank}
 use Rattle.link.specs.Sending.{epochStart}
 
--- after how many epochs MST has spoken of every number: 'numbers 8 x (e mod 32)' (01, 'The control packet')
-abbrev pub blocks : ℕ → ℕ
-blocks kind = 32
-
--- 34 is 32 + 2. One start until the ADD goes out, a on its way, one until its epoch is reported, r, at most 31 until MST speaks of its number, b on the way back, and one until that packet is whole.
+-- 34 is 32 + 2, the epochs in which MST has spoken of every number and two more: of VC-12 these are 8. One start until the ADD goes out, a on its way, one until its epoch is reported, r, at most 31 (of VC-12 7) until MST speaks of its number, b on the way back, and one until that packet is whole.
 unfoldable pub bound : (kind a b r : ℕ) → ℕ
-bound kind a b r = blocks kind + 2 + a + b + r
+bound kind a b r = mstEpochs kind + 2 + a + b + r
 
 -- the slot is active in the table at some start after t, at most so many after it
 pub record ActiveWithin (table : ℕ → Table) (slot t most : ℕ) : Type 0 where

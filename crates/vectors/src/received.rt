@@ -112,7 +112,7 @@ fn epochs(line: &[u8], at: At, state: &mut [[u8; 16]], store: &mut [u8]) {
     let told = reply_of(state, 0);
     show::byte(b"\tMST ", told[0]);
     show::named(b"\tturns ", turns as u16);
-    show_report(report);
+    show::report(report);
     show_frame(report[2], &out);
     show::end_line();
 }
@@ -216,17 +216,6 @@ fn show_state(state: u8) {
         Port::OK => show::text(b" OK"),
         Port::FAIL => show::text(b" FAIL"),
         _ => show::text(b" IDLE"),
-    }
-}
-
-fn show_report(report: [u8; 8]) {
-    show::named(b"\tepoch ", report[1] as u16);
-    let mark = report[0];
-    match mark {
-        0 => show::text(b"\tnone due"),
-        1 => show::text(b"\theld"),
-        2 => show::text(b"\tdoubtful"),
-        _ => show::text(b"\tsure"),
     }
 }
 

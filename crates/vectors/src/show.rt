@@ -54,3 +54,25 @@ pub(crate) fn either(found: bool, yes: &[u8], no: &[u8]) {
         text(no);
     }
 }
+
+// Numbers below ten, each as its digit.
+pub(crate) fn small(all: &[u8]) {
+    let mut i = 0;
+    while i < all.len() {
+        let own = [digit(all[i] % 10)];
+        text(&own);
+        i += 1;
+    }
+}
+
+// The epoch and the mark of a report.
+pub(crate) fn report(report: [u8; 8]) {
+    named(b"\tepoch ", report[1] as u16);
+    let mark = report[0];
+    match mark {
+        0 => text(b"\tnone due"),
+        1 => text(b"\theld"),
+        2 => text(b"\tdoubtful"),
+        _ => text(b"\tsure"),
+    }
+}

@@ -2,7 +2,8 @@
 
 use crate::random::Random;
 use reference::receiver::rows::{rows_for, Row, ROWS_A_PORT};
-use reference::receiver::{first_tag, Receiver};
+use reference::packet::VC12_START;
+use reference::receiver::{clock, Receiver, KIND_VC12};
 
 fn flag(random: &mut Random) -> u8 {
     random.one_of(&[0, 0, 1, 1, 7, 255])
@@ -13,7 +14,8 @@ pub fn rows(random: &mut Random, rows: &mut [Row], window: usize) {
     let ports = (rows.len() - 1) / ROWS_A_PORT;
     let first = rows_for(random.below(ports as u64) as usize);
     let any = random.next() as u8;
-    match random.below(14) {
+    let clock = clock(rows[0][0].into());
+    match random.below(15) {
         0 => rows[0][6] = flag(random),
         1 => rows[0][7] = flag(random),
         2 => rows[0][8] = any,
@@ -22,11 +24,11 @@ pub fn rows(random: &mut Random, rows: &mut [Row], window: usize) {
             let byte = random.one_of(&[0, 1, 5, 6, 8]);
             rows[first][byte] = flag(random);
         }
-        6 => rows[first][2] = random.one_of(&[0, 1, 2, 17, 30, 31, 31, 32, 33, 255]),
+        6 => rows[first][2] = random.one_of(&[0, 1, 2, 4, 5, 17, 30, 31, 31, 32, 33, 62, 63, 63, 64, 65, 255]),
         7 => rows[first][7] = random.one_of(&[0, 1, 2, 127, 128, 255]),
         8 => {
             // near the window, or a number that is no tag
-            let tag = first_tag(rows[0][8]) + random.below(window as u64 + 2) as usize + 4096 * random.below(16) as usize;
+            let tag = clock.first_tag(rows[0][8]) + random.below(window as u64 + 2) as usize + clock.tags * random.below(16) as usize;
             rows[first][3..5].copy_from_slice(&(tag as u16).to_be_bytes());
         }
         9 => {
@@ -42,7 +44,8 @@ pub fn rows(random: &mut Random, rows: &mut [Row], window: usize) {
         }
         10 => rows[first][9] = random.one_of(&[0, 1, 2, 3, 3, 4, 255]),
         11 => rows[first][10] = flag(random),
-        12 => {
+        12 => rows[first][11] = random.one_of(&[0, 1, 15, 16, 31, 32, any]),
+        13 => {
             let (row, byte) = (first + 2 + random.below(3) as usize, random.below(16) as usize);
             rows[row][byte] = any;
         }
@@ -59,9 +62,18 @@ pub fn sizes(random: &mut Random, group: &mut Row) {
     group[byte] = random.one_of(&[0, 1, 2, 9, 16, 64, 65, 255]);
 }
 
-/// An H4 byte that goes on from what the rows say of a port, most often.
+/// A byte that goes on from what the rows say of a port, most often.
 pub fn h4(random: &mut Random, rows: &[Row], port: usize) -> u8 {
-    let next = Receiver::from_rows(rows).ports.get(port).map_or(0, |p| p.next_tag());
+    let receiver = Receiver::from_rows(rows);
+    let next = receiver.ports.get(port).map_or(0, |p| p.next_tag());
+    if receiver.kind == KIND_VC12 {
+        return match (random.below(10), next % 32) {
+            (0, _) => random.next() as u8,
+            (_, 0) => VC12_START + (next / 512) as u8,
+            (_, place) if place < 5 => (next / 32 >> (4 - place)) as u8 & 1,
+            _ => random.next() as u8 & !VC12_START,
+        };
+    }
     let count = rows.get(rows_for(port)).map_or(0, |step| step[2]);
     match (random.below(10), next % 16) {
         (0, _) => random.next() as u8,

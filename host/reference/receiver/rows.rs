@@ -7,7 +7,7 @@
 //! as the next; a port that is not in step has not joined, whatever stands there; and only some frames are looked at for
 //! what follows for all ports.
 
-use super::{after, first_tag, Flag, Port, Receiver, Report, Shown, EPOCH_FRAMES, KINDS, KIND_FIXED, KIND_H4};
+use super::{Flag, Port, Receiver, Report, Shown, KIND_FIXED, KIND_H4, KIND_VC12};
 
 pub type Row = [u8; 16];
 
@@ -27,9 +27,10 @@ fn put_pair(row: &mut Row, at: usize, number: u16) {
 }
 
 impl Port {
-    fn from_rows(rows: &[Row; ROWS_A_PORT]) -> Port {
+    fn from_rows(kind: u32, rows: &[Row; ROWS_A_PORT]) -> Port {
         let [step, member, gathering, ruling, marks] = rows;
         Port {
+            kind,
             had: Flag(step[0]),
             failed: Flag(step[1]),
             count: step[2],
@@ -40,6 +41,7 @@ impl Port {
             whole: Flag(step[8]),
             breaks: step[9],
             odd: Flag(step[10]),
+            bits: step[11],
             word: member[0],
             number: member[1],
             state: member[2],
@@ -61,7 +63,7 @@ impl Port {
         (step[0], step[1], step[2]) = (self.had.0, self.failed.0, self.count);
         put_pair(step, 3, self.next);
         (step[5], step[6], step[7], step[8]) = (self.joined.0, self.since.0, self.later, self.whole.0);
-        (step[9], step[10]) = (self.breaks, self.odd.0);
+        (step[9], step[10], step[11]) = (self.breaks, self.odd.0, self.bits);
         let member = &mut rows[1];
         member[..6].copy_from_slice(&[self.word, self.number, self.state, self.state_number, self.told_word, self.told_number]);
         put_pair(member, 6, self.hold_off);
@@ -79,10 +81,10 @@ impl Receiver {
         let row = |at: usize| rows.get(at).copied().unwrap_or([0; 16]);
         let group = row(0);
         let (kind, count, payload, window) = (group[0], group[1], pair(&group, 2), pair(&group, 4));
-        if !KINDS.contains(&kind.into()) || !Receiver::fits(count.into(), payload.into(), window.into()) {
+        if !Receiver::fits_as(kind.into(), count.into(), payload.into(), window.into()) {
             return Receiver { kind: kind.into(), ..Receiver::empty() };
         }
-        let port = |i: usize| Port::from_rows(&std::array::from_fn(|k| row(rows_for(i) + k)));
+        let port = |i: usize| Port::from_rows(kind.into(), &std::array::from_fn(|k| row(rows_for(i) + k)));
         Receiver {
             kind: kind.into(),
             ports: (0..usize::from(count)).map(port).collect(),
@@ -144,9 +146,10 @@ pub fn start_as(
     answer
 }
 
-/// A port one frame into a run, of whose next tag nothing is known but MFI2's high nibble.
+/// A port one frame into a run, of whose next tag nothing is known but MFI2's high nibble. Of VC-12 the first packet's tag is not
+/// looked at before its count has come.
 fn after_first_frame(port: &mut Port) {
-    if port.count == 1 {
+    if port.kind != KIND_VC12 && port.count == 1 {
         port.next = (port.next_tag() / 256 * 256 + 1) as u16;
     }
 }
@@ -155,7 +158,8 @@ fn after_first_frame(port: &mut Port) {
 /// port that was in step no longer is, and where the first epoch's last frame is stored.
 fn concerns_all(before: &Receiver, now: &Receiver, port: usize) -> bool {
     let (was, is) = (&before.ports[port], &now.ports[port]);
-    let ends_oldest = after(is.latest_tag(), first_tag(now.oldest)) == EPOCH_FRAMES - 1;
+    let clock = now.clock();
+    let ends_oldest = clock.after(is.latest_tag(), clock.first_tag(now.oldest)) == clock.frames - 1;
     let loses_step = was.in_step() && !is.in_step();
     !before.begun.is_set() || loses_step || is.in_step() && is.joined.is_set() && ends_oldest && !before.gathered.is_set()
 }

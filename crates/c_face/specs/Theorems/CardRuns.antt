@@ -33,9 +33,9 @@ use Rattle.sender.specs.declared.epochs.Sender.{Sender}
 use Rattle.sender.specs.Epochs.{SenderCall, senderOutcomeOf}
 use Rattle.sender.specs.Table.{answerNumber as senderNumber}
 use Rattle.sender.specs.Theorems.Epochs.{Demand2Kept}
-use Rattle.c_face.specs.Cards.{callAnswerOn, callStateOn, cardOf, isCard, keptCard, ownersIn, partAt, partIn, putCard, putOwn, startAnswerOn, startStateOn}
+use Rattle.c_face.specs.Cards.{areEpochs, callAnswerOn, callStateOn, cardOf, isCard, keptCard, ownersIn, partAt, partIn, putCard, putOwn, startAnswerOn, startStateOn}
 use Rattle.c_face.specs.Keeping.{byteAt, bytesOf, senderOf}
-use Rattle.c_face.specs.Senders.{areBytes, outside}
+use Rattle.c_face.specs.Senders.{areBytes, noStart}
 use Rattle.c_face.specs.Theorems.Round.{round}
 use Rattle.c_face.specs.Theorems.Runs.{Keepable, call-given, keepable-begin, keepable-call, keepable-whole, refuses}
 
@@ -113,12 +113,12 @@ refused-stands fits g k state = go (isCard state) (ltb g 2) fits (answerNumber (
     go true false f n new d = refl
     go false t f n new d = refl
 
-pub refused-start-stands : (count e₀ e₁ : ℕ) (state : List ℕ) → (startAnswerOn count e₀ e₁ state ≡ 0 → ⊥) → (startAnswerOn count e₀ e₁ state ≡ 4 → ⊥) → startStateOn count e₀ e₁ state ≡ state
+pub refused-start-stands : (kind count e₀ e₁ : ℕ) (state : List ℕ) → (startAnswerOn kind count e₀ e₁ state ≡ 0 → ⊥) → (startAnswerOn kind count e₀ e₁ state ≡ 4 → ⊥) → startStateOn kind count e₀ e₁ state ≡ state
 unfolding startAnswerOn startStateOn
-refused-start-stands count e₀ e₁ state = go (outside count) (isCard state) (areBytes e₀ e₁ 0)
+refused-start-stands kind count e₀ e₁ state = go (noStart kind count) (isCard state) (areEpochs kind e₀ e₁)
   where
     go : (o b f : Bool) → (_≡_ {A = ℕ} (cond o 4 (cond b (cond f 0 8) 9)) 0 → ⊥) → (_≡_ {A = ℕ} (cond o 4 (cond b (cond f 0 8) 9)) 4 → ⊥)
-        → cond b (cond o (putCard (startOf 0 count 0 0 .card) state) (cond f (putCard (startOf 0 count e₀ e₁ .card) state) state)) state ≡ state
+        → cond b (cond o (putCard (startOf 0 0 0 0 .card) state) (cond f (putCard (startOf kind count e₀ e₁ .card) state) state)) state ≡ state
     go true b f d e = absurd (e refl)
     go false true true d e = absurd (d refl)
     go false true false d e = refl
@@ -343,49 +343,49 @@ run-keeps state c (m ∷ ms) o =
     chosen true = refl
     chosen false = refl
 
-module _ (count e₀ e₁ : ℕ) (state : List ℕ) (ms : List Made) (done : startAnswerOn count e₀ e₁ state ≡ 0) where
-  started-keepable : (g : ℕ) → g < 2 → Keepable (P.senderOf (startOf 0 count e₀ e₁ .card) g)
+module _ (kind count e₀ e₁ : ℕ) (state : List ℕ) (ms : List Made) (done : startAnswerOn kind count e₀ e₁ state ≡ 0) where
+  started-keepable : (g : ℕ) → g < 2 → Keepable (P.senderOf (startOf kind count e₀ e₁ .card) g)
   unfolding P.senderOf startOf
-  started-keepable zero h = keepable-begin count e₀
-  started-keepable (suc zero) h = keepable-begin count e₁
+  started-keepable zero h = keepable-begin kind count e₀
+  started-keepable (suc zero) h = keepable-begin kind count e₁
   started-keepable (suc (suc g)) h = absurd (omega arith)
 
-  started-row : length (startOf 0 count e₀ e₁ .card .owners) ≡ 64
+  started-row : length (startOf kind count e₀ e₁ .card .owners) ≡ 64
   unfolding startOf
   started-row = length-replicate {A = ℕ} 64 0
 
-  both-put : length state ≡ 858 → KeepsCard (putCard (startOf 0 count e₀ e₁ .card) state) (startOf 0 count e₀ e₁ .card)
+  both-put : length state ≡ 858 → KeepsCard (putCard (startOf kind count e₀ e₁ .card) state) (startOf kind count e₀ e₁ .card)
   both-put l =
-      let d = startOf 0 count e₀ e₁ .card in
+      let d = startOf kind count e₀ e₁ .card in
       put-keeps (putOwn 0 d state) d d 1 (omega arith) (put-sized 0 d state ∙ l) started-row started-keepable
       (λ h b n. first h b n l)
     where
-      first : (h : ℕ) → h < 2 → 1 ≢ h → length state ≡ 858 → senderOf (partIn h (putOwn 0 (startOf 0 count e₀ e₁ .card) state)) ≡ P.senderOf (startOf 0 count e₀ e₁ .card) h
+      first : (h : ℕ) → h < 2 → 1 ≢ h → length state ≡ 858 → senderOf (partIn h (putOwn 0 (startOf kind count e₀ e₁ .card) state)) ≡ P.senderOf (startOf kind count e₀ e₁ .card) h
       first zero b n l =
-          let d = startOf 0 count e₀ e₁ .card in
+          let d = startOf kind count e₀ e₁ .card in
           ap senderOf (own-part d state l 0) ∙ round (P.senderOf d 0) (keepable-whole (P.senderOf d 0) (started-keepable 0 (omega arith)))
       first (suc zero) b n l = absurd (n refl)
       first (suc (suc h)) b n l = absurd (omega arith)
 
-  start-keeps : KeepsCard (startStateOn count e₀ e₁ state) (startOf 0 count e₀ e₁ .card)
+  start-keeps : KeepsCard (startStateOn kind count e₀ e₁ state) (startOf kind count e₀ e₁ .card)
   unfolding startAnswerOn startStateOn
-  start-keeps = go (outside count) (isCard state) (areBytes e₀ e₁ 0) refl done
+  start-keeps = go (noStart kind count) (isCard state) (areEpochs kind e₀ e₁) refl done
     where
       go : (o l f : Bool) → isCard state ≡ l → _≡_ {A = ℕ} (cond o 4 (cond l (cond f 0 8) 9)) 0
-          → KeepsCard (cond l (cond o (putCard (startOf 0 count 0 0 .card) state) (cond f (putCard (startOf 0 count e₀ e₁ .card) state) state)) state) (startOf 0 count e₀ e₁ .card)
+          → KeepsCard (cond l (cond o (putCard (startOf 0 0 0 0 .card) state) (cond f (putCard (startOf kind count e₀ e₁ .card) state) state)) state) (startOf kind count e₀ e₁ .card)
       go true l f el e = absurd (omega arith)
       go false false f el e = absurd (omega arith)
       go false true false el e = absurd (omega arith)
       go false true true el e = both-put (eqb-true (length state) 858 el)
 
   -- any C calls after a C start that was done: the state holds the card's own run
-  pub card-runs-own : cardOf (stateAfterAll (startStateOn count e₀ e₁ state) ms) ≡ run (startOf 0 count e₀ e₁ .card) (meant ms)
-  card-runs-own = card-is (stateAfterAll (startStateOn count e₀ e₁ state) ms) _ (run-keeps (startStateOn count e₀ e₁ state) (startOf 0 count e₀ e₁ .card) ms start-keeps)
+  pub card-runs-own : cardOf (stateAfterAll (startStateOn kind count e₀ e₁ state) ms) ≡ run (startOf kind count e₀ e₁ .card) (meant ms)
+  card-runs-own = card-is (stateAfterAll (startStateOn kind count e₀ e₁ state) ms) _ (run-keeps (startStateOn kind count e₀ e₁ state) (startOf kind count e₀ e₁ .card) ms start-keeps)
 
   -- in as many bytes
-  pub card-runs-sized : length (stateAfterAll (startStateOn count e₀ e₁ state) ms) ≡ 858
-  card-runs-sized = run-keeps (startStateOn count e₀ e₁ state) (startOf 0 count e₀ e₁ .card) ms start-keeps .sized
+  pub card-runs-sized : length (stateAfterAll (startStateOn kind count e₀ e₁ state) ms) ≡ 858
+  card-runs-sized = run-keeps (startStateOn kind count e₀ e₁ state) (startOf kind count e₀ e₁ .card) ms start-keeps .sized
 
   -- and demand 2 holds of each group's table, and of both tables that its epochs' starts keep
-  pub card-runs-demand2 : (g : ℕ) → g < 2 → Demand2Kept (P.senderOf (cardOf (stateAfterAll (startStateOn count e₀ e₁ state) ms)) g)
-  card-runs-demand2 g h = rw card-runs-own (demand2-each 0 count e₀ e₁ (meant ms) g h)
+  pub card-runs-demand2 : (g : ℕ) → g < 2 → Demand2Kept (P.senderOf (cardOf (stateAfterAll (startStateOn kind count e₀ e₁ state) ms)) g)
+  card-runs-demand2 g h = rw card-runs-own (demand2-each kind count e₀ e₁ (meant ms) g h)

@@ -1,9 +1,9 @@
 -- Each C call is the crate's own function: the same answer, by its number, and the same lent bytes.
 use mathlib.Core.Path.{_≡_, refl, sym}
-use mathlib.Core.Bool.{Bool, true, false, cond}
+use mathlib.Core.Bool.{Bool, true, false, cond, _&&_, _||_}
 use mathlib.Core.List.{List, [], _∷_}
 use Prim.Native.Nat.{ℕ, _≤_, _<_}
-use lib.Dec.{eqb}
+use lib.Dec.{eqb, ltb}
 use lib.ListN.{length}
 use borrow.Author.Tests.{eq-eqb, eqb-true, le-ltb, lt-ltb, ne-eqb}
 use Rattle.ground.specs.Flags.{oneIf}
@@ -11,9 +11,12 @@ use Rattle.circuits.specs.Answers.{answerNumber as cardNumber, fromSender}
 use Rattle.circuits.specs.Calls.{Call, outcomeOf}
 use Rattle.circuits.specs.Commands.{startOf as cardStart}
 use Rattle.circuits.specs.Readings as card
+use Rattle.packet.specs.Clock.{h4-clock}
 use Rattle.packet.specs.declared.layout.Fields.{Fields}
 use Rattle.packet.specs.Fixed.{readFixedAnswer, writeFixedAnswer}
+use Rattle.packet.specs.Kinds.{epochs, knownKind}
 use Rattle.packet.specs.Reading.{readAnswer, readingNumber}
+use Rattle.packet.specs.Vc12.{readVc12Answer, writeVc12Answer, writeVc12Bytes}
 use Rattle.packet.specs.Writing.{writeAnswer, writeBytes, writingNumber}
 use Rattle.paths.specs.Answers.{answerOf}
 use Rattle.paths.specs.Answers.{numberOf as planNumber}
@@ -31,13 +34,13 @@ use Rattle.sender.specs.declared.table.Outcome.{Outcome}
 use Rattle.sender.specs.Epochs.{SenderCall, beginOf, packetAnswer, packetBytes, payloadAnswer, payloadBytes, ranksOf, senderOutcomeOf}
 use Rattle.sender.specs.Table.{answerNumber}
 use Rattle.c_face.specs.Boards.{boardBytesC, boardBytesOf, outgoingBytesC, ranksBytesC, ranksBytesOf, shownAnswerC, shownBytes}
-use Rattle.c_face.specs.Cards.{boardBytesOn, callAnswerOn, callStateOn, cardOf, keptCard, outgoingBytesOn, ownedBytesOn, packetAnswerOn, packetBytesOn, payloadAnswerOn, payloadBytesOn, putCard, ranksBytesOn, shownAnswerOn, shownBytesOn, startAnswerOn, startStateOn}
+use Rattle.c_face.specs.Cards.{areEpochs, boardBytesOn, callAnswerOn, callStateOn, cardOf, isCard, keptCard, outgoingBytesOn, ownedBytesOn, packetAnswerOn, packetBytesOn, payloadAnswerOn, payloadBytesOn, putCard, ranksBytesOn, shownAnswerOn, shownBytesOn, startAnswerOn, startStateOn}
 use Rattle.c_face.specs.Keeping.{bytesOf, senderOf}
 use Rattle.c_face.specs.Payloads.{joinAnswerC, joinFrameC, spreadAnswerC, spreadMembersC}
-use Rattle.c_face.specs.Packets.{readAnswerC, readFieldsC, readFixedAnswerC, readFixedFieldsC, valuesOr, writeAnswerC, writeBytesC, writeFixedAnswerC}
+use Rattle.c_face.specs.Packets.{readAnswerC, readFieldsC, readFixedAnswerC, readFixedFieldsC, readVc12AnswerC, readVc12FieldsC, valuesOr, writeAnswerC, writeBytesC, writeFixedAnswerC, writeVc12AnswerC, writeVc12BytesC}
 use Rattle.c_face.specs.Plans.{checkAnswerC, checkByteC, lentAnswer, lentBytes, planAnswerC, planBytesC, planBytesOf}
 use Rattle.c_face.specs.Receivers.{H4, failedC, startAsAnswerC, startAsRowsC}
-use Rattle.c_face.specs.Senders.{areBytes, callAnswerC, callStateC, keptBytes, outside, packetAnswerC, packetBytesC, payloadAnswerC, payloadBytesC, startAnswerC, startStateC}
+use Rattle.c_face.specs.Senders.{callAnswerC, callStateC, isEpoch, isState, keptBytes, noStart, outside, packetAnswerC, packetBytesC, payloadAnswerC, payloadBytesC, sends, startAnswerC, startStateC}
 
 -- levelspruce_packet_write is packet::write on fields that are bytes
 pub write-own : (f : Fields) (h4 : List ℕ)
@@ -59,6 +62,17 @@ pub read-fixed-own : (h4 fields : List ℕ) → length fields ≡ 10
     → (readFixedAnswerC h4 fields ≡ readingNumber (readFixedAnswer h4)) × (readFixedFieldsC h4 fields ≡ valuesOr (readFixedAnswer h4) fields)
 unfolding readFixedAnswerC readFixedFieldsC
 read-fixed-own h4 fields h = rw (eq-eqb (length fields) 10 h) (refl, refl)
+
+-- levelspruce_packet_write_vc12 and levelspruce_packet_read_vc12 are packet::write_vc12 and packet::read_vc12, as those of H4 are
+pub write-vc12-own : (f : Fields) (bits : List ℕ)
+    → (writeVc12AnswerC (f .epoch) (f .word .0) (f .gid) (f .mst) (f .«rs_ack») (f .sq) (f .reserved) bits ≡ writingNumber (writeVc12Answer f bits))
+    × (writeVc12BytesC (f .epoch) (f .word .0) (f .gid) (f .mst) (f .«rs_ack») (f .sq) (f .reserved) bits ≡ writeVc12Bytes f bits)
+write-vc12-own f bits = (refl, refl)
+
+pub read-vc12-own : (bits fields : List ℕ) → length fields ≡ 10
+    → (readVc12AnswerC bits fields ≡ readingNumber (readVc12Answer bits)) × (readVc12FieldsC bits fields ≡ valuesOr (readVc12Answer bits) fields)
+unfolding readVc12AnswerC readVc12FieldsC
+read-vc12-own bits fields h = rw (eq-eqb (length fields) 10 h) (refl, refl)
 
 -- levelspruce_spread and levelspruce_join are payload::spread and payload::join
 pub spread-own : (x p : ℕ) (frame members : List ℕ)
@@ -92,23 +106,45 @@ pub check-own : (delays : List ℕ) (k W : ℕ) (set out : List ℕ) → length 
 unfolding checkedOf
 check-own delays k W set out h = lent-own (planNumber (answerOf delays k W)) 1 (oneIf (checkedOf delays k W set .accepted) ∷ []) out h
 
--- levelspruce_sender_start is Sender::start for the kind H4, where the state has its length and the first epoch's number is a byte. An empty group's first epoch has the number 0.
-module _ (count first : ℕ) (state : List ℕ) (sized : length state ≡ 397) (byte : first ≤ 255) where
-  pub start-own : startAnswerC count first state ≡ answerNumber (beginOf 0 count first .answer)
+-- levelspruce_sender_start_as is Sender::start of a kind that has senders, where the state has its length and the first epoch is one of the kind. An empty group is of H4, and its first epoch has the number 0.
+module _ (kind count first : ℕ) (state : List ℕ) (sized : length state ≡ 397) where
+  pub start-own : sends kind ≡ true → isEpoch kind first ≡ true → startAnswerC kind count first state ≡ answerNumber (beginOf kind count first .answer)
   unfolding startAnswerC beginOf startOf
-  start-own = rw (eq-eqb (length state) 397 sized, le-ltb 255 first byte) (go (outside count))
+  start-own s f = rw (eq-eqb (length state) 397 sized, s, f) (go (outside count))
     where
-      go : (b : Bool) → cond b 4 0 ≡ answerNumber (cond {A = Outcome} b (answered (freshOf 0 0) OutOfRange) (answered (freshOf 0 count) Done) .answer)
+      go : (b : Bool) → cond (b || false) 4 0 ≡ answerNumber (cond {A = Outcome} b (answered (freshOf kind 0) OutOfRange) (answered (freshOf kind count) Done) .answer)
       go true = refl
       go false = refl
 
-  pub start-state-own : outside count ≡ false → startStateC count first state ≡ bytesOf (beginOf 0 count first .sender)
+  pub start-state-own : noStart kind count ≡ false → isEpoch kind first ≡ true → startStateC kind count first state ≡ bytesOf (beginOf kind count first .sender)
   unfolding startStateC
-  start-state-own o = rw (eq-eqb (length state) 397 sized, le-ltb 255 first byte, o) refl
+  start-state-own o f = rw (eq-eqb (length state) 397 sized, o, f) refl
 
-  pub start-empty-own : outside count ≡ true → startStateC count first state ≡ bytesOf (beginOf 0 count 0 .sender)
+  pub start-empty-own : noStart kind count ≡ true → startStateC kind count first state ≡ bytesOf (beginOf 0 0 0 .sender)
   unfolding startStateC
   start-empty-own o = rw (eq-eqb (length state) 397 sized, o) refl
+
+-- there are senders of H4
+h4-sent : sends H4 ≡ true
+unfolding sends knownKind
+h4-sent = refl
+
+h4-epochs : epochs H4 ≡ 256
+h4-epochs = h4-clock (λ f e t l. e ≡ 256) refl H4 refl
+
+-- levelspruce_sender_start is levelspruce_sender_start_as with the kind H4, by one definition. So it is, byte for byte, what it was before there were kinds: 4 for the count alone, with the empty group of that count, 9, and 8 above 255.
+pub start-as-h4 : (count first : ℕ) (state : List ℕ)
+    → (startAnswerC H4 count first state ≡ cond (outside count) 4 (cond (isState state) (cond (ltb first 256) 0 8) 9))
+    × (startStateC H4 count first state ≡ cond (isState state) (cond (outside count) (bytesOf (beginOf H4 count 0 .sender)) (cond (ltb first 256) (bytesOf (beginOf H4 count first .sender)) state)) state)
+unfolding startAnswerC startStateC beginOf startOf
+start-as-h4 count first state = rw (h4-sent, h4-epochs) (go (outside count) refl)
+  where
+    go : (b : Bool) → outside count ≡ b
+        → (_≡_ {A = ℕ} (cond (outside count || false) 4 (cond (isState state) (cond (ltb first 256) 0 8) 9)) (cond (outside count) 4 (cond (isState state) (cond (ltb first 256) 0 8) 9)))
+        × (cond (isState state) (cond (outside count || false) (bytesOf (beginOf 0 0 0 .sender)) (cond (ltb first 256) (bytesOf (beginOf H4 count first .sender)) state)) state
+        ≡ cond (isState state) (cond (outside count) (bytesOf (beginOf H4 count 0 .sender)) (cond (ltb first 256) (bytesOf (beginOf H4 count first .sender)) state)) state)
+    go true e = rw e (refl, refl)
+    go false e = rw e (refl, refl)
 
 -- levelspruce_sender_add, _remove, _report, _lapse and _start_epoch are the sender's own calls on the sender in the state; a refusal encodes nothing anew.
 pub call-own : (call : SenderCall) (state : List ℕ) → length state ≡ 397
@@ -151,23 +187,38 @@ pub start-as-named : (kind ports P W store : ℕ) (hold restore : List ℕ) (s :
     × (startAsRowsC kind ports P W store hold restore s ≡ startAsRows kind ports P W store hold restore s)
 start-as-named kind ports P W store hold restore s h = rw (lt-ltb kind 256 h) (refl, refl)
 
--- levelspruce_card_start is Card::start for the kind H4, where the state has its length and the first epochs' numbers are bytes. Empty groups' first epochs have the number 0.
-module _ (count e₀ e₁ : ℕ) (state : List ℕ) (sized : length state ≡ 858) (bytes : areBytes e₀ e₁ 0 ≡ true) where
-  pub card-start-own : startAnswerOn count e₀ e₁ state ≡ cardNumber (cardStart 0 count e₀ e₁ .answer)
+-- levelspruce_card_start_as is Card::start of a kind that has senders, where the state has its length and the first epochs are such of the kind. Empty groups are of H4, and their first epochs have the number 0.
+module _ (kind count e₀ e₁ : ℕ) (state : List ℕ) (sized : length state ≡ 858) where
+  pub card-start-own : sends kind ≡ true → areEpochs kind e₀ e₁ ≡ true → startAnswerOn kind count e₀ e₁ state ≡ cardNumber (cardStart kind count e₀ e₁ .answer)
   unfolding startAnswerOn cardStart beginOf startOf
-  card-start-own = rw (eq-eqb (length state) 858 sized, bytes) (go (outside count))
+  card-start-own s f = rw (eq-eqb (length state) 858 sized, s, f) (go (outside count))
     where
-      go : (b : Bool) → cond b 4 0 ≡ cardNumber (fromSender (cond {A = Outcome} b (answered (freshOf 0 0) OutOfRange) (answered (freshOf 0 count) Done) .answer))
+      go : (b : Bool) → cond (b || false) 4 0 ≡ cardNumber (fromSender (cond {A = Outcome} b (answered (freshOf kind 0) OutOfRange) (answered (freshOf kind count) Done) .answer))
       go true = refl
       go false = refl
 
-  pub card-start-state-own : outside count ≡ false → startStateOn count e₀ e₁ state ≡ putCard (cardStart 0 count e₀ e₁ .card) state
+  pub card-start-state-own : noStart kind count ≡ false → areEpochs kind e₀ e₁ ≡ true → startStateOn kind count e₀ e₁ state ≡ putCard (cardStart kind count e₀ e₁ .card) state
   unfolding startStateOn
-  card-start-state-own o = rw (eq-eqb (length state) 858 sized, bytes, o) refl
+  card-start-state-own o f = rw (eq-eqb (length state) 858 sized, o, f) refl
 
-  pub card-start-empty-own : outside count ≡ true → startStateOn count e₀ e₁ state ≡ putCard (cardStart 0 count 0 0 .card) state
+  pub card-start-empty-own : noStart kind count ≡ true → startStateOn kind count e₀ e₁ state ≡ putCard (cardStart 0 0 0 0 .card) state
   unfolding startStateOn
   card-start-empty-own o = rw (eq-eqb (length state) 858 sized, o) refl
+
+-- levelspruce_card_start is levelspruce_card_start_as with the kind H4, as the sender's is
+pub card-start-as-h4 : (count e₀ e₁ : ℕ) (state : List ℕ)
+    → (startAnswerOn H4 count e₀ e₁ state ≡ cond (outside count) 4 (cond (isCard state) (cond (ltb e₀ 256 && ltb e₁ 256) 0 8) 9))
+    × (startStateOn H4 count e₀ e₁ state
+    ≡ cond (isCard state) (cond (outside count) (putCard (cardStart H4 count 0 0 .card) state) (cond (ltb e₀ 256 && ltb e₁ 256) (putCard (cardStart H4 count e₀ e₁ .card) state) state)) state)
+unfolding startAnswerOn startStateOn cardStart beginOf startOf
+card-start-as-h4 count e₀ e₁ state = rw (h4-sent, h4-epochs) (go (outside count) refl)
+  where
+    go : (b : Bool) → outside count ≡ b
+        → (_≡_ {A = ℕ} (cond (outside count || false) 4 (cond (isCard state) (cond (ltb e₀ 256 && ltb e₁ 256) 0 8) 9)) (cond (outside count) 4 (cond (isCard state) (cond (ltb e₀ 256 && ltb e₁ 256) 0 8) 9)))
+        × (cond (isCard state) (cond (outside count || false) (putCard (cardStart 0 0 0 0 .card) state) (cond (ltb e₀ 256 && ltb e₁ 256) (putCard (cardStart H4 count e₀ e₁ .card) state) state)) state
+        ≡ cond (isCard state) (cond (outside count) (putCard (cardStart H4 count 0 0 .card) state) (cond (ltb e₀ 256 && ltb e₁ 256) (putCard (cardStart H4 count e₀ e₁ .card) state) state)) state)
+    go true e = rw e (refl, refl)
+    go false e = rw e (refl, refl)
 
 -- the other calls of a card are the card's own on the card in the state, for either group
 module _ (state : List ℕ) (g : ℕ) (sized : length state ≡ 858) (group : g < 2) where

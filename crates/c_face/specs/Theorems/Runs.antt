@@ -27,7 +27,7 @@ use Rattle.sender.specs.Table.{answerNumber, isMember, sizeOf, slotAt}
 use Rattle.sender.specs.Theorems.Demand2.{sound-demand2}
 use Rattle.sender.specs.Theorems.Epochs.{Demand2Kept, demand2-kept}
 use Rattle.c_face.specs.Keeping.{bytesOf, byteAt, senderOf}
-use Rattle.c_face.specs.Senders.{areBytes, callStateC, isState, keptBytes, outside, startAnswerC, startStateC}
+use Rattle.c_face.specs.Senders.{areBytes, callStateC, isEpoch, isState, keptBytes, noStart, startAnswerC, startStateC}
 use Rattle.c_face.specs.Theorems.Round.{Whole, round}
 
 -- a C call: the sender's call, with what the C call asks of its numbers
@@ -62,9 +62,9 @@ unfolding boardOf rowsOf
 board-whole t =
     length-each (sizeOf (t .count)) (λ i. rowOf (t .slots) (sizeOf (t .count)) i) (replicate 64 (noRow (t .kind))) ∙ length-replicate 64 (noRow (t .kind))
 
-pub keepable-begin : (count first : ℕ) → Keepable (beginOf 0 count first .sender)
+pub keepable-begin : (kind count first : ℕ) → Keepable (beginOf kind count first .sender)
 unfolding beginOf freshSender
-keepable-begin count first = record { table = sound-start 0 count; outgoing = board-whole (startOf 0 count .table); ruling = board-whole (startOf 0 count .table) }
+keepable-begin kind count first = record { table = sound-start kind count; outgoing = board-whole (startOf kind count .table); ruling = board-whole (startOf kind count .table) }
 
 pub keepable-call : (s : Sender) (c : SenderCall) → Keepable s → Keepable (senderOutcomeOf s c .sender)
 unfolding startEpochOf startedSender
@@ -154,31 +154,32 @@ run-keeps state s (c ∷ cs) k = go (λ t u w. run-keeps t u cs w) (fits c)
     go rest true = rest (callStateC true c state) (senderOutcomeOf s c .sender) (call-keeps state s c k)
     go rest false = rest (callStateC false c state) s (unfit-keeps state s c k)
 
-module _ (count first : ℕ) (state : List ℕ) (cs : List SenderCall) (done : startAnswerC count first state ≡ 0) where
-  start-keeps : Keeps (startStateC count first state) (beginOf 0 count first .sender)
+module _ (kind count first : ℕ) (state : List ℕ) (cs : List SenderCall) (done : startAnswerC kind count first state ≡ 0) where
+  start-keeps : Keeps (startStateC kind count first state) (beginOf kind count first .sender)
   unfolding startAnswerC startStateC
-  start-keeps = go (outside count) (isState state) (ltb 255 first) done
+  start-keeps = go (noStart kind count) (isState state) (isEpoch kind first) done
     where
-      go : (o l f : Bool) → _≡_ {A = ℕ} (cond o 4 (cond l (cond f 8 0) 9)) 0
-          → Keeps (cond l (cond o (bytesOf (beginOf 0 count 0 .sender)) (cond f state (bytesOf (beginOf 0 count first .sender)))) state) (beginOf 0 count first .sender)
+      go : (o l f : Bool) → _≡_ {A = ℕ} (cond o 4 (cond l (cond f 0 8) 9)) 0
+          → Keeps (cond l (cond o (bytesOf (beginOf 0 0 0 .sender)) (cond f (bytesOf (beginOf kind count first .sender)) state)) state) (beginOf kind count first .sender)
       go true l f e = absurd (omega arith)
       go false false f e = absurd (omega arith)
-      go false true true e = absurd (omega arith)
-      go false true false e = bytes-keep (beginOf 0 count first .sender) (keepable-begin count first)
+      go false true false e = absurd (omega arith)
+      go false true true e = bytes-keep (beginOf kind count first .sender) (keepable-begin kind count first)
 
   -- any C calls after a C start that was done: the state holds the sender's own run
-  pub runs-own : senderOf (runC (startStateC count first state) cs) ≡ senderRun (beginOf 0 count first .sender) (meant cs)
-  runs-own = run-keeps (startStateC count first state) (beginOf 0 count first .sender) cs start-keeps .is
+  pub runs-own : senderOf (runC (startStateC kind count first state) cs) ≡ senderRun (beginOf kind count first .sender) (meant cs)
+  runs-own = run-keeps (startStateC kind count first state) (beginOf kind count first .sender) cs start-keeps .is
 
   -- in as many bytes
-  pub runs-sized : length (runC (startStateC count first state) cs) ≡ 397
-  runs-sized = run-keeps (startStateC count first state) (beginOf 0 count first .sender) cs start-keeps .sized
+  pub runs-sized : length (runC (startStateC kind count first state) cs) ≡ 397
+  runs-sized = run-keeps (startStateC kind count first state) (beginOf kind count first .sender) cs start-keeps .sized
 
   -- and demand 2 holds of its table
-  pub runs-demand2 : Demand2 (senderOf (runC (startStateC count first state) cs) .table)
+  pub runs-demand2 : Demand2 (senderOf (runC (startStateC kind count first state) cs) .table)
   runs-demand2 =
-      rw runs-own (sound-demand2 (senderRun (beginOf 0 count first .sender) (meant cs) .table) (keepable-run (beginOf 0 count first .sender) (meant cs) (keepable-begin count first) .table))
+      rw runs-own
+      (sound-demand2 (senderRun (beginOf kind count first .sender) (meant cs) .table) (keepable-run (beginOf kind count first .sender) (meant cs) (keepable-begin kind count first) .table))
 
   -- and of both tables that an epoch's start keeps
-  pub runs-demand2-kept : Demand2Kept (senderOf (runC (startStateC count first state) cs))
-  runs-demand2-kept = rw runs-own (demand2-kept 0 count first (meant cs))
+  pub runs-demand2-kept : Demand2Kept (senderOf (runC (startStateC kind count first state) cs))
+  runs-demand2-kept = rw runs-own (demand2-kept kind count first (meant cs))

@@ -30,7 +30,7 @@ group begun gathered = groupWith 48 begun gathered
 abbrev step : ℕ → ℕ → ℕ → ℕ → ℕ → ℕ → ℕ → ℕ → ℕ → Step
 step had failed count next joined since later breaks odd =
     record {
-      spare = 51 ∷ 52 ∷ 53 ∷ 54 ∷ 55 ∷ [];
+      spare = 52 ∷ 53 ∷ 54 ∷ 55 ∷ [];
       had = had;
       failed = failed;
       count = count;
@@ -41,6 +41,7 @@ step had failed count next joined since later breaks odd =
       whole = 9;
       breaks = breaks;
       odd = odd;
+      bits = 51;
     }
 
 -- one that is not stored

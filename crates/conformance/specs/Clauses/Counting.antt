@@ -9,7 +9,7 @@ use Rattle.step.specs.Run.{breaksAfter, endsPacket, inStepAt, loses, oddAfter, 
 use Rattle.conformance.specs.Opened.{allOpen}
 
 abbrev run : ℕ → ℕ → ℕ → ℕ → Run
-run count next breaks odd = record { count = count; next = next; breaks = breaks; odd = odd }
+run count next breaks odd = record { count = count; next = next; breaks = breaks; odd = odd; bits = 0 }
 
 -- Coming into step. Tag 849 has MFI2 35 hex and MFI1 1: a first frame 30, a second one 51; then MFI1 alone, MFI2's nibbles at MFI1 0 and 1.
 coming :
@@ -71,7 +71,7 @@ own :
     (ownNumber 57 (norm 14) ≡ true)
     × (ownNumber 58 (norm 14) ≡ false)
     × (rulingIn 0 57 (norm 14) ≡ record { good = true; word = 2; number = 3; gid = 1 })
-    × (rulingIn 1 57 (norm 14) ≡ record { good = true; word = 2; number = 3; gid = 1 })
+    × (rulingIn 3 57 (norm 14) ≡ record { good = true; word = 2; number = 3; gid = 1 })
     × (rulingIn 2 57 (norm 14) ≡ record { good = false; word = 0; number = 0; gid = 0 })
     × (rulingIn 2 57 fixed ≡ record { good = true; word = 0; number = 3; gid = 0 })
     × (ownRuling 2 57 fixed ≡ record { good = true; word = 0; number = 3; gid = 0 })

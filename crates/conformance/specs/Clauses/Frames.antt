@@ -19,7 +19,7 @@ use Rattle.conformance.specs.Opened.{allOpen}
 abbrev step : ℕ → ℕ → Step
 step count next =
     record {
-      spare = 51 ∷ 52 ∷ 53 ∷ 54 ∷ 55 ∷ [];
+      spare = 52 ∷ 53 ∷ 54 ∷ 55 ∷ [];
       had = 1;
       failed = 4;
       count = count;
@@ -30,6 +30,7 @@ step count next =
       whole = 1;
       breaks = 3;
       odd = 6;
+      bits = 51;
     }
 
 -- a port in step whose next tag is 22

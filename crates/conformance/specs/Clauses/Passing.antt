@@ -39,7 +39,7 @@ noted = (refl, refl, refl)
 abbrev step : ℕ → ℕ → Step
 step later whole =
     record {
-      spare = 51 ∷ 52 ∷ 53 ∷ 54 ∷ 55 ∷ [];
+      spare = 52 ∷ 53 ∷ 54 ∷ 55 ∷ [];
       had = 31;
       failed = 32;
       count = 33;
@@ -50,6 +50,7 @@ step later whole =
       whole = whole;
       breaks = 38;
       odd = 39;
+      bits = 51;
     }
 
 -- an epoch that was joined at comes nearer by one, and not below none

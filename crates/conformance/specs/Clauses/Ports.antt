@@ -38,7 +38,7 @@ group gathered =
 abbrev step : ℕ → Step
 step next =
     record {
-      spare = zeros 5;
+      spare = zeros 4;
       had = 1;
       failed = 0;
       count = 32;
@@ -49,6 +49,7 @@ step next =
       whole = 1;
       breaks = 0;
       odd = 0;
+      bits = 0;
     }
 
 -- FAIL so far under the number that it sends, and the number that was told of it

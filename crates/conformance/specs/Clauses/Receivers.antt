@@ -131,7 +131,7 @@ timed state = record { spare = []; word = 2; number = 8; state = state; «state_
 abbrev flaggedStep : Step
 flaggedStep =
     record {
-      spare = replicate 5 0;
+      spare = replicate 4 0;
       had = 1;
       failed = 1;
       count = 0;
@@ -142,6 +142,7 @@ flaggedStep =
       whole = 0;
       breaks = 0;
       odd = 0;
+      bits = 0;
     }
 
 -- 'IDLE' has no number and no timer; 1 hold-off of an OK port, 2 restoring of a FAIL one

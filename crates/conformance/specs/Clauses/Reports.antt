@@ -181,7 +181,7 @@ phase begun gathered =
 abbrev step : ℕ → Step
 step count =
     record {
-      spare = zeros 5;
+      spare = zeros 4;
       had = 1;
       failed = 0;
       count = count;
@@ -192,6 +192,7 @@ step count =
       whole = 1;
       breaks = 0;
       odd = 0;
+      bits = 0;
     }
 
 -- port 1, not in step any more, was ruled by NORM 3 and has brought the frames of epoch 58; port 0 has had no packet
@@ -202,7 +203,7 @@ ruling = putMarks (putPackets (putStep rows 1 (step 0)) 1 (zeros 16 ∷ norm ∷
 abbrev unruled : Step
 unruled =
     record {
-      spare = zeros 5;
+      spare = zeros 4;
       had = 1;
       failed = 0;
       count = 32;
@@ -213,6 +214,7 @@ unruled =
       whole = 0;
       breaks = 0;
       odd = 0;
+      bits = 0;
     }
 
 -- whether a port can be a candidate: readable as it is now, whatever its packet and its frames were

@@ -33,7 +33,7 @@ group payload window origin =
 abbrev step : ℕ → Step
 step next =
     record {
-      spare = 51 ∷ 52 ∷ 53 ∷ 54 ∷ 55 ∷ [];
+      spare = 52 ∷ 53 ∷ 54 ∷ 55 ∷ [];
       had = 31;
       failed = 32;
       count = 33;
@@ -44,6 +44,7 @@ step next =
       whole = 37;
       breaks = 38;
       odd = 39;
+      bits = 51;
     }
 
 abbrev member : ℕ → ℕ → ℕ → Member

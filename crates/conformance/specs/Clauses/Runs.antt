@@ -21,7 +21,7 @@ called state (c ∷ cs) = called (callStateC true c state) cs
 
 -- Three slots from epoch 7 on: slot 0 is added, epoch 7 starts, slot 1 is added.
 abbrev sender : List ℕ
-sender = called (startStateC 3 7 (nines 397)) (OnTable (AddSlot 0) ∷ StartEpoch 1 0x3C 0 ∷ OnTable (AddSlot 1) ∷ [])
+sender = called (startStateC 0 3 7 (nines 397)) (OnTable (AddSlot 0) ∷ StartEpoch 1 0x3C 0 ∷ OnTable (AddSlot 1) ∷ [])
 
 abbrev readOut : List ℕ → List ℕ
 readOut s =

@@ -18,7 +18,7 @@ use Rattle.conformance.specs.Opened.{allOpen}
 abbrev step : ℕ → ℕ → ℕ → ℕ → ℕ → ℕ → ℕ → ℕ → Step
 step had failed count next joined since later whole =
     record {
-      spare = 51 ∷ 52 ∷ 53 ∷ 54 ∷ 55 ∷ [];
+      spare = 52 ∷ 53 ∷ 54 ∷ 55 ∷ [];
       had = had;
       failed = failed;
       count = count;
@@ -29,6 +29,7 @@ step had failed count next joined since later whole =
       whole = whole;
       breaks = 3;
       odd = 4;
+      bits = 51;
     }
 
 -- nobody has joined, nothing rules; the step record stays. At a beginning those in step are in step ever since it.

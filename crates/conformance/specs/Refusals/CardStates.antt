@@ -1,12 +1,12 @@
 -- The refusals of a card's C calls (02, 2026-06): a state of another length is 9, a group other than the two 1, what is no byte 8, then the card's own. The state is lent, so it stands as the state and not among the lent slices: under 4 starting leaves two empty groups in it.
 use mathlib.Core.Path.{_≡_, refl}
-use mathlib.Core.Bool.{Bool, true, _||_}
+use mathlib.Core.Bool.{Bool, true, _&&_, _||_}
 use mathlib.Core.List.{List, [], _∷_}
 use Prim.Native.Nat.{ℕ}
 use lib.ListN.{length}
 use Rattle.ground.specs.Plain.{if_then_else_, _==_, _<?_}
 use Rattle.c_face.specs.Cards.{boardBytesOn, callAnswerOn, callStateOn, cardOf, outgoingBytesOn, ownedBytesOn, packetAnswerOn, packetBytesOn, payloadAnswerOn, payloadBytesOn, putCard, ranksBytesOn, shownAnswerOn, shownBytesOn, startAnswerOn, startStateOn}
-use Rattle.c_face.specs.Senders.{areBytes}
+use Rattle.c_face.specs.Senders.{areBytes, sends}
 use Rattle.circuits.specs.Answers.{answerNumber}
 use Rattle.circuits.specs.Calls.{Call as CardCall, outcomeOf}
 use Rattle.circuits.specs.Calls.Call.{AddSlot, Claim, Lapse, Release, RemoveSlot, Report, StartEpoch}
@@ -15,7 +15,8 @@ use Rattle.circuits.specs.Readings.{packetBytes, payloadBytes}
 use Rattle.conformance.specs.Entries.{Call, Copes, If, Refusal, Unless, behind, copes, first, put-anew, stateful, stateless, tested}
 use Rattle.conformance.specs.Refusals.Cards as own
 use Rattle.conformance.specs.Refusals.Cards.{emptyCard}
-use Rattle.conformance.specs.Refusals.Senders.{allBytes}
+use Rattle.conformance.specs.Refusals.Senders.{allBytes, inEpochs, isSent, sends-is}
+use Rattle.packet.specs.Kinds.{epochs, knownKind}
 use Rattle.sender.specs.Commands.{startOf}
 use Rattle.sender.specs.Epochs.{beginOf}
 
@@ -23,15 +24,32 @@ use Rattle.sender.specs.Epochs.{beginOf}
 abbrev pub isWhole : List ℕ → Bool
 isWhole state = length state == 858
 
--- Starting: 4, 9, 8.
+-- Starting, both groups of a kind: 4, 9, 8.
+abbrev pub startAs : ℕ × ℕ × ℕ × ℕ × List ℕ → Call
+startAs (kind, count, «first_epoch_0», «first_epoch_1», state) =
+    stateful
+    (If 4 (count == 0 || 64 <? count) ∷ Unless 4 (isSent kind) ∷ Unless 9 (isWhole state) ∷ Unless 8 (inEpochs kind «first_epoch_0» && inEpochs kind «first_epoch_1») ∷ [])
+    (startAnswerOn kind count «first_epoch_0» «first_epoch_1» state) [] []
+    state (startStateOn kind count «first_epoch_0» «first_epoch_1» state) (if isWhole state then putCard (emptyCard 0 0 0) state else state)
+
+pub startAs-copes : (x : ℕ × ℕ × ℕ × ℕ × List ℕ) → Copes (startAs x)
+unfolding startAnswerOn startStateOn card.startOf beginOf startOf epochs
+startAs-copes (kind, count, e₀, e₁, state) =
+    rw (sends-is kind)
+    (copes _ (
+      λ o. rw o (refl, refl, refl),
+      λ o. (λ k. (λ l. (λ f. rw (o, k, l, f), λ f. rw (o, k, l, f) (refl, refl, refl)), λ l. rw (o, k, l) (refl, refl, refl)), λ k. rw (o, k) (refl, refl, refl)),
+    ))
+
+-- for the kind H4
 abbrev pub start : ℕ × ℕ × ℕ × List ℕ → Call
 start (count, «first_epoch_0», «first_epoch_1», state) =
-    stateful (If 4 (count == 0 || 64 <? count) ∷ Unless 9 (isWhole state) ∷ Unless 8 (allBytes «first_epoch_0» «first_epoch_1» 0) ∷ [])
-    (startAnswerOn count «first_epoch_0» «first_epoch_1» state) [] []
-    state (startStateOn count «first_epoch_0» «first_epoch_1» state) (if isWhole state then putCard (emptyCard 0 0 0) state else state)
+    stateful (If 4 (count == 0 || 64 <? count) ∷ Unless 9 (isWhole state) ∷ Unless 8 («first_epoch_0» <? 256 && «first_epoch_1» <? 256) ∷ [])
+    (startAnswerOn 0 count «first_epoch_0» «first_epoch_1» state) [] []
+    state (startStateOn 0 count «first_epoch_0» «first_epoch_1» state) (if isWhole state then putCard (emptyCard 0 0 0) state else state)
 
 pub start-copes : (x : ℕ × ℕ × ℕ × List ℕ) → Copes (start x)
-unfolding startAnswerOn startStateOn card.startOf beginOf startOf
+unfolding startAnswerOn startStateOn card.startOf beginOf startOf epochs sends knownKind
 start-copes (count, e₀, e₁, state) =
     copes _ (λ o. rw o (refl, refl, refl), λ o. (λ l. (λ f. rw (o, l, f), λ f. rw (o, l, f) (refl, refl, refl)), λ l. rw (o, l) (refl, refl, refl)))
 

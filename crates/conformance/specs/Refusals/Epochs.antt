@@ -4,12 +4,16 @@ use mathlib.Core.Bool.{Bool, _&&_, _||_}
 use mathlib.Core.List.{List, [], _∷_}
 use Prim.Native.Nat.{ℕ, _*_}
 use lib.ListN.{length}
+use Rattle.conformance.specs.Refusals.Receivers.{takesPayload}
 use Rattle.ground.specs.Plain.{if_then_else_, _==_, _<?_}
-use Rattle.packet.specs.Kinds.{frames}
+use Rattle.packet.specs.Kinds.{frames, payloadRight}
+use Rattle.packet.specs.Laws.Writing.{answer-sized, unfit-bytes}
+use Rattle.packet.specs.Sent.{sentFits}
+use Rattle.packet.specs.Vc12.{vc12Fits}
 use Rattle.packet.specs.Words.{assigned}
-use Rattle.packet.specs.Writing.{fitting, writeAnswer, writeBytes}
+use Rattle.packet.specs.Writing.{fitting}
 use Rattle.conformance.specs.Entries.{Call, Copes, If, Refusal, Unless, copes, either, stateful, stateless}
-use Rattle.conformance.specs.Refusals.Packets.{small}
+use Rattle.conformance.specs.Refusals.Packets.{smallOf}
 use Rattle.conformance.specs.Refusals.Payloads.{ranged}
 use Rattle.conformance.specs.Refusals.Tables as table
 use Rattle.sender.specs.declared.epochs.Sender.{Sender}
@@ -85,30 +89,34 @@ below s i = i <? (if s .table .count <? 64 then s .table .count else 64)
 -- In a state that calls returned the packet's fields fit (crates/sender/specs/Theorems/Packets.antt); in any other, fields that do not fit are 8.
 abbrev pub packet : Sender × ℕ × List ℕ → Call
 packet (self, slot, h4) =
-    stateless (Unless 1 (below self slot) ∷ Unless 9 (length h4 == 16) ∷ Unless 2 (self .begun) ∷ Unless 8 (small (packetFields self slot)) ∷ [])
+    stateless (Unless 1 (below self slot) ∷ Unless 9 (length h4 == (if self .table .kind == 1 then 32 else 16)) ∷ Unless 2 (self .begun) ∷ Unless 8 (smallOf (self .table .kind) (packetFields self slot)) ∷ [])
     (answerNumber (packetAnswer self slot h4)) (h4 ∷ []) (packetBytes self slot h4 ∷ [])
 
 pub packet-copes : (x : Sender × ℕ × List ℕ) → Copes (packet x)
-unfolding packetAnswer packetBytes writeAnswer writeBytes fitting assigned frames sizeOf
+unfolding packetAnswer packetBytes packetFields sentFits vc12Fits fitting assigned frames sizeOf
 packet-copes (self, slot, h4) =
+    let told = answer-sized (self .table .kind) (packetFields self slot) h4 in
     copes _ (
-      λ b. (λ l. (λ g. (λ f. rw (b, l, f, g), λ f. rw (b, l, f, g) (refl, refl, refl)), λ g. rw (b, l, g) (refl, refl, refl)), λ l. rw (b, l) (refl, refl, refl)),
+      λ b. (λ l. (λ g. (λ f. rw (b, l, told, l, f, g), λ f. rw (b, l, told, l, f, unfit-bytes (self .table .kind) (packetFields self slot) h4 f, g) (refl, refl, refl)), λ g. rw (b, l, g) (refl, refl, refl)), λ l. rw (b, l) (refl, refl, refl)),
       λ b. rw b (refl, refl, refl),
     )
 
 abbrev pub payload : Sender × ℕ × ℕ × List ℕ × List ℕ → Call
 payload (self, slot, p, frame, member) =
     stateless
-    (Unless 1 (below self slot) ∷ Unless 4 (ranged (xOf self) p) ∷ Unless 9 (length frame == xOf self * p && length member == p) ∷ Unless 2 (self .begun) ∷ [])
+    (Unless 1 (below self slot) ∷ Unless 4 (takesPayload (self .table .kind) p) ∷ Unless 4 (ranged (xOf self) p) ∷ Unless 9 (length frame == xOf self * p && length member == p) ∷ Unless 2 (self .begun) ∷ [])
     (answerNumber (payloadAnswer self slot p (length frame) (length member))) (member ∷ []) (payloadBytes self slot p frame member ∷ [])
 
 pub payload-copes : (x : Sender × ℕ × ℕ × List ℕ × List ℕ) → Copes (payload x)
-unfolding payloadAnswer payloadBytes sizeOf
+unfolding payloadAnswer payloadBytes payloadRight sizeOf
 payload-copes (self, slot, p, frame, member) =
     copes _ (
       λ b. (
-        λ s. (λ l. (λ g. rw (b, s, l, g), λ g. rw (b, s, l, g) (refl, refl, refl)), λ l. rw (b, s, l, either (self .begun) Length, either (self .begun) member) (refl, refl, refl)),
-        λ s. rw (b, s, either (self .begun) OutOfRange, either (self .begun) member) (refl, refl, refl),
+        λ k. (
+          λ s. (λ l. (λ g. rw (b, k, s, l, g), λ g. rw (b, k, s, l, g) (refl, refl, refl)), λ l. rw (b, k, s, l, either (self .begun) Length, either (self .begun) member) (refl, refl, refl)),
+          λ s. rw (b, k, s, either (self .begun) OutOfRange, either (self .begun) member) (refl, refl, refl),
+        ),
+        λ k. rw (b, k) (refl, refl, refl),
       ),
       λ b. rw b (refl, refl, refl),
     )

@@ -7,12 +7,12 @@ use lib.ListN.{length, take}
 use Rattle.ground.specs.Plain.{if_then_else_, _==_}
 use Rattle.c_face.specs.Mends.{lengthsAnswerC, mendAnswerC, mendedC, mendedLengthC, notesC, notesLengthC}
 use Rattle.conformance.specs.Entries.{Call, Copes, Refusal, Unless, copes, stateful, stateless}
-use Rattle.conformance.specs.Refusals.Receivers.{ranged, timesInRange}
+use Rattle.conformance.specs.Refusals.Receivers.{startRanged, timesInRange}
 use Rattle.mending.specs.Lines.{linesWith}
 use Rattle.mending.specs.Mending.{answerBy, fitting, mendAnswer, mendedOf, notesOf, openingOf, readAnswer}
 use Rattle.mending.specs.Told.{lengthsOf, mendedLeft, notesLeft}
-use Rattle.packet.specs.Kinds.{frames, tags}
-use Rattle.phases.specs.Sizes.{sized}
+use Rattle.packet.specs.Kinds.{frames, payloadRight, tags}
+use Rattle.phases.specs.Sizes.{knownKind, sized, startSized}
 use Rattle.receiver.specs.Starting.{timesWithin}
 use Rattle.recording.specs.Opening.{Opening}
 use Rattle.recording.specs.Opening.{Opening as O}
@@ -27,7 +27,7 @@ reads O.End = false
 -- and its settings are in range, as of a receiver's start; times are asked of as many ports as there are
 abbrev settingsRanged : Opening → Bool
 settingsRanged (O.Settings s next) =
-    ranged (s .kind) (s .ports) (s .size) (s .window) && timesInRange (take (s .ports) (s .«hold_off»)) && timesInRange (take (s .ports) (s .restore))
+    startRanged (s .kind) (s .ports) (s .size) (s .window) && timesInRange (take (s .ports) (s .«hold_off»)) && timesInRange (take (s .ports) (s .restore))
 settingsRanged O.Malformed = false
 settingsRanged O.Unfinished = false
 settingsRanged O.End = false
@@ -36,7 +36,7 @@ abbrev opening : List ℕ → Opening
 opening recording = openingOf (linesWith recording)
 
 answer-is : (recording : List ℕ) → readAnswer recording ≡ (if reads (opening recording) then (if settingsRanged (opening recording) then 0 else 4) else 13)
-unfolding readAnswer fitting timesWithin sized frames tags
+unfolding readAnswer fitting timesWithin knownKind payloadRight sized startSized frames tags
 answer-is recording = go (opening recording)
   where
     go : (o : Opening) → answerBy o ≡ (if reads o then (if settingsRanged o then 0 else 4) else 13)

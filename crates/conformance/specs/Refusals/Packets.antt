@@ -1,16 +1,22 @@
--- The refusals of the packet's entry points: writing 9, 8; reading 9, 5, 7, 6. Of a fixed group (request 2026-12) writing 9, 8; reading 9, 6.
-use mathlib.Core.Path.{refl}
-use mathlib.Core.Bool.{Bool, not, _&&_, _||_}
+-- The refusals of the packet's entry points, of H4 and of VC-12 (request 2026-01): writing 9, 8; reading 9, 5, 7, 6. Of a fixed group (request 2026-12) writing 9, 8; reading 9, 6.
+use mathlib.Core.Path.{_≡_, refl}
+use mathlib.Core.Bool.{Bool, true, false, not, _&&_, _||_}
 use mathlib.Core.List.{List, [], _∷_}
 use Prim.Native.Nat.{ℕ, _+_, _*_, _%_}
-use lib.ListN.{getD, length, take}
-use Rattle.ground.specs.Plain.{_==_, _<?_}
-use Rattle.c_face.specs.Packets.{given, readAnswerC, readFieldsC, readFixedAnswerC, readFixedFieldsC, valuesOr, writeAnswerC, writeBytesC, writeFixedAnswerC}
+use lib.ListN.{drop, getD, length, take}
+use Rattle.ground.specs.Bits.{number}
+use Rattle.ground.specs.Finite.{sameBits}
+use Rattle.ground.specs.Plain.{if_then_else_, _==_, _<?_}
+use Rattle.ground.specs.Polynomial.{check}
+use Rattle.c_face.specs.Packets.{given, readAnswerC, readFieldsC, readFixedAnswerC, readFixedFieldsC, readVc12AnswerC, readVc12FieldsC, valuesOr, writeAnswerC, writeBytesC, writeFixedAnswerC, writeVc12AnswerC, writeVc12BytesC}
 use Rattle.packet.specs.declared.layout.Fields.{Fields}
 use Rattle.packet.specs.Crc.{crcOf}
 use Rattle.packet.specs.Fixed.{readFixedAnswer, readFixedNibbles, writeFixedAnswer, writeFixedBytes}
 use Rattle.packet.specs.Layout.{carriedIn, fieldsOf, highsOf}
 use Rattle.packet.specs.Reading.{readAnswer, readNibbles, readingNumber}
+use Rattle.packet.specs.Ruling.{readRow}
+use Rattle.packet.specs.Sent.{sentAnswer, sentBytes}
+use Rattle.packet.specs.Vc12.{lowestOf, readVc12Answer, readVc12Bits, readVc12Row, rowBits, vc12Divisor, vc12Fields, vc12Fits, writeVc12Answer, writeVc12Bytes}
 use Rattle.packet.specs.Words.{assigned}
 use Rattle.packet.specs.Writing.{fitting, writeAnswer, writeBytes, writingNumber}
 use Rattle.conformance.specs.Entries.{Call, Copes, If, Refusal, Unless, answers-alone, behind, copes, stateless}
@@ -19,9 +25,22 @@ use Rattle.conformance.specs.Entries.{Call, Copes, If, Refusal, Unless, 
 abbrev pub named : ℕ → Bool
 named w = w == 0 || w == 1 || w == 2 || w == 3 || w == 5 || w == 15
 
--- 8: 'a field given for writing is too large, or its word is FIXED or unassigned'; the reserved bits are 26 (request 2026-08)
+-- 8: 'a field given for writing is too large, or its word is FIXED or unassigned'
+abbrev smallIn : ℕ → ℕ → ℕ → Fields → Bool
+smallIn epochs numbers reserved f =
+    f .mst <? 256 && f .epoch <? epochs && f .sq <? numbers && f .gid <? 2 && f .«rs_ack» <? 2 && f .reserved <? reserved && not (f .word .0 == 0) && named (f .word .0)
+
+-- the reserved bits of H4 are 26 (request 2026-08)
 abbrev pub small : Fields → Bool
-small f = f .epoch <? 256 && f .mst <? 256 && f .sq <? 256 && f .gid <? 2 && f .«rs_ack» <? 2 && f .reserved <? 67108864 && not (f .word .0 == 0) && named (f .word .0)
+small f = smallIn 256 256 67108864 f
+
+-- 'count above 31, SQ above 63', and four reserved bits (request 2026-01)
+abbrev pub smallVc12 : Fields → Bool
+smallVc12 f = smallIn 32 64 16 f
+
+-- of a sender's packet, by its kind
+abbrev pub smallOf : ℕ → Fields → Bool
+smallOf kind f = if kind == 1 then smallVc12 f else small f
 
 abbrev pub write : Fields × List ℕ → Call
 write (fields, h4) =
@@ -80,6 +99,91 @@ readC (h4, fields) =
 pub readC-copes : (x : List ℕ × List ℕ) → Copes (readC x)
 unfolding readAnswerC readFieldsC
 readC-copes (h4, fields) = behind 9 (length fields == 10) _ _ (valuesOr (readAnswer h4) fields) fields (reads h4 fields)
+
+-- VC-12: 32 bytes, the lowest bit of each.
+
+abbrev pub writeVc12 : Fields × List ℕ → Call
+writeVc12 (fields, frames) =
+    stateless (Unless 9 (length frames == 32) ∷ Unless 8 (smallVc12 fields) ∷ [])
+    (writingNumber (writeVc12Answer fields frames)) (frames ∷ []) (writeVc12Bytes fields frames ∷ [])
+
+pub writeVc12-copes : (x : Fields × List ℕ) → Copes (writeVc12 x)
+unfolding writeVc12Answer writeVc12Bytes vc12Fits assigned
+writeVc12-copes (fields, frames) = copes _ (λ l. (λ f. rw (l, f), λ f. rw (l, f) (refl, refl, refl)), λ l. rw l (refl, refl, refl))
+
+abbrev pub writeVc12C : ℕ × ℕ × ℕ × ℕ × ℕ × ℕ × ℕ × List ℕ → Call
+writeVc12C (epoch, word, gid, mst, «rs_ack», sq, reserved, bits) =
+    stateless (Unless 9 (length bits == 32) ∷ Unless 8 (smallVc12 (given epoch word gid mst «rs_ack» sq reserved)) ∷ [])
+    (writeVc12AnswerC epoch word gid mst «rs_ack» sq reserved bits) (bits ∷ []) (writeVc12BytesC epoch word gid mst «rs_ack» sq reserved bits ∷ [])
+
+pub writeVc12C-copes : (x : ℕ × ℕ × ℕ × ℕ × ℕ × ℕ × ℕ × List ℕ) → Copes (writeVc12C x)
+writeVc12C-copes (epoch, word, gid, mst, «rs_ack», sq, reserved, bits) = writeVc12-copes (given epoch word gid mst «rs_ack» sq reserved, bits)
+
+-- of 32 bits: the CRC over the first 29 is the last three, CTRL is bits 12 to 15, counted from 1
+abbrev pub bitsRefusals : List Bool → List Refusal
+bitsRefusals l =
+    Unless 5 (sameBits (check vc12Divisor (take 29 l)) (drop 29 l))
+    ∷ If 7 (number (take 4 (drop 11 l)) == 0)
+    ∷ Unless 6 (named (number (take 4 (drop 11 l))))
+    ∷ []
+
+vc12Reads : (bits fields : List ℕ)
+    → Copes (stateless (Unless 9 (length bits == 32) ∷ bitsRefusals (lowestOf bits)) (readingNumber (readVc12Answer bits)) (fields ∷ []) (valuesOr (readVc12Answer bits) fields ∷ []))
+unfolding readVc12Answer readVc12Bits vc12Fields assigned
+vc12Reads bits fields =
+    copes _ (
+      λ l. (λ c. (λ f. rw (l, c, f) (refl, refl, refl), λ f. (λ a. rw (l, c, f, rw f at a), λ a. rw (l, c, f, rw f at a) (refl, refl, refl))), λ c. rw (l, c) (refl, refl, refl)),
+      λ l. rw l (refl, refl, refl),
+    )
+
+abbrev pub readVc12 : List ℕ → Call
+readVc12 frames = stateless (Unless 9 (length frames == 32) ∷ bitsRefusals (lowestOf frames)) (readingNumber (readVc12Answer frames)) [] []
+
+pub readVc12-copes : (x : List ℕ) → Copes (readVc12 x)
+readVc12-copes frames = answers-alone _ _ (vc12Reads frames [] .answers)
+
+abbrev pub readVc12Entries : List ℕ → Call
+readVc12Entries row = stateless (bitsRefusals (rowBits row)) (readingNumber (readVc12Row row)) [] []
+
+pub readVc12Entries-copes : (x : List ℕ) → Copes (readVc12Entries x)
+unfolding readVc12Row readVc12Bits vc12Fields assigned
+readVc12Entries-copes row =
+    copes _ (λ c. (λ f. rw (c, f) (refl, refl, refl), λ f. (λ a. rw (c, f, rw f at a), λ a. rw (c, f, rw f at a) (refl, refl, refl))), λ c. rw c (refl, refl, refl))
+
+-- By the kind, as our sender writes and a receiver reads.
+
+abbrev pub writeBy : ℕ × Fields × List ℕ → Call
+writeBy (kind, fields, bytes) =
+    stateless (Unless 9 (length bytes == (if kind == 1 then 32 else 16)) ∷ Unless 8 (smallOf kind fields) ∷ [])
+    (writingNumber (sentAnswer kind fields bytes)) (bytes ∷ []) (sentBytes kind fields bytes ∷ [])
+
+pub writeBy-copes : (x : ℕ × Fields × List ℕ) → Copes (writeBy x)
+unfolding sentAnswer sentBytes
+writeBy-copes (kind, fields, bytes) = go (kind == 1) refl
+  where
+    go : (b : Bool) → (kind == 1) ≡ b → Copes (writeBy (kind, fields, bytes))
+    go true e = rw e (writeVc12-copes (fields, bytes))
+    go false e = rw e (write-copes (fields, bytes))
+
+abbrev pub readRowBy : ℕ × List ℕ → Call
+readRowBy (kind, row) = stateless (if kind == 1 then bitsRefusals (rowBits row) else readRefusals row) (readingNumber (readRow kind row)) [] []
+
+pub readRowBy-copes : (x : ℕ × List ℕ) → Copes (readRowBy x)
+unfolding readRow
+readRowBy-copes (kind, row) = go (kind == 1) refl
+  where
+    go : (b : Bool) → (kind == 1) ≡ b → Copes (readRowBy (kind, row))
+    go true e = rw e (readVc12Entries-copes row)
+    go false e = rw e (readSixteen-copes row)
+
+abbrev pub readVc12C : List ℕ × List ℕ → Call
+readVc12C (bits, fields) =
+    stateless (Unless 9 (length fields == 10) ∷ Unless 9 (length bits == 32) ∷ bitsRefusals (lowestOf bits))
+    (readVc12AnswerC bits fields) (fields ∷ []) (readVc12FieldsC bits fields ∷ [])
+
+pub readVc12C-copes : (x : List ℕ × List ℕ) → Copes (readVc12C x)
+unfolding readVc12AnswerC readVc12FieldsC
+readVc12C-copes (bits, fields) = behind 9 (length fields == 10) _ _ (valuesOr (readVc12Answer bits) fields) fields (vc12Reads bits fields)
 
 -- 'the word FIXED is no cause for 8': an epoch or an SQ above 255 is
 abbrev pub writeFixed : ℕ × ℕ × List ℕ → Call

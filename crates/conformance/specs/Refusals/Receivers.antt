@@ -2,16 +2,17 @@
 use mathlib.Core.Path.{_≡_, refl, ap}
 use mathlib.Core.Bool.{Bool, true, false, not, _&&_, _||_}
 use mathlib.Core.List.{List, [], _∷_}
-use Prim.Native.Nat.{ℕ, _+_, _-_, _*_, _%_}
+use Prim.Native.Nat.{ℕ, _+_, _-_, _*_, _/_, _%_}
 use native.Mathlib.Nat.{mod-mod}
+use native.Mathlib.Omega.{arith}
 use lib.ListN.{getD, length}
 use Rattle.c_face.specs.Receivers.{failedC, kindC, startAsAnswerC, startAsRowsC}
 use Rattle.conformance.specs.Entries.{Call, Copes, If, Refusal, Under, Unless, copes, done, either, first, refused, stateful, stateless}
 use Rattle.counting.specs.Words.{every}
 use Rattle.ground.specs.Circle.{after}
 use Rattle.ground.specs.Plain.{if_then_else_, _==_, _<?_, _≤?_}
-use Rattle.packet.specs.Kinds.{distanceOf, firstTag, frames, lead, tags}
-use Rattle.phases.specs.Sizes.{portsIn, sized, storeFor}
+use Rattle.packet.specs.Kinds.{distanceOf, firstTag, frames, lead, payloadRight, tags}
+use Rattle.phases.specs.Sizes.{knownKind, portsIn, sized, startSized, storeFor}
 use Rattle.receiver.specs.Fetch.{fetchAnswer, fetchOut, fetchRecord, fetchRows, fits}
 use Rattle.receiver.specs.Frame.{frameAnswer, frameRows, frameStore, oddIn, refusalBy, storeBy, takenRows, takenStore}
 use Rattle.receiver.specs.Lengths.{fetchFits, frameFits, outputFor, rowsFit}
@@ -27,18 +28,40 @@ use Rattle.step.specs.Arrival.{countsOn, distanceIn, flagged, frameDropped, joi
 use Rattle.step.specs.Laws.Arrival.{taken-by}
 use Rattle.step.specs.Run.{inStepAt, runOn}
 
--- of kind H4 or FIXED; '1 to 64 ports', 'P from 1 to 2,340', 'The window W is 16 to 2,048 frames'
+-- how many frames an epoch has, and how many tags there are; of VC-12, whose kind is 1, 'An epoch is 32 frames' and 'Tags run 0 to 1,023' (02, 2026-01)
+abbrev pub framesOf : ℕ → ℕ
+framesOf kind = if kind == 1 then 32 else 16
+
+abbrev pub tagsOf : ℕ → ℕ
+tagsOf kind = if kind == 1 then 1024 else 4096
+
+-- 'P is 136'
+abbrev pub takesPayload : ℕ → ℕ → Bool
+takesPayload kind payload = not (kind == 1) || payload == 136
+
+-- of kind H4, VC12 or FIXED; '1 to 64 ports', 'P from 1 to 2,340', 'The window W is 16 to 2,048 frames', of VC-12 '32 to 512': from an epoch's frames to half the tags
 abbrev pub ranged : ℕ → ℕ → ℕ → ℕ → Bool
-ranged kind count payload window = (kind == 0 || kind == 2) && 1 ≤? count && count ≤? 64 && 1 ≤? payload && payload ≤? 2340 && 16 ≤? window && window ≤? 2048
+ranged kind count payload window =
+    (kind == 0 || kind == 1 || kind == 2)
+    && 1 ≤? count
+    && count ≤? 64
+    && 1 ≤? payload
+    && payload ≤? 2340
+    && framesOf kind ≤? window
+    && window ≤? tagsOf kind / 2
+
+-- and that a start takes
+abbrev pub startRanged : ℕ → ℕ → ℕ → ℕ → Bool
+startRanged kind count payload window = ranged kind count payload window && takesPayload kind payload
 
 -- Starting. 'The lent store is exactly ports x W x (P+1) bytes', and the state has five rows a port and one.
 abbrev pub start : ℕ × ℕ × ℕ × ℕ × ℕ × List (List ℕ) → Call
 start (kind, count, payload, window, store, state) =
-    stateful (Unless 4 (ranged kind count payload window) ∷ Unless 9 (length state == count * 5 + 1 && store == count * window * (payload + 1)) ∷ [])
+    stateful (Unless 4 (startRanged kind count payload window) ∷ Unless 9 (length state == count * 5 + 1 && store == count * window * (payload + 1)) ∷ [])
     (startAnswer kind count payload window store (length state)) [] [] state (startRows kind count payload window store state) (putGroup state (emptyGroup kind))
 
 pub start-copes : (x : ℕ × ℕ × ℕ × ℕ × ℕ × List (List ℕ)) → Copes (start x)
-unfolding startAsAnswer startAsRows startRight timesWithin sizedAnswer sizedRows sizedFits startFits sized frames tags
+unfolding startAsAnswer startAsRows payloadRight startRight startSized timesWithin sizedAnswer sizedRows sizedFits startFits knownKind sized frames tags
 start-copes (kind, count, payload, window, store, state) = copes _ (λ s. (λ f. rw (s, f), λ f. rw (s, f) (refl, refl, refl)), λ s. rw s (refl, refl, refl))
 
 -- 'a count above 5,000 is number 4' (02, 2026-03), and a list that is neither as long as there are ports nor empty is 9
@@ -47,7 +70,7 @@ timesInRange counts = every (length counts) (λ i. getD counts i 0 ≤? 5000)
 
 abbrev pub startAsRefusals : ℕ → ℕ → ℕ → ℕ → ℕ → List ℕ → List ℕ → ℕ → List Refusal
 startAsRefusals kind count payload window store hold restore rows =
-    Unless 4 (timesInRange hold && timesInRange restore && ranged kind count payload window)
+    Unless 4 (timesInRange hold && timesInRange restore && startRanged kind count payload window)
     ∷ Unless 9
     ((length hold == 0 || length hold == count)
     && (length restore == 0 || length restore == count)
@@ -61,13 +84,13 @@ startAs (kind, count, payload, window, store, «hold_off», restore, state) =
     (startAsRows kind count payload window store «hold_off» restore state) (putGroup state (emptyGroup kind))
 
 pub startAs-copes : (x : ℕ × ℕ × ℕ × ℕ × ℕ × List ℕ × List ℕ × List (List ℕ)) → Copes (startAs x)
-unfolding startAsAnswer startAsRows startRight timesWithin sizedAnswer sizedRows sizedFits startFits sized frames tags
+unfolding startAsAnswer startAsRows payloadRight startRight startSized timesWithin sizedAnswer sizedRows sizedFits startFits knownKind sized frames tags
 startAs-copes (kind, count, payload, window, store, «hold_off», restore, state) =
     copes _ (λ s. (λ f. rw (s, f), λ f. rw (s, f) (refl, refl, refl)), λ s. rw s (refl, refl, refl))
 
 -- after a start answered 4 the rows, if there are any, hold a group without ports
 pub emptied-empty : (kind : ℕ) (rows : List (List ℕ)) → portsIn (groupAt (putGroup rows (emptyGroup kind))) ≡ 0
-unfolding portsIn sized groupAt groupOf groupRow putGroup putRow rowIn
+unfolding portsIn knownKind sized groupAt groupOf groupRow putGroup putRow rowIn
 emptied-empty kind [] = refl
 emptied-empty kind (r ∷ rs) = either (sized kind 0 0 0) 0
 
@@ -89,15 +112,21 @@ pub startAsC-copes : (x : ℕ × ℕ × ℕ × ℕ × ℕ × List ℕ × List �
 startAsC-copes (kind, ports, payload, window, «store_bytes», «hold_off», restore, state) =
     startAs-copes (kindC kind, ports, payload, window, «store_bytes», «hold_off», restore, state)
 
--- What a frame does to a port, where `odd` says whether it ends an odd packet: 10, 12, 11. 'A port is in step when 32 frames in a row' count; 'its tag is 0 to W-1 after the first frame of the oldest epoch'; '11 goes only to a joined port'.
+-- What a frame does to a port, where `odd` says whether it ends an odd packet: 10, 12, 11. 'A port is in step when 32 frames in a row' count, of VC-12 64; 'its tag is 0 to W-1 after the first frame of the oldest epoch'; '11 goes only to a joined port'.
 
--- how far the tag to come lies after the first frame of the oldest epoch, whose tag is 8 before 16 x that epoch
+-- how far the tag to come lies after the first frame of the oldest epoch, whose tag is 8 before 16 x that epoch, of VC-12 32 x that epoch
 abbrev pub ahead : Group → Step → ℕ
-ahead g s = (s .next + (4096 - (g .oldest * 16 + 4088) % 4096)) % 4096
+ahead g s =
+    if g .kind == 1 then (s .next + (1024 - g .oldest * 32 % 1024)) % 1024
+    else (s .next + (4096 - (g .oldest * 16 + 4088) % 4096)) % 4096
 
 ahead-is : (g : Group) (s : Step) → distanceIn g (s .next) ≡ ahead g s
 unfolding distanceIn distanceOf after firstTag frames tags lead
-ahead-is g s = ap (λ (n : ℕ). (s .next + (4096 - n)) % 4096) (mod-mod (g .oldest * 16 + 4088) 4096)
+ahead-is g s = go (g .kind == 1) refl
+  where
+    go : (b : Bool) → (g .kind == 1) ≡ b → distanceIn g (s .next) ≡ ahead g s
+    go true e = rw e (ap (λ (n : ℕ). (s .next + (1024 - n)) % 1024) (omega arith))
+    go false e = rw e (ap (λ (n : ℕ). (s .next + (4096 - n)) % 4096) (mod-mod (g .oldest * 16 + 4088) 4096))
 
 window-is : (g : Group) (s : Step) (b : Bool) → (distanceIn g (s .next) <? g .window) ≡ b → (ahead g s <? g .window) ≡ b
 window-is g s b e = rw (ahead-is g s) at e
@@ -105,7 +134,7 @@ window-is g s b e = rw (ahead-is g s) at e
 abbrev pub portRefusals : Group → Step → Bool → Bool → ℕ → List Refusal
 portRefusals g s failed odd h4 =
     If 10 failed
-    ∷ Unless 12 (32 ≤? runOn (g .kind) (runOf s) odd h4 .count)
+    ∷ Unless 12 (framesOf (g .kind) * 2 ≤? runOn (g .kind) (runOf s) odd h4 .count)
     ∷ If 11 (not (g .begun == 0) && not (s .joined == 0) && not (ahead g s <? g .window))
     ∷ []
 
@@ -174,7 +203,7 @@ frames-on true true g n s i failed odd h4 payload store =
     (refused _ 10 (refl, refl, tt)) (refused _ 12 (refl, refl, tt)) (done _ refl) (done _ refl) (refused _ 11 (refl, refl, refl)) (done _ refl)
 
 pub frame-copes : (x : List (List ℕ) × ℕ × Bool × ℕ × List ℕ × List ℕ) → Copes (frame x)
-unfolding frameAnswer frameRows frameStore refusalBy frameFits rowsFit storeFor portsIn sized frames tags
+unfolding frameAnswer frameRows frameStore refusalBy frameFits rowsFit storeFor portsIn knownKind sized frames tags
 frame-copes (state, port, failed, h4, payload, store) = frames-on _ _ (groupAt state) (portsOf (groupAt state)) state port failed (oddIn state port h4) h4 payload store
 
 abbrev pub frameC : List (List ℕ) × ℕ × ℕ × ℕ × List ℕ × List ℕ → Call
@@ -183,21 +212,21 @@ frameC (state, port, failed, h4, payload, store) = frame (state, port, failedC f
 pub frameC-copes : (x : List (List ℕ) × ℕ × ℕ × ℕ × List ℕ × List ℕ) → Copes (frameC x)
 frameC-copes (state, port, failed, h4, payload, store) = frame-copes (state, port, failedC failed, h4, payload, store)
 
--- A fetch. 'The lent output holds at least ports x 16 x P bytes', and the record eight.
+-- A fetch. 'The lent output holds at least ports x 16 x P bytes', of VC-12 32 x P, and the record eight.
 abbrev pub fetch : List (List ℕ) × List ℕ × List ℕ × List ℕ → Call
 fetch (state, store, out, report) =
     stateful
     (Unless 9
     (rowsOf (portsOf (groupAt state)) (length state)
     && length store == storeOf (groupAt state)
-    && portsOf (groupAt state) * 16 * groupAt state .payload ≤? length out
+    && portsOf (groupAt state) * framesOf (groupAt state .kind) * groupAt state .payload ≤? length out
     && length report == 8)
     ∷ [])
     (fetchAnswer state store out report) (out ∷ report ∷ []) (fetchOut state store out report ∷ fetchRecord state store out report ∷ [])
     state (fetchRows state store out report) state
 
 pub fetch-copes : (x : List (List ℕ) × List ℕ × List ℕ × List ℕ) → Copes (fetch x)
-unfolding fetchAnswer fetchOut fetchRecord fetchRows fits fetchFits rowsFit storeFor outputFor portsIn sized frames tags
+unfolding fetchAnswer fetchOut fetchRecord fetchRows fits fetchFits rowsFit storeFor outputFor portsIn knownKind sized frames tags
 fetch-copes (state, store, out, report) = copes _ (λ l. rw l, λ l. rw l (refl, refl, refl))
 
 -- The ports read out, each port's eight bytes a lent slice, and the reply's two bytes.
@@ -208,7 +237,7 @@ ports (state, out) =
     (portsAnswer state (length out)) out (portsOut state out)
 
 pub ports-copes : (x : List (List ℕ) × List (List ℕ)) → Copes (ports x)
-unfolding portsAnswer portsOut shownFit rowsFit portsIn sized frames tags
+unfolding portsAnswer portsOut shownFit rowsFit portsIn knownKind sized frames tags
 ports-copes (state, out) = copes _ (λ l. rw l, λ l. rw l (refl, refl, refl))
 
 abbrev pub reply : List (List ℕ) × ℕ × List ℕ → Call
@@ -217,5 +246,5 @@ reply (state, epoch, out) =
     (replyAnswer state (length out)) (out ∷ []) (replyOut state epoch out ∷ [])
 
 pub reply-copes : (x : List (List ℕ) × ℕ × List ℕ) → Copes (reply x)
-unfolding replyAnswer replyOut replyFit rowsFit portsIn sized frames tags
+unfolding replyAnswer replyOut replyFit rowsFit portsIn knownKind sized frames tags
 reply-copes (state, epoch, out) = copes _ (λ l. rw l, λ l. rw l (refl, refl, refl))

@@ -1,15 +1,18 @@
 -- The refusals of the sender's C calls: a state of another length is 9, what is no byte 8, then the sender's own. The state is lent, so it stands as the state and not among the lent slices: under 4 starting leaves an empty group in it.
 use mathlib.Core.Path.{_≡_, refl}
-use mathlib.Core.Bool.{Bool, true, _&&_, _||_}
+use mathlib.Core.Bool.{Bool, true, false, not, _&&_, _||_}
 use mathlib.Core.List.{List, [], _∷_}
 use Prim.Native.Nat.{ℕ}
+use native.Mathlib.Omega.{arith}
 use lib.ListN.{length}
+use borrow.Author.Tests.{eqb-true}
 use Rattle.ground.specs.Plain.{if_then_else_, _==_, _<?_}
 use Rattle.c_face.specs.Boards.{boardBytesC, outgoingBytesC, ranksBytesC, shownAnswerC, shownBytes}
 use Rattle.c_face.specs.Keeping.{bytesOf, senderOf}
-use Rattle.c_face.specs.Senders.{areBytes, callAnswerC, callStateC, packetAnswerC, packetBytesC, payloadAnswerC, payloadBytesC, startAnswerC, startStateC}
+use Rattle.c_face.specs.Senders.{areBytes, callAnswerC, callStateC, packetAnswerC, packetBytesC, payloadAnswerC, payloadBytesC, sends, startAnswerC, startStateC}
 use Rattle.conformance.specs.Entries.{Call, Copes, If, Refusal, Unless, behind, copes, first, put-anew, stateful, stateless, tested}
 use Rattle.conformance.specs.Refusals.Epochs as own
+use Rattle.packet.specs.Kinds.{epochs, knownKind}
 use Rattle.sender.specs.Calls.Call.{AddSlot, Lapse, RemoveSlot, Report}
 use Rattle.sender.specs.Commands.{freshOf, startOf}
 use Rattle.sender.specs.Epochs.{SenderCall, beginOf, freshSender, packetBytes, payloadBytes, senderOutcomeOf}
@@ -24,16 +27,51 @@ isWhole state = length state == 397
 abbrev pub allBytes : ℕ → ℕ → ℕ → Bool
 allBytes a b c = a <? 256 && b <? 256 && c <? 256
 
--- Starting: 4, 9, 8.
+-- 4: a kind other than H4 and VC-12, whose numbers are 0 and 1; 8: an epoch above 255, of VC-12 above 31
+abbrev pub isSent : ℕ → Bool
+isSent kind = kind == 0 || kind == 1
+
+abbrev pub inEpochs : ℕ → ℕ → Bool
+inEpochs kind epoch = epoch <? (if kind == 1 then 32 else 256)
+
+-- Starting, of a kind: 4, 9, 8.
+abbrev pub startAs : ℕ × ℕ × ℕ × List ℕ → Call
+startAs (kind, count, «first_epoch», state) =
+    stateful (If 4 (count == 0 || 64 <? count) ∷ Unless 4 (isSent kind) ∷ Unless 9 (isWhole state) ∷ Unless 8 (inEpochs kind «first_epoch») ∷ [])
+    (startAnswerC kind count «first_epoch» state) [] [] state (startStateC kind count «first_epoch» state) (if isWhole state then bytesOf (freshSender (freshOf 0 0) 0) else state)
+
+pub sends-is : (kind : ℕ) → sends kind ≡ isSent kind
+unfolding sends knownKind
+sends-is kind = go (kind == 0) (kind == 1) (kind == 2) refl refl refl
+  where
+    go : (a b c : Bool) → (kind == 0) ≡ a → (kind == 1) ≡ b → (kind == 2) ≡ c → ((a || b || c) && not c) ≡ (a || b)
+    go true b true ea eb ec = absurd (let z = eqb-true kind 0 ea in let t = eqb-true kind 2 ec in omega arith)
+    go false true true ea eb ec = absurd (let z = eqb-true kind 1 eb in let t = eqb-true kind 2 ec in omega arith)
+    go true true false ea eb ec = refl
+    go true false false ea eb ec = refl
+    go false true false ea eb ec = refl
+    go false false true ea eb ec = refl
+    go false false false ea eb ec = refl
+
+pub startAs-copes : (x : ℕ × ℕ × ℕ × List ℕ) → Copes (startAs x)
+unfolding startAnswerC startStateC beginOf startOf epochs
+startAs-copes (kind, count, «first_epoch», state) =
+    rw (sends-is kind)
+    (copes _ (
+      λ o. rw o (refl, refl, refl),
+      λ o. (λ k. (λ l. (λ f. rw (o, k, l, f), λ f. rw (o, k, l, f) (refl, refl, refl)), λ l. rw (o, k, l) (refl, refl, refl)), λ k. rw (o, k) (refl, refl, refl)),
+    ))
+
+-- for the kind H4
 abbrev pub start : ℕ × ℕ × List ℕ → Call
 start (count, «first_epoch», state) =
-    stateful (If 4 (count == 0 || 64 <? count) ∷ Unless 9 (isWhole state) ∷ If 8 (255 <? «first_epoch») ∷ [])
-    (startAnswerC count «first_epoch» state) [] [] state (startStateC count «first_epoch» state) (if isWhole state then bytesOf (freshSender (freshOf 0 0) 0) else state)
+    stateful (If 4 (count == 0 || 64 <? count) ∷ Unless 9 (isWhole state) ∷ Unless 8 («first_epoch» <? 256) ∷ [])
+    (startAnswerC 0 count «first_epoch» state) [] [] state (startStateC 0 count «first_epoch» state) (if isWhole state then bytesOf (freshSender (freshOf 0 0) 0) else state)
 
 pub start-copes : (x : ℕ × ℕ × List ℕ) → Copes (start x)
-unfolding startAnswerC startStateC beginOf startOf
+unfolding startAnswerC startStateC beginOf startOf epochs sends knownKind
 start-copes (count, «first_epoch», state) =
-    copes _ (λ o. rw o (refl, refl, refl), λ o. (λ l. (λ f. rw (o, l, f) (refl, refl, refl), λ f. rw (o, l, f)), λ l. rw (o, l) (refl, refl, refl)))
+    copes _ (λ o. rw o (refl, refl, refl), λ o. (λ l. (λ f. rw (o, l, f), λ f. rw (o, l, f) (refl, refl, refl)), λ l. rw (o, l) (refl, refl, refl)))
 
 -- A call on a started sender: 9, 8 where the numbers given are no bytes, then the call's own refusals. `fits` is the contract's own test for that.
 abbrev pub senderRow : List ℕ → Bool → Bool → SenderCall → List Refusal → Call

@@ -6,10 +6,12 @@ use Prim.Native.Nat.{ℕ, _*_, _≤_, _<_}
 use native.Mathlib.Omega.{arith}
 use lib.Dec.{ltb}
 use borrow.Author.Tests.{le-ltb, lt-ltb, ne-eqb}
+use Rattle.phases.specs.Sizes.{sized, startSized}
+use Rattle.packet.specs.Kinds.{payloadRight}
 use Rattle.ground.specs.Table.{tabulate}
-use Rattle.ground.specs.Truth.{and-true, le-or-lt}
+use Rattle.ground.specs.Truth.{and-right, and-true, le-or-lt}
 use Rattle.packet.specs.Words.{IDLE}
-use Rattle.receiver.specs.Laws.Sizes.{sizes-of}
+use Rattle.receiver.specs.Laws.Sizes.{start-sizes-of}
 use Rattle.sender.specs.Commands.{freshOf, startOf}
 use Rattle.sender.specs.declared.epochs.Sender.{Sender}
 use Rattle.sender.specs.declared.table.Table.{Table}
@@ -62,11 +64,13 @@ module _ (h : CardHistory) (g : ℕ) (k : Link) (a : AssumedEach h g k) where
       }
 
   pub handed : Handed own (k .payload) (k .client)
+  unfolding startSized
   handed =
-      let s = sizes-of (kindOf k) (k .ports) (k .payload) (k .window) (a .lines .sizes) in
+      let s = start-sizes-of (kindOf k) (k .ports) (k .payload) (k .window) (a .lines .sizes) in
       record {
         least = s .some-bytes;
         most = s .few-bytes;
+        payload-right = sym (ap (λ (s : Sending). payloadRight (s .kind) (k .payload)) (a .sends)) ∙ and-right (sized (kindOf k) (k .ports) (k .payload) (k .window)) (payloadRight (kindOf k) (k .payload)) (a .lines .sizes);
         whole = λ x. a .lines .client x ∙ ap (λ (s : Sending). s .x (epochAt (s .kind) x) * k .payload) (a .sends);
       }
 

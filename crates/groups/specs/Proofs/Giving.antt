@@ -9,7 +9,7 @@ use lib.Dec.{eqb, ltb}
 use lib.ListN.{length, length-replicate, replicate}
 use borrow.Author.Tests.{lt-ltb, ne-eqb}
 use Rattle.ground.specs.Truth.{and-true}
-use Rattle.packet.specs.Kinds.{frames}
+use Rattle.packet.specs.Kinds.{frames, payloadRight}
 use Rattle.payload.specs.Laws.Fits.{Sizes, one-done, spread-one-done}
 use Rattle.payload.specs.Order.{memberFrame}
 use Rattle.payload.specs.Spreading.{oneAnswer, spreadOne}
@@ -58,14 +58,14 @@ module _ (c : Card) (g slot : ℕ) (there : isSlot c g slot ≡ true) (mine : ow
   payload-by P frame member = rw (there, mine) refl
 
 -- a sender in an epoch, of a slot that it has
-module _ (s : Sender) (slot : ℕ) (below : slot < sizeOf (s .table .count)) (begun : s .begun ≡ true) where
-  spread-is : (P : ℕ) (frame member : List ℕ) → E.payloadBytes s slot P frame member ≡ spreadOne (xOf s) P (rankIn s slot) frame member
+module _ (s : Sender) (slot P : ℕ) (below : slot < sizeOf (s .table .count)) (own : payloadRight (s .table .kind) P ≡ true) (begun : s .begun ≡ true) where
+  spread-is : (frame member : List ℕ) → E.payloadBytes s slot P frame member ≡ spreadOne (xOf s) P (rankIn s slot) frame member
   unfolding E.payloadBytes
-  spread-is P frame member = rw (lt-ltb slot (sizeOf (s .table .count)) below, begun) refl
+  spread-is frame member = rw (lt-ltb slot (sizeOf (s .table .count)) below, own, begun) refl
 
-  spread-told : (P frame member : ℕ) → E.payloadAnswer s slot P frame member ≡ spreadTold (oneAnswer (xOf s) P frame member)
+  spread-told : (frame member : ℕ) → E.payloadAnswer s slot P frame member ≡ spreadTold (oneAnswer (xOf s) P frame member)
   unfolding E.payloadAnswer
-  spread-told P frame member = rw (lt-ltb slot (sizeOf (s .table .count)) below, begun) refl
+  spread-told frame member = rw (lt-ltb slot (sizeOf (s .table .count)) below, own, begun) refl
 
 module _ (h : CardHistory) (g : ℕ) (k : Link) (a : AssumedEach h g k) (n i p : ℕ) (from : a .calls-then ≤ n) (later : a .starts .at i < n) (in-it : n ≤ a .starts .at (suc i)) (b : p < k .ports) where
   abbrev history : History
@@ -105,6 +105,9 @@ module _ (h : CardHistory) (g : ℕ) (k : Link) (a : AssumedEach h g k) (n i p :
   slot-in : slot < sizeOf (s .table .count)
   slot-in = rw (size-at history (allowed h g k a) i) below
 
+  payload-right : payloadRight (s .table .kind) (k .payload) ≡ true
+  payload-right = rw (sender-in history (allowed h g k a) i .kind) (handed h g k a .payload-right)
+
   answered : (h4 : List ℕ) → length h4 ≡ frames (h .kind) → E.packetAnswer s slot h4 ≡ Done
   answered h4 l = packet-answered history (allowed h g k a) i slot below h4 l
 
@@ -127,7 +130,7 @@ module _ (h : CardHistory) (g : ℕ) (k : Link) (a : AssumedEach h g k) (n i p :
 
     spread : (lent : List ℕ) → length lent ≡ k .payload → E.payloadBytes s slot (k .payload) (k .client x) lent ≡ memberFrame (xOf s) (k .payload) (k .client x) (rankIn s slot)
     spread lent l =
-        spread-is s slot slot-in begun (k .payload) (k .client x) lent
+        spread-is s slot (k .payload) slot-in payload-right begun (k .client x) lent
         ∙ spread-one-done (xOf s) (k .payload) (rankIn s slot) (k .client x) lent sizes-at whole l
 
     payload-is : E.payloadBytes s slot (k .payload) (k .client x) member ≡ payloadSent history (k .payload) (k .client) x slot
@@ -155,7 +158,7 @@ module _ (h : CardHistory) (g : ℕ) (k : Link) (a : AssumedEach h g k) (n i p :
     payload-answered =
         payload-told c g slot there mine (k .payload) (length (k .client x)) (length member)
         ∙ ap fromSender (same .told slot (k .payload) (length (k .client x)) (length member)
-        ∙ spread-told s slot slot-in begun (k .payload) (length (k .client x)) (length member)
+        ∙ spread-told s slot (k .payload) slot-in payload-right begun (length (k .client x)) (length member)
         ∙ ap spreadTold (one-done (xOf s) (k .payload) (length (k .client x)) (length member) (record { size = sizes-at; frame-is = whole; member-is = long })))
 
   pub gives : Gives h g k n i slot

@@ -8,8 +8,8 @@ use native.Mathlib.Omega.{arith}
 use lib.ListN.{length, length-replicate}
 use Rattle.ground.specs.Plain.{if_then_else_, _==_, _<?_}
 use Rattle.ground.specs.Table.{length-tabulate}
-use Rattle.packet.specs.Kinds.{epochs, frames, tags}
-use Rattle.phases.specs.Sizes.{sized}
+use Rattle.packet.specs.Kinds.{epochs, frames, payloadRight, tags}
+use Rattle.phases.specs.Sizes.{knownKind, sized, startSized}
 use Rattle.sender.specs.Calls.{Call}
 use Rattle.circuits.specs.Parts.{owns}
 use Rattle.link.specs.Demand3.{Demand3}
@@ -32,7 +32,7 @@ late false = omega arith
 lines : (slots e : ℕ) (before : ℕ → List Call) (gid mst ack : ℕ → ℕ) (client : Client) (pairing first : ℕ → ℕ)
     → let history : History = record { kind = 0; slots = slots; first = e; before = before; gid = gid; mst = mst; ack = ack } in
     ((x : ℕ) → length (client x) ≡ xAt history (epochAt 0 x) * 1) → Lines (linkOf history client pairing first)
-unfolding sized frames tags
+unfolding knownKind sized frames tags payloadRight startSized
 lines slots e before gid mst ack client pairing first whole =
     record {
       sizes = refl;

@@ -8,7 +8,7 @@ use native.Mathlib.Omega.{arith}
 use lib.Dec.{eqb, ltb}
 use borrow.Author.Tests.{eqb-true, ltb-true}
 use Rattle.invariant.specs.Proofs.Kept.Passing.{ahead}
-use Rattle.invariant.specs.Kept.Port.{Joined, PortKept, Windowed, offset}
+use Rattle.invariant.specs.Kept.Port.{PortKept, Windowed, offset}
 use Rattle.invariant.specs.Proofs.Laws.Flags.{never}
 use Rattle.invariant.specs.Proofs.Laws.Window.{distance-next, distance-passed, start-place}
 use Rattle.ground.specs.Truth.{and-left, and-right, clash, eq-or-ne, le-or-lt, or-cases}
@@ -26,7 +26,7 @@ use Rattle.step.specs.declared.run.Run.{Run}
 use Rattle.step.specs.Laws.Arrival.{inWindow, ranOn, stepped, taken-by}
 use Rattle.step.specs.Laws.Lost.{run-goes-on}
 use Rattle.store.specs.Laws.Marks.{mark-beyond, mark-cut, mark-marked, mark-passed, sixteen-marked}
-use Rattle.store.specs.Marks.{cutFrom, firstMark, markIn, markedAt, passedMarks}
+use Rattle.store.specs.Marks.{firstMark, markIn, markedAt, passedMarks}
 use Rattle.invariant.specs.Claims.{Claims, Part}
 
 -- what is claimed lies in the window
@@ -36,27 +36,31 @@ claims-inside g s marks k d c =
     (λ (p : Part g s d). let l = p .upto in let r = k .goes (p .joined) .reach in omega arith) (c .has)
 
 -- as an epoch is passed, what is claimed was claimed an epoch's frames further on
-pub passed-claims : (g : Group) (s : Step) (marks : List ℕ) → PortKept g s marks → flagOf (g .begun) ≡ true → owesNothing g s marks ≡ true → (d : ℕ)
-    → Claims (passedGroup g) (passedStep s (firstMark marks)) (passedMarks marks) d → Claims g s marks (d + frames (g .kind))
-unfolding passedGroup passedStep
-passed-claims g s marks k begun due d c =
-    record {
-      begun = begun;
-      has =
-          ⊎-elim
-          (λ (m : markIn (passedMarks marks) (d / frames (g .kind)) ≡ true).
-          inl (rw (epoch-more (g .kind) d) (sym (mark-passed marks (k .row) (d / frames (g .kind))) ∙ m)))
-          (λ (p : Part (passedGroup g) (passedStep s (firstMark marks)) d).
-          let near : distanceIn (passedGroup g) (s .next) + frames (g .kind) ≡ offset g s =
-          distance-passed g (passedGroup g) (s .next) refl refl (ahead g s marks k begun due (p .joined)) in
-          inr (record {
-            joined = p .joined;
-            later = later-back (g .kind) (s .later) d (p .later);
-            from = part-back (g .kind) d (offset g s) (distanceIn (passedGroup g) (s .next)) near (p .from);
-            upto = let l = p .upto in omega arith;
-          }))
-          (c .has);
-    }
+module _ (g : Group) (s : Step) (marks : List ℕ) (k : PortKept g s marks) (begun : flagOf (g .begun) ≡ true) (due : owesNothing g s marks ≡ true) (d : ℕ) where
+  pub passed-part : Part (passedGroup g) (passedStep s (firstMark marks)) d → Part g s (d + frames (g .kind))
+  unfolding passedGroup passedStep
+  passed-part p =
+      let near : distanceIn (passedGroup g) (s .next) + frames (g .kind) ≡ offset g s =
+      distance-passed g (passedGroup g) (s .next) refl refl (ahead g s marks k begun due (p .joined)) in
+      record {
+        joined = p .joined;
+        later = later-back (g .kind) (s .later) d (p .later);
+        from = part-back (g .kind) d (offset g s) (distanceIn (passedGroup g) (s .next)) near (p .from);
+        upto = let l = p .upto in omega arith;
+      }
+
+  pub passed-marked : markIn (passedMarks marks) (d / frames (g .kind)) ≡ true → markIn marks ((d + frames (g .kind)) / frames (g .kind)) ≡ true
+  passed-marked m = rw (epoch-more (g .kind) d) (sym (mark-passed marks (k .row) (d / frames (g .kind))) ∙ m)
+
+  pub passed-claims : Claims (passedGroup g) (passedStep s (firstMark marks)) (passedMarks marks) d → Claims g s marks (d + frames (g .kind))
+  unfolding passedGroup
+  passed-claims c =
+      record {
+        begun = begun;
+        has =
+            ⊎-elim (λ (m : markIn (passedMarks marks) (d / frames (g .kind)) ≡ true). inl (passed-marked m))
+            (λ (p : Part (passedGroup g) (passedStep s (firstMark marks)) d). inr (passed-part p)) (c .has);
+      }
 
 -- the frame that was just handed
 pub record New (g : Group) (s : Step) (failed : Bool) (t : Taken) (d : ℕ) : Type 0 where
@@ -128,22 +132,19 @@ module _ (g : Group) (s : Step) (marks : List ℕ) (failed odd : Bool) (h : ℕ)
         rw (run-goes-on (g .kind) (runOf s) odd h on)
         (distance-next g (s .next) (let most = W .most in let l = low in let some = W .least in let more = frames-two (g .kind) in omega arith))
 
-    keeps-stays : flagOf (s .joined) ≡ true → Stays (keeps g s run e)
+    part : flagOf (s .joined) ≡ true → frames (g .kind) * (offset g s / frames (g .kind)) ≤ d → d < offset g s → Part g s d
+    part j from upto = record { joined = j; later = later-part (g .kind) (s .later) d (offset g s) (k .goes j .passed) from; from = from; upto = upto }
+
+    -- what is claimed after a frame of a joined port, but for the frame itself: an epoch is marked with its last frame
+    pub keeps-marked : flagOf (s .joined) ≡ true → d ≢ offset g s → markIn (marksBy (g .kind) marks (keeps g s run e)) (d / frames (g .kind)) ≡ true
+        → (markIn marks (d / frames (g .kind)) ≡ true) ⊎ ((endsEpoch (g .kind) (offset g s) ≡ true) × Part g s d)
     unfolding keeps marksBy
-    keeps-stays j c =
-        ⊎-elim (λ (z : d ≡ e). inl (record { kept = refl; at = z; next = refl; unflagged = f; answer = refl }))
-        (λ (z : d ≢ e). inr (record { claims = record { begun = c .begun; has = old z }; apart = λ y. z })) (eq-or-ne d e)
+    keeps-marked j z m = by-mark (endsEpoch (g .kind) (offset g s)) refl m
       where
-        o : Joined g s marks
-        o = k .goes j
-
-        part : frames (g .kind) * (offset g s / frames (g .kind)) ≤ d → d < offset g s → Part g s d
-        part from upto = record { joined = j; later = later-part (g .kind) (s .later) d (offset g s) (o .passed) from; from = from; upto = upto }
-
-        by-mark : (b : Bool) → endsEpoch (g .kind) (offset g s) ≡ b → d ≢ offset g s
+        by-mark : (b : Bool) → endsEpoch (g .kind) (offset g s) ≡ b
             → markIn (cond b (markedAt marks (epochsIn (g .kind) (offset g s))) marks) (d / frames (g .kind)) ≡ true
-            → (markIn marks (d / frames (g .kind)) ≡ true) ⊎ Part g s d
-        by-mark true ends z m =
+            → (markIn marks (d / frames (g .kind)) ≡ true) ⊎ ((endsEpoch (g .kind) (offset g s) ≡ true) × Part g s d)
+        by-mark true ends m =
             ⊎-elim
             (λ (a : 128 ≤ d / frames (g .kind)).
             never (sym (mark-beyond (markedAt marks (epochsIn (g .kind) (offset g s))) (d / frames (g .kind)) (sixteen-marked marks (k .row) (epochsIn (g .kind) (offset g s)) .len) a) ∙ m))
@@ -151,38 +152,59 @@ module _ (g : Group) (s : Step) (marks : List ℕ) (failed odd : Bool) (h : ℕ)
             ⊎-elim (λ (t : markIn marks (d / frames (g .kind)) ≡ true). inl t)
             (λ (t : eqb (d / frames (g .kind)) (epochsIn (g .kind) (offset g s)) ≡ true).
             let q = epoch-ended (g .kind) d (offset g s) round ends z (eqb-true (d / frames (g .kind)) (epochsIn (g .kind) (offset g s)) t) in
-            inr (part (q .0) (q .1)))
+            inr (ends, part j (q .0) (q .1)))
             (or-cases (markIn marks (d / frames (g .kind))) (eqb (d / frames (g .kind)) (epochsIn (g .kind) (offset g s)))
             (sym (mark-marked marks (k .row) (epochsIn (g .kind) (offset g s)) (d / frames (g .kind)) a) ∙ m)))
             (le-or-lt 128 (d / frames (g .kind)))
-        by-mark false ends z m = inl m
+        by-mark false ends m = inl m
 
+    pub keeps-part : flagOf (s .joined) ≡ true → d ≢ offset g s → Part g (keeps g s run e .step) d → Part g s d
+    unfolding keeps
+    keeps-part j z p =
+        let from : frames (g .kind) * ((offset g s + 1) / frames (g .kind)) ≤ d = rw next-offset at (p .from) in
+        let upto : d < offset g s + 1 = rw next-offset at (p .upto) in
+        part j (part-before (g .kind) d (offset g s) from) (omega arith)
+
+    keeps-stays : flagOf (s .joined) ≡ true → Stays (keeps g s run e)
+    unfolding keeps
+    keeps-stays j c =
+        ⊎-elim (λ (z : d ≡ e). inl (record { kept = refl; at = z; next = refl; unflagged = f; answer = refl }))
+        (λ (z : d ≢ e). inr (record { claims = record { begun = c .begun; has = old z }; apart = λ y. z })) (eq-or-ne d e)
+      where
         old : d ≢ offset g s → (markIn marks (d / frames (g .kind)) ≡ true) ⊎ Part g s d
         old z =
-            ⊎-elim (λ m. by-mark (endsEpoch (g .kind) (offset g s)) refl z m)
-            (λ (p : Part g (keeps g s run e .step) d).
-            let from : frames (g .kind) * ((offset g s + 1) / frames (g .kind)) ≤ d = rw next-offset at (p .from) in
-            let upto : d < offset g s + 1 = rw next-offset at (p .upto) in
-            inr (part (part-before (g .kind) d (offset g s) from) (omega arith)))
+            ⊎-elim
+            (λ (m : markIn (marksBy (g .kind) marks (keeps g s run e)) (d / frames (g .kind)) ≡ true).
+            ⊎-elim (λ (t : markIn marks (d / frames (g .kind)) ≡ true). inl t)
+            (λ (t : (endsEpoch (g .kind) (offset g s) ≡ true) × Part g s d). inr (t .1)) (keeps-marked j z m))
+            (λ (p : Part g (keeps g s run e .step) d). inr (keeps-part j z p))
             (c .has)
 
-    joins-stays : startsEpoch (g .kind) (s .next) ≡ true → Stays (joining g s run e)
+    -- and after the frame with which it joins
+    pub joins-marked : markIn (marksBy (g .kind) marks (joining g s run e)) (d / frames (g .kind)) ≡ true → (markIn marks (d / frames (g .kind)) ≡ true) × (d ≢ offset g s)
     unfolding joining marksBy
-    joins-stays start c =
-        ⊎-elim
-        (λ (m : markIn (cutFrom marks (epochsIn (g .kind) (offset g s))) (d / frames (g .kind)) ≡ true).
+    joins-marked m =
         let both-hold : (markIn marks (d / frames (g .kind)) && ltb (d / frames (g .kind)) (epochsIn (g .kind) (offset g s))) ≡ true =
         sym (mark-cut marks (k .row) (epochsIn (g .kind) (offset g s)) (d / frames (g .kind))) ∙ m in
         let l = ltb-true (d / frames (g .kind)) (epochsIn (g .kind) (offset g s)) (and-right (markIn marks (d / frames (g .kind))) (ltb (d / frames (g .kind)) (epochsIn (g .kind) (offset g s))) both-hold) in
-        inr (record {
-          claims = record { begun = c .begun; has = inl (and-left (markIn marks (d / frames (g .kind))) (ltb (d / frames (g .kind)) (epochsIn (g .kind) (offset g s))) both-hold) };
-          apart = λ y. epoch-cut (g .kind) d (offset g s) round l;
-        }))
-        (λ (p : Part g (joining g s run e .step) d).
+        (and-left (markIn marks (d / frames (g .kind))) (ltb (d / frames (g .kind)) (epochsIn (g .kind) (offset g s))) both-hold, epoch-cut (g .kind) d (offset g s) round l)
+
+    pub joins-part : startsEpoch (g .kind) (s .next) ≡ true → Part g (joining g s run e .step) d → d ≡ offset g s
+    unfolding joining
+    joins-part start p =
         let epochs : frames (g .kind) * epochsIn (g .kind) (offset g s) ≡ offset g s = whole-epochs (g .kind) (offset g s) round (start-place g (s .next) start) in
         let from : offset g s ≤ d = rw epochs at (p .later) in
         let upto : d < offset g s + 1 = rw next-offset at (p .upto) in
-        inl (record { kept = refl; at = omega arith; next = refl; unflagged = f; answer = refl }))
+        omega arith
+
+    joins-stays : startsEpoch (g .kind) (s .next) ≡ true → Stays (joining g s run e)
+    unfolding joining
+    joins-stays start c =
+        ⊎-elim
+        (λ (m : markIn (marksBy (g .kind) marks (joining g s run e)) (d / frames (g .kind)) ≡ true).
+        let q = joins-marked m in
+        inr (record { claims = record { begun = c .begun; has = inl (q .0) }; apart = λ y. q .1 }))
+        (λ (p : Part g (joining g s run e .step) d). inl (record { kept = refl; at = joins-part start p; next = refl; unflagged = f; answer = refl }))
         (c .has)
 
   pub taken-claims : Stays (takenOf g s failed odd h)

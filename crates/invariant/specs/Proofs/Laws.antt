@@ -1,6 +1,5 @@
--- Laws of single runs, of tags about the window and of what follows from a frame.
+-- Laws of tags about the window and of what follows from a frame.
 pub mod Flags
-pub mod Runs
 pub mod Window
 pub mod Settling
 pub mod Started

@@ -15,10 +15,10 @@ use Rattle.packet.specs.Layout.{carriedIn, dataOf, fieldsOf, h4Of, nibblesOf, s
 use Rattle.packet.specs.Reading.{readNibbles}
 use Rattle.packet.specs.Words.{EOS, NORM, assigned}
 use Rattle.phases.specs.Due.{brought, owesNothing}
-use Rattle.packet.specs.Ruling.{rulingOf}
+use Rattle.packet.specs.Ruling.{readRow, rulingOf}
 use Rattle.packet.specs.Symbols.{entryAt, entryFrom, entryWith, rowFrom, symbolOf, withSymbol}
 use Rattle.step.specs.OwnCount.{ownNumber, ownRuling, rulingIn}
-use Rattle.phases.specs.Sizes.{portsIn, sized, storeFor}
+use Rattle.phases.specs.Sizes.{knownKind, portsIn, sized, storeFor}
 use Rattle.receiver.specs.Fetch.{dueIn, fetchOut, fits, outIfDue, reportIfDue}
 use Rattle.receiver.specs.Lengths.{fetchFits, outputFor, rowsFit}
 use Rattle.receiver.specs.Report.{frameInto, framesInto, outputBy, outputOf, reportBy, reportOf, rulingEpoch, seenAll, seenOf, startsOf}
@@ -70,5 +70,5 @@ order-breaks :
     (fetchOut rows store (replicate 32 0) (replicate 8 0) ≡ sixteen 10 11)
     × (reportIfDue group 2 rows .mark ≡ SURE)
     × (wrong-out ≡ sixteen 11 10)
-unfolding divisor nibbleBits packet group port rows sent store wrong-seen wrong-out sixteen dataOf sealedOf nibblesOf crcOf h4Of carriedIn fieldsOf assigned readNibbles ownRuling rulingIn ownNumber rulingOf rulingEpoch seenOf seenAll orderOf activeIn portOf rankOf judgeOf lcasVerdict heldBy doubtfulBy missing exact repeats takes gidDiffers eosWrong eosAlone highest fetchOut fits fetchFits rowsFit storeFor outputFor portsIn sized outIfDue reportIfDue reportOf reportBy dueIn brought owesNothing readable inStep inStepAt outputOf outputBy framesInto frameInto startsOf placeIn ringOf packetIn h4At byteAt entryAt entryFrom entryWith rowFrom symbolOf withSymbol firstMark epochOf firstTag frames lead tagBefore tags groupAt groupOf groupRow putGroup marksAt packetsAt putMarks putPackets rowIn putRow stepAt stepOf stepRow putStep
+unfolding divisor nibbleBits packet group port rows sent store wrong-seen wrong-out sixteen dataOf sealedOf nibblesOf crcOf h4Of carriedIn fieldsOf assigned readNibbles ownRuling rulingIn ownNumber rulingOf readRow rulingEpoch seenOf seenAll orderOf activeIn portOf rankOf judgeOf lcasVerdict heldBy doubtfulBy missing exact repeats takes gidDiffers eosWrong eosAlone highest fetchOut fits fetchFits rowsFit storeFor outputFor portsIn knownKind sized outIfDue reportIfDue reportOf reportBy dueIn brought owesNothing readable inStep inStepAt outputOf outputBy framesInto frameInto startsOf placeIn ringOf packetIn h4At byteAt entryAt entryFrom entryWith rowFrom symbolOf withSymbol firstMark epochOf firstTag frames lead tagBefore tags groupAt groupOf groupRow putGroup marksAt packetsAt putMarks putPackets rowIn putRow stepAt stepOf stepRow putStep
 order-breaks = (refl, refl, refl)

@@ -7,11 +7,11 @@ use lib.ListN.{getD, replicate}
 use Rattle.invariant.specs.Wrong.Sample.{sampleGroup, sampleStep, sentH4}
 use Rattle.ground.specs.Circle.{after}
 use Rattle.ground.specs.Table.{tabulate}
-use Rattle.packet.specs.Counts.{counts}
+use Rattle.packet.specs.Counts.{counts, h4Counts}
 use Rattle.packet.specs.Kinds.{distanceOf, firstTag, frames, lead, tagAfter, tags}
 use Rattle.rows.specs.declared.group.Group.{Group}
 use Rattle.step.specs.Arrival.{arrives, byWindow, distanceIn, keeps, takenOf}
-use Rattle.step.specs.Run.{breaksAfter, endsPacket, inStepAt, loses, oddAfter, runOn, stayedRun}
+use Rattle.step.specs.Run.{breaksAfter, endsPacket, h4RunOn, inStepAt, loses, oddAfter, runOn, stayedRun}
 use Rattle.store.specs.Frames.{placeIn, ringOf, storedAt}
 use Rattle.invariant.specs.Claims.{tagIn}
 
@@ -45,5 +45,5 @@ place-breaks :
     (answers ≡ replicate 17 0)
     × (found wrongly ≡ 16 ∷ 1 ∷ 2 ∷ 3 ∷ 4 ∷ 5 ∷ 6 ∷ 7 ∷ 8 ∷ 9 ∷ 10 ∷ 11 ∷ 12 ∷ 13 ∷ 14 ∷ 15 ∷ 16 ∷ [])
     × (found rightly ≡ 0 ∷ 1 ∷ 2 ∷ 3 ∷ 4 ∷ 5 ∷ 6 ∷ 7 ∷ 8 ∷ 9 ∷ 10 ∷ 11 ∷ 12 ∷ 13 ∷ 14 ∷ 15 ∷ 16 ∷ [])
-unfolding wrong-place window answers brought found wrongly rightly tagIn takenOf arrives byWindow keeps distanceIn distanceOf after firstTag tagAfter tags lead frames runOn stayedRun loses breaksAfter oddAfter endsPacket inStepAt counts placeIn ringOf storedAt
+unfolding wrong-place window answers brought found wrongly rightly tagIn takenOf arrives byWindow keeps distanceIn distanceOf after firstTag tagAfter tags lead frames runOn h4RunOn stayedRun loses breaksAfter oddAfter endsPacket inStepAt counts h4Counts placeIn ringOf storedAt
 place-breaks = (refl, refl, refl)

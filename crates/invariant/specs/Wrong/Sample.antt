@@ -14,7 +14,7 @@ sampleGroup n W begun gathered oldest = groupTo (groupWith 0 n 1 W) begun gather
 abbrev pub sampleStep : ℕ → ℕ → ℕ → ℕ → ℕ → ℕ → Step
 sampleStep count next joined since later whole =
     record {
-      spare = replicate 5 0;
+      spare = replicate 4 0;
       had = 1;
       failed = 0;
       count = count;
@@ -25,6 +25,7 @@ sampleStep count next joined since later whole =
       whole = whole;
       breaks = 0;
       odd = 0;
+      bits = 0;
     }
 
 -- the H4 byte of a frame with this tag, with a packet's nibble where MFI2 does not stand

@@ -5,7 +5,7 @@ use mathlib.Core.List.{List, [], _∷_}
 use Prim.Native.Nat.{ℕ, zero, suc, _+_, _%_}
 use lib.ListN.{getD, replicate, set}
 use Rattle.ground.specs.Plain.{if_then_else_, _==_}
-use Rattle.packet.specs.Counts.{counts, startsCount, tagByHigh}
+use Rattle.packet.specs.Counts.{counts, h4Counts, startsCount, tagByHigh}
 use Rattle.packet.specs.Crc.{crcOf, divisor, nibbleBits}
 use Rattle.packet.specs.Kinds.{endsEpoch, frames, lead, placeOf, tagAfter, tags}
 use Rattle.packet.specs.Layout.{carriedIn, dataOf, fieldsOf, h4Of, nibblesOf, sealedOf}
@@ -14,29 +14,29 @@ use Rattle.packet.specs.Symbols.{entryAt, entryWith, symbolOf, withSymbol}
 use Rattle.packet.specs.Words.{NORM, assigned}
 use Rattle.receiver.specs.Frame.{gatheredBy}
 use Rattle.step.specs.declared.run.Run.{Run}
-use Rattle.step.specs.Run.{begunRun, breaksAfter, endsPacket, gainedRun, inStepAt, loses, noRun, oddAfter, runOn, stayedRun}
+use Rattle.step.specs.Run.{begunRun, breaksAfter, endsPacket, gainedRun, h4RunOn, inStepAt, loses, noRun, oddAfter, runOn, stayedRun}
 use Rattle.invariant.specs.Wrong.Sample.{sentH4}
 
 -- a port in step, with the tag to come
 at : ℕ → Run
-at t = record { count = 32; next = t; breaks = 0; odd = 0 }
+at t = record { count = 32; next = t; breaks = 0; odd = 0; bits = 0 }
 
 -- A frame with MFI1 0 amid the count taken as a new start at once. One hit makes MFI1 4 a 0, and the port is out.
 
 wrong-start : Run → Bool → ℕ → Run
-wrong-start run odd h = if startsCount 0 h && not (counts 0 (run .next) h) then begunRun 0 h else runOn 0 run odd h
+wrong-start run odd h = if startsCount 0 h && not (h4Counts (run .next) h) then begunRun 0 h else runOn 0 run odd h
 
-start-breaks : (wrong-start (at 4) false 0x00 .count ≡ 1) × (runOn 0 (at 4) false 0x00 ≡ record { count = 32; next = 5; breaks = 1; odd = 0 })
-unfolding at wrong-start runOn stayedRun gainedRun loses breaksAfter oddAfter endsPacket begunRun inStepAt counts startsCount tagByHigh placeOf endsEpoch tagAfter tags frames lead
+start-breaks : (wrong-start (at 4) false 0x00 .count ≡ 1) × (runOn 0 (at 4) false 0x00 ≡ record { count = 32; next = 5; breaks = 1; odd = 0; bits = 0 })
+unfolding at wrong-start runOn h4RunOn stayedRun gainedRun loses breaksAfter oddAfter endsPacket begunRun inStepAt counts h4Counts startsCount tagByHigh placeOf endsEpoch tagAfter tags frames lead
 start-breaks = (refl, refl)
 
 -- Breaks counted over all time and not in a row. Every other frame of eight is hit in MFI1, so that no two in a row break the count.
 
 wrong-breaks : Run → Bool → ℕ → Run
 wrong-breaks run odd h =
-    let counted = counts 0 (run .next) h in
+    let counted = h4Counts (run .next) h in
     if loses counted run odd then noRun
-    else (record { count = run .count; next = tagAfter 0 (run .next); breaks = run .breaks + (if counted then 0 else 1); odd = oddAfter 0 run odd })
+    else (record { count = run .count; next = tagAfter 0 (run .next); breaks = run .breaks + (if counted then 0 else 1); odd = oddAfter 0 run odd; bits = run .bits })
 
 hit : ℕ → ℕ
 hit t = if t % 2 == 0 then sentH4 (t + 1) else sentH4 t
@@ -46,22 +46,22 @@ by : (Run → Bool → ℕ → Run) → ℕ → Run
 by rule zero = at 8
 by rule (suc n) = rule (by rule n) false (hit (8 + n))
 
-row-breaks : (by wrong-breaks 7 .count ≡ 0) × (by (runOn 0) 8 ≡ record { count = 32; next = 16; breaks = 0; odd = 0 })
-unfolding at wrong-breaks hit by runOn stayedRun gainedRun loses breaksAfter oddAfter endsPacket begunRun inStepAt counts startsCount tagByHigh placeOf endsEpoch tagAfter tags frames lead
+row-breaks : (by wrong-breaks 7 .count ≡ 0) × (by (runOn 0) 8 ≡ record { count = 32; next = 16; breaks = 0; odd = 0; bits = 0 })
+unfolding at wrong-breaks hit by runOn h4RunOn stayedRun gainedRun loses breaksAfter oddAfter endsPacket begunRun inStepAt counts h4Counts startsCount tagByHigh placeOf endsEpoch tagAfter tags frames lead
 row-breaks = (refl, refl)
 
 -- Odd packets counted over a damaged one. An odd packet ends, then one with a wrong CRC, then an odd one: not two in a row.
 
 wrong-odd : Run → Bool → ℕ → Run
 wrong-odd run odd h =
-    if loses (counts 0 (run .next) h) run odd then noRun else (record { count = run .count; next = tagAfter 0 (run .next); breaks = 0; odd = if odd then 1 else run .odd })
+    if loses (h4Counts (run .next) h) run odd then noRun else (record { count = run .count; next = tagAfter 0 (run .next); breaks = 0; odd = if odd then 1 else run .odd; bits = run .bits })
 
 -- the last frames of three packets, each as the rule finds the row of odd packets
 three : (Run → Bool → ℕ → Run) → Run
-three rule = rule (record { count = 32; next = 39; breaks = 0; odd = rule (record { count = 32; next = 23; breaks = 0; odd = rule (at 7) true 0x07 .odd }) false 0x07 .odd }) true 0x07
+three rule = rule (record { count = 32; next = 39; breaks = 0; odd = rule (record { count = 32; next = 23; breaks = 0; odd = rule (at 7) true 0x07 .odd; bits = 0 }) false 0x07 .odd; bits = 0 }) true 0x07
 
-odd-breaks : (three wrong-odd .count ≡ 0) × (three (runOn 0) ≡ record { count = 32; next = 40; breaks = 0; odd = 1 })
-unfolding at wrong-odd three runOn stayedRun gainedRun loses breaksAfter oddAfter endsPacket begunRun inStepAt counts startsCount tagByHigh placeOf endsEpoch tagAfter tags frames lead
+odd-breaks : (three wrong-odd .count ≡ 0) × (three (runOn 0) ≡ record { count = 32; next = 40; breaks = 0; odd = 1; bits = 0 })
+unfolding at wrong-odd three runOn h4RunOn stayedRun gainedRun loses breaksAfter oddAfter endsPacket begunRun inStepAt counts h4Counts startsCount tagByHigh placeOf endsEpoch tagAfter tags frames lead
 odd-breaks = (refl, refl)
 
 -- The packet being gathered put together by the MFI1 that frames carry. One hit makes MFI1 2, which brings the word, a 3: the word stays that of the packet before, and what is read is no longer the packet that came.

@@ -13,13 +13,13 @@ use Rattle.invariant.specs.Live.{heardOf, isHeard, packetHeard, tagBack}
 use Rattle.invariant.specs.Reports.{Others, Unstopped, ackIn, gives, nextReport, reportsOf, stopsWith, successive}
 use Rattle.invariant.specs.Times.{outcomesOf, waitingIn}
 use Rattle.packet.specs.Counts.{carriesLow, startsCount, tagByHigh, tagByLow}
-use Rattle.packet.specs.Kinds.{epochAfter, epochs, firstTag, frames, idleNumber, lead, tagBefore, tags}
+use Rattle.packet.specs.Kinds.{epochAfter, epochs, firstTag, frames, idleNumber, lead, payloadRight, tagBefore, tags}
 use Rattle.packet.specs.Symbols.{entryAt, entryFrom, entryWith, rowFrom, symbolOf, withSymbol}
 use Rattle.phases.specs.Beginning.{begins, ready}
 use Rattle.phases.specs.Due.{brought, owesNothing, silent}
 use Rattle.phases.specs.Passing.{passedGroup, passedOf, passedPort, passedPorts, passedStep}
 use Rattle.phases.specs.Settling.{beginBy, gatherBy, settledOf, stopBy}
-use Rattle.phases.specs.Sizes.{portsIn, sized, storeFor}
+use Rattle.phases.specs.Sizes.{knownKind, portsIn, sized, startSized, storeFor}
 use Rattle.receiver.specs.Fetch.{dueIn, fetchAnswer, fetchOut, fetchRecord, fetchRows, fits, outIfDue, recordOf, reportIfDue, rowsIfDue}
 use Rattle.receiver.specs.Frame.{frameAnswer, frameRows, frameStore, portRows, refusalBy, settledBy, storeBy, takenRows, takenStore}
 use Rattle.receiver.specs.Lengths.{fetchFits, frameFits, outputFor, rowsFit}
@@ -32,7 +32,7 @@ use Rattle.rows.specs.Packets.{putMarks, putPackets}
 use Rattle.rows.specs.Rows.{putRow, rowIn}
 use Rattle.rows.specs.Step.{putStep, stepAt, stepOf, stepRow}
 use Rattle.step.specs.Arrival.{countsOn, flagged, inStep, readable, takenOf}
-use Rattle.step.specs.Run.{begunRun, gainedRun, inStepAt, runOn, secondRun}
+use Rattle.step.specs.Run.{begunRun, gainedRun, h4RunOn, inStepAt, runOn, secondRun}
 
 abbrev nines : ℕ → List ℕ
 nines n = replicate n 9
@@ -84,7 +84,7 @@ calls :
     × (gives fresh (nines 64) (nines 8) ≡ false)
     × (ackIn (fresh .rows) ≡ 0)
     × (stopsWith (fresh .rows) 1 true 0 (nines 2) (nines 96) ≡ false)
-unfolding beginBy begins begunRun carriesLow countsOn dueIn fetchFits fetchRows fits flagged frameAnswer frameFits frameRows frameStore frames freshPort freshPorts gainedRun gatherBy groupAt groupOf groupRow inStep inStepAt outputFor portRows portsIn putGroup putMarks putMember putPackets putRow putStep ready refusalBy rowIn rowsFit rowsIfDue runOn secondRun settledBy settledOf sized sizedFits sizedRows startAsRows startFits startRight startsCount stepAt stepOf stepRow stopBy storeBy storeFor tagByHigh tagByLow tags takenOf takenRows takenStore timesWithin
+unfolding beginBy begins begunRun carriesLow countsOn dueIn fetchFits fetchRows fits flagged frameAnswer frameFits frameRows frameStore frames freshPort freshPorts gainedRun gatherBy groupAt groupOf groupRow inStep inStepAt outputFor portRows portsIn putGroup putMarks putMember putPackets putRow putStep ready refusalBy rowIn rowsFit rowsIfDue runOn h4RunOn secondRun settledBy settledOf knownKind sized sizedFits sizedRows startAsRows startFits payloadRight startRight startSized startsCount stepAt stepOf stepRow stopBy storeBy storeFor tagByHigh tagByLow tags takenOf takenRows takenStore timesWithin
 calls = (refl, refl, refl, refl, refl, refl, refl)
 
 -- what five calls answer and leave
@@ -96,12 +96,12 @@ outcomes :
     ∷ record { answer = 1; store = nines 96; out = []; report = [] }
     ∷ record { answer = 12; store = nines 96; out = []; report = [] }
     ∷ []
-unfolding beginBy begins begunRun countsOn dueIn fetchAnswer fetchFits fetchOut fetchRecord fetchRows fits flagged frameAnswer frameFits frameRows frames frameStore freshPort freshPorts gainedRun gatherBy groupAt groupOf groupRow inStepAt outIfDue outputFor portRows portsIn putGroup putMarks putMember putPackets putRow putStep ready recordOf refusalBy reportIfDue rowIn rowsFit rowsIfDue runOn settledBy settledOf sized sizedFits sizedRows startAsRows startFits startRight startsCount stepAt stepOf stepRow stopBy storeBy storeFor tags takenOf takenRows takenStore timesWithin
+unfolding beginBy begins begunRun countsOn dueIn fetchAnswer fetchFits fetchOut fetchRecord fetchRows fits flagged frameAnswer frameFits frameRows frames frameStore freshPort freshPorts gainedRun gatherBy groupAt groupOf groupRow inStepAt outIfDue outputFor portRows portsIn putGroup putMarks putMember putPackets putRow putStep ready recordOf refusalBy reportIfDue rowIn rowsFit rowsIfDue runOn h4RunOn settledBy settledOf knownKind sized sizedFits sizedRows startAsRows startFits payloadRight startRight startSized startsCount stepAt stepOf stepRow stopBy storeBy storeFor tags takenOf takenRows takenStore timesWithin
 outcomes = refl
 
 -- a port's state, its number, its times and the counter
 standing : waitingIn (memberAt (startedWith 0 2 2 16 (3 ∷ 4 ∷ []) (5 ∷ 6 ∷ []) (replicate 11 (replicate 16 0)) (nines 96) .rows) 1) ≡ 0 ∷ 255 ∷ 4 ∷ 6 ∷ 0 ∷ []
-unfolding frames freshPort freshPorts idleNumber memberAt memberOf memberRow putGroup putMarks putMember putPackets putRow putStep rowIn sized sizedFits sizedRows startAsRows startFits startRight tags timesWithin
+unfolding frames freshPort freshPorts idleNumber memberAt memberOf memberRow putGroup putMarks putMember putPackets putRow putStep rowIn knownKind sized sizedFits sizedRows startAsRows startFits payloadRight startRight startSized tags timesWithin
 standing = refl
 
 -- a receiver in the midst of receiving, none of whose ports is in step; count, P and RS-Ack have numbers of their own
@@ -136,14 +136,14 @@ reports :
     × (reportsOf (receiving 1 1) (Fetch (nines 96) (nines 8) ∷ Fetch (nines 95) (nines 8) ∷ Fetch (nines 96) (nines 8) ∷ []) ≡ 255 ∷ 0 ∷ [])
     × (reportsOf (receiving 1 1) (Frame 2 false 0x30 (nines 3) ∷ Fetch (nines 96) (nines 8) ∷ []) ≡ 255 ∷ [])
     × (ackIn (receiving 1 1 .rows) ≡ 1)
-unfolding begunRun brought carriesLow countsOn dueIn epochAfter epochs fetchFits fetchRows fits frameAnswer frameFits frameRows frames frameStore freshPort freshPorts gainedRun groupAt groupOf groupRow inStep inStepAt outputFor owesNothing passedGroup passedOf passedPort passedPorts passedStep portsIn putGroup putMarks putMember putPackets putRow putStep readable refusalBy reportBy reportedOf reportIfDue reportOf rowIn rowsFit rowsIfDue runOn secondRun sized sizedFits sizedRows startAsRows startFits startRight startsCount statePut statesPut statesWorkedOut stepAt stepOf stepRow storeFor tagByHigh tagByLow tags takenOf takenRows takenStore timesWithin
+unfolding begunRun brought carriesLow countsOn dueIn epochAfter epochs fetchFits fetchRows fits frameAnswer frameFits frameRows frames frameStore freshPort freshPorts gainedRun groupAt groupOf groupRow inStep inStepAt outputFor owesNothing passedGroup passedOf passedPort passedPorts passedStep portsIn putGroup putMarks putMember putPackets putRow putStep readable refusalBy reportBy reportedOf reportIfDue reportOf rowIn rowsFit rowsIfDue runOn h4RunOn secondRun knownKind sized sizedFits sizedRows startAsRows startFits payloadRight startRight startSized startsCount statePut statesPut statesWorkedOut stepAt stepOf stepRow storeFor tagByHigh tagByLow tags takenOf takenRows takenStore timesWithin
 reports = (refl, refl, refl, refl, refl, refl, refl, refl, refl, refl)
 
 -- the same with port 0 in step and joined
 abbrev joined : List (List ℕ)
 joined =
     putStep (receiving 1 0 .rows) 0
-    (record { spare = replicate 5 0; had = 1; failed = 0; count = 32; next = 853; joined = 1; since = 0; later = 0; whole = 0; breaks = 0; odd = 0 })
+    (record { spare = replicate 4 0; had = 1; failed = 0; count = 32; next = 853; joined = 1; since = 0; later = 0; whole = 0; breaks = 0; odd = 0; bits = 0 })
 
 -- a frame after which no port is readable, flagged or not; none that is refused, none where receiving has not begun, and none that leaves another port readable
 stops :
@@ -155,15 +155,15 @@ stops :
     × (stopsWith (receiving 0 1 .rows) 1 false 0x30 (nines 3) (nines 128) ≡ false)
     × (stopsWith joined 1 true 0x30 (nines 3) (nines 128) ≡ false)
     × (stopsWith joined 0 true 0x30 (nines 3) (nines 128) ≡ true)
-unfolding begunRun carriesLow countsOn flagged frameFits frames freshPort freshPorts gainedRun groupAt groupOf groupRow inStep inStepAt outputFor portRows portsIn putGroup putMarks putMember putPackets putRow putStep readable ready refusalBy rowIn rowsFit runOn secondRun silent sized sizedFits sizedRows startAsRows startFits startRight startsCount stepAt stepOf stepRow storeFor tagByHigh tagByLow tags takenOf timesWithin
+unfolding begunRun carriesLow countsOn flagged frameFits frames freshPort freshPorts gainedRun groupAt groupOf groupRow inStep inStepAt outputFor portRows portsIn putGroup putMarks putMember putPackets putRow putStep readable ready refusalBy rowIn rowsFit runOn h4RunOn secondRun silent knownKind sized sizedFits sizedRows startAsRows startFits payloadRight startRight startSized startsCount stepAt stepOf stepRow storeFor tagByHigh tagByLow tags takenOf timesWithin
 stops = (refl, refl, refl, refl, refl, refl, refl, refl)
 
 unstopped : Unstopped (receiving 1 1) (Frame 2 false 0x30 (nines 3) ∷ Fetch (nines 95) (nines 8) ∷ [])
-unfolding begunRun carriesLow countsOn flagged frameFits frames freshPort freshPorts gainedRun groupAt groupOf groupRow inStep inStepAt outputFor portRows portsIn putGroup putMarks putMember putPackets putRow putStep readable ready refusalBy rowIn rowsFit runOn secondRun silent sized sizedFits sizedRows startAsRows startFits startRight startsCount stepAt stepOf stepRow storeFor tagByHigh tagByLow tags takenOf timesWithin
+unfolding begunRun carriesLow countsOn flagged frameFits frames freshPort freshPorts gainedRun groupAt groupOf groupRow inStep inStepAt outputFor portRows portsIn putGroup putMarks putMember putPackets putRow putStep readable ready refusalBy rowIn rowsFit runOn h4RunOn secondRun silent knownKind sized sizedFits sizedRows startAsRows startFits payloadRight startRight startSized startsCount stepAt stepOf stepRow storeFor tagByHigh tagByLow tags takenOf timesWithin
 unstopped = (refl, tt)
 
 stopped : Unstopped (receiving 1 0) (Fetch (nines 95) (nines 8) ∷ Frame 1 false 0x30 (nines 3) ∷ []) → ⊥
-unfolding begunRun carriesLow countsOn fetchFits fetchRows fits flagged frameFits frames freshPort freshPorts gainedRun groupAt groupOf groupRow inStep inStepAt outputFor portRows portsIn putGroup putMarks putMember putPackets putRow putStep readable ready refusalBy rowIn rowsFit runOn secondRun silent sized sizedFits sizedRows startAsRows startFits startRight startsCount stepAt stepOf stepRow storeFor tagByHigh tagByLow tags takenOf timesWithin
+unfolding begunRun carriesLow countsOn fetchFits fetchRows fits flagged frameFits frames freshPort freshPorts gainedRun groupAt groupOf groupRow inStep inStepAt outputFor portRows portsIn putGroup putMarks putMember putPackets putRow putStep readable ready refusalBy rowIn rowsFit runOn h4RunOn secondRun silent knownKind sized sizedFits sizedRows startAsRows startFits payloadRight startRight startSized startsCount stepAt stepOf stepRow storeFor tagByHigh tagByLow tags takenOf timesWithin
 stopped u = false≢true (sym (u .0))
 
 -- frames of port 0 and a fetch, none of port 1

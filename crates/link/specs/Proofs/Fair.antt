@@ -5,8 +5,8 @@ use mathlib.Core.List.{List, _∷_, _++_}
 use Prim.Native.Nat.{ℕ, _+_, _-_, _*_, _≤_, _<_}
 use lib.ListN.{length}
 use Rattle.packet.specs.Kinds.{startsEpoch}
-use Rattle.phases.specs.Sizes.{sized}
-use Rattle.receiver.specs.Laws.Sizes.{Sizes, sizes-of}
+use Rattle.phases.specs.Sizes.{startSized}
+use Rattle.receiver.specs.Laws.Sizes.{Sizes, start-sizes-of}
 use Rattle.step.specs.Laws.Sent.{KeptAs, SentWith}
 use Rattle.step.specs.OwnCount.{oddPacket}
 use Rattle.link.specs.Moments.{Unready}
@@ -15,7 +15,7 @@ use Rattle.link.specs.Road.{Below, L, Road, times}
 
 pub record Fair (r : Road) : Type 0 where
   -- 01, 'Numbers that bound the work'
-  pub sizes : sized (r .kind) (r .ports) (r .payload) (r .window) ≡ true
+  pub sizes : startSized (r .kind) (r .ports) (r .payload) (r .window) ≡ true
   -- what lines never change comes as sent
   pub placed : (p x : ℕ) → p < r .ports → r .first p ≤ x → KeptAs (r .kind) (r .offset + x) (r .h4 p x)
   -- and with it MFI2, of every frame that is handed before receiving has begun, and of the one with which it begins
@@ -35,4 +35,4 @@ pub record Fair (r : Road) : Type 0 where
   pub starts : startsEpoch (r .kind) (r .offset) ≡ true
 
 pub sizes-in : (r : Road) → Fair r → Sizes (r .kind) (r .ports) (r .payload) (r .window)
-sizes-in r f = sizes-of (r .kind) (r .ports) (r .payload) (r .window) (f .sizes)
+sizes-in r f = start-sizes-of (r .kind) (r .ports) (r .payload) (r .window) (f .sizes)

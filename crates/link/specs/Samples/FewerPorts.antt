@@ -11,9 +11,9 @@ use Rattle.ground.specs.Finite.{below-at}
 use Rattle.ground.specs.Plain.{if_then_else_, _==_, _<?_}
 use Rattle.ground.specs.Table.{length-tabulate, tabulate}
 use Rattle.ground.specs.Truth.{le-or-lt}
-use Rattle.packet.specs.Kinds.{epochs, frames, tags}
+use Rattle.packet.specs.Kinds.{epochs, frames, payloadRight, tags}
 use Rattle.packet.specs.Words.{IDLE}
-use Rattle.phases.specs.Sizes.{sized}
+use Rattle.phases.specs.Sizes.{knownKind, sized, startSized}
 use Rattle.sender.specs.Board.{boardOf}
 use Rattle.sender.specs.declared.epochs.Sender.{Sender}
 use Rattle.sender.specs.Calls.{Call}
@@ -134,7 +134,8 @@ unfolding epochs
 allowed = record { lcas = refl; some = omega arith; most = omega arith; first = omega arith; gid = λ i. omega arith; mst = λ i. omega arith; ack = λ i. omega arith }
 
 handed : Handed history 1 client
-handed = record { least = omega arith; most = omega arith; whole = λ x. length-tabulate (xAt history (epochAt 0 x) * 1) (λ j. (x * 2 + j) % 256) }
+unfolding payloadRight
+handed = record { least = omega arith; most = omega arith; payload-right = refl; whole = λ x. length-tabulate (xAt history (epochAt 0 x) * 1) (λ j. (x * 2 + j) % 256) }
 
 late : (b : Bool) → (if b then 4 else 0) ≤ 4
 late true = omega arith
@@ -146,7 +147,7 @@ first-from false = omega arith
 
 -- It meets what demand 3 over any sending side lets be so, with 57 as the earliest position.
 met : AssumedOver link
-unfolding sized frames tags
+unfolding knownKind sized frames tags payloadRight startSized
 met =
     record {
       lawful = histories-lawful history allowed 1 client handed unranked (λ x slot b. refl);

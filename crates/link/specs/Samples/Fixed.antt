@@ -7,8 +7,8 @@ use native.Mathlib.Omega.{arith}
 use lib.ListN.{length-replicate, replicate}
 use Rattle.ground.specs.Table.{tabulate}
 use Rattle.judge.specs.Verdict.{SURE}
-use Rattle.packet.specs.Kinds.{epochs, frames, tags}
-use Rattle.phases.specs.Sizes.{sized}
+use Rattle.packet.specs.Kinds.{epochs, frames, payloadRight, tags}
+use Rattle.phases.specs.Sizes.{knownKind, sized, startSized}
 use Rattle.link.specs.Demand3.{Demand3}
 use Rattle.link.specs.FixedGroup.{AssumedFixed, FixedGroup, Numbered, fixedSent, sendingFixed}
 use Rattle.link.specs.Link.{Link, expected}
@@ -59,7 +59,7 @@ once (suc (suc zero)) h = refl
 once (suc (suc (suc p))) h = absurd (omega arith)
 
 met : AssumedFixed link
-unfolding sized frames tags
+unfolding knownKind sized frames tags payloadRight startSized
 met =
     record {
       group = group;

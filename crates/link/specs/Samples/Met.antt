@@ -12,10 +12,10 @@ use Rattle.ground.specs.Plain.{if_then_else_, _==_, _<?_}
 use Rattle.ground.specs.Table.{length-tabulate}
 use Rattle.ground.specs.Truth.{and-left, and-right, or-cases}
 use Rattle.packet.specs.Changes.{bringsMfi2, changed, keptPart, mostChanges}
-use Rattle.packet.specs.Kinds.{epochs, frames, lead, tags}
+use Rattle.packet.specs.Kinds.{epochs, frames, lead, payloadRight, tags}
 use Rattle.packet.specs.Layout.{highsOf}
 use Rattle.packet.specs.Symbols.{symbolOf}
-use Rattle.phases.specs.Sizes.{sized}
+use Rattle.phases.specs.Sizes.{knownKind, sized, startSized}
 use Rattle.link.specs.Assumed.{Assumed}
 use Rattle.link.specs.History.{Allowed, xAt}
 use Rattle.link.specs.Link.{Arrived, BringsMfi2, Damaged}
@@ -90,7 +90,7 @@ only false = (omega arith, (omega arith, tt))
 -- all but the spread, for all group frames that are long enough, for every delay of port 0 and for every order of the ports
 pub met-by : (client : Client) → ((x : ℕ) → length (client x) ≡ xAt history (epochAt 0 x) * 1) → (late : ℕ) (lateFirst : ℕ → Bool)
     → ((p q : ℕ) → p < 2 → q < 2 → (if p == 0 then late else 0) + frames 0 ≤ (if q == 0 then late else 0) + 20) → Assumed (linkBy client late lateFirst)
-unfolding sized frames tags mostChanges
+unfolding knownKind sized frames tags mostChanges payloadRight startSized
 met-by client whole late lateFirst spread =
     record {
       history = history;

@@ -14,11 +14,11 @@ use Rattle.ground.specs.Table.{length-tabulate}
 use Rattle.ground.specs.Truth.{and-left, and-right}
 use Rattle.judge.specs.Verdict.{HELD, SURE}
 use Rattle.packet.specs.Changes.{bringsMfi2, changed, keptPart, mostChanges}
-use Rattle.packet.specs.Kinds.{firstTag, frames, lead, tags}
+use Rattle.packet.specs.Kinds.{firstTag, frames, lead, payloadRight, tags}
 use Rattle.packet.specs.Layout.{highsOf}
 use Rattle.packet.specs.Symbols.{packetRow, symbolOf}
-use Rattle.phases.specs.Sizes.{sized}
-use Rattle.step.specs.Laws.Run.{startFrom}
+use Rattle.phases.specs.Sizes.{knownKind, sized, startSized}
+use Rattle.step.specs.Laws.Positions.{startFrom}
 use Rattle.step.specs.OwnCount.{ownNumber}
 use Rattle.link.specs.Assumed.{Assumed}
 use Rattle.link.specs.Demand3.{Demand3}
@@ -170,7 +170,7 @@ spared-after t p done un brings = go (epochAt 0 x == 3 && p == 1) refl
 met-with : (hits : ℕ → ℕ → List ℕ) → ((i p : ℕ) → Arrived 0 3 (sent i p) (hits i p))
     → ((t p : ℕ) (done : List ℕ) → Unready (roadOf (linkOf hits client 4 (λ t. t % 2 == 0))) t done → NumberKept (linkOf hits client 4 (λ t. t % 2 == 0)) t p)
     → Assumed (linkOf hits client 4 (λ t. t % 2 == 0))
-unfolding sized frames tags mostChanges
+unfolding knownKind sized frames tags mostChanges payloadRight startSized
 met-with hits arrived spared =
     record {
       history = history;

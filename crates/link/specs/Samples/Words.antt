@@ -7,13 +7,13 @@ use lib.ListN.{length, replicate}
 use Rattle.ground.specs.Plain.{if_then_else_, _==_, _<?_}
 use Rattle.ground.specs.Table.{tabulate}
 use Rattle.judge.specs.Verdict.{doubtfulBy, eosWrong, gidDiffers, heldBy, judgeOf, lcasVerdict, missing, repeats}
-use Rattle.packet.specs.Counts.{counts, startsCount}
-use Rattle.packet.specs.Kinds.{epochAfter, epochOf, epochs, firstTag, frames, idleNumber, lead, mstFails, mstFirst, mstNumbers, tagBefore, tags}
+use Rattle.packet.specs.Counts.{counts, h4Counts, startsCount}
+use Rattle.packet.specs.Kinds.{epochAfter, epochOf, epochs, firstTag, frames, idleNumber, lead, mstEpochs, mstFails, mstFirst, mstNumbers, payloadRight, tagBefore, tags}
 use Rattle.packet.specs.Layout.{fieldsOf}
 use Rattle.packet.specs.Symbols.{entryAt, entryFrom, entryWith, rowFrom, symbolOf, withSymbol}
 use Rattle.phases.specs.Due.{brought, owesNothing}
 use Rattle.phases.specs.Passing.{passedGroup, passedOf, passedPort, passedPorts, passedStep, ruledBy}
-use Rattle.phases.specs.Sizes.{portsIn, sized, storeFor}
+use Rattle.phases.specs.Sizes.{knownKind, portsIn, sized, startSized, storeFor}
 use Rattle.receiver.specs.Fetch.{dueIn, fetchRecord, fetchRows, fits, recordOf, reportIfDue, rowsIfDue}
 use Rattle.receiver.specs.Frame.{frameAnswer, refusalBy}
 use Rattle.receiver.specs.Lengths.{fetchFits, frameFits, outputFor, rowsFit}
@@ -32,10 +32,10 @@ use Rattle.sender.specs.Epochs.{beginOf, freshSender, packetFields, payloadByte
 use Rattle.sender.specs.Ranks.{carriersIn, rankAt, rankOf as rankSent}
 use Rattle.sender.specs.Reports.{actedOn, comesBefore, mstApplied, numberAfter, numberApplied, opensWait, renumbered, reportOf as reportHeard, slotAfter, turnOf, waited}
 use Rattle.sender.specs.Table.{holderOf, membersOf, sizeOf}
-use Rattle.step.specs.Laws.Run.{startFrom}
+use Rattle.step.specs.Laws.Positions.{startFrom}
 use Rattle.step.specs.Arrival.{arrives, countsOn, frameDropped, inStep, readable, takenOf}
 use Rattle.step.specs.OwnCount.{ownNumber, ownRuling}
-use Rattle.step.specs.Run.{begunRun, furtherRun, gainedRun, inStepAt, runOn}
+use Rattle.step.specs.Run.{begunRun, furtherRun, gainedRun, h4RunOn, inStepAt, runOn}
 use Rattle.store.specs.Frames.{byteAt, h4At, packetIn, placeIn, ringOf}
 use Rattle.store.specs.Marks.{firstMark, passedByte, passedMarks}
 use Rattle.link.specs.FixedGroup.{sendingFixed}
@@ -88,7 +88,7 @@ sent-words :
     × (sending .payload 16 2 ≡ 11 ∷ 13 ∷ [])
     × (sending .payload 16 0 ≡ 0xD0 ∷ 16 ∷ [])
     × (sending .payload 15 1 ≡ 0xD1 ∷ 15 ∷ [])
-unfolding actedOn addOf addedTo beginOf boardOf carriersIn comesBefore epochAfter epochs fallen fallenIn frames freshOf freshSender hasRank highestSent holderOf idleNumber idleSlot lapseOf membersOf mstApplied mstFails mstFirst mstNumbers noRow numberAfter numberApplied opensWait packetFields payloadBytes payloadSent rankAt rankSent removeOf removedFrom renumbered reportHeard rowOf rowsOf senderAt sizeOf slotAfter startEpochOf startOf startedEpoch startedSender turnOf waited
+unfolding actedOn addOf addedTo beginOf boardOf carriersIn comesBefore epochAfter epochs fallen fallenIn frames freshOf freshSender hasRank highestSent holderOf idleNumber idleSlot lapseOf membersOf mstApplied mstFails mstFirst mstEpochs mstNumbers noRow numberAfter numberApplied opensWait packetFields payloadBytes payloadRight payloadSent rankAt rankSent removeOf removedFrom renumbered reportHeard rowOf rowsOf senderAt sizeOf slotAfter startEpochOf startOf startedEpoch startedSender turnOf waited
 sent-words = (refl, refl, refl, refl, refl, refl, refl, refl, refl, refl, refl, refl, refl, refl, refl, refl, refl, refl, refl, refl)
 
 -- two slots of a fixed group, slot 0 with number 1
@@ -153,7 +153,7 @@ road-words :
     × (saysOne road 10 1 ≡ [])
     × (saysOne road 11 1 ≡ 12 ∷ [])
     × (says road 8 (1 ∷ 0 ∷ []) ≡ 12 ∷ [])
-unfolding actedOn addOf addedTo allAsSent beginOf boardOf carriersIn comesBefore coming epochAfter epochNumber epochs expected fallen fallenIn firstTag frames framesOf freshOf freshSender hasRank highestSent holderOf idleNumber idleSlot lapseOf lead membersOf mstApplied mstFails mstFirst mstNumbers nextAt noRow numberAfter numberApplied opensWait packetFields payloadBytes payloadSent rankAt rankSent removeOf removedFrom renumbered reportHeard roadOf rowOf rowsOf senderAt sizeOf slotAfter startEpochOf startFrom startOf startedEpoch startedSender tags turnOf waited
+unfolding actedOn addOf addedTo allAsSent beginOf boardOf carriersIn comesBefore coming epochAfter epochNumber epochs expected fallen fallenIn firstTag frames framesOf freshOf freshSender hasRank highestSent holderOf idleNumber idleSlot lapseOf lead membersOf mstApplied mstFails mstFirst mstEpochs mstNumbers nextAt noRow numberAfter numberApplied opensWait packetFields payloadBytes payloadRight payloadSent rankAt rankSent removeOf removedFrom renumbered reportHeard roadOf rowOf rowsOf senderAt sizeOf slotAfter startEpochOf startFrom startOf startedEpoch startedSender tags turnOf waited
 road-words = (refl, refl, refl, refl, refl, refl, refl, refl, refl, refl, refl, refl, refl, refl, refl, refl, refl, refl, refl, refl, refl)
 
 abbrev zeros : ℕ → List ℕ
@@ -163,7 +163,7 @@ zeros n = replicate n 0
 abbrev step : ℕ → ℕ → Step
 step count next =
     record {
-      spare = zeros 5;
+      spare = zeros 4;
       had = 1;
       failed = 0;
       count = count;
@@ -174,6 +174,7 @@ step count next =
       whole = 0;
       breaks = 0;
       odd = 0;
+      bits = 0;
     }
 
 -- a fresh receiver of this road
@@ -231,5 +232,5 @@ run-words :
     × (length (drained alone 1 both-due .told) ≡ 1)
     × (length (drained alone 2 both-due .told) ≡ 2)
     × (length (drained alone 3 both-due .told) ≡ 2)
-unfolding arrives beginOf begunRun boardOf brought byteAt counts countsOn doubtfulBy drained dueIn eosWrong epochAfter epochOf epochs fetchFits fetchRecord fetchRows fetched fieldsOf firstMark firstTag fits frameAnswer frameDropped frameFits framed frames fresh freshOf freshPort freshPorts freshSender furtherRun gainedRun gidDiffers groupAt groupOf groupRow h4At hasRank heldBy idleSlot inStep inStepAt judgeOf lcasVerdict lead marksAt missing entryAt entryFrom entryWith rowFrom symbolOf withSymbol outputFor owesNothing ownNumber ownRuling packetIn packetsAt passedByte passedGroup passedMarks passedOf passedPort passedPorts passedStep placeIn portsIn putGroup putMarks putMember putPackets putRow putStep rankAt readable recordOf refusalBy repeats reportBy reportIfDue reportSeen reportedOf ringOf roadOf rowIn rowOf rowsFit rowsIfDue rowsOf ruledBy rulingEpoch runOn seenAll seenOf senderAt sizeOf sized sizedFits sizedRows startAsRows startEpochOf startFits startOf startRight startedSender startsCount statePut statesPut statesWorkedOut stepAt stepOf stepRow storeFor tagBefore tags takenOf timesWithin
+unfolding arrives beginOf begunRun boardOf brought byteAt counts h4Counts countsOn doubtfulBy drained dueIn eosWrong epochAfter epochOf epochs fetchFits fetchRecord fetchRows fetched fieldsOf firstMark firstTag fits frameAnswer frameDropped frameFits framed frames fresh freshOf freshPort freshPorts freshSender furtherRun gainedRun gidDiffers groupAt groupOf groupRow h4At hasRank heldBy idleSlot inStep inStepAt judgeOf lcasVerdict lead marksAt missing entryAt entryFrom entryWith rowFrom symbolOf withSymbol outputFor owesNothing ownNumber ownRuling packetIn packetsAt passedByte passedGroup passedMarks passedOf passedPort passedPorts passedStep placeIn portsIn putGroup putMarks putMember putPackets putRow putStep rankAt readable recordOf refusalBy repeats reportBy reportIfDue reportSeen reportedOf ringOf roadOf rowIn rowOf rowsFit rowsIfDue rowsOf ruledBy rulingEpoch runOn h4RunOn seenAll seenOf senderAt sizeOf knownKind sized sizedFits sizedRows startAsRows startEpochOf startFits startOf payloadRight startRight startSized startedSender startsCount statePut statesPut statesWorkedOut stepAt stepOf stepRow storeFor tagBefore tags takenOf timesWithin
 run-words = (refl, refl, refl, refl, refl, refl, refl, refl)

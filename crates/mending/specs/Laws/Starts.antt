@@ -14,8 +14,8 @@ use Rattle.mending.specs.declared.opening.Start.{Start}
 use Rattle.mending.specs.Laws.Reads.{LiesAt, ending, lies-ending, lies-unended, unended}
 use Rattle.mending.specs.Lines.{Line, judged, lineText, linesWith, mendedLines, textOf}
 use Rattle.mending.specs.Mending.{answerBy, fitting, mendedBy, mendedIn, mendedOf, notesBy, notesFrom, notesIn, notesOf, openingOf, readAnswer}
-use Rattle.phases.specs.Sizes.{sized}
-use Rattle.receiver.specs.Laws.Sizes.{sizes-of}
+use Rattle.phases.specs.Sizes.{startSized}
+use Rattle.receiver.specs.Laws.Sizes.{start-sizes-of}
 use Rattle.receiver.specs.Starting.{timesWithin}
 use Rattle.recording.specs.declared.pairs.Settings.{Settings}
 use Rattle.recording.specs.Laws.Lines.{line-opens, opensTo}
@@ -48,7 +48,7 @@ abbrev pub timesBoth : Settings → Bool
 timesBoth s = timesWithin (take (s .ports) (s .«hold_off»)) && timesWithin (take (s .ports) (s .restore))
 
 abbrev pub isSized : Settings → Bool
-isSized s = sized (s .kind) (s .ports) (s .size) (s .window)
+isSized s = startSized (s .kind) (s .ports) (s .size) (s .window)
 
 pub fits-not : (s : Settings) → isSized s ≡ false → false ≡ fitting s
 unfolding fitting
@@ -59,7 +59,7 @@ unfolding fitting
 fits-by s t = rw t
 
 pub few-ports : (s : Settings) → isSized s ≡ true → s .ports ≤ 64
-few-ports s t = sizes-of (s .kind) (s .ports) (s .size) (s .window) t .few-ports
+few-ports s t = start-sizes-of (s .kind) (s .ports) (s .size) (s .window) t .few-ports
 
 fitting-sized : (s : Settings) → fitting s ≡ true → isSized s ≡ true
 unfolding fitting

@@ -1,21 +1,31 @@
--- What the H4 byte of a frame as sent says: MFI1, and at MFI1 0 and 1 a nibble of MFI2. These laws meet the layout of the kind's packet.
-use mathlib.Core.Path.{_≡_, _∙_, ap}
+-- What a frame's byte says of its count as sent, of H4 and of VC-12. These laws meet the layout of the kind's packet.
+use mathlib.Core.Path.{_≡_, refl, sym, _∙_, ap}
 use mathlib.Core.Logic.{⊎-elim, _≢_}
-use mathlib.Core.Bool.{Bool, true, false, _&&_, not, _||_}
-use Prim.Native.Nat.{ℕ, _+_, _*_, _/_, _%_, _<_}
+use mathlib.Core.Bool.{Bool, true, false, cond, _&&_, not, _||_, false≢true, true≢false}
+use Prim.Native.Nat.{ℕ, zero, suc, _+_, _-_, _*_, _/_, _%_, _^_, _<_}
 use native.Mathlib.Omega.{arith}
-use lib.Dec.{eqb}
+use lib.Dec.{eqb, ltb}
 use lib.ListN.{getD}
-use borrow.Author.Tests.{eq-eqb, ne-eqb, eqb-true}
+use borrow.Author.Tests.{eq-eqb, ne-eqb, eqb-true, lt-ltb, ltb-true, not-false, not-true}
 use Rattle.ground.specs.Truth.{and-left, and-right, and-true, eq-or-ne, or-left, or-right}
-use Rattle.packet.specs.Counts.{carriesLow, counts, nibbleIn, nibblePlace, startsCount, tagByHigh, tagByLow}
+use Rattle.packet.specs.Clock.{h4-clock}
+use Rattle.packet.specs.Counts.{carriesLow, counts, h4Counts, saysStart, startsCount, tagByHigh, tagByLow, toldBits, vc12Counts}
 use Rattle.packet.specs.declared.layout.Fields.{Fields}
-use Rattle.packet.specs.Kinds.{epochOf, frames, lead, placeOf, tagAfter, tagBefore, tags}
-use Rattle.packet.specs.Laws.Distances.{place-back}
+use Rattle.packet.specs.Kinds.{epochOf, frames, lead, placeOf, tagBefore, tags, vc12Kind}
 use Rattle.packet.specs.Layout.{dataOf, h4Of, nibblesOf, sealedOf}
 use Rattle.packet.specs.Theorems.Tags.{place-sent, tagOf}
 
--- The three tests of a right count.
+pub counts-h4 : (kind t h : ℕ) → eqb kind vc12Kind ≡ false → counts kind t h ≡ h4Counts t h
+unfolding counts
+counts-h4 kind t h clock = rw clock refl
+
+pub counts-vc12 : (t h : ℕ) → counts vc12Kind t h ≡ vc12Counts t h
+unfolding counts
+counts-vc12 t h = refl
+
+-- H4.
+
+-- the three tests of a right count
 
 abbrev first : ℕ → ℕ → Bool
 first t h = eqb (h % 16) (t % 16)
@@ -26,20 +36,20 @@ high t h = not (eqb (t % 16) 0) || eqb (h / 16) (t / 256 % 16)
 abbrev low : ℕ → ℕ → Bool
 low t h = not (eqb (t % 16) 1) || eqb (h / 16) (t / 16 % 16)
 
-counts-first : (kind t h : ℕ) → counts kind t h ≡ true → h % 16 ≡ t % 16
-unfolding counts
-counts-first kind t h e =
+counts-first : (t h : ℕ) → h4Counts t h ≡ true → h % 16 ≡ t % 16
+unfolding h4Counts
+counts-first t h e =
     eqb-true (h % 16) (t % 16) (and-left (first t h) (high t h) (and-left (first t h && high t h) (low t h) e))
 
-counts-high : (kind t h : ℕ) → counts kind t h ≡ true → t % 16 ≡ 0 → h / 16 ≡ t / 256 % 16
-unfolding counts
-counts-high kind t h e z =
+counts-high : (t h : ℕ) → h4Counts t h ≡ true → t % 16 ≡ 0 → h / 16 ≡ t / 256 % 16
+unfolding h4Counts
+counts-high t h e z =
     let test : high t h ≡ true = and-right (first t h) (high t h) (and-left (first t h && high t h) (low t h) e) in
     eqb-true (h / 16) (t / 256 % 16) (rw (eq-eqb (t % 16) 0 z) at test)
 
-counts-low : (kind t h : ℕ) → counts kind t h ≡ true → t % 16 ≡ 1 → h / 16 ≡ t / 16 % 16
-unfolding counts
-counts-low kind t h e z =
+counts-low : (t h : ℕ) → h4Counts t h ≡ true → t % 16 ≡ 1 → h / 16 ≡ t / 16 % 16
+unfolding h4Counts
+counts-low t h e z =
     let test : low t h ≡ true = and-right (first t h && high t h) (low t h) e in
     eqb-true (h / 16) (t / 16 % 16) (rw (eq-eqb (t % 16) 1 z) at test)
 
@@ -50,9 +60,9 @@ implied m n p q f =
     (λ (d : m ≢ n). or-left (not (eqb m n)) (eqb p q) (ap not (ne-eqb m n d)))
     (eq-or-ne m n)
 
-counts-by : (kind t h : ℕ) → h % 16 ≡ t % 16 → (t % 16 ≡ 0 → h / 16 ≡ t / 256 % 16) → (t % 16 ≡ 1 → h / 16 ≡ t / 16 % 16) → counts kind t h ≡ true
-unfolding counts
-counts-by kind t h same-first same-high same-low =
+counts-by : (t h : ℕ) → h % 16 ≡ t % 16 → (t % 16 ≡ 0 → h / 16 ≡ t / 256 % 16) → (t % 16 ≡ 1 → h / 16 ≡ t / 16 % 16) → h4Counts t h ≡ true
+unfolding h4Counts
+counts-by t h same-first same-high same-low =
     and-true (first t h && high t h) (low t h)
     (and-true (first t h) (high t h) (eq-eqb (h % 16) (t % 16) same-first) (implied (t % 16) 0 (h / 16) (t / 256 % 16) same-high))
     (implied (t % 16) 1 (h / 16) (t / 16 % 16) same-low)
@@ -63,34 +73,35 @@ counts-by kind t h same-first same-high same-low =
 unfoldable pub toldFirst : ℕ → ℕ → ℕ
 toldFirst kind x = tagOf kind x / 256 * 256 + 1
 
-module _ (kind x h : ℕ) (sent : counts kind (tagOf kind x) h ≡ true) where
+module _ (kind x h : ℕ) (clock : eqb kind vc12Kind ≡ false) (sent : h4Counts (tagOf kind x) h ≡ true) where
   -- a frame with MFI1 0 can be the first of a run
   pub sent-starts : x % frames kind ≡ 0 → startsCount kind h ≡ true
-  unfolding startsCount frames tags
+  unfolding startsCount
   sent-starts z =
-      let e : h % 16 ≡ x % 4096 % 16 = counts-first kind (x % 4096) h sent in
-      eq-eqb (h % 16) 0 (omega arith)
+      h4-clock (λ L E N l. h4Counts (x % N) h ≡ true → x % L ≡ 0 → eqb (h % 16) 0 ≡ true)
+      (λ s y. let e : h % 16 ≡ x % 4096 % 16 = counts-first (x % 4096) h s in eq-eqb (h % 16) 0 (omega arith)) kind clock sent z
 
   pub sent-first : x % frames kind ≡ 0 → tagByHigh kind h ≡ toldFirst kind x
-  unfolding tagByHigh toldFirst frames tags
+  unfolding tagByHigh toldFirst
   sent-first z =
-      let e : h / 16 ≡ x % 4096 / 256 % 16 = counts-high kind (x % 4096) h sent (omega arith) in
-      omega arith
+      h4-clock (λ L E N l. h4Counts (x % N) h ≡ true → x % L ≡ 0 → h / 16 % 16 * 256 + 1 ≡ x % N / 256 * 256 + 1)
+      (λ s y. let e : h / 16 ≡ x % 4096 / 256 % 16 = counts-high (x % 4096) h s (omega arith) in omega arith) kind clock sent z
 
   -- and no other can
   pub sent-starts-not : (x % frames kind ≡ 0 → ⊥) → startsCount kind h ≡ false
-  unfolding startsCount frames tags
+  unfolding startsCount
   sent-starts-not n =
-      let e : h % 16 ≡ x % 4096 % 16 = counts-first kind (x % 4096) h sent in
-      ne-eqb (h % 16) 0 (λ (z : h % 16 ≡ 0). n (omega arith))
+      h4-clock (λ L E N l. h4Counts (x % N) h ≡ true → (x % L ≡ 0 → ⊥) → eqb (h % 16) 0 ≡ false)
+      (λ s m. let e : h % 16 ≡ x % 4096 % 16 = counts-first (x % 4096) h s in ne-eqb (h % 16) 0 (λ (z : h % 16 ≡ 0). m (omega arith))) kind clock sent n
 
 same-low-nibble : (t : ℕ) → t % 16 ≡ 0 → (t + 1) / 16 % 16 % 16 ≡ t / 16 % 16
 same-low-nibble t z = omega arith
 
 -- the tag before the one that it tells of is at its own place
-pub told-place : (kind x : ℕ) → x % frames kind ≡ 0 → placeOf kind (tagBefore kind (toldFirst kind x)) ≡ placeOf kind (tagOf kind x)
-unfolding toldFirst tagBefore placeOf lead frames tags
-told-place kind x z = omega arith
+pub told-place : (kind x : ℕ) → eqb kind vc12Kind ≡ false → x % frames kind ≡ 0 → placeOf kind (tagBefore kind (toldFirst kind x)) ≡ placeOf kind (tagOf kind x)
+unfolding toldFirst tagBefore placeOf
+told-place kind x clock z =
+    h4-clock (λ L E N l. x % L ≡ 0 → ((x % N / 256 * 256 + 1 + (N - 1)) % N + l) % L ≡ (x % N + l) % L) (λ y. omega arith) kind clock z
 
 nibbles-told : (t n : ℕ) → t < 4096 → t % 16 ≡ 0 → n ≡ t / 16 % 16 → (t / 256 * 256 + 1) / 256 % 16 * 256 + n * 16 + 2 ≡ t + 2
 nibbles-told t n below z e =
@@ -98,86 +109,110 @@ nibbles-told t n below z e =
     rw (q, e) (omega arith)
 
 -- the frame after the first has MFI1 1, and the two together tell the tag
-module _ (kind x h : ℕ) (z : x % frames kind ≡ 0) (sent : counts kind (tagOf kind (x + 1)) h ≡ true) where
+module _ (kind x h : ℕ) (clock : eqb kind vc12Kind ≡ false) (z : x % frames kind ≡ 0) (sent : h4Counts (tagOf kind (x + 1)) h ≡ true) where
   pub sent-second : carriesLow kind h ≡ true
-  unfolding carriesLow frames tags
+  unfolding carriesLow
   sent-second =
-      let e : h % 16 ≡ (x + 1) % 4096 % 16 = counts-first kind ((x + 1) % 4096) h sent in
-      eq-eqb (h % 16) 1 (omega arith)
+      h4-clock (λ L E N l. h4Counts ((x + 1) % N) h ≡ true → x % L ≡ 0 → eqb (h % 16) 1 ≡ true)
+      (λ s y. let e : h % 16 ≡ (x + 1) % 4096 % 16 = counts-first ((x + 1) % 4096) h s in eq-eqb (h % 16) 1 (omega arith)) kind clock sent z
 
   pub sent-told : tagByLow kind (toldFirst kind x) h ≡ tagOf kind (x + 1 + 1)
-  unfolding tagByLow toldFirst frames tags
+  unfolding tagByLow toldFirst
   sent-told =
-      let e : h / 16 ≡ (x + 1) % 4096 / 16 % 16 = counts-low kind ((x + 1) % 4096) h sent (omega arith) in
+      h4-clock (λ L E N l. h4Counts ((x + 1) % N) h ≡ true → x % L ≡ 0 → (x % N / 256 * 256 + 1) / 256 % 16 * 256 + h / 16 % 16 * 16 + 2 ≡ (x + 1 + 1) % N)
+      (λ s y.
+      let e : h / 16 ≡ (x + 1) % 4096 / 16 % 16 = counts-low ((x + 1) % 4096) h s (omega arith) in
       let t : (x + 1) % 4096 ≡ x % 4096 + 1 = omega arith in
       let nibble : h / 16 % 16 ≡ x % 4096 / 16 % 16 = rw (e, t) (same-low-nibble (x % 4096) (omega arith)) in
       let two : x % 4096 + 2 ≡ (x + 1 + 1) % 4096 = omega arith in
-      nibbles-told (x % 4096) (h / 16 % 16) (omega arith) (omega arith) nibble ∙ two
-
--- A frame that counts carries the place of its own tag, which is the one before the tag to come.
-
-pub starts-place : (kind h : ℕ) → startsCount kind h ≡ true → placeOf kind (tagBefore kind (tagByHigh kind h)) ≡ nibblePlace kind h
-unfolding startsCount tagByHigh tagBefore placeOf nibblePlace lead frames tags
-starts-place kind h e = let z : h % 16 ≡ 0 = eqb-true (h % 16) 0 e in omega arith
-
-pub counted-place : (kind t h : ℕ) → counts kind t h ≡ true → placeOf kind (tagBefore kind (tagAfter kind t)) ≡ nibblePlace kind h
-unfolding placeOf nibblePlace lead frames
-counted-place kind t h e = let z : h % 16 ≡ t % 16 = counts-first kind t h e in place-back kind t ∙ omega arith
+      nibbles-told (x % 4096) (h / 16 % 16) (omega arith) (omega arith) nibble ∙ two) kind clock sent z
 
 -- the tags that the first two frames tell of are tags, at the second and third frame of a multiframe
-pub high-told : (kind h : ℕ) → (tagByHigh kind h < tags kind) × (tagByHigh kind h % frames kind ≡ 1 % frames kind)
-unfolding tagByHigh tags frames
-high-told kind h = (omega arith, omega arith)
+pub high-told : (kind h : ℕ) → eqb kind vc12Kind ≡ false → (tagByHigh kind h < tags kind) × (tagByHigh kind h % frames kind ≡ 1 % frames kind)
+unfolding tagByHigh
+high-told kind h clock = h4-clock (λ L E N l. (h / 16 % 16 * 256 + 1 < N) × ((h / 16 % 16 * 256 + 1) % L ≡ 1 % L)) (omega arith, omega arith) kind clock
 
-pub low-told : (kind t h : ℕ) → (tagByLow kind t h < tags kind) × (tagByLow kind t h % frames kind ≡ 2 % frames kind)
-unfolding tagByLow tags frames
-low-told kind t h = (omega arith, omega arith)
+pub low-told : (kind t h : ℕ) → eqb kind vc12Kind ≡ false → (tagByLow kind t h < tags kind) × (tagByLow kind t h % frames kind ≡ 2 % frames kind)
+unfolding tagByLow
+low-told kind t h clock =
+    h4-clock (λ L E N l. (t / 256 % 16 * 256 + h / 16 % 16 * 16 + 2 < N) × ((t / 256 % 16 * 256 + h / 16 % 16 * 16 + 2) % L ≡ 2 % L)) (omega arith, omega arith) kind clock
 
 -- The packet of an epoch.
 
 -- the two nibbles of MFI2 in a packet's H4 bytes
-high-sent : (kind : ℕ) (f : Fields) → f .epoch < 256 → getD (h4Of (nibblesOf f)) (lead kind) 0 / 16 ≡ f .epoch / 16
-unfolding h4Of nibblesOf sealedOf dataOf lead
-high-sent kind f b = omega arith
+high-sent : (kind : ℕ) (f : Fields) → eqb kind vc12Kind ≡ false → f .epoch < 256 → getD (h4Of (nibblesOf f)) (lead kind) 0 / 16 ≡ f .epoch / 16
+unfolding h4Of nibblesOf sealedOf dataOf
+high-sent kind f clock b = h4-clock (λ L E N l. getD (h4Of (nibblesOf f)) l 0 / 16 ≡ f .epoch / 16) (omega arith) kind clock
 
-low-sent : (kind : ℕ) (f : Fields) → f .epoch < 256 → getD (h4Of (nibblesOf f)) (lead kind + 1) 0 / 16 ≡ f .epoch % 16
-unfolding h4Of nibblesOf sealedOf dataOf lead
-low-sent kind f b = omega arith
+low-sent : (kind : ℕ) (f : Fields) → eqb kind vc12Kind ≡ false → f .epoch < 256 → getD (h4Of (nibblesOf f)) (lead kind + 1) 0 / 16 ≡ f .epoch % 16
+unfolding h4Of nibblesOf sealedOf dataOf
+low-sent kind f clock b = h4-clock (λ L E N l. getD (h4Of (nibblesOf f)) (l + 1) 0 / 16 ≡ f .epoch % 16) (omega arith) kind clock
 
 -- where they stand, and what the tag's epoch then is
-place-high : (kind t : ℕ) → t % 16 ≡ 0 → placeOf kind t ≡ lead kind
-unfolding placeOf lead frames
-place-high kind t z = omega arith
+place-high : (kind t : ℕ) → eqb kind vc12Kind ≡ false → t % 16 ≡ 0 → placeOf kind t ≡ lead kind
+unfolding placeOf
+place-high kind t clock z = h4-clock (λ L E N l. (t + l) % L ≡ l) (omega arith) kind clock
 
-place-low : (kind t : ℕ) → t % 16 ≡ 1 → placeOf kind t ≡ lead kind + 1
-unfolding placeOf lead frames
-place-low kind t z = omega arith
+place-low : (kind t : ℕ) → eqb kind vc12Kind ≡ false → t % 16 ≡ 1 → placeOf kind t ≡ lead kind + 1
+unfolding placeOf
+place-low kind t clock z = h4-clock (λ L E N l. (t + l) % L ≡ l + 1) (omega arith) kind clock
 
-epoch-high : (kind x : ℕ) → tagOf kind x % 16 ≡ 0 → epochOf kind (tagOf kind x) / 16 ≡ tagOf kind x / 256 % 16
-unfolding epochOf lead frames tags
-epoch-high kind x z = omega arith
+epoch-high : (kind x : ℕ) → eqb kind vc12Kind ≡ false → tagOf kind x % 16 ≡ 0 → epochOf kind (tagOf kind x) / 16 ≡ tagOf kind x / 256 % 16
+unfolding epochOf
+epoch-high kind x clock z = h4-clock (λ L E N l. x % N % 16 ≡ 0 → (x % N + l) % N / L / 16 ≡ x % N / 256 % 16) (λ y. omega arith) kind clock z
 
-epoch-low : (kind x : ℕ) → tagOf kind x % 16 ≡ 1 → epochOf kind (tagOf kind x) % 16 ≡ tagOf kind x / 16 % 16
-unfolding epochOf lead frames tags
-epoch-low kind x z = omega arith
-
-same-place : (kind a b : ℕ) → nibblePlace kind a ≡ nibblePlace kind b → a % 16 ≡ b % 16
-unfolding nibblePlace
-same-place kind a b e = omega arith
+epoch-low : (kind x : ℕ) → eqb kind vc12Kind ≡ false → tagOf kind x % 16 ≡ 1 → epochOf kind (tagOf kind x) % 16 ≡ tagOf kind x / 16 % 16
+unfolding epochOf
+epoch-low kind x clock z = h4-clock (λ L E N l. x % N % 16 ≡ 1 → (x % N + l) % N / L % 16 ≡ x % N / 16 % 16) (λ y. omega arith) kind clock z
 
 -- a packet whose epoch is that of the tag of x: its H4 byte at the tag's place counts as the tag says
-pub counted-as-sent : (kind x : ℕ) (f : Fields) → f .epoch < 256 → f .epoch ≡ epochOf kind (tagOf kind x)
-    → counts kind (tagOf kind x) (getD (h4Of (nibblesOf f)) (placeOf kind (tagOf kind x)) 0) ≡ true
-counted-as-sent kind x f b e =
+pub counted-as-sent : (kind x : ℕ) (f : Fields) → eqb kind vc12Kind ≡ false → f .epoch < 256 → f .epoch ≡ epochOf kind (tagOf kind x)
+    → h4Counts (tagOf kind x) (getD (h4Of (nibblesOf f)) (placeOf kind (tagOf kind x)) 0) ≡ true
+counted-as-sent kind x f clock b e =
     let t : ℕ = tagOf kind x in
-    counts-by kind t (getD (h4Of (nibblesOf f)) (placeOf kind t) 0) (place-sent (nibblesOf f) kind t)
-    (λ (q : t % 16 ≡ 0). ap (λ (k : ℕ). getD (h4Of (nibblesOf f)) k 0 / 16) (place-high kind t q) ∙ high-sent kind f b ∙ ap (λ (n : ℕ). n / 16) e ∙ epoch-high kind x q)
-    (λ (q : t % 16 ≡ 1). ap (λ (k : ℕ). getD (h4Of (nibblesOf f)) k 0 / 16) (place-low kind t q) ∙ low-sent kind f b ∙ ap (λ (n : ℕ). n % 16) e ∙ epoch-low kind x q)
+    counts-by t (getD (h4Of (nibblesOf f)) (placeOf kind t) 0) (place-sent (nibblesOf f) kind t clock)
+    (λ (q : t % 16 ≡ 0). ap (λ (k : ℕ). getD (h4Of (nibblesOf f)) k 0 / 16) (place-high kind t clock q) ∙ high-sent kind f clock b ∙ ap (λ (n : ℕ). n / 16) e ∙ epoch-high kind x clock q)
+    (λ (q : t % 16 ≡ 1). ap (λ (k : ℕ). getD (h4Of (nibblesOf f)) k 0 / 16) (place-low kind t clock q) ∙ low-sent kind f clock b ∙ ap (λ (n : ℕ). n % 16) e ∙ epoch-low kind x clock q)
 
 -- so does a byte with MFI1 as in one that counts, and with its nibble where that is one of MFI2
-pub counts-as : (kind t h g : ℕ) → counts kind t g ≡ true → nibblePlace kind h ≡ nibblePlace kind g
-    → (placeOf kind t ≡ lead kind → nibbleIn kind h ≡ nibbleIn kind g) → (placeOf kind t ≡ lead kind + 1 → nibbleIn kind h ≡ nibbleIn kind g) → counts kind t h ≡ true
-unfolding nibbleIn
-counts-as kind t h g e place same-high same-low =
-    counts-by kind t h (same-place kind h g place ∙ counts-first kind t g e) (λ (z : t % 16 ≡ 0). same-high (place-high kind t z) ∙ counts-high kind t g e z)
-    (λ (z : t % 16 ≡ 1). same-low (place-low kind t z) ∙ counts-low kind t g e z)
+pub counts-as : (kind t h g : ℕ) → eqb kind vc12Kind ≡ false → h4Counts t g ≡ true → h % 16 ≡ g % 16
+    → (placeOf kind t ≡ lead kind → h / 16 ≡ g / 16) → (placeOf kind t ≡ lead kind + 1 → h / 16 ≡ g / 16) → h4Counts t h ≡ true
+counts-as kind t h g clock e same same-high same-low =
+    counts-by t h (same ∙ counts-first t g e) (λ (z : t % 16 ≡ 0). same-high (place-high kind t clock z) ∙ counts-high t g e z)
+    (λ (z : t % 16 ≡ 1). same-low (place-low kind t clock z) ∙ counts-low t g e z)
+
+-- VC-12.
+
+-- the two tests of a right count
+
+abbrev start : ℕ → ℕ → Bool
+start t h = cond (eqb (t % 32) 0) (saysStart h) (not (saysStart h))
+
+abbrev bit : ℕ → ℕ → Bool
+bit t h = not (ltb (t % 32) 5) || eqb (h % 2) (toldBits (t % 1024 / 32) (t % 32) % 2)
+
+told-same : (b c : Bool) → cond b c (not c) ≡ true → c ≡ b
+told-same true c e = e
+told-same false c e = not-true c e
+
+same-told : (b c : Bool) → c ≡ b → cond b c (not c) ≡ true
+same-told true c e = e
+same-told false c e = rw e refl
+
+pub counts-start : (t h : ℕ) → vc12Counts t h ≡ true → saysStart h ≡ eqb (t % 32) 0
+unfolding vc12Counts
+counts-start t h e = told-same (eqb (t % 32) 0) (saysStart h) (and-left (start t h) (bit t h) e)
+
+pub counts-bit : (t h : ℕ) → vc12Counts t h ≡ true → t % 32 < 5 → h % 2 ≡ toldBits (t % 1024 / 32) (t % 32) % 2
+unfolding vc12Counts
+counts-bit t h e l =
+    let test : bit t h ≡ true = and-right (start t h) (bit t h) e in
+    eqb-true (h % 2) (toldBits (t % 1024 / 32) (t % 32) % 2) (rw (lt-ltb (t % 32) 5 l) at test)
+
+pub counts-as-vc12 : (t h : ℕ) → saysStart h ≡ eqb (t % 32) 0 → (t % 32 < 5 → h % 2 ≡ toldBits (t % 1024 / 32) (t % 32) % 2) → vc12Counts t h ≡ true
+unfolding vc12Counts
+counts-as-vc12 t h said told = and-true (start t h) (bit t h) (same-told (eqb (t % 32) 0) (saysStart h) said) (go (ltb (t % 32) 5) refl)
+  where
+    go : (b : Bool) → ltb (t % 32) 5 ≡ b → (not b || eqb (h % 2) (toldBits (t % 1024 / 32) (t % 32) % 2)) ≡ true
+    go true e = eq-eqb (h % 2) (toldBits (t % 1024 / 32) (t % 32) % 2) (told (ltb-true (t % 32) 5 e))
+    go false e = refl

@@ -230,3 +230,16 @@ part-back kind d e f = by (λ L E N l. f + L ≡ e → L * (f / L) ≤ d → L *
 
 pub part-before : (kind d e : ℕ) → frames kind * ((e + 1) / frames kind) ≤ d → frames kind * (e / frames kind) ≤ d
 part-before kind d e = by (λ L E N l. L * ((e + 1) / L) ≤ d → L * (e / L) ≤ d) (λ h. omega arith) (λ h. omega arith) kind
+
+-- an epoch of which a frame is still to come has not ended
+pub still-comes : (kind x : ℕ) → leb (frames kind * (x / frames kind) + frames kind) x ≡ false
+still-comes kind x = lt-leb (frames kind * (x / frames kind) + frames kind) x (by (λ L E N l. x < L * (x / L) + L) (omega arith) (omega arith) kind)
+
+pub later-reached : (kind later x : ℕ) → (later ≢ 0 → frames kind * later < x) → later ≤ x / frames kind
+later-reached kind later x h =
+    ⊎-elim (λ (z : later ≡ 0). let l : later ≤ x / frames kind = omega arith in l)
+    (λ (some : later ≢ 0). by (λ L E N l. L * later < x → later ≤ x / L) (λ m. omega arith) (λ m. omega arith) kind (h some)) (eq-or-ne later 0)
+
+-- an earlier frame of the epoch of another
+pub same-epoch-before : (kind d x : ℕ) → frames kind * (x / frames kind) ≤ d → d < x → (d / frames kind ≡ x / frames kind) × (d % frames kind < x % frames kind)
+same-epoch-before kind d x = by (λ L E N l. L * (x / L) ≤ d → d < x → (d / L ≡ x / L) × (d % L < x % L)) (λ f u. (omega arith, omega arith)) (λ f u. (omega arith, omega arith)) kind

@@ -1,7 +1,7 @@
 -- A written packet with one to three of its 64 bits changed is refused with 5. The low nibbles of the sixteen H4 bytes may be any.
 use mathlib.Core.Path.{_≡_, refl, _∙_, sym, ap}
 use mathlib.Core.List.{List, [], _∷_, _++_, append-nil}
-use Prim.Native.Nat.{ℕ, _*_, _≤_}
+use Prim.Native.Nat.{ℕ, _*_, _≤_, _<_}
 use native.Mathlib.Omega.{arith}
 use borrow.Author.Tests.{eq-eqb, ne-eqb}
 use lib.ListN.{length, getD, take, take-append-drop, drop-of-length-le}
@@ -19,7 +19,7 @@ use Rattle.packet.specs.Laws.Bytes.{bits-append, byte-bits, crc-bits, le
 use Rattle.packet.specs.Laws.Nibbles.{highs-back, packet-nibbles}
 use Rattle.packet.specs.Layout.{byteOf, carriedIn, dataOf, highsOf, nibblesOf, sealedOf}
 use Rattle.packet.specs.Reading.{readAnswer, readNibbles}
-use Rattle.packet.specs.Theorems.Distance.{packet-bits, strong}
+use Rattle.packet.specs.Theorems.Distance.{catches-three, packet-bits}
 use Rattle.packet.specs.Theorems.ReadBack.{length-nibbles, written-as}
 use Rattle.packet.specs.Writing.{writeAnswer, writeBytes}
 
@@ -57,10 +57,10 @@ nibbles-damaged d ns hd hn low high = rw (ne-eqb (crcOf (take 14 ns)) (byteOf a 
 
     refused : crcOf (take 14 ns) ≡ byteOf a b → ⊥
     refused same =
-        caught divisor 64 strong (bitsOf d) (bitsOf (take 14 ns)) (nibbleBits a ++ nibbleBits b)
+        caught divisor 64 4 catches-three (bitsOf d) (bitsOf (take 14 ns)) (nibbleBits a ++ nibbleBits b)
         (length-bits-of d ∙ ap (λ (n : ℕ). n * 4) (hd ∙ sym front) ∙ sym (length-bits-of (take 14 ns))) refl
         (let h = length-bits-of d in omega arith)
-        (rw (packet-bits d, tail) at low) (rw (packet-bits d, tail) at high) (fitted a b (take 14 ns) same)
+        (rw (packet-bits d, tail) at low) (let few : apart (bitsOf (sealedOf d)) (bitsOf ns) < 4 = omega arith in rw (packet-bits d, tail) at few) (fitted a b (take 14 ns) same)
 
 pub sent : (f : Fields) (s : List ℕ) → writeAnswer f s ≡ Done → highsOf (writeBytes f s) ≡ sealedOf (dataOf f)
 unfolding nibblesOf

@@ -6,7 +6,8 @@ use native.Mathlib.Omega.{arith}
 use lib.Dec.{lit<}
 use lib.ListN.{length}
 use Rattle.ground.specs.Bits.{bits}
-use Rattle.ground.specs.Distance.{Strong, four-apart}
+use Rattle.ground.specs.Catching.{Catches, Strong, strong-catches}
+use Rattle.ground.specs.Distance.{sealed-apart}
 use Rattle.ground.specs.Polynomial.{apart, sealed}
 use Rattle.packet.specs.declared.layout.Fields.{Fields}
 use Rattle.packet.specs.Crc.{bitsOf, crcOf, divisor, nibbleBits}
@@ -16,10 +17,13 @@ use Rattle.packet.specs.Laws.Nibbles.{Nibbles, bits-tell, data-nibbles}
 use Rattle.packet.specs.Layout.{dataOf, fieldsOf, nibblesOf, sealedOf}
 use Rattle.packet.specs.Theorems.ReadBack.{fields-back}
 
--- x^8+x^2+x+1 catches up to three changed bits of 64
-pub strong : Strong divisor 64
+strong : Strong divisor 64
 unfolding divisor
-strong = record { some = lit< tt; root = refl; powers = refl; keeps = refl }
+strong = record { firm = record { some = lit< tt; keeps = refl }; root = refl; powers = refl }
+
+-- x^8+x^2+x+1 catches up to three changed bits of 64
+pub catches-three : Catches divisor 64 4
+catches-three = strong-catches divisor 64 strong
 
 -- a packet's bits are its data bits with their check behind them
 pub packet-bits : (d : List ℕ) → bitsOf (sealedOf d) ≡ sealed divisor (bitsOf d)
@@ -36,7 +40,7 @@ pub data-apart : (d e : List ℕ) → Nibbles d → Nibbles e → length d ≡ 1
 unfolding divisor
 data-apart d e nd ne hd he differ =
     rw (packet-bits d, packet-bits e)
-    (four-apart divisor 64 strong (bitsOf d) (bitsOf e)
+    (sealed-apart divisor 64 4 catches-three (bitsOf d) (bitsOf e)
     (length-bits-of d ∙ ap (λ (n : ℕ). n * 4) (hd ∙ sym he) ∙ sym (length-bits-of e))
     (let h = length-bits-of d in omega arith)
     (λ same. differ (bits-tell d e nd ne (hd ∙ sym he) same)))

@@ -1,17 +1,18 @@
--- Tags of positions in an endless count of frames. What stands above cites these laws, and not a kind's numbers: they are stated over the kind, of which there is one today, and proved for two clocks (Clock).
+-- Tags of positions in an endless count of frames. What stands above cites these laws, and not a kind's numbers: they are stated over the kind, and proved for its two clocks (Clock).
 use mathlib.Core.Path.{_≡_, refl}
 use Prim.Native.Nat.{ℕ, suc, _+_, _-_, _*_, _/_, _%_, _≤_, _<_}
 use native.Mathlib.Nat.{add-mod-right, mod-add-mod, mod-lt}
 use native.Mathlib.Omega.{arith}
-use mathlib.Core.Bool.{true}
+use mathlib.Core.Bool.{Bool, true, false, cond}
 use mathlib.Core.List.{List}
 use borrow.Author.Tests.{eq-eqb, eqb-true}
+use lib.Dec.{eqb}
 use lib.ListN.{getD}
 use Rattle.ground.specs.Circle.{after-of, after-lt}
 use Rattle.ground.specs.Table.{getD-tabulate}
-use Rattle.packet.specs.Clock.{by}
+use Rattle.packet.specs.Clock.{by, h4-clock}
 use Rattle.packet.specs.Layout.{h4Of}
-use Rattle.packet.specs.Kinds.{distanceOf, endsEpoch, epochAfter, epochOf, epochs, epochsIn, firstTag, frames, idleNumber, lead, mstFirst, mstNumbers, placeOf, startsEpoch, tagAfter, tagBefore, tags}
+use Rattle.packet.specs.Kinds.{distanceOf, endsEpoch, epochAfter, epochOf, epochs, epochsIn, firstTag, frames, idleNumber, lead, mstEpochs, mstFirst, mstNumbers, placeOf, startsEpoch, tagAfter, tagBefore, tags, vc12Kind}
 
 -- the tag of the x-th frame after one with tag 0
 abbrev pub tagOf : ℕ → ℕ → ℕ
@@ -119,6 +120,10 @@ epoch-before kind c i e =
     by (λ L E N l. (c + l) % L ≡ 0 → (((c + suc i * L) % N + (N - 1)) % N + l) % N / L ≡ ((c + i * L) % N + l) % N / L) (λ z. omega arith) (λ z. omega arith) kind
     (starts-at kind c e)
 
+pub before-first : (kind e : ℕ) → e < epochs kind → epochOf kind (tagBefore kind (firstTag kind (epochAfter kind e))) ≡ e
+unfolding epochOf tagBefore firstTag epochAfter
+before-first kind e = by (λ L E N l. e < E → ((((e + 1) % E * L + (N - l)) % N + (N - 1)) % N + l) % N / L ≡ e) (λ h. omega arith) (λ h. omega arith) kind
+
 -- the frame at place k of the i-th epoch
 pub place-each : (kind e i k : ℕ) → k < frames kind → placeOf kind (tagOf kind (firstTag kind e + (i * frames kind + k))) ≡ k
 unfolding placeOf firstTag
@@ -135,21 +140,30 @@ pub multiframe : (kind m : ℕ) → m < epochs kind → epochOf kind (frames kin
 unfolding epochOf
 multiframe kind m = by (λ L E N l. m < E → (L * m + l) % N / L ≡ m) (λ h. omega arith) (λ h. omega arith) kind
 
--- the nibble of a packet that stands at a tag's place is sent with that tag's MFI1
-pub place-sent : (ns : List ℕ) (kind t : ℕ) → getD (h4Of ns) (placeOf kind t) 0 % 16 ≡ t % 16
-unfolding placeOf lead frames h4Of
-place-sent ns kind t =
-    rw (getD-tabulate 16 (λ i. getD ns i 0 % 16 * 16 + (i + 8) % 16) ((t + 8) % 16) 0 (omega arith)) (omega arith)
+-- the nibble of an H4 packet that stands at a tag's place is sent with that tag's MFI1
+pub place-sent : (ns : List ℕ) (kind t : ℕ) → eqb kind vc12Kind ≡ false → getD (h4Of ns) (placeOf kind t) 0 % 16 ≡ t % 16
+unfolding placeOf h4Of
+place-sent ns kind t clock =
+    h4-clock (λ L E N l. getD (h4Of ns) ((t + l) % L) 0 % 16 ≡ t % 16)
+    (rw (getD-tabulate 16 (λ i. getD ns i 0 % 16 * 16 + (i + 8) % 16) ((t + 8) % 16) 0 (omega arith)) (omega arith)) kind clock
 
 -- the numbers that MST speaks of fit a byte
 pub mst-fits : (kind e : ℕ) → mstFirst kind e + mstNumbers kind ≤ 256
-unfolding mstFirst mstNumbers
-mst-fits kind e = omega arith
+unfolding mstFirst mstNumbers mstEpochs
+mst-fits kind e = go (eqb kind vc12Kind)
+  where
+    go : (b : Bool) → 8 * (e % cond b 8 32) + 8 ≤ 256
+    go true = omega arith
+    go false = omega arith
 
 -- and so does the idle number
 pub idle-fits : (kind : ℕ) → idleNumber kind < 256
 unfolding idleNumber
-idle-fits kind = omega arith
+idle-fits kind = go (eqb kind vc12Kind)
+  where
+    go : (b : Bool) → cond b 63 255 < 256
+    go true = omega arith
+    go false = omega arith
 
 -- a byte holds an epoch's number
 pub epochs-fit : (kind : ℕ) → epochs kind ≤ 256

@@ -2,16 +2,18 @@
 use mathlib.Core.Path.{_≡_, refl}
 use mathlib.Core.Logic.{⊎-elim}
 use mathlib.Core.Bool.{Bool, true, false, cond, _&&_}
+use mathlib.Core.List.{List}
 use Prim.Native.Nat.{ℕ, _*_, _/_, _≤_, _<_}
 use native.Mathlib.Omega.{arith}
 use lib.Dec.{leb}
 use borrow.Author.Tests.{le-ltb, leb-true, lt-ltb}
 use Rattle.ground.specs.Truth.{and-left, and-right, le-or-lt}
 use Rattle.judge.specs.Seen.{sizeOf}
-use Rattle.packet.specs.Kinds.{frames, tags}
+use Rattle.packet.specs.Kinds.{frames, payloadRight, tags}
 use Rattle.packet.specs.Theorems.Tags.{frames-some}
 use Rattle.payload.specs.Answers.{PAYLOAD-MOST}
-use Rattle.phases.specs.Sizes.{knownKind, portsIn, sized}
+use Rattle.phases.specs.Sizes.{knownKind, portsIn, sized, startSized}
+use Rattle.receiver.specs.Starting.{startRight, timesWithin}
 use Rattle.rows.specs.declared.group.Group.{Group}
 
 pub record Sizes (kind count P W : ℕ) : Type 0 where
@@ -76,3 +78,15 @@ some-sized g h = go (sized (g .kind) (g .count) (g .payload) (g .window)) refl h
 -- of 64 ports at most
 pub size-is : (n : ℕ) → n ≤ 64 → sizeOf n ≡ n
 size-is n h = ⊎-elim (λ (g : 64 ≤ n). rw (le-ltb n 64 g) (omega arith)) (λ (g : n < 64). rw (lt-ltb n 64 g) refl) (le-or-lt 64 n)
+
+-- those of a group that a start takes, and that a start asks for them
+pub start-sized : (kind count P W : ℕ) → startSized kind count P W ≡ true → sized kind count P W ≡ true
+unfolding startSized
+start-sized kind count P W e = and-left (sized kind count P W) (payloadRight kind P) e
+
+pub start-sizes-of : (kind count P W : ℕ) → startSized kind count P W ≡ true → Sizes kind count P W
+start-sizes-of kind count P W e = sizes-of kind count P W (start-sized kind count P W e)
+
+pub right-sized : (kind count P W : ℕ) (hold restore : List ℕ) → startRight kind count P W hold restore ≡ true → startSized kind count P W ≡ true
+unfolding startRight
+right-sized kind count P W hold restore e = and-right (timesWithin hold && timesWithin restore) (startSized kind count P W) e

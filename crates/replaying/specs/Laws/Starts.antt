@@ -7,7 +7,7 @@ use lib.Dec.{leb}
 use borrow.Author.Tests.{leb-true}
 use Rattle.ground.specs.Truth.{and-left, and-right}
 use Rattle.packet.specs.Laws.Epochs.{half-fits}
-use Rattle.receiver.specs.Laws.Sizes.{sizes-of}
+use Rattle.receiver.specs.Laws.Sizes.{start-sizes-of}
 use Rattle.recording.specs.declared.pairs.Settings.{Settings}
 use Rattle.replaying.specs.Turn.{isSized, startable, storeIn, timesFit}
 
@@ -36,7 +36,7 @@ pub record Small (g : Settings) : Type 0 where
 
 pub small : (g : Settings) → isSized g ≡ true → Small g
 small g t =
-    let z = sizes-of (g .kind) (g .ports) (g .size) (g .window) t in
+    let z = start-sizes-of (g .kind) (g .ports) (g .size) (g .window) t in
     let h = half-fits (g .kind) in
     let n = z .narrow in
     record { ports-most = z .few-ports; size-most = z .few-bytes; narrow = omega arith }

@@ -16,7 +16,7 @@ use Rattle.ground.specs.Truth.{and-true}
 use Rattle.packet.specs.Laws.Epochs.{nibbles-in}
 use Rattle.receiver.specs.Fetch.{fetchRows}
 use Rattle.receiver.specs.Frame.{frameRows, frameStore}
-use Rattle.receiver.specs.Laws.Sizes.{sizes-of}
+use Rattle.receiver.specs.Laws.Sizes.{start-sizes-of}
 use Rattle.recording.specs.Opening.{Opening}
 use Rattle.recording.specs.Opening.{Opening as O}
 use Rattle.recording.specs.declared.pairs.Settings.{Settings as GroupSettings}
@@ -486,7 +486,7 @@ module _ (out : List ℕ) (line left ports size window : ℕ) (rows : List (List
         let z : next ≡ n = cc in
         let i : lineOpening 0 l ≡ O.Settings s 0 = line-opens 0 n l ∙ ap (opensTo 0) e in
         let p = s .ports in
-        let c = sizes-of (s .kind) p (s .size) (s .window) (start-sized s (length store) b) in
+        let c = start-sizes-of (s .kind) p (s .size) (s .window) (start-sized s (length store) b) in
         let d = start-stored s (length store) b in
         let k = output-le p (s .size) (s .window) (let a = nibbles-in (s .kind) 15 (omega arith) in let b = c .wide in omega arith) in
         let m : rowsFor p ≤ length rows = (let x = c .few-ports in let y = f .full in omega arith) in

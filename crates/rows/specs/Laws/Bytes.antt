@@ -18,7 +18,7 @@ set-twice (a ∷ rest) (suc k) x y = ap (λ r. a ∷ r) (set-twice rest k x y)
 
 next-row : (row : List ℕ) (n : ℕ) → length row ≡ 16 → set (set row 3 (n / 256)) 4 (n % 256) ≡ stepRow (withNext (stepOf row) n)
 unfolding stepRow withNext stepOf
-next-row row n e = rw (← rest row e 11) (ap (λ r. set (set r 3 (n / 256)) 4 (n % 256)) (sym (listed 16 row e)))
+next-row row n e = rw (← rest row e 12) (ap (λ r. set (set r 3 (n / 256)) 4 (n % 256)) (sym (listed 16 row e)))
 
 -- an entry past a row's end reads as 0
 pub entry-none : (row : List ℕ) (k : ℕ) → length row ≡ 16 → 16 ≤ k → 0 ≡ getD row k 0

@@ -60,7 +60,7 @@ module _ (row : List ℕ) (whole : length row ≡ 16) where
     pub step-row-back : stepRow (stepOf row) ≡ row
     unfolding stepOf stepRow
     step-row-back =
-        rw (high (getD row 3 0) (getD row 4 0) (bytes 4 (omega arith)), low (getD row 3 0) (getD row 4 0) (bytes 4 (omega arith)), ← rest 11) (listed 16 row whole)
+        rw (high (getD row 3 0) (getD row 4 0) (bytes 4 (omega arith)), low (getD row 3 0) (getD row 4 0) (bytes 4 (omega arith)), ← rest 12) (listed 16 row whole)
 
     pub member-row-back : memberRow (memberOf row) ≡ row
     unfolding memberOf memberRow

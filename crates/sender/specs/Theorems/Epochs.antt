@@ -39,23 +39,24 @@ pub record SoundSender (s : Sender) : Type 0 where
   pub table : Sound (s .table)
   pub outgoing : Shows (s .outgoing) (s .table .count)
   pub ruling : Shows (s .ruling) (s .table .count)
+  pub kind : outgoing .source .kind ≡ s .table .kind
 
-shows : (t : Table) → Sound t → Shows (boardOf t) (t .count)
+abbrev shows : (t : Table) → Sound t → Shows (boardOf t) (t .count)
 shows t o = record { source = t; sound = o; is = refl; slots = refl }
 
-shows-still : (b : Board) (c d : ℕ) → d ≡ c → Shows b c → Shows b d
+abbrev shows-still : (b : Board) (c d : ℕ) → d ≡ c → Shows b c → Shows b d
 shows-still b c d e o = record { source = o .source; sound = o .sound; is = o .is; slots = o .slots ∙ sym e }
 
 fresh-sound : (t : Table) (e : ℕ) → Sound t → SoundSender (freshSender t e)
 unfolding freshSender
-fresh-sound t e o = record { table = o; outgoing = shows t o; ruling = shows t o }
+fresh-sound t e o = record { table = o; outgoing = shows t o; ruling = shows t o; kind = refl }
 
 started-sound : (s : Sender) (gid mst ack : ℕ) → SoundSender s → SoundSender (startEpochOf s gid mst ack .sender)
 unfolding startEpochOf startedSender
 started-sound s gid mst ack o = go (ltb gid 2 && ltb ack 2)
   where
     go : (b : Bool) → SoundSender (cond {A = SenderOutcome} b (record { sender = startedSender s gid mst ack; answer = Done }) (record { sender = s; answer = Field }) .sender)
-    go true = record { table = o .table; outgoing = shows (s .table) (o .table); ruling = o .outgoing }
+    go true = record { table = o .table; outgoing = shows (s .table) (o .table); ruling = o .outgoing; kind = refl }
     go false = o
 
 call-sound : (s : Sender) (c : SenderCall) → SoundSender s → SoundSender (senderOutcomeOf s c .sender)
@@ -65,6 +66,7 @@ call-sound s (OnTable c) o =
       table = sound-call (s .table) c (o .table);
       outgoing = shows-still (s .outgoing) (s .table .count) _ still (o .outgoing);
       ruling = shows-still (s .ruling) (s .table .count) _ still (o .ruling);
+      kind = o .kind ∙ sym (group-call (s .table) c .kind);
     }
 call-sound s (StartEpoch gid mst ack) o = started-sound s gid mst ack o
 
@@ -143,8 +145,8 @@ fixed s (c ∷ cs) =
       bytes = λ i h. o .bytes i h ∙ rw (g .count, g .kind);
       x = o .x;
       ranks = λ i. o .ranks i;
-      told = λ i P f m. o .told i P f m ∙ rw (g .count);
-      carried = λ i P f m. o .carried i P f m ∙ rw (g .count);
+      told = λ i P f m. o .told i P f m ∙ rw (g .count, g .kind);
+      carried = λ i P f m. o .carried i P f m ∙ rw (g .count, g .kind);
     }
 
 -- a start of an epoch that is refused changes nothing, so it may stand among those calls

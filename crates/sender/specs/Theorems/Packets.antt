@@ -1,5 +1,6 @@
 -- The packet of a slot is never refused for its fields: after any calls from a start, each given bytes, it is written once an epoch has started and the lent bytes are as many as a packet has. Its reserved bits are 0.
 use mathlib.Core.Path.{_≡_, refl, _∙_, ap}
+use mathlib.Core.Logic.{_⊎_, inl, inr, ⊎-elim}
 use mathlib.Core.Bool.{Bool, true, false, cond, not, _&&_}
 use mathlib.Core.List.{List, [], _∷_}
 use Prim.Native.Nat.{ℕ, _<_}
@@ -9,14 +10,15 @@ use lib.ListN.{length}
 use borrow.Author.Tests.{eq-eqb, lt-ltb, ltb-true}
 use Rattle.ground.specs.Truth.{and-left, and-right}
 use Rattle.counting.specs.Laws.Numbers.{count-le}
-use Rattle.packet.specs.Kinds.{epochAfter, frames}
-use Rattle.packet.specs.Laws.Writing.{answer-sized}
+use Rattle.packet.specs.Kinds.{epochAfter, epochs, frames, idleNumber}
+use Rattle.packet.specs.Laws.Writing.{answer-sized, fields-fit as sent-fit}
 use Rattle.packet.specs.declared.writer.Writing.{Writing}
 use Rattle.packet.specs.declared.writer.Writing.the-variants as W
-use Rattle.packet.specs.Theorems.Reserved.{NoneReserved, none-reserved}
-use Rattle.packet.specs.Theorems.Tags.{epoch-fits, idle-fits}
+use Rattle.packet.specs.Sent.{sentAnswer, sentFits}
+use Rattle.packet.specs.Theorems.Reserved.{NoneReservedBy, none-reserved-by}
+use Rattle.packet.specs.Theorems.Tags.{epoch-after-lt}
 use Rattle.packet.specs.Words.{FIXED, assigned}
-use Rattle.packet.specs.Writing.{fitting, writeAnswer}
+use Rattle.sender.specs.declared.board.Board.{Board}
 use Rattle.sender.specs.declared.board.Row.{Row}
 use Rattle.sender.specs.declared.epochs.Sender.{Sender}
 use Rattle.sender.specs.declared.epochs.SenderOutcome.{SenderOutcome}
@@ -28,7 +30,7 @@ use Rattle.sender.specs.Board.{boardOf, highest, rowOf, wordOf}
 use Rattle.sender.specs.Epochs.{SenderCall, beginOf, freshSender, packetAnswer, packetBytes, packetFields, senderOutcomeOf, senderRun, startEpochOf, startedEpoch, startedSender}
 use Rattle.sender.specs.Epochs.SenderCall.{OnTable, StartEpoch}
 use Rattle.sender.specs.Laws.Carrying.{board-row, row-number}
-use Rattle.sender.specs.Laws.Kept.{Sound}
+use Rattle.sender.specs.Laws.Kept.{Sound, group-call, start-kind}
 use Rattle.sender.specs.Laws.Sizes.{size-le}
 use Rattle.sender.specs.Numbering.{numberIn, slotsIn, stateIn}
 use Rattle.sender.specs.Outcomes.{written}
@@ -47,21 +49,21 @@ AllGiven (c ∷ cs) = Given c × AllGiven cs
 
 -- what a packet's fields ask beside the row
 record Fit (s : Sender) : Type 0 where
-  epoch : s .epoch < 256
+  epoch : s .epoch < epochs (s .table .kind)
   mst : s .mst < 256
   gid : s .gid < 2
   ack : s .«rs_ack» < 2
 
-fit-fresh : (kind count e : ℕ) → e < 256 → Fit (beginOf kind count e .sender)
+fit-fresh : (kind count e : ℕ) → e < epochs kind → Fit (beginOf kind count e .sender)
 unfolding beginOf freshSender
-fit-fresh kind count e h = record { epoch = h; mst = lit< tt; gid = lit< tt; ack = lit< tt }
+fit-fresh kind count e h = record { epoch = rw (start-kind kind count) h; mst = lit< tt; gid = lit< tt; ack = lit< tt }
 
-fit-epoch : (s : Sender) → Fit s → startedEpoch s < 256
+fit-epoch : (s : Sender) → Fit s → startedEpoch s < epochs (s .table .kind)
 unfolding startedEpoch
 fit-epoch s o = go (s .begun)
   where
-    go : (b : Bool) → cond b (epochAfter (s .table .kind) (s .epoch)) (s .epoch) < 256
-    go true = epoch-fits (s .table .kind) (s .epoch)
+    go : (b : Bool) → cond b (epochAfter (s .table .kind) (s .epoch)) (s .epoch) < epochs (s .table .kind)
+    go true = epoch-after-lt (s .table .kind) (s .epoch)
     go false = o .epoch
 
 fit-started : (s : Sender) (gid mst ack : ℕ) → mst < 256 → Fit s → Fit (startEpochOf s gid mst ack .sender)
@@ -80,7 +82,7 @@ fit-started s gid mst ack h o = go (ltb gid 2 && ltb ack 2) refl
     go false e = o
 
 fit-call : (s : Sender) (c : SenderCall) → Given c → Fit s → Fit (senderOutcomeOf s c .sender)
-fit-call s (OnTable c) g o = record { epoch = o .epoch; mst = o .mst; gid = o .gid; ack = o .ack }
+fit-call s (OnTable c) g o = record { epoch = rw (group-call (s .table) c .kind) (o .epoch); mst = o .mst; gid = o .gid; ack = o .ack }
 fit-call s (StartEpoch gid mst ack) g o = fit-started s gid mst ack g o
 
 fit-run : (s : Sender) (cs : List SenderCall) → AllGiven cs → Fit s → Fit (senderRun s cs)
@@ -104,22 +106,22 @@ row-fits : (t : Table) (i : ℕ) → i < slotsIn t → (not (eqb (rowAt (boardOf
 row-fits t i h = ap (λ (r : Row). not (eqb (r .word .0) FIXED) && assigned (r .word)) (board-row t i h) ∙ own-word t i
 
 -- a number is below 64 or the idle number
-number-fits : (t : Table) → Sound t → (i : ℕ) → i < slotsIn t → numberIn t i < 256
+number-fits : (t : Table) → Sound t → (i : ℕ) → i < slotsIn t → (numberIn t i < 64) ⊎ (numberIn t i ≡ idleNumber (t .kind))
 number-fits t o i h = go (isMember (stateIn t i)) refl
   where
-    go : (b : Bool) → isMember (stateIn t i) ≡ b → numberIn t i < 256
+    go : (b : Bool) → isMember (stateIn t i) ≡ b → (numberIn t i < 64) ⊎ (numberIn t i ≡ idleNumber (t .kind))
     go true e =
         let l = o .numbered .top i h e in
         let k = count-le (slotsIn t) (λ j. isMember (stateIn t j)) in
         let z = size-le (t .count) in
-        omega arith
-    go false e = rw (o .numbered .idles i h e) (idle-fits (t .kind))
+        let low : numberIn t i < 64 = omega arith in
+        inl low
+    go false e = inr (o .numbered .idles i h e)
 
 -- the fields of a slot's packet fit
-fields-fit : (s : Sender) → Fit s → SoundSender s → (i : ℕ) → i < slotsIn (s .table) → fitting (packetFields s i) ≡ true
-unfolding fitting packetFields
-fields-fit s o w i h =
-    rw (lt-ltb (s .epoch) 256 (o .epoch), lt-ltb (s .mst) 256 (o .mst), lt-ltb (rowAt (s .outgoing .rows) i .number) 256 number, lt-ltb (s .gid) 2 (o .gid), lt-ltb (s .«rs_ack») 2 (o .ack)) word
+fields-fit : (s : Sender) → Fit s → SoundSender s → (i : ℕ) → i < slotsIn (s .table) → sentFits (s .table .kind) (packetFields s i) ≡ true
+unfolding packetFields
+fields-fit s o w i h = sent-fit (s .table .kind) (packetFields s i) (o .epoch) (o .mst) number (o .gid) (o .ack) refl word
   where
     t : Table
     t = w .outgoing .source
@@ -127,18 +129,23 @@ fields-fit s o w i h =
     below : i < slotsIn t
     below = rw (w .outgoing .slots) h
 
-    number : rowAt (s .outgoing .rows) i .number < 256
-    number = rw (w .outgoing .is, row-number t i below) (number-fits t (w .outgoing .sound) i below)
+    number-is : rowAt (s .outgoing .rows) i .number ≡ numberIn t i
+    number-is = ap (λ (b : Board). rowAt (b .rows) i .number) (w .outgoing .is) ∙ row-number t i below
+
+    number : (rowAt (s .outgoing .rows) i .number < 64) ⊎ (rowAt (s .outgoing .rows) i .number ≡ idleNumber (s .table .kind))
+    number =
+        ⊎-elim (λ (l : numberIn t i < 64). inl (rw number-is l)) (λ (e : numberIn t i ≡ idleNumber (t .kind)). inr (number-is ∙ e ∙ ap idleNumber (w .kind)))
+        (number-fits t (w .outgoing .sound) i below)
 
     word : (not (eqb (rowAt (s .outgoing .rows) i .word .0) FIXED) && assigned (rowAt (s .outgoing .rows) i .word)) ≡ true
     word = rw (w .outgoing .is) (row-fits t i below)
 
-all-right : (s : Sender) (i : ℕ) (h4 : List ℕ) → i < slotsIn (s .table) → length h4 ≡ frames (s .table .kind) → s .begun ≡ true → fitting (packetFields s i) ≡ true → packetAnswer s i h4 ≡ Done
+all-right : (s : Sender) (i : ℕ) (h4 : List ℕ) → i < slotsIn (s .table) → length h4 ≡ frames (s .table .kind) → s .begun ≡ true → sentFits (s .table .kind) (packetFields s i) ≡ true → packetAnswer s i h4 ≡ Done
 unfolding packetAnswer
 all-right s i h4 l k b f =
     rw (lt-ltb i (sizeOf (s .table .count)) l, answer-sized (s .table .kind) (packetFields s i) h4, eq-eqb (length h4) (frames (s .table .kind)) k, f, b)
 
-pub packet-done : (kind count e : ℕ) (cs : List SenderCall) → e < 256 → AllGiven cs → senderAfter kind count e cs .begun ≡ true
+pub packet-done : (kind count e : ℕ) (cs : List SenderCall) → e < epochs kind → AllGiven cs → senderAfter kind count e cs .begun ≡ true
     → (i : ℕ) → i < slotsIn (senderAfter kind count e cs .table) → (h4 : List ℕ) → length h4 ≡ frames (senderAfter kind count e cs .table .kind) → packetAnswer (senderAfter kind count e cs) i h4 ≡ Done
 packet-done kind count e cs h g b i l h4 k =
     let s = senderAfter kind count e cs in
@@ -150,13 +157,13 @@ written-done W.Length e = absurd (let n = ap answerNumber e in omega arith)
 written-done W.Field e = absurd (let n = ap answerNumber e in omega arith)
 
 module _ (s : Sender) (i : ℕ) (h4 : List ℕ) (below : i < slotsIn (s .table)) (room : length h4 ≡ frames (s .table .kind)) (begun : s .begun ≡ true) where
-  zeros-in : packetAnswer s i h4 ≡ Done → NoneReserved (packetBytes s i h4)
+  zeros-in : packetAnswer s i h4 ≡ Done → NoneReservedBy (s .table .kind) (packetBytes s i h4)
   unfolding packetAnswer packetBytes packetFields
   zeros-in e =
       rw (lt-ltb i (sizeOf (s .table .count)) below, eq-eqb (length h4) (frames (s .table .kind)) room, begun)
-      (none-reserved (packetFields s i) h4 (written-done (writeAnswer (packetFields s i) h4) (rw (lt-ltb i (sizeOf (s .table .count)) below, eq-eqb (length h4) (frames (s .table .kind)) room, begun) at e)) refl)
+      (none-reserved-by (s .table .kind) (packetFields s i) h4 (written-done (sentAnswer (s .table .kind) (packetFields s i) h4) (rw (lt-ltb i (sizeOf (s .table .count)) below, eq-eqb (length h4) (frames (s .table .kind)) room, begun) at e)) refl)
 
--- 'Our sender still writes zeros' (request 2026-08): after any calls from a start, in the H4 bytes of every slot's packet
-pub packet-zeros : (kind count e : ℕ) (cs : List SenderCall) → e < 256 → AllGiven cs → senderAfter kind count e cs .begun ≡ true
-    → (i : ℕ) → i < slotsIn (senderAfter kind count e cs .table) → (h4 : List ℕ) → length h4 ≡ frames (senderAfter kind count e cs .table .kind) → NoneReserved (packetBytes (senderAfter kind count e cs) i h4)
+-- 'Our sender still writes zeros' (request 2026-08): after any calls from a start, in the bytes of every slot's packet
+pub packet-zeros : (kind count e : ℕ) (cs : List SenderCall) → e < epochs kind → AllGiven cs → senderAfter kind count e cs .begun ≡ true
+    → (i : ℕ) → i < slotsIn (senderAfter kind count e cs .table) → (h4 : List ℕ) → length h4 ≡ frames (senderAfter kind count e cs .table .kind) → NoneReservedBy (senderAfter kind count e cs .table .kind) (packetBytes (senderAfter kind count e cs) i h4)
 packet-zeros kind count e cs h g b i l h4 k = zeros-in (senderAfter kind count e cs) i h4 l k b (packet-done kind count e cs h g b i l h4 k)

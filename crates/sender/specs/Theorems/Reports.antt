@@ -3,7 +3,7 @@ use mathlib.Core.Path.{_≡_, refl, _∙_, sym, ap}
 use mathlib.Core.Bool.{Bool, true, false, true≢false, false≢true}
 use mathlib.Core.List.{List, [], _∷_, _++_}
 use Prim.Native.Nat.{ℕ}
-use Rattle.packet.specs.Kinds.{idleNumber, mstFails, mstFirst, mstNumbers}
+use Rattle.packet.specs.Kinds.{idleNumber, mstEpochs, mstFails, mstFirst, mstNumbers}
 use Rattle.sender.specs.declared.table.Outcome.{Outcome}
 use Rattle.sender.specs.declared.table.Table.{Table}
 use Rattle.sender.specs.Calls.{Call, outcomeOf}
@@ -30,7 +30,7 @@ acts :
     × (carries (outcomeOf (after 1 asked) (Report 0 0x00 0) .table) ≡ true)
     × (carries (after 1 answered) ≡ true)
     × (carries (outcomeOf (after 1 answered) (Report 0 0x80 0) .table) ≡ false)
-unfolding startOf freshOf idleSlot idleNumber addOf addedTo lapseOf reportOf waited actedOn mstApplied numberApplied holderOf renumbered slotAfter numberAfter comesBefore turnOf opensWait sizeOf membersOf mstFails mstFirst mstNumbers
+unfolding startOf freshOf idleSlot idleNumber addOf addedTo lapseOf reportOf waited actedOn mstApplied numberApplied holderOf renumbered slotAfter numberAfter comesBefore turnOf opensWait sizeOf membersOf mstFails mstFirst mstEpochs mstNumbers
 acts = (refl, refl, refl, refl)
 
 -- any sender that meets the contracts

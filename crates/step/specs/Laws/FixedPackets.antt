@@ -8,7 +8,7 @@ use lib.Dec.{eqb}
 use lib.ListN.{getD}
 use borrow.Author.Tests.{eq-eqb, eqb-true, ne-eqb}
 use Rattle.ground.specs.Truth.{and-left, cond-by}
-use Rattle.packet.specs.Counts.{counts}
+use Rattle.packet.specs.Counts.{h4Counts}
 use Rattle.packet.specs.Crc.{crcOf}
 use Rattle.packet.specs.declared.reader.Reading.{Reading}
 use Rattle.packet.specs.declared.reader.Reading.the-variants.{Packet, Unassigned}
@@ -16,7 +16,7 @@ use Rattle.packet.specs.declared.ruling.Ruling.{Ruling}
 use Rattle.packet.specs.Fixed.{fixedFields, fixedNibbles, fixedRulingOf, readFixedNibbles}
 use Rattle.packet.specs.Kinds.{epochOf, fixedKind, placeOf}
 use Rattle.packet.specs.Laws.Bytes.{byte-back}
-use Rattle.packet.specs.Laws.Counting.{counted-as-sent}
+use Rattle.packet.specs.Laws.Counting.{counted-as-sent, counts-h4}
 use Rattle.packet.specs.Laws.Nibbles.{Nibbles, highs-back}
 use Rattle.packet.specs.Laws.Sent.{row-highs}
 use Rattle.packet.specs.Layout.{byteOf, dataOf, fieldsOf, h4Of, highsOf, nibblesOf, sealedOf}
@@ -38,9 +38,9 @@ unfolding ownRuling rulingIn
 own-fixed epoch ns = cond-by (λ (r : Ruling). r .word ≡ FIXED) (ownNumber epoch ns) (fixedRulingOf ns) refused (λ e. fixed-word ns) (λ e. refl)
 
 -- Where the CRC of 01 stands a frame counts by MFI1 alone: there the two packets differ, and nowhere else.
-crc-place : (kind t m n : ℕ) → 1 < m → m < 16 → n % 16 < 16 → counts kind t (n % 16 * 16 + m) ≡ true → counts kind t m ≡ true
-unfolding counts
-crc-place kind t m n low high nibble c =
+crc-place : (t m n : ℕ) → 1 < m → m < 16 → n % 16 < 16 → h4Counts t (n % 16 * 16 + m) ≡ true → h4Counts t m ≡ true
+unfolding h4Counts
+crc-place t m n low high nibble c =
     let both : Bool = eqb ((n % 16 * 16 + m) % 16) (t % 16) && (not (eqb (t % 16) 0) || eqb ((n % 16 * 16 + m) / 16) (t / 256 % 16)) in
     let first : eqb ((n % 16 * 16 + m) % 16) (t % 16) ≡ true =
     and-left (eqb ((n % 16 * 16 + m) % 16) (t % 16)) (not (eqb (t % 16) 0) || eqb ((n % 16 * 16 + m) / 16) (t / 256 % 16))
@@ -51,28 +51,30 @@ crc-place kind t m n low high nibble c =
     rw (m-is, m-self, eq-eqb m m refl, ne-eqb m 0 (λ (z : m ≡ 0). omega arith), ne-eqb m 1 (λ (z : m ≡ 1). omega arith)) refl
 
 -- so a fixed group's packet counts where a packet of 01 with that epoch and that number does
-as-fixed : (kind t e q k : ℕ) → counts kind t (getD (h4Of (nibblesOf (fixedFields e q))) k 0) ≡ true → counts kind t (getD (h4Of (fixedNibbles e q)) k 0) ≡ true
+as-fixed : (t e q k : ℕ) → h4Counts t (getD (h4Of (nibblesOf (fixedFields e q))) k 0) ≡ true → h4Counts t (getD (h4Of (fixedNibbles e q)) k 0) ≡ true
 unfolding h4Of fixedNibbles nibblesOf sealedOf dataOf
-as-fixed kind t e q zero c = c
-as-fixed kind t e q (suc zero) c = c
-as-fixed kind t e q (suc (suc zero)) c = c
-as-fixed kind t e q (suc (suc (suc zero))) c = c
-as-fixed kind t e q (suc (suc (suc (suc zero)))) c = c
-as-fixed kind t e q (suc (suc (suc (suc (suc zero))))) c = c
-as-fixed kind t e q (suc (suc (suc (suc (suc (suc zero)))))) c = c
-as-fixed kind t e q (suc (suc (suc (suc (suc (suc (suc zero))))))) c = c
-as-fixed kind t e q (suc (suc (suc (suc (suc (suc (suc (suc zero)))))))) c = c
-as-fixed kind t e q (suc (suc (suc (suc (suc (suc (suc (suc (suc zero))))))))) c = c
-as-fixed kind t e q (suc (suc (suc (suc (suc (suc (suc (suc (suc (suc zero)))))))))) c = c
-as-fixed kind t e q (suc (suc (suc (suc (suc (suc (suc (suc (suc (suc (suc zero))))))))))) c = c
-as-fixed kind t e q (suc (suc (suc (suc (suc (suc (suc (suc (suc (suc (suc (suc zero)))))))))))) c = c
-as-fixed kind t e q (suc (suc (suc (suc (suc (suc (suc (suc (suc (suc (suc (suc (suc zero))))))))))))) c = c
-as-fixed kind t e q (suc (suc (suc (suc (suc (suc (suc (suc (suc (suc (suc (suc (suc (suc zero)))))))))))))) c = crc-place kind t 6 (crcOf (dataOf (fixedFields e q)) / 16) (omega arith) (omega arith) (omega arith) c
-as-fixed kind t e q (suc (suc (suc (suc (suc (suc (suc (suc (suc (suc (suc (suc (suc (suc (suc zero))))))))))))))) c = crc-place kind t 7 (crcOf (dataOf (fixedFields e q)) % 16) (omega arith) (omega arith) (omega arith) c
-as-fixed kind t e q (suc (suc (suc (suc (suc (suc (suc (suc (suc (suc (suc (suc (suc (suc (suc (suc k)))))))))))))))) c = c
+as-fixed t e q zero c = c
+as-fixed t e q (suc zero) c = c
+as-fixed t e q (suc (suc zero)) c = c
+as-fixed t e q (suc (suc (suc zero))) c = c
+as-fixed t e q (suc (suc (suc (suc zero)))) c = c
+as-fixed t e q (suc (suc (suc (suc (suc zero))))) c = c
+as-fixed t e q (suc (suc (suc (suc (suc (suc zero)))))) c = c
+as-fixed t e q (suc (suc (suc (suc (suc (suc (suc zero))))))) c = c
+as-fixed t e q (suc (suc (suc (suc (suc (suc (suc (suc zero)))))))) c = c
+as-fixed t e q (suc (suc (suc (suc (suc (suc (suc (suc (suc zero))))))))) c = c
+as-fixed t e q (suc (suc (suc (suc (suc (suc (suc (suc (suc (suc zero)))))))))) c = c
+as-fixed t e q (suc (suc (suc (suc (suc (suc (suc (suc (suc (suc (suc zero))))))))))) c = c
+as-fixed t e q (suc (suc (suc (suc (suc (suc (suc (suc (suc (suc (suc (suc zero)))))))))))) c = c
+as-fixed t e q (suc (suc (suc (suc (suc (suc (suc (suc (suc (suc (suc (suc (suc zero))))))))))))) c = c
+as-fixed t e q (suc (suc (suc (suc (suc (suc (suc (suc (suc (suc (suc (suc (suc (suc zero)))))))))))))) c = crc-place t 6 (crcOf (dataOf (fixedFields e q)) / 16) (omega arith) (omega arith) (omega arith) c
+as-fixed t e q (suc (suc (suc (suc (suc (suc (suc (suc (suc (suc (suc (suc (suc (suc (suc zero))))))))))))))) c = crc-place t 7 (crcOf (dataOf (fixedFields e q)) % 16) (omega arith) (omega arith) (omega arith) c
+as-fixed t e q (suc (suc (suc (suc (suc (suc (suc (suc (suc (suc (suc (suc (suc (suc (suc (suc k)))))))))))))))) c = c
 
 pub fixed-counts : (x e q : ℕ) → e < 256 → e ≡ epochOf fixedKind (tagOf fixedKind x) → SentWith fixedKind x (getD (h4Of (fixedNibbles e q)) (placeOf fixedKind (tagOf fixedKind x)) 0)
-fixed-counts x e q he is = as-fixed fixedKind (tagOf fixedKind x) e q (placeOf fixedKind (tagOf fixedKind x)) (counted-as-sent fixedKind x (fixedFields e q) he is)
+fixed-counts x e q he is =
+    counts-h4 fixedKind (tagOf fixedKind x) (getD (h4Of (fixedNibbles e q)) (placeOf fixedKind (tagOf fixedKind x)) 0) refl
+    ∙ as-fixed (tagOf fixedKind x) e q (placeOf fixedKind (tagOf fixedKind x)) (counted-as-sent fixedKind x (fixedFields e q) refl he is)
 
 -- The nibbles come back, and say what was sent.
 
@@ -90,4 +92,4 @@ unfolding ownRuling ownNumber rulingIn fixedRulingOf readFixedNibbles fixedNibbl
 says e q he hq = rw (byte-back e he, byte-back q hq, eq-eqb e e refl) refl
 
 pub fixed-reads : (e q : ℕ) → e < 256 → q < 256 → ownRuling fixedKind e (packetRow fixedKind (h4Of (fixedNibbles e q))) ≡ record { good = true; word = FIXED; number = q; gid = 0 }
-fixed-reads e q he hq = ap (ownRuling fixedKind e) (row-highs fixedKind (h4Of (fixedNibbles e q)) ∙ back e q he hq) ∙ says e q he hq
+fixed-reads e q he hq = ap (ownRuling fixedKind e) (row-highs fixedKind (h4Of (fixedNibbles e q)) refl ∙ back e q he hq) ∙ says e q he hq

@@ -1,4 +1,4 @@
--- What a steady frame does.
+-- What a steady frame does, of a kind with H4's step rule.
 use mathlib.Core.Path.{_≡_, refl, _∙_, sym, ap}
 use mathlib.Core.Bool.{Bool, true, false, not, _&&_}
 use mathlib.Core.List.{List}
@@ -9,27 +9,28 @@ use borrow.Author.Tests.{eqb-true, not-true}
 use Rattle.ground.specs.Circle.{after}
 use Rattle.ground.specs.Truth.{and-left, and-right}
 use Rattle.packet.specs.Clock.{by}
-use Rattle.packet.specs.Counts.{counts}
-use Rattle.packet.specs.Kinds.{distanceOf, endsEpoch, epochsIn, firstTag, frames, placeOf, tagAfter}
+use Rattle.packet.specs.Counts.{h4Counts}
+use Rattle.packet.specs.Kinds.{distanceOf, endsEpoch, epochsIn, firstTag, frames, placeOf, tagAfter, vc12Kind}
 use Rattle.rows.specs.declared.group.Group.{Group}
 use Rattle.rows.specs.declared.step.Step.{Step}
 use Rattle.rows.specs.Step.{withNext}
 use Rattle.step.specs.Arrival.{advanced, distanceIn, flagOf, inStep, keeps, runOf, takenOf}
 use Rattle.step.specs.Laws.Arrival.{ranOn, stepped, taken-keeps}
-use Rattle.step.specs.Laws.Run.{run-on}
+use Rattle.step.specs.Laws.H4Run.{run-on}
+use Rattle.step.specs.Laws.Run.{on-h4}
 use Rattle.step.specs.OwnCount.{endsOdd}
-use Rattle.step.specs.Run.{endsPacket, oddAfter}
+use Rattle.step.specs.Run.{endsPacket, oddAfter, withBits}
 use Rattle.step.specs.Steady.{midEpoch, steady, steadyTaken}
 
 quiet : (a b c : Bool) → b ≡ false → (a && b && c) ≡ false
 quiet true b c e = rw e
 quiet false b c e = refl
 
-module _ (g : Group) (s : Step) (odd : Bool) (h : ℕ) (had : s .had ≡ 1) (failed : s .failed ≡ 0) (unbroken : s .breaks ≡ 0) (stands : inStep g s ≡ true) (sent : counts (g .kind) (s .next) h ≡ true)
-    (even : odd ≡ false) (mid : endsPacket (g .kind) (s .next) ≡ false) where
-  ran : ranOn g s odd h ≡ record { count = s .count; next = tagAfter (g .kind) (s .next); breaks = 0; odd = s .odd }
+module _ (g : Group) (s : Step) (odd : Bool) (h : ℕ) (had : s .had ≡ 1) (failed : s .failed ≡ 0) (unbroken : s .breaks ≡ 0) (stands : inStep g s ≡ true) (sent : h4Counts (s .next) h ≡ true)
+    (even : odd ≡ false) (mid : endsPacket (g .kind) (s .next) ≡ false) (clock : eqb (g .kind) vc12Kind ≡ false) where
+  ran : ranOn g s odd h ≡ record { count = s .count; next = tagAfter (g .kind) (s .next); breaks = 0; odd = s .odd; bits = s .bits }
   unfolding inStep oddAfter
-  ran = run-on (g .kind) (runOf s) odd h stands sent even ∙ rw mid refl
+  ran = on-h4 (g .kind) (runOf s) odd h clock ∙ ap (withBits (s .bits)) (run-on (g .kind) (runOf s) odd h stands sent even) ∙ rw mid refl
 
   steps : stepped g s odd h ≡ true
   unfolding inStep
@@ -68,20 +69,20 @@ pub mid-even : (g : Group) (s : Step) (row : List ℕ) (h : ℕ) → midEpoch g 
 unfolding endsOdd
 mid-even g s row h w = rw (mid-packet g s w) refl
 
-pub steady-taken : (g : Group) (s : Step) (flag odd : Bool) (h : ℕ) → steady g s flag h ≡ true → midEpoch g (distanceIn g (s .next)) ≡ true → odd ≡ false → takenOf g s flag odd h ≡ steadyTaken g s
+pub steady-taken : (g : Group) (s : Step) (flag odd : Bool) (h : ℕ) → eqb (g .kind) vc12Kind ≡ false → steady g s flag h ≡ true → midEpoch g (distanceIn g (s .next)) ≡ true → odd ≡ false → takenOf g s flag odd h ≡ steadyTaken g s
 unfolding steady
-steady-taken g s flag odd h t w even =
+steady-taken g s flag odd h clock t w even =
     let d : ℕ = distanceIn g (s .next) in
     let b1 : Bool = not flag in
     let b2 : Bool = b1 && eqb (s .had) 1 in
     let b3 : Bool = b2 && eqb (s .failed) 0 in
     let b4 : Bool = b3 && eqb (s .breaks) 0 in
     let b5 : Bool = b4 && inStep g s in
-    let b6 : Bool = b5 && counts (g .kind) (s .next) h in
+    let b6 : Bool = b5 && h4Counts (s .next) h in
     let b7 : Bool = b6 && flagOf (g .begun) in
     let t7 : b7 ≡ true = and-left b7 (flagOf (s .joined)) t in
     let t6 : b6 ≡ true = and-left b6 (flagOf (g .begun)) t7 in
-    let t5 : b5 ≡ true = and-left b5 (counts (g .kind) (s .next) h) t6 in
+    let t5 : b5 ≡ true = and-left b5 (h4Counts (s .next) h) t6 in
     let t4 : b4 ≡ true = and-left b4 (inStep g s) t5 in
     let t3 : b3 ≡ true = and-left b3 (eqb (s .breaks) 0) t4 in
     let t2 : b2 ≡ true = and-left b2 (eqb (s .failed) 0) t3 in
@@ -89,8 +90,8 @@ steady-taken g s flag odd h t w even =
     let failed : s .failed ≡ 0 = eqb-true (s .failed) 0 (and-right b2 (eqb (s .failed) 0) t3) in
     let unbroken : s .breaks ≡ 0 = eqb-true (s .breaks) 0 (and-right b3 (eqb (s .breaks) 0) t4) in
     let stands : inStep g s ≡ true = and-right b4 (inStep g s) t5 in
-    let sent : counts (g .kind) (s .next) h ≡ true = and-right b5 (counts (g .kind) (s .next) h) t6 in
+    let sent : h4Counts (s .next) h ≡ true = and-right b5 (h4Counts (s .next) h) t6 in
     let mid : endsPacket (g .kind) (s .next) ≡ false = mid-packet g s w in
-    taken-keeps g s flag odd h (not-true flag (and-left b1 (eqb (s .had) 1) t2)) (steps g s odd h had failed unbroken stands sent even mid)
+    taken-keeps g s flag odd h (not-true flag (and-left b1 (eqb (s .had) 1) t2)) (steps g s odd h had failed unbroken stands sent even mid clock)
     (and-right b6 (flagOf (g .begun)) t7) (and-right b7 (flagOf (s .joined)) t) (mid-epoch-inside g d w)
-    ∙ only-kept g s odd h had failed unbroken stands sent even mid (mid-epoch-goes-on g d w)
+    ∙ only-kept g s odd h had failed unbroken stands sent even mid clock (mid-epoch-goes-on g d w)

@@ -12,10 +12,11 @@ use borrow.Author.Tests.{eq-eqb, le-leb}
 use Rattle.ground.specs.Table.{length-tabulate}
 use Rattle.ground.specs.Truth.{and-true, eq-or-ne}
 use Rattle.counting.specs.Laws.Tests.{some-at}
-use Rattle.packet.specs.Kinds.{epochs, mstFails}
+use Rattle.packet.specs.Kinds.{epochs, mstEpochs, mstFails}
 use Rattle.packet.specs.Laws.Mst.{SpokenSoon, spoken-soon}
 use Rattle.packet.specs.Mst.{Spoken}
-use Rattle.packet.specs.Reading.{readAnswer}
+use Rattle.packet.specs.Ruling.{readRow}
+use Rattle.packet.specs.Symbols.{packetRow}
 use Rattle.receiver.specs.Shown.{replyOf}
 use Rattle.sender.specs.declared.table.State.the-variants.{Active}
 use Rattle.sender.specs.declared.table.Table.{Table}
@@ -77,7 +78,7 @@ module _ (k : Link) (a : Assumed k) (as-sent : AsSent k) (m₀ : Moment) (o : St
       lined (later F i b come c v) = c .open-at .lined
 
 -- what is handed over of a packet of the way back
-pub report-at : (h : History) → Allowed h → (i slot : ℕ) → slot < h .slots → reportBy (readAnswer (packetSent h i slot)) ≡ Report (epochNumber (h .kind) (h .first) i) (h .mst i) (h .ack i) ∷ []
+pub report-at : (h : History) → Allowed h → (i slot : ℕ) → slot < h .slots → reportBy (readRow (h .kind) (packetRow (h .kind) (packetSent h i slot))) ≡ Report (epochNumber (h .kind) (h .first) i) (h .mst i) (h .ack i) ∷ []
 report-at h al i slot b =
     ap reportBy (packet-read h al i slot b)
     ∙ ap (λ (e : ℕ). Report e (fieldsSent h i slot .mst) (fieldsSent h i slot .«rs_ack») ∷ []) (packet-epoch h al i slot)
@@ -125,7 +126,7 @@ module _ (k : Link) (m₀ : Moment) (a b slot t : ℕ) (j : Joined k m₀ a b (t
   abbrev until : ℕ
   until = t + bound (kindOf k) a b 0
 
-  until-is : until ≡ t + (34 + a + b)
+  until-is : until ≡ t + (mstEpochs (kindOf k) + 2 + a + b)
   unfolding bound
   until-is = omega arith
 
@@ -162,7 +163,7 @@ module _ (k : Link) (m₀ : Moment) (a b slot t : ℕ) (j : Joined k m₀ a b (t
   after-rep : (v : Table) → Lone v slot q → (u : ℕ) → Out (run v (rep u))
   after-rep v l u = go (leb (b + 1) u)
     where
-      go : (c : Bool) → Out (run v (cond c (reportBy (readAnswer (packetSent (j .back) (u - (b + 1)) (j .from)))) []))
+      go : (c : Bool) → Out (run v (cond c (reportBy (readRow (j .back .kind) (packetRow (j .back .kind) (packetSent (j .back) (u - (b + 1)) (j .from))))) []))
       go false = inr l
       go true =
           subst (λ (cs : List Call). Out (run v cs)) (sym (report-at (j .back) (j .back-allowed) (u - (b + 1)) (j .from) (j .from-below)))
@@ -175,7 +176,7 @@ module _ (k : Link) (m₀ : Moment) (a b slot t : ℕ) (j : Joined k m₀ a b (t
       (λ (e : add .later ≡ []). subst (λ (cs : List Call). Out (run new cs)) (sym e) (inr lone-first))
       (behind (add .earlier) (add .later) (rep (suc t)) (add .one-report) (one (leb (b + 1) (suc t))))
     where
-      one : (c : Bool) → length (cond c (reportBy (readAnswer (packetSent (j .back) (suc t - (b + 1)) (j .from)))) []) ≤ 1
+      one : (c : Bool) → length (cond c (reportBy (readRow (j .back .kind) (packetRow (j .back .kind) (packetSent (j .back) (suc t - (b + 1)) (j .from))))) []) ≤ 1
       one false = omega arith
       one true = let e = ap length (report-at (j .back) (j .back-allowed) (suc t - (b + 1)) (j .from) (j .from-below)) in omega arith
 
@@ -266,8 +267,8 @@ module _ (k : Link) (m₀ : Moment) (a b slot t : ℕ) (j : Joined k m₀ a b (t
   rep-is : rep (suc (told-at + b)) ≡ Report (number told-at) (j .back .mst told-at) (j .back .ack told-at) ∷ []
   rep-is =
       let e : suc (told-at + b) - (b + 1) ≡ told-at = omega arith in
-      ap (λ (c : Bool). cond c (reportBy (readAnswer (packetSent (j .back) (suc (told-at + b) - (b + 1)) (j .from)))) []) (le-leb (b + 1) (suc (told-at + b)) (omega arith))
-      ∙ ap (λ (n : ℕ). reportBy (readAnswer (packetSent (j .back) n (j .from)))) e
+      ap (λ (c : Bool). cond c (reportBy (readRow (j .back .kind) (packetRow (j .back .kind) (packetSent (j .back) (suc (told-at + b) - (b + 1)) (j .from))))) []) (le-leb (b + 1) (suc (told-at + b)) (omega arith))
+      ∙ ap (λ (n : ℕ). reportBy (readRow (j .back .kind) (packetRow (j .back .kind) (packetSent (j .back) n (j .from))))) e
       ∙ report-at (j .back) (j .back-allowed) told-at (j .from) (j .from-below)
 
   acted : ((i : ℕ) → suc t ≤ i → i ≤ told-at + b → Lone (tab i) slot q) → stateIn (tab (suc (told-at + b))) slot ≡ Active

@@ -11,7 +11,7 @@ use lib.ListN.{getD, length}
 use borrow.Author.Tests.{eq-eqb, eqb-true, lt-ltb}
 use Rattle.ground.specs.Truth.{and-left, and-right, and-true, eq-or-ne}
 use Rattle.counting.specs.Laws.Tests.{some-at, some-one}
-use Rattle.packet.specs.Kinds.{epochs, fixedKind, mstFails}
+use Rattle.packet.specs.Kinds.{epochs, fixedKind, mstEpochs, mstFails}
 use Rattle.packet.specs.Laws.Mst.{SpokenSoon, spoken-soon}
 use Rattle.packet.specs.Mst.{Spoken}
 use Rattle.packet.specs.Words.{ADD}
@@ -97,7 +97,7 @@ module _ (r : Rounds) (a b slot port restore : ℕ) (lcas : eqb (r .kind) fixedK
   abbrev most : ℕ
   most = bound (r .kind) a b restore
 
-  most-is : most ≡ 34 + a + b + restore
+  most-is : most ≡ mstEpochs (r .kind) + 2 + a + b + restore
   unfolding bound
   most-is = omega arith
 

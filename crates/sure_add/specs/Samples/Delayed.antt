@@ -7,8 +7,9 @@ use native.Mathlib.Omega.{arith}
 use lib.ListN.{replicate}
 use borrow.Author.Tests.{ne-eqb}
 use Rattle.ground.specs.Plain.{if_then_else_, _==_, _<?_}
+use Rattle.packet.specs.Kinds.{mstEpochs, payloadRight}
 use Rattle.packet.specs.Words.{ADD, EOS, IDLE, NORM}
-use Rattle.phases.specs.Sizes.{sized}
+use Rattle.phases.specs.Sizes.{knownKind, sized, startSized}
 use Rattle.receiver.specs.Shown.{replyOf}
 use Rattle.receiver.specs.Starting.{timesWithin}
 use Rattle.reply.specs.Telling.{mstFrom, mstOf, okHolds}
@@ -54,7 +55,7 @@ once (suc zero) h = refl
 once (suc (suc p)) h = absurd (omega arith)
 
 right : Right case
-unfolding outcome starts turnsBy turnBy drainedBy replyOf mstOf mstFrom okHolds sized timesWithin
+unfolding outcome starts turnsBy turnBy drainedBy replyOf mstOf mstFrom okHolds knownKind payloadRight sized startSized timesWithin
 right =
     record {
       some = omega arith;
@@ -113,5 +114,5 @@ adding =
     }
 
 come-true : ActiveWithin (tableAt (joined case right)) 1 6 (bound 0 1 2 0)
-unfolding bound joined met
+unfolding bound mstEpochs joined met
 come-true = sure-add (link case) (receiver case) 1 2 1 6 (joined case right) adding

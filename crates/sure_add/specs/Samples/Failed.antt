@@ -6,7 +6,7 @@ use mathlib.Core.List.{List, [], _∷_, _++_}
 use Prim.Native.Nat.{ℕ, _+_}
 use native.Mathlib.Omega.{arith}
 use lib.ListN.{replicate}
-use Rattle.packet.specs.Kinds.{mstFails}
+use Rattle.packet.specs.Kinds.{mstEpochs, mstFails}
 use Rattle.packet.specs.Layout.{h4Of, nibblesOf}
 use Rattle.packet.specs.Words.{ADD}
 use Rattle.receiver.specs.Shown.{replyOf}
@@ -87,9 +87,9 @@ unfolding outcome tableOf
 active-then = (refl, refl)
 
 come-true : ActiveWithin (tableOf (rounds trial) 0) 0 0 (bound 0 0 0 1)
-unfolding bound
+unfolding bound mstEpochs
 come-true = sure-add-over (rounds trial) 0 0 0 0 1 refl (path trial right) (asked trial right)
 
 its-own : OwnOk (rounds trial) 0 0 0 0 (bound 0 0 0 1)
-unfolding bound
+unfolding bound mstEpochs
 its-own = own-ok (rounds trial) 0 0 0 0 1 refl (path trial right) (asked trial right) (number-free trial right)

@@ -11,14 +11,14 @@ use Rattle.ground.specs.Finite.{below, below-at, same-bytes, sameBytes}
 use Rattle.ground.specs.Plain.{if_then_else_, _<?_, _≤?_}
 use Rattle.ground.specs.Table.{length-tabulate, tabulate}
 use Rattle.packet.specs.Symbols.{symbolOf}
-use Rattle.packet.specs.Kinds.{epochs, frames}
+use Rattle.packet.specs.Kinds.{epochs, frames, payloadRight}
 use Rattle.packet.specs.Layout.{h4Of, nibblesOf}
 use Rattle.payload.specs.declared.answer.Answer.{Answer}
 use Rattle.payload.specs.declared.answer.Answer.the-variants.{Done, Length, Range}
 use Rattle.payload.specs.Answers.{underDone}
 use Rattle.payload.specs.Order.{memberFrame}
 use Rattle.payload.specs.Spreading.{oneAnswer, spreadOne}
-use Rattle.phases.specs.Sizes.{sized}
+use Rattle.phases.specs.Sizes.{startSized}
 use Rattle.rows.specs.Rows.{rowsFor}
 use Rattle.sender.specs.Calls.{Call}
 use Rattle.sender.specs.Calls.Call.{Report}
@@ -114,7 +114,7 @@ module _ (c : Case) where
     pub some : 0 < c .slots
     pub most : c .slots ≤ 64
     pub number : c .first < 256
-    pub sizes : sized 0 (c .slots) 1 16 ≡ true
+    pub sizes : startSized 0 (c .slots) 1 16 ≡ true
     pub once : (p : ℕ) → p < c .slots → times p (c .order) ≡ 1
     pub only : Below (c .slots) (c .order)
     pub hold-times : Times (c .hold) (c .slots)
@@ -178,7 +178,7 @@ module _ (c : Case) where
 
     payload-is : (x slot : ℕ) → 0 ∷ [] ≡ (if hasRank history x slot then payloadSent history 1 client x slot else 0 ∷ [])
     unfolding payloadSent payloadBytes
-    payload-is x slot = zero-in x slot (hasRank history x slot) (slot <? sizeOf (now x .table .count) && now x .begun)
+    payload-is x slot = zero-in x slot (hasRank history x slot) (slot <? sizeOf (now x .table .count) && payloadRight (now x .table .kind) 1 && now x .begun)
 
     pub sends-is : link .sending ≡ sendingOf history 1 client (λ x slot. 0 ∷ [])
     sends-is = ap sendingBy (λ i x slot. payload-is x slot i)

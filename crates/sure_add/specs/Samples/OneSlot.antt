@@ -8,8 +8,9 @@ use native.Mathlib.Omega.{arith}
 use lib.ListN.{replicate}
 use borrow.Author.Tests.{ne-eqb}
 use Rattle.ground.specs.Plain.{if_then_else_, _==_, _<?_}
+use Rattle.packet.specs.Kinds.{mstEpochs, payloadRight}
 use Rattle.packet.specs.Words.{ADD, EOS, IDLE}
-use Rattle.phases.specs.Sizes.{sized}
+use Rattle.phases.specs.Sizes.{knownKind, sized, startSized}
 use Rattle.receiver.specs.Shown.{replyOf}
 use Rattle.receiver.specs.Starting.{timesWithin}
 use Rattle.reply.specs.Telling.{mstFrom, mstOf, okHolds}
@@ -51,7 +52,7 @@ once : (p : ℕ) → p < 1 → times p (0 ∷ []) ≡ 1
 once p h = let e : p ≡ 0 = omega arith in rw e refl
 
 right : Right case
-unfolding outcome starts turnsBy turnBy drainedBy replyOf mstOf mstFrom okHolds sized timesWithin
+unfolding outcome starts turnsBy turnBy drainedBy replyOf mstOf mstFrom okHolds knownKind payloadRight sized startSized timesWithin
 right =
     record {
       some = omega arith;
@@ -102,5 +103,5 @@ adding =
     none i l d = let e = one-slot in omega arith
 
 come-true : ActiveWithin (tableAt (joined case right)) 0 5 (bound 0 0 0 0)
-unfolding bound joined met
+unfolding bound mstEpochs joined met
 come-true = sure-add (link case) (receiver case) 0 0 0 5 (joined case right) adding

@@ -1,6 +1,6 @@
 -- All that the loop by epochs is made of, opened for the checker to compute.
 use Prim.Native.Nat.{ℕ}
-use Rattle.packet.specs.Kinds.{idleNumber, mstFails, mstFirst, mstNumbers}
+use Rattle.packet.specs.Kinds.{idleNumber, mstEpochs, mstFails, mstFirst, mstNumbers}
 use Rattle.reply.specs.Choosing.{claims, grant, granted, holders}
 use Rattle.reply.specs.Telling.{ackOf, mstFrom, mstOf, okHolds, turns}
 use Rattle.reply.specs.Waiting.{chosenOf, keptNumbers, moreKept, rounds, someJoin, standingBy, standingsOf}
@@ -12,5 +12,5 @@ use Rattle.sure_add.specs.Samples.Loop.{Setting, activeAt, starts}
 
 -- the first start at which a slot is active; 0 where it is none up to `most`
 unfoldable pub activeAtStart : (s : Setting) (slot most : ℕ) → ℕ
-unfolding idleNumber mstFails mstFirst mstNumbers claims grant granted holders ackOf mstFrom mstOf okHolds turns chosenOf keptNumbers moreKept rounds someJoin standingBy standingsOf boardOf highest noRow rowOf rowsOf addOf addedTo fallen fallenIn freshOf idleSlot lapseOf removeOf removedFrom startOf actedOn comesBefore mstApplied numberAfter numberApplied opensWait renumbered reportOf slotAfter turnOf waited holderOf membersOf sizeOf starts
+unfolding idleNumber mstFails mstFirst mstEpochs mstNumbers claims grant granted holders ackOf mstFrom mstOf okHolds turns chosenOf keptNumbers moreKept rounds someJoin standingBy standingsOf boardOf highest noRow rowOf rowsOf addOf addedTo fallen fallenIn freshOf idleSlot lapseOf removeOf removedFrom startOf actedOn comesBefore mstApplied numberAfter numberApplied opensWait renumbered reportOf slotAfter turnOf waited holderOf membersOf sizeOf starts
 activeAtStart s slot most = activeAt s slot most

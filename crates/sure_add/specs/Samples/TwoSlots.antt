@@ -8,7 +8,7 @@ use native.Mathlib.Omega.{arith}
 use lib.ListN.{replicate}
 use borrow.Author.Tests.{lt-ltb}
 use Rattle.ground.specs.Plain.{_<?_}
-use Rattle.packet.specs.Kinds.{mstFails}
+use Rattle.packet.specs.Kinds.{mstEpochs, mstFails}
 use Rattle.packet.specs.Layout.{h4Of, nibblesOf}
 use Rattle.packet.specs.Words.{ADD, EOS, IDLE}
 use Rattle.receiver.specs.Shown.{replyOf}
@@ -98,9 +98,9 @@ unfolding outcome
 shut = refl
 
 come-true : ActiveWithin (tableOf (rounds trial) 1) 1 0 (bound 0 1 2 0)
-unfolding bound
+unfolding bound mstEpochs
 come-true = as-asked (rounds trial) 1 2 1 1 refl (path trial right) (Trials.as-asked trial right refl shut)
 
 its-own : OwnOk (rounds trial) 1 2 1 1 (bound 0 1 2 0)
-unfolding bound
+unfolding bound mstEpochs
 its-own = own-ok (rounds trial) 1 2 1 1 0 refl (path trial right) (asked trial right) (number-free trial right)

@@ -21,7 +21,7 @@ returns c =
     let at-put-own = at-put-own2 .before .before .before .before in
     let at-start = at-put-own .before .before .before in
     let at-start-11 = at-start .before .before in
-    start-put (at-start-11 .args .count) (at-start-11 .args .epoch-0) (at-start-11 .args .epoch-1) _ (at-start-11 .args .state .now) _ _ (at-start .start .ensures) (at-put-own .put-own .ensures) (at-put-own2 .put-own2 .ensures)
+    start-put (at-start-11 .args .kind) (at-start-11 .args .count) (at-start-11 .args .epoch-0) (at-start-11 .args .epoch-1) _ (at-start-11 .args .state .now) _ _ (at-start .start .ensures) (at-put-own .put-own .ensures) (at-put-own2 .put-own2 .ensures)
 
 pub put-start-spec : {M : Type 1} → statement M
 put-start-spec =

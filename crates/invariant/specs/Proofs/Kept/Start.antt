@@ -9,14 +9,14 @@ use lib.ListN.{length}
 use borrow.Author.Tests.{eqb-true}
 use Rattle.invariant.specs.Kept.Group.{Kept, Lasting}
 use Rattle.invariant.specs.Kept.Port.{PortKept}
-use Rattle.invariant.specs.Proofs.Laws.Runs.{none-kept}
+use Rattle.step.specs.Laws.RunKept.{none-kept}
 use Rattle.ground.specs.Truth.{and-left, and-right, cond-by}
 use Rattle.packet.specs.Kinds.{fixedKind}
 use Rattle.packet.specs.Theorems.Tags.{epochs-some, frames-two}
 use Rattle.phases.specs.Sizes.{sized}
 use Rattle.receiver.specs.Laws.Fresh.{freshOn, length-started, started-group, started-port, started-step, waits-for}
-use Rattle.receiver.specs.Laws.Sizes.{Sizes, sizes-of}
-use Rattle.receiver.specs.Starting.{freshPorts, freshStep, groupWith, listFits, sizedAnswer, sizedFits, sizedRows, startAsAnswer, startAsRows, startFits, startRight, timeOf, timesWithin, zeroRow}
+use Rattle.receiver.specs.Laws.Sizes.{Sizes, right-sized, sizes-of, start-sized}
+use Rattle.receiver.specs.Starting.{freshPorts, freshStep, groupWith, listFits, sizedAnswer, sizedFits, sizedRows, startAsAnswer, startAsRows, startFits, startRight, timeOf, zeroRow}
 use Rattle.reply.specs.Members.{idleState, okState}
 use Rattle.rows.specs.declared.group.Group.{Group}
 use Rattle.rows.specs.Group.{groupAt, putGroup}
@@ -111,10 +111,6 @@ unfolding sizedFits
 sized-rows count P W store hold restore rows e =
     fits-rows count P W store rows (and-right (listFits hold count && listFits restore count) (startFits count P W store rows) e)
 
-right-sized : (kind count P W : ℕ) (hold restore : List ℕ) → startRight kind count P W hold restore ≡ true → sized kind count P W ≡ true
-unfolding startRight
-right-sized kind count P W hold restore e = and-right (timesWithin hold && timesWithin restore) (sized kind count P W) e
-
 -- a start that is answered 0
 module _ (kind count P W store : ℕ) (hold restore : List ℕ) (s : List (List ℕ)) where
   abbrev Answered : Bool → Bool → Type 0
@@ -131,13 +127,13 @@ module _ (kind count P W store : ℕ) (hold restore : List ℕ) (s : List (List 
 
   by-kept : (a b : Bool) → right ≡ a → fit ≡ b → Answered a b → Kept (left a b)
   by-kept true true e f z =
-      kept-start kind count P W hold restore s (right-sized kind count P W hold restore e) (sized-rows count P W store hold restore (length s) f)
+      kept-start kind count P W hold restore s (start-sized kind count P W (right-sized kind count P W hold restore e)) (sized-rows count P W store hold restore (length s) f)
   by-kept true false e f z = absurd (omega arith)
   by-kept false b e f z = absurd (omega arith)
 
   by-group : (a b : Bool) → right ≡ a → fit ≡ b → Answered a b → groupAt (left a b) ≡ groupWith kind count P W
   by-group true true e f z =
-      group kind count P W hold restore s (right-sized kind count P W hold restore e) (sized-rows count P W store hold restore (length s) f)
+      group kind count P W hold restore s (start-sized kind count P W (right-sized kind count P W hold restore e)) (sized-rows count P W store hold restore (length s) f)
   by-group true false e f z = absurd (omega arith)
   by-group false b e f z = absurd (omega arith)
 

@@ -10,7 +10,7 @@ use lib.Dec.{eqb, leb, ltb}
 use borrow.Author.Tests.{ltb-true, lt-ltb, le-ltb, eqb-true}
 use Rattle.invariant.specs.Kept.Port.{Joined, PortKept, Waiting, Windowed, endOf, offset, shortOf}
 use Rattle.invariant.specs.Proofs.Laws.Flags.{flag-on, never}
-use Rattle.invariant.specs.Proofs.Laws.Runs.{none-kept, run-kept}
+use Rattle.step.specs.Laws.RunKept.{ended-kept, run-kept}
 use Rattle.invariant.specs.Proofs.Laws.Window.{at-base, distance-next, no-offset, short-next, start-place}
 use Rattle.ground.specs.Truth.{and-left, and-true, clash, le-or-lt, or-cases}
 use Rattle.packet.specs.Kinds.{endsEpoch, epochsIn, frames, startsEpoch, tagAfter, tags}
@@ -24,7 +24,7 @@ use Rattle.step.specs.declared.arrival.Taken.{Taken}
 use Rattle.step.specs.declared.run.Run.{Run}
 use Rattle.step.specs.Laws.Arrival.{inWindow, ranOn, stepped, taken-by}
 use Rattle.step.specs.Laws.Lost.{run-goes-on}
-use Rattle.step.specs.Run.{noRun}
+use Rattle.step.specs.Run.{noRun, withBits}
 use Rattle.store.specs.Laws.Marks.{Sixteen, mark-beyond, mark-cut, mark-marked, sixteen-cut, sixteen-marked}
 use Rattle.store.specs.Marks.{markIn, markedAt}
 use Rattle.invariant.specs.Kept.Run.{RunKept}
@@ -60,7 +60,7 @@ module _ (g : Group) (s : Step) (marks : List ℕ) (W : Windowed g) (k : PortKep
 
   flagged-keeps : Keeps (flagged g s)
   unfolding flagged marksBy
-  flagged-keeps = lost-kept g s marks 1 noRun (omega arith) (none-kept (g .kind)) (λ n. refl) k
+  flagged-keeps = lost-kept g s marks 1 (withBits (s .bits) noRun) (omega arith) (ended-kept (g .kind) (s .bits) (k .run .bits)) (λ n. refl) k
 
   outside-keeps : Keeps (outside s)
   unfolding outside marksBy

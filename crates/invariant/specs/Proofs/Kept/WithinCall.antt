@@ -7,7 +7,7 @@ use mathlib.Core.List.{List}
 use Prim.Native.Nat.{ℕ, _≤_, _<_}
 use native.Mathlib.Omega.{arith}
 use lib.Dec.{eqb}
-use lib.ListN.{length, take}
+use lib.ListN.{length}
 use Rattle.invariant.specs.Proofs.Kept.Clearing.{begun-kept, stopped-kept}
 use Rattle.invariant.specs.Kept.Group.{GroupKept, OkApart, PortIn, Lasting, knownWord, lcasWord}
 use Rattle.invariant.specs.Proofs.Kept.Passing.{passed-kept}
@@ -16,12 +16,11 @@ use Rattle.invariant.specs.Proofs.Kept.Taken.{taken-kept, taken-whole}
 use Rattle.counting.specs.Laws.Tests.{every-at}
 use Rattle.counting.specs.Words.{every}
 use Rattle.ground.specs.Truth.{and-right, clash, cond-by, eq-or-ne}
-use Rattle.packet.specs.Crc.{crcOf}
+use Rattle.packet.specs.declared.layout.Fields.{Fields}
 use Rattle.packet.specs.declared.reader.Reading.{Reading}
-use Rattle.packet.specs.declared.reader.Reading.the-variants.{Crc, Fixed, Packet, Unassigned}
+use Rattle.packet.specs.declared.reader.Reading.the-variants.{Fixed, Packet, Unassigned}
 use Rattle.packet.specs.Kinds.{epochAfter, epochOf, fixedKind}
-use Rattle.packet.specs.Layout.{carriedIn, fieldsOf}
-use Rattle.packet.specs.Reading.{readNibbles}
+use Rattle.packet.specs.Reading.{readFields}
 use Rattle.packet.specs.Theorems.Tags.{epoch-after-lt, epochs-some, frames-two}
 use Rattle.packet.specs.Words.{ADD, DNU, EOS, FIXED, IDLE, NORM, assigned}
 use Rattle.phases.specs.Beginning.{begins, foremost, noTag, ready, within}
@@ -31,7 +30,7 @@ use Rattle.phases.specs.Laws.Cleared.{begun-group, begun-port, stopped-group, s
 use Rattle.phases.specs.Laws.Lengths.{length-begun, length-passed, length-stopped}
 use Rattle.phases.specs.Laws.Passed.{passed-group, passed-of-port}
 use Rattle.phases.specs.Passing.{groupTo, notedBy, passedGroup, passedOf}
-use Rattle.packet.specs.Ruling.{refused, rulingBy, rulingOf}
+use Rattle.packet.specs.Ruling.{readRow, refused, rulingBy, rulingOf}
 use Rattle.phases.specs.Settling.{begunOf, stoppedOf}
 use Rattle.receiver.specs.Frame.{oddIn, portRows, takenIn}
 use Rattle.receiver.specs.Laws.Frames.{frame-group, frame-other, frame-port, frameOn, length-frame}
@@ -51,7 +50,8 @@ use Rattle.step.specs.Arrival.{flagOf, inStep, takenOf}
 use Rattle.step.specs.declared.arrival.Taken.{Taken}
 use Rattle.packet.specs.Fixed.{fixedRulingOf}
 use Rattle.step.specs.Laws.FixedPackets.{fixed-word}
-use Rattle.step.specs.OwnCount.{ownNumber, ownRuling, rulingIn}
+use Rattle.step.specs.Laws.Packets.{row-by}
+use Rattle.step.specs.OwnCount.{ownNumber, ownRuling, rulingIn, withoutMfi2}
 use Rattle.store.specs.Frames.{packetIn}
 use Rattle.store.specs.Marks.{firstMark}
 
@@ -93,37 +93,36 @@ one-of x a b c d e false f h = rw f at h
 abbrev Known : Reading → Type 0
 Known r = rulingBy r .good ≡ true → lcasWord (rulingBy r .word) ≡ true
 
-read-known : (ns : List ℕ) → Known (readNibbles ns)
-unfolding readNibbles assigned
-read-known ns =
-    cond-by Known (eqb (crcOf (take 14 ns)) (carriedIn ns))
-    (cond (eqb (fieldsOf ns .word .0) FIXED) Fixed (cond (assigned (fieldsOf ns .word)) (Packet (fieldsOf ns)) Unassigned)) Crc
-    (λ c.
-    cond-by Known (eqb (fieldsOf ns .word .0) FIXED) Fixed (cond (assigned (fieldsOf ns .word)) (Packet (fieldsOf ns)) Unassigned) (λ f e. absurd (false≢true e))
-    (λ f.
-    cond-by Known (assigned (fieldsOf ns .word)) (Packet (fieldsOf ns)) Unassigned
+fields-known : (f : Fields) → Known (readFields f)
+unfolding assigned
+fields-known f =
+    cond-by Known (eqb (f .word .0) FIXED) Fixed (cond (assigned (f .word)) (Packet f) Unassigned) (λ x e. absurd (false≢true e))
+    (λ x.
+    cond-by Known (assigned (f .word)) (Packet f) Unassigned
     (λ a e.
-    let w : ℕ = fieldsOf ns .word .0 in
-    one-of (eqb w FIXED) (eqb w ADD) (eqb w NORM) (eqb w EOS) (eqb w IDLE) (eqb w DNU) (eqb w noWord) f a)
-    (λ a e. absurd (false≢true e))))
-    (λ c e. absurd (false≢true e))
+    let w : ℕ = f .word .0 in
+    one-of (eqb w FIXED) (eqb w ADD) (eqb w NORM) (eqb w EOS) (eqb w IDLE) (eqb w DNU) (eqb w noWord) x a)
+    (λ a e. absurd (false≢true e)))
+
+read-known : (kind : ℕ) (row : List ℕ) → Known (readRow kind row)
+read-known kind row = row-by Known (λ e. absurd (false≢true e)) fields-known kind row
 
 -- by the kind
 known-in : (kind epoch : ℕ) (ns : List ℕ) → rulingIn kind epoch ns .good ≡ true → knownWord kind (rulingIn kind epoch ns .word) ≡ true
 unfolding rulingIn rulingOf
 known-in kind epoch ns = go (eqb kind fixedKind)
   where
-    go : (b : Bool) → cond b (fixedRulingOf ns) (rulingBy (readNibbles ns)) .good ≡ true
-        → cond b (eqb (cond b (fixedRulingOf ns) (rulingBy (readNibbles ns)) .word) noWord || eqb (cond b (fixedRulingOf ns) (rulingBy (readNibbles ns)) .word) FIXED)
-        (lcasWord (cond b (fixedRulingOf ns) (rulingBy (readNibbles ns)) .word))
+    go : (b : Bool) → cond b (fixedRulingOf ns) (rulingBy (readRow kind ns)) .good ≡ true
+        → cond b (eqb (cond b (fixedRulingOf ns) (rulingBy (readRow kind ns)) .word) noWord || eqb (cond b (fixedRulingOf ns) (rulingBy (readRow kind ns)) .word) FIXED)
+        (lcasWord (cond b (fixedRulingOf ns) (rulingBy (readRow kind ns)) .word))
         ≡ true
     go true e = rw (fixed-word ns) refl
-    go false e = read-known ns e
+    go false e = read-known kind ns e
 
 ruling-known : (kind epoch : ℕ) (ns : List ℕ) → ownRuling kind epoch ns .good ≡ true → knownWord kind (ownRuling kind epoch ns .word) ≡ true
 unfolding ownRuling
 ruling-known kind epoch ns =
-    cond-by (λ (r : Ruling). r .good ≡ true → knownWord kind (r .word) ≡ true) (ownNumber epoch ns) (rulingIn kind epoch ns) refused (λ own. known-in kind epoch ns)
+    cond-by (λ (r : Ruling). r .good ≡ true → knownWord kind (r .word) ≡ true) (withoutMfi2 kind || ownNumber epoch ns) (rulingIn kind epoch ns) refused (λ own. known-in kind epoch ns)
     (λ other e. absurd (false≢true e))
 
 noted-word : (m : Member) (whole : Bool) (kind epoch : ℕ) (nibbles : List ℕ) → knownWord kind (m .word) ≡ true → knownWord kind (notedBy m whole (ownRuling kind epoch nibbles) .word) ≡ true

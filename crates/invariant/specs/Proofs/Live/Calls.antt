@@ -91,16 +91,16 @@ module _ (n : ℕ) (store : List ℕ) (a : List (List ℕ)) (j : ℕ) (c : j < n
       rw (told-of-port (groupAt p) n p j c l, passed-of-port (groupAt a) store n a j c long)
       (record { count = passed-run (groupAt a) store j (portAt a j) .count; next = passed-run (groupAt a) store j (portAt a j) .next; row = refl })
 
-by-said : (P : List (List ℕ) → ℕ → Type 0) (b : Bool) (x y : List (List ℕ)) (v w : ℕ) → (b ≡ true → P x v) → (b ≡ false → P y w) → P (cond b x y) (cond b v w)
+pub by-said : (P : List (List ℕ) → ℕ → Type 0) (b : Bool) (x y : List (List ℕ)) (v w : ℕ) → (b ≡ true → P x v) → (b ≡ false → P y w) → P (cond b x y) (cond b v w)
 by-said P true x y v w p q = p refl
 by-said P false x y v w p q = q refl
 
-unheard : (b c : Bool) → c ≡ false → (b && c) ≡ false
+pub unheard : (b c : Bool) → c ≡ false → (b && c) ≡ false
 unheard true c e = e
 unheard false c e = refl
 
 -- 1 and 9 are no frames to the step record
-refusal-unheard : (g : Group) (n i rows payload store : ℕ) → eqb (refusalBy g n i rows payload store) 0 ≡ false → isHeard (refusalBy g n i rows payload store) ≡ false
+pub refusal-unheard : (g : Group) (n i rows payload store : ℕ) → eqb (refusalBy g n i rows payload store) 0 ≡ false → isHeard (refusalBy g n i rows payload store) ≡ false
 unfolding refusalBy
 refusal-unheard g n i rows payload store e = go (ltb i n) (frameFits g n rows payload store) e
   where

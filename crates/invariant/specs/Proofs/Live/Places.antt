@@ -65,6 +65,3 @@ ends-starts kind x e =
     eq-eqb ((tagAfter kind x + lead kind) % frames kind) 0
     (by (λ L E N l. (x + l) % L % L ≡ L - 1 → ((x + 1) % N + l) % L ≡ 0) (λ q. omega arith) (λ q. omega arith) kind
     (eqb-true ((x + lead kind) % frames kind % frames kind) (frames kind - 1) e))
-
-pub second-mod : (kind x y : ℕ) → x % frames kind ≡ 1 % frames kind → y % frames kind ≡ 2 % frames kind → y % frames kind ≡ (x + 1) % frames kind
-second-mod kind x y = by (λ L E N l. x % L ≡ 1 % L → y % L ≡ 2 % L → y % L ≡ (x + 1) % L) (λ p q. omega arith) (λ p q. omega arith) kind

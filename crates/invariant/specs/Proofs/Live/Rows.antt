@@ -14,12 +14,8 @@ use Rattle.packet.specs.Laws.Distances.{place-below}
 use Rattle.packet.specs.Laws.Symbols.{length-with, row-is, symbol-other, symbol-same}
 use Rattle.packet.specs.Symbols.{symbolAt, symbolOf, withSymbol}
 use Rattle.packet.specs.Theorems.Tags.{frames-some}
+use Rattle.step.specs.Laws.RunKept.{Further}
 use Rattle.step.specs.Run.{endsPacket, inStepAt}
-
--- a run that goes on
-pub record Further (kind count next more then : ℕ) : Type 0 where
-  pub count-is : more ≤ count + 1
-  pub next-is : then % frames kind ≡ (next + 1) % frames kind
 
 module _ (kind count next : ℕ) (row heard : List ℕ) (o : LiveRow kind count next row heard) (more then h : ℕ) where
   abbrev place : ℕ

@@ -12,14 +12,10 @@ use Rattle.ground.specs.Truth.{cond-by}
 use Rattle.invariant.specs.Kept.Run.{RunKept}
 use Rattle.invariant.specs.Live.{LiveRow, isHeard}
 use Rattle.invariant.specs.Proofs.Laws.Flags.{true-or-false}
-use Rattle.invariant.specs.Proofs.Live.Places.{after-mod, second-mod}
-use Rattle.invariant.specs.Proofs.Live.Rows.{Further, live-none, live-put}
-use Rattle.packet.specs.Counts.{carriesLow, counts, startsCount, tagByHigh, tagByLow}
-use Rattle.packet.specs.Kinds.{placeOf, tagAfter}
-use Rattle.packet.specs.Laws.Counting.{low-told}
+use Rattle.invariant.specs.Proofs.Live.Rows.{live-none, live-put}
+use Rattle.packet.specs.Kinds.{placeOf}
 use Rattle.packet.specs.Laws.Symbols.{length-with}
 use Rattle.packet.specs.Symbols.{withSymbol}
-use Rattle.packet.specs.Theorems.Tags.{frames-two}
 use Rattle.receiver.specs.Frame.{ownTag}
 use Rattle.rows.specs.declared.group.Group.{Group}
 use Rattle.rows.specs.declared.step.Step.{Step}
@@ -27,44 +23,7 @@ use Rattle.step.specs.Arrival.{countsOn, flagged, frameDropped, joining, keeps,
 use Rattle.step.specs.declared.arrival.Taken.{Taken}
 use Rattle.step.specs.declared.run.Run.{Run}
 use Rattle.step.specs.Laws.Arrival.{ranOn, taken-by}
-use Rattle.step.specs.Run.{begunRun, breaksAfter, furtherRun, gainedRun, inStepAt, loses, noRun, oddAfter, runOn, secondRun, stayedRun}
-
--- a run begins anew, or goes on
-abbrev pub Grows : ℕ → Run → Run → Type 0
-Grows kind r q = (q .count ≤ 1) ⊎ Further kind (r .count) (r .next) (q .count) (q .next)
-
-begun-grows : (kind : ℕ) (r : Run) (h : ℕ) → Grows kind r (begunRun kind h)
-unfolding begunRun
-begun-grows kind r h =
-    cond-by (Grows kind r) (startsCount kind h) (record { count = 1; next = tagByHigh kind h; breaks = 0; odd = 0 }) noRun (λ e. inl (omega arith)) (λ e. inl (omega arith))
-
-second-grows : (kind : ℕ) (r : Run) (h : ℕ) → r .count ≡ 1 → RunKept kind r → Grows kind r (secondRun kind r h)
-unfolding secondRun
-second-grows kind r h one k =
-    let two = frames-two kind in
-    cond-by (Grows kind r) (carriesLow kind h) (record { count = 2; next = tagByLow kind (r .next) h; breaks = 0; odd = 0 }) (begunRun kind h)
-    (λ e. inr (record { count-is = omega arith; next-is = second-mod kind (r .next) (tagByLow kind (r .next) h) (rw one at (k .goes (omega arith) (omega arith))) (low-told kind (r .next) h .1) }))
-    (λ e. begun-grows kind r h)
-
-gained-grows : (kind : ℕ) (r : Run) (h : ℕ) → RunKept kind r → Grows kind r (gainedRun kind r h)
-unfolding gainedRun furtherRun
-gained-grows kind r h k =
-    cond-by (Grows kind r) (eqb (r .count) 0) (begunRun kind h) (cond (eqb (r .count) 1) (secondRun kind r h) (furtherRun kind r h)) (λ e. begun-grows kind r h)
-    (λ e.
-    cond-by (Grows kind r) (eqb (r .count) 1) (secondRun kind r h) (furtherRun kind r h) (λ d. second-grows kind r h (eqb-true (r .count) 1 d) k)
-    (λ d.
-    cond-by (Grows kind r) (counts kind (r .next) h) (record { count = r .count + 1; next = tagAfter kind (r .next); breaks = 0; odd = 0 }) (begunRun kind h)
-    (λ c. inr (record { count-is = omega arith; next-is = after-mod kind (r .next) })) (λ c. begun-grows kind r h)))
-
-run-grows : (kind : ℕ) (r : Run) (odd : Bool) (h : ℕ) → RunKept kind r → Grows kind r (runOn kind r odd h)
-unfolding runOn stayedRun
-run-grows kind r odd h k =
-    cond-by (Grows kind r) (inStepAt kind (r .count)) (stayedRun kind r odd h) (gainedRun kind r h)
-    (λ e.
-    cond-by (Grows kind r) (loses (counts kind (r .next) h) r odd) (begunRun kind h)
-    (record { count = r .count; next = tagAfter kind (r .next); breaks = breaksAfter (counts kind (r .next) h) (r .breaks); odd = oddAfter kind r odd })
-    (λ l. begun-grows kind r h) (λ l. inr (record { count-is = omega arith; next-is = after-mod kind (r .next) })))
-    (λ e. gained-grows kind r h k)
+use Rattle.step.specs.Laws.RunKept.{Grows, run-grows}
 
 -- what a frame that is one to the step record does: the run is none, or goes with the frame's symbol
 pub record Took (kind : ℕ) (s : Step) (t : Taken) : Type 0 where

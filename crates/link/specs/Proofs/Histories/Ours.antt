@@ -2,7 +2,10 @@
 use mathlib.Core.Path.{_≡_, sym, ap, subst, _∙_}
 use Prim.Native.Nat.{ℕ, _*_, _<_}
 use native.Mathlib.Omega.{arith}
-use Rattle.receiver.specs.Laws.Sizes.{sizes-of}
+use Rattle.ground.specs.Truth.{and-right}
+use Rattle.phases.specs.Sizes.{sized, startSized}
+use Rattle.packet.specs.Kinds.{payloadRight}
+use Rattle.receiver.specs.Laws.Sizes.{start-sizes-of}
 use Rattle.link.specs.Assumed.{Assumed}
 use Rattle.link.specs.History.{Handed, sendingOf}
 use Rattle.link.specs.Link.{AssumedOver, Link, kindOf}
@@ -15,11 +18,13 @@ module _ (k : Link) (a : Assumed k) where
   ownSide = sendingOf (a .history) (k .payload) (k .client) (a .unranked)
 
   handed : Handed (a .history) (k .payload) (k .client)
+  unfolding startSized
   handed =
-      let s = sizes-of (kindOf k) (k .ports) (k .payload) (k .window) (a .lines .sizes) in
+      let s = start-sizes-of (kindOf k) (k .ports) (k .payload) (k .window) (a .lines .sizes) in
       record {
         least = s .some-bytes;
         most = s .few-bytes;
+        payload-right = sym (ap (λ (s : Sending). payloadRight (s .kind) (k .payload)) (a .sends)) ∙ and-right (sized (kindOf k) (k .ports) (k .payload) (k .window)) (payloadRight (kindOf k) (k .payload)) (a .lines .sizes);
         whole = λ x. a .lines .client x ∙ ap (λ (s : Sending). s .x (epochAt (s .kind) x) * k .payload) (a .sends);
       }
 

@@ -3,14 +3,12 @@ use mathlib.Core.Path.{_≡_, refl, _∙_, sym, ap}
 use mathlib.Core.Bool.{true}
 use mathlib.Core.List.{List}
 use Prim.Native.Nat.{ℕ, _+_, _<_}
-use native.Mathlib.Omega.{arith}
 use lib.ListN.{getD, length, length-replicate, replicate}
 use borrow.Author.Tests.{eq-eqb, lt-ltb}
 use Rattle.packet.specs.declared.writer.Writing.the-variants as W
 use Rattle.packet.specs.Kinds.{firstTag, frames}
 use Rattle.packet.specs.Laws.Sent as laws
 use Rattle.packet.specs.Sent.{sentAnswer, sentBytes}
-use Rattle.packet.specs.Theorems.Tags.{epochs-fit}
 use Rattle.sender.specs.declared.epochs.Sender.{Sender}
 use Rattle.sender.specs.declared.table.Answer.the-variants.{Done}
 use Rattle.sender.specs.Epochs.{packetAnswer, packetBytes, packetFields}
@@ -52,10 +50,8 @@ module _ (h : History) (a : Allowed h) (i slot : ℕ) (b : slot < h .slots) wher
 
     pub packet-answered : packetAnswer (senderAt h i) slot h4 ≡ Done
     packet-answered =
-        let below-first = a .first in
-        let most = epochs-fit (h .kind) in
         rw (sender-run h i)
-        (packet-done (h .kind) (h .slots) (h .first) (callsTo h i) (omega arith) (given-to h a i) (rw (sender-run h i) at (sender-in h a i .begun)) slot
+        (packet-done (h .kind) (h .slots) (h .first) (callsTo h i) (a .first) (given-to h a i) (rw (sender-run h i) at (sender-in h a i .begun)) slot
         (rw (sender-run h i) at below) h4 (rw (sender-run h i) at room))
 
     -- written as the kind's packets are
@@ -84,11 +80,11 @@ module _ (h : History) (a : Allowed h) (i slot : ℕ) (b : slot < h .slots) wher
 
   -- it is as long as the epoch
   pub packet-long : length (packetSent h i slot) ≡ frames (h .kind)
-  packet-long = ap length packet-is ∙ laws.sent-long (h .kind) (fieldsSent h i slot) (replicate (frames (h .kind)) 0) packet-wrote
+  packet-long = ap length packet-is ∙ laws.sent-as (h .kind) (fieldsSent h i slot) (replicate (frames (h .kind)) 0) packet-wrote .long
 
   -- and its frames count
   pub sent-counts : (k : ℕ) → k < frames (h .kind) → SentWith (h .kind) (firstTag (h .kind) (h .first) + (epochStart (h .kind) i + k)) (getD (packetSent h i slot) k 0)
   sent-counts k l =
-      let there = laws.sent-counts (h .kind) (fieldsSent h i slot) (replicate (frames (h .kind)) 0) packet-wrote (firstTag (h .kind) (h .first) + (epochStart (h .kind) i + k))
+      let there = laws.sent-as (h .kind) (fieldsSent h i slot) (replicate (frames (h .kind)) 0) packet-wrote .told (firstTag (h .kind) (h .first) + (epochStart (h .kind) i + k))
       (packet-epoch h a i slot ∙ sym (tag-epoch (h .kind) (h .first) i k l)) in
       rw packet-is (rw (tag-place (h .kind) (h .first) i k l) at there)

@@ -6,6 +6,7 @@ use Prim.Native.Nat.{ℕ, _<_}
 use native.Mathlib.Omega.{arith}
 use lib.ListN.{length, length-replicate, replicate}
 use borrow.Author.Tests.{lt-ltb, ne-eqb}
+use Rattle.packet.specs.Kinds.{payloadRight}
 use Rattle.ground.specs.Table.{length-tabulate}
 use Rattle.payload.specs.Laws.Fits.{Sizes, spread-one-done}
 use Rattle.payload.specs.Order.{memberByte, memberFrame}
@@ -19,9 +20,9 @@ use Rattle.link.specs.Sending.{Client, epochAt}
 use Rattle.link.specs.Proofs.Histories.Ruling.{x-le}
 use Rattle.link.specs.Proofs.Histories.Senders.{sender-in, size-at}
 
-bytes-are : (s : Sender) (slot P : ℕ) (frame member : List ℕ) → slot < sizeOf (s .table .count) → s .begun ≡ true → payloadBytes s slot P frame member ≡ spreadOne (xOf s) P (rankIn s slot) frame member
+bytes-are : (s : Sender) (slot P : ℕ) (frame member : List ℕ) → slot < sizeOf (s .table .count) → payloadRight (s .table .kind) P ≡ true → s .begun ≡ true → payloadBytes s slot P frame member ≡ spreadOne (xOf s) P (rankIn s slot) frame member
 unfolding payloadBytes
-bytes-are s slot P frame member below begun = rw (lt-ltb slot (sizeOf (s .table .count)) below, begun) refl
+bytes-are s slot P frame member below own begun = rw (lt-ltb slot (sizeOf (s .table .count)) below, own, begun) refl
 
 module _ (h : History) (a : Allowed h) (P : ℕ) (client : Client) (c : Handed h P client) (x : ℕ) where
   abbrev X : ℕ
@@ -40,7 +41,7 @@ module _ (h : History) (a : Allowed h) (P : ℕ) (client : Client) (c : Handed h
   payload-is : (slot : ℕ) → slot < h .slots → payloadSent h P client x slot ≡ memberFrame X P (client x) (rankOf slot)
   unfolding payloadSent
   payload-is slot b =
-      bytes-are (senderAt h (epochAt (h .kind) x)) slot P (client x) (replicate P 0) (rw (size-at h a (epochAt (h .kind) x)) b) (sender-in h a (epochAt (h .kind) x) .begun)
+      bytes-are (senderAt h (epochAt (h .kind) x)) slot P (client x) (replicate P 0) (rw (size-at h a (epochAt (h .kind) x)) b) (rw (sender-in h a (epochAt (h .kind) x) .kind) (c .payload-right)) (sender-in h a (epochAt (h .kind) x) .begun)
       ∙ spread-one-done X P (rankOf slot) (client x) (replicate P 0) sizes-at (c .whole x) (length-replicate P 0)
 
   module _ (unranked : ℕ → ℕ → List ℕ) (slot : ℕ) (b : slot < h .slots) where

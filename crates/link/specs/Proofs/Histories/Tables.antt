@@ -5,8 +5,9 @@ use Prim.Native.Nat.{ℕ, zero, suc, _<_}
 use lib.ListN.{replicate}
 use Rattle.packet.specs.declared.reader.Reading.the-variants.{Packet}
 use Rattle.packet.specs.Kinds.{frames}
-use Rattle.packet.specs.Reading.{readAnswer}
-use Rattle.packet.specs.Theorems.ReadBack.{written-back}
+use Rattle.packet.specs.Laws.Sent.{sent-as}
+use Rattle.packet.specs.Ruling.{readRow}
+use Rattle.packet.specs.Symbols.{packetRow}
 use Rattle.sender.specs.declared.board.Board.{Board}
 use Rattle.sender.specs.declared.board.Row.{Row}
 use Rattle.sender.specs.declared.epochs.Sender.{Sender}
@@ -56,8 +57,8 @@ module _ (h : History) (al : Allowed h) where
   number-at i slot b = ap (λ (d : Board). rowAt (d .rows) slot .number) (board-at i) ∙ row-number (senderAt h i .table) slot b
 
   -- a packet is read as it was written, with the MST and the RS-Ack lent to its epoch
-  pub packet-read : (i slot : ℕ) → slot < h .slots → readAnswer (packetSent h i slot) ≡ Packet (fieldsSent h i slot)
-  packet-read i slot b = ap readAnswer (packet-is h al i slot b) ∙ written-back (fieldsSent h i slot) (replicate (frames (h .kind)) 0) (packet-wrote h al i slot b)
+  pub packet-read : (i slot : ℕ) → slot < h .slots → readRow (h .kind) (packetRow (h .kind) (packetSent h i slot)) ≡ Packet (fieldsSent h i slot)
+  packet-read i slot b = ap (λ (s : List ℕ). readRow (h .kind) (packetRow (h .kind) s)) (packet-is h al i slot b) ∙ sent-as (h .kind) (fieldsSent h i slot) (replicate (frames (h .kind)) 0) (packet-wrote h al i slot b) .reads
 
   pub mst-at : (i slot : ℕ) → fieldsSent h i slot .mst ≡ h .mst i
   unfolding packetFields

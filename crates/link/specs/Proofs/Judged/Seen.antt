@@ -15,7 +15,7 @@ use Rattle.packet.specs.Theorems.Tags.{frames-some}
 use Rattle.packet.specs.declared.ruling.Ruling.{Ruling}
 use Rattle.step.specs.OwnCount.{ownRuling}
 use Rattle.receiver.specs.Laws.Seen.{seen-each}
-use Rattle.receiver.specs.Laws.Sizes.{sizes-of}
+use Rattle.receiver.specs.Laws.Sizes.{start-sizes-of}
 use Rattle.link.specs.Proofs.Contents.{allSeenAfter, numberOf, packetOf, seenAfter}
 use Rattle.link.specs.Proofs.Laws.Counts.{tag-epoch}
 use Rattle.link.specs.Link.{AssumedOver, Damaged, Link, kindOf, roadOf, sentTo}
@@ -52,7 +52,7 @@ module _ (k : Link) where
 module _ (k : Link) (a : AssumedOver k) (i p : ℕ) (b : p < k .ports) where
   seen-at : seenAt (allSeenAfter (roadOf k) i) p ≡ seenAfter (roadOf k) i p
   unfolding allSeenAfter roadOf
-  seen-at = seen-each (k .ports) (seenAfter (roadOf k) i) p (sizes-of (kindOf k) (k .ports) (k .payload) (k .window) (a .lines .sizes) .few-ports) b
+  seen-at = seen-each (k .ports) (seenAfter (roadOf k) i) p (start-sizes-of (kindOf k) (k .ports) (k .payload) (k .window) (a .lines .sizes) .few-ports) b
 
   pub seen-sent : k .came i p ≡ sentTo k i p → seenAt (allSeenAfter (roadOf k) i) p ≡ seenSent (k .sending) i (k .pairing p)
   seen-sent e = seen-at ∙ seen-is k i p ∙ ap (λ (l : List ℕ). seenBy (readIn k i l)) e ∙ ap seenBy (a .lawful .reads i (k .pairing p) (a .paired .below p b))

@@ -6,6 +6,7 @@ use mathlib.Core.List.{[], _∷_, _++_}
 use Prim.Native.Nat.{ℕ, _+_, _*_, _<_}
 use lib.ListN.{length}
 use borrow.Author.Tests.{ne-eqb}
+use Rattle.receiver.specs.Laws.Sizes.{start-sized}
 use Rattle.phases.specs.Sizes.{portsIn, storeFor}
 use Rattle.receiver.specs.Frame.{frameAnswer, frameRefusal, frameRows, frameStore, portRows, settledBy, storeBy, takenIn, takenRows, takenStore}
 use Rattle.receiver.specs.Laws.Answers.{fitting-none}
@@ -20,7 +21,7 @@ module _ (r : Road) (f : Fair r) where
   module _ (m : Moment) (o : Lined r m) where
     pub ports-are : portsIn (groupAt (m .rows)) ≡ r .ports
     unfolding portsIn
-    ports-are = rw (o .kind-is, o .count-is, o .payload-is, o .window-is, f .sizes) refl
+    ports-are = rw (o .kind-is, o .count-is, o .payload-is, o .window-is, start-sized (r .kind) (r .ports) (r .payload) (r .window) (f .sizes)) refl
 
     store-is : storeFor (groupAt (m .rows)) (r .ports) ≡ r .ports * r .window * (r .payload + 1)
     unfolding storeFor

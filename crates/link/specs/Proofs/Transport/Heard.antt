@@ -104,7 +104,7 @@ module _ (r : Road) where
         let none : runOf s ≡ noRun = o .run ∙ heard-none p x e in
         let here : SentWith (r .kind) (r .offset + r .first p) (r .h4 p (r .first p)) = rw same at sent in
         rw (same, heard-after p (r .first p) (omega arith))
-        (run-starts (r .kind) (r .offset) (r .first p) (runFrom p) (r .h4 p (r .first p)) (runOf s) odd starts (ap (λ (q : Run). q .count) none) here))
+        (run-starts (r .kind) (r .offset) (r .first p) (runFrom p) (r .h4 p (r .first p)) (runOf s) odd starts (ap (λ (q : Run). q .count) none) (ap (λ (q : Run). q .bits) none) here))
         (λ (late : r .first p < x).
         let up : x - 1 + 1 ≡ x = omega arith in
         let here : SentWith (r .kind) (r .offset + (x - 1 + 1)) (r .h4 p x) = rw up sent in

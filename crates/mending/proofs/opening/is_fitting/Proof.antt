@@ -6,23 +6,23 @@ use Rattle.mending.proofs.opening.is_fitting.Tie as tie
 use Rattle.mending.proofs.opening.is_fitting.Reads as reads
 use Rattle.mending.proofs.opening.is_fitting.Lts as lts
 use Rattle.mending.proofs.opening.times_fit.Reads as times-fit-reads
-use Rattle.phases.proofs.is_sized.Reads as is-sized-reads
+use Rattle.phases.proofs.is_startable.Reads as is-startable-reads
 
 -- src/opening.rt:42:8
-is-sized-requires : tie.Need-is-sized-requires
-is-sized-requires c κs = search needs
+is-startable-requires : tie.Need-is-startable-requires
+is-startable-requires c κs = search needs
 
 -- src/opening.rt:48:9
 times-fit-requires : tie.Need-times-fit-requires
-times-fit-requires c κs = few-ports (c .before .before .args .settings) (sym (c .before .is-sized .ensures) ∙ c .if1 .taken)
+times-fit-requires c κs = few-ports (c .before .before .args .settings) (sym (c .before .is-startable .ensures) ∙ c .if1 .taken)
 
 -- src/opening.rt:48:9
 returns : tie.Need-returns
-returns c = c .times-fit .ensures ∙ fits-by (c .before .before .before .args .settings) (sym (c .before .before .is-sized .ensures) ∙ c .before .if1 .taken)
+returns c = c .times-fit .ensures ∙ fits-by (c .before .before .before .args .settings) (sym (c .before .before .is-startable .ensures) ∙ c .before .if1 .taken)
 
 -- src/opening.rt:39:1
 returns-2 : tie.Need-returns-2
-returns-2 c = fits-not (c .before .before .args .settings) (sym (c .before .is-sized .ensures) ∙ c .if1 .left)
+returns-2 c = fits-not (c .before .before .args .settings) (sym (c .before .is-startable .ensures) ∙ c .if1 .left)
 
 pub is-fitting-spec : {M : Type 1} → statement M
-is-fitting-spec = tie.close (tie.spec is-sized-requires times-fit-requires returns returns-2)
+is-fitting-spec = tie.close (tie.spec is-startable-requires times-fit-requires returns returns-2)

@@ -1,5 +1,5 @@
 use mathlib.Core.Path.{refl}
-use Rattle.packet.specs.Counts.{counts}
+use Rattle.packet.specs.Counts.{h4Counts}
 use borrow.Author.Needs.{needs}
 use Rattle.packet.proofs.counts.is_counted.Statement.{statement}
 use Rattle.packet.proofs.counts.is_counted.Tie as tie
@@ -14,7 +14,7 @@ cast-low : tie.Need-cast-low
 cast-low c = search needs
 
 returns : tie.Need-returns
-unfolding counts
+unfolding h4Counts
 returns c = refl
 
 pub is-counted-spec : {M : Type 1} → statement M

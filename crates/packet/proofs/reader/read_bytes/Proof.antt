@@ -1,10 +1,8 @@
--- `read_bytes` meets its contract: 5, 7, 6, or the packet of the halves of its eight bytes.
--- Each exit cites one law of Answers, in the order of the tests; that the joined shares are the CRC of those halves is `sum-of`.
-use mathlib.Core.Path.{_∙_, sym, ap}
+-- `read_bytes` meets its contract: 5, or what the fields of its eight bytes' halves say. That the joined shares are the CRC of those halves is `sum-of`.
+use mathlib.Core.Path.{_∙_, ap}
 use native.Mathlib.Omega.{arith}
-use borrow.Author.Tests.{not-true, not-false}
 use Rattle.packet.specs.Layout.{fieldsOf}
-use Rattle.packet.proofs.Answers.{read-crc, read-fixed, read-unassigned, read-packet}
+use Rattle.packet.proofs.Answers.{read-crc, read-good}
 use Rattle.packet.proofs.Eight.{carried-of, sum-of}
 use Rattle.packet.proofs.reader.read_bytes.Statement.{statement}
 use Rattle.packet.proofs.reader.read_bytes.Tie as tie
@@ -21,47 +19,17 @@ halves-of-requires c κs = omega arith
 fields-of-requires : tie.Need-fields-of-requires
 fields-of-requires c κs = omega arith
 
+by-word-requires : tie.Need-by-word-requires
+by-word-requires c κs = omega arith
+
 returns-2 : tie.Need-returns-2
 returns-2 c =
-    let at-fields-of = c .before .before .before .before in
+    let at-fields-of = c .before in
     let at-halves-of = at-fields-of .before in
     let at-if1 = at-halves-of .before in
     let at-join = at-if1 .before in
     let at-start = at-join .before in
-    read-fixed _ _ _ (sum-of (at-start .args .at-0) (at-start .args .at-1) (at-start .args .at-2) (at-start .args .at-3) (at-start .args .at-4) (at-start .args .at-5) (at-start .args .at-6) (at-start .args .carried) (omega arith) (omega arith) (omega arith) (omega arith) (omega arith) (omega arith) (omega arith) (omega arith) _ (at-join .join .ensures)) (carried-of (at-start .args .at-0) (at-start .args .at-1) (at-start .args .at-2) (at-start .args .at-3) (at-start .args .at-4) (at-start .args .at-5) (at-start .args .at-6) (at-start .args .carried) (omega arith) (omega arith) (omega arith) (omega arith) (omega arith) (omega arith) (omega arith) (omega arith)) (at-if1 .if1 .left) _ (at-fields-of .fields-of .ensures ∙ ap fieldsOf (at-halves-of .halves-of .ensures)) (c .if2 .taken)
-
-is-assigned-requires : tie.Need-is-assigned-requires
-is-assigned-requires c κs = omega arith
-
-returns-3 : tie.Need-returns-3
-returns-3 c =
-    let at-if2 = c .before .before in
-    let at-fields-of = at-if2 .before .before .before .before in
-    let at-halves-of = at-fields-of .before in
-    let at-if1 = at-halves-of .before in
-    let at-join = at-if1 .before in
-    let at-start = at-join .before in
-    read-unassigned _ _ _ (sum-of (at-start .args .at-0) (at-start .args .at-1) (at-start .args .at-2) (at-start .args .at-3) (at-start .args .at-4) (at-start .args .at-5) (at-start .args .at-6) (at-start .args .carried) (omega arith) (omega arith) (omega arith) (omega arith) (omega arith) (omega arith) (omega arith) (omega arith) _ (at-join .join .ensures)) (carried-of (at-start .args .at-0) (at-start .args .at-1) (at-start .args .at-2) (at-start .args .at-3) (at-start .args .at-4) (at-start .args .at-5) (at-start .args .at-6) (at-start .args .carried) (omega arith) (omega arith) (omega arith) (omega arith) (omega arith) (omega arith) (omega arith) (omega arith)) (at-if1 .if1 .left) _ (at-fields-of .fields-of .ensures ∙ ap fieldsOf (at-halves-of .halves-of .ensures)) (at-if2 .if2 .left) (sym (c .before .is-assigned .ensures) ∙ not-true _ (c .if3 .taken))
-
-returns-4 : tie.Need-returns-4
-returns-4 c =
-    let at-if2 = c .before .before in
-    let at-fields-of = at-if2 .before .before .before .before in
-    let at-halves-of = at-fields-of .before in
-    let at-if1 = at-halves-of .before in
-    let at-join = at-if1 .before in
-    let at-start = at-join .before in
-    read-packet _ _ _ (sum-of (at-start .args .at-0) (at-start .args .at-1) (at-start .args .at-2) (at-start .args .at-3) (at-start .args .at-4) (at-start .args .at-5) (at-start .args .at-6) (at-start .args .carried) (omega arith) (omega arith) (omega arith) (omega arith) (omega arith) (omega arith) (omega arith) (omega arith) _ (at-join .join .ensures)) (carried-of (at-start .args .at-0) (at-start .args .at-1) (at-start .args .at-2) (at-start .args .at-3) (at-start .args .at-4) (at-start .args .at-5) (at-start .args .at-6) (at-start .args .carried) (omega arith) (omega arith) (omega arith) (omega arith) (omega arith) (omega arith) (omega arith) (omega arith)) (at-if1 .if1 .left) _ (at-fields-of .fields-of .ensures ∙ ap fieldsOf (at-halves-of .halves-of .ensures)) (at-if2 .if2 .left) (sym (c .before .is-assigned .ensures) ∙ not-false _ (c .if3 .left))
+    read-good _ _ _ (sum-of (at-start .args .at-0) (at-start .args .at-1) (at-start .args .at-2) (at-start .args .at-3) (at-start .args .at-4) (at-start .args .at-5) (at-start .args .at-6) (at-start .args .carried) (omega arith) (omega arith) (omega arith) (omega arith) (omega arith) (omega arith) (omega arith) (omega arith) _ (at-join .join .ensures)) (carried-of (at-start .args .at-0) (at-start .args .at-1) (at-start .args .at-2) (at-start .args .at-3) (at-start .args .at-4) (at-start .args .at-5) (at-start .args .at-6) (at-start .args .carried) (omega arith) (omega arith) (omega arith) (omega arith) (omega arith) (omega arith) (omega arith) (omega arith)) (at-if1 .if1 .left) _ _ (at-fields-of .fields-of .ensures ∙ ap fieldsOf (at-halves-of .halves-of .ensures)) (c .by-word .ensures)
 
 pub read-bytes-spec : {M : Type 1} → statement M
-read-bytes-spec =
-    tie.close
-    (tie.spec
-    join-requires
-    returns
-    halves-of-requires
-    fields-of-requires
-    returns-2
-    is-assigned-requires
-    returns-3
-    returns-4)
+read-bytes-spec = tie.close (tie.spec join-requires returns halves-of-requires fields-of-requires by-word-requires returns-2)

@@ -4,8 +4,8 @@ use native.Mathlib.Omega.{arith}
 use Rattle.packet.proofs.ruling.ruling_of.Statement.{statement}
 use Rattle.packet.proofs.ruling.ruling_of.Tie as tie
 
-read-nibbles-requires : tie.Need-read-nibbles-requires
-read-nibbles-requires c κs = omega arith
+read-row-requires : tie.Need-read-row-requires
+read-row-requires c κs = omega arith
 
 enum-known-reading : tie.Need-enum-known-reading
 enum-known-reading c = omega arith
@@ -36,29 +36,29 @@ refusal-requires-4 c κs = omega arith
 
 returns : tie.Need-returns
 unfolding rulingOf
-returns c = rw (← c .before .before .before .before .read-nibbles .ensures, c .before .before .reading .given .1) refl
+returns c = rw (← c .before .before .before .before .read-row .ensures, c .before .before .reading .given .1) refl
 
 returns-2 : tie.Need-returns-2
 unfolding rulingOf
-returns-2 c = rw (← c .before .before .before .read-nibbles .ensures, c .before .enum-told .given .1) (c .refusal .ensures)
+returns-2 c = rw (← c .before .before .before .read-row .ensures, c .before .enum-told .given .1) (c .refusal .ensures)
 
 returns-3 : tie.Need-returns-3
 unfolding rulingOf
-returns-3 c = rw (← c .before .before .before .read-nibbles .ensures, c .before .enum-told2 .given .1) (c .refusal2 .ensures)
+returns-3 c = rw (← c .before .before .before .read-row .ensures, c .before .enum-told2 .given .1) (c .refusal2 .ensures)
 
 returns-4 : tie.Need-returns-4
 unfolding rulingOf
-returns-4 c = rw (← c .before .before .before .read-nibbles .ensures, c .before .enum-told3 .given .1) (c .refusal3 .ensures)
+returns-4 c = rw (← c .before .before .before .read-row .ensures, c .before .enum-told3 .given .1) (c .refusal3 .ensures)
 
 returns-5 : tie.Need-returns-5
 unfolding rulingOf
-returns-5 c = rw (← c .before .before .before .read-nibbles .ensures, c .before .enum-told4 .given .1) (c .refusal4 .ensures)
+returns-5 c = rw (← c .before .before .before .read-row .ensures, c .before .enum-told4 .given .1) (c .refusal4 .ensures)
 
 pub ruling-of-spec : {M : Type 1} → statement M
 ruling-of-spec =
     tie.close
     (tie.spec
-    read-nibbles-requires
+    read-row-requires
     enum-known-reading
     enum-told
     refusal-requires

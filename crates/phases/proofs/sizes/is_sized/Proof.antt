@@ -1,25 +1,40 @@
-use mathlib.Core.Path.{refl}
-use Rattle.phases.specs.Sizes.{sized}
+use mathlib.Core.Path.{_≡_, refl, sym, _∙_}
+use mathlib.Core.Bool.{Bool, true, false, cond, _||_}
+use Prim.Native.Nat.{ℕ}
+use lib.Dec.{eqb}
 use native.Mathlib.Omega.{arith}
+use Rattle.packet.specs.Clock.{by-kind, h4-numbers}
+use Rattle.packet.specs.Kinds.{fixedKind, knownKind, vc12Kind}
+use Rattle.phases.specs.Sizes.{sized, sizedAs}
 use Rattle.phases.proofs.sizes.is_sized.Statement.{statement}
 use Rattle.phases.proofs.sizes.is_sized.Tie as tie
 
-epoch-frames-requires : tie.Need-epoch-frames-requires
-epoch-frames-requires c κs = omega arith
+-- H4's numbers are those of every known kind but VC-12
+sized-by : (kind count P W : ℕ) → cond (sizedAs (eqb kind 0 || eqb kind fixedKind) 0 count P W) true (sizedAs (eqb kind vc12Kind) vc12Kind count P W) ≡ sized kind count P W
+unfolding sized knownKind
+sized-by kind count P W =
+    by-kind (λ k. cond (sizedAs (eqb k 0 || eqb k fixedKind) 0 count P W) true (sizedAs (eqb k vc12Kind) vc12Kind count P W) ≡ sized k count P W) refl
+    (λ k h4. let same = h4-numbers k h4 in rw (h4, same .0, same .1) (go (eqb k 0) (eqb k fixedKind))) kind
+  where
+    same : (b : Bool) → cond b true false ≡ b
+    same true = refl
+    same false = refl
 
-tag-count-requires : tie.Need-tag-count-requires
-tag-count-requires c κs = omega arith
+    go : (b c : Bool) → cond (sizedAs (b || c) 0 count P W) true false ≡ sizedAs (b || false || c) 0 count P W
+    go true c = same (sizedAs true 0 count P W)
+    go false c = same (sizedAs c 0 count P W)
 
-cast-result : tie.Need-cast-result
-cast-result c = omega arith
-
-cast-result-2 : tie.Need-cast-result-2
-cast-result-2 c = omega arith
+is-within-requires : tie.Need-is-within-requires
+is-within-requires c κs = omega arith
 
 returns : tie.Need-returns
-unfolding sized
-returns c = rw (← c .before .epoch-frames .ensures, ← c .tag-count .ensures) refl
+returns c = rw (← sized-by _ _ _ _, ← c .before .is-within .ensures, c .if1 .taken) refl
+
+is-within-requires-2 : tie.Need-is-within-requires-2
+is-within-requires-2 c κs = omega arith
+
+returns-2 : tie.Need-returns-2
+returns-2 c = rw (← sized-by _ _ _ _, ← c .before .before .is-within .ensures, c .before .if1 .left) (c .is-within2 .ensures)
 
 pub is-sized-spec : {M : Type 1} → statement M
-is-sized-spec =
-    tie.close (tie.spec epoch-frames-requires tag-count-requires cast-result cast-result-2 returns)
+is-sized-spec = tie.close (tie.spec is-within-requires returns is-within-requires-2 returns-2)

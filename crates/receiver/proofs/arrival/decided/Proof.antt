@@ -1,3 +1,4 @@
+use mathlib.Core.Path.{refl}
 use Rattle.receiver.proofs.Arriving.{decided-by}
 use borrow.Author.Needs.{needs}
 use Rattle.receiver.proofs.arrival.decided.Statement.{statement}
@@ -5,9 +6,6 @@ use Rattle.receiver.proofs.arrival.decided.Tie as tie
 
 get-requires : tie.Need-get-requires
 get-requires c κs = search needs
-
-ports-in-requires : tie.Need-ports-in-requires
-ports-in-requires c κs = search needs
 
 get-requires-2 : tie.Need-get-requires-2
 get-requires-2 c κs = search needs
@@ -35,21 +33,19 @@ same-length-2 c = search needs
 
 returns : tie.Need-returns
 returns c =
-    let get = c .before .before .before .before .before .before .before .before .before .before .before .before .before .before .get in
-    let ports-in = c .before .before .before .before .before .before .before .before .before .before .before .before .before .ports-in in
+    let get = c .before .before .before .before .before .before .before .before .before .before .before .before .before .get in
     let get2 = c .before .before .before .before .before .before .before .before .before .before .before .get2 in
     let get3 = c .before .before .before .before .before .before .before .before .before .get3 in
     let is-odd = c .before .before .before .before .before .before .before .is-odd in
     let decide = c .before .before .before .before .before .before .decide in
     let take = c .before .before .before .take in
-    decided-by _ _ _ _ _ _ _ _ (get .ensures) (get2 .ensures) _ _ _ _ _ _ (ports-in .ensures) (get3 .ensures) (is-odd .ensures) (decide .ensures) (take .ensures .0) (take .ensures .1)
+    decided-by _ _ _ _ _ _ _ _ (get .ensures) (get2 .ensures) _ _ _ _ _ _ refl (get3 .ensures) (is-odd .ensures) (decide .ensures) (take .ensures .0) (take .ensures .1)
 
 pub decided-spec : {M : Type 1} → statement M
 decided-spec =
     tie.close
     (tie.spec
     get-requires
-    ports-in-requires
     get-requires-2
     get-requires-3
     array-copy-out-gathering

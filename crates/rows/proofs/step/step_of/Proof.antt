@@ -17,17 +17,14 @@ array-read-t11 c = search needs
 array-read-t14 : tie.Need-array-read-t14
 array-read-t14 c = search needs
 
-array-read-t17 : tie.Need-array-read-t17
-array-read-t17 c = search needs
+array-read-t18 : tie.Need-array-read-t18
+array-read-t18 c = search needs
 
 array-read-t21 : tie.Need-array-read-t21
 array-read-t21 c = search needs
 
 array-read-t24 : tie.Need-array-read-t24
 array-read-t24 c = search needs
-
-array-read-t27 : tie.Need-array-read-t27
-array-read-t27 c = search needs
 
 array-read-pair : tie.Need-array-read-pair
 array-read-pair c = search needs
@@ -37,6 +34,9 @@ array-read-pair-2 c = search needs
 
 pair-requires : tie.Need-pair-requires
 pair-requires c κs = search needs
+
+array-read-t34 : tie.Need-array-read-t34
+array-read-t34 c = search needs
 
 array-read-t37 : tie.Need-array-read-t37
 array-read-t37 c = search needs
@@ -58,7 +58,7 @@ array-read-t52 c = search needs
 
 returns : tie.Need-returns
 unfolding stepOf
-returns c = rw (c .pair .ensures, ← rest (c .before .args .t1) (omega arith) 11)
+returns c = rw (c .pair .ensures, ← rest (c .before .args .t1) (omega arith) 12)
 
 pub step-of-spec : {M : Type 1} → statement M
 step-of-spec =
@@ -68,13 +68,13 @@ step-of-spec =
     array-read-t8
     array-read-t11
     array-read-t14
-    array-read-t17
+    array-read-t18
     array-read-t21
     array-read-t24
-    array-read-t27
     array-read-pair
     array-read-pair-2
     pair-requires
+    array-read-t34
     array-read-t37
     array-read-t40
     array-read-t43

@@ -12,24 +12,21 @@ cast-t8 c = search needs
 cast-t11 : tie.Need-cast-t11
 cast-t11 c = search needs
 
-element-copy-out-t20 : tie.Need-element-copy-out-t20
-element-copy-out-t20 c = search needs
+element-copy-out-t21 : tie.Need-element-copy-out-t21
+element-copy-out-t21 c = search needs
 
-element-copy-out-t23 : tie.Need-element-copy-out-t23
-element-copy-out-t23 c = search needs
+element-copy-out-t24 : tie.Need-element-copy-out-t24
+element-copy-out-t24 c = search needs
 
-element-copy-out-t26 : tie.Need-element-copy-out-t26
-element-copy-out-t26 c = search needs
+element-copy-out-t27 : tie.Need-element-copy-out-t27
+element-copy-out-t27 c = search needs
 
-element-copy-out-t29 : tie.Need-element-copy-out-t29
-element-copy-out-t29 c = search needs
-
-element-copy-out-t32 : tie.Need-element-copy-out-t32
-element-copy-out-t32 c = search needs
+element-copy-out-t30 : tie.Need-element-copy-out-t30
+element-copy-out-t30 c = search needs
 
 returns : tie.Need-returns
 unfolding stepRow
-returns c = rw (← listed 5 (c .before .before .before .before .before .args .t1 .spare) (simp length-map at (c .before .before .before .before .before .good .0 .1 .1 .0 .1 .0 .1))) refl
+returns c = rw (← listed 4 (c .before .before .before .before .args .t1 .spare) (simp length-map at (c .before .before .before .before .good .0 .1 .1 .0 .1 .0 .1))) refl
 
 pub step-row-spec : {M : Type 1} → statement M
 step-row-spec =
@@ -37,9 +34,8 @@ step-row-spec =
     (tie.spec
     cast-t8
     cast-t11
-    element-copy-out-t20
-    element-copy-out-t23
-    element-copy-out-t26
-    element-copy-out-t29
-    element-copy-out-t32
+    element-copy-out-t21
+    element-copy-out-t24
+    element-copy-out-t27
+    element-copy-out-t30
     returns)

@@ -8,7 +8,7 @@ cast-result : tie.Need-cast-result
 cast-result c = omega arith
 
 returns : tie.Need-returns
-returns c = counts-later _ _ _ (c .if1 .taken)
+returns c = counts-later _ _ (c .if1 .taken)
 
 is-counted-requires : tie.Need-is-counted-requires
 is-counted-requires c κs = search needs

@@ -40,8 +40,8 @@ packet-fields-requires c κs =
     let at-start = c .before .before .before .before .before .before .before .before in
     let h : at-start .args .slot < 64 = omega (arith, size-le (at-start .args .self .table .count)) in h
 
-write-requires : tie.Need-write-requires
-write-requires c κs = search needs
+write-by-requires : tie.Need-write-by-requires
+write-by-requires c κs = search needs
 
 written-as-requires : tie.Need-written-as-requires
 written-as-requires c κs = search needs
@@ -58,7 +58,7 @@ returns-4 c =
     let at-epoch-frames = at-if2 .before in
     let at-if1 = at-epoch-frames .before in
     let at-size = at-if1 .before in
-    packet-sent _ _ (at-size .size .ensures) _ (at-if1 .if1 .left) (at-epoch-frames .epoch-frames .ensures) (at-if2 .if2 .left) (not-false _ (at-if3 .if3 .left)) (at-packet-fields .packet-fields .ensures) (at-write .write .ensures .0) (at-write .write .ensures .1) (c .written-as .ensures)
+    packet-sent _ _ (at-size .size .ensures) _ (at-if1 .if1 .left) (at-epoch-frames .epoch-frames .ensures) (at-if2 .if2 .left) (not-false _ (at-if3 .if3 .left)) (at-packet-fields .packet-fields .ensures) (at-write .write-by .ensures .0) (at-write .write-by .ensures .1) (c .written-as .ensures)
 
 pub packet-spec : {M : Type 1} → statement M
 packet-spec =
@@ -71,7 +71,7 @@ packet-spec =
     returns-2
     returns-3
     packet-fields-requires
-    write-requires
+    write-by-requires
     written-as-requires
     same-length
     returns-4)

@@ -1,0 +1,3 @@
+-- Theorems on the step rule.
+pub mod Words
+pub mod Heard
