@@ -1,5 +1,6 @@
 pub mod Areas
 pub mod Blocks
 pub mod Copies
+pub mod Evens
 pub mod Frames
 pub mod Shuffles

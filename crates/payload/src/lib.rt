@@ -3,6 +3,7 @@
 mod answer;
 mod block;
 mod copy;
+mod narrow;
 mod plain;
 mod shuffle;
 mod work;

@@ -50,6 +50,20 @@ pub(crate) fn sixteen_rows(q: [u8; 128]) -> [u8; 128]
     shuffled(a)
 }
 
+pub(crate) fn many_rows(q: [u8; 128]) -> [u8; 128]
+    ensures { λ s. ⌜ s ≡ turned 32 4 q ⌝ }
+{
+    let a = sixteen_rows(q);
+    shuffled(a)
+}
+
+pub(crate) fn most_rows(q: [u8; 128]) -> [u8; 128]
+    ensures { λ s. ⌜ s ≡ turned 64 2 q ⌝ }
+{
+    let a = many_rows(q);
+    shuffled(a)
+}
+
 fn four_wide(q: [u8; 256]) -> [u8; 256]
     ensures { λ s. ⌜ s ≡ turned 4 64 q ⌝ }
 {
