@@ -4,6 +4,7 @@ mod answer;
 mod block;
 mod copy;
 mod narrow;
+mod over;
 mod plain;
 mod shuffle;
 mod work;

@@ -3,6 +3,7 @@
 use crate::block;
 use crate::copy;
 use crate::narrow;
+use crate::over;
 use crate::plain;
 ghost use mathlib.Core.Path.{_≡_};
 ghost use Prim.Native.Nat.{ℕ, _+_, _*_, _≤_, _<_};
@@ -53,6 +54,8 @@ pub(crate) fn spread(x: usize, p: usize, frame: &[u8], members: &mut [u8])
         narrow::spread(4, 32, p, frame, members);
     } else if (x == 8) & (16 <= p) {
         narrow::spread(8, 16, p, frame, members);
+    } else if (3 <= x) & (x <= 7) & (34 <= p) {
+        over::spread(x, p, frame, members);
     } else if (8 <= x) & (16 <= p) {
         block::join(16, 8, p, x, frame, members);
     } else {

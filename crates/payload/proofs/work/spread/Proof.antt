@@ -5,7 +5,7 @@ use native.Mathlib.Nat.{mul-comm}
 use native.Mathlib.Omega.{arith}
 use Rattle.payload.proofs.Copies.{one-times, one-spread}
 use Rattle.payload.proofs.Evens.{even-fit, spread-as, times-as}
-use Rattle.payload.proofs.Frames.{blocks-fit, spread-by-lines}
+use Rattle.payload.proofs.Frames.{blocks-fit, overs-fit, spread-by-lines}
 use borrow.Author.Needs.{needs}
 use Rattle.payload.proofs.work.spread.Statement.{statement}
 use Rattle.payload.proofs.work.spread.Tie as tie
@@ -37,15 +37,21 @@ spread-requires-3 c κs =
     let t = times-as (a .x) 8 (a .p) (e .0) in
     (inr (inr (refl, refl)), e .1, h .0 ∙ t, h .1 ∙ t)
 
+spread-requires-4 : tie.Need-spread-requires-4
+spread-requires-4 c κs =
+    let h = c .before .before .before .before .before .before .before .before .pre in
+    let e = overs-fit (c .before .before .before .before .before .before .before .before .args .x) (c .before .before .before .before .before .before .before .before .args .p) (c .before .if5 .taken) in
+    (e .0, e .1, omega (arith, e .2), h .0, h .1)
+
 join-requires : tie.Need-join-requires
 join-requires c κs =
-    let a = c .before .before .before .before .before .before .before .before .args in
-    let h = c .before .before .before .before .before .before .before .before .pre in
-    let e = blocks-fit (a .x) (a .p) (c .before .if5 .taken) in
+    let a = c .before .before .before .before .before .before .before .before .before .args in
+    let h = c .before .before .before .before .before .before .before .before .before .pre in
+    let e = blocks-fit (a .x) (a .p) (c .before .if6 .taken) in
     (record { rows = refl; bytes = refl; rows-most = omega arith; bytes-most = omega arith; both = omega arith }, e .1, e .0, h .0 ∙ mul-comm (a .x) (a .p), h .1 ∙ mul-comm (a .x) (a .p))
 
-spread-requires-4 : tie.Need-spread-requires-4
-spread-requires-4 c κs = omega arith
+spread-requires-5 : tie.Need-spread-requires-5
+spread-requires-5 c κs = omega arith
 
 same-length : tie.Need-same-length
 same-length c = omega arith
@@ -86,15 +92,21 @@ same-length-5 : tie.Need-same-length-5
 same-length-5 c = omega arith
 
 returns-5 : tie.Need-returns-5
-returns-5 c =
-    let a = c .before .before .before .before .before .before .before .before .before .before .before .args in
-    spread-by-lines (a .x) (a .p) (a .frame .now) _ (c .before .before .join .ensures)
+returns-5 c = search needs
 
 same-length-6 : tie.Need-same-length-6
 same-length-6 c = omega arith
 
 returns-6 : tie.Need-returns-6
-returns-6 c = search needs
+returns-6 c =
+    let a = c .before .before .before .before .before .before .before .before .before .before .before .before .args in
+    spread-by-lines (a .x) (a .p) (a .frame .now) _ (c .before .before .join .ensures)
+
+same-length-7 : tie.Need-same-length-7
+same-length-7 c = omega arith
+
+returns-7 : tie.Need-returns-7
+returns-7 c = search needs
 
 pub spread-spec : {M : Type 1} → statement M
 spread-spec =
@@ -104,8 +116,9 @@ spread-spec =
     spread-requires
     spread-requires-2
     spread-requires-3
-    join-requires
     spread-requires-4
+    join-requires
+    spread-requires-5
     same-length
     returns
     same-length-2
@@ -117,4 +130,6 @@ spread-spec =
     same-length-5
     returns-5
     same-length-6
-    returns-6)
+    returns-6
+    same-length-7
+    returns-7)

@@ -1,0 +1,64 @@
+// Spreading and joining three, five, six and seven members. A line of the frame is read and stored by eight bytes, of which the first X are its own. The
+// last two lines, beyond which the frame may end, go by plain loops.
+use crate::block;
+use crate::copy;
+use crate::plain;
+use crate::shuffle;
+ghost use mathlib.Core.Path.{_≡_};
+ghost use Prim.Native.Nat.{ℕ, _+_, _-_, _*_, _≤_, _<_};
+ghost use lib.ListN.{length, getD};
+ghost use Rattle.ground.specs.Drawn.{drawn, fillAt};
+ghost use Rattle.payload.specs.Inner.Area.{area};
+ghost use Rattle.payload.specs.Inner.Block.{Rows, rowByte};
+ghost use Rattle.payload.specs.Joining.{rankedByte, startedByte};
+ghost use Rattle.payload.specs.Order.{groupByte, groupFrame};
+ghost use Rattle.payload.specs.Spreading.{allMembers};
+
+// Sixteen lines of a frame, a row of eight bytes of each. A place that runs on costs less than one worked out anew for each line.
+fn read(frame: &[u8], x: usize, r: usize, q: &mut [u8])
+    requires { ⌜ (1 ≤ x) × (x ≤ 8) × (128 ≤ length (now q)) × ((r + 15) * x + 8 ≤ length (now frame)) ⌝ }
+    ensures { λ _. ⌜ Rows 16 8 (rankedByte x (now (frame .entry))) r 0 (now (q .entry)) (now (q .exit)) ⌝ }
+{
+    let mut from = r * x;
+    let mut l = 0;
+    while l < 16 {
+        copy::by_bytes(frame, from, 8, l * 8, q);
+        from += x;
+        l += 1;
+    }
+}
+
+// The first X of eight columns, into the members that lie one after the other.
+fn lay_rows(q: [u8; 128], x: usize, p: usize, r: usize, members: &mut [u8])
+    requires { ⌜ (x ≤ 8) × (r + 16 ≤ p) × (length (now members) ≡ x * p) ⌝ }
+    ensures { λ _. ⌜ now (members .exit) ≡ drawn (area p 0 0 x r 16) (rowByte 8 p 0 0 r q) (now (members .entry)) ⌝ }
+{
+    let t = shuffle::sixteen_rows(q);
+    block::write(&t, 16, x, p, 0, 0, r, members);
+}
+
+// The first n bytes of all members.
+fn columns(x: usize, p: usize, n: usize, frame: &[u8], members: &mut [u8])
+    requires { ⌜ (3 ≤ x) × (x ≤ 8) × (16 ≤ n) × (n + 2 ≤ p) × (length (now frame) ≡ x * p) × (length (now members) ≡ x * p) ⌝ }
+    ensures { λ _. ⌜ now (members .exit) ≡ drawn (area p 0 0 x 0 n) (λ k. groupByte p (rankedByte x (now (frame .entry))) (k - 0)) (now (members .entry)) ⌝ }
+{
+    let mut c = 0;
+    while c < n {
+        let r = block::start(c, n, 16);
+        let mut q = [0; 128];
+        read(frame, x, r, &mut q);
+        lay_rows(q, x, p, r, members);
+        c += 16;
+    }
+}
+
+// A frame, into members one after the other.
+pub(crate) fn spread(x: usize, p: usize, frame: &[u8], members: &mut [u8])
+    requires { ⌜ (3 ≤ x) × (x ≤ 8) × (18 ≤ p) × (length (now frame) ≡ x * p) × (length (now members) ≡ x * p) ⌝ }
+    ensures { λ _. ⌜ now (members .exit) ≡ allMembers x p (now (frame .entry)) ⌝ }
+{
+    let n = p - 2;
+    columns(x, p, n, frame, members);
+    plain::column(p, x, n, frame, n * x, 0, members);
+    plain::column(p, x, n + 1, frame, (n + 1) * x, 0, members);
+}
