@@ -3,4 +3,5 @@ pub mod Blocks
 pub mod Copies
 pub mod Evens
 pub mod Frames
+pub mod Fronts
 pub mod Shuffles

@@ -1,3 +1,4 @@
 -- What inner functions say of each other. No entry point's promise names these.
 pub mod Area
 pub mod Block
+pub mod Front

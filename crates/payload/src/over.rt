@@ -5,11 +5,12 @@ use crate::copy;
 use crate::plain;
 use crate::shuffle;
 ghost use mathlib.Core.Path.{_≡_};
-ghost use Prim.Native.Nat.{ℕ, _+_, _-_, _*_, _≤_, _<_};
+ghost use Prim.Native.Nat.{ℕ, _+_, _-_, _*_, _/_, _%_, _≤_, _<_};
 ghost use lib.ListN.{length, getD};
 ghost use Rattle.ground.specs.Drawn.{drawn, fillAt};
 ghost use Rattle.payload.specs.Inner.Area.{area};
 ghost use Rattle.payload.specs.Inner.Block.{Rows, rowByte};
+ghost use Rattle.payload.specs.Inner.Front.{Front};
 ghost use Rattle.payload.specs.Joining.{rankedByte, startedByte};
 ghost use Rattle.payload.specs.Order.{groupByte, groupFrame};
 ghost use Rattle.payload.specs.Spreading.{allMembers};
@@ -63,4 +64,76 @@ pub(crate) fn spread(x: usize, p: usize, frame: &[u8], members: &mut [u8])
     columns(x, p, n, frame, members);
     plain::column(p, x, n, frame, n * x, 0, members);
     plain::column(p, x, n + 1, frame, (n + 1) * x, 0, members);
+}
+
+// Sixteen lines, each by eight bytes from where it begins: what goes beyond a line is stored over by the next, and beyond the last it stays.
+fn write(q: &[u8], x: usize, at: usize, out: &mut [u8])
+    requires { ⌜ (1 ≤ x) × (x ≤ 8) × (128 ≤ length (now q)) × (at + 15 * x + 8 ≤ length (now out)) ⌝ }
+    ensures { λ _. ⌜ Front at (16 * x) (at + 15 * x + 8) (λ i. getD (now (q .entry)) (i / x * 8 + i % x) 0) (now (out .entry)) (now (out .exit)) ⌝ }
+{
+    let mut to = at;
+    let mut l = 0;
+    while l < 16 {
+        copy::by_bytes(q, l * 8, 8, to, out);
+        to += x;
+        l += 1;
+    }
+}
+
+// The first X of eight rows, as lines of the frame.
+fn lay(q: [u8; 128], x: usize, at: usize, out: &mut [u8])
+    requires { ⌜ (1 ≤ x) × (x ≤ 8) × (at + 15 * x + 8 ≤ length (now out)) ⌝ }
+    ensures { λ _. ⌜ Front at (16 * x) (at + 15 * x + 8) (λ i. getD q (i % x * 16 + i / x) 0) (now (out .entry)) (now (out .exit)) ⌝ }
+{
+    let t = shuffle::eight_rows(q);
+    write(&t, x, at, out);
+}
+
+// The first n lines, of members that start anywhere in a store.
+fn lines(
+    x: usize,
+    p: usize,
+    n: usize,
+    starts: &[usize],
+    store: &[u8],
+    place: usize,
+    out: &mut [u8],
+)
+    requires { ⌜ (3 ≤ x) × (x ≤ 8) × (16 ≤ n) × (n + 2 ≤ p) × (x ≤ length (now starts)) × ((r : ℕ) → r < x → getD (now starts) r 0 + p ≤ length (now store)) × (place + x * p ≤ length (now out)) ⌝ }
+    ensures { λ _. ⌜ Front place (n * x) (place + x * p) (groupByte x (startedByte (now (starts .entry)) (now (store .entry)))) (now (out .entry)) (now (out .exit)) ⌝ }
+{
+    let mut c = 0;
+    while c < n {
+        let j = block::start(c, n, 16);
+        let mut q = [0; 128];
+        block::read_started(x, 16, starts, store, 0, j, &mut q);
+        lay(q, x, place + j * x, out);
+        c += 16;
+    }
+}
+
+// Members that start anywhere in a store, into a frame that lies from a place on.
+pub(crate) fn join_from(
+    x: usize,
+    p: usize,
+    starts: &[usize],
+    store: &[u8],
+    place: usize,
+    out: &mut [u8],
+)
+    requires { ⌜ (3 ≤ x) × (x ≤ 8) × (18 ≤ p) × (x ≤ length (now starts)) × ((r : ℕ) → r < x → getD (now starts) r 0 + p ≤ length (now store)) × (place + x * p ≤ length (now out)) ⌝ }
+    ensures { λ _. ⌜ now (out .exit) ≡ fillAt place (x * p) (groupByte x (startedByte (now (starts .entry)) (now (store .entry)))) (now (out .entry)) ⌝ }
+{
+    let n = p - 2;
+    lines(x, p, n, starts, store, place, out);
+    plain::join_from(x, 2, starts, &store[n..], place + n * x, out);
+}
+
+// Members one after the other, into a frame.
+pub(crate) fn join(x: usize, p: usize, members: &[u8], frame: &mut [u8])
+    requires { ⌜ (3 ≤ x) × (x ≤ 7) × (18 ≤ p) × (length (now members) ≡ x * p) × (length (now frame) ≡ x * p) ⌝ }
+    ensures { λ _. ⌜ now (frame .exit) ≡ groupFrame x p (rankedByte p (now (members .entry))) ⌝ }
+{
+    let starts = [0, p, 2 * p, 3 * p, 4 * p, 5 * p, 6 * p];
+    join_from(x, p, &starts, members, 0, frame);
 }
