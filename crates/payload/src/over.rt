@@ -90,15 +90,7 @@ fn lay(q: [u8; 128], x: usize, at: usize, out: &mut [u8])
 }
 
 // The first n lines, of members that start anywhere in a store.
-fn lines(
-    x: usize,
-    p: usize,
-    n: usize,
-    starts: &[usize],
-    store: &[u8],
-    place: usize,
-    out: &mut [u8],
-)
+fn lines(x: usize, p: usize, n: usize, starts: &[usize], store: &[u8], place: usize, out: &mut [u8])
     requires { ⌜ (3 ≤ x) × (x ≤ 8) × (16 ≤ n) × (n + 2 ≤ p) × (x ≤ length (now starts)) × ((r : ℕ) → r < x → getD (now starts) r 0 + p ≤ length (now store)) × (place + x * p ≤ length (now out)) ⌝ }
     ensures { λ _. ⌜ Front place (n * x) (place + x * p) (groupByte x (startedByte (now (starts .entry)) (now (store .entry)))) (now (out .entry)) (now (out .exit)) ⌝ }
 {

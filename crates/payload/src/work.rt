@@ -1,5 +1,5 @@
 // The work under 0: a copy where there is one member, by blocks where one fits, else by plain loops. A block of two members has 64 bytes of each, one of
-// four 32, others sixteen. The compiler is to know the sizes of the first three.
+// four 32, others sixteen; of the first three the compiler is to know the sizes. Three, five, six and seven go by lines of eight bytes.
 use crate::block;
 use crate::copy;
 use crate::narrow;
@@ -34,6 +34,8 @@ pub(crate) fn join(x: usize, p: usize, members: &[u8], frame: &mut [u8])
         narrow::join(4, 32, p, members, frame);
     } else if (x == 8) & (16 <= p) {
         narrow::join(8, 16, p, members, frame);
+    } else if (3 <= x) & (x <= 7) & (34 <= p) {
+        over::join(x, p, members, frame);
     } else if (8 <= x) & (16 <= p) {
         block::join(rows(x), 16, x, p, members, frame);
     } else {
@@ -83,6 +85,8 @@ pub(crate) fn join_from(
         narrow::join_from(4, 32, p, starts, store, place, out);
     } else if (x == 8) & (16 <= p) {
         narrow::join_from(8, 16, p, starts, store, place, out);
+    } else if (3 <= x) & (x <= 7) & (34 <= p) {
+        over::join_from(x, p, starts, store, place, out);
     } else if (8 <= x) & (16 <= p) {
         block::join_from(rows(x), x, p, starts, store, place, out);
     } else {

@@ -5,7 +5,7 @@ use native.Mathlib.Omega.{arith}
 use Rattle.payload.specs.Joining.{rankedByte}
 use Rattle.payload.proofs.Copies.{one-times, one-joined}
 use Rattle.payload.proofs.Evens.{even-fit, joined-as, times-as}
-use Rattle.payload.proofs.Frames.{blocks-fit}
+use Rattle.payload.proofs.Frames.{blocks-fit, overs-fit}
 use borrow.Author.Needs.{needs}
 use Rattle.payload.proofs.work.join.Statement.{statement}
 use Rattle.payload.proofs.work.join.Tie as tie
@@ -37,18 +37,25 @@ join-requires-3 c κs =
     let t = times-as (a .x) 8 (a .p) (e .0) in
     (inr (inr (refl, refl)), e .1, h .0 ∙ t, h .1 ∙ t)
 
-rows-requires : tie.Need-rows-requires
-rows-requires c κs = blocks-fit (c .before .before .before .before .before .before .before .args .x) (c .before .before .before .before .before .before .before .args .p) (c .if5 .taken) .0
-
 join-requires-4 : tie.Need-join-requires-4
 join-requires-4 c κs =
-    let a = c .before .before .before .before .before .before .before .before .before .args in
-    let h = c .before .before .before .before .before .before .before .before .before .pre in
-    let s = c .before .rows .ensures in
-    (s .0, s .1, blocks-fit (a .x) (a .p) (c .before .before .if5 .taken) .1, h .0, h .1)
+    let a = c .before .before .before .before .before .before .before .before .args in
+    let h = c .before .before .before .before .before .before .before .before .pre in
+    let e = overs-fit (a .x) (a .p) (c .before .if5 .taken) in
+    (e .0, e .1, omega (arith, e .2), h .0, h .1)
+
+rows-requires : tie.Need-rows-requires
+rows-requires c κs = blocks-fit (c .before .before .before .before .before .before .before .before .args .x) (c .before .before .before .before .before .before .before .before .args .p) (c .if6 .taken) .0
 
 join-requires-5 : tie.Need-join-requires-5
-join-requires-5 c κs = omega arith
+join-requires-5 c κs =
+    let a = c .before .before .before .before .before .before .before .before .before .before .args in
+    let h = c .before .before .before .before .before .before .before .before .before .before .pre in
+    let s = c .before .rows .ensures in
+    (s .0, s .1, blocks-fit (a .x) (a .p) (c .before .before .if6 .taken) .1, h .0, h .1)
+
+join-requires-6 : tie.Need-join-requires-6
+join-requires-6 c κs = omega arith
 
 same-length : tie.Need-same-length
 same-length c = omega arith
@@ -97,6 +104,12 @@ same-length-6 c = omega arith
 returns-6 : tie.Need-returns-6
 returns-6 c = search needs
 
+same-length-7 : tie.Need-same-length-7
+same-length-7 c = omega arith
+
+returns-7 : tie.Need-returns-7
+returns-7 c = search needs
+
 pub join-spec : {M : Type 1} → statement M
 join-spec =
     tie.close
@@ -105,9 +118,10 @@ join-spec =
     join-requires
     join-requires-2
     join-requires-3
-    rows-requires
     join-requires-4
+    rows-requires
     join-requires-5
+    join-requires-6
     same-length
     returns
     same-length-2
@@ -119,4 +133,6 @@ join-spec =
     same-length-5
     returns-5
     same-length-6
-    returns-6)
+    returns-6
+    same-length-7
+    returns-7)

@@ -6,7 +6,7 @@ use native.Mathlib.Omega.{arith}
 use Rattle.payload.specs.Joining.{startedByte}
 use Rattle.payload.proofs.Copies.{one-times, one-from}
 use Rattle.payload.proofs.Evens.{even-fit, from-as, times-as}
-use Rattle.payload.proofs.Frames.{blocks-fit}
+use Rattle.payload.proofs.Frames.{blocks-fit, overs-fit}
 use borrow.Author.Needs.{needs}
 use Rattle.payload.proofs.work.join_from.Statement.{statement}
 use Rattle.payload.proofs.work.join_from.Tie as tie
@@ -47,18 +47,25 @@ join-from-requires-3 c κs =
     let t = times-as (a .x) 8 (a .p) s in
     (inr (inr (refl, refl)), e .1, omega (arith, s, h .0), λ r b. h .1 r (omega (arith, s, b)), omega (arith, t, h .2))
 
-rows-requires : tie.Need-rows-requires
-rows-requires c κs = blocks-fit (c .before .before .before .before .before .before .before .before .args .x) (c .before .before .before .before .before .before .before .before .args .p) (c .if5 .taken) .0
-
 join-from-requires-4 : tie.Need-join-from-requires-4
 join-from-requires-4 c κs =
-    let a = c .before .before .before .before .before .before .before .before .before .before .args in
-    let h = c .before .before .before .before .before .before .before .before .before .before .pre in
-    let s = c .before .rows .ensures in
-    (s .0, s .1, blocks-fit (a .x) (a .p) (c .before .before .if5 .taken) .1, h .0, h .1, h .2)
+    let a = c .before .before .before .before .before .before .before .before .before .args in
+    let h = c .before .before .before .before .before .before .before .before .before .pre in
+    let e = overs-fit (a .x) (a .p) (c .before .if5 .taken) in
+    (e .0, omega (arith, e .1), omega (arith, e .2), h .0, h .1, h .2)
+
+rows-requires : tie.Need-rows-requires
+rows-requires c κs = blocks-fit (c .before .before .before .before .before .before .before .before .before .args .x) (c .before .before .before .before .before .before .before .before .before .args .p) (c .if6 .taken) .0
 
 join-from-requires-5 : tie.Need-join-from-requires-5
-join-from-requires-5 c κs = search needs
+join-from-requires-5 c κs =
+    let a = c .before .before .before .before .before .before .before .before .before .before .before .args in
+    let h = c .before .before .before .before .before .before .before .before .before .before .before .pre in
+    let s = c .before .rows .ensures in
+    (s .0, s .1, blocks-fit (a .x) (a .p) (c .before .before .if6 .taken) .1, h .0, h .1, h .2)
+
+join-from-requires-6 : tie.Need-join-from-requires-6
+join-from-requires-6 c κs = search needs
 
 same-length : tie.Need-same-length
 same-length c = omega arith
@@ -109,6 +116,12 @@ same-length-6 c = omega arith
 returns-6 : tie.Need-returns-6
 returns-6 c = search needs
 
+same-length-7 : tie.Need-same-length-7
+same-length-7 c = omega arith
+
+returns-7 : tie.Need-returns-7
+returns-7 c = search needs
+
 pub join-from-spec : {M : Type 1} → statement M
 join-from-spec =
     tie.close
@@ -118,9 +131,10 @@ join-from-spec =
     join-from-requires
     join-from-requires-2
     join-from-requires-3
-    rows-requires
     join-from-requires-4
+    rows-requires
     join-from-requires-5
+    join-from-requires-6
     same-length
     returns
     same-length-2
@@ -132,4 +146,6 @@ join-from-spec =
     same-length-5
     returns-5
     same-length-6
-    returns-6)
+    returns-6
+    same-length-7
+    returns-7)

@@ -41,7 +41,7 @@ spread-requires-4 : tie.Need-spread-requires-4
 spread-requires-4 c κs =
     let h = c .before .before .before .before .before .before .before .before .pre in
     let e = overs-fit (c .before .before .before .before .before .before .before .before .args .x) (c .before .before .before .before .before .before .before .before .args .p) (c .before .if5 .taken) in
-    (e .0, e .1, omega (arith, e .2), h .0, h .1)
+    (e .0, omega (arith, e .1), omega (arith, e .2), h .0, h .1)
 
 join-requires : tie.Need-join-requires
 join-requires c κs =
