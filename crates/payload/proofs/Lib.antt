@@ -1,6 +1,7 @@
 pub mod Areas
 pub mod Blocks
 pub mod Copies
+pub mod Deals
 pub mod Evens
 pub mod Frames
 pub mod Fronts

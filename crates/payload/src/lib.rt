@@ -3,6 +3,7 @@
 mod answer;
 mod block;
 mod copy;
+mod deal;
 mod narrow;
 mod over;
 mod plain;
