@@ -12,6 +12,7 @@ use Rattle.ground.specs.Drawn.{fillAt, fillAt-all, length-fillAt, getD-fillAt, 
 use Rattle.ground.specs.Table.{tabulate, tabulate-ext, tabulate-self, getD-tabulate}
 use Rattle.ground.specs.Truth.{le-or-lt}
 use Rattle.payload.specs.Inner.Block.{Rows, turned}
+use Rattle.payload.specs.Inner.Deal.{Dealt}
 use Rattle.payload.specs.Inner.Front.{Front}
 use Rattle.payload.specs.Joining.{rankedByte, startedByte}
 use Rattle.payload.specs.Order.{groupByte, groupFrame}
@@ -122,6 +123,50 @@ over-lines {place} {end} {d} {mid} x j had now last m before q out pos low high 
         let z : 0 + i % x ≡ i % x = omega arith in
         rows .is (i % x) (i / x) (s .1) (s .0) ∙ ap (λ (c : ℕ). m c (j + i / x)) z
         ∙ sym (ap₂ m (ap (λ (k : ℕ). k % x) whole ∙ digits-mod (j + i / x) (s .1)) (ap (λ (k : ℕ). k / x) whole ∙ digits-div (j + i / x) (s .1)))
+
+-- 32 lines more of a frame of three members, from line j on: sixteen lines of six bytes
+pub over-three : {place end : ℕ} {d mid : List ℕ} (j had now last : ℕ) (m : ℕ → ℕ → ℕ) (before q s out : List ℕ) → j ≤ had → j + 32 ≡ now
+    → Rows 3 32 m 0 j before q → Dealt 48 q s → Front place (had * 3) end (groupByte 3 m) d mid → Front (place + j * 3) (16 * 6) last (λ i. getD s (i % 6 * 16 + i / 6) 0) mid out
+    → last ≤ end → Front place (now * 3) end (groupByte 3 m) d out
+over-three {place} {end} {d} {mid} j had now last m before q s out low high rows deal h w fits =
+    rw sum at (front-then 96 last (λ i. getD s (i % 6 * 16 + i / 6) 0) out (front-less (j * 3) (omega arith) h) w fits agree)
+  where
+    sum : j * 3 + 96 ≡ now * 3
+    sum = omega arith
+
+    even : (l c : ℕ) → l < 16 → c < 3 → getD s (c * 16 + l) 0 ≡ m c (j + 2 * l)
+    even l c hl hc =
+        let at : 2 * (c * 16 + l) ≡ c * 32 + 2 * l = omega arith in
+        let z : 0 + c ≡ c = omega arith in
+        deal .even (c * 16 + l) (omega arith) ∙ ap (λ (k : ℕ). getD q k 0) at ∙ rows .is c (2 * l) hc (omega arith) ∙ ap (λ (k : ℕ). m k (j + 2 * l)) z
+
+    odd : (l c : ℕ) → l < 16 → c < 3 → getD s (48 + (c * 16 + l)) 0 ≡ m c (j + (2 * l + 1))
+    odd l c hl hc =
+        let at : 2 * (c * 16 + l) + 1 ≡ c * 32 + (2 * l + 1) = omega arith in
+        let z : 0 + c ≡ c = omega arith in
+        deal .odd (c * 16 + l) (omega arith) ∙ ap (λ (k : ℕ). getD q k 0) at ∙ rows .is c (2 * l + 1) hc (omega arith) ∙ ap (λ (k : ℕ). m k (j + (2 * l + 1))) z
+
+    first : (i : ℕ) → i < 96 → i % 6 < 3 → getD s (i % 6 * 16 + i / 6) 0 ≡ m ((j * 3 + i) % 3) ((j * 3 + i) / 3)
+    first i b u =
+        let whole : j * 3 + i ≡ (j + 2 * (i / 6)) * 3 + i % 6 = omega arith in
+        even (i / 6) (i % 6) (omega arith) u
+        ∙ sym (ap₂ m (ap (λ (k : ℕ). k % 3) whole ∙ digits-mod (j + 2 * (i / 6)) u) (ap (λ (k : ℕ). k / 3) whole ∙ digits-div (j + 2 * (i / 6)) u))
+
+    second : (i : ℕ) → i < 96 → 3 ≤ i % 6 → getD s (i % 6 * 16 + i / 6) 0 ≡ m ((j * 3 + i) % 3) ((j * 3 + i) / 3)
+    second i b u =
+        let at : i % 6 * 16 + i / 6 ≡ 48 + ((i % 6 - 3) * 16 + i / 6) = omega arith in
+        let few : i % 6 - 3 < 3 = omega arith in
+        let whole : j * 3 + i ≡ (j + (2 * (i / 6) + 1)) * 3 + (i % 6 - 3) = omega arith in
+        ap (λ (k : ℕ). getD s k 0) at ∙ odd (i / 6) (i % 6 - 3) (omega arith) few
+        ∙ sym (ap₂ m (ap (λ (k : ℕ). k % 3) whole ∙ digits-mod (j + (2 * (i / 6) + 1)) few) (ap (λ (k : ℕ). k / 3) whole ∙ digits-div (j + (2 * (i / 6) + 1)) few))
+
+    agree : (i : ℕ) → i < 96 → getD s (i % 6 * 16 + i / 6) 0 ≡ m ((j * 3 + i) % 3) ((j * 3 + i) / 3)
+    agree i b = ⊎-elim (λ (u : 3 ≤ i % 6). second i b u) (λ (u : i % 6 < 3). first i b u) (le-or-lt 3 (i % 6))
+
+-- a front of lines, where their length is known
+pub front-of : (x k n p place : ℕ) (m : ℕ → ℕ → ℕ) {d out : List ℕ} → x ≡ k → Front place (n * k) (place + k * p) (groupByte k m) d out
+    → Front place (n * x) (place + x * p) (groupByte x m) d out
+front-of x k n p place m e h = rw e h
 
 -- the last lines of a frame, behind a front of all others
 pub over-all : {place : ℕ} {d mid : List ℕ} (x n p : ℕ) (m g : ℕ → ℕ → ℕ) (out : List ℕ) → n + 2 ≡ p → 0 < x → place + x * p ≤ length d

@@ -2,6 +2,7 @@
 // last two lines, beyond which the frame may end, go by plain loops.
 use crate::block;
 use crate::copy;
+use crate::deal;
 use crate::plain;
 use crate::shuffle;
 ghost use mathlib.Core.Path.{_≡_};
@@ -104,6 +105,41 @@ fn lines(x: usize, p: usize, n: usize, starts: &[usize], store: &[u8], place: us
     }
 }
 
+// The same of three members. Their even bytes and their odd ones are six members of half the length, in lines of six bytes.
+fn three(p: usize, n: usize, starts: &[usize], store: &[u8], place: usize, out: &mut [u8])
+    requires { ⌜ (32 ≤ n) × (n + 2 ≤ p) × (3 ≤ length (now starts)) × ((r : ℕ) → r < 3 → getD (now starts) r 0 + p ≤ length (now store)) × (place + 3 * p ≤ length (now out)) ⌝ }
+    ensures { λ _. ⌜ Front place (n * 3) (place + 3 * p) (groupByte 3 (startedByte (now (starts .entry)) (now (store .entry)))) (now (out .entry)) (now (out .exit)) ⌝ }
+{
+    let mut c = 0;
+    while c < n {
+        let j = block::start(c, n, 32);
+        let mut q = [0; 128];
+        block::read_started(3, 32, starts, store, 0, j, &mut q);
+        let s = deal::dealt(48, q);
+        lay(s, 6, place + j * 3, out);
+        c += 32;
+    }
+}
+
+fn most_lines(
+    x: usize,
+    p: usize,
+    n: usize,
+    starts: &[usize],
+    store: &[u8],
+    place: usize,
+    out: &mut [u8],
+)
+    requires { ⌜ (3 ≤ x) × (x ≤ 8) × (32 ≤ n) × (n + 2 ≤ p) × (x ≤ length (now starts)) × ((r : ℕ) → r < x → getD (now starts) r 0 + p ≤ length (now store)) × (place + x * p ≤ length (now out)) ⌝ }
+    ensures { λ _. ⌜ Front place (n * x) (place + x * p) (groupByte x (startedByte (now (starts .entry)) (now (store .entry)))) (now (out .entry)) (now (out .exit)) ⌝ }
+{
+    if x == 3 {
+        three(p, n, starts, store, place, out);
+    } else {
+        lines(x, p, n, starts, store, place, out);
+    }
+}
+
 // Members that start anywhere in a store, into a frame that lies from a place on.
 pub(crate) fn join_from(
     x: usize,
@@ -113,17 +149,17 @@ pub(crate) fn join_from(
     place: usize,
     out: &mut [u8],
 )
-    requires { ⌜ (3 ≤ x) × (x ≤ 8) × (18 ≤ p) × (x ≤ length (now starts)) × ((r : ℕ) → r < x → getD (now starts) r 0 + p ≤ length (now store)) × (place + x * p ≤ length (now out)) ⌝ }
+    requires { ⌜ (3 ≤ x) × (x ≤ 8) × (34 ≤ p) × (x ≤ length (now starts)) × ((r : ℕ) → r < x → getD (now starts) r 0 + p ≤ length (now store)) × (place + x * p ≤ length (now out)) ⌝ }
     ensures { λ _. ⌜ now (out .exit) ≡ fillAt place (x * p) (groupByte x (startedByte (now (starts .entry)) (now (store .entry)))) (now (out .entry)) ⌝ }
 {
     let n = p - 2;
-    lines(x, p, n, starts, store, place, out);
+    most_lines(x, p, n, starts, store, place, out);
     plain::join_from(x, 2, starts, &store[n..], place + n * x, out);
 }
 
 // Members one after the other, into a frame.
 pub(crate) fn join(x: usize, p: usize, members: &[u8], frame: &mut [u8])
-    requires { ⌜ (3 ≤ x) × (x ≤ 7) × (18 ≤ p) × (length (now members) ≡ x * p) × (length (now frame) ≡ x * p) ⌝ }
+    requires { ⌜ (3 ≤ x) × (x ≤ 7) × (34 ≤ p) × (length (now members) ≡ x * p) × (length (now frame) ≡ x * p) ⌝ }
     ensures { λ _. ⌜ now (frame .exit) ≡ groupFrame x p (rankedByte p (now (members .entry))) ⌝ }
 {
     let starts = [0, p, 2 * p, 3 * p, 4 * p, 5 * p, 6 * p];

@@ -21,8 +21,8 @@ within-store c =
 sub-n : tie.Need-sub-n
 sub-n c = search needs
 
-lines-requires : tie.Need-lines-requires
-lines-requires c κs = search needs
+most-lines-requires : tie.Need-most-lines-requires
+most-lines-requires c κs = search needs
 
 sub-join-from : tie.Need-sub-join-from
 sub-join-from c = omega (arith, within-store (c .before .before .before .before .before .before .before))
@@ -44,7 +44,7 @@ join-from-requires c κs =
     let a = c .before .before .before .before .before .before .before .before .before .args in
     let h = c .before .before .before .before .before .before .before .before .before .pre in
     let n : ℕ = a .p - 2 in
-    (h .3, λ r b. omega (arith, length-rest n (a .store .now), h .4 r b, h .2), omega (arith, last (c .before .before .before .before .before .before .before .before .before) .lines, c .before .before .before .before .lines .ensures .len, h .5, h .2))
+    (h .3, λ r b. omega (arith, length-rest n (a .store .now), h .4 r b, h .2), omega (arith, last (c .before .before .before .before .before .before .before .before .before) .lines, c .before .before .before .before .most-lines .ensures .len, h .5, h .2))
 
 same-length : tie.Need-same-length
 same-length c = search needs
@@ -56,14 +56,14 @@ returns c =
     let n : ℕ = a .p - 2 in
     let pos : 0 < a .x = omega (arith, h .0) in
     over-all (a .x) n (a .p) (startedByte (a .starts .now) (a .store .now)) (startedByte (a .starts .now) (take (length (a .store .now) - n) (drop n (a .store .now)))) _ (omega (arith, h .2)) pos (h .5)
-    (c .before .before .before .before .before .before .before .lines .ensures) (c .before .before .join-from .ensures) (λ r i. started-rest n (a .store .now) (a .starts .now) r i)
+    (c .before .before .before .before .before .before .before .most-lines .ensures) (c .before .before .join-from .ensures) (λ r i. started-rest n (a .store .now) (a .starts .now) r i)
 
 pub join-from-spec : {M : Type 1} → statement M
 join-from-spec =
     tie.close
     (tie.spec
     sub-n
-    lines-requires
+    most-lines-requires
     sub-join-from
     part-join-from-start
     part-join-from-end
