@@ -1,6 +1,6 @@
 -- `join` meets its contract: the frame is drawn, w lines at a time. The last w may start before c, and draw some lines a second time (`lines-more`).
 -- The invariant: the lines below c are drawn.
-use mathlib.Core.Path.{_≡_, refl, sym, _∙_}
+use mathlib.Core.Path.{_≡_, refl, _∙_}
 use Prim.Native.Nat.{ℕ, _≤_, _-_, _+_, _*_, min}
 use native.Mathlib.Omega.{arith}
 use Rattle.ground.specs.Drawn.{Drawing, drawing-none, fillAt-all}

@@ -1,7 +1,7 @@
 -- `join_from` meets its contract: the frame is drawn, w lines at a time (`lines-more`).
 -- The invariant: the lines below c are drawn.
-use mathlib.Core.Path.{_≡_, refl, sym, _∙_}
-use Prim.Native.Nat.{ℕ, _≤_, _-_, _+_, _*_, min}
+use mathlib.Core.Path.{_≡_, refl}
+use Prim.Native.Nat.{ℕ, _≤_, _-_, _+_, min}
 use native.Mathlib.Omega.{arith}
 use Rattle.ground.specs.Drawn.{Drawing, drawing-none}
 use Rattle.payload.specs.Inner.Area.{area}

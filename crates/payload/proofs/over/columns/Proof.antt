@@ -1,7 +1,7 @@
 -- `columns` meets its contract: sixteen bytes of all members at a time, as lines of the frame are joined (`columns-more`).
 -- The invariant: of every member the bytes below c are drawn.
 use mathlib.Core.Path.{_≡_, _∙_}
-use Prim.Native.Nat.{ℕ, _≤_, _-_, _+_, _*_, min}
+use Prim.Native.Nat.{ℕ, _≤_, _-_, _+_, min}
 use native.Mathlib.Nat.{mul-comm}
 use native.Mathlib.Omega.{arith}
 use Rattle.ground.specs.Drawn.{Drawing, drawing-none}

@@ -1,9 +1,8 @@
 -- `join` meets its contract: members that lie one after the other start at multiples of p (`joined-started`).
-use mathlib.Core.Path.{_≡_}
-use Prim.Native.Nat.{ℕ, _<_, _≤_, _+_, _*_}
+use Prim.Native.Nat.{_<_, _≤_, _*_}
 use native.Mathlib.Nat.{mul-le-mul-right}
 use native.Mathlib.Omega.{arith}
-use lib.ListN.{length, getD}
+use lib.ListN.{length}
 use Rattle.payload.proofs.Frames.{member-in}
 use Rattle.payload.proofs.Fronts.{starts-at, joined-started}
 use borrow.Author.Needs.{needs}

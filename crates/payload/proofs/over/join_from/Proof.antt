@@ -1,8 +1,7 @@
 -- `join_from` meets its contract: a front of all lines but two, and those two behind it (`over-all`).
-use mathlib.Core.Path.{_≡_}
-use Prim.Native.Nat.{ℕ, _<_, _≤_, _+_, _-_, _*_}
+use Prim.Native.Nat.{ℕ, _<_, _≤_, _-_}
 use native.Mathlib.Omega.{arith}
-use lib.ListN.{length, getD, take, drop}
+use lib.ListN.{length, take, drop}
 use Rattle.payload.specs.Joining.{startedByte}
 use Rattle.payload.proofs.Blocks.{BlockIn, block-in}
 use Rattle.payload.proofs.Fronts.{over-all, length-rest, started-rest}

@@ -1,6 +1,6 @@
 -- `lines` meets its contract: sixteen lines at a time, from where the front may be shorter than it is (`over-lines`).
 -- The invariant: a front of the lines below c.
-use mathlib.Core.Path.{_≡_, refl}
+use mathlib.Core.Path.{_≡_}
 use Prim.Native.Nat.{ℕ, _≤_, _<_, _-_, _+_, _*_, min}
 use native.Mathlib.Nat.{mul-le-mul-right}
 use native.Mathlib.Omega.{arith}

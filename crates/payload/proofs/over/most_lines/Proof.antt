@@ -1,9 +1,8 @@
-use mathlib.Core.Path.{_≡_, sym}
-use Prim.Native.Nat.{_<_, _*_}
+use mathlib.Core.Path.{_≡_}
+use Prim.Native.Nat.{_*_}
 use native.Mathlib.Omega.{arith}
 use Rattle.payload.specs.Joining.{startedByte}
 use Rattle.payload.proofs.Fronts.{front-of}
-use borrow.Author.Needs.{needs}
 use Rattle.payload.proofs.over.most_lines.Statement.{statement}
 use Rattle.payload.proofs.over.most_lines.Tie as tie
 

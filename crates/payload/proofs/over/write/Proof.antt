@@ -1,9 +1,9 @@
 -- The invariant: the first l lines are right, and the next one begins where the place has run to.
 use mathlib.Core.Path.{_≡_}
-use Prim.Native.Nat.{ℕ, _≤_, _+_, _-_, _*_, _/_, _%_}
+use Prim.Native.Nat.{_≤_, _+_, _-_, _*_, _/_, _%_}
 use native.Mathlib.Nat.{mul-le-mul-right}
 use native.Mathlib.Omega.{arith}
-use lib.ListN.{length, getD}
+use lib.ListN.{getD}
 use Rattle.payload.specs.Inner.Front.{Front}
 use Rattle.payload.proofs.Fronts.{front-none, over-more}
 use Rattle.payload.proofs.over.write.Statement.{statement}
