@@ -3,7 +3,7 @@ use mathlib.Core.Path.{_≡_, sym, ap, _∙_}
 use mathlib.Core.Logic.{⊎-elim}
 use mathlib.Core.Bool.{true, false, _&&_, _||_}
 use Prim.Native.Nat.{ℕ, _+_, _-_, _*_, _/_, _%_, _≤_, _<_}
-use native.Mathlib.Nat.{mod-lt, div-add-mod', div-lt-iff-lt-mul, mul-comm, eq-zero-or-pos, zero-mul}
+use native.Mathlib.Nat.{mod-lt, div-add-mod', div-lt-iff-lt-mul, mul-comm, mul-le-mul-right, eq-zero-or-pos, zero-mul}
 use native.Mathlib.Omega.{arith}
 use lib.Arith.{digits-lt, digits-div, digits-mod}
 use lib.Dec.{leb, eqb}
@@ -121,6 +121,28 @@ area-all X P place k = same-test (area X place 0 P 0 X k) (within place (X * P) 
         let r = mod-lt (k - place) g in
         area-true X place 0 P 0 X k (omega arith))
         (eq-zero-or-pos X)
+
+-- all columns of some lines are a run of places
+pub area-whole : (X place l n k : ℕ) → 0 < X → area X place l n 0 X k ≡ within (place + l * X) (n * X) k
+area-whole X place l n k pos = same-test (area X place l n 0 X k) (within (place + l * X) (n * X) k) to back
+  where
+    to : area X place l n 0 X k ≡ true → within (place + l * X) (n * X) k ≡ true
+    to e =
+        let s = area-said X place l n 0 X k e in
+        let low = mul-le-mul-right X (s .line-from) in
+        let r : (k - place) % X < X = omega arith in
+        let high : (k - place) / X * X + (k - place) % X < (l + n) * X = digits-lt (s .line-to) r in
+        within-true (place + l * X) (n * X) k (omega (arith, div-add-mod' (k - place) X, low)) (omega (arith, div-add-mod' (k - place) X, high))
+
+    back : within (place + l * X) (n * X) k ≡ true → area X place l n 0 X k ≡ true
+    back e =
+        let w = within-said (place + l * X) (n * X) k e in
+        let q : (k - place) / X < l + n = div-lt-iff-lt-mul pos .1 (omega arith) in
+        let r = mod-lt (k - place) pos in
+        let whole = div-add-mod' (k - place) X in
+        ⊎-elim (λ (g : l ≤ (k - place) / X). area-true X place l n 0 X k (omega arith))
+        (λ (g : (k - place) / X < l). let b : (k - place) / X * X + (k - place) % X < l * X = digits-lt g r in absurd (omega arith))
+        (le-or-lt l ((k - place) / X))
 
 -- no line, no column
 pub area-no-line : (X place l c m k : ℕ) → area X place l 0 c m k ≡ false

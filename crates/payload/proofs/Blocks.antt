@@ -105,13 +105,13 @@ line-more h X place j i r q out fits old e =
     same k =
         rw (← area-run X place (j + i) r h k fits) (area-lines X place j i (j + i) 1 (i + 1) r h k (omega arith) (omega arith) (omega arith) (omega arith))
 
--- a turned block
-pub block-turned : (h w X place j r : ℕ) (q t d out : List ℕ) → t ≡ turned h w q → out ≡ drawn (area X place j w r h) (lineByte h X place j r t) d
-    → out ≡ drawn (area X place j w r h) (rowByte w X place j r q) d
-block-turned h w X place j r q t d out turns e =
+-- the first n of a turned block's lines
+pub some-turned : (n h w X place j r : ℕ) (q t d out : List ℕ) → n ≤ w → t ≡ turned h w q → out ≡ drawn (area X place j n r h) (lineByte h X place j r t) d
+    → out ≡ drawn (area X place j n r h) (rowByte w X place j r q) d
+some-turned n h w X place j r q t d out few turns e =
     e
-    ∙ drawn-by (area X place j w r h) (area X place j w r h) (lineByte h X place j r t) (rowByte w X place j r q) d (λ k b. refl)
-    (λ k b s. let a = area-said X place j w r h k s in same ((k - place) / X - j) ((k - place) % X - r) (omega arith) (omega arith))
+    ∙ drawn-by (area X place j n r h) (area X place j n r h) (lineByte h X place j r t) (rowByte w X place j r q) d (λ k b. refl)
+    (λ k b s. let a = area-said X place j n r h k s in same ((k - place) / X - j) ((k - place) % X - r) (omega arith) (omega arith))
   where
     same : (l c : ℕ) → l < w → c < h → getD t (l * h + c) 0 ≡ getD q (c * w + l) 0
     same l c hl hc =
@@ -119,22 +119,31 @@ block-turned h w X place j r q t d out turns e =
         ∙ getD-tabulate (h * w) (λ k. getD q (k % h * w + k / h) 0) (l * h + c) 0 (rw (mul-comm h w) (digits-lt hl hc))
         ∙ ap₂ (λ (a b : ℕ). getD q (a * w + b) 0) (digits-mod l hc) (digits-div l hc)
 
+-- a turned block
+pub block-turned : (h w X place j r : ℕ) (q t d out : List ℕ) → t ≡ turned h w q → out ≡ drawn (area X place j w r h) (lineByte h X place j r t) d
+    → out ≡ drawn (area X place j w r h) (rowByte w X place j r q) d
+block-turned h w X place j r q t d out turns e = some-turned w h w X place j r q t d out (omega arith) turns e
+
 module _ (X place : ℕ) (m : ℕ → ℕ → ℕ) where
-  -- W bytes from j on of H ranks from r on, laid into the frame, are the frame's own
-  pub block-is : (h w H W j r : ℕ) (before q mid out : List ℕ) → h ≡ H → w ≡ W → Rows H W m r j before q
-      → out ≡ drawn (area X place j W r H) (rowByte W X place j r q) mid → out ≡ drawn (area X place j w r h) (λ k. groupByte X m (k - place)) mid
-  block-is h w H W j r before q mid out high wide rows e =
-      rw (high, wide)
-      (e
-      ∙ drawn-by (area X place j W r H) (area X place j W r H) (rowByte W X place j r q) (λ k. groupByte X m (k - place)) mid
-      (λ k b. refl) (λ k b s. same k s))
+  -- n bytes from j on of H ranks from r on, laid into the frame, are the frame's own
+  pub some-is : (n H W j r : ℕ) (before q mid out : List ℕ) → n ≤ W → Rows H W m r j before q → out ≡ drawn (area X place j n r H) (rowByte W X place j r q) mid
+      → out ≡ drawn (area X place j n r H) (λ k. groupByte X m (k - place)) mid
+  some-is n H W j r before q mid out few rows e =
+      e
+      ∙ drawn-by (area X place j n r H) (area X place j n r H) (rowByte W X place j r q) (λ k. groupByte X m (k - place)) mid
+      (λ k b. refl) (λ k b s. same k s)
     where
-      same : (k : ℕ) → area X place j W r H k ≡ true → rowByte W X place j r q k ≡ m ((k - place) % X) ((k - place) / X)
+      same : (k : ℕ) → area X place j n r H k ≡ true → rowByte W X place j r q k ≡ m ((k - place) % X) ((k - place) / X)
       same k s =
-          let a = area-said X place j W r H k s in
+          let a = area-said X place j n r H k s in
           let column : r + ((k - place) % X - r) ≡ (k - place) % X = omega arith in
           let line : j + ((k - place) / X - j) ≡ (k - place) / X = omega arith in
           rows .is ((k - place) % X - r) ((k - place) / X - j) (omega arith) (omega arith) ∙ ap₂ m column line
+
+  -- a whole block, whose sides are known by other names
+  pub block-is : (h w H W j r : ℕ) (before q mid out : List ℕ) → h ≡ H → w ≡ W → Rows H W m r j before q
+      → out ≡ drawn (area X place j W r H) (rowByte W X place j r q) mid → out ≡ drawn (area X place j w r h) (λ k. groupByte X m (k - place)) mid
+  block-is h w H W j r before q mid out high wide rows e = rw (high, wide) (some-is W H W j r before q mid out (omega arith) rows e)
 
   -- more columns of some lines, from b on
   pub columns-more : (l n a b i j : ℕ) {d mid : List ℕ} (out : List ℕ) → b ≤ a → a ≤ b + i → b + i ≡ j

@@ -75,3 +75,9 @@ spread-by-lines X P frame out e =
 
 pub blocks-fit : (X P : ℕ) → (leb 8 X && leb 16 P) ≡ true → (8 ≤ X) × (16 ≤ P)
 blocks-fit X P e = (leb-true 8 X (and-left (leb 8 X) (leb 16 P) e), leb-true 16 P (and-right (leb 8 X) (leb 16 P) e))
+
+-- three to seven members, and bytes enough for lines by eight bytes
+pub overs-fit : (X P : ℕ) → ((leb 3 X && leb X 7) && leb 34 P) ≡ true → (3 ≤ X) × (X ≤ 7) × (34 ≤ P)
+overs-fit X P e =
+    let both = and-left (leb 3 X && leb X 7) (leb 34 P) e in
+    (leb-true 3 X (and-left (leb 3 X) (leb X 7) both), leb-true X 7 (and-right (leb 3 X) (leb X 7) both), leb-true 34 P (and-right (leb 3 X && leb X 7) (leb 34 P) e))

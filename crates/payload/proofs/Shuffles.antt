@@ -37,6 +37,9 @@ eight q = then 128 q (λ k. k % 2 * 64 + k / 2) (λ k. k % 4 * 32 + k / 4) (λ k
 pub sixteen : (q : List ℕ) → turned 2 64 (turned 8 16 q) ≡ turned 16 8 q
 sixteen q = then 128 q (λ k. k % 2 * 64 + k / 2) (λ k. k % 8 * 16 + k / 8) (λ k. k % 16 * 8 + k / 16) (λ k b. omega arith) (λ k b. omega arith)
 
+pub many : (q : List ℕ) → turned 2 64 (turned 16 8 q) ≡ turned 32 4 q
+many q = then 128 q (λ k. k % 2 * 64 + k / 2) (λ k. k % 16 * 8 + k / 16) (λ k. k % 32 * 4 + k / 32) (λ k b. omega arith) (λ k b. omega arith)
+
 pub four-wide : (q : List ℕ) → turned 2 128 (turned 2 128 q) ≡ turned 4 64 q
 four-wide q = then 256 q (λ k. k % 2 * 128 + k / 2) (λ k. k % 2 * 128 + k / 2) (λ k. k % 4 * 64 + k / 4) (λ k b. omega arith) (λ k b. omega arith)
 

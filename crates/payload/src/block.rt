@@ -11,7 +11,7 @@ ghost use Rattle.payload.specs.Inner.Block.{Rows, Sizes, lineByte, rowBy
 ghost use Rattle.payload.specs.Joining.{rankedByte, startedByte};
 ghost use Rattle.payload.specs.Order.{groupByte, groupFrame};
 
-fn start(c: usize, n: usize, w: usize) -> usize
+pub(crate) fn start(c: usize, n: usize, w: usize) -> usize
     requires { ⌜ w ≤ n ⌝ }
     ensures { λ r. ⌜ r ≡ min c (n - w) ⌝ }
 {
@@ -19,7 +19,15 @@ fn start(c: usize, n: usize, w: usize) -> usize
 }
 
 // The bytes of some members that lie one after the other, a row of each.
-fn read_ranked(h: usize, w: usize, p: usize, members: &[u8], r: usize, j: usize, q: &mut [u8])
+pub(crate) fn read_ranked(
+    h: usize,
+    w: usize,
+    p: usize,
+    members: &[u8],
+    r: usize,
+    j: usize,
+    q: &mut [u8],
+)
     requires { ⌜ (1 ≤ p) × (h * w ≤ length (now q)) × ((l : ℕ) → l < h → (r + l) * p + (j + w) ≤ length (now members)) ⌝ }
     ensures { λ _. ⌜ Rows h w (rankedByte p (now (members .entry))) r j (now (q .entry)) (now (q .exit)) ⌝ }
 {
@@ -31,7 +39,7 @@ fn read_ranked(h: usize, w: usize, p: usize, members: &[u8], r: usize, j: usize,
 }
 
 // The bytes of some members that start anywhere, a row of each.
-fn read_started(
+pub(crate) fn read_started(
     h: usize,
     w: usize,
     starts: &[usize],
@@ -52,7 +60,16 @@ fn read_started(
 }
 
 // The w lines of h bytes of a block into the frame, from a line and a column on.
-fn write(q: &[u8], h: usize, w: usize, x: usize, place: usize, j: usize, r: usize, out: &mut [u8])
+pub(crate) fn write(
+    q: &[u8],
+    h: usize,
+    w: usize,
+    x: usize,
+    place: usize,
+    j: usize,
+    r: usize,
+    out: &mut [u8],
+)
     requires { ⌜ (1 ≤ h) × (r + h ≤ x) × (w * h ≤ length (now q)) × (place + (j + w) * x ≤ length (now out)) ⌝ }
     ensures { λ _. ⌜ now (out .exit) ≡ drawn (area x place j w r h) (lineByte h x place j r (now (q .entry))) (now (out .entry)) ⌝ }
 {

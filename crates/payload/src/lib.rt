@@ -3,6 +3,9 @@
 mod answer;
 mod block;
 mod copy;
+mod deal;
+mod narrow;
+mod over;
 mod plain;
 mod shuffle;
 mod work;

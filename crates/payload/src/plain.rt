@@ -22,7 +22,15 @@ pub(crate) fn member(x: usize, p: usize, frame: &[u8], r: usize, place: usize, t
 }
 
 // A member into its column of the group frame that lies from a place on.
-fn column(x: usize, p: usize, r: usize, store: &[u8], start: usize, place: usize, out: &mut [u8])
+pub(crate) fn column(
+    x: usize,
+    p: usize,
+    r: usize,
+    store: &[u8],
+    start: usize,
+    place: usize,
+    out: &mut [u8],
+)
     requires { ⌜ (r < x) × (start + p ≤ length (now store)) × (place + x * p ≤ length (now out)) ⌝ }
     ensures { λ _. ⌜ now (out .exit) ≡ drawn (area x place 0 p r 1) (λ k. getD (now (store .entry)) (start + (k - place) / x) 0) (now (out .entry)) ⌝ }
 {

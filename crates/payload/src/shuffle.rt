@@ -1,5 +1,6 @@
 // Blocks turned by perfect shuffles: a block's first half and its second, byte by byte in turn. The compiler makes unpacks of sixteen bytes of these loops, over
 // arrays of 128 bytes and more; of shorter ones it makes single moves. A shuffle is a block of two rows turned, and each shuffle more doubles the rows.
+use crate::deal;
 ghost use mathlib.Core.Path.{_≡_};
 ghost use Rattle.payload.specs.Inner.Block.{turned};
 
@@ -48,6 +49,20 @@ pub(crate) fn sixteen_rows(q: [u8; 128]) -> [u8; 128]
 {
     let a = eight_rows(q);
     shuffled(a)
+}
+
+pub(crate) fn many_rows(q: [u8; 128]) -> [u8; 128]
+    ensures { λ s. ⌜ s ≡ turned 32 4 q ⌝ }
+{
+    let a = sixteen_rows(q);
+    shuffled(a)
+}
+
+// By a deal, where it would take six shuffles.
+pub(crate) fn most_rows(q: [u8; 128]) -> [u8; 128]
+    ensures { λ s. ⌜ s ≡ turned 64 2 q ⌝ }
+{
+    deal::dealt(64, q)
 }
 
 fn four_wide(q: [u8; 256]) -> [u8; 256]

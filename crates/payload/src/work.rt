@@ -1,6 +1,9 @@
-// The work under 0: a copy where there is one member, by blocks where one of eight ranks and sixteen bytes fits, else by plain loops.
+// The work under 0: a copy where there is one member, by blocks where one fits, else by plain loops. A block of two members has 64 bytes of each, one of
+// four 32, others sixteen; of the first three the compiler is to know the sizes. Three, five, six and seven go by lines of eight bytes.
 use crate::block;
 use crate::copy;
+use crate::narrow;
+use crate::over;
 use crate::plain;
 ghost use mathlib.Core.Path.{_≡_};
 ghost use Prim.Native.Nat.{ℕ, _+_, _*_, _≤_, _<_};
@@ -25,6 +28,14 @@ pub(crate) fn join(x: usize, p: usize, members: &[u8], frame: &mut [u8])
 {
     if x == 1 {
         copy::run(members, 0, p, 0, frame);
+    } else if (x == 2) & (64 <= p) {
+        narrow::join(2, 64, p, members, frame);
+    } else if (x == 4) & (32 <= p) {
+        narrow::join(4, 32, p, members, frame);
+    } else if (x == 8) & (16 <= p) {
+        narrow::join(8, 16, p, members, frame);
+    } else if (3 <= x) & (x <= 7) & (34 <= p) {
+        over::join(x, p, members, frame);
     } else if (8 <= x) & (16 <= p) {
         block::join(rows(x), 16, x, p, members, frame);
     } else {
@@ -39,6 +50,14 @@ pub(crate) fn spread(x: usize, p: usize, frame: &[u8], members: &mut [u8])
 {
     if x == 1 {
         copy::run(frame, 0, p, 0, members);
+    } else if (x == 2) & (64 <= p) {
+        narrow::spread(2, 64, p, frame, members);
+    } else if (x == 4) & (32 <= p) {
+        narrow::spread(4, 32, p, frame, members);
+    } else if (x == 8) & (16 <= p) {
+        narrow::spread(8, 16, p, frame, members);
+    } else if (3 <= x) & (x <= 7) & (34 <= p) {
+        over::spread(x, p, frame, members);
     } else if (8 <= x) & (16 <= p) {
         block::join(16, 8, p, x, frame, members);
     } else {
@@ -60,6 +79,14 @@ pub(crate) fn join_from(
     if x == 1 {
         let start = starts[0];
         copy::run(store, start, p, place, out);
+    } else if (x == 2) & (64 <= p) {
+        narrow::join_from(2, 64, p, starts, store, place, out);
+    } else if (x == 4) & (32 <= p) {
+        narrow::join_from(4, 32, p, starts, store, place, out);
+    } else if (x == 8) & (16 <= p) {
+        narrow::join_from(8, 16, p, starts, store, place, out);
+    } else if (3 <= x) & (x <= 7) & (34 <= p) {
+        over::join_from(x, p, starts, store, place, out);
     } else if (8 <= x) & (16 <= p) {
         block::join_from(rows(x), x, p, starts, store, place, out);
     } else {

@@ -1,6 +1,7 @@
 -- A block: h rows of w bytes, one row after the other, each of another member; or the same bytes as w lines of h.
 use mathlib.Core.Path.{_≡_}
 use mathlib.Core.List.{List}
+use mathlib.Core.Logic.{_⊎_}
 use Prim.Native.Nat.{ℕ, _+_, _-_, _*_, _/_, _%_, _≤_, _<_}
 use lib.ListN.{length, getD}
 use Rattle.ground.specs.Table.{tabulate}
@@ -29,3 +30,7 @@ pub record Sizes (h w : ℕ) : Type 0 where
   pub rows-most : h ≤ 16
   pub bytes-most : w ≤ 16
   pub both : 24 ≤ h + w
+
+-- two rows of 64 bytes, four of 32, or eight of sixteen: 128 bytes
+abbrev pub Even : ℕ → ℕ → Type 0
+Even h w = ((h ≡ 2) × (w ≡ 64)) ⊎ (((h ≡ 4) × (w ≡ 32)) ⊎ ((h ≡ 8) × (w ≡ 16)))
