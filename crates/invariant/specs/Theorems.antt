@@ -24,6 +24,8 @@ use Rattle.receiver.specs.Laws.Bytes.{frameBytes, reportByte}
 use Rattle.receiver.specs.Report.{rulingEpoch, seenAll, seenOf}
 use Rattle.receiver.specs.Shown.{replyOf}
 use Rattle.receiver.specs.Starting.{startAsAnswer}
+use Rattle.reply.specs.Members as R
+use Rattle.reply.specs.Telling.{ackOf}
 use Rattle.reply.specs.Waiting.{noStanding}
 use Rattle.rows.specs.declared.group.Group.{Group}
 use Rattle.rows.specs.Group.{groupAt}
@@ -55,7 +57,7 @@ use Rattle.invariant.specs.Proofs.Ruled as Rules
 use Rattle.invariant.specs.Proofs.Settles as Settles
 use Rattle.invariant.specs.Proofs.Times.Between as Between
 use Rattle.invariant.specs.Proofs.Times.Calls as Times
-use Rattle.invariant.specs.Reports.{Given, HeldReport, Others, Refused, SameRule, Stored, Unstopped, ackIn, nextReport, reportsOf, successive}
+use Rattle.invariant.specs.Reports.{Given, HeldReport, Others, Refused, SameRule, Stored, Unstopped, ackIn, nextReport, passedRows, portSeen, reportPorts, reportsOf, successive}
 use Rattle.invariant.specs.Ruled.{OneEpoch}
 use Rattle.step.specs.OwnCount.{withoutMfi2}
 use Rattle.invariant.specs.Times.{SameShown, outcomesOf, standingIn, standingsAfter}
@@ -160,7 +162,7 @@ pub again : (x : Receiver) → Kept (x .rows) → (i : ℕ) (failed : Bool) (h :
     → (calls : List ReceiverCall) → Others i calls → Unstopped x calls → (reportsOf x calls ≡ [] → ⊥) → Stored (receiverRun x calls) i failed h payload
 again = Again.again
 
--- RS-Ack turns over at most once a report, and at no other call.
+-- RS-Ack turns over at most once a report, at no other call, and there as 01 says.
 
 pub frame-ack : (s : List (List ℕ)) (i : ℕ) (failed : Bool) (h : ℕ) (payload store : List ℕ) → ackIn (frameRows s i failed h payload store) ≡ ackIn s
 frame-ack = Ack.frame-ack
@@ -168,6 +170,15 @@ frame-ack = Ack.frame-ack
 pub none-ack : (s : List (List ℕ)) (store out report : List ℕ) → (fits s store out report && dueIn (groupAt s) (portsIn (groupAt s)) s) ≡ false
     → ackIn (fetchRows s store out report) ≡ ackIn s
 none-ack = Ack.none-ack
+
+-- after a report of any mark it is `ackOf` of the ports that the report saw: it turns over exactly where `turns` says so of their words and numbers and those of the report before
+pub report-ack : (s : List (List ℕ)) (store out report : List ℕ) → Given s store out report
+    → ackIn (fetchRows s store out report) ≡ ackOf (reportPorts s store) (portsIn (groupAt s)) (ackIn s)
+report-ack = Ack.report-ack
+
+-- each of them by its own records as the epoch has passed
+pub report-port : (s : List (List ℕ)) (store : List ℕ) (i : ℕ) → i < portsIn (groupAt s) → R.portAt (reportPorts s store) i ≡ portSeen (passedRows s store) i
+report-port = Ack.report-port
 
 pub report-turns : (s : List (List ℕ)) (store out report : List ℕ) → Given s store out report → ackIn s ≤ 1
     → (ackIn (fetchRows s store out report) ≡ ackIn s) ⊎ (ackIn (fetchRows s store out report) ≡ 1 - ackIn s)
