@@ -4,6 +4,7 @@ pub mod Claims
 pub mod Ruled
 pub mod Reports
 pub mod Times
+pub mod Waits
 pub mod Live
 pub mod Words
 pub mod Proofs

@@ -3,7 +3,7 @@ use mathlib.Core.Path.{_≡_}
 use mathlib.Core.Logic.{_⊎_, _≢_}
 use mathlib.Core.Bool.{Bool, true, false, _&&_}
 use mathlib.Core.List.{List, [], _∷_}
-use Prim.Native.Nat.{ℕ, _+_, _-_, _*_, _%_, _≤_, _<_}
+use Prim.Native.Nat.{ℕ, suc, _+_, _-_, _*_, _%_, _≤_, _<_}
 use lib.ListN.{getD, length}
 use Rattle.ground.specs.Drawn.{fillAt}
 use Rattle.ground.specs.Table.{tabulate}
@@ -25,8 +25,10 @@ use Rattle.receiver.specs.Report.{rulingEpoch, seenAll, seenOf}
 use Rattle.receiver.specs.Shown.{replyOf}
 use Rattle.receiver.specs.Starting.{startAsAnswer}
 use Rattle.reply.specs.Members as R
+use Rattle.reply.specs.Members.{failState, idleState, okState}
 use Rattle.reply.specs.Telling.{ackOf}
 use Rattle.reply.specs.Waiting.{noStanding}
+use Rattle.reply.specs.Zero.{statesOf}
 use Rattle.rows.specs.declared.group.Group.{Group}
 use Rattle.rows.specs.Group.{groupAt}
 use Rattle.rows.specs.Member.{memberAt}
@@ -57,10 +59,12 @@ use Rattle.invariant.specs.Proofs.Ruled as Rules
 use Rattle.invariant.specs.Proofs.Settles as Settles
 use Rattle.invariant.specs.Proofs.Times.Between as Between
 use Rattle.invariant.specs.Proofs.Times.Calls as Times
+use Rattle.invariant.specs.Proofs.Times.Waits as Waits
 use Rattle.invariant.specs.Reports.{Given, HeldReport, Others, Refused, SameRule, Stored, Unstopped, ackIn, nextReport, passedRows, portSeen, reportPorts, reportsOf, successive}
 use Rattle.invariant.specs.Ruled.{OneEpoch}
 use Rattle.step.specs.OwnCount.{withoutMfi2}
 use Rattle.invariant.specs.Times.{SameShown, outcomesOf, standingIn, standingsAfter}
+use Rattle.invariant.specs.Waits.{Claimant, InARow, Unclaimed, Zeros, sawOf}
 
 -- After any calls.
 
@@ -221,6 +225,47 @@ pub report-standing : (port : ℕ) (s : List (List ℕ)) (store out report : Lis
     → standingIn (fetchRows s store out report) port
     ≡ (let left = getD (standingsAfter s store) port noStanding in left .state ∷ left .number ∷ (memberAt s port .«hold_off») ∷ (memberAt s port .restore) ∷ left .elapsed ∷ [])
 report-standing = Between.report-standing
+
+-- Hold-off and wait-to-restore over the receiver's runs (02, 2026-03), after any start and any calls, of the report that comes next.
+
+-- 'An OK port that loses its claim goes FAIL only when it has stayed so for the hold-off': a report leaves FAIL of an OK port exactly if it is the last of h + 1 in a row that saw the port without its claim, h being the port's hold-off
+pub fail-exactly : (kind count P W : ℕ) (hold restore : List ℕ) (rows : List (List ℕ)) (store : List ℕ) → startAsAnswer kind count P W (length store) hold restore (length rows) ≡ 0
+    → (calls : List ReceiverCall)
+    → (let x = receiverRun (startedWith kind count P W hold restore rows store) calls in
+    let saw = reportPorts (x .rows) (x .store) ∷ sawOf (startedWith kind count P W hold restore rows store) calls [] in
+    (out report : List ℕ) → Given (x .rows) (x .store) out report → (i : ℕ) → i < count → memberAt (x .rows) i .state ≡ okState
+    → (memberAt (fetchRows (x .rows) (x .store) out report) i .state ≡ failState → InARow (Unclaimed count i) (suc (getD hold i 0)) saw)
+    × (InARow (Unclaimed count i) (suc (getD hold i 0)) saw → memberAt (fetchRows (x .rows) (x .store) out report) i .state ≡ failState))
+fail-exactly = Waits.fail-exactly
+
+-- until then it is OK under the number that it had
+pub number-kept : (kind count P W : ℕ) (hold restore : List ℕ) (rows : List (List ℕ)) (store : List ℕ) → startAsAnswer kind count P W (length store) hold restore (length rows) ≡ 0
+    → (calls : List ReceiverCall)
+    → (let x = receiverRun (startedWith kind count P W hold restore rows store) calls in
+    (out report : List ℕ) → Given (x .rows) (x .store) out report → (i : ℕ) → i < count → memberAt (x .rows) i .state ≡ okState
+    → Unclaimed count i (reportPorts (x .rows) (x .store)) → memberAt (fetchRows (x .rows) (x .store) out report) i .state ≢ failState
+    → (memberAt (fetchRows (x .rows) (x .store) out report) i .state ≡ okState)
+    × (memberAt (fetchRows (x .rows) (x .store) out report) i .«state_number» ≡ memberAt (x .rows) i .«state_number»))
+number-kept = Waits.number-kept
+
+-- 'A FAIL port goes OK only when its claim has stood for the wait-to-restore': a report leaves OK of a FAIL port exactly if it is the last of r + 1 in a row that saw the port with its claim, r being its wait-to-restore
+pub ok-exactly : (kind count P W : ℕ) (hold restore : List ℕ) (rows : List (List ℕ)) (store : List ℕ) → startAsAnswer kind count P W (length store) hold restore (length rows) ≡ 0
+    → (calls : List ReceiverCall)
+    → (let x = receiverRun (startedWith kind count P W hold restore rows store) calls in
+    let saw = reportPorts (x .rows) (x .store) ∷ sawOf (startedWith kind count P W hold restore rows store) calls [] in
+    (out report : List ℕ) → Given (x .rows) (x .store) out report → (i : ℕ) → i < count → memberAt (x .rows) i .state ≡ failState
+    → (memberAt (fetchRows (x .rows) (x .store) out report) i .state ≡ okState → InARow (Claimant count i) (suc (getD restore i 0)) saw)
+    × (InARow (Claimant count i) (suc (getD restore i 0)) saw → memberAt (fetchRows (x .rows) (x .store) out report) i .state ≡ okState))
+ok-exactly = Waits.ok-exactly
+
+-- 'Zero and zero is today's behaviour': from a start with empty lists or zeros every report leaves the states that 01's rule gives of the ports that it saw, each under its port's number
+pub today : (kind count P W : ℕ) (hold restore : List ℕ) (rows : List (List ℕ)) (store : List ℕ) → startAsAnswer kind count P W (length store) hold restore (length rows) ≡ 0
+    → (calls : List ReceiverCall) → Zeros hold → Zeros restore
+    → (let x = receiverRun (startedWith kind count P W hold restore rows store) calls in
+    (out report : List ℕ) → Given (x .rows) (x .store) out report → (i : ℕ) → i < count
+    → (memberAt (fetchRows (x .rows) (x .store) out report) i .state ≡ getD (statesOf (reportPorts (x .rows) (x .store)) count) i idleState)
+    × (memberAt (fetchRows (x .rows) (x .store) out report) i .«state_number» ≡ R.portAt (reportPorts (x .rows) (x .store)) i .number))
+today = Waits.today
 
 -- Fixed groups (request 2026-12), on every state: a due report is sure exactly where every port has a whole good ruling packet and brought its frames, and the numbers are 0 to X-1, X being the number of ports. Otherwise it is held.
 
