@@ -7,6 +7,7 @@ pub mod Times
 pub mod Waits
 pub mod Live
 pub mod Words
+pub mod Heard
 pub mod Proofs
 pub mod Theorems
 mod Wrong

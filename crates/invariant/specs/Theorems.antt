@@ -41,11 +41,13 @@ use Rattle.invariant.specs.Claims.{Claimed, HandedBy, HandedLast, tagIn}
 use Rattle.invariant.specs.Kept.Group.{Kept}
 use Rattle.invariant.specs.Words.{Unflagged}
 use Rattle.invariant.specs.Proofs.Stepping as Stepping
-use Rattle.step.specs.Theorems.Heard.{HeardStep}
-use Rattle.invariant.specs.Live.{Live, heardOf}
+use Rattle.step.specs.Theorems.Heard.{InStepExactly}
+use Rattle.invariant.specs.Heard.{Fourth, Recorded, Second}
+use Rattle.invariant.specs.Live.{Live, heardOf, isHeard}
 use Rattle.invariant.specs.Proofs.Calls as Calls
 use Rattle.invariant.specs.Proofs.Claimed as Claims
 use Rattle.invariant.specs.Proofs.Live.Calls as Lives
+use Rattle.invariant.specs.Proofs.Live.Lost as Losing
 use Rattle.invariant.specs.Proofs.Numbered as Numbered
 use Rattle.invariant.specs.Proofs.OwnBits.Calls as OwnBits
 use Rattle.invariant.specs.Proofs.Reports.Ack as Ack
@@ -63,6 +65,7 @@ use Rattle.invariant.specs.Proofs.Times.Waits as Waits
 use Rattle.invariant.specs.Reports.{Given, HeldReport, Others, Refused, SameRule, Stored, Unstopped, ackIn, nextReport, passedRows, portSeen, reportPorts, reportsOf, successive}
 use Rattle.invariant.specs.Ruled.{OneEpoch}
 use Rattle.step.specs.OwnCount.{withoutMfi2}
+use Rattle.step.specs.Run.{inStepAt}
 use Rattle.invariant.specs.Times.{SameShown, outcomesOf, standingIn, standingsAfter}
 use Rattle.invariant.specs.Waits.{Claimant, InARow, Unclaimed, Zeros, sawOf}
 
@@ -118,7 +121,7 @@ ruling-number = Numbered.ruling-number
 -- VC-12's step rule in the request's words: 'in step after two whole packets in a row whose counts differ by one'. After any calls with no flagged frame of the port, it is in step exactly if the bytes that it has heard end so.
 pub step-words : (kind count P W : ℕ) (hold restore : List ℕ) (rows : List (List ℕ)) (store : List ℕ) → startAsAnswer kind count P W (length store) hold restore (length rows) ≡ 0
     → withoutMfi2 kind ≡ true → (calls : List ReceiverCall) (j : ℕ) → j < count → Unflagged j calls
-    → HeardStep kind (heardOf j (startedWith kind count P W hold restore rows store) calls []) (portAt (receiverRun (startedWith kind count P W hold restore rows store) calls .rows) j .step .count)
+    → InStepExactly kind (heardOf j (startedWith kind count P W hold restore rows store) calls []) (portAt (receiverRun (startedWith kind count P W hold restore rows store) calls .rows) j .step .count)
 step-words = Stepping.step-words
 
 -- The packet being gathered (request 2026-04): in every phase the symbols of a run's last frames stand at their own places, and at own MFI1 7 of a port in step it is the packet that came.
@@ -126,6 +129,26 @@ pub live-row : (kind count P W : ℕ) (hold restore : List ℕ) (rows : List (Li
     → (calls : List ReceiverCall) (j : ℕ) → j < count
     → Live kind (portAt (receiverRun (startedWith kind count P W hold restore rows store) calls .rows) j) (heardOf j (startedWith kind count P W hold restore rows store) calls [])
 live-row = Lives.live-row
+
+-- Losing step (request 2026-04), of H4 and of the frames heard of a port, after any start and any calls, of a port in step.
+
+-- `breaks` is the number of the latest heard frames in a row that do not count by the own count, and `odd` says whether the last packet that ended had a right CRC and another MFI2
+pub recorded : (kind count P W : ℕ) (hold restore : List ℕ) (rows : List (List ℕ)) (store : List ℕ) → startAsAnswer kind count P W (length store) hold restore (length rows) ≡ 0
+    → (calls : List ReceiverCall) (j : ℕ) → j < count → withoutMfi2 kind ≡ false
+    → (let p = portAt (receiverRun (startedWith kind count P W hold restore rows store) calls .rows) j in
+    inStepAt kind (p .step .count) ≡ true → Recorded kind p (heardOf j (startedWith kind count P W hold restore rows store) calls []))
+recorded = Losing.recorded
+
+-- a frame that is not flagged and not answered 1, 9 or 11 is answered 12 exactly if it is the fourth in a row that breaks the count or ends the second packet in a row with right CRC and another MFI2, whether the port has joined and receiving has begun or not
+pub lost-heard : (kind count P W : ℕ) (hold restore : List ℕ) (rows : List (List ℕ)) (store : List ℕ) → startAsAnswer kind count P W (length store) hold restore (length rows) ≡ 0
+    → (calls : List ReceiverCall) (j : ℕ) → j < count → withoutMfi2 kind ≡ false
+    → (let x = receiverRun (startedWith kind count P W hold restore rows store) calls in
+    let next = portAt (x .rows) j .step .next in
+    let heard = heardOf j (startedWith kind count P W hold restore rows store) calls [] in
+    inStepAt kind (portAt (x .rows) j .step .count) ≡ true → (h : ℕ) (payload : List ℕ) → isHeard (frameAnswer (x .rows) j false h (length payload) (length (x .store))) ≡ true
+    → (frameAnswer (x .rows) j false h (length payload) (length (x .store)) ≡ 12 → Fourth kind next h heard ⊎ Second kind next h heard)
+    × (Fourth kind next h heard ⊎ Second kind next h heard → frameAnswer (x .rows) j false h (length payload) (length (x .store)) ≡ 12))
+lost-heard = Losing.lost-heard
 
 -- Reports, on every state.
 
