@@ -139,7 +139,7 @@ vc12-demanded before = demand3 (link vc12Kind 31 136 512 480 before outputVc12) 
 
 -- a fixed group, numbered downwards
 abbrev group : FixedGroup
-group = record { x = 64; first = 255; number = λ slot. 63 - slot }
+group = record { x = 64; first = 255; number = λ slot. 63 - slot; unread = λ i slot place. i + place }
 
 numbered : Numbered group
 unfolding epochs
