@@ -2,9 +2,10 @@
 use mathlib.Core.Path.{refl}
 use mathlib.Core.List.{List, [], _∷_, _++_}
 use Prim.Native.Nat.{ℕ}
-use Rattle.conformance.specs.Hosts.{Host, counting, damagedWith, fed, fedWith, fetched, handed, opened, packetWith}
+use Rattle.conformance.specs.Hosts.{Host, begun, counting, damagedWith, fed, fedWith, fetched, handed, opened, packetWith}
 use Rattle.conformance.specs.Rows.{Equal, Row, equal-rows}
 use Rattle.conformance.specs.Opened.{allOpen}
+use Rattle.rows.specs.Step.{stepAt}
 
 -- one port in step, its latest tag 4,095
 abbrev edge : Host
@@ -23,6 +24,10 @@ bothAnswers h more = h .answer ∷ more h .answer ∷ []
 abbrev at40 : Host
 at40 = fed 0 40 0 (opened 1 32)
 
+-- Two ports, of which the second has had no frame.
+abbrev waiting : Host
+waiting = fed 0 40 0 (opened 2 16)
+
 -- W is 16. The port has joined, the tag to come is 70, and 72 is the first outside the window.
 abbrev at70 : Host
 at70 = fed 0 70 0 (opened 1 16)
@@ -40,6 +45,11 @@ broken =
       given = each (1 ∷ 2 ∷ 3 ∷ 0 ∷ []) edge ++ bothAnswers (fed 0 30 1 (handed 0 0 (fed 0 3 1 edge))) (handed 0 31);
       said = 0 ∷ 1 ∷ 32 ∷ 1 ∷ 0 ∷ 2 ∷ 32 ∷ 2 ∷ 0 ∷ 3 ∷ 32 ∷ 3 ∷ 12 ∷ 1 ∷ 1 ∷ 0 ∷ 12 ∷ 0 ∷ [];
     }
+    ∷ record {
+      name = "the frame with which a port joins breaks the count: it is the first of four";
+      given = stepAt (handed 0 3 at40 .rows) 0 .joined ∷ each (3 ∷ 3 ∷ 3 ∷ 3 ∷ []) at40;
+      said = 1 ∷ 0 ∷ 41 ∷ 32 ∷ 1 ∷ 0 ∷ 42 ∷ 32 ∷ 2 ∷ 0 ∷ 43 ∷ 32 ∷ 3 ∷ 12 ∷ 0 ∷ 0 ∷ 0 ∷ [];
+    }
     ∷ []
 
 pub switched : List Row
@@ -53,6 +63,11 @@ switched =
       name = "the same with the first packet's CRC wrong: 12 sixteen frames later";
       given = bothAnswers (fedWith packetWith 0 31 72 (fedWith damagedWith 0 16 56 at40)) (fedWith packetWith 0 1 103);
       said = 0 ∷ 12 ∷ [];
+    }
+    ∷ record {
+      name = "the first again before the beginning, which waits for port 1: 31 frames 0, the 32nd 12";
+      given = begun (fedWith packetWith 0 31 56 waiting) ++ begun (fedWith packetWith 0 1 87 (fedWith packetWith 0 31 56 waiting));
+      said = 0 ∷ 0 ∷ 12 ∷ 0 ∷ [];
     }
     ∷ []
 

@@ -4,8 +4,10 @@ pub mod Claims
 pub mod Ruled
 pub mod Reports
 pub mod Times
+pub mod Waits
 pub mod Live
 pub mod Words
+pub mod Heard
 pub mod Proofs
 pub mod Theorems
 mod Wrong

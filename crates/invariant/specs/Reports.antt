@@ -8,9 +8,11 @@ use Rattle.judge.specs.Seen.{sizeOf}
 use Rattle.packet.specs.declared.ruling.Ruling.{Ruling}
 use Rattle.receiver.specs.Report.{rulingEpoch, replyPorts}
 use Rattle.rows.specs.declared.group.Group.{Group}
+use Rattle.rows.specs.Member.{memberAt}
 use Rattle.rows.specs.Port.{Port, portAt}
+use Rattle.rows.specs.Step.{stepAt}
 use Rattle.step.specs.OwnCount.{ownRuling}
-use Rattle.step.specs.Arrival.{flagOf}
+use Rattle.step.specs.Arrival.{flagOf, readable}
 use mathlib.Core.Logic.{_≢_}
 use lib.ListN.{length}
 use Rattle.phases.specs.Due.{silent}
@@ -18,6 +20,7 @@ use Rattle.phases.specs.Passing.{passedGroup, passedOf}
 use Rattle.phases.specs.Sizes.{portsIn}
 use Rattle.receiver.specs.Fetch.{dueIn, fits, reportIfDue}
 use Rattle.receiver.specs.Frame.{frameRefusal, takenIn, frameAnswer, frameStore}
+use Rattle.reply.specs.declared.members.Port.{Port as ReplyPort}
 use Rattle.reply.specs.Telling.{ackOf}
 use Rattle.rows.specs.Group.{groupAt}
 use Rattle.packet.specs.Kinds.{epochAfter}
@@ -59,9 +62,30 @@ pub record Given (s : List (List ℕ)) (store out report : List ℕ) : Type 0 wh
 abbrev pub passedRows : List (List ℕ) → List ℕ → List (List ℕ)
 passedRows s store = passedOf (groupAt s) store (portsIn (groupAt s)) s
 
+-- the ports that the report sees
+abbrev pub reportPorts : List (List ℕ) → List ℕ → List ReplyPort
+reportPorts s store = replyPorts (groupAt (passedRows s store)) (passedRows s store) (portsIn (groupAt s))
+
+-- one of them, by its own records as the epoch has passed: the word and number of its last good packet, those of the report before, what that one left of it, its times, and whether it is readable
+abbrev pub portSeen : List (List ℕ) → ℕ → ReplyPort
+portSeen p i =
+    let m = memberAt p i in
+    record {
+      word = m .word;
+      number = m .number;
+      state = m .state;
+      «state_number» = m .«state_number»;
+      «told_word» = m .«told_word»;
+      «told_number» = m .«told_number»;
+      readable = readable (groupAt p) (stepAt p i);
+      «hold_off» = m .«hold_off»;
+      restore = m .restore;
+      elapsed = m .elapsed;
+    }
+
 -- RS-Ack after the report
 abbrev pub ackAfter : List (List ℕ) → List ℕ → ℕ
-ackAfter s store = ackOf (replyPorts (groupAt (passedRows s store)) (passedRows s store) (portsIn (groupAt s))) (sizeOf (portsIn (groupAt s))) (groupAt s .«rs_ack»)
+ackAfter s store = ackOf (reportPorts s store) (sizeOf (portsIn (groupAt s))) (groupAt s .«rs_ack»)
 
 -- a fetch gives a report
 abbrev pub gives : Receiver → List ℕ → List ℕ → Bool

@@ -3,7 +3,7 @@ use mathlib.Core.Path.{_≡_}
 use mathlib.Core.Logic.{_⊎_, _≢_}
 use mathlib.Core.Bool.{Bool, true, false, _&&_}
 use mathlib.Core.List.{List, [], _∷_}
-use Prim.Native.Nat.{ℕ, _+_, _-_, _*_, _%_, _≤_, _<_}
+use Prim.Native.Nat.{ℕ, suc, _+_, _-_, _*_, _%_, _≤_, _<_}
 use lib.ListN.{getD, length}
 use Rattle.ground.specs.Drawn.{fillAt}
 use Rattle.ground.specs.Table.{tabulate}
@@ -24,7 +24,11 @@ use Rattle.receiver.specs.Laws.Bytes.{frameBytes, reportByte}
 use Rattle.receiver.specs.Report.{rulingEpoch, seenAll, seenOf}
 use Rattle.receiver.specs.Shown.{replyOf}
 use Rattle.receiver.specs.Starting.{startAsAnswer}
+use Rattle.reply.specs.Members as R
+use Rattle.reply.specs.Members.{failState, idleState, okState}
+use Rattle.reply.specs.Telling.{ackOf}
 use Rattle.reply.specs.Waiting.{noStanding}
+use Rattle.reply.specs.Zero.{statesOf}
 use Rattle.rows.specs.declared.group.Group.{Group}
 use Rattle.rows.specs.Group.{groupAt}
 use Rattle.rows.specs.Member.{memberAt}
@@ -37,11 +41,13 @@ use Rattle.invariant.specs.Claims.{Claimed, HandedBy, HandedLast, tagIn}
 use Rattle.invariant.specs.Kept.Group.{Kept}
 use Rattle.invariant.specs.Words.{Unflagged}
 use Rattle.invariant.specs.Proofs.Stepping as Stepping
-use Rattle.step.specs.Theorems.Heard.{HeardStep}
-use Rattle.invariant.specs.Live.{Live, heardOf}
+use Rattle.step.specs.Theorems.Heard.{InStepExactly}
+use Rattle.invariant.specs.Heard.{Fourth, Recorded, Second}
+use Rattle.invariant.specs.Live.{Live, heardOf, isHeard}
 use Rattle.invariant.specs.Proofs.Calls as Calls
 use Rattle.invariant.specs.Proofs.Claimed as Claims
 use Rattle.invariant.specs.Proofs.Live.Calls as Lives
+use Rattle.invariant.specs.Proofs.Live.Lost as Losing
 use Rattle.invariant.specs.Proofs.Numbered as Numbered
 use Rattle.invariant.specs.Proofs.OwnBits.Calls as OwnBits
 use Rattle.invariant.specs.Proofs.Reports.Ack as Ack
@@ -55,10 +61,13 @@ use Rattle.invariant.specs.Proofs.Ruled as Rules
 use Rattle.invariant.specs.Proofs.Settles as Settles
 use Rattle.invariant.specs.Proofs.Times.Between as Between
 use Rattle.invariant.specs.Proofs.Times.Calls as Times
-use Rattle.invariant.specs.Reports.{Given, HeldReport, Others, Refused, SameRule, Stored, Unstopped, ackIn, nextReport, reportsOf, successive}
+use Rattle.invariant.specs.Proofs.Times.Waits as Waits
+use Rattle.invariant.specs.Reports.{Given, HeldReport, Others, Refused, SameRule, Stored, Unstopped, ackIn, nextReport, passedRows, portSeen, reportPorts, reportsOf, successive}
 use Rattle.invariant.specs.Ruled.{OneEpoch}
 use Rattle.step.specs.OwnCount.{withoutMfi2}
+use Rattle.step.specs.Run.{inStepAt}
 use Rattle.invariant.specs.Times.{SameShown, outcomesOf, standingIn, standingsAfter}
+use Rattle.invariant.specs.Waits.{Claimant, InARow, Unclaimed, Zeros, sawOf}
 
 -- After any calls.
 
@@ -112,7 +121,7 @@ ruling-number = Numbered.ruling-number
 -- VC-12's step rule in the request's words: 'in step after two whole packets in a row whose counts differ by one'. After any calls with no flagged frame of the port, it is in step exactly if the bytes that it has heard end so.
 pub step-words : (kind count P W : ℕ) (hold restore : List ℕ) (rows : List (List ℕ)) (store : List ℕ) → startAsAnswer kind count P W (length store) hold restore (length rows) ≡ 0
     → withoutMfi2 kind ≡ true → (calls : List ReceiverCall) (j : ℕ) → j < count → Unflagged j calls
-    → HeardStep kind (heardOf j (startedWith kind count P W hold restore rows store) calls []) (portAt (receiverRun (startedWith kind count P W hold restore rows store) calls .rows) j .step .count)
+    → InStepExactly kind (heardOf j (startedWith kind count P W hold restore rows store) calls []) (portAt (receiverRun (startedWith kind count P W hold restore rows store) calls .rows) j .step .count)
 step-words = Stepping.step-words
 
 -- The packet being gathered (request 2026-04): in every phase the symbols of a run's last frames stand at their own places, and at own MFI1 7 of a port in step it is the packet that came.
@@ -120,6 +129,26 @@ pub live-row : (kind count P W : ℕ) (hold restore : List ℕ) (rows : List (Li
     → (calls : List ReceiverCall) (j : ℕ) → j < count
     → Live kind (portAt (receiverRun (startedWith kind count P W hold restore rows store) calls .rows) j) (heardOf j (startedWith kind count P W hold restore rows store) calls [])
 live-row = Lives.live-row
+
+-- Losing step (request 2026-04), of H4 and of the frames heard of a port, after any start and any calls, of a port in step.
+
+-- `breaks` is the number of the latest heard frames in a row that do not count by the own count, and `odd` says whether the last packet that ended had a right CRC and another MFI2
+pub recorded : (kind count P W : ℕ) (hold restore : List ℕ) (rows : List (List ℕ)) (store : List ℕ) → startAsAnswer kind count P W (length store) hold restore (length rows) ≡ 0
+    → (calls : List ReceiverCall) (j : ℕ) → j < count → withoutMfi2 kind ≡ false
+    → (let p = portAt (receiverRun (startedWith kind count P W hold restore rows store) calls .rows) j in
+    inStepAt kind (p .step .count) ≡ true → Recorded kind p (heardOf j (startedWith kind count P W hold restore rows store) calls []))
+recorded = Losing.recorded
+
+-- a frame that is not flagged and not answered 1, 9 or 11 is answered 12 exactly if it is the fourth in a row that breaks the count or ends the second packet in a row with right CRC and another MFI2, whether the port has joined and receiving has begun or not
+pub lost-heard : (kind count P W : ℕ) (hold restore : List ℕ) (rows : List (List ℕ)) (store : List ℕ) → startAsAnswer kind count P W (length store) hold restore (length rows) ≡ 0
+    → (calls : List ReceiverCall) (j : ℕ) → j < count → withoutMfi2 kind ≡ false
+    → (let x = receiverRun (startedWith kind count P W hold restore rows store) calls in
+    let next = portAt (x .rows) j .step .next in
+    let heard = heardOf j (startedWith kind count P W hold restore rows store) calls [] in
+    inStepAt kind (portAt (x .rows) j .step .count) ≡ true → (h : ℕ) (payload : List ℕ) → isHeard (frameAnswer (x .rows) j false h (length payload) (length (x .store))) ≡ true
+    → (frameAnswer (x .rows) j false h (length payload) (length (x .store)) ≡ 12 → Fourth kind next h heard ⊎ Second kind next h heard)
+    × (Fourth kind next h heard ⊎ Second kind next h heard → frameAnswer (x .rows) j false h (length payload) (length (x .store)) ≡ 12))
+lost-heard = Losing.lost-heard
 
 -- Reports, on every state.
 
@@ -160,7 +189,7 @@ pub again : (x : Receiver) → Kept (x .rows) → (i : ℕ) (failed : Bool) (h :
     → (calls : List ReceiverCall) → Others i calls → Unstopped x calls → (reportsOf x calls ≡ [] → ⊥) → Stored (receiverRun x calls) i failed h payload
 again = Again.again
 
--- RS-Ack turns over at most once a report, and at no other call.
+-- RS-Ack turns over at most once a report, at no other call, and there as 01 says.
 
 pub frame-ack : (s : List (List ℕ)) (i : ℕ) (failed : Bool) (h : ℕ) (payload store : List ℕ) → ackIn (frameRows s i failed h payload store) ≡ ackIn s
 frame-ack = Ack.frame-ack
@@ -168,6 +197,15 @@ frame-ack = Ack.frame-ack
 pub none-ack : (s : List (List ℕ)) (store out report : List ℕ) → (fits s store out report && dueIn (groupAt s) (portsIn (groupAt s)) s) ≡ false
     → ackIn (fetchRows s store out report) ≡ ackIn s
 none-ack = Ack.none-ack
+
+-- after a report of any mark it is `ackOf` of the ports that the report saw: it turns over exactly where `turns` says so of their words and numbers and those of the report before
+pub report-ack : (s : List (List ℕ)) (store out report : List ℕ) → Given s store out report
+    → ackIn (fetchRows s store out report) ≡ ackOf (reportPorts s store) (portsIn (groupAt s)) (ackIn s)
+report-ack = Ack.report-ack
+
+-- each of them by its own records as the epoch has passed
+pub report-port : (s : List (List ℕ)) (store : List ℕ) (i : ℕ) → i < portsIn (groupAt s) → R.portAt (reportPorts s store) i ≡ portSeen (passedRows s store) i
+report-port = Ack.report-port
 
 pub report-turns : (s : List (List ℕ)) (store out report : List ℕ) → Given s store out report → ackIn s ≤ 1
     → (ackIn (fetchRows s store out report) ≡ ackIn s) ⊎ (ackIn (fetchRows s store out report) ≡ 1 - ackIn s)
@@ -210,6 +248,47 @@ pub report-standing : (port : ℕ) (s : List (List ℕ)) (store out report : Lis
     → standingIn (fetchRows s store out report) port
     ≡ (let left = getD (standingsAfter s store) port noStanding in left .state ∷ left .number ∷ (memberAt s port .«hold_off») ∷ (memberAt s port .restore) ∷ left .elapsed ∷ [])
 report-standing = Between.report-standing
+
+-- Hold-off and wait-to-restore over the receiver's runs (02, 2026-03), after any start and any calls, of the report that comes next.
+
+-- 'An OK port that loses its claim goes FAIL only when it has stayed so for the hold-off': a report leaves FAIL of an OK port exactly if it is the last of h + 1 in a row that saw the port without its claim, h being the port's hold-off
+pub fail-exactly : (kind count P W : ℕ) (hold restore : List ℕ) (rows : List (List ℕ)) (store : List ℕ) → startAsAnswer kind count P W (length store) hold restore (length rows) ≡ 0
+    → (calls : List ReceiverCall)
+    → (let x = receiverRun (startedWith kind count P W hold restore rows store) calls in
+    let saw = reportPorts (x .rows) (x .store) ∷ sawOf (startedWith kind count P W hold restore rows store) calls [] in
+    (out report : List ℕ) → Given (x .rows) (x .store) out report → (i : ℕ) → i < count → memberAt (x .rows) i .state ≡ okState
+    → (memberAt (fetchRows (x .rows) (x .store) out report) i .state ≡ failState → InARow (Unclaimed count i) (suc (getD hold i 0)) saw)
+    × (InARow (Unclaimed count i) (suc (getD hold i 0)) saw → memberAt (fetchRows (x .rows) (x .store) out report) i .state ≡ failState))
+fail-exactly = Waits.fail-exactly
+
+-- until then it is OK under the number that it had
+pub number-kept : (kind count P W : ℕ) (hold restore : List ℕ) (rows : List (List ℕ)) (store : List ℕ) → startAsAnswer kind count P W (length store) hold restore (length rows) ≡ 0
+    → (calls : List ReceiverCall)
+    → (let x = receiverRun (startedWith kind count P W hold restore rows store) calls in
+    (out report : List ℕ) → Given (x .rows) (x .store) out report → (i : ℕ) → i < count → memberAt (x .rows) i .state ≡ okState
+    → Unclaimed count i (reportPorts (x .rows) (x .store)) → memberAt (fetchRows (x .rows) (x .store) out report) i .state ≢ failState
+    → (memberAt (fetchRows (x .rows) (x .store) out report) i .state ≡ okState)
+    × (memberAt (fetchRows (x .rows) (x .store) out report) i .«state_number» ≡ memberAt (x .rows) i .«state_number»))
+number-kept = Waits.number-kept
+
+-- 'A FAIL port goes OK only when its claim has stood for the wait-to-restore': a report leaves OK of a FAIL port exactly if it is the last of r + 1 in a row that saw the port with its claim, r being its wait-to-restore
+pub ok-exactly : (kind count P W : ℕ) (hold restore : List ℕ) (rows : List (List ℕ)) (store : List ℕ) → startAsAnswer kind count P W (length store) hold restore (length rows) ≡ 0
+    → (calls : List ReceiverCall)
+    → (let x = receiverRun (startedWith kind count P W hold restore rows store) calls in
+    let saw = reportPorts (x .rows) (x .store) ∷ sawOf (startedWith kind count P W hold restore rows store) calls [] in
+    (out report : List ℕ) → Given (x .rows) (x .store) out report → (i : ℕ) → i < count → memberAt (x .rows) i .state ≡ failState
+    → (memberAt (fetchRows (x .rows) (x .store) out report) i .state ≡ okState → InARow (Claimant count i) (suc (getD restore i 0)) saw)
+    × (InARow (Claimant count i) (suc (getD restore i 0)) saw → memberAt (fetchRows (x .rows) (x .store) out report) i .state ≡ okState))
+ok-exactly = Waits.ok-exactly
+
+-- 'Zero and zero is today's behaviour': from a start with empty lists or zeros every report leaves the states that 01's rule gives of the ports that it saw, each under its port's number
+pub today : (kind count P W : ℕ) (hold restore : List ℕ) (rows : List (List ℕ)) (store : List ℕ) → startAsAnswer kind count P W (length store) hold restore (length rows) ≡ 0
+    → (calls : List ReceiverCall) → Zeros hold → Zeros restore
+    → (let x = receiverRun (startedWith kind count P W hold restore rows store) calls in
+    (out report : List ℕ) → Given (x .rows) (x .store) out report → (i : ℕ) → i < count
+    → (memberAt (fetchRows (x .rows) (x .store) out report) i .state ≡ getD (statesOf (reportPorts (x .rows) (x .store)) count) i idleState)
+    × (memberAt (fetchRows (x .rows) (x .store) out report) i .«state_number» ≡ R.portAt (reportPorts (x .rows) (x .store)) i .number))
+today = Waits.today
 
 -- Fixed groups (request 2026-12), on every state: a due report is sure exactly where every port has a whole good ruling packet and brought its frames, and the numbers are 0 to X-1, X being the number of ports. Otherwise it is held.
 

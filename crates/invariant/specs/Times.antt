@@ -8,7 +8,6 @@ use Rattle.judge.specs.Seen.{sizeOf}
 use Rattle.phases.specs.Sizes.{portsIn}
 use Rattle.receiver.specs.Fetch.{fetchAnswer, fetchOut, fetchRecord}
 use Rattle.receiver.specs.Frame.{frameAnswer, frameStore}
-use Rattle.receiver.specs.Report.{replyPorts}
 use Rattle.receiver.specs.Shown.{portsAnswer, portsOut, replyAnswer, replyOut}
 use Rattle.reply.specs.declared.waiting.Standing.{Standing}
 use Rattle.reply.specs.Waiting.{standingsOf}
@@ -16,7 +15,7 @@ use Rattle.rows.specs.declared.member.Member.{Member}
 use Rattle.rows.specs.Group.{groupAt}
 use Rattle.rows.specs.Member.{memberAt}
 use Rattle.invariant.specs.Calls.{Fetch, Frame, Receiver, ReceiverCall, receiverAfter}
-use Rattle.invariant.specs.Reports.{passedRows}
+use Rattle.invariant.specs.Reports.{reportPorts}
 
 -- what a call answers and leaves in all that is lent with it but the rows; a frame is lent no output and no record
 pub record Outcome : Type 0 where
@@ -63,4 +62,4 @@ standingIn s j = waitingIn (memberAt s j)
 
 -- what the report works out of them, from the ports as they are when its epoch has passed
 abbrev pub standingsAfter : List (List ℕ) → List ℕ → List Standing
-standingsAfter s store = standingsOf (replyPorts (groupAt (passedRows s store)) (passedRows s store) (portsIn (groupAt s))) (sizeOf (portsIn (groupAt s)))
+standingsAfter s store = standingsOf (reportPorts s store) (sizeOf (portsIn (groupAt s)))

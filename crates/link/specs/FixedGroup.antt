@@ -1,21 +1,26 @@
 -- A fixed group's side of demand 3 (request 2026-12): 'X slots for the X ports, each sending FIXED under its own number, together 0 to X-1, and carrying payload in that order from the first frame on'.
 use mathlib.Core.Path.{_≡_}
-use mathlib.Core.List.{List}
-use Prim.Native.Nat.{ℕ, _≤_, _<_}
+use mathlib.Core.List.{List, [], _∷_}
+use Prim.Native.Nat.{ℕ, suc, _+_, _/_, _%_, _≤_, _<_}
+use lib.ListN.{drop, length}
+use Rattle.ground.specs.Table.{tabulate}
+use Rattle.judge.specs.Verdict.{SURE}
 use Rattle.packet.specs.Changes.{mostChanges}
-use Rattle.packet.specs.Fixed.{fixedNibbles}
 use Rattle.packet.specs.Kinds.{epochs, fixedKind}
 use Rattle.packet.specs.Layout.{h4Of}
 use Rattle.packet.specs.Words.{FIXED}
 use Rattle.payload.specs.Order.{memberFrame}
-use Rattle.link.specs.Link.{Lines, Link}
+use Rattle.link.specs.Link.{Lines, Link, clientBytes, kindOf}
+use Rattle.link.specs.Running.{Moment}
 use Rattle.link.specs.Sending.{Client, Pairing, Sending, epochNumber}
+use Rattle.link.specs.Told.{Told}
 
--- X, the number of the first epoch, and each slot's number
+-- X, the number of the first epoch, each slot's number, and by epoch, slot and place the nibbles that are 'not looked at in reading', whatever the neighbour puts there
 pub record FixedGroup : Type 0 where
   pub x : ℕ
   pub first : ℕ
   pub number : ℕ → ℕ
+  pub unread : ℕ → ℕ → ℕ → ℕ
 
 -- in any order, 'together 0 to X-1'
 pub record Numbered (f : FixedGroup) : Type 0 where
@@ -24,9 +29,30 @@ pub record Numbered (f : FixedGroup) : Type 0 where
   pub low : (slot : ℕ) → slot < f .x → f .number slot < f .x
   pub once : (slot other : ℕ) → slot < f .x → other < f .x → f .number slot ≡ f .number other → slot ≡ other
 
+-- A neighbour's packet, in the order of sending: 'MFI2 and SQ in their places' and the word FIXED. 'All other nibbles are .. not looked at in reading': `unread`, by their places.
+unfoldable pub fixedNibblesWith : (ℕ → ℕ) → ℕ → ℕ → List ℕ
+fixedNibblesWith unread epoch sq =
+    unread 0
+    ∷ unread 1
+    ∷ unread 2
+    ∷ unread 3
+    ∷ unread 4
+    ∷ unread 5
+    ∷ (sq / 16)
+    ∷ (sq % 16)
+    ∷ (epoch / 16)
+    ∷ (epoch % 16)
+    ∷ FIXED
+    ∷ unread 11
+    ∷ unread 12
+    ∷ unread 13
+    ∷ unread 14
+    ∷ unread 15
+    ∷ []
+
 -- the H4 bytes of a slot's packet in the i-th epoch
 unfoldable pub fixedSent : FixedGroup → ℕ → ℕ → List ℕ
-fixedSent f i slot = h4Of (fixedNibbles (epochNumber fixedKind (f .first) i) (f .number slot))
+fixedSent f i slot = h4Of (fixedNibblesWith (f .unread i slot) (epochNumber fixedKind (f .first) i) (f .number slot))
 
 -- What it sends. 'no changed bit at all, since nothing detects one'.
 abbrev pub sendingFixed : FixedGroup → ℕ → Client → Sending
@@ -54,3 +80,19 @@ pub record AssumedFixed (k : Link) : Type 0 where
   pub paired : Pairing (group .x) (group .x) (k .pairing)
   -- the rest: the client, the lines, what is lent
   pub lines : Lines k
+
+-- 'exactly the client's bytes, marked sure': the report of the i-th epoch into an output
+abbrev pub sureReport : Link → ℕ → List ℕ → Told
+sureReport k i out =
+    record {
+      epoch = epochNumber (kindOf k) (k .sending .first) i;
+      mark = SURE;
+      bytes = clientBytes k i;
+      rest = drop (length (clientBytes k i)) out;
+    }
+
+-- all reports made up to a moment are sure: they are those of the epochs behind some epoch, one after the other
+pub record ToldSure (k : Link) (m : Moment) : Type 0 where
+  pub before : ℕ
+  pub many : ℕ
+  pub are : m .told ≡ tabulate many (λ j. sureReport k (suc (before + j)) (k .output j))

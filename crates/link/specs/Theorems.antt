@@ -1,14 +1,15 @@
 -- Demand 3, proved.
 use mathlib.Core.Path.{_≡_}
 use mathlib.Core.List.{List}
-use Prim.Native.Nat.{ℕ, _<_}
+use Prim.Native.Nat.{ℕ, suc, _<_}
 use lib.ListN.{length}
 use Rattle.link.specs.Assumed.{Assumed}
-use Rattle.link.specs.Demand3.{Demand3, Started, Time, UntilBegun, ownRun}
-use Rattle.link.specs.FixedGroup.{AssumedFixed, FixedGroup, Numbered, sendingFixed}
+use Rattle.link.specs.Demand3.{Demand3, Started, Time, UntilBegun, ownRun, standing}
+use Rattle.link.specs.FixedGroup.{AssumedFixed, FixedGroup, Numbered, ToldSure, sendingFixed, sureReport}
 use Rattle.link.specs.History.{Allowed, Handed, History, sendingOf}
-use Rattle.link.specs.Link.{AssumedOver, Link}
+use Rattle.link.specs.Link.{AssumedOver, Link, expected}
 use Rattle.link.specs.Proofs.FixedGroups.Over.{fixed-over}
+use Rattle.link.specs.Proofs.FixedGroups.Reported.{expected-sure, told-sure}
 use Rattle.link.specs.Proofs.FixedGroups.Sure.{fixed-lawful}
 use Rattle.link.specs.Proofs.Histories.Lawful.{history-lawful}
 use Rattle.link.specs.Proofs.Histories.Ours.{ours}
@@ -39,3 +40,10 @@ demand3-fixed k a = demand3-over k (fixed-over k a)
 
 pub fixed-groups-lawful : (f : FixedGroup) → Numbered f → (P : ℕ) (client : Client) → Lawful (sendingFixed f P client) P client
 fixed-groups-lawful = fixed-lawful
+
+-- every epoch of such a link is expected sure, with the client's bytes, and every report that its receiver makes is
+pub fixed-expected : (k : Link) → AssumedFixed k → (i : ℕ) (out : List ℕ) → expected k i out ≡ sureReport k (suc i) out
+fixed-expected = expected-sure
+
+pub fixed-all-sure : (k : Link) → AssumedFixed k → (m₀ : Moment) → Started k m₀ → (at : Time k) → ToldSure k (standing k (ownRun k m₀) at)
+fixed-all-sure = told-sure

@@ -2,4 +2,6 @@
 pub mod Places
 pub mod Rows
 pub mod Runs
+pub mod Losing
 pub mod Calls
+pub mod Lost

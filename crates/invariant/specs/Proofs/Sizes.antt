@@ -1,7 +1,7 @@
--- What no call changes: the kind of packet, the count of ports, P and W.
+-- What no call changes: the kind of packet, the count of ports, P and W. And how many ports there are at most.
 use mathlib.Core.Bool.{Bool, cond}
 use mathlib.Core.List.{List, [], _∷_}
-use Prim.Native.Nat.{ℕ, _<_}
+use Prim.Native.Nat.{ℕ, _≤_, _<_}
 use native.Mathlib.Omega.{arith}
 use lib.ListN.{length}
 use Rattle.invariant.specs.Kept.Group.{Kept}
@@ -12,15 +12,22 @@ use Rattle.phases.specs.Laws.Lengths.{length-passed}
 use Rattle.phases.specs.Laws.Passed.{passed-group}
 use Rattle.phases.specs.Laws.Sizes.{SameSizes, settled-sizes, sizes-stay, sizes-then}
 use Rattle.phases.specs.Passing.{passedOf}
-use Rattle.phases.specs.Sizes.{portsIn}
+use Rattle.phases.specs.Sizes.{portsIn, sized}
 use Rattle.receiver.specs.Fetch.{dueIn, fetchRows, fits, rowsIfDue}
 use Rattle.receiver.specs.Frame.{frameRows}
+use Rattle.receiver.specs.Laws.Sizes.{sizes-of}
 use Rattle.receiver.specs.Laws.Passed.{passed-count, passed-kind, passed-payload, passed-window}
 use Rattle.receiver.specs.Laws.Told.{told-group}
 use Rattle.receiver.specs.Report.{reportedOf, statesWorkedOut}
 use Rattle.rows.specs.declared.group.Group.{Group}
 use Rattle.rows.specs.Group.{groupAt}
 use Rattle.invariant.specs.Calls.{Fetch, Frame, Receiver, ReceiverCall, portAfter, receiverAfter, receiverRun, storeAfter}
+
+pub ports-at-most-64 : (g : Group) → portsIn g ≤ 64
+unfolding portsIn
+ports-at-most-64 g =
+    cond-by (λ (m : ℕ). m ≤ 64) (sized (g .kind) (g .count) (g .payload) (g .window)) (g .count) 0
+    (λ e. sizes-of (g .kind) (g .count) (g .payload) (g .window) e .few-ports) (λ e. omega arith)
 
 pub frame-sizes : (s : List (List ℕ)) → Kept s → (i : ℕ) (failed : Bool) (h : ℕ) (payload store : List ℕ) → SameSizes (groupAt (frameRows s i failed h payload store)) (groupAt s)
 frame-sizes s k i failed h payload store =

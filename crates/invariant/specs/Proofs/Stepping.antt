@@ -47,7 +47,7 @@ use Rattle.step.specs.declared.run.Run.{Run}
 use Rattle.step.specs.Laws.Arrival.{ranOn, taken-by}
 use Rattle.step.specs.OwnCount.{withoutMfi2}
 use Rattle.step.specs.Run.{inStepAt, runOn}
-use Rattle.step.specs.Theorems.Heard.{HeardStep, heard-step, odd-alike, runOver}
+use Rattle.step.specs.Theorems.Heard.{InStepExactly, in-step-exactly, odd-alike, runOver}
 
 -- a frame that is not flagged and not answered 11 is one to the step record, and the run goes on with it
 record Went (g : Group) (s : Step) (odd : Bool) (h : ℕ) (t : Taken) : Type 0 where
@@ -231,5 +231,5 @@ module _ (kind count P W : ℕ) (hold restore : List ℕ) (rows : List (List ℕ
   ran : Ran kind port (heardOf j x calls [])
   ran = rw same at (run-ran x calls k (rw group free) j (rw group b) none [] fresh)
 
-  pub step-words : HeardStep kind (heardOf j x calls []) (port .step .count)
-  step-words = rw (ap (λ (r : Run). r .count) ran) (heard-step kind free (heardOf j x calls []))
+  pub step-words : InStepExactly kind (heardOf j x calls []) (port .step .count)
+  step-words = rw (ap (λ (r : Run). r .count) ran) (in-step-exactly kind free (heardOf j x calls []))

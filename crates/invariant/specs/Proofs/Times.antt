@@ -7,3 +7,4 @@ pub mod Shown
 pub mod Start
 pub mod Calls
 pub mod Between
+pub mod Waits

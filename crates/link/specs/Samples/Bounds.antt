@@ -25,7 +25,7 @@ unfolding epochs
 allowed-least = record { lcas = refl; some = omega arith; most = omega arith; first = omega arith; gid = λ i. omega arith; mst = λ i. omega arith; ack = λ i. omega arith }
 
 -- a fixed group of 64, numbered downwards (request 2026-12)
-numbered-most : Numbered (record { x = 64; first = 255; number = λ slot. 63 - slot })
+numbered-most : Numbered (record { x = 64; first = 255; number = λ slot. 63 - slot; unread = λ i slot place. i + place })
 unfolding epochs
 numbered-most = record { most = omega arith; first = omega arith; low = λ slot b. omega arith; once = λ slot other hs ho e. omega arith }
 

@@ -12,7 +12,7 @@ use Rattle.judge.specs.Verdict.{doubtfulBy, eosAlone, eosWrong, exact, fixedExa
 use Rattle.judge.specs.Verdict.{highest as highestSeen}
 use Rattle.packet.specs.Counts.{carriesLow, counts, h4Counts, startsCount, tagByHigh, tagByLow}
 use Rattle.packet.specs.Crc.{crcOf, divisor, nibbleBits}
-use Rattle.packet.specs.Fixed.{fixedNibbles, fixedRulingOf, readFixedNibbles}
+use Rattle.packet.specs.Fixed.{fixedRulingOf, readFixedNibbles}
 use Rattle.packet.specs.Kinds.{distanceOf, endsEpoch, epochAfter, epochOf, epochs, epochsIn, firstTag, frames, idleNumber, lead, mstEpochs, mstFails, mstFirst, mstNumbers, payloadRight, placeOf, startsEpoch, tagAfter, tagBefore, tags}
 use Rattle.packet.specs.Layout.{carriedIn, dataOf, fieldsOf, h4Of, nibblesOf, sealedOf}
 use Rattle.packet.specs.Reading.{readNibbles}
@@ -56,7 +56,7 @@ use Rattle.step.specs.Run.{begunRun, breaksAfter, endsPacket, furtherRun, gaine
 use Rattle.store.specs.Frames.{byteAt, h4At, packetIn, placeIn, ringOf, storedAt}
 use Rattle.store.specs.Marks.{cutByte, cutFrom, firstMark, markIn, markedAt, markedByte, passedByte, passedMarks}
 use Rattle.link.specs.Demand3.{Times}
-use Rattle.link.specs.FixedGroup.{fixedSent}
+use Rattle.link.specs.FixedGroup.{fixedNibblesWith, fixedSent}
 use Rattle.link.specs.History.{hasRank, packetSent, payloadSent, senderAt}
 use Rattle.link.specs.Link.{Link, allAsSent, expected, framesOf, roadOf}
 use Rattle.link.specs.Running.{Moment, drained, fetched, framed, fresh, through, turn, turns}
@@ -92,5 +92,5 @@ outcomeOf m = record { begun = groupAt (m .rows) .begun; told = m .told; strange
 
 -- after all frame times before t
 unfoldable pub outcome : Link → ℕ → Outcome
-unfolding after tagByHigh tagByLow counts h4Counts carriesLow entryAt entryFrom entryWith rowFrom symbolOf withSymbol startsCount crcOf divisor nibbleBits distanceOf endsEpoch epochAfter epochOf epochs epochsIn firstTag frames idleNumber lead mstFails mstFirst mstEpochs mstNumbers placeOf startsEpoch tagAfter tagBefore tags carriedIn dataOf fieldsOf h4Of nibblesOf sealedOf readNibbles assigned fitting writeBytes activeIn orderOf portOf rankSeen doubtfulBy eosAlone eosWrong exact gidDiffers heldBy highestSeen judgeOf fixedExact fixedHeld fixedVerdict lcasVerdict missing repeats takes begins foremost further latest noTag ready within brought owesNothing silent notedBy passedGroup passedOf passedPort passedPorts passedStep ruledBy rulingOf readRow beginBy begunOf clearedPort clearedPorts clearedStep gatherBy settledOf stopBy stoppedOf portsIn knownKind sized storeFor dueIn fetchOut fetchRecord fetchRows fits outIfDue reportIfDue rowsIfDue recordOf frameAnswer frameRows frameStore gatheredBy marksBy portRows refusalBy settledBy storeBy takenRows takenStore fetchFits frameFits outputFor rowsFit frameInto framesInto outputBy outputOf replyPort replyPorts reportBy reportSeen reportedOf rulingEpoch seenAll seenOf startsOf withState statesWorkedOut statePut statesPut freshPort freshPorts sizedFits sizedRows startFits payloadRight startRight startSized startAsRows timesWithin claims grant granted holders chosenOf keptNumbers moreKept rounds someJoin standingBy standingsOf ackOf turnsAck groupAt groupOf groupRow putGroup memberAt memberOf memberRow putMember marksAt packetsAt putMarks putPackets putRow rowIn putStep stepAt stepOf stepRow boardOf highestSent noRow rowOf rowsOf addOf addedTo fallen fallenIn freshOf idleSlot lapseOf removeOf removedFrom startOf beginOf freshSender packetBytes sentBytes packetFields payloadBytes startEpochOf startedEpoch startedSender carriersIn rankAt rankSent actedOn comesBefore mstApplied numberAfter opensWait renumbered reportHeard slotAfter numberApplied turnOf waited holderOf membersOf sizeOf arrives frameDropped byStart byWindow countsOn distanceIn flagged inStep joining keeps outside readable takenOf endsOdd oddPacket rightCrc ownNumber ownRuling fixedNibbles fixedRulingOf readFixedNibbles fixedSent rulingIn begunRun breaksAfter endsPacket furtherRun gainedRun inStepAt loses oddAfter runOn h4RunOn secondRun stayedRun byteAt h4At packetIn placeIn ringOf storedAt cutByte cutFrom firstMark markIn markedAt markedByte passedByte passedMarks epochNumber hasRank packetSent payloadSent senderAt allAsSent expected framesOf roadOf drained fetched framed fresh through turn turns
+unfolding after tagByHigh tagByLow counts h4Counts carriesLow entryAt entryFrom entryWith rowFrom symbolOf withSymbol startsCount crcOf divisor nibbleBits distanceOf endsEpoch epochAfter epochOf epochs epochsIn firstTag frames idleNumber lead mstFails mstFirst mstEpochs mstNumbers placeOf startsEpoch tagAfter tagBefore tags carriedIn dataOf fieldsOf h4Of nibblesOf sealedOf readNibbles assigned fitting writeBytes activeIn orderOf portOf rankSeen doubtfulBy eosAlone eosWrong exact gidDiffers heldBy highestSeen judgeOf fixedExact fixedHeld fixedVerdict lcasVerdict missing repeats takes begins foremost further latest noTag ready within brought owesNothing silent notedBy passedGroup passedOf passedPort passedPorts passedStep ruledBy rulingOf readRow beginBy begunOf clearedPort clearedPorts clearedStep gatherBy settledOf stopBy stoppedOf portsIn knownKind sized storeFor dueIn fetchOut fetchRecord fetchRows fits outIfDue reportIfDue rowsIfDue recordOf frameAnswer frameRows frameStore gatheredBy marksBy portRows refusalBy settledBy storeBy takenRows takenStore fetchFits frameFits outputFor rowsFit frameInto framesInto outputBy outputOf replyPort replyPorts reportBy reportSeen reportedOf rulingEpoch seenAll seenOf startsOf withState statesWorkedOut statePut statesPut freshPort freshPorts sizedFits sizedRows startFits payloadRight startRight startSized startAsRows timesWithin claims grant granted holders chosenOf keptNumbers moreKept rounds someJoin standingBy standingsOf ackOf turnsAck groupAt groupOf groupRow putGroup memberAt memberOf memberRow putMember marksAt packetsAt putMarks putPackets putRow rowIn putStep stepAt stepOf stepRow boardOf highestSent noRow rowOf rowsOf addOf addedTo fallen fallenIn freshOf idleSlot lapseOf removeOf removedFrom startOf beginOf freshSender packetBytes sentBytes packetFields payloadBytes startEpochOf startedEpoch startedSender carriersIn rankAt rankSent actedOn comesBefore mstApplied numberAfter opensWait renumbered reportHeard slotAfter numberApplied turnOf waited holderOf membersOf sizeOf arrives frameDropped byStart byWindow countsOn distanceIn flagged inStep joining keeps outside readable takenOf endsOdd oddPacket rightCrc ownNumber ownRuling fixedNibblesWith fixedRulingOf readFixedNibbles fixedSent rulingIn begunRun breaksAfter endsPacket furtherRun gainedRun inStepAt loses oddAfter runOn h4RunOn secondRun stayedRun byteAt h4At packetIn placeIn ringOf storedAt cutByte cutFrom firstMark markIn markedAt markedByte passedByte passedMarks epochNumber hasRank packetSent payloadSent senderAt allAsSent expected framesOf roadOf drained fetched framed fresh through turn turns
 outcome k t = outcomeOf (through (roadOf k) t (started k))

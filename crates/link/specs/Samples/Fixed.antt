@@ -20,7 +20,7 @@ use Rattle.link.specs.Theorems.{demand3-fixed}
 use Rattle.link.specs.Told.{Told}
 
 abbrev group : FixedGroup
-group = record { x = 3; first = 249; number = λ slot. (slot + 2) % 3 }
+group = record { x = 3; first = 249; number = λ slot. (slot + 2) % 3; unread = λ i slot place. i + slot * 5 + place }
 
 -- P is 1: three bytes to a group frame, from position 0 on
 abbrev client : Client

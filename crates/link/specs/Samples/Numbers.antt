@@ -22,17 +22,17 @@ use Rattle.step.specs.Laws.Positions.{startFrom}
 use Rattle.step.specs.OwnCount.{ownNumber}
 use Rattle.link.specs.Assumed.{Assumed}
 use Rattle.link.specs.Demand3.{Demand3}
-use Rattle.link.specs.History.{xAt}
-use Rattle.link.specs.Link.{Arrived, BringsMfi2, Damaged, Link, NumberKept, expected, roadOf}
+use Rattle.link.specs.History.{Allowed, History, sendingOf, xAt}
+use Rattle.link.specs.Link.{Arrived, BringsMfi2, Damaged, Link, NumberKept, epochFrames, expected, kindOf, roadOf, sentTo}
 use Rattle.link.specs.Moments.{Ready, Unready, coming, nextAt}
 use Rattle.link.specs.Proofs.Transport.Times.{coming-is}
-use Rattle.link.specs.Road.{times}
+use Rattle.link.specs.Road.{Below, times}
 use Rattle.link.specs.Samples.Computing.{outcome}
 use Rattle.link.specs.Samples.Members.{came, client, history, linkOf, output, sent, unranked}
 use Rattle.link.specs.Samples.Met.{allowed, arrived, mfi2-places, number-kept, once, only, spread-4}
 use Rattle.link.specs.Samples.Reports.{held, reportsWith}
 use Rattle.link.specs.Samples.Tracing.{begun-by, course, drainedBy, outcome-by, traced, turnBy, turnsBy}
-use Rattle.link.specs.Sending.{epochAt, epochNumber}
+use Rattle.link.specs.Sending.{Pairing, epochAt, epochNumber}
 use Rattle.link.specs.Theorems.{demand3}
 
 -- Receiving begins in frame time 55. Port 1's packet of the epoch at index 3 is then half there: its MFI2 comes in frame times 56 and 57. Port 0's of the epoch at index 5 comes later: it stands in the first epoch that is reported, and rules the second.
@@ -166,12 +166,51 @@ spared-after t p done un brings = go (epochAt 0 x == 3 && p == 1) refl
     go true e = absurd (later-not t done (late 3 (omega arith) (eqb-true (epochAt 0 (t - (if p == 0 then 4 else 0))) 3 (and-left (epochAt 0 (t - (if p == 0 then 4 else 0)) == 3) (p == 1) e))) un)
     go false e = other (epochAt 0 (t - (if p == 0 then 4 else 0)) == 5 && p == 0) refl
 
--- What demand 3 lets be so, whichever packets came, if they may and MFI2 is spared.
-met-with : (hits : ℕ → ℕ → List ℕ) → ((i p : ℕ) → Arrived 0 3 (sent i p) (hits i p))
-    → ((t p : ℕ) (done : List ℕ) → Unready (roadOf (linkOf hits client 4 (λ t. t % 2 == 0))) t done → NumberKept (linkOf hits client 4 (λ t. t % 2 == 0)) t p)
-    → Assumed (linkOf hits client 4 (λ t. t % 2 == 0))
+-- What demand 3 lets be so but for the frames in which MFI2 is spared: the fields of Assumed and of its lines, without `spared`.
+record ButSpared (k : Link) : Type 0 where
+  history : History
+  allowed : Allowed history
+  unranked : ℕ → ℕ → List ℕ
+  unranked-long : (x slot : ℕ) → slot < history .slots → length (unranked x slot) ≡ k .payload
+  sends : k .sending ≡ sendingOf history (k .payload) (k .client) unranked
+  all : k .ports ≡ history .slots
+  paired : Pairing (history .slots) (history .slots) (k .pairing)
+  sizes : startSized (kindOf k) (k .ports) (k .payload) (k .window) ≡ true
+  client : (x : ℕ) → length (k .client x) ≡ k .sending .x (epochAt (kindOf k) x) * k .payload
+  spread : (p q : ℕ) → p < k .ports → q < k .ports → k .delay p + epochFrames k ≤ k .delay q + k .window
+  once : (t p : ℕ) → p < k .ports → times p (k .order t) ≡ 1
+  only : (t : ℕ) → Below (k .ports) (k .order t)
+  arrived : (i p : ℕ) → p < k .ports → Arrived (kindOf k) (k .sending .changes) (sentTo k i p) (k .came i p)
+  room : (j : ℕ) → k .ports * epochFrames k * k .payload ≤ length (k .output j)
+  eight : (a j : ℕ) → length (k .lent a j) ≡ 8
+
+with-spared : (k : Link) → ButSpared k → ((t p : ℕ) (done : List ℕ) → Unready (roadOf k) t done → NumberKept k t p) → Assumed k
+with-spared k a spared =
+    record {
+      history = a .history;
+      allowed = a .allowed;
+      unranked = a .unranked;
+      unranked-long = a .unranked-long;
+      sends = a .sends;
+      all = a .all;
+      paired = a .paired;
+      lines = record {
+        sizes = a .sizes;
+        client = a .client;
+        spread = a .spread;
+        once = a .once;
+        only = a .only;
+        arrived = a .arrived;
+        spared = λ t p done rest h is-order come un. spared t p done un;
+        room = a .room;
+        eight = a .eight;
+      };
+    }
+
+-- so it is whichever packets came, if they may
+but-spared : (hits : ℕ → ℕ → List ℕ) → ((i p : ℕ) → Arrived 0 3 (sent i p) (hits i p)) → ButSpared (linkOf hits client 4 (λ t. t % 2 == 0))
 unfolding knownKind sized frames tags mostChanges payloadRight startSized
-met-with hits arrived spared =
+but-spared hits arrived =
     record {
       history = history;
       allowed = allowed;
@@ -180,21 +219,18 @@ met-with hits arrived spared =
       sends = refl;
       all = refl;
       paired = record { below = λ p h. omega arith; once = λ p q hp hq e. omega arith };
-      lines = record {
-        sizes = refl;
-        client = λ x. length-tabulate (xAt history (epochAt 0 x) * 1) (λ j. (x * 2 + j) % 256);
-        spread = spread-4;
-        once = λ t p h. once (t % 2 == 0) p h;
-        only = λ t. only (t % 2 == 0);
-        arrived = λ i p h. arrived i p;
-        spared = λ t p done rest h is-order come un. spared t p done un;
-        room = λ j. omega (arith, length-replicate {A = ℕ} 33 0xEE);
-        eight = λ a j. refl;
-      };
+      sizes = refl;
+      client = λ x. length-tabulate (xAt history (epochAt 0 x) * 1) (λ j. (x * 2 + j) % 256);
+      spread = spread-4;
+      once = λ t p h. once (t % 2 == 0) p h;
+      only = λ t. only (t % 2 == 0);
+      arrived = λ i p h. arrived i p;
+      room = λ j. omega (arith, length-replicate {A = ℕ} 33 0xEE);
+      eight = λ a j. refl;
     }
 
 met-after : Assumed after
-met-after = met-with came-after arrived-after spared-after
+met-after = with-spared after (but-spared came-after arrived-after) spared-after
 
 holds-after : Demand3 after
 holds-after = demand3 after met-after
@@ -238,7 +274,54 @@ unready-then u earlier rest e na y =
     let from = counts-1 in
     ⊎-elim (λ (h : u < 41). absurd (omega arith)) (λ (h : (u ≡ 41) × (length earlier ≤ 0)). (let same = h .0 in absurd (omega arith))) na
 
--- Of what demand 3 lets be so this alone lacks.
+-- Of what demand 3 lets be so this frame alone lacks: one bit of the packet came changed, every other frame brings the nibble that was sent, and all else is so.
+
+early-one : changed 0 early early-hit ≡ 1
+unfolding outcome highsOf changed
+early-one = refl
+
+early-damage : Damaged 0 3 early early-hit
+unfolding frames keptPart
+early-damage =
+    record {
+      long = refl;
+      bytes = λ k b. ltb-true (getD early-hit k 0) 256 (below-at 16 (λ i. getD early-hit i 0 <? 256) refl k b);
+      least = omega (arith, early-one);
+      most = omega (arith, early-one);
+      placed = λ k b. eqb-true (keptPart 0 k (getD early-hit k 0)) (keptPart 0 k (getD early k 0)) (below-at 16 (λ i. keptPart 0 i (getD early-hit i 0) == keptPart 0 i (getD early i 0)) refl k b);
+    }
+
+arrived-before : (i p : ℕ) → Arrived 0 3 (sent i p) (came-before i p)
+arrived-before i p = go (i == 2 && p == 1) refl
+  where
+    go : (b : Bool) → (i == 2 && p == 1) ≡ b → Arrived 0 3 (sent i p) (if b then early-hit else came i p)
+    go true e = let hi = eqb-true i 2 (and-left (i == 2) (p == 1) e) in let hp = eqb-true p 1 (and-right (i == 2) (p == 1) e) in inr (rw (hi, hp, early-sent) early-damage)
+    go false e = arrived i p
+
+all-else : ButSpared before
+all-else = but-spared came-before arrived-before
+
+kept-before : (i p k : ℕ) → (i ≡ 2 → p ≡ 1 → k ≡ 9 → ⊥) → BringsMfi2 0 k → symbolOf 0 (getD (came-before i p) k 0) ≡ symbolOf 0 (getD (sent i p) k 0)
+unfolding symbolOf
+kept-before i p k other brings = go (i == 2 && p == 1) refl
+  where
+    high : (k ≡ 9 → ⊥) → symbolOf 0 (getD early-hit k 0) ≡ symbolOf 0 (getD early k 0)
+    high d = ⊎-elim (λ (e : k ≡ 8). rw e refl) (λ (e : k ≡ 9). absurd (d e)) (mfi2-places k brings)
+
+    go : (b : Bool) → (i == 2 && p == 1) ≡ b → symbolOf 0 (getD (if b then early-hit else came i p) k 0) ≡ symbolOf 0 (getD (sent i p) k 0)
+    go true e =
+        let hi = eqb-true i 2 (and-left (i == 2) (p == 1) e) in
+        let hp = eqb-true p 1 (and-right (i == 2) (p == 1) e) in
+        let kept = high (λ hk. other hi hp hk) in
+        rw (hi, hp, early-sent) kept
+    go false e = number-kept i p k brings
+
+kept-but-one : (t p : ℕ) → (t ≡ 41 → p ≡ 1 → ⊥) → NumberKept before t p
+unfolding frames
+kept-but-one t p other brings =
+    kept-before ((t - (if p == 0 then 4 else 0)) / 16) p ((t - (if p == 0 then 4 else 0)) % 16)
+    (λ hi hp hk. other (let soon : _≡_ {A = ℕ} (if p == 0 then 4 else 0) 0 = rw hp refl in omega (arith, soon, hi, hk)) hp) brings
+
 not-spared : Assumed before → ⊥
 unfolding outcome bringsMfi2
 not-spared a =
@@ -305,4 +388,5 @@ kept-elsewhere i p k brings = go (i == 2 && p == 1) refl
 
 holds-elsewhere : Demand3 elsewhere
 holds-elsewhere =
-    demand3 elsewhere (met-with came-elsewhere arrived-elsewhere (λ t p done un. kept-elsewhere (epochAt 0 (t - (if p == 0 then 4 else 0))) p ((t - (if p == 0 then 4 else 0)) % frames 0)))
+    demand3 elsewhere
+    (with-spared elsewhere (but-spared came-elsewhere arrived-elsewhere) (λ t p done un. kept-elsewhere (epochAt 0 (t - (if p == 0 then 4 else 0))) p ((t - (if p == 0 then 4 else 0)) % frames 0)))

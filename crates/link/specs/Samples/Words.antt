@@ -93,7 +93,7 @@ sent-words = (refl, refl, refl, refl, refl, refl, refl, refl, refl, refl, refl, 
 
 -- two slots of a fixed group, slot 0 with number 1
 abbrev fixed : Sending
-fixed = sendingFixed (record { x = 2; first = 7; number = λ slot. 1 - slot }) 2 client
+fixed = sendingFixed (record { x = 2; first = 7; number = λ slot. 1 - slot; unread = λ i slot place. 0 }) 2 client
 
 fixed-words :
     (fixed .payload 16 0 ≡ 11 ∷ 13 ∷ [])

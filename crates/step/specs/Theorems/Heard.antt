@@ -43,11 +43,11 @@ over-after (h ∷ heard) =
     rw (latest h heard, run-ext (heardAt (h ∷ heard)) (heardAt heard) (length heard) (λ k l. behind h heard k l), ← over-after heard) refl
 
 -- 'A port is in step after two whole packets in a row whose counts differ by one': exactly then
-pub record HeardStep (kind : ℕ) (heard : List ℕ) (count : ℕ) : Type 0 where
+pub record InStepExactly (kind : ℕ) (heard : List ℕ) (count : ℕ) : Type 0 where
   pub so : InStep (heardAt heard) (length heard) → inStepAt kind count ≡ true
   pub only : inStepAt kind count ≡ true → InStep (heardAt heard) (length heard)
 
-of-vc12 : (heard : List ℕ) → HeardStep vc12Kind heard (runOver vc12Kind heard .count)
+of-vc12 : (heard : List ℕ) → InStepExactly vc12Kind heard (runOver vc12Kind heard .count)
 unfolding inStepAt
 of-vc12 heard =
     record {
@@ -55,8 +55,8 @@ of-vc12 heard =
       only = λ e. in-step-so (heardAt heard) (length heard) (rw (over-after heard) at (leb-true 64 (runOver vc12Kind heard .count) (rw vc12-frames at e)));
     }
 
-pub heard-step : (kind : ℕ) → withoutMfi2 kind ≡ true → (heard : List ℕ) → HeardStep kind heard (runOver kind heard .count)
-heard-step kind e heard = rw (eqb-true kind vc12Kind e) (of-vc12 heard)
+pub in-step-exactly : (kind : ℕ) → withoutMfi2 kind ≡ true → (heard : List ℕ) → InStepExactly kind heard (runOver kind heard .count)
+in-step-exactly kind e heard = rw (eqb-true kind vc12Kind e) (of-vc12 heard)
 
 -- none of its packets is odd
 pub odd-alike : (kind : ℕ) → withoutMfi2 kind ≡ true → (run : Run) (odd : Bool) (h : ℕ) → runOn kind run odd h ≡ runOn kind run false h

@@ -1,4 +1,4 @@
--- The packet being gathered after any calls.
+-- The packet being gathered after any calls, and what a port's record says of the frames heard.
 use mathlib.Core.Path.{_≡_, refl, sym, ap, _∙_}
 use mathlib.Core.Logic.{⊎-elim, _≢_}
 use mathlib.Core.Bool.{Bool, true, false, cond, _&&_}
@@ -6,7 +6,7 @@ use mathlib.Core.List.{List, [], _∷_}
 use Prim.Native.Nat.{ℕ, _≤_, _<_}
 use native.Mathlib.Omega.{arith}
 use lib.Dec.{eqb, ltb}
-use lib.ListN.{length}
+use lib.ListN.{getD, length}
 use borrow.Author.Tests.{eq-eqb, eqb-false, eqb-true, ne-eqb}
 use Rattle.ground.specs.Truth.{cond-by, eq-or-ne}
 use Rattle.invariant.specs.Calls.{Fetch, Frame, Receiver, ReceiverCall, portAfter, receiverAfter, receiverRun, startedWith, storeAfter}
@@ -17,6 +17,7 @@ use Rattle.invariant.specs.Proofs.Calls.{call-kept}
 use Rattle.invariant.specs.Proofs.Kept.Start.{started-kept, started-with}
 use Rattle.invariant.specs.Proofs.Laws.Settling.{settled-by}
 use Rattle.invariant.specs.Proofs.Laws.Started.{accepted}
+use Rattle.invariant.specs.Proofs.Live.Losing.{HeardStep, heard-short, taken-heard}
 use Rattle.invariant.specs.Proofs.Live.Rows.{live-none, packet-came, packet-judged}
 use Rattle.invariant.specs.Proofs.Live.Runs.{Took, live-took, taken-took}
 use Rattle.invariant.specs.Proofs.Sizes.{call-sizes, run-sizes}
@@ -39,40 +40,44 @@ use Rattle.receiver.specs.Starting.{groupWith, startAsAnswer, startAsRows, zero
 use Rattle.rows.specs.declared.group.Group.{Group}
 use Rattle.rows.specs.Group.{groupAt}
 use Rattle.rows.specs.Laws.Port.{port-step}
+use Rattle.rows.specs.Packets.{packetsAt}
 use Rattle.rows.specs.Port.{Port, portAt}
 use Rattle.rows.specs.Rows.{rowsFor}
 use Rattle.rows.specs.Step.{stepAt}
 use Rattle.step.specs.Arrival.{runOf}
 use Rattle.step.specs.declared.arrival.Taken.{Taken}
+use Rattle.step.specs.OwnCount.{withoutMfi2}
 
 abbrev LiveIn : ℕ → Port → List ℕ → Type 0
-LiveIn kind p heard = LiveRow kind (p .step .count) (p .step .next) (p .gathering) heard
+LiveIn kind p heard = LiveRow kind (p .step .count) (p .step .next) (p .gathering) heard × (withoutMfi2 kind ≡ false → HeardStep kind (p .step) heard)
 
 -- What follows for all ports, and a report, leave a port's run and the packet that it gathers.
 record SameRun (p q : Port) : Type 0 where
   count : q .step .count ≡ p .step .count
   next : q .step .next ≡ p .step .next
+  breaks : q .step .breaks ≡ p .step .breaks
+  odd : q .step .odd ≡ p .step .odd
   row : q .gathering ≡ p .gathering
 
 live-same : (kind : ℕ) (p q : Port) (heard : List ℕ) → SameRun p q → LiveIn kind p heard → LiveIn kind q heard
-live-same kind p q heard e o = rw (e .count, e .next, e .row) o
+live-same kind p q heard e o = (rw (e .count, e .next, e .row) (o .0), λ clock. rw (e .count, e .next, e .breaks, e .odd) (o .1 clock))
 
 passed-run : (g : Group) (store : List ℕ) (i : ℕ) (p : Port) → SameRun p (passedOn g store i p)
 unfolding passedStep
-passed-run g store i p = record { count = refl; next = refl; row = refl }
+passed-run g store i p = record { count = refl; next = refl; breaks = refl; odd = refl; row = refl }
 
 cleared-run : (g : Group) (beginning : Bool) (p : Port) → SameRun p (clearedOn g beginning p)
 unfolding clearedStep
-cleared-run g beginning p = record { count = refl; next = refl; row = refl }
+cleared-run g beginning p = record { count = refl; next = refl; breaks = refl; odd = refl; row = refl }
 
 run-then : (p q r : Port) → SameRun p q → SameRun q r → SameRun p r
-run-then p q r e f = record { count = f .count ∙ e .count; next = f .next ∙ e .next; row = f .row ∙ e .row }
+run-then p q r e f = record { count = f .count ∙ e .count; next = f .next ∙ e .next; breaks = f .breaks ∙ e .breaks; odd = f .odd ∙ e .odd; row = f .row ∙ e .row }
 
 module _ (n : ℕ) (store : List ℕ) (a : List (List ℕ)) (j : ℕ) (c : j < n) (long : rowsFor n ≤ length a) where
   settled-run : SameRun (portAt a j) (portAt (settledOf n store a) j)
   settled-run =
       settled-by (λ (r : List (List ℕ)). SameRun (portAt a j) (portAt r j)) n store a long
-      (record { count = refl; next = refl; row = refl })
+      (record { count = refl; next = refl; breaks = refl; odd = refl; row = refl })
       (λ b q f w. rw (passed-of-port (groupAt a) store n a j c long) (passed-run (groupAt a) store j (portAt a j)))
       (λ b w. rw (begun-port (groupAt a) n a j c long) (cleared-run (groupAt a) true (portAt a j)))
       (λ b q. rw (stopped-port (groupAt a) n a j c long) (cleared-run (groupAt a) false (portAt a j)))
@@ -89,7 +94,7 @@ module _ (n : ℕ) (store : List ℕ) (a : List (List ℕ)) (j : ℕ) (c : j < n
       let p : List (List ℕ) = passedOf (groupAt a) store n a in
       let l : rowsFor n ≤ length p = rw (length-passed (groupAt a) store n a) long in
       rw (told-of-port (groupAt p) n p j c l, passed-of-port (groupAt a) store n a j c long)
-      (record { count = passed-run (groupAt a) store j (portAt a j) .count; next = passed-run (groupAt a) store j (portAt a j) .next; row = refl })
+      (let o = passed-run (groupAt a) store j (portAt a j) in record { count = o .count; next = o .next; breaks = o .breaks; odd = o .odd; row = refl })
 
 pub by-said : (P : List (List ℕ) → ℕ → Type 0) (b : Bool) (x y : List (List ℕ)) (v w : ℕ) → (b ≡ true → P x v) → (b ≡ false → P y w) → P (cond b x y) (cond b v w)
 by-said P true x y v w p q = p refl
@@ -132,24 +137,37 @@ module _ (s : List (List ℕ)) (k : Kept s) (i : ℕ) (failed : Bool) (h : ℕ) 
   enough : rowsFor n ≤ length s
   enough = let r = k .lasting .rows in omega arith
 
+  gathering-is : portAt s i .gathering ≡ getD (packetsAt s i) 0 []
+  unfolding portAt
+  gathering-is = refl
+
+  run-kept : i < n → RunKept kind (runOf (stepAt s i))
+  run-kept b = rw (port-step s i) at (k .lasting .ports i b .kept .run)
+
   -- the port's own frame
-  own : j ≡ i → Took kind (stepAt s i) t → LiveIn kind (portAt a i) (h ∷ heard)
-  own e took =
+  own : j ≡ i → (t .answer ≡ 11 → ⊥) → Took kind (stepAt s i) t → LiveIn kind (portAt a i) (h ∷ heard)
+  own e other took =
       let b : i < n = rw e at c in
       let mine : LiveIn kind (portAt s i) heard = rw e at live in
       let step : portAt a i .step ≡ t .step = ap (λ (p : Port). p .step) (frame-port kind s i t h n b enough) in
-      rw (step, frame-gathering kind s i t h n b enough) (live-took kind (stepAt s i) (portAt s i .gathering) heard t h (rw (port-step s i) at mine) took)
+      let row : LiveRow kind (stepAt s i .count) (stepAt s i .next) (portAt s i .gathering) heard = rw (port-step s i) at (mine .0) in (
+        rw (step, frame-gathering kind s i t h n b enough) (live-took kind (stepAt s i) (portAt s i .gathering) heard t h row took),
+        λ clock.
+            let said : HeardStep kind (stepAt s i) heard = rw (port-step s i) at (mine .1 clock) in
+            rw step
+            (⊎-elim (λ (z : t .answer ≡ 11). absurd (other z)) (λ (o : HeardStep kind (t .step) (h ∷ heard)). o)
+            (taken-heard (groupAt s) (stepAt s i) (getD (packetsAt s i) 0 []) heard failed h clock (run-kept b) (rw gathering-is at row) said)),
+      )
 
-  after : Took kind (stepAt s i) t → Now a (t .answer)
-  after took =
-      ⊎-elim (λ (e : j ≡ i). rw (e, eq-eqb i i refl, took .heard) (own e took))
+  after : (t .answer ≡ 11 → ⊥) → Took kind (stepAt s i) t → Now a (t .answer)
+  after other took =
+      ⊎-elim (λ (e : j ≡ i). rw (e, eq-eqb i i refl, took .heard) (own e other took))
       (λ (d : j ≢ i). rw (ne-eqb i j (λ (e : i ≡ j). d (sym e)), frame-other kind s i t h j d) live)
       (eq-or-ne j i)
 
   took-by : i < n → (t .answer ≡ 11 → ⊥) → Took kind (stepAt s i) t
   took-by b other =
-      let run : RunKept kind (runOf (stepAt s i)) = rw (port-step s i) at (k .lasting .ports i b .kept .run) in
-      ⊎-elim (λ (e : t .answer ≡ 11). absurd (other e)) (λ (o : Took kind (stepAt s i) t). o) (taken-took (groupAt s) (stepAt s i) failed (oddIn s i h) h run)
+      ⊎-elim (λ (e : t .answer ≡ 11). absurd (other e)) (λ (o : Took kind (stepAt s i) t). o) (taken-took (groupAt s) (stepAt s i) failed (oddIn s i h) h (run-kept b))
 
   said : eqb (frameRefusal s i (length payload) (length store)) 0 ≡ true → eqb (t .answer) 11 ≡ false
       → Now (settledBy (t .settles) (portsIn (groupAt s)) (storeAfter s i failed h payload store) a) (t .answer)
@@ -158,7 +176,8 @@ module _ (s : List (List ℕ)) (k : Kept s) (i : ℕ) (failed : Bool) (h : ℕ) 
       let ports : portsIn (groupAt s) ≡ n = ports-are (groupAt s) (k .lasting .group .sizes) in
       let o = unrefused (groupAt s) (portsIn (groupAt s)) i (length s) (length payload) (length store) (eqb-true (frameRefusal s i (length payload) (length store)) 0 e) in
       let b : i < n = rw ports at (o .port) in
-      let now : Now a (t .answer) = after (took-by b (eqb-false (t .answer) 11 f)) in
+      let other : t .answer ≡ 11 → ⊥ = eqb-false (t .answer) 11 f in
+      let now : Now a (t .answer) = after other (took-by b other) in
       let long : rowsFor n ≤ length a = rw (length-frame kind s i t h) enough in
       let st : List ℕ = storeAfter s i failed h payload store in
       rw ports
@@ -225,9 +244,9 @@ module _ (kind count P W : ℕ) (hold restore : List ℕ) (rows : List (List ℕ
   fresh : LiveIn kind (portAt (startAsRows kind count P W (length store) hold restore rows) j) []
   fresh =
       let o = accepted kind count P W (length store) hold restore rows e in
-      rw (o .fresh, started-port kind count hold restore rows (groupWith kind count P W) j b (let r = o .rows in omega arith)) (live-none kind 0 0 zeroRow [] refl refl)
+      rw (o .fresh, started-port kind count hold restore rows (groupWith kind count P W) j b (let r = o .rows in omega arith)) (live-none kind 0 0 zeroRow [] refl refl, λ clock. heard-short kind 0 0 0 0 [] (omega arith))
 
-  stands : LiveIn kind port (heardOf j x calls [])
+  pub stands : LiveIn kind port (heardOf j x calls [])
   stands =
       let k : Kept (x .rows) = started-kept kind count P W (length store) hold restore rows e in
       let same : groupAt (receiverRun x calls .rows) .kind ≡ kind = run-sizes x calls k .kind ∙ ap (λ (g : Group). g .kind) group in
@@ -236,7 +255,7 @@ module _ (kind count P W : ℕ) (hold restore : List ℕ) (rows : List (List ℕ
   pub live-row : Live kind port (heardOf j x calls [])
   live-row =
       record {
-        row = stands;
-        came = packet-came kind (port .step .count) (port .step .next) (port .gathering) (heardOf j x calls []) stands;
-        judged = packet-judged kind (port .step .count) (port .step .next) (port .gathering) (heardOf j x calls []) stands;
+        row = stands .0;
+        came = packet-came kind (port .step .count) (port .step .next) (port .gathering) (heardOf j x calls []) (stands .0);
+        judged = packet-judged kind (port .step .count) (port .step .next) (port .gathering) (heardOf j x calls []) (stands .0);
       }

@@ -3,13 +3,13 @@ use mathlib.Core.Path.{_≡_, refl, ap, _∙_}
 use mathlib.Core.Logic.{_⊎_, inl, inr, ⊎-elim}
 use mathlib.Core.Bool.{Bool, true, false, _&&_}
 use mathlib.Core.List.{List}
-use Prim.Native.Nat.{ℕ, _-_, _≤_}
+use Prim.Native.Nat.{ℕ, _-_, _≤_, _<_}
 use native.Mathlib.Omega.{arith}
 use Rattle.invariant.specs.Proofs.Arriving.{after-group, frame-any}
 use Rattle.invariant.specs.Proofs.Laws.Flags.{true-or-false}
 use Rattle.invariant.specs.Proofs.Laws.Settling.{settled-by}
 use Rattle.invariant.specs.Proofs.Reports.Groups.{fetch-group, fetch-none}
-use Rattle.judge.specs.Seen.{sizeOf}
+use Rattle.invariant.specs.Proofs.Sizes.{ports-at-most-64}
 use Rattle.phases.specs.Laws.Cleared.{begun-group, stopped-group}
 use Rattle.phases.specs.Laws.Lengths.{length-stopped}
 use Rattle.phases.specs.Laws.Passed.{passed-group}
@@ -18,14 +18,17 @@ use Rattle.phases.specs.Sizes.{portsIn}
 use Rattle.receiver.specs.Fetch.{dueIn, fetchRows, fits}
 use Rattle.receiver.specs.Frame.{frameRows}
 use Rattle.receiver.specs.Laws.Passed.{passed-ack}
-use Rattle.receiver.specs.Report.{replyPorts}
+use Rattle.receiver.specs.Laws.Sizes.{size-is}
+use Rattle.receiver.specs.Laws.Told.{reply-port}
+use Rattle.receiver.specs.Report.{replyPort}
 use Rattle.reply.specs.declared.members.Port.{Port as ReplyPort}
-use Rattle.reply.specs.Telling.{turns}
+use Rattle.reply.specs.Members as R
+use Rattle.reply.specs.Telling.{ackOf, turns}
 use Rattle.reply.specs.Theorems.Ack.{ack-kept, ack-turned}
 use Rattle.rows.specs.declared.group.Group.{Group}
 use Rattle.rows.specs.Group.{groupAt}
 use Rattle.invariant.specs.Calls.{portAfter, storeAfter}
-use Rattle.invariant.specs.Reports.{Given, ackAfter, ackIn, passedRows}
+use Rattle.invariant.specs.Reports.{Given, ackIn, passedRows, portSeen, reportPorts}
 
 -- no frame changes it
 pub frame-ack : (s : List (List ℕ)) (i : ℕ) (failed : Bool) (h : ℕ) (payload store : List ℕ) → ackIn (frameRows s i failed h payload store) ≡ ackIn s
@@ -63,16 +66,31 @@ pub none-ack : (s : List (List ℕ)) (store out report : List ℕ) → (fits s s
 none-ack s store out report e = ap ackIn (fetch-none s store out report e)
 
 -- a report: as the good packets up to its epoch's own say
-pub report-ack : (s : List (List ℕ)) (store out report : List ℕ) → Given s store out report → ackIn (fetchRows s store out report) ≡ ackAfter s store
-report-ack s store out report o = ap (λ (g : Group). g .«rs_ack») (fetch-group s store out report o)
+pub report-ack : (s : List (List ℕ)) (store out report : List ℕ) → Given s store out report
+    → ackIn (fetchRows s store out report) ≡ ackOf (reportPorts s store) (portsIn (groupAt s)) (ackIn s)
+report-ack s store out report o =
+    ap (λ (g : Group). g .«rs_ack») (fetch-group s store out report o)
+    ∙ ap (λ (n : ℕ). ackOf (reportPorts s store) n (ackIn s)) (size-is (portsIn (groupAt s)) (ports-at-most-64 (groupAt s)))
+
+port-as-seen : (p : List (List ℕ)) (i : ℕ) → replyPort (groupAt p) p i ≡ portSeen p i
+unfolding replyPort
+port-as-seen p i = refl
+
+pub report-port : (s : List (List ℕ)) (store : List ℕ) (i : ℕ) → i < portsIn (groupAt s) → R.portAt (reportPorts s store) i ≡ portSeen (passedRows s store) i
+report-port s store i b =
+    let p : List (List ℕ) = passedRows s store in
+    reply-port (groupAt p) p (portsIn (groupAt s)) i (ports-at-most-64 (groupAt s)) b ∙ port-as-seen p i
 
 -- it stays, or turns over once
 pub report-turns : (s : List (List ℕ)) (store out report : List ℕ) → Given s store out report → ackIn s ≤ 1
     → (ackIn (fetchRows s store out report) ≡ ackIn s) ⊎ (ackIn (fetchRows s store out report) ≡ 1 - ackIn s)
 report-turns s store out report o b =
-    ⊎-elim (λ (t : turns ports (sizeOf (portsIn (groupAt s))) ≡ true). inr (report-ack s store out report o ∙ ack-turned ports (sizeOf (portsIn (groupAt s))) (ackIn s) t b))
-    (λ (t : turns ports (sizeOf (portsIn (groupAt s))) ≡ false). inl (report-ack s store out report o ∙ ack-kept ports (sizeOf (portsIn (groupAt s))) (ackIn s) t))
-    (true-or-false (turns ports (sizeOf (portsIn (groupAt s)))))
+    ⊎-elim (λ (t : turns ports n ≡ true). inr (report-ack s store out report o ∙ ack-turned ports n (ackIn s) t b))
+    (λ (t : turns ports n ≡ false). inl (report-ack s store out report o ∙ ack-kept ports n (ackIn s) t))
+    (true-or-false (turns ports n))
   where
     ports : List ReplyPort
-    ports = replyPorts (groupAt (passedRows s store)) (passedRows s store) (portsIn (groupAt s))
+    ports = reportPorts s store
+
+    n : ℕ
+    n = portsIn (groupAt s)

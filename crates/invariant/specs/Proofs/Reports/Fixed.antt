@@ -3,8 +3,7 @@ use mathlib.Core.Path.{_≡_, refl, sym, ap, _∙_}
 use mathlib.Core.Logic.{_≢_}
 use mathlib.Core.Bool.{true, false}
 use mathlib.Core.List.{List, [], _∷_}
-use Prim.Native.Nat.{ℕ, _%_, _≤_, _<_}
-use native.Mathlib.Omega.{arith}
+use Prim.Native.Nat.{ℕ, _%_, _<_}
 use lib.ListN.{getD, length}
 use borrow.Author.Tests.{ne-eqb}
 use Rattle.ground.specs.Truth.{cond-by}
@@ -18,7 +17,7 @@ use Rattle.packet.specs.Fixed.{fixedRulingOf, readFixedNibbles}
 use Rattle.packet.specs.Kinds.{fixedKind}
 use Rattle.packet.specs.Ruling.{refused}
 use Rattle.packet.specs.Words.{FIXED}
-use Rattle.phases.specs.Sizes.{knownKind, portsIn, sized}
+use Rattle.phases.specs.Sizes.{knownKind, portsIn}
 use Rattle.receiver.specs.Fetch.{dueIn, reportIfDue}
 use Rattle.receiver.specs.Laws.Seen.{seen-at}
 use Rattle.receiver.specs.Laws.Sizes.{ports-are, size-is, sizes-of, some-sized}
@@ -36,14 +35,8 @@ use Rattle.invariant.specs.Calls.{Receiver, ReceiverCall, receiverRun, s
 use Rattle.invariant.specs.Kept.Group.{Kept}
 use Rattle.invariant.specs.Proofs.Calls as Calls
 use Rattle.invariant.specs.Proofs.Kept.Start.{started-kept, started-with}
-use Rattle.invariant.specs.Proofs.Sizes.{run-sizes}
+use Rattle.invariant.specs.Proofs.Sizes.{ports-at-most-64, run-sizes}
 use Rattle.invariant.specs.Reports.{Refused}
-
-ports-at-most-64 : (g : Group) → portsIn g ≤ 64
-unfolding portsIn
-ports-at-most-64 g =
-    cond-by (λ (m : ℕ). m ≤ 64) (sized (g .kind) (g .count) (g .payload) (g .window)) (g .count) 0
-    (λ e. sizes-of (g .kind) (g .count) (g .payload) (g .window) e .few-ports) (λ e. omega arith)
 
 module _ (s : List (List ℕ)) (fixed : groupAt s .kind ≡ fixedKind) (due : dueIn (groupAt s) (portsIn (groupAt s)) s ≡ true) where
   abbrev g : Group

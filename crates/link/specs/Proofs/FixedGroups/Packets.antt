@@ -9,10 +9,10 @@ use Rattle.packet.specs.Kinds.{firstTag, fixedKind, frames}
 use Rattle.packet.specs.Symbols.{packetRow}
 use Rattle.packet.specs.Theorems.Tags.{epochs-fit, epochs-some}
 use Rattle.packet.specs.Words.{FIXED}
-use Rattle.step.specs.Laws.FixedPackets as laws
 use Rattle.step.specs.Laws.Sent.{SentWith}
 use Rattle.step.specs.OwnCount.{ownRuling}
 use Rattle.link.specs.FixedGroup.{FixedGroup, Numbered, fixedSent}
+use Rattle.link.specs.Proofs.FixedGroups.Unread.{with-counts, with-reads}
 use Rattle.link.specs.Proofs.Laws.Counts.{tag-epoch, tag-place}
 use Rattle.link.specs.Sending.{epochNumber, epochStart}
 
@@ -25,7 +25,7 @@ pub fixed-counts : (f : FixedGroup) (i slot k : ℕ) → k < frames fixedKind �
 unfolding fixedSent
 fixed-counts f i slot k l =
     rw (tag-place fixedKind (f .first) i k l) at
-    (laws.fixed-counts (firstTag fixedKind (f .first) + (epochStart fixedKind i + k)) (epochNumber fixedKind (f .first) i) (f .number slot) (number-byte (f .first) i) (sym (tag-epoch fixedKind (f .first) i k l)))
+    (with-counts (f .unread i slot) (firstTag fixedKind (f .first) + (epochStart fixedKind i + k)) (epochNumber fixedKind (f .first) i) (f .number slot) (number-byte (f .first) i) (sym (tag-epoch fixedKind (f .first) i k l)))
 
 module _ (f : FixedGroup) (a : Numbered f) where
   slot-byte : (slot : ℕ) → slot < f .x → f .number slot < 256
@@ -34,4 +34,4 @@ module _ (f : FixedGroup) (a : Numbered f) where
   pub fixed-reads : (i slot : ℕ) → slot < f .x
       → ownRuling fixedKind (epochNumber fixedKind (f .first) i) (packetRow fixedKind (fixedSent f i slot)) ≡ record { good = true; word = FIXED; number = f .number slot; gid = 0 }
   unfolding fixedSent
-  fixed-reads i slot b = laws.fixed-reads (epochNumber fixedKind (f .first) i) (f .number slot) (number-byte (f .first) i) (slot-byte slot b)
+  fixed-reads i slot b = with-reads (f .unread i slot) (epochNumber fixedKind (f .first) i) (f .number slot) (number-byte (f .first) i) (slot-byte slot b)
