@@ -11,9 +11,10 @@ use Rattle.bytes.specs.Bytes.{indexOf}
 use Rattle.ground.specs.Plain.{if_then_else_}
 use Rattle.ground.specs.Truth.{and-left, and-right}
 use Rattle.sender.specs.declared.table.Table.{Table}
-use Rattle.sender.specs.Calls.{Call, outcomeOf, run}
+use Rattle.sender.specs.Calls.{run}
 use Rattle.sender.specs.Commands.{startOf}
 use Rattle.sender.specs.Laws.Kept.{kind-run, start-kind}
+use Rattle.sender.specs.Laws.Runs.{run-append}
 use Rattle.console.specs.declared.line.Line.{Line}
 use Rattle.console.specs.declared.line.Line.the-variants.{Size, Add, Remove, Report, Lapse, Board, Malformed}
 use Rattle.console.specs.declared.session.Session.{Session}
@@ -35,10 +36,6 @@ tableBehind t (l ∷ ls) = tableBehind (tableAfter t l) ls
 behind-append : (t : Table) (x y : List (List ℕ)) → tableBehind t (x ++ y) ≡ tableBehind (tableBehind t x) y
 behind-append t [] y = refl
 behind-append t (l ∷ x) y = behind-append (tableAfter t l) x y
-
-run-append : (t : Table) (x y : List Call) → run t (x ++ y) ≡ run (run t x) y
-run-append t [] y = refl
-run-append t (c ∷ x) y = run-append (outcomeOf t c .table) x y
 
 -- a size that is accepted starts afresh, whatever the table
 accepted : (t : Table) (n : ℕ) → isSize (Size n) ≡ true → sizeReply t n .table ≡ startOf (t .kind) n .table
