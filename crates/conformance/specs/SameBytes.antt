@@ -23,8 +23,9 @@ use Rattle.payload.specs.Order.{memberFrame}
 use Rattle.payload.specs.Spreading.{spreadOne}
 use Rattle.sender.specs.declared.epochs.Sender.{Sender}
 use Rattle.sender.specs.Calls.{Call}
-use Rattle.sender.specs.Epochs.{SenderCall, beginOf, packetBytes, payloadBytes, rankIn, senderOutcomeOf, senderRun, xOf}
+use Rattle.sender.specs.Epochs.{SenderCall, beginOf, packetBytes, payloadBytes, rankIn, senderRun, xOf}
 use Rattle.sender.specs.Epochs.SenderCall.{OnTable, StartEpoch}
+use Rattle.sender.specs.Laws.Runs.{sender-append}
 use Rattle.sender.specs.Table.{sizeOf}
 use Rattle.sender.specs.Theorems.Epochs.{fixed, onTable}
 
@@ -49,10 +50,6 @@ fit-table (c ∷ cs) f = (f .0, fit-table cs (f .1))
 all-meant : (cs : List SenderCall) → AllFit cs → meant cs ≡ cs
 all-meant [] f = refl
 all-meant (c ∷ cs) f = ap (λ (b : Bool). if b then c ∷ meant cs else meant cs) (f .0) ∙ ap (λ (l : List SenderCall). c ∷ l) (all-meant cs (f .1))
-
-run-append : (s : Sender) (a b : List SenderCall) → senderRun s (a ++ b) ≡ senderRun (senderRun s a) b
-run-append s [] b = refl
-run-append s (c ∷ a) b = run-append (senderOutcomeOf s c .sender) a b
 
 -- what a payload call picks where nothing is refused
 picks-payload : (b c g : Bool) (new old : List ℕ) → b ≡ true → c ≡ true → g ≡ true → (if b && c && g then new else old) ≡ new
@@ -84,7 +81,7 @@ module _ (h : History) (a : Allowed h) (bytes : (i : ℕ) → Bytes (h .before i
   sender-is i after f =
       runs-own (h .kind) (h .slots) (h .first) state (callsTo h i ++ onTable after) done
       ∙ ap (senderRun (beginOf (h .kind) (h .slots) (h .first) .sender)) (all-meant (callsTo h i ++ onTable after) (fit-append (callsTo h i) (onTable after) (fit-to i) (fit-table after f)))
-      ∙ run-append (beginOf (h .kind) (h .slots) (h .first) .sender) (callsTo h i) (onTable after)
+      ∙ sender-append (beginOf (h .kind) (h .slots) (h .first) .sender) (callsTo h i) (onTable after)
       ∙ ap (λ (s : Sender). senderRun s (onTable after)) (sym (sender-run h i))
 
   sized : (i : ℕ) (after : List Call) → length (stateC i after) ≡ 397

@@ -2,3 +2,4 @@
 pub mod Feeding
 pub mod Holding
 pub mod Keeping
+pub mod Telling

@@ -6,5 +6,6 @@ pub mod Kept
 pub mod Numbered
 pub mod Removing
 pub mod Reporting
+pub mod Runs
 pub mod Sizes
 pub mod Speaking

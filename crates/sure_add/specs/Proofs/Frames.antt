@@ -24,6 +24,7 @@ use Rattle.sender.specs.Calls.{Call, outcomeOf, run}
 use Rattle.sender.specs.Calls.Call.{AddSlot, Report}
 use Rattle.sender.specs.Commands.{addOf}
 use Rattle.sender.specs.Laws.Kept.{Sound, group-call, sound-run}
+use Rattle.sender.specs.Laws.Runs.{run-append}
 use Rattle.sender.specs.Laws.Speaking.{BecomesActive, Pending, acts, added-pending, active-or-pending, pending-low}
 use Rattle.sender.specs.Numbering.{numberIn, slotsIn, stateIn}
 use Rattle.sender.specs.Reports.{reportOf}
@@ -89,10 +90,6 @@ report-at h al i slot b =
 behind : (xs ys zs : List Call) → xs ++ ys ≡ zs → length zs ≤ 1 → (ys ≡ zs) ⊎ (ys ≡ [])
 behind [] ys zs e l = inl e
 behind (x ∷ xs) ys zs e l = inr (empty ys (let n : suc (length (xs ++ ys)) ≡ length zs = ap length e in let m = length-append xs ys in omega arith))
-
-run-then : (t : Table) (xs ys : List Call) → run t (xs ++ ys) ≡ run (run t xs) ys
-run-then t [] ys = refl
-run-then t (c ∷ xs) ys = run-then (outcomeOf t c .table) xs ys
 
 count-run : (t : Table) (cs : List Call) → run t cs .count ≡ t .count
 count-run t [] = refl
@@ -181,7 +178,7 @@ module _ (k : Link) (m₀ : Moment) (a b slot t : ℕ) (j : Joined k m₀ a b (t
       one true = let e = ap length (report-at (j .back) (j .back-allowed) (suc t - (b + 1)) (j .from) (j .from-below)) in omega arith
 
   tab-first : tab (suc t) ≡ run new (add .later)
-  tab-first = table-next h al t ∙ ap (λ (cs : List Call). run (tab t) cs) (add .command) ∙ run-then (tab t) (add .earlier) (AddSlot slot ∷ add .later)
+  tab-first = table-next h al t ∙ ap (λ (cs : List Call). run (tab t) cs) (add .command) ∙ run-append (tab t) (add .earlier) (AddSlot slot ∷ add .later)
 
   tab-next : (u : ℕ) → suc t ≤ u → suc u ≤ until → tab (suc u) ≡ run (tab u) (rep (suc u))
   tab-next u from l = table-next h al u ∙ ap (λ (cs : List Call). run (tab u) cs) (add .no-other (suc u) (omega arith) l)

@@ -19,6 +19,7 @@ use Rattle.sender.specs.Calls.{Call}
 use Rattle.sender.specs.Epochs.{SenderCall, beginOf, freshSender, senderOutcomeOf, senderRun, startEpochOf, startedEpoch, startedSender}
 use Rattle.sender.specs.Epochs.SenderCall.{OnTable, StartEpoch}
 use Rattle.sender.specs.Laws.Kept.{group-call}
+use Rattle.sender.specs.Laws.Runs.{sender-append}
 use Rattle.sender.specs.Laws.Sizes.{size-large, size-small}
 use Rattle.sender.specs.Table.{sizeOf}
 use Rattle.sender.specs.Theorems.Epochs.{SoundSender, onTable, sender-sound, senderAfter}
@@ -35,12 +36,8 @@ abbrev pub callsTo : History → ℕ → List SenderCall
 callsTo h zero = callsBefore h zero
 callsTo h (suc i) = callsTo h i ++ callsBefore h (suc i)
 
-run-append : (s : Sender) (a b : List SenderCall) → senderRun s (a ++ b) ≡ senderRun (senderRun s a) b
-run-append s [] b = refl
-run-append s (c ∷ a) b = run-append (senderOutcomeOf s c .sender) a b
-
 started-run : (h : History) (i : ℕ) (s : Sender) → startedOn h i s ≡ senderRun s (callsBefore h i)
-started-run h i s = sym (run-append s (onTable (h .before i)) (StartEpoch (h .gid i) (h .mst i) (h .ack i) ∷ []))
+started-run h i s = sym (sender-append s (onTable (h .before i)) (StartEpoch (h .gid i) (h .mst i) (h .ack i) ∷ []))
 
 pub sender-run : (h : History) (i : ℕ) → senderAt h i ≡ senderAfter (h .kind) (h .slots) (h .first) (callsTo h i)
 unfolding senderAt
@@ -48,7 +45,7 @@ sender-run h zero = started-run h zero (beginOf (h .kind) (h .slots) (h .first) 
 sender-run h (suc i) =
     ap (startedOn h (suc i)) (sender-run h i)
     ∙ started-run h (suc i) (senderAfter (h .kind) (h .slots) (h .first) (callsTo h i))
-    ∙ sym (run-append (beginOf (h .kind) (h .slots) (h .first) .sender) (callsTo h i) (callsBefore h (suc i)))
+    ∙ sym (sender-append (beginOf (h .kind) (h .slots) (h .first) .sender) (callsTo h i) (callsBefore h (suc i)))
 
 pub sender-at-sound : (h : History) (i : ℕ) → SoundSender (senderAt h i)
 sender-at-sound h i = rw (sender-run h i) (sender-sound (h .kind) (h .slots) (h .first) (callsTo h i))
