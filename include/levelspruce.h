@@ -1348,9 +1348,10 @@ uint8_t levelspruce_paths_check(const uint32_t *delays, size_t delays_length,
  * follows the second digit of H4 in the lines of each port, from the first: one
  * to three lines that break the count, before one that is good again, get their
  * digit restored, as a capital. With four, or at the end, the port is followed
- * afresh from the first of them, and by it another can be restored. Nothing
- * else is altered, and frames that were lost stay lost. What comes out, mended
- * again, is the same, without notes.
+ * afresh from the first of them, and by it another can be restored. Lines of
+ * VC-12 have no such count, and nothing is restored in them. Nothing else is
+ * altered, and frames that were lost stay lost. What comes out, mended again,
+ * is the same, without notes.
  *
  * For each line that was dropped or altered there is a note, a line of four
  * fields parted by tabs: the number of the line in the recording, whose first

@@ -160,8 +160,29 @@ static int drops_long(size_t n)
     return mends(t, length, w, wanted, noted, at);
 }
 
+/* Five lines of VC-12, of which the third lacks a byte of its payload: it is dropped, and in the others nothing is restored, whatever
+ * their bytes. */
+static int keeps_vc12(const char *const bytes[5])
+{
+    static char torn[2000], wanted[2000], noted[400];
+    char digits[2 * LEVELSPRUCE_PAYLOAD_VC12 + 1];
+    int t = sprintf(torn, "1 136 32 kind VC12\n"), w = sprintf(wanted, "%s", torn), i;
+
+    memset(digits, 'A', sizeof digits - 1);
+    digits[sizeof digits - 1] = 0;
+    for (i = 0; i < 5; i++) {
+        t += sprintf(torn + t, "0 %s 0 %s\n", bytes[i], digits + (i == 2 ? 2 : 0));
+        if (i != 2)
+            w += sprintf(wanted + w, "0 %s 0 %s\n", bytes[i], digits);
+    }
+    sprintf(noted, "4 line 0 %s 0 %s \n", bytes[2], digits + 2);
+    return gives(torn, wanted, noted);
+}
+
 int main(void)
 {
+    static const char *const one[] = { "03", "00", "01", "01", "00" }, *const other[] = { "05", "00", "01", "07", "08" };
+
     check("one to three broken counts before a good one", follows("5608", "5678") && follows("50009", "56789"));
     check("four broken ones stay, and the following starts afresh", follows("500009", "500009") && follows("501234", "501234"));
     check("of the other three one can be restored at once", follows("519345", "512345"));
@@ -180,10 +201,12 @@ int main(void)
     check("64 ports, each by its own lines", sixty_four());
     check("a FIXED group is followed alike", gives("1 1 16 kind FIXED\n0 00 0 AB\n0 00 0 AB\n0 02 0 AB\n",
                                                   "1 1 16 kind FIXED\n0 00 0 AB\n0 01 0 AB\n0 02 0 AB\n", "3 H4 00 01\n"));
+    check("of VC-12 a line is dropped and none restored", keeps_vc12(one) && keeps_vc12(other));
     check("lines of 8,192 and 8,193 bytes", drops_long(8192) && drops_long(8193));
     check("13: a first line that cannot be read",
           refused("x\n", 13) && refused("", 13) && refused("\n", 13) && refused("1 1 16 \n", 13) && refused("1 1 16 kind K4\n", 13));
-    check("4: settings out of range", refused("65 1 16\n", 4) && refused("0 1 16\n", 4) && refused("2 1 16 hold-off 1 5001\n", 4));
+    check("4: settings out of range", refused("65 1 16\n", 4) && refused("0 1 16\n", 4) && refused("2 1 16 hold-off 1 5001\n", 4)
+          && refused("1 135 32 kind VC12\n", 4) && refused("1 136 31 kind VC12\n", 4));
     check("13 comes before 4", refused("2 1 16 hold-off 1 5001 7\n", 13));
     check("13 and 4 come before 9", refused_with("x\n", 13) && refused_with("65 1 16\n", 4));
     check("9: a length that is not the one told", needs_lengths());

@@ -3,12 +3,17 @@
 use crate::random::Random;
 
 const COUNTS: u64 = 16;
+const PAYLOAD_VC12: u64 = 136;
 
 /// A first line: mostly one that is taken, with pairs now and then.
 fn first_line(random: &mut Random, ports: u64, size: u64) -> Vec<u8> {
-    let mut line = format!("{}\t{}\t{}", ports, size, random.one_of(&[16, 17, 64, 64, 64, 2048, 2048, 2049]));
-    if random.below(4) == 0 {
-        line += random.one_of(&["\tkind\tH4", "\tkind\tFIXED", "\tkind\tFIXED", "\tkind\tK4"]);
+    let vc12 = size == PAYLOAD_VC12 && random.below(8) > 0;
+    let windows: &[u64] = if vc12 { &[31, 32, 64, 64, 64, 512, 512, 513] } else { &[16, 17, 64, 64, 64, 2048, 2048, 2049] };
+    let mut line = format!("{}\t{}\t{}", ports, size, random.one_of(windows));
+    if vc12 {
+        line += "\tkind\tVC12";
+    } else if random.below(4) == 0 {
+        line += random.one_of(&["\tkind\tH4", "\tkind\tFIXED", "\tkind\tFIXED", "\tkind\tK4", "\tkind\tVC12"]);
     }
     for name in ["hold-off", "wait-to-restore"] {
         if random.below(4) == 0 {
@@ -50,7 +55,7 @@ fn tear(random: &mut Random, line: &mut Vec<u8>) {
 /// Ports that count, some of them badly, in a recording of so many lines.
 pub fn recording(random: &mut Random, lines: u64) -> Vec<u8> {
     let ports = random.one_of(&[1, 1, 2, 3, 5, 64]);
-    let size = random.one_of(&[1, 1, 2, 30]);
+    let size = random.one_of(&[1, 1, 1, 1, 2, 2, 30, PAYLOAD_VC12]);
     let mut text = first_line(random, ports, size);
     text.push(b'\n');
     let mut counts: Vec<u64> = (0..ports).map(|_| random.below(COUNTS)).collect();

@@ -35,7 +35,6 @@ const WRONG: [(&[&str], &str); 40] = [
     (&["--fixed", "--lapse", "3"], "--lapse is of LCAS"),
     (&["--fixed", "--back", "0"], "--back is of LCAS"),
     (&["--vc12", "--fixed"], "--fixed does not go with --vc12"),
-    (&["--vc12", "--record", "none"], "--record does not go with --vc12"),
     (&["--vc12", "--record-heads", "none"], "--record-heads does not go with --vc12"),
     (&["--vc12", "--payload", "756"], "from 136 to 136"),
     (&["--vc12", "--window", "31"], "from 32 to 512"),

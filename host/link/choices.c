@@ -309,10 +309,10 @@ static int shape(struct choices *c, const struct given *g)
     return 0;
 }
 
-/* Choices that go with LCAS alone, or with a group without it alone; and with H4 alone. */
+/* Choices that go with LCAS alone, or with a group without it alone; and with H4 alone: P of VC-12 is 136, so that there are no heads. */
 static int choices_agree(const struct given *g)
 {
-    static const enum choice lcas[] = { BACK, ADD, REMOVE, LAPSE }, h4[] = { FIXED, RECORD, HEADS };
+    static const enum choice lcas[] = { BACK, ADD, REMOVE, LAPSE }, h4[] = { FIXED, HEADS };
     size_t i;
 
     for (i = 0; g->word[VC12] != NULL && i < sizeof h4 / sizeof h4[0]; i++)

@@ -27,7 +27,7 @@
 "  --vc12                  a group of VC-12: P is 136, W 32 to 512 and delays may\n"
 "                          differ by W - 32, an epoch has 32 frames, its number\n"
 "                          is 0 to 31, and a frame time is 500 microseconds. Not\n"
-"                          with --fixed, --record and --record-heads\n"
+"                          with --fixed and --record-heads\n"
 "  --back D                the delay of the way back, in frames, up to 8192 (24)\n"
 "  --number E              the number that epoch 0 has in its packets, 0 to 255\n"
 "                          (20)\n"

@@ -43,6 +43,8 @@ static void record_settings(const struct recording *r, const struct choices *c)
     fprintf(r->to, "%lu\t%lu\t%lu", (unsigned long)c->slots, (unsigned long)r->payload, (unsigned long)c->window);
     if (c->fixed)
         fputs("\tkind\tFIXED", r->to);
+    if (c->vc12)
+        fputs("\tkind\tVC12", r->to);
     record_times(r, "hold-off", c->slots, c->hold_off);
     record_times(r, "wait-to-restore", c->slots, c->restore);
     putc('\n', r->to);

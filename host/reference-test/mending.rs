@@ -10,6 +10,7 @@ pub fn check(count: &mut Count) {
     count.note("two ports, each restored by its own lines", two_ports());
     count.note("a dropped line between good ones, and flags", dropped_between());
     count.note("small letters", small_letters());
+    count.note("of VC-12 lines are dropped, and none is restored", of_vc12());
     count.note("first lines", first_lines());
     count.note("lines of 8,192 and 8,193 bytes", long_lines());
     count.note("a last line without its end, kept and dropped", no_last_end());
@@ -50,6 +51,16 @@ fn text(lines: &[&str]) -> Vec<u8> {
 fn is(torn: &[&str], lines: &[&str], notes: &[&str], dropped: usize, restored: usize) -> bool {
     let wanted = Ok(Mended { recording: text(lines), notes: text(notes), dropped, restored });
     mended(&text(torn)) == wanted && fast::mended(&text(torn)) == wanted
+}
+
+/// Bytes whose second digits would break a count of H4.
+fn of_vc12() -> bool {
+    let line = |byte: &str, bytes: usize| format!("0 {} 0 {}", byte, "AB".repeat(bytes));
+    let torn = ["1 136 32 kind VC12".to_string(), line("00", 136), line("00", 136), line("01", 135), line("02", 136)];
+    let torn: Vec<&str> = torn.iter().map(String::as_str).collect();
+    let lines: Vec<&str> = torn.iter().copied().enumerate().filter(|(i, _)| *i != 3).map(|(_, line)| line).collect();
+    let note = format!("4 line {} ", torn[3]);
+    is(&torn, &lines, &[&note], 1, 0) && mended(&text(&["1 135 32 kind VC12"])) == Err(4)
 }
 
 fn two_ports() -> bool {

@@ -2,7 +2,7 @@
 
 pub mod fast;
 
-use crate::receiver::{Receiver, TIMER_MOST};
+use crate::receiver::{KIND_VC12, TIMER_MOST};
 use crate::replay::{frame, settings, MALFORMED, OUT_OF_RANGE};
 
 const COUNTS: usize = 16;
@@ -50,7 +50,7 @@ pub fn mended(torn: &[u8]) -> Result<Mended, u8> {
     let first = lines.next().unwrap_or_default();
     let group = settings(without_end(first)).ok_or(MALFORMED)?;
     let times_fit = group.hold_off.iter().chain(&group.restore).all(|time| *time <= TIMER_MOST);
-    if !Receiver::fits(group.ports, group.payload, group.window) || !times_fit {
+    if !group.fit() || !times_fit {
         return Err(OUT_OF_RANGE);
     }
 
@@ -65,7 +65,9 @@ pub fn mended(torn: &[u8]) -> Result<Mended, u8> {
         });
         read.push((line, port));
     }
-    let followed: Vec<Vec<u8>> = counts.iter().map(|counts| followed(counts)).collect();
+    // VC-12's lines have no H4 count (2026-01)
+    let counted = group.kind != KIND_VC12;
+    let followed: Vec<Vec<u8>> = counts.iter().map(|counts| if counted { followed(counts) } else { counts.clone() }).collect();
 
     let mut out = Mended { recording: first.to_vec(), notes: Vec::new(), dropped: 0, restored: 0 };
     let mut before = vec![0; counts.len()];

@@ -1,8 +1,9 @@
-//! A recording run again. Written from the request (2026-05), its readings and 01.
+//! A recording run again. Written from the requests (2026-05, and 2026-01 for VC-12), their readings and 01.
 
 use crate::packet::DONE;
 use crate::receiver::{
-    fast, Receiver as Plain, Report, Shown, DOUBTFUL, EPOCH_FRAMES, HELD, KIND_FIXED, KIND_H4, NONE, NONE_DUE, STATE_FAIL, STATE_IDLE,
+    clock, fast, Receiver as Plain, Report, Shown, DOUBTFUL, HELD, KIND_FIXED, KIND_H4, KIND_VC12, NONE, NONE_DUE, PAYLOAD_VC12, STATE_FAIL,
+    STATE_IDLE,
 };
 
 const LINE_MOST: usize = 8192;
@@ -17,6 +18,13 @@ pub struct Settings {
     pub(crate) window: u32,
     pub(crate) hold_off: Vec<u32>,
     pub(crate) restore: Vec<u32>,
+}
+
+impl Settings {
+    /// The kind's sizes; of VC-12 "P is 136".
+    pub(crate) fn fit(&self) -> bool {
+        Plain::fits_as(self.kind, self.ports, self.payload, self.window) && (self.kind != KIND_VC12 || self.payload == PAYLOAD_VC12)
+    }
 }
 
 /// A receiver in one of the reference's forms, with what it is lent.
@@ -132,6 +140,7 @@ pub(crate) fn settings(line: &[u8]) -> Option<Settings> {
                 let of = match fields.next()? {
                     b"H4" => KIND_H4,
                     b"FIXED" => KIND_FIXED,
+                    b"VC12" => KIND_VC12,
                     _ => return None,
                 };
                 kind.replace(of).is_some()
@@ -151,8 +160,8 @@ pub(crate) fn settings(line: &[u8]) -> Option<Settings> {
 /// What the settings say: 13, 4, or a group.
 fn opened<R: Receives>(line: &[u8], store_most: usize) -> Result<Group<R>, u8> {
     let settings = settings(line).ok_or(MALFORMED)?;
-    let Settings { ports, payload, window, .. } = settings;
-    if !Plain::fits(ports, payload, window) {
+    let Settings { kind, ports, payload, window, .. } = settings;
+    if !settings.fit() {
         return Err(OUT_OF_RANGE);
     }
     let size = payload as usize;
@@ -164,7 +173,7 @@ fn opened<R: Receives>(line: &[u8], store_most: usize) -> Result<Group<R>, u8> {
     Ok(Group {
         ports,
         store: vec![0; store],
-        output: vec![0; ports as usize * EPOCH_FRAMES * size],
+        output: vec![0; ports as usize * clock(kind).frames * size],
         payload: vec![0; size],
         states: states(&receiver),
         receiver,

@@ -118,7 +118,10 @@ impl Held<'_> {
         let whole_text = joined(lines);
         let expected = whole::<Plain>(&whole_text, STORE_MOST);
         self.refused += String::from_utf8_lossy(&expected).matches("answer\t").count();
-        assert_eq!(expected, whole::<fast::Receiver>(&whole_text, STORE_MOST), "the reference's receivers agree");
+        // the form for speed has no VC-12
+        if !lines[0].ends_with(b"VC12") && !lines[0].windows(5).any(|name| name == b"VC12\t") {
+            assert_eq!(expected, whole::<fast::Receiver>(&whole_text, STORE_MOST), "the reference's receivers agree");
+        }
         self.note("whole", &expected, &self.program.on_files(&[whole_text.clone()]), lines);
         self.note("line by line", &expected, &self.program.on_files(&line_by_line(lines)), lines);
         let mut unended = whole_text;

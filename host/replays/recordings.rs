@@ -3,9 +3,13 @@
 
 use crate::random::Random;
 use reference::packet::{self, Fields};
-use reference::receiver::{epoch_of, TAGS};
+use reference::receiver::{epoch_of, PAYLOAD_VC12, TAGS};
 
 const EPOCH: usize = 16;
+
+/// VC-12: the frames of an epoch, and how many epochs there are.
+const EPOCH_VC12: usize = 32;
+const EPOCHS_VC12: usize = 32;
 
 /// The words and numbers of all ports in one epoch: some are active, the others IDLE; now and then two share a number.
 fn words(random: &mut Random, ports: usize) -> Vec<(u32, u32)> {
@@ -50,6 +54,31 @@ fn sending(random: &mut Random, ports: usize, first: usize, frames: usize, fixed
             }
             for (k, byte) in sixteen.iter().enumerate() {
                 let place = (epoch_start + k).wrapping_sub(first + 8);
+                if place < frames {
+                    h4[port][place] = *byte;
+                }
+            }
+        }
+    }
+    Sending { h4 }
+}
+
+/// The same of VC-12: a byte for each frame, with 2 for a packet's start.
+fn sending_vc12(random: &mut Random, ports: usize, first: usize, frames: usize) -> Sending {
+    let mut h4 = vec![vec![0; frames]; ports];
+    let mut said = words(random, ports);
+    for epoch in first / EPOCH_VC12..(first + frames) / EPOCH_VC12 + 1 {
+        if random.below(5) == 0 {
+            said = words(random, ports);
+        }
+        for (port, (word, sq)) in said.iter().enumerate() {
+            let mut bytes = [0; EPOCH_VC12];
+            // IDLE's number is 63
+            let (epoch_sent, sq) = ((epoch % EPOCHS_VC12) as u32, (*sq).min(63));
+            let fields = Fields { epoch: epoch_sent, word: *word, gid: 0, mst: random.below(256) as u32, rs_ack: 0, sq, reserved: 0 };
+            packet::write_vc12(&fields, &mut bytes);
+            for (k, byte) in bytes.iter().enumerate() {
+                let place = (epoch * EPOCH_VC12 + k).wrapping_sub(first);
                 if place < frames {
                     h4[port][place] = *byte;
                 }
@@ -109,12 +138,13 @@ fn torn(random: &mut Random, good: &[u8]) -> Vec<u8> {
 /// Lines without their ends, the settings first, for so many frames of each port.
 pub fn made_up(random: &mut Random, frames: usize) -> Vec<Vec<u8>> {
     let ports = random.one_of(&[1, 1, 2, 3, 5]);
-    let size = random.one_of(&[1, 2, 3, 30]);
-    let window = random.one_of(&[16, 17, 32, 48, 64, 100]);
-    let kind = random.one_of(&["", "", "H4", "FIXED"]);
+    let kind = random.one_of(&["", "", "H4", "FIXED", "VC12"]);
+    let vc12 = kind == "VC12";
+    let size = if vc12 { PAYLOAD_VC12 as usize } else { random.one_of(&[1, 2, 3, 30]) };
+    let window = if vc12 { random.one_of(&[32, 33, 48, 64, 80]) } else { random.one_of(&[16, 17, 32, 48, 64, 100]) };
     let mut lines = vec![first_line(random, ports, size, window, kind)];
-    let first = random.one_of(&[0, 8, 4000, 4088]);
-    let sending = sending(random, ports, first, frames, kind == "FIXED");
+    let first = if vc12 { random.one_of(&[0, 9, 992, 1000]) } else { random.one_of(&[0, 8, 4000, 4088]) };
+    let sending = if vc12 { sending_vc12(random, ports, first, frames) } else { sending(random, ports, first, frames, kind == "FIXED") };
     let spread = random.one_of(&[0, 0, 4, 15, 40]);
     let delays: Vec<usize> = (0..ports).map(|_| random.below(spread + 1) as usize).collect();
     let mut payload = vec![0; size];
@@ -152,7 +182,10 @@ pub fn openings() -> Vec<Vec<u8>> {
         "1\t1\t16\thold-off\t5\thold-off\t5", "1\t1\t16\twait-to-restore\t5", "1\t1\t16\twait-to-restore\t5001", "1\t1\t16\twait-to-restore\t1\thold-off\t2",
         "1\t1\t16\thold-off\t1\twait-to-restore\t2", "1\t1\t16\thold-off\t5001\twait-to-restore\tx", "1\t1\t16\thold-off\t1\twait-to-restore", "1\t1\t16\twait_to_restore\t1",
         "1\t1\t16\tkind\tFIXED\thold-off\t3\twait-to-restore\t4", "1\t1\t16\thold-off\t3\twait-to-restore\t4\tkind\tFIXED", "0\t1\t16\thold-off", "0\t1\t16\thold-off\t1",
-        "1\t1\t16\thold-off\tkind\tH4", "1\t1\t16\t\tkind\tH4", "999999999\t1\t16\thold-off\t1",
+        "1\t1\t16\thold-off\tkind\tH4", "1\t1\t16\t\tkind\tH4",
+        "1\t136\t32\tkind\tVC12", "1\t135\t32\tkind\tVC12", "1\t137\t32\tkind\tVC12", "1\t1\t32\tkind\tVC12", "1\t136\t31\tkind\tVC12", "1\t136\t478\tkind\tVC12",
+        "1\t136\t479\tkind\tVC12", "1\t136\t512\tkind\tVC12", "1\t136\t513\tkind\tVC12", "14\t136\t32\tkind\tVC12", "15\t136\t32\tkind\tVC12",
+        "1\t136\t32\tkind\tvc12", "1\t136\t32\tkind\tVC-12", "1\t136\t32\tkind\tVC12\thold-off\t5000", "1\t136\t32\thold-off\t5001\tkind\tVC12", "999999999\t1\t16\thold-off\t1",
     ]
     .iter()
     .map(|l| l.as_bytes().to_vec())

@@ -107,7 +107,7 @@ adding = after 2 (by 1 (Claim 1) ∷ by 1 (AddSlot 1) ∷ [])
 
 -- 40 is W
 abbrev replaying : Replay
-replaying = record { phase = P.Reading; line = 4; left = 0; ports = 2; size = 1; window = 40 }
+replaying = record { phase = P.Reading; line = 4; left = 0; kind = 0; ports = 2; size = 1; window = 40 }
 
 pub shown : List Row
 shown =

@@ -10,7 +10,7 @@ use lib.Dec.{leb}
 use lib.ListN.{length, take}
 use Rattle.ground.specs.Plain.{if_then_else_}
 use Rattle.mending.specs.Laws.Lines.{Frames, fits-followed, followedLeft, frames-out}
-use Rattle.mending.specs.Laws.Opened.{mended-lines, mendedRest, portsIn, sizeIn}
+use Rattle.mending.specs.Laws.Opened.{mended-lines, mendedRest, countedIn, portsIn, sizeIn}
 use Rattle.mending.specs.Laws.Texts.{bytes-with, bytesOf}
 use Rattle.mending.specs.Lines.{Line, recordOf}
 use Rattle.mending.specs.Mending.{Opened, fitting, mendedOf}
@@ -179,7 +179,7 @@ replays-on t o out rows store before l after e = go before (sym lines ∙ e)
     lines = sym (bytes-with (mendedOf t)) ∙ ap bytesOf (mended-lines t o)
 
     frames : AllFrames out (portsIn t o) (sizeIn t o) (bytesOf (mendedRest t o))
-    frames = bytes-frames out (portsIn t o) (sizeIn t o) (mendedRest t o) (frames-out (portsIn t o) (sizeIn t o) (o .rest) (followedLeft (portsIn t o) (sizeIn t o) (o .rest)) (fits-followed (portsIn t o) (sizeIn t o) (o .rest)))
+    frames = bytes-frames out (portsIn t o) (sizeIn t o) (mendedRest t o) (frames-out (portsIn t o) (sizeIn t o) (o .rest) (followedLeft (portsIn t o) (sizeIn t o) (countedIn t o) (o .rest)) (fits-followed (portsIn t o) (sizeIn t o) (countedIn t o) (o .rest)))
 
     go : (bs : List (List ℕ)) → (o .first .bytes) ∷ bytesOf (mendedRest t o) ≡ bs ++ (l ∷ after) → Taken out (deskThrough out (record { replay = beginning; rows = rows; store = store }) bs) l
     go [] k =
@@ -211,7 +211,7 @@ printed-on t o out rows store = rw lines (both (quiet-first out (record { replay
     rest =
         quiet-through out (portsIn t o) (sizeIn t o) (bytesOf (mendedRest t o)) (deskAfter out (record { replay = beginning; rows = rows; store = store }) (o .first .bytes))
         (on-first out (portsIn t o) (sizeIn t o) (record { replay = beginning; rows = rows; store = store }) (o .first .bytes) (o .settings) (o .next) refl (o .opening) refl refl)
-        (bytes-frames out (portsIn t o) (sizeIn t o) (mendedRest t o) (frames-out (portsIn t o) (sizeIn t o) (o .rest) (followedLeft (portsIn t o) (sizeIn t o) (o .rest)) (fits-followed (portsIn t o) (sizeIn t o) (o .rest))))
+        (bytes-frames out (portsIn t o) (sizeIn t o) (mendedRest t o) (frames-out (portsIn t o) (sizeIn t o) (o .rest) (followedLeft (portsIn t o) (sizeIn t o) (countedIn t o) (o .rest)) (fits-followed (portsIn t o) (sizeIn t o) (countedIn t o) (o .rest))))
 
     both : {a b c d : List ℕ} → a ≡ b → c ≡ d → a ++ c ≡ b ++ d
     both {a} {b} {c} {d} p q = ap (λ (x : List ℕ). x ++ c) p ∙ ap (λ (x : List ℕ). b ++ x) q

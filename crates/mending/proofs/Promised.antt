@@ -9,7 +9,7 @@ use lib.Seq.{slice}
 use Rattle.mending.specs.declared.follow.Follow.{Follow}
 use Rattle.mending.specs.declared.follow.Keys.{Keys}
 use Rattle.mending.specs.declared.line.Read.{Read}
-use Rattle.mending.specs.Follow.{beginning, countBack, fed, restoresFirst, restoresLast, restoresSecond, restoresThird}
+use Rattle.mending.specs.Follow.{beginning, countBack, fedIf, restoresFirst, restoresLast, restoresSecond, restoresThird}
 use Rattle.mending.specs.Laws.Copies.{Copying, copying-dropped, copying-kept, sweepIn}
 use Rattle.mending.specs.Laws.Restored.{length-setIf}
 use Rattle.mending.specs.Laws.Sweeps.{noKeys, sweepEnd, sweepStart, swept, restoredIn, setIf, withKey}
@@ -25,20 +25,20 @@ restored-by f g k out a b c d e h p q r = rw (r, q, p, a, b, c, d, e, h) refl
 
 -- a turn of the first sweep
 
-module _ (ports size start : ℕ) (text out₀ : List ℕ) (room : length out₀ ≡ length (swept ports size (sweepStart (take start out₀)) (linesWith (drop start text)) .written))
-    (follows : List Follow) (keys : List Keys) (at to : ℕ) (out : List ℕ) (c : Copying ports size start text out₀ follows keys at to out) (more : at < length text)
+module _ (has : Bool) (ports size start : ℕ) (text out₀ : List ℕ) (room : length out₀ ≡ length (swept has ports size (sweepStart (take start out₀)) (linesWith (drop start text)) .written))
+    (follows : List Follow) (keys : List Keys) (at to : ℕ) (out : List ℕ) (c : Copying has ports size start text out₀ follows keys at to out) (more : at < length text)
     (r : Read) (er : r ≡ readAt ports size at text) where
-  pub copy-kept : r .kept ≡ true → r .port < 64 → (after : Follow) → after ≡ fed (getD follows (r .port) beginning) (r .count)
+  pub copy-kept : r .kept ≡ true → r .port < 64 → (after : Follow) → after ≡ fedIf has (getD follows (r .port) beginning) (r .count)
       → (out₁ : List ℕ) → out₁ ≡ restoredIn (getD follows (r .port) beginning) after (getD keys (r .port) noKeys) out
       → (piece : List ℕ) → piece ≡ slice at (r .next) text → (out₂ : List ℕ) → out₂ ≡ laid to piece out₁
       → (shifted : Keys) → shifted ≡ withKey (getD keys (r .port) noKeys) (to + (r .digit - at))
-      → Copying ports size start text out₀ (set follows (r .port) after) (set keys (r .port) shifted) (r .next) (to + (r .next - at)) out₂
+      → Copying has ports size start text out₀ (set follows (r .port) after) (set keys (r .port) shifted) (r .next) (to + (r .next - at)) out₂
   copy-kept k few after ea out₁ e₁ piece ep out₂ e₂ shifted es =
       rw (e₂, ep, e₁, es, ea, er)
-      (copying-kept ports size start text out₀ room follows keys at to out c more (rw er at k) (rw er at few) (to + (readAt ports size at text .digit - at)) (to + (readAt ports size at text .next - at)) refl refl)
+      (copying-kept has ports size start text out₀ room follows keys at to out c more (rw er at k) (rw er at few) (to + (readAt ports size at text .digit - at)) (to + (readAt ports size at text .next - at)) refl refl)
 
-  pub copy-dropped : r .kept ≡ false → Copying ports size start text out₀ follows keys (r .next) to out
-  copy-dropped k = rw er (copying-dropped ports size start text out₀ room follows keys at to out c more (rw er at k))
+  pub copy-dropped : r .kept ≡ false → Copying has ports size start text out₀ follows keys (r .next) to out
+  copy-dropped k = rw er (copying-dropped has ports size start text out₀ room follows keys at to out c more (rw er at k))
 
 -- and of its end
 

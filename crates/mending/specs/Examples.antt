@@ -109,6 +109,18 @@ fixed-group : bothFor (ascii "1\t2\t16\tkind\tFIXED\n0\t05\t0\tAABB\n0\t5f\t0\tC
 unfolding allOpen
 fixed-group = refl
 
+-- VC-12 (request 2026-01): two ports, P 136. A line that is none is dropped, and no byte of the others is altered, though their second digits would break a count of H4
+abbrev vc12Line : List ℕ → List ℕ
+vc12Line front = front ++ replicate 272 65 ++ ascii "\n"
+
+abbrev vc12Group : List ℕ → List ℕ
+vc12Group dropped =
+    ascii "2\t136\t32\tkind\tVC12\n" ++ vc12Line (ascii "0\t03\t0\t") ++ vc12Line (ascii "0\t0f\t0\t") ++ dropped ++ vc12Line (ascii "1\t02\t0\t") ++ vc12Line (ascii "0\t05\t1\t")
+
+vc12-group : bothFor (vc12Group (ascii "0\t02\t0\tAA\n")) ≡ bothOf (vc12Group []) (ascii "4\tline\t0\t02\t0\tAA\t\n")
+unfolding allOpen
+vc12-group = refl
+
 -- behind F comes 0; three are restored at once
 wrapped : bothFor (ascii "1\t1\t16\n0\t0E\t0\tAA\n0\t13\t0\tAA\n0\t2F\t0\tAA\n0\t3F\t0\tAA\n0\t02\t0\tAA\n")
     ≡ bothOf (ascii "1\t1\t16\n0\t0E\t0\tAA\n0\t1F\t0\tAA\n0\t20\t0\tAA\n0\t31\t0\tAA\n0\t02\t0\tAA\n") (ascii "3\tH4\t13\t1F\n4\tH4\t2F\t20\n5\tH4\t3F\t31\n")
@@ -156,8 +168,8 @@ answers [] = []
 answers (t ∷ ts) = readAnswer t ∷ answers ts
 
 -- 13 comes before 4
-first-lines : answers (ascii "x" ∷ [] ∷ ascii "\n1\t1\t16\n" ∷ ascii "1\t1\t16\t" ∷ ascii "65\t1\t16" ∷ ascii "2\t1\t16\thold-off\t1\t5001" ∷ ascii "2\t1\t16\thold-off\t1\t5001\t7" ∷ ascii "2\t1\t16\thold-off\t1\t5000" ∷ ascii "1\t1\t16\tkind\tFIXED" ∷ ascii "1\t1\t16\tkind\tfixed" ∷ ascii "1\t1\t16\tspeed\t1" ∷ replicate 8193 49 ∷ [])
-    ≡ 13 ∷ 13 ∷ 13 ∷ 13 ∷ 4 ∷ 4 ∷ 13 ∷ 0 ∷ 0 ∷ 13 ∷ 13 ∷ 13 ∷ []
+first-lines : answers (ascii "x" ∷ [] ∷ ascii "\n1\t1\t16\n" ∷ ascii "1\t1\t16\t" ∷ ascii "65\t1\t16" ∷ ascii "2\t1\t16\thold-off\t1\t5001" ∷ ascii "2\t1\t16\thold-off\t1\t5001\t7" ∷ ascii "2\t1\t16\thold-off\t1\t5000" ∷ ascii "1\t1\t16\tkind\tFIXED" ∷ ascii "1\t136\t32\tkind\tVC12" ∷ ascii "1\t135\t32\tkind\tVC12" ∷ ascii "1\t1\t16\tkind\tfixed" ∷ ascii "1\t1\t16\tspeed\t1" ∷ replicate 8193 49 ∷ [])
+    ≡ 13 ∷ 13 ∷ 13 ∷ 13 ∷ 4 ∷ 4 ∷ 13 ∷ 0 ∷ 0 ∷ 0 ∷ 4 ∷ 13 ∷ 13 ∷ 13 ∷ []
 unfolding allOpen
 first-lines = refl
 

@@ -72,3 +72,11 @@ finished f counts = setBack (restoresLast f) 2 (countBack f (f .first) 2) counts
 abbrev pub following : Follow → List ℕ → List ℕ → List ℕ
 following f counts [] = finished f counts
 following f counts (c ∷ cs) = following (fed f c) (restoredBack f (fed f c) counts ++ (c ∷ [])) cs
+
+-- Where lines have no count each is taken as a port's first: none is broken, and none waits.
+abbrev pub fedIf : Bool → Follow → ℕ → Follow
+fedIf has f count = if has then fed f count else going f (lessPlace count (f .place)) 0 (lessPlace count (f .place))
+
+abbrev pub followingIf : Bool → Follow → List ℕ → List ℕ → List ℕ
+followingIf has f counts [] = finished f counts
+followingIf has f counts (c ∷ cs) = followingIf has (fedIf has f c) (restoredBack f (fedIf has f c) counts ++ (c ∷ [])) cs

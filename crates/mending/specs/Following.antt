@@ -1,8 +1,9 @@
 -- The H4 count of one port followed (2026-11), on the counts of its lines one behind the other.
-use mathlib.Core.Bool.{Bool, false, _||_}
+use mathlib.Core.Bool.{Bool, false, not, _||_}
 use mathlib.Core.List.{List, [], _∷_}
 use Prim.Native.Nat.{ℕ, zero, suc, _+_, _-_, _%_, _<_}
 use Rattle.ground.specs.Plain.{if_then_else_, _==_}
+use Rattle.packet.specs.Kinds.{vc12Kind}
 
 -- a count is one hex digit
 abbrev pub Counts : List ℕ → Type 0
@@ -38,3 +39,11 @@ followedFrom last since (c ∷ cs) =
 unfoldable pub followed : List ℕ → List ℕ
 followed [] = []
 followed (c ∷ cs) = c ∷ followedFrom c 1 cs
+
+-- 'the H4 count' is MFI1, which the frames of H4 and of a fixed group (request 2026-12) have. Those of VC-12 (request 2026-01) have none: a bit of a count in five frames of 32.
+abbrev pub hasCount : ℕ → Bool
+hasCount kind = not (kind == vc12Kind)
+
+-- nothing is restored where lines have no count
+abbrev pub followedIf : Bool → List ℕ → List ℕ
+followedIf has counts = if has then followed counts else counts

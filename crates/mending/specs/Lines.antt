@@ -1,9 +1,10 @@
 -- The lines of a torn recording, each with what became of it (2026-11).
+use mathlib.Core.Bool.{Bool}
 use mathlib.Core.List.{List, [], _∷_, _++_}
 use Prim.Native.Nat.{ℕ, suc, _+_, _-_, _%_}
 use lib.ListN.{drop, getD, length, set, take}
 use Rattle.ground.specs.Plain.{if_then_else_, _==_, _<?_}
-use Rattle.mending.specs.Following.{followed}
+use Rattle.mending.specs.Following.{followedIf}
 use Rattle.recording.specs.declared.record.Record.{Record}
 use Rattle.recording.specs.declared.record.Record.the-variants.{Frame, Malformed, Long, Unfinished, End}
 use Rattle.recording.specs.Record.{lineRecord}
@@ -105,6 +106,6 @@ module _ (ports size : ℕ) where
   judgedBy left [] = []
   judgedBy left (l ∷ ls) = record { line = l; fate = fateBy size left l (recordOf l) } ∷ judgedBy (leftBy left (recordOf l)) ls
 
-  -- the counts of each port are followed
-  unfoldable pub judged : List Line → List Judged
-  judged ls = judgedBy (λ port. followed (countsOf port ls)) ls
+-- the counts of each port are followed, where lines have counts
+unfoldable pub judged : Bool → ℕ → ℕ → List Line → List Judged
+judged has ports size ls = judgedBy ports size (λ port. followedIf has (countsOf ports size port ls)) ls

@@ -5,6 +5,7 @@ use mathlib.Core.List.{List, [], _∷_, _++_}
 use Prim.Native.Nat.{ℕ, suc, _-_}
 use lib.ListN.{getD, length, take}
 use Rattle.ground.specs.Plain.{if_then_else_, _==_}
+use Rattle.mending.specs.Following.{hasCount}
 use Rattle.mending.specs.Lines.{Fate, Judged, Line, digitPlace, judged, lineText, linesWith, mendedLines, textOf}
 use Rattle.mending.specs.Lines.{Fate as F}
 use Rattle.phases.specs.Sizes.{startSized}
@@ -57,13 +58,13 @@ module _ (size : ℕ) where
 
 -- the lines behind the first, by its settings
 abbrev pub mendedBy : Opening → List Line → List ℕ
-mendedBy (O.Settings s next) ls = textOf (mendedLines (s .size) (judged (s .ports) (s .size) ls))
+mendedBy (O.Settings s next) ls = textOf (mendedLines (s .size) (judged (hasCount (s .kind)) (s .ports) (s .size) ls))
 mendedBy O.Malformed ls = []
 mendedBy O.Unfinished ls = []
 mendedBy O.End ls = []
 
 abbrev pub notesBy : Opening → List Line → List ℕ
-notesBy (O.Settings s next) ls = notesFrom (s .size) 2 (judged (s .ports) (s .size) ls)
+notesBy (O.Settings s next) ls = notesFrom (s .size) 2 (judged (hasCount (s .kind)) (s .ports) (s .size) ls)
 notesBy O.Malformed ls = []
 notesBy O.Unfinished ls = []
 notesBy O.End ls = []

@@ -5,7 +5,7 @@ use mathlib.Core.List.{List, [], _∷_, _++_}
 use Prim.Native.Nat.{ℕ, zero, suc, _+_, _-_, _%_}
 use lib.ListN.{length}
 use Rattle.ground.specs.Plain.{if_then_else_, _==_, _≤?_}
-use Rattle.mending.specs.Following.{countDue, followed, goodAmong, isGood}
+use Rattle.mending.specs.Following.{countDue, followed, followedIf, goodAmong, hasCount, isGood}
 use Rattle.mending.specs.Lines.{Fate, Judged, Line, countsOf, judged, linesWith, recordOf}
 use Rattle.mending.specs.Lines.{Fate as F}
 use Rattle.mending.specs.Mending.{noteBy, noteText, notesFrom}
@@ -219,6 +219,15 @@ abbrev wrong-notes : ℕ → List Judged → List ℕ
 wrong-notes n [] = []
 wrong-notes n (j ∷ js) = wrong-note n (j .line) (j .fate) ++ wrong-notes (suc n) js
 
-notes-break : (notesFrom 1 2 (judged 1 1 (linesWith (ascii "0\t00\t0\tAA\n"))) ≡ []) × (wrong-notes 2 (judged 1 1 (linesWith (ascii "0\t00\t0\tAA\n"))) ≡ ascii "2\tline\t0\t00\t0\tAA\t0\t00\t0\tAA\n")
+notes-break : (notesFrom 1 2 (judged true 1 1 (linesWith (ascii "0\t00\t0\tAA\n"))) ≡ []) × (wrong-notes 2 (judged true 1 1 (linesWith (ascii "0\t00\t0\tAA\n"))) ≡ ascii "2\tline\t0\t00\t0\tAA\t0\t00\t0\tAA\n")
 unfolding judged followed linesWith linesOf fieldsOf recordOf lineRecord frameBy numberOf hexOf isHex flagIn digitOf numberText
 notes-break = (refl, refl)
+
+-- VC-12's lines followed by their second digit as if it were a count (request 2026-01): of its byte one bit is K4's, so that a run of three such bytes can read as a count that broke.
+wrong-kind : ℕ → List ℕ → List ℕ
+wrong-kind kind counts = followed counts
+
+kind-breaks : (wrong-kind 1 (0 ∷ 0 ∷ 2 ∷ []) ≡ 0 ∷ 1 ∷ 2 ∷ []) × (followedIf (hasCount 1) (0 ∷ 0 ∷ 2 ∷ []) ≡ 0 ∷ 0 ∷ 2 ∷ [])
+    × (followedIf (hasCount 0) (0 ∷ 0 ∷ 2 ∷ []) ≡ 0 ∷ 1 ∷ 2 ∷ []) × (followedIf (hasCount 2) (0 ∷ 0 ∷ 2 ∷ []) ≡ 0 ∷ 1 ∷ 2 ∷ [])
+unfolding wrong-kind followed
+kind-breaks = (refl, refl, refl, refl)

@@ -73,10 +73,10 @@ fn finish(follows: [Follow; 64], keys: [Keys; 64], mended: &mut [u8])
 }
 
 // The lines behind the first, which lies up to `start` and is written already.
-fn copy_lines(text: &[u8], start: usize, ports: u32, size: u32, mended: &mut [u8])
+fn copy_lines(text: &[u8], start: usize, ports: u32, size: u32, counted: bool, mended: &mut [u8])
     requires { ⌜ (start ≤ length (now text)) × (ports ≤ 64) × (start ≤ length (now mended))
-        × (length (now mended) ≡ length (swept ports size (sweepStart (take start (now mended))) (linesWith (drop start (now text))) .written)) ⌝ }
-    ensures { λ _. ⌜ now (mended .exit) ≡ sweepEnd 64 (swept ports size (sweepStart (take start (now (mended .entry)))) (linesWith (drop start (now (text .entry))))) ⌝ }
+        × (length (now mended) ≡ length (swept counted ports size (sweepStart (take start (now mended))) (linesWith (drop start (now text))) .written)) ⌝ }
+    ensures { λ _. ⌜ now (mended .exit) ≡ sweepEnd 64 (swept counted ports size (sweepStart (take start (now (mended .entry)))) (linesWith (drop start (now (text .entry))))) ⌝ }
 {
     let begun = follow::none_yet();
     let none = follow::no_keys();
@@ -91,7 +91,7 @@ fn copy_lines(text: &[u8], start: usize, ports: u32, size: u32, mended: &mut [u8
             let port = read.port;
             let before = follows[port];
             let places = keys[port];
-            let after = follow::followed(before, read.count);
+            let after = follow::followed_if(counted, before, read.count);
             restore(before, after, places, mended);
             payload::lay(&text[at..next], to, mended);
             let key = to + (read.digit - at);
@@ -106,11 +106,18 @@ fn copy_lines(text: &[u8], start: usize, ports: u32, size: u32, mended: &mut [u8
 }
 
 // The first line, which lies up to `start`, as it is, and the others.
-pub(crate) fn copy_all(text: &[u8], start: usize, ports: u32, size: u32, mended: &mut [u8])
+pub(crate) fn copy_all(
+    text: &[u8],
+    start: usize,
+    ports: u32,
+    size: u32,
+    counted: bool,
+    mended: &mut [u8],
+)
     requires { ⌜ (start ≤ length (now text)) × (ports ≤ 64)
-        × (length (now mended) ≡ length (swept ports size (sweepStart (take start (now text))) (linesWith (drop start (now text))) .written)) ⌝ }
-    ensures { λ _. ⌜ now (mended .exit) ≡ sweepEnd 64 (swept ports size (sweepStart (take start (now (text .entry)))) (linesWith (drop start (now (text .entry))))) ⌝ }
+        × (length (now mended) ≡ length (swept counted ports size (sweepStart (take start (now text))) (linesWith (drop start (now text))) .written)) ⌝ }
+    ensures { λ _. ⌜ now (mended .exit) ≡ sweepEnd 64 (swept counted ports size (sweepStart (take start (now (text .entry)))) (linesWith (drop start (now (text .entry))))) ⌝ }
 {
     payload::lay(&text[..start], 0, mended);
-    copy_lines(text, start, ports, size, mended);
+    copy_lines(text, start, ports, size, counted, mended);
 }

@@ -1,7 +1,7 @@
 // The H4 count of one port, followed line by line (2026-11).
 ghost use mathlib.Core.Path.{_≡_};
 ghost use Prim.Native.Nat.{_≤_, _<_};
-ghost use Rattle.mending.specs.Follow.{afresh, beginning, countBack, fed, fedBy, going, lessPlace, restoresFirst, restoresLast, restoresSecond, restoresThird};
+ghost use Rattle.mending.specs.Follow.{afresh, beginning, countBack, fed, fedBy, fedIf, going, lessPlace, restoresFirst, restoresLast, restoresSecond, restoresThird};
 ghost use Rattle.mending.specs.Laws.Sweeps.{noKeys, withKey};
 
 // begun: the port has had a line. v: the count less the place, modulo 16, of the last good line. place: that of the port's next line, modulo 16.
@@ -95,6 +95,17 @@ pub(crate) fn followed(f: Follow, count: u8) -> Follow
     ensures { λ r. ⌜ r ≡ fed f count ⌝ }
 {
     follow_on(f, less_place(count, f.place))
+}
+
+// The same where lines have counts; where they have none, nothing is to be restored.
+pub(crate) fn followed_if(counted: bool, f: Follow, count: u8) -> Follow
+    ensures { λ r. ⌜ r ≡ fedIf counted f count ⌝ }
+{
+    if counted {
+        return followed(f, count);
+    }
+    let o = less_place(count, f.place);
+    gone_on(f, o, 0, o)
 }
 
 // Whether the next line lets one of the last three be restored, the first, second or third of them.

@@ -22,7 +22,13 @@ pub fn mend_lengths(recording: &[u8]) -> Lengths
     if start.answer != 0 {
         return measuring::refused(start.answer);
     }
-    measuring::lengths_from(recording, start.next, start.ports, start.size)
+    measuring::lengths_from(
+        recording,
+        start.next,
+        start.ports,
+        start.size,
+        start.counted,
+    )
 }
 
 // The recording mended, and its notes: 'A library copies a recording lent whole'.
@@ -35,11 +41,24 @@ pub fn mend(recording: &[u8], mended: &mut [u8], notes: &mut [u8]) -> u8
     if start.answer != 0 {
         return start.answer;
     }
-    let told = measuring::lengths_from(recording, start.next, start.ports, start.size);
+    let told = measuring::lengths_from(
+        recording,
+        start.next,
+        start.ports,
+        start.size,
+        start.counted,
+    );
     if !((mended.len() == told.mended) & (notes.len() == told.notes)) {
         return 9;
     }
-    copying::copy_all(recording, start.next, start.ports, start.size, mended);
+    copying::copy_all(
+        recording,
+        start.next,
+        start.ports,
+        start.size,
+        start.counted,
+        mended,
+    );
     notes::put_notes(
         recording,
         start.next,

@@ -116,9 +116,15 @@ fn with_last(follows: [Follow; 64], keys: [Keys; 64], before: usize) -> usize
 }
 
 // The lines behind the first, which lies up to `start`.
-pub(crate) fn lengths_from(text: &[u8], start: usize, ports: u32, size: u32) -> Lengths
+pub(crate) fn lengths_from(
+    text: &[u8],
+    start: usize,
+    ports: u32,
+    size: u32,
+    counted: bool,
+) -> Lengths
     requires { ⌜ (start ≤ length (now text)) × (ports ≤ 64) ⌝ }
-    ensures { λ r. ⌜ r ≡ record { mended = start + keptLength ports size (linesWith (drop start (now (text .entry)))); notes = told (notesLength ports size countStart (linesWith (drop start (now (text .entry))))); answer = 0 } ⌝ }
+    ensures { λ r. ⌜ r ≡ record { mended = start + keptLength ports size (linesWith (drop start (now (text .entry)))); notes = told (notesLength counted ports size countStart (linesWith (drop start (now (text .entry))))); answer = 0 } ⌝ }
 {
     let begun = follow::none_yet();
     let none = follow::no_keys();
@@ -134,7 +140,7 @@ pub(crate) fn lengths_from(text: &[u8], start: usize, ports: u32, size: u32) -> 
         let port = read.port;
         let before = follows[port];
         let numbers = keys[port];
-        let after = follow::followed(before, read.count);
+        let after = follow::followed_if(counted, before, read.count);
         let noted = noted_by(read, before, after, numbers, number, at);
         notes = more(notes, noted);
         let own = number;

@@ -1,4 +1,5 @@
 // The first line of a recording: whether it can be read, and whether its settings are in range.
+use packet::kinds;
 use recording::FirstLine;
 use recording::Settings;
 ghost use mathlib.Core.Path.{_≡_};
@@ -6,11 +7,12 @@ ghost use Prim.Native.Nat.{_≤_};
 ghost use Rattle.mending.specs.Laws.Starts.{noStart, startOf, startWith, timesBoth};
 ghost use Rattle.mending.specs.Mending.{fitting};
 
-// answer: 0, 13 or 4. next: the place of the second line. ports, size: of the group.
+// answer: 0, 13 or 4. next: the place of the second line. ports, size: of the group. counted: its lines have an H4 count.
 pub(crate) struct Start {
     pub next: usize,
     pub ports: u32,
     pub size: u32,
+    pub counted: bool,
     pub answer: u8,
 }
 
@@ -21,6 +23,7 @@ fn refused(answer: u8) -> Start
         next: 0,
         ports: 0,
         size: 0,
+        counted: false,
         answer,
     }
 }
@@ -58,6 +61,7 @@ fn opened_with(settings: Settings, next: usize) -> Start
             next,
             ports: settings.ports,
             size: settings.size,
+            counted: !(settings.kind == kinds::VC12),
             answer: 0,
         };
     }

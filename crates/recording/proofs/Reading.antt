@@ -3,7 +3,7 @@ use mathlib.Core.Path.{_≡_, sym, ap, _∙_}
 use mathlib.Core.Bool.{Bool, true, false, not, _&&_}
 use mathlib.Core.List.{List}
 use Prim.Native.Nat.{ℕ, _+_}
-use Rattle.packet.specs.Kinds.{fixedKind}
+use Rattle.packet.specs.Kinds.{fixedKind, vc12Kind}
 use Rattle.recording.specs.declared.pairs.Awaited.{Awaited}
 use Rattle.recording.specs.declared.pairs.Awaited.the-variants.{Nothing}
 use Rattle.recording.specs.declared.pairs.Pairs.{Pairs}
@@ -44,9 +44,14 @@ module _ (p : Pairs) (f : List ℕ) (a : Bool) (ea : a ≡ sameBytes f (ascii "H
     unfolding kindRead
     kind-fixed t r h = rw (← ea, ta, ← eb, t) h
 
-    pub kind-none : b ≡ false → (r : Pairs) → r ≡ awaiting Nothing p → r ≡ kindRead p f
-    unfolding kindRead
-    kind-none t r h = rw (← ea, ta, ← eb, t) h
+    module _ (tb : b ≡ false) (c : Bool) (ec : c ≡ sameBytes f (ascii "VC12")) where
+      pub kind-vc12 : c ≡ true → (r : Pairs) → r ≡ kindTo p vc12Kind → r ≡ kindRead p f
+      unfolding kindRead
+      kind-vc12 t r h = rw (← ea, ta, ← eb, tb, ← ec, t) h
+
+      pub kind-none : c ≡ false → (r : Pairs) → r ≡ awaiting Nothing p → r ≡ kindRead p f
+      unfolding kindRead
+      kind-none t r h = rw (← ea, ta, ← eb, tb, ← ec, t) h
 
 module _ (p : Pairs) (i : ℕ) (number : Number) where
   pub hold-none : number ≡ Unreadable → (r : Pairs) → r ≡ awaiting Nothing p → r ≡ holdRead p i number

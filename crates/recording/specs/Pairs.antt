@@ -1,5 +1,5 @@
 -- Behind the three numbers of a first line stand pairs, each a name and what it says (2026-05), in any order, each at most once: `kind` with the group's
--- kind (2026-12), `hold-off` and `wait-to-restore` (2026-03) with a number for each port. The fields are taken one after the other.
+-- kind (2026-12, 2026-01), `hold-off` and `wait-to-restore` (2026-03) with a number for each port. The fields are taken one after the other.
 use mathlib.Core.Bool.{true, false, not, _&&_}
 use mathlib.Core.List.{List, [], _∷_}
 use Prim.Native.Nat.{ℕ, _+_}
@@ -9,7 +9,7 @@ use Rattle.recording.specs.declared.pairs.Awaited.{Awaited}
 use Rattle.recording.specs.declared.pairs.Awaited.the-variants.{Name, Kind, HoldOff, Restore, Nothing}
 use Rattle.recording.specs.declared.pairs.Pairs.{Pairs}
 use Rattle.recording.specs.declared.pairs.Settings.{Settings}
-use Rattle.packet.specs.Kinds.{fixedKind}
+use Rattle.packet.specs.Kinds.{fixedKind, vc12Kind}
 use Rattle.text.specs.declared.fields.Number.{Number}
 use Rattle.text.specs.declared.fields.Number.the-variants.{Value, Unreadable}
 use Rattle.text.specs.Ascii.{ascii}
@@ -78,7 +78,11 @@ abbrev pub kindTo : Pairs → ℕ → Pairs
 kindTo p kind = settingsTo (withKind (p .settings) kind) Name p
 
 unfoldable pub kindRead : Pairs → List ℕ → Pairs
-kindRead p field = if sameBytes field (ascii "H4") then kindTo p 0 else if sameBytes field (ascii "FIXED") then kindTo p fixedKind else wrongField p
+kindRead p field =
+    if sameBytes field (ascii "H4") then kindTo p 0
+    else if sameBytes field (ascii "FIXED") then kindTo p fixedKind
+    else if sameBytes field (ascii "VC12") then kindTo p vc12Kind
+    else wrongField p
 
 unfoldable pub holdRead : Pairs → ℕ → Number → Pairs
 holdRead p i (Value n) = settingsTo (withHold (p .settings) (countPut (p .settings .«hold_off») i n)) (holdFrom (p .settings .ports) (i + 1)) p

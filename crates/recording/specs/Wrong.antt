@@ -53,10 +53,12 @@ list-breaks : (wrong-list 0 (ascii "2\t1\t16\thold-off\t5") ≡ O.Settings (two 
 unfolding wrong-list lineOpening fieldsOf settingsBy opened fieldIn named holdRead numberOf digitOf
 list-breaks = (refl, refl)
 
--- both kinds, both lists in either order, and what is no pair: a list for one port too many, a pair twice, a name that no pair has, a kind that the product does not have
+-- the kinds, both lists in either order, and what is no pair: a list for one port too many, a pair twice, a name that no pair has, a kind that the product does not have
 pairs-read : (lineOpening 0 (ascii "2\t1\t16\twait-to-restore\t1\t002\tkind\tH4\thold-off\t5000\t999999999") ≡ O.Settings (two (5000 ∷ 999999999 ∷ zeros 62) (1 ∷ 2 ∷ zeros 62)) 0)
     × (lineOpening 0 (ascii "2\t1\t16\tkind\tFIXED") ≡ O.Settings (record { «hold_off» = zeros 64; restore = zeros 64; kind = 2; ports = 2; size = 1; window = 16 }) 0)
+    × (lineOpening 0 (ascii "2\t1\t16\tkind\tVC12") ≡ O.Settings (record { «hold_off» = zeros 64; restore = zeros 64; kind = 1; ports = 2; size = 1; window = 16 }) 0)
+    × (lineOpening 0 (ascii "2\t1\t16\tkind\tVC-12") ≡ O.Malformed)
     × (lineOpening 0 (ascii "2\t1\t16\thold-off\t5\t5\t5") ≡ O.Malformed) × (lineOpening 0 (ascii "2\t1\t16\thold-off\t5\t5\thold-off\t5\t5") ≡ O.Malformed)
     × (lineOpening 0 (ascii "2\t1\t16\tholdoff\t5\t5") ≡ O.Malformed) × (lineOpening 0 (ascii "2\t1\t16\tkind\tK4") ≡ O.Malformed) × (lineOpening 0 (ascii "2\t1\t16\t") ≡ O.Malformed)
 unfolding lineOpening fieldsOf settingsBy opened fieldIn named kindRead holdRead restoreRead numberOf digitOf
-pairs-read = (refl, refl, refl, refl, refl, refl, refl)
+pairs-read = (refl, refl, refl, refl, refl, refl, refl, refl, refl)

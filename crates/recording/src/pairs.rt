@@ -197,6 +197,9 @@ fn read_kind(pairs: Pairs, text: &[u8], at: usize, limit: usize) -> Pairs
     if text::same(text, at, limit, b"FIXED") {
         return kind_to(pairs, kinds::FIXED);
     }
+    if text::same(text, at, limit, b"VC12") {
+        return kind_to(pairs, kinds::VC12);
+    }
     awaits(pairs, Awaited::Nothing)
 }
 

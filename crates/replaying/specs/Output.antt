@@ -30,11 +30,11 @@ unfoldable pub portText : ℕ → ℕ → ℕ → List ℕ
 portText port state number = ended (ascii "port") TAB ++ ended (decimalText port) TAB ++ ended (stateText state) TAB ++ ended (decimalText number) LINE-END
 
 -- a port's member state and its number, as one
-unfoldable pub stateAt : List (List ℕ) → ℕ → ℕ
-stateAt rows i = memberAt rows i .state * 256 + shownNumber 0 (memberAt rows i)
+unfoldable pub stateAt : ℕ → List (List ℕ) → ℕ → ℕ
+stateAt kind rows i = memberAt rows i .state * 256 + shownNumber kind (memberAt rows i)
 
-unfoldable pub statesIn : List (List ℕ) → List ℕ
-statesIn rows = tabulate 64 (stateAt rows)
+unfoldable pub statesIn : ℕ → List (List ℕ) → List ℕ
+statesIn kind rows = tabulate 64 (stateAt kind rows)
 
 unfoldable pub stateLine : ℕ → ℕ → List ℕ
 stateLine port state = portText port (state / 256) (state % 256)

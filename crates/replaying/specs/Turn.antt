@@ -33,7 +33,7 @@ over text out = text ++ drop (length text) out
 
 -- in another phase, with so many lines and fetches
 abbrev pub within : Replay → Phase → ℕ → ℕ → Replay
-within r phase line left = record { phase = phase; line = line; left = left; ports = r .ports; size = r .size; window = r .window }
+within r phase line left = record { phase = phase; line = line; left = left; kind = r .kind; ports = r .ports; size = r .size; window = r .window }
 
 abbrev pub turned : Replay → ℕ → ℕ → Bool → Replayed
 turned r used written wants = record { replay = r; answer = 0; used = used; written = written; wants = wants }
@@ -89,7 +89,7 @@ startedRows s rows = startAsRows (s .kind) (s .ports) (s .size) (s .window) (sto
 
 abbrev pub startedTurn : Replay → GroupSettings → ℕ → Replayed
 startedTurn r s next =
-    turned (record { phase = Reading; line = nextLine (r .line); left = 0; ports = s .ports; size = s .size; window = s .window }) next 0 false
+    turned (record { phase = Reading; line = nextLine (r .line); left = 0; kind = s .kind; ports = s .ports; size = s .size; window = s .window }) next 0 false
 
 abbrev pub rowsStarted : GroupSettings → List (List ℕ) → List (List ℕ)
 rowsStarted s rows = startedRows s (take (rowsFor (s .ports)) (clearedRows rows)) ++ drop (rowsFor (s .ports)) (clearedRows rows)
@@ -146,7 +146,7 @@ storeBy Ended store = store
 
 unfoldable pub isLent : Replay → ℕ → ℕ → ℕ → ℕ → Bool
 isLent r rows store out said =
-    ROOM ≤? said && r .ports ≤? 64 && r .size ≤? 2340 && rowsFor (r .ports) ≤? rows && storeOf (r .ports) (r .size) (r .window) ≤? store && outputOf (r .ports) (r .size) ≤? out
+    ROOM ≤? said && r .ports ≤? 64 && r .size ≤? 2340 && rowsFor (r .ports) ≤? rows && storeOf (r .ports) (r .size) (r .window) ≤? store && outputOf (r .kind) (r .ports) (r .size) ≤? out
 
 abbrev pub isOpen : Record → Bool
 isOpen (Frame port h4 flag place next) = false
@@ -247,7 +247,7 @@ module _ (r : Replay) (rows : List (List ℕ)) (store out : List ℕ) where
   isDue = 0 <? getD fetchRecordBy 0 0
 
   unfoldable pub reportOf : List ℕ
-  reportOf = reportText fetchRecordBy (r .line) (statesIn rows) (statesIn fetchRowsBy) (r .ports)
+  reportOf = reportText fetchRecordBy (r .line) (statesIn (r .kind) rows) (statesIn (r .kind) fetchRowsBy) (r .ports)
 
   -- a fetch, and its report if it gave one
   unfoldable pub fetchedTurn : Replayed

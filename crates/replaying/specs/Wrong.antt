@@ -42,7 +42,7 @@ wrong-part d = record { replay = within (d .replay) (d .replay .phase) 0 0; rows
 
 -- one line was read
 abbrev opened : Desk
-opened = record { replay = record { phase = Reading; line = 1; left = 0; ports = 1; size = 1; window = 16 }; rows = []; store = [] }
+opened = record { replay = record { phase = Reading; line = 1; left = 0; kind = 0; ports = 1; size = 1; window = 16 }; rows = []; store = [] }
 
 numbers-break : (saidTo [] (wrong-part opened) (ascii "y") ≡ answerText 13 1) × (saidTo [] opened (ascii "y") ≡ answerText 13 2)
 unfolding wrong-part saidTo lineRecord fieldsOf

@@ -9,11 +9,11 @@ ghost use Rattle.receiver.specs.Shown.{shownNumber};
 ghost use Rattle.replaying.specs.Output.{ROOM, changeText, changesText, countIn, reportText, stateAt, stateLine, statesIn};
 ghost use Rattle.text.specs.Output.{Put};
 
-fn number_of(member: Member) -> u8
-    ensures { λ r. ⌜ r ≡ shownNumber 0 member ⌝ }
+fn number_of(kind: u8, member: Member) -> u8
+    ensures { λ r. ⌜ r ≡ shownNumber kind member ⌝ }
 {
     if member.state == 0 {
-        return kinds::idle_number(kinds::H4);
+        return kinds::idle_number(kind);
     }
     member.state_number
 }
@@ -24,22 +24,22 @@ fn wide(n: u8) -> u16
     n as u16
 }
 
-fn state_at(rows: &[[u8; 16]], port: u8) -> u16
-    ensures { λ r. ⌜ r ≡ stateAt (now (rows .entry)) port ⌝ }
+fn state_at(kind: u8, rows: &[[u8; 16]], port: u8) -> u16
+    ensures { λ r. ⌜ r ≡ stateAt kind (now (rows .entry)) port ⌝ }
 {
     let member = rows::member::get(rows, port);
-    let number = number_of(member);
+    let number = number_of(kind, member);
     wide(member.state) * 256 + wide(number)
 }
 
 // The states of ports 0 to 63.
-pub(crate) fn states_in(rows: &[[u8; 16]]) -> [u16; 64]
-    ensures { λ r. ⌜ r ≡ statesIn (now (rows .entry)) ⌝ }
+pub(crate) fn states_in(kind: u8, rows: &[[u8; 16]]) -> [u16; 64]
+    ensures { λ r. ⌜ r ≡ statesIn kind (now (rows .entry)) ⌝ }
 {
     let mut states = [0u16; 64];
     let mut i = 0;
     while i < 64 {
-        states[i as usize] = state_at(rows, i);
+        states[i as usize] = state_at(kind, rows, i);
         i += 1;
     }
     states

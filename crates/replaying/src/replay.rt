@@ -1,4 +1,5 @@
 // How far a recording has been replayed, beside the receiver's rows and store.
+use packet::kinds;
 ghost use mathlib.Core.Path.{_≡_};
 ghost use Rattle.replaying.specs.Replay.{beginning, nextLine, outputOf, storeOf};
 
@@ -21,6 +22,8 @@ pub struct Replay {
     pub line: u64,
     // how many fetches may follow before the next line
     pub left: u16,
+    // the group's
+    pub kind: u8,
     pub ports: u8,
     // P
     pub size: u16,
@@ -35,6 +38,7 @@ pub fn begin() -> Replay
         phase: Phase::Settings,
         line: 0,
         left: 0,
+        kind: 0,
         ports: 0,
         size: 0,
         window: 0,
@@ -54,8 +58,9 @@ pub(crate) fn store_of(ports: u8, size: u16, window: u16) -> usize
     ports as usize * window as usize * (size as usize + 1)
 }
 
-pub(crate) fn output_of(ports: u8, size: u16) -> usize
-    ensures { λ r. ⌜ r ≡ outputOf ports size ⌝ }
+pub(crate) fn output_of(kind: u8, ports: u8, size: u16) -> usize
+    ensures { λ r. ⌜ r ≡ outputOf kind ports size ⌝ }
 {
-    ports as usize * 16 * size as usize
+    let frames = kinds::epoch_frames(kind);
+    ports as usize * frames as usize * size as usize
 }

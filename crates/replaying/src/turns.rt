@@ -75,6 +75,7 @@ fn answered(replay: Replay, phase: Phase, number: u8, used: usize, said: &mut [u
             phase,
             line,
             left: 0,
+            kind: replay.kind,
             ports: replay.ports,
             size: replay.size,
             window: replay.window,
@@ -124,6 +125,7 @@ fn open_as(replay: Replay, settings: Settings, next: usize, rows: &mut [[u8; 16]
             phase: Phase::Reading,
             line,
             left: 0,
+            kind: settings.kind,
             ports,
             size,
             window,
@@ -226,7 +228,7 @@ fn is_lent(replay: Replay, rows: usize, store: usize, out: usize, said: usize) -
 {
     let n = group::rows_for(replay.ports);
     let m = replay::store_of(replay.ports, replay.size, replay.window);
-    let o = replay::output_of(replay.ports, replay.size);
+    let o = replay::output_of(replay.kind, replay.ports, replay.size);
     (REPLAY_ROOM <= said)
         & (replay.ports <= 64)
         & (replay.size <= SIZE_MOST)
@@ -365,6 +367,7 @@ fn framed(replay: Replay, next: usize) -> Replayed
             phase: Phase::Fetching,
             line,
             left: replay.window,
+            kind: replay.kind,
             ports: replay.ports,
             size: replay.size,
             window: replay.window,
@@ -416,6 +419,7 @@ fn read_on(replay: Replay) -> Replayed
             phase: Phase::Reading,
             line: replay.line,
             left: 0,
+            kind: replay.kind,
             ports: replay.ports,
             size: replay.size,
             window: replay.window,
@@ -436,6 +440,7 @@ fn reported(replay: Replay, written: usize) -> Replayed
             phase: Phase::Fetching,
             line: replay.line,
             left: replay.left - 1,
+            kind: replay.kind,
             ports: replay.ports,
             size: replay.size,
             window: replay.window,
@@ -475,12 +480,12 @@ fn report_now(
         × (now (out .exit) ≡ fetchOutBy replay (now (rows .entry)) (now (store .entry)) (now (out .entry)))
         × (now (said .exit) ≡ fetchedSaid replay (now (rows .entry)) (now (store .entry)) (now (out .entry)) (now (said .entry))) ⌝ }
 {
-    let before = changes::states_in(rows);
+    let before = changes::states_in(replay.kind, rows);
     let given = fetch(replay, rows, store, out);
     if given[0] == 0 {
         return read_on(replay);
     }
-    let after = changes::states_in(rows);
+    let after = changes::states_in(replay.kind, rows);
     let written = changes::put_report(given, replay.line, before, after, replay.ports, said);
     reported(replay, written)
 }
@@ -522,6 +527,7 @@ fn skip(replay: Replay, text: &[u8], last: bool) -> Replayed
                 phase: Phase::Reading,
                 line: replay.line,
                 left: 0,
+                kind: replay.kind,
                 ports: replay.ports,
                 size: replay.size,
                 window: replay.window,
@@ -538,6 +544,7 @@ fn skip(replay: Replay, text: &[u8], last: bool) -> Replayed
             phase,
             line: replay.line,
             left: 0,
+            kind: replay.kind,
             ports: replay.ports,
             size: replay.size,
             window: replay.window,

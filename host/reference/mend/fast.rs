@@ -2,7 +2,7 @@
 //! taken by where its fields must stand; where they do not, it is read once more as the plain form reads it.
 
 use super::{without_end, Mended, COUNTS};
-use crate::receiver::{Receiver, TIMER_MOST};
+use crate::receiver::{KIND_VC12, TIMER_MOST};
 use crate::replay::{frame, settings, MALFORMED, OUT_OF_RANGE};
 
 /// A line that breaks its port's count: its number, where its digit stands in the recording and in what comes out, and its count less its
@@ -92,7 +92,7 @@ pub fn mend(torn: &[u8], to: &mut Mended) -> Result<(), u8> {
     let first = end_of(0);
     let group = settings(without_end(&torn[..first])).ok_or(MALFORMED)?;
     let times_fit = group.hold_off.iter().chain(&group.restore).all(|time| *time <= TIMER_MOST);
-    if !Receiver::fits(group.ports, group.payload, group.window) || !times_fit {
+    if !group.fit() || !times_fit {
         return Err(OUT_OF_RANGE);
     }
     let digits = 2 * group.payload as usize;
@@ -120,7 +120,10 @@ pub fn mend(torn: &[u8], to: &mut Mended) -> Result<(), u8> {
             let line = Broken { number, torn: at + low, out: out.len() + low, offset: (count + 16 - follow.lines) % 16, place: follow.lines };
             follow.lines = (follow.lines + 1) % 16;
             out.extend(&torn[at..end]);
-            follow.take(line, out, &mut notes);
+            // of VC-12 there is no count to follow
+            if group.kind != KIND_VC12 {
+                follow.take(line, out, &mut notes);
+            }
         }
         at = end;
         number += 1;

@@ -1,7 +1,7 @@
 -- Mending (request 2026-11), whole and clause by clause: a recording of one port and P 1 whose first line has 7 bytes and each frame's line 10; one line of one byte is dropped and one count restored.
 use mathlib.Core.Path.{_≡_, refl}
-use mathlib.Core.List.{List, [], _∷_}
-use Prim.Native.Nat.{ℕ}
+use mathlib.Core.List.{List, [], _∷_, _++_}
+use Prim.Native.Nat.{ℕ, _+_}
 use lib.ListN.{replicate}
 use Rattle.c_face.specs.Mends.{lengthsAnswerC, mendAnswerC, mendedC, mendedLengthC, notesC, notesLengthC}
 use Rattle.conformance.specs.Opened.{allOpen}
@@ -59,14 +59,27 @@ two-ports : (lengthsAnswerC fixed ≡ 0) × (mendedLengthC fixed 5 ≡ 102) × (
 unfolding allOpen
 two-ports = (refl, refl, refl, refl, refl)
 
+-- VC-12 (request 2026-01): a line with a payload of 135 bytes is dropped, and nothing is restored: second digits 0, 0 and 2 would be a count of H4 that broke
+abbrev vc12Line : List ℕ → ℕ → List ℕ
+vc12Line h4 bytes = ascii "0\t" ++ h4 ++ ascii "\t0\t" ++ replicate (bytes + bytes) 48 ++ ascii "\n"
+
+abbrev vc12 : List ℕ → List ℕ
+vc12 torn = ascii "1\t136\t32\tkind\tVC12\n" ++ vc12Line (ascii "00") 136 ++ vc12Line (ascii "00") 136 ++ torn ++ vc12Line (ascii "02") 136
+
+of-vc12 : (lengthsAnswerC (vc12 (vc12Line (ascii "01") 135)) ≡ 0) × (mendedLengthC (vc12 (vc12Line (ascii "01") 135)) 5 ≡ 859) × (notesLengthC (vc12 (vc12Line (ascii "01") 135)) 6 ≡ 286)
+    × (mendedC (vc12 (vc12Line (ascii "01") 135)) (lent 859) (lent 286) ≡ vc12 [])
+unfolding allOpen
+of-vc12 = (refl, refl, refl, refl)
+
 -- an empty line of one byte has a note of nine
 empty-lines : (mendedLengthC (ascii "1\t1\t16\n\n\n") 5 ≡ 7) × (notesLengthC (ascii "1\t1\t16\n\n\n") 6 ≡ 18)
 unfolding allOpen
 empty-lines = (refl, refl)
 
--- 13: no line, a first line that is empty, one field too few; 4: no port, too many, no window, a payload above 2,340 bytes, a time above 5,000
+-- 13: no line, a first line that is empty, one field too few; 4: no port, too many, no window, a payload above 2,340 bytes, a time above 5,000, a payload that is not VC-12's
 refused : (readAnswer [] ≡ 13) × (readAnswer (ascii "\n") ≡ 13) × (readAnswer (ascii "1\t1\n") ≡ 13) × (readAnswer (ascii "0\t1\t16\n") ≡ 4) × (readAnswer (ascii "65\t1\t16\n") ≡ 4)
     × (readAnswer (ascii "1\t1\t0\n") ≡ 4) × (readAnswer (ascii "1\t2341\t16\n") ≡ 4) × (readAnswer (ascii "2\t1\t16\twait-to-restore\t5000\t5001") ≡ 4)
     × (readAnswer (ascii "2\t1\t16\twait-to-restore\t5000") ≡ 13) × (readAnswer (ascii "64\t2340\t16") ≡ 0)
+    × (readAnswer (ascii "1\t135\t32\tkind\tVC12") ≡ 4) × (readAnswer (ascii "1\t136\t31\tkind\tVC12") ≡ 4) × (readAnswer (ascii "1\t136\t32\tkind\tVC12") ≡ 0)
 unfolding allOpen
-refused = (refl, refl, refl, refl, refl, refl, refl, refl, refl, refl)
+refused = (refl, refl, refl, refl, refl, refl, refl, refl, refl, refl, refl, refl, refl)

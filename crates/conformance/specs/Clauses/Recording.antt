@@ -65,10 +65,11 @@ first-lines :
     × (openingIn 50 true [] ≡ O.End)
     × (openingIn 50 false [] ≡ O.End)
     × (openingIn 0 false (ascii "000000003\t000000002\t000000032\n") ≡ O.Settings (settings 0 [] [] 3 2 32) 30)
+    × (openingIn 0 false (ascii "3\t136\t32\tkind\tVC12\thold-off\t1\t2\t3\n") ≡ O.Settings (settings 1 (1 ∷ 2 ∷ 3 ∷ []) [] 3 136 32) 34)
 unfolding allOpen
-first-lines = (refl, refl, refl, refl, refl, refl)
+first-lines = (refl, refl, refl, refl, refl, refl, refl)
 
--- no field, one and two; each number none; a pair left half
+-- no field, one and two; each number none; a pair left half, and kinds that are none
 no-first-lines :
     (openingIn 0 false (ascii "\n") ≡ O.Malformed)
     × (openingIn 0 false (ascii "3\n") ≡ O.Malformed)
@@ -77,10 +78,13 @@ no-first-lines :
     × (openingIn 0 false (ascii "3\tx\t32\n") ≡ O.Malformed)
     × (openingIn 0 false (ascii "3\t2\tx\n") ≡ O.Malformed)
     × (openingIn 0 false (ascii "1\t2\t32\tkind\n") ≡ O.Malformed)
+    × (openingIn 0 false (ascii "1\t136\t32\tkind\tvc12\n") ≡ O.Malformed)
+    × (openingIn 0 false (ascii "1\t136\t32\tkind\tVC1\n") ≡ O.Malformed)
+    × (openingIn 0 false (ascii "1\t136\t32\tkind\tVC12\tkind\tVC12\n") ≡ O.Malformed)
     × (openingIn 0 false (ascii "1\t2\t32\thold-off\n") ≡ O.Malformed)
     × (openingIn 0 false (ascii "1\t2\t32\twait-to-restore\n") ≡ O.Malformed)
 unfolding allOpen
-no-first-lines = (refl, refl, refl, refl, refl, refl, refl, refl, refl)
+no-first-lines = (refl, refl, refl, refl, refl, refl, refl, refl, refl, refl, refl, refl)
 
 -- The pairs in any order: one port with a kind, a hold-off of 4 and a wait-to-restore of 6
 abbrev K : List (List ℕ)

@@ -21,10 +21,10 @@ use Rattle.conformance.specs.Opened.{allOpen}
 
 -- two ports, P 1, W 16, behind line 4, with so many fetches left
 abbrev at : Phase → ℕ → Replay
-at phase left = record { phase = phase; line = 4; left = left; ports = 2; size = 1; window = 16 }
+at phase left = record { phase = phase; line = 4; left = left; kind = 0; ports = 2; size = 1; window = 16 }
 
 abbrev after : Phase → ℕ → ℕ → Replay
-after phase line left = record { phase = phase; line = line; left = left; ports = 2; size = 1; window = 16 }
+after phase line left = record { phase = phase; line = line; left = left; kind = 0; ports = 2; size = 1; window = 16 }
 
 -- used, written, and whether more text is wanted; 0 is the answer
 abbrev goes : Replay → ℕ → ℕ → Bool → Replayed
@@ -43,10 +43,10 @@ abbrev first : List ℕ → Bool → ℕ → ℕ → ℕ → Replayed
 first text last r store said = turnOf beginning text last (rows r) (nines store) [] said
 
 abbrev started : ℕ → Replayed
-started used = goes (record { phase = Reading; line = 1; left = 0; ports = 1; size = 1; window = 16 }) used 0 false
+started used = goes (record { phase = Reading; line = 1; left = 0; kind = 0; ports = 1; size = 1; window = 16 }) used 0 false
 
 abbrev ends : ℕ → Replayed
-ends written = goes (record { phase = Ended; line = 1; left = 0; ports = 0; size = 0; window = 0 }) 0 written false
+ends written = goes (record { phase = Ended; line = 1; left = 0; kind = 0; ports = 0; size = 0; window = 0 }) 0 written false
 
 a-first-line :
     (first (ascii "1\t1\t16\nx") false 321 32 1160 ≡ started 7)
@@ -58,7 +58,7 @@ a-first-line :
     × (first (ascii "x\n") false 321 32 1160 ≡ ends 17)
     × (first (ascii "1\t1\t16\nx") false 320 32 1160 ≡ tooLittle beginning)
     × (first (ascii "1\t1\t16\nx") false 321 32 1159 ≡ tooLittle beginning)
-    × (first (ascii "2\t3\t16\n") false 321 128 1160 ≡ goes (record { phase = Reading; line = 1; left = 0; ports = 2; size = 3; window = 16 }) 7 0 false)
+    × (first (ascii "2\t3\t16\n") false 321 128 1160 ≡ goes (record { phase = Reading; line = 1; left = 0; kind = 0; ports = 2; size = 3; window = 16 }) 7 0 false)
     × (first (ascii "2\t3\t16\n") false 321 127 1160 ≡ ends 16)
     × (first (ascii "1\t1\t16\twait-to-restore\t5001\n") false 321 32 1160 ≡ ends 16)
 unfolding allOpen
@@ -103,7 +103,7 @@ reads text last r store out said = turnOf (at Reading 0) text last (rows r) (nin
 
 -- the answer to a line that is none, of a replay with so many ports and such a P
 abbrev answered : ℕ → ℕ → ℕ → ℕ → ℕ
-answered ports size r store = turnOf (record { phase = Reading; line = 4; left = 0; ports = ports; size = size; window = 16 }) (ascii "x\n") false (rows r) (nines store) [] 1160 .answer
+answered ports size r store = turnOf (record { phase = Reading; line = 4; left = 0; kind = 0; ports = ports; size = size; window = 16 }) (ascii "x\n") false (rows r) (nines store) [] 1160 .answer
 
 a-line :
     (reads (ascii "1\tf0\t0\tAb\nx") false 11 64 32 1160 ≡ goes (after Fetching 5 16) 10 0 false)
@@ -154,16 +154,18 @@ skips :
 unfolding allOpen
 skips = (refl, refl, refl, refl, refl, refl, refl, refl)
 
--- lines are counted in 64 bits; a store of ports x W x (P + 1), an output of ports x 16 x P
+-- lines are counted in 64 bits; a store of ports x W x (P + 1), an output of ports x 16 x P, of VC-12 (request 2026-01) ports x 32 x P
 figures :
     (nextLine 18446744073709551615 ≡ 0)
     × (nextLine 41 ≡ 42)
     × (storeOf 3 4 20 ≡ 300)
-    × (outputOf 3 4 ≡ 192)
+    × (outputOf 0 3 4 ≡ 192)
+    × (outputOf 2 3 4 ≡ 192)
+    × (outputOf 1 3 136 ≡ 13056)
     × (stateText 0 ++ stateText 1 ++ stateText 2 ≡ ascii "IDLEFAILOK")
     × (changesText (512 ∷ 255 ∷ []) (512 ∷ 255 ∷ []) 2 ≡ [])
 unfolding allOpen
-figures = (refl, refl, refl, refl, refl, refl)
+figures = (refl, refl, refl, refl, refl, refl, refl, refl)
 
 abbrev member : ℕ → ℕ → Member
 member state number =
@@ -180,9 +182,30 @@ member state number =
       elapsed = 500;
     }
 
--- the state of each port with its number: port 0 is OK 5 (2 x 256 + 5), port 1 FAIL 7 (256 + 7), port 2 IDLE, which has 255
-states :
-    take 3 (statesIn (putMember (putMember (putMember (replicate 16 (replicate 16 0)) 0 (member 2 5)) 1 (member 1 7)) 2 (member 0 9)))
-    ≡ 517 ∷ 263 ∷ 255 ∷ []
+abbrev three : List (List ℕ)
+three = putMember (putMember (putMember (replicate 16 (replicate 16 0)) 0 (member 2 5)) 1 (member 1 7)) 2 (member 0 9)
+
+-- the state of each port with its number: port 0 is OK 5 (2 x 256 + 5), port 1 FAIL 7 (256 + 7), port 2 IDLE, which has 255, and of VC-12 63
+states : (take 3 (statesIn 0 three) ≡ 517 ∷ 263 ∷ 255 ∷ []) × (take 3 (statesIn 2 three) ≡ 517 ∷ 263 ∷ 255 ∷ []) × (take 3 (statesIn 1 three) ≡ 517 ∷ 263 ∷ 63 ∷ [])
 unfolding allOpen
-states = refl
+states = (refl, refl, refl)
+
+-- A recording of VC-12 (request 2026-01): P is 136 and W at least 32, so that one port takes a store of 4,384; behind its first line what is lent for one port is 6 rows and an output of 4,352
+abbrev vc12 : Phase → ℕ → ℕ → Replay
+vc12 phase line left = record { phase = phase; line = line; left = left; kind = 1; ports = 1; size = 136; window = 32 }
+
+abbrev vc12Reads : List ℕ → ℕ → Replayed
+vc12Reads text out = turnOf (vc12 Reading 4 0) text false (rows 6) (nines 4384) (nines out) 1160
+
+of-vc12 :
+    (first (ascii "1\t136\t32\tkind\tVC12\nx") false 321 4384 1160 ≡ goes (vc12 Reading 1 0) 19 0 false)
+    × (first (ascii "1\t136\t32\tkind\tVC12\nx") false 321 4383 1160 ≡ ends 16)
+    × (first (ascii "1\t135\t32\tkind\tVC12\nx") false 321 4384 1160 ≡ ends 16)
+    × (first (ascii "1\t137\t32\tkind\tVC12\nx") false 321 5000 1160 ≡ ends 16)
+    × (first (ascii "1\t136\t31\tkind\tVC12\nx") false 321 4384 1160 ≡ ends 16)
+    × (first (ascii "1\t136\t32\tkind\tVC-12\nx") false 321 4384 1160 ≡ ends 17)
+    × (vc12Reads (ascii "0\t02\t0\tAb\nx") 4352 ≡ goes (vc12 Reading 5 0) 10 17 false)
+    × (vc12Reads (ascii "0\t02\t0\tAb\nx") 4351 ≡ tooLittle (vc12 Reading 4 0))
+    × (vc12Reads (ascii "0\t02\t0\t" ++ (replicate 272 65 ++ ascii "\nx")) 4352 ≡ goes (vc12 Fetching 5 32) 280 0 false)
+unfolding allOpen
+of-vc12 = (refl, refl, refl, refl, refl, refl, refl, refl, refl)

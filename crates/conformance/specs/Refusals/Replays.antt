@@ -7,6 +7,7 @@ use lib.ListN.{length}
 use Rattle.ground.specs.Plain.{if_then_else_, _<?_, _≤?_}
 use Rattle.bytes.specs.Bytes.{indexOf}
 use Rattle.conformance.specs.Entries.{Call, Copes, Refusal, Unless, copes, done, stateful}
+use Rattle.packet.specs.Kinds.{frames}
 use Rattle.recording.specs.Opening.{Opening}
 use Rattle.recording.specs.Opening.{Opening as O}
 use Rattle.recording.specs.declared.record.Record.{Record}
@@ -26,7 +27,7 @@ openLent rows said = 1160 ≤? said && 321 ≤? rows
 -- then those of the group, its store and the output of an epoch
 abbrev groupLent : Replay → ℕ → ℕ → ℕ → ℕ → Bool
 groupLent r rows store out said =
-    1160 ≤? said && r .ports ≤? 64 && r .size ≤? 2340 && r .ports * 5 + 1 ≤? rows && r .ports * r .window * (r .size + 1) ≤? store && r .ports * 16 * r .size ≤? out
+    1160 ≤? said && r .ports ≤? 64 && r .size ≤? 2340 && r .ports * 5 + 1 ≤? rows && r .ports * r .window * (r .size + 1) ≤? store && r .ports * frames (r .kind) * r .size ≤? out
 
 abbrev lentRefusals : Phase → Replay → ℕ → ℕ → ℕ → ℕ → List Refusal
 lentRefusals Settings r rows store out said = Unless 9 (openLent rows said) ∷ []
@@ -76,15 +77,15 @@ skip-done : (r : Replay) (text : List ℕ) (last : Bool) → skipTurn r text las
 unfolding skipTurn
 skip-done r text last = either-done (indexOf LINE-END text <? length text) _ _ refl refl
 
-by-phase : (phase : Phase) (line left ports size window : ℕ) (text : List ℕ) (last : Bool) (rows : List (List ℕ)) (store out said : List ℕ)
-    → Copes (turn (record { phase = phase; line = line; left = left; ports = ports; size = size; window = window }, text, last, rows, store, out, said))
+by-phase : (phase : Phase) (line left kind ports size window : ℕ) (text : List ℕ) (last : Bool) (rows : List (List ℕ)) (store out said : List ℕ)
+    → Copes (turn (record { phase = phase; line = line; left = left; kind = kind; ports = ports; size = size; window = window }, text, last, rows, store, out, said))
 unfolding turnOf turnRows turnStore turnOut turnSaid openTurn openRows openSaid readTurn readRows readStore readSaid reportTurn reportRows reportOut reportSaid isLent
-by-phase Settings line left ports size window text last rows store out said = copes _ (λ b. rw b (open-done _ (length store) (openingIn 0 last text)), λ b. rw b (refl, refl, refl))
-by-phase Reading line left ports size window text last rows store out said = copes _ (λ b. rw b (read-done _ text (recordNow ports size last text)), λ b. rw b (refl, refl, refl))
-by-phase Fetching line left ports size window text last rows store out said =
+by-phase Settings line left kind ports size window text last rows store out said = copes _ (λ b. rw b (open-done _ (length store) (openingIn 0 last text)), λ b. rw b (refl, refl, refl))
+by-phase Reading line left kind ports size window text last rows store out said = copes _ (λ b. rw b (read-done _ text (recordNow ports size last text)), λ b. rw b (refl, refl, refl))
+by-phase Fetching line left kind ports size window text last rows store out said =
     copes _ (λ b. rw b (either-done (0 <? left) _ _ (fetched-done _ rows store out) (on-done _)), λ b. rw b (refl, refl, refl))
-by-phase Skipping line left ports size window text last rows store out said = done _ (skip-done _ text last)
-by-phase Ended line left ports size window text last rows store out said = done _ refl
+by-phase Skipping line left kind ports size window text last rows store out said = done _ (skip-done _ text last)
+by-phase Ended line left kind ports size window text last rows store out said = done _ refl
 
 pub turn-copes : (x : Replay × List ℕ × Bool × List (List ℕ) × List ℕ × List ℕ × List ℕ) → Copes (turn x)
-turn-copes (replay, text, last, rows, store, out, said) = by-phase (replay .phase) (replay .line) (replay .left) (replay .ports) (replay .size) (replay .window) text last rows store out said
+turn-copes (replay, text, last, rows, store, out, said) = by-phase (replay .phase) (replay .line) (replay .left) (replay .kind) (replay .ports) (replay .size) (replay .window) text last rows store out said

@@ -2,7 +2,7 @@
 -- automaton's v; those that stay pending are broken by it.
 use mathlib.Core.Path.{_≡_, refl, sym, ap, ap₂, _∙_}
 use mathlib.Core.Bool.{Bool, true, false, cond, not, _&&_, _||_}
-use mathlib.Core.List.{List, [], _∷_, _++_, append-assoc}
+use mathlib.Core.List.{List, [], _∷_, _++_, append-assoc, append-nil}
 use Prim.Native.Nat.{ℕ, zero, suc, _+_, _-_, _*_, _/_, _%_, _≤_, _<_}
 use native.Mathlib.Omega.{arith}
 use lib.Dec.{eqb, leb, ltb}
@@ -11,8 +11,8 @@ use lib.Seq.{set-getD}
 use borrow.Author.Tests.{eqb-true, leb-true, lt-ltb}
 use Rattle.ground.specs.Truth.{and-left, or-left, or-right}
 use Rattle.mending.specs.declared.follow.Follow.{Follow}
-use Rattle.mending.specs.Follow.{afresh, beginning, countBack, fed, fedBy, finished, following, going, lessPlace, restoredBack, restores, restoresFirst, restoresLast, restoresSecond, restoresThird, setBack}
-use Rattle.mending.specs.Following.{followed}
+use Rattle.mending.specs.Follow.{afresh, beginning, countBack, fed, fedBy, fedIf, finished, following, followingIf, going, lessPlace, restoredBack, restores, restoresFirst, restoresLast, restoresSecond, restoresThird, setBack}
+use Rattle.mending.specs.Following.{followed, followedIf}
 use Rattle.mending.specs.Laws.Counts.{Counts, among, back-at, followed-is, offsets, placed, settle, settle-in, settle-out}
 
 -- a port that has begun, k lines behind its first, n of them pending
@@ -438,3 +438,27 @@ following-is [] h = sym (followed-is [] h)
 following-is (c ∷ cs) h =
     run cs (h .1) 0 (lessPlace c 0) 0 0 (lessPlace c 0) 1 (c ∷ []) (omega arith) tt
     ∙ (ap (λ (n : ℕ). n ∷ placed 1 (settle (lessPlace c 0) (offsets 1 cs))) (own c 0 (h .0)) ∙ sym (followed-is (c ∷ cs) h))
+
+-- and where lines have no count none is set
+
+with-counts : (f : Follow) (counts cs : List ℕ) → followingIf true f counts cs ≡ following f counts cs
+with-counts f counts [] = refl
+with-counts f counts (c ∷ cs) = with-counts (fed f c) (restoredBack f (fed f c) counts ++ (c ∷ [])) cs
+
+finished-as : (f : Follow) (counts : List ℕ) → f .pending ≡ 0 → finished f counts ≡ counts
+unfolding finished restoresLast
+finished-as f counts e = rw e refl
+
+restored-as : (f g : Follow) (counts : List ℕ) → f .pending ≡ 0 → restoredBack f g counts ≡ counts
+unfolding restoredBack restoresFirst restoresSecond restoresThird
+restored-as f g counts e = rw e refl
+
+without-counts : (f : Follow) (counts cs : List ℕ) → f .pending ≡ 0 → followingIf false f counts cs ≡ counts ++ cs
+without-counts f counts [] e = finished-as f counts e ∙ sym (append-nil counts)
+without-counts f counts (c ∷ cs) e =
+    let g = fedIf false f c in
+    ap (λ (t : List ℕ). followingIf false g (t ++ (c ∷ [])) cs) (restored-as f g counts e) ∙ (without-counts g (counts ++ (c ∷ [])) cs refl ∙ append-assoc counts (c ∷ []) cs)
+
+pub following-if : (has : Bool) (cs : List ℕ) → Counts cs → followingIf has beginning [] cs ≡ followedIf has cs
+following-if true cs h = with-counts beginning [] cs ∙ following-is cs h
+following-if false cs h = without-counts beginning [] cs refl

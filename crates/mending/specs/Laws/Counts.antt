@@ -13,7 +13,7 @@ use borrow.Author.Tests.{eq-eqb, eqb-true}
 use Rattle.ground.specs.Truth.{le-or-lt, neither, or-left, or-right, same-test}
 use Rattle.mending.specs.Follow.{lessPlace}
 pub use Rattle.mending.specs.Following.{Counts}
-use Rattle.mending.specs.Following.{countDue, followed, followedFrom, goodAmong, isGood}
+use Rattle.mending.specs.Following.{countDue, followed, followedFrom, followedIf, goodAmong, isGood}
 
 -- counts less their places, the first of which is k, and back
 abbrev pub offsets : ℕ → List ℕ → List ℕ
@@ -254,3 +254,17 @@ pub followed-length : (cs : List ℕ) → length (followed cs) ≡ length cs
 unfolding followed
 followed-length [] = refl
 followed-length (c ∷ cs) = ap suc (from-length c 1 cs)
+
+-- the same where lines have no counts
+
+pub if-length : (has : Bool) (cs : List ℕ) → length (followedIf has cs) ≡ length cs
+if-length true cs = followed-length cs
+if-length false cs = refl
+
+pub if-counts : (has : Bool) (cs : List ℕ) → Counts cs → Counts (followedIf has cs)
+if-counts true cs h = followed-counts cs h
+if-counts false cs h = h
+
+pub if-twice : (has : Bool) (cs : List ℕ) → Counts cs → followedIf has (followedIf has cs) ≡ followedIf has cs
+if-twice true cs h = followed-twice cs h
+if-twice false cs h = refl

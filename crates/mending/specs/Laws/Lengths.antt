@@ -10,8 +10,8 @@ use lib.ListN.{getD, length, set, length-append, length-set}
 use borrow.Author.Tests.{eq-eqb, eqb-false, eqb-true, leb-true, ltb-false, ne-eqb}
 use Rattle.ground.specs.Truth.{and-left, cond-by}
 use Rattle.mending.specs.declared.follow.Follow.{Follow}
-use Rattle.mending.specs.Following.{followed}
-use Rattle.mending.specs.Follow.{afresh, countBack, fed, going, lessPlace, restores, restoresFirst, restoresLast, restoresSecond, restoresThird}
+use Rattle.mending.specs.Following.{followedIf}
+use Rattle.mending.specs.Follow.{afresh, countBack, fed, fedIf, going, lessPlace, restores, restoresFirst, restoresLast, restoresSecond, restoresThird}
 use Rattle.mending.specs.Laws.Swept.{Good, enough, fed-small, framesBy, framesIn, good-by, in-order, inOrder, judged-is, left, leftIn, left-behind, newsBy, newsFrom, onto, seenBy, seenFrom}
 use Rattle.mending.specs.Laws.Sweeps.{Count, countWith, countStart, droppedLength, keptBy, keptLength, lengthBy, lengthEnd, notesLength, restoredLength, restoredLengths, setIf}
 use Rattle.mending.specs.Laws.Restored.{altered-here, altered-old, altered-suc, altered-zero, endedNews, ended-length, length-setIf, restoredNews}
@@ -150,12 +150,12 @@ sum-setIf false p es ns b c key k e a u = let w = restored-false key in omega ar
 
 -- Lines that are pending have their own counts.
 
-abbrev Untouched : List Seen → List ℕ → Type 0
-Untouched es ns = (q b : ℕ) → b < followIn q es .pending → getD ns (indexBack q es b) 0 ≡ back oldKey q es b
+abbrev Untouched : Bool → List Seen → List ℕ → Type 0
+Untouched has es ns = (q b : ℕ) → b < followIn has q es .pending → getD ns (indexBack q es b) 0 ≡ back oldKey q es b
 
-fed-pending : (f : Follow) (c : ℕ) → fed f c .pending ≤ f .pending + 1
+on-pending : (f : Follow) (c : ℕ) → fed f c .pending ≤ f .pending + 1
 unfolding fed
-fed-pending f c =
+on-pending f c =
     let o = lessPlace c (f .place) in
     cond-by (λ (g : Follow). g .pending ≤ f .pending + 1) (f .begun)
     (cond (eqb o (f .v)) (going f (f .v) 0 o) (cond (ltb (f .pending) 3) (going f (f .v) (f .pending + 1) o) (going f (f .first) (afresh f o) o)))
@@ -167,12 +167,16 @@ fed-pending f c =
     (λ l. let m = ltb-false (f .pending) 3 l in let a = afresh-most f o in omega arith)))
     (λ b. omega arith)
 
-module _ (p : ℕ) (l : Line) (n c : ℕ) (es : List Seen) (ns : List ℕ) (k : length ns ≡ length es) (u : Untouched es ns) where
+fed-pending : (has : Bool) (f : Follow) (c : ℕ) → fedIf has f c .pending ≤ f .pending + 1
+fed-pending true f c = on-pending f c
+fed-pending false f c = omega arith
+
+module _ (has : Bool) (p : ℕ) (l : Line) (n c : ℕ) (es : List Seen) (ns : List ℕ) (k : length ns ≡ length es) (u : Untouched has es ns) where
   abbrev f : Follow
-  f = followIn p es
+  f = followIn has p es
 
   abbrev g : Follow
-  g = fed f c
+  g = fedIf has f c
 
   abbrev ns₁ : List ℕ
   ns₁ = setIf (restoresFirst f g) (indexBack p es 2) (countBack f (g .v) 3) ns
@@ -187,7 +191,7 @@ module _ (p : ℕ) (l : Line) (n c : ℕ) (es : List Seen) (ns : List ℕ) (k : 
   k₂ = length-setIf (restoresSecond f g) (indexBack p es 1) (countBack f (g .v) 2) ns₁ ∙ k₁
 
   small : g .v < 16
-  small = fed-small p l n c es
+  small = fed-small has p l n c es
 
   third-said : restoresThird f g ≡ true → (1 ≤ f .pending) × (g .pending ≤ 1) × (eqb (f .third) (g .v) ≡ false)
   unfolding restoresThird
@@ -205,7 +209,7 @@ module _ (p : ℕ) (l : Line) (n c : ℕ) (es : List Seen) (ns : List ℕ) (k : 
   unfolding restoredLengths
   sum-restored =
       let key = keyed numberKey p es in
-      let kn = known p es in
+      let kn = known has p es in
       let first = sum-setIf (restoresFirst f g) p es ns 2 (countBack f (g .v) 3) (keysIn numberKey p es .first) k (key .first-is) (altered-first p es f g kn small)
       (λ (t : restoresFirst f g ≡ true). let s = first-said t .0 in u p 2 (omega arith)) in
       let second = sum-setIf (restoresSecond f g) p es ns₁ 1 (countBack f (g .v) 2) (keysIn numberKey p es .second) k₁ (key .second-is) (altered-second p es f g kn small)
@@ -220,13 +224,13 @@ module _ (p : ℕ) (l : Line) (n c : ℕ) (es : List Seen) (ns : List ℕ) (k : 
   -- of the port itself, a line that stays pending
   own-kept : (b : ℕ) → suc b < g .pending → getD (restoredNews p f g es ns) (indexBack p es b) 0 ≡ back oldKey p es b
   own-kept b h =
-      let m = fed-pending f c in
+      let m = fed-pending has f c in
       same-setIf (restoresThird f g) p es ns₂ b 0 (countBack f (g .v) 1) k₂ (λ (t : restoresThird f g ≡ true). let s = third-said t .1 in omega arith)
       ∙ (same-setIf (restoresSecond f g) p es ns₁ b 1 (countBack f (g .v) 2) k₁ (λ (t : restoresSecond f g ≡ true). let s = second-said t .1 in omega arith)
       ∙ (same-setIf (restoresFirst f g) p es ns b 2 (countBack f (g .v) 3) k (λ (t : restoresFirst f g ≡ true). let s = first-said t .1 in omega arith)
       ∙ u p b (omega arith)))
 
-  other-kept : (q b : ℕ) → eqb p q ≡ false → b < followIn q es .pending → getD (restoredNews p f g es ns) (indexBack q es b) 0 ≡ back oldKey q es b
+  other-kept : (q b : ℕ) → eqb p q ≡ false → b < followIn has q es .pending → getD (restoredNews p f g es ns) (indexBack q es b) 0 ≡ back oldKey q es b
   other-kept q b z h =
       other-setIf (restoresThird f g) q p es ns₂ b 0 (countBack f (g .v) 1) k₂ z
       ∙ (other-setIf (restoresSecond f g) q p es ns₁ b 1 (countBack f (g .v) 2) k₁ z ∙ (other-setIf (restoresFirst f g) q p es ns b 2 (countBack f (g .v) 3) k z ∙ u q b h))
@@ -234,18 +238,18 @@ module _ (p : ℕ) (l : Line) (n c : ℕ) (es : List Seen) (ns : List ℕ) (k : 
   abbrev e : Seen
   e = record { port = p; line = l; old = c; number = n }
 
-  untouched-frame : Untouched (e ∷ es) (c ∷ restoredNews p f g es ns)
+  untouched-frame : Untouched has (e ∷ es) (c ∷ restoredNews p f g es ns)
   untouched-frame q b h = go (eqb p q) refl b h
     where
-      go : (t : Bool) → eqb p q ≡ t → (b : ℕ) → b < followIn q (e ∷ es) .pending → getD (c ∷ restoredNews p f g es ns) (indexBack q (e ∷ es) b) 0 ≡ back oldKey q (e ∷ es) b
+      go : (t : Bool) → eqb p q ≡ t → (b : ℕ) → b < followIn has q (e ∷ es) .pending → getD (c ∷ restoredNews p f g es ns) (indexBack q (e ∷ es) b) 0 ≡ back oldKey q (e ∷ es) b
       go true t zero h = rw t refl
       go true t (suc b) h = rw t (own-kept b (rw t at h))
       go false t b h = rw (index-miss e es q b t, back-miss oldKey e es q b t) (other-kept q b t (rw t at h))
 
 -- What the lines bring.
 
-abbrev countSeen : ℕ → List Seen → Count
-countSeen n es = record { follows = λ p. followIn p es; keys = λ p. keysIn numberKey p es; number = n }
+abbrev countSeen : Bool → ℕ → List Seen → Count
+countSeen has n es = record { follows = λ p. followIn has p es; keys = λ p. keysIn numberKey p es; number = n }
 
 abbrev droppedBy : ℕ → Line → Record → ℕ
 droppedBy n l (Frame p h4 flag place next) = 0
@@ -254,50 +258,50 @@ droppedBy n l Long = droppedLength n (length (l .bytes))
 droppedBy n l Unfinished = droppedLength n (length (l .bytes))
 droppedBy n l End = droppedLength n (length (l .bytes))
 
-untouched-by : (size n : ℕ) (es : List Seen) (ns : List ℕ) (l : Line) (r : Record) → Good size es ns → Untouched es ns → Untouched (seenBy n es l r) (newsBy es ns r)
-untouched-by size n es ns l (Frame p h4 flag place next) g u = untouched-frame p l n (h4 % 16) es ns (g .long) u
-untouched-by size n es ns l (Malformed next) g u = u
-untouched-by size n es ns l Long g u = u
-untouched-by size n es ns l Unfinished g u = u
-untouched-by size n es ns l End g u = u
+untouched-by : (has : Bool) (size n : ℕ) (es : List Seen) (ns : List ℕ) (l : Line) (r : Record) → Good size es ns → Untouched has es ns → Untouched has (seenBy n es l r) (newsBy has es ns r)
+untouched-by has size n es ns l (Frame p h4 flag place next) g u = untouched-frame has p l n (h4 % 16) es ns (g .long) u
+untouched-by has size n es ns l (Malformed next) g u = u
+untouched-by has size n es ns l Long g u = u
+untouched-by has size n es ns l Unfinished g u = u
+untouched-by has size n es ns l End g u = u
 
-count-by : (n : ℕ) (es : List Seen) (l : Line) (r : Record) → countWith (countSeen n es) r ≡ countSeen (suc n) (seenBy n es l r)
-count-by n es l (Frame p h4 flag place next) = refl
-count-by n es l (Malformed next) = refl
-count-by n es l Long = refl
-count-by n es l Unfinished = refl
-count-by n es l End = refl
+count-by : (has : Bool) (n : ℕ) (es : List Seen) (l : Line) (r : Record) → countWith has (countSeen has n es) r ≡ countSeen has (suc n) (seenBy n es l r)
+count-by has n es l (Frame p h4 flag place next) = refl
+count-by has n es l (Malformed next) = refl
+count-by has n es l Long = refl
+count-by has n es l Unfinished = refl
+count-by has n es l End = refl
 
-sum-by : (size n : ℕ) (es : List Seen) (ns : List ℕ) (l : Line) (r : Record) → Good size es ns → Untouched es ns
-    → lengthBy (countSeen n es) l r + restoredSum es ns ≡ restoredSum (seenBy n es l r) (newsBy es ns r) + droppedBy n l r
-sum-by size n es ns l (Frame p h4 flag place next) g u =
-    let a = sum-restored p l n (h4 % 16) es ns (g .long) u in
+sum-by : (has : Bool) (size n : ℕ) (es : List Seen) (ns : List ℕ) (l : Line) (r : Record) → Good size es ns → Untouched has es ns
+    → lengthBy has (countSeen has n es) l r + restoredSum es ns ≡ restoredSum (seenBy n es l r) (newsBy has es ns r) + droppedBy n l r
+sum-by has size n es ns l (Frame p h4 flag place next) g u =
+    let a = sum-restored has p l n (h4 % 16) es ns (g .long) u in
     let w = restored-false n in
     rw (eq-eqb (h4 % 16) (h4 % 16) refl) (omega arith)
-sum-by size n es ns l (Malformed next) g u = omega arith
-sum-by size n es ns l Long g u = omega arith
-sum-by size n es ns l Unfinished g u = omega arith
-sum-by size n es ns l End g u = omega arith
+sum-by has size n es ns l (Malformed next) g u = omega arith
+sum-by has size n es ns l Long g u = omega arith
+sum-by has size n es ns l Unfinished g u = omega arith
+sum-by has size n es ns l End g u = omega arith
 
 -- and what is restored at the end
 
-ended-apart : (m q : ℕ) (es : List Seen) (ns : List ℕ) (b : ℕ) → length ns ≡ length es → m ≤ q → getD (endedNews m es ns) (indexBack q es b) 0 ≡ getD ns (indexBack q es b) 0
-ended-apart zero q es ns b k h = refl
-ended-apart (suc m) q es ns b k h =
-    other-setIf (restoresLast (followIn m es)) q m es (endedNews m es ns) b 1 (countBack (followIn m es) (followIn m es .first) 2) (ended-length m es ns ∙ k) (ne-eqb m q (λ (e : m ≡ q). omega arith))
-    ∙ ended-apart m q es ns b k (omega arith)
+ended-apart : (has : Bool) (m q : ℕ) (es : List Seen) (ns : List ℕ) (b : ℕ) → length ns ≡ length es → m ≤ q → getD (endedNews has m es ns) (indexBack q es b) 0 ≡ getD ns (indexBack q es b) 0
+ended-apart has zero q es ns b k h = refl
+ended-apart has (suc m) q es ns b k h =
+    other-setIf (restoresLast (followIn has m es)) q m es (endedNews has m es ns) b 1 (countBack (followIn has m es) (followIn has m es .first) 2) (ended-length has m es ns ∙ k) (ne-eqb m q (λ (e : m ≡ q). omega arith))
+    ∙ ended-apart has m q es ns b k (omega arith)
 
 last-pending : (f : Follow) → restoresLast f ≡ true → 3 ≤ f .pending
 unfolding restoresLast
 last-pending f t = leb-true 3 (f .pending) (and-left (leb 3 (f .pending)) (eqb (f .third) (f .first)) (and-left (leb 3 (f .pending) && eqb (f .third) (f .first)) (not (eqb (f .second) (f .first))) t))
 
-sum-ended : (m n : ℕ) (es : List Seen) (ns : List ℕ) → length ns ≡ length es → Untouched es ns → restoredSum es (endedNews m es ns) ≡ restoredSum es ns + lengthEnd m (countSeen n es)
-sum-ended zero n es ns k u = omega arith
-sum-ended (suc m) n es ns k u =
-    let a = sum-ended m n es ns k u in
-    let b = sum-setIf (restoresLast (followIn m es)) m es (endedNews m es ns) 1 (countBack (followIn m es) (followIn m es .first) 2) (keysIn numberKey m es .second) (ended-length m es ns ∙ k)
-    (keyed numberKey m es .second-is) (altered-last m es (followIn m es) (known m es))
-    (λ (t : restoresLast (followIn m es) ≡ true). let s = last-pending (followIn m es) t in ended-apart m m es ns 1 k (omega arith) ∙ u m 1 (omega arith)) in
+sum-ended : (has : Bool) (m n : ℕ) (es : List Seen) (ns : List ℕ) → length ns ≡ length es → Untouched has es ns → restoredSum es (endedNews has m es ns) ≡ restoredSum es ns + lengthEnd m (countSeen has n es)
+sum-ended has zero n es ns k u = omega arith
+sum-ended has (suc m) n es ns k u =
+    let a = sum-ended has m n es ns k u in
+    let b = sum-setIf (restoresLast (followIn has m es)) m es (endedNews has m es ns) 1 (countBack (followIn has m es) (followIn has m es .first) 2) (keysIn numberKey m es .second) (ended-length has m es ns ∙ k)
+    (keyed numberKey m es .second-is) (altered-last m es (followIn has m es) (known has m es))
+    (λ (t : restoresLast (followIn has m es) ≡ true). let s = last-pending (followIn has m es) t in ended-apart has m m es ns 1 k (omega arith) ∙ u m 1 (omega arith)) in
     omega arith
 
 last-sum : (x s r : ℕ) → r ≡ s + x → x + s ≡ r + 0
@@ -314,14 +318,14 @@ module _ (ports size : ℕ) where
   droppedSum n [] = 0
   droppedSum n (l ∷ ls) = droppedBy n l (recordOf ports size l) + droppedSum (suc n) ls
 
-  sum-from : (n : ℕ) (es : List Seen) (ns : List ℕ) (ls : List Line) → ports ≤ 64 → Good size es ns → Untouched es ns
-      → notesLength ports size (countSeen n es) ls + restoredSum es ns ≡ restoredSum (seenFrom ports size n es ls) (endedNews 64 (seenFrom ports size n es ls) (newsFrom ports size n es ns ls)) + droppedSum n ls
-  sum-from n es ns [] few g u = last-sum (lengthEnd 64 (countSeen n es)) (restoredSum es ns) (restoredSum es (endedNews 64 es ns)) (sum-ended 64 n es ns (g .long) u)
-  sum-from n es ns (l ∷ ls) few g u =
+  sum-from : (has : Bool) (n : ℕ) (es : List Seen) (ns : List ℕ) (ls : List Line) → ports ≤ 64 → Good size es ns → Untouched has es ns
+      → notesLength has ports size (countSeen has n es) ls + restoredSum es ns ≡ restoredSum (seenFrom ports size n es ls) (endedNews has 64 (seenFrom ports size n es ls) (newsFrom has ports size n es ns ls)) + droppedSum n ls
+  sum-from has n es ns [] few g u = last-sum (lengthEnd 64 (countSeen has n es)) (restoredSum es ns) (restoredSum es (endedNews has 64 es ns)) (sum-ended has 64 n es ns (g .long) u)
+  sum-from has n es ns (l ∷ ls) few g u =
       let r = recordOf ports size l in
-      let a = sum-by size n es ns l r g u in
-      let b = sum-from (suc n) (seenBy n es l r) (newsBy es ns r) ls few (good-by ports size n es ns l r few refl g) (untouched-by size n es ns l r g u) in
-      rw (count-by n es l r) (adding (lengthBy (countSeen n es) l r) (restoredSum es ns) (restoredSum (seenBy n es l r) (newsBy es ns r)) (droppedBy n l r) _ _ _ a b)
+      let a = sum-by has size n es ns l r g u in
+      let b = sum-from has (suc n) (seenBy n es l r) (newsBy has es ns r) ls few (good-by has ports size n es ns l r few refl g) (untouched-by has size n es ns l r g u) in
+      rw (count-by has n es l r) (adding (lengthBy has (countSeen has n es) l r) (restoredSum es ns) (restoredSum (seenBy n es l r) (newsBy has es ns r)) (droppedBy n l r) _ _ _ a b)
 
 -- The notes of the definitions.
 
@@ -381,15 +385,15 @@ module _ (ports size : ℕ) where
 
 -- All lines.
 
-pub notes-length-is : (ports size : ℕ) (ls : List Line) → ports ≤ 64 → notesLength ports size countStart ls ≡ length (notesFrom size 2 (judged ports size ls))
-notes-length-is ports size ls few =
-    let a = sum-from ports size 2 [] [] ls few (record { long = refl; sound = tt }) (λ q b h. absurd (not-suc-le-zero h)) in
-    let b = left-notes ports size 2 [] [] ls (inOrder ports size ls few) (enough ports size ls few) in
-    let c : restoredSum (seenFrom ports size 2 [] ls) (onto (inOrder ports size ls few) []) ≡ restoredSum (seenFrom ports size 2 [] ls) (endedNews 64 (seenFrom ports size 2 [] ls) (newsFrom ports size 2 [] [] ls)) =
-    ap (restoredSum (seenFrom ports size 2 [] ls)) (in-order ports size ls few) in
-    let d : length (notesFrom size 2 (judgedBy ports size (left ports size ls (inOrder ports size ls few)) ls)) ≡ length (notesFrom size 2 (judged ports size ls)) =
-    ap (λ (js : List Judged). length (notesFrom size 2 js)) (judged-is ports size ls few) in
-    whole-sum (notesLength ports size countStart ls) _ (restoredSum (seenFrom ports size 2 [] ls) (onto (inOrder ports size ls few) [])) (droppedSum ports size 2 ls) _ _ a b c d
+pub notes-length-is : (has : Bool) (ports size : ℕ) (ls : List Line) → ports ≤ 64 → notesLength has ports size countStart ls ≡ length (notesFrom size 2 (judged has ports size ls))
+notes-length-is has ports size ls few =
+    let a = sum-from ports size has 2 [] [] ls few (record { long = refl; sound = tt }) (λ q b h. absurd (not-suc-le-zero h)) in
+    let b = left-notes ports size 2 [] [] ls (inOrder has ports size ls few) (enough has ports size ls few) in
+    let c : restoredSum (seenFrom ports size 2 [] ls) (onto (inOrder has ports size ls few) []) ≡ restoredSum (seenFrom ports size 2 [] ls) (endedNews has 64 (seenFrom ports size 2 [] ls) (newsFrom has ports size 2 [] [] ls)) =
+    ap (restoredSum (seenFrom ports size 2 [] ls)) (in-order has ports size ls few) in
+    let d : length (notesFrom size 2 (judgedBy ports size (left ports size ls (inOrder has ports size ls few)) ls)) ≡ length (notesFrom size 2 (judged has ports size ls)) =
+    ap (λ (js : List Judged). length (notesFrom size 2 js)) (judged-is has ports size ls few) in
+    whole-sum (notesLength has ports size countStart ls) _ (restoredSum (seenFrom ports size 2 [] ls) (onto (inOrder has ports size ls few) [])) (droppedSum ports size 2 ls) _ _ a b c d
 
 -- What comes out is as long as the lines that are kept.
 
@@ -417,6 +421,6 @@ kept-from : (ports size : ℕ) (lf : ℕ → List ℕ) (ls : List Line) → leng
 kept-from ports size lf [] = refl
 kept-from ports size lf (l ∷ ls) = kept-by ports size l (recordOf ports size l) lf ls (kept-from ports size (leftBy lf (recordOf ports size l)) ls)
 
-pub kept-length-is : (ports size : ℕ) (ls : List Line) → length (textOf (mendedLines size (judged ports size ls))) ≡ keptLength ports size ls
+pub kept-length-is : (has : Bool) (ports size : ℕ) (ls : List Line) → length (textOf (mendedLines size (judged has ports size ls))) ≡ keptLength ports size ls
 unfolding judged
-kept-length-is ports size ls = kept-from ports size (λ q. followed (countsOf ports size q ls)) ls
+kept-length-is has ports size ls = kept-from ports size (λ q. followedIf has (countsOf ports size q ls)) ls

@@ -12,8 +12,8 @@ use borrow.Author.Tests.{eq-eqb, eqb-false, eqb-true}
 use Rattle.ground.specs.Finite.{same-bytes, sameBytes}
 use Rattle.ground.specs.Truth.{fails}
 use Rattle.mending.specs.Beside.{alteredNote, h4In}
-use Rattle.mending.specs.Following.{followed}
-use Rattle.mending.specs.Laws.Counts.{Counts, followed-counts, followed-length, followed-twice}
+use Rattle.mending.specs.Following.{followedIf}
+use Rattle.mending.specs.Laws.Counts.{Counts, if-counts, if-length, if-twice}
 use Rattle.mending.specs.Laws.Digits.{capital-digit, digit-count, digit-no-end, digit-some, digit-within, with-count}
 use Rattle.mending.specs.Laws.Texts.{Ended, free-set}
 use Rattle.mending.specs.Lines.{Fate, Line, capital, countBy, countsOf, digitIn, digitPlace, fateBy, fateTo, judged, judgedBy, leftBy, mendedLines, outBy, recordOf, withDigit}
@@ -312,18 +312,18 @@ module _ (ports size : ℕ) where
   counts-are port [] = tt
   counts-are port (l ∷ ls) = counts-by port (recordOf ports size l) (countsOf ports size port ls) (counts-are port ls)
 
-  abbrev pub followedLeft : List Line → ℕ → List ℕ
-  followedLeft ls port = followed (countsOf ports size port ls)
+  abbrev pub followedLeft : Bool → List Line → ℕ → List ℕ
+  followedLeft has ls port = followedIf has (countsOf ports size port ls)
 
-  pub fits-followed : (ls : List Line) → Fits (followedLeft ls) ls
-  fits-followed ls port = (followed-length (countsOf ports size port ls), followed-counts (countsOf ports size port ls) (counts-are port ls))
+  pub fits-followed : (has : Bool) (ls : List Line) → Fits (followedLeft has ls) ls
+  fits-followed has ls port = (if-length has (countsOf ports size port ls), if-counts has (countsOf ports size port ls) (counts-are port ls))
 
   -- 'Mending a mended recording changes nothing', of the lines behind the first
-  pub lines-again : (ls : List Line) (n : ℕ) → (outOf (followedLeft (outOf (followedLeft ls) ls)) (outOf (followedLeft ls) ls) ≡ outOf (followedLeft ls) ls)
-      × (notesFrom size n (judgedBy ports size (followedLeft (outOf (followedLeft ls) ls)) (outOf (followedLeft ls) ls)) ≡ [])
-  lines-again ls n =
-      own-out (outOf (followedLeft ls) ls) (followedLeft (outOf (followedLeft ls) ls)) (frames-out ls (followedLeft ls) (fits-followed ls))
+  pub lines-again : (has : Bool) (ls : List Line) (n : ℕ) → (outOf (followedLeft has (outOf (followedLeft has ls) ls)) (outOf (followedLeft has ls) ls) ≡ outOf (followedLeft has ls) ls)
+      × (notesFrom size n (judgedBy ports size (followedLeft has (outOf (followedLeft has ls) ls)) (outOf (followedLeft has ls) ls)) ≡ [])
+  lines-again has ls n =
+      own-out (outOf (followedLeft has ls) ls) (followedLeft has (outOf (followedLeft has ls) ls)) (frames-out ls (followedLeft has ls) (fits-followed has ls))
       (λ port.
-      let c : countsOf ports size port (outOf (followedLeft ls) ls) ≡ followed (countsOf ports size port ls) = counts-out ls (followedLeft ls) (fits-followed ls) port in
-      ap followed c ∙ (followed-twice (countsOf ports size port ls) (counts-are port ls) ∙ sym c))
+      let c : countsOf ports size port (outOf (followedLeft has ls) ls) ≡ followedIf has (countsOf ports size port ls) = counts-out ls (followedLeft has ls) (fits-followed has ls) port in
+      ap (followedIf has) c ∙ (if-twice has (countsOf ports size port ls) (counts-are port ls) ∙ sym c))
       n

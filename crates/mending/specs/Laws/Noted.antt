@@ -8,8 +8,8 @@ use lib.Dec.{eqb}
 use lib.ListN.{List·getD-append, drop, getD, length, set, length-append, length-set}
 use lib.Seq.{getD-append-add, getD-set-same}
 use borrow.Author.Tests.{eq-eqb, eqb-false, ne-eqb}
-use Rattle.mending.specs.Following.{followed}
-use Rattle.mending.specs.Laws.Counts.{Counts, followed-counts}
+use Rattle.mending.specs.Following.{followedIf}
+use Rattle.mending.specs.Laws.Counts.{Counts, if-counts}
 use Rattle.mending.specs.Laws.Digits.{capital-digit, digit-count, digit-within}
 use Rattle.mending.specs.Laws.Swept.{counts-small}
 use Rattle.mending.specs.Laws.Sweeps.{noteSwept, noteFrame, notesSwept, toSwept}
@@ -116,9 +116,9 @@ unfolding Rest
 all-beside ports size mended [] n pre lf c m = refl
 all-beside ports size mended (l ∷ ls) n pre lf c m = line-beside ports size mended l ls (all-beside ports size mended ls) n pre lf c (recordOf ports size l) refl m
 
-pub noted-is : (ports size : ℕ) (first : List ℕ) (ls : List Line)
-    → notesSwept ports size (first ++ textOf (mendedLines size (judged ports size ls))) 2 (length first) ls ≡ notesFrom size 2 (judged ports size ls)
+pub noted-is : (has : Bool) (ports size : ℕ) (first : List ℕ) (ls : List Line)
+    → notesSwept ports size (first ++ textOf (mendedLines size (judged has ports size ls))) 2 (length first) ls ≡ notesFrom size 2 (judged has ports size ls)
 unfolding judged Rest
-noted-is ports size first ls =
-    all-beside ports size (first ++ textOf (mendedLines size (judgedBy ports size (λ q. followed (countsOf ports size q ls)) ls))) ls 2 first (λ q. followed (countsOf ports size q ls))
-    (λ q. followed-counts (countsOf ports size q ls) (counts-small ports size q ls)) refl
+noted-is has ports size first ls =
+    all-beside ports size (first ++ textOf (mendedLines size (judgedBy ports size (λ q. followedIf has (countsOf ports size q ls)) ls))) ls 2 first (λ q. followedIf has (countsOf ports size q ls))
+    (λ q. if-counts has (countsOf ports size q ls) (counts-small ports size q ls)) refl

@@ -6,6 +6,7 @@ use mathlib.Core.Logic.{_⊎_, inl, inr}
 use Prim.Native.Nat.{ℕ, _<_}
 use native.Mathlib.Omega.{arith}
 use lib.ListN.{length}
+use Rattle.mending.specs.Following.{hasCount}
 use Rattle.mending.specs.Laws.Lines.{ended-out, fits-followed, followedLeft, outOf}
 use Rattle.mending.specs.Laws.Texts.{Ended, lines-text, with-ended}
 use Rattle.mending.specs.Lines.{Line, judged, judgedBy, lineText, linesWith, textOf}
@@ -42,14 +43,17 @@ module _ (t : List ℕ) (o : Opened t) where
   abbrev pub sizeIn : ℕ
   sizeIn = o .settings .size
 
+  abbrev pub countedIn : Bool
+  countedIn = hasCount (o .settings .kind)
+
   abbrev pub mendedRest : List Line
-  mendedRest = outOf portsIn sizeIn (followedLeft portsIn sizeIn (o .rest)) (o .rest)
+  mendedRest = outOf portsIn sizeIn (followedLeft portsIn sizeIn countedIn (o .rest)) (o .rest)
 
   pub mended-is : mendedOf t ≡ textOf (o .first ∷ mendedRest)
   unfolding mendedOf judged
   mended-is = ap mendedIn (o .lines) ∙ ap (λ (x : Opening). lineText (o .first) ++ mendedBy x (o .rest)) (o .opening)
 
-  pub notes-are : notesOf t ≡ notesFrom sizeIn 2 (judgedBy portsIn sizeIn (followedLeft portsIn sizeIn (o .rest)) (o .rest))
+  pub notes-are : notesOf t ≡ notesFrom sizeIn 2 (judgedBy portsIn sizeIn (followedLeft portsIn sizeIn countedIn (o .rest)) (o .rest))
   unfolding notesOf judged
   notes-are = ap notesIn (o .lines) ∙ ap (λ (x : Opening). notesBy x (o .rest)) (o .opening)
 
@@ -58,12 +62,12 @@ module _ (t : List ℕ) (o : Opened t) where
 
   mended-ended : Ended (o .first ∷ mendedRest)
   mended-ended =
-      ((lines-ended .0 .0, go (lines-ended .0 .1)), ended-out portsIn sizeIn (o .rest) (followedLeft portsIn sizeIn (o .rest)) (fits-followed portsIn sizeIn (o .rest)) (lines-ended .1))
+      ((lines-ended .0 .0, go (lines-ended .0 .1)), ended-out portsIn sizeIn (o .rest) (followedLeft portsIn sizeIn countedIn (o .rest)) (fits-followed portsIn sizeIn countedIn (o .rest)) (lines-ended .1))
     where
       go : (o .first .end ≡ LINE-END ∷ []) ⊎ ((o .first .end ≡ []) × (0 < length (o .first .bytes)) × (o .rest ≡ []))
           → (o .first .end ≡ LINE-END ∷ []) ⊎ ((o .first .end ≡ []) × (0 < length (o .first .bytes)) × (mendedRest ≡ []))
       go (inl x) = inl x
-      go (inr x) = inr (x .0, x .1, ap (λ (ls : List Line). outOf portsIn sizeIn (followedLeft portsIn sizeIn (o .rest)) ls) (x .2))
+      go (inr x) = inr (x .0, x .1, ap (λ (ls : List Line). outOf portsIn sizeIn (followedLeft portsIn sizeIn countedIn (o .rest)) ls) (x .2))
 
   -- the lines of the mended recording
   pub mended-lines : linesWith (mendedOf t) ≡ o .first ∷ mendedRest

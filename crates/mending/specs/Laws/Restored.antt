@@ -232,9 +232,9 @@ pub length-setIf : (t : Bool) (i c : ℕ) (ns : List ℕ) → length (setIf t i 
 length-setIf true i c ns = length-set ns i c
 length-setIf false i c ns = refl
 
-module _ (p : ℕ) (es : List Seen) (ns : List ℕ) (h : length ns ≡ length es) (g : Follow) (small : g .v < 16) where
+module _ (has : Bool) (p : ℕ) (es : List Seen) (ns : List ℕ) (h : length ns ≡ length es) (g : Follow) (small : g .v < 16) where
   abbrev f : Follow
-  f = followIn p es
+  f = followIn has p es
 
   abbrev ns₁ : List ℕ
   ns₁ = setIf (restoresFirst f g) (indexBack p es 2) (countBack f (g .v) 3) ns
@@ -256,16 +256,16 @@ module _ (p : ℕ) (es : List Seen) (ns : List ℕ) (h : length ns ≡ length es
   news-text size base s =
       let k = keyed (placeKey size base) p es in
       let key = keysIn (placeKey size base) p es in
-      let first = text-setIf size base (restoresFirst f g) p es ns 2 (countBack f (g .v) 3) (key .first) h s (k .first-is) (altered-first p es f g (known p es) small) in
-      let second = text-setIf size base (restoresSecond f g) p es ns₁ 1 (countBack f (g .v) 2) (key .second) h₁ s (k .second-is) (altered-second p es f g (known p es) small) in
-      let third = text-setIf size base (restoresThird f g) p es ns₂ 0 (countBack f (g .v) 1) (key .third) h₂ s (k .third-is) (altered-third p es f g (known p es) small) in
+      let first = text-setIf size base (restoresFirst f g) p es ns 2 (countBack f (g .v) 3) (key .first) h s (k .first-is) (altered-first p es f g (known has p es) small) in
+      let second = text-setIf size base (restoresSecond f g) p es ns₁ 1 (countBack f (g .v) 2) (key .second) h₁ s (k .second-is) (altered-second p es f g (known has p es) small) in
+      let third = text-setIf size base (restoresThird f g) p es ns₂ 0 (countBack f (g .v) 1) (key .third) h₂ s (k .third-is) (altered-third p es f g (known has p es) small) in
       ap (λ (x : List ℕ). setIf (restoresThird f g) (key .third) (capital (countBack f (g .v) 1)) (setIf (restoresSecond f g) (key .second) (capital (countBack f (g .v) 2)) x)) first
       ∙ (ap (setIf (restoresThird f g) (key .third) (capital (countBack f (g .v) 1))) second ∙ third)
 
   pub news-counts : countsIn p es (restoredNews p f g es ns) ≡ restoredBack f g (countsIn p es ns)
   unfolding restoredBack
   news-counts =
-      let k = known p es in
+      let k = known has p es in
       counts-setIf (restoresThird f g) p es ns₂ 0 (countBack f (g .v) 1) h₂ (λ (t : restoresThird f g ≡ true). altered-third p es f g k small t .there)
       ∙ (ap (setBack (restoresThird f g) 1 (countBack f (g .v) 1))
       (counts-setIf (restoresSecond f g) p es ns₁ 1 (countBack f (g .v) 2) h₁ (λ (t : restoresSecond f g ≡ true). altered-second p es f g k small t .there)
@@ -281,40 +281,40 @@ news-other q p es ns f g z =
 
 -- And at the end.
 
-abbrev pub endedNews : ℕ → List Seen → List ℕ → List ℕ
-endedNews zero es ns = ns
-endedNews (suc n) es ns = let ms = endedNews n es ns in setIf (restoresLast (followIn n es)) (indexBack n es 1) (countBack (followIn n es) (followIn n es .first) 2) ms
+abbrev pub endedNews : Bool → ℕ → List Seen → List ℕ → List ℕ
+endedNews has zero es ns = ns
+endedNews has (suc n) es ns = let ms = endedNews has n es ns in setIf (restoresLast (followIn has n es)) (indexBack n es 1) (countBack (followIn has n es) (followIn has n es .first) 2) ms
 
-pub ended-length : (n : ℕ) (es : List Seen) (ns : List ℕ) → length (endedNews n es ns) ≡ length ns
-ended-length zero es ns = refl
-ended-length (suc n) es ns =
-    length-setIf (restoresLast (followIn n es)) (indexBack n es 1) (countBack (followIn n es) (followIn n es .first) 2) (endedNews n es ns) ∙ ended-length n es ns
+pub ended-length : (has : Bool) (n : ℕ) (es : List Seen) (ns : List ℕ) → length (endedNews has n es ns) ≡ length ns
+ended-length has zero es ns = refl
+ended-length has (suc n) es ns =
+    length-setIf (restoresLast (followIn has n es)) (indexBack n es 1) (countBack (followIn has n es) (followIn has n es .first) 2) (endedNews has n es ns) ∙ ended-length has n es ns
 
 -- a port that has not come yet
-pub ended-later : (n q : ℕ) (es : List Seen) (ns : List ℕ) → n ≤ q → countsIn q es (endedNews n es ns) ≡ countsIn q es ns
-ended-later zero q es ns h = refl
-ended-later (suc n) q es ns h =
-    other-setIf (restoresLast (followIn n es)) q n es (endedNews n es ns) 1 (countBack (followIn n es) (followIn n es .first) 2) (ne-eqb n q (λ (e : n ≡ q). omega arith))
-    ∙ ended-later n q es ns (omega arith)
+pub ended-later : (has : Bool) (n q : ℕ) (es : List Seen) (ns : List ℕ) → n ≤ q → countsIn q es (endedNews has n es ns) ≡ countsIn q es ns
+ended-later has zero q es ns h = refl
+ended-later has (suc n) q es ns h =
+    other-setIf (restoresLast (followIn has n es)) q n es (endedNews has n es ns) 1 (countBack (followIn has n es) (followIn has n es .first) 2) (ne-eqb n q (λ (e : n ≡ q). omega arith))
+    ∙ ended-later has n q es ns (omega arith)
 
 less-not : (q n : ℕ) → q < suc n → (n ≡ q → ⊥) → q < n
 less-not q n h z = ⊎-elim (λ (l : n ≤ q). absurd (z (omega arith))) (λ (l : q < n). l) (le-or-lt n q)
 
-ended-last : (n : ℕ) (es : List Seen) (ns : List ℕ) → length ns ≡ length es
-    → countsIn n es (setIf (restoresLast (followIn n es)) (indexBack n es 1) (countBack (followIn n es) (followIn n es .first) 2) (endedNews n es ns)) ≡ finished (followIn n es) (countsIn n es ns)
+ended-last : (has : Bool) (n : ℕ) (es : List Seen) (ns : List ℕ) → length ns ≡ length es
+    → countsIn n es (setIf (restoresLast (followIn has n es)) (indexBack n es 1) (countBack (followIn has n es) (followIn has n es .first) 2) (endedNews has n es ns)) ≡ finished (followIn has n es) (countsIn n es ns)
 unfolding finished
-ended-last n es ns h =
-    counts-setIf (restoresLast (followIn n es)) n es (endedNews n es ns) 1 (countBack (followIn n es) (followIn n es .first) 2) (ended-length n es ns ∙ h)
-    (λ (x : restoresLast (followIn n es) ≡ true). altered-last n es (followIn n es) (known n es) x .there)
-    ∙ ap (setBack (restoresLast (followIn n es)) 2 (countBack (followIn n es) (followIn n es .first) 2)) (ended-later n n es ns (omega arith))
+ended-last has n es ns h =
+    counts-setIf (restoresLast (followIn has n es)) n es (endedNews has n es ns) 1 (countBack (followIn has n es) (followIn has n es .first) 2) (ended-length has n es ns ∙ h)
+    (λ (x : restoresLast (followIn has n es) ≡ true). altered-last n es (followIn has n es) (known has n es) x .there)
+    ∙ ap (setBack (restoresLast (followIn has n es)) 2 (countBack (followIn has n es) (followIn has n es .first) 2)) (ended-later has n n es ns (omega arith))
 
-pub ended-counts : (n q : ℕ) (es : List Seen) (ns : List ℕ) → length ns ≡ length es → q < n → countsIn q es (endedNews n es ns) ≡ finished (followIn q es) (countsIn q es ns)
-ended-counts zero q es ns h k = absurd (not-suc-le-zero k)
-ended-counts (suc n) q es ns h k = go (eqb n q) refl (ended-counts n q es ns h)
+pub ended-counts : (has : Bool) (n q : ℕ) (es : List Seen) (ns : List ℕ) → length ns ≡ length es → q < n → countsIn q es (endedNews has n es ns) ≡ finished (followIn has q es) (countsIn q es ns)
+ended-counts has zero q es ns h k = absurd (not-suc-le-zero k)
+ended-counts has (suc n) q es ns h k = go (eqb n q) refl (ended-counts has n q es ns h)
   where
-    go : (t : Bool) → eqb n q ≡ t → (q < n → countsIn q es (endedNews n es ns) ≡ finished (followIn q es) (countsIn q es ns))
-        → countsIn q es (endedNews (suc n) es ns) ≡ finished (followIn q es) (countsIn q es ns)
-    go true t r = rw (← eqb-true n q t) (ended-last n es ns h)
+    go : (t : Bool) → eqb n q ≡ t → (q < n → countsIn q es (endedNews has n es ns) ≡ finished (followIn has q es) (countsIn q es ns))
+        → countsIn q es (endedNews has (suc n) es ns) ≡ finished (followIn has q es) (countsIn q es ns)
+    go true t r = rw (← eqb-true n q t) (ended-last has n es ns h)
     go false t r =
-        other-setIf (restoresLast (followIn n es)) q n es (endedNews n es ns) 1 (countBack (followIn n es) (followIn n es .first) 2) t
+        other-setIf (restoresLast (followIn has n es)) q n es (endedNews has n es ns) 1 (countBack (followIn has n es) (followIn has n es .first) 2) t
         ∙ r (less-not q n k (eqb-false n q t))

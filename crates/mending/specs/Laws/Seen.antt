@@ -14,7 +14,7 @@ use borrow.Author.Tests.{eqb-false, leb-true, ltb-false, ltb-true, not-true}
 use Rattle.ground.specs.Truth.{and-left, and-right, cond-by, le-or-lt}
 use Rattle.mending.specs.declared.follow.Follow.{Follow}
 use Rattle.mending.specs.declared.follow.Keys.{Keys}
-use Rattle.mending.specs.Follow.{afresh, beginning, countBack, fed, fedBy, finished, going, lessPlace, restoredBack, restores, restoresFirst, restoresLast, restoresSecond, restoresThird, setBack}
+use Rattle.mending.specs.Follow.{afresh, beginning, countBack, fed, fedBy, fedIf, finished, going, lessPlace, restoredBack, restores, restoresFirst, restoresLast, restoresSecond, restoresThird, setBack}
 use Rattle.mending.specs.Laws.Sweeps.{noKeys, restoredIn, setIf, withKey}
 use Rattle.mending.specs.Lines.{Line, capital, digitPlace, lineText, withDigit}
 
@@ -30,9 +30,9 @@ abbrev pub manyIn : ℕ → List Seen → ℕ
 manyIn p [] = 0
 manyIn p (e ∷ es) = cond (eqb (e .port) p) (suc (manyIn (e .port) es)) (manyIn p es)
 
-abbrev pub followIn : ℕ → List Seen → Follow
-followIn p [] = beginning
-followIn p (e ∷ es) = cond (eqb (e .port) p) (fed (followIn (e .port) es) (e .old)) (followIn p es)
+abbrev pub followIn : Bool → ℕ → List Seen → Follow
+followIn has p [] = beginning
+followIn has p (e ∷ es) = cond (eqb (e .port) p) (fedIf has (followIn has (e .port) es) (e .old)) (followIn has p es)
 
 -- a key by a line and those before it
 abbrev pub keysIn : (List Seen → Seen → ℕ) → ℕ → List Seen → Keys
@@ -122,9 +122,9 @@ module _ (p : ℕ) (e : Seen) (es : List Seen) (f : Follow) (k : Known (e .port)
         first-is = rw t (k .second-is);
       }
 
-  known-fed : Known p (e ∷ es) (fed f (e .old))
+  known-on : Known p (e ∷ es) (fed f (e .old))
   unfolding fed
-  known-fed =
+  known-on =
       let few = k .pending-few in
       let ins = k .pending-in in
       cond-by (Known p (e ∷ es)) (f .begun)
@@ -137,6 +137,10 @@ module _ (p : ℕ) (e : Seen) (es : List Seen) (f : Follow) (k : Known (e .port)
       (λ l. let less = ltb-true (f .pending) 3 l in known-going (f .v) (f .pending + 1) (k .v-small) (omega arith) (omega arith))
       (λ l. let more = ltb-false (f .pending) 3 l in let a = afresh-most f offset in known-going (f .first) (afresh f offset) (k .first-small) a (omega arith))))
       (λ b. known-going offset 0 (less-small (e .old) (f .place)) (omega arith) (omega arith))
+
+  known-fed : (has : Bool) → Known p (e ∷ es) (fedIf has f (e .old))
+  known-fed true = known-on
+  known-fed false = known-going offset 0 (less-small (e .old) (f .place)) (omega arith) (omega arith)
 
 known-other : (p : ℕ) (e : Seen) (es : List Seen) (f : Follow) → eqb (e .port) p ≡ false → Known p es f → Known p (e ∷ es) f
 known-other p e es f t k =
@@ -153,8 +157,8 @@ known-other p e es f t k =
       first-is = rw t (k .first-is);
     }
 
-pub known : (p : ℕ) (es : List Seen) → Known p es (followIn p es)
-known p [] =
+pub known : (has : Bool) (p : ℕ) (es : List Seen) → Known p es (followIn has p es)
+known has p [] =
     record {
       place-is = refl;
       pending-few = omega arith;
@@ -167,11 +171,11 @@ known p [] =
       second-is = refl;
       first-is = refl;
     }
-known p (e ∷ es) = go (eqb (e .port) p) refl (known (e .port) es) (known p es)
+known has p (e ∷ es) = go (eqb (e .port) p) refl (known has (e .port) es) (known has p es)
   where
-    go : (t : Bool) → eqb (e .port) p ≡ t → Known (e .port) es (followIn (e .port) es) → Known p es (followIn p es) → Known p (e ∷ es) (followIn p (e ∷ es))
-    go true t a b = rw t (known-fed p e es (followIn (e .port) es) a t)
-    go false t a b = rw t (known-other p e es (followIn p es) t b)
+    go : (t : Bool) → eqb (e .port) p ≡ t → Known (e .port) es (followIn has (e .port) es) → Known p es (followIn has p es) → Known p (e ∷ es) (followIn has p (e ∷ es))
+    go true t a b = rw t (known-fed p e es (followIn has (e .port) es) a t has)
+    go false t a b = rw t (known-other p e es (followIn has p es) t b)
 
 -- the offset of a line that is there goes by its count and its place
 offset-back : (p : ℕ) (es : List Seen) (b : ℕ) → b < manyIn p es → back offsetKey p es b ≡ lessPlace (back oldKey p es b) (manyIn p es - suc b)

@@ -11,6 +11,7 @@ use borrow.Author.Tests.{le-leb, lt-leb, ltb-false, ltb-true, ne-eqb}
 use Rattle.bytes.specs.Bytes.{indexOf}
 use Rattle.ground.specs.Truth.{and-left, and-right}
 use Rattle.mending.specs.declared.opening.Start.{Start}
+use Rattle.mending.specs.Following.{hasCount}
 use Rattle.mending.specs.Laws.Reads.{LiesAt, ending, lies-ending, lies-unended, unended}
 use Rattle.mending.specs.Lines.{Line, judged, lineText, linesWith, mendedLines, textOf}
 use Rattle.mending.specs.Mending.{answerBy, fitting, mendedBy, mendedIn, mendedOf, notesBy, notesFrom, notesIn, notesOf, openingOf, readAnswer}
@@ -25,10 +26,10 @@ use Rattle.recording.specs.Opening.{Opening as O}
 use Rattle.text.specs.Text.{LINE-END, fieldsOf, linesOf}
 
 abbrev pub noStart : ℕ → Start
-noStart answer = record { next = 0; ports = 0; size = 0; answer = answer }
+noStart answer = record { next = 0; ports = 0; size = 0; counted = false; answer = answer }
 
 abbrev pub startAs : Settings → ℕ → Start
-startAs s next = record { next = next; ports = s .ports; size = s .size; answer = 0 }
+startAs s next = record { next = next; ports = s .ports; size = s .size; counted = hasCount (s .kind); answer = 0 }
 
 abbrev pub startWith : Settings → ℕ → Start
 startWith s next = cond (fitting s) (startAs s next) (noStart 4)
@@ -128,8 +129,8 @@ start-answer (b ∷ t) =
 pub record Opens (text : List ℕ) (s : Start) : Type 0 where
   pub within : s .next ≤ length text
   pub few : s .ports ≤ 64
-  pub mended-is : mendedOf text ≡ take (s .next) text ++ textOf (mendedLines (s .size) (judged (s .ports) (s .size) (linesWith (drop (s .next) text))))
-  pub notes-is : notesOf text ≡ notesFrom (s .size) 2 (judged (s .ports) (s .size) (linesWith (drop (s .next) text)))
+  pub mended-is : mendedOf text ≡ take (s .next) text ++ textOf (mendedLines (s .size) (judged (s .counted) (s .ports) (s .size) (linesWith (drop (s .next) text))))
+  pub notes-is : notesOf text ≡ notesFrom (s .size) 2 (judged (s .counted) (s .ports) (s .size) (linesWith (drop (s .next) text)))
 
 opens-by : (text : List ℕ) (l : Line) → LiesAt 0 text l → (o : Opening) → lineOpening 0 (l .bytes) ≡ o → startBy (opensTo (length (lineText l)) o) .answer ≡ 0 → Opens text (startBy (opensTo (length (lineText l)) o))
 unfolding mendedOf notesOf

@@ -7,7 +7,7 @@ use lib.Dec.{eqb}
 use lib.ListN.{getD, length, set}
 use Rattle.mending.specs.declared.follow.Follow.{Follow}
 use Rattle.mending.specs.declared.follow.Keys.{Keys}
-use Rattle.mending.specs.Follow.{beginning, countBack, fed, restoresFirst, restoresLast, restoresSecond, restoresThird}
+use Rattle.mending.specs.Follow.{beginning, countBack, fedIf, restoresFirst, restoresLast, restoresSecond, restoresThird}
 use Rattle.mending.specs.Lines.{Line, capital, digitIn, digitPlace, lineText, recordOf}
 use Rattle.mending.specs.Mending.{h4With, noteText}
 use Rattle.recording.specs.declared.record.Record.{Record}
@@ -45,13 +45,14 @@ pub record Sweep : Type 0 where
 abbrev pub sweepStart : List ℕ → Sweep
 sweepStart first = record { follows = λ p. beginning; keys = λ p. noKeys; written = first }
 
-module _ (size : ℕ) where
+-- has: whether lines have a count
+module _ (has : Bool) (size : ℕ) where
   abbrev pub sweepFrame : Sweep → Line → ℕ → ℕ → Sweep
   sweepFrame s l p count =
       record {
-        follows = given (s .follows) p (fed (s .follows p) count);
+        follows = given (s .follows) p (fedIf has (s .follows p) count);
         keys = given (s .keys) p (withKey (s .keys p) (length (s .written) + digitPlace size l));
-        written = restoredIn (s .follows p) (fed (s .follows p) count) (s .keys p) (s .written) ++ lineText l;
+        written = restoredIn (s .follows p) (fedIf has (s .follows p) count) (s .keys p) (s .written) ++ lineText l;
       }
 
   abbrev pub sweepBy : Sweep → Line → Record → Sweep
@@ -61,10 +62,10 @@ module _ (size : ℕ) where
   sweepBy s l Unfinished = s
   sweepBy s l End = s
 
-module _ (ports size : ℕ) where
+module _ (has : Bool) (ports size : ℕ) where
   abbrev pub swept : Sweep → List Line → Sweep
   swept s [] = s
-  swept s (l ∷ ls) = swept (sweepBy size s l (recordOf ports size l)) ls
+  swept s (l ∷ ls) = swept (sweepBy has size s l (recordOf ports size l)) ls
 
 -- at the end, for the ports below n
 abbrev pub sweepEnd : ℕ → Sweep → List ℕ
@@ -94,27 +95,27 @@ unfoldable pub restoredLengths : Follow → Follow → Keys → ℕ
 restoredLengths f g k =
     restoredLength (restoresFirst f g) (k .first) + restoredLength (restoresSecond f g) (k .second) + restoredLength (restoresThird f g) (k .third)
 
-abbrev pub countFrame : Count → ℕ → ℕ → Count
-countFrame s p count =
-    record { follows = given (s .follows) p (fed (s .follows p) count); keys = given (s .keys) p (withKey (s .keys p) (s .number)); number = suc (s .number) }
+abbrev pub countFrame : Bool → Count → ℕ → ℕ → Count
+countFrame has s p count =
+    record { follows = given (s .follows) p (fedIf has (s .follows p) count); keys = given (s .keys) p (withKey (s .keys p) (s .number)); number = suc (s .number) }
 
 abbrev pub countDropped : Count → Count
 countDropped s = record { follows = s .follows; keys = s .keys; number = suc (s .number) }
 
-abbrev pub countWith : Count → Record → Count
-countWith s (Frame p h4 flag place next) = countFrame s p (h4 % 16)
-countWith s (Malformed next) = countDropped s
-countWith s Long = countDropped s
-countWith s Unfinished = countDropped s
-countWith s End = countDropped s
+abbrev pub countWith : Bool → Count → Record → Count
+countWith has s (Frame p h4 flag place next) = countFrame has s p (h4 % 16)
+countWith has s (Malformed next) = countDropped s
+countWith has s Long = countDropped s
+countWith has s Unfinished = countDropped s
+countWith has s End = countDropped s
 
 -- the bytes of notes that a line brings: of lines before it that are restored now, or its own
-abbrev pub lengthBy : Count → Line → Record → ℕ
-lengthBy s l (Frame p h4 flag place next) = restoredLengths (s .follows p) (fed (s .follows p) (h4 % 16)) (s .keys p)
-lengthBy s l (Malformed next) = droppedLength (s .number) (length (l .bytes))
-lengthBy s l Long = droppedLength (s .number) (length (l .bytes))
-lengthBy s l Unfinished = droppedLength (s .number) (length (l .bytes))
-lengthBy s l End = droppedLength (s .number) (length (l .bytes))
+abbrev pub lengthBy : Bool → Count → Line → Record → ℕ
+lengthBy has s l (Frame p h4 flag place next) = restoredLengths (s .follows p) (fedIf has (s .follows p) (h4 % 16)) (s .keys p)
+lengthBy has s l (Malformed next) = droppedLength (s .number) (length (l .bytes))
+lengthBy has s l Long = droppedLength (s .number) (length (l .bytes))
+lengthBy has s l Unfinished = droppedLength (s .number) (length (l .bytes))
+lengthBy has s l End = droppedLength (s .number) (length (l .bytes))
 
 -- at the end, for the ports below n
 abbrev pub lengthEnd : ℕ → Count → ℕ
@@ -133,9 +134,10 @@ module _ (ports size : ℕ) where
   keptLength [] = 0
   keptLength (l ∷ ls) = keptBy l (recordOf ports size l) + keptLength ls
 
+module _ (has : Bool) (ports size : ℕ) where
   abbrev pub notesLength : Count → List Line → ℕ
   notesLength s [] = lengthEnd 64 s
-  notesLength s (l ∷ ls) = lengthBy s l (recordOf ports size l) + notesLength (countWith s (recordOf ports size l)) ls
+  notesLength s (l ∷ ls) = lengthBy has s l (recordOf ports size l) + notesLength (countWith has s (recordOf ports size l)) ls
 
 -- The notes, beside the mended recording, in which the next line lies from `to` on.
 

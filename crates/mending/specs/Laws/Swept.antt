@@ -10,9 +10,9 @@ use lib.ListN.{drop, getD, length, length-append}
 use borrow.Author.Tests.{eq-eqb, eqb-true, lt-leb, ne-eqb}
 use Rattle.ground.specs.Truth.{le-or-lt}
 use Rattle.mending.specs.declared.follow.Follow.{Follow}
-use Rattle.mending.specs.Follow.{beginning, countBack, fed, finished, following, restoresLast}
-use Rattle.mending.specs.Following.{followed}
-use Rattle.mending.specs.Laws.Automaton.{following-is}
+use Rattle.mending.specs.Follow.{beginning, countBack, fedIf, finished, followingIf, restoresLast}
+use Rattle.mending.specs.Following.{followedIf}
+use Rattle.mending.specs.Laws.Automaton.{following-if}
 use Rattle.mending.specs.Laws.Counts.{Counts}
 use Rattle.mending.specs.Laws.Layout.{frame-layout}
 use Rattle.mending.specs.Laws.Sweeps.{Sweep, sweepBy, sweepEnd, sweepStart, swept}
@@ -32,101 +32,102 @@ seenBy n es l Long = es
 seenBy n es l Unfinished = es
 seenBy n es l End = es
 
-abbrev pub newsBy : List Seen → List ℕ → Record → List ℕ
-newsBy es ns (Frame p h4 flag place next) = h4 % 16 ∷ restoredNews p (followIn p es) (fed (followIn p es) (h4 % 16)) es ns
-newsBy es ns (Malformed next) = ns
-newsBy es ns Long = ns
-newsBy es ns Unfinished = ns
-newsBy es ns End = ns
+abbrev pub newsBy : Bool → List Seen → List ℕ → Record → List ℕ
+newsBy has es ns (Frame p h4 flag place next) = h4 % 16 ∷ restoredNews p (followIn has p es) (fedIf has (followIn has p es) (h4 % 16)) es ns
+newsBy has es ns (Malformed next) = ns
+newsBy has es ns Long = ns
+newsBy has es ns Unfinished = ns
+newsBy has es ns End = ns
 
 module _ (ports size : ℕ) where
   abbrev pub seenFrom : ℕ → List Seen → List Line → List Seen
   seenFrom n es [] = es
   seenFrom n es (l ∷ ls) = seenFrom (suc n) (seenBy n es l (recordOf ports size l)) ls
 
+module _ (has : Bool) (ports size : ℕ) where
   abbrev pub newsFrom : ℕ → List Seen → List ℕ → List Line → List ℕ
   newsFrom n es ns [] = ns
-  newsFrom n es ns (l ∷ ls) = newsFrom (suc n) (seenBy n es l (recordOf ports size l)) (newsBy es ns (recordOf ports size l)) ls
+  newsFrom n es ns (l ∷ ls) = newsFrom (suc n) (seenBy n es l (recordOf ports size l)) (newsBy has es ns (recordOf ports size l)) ls
 
 -- a count for each line, and each line a frame's
 pub record Good (size : ℕ) (es : List Seen) (ns : List ℕ) : Type 0 where
   pub long : length ns ≡ length es
   pub sound : Sound size es
 
-pub fed-small : (p : ℕ) (l : Line) (n c : ℕ) (es : List Seen) → fed (followIn p es) c .v < 16
-fed-small p l n c es = rw (eq-eqb p p refl) at (known p (record { port = p; line = l; old = c; number = n } ∷ es) .v-small)
+pub fed-small : (has : Bool) (p : ℕ) (l : Line) (n c : ℕ) (es : List Seen) → fedIf has (followIn has p es) c .v < 16
+fed-small has p l n c es = rw (eq-eqb p p refl) at (known has p (record { port = p; line = l; old = c; number = n } ∷ es) .v-small)
 
-pub good-by : (ports size n : ℕ) (es : List Seen) (ns : List ℕ) (l : Line) (r : Record) → ports ≤ 64 → recordOf ports size l ≡ r → Good size es ns → Good size (seenBy n es l r) (newsBy es ns r)
+pub good-by : (has : Bool) (ports size n : ℕ) (es : List Seen) (ns : List ℕ) (l : Line) (r : Record) → ports ≤ 64 → recordOf ports size l ≡ r → Good size es ns → Good size (seenBy n es l r) (newsBy has es ns r)
 unfolding recordOf digitPlace
-good-by ports size n es ns l (Frame p h4 flag place next) few e g =
+good-by has ports size n es ns l (Frame p h4 flag place next) few e g =
     let f = frame-layout ports size 0 0 p h4 flag place next (l .bytes) e in
     let w = f .layout .whole in
     let b = f .layout .below in
-    let m = news-length p es ns (g .long) (fed (followIn p es) (h4 % 16)) (fed-small p l n (h4 % 16) es) in
+    let m = news-length has p es ns (g .long) (fedIf has (followIn has p es) (h4 % 16)) (fed-small has p l n (h4 % 16) es) in
     record { long = ap suc m; sound = (omega arith, omega arith, g .sound) }
-good-by ports size n es ns l (Malformed next) few e g = g
-good-by ports size n es ns l Long few e g = g
-good-by ports size n es ns l Unfinished few e g = g
-good-by ports size n es ns l End few e g = g
+good-by has ports size n es ns l (Malformed next) few e g = g
+good-by has ports size n es ns l Long few e g = g
+good-by has ports size n es ns l Unfinished few e g = g
+good-by has ports size n es ns l End few e g = g
 
-pub good-from : (ports size n : ℕ) (es : List Seen) (ns : List ℕ) (ls : List Line) → ports ≤ 64 → Good size es ns → Good size (seenFrom ports size n es ls) (newsFrom ports size n es ns ls)
-good-from ports size n es ns [] few g = g
-good-from ports size n es ns (l ∷ ls) few g =
-    good-from ports size (suc n) (seenBy n es l (recordOf ports size l)) (newsBy es ns (recordOf ports size l)) ls few (good-by ports size n es ns l (recordOf ports size l) few refl g)
+pub good-from : (has : Bool) (ports size n : ℕ) (es : List Seen) (ns : List ℕ) (ls : List Line) → ports ≤ 64 → Good size es ns → Good size (seenFrom ports size n es ls) (newsFrom has ports size n es ns ls)
+good-from has ports size n es ns [] few g = g
+good-from has ports size n es ns (l ∷ ls) few g =
+    good-from has ports size (suc n) (seenBy n es l (recordOf ports size l)) (newsBy has es ns (recordOf ports size l)) ls few (good-by has ports size n es ns l (recordOf ports size l) few refl g)
 
 -- The sweep, by what it has seen.
 
-abbrev sweepSeen : ℕ → List ℕ → List Seen → List ℕ → Sweep
-sweepSeen size base es ns = record { follows = λ p. followIn p es; keys = λ p. keysIn (placeKey size base) p es; written = textIn size base es ns }
+abbrev sweepSeen : Bool → ℕ → List ℕ → List Seen → List ℕ → Sweep
+sweepSeen has size base es ns = record { follows = λ p. followIn has p es; keys = λ p. keysIn (placeKey size base) p es; written = textIn size base es ns }
 
-sweep-by : (size : ℕ) (base : List ℕ) (n : ℕ) (es : List Seen) (ns : List ℕ) (l : Line) (r : Record) → Good size es ns → sweepBy size (sweepSeen size base es ns) l r ≡ sweepSeen size base (seenBy n es l r) (newsBy es ns r)
-sweep-by size base n es ns l (Frame p h4 flag place next) g =
-    rw (text-length size base es ns (g .long), news-text p es ns (g .long) (fed (followIn p es) (h4 % 16)) (fed-small p l n (h4 % 16) es) size base (g .sound), eq-eqb (h4 % 16) (h4 % 16) refl) refl
-sweep-by size base n es ns l (Malformed next) g = refl
-sweep-by size base n es ns l Long g = refl
-sweep-by size base n es ns l Unfinished g = refl
-sweep-by size base n es ns l End g = refl
+sweep-by : (has : Bool) (size : ℕ) (base : List ℕ) (n : ℕ) (es : List Seen) (ns : List ℕ) (l : Line) (r : Record) → Good size es ns → sweepBy has size (sweepSeen has size base es ns) l r ≡ sweepSeen has size base (seenBy n es l r) (newsBy has es ns r)
+sweep-by has size base n es ns l (Frame p h4 flag place next) g =
+    rw (text-length size base es ns (g .long), news-text has p es ns (g .long) (fedIf has (followIn has p es) (h4 % 16)) (fed-small has p l n (h4 % 16) es) size base (g .sound), eq-eqb (h4 % 16) (h4 % 16) refl) refl
+sweep-by has size base n es ns l (Malformed next) g = refl
+sweep-by has size base n es ns l Long g = refl
+sweep-by has size base n es ns l Unfinished g = refl
+sweep-by has size base n es ns l End g = refl
 
-sweep-from : (ports size : ℕ) (base : List ℕ) (n : ℕ) (es : List Seen) (ns : List ℕ) (ls : List Line) → ports ≤ 64 → Good size es ns
-    → swept ports size (sweepSeen size base es ns) ls ≡ sweepSeen size base (seenFrom ports size n es ls) (newsFrom ports size n es ns ls)
-sweep-from ports size base n es ns [] few g = refl
-sweep-from ports size base n es ns (l ∷ ls) few g =
-    ap (λ (s : Sweep). swept ports size s ls) (sweep-by size base n es ns l (recordOf ports size l) g)
-    ∙ sweep-from ports size base (suc n) (seenBy n es l (recordOf ports size l)) (newsBy es ns (recordOf ports size l)) ls few (good-by ports size n es ns l (recordOf ports size l) few refl g)
+sweep-from : (has : Bool) (ports size : ℕ) (base : List ℕ) (n : ℕ) (es : List Seen) (ns : List ℕ) (ls : List Line) → ports ≤ 64 → Good size es ns
+    → swept has ports size (sweepSeen has size base es ns) ls ≡ sweepSeen has size base (seenFrom ports size n es ls) (newsFrom has ports size n es ns ls)
+sweep-from has ports size base n es ns [] few g = refl
+sweep-from has ports size base n es ns (l ∷ ls) few g =
+    ap (λ (s : Sweep). swept has ports size s ls) (sweep-by has size base n es ns l (recordOf ports size l) g)
+    ∙ sweep-from has ports size base (suc n) (seenBy n es l (recordOf ports size l)) (newsBy has es ns (recordOf ports size l)) ls few (good-by has ports size n es ns l (recordOf ports size l) few refl g)
 
-sweep-end : (size : ℕ) (base : List ℕ) (m : ℕ) (es : List Seen) (ns : List ℕ) → Good size es ns → sweepEnd m (sweepSeen size base es ns) ≡ textIn size base es (endedNews m es ns)
-sweep-end size base zero es ns g = refl
-sweep-end size base (suc m) es ns g =
-    rw (sweep-end size base m es ns g)
-    (text-setIf size base (restoresLast (followIn m es)) m es (endedNews m es ns) 1 (countBack (followIn m es) (followIn m es .first) 2) (keysIn (placeKey size base) m es .second)
-    (ended-length m es ns ∙ g .long) (g .sound) (keyed (placeKey size base) m es .second-is) (altered-last m es (followIn m es) (known m es)))
+sweep-end : (has : Bool) (size : ℕ) (base : List ℕ) (m : ℕ) (es : List Seen) (ns : List ℕ) → Good size es ns → sweepEnd m (sweepSeen has size base es ns) ≡ textIn size base es (endedNews has m es ns)
+sweep-end has size base zero es ns g = refl
+sweep-end has size base (suc m) es ns g =
+    rw (sweep-end has size base m es ns g)
+    (text-setIf size base (restoresLast (followIn has m es)) m es (endedNews has m es ns) 1 (countBack (followIn has m es) (followIn has m es .first) 2) (keysIn (placeKey size base) m es .second)
+    (ended-length has m es ns ∙ g .long) (g .sound) (keyed (placeKey size base) m es .second-is) (altered-last m es (followIn has m es) (known has m es)))
 
 -- The counts of each port go as its following does.
 
-counts-by : (size q n : ℕ) (es : List Seen) (ns : List ℕ) (l : Line) (r : Record) (cs : List ℕ) → Good size es ns
-    → following (followIn q es) (countsIn q es ns) (countBy q r cs) ≡ following (followIn q (seenBy n es l r)) (countsIn q (seenBy n es l r) (newsBy es ns r)) cs
-counts-by size q n es ns l (Frame p h4 flag place next) cs g = go (eqb p q) refl
+counts-by : (has : Bool) (size q n : ℕ) (es : List Seen) (ns : List ℕ) (l : Line) (r : Record) (cs : List ℕ) → Good size es ns
+    → followingIf has (followIn has q es) (countsIn q es ns) (countBy q r cs) ≡ followingIf has (followIn has q (seenBy n es l r)) (countsIn q (seenBy n es l r) (newsBy has es ns r)) cs
+counts-by has size q n es ns l (Frame p h4 flag place next) cs g = go (eqb p q) refl
   where
     go : (t : Bool) → eqb p q ≡ t
-        → following (followIn q es) (countsIn q es ns) (cond (eqb p q) (h4 % 16 ∷ cs) cs)
-        ≡ following (cond (eqb p q) (fed (followIn p es) (h4 % 16)) (followIn q es))
-        (cond (eqb p q) (countsIn p es (restoredNews p (followIn p es) (fed (followIn p es) (h4 % 16)) es ns) ++ (h4 % 16 ∷ [])) (countsIn q es (restoredNews p (followIn p es) (fed (followIn p es) (h4 % 16)) es ns))) cs
+        → followingIf has (followIn has q es) (countsIn q es ns) (cond (eqb p q) (h4 % 16 ∷ cs) cs)
+        ≡ followingIf has (cond (eqb p q) (fedIf has (followIn has p es) (h4 % 16)) (followIn has q es))
+        (cond (eqb p q) (countsIn p es (restoredNews p (followIn has p es) (fedIf has (followIn has p es) (h4 % 16)) es ns) ++ (h4 % 16 ∷ [])) (countsIn q es (restoredNews p (followIn has p es) (fedIf has (followIn has p es) (h4 % 16)) es ns))) cs
     go true t =
         let z = eqb-true p q t in
         let e : eqb p p ≡ true = eq-eqb p p refl in
-        rw (← z, e, news-counts p es ns (g .long) (fed (followIn p es) (h4 % 16)) (fed-small p l n (h4 % 16) es)) refl
-    go false t = rw (t, news-other q p es ns (followIn p es) (fed (followIn p es) (h4 % 16)) t) refl
-counts-by size q n es ns l (Malformed next) cs g = refl
-counts-by size q n es ns l Long cs g = refl
-counts-by size q n es ns l Unfinished cs g = refl
-counts-by size q n es ns l End cs g = refl
+        rw (← z, e, news-counts has p es ns (g .long) (fedIf has (followIn has p es) (h4 % 16)) (fed-small has p l n (h4 % 16) es)) refl
+    go false t = rw (t, news-other q p es ns (followIn has p es) (fedIf has (followIn has p es) (h4 % 16)) t) refl
+counts-by has size q n es ns l (Malformed next) cs g = refl
+counts-by has size q n es ns l Long cs g = refl
+counts-by has size q n es ns l Unfinished cs g = refl
+counts-by has size q n es ns l End cs g = refl
 
-counts-from : (ports size q n : ℕ) (es : List Seen) (ns : List ℕ) (ls : List Line) → ports ≤ 64 → Good size es ns
-    → following (followIn q es) (countsIn q es ns) (countsOf ports size q ls) ≡ finished (followIn q (seenFrom ports size n es ls)) (countsIn q (seenFrom ports size n es ls) (newsFrom ports size n es ns ls))
-counts-from ports size q n es ns [] few g = refl
-counts-from ports size q n es ns (l ∷ ls) few g =
-    counts-by size q n es ns l (recordOf ports size l) (countsOf ports size q ls) g
-    ∙ counts-from ports size q (suc n) (seenBy n es l (recordOf ports size l)) (newsBy es ns (recordOf ports size l)) ls few (good-by ports size n es ns l (recordOf ports size l) few refl g)
+counts-from : (has : Bool) (ports size q n : ℕ) (es : List Seen) (ns : List ℕ) (ls : List Line) → ports ≤ 64 → Good size es ns
+    → followingIf has (followIn has q es) (countsIn q es ns) (countsOf ports size q ls) ≡ finished (followIn has q (seenFrom ports size n es ls)) (countsIn q (seenFrom ports size n es ls) (newsFrom has ports size n es ns ls))
+counts-from has ports size q n es ns [] few g = refl
+counts-from has ports size q n es ns (l ∷ ls) few g =
+    counts-by has size q n es ns l (recordOf ports size l) (countsOf ports size q ls) g
+    ∙ counts-from has ports size q (suc n) (seenBy n es l (recordOf ports size l)) (newsBy has es ns (recordOf ports size l)) ls few (good-by has ports size n es ns l (recordOf ports size l) few refl g)
 
 counts-one : (q : ℕ) (r : Record) (cs : List ℕ) → Counts cs → Counts (countBy q r cs)
 counts-one q (Frame p h4 flag place next) cs h = go (eqb p q)
@@ -147,31 +148,31 @@ none-in : (size q : ℕ) (es : List Seen) → Sound size es → 64 ≤ q → man
 none-in size q [] s h = refl
 none-in size q (e ∷ es) s h = rw (ne-eqb (e .port) q (λ (z : e .port ≡ q). let b = s .0 in omega arith)) (none-in size q es (s .2) h)
 
-finished-none : (size q : ℕ) (es : List Seen) (cs : List ℕ) → Sound size es → 64 ≤ q → finished (followIn q es) cs ≡ cs
+finished-none : (has : Bool) (size q : ℕ) (es : List Seen) (cs : List ℕ) → Sound size es → 64 ≤ q → finished (followIn has q es) cs ≡ cs
 unfolding finished restoresLast
-finished-none size q es cs s h =
-    let a = known q es .pending-in in
+finished-none has size q es cs s h =
+    let a = known has q es .pending-in in
     let b = none-in size q es s h in
-    rw (lt-leb 3 (followIn q es .pending) (omega arith)) refl
+    rw (lt-leb 3 (followIn has q es .pending) (omega arith)) refl
 
-module _ (ports size : ℕ) (ls : List Line) (few : ports ≤ 64) where
+module _ (has : Bool) (ports size : ℕ) (ls : List Line) (few : ports ≤ 64) where
   abbrev pub seen : List Seen
   seen = seenFrom ports size 2 [] ls
 
   abbrev pub news : List ℕ
-  news = endedNews 64 seen (newsFrom ports size 2 [] [] ls)
+  news = endedNews has 64 seen (newsFrom has ports size 2 [] [] ls)
 
-  pub all-good : Good size seen (newsFrom ports size 2 [] [] ls)
-  all-good = good-from ports size 2 [] [] ls few (record { long = refl; sound = tt })
+  pub all-good : Good size seen (newsFrom has ports size 2 [] [] ls)
+  all-good = good-from has ports size 2 [] [] ls few (record { long = refl; sound = tt })
 
-  pub seen-counts : (q : ℕ) → countsIn q seen news ≡ followed (countsOf ports size q ls)
+  pub seen-counts : (q : ℕ) → countsIn q seen news ≡ followedIf has (countsOf ports size q ls)
   seen-counts q =
-      let f : following beginning [] (countsOf ports size q ls) ≡ finished (followIn q seen) (countsIn q seen (newsFrom ports size 2 [] [] ls)) =
-      counts-from ports size q 2 [] [] ls few (record { long = refl; sound = tt }) in
+      let f : followingIf has beginning [] (countsOf ports size q ls) ≡ finished (followIn has q seen) (countsIn q seen (newsFrom has ports size 2 [] [] ls)) =
+      counts-from has ports size q 2 [] [] ls few (record { long = refl; sound = tt }) in
       ⊎-elim
-      (λ (h : 64 ≤ q). ended-later 64 q seen (newsFrom ports size 2 [] [] ls) h
-      ∙ (sym (finished-none size q seen (countsIn q seen (newsFrom ports size 2 [] [] ls)) (all-good .sound) h) ∙ (sym f ∙ following-is (countsOf ports size q ls) (counts-small ports size q ls))))
-      (λ (h : q < 64). ended-counts 64 q seen (newsFrom ports size 2 [] [] ls) (all-good .long) h ∙ (sym f ∙ following-is (countsOf ports size q ls) (counts-small ports size q ls)))
+      (λ (h : 64 ≤ q). ended-later has 64 q seen (newsFrom has ports size 2 [] [] ls) h
+      ∙ (sym (finished-none has size q seen (countsIn q seen (newsFrom has ports size 2 [] [] ls)) (all-good .sound) h) ∙ (sym f ∙ following-if has (countsOf ports size q ls) (counts-small ports size q ls))))
+      (λ (h : q < 64). ended-counts has 64 q seen (newsFrom has ports size 2 [] [] ls) (all-good .long) h ∙ (sym f ∙ following-if has (countsOf ports size q ls) (counts-small ports size q ls)))
       (le-or-lt 64 q)
 
 -- From the front: the counts in the order of the lines.
@@ -286,35 +287,35 @@ module _ (ports size : ℕ) where
 
 -- All lines.
 
-module _ (ports size : ℕ) (ls : List Line) (few : ports ≤ 64) where
+module _ (has : Bool) (ports size : ℕ) (ls : List Line) (few : ports ≤ 64) where
   -- the counts in the order of the lines
   abbrev pub inOrder : List ℕ
-  inOrder = onto (news ports size ls few) []
+  inOrder = onto (news has ports size ls few) []
 
-  pub in-order : onto inOrder [] ≡ news ports size ls few
-  in-order = onto-onto (news ports size ls few) [] [] ∙ append-nil (news ports size ls few)
+  pub in-order : onto inOrder [] ≡ news has ports size ls few
+  in-order = onto-onto (news has ports size ls few) [] [] ∙ append-nil (news has ports size ls few)
 
   pub enough : framesIn ports size ls ≡ length inOrder
   enough =
-      let a = onto-length (news ports size ls few) [] in
-      let b = ended-length 64 (seen ports size ls few) (newsFrom ports size 2 [] [] ls) in
-      let c = all-good ports size ls few .long in
+      let a = onto-length (news has ports size ls few) [] in
+      let b = ended-length has 64 (seen has ports size ls few) (newsFrom has ports size 2 [] [] ls) in
+      let c = all-good has ports size ls few .long in
       let d = seen-length ports size 2 [] ls in
       omega arith
 
-  left-is : (q : ℕ) → left ports size ls inOrder q ≡ followed (countsOf ports size q ls)
+  left-is : (q : ℕ) → left ports size ls inOrder q ≡ followedIf has (countsOf ports size q ls)
   left-is q =
-      let a : countsIn q (seen ports size ls few) (onto inOrder []) ≡ left ports size ls inOrder q = left-counts ports size q 2 [] [] ls inOrder enough in
-      sym a ∙ (ap (countsIn q (seen ports size ls few)) in-order ∙ seen-counts ports size ls few q)
+      let a : countsIn q (seen has ports size ls few) (onto inOrder []) ≡ left ports size ls inOrder q = left-counts ports size q 2 [] [] ls inOrder enough in
+      sym a ∙ (ap (countsIn q (seen has ports size ls few)) in-order ∙ seen-counts has ports size ls few q)
 
-  pub judged-is : judgedBy ports size (left ports size ls inOrder) ls ≡ judged ports size ls
+  pub judged-is : judgedBy ports size (left ports size ls inOrder) ls ≡ judged has ports size ls
   unfolding judged
   judged-is = ap (λ (f : ℕ → List ℕ). judgedBy ports size f ls) (λ i q. left-is q i)
 
-  pub sweep-is : (first : List ℕ) → sweepEnd 64 (swept ports size (sweepStart first) ls) ≡ first ++ textOf (mendedLines size (judged ports size ls))
+  pub sweep-is : (first : List ℕ) → sweepEnd 64 (swept has ports size (sweepStart first) ls) ≡ first ++ textOf (mendedLines size (judged has ports size ls))
   sweep-is first =
-      ap (sweepEnd 64) (sweep-from ports size first 2 [] [] ls few (record { long = refl; sound = tt }))
-      ∙ (sweep-end size first 64 (seen ports size ls few) (newsFrom ports size 2 [] [] ls) (all-good ports size ls few)
-      ∙ (ap (textIn size first (seen ports size ls few)) (sym in-order)
+      ap (sweepEnd 64) (sweep-from has ports size first 2 [] [] ls few (record { long = refl; sound = tt }))
+      ∙ (sweep-end has size first 64 (seen has ports size ls few) (newsFrom has ports size 2 [] [] ls) (all-good has ports size ls few)
+      ∙ (ap (textIn size first (seen has ports size ls few)) (sym in-order)
       ∙ (left-text ports size first 2 [] [] ls inOrder enough
       ∙ ap (λ (js : List Judged). first ++ textOf (mendedLines size js)) judged-is)))

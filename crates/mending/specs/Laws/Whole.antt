@@ -71,14 +71,14 @@ module _ (text : List ℕ) (s : Start) (e : s ≡ startOf text) (z : s .answer �
   mended-length : length (mendedOf text) ≡ s .next + keptLength (s .ports) (s .size) (linesBehind s text)
   mended-length =
       ap length (taken .mended-is)
-      ∙ (length-append (take (s .next) text) (textOf (mendedLines (s .size) (judged (s .ports) (s .size) (linesBehind s text))))
-      ∙ (let a = front in let b = kept-length-is (s .ports) (s .size) (linesBehind s text) in omega arith))
+      ∙ (length-append (take (s .next) text) (textOf (mendedLines (s .size) (judged (s .counted) (s .ports) (s .size) (linesBehind s text))))
+      ∙ (let a = front in let b = kept-length-is (s .counted) (s .ports) (s .size) (linesBehind s text) in omega arith))
 
-  notes-length : length (notesOf text) ≡ notesLength (s .ports) (s .size) countStart (linesBehind s text)
-  notes-length = ap length (taken .notes-is) ∙ sym (notes-length-is (s .ports) (s .size) (linesBehind s text) (taken .few))
+  notes-length : length (notesOf text) ≡ notesLength (s .counted) (s .ports) (s .size) countStart (linesBehind s text)
+  notes-length = ap length (taken .notes-is) ∙ sym (notes-length-is (s .counted) (s .ports) (s .size) (linesBehind s text) (taken .few))
 
   abbrev counted : Lengths
-  counted = record { mended = s .next + keptLength (s .ports) (s .size) (linesBehind s text); notes = told (notesLength (s .ports) (s .size) countStart (linesBehind s text)); answer = 0 }
+  counted = record { mended = s .next + keptLength (s .ports) (s .size) (linesBehind s text); notes = told (notesLength (s .counted) (s .ports) (s .size) countStart (linesBehind s text)); answer = 0 }
 
   pub lengths-done : (r : Lengths) → r ≡ counted → r ≡ lengthsOf text
   unfolding lengthsOf
@@ -86,7 +86,7 @@ module _ (text : List ℕ) (s : Start) (e : s ≡ startOf text) (z : s .answer �
 
   module _ (mended notes : List ℕ) (short : length notes < LARGEST) (r : Lengths) (h : r ≡ counted) where
     test-is : (eqb (length mended) (r .mended) && eqb (length notes) (r .notes)) ≡ (eqb (length mended) (length (mendedOf text)) && eqb (length notes) (length (notesOf text)))
-    test-is = rw (h, mended-length, notes-length, told-length (length notes) (notesLength (s .ports) (s .size) countStart (linesBehind s text)) short) refl
+    test-is = rw (h, mended-length, notes-length, told-length (length notes) (notesLength (s .counted) (s .ports) (s .size) countStart (linesBehind s text)) short) refl
 
     pub mend-other : (eqb (length mended) (r .mended) && eqb (length notes) (r .notes)) ≡ false
         → (9 ≡ mendAnswer text (length mended) (length notes)) × (mended ≡ mendedLeft text mended notes) × (notes ≡ notesLeft text mended notes)
@@ -106,22 +106,22 @@ module _ (text : List ℕ) (s : Start) (e : s ≡ startOf text) (z : s .answer �
       notes-long = eqb-true (length notes) (length (notesOf text)) (and-right (eqb (length mended) (length (mendedOf text))) (eqb (length notes) (length (notesOf text))) lengths-are)
 
       -- what the first sweep asks
-      pub copy-asked : (s .next ≤ length text) × (s .ports ≤ 64) × (length mended ≡ length (swept (s .ports) (s .size) (sweepStart (take (s .next) text)) (linesBehind s text) .written))
+      pub copy-asked : (s .next ≤ length text) × (s .ports ≤ 64) × (length mended ≡ length (swept (s .counted) (s .ports) (s .size) (sweepStart (take (s .next) text)) (linesBehind s text) .written))
       copy-asked = (
         taken .within,
         taken .few,
-        mended-long ∙ (mended-length ∙ sym (written-length (s .ports) (s .size) (sweepStart (take (s .next) text)) (linesBehind s text) ∙ ap (λ (n : ℕ). n + keptLength (s .ports) (s .size) (linesBehind s text)) front)),
+        mended-long ∙ (mended-length ∙ sym (written-length (s .counted) (s .ports) (s .size) (sweepStart (take (s .next) text)) (linesBehind s text) ∙ ap (λ (n : ℕ). n + keptLength (s .ports) (s .size) (linesBehind s text)) front)),
       )
 
-      module _ (new : List ℕ) (k : new ≡ sweepEnd 64 (swept (s .ports) (s .size) (sweepStart (take (s .next) text)) (linesBehind s text))) where
+      module _ (new : List ℕ) (k : new ≡ sweepEnd 64 (swept (s .counted) (s .ports) (s .size) (sweepStart (take (s .next) text)) (linesBehind s text))) where
         mended-is : new ≡ mendedOf text
-        mended-is = k ∙ (sweep-is (s .ports) (s .size) (linesBehind s text) (taken .few) (take (s .next) text) ∙ sym (taken .mended-is))
+        mended-is = k ∙ (sweep-is (s .counted) (s .ports) (s .size) (linesBehind s text) (taken .few) (take (s .next) text) ∙ sym (taken .mended-is))
 
         beside : notesSwept (s .ports) (s .size) new 2 (s .next) (linesBehind s text) ≡ notesOf text
         beside =
             ap (λ (x : List ℕ). notesSwept (s .ports) (s .size) x 2 (s .next) (linesBehind s text)) (mended-is ∙ taken .mended-is)
-            ∙ (ap (λ (n : ℕ). notesSwept (s .ports) (s .size) (take (s .next) text ++ textOf (mendedLines (s .size) (judged (s .ports) (s .size) (linesBehind s text)))) 2 n (linesBehind s text)) (sym front)
-            ∙ (noted-is (s .ports) (s .size) (take (s .next) text) (linesBehind s text) ∙ sym (taken .notes-is)))
+            ∙ (ap (λ (n : ℕ). notesSwept (s .ports) (s .size) (take (s .next) text ++ textOf (mendedLines (s .size) (judged (s .counted) (s .ports) (s .size) (linesBehind s text)))) 2 n (linesBehind s text)) (sym front)
+            ∙ (noted-is (s .counted) (s .ports) (s .size) (take (s .next) text) (linesBehind s text) ∙ sym (taken .notes-is)))
 
         -- what the second sweep asks
         pub notes-asked : (s .next ≤ length text) × (s .ports ≤ 64) × (length notes ≡ length (notesSwept (s .ports) (s .size) new 2 (s .next) (linesBehind s text)))

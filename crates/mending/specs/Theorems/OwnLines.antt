@@ -7,7 +7,7 @@ use lib.Dec.{eqb}
 use lib.ListN.{drop, getD}
 use borrow.Author.Tests.{eqb-true}
 use Rattle.mending.specs.Beside.{isPort, portLines}
-use Rattle.mending.specs.Following.{followed}
+use Rattle.mending.specs.Following.{followedIf, hasCount}
 use Rattle.mending.specs.Laws.Lines.{Came, Fits, Read, came, fits-followed, fits-next, followedLeft, left-other, next-count, out-frame, out-other, outOf, readOf}
 use Rattle.mending.specs.Laws.Lines.{Read as R}
 use Rattle.mending.specs.Laws.Opened.{mended-lines}
@@ -84,14 +84,14 @@ module _ (ports size port : ℕ) where
               ∙ (mine-by (c .line) (outOf ports size (leftBy left (recordOf ports size l)) ls) false (ap (isPort port) (c .is) ∙ t) ∙ (r y ∙ ap (outOf ports size one) (sym (mine-by l ls false (ap (isPort port) e ∙ t)))))
 
 -- the lines of a port, mended among all and mended alone
-pub own-lines : (ports size port : ℕ) (ls : List Line)
-    → portLines ports size port (mendedLines size (judged ports size ls)) ≡ mendedLines size (judged ports size (portLines ports size port ls))
+pub own-lines : (has : Bool) (ports size port : ℕ) (ls : List Line)
+    → portLines ports size port (mendedLines size (judged has ports size ls)) ≡ mendedLines size (judged has ports size (portLines ports size port ls))
 unfolding judged
-own-lines ports size port ls =
-    own-out ports size port ls (followedLeft ports size ls) (followedLeft ports size (portLines ports size port ls)) (fits-followed ports size ls) (ap followed (own-counts ports size port ls))
+own-lines has ports size port ls =
+    own-out ports size port ls (followedLeft ports size has ls) (followedLeft ports size has (portLines ports size port ls)) (fits-followed ports size has ls) (ap (followedIf has) (own-counts ports size port ls))
 
 -- the same of the lines behind the first of a recording that is answered 0
 pub own-lines-out : (t : List ℕ) (o : Opened t) (port : ℕ) → portLines (o .settings .ports) (o .settings .size) port (drop 1 (linesWith (mendedOf t)))
-    ≡ mendedLines (o .settings .size) (judged (o .settings .ports) (o .settings .size) (portLines (o .settings .ports) (o .settings .size) port (o .rest)))
+    ≡ mendedLines (o .settings .size) (judged (hasCount (o .settings .kind)) (o .settings .ports) (o .settings .size) (portLines (o .settings .ports) (o .settings .size) port (o .rest)))
 unfolding judged
-own-lines-out t o port = rw (mended-lines t o) (own-lines (o .settings .ports) (o .settings .size) port (o .rest))
+own-lines-out t o port = rw (mended-lines t o) (own-lines (hasCount (o .settings .kind)) (o .settings .ports) (o .settings .size) port (o .rest))

@@ -7,7 +7,7 @@ use lib.ListN.{drop}
 use Rattle.mending.specs.Beside.{Alike, AllAlike, alteredNote, notesBeside, wellFormed}
 use Rattle.mending.specs.Laws.Lines.{Fits, Read, came, fate-other, fits-followed, fits-next, followedLeft, next-count, out-frame, out-other, outOf, readOf}
 use Rattle.mending.specs.Laws.Lines.{Read as R}
-use Rattle.mending.specs.Laws.Opened.{mended-lines, notes-are, portsIn, sizeIn}
+use Rattle.mending.specs.Laws.Opened.{mended-lines, notes-are, countedIn, portsIn, sizeIn}
 use Rattle.mending.specs.Lines.{Fate, Line, judgedBy, leftBy, linesWith, recordOf}
 use Rattle.mending.specs.Mending.{Opened, mendedOf, noteBy, noteText, notesFrom, notesOf}
 use Rattle.recording.specs.declared.record.Record.the-variants.{Frame}
@@ -56,10 +56,10 @@ module _ (ports size : ℕ) where
 pub others-unchanged : (t : List ℕ) (o : Opened t) → (linesWith (mendedOf t) ≡ o .first ∷ drop 1 (linesWith (mendedOf t)))
     × AllAlike (o .settings .size) (wellFormed (o .settings .ports) (o .settings .size) (o .rest)) (drop 1 (linesWith (mendedOf t)))
 others-unchanged t o =
-    rw (mended-lines t o) (refl, alike-out (portsIn t o) (sizeIn t o) (o .rest) (followedLeft (portsIn t o) (sizeIn t o) (o .rest)) (fits-followed (portsIn t o) (sizeIn t o) (o .rest)))
+    rw (mended-lines t o) (refl, alike-out (portsIn t o) (sizeIn t o) (o .rest) (followedLeft (portsIn t o) (sizeIn t o) (countedIn t o) (o .rest)) (fits-followed (portsIn t o) (sizeIn t o) (countedIn t o) (o .rest)))
 
 -- A line has a note exactly if it was dropped, or is not as it was; the numbers are those of the lines, the old text is the recording's, the new one the mended recording's.
 pub notes-exactly : (t : List ℕ) (o : Opened t) → notesOf t ≡ notesBeside (o .settings .ports) (o .settings .size) 2 (o .rest) (drop 1 (linesWith (mendedOf t)))
 notes-exactly t o =
     rw (mended-lines t o)
-    (notes-are t o ∙ notes-out (portsIn t o) (sizeIn t o) (o .rest) (followedLeft (portsIn t o) (sizeIn t o) (o .rest)) (fits-followed (portsIn t o) (sizeIn t o) (o .rest)) 2)
+    (notes-are t o ∙ notes-out (portsIn t o) (sizeIn t o) (o .rest) (followedLeft (portsIn t o) (sizeIn t o) (countedIn t o) (o .rest)) (fits-followed (portsIn t o) (sizeIn t o) (countedIn t o) (o .rest)) 2)

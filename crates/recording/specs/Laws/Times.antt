@@ -5,7 +5,7 @@ use mathlib.Core.List.{List, [], _∷_}
 use Prim.Native.Nat.{ℕ}
 use lib.Dec.{leb, ltb}
 use lib.ListN.{length, set, length-set}
-use Rattle.packet.specs.Kinds.{fixedKind}
+use Rattle.packet.specs.Kinds.{fixedKind, vc12Kind}
 use Rattle.recording.specs.declared.pairs.Awaited.{Awaited}
 use Rattle.recording.specs.declared.pairs.Awaited.the-variants as A
 use Rattle.recording.specs.declared.pairs.Pairs.{Pairs}
@@ -41,10 +41,11 @@ field-timed p field t = go (p .awaited)
     name false false true = t
     name false false false = t
 
-    kind : (a b : Bool) → Timed (cond a (kindTo p 0) (cond b (kindTo p fixedKind) (wrongField p)) .settings)
-    kind true b = record { hold = t .hold; restores = t .restores }
-    kind false true = record { hold = t .hold; restores = t .restores }
-    kind false false = t
+    kind : (a b c : Bool) → Timed (cond a (kindTo p 0) (cond b (kindTo p fixedKind) (cond c (kindTo p vc12Kind) (wrongField p))) .settings)
+    kind true b c = record { hold = t .hold; restores = t .restores }
+    kind false true c = record { hold = t .hold; restores = t .restores }
+    kind false false true = record { hold = t .hold; restores = t .restores }
+    kind false false false = t
 
     holds : (i : ℕ) (n : Number) → Timed (holdRead p i n .settings)
     holds i (Value n) = record { hold = put-long (p .settings .«hold_off») i n (t .hold); restores = t .restores }
@@ -56,7 +57,7 @@ field-timed p field t = go (p .awaited)
 
     go : (a : Awaited) → Timed (fieldBy a p field .settings)
     go A.Name = name (sameBytes field (ascii "kind") && not (p .«has_kind»)) (sameBytes field (ascii "hold-off") && not (p .«has_hold_off»)) (sameBytes field (ascii "wait-to-restore") && not (p .«has_restore»))
-    go A.Kind = kind (sameBytes field (ascii "H4")) (sameBytes field (ascii "FIXED"))
+    go A.Kind = kind (sameBytes field (ascii "H4")) (sameBytes field (ascii "FIXED")) (sameBytes field (ascii "VC12"))
     go (A.HoldOff i) = holds i (numberOf 9 field)
     go (A.Restore i) = restored i (numberOf 9 field)
     go A.Nothing = t

@@ -17,7 +17,7 @@ pub record Lent (r : Replay) (rows store out said : ℕ) : Type 0 where
   pub size-most : r .size ≤ 2340
   pub rows-there : rowsFor (r .ports) ≤ rows
   pub store-there : storeOf (r .ports) (r .size) (r .window) ≤ store
-  pub out-there : outputOf (r .ports) (r .size) ≤ out
+  pub out-there : outputOf (r .kind) (r .ports) (r .size) ≤ out
 
 module _ (r : Replay) (rows store out said : ℕ) where
   abbrev a : Bool
@@ -36,7 +36,7 @@ module _ (r : Replay) (rows store out said : ℕ) where
   e = leb (storeOf (r .ports) (r .size) (r .window)) store
 
   abbrev f : Bool
-  f = leb (outputOf (r .ports) (r .size)) out
+  f = leb (outputOf (r .kind) (r .ports) (r .size)) out
 
   pub lent-says : isLent r rows store out said ≡ true → Lent r rows store out said
   unfolding isLent
@@ -51,10 +51,10 @@ module _ (r : Replay) (rows store out said : ℕ) where
         size-most = leb-true (r .size) 2340 (and-right (a && b) c t3);
         rows-there = leb-true (rowsFor (r .ports)) rows (and-right (a && b && c) d t4);
         store-there = leb-true (storeOf (r .ports) (r .size) (r .window)) store (and-right (a && b && c && d) e t5);
-        out-there = leb-true (outputOf (r .ports) (r .size)) out (and-right (a && b && c && d && e) f t);
+        out-there = leb-true (outputOf (r .kind) (r .ports) (r .size)) out (and-right (a && b && c && d && e) f t);
       }
 
   pub lent-is : Lent r rows store out said → isLent r rows store out said ≡ true
   unfolding isLent
   lent-is l =
-      and-true (a && b && c && d && e) f (and-true (a && b && c && d) e (and-true (a && b && c) d (and-true (a && b) c (and-true a b (le-leb ROOM said (l .room)) (le-leb (r .ports) 64 (l .ports-most))) (le-leb (r .size) 2340 (l .size-most))) (le-leb (rowsFor (r .ports)) rows (l .rows-there))) (le-leb (storeOf (r .ports) (r .size) (r .window)) store (l .store-there))) (le-leb (outputOf (r .ports) (r .size)) out (l .out-there))
+      and-true (a && b && c && d && e) f (and-true (a && b && c && d) e (and-true (a && b && c) d (and-true (a && b) c (and-true a b (le-leb ROOM said (l .room)) (le-leb (r .ports) 64 (l .ports-most))) (le-leb (r .size) 2340 (l .size-most))) (le-leb (rowsFor (r .ports)) rows (l .rows-there))) (le-leb (storeOf (r .ports) (r .size) (r .window)) store (l .store-there))) (le-leb (outputOf (r .kind) (r .ports) (r .size)) out (l .out-there))

@@ -13,7 +13,7 @@ use lib.Seq.{slice, drop-length, drop-nil, take-append-seam, take-take}
 use borrow.Author.Tests.{le-leb, lt-leb, lt-ltb, ltb-false, ltb-true}
 use Rattle.bytes.specs.Bytes.{indexOf}
 use Rattle.ground.specs.Truth.{and-true}
-use Rattle.packet.specs.Laws.Epochs.{nibbles-in}
+use Rattle.packet.specs.Kinds.{frames}
 use Rattle.receiver.specs.Fetch.{fetchRows}
 use Rattle.receiver.specs.Frame.{frameRows, frameStore}
 use Rattle.receiver.specs.Laws.Sizes.{start-sizes-of}
@@ -86,10 +86,10 @@ module _ (out : List ℕ) where
     pub whole : (more : List ℕ) (later : List (List ℕ)) → (last ≡ true → more ≡ []) → g .said ++ toCome g more later ≡ h .said ++ toCome h more later
 
 -- a host by its parts
-abbrev host : Phase → ℕ → ℕ → ℕ → ℕ → ℕ → List (List ℕ) → List ℕ → List ℕ → List ℕ → List ℕ → List ℕ → Host
-host phase line left ports size window rows store lent buffer text said =
+abbrev host : Phase → ℕ → ℕ → ℕ → ℕ → ℕ → ℕ → List (List ℕ) → List ℕ → List ℕ → List ℕ → List ℕ → List ℕ → Host
+host phase line left kind ports size window rows store lent buffer text said =
     record {
-      replay = record { phase = phase; line = line; left = left; ports = ports; size = size; window = window };
+      replay = record { phase = phase; line = line; left = left; kind = kind; ports = ports; size = size; window = window };
       rows = rows;
       store = store;
       out = lent;
@@ -116,9 +116,9 @@ lent-again a b c d l = record { room = d; ports-most = l .ports-most; size-most 
 written : (said text buffer more : List ℕ) → (said ++ take (length text) (over text buffer)) ++ more ≡ said ++ (text ++ more)
 written said text buffer more = rw (take-append-seam text (drop (length text) buffer)) (append-assoc said text more)
 
-module _ (out : List ℕ) (line left ports size window : ℕ) (rows : List (List ℕ)) (store lent buffer text said : List ℕ) where
-  ended-keeps : (last : Bool) → Fit out (host Ended line left ports size window rows store lent buffer text said)
-      → Keeps out last (host Ended line left ports size window rows store lent buffer text said) (called last (host Ended line left ports size window rows store lent buffer text said))
+module _ (out : List ℕ) (line left kind ports size window : ℕ) (rows : List (List ℕ)) (store lent buffer text said : List ℕ) where
+  ended-keeps : (last : Bool) → Fit out (host Ended line left kind ports size window rows store lent buffer text said)
+      → Keeps out last (host Ended line left kind ports size window rows store lent buffer text said) (called last (host Ended line left kind ports size window rows store lent buffer text said))
   unfolding called T.turnOf T.turnRows T.turnStore T.turnOut T.turnSaid
   ended-keeps last f =
       record {
@@ -127,7 +127,7 @@ module _ (out : List ℕ) (line left ports size window : ℕ) (rows : List (List
       }
 
   abbrev skipping : Host
-  skipping = host Skipping line left ports size window rows store lent buffer text said
+  skipping = host Skipping line left kind ports size window rows store lent buffer text said
 
   skip-keeps : (last : Bool) → Fit out skipping → Keeps out last skipping (called last skipping)
   unfolding called T.turnOf T.turnRows T.turnStore T.turnOut T.turnSaid T.skipTurn
@@ -174,9 +174,9 @@ module _ (r : Replay) (rows : List (List ℕ)) (store lent out : List ℕ) (e : 
   unfolding T.fetchOutBy
   length-out = length-fetch-out (take (rowsFor (r .ports)) rows) (take (storeOf (r .ports) (r .size) (r .window)) store) lent (replicate 8 0)
 
-module _ (out : List ℕ) (line ports size window : ℕ) (rows : List (List ℕ)) (store lent buffer text said : List ℕ) where
+module _ (out : List ℕ) (line kind ports size window : ℕ) (rows : List (List ℕ)) (store lent buffer text said : List ℕ) where
   abbrev fetching : ℕ → Host
-  fetching left = host Fetching line left ports size window rows store lent buffer text said
+  fetching left = host Fetching line left kind ports size window rows store lent buffer text said
 
   report-keeps : (left : ℕ) (last : Bool) → Fit out (fetching left) → Keeps out last (fetching left) (called last (fetching left))
   unfolding called T.turnOf T.turnRows T.turnStore T.turnOut T.turnSaid T.reportTurn T.reportRows T.reportOut T.reportSaid T.fetchedTurn T.fetchedSaid T.readOnTurn T.reportedTurn
@@ -268,9 +268,9 @@ payload-alike : (size place : ℕ) (t l : List ℕ) → slice place (place + siz
 unfolding T.payloadAt
 payload-alike size place t l e = rw e
 
-module _ (out : List ℕ) (line left ports size window : ℕ) (rows : List (List ℕ)) (store lent buffer text said : List ℕ) where
+module _ (out : List ℕ) (line left kind ports size window : ℕ) (rows : List (List ℕ)) (store lent buffer text said : List ℕ) where
   abbrev reading : Host
-  reading = host Reading line left ports size window rows store lent buffer text said
+  reading = host Reading line left kind ports size window rows store lent buffer text said
 
   -- no line has ended
   wait-keeps : (last : Bool) → Fit out reading → T.nowIn (reading .replay) text last ≡ End → Keeps out last reading (called last reading)
@@ -421,10 +421,10 @@ record FirstBad (t : List ℕ) : Type 0 where
   bad : lineOpening 0 line ≡ O.Malformed
 
 -- an epoch's output is no longer than the store
-output-le : (p s w : ℕ) → 16 ≤ w → outputOf p s ≤ storeOf p s w
-output-le p s w h =
-    let a : p * 16 ≤ p * w = mul-le-mul-left p h in
-    let b : p * 16 * s ≤ p * w * s = mul-le-mul-right s a in
+output-le : (k p s w : ℕ) → frames k ≤ w → outputOf k p s ≤ storeOf p s w
+output-le k p s w h =
+    let a : p * frames k ≤ p * w = mul-le-mul-left p h in
+    let b : p * frames k * s ≤ p * w * s = mul-le-mul-right s a in
     let c : p * w * s ≤ p * w * (s + 1) = mul-le-mul-left (p * w) (omega arith) in
     omega arith
 
@@ -432,9 +432,9 @@ long-opening : (l : List ℕ) → MOST < length l → lineOpening 0 l ≡ O.Malf
 unfolding lineOpening
 long-opening l m = rw (lt-leb (length l) MOST m)
 
-module _ (out : List ℕ) (line left ports size window : ℕ) (rows : List (List ℕ)) (store lent buffer text said : List ℕ) where
+module _ (out : List ℕ) (line left kind ports size window : ℕ) (rows : List (List ℕ)) (store lent buffer text said : List ℕ) where
   abbrev starting : Host
-  starting = host Settings line left ports size window rows store lent buffer text said
+  starting = host Settings line left kind ports size window rows store lent buffer text said
 
   open-lent : Fit out starting → T.openLent (length rows) (length buffer) ≡ true
   open-lent f = and-true (leb ROOM (length buffer)) (leb 321 (length rows)) (le-leb ROOM (length buffer) (f .room)) (le-leb 321 (length rows) (f .full))
@@ -488,7 +488,7 @@ module _ (out : List ℕ) (line left ports size window : ℕ) (rows : List (List
         let p = s .ports in
         let c = start-sizes-of (s .kind) p (s .size) (s .window) (start-sized s (length store) b) in
         let d = start-stored s (length store) b in
-        let k = output-le p (s .size) (s .window) (let a = nibbles-in (s .kind) 15 (omega arith) in let b = c .wide in omega arith) in
+        let k = output-le (s .kind) p (s .size) (s .window) (c .wide) in
         let m : rowsFor p ≤ length rows = (let x = c .few-ports in let y = f .full in omega arith) in
         let zs = T.clearedRows rows in
         let lz : length zs ≡ length rows = length-replicate (length rows) _ in
@@ -575,15 +575,15 @@ module _ (out : List ℕ) (line left ports size window : ℕ) (rows : List (List
 
 -- one call
 call-keeps : (out : List ℕ) (last : Bool) (h : Host) → Fit out h → Keeps out last h (called last h)
-call-keeps out last h = by (h .replay .phase) (h .replay .line) (h .replay .left) (h .replay .ports) (h .replay .size) (h .replay .window) (h .rows) (h .store) (h .out) (h .buffer) (h .text) (h .said)
+call-keeps out last h = by (h .replay .phase) (h .replay .line) (h .replay .left) (h .replay .kind) (h .replay .ports) (h .replay .size) (h .replay .window) (h .rows) (h .store) (h .out) (h .buffer) (h .text) (h .said)
   where
-    by : (phase : Phase) (line left ports size window : ℕ) (rows : List (List ℕ)) (store lent buffer text said : List ℕ) → Fit out (host phase line left ports size window rows store lent buffer text said)
-        → Keeps out last (host phase line left ports size window rows store lent buffer text said) (called last (host phase line left ports size window rows store lent buffer text said))
-    by Settings line left ports size window rows store lent buffer text said f = first-keeps out line left ports size window rows store lent buffer text said last f
-    by Reading line left ports size window rows store lent buffer text said f = read-keeps out line left ports size window rows store lent buffer text said last f
-    by Fetching line left ports size window rows store lent buffer text said f = report-keeps out line ports size window rows store lent buffer text said left last f
-    by Skipping line left ports size window rows store lent buffer text said f = skip-keeps out line left ports size window rows store lent buffer text said last f
-    by Ended line left ports size window rows store lent buffer text said f = ended-keeps out line left ports size window rows store lent buffer text said last f
+    by : (phase : Phase) (line left kind ports size window : ℕ) (rows : List (List ℕ)) (store lent buffer text said : List ℕ) → Fit out (host phase line left kind ports size window rows store lent buffer text said)
+        → Keeps out last (host phase line left kind ports size window rows store lent buffer text said) (called last (host phase line left kind ports size window rows store lent buffer text said))
+    by Settings line left kind ports size window rows store lent buffer text said f = first-keeps out line left kind ports size window rows store lent buffer text said last f
+    by Reading line left kind ports size window rows store lent buffer text said f = read-keeps out line left kind ports size window rows store lent buffer text said last f
+    by Fetching line left kind ports size window rows store lent buffer text said f = report-keeps out line kind ports size window rows store lent buffer text said left last f
+    by Skipping line left kind ports size window rows store lent buffer text said f = skip-keeps out line left kind ports size window rows store lent buffer text said last f
+    by Ended line left kind ports size window rows store lent buffer text said f = ended-keeps out line left kind ports size window rows store lent buffer text said last f
 
 -- between two parts: all text is used, and no line is half read
 abbrev pub isBetween : Phase → Bool
@@ -602,9 +602,9 @@ no-text [] e = refl
 no-text (b ∷ text) e = absurd (let z = borrow.Author.Tests.eqb-true (length (b ∷ text)) 0 e in omega arith)
 
 -- a call with the last text that wants more leaves nothing half read
-module _ (out : List ℕ) (line left ports size window : ℕ) (rows : List (List ℕ)) (store lent buffer text said : List ℕ) where
+module _ (out : List ℕ) (line left kind ports size window : ℕ) (rows : List (List ℕ)) (store lent buffer text said : List ℕ) where
   abbrev hostIn : Phase → Host
-  hostIn phase = host phase line left ports size window rows store lent buffer text said
+  hostIn phase = host phase line left kind ports size window rows store lent buffer text said
 
   ended-closes : Closed (called true (hostIn Ended))
   unfolding called T.turnOf
@@ -642,24 +642,24 @@ module _ (out : List ℕ) (line left ports size window : ℕ) (rows : List (List
 
       go : (a b c : Bool) → eqb (length text) 0 ≡ a → ltb (indexOf LINE-END text) (length text) ≡ b → ltb MOST (length text) ≡ c → Closed (called true (hostIn Reading))
       go true b c ea eb ec =
-          let n = now-nothing out line left ports size window rows store lent buffer text said true ea in
+          let n = now-nothing out line left kind ports size window rows store lent buffer text said true ea in
           rw (t, n) (record { used = no-text text ea; between-parts = refl })
       go false true c ea eb ec =
           absurd
-          (no-line (lineRecord ports size 0 (0 + indexOf LINE-END text + 1) (firstOf text)) (is-line ports size 0 (0 + indexOf LINE-END text + 1) (firstOf text)) (now-line out line left ports size window rows store lent buffer text said true ea eb))
+          (no-line (lineRecord ports size 0 (0 + indexOf LINE-END text + 1) (firstOf text)) (is-line ports size 0 (0 + indexOf LINE-END text + 1) (firstOf text)) (now-line out line left kind ports size window rows store lent buffer text said true ea eb))
       go false false true ea eb ec =
-          let n = now-long out line left ports size window rows store lent buffer text said true ea eb ec in
+          let n = now-long out line left kind ports size window rows store lent buffer text said true ea eb ec in
           absurd (false≢true (rw (t, n) at w))
       go false false false ea eb ec =
           absurd
-          (no-line (lineRecord ports size 0 (0 + length text) text) (is-line ports size 0 (0 + length text) text) (now-last out line left ports size window rows store lent buffer text said true ea eb ec refl))
+          (no-line (lineRecord ports size 0 (0 + length text) text) (is-line ports size 0 (0 + length text) text) (now-last out line left kind ports size window rows store lent buffer text said true ea eb ec refl))
 
   first-closes : Fit out (hostIn Settings) → answer true (hostIn Settings) .wants ≡ true → Closed (called true (hostIn Settings))
   unfolding called T.turnOf T.openTurn T.openWithTurn T.answeredTurn
   first-closes f w = go (eqb (length text) 0) (ltb (indexOf LINE-END text) (length text)) (ltb MOST (length text)) refl refl refl
     where
       t : T.openLent (length rows) (length buffer) ≡ true
-      t = open-lent out line left ports size window rows store lent buffer text said f
+      t = open-lent out line left kind ports size window rows store lent buffer text said f
 
       set : (s : GroupSettings) (next : ℕ) (b : Bool) → T.startable s (length store) ≡ b → openingIn 0 true text ≡ O.Settings s next → ⊥
       set s next true b e = false≢true (rw (t, e, b) at w)
@@ -673,26 +673,26 @@ module _ (out : List ℕ) (line left ports size window : ℕ) (rows : List (List
 
       go : (a b c : Bool) → eqb (length text) 0 ≡ a → ltb (indexOf LINE-END text) (length text) ≡ b → ltb MOST (length text) ≡ c → Closed (called true (hostIn Settings))
       go true b c ea eb ec =
-          let n = first-nothing out line left ports size window rows store lent buffer text said true ea in
+          let n = first-nothing out line left kind ports size window rows store lent buffer text said true ea in
           rw (t, n) (record { used = no-text text ea; between-parts = refl })
       go false true c ea eb ec =
           absurd
-          (settled (lineOpening (0 + indexOf LINE-END text + 1) (firstOf text)) (opening-settled (0 + indexOf LINE-END text + 1) (firstOf text)) (first-line out line left ports size window rows store lent buffer text said true ea eb))
-      go false false true ea eb ec = absurd (settled O.Malformed refl (first-long out line left ports size window rows store lent buffer text said true ea eb ec))
+          (settled (lineOpening (0 + indexOf LINE-END text + 1) (firstOf text)) (opening-settled (0 + indexOf LINE-END text + 1) (firstOf text)) (first-line out line left kind ports size window rows store lent buffer text said true ea eb))
+      go false false true ea eb ec = absurd (settled O.Malformed refl (first-long out line left kind ports size window rows store lent buffer text said true ea eb ec))
       go false false false ea eb ec =
           absurd
-          (settled (lineOpening (0 + length text) text) (opening-settled (0 + length text) text) (first-last out line left ports size window rows store lent buffer text said true ea eb ec refl))
+          (settled (lineOpening (0 + length text) text) (opening-settled (0 + length text) text) (first-last out line left kind ports size window rows store lent buffer text said true ea eb ec refl))
 
 call-closes : (out : List ℕ) (h : Host) → Fit out h → answer true h .wants ≡ true → Closed (called true h)
-call-closes out h = by (h .replay .phase) (h .replay .line) (h .replay .left) (h .replay .ports) (h .replay .size) (h .replay .window) (h .rows) (h .store) (h .out) (h .buffer) (h .text) (h .said)
+call-closes out h = by (h .replay .phase) (h .replay .line) (h .replay .left) (h .replay .kind) (h .replay .ports) (h .replay .size) (h .replay .window) (h .rows) (h .store) (h .out) (h .buffer) (h .text) (h .said)
   where
-    by : (phase : Phase) (line left ports size window : ℕ) (rows : List (List ℕ)) (store lent buffer text said : List ℕ) → Fit out (host phase line left ports size window rows store lent buffer text said)
-        → answer true (host phase line left ports size window rows store lent buffer text said) .wants ≡ true → Closed (called true (host phase line left ports size window rows store lent buffer text said))
-    by Settings line left ports size window rows store lent buffer text said f w = first-closes out line left ports size window rows store lent buffer text said f w
-    by Reading line left ports size window rows store lent buffer text said f w = read-closes out line left ports size window rows store lent buffer text said f w
-    by Fetching line left ports size window rows store lent buffer text said f w = absurd (report-goes-on out line left ports size window rows store lent buffer text said f w)
-    by Skipping line left ports size window rows store lent buffer text said f w = skip-closes out line left ports size window rows store lent buffer text said w
-    by Ended line left ports size window rows store lent buffer text said f w = ended-closes out line left ports size window rows store lent buffer text said
+    by : (phase : Phase) (line left kind ports size window : ℕ) (rows : List (List ℕ)) (store lent buffer text said : List ℕ) → Fit out (host phase line left kind ports size window rows store lent buffer text said)
+        → answer true (host phase line left kind ports size window rows store lent buffer text said) .wants ≡ true → Closed (called true (host phase line left kind ports size window rows store lent buffer text said))
+    by Settings line left kind ports size window rows store lent buffer text said f w = first-closes out line left kind ports size window rows store lent buffer text said f w
+    by Reading line left kind ports size window rows store lent buffer text said f w = read-closes out line left kind ports size window rows store lent buffer text said f w
+    by Fetching line left kind ports size window rows store lent buffer text said f w = absurd (report-goes-on out line left kind ports size window rows store lent buffer text said f w)
+    by Skipping line left kind ports size window rows store lent buffer text said f w = skip-closes out line left kind ports size window rows store lent buffer text said w
+    by Ended line left kind ports size window rows store lent buffer text said f w = ended-closes out line left kind ports size window rows store lent buffer text said
 
 -- calls with the last text until one wants more
 record Closes (out : List ℕ) (h g : Host) : Type 0 where

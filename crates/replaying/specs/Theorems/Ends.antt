@@ -97,7 +97,7 @@ module _ (r : Replay) (text : List ℕ) (w : r .window ≤ 2048) where
   open-goes last rows store said left = go (T.openLent rows said) (openingIn 0 last text)
     where
       set : (g : GroupSettings) (next : ℕ) (b : Bool) → T.startable g store ≡ b
-          → Goes (weight (length text) Settings left) text (cond b (T.turned (record { phase = Reading; line = nextLine (r .line); left = 0; ports = g .ports; size = g .size; window = g .window }) next 0 false) (T.answeredTurn r Ended 4 0))
+          → Goes (weight (length text) Settings left) text (cond b (T.turned (record { phase = Reading; line = nextLine (r .line); left = 0; kind = g .kind; ports = g .ports; size = g .size; window = g .window }) next 0 false) (T.answeredTurn r Ended 4 0))
       set g next true e = record { narrow = narrow-set g store e; on = inr (let d = as-long next text in omega arith) }
       set g next false e = record { narrow = w; on = inr (omega arith) }
 
@@ -146,18 +146,18 @@ module _ (r : Replay) (text : List ℕ) (w : r .window ≤ 2048) where
       go false e = record { narrow = w; on = inl refl }
 
 -- one call, by the phase
-phase-goes : (phase : Phase) (line left ports size window : ℕ) (text : List ℕ) (last : Bool) (rows : List (List ℕ)) (store out : List ℕ) (said : ℕ) → window ≤ 2048
-    → Goes (weight (length text) phase left) text (T.turnOf (record { phase = phase; line = line; left = left; ports = ports; size = size; window = window }) text last rows store out said)
+phase-goes : (phase : Phase) (line left kind ports size window : ℕ) (text : List ℕ) (last : Bool) (rows : List (List ℕ)) (store out : List ℕ) (said : ℕ) → window ≤ 2048
+    → Goes (weight (length text) phase left) text (T.turnOf (record { phase = phase; line = line; left = left; kind = kind; ports = ports; size = size; window = window }) text last rows store out said)
 unfolding T.turnOf
-phase-goes Settings line left ports size window text last rows store out said w = open-goes _ text w last (length rows) (length store) said left
-phase-goes Reading line left ports size window text last rows store out said w = read-goes _ text w last (length rows) (length store) (length out) said left
-phase-goes Fetching line left ports size window text last rows store out said w = report-goes _ text w rows store out said
-phase-goes Skipping line left ports size window text last rows store out said w = skip-goes _ text w last left
-phase-goes Ended line left ports size window text last rows store out said w = record { narrow = w; on = inl refl }
+phase-goes Settings line left kind ports size window text last rows store out said w = open-goes _ text w last (length rows) (length store) said left
+phase-goes Reading line left kind ports size window text last rows store out said w = read-goes _ text w last (length rows) (length store) (length out) said left
+phase-goes Fetching line left kind ports size window text last rows store out said w = report-goes _ text w rows store out said
+phase-goes Skipping line left kind ports size window text last rows store out said w = skip-goes _ text w last left
+phase-goes Ended line left kind ports size window text last rows store out said w = record { narrow = w; on = inl refl }
 
 call-goes : (last : Bool) (h : Host) → h .replay .window ≤ 2048 → Goes (turnsLeft h) (h .text) (answer last h)
 call-goes last h w =
-    phase-goes (h .replay .phase) (h .replay .line) (h .replay .left) (h .replay .ports) (h .replay .size) (h .replay .window) (h .text) last (h .rows) (h .store) (h .out) (length (h .buffer)) w
+    phase-goes (h .replay .phase) (h .replay .line) (h .replay .left) (h .replay .kind) (h .replay .ports) (h .replay .size) (h .replay .window) (h .text) last (h .rows) (h .store) (h .out) (length (h .buffer)) w
 
 after-call : (last : Bool) (h : Host) → (turnsLeft (called last h) ≡ leaves (answer last h) (h .text)) × (called last h .replay ≡ answer last h .replay)
 unfolding called

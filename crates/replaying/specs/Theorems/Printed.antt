@@ -34,7 +34,7 @@ pub data Event : Type 0 where
 module _ (out : List ℕ) where
   abbrev pub given : Desk → Event
   given d =
-      Reported (fetchRecordBy (d .replay) (d .rows) (d .store) out) (d .replay .line) (d .replay .ports) (statesIn (d .rows)) (statesIn (fetchRowsBy (d .replay) (d .rows) (d .store) out))
+      Reported (fetchRecordBy (d .replay) (d .rows) (d .store) out) (d .replay .line) (d .replay .ports) (statesIn (d .replay .kind) (d .rows)) (statesIn (d .replay .kind) (fetchRowsBy (d .replay) (d .rows) (d .store) out))
 
   -- every fetch behind a frame, until one gives none
   abbrev pub fetches : ℕ → Desk → List Event

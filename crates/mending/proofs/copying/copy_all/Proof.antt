@@ -21,7 +21,7 @@ lay-requires c κs = search needs
 copy-lines-requires : tie.Need-copy-lines-requires
 copy-lines-requires c κs =
     let s = c .before .before .before .before .before .before .before .before in
-    lines-asked (s .args .ports) (s .args .size) (s .args .start) (s .args .text .now) (s .args .mended .now) _ (s .pre .0) (c .before .before .before .lay .ensures) (s .pre .2) (s .pre .1)
+    lines-asked (s .args .counted) (s .args .ports) (s .args .size) (s .args .start) (s .args .text .now) (s .args .mended .now) _ (s .pre .0) (c .before .before .before .lay .ensures) (s .pre .2) (s .pre .1)
 
 -- src/copying.rt:109:1
 same-length : tie.Need-same-length
@@ -31,7 +31,7 @@ same-length c = search needs
 returns : tie.Need-returns
 returns c =
     let s = c .before .before .before .before .before .before .before .before .before .before .before in
-    lines-left (s .args .ports) (s .args .size) (s .args .start) (s .args .text .now) (s .args .mended .now) _ (s .pre .0) (c .before .before .before .before .before .before .lay .ensures) (s .pre .2) _ (c .before .before .copy-lines .ensures)
+    lines-left (s .args .counted) (s .args .ports) (s .args .size) (s .args .start) (s .args .text .now) (s .args .mended .now) _ (s .pre .0) (c .before .before .before .before .before .before .lay .ensures) (s .pre .2) _ (c .before .before .copy-lines .ensures)
 
 pub copy-all-spec : {M : Type 1} → statement M
 copy-all-spec =

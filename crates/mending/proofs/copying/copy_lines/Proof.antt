@@ -14,7 +14,7 @@ use Rattle.mending.proofs.copying.copy_lines.Reads as reads
 use Rattle.mending.proofs.copying.copy_lines.Lts as lts
 use Rattle.mending.proofs.copying.finish.Reads as finish-reads
 use Rattle.mending.proofs.copying.restore.Reads as restore-reads
-use Rattle.mending.proofs.follow.followed.Reads as followed-reads
+use Rattle.mending.proofs.follow.followed_if.Reads as followed-if-reads
 use Rattle.mending.proofs.follow.no_keys.Reads as no-keys-reads
 use Rattle.mending.proofs.follow.none_yet.Reads as none-yet-reads
 use Rattle.mending.proofs.follow.with_key.Reads as with-key-reads
@@ -22,10 +22,10 @@ use Rattle.mending.proofs.line.read_line.Reads as read-line-reads
 use Rattle.payload.proofs.lay.Reads as lay-reads
 
 abbrev Inv-loop : tie.InvT-loop
-Inv-loop text start ports size mended₀ follows₀ keys₀ at₀ to₀ mended follows keys at to = Copying ports size start text mended₀ follows keys at to mended
+Inv-loop text start ports size counted mended₀ follows₀ keys₀ at₀ to₀ mended follows keys at to = Copying counted ports size start text mended₀ follows keys at to mended
 
 abbrev μ-loop : tie.MeasureT-loop
-μ-loop text start ports size mended₀ follows₀ keys₀ at₀ to₀ mended follows keys at to = length text - at
+μ-loop text start ports size counted mended₀ follows₀ keys₀ at₀ to₀ mended follows keys at to = length text - at
 
 -- src/copying.rt:81:9
 none-yet-requires : tie.Need-none-yet-requires Inv-loop μ-loop
@@ -39,7 +39,7 @@ no-keys-requires c κs = search needs
 loop-holds : tie.Need-loop-holds Inv-loop μ-loop
 loop-holds c =
     let s = c .before .before .before .before in
-    copying-starts (s .args .ports) (s .args .size) (s .args .start) (s .args .text .now) (s .args .mended .now) (s .pre .0) (s .pre .2) _ _ (ap (replicate 64) (c .before .none-yet .ensures)) (ap (replicate 64) (c .no-keys .ensures))
+    copying-starts (s .args .counted) (s .args .ports) (s .args .size) (s .args .start) (s .args .text .now) (s .args .mended .now) (s .pre .0) (s .pre .2) _ _ (ap (replicate 64) (c .before .none-yet .ensures)) (ap (replicate 64) (c .no-keys .ensures))
 
 -- src/copying.rt:88:13
 read-line-requires : tie.Need-read-line-requires Inv-loop μ-loop
@@ -62,8 +62,8 @@ array-copy-out-places : tie.Need-array-copy-out-places Inv-loop μ-loop
 array-copy-out-places c = let b = c .before .before .read-line .ensures .1 .port in let i = c .before .before .before .before .loop .inv .keys-long in omega arith
 
 -- src/copying.rt:94:17
-followed-requires : tie.Need-followed-requires Inv-loop μ-loop
-followed-requires c κs = search needs
+followed-if-requires : tie.Need-followed-if-requires Inv-loop μ-loop
+followed-if-requires c κs = search needs
 
 -- src/copying.rt:95:13
 restore-requires : tie.Need-restore-requires Inv-loop μ-loop
@@ -147,8 +147,8 @@ loop-again c =
     let r = c .before .before .before .before .before .before .before .before .before .before .before .before .before .before .before .read-line in
     let a = r .ensures .1 .ahead in
     let w = l .inv .within in
-    copy-kept (s .args .ports) (s .args .size) (s .args .start) (s .args .text .now) (s .args .mended .now) (s .pre .3) (l .follows) (l .keys) (l .at) (l .to) (l .mended) (l .inv) (c .before .before .before .before .before .before .before .before .before .before .before .before .before .before .before .before .loop-test .taken)
-    (r .result) (r .ensures .0) (c .before .before .before .before .before .before .before .before .before .before .before .before .before .before .if1 .taken) (r .ensures .1 .port) (c .before .before .before .before .before .before .before .before .before .before .before .followed .result) (c .before .before .before .before .before .before .before .before .before .before .before .followed .ensures) _ (c .before .before .before .before .before .before .before .before .before .restore .ensures) _
+    copy-kept (s .args .counted) (s .args .ports) (s .args .size) (s .args .start) (s .args .text .now) (s .args .mended .now) (s .pre .3) (l .follows) (l .keys) (l .at) (l .to) (l .mended) (l .inv) (c .before .before .before .before .before .before .before .before .before .before .before .before .before .before .before .before .loop-test .taken)
+    (r .result) (r .ensures .0) (c .before .before .before .before .before .before .before .before .before .before .before .before .before .before .if1 .taken) (r .ensures .1 .port) (c .before .before .before .before .before .before .before .before .before .before .before .followed-if .result) (c .before .before .before .before .before .before .before .before .before .before .before .followed-if .ensures) _ (c .before .before .before .before .before .before .before .before .before .restore .ensures) _
     (part-is (l .at) (r .result .next) (s .args .text .now) (omega arith) w) _ (c .before .before .before .before .lay .ensures) (c .with-key .result) (c .with-key .ensures)
 
 -- src/copying.rt:87:5
@@ -161,7 +161,7 @@ loop-again-2 c =
     let s = c .before .before .before .before .before .before .before .before in
     let l = c .before .before .before .loop in
     let r = c .before .read-line in
-    copy-dropped (s .args .ports) (s .args .size) (s .args .start) (s .args .text .now) (s .args .mended .now) (s .pre .3) (l .follows) (l .keys) (l .at) (l .to) (l .mended) (l .inv) (c .before .before .loop-test .taken)
+    copy-dropped (s .args .counted) (s .args .ports) (s .args .size) (s .args .start) (s .args .text .now) (s .args .mended .now) (s .pre .3) (l .follows) (l .keys) (l .at) (l .to) (l .mended) (l .inv) (c .before .before .loop-test .taken)
     (r .result) (r .ensures .0) (c .if1 .left)
 
 -- src/copying.rt:105:5
@@ -177,7 +177,7 @@ returns : tie.Need-returns Inv-loop μ-loop
 returns c =
     let s = c .before .before .before .before .before .before .before .before .before .before in
     let l = c .before .before .before .before .before .loop in
-    c .before .before .finish .ensures ∙ ap (sweepEnd 64) (copying-ends (s .args .ports) (s .args .size) (s .args .start) (s .args .text .now) (s .args .mended .now) (s .pre .3) (l .follows) (l .keys) (l .at) (l .to) (l .mended) (l .inv) (c .before .before .before .before .loop-test .left))
+    c .before .before .finish .ensures ∙ ap (sweepEnd 64) (copying-ends (s .args .counted) (s .args .ports) (s .args .size) (s .args .start) (s .args .text .now) (s .args .mended .now) (s .pre .3) (l .follows) (l .keys) (l .at) (l .to) (l .mended) (l .inv) (c .before .before .before .before .loop-test .left))
 
 pub copy-lines-spec : {M : Type 1} → statement M
 copy-lines-spec =
@@ -193,7 +193,7 @@ copy-lines-spec =
     array-copy-out-before
     mul-places
     array-copy-out-places
-    followed-requires
+    followed-if-requires
     restore-requires
     sub-lay
     part-lay-start

@@ -9,7 +9,7 @@ use Rattle.mending.proofs.measuring.lengths_from.Statement.{statement}
 use Rattle.mending.proofs.measuring.lengths_from.Tie as tie
 use Rattle.mending.proofs.measuring.lengths_from.Reads as reads
 use Rattle.mending.proofs.measuring.lengths_from.Lts as lts
-use Rattle.mending.proofs.follow.followed.Reads as followed-reads
+use Rattle.mending.proofs.follow.followed_if.Reads as followed-if-reads
 use Rattle.mending.proofs.follow.no_keys.Reads as no-keys-reads
 use Rattle.mending.proofs.follow.none_yet.Reads as none-yet-reads
 use Rattle.mending.proofs.follow.with_key.Reads as with-key-reads
@@ -19,11 +19,11 @@ use Rattle.mending.proofs.measuring.noted_by.Reads as noted-by-reads
 use Rattle.mending.proofs.measuring.with_last.Reads as with-last-reads
 
 abbrev Inv-loop : tie.InvT-loop
-Inv-loop text start ports size follows₀ keys₀ at₀ mended₀ notes₀ number₀ follows keys at mended notes number =
-    Counting ports size start text follows keys at mended notes number
+Inv-loop text start ports size counted follows₀ keys₀ at₀ mended₀ notes₀ number₀ follows keys at mended notes number =
+    Counting counted ports size start text follows keys at mended notes number
 
 abbrev μ-loop : tie.MeasureT-loop
-μ-loop text start ports size follows₀ keys₀ at₀ mended₀ notes₀ number₀ follows keys at mended notes number =
+μ-loop text start ports size counted follows₀ keys₀ at₀ mended₀ notes₀ number₀ follows keys at mended notes number =
     length text - at
 
 -- src/measuring.rt:123:9
@@ -38,7 +38,7 @@ no-keys-requires c κs = search needs
 loop-holds : tie.Need-loop-holds Inv-loop μ-loop
 loop-holds c =
     let s = c .before .before .before in
-    counting-starts (s .args .ports) (s .args .size) (s .args .start) (s .args .text .now) (s .pre .0) _ _ (ap (replicate 64) (c .before .none-yet .ensures)) (ap (replicate 64) (c .no-keys .ensures))
+    counting-starts (s .args .counted) (s .args .ports) (s .args .size) (s .args .start) (s .args .text .now) (s .pre .0) _ _ (ap (replicate 64) (c .before .none-yet .ensures)) (ap (replicate 64) (c .no-keys .ensures))
 
 -- src/measuring.rt:132:13
 read-line-requires : tie.Need-read-line-requires Inv-loop μ-loop
@@ -61,8 +61,8 @@ array-copy-out-numbers : tie.Need-array-copy-out-numbers Inv-loop μ-loop
 array-copy-out-numbers c = let b = c .before .read-line .ensures .1 .port in let i = c .before .before .before .loop .inv .keys-long in omega arith
 
 -- src/measuring.rt:137:13
-followed-requires : tie.Need-followed-requires Inv-loop μ-loop
-followed-requires c κs = search needs
+followed-if-requires : tie.Need-followed-if-requires Inv-loop μ-loop
+followed-if-requires c κs = search needs
 
 -- src/measuring.rt:138:13
 noted-by-requires : tie.Need-noted-by-requires Inv-loop μ-loop
@@ -119,8 +119,8 @@ loop-again c =
     let s = c .before .before .before .before .before .before .before .before .before .before .before .before .before in
     let l = c .before .before .before .before .before .before .before .before .before .loop in
     let r = c .before .before .before .before .before .before .before .read-line in
-    count-kept-turn (s .args .ports) (s .args .size) (s .args .start) (s .args .text .now) (l .follows) (l .keys) (l .at) (l .mended) (l .notes) (l .number) (l .inv) (c .before .before .before .before .before .before .before .before .loop-test .taken)
-    (r .result) (r .ensures .0) (c .before .before .before .before .followed .result) (c .before .before .before .before .followed .ensures) (c .before .before .before .noted-by .result) (c .before .before .before .noted-by .ensures) (c .before .before .more .result) (c .before .before .more .ensures)
+    count-kept-turn (s .args .counted) (s .args .ports) (s .args .size) (s .args .start) (s .args .text .now) (l .follows) (l .keys) (l .at) (l .mended) (l .notes) (l .number) (l .inv) (c .before .before .before .before .before .before .before .before .loop-test .taken)
+    (r .result) (r .ensures .0) (c .before .before .before .before .followed-if .result) (c .before .before .before .before .followed-if .ensures) (c .before .before .before .noted-by .result) (c .before .before .before .noted-by .ensures) (c .before .before .more .result) (c .before .before .more .ensures)
     (c .before .if1 .taken) (r .ensures .1 .port) (c .with-key .result) (c .with-key .ensures)
 
 -- src/measuring.rt:131:5
@@ -133,8 +133,8 @@ loop-again-2 c =
     let s = c .before .before .before .before .before .before .before .before .before .before .before .before in
     let l = c .before .before .before .before .before .before .before .before .loop in
     let r = c .before .before .before .before .before .before .read-line in
-    count-dropped-turn (s .args .ports) (s .args .size) (s .args .start) (s .args .text .now) (l .follows) (l .keys) (l .at) (l .mended) (l .notes) (l .number) (l .inv) (c .before .before .before .before .before .before .before .loop-test .taken)
-    (r .result) (r .ensures .0) (c .before .before .before .followed .result) (c .before .before .before .followed .ensures) (c .before .before .noted-by .result) (c .before .before .noted-by .ensures) (c .before .more .result) (c .before .more .ensures) (c .if1 .left)
+    count-dropped-turn (s .args .counted) (s .args .ports) (s .args .size) (s .args .start) (s .args .text .now) (l .follows) (l .keys) (l .at) (l .mended) (l .notes) (l .number) (l .inv) (c .before .before .before .before .before .before .before .loop-test .taken)
+    (r .result) (r .ensures .0) (c .before .before .before .followed-if .result) (c .before .before .before .followed-if .ensures) (c .before .before .noted-by .result) (c .before .before .noted-by .ensures) (c .before .more .result) (c .before .more .ensures) (c .if1 .left)
 
 -- src/measuring.rt:150:9
 with-last-requires : tie.Need-with-last-requires Inv-loop μ-loop
@@ -145,8 +145,8 @@ returns : tie.Need-returns Inv-loop μ-loop
 returns c =
     let s = c .before .before .before .before .before .before in
     let l = c .before .before .loop in
-    whole-lengths (s .args .ports) (s .args .size) (s .args .start) (s .args .text .now) (l .follows) (l .keys) (l .mended) (l .notes)
-    (counting-ends (s .args .ports) (s .args .size) (s .args .start) (s .args .text .now) (l .follows) (l .keys) (l .at) (l .mended) (l .notes) (l .number) (l .inv) (c .before .loop-test .left)) _
+    whole-lengths (s .args .counted) (s .args .ports) (s .args .size) (s .args .start) (s .args .text .now) (l .follows) (l .keys) (l .mended) (l .notes)
+    (counting-ends (s .args .counted) (s .args .ports) (s .args .size) (s .args .start) (s .args .text .now) (l .follows) (l .keys) (l .at) (l .mended) (l .notes) (l .number) (l .inv) (c .before .loop-test .left)) _
     (λ i. record { mended = l .mended; notes = c .with-last .ensures i; answer = 0 })
 
 pub lengths-from-spec : {M : Type 1} → statement M
@@ -163,7 +163,7 @@ lengths-from-spec =
     array-copy-out-before
     mul-numbers
     array-copy-out-numbers
-    followed-requires
+    followed-if-requires
     noted-by-requires
     more-requires
     add-number

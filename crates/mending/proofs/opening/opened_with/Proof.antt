@@ -13,7 +13,7 @@ is-fitting-requires c κs = search needs
 
 -- src/opening.rt:57:9
 returns : tie.Need-returns
-returns c = rw (sym (c .before .is-fitting .ensures) ∙ c .if1 .taken) refl
+returns c = rw (sym (c .before .before .is-fitting .ensures) ∙ c .before .if1 .taken) refl
 
 -- src/opening.rt:64:5
 refused-requires : tie.Need-refused-requires

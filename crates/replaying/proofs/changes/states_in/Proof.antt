@@ -8,13 +8,13 @@ use Rattle.replaying.proofs.changes.states_in.Statement.{statement}
 use Rattle.replaying.proofs.changes.states_in.Tie as tie
 
 abbrev Inv-loop : tie.InvT-loop
-Inv-loop rows states₀ i₀ states i = (i ≤ 64) × (length states₀ ≡ 64) × Filling 0 i (stateAt rows) states₀ states
+Inv-loop kind rows states₀ i₀ states i = (i ≤ 64) × (length states₀ ≡ 64) × Filling 0 i (stateAt kind rows) states₀ states
 
 abbrev μ-loop : tie.MeasureT-loop
-μ-loop rows states₀ i₀ states i = 64 - i
+μ-loop kind rows states₀ i₀ states i = 64 - i
 
 loop-holds : tie.Need-loop-holds Inv-loop μ-loop
-loop-holds c = (omega arith, refl, filling-none 0 (stateAt (c .args .rows .now)) _)
+loop-holds c = (omega arith, refl, filling-none 0 (stateAt (c .args .kind) (c .args .rows .now)) _)
 
 state-at-requires : tie.Need-state-at-requires Inv-loop μ-loop
 state-at-requires c κs = omega arith
