@@ -4,7 +4,7 @@ use crate::count::Count;
 use crate::{lines, Program};
 
 /// Wrong choices, and a word that the answer must have.
-const WRONG: [(&[&str], &str); 40] = [
+const WRONG: [(&[&str], &str); 39] = [
     (&["--slot", "3"], "no choice '--slot'"),
     (&["file"], "no choice 'file'"),
     (&["--slots"], "--slots wants a value"),
