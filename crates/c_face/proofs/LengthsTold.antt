@@ -5,7 +5,7 @@ use mathlib.Core.List.{List}
 use Prim.Native.Nat.{ℕ}
 use lib.Dec.{eqb}
 use lib.ListN.{length}
-use borrow.Author.Tests.{eq-eqb, eqb-false, eqb-true, ne-eqb}
+use borrow.Author.Tests.{eq-eqb, eqb-true, ne-eqb}
 use Rattle.c_face.specs.Mends.{lengthsAnswerC, mendedLengthC, notesLengthC}
 use Rattle.mending.specs.declared.measuring.Lengths.{Lengths}
 use Rattle.mending.specs.Mending.{mendedOf, notesOf, readAnswer}

@@ -1,5 +1,5 @@
 -- VC-12's step rule (request 2026-01): 'A port is in step after two whole packets in a row whose counts differ by one'. A frame has one bit of its packet, and the host says with which a packet starts.
-use mathlib.Core.Bool.{Bool, not, _&&_, _||_}
+use mathlib.Core.Bool.{not, _&&_, _||_}
 use Prim.Native.Nat.{ℕ, _+_, _*_, _/_, _%_}
 use Rattle.ground.specs.Plain.{if_then_else_, _==_, _<?_}
 use Rattle.packet.specs.Counts.{saysStart}

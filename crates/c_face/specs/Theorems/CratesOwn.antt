@@ -2,10 +2,10 @@
 use mathlib.Core.Path.{_≡_, refl, sym}
 use mathlib.Core.Bool.{Bool, true, false, cond, _&&_, _||_}
 use mathlib.Core.List.{List, [], _∷_}
-use Prim.Native.Nat.{ℕ, _≤_, _<_}
+use Prim.Native.Nat.{ℕ, _<_}
 use lib.Dec.{eqb, ltb}
 use lib.ListN.{length}
-use borrow.Author.Tests.{eq-eqb, eqb-true, le-ltb, lt-ltb, ne-eqb}
+use borrow.Author.Tests.{eq-eqb, eqb-true, lt-ltb, ne-eqb}
 use Rattle.ground.specs.Flags.{oneIf}
 use Rattle.circuits.specs.Answers.{answerNumber as cardNumber, fromSender}
 use Rattle.circuits.specs.Calls.{Call, outcomeOf}

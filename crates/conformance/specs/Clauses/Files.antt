@@ -2,12 +2,12 @@
 use mathlib.Core.Path.{_≡_, refl}
 use mathlib.Core.Bool.{true, false}
 use mathlib.Core.List.{List, [], _∷_, _++_}
-use Prim.Native.Nat.{ℕ, _≤_}
+use Prim.Native.Nat.{ℕ}
 use native.Mathlib.Omega.{arith}
-use lib.ListN.{length, replicate}
+use lib.ListN.{replicate}
 use Rattle.conformance.specs.Clauses.Filled.{nines}
 use Rattle.recording.specs.Pairs.{plainSettings}
-use Rattle.replaying.specs.Deeds.{Deed, beginsWith, joined, lastCalls, run, withEnd}
+use Rattle.replaying.specs.Deeds.{Deed, beginsWith, joined, run, withEnd}
 use Rattle.replaying.specs.Deeds.Deed.{Call, Close, Read}
 use Rattle.replaying.specs.Replay.{STORE}
 use Rattle.replaying.specs.Runs.{Host}

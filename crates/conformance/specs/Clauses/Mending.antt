@@ -1,6 +1,6 @@
 -- Mending (request 2026-11), whole and clause by clause: a recording of one port and P 1 whose first line has 7 bytes and each frame's line 10; one line of one byte is dropped and one count restored.
 use mathlib.Core.Path.{_≡_, refl}
-use mathlib.Core.List.{List, [], _∷_, _++_}
+use mathlib.Core.List.{List, [], _++_}
 use Prim.Native.Nat.{ℕ, _+_}
 use lib.ListN.{replicate}
 use Rattle.c_face.specs.Mends.{lengthsAnswerC, mendAnswerC, mendedC, mendedLengthC, notesC, notesLengthC}

@@ -1,7 +1,7 @@
 -- Groups of VC-12 (request 2026-01), clause by clause: the packet through C, the clock, starts at their limits, MST and the number of an IDLE slot. The figures were worked out apart. Packets and the step rule by themselves are tried in crates/packet/specs/Samples.antt and crates/step/specs/Samples.antt.
 use mathlib.Core.Path.{_≡_, refl}
 use mathlib.Core.Bool.{Bool, true, false, not, _||_}
-use mathlib.Core.List.{List, [], _∷_, _++_}
+use mathlib.Core.List.{List, [], _∷_}
 use Prim.Native.Nat.{ℕ, _+_, _-_, _%_}
 use lib.ListN.{drop, getD, replicate, take}
 use Rattle.ground.specs.Finite.{below, sameBits}

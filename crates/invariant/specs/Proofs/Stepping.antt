@@ -41,12 +41,12 @@ use Rattle.rows.specs.Laws.Port.{port-step}
 use Rattle.rows.specs.Port.{Port, portAt}
 use Rattle.rows.specs.Rows.{rowsFor}
 use Rattle.rows.specs.Step.{stepAt}
-use Rattle.step.specs.Arrival.{countsOn, flagged, frameDropped, inStep, joining, keeps, outside, runOf, takenOf}
+use Rattle.step.specs.Arrival.{countsOn, flagged, frameDropped, joining, keeps, outside, runOf, takenOf}
 use Rattle.step.specs.declared.arrival.Taken.{Taken}
 use Rattle.step.specs.declared.run.Run.{Run}
 use Rattle.step.specs.Laws.Arrival.{ranOn, taken-by}
 use Rattle.step.specs.OwnCount.{withoutMfi2}
-use Rattle.step.specs.Run.{inStepAt, runOn}
+use Rattle.step.specs.Run.{runOn}
 use Rattle.step.specs.Theorems.Heard.{InStepExactly, in-step-exactly, odd-alike, runOver}
 
 -- a frame that is not flagged and not answered 11 is one to the step record, and the run goes on with it

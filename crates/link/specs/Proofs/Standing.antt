@@ -1,6 +1,6 @@
 -- What stands at each moment of a run (the invariant of demand 3). Everything of the receiver that matters is a function of how far each port has come and of the window's first position.
 use mathlib.Core.Path.{_≡_}
-use mathlib.Core.Bool.{true, false, cond}
+use mathlib.Core.Bool.{false, cond}
 use mathlib.Core.List.{List, []}
 use Prim.Native.Nat.{ℕ, suc, _+_, _-_, _*_, _%_, _≤_, _<_}
 use lib.Dec.{leb, ltb}

@@ -18,7 +18,7 @@ use Rattle.sender.specs.Calls.{Call}
 use Rattle.link.specs.Assumed.{Assumed}
 use Rattle.link.specs.Demand3.{Demand3}
 use Rattle.link.specs.FixedGroup.{AssumedFixed, FixedGroup, Numbered, sendingFixed}
-use Rattle.link.specs.History.{Allowed, History, sendingOf, xAt}
+use Rattle.link.specs.History.{History, sendingOf, xAt}
 use Rattle.link.specs.Link.{Lines, Link}
 use Rattle.link.specs.Road.{Below, times}
 use Rattle.link.specs.Sending.{Client, Sending, epochAt}

@@ -7,12 +7,6 @@ use native.Mathlib.Omega.{arith}
 use borrow.Author.Needs.{needs}
 use Rattle.mending.proofs.mend.Statement.{statement}
 use Rattle.mending.proofs.mend.Tie as tie
-use Rattle.mending.proofs.mend.Reads as reads
-use Rattle.mending.proofs.mend.Lts as lts
-use Rattle.mending.proofs.copying.copy_all.Reads as copy-all-reads
-use Rattle.mending.proofs.measuring.lengths_from.Reads as lengths-from-reads
-use Rattle.mending.proofs.notes.put_notes.Reads as put-notes-reads
-use Rattle.mending.proofs.opening.opened.Reads as opened-reads
 
 -- src/lib.rt:34:9
 opened-requires : tie.Need-opened-requires

@@ -2,11 +2,6 @@ use Rattle.mending.specs.Laws.Whole.{lengths-done, lengths-refused, line
 use borrow.Author.Needs.{needs}
 use Rattle.mending.proofs.mend_lengths.Statement.{statement}
 use Rattle.mending.proofs.mend_lengths.Tie as tie
-use Rattle.mending.proofs.mend_lengths.Reads as reads
-use Rattle.mending.proofs.mend_lengths.Lts as lts
-use Rattle.mending.proofs.measuring.lengths_from.Reads as lengths-from-reads
-use Rattle.mending.proofs.measuring.refused.Reads as refused-reads
-use Rattle.mending.proofs.opening.opened.Reads as opened-reads
 
 -- src/lib.rt:21:9
 opened-requires : tie.Need-opened-requires

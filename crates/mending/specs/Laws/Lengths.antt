@@ -16,7 +16,7 @@ use Rattle.mending.specs.Laws.Swept.{Good, enough, fed-small, framesBy, 
 use Rattle.mending.specs.Laws.Sweeps.{Count, countWith, countStart, droppedLength, keptBy, keptLength, lengthBy, lengthEnd, notesLength, restoredLength, restoredLengths, setIf}
 use Rattle.mending.specs.Laws.Restored.{altered-here, altered-old, altered-suc, altered-zero, endedNews, ended-length, length-setIf, restoredNews}
 use Rattle.mending.specs.Laws.Seen.{Altered, Seen, afresh-most, altered-first, altered-last, altered-second, altered-third, back, followIn, indexBack, keyed, keysIn, known, numberKey, oldKey, restores-said}
-use Rattle.mending.specs.Lines.{Fate, Judged, Line, capital, countsOf, digitIn, digitPlace, fateBy, fateTo, judged, judgedBy, leftBy, lineText, mendedLines, outBy, recordOf, textOf, withDigit}
+use Rattle.mending.specs.Lines.{Judged, Line, capital, countsOf, digitIn, digitPlace, fateBy, fateTo, judged, judgedBy, leftBy, lineText, mendedLines, outBy, recordOf, textOf, withDigit}
 use Rattle.mending.specs.Lines.{Fate as F}
 use Rattle.mending.specs.Mending.{h4With, noteBy, noteText, notesFrom}
 use Rattle.recording.specs.declared.record.Record.{Record}

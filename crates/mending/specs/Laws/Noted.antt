@@ -2,7 +2,7 @@
 use mathlib.Core.Path.{_≡_, refl, sym, ap, _∙_}
 use mathlib.Core.Bool.{Bool, true, false, cond}
 use mathlib.Core.List.{List, [], _∷_, _++_, append-assoc}
-use Prim.Native.Nat.{ℕ, suc, _+_, _%_, _≤_, _<_}
+use Prim.Native.Nat.{ℕ, suc, _+_, _%_, _<_}
 use native.Mathlib.Omega.{arith}
 use lib.Dec.{eqb}
 use lib.ListN.{List·getD-append, drop, getD, length, set, length-append, length-set}
@@ -13,7 +13,7 @@ use Rattle.mending.specs.Laws.Counts.{Counts, if-counts}
 use Rattle.mending.specs.Laws.Digits.{capital-digit, digit-count, digit-within}
 use Rattle.mending.specs.Laws.Swept.{counts-small}
 use Rattle.mending.specs.Laws.Sweeps.{noteSwept, noteFrame, notesSwept, toSwept}
-use Rattle.mending.specs.Lines.{Fate, Judged, Line, capital, countsOf, digitIn, digitPlace, fateBy, judged, judgedBy, leftBy, lineText, mendedLines, outBy, recordOf, textOf, withDigit}
+use Rattle.mending.specs.Lines.{Line, capital, countsOf, digitIn, digitPlace, fateBy, judged, judgedBy, leftBy, lineText, mendedLines, outBy, recordOf, textOf, withDigit}
 use Rattle.mending.specs.Lines.{Fate as F}
 use Rattle.mending.specs.Mending.{h4With, noteBy, noteText, notesFrom}
 use Rattle.recording.specs.declared.record.Record.{Record}

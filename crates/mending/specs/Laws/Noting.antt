@@ -1,12 +1,12 @@
 -- The second sweep over lent slices: a note by what is read at a place, and a buffer whose front is what is written.
 use mathlib.Core.Path.{_≡_, refl, sym, ap, _∙_}
-use mathlib.Core.Bool.{Bool, true, false, cond, false≢true}
+use mathlib.Core.Bool.{true, false, cond}
 use mathlib.Core.List.{List, [], _∷_, _++_, append-assoc, append-nil}
-use Prim.Native.Nat.{ℕ, suc, _+_, _-_, _%_, _≤_, _<_}
+use Prim.Native.Nat.{ℕ, suc, _+_, _-_, _≤_, _<_}
 use native.Mathlib.Omega.{arith}
 use lib.Dec.{eqb}
 use lib.ListN.{List·getD-append, drop, getD, length, take, drop-of-length-le, length-append, length-take}
-use lib.Seq.{sets, slice, getD-drop, length-take-le, sets-eq, take-all, take-append-seam, take-at}
+use lib.Seq.{sets, slice, getD-drop, length-take-le, sets-eq, take-all, take-at}
 use borrow.Author.Tests.{eq-eqb, ne-eqb}
 use Rattle.ground.specs.Truth.{cond-by}
 use Rattle.mending.specs.declared.line.Read.{Read}
@@ -14,8 +14,8 @@ use Rattle.mending.specs.Laws.Copies.{lines-read, read-next}
 use Rattle.mending.specs.Laws.Layout.{frame-layout}
 use Rattle.mending.specs.Laws.Sweeps.{noteSwept, notesSwept, toSwept}
 use Rattle.mending.specs.Laws.Reads.{LiesAt, line-lies, lineAt, no-lines, readAt, readBy, slice-here}
-use Rattle.mending.specs.Lines.{Line, digitIn, digitPlace, lineText, linesWith, recordOf}
-use Rattle.mending.specs.Mending.{h4With, noteText}
+use Rattle.mending.specs.Lines.{Line, digitPlace, lineText, linesWith, recordOf}
+use Rattle.mending.specs.Mending.{noteText}
 use Rattle.recording.specs.declared.record.Record.{Record}
 use Rattle.recording.specs.declared.record.Record.the-variants.{Frame, Malformed, Long, Unfinished, End}
 use Rattle.text.specs.Ascii.{ascii}

@@ -1,10 +1,9 @@
 -- The line that lies at a place of a text, among the text's lines and as the code reads it.
 use mathlib.Core.Path.{_≡_, refl, sym, ap, _∙_}
-use mathlib.Core.Bool.{Bool, true, false, cond, false≢true}
+use mathlib.Core.Bool.{Bool, true, false, false≢true}
 use mathlib.Core.List.{List, [], _∷_, _++_, append-assoc, append-nil}
 use Prim.Native.Nat.{ℕ, suc, _+_, _-_, _%_, _≤_, _<_}
 use native.Mathlib.Nat.{not-suc-le-zero}
-use native.Mathlib.Numerals.{add-one}
 use native.Mathlib.Omega.{arith}
 use lib.Dec.{eqb, ltb}
 use lib.ListN.{drop, length, take, drop-of-length-le, length-append, length-drop, take-append-drop}
@@ -12,7 +11,7 @@ use lib.Seq.{slice, drop-append-add, drop-append-seam, drop-at, drop-drop, drop-
 use borrow.Author.Tests.{ltb-false, ltb-true, ne-eqb}
 use Rattle.bytes.specs.Bytes.{indexOf}
 use Rattle.mending.specs.declared.line.Read.{Read}
-use Rattle.mending.specs.Laws.Layout.{Framed, frame-layout, line-placed, placedAt}
+use Rattle.mending.specs.Laws.Layout.{frame-layout, line-placed, placedAt}
 use Rattle.mending.specs.Lines.{Line, digitPlace, lineText, linesWith, recordOf}
 use Rattle.recording.specs.declared.record.Record.{Record}
 use Rattle.recording.specs.declared.record.Record.the-variants.{Frame, Malformed, Long, Unfinished, End}

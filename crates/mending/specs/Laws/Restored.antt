@@ -1,6 +1,6 @@
 -- Counts restored: a byte set in what is written is a count set among the lines that were seen, and so it goes on in the counts of its port.
 use mathlib.Core.Path.{_≡_, refl, sym, ap, _∙_}
-use mathlib.Core.Bool.{Bool, true, false, cond, false≢true}
+use mathlib.Core.Bool.{Bool, true, false, cond}
 use mathlib.Core.List.{List, [], _∷_, _++_}
 use mathlib.Core.Logic.{⊎-elim}
 use Prim.Native.Nat.{ℕ, zero, suc, _+_, _-_, _≤_, _<_}
@@ -12,10 +12,9 @@ use lib.Seq.{set-append-left, set-at, set-set}
 use borrow.Author.Tests.{eqb-false, eqb-true, ne-eqb}
 use Rattle.ground.specs.Truth.{le-or-lt}
 use Rattle.mending.specs.declared.follow.Follow.{Follow}
-use Rattle.mending.specs.declared.follow.Keys.{Keys}
 use Rattle.mending.specs.Follow.{countBack, finished, restoredBack, restoresFirst, restoresLast, restoresSecond, restoresThird, setBack}
 use Rattle.mending.specs.Laws.Sweeps.{restoredIn, setIf}
-use Rattle.mending.specs.Laws.Seen.{Altered, Keyed, Known, Seen, altered-first, altered-last, altered-second, altered-third, back, followIn, indexBack, keyed, keysIn, known, manyIn, oldKey}
+use Rattle.mending.specs.Laws.Seen.{Altered, Seen, altered-first, altered-last, altered-second, altered-third, back, followIn, indexBack, keyed, keysIn, known, manyIn, oldKey}
 use Rattle.mending.specs.Lines.{Line, capital, digitPlace, lineText, withDigit}
 
 set-behind : (xs ys : List ℕ) (i a : ℕ) → set (xs ++ ys) (length xs + i) a ≡ xs ++ set ys i a

@@ -1,22 +1,21 @@
 -- The frames' lines that a sweep has come by, the latest first, and their counts as they are now. What the sweep knows of a port (its Follow, the keys of its last
 -- three lines) is read off the lines, and a count restored is one count set.
 use mathlib.Core.Path.{_≡_, refl, sym, ap, _∙_}
-use mathlib.Core.Bool.{Bool, true, false, cond, not, _&&_, false≢true}
+use mathlib.Core.Bool.{Bool, true, false, cond, not, _&&_}
 use mathlib.Core.List.{List, [], _∷_}
 use mathlib.Core.Logic.{⊎-elim}
 use Prim.Native.Nat.{ℕ, zero, suc, _+_, _-_, _%_, _≤_, _<_}
 use native.Mathlib.Nat.{le-of-suc-le-suc, not-suc-le-zero}
 use native.Mathlib.Omega.{arith}
 use lib.Dec.{eqb, leb, ltb}
-use lib.ListN.{getD, length, set, length-append, length-set}
-use lib.Seq.{set-append-left, set-at, set-set}
+use lib.ListN.{set}
 use borrow.Author.Tests.{eqb-false, leb-true, ltb-false, ltb-true, not-true}
 use Rattle.ground.specs.Truth.{and-left, and-right, cond-by, le-or-lt}
 use Rattle.mending.specs.declared.follow.Follow.{Follow}
 use Rattle.mending.specs.declared.follow.Keys.{Keys}
-use Rattle.mending.specs.Follow.{afresh, beginning, countBack, fed, fedBy, fedIf, finished, going, lessPlace, restoredBack, restores, restoresFirst, restoresLast, restoresSecond, restoresThird, setBack}
-use Rattle.mending.specs.Laws.Sweeps.{noKeys, restoredIn, setIf, withKey}
-use Rattle.mending.specs.Lines.{Line, capital, digitPlace, lineText, withDigit}
+use Rattle.mending.specs.Follow.{afresh, beginning, countBack, fed, fedIf, going, lessPlace, restores, restoresFirst, restoresLast, restoresSecond, restoresThird}
+use Rattle.mending.specs.Laws.Sweeps.{noKeys, withKey}
+use Rattle.mending.specs.Lines.{Line}
 
 pub record Seen : Type 0 where
   pub port : ℕ

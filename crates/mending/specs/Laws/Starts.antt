@@ -2,28 +2,28 @@
 use mathlib.Core.Path.{_≡_, refl, sym, ap, _∙_}
 use mathlib.Core.Bool.{Bool, true, false, cond, _&&_}
 use mathlib.Core.List.{List, [], _∷_, _++_, append-nil}
-use Prim.Native.Nat.{ℕ, suc, _+_, _≤_, _<_}
+use Prim.Native.Nat.{ℕ, _+_, _≤_, _<_}
 use native.Mathlib.Omega.{arith}
 use lib.Dec.{eqb, leb, ltb}
 use lib.ListN.{drop, length, take, length-append}
 use lib.Seq.{length-take-le, take-at}
-use borrow.Author.Tests.{le-leb, lt-leb, ltb-false, ltb-true, ne-eqb}
+use borrow.Author.Tests.{lt-leb, ltb-true, ne-eqb}
 use Rattle.bytes.specs.Bytes.{indexOf}
-use Rattle.ground.specs.Truth.{and-left, and-right}
+use Rattle.ground.specs.Truth.{and-left}
 use Rattle.mending.specs.declared.opening.Start.{Start}
 use Rattle.mending.specs.Following.{hasCount}
 use Rattle.mending.specs.Laws.Reads.{LiesAt, ending, lies-ending, lies-unended, unended}
 use Rattle.mending.specs.Lines.{Line, judged, lineText, linesWith, mendedLines, textOf}
-use Rattle.mending.specs.Mending.{answerBy, fitting, mendedBy, mendedIn, mendedOf, notesBy, notesFrom, notesIn, notesOf, openingOf, readAnswer}
+use Rattle.mending.specs.Mending.{answerBy, fitting, mendedIn, mendedOf, notesFrom, notesIn, notesOf, openingOf, readAnswer}
 use Rattle.phases.specs.Sizes.{startSized}
 use Rattle.receiver.specs.Laws.Sizes.{start-sizes-of}
 use Rattle.receiver.specs.Starting.{timesWithin}
 use Rattle.recording.specs.declared.pairs.Settings.{Settings}
 use Rattle.recording.specs.Laws.Lines.{line-opens, opensTo}
 use Rattle.recording.specs.Line.{MOST, firstLine, foundOf, hasEnd}
-use Rattle.recording.specs.Opening.{Opening, lineOpening, openingBy, openingFound, openingIn}
+use Rattle.recording.specs.Opening.{Opening, lineOpening, openingIn}
 use Rattle.recording.specs.Opening.{Opening as O}
-use Rattle.text.specs.Text.{LINE-END, fieldsOf, linesOf}
+use Rattle.text.specs.Text.{LINE-END, linesOf}
 
 abbrev pub noStart : ℕ → Start
 noStart answer = record { next = 0; ports = 0; size = 0; counted = false; answer = answer }

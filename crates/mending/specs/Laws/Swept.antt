@@ -1,15 +1,14 @@
 -- The first sweep gives the mended recording: what it has written is the text of the lines that it has seen, with counts that each port's following gives.
 use mathlib.Core.Path.{_≡_, refl, sym, ap, _∙_}
-use mathlib.Core.Bool.{Bool, true, false, cond, _&&_}
+use mathlib.Core.Bool.{Bool, true, false, cond}
 use mathlib.Core.List.{List, [], _∷_, _++_, append-assoc, append-nil}
 use mathlib.Core.Logic.{⊎-elim}
 use Prim.Native.Nat.{ℕ, zero, suc, _+_, _-_, _%_, _≤_, _<_}
 use native.Mathlib.Omega.{arith}
 use lib.Dec.{eqb, leb}
-use lib.ListN.{drop, getD, length, length-append}
+use lib.ListN.{drop, length}
 use borrow.Author.Tests.{eq-eqb, eqb-true, lt-leb, ne-eqb}
 use Rattle.ground.specs.Truth.{le-or-lt}
-use Rattle.mending.specs.declared.follow.Follow.{Follow}
 use Rattle.mending.specs.Follow.{beginning, countBack, fedIf, finished, followingIf, restoresLast}
 use Rattle.mending.specs.Following.{followedIf}
 use Rattle.mending.specs.Laws.Automaton.{following-if}
@@ -18,11 +17,10 @@ use Rattle.mending.specs.Laws.Layout.{frame-layout}
 use Rattle.mending.specs.Laws.Sweeps.{Sweep, sweepBy, sweepEnd, sweepStart, swept}
 use Rattle.mending.specs.Laws.Restored.{Sound, countsIn, endedNews, ended-counts, ended-later, ended-length, lineNow, news-counts, news-length, news-other, news-text, placeKey, restoredNews, text-length, text-setIf, textIn}
 use Rattle.mending.specs.Laws.Seen.{Seen, altered-last, followIn, keyed, keysIn, known, manyIn}
-use Rattle.mending.specs.Lines.{Fate, Judged, Line, capital, countBy, countsOf, digitIn, digitPlace, fateBy, fateTo, judged, judgedBy, leftBy, lineText, mendedLines, outBy, recordOf, textOf, withDigit}
+use Rattle.mending.specs.Lines.{Judged, Line, capital, countBy, countsOf, digitIn, digitPlace, fateBy, fateTo, judged, judgedBy, leftBy, lineText, mendedLines, outBy, recordOf, textOf, withDigit}
 use Rattle.mending.specs.Lines.{Fate as F}
 use Rattle.recording.specs.declared.record.Record.{Record}
 use Rattle.recording.specs.declared.record.Record.the-variants.{Frame, Malformed, Long, Unfinished, End}
-use Rattle.recording.specs.Record.{lineRecord}
 
 -- a line more
 abbrev pub seenBy : ℕ → List Seen → Line → Record → List Seen

@@ -7,7 +7,7 @@ use native.Mathlib.Omega.{arith}
 use lib.Dec.{eqb, leb}
 use lib.ListN.{drop, length, take, length-append}
 use lib.Seq.{length-take-le}
-use borrow.Author.Tests.{eq-eqb, eqb-true, leb-false, ne-eqb}
+use borrow.Author.Tests.{eqb-true, leb-false, ne-eqb}
 use Rattle.ground.specs.Truth.{and-left, and-right}
 use Rattle.mending.specs.declared.measuring.Lengths.{Lengths}
 use Rattle.mending.specs.declared.opening.Start.{Start}
@@ -18,7 +18,7 @@ use Rattle.mending.specs.Laws.Swept.{sweep-is}
 use Rattle.mending.specs.Laws.Sweeps.{countStart, keptLength, notesSwept, notesLength, sweepEnd, sweepStart, swept}
 use Rattle.mending.specs.Laws.Starts.{Opens, opens, start-answer, startOf}
 use Rattle.mending.specs.Lines.{Line, judged, linesWith, mendedLines, textOf}
-use Rattle.mending.specs.Mending.{mendAnswer, mendedOf, notesFrom, notesOf, readAnswer}
+use Rattle.mending.specs.Mending.{mendAnswer, mendedOf, notesOf, readAnswer}
 use Rattle.mending.specs.Told.{LARGEST, lengthsOf, mendedLeft, notesLeft, told}
 
 -- a length is the one told exactly if it is the true one

@@ -1,10 +1,10 @@
 -- A frame with its kept part as sent, over the kind of packet: it counts as what was sent, but where it brings another nibble of MFI2.
-use mathlib.Core.Path.{_≡_, refl, _∙_, sym, ap}
-use mathlib.Core.Bool.{Bool, true, false, cond, not, _&&_, _||_}
-use Prim.Native.Nat.{ℕ, _+_, _*_, _/_, _%_, _<_, _≤_}
+use mathlib.Core.Path.{_≡_, _∙_, sym, ap}
+use mathlib.Core.Bool.{Bool, true, false, cond, _||_}
+use Prim.Native.Nat.{ℕ, _+_, _*_, _/_, _%_, _<_}
 use native.Mathlib.Omega.{arith}
 use lib.Dec.{eqb, ltb}
-use borrow.Author.Tests.{eq-eqb, ltb-true, lt-ltb, le-ltb, ltb-false}
+use borrow.Author.Tests.{eq-eqb, lt-ltb}
 use Rattle.ground.specs.Truth.{or-left, or-right}
 use Rattle.packet.specs.Changes.{bringsMfi2, keptPart}
 use Rattle.packet.specs.Clock.{by-kind}

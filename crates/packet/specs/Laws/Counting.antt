@@ -1,12 +1,12 @@
 -- What a frame's byte says of its count as sent, of H4 and of VC-12. These laws meet the layout of the kind's packet.
-use mathlib.Core.Path.{_≡_, refl, sym, _∙_, ap}
+use mathlib.Core.Path.{_≡_, refl, _∙_, ap}
 use mathlib.Core.Logic.{⊎-elim, _≢_}
-use mathlib.Core.Bool.{Bool, true, false, cond, _&&_, not, _||_, false≢true, true≢false}
-use Prim.Native.Nat.{ℕ, zero, suc, _+_, _-_, _*_, _/_, _%_, _^_, _<_}
+use mathlib.Core.Bool.{Bool, true, false, cond, _&&_, not, _||_}
+use Prim.Native.Nat.{ℕ, _+_, _-_, _*_, _/_, _%_, _<_}
 use native.Mathlib.Omega.{arith}
 use lib.Dec.{eqb, ltb}
 use lib.ListN.{getD}
-use borrow.Author.Tests.{eq-eqb, ne-eqb, eqb-true, lt-ltb, ltb-true, not-false, not-true}
+use borrow.Author.Tests.{eq-eqb, ne-eqb, eqb-true, lt-ltb, ltb-true, not-true}
 use Rattle.ground.specs.Truth.{and-left, and-right, and-true, eq-or-ne, or-left, or-right}
 use Rattle.packet.specs.Clock.{h4-clock}
 use Rattle.packet.specs.Counts.{carriesLow, counts, h4Counts, saysStart, startsCount, tagByHigh, tagByLow, toldBits, vc12Counts}

@@ -1,14 +1,13 @@
 -- A packet as our sender writes it, over the kind of packet: it has a byte for each frame of its epoch, these count as their tags say, it reads back as its fields, and one that came changed is refused with 5. Each law goes by H4's layout and by VC-12's.
 use mathlib.Core.Path.{_≡_, refl, sym, ap, _∙_}
 use mathlib.Core.Bool.{Bool, true, false, cond}
-use mathlib.Core.List.{List, _++_}
+use mathlib.Core.List.{List}
 use Prim.Native.Nat.{ℕ, zero, suc, _+_, _-_, _*_, _/_, _%_, _^_, _≤_, _<_}
 use native.Mathlib.Omega.{arith}
 use lib.Dec.{eqb}
 use lib.ListN.{getD, length}
-use borrow.Author.Tests.{eq-eqb, ne-eqb}
 use Rattle.ground.specs.Bits.{bit-number, bits, odd}
-use Rattle.ground.specs.Polynomial.{apart, sealed}
+use Rattle.ground.specs.Polynomial.{apart}
 use Rattle.ground.specs.Table.{getD-tabulate, tabulate, tabulate-ext}
 use Rattle.packet.specs.Changes.{changed, changedBits, mostChanges}
 use Rattle.packet.specs.Clock.{by-kind}
@@ -16,12 +15,11 @@ use Rattle.packet.specs.Counts.{counts, saysStart, toldBits, vc12Counts}
 use Rattle.packet.specs.declared.layout.Fields.{Fields}
 use Rattle.packet.specs.declared.reader.Reading.the-variants.{Crc, Packet}
 use Rattle.packet.specs.declared.writer.Writing.the-variants.{Done}
-use Rattle.packet.specs.Kinds.{epochOf, epochs, fixedKind, frames, lead, placeOf, tags, vc12Kind}
-use Rattle.packet.specs.Laws.Bounds.{bounds, vc12-bounds}
+use Rattle.packet.specs.Kinds.{epochOf, fixedKind, frames, lead, placeOf, tags, vc12Kind}
+use Rattle.packet.specs.Laws.Bounds.{bounds}
 use Rattle.packet.specs.Laws.Counting.{counted-as-sent, counts-as-vc12, counts-h4, counts-vc12}
 use Rattle.packet.specs.Laws.Vc12.{bits-damaged, length-data as length-bits, length-lowest}
 use Rattle.packet.specs.Layout.{dataOf, h4Of, highsOf, nibblesOf}
-use Rattle.packet.specs.Reading.{readNibbles}
 use Rattle.packet.specs.Ruling.{readRow}
 use Rattle.packet.specs.Sent.{sentAnswer, sentBytes, sentFits}
 use Rattle.packet.specs.Symbols.{entryFrom, packetRow, rowFrom}
@@ -29,7 +27,7 @@ use Rattle.packet.specs.Theorems.Damage.{length-data, length-highs, nibb
 use Rattle.packet.specs.Theorems.ReadBack.{nibbles-back, written-as}
 use Rattle.packet.specs.Theorems.Tags.{tagOf}
 use Rattle.packet.specs.Theorems.Vc12.{bits-back, vc12-bits, vc12-written}
-use Rattle.packet.specs.Vc12.{frameByte, lowestOf, readVc12Bits, readVc12Row, rowBits, vc12Bits, vc12Bytes, vc12Data, vc12Divisor, writeVc12Answer, writeVc12Bytes}
+use Rattle.packet.specs.Vc12.{frameByte, lowestOf, readVc12Bits, readVc12Row, rowBits, vc12Bits, vc12Bytes, vc12Data, writeVc12Answer, writeVc12Bytes}
 use Rattle.packet.specs.Writing.{writeAnswer, writeBytes}
 
 -- The entries of a packet's row: of H4 the high nibbles, of VC-12 the lowest bits.

@@ -9,7 +9,6 @@ use borrow.Author.Tests.{lt-ltb}
 use lib.Dec.{eqb}
 use lib.ListN.{length}
 use Rattle.packet.specs.declared.layout.Fields.{Fields}
-use Rattle.packet.specs.declared.writer.Writing.{Writing}
 use Rattle.packet.specs.declared.writer.Writing.the-variants.{Done, Field, Length}
 use Rattle.packet.specs.Kinds.{epochs, frames, idleNumber, vc12Kind}
 use Rattle.packet.specs.Sent.{sentAnswer, sentBytes, sentFits}

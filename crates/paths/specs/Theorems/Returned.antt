@@ -1,6 +1,6 @@
 -- What `paths::check` and `paths::plan` return, in the request's words: 4 for all that is refused, and under 0 exactly the good sets.
 use mathlib.Core.Path.{_≡_, refl, sym, ap, _∙_}
-use mathlib.Core.Bool.{Bool, true, false, _&&_, false≢true}
+use mathlib.Core.Bool.{Bool, true, false}
 use mathlib.Core.List.{List, [], _∷_}
 use Prim.Native.Nat.{ℕ, _-_, _≤_}
 use native.Mathlib.Omega.{arith}
@@ -8,7 +8,7 @@ use lib.ListN.{length}
 use Rattle.ground.specs.Truth.{and-left, and-right}
 use Rattle.paths.specs.Answers.{answerOf, inRange, numberOf}
 use Rattle.paths.specs.Checking.{accepts, checkedOf}
-use Rattle.paths.specs.Laws.Answers.{asked-in, done-in, in-asked, in-done, out-range}
+use Rattle.paths.specs.Laws.Answers.{asked-in, in-asked, in-done, out-range}
 use Rattle.paths.specs.Paths.{Asked, Good, spreadOf}
 use Rattle.paths.specs.Planning.{planOf, planned, setOf}
 use Rattle.paths.specs.Theorems.Checking.{accepts-good, good-accepts}

@@ -15,7 +15,7 @@ use Rattle.packet.specs.Kinds.{frames, lead, placeOf, tagAfter, vc12Kind}
 use Rattle.packet.specs.Laws.Changes.{counts-kept}
 use Rattle.packet.specs.Laws.Counting.{counts-h4}
 use Rattle.packet.specs.Laws.Vc12Clock.{vc12-frames, vc12-next, vc12-tag}
-use Rattle.packet.specs.Theorems.Tags.{frames-two, next-tag, place-of, tagOf}
+use Rattle.packet.specs.Theorems.Tags.{next-tag, place-of, tagOf}
 use Rattle.step.specs.declared.run.Run.{Run}
 use Rattle.step.specs.Laws.H4Run.{odd-none, run-broken, run-on}
 use Rattle.step.specs.Laws.Run.{RunAt, run-even, run-in-step, run-next, run-told, run-unbroken, sent-vc12}

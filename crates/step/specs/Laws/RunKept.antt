@@ -5,8 +5,8 @@ use mathlib.Core.Bool.{Bool, true, false, cond, not, _&&_, _||_, true≢false}
 use Prim.Native.Nat.{ℕ, _+_, _*_, _/_, _%_, _≤_, _<_}
 use native.Mathlib.Omega.{arith}
 use lib.Dec.{eqb, ltb}
-use borrow.Author.Tests.{eqb-false, eqb-true, le-ltb, leb-false, leb-true, lt-ltb, ltb-true}
-use Rattle.ground.specs.Truth.{cond-by, le-or-lt, or-cases}
+use borrow.Author.Tests.{eqb-false, eqb-true, le-ltb, leb-false, leb-true, lt-ltb}
+use Rattle.ground.specs.Truth.{cond-by, le-or-lt}
 use Rattle.packet.specs.Clock.{by, by-kind}
 use Rattle.packet.specs.Counts.{carriesLow, h4Counts, saysStart, startsCount, tagByHigh, tagByLow}
 use Rattle.packet.specs.Kinds.{frames, tagAfter, tags, vc12Kind}

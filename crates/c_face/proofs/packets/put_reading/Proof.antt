@@ -1,5 +1,3 @@
-use mathlib.Core.Path.{refl}
-use native.Mathlib.Omega.{arith}
 use borrow.Author.Needs.{needs}
 use Rattle.c_face.proofs.Answers.{reading-put}
 use Rattle.c_face.proofs.packets.put_reading.Statement.{statement}

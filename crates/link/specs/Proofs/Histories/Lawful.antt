@@ -8,7 +8,6 @@ use Rattle.packet.specs.Changes.{changed, mostChanges}
 use Rattle.packet.specs.declared.reader.Reading.the-variants.{Packet}
 use Rattle.packet.specs.Kinds.{frames}
 use Rattle.packet.specs.Ruling.{rulingBy}
-use Rattle.packet.specs.Sent.{sentBytes}
 use Rattle.packet.specs.Symbols.{packetRow}
 use Rattle.step.specs.Laws.Packets.{sent-even, sent-reads, sent-refused}
 use Rattle.step.specs.OwnCount.{oddPacket, ownRuling}

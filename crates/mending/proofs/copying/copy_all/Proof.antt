@@ -4,10 +4,6 @@ use mathlib.Core.Path.{sym}
 use borrow.Author.Needs.{needs}
 use Rattle.mending.proofs.copying.copy_all.Statement.{statement}
 use Rattle.mending.proofs.copying.copy_all.Tie as tie
-use Rattle.mending.proofs.copying.copy_all.Reads as reads
-use Rattle.mending.proofs.copying.copy_all.Lts as lts
-use Rattle.mending.proofs.copying.copy_lines.Reads as copy-lines-reads
-use Rattle.payload.proofs.lay.Reads as lay-reads
 
 -- src/copying.rt:114:18
 slice-aggregate-lay : tie.Need-slice-aggregate-lay

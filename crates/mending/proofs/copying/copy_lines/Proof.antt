@@ -5,21 +5,11 @@ use Rattle.mending.proofs.Promised.{copy-dropped, copy-kept}
 use Rattle.mending.specs.Laws.Copies.{Copying, copying-ends, copying-starts}
 use lib.ListN.{length, replicate}
 use Prim.Native.Nat.{_-_}
-use mathlib.Core.Path.{refl, ap}
+use mathlib.Core.Path.{ap}
 use borrow.Author.Needs.{needs}
 use native.Mathlib.Omega.{arith}
 use Rattle.mending.proofs.copying.copy_lines.Statement.{statement}
 use Rattle.mending.proofs.copying.copy_lines.Tie as tie
-use Rattle.mending.proofs.copying.copy_lines.Reads as reads
-use Rattle.mending.proofs.copying.copy_lines.Lts as lts
-use Rattle.mending.proofs.copying.finish.Reads as finish-reads
-use Rattle.mending.proofs.copying.restore.Reads as restore-reads
-use Rattle.mending.proofs.follow.followed_if.Reads as followed-if-reads
-use Rattle.mending.proofs.follow.no_keys.Reads as no-keys-reads
-use Rattle.mending.proofs.follow.none_yet.Reads as none-yet-reads
-use Rattle.mending.proofs.follow.with_key.Reads as with-key-reads
-use Rattle.mending.proofs.line.read_line.Reads as read-line-reads
-use Rattle.payload.proofs.lay.Reads as lay-reads
 
 abbrev Inv-loop : tie.InvT-loop
 Inv-loop text start ports size counted mended₀ follows₀ keys₀ at₀ to₀ mended follows keys at to = Copying counted ports size start text mended₀ follows keys at to mended

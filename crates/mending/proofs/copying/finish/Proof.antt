@@ -8,11 +8,6 @@ use borrow.Author.Needs.{needs}
 use native.Mathlib.Omega.{arith}
 use Rattle.mending.proofs.copying.finish.Statement.{statement}
 use Rattle.mending.proofs.copying.finish.Tie as tie
-use Rattle.mending.proofs.copying.finish.Reads as reads
-use Rattle.mending.proofs.copying.finish.Lts as lts
-use Rattle.mending.proofs.copying.restore_at.Reads as restore-at-reads
-use Rattle.mending.proofs.follow.count_back.Reads as count-back-reads
-use Rattle.mending.proofs.follow.is_last.Reads as is-last-reads
 
 abbrev Inv-loop : tie.InvT-loop
 Inv-loop mended₀ follows keys i₀ mended i = (i ≤ 64) × (length follows ≡ 64) × (length keys ≡ 64) × (length mended ≡ length mended₀) × (mended ≡ sweepEnd i (sweepIn follows keys mended₀))

@@ -4,8 +4,6 @@ use native.Mathlib.Omega.{arith}
 use borrow.Author.Needs.{needs}
 use Rattle.mending.proofs.follow.count_back.Statement.{statement}
 use Rattle.mending.proofs.follow.count_back.Tie as tie
-use Rattle.mending.proofs.follow.count_back.Reads as reads
-use Rattle.mending.proofs.follow.count_back.Lts as lts
 
 -- src/follow.rt:44:6
 add-result : tie.Need-add-result

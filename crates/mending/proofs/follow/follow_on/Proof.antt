@@ -1,12 +1,7 @@
 use borrow.Author.Tests.{eq-eqb, ne-eqb, lt-ltb, le-ltb, not-false, not-true}
-use mathlib.Core.Path.{_∙_}
 use borrow.Author.Needs.{needs}
 use Rattle.mending.proofs.follow.follow_on.Statement.{statement}
 use Rattle.mending.proofs.follow.follow_on.Tie as tie
-use Rattle.mending.proofs.follow.follow_on.Reads as reads
-use Rattle.mending.proofs.follow.follow_on.Lts as lts
-use Rattle.mending.proofs.follow.gone_on.Reads as gone-on-reads
-use Rattle.mending.proofs.follow.still_pending.Reads as still-pending-reads
 
 -- src/follow.rt:82:9
 gone-on-requires : tie.Need-gone-on-requires

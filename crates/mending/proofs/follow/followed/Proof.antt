@@ -1,12 +1,7 @@
 use Rattle.mending.specs.Follow.{fed}
-use mathlib.Core.Path.{_∙_}
 use borrow.Author.Needs.{needs}
 use Rattle.mending.proofs.follow.followed.Statement.{statement}
 use Rattle.mending.proofs.follow.followed.Tie as tie
-use Rattle.mending.proofs.follow.followed.Reads as reads
-use Rattle.mending.proofs.follow.followed.Lts as lts
-use Rattle.mending.proofs.follow.follow_on.Reads as follow-on-reads
-use Rattle.mending.proofs.follow.less_place.Reads as less-place-reads
 
 -- src/follow.rt:97:18
 less-place-requires : tie.Need-less-place-requires

@@ -2,8 +2,6 @@ use Rattle.mending.specs.Follow.{restoresFirst}
 use mathlib.Core.Path.{refl}
 use Rattle.mending.proofs.follow.is_first.Statement.{statement}
 use Rattle.mending.proofs.follow.is_first.Tie as tie
-use Rattle.mending.proofs.follow.is_first.Reads as reads
-use Rattle.mending.proofs.follow.is_first.Lts as lts
 
 -- src/follow.rt:101:1
 returns : tie.Need-returns

@@ -2,8 +2,6 @@ use Rattle.mending.specs.Follow.{restoresLast}
 use mathlib.Core.Path.{refl}
 use Rattle.mending.proofs.follow.is_last.Statement.{statement}
 use Rattle.mending.proofs.follow.is_last.Tie as tie
-use Rattle.mending.proofs.follow.is_last.Reads as reads
-use Rattle.mending.proofs.follow.is_last.Lts as lts
 
 -- src/follow.rt:120:1
 returns : tie.Need-returns

@@ -2,8 +2,6 @@ use Rattle.mending.specs.Follow.{restoresSecond}
 use mathlib.Core.Path.{refl}
 use Rattle.mending.proofs.follow.is_second.Statement.{statement}
 use Rattle.mending.proofs.follow.is_second.Tie as tie
-use Rattle.mending.proofs.follow.is_second.Reads as reads
-use Rattle.mending.proofs.follow.is_second.Lts as lts
 
 -- src/follow.rt:107:1
 returns : tie.Need-returns

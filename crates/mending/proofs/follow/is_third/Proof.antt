@@ -2,8 +2,6 @@ use Rattle.mending.specs.Follow.{restoresThird}
 use mathlib.Core.Path.{refl}
 use Rattle.mending.proofs.follow.is_third.Statement.{statement}
 use Rattle.mending.proofs.follow.is_third.Tie as tie
-use Rattle.mending.proofs.follow.is_third.Reads as reads
-use Rattle.mending.proofs.follow.is_third.Lts as lts
 
 -- src/follow.rt:113:1
 returns : tie.Need-returns

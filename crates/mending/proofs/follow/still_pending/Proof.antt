@@ -2,8 +2,6 @@ use borrow.Author.Tests.{eq-eqb, ne-eqb}
 use native.Mathlib.Omega.{arith}
 use Rattle.mending.proofs.follow.still_pending.Statement.{statement}
 use Rattle.mending.proofs.follow.still_pending.Tie as tie
-use Rattle.mending.proofs.follow.still_pending.Reads as reads
-use Rattle.mending.proofs.follow.still_pending.Lts as lts
 
 -- src/follow.rt:67:9
 returns : tie.Need-returns

@@ -3,9 +3,6 @@ use mathlib.Core.Path.{refl}
 use borrow.Author.Needs.{needs}
 use Rattle.mending.proofs.line.read_as.Statement.{statement}
 use Rattle.mending.proofs.line.read_as.Tie as tie
-use Rattle.mending.proofs.line.read_as.Reads as reads
-use Rattle.mending.proofs.line.read_as.Lts as lts
-use Rattle.mending.proofs.line.dropped.Reads as dropped-reads
 
 -- src/line.rt:50:23
 enum-known-found : tie.Need-enum-known-found

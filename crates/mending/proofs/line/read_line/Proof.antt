@@ -3,12 +3,6 @@ use mathlib.Core.Path.{sym, _∙_}
 use borrow.Author.Needs.{needs}
 use Rattle.mending.proofs.line.read_line.Statement.{statement}
 use Rattle.mending.proofs.line.read_line.Tie as tie
-use Rattle.mending.proofs.line.read_line.Reads as reads
-use Rattle.mending.proofs.line.read_line.Lts as lts
-use Rattle.mending.proofs.line.is_unended.Reads as is-unended-reads
-use Rattle.mending.proofs.line.read_as.Reads as read-as-reads
-use Rattle.recording.proofs.record_at.Reads as record-at-reads
-use Rattle.recording.proofs.last_record.Reads as last-record-reads
 
 -- src/line.rt:70:9
 record-at-requires : tie.Need-record-at-requires

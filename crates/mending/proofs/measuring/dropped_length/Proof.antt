@@ -2,10 +2,6 @@ use Rattle.mending.specs.Laws.Counting.{dropped-told}
 use borrow.Author.Needs.{needs}
 use Rattle.mending.proofs.measuring.dropped_length.Statement.{statement}
 use Rattle.mending.proofs.measuring.dropped_length.Tie as tie
-use Rattle.mending.proofs.measuring.dropped_length.Reads as reads
-use Rattle.mending.proofs.measuring.dropped_length.Lts as lts
-use Rattle.mending.proofs.measuring.more.Reads as more-reads
-use Rattle.mending.proofs.measuring.number_length.Reads as number-length-reads
 
 -- src/measuring.rt:57:10
 number-length-requires : tie.Need-number-length-requires

@@ -2,21 +2,11 @@ use Rattle.mending.specs.Laws.Counting.{whole-lengths}
 use Rattle.mending.specs.Laws.Counting.{Counting, count-dropped-turn, count-kept-turn, counting-ends, counting-starts}
 use lib.ListN.{length, replicate}
 use Prim.Native.Nat.{_-_}
-use mathlib.Core.Path.{refl, ap}
+use mathlib.Core.Path.{ap}
 use borrow.Author.Needs.{needs}
 use native.Mathlib.Omega.{arith}
 use Rattle.mending.proofs.measuring.lengths_from.Statement.{statement}
 use Rattle.mending.proofs.measuring.lengths_from.Tie as tie
-use Rattle.mending.proofs.measuring.lengths_from.Reads as reads
-use Rattle.mending.proofs.measuring.lengths_from.Lts as lts
-use Rattle.mending.proofs.follow.followed_if.Reads as followed-if-reads
-use Rattle.mending.proofs.follow.no_keys.Reads as no-keys-reads
-use Rattle.mending.proofs.follow.none_yet.Reads as none-yet-reads
-use Rattle.mending.proofs.follow.with_key.Reads as with-key-reads
-use Rattle.mending.proofs.line.read_line.Reads as read-line-reads
-use Rattle.mending.proofs.measuring.more.Reads as more-reads
-use Rattle.mending.proofs.measuring.noted_by.Reads as noted-by-reads
-use Rattle.mending.proofs.measuring.with_last.Reads as with-last-reads
 
 abbrev Inv-loop : tie.InvT-loop
 Inv-loop text start ports size counted follows₀ keys₀ at₀ mended₀ notes₀ number₀ follows keys at mended notes number =

@@ -6,8 +6,6 @@ use native.Mathlib.Omega.{arith}
 use borrow.Author.Needs.{needs}
 use Rattle.mending.proofs.measuring.more.Statement.{statement}
 use Rattle.mending.proofs.measuring.more.Tie as tie
-use Rattle.mending.proofs.measuring.more.Reads as reads
-use Rattle.mending.proofs.measuring.more.Lts as lts
 
 -- src/measuring.rt:39:8
 sub-if1 : tie.Need-sub-if1

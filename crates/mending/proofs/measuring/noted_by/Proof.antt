@@ -2,10 +2,6 @@ use Rattle.mending.specs.Laws.Counting.{noted-dropped, noted-kept}
 use borrow.Author.Needs.{needs}
 use Rattle.mending.proofs.measuring.noted_by.Statement.{statement}
 use Rattle.mending.proofs.measuring.noted_by.Tie as tie
-use Rattle.mending.proofs.measuring.noted_by.Reads as reads
-use Rattle.mending.proofs.measuring.noted_by.Lts as lts
-use Rattle.mending.proofs.measuring.dropped_length.Reads as dropped-length-reads
-use Rattle.mending.proofs.measuring.restored_lengths.Reads as restored-lengths-reads
 
 -- src/measuring.rt:96:9
 restored-lengths-requires : tie.Need-restored-lengths-requires

@@ -4,9 +4,6 @@ use mathlib.Core.Path.{refl}
 use borrow.Author.Needs.{needs}
 use Rattle.mending.proofs.measuring.number_length.Statement.{statement}
 use Rattle.mending.proofs.measuring.number_length.Tie as tie
-use Rattle.mending.proofs.measuring.number_length.Reads as reads
-use Rattle.mending.proofs.measuring.number_length.Lts as lts
-use Rattle.text.proofs.put_decimal.Reads as put-decimal-reads
 
 -- src/measuring.rt:50:38
 slice-aggregate-put-decimal : tie.Need-slice-aggregate-put-decimal

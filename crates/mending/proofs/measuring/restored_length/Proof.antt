@@ -2,9 +2,6 @@ use Rattle.mending.specs.Laws.Counting.{restored-told, restored-untold}
 use borrow.Author.Needs.{needs}
 use Rattle.mending.proofs.measuring.restored_length.Statement.{statement}
 use Rattle.mending.proofs.measuring.restored_length.Tie as tie
-use Rattle.mending.proofs.measuring.restored_length.Reads as reads
-use Rattle.mending.proofs.measuring.restored_length.Lts as lts
-use Rattle.mending.proofs.measuring.number_length.Reads as number-length-reads
 
 -- src/measuring.rt:65:16
 number-length-requires : tie.Need-number-length-requires

@@ -2,12 +2,6 @@ use Rattle.mending.specs.Laws.Counting.{lengths-by}
 use borrow.Author.Needs.{needs}
 use Rattle.mending.proofs.measuring.restored_lengths.Statement.{statement}
 use Rattle.mending.proofs.measuring.restored_lengths.Tie as tie
-use Rattle.mending.proofs.measuring.restored_lengths.Reads as reads
-use Rattle.mending.proofs.measuring.restored_lengths.Lts as lts
-use Rattle.mending.proofs.follow.is_first.Reads as is-first-reads
-use Rattle.mending.proofs.follow.is_second.Reads as is-second-reads
-use Rattle.mending.proofs.follow.is_third.Reads as is-third-reads
-use Rattle.mending.proofs.measuring.restored_length.Reads as restored-length-reads
 
 -- src/measuring.rt:74:9
 is-first-requires : tie.Need-is-first-requires

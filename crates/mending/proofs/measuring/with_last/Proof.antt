@@ -8,11 +8,6 @@ use borrow.Author.Needs.{needs}
 use native.Mathlib.Omega.{arith}
 use Rattle.mending.proofs.measuring.with_last.Statement.{statement}
 use Rattle.mending.proofs.measuring.with_last.Tie as tie
-use Rattle.mending.proofs.measuring.with_last.Reads as reads
-use Rattle.mending.proofs.measuring.with_last.Lts as lts
-use Rattle.mending.proofs.follow.is_last.Reads as is-last-reads
-use Rattle.mending.proofs.measuring.more.Reads as more-reads
-use Rattle.mending.proofs.measuring.restored_length.Reads as restored-length-reads
 
 abbrev Inv-loop : tie.InvT-loop
 Inv-loop before follows keys notes₀ i₀ notes i = (i ≤ 64) × (length follows ≡ 64) × (length keys ≡ 64) × (notes ≡ told (before + lengthEnd i (countIn follows keys 0)))

@@ -2,8 +2,6 @@ use mathlib.Core.Path.{refl}
 use borrow.Author.Needs.{needs}
 use Rattle.mending.proofs.notes.after.Statement.{statement}
 use Rattle.mending.proofs.notes.after.Tie as tie
-use Rattle.mending.proofs.notes.after.Reads as reads
-use Rattle.mending.proofs.notes.after.Lts as lts
 
 -- src/notes.rt:94:22
 sub-result : tie.Need-sub-result

@@ -3,8 +3,6 @@ use mathlib.Core.Path.{sym}
 use borrow.Author.Needs.{needs}
 use Rattle.mending.proofs.notes.byte_at.Statement.{statement}
 use Rattle.mending.proofs.notes.byte_at.Tie as tie
-use Rattle.mending.proofs.notes.byte_at.Reads as reads
-use Rattle.mending.proofs.notes.byte_at.Lts as lts
 
 -- src/notes.rt:52:29
 shared-slice-read-result : tie.Need-shared-slice-read-result

@@ -5,10 +5,6 @@ use Rattle.mending.specs.Laws.Copies.{part-is}
 use borrow.Author.Needs.{needs}
 use Rattle.mending.proofs.notes.put_dropped.Statement.{statement}
 use Rattle.mending.proofs.notes.put_dropped.Tie as tie
-use Rattle.mending.proofs.notes.put_dropped.Reads as reads
-use Rattle.mending.proofs.notes.put_dropped.Lts as lts
-use Rattle.text.proofs.put.Reads as put-reads
-use Rattle.text.proofs.put_decimal.Reads as put-decimal-reads
 
 -- src/notes.rt:33:9
 put-decimal-requires : tie.Need-put-decimal-requires

@@ -4,11 +4,6 @@ use native.Mathlib.Omega.{arith}
 use borrow.Author.Needs.{needs}
 use Rattle.mending.proofs.notes.put_note.Statement.{statement}
 use Rattle.mending.proofs.notes.put_note.Tie as tie
-use Rattle.mending.proofs.notes.put_note.Reads as reads
-use Rattle.mending.proofs.notes.put_note.Lts as lts
-use Rattle.mending.proofs.notes.byte_at.Reads as byte-at-reads
-use Rattle.mending.proofs.notes.put_dropped.Reads as put-dropped-reads
-use Rattle.mending.proofs.notes.put_restored.Reads as put-restored-reads
 
 -- src/notes.rt:70:9
 put-dropped-requires : tie.Need-put-dropped-requires

@@ -2,15 +2,9 @@ use Rattle.mending.specs.Laws.Noting.{Noting, note-turn, noting-ends, no
 use lib.ListN.{length}
 use Prim.Native.Nat.{_-_}
 use mathlib.Core.Path.{sym, _∙_}
-use borrow.Author.Needs.{needs}
 use native.Mathlib.Omega.{arith}
 use Rattle.mending.proofs.notes.put_notes.Statement.{statement}
 use Rattle.mending.proofs.notes.put_notes.Tie as tie
-use Rattle.mending.proofs.notes.put_notes.Reads as reads
-use Rattle.mending.proofs.notes.put_notes.Lts as lts
-use Rattle.mending.proofs.line.read_line.Reads as read-line-reads
-use Rattle.mending.proofs.notes.after.Reads as after-reads
-use Rattle.mending.proofs.notes.put_note.Reads as put-note-reads
 
 abbrev Inv-loop : tie.InvT-loop
 Inv-loop text start ports size mended notes₀ at₀ to₀ number₀ written₀ notes at to number written = Noting ports size start text mended at to number written notes

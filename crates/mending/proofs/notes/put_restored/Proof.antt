@@ -2,10 +2,6 @@ use Rattle.mending.specs.Laws.Noting.{restored-put}
 use borrow.Author.Needs.{needs}
 use Rattle.mending.proofs.notes.put_restored.Statement.{statement}
 use Rattle.mending.proofs.notes.put_restored.Tie as tie
-use Rattle.mending.proofs.notes.put_restored.Reads as reads
-use Rattle.mending.proofs.notes.put_restored.Lts as lts
-use Rattle.text.proofs.put.Reads as put-reads
-use Rattle.text.proofs.put_decimal.Reads as put-decimal-reads
 
 -- src/notes.rt:44:9
 put-decimal-requires : tie.Need-put-decimal-requires

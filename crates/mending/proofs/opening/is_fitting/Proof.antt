@@ -3,10 +3,6 @@ use mathlib.Core.Path.{sym, _∙_}
 use borrow.Author.Needs.{needs}
 use Rattle.mending.proofs.opening.is_fitting.Statement.{statement}
 use Rattle.mending.proofs.opening.is_fitting.Tie as tie
-use Rattle.mending.proofs.opening.is_fitting.Reads as reads
-use Rattle.mending.proofs.opening.is_fitting.Lts as lts
-use Rattle.mending.proofs.opening.times_fit.Reads as times-fit-reads
-use Rattle.phases.proofs.is_startable.Reads as is-startable-reads
 
 -- src/opening.rt:42:8
 is-startable-requires : tie.Need-is-startable-requires

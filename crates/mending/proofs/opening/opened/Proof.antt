@@ -5,11 +5,6 @@ use mathlib.Core.Bool.{true}
 use borrow.Author.Needs.{needs}
 use Rattle.mending.proofs.opening.opened.Statement.{statement}
 use Rattle.mending.proofs.opening.opened.Tie as tie
-use Rattle.mending.proofs.opening.opened.Reads as reads
-use Rattle.mending.proofs.opening.opened.Lts as lts
-use Rattle.mending.proofs.opening.opened_with.Reads as opened-with-reads
-use Rattle.mending.proofs.opening.refused.Reads as refused-reads
-use Rattle.recording.proofs.opening_at.Reads as opening-at-reads
 
 -- src/opening.rt:70:9
 opening-at-requires : tie.Need-opening-at-requires

@@ -2,10 +2,6 @@ use mathlib.Core.Path.{refl, sym, _∙_}
 use borrow.Author.Needs.{needs}
 use Rattle.mending.proofs.opening.opened_with.Statement.{statement}
 use Rattle.mending.proofs.opening.opened_with.Tie as tie
-use Rattle.mending.proofs.opening.opened_with.Reads as reads
-use Rattle.mending.proofs.opening.opened_with.Lts as lts
-use Rattle.mending.proofs.opening.is_fitting.Reads as is-fitting-reads
-use Rattle.mending.proofs.opening.refused.Reads as refused-reads
 
 -- src/opening.rt:56:8
 is-fitting-requires : tie.Need-is-fitting-requires

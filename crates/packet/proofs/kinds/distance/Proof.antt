@@ -1,6 +1,6 @@
 use borrow.Author.Tests.{eq-eqb, ne-eqb}
 use native.Mathlib.Omega.{arith}
-use mathlib.Core.Path.{refl, sym}
+use mathlib.Core.Path.{sym}
 use Rattle.ground.specs.Circle.{after-only}
 use Rattle.packet.specs.Kinds.{distanceOf, tags}
 use Rattle.packet.proofs.kinds.distance.Statement.{statement}

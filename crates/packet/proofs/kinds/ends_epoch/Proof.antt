@@ -1,6 +1,5 @@
 use borrow.Author.Tests.{eq-eqb, ne-eqb}
-use native.Mathlib.Omega.{arith}
-use mathlib.Core.Path.{refl, sym}
+use mathlib.Core.Path.{refl}
 use Rattle.packet.specs.Kinds.{endsEpoch, frames}
 use Rattle.packet.proofs.kinds.ends_epoch.Statement.{statement}
 use Rattle.packet.proofs.kinds.ends_epoch.Tie as tie

@@ -1,6 +1,6 @@
 use borrow.Author.Tests.{eq-eqb, ne-eqb}
 use native.Mathlib.Omega.{arith}
-use mathlib.Core.Path.{refl, sym}
+use mathlib.Core.Path.{refl}
 use Rattle.packet.specs.Kinds.{epochsIn, frames, epochs}
 use Rattle.packet.proofs.kinds.epochs_in.Statement.{statement}
 use Rattle.packet.proofs.kinds.epochs_in.Tie as tie

@@ -1,6 +1,5 @@
 use borrow.Author.Tests.{eq-eqb, ne-eqb}
 use native.Mathlib.Omega.{arith}
-use mathlib.Core.Path.{refl, sym}
 use Rattle.packet.specs.Kinds.{firstTag, frames, tags, lead}
 use Rattle.packet.proofs.kinds.first_tag.Statement.{statement}
 use Rattle.packet.proofs.kinds.first_tag.Tie as tie

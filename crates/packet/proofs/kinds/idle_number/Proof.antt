@@ -1,6 +1,5 @@
 use borrow.Author.Tests.{eq-eqb, ne-eqb}
-use native.Mathlib.Omega.{arith}
-use mathlib.Core.Path.{refl, sym}
+use mathlib.Core.Path.{refl}
 use Rattle.packet.specs.Kinds.{idleNumber}
 use Rattle.packet.proofs.kinds.idle_number.Statement.{statement}
 use Rattle.packet.proofs.kinds.idle_number.Tie as tie

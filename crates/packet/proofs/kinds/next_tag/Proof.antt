@@ -1,6 +1,5 @@
 use borrow.Author.Tests.{eq-eqb, ne-eqb}
 use native.Mathlib.Omega.{arith}
-use mathlib.Core.Path.{refl, sym}
 use Rattle.packet.specs.Kinds.{tagAfter, tags}
 use Rattle.packet.proofs.kinds.next_tag.Statement.{statement}
 use Rattle.packet.proofs.kinds.next_tag.Tie as tie

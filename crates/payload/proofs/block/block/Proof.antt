@@ -1,5 +1,4 @@
 use mathlib.Core.Path.{_≡_}
-use Prim.Native.Nat.{_≤_}
 use native.Mathlib.Omega.{arith}
 use Rattle.payload.specs.Joining.{rankedByte}
 use Rattle.payload.proofs.Blocks.{block-in, block-is, ranked-in}

@@ -1,7 +1,7 @@
 -- `columns` meets its contract: the columns are drawn, w lines at a time. The last w may start before c, and draw some lines a second time (`lines-more`).
 -- The invariant: of the columns the lines below c are drawn.
 use mathlib.Core.Path.{_≡_, _∙_}
-use Prim.Native.Nat.{ℕ, _≤_, _-_, _+_, _*_, min}
+use Prim.Native.Nat.{_≤_, _-_, _+_, min}
 use native.Mathlib.Omega.{arith}
 use Rattle.ground.specs.Drawn.{Drawing, drawing-none}
 use Rattle.payload.specs.Inner.Area.{area}

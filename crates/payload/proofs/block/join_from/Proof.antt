@@ -1,7 +1,7 @@
 -- `join_from` meets its contract: the frame is drawn, h columns at a time (`columns-more`).
 -- The invariant: the ranks below c are in their columns.
-use mathlib.Core.Path.{_≡_, _∙_}
-use Prim.Native.Nat.{ℕ, _≤_, _-_, _+_, _*_, min}
+use mathlib.Core.Path.{_≡_}
+use Prim.Native.Nat.{_≤_, _-_, _+_, min}
 use native.Mathlib.Omega.{arith}
 use Rattle.ground.specs.Drawn.{Drawing, drawing-none}
 use Rattle.payload.specs.Inner.Area.{area}

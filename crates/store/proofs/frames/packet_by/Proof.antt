@@ -4,7 +4,6 @@ use Rattle.packet.specs.Laws.Symbols.{entry-in, row-is}
 use mathlib.Core.Path.{_≡_, refl}
 use Prim.Native.Nat.{_≤_, _-_}
 use native.Mathlib.Omega.{arith}
-use lib.ListN.{length}
 use borrow.Author.Needs.{needs}
 use Rattle.store.specs.Laws.Places.{place-fits}
 use Rattle.store.proofs.Packets.{Read, read-more, read-none}
