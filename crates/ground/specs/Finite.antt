@@ -2,11 +2,11 @@
 use mathlib.Core.Path.{_≡_, refl, sym, ap₂}
 use mathlib.Core.Bool.{Bool, true, false, _&&_, Bool·beq, false≢true}
 use mathlib.Core.List.{List, [], _∷_}
-use Prim.Native.Nat.{ℕ, zero, suc, _+_, _<_}
-use native.Mathlib.Nat.{add-zero, zero-add, add-suc, suc-add, le-of-suc-le-suc, not-suc-le-zero}
+use Prim.Native.Nat.{ℕ, zero, suc, _<_}
+use native.Mathlib.Nat.{not-suc-le-zero}
 use native.Mathlib.Decide.{ℕ-discrete}
 use native.Mathlib.Omega.{arith}
-use lib.ListN.{length, getD}
+use lib.ListN.{length}
 use borrow.Author.Tests.{eqb-true}
 use Rattle.ground.specs.Plain.{_==_}
 use Rattle.ground.specs.Truth.{and-left, and-right}
@@ -37,21 +37,6 @@ lists-at (suc n) f t (false ∷ l) e =
     lists-at n (λ m. f (false ∷ m)) (and-left (lists n (λ m. f (false ∷ m))) (lists n (λ m. f (true ∷ m))) t) l (omega arith)
 lists-at (suc n) f t (true ∷ l) e =
     lists-at n (λ m. f (true ∷ m)) (and-right (lists n (λ m. f (false ∷ m))) (lists n (λ m. f (true ∷ m))) t) l (omega arith)
-
--- the test f passes at each entry of a table and its place, counted from i
-module _ {A : Type 0} where
-  abbrev pub entries : (ℕ → A → Bool) → ℕ → List A → Bool
-  entries f i [] = true
-  entries f i (x ∷ xs) = f i x && entries f (suc i) xs
-
-  entries-from : (f : ℕ → A → Bool) (d : A) (xs : List A) (i : ℕ) → entries f i xs ≡ true → (k : ℕ) → k < length xs → f (i + k) (getD xs k d) ≡ true
-  entries-from f d [] i t k h = absurd (not-suc-le-zero h)
-  entries-from f d (x ∷ xs) i t zero h = rw add-zero (and-left (f i x) (entries f (suc i) xs) t)
-  entries-from f d (x ∷ xs) i t (suc k) h =
-      rw (add-suc, ← suc-add) (entries-from f d xs (suc i) (and-right (f i x) (entries f (suc i) xs) t) k (le-of-suc-le-suc h))
-
-  pub entries-at : (f : ℕ → A → Bool) (d : A) (xs : List A) → entries f 0 xs ≡ true → (k : ℕ) → k < length xs → f k (getD xs k d) ≡ true
-  entries-at f d xs t k h = rw zero-add at (entries-from f d xs 0 t k h)
 
 -- two lists of bits compared by a test
 abbrev pub sameBits : List Bool → List Bool → Bool

@@ -9,7 +9,7 @@ use lib.Dec.{eqb, leb}
 use borrow.Author.Tests.{eq-eqb, eqb-false, eqb-true, le-leb, leb-true, lt-leb, ne-eqb}
 use Rattle.ground.specs.Truth.{eq-or-ne, le-or-lt}
 use Rattle.packet.specs.Clock.{by}
-use Rattle.packet.specs.Kinds.{endsEpoch, epochsIn, frames, lead, tags}
+use Rattle.packet.specs.Kinds.{endsEpoch, epochsIn, frames, tags}
 use Rattle.packet.specs.Theorems.Tags.{frames-some}
 
 -- How many there are.
@@ -22,22 +22,9 @@ frames-many kind k = by (λ L E N l. L ≤ (k + 1) * L) (omega arith) (omega ari
 pub run-fits : (kind : ℕ) → frames kind * 2 ≤ 255
 run-fits kind = by (λ L E N l. L * 2 ≤ 255) (omega arith) (omega arith) kind
 
--- of H4, for a program whose buffers are of its own size
-pub h4-frames : frames 0 ≡ 16
-unfolding frames
-h4-frames = refl
-
 -- two bytes count the frames of half a round
 pub half-fits : (kind : ℕ) → tags kind / 2 ≤ 2048
 half-fits kind = by (λ L E N l. N / 2 ≤ 2048) (omega arith) (omega arith) kind
-
--- each nibble of a packet comes with a frame of its epoch
-pub nibbles-in : (kind k : ℕ) → k < 16 → k < frames kind
-nibbles-in kind k h = by (λ L E N l. k < L) (omega arith) (omega arith) kind
-
--- the frame after the count's first is of the same epoch
-pub second-within : (kind : ℕ) → lead kind + 1 < frames kind
-second-within kind = by (λ L E N l. l + 1 < L) (omega arith) (omega arith) kind
 
 -- four bytes hold a report's byte count
 pub count-fits : (kind x P : ℕ) → x ≤ 64 → P ≤ 2340 → x * frames kind * P < 4294967296

@@ -47,14 +47,6 @@ module _ (g : Group) where
   origin-within w = rw (passed-origin w) (mod-lt (g .origin + frames (g .kind)) w)
 
 module _ (s : Step) (whole : Bool) where
-  pub step-count : passedStep s whole .count ≡ s .count
-  unfolding passedStep
-  step-count = refl
-
-  pub step-next : passedStep s whole .next ≡ s .next
-  unfolding passedStep
-  step-next = refl
-
   pub step-joined : passedStep s whole .joined ≡ s .joined
   unfolding passedStep
   step-joined = refl

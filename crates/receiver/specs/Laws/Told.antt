@@ -97,13 +97,6 @@ unfolding replyPorts
 reply-port g s n i h b =
     getD-each (sizeOf n) (replyPort g s) (replicate 64 noPort) i noPort (rw (size-is n h) b) (rw (length-replicate {A = ReplyPort} 64 noPort) (omega arith))
 
-reply-number : (g : Group) (s : List (List ℕ)) (i : ℕ) → replyPort g s i .number ≡ portAt s i .member .number
-unfolding replyPort
-reply-number g s i = rw (port-member s i) refl
-
-pub told-number : (g : Group) (s : List (List ℕ)) (n i : ℕ) → n ≤ 64 → i < n → R.portAt (replyPorts g s n) i .number ≡ portAt s i .member .number
-told-number g s n i h b = rw (reply-port g s n i h b) (reply-number g s i)
-
 pub ack-le : (ports : List ReplyPort) (n bit : ℕ) → bit ≤ 1 → ackOf ports n bit ≤ 1
 unfolding ackOf
 ack-le ports n bit h = go (turns ports n) (eqb bit 0)

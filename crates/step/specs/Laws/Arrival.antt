@@ -26,10 +26,6 @@ abbrev pub inWindow : Group → Step → Bool
 inWindow g s = ltb (distanceIn g (s .next)) (g .window)
 
 module _ (g : Group) (s : Step) (flag odd : Bool) (h : ℕ) where
-  pub taken-flagged : flag ≡ true → takenOf g s flag odd h ≡ flagged g s
-  unfolding takenOf
-  taken-flagged f = rw f refl
-
   -- not in step after this frame
   pub taken-counts : flag ≡ false → stepped g s odd h ≡ false → takenOf g s flag odd h ≡ countsOn g s (ranOn g s odd h)
   unfolding takenOf
@@ -44,11 +40,6 @@ module _ (g : Group) (s : Step) (flag odd : Bool) (h : ℕ) where
   pub taken-keeps : flag ≡ false → stepped g s odd h ≡ true → flagOf (g .begun) ≡ true → flagOf (s .joined) ≡ true → inWindow g s ≡ true → takenOf g s flag odd h ≡ keeps g s (ranOn g s odd h) (distanceIn g (s .next))
   unfolding takenOf arrives byWindow
   taken-keeps f e b j w = rw (f, e, b, j, w) refl
-
-  -- joined, and outside it
-  pub taken-outside : flag ≡ false → stepped g s odd h ≡ true → flagOf (g .begun) ≡ true → flagOf (s .joined) ≡ true → inWindow g s ≡ false → takenOf g s flag odd h ≡ outside s
-  unfolding takenOf arrives byWindow
-  taken-outside f e b j w = rw (f, e, b, j, w) refl
 
   -- not joined, at an epoch start in the window
   pub taken-joins : flag ≡ false → stepped g s odd h ≡ true → flagOf (g .begun) ≡ true → flagOf (s .joined) ≡ false → startsEpoch (g .kind) (s .next) ≡ true → inWindow g s ≡ true → takenOf g s flag odd h ≡ joining g s (ranOn g s odd h) (distanceIn g (s .next))

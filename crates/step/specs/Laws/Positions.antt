@@ -1,15 +1,14 @@
 -- Where a run of the step rule starts, over the kind of packet, and what its count says.
 use mathlib.Core.Path.{_≡_}
 use mathlib.Core.Logic.{_≢_}
-use mathlib.Core.Bool.{Bool, true, false, not, _&&_}
+use mathlib.Core.Bool.{Bool, false, not, _&&_}
 use Prim.Native.Nat.{ℕ, _+_, _-_, _*_, _%_, _≤_, _<_}
 use native.Mathlib.Omega.{arith}
 use lib.Dec.{eqb, leb}
-use borrow.Author.Tests.{leb-false, leb-true, lt-leb}
+use borrow.Author.Tests.{leb-false, lt-leb}
 use Rattle.ground.specs.Truth.{neither}
 use Rattle.packet.specs.Kinds.{frames}
 use Rattle.packet.specs.Laws.Epochs.{run-fits, start-least, to-start, to-start-lt}
-use Rattle.packet.specs.Theorems.Tags.{frames-two}
 use Rattle.step.specs.declared.run.Run.{Run}
 use Rattle.step.specs.Run.{inStepAt, loses}
 
@@ -29,13 +28,6 @@ few-breaks counted run odd e broken = leb-false 3 (run .breaks) (rw broken at (n
 pub few-short : (kind count : ℕ) → count < frames kind * 2 → inStepAt kind count ≡ false
 unfolding inStepAt
 few-short kind count l = lt-leb (frames kind * 2) count l
-
-pub step-many : (kind count : ℕ) → inStepAt kind count ≡ true → 2 ≤ count
-unfolding inStepAt
-step-many kind count e =
-    let enough = leb-true (frames kind * 2) count e in
-    let more = frames-two kind in
-    omega arith
 
 -- Frames as sent from position f on. Position x has the tag of the (c0 + x)-th frame after one with tag 0.
 

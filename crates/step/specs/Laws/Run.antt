@@ -16,7 +16,7 @@ use Rattle.packet.specs.Laws.Vc12Clock.{vc12-before, vc12-frames, vc12-place, v
 use Rattle.packet.specs.Theorems.Tags.{frames-two, tagOf}
 use Rattle.step.specs.declared.run.Run.{Run}
 use Rattle.step.specs.Laws.H4Run as H
-pub use Rattle.step.specs.Laws.Positions.{Starts, count-fits, few-breaks, few-short, start-from, startFrom, starts-least, step-many}
+pub use Rattle.step.specs.Laws.Positions.{Starts, count-fits, few-breaks, few-short, start-from, startFrom, starts-least}
 use Rattle.step.specs.Laws.Sent.{SentWith}
 use Rattle.step.specs.Laws.StartsRun as S
 use Rattle.step.specs.Run.{h4RunOn, inStepAt, noRun, runOn, withBits}

@@ -169,15 +169,6 @@ run-starts a byte run z none sent =
     let self : a - a ≡ 0 = omega arith in
     rw (eq-eqb (run .count) 0 none, first, e-is, z, self) refl
 
--- in step exactly from the 64th frame on
-pub in-step-from : (a x : ℕ) → a + 64 ≤ x + 1 → 64 ≤ vc12RunAt a x .count
-unfolding vc12RunAt
-in-step-from a x l = omega arith
-
-pub short-before : (a x : ℕ) → x + 1 < a + 64 → vc12RunAt a x .count < 64
-unfolding vc12RunAt
-short-before a x l = omega arith
-
 -- a frame that is said to be no start, after none
 pub run-none : (byte : ℕ) (run : Run) → run .count ≡ 0 → saysStart byte ≡ false → startsRun run byte ≡ noRun
 unfolding startsRun begunPacket

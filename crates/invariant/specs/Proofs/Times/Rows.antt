@@ -46,9 +46,6 @@ pub record SameButTimes (s t : List (List ℕ)) : Type 0 where
 pub alike : (k : ℕ) (a : List ℕ) → SameRow k a a
 alike k a = record { other = λ d. refl; member = refl }
 
-pub same-self : (s : List (List ℕ)) → SameButTimes s s
-same-self s = record { long = refl; row = λ k. alike k (rowIn s k) }
-
 pub cond-same : (b : Bool) {s t u v : List (List ℕ)} → SameButTimes s t → SameButTimes u v → SameButTimes (cond b s u) (cond b t v)
 cond-same true h k = h
 cond-same false h k = k

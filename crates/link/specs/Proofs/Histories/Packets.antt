@@ -78,10 +78,6 @@ module _ (h : History) (a : Allowed h) (i slot : ℕ) (b : slot < h .slots) wher
   pub packet-any : (h4 : List ℕ) → length h4 ≡ frames (h .kind) → packetBytes (senderAt h i) slot h4 ≡ packetSent h i slot
   packet-any h4 long = sent-as h4 long ∙ laws.sent-same (h .kind) (fieldsSent h i slot) h4 (replicate (frames (h .kind)) 0) (sent-done h4 long) packet-wrote ∙ sym packet-is
 
-  -- it is as long as the epoch
-  pub packet-long : length (packetSent h i slot) ≡ frames (h .kind)
-  packet-long = ap length packet-is ∙ laws.sent-as (h .kind) (fieldsSent h i slot) (replicate (frames (h .kind)) 0) packet-wrote .long
-
   -- and its frames count
   pub sent-counts : (k : ℕ) → k < frames (h .kind) → SentWith (h .kind) (firstTag (h .kind) (h .first) + (epochStart (h .kind) i + k)) (getD (packetSent h i slot) k 0)
   sent-counts k l =
