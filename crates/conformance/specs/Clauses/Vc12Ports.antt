@@ -9,6 +9,7 @@ use Rattle.conformance.specs.Waits.{seenPort}
 use Rattle.ground.specs.Plain.{_==_}
 use Rattle.ground.specs.Table.{tabulate}
 use Rattle.packet.specs.Changes.{bringsMfi2, changed, keptPart, mostChanges}
+use Rattle.packet.specs.Counts.{counts}
 use Rattle.phases.specs.Settling.{beginBy}
 use Rattle.receiver.specs.Lengths.{outputFor}
 use Rattle.receiver.specs.Shown.{portsOut, replyOut}
@@ -149,8 +150,10 @@ window :
     × (takes begun (joined 40 9) 3 ≡ dropped (stepWith 1 0 1 1 0 0 0 1) 12 true true)
     × (takes begun (joined 31 9) 0xFD ≡ stored (joined 32 9) 63 false false)
     × (takes begun (joined 40 9) 0xFF ≡ dropped (stepWith 1 0 1 1 0 0 0 1) 12 true true)
+    × (takes begun (joined 31 9) 9 ≡ stored (joined 32 9) 63 false false)
+    × (takes begun (joined 40 9) 0x0B ≡ dropped (stepWith 1 0 1 1 0 0 0 1) 12 true true)
 unfolding allOpen
-window = (refl, refl, refl, refl, refl, refl, refl, refl, refl)
+window = (refl, refl, refl, refl, refl, refl, refl, refl, refl, refl, refl)
 
 -- The first four bits of a wrong count are stored, here of 8 in place of 0: the second of them differs, and step is lost at the fifth. The epoch that is gathered ends with its 32nd frame, and not with its sixteenth.
 -- A flagged frame ends the run, and that it says a start is not looked at: no run begins with it, and the bits stay.
@@ -212,5 +215,19 @@ lines :
     × (changed 1 (replicate 32 0) (replicate 32 1) ≡ 32)
     × (changed 1 (2 ∷ replicate 31 0) (0 ∷ replicate 30 0 ++ (1 ∷ [])) ≡ 1)
     × (tabulate 32 (bringsMfi2 1) ≡ replicate 32 false)
+    × (mayDiffer 1 0xFD ≡ replicate 32 true)
+    × (mayDiffer 3 7 ≡ replicate 32 true)
 unfolding allOpen
-lines = (refl, refl, refl, refl, refl, refl, refl, refl)
+lines = (refl, refl, refl, refl, refl, refl, refl, refl, refl, refl)
+
+-- A frame counts as a tag says where the start is said at place 0 alone, and at places 0 to 4 the bit is the count's, first bit highest: of tag 32, which has count 1, 00001; of tag 512, which has count 16, 10000.
+counted :
+    (tabulate 4 (counts 1 32) ≡ false ∷ false ∷ true ∷ false ∷ [])
+    × (tabulate 4 (counts 1 33) ≡ true ∷ false ∷ false ∷ false ∷ [])
+    × (tabulate 4 (counts 1 36) ≡ false ∷ true ∷ false ∷ false ∷ [])
+    × (tabulate 4 (counts 1 37) ≡ true ∷ true ∷ false ∷ false ∷ [])
+    × (tabulate 4 (counts 1 63) ≡ true ∷ true ∷ false ∷ false ∷ [])
+    × (tabulate 4 (counts 1 512) ≡ false ∷ false ∷ false ∷ true ∷ [])
+    × (tabulate 4 (counts 1 513) ≡ true ∷ false ∷ false ∷ false ∷ [])
+unfolding allOpen
+counted = (refl, refl, refl, refl, refl, refl, refl)
