@@ -34,14 +34,14 @@ ranksBytes = 68
 unfoldable pub ranksBytesOf : Ranks → List ℕ
 ranksBytesOf r = tabulate ranksBytes (rankByte r)
 
-abbrev pub bothSized : ℕ → List ℕ → List ℕ → Bool
+abbrev pub bothSized : (n : ℕ) (state out : List ℕ) → Bool
 bothSized n state out = isState state && length out == n
 
-unfoldable pub shownAnswerC : ℕ → List ℕ → List ℕ → ℕ
+unfoldable pub shownAnswerC : (n : ℕ) (state out : List ℕ) → ℕ
 shownAnswerC n state out = if bothSized n state out then 0 else 9
 
 -- under 9 the buffer stays
-unfoldable pub shownBytes : ℕ → List ℕ → List ℕ → List ℕ → List ℕ
+unfoldable pub shownBytes : (n : ℕ) (state new out : List ℕ) → List ℕ
 shownBytes n state new out = if bothSized n state out then new else out
 
 abbrev pub boardBytesC : List ℕ → List ℕ → List ℕ

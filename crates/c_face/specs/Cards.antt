@@ -48,7 +48,7 @@ alone g c = record { owners = c .owners; first = P.senderOf c g; second = P.send
 
 -- Writing: the owner row and the group's own part. All else stays.
 
-unfoldable pub putOwn : ℕ → Card → List ℕ → List ℕ
+unfoldable pub putOwn : (group : ℕ) (c : Card) (state : List ℕ) → List ℕ
 putOwn g c state = fillAt (partAt g) stateBytes (byteAt (P.senderOf c g)) (fillAt 0 64 (ownerIn (c .owners)) state)
 
 -- both groups' parts
@@ -56,17 +56,17 @@ abbrev pub putCard : Card → List ℕ → List ℕ
 putCard c state = putOwn 1 c (putOwn 0 c state)
 
 -- a refusal encodes nothing anew
-abbrev pub keptCard : ℕ → CardOutcome → List ℕ → List ℕ
+abbrev pub keptCard : (group : ℕ) (outcome : CardOutcome) (state : List ℕ) → List ℕ
 keptCard g outcome state = if answerNumber (outcome .answer) == 0 then putOwn g (outcome .card) state else state
 
-abbrev pub areEpochs : ℕ → ℕ → ℕ → Bool
+abbrev pub areEpochs : (kind e₀ e₁ : ℕ) → Bool
 areEpochs kind e₀ e₁ = isEpoch kind e₀ && isEpoch kind e₁
 
 -- Starting, both groups of a kind: 4, 9, 8. 4 gives two empty groups of H4, where there is room for them; their first epochs have the number 0.
-unfoldable pub startAnswerOn : ℕ → ℕ → ℕ → ℕ → List ℕ → ℕ
+unfoldable pub startAnswerOn : (kind count e₀ e₁ : ℕ) (state : List ℕ) → ℕ
 startAnswerOn kind count e₀ e₁ state = if noStart kind count then 4 else if isCard state then (if areEpochs kind e₀ e₁ then 0 else 8) else 9
 
-unfoldable pub startStateOn : ℕ → ℕ → ℕ → ℕ → List ℕ → List ℕ
+unfoldable pub startStateOn : (kind count e₀ e₁ : ℕ) (state : List ℕ) → List ℕ
 startStateOn kind count e₀ e₁ state =
     if isCard state
     then (if noStart kind count then putCard (startOf 0 0 0 0 .card) state else if areEpochs kind e₀ e₁ then putCard (startOf kind count e₀ e₁ .card) state else state)
@@ -76,47 +76,47 @@ startStateOn kind count e₀ e₁ state =
 unfoldable pub refusalOf : ℕ → ℕ → ℕ
 refusalOf n g = if n == cardBytes then (if g <? 2 then 0 else 1) else 9
 
-abbrev pub behind : List ℕ → ℕ → ℕ → ℕ
+abbrev pub behind : (state : List ℕ) (group n : ℕ) → ℕ
 behind state g n = if isCard state then (if g <? 2 then n else 1) else 9
 
-abbrev pub bytesBehind : List ℕ → ℕ → List ℕ → List ℕ → List ℕ
+abbrev pub bytesBehind : (state : List ℕ) (group : ℕ) (new old : List ℕ) → List ℕ
 bytesBehind state g new old = if isCard state then (if g <? 2 then new else old) else old
 
 -- The calls that change a card: 9, 1, 8 where the numbers given do not fit, then the card's own.
-unfoldable pub callAnswerOn : Bool → ℕ → Call → List ℕ → ℕ
+unfoldable pub callAnswerOn : (fits : Bool) (group : ℕ) (call : Call) (state : List ℕ) → ℕ
 callAnswerOn fits g call state = behind state g (if fits then answerNumber (outcomeOf (cardOf state) g call .answer) else 8)
 
-unfoldable pub callStateOn : Bool → ℕ → Call → List ℕ → List ℕ
+unfoldable pub callStateOn : (fits : Bool) (group : ℕ) (call : Call) (state : List ℕ) → List ℕ
 callStateOn fits g call state = bytesBehind state g (if fits then keptCard g (outcomeOf (cardOf state) g call) state else state) state
 
 -- What a slot sends: 9, 1, then the card's own.
-unfoldable pub packetAnswerOn : List ℕ → ℕ → ℕ → List ℕ → ℕ
+unfoldable pub packetAnswerOn : (state : List ℕ) (group slot : ℕ) (h4 : List ℕ) → ℕ
 packetAnswerOn state g slot h4 = behind state g (answerNumber (packetAnswer (cardOf state) g slot h4))
 
-unfoldable pub packetBytesOn : List ℕ → ℕ → ℕ → List ℕ → List ℕ
+unfoldable pub packetBytesOn : (state : List ℕ) (group slot : ℕ) (h4 : List ℕ) → List ℕ
 packetBytesOn state g slot h4 = bytesBehind state g (packetBytes (cardOf state) g slot h4) h4
 
-unfoldable pub payloadAnswerOn : List ℕ → ℕ → ℕ → ℕ → List ℕ → List ℕ → ℕ
+unfoldable pub payloadAnswerOn : (state : List ℕ) (group slot p : ℕ) (frame member : List ℕ) → ℕ
 payloadAnswerOn state g slot p frame member = behind state g (answerNumber (payloadAnswer (cardOf state) g slot p (length frame) (length member)))
 
-unfoldable pub payloadBytesOn : List ℕ → ℕ → ℕ → ℕ → List ℕ → List ℕ → List ℕ
+unfoldable pub payloadBytesOn : (state : List ℕ) (group slot p : ℕ) (frame member : List ℕ) → List ℕ
 payloadBytesOn state g slot p frame member = bytesBehind state g (payloadBytes (cardOf state) g slot p frame member) member
 
 -- The boards, the ranks and which slots the group owns, each whole into one buffer: 9, 1, then 9 for a buffer of another length.
-unfoldable pub shownAnswerOn : ℕ → List ℕ → ℕ → List ℕ → ℕ
+unfoldable pub shownAnswerOn : (n : ℕ) (state : List ℕ) (group : ℕ) (out : List ℕ) → ℕ
 shownAnswerOn n state g out = behind state g (if length out == n then 0 else 9)
 
-unfoldable pub shownBytesOn : ℕ → List ℕ → ℕ → List ℕ → List ℕ → List ℕ
+unfoldable pub shownBytesOn : (n : ℕ) (state : List ℕ) (group : ℕ) (new out : List ℕ) → List ℕ
 shownBytesOn n state g new out = bytesBehind state g (if length out == n then new else out) out
 
-abbrev pub boardBytesOn : List ℕ → ℕ → List ℕ → List ℕ
+abbrev pub boardBytesOn : (state : List ℕ) (group : ℕ) (out : List ℕ) → List ℕ
 boardBytesOn state g out = shownBytesOn boardBytes state g (boardBytesOf (boardShown (cardOf state) g .board)) out
 
-abbrev pub outgoingBytesOn : List ℕ → ℕ → List ℕ → List ℕ
+abbrev pub outgoingBytesOn : (state : List ℕ) (group : ℕ) (out : List ℕ) → List ℕ
 outgoingBytesOn state g out = shownBytesOn boardBytes state g (boardBytesOf (outgoingShown (cardOf state) g .board)) out
 
-abbrev pub ranksBytesOn : List ℕ → ℕ → List ℕ → List ℕ
+abbrev pub ranksBytesOn : (state : List ℕ) (group : ℕ) (out : List ℕ) → List ℕ
 ranksBytesOn state g out = shownBytesOn ranksBytes state g (ranksBytesOf (ranksShown (cardOf state) g .ranks)) out
 
-abbrev pub ownedBytesOn : List ℕ → ℕ → List ℕ → List ℕ
+abbrev pub ownedBytesOn : (state : List ℕ) (group : ℕ) (out : List ℕ) → List ℕ
 ownedBytesOn state g out = shownBytesOn 64 state g (ownedShown (cardOf state) g .owned) out

@@ -69,11 +69,11 @@ changesBytesOf cs = tabulate changesBytes (changesByte cs)
 
 -- The calls: 9 and then the crate's own answer; under a refusal every lent byte stays.
 
-unfoldable pub comparedAnswerC : List ℕ → List ℕ → List ℕ → ℕ
+unfoldable pub comparedAnswerC : (old new out : List ℕ) → ℕ
 comparedAnswerC old new out =
     if isBoard old && isBoard new && areChanges out then answerNumber (comparedOf (boardFrom old) (boardFrom new) .answer) else 9
 
-unfoldable pub comparedBytesC : List ℕ → List ℕ → List ℕ → List ℕ
+unfoldable pub comparedBytesC : (old new out : List ℕ) → List ℕ
 comparedBytesC old new out =
     if comparedAnswerC old new out == 0 then changesBytesOf (comparedOf (boardFrom old) (boardFrom new) .changes) else out
 
@@ -96,5 +96,5 @@ unfoldable pub spokenBytesC : List ℕ → List ℕ → List ℕ
 spokenBytesC changes text = if roomy changes text && isWait changes then speechBytes (changesFrom changes) text else text
 
 -- how many bytes were written; under a refusal the number stays
-unfoldable pub writtenC : List ℕ → List ℕ → ℕ → ℕ
+unfoldable pub writtenC : (changes text : List ℕ) (written : ℕ) → ℕ
 writtenC changes text written = if spokenAnswerC changes text == 0 then speechOf (changesFrom changes) text .written else written

@@ -42,7 +42,7 @@ slotIn bytes i = record { state = stateOf (byteIn bytes (2 * i)); number = byteI
 unfoldable pub slotsIn : List ℕ → List Slot
 slotsIn bytes = tabulate 64 (slotIn bytes)
 
-abbrev pub rowIn : List ℕ → ℕ → ℕ → Row
+abbrev pub rowIn : (bytes : List ℕ) (at i : ℕ) → Row
 rowIn bytes at i = record { word = word (byteIn bytes (at + 2 * i)); number = byteIn bytes (at + 2 * i + 1) }
 
 unfoldable pub rowsIn : List ℕ → ℕ → List Row
@@ -52,7 +52,7 @@ abbrev pub tableIn : List ℕ → Table
 tableIn bytes =
     record { slots = slotsIn bytes; count = byteIn bytes 384; wait = flagOf (byteIn bytes 385); bit = byteIn bytes 386; kind = byteIn bytes 387 }
 
-abbrev pub boardIn : List ℕ → ℕ → ℕ → ℕ → Board
+abbrev pub boardIn : (bytes : List ℕ) (at count wait : ℕ) → Board
 boardIn bytes at count wait = record { rows = rowsIn bytes at; count = count; wait = flagOf wait }
 
 unfoldable pub senderOf : List ℕ → Sender

@@ -15,11 +15,11 @@ mendedLengthC recording given = if lengthsAnswerC recording == 0 then length (me
 unfoldable pub notesLengthC : List ℕ → ℕ → ℕ
 notesLengthC recording given = if lengthsAnswerC recording == 0 then told (length (notesOf recording)) else given
 
-abbrev pub mendAnswerC : List ℕ → List ℕ → List ℕ → ℕ
+abbrev pub mendAnswerC : (recording mended notes : List ℕ) → ℕ
 mendAnswerC recording mended notes = mendAnswer recording (length mended) (length notes)
 
-abbrev pub mendedC : List ℕ → List ℕ → List ℕ → List ℕ
+abbrev pub mendedC : (recording mended notes : List ℕ) → List ℕ
 mendedC recording mended notes = mendedLeft recording mended notes
 
-abbrev pub notesC : List ℕ → List ℕ → List ℕ → List ℕ
+abbrev pub notesC : (recording mended notes : List ℕ) → List ℕ
 notesC recording mended notes = notesLeft recording mended notes

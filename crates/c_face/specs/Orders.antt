@@ -14,10 +14,10 @@ abbrev pub kindOf : ℕ → K.Kind
 kindOf n = if n == 0 then K.Kind.Add else if n == 1 then K.Kind.Remove else if n == 2 then K.Kind.Claim else K.Kind.Release
 
 -- 8 for a number that is no kind, as every other C call answers a number that it cannot take; else as the single call
-unfoldable pub kindAnswerOn : ℕ → ℕ → ℕ → List ℕ → ℕ
+unfoldable pub kindAnswerOn : (kind group slot : ℕ) (state : List ℕ) → ℕ
 kindAnswerOn kind g slot state = if 3 <? kind then 8 else callAnswerOn true g (callBy (kindOf kind) slot) state
 
-unfoldable pub kindStateOn : ℕ → ℕ → ℕ → List ℕ → List ℕ
+unfoldable pub kindStateOn : (kind group slot : ℕ) (state : List ℕ) → List ℕ
 kindStateOn kind g slot state = if 3 <? kind then state else callStateOn true g (callBy (kindOf kind) slot) state
 
 abbrev pub commandAnswerOn : List ℕ → List ℕ → ℕ
@@ -31,11 +31,11 @@ abbrev pub ordersOn : List ℕ → List (List ℕ) → Folded (List ℕ)
 ordersOn state commands = folded commandStateOn commandAnswerOn state commands
 
 -- 9 for a state of another length; 'answers list of a different length than the commands is 9, and nothing is done'
-unfoldable pub orderAnswerOn : List ℕ → List (List ℕ) → List ℕ → ℕ
+unfoldable pub orderAnswerOn : (state : List ℕ) (commands : List (List ℕ)) (answers : List ℕ) → ℕ
 orderAnswerOn state commands answers = if isCard state then (if length commands == length answers then 0 else 9) else 9
 
-unfoldable pub orderStateOn : List ℕ → List (List ℕ) → List ℕ → List ℕ
+unfoldable pub orderStateOn : (state : List ℕ) (commands : List (List ℕ)) (answers : List ℕ) → List ℕ
 orderStateOn state commands answers = if isCard state then (if length commands == length answers then ordersOn state commands .state else state) else state
 
-unfoldable pub orderAnswersOn : List ℕ → List (List ℕ) → List ℕ → List ℕ
+unfoldable pub orderAnswersOn : (state : List ℕ) (commands : List (List ℕ)) (answers : List ℕ) → List ℕ
 orderAnswersOn state commands answers = if isCard state then (if length commands == length answers then ordersOn state commands .numbers else answers) else answers

@@ -15,15 +15,15 @@ use Rattle.packet.specs.Vc12.{readVc12Answer, writeVc12Answer, writeVc12Bytes}
 use Rattle.packet.specs.Writing.{writeAnswer, writeBytes, writingNumber}
 
 -- the fields that a C call gives, in its order
-abbrev pub given : ℕ → ℕ → ℕ → ℕ → ℕ → ℕ → ℕ → Fields
+abbrev pub given : (epoch word gid mst ack sq reserved : ℕ) → Fields
 given epoch word gid mst ack sq reserved =
     record { epoch = epoch; word = record { 0 = word }; gid = gid; mst = mst; «rs_ack» = ack; sq = sq; reserved = reserved }
 
 -- Writing for C: any 32 bits may come as a field.
-abbrev pub writeAnswerC : ℕ → ℕ → ℕ → ℕ → ℕ → ℕ → ℕ → List ℕ → ℕ
+abbrev pub writeAnswerC : (epoch word gid mst ack sq reserved : ℕ) (h4 : List ℕ) → ℕ
 writeAnswerC epoch word gid mst ack sq reserved h4 = writingNumber (writeAnswer (given epoch word gid mst ack sq reserved) h4)
 
-abbrev pub writeBytesC : ℕ → ℕ → ℕ → ℕ → ℕ → ℕ → ℕ → List ℕ → List ℕ
+abbrev pub writeBytesC : (epoch word gid mst ack sq reserved : ℕ) (h4 : List ℕ) → List ℕ
 writeBytesC epoch word gid mst ack sq reserved h4 = writeBytes (given epoch word gid mst ack sq reserved) h4
 
 -- Reading for C: the fields go into ten lent bytes, of which another number is refused with 9 before all else.
@@ -58,7 +58,7 @@ readFieldsC h4 fields = if length fields == 10 then valuesOr (readAnswer h4) fie
 
 -- Of a fixed group (request 2026-12), by the same lent bytes.
 
-abbrev pub writeFixedAnswerC : ℕ → ℕ → List ℕ → ℕ
+abbrev pub writeFixedAnswerC : (epoch sq : ℕ) (h4 : List ℕ) → ℕ
 writeFixedAnswerC epoch sq h4 = writingNumber (writeFixedAnswer epoch sq h4)
 
 unfoldable pub readFixedAnswerC : List ℕ → List ℕ → ℕ
@@ -69,10 +69,10 @@ readFixedFieldsC h4 fields = if length fields == 10 then valuesOr (readFixedAnsw
 
 -- Of VC-12 (request 2026-01), by the same fields and the same lent bytes.
 
-abbrev pub writeVc12AnswerC : ℕ → ℕ → ℕ → ℕ → ℕ → ℕ → ℕ → List ℕ → ℕ
+abbrev pub writeVc12AnswerC : (epoch word gid mst ack sq reserved : ℕ) (bits : List ℕ) → ℕ
 writeVc12AnswerC epoch word gid mst ack sq reserved bits = writingNumber (writeVc12Answer (given epoch word gid mst ack sq reserved) bits)
 
-abbrev pub writeVc12BytesC : ℕ → ℕ → ℕ → ℕ → ℕ → ℕ → ℕ → List ℕ → List ℕ
+abbrev pub writeVc12BytesC : (epoch word gid mst ack sq reserved : ℕ) (bits : List ℕ) → List ℕ
 writeVc12BytesC epoch word gid mst ack sq reserved bits = writeVc12Bytes (given epoch word gid mst ack sq reserved) bits
 
 unfoldable pub readVc12AnswerC : List ℕ → List ℕ → ℕ
@@ -82,15 +82,15 @@ unfoldable pub readVc12FieldsC : List ℕ → List ℕ → List ℕ
 readVc12FieldsC bits fields = if length fields == 10 then valuesOr (readVc12Answer bits) fields else fields
 
 -- for the functions behind the calls
-abbrev pub areBytes : ℕ → ℕ → ℕ → ℕ → ℕ → ℕ → Bool
+abbrev pub areBytes : (epoch word gid mst ack sq : ℕ) → Bool
 areBytes epoch word gid mst ack sq = epoch <? 256 && word <? 256 && gid <? 256 && mst <? 256 && ack <? 256 && sq <? 256
 
 -- by the kind of the packet, which has a byte for each frame of its epoch
 abbrev pub writeRefusal : ℕ → ℕ → ℕ
 writeRefusal kind n = if n == frames kind then 8 else 9
 
-abbrev pub sentAnswerC : ℕ → ℕ → ℕ → ℕ → ℕ → ℕ → ℕ → ℕ → List ℕ → ℕ
+abbrev pub sentAnswerC : (kind epoch word gid mst ack sq reserved : ℕ) (bytes : List ℕ) → ℕ
 sentAnswerC kind epoch word gid mst ack sq reserved bytes = writingNumber (sentAnswer kind (given epoch word gid mst ack sq reserved) bytes)
 
-abbrev pub sentBytesC : ℕ → ℕ → ℕ → ℕ → ℕ → ℕ → ℕ → ℕ → List ℕ → List ℕ
+abbrev pub sentBytesC : (kind epoch word gid mst ack sq reserved : ℕ) (bytes : List ℕ) → List ℕ
 sentBytesC kind epoch word gid mst ack sq reserved bytes = sentBytes kind (given epoch word gid mst ack sq reserved) bytes

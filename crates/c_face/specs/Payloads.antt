@@ -6,14 +6,14 @@ use Rattle.payload.specs.Answers.{numberOf}
 use Rattle.payload.specs.Joining.{joined, wholeAnswer}
 use Rattle.payload.specs.Spreading.{spreadAll}
 
-abbrev pub spreadAnswerC : ℕ → ℕ → List ℕ → List ℕ → ℕ
+abbrev pub spreadAnswerC : (x p : ℕ) (frame members : List ℕ) → ℕ
 spreadAnswerC x p frame members = numberOf (wholeAnswer x p (length frame) (length members))
 
-abbrev pub spreadMembersC : ℕ → ℕ → List ℕ → List ℕ → List ℕ
+abbrev pub spreadMembersC : (x p : ℕ) (frame members : List ℕ) → List ℕ
 spreadMembersC x p frame members = spreadAll x p frame members
 
-abbrev pub joinAnswerC : ℕ → ℕ → List ℕ → List ℕ → ℕ
+abbrev pub joinAnswerC : (x p : ℕ) (members frame : List ℕ) → ℕ
 joinAnswerC x p members frame = numberOf (wholeAnswer x p (length members) (length frame))
 
-abbrev pub joinFrameC : ℕ → ℕ → List ℕ → List ℕ → List ℕ
+abbrev pub joinFrameC : (x p : ℕ) (members frame : List ℕ) → List ℕ
 joinFrameC x p members frame = joined x p members frame

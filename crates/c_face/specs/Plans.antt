@@ -13,20 +13,20 @@ use Rattle.paths.specs.Planning.{planOf}
 abbrev pub planBytesOf : Proposal → List ℕ
 planBytesOf p = p .count ∷ p .paths
 
-unfoldable pub lentAnswer : ℕ → ℕ → List ℕ → ℕ
+unfoldable pub lentAnswer : (number size : ℕ) (out : List ℕ) → ℕ
 lentAnswer number size out = if number == 0 then (if length out == size then 0 else 9) else number
 
-unfoldable pub lentBytes : ℕ → ℕ → List ℕ → List ℕ → List ℕ
+unfoldable pub lentBytes : (number size : ℕ) (new out : List ℕ) → List ℕ
 lentBytes number size new out = if number == 0 then (if length out == size then new else out) else out
 
-abbrev pub planAnswerC : List ℕ → ℕ → ℕ → List ℕ → ℕ
+abbrev pub planAnswerC : (delays : List ℕ) (k W : ℕ) (out : List ℕ) → ℕ
 planAnswerC delays k W out = lentAnswer (numberOf (answerOf delays k W)) 65 out
 
-abbrev pub planBytesC : List ℕ → ℕ → ℕ → List ℕ → List ℕ
+abbrev pub planBytesC : (delays : List ℕ) (k W : ℕ) (out : List ℕ) → List ℕ
 planBytesC delays k W out = lentBytes (numberOf (answerOf delays k W)) 65 (planBytesOf (planOf delays k W)) out
 
-abbrev pub checkAnswerC : List ℕ → ℕ → ℕ → List ℕ → ℕ
+abbrev pub checkAnswerC : (delays : List ℕ) (k W : ℕ) (out : List ℕ) → ℕ
 checkAnswerC delays k W out = lentAnswer (numberOf (answerOf delays k W)) 1 out
 
-abbrev pub checkByteC : List ℕ → ℕ → ℕ → List ℕ → List ℕ → List ℕ
+abbrev pub checkByteC : (delays : List ℕ) (k W : ℕ) (set out : List ℕ) → List ℕ
 checkByteC delays k W set out = lentBytes (numberOf (answerOf delays k W)) 1 (oneIf (checkedOf delays k W set .accepted) ∷ []) out

@@ -15,8 +15,8 @@ H4 = 0
 abbrev pub kindC : ℕ → ℕ
 kindC kind = if kind <? 256 then kind else 255
 
-abbrev pub startAsAnswerC : ℕ → ℕ → ℕ → ℕ → ℕ → List ℕ → List ℕ → ℕ → ℕ
+abbrev pub startAsAnswerC : (kind ports P W store : ℕ) (hold restore : List ℕ) (rows : ℕ) → ℕ
 startAsAnswerC kind ports P W store hold restore rows = startAsAnswer (kindC kind) ports P W store hold restore rows
 
-abbrev pub startAsRowsC : ℕ → ℕ → ℕ → ℕ → ℕ → List ℕ → List ℕ → List (List ℕ) → List (List ℕ)
+abbrev pub startAsRowsC : (kind ports P W store : ℕ) (hold restore : List ℕ) (s : List (List ℕ)) → List (List ℕ)
 startAsRowsC kind ports P W store hold restore s = startAsRows (kindC kind) ports P W store hold restore s

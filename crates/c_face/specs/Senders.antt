@@ -30,37 +30,37 @@ abbrev pub isEpoch : ℕ → ℕ → Bool
 isEpoch kind e = e <? epochs kind
 
 -- Starting, of a kind: 4, 9, 8.
-unfoldable pub startAnswerC : ℕ → ℕ → ℕ → List ℕ → ℕ
+unfoldable pub startAnswerC : (kind count first : ℕ) (state : List ℕ) → ℕ
 startAnswerC kind count first state = if noStart kind count then 4 else if isState state then (if isEpoch kind first then 0 else 8) else 9
 
 -- 4 returns 'an empty group', where there is room for one. It is of H4, and its first epoch has the number 0, whatever was asked for, so that what is out of range beside it needs no second rule.
-unfoldable pub startStateC : ℕ → ℕ → ℕ → List ℕ → List ℕ
+unfoldable pub startStateC : (kind count first : ℕ) (state : List ℕ) → List ℕ
 startStateC kind count first state =
     if isState state then (if noStart kind count then bytesOf (beginOf 0 0 0 .sender) else if isEpoch kind first then bytesOf (beginOf kind count first .sender) else state) else state
 
 -- The calls on a started sender: 9, 8 where the numbers given do not fit, then the call's own.
-unfoldable pub callAnswerC : Bool → SenderCall → List ℕ → ℕ
+unfoldable pub callAnswerC : (fits : Bool) (call : SenderCall) (state : List ℕ) → ℕ
 callAnswerC fits call state = if isState state then (if fits then answerNumber (senderOutcomeOf (senderOf state) call .answer) else 8) else 9
 
 -- a refusal encodes nothing anew
 abbrev pub keptBytes : SenderOutcome → List ℕ → List ℕ
 keptBytes outcome state = if answerNumber (outcome .answer) == 0 then bytesOf (outcome .sender) else state
 
-unfoldable pub callStateC : Bool → SenderCall → List ℕ → List ℕ
+unfoldable pub callStateC : (fits : Bool) (call : SenderCall) (state : List ℕ) → List ℕ
 callStateC fits call state = if isState state then (if fits then keptBytes (senderOutcomeOf (senderOf state) call) state else state) else state
 
-abbrev pub areBytes : ℕ → ℕ → ℕ → Bool
+abbrev pub areBytes : (a b c : ℕ) → Bool
 areBytes a b c = a <? 256 && b <? 256 && c <? 256
 
 -- What a slot sends.
-unfoldable pub packetAnswerC : List ℕ → ℕ → List ℕ → ℕ
+unfoldable pub packetAnswerC : (state : List ℕ) (slot : ℕ) (h4 : List ℕ) → ℕ
 packetAnswerC state slot h4 = if isState state then answerNumber (packetAnswer (senderOf state) slot h4) else 9
 
-unfoldable pub packetBytesC : List ℕ → ℕ → List ℕ → List ℕ
+unfoldable pub packetBytesC : (state : List ℕ) (slot : ℕ) (h4 : List ℕ) → List ℕ
 packetBytesC state slot h4 = if isState state then packetBytes (senderOf state) slot h4 else h4
 
-unfoldable pub payloadAnswerC : List ℕ → ℕ → ℕ → List ℕ → List ℕ → ℕ
+unfoldable pub payloadAnswerC : (state : List ℕ) (slot P : ℕ) (frame member : List ℕ) → ℕ
 payloadAnswerC state slot P frame member = if isState state then answerNumber (payloadAnswer (senderOf state) slot P (length frame) (length member)) else 9
 
-unfoldable pub payloadBytesC : List ℕ → ℕ → ℕ → List ℕ → List ℕ → List ℕ
+unfoldable pub payloadBytesC : (state : List ℕ) (slot P : ℕ) (frame member : List ℕ) → List ℕ
 payloadBytesC state slot P frame member = if isState state then payloadBytes (senderOf state) slot P frame member else member

@@ -26,7 +26,7 @@ slotIn v i = i <? sizeOf (v .sender .table .count)
 abbrev pub ownIn : View → ℕ → Bool
 ownIn v i = getD (v .owned) i false
 
-abbrev pub withOwn : View → ℕ → Bool → View
+abbrev pub withOwn : (v : View) (slot : ℕ) (b : Bool) → View
 withOwn v i b = record { sender = v .sender; owned = tabulate 64 (λ j. if j == i then b else ownIn v j) }
 
 -- what a call leaves and answers
@@ -37,10 +37,10 @@ pub record Seen : Type 0 where
 abbrev pub seen : View → Answer → Seen
 seen v a = record { view = v; answer = a }
 
-abbrev pub claimSeen : View → ℕ → Bool → Seen
+abbrev pub claimSeen : (v : View) (slot : ℕ) (taken : Bool) → Seen
 claimSeen v i taken = if slotIn v i then (if ownIn v i || taken then seen v A.Owned else seen (withOwn v i true) A.Done) else seen v A.NoSlot
 
-abbrev pub ownSeen : View → ℕ → Seen → Seen
+abbrev pub ownSeen : (v : View) (slot : ℕ) (r : Seen) → Seen
 ownSeen v i r = if slotIn v i then (if ownIn v i then r else seen v A.Owned) else seen v A.NoSlot
 
 abbrev pub releaseSeen : View → ℕ → Seen
@@ -49,7 +49,7 @@ releaseSeen v i = ownSeen v i (if isMember (slotAt (v .sender .table .slots) i .
 abbrev pub sentSeen : View → S → Seen
 sentSeen v k = let r = senderOutcomeOf (v .sender) k in seen (record { sender = r .sender; owned = v .owned }) (fromSender (r .answer))
 
-abbrev pub outcomeSeen : View → Call → Bool → Seen
+abbrev pub outcomeSeen : (v : View) (call : Call) (taken : Bool) → Seen
 outcomeSeen v (Claim i) taken = claimSeen v i taken
 outcomeSeen v (Release i) taken = releaseSeen v i
 outcomeSeen v (AddSlot i) taken = ownSeen v i (sentSeen v (S.OnTable (T.AddSlot i)))
@@ -59,13 +59,13 @@ outcomeSeen v Lapse taken = sentSeen v (S.OnTable T.Lapse)
 outcomeSeen v (StartEpoch gid mst ack) taken = sentSeen v (S.StartEpoch gid mst ack)
 
 -- of a slot that is the group's own
-abbrev pub ownAnswer : View → ℕ → Answer → Answer
+abbrev pub ownAnswer : (v : View) (slot : ℕ) (a : Answer) → Answer
 ownAnswer v i a = if slotIn v i then (if ownIn v i then a else A.Owned) else A.NoSlot
 
-abbrev pub ownBytes : View → ℕ → List ℕ → List ℕ → List ℕ
+abbrev pub ownBytes : (v : View) (slot : ℕ) (new old : List ℕ) → List ℕ
 ownBytes v i new old = if slotIn v i then (if ownIn v i then new else old) else old
 
-abbrev pub replySeen : View → Asked → Bool → Reply
+abbrev pub replySeen : (v : View) (asked : Asked) (taken : Bool) → Reply
 replySeen v (Do k) taken = Answered (outcomeSeen v k taken .answer)
 replySeen v (Packet i h4) taken = Wrote (ownAnswer v i (fromSender (E.packetAnswer (v .sender) i h4))) (ownBytes v i (E.packetBytes (v .sender) i h4) h4)
 replySeen v (Payload i p frame member) taken =
@@ -75,7 +75,7 @@ replySeen v Outgoing taken = Showed (record { board = v .sender .outgoing; answe
 replySeen v Ranks taken = Ranked (record { ranks = E.ranksOf (v .sender); answer = A.Done })
 replySeen v Owned taken = Owns (record { owned = tabulate 64 (λ i. oneIf (ownIn v i)); answer = A.Done })
 
-abbrev pub viewAfter : View → Asked → Bool → View
+abbrev pub viewAfter : (v : View) (asked : Asked) (taken : Bool) → View
 viewAfter v (Do k) taken = outcomeSeen v k taken .view
 viewAfter v (Packet i h4) taken = v
 viewAfter v (Payload i p frame member) taken = v
@@ -85,12 +85,12 @@ viewAfter v Ranks taken = v
 viewAfter v Owned taken = v
 
 -- its calls one after the other, each with its bit
-abbrev pub repliesSeen : View → List Asked → List Bool → List Reply
+abbrev pub repliesSeen : (v : View) (ks : List Asked) (bs : List Bool) → List Reply
 repliesSeen v [] bs = []
 repliesSeen v (k ∷ ks) [] = []
 repliesSeen v (k ∷ ks) (b ∷ bs) = replySeen v k b ∷ repliesSeen (viewAfter v k b) ks bs
 
-abbrev pub viewSeen : View → List Asked → List Bool → View
+abbrev pub viewSeen : (v : View) (ks : List Asked) (bs : List Bool) → View
 viewSeen v [] bs = v
 viewSeen v (k ∷ ks) [] = v
 viewSeen v (k ∷ ks) (b ∷ bs) = viewSeen (viewAfter v k b) ks bs

@@ -15,7 +15,7 @@ pub data Call : Type 0 where
   Lapse : Call
   StartEpoch : ℕ → ℕ → ℕ → Call
 
-abbrev pub outcomeOf : Card → ℕ → Call → CardOutcome
+abbrev pub outcomeOf : (c : Card) (group : ℕ) (call : Call) → CardOutcome
 outcomeOf c g (Claim i) = claimOf c g i
 outcomeOf c g (Release i) = releaseOf c g i
 outcomeOf c g (AddSlot i) = commandOf c g i (E.OnTable (T.AddSlot i))

@@ -13,7 +13,7 @@ markOf g = if g == 0 then 1 else 2
 abbrev pub ownerIn : List ℕ → ℕ → ℕ
 ownerIn row i = getD row i 0
 
-abbrev pub isMarked : List ℕ → ℕ → ℕ → Bool
+abbrev pub isMarked : (row : List ℕ) (group slot : ℕ) → Bool
 isMarked row g i = ownerIn row i == markOf g
 
 -- owned by anyone
@@ -21,7 +21,7 @@ abbrev pub hasOwner : List ℕ → ℕ → Bool
 hasOwner row i = ownerIn row i == 1 || ownerIn row i == 2
 
 -- the row with another owner of slot i
-unfoldable pub withOwner : List ℕ → ℕ → ℕ → List ℕ
+unfoldable pub withOwner : (row : List ℕ) (slot mark : ℕ) → List ℕ
 withOwner row i m = tabulate 64 (λ j. if j == i then m else ownerIn row j)
 
 -- a byte a slot: 1 where the group owns it

@@ -17,7 +17,7 @@ use Rattle.circuits.specs.Owners.{isMarked, withOwner}
 unfoldable pub senderOf : Card → ℕ → Sender
 senderOf c g = if g == 0 then c .first else c .second
 
-unfoldable pub withSender : Card → ℕ → Sender → Card
+unfoldable pub withSender : (c : Card) (group : ℕ) (s : Sender) → Card
 withSender c g s =
     if g == 0 then (record { owners = c .owners; first = s; second = c .second }) else (record { owners = c .owners; first = c .first; second = s })
 
@@ -29,23 +29,23 @@ unfoldable pub shownSender : Card → ℕ → Sender
 shownSender c g = if g <? 2 then senderOf c g else emptySender
 
 -- 1: 'a group other than the two', or a slot not below that group's own count
-unfoldable pub isSlot : Card → ℕ → ℕ → Bool
+unfoldable pub isSlot : (c : Card) (group slot : ℕ) → Bool
 isSlot c g i = g <? 2 && i <? sizeOf (senderOf c g .table .count)
 
-unfoldable pub owns : Card → ℕ → ℕ → Bool
+unfoldable pub owns : (c : Card) (group slot : ℕ) → Bool
 owns c g i = isMarked (c .owners) g i
 
 -- not IDLE in the group's table
-unfoldable pub isUsed : Card → ℕ → ℕ → Bool
+unfoldable pub isUsed : (c : Card) (group slot : ℕ) → Bool
 isUsed c g i = isMember (slotAt (senderOf c g .table .slots) i .state)
 
 abbrev pub refused : Card → Answer → CardOutcome
 refused c a = record { card = c; answer = a }
 
 -- slot i has another owner, and all else stays
-unfoldable pub marked : Card → ℕ → ℕ → CardOutcome
+unfoldable pub marked : (c : Card) (slot mark : ℕ) → CardOutcome
 marked c i m = record { card = record { owners = withOwner (c .owners) i m; first = c .first; second = c .second }; answer = Done }
 
 -- a call of the group's sender, and all else stays
-unfoldable pub groupOutcome : Card → ℕ → SenderOutcome → CardOutcome
+unfoldable pub groupOutcome : (c : Card) (group : ℕ) (r : SenderOutcome) → CardOutcome
 groupOutcome c g r = record { card = withSender c g (r .sender); answer = fromSender (r .answer) }

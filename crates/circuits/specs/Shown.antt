@@ -18,7 +18,7 @@ abbrev pub after : ℕ → List Made → Card
 after count ms = run (startOf 0 count 0 0 .card) ms
 
 -- the number that a call after them is answered
-abbrev pub told : ℕ → List Made → ℕ → Call → ℕ
+abbrev pub told : (count : ℕ) (ms : List Made) (group : ℕ) (k : Call) → ℕ
 told count ms g k = answerNumber (outcomeOf (after count ms) g k .answer)
 
 -- the word and number of each slot of a group, then its wait

@@ -42,7 +42,7 @@ pub data Reply : Type 0 where
   Ranked : RanksOutcome → Reply
   Owns : OwnedOutcome → Reply
 
-abbrev pub replyTo : Card → ℕ → Asked → Reply
+abbrev pub replyTo : (c : Card) (group : ℕ) (asked : Asked) → Reply
 replyTo c g (Do k) = Answered (outcomeOf c g k .answer)
 replyTo c g (Packet i h4) = Wrote (packetAnswer c g i h4) (packetBytes c g i h4)
 replyTo c g (Payload i p frame member) = Wrote (payloadAnswer c g i p (length frame) (length member)) (payloadBytes c g i p frame member)
@@ -51,7 +51,7 @@ replyTo c g Outgoing = Showed (outgoingShown c g)
 replyTo c g Ranks = Ranked (ranksShown c g)
 replyTo c g Owned = Owns (ownedShown c g)
 
-abbrev pub cardAfter : Card → ℕ → Asked → Card
+abbrev pub cardAfter : (c : Card) (group : ℕ) (asked : Asked) → Card
 cardAfter c g (Do k) = outcomeOf c g k .card
 cardAfter c g (Packet i h4) = c
 cardAfter c g (Payload i p frame member) = c
@@ -61,7 +61,7 @@ cardAfter c g Ranks = c
 cardAfter c g Owned = c
 
 -- the one bit through which the other's holdings show: on a claim, that the other owns the slot asked for
-abbrev pub bitOf : Card → ℕ → Asked → Bool
+abbrev pub bitOf : (c : Card) (group : ℕ) (asked : Asked) → Bool
 bitOf c g (Do (Claim i)) = owns c (1 - g) i
 bitOf c g (Do (Release i)) = false
 bitOf c g (Do (AddSlot i)) = false
@@ -90,12 +90,12 @@ abbrev pub askedBy : ℕ → List Made → List Asked
 askedBy g [] = []
 askedBy g (m ∷ ms) = if m .group == g then m .asked ∷ askedBy g ms else askedBy g ms
 
-abbrev pub repliesTo : ℕ → Card → List Made → List Reply
+abbrev pub repliesTo : (group : ℕ) (c : Card) (ms : List Made) → List Reply
 repliesTo g c [] = []
 repliesTo g c (m ∷ ms) =
     let rest = repliesTo g (cardAfter c (m .group) (m .asked)) ms in if m .group == g then replyTo c g (m .asked) ∷ rest else rest
 
-abbrev pub bitsOf : ℕ → Card → List Made → List Bool
+abbrev pub bitsOf : (group : ℕ) (c : Card) (ms : List Made) → List Bool
 bitsOf g c [] = []
 bitsOf g c (m ∷ ms) =
     let rest = bitsOf g (cardAfter c (m .group) (m .asked)) ms in if m .group == g then bitOf c g (m .asked) ∷ rest else rest

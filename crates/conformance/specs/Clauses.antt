@@ -74,7 +74,7 @@ abbrev ruled : Ruling → List ℕ
 ruled r = flag (r .good) ∷ r .word ∷ r .number ∷ r .gid ∷ []
 
 -- a port in step: the tag to come, the breaks in a row, and whether the latest packet was odd
-abbrev standing : ℕ → ℕ → ℕ → Run
+abbrev standing : (next breaks odd : ℕ) → Run
 standing next breaks odd = record { count = 32; next = next; breaks = breaks; odd = odd; bits = 0 }
 
 abbrev ran : Run → List ℕ

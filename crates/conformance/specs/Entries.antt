@@ -32,11 +32,12 @@ pub record Call : Type 1 where
   pub empty : State
 
 -- a call with no state: its refusals, its answer, what is lent to it and what is left of that
-abbrev pub stateless : List Refusal → ℕ → List (List ℕ) → List (List ℕ) → Call
+abbrev pub stateless : (rs : List Refusal) (answer : ℕ) (lent left : List (List ℕ)) → Call
 stateless rs answer lent left = record { refusals = rs; answer = answer; lent = lent; left = left; State = Unit {0}; given = tt; returned = tt; empty = tt }
 
 -- a call with a state: the same, then the state given, the state returned and the empty one
-abbrev pub stateful : {S : Type 0} → List Refusal → ℕ → List (List ℕ) → List (List ℕ) → S → S → S → Call
+abbrev pub stateful :
+    {S : Type 0} (rs : List Refusal) (answer : ℕ) (lent left : List (List ℕ)) (given returned empty : S) → Call
 stateful {S} rs answer lent left given returned empty =
     record { refusals = rs; answer = answer; lent = lent; left = left; State = S; given = given; returned = returned; empty = empty }
 
@@ -76,7 +77,7 @@ only c a b l m s t p q = (p .answers ∙ sym (q .answers), p .leaves ∙ sym (q 
 
 -- How a row is proved: down the ladder of its refusals, each condition taken as true and as false.
 
-abbrev choice : Bool → Type 0 → Type 0 → Type 0
+abbrev choice : (test : Bool) (A B : Type 0) → Type 0
 choice true A B = A
 choice false A B = B
 

@@ -155,7 +155,7 @@ abbrev four : List ℕ
 four = 0 ∷ 100 ∷ 16 ∷ 20 ∷ []
 
 -- how many paths are proposed, and which
-abbrev plan : List ℕ → ℕ → ℕ → List ℕ
+abbrev plan : (delays : List ℕ) (k W : ℕ) → List ℕ
 plan delays k W = let set = setOf delays k W in length set ∷ set
 
 -- 1 where the check accepts two of the four with W 20

@@ -66,7 +66,7 @@ abbrev flag : Bool → ℕ
 flag b = if b then 1 else 0
 
 -- good or not, word, number, GID
-abbrev rules : ℕ → ℕ → List ℕ → List ℕ
+abbrev rules : (kind epoch : ℕ) (nibbles : List ℕ) → List ℕ
 rules kind epoch nibbles = let r = ownRuling kind epoch nibbles in flag (r .good) ∷ r .word ∷ r .number ∷ r .gid ∷ []
 
 -- a port of a fixed group that noted the packet and is OK under its number

@@ -39,7 +39,7 @@ abbrev payloadWith : ℕ → List ℕ
 payloadWith t = t % 256 ∷ []
 
 -- the frame of a port with an H4 byte, flagged as failed or not
-abbrev handedAs : Bool → ℕ → ℕ → List ℕ → Host → Host
+abbrev handedAs : (failed : Bool) (port h4 : ℕ) (payload : List ℕ) (h : Host) → Host
 handedAs failed port h4 payload h =
     record {
       answer = frameAnswer (h .rows) port failed h4 (length payload) (length (h .store));
@@ -48,14 +48,14 @@ handedAs failed port h4 payload h =
     }
 
 -- the frame with tag t
-abbrev pub handed : ℕ → ℕ → Host → Host
+abbrev pub handed : (port t : ℕ) (h : Host) → Host
 handed port t h = handedAs false port (h4With t) (payloadWith t) h
 
-abbrev pub flagged : ℕ → ℕ → Host → Host
+abbrev pub flagged : (port t : ℕ) (h : Host) → Host
 flagged port t h = handedAs true port (h4With t) (payloadWith t) h
 
 -- n frames of a port, the first with tag t
-abbrev pub fed : ℕ → ℕ → ℕ → Host → Host
+abbrev pub fed : (port n t : ℕ) (h : Host) → Host
 fed port zero t h = h
 fed port (suc n) t h = fed port n ((t + 1) % 4096) (handed port t h)
 
@@ -73,7 +73,7 @@ byNumber zero next = next zero
 byNumber (suc b) next = next (suc b)
 
 -- n frames of a port with such bytes, the first with tag t
-abbrev pub fedWith : (ℕ → ℕ) → ℕ → ℕ → ℕ → Host → Host
+abbrev pub fedWith : (h4 : ℕ → ℕ) (port n t : ℕ) (h : Host) → Host
 fedWith h4 port zero t h = h
 fedWith h4 port (suc n) t h = byNumber (h4 t) (λ b. fedWith h4 port n ((t + 1) % 4096) (handedAs false port b (payloadWith t) h))
 

@@ -51,14 +51,14 @@ module _ (out : List ℕ) where
   quietOpening d O.Unfinished = []
   quietOpening d O.End = []
 
-  abbrev quietRead : Desk → List ℕ → Record → List ℕ
+  abbrev quietRead : (d : Desk) (line : List ℕ) (read : Record) → List ℕ
   quietRead d line (Frame port h4 flag place next) = reports out (d .replay .window) (framed out d line port h4 flag place)
   quietRead d line (Malformed next) = []
   quietRead d line Long = []
   quietRead d line Unfinished = []
   quietRead d line End = []
 
-  abbrev quietBy : Phase → Desk → List ℕ → List ℕ
+  abbrev quietBy : (phase : Phase) (d : Desk) (line : List ℕ) → List ℕ
   quietBy Settings d line = quietOpening d (lineOpening 0 line)
   quietBy Reading d line = quietRead d line (lineIn out d line)
   quietBy Fetching d line = []
@@ -72,7 +72,7 @@ module _ (out : List ℕ) where
   quietFrom d [] = []
   quietFrom d (l ∷ ls) = quietTo d l ++ quietFrom (deskAfter out d l) ls
 
-  unfoldable pub quietOutput : List (List ℕ) → List ℕ → List ℕ → List ℕ
+  unfoldable pub quietOutput : (rows : List (List ℕ)) (store recording : List ℕ) → List ℕ
   quietOutput rows store recording = quietFrom (record { replay = beginning; rows = rows; store = store }) (linesOf recording)
 
 module _ (out : List ℕ) where

@@ -18,11 +18,11 @@ abbrev at40 : Host
 at40 = fed 0 40 0 (opened 1 16)
 
 -- the sixteen nibbles of a packet with this word and number, for the frame with tag t
-abbrev nibblesFor : ℕ → ℕ → ℕ → List ℕ
+abbrev nibblesFor : (word number t : ℕ) → List ℕ
 nibblesFor word number t = nibblesOf (record { epoch = epochOf 0 t; word = record { 0 = word }; gid = 0; mst = 255; «rs_ack» = 0; sq = number; reserved = 0 })
 
 -- the H4 byte of that frame
-abbrev memberWith : ℕ → ℕ → ℕ → ℕ
+abbrev memberWith : (word number t : ℕ) → ℕ
 memberWith word number t = getD (h4Of (nibblesFor word number t)) (placeOf 0 t) 0
 
 -- IDLE in epoch 3; in epoch 4 EOS under 0, carried with the tags from t on; then the report of epoch 4

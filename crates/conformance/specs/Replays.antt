@@ -23,14 +23,14 @@ abbrev lentFor : ℕ → Desk
 lentFor store = record { replay = beginning; rows = replicate 6 (replicate 16 0); store = replicate store 0 }
 
 -- a host that cuts the recording behind each line and forgets that reports may be due
-abbrev forgetfulRecord : Desk → List ℕ → Record → Desk
+abbrev forgetfulRecord : (d : Desk) (l : List ℕ) (read : Record) → Desk
 forgetfulRecord d l (R.Frame port h4 flag place next) = framed out d l port h4 flag place
 forgetfulRecord d l (R.Malformed next) = standing out d P.Reading
 forgetfulRecord d l R.Long = d
 forgetfulRecord d l R.Unfinished = d
 forgetfulRecord d l R.End = d
 
-abbrev forgetful : Phase → Desk → List ℕ → Desk
+abbrev forgetful : (phase : Phase) (d : Desk) (l : List ℕ) → Desk
 forgetful P.Settings d l = deskAfter out d l
 forgetful P.Reading d l = forgetfulRecord d l (lineIn out d l)
 forgetful P.Fetching d l = d
@@ -38,14 +38,14 @@ forgetful P.Skipping d l = d
 forgetful P.Ended d l = d
 
 -- a malformed line handed to port 0 as a flagged frame
-abbrev flaggedRecord : Desk → List ℕ → Record → Desk
+abbrev flaggedRecord : (d : Desk) (l : List ℕ) (read : Record) → Desk
 flaggedRecord d l (R.Frame port h4 flag place next) = deskAfter out d l
 flaggedRecord d l (R.Malformed next) = reported out (d .replay .window) (framed out d l 0 0 1 0)
 flaggedRecord d l R.Long = d
 flaggedRecord d l R.Unfinished = d
 flaggedRecord d l R.End = d
 
-abbrev flaggedLine : Phase → Desk → List ℕ → Desk
+abbrev flaggedLine : (phase : Phase) (d : Desk) (l : List ℕ) → Desk
 flaggedLine P.Settings d l = deskAfter out d l
 flaggedLine P.Reading d l = flaggedRecord d l (lineIn out d l)
 flaggedLine P.Fetching d l = d
@@ -58,26 +58,26 @@ pub data Taking : Type 0 where
   Forgetful : Taking
   Flagging : Taking
 
-abbrev said : Taking → Desk → List ℕ → List ℕ
+abbrev said : (taking : Taking) (d : Desk) (l : List ℕ) → List ℕ
 said Right d l = saidTo out d l
 said Forgetful d l = []
 said Flagging d l = saidTo out d l
 
-abbrev next : Taking → Desk → List ℕ → Desk
+abbrev next : (taking : Taking) (d : Desk) (l : List ℕ) → Desk
 next Right d l = deskAfter out d l
 next Forgetful d l = forgetful (d .replay .phase) d l
 next Flagging d l = flaggedLine (d .replay .phase) d l
 
-abbrev output : Taking → Desk → List (List ℕ) → List ℕ
+abbrev output : (t : Taking) (d : Desk) (ls : List (List ℕ)) → List ℕ
 output t d [] = []
 output t d (l ∷ ls) = said t d l ++ output t (next t d l) ls
 
-abbrev left : Taking → Desk → List (List ℕ) → Desk
+abbrev left : (t : Taking) (d : Desk) (ls : List (List ℕ)) → Desk
 left t d [] = d
 left t d (l ∷ ls) = left t (next t d l) ls
 
 -- Lines in two parts, the state carried over. Everything that a run is made of is opened here, for the checker to compute.
-unfoldable pub replayed : Taking → ℕ → List (List ℕ) → List (List ℕ) → List ℕ
+unfoldable pub replayed : (t : Taking) (store : ℕ) (first second : List (List ℕ)) → List ℕ
 unfolding allOpen
 replayed t store first second = output t (lentFor store) first ++ output t (left t (lentFor store) first) second
 

@@ -10,7 +10,7 @@ use Rattle.reply.specs.declared.waiting.Standing.{Standing}
 use Rattle.reply.specs.Waiting.{noStanding, standing, standingsOf}
 
 -- a port that sends a word under a number, with what the last report left of it, and its times
-abbrev pub seenPort : ℕ → ℕ → Bool → Standing → ℕ → ℕ → Port
+abbrev pub seenPort : (word number : ℕ) (readable : Bool) (last : Standing) (hold restore : ℕ) → Port
 seenPort word number readable last hold restore =
     record {
       word = word;
@@ -42,20 +42,20 @@ abbrev pub idle : Sent
 idle = here 5 255
 
 -- one report on ports with these times
-abbrev pub portsWith : List ℕ → List ℕ → List Standing → List Sent → List Port
+abbrev pub portsWith : (hold restore : List ℕ) (last : List Standing) (sent : List Sent) → List Port
 portsWith hold restore last sent =
     tabulate (length sent)
     (λ i.
     let s = getD sent i idle in
     seenPort (s .word) (s .number) (s .readable) (getD last i noStanding) (getD hold i 0) (getD restore i 0))
 
-abbrev pub leftOf : List ℕ → List ℕ → List Standing → List Sent → List Standing
+abbrev pub leftOf : (hold restore : List ℕ) (last : List Standing) (sent : List Sent) → List Standing
 leftOf hold restore last sent =
     let all = standingsOf (portsWith hold restore last sent) (length sent) in
     tabulate (length sent) (λ i. getD all i noStanding)
 
 -- one after the other, from ports that are all IDLE
-abbrev runFrom : List ℕ → List ℕ → List Standing → List (List Sent) → List (List Standing)
+abbrev runFrom : (hold restore : List ℕ) (last : List Standing) (rest : List (List Sent)) → List (List Standing)
 runFrom hold restore last [] = []
 runFrom hold restore last (sent ∷ rest) = let now = leftOf hold restore last sent in now ∷ runFrom hold restore now rest
 
@@ -64,7 +64,7 @@ abbrev statesIn : ℕ → List (List Standing) → List ℕ
 statesIn i [] = []
 statesIn i (now ∷ rest) = getD now i noStanding .state ∷ statesIn i rest
 
-abbrev pub statesAt : ℕ → List ℕ → List ℕ → List (List Sent) → List ℕ
+abbrev pub statesAt : (port : ℕ) (hold restore : List ℕ) (sent : List (List Sent)) → List ℕ
 statesAt i hold restore sent = statesIn i (runFrom hold restore [] sent)
 
 -- state, number and counter of each port after one report
@@ -73,7 +73,7 @@ each [] = []
 each (s ∷ rest) = s .state ∷ s .number ∷ s .elapsed ∷ each rest
 
 -- a port alone, lost after its first report and for ever: at how many of n further reports it is OK, and its state at the last
-abbrev lostFor : ℕ → ℕ → ℕ → List Standing → List ℕ
+abbrev lostFor : (hold n count : ℕ) (last : List Standing) → List ℕ
 lostFor hold zero count last = count ∷ getD last 0 noStanding .state ∷ []
 lostFor hold (suc n) count last =
     let now = leftOf (hold ∷ []) [] last (away 2 0 ∷ []) in

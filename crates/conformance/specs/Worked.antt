@@ -70,7 +70,7 @@ abbrev sending : ℕ → Sender
 sending epochs = senderRun (beginOf 0 3 200 .sender) (onTable two ++ replicate epochs (StartEpoch 1 0xA5 1))
 
 -- A port with a whole good packet and all its frames: word, number and GID. One with no whole packet.
-abbrev saw : ℕ → ℕ → ℕ → Seen
+abbrev saw : (word number gid : ℕ) → Seen
 saw word number gid = record { whole = true; good = true; word = word; number = number; gid = gid; here = true }
 
 abbrev unseen : Seen
@@ -90,7 +90,7 @@ abbrev ranked : List Seen → List ℕ
 ranked ports = let o = orderOf ports (length ports) in o .x ∷ take (o .x) (o .ports)
 
 -- a port of the reply: word, number, and the state and number of the last report
-abbrev port : ℕ → ℕ → ℕ → ℕ → Port
+abbrev port : (word number state was : ℕ) → Port
 port word number state was = seenPort word number true (standing state was 0) 0 0
 
 abbrev gone : ℕ → ℕ → Port

@@ -49,13 +49,13 @@ numberLine word (Value n) = if sameBytes word SIZE then Size n else if sameBytes
 numberLine word Unreadable = Malformed
 
 -- 'an epoch above 255 or an RS-Ack other than 0 or 1 is malformed'
-unfoldable pub reportOf : Number → Number → Number → Line
+unfoldable pub reportOf : (epoch mst ack : Number) → Line
 reportOf (Value epoch) (Value mst) (Value ack) = if epoch <? 256 && mst <? 256 && ack <? 2 then Report epoch mst ack else Malformed
 reportOf (Value epoch) (Value mst) Unreadable = Malformed
 reportOf (Value epoch) Unreadable ack = Malformed
 reportOf Unreadable mst ack = Malformed
 
-unfoldable pub reportLine : List ℕ → Number → Number → Number → Line
+unfoldable pub reportLine : (word : List ℕ) (epoch mst ack : Number) → Line
 reportLine word epoch mst ack = if sameBytes word REPORT then reportOf epoch mst ack else Malformed
 
 -- by the number of fields

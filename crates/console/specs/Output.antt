@@ -26,7 +26,7 @@ answerText n = ended ANSWER TAB ++ ended (decimalText n) LINE-END
 abbrev pub rowAt : List Row → ℕ → Row
 rowAt rows i = getD rows i (record { word = record { 0 = 0 }; number = 0 })
 
-unfoldable pub slotText : ℕ → Word → ℕ → List ℕ
+unfoldable pub slotText : (slot : ℕ) (w : Word) (number : ℕ) → List ℕ
 slotText i w n = ended SLOT TAB ++ ended (decimalText i) TAB ++ ended (wordText w) TAB ++ ended (decimalText n) LINE-END
 
 -- 1 if a wait is open

@@ -35,7 +35,7 @@ unfoldable pub leftOf : Host → List ℕ → List ℕ
 leftOf h part = drop (feedOf (h .session) part (h .buffer) .used) part
 
 -- calls on what is left of a part, at most n of them
-abbrev pub fedUpTo : ℕ → Host → List ℕ → Host
+abbrev pub fedUpTo : (n : ℕ) (h : Host) (part : List ℕ) → Host
 fedUpTo zero h part = h
 fedUpTo (suc n) h [] = h
 fedUpTo (suc n) h (b ∷ part) = fedUpTo n (fedOnce h (b ∷ part)) (leftOf h (b ∷ part))

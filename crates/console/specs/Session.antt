@@ -53,12 +53,12 @@ fedText s input = if hasEnd input then saidTo (s .table) (lineIn (keptWith s inp
 abbrev pub refused : Session → Fed
 refused s = record { session = s; answer = 9; used = 0; written = 0 }
 
-unfoldable pub feedOf : Session → List ℕ → List ℕ → Fed
+unfoldable pub feedOf : (s : Session) (input out : List ℕ) → Fed
 feedOf s input out =
     if length out <? ROOM then refused s
     else (record { session = fedSession s input; answer = 0; used = usedOf input; written = length (fedText s input) })
 
-unfoldable pub feedBytes : Session → List ℕ → List ℕ → List ℕ
+unfoldable pub feedBytes : (s : Session) (input out : List ℕ) → List ℕ
 feedBytes s input out = if length out <? ROOM then out else over (fedText s input) out
 
 -- the end of the input: the last line may lack its end

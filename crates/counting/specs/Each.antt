@@ -30,7 +30,7 @@ one-more k n = same-test _ _ to back
 
 module _ {A : Type 0} where
   -- f 0, f 1, .. f (n - 1), then the list as it was
-  abbrev pub each : ℕ → (ℕ → A) → List A → List A
+  abbrev pub each : (n : ℕ) (f : ℕ → A) (d : List A) → List A
   each n f d = drawn (λ k. k <? n) f d
 
   pub length-each : (n : ℕ) (f : ℕ → A) (d : List A) → length (each n f d) ≡ length d

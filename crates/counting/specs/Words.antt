@@ -24,6 +24,6 @@ the zero f = 0
 the (suc n) f = if f n then n else the n f
 
 -- the greatest m of a number below n at which the test f holds, 0 where it holds at none
-abbrev pub greatest : ℕ → (ℕ → Bool) → (ℕ → ℕ) → ℕ
+abbrev pub greatest : (n : ℕ) (f : ℕ → Bool) (m : ℕ → ℕ) → ℕ
 greatest zero f m = 0
 greatest (suc n) f m = if f n && greatest n f m <? m n then m n else greatest n f m

@@ -14,7 +14,7 @@ use Rattle.ground.specs.Division.{length-bring}
 use Rattle.ground.specs.Sums.{plus-assoc, plus-cross, plus-swap}
 
 -- A divisor catches fewer than d changed bits of n: a message of at most n bits that leaves nothing has no 1, or at least d.
-abbrev pub Catches : List Bool → ℕ → ℕ → Type 0
+abbrev pub Catches : (g : List Bool) (n d : ℕ) → Type 0
 Catches g n d = (m : List Bool) → length m ≤ n → remainder g (zeros (length g)) m ≡ zeros (length g) → weight m < d → weight m ≡ 0
 
 -- some bit is 1

@@ -5,7 +5,7 @@ use native.Mathlib.Nat.{mod-lt, mod-mod, mod-add-mod, add-mod-mod, add-mod-right
 use native.Mathlib.Omega.{arith}
 
 -- how many places a lies after b, going on from b
-unfoldable pub after : ℕ → ℕ → ℕ → ℕ
+unfoldable pub after : (m a b : ℕ) → ℕ
 after m a b = (a + (m - b % m)) % m
 
 pub after-lt : (m a b : ℕ) → 0 < m → after m a b < m

@@ -16,7 +16,7 @@ use Rattle.ground.specs.Table.{tabulate, tabulate-ext}
 use Rattle.ground.specs.Truth.{and-true, and-left, and-right, or-left, or-right, or-cases, same-test, fails, le-or-lt, eq-or-ne}
 
 -- a place of the n from a on
-abbrev pub within : ℕ → ℕ → ℕ → Bool
+abbrev pub within : (a n k : ℕ) → Bool
 within a n k = a ≤? k && k <? a + n
 
 pub within-true : (a n k : ℕ) → a ≤ k → k < a + n → within a n k ≡ true
@@ -34,7 +34,7 @@ pub within-none : (a k : ℕ) → within a 0 k ≡ false
 within-none a k = fails (within a 0 k) (λ e. let w = within-said a 0 k e in omega arith)
 
 module _ {A : Type 0} where
-  abbrev pub drawn : (ℕ → Bool) → (ℕ → A) → List A → List A
+  abbrev pub drawn : (t : ℕ → Bool) (f : ℕ → A) (xs : List A) → List A
   drawn t f [] = []
   drawn t f (x ∷ xs) = let r = drawn (λ k. t (suc k)) (λ k. f (suc k)) xs in (if t zero then f zero else x) ∷ r
 
@@ -124,7 +124,7 @@ module _ {A : Type 0} where
       ∙ drawn-by (λ k. t k || u k) v f f d (λ k b. same k) (λ k b w. refl))
 
   -- the n places from a on
-  abbrev pub fillAt : ℕ → ℕ → (ℕ → A) → List A → List A
+  abbrev pub fillAt : (a n : ℕ) (f : ℕ → A) (d : List A) → List A
   fillAt a n f d = drawn (within a n) (λ k. f (k - a)) d
 
   pub length-fillAt : (a n : ℕ) (f : ℕ → A) (d : List A) → length (fillAt a n f d) ≡ length d

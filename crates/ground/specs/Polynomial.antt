@@ -20,13 +20,13 @@ abbrev pub zeros : ℕ → List Bool
 zeros n = replicate n false
 
 -- One step of long division by g: the next bit is brought down behind the remainder so far, and the divisor is taken off where a 1 leaves at the top.
-abbrev pub bring : List Bool → List Bool → Bool → List Bool
+abbrev pub bring : (g r : List Bool) (b : Bool) → List Bool
 bring g [] b = []
 bring g (false ∷ r) b = r ++ (b ∷ [])
 bring g (true ∷ r) b = sum (r ++ (b ∷ [])) g
 
 -- the remainder after all bits of m are brought down behind r
-abbrev pub remainder : List Bool → List Bool → List Bool → List Bool
+abbrev pub remainder : (g r m : List Bool) → List Bool
 remainder g r [] = r
 remainder g r (b ∷ m) = remainder g (bring g r b) m
 

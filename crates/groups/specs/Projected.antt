@@ -71,11 +71,11 @@ pub record Starts (h : CardHistory) (g : ℕ) : Type 0 where
   pub none-between : (i n : ℕ) → at i < n → n < at (suc i) → isStart g (h .made n) ≡ false
 
 -- a command that is not answered 1 or 14
-abbrev pub onOwn : Card → ℕ → ℕ → T → List T
+abbrev pub onOwn : (c : Card) (group slot : ℕ) (t : T) → List T
 onOwn c g i t = if isSlot c g i && owns c g i then t ∷ [] else []
 
 -- what a call of g hands to its sender's table
-abbrev pub tableCall : Card → ℕ → Asked → List T
+abbrev pub tableCall : (c : Card) (group : ℕ) (asked : Asked) → List T
 tableCall c g (Do (Claim i)) = []
 tableCall c g (Do (Release i)) = []
 tableCall c g (Do (AddSlot i)) = onOwn c g i (T.AddSlot i)
@@ -91,19 +91,19 @@ tableCall c g Ranks = []
 tableCall c g Owned = []
 
 -- any call, of g or not
-abbrev pub reaching : ℕ → Card → Made → List T
+abbrev pub reaching : (group : ℕ) (c : Card) (m : Made) → List T
 reaching g c m = if m .group == g then tableCall c g (m .asked) else []
 
 -- a list of calls on a card
-abbrev pub tableCalls : ℕ → Card → List Made → List T
+abbrev pub tableCalls : (group : ℕ) (c : Card) (ms : List Made) → List T
 tableCalls g c [] = []
 tableCalls g c (m ∷ ms) = reaching g c m ++ tableCalls g (cardAfter c (m .group) (m .asked)) ms
 
 -- the calls from the m-th to before the n-th
-abbrev pub madeFrom : CardHistory → ℕ → ℕ → List Made
+abbrev pub madeFrom : (h : CardHistory) (m n : ℕ) → List Made
 madeFrom h m n = tabulate (n - m) (λ j. h .made (m + j))
 
-abbrev pub between : (h : CardHistory) → ℕ → ℕ → ℕ → List T
+abbrev pub between : (h : CardHistory) (group m n : ℕ) → List T
 between h g m n = tableCalls g (cardAt h m) (madeFrom h m n)
 
 -- before the start of g's i-th epoch, since that of the one before

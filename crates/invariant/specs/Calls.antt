@@ -28,13 +28,13 @@ receiverRun x [] = x
 receiverRun x (c ∷ calls) = receiverRun (receiverAfter x c) calls
 
 -- a receiver started with any times
-abbrev pub startedWith : ℕ → ℕ → ℕ → ℕ → List ℕ → List ℕ → List (List ℕ) → List ℕ → Receiver
+abbrev pub startedWith : (kind count P W : ℕ) (hold restore : List ℕ) (rows : List (List ℕ)) (store : List ℕ) → Receiver
 startedWith kind count P W hold restore rows store = record { rows = startAsRows kind count P W (length store) hold restore rows; store = store }
 
 -- the port's rows changed by its frame
-abbrev pub portAfter : List (List ℕ) → ℕ → Bool → ℕ → List (List ℕ)
+abbrev pub portAfter : (s : List (List ℕ)) (port : ℕ) (failed : Bool) (h4 : ℕ) → List (List ℕ)
 portAfter s i failed h = portRows (groupAt s .kind) s i (takenIn s i failed h) h
 
 -- and the store
-abbrev pub storeAfter : List (List ℕ) → ℕ → Bool → ℕ → List ℕ → List ℕ → List ℕ
+abbrev pub storeAfter : (s : List (List ℕ)) (port : ℕ) (failed : Bool) (h4 : ℕ) (payload store : List ℕ) → List ℕ
 storeAfter s i failed h payload store = storeBy (groupAt s) i (takenIn s i failed h) h payload store

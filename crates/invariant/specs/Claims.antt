@@ -51,16 +51,16 @@ pub record Handed (s : List (List ℕ)) (i : ℕ) (failed : Bool) (h : ℕ) (pay
 
 module _ (tag : ℕ) (bytes : List ℕ) (h4 : ℕ) where
   -- a call handed it
-  abbrev pub HandedBy : Receiver → ReceiverCall → ℕ → Type 0
+  abbrev pub HandedBy : (x : Receiver) (call : ReceiverCall) (port : ℕ) → Type 0
   HandedBy x (Frame i failed h payload) j = Handed (x .rows) i failed h payload (x .store) j tag bytes h4
   HandedBy x (Fetch out report) j = ⊥
 
   -- the port claims this very frame before the calls and after each of them
-  abbrev pub ClaimedOn : Receiver → List ReceiverCall → ℕ → Type 0
+  abbrev pub ClaimedOn : (x : Receiver) (calls : List ReceiverCall) (port : ℕ) → Type 0
   ClaimedOn x [] j = Claimed (x .rows) (x .store) j tag bytes h4
   ClaimedOn x (c ∷ calls) j = Claimed (x .rows) (x .store) j tag bytes h4 × ClaimedOn (receiverAfter x c) calls j
 
   -- One of the calls handed it, and the port has claimed it ever since: no later call has put another frame with its tag in its place.
-  abbrev pub HandedLast : Receiver → List ReceiverCall → ℕ → Type 0
+  abbrev pub HandedLast : (x : Receiver) (calls : List ReceiverCall) (port : ℕ) → Type 0
   HandedLast x [] j = ⊥
   HandedLast x (c ∷ calls) j = (HandedBy x c j × ClaimedOn (receiverAfter x c) calls j) ⊎ HandedLast (receiverAfter x c) calls j

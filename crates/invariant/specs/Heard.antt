@@ -14,12 +14,12 @@ use Rattle.step.specs.Run.{endsPacket}
 use Rattle.invariant.specs.Live.{packetHeard, tagBack}
 
 -- how many of the latest in a row do not count by the own count
-abbrev pub broken : ℕ → ℕ → List ℕ → ℕ
+abbrev pub broken : (kind next : ℕ) (heard : List ℕ) → ℕ
 broken kind next [] = 0
 broken kind next (h ∷ heard) = if counts kind (tagBefore kind next) h then 0 else suc (broken kind (tagBefore kind next) heard)
 
 -- Whether the last packet that ended had a right CRC and another MFI2 than the own count's. Since then so many frames have come as stand in their epoch before the one to come.
-abbrev pub endedOdd : ℕ → ℕ → List ℕ → Bool
+abbrev pub endedOdd : (kind next : ℕ) (heard : List ℕ) → Bool
 endedOdd kind next heard =
     let since = placeOf kind next in
     oddPacket kind (epochOf kind (tagBack kind next since)) (packetHeard kind (drop since heard))
@@ -30,7 +30,7 @@ pub record Recorded (kind : ℕ) (p : Port) (heard : List ℕ) : Type 0 where
   pub odd : flagOf (p .step .odd) ≡ endedOdd kind (p .step .next) heard
 
 -- 'the fourth frame in a row that breaks the count'
-abbrev pub Fourth : ℕ → ℕ → ℕ → List ℕ → Type 0
+abbrev pub Fourth : (kind next h4 : ℕ) (heard : List ℕ) → Type 0
 Fourth kind next h heard = broken kind (tagAfter kind next) (h ∷ heard) ≡ 4
 
 -- 'the end of a second packet in a row with right CRC and a differing MFI2'

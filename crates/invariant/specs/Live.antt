@@ -18,17 +18,17 @@ isHeard answer = not (answer == 1) && not (answer == 9) && not (answer == 11)
 
 -- The H4 bytes of all frames of port j that were frames to its step record, the latest first: after one call more, and after some calls.
 
-abbrev pub heardWith : ℕ → Receiver → ReceiverCall → List ℕ → List ℕ
+abbrev pub heardWith : (port : ℕ) (x : Receiver) (call : ReceiverCall) (heard : List ℕ) → List ℕ
 heardWith j x (Frame i failed h payload) heard =
     if i == j && isHeard (frameAnswer (x .rows) i failed h (length payload) (length (x .store))) then h ∷ heard else heard
 heardWith j x (Fetch out report) heard = heard
 
-abbrev pub heardOf : ℕ → Receiver → List ReceiverCall → List ℕ → List ℕ
+abbrev pub heardOf : (port : ℕ) (x : Receiver) (calls : List ReceiverCall) (heard : List ℕ) → List ℕ
 heardOf j x [] heard = heard
 heardOf j x (c ∷ calls) heard = heardOf j (receiverAfter x c) calls (heardWith j x c heard)
 
 -- by the own count, the tag of the frame that came d before the latest
-abbrev pub tagBack : ℕ → ℕ → ℕ → ℕ
+abbrev pub tagBack : (kind next distance : ℕ) → ℕ
 tagBack kind next zero = tagBefore kind next
 tagBack kind next (suc d) = tagBefore kind (tagBack kind next d)
 

@@ -41,7 +41,7 @@ pub record SameRule (n : ℕ) (s t : List (List ℕ)) : Type 0 where
   pub ruling : (i : ℕ) → i < n → portAt s i .ruling ≡ portAt t i .ruling
 
 -- receiving stops in this call: the frame counts, and after it no port is readable
-abbrev pub stopsWith : List (List ℕ) → ℕ → Bool → ℕ → List ℕ → List ℕ → Bool
+abbrev pub stopsWith : (s : List (List ℕ)) (port : ℕ) (failed : Bool) (h4 : ℕ) (payload store : List ℕ) → Bool
 stopsWith s i failed h payload store =
     frameRefusal s i (length payload) (length store) == 0
     && not (takenIn s i failed h .answer == 11)
@@ -88,7 +88,7 @@ abbrev pub ackAfter : List (List ℕ) → List ℕ → ℕ
 ackAfter s store = ackOf (reportPorts s store) (sizeOf (portsIn (groupAt s))) (groupAt s .«rs_ack»)
 
 -- a fetch gives a report
-abbrev pub gives : Receiver → List ℕ → List ℕ → Bool
+abbrev pub gives : (x : Receiver) (out report : List ℕ) → Bool
 gives x out report = fits (x .rows) (x .store) out report && dueIn (groupAt (x .rows)) (portsIn (groupAt (x .rows))) (x .rows)
 
 -- the epoch that it says
@@ -110,7 +110,7 @@ Unstopped x (Frame i failed h payload ∷ calls) = (stopsWith (x .rows) i failed
 Unstopped x (Fetch out report ∷ calls) = Unstopped (receiverAfter x (Fetch out report)) calls
 
 -- so many epochs, each the one after the one before
-abbrev pub successive : ℕ → ℕ → ℕ → List ℕ
+abbrev pub successive : (kind epoch ports : ℕ) → List ℕ
 successive kind e zero = []
 successive kind e (suc n) = e ∷ successive kind (epochAfter kind e) n
 

@@ -13,27 +13,27 @@ use Rattle.invariant.specs.Reports.{gives, reportPorts}
 
 -- The ports as each report saw them, the latest first: after one call more, and after some calls.
 
-abbrev pub sawWith : Receiver → ReceiverCall → List (List Port) → List (List Port)
+abbrev pub sawWith : (x : Receiver) (call : ReceiverCall) (saw : List (List Port)) → List (List Port)
 sawWith x (Frame i failed h payload) saw = saw
 sawWith x (Fetch out report) saw = if gives x out report then reportPorts (x .rows) (x .store) ∷ saw else saw
 
-abbrev pub sawOf : Receiver → List ReceiverCall → List (List Port) → List (List Port)
+abbrev pub sawOf : (x : Receiver) (calls : List ReceiverCall) (saw : List (List Port)) → List (List Port)
 sawOf x [] saw = saw
 sawOf x (c ∷ calls) saw = sawOf (receiverAfter x c) calls (sawWith x c saw)
 
 -- so many of the latest in a row, and no more
-abbrev pub InARow : (List Port → Type 0) → ℕ → List (List Port) → Type 0
+abbrev pub InARow : (P : List Port → Type 0) (m : ℕ) (saw : List (List Port)) → Type 0
 InARow P zero [] = Unit {0}
 InARow P zero (ports ∷ saw) = P ports → ⊥
 InARow P (suc m) [] = ⊥
 InARow P (suc m) (ports ∷ saw) = P ports × InARow P m saw
 
 -- port i of n is without its claim: it is not IDLE, and is no candidate or another port is OK under its number
-abbrev pub Unclaimed : ℕ → ℕ → List Port → Type 0
+abbrev pub Unclaimed : (count port : ℕ) (ports : List Port) → Type 0
 Unclaimed n i ports = (isIdle (portAt ports i) ≡ false) × (Claim ports n i → ⊥)
 
 -- it has its claim
-abbrev pub Claimant : ℕ → ℕ → List Port → Type 0
+abbrev pub Claimant : (count port : ℕ) (ports : List Port) → Type 0
 Claimant n i ports = Claim ports n i
 
 -- an empty list, or one of zeros

@@ -38,13 +38,13 @@ tallyWith t p =
       numbered = t .numbered + (if numberedSeen p then 1 else 0);
     }
 
-unfoldable pub eosAloneBy : List Seen → ℕ → ℕ → Bool
+unfoldable pub eosAloneBy : (ports : List Seen) (count top : ℕ) → Bool
 eosAloneBy ports n top = every n (λ i. Bool·beq (eosSeen (seenAt ports i)) (activeSeen (seenAt ports i) && seenAt ports i .number == top))
 
-unfoldable pub exactTo : List Seen → ℕ → ℕ → Bool
+unfoldable pub exactTo : (ports : List Seen) (count limit : ℕ) → Bool
 exactTo ports n limit = every limit (λ q. takes ports n q)
 
-abbrev pub heldWith : Tally → Bool → Bool → Bool
+abbrev pub heldWith : (t : Tally) (repeated alone : Bool) → Bool
 heldWith t repeated alone =
     t .refused
     || t .lacking
@@ -53,5 +53,5 @@ heldWith t repeated alone =
     || (t .active && not alone && not (not (t .eos) && t .missing))
 
 -- of a fixed group
-abbrev pub fixedHeldWith : Tally → Bool → Bool → Bool
+abbrev pub fixedHeldWith : (t : Tally) (repeated exact : Bool) → Bool
 fixedHeldWith t repeated exact = t .missing || t .refused || t .lacking || repeated || not exact

@@ -9,7 +9,7 @@ use Rattle.judge.specs.declared.seen.Seen.{Seen}
 use Rattle.judge.specs.Seen.{activeSeen, eosSeen, lackingSeen, numberedSeen, refusedSeen, seenAt, unidleSeen}
 
 -- one of the first k active and DNU ports has the number q
-unfoldable pub takes : List Seen → ℕ → ℕ → Bool
+unfoldable pub takes : (ports : List Seen) (k number : ℕ) → Bool
 takes ports k q = some k (λ j. numberedSeen (seenAt ports j) && seenAt ports j .number == q)
 
 -- 'numbers of active and DNU ports repeat'
@@ -89,5 +89,5 @@ unfoldable pub fixedVerdict : List Seen → ℕ → ℕ
 fixedVerdict ports n = if fixedHeld ports n then HELD else SURE
 
 -- by the kind of packet
-unfoldable pub judgeOf : ℕ → List Seen → ℕ → ℕ
+unfoldable pub judgeOf : (kind : ℕ) (ports : List Seen) (count : ℕ) → ℕ
 judgeOf kind ports n = if kind == fixedKind then fixedVerdict ports n else lcasVerdict ports n

@@ -30,7 +30,7 @@ pub record Numbered (f : FixedGroup) : Type 0 where
   pub once : (slot other : ℕ) → slot < f .x → other < f .x → f .number slot ≡ f .number other → slot ≡ other
 
 -- A neighbour's packet, in the order of sending: 'MFI2 and SQ in their places' and the word FIXED. 'All other nibbles are .. not looked at in reading': `unread`, by their places.
-unfoldable pub fixedNibblesWith : (ℕ → ℕ) → ℕ → ℕ → List ℕ
+unfoldable pub fixedNibblesWith : (unread : ℕ → ℕ) (epoch sq : ℕ) → List ℕ
 fixedNibblesWith unread epoch sq =
     unread 0
     ∷ unread 1
@@ -51,11 +51,11 @@ fixedNibblesWith unread epoch sq =
     ∷ []
 
 -- the H4 bytes of a slot's packet in the i-th epoch
-unfoldable pub fixedSent : FixedGroup → ℕ → ℕ → List ℕ
+unfoldable pub fixedSent : (f : FixedGroup) (i slot : ℕ) → List ℕ
 fixedSent f i slot = h4Of (fixedNibblesWith (f .unread i slot) (epochNumber fixedKind (f .first) i) (f .number slot))
 
 -- What it sends. 'no changed bit at all, since nothing detects one'.
-abbrev pub sendingFixed : FixedGroup → ℕ → Client → Sending
+abbrev pub sendingFixed : (f : FixedGroup) (P : ℕ) (client : Client) → Sending
 sendingFixed f P client =
     record {
       kind = fixedKind;
@@ -82,7 +82,7 @@ pub record AssumedFixed (k : Link) : Type 0 where
   pub lines : Lines k
 
 -- 'exactly the client's bytes, marked sure': the report of the i-th epoch into an output
-abbrev pub sureReport : Link → ℕ → List ℕ → Told
+abbrev pub sureReport : (k : Link) (i : ℕ) (out : List ℕ) → Told
 sureReport k i out =
     record {
       epoch = epochNumber (kindOf k) (k .sending .first) i;

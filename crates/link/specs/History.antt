@@ -37,7 +37,7 @@ pub record Allowed (h : History) : Type 0 where
   pub ack : (i : ℕ) → h .ack i < 2
 
 -- the i-th epoch started on a sender, after the calls before it
-abbrev pub startedOn : History → ℕ → Sender → Sender
+abbrev pub startedOn : (h : History) (i : ℕ) (s : Sender) → Sender
 startedOn h i s = senderOutcomeOf (senderRun s (onTable (h .before i))) (StartEpoch (h .gid i) (h .mst i) (h .ack i)) .sender
 
 -- the sender in its i-th epoch
@@ -51,16 +51,16 @@ xAt h i = xOf (senderAt h i)
 
 -- A slot's packet in the i-th epoch: its fields, the word and number among them, and its H4 bytes.
 
-abbrev pub fieldsSent : History → ℕ → ℕ → Fields
+abbrev pub fieldsSent : (h : History) (i slot : ℕ) → Fields
 fieldsSent h i slot = packetFields (senderAt h i) slot
 
-abbrev pub wordSent : History → ℕ → ℕ → ℕ
+abbrev pub wordSent : (h : History) (i slot : ℕ) → ℕ
 wordSent h i slot = fieldsSent h i slot .word .0
 
-abbrev pub numberSent : History → ℕ → ℕ → ℕ
+abbrev pub numberSent : (h : History) (i slot : ℕ) → ℕ
 numberSent h i slot = fieldsSent h i slot .sq
 
-unfoldable pub packetSent : History → ℕ → ℕ → List ℕ
+unfoldable pub packetSent : (h : History) (i slot : ℕ) → List ℕ
 packetSent h i slot = packetBytes (senderAt h i) slot (replicate (frames (h .kind)) 0)
 
 -- 'Payload of P bytes per member frame, P from 1 to 2,340', and a group frame has X x P bytes
@@ -72,15 +72,15 @@ pub record Handed (h : History) (P : ℕ) (client : Client) : Type 0 where
   pub whole : (x : ℕ) → length (client x) ≡ xAt h (epochAt (h .kind) x) * P
 
 -- the payload bytes of a slot in the frame at x
-unfoldable pub payloadSent : History → ℕ → Client → ℕ → ℕ → List ℕ
+unfoldable pub payloadSent : (h : History) (P : ℕ) (client : Client) (x slot : ℕ) → List ℕ
 payloadSent h P client x slot = payloadBytes (senderAt h (epochAt (h .kind) x)) slot P (client x) (replicate P 0)
 
 -- the slot has a rank in the epoch of the frame at x
-unfoldable pub hasRank : History → ℕ → ℕ → Bool
+unfoldable pub hasRank : (h : History) (x slot : ℕ) → Bool
 hasRank h x slot = not (rankIn (senderAt h (epochAt (h .kind) x)) slot == noRank)
 
 -- What a history sends. A slot with no rank carries none of the client's bytes: whatever else it carries is given.
-abbrev pub sendingOf : History → ℕ → Client → (ℕ → ℕ → List ℕ) → Sending
+abbrev pub sendingOf : (h : History) (P : ℕ) (client : Client) (unranked : ℕ → ℕ → List ℕ) → Sending
 sendingOf h P client unranked =
     record {
       kind = h .kind;

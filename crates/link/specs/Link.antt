@@ -48,7 +48,7 @@ abbrev pub epochFrames : Link → ℕ
 epochFrames k = frames (kindOf k)
 
 -- the packet of an epoch as it was sent to a port
-abbrev pub sentTo : Link → ℕ → ℕ → List ℕ
+abbrev pub sentTo : (k : Link) (i port : ℕ) → List ℕ
 sentTo k i p = k .sending .packet i (k .pairing p)
 
 -- 'with one to three bits changed' (the minutes), 'anywhere in a packet's 64, MFI1 still coming as sent' (request 2026-04): how many at most is the sending side's to say
@@ -61,7 +61,7 @@ pub record Damaged (kind changes : ℕ) (sent came : List ℕ) : Type 0 where
   pub placed : (k : ℕ) → k < frames kind → keptPart kind k (getD came k 0) ≡ keptPart kind k (getD sent k 0)
 
 -- Each packet arrives as sent, or is damaged
-abbrev pub Arrived : ℕ → ℕ → List ℕ → List ℕ → Type 0
+abbrev pub Arrived : (kind changes : ℕ) (sent came : List ℕ) → Type 0
 Arrived kind changes sent came = (came ≡ sent) ⊎ Damaged kind changes sent came
 
 -- what reaches the receiver: each port gets its slot's frames
@@ -87,7 +87,7 @@ abbrev pub BringsMfi2 : ℕ → ℕ → Type 0
 BringsMfi2 kind place = bringsMfi2 kind place ≡ true
 
 -- port p's frame in frame time t brings, if one of MFI2, the nibble that was sent
-abbrev pub NumberKept : Link → ℕ → ℕ → Type 0
+abbrev pub NumberKept : (k : Link) (t port : ℕ) → Type 0
 NumberKept k t p =
     let x = t - k .delay p in
     BringsMfi2 (kindOf k) (x % epochFrames k)
@@ -131,7 +131,7 @@ unfoldable pub allAsSent : Link → ℕ → Bool
 allAsSent k i = every (k .ports) (λ p. sameBytes (k .came i p) (sentTo k i p))
 
 -- n of the client's group frames from position x on, one after the other
-unfoldable pub framesOf : Client → ℕ → ℕ → List ℕ
+unfoldable pub framesOf : (client : Client) (x n : ℕ) → List ℕ
 framesOf client x zero = []
 framesOf client x (suc n) = framesOf client x n ++ client (x + n)
 
@@ -141,7 +141,7 @@ clientBytes k i = framesOf (k .client) (epochStart (kindOf k) i) (epochFrames k)
 
 -- The report of epoch i + 1, ruled by the packets of epoch i, into an output: 'exactly the client's bytes, marked sure, if all its ruling packets came as sent; otherwise held, with no bytes'. What is beyond its bytes
 -- stands as it was lent: where it is held, the whole output.
-unfoldable pub expected : Link → ℕ → List ℕ → Told
+unfoldable pub expected : (k : Link) (i : ℕ) (out : List ℕ) → Told
 expected k i out =
     let bytes = if allAsSent k i then clientBytes k (suc i) else [] in
     record {
@@ -163,5 +163,5 @@ pub record Alike (k j : Link) : Type 0 where
   pub order : (t : ℕ) → k .order t ≡ j .order t
 
 -- the client streams of two links are the same in the i-th epoch
-abbrev pub SameIn : ℕ → Link → Link → Type 0
+abbrev pub SameIn : (i : ℕ) (k j : Link) → Type 0
 SameIn i k j = (m : ℕ) → m < epochFrames k → k .client (epochStart (kindOf k) i + m) ≡ j .client (epochStart (kindOf k) i + m)

@@ -19,10 +19,10 @@ module _ (r : Road) where
   reached m t done = turns r t done (through r t m)
 
   -- the position of port p's next frame: its first one, or the one of this frame time, or where it has been served the one after
-  unfoldable pub nextAt : ℕ → List ℕ → ℕ → ℕ
+  unfoldable pub nextAt : (t : ℕ) (rest : List ℕ) (port : ℕ) → ℕ
   nextAt t rest p = r .first p + (t + 1 - times p rest - (r .delay p + r .first p))
 
-  unfoldable pub coming : ℕ → List ℕ → ℕ → ℕ
+  unfoldable pub coming : (t : ℕ) (rest : List ℕ) (port : ℕ) → ℕ
   coming t rest p = if p <? r .ports then nextAt t rest p else r .first p
 
   -- the foremost position that has come
@@ -38,7 +38,7 @@ module _ (r : Road) where
     pub near : (p q : ℕ) → p < r .ports → q < r .ports → coming p + L r ≤ coming q + r .window
 
   -- a moment that is not after another: by frame time, and by how many ports have been served in it
-  abbrev pub NotAfter : ℕ → List ℕ → ℕ → List ℕ → Type 0
+  abbrev pub NotAfter : (u : ℕ) (earlier : List ℕ) (t : ℕ) (done : List ℕ) → Type 0
   NotAfter u earlier t done = (u < t) ⊎ ((u ≡ t) × (length earlier ≤ length done))
 
   -- at no moment up to this one were all ports ready

@@ -24,7 +24,7 @@ hasBegun m = groupAt (m .rows) .begun
 
 module _ (r : Road) where
   -- 'A fresh receiver', started with any times, over any rows and any store
-  unfoldable pub fresh : List ℕ → List ℕ → List (List ℕ) → List ℕ → Moment
+  unfoldable pub fresh : (hold restore : List ℕ) (rows : List (List ℕ)) (store : List ℕ) → Moment
   fresh hold restore rows store =
       record {
         rows = startAsRows (r .kind) (r .ports) (r .payload) (r .window) (length store) hold restore rows;
@@ -34,7 +34,7 @@ module _ (r : Road) where
       }
 
   -- a frame handed over
-  unfoldable pub framed : ℕ → ℕ → Moment → Moment
+  unfoldable pub framed : (port x : ℕ) (m : Moment) → Moment
   framed p x m =
       record {
         rows = frameRows (m .rows) p false (r .h4 p x) (r .bytes p x) (m .store);
@@ -77,10 +77,10 @@ module _ (r : Road) where
   drained (suc k) m = if getD (recordAt m) 0 0 == 0 then m else drained k (fetched m)
 
   -- port p's turn in frame time t: its frame, if its first one is not still to come, and then the reports
-  unfoldable pub turn : ℕ → ℕ → Moment → Moment
+  unfoldable pub turn : (t port : ℕ) (m : Moment) → Moment
   turn t p m = if r .delay p + r .first p ≤? t then drained (r .window) (framed p (t - r .delay p) m) else m
 
-  unfoldable pub turns : ℕ → List ℕ → Moment → Moment
+  unfoldable pub turns : (t : ℕ) (ports : List ℕ) (m : Moment) → Moment
   turns t [] m = m
   turns t (p ∷ ps) m = turns t ps (turn t p m)
 

@@ -64,11 +64,11 @@ pub record Reached (n : ℕ) (slotOf : ℕ → ℕ) (slot : ℕ) : Type 0 where
   pub is : slotOf port ≡ slot
 
 -- every slot whose word is not IDLE in the i-th epoch reaches a port
-abbrev pub Covered : Sending → ℕ → ℕ → (ℕ → ℕ) → Type 0
+abbrev pub Covered : (s : Sending) (i n : ℕ) (slotOf : ℕ → ℕ) → Type 0
 Covered s i n slotOf = (slot : ℕ) → slot < s .slots → s .word i slot ≢ IDLE → Reached n slotOf slot
 
 -- what is seen of a slot's packet of the i-th epoch where it came as sent, and the next epoch's frames came too
-abbrev pub seenSent : Sending → ℕ → ℕ → Seen
+abbrev pub seenSent : (s : Sending) (i slot : ℕ) → Seen
 seenSent s i slot = record { whole = true; good = true; word = s .word i slot; number = s .number i slot; gid = s .gid i slot; here = true }
 
 -- 'The packets of one epoch rule the payload of the next epoch, from its first frame': what n ports have seen of the i-th epoch is judged sure, and the ranks that it gives carry the client's group frames of the next.

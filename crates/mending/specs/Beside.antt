@@ -41,7 +41,7 @@ module _ (size : ℕ) where
   h4In l = getD (l .bytes) (digitPlace size l - 1) 0 ∷ getD (l .bytes) (digitPlace size l) 0 ∷ []
 
   -- a note exactly if the line is another one now, with the old text and the new
-  abbrev pub alteredNote : ℕ → Line → Line → List ℕ
+  abbrev pub alteredNote : (n : ℕ) (torn mended : Line) → List ℕ
   alteredNote n l m = if sameBytes (l .bytes) (m .bytes) then [] else noteText n (ascii "H4") (h4In l) (h4In m)
 
 module _ (ports size : ℕ) where
@@ -51,7 +51,7 @@ module _ (ports size : ℕ) where
   wellFormed (l ∷ ls) = if isFrame (recordOf ports size l) then l ∷ wellFormed ls else wellFormed ls
 
   -- the notes of lines numbered from n, by the lines alone, torn and mended: a malformed line has been dropped
-  abbrev pub notesBeside : ℕ → List Line → List Line → List ℕ
+  abbrev pub notesBeside : (n : ℕ) (torn mended : List Line) → List ℕ
   notesBeside n [] ms = []
   notesBeside n (l ∷ ls) [] = if isFrame (recordOf ports size l) then [] else noteText n (ascii "line") (l .bytes) [] ++ notesBeside (suc n) ls []
   notesBeside n (l ∷ ls) (m ∷ ms) =

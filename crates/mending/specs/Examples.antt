@@ -136,7 +136,7 @@ long-lines : bothFor (ascii "1\t1\t16\n" ++ frameLine (ascii "0") ++ ascii "A\n"
 unfolding allOpen
 long-lines = refl
 
-abbrev isFrameOf : ℕ → ℕ → List ℕ → Bool
+abbrev isFrameOf : (ports size : ℕ) (bytes : List ℕ) → Bool
 isFrameOf ports size bytes = isFrame (recordOf ports size (record { bytes = bytes; end = [] }))
 
 longest : (isFrameOf 11 4092 (frameLine (ascii "10")) ≡ true) × (isFrameOf 11 4092 (frameLine (ascii "010")) ≡ false) × (length (frameLine (ascii "10")) ≡ 8192) × (length (frameLine (ascii "010")) ≡ 8193)

@@ -15,11 +15,11 @@ abbrev pub lessPlace : ℕ → ℕ → ℕ
 lessPlace count place = (count % 16 + 16 - place % 16) % 16
 
 -- the count that a line gets, so many lines before the one to come
-unfoldable pub countBack : Follow → ℕ → ℕ → ℕ
+unfoldable pub countBack : (f : Follow) (v back : ℕ) → ℕ
 countBack f v back = (v % 16 + 16 + f .place % 16 - back) % 16
 
 -- a line more
-abbrev pub going : Follow → ℕ → ℕ → ℕ → Follow
+abbrev pub going : (f : Follow) (v pending o : ℕ) → Follow
 going f v pending o =
     record { begun = true; v = v; place = (f .place % 16 + 1) % 16; pending = pending; first = f .second; second = f .third; third = o }
 
@@ -40,7 +40,7 @@ unfoldable pub fed : Follow → ℕ → Follow
 fed f count = fedBy f (lessPlace count (f .place))
 
 -- A line that was pending and is no more is restored, unless it has what it would get: so many lines back (1 to 3), with this count less place.
-abbrev pub restores : Follow → Follow → ℕ → ℕ → Bool
+abbrev pub restores : (before after : Follow) (back o : ℕ) → Bool
 restores before after back o = back ≤? before .pending && after .pending ≤? back && not (o == after .v)
 
 unfoldable pub restoresFirst : Follow → Follow → Bool
@@ -57,10 +57,10 @@ unfoldable pub restoresLast : Follow → Bool
 restoresLast f = 3 ≤? f .pending && f .third == f .first && not (f .second == f .first)
 
 -- the port's counts so far, one of them set where it is restored
-abbrev pub setBack : Bool → ℕ → ℕ → List ℕ → List ℕ
+abbrev pub setBack : (restored : Bool) (back count : ℕ) (counts : List ℕ) → List ℕ
 setBack b back count counts = if b then set counts (length counts - back) count else counts
 
-unfoldable pub restoredBack : Follow → Follow → List ℕ → List ℕ
+unfoldable pub restoredBack : (before after : Follow) (counts : List ℕ) → List ℕ
 restoredBack f g counts =
     setBack (restoresThird f g) 1 (countBack f (g .v) 1)
     (setBack (restoresSecond f g) 2 (countBack f (g .v) 2) (setBack (restoresFirst f g) 3 (countBack f (g .v) 3) counts))
@@ -69,14 +69,14 @@ unfoldable pub finished : Follow → List ℕ → List ℕ
 finished f counts = setBack (restoresLast f) 2 (countBack f (f .first) 2) counts
 
 -- the port's counts, behind those so far
-abbrev pub following : Follow → List ℕ → List ℕ → List ℕ
+abbrev pub following : (f : Follow) (counts rest : List ℕ) → List ℕ
 following f counts [] = finished f counts
 following f counts (c ∷ cs) = following (fed f c) (restoredBack f (fed f c) counts ++ (c ∷ [])) cs
 
 -- Where lines have no count each is taken as a port's first: none is broken, and none waits.
-abbrev pub fedIf : Bool → Follow → ℕ → Follow
+abbrev pub fedIf : (has : Bool) (f : Follow) (count : ℕ) → Follow
 fedIf has f count = if has then fed f count else going f (lessPlace count (f .place)) 0 (lessPlace count (f .place))
 
-abbrev pub followingIf : Bool → Follow → List ℕ → List ℕ → List ℕ
+abbrev pub followingIf : (has : Bool) (f : Follow) (counts rest : List ℕ) → List ℕ
 followingIf has f counts [] = finished f counts
 followingIf has f counts (c ∷ cs) = followingIf has (fedIf has f c) (restoredBack f (fedIf has f c) counts ++ (c ∷ [])) cs

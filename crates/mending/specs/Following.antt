@@ -15,11 +15,11 @@ abbrev pub countDue : ℕ → ℕ → ℕ
 countDue last since = (last + since) % 16
 
 -- 'A line is good when its count is' that
-abbrev pub isGood : ℕ → ℕ → ℕ → Bool
+abbrev pub isGood : (last since count : ℕ) → Bool
 isGood last since count = count == countDue last since
 
 -- whether one of the next n lines is good, the first of which is so many lines since the last good one
-abbrev pub goodAmong : ℕ → ℕ → ℕ → List ℕ → Bool
+abbrev pub goodAmong : (n last since : ℕ) (counts : List ℕ) → Bool
 goodAmong zero last since counts = false
 goodAmong (suc n) last since [] = false
 goodAmong (suc n) last since (c ∷ cs) = isGood last since c || goodAmong n last (suc since) cs
@@ -28,7 +28,7 @@ goodAmong (suc n) last since (c ∷ cs) = isGood last since c || goodAmong n las
 -- 'One to three broken lines followed by a good one get their counts restored': this is the broken one of number `since`, so that a good one is
 -- among the next 4 - since. 'After four broken lines in a row, or at the end of the recording, nothing is restored and the following starts afresh
 -- at the first broken line, now taken as good': where no good one follows, this is the first.
-abbrev pub followedFrom : ℕ → ℕ → List ℕ → List ℕ
+abbrev pub followedFrom : (last since : ℕ) (counts : List ℕ) → List ℕ
 followedFrom last since [] = []
 followedFrom last since (c ∷ cs) =
     if isGood last since c then c ∷ followedFrom c 1 cs

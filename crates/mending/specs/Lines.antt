@@ -44,7 +44,7 @@ unfoldable pub capital : ℕ → ℕ
 capital n = if n <? 10 then 48 + n else 55 + n
 
 -- 'the H4 count' is MFI1, the second digit of H4
-abbrev pub countBy : ℕ → Record → List ℕ → List ℕ
+abbrev pub countBy : (port : ℕ) (read : Record) (counts : List ℕ) → List ℕ
 countBy port (Frame p h4 flag place next) counts = if p == port then h4 % 16 ∷ counts else counts
 countBy port (Malformed next) counts = counts
 countBy port Long counts = counts
@@ -52,7 +52,7 @@ countBy port Unfinished counts = counts
 countBy port End counts = counts
 
 -- the counts that a port has left behind a line
-abbrev pub leftBy : (ℕ → List ℕ) → Record → ℕ → List ℕ
+abbrev pub leftBy : (left : ℕ → List ℕ) (read : Record) (port : ℕ) → List ℕ
 leftBy left (Frame p h4 flag place next) port = if p == port then drop 1 (left port) else left port
 leftBy left (Malformed next) port = left port
 leftBy left Long port = left port
@@ -71,11 +71,11 @@ module _ (size : ℕ) where
   withDigit l digit = record { bytes = set (l .bytes) (digitPlace l) digit; end = l .end }
 
   -- a broken line gets its count restored
-  abbrev pub fateTo : Line → ℕ → ℕ → Fate
+  abbrev pub fateTo : (l : Line) (old new : ℕ) → Fate
   fateTo l old new = if old == new then Kept else Restored (digitIn l) (capital new)
 
   -- 'drops malformed lines'; a port's line gets the next of the counts that its port has left
-  abbrev pub fateBy : (ℕ → List ℕ) → Line → Record → Fate
+  abbrev pub fateBy : (left : ℕ → List ℕ) (l : Line) (read : Record) → Fate
   fateBy left l (Frame port h4 flag place next) = fateTo l (h4 % 16) (getD (left port) 0 0)
   fateBy left l (Malformed next) = Dropped
   fateBy left l Long = Dropped
@@ -107,5 +107,5 @@ module _ (ports size : ℕ) where
   judgedBy left (l ∷ ls) = record { line = l; fate = fateBy size left l (recordOf l) } ∷ judgedBy (leftBy left (recordOf l)) ls
 
 -- the counts of each port are followed, where lines have counts
-unfoldable pub judged : Bool → ℕ → ℕ → List Line → List Judged
+unfoldable pub judged : (has : Bool) (ports size : ℕ) (ls : List Line) → List Judged
 judged has ports size ls = judgedBy ports size (λ port. followedIf has (countsOf ports size port ls)) ls

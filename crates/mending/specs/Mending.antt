@@ -37,7 +37,7 @@ unfoldable pub readAnswer : List ℕ → ℕ
 readAnswer text = answerBy (openingOf (linesWith text))
 
 -- a note: 'line number, field, old and new text'
-abbrev pub noteText : ℕ → List ℕ → List ℕ → List ℕ → List ℕ
+abbrev pub noteText : (n : ℕ) (field old new : List ℕ) → List ℕ
 noteText n field old new = ended (numberText n) TAB ++ ended field TAB ++ ended old TAB ++ ended new LINE-END
 
 module _ (size : ℕ) where
@@ -46,7 +46,7 @@ module _ (size : ℕ) where
   h4With l digit = getD (l .bytes) (digitPlace size l - 1) 0 ∷ digit ∷ []
 
   -- 'For each line it dropped or altered'
-  abbrev pub noteBy : ℕ → Line → Fate → List ℕ
+  abbrev pub noteBy : (n : ℕ) (l : Line) (fate : Fate) → List ℕ
   noteBy n l F.Kept = []
   noteBy n l (F.Restored old new) = noteText n (ascii "H4") (h4With l old) (h4With l new)
   noteBy n l F.Dropped = noteText n (ascii "line") (l .bytes) []
@@ -85,7 +85,7 @@ unfoldable pub notesOf : List ℕ → List ℕ
 notesOf text = notesIn (linesWith text)
 
 -- 9: a length is not the one told
-unfoldable pub mendAnswer : List ℕ → ℕ → ℕ → ℕ
+unfoldable pub mendAnswer : (text : List ℕ) (mended notes : ℕ) → ℕ
 mendAnswer text mended notes =
     if readAnswer text == 0
     then (if mended == length (mendedOf text) && notes == length (notesOf text) then 0 else 9)

@@ -23,8 +23,8 @@ lengthsOf text =
 
 -- what is left of the lent buffers: 'no lines are written' under a refusal
 
-unfoldable pub mendedLeft : List ℕ → List ℕ → List ℕ → List ℕ
+unfoldable pub mendedLeft : (text mended notes : List ℕ) → List ℕ
 mendedLeft text mended notes = if mendAnswer text (length mended) (length notes) == 0 then mendedOf text else mended
 
-unfoldable pub notesLeft : List ℕ → List ℕ → List ℕ → List ℕ
+unfoldable pub notesLeft : (text mended notes : List ℕ) → List ℕ
 notesLeft text mended notes = if mendAnswer text (length mended) (length notes) == 0 then notesOf text else notes

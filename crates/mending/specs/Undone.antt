@@ -55,7 +55,7 @@ module _ (size : ℕ) where
   withOld l old = record { bytes = sets (l .bytes) (digitPlace size l - 1) old; end = l .end }
 
   -- lines numbered from n: as many as stand before the next note's number, then the line that was dropped, or the one that was altered
-  abbrev pub againFrom : ℕ → List Note → List Line → List ℕ
+  abbrev pub againFrom : (n : ℕ) (notes : List Note) (ls : List Line) → List ℕ
   againFrom n [] ls = textOf ls
   againFrom n (note ∷ notes) ls =
       textOf (take (note .number - n) ls)

@@ -28,7 +28,7 @@ abbrev pub numberBy : Card → Command → ℕ
 numberBy card c = answerNumber (outcomeBy card c .answer)
 
 -- the number of command i in its place
-abbrev pub storedBy : Card → Command → ℕ → List ℕ → List ℕ
+abbrev pub storedBy : (card : Card) (c : Command) (i : ℕ) (ys : List ℕ) → List ℕ
 storedBy card c i ys = set ys i (numberBy card c)
 
 abbrev pub cardBy : Card → Command → Card
@@ -39,22 +39,22 @@ abbrev pub ordersOf : Card → List Command → Folded Card
 ordersOf card cs = folded cardBy numberBy card cs
 
 -- 'answers list of a different length than the commands is 9, and nothing is done'
-abbrev pub orderedOf : Card → List Command → ℕ → Ordered
+abbrev pub orderedOf : (card : Card) (cs : List Command) (k : ℕ) → Ordered
 orderedOf card cs k = if length cs == k then (record { card = ordersOf card cs .state; answer = A.Done }) else (record { card = card; answer = A.Length })
 
-abbrev pub answersOf : Card → List Command → List ℕ → List ℕ
+abbrev pub answersOf : (card : Card) (cs : List Command) (ys : List ℕ) → List ℕ
 answersOf card cs ys = if length cs == length ys then ordersOf card cs .numbers else ys
 
 -- the parts of the code: how many turns its loop has, and what it ends with
 abbrev pub turnsOf : ℕ → ℕ → ℕ
 turnsOf m k = if m == k then m else 0
 
-abbrev pub finishOf : Card → ℕ → ℕ → Ordered
+abbrev pub finishOf : (card : Card) (m k : ℕ) → Ordered
 finishOf card m k = if m == k then (record { card = card; answer = A.Done }) else (record { card = card; answer = A.Length })
 
 -- the first n of an array of 64; where n is more than there are, 9
-abbrev pub firstOrdered : Card → List Command → ℕ → ℕ → Ordered
+abbrev pub firstOrdered : (card : Card) (cs : List Command) (n k : ℕ) → Ordered
 firstOrdered card cs n k = if 64 <? n then (record { card = card; answer = A.Length }) else orderedOf card (take n cs) k
 
-abbrev pub firstAnswers : Card → List Command → ℕ → List ℕ → List ℕ
+abbrev pub firstAnswers : (card : Card) (cs : List Command) (n : ℕ) (ys : List ℕ) → List ℕ
 firstAnswers card cs n ys = if 64 <? n then ys else answersOf card (take n cs) ys

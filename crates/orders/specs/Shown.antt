@@ -21,9 +21,9 @@ abbrev pub release : ℕ → ℕ → Command
 release g i = record { kind = K.Kind.Release; group = g; slot = i }
 
 -- the number of an order, then its list of answers as it is left
-abbrev pub numbersOf : Card → List Command → List ℕ → List ℕ
+abbrev pub numbersOf : (card : Card) (cs : List Command) (ys : List ℕ) → List ℕ
 numbersOf card cs ys = answerNumber (orderedOf card cs (length ys) .answer) ∷ answersOf card cs ys
 
 -- the card that it leaves
-abbrev pub cardLeft : Card → List Command → List ℕ → Card
+abbrev pub cardLeft : (card : Card) (cs : List Command) (ys : List ℕ) → Card
 cardLeft card cs ys = orderedOf card cs (length ys) .card

@@ -38,7 +38,7 @@ abbrev pub commandsOf : ℕ → List Command → List Command
 commandsOf g [] = []
 commandsOf g (c ∷ cs) = if c .group == g then c ∷ commandsOf g cs else commandsOf g cs
 
-abbrev pub answersTo : ℕ → List Command → List ℕ → List ℕ
+abbrev pub answersTo : (group : ℕ) (cs : List Command) (ns : List ℕ) → List ℕ
 answersTo g [] ns = []
 answersTo g (c ∷ cs) [] = []
 answersTo g (c ∷ cs) (n ∷ ns) = if c .group == g then n ∷ answersTo g cs ns else answersTo g cs ns

@@ -10,7 +10,7 @@ use Rattle.packet.specs.Layout.{highsOf}
 use Rattle.packet.specs.Vc12.{lowestOf}
 
 -- what of the frame at a place of its packet is never changed. Of H4 'MFI1 still coming as sent'; of VC-12 'outside the count, every start said rightly'.
-unfoldable pub keptPart : ℕ → ℕ → ℕ → ℕ
+unfoldable pub keptPart : (kind place h4 : ℕ) → ℕ
 keptPart kind place h = if kind == vc12Kind then (if place <? 5 then h % 4 else h / 2 % 2 * 2) else h % 16
 
 -- the frame at a place brings a nibble of MFI2, the high or the low one, which 'demand 3 .. spares .. only until receiving begins'. No frame of VC-12 does.
@@ -22,7 +22,7 @@ abbrev pub changedBits : List ℕ → List ℕ → ℕ
 changedBits sent came = apart (bitsOf (highsOf sent)) (bitsOf (highsOf came))
 
 -- in how many bits of its symbols a packet did, both as bytes, one a frame
-unfoldable pub changed : ℕ → List ℕ → List ℕ → ℕ
+unfoldable pub changed : (kind : ℕ) (sent came : List ℕ) → ℕ
 changed kind sent came = if kind == vc12Kind then apart (lowestOf sent) (lowestOf came) else changedBits sent came
 
 -- 'with one to three bits changed'; of VC-12 'with one changed bit at most'; of a fixed group 'no changed bit at all, since nothing detects one'

@@ -17,7 +17,7 @@ unfoldable pub carriesLow : ℕ → ℕ → Bool
 carriesLow kind h = h % 16 == 1
 
 -- the tag after it, with MFI2's low nibble from this frame and its high one from the frame before
-unfoldable pub tagByLow : ℕ → ℕ → ℕ → ℕ
+unfoldable pub tagByLow : (kind tag h4 : ℕ) → ℕ
 tagByLow kind t h = t / 256 % 16 * 256 + h / 16 % 16 * 16 + 2
 
 -- a frame that counts as the tag t says: MFI1 in every frame, MFI2's high nibble at MFI1 0, its low one at MFI1 1
@@ -41,5 +41,5 @@ vc12Counts t h =
     (if t % 32 == 0 then saysStart h else not (saysStart h))
     && (not (t % 32 <? 5) || h % 2 == toldBits (t % 1024 / 32) (t % 32) % 2)
 
-unfoldable pub counts : ℕ → ℕ → ℕ → Bool
+unfoldable pub counts : (kind tag h4 : ℕ) → Bool
 counts kind t h = if kind == vc12Kind then vc12Counts t h else h4Counts t h

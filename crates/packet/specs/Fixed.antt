@@ -27,11 +27,11 @@ abbrev pub fixedFits : ℕ → ℕ → Bool
 fixedFits epoch sq = epoch <? 256 && sq <? 256
 
 -- 'For writing: 9, 8' (01); 'the word FIXED is no cause for 8'
-unfoldable pub writeFixedAnswer : ℕ → ℕ → List ℕ → Writing
+unfoldable pub writeFixedAnswer : (epoch sq : ℕ) (s : List ℕ) → Writing
 writeFixedAnswer epoch sq s = if length s == 16 then (if fixedFits epoch sq then Done else Field) else Short
 
 -- the lent H4 bytes afterwards: the packet, or as they were
-unfoldable pub writeFixedBytes : ℕ → ℕ → List ℕ → List ℕ
+unfoldable pub writeFixedBytes : (epoch sq : ℕ) (s : List ℕ) → List ℕ
 writeFixedBytes epoch sq s = if length s == 16 then (if fixedFits epoch sq then h4Of (fixedNibbles epoch sq) else s) else s
 
 -- 'Number 7 is not given; a word other than FIXED is 6.'

@@ -41,7 +41,7 @@ unfoldable pub tagBefore : ℕ → ℕ → ℕ
 tagBefore kind t = (t + (tags kind - 1)) % tags kind
 
 -- how many frames the tag a lies after the tag b
-unfoldable pub distanceOf : ℕ → ℕ → ℕ → ℕ
+unfoldable pub distanceOf : (kind a b : ℕ) → ℕ
 distanceOf kind a b = after (tags kind) a b
 
 -- the place of a tag's frame in its epoch

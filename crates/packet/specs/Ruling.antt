@@ -31,5 +31,5 @@ unfoldable pub fieldsIn : ℕ → List ℕ → Fields
 fieldsIn kind row = if kind == vc12Kind then vc12Fields (rowBits row) else fieldsOf row
 
 -- of the packet of an epoch by the receiver's own count, which is not looked at: the epoch inside the packet is the step rule's to judge
-unfoldable pub rulingOf : ℕ → ℕ → List ℕ → Ruling
+unfoldable pub rulingOf : (kind epoch : ℕ) (nibbles : List ℕ) → Ruling
 rulingOf kind epoch row = rulingBy (readRow kind row)

@@ -12,8 +12,8 @@ use Rattle.packet.specs.Writing.{fitting, writeAnswer, writeBytes}
 unfoldable pub sentFits : ℕ → Fields → Bool
 sentFits kind f = if kind == vc12Kind then vc12Fits f else fitting f
 
-unfoldable pub sentAnswer : ℕ → Fields → List ℕ → Writing
+unfoldable pub sentAnswer : (kind : ℕ) (f : Fields) (s : List ℕ) → Writing
 sentAnswer kind f s = if kind == vc12Kind then writeVc12Answer f s else writeAnswer f s
 
-unfoldable pub sentBytes : ℕ → Fields → List ℕ → List ℕ
+unfoldable pub sentBytes : (kind : ℕ) (f : Fields) (s : List ℕ) → List ℕ
 sentBytes kind f s = if kind == vc12Kind then writeVc12Bytes f s else writeBytes f s

@@ -16,23 +16,23 @@ unfoldable pub entryAt : ℕ → ℕ → ℕ
 entryAt kind place = if kind == vc12Kind then place / 2 else place
 
 -- that entry with the symbol of a frame put in. VC-12's keeps the other bit.
-unfoldable pub entryWith : ℕ → ℕ → ℕ → ℕ → ℕ
+unfoldable pub entryWith : (kind entry place h4 : ℕ) → ℕ
 entryWith kind entry place h =
     if kind == vc12Kind then (if place % 2 == 0 then h % 2 * 2 + entry % 2 else entry / 2 * 2 + h % 2) else h / 16
 
 -- the symbol at a place, of the entry that has it
-unfoldable pub symbolIn : ℕ → ℕ → ℕ → ℕ
+unfoldable pub symbolIn : (kind entry place : ℕ) → ℕ
 symbolIn kind entry place = if kind == vc12Kind then (if place % 2 == 0 then entry / 2 else entry % 2) else entry
 
 -- the k-th entry, of frames by their places
-unfoldable pub entryFrom : ℕ → (ℕ → ℕ) → ℕ → ℕ
+unfoldable pub entryFrom : (kind : ℕ) (f : ℕ → ℕ) (k : ℕ) → ℕ
 entryFrom kind f k = if kind == vc12Kind then f (2 * k) % 2 * 2 + f (2 * k + 1) % 2 else f k / 16
 
 -- a row with the symbol of a frame put at its place
-unfoldable pub withSymbol : ℕ → List ℕ → ℕ → ℕ → List ℕ
+unfoldable pub withSymbol : (kind : ℕ) (row : List ℕ) (place h4 : ℕ) → List ℕ
 withSymbol kind row place h = set row (entryAt kind place) (entryWith kind (getD row (entryAt kind place) 0) place h)
 
-unfoldable pub symbolAt : ℕ → List ℕ → ℕ → ℕ
+unfoldable pub symbolAt : (kind : ℕ) (row : List ℕ) (place : ℕ) → ℕ
 symbolAt kind row place = symbolIn kind (getD row (entryAt kind place) 0) place
 
 -- the row of a packet, of its frames' bytes by their places

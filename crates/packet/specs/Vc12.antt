@@ -49,7 +49,7 @@ unfoldable pub writeVc12Bytes : Fields → List ℕ → List ℕ
 writeVc12Bytes f s = if length s == 32 then (if vc12Fits f then vc12Bytes (vc12Bits f) else s) else s
 
 -- n bits from a place on, as a number
-abbrev pub numberAt : ℕ → ℕ → List Bool → ℕ
+abbrev pub numberAt : (place n : ℕ) (l : List Bool) → ℕ
 numberAt place n l = number (take n (drop place l))
 
 -- the fields that 32 bits carry

@@ -17,7 +17,7 @@ writingNumber Length = 9
 writingNumber Field = 8
 
 -- 8: 'a field given for writing is too large, or its word is FIXED or unassigned', by how many epochs, numbers and values of the reserved bits a packet has room for
-abbrev pub fitsWithin : ℕ → ℕ → ℕ → Fields → Bool
+abbrev pub fitsWithin : (epochs numbers values : ℕ) (f : Fields) → Bool
 fitsWithin epochs numbers values f =
     f .mst <? 256
     && f .epoch <? epochs

@@ -14,19 +14,19 @@ abbrev pub apart : ℕ → ℕ → ℕ
 apart x y = if x <? y then y - x else x - y
 
 -- two candidates are different and at most s apart
-unfoldable pub agree : List ℕ → ℕ → ℕ → ℕ → Bool
+unfoldable pub agree : (delays : List ℕ) (spread path other : ℕ) → Bool
 agree delays s i j = not (i == j) && apart (delayAt delays i) (delayAt delays j) ≤? s
 
 -- entry a agrees with every entry before it
-unfoldable pub agreesWith : List ℕ → List ℕ → ℕ → ℕ → Bool
+unfoldable pub agreesWith : (delays set : List ℕ) (spread a : ℕ) → Bool
 agreesWith delays set s a = every a (λ b. agree delays s (pathAt set b) (pathAt set a))
 
-abbrev pub fits : List ℕ → List ℕ → ℕ → ℕ → Bool
+abbrev pub fits : (delays set : List ℕ) (spread a : ℕ) → Bool
 fits delays set s a = pathAt set a <? length delays && agreesWith delays set s a
 
 -- there are k entries, and each names a candidate and agrees with those before it
-unfoldable pub accepts : List ℕ → ℕ → ℕ → List ℕ → Bool
+unfoldable pub accepts : (delays : List ℕ) (k spread : ℕ) (set : List ℕ) → Bool
 accepts delays k s set = length set == k && every (length set) (fits delays set s)
 
-unfoldable pub checkedOf : List ℕ → ℕ → ℕ → List ℕ → Checked
+unfoldable pub checkedOf : (delays : List ℕ) (k W : ℕ) (set : List ℕ) → Checked
 checkedOf delays k W set = record { accepted = inRange delays k W && accepts delays k (W - 16) set; answer = answerOf delays k W }

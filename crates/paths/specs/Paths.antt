@@ -16,7 +16,7 @@ abbrev pub pathAt : List ℕ → ℕ → ℕ
 pathAt set a = getD set a 0
 
 -- any two entries differ in delay by at most s: 'plain differences, not counted round 4,096'
-abbrev pub Within : List ℕ → ℕ → List ℕ → Type 0
+abbrev pub Within : (delays : List ℕ) (spread : ℕ) (set : List ℕ) → Type 0
 Within delays s set = (a b : ℕ) → a < length set → b < length set → delayAt delays (pathAt set a) ≤ delayAt delays (pathAt set b) + s
 
 -- 'it names k different candidates within that spread'

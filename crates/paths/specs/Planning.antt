@@ -14,14 +14,14 @@ use Rattle.paths.specs.Answers.{answerOf, inRange}
 use Rattle.paths.specs.Order.{ranksOf, sortedBy}
 
 -- from a rank to the one so far after it
-abbrev pub stretchFrom : List ℕ → ℕ → ℕ → Stretch
+abbrev pub stretchFrom : (sorted : List ℕ) (far first : ℕ) → Stretch
 stretchFrom sorted far first = record { first = first; spread = getD sorted (first + far) 0 - getD sorted first 0 }
 
 abbrev pub tighter : Stretch → Stretch → Stretch
 tighter one other = if other .spread <? one .spread then other else one
 
 -- of the stretches from rank 0 and from each of the first m ranks the tightest, of several the first
-abbrev pub tightest : List ℕ → ℕ → ℕ → Stretch
+abbrev pub tightest : (sorted : List ℕ) (far m : ℕ) → Stretch
 tightest sorted far zero = stretchFrom sorted far 0
 tightest sorted far (suc m) = tighter (tightest sorted far m) (stretchFrom sorted far m)
 
@@ -34,15 +34,15 @@ listed (suc n) f = listed n f ++ (if f n then n ∷ [] else [])
 unfoldable pub tightestOf : List ℕ → ℕ → Stretch
 tightestOf delays k = tightest (sortedBy delays (ranksOf delays)) (k - 1) (length delays + 1 - k)
 
-abbrev pub inStretch : List ℕ → ℕ → ℕ → ℕ → Bool
+abbrev pub inStretch : (ranks : List ℕ) (first k path : ℕ) → Bool
 inStretch ranks first k i = within first k (getD ranks i 0)
 
-unfoldable pub proposed : List ℕ → ℕ → ℕ → List ℕ
+unfoldable pub proposed : (delays : List ℕ) (k spread : ℕ) → List ℕ
 proposed delays k s =
     if tightestOf delays k .spread ≤? s then listed (length delays) (inStretch (ranksOf delays) (tightestOf delays k .first) k) else []
 
 -- what the planner proposes; the empty list says none
-unfoldable pub setOf : List ℕ → ℕ → ℕ → List ℕ
+unfoldable pub setOf : (delays : List ℕ) (k W : ℕ) → List ℕ
 setOf delays k W = if inRange delays k W then proposed delays k (W - 16) else []
 
 -- in a plan's 64 bytes the rest is 255
@@ -52,7 +52,7 @@ padded set = set ++ replicate (64 - length set) 255
 abbrev pub planWith : Answer → List ℕ → Proposal
 planWith answer set = record { paths = padded set; count = length set; answer = answer }
 
-unfoldable pub planOf : List ℕ → ℕ → ℕ → Proposal
+unfoldable pub planOf : (delays : List ℕ) (k W : ℕ) → Proposal
 planOf delays k W = planWith (answerOf delays k W) (setOf delays k W)
 
 -- the candidates that a plan names
@@ -63,8 +63,8 @@ planned p = take (p .count) (p .paths)
 abbrev pub nothing : Answer → Proposal
 nothing answer = planWith answer []
 
-unfoldable pub listedPlan : List ℕ → ℕ → ℕ → ℕ → Proposal
+unfoldable pub listedPlan : (ranks : List ℕ) (n first k : ℕ) → Proposal
 listedPlan ranks n first k = planWith Done (listed n (inStretch ranks first k))
 
-unfoldable pub proposedPlan : List ℕ → ℕ → ℕ → Proposal
+unfoldable pub proposedPlan : (delays : List ℕ) (k spread : ℕ) → Proposal
 proposedPlan delays k s = planWith Done (proposed delays k s)

@@ -13,7 +13,7 @@ numberOf Length = 9
 
 -- 'Lent bytes change only under 0.'
 module _ {A : Type 0} where
-  abbrev pub underDone : Answer → A → A → A
+  abbrev pub underDone : (answer : Answer) (new old : A) → A
   underDone Done new old = new
   underDone Range new old = old
   underDone Length new old = old

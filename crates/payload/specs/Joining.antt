@@ -11,28 +11,28 @@ use Rattle.payload.specs.Answers.{sized, answerBy, underDone}
 use Rattle.payload.specs.Order.{groupByte, groupFrame}
 
 -- The group frame and the members have exactly X x P bytes each.
-abbrev pub wholeAnswer : ℕ → ℕ → ℕ → ℕ → Answer
+abbrev pub wholeAnswer : (X P from to : ℕ) → Answer
 wholeAnswer X P from to = answerBy (sized X P) (from == X * P && to == X * P)
 
 -- the member ranked r lies at r x P
-abbrev pub rankedByte : ℕ → List ℕ → ℕ → ℕ → ℕ
+abbrev pub rankedByte : (P : ℕ) (members : List ℕ) (r j : ℕ) → ℕ
 rankedByte P members r j = getD members (r * P + j) 0
 
-abbrev pub joined : ℕ → ℕ → List ℕ → List ℕ → List ℕ
+abbrev pub joined : (X P : ℕ) (members frame : List ℕ) → List ℕ
 joined X P members frame = underDone (wholeAnswer X P (length members) (length frame)) (groupFrame X P (rankedByte P members)) frame
 
 -- the member ranked r lies in the store from its start on
-abbrev pub startedByte : List ℕ → List ℕ → ℕ → ℕ → ℕ
+abbrev pub startedByte : (starts store : List ℕ) (r j : ℕ) → ℕ
 startedByte starts store r j = getD store (getD starts r 0 + j) 0
 
 -- Each ranked member ends within the store, and the group frame from its place on within the output.
-abbrev pub startsFit : ℕ → ℕ → List ℕ → ℕ → Bool
+abbrev pub startsFit : (X P : ℕ) (starts : List ℕ) (store : ℕ) → Bool
 startsFit X P starts store = below X (λ r. getD starts r 0 + P ≤? store)
 
-abbrev pub fromAnswer : ℕ → ℕ → List ℕ → ℕ → ℕ → ℕ → Answer
+abbrev pub fromAnswer : (X P : ℕ) (starts : List ℕ) (store place out : ℕ) → Answer
 fromAnswer X P starts store place out = answerBy (sized X P) (place + X * P ≤? out && startsFit X P starts store)
 
 -- What lies outside the group frame stays.
-abbrev pub joinedFrom : ℕ → ℕ → List ℕ → List ℕ → ℕ → List ℕ → List ℕ
+abbrev pub joinedFrom : (X P : ℕ) (starts store : List ℕ) (place : ℕ) (out : List ℕ) → List ℕ
 joinedFrom X P starts store place out =
     underDone (fromAnswer X P starts (length store) place (length out)) (fillAt place (X * P) (groupByte X (startedByte starts store)) out) out

@@ -7,17 +7,17 @@ use Rattle.ground.specs.Plain.{if_then_else_, _<?_}
 use Rattle.ground.specs.Table.{tabulate}
 
 -- 'Byte p of a group frame is byte p div X of the member ranked p mod X.'
-abbrev pub groupByte : ℕ → (ℕ → ℕ → ℕ) → ℕ → ℕ
+abbrev pub groupByte : (X : ℕ) (m : ℕ → ℕ → ℕ) (p : ℕ) → ℕ
 groupByte X m p = m (p % X) (p / X)
 
 -- A group frame has X x P bytes, so 'X = 0 gives an empty group frame'.
-abbrev pub groupFrame : ℕ → ℕ → (ℕ → ℕ → ℕ) → List ℕ
+abbrev pub groupFrame : (X P : ℕ) (m : ℕ → ℕ → ℕ) → List ℕ
 groupFrame X P m = tabulate (X * P) (groupByte X m)
 
 -- The same sentence from the member's side: byte j of the member ranked r is byte j X + r of the group frame g.
 -- A member with no rank below X has no byte in the frame: zero.
-abbrev pub memberByte : ℕ → List ℕ → ℕ → ℕ → ℕ
+abbrev pub memberByte : (X : ℕ) (g : List ℕ) (r j : ℕ) → ℕ
 memberByte X g r j = if r <? X then getD g (j * X + r) 0 else 0
 
-abbrev pub memberFrame : ℕ → ℕ → List ℕ → ℕ → List ℕ
+abbrev pub memberFrame : (X P : ℕ) (g : List ℕ) (r : ℕ) → List ℕ
 memberFrame X P g r = tabulate P (memberByte X g r)

@@ -11,15 +11,15 @@ use Rattle.payload.specs.Joining.{wholeAnswer}
 use Rattle.payload.specs.Order.{memberByte, memberFrame}
 
 -- all members one after the other, the one ranked r at r x P
-abbrev pub allMembers : ℕ → ℕ → List ℕ → List ℕ
+abbrev pub allMembers : (X P : ℕ) (frame : List ℕ) → List ℕ
 allMembers X P frame = tabulate (X * P) (λ k. memberByte X frame (k / P) (k % P))
 
-abbrev pub spreadAll : ℕ → ℕ → List ℕ → List ℕ → List ℕ
+abbrev pub spreadAll : (X P : ℕ) (frame members : List ℕ) → List ℕ
 spreadAll X P frame members = underDone (wholeAnswer X P (length frame) (length members)) (allMembers X P frame) members
 
 -- One member: the group frame has exactly X x P bytes and the member P.
-abbrev pub oneAnswer : ℕ → ℕ → ℕ → ℕ → Answer
+abbrev pub oneAnswer : (X P frame member : ℕ) → Answer
 oneAnswer X P frame member = answerBy (sized X P) (frame == X * P && member == P)
 
-abbrev pub spreadOne : ℕ → ℕ → ℕ → List ℕ → List ℕ → List ℕ
+abbrev pub spreadOne : (X P r : ℕ) (frame member : List ℕ) → List ℕ
 spreadOne X P r frame member = underDone (oneAnswer X P (length frame) (length member)) (memberFrame X P frame r) member

@@ -23,19 +23,19 @@ unfoldable pub noTag : Group → ℕ
 noTag g = tags (g .kind)
 
 -- the foremost of the latest tags: a tag takes the place of one that it follows within half a round
-unfoldable pub further : Group → ℕ → Step → ℕ
+unfoldable pub further : (g : Group) (fore : ℕ) (step : Step) → ℕ
 further g fore step =
     if inStep g step && (fore == noTag g || distanceOf (g .kind) (latest g step) fore <? tags (g .kind) / 2) then latest g step else fore
 
-unfoldable pub foremost : Group → List (List ℕ) → ℕ → ℕ
+unfoldable pub foremost : (g : Group) (s : List (List ℕ)) (ports : ℕ) → ℕ
 foremost g s zero = noTag g
 foremost g s (suc n) = further g (foremost g s n) (stepAt s n)
 
 -- 'the latest tags of those in step lie within an arc of W-15 tags': none more than W - 16 behind the foremost. Of VC-12 'Latest tags within W-31 begin', and 32 in place of 16: an epoch's frames.
-unfoldable pub within : Group → ℕ → Step → Bool
+unfoldable pub within : (g : Group) (fore : ℕ) (step : Step) → Bool
 within g fore step = not (inStep g step) || distanceOf (g .kind) fore (latest g step) + frames (g .kind) ≤? g .window
 
-unfoldable pub begins : Group → List (List ℕ) → ℕ → Bool
+unfoldable pub begins : (g : Group) (s : List (List ℕ)) (ports : ℕ) → Bool
 begins g s n =
     every n (λ i. ready g (stepAt s i))
     && not (foremost g s n == noTag g)

@@ -18,7 +18,7 @@ use Rattle.store.specs.Frames.{packetIn, ringOf}
 use Rattle.store.specs.Marks.{firstMark, passedMarks}
 
 -- 'Each port keeps sixteen nibbles of the packet being gathered beside those of the packet that rules': the second is the one that rules
-unfoldable pub ruledBy : List (List ℕ) → Bool → List ℕ → List (List ℕ)
+unfoldable pub ruledBy : (pair : List (List ℕ)) (whole : Bool) (nibbles : List ℕ) → List (List ℕ)
 ruledBy pair whole nibbles = if whole then set pair 1 nibbles else pair
 
 -- 'joined at a later epoch' comes nearer by one epoch
@@ -40,7 +40,7 @@ passedStep s whole =
     }
 
 -- 'the good packets up to that epoch's own'
-unfoldable pub notedBy : Member → Bool → Ruling → Member
+unfoldable pub notedBy : (m : Member) (whole : Bool) (r : Ruling) → Member
 notedBy m whole r =
     record {
       spare = m .spare;
@@ -55,7 +55,7 @@ notedBy m whole r =
       elapsed = m .elapsed;
     }
 
-unfoldable pub passedPort : Group → List ℕ → ℕ → List (List ℕ) → List (List ℕ)
+unfoldable pub passedPort : (g : Group) (store : List ℕ) (port : ℕ) (s : List (List ℕ)) → List (List ℕ)
 passedPort g store i s =
     let whole = firstMark (marksAt s i) in
     let nibbles = packetIn g i store in
@@ -64,11 +64,11 @@ passedPort g store i s =
     let c = putStep b i (passedStep (stepAt s i) whole) in
     putMarks c i (passedMarks (marksAt s i))
 
-unfoldable pub passedPorts : Group → List ℕ → ℕ → List (List ℕ) → List (List ℕ)
+unfoldable pub passedPorts : (g : Group) (store : List ℕ) (ports : ℕ) (s : List (List ℕ)) → List (List ℕ)
 passedPorts g store zero s = s
 passedPorts g store (suc n) s = passedPort g store n (passedPorts g store n s)
 
-abbrev pub groupTo : Group → ℕ → ℕ → ℕ → ℕ → ℕ → Group
+abbrev pub groupTo : (g : Group) (begun gathered oldest origin ack : ℕ) → Group
 groupTo g begun gathered oldest origin ack =
     record {
       spare = g .spare;
@@ -87,5 +87,5 @@ groupTo g begun gathered oldest origin ack =
 unfoldable pub passedGroup : Group → Group
 passedGroup g = groupTo g (g .begun) 1 (epochAfter (g .kind) (g .oldest)) (ringOf (g .origin) (frames (g .kind)) (g .window)) (g .«rs_ack»)
 
-unfoldable pub passedOf : Group → List ℕ → ℕ → List (List ℕ) → List (List ℕ)
+unfoldable pub passedOf : (g : Group) (store : List ℕ) (ports : ℕ) (s : List (List ℕ)) → List (List ℕ)
 passedOf g store n s = putGroup (passedPorts g store n s) (passedGroup g)

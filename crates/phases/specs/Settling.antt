@@ -33,34 +33,34 @@ clearedStep s since =
       bits = s .bits;
     }
 
-unfoldable pub clearedPort : Group → Bool → ℕ → List (List ℕ) → List (List ℕ)
+unfoldable pub clearedPort : (g : Group) (beginning : Bool) (port : ℕ) (s : List (List ℕ)) → List (List ℕ)
 clearedPort g beginning i s = putMarks (putStep s i (clearedStep (stepAt s i) (beginning && inStep g (stepAt s i)))) i (replicate 16 0)
 
-unfoldable pub clearedPorts : Group → Bool → ℕ → List (List ℕ) → List (List ℕ)
+unfoldable pub clearedPorts : (g : Group) (beginning : Bool) (ports : ℕ) (s : List (List ℕ)) → List (List ℕ)
 clearedPorts g beginning zero s = s
 clearedPorts g beginning (suc n) s = clearedPort g beginning n (clearedPorts g beginning n s)
 
 -- 'When no port is readable any more, receiving stops, unreported epochs are dropped'; 'member states and RS-Ack stay'
-unfoldable pub stoppedOf : Group → ℕ → List (List ℕ) → List (List ℕ)
+unfoldable pub stoppedOf : (g : Group) (ports : ℕ) (s : List (List ℕ)) → List (List ℕ)
 stoppedOf g n s = putGroup (clearedPorts g false n s) (groupTo g 0 0 0 (g .origin) (g .«rs_ack»))
 
-unfoldable pub stopBy : Group → ℕ → List (List ℕ) → List (List ℕ)
+unfoldable pub stopBy : (g : Group) (ports : ℕ) (s : List (List ℕ)) → List (List ℕ)
 stopBy g n s = if flagOf (g .begun) && silent g s n then stoppedOf g n s else s
 
 -- 'The next epoch to start after the foremost tag is gathered'
-unfoldable pub begunOf : Group → ℕ → List (List ℕ) → List (List ℕ)
+unfoldable pub begunOf : (g : Group) (ports : ℕ) (s : List (List ℕ)) → List (List ℕ)
 begunOf g n s =
     putGroup (clearedPorts g true n s) (groupTo g 1 0 (epochAfter (g .kind) (epochOf (g .kind) (foremost g s n))) (g .origin) (g .«rs_ack»))
 
-unfoldable pub beginBy : Group → ℕ → List (List ℕ) → List (List ℕ)
+unfoldable pub beginBy : (g : Group) (ports : ℕ) (s : List (List ℕ)) → List (List ℕ)
 beginBy g n s = if not (flagOf (g .begun)) && begins g s n then begunOf g n s else s
 
 -- 'gathered, in the call that makes it due, and not reported'
-unfoldable pub gatherBy : Group → List ℕ → ℕ → List (List ℕ) → List (List ℕ)
+unfoldable pub gatherBy : (g : Group) (store : List ℕ) (ports : ℕ) (s : List (List ℕ)) → List (List ℕ)
 gatherBy g store n s = if flagOf (g .begun) && not (flagOf (g .gathered)) && brought g s n then passedOf g store n s else s
 
 -- each on the state that the one before left
-unfoldable pub settledOf : ℕ → List ℕ → List (List ℕ) → List (List ℕ)
+unfoldable pub settledOf : (ports : ℕ) (store : List ℕ) (s : List (List ℕ)) → List (List ℕ)
 settledOf n store s =
     let a = stopBy (groupAt s) n s in
     let b = beginBy (groupAt a) n a in

@@ -14,7 +14,7 @@ use Rattle.rows.specs.Group.{groupAt}
 use Rattle.step.specs.Arrival.{flagOf}
 
 -- a report is due
-unfoldable pub dueIn : Group → ℕ → List (List ℕ) → Bool
+unfoldable pub dueIn : (g : Group) (ports : ℕ) (s : List (List ℕ)) → Bool
 dueIn g n s = 0 <? n && flagOf (g .begun) && flagOf (g .gathered) && brought g s n
 
 abbrev pub noneDue : Report
@@ -35,13 +35,13 @@ recordOf r =
 
 -- 'A fetch with none due answers 0, says so, and changes nothing.'
 
-unfoldable pub reportIfDue : Group → ℕ → List (List ℕ) → Report
+unfoldable pub reportIfDue : (g : Group) (ports : ℕ) (s : List (List ℕ)) → Report
 reportIfDue g n s = if dueIn g n s then reportOf g (seenAll g s n) n else noneDue
 
-unfoldable pub rowsIfDue : Group → ℕ → List (List ℕ) → List ℕ → List (List ℕ)
+unfoldable pub rowsIfDue : (g : Group) (ports : ℕ) (s : List (List ℕ)) (store : List ℕ) → List (List ℕ)
 rowsIfDue g n s store = if dueIn g n s then reportedOf g store n s else s
 
-unfoldable pub outIfDue : Group → ℕ → List (List ℕ) → List ℕ → List ℕ → List ℕ
+unfoldable pub outIfDue : (g : Group) (ports : ℕ) (s : List (List ℕ)) (store out : List ℕ) → List ℕ
 outIfDue g n s store out = if dueIn g n s then outputOf g (seenAll g s n) n store out else out
 
 module _ (s : List (List ℕ)) (store out report : List ℕ) where

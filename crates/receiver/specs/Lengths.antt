@@ -12,7 +12,7 @@ unfoldable pub rowsFit : ℕ → ℕ → Bool
 rowsFit n rows = n == 0 || rows == rowsFor n
 
 -- 'payload, store .. length'
-unfoldable pub frameFits : Group → ℕ → ℕ → ℕ → ℕ → Bool
+unfoldable pub frameFits : (g : Group) (ports rows payload store : ℕ) → Bool
 frameFits g n rows payload store = rowsFit n rows && payload == g .payload && store == storeFor g n
 
 -- 'The lent output holds at least ports x 16 x P bytes.' Of VC-12 32: an epoch's frames.
@@ -23,6 +23,6 @@ outputFor g n = n * frames (g .kind) * g .payload
 abbrev pub reportBytes : ℕ
 reportBytes = 8
 
-unfoldable pub fetchFits : Group → ℕ → ℕ → ℕ → ℕ → ℕ → Bool
+unfoldable pub fetchFits : (g : Group) (ports rows store out report : ℕ) → Bool
 fetchFits g n rows store out report =
     rowsFit n rows && store == storeFor g n && outputFor g n ≤? out && report == reportBytes

@@ -30,7 +30,7 @@ abbrev pub waitingByte : Member → ℕ
 waitingByte m = if m .elapsed == 0 then 0 else if m .state == okState then 1 else if m .state == failState then 2 else 0
 
 -- eight bytes a port: state, number, in step, joined, readable, flagged failed, the last good word, waiting
-unfoldable pub portShown : Group → Step → Member → List ℕ
+unfoldable pub portShown : (g : Group) (step : Step) (m : Member) → List ℕ
 portShown g step m =
     (m .state)
     ∷ shownNumber (g .kind) m
@@ -42,10 +42,10 @@ portShown g step m =
     ∷ waitingByte m
     ∷ []
 
-unfoldable pub portIn : Group → List (List ℕ) → ℕ → List ℕ
+unfoldable pub portIn : (g : Group) (s : List (List ℕ)) (port : ℕ) → List ℕ
 portIn g s i = portShown g (stepAt s i) (memberAt s i)
 
-unfoldable pub shownFit : ℕ → ℕ → ℕ → Bool
+unfoldable pub shownFit : (ports rows out : ℕ) → Bool
 shownFit n rows out = rowsFit n rows && out == n
 
 unfoldable pub portsAnswer : List (List ℕ) → ℕ → ℕ
@@ -67,11 +67,11 @@ replyOf s e =
     let g = groupAt s in
     replyByte (g .kind) (mstOf (g .kind) (replyPorts g s (portsIn g)) (sizeOf (portsIn g)) e) ∷ replyByte (g .kind) (oneIf (flagOf (g .«rs_ack»))) ∷ []
 
-unfoldable pub replyFit : ℕ → ℕ → ℕ → Bool
+unfoldable pub replyFit : (ports rows out : ℕ) → Bool
 replyFit n rows out = rowsFit n rows && out == 2
 
 unfoldable pub replyAnswer : List (List ℕ) → ℕ → ℕ
 replyAnswer s out = if replyFit (portsIn (groupAt s)) (length s) out then 0 else 9
 
-unfoldable pub replyOut : List (List ℕ) → ℕ → List ℕ → List ℕ
+unfoldable pub replyOut : (s : List (List ℕ)) (epoch : ℕ) (out : List ℕ) → List ℕ
 replyOut s e out = if replyFit (portsIn (groupAt s)) (length s) (length out) then replyOf s e else out

@@ -17,7 +17,7 @@ use Rattle.rows.specs.Rows.{rowsFor}
 use Rattle.rows.specs.Step.{putStep}
 use Rattle.reply.specs.Members.{idleState, noWord}
 
-abbrev pub groupWith : ℕ → ℕ → ℕ → ℕ → Group
+abbrev pub groupWith : (kind count P W : ℕ) → Group
 groupWith kind count P W =
     record {
       spare = replicate 4 0;
@@ -63,7 +63,7 @@ abbrev pub timeOf : List ℕ → ℕ → ℕ
 timeOf counts i = if getD counts i 0 <? timerMost then getD counts i 0 else timerMost
 
 -- no good packet yet, and no timer runs
-abbrev pub freshMember : ℕ → ℕ → ℕ → Member
+abbrev pub freshMember : (kind hold restore : ℕ) → Member
 freshMember kind hold restore =
     record {
       spare = replicate 4 0;
@@ -81,12 +81,12 @@ freshMember kind hold restore =
 abbrev pub zeroRow : List ℕ
 zeroRow = replicate 16 0
 
-unfoldable pub freshPort : ℕ → List ℕ → List ℕ → ℕ → List (List ℕ) → List (List ℕ)
+unfoldable pub freshPort : (kind : ℕ) (hold restore : List ℕ) (port : ℕ) (s : List (List ℕ)) → List (List ℕ)
 freshPort kind hold restore i s =
     putMarks
     (putPackets (putMember (putStep s i freshStep) i (freshMember kind (timeOf hold i) (timeOf restore i))) i (zeroRow ∷ zeroRow ∷ [])) i zeroRow
 
-unfoldable pub freshPorts : ℕ → List ℕ → List ℕ → ℕ → List (List ℕ) → List (List ℕ)
+unfoldable pub freshPorts : (kind : ℕ) (hold restore : List ℕ) (ports : ℕ) (s : List (List ℕ)) → List (List ℕ)
 freshPorts kind hold restore zero s = s
 freshPorts kind hold restore (suc n) s = freshPort kind hold restore n (freshPorts kind hold restore n s)
 
@@ -98,34 +98,34 @@ timesWithin counts = every (length counts) (λ i. getD counts i 0 ≤? timerMost
 abbrev pub listFits : List ℕ → ℕ → Bool
 listFits counts ports = length counts == 0 || length counts == ports
 
-unfoldable pub startFits : ℕ → ℕ → ℕ → ℕ → ℕ → Bool
+unfoldable pub startFits : (count P W store rows : ℕ) → Bool
 startFits count P W store rows = rows == rowsFor count && store == count * W * (P + 1)
 
-unfoldable pub sizedFits : ℕ → ℕ → ℕ → ℕ → List ℕ → List ℕ → ℕ → Bool
+unfoldable pub sizedFits : (count P W store : ℕ) (hold restore : List ℕ) (rows : ℕ) → Bool
 sizedFits count P W store hold restore rows = listFits hold count && listFits restore count && startFits count P W store rows
 
-unfoldable pub sizedAnswer : ℕ → ℕ → ℕ → ℕ → List ℕ → List ℕ → ℕ → ℕ
+unfoldable pub sizedAnswer : (count P W store : ℕ) (hold restore : List ℕ) (rows : ℕ) → ℕ
 sizedAnswer count P W store hold restore rows = if sizedFits count P W store hold restore rows then 0 else 9
 
-unfoldable pub sizedRows : ℕ → ℕ → ℕ → ℕ → ℕ → List ℕ → List ℕ → List (List ℕ) → List (List ℕ)
+unfoldable pub sizedRows : (kind count P W store : ℕ) (hold restore : List ℕ) (s : List (List ℕ)) → List (List ℕ)
 sizedRows kind count P W store hold restore s =
     if sizedFits count P W store hold restore (length s) then putGroup (freshPorts kind hold restore count s) (groupWith kind count P W) else s
 
-unfoldable pub startRight : ℕ → ℕ → ℕ → ℕ → List ℕ → List ℕ → Bool
+unfoldable pub startRight : (kind count P W : ℕ) (hold restore : List ℕ) → Bool
 startRight kind count P W hold restore = timesWithin hold && timesWithin restore && startSized kind count P W
 
 -- A start with a hold-off and a wait-to-restore for each port.
-unfoldable pub startAsAnswer : ℕ → ℕ → ℕ → ℕ → ℕ → List ℕ → List ℕ → ℕ → ℕ
+unfoldable pub startAsAnswer : (kind count P W store : ℕ) (hold restore : List ℕ) (rows : ℕ) → ℕ
 startAsAnswer kind count P W store hold restore rows =
     if startRight kind count P W hold restore then sizedAnswer count P W store hold restore rows else 4
 
-unfoldable pub startAsRows : ℕ → ℕ → ℕ → ℕ → ℕ → List ℕ → List ℕ → List (List ℕ) → List (List ℕ)
+unfoldable pub startAsRows : (kind count P W store : ℕ) (hold restore : List ℕ) (s : List (List ℕ)) → List (List ℕ)
 startAsRows kind count P W store hold restore s =
     if startRight kind count P W hold restore then sizedRows kind count P W store hold restore s else putGroup s (emptyGroup kind)
 
 -- A start with none.
-abbrev pub startAnswer : ℕ → ℕ → ℕ → ℕ → ℕ → ℕ → ℕ
+abbrev pub startAnswer : (kind count P W store rows : ℕ) → ℕ
 startAnswer kind count P W store rows = startAsAnswer kind count P W store [] [] rows
 
-abbrev pub startRows : ℕ → ℕ → ℕ → ℕ → ℕ → List (List ℕ) → List (List ℕ)
+abbrev pub startRows : (kind count P W store : ℕ) (s : List (List ℕ)) → List (List ℕ)
 startRows kind count P W store s = startAsRows kind count P W store [] [] s

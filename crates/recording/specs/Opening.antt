@@ -39,7 +39,7 @@ handed Unfinished = noSettings F.Unfinished
 handed End = noSettings F.End
 
 -- the pairs are whole where a name might follow
-abbrev pub openedBy : Awaited → S.Settings → ℕ → Opening
+abbrev pub openedBy : (awaited : Awaited) (s : S.Settings) (next : ℕ) → Opening
 openedBy Name s next = Settings s next
 openedBy Kind s next = Malformed
 openedBy (HoldOff i) s next = Malformed
@@ -49,7 +49,7 @@ openedBy A.Nothing s next = Malformed
 unfoldable pub opened : Pairs → ℕ → Opening
 opened p next = openedBy (p .awaited) (p .settings) next
 
-unfoldable pub settingsBy : Number → Number → Number → List (List ℕ) → ℕ → Opening
+unfoldable pub settingsBy : (ports size window : Number) (pairs : List (List ℕ)) (next : ℕ) → Opening
 settingsBy (Value ports) (Value size) (Value window) pairs next = opened (pairsFrom (firstPairs ports size window) pairs) next
 settingsBy (Value ports) (Value size) Unreadable pairs next = Malformed
 settingsBy (Value ports) Unreadable window pairs next = Malformed
@@ -66,11 +66,11 @@ unfoldable pub lineOpening : ℕ → List ℕ → Opening
 lineOpening next line = if length line ≤? MOST then openingBy next (fieldsOf line) else Malformed
 
 -- what is left of a text from a place on; its last line may lack its end
-abbrev pub openingFound : ℕ → Bool → List ℕ → Found → Opening
+abbrev pub openingFound : (at : ℕ) (last : Bool) (rest : List ℕ) (found : Found) → Opening
 openingFound at last rest Nothing = End
 openingFound at last rest Open = if last then lineOpening (at + length rest) rest else Unfinished
 openingFound at last rest TooLong = Malformed
 openingFound at last rest (Ends end) = lineOpening (end + 1) (firstLine rest)
 
-unfoldable pub openingIn : ℕ → Bool → List ℕ → Opening
+unfoldable pub openingIn : (at : ℕ) (last : Bool) (rest : List ℕ) → Opening
 openingIn at last rest = openingFound at last rest (foundOf at rest)

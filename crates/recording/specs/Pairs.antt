@@ -16,10 +16,10 @@ use Rattle.text.specs.Ascii.{ascii}
 use Rattle.text.specs.Fields.{numberOf, sameBytes}
 
 -- a group with no pair: H4, and no time for any port
-abbrev pub plainSettings : ℕ → ℕ → ℕ → Settings
+abbrev pub plainSettings : (ports size window : ℕ) → Settings
 plainSettings ports size window = record { «hold_off» = replicate 64 0; restore = replicate 64 0; kind = 0; ports = ports; size = size; window = window }
 
-abbrev pub firstPairs : ℕ → ℕ → ℕ → Pairs
+abbrev pub firstPairs : (ports size window : ℕ) → Pairs
 firstPairs ports size window = record { settings = plainSettings ports size window; awaited = Name; «has_kind» = false; «has_hold_off» = false; «has_restore» = false }
 
 -- another field is awaited
@@ -58,7 +58,7 @@ named p field =
 
 -- what it says
 
-abbrev pub settingsTo : Settings → Awaited → Pairs → Pairs
+abbrev pub settingsTo : (s : Settings) (a : Awaited) (p : Pairs) → Pairs
 settingsTo s a p = record { settings = s; awaited = a; «has_kind» = p .«has_kind»; «has_hold_off» = p .«has_hold_off»; «has_restore» = p .«has_restore» }
 
 abbrev pub withHold : Settings → List ℕ → Settings
@@ -71,7 +71,7 @@ abbrev pub withKind : Settings → ℕ → Settings
 withKind s kind = record { «hold_off» = s .«hold_off»; restore = s .restore; kind = kind; ports = s .ports; size = s .size; window = s .window }
 
 -- of a group with more than 64 ports, which no receiver has, the numbers of the first 64 are kept
-abbrev pub countPut : List ℕ → ℕ → ℕ → List ℕ
+abbrev pub countPut : (counts : List ℕ) (port n : ℕ) → List ℕ
 countPut counts i n = if i <? 64 then set counts i n else counts
 
 abbrev pub kindTo : Pairs → ℕ → Pairs
@@ -84,16 +84,16 @@ kindRead p field =
     else if sameBytes field (ascii "VC12") then kindTo p vc12Kind
     else wrongField p
 
-unfoldable pub holdRead : Pairs → ℕ → Number → Pairs
+unfoldable pub holdRead : (p : Pairs) (port : ℕ) (number : Number) → Pairs
 holdRead p i (Value n) = settingsTo (withHold (p .settings) (countPut (p .settings .«hold_off») i n)) (holdFrom (p .settings .ports) (i + 1)) p
 holdRead p i Unreadable = wrongField p
 
-unfoldable pub restoreRead : Pairs → ℕ → Number → Pairs
+unfoldable pub restoreRead : (p : Pairs) (port : ℕ) (number : Number) → Pairs
 restoreRead p i (Value n) = settingsTo (withRestore (p .settings) (countPut (p .settings .restore) i n)) (restoreFrom (p .settings .ports) (i + 1)) p
 restoreRead p i Unreadable = wrongField p
 
 -- one field
-abbrev pub fieldBy : Awaited → Pairs → List ℕ → Pairs
+abbrev pub fieldBy : (awaited : Awaited) (p : Pairs) (field : List ℕ) → Pairs
 fieldBy Name p field = named p field
 fieldBy Kind p field = kindRead p field
 fieldBy (HoldOff i) p field = holdRead p i (numberOf 9 field)

@@ -20,14 +20,14 @@ unfoldable pub flagIn : List ℕ → ℕ
 flagIn field = if sameBytes field (ascii "0") then 0 else if sameBytes field (ascii "1") then 1 else 2
 
 -- a port below the count, an H4 byte, a flag and the payload of P bytes
-unfoldable pub frameBy : ℕ → Number → Number → ℕ → Bool → ℕ → ℕ → Record
+unfoldable pub frameBy : (ports : ℕ) (port h4 : Number) (flag : ℕ) (payload : Bool) (place next : ℕ) → Record
 frameBy ports (Value port) (Value h4) flag payload place next =
     if port <? ports && h4 <? 256 && flag <? 2 && payload then Frame port h4 flag place next else Malformed next
 frameBy ports (Value port) Unreadable flag payload place next = Malformed next
 frameBy ports Unreadable h4 flag payload place next = Malformed next
 
 -- four fields, the last of which ends at a place
-abbrev pub recordBy : ℕ → ℕ → ℕ → ℕ → List (List ℕ) → Record
+abbrev pub recordBy : (ports size end next : ℕ) (fields : List (List ℕ)) → Record
 recordBy ports size end next [] = Malformed next
 recordBy ports size end next (a ∷ []) = Malformed next
 recordBy ports size end next (a ∷ b ∷ []) = Malformed next
@@ -37,19 +37,19 @@ recordBy ports size end next (port ∷ h4 ∷ flag ∷ payload ∷ []) =
 recordBy ports size end next (a ∷ b ∷ c ∷ d ∷ e ∷ rest) = Malformed next
 
 -- a line that begins at a place, and the place of the next one
-unfoldable pub lineRecord : ℕ → ℕ → ℕ → ℕ → List ℕ → Record
+unfoldable pub lineRecord : (ports size at next : ℕ) (line : List ℕ) → Record
 lineRecord ports size at next line = if length line ≤? MOST then recordBy ports size (at + length line) next (fieldsOf line) else Malformed next
 
 -- what is left of a text from a place on, by its first line's end
-abbrev pub recordFound : ℕ → ℕ → ℕ → List ℕ → Found → Record
+abbrev pub recordFound : (ports size at : ℕ) (rest : List ℕ) (found : Found) → Record
 recordFound ports size at rest Nothing = End
 recordFound ports size at rest Open = Unfinished
 recordFound ports size at rest TooLong = Long
 recordFound ports size at rest (Ends end) = lineRecord ports size at (end + 1) (firstLine rest)
 
-unfoldable pub recordIn : ℕ → ℕ → ℕ → List ℕ → Record
+unfoldable pub recordIn : (ports size at : ℕ) (rest : List ℕ) → Record
 recordIn ports size at rest = recordFound ports size at rest (foundOf at rest)
 
 -- a last line that lacks its end
-unfoldable pub lastRecord : ℕ → ℕ → ℕ → List ℕ → Record
+unfoldable pub lastRecord : (ports size at : ℕ) (rest : List ℕ) → Record
 lastRecord ports size at rest = if length rest == 0 then End else lineRecord ports size at (at + length rest) rest

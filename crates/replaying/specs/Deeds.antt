@@ -13,11 +13,11 @@ use Rattle.replaying.specs.Turn.{turnOf}
 use Rattle.text.specs.Text.{LINE-END}
 
 -- a host that begins
-abbrev pub beginsWith : List (List ℕ) → List ℕ → List ℕ → List ℕ → Host
+abbrev pub beginsWith : (rows : List (List ℕ)) (store out buffer : List ℕ) → Host
 beginsWith rows store out buffer = record { replay = beginning; rows = rows; store = store; out = out; buffer = buffer; text = []; said = [] }
 
 -- a call wants more text, at the latest after so many others
-unfoldable pub wantsWithin : ℕ → Bool → Host → Bool
+unfoldable pub wantsWithin : (n : ℕ) (last : Bool) (h : Host) → Bool
 wantsWithin zero last h = answer last h .wants
 wantsWithin (suc n) last h = answer last h .wants || wantsWithin n last (called last h)
 
@@ -30,7 +30,7 @@ stage Skipping left = 0
 stage Ended left = 0
 
 -- W is at most 2,048: a frame, so many fetches, and one that gives nothing
-abbrev pub weight : ℕ → Phase → ℕ → ℕ
+abbrev pub weight : (bytes : ℕ) (phase : Phase) (left : ℕ) → ℕ
 weight bytes phase left = 2050 * bytes + stage phase left
 
 abbrev pub turnsLeft : Host → ℕ

@@ -22,15 +22,15 @@ stateText state = if state == 0 then ascii "IDLE" else if state == 1 then ascii 
 unfoldable pub answerText : ℕ → ℕ → List ℕ
 answerText number line = ended (ascii "answer") TAB ++ ended (decimalText number) TAB ++ ended (ascii "line") TAB ++ ended (numberText line) LINE-END
 
-unfoldable pub epochText : ℕ → ℕ → ℕ → ℕ → List ℕ
+unfoldable pub epochText : (epoch mark bytes line : ℕ) → List ℕ
 epochText epoch mark bytes line =
     ended (ascii "epoch") TAB ++ ended (decimalText epoch) TAB ++ ended (markText mark) TAB ++ ended (ascii "bytes") TAB ++ ended (numberText bytes) TAB ++ ended (ascii "line") TAB ++ ended (numberText line) LINE-END
 
-unfoldable pub portText : ℕ → ℕ → ℕ → List ℕ
+unfoldable pub portText : (port state number : ℕ) → List ℕ
 portText port state number = ended (ascii "port") TAB ++ ended (decimalText port) TAB ++ ended (stateText state) TAB ++ ended (decimalText number) LINE-END
 
 -- a port's member state and its number, as one
-unfoldable pub stateAt : ℕ → List (List ℕ) → ℕ → ℕ
+unfoldable pub stateAt : (kind : ℕ) (rows : List (List ℕ)) (port : ℕ) → ℕ
 stateAt kind rows i = memberAt rows i .state * 256 + shownNumber kind (memberAt rows i)
 
 unfoldable pub statesIn : ℕ → List (List ℕ) → List ℕ
@@ -40,11 +40,11 @@ unfoldable pub stateLine : ℕ → ℕ → List ℕ
 stateLine port state = portText port (state / 256) (state % 256)
 
 -- nothing for a port whose state stayed
-abbrev pub changeText : ℕ → ℕ → ℕ → List ℕ
+abbrev pub changeText : (port old new : ℕ) → List ℕ
 changeText port old new = if old == new then [] else stateLine port new
 
 -- a line for each of the first n ports whose state is another, in order
-abbrev pub changesText : List ℕ → List ℕ → ℕ → List ℕ
+abbrev pub changesText : (before after : List ℕ) (n : ℕ) → List ℕ
 changesText before after zero = []
 changesText before after (suc n) = changesText before after n ++ changeText n (getD before n 0) (getD after n 0)
 
@@ -53,7 +53,7 @@ unfoldable pub countIn : List ℕ → ℕ
 countIn rec = getD rec 4 0 * 16777216 + getD rec 5 0 * 65536 + getD rec 6 0 * 256 + getD rec 7 0
 
 -- a report, and then the states that it changed
-unfoldable pub reportText : List ℕ → ℕ → List ℕ → List ℕ → ℕ → List ℕ
+unfoldable pub reportText : (rec : List ℕ) (line : ℕ) (before after : List ℕ) (ports : ℕ) → List ℕ
 reportText rec line before after ports = epochText (getD rec 1 0) (getD rec 0 0) (countIn rec) line ++ changesText before after ports
 
 -- room for what one call writes: a report of at most 72 bytes and 64 ports of at most 17

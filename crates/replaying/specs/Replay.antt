@@ -13,10 +13,10 @@ abbrev pub nextLine : ℕ → ℕ
 nextLine n = (n + 1) % 18446744073709551616
 
 -- 'The lent store is exactly ports x W x (P+1) bytes', 'at least ports x 16 x P bytes' of output; of VC-12 (2026-01) ports x 32 x P
-abbrev pub storeOf : ℕ → ℕ → ℕ → ℕ
+abbrev pub storeOf : (ports size window : ℕ) → ℕ
 storeOf ports size window = ports * window * (size + 1)
 
-abbrev pub outputOf : ℕ → ℕ → ℕ → ℕ
+abbrev pub outputOf : (kind ports size : ℕ) → ℕ
 outputOf kind ports size = ports * frames kind * size
 
 -- 'a store above 65,536 bytes in the program'

@@ -67,7 +67,7 @@ module _ (out : List ℕ) where
   openingText d O.End = []
 
   -- a frame handed to the receiver
-  abbrev pub framed : Desk → List ℕ → ℕ → ℕ → ℕ → ℕ → Desk
+  abbrev pub framed : (d : Desk) (line : List ℕ) (port h4 flag place : ℕ) → Desk
   framed d line port h4 flag place =
       record {
         replay = within (d .replay) Reading (nextLine (d .replay .line)) 0;
@@ -76,14 +76,14 @@ module _ (out : List ℕ) where
       }
 
   -- a line: its frame once, then reports until none is due
-  abbrev pub readBy : Desk → List ℕ → Record → Desk
+  abbrev pub readBy : (d : Desk) (line : List ℕ) (read : Record) → Desk
   readBy d line (Frame port h4 flag place next) = reported (d .replay .window) (framed d line port h4 flag place)
   readBy d line (Malformed next) = standing d Reading
   readBy d line Long = standing d Reading
   readBy d line Unfinished = d
   readBy d line End = d
 
-  abbrev pub readText : Desk → List ℕ → Record → List ℕ
+  abbrev pub readText : (d : Desk) (line : List ℕ) (read : Record) → List ℕ
   readText d line (Frame port h4 flag place next) = reports (d .replay .window) (framed d line port h4 flag place)
   readText d line (Malformed next) = refusal d 13
   readText d line Long = refusal d 13
@@ -94,14 +94,14 @@ module _ (out : List ℕ) where
   lineIn d line = lineRecord (d .replay .ports) (d .replay .size) 0 0 line
 
   -- by the phase; between two lines nothing is fetched or skipped
-  abbrev pub deskBy : Phase → Desk → List ℕ → Desk
+  abbrev pub deskBy : (phase : Phase) (d : Desk) (line : List ℕ) → Desk
   deskBy Settings d line = openedBy d (lineOpening 0 line)
   deskBy Reading d line = readBy d line (lineIn d line)
   deskBy Fetching d line = d
   deskBy Skipping d line = d
   deskBy Ended d line = d
 
-  abbrev pub textBy : Phase → Desk → List ℕ → List ℕ
+  abbrev pub textBy : (phase : Phase) (d : Desk) (line : List ℕ) → List ℕ
   textBy Settings d line = openingText d (lineOpening 0 line)
   textBy Reading d line = readText d line (lineIn d line)
   textBy Fetching d line = []
@@ -124,7 +124,7 @@ module _ (out : List ℕ) where
   deskThrough d (l ∷ ls) = deskThrough (deskAfter d l) ls
 
   -- 'in the order they arise': the whole output of a recording, over the rows and the store that are lent
-  unfoldable pub wholeOutput : List (List ℕ) → List ℕ → List ℕ → List ℕ
+  unfoldable pub wholeOutput : (rows : List (List ℕ)) (store recording : List ℕ) → List ℕ
   wholeOutput rows store recording = outputFrom (record { replay = beginning; rows = rows; store = store }) (linesOf recording)
 
 -- a host: the replay, what it lends to each call, the text that is not used yet and what it has written
@@ -158,6 +158,6 @@ module _ (last : Bool) (h : Host) where
       }
 
 -- calls until one wants more text, at most n of them
-unfoldable pub calls : ℕ → Bool → Host → Host
+unfoldable pub calls : (n : ℕ) (last : Bool) (h : Host) → Host
 calls zero last h = h
 calls (suc n) last h = if answer last h .wants then called last h else calls n last (called last h)

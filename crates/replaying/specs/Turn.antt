@@ -32,10 +32,10 @@ abbrev pub over : List ℕ → List ℕ → List ℕ
 over text out = text ++ drop (length text) out
 
 -- in another phase, with so many lines and fetches
-abbrev pub within : Replay → Phase → ℕ → ℕ → Replay
+abbrev pub within : (r : Replay) (phase : Phase) (line left : ℕ) → Replay
 within r phase line left = record { phase = phase; line = line; left = left; kind = r .kind; ports = r .ports; size = r .size; window = r .window }
 
-abbrev pub turned : Replay → ℕ → ℕ → Bool → Replayed
+abbrev pub turned : (r : Replay) (used written : ℕ) (wants : Bool) → Replayed
 turned r used written wants = record { replay = r; answer = 0; used = used; written = written; wants = wants }
 
 -- 9: what is lent is too short, and nothing is done
@@ -47,10 +47,10 @@ abbrev pub waitingTurn : Replay → Replayed
 waitingTurn r = turned r 0 0 true
 
 -- a line refused: it 'is printed with its line number'
-unfoldable pub answeredTurn : Replay → Phase → ℕ → ℕ → Replayed
+unfoldable pub answeredTurn : (r : Replay) (phase : Phase) (number used : ℕ) → Replayed
 answeredTurn r phase number used = turned (within r phase (nextLine (r .line)) 0) used (length (answerText number (nextLine (r .line)))) false
 
-unfoldable pub answeredSaid : Replay → ℕ → List ℕ → List ℕ
+unfoldable pub answeredSaid : (r : Replay) (number : ℕ) (said : List ℕ) → List ℕ
 answeredSaid r number said = over (answerText number (nextLine (r .line))) said
 
 -- What is lent holds zeros when a group starts: a replay does not go by what lay there before.
@@ -87,35 +87,35 @@ startable s store = isSized s && timesFit s && storeIn s ≤? store
 unfoldable pub startedRows : GroupSettings → List (List ℕ) → List (List ℕ)
 startedRows s rows = startAsRows (s .kind) (s .ports) (s .size) (s .window) (storeIn s) (holdOffs s) (restores s) rows
 
-abbrev pub startedTurn : Replay → GroupSettings → ℕ → Replayed
+abbrev pub startedTurn : (r : Replay) (s : GroupSettings) (next : ℕ) → Replayed
 startedTurn r s next =
     turned (record { phase = Reading; line = nextLine (r .line); left = 0; kind = s .kind; ports = s .ports; size = s .size; window = s .window }) next 0 false
 
 abbrev pub rowsStarted : GroupSettings → List (List ℕ) → List (List ℕ)
 rowsStarted s rows = startedRows s (take (rowsFor (s .ports)) (clearedRows rows)) ++ drop (rowsFor (s .ports)) (clearedRows rows)
 
-unfoldable pub openWithTurn : Replay → GroupSettings → ℕ → ℕ → Replayed
+unfoldable pub openWithTurn : (r : Replay) (s : GroupSettings) (next store : ℕ) → Replayed
 openWithTurn r s next store = if startable s store then startedTurn r s next else answeredTurn r Ended 4 0
 
-unfoldable pub openWithRows : GroupSettings → ℕ → List (List ℕ) → List (List ℕ)
+unfoldable pub openWithRows : (s : GroupSettings) (store : ℕ) (rows : List (List ℕ)) → List (List ℕ)
 openWithRows s store rows = if startable s store then rowsStarted s rows else rows
 
-unfoldable pub openWithSaid : Replay → GroupSettings → ℕ → List ℕ → List ℕ
+unfoldable pub openWithSaid : (r : Replay) (s : GroupSettings) (store : ℕ) (said : List ℕ) → List ℕ
 openWithSaid r s store said = if startable s store then said else answeredSaid r 4 said
 
-abbrev pub openTurnBy : Replay → ℕ → Opening → Replayed
+abbrev pub openTurnBy : (r : Replay) (store : ℕ) (opening : Opening) → Replayed
 openTurnBy r store (O.Settings s next) = openWithTurn r s next store
 openTurnBy r store O.Malformed = answeredTurn r Ended 13 0
 openTurnBy r store O.Unfinished = waitingTurn r
 openTurnBy r store O.End = waitingTurn r
 
-abbrev pub openRowsBy : ℕ → List (List ℕ) → Opening → List (List ℕ)
+abbrev pub openRowsBy : (store : ℕ) (rows : List (List ℕ)) (opening : Opening) → List (List ℕ)
 openRowsBy store rows (O.Settings s next) = openWithRows s store rows
 openRowsBy store rows O.Malformed = rows
 openRowsBy store rows O.Unfinished = rows
 openRowsBy store rows O.End = rows
 
-abbrev pub openSaidBy : Replay → ℕ → List ℕ → Opening → List ℕ
+abbrev pub openSaidBy : (r : Replay) (store : ℕ) (said : List ℕ) (opening : Opening) → List ℕ
 openSaidBy r store said (O.Settings s next) = openWithSaid r s store said
 openSaidBy r store said O.Malformed = answeredSaid r 13 said
 openSaidBy r store said O.Unfinished = said
@@ -125,13 +125,13 @@ openSaidBy r store said O.End = said
 abbrev pub openLent : ℕ → ℕ → Bool
 openLent rows said = ROOM ≤? said && 321 ≤? rows
 
-unfoldable pub openTurn : Replay → List ℕ → Bool → ℕ → ℕ → ℕ → Replayed
+unfoldable pub openTurn : (r : Replay) (text : List ℕ) (last : Bool) (rows store said : ℕ) → Replayed
 openTurn r text last rows store said = if openLent rows said then openTurnBy r store (openingIn 0 last text) else refusedTurn r
 
-unfoldable pub openRows : List ℕ → Bool → List (List ℕ) → ℕ → ℕ → List (List ℕ)
+unfoldable pub openRows : (text : List ℕ) (last : Bool) (rows : List (List ℕ)) (store said : ℕ) → List (List ℕ)
 openRows text last rows store said = if openLent (length rows) said then openRowsBy store rows (openingIn 0 last text) else rows
 
-unfoldable pub openSaid : Replay → List ℕ → Bool → ℕ → ℕ → List ℕ → List ℕ
+unfoldable pub openSaid : (r : Replay) (text : List ℕ) (last : Bool) (rows store : ℕ) (said : List ℕ) → List ℕ
 openSaid r text last rows store said = if openLent rows (length said) then openSaidBy r store said (openingIn 0 last text) else said
 
 -- lines are read next where a group has started
@@ -144,7 +144,7 @@ storeBy Ended store = store
 
 -- a line
 
-unfoldable pub isLent : Replay → ℕ → ℕ → ℕ → ℕ → Bool
+unfoldable pub isLent : (r : Replay) (rows store out said : ℕ) → Bool
 isLent r rows store out said =
     ROOM ≤? said && r .ports ≤? 64 && r .size ≤? 2340 && rowsFor (r .ports) ≤? rows && storeOf (r .ports) (r .size) (r .window) ≤? store && outputOf (r .kind) (r .ports) (r .size) ≤? out
 
@@ -156,11 +156,11 @@ isOpen Unfinished = true
 isOpen End = false
 
 -- the record at the beginning of a text; the last line may lack its end
-unfoldable pub recordNow : ℕ → ℕ → Bool → List ℕ → Record
+unfoldable pub recordNow : (ports size : ℕ) (last : Bool) (text : List ℕ) → Record
 recordNow ports size last text = if isOpen (recordIn ports size 0 text) && last then lastRecord ports size 0 text else recordIn ports size 0 text
 
 -- the payload's digits as bytes
-unfoldable pub payloadAt : ℕ → ℕ → List ℕ → List ℕ
+unfoldable pub payloadAt : (size place : ℕ) (text : List ℕ) → List ℕ
 payloadAt size place text = bytesIn (slice place (place + size + size) text) (replicate size 0)
 
 -- the frame handed to the receiver, on the parts of rows and store that are its own
@@ -187,14 +187,14 @@ module _ (r : Replay) (text : List ℕ) where
   readBy Unfinished = waitingTurn r
   readBy End = waitingTurn r
 
-  abbrev pub readRowsBy : List (List ℕ) → List ℕ → Record → List (List ℕ)
+  abbrev pub readRowsBy : (rows : List (List ℕ)) (store : List ℕ) (read : Record) → List (List ℕ)
   readRowsBy rows store (Frame port h4 flag place next) = framedRows r port h4 flag (payloadAt (r .size) place text) rows store
   readRowsBy rows store (Malformed next) = rows
   readRowsBy rows store Long = rows
   readRowsBy rows store Unfinished = rows
   readRowsBy rows store End = rows
 
-  abbrev pub readStoreBy : List (List ℕ) → List ℕ → Record → List ℕ
+  abbrev pub readStoreBy : (rows : List (List ℕ)) (store : List ℕ) (read : Record) → List ℕ
   readStoreBy rows store (Frame port h4 flag place next) = framedStore r port h4 flag (payloadAt (r .size) place text) rows store
   readStoreBy rows store (Malformed next) = store
   readStoreBy rows store Long = store
@@ -208,19 +208,21 @@ module _ (r : Replay) (text : List ℕ) where
   readSaidBy said Unfinished = said
   readSaidBy said End = said
 
-abbrev pub nowIn : Replay → List ℕ → Bool → Record
+abbrev pub nowIn : (r : Replay) (text : List ℕ) (last : Bool) → Record
 nowIn r text last = recordNow (r .ports) (r .size) last text
 
-unfoldable pub readTurn : Replay → List ℕ → Bool → ℕ → ℕ → ℕ → ℕ → Replayed
+unfoldable pub readTurn : (r : Replay) (text : List ℕ) (last : Bool) (rows store out said : ℕ) → Replayed
 readTurn r text last rows store out said = if isLent r rows store out said then readBy r text (nowIn r text last) else refusedTurn r
 
-unfoldable pub readRows : Replay → List ℕ → Bool → List (List ℕ) → List ℕ → ℕ → ℕ → List (List ℕ)
+unfoldable pub readRows :
+    (r : Replay) (text : List ℕ) (last : Bool) (rows : List (List ℕ)) (store : List ℕ) (out said : ℕ) → List (List ℕ)
 readRows r text last rows store out said = if isLent r (length rows) (length store) out said then readRowsBy r text rows store (nowIn r text last) else rows
 
-unfoldable pub readStore : Replay → List ℕ → Bool → List (List ℕ) → List ℕ → ℕ → ℕ → List ℕ
+unfoldable pub readStore :
+    (r : Replay) (text : List ℕ) (last : Bool) (rows : List (List ℕ)) (store : List ℕ) (out said : ℕ) → List ℕ
 readStore r text last rows store out said = if isLent r (length rows) (length store) out said then readStoreBy r text rows store (nowIn r text last) else store
 
-unfoldable pub readSaid : Replay → List ℕ → Bool → ℕ → ℕ → ℕ → List ℕ → List ℕ
+unfoldable pub readSaid : (r : Replay) (text : List ℕ) (last : Bool) (rows store out : ℕ) (said : List ℕ) → List ℕ
 readSaid r text last rows store out said = if isLent r rows store out (length said) then readSaidBy r text said (nowIn r text last) else said
 
 -- a report
@@ -281,7 +283,7 @@ module _ (r : Replay) (rows : List (List ℕ)) (store out : List ℕ) where
 abbrev pub skippedTo : Bool → Phase
 skippedTo last = if last then Reading else Skipping
 
-unfoldable pub skipTurn : Replay → List ℕ → Bool → Replayed
+unfoldable pub skipTurn : (r : Replay) (text : List ℕ) (last : Bool) → Replayed
 skipTurn r text last =
     if indexOf LINE-END text <? length text then turned (within r Reading (r .line) 0) (indexOf LINE-END text + 1) 0 false
     else turned (within r (skippedTo last) (r .line) 0) (length text) 0 true
@@ -292,52 +294,63 @@ endedTurn r text = turned r text 0 true
 
 -- by the phase
 
-abbrev pub turnBy : Phase → Replay → List ℕ → Bool → List (List ℕ) → List ℕ → List ℕ → ℕ → Replayed
+abbrev pub turnBy :
+    (phase : Phase) (r : Replay) (text : List ℕ) (last : Bool) (rows : List (List ℕ)) (store out : List ℕ) (said : ℕ)
+    → Replayed
 turnBy Settings r text last rows store out said = openTurn r text last (length rows) (length store) said
 turnBy Reading r text last rows store out said = readTurn r text last (length rows) (length store) (length out) said
 turnBy Fetching r text last rows store out said = reportTurn r rows store out said
 turnBy Skipping r text last rows store out said = skipTurn r text last
 turnBy Ended r text last rows store out said = endedTurn r (length text)
 
-abbrev pub turnRowsBy : Phase → Replay → List ℕ → Bool → List (List ℕ) → List ℕ → List ℕ → ℕ → List (List ℕ)
+abbrev pub turnRowsBy :
+    (phase : Phase) (r : Replay) (text : List ℕ) (last : Bool) (rows : List (List ℕ)) (store out : List ℕ) (said : ℕ)
+    → List (List ℕ)
 turnRowsBy Settings r text last rows store out said = openRows text last rows (length store) said
 turnRowsBy Reading r text last rows store out said = readRows r text last rows store (length out) said
 turnRowsBy Fetching r text last rows store out said = reportRows r rows store out said
 turnRowsBy Skipping r text last rows store out said = rows
 turnRowsBy Ended r text last rows store out said = rows
 
-abbrev pub turnStoreBy : Phase → Replay → List ℕ → Bool → List (List ℕ) → List ℕ → List ℕ → ℕ → List ℕ
+abbrev pub turnStoreBy :
+    (phase : Phase) (r : Replay) (text : List ℕ) (last : Bool) (rows : List (List ℕ)) (store out : List ℕ) (said : ℕ)
+    → List ℕ
 turnStoreBy Settings r text last rows store out said = storeBy (openTurn r text last (length rows) (length store) said .replay .phase) store
 turnStoreBy Reading r text last rows store out said = readStore r text last rows store (length out) said
 turnStoreBy Fetching r text last rows store out said = store
 turnStoreBy Skipping r text last rows store out said = store
 turnStoreBy Ended r text last rows store out said = store
 
-abbrev pub turnOutBy : Phase → Replay → List (List ℕ) → List ℕ → List ℕ → ℕ → List ℕ
+abbrev pub turnOutBy : (phase : Phase) (r : Replay) (rows : List (List ℕ)) (store out : List ℕ) (said : ℕ) → List ℕ
 turnOutBy Settings r rows store out said = out
 turnOutBy Reading r rows store out said = out
 turnOutBy Fetching r rows store out said = reportOut r rows store out said
 turnOutBy Skipping r rows store out said = out
 turnOutBy Ended r rows store out said = out
 
-abbrev pub turnSaidBy : Phase → Replay → List ℕ → Bool → List (List ℕ) → List ℕ → List ℕ → List ℕ → List ℕ
+abbrev pub turnSaidBy :
+    (phase : Phase) (r : Replay) (text : List ℕ) (last : Bool) (rows : List (List ℕ)) (store out said : List ℕ) → List ℕ
 turnSaidBy Settings r text last rows store out said = openSaid r text last (length rows) (length store) said
 turnSaidBy Reading r text last rows store out said = readSaid r text last (length rows) (length store) (length out) said
 turnSaidBy Fetching r text last rows store out said = reportSaid r rows store out said
 turnSaidBy Skipping r text last rows store out said = said
 turnSaidBy Ended r text last rows store out said = said
 
-unfoldable pub turnOf : Replay → List ℕ → Bool → List (List ℕ) → List ℕ → List ℕ → ℕ → Replayed
+unfoldable pub turnOf :
+    (r : Replay) (text : List ℕ) (last : Bool) (rows : List (List ℕ)) (store out : List ℕ) (said : ℕ) → Replayed
 turnOf r text last rows store out said = turnBy (r .phase) r text last rows store out said
 
-unfoldable pub turnRows : Replay → List ℕ → Bool → List (List ℕ) → List ℕ → List ℕ → ℕ → List (List ℕ)
+unfoldable pub turnRows :
+    (r : Replay) (text : List ℕ) (last : Bool) (rows : List (List ℕ)) (store out : List ℕ) (said : ℕ) → List (List ℕ)
 turnRows r text last rows store out said = turnRowsBy (r .phase) r text last rows store out said
 
-unfoldable pub turnStore : Replay → List ℕ → Bool → List (List ℕ) → List ℕ → List ℕ → ℕ → List ℕ
+unfoldable pub turnStore :
+    (r : Replay) (text : List ℕ) (last : Bool) (rows : List (List ℕ)) (store out : List ℕ) (said : ℕ) → List ℕ
 turnStore r text last rows store out said = turnStoreBy (r .phase) r text last rows store out said
 
-unfoldable pub turnOut : Replay → List (List ℕ) → List ℕ → List ℕ → ℕ → List ℕ
+unfoldable pub turnOut : (r : Replay) (rows : List (List ℕ)) (store out : List ℕ) (said : ℕ) → List ℕ
 turnOut r rows store out said = turnOutBy (r .phase) r rows store out said
 
-unfoldable pub turnSaid : Replay → List ℕ → Bool → List (List ℕ) → List ℕ → List ℕ → List ℕ → List ℕ
+unfoldable pub turnSaid : (r : Replay) (text : List ℕ) (last : Bool) (rows : List (List ℕ)) (store out said : List ℕ)
+    → List ℕ
 turnSaid r text last rows store out said = turnSaidBy (r .phase) r text last rows store out said

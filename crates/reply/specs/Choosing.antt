@@ -19,11 +19,11 @@ abbrev pub allFree : List ℕ
 allFree = replicate 64 FREE
 
 -- a port that asks for a number gets it where it is still free
-unfoldable pub grant : Bool → ℕ → List ℕ → ℕ → List ℕ
+unfoldable pub grant : (asks : Bool) (number : ℕ) (holders : List ℕ) (port : ℕ) → List ℕ
 grant asks q holders i = if asks && holderOf holders q == FREE then set holders q i else holders
 
 -- 'each in port order': those of the first n ports that ask, each for its number
-unfoldable pub granted : (ℕ → Bool) → (ℕ → ℕ) → ℕ → List ℕ → List ℕ
+unfoldable pub granted : (asks : ℕ → Bool) (number : ℕ → ℕ) (count : ℕ) (holders : List ℕ) → List ℕ
 granted asks number zero holders = holders
 granted asks number (suc n) holders = grant (asks n) (number n) (granted asks number n holders) n
 
@@ -32,9 +32,9 @@ granted asks number (suc n) holders = grant (asks n) (number n) (granted asks nu
 abbrev pub chooses : Bool → Port → Bool
 chooses first p = isCandidate p && not (isRestoring p) && Bool·beq (wasOk p) first
 
-unfoldable pub claims : Bool → List Port → ℕ → List ℕ → List ℕ
+unfoldable pub claims : (first : Bool) (ports : List Port) (count : ℕ) (holders : List ℕ) → List ℕ
 claims first ports n holders = granted (λ i. chooses first (portAt ports i)) (λ i. portAt ports i .number) n holders
 
 -- 'Candidates that were OK under the same number choose first, then the rest', among the numbers that no port keeps
-unfoldable pub holders : List Port → ℕ → List ℕ → List ℕ
+unfoldable pub holders : (ports : List Port) (count : ℕ) (kept : List ℕ) → List ℕ
 holders ports n kept = claims false ports n (claims true ports n kept)

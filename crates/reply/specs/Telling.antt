@@ -10,15 +10,15 @@ use Rattle.reply.specs.declared.members.Port.{Port}
 use Rattle.reply.specs.Members.{okState, portAt}
 
 -- an OK port holds q
-unfoldable pub okHolds : List Port → ℕ → ℕ → Bool
+unfoldable pub okHolds : (ports : List Port) (count number : ℕ) → Bool
 okHolds ports n q = some n (λ i. portAt ports i .state == okState && portAt ports i .«state_number» == q)
 
 -- 'MST for q is 0 exactly if an OK port holds q.'
-abbrev pub failBit : List Port → ℕ → ℕ → ℕ
+abbrev pub failBit : (ports : List Port) (count number : ℕ) → ℕ
 failBit ports n q = if okHolds ports n q then 0 else 1
 
 -- eight numbers, 'first bit the lowest' (01, 'The control packet')
-unfoldable pub mstFrom : List Port → ℕ → ℕ → ℕ
+unfoldable pub mstFrom : (ports : List Port) (count number : ℕ) → ℕ
 mstFrom ports n q =
     failBit ports n q * 128
     + failBit ports n (q + 1) * 64
@@ -29,7 +29,7 @@ mstFrom ports n q =
     + failBit ports n (q + 6) * 2
     + failBit ports n (q + 7)
 
-unfoldable pub mstOf : ℕ → List Port → ℕ → ℕ → ℕ
+unfoldable pub mstOf : (kind : ℕ) (ports : List Port) (count epoch : ℕ) → ℕ
 mstOf kind ports n e = mstFrom ports n (mstFirst kind e)
 
 -- 'the list of active and DNU ports'
@@ -50,5 +50,5 @@ unfoldable pub turns : List Port → ℕ → Bool
 turns ports n = some n (λ i. hasChanged (portAt ports i) || hasLeft (portAt ports i))
 
 -- 'RS-Ack, 0 at first, turns over'
-unfoldable pub ackOf : List Port → ℕ → ℕ → ℕ
+unfoldable pub ackOf : (ports : List Port) (count bit : ℕ) → ℕ
 ackOf ports n bit = if turns ports n then (if bit == 0 then 1 else 0) else bit

@@ -9,7 +9,7 @@ use Rattle.reply.specs.declared.members.Port.{Port}
 use Rattle.reply.specs.Choosing.{granted, holderOf, allFree}
 use Rattle.reply.specs.Members.{failState, idleState, isCandidate, isIdle, okState, portAt, wasOk}
 
-unfoldable pub plainClaims : Bool → List Port → ℕ → List ℕ → List ℕ
+unfoldable pub plainClaims : (first : Bool) (ports : List Port) (count : ℕ) (holders : List ℕ) → List ℕ
 plainClaims first ports n holders =
     granted (λ i. isCandidate (portAt ports i) && Bool·beq (wasOk (portAt ports i)) first) (λ i. portAt ports i .number) n holders
 
@@ -18,7 +18,7 @@ unfoldable pub plainHolders : List Port → ℕ → List ℕ
 plainHolders ports n = plainClaims false ports n (plainClaims true ports n allFree)
 
 -- 'One whose number is still free becomes OK; all else are FAIL.'
-unfoldable pub stateBy : List ℕ → ℕ → Port → ℕ
+unfoldable pub stateBy : (chosen : List ℕ) (port : ℕ) (p : Port) → ℕ
 stateBy chosen i p =
     if isIdle p then idleState else if isCandidate p && holderOf chosen (p .number) == i then okState else failState
 

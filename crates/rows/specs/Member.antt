@@ -39,5 +39,5 @@ memberRow m =
 unfoldable pub memberAt : List (List ℕ) → ℕ → Member
 memberAt s i = memberOf (rowIn s (i * PORT-ROWS + 2))
 
-unfoldable pub putMember : List (List ℕ) → ℕ → Member → List (List ℕ)
+unfoldable pub putMember : (s : List (List ℕ)) (port : ℕ) (m : Member) → List (List ℕ)
 putMember s i m = putRow s (i * PORT-ROWS + 2) (memberRow m)

@@ -7,7 +7,7 @@ use Rattle.rows.specs.Rows.{PORT-ROWS, rowIn, putRow}
 unfoldable pub packetsAt : List (List ℕ) → ℕ → List (List ℕ)
 packetsAt s i = rowIn s (i * PORT-ROWS + 3) ∷ rowIn s (i * PORT-ROWS + 4) ∷ []
 
-unfoldable pub putPackets : List (List ℕ) → ℕ → List (List ℕ) → List (List ℕ)
+unfoldable pub putPackets : (s : List (List ℕ)) (port : ℕ) (pair : List (List ℕ)) → List (List ℕ)
 putPackets s i pair = putRow (putRow s (i * PORT-ROWS + 3) (getD pair 0 [])) (i * PORT-ROWS + 4) (getD pair 1 [])
 
 -- an entry of the first of two packets
@@ -15,11 +15,11 @@ unfoldable pub entryIn : List (List ℕ) → ℕ → ℕ
 entryIn pair k = getD (getD pair 0 []) k 0
 
 -- two packets, the first one with another entry
-unfoldable pub withEntry : List (List ℕ) → ℕ → ℕ → List (List ℕ)
+unfoldable pub withEntry : (pair : List (List ℕ)) (k entry : ℕ) → List (List ℕ)
 withEntry pair k entry = set pair 0 (set (getD pair 0 []) k entry)
 
 unfoldable pub marksAt : List (List ℕ) → ℕ → List ℕ
 marksAt s i = rowIn s (i * PORT-ROWS + 5)
 
-unfoldable pub putMarks : List (List ℕ) → ℕ → List ℕ → List (List ℕ)
+unfoldable pub putMarks : (s : List (List ℕ)) (port : ℕ) (row : List ℕ) → List (List ℕ)
 putMarks s i row = putRow s (i * PORT-ROWS + 5) row

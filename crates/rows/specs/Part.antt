@@ -14,7 +14,7 @@ pub data Part : Type 0 where
   ThePackets : List (List ℕ) → Part
   TheMarks : List ℕ → Part
 
-abbrev pub put : List (List ℕ) → ℕ → Part → List (List ℕ)
+abbrev pub put : (s : List (List ℕ)) (port : ℕ) (part : Part) → List (List ℕ)
 put s i (TheStep q) = putStep s i q
 put s i (TheMember m) = putMember s i m
 put s i (ThePackets pair) = putPackets s i pair
@@ -28,7 +28,7 @@ with p (ThePackets pair) = withPackets p pair
 with p (TheMarks row) = withMarks p row
 
 -- and that part as it is read
-abbrev pub again : List (List ℕ) → ℕ → Part → Part
+abbrev pub again : (s : List (List ℕ)) (port : ℕ) (part : Part) → Part
 again s i (TheStep q) = TheStep (stepAt s i)
 again s i (TheMember m) = TheMember (memberAt s i)
 again s i (ThePackets pair) = ThePackets (packetsAt s i)

@@ -9,7 +9,7 @@ unfoldable pub rowIn : List (List ℕ) → ℕ → List ℕ
 rowIn s k = getD s k (replicate 16 0)
 
 -- and what is put there is dropped
-unfoldable pub putRow : List (List ℕ) → ℕ → List ℕ → List (List ℕ)
+unfoldable pub putRow : (s : List (List ℕ)) (k : ℕ) (row : List ℕ) → List (List ℕ)
 putRow s k row = set s k row
 
 -- how many rows a port has

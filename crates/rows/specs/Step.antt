@@ -59,5 +59,5 @@ withNext q n =
       bits = q .bits;
     }
 
-unfoldable pub putStep : List (List ℕ) → ℕ → Step → List (List ℕ)
+unfoldable pub putStep : (s : List (List ℕ)) (port : ℕ) (q : Step) → List (List ℕ)
 putStep s i q = putRow s (i * PORT-ROWS + 1) (stepRow q)

@@ -18,7 +18,7 @@ use Rattle.sender.specs.declared.table.Table.{Table}
 use Rattle.sender.specs.Table.{isActive, sizeOf, slotAt}
 
 -- no active slot has a number above q
-unfoldable pub highest : List Slot → ℕ → ℕ → Bool
+unfoldable pub highest : (slots : List Slot) (count number : ℕ) → Bool
 highest slots n q = not (some n (λ j. isActive (slotAt slots j .state) && q <? slotAt slots j .number))
 
 abbrev pub word : ℕ → Word
@@ -31,14 +31,14 @@ wordOf Add last = word ADD
 wordOf Active last = if last then word EOS else word NORM
 wordOf Dnu last = word DNU
 
-unfoldable pub rowOf : List Slot → ℕ → ℕ → Row
+unfoldable pub rowOf : (slots : List Slot) (count slot : ℕ) → Row
 rowOf slots n i = record { word = wordOf (slotAt slots i .state) (highest slots n (slotAt slots i .number)); number = slotAt slots i .number }
 
 -- what stands past the last slot
 unfoldable pub noRow : ℕ → Row
 noRow kind = record { word = word IDLE; number = idleNumber kind }
 
-unfoldable pub rowsOf : List Slot → ℕ → ℕ → List Row
+unfoldable pub rowsOf : (slots : List Slot) (count kind : ℕ) → List Row
 rowsOf slots n kind = each n (λ i. rowOf slots n i) (replicate 64 (noRow kind))
 
 unfoldable pub boardOf : Table → Board

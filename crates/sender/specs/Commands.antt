@@ -18,7 +18,7 @@ abbrev pub answered : Table → Answer → Outcome
 answered t a = record { table = t; answer = a }
 
 -- the table with other slots and another wait
-abbrev pub withSlots : Table → List Slot → Bool → Table
+abbrev pub withSlots : (t : Table) (slots : List Slot) (wait : Bool) → Table
 withSlots t slots wait = record { slots = slots; count = t .count; wait = wait; bit = t .bit; kind = t .kind }
 
 -- 'IDLE (number 255)'
@@ -34,7 +34,7 @@ unfoldable pub startOf : ℕ → ℕ → Outcome
 startOf kind count = if count == 0 || 64 <? count then answered (freshOf kind 0) OutOfRange else answered (freshOf kind count) Done
 
 -- 'For commands: 1, 3, 2.' What a command allowed makes of the table is given.
-abbrev pub inOrder : Table → ℕ → Bool → Table → Outcome
+abbrev pub inOrder : (t : Table) (slot : ℕ) (allowed : Bool) (next : Table) → Outcome
 inOrder t i allowed next =
     if i <? sizeOf (t .count)
     then (if t .wait then answered t WaitOpen else if allowed then answered next Done else answered t NotAllowed)
@@ -52,7 +52,7 @@ addOf t i = inOrder t i (not (isMember (slotAt (t .slots) i .state))) (addedTo t
 unfoldable pub fallen : ℕ → Slot → Slot
 fallen q s = record { state = s .state; number = if isMember (s .state) && q <? s .number then s .number - 1 else s .number }
 
-unfoldable pub fallenIn : List Slot → ℕ → ℕ → List Slot
+unfoldable pub fallenIn : (slots : List Slot) (count number : ℕ) → List Slot
 fallenIn slots n q = each n (λ j. fallen q (slotAt slots j)) slots
 
 -- 'IDLE with 255. Higher numbers fall by one. A wait opens.'

@@ -26,7 +26,7 @@ use Rattle.sender.specs.Table.{sizeOf}
 unfoldable pub freshSender : Table → ℕ → Sender
 freshSender t e = record { table = t; outgoing = boardOf t; ruling = boardOf t; epoch = e; begun = false; gid = 0; mst = 0; «rs_ack» = 0 }
 
-unfoldable pub beginOf : ℕ → ℕ → ℕ → SenderOutcome
+unfoldable pub beginOf : (kind count epoch : ℕ) → SenderOutcome
 beginOf kind count e = record { sender = freshSender (startOf kind count .table) e; answer = startOf kind count .answer }
 
 -- a call on the table leaves what the epoch's start fixed
@@ -42,12 +42,12 @@ unfoldable pub startedEpoch : Sender → ℕ
 startedEpoch s = if s .begun then epochAfter (s .table .kind) (s .epoch) else s .epoch
 
 -- 'The packets of one epoch rule the payload of the next epoch'
-unfoldable pub startedSender : Sender → ℕ → ℕ → ℕ → Sender
+unfoldable pub startedSender : (s : Sender) (gid mst ack : ℕ) → Sender
 startedSender s gid mst ack =
     record { table = s .table; outgoing = boardOf (s .table); ruling = s .outgoing; epoch = startedEpoch s; begun = true; gid = gid; mst = mst; «rs_ack» = ack }
 
 -- 8: 'a field given for writing is too large'
-unfoldable pub startEpochOf : Sender → ℕ → ℕ → ℕ → SenderOutcome
+unfoldable pub startEpochOf : (s : Sender) (gid mst ack : ℕ) → SenderOutcome
 startEpochOf s gid mst ack =
     if gid <? 2 && ack <? 2 then (record { sender = startedSender s gid mst ack; answer = Done }) else (record { sender = s; answer = Field })
 
@@ -70,13 +70,13 @@ packetFields s i =
     record { epoch = s .epoch; word = row .word; gid = s .gid; mst = s .mst; «rs_ack» = s .«rs_ack»; sq = row .number; reserved = 0 }
 
 -- The packet of a slot: 1, 9, 2.
-unfoldable pub packetAnswer : Sender → ℕ → List ℕ → Answer
+unfoldable pub packetAnswer : (s : Sender) (slot : ℕ) (h4 : List ℕ) → Answer
 packetAnswer s i h4 =
     if i <? sizeOf (s .table .count)
     then (if length h4 == frames (s .table .kind) then (if s .begun then written (sentAnswer (s .table .kind) (packetFields s i) h4) else NotAllowed) else Length)
     else NoSlot
 
-unfoldable pub packetBytes : Sender → ℕ → List ℕ → List ℕ
+unfoldable pub packetBytes : (s : Sender) (slot : ℕ) (h4 : List ℕ) → List ℕ
 packetBytes s i h4 =
     if i <? sizeOf (s .table .count) && length h4 == frames (s .table .kind) && s .begun then sentBytes (s .table .kind) (packetFields s i) h4 else h4
 
@@ -88,7 +88,7 @@ abbrev pub rankIn : Sender → ℕ → ℕ
 rankIn s i = rankAt (s .ruling .rows) (sizeOf (s .ruling .count)) i
 
 -- The payload of a slot: 1, 4, 9, 2. A P that is not the kind's own (02, 2026-01: 'P is 136') is 4.
-unfoldable pub payloadAnswer : Sender → ℕ → ℕ → ℕ → ℕ → Answer
+unfoldable pub payloadAnswer : (s : Sender) (slot P frame member : ℕ) → Answer
 payloadAnswer s i P frame member =
     if i <? sizeOf (s .table .count)
     then (if payloadRight (s .table .kind) P
@@ -96,7 +96,7 @@ payloadAnswer s i P frame member =
     else OutOfRange)
     else NoSlot
 
-unfoldable pub payloadBytes : Sender → ℕ → ℕ → List ℕ → List ℕ → List ℕ
+unfoldable pub payloadBytes : (s : Sender) (slot P : ℕ) (frame member : List ℕ) → List ℕ
 payloadBytes s i P frame member =
     if i <? sizeOf (s .table .count) && payloadRight (s .table .kind) P && s .begun then spreadOne (xOf s) P (rankIn s i) frame member else member
 

@@ -61,6 +61,6 @@ earlier (At i) f = At i
 earlier Nothing f = f
 
 -- 'the slot that holds that number is found, if there is one'. IDLE slots are passed over; where several hold it, the first.
-unfoldable pub holderOf : List Slot → ℕ → ℕ → Found
+unfoldable pub holderOf : (slots : List Slot) (count number : ℕ) → Found
 holderOf slots zero q = Nothing
 holderOf slots (suc n) q = earlier (holderOf slots n q) (if holds (slotAt slots n) q then At n else Nothing)

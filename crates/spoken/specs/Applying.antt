@@ -25,11 +25,11 @@ risesAt list zero = true
 risesAt list (suc k) = changeIn list k .slot <? changeIn list (suc k) .slot
 
 -- The slot is below the board's count and above the slot before; the old word and number are the board's; the new ones are others.
-abbrev pub fitsBy : Change → Row → ℕ → Bool → Bool
+abbrev pub fitsBy : (c : Change) (row : Row) (count : ℕ) (rises : Bool) → Bool
 fitsBy c row count rises = c .slot <? count && rises && sameRow (c .old) row && not (sameRow (c .old) (c .new))
 
 -- each of the first n changes, against the board as it stood before all of them
-unfoldable pub changesFit : List Row → ℕ → List Change → ℕ → Bool
+unfoldable pub changesFit : (rows : List Row) (count : ℕ) (list : List Change) (n : ℕ) → Bool
 changesFit rows count list n = every n (λ k. fitsBy (changeIn list k) (rowAt rows (changeIn list k .slot)) count (risesAt list k))
 
 -- no Opened on an open wait, no Closed on none
@@ -48,7 +48,7 @@ fits b cs =
     if b .count ≤? 64 && cs .count ≤? 64 && waitFits (b .wait) (cs .wait) then changesFit (b .rows) (b .count) (cs .list) (cs .count) else false
 
 -- the rows with the first n changes laid on them
-abbrev pub laidTo : List Row → List Change → ℕ → List Row
+abbrev pub laidTo : (rows : List Row) (list : List Change) (count : ℕ) → List Row
 laidTo rows list zero = rows
 laidTo rows list (suc n) = set (laidTo rows list n) (changeIn list n .slot) (changeIn list n .new)
 

@@ -26,14 +26,14 @@ abbrev pub sameRow : Row → Row → Bool
 sameRow a b = a .word .0 == b .word .0 && a .number == b .number
 
 -- a slot has changed where its word or its number differs, 'EOS to NORM too'
-abbrev pub changed : List Row → List Row → ℕ → Bool
+abbrev pub changed : (old new : List Row) (slot : ℕ) → Bool
 changed old new i = not (sameRow (rowAt old i) (rowAt new i))
 
-abbrev pub changeAt : List Row → List Row → ℕ → Change
+abbrev pub changeAt : (old new : List Row) (slot : ℕ) → Change
 changeAt old new i = record { slot = i; old = rowAt old i; new = rowAt new i }
 
 -- 'Each changed slot is spoken once, .. no other', 'in slot order': of the first n slots
-abbrev pub spokenTo : List Row → List Row → ℕ → List Change
+abbrev pub spokenTo : (old new : List Row) (count : ℕ) → List Change
 spokenTo old new zero = []
 spokenTo old new (suc n) = spokenTo old new n ++ (if changed old new n then changeAt old new n ∷ [] else [])
 
@@ -44,7 +44,7 @@ noChange = record { slot = 0; old = record { word = record { 0 = 0 }; number = 0
 unfoldable pub listOf : List Change → List Change
 listOf spoken = spoken ++ drop (length spoken) (replicate 64 noChange)
 
-unfoldable pub changesIn : List Row → List Row → ℕ → WaitChange → Changes
+unfoldable pub changesIn : (old new : List Row) (count : ℕ) (wait : WaitChange) → Changes
 changesIn old new n wait = record { list = listOf (spokenTo old new n); count = length (spokenTo old new n); wait = wait }
 
 -- 'the wait if it differs'

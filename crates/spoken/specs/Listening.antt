@@ -12,15 +12,15 @@ use Rattle.spoken.specs.Changes.{comparedOf}
 use Rattle.spoken.specs.Taking.{takenOf}
 
 -- what she does with the changes from one board to another
-abbrev pub toldFrom : Board → Board → Board → Applied
+abbrev pub toldFrom : (known old new : Board) → Applied
 toldFrom known old new = appliedOf known (comparedOf old new .changes)
 
 -- At each start of an epoch: the changes from the board going out before to the one going out now. Other calls are not spoken.
-abbrev pub hearsCall : Board → Sender → SenderCall → Board
+abbrev pub hearsCall : (known : Board) (s : Sender) (call : SenderCall) → Board
 hearsCall known s (OnTable c) = known
 hearsCall known s (StartEpoch gid mst ack) = toldFrom known (takenOf s) (takenOf (senderOutcomeOf s (StartEpoch gid mst ack) .sender)) .board
 
-abbrev pub knownAfter : Board → Sender → List SenderCall → Board
+abbrev pub knownAfter : (known : Board) (s : Sender) (cs : List SenderCall) → Board
 knownAfter known s [] = known
 knownAfter known s (c ∷ cs) = knownAfter (hearsCall known s c) (senderOutcomeOf s c .sender) cs
 
@@ -33,9 +33,9 @@ abbrev pub callsIn : List Moment → List SenderCall
 callsIn [] = []
 callsIn (m ∷ ms) = m .call ∷ callsIn ms
 
-abbrev pub knownNow : Board → Sender → Bool → Board
+abbrev pub knownNow : (known : Board) (s : Sender) (hears : Bool) → Board
 knownNow known s hears = if hears then toldFrom known known (takenOf s) .board else known
 
-abbrev pub knownWith : Board → Sender → List Moment → Board
+abbrev pub knownWith : (known : Board) (s : Sender) (ms : List Moment) → Board
 knownWith known s [] = known
 knownWith known s (m ∷ ms) = knownWith (knownNow known (senderOutcomeOf s (m .call) .sender) (m .hears)) (senderOutcomeOf s (m .call) .sender) ms

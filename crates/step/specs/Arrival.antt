@@ -26,7 +26,7 @@ distanceIn g tag = distanceOf (g .kind) tag (firstTag (g .kind) (g .oldest))
 
 -- The step record afterwards. 'losing step undoes' joining; what was stored and what rules stay.
 
-abbrev pub stepTo : Step → ℕ → Run → ℕ → ℕ → ℕ → Step
+abbrev pub stepTo : (s : Step) (failed : ℕ) (run : Run) (joined since later : ℕ) → Step
 stepTo s failed run joined since later =
     record {
       spare = s .spare;
@@ -43,17 +43,17 @@ stepTo s failed run joined since later =
       bits = run .bits;
     }
 
-abbrev pub lost : Step → ℕ → Run → Step
+abbrev pub lost : (s : Step) (failed : ℕ) (run : Run) → Step
 lost s failed run = stepTo s failed run 0 0 0
 
 abbrev pub advanced : Step → Run → Step
 advanced s run = stepTo s 0 run (s .joined) (s .since) (s .later)
 
-abbrev pub joinedAt : Step → Run → ℕ → Step
+abbrev pub joinedAt : (s : Step) (run : Run) (later : ℕ) → Step
 joinedAt s run later = stepTo s 0 run 1 (s .since) later
 
 -- Stopping, beginning and gathering can follow only before the beginning, where a port that was in step no longer is, and where the last frame of the epoch that is gathered comes.
-abbrev pub settlesAt : Group → Step → Step → Bool
+abbrev pub settlesAt : (g : Group) (before now : Step) → Bool
 settlesAt g before now = not (flagOf (g .begun)) || inStep g before && not (inStep g now)
 
 -- 10: 'signal-fail flag set on the frame', 'port recorded unreadable, its step lost'
@@ -63,13 +63,13 @@ flagged g s =
     record { step = now; answer = 10; counted = false; kept = false; at = 0; joins = false; settles = settlesAt g s now }
 
 -- 12: 'port not in step after this frame', 'step record advanced, frame not stored'
-unfoldable pub countsOn : Group → Step → Run → Taken
+unfoldable pub countsOn : (g : Group) (s : Step) (run : Run) → Taken
 countsOn g s run =
     let now = lost s 0 run in
     record { step = now; answer = 12; counted = not (run .count == 0); kept = false; at = 0; joins = false; settles = settlesAt g s now }
 
 -- 'A frame in step of a port that has not joined is answered 0 and dropped.'
-unfoldable pub frameDropped : Group → Step → Run → Taken
+unfoldable pub frameDropped : (g : Group) (s : Step) (run : Run) → Taken
 frameDropped g s run = record { step = advanced s run; answer = 0; counted = true; kept = false; at = 0; joins = false; settles = not (flagOf (g .begun)) }
 
 -- 11: 'frame in step, but outside the window', 'state as given'
@@ -77,7 +77,7 @@ unfoldable pub outside : Step → Taken
 outside s = record { step = s; answer = 11; counted = false; kept = false; at = 0; joins = false; settles = false }
 
 -- a frame of a joined port, d after the window's first
-unfoldable pub keeps : Group → Step → Run → ℕ → Taken
+unfoldable pub keeps : (g : Group) (s : Step) (run : Run) (distance : ℕ) → Taken
 keeps g s run d =
     record {
       step = advanced s run;
@@ -90,26 +90,26 @@ keeps g s run d =
     }
 
 -- 'A port joins at its first epoch start in the window'
-unfoldable pub joining : Group → Step → Run → ℕ → Taken
+unfoldable pub joining : (g : Group) (s : Step) (run : Run) (distance : ℕ) → Taken
 joining g s run d =
     record { step = joinedAt s run (epochsIn (g .kind) d); answer = 0; counted = true; kept = true; at = d; joins = true; settles = false }
 
 -- 'A frame lies in the window when its tag is 0 to W-1 after the first frame of the oldest epoch'; '11 goes only to a joined port'
-unfoldable pub byWindow : Group → Step → Run → ℕ → Taken
+unfoldable pub byWindow : (g : Group) (s : Step) (run : Run) (distance : ℕ) → Taken
 byWindow g s run d = if d <? g .window then keeps g s run d else outside s
 
-unfoldable pub byStart : Group → Step → Run → ℕ → Taken
+unfoldable pub byStart : (g : Group) (s : Step) (run : Run) (distance : ℕ) → Taken
 byStart g s run d = if startsEpoch (g .kind) (s .next) && d <? g .window then joining g s run d else frameDropped g s run
 
 -- a frame in step: 'Frames take their tag from the receiver's own count' (request 2026-04), which is the tag that was to come next
-unfoldable pub arrives : Group → Step → Run → Taken
+unfoldable pub arrives : (g : Group) (s : Step) (run : Run) → Taken
 arrives g s run =
     if not (flagOf (g .begun)) then frameDropped g s run
     else if flagOf (s .joined) then byWindow g s run (distanceIn g (s .next))
     else byStart g s run (distanceIn g (s .next))
 
 -- 'For frames: .. 10, 12, 11.' The H4 byte of a flagged frame is not looked at. By another it ends an odd packet or not.
-unfoldable pub takenOf : Group → Step → Bool → Bool → ℕ → Taken
+unfoldable pub takenOf : (g : Group) (s : Step) (flag odd : Bool) (h4 : ℕ) → Taken
 takenOf g s flag odd h =
     if flag then flagged g s
     else (let run = runOn (g .kind) (runOf s) odd h in

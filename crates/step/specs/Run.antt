@@ -19,15 +19,15 @@ begunRun kind h = if startsCount kind h then (record { count = 1; next = tagByHi
 -- Coming into step: 'One frame that breaks the count .. can be the first of a new 32.'
 
 -- a run's MFI2 is what its first two frames say
-unfoldable pub secondRun : ℕ → Run → ℕ → Run
+unfoldable pub secondRun : (kind : ℕ) (run : Run) (h4 : ℕ) → Run
 secondRun kind run h = if carriesLow kind h then (record { count = 2; next = tagByLow kind (run .next) h; breaks = 0; odd = 0; bits = 0 }) else begunRun kind h
 
 -- 'count MFI1 rightly and their second MFI2 is the first plus one': each frame has the tag after the one before
-unfoldable pub furtherRun : ℕ → Run → ℕ → Run
+unfoldable pub furtherRun : (kind : ℕ) (run : Run) (h4 : ℕ) → Run
 furtherRun kind run h =
     if h4Counts (run .next) h then (record { count = run .count + 1; next = tagAfter kind (run .next); breaks = 0; odd = 0; bits = 0 }) else begunRun kind h
 
-unfoldable pub gainedRun : ℕ → Run → ℕ → Run
+unfoldable pub gainedRun : (kind : ℕ) (run : Run) (h4 : ℕ) → Run
 gainedRun kind run h = if run .count == 0 then begunRun kind h else if run .count == 1 then secondRun kind run h else furtherRun kind run h
 
 -- In step 'the receiver goes on counting by itself' (request 2026-04): a frame has the tag to come, whatever it carries.
@@ -41,27 +41,27 @@ unfoldable pub breaksAfter : Bool → ℕ → ℕ
 breaksAfter counted breaks = if counted then 0 else breaks + 1
 
 -- whether the latest packet was odd, after a frame that ends an odd one or not
-unfoldable pub oddAfter : ℕ → Run → Bool → ℕ
+unfoldable pub oddAfter : (kind : ℕ) (run : Run) (odd : Bool) → ℕ
 oddAfter kind run odd = if endsPacket kind (run .next) then (if odd then 1 else 0) else run .odd
 
 -- 'step is lost at the fourth frame in a row that breaks the count', and 'at the end of a second packet in a row with right CRC and a differing MFI2'
-unfoldable pub loses : Bool → Run → Bool → Bool
+unfoldable pub loses : (counted : Bool) (run : Run) (odd : Bool) → Bool
 loses counted run odd = (not counted && 3 ≤? run .breaks) || (odd && not (run .odd == 0))
 
 -- one that loses step can be the first of a new 32
-unfoldable pub stayedRun : ℕ → Run → Bool → ℕ → Run
+unfoldable pub stayedRun : (kind : ℕ) (run : Run) (odd : Bool) (h4 : ℕ) → Run
 stayedRun kind run odd h =
     let counted = h4Counts (run .next) h in
     if loses counted run odd then begunRun kind h
     else (record { count = run .count; next = tagAfter kind (run .next); breaks = breaksAfter counted (run .breaks); odd = oddAfter kind run odd; bits = run .bits })
 
 -- a frame more, which ends an odd packet or not
-unfoldable pub h4RunOn : ℕ → Run → Bool → ℕ → Run
+unfoldable pub h4RunOn : (kind : ℕ) (run : Run) (odd : Bool) (h4 : ℕ) → Run
 h4RunOn kind run odd h = if inStepAt kind (run .count) then stayedRun kind run odd h else gainedRun kind run h
 
 -- the bits of a count are VC-12's: H4 leaves them
 abbrev pub withBits : ℕ → Run → Run
 withBits bits run = record { count = run .count; next = run .next; breaks = run .breaks; odd = run .odd; bits = bits }
 
-unfoldable pub runOn : ℕ → Run → Bool → ℕ → Run
+unfoldable pub runOn : (kind : ℕ) (run : Run) (odd : Bool) (h4 : ℕ) → Run
 runOn kind run odd h = if kind == vc12Kind then startsRun run h else withBits (run .bits) (h4RunOn kind run odd h)

@@ -18,7 +18,7 @@ unfoldable pub countAfter : ℕ → ℕ
 countAfter count = if count <? 64 then count + 1 else count
 
 -- what the bits of the packet's count say so far, with that at a place
-unfoldable pub bitsAfter : ℕ → ℕ → ℕ → ℕ
+unfoldable pub bitsAfter : (bits place bit : ℕ) → ℕ
 bitsAfter bits place bit = if place == 0 then bit else if place <? 5 then bits % 16 * 2 + bit else bits
 
 unfoldable pub goesOn : Run → ℕ → Run

@@ -11,7 +11,7 @@ use Rattle.rows.specs.Step.{withNext}
 use Rattle.step.specs.Arrival.{distanceIn, flagOf, inStep}
 use Rattle.step.specs.declared.arrival.Taken.{Taken}
 
-unfoldable pub steady : Group → Step → Bool → ℕ → Bool
+unfoldable pub steady : (g : Group) (s : Step) (flag : Bool) (h4 : ℕ) → Bool
 steady g s flag h =
     not flag
     && s .had == 1

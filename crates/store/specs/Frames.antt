@@ -8,24 +8,24 @@ use Rattle.packet.specs.Symbols.{rowFrom}
 use Rattle.rows.specs.declared.group.Group.{Group}
 
 -- a port's W places go round; the window's first frame stands at the origin
-unfoldable pub ringOf : ℕ → ℕ → ℕ → ℕ
+unfoldable pub ringOf : (origin distance W : ℕ) → ℕ
 ringOf origin d W = if W == 0 then 0 else (origin + d) % W
 
 -- where the frame of a port stands that lies d after the window's first
-unfoldable pub placeIn : Group → ℕ → ℕ → ℕ
+unfoldable pub placeIn : (g : Group) (port distance : ℕ) → ℕ
 placeIn g port d = (port * g .window + ringOf (g .origin) d (g .window)) * (g .payload + 1)
 
 -- a frame's payload, then its H4, from a place on; one that would go beyond the end is dropped
-unfoldable pub storedAt : List ℕ → ℕ → List ℕ → ℕ → List ℕ
+unfoldable pub storedAt : (s : List ℕ) (place : ℕ) (payload : List ℕ) (h4 : ℕ) → List ℕ
 storedAt s place payload h = if place + length payload <? length s then fillAt place (length payload + 1) (λ j. getD payload j h) s else s
 
 unfoldable pub byteAt : List ℕ → ℕ → ℕ
 byteAt s place = getD s place 0
 
 -- the H4 byte of the frame that lies d after the window's first
-unfoldable pub h4At : Group → ℕ → ℕ → List ℕ → ℕ
+unfoldable pub h4At : (g : Group) (port distance : ℕ) (s : List ℕ) → ℕ
 h4At g port d s = byteAt s (placeIn g port d + g .payload)
 
 -- the packet that came with the frames of the oldest epoch
-unfoldable pub packetIn : Group → ℕ → List ℕ → List ℕ
+unfoldable pub packetIn : (g : Group) (port : ℕ) (s : List ℕ) → List ℕ
 packetIn g port s = rowFrom (g .kind) (λ k. h4At g port k s)

@@ -21,7 +21,7 @@ markedByte b i = if odd (b / 2 ^ (i % 8)) then b else b + 2 ^ (i % 8)
 unfoldable pub markedAt : List ℕ → ℕ → List ℕ
 markedAt row i = if i / 8 <? 16 then set row (i / 8) (markedByte (getD row (i / 8) 0) i) else row
 
-unfoldable pub cutByte : ℕ → ℕ → ℕ → ℕ
+unfoldable pub cutByte : (b k i : ℕ) → ℕ
 cutByte b k i = if k <? i / 8 then b else if i / 8 <? k then 0 else b % 2 ^ (i % 8)
 
 -- without epoch i and all later ones

@@ -13,5 +13,5 @@ abbrev pub AsSent : Link → Type 0
 AsSent k = (i p : ℕ) → p < k .ports → k .came i p ≡ sentTo k i p
 
 -- a slot that is not IDLE in the i-th epoch holds the number q
-abbrev pub hasHolder : History → ℕ → ℕ → Bool
+abbrev pub hasHolder : (h : History) (i number : ℕ) → Bool
 hasHolder h i q = some (h .slots) (λ slot. isMember (stateIn (senderAt h i .table) slot) && numberIn (senderAt h i .table) slot == q)

@@ -36,11 +36,11 @@ reportBy Fixed = []
 reportBy Unassigned = []
 
 -- the receiver at the start of the t-th epoch: all frames before that frame time, and after each the reports until none was due
-abbrev pub atStart : Link → Moment → ℕ → Moment
+abbrev pub atStart : (k : Link) (m₀ : Moment) (t : ℕ) → Moment
 atStart k m₀ t = ownRun k m₀ (t * epochFrames k) []
 
 -- the reply that is read at that start, to go back with the packets of an epoch
-abbrev pub replyAt : Link → Moment → ℕ → ℕ → List ℕ
+abbrev pub replyAt : (k : Link) (m₀ : Moment) (t epoch : ℕ) → List ℕ
 replyAt k m₀ t e = replyOf (atStart k m₀ t .rows) e
 
 -- Both ends and the path, up to the start of some epoch.

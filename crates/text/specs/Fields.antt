@@ -18,7 +18,7 @@ areDigits base [] = true
 areDigits base (b ∷ digits) = digitOf b <? base && areDigits base digits
 
 -- digits by value, the first one highest, behind those whose value is n
-abbrev pub valueOf : ℕ → ℕ → List ℕ → ℕ
+abbrev pub valueOf : (base n : ℕ) (digits : List ℕ) → ℕ
 valueOf base n [] = n
 valueOf base n (b ∷ digits) = valueOf base (n * base + digitOf b) digits
 

@@ -18,7 +18,7 @@ decimalText n =
     else (48 + n / 100) ∷ (48 + n / 10 % 10) ∷ (48 + n % 10) ∷ []
 
 -- the digits of a number before a text, none for 0, and at most so many
-abbrev pub digitsBefore : ℕ → ℕ → List ℕ → List ℕ
+abbrev pub digitsBefore : (most n : ℕ) (text : List ℕ) → List ℕ
 digitsBefore zero n text = text
 digitsBefore (suc most) n text = if 0 <? n then digitsBefore most (n / 10) ((48 + n % 10) ∷ text) else text
 
@@ -46,11 +46,11 @@ pub record Put (text : List ℕ) (at : ℕ) (out : List ℕ) (next : ℕ) (new :
   pub kept : length new ≡ length out
 
 -- the same for any place and any buffer: a text that does not fit is left out
-abbrev pub fits : List ℕ → ℕ → List ℕ → Bool
+abbrev pub fits : (text : List ℕ) (at : ℕ) (out : List ℕ) → Bool
 fits text at out = at + length text ≤? length out
 
-unfoldable pub putNext : List ℕ → ℕ → List ℕ → ℕ
+unfoldable pub putNext : (text : List ℕ) (at : ℕ) (out : List ℕ) → ℕ
 putNext text at out = if fits text at out then at + length text else at
 
-unfoldable pub putBytes : List ℕ → ℕ → List ℕ → List ℕ
+unfoldable pub putBytes : (text : List ℕ) (at : ℕ) (out : List ℕ) → List ℕ
 putBytes text at out = if fits text at out then sets out at text else out

@@ -15,7 +15,7 @@ ahead b [] = (b ∷ []) ∷ []
 ahead b (p ∷ ps) = (b ∷ p) ∷ ps
 
 -- a text parted at each mark; an empty text has the pieces z
-abbrev pub parted : ℕ → List (List ℕ) → List ℕ → List (List ℕ)
+abbrev pub parted : (mark : ℕ) (z : List (List ℕ)) (text : List ℕ) → List (List ℕ)
 parted mark z [] = z
 parted mark z (b ∷ text) = if b == mark then [] ∷ parted mark z text else ahead b (parted mark z text)
 

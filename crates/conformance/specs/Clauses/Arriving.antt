@@ -9,7 +9,7 @@ use Rattle.step.specs.Arrival.{readable, takenOf}
 use Rattle.step.specs.declared.arrival.Taken.{Taken}
 use Rattle.conformance.specs.Opened.{allOpen}
 
-abbrev groupWith : ℕ → ℕ → ℕ → Group
+abbrev groupWith : (window begun gathered : ℕ) → Group
 groupWith window begun gathered =
     record {
       spare = 61 ∷ 62 ∷ 63 ∷ 64 ∷ [];
@@ -27,7 +27,7 @@ groupWith window begun gathered =
 abbrev group : ℕ → ℕ → Group
 group begun gathered = groupWith 48 begun gathered
 
-abbrev step : ℕ → ℕ → ℕ → ℕ → ℕ → ℕ → ℕ → ℕ → ℕ → Step
+abbrev step : (had failed count next joined since later breaks odd : ℕ) → Step
 step had failed count next joined since later breaks odd =
     record {
       spare = 52 ∷ 53 ∷ 54 ∷ 55 ∷ [];
@@ -45,10 +45,10 @@ step had failed count next joined since later breaks odd =
     }
 
 -- one that is not stored
-abbrev dropped : Step → ℕ → Bool → Bool → Taken
+abbrev dropped : (q : Step) (answer : ℕ) (counted settles : Bool) → Taken
 dropped q answer counted settles = record { step = q; answer = answer; counted = counted; kept = false; at = 0; joins = false; settles = settles }
 
-abbrev stored : Step → ℕ → Bool → Bool → Taken
+abbrev stored : (q : Step) (at : ℕ) (joins settles : Bool) → Taken
 stored q at joins settles = record { step = q; answer = 0; counted = true; kept = true; at = at; joins = joins; settles = settles }
 
 -- receiving has begun, and its first epoch is gathered

@@ -35,7 +35,7 @@ claimed = run fresh (by 0 (Claim 0) ∷ by 1 (Claim 1) ∷ [])
 abbrev unlike : Card
 unlike = record { owners = replicate 64 0; first = beginOf 0 3 7 .sender; second = beginOf 0 5 9 .sender }
 
-abbrev told : Card → ℕ → Call → ℕ
+abbrev told : (c : Card) (group : ℕ) (k : Call) → ℕ
 told c g k = answerNumber (outcomeOf c g k .answer)
 
 -- 1 for the group or the slot, then 14, then 15
@@ -114,7 +114,7 @@ other = run fresh (by 0 (Claim 1) ∷ by 1 (Claim 2) ∷ by 1 (AddSlot 2) ∷ by
 abbrev noRow : Row
 noRow = record { word = record { 0 = 0 }; number = 99 }
 
-abbrev number : ℕ → ℕ → ℕ → ℕ
+abbrev number : (group slot n : ℕ) → ℕ
 number g i n = answerNumber (packetAnswer sending g i (nines n))
 
 -- EOS 0 of group 0 in epoch 8 with GID 0, MST FF and RS-Ack 0; ADD 0 of group 1 in epoch 9 with GID 0, MST 3C and RS-Ack 0; their CRCs are EC and 80

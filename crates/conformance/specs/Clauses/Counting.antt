@@ -8,7 +8,7 @@ use Rattle.step.specs.OwnCount.{endsOdd, oddPacket, ownNumber, ownRuling, right
 use Rattle.step.specs.Run.{breaksAfter, endsPacket, inStepAt, loses, oddAfter, runOn}
 use Rattle.conformance.specs.Opened.{allOpen}
 
-abbrev run : ℕ → ℕ → ℕ → ℕ → Run
+abbrev run : (count next breaks odd : ℕ) → Run
 run count next breaks odd = record { count = count; next = next; breaks = breaks; odd = odd; bits = 0 }
 
 -- Coming into step. Tag 849 has MFI2 35 hex and MFI1 1: a first frame 30, a second one 51; then MFI1 alone, MFI2's nibbles at MFI1 0 and 1.

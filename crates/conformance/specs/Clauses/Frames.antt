@@ -34,7 +34,7 @@ step count next =
     }
 
 -- a port in step whose next tag is 22
-abbrev taken : ℕ → Bool → ℕ → Bool → Taken
+abbrev taken : (answer : ℕ) (kept : Bool) (at : ℕ) (joins : Bool) → Taken
 taken answer kept at joins = record { step = step 32 22; answer = answer; counted = true; kept = kept; at = at; joins = joins; settles = false }
 
 -- a port that has lost step

@@ -116,7 +116,7 @@ packet :
 unfolding allOpen
 packet = (refl, refl, refl, refl, refl, refl, refl, refl, refl, refl, refl, refl, refl)
 
-abbrev wrote : ℕ → ℕ → ℕ → ℕ → ℕ → ℕ → ℕ → ℕ
+abbrev wrote : (epoch word gid mst ack sq reserved : ℕ) → ℕ
 wrote epoch word gid mst ack sq reserved =
     writingNumber (writeAnswer (record { epoch = epoch; word = record { 0 = word }; gid = gid; mst = mst; «rs_ack» = ack; sq = sq; reserved = reserved }) (replicate 16 7))
 

@@ -58,7 +58,7 @@ passed : (passedStep (step 5 37) true ≡ step 4 1) × (passedStep (step 0 37) f
 unfolding allOpen
 passed = (refl, refl)
 
-abbrev group : ℕ → ℕ → ℕ → Group
+abbrev group : (gathered oldest origin : ℕ) → Group
 group gathered oldest origin =
     record {
       spare = 61 ∷ 62 ∷ 63 ∷ 64 ∷ [];

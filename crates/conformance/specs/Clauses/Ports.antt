@@ -53,7 +53,7 @@ step next =
     }
 
 -- FAIL so far under the number that it sends, and the number that was told of it
-abbrev member : ℕ → ℕ → ℕ → Member
+abbrev member : (word number told : ℕ) → Member
 member word number told =
     record {
       spare = zeros 4;
@@ -72,7 +72,7 @@ abbrev empty : List (List ℕ)
 empty = putGroup (replicate 16 (zeros 16)) (group 1)
 
 -- a port's step, the packet that it gathers, its ruling packet and the first byte of its marks
-abbrev withPort : ℕ → Step → List ℕ → List ℕ → ℕ → List (List ℕ) → List (List ℕ)
+abbrev withPort : (port : ℕ) (now : Step) (gathers ruling : List ℕ) (mark : ℕ) (s : List (List ℕ)) → List (List ℕ)
 withPort i now gathers ruling mark s = putMarks (putPackets (putStep s i now) i (gathers ∷ ruling ∷ [])) i (mark ∷ zeros 15)
 
 abbrev sixteen : ℕ → List ℕ
@@ -141,7 +141,7 @@ unfolding allOpen
 own-gathering = (refl, refl, refl, refl)
 
 -- NORM 0, NORM 1 and EOS 2 in epoch 57 with GID 1 and MST FF: CRCs 24, 32 and 5F
-abbrev packet : ℕ → ℕ → ℕ → ℕ → List ℕ
+abbrev packet : (word sq high low : ℕ) → List ℕ
 packet word sq high low = 15 ∷ 15 ∷ 0 ∷ 0 ∷ 0 ∷ 0 ∷ 0 ∷ sq ∷ 3 ∷ 9 ∷ word ∷ 1 ∷ 0 ∷ 0 ∷ high ∷ low ∷ []
 
 -- port 1 has gathered all but the last nibble of epoch 57's packet, which comes where epoch 58's should end; ports 0 and 2 have gathered nothing, and port 0 is one frame behind

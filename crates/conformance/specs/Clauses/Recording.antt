@@ -54,7 +54,7 @@ in-a-row = (refl, refl)
 
 -- the first line
 
-abbrev settings : ℕ → List ℕ → List ℕ → ℕ → ℕ → ℕ → Settings
+abbrev settings : (kind : ℕ) (hold restore : List ℕ) (ports size window : ℕ) → Settings
 settings kind hold restore ports size window =
     record { «hold_off» = hold ++ replicate (64 - length hold) 0; restore = restore ++ replicate (64 - length restore) 0; kind = kind; ports = ports; size = size; window = window }
 

@@ -23,11 +23,11 @@ use Rattle.conformance.specs.Opened.{allOpen}
 abbrev at : Phase → ℕ → Replay
 at phase left = record { phase = phase; line = 4; left = left; kind = 0; ports = 2; size = 1; window = 16 }
 
-abbrev after : Phase → ℕ → ℕ → Replay
+abbrev after : (phase : Phase) (line left : ℕ) → Replay
 after phase line left = record { phase = phase; line = line; left = left; kind = 0; ports = 2; size = 1; window = 16 }
 
 -- used, written, and whether more text is wanted; 0 is the answer
-abbrev goes : Replay → ℕ → ℕ → Bool → Replayed
+abbrev goes : (r : Replay) (used written : ℕ) (wants : Bool) → Replayed
 goes r used written wants = record { replay = r; answer = 0; used = used; written = written; wants = wants }
 
 -- 9: nothing is used or written
@@ -39,7 +39,7 @@ abbrev rows : ℕ → List (List ℕ)
 rows n = replicate n (replicate 16 9)
 
 -- the first line, with 321 rows and a room of 1,160 or more
-abbrev first : List ℕ → Bool → ℕ → ℕ → ℕ → Replayed
+abbrev first : (text : List ℕ) (last : Bool) (r store said : ℕ) → Replayed
 first text last r store said = turnOf beginning text last (rows r) (nines store) [] said
 
 abbrev started : ℕ → Replayed
@@ -98,11 +98,11 @@ unfolding allOpen
 what-is-said = (refl, refl, refl, refl, refl, refl, refl, refl, refl, refl)
 
 -- a line behind the first: two ports take 11 rows, a store of 64 and an output of 32
-abbrev reads : List ℕ → Bool → ℕ → ℕ → ℕ → ℕ → Replayed
+abbrev reads : (text : List ℕ) (last : Bool) (r store out said : ℕ) → Replayed
 reads text last r store out said = turnOf (at Reading 0) text last (rows r) (nines store) (nines out) said
 
 -- the answer to a line that is none, of a replay with so many ports and such a P
-abbrev answered : ℕ → ℕ → ℕ → ℕ → ℕ
+abbrev answered : (ports size r store : ℕ) → ℕ
 answered ports size r store = turnOf (record { phase = Reading; line = 4; left = 0; kind = 0; ports = ports; size = size; window = 16 }) (ascii "x\n") false (rows r) (nines store) [] 1160 .answer
 
 a-line :
@@ -191,7 +191,7 @@ unfolding allOpen
 states = (refl, refl, refl)
 
 -- A recording of VC-12 (request 2026-01): P is 136 and W at least 32, so that one port takes a store of 4,384; behind its first line what is lent for one port is 6 rows and an output of 4,352
-abbrev vc12 : Phase → ℕ → ℕ → Replay
+abbrev vc12 : (phase : Phase) (line left : ℕ) → Replay
 vc12 phase line left = record { phase = phase; line = line; left = left; kind = 1; ports = 1; size = 136; window = 32 }
 
 abbrev vc12Reads : List ℕ → ℕ → Replayed

@@ -17,7 +17,7 @@ abbrev left : List Port → List Standing
 left ports = take (length ports) (standingsOf ports (length ports))
 
 -- a readable port that sends a word under a number, with what the last report left of it, and no times
-abbrev sends : ℕ → ℕ → Standing → Port
+abbrev sends : (word number : ℕ) (last : Standing) → Port
 sends word number last = seenPort word number true last 0 0
 
 -- ADD under a number, IDLE so far

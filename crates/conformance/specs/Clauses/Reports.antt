@@ -48,7 +48,7 @@ rows = startRows 0 2 2 16 96 (replicate 11 (zeros 16))
 abbrev norm : List ℕ
 norm = 15 ∷ 15 ∷ 0 ∷ 0 ∷ 0 ∷ 0 ∷ 0 ∷ 3 ∷ 3 ∷ 9 ∷ 2 ∷ 1 ∷ 0 ∷ 0 ∷ 1 ∷ 14 ∷ []
 
-abbrev seen : Bool → ℕ → ℕ → ℕ → Seen
+abbrev seen : (good : Bool) (word number gid : ℕ) → Seen
 seen good word number gid = record { whole = false; good = good; word = word; number = number; gid = gid; here = false }
 
 ruled :

@@ -15,7 +15,7 @@ use Rattle.rows.specs.Port.{Port, portAt}
 use Rattle.rows.specs.Rows.{putRow, rowIn, rowsFor}
 use Rattle.rows.specs.Step.{putStep, stepAt, stepOf, stepRow, withNext}
 
-abbrev group : ℕ → ℕ → ℕ → Group
+abbrev group : (payload window origin : ℕ) → Group
 group payload window origin =
     record {
       spare = 61 ∷ 62 ∷ 63 ∷ 64 ∷ [];
@@ -47,7 +47,7 @@ step next =
       bits = 51;
     }
 
-abbrev member : ℕ → ℕ → ℕ → Member
+abbrev member : (hold restore elapsed : ℕ) → Member
 member hold restore elapsed =
     record {
       spare = 41 ∷ 42 ∷ 43 ∷ 44 ∷ [];

@@ -15,7 +15,7 @@ use Rattle.rows.specs.Step.{putStep, stepAt}
 use Rattle.conformance.specs.Opened.{allOpen}
 
 -- a port that has counted so many frames, with the tag to come
-abbrev step : ℕ → ℕ → ℕ → ℕ → ℕ → ℕ → ℕ → ℕ → Step
+abbrev step : (had failed count next joined since later whole : ℕ) → Step
 step had failed count next joined since later whole =
     record {
       spare = 52 ∷ 53 ∷ 54 ∷ 55 ∷ [];
@@ -39,7 +39,7 @@ cleared :
 unfolding allOpen
 cleared = (refl, refl)
 
-abbrev group : ℕ → ℕ → ℕ → ℕ → Group
+abbrev group : (begun gathered oldest origin : ℕ) → Group
 group begun gathered oldest origin =
     record {
       spare = 61 ∷ 62 ∷ 63 ∷ 64 ∷ [];
@@ -74,7 +74,7 @@ abbrev zeros : List ℕ
 zeros = replicate 16 0
 
 -- two ports, the marks of later epochs alone
-abbrev rows : Group → Step → Step → List (List ℕ)
+abbrev rows : (g : Group) (a b : Step) → List (List ℕ)
 rows g a b = putStep (putStep (putGroup (replicate 11 eights) g) 0 a) 1 b
 
 abbrev g : Group

@@ -7,7 +7,7 @@ use Rattle.phases.specs.Sizes.{portsIn, storeFor}
 use Rattle.rows.specs.declared.group.Group.{Group}
 use Rattle.conformance.specs.Opened.{allOpen}
 
-abbrev group : ℕ → ℕ → ℕ → ℕ → Group
+abbrev group : (kind count payload window : ℕ) → Group
 group kind count payload window =
     record {
       spare = 61 ∷ 62 ∷ 63 ∷ 64 ∷ [];

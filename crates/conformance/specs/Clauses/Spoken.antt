@@ -20,13 +20,13 @@ use Rattle.conformance.specs.Opened.{allOpen}
 abbrev row : ℕ → ℕ → Row
 row word number = record { word = record { 0 = word }; number = number }
 
-abbrev board : List Row → ℕ → Bool → Board
+abbrev board : (rows : List Row) (count : ℕ) (wait : Bool) → Board
 board rows count wait = record { rows = rows ++ replicate (64 - length rows) (row 5 255); count = count; wait = wait }
 
 abbrev old : Bool → Board
 old wait = board (row 2 0 ∷ row 2 1 ∷ row 3 2 ∷ []) 3 wait
 
-abbrev change : ℕ → Row → Row → Change
+abbrev change : (slot : ℕ) (was now : Row) → Change
 change slot was now = record { slot = slot; old = was; new = now }
 
 abbrev changes : List Change → WaitChange → Changes

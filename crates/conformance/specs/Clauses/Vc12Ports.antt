@@ -28,7 +28,7 @@ use Rattle.step.specs.Arrival.{readable, takenOf}
 use Rattle.step.specs.declared.arrival.Taken.{Taken}
 use Rattle.conformance.specs.Opened.{allOpen}
 
-abbrev groupWith : ℕ → ℕ → ℕ → ℕ → Group
+abbrev groupWith : (window begun gathered oldest : ℕ) → Group
 groupWith window begun gathered oldest =
     record {
       spare = 61 ∷ 62 ∷ 63 ∷ 64 ∷ [];
@@ -43,10 +43,10 @@ groupWith window begun gathered oldest =
       «rs_ack» = 1;
     }
 
-abbrev group : ℕ → ℕ → ℕ → Group
+abbrev group : (begun gathered oldest : ℕ) → Group
 group begun gathered oldest = groupWith 64 begun gathered oldest
 
-abbrev stepWith : ℕ → ℕ → ℕ → ℕ → ℕ → ℕ → ℕ → ℕ → Step
+abbrev stepWith : (had failed count next joined since later bits : ℕ) → Step
 stepWith had failed count next joined since later bits =
     record {
       spare = 52 ∷ 53 ∷ 54 ∷ 55 ∷ [];
@@ -70,7 +70,7 @@ waits next = stepWith 1 0 64 next 0 0 0 0
 abbrev unbegun : Group
 unbegun = group 0 1 9
 
-abbrev rows : Group → Step → Step → List (List ℕ)
+abbrev rows : (g : Group) (a b : Step) → List (List ℕ)
 rows g a b = putStep (putStep (putGroup (replicate 11 (replicate 16 8)) g) 0 a) 1 b
 
 abbrev after : Step → Step → Group
@@ -100,13 +100,13 @@ abbrev begun : Group
 begun = group 1 1 31
 
 -- one that is not stored
-abbrev dropped : Step → ℕ → Bool → Bool → Taken
+abbrev dropped : (q : Step) (answer : ℕ) (counted settles : Bool) → Taken
 dropped q answer counted settles = record { step = q; answer = answer; counted = counted; kept = false; at = 0; joins = false; settles = settles }
 
-abbrev stored : Step → ℕ → Bool → Bool → Taken
+abbrev stored : (q : Step) (at : ℕ) (joins settles : Bool) → Taken
 stored q at joins settles = record { step = q; answer = 0; counted = true; kept = true; at = at; joins = joins; settles = settles }
 
-abbrev takes : Group → Step → ℕ → Taken
+abbrev takes : (g : Group) (s : Step) (byte : ℕ) → Taken
 takes g s byte = takenOf g s false false byte
 
 -- 'A port joins at its first epoch start in the window': of epoch 31, or of epoch 0, which is one later. Epoch 1's is outside. Tag 16 starts none, though sixteen frames have come since tag 0, nor does tag 1,016, with which an epoch led by 8 would start.

@@ -16,10 +16,10 @@ use Rattle.packet.specs.Writing.{writingNumber}
 use Rattle.conformance.specs.Opened.{allOpen}
 
 -- a port with a good packet that arrived whole, and all frames; one whose packet did not arrive whole; one whose packet was refused
-abbrev saw : ℕ → ℕ → ℕ → Seen
+abbrev saw : (word number gid : ℕ) → Seen
 saw word number gid = record { whole = true; good = true; word = word; number = number; gid = gid; here = true }
 
-abbrev torn : ℕ → ℕ → ℕ → Bool → Seen
+abbrev torn : (word number gid : ℕ) (here : Bool) → Seen
 torn word number gid here = record { whole = false; good = true; word = word; number = number; gid = gid; here = here }
 
 abbrev bad : ℕ → ℕ → Seen
@@ -125,7 +125,7 @@ orders :
 unfolding allOpen
 orders = (refl, refl, refl, refl, refl)
 
-abbrev wrote : ℕ → ℕ → List ℕ → ℕ
+abbrev wrote : (epoch sq : ℕ) (s : List ℕ) → ℕ
 wrote epoch sq s = writingNumber (writeFixedAnswer epoch sq s)
 
 abbrev read : List ℕ → ℕ

@@ -36,22 +36,22 @@ abbrev its : Card → ℕ → Sender
 its c g = if g == 0 then c .first else c .second
 
 -- 1: 'a group other than the two', or a slot not below its count; one above 64, which no call returns, is taken as 64
-abbrev isThere : Card → ℕ → ℕ → Bool
+abbrev isThere : (c : Card) (group slot : ℕ) → Bool
 isThere c g i = g <? 2 && i <? (if its c g .table .count <? 64 then its c g .table .count else 64)
 
 -- 14: the owner row has 1 for group 0 and 2 for group 1
-abbrev isIts : Card → ℕ → ℕ → Bool
+abbrev isIts : (c : Card) (group slot : ℕ) → Bool
 isIts c g i = getD (c .owners) i 0 == (if g == 0 then 1 else 2)
 
 abbrev isAnyones : Card → ℕ → Bool
 isAnyones c i = getD (c .owners) i 0 == 1 || getD (c .owners) i 0 == 2
 
 -- 15: not IDLE in the group's table
-abbrev isInUse : Card → ℕ → ℕ → Bool
+abbrev isInUse : (c : Card) (group slot : ℕ) → Bool
 isInUse c g i = not (idle (stateAt (its c g .table) i))
 
 -- both groups empty
-abbrev pub emptyCard : ℕ → ℕ → ℕ → Card
+abbrev pub emptyCard : (kind e₀ e₁ : ℕ) → Card
 emptyCard kind e₀ e₁ = record { owners = replicate 64 0; first = freshSender (freshOf kind 0) e₀; second = freshSender (freshOf kind 0) e₁ }
 
 abbrev pub start : ℕ × ℕ × ℕ × ℕ → Call
@@ -102,7 +102,7 @@ unfolding groupCallOf
 group-call c g rs k h = gate (g <? 2) A.NoSlot c rs (groupOutcome c g (senderOutcomeOf (senderOf c g) k)) (on-sender c g rs (senderOutcomeOf (senderOf c g) k) h)
 
 -- a call of a group: its refusals, and what it answers and leaves
-abbrev callRow : Card → ℕ → CardCall → List Refusal → Call
+abbrev callRow : (self : Card) (group : ℕ) (call : CardCall) (rs : List Refusal) → Call
 callRow self group call rs = stateful rs (answerNumber (outcomeOf self group call .answer)) [] [] self (outcomeOf self group call .card) self
 
 abbrev pub claim : Card × ℕ × ℕ → Call

@@ -37,7 +37,7 @@ start-copes (kind, count, epoch) =
     record { answers = c .answers; untouched = λ d. refl; as-given = λ k. ap (λ t. freshSender t epoch) (c .as-given k); emptied = λ e. ap (λ t. freshSender t epoch) (c .emptied e) }
 
 -- a call on a sender: its refusals, and what it answers and leaves
-abbrev callRow : Sender → SenderCall → List Refusal → Call
+abbrev callRow : (self : Sender) (call : SenderCall) (rs : List Refusal) → Call
 callRow self call rs = stateful rs (answerNumber (senderOutcomeOf self call .answer)) [] [] self (senderOutcomeOf self call .sender) self
 
 -- The table's calls: their refusals are the table's, and what the epoch's start fixed stays.

@@ -48,7 +48,7 @@ answer-is recording = go (opening recording)
 abbrev firstRefusals : List ℕ → List Refusal
 firstRefusals recording = Unless 13 (reads (opening recording)) ∷ Unless 4 (settingsRanged (opening recording)) ∷ []
 
-abbrev mendRefusals : List ℕ → List ℕ → List ℕ → List Refusal
+abbrev mendRefusals : (recording mended notes : List ℕ) → List Refusal
 mendRefusals recording mended notes =
     Unless 13 (reads (opening recording)) ∷ Unless 4 (settingsRanged (opening recording))
     ∷ Unless 9 (length mended == length (mendedOf recording) && length notes == length (notesOf recording)) ∷ []

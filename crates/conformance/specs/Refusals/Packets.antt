@@ -26,7 +26,7 @@ abbrev pub named : ℕ → Bool
 named w = w == 0 || w == 1 || w == 2 || w == 3 || w == 5 || w == 15
 
 -- 8: 'a field given for writing is too large, or its word is FIXED or unassigned'
-abbrev smallIn : ℕ → ℕ → ℕ → Fields → Bool
+abbrev smallIn : (epochs numbers reserved : ℕ) (f : Fields) → Bool
 smallIn epochs numbers reserved f =
     f .mst <? 256 && f .epoch <? epochs && f .sq <? numbers && f .gid <? 2 && f .«rs_ack» <? 2 && f .reserved <? reserved && not (f .word .0 == 0) && named (f .word .0)
 

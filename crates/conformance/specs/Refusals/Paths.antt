@@ -14,7 +14,7 @@ use Rattle.paths.specs.Planning.{planOf, setOf}
 use Rattle.conformance.specs.Entries.{Call, Copes, Unless, copes, stateful, stateless}
 
 -- 'k of 0 or above the number of candidates, more than 64 candidates, a delay above 4,095, or W outside 16 to 2,048 is 4'
-abbrev pub ranged : List ℕ → ℕ → ℕ → Bool
+abbrev pub ranged : (delays : List ℕ) (k W : ℕ) → Bool
 ranged delays k W =
     length delays ≤? 64 && 1 ≤? k && k ≤? length delays && 16 ≤? W && W ≤? 2048 && every (length delays) (λ i. getD delays i 0 ≤? 4095)
 

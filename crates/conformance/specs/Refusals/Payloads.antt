@@ -16,7 +16,7 @@ use Rattle.conformance.specs.Entries.{Call, Copes, Refusal, Unless, answ
 abbrev pub ranged : ℕ → ℕ → Bool
 ranged x p = x ≤? 64 && 1 ≤? p && p ≤? 2340
 
-abbrev pub refusals : ℕ → ℕ → Bool → List Refusal
+abbrev pub refusals : (x p : ℕ) (lengths : Bool) → List Refusal
 refusals x p lengths = Unless 4 (ranged x p) ∷ Unless 9 lengths ∷ []
 
 spreads : (x p : ℕ) (lengths : Bool) (new old : List ℕ) → Copes (stateless (refusals x p lengths) (numberOf (answerBy (ranged x p) lengths)) (old ∷ []) (underDone (answerBy (ranged x p) lengths) new old ∷ []))

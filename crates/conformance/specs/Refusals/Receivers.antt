@@ -40,7 +40,7 @@ abbrev pub takesPayload : ℕ → ℕ → Bool
 takesPayload kind payload = not (kind == 1) || payload == 136
 
 -- of kind H4, VC12 or FIXED; '1 to 64 ports', 'P from 1 to 2,340', 'The window W is 16 to 2,048 frames', of VC-12 '32 to 512': from an epoch's frames to half the tags
-abbrev pub ranged : ℕ → ℕ → ℕ → ℕ → Bool
+abbrev pub ranged : (kind count payload window : ℕ) → Bool
 ranged kind count payload window =
     (kind == 0 || kind == 1 || kind == 2)
     && 1 ≤? count
@@ -51,7 +51,7 @@ ranged kind count payload window =
     && window ≤? tagsOf kind / 2
 
 -- and that a start takes
-abbrev pub startRanged : ℕ → ℕ → ℕ → ℕ → Bool
+abbrev pub startRanged : (kind count payload window : ℕ) → Bool
 startRanged kind count payload window = ranged kind count payload window && takesPayload kind payload
 
 -- Starting. 'The lent store is exactly ports x W x (P+1) bytes', and the state has five rows a port and one.
@@ -68,7 +68,7 @@ start-copes (kind, count, payload, window, store, state) = copes _ (λ s. (λ f.
 abbrev pub timesInRange : List ℕ → Bool
 timesInRange counts = every (length counts) (λ i. getD counts i 0 ≤? 5000)
 
-abbrev pub startAsRefusals : ℕ → ℕ → ℕ → ℕ → ℕ → List ℕ → List ℕ → ℕ → List Refusal
+abbrev pub startAsRefusals : (kind count payload window store : ℕ) (hold restore : List ℕ) (rows : ℕ) → List Refusal
 startAsRefusals kind count payload window store hold restore rows =
     Unless 4 (timesInRange hold && timesInRange restore && startRanged kind count payload window)
     ∷ Unless 9
@@ -131,7 +131,7 @@ ahead-is g s = go (g .kind == 1) refl
 window-is : (g : Group) (s : Step) (b : Bool) → (distanceIn g (s .next) <? g .window) ≡ b → (ahead g s <? g .window) ≡ b
 window-is g s b e = rw (ahead-is g s) at e
 
-abbrev pub portRefusals : Group → Step → Bool → Bool → ℕ → List Refusal
+abbrev pub portRefusals : (g : Group) (s : Step) (failed odd : Bool) (h4 : ℕ) → List Refusal
 portRefusals g s failed odd h4 =
     If 10 failed
     ∷ Unless 12 (framesOf (g .kind) * 2 ≤? runOn (g .kind) (runOf s) odd h4 .count)

@@ -25,11 +25,11 @@ abbrev openLent : ℕ → ℕ → Bool
 openLent rows said = 1160 ≤? said && 321 ≤? rows
 
 -- then those of the group, its store and the output of an epoch
-abbrev groupLent : Replay → ℕ → ℕ → ℕ → ℕ → Bool
+abbrev groupLent : (r : Replay) (rows store out said : ℕ) → Bool
 groupLent r rows store out said =
     1160 ≤? said && r .ports ≤? 64 && r .size ≤? 2340 && r .ports * 5 + 1 ≤? rows && r .ports * r .window * (r .size + 1) ≤? store && r .ports * frames (r .kind) * r .size ≤? out
 
-abbrev lentRefusals : Phase → Replay → ℕ → ℕ → ℕ → ℕ → List Refusal
+abbrev lentRefusals : (phase : Phase) (r : Replay) (rows store out said : ℕ) → List Refusal
 lentRefusals Settings r rows store out said = Unless 9 (openLent rows said) ∷ []
 lentRefusals Reading r rows store out said = Unless 9 (groupLent r rows store out said) ∷ []
 lentRefusals Fetching r rows store out said = Unless 9 (groupLent r rows store out said) ∷ []

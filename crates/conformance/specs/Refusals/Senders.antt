@@ -24,7 +24,7 @@ abbrev pub isWhole : List ℕ → Bool
 isWhole state = length state == 397
 
 -- 8: a number that is no byte
-abbrev pub allBytes : ℕ → ℕ → ℕ → Bool
+abbrev pub allBytes : (a b c : ℕ) → Bool
 allBytes a b c = a <? 256 && b <? 256 && c <? 256
 
 -- 4: a kind other than H4 and VC-12, whose numbers are 0 and 1; 8: an epoch above 255, of VC-12 above 31
@@ -74,7 +74,7 @@ start-copes (count, «first_epoch», state) =
     copes _ (λ o. rw o (refl, refl, refl), λ o. (λ l. (λ f. rw (o, l, f), λ f. rw (o, l, f) (refl, refl, refl)), λ l. rw (o, l) (refl, refl, refl)))
 
 -- A call on a started sender: 9, 8 where the numbers given are no bytes, then the call's own refusals. `fits` is the contract's own test for that.
-abbrev pub senderRow : List ℕ → Bool → Bool → SenderCall → List Refusal → Call
+abbrev pub senderRow : (state : List ℕ) (bytes fits : Bool) (call : SenderCall) (rs : List Refusal) → Call
 senderRow state bytes fits call rs = stateful (Unless 9 (isWhole state) ∷ Unless 8 bytes ∷ rs) (callAnswerC fits call state) [] [] state (callStateC fits call state) state
 
 pub call-copes : (state : List ℕ) (fits : Bool) (call : SenderCall) (rs : List Refusal) → answerNumber (senderOutcomeOf (senderOf state) call .answer) ≡ first rs → Copes (senderRow state fits fits call rs)

@@ -46,11 +46,11 @@ abbrev pub stateAt : Table → ℕ → State
 stateAt t i = slotAt (t .slots) i .state
 
 -- a call on the table: its refusals, and what it answers and leaves
-abbrev callRow : Table → TableCall → List Refusal → Call
+abbrev callRow : (table : Table) (call : TableCall) (rs : List Refusal) → Call
 callRow table call rs = stateful rs (answerNumber (outcomeOf table call .answer)) [] [] table (outcomeOf table call .table) table
 
 -- 'For commands: 1, 3, 2.' A count above 64, which no call returns, is taken as 64.
-abbrev pub commandRefusals : Table → ℕ → Bool → List Refusal
+abbrev pub commandRefusals : (t : Table) (slot : ℕ) (allowed : Bool) → List Refusal
 commandRefusals t i allowed = Unless 1 (i <? (if t .count <? 64 then t .count else 64)) ∷ If 3 (t .wait) ∷ Unless 2 allowed ∷ []
 
 commands : (t next : Table) (i : ℕ) (allowed : Bool)

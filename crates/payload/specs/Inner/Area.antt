@@ -6,5 +6,5 @@ use Rattle.ground.specs.Drawn.{within}
 use Rattle.ground.specs.Plain.{_≤?_}
 
 -- k lies in one of the n lines from l on and in one of the m columns from c on
-unfoldable pub area : ℕ → ℕ → ℕ → ℕ → ℕ → ℕ → ℕ → Bool
+unfoldable pub area : (X place l n c m k : ℕ) → Bool
 area X place l n c m k = place ≤? k && (within l n ((k - place) / X) && within c m ((k - place) % X))

@@ -7,7 +7,7 @@ use lib.ListN.{length, getD}
 use Rattle.ground.specs.Table.{tabulate}
 
 -- rows of w bytes turned to lines of h: byte l of line i is byte i of row l
-abbrev pub turned : ℕ → ℕ → List ℕ → List ℕ
+abbrev pub turned : (h w : ℕ) (q : List ℕ) → List ℕ
 turned h w q = tabulate (h * w) (λ k. getD q (k % h * w + k / h) 0)
 
 -- the rows read: byte i of row l is byte j + i of the member ranked r + l
@@ -16,11 +16,11 @@ pub record Rows (h w : ℕ) (m : ℕ → ℕ → ℕ) (r j : ℕ) (before q : Li
   pub is : (l i : ℕ) → l < h → i < w → getD q (l * w + i) 0 ≡ m (r + l) (j + i)
 
 -- Of a block that lies in a frame of lines of X bytes, from line j and column r on: the byte at k, where the block is in lines of h bytes,
-abbrev pub lineByte : ℕ → ℕ → ℕ → ℕ → ℕ → List ℕ → ℕ → ℕ
+abbrev pub lineByte : (h X place j r : ℕ) (q : List ℕ) (k : ℕ) → ℕ
 lineByte h X place j r q k = getD q (((k - place) / X - j) * h + ((k - place) % X - r)) 0
 
 -- and where it is in rows of w bytes, one for each column.
-abbrev pub rowByte : ℕ → ℕ → ℕ → ℕ → ℕ → List ℕ → ℕ → ℕ
+abbrev pub rowByte : (w X place j r : ℕ) (q : List ℕ) (k : ℕ) → ℕ
 rowByte w X place j r q k = getD q (((k - place) % X - r) * w + ((k - place) / X - j)) 0
 
 -- eight rows of sixteen bytes, sixteen of eight, or sixteen of sixteen
