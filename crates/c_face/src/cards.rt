@@ -16,7 +16,6 @@ ghost use Rattle.circuits.specs.Answers.{answerNumber};
 ghost use Rattle.circuits.specs.Calls.Call.{Claim, Release, AddSlot, RemoveSlot, Report, Lapse, StartEpoch};
 ghost use Rattle.circuits.specs.Commands.{startOf};
 ghost use Rattle.circuits.specs.Owners.{ownerIn};
-ghost use Rattle.circuits.specs.Parts as P;
 ghost use Rattle.ground.specs.Drawn.{fillAt};
 ghost use Rattle.c_face.specs.Cards.{alone, areEpochs, boardBytesOn, callAnswerOn, callStateOn, cardBytes, cardOf, keptCard, outgoingBytesOn, ownedBytesOn, ownersIn, packetAnswerOn, packetBytesOn, partAt, partIn, payloadAnswerOn, payloadBytesOn, putCard, putOwn, ranksBytesOn, refusalOf, shownAnswerOn, startAnswerOn, startStateOn};
 ghost use Rattle.c_face.specs.Keeping.{byteAt, senderOf, stateBytes};

@@ -15,7 +15,6 @@ use Rattle.c_face.specs.Theorems.CratesOwn.{packet-own}
 use Rattle.c_face.specs.Theorems.Runs.{fits, meant, runC, runs-own, runs-sized}
 use Rattle.ground.specs.Truth.{and-left, and-right, le-or-lt, neither}
 use Rattle.packet.specs.Counts.{counts}
-use Rattle.packet.specs.declared.layout.Fields.{Fields}
 use Rattle.packet.specs.declared.reader.Reading.the-variants.{Packet}
 use Rattle.packet.specs.Kinds.{epochOf, epochs, frames, placeOf}
 use Rattle.packet.specs.Laws.Sent.{Sent, sent-as}

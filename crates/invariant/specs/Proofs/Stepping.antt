@@ -41,7 +41,7 @@ use Rattle.rows.specs.Laws.Port.{port-step}
 use Rattle.rows.specs.Port.{Port, portAt}
 use Rattle.rows.specs.Rows.{rowsFor}
 use Rattle.rows.specs.Step.{stepAt}
-use Rattle.step.specs.Arrival.{countsOn, flagged, frameDropped, joining, keeps, outside, runOf, takenOf}
+use Rattle.step.specs.Arrival.{countsOn, frameDropped, joining, keeps, outside, runOf, takenOf}
 use Rattle.step.specs.declared.arrival.Taken.{Taken}
 use Rattle.step.specs.declared.run.Run.{Run}
 use Rattle.step.specs.Laws.Arrival.{ranOn, taken-by}

@@ -5,7 +5,7 @@ use mathlib.Core.List.{List, [], _∷_, _++_}
 use mathlib.Core.Logic.{⊎-elim, _≢_}
 use Prim.Native.Nat.{ℕ, zero, suc, _+_, _-_, _%_, _≤_, _<_}
 use native.Mathlib.Omega.{arith}
-use lib.Dec.{eqb, leb}
+use lib.Dec.{leb}
 use lib.ListN.{List·getD-append, drop, getD, length, replicate, set, take, drop-of-length-le, length-append, length-replicate, length-set, length-take}
 use lib.Seq.{slice, drop-at, ext-getD, getD-append-add, getD-set-other, getD-set-same, getD-take, length-take-le, set-out, take-add, take-all, take-set-le, take-set-lt}
 use borrow.Author.Tests.{eq-eqb, le-leb, ne-eqb}

@@ -16,7 +16,7 @@ use Rattle.mending.specs.declared.measuring.Lengths.{Lengths}
 use Rattle.mending.specs.Follow.{beginning, fedIf, restoresFirst, restoresLast, restoresSecond, restoresThird}
 use Rattle.mending.specs.Laws.Copies.{lines-read, read-next, replicated, set-given}
 use Rattle.mending.specs.Laws.Lengths.{note-length}
-use Rattle.mending.specs.Laws.Sweeps.{Count, countWith, countFrame, countStart, droppedLength, given, keptBy, keptLength, lengthBy, lengthEnd, noKeys, notesLength, restoredLength, restoredLengths, withKey}
+use Rattle.mending.specs.Laws.Sweeps.{Count, countWith, countFrame, countStart, droppedLength, keptBy, keptLength, lengthBy, lengthEnd, noKeys, notesLength, restoredLength, restoredLengths, withKey}
 use Rattle.mending.specs.Laws.Reads.{line-lies, lineAt, no-lines, readAt, readBy}
 use Rattle.mending.specs.Lines.{Line, lineText, linesWith, recordOf}
 use Rattle.mending.specs.Told.{LARGEST, told}

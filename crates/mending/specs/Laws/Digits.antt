@@ -13,7 +13,6 @@ use Rattle.ground.specs.Truth.{and-left, and-right}
 use Rattle.mending.specs.Laws.Automaton.{set-behind}
 use Rattle.mending.specs.Laws.Layout.{Layout, frame-layout}
 use Rattle.mending.specs.Lines.{Line, capital, digitIn, digitPlace, recordOf, withDigit}
-use Rattle.recording.specs.declared.record.Record.{Record}
 use Rattle.recording.specs.declared.record.Record.the-variants.{Frame}
 use Rattle.recording.specs.Line.{MOST}
 use Rattle.recording.specs.Record.{flagIn, frameBy, lineRecord}

@@ -2,7 +2,7 @@
 use mathlib.Core.Path.{_≡_, refl, sym, ap, _∙_}
 use mathlib.Core.Bool.{Bool, true, false, cond, not, _&&_}
 use mathlib.Core.List.{List, [], _∷_, _++_}
-use Prim.Native.Nat.{ℕ, zero, suc, _+_, _-_, _%_, _≤_, _<_}
+use Prim.Native.Nat.{ℕ, zero, suc, _+_, _%_, _≤_, _<_}
 use native.Mathlib.Nat.{le-of-suc-le-suc, not-suc-le-zero}
 use native.Mathlib.Omega.{arith}
 use lib.Dec.{eqb, leb, ltb}
@@ -11,7 +11,7 @@ use borrow.Author.Tests.{eq-eqb, eqb-false, eqb-true, leb-true, ltb-false, ne-eq
 use Rattle.ground.specs.Truth.{and-left, cond-by}
 use Rattle.mending.specs.declared.follow.Follow.{Follow}
 use Rattle.mending.specs.Following.{followedIf}
-use Rattle.mending.specs.Follow.{afresh, countBack, fed, fedIf, going, lessPlace, restores, restoresFirst, restoresLast, restoresSecond, restoresThird}
+use Rattle.mending.specs.Follow.{afresh, countBack, fed, fedIf, going, lessPlace, restoresFirst, restoresLast, restoresSecond, restoresThird}
 use Rattle.mending.specs.Laws.Swept.{Good, enough, fed-small, framesBy, framesIn, good-by, in-order, inOrder, judged-is, left, leftIn, left-behind, newsBy, newsFrom, onto, seenBy, seenFrom}
 use Rattle.mending.specs.Laws.Sweeps.{Count, countWith, countStart, droppedLength, keptBy, keptLength, lengthBy, lengthEnd, notesLength, restoredLength, restoredLengths, setIf}
 use Rattle.mending.specs.Laws.Restored.{altered-here, altered-old, altered-suc, altered-zero, endedNews, ended-length, length-setIf, restoredNews}

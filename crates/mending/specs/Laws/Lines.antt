@@ -16,7 +16,7 @@ use Rattle.mending.specs.Following.{followedIf}
 use Rattle.mending.specs.Laws.Counts.{Counts, if-counts, if-length, if-twice}
 use Rattle.mending.specs.Laws.Digits.{capital-digit, digit-count, digit-no-end, digit-some, digit-within, with-count}
 use Rattle.mending.specs.Laws.Texts.{Ended, free-set}
-use Rattle.mending.specs.Lines.{Fate, Line, capital, countBy, countsOf, digitIn, digitPlace, fateBy, fateTo, judged, judgedBy, leftBy, mendedLines, outBy, recordOf, withDigit}
+use Rattle.mending.specs.Lines.{Fate, Line, capital, countBy, countsOf, digitIn, digitPlace, fateBy, fateTo, judgedBy, leftBy, mendedLines, outBy, recordOf, withDigit}
 use Rattle.mending.specs.Lines.{Fate as F}
 use Rattle.mending.specs.Mending.{noteBy, noteText, notesFrom}
 use Rattle.recording.specs.declared.record.Record.{Record}

@@ -5,8 +5,8 @@ use mathlib.Core.List.{List, [], _∷_, _++_, append-assoc, append-nil}
 use Prim.Native.Nat.{ℕ, suc, _+_, _-_, _≤_, _<_}
 use native.Mathlib.Omega.{arith}
 use lib.Dec.{eqb}
-use lib.ListN.{List·getD-append, drop, getD, length, take, drop-of-length-le, length-append, length-take}
-use lib.Seq.{sets, slice, getD-drop, length-take-le, sets-eq, take-all, take-at}
+use lib.ListN.{List·getD-append, drop, getD, length, take, drop-of-length-le, length-append}
+use lib.Seq.{slice, getD-drop, length-take-le, sets-eq, take-all, take-at}
 use borrow.Author.Tests.{eq-eqb, ne-eqb}
 use Rattle.ground.specs.Truth.{cond-by}
 use Rattle.mending.specs.declared.line.Read.{Read}

@@ -8,7 +8,6 @@ use Prim.Native.Nat.{ℕ, zero, suc, _+_, _-_, _%_, _≤_, _<_}
 use native.Mathlib.Nat.{le-of-suc-le-suc, not-suc-le-zero}
 use native.Mathlib.Omega.{arith}
 use lib.Dec.{eqb, leb, ltb}
-use lib.ListN.{set}
 use borrow.Author.Tests.{eqb-false, leb-true, ltb-false, ltb-true, not-true}
 use Rattle.ground.specs.Truth.{and-left, and-right, cond-by, le-or-lt}
 use Rattle.mending.specs.declared.follow.Follow.{Follow}

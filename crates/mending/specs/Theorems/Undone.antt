@@ -6,7 +6,7 @@ use mathlib.Core.Logic.{_⊎_, inl, inr}
 use Prim.Native.Nat.{ℕ, zero, suc, _+_, _-_, _/_, _%_, _^_, _≤_, _<_}
 use native.Mathlib.Omega.{arith}
 use lib.Dec.{eqb, ltb}
-use lib.ListN.{drop, getD, length, set, take, length-set}
+use lib.ListN.{getD, length, set, take, length-set}
 use lib.Seq.{getD-set-other, set-getD, set-set}
 use Rattle.ground.specs.Finite.{below, below-at}
 use Rattle.mending.specs.Laws.Automaton.{nothing}

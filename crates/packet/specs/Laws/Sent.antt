@@ -6,7 +6,7 @@ use Prim.Native.Nat.{ℕ, zero, suc, _+_, _-_, _*_, _/_, _%_, _^_, _≤_, _<_}
 use native.Mathlib.Omega.{arith}
 use lib.Dec.{eqb}
 use lib.ListN.{getD, length}
-use Rattle.ground.specs.Bits.{bit-number, bits, odd}
+use Rattle.ground.specs.Bits.{bit-number, odd}
 use Rattle.ground.specs.Polynomial.{apart}
 use Rattle.ground.specs.Table.{getD-tabulate, tabulate, tabulate-ext}
 use Rattle.packet.specs.Changes.{changed, changedBits, mostChanges}

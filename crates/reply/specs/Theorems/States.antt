@@ -5,7 +5,7 @@ use mathlib.Core.Bool.{Bool, true, false}
 use mathlib.Core.List.{List}
 use Prim.Native.Nat.{ℕ, _+_, _≤_, _<_}
 use native.Mathlib.Omega.{arith}
-use lib.ListN.{length, getD, replicate, length-replicate, List·getD-eq-default}
+use lib.ListN.{length, replicate, length-replicate, List·getD-eq-default}
 use Rattle.counting.specs.Each.{getD-each}
 use Rattle.ground.specs.Truth.{le-or-lt}
 use Rattle.reply.specs.declared.members.Port.{Port}

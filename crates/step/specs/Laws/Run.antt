@@ -9,7 +9,7 @@ use lib.Dec.{eqb, ltb}
 use borrow.Author.Tests.{eqb-true, ne-eqb, lt-ltb, le-ltb, le-leb, lt-leb}
 use Rattle.ground.specs.Truth.{eq-or-ne, le-or-lt}
 use Rattle.packet.specs.Clock.{by-kind}
-use Rattle.packet.specs.Counts.{counts, saysStart, toldBits, vc12Counts}
+use Rattle.packet.specs.Counts.{saysStart, toldBits, vc12Counts}
 use Rattle.packet.specs.Kinds.{frames, placeOf, tagBefore, vc12Kind}
 use Rattle.packet.specs.Laws.Counting.{counts-bit, counts-h4, counts-start, counts-vc12}
 use Rattle.packet.specs.Laws.Vc12Clock.{vc12-before, vc12-frames, vc12-place, vc12-tag}

@@ -57,9 +57,6 @@ use Rattle.sure_add.specs.Within.{ActiveWithin, CarriesWithin, bound}
 
 -- After each report MST says OK of exactly the numbers that are held in its epoch.
 module _ (k : Link) (a : Assumed k) (as-sent : AsSent k) (m₀ : Moment) (o : Started k m₀) where
-  some-told : (n m : ℕ) → n ≡ 0 → n ≡ m → 1 ≤ m → ⊥
-  some-told n m x y z = omega arith
-
   pub hears-back : (at : Time k) (w : Reported k (ownRun k m₀) at) → 1 ≤ w .many → (e q : ℕ) → Spoken (kindOf k) e q
       → mstFails (getD (replyOf (standing k (ownRun k m₀) at .rows) e) 0 0) q ≡ not (hasHolder (a .history) (suc (w .F / epochFrames k) + w .many) q)
   unfolding roadOf

@@ -1,7 +1,7 @@
 -- What a port claims of the store has the bits of its epoch's number: of the epochs that are marked, and as far as they have come of the one under way. Through a frame, and as an epoch is passed.
 -- The idea: a frame is put in step alone. It brings one bit of the count so far, and the fifth bit is in step only where the five are the number of the epoch; an epoch is marked with its last frame, which comes behind the fifth.
 use mathlib.Core.Path.{_≡_, refl, sym, _∙_}
-use mathlib.Core.Logic.{_⊎_, ⊎-elim, _≢_}
+use mathlib.Core.Logic.{⊎-elim, _≢_}
 use mathlib.Core.Bool.{Bool, true, false, cond}
 use mathlib.Core.List.{List}
 use Prim.Native.Nat.{ℕ, _+_, _/_, _<_}

@@ -6,7 +6,7 @@ use mathlib.Core.List.{List}
 use Prim.Native.Nat.{ℕ, suc, _+_, _/_, _<_}
 use native.Mathlib.Omega.{arith}
 use Rattle.counting.specs.Laws.Tests.{every-all}
-use Rattle.ground.specs.Table.{tabulate, tabulate-ext}
+use Rattle.ground.specs.Table.{tabulate-ext}
 use Rattle.packet.specs.Changes.{mostChanges}
 use Rattle.link.specs.Demand3.{Stands, Started, Time, ownRun, standing}
 use Rattle.link.specs.Demand3.Stands.{none-yet, reporting}
