@@ -7,12 +7,14 @@
   'name : ..', 'record Name (..) : ..' or the like. Where the path is a folder, in some file of it.
 - Of any other name in backticks, `crate::name` stands in that crate's src/, and a name alone stands somewhere in
   crates/*/specs or crates/*/src. Comments do not count.
+- A link is the path of the file to which it leads, from the top.
 """
 import re
 
 PARTS = r"[\s(){}\[\],;.:⌜⌝⟦⟧«»λ<>&]+"
 MARKS = r"\s*(?:(?:pub|unfoldable|abbrev|data|record) )*"
-PATH = r"(?:(?:crates|specs|must-fail)(?:/\w+)+(?:\.antt)?|[A-Z]\w*(?:/\w+)+\.antt)"
+PATH = r"(?:(?:crates|specs|must-fail)(?:/[\w-]*\w)+(?:\.antt)?|[A-Z]\w*(?:/\w+)+\.antt)"
+LINK = re.compile(r"\[[^\]\[]*\]\((?:\.\./)*([^()\s]*)\)")
 NAMES = r"`[\w:-]+`(?:(?:, | and |, and )`[\w:-]+`)*"
 
 
@@ -39,7 +41,7 @@ def blocks(page):
     heading, lines = "", []
     for line in page.splitlines() + [""]:
         if lines and (not line.strip() or line.startswith(("- ", "#", "|"))):
-            yield heading, " ".join(lines)
+            yield heading, LINK.sub(r"\1", " ".join(lines))
             lines = []
         if line.startswith("#"):
             heading = line.lstrip("# ")
