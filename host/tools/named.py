@@ -13,7 +13,7 @@ import re
 
 PARTS = r"[\s(){}\[\],;.:⌜⌝⟦⟧«»λ<>&]+"
 MARKS = r"\s*(?:(?:pub|unfoldable|abbrev|data|record) )*"
-PATH = r"(?:(?:crates|specs|must-fail)(?:/[\w-]*\w)+(?:\.antt)?|[A-Z]\w*(?:/\w+)+\.antt)"
+PATH = r"(?:(?:crates|specs|must-fail)(?:/[\w-]*\w)+(?:\.(?:antt|rt))?|[A-Z]\w*(?:/\w+)+\.antt)"
 LINK = re.compile(r"\[[^\]\[]*\]\((?:\.\./)*([^()\s]*)\)")
 NAMES = r"`[\w:-]+`(?:(?:, | and |, and )`[\w:-]+`)*"
 
