@@ -40,7 +40,6 @@ use Rattle.invariant.specs.Calls.{Receiver, ReceiverCall, portAfter, rec
 use Rattle.invariant.specs.Claims.{Claimed, HandedBy, HandedLast, tagIn}
 use Rattle.invariant.specs.Kept.Group.{Kept}
 use Rattle.invariant.specs.Words.{Unflagged}
-use Rattle.invariant.specs.Proofs.Stepping as Stepping
 use Rattle.step.specs.Theorems.Heard.{InStepExactly}
 use Rattle.invariant.specs.Heard.{Fourth, Recorded, Second}
 use Rattle.invariant.specs.Live.{Live, heardOf, isHeard}
@@ -122,7 +121,7 @@ ruling-number = Numbered.ruling-number
 pub step-words : (kind count P W : ℕ) (hold restore : List ℕ) (rows : List (List ℕ)) (store : List ℕ) → startAsAnswer kind count P W (length store) hold restore (length rows) ≡ 0
     → withoutMfi2 kind ≡ true → (calls : List ReceiverCall) (j : ℕ) → j < count → Unflagged j calls
     → InStepExactly kind (heardOf j (startedWith kind count P W hold restore rows store) calls []) (portAt (receiverRun (startedWith kind count P W hold restore rows store) calls .rows) j .step .count)
-step-words = Stepping.step-words
+step-words kind count P W hold restore rows store e free calls j b none = Lives.step-words kind count P W hold restore rows store e calls j b free none
 
 -- The packet being gathered (request 2026-04): in every phase the symbols of a run's last frames stand at their own places, and at own MFI1 7 of a port in step it is the packet that came.
 pub live-row : (kind count P W : ℕ) (hold restore : List ℕ) (rows : List (List ℕ)) (store : List ℕ) → startAsAnswer kind count P W (length store) hold restore (length rows) ≡ 0

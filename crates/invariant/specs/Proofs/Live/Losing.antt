@@ -1,7 +1,7 @@
 -- What a port's run says of the frames heard, with a frame more.
 -- The idea: in step `breaks` and `odd` go with the frames one by one. As the step is gained no frame has broken the count, so the packet that ended within the run has its own number.
-use mathlib.Core.Path.{_≡_, refl, sym, ap, _∙_}
-use mathlib.Core.Logic.{_⊎_, inl, inr, ⊎-elim}
+use mathlib.Core.Path.{_≡_, refl, sym, ap, subst, _∙_}
+use mathlib.Core.Logic.{⊎-elim}
 use mathlib.Core.Bool.{Bool, true, false, cond, not, _&&_, _||_}
 use mathlib.Core.List.{List, _∷_}
 use Prim.Native.Nat.{ℕ, zero, suc, _+_, _-_, _*_, _/_, _%_, _≤_, _<_}
@@ -16,6 +16,7 @@ use Rattle.invariant.specs.Kept.Run.{RunKept}
 use Rattle.invariant.specs.Live.{LiveRow, packetHeard, tagBack}
 use Rattle.invariant.specs.Proofs.Live.Places.{after-mod, ends-starts}
 use Rattle.invariant.specs.Proofs.Live.Rows.{packet-judged}
+use Rattle.invariant.specs.Proofs.Live.Runs.{Went}
 use Rattle.packet.specs.Clock.{by, h4-clock}
 use Rattle.packet.specs.Counts.{carriesLow, counts, h4Counts, startsCount, tagByHigh, tagByLow}
 use Rattle.packet.specs.Kinds.{endsEpoch, epochOf, frames, lead, placeOf, startsEpoch, tagAfter, tagBefore, tags}
@@ -25,13 +26,13 @@ use Rattle.packet.specs.Layout.{fieldsOf}
 use Rattle.packet.specs.Symbols.{entryFrom, rowFrom}
 use Rattle.rows.specs.declared.group.Group.{Group}
 use Rattle.rows.specs.declared.step.Step.{Step}
-use Rattle.step.specs.Arrival.{countsOn, flagOf, flagged, frameDropped, joining, keeps, outside, runOf, takenOf}
+use Rattle.step.specs.Arrival.{flagOf, runOf}
 use Rattle.step.specs.declared.arrival.Taken.{Taken}
 use Rattle.step.specs.declared.run.Run.{Run}
-use Rattle.step.specs.Laws.Arrival.{ranOn, taken-by}
+use Rattle.step.specs.Laws.Arrival.{ranOn}
 use Rattle.step.specs.Laws.Lost.{two-not-in-step}
 use Rattle.step.specs.OwnCount.{endsOdd, oddPacket, ownNumber, rightCrc, withoutMfi2}
-use Rattle.step.specs.Run.{begunRun, breaksAfter, endsPacket, furtherRun, gainedRun, h4RunOn, inStepAt, loses, noRun, oddAfter, runOn, secondRun, stayedRun}
+use Rattle.step.specs.Run.{begunRun, breaksAfter, endsPacket, furtherRun, gainedRun, h4RunOn, inStepAt, loses, noRun, oddAfter, runOn, secondRun, stayedRun, withBits}
 
 -- Tags, one frame on.
 
@@ -303,45 +304,16 @@ module _ (kind : ℕ) (run : Run) (row heard : List ℕ) (h : ℕ) (clock : with
   unfolding runOn h4RunOn
   heard-on = rw clock (cond-by After (inStepAt kind (run .count)) (stayedRun kind run odd h) (gainedRun kind run h) (λ e. stayed e) (λ e. gained e))
 
--- What a frame does to it: with 11 all is as given.
-abbrev pub HeardStep : ℕ → Step → List ℕ → Type 0
+abbrev pub HeardStep : (kind : ℕ) (s : Step) (heard : List ℕ) → Type 0
 HeardStep kind s heard = HeardRun kind (s .count) (s .next) (s .breaks) (s .odd) heard
 
-module _ (g : Group) (s : Step) (row heard : List ℕ) (flag : Bool) (h : ℕ) (clock : withoutMfi2 (g .kind) ≡ false) (k : RunKept (g .kind) (runOf s)) (live : LiveRow (g .kind) (s .count) (s .next) row heard)
-    (o : HeardStep (g .kind) s heard) where
-  abbrev ends : Bool
-  ends = endsOdd (g .kind) row (s .next) h
-
-  abbrev TakenSo : Taken → Type 0
-  TakenSo t = (t .answer ≡ 11) ⊎ HeardStep (g .kind) (t .step) (h ∷ heard)
-
-  ran : HeardBy (g .kind) (ranOn g s ends h) (h ∷ heard)
-  ran = heard-on (g .kind) (runOf s) row heard h clock k live o
-
-  none : TakenSo (flagged g s)
-  unfolding flagged
-  none = inr (heard-short (g .kind) 0 0 0 0 (h ∷ heard) (omega arith))
-
-  counted : TakenSo (countsOn g s (ranOn g s ends h))
-  unfolding countsOn
-  counted = inr ran
-
-  dropped : TakenSo (frameDropped g s (ranOn g s ends h))
-  unfolding frameDropped
-  dropped = inr ran
-
-  kept : (d : ℕ) → TakenSo (keeps g s (ranOn g s ends h) d)
-  unfolding keeps
-  kept d = inr ran
-
-  joined : (d : ℕ) → TakenSo (joining g s (ranOn g s ends h) d)
-  unfolding joining
-  joined d = inr ran
-
-  given : TakenSo (outside s)
-  unfolding outside
-  given = inl refl
-
-  pub taken-heard : TakenSo (takenOf g s flag ends h)
-  taken-heard =
-      taken-by TakenSo g s flag ends h (λ f. none) (λ f e. counted) (λ f e b. dropped) (λ f e b j w. kept _) (λ f e b j w. given) (λ f e b j w l. joined _) (λ f e b j w. dropped)
+-- What a frame that is one to the step record does to it.
+pub heard-went : (g : Group) (s : Step) (row heard : List ℕ) (flag : Bool) (h : ℕ) (t : Taken) → withoutMfi2 (g .kind) ≡ false → RunKept (g .kind) (runOf s)
+    → Went g s flag (endsOdd (g .kind) row (s .next) h) h t → LiveRow (g .kind) (s .count) (s .next) row heard → HeardStep (g .kind) s heard → HeardStep (g .kind) (t .step) (h ∷ heard)
+heard-went g s row heard flag h t clock k w live o =
+    subst After (sym (w .run))
+    (cond-by After flag (withBits (s .bits) noRun) (ranOn g s (endsOdd (g .kind) row (s .next) h) h) (λ f. heard-short (g .kind) 0 0 0 0 (h ∷ heard) (omega arith))
+    (λ f. heard-on (g .kind) (runOf s) row heard h clock k live o))
+  where
+    After : Run → Type 0
+    After run = HeardBy (g .kind) run (h ∷ heard)
