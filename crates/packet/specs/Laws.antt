@@ -1,4 +1,5 @@
 -- Laws on the definitions, for the proofs above them.
+pub mod Back
 pub mod Bounds
 pub mod Bytes
 pub mod Changes

@@ -41,13 +41,13 @@ unfolding h4Counts
 counts-first t h e =
     eqb-true (h % 16) (t % 16) (and-left (first t h) (high t h) (and-left (first t h && high t h) (low t h) e))
 
-counts-high : (t h : ℕ) → h4Counts t h ≡ true → t % 16 ≡ 0 → h / 16 ≡ t / 256 % 16
+pub counts-high : (t h : ℕ) → h4Counts t h ≡ true → t % 16 ≡ 0 → h / 16 ≡ t / 256 % 16
 unfolding h4Counts
 counts-high t h e z =
     let test : high t h ≡ true = and-right (first t h) (high t h) (and-left (first t h && high t h) (low t h) e) in
     eqb-true (h / 16) (t / 256 % 16) (rw (eq-eqb (t % 16) 0 z) at test)
 
-counts-low : (t h : ℕ) → h4Counts t h ≡ true → t % 16 ≡ 1 → h / 16 ≡ t / 16 % 16
+pub counts-low : (t h : ℕ) → h4Counts t h ≡ true → t % 16 ≡ 1 → h / 16 ≡ t / 16 % 16
 unfolding h4Counts
 counts-low t h e z =
     let test : low t h ≡ true = and-right (first t h && high t h) (low t h) e in

@@ -66,6 +66,10 @@ pub epoch-of : (kind x : ℕ) → epochOf kind (tagOf kind x) ≡ (x + lead kind
 unfolding epochOf
 epoch-of kind x = by (λ L E N l. (x % N + l) % N / L ≡ (x + l) / L % E) (omega arith) (omega arith) kind
 
+pub epoch-lt : (kind t : ℕ) → epochOf kind t < epochs kind
+unfolding epochOf
+epoch-lt kind t = by (λ L E N l. (t + l) % N / L < E) (omega arith) (omega arith) kind
+
 -- an epoch's first tag is of that epoch and stands at its first place
 pub first-of : (kind e : ℕ) → e < epochs kind → (epochOf kind (firstTag kind e) ≡ e) × (placeOf kind (firstTag kind e) ≡ 0)
 unfolding epochOf placeOf firstTag

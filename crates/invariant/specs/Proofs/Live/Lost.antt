@@ -18,10 +18,11 @@ use Rattle.invariant.specs.Proofs.Calls as Calls
 use Rattle.invariant.specs.Proofs.Kept.Start.{started-kept, started-with}
 use Rattle.invariant.specs.Proofs.Laws.Flags.{flag-on}
 use Rattle.invariant.specs.Proofs.Live.Calls.{refusal-unheard, stands}
-use Rattle.invariant.specs.Proofs.Live.Losing.{HeardBy, HeardStep, before-after, odd-now}
+use Rattle.invariant.specs.Proofs.Live.Losing.{HeardBy, HeardStep, odd-now}
 use Rattle.invariant.specs.Proofs.Sizes.{run-sizes}
 use Rattle.packet.specs.Counts.{h4Counts}
 use Rattle.packet.specs.Kinds.{tagAfter}
+use Rattle.packet.specs.Laws.Back.{before-after}
 use Rattle.packet.specs.Laws.Counting.{counts-h4}
 use Rattle.phases.specs.Sizes.{portsIn}
 use Rattle.receiver.specs.Frame.{frameAnswer, frameRefusal, takenIn}
