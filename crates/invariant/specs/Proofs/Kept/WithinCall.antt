@@ -21,6 +21,7 @@ use Rattle.packet.specs.declared.reader.Reading.{Reading}
 use Rattle.packet.specs.declared.reader.Reading.the-variants.{Fixed, Packet, Unassigned}
 use Rattle.packet.specs.Kinds.{epochAfter, epochOf, fixedKind}
 use Rattle.packet.specs.Reading.{readFields}
+use Rattle.packet.specs.Theorems.Fixed.{fixed-word}
 use Rattle.packet.specs.Theorems.Tags.{epoch-after-lt, epochs-some, frames-two}
 use Rattle.packet.specs.Words.{ADD, DNU, EOS, FIXED, IDLE, NORM, assigned}
 use Rattle.phases.specs.Beginning.{begins, foremost, noTag, ready, within}
@@ -49,7 +50,6 @@ use Rattle.rows.specs.Step.{stepAt}
 use Rattle.step.specs.Arrival.{flagOf, inStep, takenOf}
 use Rattle.step.specs.declared.arrival.Taken.{Taken}
 use Rattle.packet.specs.Fixed.{fixedRulingOf}
-use Rattle.step.specs.Laws.FixedPackets.{fixed-word}
 use Rattle.step.specs.Laws.Packets.{row-by}
 use Rattle.step.specs.OwnCount.{ownNumber, ownRuling, rulingIn, withoutMfi2}
 use Rattle.store.specs.Frames.{packetIn}
