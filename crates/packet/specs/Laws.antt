@@ -6,9 +6,11 @@ pub mod Changes
 pub mod Counting
 pub mod Distances
 pub mod Epochs
+pub mod Known
 pub mod Mst
 pub mod Nibbles
 pub mod OwnBits
+pub mod Reading
 pub mod Sent
 pub mod Symbols
 pub mod Vc12

@@ -68,6 +68,18 @@ counts-by t h same-first same-high same-low =
     (and-true (first t h) (high t h) (eq-eqb (h % 16) (t % 16) same-first) (implied (t % 16) 0 (h / 16) (t / 256 % 16) same-high))
     (implied (t % 16) 1 (h / 16) (t / 16 % 16) same-low)
 
+-- from MFI1 2 on a frame tells nothing of MFI2
+pub counts-later : (t h : ℕ) → 1 < t % 16 → eqb (h % 16) (t % 16) ≡ h4Counts t h
+unfolding h4Counts
+counts-later t h b =
+    let none : t % 16 ≢ 0 = (λ (z : t % 16 ≡ 0). omega arith) in
+    let one : t % 16 ≢ 1 = (λ (z : t % 16 ≡ 1). omega arith) in
+    rw (ne-eqb (t % 16) 0 none, ne-eqb (t % 16) 1 one) (kept (first t h))
+  where
+    kept : (b : Bool) → b ≡ (b && true && true)
+    kept true = refl
+    kept false = refl
+
 -- A frame of a run of the step rule.
 
 -- what the first frame of a run tells of the tag to come

@@ -1,10 +1,11 @@
 -- Fixed groups' packets (request 2026-12): what is written reads as given, and so does a neighbour's packet, whatever its other nibbles; nothing but MFI2, SQ and the word decides what is read, the answers are 9 and 8 in writing and 9 and 6 in reading, and one changed bit is told by nothing.
 use mathlib.Core.Path.{_≡_, refl, _∙_}
+use mathlib.Core.Logic.{_≢_}
 use mathlib.Core.Bool.{Bool, true, false, cond}
 use mathlib.Core.List.{List}
 use Prim.Native.Nat.{ℕ, _/_, _%_, _≤_, _<_}
 use native.Mathlib.Omega.{arith}
-use borrow.Author.Tests.{ltb-true}
+use borrow.Author.Tests.{ltb-true, ne-eqb}
 use lib.Dec.{eqb, ltb}
 use lib.ListN.{getD, length, replicate}
 use Rattle.ground.specs.Polynomial.{apart}
@@ -21,7 +22,7 @@ use Rattle.packet.specs.Laws.Counting.{counted-with, counts-h4}
 use Rattle.packet.specs.Laws.Nibbles.{Nibbles, highs-back}
 use Rattle.packet.specs.Layout.{byteOf, fieldsOf, h4Of, highsOf}
 use Rattle.packet.specs.Reading.{readingNumber}
-use Rattle.packet.specs.Ruling.{rulingBy}
+use Rattle.packet.specs.Ruling.{refused, rulingBy}
 use Rattle.packet.specs.Symbols.{entryFrom, packetRow, rowFrom}
 use Rattle.packet.specs.Theorems.Tags.{tagOf}
 use Rattle.packet.specs.Words.{FIXED}
@@ -90,6 +91,11 @@ unfolding fixedRulingOf readFixedNibbles
 fixed-word ns =
     cond-by (λ (q : Reading). rulingBy q .word ≡ FIXED) (eqb (getD ns 10 0 % 16) FIXED)
     (Packet (fixedFields (byteOf (getD ns 8 0) (getD ns 9 0)) (byteOf (getD ns 6 0) (getD ns 7 0)))) Unassigned (λ e. refl) (λ e. refl)
+
+-- and one with another word rules nothing
+pub fixed-other : (ns : List ℕ) → getD ns 10 0 % 16 ≢ FIXED → fixedRulingOf ns ≡ refused
+unfolding fixedRulingOf readFixedNibbles
+fixed-other ns d = rw (ne-eqb (getD ns 10 0 % 16) FIXED d) refl
 
 -- 9, 8, and 0 for all else
 pub fixed-written : (e q : ℕ) (s : List ℕ) → writingNumber (writeFixedAnswer e q s) ≡ cond (eqb (length s) 16) (cond (fixedFits e q) 0 8) 9

@@ -5,7 +5,6 @@ use mathlib.Core.Bool.{true, false}
 use mathlib.Core.List.{List, [], _∷_}
 use Prim.Native.Nat.{ℕ, _%_, _<_}
 use lib.ListN.{getD, length}
-use borrow.Author.Tests.{ne-eqb}
 use Rattle.ground.specs.Truth.{cond-by}
 use Rattle.judge.specs.declared.seen.Seen.{Seen}
 use Rattle.judge.specs.Laws.Numbers.{numberAt}
@@ -13,9 +12,9 @@ use Rattle.judge.specs.Order.{activeIn, portOf}
 use Rattle.judge.specs.Theorems.Fixed.{AllFixed, Standing, fixed-else-held, fixed-judged, fixed-members, fixed-port, stands-sure, sure-stands}
 use Rattle.judge.specs.Verdict.{HELD, SURE, fixedVerdict, judgeOf}
 use Rattle.packet.specs.declared.ruling.Ruling.{Ruling}
-use Rattle.packet.specs.Fixed.{fixedRulingOf, readFixedNibbles}
 use Rattle.packet.specs.Kinds.{fixedKind}
 use Rattle.packet.specs.Ruling.{refused}
+use Rattle.packet.specs.Theorems.Fixed.{fixed-other}
 use Rattle.packet.specs.Words.{FIXED}
 use Rattle.phases.specs.Sizes.{knownKind, portsIn}
 use Rattle.receiver.specs.Fetch.{dueIn, reportIfDue}
@@ -77,9 +76,9 @@ known-kind g some = sizes-of (g .kind) (g .count) (g .payload) (g .window) (some
 
 -- 'a word other than FIXED is 6'
 foreign-refused : (epoch : ℕ) (ns : List ℕ) → getD ns 10 0 % 16 ≢ FIXED → ownRuling fixedKind epoch ns .good ≡ false
-unfolding ownRuling rulingIn fixedRulingOf readFixedNibbles
+unfolding ownRuling rulingIn
 foreign-refused epoch ns d =
-    rw (ne-eqb (getD ns 10 0 % 16) FIXED d) (cond-by (λ (r : Ruling). r .good ≡ false) (ownNumber epoch ns) refused refused (λ e. refl) (λ e. refl))
+    rw (fixed-other ns d) (cond-by (λ (r : Ruling). r .good ≡ false) (ownNumber epoch ns) refused refused (λ e. refl) (λ e. refl))
 
 pub fixed-foreign : (s : List (List ℕ)) (i : ℕ) → groupAt s .kind ≡ fixedKind → i < portsIn (groupAt s) → flagOf (portAt s i .step .whole) ≡ true
     → getD (portAt s i .ruling) 10 0 % 16 ≢ FIXED → Refused s i
