@@ -61,7 +61,7 @@ use Rattle.invariant.specs.Proofs.Settles as Settles
 use Rattle.invariant.specs.Proofs.Times.Between as Between
 use Rattle.invariant.specs.Proofs.Times.Calls as Times
 use Rattle.invariant.specs.Proofs.Times.Waits as Waits
-use Rattle.invariant.specs.Reports.{Given, HeldReport, Others, Refused, SameRule, Stored, Unstopped, ackIn, nextReport, passedRows, portSeen, reportPorts, reportsOf, successive}
+use Rattle.invariant.specs.Reports.{ByNumber, Given, HeldReport, Others, Refused, SameRule, Stored, Unstopped, ackIn, nextReport, passedRows, portSeen, reportPorts, reportsOf, successive}
 use Rattle.invariant.specs.Ruled.{OneEpoch}
 use Rattle.step.specs.OwnCount.{withoutMfi2}
 use Rattle.step.specs.Run.{inStepAt}
@@ -310,6 +310,11 @@ pub fixed-order : (s : List (List ℕ)) → groupAt s .kind ≡ fixedKind → du
     → (portOf (seenAll (groupAt s) s (portsIn (groupAt s))) (portsIn (groupAt s)) r < portsIn (groupAt s))
     × (numberAt (seenAll (groupAt s) s (portsIn (groupAt s))) (portOf (seenAll (groupAt s) s (portsIn (groupAt s))) (portsIn (groupAt s)) r) ≡ r))
 fixed-order = Fixed.fixed-order
+
+-- and those bytes, in one: sixteen group frames of all X ports in the order of the numbers that their ruling packets carry, and the output beyond them as it was
+pub fixed-bytes : (s : List (List ℕ)) → groupAt s .kind ≡ fixedKind → dueIn (groupAt s) (portsIn (groupAt s)) s ≡ true → (store out report : List ℕ) → fits s store out report ≡ true
+    → reportIfDue (groupAt s) (portsIn (groupAt s)) s .mark ≡ SURE → ByNumber s store out (fetchOut s store out report)
+fixed-bytes = Fixed.fixed-bytes
 
 -- a whole ruling packet with another word is refused, so its epoch is held (held-report): a stream with LCAS is never read
 pub fixed-foreign : (s : List (List ℕ)) (i : ℕ) → groupAt s .kind ≡ fixedKind → i < portsIn (groupAt s) → flagOf (portAt s i .step .whole) ≡ true
