@@ -1,5 +1,5 @@
 -- Each way out of the packet's C calls, as the definitions have it.
-use mathlib.Core.Path.{_≡_, refl, _∙_, sym}
+use mathlib.Core.Path.{_≡_, refl, _∙_, sym, ap}
 use mathlib.Core.Bool.{Bool, true, false, _&&_, false≢true}
 use mathlib.Core.List.{List, _++_}
 use Prim.Native.Nat.{ℕ, _<_}
@@ -8,11 +8,11 @@ use borrow.Author.Tests.{eq-eqb, ne-eqb, lt-ltb, ltb-true}
 use lib.Dec.{ltb}
 use lib.ListN.{length, drop, drop-of-length-le}
 use Rattle.ground.specs.Truth.{and-left, and-right, fails}
-use Rattle.packet.specs.Clock.{by-kind}
 use Rattle.packet.specs.declared.layout.Fields.{Fields}
 use Rattle.packet.specs.declared.reader.Reading.{Reading}
 use Rattle.packet.specs.declared.reader.Reading.the-variants.{Packet}
-use Rattle.packet.specs.Laws.Bounds.{bounds, vc12-bounds}
+use Rattle.packet.specs.Laws.Bounds.{sent-bounds}
+use Rattle.packet.specs.Laws.Sent.{sent-h4, sent-vc12}
 use Rattle.packet.specs.Laws.Writing.{unfit-answer, unfit-bytes}
 use Rattle.packet.specs.Reading.{readAnswer, readingNumber}
 use Rattle.packet.specs.Sent.{sentAnswer, sentBytes, sentFits}
@@ -65,11 +65,9 @@ module _ (epoch word gid mst ack sq : ℕ) where
 
   -- where a field is no byte, the fields fit no packet
   pub unfit : (kind reserved : ℕ) → areBytes epoch word gid mst ack sq ≡ false → sentFits kind (given epoch word gid mst ack sq reserved) ≡ false
-  unfolding sentFits
   unfit kind reserved e =
       fails (sentFits kind (given epoch word gid mst ack sq reserved))
-      (by-kind (λ (k : ℕ). sentFits k f ≡ true → ⊥) (λ t. let b = vc12-bounds f t in wide (omega arith) (omega arith) (omega arith) (omega arith) (omega arith) (omega arith))
-      (λ k clock t. let b = bounds f (rw clock at t) in wide (omega arith) (omega arith) (omega arith) (omega arith) (omega arith) (omega arith)) kind)
+      (λ t. let b = sent-bounds kind f t in wide (omega arith) (omega arith) (omega arith) (omega arith) (omega arith) (omega arith))
     where
       f : Fields
       f = given epoch word gid mst ack sq reserved
@@ -85,12 +83,10 @@ module _ (epoch word gid mst ack sq : ℕ) where
 -- H4's packet and VC-12's, by their kinds
 module _ (f : Fields) (s : List ℕ) (r : ℕ) (out : List ℕ) where
   pub write-h4 : (r ≡ writingNumber (sentAnswer 0 f s)) × (out ≡ sentBytes 0 f s) → (r ≡ writingNumber (writeAnswer f s)) × (out ≡ writeBytes f s)
-  unfolding sentAnswer sentBytes
-  write-h4 e = e
+  write-h4 e = (e .0 ∙ ap writingNumber (sent-h4 f s .0), e .1 ∙ sent-h4 f s .1)
 
   pub write-vc12 : (r ≡ writingNumber (sentAnswer 1 f s)) × (out ≡ sentBytes 1 f s) → (r ≡ writingNumber (writeVc12Answer f s)) × (out ≡ writeVc12Bytes f s)
-  unfolding sentAnswer sentBytes
-  write-vc12 e = e
+  write-vc12 e = (e .0 ∙ ap writingNumber (sent-vc12 f s .0), e .1 ∙ sent-vc12 f s .1)
 
 -- ten lent bytes for what is read, and any other number of them
 module _ (h4 s : List ℕ) where

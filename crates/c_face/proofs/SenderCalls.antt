@@ -10,6 +10,7 @@ use lib.ListN.{length}
 use borrow.Author.Tests.{eq-eqb, ne-eqb, ltb-true, not-false}
 use Rattle.ground.specs.Truth.{and-left, and-right, le-or-lt}
 use Rattle.packet.specs.Clock.{by}
+use Rattle.packet.specs.Laws.Known as Known
 use Rattle.packet.specs.Kinds as K
 use Rattle.packet.specs.Kinds.{epochs, knownKind}
 use Rattle.packet.specs.Theorems.Tags.{epochs-fit}
@@ -59,8 +60,8 @@ module _ (state : List ℕ) (fits : Bool) (call : SenderCall) where
 
 -- a number that is no byte is no kind
 pub unknown : (kind : ℕ) → 255 < kind → false ≡ sends kind
-unfolding sends knownKind
-unknown kind h = rw (ne-eqb kind 0 (omega arith), ne-eqb kind 1 (omega arith), ne-eqb kind 2 (omega arith)) refl
+unfolding sends
+unknown kind h = rw (Known.unknown kind h) refl
 
 pub known-sent : (kind : ℕ) (known : Bool) → known ≡ knownKind kind → (known && not (eqb kind 2)) ≡ sends kind
 unfolding sends

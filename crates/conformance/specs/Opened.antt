@@ -50,7 +50,7 @@ use Rattle.orders.specs.Orders.{outcomeBy}
 use Rattle.packet.specs.Changes.{bringsMfi2, changed, keptPart, mostChanges}
 use Rattle.packet.specs.Counts.{carriesLow, counts, h4Counts, saysStart, startsCount, tagByHigh, tagByLow, toldBits, vc12Counts}
 use Rattle.packet.specs.Crc.{crcOf, divisor, nibbleBits}
-use Rattle.packet.specs.Fixed.{fixedNibbles, fixedRulingOf, readFixedAnswer, readFixedNibbles, writeFixedAnswer, writeFixedBytes}
+use Rattle.packet.specs.Fixed.{fixedNibbles, fixedNibblesWith, fixedRulingOf, readFixedAnswer, readFixedNibbles, writeFixedAnswer, writeFixedBytes}
 use Rattle.packet.specs.Kinds.{distanceOf, endsEpoch, epochAfter, epochOf, epochs, epochsIn, firstTag, frames, idleNumber, knownKind, lead, mstEpochs, mstFails, mstFirst, mstNumbers, payloadRight, placeOf, startsEpoch, tagAfter, tagBefore, tags}
 use Rattle.packet.specs.Layout.{carriedIn, dataOf, h4Of, highsOf, nibblesOf, sealedOf}
 use Rattle.packet.specs.Layout.{fieldsOf as fieldsOf-packet-Layout}
@@ -149,7 +149,7 @@ unfolding indexAfter indexOf boardByte boardBytesOf rankByte ranksBytesOf shownA
     feedBytes feedOf finishBytes finishOf lastSession lastText usedOf toldTable after activeIn orderOf portOf rankOf-judge-Order doubtfulBy eosAlone eosWrong
     exact fixedExact fixedHeld fixedVerdict gidDiffers heldBy highest-judge-Verdict judgeOf lcasVerdict missing repeats takes followed capital digitPlace judged linesWith recordOf-mending-Lines mendAnswer mendedOf notesOf
     fitting-mending-Mending readAnswer-mending-Mending lengthsOf mendedLeft notesLeft outcomeBy carriesLow
-    counts h4Counts saysStart toldBits vc12Counts bringsMfi2 changed keptPart mostChanges entryAt entryFrom entryWith rowFrom symbolAt symbolIn symbolOf withSymbol startsCount tagByHigh tagByLow crcOf divisor nibbleBits fixedNibbles fixedRulingOf readFixedAnswer readFixedNibbles
+    counts h4Counts saysStart toldBits vc12Counts bringsMfi2 changed keptPart mostChanges entryAt entryFrom entryWith rowFrom symbolAt symbolIn symbolOf withSymbol startsCount tagByHigh tagByLow crcOf divisor nibbleBits fixedNibbles fixedNibblesWith fixedRulingOf readFixedAnswer readFixedNibbles
     writeFixedAnswer writeFixedBytes distanceOf endsEpoch epochAfter epochOf epochs epochsIn firstTag frames idleNumber knownKind lead mstEpochs mstFails mstFirst
     mstNumbers payloadRight placeOf startsEpoch tagAfter tagBefore tags carriedIn dataOf fieldsOf-packet-Layout h4Of highsOf nibblesOf sealedOf readAnswer
     readNibbles readRow rulingOf sentAnswer sentBytes sentFits lowestOf readVc12Answer readVc12Bits readVc12Row rowBits vc12Bits vc12Bytes vc12Data

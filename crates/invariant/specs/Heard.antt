@@ -6,12 +6,12 @@ use Prim.Native.Nat.{ℕ, suc}
 use lib.ListN.{drop}
 use Rattle.ground.specs.Plain.{if_then_else_}
 use Rattle.packet.specs.Counts.{counts}
-use Rattle.packet.specs.Kinds.{epochOf, placeOf, tagAfter, tagBefore}
+use Rattle.packet.specs.Kinds.{epochOf, placeOf, tagAfter, tagBack, tagBefore}
 use Rattle.rows.specs.Port.{Port}
 use Rattle.step.specs.Arrival.{flagOf}
 use Rattle.step.specs.OwnCount.{oddPacket}
 use Rattle.step.specs.Run.{endsPacket}
-use Rattle.invariant.specs.Live.{packetHeard, tagBack}
+use Rattle.invariant.specs.Live.{packetHeard}
 
 -- how many of the latest in a row do not count by the own count
 abbrev pub broken : (kind next : ℕ) (heard : List ℕ) → ℕ

@@ -2,10 +2,10 @@
 use mathlib.Core.Path.{_≡_}
 use mathlib.Core.Bool.{Bool, true, not, _&&_}
 use mathlib.Core.List.{List, [], _∷_}
-use Prim.Native.Nat.{ℕ, zero, suc, _-_, _≤_, _<_}
+use Prim.Native.Nat.{ℕ, _-_, _≤_, _<_}
 use lib.ListN.{getD, length}
 use Rattle.ground.specs.Plain.{if_then_else_, _==_}
-use Rattle.packet.specs.Kinds.{frames, placeOf, startsEpoch, tagBefore}
+use Rattle.packet.specs.Kinds.{frames, placeOf, startsEpoch, tagBack}
 use Rattle.packet.specs.Symbols.{rowFrom, symbolAt, symbolOf, withSymbol}
 use Rattle.receiver.specs.Frame.{frameAnswer}
 use Rattle.rows.specs.Port.{Port}
@@ -26,11 +26,6 @@ heardWith j x (Fetch out report) heard = heard
 abbrev pub heardOf : (port : ℕ) (x : Receiver) (calls : List ReceiverCall) (heard : List ℕ) → List ℕ
 heardOf j x [] heard = heard
 heardOf j x (c ∷ calls) heard = heardOf j (receiverAfter x c) calls (heardWith j x c heard)
-
--- by the own count, the tag of the frame that came d before the latest
-abbrev pub tagBack : (kind next distance : ℕ) → ℕ
-tagBack kind next zero = tagBefore kind next
-tagBack kind next (suc d) = tagBefore kind (tagBack kind next d)
 
 -- Of each of the last frames of the run, as many as an epoch has, its symbol stands at its own place.
 pub record LiveRow (kind count next : ℕ) (row heard : List ℕ) : Type 0 where

@@ -13,4 +13,3 @@ pub mod Numbered
 pub mod Reports
 pub mod Times
 pub mod Live
-pub mod Stepping

@@ -2,7 +2,8 @@
 use mathlib.Core.Path.{_≡_}
 use mathlib.Core.Bool.{Bool, _&&_, true, false, not}
 use mathlib.Core.List.{List, [], _∷_}
-use Prim.Native.Nat.{ℕ, _<_, zero, suc}
+use Prim.Native.Nat.{ℕ, _<_, _+_, _*_, _/_, _%_, zero, suc}
+use Rattle.ground.specs.Drawn.{fillAt}
 use Rattle.ground.specs.Plain.{if_then_else_, _==_}
 use Rattle.judge.specs.Seen.{sizeOf}
 use Rattle.packet.specs.declared.ruling.Ruling.{Ruling}
@@ -14,7 +15,7 @@ use Rattle.rows.specs.Step.{stepAt}
 use Rattle.step.specs.OwnCount.{ownRuling}
 use Rattle.step.specs.Arrival.{flagOf, readable}
 use mathlib.Core.Logic.{_≢_}
-use lib.ListN.{length}
+use lib.ListN.{getD, length}
 use Rattle.phases.specs.Due.{silent}
 use Rattle.phases.specs.Passing.{passedGroup, passedOf}
 use Rattle.phases.specs.Sizes.{portsIn}
@@ -23,7 +24,7 @@ use Rattle.receiver.specs.Frame.{frameRefusal, takenIn, frameAnswer, frameStore
 use Rattle.reply.specs.declared.members.Port.{Port as ReplyPort}
 use Rattle.reply.specs.Telling.{ackOf}
 use Rattle.rows.specs.Group.{groupAt}
-use Rattle.packet.specs.Kinds.{epochAfter}
+use Rattle.packet.specs.Kinds.{epochAfter, fixedKind, frames}
 use Rattle.store.specs.Frames.{placeIn, storedAt}
 use Rattle.store.specs.Laws.Stands.{Stands}
 use Rattle.judge.specs.Verdict.{HELD}
@@ -57,6 +58,18 @@ pub record Gathers (g h : Group) : Type 0 where
 pub record Given (s : List (List ℕ)) (store out report : List ℕ) : Type 0 where
   pub fitting : fits s store out report ≡ true
   pub due : dueIn (groupAt s) (portsIn (groupAt s)) s ≡ true
+
+-- The output after a sure report of a fixed group (request 2026-12), X being the number of ports: the group frames of an epoch one after the other, of X x P bytes each, in the order of the numbers, and the rest of it as it was.
+pub record ByNumber (s : List (List ℕ)) (store out after : List ℕ) : Type 0 where
+  -- the port whose ruling packet carries each number
+  pub port : ℕ → ℕ
+  pub below : (q : ℕ) → q < portsIn (groupAt s) → port q < portsIn (groupAt s)
+  pub carries : (q : ℕ) → q < portsIn (groupAt s) → ruledBy (groupAt s) (portAt s (port q)) .number ≡ q
+  -- byte c of a group frame is byte c div X of the port with the number c mod X
+  pub bytes : after
+      ≡ (let X = portsIn (groupAt s) in
+      let XP = X * groupAt s .payload in
+      fillAt 0 (frames fixedKind * XP) (λ b. getD store (placeIn (groupAt s) (port (b % XP % X)) (b / XP) + b % XP / X) 0) out)
 
 -- the ports as the report's states are worked out from them
 abbrev pub passedRows : List (List ℕ) → List ℕ → List (List ℕ)

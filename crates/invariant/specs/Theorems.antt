@@ -40,7 +40,6 @@ use Rattle.invariant.specs.Calls.{Receiver, ReceiverCall, portAfter, rec
 use Rattle.invariant.specs.Claims.{Claimed, HandedBy, HandedLast, tagIn}
 use Rattle.invariant.specs.Kept.Group.{Kept}
 use Rattle.invariant.specs.Words.{Unflagged}
-use Rattle.invariant.specs.Proofs.Stepping as Stepping
 use Rattle.step.specs.Theorems.Heard.{InStepExactly}
 use Rattle.invariant.specs.Heard.{Fourth, Recorded, Second}
 use Rattle.invariant.specs.Live.{Live, heardOf, isHeard}
@@ -62,7 +61,7 @@ use Rattle.invariant.specs.Proofs.Settles as Settles
 use Rattle.invariant.specs.Proofs.Times.Between as Between
 use Rattle.invariant.specs.Proofs.Times.Calls as Times
 use Rattle.invariant.specs.Proofs.Times.Waits as Waits
-use Rattle.invariant.specs.Reports.{Given, HeldReport, Others, Refused, SameRule, Stored, Unstopped, ackIn, nextReport, passedRows, portSeen, reportPorts, reportsOf, successive}
+use Rattle.invariant.specs.Reports.{ByNumber, Given, HeldReport, Others, Refused, SameRule, Stored, Unstopped, ackIn, nextReport, passedRows, portSeen, reportPorts, reportsOf, successive}
 use Rattle.invariant.specs.Ruled.{OneEpoch}
 use Rattle.step.specs.OwnCount.{withoutMfi2}
 use Rattle.step.specs.Run.{inStepAt}
@@ -122,7 +121,7 @@ ruling-number = Numbered.ruling-number
 pub step-words : (kind count P W : ℕ) (hold restore : List ℕ) (rows : List (List ℕ)) (store : List ℕ) → startAsAnswer kind count P W (length store) hold restore (length rows) ≡ 0
     → withoutMfi2 kind ≡ true → (calls : List ReceiverCall) (j : ℕ) → j < count → Unflagged j calls
     → InStepExactly kind (heardOf j (startedWith kind count P W hold restore rows store) calls []) (portAt (receiverRun (startedWith kind count P W hold restore rows store) calls .rows) j .step .count)
-step-words = Stepping.step-words
+step-words kind count P W hold restore rows store e free calls j b none = Lives.step-words kind count P W hold restore rows store e calls j b free none
 
 -- The packet being gathered (request 2026-04): in every phase the symbols of a run's last frames stand at their own places, and at own MFI1 7 of a port in step it is the packet that came.
 pub live-row : (kind count P W : ℕ) (hold restore : List ℕ) (rows : List (List ℕ)) (store : List ℕ) → startAsAnswer kind count P W (length store) hold restore (length rows) ≡ 0
@@ -311,6 +310,11 @@ pub fixed-order : (s : List (List ℕ)) → groupAt s .kind ≡ fixedKind → du
     → (portOf (seenAll (groupAt s) s (portsIn (groupAt s))) (portsIn (groupAt s)) r < portsIn (groupAt s))
     × (numberAt (seenAll (groupAt s) s (portsIn (groupAt s))) (portOf (seenAll (groupAt s) s (portsIn (groupAt s))) (portsIn (groupAt s)) r) ≡ r))
 fixed-order = Fixed.fixed-order
+
+-- and those bytes, in one: sixteen group frames of all X ports in the order of the numbers that their ruling packets carry, and the output beyond them as it was
+pub fixed-bytes : (s : List (List ℕ)) → groupAt s .kind ≡ fixedKind → dueIn (groupAt s) (portsIn (groupAt s)) s ≡ true → (store out report : List ℕ) → fits s store out report ≡ true
+    → reportIfDue (groupAt s) (portsIn (groupAt s)) s .mark ≡ SURE → ByNumber s store out (fetchOut s store out report)
+fixed-bytes = Fixed.fixed-bytes
 
 -- a whole ruling packet with another word is refused, so its epoch is held (held-report): a stream with LCAS is never read
 pub fixed-foreign : (s : List (List ℕ)) (i : ℕ) → groupAt s .kind ≡ fixedKind → i < portsIn (groupAt s) → flagOf (portAt s i .step .whole) ≡ true

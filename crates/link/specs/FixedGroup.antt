@@ -1,11 +1,12 @@
 -- A fixed group's side of demand 3 (request 2026-12): 'X slots for the X ports, each sending FIXED under its own number, together 0 to X-1, and carrying payload in that order from the first frame on'.
 use mathlib.Core.Path.{_≡_}
-use mathlib.Core.List.{List, [], _∷_}
-use Prim.Native.Nat.{ℕ, suc, _+_, _/_, _%_, _≤_, _<_}
+use mathlib.Core.List.{List}
+use Prim.Native.Nat.{ℕ, suc, _+_, _≤_, _<_}
 use lib.ListN.{drop, length}
 use Rattle.ground.specs.Table.{tabulate}
 use Rattle.judge.specs.Verdict.{SURE}
 use Rattle.packet.specs.Changes.{mostChanges}
+use Rattle.packet.specs.Fixed.{fixedNibblesWith}
 use Rattle.packet.specs.Kinds.{epochs, fixedKind}
 use Rattle.packet.specs.Layout.{h4Of}
 use Rattle.packet.specs.Words.{FIXED}
@@ -28,27 +29,6 @@ pub record Numbered (f : FixedGroup) : Type 0 where
   pub first : f .first < epochs fixedKind
   pub low : (slot : ℕ) → slot < f .x → f .number slot < f .x
   pub once : (slot other : ℕ) → slot < f .x → other < f .x → f .number slot ≡ f .number other → slot ≡ other
-
--- A neighbour's packet, in the order of sending: 'MFI2 and SQ in their places' and the word FIXED. 'All other nibbles are .. not looked at in reading': `unread`, by their places.
-unfoldable pub fixedNibblesWith : (unread : ℕ → ℕ) (epoch sq : ℕ) → List ℕ
-fixedNibblesWith unread epoch sq =
-    unread 0
-    ∷ unread 1
-    ∷ unread 2
-    ∷ unread 3
-    ∷ unread 4
-    ∷ unread 5
-    ∷ (sq / 16)
-    ∷ (sq % 16)
-    ∷ (epoch / 16)
-    ∷ (epoch % 16)
-    ∷ FIXED
-    ∷ unread 11
-    ∷ unread 12
-    ∷ unread 13
-    ∷ unread 14
-    ∷ unread 15
-    ∷ []
 
 -- the H4 bytes of a slot's packet in the i-th epoch
 unfoldable pub fixedSent : (f : FixedGroup) (i slot : ℕ) → List ℕ

@@ -14,10 +14,30 @@ use Rattle.packet.specs.Layout.{byteOf, h4Of, highsOf}
 use Rattle.packet.specs.Ruling.{rulingBy}
 use Rattle.packet.specs.Words.{FIXED}
 
--- the sixteen nibbles in the order of sending
-unfoldable pub fixedNibbles : ℕ → ℕ → List ℕ
-fixedNibbles epoch sq =
-    0 ∷ 0 ∷ 0 ∷ 0 ∷ 0 ∷ 0 ∷ (sq / 16) ∷ (sq % 16) ∷ (epoch / 16) ∷ (epoch % 16) ∷ FIXED ∷ 0 ∷ 0 ∷ 0 ∷ 0 ∷ 0 ∷ []
+-- The sixteen nibbles in the order of sending: MFI2 and SQ in their places, the word FIXED, and by their places those that are 'not looked at in reading', whatever a neighbour puts there.
+unfoldable pub fixedNibblesWith : (unread : ℕ → ℕ) (epoch sq : ℕ) → List ℕ
+fixedNibblesWith unread epoch sq =
+    unread 0
+    ∷ unread 1
+    ∷ unread 2
+    ∷ unread 3
+    ∷ unread 4
+    ∷ unread 5
+    ∷ (sq / 16)
+    ∷ (sq % 16)
+    ∷ (epoch / 16)
+    ∷ (epoch % 16)
+    ∷ FIXED
+    ∷ unread 11
+    ∷ unread 12
+    ∷ unread 13
+    ∷ unread 14
+    ∷ unread 15
+    ∷ []
+
+-- 'All other nibbles are written zero'
+unfoldable pub fixedNibbles : (epoch sq : ℕ) → List ℕ
+fixedNibbles epoch sq = fixedNibblesWith (λ place. 0) epoch sq
 
 -- what they say: the word FIXED, and 0 in every field but two
 abbrev pub fixedFields : ℕ → ℕ → Fields

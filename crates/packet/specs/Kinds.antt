@@ -1,6 +1,6 @@
 -- Epochs, tags and MST (01, 'The control packet'), by the kind of packet. H4 and FIXED (request 2026-12) have one clock, VC-12 (request 2026-01) another; any other number counts as H4.
 use mathlib.Core.Bool.{Bool, not, _||_}
-use Prim.Native.Nat.{ℕ, _+_, _-_, _*_, _/_, _%_, _^_}
+use Prim.Native.Nat.{ℕ, zero, suc, _+_, _-_, _*_, _/_, _%_, _^_}
 use Rattle.ground.specs.Bits.{odd}
 use Rattle.ground.specs.Circle.{after}
 use Rattle.ground.specs.Plain.{if_then_else_, _==_}
@@ -39,6 +39,11 @@ tagAfter kind t = (t + 1) % tags kind
 
 unfoldable pub tagBefore : ℕ → ℕ → ℕ
 tagBefore kind t = (t + (tags kind - 1)) % tags kind
+
+-- by the tag to come, the tag of the frame that came so many before the latest
+abbrev pub tagBack : (kind next distance : ℕ) → ℕ
+tagBack kind next zero = tagBefore kind next
+tagBack kind next (suc d) = tagBefore kind (tagBack kind next d)
 
 -- how many frames the tag a lies after the tag b
 unfoldable pub distanceOf : (kind a b : ℕ) → ℕ

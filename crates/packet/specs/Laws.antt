@@ -1,13 +1,16 @@
 -- Laws on the definitions, for the proofs above them.
+pub mod Back
 pub mod Bounds
 pub mod Bytes
 pub mod Changes
 pub mod Counting
 pub mod Distances
 pub mod Epochs
+pub mod Known
 pub mod Mst
 pub mod Nibbles
 pub mod OwnBits
+pub mod Reading
 pub mod Sent
 pub mod Symbols
 pub mod Vc12

@@ -7,6 +7,7 @@ pub mod NoSecondAnswer
 pub mod ReadBack
 pub mod RefusesAll
 pub mod Reserved
+pub mod RuleAlike
 pub mod Shares
 pub mod Tags
 pub mod Vc12

@@ -13,7 +13,7 @@ use Rattle.packet.specs.declared.layout.Fields.{Fields}
 use Rattle.packet.specs.declared.reader.Reading.{Reading}
 use Rattle.packet.specs.declared.reader.Reading.the-variants.{Packet, Crc, Fixed, Unassigned}
 use Rattle.packet.specs.Crc.{crcOf, divisor, nibbleBits}
-use Rattle.packet.specs.Fixed.{fixedFields, fixedNibbles, readFixedNibbles}
+use Rattle.packet.specs.Fixed.{fixedFields, fixedNibbles, fixedNibblesWith, readFixedNibbles}
 use Rattle.packet.specs.Kinds.{epochOf, frames, idleNumber, lead, mstEpochs, mstFails, mstFirst, tags, vc12Kind}
 use Rattle.packet.specs.Layout.{byteOf, carriedIn, dataOf, fieldsOf, h4Of, nibblesOf, sealedOf}
 use Rattle.packet.specs.Reading.{readNibbles}
@@ -121,12 +121,12 @@ sums-break = (refl, refl)
 
 -- The CRC still checked, on SQ 5 in epoch 58: 5.
 checked-breaks : (readNibbles (fixedNibbles 58 5) ≡ Crc) × (readFixedNibbles (fixedNibbles 58 5) ≡ Packet (fixedFields 58 5))
-unfolding fixedNibbles readFixedNibbles readNibbles fieldsOf carriedIn crcOf divisor nibbleBits assigned
+unfolding fixedNibbles fixedNibblesWith readFixedNibbles readNibbles fieldsOf carriedIn crcOf divisor nibbleBits assigned
 checked-breaks = (refl, refl)
 
 -- The word judged as in LCAS, on SQ 0 in epoch 0, whose CRC is right: 7.
 judged-breaks : (readNibbles (fixedNibbles 0 0) ≡ Fixed) × (readFixedNibbles (fixedNibbles 0 0) ≡ Packet (fixedFields 0 0))
-unfolding fixedNibbles readFixedNibbles readNibbles fieldsOf carriedIn crcOf divisor nibbleBits assigned
+unfolding fixedNibbles fixedNibblesWith readFixedNibbles readNibbles fieldsOf carriedIn crcOf divisor nibbleBits assigned
 judged-breaks = (refl, refl)
 
 -- Wrong readings of request 2026-01.

@@ -1,11 +1,8 @@
 -- The steady frame's tests in the order of the code.
 use mathlib.Core.Path.{_≡_, refl, sym}
 use mathlib.Core.Bool.{Bool, true, false, _&&_, true≢false}
-use mathlib.Core.Logic.{_≢_}
-use Prim.Native.Nat.{ℕ, _%_, _<_}
-use native.Mathlib.Omega.{arith}
+use Prim.Native.Nat.{ℕ}
 use lib.Dec.{eqb}
-use borrow.Author.Tests.{ne-eqb}
 use Rattle.packet.specs.Counts.{h4Counts}
 use Rattle.rows.specs.declared.group.Group.{Group}
 use Rattle.rows.specs.declared.step.Step.{Step}
@@ -30,18 +27,6 @@ none a true true true false f x t = refl
 none a true true true true f false t = refl
 none true true true true true f true t = t
 none false true true true true f true t = refl
-
--- from MFI1 2 on a frame tells nothing of MFI2
-kept : (b : Bool) → b ≡ (b && true && true)
-kept true = refl
-kept false = refl
-
-pub counts-later : (t h : ℕ) → 1 < t % 16 → eqb (h % 16) (t % 16) ≡ h4Counts t h
-unfolding h4Counts
-counts-later t h b =
-    let none : t % 16 ≢ 0 = (λ (z : t % 16 ≡ 0). omega arith) in
-    let one : t % 16 ≢ 1 = (λ (z : t % 16 ≡ 1). omega arith) in
-    rw (ne-eqb (t % 16) 0 none, ne-eqb (t % 16) 1 one) (kept (eqb (h % 16) (t % 16)))
 
 module _ (g : Group) (s : Step) (flag : Bool) (h : ℕ) (left : flag ≡ false) where
   pub tests-hold : (flagOf (g .begun) && eqb (s .had) 1 && eqb (s .failed) 0 && eqb (s .breaks) 0 && inStep g s && flagOf (s .joined)) ≡ true

@@ -14,7 +14,8 @@ use Rattle.circuits.specs.Readings as card
 use Rattle.packet.specs.Clock.{h4-clock}
 use Rattle.packet.specs.declared.layout.Fields.{Fields}
 use Rattle.packet.specs.Fixed.{readFixedAnswer, writeFixedAnswer}
-use Rattle.packet.specs.Kinds.{epochs, knownKind}
+use Rattle.packet.specs.Kinds.{epochs}
+use Rattle.packet.specs.Laws.Known.{h4-known}
 use Rattle.packet.specs.Reading.{readAnswer, readingNumber}
 use Rattle.packet.specs.Vc12.{readVc12Answer, writeVc12Answer, writeVc12Bytes}
 use Rattle.packet.specs.Writing.{writeAnswer, writeBytes, writingNumber}
@@ -126,8 +127,8 @@ module _ (kind count first : ℕ) (state : List ℕ) (sized : length state ≡ 3
 
 -- there are senders of H4
 h4-sent : sends H4 ≡ true
-unfolding sends knownKind
-h4-sent = refl
+unfolding sends
+h4-sent = rw h4-known refl
 
 h4-epochs : epochs H4 ≡ 256
 h4-epochs = h4-clock (λ f e t l. e ≡ 256) refl H4 refl

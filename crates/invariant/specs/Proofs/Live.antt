@@ -1,5 +1,4 @@
 -- Why the packet being gathered is the one that came.
-pub mod Places
 pub mod Rows
 pub mod Runs
 pub mod Losing

@@ -12,7 +12,7 @@ use Rattle.judge.specs.declared.seen.Seen.{Seen}
 use Rattle.judge.specs.Order.{activeIn, orderOf, portOf, rankOf}
 use Rattle.judge.specs.Seen.{lackingSeen, numberedSeen, refusedSeen, seenAt}
 use Rattle.judge.specs.Verdict.{HELD, SURE, fixedExact, fixedHeld, fixedVerdict, judgeOf, missing, repeats, takes}
-use Rattle.packet.specs.Fixed.{fixedNibbles, fixedRulingOf, readFixedNibbles}
+use Rattle.packet.specs.Fixed.{fixedNibbles, fixedNibblesWith, fixedRulingOf, readFixedNibbles}
 use Rattle.packet.specs.Kinds.{epochOf, firstTag, fixedKind, frames, lead, tagBefore, tags}
 use Rattle.packet.specs.Layout.{fieldsOf, h4Of}
 use Rattle.phases.specs.Due.{brought, owesNothing}
@@ -74,5 +74,5 @@ ports-seen-breaks :
     × (wrong-out ≡ tabulate 32 (λ k. if k % 2 == 0 then 10 else 11) ++ replicate 16 0)
     × (reportIfDue group 3 rows .mark ≡ HELD)
     × (fetchOut rows store (replicate 48 0) (replicate 8 0) ≡ replicate 48 0)
-unfolding group port rows sent store wrong-mark seen wrong-out fixedNibbles fixedRulingOf readFixedNibbles h4Of fieldsOf ownRuling rulingIn ownNumber rulingEpoch seenOf seenAll orderOf activeIn portOf rankOf judgeOf fixedVerdict fixedHeld fixedExact missing repeats takes fetchOut fits fetchFits rowsFit storeFor outputFor portsIn knownKind sized outIfDue reportIfDue reportOf reportBy dueIn brought owesNothing readable inStep inStepAt outputOf outputBy framesInto frameInto startsOf placeIn ringOf firstMark epochOf firstTag frames lead tagBefore tags groupAt groupOf groupRow putGroup marksAt packetsAt putMarks putPackets rowIn putRow stepAt stepOf stepRow putStep
+unfolding group port rows sent store wrong-mark seen wrong-out fixedNibbles fixedNibblesWith fixedRulingOf readFixedNibbles h4Of fieldsOf ownRuling rulingIn ownNumber rulingEpoch seenOf seenAll orderOf activeIn portOf rankOf judgeOf fixedVerdict fixedHeld fixedExact missing repeats takes fetchOut fits fetchFits rowsFit storeFor outputFor portsIn knownKind sized outIfDue reportIfDue reportOf reportBy dueIn brought owesNothing readable inStep inStepAt outputOf outputBy framesInto frameInto startsOf placeIn ringOf firstMark epochOf firstTag frames lead tagBefore tags groupAt groupOf groupRow putGroup marksAt packetsAt putMarks putPackets rowIn putRow stepAt stepOf stepRow putStep
 ports-seen-breaks = (refl, refl, refl, refl)

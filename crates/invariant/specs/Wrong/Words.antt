@@ -9,11 +9,11 @@ use Rattle.ground.specs.Table.{tabulate}
 use Rattle.invariant.specs.Calls.ReceiverCall.{Fetch, Frame}
 use Rattle.invariant.specs.Calls.{Receiver, receiverRun, startedWith}
 use Rattle.invariant.specs.Claims.{tagIn}
-use Rattle.invariant.specs.Live.{heardOf, isHeard, packetHeard, tagBack}
+use Rattle.invariant.specs.Live.{heardOf, isHeard, packetHeard}
 use Rattle.invariant.specs.Reports.{Others, Unstopped, ackIn, gives, nextReport, reportsOf, stopsWith, successive}
 use Rattle.invariant.specs.Times.{outcomesOf, waitingIn}
 use Rattle.packet.specs.Counts.{carriesLow, startsCount, tagByHigh, tagByLow}
-use Rattle.packet.specs.Kinds.{epochAfter, epochs, firstTag, frames, idleNumber, lead, payloadRight, tagBefore, tags}
+use Rattle.packet.specs.Kinds.{epochAfter, epochs, firstTag, frames, idleNumber, lead, payloadRight, tagBack, tagBefore, tags}
 use Rattle.packet.specs.Symbols.{entryAt, entryFrom, entryWith, rowFrom, symbolOf, withSymbol}
 use Rattle.phases.specs.Beginning.{begins, ready}
 use Rattle.phases.specs.Due.{brought, owesNothing, silent}

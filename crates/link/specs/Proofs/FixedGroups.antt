@@ -1,5 +1,4 @@
 -- A fixed group keeps the laws of a sending side, and its reports are sure.
-pub mod Unread
 pub mod Packets
 pub mod Sure
 pub mod Over

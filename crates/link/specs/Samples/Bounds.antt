@@ -1,7 +1,7 @@
--- What demand 3 lets be so reaches as far as the minutes and 01 say: instances at the bounds.
+-- What demand 3 lets be so reaches as far down as the minutes and 01 say: instances at the lower bounds.
 use mathlib.Core.Path.{_≡_, refl}
 use mathlib.Core.List.{List, [], _∷_}
-use Prim.Native.Nat.{ℕ, _+_, _-_, _%_}
+use Prim.Native.Nat.{ℕ}
 use native.Mathlib.Omega.{arith}
 use borrow.Author.Tests.{eqb-true, ltb-true}
 use lib.ListN.{getD}
@@ -11,23 +11,13 @@ use Rattle.packet.specs.Changes.{changed, keptPart}
 use Rattle.packet.specs.Crc.{nibbleBits}
 use Rattle.packet.specs.Kinds.{epochs, frames}
 use Rattle.packet.specs.Layout.{highsOf}
-use Rattle.link.specs.FixedGroup.{Numbered}
 use Rattle.link.specs.History.{Allowed}
 use Rattle.link.specs.Link.{Damaged}
 
--- 'A group has 1 to 64 slots', from any first epoch on, with GID, MST and RS-Ack that change from epoch to epoch
-allowed-most : Allowed (record { kind = 0; slots = 64; first = 255; before = λ i. []; gid = λ i. i % 2; mst = λ i. i % 256; ack = λ i. (i + 1) % 2 })
-unfolding epochs
-allowed-most = record { lcas = refl; some = omega arith; most = omega arith; first = omega arith; gid = λ i. omega arith; mst = λ i. omega arith; ack = λ i. omega arith }
-
+-- 'A group has 1 to 64 slots': one. 64, from the last epoch on, are those of Largest.
 allowed-least : Allowed (record { kind = 0; slots = 1; first = 0; before = λ i. []; gid = λ i. 0; mst = λ i. 0; ack = λ i. 0 })
 unfolding epochs
 allowed-least = record { lcas = refl; some = omega arith; most = omega arith; first = omega arith; gid = λ i. omega arith; mst = λ i. omega arith; ack = λ i. omega arith }
-
--- a fixed group of 64, numbered downwards (request 2026-12)
-numbered-most : Numbered (record { x = 64; first = 255; number = λ slot. 63 - slot; unread = λ i slot place. i + place })
-unfolding epochs
-numbered-most = record { most = omega arith; first = omega arith; low = λ slot b. omega arith; once = λ slot other hs ho e. omega arith }
 
 -- 'one to three bits changed': one, in the first nibble of the CRC
 abbrev sent : List ℕ

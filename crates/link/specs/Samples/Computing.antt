@@ -12,7 +12,7 @@ use Rattle.judge.specs.Verdict.{doubtfulBy, eosAlone, eosWrong, exact, fixedExa
 use Rattle.judge.specs.Verdict.{highest as highestSeen}
 use Rattle.packet.specs.Counts.{carriesLow, counts, h4Counts, startsCount, tagByHigh, tagByLow}
 use Rattle.packet.specs.Crc.{crcOf, divisor, nibbleBits}
-use Rattle.packet.specs.Fixed.{fixedRulingOf, readFixedNibbles}
+use Rattle.packet.specs.Fixed.{fixedNibblesWith, fixedRulingOf, readFixedNibbles}
 use Rattle.packet.specs.Kinds.{distanceOf, endsEpoch, epochAfter, epochOf, epochs, epochsIn, firstTag, frames, idleNumber, lead, mstEpochs, mstFails, mstFirst, mstNumbers, payloadRight, placeOf, startsEpoch, tagAfter, tagBefore, tags}
 use Rattle.packet.specs.Layout.{carriedIn, dataOf, fieldsOf, h4Of, nibblesOf, sealedOf}
 use Rattle.packet.specs.Reading.{readNibbles}
@@ -56,7 +56,7 @@ use Rattle.step.specs.Run.{begunRun, breaksAfter, endsPacket, furtherRun, gaine
 use Rattle.store.specs.Frames.{byteAt, h4At, packetIn, placeIn, ringOf, storedAt}
 use Rattle.store.specs.Marks.{cutByte, cutFrom, firstMark, markIn, markedAt, markedByte, passedByte, passedMarks}
 use Rattle.link.specs.Demand3.{Times}
-use Rattle.link.specs.FixedGroup.{fixedNibblesWith, fixedSent}
+use Rattle.link.specs.FixedGroup.{fixedSent}
 use Rattle.link.specs.History.{hasRank, packetSent, payloadSent, senderAt}
 use Rattle.link.specs.Link.{Link, allAsSent, expected, framesOf, roadOf}
 use Rattle.link.specs.Running.{Moment, drained, fetched, framed, fresh, through, turn, turns}

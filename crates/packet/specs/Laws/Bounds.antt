@@ -1,7 +1,7 @@
 -- What it says that fields fit a packet.
 use mathlib.Core.Path.{_≡_, refl, _∙_, sym}
 use mathlib.Core.Logic.{⊎-elim}
-use mathlib.Core.Bool.{Bool, true, false, _&&_, not, false≢true}
+use mathlib.Core.Bool.{Bool, true, false, cond, _&&_, not, false≢true}
 use Prim.Native.Nat.{ℕ, _^_, _≤_, _<_}
 use native.Mathlib.Omega.{arith}
 use borrow.Author.Tests.{ltb-true, ne-eqb, not-true}
@@ -9,6 +9,8 @@ use lib.Dec.{eqb, ltb}
 use Rattle.ground.specs.Truth.{and-left, and-right, le-or-lt}
 use Rattle.packet.specs.declared.layout.Fields.{Fields}
 use Rattle.packet.specs.declared.words.Word.{Word}
+use Rattle.packet.specs.Kinds.{vc12Kind}
+use Rattle.packet.specs.Sent.{sentFits}
 use Rattle.packet.specs.Vc12.{vc12Fits}
 use Rattle.packet.specs.Words.{FIXED, assigned}
 use Rattle.packet.specs.Writing.{fitsWithin, fitting}
@@ -98,3 +100,14 @@ bounds f t = within 256 256 (2 ^ 26) f t
 pub vc12-bounds : (f : Fields) → vc12Fits f ≡ true → Vc12Bounds f
 unfolding vc12Fits
 vc12-bounds f t = within 32 64 16 f t
+
+-- what fits a packet of any kind fits H4's
+pub sent-bounds : (kind : ℕ) (f : Fields) → sentFits kind f ≡ true → Bounds f
+unfolding sentFits
+sent-bounds kind f = go (eqb kind vc12Kind)
+  where
+    go : (b : Bool) → cond b (vc12Fits f) (fitting f) ≡ true → Bounds f
+    go true t =
+        let w : Vc12Bounds f = vc12-bounds f t in
+        record { epoch = omega arith; mst = w .mst; sq = omega arith; gid = w .gid; ack = w .ack; reserved = omega arith; nibble = w .nibble; word = w .word; not-fixed = w .not-fixed }
+    go false t = bounds f t

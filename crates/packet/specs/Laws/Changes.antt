@@ -1,15 +1,16 @@
 -- A frame with its kept part as sent, over the kind of packet: it counts as what was sent, but where it brings another nibble of MFI2.
-use mathlib.Core.Path.{_≡_, _∙_, ap}
-use mathlib.Core.Bool.{Bool, true, false, cond, _||_}
+use mathlib.Core.Path.{_≡_, refl, _∙_, ap}
+use mathlib.Core.Logic.{_≢_}
+use mathlib.Core.Bool.{Bool, true, false, cond, not, _||_, and-false}
 use Prim.Native.Nat.{ℕ, _+_, _*_, _/_, _%_, _<_}
 use native.Mathlib.Omega.{arith}
 use lib.Dec.{eqb, ltb}
-use borrow.Author.Tests.{eq-eqb, lt-ltb}
+use borrow.Author.Tests.{eq-eqb, lt-ltb, ne-eqb}
 use Rattle.ground.specs.Truth.{or-left, or-right}
-use Rattle.packet.specs.Changes.{bringsMfi2, keptPart}
+use Rattle.packet.specs.Changes.{bringsMfi2, keptPart, mostChanges}
 use Rattle.packet.specs.Clock.{by-kind}
 use Rattle.packet.specs.Counts.{counts, saysStart, vc12Counts}
-use Rattle.packet.specs.Kinds.{frames, lead, placeOf, vc12Kind}
+use Rattle.packet.specs.Kinds.{fixedKind, frames, lead, placeOf, vc12Kind}
 use Rattle.packet.specs.Laws.Counting.{counts-as, counts-as-vc12, counts-bit, counts-h4, counts-start, counts-vc12}
 use Rattle.packet.specs.Symbols.{symbolOf}
 
@@ -53,6 +54,20 @@ of-h4 kind clock t h g e kept same =
     (counts-as kind t h g clock sent low
     (λ (z : placeOf kind t ≡ lead kind). nibble (or-left (eqb (placeOf kind t) (lead kind)) (eqb (placeOf kind t) (lead kind + 1)) (eq-eqb (placeOf kind t) (lead kind) z)))
     (λ (z : placeOf kind t ≡ lead kind + 1). nibble (or-right (eqb (placeOf kind t) (lead kind)) (eqb (placeOf kind t) (lead kind + 1)) (eq-eqb (placeOf kind t) (lead kind + 1) z))))
+
+-- the frames that bring no nibble of MFI2
+pub brings-not : (kind place : ℕ) → place ≢ lead kind → place ≢ lead kind + 1 → bringsMfi2 kind place ≡ false
+unfolding bringsMfi2
+brings-not kind place d e = rw (ne-eqb place (lead kind) d, ne-eqb place (lead kind + 1) e) (and-false (not (eqb kind vc12Kind)))
+
+pub vc12-brings : (place : ℕ) → bringsMfi2 vc12Kind place ≡ false
+unfolding bringsMfi2
+vc12-brings place = refl
+
+-- of a fixed group's packet no bit may change
+pub fixed-unchanged : mostChanges fixedKind ≡ 0
+unfolding mostChanges
+fixed-unchanged = refl
 
 pub counts-kept : (kind : ℕ) → Keeps kind
 counts-kept kind = by-kind Keeps of-vc12 of-h4 kind

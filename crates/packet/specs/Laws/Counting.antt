@@ -2,6 +2,7 @@
 use mathlib.Core.Path.{_≡_, refl, _∙_, ap}
 use mathlib.Core.Logic.{⊎-elim, _≢_}
 use mathlib.Core.Bool.{Bool, true, false, cond, _&&_, not, _||_}
+use mathlib.Core.List.{List}
 use Prim.Native.Nat.{ℕ, _+_, _-_, _*_, _/_, _%_, _<_}
 use native.Mathlib.Omega.{arith}
 use lib.Dec.{eqb, ltb}
@@ -41,13 +42,13 @@ unfolding h4Counts
 counts-first t h e =
     eqb-true (h % 16) (t % 16) (and-left (first t h) (high t h) (and-left (first t h && high t h) (low t h) e))
 
-counts-high : (t h : ℕ) → h4Counts t h ≡ true → t % 16 ≡ 0 → h / 16 ≡ t / 256 % 16
+pub counts-high : (t h : ℕ) → h4Counts t h ≡ true → t % 16 ≡ 0 → h / 16 ≡ t / 256 % 16
 unfolding h4Counts
 counts-high t h e z =
     let test : high t h ≡ true = and-right (first t h) (high t h) (and-left (first t h && high t h) (low t h) e) in
     eqb-true (h / 16) (t / 256 % 16) (rw (eq-eqb (t % 16) 0 z) at test)
 
-counts-low : (t h : ℕ) → h4Counts t h ≡ true → t % 16 ≡ 1 → h / 16 ≡ t / 16 % 16
+pub counts-low : (t h : ℕ) → h4Counts t h ≡ true → t % 16 ≡ 1 → h / 16 ≡ t / 16 % 16
 unfolding h4Counts
 counts-low t h e z =
     let test : low t h ≡ true = and-right (first t h && high t h) (low t h) e in
@@ -66,6 +67,18 @@ counts-by t h same-first same-high same-low =
     and-true (first t h && high t h) (low t h)
     (and-true (first t h) (high t h) (eq-eqb (h % 16) (t % 16) same-first) (implied (t % 16) 0 (h / 16) (t / 256 % 16) same-high))
     (implied (t % 16) 1 (h / 16) (t / 16 % 16) same-low)
+
+-- from MFI1 2 on a frame tells nothing of MFI2
+pub counts-later : (t h : ℕ) → 1 < t % 16 → eqb (h % 16) (t % 16) ≡ h4Counts t h
+unfolding h4Counts
+counts-later t h b =
+    let none : t % 16 ≢ 0 = (λ (z : t % 16 ≡ 0). omega arith) in
+    let one : t % 16 ≢ 1 = (λ (z : t % 16 ≡ 1). omega arith) in
+    rw (ne-eqb (t % 16) 0 none, ne-eqb (t % 16) 1 one) (kept (first t h))
+  where
+    kept : (b : Bool) → b ≡ (b && true && true)
+    kept true = refl
+    kept false = refl
 
 -- A frame of a run of the step rule.
 
@@ -140,13 +153,13 @@ low-told kind t h clock =
 -- The packet of an epoch.
 
 -- the two nibbles of MFI2 in a packet's H4 bytes
-high-sent : (kind : ℕ) (f : Fields) → eqb kind vc12Kind ≡ false → f .epoch < 256 → getD (h4Of (nibblesOf f)) (lead kind) 0 / 16 ≡ f .epoch / 16
-unfolding h4Of nibblesOf sealedOf dataOf
-high-sent kind f clock b = h4-clock (λ L E N l. getD (h4Of (nibblesOf f)) l 0 / 16 ≡ f .epoch / 16) (omega arith) kind clock
+high-sent : (kind : ℕ) (ns : List ℕ) (e : ℕ) → eqb kind vc12Kind ≡ false → e < 256 → getD ns 8 0 ≡ e / 16 → getD (h4Of ns) (lead kind) 0 / 16 ≡ e / 16
+unfolding h4Of
+high-sent kind ns e clock b is = h4-clock (λ L E N l. getD (h4Of ns) l 0 / 16 ≡ e / 16) (omega arith) kind clock
 
-low-sent : (kind : ℕ) (f : Fields) → eqb kind vc12Kind ≡ false → f .epoch < 256 → getD (h4Of (nibblesOf f)) (lead kind + 1) 0 / 16 ≡ f .epoch % 16
-unfolding h4Of nibblesOf sealedOf dataOf
-low-sent kind f clock b = h4-clock (λ L E N l. getD (h4Of (nibblesOf f)) (l + 1) 0 / 16 ≡ f .epoch % 16) (omega arith) kind clock
+low-sent : (kind : ℕ) (ns : List ℕ) (e : ℕ) → eqb kind vc12Kind ≡ false → getD ns 9 0 ≡ e % 16 → getD (h4Of ns) (lead kind + 1) 0 / 16 ≡ e % 16
+unfolding h4Of
+low-sent kind ns e clock is = h4-clock (λ L E N l. getD (h4Of ns) (l + 1) 0 / 16 ≡ e % 16) (omega arith) kind clock
 
 -- where they stand, and what the tag's epoch then is
 place-high : (kind t : ℕ) → eqb kind vc12Kind ≡ false → t % 16 ≡ 0 → placeOf kind t ≡ lead kind
@@ -165,14 +178,20 @@ epoch-low : (kind x : ℕ) → eqb kind vc12Kind ≡ false → tagOf kind x % 16
 unfolding epochOf
 epoch-low kind x clock z = h4-clock (λ L E N l. x % N % 16 ≡ 1 → (x % N + l) % N / L % 16 ≡ x % N / 16 % 16) (λ y. omega arith) kind clock z
 
--- a packet whose epoch is that of the tag of x: its H4 byte at the tag's place counts as the tag says
+-- nibbles with the epoch of the tag of x in MFI2's places: the H4 byte at the tag's place counts as the tag says
+pub counted-with : (kind x : ℕ) (ns : List ℕ) (e : ℕ) → eqb kind vc12Kind ≡ false → e < 256 → getD ns 8 0 ≡ e / 16 → getD ns 9 0 ≡ e % 16 → e ≡ epochOf kind (tagOf kind x)
+    → h4Counts (tagOf kind x) (getD (h4Of ns) (placeOf kind (tagOf kind x)) 0) ≡ true
+counted-with kind x ns e clock b high low is =
+    let t : ℕ = tagOf kind x in
+    counts-by t (getD (h4Of ns) (placeOf kind t) 0) (place-sent ns kind t clock)
+    (λ (q : t % 16 ≡ 0). ap (λ (k : ℕ). getD (h4Of ns) k 0 / 16) (place-high kind t clock q) ∙ high-sent kind ns e clock b high ∙ ap (λ (n : ℕ). n / 16) is ∙ epoch-high kind x clock q)
+    (λ (q : t % 16 ≡ 1). ap (λ (k : ℕ). getD (h4Of ns) k 0 / 16) (place-low kind t clock q) ∙ low-sent kind ns e clock low ∙ ap (λ (n : ℕ). n % 16) is ∙ epoch-low kind x clock q)
+
+-- so of a packet of 01 with that epoch
 pub counted-as-sent : (kind x : ℕ) (f : Fields) → eqb kind vc12Kind ≡ false → f .epoch < 256 → f .epoch ≡ epochOf kind (tagOf kind x)
     → h4Counts (tagOf kind x) (getD (h4Of (nibblesOf f)) (placeOf kind (tagOf kind x)) 0) ≡ true
-counted-as-sent kind x f clock b e =
-    let t : ℕ = tagOf kind x in
-    counts-by t (getD (h4Of (nibblesOf f)) (placeOf kind t) 0) (place-sent (nibblesOf f) kind t clock)
-    (λ (q : t % 16 ≡ 0). ap (λ (k : ℕ). getD (h4Of (nibblesOf f)) k 0 / 16) (place-high kind t clock q) ∙ high-sent kind f clock b ∙ ap (λ (n : ℕ). n / 16) e ∙ epoch-high kind x clock q)
-    (λ (q : t % 16 ≡ 1). ap (λ (k : ℕ). getD (h4Of (nibblesOf f)) k 0 / 16) (place-low kind t clock q) ∙ low-sent kind f clock b ∙ ap (λ (n : ℕ). n % 16) e ∙ epoch-low kind x clock q)
+unfolding nibblesOf sealedOf dataOf
+counted-as-sent kind x f clock b is = counted-with kind x (nibblesOf f) (f .epoch) clock b refl refl is
 
 -- so does a byte with MFI1 as in one that counts, and with its nibble where that is one of MFI2
 pub counts-as : (kind t h g : ℕ) → eqb kind vc12Kind ≡ false → h4Counts t g ≡ true → h % 16 ≡ g % 16

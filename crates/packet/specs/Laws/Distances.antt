@@ -82,6 +82,11 @@ start-multiple kind e t s =
     by (λ L E N l. (t + l) % L ≡ 0 → (t + (N - (e * L + (N - l)) % N % N)) % N % L ≡ 0) (λ z. omega arith) (λ z. omega arith) kind
     (eqb-true ((t + lead kind) % frames kind) 0 s)
 
+-- any tag lies as far after it as its place says, but for whole epochs
+pub place-after : (kind e t : ℕ) → distanceOf kind t (firstTag kind e) % frames kind ≡ placeOf kind t % frames kind
+unfolding distanceOf after firstTag placeOf
+place-after kind e t = by (λ L E N l. (t + (N - (e * L + (N - l)) % N % N)) % N % L ≡ (t + l) % L % L) (omega arith) (omega arith) kind
+
 -- no distance back: the tag is that of the first frame itself
 pub at-start : (kind e t : ℕ) → distanceOf kind (firstTag kind e) t ≡ 0 → (startsEpoch kind t ≡ true) × (distanceOf kind t (firstTag kind e) ≡ 0)
 unfolding distanceOf firstTag startsEpoch placeOf

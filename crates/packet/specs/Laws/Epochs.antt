@@ -1,5 +1,5 @@
 -- Epochs counted by their frames, over the kind of packet.
-use mathlib.Core.Path.{_≡_, refl, sym, _∙_}
+use mathlib.Core.Path.{_≡_, refl, sym, ap, _∙_}
 use mathlib.Core.Logic.{⊎-elim, _≢_}
 use mathlib.Core.Bool.{true, false, _||_}
 use Prim.Native.Nat.{ℕ, suc, _+_, _-_, _*_, _/_, _%_, _≤_, _<_}
@@ -57,6 +57,10 @@ first-epoch kind d = by (λ L E N l. d < L → d / L ≡ 0) (λ h. omega arith) 
 pub epoch-more : (kind d : ℕ) → (d + frames kind) / frames kind ≡ d / frames kind + 1
 epoch-more kind d = by (λ L E N l. (d + L) / L ≡ d / L + 1) (omega arith) (omega arith) kind
 
+-- two frames less than an epoch apart are at places apart
+pub places-apart : (kind x y : ℕ) → y < x → x < y + frames kind → y % frames kind ≢ x % frames kind
+places-apart kind x y = by (λ L E N l. y < x → x < y + L → y % L ≢ x % L) (λ h g e. omega arith) (λ h g e. omega arith) kind
+
 -- as many in all frames of an epoch, as many in each
 pub frames-cancel : (kind a b : ℕ) → frames kind * a ≡ frames kind * b → a ≡ b
 frames-cancel kind a b = by (λ L E N l. L * a ≡ L * b → a ≡ b) (λ e. omega arith) (λ e. omega arith) kind
@@ -98,13 +102,17 @@ pub ends-first : (kind : ℕ) → endsEpoch kind (frames kind - 1) ≡ true
 unfolding endsEpoch
 ends-first kind = by (λ L E N l. eqb ((L - 1) % L) (L - 1) ≡ true) refl refl kind
 
-last-place : (kind d : ℕ) → endsEpoch kind d ≡ true → d % frames kind ≡ frames kind - 1
+pub last-place : (kind d : ℕ) → endsEpoch kind d ≡ true → d % frames kind ≡ frames kind - 1
 unfolding endsEpoch
 last-place kind d e = eqb-true (d % frames kind) (frames kind - 1) e
 
 not-last : (kind d : ℕ) → endsEpoch kind d ≡ false → d % frames kind ≢ frames kind - 1
 unfolding endsEpoch
 not-last kind d e = eqb-false (d % frames kind) (frames kind - 1) e
+
+pub ends-alike : (kind c d : ℕ) → c % frames kind ≡ d % frames kind → endsEpoch kind c ≡ endsEpoch kind d
+unfolding endsEpoch
+ends-alike kind c d e = ap (λ (n : ℕ). eqb n (frames kind - 1)) e
 
 -- the last frame of the k-th epoch, and no other, ends it
 pub ends-last : (kind d : ℕ) → d < tags kind → endsEpoch kind d ≡ true → (epochsIn kind d + 1) * frames kind ≡ d + 1

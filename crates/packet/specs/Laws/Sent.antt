@@ -174,6 +174,16 @@ pub sent-as : (kind : ℕ) (f : Fields) (s : List ℕ) → sentAnswer kind f s �
 unfolding sentAnswer
 sent-as kind f s = by-kind (λ k. sentAnswer k f s ≡ Done → Sent k f s) (λ done. of-vc12 f s done) (λ k clock done. of-h4 k f s clock (rw clock at done)) kind
 
+-- Of H4's kind and of VC-12's.
+
+pub sent-h4 : (f : Fields) (s : List ℕ) → (sentAnswer 0 f s ≡ writeAnswer f s) × (sentBytes 0 f s ≡ writeBytes f s)
+unfolding sentAnswer sentBytes
+sent-h4 f s = (refl, refl)
+
+pub sent-vc12 : (f : Fields) (s : List ℕ) → (sentAnswer vc12Kind f s ≡ writeVc12Answer f s) × (sentBytes vc12Kind f s ≡ writeVc12Bytes f s)
+unfolding sentAnswer sentBytes
+sent-vc12 f s = (refl, refl)
+
 -- the lent bytes do not matter
 pub sent-same : (kind : ℕ) (f : Fields) (s t : List ℕ) → sentAnswer kind f s ≡ Done → sentAnswer kind f t ≡ Done → sentBytes kind f s ≡ sentBytes kind f t
 unfolding sentAnswer sentBytes

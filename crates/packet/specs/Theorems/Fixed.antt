@@ -1,35 +1,44 @@
--- Fixed groups' packets (request 2026-12): what is written reads as given, nothing but MFI2, SQ and the word decides what is read, the answers are 9 and 8 in writing and 9 and 6 in reading, and one changed bit is told by nothing.
-use mathlib.Core.Path.{_≡_, refl}
+-- Fixed groups' packets (request 2026-12): what is written reads as given, and so does a neighbour's packet, whatever its other nibbles; nothing but MFI2, SQ and the word decides what is read, the answers are 9 and 8 in writing and 9 and 6 in reading, and one changed bit is told by nothing.
+use mathlib.Core.Path.{_≡_, refl, _∙_}
+use mathlib.Core.Logic.{_≢_}
 use mathlib.Core.Bool.{Bool, true, false, cond}
 use mathlib.Core.List.{List}
 use Prim.Native.Nat.{ℕ, _/_, _%_, _≤_, _<_}
 use native.Mathlib.Omega.{arith}
-use borrow.Author.Tests.{ltb-true}
+use borrow.Author.Tests.{ltb-true, ne-eqb}
 use lib.Dec.{eqb, ltb}
 use lib.ListN.{getD, length, replicate}
 use Rattle.ground.specs.Polynomial.{apart}
-use Rattle.ground.specs.Truth.{and-left, and-right}
-use Rattle.packet.specs.declared.reader.Reading.the-variants.{Packet}
+use Rattle.ground.specs.Truth.{and-left, and-right, cond-by}
+use Rattle.packet.specs.Counts.{counts}
+use Rattle.packet.specs.declared.reader.Reading.{Reading}
+use Rattle.packet.specs.declared.reader.Reading.the-variants.{Packet, Unassigned}
 use Rattle.packet.specs.declared.writer.Writing.the-variants.{Done, Length, Field}
 use Rattle.packet.specs.Crc.{bitsOf, nibbleBits}
-use Rattle.packet.specs.Fixed.{fixedFields, fixedFits, fixedNibbles, readFixedAnswer, readFixedNibbles, writeFixedAnswer, writeFixedBytes}
+use Rattle.packet.specs.Fixed.{fixedFields, fixedFits, fixedNibbles, fixedNibblesWith, fixedRulingOf, readFixedAnswer, readFixedNibbles, writeFixedAnswer, writeFixedBytes}
+use Rattle.packet.specs.Kinds.{epochOf, fixedKind, placeOf}
 use Rattle.packet.specs.Laws.Bytes.{byte-back}
+use Rattle.packet.specs.Laws.Counting.{counted-with, counts-h4}
 use Rattle.packet.specs.Laws.Nibbles.{Nibbles, highs-back}
-use Rattle.packet.specs.Layout.{h4Of, highsOf}
+use Rattle.packet.specs.Layout.{byteOf, fieldsOf, h4Of, highsOf}
 use Rattle.packet.specs.Reading.{readingNumber}
+use Rattle.packet.specs.Ruling.{refused, rulingBy}
+use Rattle.packet.specs.Symbols.{entryFrom, packetRow, rowFrom}
+use Rattle.packet.specs.Theorems.Tags.{tagOf}
+use Rattle.packet.specs.Words.{FIXED}
 use Rattle.packet.specs.Writing.{writingNumber}
 
 nibbles : (e q : ℕ) → e < 256 → q < 256 → Nibbles (fixedNibbles e q)
-unfolding fixedNibbles
+unfolding fixedNibbles fixedNibblesWith
 nibbles e q he hq =
     (omega arith, (omega arith, (omega arith, (omega arith, (omega arith, (omega arith, (omega arith, (omega arith, (omega arith, (omega arith, (omega arith, (omega arith, (omega arith, (omega arith, (omega arith, (omega arith, tt))))))))))))))))
 
 nibbles-back : (e q : ℕ) → e < 256 → q < 256 → readFixedNibbles (fixedNibbles e q) ≡ Packet (fixedFields e q)
-unfolding readFixedNibbles fixedNibbles
+unfolding readFixedNibbles fixedNibbles fixedNibblesWith
 nibbles-back e q he hq = rw (byte-back e he, byte-back q hq) refl
 
 bytes-back : (e q : ℕ) → e < 256 → q < 256 → readFixedAnswer (h4Of (fixedNibbles e q)) ≡ Packet (fixedFields e q)
-unfolding readFixedAnswer h4Of fixedNibbles
+unfolding readFixedAnswer h4Of fixedNibbles fixedNibblesWith
 bytes-back e q he hq = rw (highs-back (fixedNibbles e q) (nibbles e q he hq) refl) (nibbles-back e q he hq)
 
 -- what is written reads as given
@@ -57,6 +66,37 @@ fixed-decided-bytes s t l same =
     rw (l, same 6 (omega arith) (omega arith), same 7 (omega arith) (omega arith), same 8 (omega arith) (omega arith), same 9 (omega arith) (omega arith), same 10 (omega arith) (omega arith))
     refl
 
+-- A neighbour's packet, whatever the nibbles that are not looked at: its frames count as their tags say, it carries its epoch's number and rules as said.
+
+pub fixed-counted : (unread : ℕ → ℕ) (x e q : ℕ) → e < 256 → e ≡ epochOf fixedKind (tagOf fixedKind x)
+    → counts fixedKind (tagOf fixedKind x) (getD (h4Of (fixedNibblesWith unread e q)) (placeOf fixedKind (tagOf fixedKind x)) 0) ≡ true
+unfolding fixedNibblesWith
+fixed-counted unread x e q he is =
+    counts-h4 fixedKind (tagOf fixedKind x) (getD (h4Of (fixedNibblesWith unread e q)) (placeOf fixedKind (tagOf fixedKind x)) 0) refl
+    ∙ counted-with fixedKind x (fixedNibblesWith unread e q) e refl he refl refl is
+
+pub fixed-epoch : (unread : ℕ → ℕ) (e q : ℕ) → e < 256 → fieldsOf (packetRow fixedKind (h4Of (fixedNibblesWith unread e q))) .epoch ≡ e
+unfolding fieldsOf rowFrom entryFrom h4Of fixedNibblesWith
+fixed-epoch unread e q he = omega arith
+
+pub fixed-rules : (unread : ℕ → ℕ) (e q : ℕ) → q < 256 → fixedRulingOf (packetRow fixedKind (h4Of (fixedNibblesWith unread e q))) ≡ record { good = true; word = FIXED; number = q; gid = 0 }
+unfolding fixedRulingOf readFixedNibbles rowFrom entryFrom h4Of fixedNibblesWith
+fixed-rules unread e q hq =
+    let number : fixedRulingOf (packetRow fixedKind (h4Of (fixedNibblesWith unread e q))) .number ≡ q = omega arith in
+    λ i. record { good = true; word = FIXED; number = number i; gid = 0 }
+
+-- Of any packet: the word that rules is FIXED, and so it is where nothing rules.
+pub fixed-word : (ns : List ℕ) → fixedRulingOf ns .word ≡ FIXED
+unfolding fixedRulingOf readFixedNibbles
+fixed-word ns =
+    cond-by (λ (q : Reading). rulingBy q .word ≡ FIXED) (eqb (getD ns 10 0 % 16) FIXED)
+    (Packet (fixedFields (byteOf (getD ns 8 0) (getD ns 9 0)) (byteOf (getD ns 6 0) (getD ns 7 0)))) Unassigned (λ e. refl) (λ e. refl)
+
+-- and one with another word rules nothing
+pub fixed-other : (ns : List ℕ) → getD ns 10 0 % 16 ≢ FIXED → fixedRulingOf ns ≡ refused
+unfolding fixedRulingOf readFixedNibbles
+fixed-other ns d = rw (ne-eqb (getD ns 10 0 % 16) FIXED d) refl
+
 -- 9, 8, and 0 for all else
 pub fixed-written : (e q : ℕ) (s : List ℕ) → writingNumber (writeFixedAnswer e q s) ≡ cond (eqb (length s) 16) (cond (fixedFits e q) 0 8) 9
 unfolding writeFixedAnswer
@@ -82,5 +122,5 @@ abbrev sent : ℕ → List ℕ
 sent sq = writeFixedBytes 58 sq (replicate 16 0)
 
 pub one-bit : (readFixedAnswer (sent 5) ≡ Packet (fixedFields 58 5)) × (readFixedAnswer (sent 4) ≡ Packet (fixedFields 58 4)) × (apart (bitsOf (highsOf (sent 5))) (bitsOf (highsOf (sent 4))) ≡ 1)
-unfolding writeFixedBytes fixedNibbles h4Of highsOf readFixedAnswer readFixedNibbles nibbleBits
+unfolding writeFixedBytes fixedNibbles fixedNibblesWith h4Of highsOf readFixedAnswer readFixedNibbles nibbleBits
 one-bit = (refl, refl, refl)

@@ -1,6 +1,6 @@
 -- Tags of positions in an endless count of frames. What stands above cites these laws, and not a kind's numbers: they are stated over the kind, and proved for its two clocks (Clock).
 use mathlib.Core.Path.{_≡_, refl}
-use Prim.Native.Nat.{ℕ, suc, _+_, _-_, _*_, _/_, _%_, _≤_, _<_}
+use Prim.Native.Nat.{ℕ, suc, _+_, _-_, _*_, _/_, _%_, _^_, _≤_, _<_}
 use native.Mathlib.Nat.{add-mod-right, mod-add-mod, mod-lt}
 use native.Mathlib.Omega.{arith}
 use mathlib.Core.Bool.{Bool, true, false, cond}
@@ -8,11 +8,12 @@ use mathlib.Core.List.{List}
 use borrow.Author.Tests.{eq-eqb, eqb-true}
 use lib.Dec.{eqb}
 use lib.ListN.{getD}
+use Rattle.ground.specs.Bits.{odd}
 use Rattle.ground.specs.Circle.{after-of, after-lt}
 use Rattle.ground.specs.Table.{getD-tabulate}
 use Rattle.packet.specs.Clock.{by, h4-clock}
 use Rattle.packet.specs.Layout.{h4Of}
-use Rattle.packet.specs.Kinds.{distanceOf, endsEpoch, epochAfter, epochOf, epochs, epochsIn, firstTag, frames, idleNumber, lead, mstEpochs, mstFirst, mstNumbers, placeOf, startsEpoch, tagAfter, tagBefore, tags, vc12Kind}
+use Rattle.packet.specs.Kinds.{distanceOf, endsEpoch, epochAfter, epochOf, epochs, epochsIn, firstTag, frames, idleNumber, lead, mstEpochs, mstFails, mstFirst, mstNumbers, placeOf, startsEpoch, tagAfter, tagBefore, tags, vc12Kind}
 
 -- the tag of the x-th frame after one with tag 0
 abbrev pub tagOf : ℕ → ℕ → ℕ
@@ -66,11 +67,19 @@ pub epoch-of : (kind x : ℕ) → epochOf kind (tagOf kind x) ≡ (x + lead kind
 unfolding epochOf
 epoch-of kind x = by (λ L E N l. (x % N + l) % N / L ≡ (x + l) / L % E) (omega arith) (omega arith) kind
 
+pub epoch-lt : (kind t : ℕ) → epochOf kind t < epochs kind
+unfolding epochOf
+epoch-lt kind t = by (λ L E N l. (t + l) % N / L < E) (omega arith) (omega arith) kind
+
 -- an epoch's first tag is of that epoch and stands at its first place
 pub first-of : (kind e : ℕ) → e < epochs kind → (epochOf kind (firstTag kind e) ≡ e) × (placeOf kind (firstTag kind e) ≡ 0)
 unfolding epochOf placeOf firstTag
 first-of kind e =
     by (λ L E N l. e < E → (((e * L + (N - l)) % N + l) % N / L ≡ e) × (((e * L + (N - l)) % N + l) % L ≡ 0)) (λ h. (omega arith, omega arith)) (λ h. (omega arith, omega arith)) kind
+
+pub first-starts : (kind e : ℕ) → e < epochs kind → startsEpoch kind (firstTag kind e) ≡ true
+unfolding startsEpoch
+first-starts kind e b = eq-eqb (placeOf kind (firstTag kind e)) 0 (first-of kind e b .1)
 
 -- after the last frame of an epoch comes the next epoch
 pub next-epoch : (kind x : ℕ) → epochOf kind (tagOf kind (x + frames kind)) ≡ epochAfter kind (epochOf kind (tagOf kind x))
@@ -96,6 +105,15 @@ epoch-on kind e i = by (λ L E N l. ((e + i) % E + 1) % E ≡ (e + suc i) % E) (
 starts-at : (kind c : ℕ) → startsEpoch kind c ≡ true → (c + lead kind) % frames kind ≡ 0
 unfolding startsEpoch placeOf
 starts-at kind c e = eqb-true ((c + lead kind) % frames kind) 0 e
+
+pub place-counted : (kind c x : ℕ) → startsEpoch kind c ≡ true → placeOf kind (tagOf kind (c + x)) ≡ x % frames kind
+unfolding placeOf
+place-counted kind c x e = by (λ L E N l. (c + l) % L ≡ 0 → ((c + x) % N + l) % L ≡ x % L) (λ z. omega arith) (λ z. omega arith) kind (starts-at kind c e)
+
+pub epoch-counted : (kind c i k : ℕ) → startsEpoch kind c ≡ true → k < frames kind → epochOf kind (tagOf kind (c + (i * frames kind + k))) ≡ epochOf kind (tagOf kind (c + i * frames kind))
+unfolding epochOf
+epoch-counted kind c i k e =
+    by (λ L E N l. (c + l) % L ≡ 0 → k < L → ((c + (i * L + k)) % N + l) % N / L ≡ ((c + i * L) % N + l) % N / L) (λ z b. omega arith) (λ z b. omega arith) kind (starts-at kind c e)
 
 -- each epoch starts so many frames after the one before
 pub starts-each : (kind c i : ℕ) → startsEpoch kind c ≡ true → startsEpoch kind (tagOf kind (c + i * frames kind)) ≡ true
@@ -146,6 +164,15 @@ unfolding placeOf h4Of
 place-sent ns kind t clock =
     h4-clock (λ L E N l. getD (h4Of ns) ((t + l) % L) 0 % 16 ≡ t % 16)
     (rw (getD-tabulate 16 (λ i. getD ns i 0 % 16 * 16 + (i + 8) % 16) ((t + 8) % 16) 0 (omega arith)) (omega arith)) kind clock
+
+-- how many numbers MST speaks of in an epoch, and which bit speaks of each
+pub mst-eight : (kind : ℕ) → mstNumbers kind ≡ 8
+unfolding mstNumbers
+mst-eight kind = refl
+
+pub mst-bit : (kind e k mst : ℕ) → k < 8 → mstFails mst (mstFirst kind e + k) ≡ odd (mst / 2 ^ (7 - k))
+unfolding mstFails mstFirst
+mst-bit kind e k mst b = let at : (8 * (e % mstEpochs kind) + k) % 8 ≡ k = omega arith in rw at refl
 
 -- the numbers that MST speaks of fit a byte
 pub mst-fits : (kind e : ℕ) → mstFirst kind e + mstNumbers kind ≤ 256

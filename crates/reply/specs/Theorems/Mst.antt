@@ -10,7 +10,8 @@ use borrow.Author.Tests.{eq-eqb, eqb-true}
 use Rattle.counting.specs.Laws.Tests.{some-at, some-one}
 use Rattle.ground.specs.Bits.{odd}
 use Rattle.ground.specs.Truth.{and-true, and-left, and-right, fails}
-use Rattle.packet.specs.Kinds.{mstEpochs, mstFails, mstFirst}
+use Rattle.packet.specs.Kinds.{mstFails, mstFirst}
+use Rattle.packet.specs.Theorems.Tags.{mst-bit}
 use Rattle.reply.specs.declared.members.Port.{Port}
 use Rattle.reply.specs.Members.{okState, portAt}
 use Rattle.reply.specs.Telling.{failBit, mstFrom, mstOf, okHolds}
@@ -75,14 +76,10 @@ module _ (ports : List Port) (n q : ℕ) where
   bit-at (suc (suc (suc (suc (suc (suc (suc zero))))))) b = fail-not (okHolds ports n (q + 7)) _ (bits-of .7)
   bit-at (suc (suc (suc (suc (suc (suc (suc (suc k)))))))) b = absurd (omega arith)
 
-place-in : (m k : ℕ) → k < 8 → (8 * m + k) % 8 ≡ k
-place-in m k b = omega arith
-
 -- 'MST for q is 0 exactly if an OK port holds q', of each of the eight numbers that MST speaks of in epoch e
 pub mst-says : (kind : ℕ) (ports : List Port) (n e k : ℕ) → k < 8 → mstFails (mstOf kind ports n e) (mstFirst kind e + k) ≡ not (okHolds ports n (mstFirst kind e + k))
-unfolding mstOf mstFirst mstFails
-mst-says kind ports n e k b =
-    rw (place-in (e % mstEpochs kind) k b) (bit-at ports n (8 * (e % mstEpochs kind)) k b)
+unfolding mstOf
+mst-says kind ports n e k b = mst-bit kind e k (mstOf kind ports n e) b ∙ bit-at ports n (mstFirst kind e) k b
 
 -- numbers of 64 and above are no OK port's, where every OK port's number is below 64
 pub high-free : (ports : List Port) (n q : ℕ) → ((i : ℕ) → i < n → portAt ports i .state ≡ okState → portAt ports i .«state_number» < 64) → 64 ≤ q

@@ -11,13 +11,14 @@ use borrow.Author.Tests.{eq-eqb, lt-ltb, ltb-true}
 use Rattle.ground.specs.Truth.{and-left, and-right}
 use Rattle.counting.specs.Laws.Numbers.{count-le}
 use Rattle.packet.specs.Kinds.{epochAfter, epochs, frames, idleNumber}
+use Rattle.packet.specs.Laws.Reading.{lcas-assigned}
 use Rattle.packet.specs.Laws.Writing.{answer-sized, fields-fit as sent-fit}
 use Rattle.packet.specs.declared.writer.Writing.{Writing}
 use Rattle.packet.specs.declared.writer.Writing.the-variants as W
 use Rattle.packet.specs.Sent.{sentAnswer, sentFits}
 use Rattle.packet.specs.Theorems.Reserved.{NoneReservedBy, none-reserved-by}
 use Rattle.packet.specs.Theorems.Tags.{epoch-after-lt}
-use Rattle.packet.specs.Words.{FIXED, assigned}
+use Rattle.packet.specs.Words.{ADD, DNU, EOS, FIXED, IDLE, NORM, assigned}
 use Rattle.sender.specs.declared.board.Board.{Board}
 use Rattle.sender.specs.declared.board.Row.{Row}
 use Rattle.sender.specs.declared.epochs.Sender.{Sender}
@@ -91,12 +92,11 @@ fit-run s (c ∷ cs) g o = fit-run (senderOutcomeOf s c .sender) cs (g .1) (fit-
 
 -- a state's word is assigned and not FIXED
 word-fits : (s : State) (last : Bool) → (not (eqb (wordOf s last .0) FIXED) && assigned (wordOf s last)) ≡ true
-unfolding assigned
-word-fits Idle last = refl
-word-fits Add last = refl
-word-fits Active true = refl
-word-fits Active false = refl
-word-fits Dnu last = refl
+word-fits Idle last = lcas-assigned IDLE refl
+word-fits Add last = lcas-assigned ADD refl
+word-fits Active true = lcas-assigned EOS refl
+word-fits Active false = lcas-assigned NORM refl
+word-fits Dnu last = lcas-assigned DNU refl
 
 own-word : (t : Table) (i : ℕ) → (not (eqb (rowOf (t .slots) (slotsIn t) i .word .0) FIXED) && assigned (rowOf (t .slots) (slotsIn t) i .word)) ≡ true
 unfolding rowOf

@@ -1,7 +1,7 @@
 -- A port in step is kept (request 2026-04): through every frame of which what lines never change came as sent, if no packet of it that ends has a right CRC and another MFI2. It comes into step as before.
 use mathlib.Core.Path.{_≡_, refl, _∙_, sym, ap}
 use mathlib.Core.Logic.{⊎-elim, _≢_}
-use mathlib.Core.Bool.{Bool, true, false, cond, not, and-false, true≢false}
+use mathlib.Core.Bool.{Bool, true, false, cond, true≢false}
 use Prim.Native.Nat.{ℕ, _+_, _-_, _*_, _/_, _%_, _≤_, _<_}
 use native.Mathlib.Nat.{mod-eq-of-lt}
 use native.Mathlib.Omega.{arith}
@@ -12,7 +12,7 @@ use Rattle.packet.specs.Changes.{bringsMfi2}
 use Rattle.packet.specs.Clock.{by, by-kind}
 use Rattle.packet.specs.Counts.{counts, h4Counts, saysStart, toldBits}
 use Rattle.packet.specs.Kinds.{frames, lead, placeOf, tagAfter, vc12Kind}
-use Rattle.packet.specs.Laws.Changes.{counts-kept}
+use Rattle.packet.specs.Laws.Changes.{brings-not, counts-kept, vc12-brings}
 use Rattle.packet.specs.Laws.Counting.{counts-h4}
 use Rattle.packet.specs.Laws.Vc12Clock.{vc12-frames, vc12-next, vc12-tag}
 use Rattle.packet.specs.Theorems.Tags.{next-tag, place-of, tagOf}
@@ -47,7 +47,7 @@ record Fewer (kind x b : ℕ) : Type 0 where
   more : b + 1 ≤ mostBreaks kind (tagOf kind (x + 1))
 
 few-on : (kind x h b : ℕ) → KeptAs kind x h → counts kind (tagOf kind x) h ≡ false → b ≤ mostBreaks kind (tagOf kind x) → Fewer kind x b
-unfolding mostBreaks bringsMfi2
+unfolding mostBreaks
 few-on kind x h b as-kept broken l =
     let within = third-within kind in
     let p : ℕ = placeOf kind (tagOf kind x) in
@@ -67,7 +67,7 @@ few-on kind x h b as-kept broken l =
     let most : b ≤ 1 = rw one at l in
     record { three = omega arith; more = rw two (omega arith) })
     (λ (f : placeOf kind (tagOf kind x) ≢ lead kind + 1).
-    absurd (true≢false (sym (spared-counts kind x h as-kept (rw (ne-eqb (placeOf kind (tagOf kind x)) (lead kind) d, ne-eqb (placeOf kind (tagOf kind x)) (lead kind + 1) f) (and-false (not (eqb kind vc12Kind))))) ∙ broken)))
+    absurd (true≢false (sym (spared-counts kind x h as-kept (brings-not kind (placeOf kind (tagOf kind x)) d f)) ∙ broken)))
     (eq-or-ne (placeOf kind (tagOf kind x)) (lead kind + 1)))
     (eq-or-ne (placeOf kind (tagOf kind x)) (lead kind))
 
@@ -105,8 +105,7 @@ h4-kept kind x run odd h clock o as-kept even = go (h4Counts (run .next) h) refl
 -- VC-12: a frame with its kept part as sent counts as sent, and the run goes on.
 
 vc12-spared : (x h : ℕ) → KeptAs vc12Kind x h → SentWith vc12Kind x h
-unfolding bringsMfi2
-vc12-spared x h k = spared-counts vc12Kind x h k refl
+vc12-spared x h k = spared-counts vc12Kind x h k (vc12-brings (placeOf vc12Kind (tagOf vc12Kind x)))
 
 module _ (x : ℕ) (run : Run) (h : ℕ) (o : Stays vc12Kind x run) (sent : Vc12Sent x h) where
   many : 64 ≤ run .count

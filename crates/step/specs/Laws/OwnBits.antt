@@ -10,7 +10,8 @@ use borrow.Author.Tests.{eq-eqb, eqb-true, lt-ltb, ne-eqb, not-false}
 use Rattle.ground.specs.Truth.{cond-by, le-or-lt, neither}
 use Rattle.packet.specs.Counts.{saysStart, toldBits}
 use Rattle.packet.specs.Kinds.{endsEpoch, epochOf, epochs, firstTag, frames, placeOf, vc12Kind}
-use Rattle.packet.specs.Laws.Epochs.{place-lt, position-is, same-epoch-before}
+use Rattle.packet.specs.Laws.Epochs as Epochs
+use Rattle.packet.specs.Laws.Epochs.{ends-alike, place-lt, position-is, same-epoch-before}
 use Rattle.packet.specs.Laws.OwnBits.{OwnBit, own-read}
 use Rattle.packet.specs.Laws.Vc12Clock.{vc12-epoch, vc12-epochs, vc12-frames, vc12-place}
 use Rattle.packet.specs.Ruling.{fieldsIn}
@@ -170,9 +171,9 @@ module _ (kind : ℕ) (run : Run) (odd : Bool) (h : ℕ) where
 -- At the last place of a packet.
 
 last-place : (t : ℕ) → endsPacket vc12Kind t ≡ true → t % 32 ≡ 31
-unfolding endsPacket endsEpoch
+unfolding endsPacket
 last-place t e =
-    let is : placeOf vc12Kind t % frames vc12Kind ≡ frames vc12Kind - 1 = eqb-true (placeOf vc12Kind t % frames vc12Kind) (frames vc12Kind - 1) e in
+    let is : placeOf vc12Kind t % frames vc12Kind ≡ frames vc12Kind - 1 = Epochs.last-place vc12Kind (placeOf vc12Kind t) e in
     let at : t % 32 % 32 ≡ 31 = rw (vc12-place t, vc12-frames) at is in
     omega arith
 
@@ -216,5 +217,5 @@ module _ (kind e : ℕ) where
       }
 
   pub ends-in : (d : ℕ) → endsEpoch kind d ≡ true → endsPacket kind (tagOf kind (firstTag kind e + d)) ≡ true
-  unfolding endsPacket endsEpoch
-  ends-in d ends = rw (tag-place d, mod-eq-of-lt (place-lt kind d)) ends
+  unfolding endsPacket
+  ends-in d ends = ends-alike kind (placeOf kind (tagOf kind (firstTag kind e + d))) d (rw (tag-place d) (mod-eq-of-lt (place-lt kind d))) ∙ ends

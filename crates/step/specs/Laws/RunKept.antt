@@ -10,6 +10,7 @@ use Rattle.ground.specs.Truth.{cond-by, le-or-lt}
 use Rattle.packet.specs.Clock.{by, by-kind}
 use Rattle.packet.specs.Counts.{carriesLow, h4Counts, saysStart, startsCount, tagByHigh, tagByLow}
 use Rattle.packet.specs.Kinds.{frames, tagAfter, tags, vc12Kind}
+use Rattle.packet.specs.Laws.Back.{after-mod}
 use Rattle.packet.specs.Laws.Counting.{high-told, low-told}
 use Rattle.packet.specs.Laws.Distances.{place-on, tag-after-lt}
 use Rattle.packet.specs.Laws.Vc12Clock.{vc12-frames, vc12-next}
@@ -168,10 +169,6 @@ unfolding h4RunOn inStepAt
 h4-kept kind run odd h clock k =
     cond-by (RunKept kind) (inStepAt kind (run .count)) (stayedRun kind run odd h) (gainedRun kind run h)
     (λ e. stayed-kept kind run odd h clock (leb-true (frames kind * 2) (run .count) e) k) (λ e. gained-kept kind run h clock (leb-false (frames kind * 2) (run .count) e) k)
-
-after-mod : (kind x : ℕ) → tagAfter kind x % frames kind ≡ (x + 1) % frames kind
-unfolding tagAfter
-after-mod kind x = by (λ L E N l. (x + 1) % N % L ≡ (x + 1) % L) (omega arith) (omega arith) kind
 
 second-mod : (kind x y : ℕ) → x % frames kind ≡ 1 % frames kind → y % frames kind ≡ 2 % frames kind → y % frames kind ≡ (x + 1) % frames kind
 second-mod kind x y = by (λ L E N l. x % L ≡ 1 % L → y % L ≡ 2 % L → y % L ≡ (x + 1) % L) (λ p q. omega arith) (λ p q. omega arith) kind

@@ -2,15 +2,14 @@
 use mathlib.Core.Path.{_≡_, refl, _∙_, sym, ap}
 use mathlib.Core.Bool.{Bool, true, false, not, _&&_}
 use mathlib.Core.List.{List}
-use Prim.Native.Nat.{ℕ, _+_, _-_, _*_, _%_}
-use native.Mathlib.Omega.{arith}
+use Prim.Native.Nat.{ℕ}
 use lib.Dec.{eqb, ltb}
 use borrow.Author.Tests.{eqb-true, not-true}
-use Rattle.ground.specs.Circle.{after}
 use Rattle.ground.specs.Truth.{and-left, and-right}
-use Rattle.packet.specs.Clock.{by}
 use Rattle.packet.specs.Counts.{h4Counts}
-use Rattle.packet.specs.Kinds.{distanceOf, endsEpoch, epochsIn, firstTag, frames, placeOf, tagAfter, vc12Kind}
+use Rattle.packet.specs.Laws.Distances.{place-after}
+use Rattle.packet.specs.Laws.Epochs.{ends-alike}
+use Rattle.packet.specs.Kinds.{endsEpoch, epochsIn, placeOf, tagAfter, vc12Kind}
 use Rattle.rows.specs.declared.group.Group.{Group}
 use Rattle.rows.specs.declared.step.Step.{Step}
 use Rattle.rows.specs.Step.{withNext}
@@ -54,15 +53,10 @@ mid-epoch-inside : (g : Group) (d : ℕ) → midEpoch g d ≡ true → ltb d (g 
 unfolding midEpoch
 mid-epoch-inside g d w = and-left (ltb d (g .window)) (not (endsEpoch (g .kind) d)) w
 
--- a tag lies as far after an epoch's first frame as its place says, but for whole epochs
-place-after : (kind e t : ℕ) → distanceOf kind t (firstTag kind e) % frames kind ≡ placeOf kind t % frames kind
-unfolding distanceOf after firstTag placeOf
-place-after kind e t = by (λ L E N l. (t + (N - (e * L + (N - l)) % N % N)) % N % L ≡ (t + l) % L % L) (omega arith) (omega arith) kind
-
 mid-packet : (g : Group) (s : Step) → midEpoch g (distanceIn g (s .next)) ≡ true → endsPacket (g .kind) (s .next) ≡ false
-unfolding endsPacket endsEpoch distanceIn
+unfolding endsPacket distanceIn
 mid-packet g s w =
-    ap (λ (n : ℕ). eqb n (frames (g .kind) - 1)) (sym (place-after (g .kind) (g .oldest) (s .next))) ∙ mid-epoch-goes-on g (distanceIn g (s .next)) w
+    ends-alike (g .kind) (placeOf (g .kind) (s .next)) (distanceIn g (s .next)) (sym (place-after (g .kind) (g .oldest) (s .next))) ∙ mid-epoch-goes-on g (distanceIn g (s .next)) w
 
 -- in mid-epoch no packet ends
 pub mid-even : (g : Group) (s : Step) (row : List ℕ) (h : ℕ) → midEpoch g (distanceIn g (s .next)) ≡ true → endsOdd (g .kind) row (s .next) h ≡ false

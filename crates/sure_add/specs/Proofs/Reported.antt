@@ -8,8 +8,9 @@ use lib.ListN.{getD, length}
 use Rattle.counting.specs.Laws.Tests.{some-ext}
 use Rattle.counting.specs.Words.{some}
 use Rattle.packet.specs.declared.ruling.Ruling.{Ruling}
-use Rattle.packet.specs.Kinds.{fixedKind, mstFails, mstFirst, mstNumbers}
+use Rattle.packet.specs.Kinds.{fixedKind, mstFails, mstFirst}
 use Rattle.packet.specs.Mst.{Spoken}
+use Rattle.packet.specs.Theorems.Tags.{mst-eight}
 use Rattle.phases.specs.Laws.Passed.{passed-of-port}
 use Rattle.phases.specs.Passing.{notedBy}
 use Rattle.phases.specs.Sizes.{portsIn}
@@ -53,8 +54,8 @@ module _ (s : List (List ℕ)) (few : portsIn (groupAt s) ≤ 64) (lcas : eqb (g
 
   -- MST says OK of q where it speaks of it exactly if an OK port holds q
   pub mst-in : (e q : ℕ) → Spoken (groupAt s .kind) e q → mstFails (getD (replyOf s e) 0 0) q ≡ not (okIn s q)
-  unfolding replyOf mstNumbers
-  mst-in e q o = rw (lcas, size-is (portsIn (groupAt s)) few, ← o .is) (mst-says (groupAt s .kind) now (portsIn (groupAt s)) e (o .place) (o .below) ∙ ap not (holds-same (mstFirst (groupAt s .kind) e + o .place)))
+  unfolding replyOf
+  mst-in e q o = rw (lcas, size-is (portsIn (groupAt s)) few, ← o .is) (mst-says (groupAt s .kind) now (portsIn (groupAt s)) e (o .place) (rw (mst-eight (groupAt s .kind)) at (o .below)) ∙ ap not (holds-same (mstFirst (groupAt s .kind) e + o .place)))
 
 module _ (s : List (List ℕ)) (store out report : List ℕ) (given : Given s store out report) (few : portsIn (groupAt s) ≤ 64) (enough : rowsFor (portsIn (groupAt s)) ≤ length s) where
   abbrev g : Group

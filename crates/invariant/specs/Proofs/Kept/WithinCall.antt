@@ -16,13 +16,11 @@ use Rattle.invariant.specs.Proofs.Kept.Taken.{taken-kept, taken-whole}
 use Rattle.counting.specs.Laws.Tests.{every-at}
 use Rattle.counting.specs.Words.{every}
 use Rattle.ground.specs.Truth.{and-right, clash, cond-by, eq-or-ne}
-use Rattle.packet.specs.declared.layout.Fields.{Fields}
-use Rattle.packet.specs.declared.reader.Reading.{Reading}
-use Rattle.packet.specs.declared.reader.Reading.the-variants.{Fixed, Packet, Unassigned}
 use Rattle.packet.specs.Kinds.{epochAfter, epochOf, fixedKind}
-use Rattle.packet.specs.Reading.{readFields}
+use Rattle.packet.specs.Laws.Reading.{good-word, rules-as-read}
+use Rattle.packet.specs.Theorems.Fixed.{fixed-word}
 use Rattle.packet.specs.Theorems.Tags.{epoch-after-lt, epochs-some, frames-two}
-use Rattle.packet.specs.Words.{ADD, DNU, EOS, FIXED, IDLE, NORM, assigned}
+use Rattle.packet.specs.Words.{ADD, DNU, EOS, FIXED, IDLE, NORM}
 use Rattle.phases.specs.Beginning.{begins, foremost, noTag, ready, within}
 use Rattle.packet.specs.declared.ruling.Ruling.{Ruling}
 use Rattle.phases.specs.Due.{brought, owesNothing}
@@ -30,7 +28,7 @@ use Rattle.phases.specs.Laws.Cleared.{begun-group, begun-port, stopped-group, s
 use Rattle.phases.specs.Laws.Lengths.{length-begun, length-passed, length-stopped}
 use Rattle.phases.specs.Laws.Passed.{passed-group, passed-of-port}
 use Rattle.phases.specs.Passing.{groupTo, notedBy, passedGroup, passedOf}
-use Rattle.packet.specs.Ruling.{readRow, refused, rulingBy, rulingOf}
+use Rattle.packet.specs.Ruling.{readRow, refused, rulingBy}
 use Rattle.phases.specs.Settling.{begunOf, stoppedOf}
 use Rattle.receiver.specs.Frame.{oddIn, portRows, takenIn}
 use Rattle.receiver.specs.Laws.Frames.{frame-group, frame-other, frame-port, frameOn, length-frame}
@@ -49,8 +47,6 @@ use Rattle.rows.specs.Step.{stepAt}
 use Rattle.step.specs.Arrival.{flagOf, inStep, takenOf}
 use Rattle.step.specs.declared.arrival.Taken.{Taken}
 use Rattle.packet.specs.Fixed.{fixedRulingOf}
-use Rattle.step.specs.Laws.FixedPackets.{fixed-word}
-use Rattle.step.specs.Laws.Packets.{row-by}
 use Rattle.step.specs.OwnCount.{ownNumber, ownRuling, rulingIn, withoutMfi2}
 use Rattle.store.specs.Frames.{packetIn}
 use Rattle.store.specs.Marks.{firstMark}
@@ -86,31 +82,19 @@ noted-state m whole r = (refl, refl)
 
 -- the word of a packet that was read is one of five
 
-one-of : (x a b c d e none : Bool) → x ≡ false → (x || a || b || c || d || e) ≡ true → (none || a || b || c || d || e) ≡ true
-one-of x a b c d e true f h = refl
-one-of x a b c d e false f h = rw f at h
+or-else : (none a b c d e : Bool) → (a || b || c || d || e) ≡ true → (none || a || b || c || d || e) ≡ true
+or-else true a b c d e h = refl
+or-else false a b c d e h = h
 
-abbrev Known : Reading → Type 0
-Known r = rulingBy r .good ≡ true → lcasWord (rulingBy r .word) ≡ true
-
-fields-known : (f : Fields) → Known (readFields f)
-unfolding assigned
-fields-known f =
-    cond-by Known (eqb (f .word .0) FIXED) Fixed (cond (assigned (f .word)) (Packet f) Unassigned) (λ x e. absurd (false≢true e))
-    (λ x.
-    cond-by Known (assigned (f .word)) (Packet f) Unassigned
-    (λ a e.
-    let w : ℕ = f .word .0 in
-    one-of (eqb w FIXED) (eqb w ADD) (eqb w NORM) (eqb w EOS) (eqb w IDLE) (eqb w DNU) (eqb w noWord) x a)
-    (λ a e. absurd (false≢true e)))
-
-read-known : (kind : ℕ) (row : List ℕ) → Known (readRow kind row)
-read-known kind row = row-by Known (λ e. absurd (false≢true e)) fields-known kind row
+read-known : (kind : ℕ) (row : List ℕ) → rulingBy (readRow kind row) .good ≡ true → lcasWord (rulingBy (readRow kind row) .word) ≡ true
+read-known kind row e =
+    let w : ℕ = rulingBy (readRow kind row) .word in
+    or-else (eqb w noWord) (eqb w ADD) (eqb w NORM) (eqb w EOS) (eqb w IDLE) (eqb w DNU) (good-word kind row e)
 
 -- by the kind
 known-in : (kind epoch : ℕ) (ns : List ℕ) → rulingIn kind epoch ns .good ≡ true → knownWord kind (rulingIn kind epoch ns .word) ≡ true
-unfolding rulingIn rulingOf
-known-in kind epoch ns = go (eqb kind fixedKind)
+unfolding rulingIn
+known-in kind epoch ns = rw (rules-as-read kind epoch ns) (go (eqb kind fixedKind))
   where
     go : (b : Bool) → cond b (fixedRulingOf ns) (rulingBy (readRow kind ns)) .good ≡ true
         → cond b (eqb (cond b (fixedRulingOf ns) (rulingBy (readRow kind ns)) .word) noWord || eqb (cond b (fixedRulingOf ns) (rulingBy (readRow kind ns)) .word) FIXED)

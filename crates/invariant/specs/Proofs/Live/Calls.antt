@@ -1,5 +1,5 @@
--- The packet being gathered after any calls, and what a port's record says of the frames heard.
-use mathlib.Core.Path.{_≡_, refl, sym, ap, _∙_}
+-- The packet being gathered and the run of a port after any calls, of the frames heard.
+use mathlib.Core.Path.{_≡_, refl, sym, ap, subst, _∙_}
 use mathlib.Core.Logic.{⊎-elim, _≢_}
 use mathlib.Core.Bool.{Bool, true, false, cond, _&&_}
 use mathlib.Core.List.{List, [], _∷_}
@@ -17,10 +17,11 @@ use Rattle.invariant.specs.Proofs.Calls.{call-kept}
 use Rattle.invariant.specs.Proofs.Kept.Start.{started-kept, started-with}
 use Rattle.invariant.specs.Proofs.Laws.Settling.{settled-by}
 use Rattle.invariant.specs.Proofs.Laws.Started.{accepted}
-use Rattle.invariant.specs.Proofs.Live.Losing.{HeardStep, heard-short, taken-heard}
+use Rattle.invariant.specs.Proofs.Live.Losing.{HeardBy, heard-short, heard-went}
 use Rattle.invariant.specs.Proofs.Live.Rows.{live-none, packet-came, packet-judged}
-use Rattle.invariant.specs.Proofs.Live.Runs.{Took, live-took, taken-took}
+use Rattle.invariant.specs.Proofs.Live.Runs.{Went, live-went, rowAfter, went}
 use Rattle.invariant.specs.Proofs.Sizes.{call-sizes, run-sizes}
+use Rattle.invariant.specs.Words.{Unflagged}
 use Rattle.phases.specs.Laws.Cleared.{begun-port, clearedOn, stopped-port}
 use Rattle.phases.specs.Laws.Lengths.{length-passed, length-stopped}
 use Rattle.phases.specs.Laws.Passed.{passed-of-port, passedOn}
@@ -46,61 +47,62 @@ use Rattle.rows.specs.Rows.{rowsFor}
 use Rattle.rows.specs.Step.{stepAt}
 use Rattle.step.specs.Arrival.{runOf}
 use Rattle.step.specs.declared.arrival.Taken.{Taken}
+use Rattle.step.specs.declared.run.Run.{Run}
+use Rattle.step.specs.Laws.Arrival.{ranOn}
 use Rattle.step.specs.OwnCount.{withoutMfi2}
+use Rattle.step.specs.Run.{noRun, runOn, withBits}
+use Rattle.step.specs.Theorems.Heard.{InStepExactly, in-step-exactly, odd-alike, runOver}
 
-abbrev LiveIn : ℕ → Port → List ℕ → Type 0
-LiveIn kind p heard = LiveRow kind (p .step .count) (p .step .next) (p .gathering) heard × (withoutMfi2 kind ≡ false → HeardStep kind (p .step) heard)
+-- What holds of a port's run and of the packet being gathered, of the frames heard. `None` says that none of them is flagged: the run of a port without MFI2 is then theirs.
+pub record LiveIn (None : Type 0) (kind : ℕ) (run : Run) (row heard : List ℕ) : Type 0 where
+  pub live : LiveRow kind (run .count) (run .next) row heard
+  pub said : withoutMfi2 kind ≡ false → HeardBy kind run heard
+  pub ran : withoutMfi2 kind ≡ true → None → run ≡ runOver kind heard
 
--- What follows for all ports, and a report, leave a port's run and the packet that it gathers.
-record SameRun (p q : Port) : Type 0 where
-  count : q .step .count ≡ p .step .count
-  next : q .step .next ≡ p .step .next
-  breaks : q .step .breaks ≡ p .step .breaks
-  odd : q .step .odd ≡ p .step .odd
-  row : q .gathering ≡ p .gathering
+abbrev LivePort : (None : Type 0) (kind : ℕ) (p : Port) (heard : List ℕ) → Type 0
+LivePort None kind p heard = LiveIn None kind (runOf (p .step)) (p .gathering) heard
 
-live-same : (kind : ℕ) (p q : Port) (heard : List ℕ) → SameRun p q → LiveIn kind p heard → LiveIn kind q heard
-live-same kind p q heard e o = (rw (e .count, e .next, e .row) (o .0), λ clock. rw (e .count, e .next, e .breaks, e .odd) (o .1 clock))
+-- What follows for all ports, and a report, leave both.
+abbrev underWay : (p : Port) → Run × List ℕ
+underWay p = (runOf (p .step), p .gathering)
 
-passed-run : (g : Group) (store : List ℕ) (i : ℕ) (p : Port) → SameRun p (passedOn g store i p)
+live-same : (None : Type 0) (kind : ℕ) (p q : Port) (heard : List ℕ) → underWay q ≡ underWay p → LivePort None kind p heard → LivePort None kind q heard
+live-same None kind p q heard e o = subst (λ (u : Run × List ℕ). LiveIn None kind (u .0) (u .1) heard) (sym e) o
+
+passed-same : (g : Group) (store : List ℕ) (i : ℕ) (p : Port) → underWay (passedOn g store i p) ≡ underWay p
 unfolding passedStep
-passed-run g store i p = record { count = refl; next = refl; breaks = refl; odd = refl; row = refl }
+passed-same g store i p = refl
 
-cleared-run : (g : Group) (beginning : Bool) (p : Port) → SameRun p (clearedOn g beginning p)
+cleared-same : (g : Group) (beginning : Bool) (p : Port) → underWay (clearedOn g beginning p) ≡ underWay p
 unfolding clearedStep
-cleared-run g beginning p = record { count = refl; next = refl; breaks = refl; odd = refl; row = refl }
-
-run-then : (p q r : Port) → SameRun p q → SameRun q r → SameRun p r
-run-then p q r e f = record { count = f .count ∙ e .count; next = f .next ∙ e .next; breaks = f .breaks ∙ e .breaks; odd = f .odd ∙ e .odd; row = f .row ∙ e .row }
+cleared-same g beginning p = refl
 
 module _ (n : ℕ) (store : List ℕ) (a : List (List ℕ)) (j : ℕ) (c : j < n) (long : rowsFor n ≤ length a) where
-  settled-run : SameRun (portAt a j) (portAt (settledOf n store a) j)
-  settled-run =
-      settled-by (λ (r : List (List ℕ)). SameRun (portAt a j) (portAt r j)) n store a long
-      (record { count = refl; next = refl; breaks = refl; odd = refl; row = refl })
-      (λ b q f w. rw (passed-of-port (groupAt a) store n a j c long) (passed-run (groupAt a) store j (portAt a j)))
-      (λ b w. rw (begun-port (groupAt a) n a j c long) (cleared-run (groupAt a) true (portAt a j)))
-      (λ b q. rw (stopped-port (groupAt a) n a j c long) (cleared-run (groupAt a) false (portAt a j)))
+  settled-same : underWay (portAt (settledOf n store a) j) ≡ underWay (portAt a j)
+  settled-same =
+      settled-by (λ (r : List (List ℕ)). underWay (portAt r j) ≡ underWay (portAt a j)) n store a long
+      refl
+      (λ b q f w. rw (passed-of-port (groupAt a) store n a j c long) (passed-same (groupAt a) store j (portAt a j)))
+      (λ b w. rw (begun-port (groupAt a) n a j c long) (cleared-same (groupAt a) true (portAt a j)))
+      (λ b q. rw (stopped-port (groupAt a) n a j c long) (cleared-same (groupAt a) false (portAt a j)))
       (λ b q.
       let z : List (List ℕ) = stoppedOf (groupAt a) n a in
       let l : rowsFor n ≤ length z = rw (length-stopped (groupAt a) n a) long in
       rw (begun-port (groupAt z) n z j c l)
-      (run-then (portAt a j) (portAt z j) (clearedOn (groupAt z) true (portAt z j))
-      (rw (stopped-port (groupAt a) n a j c long) (cleared-run (groupAt a) false (portAt a j))) (cleared-run (groupAt z) true (portAt z j))))
+      (cleared-same (groupAt z) true (portAt z j) ∙ rw (stopped-port (groupAt a) n a j c long) (cleared-same (groupAt a) false (portAt a j))))
 
-  reported-run : SameRun (portAt a j) (portAt (reportedOf (groupAt a) store n a) j)
+  reported-same : underWay (portAt (reportedOf (groupAt a) store n a) j) ≡ underWay (portAt a j)
   unfolding reportedOf
-  reported-run =
+  reported-same =
       let p : List (List ℕ) = passedOf (groupAt a) store n a in
       let l : rowsFor n ≤ length p = rw (length-passed (groupAt a) store n a) long in
-      rw (told-of-port (groupAt p) n p j c l, passed-of-port (groupAt a) store n a j c long)
-      (let o = passed-run (groupAt a) store j (portAt a j) in record { count = o .count; next = o .next; breaks = o .breaks; odd = o .odd; row = refl })
+      rw (told-of-port (groupAt p) n p j c l, passed-of-port (groupAt a) store n a j c long) (passed-same (groupAt a) store j (portAt a j))
 
-pub by-said : (P : List (List ℕ) → ℕ → Type 0) (b : Bool) (x y : List (List ℕ)) (v w : ℕ) → (b ≡ true → P x v) → (b ≡ false → P y w) → P (cond b x y) (cond b v w)
+by-said : (P : List (List ℕ) → ℕ → Type 0) (b : Bool) (x y : List (List ℕ)) (v w : ℕ) → (b ≡ true → P x v) → (b ≡ false → P y w) → P (cond b x y) (cond b v w)
 by-said P true x y v w p q = p refl
 by-said P false x y v w p q = q refl
 
-pub unheard : (b c : Bool) → c ≡ false → (b && c) ≡ false
+unheard : (b c : Bool) → c ≡ false → (b && c) ≡ false
 unheard true c e = e
 unheard false c e = refl
 
@@ -114,7 +116,8 @@ refusal-unheard g n i rows payload store e = go (ltb i n) (frameFits g n rows pa
     go true false z = refl
     go false b z = refl
 
-module _ (s : List (List ℕ)) (k : Kept s) (i : ℕ) (failed : Bool) (h : ℕ) (payload store : List ℕ) (j : ℕ) (c : j < groupAt s .count) (heard : List ℕ) (live : LiveIn (groupAt s .kind) (portAt s j) heard) where
+module _ (None : Type 0) (s : List (List ℕ)) (k : Kept s) (i : ℕ) (failed : Bool) (h : ℕ) (payload store : List ℕ) (j : ℕ) (c : j < groupAt s .count) (none : None → i ≡ j → failed ≡ false) (heard : List ℕ)
+    (live : LivePort None (groupAt s .kind) (portAt s j) heard) where
   abbrev kind : ℕ
   kind = groupAt s .kind
 
@@ -129,7 +132,7 @@ module _ (s : List (List ℕ)) (k : Kept s) (i : ℕ) (failed : Bool) (h : ℕ) 
 
   -- with what is heard by the answer
   abbrev Now : List (List ℕ) → ℕ → Type 0
-  Now r answer = LiveIn kind (portAt r j) (cond (eqb i j && isHeard answer) (h ∷ heard) heard)
+  Now r answer = LivePort None kind (portAt r j) (cond (eqb i j && isHeard answer) (h ∷ heard) heard)
 
   stays : (answer : ℕ) → isHeard answer ≡ false → Now s answer
   stays answer e = rw (unheard (eqb i j) (isHeard answer) e) live
@@ -137,37 +140,37 @@ module _ (s : List (List ℕ)) (k : Kept s) (i : ℕ) (failed : Bool) (h : ℕ) 
   enough : rowsFor n ≤ length s
   enough = let r = k .lasting .rows in omega arith
 
-  gathering-is : portAt s i .gathering ≡ getD (packetsAt s i) 0 []
+  mine : j ≡ i → LiveIn None kind (runOf (stepAt s i)) (getD (packetsAt s i) 0 []) heard
   unfolding portAt
-  gathering-is = refl
+  mine e = rw e at live
 
-  run-kept : i < n → RunKept kind (runOf (stepAt s i))
-  run-kept b = rw (port-step s i) at (k .lasting .ports i b .kept .run)
+  gathered : i < n → portAt a i .gathering ≡ rowAfter kind (getD (packetsAt s i) 0 []) t h
+  unfolding portAt
+  gathered b = frame-gathering kind s i t h n b enough
 
   -- the port's own frame
-  own : j ≡ i → (t .answer ≡ 11 → ⊥) → Took kind (stepAt s i) t → LiveIn kind (portAt a i) (h ∷ heard)
-  own e other took =
-      let b : i < n = rw e at c in
-      let mine : LiveIn kind (portAt s i) heard = rw e at live in
+  own : j ≡ i → i < n → Went (groupAt s) (stepAt s i) failed (oddIn s i h) h t → LivePort None kind (portAt a i) (h ∷ heard)
+  own e b w =
+      let o : LiveIn None kind (runOf (stepAt s i)) (getD (packetsAt s i) 0 []) heard = mine e in
+      let kept : RunKept kind (runOf (stepAt s i)) = rw (port-step s i) at (k .lasting .ports i b .kept .run) in
       let step : portAt a i .step ≡ t .step = ap (λ (p : Port). p .step) (frame-port kind s i t h n b enough) in
-      let row : LiveRow kind (stepAt s i .count) (stepAt s i .next) (portAt s i .gathering) heard = rw (port-step s i) at (mine .0) in (
-        rw (step, frame-gathering kind s i t h n b enough) (live-took kind (stepAt s i) (portAt s i .gathering) heard t h row took),
-        λ clock.
-            let said : HeardStep kind (stepAt s i) heard = rw (port-step s i) at (mine .1 clock) in
-            rw step
-            (⊎-elim (λ (z : t .answer ≡ 11). absurd (other z)) (λ (o : HeardStep kind (t .step) (h ∷ heard)). o)
-            (taken-heard (groupAt s) (stepAt s i) (getD (packetsAt s i) 0 []) heard failed h clock (run-kept b) (rw gathering-is at row) said)),
-      )
+      rw (step, gathered b)
+      (record {
+        live = live-went (groupAt s) (stepAt s i) (getD (packetsAt s i) 0 []) heard failed (oddIn s i h) h t kept w (o .live);
+        said = λ clock. heard-went (groupAt s) (stepAt s i) (getD (packetsAt s i) 0 []) heard failed h t clock kept w (o .live) (o .said clock);
+        ran = λ free u.
+            w .run
+            ∙ ap (λ (f : Bool). cond f (withBits (stepAt s i .bits) noRun) (ranOn (groupAt s) (stepAt s i) (oddIn s i h) h)) (none u (sym e))
+            ∙ odd-alike kind free (runOf (stepAt s i)) (oddIn s i h) h
+            ∙ ap (λ (r : Run). runOn kind r false h) (o .ran free u);
+      })
 
-  after : (t .answer ≡ 11 → ⊥) → Took kind (stepAt s i) t → Now a (t .answer)
-  after other took =
-      ⊎-elim (λ (e : j ≡ i). rw (e, eq-eqb i i refl, took .heard) (own e other took))
+  after : i < n → (t .answer ≡ 11 → ⊥) → Now a (t .answer)
+  after b other =
+      let w : Went (groupAt s) (stepAt s i) failed (oddIn s i h) h t = went (groupAt s) (stepAt s i) failed (oddIn s i h) h other in
+      ⊎-elim (λ (e : j ≡ i). rw (e, eq-eqb i i refl, w .heard) (own e b w))
       (λ (d : j ≢ i). rw (ne-eqb i j (λ (e : i ≡ j). d (sym e)), frame-other kind s i t h j d) live)
       (eq-or-ne j i)
-
-  took-by : i < n → (t .answer ≡ 11 → ⊥) → Took kind (stepAt s i) t
-  took-by b other =
-      ⊎-elim (λ (e : t .answer ≡ 11). absurd (other e)) (λ (o : Took kind (stepAt s i) t). o) (taken-took (groupAt s) (stepAt s i) failed (oddIn s i h) h (run-kept b))
 
   said : eqb (frameRefusal s i (length payload) (length store)) 0 ≡ true → eqb (t .answer) 11 ≡ false
       → Now (settledBy (t .settles) (portsIn (groupAt s)) (storeAfter s i failed h payload store) a) (t .answer)
@@ -176,13 +179,12 @@ module _ (s : List (List ℕ)) (k : Kept s) (i : ℕ) (failed : Bool) (h : ℕ) 
       let ports : portsIn (groupAt s) ≡ n = ports-are (groupAt s) (k .lasting .group .sizes) in
       let o = unrefused (groupAt s) (portsIn (groupAt s)) i (length s) (length payload) (length store) (eqb-true (frameRefusal s i (length payload) (length store)) 0 e) in
       let b : i < n = rw ports at (o .port) in
-      let other : t .answer ≡ 11 → ⊥ = eqb-false (t .answer) 11 f in
-      let now : Now a (t .answer) = after other (took-by b other) in
+      let now : Now a (t .answer) = after b (eqb-false (t .answer) 11 f) in
       let long : rowsFor n ≤ length a = rw (length-frame kind s i t h) enough in
       let st : List ℕ = storeAfter s i failed h payload store in
       rw ports
       (cond-by (λ (r : List (List ℕ)). Now r (t .answer)) (t .settles) (settledOf n st a) a
-      (λ q. live-same kind (portAt a j) (portAt (settledOf n st a) j) (cond (eqb i j && isHeard (t .answer)) (h ∷ heard) heard) (settled-run n st a j c long) now)
+      (λ q. live-same None kind (portAt a j) (portAt (settledOf n st a) j) (cond (eqb i j && isHeard (t .answer)) (h ∷ heard) heard) (settled-same n st a j c long) now)
       (λ q. now))
 
   frame-live : Now (frameRows s i failed h payload store) (frameAnswer s i failed h (length payload) (length store))
@@ -196,10 +198,10 @@ module _ (s : List (List ℕ)) (k : Kept s) (i : ℕ) (failed : Bool) (h : ℕ) 
       (λ f. stays (t .answer) (rw (eqb-true (t .answer) 11 f) refl)) (λ f. said e f))
       (λ e. stays refusal (refusal-unheard (groupAt s) (portsIn (groupAt s)) i (length s) (length payload) (length store) e))
 
-fetch-live : (s : List (List ℕ)) → Kept s → (store out report : List ℕ) (j : ℕ) → j < groupAt s .count → (heard : List ℕ) → LiveIn (groupAt s .kind) (portAt s j) heard
-    → LiveIn (groupAt s .kind) (portAt (fetchRows s store out report) j) heard
+fetch-live : (None : Type 0) (s : List (List ℕ)) → Kept s → (store out report : List ℕ) (j : ℕ) → j < groupAt s .count → (heard : List ℕ) → LivePort None (groupAt s .kind) (portAt s j) heard
+    → LivePort None (groupAt s .kind) (portAt (fetchRows s store out report) j) heard
 unfolding fetchRows rowsIfDue
-fetch-live s k store out report j c heard live =
+fetch-live None s k store out report j c heard live =
     cond-by Now (fits s store out report) (cond (dueIn g (portsIn g) s) (reportedOf g store (portsIn g) s) s) s
     (λ e. cond-by Now (dueIn g (portsIn g) s) (reportedOf g store (portsIn g) s) s (λ d. rw ports reported) (λ d. live)) (λ e. live)
   where
@@ -207,29 +209,36 @@ fetch-live s k store out report j c heard live =
     g = groupAt s
 
     Now : List (List ℕ) → Type 0
-    Now r = LiveIn (groupAt s .kind) (portAt r j) heard
+    Now r = LivePort None (groupAt s .kind) (portAt r j) heard
 
     ports : portsIn (groupAt s) ≡ groupAt s .count
     ports = ports-are (groupAt s) (k .lasting .group .sizes)
 
-    reported : LiveIn (groupAt s .kind) (portAt (reportedOf (groupAt s) store (groupAt s .count) s) j) heard
+    reported : LivePort None (groupAt s .kind) (portAt (reportedOf (groupAt s) store (groupAt s .count) s) j) heard
     reported =
-        live-same (groupAt s .kind) (portAt s j) (portAt (reportedOf (groupAt s) store (groupAt s .count) s) j) heard
-        (reported-run (groupAt s .count) store s j c (let r = k .lasting .rows in omega arith)) live
+        live-same None (groupAt s .kind) (portAt s j) (portAt (reportedOf (groupAt s) store (groupAt s .count) s) j) heard
+        (reported-same (groupAt s .count) store s j c (let r = k .lasting .rows in omega arith)) live
 
-abbrev LiveOf : Receiver → ℕ → List ℕ → Type 0
-LiveOf x j heard = LiveIn (groupAt (x .rows) .kind) (portAt (x .rows) j) heard
+abbrev LiveOf : (None : Type 0) (x : Receiver) (j : ℕ) (heard : List ℕ) → Type 0
+LiveOf None x j heard = LivePort None (groupAt (x .rows) .kind) (portAt (x .rows) j) heard
 
-call-live : (x : Receiver) (c : ReceiverCall) → Kept (x .rows) → (j : ℕ) → j < groupAt (x .rows) .count → (heard : List ℕ) → LiveOf x j heard → LiveOf (receiverAfter x c) j (heardWith j x c heard)
-call-live x (Frame i failed h payload) k j b heard o =
-    rw (call-sizes x (Frame i failed h payload) k .kind) (frame-live (x .rows) k i failed h payload (x .store) j b heard o)
-call-live x (Fetch out report) k j b heard o = rw (call-sizes x (Fetch out report) k .kind) (fetch-live (x .rows) k (x .store) out report j b heard o)
+call-live : (None : Type 0) (x : Receiver) (c : ReceiverCall) → Kept (x .rows) → (j : ℕ) → j < groupAt (x .rows) .count → (None → Unflagged j (c ∷ [])) → (heard : List ℕ) → LiveOf None x j heard
+    → LiveOf None (receiverAfter x c) j (heardWith j x c heard)
+call-live None x (Frame i failed h payload) k j b none heard o =
+    rw (call-sizes x (Frame i failed h payload) k .kind) (frame-live None (x .rows) k i failed h payload (x .store) j b (λ u. none u .0) heard o)
+call-live None x (Fetch out report) k j b none heard o =
+    rw (call-sizes x (Fetch out report) k .kind) (fetch-live None (x .rows) k (x .store) out report j b heard o)
 
-run-live : (x : Receiver) (calls : List ReceiverCall) → Kept (x .rows) → (j : ℕ) → j < groupAt (x .rows) .count → (heard : List ℕ) → LiveOf x j heard
-    → LiveOf (receiverRun x calls) j (heardOf j x calls heard)
-run-live x [] k j b heard o = o
-run-live x (c ∷ calls) k j b heard o =
-    run-live (receiverAfter x c) calls (call-kept x c k) j (rw (call-sizes x c k .count) b) (heardWith j x c heard) (call-live x c k j b heard o)
+first-and-rest : (j : ℕ) (c : ReceiverCall) (calls : List ReceiverCall) → Unflagged j (c ∷ calls) → Unflagged j (c ∷ []) × Unflagged j calls
+first-and-rest j (Frame i failed h payload) calls u = ((u .0, tt), u .1)
+first-and-rest j (Fetch out report) calls u = (tt, u)
+
+run-live : (None : Type 0) (x : Receiver) (calls : List ReceiverCall) → Kept (x .rows) → (j : ℕ) → j < groupAt (x .rows) .count → (None → Unflagged j calls) → (heard : List ℕ) → LiveOf None x j heard
+    → LiveOf None (receiverRun x calls) j (heardOf j x calls heard)
+run-live None x [] k j b none heard o = o
+run-live None x (c ∷ calls) k j b none heard o =
+    run-live None (receiverAfter x c) calls (call-kept x c k) j (rw (call-sizes x c k .count) b) (λ u. first-and-rest j c calls (none u) .1) (heardWith j x c heard)
+    (call-live None x c k j b (λ u. first-and-rest j c calls (none u) .0) heard o)
 
 module _ (kind count P W : ℕ) (hold restore : List ℕ) (rows : List (List ℕ)) (store : List ℕ) (e : startAsAnswer kind count P W (length store) hold restore (length rows) ≡ 0) (calls : List ReceiverCall) (j : ℕ) (b : j < count) where
   abbrev x : Receiver
@@ -241,21 +250,26 @@ module _ (kind count P W : ℕ) (hold restore : List ℕ) (rows : List (List ℕ
   group : groupAt (startAsRows kind count P W (length store) hold restore rows) ≡ groupWith kind count P W
   group = started-with kind count P W (length store) hold restore rows e
 
-  fresh : LiveIn kind (portAt (startAsRows kind count P W (length store) hold restore rows) j) []
+  fresh : LivePort (Unflagged j calls) kind (portAt (startAsRows kind count P W (length store) hold restore rows) j) []
   fresh =
       let o = accepted kind count P W (length store) hold restore rows e in
-      rw (o .fresh, started-port kind count hold restore rows (groupWith kind count P W) j b (let r = o .rows in omega arith)) (live-none kind 0 0 zeroRow [] refl refl, λ clock. heard-short kind 0 0 0 0 [] (omega arith))
+      rw (o .fresh, started-port kind count hold restore rows (groupWith kind count P W) j b (let r = o .rows in omega arith))
+      (record { live = live-none kind 0 0 zeroRow [] refl refl; said = λ clock. heard-short kind 0 0 0 0 [] (omega arith); ran = λ free u. refl })
 
-  pub stands : LiveIn kind port (heardOf j x calls [])
+  pub stands : LivePort (Unflagged j calls) kind port (heardOf j x calls [])
   stands =
       let k : Kept (x .rows) = started-kept kind count P W (length store) hold restore rows e in
       let same : groupAt (receiverRun x calls .rows) .kind ≡ kind = run-sizes x calls k .kind ∙ ap (λ (g : Group). g .kind) group in
-      rw same at (run-live x calls k j (rw group b) [] (rw group fresh))
+      rw same at (run-live (Unflagged j calls) x calls k j (rw group b) (λ u. u) [] (rw group fresh))
 
   pub live-row : Live kind port (heardOf j x calls [])
   live-row =
       record {
-        row = stands .0;
-        came = packet-came kind (port .step .count) (port .step .next) (port .gathering) (heardOf j x calls []) (stands .0);
-        judged = packet-judged kind (port .step .count) (port .step .next) (port .gathering) (heardOf j x calls []) (stands .0);
+        row = stands .live;
+        came = packet-came kind (port .step .count) (port .step .next) (port .gathering) (heardOf j x calls []) (stands .live);
+        judged = packet-judged kind (port .step .count) (port .step .next) (port .gathering) (heardOf j x calls []) (stands .live);
       }
+
+  -- of a port none of whose frames is flagged, the run is that of the frames heard
+  pub step-words : withoutMfi2 kind ≡ true → Unflagged j calls → InStepExactly kind (heardOf j x calls []) (port .step .count)
+  step-words free none = rw (ap (λ (r : Run). r .count) (stands .ran free none)) (in-step-exactly kind free (heardOf j x calls []))

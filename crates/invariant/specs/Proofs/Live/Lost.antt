@@ -18,10 +18,11 @@ use Rattle.invariant.specs.Proofs.Calls as Calls
 use Rattle.invariant.specs.Proofs.Kept.Start.{started-kept, started-with}
 use Rattle.invariant.specs.Proofs.Laws.Flags.{flag-on}
 use Rattle.invariant.specs.Proofs.Live.Calls.{refusal-unheard, stands}
-use Rattle.invariant.specs.Proofs.Live.Losing.{HeardBy, HeardStep, before-after, odd-now}
+use Rattle.invariant.specs.Proofs.Live.Losing.{HeardBy, HeardStep, odd-now}
 use Rattle.invariant.specs.Proofs.Sizes.{run-sizes}
 use Rattle.packet.specs.Counts.{h4Counts}
 use Rattle.packet.specs.Kinds.{tagAfter}
+use Rattle.packet.specs.Laws.Back.{before-after}
 use Rattle.packet.specs.Laws.Counting.{counts-h4}
 use Rattle.phases.specs.Sizes.{portsIn}
 use Rattle.receiver.specs.Frame.{frameAnswer, frameRefusal, takenIn}
@@ -150,7 +151,7 @@ module _ (kind count P W : ℕ) (hold restore : List ℕ) (rows : List (List ℕ
   count-is = run-sizes first calls first-kept .count ∙ ap (λ (g : Group). g .count) group
 
   said : HeardStep kind (port .step) heard
-  said = stands kind count P W hold restore rows store e calls j b .1 clock
+  said = stands kind count P W hold restore rows store e calls j b .said clock
 
   pub recorded : inStepAt kind (port .step .count) ≡ true → Recorded kind port heard
   recorded on = record { breaks = said .breaks-are on; odd = said .odd-is on }
@@ -191,7 +192,7 @@ module _ (kind count P W : ℕ) (hold restore : List ℕ) (rows : List (List ℕ
         × (Fourth k (stepAt (x .rows) j .next) h heard ⊎ Second k (stepAt (x .rows) j .next) h heard → takenIn (x .rows) j false h .answer ≡ 12))
         kind-is
         (rule (groupAt (x .rows)) (stepAt (x .rows) j) (getD (packetsAt (x .rows) j) 0 []) heard h (rw kind-is clock) (kept .lasting .ports j here .kept .run)
-        (rw kind-is (stands kind count P W hold restore rows store e calls j b .0)) (rw kind-is on) (rw kind-is said))
+        (rw kind-is (stands kind count P W hold restore rows store e calls j b .live)) (rw kind-is on) (rw kind-is said))
 
     pub lost-heard : (frameAnswer (x .rows) j false h (length payload) (length (x .store)) ≡ 12 → Fourth kind (port .step .next) h heard ⊎ Second kind (port .step .next) h heard)
         × (Fourth kind (port .step .next) h heard ⊎ Second kind (port .step .next) h heard → frameAnswer (x .rows) j false h (length payload) (length (x .store)) ≡ 12)

@@ -7,10 +7,10 @@ use Prim.Native.Nat.{ℕ, zero, suc, _+_, _-_, _*_, _≤_, _<_}
 use native.Mathlib.Omega.{arith}
 use lib.ListN.{getD, length}
 use borrow.Author.Tests.{leb-true}
-use Rattle.invariant.specs.Live.{LiveRow, packetHeard, tagBack}
-use Rattle.invariant.specs.Proofs.Live.Places.{after-before, after-mod, ends-starts, place-apart, place-end, place-stays}
-use Rattle.packet.specs.Kinds.{frames, placeOf, startsEpoch, tagAfter, tagBefore}
-use Rattle.packet.specs.Laws.Distances.{place-below}
+use Rattle.invariant.specs.Live.{LiveRow, packetHeard}
+use Rattle.packet.specs.Kinds.{frames, placeOf, startsEpoch, tagAfter, tagBack, tagBefore}
+use Rattle.packet.specs.Laws.Back.{after-mod, ends-starts, place-apart, place-end, place-stays}
+use Rattle.packet.specs.Laws.Distances.{place-back, place-below}
 use Rattle.packet.specs.Laws.Symbols.{length-with, row-is, symbol-other, symbol-same}
 use Rattle.packet.specs.Symbols.{symbolAt, symbolOf, withSymbol}
 use Rattle.packet.specs.Theorems.Tags.{frames-some}
@@ -72,8 +72,9 @@ packet-came kind count next row heard o on starts =
 -- the packet that is looked at as its last frame comes
 pub packet-judged : (kind count next : ℕ) (row heard : List ℕ) → LiveRow kind count next row heard → inStepAt kind count ≡ true → endsPacket kind next ≡ true
     → (h : ℕ) → withSymbol kind row (placeOf kind next) h ≡ packetHeard kind (h ∷ heard)
+unfolding endsPacket
 packet-judged kind count next row heard o on ends h =
-    packet-came kind count (tagAfter kind next) (withSymbol kind row (placeOf kind next) h) (h ∷ heard) (rw (after-before kind next) at live) on (ends-starts kind next ends)
+    packet-came kind count (tagAfter kind next) (withSymbol kind row (placeOf kind next) h) (h ∷ heard) (rw (place-back kind next) at live) on (ends-starts kind next ends)
   where
     live : LiveRow kind count (tagAfter kind next) (withSymbol kind row (placeOf kind (tagBefore kind (tagAfter kind next))) h) (h ∷ heard)
     live = live-put kind count next row heard o count (tagAfter kind next) h (inr (record { count-is = omega arith; next-is = after-mod kind next }))

@@ -1,11 +1,12 @@
 -- A fixed group's reports (request 2026-12), on every state; and its reply.
-use mathlib.Core.Path.{_≡_, refl, sym, ap, _∙_}
+use mathlib.Core.Path.{_≡_, refl, sym, ap, ap₂, _∙_}
 use mathlib.Core.Logic.{_≢_}
 use mathlib.Core.Bool.{true, false}
 use mathlib.Core.List.{List, [], _∷_}
-use Prim.Native.Nat.{ℕ, _%_, _<_}
+use Prim.Native.Nat.{ℕ, _+_, _*_, _/_, _%_, _<_}
+use native.Mathlib.Omega.{arith}
 use lib.ListN.{getD, length}
-use borrow.Author.Tests.{ne-eqb}
+use Rattle.ground.specs.Drawn.{fillAt}
 use Rattle.ground.specs.Truth.{cond-by}
 use Rattle.judge.specs.declared.seen.Seen.{Seen}
 use Rattle.judge.specs.Laws.Numbers.{numberAt}
@@ -13,12 +14,12 @@ use Rattle.judge.specs.Order.{activeIn, portOf}
 use Rattle.judge.specs.Theorems.Fixed.{AllFixed, Standing, fixed-else-held, fixed-judged, fixed-members, fixed-port, stands-sure, sure-stands}
 use Rattle.judge.specs.Verdict.{HELD, SURE, fixedVerdict, judgeOf}
 use Rattle.packet.specs.declared.ruling.Ruling.{Ruling}
-use Rattle.packet.specs.Fixed.{fixedRulingOf, readFixedNibbles}
-use Rattle.packet.specs.Kinds.{fixedKind}
+use Rattle.packet.specs.Kinds.{fixedKind, frames}
 use Rattle.packet.specs.Ruling.{refused}
+use Rattle.packet.specs.Theorems.Fixed.{fixed-other}
 use Rattle.packet.specs.Words.{FIXED}
 use Rattle.phases.specs.Sizes.{knownKind, portsIn}
-use Rattle.receiver.specs.Fetch.{dueIn, reportIfDue}
+use Rattle.receiver.specs.Fetch.{dueIn, fetchOut, fits, reportIfDue}
 use Rattle.receiver.specs.Laws.Seen.{seen-at}
 use Rattle.receiver.specs.Laws.Sizes.{ports-are, size-is, sizes-of, some-sized}
 use Rattle.receiver.specs.Report.{reportBy, reportOf, rulingEpoch, seenAll, seenOf}
@@ -31,12 +32,14 @@ use Rattle.rows.specs.Port.{portAt}
 use Rattle.step.specs.Laws.FixedPackets.{own-fixed}
 use Rattle.step.specs.Arrival.{flagOf}
 use Rattle.step.specs.OwnCount.{ownNumber, ownRuling, rulingIn}
+use Rattle.store.specs.Frames.{placeIn}
 use Rattle.invariant.specs.Calls.{Receiver, ReceiverCall, receiverRun, startedWith}
 use Rattle.invariant.specs.Kept.Group.{Kept}
 use Rattle.invariant.specs.Proofs.Calls as Calls
 use Rattle.invariant.specs.Proofs.Kept.Start.{started-kept, started-with}
+use Rattle.invariant.specs.Proofs.Reports.Bytes.{report-bytes}
 use Rattle.invariant.specs.Proofs.Sizes.{ports-at-most-64, run-sizes}
-use Rattle.invariant.specs.Reports.{Refused}
+use Rattle.invariant.specs.Reports.{ByNumber, Refused}
 
 module _ (s : List (List ℕ)) (fixed : groupAt s .kind ≡ fixedKind) (due : dueIn (groupAt s) (portsIn (groupAt s)) s ≡ true) where
   abbrev g : Group
@@ -72,14 +75,32 @@ module _ (s : List (List ℕ)) (fixed : groupAt s .kind ≡ fixedKind) (due : du
   pub fixed-order : reportIfDue g n s .mark ≡ SURE → (activeIn seen n ≡ n) × ((r : ℕ) → r < n → (portOf seen n r < n) × (numberAt seen (portOf seen n r) ≡ r))
   fixed-order e = (fixed-members seen n all-fixed (sure-fixed e), λ r b. fixed-port seen n all-fixed (sure-fixed e) r b)
 
+  not-held : reportIfDue g n s .mark ≡ SURE → judgeOf (g .kind) seen n ≢ HELD
+  not-held e h = let clash : _≡_ {A = ℕ} SURE HELD = sym e ∙ mark-is ∙ sym (fixed-judged seen n) ∙ sym (ap (λ (kind : ℕ). judgeOf kind seen n) fixed) ∙ h in omega arith
+
+  pub fixed-bytes : (store out report : List ℕ) → fits s store out report ≡ true → reportIfDue g n s .mark ≡ SURE → ByNumber s store out (fetchOut s store out report)
+  unfolding seenOf portAt
+  fixed-bytes store out report f e =
+      let o = fixed-order e in
+      record {
+        port = portOf seen n;
+        below = λ q b. o .1 q b .0;
+        carries = λ q b. ap (λ (p : Seen). p .number) (sym (seen-at g s n (portOf seen n q) (ports-at-most-64 g) (o .1 q b .0))) ∙ o .1 q b .1;
+        bytes =
+            report-bytes s store out report f due (not-held e)
+            ∙ ap₂
+            (λ (kind X : ℕ). fillAt 0 (frames kind * (X * g .payload)) (λ b. getD store (placeIn g (portOf seen n (b % (X * g .payload) % X)) (b / (X * g .payload)) + b % (X * g .payload) / X) 0) out)
+            fixed (o .0);
+      }
+
 pub known-kind : (g : Group) → 0 < portsIn g → knownKind (g .kind) ≡ true
 known-kind g some = sizes-of (g .kind) (g .count) (g .payload) (g .window) (some-sized g some .0) .known
 
 -- 'a word other than FIXED is 6'
 foreign-refused : (epoch : ℕ) (ns : List ℕ) → getD ns 10 0 % 16 ≢ FIXED → ownRuling fixedKind epoch ns .good ≡ false
-unfolding ownRuling rulingIn fixedRulingOf readFixedNibbles
+unfolding ownRuling rulingIn
 foreign-refused epoch ns d =
-    rw (ne-eqb (getD ns 10 0 % 16) FIXED d) (cond-by (λ (r : Ruling). r .good ≡ false) (ownNumber epoch ns) refused refused (λ e. refl) (λ e. refl))
+    rw (fixed-other ns d) (cond-by (λ (r : Ruling). r .good ≡ false) (ownNumber epoch ns) refused refused (λ e. refl) (λ e. refl))
 
 pub fixed-foreign : (s : List (List ℕ)) (i : ℕ) → groupAt s .kind ≡ fixedKind → i < portsIn (groupAt s) → flagOf (portAt s i .step .whole) ≡ true
     → getD (portAt s i .ruling) 10 0 % 16 ≢ FIXED → Refused s i

@@ -1,4 +1,4 @@
--- A fixed group's packets: they count as their tags say, and each reads as said.
+-- A fixed group's packets: they count as their tags say, and each reads as said, whatever the nibbles that are not looked at.
 use mathlib.Core.Path.{_≡_, sym}
 use mathlib.Core.Bool.{true}
 use Prim.Native.Nat.{ℕ, _+_, _<_}
@@ -7,12 +7,13 @@ use native.Mathlib.Omega.{arith}
 use lib.ListN.{getD}
 use Rattle.packet.specs.Kinds.{firstTag, fixedKind, frames}
 use Rattle.packet.specs.Symbols.{packetRow}
+use Rattle.packet.specs.Theorems.Fixed.{fixed-counted}
 use Rattle.packet.specs.Theorems.Tags.{epochs-fit, epochs-some}
 use Rattle.packet.specs.Words.{FIXED}
+use Rattle.step.specs.Laws.FixedPackets as Step
 use Rattle.step.specs.Laws.Sent.{SentWith}
 use Rattle.step.specs.OwnCount.{ownRuling}
 use Rattle.link.specs.FixedGroup.{FixedGroup, Numbered, fixedSent}
-use Rattle.link.specs.Proofs.FixedGroups.Unread.{with-counts, with-reads}
 use Rattle.link.specs.Proofs.Laws.Counts.{tag-epoch, tag-place}
 use Rattle.link.specs.Sending.{epochNumber, epochStart}
 
@@ -25,7 +26,7 @@ pub fixed-counts : (f : FixedGroup) (i slot k : ℕ) → k < frames fixedKind �
 unfolding fixedSent
 fixed-counts f i slot k l =
     rw (tag-place fixedKind (f .first) i k l) at
-    (with-counts (f .unread i slot) (firstTag fixedKind (f .first) + (epochStart fixedKind i + k)) (epochNumber fixedKind (f .first) i) (f .number slot) (number-byte (f .first) i) (sym (tag-epoch fixedKind (f .first) i k l)))
+    (fixed-counted (f .unread i slot) (firstTag fixedKind (f .first) + (epochStart fixedKind i + k)) (epochNumber fixedKind (f .first) i) (f .number slot) (number-byte (f .first) i) (sym (tag-epoch fixedKind (f .first) i k l)))
 
 module _ (f : FixedGroup) (a : Numbered f) where
   slot-byte : (slot : ℕ) → slot < f .x → f .number slot < 256
@@ -34,4 +35,4 @@ module _ (f : FixedGroup) (a : Numbered f) where
   pub fixed-reads : (i slot : ℕ) → slot < f .x
       → ownRuling fixedKind (epochNumber fixedKind (f .first) i) (packetRow fixedKind (fixedSent f i slot)) ≡ record { good = true; word = FIXED; number = f .number slot; gid = 0 }
   unfolding fixedSent
-  fixed-reads i slot b = with-reads (f .unread i slot) (epochNumber fixedKind (f .first) i) (f .number slot) (number-byte (f .first) i) (slot-byte slot b)
+  fixed-reads i slot b = Step.fixed-reads (f .unread i slot) (epochNumber fixedKind (f .first) i) (f .number slot) (number-byte (f .first) i) (slot-byte slot b)

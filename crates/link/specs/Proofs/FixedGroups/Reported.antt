@@ -7,7 +7,7 @@ use Prim.Native.Nat.{ℕ, suc, _+_, _/_, _<_}
 use native.Mathlib.Omega.{arith}
 use Rattle.counting.specs.Laws.Tests.{every-all}
 use Rattle.ground.specs.Table.{tabulate-ext}
-use Rattle.packet.specs.Changes.{mostChanges}
+use Rattle.packet.specs.Laws.Changes.{fixed-unchanged}
 use Rattle.link.specs.Demand3.{Stands, Started, Time, ownRun, standing}
 use Rattle.link.specs.Demand3.Stands.{none-yet, reporting}
 use Rattle.link.specs.FixedGroup.{AssumedFixed, ToldSure, sureReport}
@@ -20,8 +20,7 @@ use Rattle.link.specs.Sending.{Sending}
 
 module _ (k : Link) (a : AssumedFixed k) where
   none-changed : k .sending .changes ≡ 0
-  unfolding mostChanges
-  none-changed = ap (λ (s : Sending). s .changes) (a .sends)
+  none-changed = ap (λ (s : Sending). s .changes) (a .sends) ∙ fixed-unchanged
 
   as-sent : (i p : ℕ) → p < k .ports → k .came i p ≡ sentTo k i p
   as-sent i p b =

@@ -11,8 +11,8 @@ use Rattle.judge.specs.Order.{activeIn, portOf}
 use Rattle.judge.specs.Seen.{seenAt}
 use Rattle.counting.specs.Laws.Numbers.{count-all}
 use Rattle.judge.specs.Theorems.Fixed.{AllFixed, Standing, fixed-judged, fixed-members, fixed-port, stands-sure}
-use Rattle.packet.specs.Changes.{mostChanges}
 use Rattle.packet.specs.Kinds.{fixedKind, frames}
+use Rattle.packet.specs.Laws.Changes.{fixed-unchanged}
 use Rattle.packet.specs.Words.{FIXED, IDLE}
 use Rattle.payload.specs.Order.{memberByte, memberFrame}
 use Rattle.link.specs.FixedGroup.{FixedGroup, Numbered, sendingFixed}
@@ -62,14 +62,13 @@ module _ (f : FixedGroup) (a : Numbered f) (P : ℕ) (client : Client) (i n : �
   sure = record { mark = fixed-judged ports n ∙ stands-sure ports n all-fixed standing; members = members; carried = carried-by }
 
 pub fixed-lawful : (f : FixedGroup) → Numbered f → (P : ℕ) (client : Client) → Lawful (sendingFixed f P client) P client
-unfolding mostChanges
 fixed-lawful f a P client =
     record {
       first = a .first;
       counts = λ i slot k b l. fixed-counts f i slot k l;
       reads = λ i slot b. fixed-reads f a i slot b;
-      refused = λ i slot came b low high. absurd (omega arith);
-      even = λ i slot came b low high. absurd (omega arith);
+      refused = λ i slot came b low high. absurd (omega (arith, fixed-unchanged));
+      even = λ i slot came b low high. absurd (omega (arith, fixed-unchanged));
       rules = λ i n slotOf ports o covered seen. sure f a P client i n slotOf ports o covered seen;
       long = λ x slot b. length-tabulate P (memberByte (f .x) (client x) (f .number slot));
     }

@@ -5,13 +5,12 @@ use mathlib.Core.Bool.{true, false}
 use mathlib.Core.List.{List, _∷_, _++_}
 use Prim.Native.Nat.{ℕ, _+_, _-_, _/_, _%_, _≤_, _<_}
 use lib.ListN.{getD}
-use borrow.Author.Tests.{eq-eqb}
 use Rattle.packet.specs.Changes.{keptPart}
 use Rattle.packet.specs.declared.ruling.Ruling.{Ruling}
 use Rattle.packet.specs.Kinds.{firstTag, frames, placeOf, startsEpoch}
 use Rattle.packet.specs.Laws.Epochs.{place-lt, position-is}
 use Rattle.packet.specs.Symbols.{packetRow}
-use Rattle.packet.specs.Theorems.Tags.{first-of, tagOf}
+use Rattle.packet.specs.Theorems.Tags.{first-starts, tagOf}
 use Rattle.step.specs.Laws.Packets.{good-even}
 use Rattle.step.specs.Laws.Sent.{KeptAs, SentWith}
 use Rattle.step.specs.OwnCount.{oddPacket}
@@ -72,8 +71,7 @@ module _ (k : Link) (a : AssumedOver k) where
       (a .lines .arrived i p b)
 
   starts : startsEpoch (s .kind) (firstTag (s .kind) (s .first)) ≡ true
-  unfolding startsEpoch
-  starts = eq-eqb (placeOf (s .kind) (firstTag (s .kind) (s .first))) 0 (first-of (s .kind) (s .first) (a .lawful .first) .1)
+  starts = first-starts (s .kind) (s .first) (a .lawful .first)
 
   pub fair : Fair (roadOf k)
   unfolding roadOf

@@ -4,16 +4,15 @@ use mathlib.Core.Logic.{⊎-elim, _≢_}
 use mathlib.Core.Bool.{Bool, true, false, cond}
 use mathlib.Core.List.{List}
 use Prim.Native.Nat.{ℕ, _+_, _-_, _*_, _/_, _%_, _≤_, _<_}
+use native.Mathlib.Nat.{mod-eq-of-lt}
 use native.Mathlib.Omega.{arith}
 use lib.ListN.{length}
-use borrow.Author.Tests.{eqb-true}
 use Rattle.ground.specs.Truth.{eq-or-ne}
-use Rattle.packet.specs.Clock.{by}
-use Rattle.packet.specs.Kinds.{endsEpoch, epochOf, frames, lead, placeOf, startsEpoch}
-use Rattle.packet.specs.Laws.Epochs.{place-in, place-lt, position-is}
+use Rattle.packet.specs.Kinds.{epochOf, frames, placeOf}
+use Rattle.packet.specs.Laws.Epochs.{last-place, place-in, place-lt, places-apart, position-is}
 use Rattle.packet.specs.Laws.Symbols.{length-with, row-is, symbol-other, symbol-same}
 use Rattle.packet.specs.Symbols.{withSymbol}
-use Rattle.packet.specs.Theorems.Tags.{frames-some, tagOf}
+use Rattle.packet.specs.Theorems.Tags.{epoch-counted, frames-some, place-counted, tagOf}
 use Rattle.receiver.specs.Frame.{oddIn, ownTag}
 use Rattle.rows.specs.Port.{portAt}
 use Rattle.rows.specs.Step.{stepAt}
@@ -27,28 +26,9 @@ use Rattle.link.specs.Proofs.Standing.{Lined, Live}
 use Rattle.link.specs.Road.{L, Road}
 use Rattle.link.specs.Running.{Moment}
 
--- Positions counted from one that starts an epoch.
-
-pub place-from : (kind c x : ℕ) → startsEpoch kind c ≡ true → placeOf kind (tagOf kind (c + x)) ≡ x % frames kind
-unfolding placeOf startsEpoch
-place-from kind c x e =
-    by (λ L E N l. (c + l) % L ≡ 0 → ((c + x) % N + l) % L ≡ x % L) (λ z. omega arith) (λ z. omega arith) kind (eqb-true ((c + lead kind) % frames kind) 0 e)
-
-epoch-from : (kind c i k : ℕ) → startsEpoch kind c ≡ true → k < frames kind → epochOf kind (tagOf kind (c + (i * frames kind + k))) ≡ epochOf kind (tagOf kind (c + i * frames kind))
-unfolding epochOf placeOf startsEpoch
-epoch-from kind c i k e =
-    by (λ L E N l. (c + l) % L ≡ 0 → k < L → ((c + (i * L + k)) % N + l) % N / L ≡ ((c + i * L) % N + l) % N / L) (λ z b. omega arith) (λ z b. omega arith) kind
-    (eqb-true ((c + lead kind) % frames kind) 0 e)
-
-apart-places : (kind x y : ℕ) → y < x → x < y + frames kind → y % frames kind ≢ x % frames kind
-apart-places kind x y = by (λ L E N l. y < x → x < y + L → y % L ≢ x % L) (λ h g e. omega arith) (λ h g e. omega arith) kind
-
 last-of : (kind t : ℕ) → endsPacket kind t ≡ true → placeOf kind t % frames kind ≡ frames kind - 1
-unfolding endsPacket endsEpoch
-last-of kind t e = eqb-true (placeOf kind t % frames kind) (frames kind - 1) e
-
-twice : (kind x : ℕ) → x % frames kind % frames kind ≡ x % frames kind
-twice kind x = by (λ L E N l. x % L % L ≡ x % L) (omega arith) (omega arith) kind
+unfolding endsPacket
+last-of kind t e = last-place kind (placeOf kind t) e
 
 module _ (r : Road) where
   -- the row after a frame
@@ -75,7 +55,7 @@ module _ (r : Road) where
             ⊎-elim
             (λ (e : y ≡ x). rw e (symbol-same (r .kind) row (o .long) (x % L r) (r .h4 p x) within))
             (λ (d : y ≢ x).
-            symbol-other (r .kind) row (o .long) (x % L r) (r .h4 p x) within (y % L r) (apart-places (r .kind) x y (omega arith) (omega arith))
+            symbol-other (r .kind) row (o .long) (x % L r) (r .h4 p x) within (y % L r) (places-apart (r .kind) x y (omega arith) (omega arith))
             ∙ o .holds y from (omega arith) (omega arith))
             (eq-or-ne y x);
       }
@@ -84,7 +64,7 @@ module _ (r : Road) where
     -- a frame that counts puts its symbol at its own place
     pub live-taken : (p x : ℕ) (row : List ℕ) (t : Taken) → t .counted ≡ true → placeOf (r .kind) (ownTag (r .kind) t) ≡ placeOf (r .kind) (tagOf (r .kind) (r .offset + x))
         → Live r p x row → Live r p (x + 1) (rowAfter row t (r .h4 p x))
-    live-taken p x row t counted place o = rw (counted, place, place-from (r .kind) (r .offset) x (f .starts)) (live-on p x row o)
+    live-taken p x row t counted place o = rw (counted, place, place-counted (r .kind) (r .offset) x (f .starts)) (live-on p x row o)
 
     -- at a packet's end the row is the packet that came
     packet-live : (p x : ℕ) (row : List ℕ) → Live r p x row → startFrom (r .kind) (r .offset) (r .first p) + L r * 2 ≤ x → x % L r ≡ L r - 1
@@ -104,10 +84,10 @@ module _ (r : Road) where
       where
         go : (c : Bool) → endsPacket (r .kind) (tagOf (r .kind) (r .offset + x)) ≡ c → endsOdd (r .kind) row (tagOf (r .kind) (r .offset + x)) (r .h4 p x) ≡ false
         go true e =
-            let place : placeOf (r .kind) (tagOf (r .kind) (r .offset + x)) ≡ x % L r = place-from (r .kind) (r .offset) x (f .starts) in
-            let last : x % L r ≡ L r - 1 = sym (twice (r .kind) x) ∙ ap (λ (n : ℕ). n % L r) (sym place) ∙ last-of (r .kind) (tagOf (r .kind) (r .offset + x)) e in
+            let place : placeOf (r .kind) (tagOf (r .kind) (r .offset + x)) ≡ x % L r = place-counted (r .kind) (r .offset) x (f .starts) in
+            let last : x % L r ≡ L r - 1 = sym (mod-eq-of-lt (place-lt (r .kind) x)) ∙ ap (λ (n : ℕ). n % L r) (sym place) ∙ last-of (r .kind) (tagOf (r .kind) (r .offset + x)) e in
             let number : epochOf (r .kind) (tagOf (r .kind) (r .offset + x)) ≡ numberOf r (x / L r) =
-            ap (λ (n : ℕ). epochOf (r .kind) (tagOf (r .kind) (r .offset + n))) (sym (position-is (r .kind) x)) ∙ epoch-from (r .kind) (r .offset) (x / L r) (x % L r) (f .starts) (place-lt (r .kind) x) in
+            ap (λ (n : ℕ). epochOf (r .kind) (tagOf (r .kind) (r .offset + n))) (sym (position-is (r .kind) x)) ∙ epoch-counted (r .kind) (r .offset) (x / L r) (x % L r) (f .starts) (place-lt (r .kind) x) in
             rw e
             (ap (λ (n : ℕ). oddPacket (r .kind) n (withSymbol (r .kind) row (placeOf (r .kind) (tagOf (r .kind) (r .offset + x))) (r .h4 p x))) number
             ∙ ap (λ (k : ℕ). oddPacket (r .kind) (numberOf r (x / L r)) (withSymbol (r .kind) row k (r .h4 p x))) place

@@ -1,10 +1,10 @@
 use mathlib.Core.Path.{refl}
-use Rattle.packet.specs.Fixed.{fixedNibbles}
+use Rattle.packet.specs.Fixed.{fixedNibbles, fixedNibblesWith}
 use Rattle.packet.proofs.fixed.fixed_nibbles.Statement.{statement}
 use Rattle.packet.proofs.fixed.fixed_nibbles.Tie as tie
 
 returns : tie.Need-returns
-unfolding fixedNibbles
+unfolding fixedNibbles fixedNibblesWith
 returns c = refl
 
 pub fixed-nibbles-spec : {M : Type 1} → statement M

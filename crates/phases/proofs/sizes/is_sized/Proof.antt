@@ -4,25 +4,22 @@ use Prim.Native.Nat.{ℕ}
 use lib.Dec.{eqb}
 use native.Mathlib.Omega.{arith}
 use Rattle.packet.specs.Clock.{by-kind, h4-numbers}
-use Rattle.packet.specs.Kinds.{fixedKind, knownKind, vc12Kind}
+use Rattle.packet.specs.Kinds.{fixedKind, vc12Kind}
+use Rattle.packet.specs.Laws.Known.{known-else, vc12-known}
 use Rattle.phases.specs.Sizes.{sized, sizedAs}
 use Rattle.phases.proofs.sizes.is_sized.Statement.{statement}
 use Rattle.phases.proofs.sizes.is_sized.Tie as tie
 
 -- H4's numbers are those of every known kind but VC-12
 sized-by : (kind count P W : ℕ) → cond (sizedAs (eqb kind 0 || eqb kind fixedKind) 0 count P W) true (sizedAs (eqb kind vc12Kind) vc12Kind count P W) ≡ sized kind count P W
-unfolding sized knownKind
+unfolding sized
 sized-by kind count P W =
-    by-kind (λ k. cond (sizedAs (eqb k 0 || eqb k fixedKind) 0 count P W) true (sizedAs (eqb k vc12Kind) vc12Kind count P W) ≡ sized k count P W) refl
-    (λ k h4. let same = h4-numbers k h4 in rw (h4, same .0, same .1) (go (eqb k 0) (eqb k fixedKind))) kind
+    by-kind (λ k. cond (sizedAs (eqb k 0 || eqb k fixedKind) 0 count P W) true (sizedAs (eqb k vc12Kind) vc12Kind count P W) ≡ sized k count P W) (rw vc12-known refl)
+    (λ k h4. let same = h4-numbers k h4 in rw (h4, known-else k h4, same .0, same .1) (kept (sizedAs (eqb k 0 || eqb k fixedKind) 0 count P W))) kind
   where
-    same : (b : Bool) → cond b true false ≡ b
-    same true = refl
-    same false = refl
-
-    go : (b c : Bool) → cond (sizedAs (b || c) 0 count P W) true false ≡ sizedAs (b || false || c) 0 count P W
-    go true c = same (sizedAs true 0 count P W)
-    go false c = same (sizedAs c 0 count P W)
+    kept : (b : Bool) → cond b true false ≡ b
+    kept true = refl
+    kept false = refl
 
 is-within-requires : tie.Need-is-within-requires
 is-within-requires c κs = omega arith

@@ -1,8 +1,7 @@
 use mathlib.Core.Path.{_∙_}
 use native.Mathlib.Omega.{arith}
 use borrow.Author.Needs.{needs}
-use Rattle.packet.specs.Kinds.{mstNumbers}
-use Rattle.packet.specs.Theorems.Tags.{mst-fits}
+use Rattle.packet.specs.Theorems.Tags.{mst-eight, mst-fits}
 use Rattle.reply.specs.Laws.Members.{size-le}
 use Rattle.reply.specs.Telling.{mstOf}
 use Rattle.reply.proofs.telling.mst.Statement.{statement}
@@ -15,8 +14,7 @@ mst-first-requires : tie.Need-mst-first-requires
 mst-first-requires c κs = search needs
 
 mst-from-requires : tie.Need-mst-from-requires
-unfolding mstNumbers
-mst-from-requires c κs = rw (c .before .size-of .ensures, c .mst-first .ensures) (size-le (c .before .before .args .count), omega (arith, mst-fits (c .before .before .args .kind) (c .before .before .args .epoch)))
+mst-from-requires c κs = rw (c .before .size-of .ensures, c .mst-first .ensures) (size-le (c .before .before .args .count), omega (arith, mst-fits (c .before .before .args .kind) (c .before .before .args .epoch), mst-eight (c .before .before .args .kind)))
 
 returns : tie.Need-returns
 unfolding mstOf

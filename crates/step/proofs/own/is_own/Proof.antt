@@ -1,5 +1,5 @@
 use mathlib.Core.Path.{refl}
-use Rattle.packet.specs.Layout.{fieldsOf}
+use Rattle.packet.specs.Laws.Reading.{epoch-read}
 use Rattle.step.specs.OwnCount.{ownNumber}
 use borrow.Author.Needs.{needs}
 use Rattle.step.proofs.own.is_own.Statement.{statement}
@@ -18,8 +18,8 @@ add-result : tie.Need-add-result
 add-result c = search needs
 
 returns : tie.Need-returns
-unfolding ownNumber fieldsOf
-returns c = refl
+unfolding ownNumber
+returns c = rw (epoch-read _) refl
 
 pub is-own-spec : {M : Type 1} → statement M
 is-own-spec =

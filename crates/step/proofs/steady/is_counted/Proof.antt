@@ -1,5 +1,5 @@
 use native.Mathlib.Omega.{arith}
-use Rattle.step.proofs.SteadyTests.{counts-later}
+use Rattle.packet.specs.Laws.Counting.{counts-later}
 use borrow.Author.Needs.{needs}
 use Rattle.step.proofs.steady.is_counted.Statement.{statement}
 use Rattle.step.proofs.steady.is_counted.Tie as tie
