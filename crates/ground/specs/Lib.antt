@@ -7,6 +7,7 @@ pub mod Division
 pub mod Drawn
 pub mod Finite
 pub mod Flags
+pub mod Opened
 pub mod Plain
 pub mod Polynomial
 pub mod Sizes

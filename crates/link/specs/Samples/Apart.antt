@@ -23,7 +23,7 @@ use Rattle.link.specs.Samples.Members.{history, link, linkBy, unranked}
 use Rattle.link.specs.Samples.Met.{met, met-by, spread-4}
 use Rattle.link.specs.Samples.Reports.{reports, reportsWith, sure}
 use Rattle.link.specs.Samples.ShutOut.{at-180, began, by-theorem, has-begun, itself, starts}
-use Rattle.link.specs.Samples.Tracing.{course, drainedBy, outcome-by, traced, turnBy, turnsBy}
+use Rattle.link.specs.Samples.Tracing.{course, outcome-by}
 
 -- in the epoch at index 6, numbered 255, each byte is one more
 abbrev otherBytes : ℕ → ℕ → ℕ
@@ -73,7 +73,7 @@ other-run
       told = reportsWith (sure 255 (193 ∷ 194 ∷ 195 ∷ 196 ∷ 197 ∷ 198 ∷ 199 ∷ 200 ∷ 201 ∷ 202 ∷ 203 ∷ 204 ∷ 205 ∷ 206 ∷ 207 ∷ 208 ∷ 209 ∷ 210 ∷ 211 ∷ 212 ∷ 213 ∷ 214 ∷ 215 ∷ 216 ∷ 217 ∷ 218 ∷ 219 ∷ 220 ∷ 221 ∷ 222 ∷ 223 ∷ 224 ∷ []));
       strange = [];
     }
-unfolding outcome course traced turnsBy turnBy drainedBy
+unfolding outcome course
 other-run = outcome-by other 180 _ refl
 
 -- By the theorem it is that report too.

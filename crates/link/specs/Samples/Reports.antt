@@ -10,7 +10,7 @@ use Rattle.link.specs.Link.{expected}
 use Rattle.link.specs.Told.{Told}
 use Rattle.link.specs.Samples.Computing.{outcome}
 use Rattle.link.specs.Samples.Members.{link, output}
-use Rattle.link.specs.Samples.Tracing.{Course, begun-by, course, drainedBy, outcome-by, traced, turnBy, turnsBy}
+use Rattle.link.specs.Samples.Tracing.{Course, begun-by, course, outcome-by}
 
 abbrev pub sure : ℕ → List ℕ → Told
 sure e bytes = record { epoch = e; mark = SURE; bytes = bytes; rest = drop (length bytes) output }
@@ -34,7 +34,7 @@ reports = reportsWith (sure 255 (192 ∷ 193 ∷ 194 ∷ 195 ∷ 196 ∷ 197 ∷
 
 -- The run, computed once: its outcome after frame time 179, and before which frame times receiving had begun, the last one first.
 whole : course link 180 ≡ record { outcome = record { begun = 1; told = reports; strange = [] }; begun = replicate 125 1 ++ replicate 56 0 }
-unfolding outcome course traced turnsBy turnBy drainedBy reports
+unfolding outcome course reports
 whole = refl
 
 -- The last port's first frame comes in frame time 21. Receiving begins in frame time 55, at the 35th frame from that one.

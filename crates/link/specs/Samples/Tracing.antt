@@ -78,6 +78,7 @@ pub record Course : Type 0 where
   pub begun : List ℕ
 
 unfoldable pub course : Link → ℕ → Course
+unfolding traced turnsBy turnBy drainedBy
 course k t = let s = traced (roadOf k) t (started k) in record { outcome = outcomeOf (s .moment); begun = s .begun }
 
 pub outcome-by : (k : Link) (t : ℕ) (o : Outcome) → course k t .outcome ≡ o → outcome k t ≡ o
