@@ -22,6 +22,7 @@ use Rattle.payload.specs.Joining.{joined, wholeAnswer}
 use Rattle.payload.specs.Spreading.{spreadAll}
 use Rattle.ground.specs.Plain.{if_then_else_}
 use Rattle.ground.specs.Table.{tabulate}
+use Rattle.ground.specs.Types.{Bytes}
 use Rattle.packet.specs.Kinds.{frames}
 use Rattle.receiver.specs.Starting.{startAnswer}
 use Rattle.sender.specs.Board.{boardOf}
@@ -69,7 +70,7 @@ relayed reserved = record { epoch = 5; word = record { 0 = NORM }; gid = 1; mst 
 abbrev wrote : ℕ → List ℕ
 wrote reserved = writingNumber (writeAnswer (relayed reserved) (replicate 16 0)) ∷ writeBytes (relayed reserved) (replicate 16 0)
 
-abbrev came : List ℕ → List ℕ
+abbrev came : Bytes → List ℕ
 came h4 = readingNumber (readAnswer h4) ∷ readingValues (readAnswer h4)
 
 abbrev all-set : List ℕ
@@ -97,7 +98,7 @@ fixed-word = 0x08 ∷ 0x09 ∷ 0x0A ∷ 0x0B ∷ 0x0C ∷ 0x0D ∷ 0x0E ∷ 0x5F
 abbrev fixed-set : List ℕ
 fixed-set = 0xF8 ∷ 0xF9 ∷ 0xFA ∷ 0xFB ∷ 0xFC ∷ 0xFD ∷ 0x0E ∷ 0x5F ∷ 0x30 ∷ 0xA1 ∷ 0x02 ∷ 0xF3 ∷ 0xF4 ∷ 0xF5 ∷ 0xF6 ∷ 0xF7 ∷ []
 
-abbrev fixed-came : List ℕ → List ℕ
+abbrev fixed-came : Bytes → List ℕ
 fixed-came h4 = readingNumber (readFixedAnswer h4) ∷ readingValues (readFixedAnswer h4)
 
 -- a member added and made active, its wait lapsed

@@ -5,6 +5,7 @@ use mathlib.Core.List.{List, [], _∷_, _++_}
 use Prim.Native.Nat.{ℕ}
 use lib.ListN.{length, replicate, take}
 use Rattle.ground.specs.Plain.{if_then_else_}
+use Rattle.ground.specs.Types.{Bytes, Epoch}
 use Rattle.c_face.specs.Receivers.{startAsAnswerC}
 use Rattle.conformance.specs.Rows.{Equal, Row, equal-rows}
 use Rattle.conformance.specs.Waits.{away, here, statesAt}
@@ -51,7 +52,7 @@ abbrev highSet : List ℕ
 highSet = 0xF8 ∷ 0xF9 ∷ 0xFA ∷ 0xFB ∷ 0xFC ∷ 0xFD ∷ 0xBE ∷ 0x4F ∷ 0x90 ∷ 0x31 ∷ 0x02 ∷ 0xF3 ∷ 0xF4 ∷ 0xF5 ∷ 0xF6 ∷ 0xF7 ∷ []
 
 -- the answer, and the values
-abbrev came : List ℕ → List ℕ
+abbrev came : Bytes → List ℕ
 came h4 = readingNumber (readFixedAnswer h4) ∷ readingValues (readFixedAnswer h4)
 
 -- the nibbles of a fixed group's packet of epoch 58 with SQ 5
@@ -66,7 +67,7 @@ abbrev flag : Bool → ℕ
 flag b = if b then 1 else 0
 
 -- good or not, word, number, GID
-abbrev rules : (kind epoch : ℕ) (nibbles : List ℕ) → List ℕ
+abbrev rules : (kind : ℕ) (epoch : Epoch) (nibbles : List ℕ) → List ℕ
 rules kind epoch nibbles = let r = ownRuling kind epoch nibbles in flag (r .good) ∷ r .word ∷ r .number ∷ r .gid ∷ []
 
 -- a port of a fixed group that noted the packet and is OK under its number

@@ -14,3 +14,4 @@ pub mod Sizes
 pub mod Sums
 pub mod Table
 pub mod Truth
+pub mod Types

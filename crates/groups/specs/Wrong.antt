@@ -3,10 +3,10 @@ use mathlib.Core.Path.{_≡_, refl}
 use mathlib.Core.Logic.{_≢_}
 use mathlib.Core.Bool.{true, false}
 use mathlib.Core.List.{[], _∷_}
-use Prim.Native.Nat.{ℕ}
 use native.Mathlib.Omega.{arith}
 use lib.ListN.{replicate}
 use Rattle.ground.specs.Plain.{if_then_else_, _==_}
+use Rattle.ground.specs.Types.{Epoch}
 use Rattle.judge.specs.Verdict.{HELD}
 use Rattle.packet.specs.Words.{IDLE}
 use Rattle.circuits.specs.Parts.{owns}
@@ -23,7 +23,7 @@ use Rattle.groups.specs.Samples.Calls.{card}
 use Rattle.groups.specs.Samples.Histories.{computed, history₀, history₁}
 use Rattle.groups.specs.Samples.Links.{client₀, client₁, link₀, link₁, pairing₀}
 
-abbrev heldOf : ℕ → Told
+abbrev heldOf : Epoch → Told
 heldOf e = record { epoch = e; mark = HELD; bytes = []; rest = replicate 48 0xEE }
 
 -- A port for each slot that the group ever owned. Slot 2 was group 0's, and now it sends what a history of the other group has for it.

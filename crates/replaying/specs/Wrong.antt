@@ -4,6 +4,7 @@ use mathlib.Core.Path.{_≡_, refl}
 use mathlib.Core.List.{List, [], _∷_, _++_}
 use Prim.Native.Nat.{ℕ}
 use lib.ListN.{getD, replicate, take}
+use Rattle.ground.specs.Types.{Rows}
 use Rattle.receiver.specs.Starting.{startAsRows}
 use Rattle.rows.specs.Group.{groupAt}
 use Rattle.rows.specs.Member.{memberAt}
@@ -63,7 +64,7 @@ wrong-started s rows = startAsRows (s .kind) (s .ports) (s .size) (s .window) (s
 abbrev timed : S.Settings
 timed = record { «hold_off» = 5 ∷ replicate 63 0; restore = 2 ∷ replicate 63 0; kind = 2; ports = 1; size = 1; window = 16 }
 
-abbrev timesIn : List (List ℕ) → List ℕ
+abbrev timesIn : Rows → List ℕ
 timesIn rows = (groupAt rows .kind) ∷ (memberAt rows 0 .«hold_off») ∷ (memberAt rows 0 .restore) ∷ []
 
 times-break : (timesIn (startedRows timed (replicate 6 (replicate 16 0))) ≡ 2 ∷ 5 ∷ 2 ∷ []) × (timesIn (wrong-started timed (replicate 6 (replicate 16 0))) ≡ 2 ∷ 2 ∷ 5 ∷ [])

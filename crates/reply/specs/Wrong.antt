@@ -16,7 +16,7 @@ use Rattle.reply.specs.Waiting.{hasClaim, keepsNumber, standing, standin
 use Rattle.reply.specs.Opened.{replyOpen}
 
 -- a port that sends a word under a number, with what the last report left of it and its times
-abbrev port : ℕ → ℕ → Bool → Standing → ℕ → ℕ → Port
+abbrev port : (word number : ℕ) (readable : Bool) (last : Standing) (hold restore : ℕ) → Port
 port word number readable last hold restore =
     record {
       word = word;
@@ -32,7 +32,7 @@ port word number readable last hold restore =
     }
 
 -- what is left of the n ports by a table of holders, and by the definition
-abbrev leftBy : List ℕ → List Port → ℕ → List Standing
+abbrev leftBy : (chosen : List ℕ) (ports : List Port) (count : ℕ) → List Standing
 leftBy chosen ports n = tabulate n (λ i. standingBy chosen i (portAt ports i))
 
 abbrev left : List Port → ℕ → List Standing

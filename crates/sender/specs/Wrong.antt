@@ -50,7 +50,7 @@ unfolding senderOpen wrong-reading
 reading-breaks = (refl, refl)
 
 -- this epoch's X, then the rank of each of n slots
-abbrev told : (Sender → ℕ → ℕ) → ℕ → Sender → List ℕ
+abbrev told : (rank : Sender → ℕ → ℕ) (count : ℕ) (s : Sender) → List ℕ
 told rank n s = xOf s ∷ tabulate n (rank s)
 
 -- two epochs started, with calls on the table before each

@@ -82,7 +82,7 @@ wrong-taken : Sender → Board
 wrong-taken s = boardOf (s .table)
 
 -- what is told with each call, where boards are taken so
-abbrev told : (Sender → Board) → Sender → List SenderCall → List (List ℕ)
+abbrev told : (taken : Sender → Board) (s : Sender) (cs : List SenderCall) → List (List ℕ)
 told taken s [] = []
 told taken s (c ∷ cs) = comparedNumbers (taken s) (taken (senderOutcomeOf s c .sender)) ∷ told taken (senderOutcomeOf s c .sender) cs
 
@@ -105,7 +105,7 @@ unfolding spokenOpen wrong-sides
 sides-break = refl
 
 -- Each change judged and laid on at once. Then one that does not fit is answered 2 with those before it laid on: half a board.
-abbrev wrong-one : Applied → Change → Bool → Applied
+abbrev wrong-one : (r : Applied) (c : Change) (rises : Bool) → Applied
 wrong-one r c rises =
     let b = r .board in
     if answerNumber (r .answer) == 0 && fitsBy c (rowAt (b .rows) (c .slot)) (b .count) rises

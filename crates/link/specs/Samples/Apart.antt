@@ -7,6 +7,7 @@ use native.Mathlib.Omega.{arith}
 use lib.ListN.{getD, length, replicate}
 use Rattle.ground.specs.Plain.{if_then_else_, _==_}
 use Rattle.ground.specs.Table.{length-tabulate, tabulate}
+use Rattle.ground.specs.Types.{Bytes, Epoch}
 use Rattle.judge.specs.Verdict.{SURE}
 use Rattle.packet.specs.Kinds.{frames}
 use Rattle.link.specs.Assumed.{Assumed}
@@ -135,7 +136,7 @@ both-made = (named .here, named .there)
 
 -- Two reports say the same where their marks and their bytes are equal, whichever epochs they are of and whatever stands behind the bytes.
 
-abbrev told : ℕ → ℕ → List ℕ → List ℕ → Told
+abbrev told : (e : Epoch) (mark : ℕ) (bytes : Bytes) (rest : List ℕ) → Told
 told e mark bytes rest = record { epoch = e; mark = mark; bytes = bytes; rest = rest }
 
 say-same : SaySame (told 1 3 (4 ∷ []) (5 ∷ [])) (told 2 3 (4 ∷ []) (6 ∷ []))

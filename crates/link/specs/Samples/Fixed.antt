@@ -6,6 +6,7 @@ use Prim.Native.Nat.{ℕ, zero, suc, _+_, _-_, _*_, _%_, _<_}
 use native.Mathlib.Omega.{arith}
 use lib.ListN.{length-replicate, replicate}
 use Rattle.ground.specs.Table.{tabulate}
+use Rattle.ground.specs.Types.{Epoch}
 use Rattle.judge.specs.Verdict.{SURE}
 use Rattle.packet.specs.Kinds.{epochs, frames, payloadRight, tags}
 use Rattle.phases.specs.Sizes.{knownKind, sized, startSized}
@@ -84,7 +85,7 @@ pub demanded : Demand3 link
 demanded = demand3-fixed link met
 
 -- a sure report with 48 bytes, each one more than the one before
-abbrev sure : ℕ → ℕ → Told
+abbrev sure : Epoch → ℕ → Told
 sure e from = record { epoch = e; mark = SURE; bytes = tabulate 48 (λ b. (from + b) % 256); rest = [] }
 
 -- The epochs 254, 255 and 0 come out in the order of the numbers. No frame is answered otherwise than by 0 or 12.

@@ -1,10 +1,11 @@
 -- The run of the sample link, computed to its reports.
 use mathlib.Core.Path.{_≡_, refl, ap}
 use mathlib.Core.List.{List, [], _∷_, _++_}
-use Prim.Native.Nat.{ℕ, _+_}
+use Prim.Native.Nat.{_+_}
 use native.Mathlib.Omega.{arith}
 use lib.ListN.{drop, getD, length, replicate}
 use Rattle.ground.specs.Table.{tabulate}
+use Rattle.ground.specs.Types.{Bytes, Epoch}
 use Rattle.judge.specs.Verdict.{HELD, SURE}
 use Rattle.link.specs.Link.{expected}
 use Rattle.link.specs.Told.{Told}
@@ -12,10 +13,10 @@ use Rattle.link.specs.Samples.Computing.{outcome}
 use Rattle.link.specs.Samples.Members.{link, output}
 use Rattle.link.specs.Samples.Tracing.{Course, begun-by, course, outcome-by}
 
-abbrev pub sure : ℕ → List ℕ → Told
+abbrev pub sure : Epoch → Bytes → Told
 sure e bytes = record { epoch = e; mark = SURE; bytes = bytes; rest = drop (length bytes) output }
 
-abbrev pub held : ℕ → Told
+abbrev pub held : Epoch → Told
 held e = record { epoch = e; mark = HELD; bytes = []; rest = output }
 
 -- six reports, of which the second is given

@@ -1,11 +1,12 @@
 -- One frame of spread more than demand 3 lets be: port 0 is late by W - 15, and all else is as in the sample. Then it depends on the order of the ports whether all goes well.
 use mathlib.Core.Path.{_≡_, refl}
 use mathlib.Core.Bool.{Bool, false}
-use mathlib.Core.List.{List, [], _∷_}
+use mathlib.Core.List.{[], _∷_}
 use Prim.Native.Nat.{ℕ, _%_}
 use native.Mathlib.Omega.{arith}
 use lib.ListN.{drop, length}
 use Rattle.ground.specs.Plain.{_==_}
+use Rattle.ground.specs.Types.{Bytes, Epoch}
 use Rattle.judge.specs.Verdict.{DOUBTFUL}
 use Rattle.packet.specs.Kinds.{frames}
 use Rattle.link.specs.Assumed.{Assumed}
@@ -34,7 +35,7 @@ never-begins = outcome-by late-last 90 _ refl
 abbrev late-in-turn : Link
 late-in-turn = linkWith 5 (λ t. t % 2 == 1)
 
-abbrev doubtful : ℕ → List ℕ → Told
+abbrev doubtful : Epoch → Bytes → Told
 doubtful e bytes = record { epoch = e; mark = DOUBTFUL; bytes = bytes; rest = drop (length bytes) output }
 
 goes-wrong : outcome late-in-turn 120 ≡ record { begun = 1; told = held 254 ∷ doubtful 255 (193 ∷ 195 ∷ 197 ∷ 199 ∷ 201 ∷ 203 ∷ 205 ∷ 207 ∷ 209 ∷ 211 ∷ 213 ∷ 215 ∷ 217 ∷ 219 ∷ 221 ∷ 223 ∷ []) ∷ []; strange = 11 ∷ [] }
